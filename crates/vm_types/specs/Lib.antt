@@ -5,3 +5,4 @@ pub mod Parts
 pub mod Prot
 pub mod WellFormed
 pub mod Words
+pub mod Writes

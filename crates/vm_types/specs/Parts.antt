@@ -1,5 +1,5 @@
 -- The parts of a read or a write.
-use Rattle.std.specs.Prelude.{ℕ, ◌≡◌, ◌+◌, ◌-◌, ◌^◌, min, Bool, List, [], length, take, Option, Some, None, is_none, nat_lt, nat_le, ◌==◌, if◌then◌else◌}
+use Rattle.std.specs.Prelude.{ℕ, ◌≡◌, ◌≤◌, ◌<◌, ◌+◌, ◌-◌, ◌^◌, min, Bool, List, [], length, take, Option, Some, None, is_none, nat_lt, nat_le, ◌==◌, if◌then◌else◌}
 use Rattle.vm_types.specs.declared.call.Call.{Call}
 use Rattle.vm_types.specs.declared.call.Call.TheVariants.{Read, Write}
 use Rattle.vm_types.specs.declared.call.Reply.{Reply}
@@ -66,8 +66,15 @@ abbrev pub part_bytes : Call → List ℕ
 part_bytes (Write file offset line rest) = line
 part_bytes call = []
 
--- The bytes that are left to read or to write behind a part: of a read, what it asked for without what it got.
-abbrev pub part_left : Call → Reply → ℕ
-part_left (Read file offset len) (Bytes line) = len - length line
-part_left (Write file offset line rest) reply = rest
-part_left call reply = 0
+-- The bytes that a call has still to move where this part begins: what a read asks for, and the bytes and the rest of a write.
+abbrev pub part_size : Call → ℕ
+part_size (Read file offset len) = len
+part_size (Write file offset line rest) = length line + rest
+part_size call = 0
+
+-- A call goes on behind a part that got its own reply, that isn't short, behind which something is left and that
+-- ends below 2^32.
+abbrev pub GoesOn : Call → Reply → Type 0
+GoesOn (Read file offset len) (Bytes line) = (min len (line_rest offset) ≤ length line) × (length line < len) × (offset + length line < 2 ^ 32)
+GoesOn (Write file offset line rest) Done = (1 ≤ rest) × (offset + length line < 2 ^ 32)
+GoesOn call reply = ⊥

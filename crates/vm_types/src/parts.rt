@@ -1,6 +1,9 @@
 //! The parts of a read or a write.
-ghost use Rattle.std.specs.Prelude.{ℕ, List, ◌≡◌, is_none, IfSome, Some};
-ghost use Rattle.vm_types.specs.Parts.{next_part as part_after, ends_call as is_last, HasRest};
+ghost use Rattle.std.specs.Prelude.{ℕ, List, ◌≡◌, ◌≤◌, ◌<◌, ◌+◌, ◌-◌, ◌^◌, ◌↔◌, length, take, drop, is_none, IfSome, IsSome};
+ghost use Rattle.std.specs.List.{flat_map};
+ghost use Rattle.vm_types.specs.Pages.{line_rest as rest_of_line};
+ghost use Rattle.vm_types.specs.Writes.{write_parts};
+ghost use Rattle.vm_types.specs.Parts.{next_part as part_after, ends_call as is_last, HasRest, GoesOn, part_file, part_begin, part_end, part_bytes, part_size};
 ghost use Rattle.vm_types.specs.WellFormed.{IsWellFormed};
 
 use crate::call::{Call, Reply};
@@ -17,7 +20,13 @@ pub fn next_part(call: &Call, reply: &Reply, bytes: &[u8]) -> Option<Call>
     requires well_formed { IsWellFormed call.now }
     requires still_to_come { HasRest call.now bytes.now }
     ensures exact { result ≡ part_after call.now reply.now bytes.now }
+    ensures goes_on { IsSome result ↔ GoesOn call.now reply.now }
+    ensures begins { IfSome result (λ next. part_begin next ≡ part_end call.now reply.now) }
+    ensures file { IfSome result (λ next. part_file next ≡ part_file call.now) }
+    ensures less { IfSome result (λ next. part_size next < part_size call.now) }
+    ensures first_bytes { IfSome result (λ next. part_bytes next ≡ take (length (part_bytes next)) bytes.now) }
     ensures well_formed { IfSome result IsWellFormed }
+    ensures still_to_come { IfSome result (λ next. HasRest next (drop (length (part_bytes next)) bytes.now)) }
 {
     match (call, reply) {
         (
@@ -61,6 +70,24 @@ pub fn next_part(call: &Call, reply: &Reply, bytes: &[u8]) -> Option<Call>
             })
         }
         _ => None,
+    }
+}
+
+/// The first part of a write of these bytes, from 1 byte to 2^32 - 1.
+pub fn first_part_of_write(file: u32, offset: u32, bytes: &[u8]) -> Call
+    requires some { 1 ≤ length bytes.now }
+    requires number { length bytes.now < 2 ^ 32 }
+    ensures exact { let line = take (rest_of_line offset) bytes.now in result ≡ Call.Write file offset line (length bytes.now - length line) }
+    ensures well_formed { IsWellFormed result }
+    ensures still_to_come { HasRest result (drop (length (part_bytes result)) bytes.now) }
+    ensures whole { offset + length bytes.now ≤ 2 ^ 32 → flat_map part_bytes (write_parts (length bytes.now) result (drop (length (part_bytes result)) bytes.now)) ≡ bytes.now }
+{
+    let count = bytes.len().min(line_rest(offset) as usize);
+    Call::Write {
+        file,
+        offset,
+        bytes: Line::new(&bytes[..count]),
+        rest: (bytes.len() - count) as u32,
     }
 }
 
