@@ -1,5 +1,5 @@
 -- What a set of accesses allows.
-use Rattle.std.specs.Prelude.{ℕ, ◌≡◌, ◌<◌, ◌==◌, Bool}
+use Rattle.std.specs.Prelude.{◌<◌, ◌==◌, Bool}
 use Rattle.std.specs.Int.RustNames.{bit_and}
 use Rattle.vm_types.specs.declared.prot.Prot.{Prot}
 

@@ -16,8 +16,10 @@ mod words;
 
 pub use call::{Call, Entry, Errno, Kind, Object, Place, Reply, Signal};
 pub use line::Line;
-pub use pages::{FIRST_ADDRESS, FIRST_PAGE, LAST_ADDRESS, LAST_PAGE, LINE_BYTES, PAGE_BYTES};
-pub use pages::{is_user_address, line_rest, page_of};
+pub use pages::{
+    FIRST_ADDRESS, FIRST_PAGE, LAST_ADDRESS, LAST_PAGE, LINE_BYTES, PAGE_BYTES, is_user_address,
+    line_rest, page_of,
+};
 pub use parts::{ends_call, first_part_of_write, next_part};
 pub use prot::Prot;
 pub use words::{word_bytes, word_value};

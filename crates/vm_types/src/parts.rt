@@ -15,17 +15,13 @@ use crate::pages::line_rest;
 pub fn first_part_of_write(file: u32, offset: u32, bytes: &[u8]) -> Call
     requires some { 1 ≤ length bytes.now }
     requires number { length bytes.now < 2 ^ 32 }
-    ensures exact {
-        let line = take (rest_of_line offset) bytes.now in
-        result ≡ Call.Write file offset line (length bytes.now - length line)
-    }
+    ensures exact { let line = take (rest_of_line offset) bytes.now in
+        result ≡ Call.Write file offset line (length bytes.now - length line) }
     ensures well_formed { IsWellFormed result }
     ensures still_to_come { HasRest result (drop (length (part_bytes result)) bytes.now) }
-    ensures whole {
-        offset + length bytes.now ≤ 2 ^ 32 →
+    ensures whole { offset + length bytes.now ≤ 2 ^ 32 →
         let others = drop (length (part_bytes result)) bytes.now in
-        flat_map part_bytes (write_parts (length bytes.now) result others) ≡ bytes.now
-    }
+        flat_map part_bytes (write_parts (length bytes.now) result others) ≡ bytes.now }
 {
     let count = bytes.len().min(line_rest(offset) as usize);
     Call::Write {
@@ -50,13 +46,9 @@ pub fn next_part(call: &Call, reply: &Reply, bytes: &[u8]) -> Option<Call>
     ensures begins { IfSome result (λ next. part_begin next ≡ part_end call.now reply.now) }
     ensures file { IfSome result (λ next. part_file next ≡ part_file call.now) }
     ensures less { IfSome result (λ next. part_size next < part_size call.now) }
-    ensures first_bytes {
-        IfSome result (λ next. part_bytes next ≡ take (length (part_bytes next)) bytes.now)
-    }
+    ensures first_bytes { IfSome result (λ next. part_bytes next ≡ take (length (part_bytes next)) bytes.now) }
     ensures well_formed { IfSome result IsWellFormed }
-    ensures still_to_come {
-        IfSome result (λ next. HasRest next (drop (length (part_bytes next)) bytes.now))
-    }
+    ensures still_to_come { IfSome result (λ next. HasRest next (drop (length (part_bytes next)) bytes.now)) }
 {
     match (call, reply) {
         (

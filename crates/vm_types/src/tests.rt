@@ -1,9 +1,8 @@
 ghost use Rattle.std.specs.Prelude.{◌≡◌, ◌≤◌, length};
 
+use crate::*;
 use bitflags::Flags;
 use std::test::Fail;
-
-use crate::*;
 
 fn read(offset: u32, length: u32) -> Call
     ensures { result ≡ Call.Read 3 offset length }
@@ -64,11 +63,25 @@ fn a_write_goes_on_with_what_fits_its_line(rt: HostRuntime) {
         let call = write(offset, &bytes[..count], rest as u32);
         assert!(rt; call.is_well_formed(), "at {offset}");
         let want = want.map(|(offset, count, rest)| write(offset, &bytes[..count], rest));
-        assert_eq!(rt; next_part(&call, &Reply::Done, &bytes[..rest]), want, "at {offset}");
-        assert_eq!(rt; ends_call(&call, &Reply::Done), want.is_none(), "at {offset}");
+        assert_eq!(rt;
+            next_part(&call, &Reply::Done, &bytes[..rest]),
+            want,
+            "at {offset}"
+        );
+        assert_eq!(rt;
+            ends_call(&call, &Reply::Done),
+            want.is_none(),
+            "at {offset}"
+        );
     }
-    assert_eq!(rt; first_part_of_write(3, 60, &bytes), write(60, &bytes[..4], 122));
-    assert_eq!(rt; first_part_of_write(3, 64, &bytes[..5]), write(64, &bytes[..5], 0));
+    assert_eq!(rt;
+        first_part_of_write(3, 60, &bytes),
+        write(60, &bytes[..4], 122)
+    );
+    assert_eq!(rt;
+        first_part_of_write(3, 64, &bytes[..5]),
+        write(64, &bytes[..5], 0)
+    );
 }
 
 #[test]
