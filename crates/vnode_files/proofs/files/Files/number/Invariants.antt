@@ -1,0 +1,6 @@
+use Rattle.vnode_files.specs.Files.{NoneBefore}
+use Rattle.vnode_files.proofs.files.Files.number.Given as goal
+
+-- no file so far has the name
+abbrev pub invariant-loop-number : goal.invariant-loop-number
+invariant-loop-number l = NoneBefore l.entry-items l.name l.number
