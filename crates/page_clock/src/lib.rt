@@ -9,6 +9,9 @@ ghost use Rattle.page_clock.specs.Clock.{next_pick, stepped, place_of};
 
 use std::marker::Model;
 
+#[cfg(test)]
+mod tests;
+
 /// Which hand is at which frame.
 #[derive(Clone, Copy, PartialEq, Debug)]
 pub enum Pick {

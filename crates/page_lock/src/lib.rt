@@ -7,6 +7,9 @@ ghost use Rattle.page_lock.specs.Rows.{row_at, clear_row};
 use std::alloc::{AllocError, Global};
 use std::marker::Model;
 
+#[cfg(test)]
+mod tests;
+
 /// Want of memory.
 pub type OutOfMemory = AllocError;
 
