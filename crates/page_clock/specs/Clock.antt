@@ -1,5 +1,5 @@
 -- The steps of a clock.
-use Rattle.std.specs.Prelude.{ℕ, ◌+◌, ◌-◌, ◌%◌, true, false, if◌then◌else◌}
+use Rattle.std.specs.Prelude.{ℕ, zero, suc, ◌+◌, ◌-◌, ◌%◌, true, false, if◌then◌else◌}
 use Rattle.page_clock.specs.Seen.{ClockSeen}
 use Rattle.page_clock.specs.declared.Pick.{Pick}
 use Rattle.page_clock.specs.declared.Pick.TheVariants.{Front, Back}
@@ -20,3 +20,12 @@ stepped c = if c.back_next then record c { front = (c.front + 1) % c.frames; bac
 abbrev pub place_of : Pick → ℕ
 place_of (Front frame) = frame
 place_of (Back frame) = frame
+
+-- a new clock: the front hand is at frame 0 and moves first
+abbrev pub fresh : ℕ → ℕ → ClockSeen
+fresh frames distance = record { frames = frames; distance = distance; front = 0; back_next = false }
+
+-- a clock after so many more steps
+abbrev pub after : ℕ → ClockSeen → ClockSeen
+after zero c = c
+after (suc n) c = stepped (after n c)

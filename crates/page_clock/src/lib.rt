@@ -4,8 +4,8 @@
 //! later, tells whether it was referenced meanwhile. This crate says only whose turn it is.
 #![tactic(auto)]
 
-ghost use Rattle.std.specs.Prelude.{◌≡◌, ℕ, ◌+◌, ◌-◌, ◌%◌, ◌<◌, ◌≤◌, false};
-ghost use Rattle.page_clock.specs.Clock.{next_pick, stepped, place_of};
+ghost use Rattle.std.specs.Prelude.{◌≡◌, ℕ, ◌+◌, ◌-◌, ◌*◌, ◌%◌, ◌<◌, ◌≤◌, false};
+ghost use Rattle.page_clock.specs.Clock.{next_pick, stepped, place_of, fresh, after};
 
 use std::marker::Model;
 
@@ -46,7 +46,7 @@ impl Clock {
     pub const fn new(frames: u32, distance: u32) -> Clock
         requires apart { 1 ≤ distance }
         requires within { distance < frames }
-        ensures { result ≡ record { frames = frames; distance = distance; front = 0; back_next = false } }
+        ensures { result ≡ fresh frames distance }
     {
         Clock {
             frames,
@@ -71,6 +71,36 @@ impl Clock {
         } else {
             self.back_next = true;
             Pick::Front(front)
+        }
+    }
+
+    /// The step, counted from 0, at which a new clock gives this pick in its first round of
+    /// `2 * frames` steps. So each hand is at each frame once in that round.
+    pub const fn turn_of(frames: u32, distance: u32, pick: Pick) -> u64
+        requires apart { 1 ≤ distance }
+        requires within { distance < frames }
+        requires frame { place_of pick < frames }
+        ensures soon { result < 2 * frames }
+        ensures comes { next_pick (after result (fresh frames distance)) ≡ pick }
+        ensures once { (number : ℕ) → number < 2 * frames
+            → next_pick (after number (fresh frames distance)) ≡ pick → number ≡ result }
+    {
+        match pick {
+            Pick::Front(frame) => 2 * frame as u64,
+            Pick::Back(frame) => 2 * Self::place_ahead(frame, distance, frames) as u64 + 1,
+        }
+    }
+
+    const fn place_ahead(place: u32, distance: u32, frames: u32) -> u32
+        requires place { place < frames }
+        requires distance { distance < frames }
+        ensures near { place + distance < frames → result ≡ place + distance }
+        ensures round { frames ≤ place + distance → result + frames ≡ place + distance }
+    {
+        if place < frames - distance {
+            place + distance
+        } else {
+            place - (frames - distance)
         }
     }
 

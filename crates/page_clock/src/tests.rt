@@ -32,3 +32,18 @@ fn the_least_clock_has_two_frames(rt: HostRuntime) {
         assert_eq!(rt; clock.step(), pick);
     }
 }
+
+#[test]
+fn each_pick_has_one_turn_in_the_first_round(rt: HostRuntime) {
+    let turns = [
+        (Pick::Front(0), 0),
+        (Pick::Front(3), 6),
+        (Pick::Back(2), 1),
+        (Pick::Back(3), 3),
+        (Pick::Back(0), 5),
+        (Pick::Back(1), 7),
+    ];
+    for (pick, turn) in turns {
+        assert_eq!(rt; Clock::turn_of(4, 2, pick), turn, "at {pick:?}");
+    }
+}
