@@ -1,4 +1,4 @@
-ghost use Rattle.std.specs.Prelude.{◌≡◌, ℕ, ◌+◌, ◌<◌, ◌≤◌, length, replicate, Some, None, IsSome, IfOk, is_some, unwrap_or, slice_set, []};
+ghost use Rattle.std.specs.Prelude.{◌≡◌, ◌+◌, ◌<◌, ◌≤◌, length, replicate, Some, None, IsSome, IfOk, is_some, unwrap_or, slice_set, []};
 ghost use Rattle.std.specs.Borrow.{sem};
 ghost use Rattle.core_arena.specs.Bytes.{bytes_at, spliced, zeros};
 ghost use Rattle.core_arena.specs.CoreLends.{lends_home};

@@ -4,7 +4,7 @@
 //! later, tells whether it was referenced meanwhile. This crate says only whose turn it is.
 #![tactic(auto)]
 
-ghost use Rattle.std.specs.Prelude.{◌≡◌, ℕ, ◌+◌, ◌-◌, ◌*◌, ◌%◌, ◌<◌, ◌≤◌, false};
+ghost use Rattle.std.specs.Prelude.{◌≡◌, ℕ, ◌+◌, ◌-◌, ◌*◌, ◌%◌, ◌<◌, ◌≤◌};
 ghost use Rattle.page_clock.specs.Clock.{next_pick, stepped, place_of, fresh, after};
 
 use std::marker::Model;

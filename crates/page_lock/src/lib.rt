@@ -1,7 +1,7 @@
 //! The locks of the frames: for each frame who holds it, how many keep it, and its bits.
 #![tactic(auto)]
 
-ghost use Rattle.std.specs.Prelude.{◌≡◌, ℕ, ◌+◌, ◌-◌, ◌^◌, ◌<◌, ◌≤◌, ◌≢◌, true, false, Some, None, IsSome, IfOk, ◌==◌, nat_lt, length, replicate, slice_set};
+ghost use Rattle.std.specs.Prelude.{◌≡◌, ◌+◌, ◌-◌, ◌^◌, ◌<◌, true, false, Some, None, IsSome, IfOk, nat_lt, length, replicate, slice_set};
 ghost use Rattle.page_lock.specs.Rows.{row_at, clear_row};
 
 use std::alloc::{AllocError, Global};
