@@ -1,6 +1,4 @@
-use Rattle.std.proofs.Common.{◌≡◌, ℕ, List, length, replicate, sym, ◌∙◌, ap}
-use Rattle.core_arena.specs.Seen.{FrameSeen}
-use Rattle.core_arena.specs.Bytes.{overwritten}
+use Rattle.std.proofs.Common.{◌≡◌, ℕ, List, length, replicate, ◌∙◌, ap}
 use Rattle.core_arena.proofs.BytesLemmas.{overwritten-whole}
 use Rattle.core_arena.proofs.tests.filled.Goals as goal
 
