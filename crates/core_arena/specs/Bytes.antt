@@ -1,0 +1,18 @@
+-- The bytes of frames.
+use Rattle.std.specs.Prelude.{ℕ, ◌+◌, ◌++◌, List, Option, None, slice_index_or, replicate, take, drop, length}
+
+-- the bytes of a frame that is home; None where it is away
+abbrev pub bytes_at : List (Option (List ℕ)) → ℕ → Option (List ℕ)
+bytes_at frames i = slice_index_or frames i None
+
+-- a page of zeros
+abbrev pub zeros : List ℕ
+zeros = replicate 4096 0
+
+-- the bytes with a piece written over them from a place on
+abbrev pub spliced : List ℕ → ℕ → List ℕ → List ℕ
+spliced bytes at from = take at bytes ++ from ++ drop (at + length from) bytes
+
+-- a slice keeps its length: what is left in it are the bytes w, cut or filled up to the length of the old ones
+abbrev pub overwritten : List ℕ → List ℕ → List ℕ
+overwritten bytes w = take (length bytes) (w ++ drop (length w) bytes)
