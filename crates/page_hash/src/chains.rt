@@ -26,7 +26,7 @@ fn slot_in(name: PageName, count: usize) -> usize
     ensures within { result < count }
     ensures slot { result ≡ slot_of count name }
 {
-    let number = u64::from(name.object) * 0x1_0000_0000 + u64::from(name.page);
+    let number = name.object as u64 * 0x1_0000_0000 + name.page as u64;
     let mixed = number.wrapping_mul(GOLDEN_FRACTION) >> 32;
     ((mixed * count as u64) >> 32) as usize
 }
