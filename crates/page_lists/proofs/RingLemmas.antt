@@ -4,8 +4,8 @@ use Rattle.std.proofs.lemmas.List.{get_or-set_same, get_or-set_other}
 use Rattle.std.proofs.Math.ListN.{length-set}
 use Rattle.std.proofs.lemmas.Bool.{cases_eq}
 use Rattle.page_lists.specs.ListsSeen.{Has, IsOnce, without}
-use Rattle.page_lists.specs.Ring.{Chain, follow, walk, IsRing, IsQueue, QueueSeen}
-use Rattle.page_lists.proofs.ListLemmas.{has-more, more-has, once-more, has-without, without-has, once-without, once-short}
+use Rattle.page_lists.specs.Ring.{Chain, follow, walk, IsRing, IsQueue, QueueSeen, queue_of}
+use Rattle.page_lists.proofs.ListLemmas.{has-more, more-has, once-more, has-without, without-has, without-absent, once-without, once-short}
 use Rattle.page_lists.proofs.ChainLemmas.{chain-appended, chain-removed, walk-chain, last-in, forth-in, back-in, chain-first}
 
 pub any_default : {X : Type 0} (xs : List X) (i : ℕ) (d e : X) → i < length xs → get_or xs i d ≡ get_or xs i e
@@ -26,12 +26,27 @@ end_other end other links (Some g) ne = refl
 pub ring-walk : (first last : Option ℕ) (next previous : List (Option ℕ)) (listed : List Bool) (xs : List ℕ) → IsRing first last next previous listed xs → walk next (length next) first ≡ xs
 ring-walk first last next previous listed xs ring = walk-chain first next (follow last previous) None xs (length next) ring.chain (once-short (length next) xs ring.once ring.below)
 
-pub ring-walked : (first last : Option ℕ) (next previous : List (Option ℕ)) (listed : List Bool) (xs : List ℕ) → IsRing first last next previous listed xs → IsRing first last next previous listed (walk next (length next) first)
-ring-walked first last next previous listed xs ring = subst (λ (l : List ℕ). IsRing first last next previous listed l) (sym (ring-walk first last next previous listed xs ring)) ring
+-- what is seen of a queue that holds a list
+seen_as : (f g : ℕ) (a b : List ℕ) → f ≡ g → a ≡ b → ◌≡◌ {A = QueueSeen} (record { frames = f; order = a }) (record { frames = g; order = b })
+seen_as f g a b e h = ap (λ (k : ℕ). record { frames = k; order = a }) e ∙ ap (λ (l : List ℕ). record { frames = g; order = l }) h
 
-pub ring-queue : (first last : Option ℕ) (next previous : List (Option ℕ)) (listed : List Bool) (xs : List ℕ) → IsRing first last next previous listed xs → IsQueue (record { frames = length next; order = walk next (length next) first })
-ring-queue first last next previous listed xs ring =
-    subst (λ (l : List ℕ). IsQueue (record { frames = length next; order = l })) (sym (ring-walk first last next previous listed xs ring)) (record { once = ring.once; below = ring.below })
+-- a queue whose links hold a list is seen as that list
+pub record Holds (first last : Option ℕ) (next previous : List (Option ℕ)) (listed : List Bool) (frames : ℕ) (xs : List ℕ) : Type 0 where
+  pub ring : IsRing first last next previous listed (queue_of first next).order
+  pub seen : queue_of first next ≡ record { frames = frames; order = xs }
+  pub queue : IsQueue (queue_of first next)
+
+pub ring-holds : (first last : Option ℕ) (next previous : List (Option ℕ)) (listed : List Bool) (frames : ℕ) (xs : List ℕ) → IsRing first last next previous listed xs → length next ≡ frames → Holds first last next previous listed frames xs
+ring-holds first last next previous listed frames xs ring n =
+    let w = ring-walk first last next previous listed xs ring in
+    record {
+      ring = subst (λ (l : List ℕ). IsRing first last next previous listed l) (sym w) ring;
+      seen = seen_as (length next) frames (walk next (length next) first) xs n w;
+      queue = subst (λ (l : List ℕ). IsQueue (record { frames = length next; order = l })) (sym w) (record { once = ring.once; below = ring.below }) }
+
+walk_none : (next : List (Option ℕ)) (n : ℕ) → walk next n None ≡ []
+walk_none next zero = refl
+walk_none next (suc n) = refl
 
 all_same : {X : Type 0} (n k : ℕ) (d : X) → get_or (replicate n d) k d ≡ d
 all_same zero k d = refl
@@ -125,3 +140,84 @@ module _ (first last : Option ℕ) (next previous : List (Option ℕ)) (listed :
             let same : get_or (set listed frame false) g false ≡ get_or listed g false = get_or-set_other listed frame g false false ne in
             ((λ t. without-has xs frame g ((ring.marked g).0 (sym same ∙ t)) ne), (λ i. let r = has-without xs frame g i in same ∙ (ring.marked g).1 r.0))
         ] }
+
+-- a queue with a frame at its end
+pub pushed : (first last : Option ℕ) (next previous : List (Option ℕ)) (listed : List Bool) (now : QueueSeen) (frame : ℕ) (first_new : Option ℕ) (next_new : List (Option ℕ)) →
+    IsRing first last next previous listed (queue_of first next).order → queue_of first next ≡ now → frame < now.frames → (Has now.order frame → ⊥) →
+    follow first_new next_new last ≡ Some frame → ((q : Option ℕ) → q ≢ last → follow first_new next_new q ≡ follow first next q) → length next_new ≡ length next →
+    Holds first_new (Some frame) (set next_new frame None) (set previous frame last) (set listed frame true) now.frames (now.order ++ frame ∷ [])
+pushed first last next previous listed now frame first_new next_new ring seen lt absent into kept lengths =
+    let n : length next ≡ now.frames = ap (λ (q : QueueSeen). q.frames) seen in
+    let o : walk next (length next) first ≡ now.order = ap (λ (q : QueueSeen). q.order) seen in
+    let ring_now : IsRing first last next previous listed now.order = subst (λ (l : List ℕ). IsRing first last next previous listed l) o ring in
+    ring-holds first_new (Some frame) (set next_new frame None) (set previous frame last) (set listed frame true) now.frames (now.order ++ frame ∷ [])
+      (ring-appended first last next previous listed now.order frame ring_now first_new next_new (omega arith) absent into kept lengths)
+      (length-set next_new frame None ∙ lengths ∙ n)
+
+-- a queue with a frame taken off
+pub taken_off : (first last : Option ℕ) (next previous : List (Option ℕ)) (listed : List Bool) (now : QueueSeen) (frame : ℕ) (before after : Option ℕ) (first_new last_new : Option ℕ) (next_new previous_new : List (Option ℕ)) →
+    IsRing first last next previous listed (queue_of first next).order → queue_of first next ≡ now → Has now.order frame →
+    before ≡ get_or previous frame None → after ≡ get_or next frame None →
+    follow first_new next_new before ≡ after → ((q : Option ℕ) → q ≢ before → follow first_new next_new q ≡ follow first next q) →
+    follow last_new previous_new after ≡ before → ((q : Option ℕ) → q ≢ after → follow last_new previous_new q ≡ follow last previous q) →
+    length next_new ≡ length next → length previous_new ≡ length previous →
+    Holds first_new last_new next_new previous_new (set listed frame false) now.frames (without now.order frame)
+taken_off first last next previous listed now frame before after first_new last_new next_new previous_new ring seen has b a into kept back still n p =
+    let f : length next ≡ now.frames = ap (λ (q : QueueSeen). q.frames) seen in
+    let o : walk next (length next) first ≡ now.order = ap (λ (q : QueueSeen). q.order) seen in
+    let ring_now : IsRing first last next previous listed now.order = subst (λ (l : List ℕ). IsRing first last next previous listed l) o ring in
+    ring-holds first_new last_new next_new previous_new (set listed frame false) now.frames (without now.order frame)
+      (ring-removed first last next previous listed now.order frame ring_now first_new last_new next_new previous_new has
+        (ap (λ (q : Option ℕ). follow first_new next_new q) (sym b) ∙ into ∙ a) (λ q ne. kept q (λ e. ne (e ∙ b)))
+        (ap (λ (q : Option ℕ). follow last_new previous_new q) (sym a) ∙ back ∙ b) (λ q ne. still q (λ e. ne (e ∙ a)))
+        n p)
+      (n ∙ f)
+
+-- what a mark says of a queue
+pub marked-has : (first last : Option ℕ) (next previous : List (Option ℕ)) (listed : List Bool) (now : QueueSeen) (frame : ℕ) (mark : Bool) →
+    IsRing first last next previous listed (queue_of first next).order → queue_of first next ≡ now → frame < now.frames → mark ≡ get_or listed frame mark → (mark ≡ true) ↔ Has now.order frame
+marked-has first last next previous listed now frame mark ring seen lt e =
+    let n : length next ≡ now.frames = ap (λ (q : QueueSeen). q.frames) seen in
+    let o : walk next (length next) first ≡ now.order = ap (λ (q : QueueSeen). q.order) seen in
+    let in_listed : frame < length listed = let a = ring.listed_length in omega arith in
+    let m : mark ≡ get_or listed frame false = e ∙ any_default listed frame mark false in_listed in
+    ((λ t. subst (λ (l : List ℕ). Has l frame) o ((ring.marked frame).0 (sym m ∙ t))), (λ h. m ∙ (ring.marked frame).1 (subst (λ (l : List ℕ). Has l frame) (sym o) h)))
+
+-- the links of a frame on the queue lead to frames
+pub before-within : (first last : Option ℕ) (next previous : List (Option ℕ)) (listed : List Bool) (now : QueueSeen) (frame : ℕ) (before : Option ℕ) → IsRing first last next previous listed (queue_of first next).order → queue_of first next ≡ now → Has now.order frame → before ≡ get_or previous frame None → (g : ℕ) → before ≡ Some g → g < length next
+before-within first last next previous listed now frame before ring seen has b g e =
+    let ring_now : IsRing first last next previous listed now.order = subst (λ (l : List ℕ). IsRing first last next previous listed l) (ap (λ (q : QueueSeen). q.order) seen) ring in
+    before-in first last next previous listed now.order frame ring_now g has (sym b ∙ e)
+
+pub after-within : (first last : Option ℕ) (next previous : List (Option ℕ)) (listed : List Bool) (now : QueueSeen) (frame : ℕ) (after : Option ℕ) → IsRing first last next previous listed (queue_of first next).order → queue_of first next ≡ now → Has now.order frame → after ≡ get_or next frame None → (g : ℕ) → after ≡ Some g → g < length next
+after-within first last next previous listed now frame after ring seen has a g e =
+    let ring_now : IsRing first last next previous listed now.order = subst (λ (l : List ℕ). IsRing first last next previous listed l) (ap (λ (q : QueueSeen). q.order) seen) ring in
+    after-in first last next previous listed now.order frame ring_now g has (sym a ∙ e)
+
+-- a frame that isn't there is no less
+pub none-off : (now : QueueSeen) (frame : ℕ) → (Has now.order frame → ⊥) → now ≡ record { frames = now.frames; order = without now.order frame }
+none-off now frame absent = seen_as now.frames now.frames now.order (without now.order frame) refl (sym (without-absent now.order frame absent))
+
+-- the first frame of a queue
+pub first-ahead : (first last : Option ℕ) (next previous : List (Option ℕ)) (listed : List Bool) (now : QueueSeen) (frame : ℕ) → IsRing first last next previous listed (queue_of first next).order → queue_of first next ≡ now → first ≡ Some frame → now.order ≡ frame ∷ without now.order frame
+first-ahead first last next previous listed now frame ring seen e =
+    let ring_now : IsRing first last next previous listed now.order = subst (λ (l : List ℕ). IsRing first last next previous listed l) (ap (λ (q : QueueSeen). q.order) seen) ring in
+    first-of first last next previous listed now.order frame ring_now e
+
+pub first-within : (first last : Option ℕ) (next previous : List (Option ℕ)) (listed : List Bool) (now : QueueSeen) (frame : ℕ) → IsRing first last next previous listed (queue_of first next).order → queue_of first next ≡ now → first ≡ Some frame → frame < now.frames
+first-within first last next previous listed now frame ring seen e =
+    let ahead : now.order ≡ frame ∷ without now.order frame = first-ahead first last next previous listed now frame ring seen e in
+    let n : length next ≡ now.frames = ap (λ (q : QueueSeen). q.frames) seen in
+    let has : Has (queue_of first next).order frame = subst (λ (l : List ℕ). Has l frame) (sym (ap (λ (q : QueueSeen). q.order) seen ∙ ahead)) (inl refl) in
+    let lt = ring.below frame has in
+    omega arith
+
+pub first-off : (now new : QueueSeen) (frame f : ℕ) → now.order ≡ frame ∷ without now.order frame → new ≡ record { frames = now.frames; order = without now.order frame } → frame ≡ f → now ≡ record { frames = new.frames; order = f ∷ new.order }
+first-off now new frame f ahead e q =
+    seen_as now.frames new.frames now.order (f ∷ new.order) (sym (ap (λ (x : QueueSeen). x.frames) e))
+      (ahead ∙ ap (λ (k : ℕ). k ∷ without now.order frame) q ∙ ap (λ (l : List ℕ). f ∷ l) (sym (ap (λ (x : QueueSeen). x.order) e)))
+
+-- a queue without a first frame
+pub no-first : (first last : Option ℕ) (next previous : List (Option ℕ)) (listed : List Bool) (now : QueueSeen) → IsRing first last next previous listed (queue_of first next).order → queue_of first next ≡ now → first ≡ None → now.order ≡ []
+no-first first last next previous listed now ring seen e =
+    sym (ap (λ (q : QueueSeen). q.order) seen) ∙ ap (λ (o : Option ℕ). walk next (length next) o) e ∙ walk_none next (length next)

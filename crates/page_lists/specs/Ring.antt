@@ -18,6 +18,10 @@ walk next zero at = []
 walk next (suc n) None = []
 walk next (suc n) (Some frame) = frame ∷ walk next n (slice_index_or next frame None)
 
+-- the queue that begins at a frame, over as many frames as there are links
+abbrev pub queue_of : Option ℕ → List (Option ℕ) → QueueSeen
+queue_of first next = record { frames = length next; order = walk next (length next) first }
+
 -- from a place on, the steps forth lead along a list to the end, and the steps back return
 abbrev pub Chain : (Option ℕ → Option ℕ) → (Option ℕ → Option ℕ) → Option ℕ → List ℕ → Type 0
 Chain forth back from [] = (forth from ≡ None) × (back None ≡ from)

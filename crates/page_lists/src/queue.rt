@@ -18,14 +18,13 @@ pub struct FrameQueue {
 }
 
 impl Model for FrameQueue {
-    ghost use Rattle.std.specs.Prelude.{length};
-    ghost use Rattle.page_lists.specs.Ring.{QueueSeen, IsRing, walk};
+    ghost use Rattle.page_lists.specs.Ring.{QueueSeen, IsRing, queue_of};
 
     ghost Value = { QueueSeen };
 
-    ghost view = { λ q. record { frames = length q.next.items; order = walk q.next.items (length q.next.items) q.first } };
+    ghost view = { λ q. queue_of q.first q.next.items };
 
-    ghost invariant = { λ q. IsRing q.first q.last q.next.items q.previous.items q.listed.items (walk q.next.items (length q.next.items) q.first) };
+    ghost invariant = { λ q. IsRing q.first q.last q.next.items q.previous.items q.listed.items (queue_of q.first q.next.items).order };
 }
 
 /// Leads the link at a place elsewhere: that of a frame, or where the place is none, the end of the queue.
