@@ -1,10 +1,10 @@
 -- Two queues without a common frame.
-use Rattle.std.proofs.Common.{◌≡◌, ◌≢◌, ℕ, ◌+◌, ◌<◌, ◌⊎◌, inl, inr, List, [], ◌∷◌, ◌++◌, refl, sym, ◌∙◌, ap, subst, arith}
+use Rattle.std.proofs.Common.{◌≡◌, ◌≢◌, ℕ, ◌+◌, ◌<◌, ◌⊎◌, inl, inr, List, [], ◌∷◌, ◌++◌, suc, refl, sym, ◌∙◌, ap, subst, arith}
 use Rattle.std.specs.List.{range_with_len}
 use Rattle.page_lists.specs.ListsSeen.{ListsSeen, Has, IsListed, AreApart, without}
 use Rattle.page_lists.specs.Lists.{lists_of, AreLists}
 use Rattle.page_lists.specs.Ring.{QueueSeen, IsQueue}
-use Rattle.page_lists.proofs.ListLemmas.{has-more, has-without, without-absent, has-range, once-range}
+use Rattle.page_lists.proofs.ListLemmas.{has-more, has-without, without-absent, has-range, once-range, range-more}
 
 pub lists-apart : (free cached : QueueSeen) → AreLists free cached → AreApart (lists_of free cached)
 lists-apart free cached l = record {
@@ -78,3 +78,21 @@ not-free free cached now frame seen absent h = absent (inl (subst (λ (l : List 
 
 pub not-cached : (free cached : QueueSeen) (now : ListsSeen) (frame : ℕ) → lists_of free cached ≡ now → (IsListed now frame → ⊥) → Has cached.order frame → ⊥
 not-cached free cached now frame seen absent h = absent (inr (subst (λ (l : List ℕ). Has l frame) (ap (λ (s : ListsSeen). s.cached) seen) h))
+
+-- the frames from 0 to one, as a queue
+pub range-ends : (free : QueueSeen) (frames frame : ℕ) → free ≡ record { frames = frames; order = range_with_len 0 frame } → Has free.order frame → ⊥
+range-ends free frames frame e h =
+    let r = has-range 0 frame frame (subst (λ (l : List ℕ). Has l frame) (ap (λ (q : QueueSeen). q.order) e) h) in
+    let u : frame < 0 + frame = r.1 in
+    omega arith
+
+range_grows : (n : ℕ) → range_with_len 0 (n + 1) ≡ range_with_len 0 n ++ n ∷ []
+range_grows n =
+    let one : n + 1 ≡ suc n = omega arith in
+    let same : 0 + n ≡ n = omega arith in
+    ap (λ (k : ℕ). range_with_len 0 k) one ∙ range-more 0 n ∙ ap (λ (k : ℕ). range_with_len 0 n ++ k ∷ []) same
+
+pub range-pushed : (free new : QueueSeen) (frames frame : ℕ) → free ≡ record { frames = frames; order = range_with_len 0 frame } → new ≡ record { frames = free.frames; order = free.order ++ frame ∷ [] } → new ≡ record { frames = frames; order = range_with_len 0 (frame + 1) }
+range-pushed free new frames frame e p =
+    let grown : range_with_len 0 (frame + 1) ≡ range_with_len 0 frame ++ frame ∷ [] = range_grows frame in
+    p ∙ ap (λ (q : QueueSeen). record { frames = q.frames; order = q.order ++ frame ∷ [] }) e ∙ ap (λ (l : List ℕ). record { frames = frames; order = l }) (sym grown)
