@@ -1,5 +1,5 @@
 -- A frame goes into its chain.
-use Rattle.std.proofs.Common.{◌≡◌, ◌≢◌, ℕ, ◌+◌, ◌<◌, ◌≤◌, ◌^◌, ◌⊎◌, inl, inr, Option, Some, None, List, refl, sym, ◌∙◌, ap, subst, length, get_or, set, arith, zero, suc, [], ◌∷◌}
+use Rattle.std.proofs.Common.{◌≡◌, ◌≢◌, ℕ, ◌+◌, ◌<◌, ◌≤◌, ◌^◌, inl, inr, Option, Some, None, List, refl, sym, ◌∙◌, ap, subst, length, get_or, set, arith, zero, suc, [], ◌∷◌}
 use Rattle.std.proofs.lemmas.List.{get_or-set_same, get_or-set_other}
 use Rattle.std.proofs.Math.ListN.{length-set}
 use Rattle.std.proofs.lemmas.Bool.{cases_eq, cases_lt}
@@ -52,7 +52,8 @@ module _ (names : List (Option PageName)) (count slot frame : ℕ) (page : PageN
   leads_other b low link ne l = record {
     held = λ f e. in_new b f (l.held f e);
     above = l.above;
-    first = λ g i h. elim (cases_eq g frame) [ inl q ↦ absurd (ne (frame_slot b g q i)) | inr nf ↦ l.first g (in_old b g nf i) h ] }
+    first = λ g i h. elim (cases_eq g frame) [ inl q ↦ absurd (ne (frame_slot b g q i)) | inr nf ↦ l.first g (in_old b g nf i) h ];
+  }
 
   leads_still : (low : ℕ) (link : Option ℕ) → (low ≤ frame → AtOrAfter link frame) → Leads names count slot low link → Leads (set names frame (Some page)) count slot low link
   leads_still low link past l = record {
@@ -61,13 +62,15 @@ module _ (names : List (Option PageName)) (count slot frame : ℕ) (page : PageN
     first = λ g i h. elim (cases_eq g frame) [
       | inl q ↦ subst (λ (k : ℕ). AtOrAfter link k) (sym q) (past (subst (λ (k : ℕ). low ≤ k) q h))
       | inr nf ↦ l.first g (in_old slot g nf i) h
-    ] }
+    ];
+  }
 
   leads_at : (low : ℕ) (link : Option ℕ) → low ≤ frame → ((f : ℕ) → link ≡ Some f → frame < f) → Leads names count slot low link → Leads (set names frame (Some page)) count slot (frame + 1) link
   leads_at low link small past l = record {
     held = λ f e. in_new slot f (l.held f e);
     above = λ f e. let a = past f e in omega arith;
-    first = λ g i h. l.first g (in_old slot g (λ q. let z : frame + 1 ≤ frame = subst (λ (k : ℕ). frame + 1 ≤ k) q h in omega arith) i) (omega arith) }
+    first = λ g i h. l.first g (in_old slot g (λ q. let z : frame + 1 ≤ frame = subst (λ (k : ℕ). frame + 1 ≤ k) q h in omega arith) i) (omega arith);
+  }
 
   some_above : (link : Option ℕ) (g : ℕ) → ((f : ℕ) → link ≡ Some f → frame < f) → AtOrAfter link g → frame < g
   some_above None g past a = absurd a
@@ -80,28 +83,28 @@ module _ (names : List (Option PageName)) (count slot frame : ℕ) (page : PageN
     first = λ g i h. elim (cases_eq g frame) [
       | inl q ↦ omega arith
       | inr nf ↦ let a = some_above link g past (l.first g (in_old slot g nf i) h) in omega arith
-    ] }
+    ];
+  }
 
   at_frame : (k : ℕ) (n : PageName) → k ≡ frame → name_at (set names frame (Some page)) k ≡ Some n → page ≡ n
   at_frame k n q h = let a : name_at (set names frame (Some page)) frame ≡ Some n = subst (λ (x : ℕ). name_at (set names frame (Some page)) x ≡ Some n) q h in let z : Some page ≡ Some n = sym here ∙ a in cc
 
   distinct-new : AreDistinct names → ((k : ℕ) → name_at names k ≡ Some page → ⊥) → AreDistinct (set names frame (Some page))
   distinct-new d absent i j n a b = elim (cases_eq i frame) [
-      | inl q ↦ elim (cases_eq j frame) [
-        | inl r ↦ q ∙ sym r
-        | inr nf ↦ absurd (absent j (sym (other j nf) ∙ b ∙ ap (λ (x : PageName). Some x) (sym (at_frame i n q a))))
-      ]
-      | inr ne ↦ elim (cases_eq j frame) [
-        | inl r ↦ absurd (absent i (sym (other i ne) ∙ a ∙ ap (λ (x : PageName). Some x) (sym (at_frame j n r b))))
-        | inr nf ↦ d i j n (sym (other i ne) ∙ a) (sym (other j nf) ∙ b)
-      ]
+    | inl q ↦ elim (cases_eq j frame) [
+      | inl r ↦ q ∙ sym r
+      | inr nf ↦ absurd (absent j (sym (other j nf) ∙ b ∙ ap (λ (x : PageName). Some x) (sym (at_frame i n q a))))
     ]
+    | inr ne ↦ elim (cases_eq j frame) [
+      | inl r ↦ absurd (absent i (sym (other i ne) ∙ a ∙ ap (λ (x : PageName). Some x) (sym (at_frame j n r b))))
+      | inr nf ↦ d i j n (sym (other i ne) ∙ a) (sym (other j nf) ∙ b)
+    ]
+  ]
 
 -- a frame that goes in behind the one before it leaves all chains linked
 module _ (heads next : List (Option ℕ)) (names : List (Option PageName)) (slot frame : ℕ) (page : PageName) (at : Option ℕ) (linked : IsLinked heads next names)
     (within : frame < length names) (empty : name_at names frame ≡ None) (is : slot_of (length heads) page ≡ slot) (in_heads : slot < length heads)
     (absent : (k : ℕ) → name_at names k ≡ Some page → ⊥) (past : (f : ℕ) → at ≡ Some f → frame < f) where
-
   next_in : frame < length next
   next_in = let a = linked.lengths in omega arith
 
@@ -125,23 +128,24 @@ module _ (heads next : List (Option ℕ)) (names : List (Option PageName)) (slot
     head = λ b lt. subst (λ (n : ℕ). Leads (set names frame (Some page)) n b 0 (get_or (set heads slot (Some frame)) b None)) (sym (length-set heads slot (Some frame))) (elim (cases_eq b slot) [
       | inl q ↦ subst (λ (x : ℕ). Leads (set names frame (Some page)) (length heads) x 0 (get_or (set heads slot (Some frame)) x None)) (sym q)
           (subst (λ (o : Option ℕ). Leads (set names frame (Some page)) (length heads) slot 0 o) (sym (get_or-set_same heads slot (Some frame) None in_heads))
-            (leads_new names (length heads) slot frame page within empty is 0 at (omega arith) past w.leads))
+          (leads_new names (length heads) slot frame page within empty is 0 at (omega arith) past w.leads))
       | inr nb ↦ subst (λ (o : Option ℕ). Leads (set names frame (Some page)) (length heads) b 0 o) (sym (get_or-set_other heads slot b (Some frame) None nb))
           (leads_other names (length heads) slot frame page within empty is b 0 (get_or heads b None) nb (linked.head b (subst (λ (n : ℕ). b < n) (length-set heads slot (Some frame)) lt)))
     ]);
     link = λ b p i0.
-      let i : InSlot (set names frame (Some page)) (length heads) b p = subst (λ (n : ℕ). InSlot (set names frame (Some page)) n b p) (length-set heads slot (Some frame)) i0 in
-      subst (λ (n : ℕ). Leads (set names frame (Some page)) n b (p + 1) (get_or (set next frame at) p None)) (sym (length-set heads slot (Some frame))) (elim (cases_eq p frame) [
-        | inl q ↦
-          let e : b ≡ slot = frame_slot names (length heads) slot frame page within empty is b p q i in
-          subst (λ (x : ℕ). Leads (set names frame (Some page)) (length heads) b (x + 1) (get_or (set next frame at) x None)) (sym q)
-            (subst (λ (x : ℕ). Leads (set names frame (Some page)) (length heads) x (frame + 1) (get_or (set next frame at) frame None)) (sym e)
+        let i : InSlot (set names frame (Some page)) (length heads) b p = subst (λ (n : ℕ). InSlot (set names frame (Some page)) n b p) (length-set heads slot (Some frame)) i0 in
+        subst (λ (n : ℕ). Leads (set names frame (Some page)) n b (p + 1) (get_or (set next frame at) p None)) (sym (length-set heads slot (Some frame))) (elim (cases_eq p frame) [
+          | inl q ↦
+              let e : b ≡ slot = frame_slot names (length heads) slot frame page within empty is b p q i in
+              subst (λ (x : ℕ). Leads (set names frame (Some page)) (length heads) b (x + 1) (get_or (set next frame at) x None)) (sym q)
+              (subst (λ (x : ℕ). Leads (set names frame (Some page)) (length heads) x (frame + 1) (get_or (set next frame at) frame None)) (sym e)
               (subst (λ (o : Option ℕ). Leads (set names frame (Some page)) (length heads) slot (frame + 1) o) (sym (get_or-set_same next frame at None next_in))
-                (leads_at names (length heads) slot frame page within empty is 0 at (omega arith) past w.leads)))
-        | inr ne ↦ subst (λ (o : Option ℕ). Leads (set names frame (Some page)) (length heads) b (p + 1) o) (sym (get_or-set_other next frame p at None ne))
-            (old_link b p (λ q h. absurd (let was : InSlot names (length heads) slot p = subst (λ (x : ℕ). InSlot names (length heads) x p) q (in_old names (length heads) slot frame page within empty is b p ne i) in
+              (leads_at names (length heads) slot frame page within empty is 0 at (omega arith) past w.leads)))
+          | inr ne ↦ subst (λ (o : Option ℕ). Leads (set names frame (Some page)) (length heads) b (p + 1) o) (sym (get_or-set_other next frame p at None ne))
+              (old_link b p (λ q h. absurd (let was : InSlot names (length heads) slot p = subst (λ (x : ℕ). InSlot names (length heads) x p) q (in_old names (length heads) slot frame page within empty is b p ne i) in
               let a = some_above names (length heads) slot frame page within empty is at p past (w.leads.first p was (omega arith)) in omega arith)) ne i)
-      ]) }
+        ]);
+  }
 
   pub linked-after : (q : ℕ) → Walked names (length heads) slot frame (Some q) at → IsLinked heads (set (set next frame at) q (Some frame)) (set names frame (Some page))
   linked-after q w =
@@ -163,32 +167,33 @@ module _ (heads next : List (Option ℕ)) (names : List (Option PageName)) (slot
         ];
         link = λ b p i. elim (cases_eq p frame) [
           | inl e ↦
-            let eb : b ≡ slot = frame_slot names (length heads) slot frame page within empty is b p e i in
-            subst (λ (x : ℕ). Leads (set names frame (Some page)) (length heads) b (x + 1) (get_or (set (set next frame at) q (Some frame)) x None)) (sym e)
+              let eb : b ≡ slot = frame_slot names (length heads) slot frame page within empty is b p e i in
+              subst (λ (x : ℕ). Leads (set names frame (Some page)) (length heads) b (x + 1) (get_or (set (set next frame at) q (Some frame)) x None)) (sym e)
               (subst (λ (x : ℕ). Leads (set names frame (Some page)) (length heads) x (frame + 1) (get_or (set (set next frame at) q (Some frame)) frame None)) (sym eb)
-                (subst (λ (o : Option ℕ). Leads (set names frame (Some page)) (length heads) slot (frame + 1) o) (sym (get_or-set_other (set next frame at) q frame (Some frame) None f_not ∙ get_or-set_same next frame at None next_in))
-                  (leads_at names (length heads) slot frame page within empty is (q + 1) at (omega arith) past w.leads)))
+              (subst (λ (o : Option ℕ). Leads (set names frame (Some page)) (length heads) slot (frame + 1) o) (sym (get_or-set_other (set next frame at) q frame (Some frame) None f_not ∙ get_or-set_same next frame at None next_in))
+              (leads_at names (length heads) slot frame page within empty is (q + 1) at (omega arith) past w.leads)))
           | inr ne ↦ elim (cases_eq p q) [
             | inl e ↦
-              let was : InSlot names (length heads) b p = in_old names (length heads) slot frame page within empty is b p ne i in
-              let eb : b ≡ slot =
-                  let a : name_at names q ≡ Some was.name = subst (λ (x : ℕ). name_at names x ≡ Some was.name) e was.held in
-                  let z : Some q_in.name ≡ Some was.name = sym q_in.held ∙ a in
-                  let y : q_in.name ≡ was.name = cc in
-                  sym was.same ∙ ap (slot_of (length heads)) (sym y) ∙ q_in.same in
-              subst (λ (x : ℕ). Leads (set names frame (Some page)) (length heads) b (x + 1) (get_or (set (set next frame at) q (Some frame)) x None)) (sym e)
+                let was : InSlot names (length heads) b p = in_old names (length heads) slot frame page within empty is b p ne i in
+                let eb : b ≡ slot =
+                let a : name_at names q ≡ Some was.name = subst (λ (x : ℕ). name_at names x ≡ Some was.name) e was.held in
+                let z : Some q_in.name ≡ Some was.name = sym q_in.held ∙ a in
+                let y : q_in.name ≡ was.name = cc in
+                sym was.same ∙ ap (slot_of (length heads)) (sym y) ∙ q_in.same in
+                subst (λ (x : ℕ). Leads (set names frame (Some page)) (length heads) b (x + 1) (get_or (set (set next frame at) q (Some frame)) x None)) (sym e)
                 (subst (λ (x : ℕ). Leads (set names frame (Some page)) (length heads) x (q + 1) (get_or (set (set next frame at) q (Some frame)) q None)) (sym eb)
-                  (subst (λ (o : Option ℕ). Leads (set names frame (Some page)) (length heads) slot (q + 1) o) (sym (get_or-set_same (set next frame at) q (Some frame) None q_len))
-                    (leads_new names (length heads) slot frame page within empty is (q + 1) at (omega arith) past w.leads)))
+                (subst (λ (o : Option ℕ). Leads (set names frame (Some page)) (length heads) slot (q + 1) o) (sym (get_or-set_same (set next frame at) q (Some frame) None q_len))
+                (leads_new names (length heads) slot frame page within empty is (q + 1) at (omega arith) past w.leads)))
             | inr nq ↦ subst (λ (o : Option ℕ). Leads (set names frame (Some page)) (length heads) b (p + 1) o) (sym (get_or-set_other (set next frame at) q p (Some frame) None nq ∙ get_or-set_other next frame p at None ne))
                 (old_link b p (λ e h.
-                  let was : InSlot names (length heads) slot p = subst (λ (x : ℕ). InSlot names (length heads) x p) e (in_old names (length heads) slot frame page within empty is b p ne i) in
-                  elim (cases_lt p q) [
+                let was : InSlot names (length heads) slot p = subst (λ (x : ℕ). InSlot names (length heads) x p) e (in_old names (length heads) slot frame page within empty is b p ne i) in
+                elim (cases_lt p q) [
                   | inl lt ↦ later (get_or next p None) q frame ((linked.link slot p was).first q q_in (omega arith)) (omega arith)
                   | inr ge ↦ absurd (let a = some_above names (length heads) slot frame page within empty is at p past (w.leads.first p was (omega arith)) in omega arith)
-                  ]) ne i)
-            ]
-        ] }
+                ]) ne i)
+          ]
+        ];
+      }
 
 -- what the walk to a frame's place found, with the link behind it
 walked : (heads next : List (Option ℕ)) (names : List (Option PageName)) (slot frame : ℕ) (before : Option ℕ) → IsLinked heads next names → slot < length heads → IsLastBefore names (length heads) slot frame before → Walked names (length heads) slot frame before (link_of heads next slot before)
@@ -219,5 +224,5 @@ linked-inserted heads next names slot frame page (Some q) linked within empty is
 pub linked-as : (heads heads_as next next_as : List (Option ℕ)) (names names_as : List (Option PageName)) → heads ≡ heads_as → next ≡ next_as → names ≡ names_as → IsLinked heads_as next_as names_as → IsLinked heads next names
 linked-as heads heads_as next next_as names names_as eh en em linked =
     subst (λ (l : List (Option ℕ)). IsLinked l next names) (sym eh)
-      (subst (λ (l : List (Option ℕ)). IsLinked heads_as l names) (sym en)
-        (subst (λ (l : List (Option PageName)). IsLinked heads_as next_as l) (sym em) linked))
+    (subst (λ (l : List (Option ℕ)). IsLinked heads_as l names) (sym en)
+    (subst (λ (l : List (Option PageName)). IsLinked heads_as next_as l) (sym em) linked))

@@ -1,12 +1,12 @@
 -- The laws of names by frame.
-use Rattle.std.proofs.Common.{◌≡◌, ◌≢◌, ℕ, ◌+◌, ◌<◌, ◌≤◌, ◌↔◌, Bool, true, false, cond, ◌⊎◌, inl, inr, ◌==◌, ◌&&◌, List, [], ◌∷◌, Option, Some, None, zero, suc, refl, sym, ◌∙◌, ap, subst, arith, rules, length, nat_eq, get_or, set}
+use Rattle.std.proofs.Common.{◌≡◌, ◌≢◌, ℕ, ◌<◌, ◌↔◌, Bool, true, false, cond, ◌⊎◌, inl, inr, List, [], ◌∷◌, Option, Some, None, zero, suc, refl, sym, ◌∙◌, ap, subst, arith, length, set}
 use Rattle.std.specs.Option.{option_map}
 use Rattle.std.specs.Prelude.{IfSome}
 use Rattle.std.proofs.lemmas.Grind.{common_steps}
 use Rattle.std.proofs.lemmas.List.{get_or-set_same, get_or-set_other}
 use Rattle.std.proofs.lemmas.Bool.{cases_eq}
 use Rattle.page_hash.specs.declared.PageName.{PageName}
-use Rattle.page_hash.specs.Names.{is_name, find, name_at, AreDistinct, emptied}
+use Rattle.page_hash.specs.Names.{is_name, find, name_at, AreDistinct}
 use Rattle.page_hash.specs.Chains.{Finds}
 
 chosen : {X : Type 0} (b : Bool) (x y z : X) → cond b x y ≡ z → ((b ≡ true) × (x ≡ z)) ⊎ ((b ≡ false) × (y ≡ z))
@@ -88,15 +88,15 @@ find-same names more n d forth back = same_so names more n d forth back (find na
 -- one frame holds another name, or none
 at_changed : (names : List (Option PageName)) (f : ℕ) (x : Option PageName) (k : ℕ) (n : PageName) → f < length names → (x ≡ Some n → ⊥) → name_at (set names f x) k ≡ Some n → name_at names k ≡ Some n
 at_changed names f x k n lt ne h = elim (cases_eq k f) [
-    | inl q ↦ absurd (ne (sym (get_or-set_same names f x None lt) ∙ subst (λ (y : ℕ). name_at (set names f x) y ≡ Some n) q h))
-    | inr differs ↦ sym (get_or-set_other names f k x None differs) ∙ h
-  ]
+  | inl q ↦ absurd (ne (sym (get_or-set_same names f x None lt) ∙ subst (λ (y : ℕ). name_at (set names f x) y ≡ Some n) q h))
+  | inr differs ↦ sym (get_or-set_other names f k x None differs) ∙ h
+]
 
 at_kept : (names : List (Option PageName)) (f : ℕ) (x : Option PageName) (k : ℕ) (n : PageName) → (name_at names f ≡ Some n → ⊥) → name_at names k ≡ Some n → name_at (set names f x) k ≡ Some n
 at_kept names f x k n ne h = elim (cases_eq k f) [
-    | inl q ↦ absurd (ne (subst (λ (y : ℕ). name_at names y ≡ Some n) q h))
-    | inr differs ↦ get_or-set_other names f k x None differs ∙ h
-  ]
+  | inl q ↦ absurd (ne (subst (λ (y : ℕ). name_at names y ≡ Some n) q h))
+  | inr differs ↦ get_or-set_other names f k x None differs ∙ h
+]
 
 new_name : (names : List (Option PageName)) (n m : PageName) (f k : ℕ) → f < length names → k ≡ f → name_at (set names f (Some n)) k ≡ Some m → n ≡ m
 new_name names n m f k lt q h =
@@ -127,8 +127,8 @@ find-entered names n f lt d absent = find-some (set names f (Some n)) n f (enter
 pub find-entered_other : (names : List (Option PageName)) (n : PageName) (f : ℕ) (m : PageName) → f < length names → AreDistinct names → find names n ≡ None → name_at names f ≡ None → (m ≡ n → ⊥) → find (set names f (Some n)) m ≡ find names m
 find-entered_other names n f m lt d absent empty ne =
     find-same names (set names f (Some n)) m (entered-distinct names n f lt d absent)
-      (λ k h. at_kept names f (Some n) k m (λ e. let z : None ≡ Some m = sym empty ∙ e in cc) h)
-      (λ k h. at_changed names f (Some n) k m lt (λ e. let z : n ≡ m = cc in ne (sym z)) h)
+    (λ k h. at_kept names f (Some n) k m (λ e. let z : None ≡ Some m = sym empty ∙ e in cc) h)
+    (λ k h. at_changed names f (Some n) k m lt (λ e. let z : n ≡ m = cc in ne (sym z)) h)
 
 -- a frame that held a name is emptied
 held_within : (names : List (Option PageName)) (f : ℕ) (n : PageName) → name_at names f ≡ Some n → f < length names
@@ -143,18 +143,18 @@ pub find-emptied : (names : List (Option PageName)) (n : PageName) (f : ℕ) →
 find-emptied names n f d h =
     let lt : f < length names = held_within names f n h in
     find-absent (set names f None) n (λ k a.
-      let old : name_at names k ≡ Some n = at_changed names f None k n lt (λ e. cc) a in
-      let q : k ≡ f = d k f n old h in
-      let x : name_at (set names f None) f ≡ Some n = subst (λ (y : ℕ). name_at (set names f None) y ≡ Some n) q a in
-      let z : None ≡ Some n = sym (get_or-set_same names f None None lt) ∙ x in
-      cc)
+    let old : name_at names k ≡ Some n = at_changed names f None k n lt (λ e. cc) a in
+    let q : k ≡ f = d k f n old h in
+    let x : name_at (set names f None) f ≡ Some n = subst (λ (y : ℕ). name_at (set names f None) y ≡ Some n) q a in
+    let z : None ≡ Some n = sym (get_or-set_same names f None None lt) ∙ x in
+    cc)
 
 pub find-emptied_other : (names : List (Option PageName)) (n : PageName) (f : ℕ) (m : PageName) → AreDistinct names → name_at names f ≡ Some n → (m ≡ n → ⊥) → find (set names f None) m ≡ find names m
 find-emptied_other names n f m d h ne =
     let lt : f < length names = held_within names f n h in
     find-same names (set names f None) m (emptied-distinct names f lt d)
-      (λ k e. at_kept names f None k m (λ a. let z : Some n ≡ Some m = sym h ∙ a in let y : n ≡ m = cc in ne (sym y)) e)
-      (λ k e. at_changed names f None k m lt (λ a. cc) e)
+    (λ k e. at_kept names f None k m (λ a. let z : Some n ≡ Some m = sym h ∙ a in let y : n ≡ m = cc in ne (sym y)) e)
+    (λ k e. at_changed names f None k m lt (λ a. cc) e)
 
 -- what a search answers is what is found
 pub finds-find : (names : List (Option PageName)) (n : PageName) (o : Option ℕ) → AreDistinct names → Finds names n o → o ≡ find names n

@@ -1,5 +1,5 @@
 -- Frames without names.
-use Rattle.std.proofs.Common.{◌≡◌, ℕ, ◌+◌, ◌<◌, ◌≤◌, ◌^◌, Option, Some, None, List, refl, sym, ◌∙◌, ap, subst, length, get_or, replicate, arith, zero, suc, [], ◌∷◌}
+use Rattle.std.proofs.Common.{◌≡◌, ℕ, ◌<◌, ◌^◌, Option, Some, None, List, refl, sym, ◌∙◌, ap, subst, length, get_or, replicate, arith, zero, suc}
 use Rattle.page_hash.specs.declared.PageName.{PageName}
 use Rattle.page_hash.specs.Names.{name_at}
 use Rattle.page_hash.specs.Chains.{InSlot, Leads, IsLinked}
@@ -20,7 +20,8 @@ leads-none : (count frames slot low : ℕ) (link : Option ℕ) → link ≡ None
 leads-none count frames slot low link e = record {
   held = λ f h. let z : None ≡ Some f = sym e ∙ h in cc;
   above = λ f h. let z : None ≡ Some f = sym e ∙ h in cc;
-  first = λ g i h. absurd (unnamed count frames slot g i) }
+  first = λ g i h. absurd (unnamed count frames slot g i);
+}
 
 pub linked-none : (heads next : List (Option ℕ)) (names : List (Option PageName)) (slots frames : ℕ) → 0 < slots → slots < 2 ^ 32 → frames < 2 ^ 32 → heads ≡ replicate slots None → next ≡ replicate frames None → names ≡ replicate frames None → IsLinked heads next names
 linked-none heads next names slots frames some few_slots few eh en em =
@@ -34,5 +35,6 @@ linked-none heads next names slots frames some few_slots few eh en em =
       lengths = omega arith;
       distinct = λ i j n a b. let z : None ≡ Some n = sym (none-at frames i None) ∙ sym (ap (λ (l : List (Option PageName)). name_at l i) em) ∙ a in cc;
       head = λ slot lt. subst (λ (l : List (Option PageName)). Leads l (length heads) slot 0 (get_or heads slot None)) (sym em)
-        (leads-none (length heads) frames slot 0 (get_or heads slot None) (ap (λ (l : List (Option ℕ)). get_or l slot None) eh ∙ none-at slots slot None));
-      link = λ slot frame i. absurd (unnamed (length heads) frames slot frame (subst (λ (l : List (Option PageName)). InSlot l (length heads) slot frame) em i)) }
+          (leads-none (length heads) frames slot 0 (get_or heads slot None) (ap (λ (l : List (Option ℕ)). get_or l slot None) eh ∙ none-at slots slot None));
+      link = λ slot frame i. absurd (unnamed (length heads) frames slot frame (subst (λ (l : List (Option PageName)). InSlot l (length heads) slot frame) em i));
+    }

@@ -1,5 +1,5 @@
 -- Walks down a chain.
-use Rattle.std.proofs.Common.{◌≡◌, ◌≢◌, ℕ, ◌+◌, ◌<◌, ◌≤◌, ◌⊎◌, inl, inr, Option, Some, None, List, refl, sym, ◌∙◌, ap, subst, length, get_or, arith, zero, suc, [], ◌∷◌}
+use Rattle.std.proofs.Common.{◌≡◌, ◌≢◌, ℕ, ◌+◌, ◌<◌, ◌≤◌, inl, inr, Option, Some, None, List, refl, sym, ◌∙◌, subst, length, get_or, arith, zero, suc, [], ◌∷◌}
 use Rattle.std.proofs.lemmas.Bool.{cases_lt}
 use Rattle.page_hash.specs.declared.PageName.{PageName}
 use Rattle.page_hash.specs.Names.{name_at}
@@ -32,13 +32,14 @@ nearer names count slot f (Some g) lt l = let a = l.above g refl in omega arith
 pub walk-falls : (heads next : List (Option ℕ)) (names : List (Option PageName)) (slot f : ℕ) (at link : Option ℕ) → IsLinked heads next names → InSlot names (length heads) slot f → at ≡ Some f → link ≡ get_or next f link → left (length names) link < left (length names) at
 walk-falls heads next names slot f at link linked i is e =
     subst (λ (o : Option ℕ). left (length names) link < left (length names) o) (sym is)
-      (nearer names (length heads) slot f link (named_within names f i.name i.held) (next-link heads next names slot f link linked i e))
+    (nearer names (length heads) slot f link (named_within names f i.name i.held) (next-link heads next names slot f link linked i e))
 
 -- a walk for a name
 seeks_by : (names : List (Option PageName)) (count low : ℕ) (page : PageName) (link : Option ℕ) → Leads names count (slot_of count page) low link → ((g : ℕ) → name_at names g ≡ Some page → low ≤ g) → Seeks names count page link
 seeks_by names count low page link l h = record {
   here = l.held;
-  ahead = λ g e. l.first g (record { name = page; held = e; same = refl }) (h g e) }
+  ahead = λ g e. l.first g (record { name = page; held = e; same = refl }) (h g e);
+}
 
 pub seek-start : (heads next : List (Option ℕ)) (names : List (Option PageName)) (page : PageName) (slot : ℕ) (link : Option ℕ) → IsLinked heads next names → slot < length heads → slot ≡ slot_of (length heads) page → link ≡ get_or heads slot link → Seeks names (length heads) page link
 seek-start heads next names page slot link linked lt s e =
@@ -47,9 +48,9 @@ seek-start heads next names page slot link linked lt s e =
 pub seek-step : (heads next : List (Option ℕ)) (names : List (Option PageName)) (page : PageName) (f : ℕ) (at link : Option ℕ) → IsLinked heads next names → Seeks names (length heads) page at → at ≡ Some f → (name_at names f ≡ Some page → ⊥) → link ≡ get_or next f link → Seeks names (length heads) page link
 seek-step heads next names page f at link linked seeks is differs e =
     seeks_by names (length heads) (f + 1) page link (next-link heads next names (slot_of (length heads) page) f link linked (seeks.here f is) e) (λ g h.
-      let a : f ≤ g = subst (λ (o : Option ℕ). AtOrAfter o g) is (seeks.ahead g h) in
-      let b : g ≢ f = λ (q : g ≡ f). differs (subst (λ (k : ℕ). name_at names k ≡ Some page) q h) in
-      omega arith)
+    let a : f ≤ g = subst (λ (o : Option ℕ). AtOrAfter o g) is (seeks.ahead g h) in
+    let b : g ≢ f = λ (q : g ≡ f). differs (subst (λ (k : ℕ). name_at names k ≡ Some page) q h) in
+    omega arith)
 
 pub seek-end : (names : List (Option PageName)) (count : ℕ) (page : PageName) (at : Option ℕ) → Seeks names count page at → at ≡ None → Finds names page None
 seek-end names count page at seeks is k h = subst (λ (o : Option ℕ). AtOrAfter o k) is (seeks.ahead k h)
@@ -62,13 +63,15 @@ pub walk-start : (heads next : List (Option ℕ)) (names : List (Option PageName
 walk-start heads next names slot frame link linked lt e = record {
   held = λ p h. cc;
   below = λ p h. cc;
-  leads = head-link heads next names slot link linked lt e }
+  leads = head-link heads next names slot link linked lt e;
+}
 
 pub walk-step : (heads next : List (Option ℕ)) (names : List (Option PageName)) (slot frame f : ℕ) (before at link : Option ℕ) → IsLinked heads next names → Walks names (length heads) slot frame before at → at ≡ Some f → f < frame → link ≡ get_or next f link → Walks names (length heads) slot frame at link
 walk-step heads next names slot frame f before at link linked walks is lt e = record {
   held = walks.leads.held;
   below = λ p h. let z : Some f ≡ Some p = sym is ∙ h in let q : f ≡ p = cc in omega arith;
-  leads = subst (λ (o : Option ℕ). Leads names (length heads) slot (start_after o) link) (sym is) (next-link heads next names slot f link linked (walks.leads.held f is) e) }
+  leads = subst (λ (o : Option ℕ). Leads names (length heads) slot (start_after o) link) (sym is) (next-link heads next names slot f link linked (walks.leads.held f is) e);
+}
 
 -- where the rest of the slot isn't below the frame, the walk stands behind the last one before it
 walk_stops : (names : List (Option PageName)) (count slot frame : ℕ) (before at : Option ℕ) → Walks names count slot frame before at → ((g : ℕ) → AtOrAfter at g → frame ≤ g) → IsLastBefore names count slot frame before
@@ -78,7 +81,8 @@ walk_stops names count slot frame before at walks far = record {
   last = λ g i lt. elim (cases_lt g (start_after before)) [
     | inl near ↦ near
     | inr past ↦ absurd (let a = far g (walks.leads.first g i past) in omega arith)
-  ] }
+  ];
+}
 
 pub walk-end : (names : List (Option PageName)) (count slot frame : ℕ) (before at : Option ℕ) → Walks names count slot frame before at → at ≡ None → IsLastBefore names count slot frame before
 walk-end names count slot frame before at walks is = walk_stops names count slot frame before at walks (λ g a. absurd (subst (λ (o : Option ℕ). AtOrAfter o g) is a))

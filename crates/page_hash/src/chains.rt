@@ -66,7 +66,8 @@ impl Chains {
             if is_name(self.names[frame as usize], name) {
                 return Some(frame);
             }
-            at = self.next[frame as usize];
+            let behind = self.next[frame as usize];
+            at = behind;
         }
         None
     }

@@ -9,16 +9,16 @@ use Rattle.page_lists.specs.ListsSeen.{Has, IsOnce, without}
 pub has-more : (xs : List ℕ) (y f : ℕ) → Has (xs ++ y ∷ []) f → Has xs f ⊎ (y ≡ f)
 has-more [] y f h = elim h [ inl e ↦ inr e | inr z ↦ absurd z ]
 has-more (x ∷ xs) y f h = elim h [
-    | inl e ↦ inl (inl e)
-    | inr r ↦ elim (has-more xs y f r) [ inl a ↦ inl (inr a) | inr b ↦ inr b ]
-  ]
+  | inl e ↦ inl (inl e)
+  | inr r ↦ elim (has-more xs y f r) [ inl a ↦ inl (inr a) | inr b ↦ inr b ]
+]
 
 pub more-has : (xs : List ℕ) (y f : ℕ) → Has xs f ⊎ (y ≡ f) → Has (xs ++ y ∷ []) f
 more-has [] y f h = elim h [ inl z ↦ absurd z | inr e ↦ inl e ]
 more-has (x ∷ xs) y f h = elim h [
-    | inl a ↦ elim a [ inl e ↦ inl e | inr r ↦ inr (more-has xs y f (inl r)) ]
-    | inr e ↦ inr (more-has xs y f (inr e))
-  ]
+  | inl a ↦ elim a [ inl e ↦ inl e | inr r ↦ inr (more-has xs y f (inl r)) ]
+  | inr e ↦ inr (more-has xs y f (inr e))
+]
 
 pub once-more : (xs : List ℕ) (y : ℕ) → IsOnce xs → (Has xs y → ⊥) → IsOnce (xs ++ y ∷ [])
 once-more [] y o n = ((λ z. z), tt)
@@ -41,40 +41,40 @@ without-absent (x ∷ xs) f n = without-other x xs f (λ e. n (inl e)) ∙ ap (�
 pub has-without : (xs : List ℕ) (f g : ℕ) → Has (without xs f) g → Has xs g × (g ≢ f)
 has-without [] f g h = absurd h
 has-without (x ∷ xs) f g h = elim (cases_eq x f) [
-    | inl e ↦ let r = has-without xs f g (subst (λ (l : List ℕ). Has l g) (without-same x xs f e) h) in (inr r.0, r.1)
-    | inr ne ↦ let z : Has (x ∷ without xs f) g = subst (λ (l : List ℕ). Has l g) (without-other x xs f ne) h in
+  | inl e ↦ let r = has-without xs f g (subst (λ (l : List ℕ). Has l g) (without-same x xs f e) h) in (inr r.0, r.1)
+  | inr ne ↦ let z : Has (x ∷ without xs f) g = subst (λ (l : List ℕ). Has l g) (without-other x xs f ne) h in
       elim z [
         | inl q ↦ (inl q, λ e. ne (q ∙ e))
         | inr i ↦ let r = has-without xs f g i in (inr r.0, r.1)
       ]
-  ]
+]
 
 pub without-has : (xs : List ℕ) (f g : ℕ) → Has xs g → g ≢ f → Has (without xs f) g
 without-has [] f g h ne = absurd h
 without-has (x ∷ xs) f g h ne = elim (cases_eq x f) [
-    | inl e ↦ subst (λ (l : List ℕ). Has l g) (sym (without-same x xs f e)) (elim h [ inl q ↦ absurd (ne (sym q ∙ e)) | inr i ↦ without-has xs f g i ne ])
-    | inr apart ↦ subst (λ (l : List ℕ). Has l g) (sym (without-other x xs f apart)) (elim h [ inl q ↦ inl q | inr i ↦ inr (without-has xs f g i ne) ])
-  ]
+  | inl e ↦ subst (λ (l : List ℕ). Has l g) (sym (without-same x xs f e)) (elim h [ inl q ↦ absurd (ne (sym q ∙ e)) | inr i ↦ without-has xs f g i ne ])
+  | inr apart ↦ subst (λ (l : List ℕ). Has l g) (sym (without-other x xs f apart)) (elim h [ inl q ↦ inl q | inr i ↦ inr (without-has xs f g i ne) ])
+]
 
 pub once-without : (xs : List ℕ) (f : ℕ) → IsOnce xs → IsOnce (without xs f)
 once-without [] f o = tt
 once-without (x ∷ xs) f o = elim (cases_eq x f) [
-    | inl e ↦ subst (λ (l : List ℕ). IsOnce l) (sym (without-same x xs f e)) (once-without xs f o.1)
-    | inr ne ↦ subst (λ (l : List ℕ). IsOnce l) (sym (without-other x xs f ne)) ((λ h. let r = has-without xs f x h in o.0 r.0), once-without xs f o.1)
-  ]
+  | inl e ↦ subst (λ (l : List ℕ). IsOnce l) (sym (without-same x xs f e)) (once-without xs f o.1)
+  | inr ne ↦ subst (λ (l : List ℕ). IsOnce l) (sym (without-other x xs f ne)) ((λ h. let r = has-without xs f x h in o.0 r.0), once-without xs f o.1)
+]
 
 length-without : (xs : List ℕ) (f : ℕ) → IsOnce xs → length xs ≤ length (without xs f) + 1
 length-without [] f o = omega arith
 length-without (x ∷ xs) f o = elim (cases_eq x f) [
-    | inl e ↦
+  | inl e ↦
       let gone : without (x ∷ xs) f ≡ xs = without-same x xs f e ∙ without-absent xs f (λ h. o.0 (subst (λ (k : ℕ). Has xs k) (sym e) h)) in
       let n : length (without (x ∷ xs) f) ≡ length xs = ap (λ (l : List ℕ). length l) gone in
       omega arith
-    | inr ne ↦
+  | inr ne ↦
       let n : length (without (x ∷ xs) f) ≡ suc (length (without xs f)) = ap (λ (l : List ℕ). length l) (without-other x xs f ne) in
       let r = length-without xs f o.1 in
       omega arith
-  ]
+]
 
 -- numbers below a bound, none twice, are no more than the bound
 pub once-short : (n : ℕ) (xs : List ℕ) → IsOnce xs → ((g : ℕ) → Has xs g → g < n) → length xs ≤ n
@@ -89,9 +89,9 @@ once-short (suc n) xs o low =
 pub has-range : (a n g : ℕ) → Has (range_with_len a n) g → (a ≤ g) × (g < a + n)
 has-range a zero g h = absurd h
 has-range a (suc n) g h = elim h [
-    | inl e ↦ ((omega arith), (omega arith))
-    | inr r ↦ let s = has-range (a + 1) n g r in let l : a + 1 ≤ g = s.0 in let u : g < a + 1 + n = s.1 in ((omega arith), (omega arith))
-  ]
+  | inl e ↦ ((omega arith), (omega arith))
+  | inr r ↦ let s = has-range (a + 1) n g r in let l : a + 1 ≤ g = s.0 in let u : g < a + 1 + n = s.1 in ((omega arith), (omega arith))
+]
 
 pub once-range : (a n : ℕ) → IsOnce (range_with_len a n)
 once-range a zero = tt

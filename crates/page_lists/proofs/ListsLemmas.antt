@@ -12,7 +12,8 @@ lists-apart free cached l = record {
   once_cached = l.cached.once;
   one_list = l.one_list;
   below_free = l.free.below;
-  below_cached = λ f h. subst (λ (n : ℕ). f < n) l.frames (l.cached.below f h) }
+  below_cached = λ f h. subst (λ (n : ℕ). f < n) l.frames (l.cached.below f h);
+}
 
 -- a frame of neither queue comes to one
 pub lists-freed : (free cached new : QueueSeen) (frame : ℕ) → AreLists free cached → new ≡ record { frames = free.frames; order = free.order ++ frame ∷ [] } → IsQueue new → (Has cached.order frame → ⊥) → AreLists new cached
@@ -23,7 +24,8 @@ lists-freed free cached new frame l e q absent = record {
   one_list = λ g h i. elim (has-more free.order frame g (subst (λ (o : List ℕ). Has o g) (ap (λ (x : QueueSeen). x.order) e) h)) [
     | inl a ↦ l.one_list g a i
     | inr b ↦ absent (subst (λ (k : ℕ). Has cached.order k) (sym b) i)
-  ] }
+  ];
+}
 
 pub lists-cached : (free cached new : QueueSeen) (frame : ℕ) → AreLists free cached → new ≡ record { frames = cached.frames; order = cached.order ++ frame ∷ [] } → IsQueue new → (Has free.order frame → ⊥) → AreLists free new
 lists-cached free cached new frame l e q absent = record {
@@ -33,7 +35,8 @@ lists-cached free cached new frame l e q absent = record {
   one_list = λ g h i. elim (has-more cached.order frame g (subst (λ (o : List ℕ). Has o g) (ap (λ (x : QueueSeen). x.order) e) i)) [
     | inl a ↦ l.one_list g h a
     | inr b ↦ absent (subst (λ (k : ℕ). Has free.order k) (sym b) h)
-  ] }
+  ];
+}
 
 -- a frame goes from one
 pub lists-reclaimed : (free cached new : QueueSeen) (frame : ℕ) → AreLists free cached → new ≡ record { frames = cached.frames; order = without cached.order frame } → IsQueue new → AreLists free new
@@ -41,31 +44,35 @@ lists-reclaimed free cached new frame l e q = record {
   free = l.free;
   cached = q;
   frames = ap (λ (x : QueueSeen). x.frames) e ∙ l.frames;
-  one_list = λ g h i. let r = has-without cached.order frame g (subst (λ (o : List ℕ). Has o g) (ap (λ (x : QueueSeen). x.order) e) i) in l.one_list g h r.0 }
+  one_list = λ g h i. let r = has-without cached.order frame g (subst (λ (o : List ℕ). Has o g) (ap (λ (x : QueueSeen). x.order) e) i) in l.one_list g h r.0;
+}
 
 pub lists-free_taken : (free cached new : QueueSeen) (frame : ℕ) → AreLists free cached → free ≡ record { frames = new.frames; order = frame ∷ new.order } → IsQueue new → AreLists new cached
 lists-free_taken free cached new frame l e q = record {
   free = q;
   cached = l.cached;
   frames = l.frames ∙ ap (λ (x : QueueSeen). x.frames) e;
-  one_list = λ g h i. l.one_list g (subst (λ (o : List ℕ). Has o g) (sym (ap (λ (x : QueueSeen). x.order) e)) (inr h)) i }
+  one_list = λ g h i. l.one_list g (subst (λ (o : List ℕ). Has o g) (sym (ap (λ (x : QueueSeen). x.order) e)) (inr h)) i;
+}
 
 pub lists-cached_taken : (free cached new : QueueSeen) (frame : ℕ) → AreLists free cached → cached ≡ record { frames = new.frames; order = frame ∷ new.order } → IsQueue new → AreLists free new
 lists-cached_taken free cached new frame l e q = record {
   free = l.free;
   cached = q;
   frames = sym (ap (λ (x : QueueSeen). x.frames) e) ∙ l.frames;
-  one_list = λ g h i. l.one_list g h (subst (λ (o : List ℕ). Has o g) (sym (ap (λ (x : QueueSeen). x.order) e)) (inr i)) }
+  one_list = λ g h i. l.one_list g h (subst (λ (o : List ℕ). Has o g) (sym (ap (λ (x : QueueSeen). x.order) e)) (inr i));
+}
 
 -- all free
 pub lists-new : (free cached : QueueSeen) (frames : ℕ) → free ≡ record { frames = frames; order = range_with_len 0 frames } → cached ≡ record { frames = frames; order = [] } → AreLists free cached
 lists-new free cached frames ef ec =
     subst (λ (x : QueueSeen). AreLists x cached) (sym ef) (subst (λ (x : QueueSeen). AreLists (record { frames = frames; order = range_with_len 0 frames }) x) (sym ec)
-      (record {
-        free = record { once = once-range 0 frames; below = λ g h. let r = has-range 0 frames g h in let u : g < 0 + frames = r.1 in omega arith };
-        cached = record { once = tt; below = λ g h. absurd h };
-        frames = refl;
-        one_list = λ g h i. i }))
+    (record {
+      free = record { once = once-range 0 frames; below = λ g h. let r = has-range 0 frames g h in let u : g < 0 + frames = r.1 in omega arith };
+      cached = record { once = tt; below = λ g h. absurd h };
+      frames = refl;
+      one_list = λ g h i. i;
+    }))
 
 -- a frame that isn't cached is not taken off
 pub none-reclaimed : (free cached new : QueueSeen) (now : ListsSeen) (frame : ℕ) → lists_of free cached ≡ now → new ≡ record { frames = cached.frames; order = without cached.order frame } → (Has now.cached frame → ⊥) → lists_of free new ≡ now

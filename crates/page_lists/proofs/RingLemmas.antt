@@ -42,7 +42,8 @@ ring-holds first last next previous listed frames xs ring n =
     record {
       ring = subst (λ (l : List ℕ). IsRing first last next previous listed l) (sym w) ring;
       seen = seen_as (length next) frames (walk next (length next) first) xs n w;
-      queue = subst (λ (l : List ℕ). IsQueue (record { frames = length next; order = l })) (sym w) (record { once = ring.once; below = ring.below }) }
+      queue = subst (λ (l : List ℕ). IsQueue (record { frames = length next; order = l })) (sym w) (record { once = ring.once; below = ring.below });
+    }
 
 walk_none : (next : List (Option ℕ)) (n : ℕ) → walk next n None ≡ []
 walk_none next zero = refl
@@ -69,7 +70,8 @@ ring-none next previous listed frames en ep el =
       chain = (refl, refl);
       once = tt;
       below = λ f h. absurd h;
-      marked = λ f. ((λ h. let z : false ≡ true = sym (ap (λ (l : List Bool). get_or l f false) el ∙ all_same frames f false) ∙ h in cc), (λ h. absurd h)) }
+      marked = λ f. ((λ h. let z : false ≡ true = sym (ap (λ (l : List Bool). get_or l f false) el ∙ all_same frames f false) ∙ h in cc), (λ h. absurd h));
+    }
 
 module _ (first last : Option ℕ) (next previous : List (Option ℕ)) (listed : List Bool) (xs : List ℕ) (frame : ℕ) (ring : IsRing first last next previous listed xs) where
   -- the links of a frame of the ring lead within it
@@ -101,21 +103,23 @@ module _ (first last : Option ℕ) (next previous : List (Option ℕ)) (listed :
         previous_length = p ∙ sym n;
         listed_length = m ∙ sym n;
         chain = chain-appended (follow first next) (follow last previous) (follow first_new (set next_new frame None)) (follow (Some frame) (set previous frame last)) None xs frame ring.chain absent (λ z. cc)
-          (get_or-set_same next_new frame None None in_new)
-          (follow_other first_new next_new frame None last last_not ∙ into)
-          (λ q ne apart. follow_other first_new next_new frame None q apart ∙ kept q ne)
-          (get_or-set_same previous frame last None in_previous)
-          refl
-          (λ q ne apart. follow_other (Some frame) previous frame last q apart ∙ end_other (Some frame) last previous q ne);
+            (get_or-set_same next_new frame None None in_new)
+            (follow_other first_new next_new frame None last last_not ∙ into)
+            (λ q ne apart. follow_other first_new next_new frame None q apart ∙ kept q ne)
+            (get_or-set_same previous frame last None in_previous)
+            refl
+            (λ q ne apart. follow_other (Some frame) previous frame last q apart ∙ end_other (Some frame) last previous q ne);
         once = once-more xs frame ring.once absent;
         below = λ g h. subst (λ (k : ℕ). g < k) (sym n) (elim (has-more xs frame g h) [ inl i ↦ ring.below g i | inr e ↦ subst (λ (k : ℕ). k < length next) e lt ]);
         marked = λ g. elim (cases_eq g frame) [
           | inl e ↦ ((λ h. more-has xs frame g (inr (sym e))), (λ h. subst (λ (k : ℕ). get_or (set listed frame true) k false ≡ true) (sym e) (get_or-set_same listed frame true false in_listed)))
           | inr ne ↦
-            let same : get_or (set listed frame true) g false ≡ get_or listed g false = get_or-set_other listed frame g true false ne in
-            ((λ h. more-has xs frame g (inl ((ring.marked g).0 (sym same ∙ h)))),
-              (λ h. elim (has-more xs frame g h) [ inl i ↦ same ∙ (ring.marked g).1 i | inr e ↦ absurd (ne (sym e)) ]))
-        ] }
+              let same : get_or (set listed frame true) g false ≡ get_or listed g false = get_or-set_other listed frame g true false ne in (
+                (λ h. more-has xs frame g (inl ((ring.marked g).0 (sym same ∙ h)))),
+                (λ h. elim (has-more xs frame g h) [ inl i ↦ same ∙ (ring.marked g).1 i | inr e ↦ absurd (ne (sym e)) ]),
+              )
+        ];
+      }
 
   -- a frame goes out
   pub ring-removed : (first_new last_new : Option ℕ) (next_new previous_new : List (Option ℕ)) → Has xs frame →
@@ -134,12 +138,13 @@ module _ (first last : Option ℕ) (next previous : List (Option ℕ)) (listed :
         below = λ g i. subst (λ (k : ℕ). g < k) (sym n) (let r = has-without xs frame g i in ring.below g r.0);
         marked = λ g. elim (cases_eq g frame) [
           | inl e ↦
-            let off : get_or (set listed frame false) g false ≡ false = subst (λ (k : ℕ). get_or (set listed frame false) k false ≡ false) (sym e) (get_or-set_same listed frame false false in_listed) in
-            ((λ t. let z : false ≡ true = sym off ∙ t in cc), (λ i. let r = has-without xs frame g i in absurd (r.1 e)))
+              let off : get_or (set listed frame false) g false ≡ false = subst (λ (k : ℕ). get_or (set listed frame false) k false ≡ false) (sym e) (get_or-set_same listed frame false false in_listed) in
+              ((λ t. let z : false ≡ true = sym off ∙ t in cc), (λ i. let r = has-without xs frame g i in absurd (r.1 e)))
           | inr ne ↦
-            let same : get_or (set listed frame false) g false ≡ get_or listed g false = get_or-set_other listed frame g false false ne in
-            ((λ t. without-has xs frame g ((ring.marked g).0 (sym same ∙ t)) ne), (λ i. let r = has-without xs frame g i in same ∙ (ring.marked g).1 r.0))
-        ] }
+              let same : get_or (set listed frame false) g false ≡ get_or listed g false = get_or-set_other listed frame g false false ne in
+              ((λ t. without-has xs frame g ((ring.marked g).0 (sym same ∙ t)) ne), (λ i. let r = has-without xs frame g i in same ∙ (ring.marked g).1 r.0))
+        ];
+      }
 
 -- a queue with a frame at its end
 pub pushed : (first last : Option ℕ) (next previous : List (Option ℕ)) (listed : List Bool) (now : QueueSeen) (frame : ℕ) (first_new : Option ℕ) (next_new : List (Option ℕ)) →
@@ -151,8 +156,8 @@ pushed first last next previous listed now frame first_new next_new ring seen lt
     let o : walk next (length next) first ≡ now.order = ap (λ (q : QueueSeen). q.order) seen in
     let ring_now : IsRing first last next previous listed now.order = subst (λ (l : List ℕ). IsRing first last next previous listed l) o ring in
     ring-holds first_new (Some frame) (set next_new frame None) (set previous frame last) (set listed frame true) now.frames (now.order ++ frame ∷ [])
-      (ring-appended first last next previous listed now.order frame ring_now first_new next_new (omega arith) absent into kept lengths)
-      (length-set next_new frame None ∙ lengths ∙ n)
+    (ring-appended first last next previous listed now.order frame ring_now first_new next_new (omega arith) absent into kept lengths)
+    (length-set next_new frame None ∙ lengths ∙ n)
 
 -- a queue with a frame taken off
 pub taken_off : (first last : Option ℕ) (next previous : List (Option ℕ)) (listed : List Bool) (now : QueueSeen) (frame : ℕ) (before after : Option ℕ) (first_new last_new : Option ℕ) (next_new previous_new : List (Option ℕ)) →
@@ -167,11 +172,11 @@ taken_off first last next previous listed now frame before after first_new last_
     let o : walk next (length next) first ≡ now.order = ap (λ (q : QueueSeen). q.order) seen in
     let ring_now : IsRing first last next previous listed now.order = subst (λ (l : List ℕ). IsRing first last next previous listed l) o ring in
     ring-holds first_new last_new next_new previous_new (set listed frame false) now.frames (without now.order frame)
-      (ring-removed first last next previous listed now.order frame ring_now first_new last_new next_new previous_new has
-        (ap (λ (q : Option ℕ). follow first_new next_new q) (sym b) ∙ into ∙ a) (λ q ne. kept q (λ e. ne (e ∙ b)))
-        (ap (λ (q : Option ℕ). follow last_new previous_new q) (sym a) ∙ back ∙ b) (λ q ne. still q (λ e. ne (e ∙ a)))
-        n p)
-      (n ∙ f)
+    (ring-removed first last next previous listed now.order frame ring_now first_new last_new next_new previous_new has
+    (ap (λ (q : Option ℕ). follow first_new next_new q) (sym b) ∙ into ∙ a) (λ q ne. kept q (λ e. ne (e ∙ b)))
+    (ap (λ (q : Option ℕ). follow last_new previous_new q) (sym a) ∙ back ∙ b) (λ q ne. still q (λ e. ne (e ∙ a)))
+    n p)
+    (n ∙ f)
 
 -- what a mark says of a queue
 pub marked-has : (first last : Option ℕ) (next previous : List (Option ℕ)) (listed : List Bool) (now : QueueSeen) (frame : ℕ) (mark : Bool) →
@@ -215,7 +220,7 @@ first-within first last next previous listed now frame ring seen e =
 pub first-off : (now new : QueueSeen) (frame f : ℕ) → now.order ≡ frame ∷ without now.order frame → new ≡ record { frames = now.frames; order = without now.order frame } → frame ≡ f → now ≡ record { frames = new.frames; order = f ∷ new.order }
 first-off now new frame f ahead e q =
     seen_as now.frames new.frames now.order (f ∷ new.order) (sym (ap (λ (x : QueueSeen). x.frames) e))
-      (ahead ∙ ap (λ (k : ℕ). k ∷ without now.order frame) q ∙ ap (λ (l : List ℕ). f ∷ l) (sym (ap (λ (x : QueueSeen). x.order) e)))
+    (ahead ∙ ap (λ (k : ℕ). k ∷ without now.order frame) q ∙ ap (λ (l : List ℕ). f ∷ l) (sym (ap (λ (x : QueueSeen). x.order) e)))
 
 -- a queue without a first frame
 pub no-first : (first last : Option ℕ) (next previous : List (Option ℕ)) (listed : List Bool) (now : QueueSeen) → IsRing first last next previous listed (queue_of first next).order → queue_of first next ≡ now → first ≡ None → now.order ≡ []

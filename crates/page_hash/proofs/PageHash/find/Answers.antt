@@ -1,4 +1,4 @@
-use Rattle.std.proofs.Common.{◌≡◌, List, Option, ℕ, ◌∙◌, ap, subst}
+use Rattle.std.proofs.Common.{List, Option, ◌∙◌, ap}
 use Rattle.page_hash.specs.declared.PageName.{PageName}
 use Rattle.page_hash.specs.Names.{find}
 use Rattle.page_hash.proofs.NameLaws.{finds-find}

@@ -1,7 +1,6 @@
-use Rattle.std.proofs.Common.{rules, ◌≡◌, ◌<◌, length, List, Option, Some, None, ℕ, sym, ◌∙◌, ap, subst, arith}
+use Rattle.std.proofs.Common.{rules, ◌≡◌, List, Option, Some, None, sym, ◌∙◌, ap}
 use Rattle.page_hash.specs.declared.PageName.{PageName}
 use Rattle.page_hash.specs.Names.{find, name_at}
-use Rattle.page_hash.specs.Chains.{Finds}
 use Rattle.page_hash.proofs.NameLaws.{finds-find, find-emptied, find-emptied_other}
 use Rattle.page_hash.proofs.PageHash.remove.Goals as goal
 
@@ -30,5 +29,5 @@ pub returns-clause-others : goal.returns-clause-others
 returns-clause-others c = λ other ne.
     let held : name_at c.self.inside.chains.names.items c.in_ok-frame.frame ≡ Some c.args.name = c.in_ok-frame.ensures in
     ap (λ (l : List (Option PageName)). find l other) c.take_out.ensures.names
-      ∙ find-emptied_other c.self.inside.chains.names.items c.args.name c.in_ok-frame.frame other c.self.invariant.distinct held ne
-      ∙ ap (λ (l : List (Option PageName)). find l other) c.self.view_is
+    ∙ find-emptied_other c.self.inside.chains.names.items c.args.name c.in_ok-frame.frame other c.self.invariant.distinct held ne
+    ∙ ap (λ (l : List (Option PageName)). find l other) c.self.view_is

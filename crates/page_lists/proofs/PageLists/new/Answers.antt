@@ -10,7 +10,8 @@ push_back-requires-clause-absent c = range-ends c.loop-frame.free c.args.frames 
 pub loop-frame-preserved : goal.loop-frame-preserved
 loop-frame-preserved c = record {
   free = range-pushed c.loop-frame.free c.push_back.new.self c.args.frames c.loop-frame.frame c.loop-frame.invariant.free c.push_back.ensures.appended;
-  cached = c.loop-frame.invariant.cached }
+  cached = c.loop-frame.invariant.cached;
+}
 
 pub invariant_of-result : goal.invariant_of-result
 invariant_of-result c =
@@ -21,4 +22,4 @@ pub returns-clause-apart : goal.returns-clause-apart
 returns-clause-apart c =
     let all : c.loop-frame.frame ≡ c.args.frames = omega arith in
     lists-apart c.loop-frame.free c.in_ok-cached.cached
-      (lists-new c.loop-frame.free c.in_ok-cached.cached c.args.frames (c.loop-frame.invariant.free ∙ ap (λ (n : ℕ). record { frames = c.args.frames; order = range_with_len 0 n }) all) c.loop-frame.invariant.cached)
+    (lists-new c.loop-frame.free c.in_ok-cached.cached c.args.frames (c.loop-frame.invariant.free ∙ ap (λ (n : ℕ). record { frames = c.args.frames; order = range_with_len 0 n }) all) c.loop-frame.invariant.cached)

@@ -6,4 +6,5 @@ use Rattle.page_lists.proofs.PageLists.new.Given as goal
 abbrev pub invariant-loop-frame : goal.invariant-loop-frame
 invariant-loop-frame l = record {
   free : l.free ≡ record { frames = l.frames; order = range_with_len 0 l.frame };
-  cached : l.cached ≡ record { frames = l.frames; order = [] } }
+  cached : l.cached ≡ record { frames = l.frames; order = [] };
+}

@@ -1,4 +1,4 @@
-use Rattle.std.proofs.Common.{◌≡◌, ◌<◌, ℕ, length, Some, Option, sym, subst, arith}
+use Rattle.std.proofs.Common.{ℕ, length, Option, subst, arith}
 use Rattle.page_hash.specs.Chains.{Walks}
 use Rattle.page_hash.proofs.WalkLemmas.{walk-start, walk-step, walk-end, walk-reaches, walk-falls, slot-within}
 use Rattle.page_hash.proofs.chains.Chains.last_before.Goals as goal
@@ -18,7 +18,7 @@ loop-at-smaller c = walk-falls c.args.self.now.heads.items c.args.self.now.next.
 pub loop-at-preserved : goal.loop-at-preserved
 loop-at-preserved c =
     subst (λ (o : Option ℕ). Walks c.args.self.now.names.items (length c.args.self.now.heads.items) c.args.slot c.args.frame o c.index-at-in-Some.result.now) c.in-Some.is
-      (walk-step c.args.self.now.heads.items c.args.self.now.next.items c.args.self.now.names.items c.args.slot c.args.frame c.in-Some.other c.loop-at.before c.loop-at.at c.index-at-in-Some.result.now c.requires.linked c.loop-at.invariant c.in-Some.is (omega arith) c.index-at-in-Some.ensures)
+    (walk-step c.args.self.now.heads.items c.args.self.now.next.items c.args.self.now.names.items c.args.slot c.args.frame c.in-Some.other c.loop-at.before c.loop-at.at c.index-at-in-Some.result.now c.requires.linked c.loop-at.invariant c.in-Some.is (omega arith) c.index-at-in-Some.ensures)
 
 pub returns : goal.returns
 returns c = walk-end c.args.self.now.names.items (length c.args.self.now.heads.items) c.args.slot c.args.frame c.loop-at.before c.loop-at.at c.loop-at.invariant c.in_default.is

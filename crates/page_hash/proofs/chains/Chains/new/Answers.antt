@@ -1,4 +1,4 @@
-use Rattle.std.proofs.Common.{◌≡◌, ◌<◌, ◌^◌, ℕ, replicate, None, rules, arith}
+use Rattle.std.proofs.Common.{◌≡◌, ◌<◌, ◌^◌, replicate, None, rules, arith}
 use Rattle.page_hash.proofs.NewLemmas.{linked-none}
 use Rattle.page_hash.proofs.chains.Chains.new.Goals as goal
 use Rattle.page_hash.proofs.chains.Chains.new.Goals.{then-count-eq0, else-count-eq0}
