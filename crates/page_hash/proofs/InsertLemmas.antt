@@ -121,6 +121,7 @@ module _ (heads next : List (Option ℕ)) (names : List (Option PageName)) (slot
   pub linked-first : Walked names (length heads) slot frame None at → IsLinked (set heads slot (Some frame)) (set next frame at) (set names frame (Some page))
   linked-first w = record {
     some = subst (λ (n : ℕ). 0 < n) (sym (length-set heads slot (Some frame))) linked.some;
+    enough = let a = length-set heads slot (Some frame) in let b = length-set names frame (Some page) in let c = linked.enough in omega arith;
     few_heads = subst (λ (n : ℕ). n < 2 ^ 32) (sym (length-set heads slot (Some frame))) linked.few_heads;
     few = subst (λ (n : ℕ). n < 2 ^ 32) (sym (length-set names frame (Some page))) linked.few;
     lengths = length-set next frame at ∙ linked.lengths ∙ sym (length-set names frame (Some page));
@@ -156,6 +157,7 @@ module _ (heads next : List (Option ℕ)) (names : List (Option PageName)) (slot
       let f_not : frame ≢ q = omega arith in
       record {
         some = linked.some;
+        enough = let b = length-set names frame (Some page) in let c = linked.enough in omega arith;
         few_heads = linked.few_heads;
         few = subst (λ (n : ℕ). n < 2 ^ 32) (sym (length-set names frame (Some page))) linked.few;
         lengths = length-set (set next frame at) q (Some frame) ∙ length-set next frame at ∙ linked.lengths ∙ sym (length-set names frame (Some page));

@@ -1,5 +1,5 @@
 -- Frames without names.
-use Rattle.std.proofs.Common.{◌≡◌, ℕ, ◌<◌, ◌^◌, Option, Some, None, List, refl, sym, ◌∙◌, ap, subst, length, get_or, replicate, arith, zero, suc}
+use Rattle.std.proofs.Common.{◌≡◌, ℕ, ◌<◌, ◌≤◌, ◌^◌, Option, Some, None, List, refl, sym, ◌∙◌, ap, subst, length, get_or, replicate, arith, zero, suc}
 use Rattle.page_hash.specs.declared.PageName.{PageName}
 use Rattle.page_hash.specs.Names.{name_at}
 use Rattle.page_hash.specs.Chains.{InSlot, Leads, IsLinked}
@@ -23,13 +23,14 @@ leads-none count frames slot low link e = record {
   first = λ g i h. absurd (unnamed count frames slot g i);
 }
 
-pub linked-none : (heads next : List (Option ℕ)) (names : List (Option PageName)) (slots frames : ℕ) → 0 < slots → slots < 2 ^ 32 → frames < 2 ^ 32 → heads ≡ replicate slots None → next ≡ replicate frames None → names ≡ replicate frames None → IsLinked heads next names
-linked-none heads next names slots frames some few_slots few eh en em =
+pub linked-none : (heads next : List (Option ℕ)) (names : List (Option PageName)) (slots frames : ℕ) → 0 < slots → frames ≤ slots → slots < 2 ^ 32 → frames < 2 ^ 32 → heads ≡ replicate slots None → next ≡ replicate frames None → names ≡ replicate frames None → IsLinked heads next names
+linked-none heads next names slots frames some enough few_slots few eh en em =
     let n_heads : length heads ≡ slots = ap length eh ∙ length-nones slots None in
     let n_next : length next ≡ frames = ap length en ∙ length-nones frames None in
     let n_names : length names ≡ frames = ap length em ∙ length-nones frames None in
     record {
       some = omega arith;
+      enough = omega arith;
       few_heads = omega arith;
       few = omega arith;
       lengths = omega arith;

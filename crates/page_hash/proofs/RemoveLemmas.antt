@@ -97,6 +97,7 @@ module _ (heads next : List (Option ℕ)) (names : List (Option PageName)) (slot
   pub linked-removed : (before : Option ℕ) → IsLastBefore names (length heads) slot frame before → IsLinked (heads_with heads slot before (get_or next frame None)) (next_with next before (get_or next frame None)) (set names frame None)
   linked-removed None l = record {
     some = subst (λ (n : ℕ). 0 < n) (sym (length-set heads slot (get_or next frame None))) linked.some;
+    enough = let a = length-set heads slot (get_or next frame None) in let b = length-set names frame None in let c = linked.enough in omega arith;
     few_heads = subst (λ (n : ℕ). n < 2 ^ 32) (sym (length-set heads slot (get_or next frame None))) linked.few_heads;
     few = subst (λ (n : ℕ). n < 2 ^ 32) (sym (length-set names frame None)) linked.few;
     lengths = linked.lengths ∙ sym (length-set names frame None);
@@ -120,6 +121,7 @@ module _ (heads next : List (Option ℕ)) (names : List (Option PageName)) (slot
       let q_len : q < length next = let a = linked.lengths in let b = within in omega arith in
       record {
         some = linked.some;
+        enough = let b = length-set names frame None in let c = linked.enough in omega arith;
         few_heads = linked.few_heads;
         few = subst (λ (n : ℕ). n < 2 ^ 32) (sym (length-set names frame None)) linked.few;
         lengths = length-set next q (get_or next frame None) ∙ linked.lengths ∙ sym (length-set names frame None);

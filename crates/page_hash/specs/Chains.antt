@@ -20,9 +20,11 @@ pub record Leads (names : List (Option PageName)) (count slot low : ℕ) (link :
   pub above : (f : ℕ) → link ≡ Some f → low ≤ f
   pub first : (g : ℕ) → InSlot names count slot g → low ≤ g → AtOrAfter link g
 
--- the links agree with the names: a slot's head leads to its first frame, each frame to the next of its slot
+-- the links agree with the names: a slot's head leads to its first frame, each frame to the next of its slot; there are at least
+-- as many slots as frames
 pub record IsLinked (heads next : List (Option ℕ)) (names : List (Option PageName)) : Type 0 where
   pub some : 0 < length heads
+  pub enough : length names ≤ length heads
   pub few_heads : length heads < 2 ^ 32
   pub few : length names < 2 ^ 32
   pub lengths : length next ≡ length names

@@ -1,5 +1,5 @@
 -- Two queues without a common frame.
-use Rattle.std.proofs.Common.{◌≡◌, ◌≢◌, ℕ, ◌+◌, ◌<◌, ◌⊎◌, inl, inr, List, [], ◌∷◌, ◌++◌, suc, refl, sym, ◌∙◌, ap, subst, arith}
+use Rattle.std.proofs.Common.{◌≡◌, ℕ, ◌+◌, ◌<◌, inl, inr, List, [], ◌∷◌, ◌++◌, suc, refl, sym, ◌∙◌, ap, subst, arith}
 use Rattle.std.specs.List.{range_with_len}
 use Rattle.page_lists.specs.ListsSeen.{ListsSeen, Has, IsListed, AreApart, without}
 use Rattle.page_lists.specs.Lists.{lists_of, AreLists}

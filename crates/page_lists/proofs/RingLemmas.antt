@@ -1,10 +1,10 @@
 -- What a queue's links and marks say, as frames come and go.
-use Rattle.std.proofs.Common.{◌≡◌, ◌≢◌, ℕ, ◌+◌, ◌<◌, ◌≤◌, ◌↔◌, ◌⊎◌, inl, inr, Bool, true, false, Option, Some, None, List, [], ◌∷◌, ◌++◌, length, zero, suc, refl, sym, ◌∙◌, ap, subst, arith, get_or, set, replicate}
+use Rattle.std.proofs.Common.{◌≡◌, ◌≢◌, ℕ, ◌<◌, ◌↔◌, inl, inr, Bool, true, false, Option, Some, None, List, [], ◌∷◌, ◌++◌, length, zero, suc, refl, sym, ◌∙◌, ap, subst, arith, get_or, set, replicate}
 use Rattle.std.proofs.lemmas.List.{get_or-set_same, get_or-set_other}
 use Rattle.std.proofs.Math.ListN.{length-set}
 use Rattle.std.proofs.lemmas.Bool.{cases_eq}
-use Rattle.page_lists.specs.ListsSeen.{Has, IsOnce, without}
-use Rattle.page_lists.specs.Ring.{Chain, follow, walk, IsRing, IsQueue, QueueSeen, queue_of}
+use Rattle.page_lists.specs.ListsSeen.{Has, without}
+use Rattle.page_lists.specs.Ring.{follow, walk, IsRing, IsQueue, QueueSeen, queue_of}
 use Rattle.page_lists.proofs.ListLemmas.{has-more, more-has, once-more, has-without, without-has, without-absent, once-without, once-short}
 use Rattle.page_lists.proofs.ChainLemmas.{chain-appended, chain-removed, walk-chain, last-in, forth-in, back-in, chain-first}
 

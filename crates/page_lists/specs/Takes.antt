@@ -1,5 +1,5 @@
 -- Taking a frame off the lists.
-use Rattle.std.specs.Prelude.{◌≡◌, ℕ, Bool, true, false, List, [], ◌∷◌, Option, Some, None}
+use Rattle.std.specs.Prelude.{◌≡◌, ℕ, Bool, true, false, [], ◌∷◌, Option, Some, None}
 use Rattle.page_lists.specs.ListsSeen.{ListsSeen}
 use Rattle.page_lists.specs.declared.Taken.{Taken}
 

@@ -1,6 +1,5 @@
-use Rattle.std.proofs.Common.{◌≡◌, [], arith, ◌∙◌, ap, ℕ}
+use Rattle.std.proofs.Common.{◌≡◌, arith, ◌∙◌, ap, ℕ}
 use Rattle.std.specs.List.{range_with_len}
-use Rattle.page_lists.specs.Ring.{QueueSeen}
 use Rattle.page_lists.proofs.ListsLemmas.{range-ends, range-pushed, lists-new, lists-apart}
 use Rattle.page_lists.proofs.PageLists.new.Goals as goal
 

@@ -1,6 +1,5 @@
 use Rattle.std.proofs.Common.{◌≡◌, []}
 use Rattle.std.specs.List.{range_with_len}
-use Rattle.page_lists.specs.Ring.{QueueSeen}
 use Rattle.page_lists.proofs.PageLists.new.Given as goal
 
 abbrev pub invariant-loop-frame : goal.invariant-loop-frame

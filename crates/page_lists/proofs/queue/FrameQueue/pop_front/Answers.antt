@@ -1,4 +1,4 @@
-use Rattle.std.proofs.Common.{◌≡◌, ◌<◌, ℕ, Some}
+use Rattle.std.proofs.Common.{◌≡◌}
 use Rattle.page_lists.proofs.RingLemmas.{first-within, first-ahead, first-off}
 use Rattle.page_lists.proofs.queue.FrameQueue.pop_front.Goals as goal
 

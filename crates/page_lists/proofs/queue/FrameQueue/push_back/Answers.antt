@@ -1,6 +1,3 @@
-use Rattle.std.proofs.Common.{◌<◌, ℕ, List, length, ap, subst, arith, sym}
-use Rattle.page_lists.specs.ListsSeen.{Has}
-use Rattle.page_lists.specs.Ring.{QueueSeen}
 use Rattle.page_lists.proofs.RingLemmas.{pushed, end-in}
 use Rattle.page_lists.proofs.queue.FrameQueue.push_back.Goals as goal
 

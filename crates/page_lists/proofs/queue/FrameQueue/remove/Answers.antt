@@ -1,4 +1,4 @@
-use Rattle.std.proofs.Common.{◌≡◌, ◌<◌, ◌↔◌, ℕ, true, false, None, Some, List, length, get_or, sym, ◌∙◌, ap, subst, arith}
+use Rattle.std.proofs.Common.{◌≡◌, ◌↔◌, true, false, None, length, get_or, sym, ◌∙◌, ap, arith}
 use Rattle.page_lists.specs.ListsSeen.{Has}
 use Rattle.page_lists.specs.Ring.{QueueSeen}
 use Rattle.page_lists.proofs.RingLemmas.{any_default, marked-has, taken_off, before-within, after-within, none-off}
