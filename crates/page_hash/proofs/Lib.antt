@@ -1,0 +1,5 @@
+pub mod InsertLemmas
+pub mod NameLaws
+pub mod NewLemmas
+pub mod RemoveLemmas
+pub mod WalkLemmas

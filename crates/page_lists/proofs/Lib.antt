@@ -1,0 +1,4 @@
+pub mod ChainLemmas
+pub mod ListLemmas
+pub mod ListsLemmas
+pub mod RingLemmas

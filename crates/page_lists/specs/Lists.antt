@@ -1,0 +1,14 @@
+-- Two queues as the free list and the cache list.
+use Rattle.std.specs.Prelude.{◌≡◌, ℕ}
+use Rattle.page_lists.specs.ListsSeen.{ListsSeen, Has}
+use Rattle.page_lists.specs.Ring.{QueueSeen, IsQueue}
+
+abbrev pub lists_of : QueueSeen → QueueSeen → ListsSeen
+lists_of free cached = record { frames = free.frames; free = free.order; cached = cached.order }
+
+-- both queues are over the same frames, and none is on both
+pub record AreLists (free_queue cached_queue : QueueSeen) : Type 0 where
+  pub free : IsQueue free_queue
+  pub cached : IsQueue cached_queue
+  pub frames : cached_queue.frames ≡ free_queue.frames
+  pub one_list : (frame : ℕ) → Has free_queue.order frame → Has cached_queue.order frame → ⊥

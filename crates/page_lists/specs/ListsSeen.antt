@@ -1,0 +1,35 @@
+-- The free list and the cache list of so many frames.
+use Rattle.std.specs.Prelude.{◌≡◌, ◌<◌, ◌==◌, ◌⊎◌, ℕ, List, [], ◌∷◌, if◌then◌else◌}
+
+-- frames on each list, first to last
+pub record ListsSeen : Type 0 where
+  pub frames : ℕ
+  pub free : List ℕ
+  pub cached : List ℕ
+
+-- a list has a frame
+abbrev pub Has : List ℕ → ℕ → Type 0
+Has [] frame = ⊥
+Has (x ∷ xs) frame = (x ≡ frame) ⊎ Has xs frame
+
+-- a list has no frame twice
+abbrev pub IsOnce : List ℕ → Type 0
+IsOnce [] = Unit {0}
+IsOnce (x ∷ xs) = (Has xs x → ⊥) × IsOnce xs
+
+-- a list with a frame taken off
+abbrev pub without : List ℕ → ℕ → List ℕ
+without [] frame = []
+without (x ∷ xs) frame = if x == frame then without xs frame else x ∷ without xs frame
+
+-- a frame is on one of the lists
+abbrev pub IsListed : ListsSeen → ℕ → Type 0
+IsListed lists frame = Has lists.free frame ⊎ Has lists.cached frame
+
+-- no frame is twice on a list or on both, and each is one of the frames
+pub record AreApart (lists : ListsSeen) : Type 0 where
+  pub once_free : IsOnce lists.free
+  pub once_cached : IsOnce lists.cached
+  pub one_list : (frame : ℕ) → Has lists.free frame → Has lists.cached frame → ⊥
+  pub below_free : (frame : ℕ) → Has lists.free frame → frame < lists.frames
+  pub below_cached : (frame : ℕ) → Has lists.cached frame → frame < lists.frames

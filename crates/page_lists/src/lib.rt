@@ -1,0 +1,163 @@
+//! The free list and the cache list of a machine's frames.
+//!
+//! A frame on the free list holds nothing. A frame on the cache list still holds a page and can be reclaimed by it. A frame that
+//! is in use is on neither. Each call but `new` takes constant time and no memory.
+#![tactic(auto)]
+
+mod queue;
+
+ghost use Rattle.std.specs.Prelude.{◌≡◌, ◌≢◌, ℕ, ◌<◌, ◌⊎◌, ◌↔◌, ◌++◌, ◌∷◌, [], List, Option, IsTrue, IsNone, IfOk};
+ghost use Rattle.std.specs.List.{range_with_len};
+ghost use Rattle.page_lists.specs.ListsSeen.{ListsSeen, Has, IsListed, AreApart, without};
+ghost use Rattle.page_lists.specs.Takes.{TakesFirst};
+
+use queue::FrameQueue;
+use std::alloc::{AllocError, Global};
+use std::marker::Model;
+
+/// A frame that was taken, and whether it came from the cache list, where it still holds a page.
+#[derive(Clone, Copy, PartialEq, Eq, Debug)]
+pub struct Taken {
+    pub frame: u32,
+    pub cached: bool,
+}
+
+/// Two lists of frames, without a common frame.
+#[derive(Drop)]
+pub struct PageLists {
+    free: FrameQueue,
+    cached: FrameQueue,
+}
+
+impl Model for PageLists {
+    ghost use Rattle.std.specs.Prelude.{◌≡◌};
+    ghost use Rattle.page_lists.specs.ListsSeen.{ListsSeen};
+
+    ghost Value = { ListsSeen };
+
+    ghost use Rattle.page_lists.specs.Lists.{lists_of, AreLists};
+
+    ghost view = { λ l. lists_of l.free l.cached };
+
+    ghost invariant = { λ l. AreLists l.free l.cached };
+}
+
+impl PageLists {
+    /// All of so many frames free, in rising order. The time is proportional to the count of frames.
+    pub fn new(alloc: Global, frames: u32) -> Result<PageLists, AllocError>
+        ensures all_free { IfOk result (λ lists. lists ≡ record { frames = frames; free = range_with_len 0 frames; cached = [] }) }
+        ensures apart { IfOk result AreApart }
+    {
+        let mut free = FrameQueue::new(alloc, frames)?;
+        let cached = FrameQueue::new(alloc, frames)?;
+        for frame in 0..frames {
+            free.push_back(frame);
+        }
+        Ok(PageLists { free, cached })
+    }
+
+    /// Whether a frame is on one of the lists.
+    pub fn listed(&self, frame: u32) -> bool
+        requires { frame < self.now.frames }
+        ensures listed { IsTrue result ↔ IsListed self.now frame }
+        ensures apart { AreApart self.now }
+    {
+        self.free.contains(frame) || self.cached.contains(frame)
+    }
+
+    /// Whether a frame can be taken.
+    pub fn is_available(&self) -> bool
+        ensures available { IsTrue result ↔ ((self.now.free ≢ []) ⊎ (self.now.cached ≢ [])) }
+        ensures apart { AreApart self.now }
+    {
+        !self.free.is_empty() || !self.cached.is_empty()
+    }
+
+    /// Puts a frame at the end of the free list.
+    pub fn free(&mut self, frame: u32)
+        requires within { frame < self.old.frames }
+        requires unlisted { IsListed self.old frame → ⊥ }
+        ensures appended { self.new ≡ record self.old { free = self.old.free ++ frame ∷ [] } }
+        ensures apart { AreApart self.new }
+    {
+        self.free.push_back(frame);
+    }
+
+    /// Puts a frame at the end of the cache list.
+    pub fn cache(&mut self, frame: u32)
+        requires within { frame < self.old.frames }
+        requires unlisted { IsListed self.old frame → ⊥ }
+        ensures appended { self.new ≡ record self.old { cached = self.old.cached ++ frame ∷ [] } }
+        ensures apart { AreApart self.new }
+    {
+        self.cached.push_back(frame);
+    }
+
+    /// Takes a frame off the cache list, for the page that it holds; false where it isn't there.
+    pub fn reclaim(&mut self, frame: u32) -> bool
+        requires { frame < self.old.frames }
+        ensures cached { IsTrue result ↔ Has self.old.cached frame }
+        ensures taken_off { self.new ≡ record self.old { cached = without self.old.cached frame } }
+        ensures otherwise_same { (Has self.old.cached frame → ⊥) → self.new ≡ self.old }
+        ensures apart { AreApart self.new }
+    {
+        self.cached.remove(frame)
+    }
+
+    /// Takes the first free frame, or where none is free the first cached one.
+    pub fn take(&mut self) -> Option<Taken>
+        ensures first { TakesFirst self.old self.new result }
+        ensures none { IsNone result ↔ ((self.old.free ≡ []) × (self.old.cached ≡ [])) }
+        ensures frames { self.new.frames ≡ self.old.frames }
+        ensures apart { AreApart self.new }
+    {
+        if let Some(frame) = self.free.pop_front() {
+            return Some(Taken {
+                frame,
+                cached: false,
+            });
+        }
+        let frame = self.cached.pop_front()?;
+        Some(Taken {
+            frame,
+            cached: true,
+        })
+    }
+}
+
+#[cfg(test)]
+mod tests {
+    use super::*;
+    use std::test::Fail;
+
+    fn taken(frame: u32, cached: bool) -> Option<Taken> {
+        Some(Taken { frame, cached })
+    }
+
+    #[test]
+    fn frames_go_round(rt: HostRuntime) -> Result<(), Fail> {
+        let mut lists = PageLists::new(rt.alloc(), 3)?;
+        for frame in 0..3 {
+            assert!(rt; lists.listed(frame));
+        }
+        assert_eq!(rt; lists.take(), taken(0, false));
+        assert_eq!(rt; lists.take(), taken(1, false));
+        assert_eq!(rt; lists.take(), taken(2, false));
+        assert!(rt; !lists.is_available());
+        assert!(rt; !lists.listed(1));
+        lists.cache(1);
+        assert!(rt; !lists.listed(0));
+        lists.cache(0);
+        assert!(rt; !lists.listed(2));
+        lists.free(2);
+        assert!(rt; lists.reclaim(0));
+        assert!(rt; !lists.reclaim(2));
+        assert!(rt; !lists.listed(0));
+        assert!(rt; lists.listed(1));
+        assert!(rt; lists.is_available());
+        assert_eq!(rt; lists.take(), taken(2, false));
+        assert_eq!(rt; lists.take(), taken(1, true));
+        assert_eq!(rt; lists.take(), None);
+        Ok(())
+    }
+}
