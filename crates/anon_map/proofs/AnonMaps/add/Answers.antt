@@ -1,4 +1,4 @@
-use Rattle.std.proofs.Common.{◌≡◌, ◌++◌, ◌∷◌, [], ℕ, List, subst, vec_capacity}
+use Rattle.std.proofs.Common.{ℕ, List, subst, vec_capacity}
 use Rattle.anon_map.specs.Maps.{IsKept}
 use Rattle.anon_map.proofs.KeptLemmas.{kept_again}
 use Rattle.anon_map.proofs.AnonMaps.add.Goals as goal

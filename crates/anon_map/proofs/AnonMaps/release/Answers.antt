@@ -1,5 +1,5 @@
-use Rattle.std.proofs.Common.{◌≡◌, ◌<◌, ◌∙◌, ◌++◌, ◌∷◌, [], ℕ, List, Option, length, set, None, ap, sym, subst, arith, vec_len, vec_capacity}
-use Rattle.anon_map.specs.Maps.{Map, IsThere, IsKept}
+use Rattle.std.proofs.Common.{List, Option, sym, subst, arith, vec_capacity}
+use Rattle.anon_map.specs.Maps.{Map, IsThere}
 use Rattle.anon_map.proofs.KeptLemmas.{kept_gone, room_for}
 use Rattle.anon_map.proofs.AnonMaps.release.Goals as goal
 
