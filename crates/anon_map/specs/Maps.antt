@@ -14,6 +14,7 @@ held_once places = record { places = places; holders = 1 }
 abbrev pub map_at : List (Option Map) → ℕ → Option Map
 map_at maps number = slice_index_or maps number None
 
+-- a map has the number
 abbrev pub IsThere : List (Option Map) → ℕ → Type 0
 IsThere maps number = IsSome (map_at maps number)
 

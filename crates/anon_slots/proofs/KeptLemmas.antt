@@ -63,16 +63,19 @@ kept_dropped area counts swapped reserved in_use slot kept used =
       fits = omega (arith, kept.fits, length-set counts slot 0);
     }
 
-pub kept_made : (area : List Bool) (counts : List ℕ) (swapped : List Bool) (reserved in_use slot : ℕ) → IsKept area counts swapped reserved in_use → slot < length counts → get_or counts slot 0 ≡ 0 → in_use < reserved → IsKept (set area slot true) (set counts slot 1) (set swapped slot false) reserved (in_use + 1)
-kept_made area counts swapped reserved in_use slot kept within unused room =
+pub kept_made : (area : List Bool) (counts : List ℕ) (swapped : List Bool) (reserved in_use slot count : ℕ) (mark : Bool) → IsKept area counts swapped reserved in_use → slot < length counts → get_or counts slot 0 ≡ 0 → in_use < reserved → 0 < count → IsKept (set area slot true) (set counts slot count) (set swapped slot mark) reserved (in_use + 1)
+kept_made area counts swapped reserved in_use slot count mark kept within unused room some =
     let before : weight (get_or counts slot 0) ≡ 0 = ap weight unused in
+    let after : weight count ≡ 1 = ap (λ (b : Bool). cond b 1 0) (used_from count some) in
     record {
-      marked = ap (λ (l : List Bool). set l slot true) kept.marked ∙ sym (map-set is_used counts slot 1);
-      lengths = length-set swapped slot false ∙ kept.lengths ∙ sym (length-set counts slot 1);
-      counted = omega (arith, kept.counted, before, sum_by-set weight counts slot 1 0 within);
+      marked = ap (λ (l : List Bool). set l slot true) kept.marked
+          ∙ ap (λ (b : Bool). set (map is_used counts) slot b) (sym (used_from count some))
+          ∙ sym (map-set is_used counts slot count);
+      lengths = length-set swapped slot mark ∙ kept.lengths ∙ sym (length-set counts slot count);
+      counted = omega (arith, kept.counted, before, after, sum_by-set weight counts slot count 0 within);
       used = omega arith;
-      within = omega (arith, kept.within, length-set counts slot 1);
-      fits = omega (arith, kept.fits, length-set counts slot 1);
+      within = omega (arith, kept.within, length-set counts slot count);
+      fits = omega (arith, kept.fits, length-set counts slot count);
     }
 
 -- the first slot that isn't marked is the first of count 0

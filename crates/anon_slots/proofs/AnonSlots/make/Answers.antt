@@ -21,5 +21,6 @@ invariant_of-self c =
     let at = unused_at c.self.inside.counts.items c.unwrap-slot.result first in
     let taken : c.alloc.new.self ≡ set c.self.inside.area c.unwrap-slot.result true = rw c.unwrap-slot.ensures at c.alloc.ensures.taken in
     rw taken
-    (kept_made c.self.inside.area c.self.inside.counts.items c.self.inside.swapped.items c.self.inside.reserved c.self.inside.in_use c.unwrap-slot.result c.self.invariant at.0 at.1
-    (omega (arith, c.self.invariant.counted, c.requires, ap slots_in_use c.self.view_is, ap (λ (s : Slots). s.reserved) c.self.view_is)))
+    (kept_made c.self.inside.area c.self.inside.counts.items c.self.inside.swapped.items c.self.inside.reserved c.self.inside.in_use c.unwrap-slot.result _ _ c.self.invariant at.0 at.1
+    (omega (arith, c.self.invariant.counted, c.requires, ap slots_in_use c.self.view_is, ap (λ (s : Slots). s.reserved) c.self.view_is))
+    (omega arith))
