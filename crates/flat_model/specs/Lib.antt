@@ -1,0 +1,13 @@
+pub mod Words
+pub mod Flat
+pub mod Refusals
+pub mod Access
+pub mod Space
+pub mod Mapping
+pub mod Parts
+pub mod Processes
+pub mod Step
+pub mod History
+pub mod Counted
+pub mod Told
+pub mod FlatCode
