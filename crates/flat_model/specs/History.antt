@@ -23,12 +23,13 @@ Steps F (e ∷ H) = IsStep F e × Steps (step F e) H
 abbrev pub IsBirth : ℕ → Entry → Type 0
 IsBirth p e = (e.call ≡ Fork p) × (e.reply ≡ reply.Done)
 
--- A Sync at position k that says that it began at b: b isn't after k, and each earlier entry of its process, and the Fork that made the process, stand before position b.
+-- A Sync of p at position k may have begun at b: b isn't after k, and each earlier entry of p, and the Fork that made p, stand before position b.
+abbrev pub IsStart : List Entry → ℕ → ℕ → ℕ → Type 0
+IsStart H k p b = (b ≤ k) × ((j : ℕ) (d : Entry) → j < k → slice_get H j ≡ Some d → (d.process ≡ p) ⊎ IsBirth p d → j < b)
+
+-- If the entry at position k is a Sync that says where it began, it may have begun there.
 abbrev pub IsSyncStart : List Entry → ℕ → Entry → Type 0
-IsSyncStart H k e = elim e.reply [
-  | reply.Synced b ↦ (b ≤ k) × ((j : ℕ) (d : Entry) → j < k → slice_get H j ≡ Some d → (d.process ≡ e.process) ⊎ IsBirth e.process d → j < b)
-  | r ↦ Unit {0}
-]
+IsSyncStart H k e = elim e.reply [ reply.Synced b ↦ IsStart H k e.process b | r ↦ Unit {0} ]
 
 -- The file of a part.
 abbrev pub part_file : Call → Option ℕ

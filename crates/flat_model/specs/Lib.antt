@@ -3,6 +3,9 @@ pub mod Flat
 pub mod Refusals
 pub mod Access
 pub mod Space
+pub mod SpaceLaws
+pub mod StoreLaws
+pub mod HistoryLaws
 pub mod Mapping
 pub mod Parts
 pub mod Processes

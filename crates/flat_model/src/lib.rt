@@ -1,18 +1,9 @@
 //! Flat memory: what the kernel's calls do, without frames, disks or translations.
 #![tactic(auto)]
 
-ghost use Rattle.std.specs.Prelude.{◌≡◌, ◌+◌, ◌<◌};
+mod laws;
 
-use vm_types::Entry;
-
-ghost use Rattle.flat_model.specs.Step.{IsStep};
-ghost use Rattle.flat_model.specs.History.{Legal};
-ghost use Rattle.flat_model.specs.Counted.{Counted};
-ghost use Rattle.flat_model.specs.Told.{Told};
-
-fn bump(x: u32) -> u32
-    requires { x < 100 }
-    ensures { result ≡ x + 1 }
-{
-    x + 1
-}
+pub use laws::{
+    fork_law, lowest_gap_law, one_more_law, private_store_law, quiet_law, ranges_law,
+    store_then_load_law,
+};

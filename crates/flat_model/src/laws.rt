@@ -1,0 +1,46 @@
+//! The laws of the definitions. Each function does nothing: its contract is the law.
+ghost use Rattle.flat_model.specs.SpaceLaws.{LowestGap, RangesOfCells};
+ghost use Rattle.flat_model.specs.HistoryLaws.{Quiet, OneMore};
+ghost use Rattle.flat_model.specs.StoreLaws.{StoreThenLoad, PrivateStore, ForkThenStore};
+
+/// The lowest gap is free and fits, and no lower one does.
+#[tactic(auto, using(crate::proofs::Gap::lowest_gap_law))]
+pub fn lowest_gap_law()
+    ensures { LowestGap }
+{}
+
+/// What stands at each page after cells were put in or taken out.
+#[tactic(auto, using(crate::proofs::Ranges::ranges_law))]
+pub fn ranges_law()
+    ensures { RangesOfCells }
+{}
+
+/// What is stored is loaded again through every cell that shows the page, and through no private copy.
+#[tactic(auto, using(crate::proofs::Stores::store_then_load_law))]
+pub fn store_then_load_law()
+    ensures { StoreThenLoad }
+{}
+
+/// A private store changes one cell, and no other process sees it.
+#[tactic(auto, using(crate::proofs::Stores::private_store_law))]
+pub fn private_store_law()
+    ensures { PrivateStore }
+{}
+
+/// Parent and child show the same pages after a fork, and don't see each other's private stores.
+#[tactic(auto, using(crate::proofs::Forks::fork_law))]
+pub fn fork_law()
+    ensures { ForkThenStore }
+{}
+
+/// A signal, a refusal and a failed transfer change nothing but tails.
+#[tactic(auto, using(crate::proofs::Quiet::quiet_law))]
+pub fn quiet_law()
+    ensures { Quiet }
+{}
+
+/// When a legal history stays legal with an entry more, and what flat memory is then.
+#[tactic(auto, using(crate::proofs::Histories::one_more_law))]
+pub fn one_more_law()
+    ensures { OneMore }
+{}
