@@ -1,9 +1,9 @@
 -- Words and pages of bytes.
-use Rattle.std.proofs.Common.{◌≡◌, ℕ, zero, suc, ◌+◌, ◌-◌, ◌*◌, ◌%◌, ◌^◌, ◌<◌, ◌≤◌, ◌⊎◌, List, [], ◌∷◌, ◌++◌, length, take, drop, Option, Some, None, refl, sym, ap, subst, ◌∙◌, inl, inr, append_assoc, arith}
+use Rattle.std.proofs.Common.{◌≡◌, ℕ, zero, suc, ◌+◌, ◌*◌, ◌%◌, ◌^◌, ◌<◌, ◌≤◌, List, [], ◌∷◌, ◌++◌, length, take, drop, Some, refl, sym, ap, subst, ◌∙◌, inl, inr, append_assoc, arith}
 use Rattle.std.specs.Prelude.{slice_get, slice_set, option_map, All}
 use Rattle.std.proofs.lemmas.Option.{slice_get_within, get_or_from_slice_get}
 use Rattle.std.proofs.lemmas.List.{length-take, drop_at}
-use Rattle.flat_model.specs.Words.{Page, number_of, bytes_of, with_bytes, word_at, IsSize}
+use Rattle.flat_model.specs.Words.{Page, number_of, bytes_of, with_bytes, word_at, IsWordSize}
 use Rattle.flat_model.specs.Access.{changed_at}
 
 -- what holds of all holds of the one at a place
@@ -32,13 +32,13 @@ word_with bytes a b n v fits same again =
     ∙ again (drop (a % 4096 + length (bytes_of n v)) bytes)
 
 -- a word that was stored is the word that is there
-pub word_again : (bytes : Page) (a b n v : ℕ) → IsSize n → length bytes ≡ 4096 → b % 4096 ≡ a % 4096 → v < 2 ^ (8 * n) → word_at (with_bytes bytes (a % 4096) (bytes_of n v)) b n ≡ v
+pub word_again : (bytes : Page) (a b n v : ℕ) → IsWordSize n → length bytes ≡ 4096 → b % 4096 ≡ a % 4096 → v < 2 ^ (8 * n) → word_at (with_bytes bytes (a % 4096) (bytes_of n v)) b n ≡ v
 word_again bytes a b n v (inl one) whole same lt = subst (λ (k : ℕ). v < 2 ^ (8 * k) → word_at (with_bytes bytes (a % 4096) (bytes_of k v)) b k ≡ v) (sym one) (λ less. word_with bytes a b 1 v (omega arith) same (λ rest. number_of-1 v less)) lt
 word_again bytes a b n v (inr (inl two)) whole same lt = subst (λ (k : ℕ). v < 2 ^ (8 * k) → word_at (with_bytes bytes (a % 4096) (bytes_of k v)) b k ≡ v) (sym two) (λ less. word_with bytes a b 2 v (omega arith) same (λ rest. number_of-2 v less)) lt
 word_again bytes a b n v (inr (inr four)) whole same lt = subst (λ (k : ℕ). v < 2 ^ (8 * k) → word_at (with_bytes bytes (a % 4096) (bytes_of k v)) b k ≡ v) (sym four) (λ less. word_with bytes a b 4 v (omega arith) same (λ rest. number_of-4 v less)) lt
 
 -- addresses at the same place of their pages are aligned alike
-pub aligned_alike : (a b n : ℕ) → IsSize n → a % n ≡ 0 → b % 4096 ≡ a % 4096 → b % n ≡ 0
+pub aligned_alike : (a b n : ℕ) → IsWordSize n → a % n ≡ 0 → b % 4096 ≡ a % 4096 → b % n ≡ 0
 aligned_alike a b n (inl one) is same = subst (λ (k : ℕ). b % k ≡ 0) (sym one) (omega arith)
 aligned_alike a b n (inr (inl two)) is same = subst (λ (k : ℕ). a % k ≡ 0 → b % k ≡ 0) (sym two) (λ e. omega arith) is
 aligned_alike a b n (inr (inr four)) is same = subst (λ (k : ℕ). a % k ≡ 0 → b % k ≡ 0) (sym four) (λ e. omega arith) is

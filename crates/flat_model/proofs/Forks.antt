@@ -1,14 +1,13 @@
 -- What a Fork leaves.
-use Rattle.std.proofs.Common.{◌≡◌, ℕ, Bool, true, false, Option, Some, None, Result, Ok, Err, refl, sym, ap, subst, ◌∙◌}
-use Rattle.std.specs.Prelude.{option_and_then, unwrap_or, IsSome, IsTrue, IsFalse, is_some, nat_le, ◌+◌}
+use Rattle.std.proofs.Common.{◌≡◌, ℕ, true, false, Option, Some, None, Result, Ok, Err, refl, sym, ap, subst, ◌∙◌}
+use Rattle.std.specs.Prelude.{option_and_then, unwrap_or, IsSome, IsFalse, nat_le, ◌+◌}
 use Rattle.std.specs.FinMap as map
 use Rattle.std.specs.FinSet as set
-use Rattle.vm_types.specs.declared.call.Kind.TheVariants.{Private}
 use Rattle.vm_types.specs.declared.call.Errno.{Errno}
 use Rattle.vm_types.specs.declared.call.Errno.TheVariants as errno
 use Rattle.vm_types.specs.declared.call.Reply.TheVariants as reply
 use Rattle.flat_model.specs.Words.{page}
-use Rattle.flat_model.specs.Flat.{Cell, Flat, Space, IsFlat, space_of, cell_at, private_cells, reserved}
+use Rattle.flat_model.specs.Flat.{Flat, Space, IsFlat, space_of, private_cells, reserved}
 use Rattle.flat_model.specs.Refusals.{need, or_refused, done}
 use Rattle.flat_model.specs.Mapping.{cells_of}
 use Rattle.flat_model.specs.Processes.{fork, forked}

@@ -1,10 +1,10 @@
 -- The lowest gap: it is free, it fits, no lower one does, and where there is none no gap fits.
-use Rattle.std.proofs.Common.{◌≡◌, ◌⊎◌, ℕ, ◌+◌, ◌<◌, ◌≤◌, Bool, true, false, cond, ◌&&◌, T, eqb, leb, List, [], ◌∷◌, map, Option, Some, None, refl, sym, ap, ◌∙◌, inl, inr, arith, Less, Equal, Greater}
+use Rattle.std.proofs.Common.{◌≡◌, ◌⊎◌, ℕ, ◌+◌, ◌<◌, ◌≤◌, Bool, true, false, cond, ◌&&◌, T, eqb, leb, List, [], ◌∷◌, Option, Some, None, refl, ◌∙◌, inl, inr, arith, Less, Equal, Greater}
 use Rattle.std.specs.Prelude.{nat_lt}
 use Rattle.std.specs.Ordering.{nat_cmp, is_lt}
 use Rattle.std.specs.FinMap.{is_sorted}
 use Rattle.std.specs.FinMap.Entries.{below_all}
-use Rattle.std.specs.Cmp.{unsigned_tied, nat_cmp_total}
+use Rattle.std.specs.Cmp.{unsigned_tied}
 use Rattle.std.specs.FinMap as finite
 use Rattle.std.proofs.lemmas.Bool.{cases_lt, cases_eq, ltb-true, leb-true, eqb-true, eq-eqb, leb-false}
 use Rattle.flat_model.specs.Flat.{Cell, Space}
@@ -127,7 +127,7 @@ below_of [] keys = tt
 below_of (e ∷ es) keys = ((keys e.0 e.1 (first_found e es)).1, below_of es (keys_rest e es keys))
 
 keys_of : (s : Space) → IsUser s → Keys (finite.entries s)
-keys_of s user q c found = user q c (finite.get-entries s q ∙ found)
+keys_of s user q c found = let at = user q c (finite.get-entries s q ∙ found) in (at.0, omega (arith, at.1))
 
 above_of : (s : Space) → IsUser s → Above 1 (finite.entries s)
 above_of s user = rising 1 (finite.entries s) (finite.entries_sorted s) (start_of (finite.entries s) (keys_of s user))

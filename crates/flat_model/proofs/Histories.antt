@@ -1,19 +1,17 @@
 -- Histories with one entry more.
-use Rattle.std.proofs.Common.{◌≡◌, ℕ, zero, suc, ◌+◌, ◌<◌, ◌≤◌, ◌⊎◌, Bool, true, false, cond, not, ◌&&◌, List, [], ◌∷◌, ◌++◌, length, replicate, Option, Some, None, refl, sym, ap, subst, ◌∙◌, inl, inr, arith, eqb}
-use Rattle.std.specs.Prelude.{◌↔◌, ◌==◌, slice_get, is_none, MatchOption, MatchBool, if◌then◌else◌}
-use Rattle.std.specs.Option.{option_map_or}
-use Rattle.std.proofs.lemmas.Bool.{eqb-true, eq-eqb, cases_lt}
-use Rattle.std.proofs.lemmas.Option.{slice_get_within, slice_get_past}
-use Rattle.std.proofs.Common.{length-append}
+use Rattle.std.proofs.Common.{◌≡◌, ℕ, zero, suc, ◌<◌, ◌⊎◌, Bool, true, false, not, ◌&&◌, List, [], ◌∷◌, ◌++◌, length, Option, Some, None, refl, sym, ap, subst, ◌∙◌, inl, inr, arith}
+use Rattle.std.specs.Prelude.{◌==◌, slice_get, is_none, MatchOption, MatchBool, if◌then◌else◌}
+use Rattle.std.proofs.lemmas.Bool.{eqb-true, eq-eqb}
+use Rattle.std.proofs.lemmas.Option.{slice_get_within}
 use Rattle.vm_types.specs.declared.call.Call.{Call}
-use Rattle.vm_types.specs.declared.call.Call.TheVariants.{Load, Store, Map, Unmap, Protect, Sync, Read, Write, Fork, Exit}
+use Rattle.vm_types.specs.declared.call.Call.TheVariants.{Read, Write}
 use Rattle.vm_types.specs.declared.call.Reply.{Reply}
 use Rattle.vm_types.specs.declared.call.Reply.TheVariants as reply
 use Rattle.vm_types.specs.declared.call.Entry.{Entry}
-use Rattle.vm_types.specs.Parts.{next_part}
+use Rattle.vm_types.specs.Parts.{next_part, part_file, ends_call}
 use Rattle.flat_model.specs.Flat.{Flat}
 use Rattle.flat_model.specs.Step.{IsStep, step}
-use Rattle.flat_model.specs.History.{replay, Steps, Legal, IsBirth, IsStart, IsSyncStart, part_file, is_part_of, is_io, rest_of, is_end, is_aside, IsNextOwn, IsKept, KeepsParts}
+use Rattle.flat_model.specs.History.{replay, Steps, Legal, IsStart, IsSyncStart, is_part_of, is_io, is_aside, IsNextOwn, IsKept, KeepsParts}
 use Rattle.flat_model.specs.HistoryLaws.{open_after, open_from, open_call, IsNextPart, IsNext, OneMore}
 
 pub replay-push : (F : Flat) (H : List Entry) (e : Entry) → replay F (H ++ e ∷ []) ≡ step (replay F H) e
@@ -122,8 +120,8 @@ io_last c (reply.Io disk before after) bytes is = refl
 io_last c r bytes is = absurd cc
 
 -- a part that met Io ends its call
-pub is_end-io : (e : Entry) → is_io e.reply ≡ true → is_end e ≡ true
-is_end-io e is = io_last e.call e.reply (replicate (rest_of e.call) 0) is
+pub ends_call-io : (e : Entry) → is_io e.reply ≡ true → ends_call e.call e.reply ≡ true
+ends_call-io e is = io_last e.call e.reply [] is
 
 -- who holds the file has its next part
 abbrev Held : ℕ → Option ℕ → List Entry → Type 0
@@ -155,7 +153,7 @@ on_last false P h = tt
 
 -- who holds the file behind a part that isn't aside
 abbrev next_holder : Entry → Option ℕ
-next_holder e = if is_end e then None else Some e.process
+next_holder e = if ends_call e.call e.reply then None else Some e.process
 
 held_next : (f : ℕ) (b : Bool) (p : ℕ) (H : List Entry) → MatchBool b (Unit {0}) (IsNextOwn f p H) → Held f (if b then None else Some p) H
 held_next f true p H h = tt
@@ -166,10 +164,10 @@ next_held f true p H h = tt
 next_held f false p H h = h
 
 kept_of : (f : ℕ) (e : Entry) (H : List Entry) → is_part_of f e ≡ true → IsKept e H → Held f (next_holder e) H
-kept_of f e H is h = held_next f (is_end e) e.process H (when_some (part_file e.call) f (λ g. MatchBool (is_end e) (Unit {0}) (IsNextOwn g e.process H)) (part_file-is f e is) h)
+kept_of f e H is h = held_next f (ends_call e.call e.reply) e.process H (when_some (part_file e.call) f (λ g. MatchBool (ends_call e.call e.reply) (Unit {0}) (IsNextOwn g e.process H)) (part_file-is f e is) h)
 
 of_kept : (f : ℕ) (e : Entry) (H : List Entry) → is_part_of f e ≡ true → Held f (next_holder e) H → IsKept e H
-of_kept f e H is h = of_some (part_file e.call) f (λ g. MatchBool (is_end e) (Unit {0}) (IsNextOwn g e.process H)) (part_file-is f e is) (next_held f (is_end e) e.process H h)
+of_kept f e H is h = of_some (part_file e.call) f (λ g. MatchBool (ends_call e.call e.reply) (Unit {0}) (IsNextOwn g e.process H)) (part_file-is f e is) (next_held f (ends_call e.call e.reply) e.process H h)
 
 io_aside : (a b : Bool) → (a && b) ≡ true → a ≡ true
 io_aside true b is = refl
@@ -244,8 +242,8 @@ rest_kept f holder d X first rest = elim (meets f holder d) [
   | inr (inl m) ↦
     let skips = aside_passed f holder d m.1 m.2 m.3 in
     let kept = subst (λ (o : Option ℕ). Kept f o X) m.4 rest in
-    let ends = is_end-io d (io_aside (is_io d.reply) (not (d.process == m.1)) m.3) in
-    (skip_held f holder d X skips kept.0, (of_true (is_part_of f d) (IsKept d X) (Unit {0}) m.0 (of_kept f d X m.0 (ended_free f (is_end d) d.process X ends)), kept.1))
+    let ends = ends_call-io d (io_aside (is_io d.reply) (not (d.process == m.1)) m.3) in
+    (skip_held f holder d X skips kept.0, (of_true (is_part_of f d) (IsKept d X) (Unit {0}) m.0 (of_kept f d X m.0 (ended_free f (ends_call d.call d.reply) d.process X ends)), kept.1))
   | inr (inr m) ↦
     let takes = λ (p : ℕ) (some : holder ≡ Some p). taken (is_part_of f d) (is_aside p d) m.0 (m.2 p some) in
     let kept = subst (λ (o : Option ℕ). Kept f o X) m.1 rest in
@@ -253,7 +251,7 @@ rest_kept f holder d X first rest = elim (meets f holder d) [
 ]
 
 kept_last : (f : ℕ) (holder : Option ℕ) (e : Entry) → Held f holder (e ∷ []) → Kept f holder (e ∷ [])
-kept_last f holder e next = (next, (on_last (is_part_of f e) (IsKept e []) (is_kept_last (part_file e.call) (is_end e)), tt))
+kept_last f holder e next = (next, (on_last (is_part_of f e) (IsKept e []) (is_kept_last (part_file e.call) (ends_call e.call e.reply)), tt))
 
 kept_push : (f : ℕ) (holder : Option ℕ) (H : List Entry) (e : Entry) → Kept f holder H → Held f (open_from f holder H) (e ∷ []) → Kept f holder (H ++ e ∷ [])
 kept_push f holder [] e kept next = kept_last f holder e next
@@ -272,7 +270,7 @@ keeps_each f [] keeps = tt
 keeps_each f (d ∷ H) keeps = (on_last (is_part_of f d) (IsKept d H) keeps.0, keeps_each f H keeps.1)
 
 kept_by_file : (d : Entry) (H : List Entry) (o : Option ℕ) → part_file d.call ≡ o → ((f : ℕ) → MatchBool (is_part_of f d) (IsKept d H) (Unit {0})) → IsKept d H
-kept_by_file d H None none each = of_none (part_file d.call) (λ f. MatchBool (is_end d) (Unit {0}) (IsNextOwn f d.process H)) none
+kept_by_file d H None none each = of_none (part_file d.call) (λ f. MatchBool (ends_call d.call d.reply) (Unit {0}) (IsNextOwn f d.process H)) none
 kept_by_file d H (Some f) some each = when_true (is_part_of f d) (IsKept d H) (Unit {0}) (is_part_of-is f d some) (each f)
 
 each_keeps : (H : List Entry) → ((f : ℕ) → KeepsOf f H) → KeepsParts H

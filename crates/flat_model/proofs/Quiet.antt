@@ -1,5 +1,5 @@
 -- A signal, a refusal and a failed transfer change nothing but tails.
-use Rattle.std.proofs.Common.{◌≡◌, ℕ, ◌+◌, ◌*◌, ◌%◌, min, take, drop, length, Result, Ok, Err, refl, ap, ◌∙◌, sym, subst}
+use Rattle.std.proofs.Common.{◌≡◌, ℕ, ◌+◌, ◌*◌, ◌%◌, min, take, drop, length, Result, Ok, Err, refl, sym, subst}
 use Rattle.std.specs.Prelude.{nat_le}
 use Rattle.vm_types.specs.declared.call.Call.{Call}
 use Rattle.vm_types.specs.declared.call.Call.TheVariants.{Load, Store, Map, Unmap, Protect, Sync, Read, Write, Fork, Exit}
@@ -10,7 +10,7 @@ use Rattle.vm_types.specs.declared.call.Reply.{Reply}
 use Rattle.vm_types.specs.declared.call.Reply.TheVariants as reply
 use Rattle.vm_types.specs.declared.call.Signal.{Signal}
 use Rattle.vm_types.specs.Prot.{can_read, can_write}
-use Rattle.vm_types.specs.Parts.{line_rest}
+use Rattle.vm_types.specs.Pages.{line_rest}
 use Rattle.flat_model.specs.Words.{page, pages_in, word_at, with_bytes, bytes_of}
 use Rattle.flat_model.specs.Flat.{Flat, reserved, private_cells}
 use Rattle.flat_model.specs.Access.{met, written, with_space}
@@ -19,7 +19,7 @@ use Rattle.flat_model.specs.Mapping.{mapped, unmapped, is_range, ranged, is_allo
 use Rattle.flat_model.specs.Parts.{file_at, bytes_in, writable_at, with_file_part}
 use Rattle.flat_model.specs.Processes.{forked}
 use Rattle.flat_model.specs.Refusals.{◌>>=◌, ◌>>◌, need, Outcome, or_signal, or_refused, done}
-use Rattle.flat_model.specs.Step.{outcome, acted, step, tails_cleared, IsStep, IsDue, without_start}
+use Rattle.flat_model.specs.Step.{outcome, acted, step, tails_cleared, IsStep, IsDue}
 use Rattle.flat_model.specs.HistoryLaws.{IsNoAction, Quiet}
 
 -- what acts never answers so

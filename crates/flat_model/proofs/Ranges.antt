@@ -1,10 +1,10 @@
 -- Ranges of a space: what is there after cells were taken out, put in, or given another protection.
-use Rattle.std.proofs.Common.{◌≡◌, ℕ, zero, suc, ◌+◌, ◌-◌, ◌<◌, ◌≤◌, ◌⊎◌, Bool, true, false, cond, not, ◌&&◌, List, [], ◌∷◌, map, Option, Some, None, refl, sym, ap, ◌∙◌, inl, inr, arith, rules, leb, ltb, eqb}
-use Rattle.std.specs.Prelude.{option_map, is_some}
-use Rattle.std.specs.Ordering.{nat_cmp, eq_by_cmp, is_eq}
+use Rattle.std.proofs.Common.{◌≡◌, ℕ, zero, suc, ◌+◌, ◌-◌, ◌<◌, ◌≤◌, Bool, true, false, cond, not, ◌&&◌, List, [], ◌∷◌, map, Option, Some, None, refl, sym, ap, ◌∙◌, inl, inr, arith, rules, eqb}
+use Rattle.std.specs.Prelude.{option_map}
+use Rattle.std.specs.Ordering.{nat_cmp, is_eq}
 use Rattle.std.specs.Cmp.{nat_cmp_total, unsigned_tied}
 use Rattle.std.specs.FinMap as finite
-use Rattle.std.proofs.lemmas.Bool.{cases_eq, eqb-true, eq-eqb, le-leb, lt-ltb, leb-true, ltb-true}
+use Rattle.std.proofs.lemmas.Bool.{cases_eq, eqb-true, eq-eqb, le-leb, lt-ltb}
 use Rattle.std.proofs.lemmas.Bool.Decides.{nat_tests}
 use Rattle.vm_types.specs.declared.prot.Prot.{Prot}
 use Rattle.flat_model.specs.Flat.{Cell, Space}

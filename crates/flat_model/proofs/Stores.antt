@@ -1,9 +1,8 @@
 -- What an access meets, and what loads answer after a store or a fork.
-use Rattle.std.proofs.Common.{◌≡◌, ℕ, zero, suc, ◌+◌, ◌*◌, ◌%◌, ◌^◌, ◌<◌, Bool, true, false, cond, List, [], ◌∷◌, length, Option, Some, None, Result, Ok, Err, refl, sym, ap, subst, ◌∙◌, arith}
-use Rattle.std.specs.Prelude.{slice_get, slice_set, option_map, option_and_then, unwrap_or, ok_or, ◌==◌, IsSome, IsTrue, IsFalse, is_some, All}
+use Rattle.std.proofs.Common.{◌≡◌, ℕ, ◌*◌, ◌%◌, ◌^◌, ◌<◌, Bool, true, false, List, [], Option, Some, None, Result, Ok, Err, refl, sym, ap, subst, ◌∙◌}
+use Rattle.std.specs.Prelude.{slice_get, slice_set, option_map, option_and_then, unwrap_or, ok_or, ◌==◌, IsSome, IsTrue, is_some, All}
 use Rattle.std.specs.Option.{option_or}
 use Rattle.std.specs.FinMap as map
-use Rattle.std.specs.FinSet as set
 use Rattle.std.proofs.lemmas.Bool.{eqb-true, eq-eqb}
 use Rattle.vm_types.specs.declared.prot.Prot.{Prot}
 use Rattle.vm_types.specs.declared.call.Kind.TheVariants.{Shared, Private}
@@ -11,13 +10,12 @@ use Rattle.vm_types.specs.declared.call.Object.{Object}
 use Rattle.vm_types.specs.declared.call.Object.TheVariants as object
 use Rattle.vm_types.specs.declared.call.Signal.{Signal}
 use Rattle.vm_types.specs.declared.call.Signal.TheVariants as signal
-use Rattle.vm_types.specs.declared.call.Reply.{Reply}
 use Rattle.vm_types.specs.declared.call.Reply.TheVariants as reply
 use Rattle.vm_types.specs.Prot.{can_read, can_write}
-use Rattle.flat_model.specs.Words.{Page, IsPage, page, bytes_of, with_bytes, word_at, IsSize}
+use Rattle.flat_model.specs.Words.{Page, IsPage, page, bytes_of, with_bytes, word_at, IsWordSize}
 use Rattle.flat_model.specs.Flat.{Cell, File, Flat, Space, IsFlat, IsFile, IsCell, space_of, cell_at, shown, pages_of}
-use Rattle.flat_model.specs.Refusals.{◌>>=◌, ◌>>◌, need, Outcome, or_signal, done}
-use Rattle.flat_model.specs.Access.{met, store, load, changed_at, written, with_page, with_space, with_cell, file_with_page}
+use Rattle.flat_model.specs.Refusals.{◌>>=◌, ◌>>◌, need, or_signal, done}
+use Rattle.flat_model.specs.Access.{met, store, load, written, with_page, with_cell, file_with_page}
 use Rattle.flat_model.specs.StoreLaws.{ShowSamePage, StoreThenLoad, ChangesOneCell, PrivateStore}
 use Rattle.flat_model.proofs.Ranges.{get-insert_here, get-insert_apart}
 use Rattle.flat_model.proofs.Bytes.{All-slice_get, word_again, aligned_alike, slice_get-changed_at, slice_get-slice_set}
@@ -156,7 +154,7 @@ load_word : (G : Flat) (q b n v : ℕ) (d : Cell) (new : Page) → (b % n ≡ 0)
 load_word G q b n v d new aligned at allowed shows word =
     rw (met_is G q can_read b n d new (record { aligned = eq-eqb (b % n) 0 aligned; cell = at; allowed = allowed; shows = shows })) (ap (λ w. reply.Word w) word)
 
-pub load-store_shared : (F : Flat) (p q a b n v : ℕ) (c d : Cell) → IsFlat F → IsSize n → v < 2 ^ (8 * n) → (store F p a n v).reply ≡ reply.Done → cell_at F p (page a) ≡ Some c → c.kind ≡ Shared → cell_at F q (page b) ≡ Some d → ShowSamePage c d → b % 4096 ≡ a % 4096 → IsTrue (can_read d.prot) → (load (store F p a n v).after q b n).reply ≡ reply.Word v
+pub load-store_shared : (F : Flat) (p q a b n v : ℕ) (c d : Cell) → IsFlat F → IsWordSize n → v < 2 ^ (8 * n) → (store F p a n v).reply ≡ reply.Done → cell_at F p (page a) ≡ Some c → c.kind ≡ Shared → cell_at F q (page b) ≡ Some d → ShowSamePage c d → b % 4096 ≡ a % 4096 → IsTrue (can_read d.prot) → (load (store F p a n v).after q b n).reply ≡ reply.Word v
 load-store_shared F p q a b n v c d flat size lt is at shared there same offset allowed =
     let s = store_met F p a n v c is at in
     let new = with_bytes s.0 (a % 4096) (bytes_of n v) in
@@ -173,7 +171,7 @@ load-store_shared F p q a b n v c d flat size lt is at shared there same offset 
 cell_at-with_cell : (F : Flat) (p q : ℕ) (c : Cell) → cell_at (with_cell F p q c) p q ≡ Some c
 cell_at-with_cell F p q c = ap (option_and_then (λ space. map.get space q)) (get-insert_here F.spaces p (map.insert (unwrap_or (space_of F p) map.empty) q c)) ∙ get-insert_here (unwrap_or (space_of F p) map.empty) q c
 
-load-store_private : (F : Flat) (p a n v : ℕ) (c : Cell) → IsFlat F → IsSize n → v < 2 ^ (8 * n) → (store F p a n v).reply ≡ reply.Done → cell_at F p (page a) ≡ Some c → c.kind ≡ Private → IsTrue (can_read c.prot) → (load (store F p a n v).after p a n).reply ≡ reply.Word v
+load-store_private : (F : Flat) (p a n v : ℕ) (c : Cell) → IsFlat F → IsWordSize n → v < 2 ^ (8 * n) → (store F p a n v).reply ≡ reply.Done → cell_at F p (page a) ≡ Some c → c.kind ≡ Private → IsTrue (can_read c.prot) → (load (store F p a n v).after p a n).reply ≡ reply.Word v
 load-store_private F p a n v c flat size lt is at private allowed =
     let s = store_met F p a n v c is at in
     let new = with_bytes s.0 (a % 4096) (bytes_of n v) in
@@ -183,7 +181,7 @@ load-store_private F p a n v c flat size lt is at private allowed =
     (eqb-true (a % n) 0 s.2.aligned) (cell_at-with_cell F p (page a) (record c { own = Some new })) allowed refl
     (word_again s.0 a a n v size whole refl lt))
 
-pub load-store : (F : Flat) (p a n v : ℕ) (c : Cell) → IsFlat F → IsSize n → v < 2 ^ (8 * n) → (store F p a n v).reply ≡ reply.Done → cell_at F p (page a) ≡ Some c → IsTrue (can_read c.prot) → (load (store F p a n v).after p a n).reply ≡ reply.Word v
+pub load-store : (F : Flat) (p a n v : ℕ) (c : Cell) → IsFlat F → IsWordSize n → v < 2 ^ (8 * n) → (store F p a n v).reply ≡ reply.Done → cell_at F p (page a) ≡ Some c → IsTrue (can_read c.prot) → (load (store F p a n v).after p a n).reply ≡ reply.Word v
 load-store F p a n v c flat size lt is at allowed =
     elim c.kind as (λ k. c.kind ≡ k → (load (store F p a n v).after p a n).reply ≡ reply.Word v) [
       | Shared ↦ λ shared. load-store_shared F p p a a n v c c flat size lt is at shared at (record { object = refl; index = refl; alone = (flat.cells p (page a) c at).shared shared }) refl allowed

@@ -1,17 +1,15 @@
 -- Sums over the values of a finite map, and what a change of the map does to them.
 use Rattle.std.proofs.Common.{◌≡◌, ℕ, zero, suc, ◌+◌, ◌-◌, ◌<◌, ◌≤◌, not, Bool, true, false, cond, List, [], ◌∷◌, map, Option, Some, None, refl, sym, ap, ◌∙◌, arith, Less, Equal, Greater, eqb}
 use Rattle.std.specs.Prelude.{sum_by}
-use Rattle.std.specs.Option.{option_map_or}
 use Rattle.std.specs.Ordering.{nat_cmp, is_eq}
 use Rattle.std.specs.Cmp.{nat_cmp_total, unsigned_tied}
 use Rattle.std.specs.FinMap as finite
 use Rattle.std.specs.FinMap.Entries.{put, by_order, where_key, is_sorted-where_key, find-where_key}
-use Rattle.std.proofs.lemmas.Bool.{eqb-true}
 use Rattle.std.proofs.lemmas.Bool.Decides.{nat_tests}
 use Rattle.std.proofs.lemmas.List.Sums.{sum_by-cons}
 use Rattle.flat_model.specs.Flat.{Cell, Space}
 use Rattle.flat_model.specs.Space.{in_range, without, with_cells}
-use Rattle.flat_model.proofs.Ranges.{get-insert, get-remove_here, get-with_cells, get-without, get-retain_keys}
+use Rattle.flat_model.proofs.Ranges.{get-insert, get-remove_here, get-with_cells}
 
 -- the sum over a map's values
 abbrev pub total : {X : Type 0} → (X → ℕ) → finite.FinMap nat_cmp X → ℕ

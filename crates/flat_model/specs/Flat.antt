@@ -1,5 +1,5 @@
 -- What flat memory is made of, and what a cell shows.
-use Rattle.std.specs.Prelude.{ℕ, ◌≡◌, ◌+◌, ◌<◌, ◌≤◌, Bool, List, length, Option, Some, None, IsSome, option_map, option_and_then, slice_get, sum_by, filter_map, flat_map, All, IsTrue}
+use Rattle.std.specs.Prelude.{ℕ, ◌≡◌, ◌+◌, Bool, List, length, Option, Some, None, IsSome, option_map, option_and_then, slice_get, sum_by, filter_map, flat_map, All, IsTrue}
 use Rattle.std.specs.Option.{option_or}
 use Rattle.std.specs.Ordering.{nat_cmp}
 use Rattle.std.specs.FinMap as map
@@ -9,6 +9,7 @@ use Rattle.vm_types.specs.declared.call.Kind.{Kind}
 use Rattle.vm_types.specs.declared.call.Kind.TheVariants.{Shared, Private}
 use Rattle.vm_types.specs.declared.call.Object.{Object}
 use Rattle.vm_types.specs.declared.call.Object.TheVariants as object
+use Rattle.vm_types.specs.Pages.{IsUserPage}
 use Rattle.flat_model.specs.Words.{Page, IsPage, pages_in}
 
 -- A cell is one page of a mapping: what may be done there, at most what Protect may allow, shared or private, the object and the page of it that the cell stands for, and the cell's own page where it has one.
@@ -94,7 +95,7 @@ pub record IsFile (file : File) : Type 0 where
 
 -- Flat memory is well formed: pages 1 to 0x7ffff alone have cells, cells and files are well formed, zero objects consist of pages, and who is alive was born.
 pub record IsFlat (F : Flat) : Type 0 where
-  pub pages : (p q : ℕ) (c : Cell) → cell_at F p q ≡ Some c → (1 ≤ q) × (q < 0x80000)
+  pub pages : (p q : ℕ) (c : Cell) → cell_at F p q ≡ Some c → IsUserPage q
   pub cells : (p q : ℕ) (c : Cell) → cell_at F p q ≡ Some c → IsCell c
   pub files : All IsFile F.files
   pub zeros : (z : ℕ) (pages : List Page) → map.get F.zeros z ≡ Some pages → All IsPage pages

@@ -1,11 +1,10 @@
 -- Which histories are legal, and what flat memory is after one.
-use Rattle.std.specs.Prelude.{ℕ, ◌≡◌, ◌≤◌, ◌<◌, ◌⊎◌, ◌==◌, Bool, true, false, not, ◌&&◌, List, [], ◌∷◌, replicate, Option, Some, None, is_none, slice_get, MatchOption, MatchBool}
-use Rattle.vm_types.specs.declared.call.Call.{Call}
-use Rattle.vm_types.specs.declared.call.Call.TheVariants.{Read, Write, Fork}
+use Rattle.std.specs.Prelude.{ℕ, ◌≡◌, ◌≤◌, ◌<◌, ◌⊎◌, ◌==◌, Bool, true, false, not, ◌&&◌, List, [], ◌∷◌, Some, None, slice_get, MatchOption, MatchBool}
+use Rattle.vm_types.specs.declared.call.Call.TheVariants.{Fork}
 use Rattle.vm_types.specs.declared.call.Reply.{Reply}
 use Rattle.vm_types.specs.declared.call.Reply.TheVariants as reply
 use Rattle.vm_types.specs.declared.call.Entry.{Entry}
-use Rattle.vm_types.specs.Parts.{next_part}
+use Rattle.vm_types.specs.Parts.{part_file, ends_call}
 use Rattle.flat_model.specs.Flat.{Flat}
 use Rattle.flat_model.specs.Step.{IsStep, step}
 
@@ -31,12 +30,6 @@ IsStart H k p b = (b ≤ k) × ((j : ℕ) (d : Entry) → j < k → slice_get H 
 abbrev pub IsSyncStart : List Entry → ℕ → Entry → Type 0
 IsSyncStart H k e = elim e.reply [ reply.Synced b ↦ IsStart H k e.process b | r ↦ Unit {0} ]
 
--- The file of a part.
-abbrev pub part_file : Call → Option ℕ
-part_file (Read file offset len) = Some file
-part_file (Write file offset line rest) = Some file
-part_file call = None
-
 -- The entry is a part of the file.
 abbrev pub is_part_of : ℕ → Entry → Bool
 is_part_of f e = elim (part_file e.call) [ Some g ↦ f == g | None ↦ false ]
@@ -44,15 +37,6 @@ is_part_of f e = elim (part_file e.call) [ Some g ↦ f == g | None ↦ false ]
 abbrev pub is_io : Reply → Bool
 is_io (reply.Io disk before after) = true
 is_io r = false
-
--- How many bytes of a write follow the part.
-abbrev pub rest_of : Call → ℕ
-rest_of (Write file offset line rest) = rest
-rest_of call = 0
-
--- The part ends its call: it has no next part, whatever bytes are still to come.
-abbrev pub is_end : Entry → Bool
-is_end e = is_none (next_part e.call e.reply (replicate (rest_of e.call) 0))
 
 -- A part of f by another process that met Io; it stands between the parts of a call as if it weren't there.
 abbrev pub is_aside : ℕ → Entry → Bool
@@ -65,7 +49,7 @@ IsNextOwn f p (e ∷ H) = MatchBool (is_part_of f e && not (is_aside p e)) (e.pr
 
 -- If the entry is a part that doesn't end its call, then the next part of that file is of its process.
 abbrev pub IsKept : Entry → List Entry → Type 0
-IsKept e H = MatchOption (part_file e.call) (Unit {0}) (λ f. MatchBool (is_end e) (Unit {0}) (IsNextOwn f e.process H))
+IsKept e H = MatchOption (part_file e.call) (Unit {0}) (λ f. MatchBool (ends_call e.call e.reply) (Unit {0}) (IsNextOwn f e.process H))
 
 -- No call's part comes between the parts of another call of the same file.
 abbrev pub KeepsParts : List Entry → Type 0

@@ -1,12 +1,13 @@
 -- Laws of steps and histories.
-use Rattle.std.specs.Prelude.{ℕ, ◌≡◌, ◌↔◌, ◌++◌, List, [], ◌∷◌, length, Option, Some, None, MatchOption, false, Bool, if◌then◌else◌}
+use Rattle.std.specs.Prelude.{ℕ, ◌≡◌, ◌↔◌, ◌++◌, List, [], ◌∷◌, length, Option, Some, None, MatchOption, false, if◌then◌else◌}
 use Rattle.std.specs.Option.{option_map_or}
 use Rattle.vm_types.specs.declared.call.Entry.{Entry}
 use Rattle.vm_types.specs.declared.call.Reply.{Reply}
 use Rattle.vm_types.specs.declared.call.Reply.TheVariants as reply
+use Rattle.vm_types.specs.Parts.{part_file, ends_call}
 use Rattle.flat_model.specs.Flat.{Flat}
 use Rattle.flat_model.specs.Step.{IsStep, step, tails_cleared}
-use Rattle.flat_model.specs.History.{replay, Legal, IsSyncStart, is_part_of, is_aside, is_end, IsNextOwn, part_file}
+use Rattle.flat_model.specs.History.{replay, Legal, IsSyncStart, is_part_of, is_aside, IsNextOwn}
 
 -- The reply says that the call wasn't done: a signal, a refusal, or a transfer that failed.
 abbrev pub IsNoAction : Reply → Type 0
@@ -21,7 +22,7 @@ pub record Quiet : Type 0 where
 
 -- The process whose call of a file is between two parts, if there is one, after an entry more.
 abbrev pub open_after : ℕ → Option ℕ → Entry → Option ℕ
-open_after f holder e = if is_part_of f e then (if option_map_or (λ p. is_aside p e) holder false then holder else (if is_end e then None else Some e.process)) else holder
+open_after f holder e = if is_part_of f e then (if option_map_or (λ p. is_aside p e) holder false then holder else (if ends_call e.call e.reply then None else Some e.process)) else holder
 
 abbrev pub open_from : ℕ → Option ℕ → List Entry → Option ℕ
 open_from f holder [] = holder

@@ -4,7 +4,7 @@ use Rattle.std.specs.List.{concat}
 use Rattle.vm_types.specs.declared.call.Errno.{Errno}
 use Rattle.vm_types.specs.declared.call.Errno.TheVariants as errno
 use Rattle.vm_types.specs.declared.call.Reply.TheVariants as reply
-use Rattle.vm_types.specs.Parts.{line_rest}
+use Rattle.vm_types.specs.Pages.{line_rest}
 use Rattle.flat_model.specs.Words.{Page, zero_page, pages_in, with_bytes}
 use Rattle.flat_model.specs.Flat.{File, Flat}
 use Rattle.flat_model.specs.Access.{changed_at}

@@ -1,12 +1,13 @@
 -- Laws of ranges and gaps in a space.
-use Rattle.std.specs.Prelude.{ℕ, ◌≡◌, ◌+◌, ◌-◌, ◌<◌, ◌≤◌, Option, Some, None, if◌then◌else◌}
+use Rattle.std.specs.Prelude.{ℕ, ◌≡◌, ◌+◌, ◌-◌, ◌<◌, ◌≤◌, Some, None, if◌then◌else◌}
 use Rattle.std.specs.FinMap as map
+use Rattle.vm_types.specs.Pages.{IsUserPage}
 use Rattle.flat_model.specs.Flat.{Cell, Space}
 use Rattle.flat_model.specs.Space.{end_page, in_range, without, with_cells, lowest_gap}
 
 -- The space has cells in the user addresses alone.
 abbrev pub IsUser : Space → Type 0
-IsUser s = (q : ℕ) (c : Cell) → map.get s q ≡ Some c → (1 ≤ q) × (q < end_page)
+IsUser s = (q : ℕ) (c : Cell) → map.get s q ≡ Some c → IsUserPage q
 
 -- No page of the range has a cell.
 abbrev pub IsFree : Space → ℕ → ℕ → Type 0

@@ -1,10 +1,10 @@
 -- Laws of loads, stores and forks.
-use Rattle.std.specs.Prelude.{ℕ, ◌≡◌, ◌*◌, ◌%◌, ◌^◌, ◌<◌, Some, None, IsSome, IsTrue, IsFalse}
+use Rattle.std.specs.Prelude.{ℕ, ◌≡◌, ◌%◌, Some, None, IsSome, IsTrue, IsFalse}
 use Rattle.std.specs.FinSet as set
 use Rattle.vm_types.specs.declared.call.Kind.TheVariants.{Shared, Private}
 use Rattle.vm_types.specs.declared.call.Reply.TheVariants.{Word, Done}
 use Rattle.vm_types.specs.Prot.{can_read}
-use Rattle.flat_model.specs.Words.{page, IsSize}
+use Rattle.flat_model.specs.Words.{page, IsWordSize, FitsWord}
 use Rattle.flat_model.specs.Flat.{Cell, Flat, IsFlat, space_of, cell_at, shown}
 use Rattle.flat_model.specs.Access.{load, store}
 use Rattle.flat_model.specs.Processes.{fork}
@@ -17,8 +17,8 @@ pub record ShowSamePage (c d : Cell) : Type 0 where
 
 -- What is stored is loaded again: by the same process at the same address where the cell may be read, and after a shared store through every cell of every process that shows the same page and may be read. Where a private copy covers the page, a shared store changes no load.
 pub record StoreThenLoad : Type 0 where
-  pub same_place : (F : Flat) (p a n v : ℕ) (c : Cell) → IsFlat F → IsSize n → v < 2 ^ (8 * n) → (store F p a n v).reply ≡ Done → cell_at F p (page a) ≡ Some c → IsTrue (can_read c.prot) → (load (store F p a n v).after p a n).reply ≡ Word v
-  pub same_page : (F : Flat) (p q a b n v : ℕ) (c d : Cell) → IsFlat F → IsSize n → v < 2 ^ (8 * n) → (store F p a n v).reply ≡ Done → cell_at F p (page a) ≡ Some c → c.kind ≡ Shared → cell_at F q (page b) ≡ Some d → ShowSamePage c d → b % 4096 ≡ a % 4096 → IsTrue (can_read d.prot) → (load (store F p a n v).after q b n).reply ≡ Word v
+  pub same_place : (F : Flat) (p a n v : ℕ) (c : Cell) → IsFlat F → IsWordSize n → FitsWord n v → (store F p a n v).reply ≡ Done → cell_at F p (page a) ≡ Some c → IsTrue (can_read c.prot) → (load (store F p a n v).after p a n).reply ≡ Word v
+  pub same_page : (F : Flat) (p q a b n v : ℕ) (c d : Cell) → IsFlat F → IsWordSize n → FitsWord n v → (store F p a n v).reply ≡ Done → cell_at F p (page a) ≡ Some c → c.kind ≡ Shared → cell_at F q (page b) ≡ Some d → ShowSamePage c d → b % 4096 ≡ a % 4096 → IsTrue (can_read d.prot) → (load (store F p a n v).after q b n).reply ≡ Word v
   pub private_copy : (F : Flat) (p q a b n m v : ℕ) (c d : Cell) → cell_at F p (page a) ≡ Some c → c.kind ≡ Shared → cell_at F q (page b) ≡ Some d → IsSome d.own → (load (store F p a n v).after q b m).reply ≡ (load F q b m).reply
 
 -- Nothing changed but the cell of p at page q.

@@ -1,9 +1,8 @@
 -- How a history spells the lines of one block.
 use Rattle.std.specs.Prelude.{ℕ, ◌≡◌, ◌==◌, List, [], ◌∷◌, ◌++◌, length, filter, drop, All, MatchOption}
 use Rattle.vm_types.specs.declared.call.Call.{Call}
-use Rattle.vm_types.specs.declared.call.Call.TheVariants.{Write}
 use Rattle.vm_types.specs.declared.call.Entry.{Entry}
-use Rattle.vm_types.specs.Parts.{next_part}
+use Rattle.vm_types.specs.Parts.{next_part, part_bytes}
 
 -- A line of a block: its call, for a read or a write the first part, and the bytes of a write that follow the first part.
 pub record PlanLine : Type 0 where
@@ -14,15 +13,10 @@ pub record PlanLine : Type 0 where
 abbrev pub entries_of : List Entry → ℕ → List Entry
 entries_of H p = filter (λ e. e.process == p) H
 
--- How many bytes a part writes.
-abbrev pub written_by : Call → ℕ
-written_by (Write file offset line rest) = length line
-written_by call = 0
-
 -- The entries are one with this call and then one for each next part, to the end of the call.
 abbrev pub Spells : Call → List ℕ → List Entry → Type 0
 Spells call bytes [] = ⊥
-Spells call bytes (e ∷ es) = (e.call ≡ call) × MatchOption (next_part call e.reply bytes) (es ≡ []) (λ next. Spells next (drop (written_by next) bytes) es)
+Spells call bytes (e ∷ es) = (e.call ≡ call) × MatchOption (next_part call e.reply bytes) (es ≡ []) (λ next. Spells next (drop (length (part_bytes next)) bytes) es)
 
 -- The entries are the spellings of the lines, one behind the other.
 abbrev pub SpellsAll : List PlanLine → List Entry → Type 0
