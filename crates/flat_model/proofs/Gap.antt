@@ -9,24 +9,8 @@ use Rattle.std.specs.FinMap as finite
 use Rattle.std.proofs.lemmas.Bool.{cases_lt, cases_eq, ltb-true, leb-true, eqb-true, eq-eqb, leb-false}
 use Rattle.flat_model.specs.Flat.{Cell, Space}
 use Rattle.flat_model.specs.Space.{end_page, gap_from, lowest_gap}
+use Rattle.flat_model.proofs.Entries.{Above, StartsAt, find_rest, find_below, first_found, rising}
 use Rattle.flat_model.specs.SpaceLaws.{IsUser, IsFree, LowestGap}
-
--- the keys rise, from a on
-abbrev pub Above : ℕ → List (ℕ × Cell) → Type 0
-Above a [] = Unit {0}
-Above a (e ∷ es) = (a ≤ e.0) × Above (e.0 + 1) es
-
-eqb-apart : (q k : ℕ) → (q ≡ k → ⊥) → eqb q k ≡ false
-eqb-apart q k apart = elim (eqb q k) as (λ b. eqb q k ≡ b → b ≡ false) [ true ↦ λ is. absurd (apart (eqb-true q k is)) | false ↦ λ is. refl ] refl
-
--- a key that isn't the first is looked for in the rest
-find_rest : (q : ℕ) (e : ℕ × Cell) (es : List (ℕ × Cell)) → (q ≡ e.0 → ⊥) → finite.find nat_cmp q (e ∷ es) ≡ finite.find nat_cmp q es
-find_rest q e es apart = rw (unsigned_tied, eqb-apart q e.0 apart) refl
-
--- below the keys nothing is found
-find_below : (q a : ℕ) (es : List (ℕ × Cell)) → q < a → Above a es → finite.find nat_cmp q es ≡ None
-find_below q a [] lt above = refl
-find_below q a (e ∷ es) lt above = find_rest q e es (λ is. omega (arith, above.0)) ∙ find_below q (e.0 + 1) es (omega (arith, above.0)) above.1
 
 test_some : (t : Bool) (a b : ℕ) (r : Option ℕ) → cond t (Some a) r ≡ Some b → ((t ≡ true) × (a ≡ b)) ⊎ ((t ≡ false) × (r ≡ Some b))
 test_some true a b r is = inl (refl, cc)
@@ -82,32 +66,6 @@ gap_none a n c (e ∷ es) above is low fits =
       | inl past ↦ let r = gap_none (e.0 + 1) n c es above.1 h.1 (omega arith) fits in (r.0, r.1, r.2, r.3, find_rest r.0 e es (λ same. omega (arith, r.1)) ∙ r.4)
       | inr le ↦ (e.0, le, omega (arith, leb-false (a + n) e.0 h.0), e.1, rw (unsigned_tied, eq-eqb e.0 e.0 refl) refl)
     ]
-
-less_is : (x y : ℕ) → T (is_lt (nat_cmp x y)) → x < y
-less_is x y h = elim (nat_lt x y) as (λ b. nat_lt x y ≡ b → T (is_lt (cond b Less (cond (eqb x y) Equal Greater))) → x < y) [
-  | true ↦ λ is h. ltb-true x y is
-  | false ↦ λ is h. absurd (elim (eqb x y) as (λ b. T (is_lt (cond b Equal Greater)) → ⊥) [ true ↦ λ h. h | false ↦ λ h. h ] h)
-] refl h
-
-both_hold : (a b : Bool) → T (a && b) → (T a) × (T b)
-both_hold true b h = (tt, h)
-both_hold false b h = absurd h
-
--- the first key is not below a
-abbrev pub StartsAt : ℕ → List (ℕ × Cell) → Type 0
-StartsAt a [] = Unit {0}
-StartsAt a (e ∷ es) = a ≤ e.0
-
-starts_above : (x : ℕ) (es : List (ℕ × Cell)) → T (below_all nat_cmp x es) → StartsAt (x + 1) es
-starts_above x [] h = tt
-starts_above x (e ∷ es) h = let lt = less_is x e.0 (both_hold _ _ h).0 in omega arith
-
-rising : (a : ℕ) (es : List (ℕ × Cell)) → T (is_sorted nat_cmp es) → StartsAt a es → Above a es
-rising a [] sorted start = tt
-rising a (e ∷ es) sorted start = let h = both_hold _ _ sorted in (start, rising (e.0 + 1) es h.1 (starts_above e.0 es h.0))
-
-first_found : (e : ℕ × Cell) (es : List (ℕ × Cell)) → finite.find nat_cmp e.0 (e ∷ es) ≡ Some e.1
-first_found e es = rw (unsigned_tied, eq-eqb e.0 e.0 refl) refl
 
 abbrev Keys : List (ℕ × Cell) → Type 0
 Keys es = (q : ℕ) (c : Cell) → finite.find nat_cmp q es ≡ Some c → (1 ≤ q) × (q < end_page)

@@ -6,3 +6,5 @@ pub mod Stores
 pub mod Forks
 pub mod Quiet
 pub mod Histories
+pub mod Entries
+pub mod Named

@@ -1,6 +1,7 @@
 -- What flat memory is made of, and what a cell shows.
-use Rattle.std.specs.Prelude.{ℕ, ◌≡◌, ◌+◌, Bool, List, length, Option, Some, None, IsSome, option_map, option_and_then, slice_get, sum_by, filter_map, flat_map, All, IsTrue}
+use Rattle.std.specs.Prelude.{ℕ, ◌≡◌, ◌==◌, ◌+◌, Bool, List, length, Option, Some, None, IsSome, option_map, option_and_then, slice_get, sum_by, filter_map, flat_map, All, IsTrue}
 use Rattle.std.specs.Option.{option_or}
+use Rattle.std.specs.List.{list_any}
 use Rattle.std.specs.Ordering.{nat_cmp}
 use Rattle.std.specs.FinMap as map
 use Rattle.std.specs.FinSet as set
@@ -62,13 +63,17 @@ shown F c = option_or c.own (option_and_then (λ pages. slice_get pages c.index)
 abbrev pub zero_of : Cell → Option ℕ
 zero_of c = elim c.object [ object.Zero z ↦ Some z | object.File f ↦ None | object.NewZero ↦ None ]
 
--- The zero objects that some cell of some process names.
-abbrev pub named : Flat → set.FinSet nat_cmp
-named F = set.from_list (flat_map (λ space. filter_map zero_of (map.values space)) (map.values F.spaces))
+-- The numbers of the zero objects that cells name, one for each cell that names one.
+abbrev pub named : Flat → List ℕ
+named F = flat_map (λ space. filter_map zero_of (map.values space)) (map.values F.spaces)
+
+-- Some cell of some process names the zero object.
+abbrev pub is_named : Flat → ℕ → Bool
+is_named F z = list_any (λ y. z == y) (named F)
 
 -- A zero object that no cell names is gone.
 abbrev pub swept : Flat → Flat
-swept F = record F { zeros = map.retain_keys F.zeros (set.contains (named F)) }
+swept F = record F { zeros = map.retain_keys F.zeros (is_named F) }
 
 -- What a cell reserves: a private one a slot, a shared one none.
 abbrev pub slots_for : Cell → ℕ

@@ -5,6 +5,7 @@ pub mod Access
 pub mod Space
 pub mod SpaceLaws
 pub mod StoreLaws
+pub mod NamedLaws
 pub mod HistoryLaws
 pub mod Mapping
 pub mod Parts

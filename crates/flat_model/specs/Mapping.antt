@@ -2,7 +2,7 @@
 use Rattle.std.specs.Prelude.{ℕ, ◌+◌, ◌*◌, ◌/◌, ◌%◌, ◌==◌, Bool, true, false, not, ◌&&◌, ◌||◌, List, [], ◌∷◌, replicate, Option, Some, None, is_some, Result, Ok, ok_or, slice_get, nat_le, unwrap_or, if◌then◌else◌}
 use Rattle.std.specs.Option.{option_map_or}
 use Rattle.std.specs.FinMap as map
-use Rattle.std.specs.FinSet as set
+use Rattle.std.specs.Ordering.{nat_cmp}
 use Rattle.vm_types.specs.declared.prot.Prot.{Prot}
 use Rattle.vm_types.specs.declared.call.Kind.{Kind}
 use Rattle.vm_types.specs.declared.call.Kind.TheVariants.{Shared, Private}
@@ -79,9 +79,14 @@ abbrev pub least_from : ℕ → List ℕ → ℕ
 least_from k [] = k
 least_from k (z ∷ zs) = if z == k then least_from (k + 1) zs else k
 
+-- Numbers as a set.
+abbrev pub set_of : List ℕ → map.FinMap nat_cmp (Unit {0})
+set_of [] = map.empty
+set_of (z ∷ zs) = map.insert (set_of zs) z tt
+
 -- The number of a new zero object: the least that no cell names.
 abbrev pub new_number : Flat → ℕ
-new_number G = least_from 0 (set.items (named G))
+new_number G = least_from 0 (map.keys (set_of (named G)))
 
 -- The object that the cells of a new mapping name: shared new zero memory makes a zero object.
 abbrev pub object_for : Flat → Kind → Object → Object
