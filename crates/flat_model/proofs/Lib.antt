@@ -8,3 +8,4 @@ pub mod Quiet
 pub mod Histories
 pub mod Entries
 pub mod Named
+pub mod Mappings

@@ -6,6 +6,7 @@ pub mod Space
 pub mod SpaceLaws
 pub mod StoreLaws
 pub mod NamedLaws
+pub mod MapLaws
 pub mod HistoryLaws
 pub mod Mapping
 pub mod Parts
