@@ -9,3 +9,4 @@ pub mod Histories
 pub mod Entries
 pub mod Named
 pub mod Mappings
+pub mod Reserve

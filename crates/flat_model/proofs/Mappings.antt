@@ -1,6 +1,6 @@
 -- What a Map that isn't refused leaves.
-use Rattle.std.proofs.Common.{◌≡◌, ℕ, ◌+◌, ◌-◌, ◌≤◌, ◌<◌, Bool, true, false, cond, not, Option, Some, None, Result, Ok, Err, refl, sym, ap, subst, ◌∙◌, leb}
-use Rattle.std.specs.Prelude.{nat_le, ok_or, option_and_then, unwrap_or, IsTrue, IsSome, if◌then◌else◌}
+use Rattle.std.proofs.Common.{◌≡◌, ℕ, ◌+◌, ◌-◌, Bool, true, false, cond, Option, Some, None, Result, Ok, refl, sym, ap, subst, ◌∙◌}
+use Rattle.std.specs.Prelude.{nat_le, ok_or, option_and_then, unwrap_or}
 use Rattle.std.specs.FinMap as map
 use Rattle.std.proofs.lemmas.Bool.{leb-true}
 use Rattle.vm_types.specs.declared.call.Errno.{Errno}
@@ -17,9 +17,9 @@ use Rattle.flat_model.specs.Flat.{Cell, Flat, Space, space_of, cell_at, reserved
 use Rattle.flat_model.specs.Refusals.{◌>>=◌, ◌>>◌, need}
 use Rattle.flat_model.specs.Access.{with_space}
 use Rattle.flat_model.specs.Space.{in_range, without, with_cells, lowest_gap}
-use Rattle.flat_model.specs.Mapping.{Request, cells_of, is_valid, is_there, max_of, cleared_for, first_page, new_cell, with_object, mapped_at, mapped, unmapped}
+use Rattle.flat_model.specs.Mapping.{Request, cells_of, is_valid, is_there, max_of, cleared_for, first_page, new_cell, with_object, mapped_at, mapped}
 use Rattle.flat_model.specs.MapLaws.{MapsRange, MapThenUnmap}
-use Rattle.flat_model.proofs.Ranges.{same_space, get-insert_here, get-insert_apart, get-with_cells, get-without, get-replaced, with_cells-without, without-with_cells}
+use Rattle.flat_model.proofs.Ranges.{get-insert_here, get-insert_apart, get-with_cells, with_cells-without, without-with_cells}
 
 -- what a Map that isn't refused passed
 pub record Mapped (F : Flat) (p : ℕ) (r : Request) (first : ℕ) (G : Flat) : Type 0 where

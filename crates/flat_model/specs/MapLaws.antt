@@ -1,14 +1,14 @@
 -- Laws of mapping, unmapping and reservation.
-use Rattle.std.specs.Prelude.{ℕ, ◌≡◌, ◌+◌, ◌-◌, ◌≤◌, ◌⊎◌, Some, None, Ok, IsSome, IsTrue, IsFalse, replicate, length, sum_by, not, if◌then◌else◌}
+use Rattle.std.specs.Prelude.{ℕ, ◌≡◌, ◌+◌, ◌-◌, ◌≤◌, Some, Ok, IsSome, IsTrue, IsFalse, length, sum_by, not, if◌then◌else◌}
 use Rattle.std.specs.FinMap as map
 use Rattle.std.specs.FinSet as set
 use Rattle.vm_types.specs.declared.call.Kind.TheVariants.{Shared, Private}
-use Rattle.vm_types.specs.declared.call.Object.TheVariants.{File, NewZero, Zero}
+use Rattle.vm_types.specs.declared.call.Object.TheVariants.{NewZero, Zero}
 use Rattle.vm_types.specs.declared.call.Place.TheVariants.{At, Any}
-use Rattle.flat_model.specs.Words.{page, pages_in, zero_page}
-use Rattle.flat_model.specs.Flat.{Cell, Flat, IsFlat, space_of, cell_at, slots_for, private_cells, is_named, swept, reserved}
+use Rattle.flat_model.specs.Words.{page, pages_in}
+use Rattle.flat_model.specs.Flat.{Flat, IsFlat, space_of, cell_at, private_cells, is_named, swept, reserved}
 use Rattle.flat_model.specs.Space.{in_range, without, lowest_gap}
-use Rattle.flat_model.specs.Mapping.{Request, cells_of, cleared_for, new_cell, new_number, mapped, unmapped}
+use Rattle.flat_model.specs.Mapping.{Request, cells_of, cleared_for, new_cell, mapped, unmapped}
 use Rattle.flat_model.specs.Processes.{forked}
 
 -- A Map that isn't refused begins where it was asked to, or else at the lowest gap; then each page of its range has the new cell, each other page the cell that it had, and no other process's space changed; no more is reserved than there are slots; and an Unmap of the range leaves the space without it.

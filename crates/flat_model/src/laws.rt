@@ -1,4 +1,6 @@
 //! The laws of the definitions. Each function does nothing: its contract is the law.
+ghost use Rattle.flat_model.specs.MapLaws.{MapThenUnmap, Reservation};
+ghost use Rattle.flat_model.specs.NamedLaws.{ZeroObjects};
 ghost use Rattle.flat_model.specs.SpaceLaws.{LowestGap, RangesOfCells};
 ghost use Rattle.flat_model.specs.HistoryLaws.{Quiet, OneMore};
 ghost use Rattle.flat_model.specs.StoreLaws.{StoreThenLoad, PrivateStore, ForkThenStore};
@@ -43,4 +45,22 @@ pub fn quiet_law()
 #[tactic(auto, using(crate::proofs::Histories::one_more_law))]
 pub fn one_more_law()
     ensures { OneMore }
+{}
+
+/// What a Map that isn't refused leaves, and an Unmap of the same range after it.
+#[tactic(auto, using(crate::proofs::Mappings::map_then_unmap_law))]
+pub fn map_then_unmap_law()
+    ensures { MapThenUnmap }
+{}
+
+/// Which zero objects cells name, which stay, and the number of a new one.
+#[tactic(auto, using(crate::proofs::Named::zero_objects_law))]
+pub fn zero_objects_law()
+    ensures { ZeroObjects }
+{}
+
+/// What is reserved after a Map, an Unmap and a Fork.
+#[tactic(auto, using(crate::proofs::Reserve::reservation_law))]
+pub fn reservation_law()
+    ensures { Reservation }
 {}

@@ -4,6 +4,6 @@
 mod laws;
 
 pub use laws::{
-    fork_law, lowest_gap_law, one_more_law, private_store_law, quiet_law, ranges_law,
-    store_then_load_law,
+    fork_law, lowest_gap_law, map_then_unmap_law, one_more_law, private_store_law, quiet_law,
+    ranges_law, reservation_law, store_then_load_law, zero_objects_law,
 };
