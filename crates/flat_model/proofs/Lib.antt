@@ -10,3 +10,4 @@ pub mod Entries
 pub mod Named
 pub mod Mappings
 pub mod Reserve
+pub mod Maps

@@ -16,3 +16,7 @@ pub mod History
 pub mod Counted
 pub mod Told
 pub mod FlatCode
+pub mod Cells
+pub mod Spaces
+pub mod State
+pub mod FlatState
