@@ -11,3 +11,4 @@ pub mod Named
 pub mod Mappings
 pub mod Reserve
 pub mod Maps
+pub mod FileBytes

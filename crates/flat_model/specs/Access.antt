@@ -10,7 +10,7 @@ use Rattle.vm_types.specs.declared.call.Signal.{Signal}
 use Rattle.vm_types.specs.declared.call.Signal.TheVariants as signal
 use Rattle.vm_types.specs.declared.call.Reply.TheVariants as reply
 use Rattle.vm_types.specs.Prot.{can_read, can_write}
-use Rattle.flat_model.specs.Words.{Page, page, word_at, bytes_of, with_bytes}
+use Rattle.flat_model.specs.Words.{Page, page, word_at, word_put}
 use Rattle.flat_model.specs.Flat.{Cell, File, Flat, Space, space_of, cell_at, shown}
 use Rattle.flat_model.specs.Refusals.{◌>>=◌, ◌>>◌, need, Outcome, or_signal, done}
 
@@ -60,4 +60,4 @@ written F p q c new = elim c.kind [ Shared ↦ with_page F c.object c.index new 
 
 -- A store answers the signal that is due, and else Done: the bytes are replaced in the page shown.
 abbrev pub store : Flat → ℕ → ℕ → ℕ → ℕ → Outcome
-store F p a n v = or_signal F (λ m. done (written F p (page a) m.0 (with_bytes m.1 (a % 4096) (bytes_of n v)))) (met F p can_write a n)
+store F p a n v = or_signal F (λ m. done (written F p (page a) m.0 (word_put m.1 a n v))) (met F p can_write a n)

@@ -7,6 +7,7 @@ pub mod SpaceLaws
 pub mod StoreLaws
 pub mod NamedLaws
 pub mod MapLaws
+pub mod PartLaws
 pub mod HistoryLaws
 pub mod Mapping
 pub mod Parts

@@ -26,3 +26,7 @@ word_at bytes a n = number_of (take n (drop (a % 4096) bytes))
 -- The list with these bytes from a place on, and else as it was.
 abbrev pub with_bytes : List ℕ → ℕ → List ℕ → List ℕ
 with_bytes old at bytes = take at old ++ bytes ++ drop (at + length bytes) old
+
+-- The page with a word of n bytes put at an address, and else as it was.
+abbrev pub word_put : Page → ℕ → ℕ → ℕ → Page
+word_put bytes a n v = with_bytes bytes (a % 4096) (bytes_of n v)

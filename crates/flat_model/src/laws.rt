@@ -1,6 +1,7 @@
 //! The laws of the definitions. Each function does nothing: its contract is the law.
 ghost use Rattle.flat_model.specs.MapLaws.{MapThenUnmap, Reservation};
 ghost use Rattle.flat_model.specs.NamedLaws.{ZeroObjects};
+ghost use Rattle.flat_model.specs.PartLaws.{FileBytes};
 ghost use Rattle.flat_model.specs.SpaceLaws.{LowestGap, RangesOfCells};
 ghost use Rattle.flat_model.specs.HistoryLaws.{Quiet, OneMore};
 ghost use Rattle.flat_model.specs.StoreLaws.{StoreThenLoad, PrivateStore, ForkThenStore};
@@ -63,4 +64,10 @@ pub fn zero_objects_law()
 #[tactic(auto, using(crate::proofs::Reserve::reservation_law))]
 pub fn reservation_law()
     ensures { Reservation }
+{}
+
+/// What bytes a written part leaves in its file, and that a tail is none of a file's bytes.
+#[tactic(auto, using(crate::proofs::FileBytes::file_bytes_law))]
+pub fn file_bytes_law()
+    ensures { FileBytes }
 {}
