@@ -35,3 +35,22 @@ below-front (x ∷ xs) d h = let r = below-front xs d h.1 in ((h.0, r.0), r.1)
 pub disks_in-more : (bays : List BaySeen) (numbers : List ℕ) (i : ℕ) → i < length numbers
     → disks_in bays (take (i + 1) numbers) ≡ disks_in bays (take i numbers) ++ (slice_index numbers i, disk_in (bay_at bays (slice_index numbers i))) ∷ []
 disks_in-more bays numbers i lt = ap (disks_in bays) (take_more numbers i 0 lt) ∙ map-append (λ (n : ℕ). (n, disk_in (bay_at bays n))) (take i numbers) (slice_index numbers i ∷ [])
+
+-- one more disk is taken out of its bay
+pub collect-got : {D : Type 0} (seen : D → DiskSeen) (room : List (ℕ × D)) (disk : D) (old now : List BaySeen) (numbers : List ℕ) (i n : ℕ) → i < length numbers → n ≡ slice_index numbers i
+    → pairs_seen seen room ≡ disks_in old (take i numbers) → bay_at now n ≡ home (seen disk) → bay_at now (slice_index numbers i) ≡ home (disk_in (bay_at old (slice_index numbers i)))
+    → pairs_seen seen (room ++ (n, disk) ∷ []) ≡ disks_in old (take (i + 1) numbers)
+collect-got seen room disk old now numbers i n lt e got there was =
+    let d : home (seen disk) ≡ home (disk_in (bay_at old (slice_index numbers i))) = sym there ∙ ap (bay_at now) e ∙ was in
+    let f : seen disk ≡ disk_in (bay_at old (slice_index numbers i)) = ap (λ (b : BaySeen). disk_in b) d in
+    pairs-append seen room (n, disk)
+    ∙ ap (λ (l : List (ℕ × DiskSeen)). l ++ (n, seen disk) ∷ []) got
+    ∙ ap (λ (k : ℕ). disks_in old (take i numbers) ++ (k, seen disk) ∷ []) e
+    ∙ ap (λ (x : DiskSeen). disks_in old (take i numbers) ++ (slice_index numbers i, x) ∷ []) f
+    ∙ sym (disks_in-more old numbers i lt)
+
+pub collect-rest : (old now : List BaySeen) (numbers : List ℕ) (i n : ℕ) → AreNumbers numbers → i < length numbers → n ≡ slice_index numbers i
+    → ((j : ℕ) → i ≤ j → j < length numbers → bay_at now (slice_index numbers j) ≡ bay_at old (slice_index numbers j))
+    → (j : ℕ) → i + 1 ≤ j → j < length numbers → bay_at (set now n missing) (slice_index numbers j) ≡ bay_at old (slice_index numbers j)
+collect-rest old now numbers i n are lt e rest j le ltj =
+    get_or-set_other now n (slice_index numbers j) missing missing (λ q. let r : j ≡ i = are.apart j i ltj lt (q ∙ e) in omega (arith, r, le)) ∙ rest j (omega (arith, le)) ltj

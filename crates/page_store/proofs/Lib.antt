@@ -1,4 +1,5 @@
 pub mod BayLemmas
+pub mod GiveLemmas
 pub mod LayoutLemmas
 pub mod NewLemmas
 pub mod OneFrame

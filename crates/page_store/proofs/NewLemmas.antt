@@ -24,7 +24,7 @@ pub numbers-seen : {D : Type 0} (seen : D → DiskSeen) (xs : List (ℕ × D)) �
 numbers-seen seen [] = refl
 numbers-seen seen (x ∷ xs) = ap (λ (l : List ℕ). x.0 ∷ l) (numbers-seen seen xs)
 
-length-numbers : (xs : List (ℕ × DiskSeen)) → length (numbers_of xs) ≡ length xs
+pub length-numbers : (xs : List (ℕ × DiskSeen)) → length (numbers_of xs) ≡ length xs
 length-numbers [] = refl
 length-numbers (x ∷ xs) = ap suc (length-numbers xs)
 
@@ -56,7 +56,7 @@ placed-there (x ∷ xs) bays (suc i) d nine are lt =
         let r : suc i ≡ 0 = are.apart (suc i) 0 (omega (arith, within, long)) (omega arith) (number-at xs i d within ∙ q) in omega (arith, r) in
     get_or-set_other (placed xs bays) x.0 (get_or xs i d).0 (home x.1) missing far ∙ placed-there xs bays i d nine (tail-numbers x.0 (numbers_of xs) are) within
 
-none-missing : (n k : ℕ) → bay_at (replicate n missing) k ≡ missing
+pub none-missing : (n k : ℕ) → bay_at (replicate n missing) k ≡ missing
 none-missing zero k = refl
 none-missing (suc n) zero = refl
 none-missing (suc n) (suc k) = none-missing n k
@@ -99,13 +99,14 @@ in-range a (suc n) k low high = elim (cases_eq a k) [
 ]
 
 new-frame : IsFrame (Some zeros) None clear_row
-new-frame = record { size = λ b e. let q : zeros ≡ b = cc in ap (λ (l : List ℕ). length l) (sym q) ∙ length-replicate 4096 0; away = refl; gone = refl }
+new-frame = record { size = λ b e. let q : zeros ≡ b = cc in ap (λ (l : List ℕ). length l) (sym q) ∙ length-replicate {A = ℕ} 4096 0; away = refl; gone = refl }
 
 pub sound-new : (origin n : ℕ) (bays : List BaySeen) (order : List ℕ) → n < 2 ^ 32 → length bays ≡ 9 → IsOrder bays order → AreDistinct (replicate n None) → AreApart (record { frames = n; free = range_with_len 0 n; cached = [] })
     → IsSound (store_of (record { origin = origin; frames = replicate n (Some zeros) }) (replicate n None) (record { frames = n; free = range_with_len 0 n; cached = [] }) (replicate n clear_row) (fresh n (n / 2)) bays order)
 sound-new origin n bays order few nine is distinct apart =
     let long : length (replicate n (Some zeros)) ≡ n = length-replicate n (Some zeros) in
-    let named : length (replicate n (None {A = PageName})) ≡ n = length-replicate n None in
+    let none : Option PageName = None in
+    let named : length (replicate n none) ≡ n = length-replicate n none in
     let rowed : length (replicate n clear_row) ≡ n = length-replicate n clear_row in
     record {
       few = subst (λ (k : ℕ). k < 2 ^ 32) (sym long) few;
