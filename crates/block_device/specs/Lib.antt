@@ -1,0 +1,5 @@
+pub mod Counts
+pub mod DiskSeen
+pub mod OpenSeen
+pub mod RackSeen
+pub mod StreamSeen
