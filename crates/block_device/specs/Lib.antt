@@ -1,5 +1,6 @@
 pub mod Counts
 pub mod DiskSeen
 pub mod OpenSeen
+pub mod Opening
 pub mod RackSeen
 pub mod StreamSeen

@@ -6,9 +6,11 @@ mod open_fault;
 mod path_text;
 mod rack;
 mod stream;
+mod unopened;
 
 pub use disk::{Disk, Failed};
 pub use open_fault::OpenFault;
 pub use path_text::PathText;
 pub use rack::{Rack, RackFault, Spec};
 pub use stream::{Sink, Source};
+pub use unopened::{AttachFault, Unopened};

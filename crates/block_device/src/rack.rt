@@ -1,6 +1,6 @@
 //! Racks, which attach disks.
 ghost use Rattle.std.specs.Prelude.{◌≡◌};
-ghost use Rattle.block_device.specs.RackSeen.{RackSeen, Attaches};
+ghost use Rattle.block_device.specs.RackSeen.{RackSeen, Attaches, number_of};
 
 use crate::{Disk, PathText};
 use thiserror::Error;
@@ -12,6 +12,18 @@ pub enum Spec {
     Blank { number: u32, blocks: u32 },
     /// The disk that is kept under a path.
     Path { number: u32, path: PathText },
+}
+
+impl Spec {
+    /// The number of the disk.
+    pub fn number(&self) -> u32
+        ensures { result ≡ number_of self.now }
+    {
+        match self {
+            Spec::Blank { number, .. } => *number,
+            Spec::Path { number, .. } => *number,
+        }
+    }
 }
 
 /// Why no disk was attached.
