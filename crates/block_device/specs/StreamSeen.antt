@@ -43,3 +43,11 @@ pub record WritesNext {E : Type 0} (old new : SinkSeen) (from : List ℕ) (resul
   pub bytes : IfOk result (Appends old new from)
   pub kept : OnErr result (new.written ≡ old.written)
   pub cause : HasCause old.faults new.faults result
+
+-- At most so many bytes were taken from a source, in order.
+abbrev pub TookSome : Option (List ℕ) → Option (List ℕ) → ℕ → Type 0
+TookSome before after most = (bytes : List ℕ) × (length bytes ≤ most) × Came before bytes after
+
+-- A front of the text was appended, and not all of it.
+abbrev pub AppendedPart : Option (List ℕ) → Option (List ℕ) → List ℕ → Type 0
+AppendedPart before after text = (count : ℕ) × (count < length text) × (after ≡ appended before (take count text))
