@@ -1,9 +1,10 @@
 -- Lists of blocks.
 use Rattle.std.proofs.Common.{ℕ, zero, suc, ◌+◌, ◌-◌, ◌≡◌, ◌<◌, ◌≤◌, ◌⊎◌, inl, inr, List, [], ◌∷◌, ◌++◌, length, length-append, length-drop, take, drop, set, get_or, map, replicate, Some, refl, ap, sym, ◌∙◌, arith, subst}
-use Rattle.std.proofs.lemmas.List.{length-take, get_or-take, get_or-drop, get_or_append_left, get_or-append_right, map-set, get_or-map}
+use Rattle.std.proofs.lemmas.List.{length-take, length-map, length-set, get_or-take, get_or-drop, get_or_append_left, get_or-append_right, map-set, get_or-map}
 use Rattle.std.proofs.lemmas.Bool.{cases_lt}
 use Rattle.block_device.specs.DiskSeen.{IsBlock, Spoils}
-use Rattle.block_device.specs.MemSeen.{torn}
+use Rattle.std.specs.Prelude.{Bool, if◌then◌else◌}
+use Rattle.block_device.specs.MemSeen.{CallsSeen, MemDiskSeen, torn, counted, after_call, after_write}
 use Rattle.block_device.specs.MemDiskLook.{bytes_of}
 use Rattle.block_device.specs.declared.block.Block.{Block}
 
@@ -35,3 +36,24 @@ bytes_of-set blocks at block bytes is = map-set (λ b. b.bytes) blocks at block 
 -- One block was replaced by some other one.
 pub spoils : (blocks : List Block) (at : ℕ) (block : Block) → Spoils (Some (bytes_of blocks)) (Some (bytes_of (set blocks at block))) at
 spoils blocks at block = (block.bytes, block.full, ap (λ (all : List (List ℕ)). Some all) (bytes_of-set blocks at block block.bytes refl))
+
+-- As many blocks are there.
+pub size_kept : (blocks : List Block) (at : ℕ) (block : Block) → length (bytes_of (set blocks at block)) ≡ length (bytes_of blocks)
+size_kept blocks at block = length-map (set blocks at block) (λ (b : Block). b.bytes) ∙ length-set blocks at block ∙ sym (length-map blocks (λ (b : Block). b.bytes))
+
+-- the bytes of the block there
+pub bytes_at : (blocks : List Block) (at : ℕ) (block : Block) → at < length (bytes_of blocks) → block ≡ get_or blocks at block → block.bytes ≡ get_or (bytes_of blocks) at []
+bytes_at blocks at block inside is =
+    let within : at < length blocks = omega (arith, inside, length-map blocks (λ (b : Block). b.bytes)) in
+    ap (λ (b : Block). b.bytes) is ∙ sym (get_or-map (λ (b : Block). b.bytes) blocks at block [] within)
+
+-- a memory disk of these parts
+abbrev pub disk_with : List (List ℕ) → CallsSeen → ℕ → ℕ → MemDiskSeen
+disk_with blocks calls reads writes = record { blocks = blocks; calls = calls; reads = reads; writes = writes }
+
+-- What was written and counted is what `after_write` says.
+pub written_as : (d : MemDiskSeen) (failed fails : Bool) (at : ℕ) (from put : List ℕ) (blocks : List (List ℕ)) (calls : CallsSeen) (writes : ℕ) → blocks ≡ set d.blocks at put → put ≡ (if failed then torn (get_or d.blocks at []) from else from) → calls ≡ after_call d.calls fails → fails ≡ failed → writes ≡ counted d.writes → disk_with blocks calls d.reads writes ≡ after_write d failed at from
+written_as d failed fails at from put blocks calls writes b p c f w =
+    ap (λ (all : List (List ℕ)). disk_with all calls d.reads writes) (b ∙ ap (set d.blocks at) p)
+    ∙ ap (λ (c : CallsSeen). disk_with (set d.blocks at (if failed then torn (get_or d.blocks at []) from else from)) c d.reads writes) (c ∙ ap (after_call d.calls) f)
+    ∙ ap (disk_with (set d.blocks at (if failed then torn (get_or d.blocks at []) from else from)) (after_call d.calls failed) d.reads) w

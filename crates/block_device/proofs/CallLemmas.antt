@@ -8,14 +8,14 @@ pub calls_risen : (old new : CallsSeen) (failed : Bool) → new ≡ after_call o
 calls_risen old new failed is = let calls : new.calls ≡ counted old.calls = ap (λ c. c.calls) is in omega (arith, calls)
 
 pub faults_risen : (old new : CallsSeen) (failed : Bool) → new ≡ after_call old failed → failed ≡ true → HasRisen old.faults new.faults
-faults_risen old new failed is yes =
-    let faults : new.faults ≡ counted old.faults = ap (λ c. c.faults) is ∙ ap (λ b. if b then counted old.faults else old.faults) yes in
+faults_risen old new failed is failing =
+    let faults : new.faults ≡ counted old.faults = ap (λ c. c.faults) is ∙ ap (λ b. if b then counted old.faults else old.faults) failing in
     omega (arith, faults)
 
 pub faults_later : (old new : CallsSeen) (failed : Bool) → new ≡ after_call old failed → failed ≡ true → old.faults ≤ new.faults
-faults_later old new failed is yes =
-    let faults : new.faults ≡ counted old.faults = ap (λ c. c.faults) is ∙ ap (λ b. if b then counted old.faults else old.faults) yes in
+faults_later old new failed is failing =
+    let faults : new.faults ≡ counted old.faults = ap (λ c. c.faults) is ∙ ap (λ b. if b then counted old.faults else old.faults) failing in
     omega (arith, faults)
 
 pub faults_same : (old new : CallsSeen) (failed : Bool) → new ≡ after_call old failed → failed ≡ false → new.faults ≡ old.faults
-faults_same old new failed is no = ap (λ c. c.faults) is ∙ ap (λ b. if b then counted old.faults else old.faults) no
+faults_same old new failed is passing = ap (λ c. c.faults) is ∙ ap (λ b. if b then counted old.faults else old.faults) passing

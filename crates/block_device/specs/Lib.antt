@@ -1,6 +1,7 @@
 pub mod Counts
 pub mod DiskSeen
 pub mod MemDiskLook
+pub mod MemRackSeen
 pub mod MemSeen
 pub mod OpenSeen
 pub mod Opening

@@ -71,3 +71,54 @@ after_write d failed block from = record {
   reads = d.reads;
   writes = counted d.writes;
 }
+
+-- a source in memory: what is still to come, how many bytes it gives at a time at most, and its calls
+pub record MemSourceSeen : Type 0 where
+  pub rest : List ℕ
+  pub most : ℕ
+  pub calls : CallsSeen
+
+-- A memory source tells what is still to come.
+abbrev pub source_of : MemSourceSeen → SourceSeen
+source_of s = record { rest = Some s.rest; faults = s.calls.faults }
+
+-- how many bytes a read into so many gives
+abbrev pub given_count : MemSourceSeen → ℕ → ℕ
+given_count s room = min (length s.rest) (min room s.most)
+
+-- A read into so many bytes was counted; one that failed took nothing.
+abbrev pub after_give : MemSourceSeen → Bool → ℕ → MemSourceSeen
+after_give s failed room = record {
+  rest = if failed then s.rest else drop (given_count s room) s.rest;
+  most = s.most;
+  calls = after_call s.calls failed;
+}
+
+-- a sink in memory: what it took, how many bytes it has room for, how many it takes at a time at most, and
+-- its calls
+pub record MemSinkSeen : Type 0 where
+  pub written : List ℕ
+  pub room : ℕ
+  pub most : ℕ
+  pub calls : CallsSeen
+
+-- A memory sink tells what it took.
+abbrev pub sink_of : MemSinkSeen → SinkSeen
+sink_of s = record { written = Some s.written; faults = s.calls.faults }
+
+-- how many bytes of a piece of so many it takes
+abbrev pub taken_count : MemSinkSeen → ℕ → ℕ
+taken_count s size = min size (min s.most (s.room - length s.written))
+
+-- Does the next write of so many bytes fail? It is listed, or no room is left for a byte.
+abbrev pub is_next_refused : MemSinkSeen → ℕ → Bool
+is_next_refused s size = is_next_listed s.calls || nat_lt 0 size && nat_le s.room (length s.written)
+
+-- A write was counted; one that failed took nothing.
+abbrev pub after_take : MemSinkSeen → Bool → List ℕ → MemSinkSeen
+after_take s failed from = record {
+  written = if failed then s.written else s.written ++ take (taken_count s (length from)) from;
+  room = s.room;
+  most = s.most;
+  calls = after_call s.calls failed;
+}

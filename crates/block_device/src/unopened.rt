@@ -1,5 +1,6 @@
 //! Disks before the machine runs.
-ghost use Rattle.std.specs.Prelude.{◌≡◌, ◌<◌, length, IfErr};
+ghost use Rattle.std.specs.Prelude.{◌≡◌, ◌<◌, length, IfErr, Some};
+ghost use Rattle.block_device.specs.Counts.{HasRisen};
 ghost use Rattle.block_device.specs.DiskSeen.{Reads, Writes};
 ghost use Rattle.block_device.specs.Opening.{Opens, IsDiskFault};
 
@@ -71,7 +72,7 @@ impl<D: Disk> Unopened<D> {
         let before = self.disk.faults();
         match self.disk.read(block, into) {
             Ok(()) => Ok(()),
-            Err(_) => Err(OpenFault::of_disk(self.number, before, self.disk.faults())),
+            Err(_) => Err(self.fault_since(before)),
         }
     }
 
@@ -86,8 +87,16 @@ impl<D: Disk> Unopened<D> {
         let before = self.disk.faults();
         match self.disk.write(block, from) {
             Ok(()) => Ok(()),
-            Err(_) => Err(OpenFault::of_disk(self.number, before, self.disk.faults())),
+            Err(_) => Err(self.fault_since(before)),
         }
+    }
+
+    // The fault of the transfer that failed since the count was this.
+    fn fault_since(&self, before: u64) -> OpenFault
+        requires { HasRisen before (D.seen self.now.disk).faults }
+        ensures { result ≡ record { disk = self.now.number; counts = Some (before, (D.seen self.now.disk).faults) } }
+    {
+        OpenFault::of_disk(self.number, before, self.disk.faults())
     }
 
     /// The disk as it is.
