@@ -135,11 +135,3 @@ fn an_unopened_disk_comes_from_a_rack_and_its_faults_have_counts(
     assert_eq!(rt; kept.as_slice(), b"v".as_slice());
     Ok(())
 }
-
-// The disk and the counts of a fault of the rack.
-fn faulted(fault: Option<AttachFault>) -> Option<(u32, Option<(u64, u64)>)> {
-    match fault {
-        Some(AttachFault::Failed(fault)) => Some((fault.disk(), fault.counts())),
-        _ => None,
-    }
-}
