@@ -7,7 +7,7 @@ use std::marker::Model;
 use thiserror::Error;
 
 /// A transfer of an unopened disk failed, or its rack did. Only `Unopened` makes one.
-#[derive(Clone, Copy, Debug, PartialEq, Eq, Drop, Error)]
+#[derive(Debug, PartialEq, Eq, Drop, Error)]
 #[error("disk {disk} failed before it was opened")]
 pub struct OpenFault {
     disk: u32,

@@ -1,7 +1,7 @@
 //! Each memory form through its calls, with listed failures.
 use crate::{
-    AttachFault, Block, Disk, MemDisk, MemRack, MemSink, MemSource, OpenFault, PathText, Rack,
-    RackFault, ReadFault, Sink, Source, Spec, Unopened, read_to_limit, write_all,
+    AttachFault, Block, Disk, MemDisk, MemRack, MemSink, MemSource, PathText, Rack, RackFault,
+    ReadFault, Sink, Source, Spec, Unopened, read_to_limit, write_all,
 };
 use std::test::Fail;
 use std::thread;
@@ -104,21 +104,24 @@ fn an_unopened_disk_comes_from_a_rack_and_its_faults_have_counts(
         number: 0,
         blocks: 4,
     };
-    assert_eq!(rt;
-        faulted(Unopened::attach(&mut rack, &blank).err()),
-        Some((0, None))
-    );
+    match Unopened::attach(&mut rack, &blank).err() {
+        Some(AttachFault::Failed(fault)) => {
+            assert_eq!(rt;
+                (fault.disk(), fault.counts()),
+                (0, None),
+                "call 1 is listed"
+            );
+        }
+        _ => assert!(rt; false, "call 1 is listed"),
+    }
     let mut disk = Unopened::attach(&mut rack, &blank)?;
     assert_eq!(rt; (disk.number(), disk.blocks()), (0, 4));
     assert_eq!(rt; disk.write(3, &[1; 4096]), Ok(()));
     let mut page = [0u8; 4096];
-    let fault = disk.read(3, &mut page).err();
-    assert_eq!(rt;
-        fault.map(|f: OpenFault| f.disk()),
-        Some(0),
-        "call 2 is listed"
-    );
-    assert_eq!(rt; fault.and_then(|f: OpenFault| f.counts()), Some((0, 1)));
+    match disk.read(3, &mut page).err() {
+        Some(fault) => assert_eq!(rt; (fault.disk(), fault.counts()), (0, Some((0, 1)))),
+        None => assert!(rt; false, "call 2 is listed"),
+    }
     let disk = disk.into_disk();
     assert_eq!(rt; (disk.reads(), disk.writes(), disk.faults()), (1, 1, 1));
     let path = PathText::new(rt.alloc(), b"volume")?;

@@ -9,7 +9,7 @@ use std::marker::Model;
 use thiserror::Error;
 
 /// Why no disk was opened.
-#[derive(Clone, Copy, Debug, PartialEq, Eq, Drop, Error)]
+#[derive(Debug, PartialEq, Eq, Drop, Error)]
 pub enum AttachFault {
     /// The rack failed, and has counted a fault.
     #[error("{0}")]
