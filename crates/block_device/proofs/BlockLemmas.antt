@@ -1,5 +1,5 @@
 -- Lists of blocks.
-use Rattle.std.proofs.Common.{ℕ, zero, suc, ◌+◌, ◌-◌, ◌≡◌, ◌<◌, ◌≤◌, ◌⊎◌, inl, inr, List, [], ◌∷◌, ◌++◌, length, length-append, length-drop, take, drop, set, get_or, map, replicate, Some, refl, ap, sym, ◌∙◌, arith, subst}
+use Rattle.std.proofs.Common.{ℕ, ◌+◌, ◌-◌, ◌≡◌, ◌<◌, inl, inr, List, [], length, length-append, length-drop, take, drop, set, get_or, Some, refl, ap, sym, ◌∙◌, arith}
 use Rattle.std.proofs.lemmas.List.{length-take, length-map, length-set, get_or-take, get_or-drop, get_or_append_left, get_or-append_right, map-set, get_or-map}
 use Rattle.std.proofs.lemmas.Bool.{cases_lt}
 use Rattle.block_device.specs.DiskSeen.{IsBlock, Spoils}

@@ -1,5 +1,5 @@
 -- Counted calls.
-use Rattle.std.proofs.Common.{ℕ, ◌≡◌, ◌≤◌, Bool, true, false, ap, ◌∙◌, arith}
+use Rattle.std.proofs.Common.{◌≡◌, ◌≤◌, Bool, true, false, ap, ◌∙◌, arith}
 use Rattle.std.specs.Prelude.{if◌then◌else◌}
 use Rattle.block_device.specs.Counts.{HasRisen}
 use Rattle.block_device.specs.MemSeen.{CallsSeen, counted, after_call}

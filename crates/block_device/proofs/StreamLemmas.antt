@@ -1,9 +1,8 @@
 -- Pieces of texts.
 use Rattle.std.proofs.Common.{◌≡◌, ℕ, ◌+◌, ◌-◌, ◌<◌, ◌≤◌, length, length-append, length-drop, arith, List, [], ◌++◌, take, drop, Option, Some, None, refl, ap, sym, ◌∙◌, append_assoc, subst}
-use Rattle.std.specs.Prelude.{option_map, IfSome, Result, Ok, Err, OnErr}
+use Rattle.std.specs.Prelude.{option_map, Result, Ok, Err, OnErr}
 use Rattle.std.proofs.Math.Seq.{take-add, take-length}
-use Rattle.std.proofs.Math.ListN.{drop_of_length-le}
-use Rattle.std.proofs.lemmas.List.{take_at, take-append-drop, take-append-le, length-take, drop-drop}
+use Rattle.std.proofs.lemmas.List.{take-append-le, length-take}
 use Rattle.block_device.specs.StreamSeen.{SourceSeen, Came, Gives, TookSome, appended}
 
 -- One piece and the next are one piece.

@@ -1,5 +1,5 @@
 -- What contracts see of a memory disk.
-use Rattle.std.specs.Prelude.{ℕ, zero, suc, ◌≡◌, ◌<◌, List, [], ◌∷◌, length, map, slice_index_or, refl}
+use Rattle.std.specs.Prelude.{ℕ, zero, suc, List, [], ◌∷◌, map, refl}
 use Rattle.std.proofs.Math.Nat.{not-suc-le-zero, le_of_suc-le-suc}
 use Rattle.block_device.specs.DiskSeen.{AreBlocks, HasBlocks}
 use Rattle.block_device.specs.MemSeen.{MemDiskSeen, disk_of}

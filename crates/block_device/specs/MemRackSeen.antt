@@ -1,5 +1,5 @@
 -- What contracts see of a rack in memory, and what attaching does.
-use Rattle.std.specs.Prelude.{ℕ, List, [], None, Bool, true, false, ◌||◌, slice_index_or}
+use Rattle.std.specs.Prelude.{ℕ, List, [], None, Bool, true, slice_index_or}
 use Rattle.block_device.specs.MemSeen.{CallsSeen, MemDiskSeen, is_next_listed, after_call, fresh_disk, blank}
 use Rattle.block_device.specs.RackSeen.{RackSeen}
 use Rattle.block_device.specs.declared.rack.Spec.{Spec}

@@ -1,9 +1,8 @@
 -- What contracts see of the memory forms, and what their calls do to them.
-use Rattle.std.specs.Prelude.{ℕ, ◌+◌, ◌-◌, ◌^◌, ◌≡◌, ◌<◌, ◌≤◌, min, max, Bool, true, false, ◌||◌, ◌&&◌, nat_eq, nat_lt, nat_le, List, [], ◌++◌, length, take, drop, replicate, slice_set, slice_index_or, Option, Some, None, Result, Ok, Err, if◌then◌else◌}
+use Rattle.std.specs.Prelude.{ℕ, ◌+◌, ◌-◌, ◌^◌, min, max, Bool, ◌||◌, ◌&&◌, nat_eq, nat_lt, nat_le, List, [], ◌++◌, length, take, drop, replicate, slice_set, slice_index_or, Some, if◌then◌else◌}
 use Rattle.std.specs.List.{list_any}
 use Rattle.block_device.specs.DiskSeen.{DiskSeen}
 use Rattle.block_device.specs.StreamSeen.{SourceSeen, SinkSeen}
-use Rattle.block_device.specs.declared.disk.Failed.{Failed}
 
 -- The numbers of the calls that are to fail, how many calls there were, and how many of them failed.
 pub record CallsSeen : Type 0 where

@@ -1,4 +1,4 @@
-use Rattle.std.proofs.Common.{◌≡◌, ◌≤◌, ◌-◌, ◌+◌, vec_len}
+use Rattle.std.proofs.Common.{◌≤◌, ◌-◌, vec_len}
 use Rattle.block_device.specs.StreamSeen.{Came}
 use Rattle.block_device.proofs.reading.read_to_limit.Given as goal
 

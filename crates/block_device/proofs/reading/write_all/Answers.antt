@@ -1,4 +1,4 @@
-use Rattle.std.proofs.Common.{◌≡◌, ◌-◌, ◌∙◌, sym, ap, length, take, drop, arith, length-drop}
+use Rattle.std.proofs.Common.{◌∙◌, ap, length, take, arith, length-drop}
 use Rattle.block_device.specs.StreamSeen.{appended}
 use Rattle.block_device.proofs.StreamLemmas.{front_goes_on, tail-is}
 use Rattle.block_device.proofs.reading.write_all.Goals as goal

@@ -1,4 +1,4 @@
-use Rattle.std.proofs.Common.{rules, ◌≡◌, ◌<◌, ℕ, List, ◌++◌, take, drop, length, sym, ◌∙◌, subst, arith}
+use Rattle.std.proofs.Common.{ℕ, List, ◌++◌, drop, sym, ◌∙◌, subst, arith}
 use Rattle.block_device.specs.DiskSeen.{IsBlock}
 use Rattle.block_device.proofs.BlockLemmas.{half_length, torn_is_block}
 use Rattle.block_device.proofs.block.Block.write_half.Goals as goal

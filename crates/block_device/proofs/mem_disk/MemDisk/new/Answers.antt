@@ -1,4 +1,4 @@
-use Rattle.std.proofs.Common.{◌≡◌, List, ℕ, replicate, map, ap, ◌∙◌, sym}
+use Rattle.std.proofs.Common.{◌≡◌, replicate, ap, ◌∙◌}
 use Rattle.block_device.specs.MemDiskLook.{bytes_of}
 use Rattle.block_device.specs.MemSeen.{fresh_disk}
 use Rattle.block_device.proofs.MemLemmas.{map-replicate}
