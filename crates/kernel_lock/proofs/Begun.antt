@@ -29,13 +29,13 @@ each_imp P Q f (x ∷ xs) h = (f x h.0, each_imp P Q f xs h.1)
 pub none_of : {E : Type 0} (seat_of : E → ℕ) (k j : ℕ) (es : List E) → All (λ e. seat_of e ≡ k) es → j ≢ k → entries_by seat_of j es ≡ []
 none_of seat_of k j [] all ne = refl
 none_of seat_of k j (e ∷ es) all ne =
-  let here : seat_of e ≡ k = all 0 e (omega arith) in
-  let off : eqb (seat_of e) j ≡ false = ne_eqb (seat_of e) j (λ z. ne (sym z ∙ here)) in
-  rw off (none_of seat_of k j es (λ i d lt. all (suc i) d (omega (arith, lt))) ne)
+    let here : seat_of e ≡ k = all 0 e (omega arith) in
+    let off : eqb (seat_of e) j ≡ false = ne_eqb (seat_of e) j (λ z. ne (sym z ∙ here)) in
+    rw off (none_of seat_of k j es (λ i d lt. all (suc i) d (omega (arith, lt))) ne)
 
 pub unchanged_by : {E : Type 0} (seat_of : E → ℕ) (k j : ℕ) (old added : List E) → All (λ e. seat_of e ≡ k) added → j ≢ k → entries_by seat_of j (old ++ added) ≡ entries_by seat_of j old
 unchanged_by seat_of k j old added all ne =
-  filter-append (λ e. eqb (seat_of e) j) old added ∙ (ap (λ z. entries_by seat_of j old ++ z) (none_of seat_of k j added all ne) ∙ append-nil (entries_by seat_of j old))
+    filter-append (λ e. eqb (seat_of e) j) old added ∙ (ap (λ z. entries_by seat_of j old ++ z) (none_of seat_of k j added all ne) ∙ append-nil (entries_by seat_of j old))
 
 pub each_at : {A : Type 0} (P : A → Type 0) (xs : List A) → Each P xs → (k : ℕ) (a : A) → get_elem? xs k ≡ some a → P a
 each_at P [] all k a e = absurd (some-ne-none a (sym e))
@@ -98,17 +98,16 @@ at_below (x ∷ xs) (suc j) b e = let h = at_below xs j b e in omega arith
 pub pushed_each : {A : Type 0} (P : ℕ → A → Type 0) (xs ys : List A) (x : A) (n : ℕ) → ys ≡ xs ++ x ∷ [] → length xs ≡ n → ((k : ℕ) (d : A) → k < n → P k (get_or xs k d)) → P n x
     → (k : ℕ) (d : A) → k < n + 1 → P k (get_or ys k d)
 pushed_each {A} P xs ys x n longer long each here k d lt = subst (λ (l : List A). P k (get_or l k d)) (sym longer) (dite (ℕ_discrete k n)
-  (λ e. subst (λ (z : ℕ × A). P z.0 z.1) (λ i. (sym e i, sym (get_or_push xs x d k (long ∙ sym e)) i)) here)
-  (λ ne. subst (P k) (sym (get_or_append_left xs (x ∷ []) d k (omega (arith, lt, ne, long)))) (each k d (omega (arith, lt, ne)))))
+    (λ e. subst (λ (z : ℕ × A). P z.0 z.1) (λ i. (sym e i, sym (get_or_push xs x d k (long ∙ sym e)) i)) here)
+    (λ ne. subst (P k) (sym (get_or_append_left xs (x ∷ []) d k (omega (arith, lt, ne, long)))) (each k d (omega (arith, lt, ne)))))
 
 -- what all had, the one that was popped had, and the others have
 pub popped : {A : Type 0} (P : A → Type 0) (xs zs : List A) (x : A) → xs ≡ zs ++ x ∷ [] → All P xs → All P zs × P x
 popped {A} P xs zs x e all =
-  let n : length xs ≡ length zs + 1 = ap length e ∙ length-append zs (x ∷ []) in
-  (
-    (λ i d lt. subst P (ap (λ l. get_or l i d) e ∙ get_or_append_left zs (x ∷ []) d i lt) (all i d (omega (arith, lt, n)))),
-    subst P (ap (λ l. get_or l (length zs) x) e ∙ get_or-append_seam zs x [] x) (all (length zs) x (omega (arith, n))),
-  )
+    let n : length xs ≡ length zs + 1 = ap length e ∙ length-append zs (x ∷ []) in (
+      (λ i d lt. subst P (ap (λ l. get_or l i d) e ∙ get_or_append_left zs (x ∷ []) d i lt) (all i d (omega (arith, lt, n)))),
+      subst P (ap (λ l. get_or l (length zs) x) e ∙ get_or-append_seam zs x [] x) (all (length zs) x (omega (arith, n))),
+    )
 
 -- one is taken from the end of a row, and put before what was taken earlier
 pub taken_over : {A B : Type 0} (f : A → B) (xs zs : List A) (x : A) (ps : List B) → xs ≡ zs ++ x ∷ [] → map f zs ++ (f x ∷ ps) ≡ map f xs ++ ps
@@ -136,15 +135,15 @@ all_at l P k a all e = subst P (get_or_at l k a a e) (all k a (at_below l k a e)
 nothing_left : {A : Type 0} (xs ys bs : List A) → xs ≡ (xs ++ ys) ++ bs → ys ≡ []
 nothing_left xs [] bs e = refl
 nothing_left xs (y ∷ ys) bs e =
-  let n : length xs ≡ length (xs ++ y ∷ ys) + length bs = ap length e ∙ length-append (xs ++ y ∷ ys) bs in
-  let m : length (xs ++ y ∷ ys) ≡ length xs + length (y ∷ ys) = length-append xs (y ∷ ys) in
-  let k : length (y ∷ ys) ≡ length ys + 1 = omega arith in absurd (omega (arith, n, m, k))
+    let n : length xs ≡ length (xs ++ y ∷ ys) + length bs = ap length e ∙ length-append (xs ++ y ∷ ys) bs in
+    let m : length (xs ++ y ∷ ys) ≡ length xs + length (y ∷ ys) = length-append xs (y ∷ ys) in
+    let k : length (y ∷ ys) ≡ length ys + 1 = omega arith in absurd (omega (arith, n, m, k))
 
 pub own_between : {E : Type 0} (seat_of : E → ℕ) (k : ℕ) (xs ys zs own : List E) → IsPrefix xs ys → IsPrefix ys zs → entries_by seat_of k xs ≡ own → entries_by seat_of k zs ≡ own → entries_by seat_of k ys ≡ own
 own_between {E} seat_of k xs ys zs own p q at_first at_last =
-  let F : List E → List E = entries_by seat_of k in
-  let mid : F ys ≡ F xs ++ F p.0 = ap F (sym p.1) ∙ filter-append (λ e. eqb (seat_of e) k) xs p.0 in
-  let end : F zs ≡ F ys ++ F q.0 = ap F (sym q.1) ∙ filter-append (λ e. eqb (seat_of e) k) ys q.0 in
-  let whole : F xs ≡ (F xs ++ F p.0) ++ F q.0 = at_first ∙ (sym at_last ∙ (end ∙ ap (λ z. z ++ F q.0) mid)) in
-  let none : F p.0 ≡ [] = nothing_left (F xs) (F p.0) (F q.0) whole in
-  mid ∙ (ap (λ z. F xs ++ z) none ∙ (append-nil (F xs) ∙ at_first))
+    let F : List E → List E = entries_by seat_of k in
+    let mid : F ys ≡ F xs ++ F p.0 = ap F (sym p.1) ∙ filter-append (λ e. eqb (seat_of e) k) xs p.0 in
+    let end : F zs ≡ F ys ++ F q.0 = ap F (sym q.1) ∙ filter-append (λ e. eqb (seat_of e) k) ys q.0 in
+    let whole : F xs ≡ (F xs ++ F p.0) ++ F q.0 = at_first ∙ (sym at_last ∙ (end ∙ ap (λ z. z ++ F q.0) mid)) in
+    let none : F p.0 ≡ [] = nothing_left (F xs) (F p.0) (F q.0) whole in
+    mid ∙ (ap (λ z. F xs ++ z) none ∙ (append-nil (F xs) ∙ at_first))

@@ -122,8 +122,8 @@ module _ {S E N : Type 0} (seat_of : E → ℕ) (history : S → List E) (fits :
   -- Taking the turn: where nobody had it, the seat is inside, has the slot with the state in it, and the state is as is promised to whoever enters. Otherwise the turn word named another seat, and one more try is refused.
   abbrev pub took : Step (Option S) → Me (Option S) (View S E N) → ℕ → Me (Option S) (View S E N) → Type 0
   took st m r m' =
-    (r ≡ 0 → (s : S) × (m' ≡ (goes_in m.0 s, (0, Some s) ∷ [])) × ((o : S) → m.0.opening ≡ Some o → IsEntered seat_of history fits o m.0.seats (known_of m.0) s))
-    × (r ≢ 0 → (k : ℕ) × (r ≡ k + 1) × (k ≢ m.0.number) × ((o : S) → m.0.opening ≡ Some o → k < m.0.seats) × (m' ≡ (is_refused m.0 k, [])))
+      (r ≡ 0 → (s : S) × (m' ≡ (goes_in m.0 s, (0, Some s) ∷ [])) × ((o : S) → m.0.opening ≡ Some o → IsEntered seat_of history fits o m.0.seats (known_of m.0) s))
+      × (r ≢ 0 → (k : ℕ) × (r ≡ k + 1) × (k ≢ m.0.number) × ((o : S) → m.0.opening ≡ Some o → k < m.0.seats) × (m' ≡ (is_refused m.0 k, [])))
 
 module _ {S E N : Type 0} where
   -- Making known: the view has the state and the note that are said.

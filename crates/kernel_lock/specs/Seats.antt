@@ -1,5 +1,5 @@
 -- A lock and its seats as contracts see them, and what each call makes of a seat.
-use Rattle.std.specs.Prelude.{◌≡◌, ◌≢◌, ℕ, ◌+◌, ◌<◌, ◌≤◌, ◌==◌, Bool, true, false, List, [], length, Option, Some, None, if◌then◌else◌}
+use Rattle.std.specs.Prelude.{◌≡◌, ◌≢◌, ℕ, ◌+◌, ◌<◌, ◌≤◌, ◌==◌, Bool, true, false, List, [], length, slice_index_or, Option, Some, None, if◌then◌else◌}
 use Rattle.std.specs.List.{filter}
 use mathlib.Core.Option.{some}
 use mathlib.Core.List.{IsPrefix}
@@ -61,6 +61,10 @@ module _ {S E N : Type 0} where
   -- A seat that has been nowhere.
   abbrev pub newcomer : LockView S → ℕ → SeatView S E N
   newcomer l k = record { lock = l.lock; opening = Some l.opening; seats = l.seats; number = k; inside = false; state = None; note = None; own = []; seen = []; refused = 0; refused_by = None; leaves = 0; emptied = 0; last_emptied = None }
+
+  -- The seats of a row have been nowhere, and stand in the order of their numbers.
+  abbrev pub AreNew : LockView S → List (SeatView S E N) → Type 0
+  AreNew l vs = (k : ℕ) (d : SeatView S E N) → k < length vs → slice_index_or vs k d ≡ newcomer l k
 
   -- The seat is inside, with this state.
   abbrev pub entered : SeatView S E N → S → SeatView S E N

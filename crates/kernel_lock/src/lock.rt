@@ -76,7 +76,12 @@ impl<S: Guarded> KernelLock<S> {
         unreachable!()
     }
 
-    fn write_down<W: Said<S, S::Note>>(&self, place: &mut Place<S, S::Entry, S::Note>, state: &S, held: &S::Held)
+    fn write_down<W: Said<S, S::Note>>(
+        &self,
+        place: &mut Place<S, S::Entry, S::Note>,
+        state: &S,
+        held: &S::Held,
+    )
         requires lock { place.old.table_id ≡ self.now.lock }
         requires said { (W.state ≡ Some state.now) × (W.note ≡ S.note_of held.now) }
         requires inside { (place.old.me.0.inside ≡ true) × (place.old.me.0.others ≡ []) × (place.old.me.0.deals ≡ false) }
@@ -84,7 +89,9 @@ impl<S: Guarded> KernelLock<S> {
         ensures lock { (place.new.table_id ≡ place.old.table_id) × (place.new.id ≡ place.old.id) }
         ensures written { place.new.me ≡ (writes S.seat_of S.history place.old.me.0 state.now (S.note_of held.now), place.old.me.1) }
     {
-        self.table.shared.store::<Record<S, W>>(place, 1, state.length());
+        self.table
+            .shared
+            .store::<Record<S, W>>(place, 1, state.length());
     }
 
     /// Gives the state back, changed by a move that the guarded state allows, and goes outside with what `held` means as the seat's note.

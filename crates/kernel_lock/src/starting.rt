@@ -1,7 +1,7 @@
 //! How a lock is started: the state goes into the slot, and the seats are dealt.
-ghost use Rattle.std.specs.Prelude.{◌≡◌, ℕ, ◌+◌, ◌<◌, ◌≤◌, [], ◌∷◌, replicate, slice_index_or, vec_len, vec_capacity, IfOk, IfErr, Some, None};
+ghost use Rattle.std.specs.Prelude.{◌≡◌, ◌+◌, ◌<◌, ◌≤◌, [], ◌∷◌, replicate, vec_len, vec_capacity, IfOk, IfErr, Some, None};
 ghost use Rattle.kernel_lock.specs.Rule.{dealer_at};
-ghost use Rattle.kernel_lock.specs.Seats.{newcomer};
+ghost use Rattle.kernel_lock.specs.Seats.{AreNew, newcomer};
 
 use crate::board::{About, LockRule, Place, View};
 use crate::guarded::Guarded;
@@ -14,7 +14,12 @@ use std::alloc::{AllocFailed, Global};
 use std::snapshot::Snapshot;
 use std::sync::atomic::AtomicU64;
 
-type Board<S> = Shared<Option<S>, View<S, <S as Guarded>::Entry, <S as Guarded>::Note>, About<S>, LockRule<S>>;
+type Board<S> = Shared<
+    Option<S>,
+    View<S, <S as Guarded>::Entry, <S as Guarded>::Note>,
+    About<S>,
+    LockRule<S>,
+>;
 
 // The one slot, or the state again.
 fn slot_of<S>(alloc: Global, state: S) -> Result<Vec<Option<S>>, S>
@@ -36,12 +41,18 @@ fn out_of<S>(mut slots: Vec<Option<S>>) -> S
     requires { (s : S) × (slots.items ≡ Some s ∷ []) }
     ensures { slots.items ≡ Some result ∷ [] }
 {
-    let Some(Some(state)) = slots.pop() else { unreachable!() };
+    let Some(Some(state)) = slots.pop() else {
+        unreachable!()
+    };
     slots.destroy_empty();
     state
 }
 
-fn deal<S: Guarded>(board: &Board<S>, dealer: &mut Place<S, S::Entry, S::Note>, number: u32) -> Seat<S>
+fn deal<S: Guarded>(
+    board: &Board<S>,
+    dealer: &mut Place<S, S::Entry, S::Note>,
+    number: u32,
+) -> Seat<S>
     requires board { (dealer.old.table_id ≡ board.now.table_id) × (board.now.table_id.words ≡ 2) }
     requires dealer { dealer.old.me ≡ (dealer_at board.now.key.opening.value board.now.key.seats number, []) }
     requires room { number < board.now.key.seats }
@@ -53,17 +64,24 @@ fn deal<S: Guarded>(board: &Board<S>, dealer: &mut Place<S, S::Entry, S::Note>, 
     SeatAt { place, number }
 }
 
-fn deal_all<S: Guarded>(board: &Board<S>, dealer: &mut Place<S, S::Entry, S::Note>, seats: u32, row: &mut Vec<Seat<S>>)
+fn deal_all<S: Guarded>(
+    board: &Board<S>,
+    dealer: &mut Place<S, S::Entry, S::Note>,
+    seats: u32,
+    row: &mut Vec<Seat<S>>,
+)
     requires board { (dealer.old.table_id ≡ board.now.table_id) × (board.now.table_id.words ≡ 2) }
     requires dealer { dealer.old.me ≡ (dealer_at board.now.key.opening.value board.now.key.seats 0, []) }
     requires room { seats ≤ board.now.key.seats }
     requires row { (vec_len row.old ≡ 0) × (seats ≤ vec_capacity row.old) }
     ensures len { vec_len row.new ≡ seats }
-    ensures seats { (k : ℕ) (d : _) → k < seats → slice_index_or row.new.items k d ≡ newcomer (record { lock = board.now.table_id; seats = board.now.key.seats; opening = board.now.key.opening.value }) k }
+    ensures seats { AreNew (record { lock = board.now.table_id; seats = board.now.key.seats; opening = board.now.key.opening.value }) row.new.items }
 {
     for number in 0..seats {
         let seat = deal(board, dealer, number);
-        let Ok(()) = row.push(seat) else { unreachable!() };
+        let Ok(()) = row.push(seat) else {
+            unreachable!()
+        };
     }
 }
 
@@ -76,7 +94,7 @@ impl<S: Guarded> KernelLock<S> {
         requires fits { S.fits state state (replicate seats None) }
         ensures lock { IfOk result (λ r. (r.0.seats ≡ seats) × (r.0.opening ≡ state)) }
         ensures count { IfOk result (λ r. vec_len r.1 ≡ seats) }
-        ensures seats { IfOk result (λ r. (k : ℕ) (d : _) → k < seats → slice_index_or r.1.items k d ≡ newcomer r.0 k) }
+        ensures seats { IfOk result (λ r. AreNew r.0 r.1.items) }
         ensures err { IfErr result (λ s. s ≡ state) }
     {
         let about = About {
