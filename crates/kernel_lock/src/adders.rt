@@ -1,6 +1,7 @@
 //! What the tests do with a tally behind the lock.
 ghost use Rattle.std.specs.Prelude.{◌≡◌, ◌≢◌, ℕ, ◌+◌, ◌<◌, ◌≤◌, false, true, [], ◌∷◌, ◌++◌, Some, None, IfSome, vec_len};
 ghost use Rattle.std.specs.Bool.{MatchBool, OnTrue};
+ghost use Rattle.std.specs.Thread.{IsSync};
 ghost use Rattle.kernel_lock.specs.Seats.{AreNew, IsSeatOf, newcomer, entries_by};
 ghost use Rattle.kernel_lock.specs.Tally.{IsOut, worth, total, seat_named};
 
@@ -237,7 +238,9 @@ pub fn all_three<R: Threads + Wait + Sync>(
     join(
         rt,
         move || add_times(rt, lock, first, times),
-        move || hold_both(rt, lock, second, third, times),
+        move ||
+            requires { IsSync R.row × IsOut lock.now second × IsOut lock.now third × (second.note ≡ None) × (third.note ≡ None) }
+        { hold_both(rt, lock, second, third, times) },
     )
 }
 
