@@ -286,6 +286,7 @@ pub fn first_told<R: Wait>(
     requires held { to.old.note ≡ None }
     requires seen { from.old.seen ≢ [] }
     ensures out { IsOut lock.now from.new × IsOut lock.now to.new }
+    ensures numbers { (from.new.number ≡ from.old.number) × (to.new.number ≡ to.old.number) }
     ensures first { (e : _) (es : _) → from.old.seen ≡ e ∷ es → result ≡ e.1 }
 {
     lock.meet(from, to);
