@@ -36,8 +36,7 @@ returns-clause-own c a b is =
     let end = c.close.ensures in
     let same = sym r.2 ∙ is in
     let first : r.0 ≡ a = cc same in
-    let second : r.1 ≡ b = cc same in
-    let at = λ i p e. (end.holds i p (ap (λ l. get_elem? (map part_of l) i) is ∙ e)).2 in (
+    let second : r.1 ≡ b = cc same in (
       subst (λ k. entries_by seat_named k (entries c.close.result) ≡ a.own) (ap (λ v. v.number) (sym first) ∙ r.5) (end.holds 0 (part_of a) (ap (λ l. get_elem? (map part_of l) 0) is)).2,
       subst (λ k. entries_by seat_named k (entries c.close.result) ≡ b.own) (ap (λ v. v.number) (sym second) ∙ r.6) (end.holds 1 (part_of b) (ap (λ l. get_elem? (map part_of l) 1) is)).2,
     )
