@@ -1,6 +1,6 @@
 -- Beginnings of a list, and the entries of one seat.
 use Rattle.std.proofs.Common.{◌≡◌, ◌≢◌, ℕ, zero, suc, ◌+◌, ◌<◌, ◌≤◌, Bool, true, false, List, [], ◌∷◌, ◌++◌, length, map, refl, ap, sym, ◌∙◌, subst, arith, append_assoc, length-append, ne_eqb, eqb, set, ⊎_elim, ◌⊎◌, inl, inr, ltb, if◌then◌else◌}
-use Rattle.std.specs.List.{All, filter}
+use Rattle.std.specs.List.{All}
 use Rattle.std.proofs.lemmas.List.{append-nil, get_or_push, get_or_append_left, map-append}
 use Rattle.std.proofs.Common.{get_or}
 use mathlib.Core.Logic.{dite}
@@ -9,7 +9,7 @@ use Rattle.std.proofs.lemmas.List.Elements.{filter-append}
 use Rattle.std.proofs.lemmas.Bool.{ltb-true, ltb-false}
 use Rattle.std.proofs.Math.Seq.{get_or-append_seam}
 use mathlib.Core.List.{IsPrefix}
-use mathlib.Core.Option.{Option, some, some-injective, some-ne-none}
+use mathlib.Core.Option.{some, some-injective, some-ne-none}
 use lib.ListN.{get_elem?}
 use Rattle.atomic_table.proofs.Lists.{at_set}
 use Rattle.kernel_lock.specs.Rule.{Each, longer}
@@ -112,24 +112,6 @@ popped {A} P xs zs x e all =
 -- one is taken from the end of a row, and put before what was taken earlier
 pub taken_over : {A B : Type 0} (f : A → B) (xs zs : List A) (x : A) (ps : List B) → xs ≡ zs ++ x ∷ [] → map f zs ++ (f x ∷ ps) ≡ map f xs ++ ps
 taken_over f xs zs x ps e = sym (append_assoc (map f zs) (f x ∷ []) ps) ∙ ap (λ l. l ++ ps) (sym (map-append f zs (x ∷ [])) ∙ ap (map f) (sym e))
-
-pub at_there : {A : Type 0} (l : List A) (k : ℕ) → k < length l → (a : A) × (get_elem? l k ≡ some a)
-at_there [] k lt = absurd (omega (arith, lt))
-at_there (x ∷ xs) zero lt = (x, refl)
-at_there (x ∷ xs) (suc k) lt = at_there xs k (omega (arith, lt))
-
-pub at_mapped : {A B : Type 0} (l : List A) (f : A → B) (k : ℕ) (b : B) → get_elem? (map f l) k ≡ some b → (a : A) × (get_elem? l k ≡ some a) × (f a ≡ b)
-at_mapped [] f k b e = absurd (some-ne-none b (sym e))
-at_mapped (x ∷ xs) f zero b e = (x, refl, some-injective (f x) b e)
-at_mapped (x ∷ xs) f (suc k) b e = at_mapped xs f k b e
-
-pub get_or_at : {A : Type 0} (l : List A) (k : ℕ) (a d : A) → get_elem? l k ≡ some a → get_or l k d ≡ a
-get_or_at [] k a d e = absurd (some-ne-none a (sym e))
-get_or_at (x ∷ xs) zero a d e = some-injective x a e
-get_or_at (x ∷ xs) (suc k) a d e = get_or_at xs k a d e
-
-pub all_at : {A : Type 0} (l : List A) (P : A → Type 0) (k : ℕ) (a : A) → All P l → get_elem? l k ≡ some a → P a
-all_at l P k a all e = subst P (get_or_at l k a a e) (all k a (at_below l k a e))
 
 -- between what a seat has seen and a history with no more entries of it there are no entries of it
 nothing_left : {A : Type 0} (xs ys bs : List A) → xs ≡ (xs ++ ys) ++ bs → ys ≡ []

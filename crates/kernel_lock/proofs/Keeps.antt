@@ -1,5 +1,5 @@
 -- Each step keeps the rule of the lock.
-use Rattle.std.proofs.Common.{◌≡◌, ◌≢◌, ℕ, zero, suc, ◌+◌, ◌<◌, ◌≤◌, Bool, true, false, eqb, List, [], ◌∷◌, ◌++◌, length, get_or, set, refl, ap, sym, ◌∙◌, subst, arith, length-set, get_or-set_other, get_or-set_same, Option, Some, None}
+use Rattle.std.proofs.Common.{◌≡◌, ◌≢◌, ℕ, ◌+◌, ◌<◌, true, false, eqb, List, [], ◌∷◌, ◌++◌, length, get_or, set, refl, ap, sym, ◌∙◌, subst, arith, length-set, get_or-set_other, get_or-set_same, Option, Some, None}
 use Rattle.std.specs.List.{All}
 use mathlib.Core.Logic.{dite}
 use mathlib.Core.Option.{none, some, some-injective}
@@ -8,8 +8,8 @@ use native.Mathlib.Decide.{ℕ_discrete}
 use lib.ListN.{get_elem?}
 use lib.Seq.{set-get_or}
 use prog.Atomic.{either}
-use Rattle.atomic_table.specs.Table.{State, Me, Act, keeps, takes, gives, rest, step, stepped, Allows, Valid, carried_after}
-use Rattle.atomic_table.proofs.Lists.{at_set, set_again, set_else}
+use Rattle.atomic_table.specs.Table.{State, keeps, takes, gives, rest, step, stepped, Allows}
+use Rattle.atomic_table.proofs.Lists.{set_else}
 use Rattle.std.proofs.Common.{eq-eqb, ne_eqb}
 use Rattle.kernel_lock.specs.declared.board.View.{View}
 use Rattle.kernel_lock.specs.declared.board.Part.{Part}

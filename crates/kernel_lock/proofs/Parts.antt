@@ -1,19 +1,18 @@
 -- Loads, splits and joins keep the rule of the lock.
-use Rattle.std.proofs.Common.{◌≡◌, ◌≢◌, ℕ, zero, suc, ◌+◌, ◌<◌, ◌≤◌, Bool, true, false, eqb, List, [], ◌∷◌, ◌++◌, length, get_or, set, refl, ap, sym, ◌∙◌, subst, arith, length-set, length-append, ⊎_elim, Option, Some, None, le_refl, if◌then◌else◌, eq-eqb, ne_eqb, replicate}
-use Rattle.std.proofs.lemmas.List.{length-replicate, append-nil}
-use Rattle.std.proofs.lemmas.List.Elements.{filter-append}
+use Rattle.std.proofs.Common.{◌≡◌, ◌≢◌, ℕ, zero, suc, ◌+◌, ◌<◌, true, false, eqb, List, [], ◌∷◌, ◌++◌, length, get_or, set, refl, ap, sym, ◌∙◌, subst, arith, length-set, ⊎_elim, Option, Some, None, le_refl, if◌then◌else◌, eq-eqb, ne_eqb, replicate}
+use Rattle.std.proofs.lemmas.List.{length-replicate}
 use mathlib.Core.Logic.{dite}
 use mathlib.Core.Option.{none, some, some-injective, some-ne-none}
 use mathlib.Core.List.{IsPrefix}
 use native.Mathlib.Decide.{ℕ_discrete}
 use lib.ListN.{get_elem?}
 use lib.Seq.{set-get_or}
-use Rattle.atomic_table.specs.Table.{State, Me, Act, keeps, step, stepped, Allows, Enters, Splits, Joins, Final, Seen, opening as table_opening}
+use Rattle.atomic_table.specs.Table.{State, keeps, step, Allows, Enters, Splits, Joins, Final, Seen, opening as table_opening}
 use Rattle.atomic_table.proofs.Lists.{at_set, set_again, set_else, at_longer}
 use Rattle.kernel_lock.specs.declared.board.View.{View}
 use Rattle.kernel_lock.specs.declared.board.Part.{Part}
 use Rattle.kernel_lock.specs.Rule.{Lock, Knows, HasPart, Each, courier, blank, dealer_at, dealt, longer, longer_seen, gathered, gathered_of, sat, looked}
-use Rattle.kernel_lock.specs.Seats.{entries_by, HasAll, HoldsTo, IsClosed}
+use Rattle.kernel_lock.specs.Seats.{entries_by, HasAll, IsClosed}
 use Rattle.kernel_lock.proofs.Begun.{each_imp, each_at, set_at, each_set, longer_is, longer_begun, at_append, at_below, own_between}
 
 module _ {S E N : Type 0} (seat_of : E → ℕ) (history : S → List E) (fits : S → S → List (Option N) → Type 0) (opening : S) (seats : ℕ) where

@@ -1,13 +1,11 @@
 -- The sums of short lists of notes, and rows of two and three seats.
-use Rattle.std.proofs.Common.{◌≡◌, ◌≢◌, ℕ, zero, suc, ◌+◌, ◌<◌, List, [], ◌∷◌, ◌++◌, length, length-append, eqb, eq-eqb, Option, Some, None, refl, ap, sym, ◌∙◌, subst, arith, replicate, get_or}
+use Rattle.std.proofs.Common.{◌≡◌, ℕ, zero, suc, ◌+◌, List, [], ◌∷◌, length, Option, None, refl, ap, arith, replicate}
 use Rattle.std.specs.List.{All}
-use mathlib.Core.Option.{some, some-injective, some-ne-none}
+use mathlib.Core.Option.{some, some-injective}
 use lib.ListN.{get_elem?}
 use Rattle.kernel_lock.specs.declared.board.Part.{Part}
-use Rattle.kernel_lock.specs.Seats.{HasAll, entries_by}
-use Rattle.std.proofs.lemmas.List.Elements.{filter-append}
-use mathlib.Core.List.{IsPrefix}
-use Rattle.kernel_lock.specs.Tally.{out, worth, seat_named}
+use Rattle.kernel_lock.specs.Seats.{HasAll}
+use Rattle.kernel_lock.specs.Tally.{out, worth}
 
 pub out_none : (n : ℕ) → out (replicate n None) ≡ 0
 out_none zero = refl
@@ -49,22 +47,3 @@ module _ {E N : Type 0} where
   has_three p q r n three a b c (suc zero) lt = (1, q, refl, b)
   has_three p q r n three a b c (suc (suc zero)) lt = (2, r, refl, c)
   has_three p q r n three a b c (suc (suc (suc k))) lt = absurd (omega (arith, lt, three))
-
--- what two meetings in a row leave begins as the first list does
-whole : {A : Type 0} (xs ys zs : List A) (p : IsPrefix xs ys) (q : IsPrefix ys zs) → (xs ++ p.0) ++ q.0 ≡ zs
-whole xs ys zs p q = ap (λ l. l ++ q.0) p.1 ∙ q.1
-
-pub first_of : {A : Type 0} (xs ys zs : List A) → xs ≢ [] → IsPrefix xs ys → IsPrefix ys zs → 0 < length zs
-first_of [] ys zs ne p q = absurd (ne refl)
-first_of (x ∷ xs) ys zs ne p q =
-    let a : length (x ∷ ((xs ++ p.0) ++ q.0)) ≡ length zs = ap length (whole (x ∷ xs) ys zs p q) in
-    let b : length (x ∷ ((xs ++ p.0) ++ q.0)) ≡ length ((xs ++ p.0) ++ q.0) + 1 = omega arith in omega (arith, a, b)
-
-pub first_is : {A : Type 0} (x : A) (ws xs ys zs : List A) (d : A) → xs ≡ x ∷ ws → IsPrefix xs ys → IsPrefix ys zs → get_or zs 0 d ≡ x
-first_is x ws xs ys zs d e p q = ap (λ l. get_or l 0 d) (sym (ap (λ l. (l ++ p.0) ++ q.0) (sym e) ∙ whole xs ys zs p q))
-
-pub not_empty : {A : Type 0} (xs : List A) (x : A) → xs ++ x ∷ [] ≢ []
-not_empty xs x e = let n : length (xs ++ x ∷ []) ≡ length xs + 1 = length-append xs (x ∷ []) in let z : length (xs ++ x ∷ []) ≡ 0 = ap length e in absurd (omega (arith, n, z))
-
-pub own_more : (k n : ℕ) (es : List (ℕ × ℕ)) → entries_by seat_named k (es ++ (k, n) ∷ []) ≡ entries_by seat_named k es ++ (k, n) ∷ []
-own_more k n es = filter-append (λ (e : ℕ × ℕ). eqb e.0 k) es ((k, n) ∷ []) ∙ ap (λ z. entries_by seat_named k es ++ z) (rw (eq-eqb k k refl) refl)

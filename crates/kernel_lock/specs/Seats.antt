@@ -1,5 +1,5 @@
 -- A lock and its seats as contracts see them, and what each call makes of a seat.
-use Rattle.std.specs.Prelude.{◌≡◌, ◌≢◌, ℕ, ◌+◌, ◌<◌, ◌≤◌, ◌==◌, Bool, true, false, List, [], length, slice_index_or, Option, Some, None, if◌then◌else◌}
+use Rattle.std.specs.Prelude.{◌≡◌, ℕ, ◌+◌, ◌<◌, ◌≤◌, ◌==◌, Bool, true, false, List, [], length, slice_index_or, Option, Some, None, if◌then◌else◌}
 use Rattle.std.specs.List.{filter}
 use mathlib.Core.Option.{some}
 use mathlib.Core.List.{IsPrefix}

@@ -1,6 +1,6 @@
 -- A state that is generic in a disk, which is at home or out with one seat. Of the disk its count alone is known.
 use Rattle.std.specs.Prelude.{◌≡◌, ℕ, ◌+◌, ◌≤◌, List, [], ◌∷◌, ◌++◌, Option, Some, None, All, slice_set}
-use Rattle.std.proofs.Common.{arith, refl, ap, subst, sym, zero, suc, le_refl}
+use Rattle.std.proofs.Common.{arith, refl, ap, subst, sym, zero, suc}
 use mathlib.Core.Option.{some, some-ne-none, some-injective}
 use lib.ListN.{get_elem?}
 
@@ -94,19 +94,3 @@ module _ {D : Type 0} (count : D → ℕ) where
 
   pub grows_of : (opening s t : StoreView D) (notes : List (Option ℕ)) (k : ℕ) (n m : Option ℕ) → Fits count opening s notes → get_elem? notes k ≡ some n → Moves count k s n t m → (added : List (ℕ × ℕ)) × (entries t ≡ entries s ++ added) × All (λ (e : ℕ × ℕ). e.0 ≡ k) added
   grows_of opening s t notes k n m fits at moved = (moved.added, moved.longer, moved.by)
-
-module _ {D : Type 0} (count : D → ℕ) where
-  -- A disk that is at home fits its own opening while nobody has anything out.
-  pub starts_fit : (s : StoreView D) (d : D) → s.disk ≡ Some d → Fits count s s (None ∷ None ∷ [])
-  starts_fit s d at =
-      let one : home s.disk ≡ 1 = ap home at in
-      let none : out (None ∷ None ∷ []) ≡ 0 = refl in
-      record {
-        one = omega (arith, one, none);
-        risen = λ o is. (subst (λ z. AtLeast (count o) (note_of count z)) (sym is) (le_refl (count o)), nothing (count o));
-      }
-    where
-      nothing : (b k : ℕ) (n : Option ℕ) → get_elem? (None ∷ None ∷ []) k ≡ some n → AtLeast b n
-      nothing b zero n e = subst (AtLeast b) (some-injective None n e) tt
-      nothing b (suc zero) n e = subst (AtLeast b) (some-injective None n e) tt
-      nothing b (suc (suc k)) n e = absurd (some-ne-none n (sym e))

@@ -1,5 +1,5 @@
 -- The state that the tests put behind the lock: a list of numbers, each with the seat that added it, and their sum, out of which a seat may take a number.
-use Rattle.std.specs.Prelude.{◌≡◌, ℕ, ◌+◌, Bool, false, List, [], ◌∷◌, ◌++◌, Option, Some, None, All, slice_set}
+use Rattle.std.specs.Prelude.{◌≡◌, ℕ, ◌+◌, false, List, [], ◌∷◌, ◌++◌, Option, Some, None, All, slice_set}
 use Rattle.std.specs.List.{sum_by}
 use Rattle.std.proofs.Common.{arith, refl, ap, subst, sym, zero, suc}
 use Rattle.std.proofs.lemmas.List.{append-nil}

@@ -1,9 +1,9 @@
-use Rattle.std.proofs.Common.{◌≡◌, ap, sym, subst, ◌∙◌, ◌∷◌, [], map, arith, refl, false}
+use Rattle.std.proofs.Common.{◌≡◌, ap, sym, subst, ◌∙◌, map, arith, false}
 use Rattle.std.specs.List.{All}
 use mathlib.Core.Option.{some}
 use lib.ListN.{get_elem?}
 use Rattle.kernel_lock.specs.Seats.{HasAll, part_of, entries_by, IsSeatOf}
-use Rattle.kernel_lock.specs.Tally.{out, seat_named, entries}
+use Rattle.kernel_lock.specs.Tally.{seat_named, entries}
 use Rattle.kernel_lock.proofs.Tallies.{all_two, has_two, out_two}
 use Rattle.kernel_lock.proofs.adders.close_row.Goals as goal
 

@@ -1,8 +1,8 @@
-use Rattle.std.proofs.Common.{◌≡◌, ap, sym, subst, ◌∙◌, ◌∷◌, [], arith, refl}
+use Rattle.std.proofs.Common.{◌≡◌, ap, sym, subst, ◌∙◌, ◌∷◌, arith}
 use mathlib.Core.Option.{some}
 use lib.ListN.{get_elem?}
-use Rattle.kernel_lock.specs.Seats.{HasAll, HoldsTo, part_of, entries_by}
-use Rattle.kernel_lock.specs.Tally.{out, seat_named, entries}
+use Rattle.kernel_lock.specs.Seats.{HasAll, part_of, entries_by}
+use Rattle.kernel_lock.specs.Tally.{seat_named, entries}
 use Rattle.kernel_lock.proofs.Tallies.{has_three, out_three}
 use Rattle.kernel_lock.proofs.adders.close_three.Goals as goal
 

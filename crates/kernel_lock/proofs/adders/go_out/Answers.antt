@@ -1,4 +1,4 @@
-use Rattle.std.proofs.Common.{◌≡◌, sym, subst, None}
+use Rattle.std.proofs.Common.{sym, subst, None}
 use Rattle.kernel_lock.specs.Tally.{Moves, stays}
 use Rattle.kernel_lock.proofs.adders.go_out.Goals as goal
 

@@ -1,4 +1,4 @@
-use Rattle.std.proofs.Common.{◌≡◌, ap, sym, subst, ◌∙◌}
+use Rattle.std.proofs.Common.{ap, sym, subst, ◌∙◌}
 use Rattle.kernel_lock.specs.Tally.{Moves}
 use Rattle.kernel_lock.proofs.adders.put_back.Goals as goal
 

@@ -1,5 +1,5 @@
-use Rattle.std.proofs.Common.{◌≡◌, ap, ◌∙◌, sym, arith}
-use Rattle.kernel_lock.specs.Tally.{total, out, entries}
+use Rattle.std.proofs.Common.{◌≡◌, ap, arith}
+use Rattle.kernel_lock.specs.Tally.{total, entries}
 use Rattle.kernel_lock.proofs.Tallies.{out_none}
 use Rattle.kernel_lock.proofs.adders.start.Goals as goal
 

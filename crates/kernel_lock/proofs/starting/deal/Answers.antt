@@ -1,4 +1,4 @@
-use Rattle.std.proofs.Common.{rules, ap, ◌∙◌, subst, sym}
+use Rattle.std.proofs.Common.{rules, ap, subst, sym}
 use Rattle.atomic_table.specs.Table.{Splits}
 use Rattle.kernel_lock.specs.Rule.{Lock, dealer_after, dealt}
 use Rattle.kernel_lock.proofs.Parts.{deals_out}

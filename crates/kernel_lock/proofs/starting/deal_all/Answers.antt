@@ -1,4 +1,4 @@
-use Rattle.std.proofs.Common.{rules, ◌≡◌, ℕ, ◌∙◌, sym, ap, arith, vec_len}
+use Rattle.std.proofs.Common.{rules, ◌≡◌, ◌∙◌}
 use Rattle.kernel_lock.specs.Seats.{newcomer}
 use Rattle.kernel_lock.proofs.Begun.{pushed_each}
 use Rattle.kernel_lock.proofs.starting.deal_all.Goals as goal

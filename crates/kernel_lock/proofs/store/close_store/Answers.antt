@@ -1,4 +1,4 @@
-use Rattle.std.proofs.Common.{◌≡◌, ap, sym, subst, ◌∙◌, ◌∷◌}
+use Rattle.std.proofs.Common.{ap, sym, subst, ◌∙◌, ◌∷◌}
 use Rattle.kernel_lock.specs.Seats.{HasAll, part_of}
 use Rattle.kernel_lock.proofs.Tallies.{has_two}
 use Rattle.kernel_lock.proofs.store.close_store.Goals as goal

@@ -1,5 +1,5 @@
-use Rattle.std.proofs.Common.{rules, ◌≡◌, ◌∙◌, sym, ap, subst, Some}
-use mathlib.Core.Option.{some, some-injective}
+use Rattle.std.proofs.Common.{◌≡◌, ◌∙◌, sym, ap, subst, Some}
+use mathlib.Core.Option.{some-injective}
 use Rattle.atomic_table.specs.Table.{Final, Seen}
 use Rattle.std.specs.Slots.{slots_items}
 use Rattle.kernel_lock.specs.Rule.{Lock}

@@ -1,4 +1,3 @@
-use Rattle.std.proofs.Common.{◌≡◌}
 use Rattle.kernel_lock.specs.Seats.{HasTried}
 use Rattle.kernel_lock.proofs.lock.KernelLock.enter.Given as goal
 

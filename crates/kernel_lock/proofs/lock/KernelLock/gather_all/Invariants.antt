@@ -1,4 +1,4 @@
-use Rattle.std.proofs.Common.{◌≡◌, ◌++◌, false, List, map}
+use Rattle.std.proofs.Common.{◌≡◌, ◌++◌, false, map}
 use Rattle.std.specs.List.{All}
 use Rattle.kernel_lock.specs.Seats.{IsSeatOf, part_of}
 use Rattle.kernel_lock.proofs.lock.KernelLock.gather_all.Given as goal

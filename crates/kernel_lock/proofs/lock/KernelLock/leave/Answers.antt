@@ -1,4 +1,4 @@
-use Rattle.std.proofs.Common.{rules, ◌≡◌, ap, ◌∙◌, sym, Some, true, List, ◌∷◌, [], ℕ}
+use Rattle.std.proofs.Common.{rules, ap, ◌∙◌, sym, Some, ◌∷◌}
 use Rattle.atomic_table.specs.Table.{rest}
 use Rattle.kernel_lock.specs.Rule.{hand}
 use Rattle.kernel_lock.proofs.Keeps.{gives_back}

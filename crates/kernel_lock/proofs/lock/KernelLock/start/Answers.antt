@@ -1,4 +1,4 @@
-use Rattle.std.proofs.Common.{rules, ◌≡◌, ◌∙◌, sym, ap, subst, List, [], ◌∷◌, Option}
+use Rattle.std.proofs.Common.{◌∙◌, sym, ap, subst, List, [], ◌∷◌, Option}
 use Rattle.atomic_table.specs.Table.{opening}
 use Rattle.kernel_lock.specs.Rule.{Lock, dealer_at}
 use Rattle.kernel_lock.specs.Seats.{newcomer}

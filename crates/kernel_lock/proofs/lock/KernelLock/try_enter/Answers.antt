@@ -1,4 +1,4 @@
-use Rattle.std.proofs.Common.{rules, ◌≡◌, ap, ◌∙◌, sym, Some, false}
+use Rattle.std.proofs.Common.{rules, ap, ◌∙◌, sym, Some}
 use Rattle.kernel_lock.specs.Rule.{hand}
 use Rattle.kernel_lock.proofs.Keeps.{takes_turn, one_hand}
 use Rattle.kernel_lock.proofs.lock.KernelLock.try_enter.Goals as goal

@@ -1,5 +1,5 @@
 use Rattle.std.proofs.Common.{rules, ◌≡◌, ◌+◌, [], ◌∷◌, refl, arith}
-use Rattle.kernel_lock.specs.Tally.{total, worth}
+use Rattle.kernel_lock.specs.Tally.{total}
 use Rattle.kernel_lock.proofs.Tallies.{all_one}
 use Rattle.kernel_lock.proofs.tally.Tally.add.Goals as goal
 
