@@ -3,12 +3,13 @@ use Rattle.std.proofs.Common.{◌≡◌, ◌≢◌, ℕ, ◌+◌, ◌-◌, ◌<�
 use Rattle.std.specs.Prelude.{map, ◌==◌, ◌||◌, ◌&&◌, replicate, option_map, option_and_then, find, is_some}
 use Rattle.std.specs.List.{list_any, list_all, IsDistinct}
 use Rattle.std.proofs.lemmas.List.{get_or-set_same, get_or-set_other, set-get_or}
+use Rattle.std.proofs.lemmas.List.Folds.{find_past}
 use Rattle.std.proofs.lemmas.Map.Steps.{length-le_from_distinct_below}
 use Rattle.std.proofs.lemmas.Map.Keys.{IsDistinct-from_apart}
 use Rattle.std.proofs.Math.ListN.{length-set}
 use Rattle.std.proofs.lemmas.Bool.{cases_eq, cases_lt, and_parts, and_from, and_right, eqb-true, eq-eqb, ne_eqb, cases_Bool, or_cases}
 use Rattle.hat_layer.specs.declared.translation.Translation.{Translation}
-use Rattle.hat_layer.specs.Pool.{Pool, holds, is_of, frame_of, leads, at, due, hand_after, is_full, cleared, was_referenced, was_modified, drop_frame, change_frame}
+use Rattle.hat_layer.specs.Pool.{Pool, AreDistinct, fresh, holds, is_of, frame_of, leads, at, due, hand_after, is_full, cleared, was_referenced, was_modified, drop_frame, change_frame}
 use Rattle.hat_layer.specs.Table.{FindsHeld, LeadsToFrame, Walks, IsPast, left_of}
 use Rattle.hat_layer.specs.Free.{IsHat, IsOn, Chooses, falling}
 
@@ -58,10 +59,10 @@ at-held [] space page k t e is one = let z : None ≡ Some t = e in cc
 at-held (o ∷ os) space page zero t e is one =
     ap (λ (b : Bool). option_and_then (λ (o : Option Translation). o) (cond b (Some o) (find (λ (o : Option Translation). holds space page o) os))) (ap (λ (o : Option Translation). holds space page o) e ∙ is) ∙ e
 at-held (o ∷ os) space page (suc k) t e is one = elim (cases_Bool (holds space page o)) [
-    | inl h ↦ let z : zero ≡ suc k = one zero h in absurd (omega arith)
-    | inr h ↦ ap (λ (b : Bool). option_and_then (λ (o : Option Translation). o) (cond b (Some o) (find (λ (o : Option Translation). holds space page o) os))) h
-        ∙ at-held os space page k t e is (λ j g. let z : suc j ≡ suc k = one (suc j) g in omega arith)
-  ]
+  | inl h ↦ let z : zero ≡ suc k = one zero h in absurd (omega arith)
+  | inr h ↦ ap (λ (b : Bool). option_and_then (λ (o : Option Translation). o) (cond b (Some o) (find (λ (o : Option Translation). holds space page o) os))) h
+      ∙ at-held os space page k t e is (λ j g. let z : suc j ≡ suc k = one (suc j) g in omega arith)
+]
 
 -- a change of the one place that holds the page, and none where no place does
 pub changes-held : (h : Option Translation → Option Translation) (places : List (Option Translation)) (space page k : ℕ) (t : Translation) → get_or places k None ≡ Some t → is_of space page t ≡ true → ((j : ℕ) → holds space page (get_or places j None) ≡ true → j ≡ k) →
@@ -118,7 +119,8 @@ module _ (places : List (Option Translation)) (room hand : ℕ) where
           | inl q ↦ let z : Some new ≡ None = sym (get_or-set_same places place (Some new) None lt) ∙ subst (λ (k : ℕ). get_or (set places place (Some new)) k None ≡ None) q e in cc
           | inr ne ↦ h.all k (omega arith) (sym (get_or-set_other places place k (Some new) None ne) ∙ e)
         ];
-        apart = h.apart }
+        apart = h.apart;
+      }
 
   -- a place off the stack gets a translation
   pub hat-popped : (free : List ℕ) (place : ℕ) (new : Translation) → IsHat places (free ++ place ∷ []) room hand → IsHat (set places place (Some new)) free room hand
@@ -133,19 +135,20 @@ module _ (places : List (Option Translation)) (room hand : ℕ) where
         room_for_all = let a = h.room_for_all in omega arith;
         within = λ i l. let a = subst (λ (k : ℕ). k < length places) (get-front free (place ∷ []) i l) (h.within i (omega arith)) in omega arith;
         empty = λ i l.
-          let e = subst (λ (k : ℕ). get_or places k None ≡ None) (get-front free (place ∷ []) i l) (h.empty i (omega arith)) in
-          get_or-set_other places place (get_or free i 0) (Some new) None (λ q. h.apart i (length free) l last (get-front free (place ∷ []) i l ∙ q ∙ sym (get-last free place))) ∙ e;
+            let e = subst (λ (k : ℕ). get_or places k None ≡ None) (get-front free (place ∷ []) i l) (h.empty i (omega arith)) in
+            get_or-set_other places place (get_or free i 0) (Some new) None (λ q. h.apart i (length free) l last (get-front free (place ∷ []) i l ∙ q ∙ sym (get-last free place))) ∙ e;
         all = λ k l e. elim (cases_eq k place) [
           | inl q ↦ let z : Some new ≡ None = sym (get_or-set_same places place (Some new) None lt) ∙ subst (λ (k : ℕ). get_or (set places place (Some new)) k None ≡ None) q e in cc
           | inr ne ↦
               let on = h.all k (omega arith) (sym (get_or-set_other places place k (Some new) None ne) ∙ e) in
               let il = on.1.0 in
               elim (cases_lt on.0 (length free)) [
-              | inl front ↦ (on.0, (front, sym (get-front free (place ∷ []) on.0 front) ∙ on.1.1))
-              | inr back ↦ let q : on.0 ≡ length free = omega arith in absurd (ne (sym on.1.1 ∙ ap (λ (i : ℕ). get_or (free ++ place ∷ []) i 0) q ∙ get-last free place))
-            ]
+                | inl front ↦ (on.0, (front, sym (get-front free (place ∷ []) on.0 front) ∙ on.1.1))
+                | inr back ↦ let q : on.0 ≡ length free = omega arith in absurd (ne (sym on.1.1 ∙ ap (λ (i : ℕ). get_or (free ++ place ∷ []) i 0) q ∙ get-last free place))
+              ]
         ];
-        apart = λ i j l lj q. h.apart i j l (omega arith) (get-front free (place ∷ []) i (omega arith) ∙ q ∙ sym (get-front free (place ∷ []) j lj)) }
+        apart = λ i j l lj q. h.apart i j l (omega arith) (get-front free (place ∷ []) i (omega arith) ∙ q ∙ sym (get-front free (place ∷ []) j lj));
+      }
 
   -- the place at the hand of a full pool gets a translation
   pub hat-turned : (hand' : ℕ) (new : Translation) → IsHat places [] room hand → hand' < length places → IsHat (set places hand (Some new)) [] room hand'
@@ -162,7 +165,8 @@ module _ (places : List (Option Translation)) (room hand : ℕ) where
           | inl q ↦ let z : Some new ≡ None = sym (get_or-set_same places hand (Some new) None lt) ∙ subst (λ (k : ℕ). get_or (set places hand (Some new)) k None ≡ None) q e in cc
           | inr ne ↦ h.all k (omega arith) (sym (get_or-set_other places hand k (Some new) None ne) ∙ e)
         ];
-        apart = λ i j l lj. absurd (omega arith) }
+        apart = λ i j l lj. absurd (omega arith);
+      }
 
   -- a place is emptied, and goes onto the stack
   pub hat-pushed : (free : List ℕ) (room' place : ℕ) (old : Translation) → IsHat places free room hand → get_or places place None ≡ Some old → room ≤ room' → IsHat (set places place None) (free ++ place ∷ []) room' hand
@@ -181,9 +185,9 @@ module _ (places : List (Option Translation)) (room hand : ℕ) where
         ];
         empty = λ i l. elim (cases_lt i (length free)) [
           | inl front ↦ subst (λ (k : ℕ). get_or (set places place None) k None ≡ None) (sym (get-front free (place ∷ []) i front)) (elim (cases_eq (get_or free i 0) place) [
-              | inl q ↦ subst (λ (k : ℕ). get_or (set places place None) k None ≡ None) (sym q) here
-              | inr ne ↦ get_or-set_other places place (get_or free i 0) None None ne ∙ h.empty i front
-            ])
+            | inl q ↦ subst (λ (k : ℕ). get_or (set places place None) k None ≡ None) (sym q) here
+            | inr ne ↦ get_or-set_other places place (get_or free i 0) None None ne ∙ h.empty i front
+          ])
           | inr back ↦ let q : i ≡ length free = omega arith in subst (λ (k : ℕ). get_or (set places place None) k None ≡ None) (sym (ap (λ (i : ℕ). get_or (free ++ place ∷ []) i 0) q ∙ get-last free place)) here
         ];
         all = λ k l e. elim (cases_eq k place) [
@@ -191,23 +195,24 @@ module _ (places : List (Option Translation)) (room hand : ℕ) where
           | inr ne ↦ let on = h.all k (omega arith) (sym (get_or-set_other places place k None None ne) ∙ e) in let il = on.1.0 in (on.0, (omega arith, get-front free (place ∷ []) on.0 il ∙ on.1.1))
         ];
         apart = λ i j l lj q.
-          let fi : i < length free = omega arith in
-          let a = sym (get-front free (place ∷ []) i fi) ∙ q in
-          elim (cases_lt j (length free)) [
-          | inl front ↦ h.apart i j l front (a ∙ get-front free (place ∷ []) j front)
-          | inr back ↦
-              let qj : j ≡ length free = omega arith in
-              let b : get_or free i 0 ≡ place = a ∙ ap (λ (i : ℕ). get_or (free ++ place ∷ []) i 0) qj ∙ get-last free place in
-              let z : None ≡ Some old = sym (h.empty i fi) ∙ subst (λ (k : ℕ). get_or places k None ≡ Some old) (sym b) is in cc
-        ] }
+            let fi : i < length free = omega arith in
+            let a = sym (get-front free (place ∷ []) i fi) ∙ q in
+            elim (cases_lt j (length free)) [
+              | inl front ↦ h.apart i j l front (a ∙ get-front free (place ∷ []) j front)
+              | inr back ↦
+                  let qj : j ≡ length free = omega arith in
+                  let b : get_or free i 0 ≡ place = a ∙ ap (λ (i : ℕ). get_or (free ++ place ∷ []) i 0) qj ∙ get-last free place in
+                  let z : None ≡ Some old = sym (h.empty i fi) ∙ subst (λ (k : ℕ). get_or places k None ≡ Some old) (sym b) is in cc
+            ];
+      }
 
 -- fewer places are free than there are, where one has a translation
 any-below : (xs : List ℕ) (n q : ℕ) → ((i : ℕ) → i < length xs → get_or xs i 0 < n) → list_any (λ (x : ℕ). q == x) xs ≡ true → q < n
 any-below [] n q h e = let z : false ≡ true = e in cc
 any-below (x ∷ xs) n q h e = elim (or_cases (q == x) (list_any (λ (x : ℕ). q == x) xs) e) [
-    | inl t ↦ let a = eqb-true q x t in let b = h zero (omega arith) in omega arith
-    | inr t ↦ any-below xs n q (λ i lt. h (suc i) (omega arith)) t
-  ]
+  | inl t ↦ let a = eqb-true q x t in let b = h zero (omega arith) in omega arith
+  | inr t ↦ any-below xs n q (λ i lt. h (suc i) (omega arith)) t
+]
 
 default-zero : (xs : List ℕ) (i d : ℕ) → i < length xs → get_or xs i d ≡ get_or xs i 0
 default-zero [] i d lt = absurd (omega arith)
@@ -239,18 +244,20 @@ due-of pool space page a f e g = ap (λ (a : Option Translation). cond (is_some 
 hand-of : (pool : Pool) (space page : ℕ) (a : Option Translation) (f : Bool) → at pool.places space page ≡ a → list_all (λ (o : Option Translation). is_some o) pool.places ≡ f → hand_after pool space page ≡ cond (is_some a) pool.hand (cond f (cond (pool.hand + 1 == length pool.places) 0 (pool.hand + 1)) pool.hand)
 hand-of pool space page a f e g = ap (λ (a : Option Translation). cond (is_some a) pool.hand (cond (list_all (λ (o : Option Translation). is_some o) pool.places) (cond (pool.hand + 1 == length pool.places) 0 (pool.hand + 1)) pool.hand)) e ∙ ap (λ (f : Bool). cond (is_some a) pool.hand (cond f (cond (pool.hand + 1 == length pool.places) 0 (pool.hand + 1)) pool.hand)) g
 
-pub choose-held : (pool : Pool) (free : List ℕ) (room space page : ℕ) (r : ℕ × Translation) → IsHat pool.places free room pool.hand → FindsHeld pool.places space page (Some r) → Chooses pool free room pool.hand space page r.0
-choose-held pool free room space page r h f =
+pub choose-held : (pool : Pool) (free : List ℕ) (room space page : ℕ) (r : ℕ × Translation) → IsHat pool.places free room pool.hand → AreDistinct pool.places → FindsHeld pool.places space page (Some r) → Chooses pool free room pool.hand space page r.0
+choose-held pool free room space page r h d f =
     let a = at-held pool.places space page r.0 r.1 f.0 f.1 f.2 in
     record {
       within = some-within pool.places r.0 r.1 f.0;
+      distinct = d;
       alone = λ k ne. elim (cases_Bool (holds space page (get_or pool.places k None))) [ inl t ↦ absurd (ne (f.2 k t)) | inr z ↦ z ];
       gives = f.0 ∙ sym (due-of pool space page (Some r.1) (list_all (λ (o : Option Translation). is_some o) pool.places) a refl);
       turns = sym (hand-of pool space page (Some r.1) (list_all (λ (o : Option Translation). is_some o) pool.places) a refl);
-      fits = λ new. hat-some pool.places room pool.hand free r.0 r.1 new h f.0 }
+      fits = λ new. hat-some pool.places room pool.hand free r.0 r.1 new h f.0;
+    }
 
-pub choose-free : (pool : Pool) (free : List ℕ) (room space page place : ℕ) → IsHat pool.places (free ++ place ∷ []) room pool.hand → FindsHeld pool.places space page None → Chooses pool free room pool.hand space page place
-choose-free pool free room space page place h f =
+pub choose-free : (pool : Pool) (free : List ℕ) (room space page place : ℕ) → IsHat pool.places (free ++ place ∷ []) room pool.hand → AreDistinct pool.places → FindsHeld pool.places space page None → Chooses pool free room pool.hand space page place
+choose-free pool free room space page place h d f =
     let a = at-none pool.places space page f in
     let m = length-append free (place ∷ []) in
     let last : length free < length (free ++ place ∷ []) = omega arith in
@@ -259,25 +266,29 @@ choose-free pool free room space page place h f =
     let full = full-false pool.places place lt e in
     record {
       within = lt;
+      distinct = d;
       alone = λ k ne. f k;
       gives = e ∙ sym (due-of pool space page None false a full);
       turns = sym (hand-of pool space page None false a full);
-      fits = λ new. hat-popped pool.places room pool.hand free place new h }
+      fits = λ new. hat-popped pool.places room pool.hand free place new h;
+    }
 
-pub choose-hand : (pool : Pool) (room hand' space page : ℕ) → IsHat pool.places [] room pool.hand → FindsHeld pool.places space page None → hand' ≡ cond (pool.hand + 1 == length pool.places) 0 (pool.hand + 1) → Chooses pool [] room hand' space page pool.hand
-choose-hand pool room hand' space page h f e =
+pub choose-hand : (pool : Pool) (room hand' space page : ℕ) → IsHat pool.places [] room pool.hand → AreDistinct pool.places → FindsHeld pool.places space page None → hand' ≡ cond (pool.hand + 1 == length pool.places) 0 (pool.hand + 1) → Chooses pool [] room hand' space page pool.hand
+choose-hand pool room hand' space page h d f e =
     let a = at-none pool.places space page f in
     let lt = h.hand_in in
     let full = full-true pool.places (λ k l z. let on = h.all k l z in let il = on.1.0 in omega arith) in
     record {
       within = lt;
+      distinct = d;
       alone = λ k ne. f k;
       gives = sym (due-of pool space page None true a full);
       turns = e ∙ sym (hand-of pool space page None true a full);
       fits = λ new. hat-turned pool.places room pool.hand hand' new h (elim (cases_eq (pool.hand + 1) (length pool.places)) [
         | inl q ↦ let z : hand' ≡ 0 = e ∙ ap (λ (b : Bool). cond b 0 (pool.hand + 1)) (eq-eqb (pool.hand + 1) (length pool.places) q) in omega arith
         | inr ne ↦ let z : hand' ≡ pool.hand + 1 = e ∙ ap (λ (b : Bool). cond b 0 (pool.hand + 1)) (ne_eqb (pool.hand + 1) (length pool.places) ne) in omega arith
-      ]) }
+      ]);
+    }
 
 -- the free places of an empty pool
 length-falling : (n : ℕ) → length (falling n) ≡ n
@@ -309,7 +320,8 @@ hat-new pool room some few all =
       within = λ i l. let a = falling-at pool i (omega arith) in omega arith;
       empty = λ i l. empty-at pool (get_or (falling pool) i 0);
       all = λ k l e. (pool - (k + 1), (omega arith, let a = falling-at pool (pool - (k + 1)) (omega arith) in omega arith));
-      apart = λ i j l lj q. let a = falling-at pool i (omega arith) in let b = falling-at pool j (omega arith) in omega arith }
+      apart = λ i j l lj q. let a = falling-at pool i (omega arith) in let b = falling-at pool j (omega arith) in omega arith;
+    }
 
 pub places-new : (pool : ℕ) (places : List (Option Translation)) → places ≡ replicate pool None → length places ≡ pool
 places-new pool places e = ap length e ∙ length-empty pool
@@ -342,7 +354,7 @@ drop-step places frame k t e f = map-step (λ (o : Option Translation). cond (le
 pub clear-step : (places : List (Option Translation)) (frame k : ℕ) (t : Translation) → get_or places k None ≡ Some t → t.frame ≡ frame → change_frame frame cleared (set places k (Some (cleared t))) ≡ change_frame frame cleared places
 clear-step places frame k t e f = map-step (λ (o : Option Translation). cond (leads frame o) (option_map cleared o) o) places k (Some (cleared t))
     (ap (λ (b : Bool). cond b (Some (cleared t)) (Some (cleared t))) (leads-true frame t f)
-     ∙ sym (ap (λ (o : Option Translation). cond (leads frame o) (option_map cleared o) o) e ∙ ap (λ (b : Bool). cond b (Some (cleared t)) (Some t)) (leads-true frame t f)))
+    ∙ sym (ap (λ (o : Option Translation). cond (leads frame o) (option_map cleared o) o) e ∙ ap (λ (b : Bool). cond b (Some (cleared t)) (Some t)) (leads-true frame t f)))
 
 pub referenced-step : (places : List (Option Translation)) (frame k : ℕ) (t : Translation) (x : Option Translation) (acc acc' : Bool) → get_or places k None ≡ Some t → t.frame ≡ frame → was_referenced frame x ≡ false → acc' ≡ (acc || t.referenced) → (acc' || list_any (was_referenced frame) (set places k x)) ≡ (acc || list_any (was_referenced frame) places)
 referenced-step places frame k t x acc acc' e f w is =
@@ -373,23 +385,23 @@ module _ (places : List (Option Translation)) (frame : ℕ) (clear : (k : ℕ) �
   fixed : (o : Option Translation) → (frame_of o ≡ Some frame → o ≡ option_map cleared o) → cond (leads frame o) (option_map cleared o) o ≡ o
   fixed None h = refl
   fixed (Some t) h = elim (cases_Bool (t.frame == frame)) [
-      | inl b ↦ ap (λ (b : Bool). cond b (Some (cleared t)) (Some t)) b ∙ sym (h (ap (λ (f : ℕ). Some f) (eqb-true t.frame frame b)))
-      | inr b ↦ ap (λ (b : Bool). cond b (Some (cleared t)) (Some t)) b
-    ]
+    | inl b ↦ ap (λ (b : Bool). cond b (Some (cleared t)) (Some t)) b ∙ sym (h (ap (λ (f : ℕ). Some f) (eqb-true t.frame frame b)))
+    | inr b ↦ ap (λ (b : Bool). cond b (Some (cleared t)) (Some t)) b
+  ]
 
   unreferenced : (o : Option Translation) → (frame_of o ≡ Some frame → o ≡ option_map cleared o) → was_referenced frame o ≡ false
   unreferenced None h = refl
   unreferenced (Some t) h = elim (cases_Bool (t.frame == frame)) [
-      | inl b ↦ ap (was_referenced frame) (h (ap (λ (f : ℕ). Some f) (eqb-true t.frame frame b))) ∙ and_right (t.frame == frame) false refl
-      | inr b ↦ ap (λ (b : Bool). b && t.referenced) b
-    ]
+    | inl b ↦ ap (was_referenced frame) (h (ap (λ (f : ℕ). Some f) (eqb-true t.frame frame b))) ∙ and_right (t.frame == frame) false refl
+    | inr b ↦ ap (λ (b : Bool). b && t.referenced) b
+  ]
 
   unmodified : (o : Option Translation) → (frame_of o ≡ Some frame → o ≡ option_map cleared o) → was_modified frame o ≡ false
   unmodified None h = refl
   unmodified (Some t) h = elim (cases_Bool (t.frame == frame)) [
-      | inl b ↦ ap (was_modified frame) (h (ap (λ (f : ℕ). Some f) (eqb-true t.frame frame b))) ∙ and_right (t.frame == frame) false refl
-      | inr b ↦ ap (λ (b : Bool). b && t.modified) b
-    ]
+    | inl b ↦ ap (was_modified frame) (h (ap (λ (f : ℕ). Some f) (eqb-true t.frame frame b))) ∙ and_right (t.frame == frame) false refl
+    | inr b ↦ ap (λ (b : Bool). b && t.modified) b
+  ]
 
   pub clear-places : change_frame frame cleared places ≡ places
   clear-places = map-fixed (λ (o : Option Translation). cond (leads frame o) (option_map cleared o) o) places (λ k. fixed (get_or places k None) (clear k))
@@ -439,13 +451,13 @@ walks-step places frame place old at after w is l = record { here = here after l
 
     past : (after : Option (ℕ × Translation)) → LeadsToFrame (set places place (Some (cleared old))) frame (place + 1) after → (k : ℕ) → frame_of (get_or (set places place (Some (cleared old))) k None) ≡ Some frame → IsPast after k → get_or (set places place (Some (cleared old))) k None ≡ option_map cleared (get_or (set places place (Some (cleared old))) k None)
     past None l k e p = elim (cases_eq k place) [
-        | inl q ↦ same k q
-        | inr ne ↦ elim (cases_lt k place) [ inl lt ↦ before k lt ne e | inr ge ↦ absurd (l k (omega arith) e) ]
-      ]
+      | inl q ↦ same k q
+      | inr ne ↦ elim (cases_lt k place) [ inl lt ↦ before k lt ne e | inr ge ↦ absurd (l k (omega arith) e) ]
+    ]
     past (Some r) l k e p = elim (cases_eq k place) [
-        | inl q ↦ same k q
-        | inr ne ↦ elim (cases_lt k place) [ inl lt ↦ before k lt ne e | inr ge ↦ let a = l.3 k (omega arith) e in absurd (omega arith) ]
-      ]
+      | inl q ↦ same k q
+      | inr ne ↦ elim (cases_lt k place) [ inl lt ↦ before k lt ne e | inr ge ↦ let a = l.3 k (omega arith) e in absurd (omega arith) ]
+    ]
 
 pub walk-falls : (count : ℕ) (places : List (Option Translation)) (frame place : ℕ) (old : Translation) (at after : Option (ℕ × Translation)) → at ≡ Some (place, old) → place < count → LeadsToFrame places frame (place + 1) after → left_of count after < left_of count at
 walk-falls count places frame place old at after is lt l = subst (λ (a : Option (ℕ × Translation)). left_of count after < left_of count a) (sym is) (go after l)
@@ -464,3 +476,32 @@ hat-made pool room places free p f some few all =
 pub falls-one : (n : ℕ) → 0 < n → (n - 1) ∷ falling (n - 1) ≡ falling n
 falls-one zero lt = absurd (omega arith)
 falls-one (suc n) lt = let e : suc n - 1 ≡ n = omega arith in ap (λ (k : ℕ). k ∷ falling k) e
+
+-- what a load leaves at its own page, and at all others
+module _ (pool : Pool) (free' : List ℕ) (room hand' space page place : ℕ) (c : Chooses pool free' room hand' space page place) (frame : ℕ) (writable : Bool) where
+  own : is_of space page (fresh space page frame writable) ≡ true
+  own = and_from (space == space) (page == page) (eq-eqb space space refl) (eq-eqb page page refl)
+
+  pub load-own : at (set pool.places place (Some (fresh space page frame writable))) space page ≡ Some (fresh space page frame writable)
+  load-own = at-held (set pool.places place (Some (fresh space page frame writable))) space page place (fresh space page frame writable) (get_or-set_same pool.places place (Some (fresh space page frame writable)) None c.within) own
+      (λ j h. elim (cases_eq j place) [
+        | inl q ↦ q
+        | inr ne ↦ let z : true ≡ false = sym h ∙ ap (λ (o : Option Translation). holds space page o) (get_or-set_other pool.places place j (Some (fresh space page frame writable)) None ne) ∙ c.alone j ne in cc
+      ])
+
+  other : (s p : ℕ) → is_of s p (fresh space page frame writable) ≡ false → (k : ℕ) → k ≡ place → holds s p (get_or (set pool.places place (Some (fresh space page frame writable))) k None) ≡ false
+  other s p differs k q = subst (λ (k : ℕ). holds s p (get_or (set pool.places place (Some (fresh space page frame writable))) k None) ≡ false) (sym q)
+      (ap (λ (o : Option Translation). holds s p o) (get_or-set_same pool.places place (Some (fresh space page frame writable)) None c.within) ∙ differs)
+
+  pub load-kept : (s p : ℕ) → is_of s p (fresh space page frame writable) ≡ false → holds s p (due pool space page) ≡ false → at (set pool.places place (Some (fresh space page frame writable))) s p ≡ at pool.places s p
+  load-kept s p differs kept = ap (λ (o : Option (Option Translation)). option_and_then (λ (o : Option Translation). o) o)
+      (find_past (λ (o : Option Translation). holds s p o) pool.places place (Some (fresh space page frame writable)) None (ap (λ (o : Option Translation). holds s p o) c.gives ∙ kept) differs)
+
+  pub load-gone : (s p : ℕ) → is_of s p (fresh space page frame writable) ≡ false → holds s p (due pool space page) ≡ true → at (set pool.places place (Some (fresh space page frame writable))) s p ≡ None
+  load-gone s p differs gone = at-none (set pool.places place (Some (fresh space page frame writable))) s p (λ k. elim (cases_eq k place) [
+    | inl q ↦ other s p differs k q
+    | inr ne ↦ elim (cases_Bool (holds s p (get_or pool.places k None))) [
+      | inl t ↦ absurd (ne (c.distinct k place s p t (ap (λ (o : Option Translation). holds s p o) c.gives ∙ gone)))
+      | inr f ↦ ap (λ (o : Option Translation). holds s p o) (get_or-set_other pool.places place k (Some (fresh space page frame writable)) None ne) ∙ f
+    ]
+  ])

@@ -39,7 +39,7 @@ pub leads-some : (owner : List (Option ℕ)) (places : List (Option Translation)
 leads-some owner places frame low p r e l is =
     let f = frame-is (get_or places p None) frame (sym (ap (λ (o : List (Option ℕ)). owner_at o p) e ∙ map-at frame_of refl places p) ∙ l.1) in
     subst (λ (r : Option (ℕ × Translation)). LeadsToFrame places frame low r) (sym (is ∙ ap (λ (o : Option Translation). option_map (λ (t : Translation). (p, t)) o) f.1))
-      (l.0, f.1, f.2, λ k le h. l.2 k le (ap (λ (o : List (Option ℕ)). owner_at o k) e ∙ map-at frame_of refl places k ∙ h))
+    (l.0, f.1, f.2, λ k le h. l.2 k le (ap (λ (o : List (Option ℕ)). owner_at o k) e ∙ map-at frame_of refl places k ∙ h))
 
 pub held-of : (places : List (Option Translation)) (space page p : ℕ) (r : Option (ℕ × Translation)) → FindsPlace places space page (Some p) → r ≡ option_map (λ (t : Translation). (p, t)) (get_or places p None) → FindsHeld places space page r
 held-of places space page p r h is = go (get_or places p None) refl
@@ -47,7 +47,7 @@ held-of places space page p r h is = go (get_or places p None) refl
     go : (o : Option Translation) → get_or places p None ≡ o → FindsHeld places space page r
     go None e = let z : false ≡ true = sym (ap (λ (o : Option Translation). holds space page o) e) ∙ h.0 in cc
     go (Some t) e = subst (λ (r : Option (ℕ × Translation)). FindsHeld places space page r) (sym (is ∙ ap (λ (o : Option Translation). option_map (λ (t : Translation). (p, t)) o) e))
-      (e, sym (ap (λ (o : Option Translation). holds space page o) e) ∙ h.0, h.1)
+        (e, sym (ap (λ (o : Option Translation). holds space page o) e) ∙ h.0, h.1)
 
 pub record OfPage (space page : ℕ) (t : Translation) : Type 0 where
   pub space_is : t.space ≡ space
@@ -74,21 +74,21 @@ held-within (p ∷ ps) (suc k) space page h = let r = held-within ps k space pag
 pub distinct-set : (places : List (Option Translation)) (place : ℕ) (new : Option Translation) → place < length places → AreDistinct places →
     ((k space page : ℕ) → k ≢ place → holds space page new ≡ true → holds space page (get_or places k None) ≡ true → ⊥) → AreDistinct (set places place new)
 distinct-set places place new lt d apart i j space page a b = elim (cases_eq i place) [
-    | inl q ↦ elim (cases_eq j place) [
-      | inl r ↦ q ∙ sym r
-      | inr nr ↦ absurd (apart j space page nr
-          (ap (λ (o : Option Translation). holds space page o) (sym (get_or-set_same places place new None lt)) ∙ subst (λ (i : ℕ). holds space page (get_or (set places place new) i None) ≡ true) q a)
-          (ap (λ (o : Option Translation). holds space page o) (sym (get_or-set_other places place j new None nr)) ∙ b))
-    ]
-    | inr nq ↦ elim (cases_eq j place) [
-      | inl r ↦ absurd (apart i space page nq
-          (ap (λ (o : Option Translation). holds space page o) (sym (get_or-set_same places place new None lt)) ∙ subst (λ (j : ℕ). holds space page (get_or (set places place new) j None) ≡ true) r b)
-          (ap (λ (o : Option Translation). holds space page o) (sym (get_or-set_other places place i new None nq)) ∙ a))
-      | inr nr ↦ d i j space page
-          (ap (λ (o : Option Translation). holds space page o) (sym (get_or-set_other places place i new None nq)) ∙ a)
-          (ap (λ (o : Option Translation). holds space page o) (sym (get_or-set_other places place j new None nr)) ∙ b)
-    ]
+  | inl q ↦ elim (cases_eq j place) [
+    | inl r ↦ q ∙ sym r
+    | inr nr ↦ absurd (apart j space page nr
+        (ap (λ (o : Option Translation). holds space page o) (sym (get_or-set_same places place new None lt)) ∙ subst (λ (i : ℕ). holds space page (get_or (set places place new) i None) ≡ true) q a)
+        (ap (λ (o : Option Translation). holds space page o) (sym (get_or-set_other places place j new None nr)) ∙ b))
   ]
+  | inr nq ↦ elim (cases_eq j place) [
+    | inl r ↦ absurd (apart i space page nq
+        (ap (λ (o : Option Translation). holds space page o) (sym (get_or-set_same places place new None lt)) ∙ subst (λ (j : ℕ). holds space page (get_or (set places place new) j None) ≡ true) r b)
+        (ap (λ (o : Option Translation). holds space page o) (sym (get_or-set_other places place i new None nq)) ∙ a))
+    | inr nr ↦ d i j space page
+        (ap (λ (o : Option Translation). holds space page o) (sym (get_or-set_other places place i new None nq)) ∙ a)
+        (ap (λ (o : Option Translation). holds space page o) (sym (get_or-set_other places place j new None nr)) ∙ b)
+  ]
+]
 
 pub distinct-put : (places : List (Option Translation)) (place : ℕ) (new : Translation) → place < length places → AreDistinct places → ((k : ℕ) → holds new.space new.page (get_or places k None) ≡ false) → AreDistinct (set places place (Some new))
 distinct-put places place new lt d absent = distinct-set places place (Some new) lt d (λ k space page ne h g.
@@ -128,7 +128,8 @@ put-table places pages frames pages' frames' slots place slot new t lt absent s 
   slots_are = n ∙ t.slots_are;
   pages = p ∙ ap (λ (o : List (Option ℕ)). set o place (Some slot)) t.pages ∙ ap (λ (k : ℕ). set (map (slot_at slots) places) place (Some k)) s ∙ sym (map-set (slot_at slots) places place (Some new));
   frames = f ∙ ap (λ (o : List (Option ℕ)). set o place (Some new.frame)) t.frames ∙ sym (map-set frame_of places place (Some new));
-  distinct = distinct-put places place new lt t.distinct absent }
+  distinct = distinct-put places place new lt t.distinct absent;
+}
 
 pub take-table : (places : List (Option Translation)) (pages frames pages' frames' : Chained) (slots place : ℕ) (old : Translation) → IsTable places pages frames slots → get_or places place None ≡ Some old →
     pages'.chains ≡ pages.chains → pages'.owner ≡ set pages.owner place None → frames'.owner ≡ set frames.owner place None → IsTable (set places place None) pages' frames' slots
@@ -137,7 +138,8 @@ take-table places pages frames pages' frames' slots place old t is n p f = recor
   slots_are = n ∙ t.slots_are;
   pages = p ∙ ap (λ (o : List (Option ℕ)). set o place None) t.pages ∙ sym (map-set (slot_at slots) places place None);
   frames = f ∙ ap (λ (o : List (Option ℕ)). set o place None) t.frames ∙ sym (map-set frame_of places place None);
-  distinct = distinct-take places place (some-within places place old is) t.distinct }
+  distinct = distinct-take places place (some-within places place old is) t.distinct;
+}
 
 same-set : (f : Option Translation → Option ℕ) → f None ≡ None → (places : List (Option Translation)) (place : ℕ) (new : Option Translation) → f new ≡ f (get_or places place None) → map f places ≡ map f (set places place new)
 same-set f none places place new e = sym (map-set f places place new ∙ ap (λ (o : Option ℕ). set (map f places) place o) (e ∙ sym (map-at f none places place)) ∙ set-get_or (map f places) place None)
@@ -148,7 +150,8 @@ change-table places pages frames slots place old new t is same = record {
   slots_are = t.slots_are;
   pages = t.pages ∙ same-set (slot_at slots) refl places place (Some new) (ap (λ (s : ℕ). Some (slot_of slots s new.page)) same.space ∙ ap (λ (p : ℕ). Some (slot_of slots old.space p)) same.page ∙ sym (ap (slot_at slots) is));
   frames = t.frames ∙ same-set frame_of refl places place (Some new) (ap (λ (f : ℕ). Some f) same.frame ∙ sym (ap frame_of is));
-  distinct = distinct-change places place old new t.distinct is same }
+  distinct = distinct-change places place old new t.distinct is same;
+}
 
 -- a walk down the slot of a page
 ahead-of : (owner : List (Option ℕ)) (slot low k : ℕ) (at : Option ℕ) → LeadsFrom owner slot low at → low ≤ k → owner_at owner k ≡ Some slot → IsAhead at k
@@ -166,15 +169,17 @@ on-slot places pages frames slots slot space page k t s h =
 pub start-walk : (places : List (Option Translation)) (pages frames : Chained) (slots slot space page : ℕ) (at : Option ℕ) → IsTable places pages frames slots → slot ≡ slot_of slots space page → LeadsFrom pages.owner slot 0 at → Seeks places pages.owner slot space page at
 start-walk places pages frames slots slot space page at t s l = record {
   here = λ p e. here-of pages.owner slot 0 p at l e;
-  ahead = λ k h. ahead-of pages.owner slot 0 k at l (omega arith) (on-slot places pages frames slots slot space page k t s h) }
+  ahead = λ k h. ahead-of pages.owner slot 0 k at l (omega arith) (on-slot places pages frames slots slot space page k t s h);
+}
 
 pub step-walk : (places : List (Option Translation)) (pages frames : Chained) (slots slot space page place : ℕ) (at after : Option ℕ) → IsTable places pages frames slots → slot ≡ slot_of slots space page → Seeks places pages.owner slot space page at → at ≡ Some place → holds space page (get_or places place None) ≡ false → LeadsFrom pages.owner slot (place + 1) after → Seeks places pages.owner slot space page after
 step-walk places pages frames slots slot space page place at after t s seeks is missed l = record {
   here = λ p e. here-of pages.owner slot (place + 1) p after l e;
   ahead = λ k h.
-    let a : place ≤ k = subst (λ (o : Option ℕ). IsAhead o k) is (seeks.ahead k h) in
-    let ne : k ≢ place = λ q. let z : true ≡ false = sym (subst (λ (k : ℕ). holds space page (get_or places k None) ≡ true) q h) ∙ missed in cc in
-    ahead-of pages.owner slot (place + 1) k after l (omega arith) (on-slot places pages frames slots slot space page k t s h) }
+      let a : place ≤ k = subst (λ (o : Option ℕ). IsAhead o k) is (seeks.ahead k h) in
+      let ne : k ≢ place = λ q. let z : true ≡ false = sym (subst (λ (k : ℕ). holds space page (get_or places k None) ≡ true) q h) ∙ missed in cc in
+      ahead-of pages.owner slot (place + 1) k after l (omega arith) (on-slot places pages frames slots slot space page k t s h);
+}
 
 pub walk-within : (places : List (Option Translation)) (pages frames : Chained) (slots slot place : ℕ) → IsTable places pages frames slots → owner_at pages.owner place ≡ Some slot → place < length places
 walk-within places pages frames slots slot place t e =
@@ -187,9 +192,9 @@ walk-within places pages frames slots slot place t e =
 
 pub none-left : (places : List (Option Translation)) (owner : List (Option ℕ)) (slot space page : ℕ) (at : Option ℕ) → Seeks places owner slot space page at → at ≡ None → FindsPlace places space page None
 none-left places owner slot space page at seeks is = λ k. elim (cases_Bool (holds space page (get_or places k None))) [
-    | inl t ↦ absurd (subst (λ (o : Option ℕ). IsAhead o k) is (seeks.ahead k t))
-    | inr f ↦ f
-  ]
+  | inl t ↦ absurd (subst (λ (o : Option ℕ). IsAhead o k) is (seeks.ahead k t))
+  | inr f ↦ f
+]
 
 pub falls : (owner : List (Option ℕ)) (slot place : ℕ) (at after : Option ℕ) → at ≡ Some place → place < length owner → LeadsFrom owner slot (place + 1) after → left (length owner) after < left (length owner) at
 falls owner slot place at after is lt l = subst (λ (o : Option ℕ). left (length owner) after < left (length owner) o) (sym is) (go after l)

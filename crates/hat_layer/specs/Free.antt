@@ -1,7 +1,7 @@
 -- The free places of a pool, and the hand that steals.
 use Rattle.std.specs.Prelude.{zero, suc, ◌≡◌, ◌≢◌, ℕ, ◌<◌, ◌≤◌, ◌^◌, ◌∷◌, [], List, Option, Some, None, false, length, slice_index_or, slice_index, slice_set}
 use Rattle.hat_layer.specs.declared.translation.Translation.{Translation}
-use Rattle.hat_layer.specs.Pool.{Pool, holds, due, hand_after}
+use Rattle.hat_layer.specs.Pool.{Pool, AreDistinct, holds, due, hand_after}
 
 -- the stack has this place
 abbrev pub IsOn : List ℕ → ℕ → Type 0
@@ -21,6 +21,7 @@ pub record IsHat (places : List (Option Translation)) (free : List ℕ) (room ha
 pub record Chooses (pool : Pool) (free' : List ℕ) (room hand' space page place : ℕ) : Type 0 where
   pub within : place < length pool.places
   pub gives : slice_index_or pool.places place None ≡ due pool space page
+  pub distinct : AreDistinct pool.places
   pub alone : (k : ℕ) → k ≢ place → holds space page (slice_index_or pool.places k None) ≡ false
   pub turns : hand' ≡ hand_after pool space page
   pub fits : (new : Translation) → IsHat (slice_set pool.places place (Some new)) free' room hand'

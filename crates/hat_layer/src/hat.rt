@@ -1,6 +1,6 @@
 //! The translations of all spaces: a map that only forgets.
 ghost use Rattle.std.specs.Prelude.{◌≡◌, ◌≢◌, ℕ, ◌+◌, ◌<◌, ◌≤◌, ◌==◌, ◌&&◌, ◌^◌, [], ◌∷◌, ◌++◌, length, replicate, true, false, Option, Some, None, IfOk, IsTrue, IsSomeAnd, slice_set, slice_index_or, if◌then◌else◌, option_map, vec_len, vec_capacity};
-ghost use Rattle.hat_layer.specs.Pool.{Pool, holds, frame_of, at, told, fresh, touched, read_only, cleared, change_at, drop_at, change_frame, drop_frame, bits_of, due, hand_after};
+ghost use Rattle.hat_layer.specs.Pool.{Pool, AreDistinct, is_of, holds, frame_of, at, told, fresh, touched, read_only, cleared, change_at, drop_at, change_frame, drop_frame, bits_of, due, hand_after};
 ghost use Rattle.hat_layer.specs.Free.{IsHat, Chooses, falling};
 
 use crate::table::Table;
@@ -35,7 +35,14 @@ impl Model for Hat {
 
 // The place that a load takes: that of the same page, else a free one, else the one at the hand,
 // which moves on.
-fn choose(table: &Table, free: &mut Vec<u32>, hand: &mut u32, pool: u32, space: u32, page: u32) -> u32
+fn choose(
+    table: &Table,
+    free: &mut Vec<u32>,
+    hand: &mut u32,
+    pool: u32,
+    space: u32,
+    page: u32,
+) -> u32
     requires fits { IsHat table.now.places free.old.items (vec_capacity free.old) hand.old }
     requires pool { pool ≡ length table.now.places }
     ensures { Chooses (record { places = table.now.places; hand = hand.old; frames = table.now.frames }) free.new.items (vec_capacity free.new) hand.new space page result }
@@ -183,7 +190,8 @@ impl Hat {
 
     /// The frame that a page leads to, and whether it is writable, in constant expected time.
     pub fn find(&self, space: u32, page: u32) -> Option<(u32, bool)>
-        ensures { result ≡ option_map (λ t. (t.frame, t.writable)) (at self.now.places space page) }
+        ensures found { result ≡ option_map (λ t. (t.frame, t.writable)) (at self.now.places space page) }
+        ensures distinct { AreDistinct self.now.places }
     {
         let (_place, held) = self.table.held(space, page)?;
         Some((held.frame, held.writable))
@@ -195,10 +203,20 @@ impl Hat {
         requires { frame < self.old.frames }
         ensures stolen { result ≡ option_map told (due self.old space page) }
         ensures places { (place : ℕ) × (place < length self.old.places) × (slice_index_or self.old.places place None ≡ due self.old space page) × (self.new.places ≡ slice_set self.old.places place (Some (fresh space page frame writable))) }
+        ensures loaded { at self.new.places space page ≡ Some (fresh space page frame writable) }
+        ensures kept { (s p : ℕ) → is_of s p (fresh space page frame writable) ≡ false → holds s p (due self.old space page) ≡ false → at self.new.places s p ≡ at self.old.places s p }
+        ensures gone { (s p : ℕ) → is_of s p (fresh space page frame writable) ≡ false → holds s p (due self.old space page) ≡ true → at self.new.places s p ≡ None }
         ensures hand { self.new.hand ≡ hand_after self.old space page }
         ensures frames { self.new.frames ≡ self.old.frames }
     {
-        let place = choose(&self.table, &mut self.free, &mut self.hand, self.pool, space, page);
+        let place = choose(
+            &self.table,
+            &mut self.free,
+            &mut self.hand,
+            self.pool,
+            space,
+            page,
+        );
         let new = Translation {
             space,
             page,

@@ -1,6 +1,6 @@
 //! A pool of translations that are found by page and by frame.
 ghost use Rattle.std.specs.Prelude.{◌≡◌, ℕ, ◌+◌, ◌<◌, ◌≤◌, length, replicate, true, false, Option, Some, None, IfOk, slice_set, slice_index_or, option_map, map};
-ghost use Rattle.hat_layer.specs.Pool.{holds, frame_of};
+ghost use Rattle.hat_layer.specs.Pool.{holds, frame_of, AreDistinct};
 ghost use Rattle.hat_layer.specs.Table.{slot_of, FindsPlace, FindsHeld, SameName, LeadsToFrame};
 
 use crate::chains::Chains;
@@ -62,7 +62,8 @@ impl Table {
 
     // The place of a page's translation, in constant expected time.
     fn place_of(&self, space: u32, page: u32) -> Option<u32>
-        ensures { FindsPlace self.now.places space page result }
+        ensures found { FindsPlace self.now.places space page result }
+        ensures distinct { AreDistinct self.now.places }
     {
         let slot = slot_in(space, page, self.slots);
         let mut at = self.by_page.first(slot);
@@ -85,7 +86,8 @@ impl Table {
 
     /// A page's translation and its place, in constant expected time.
     pub fn held(&self, space: u32, page: u32) -> Option<(u32, Translation)>
-        ensures { FindsHeld self.now.places space page result }
+        ensures found { FindsHeld self.now.places space page result }
+        ensures distinct { AreDistinct self.now.places }
     {
         let place = self.place_of(space, page)?;
         self.entry(place)
@@ -130,7 +132,8 @@ impl Table {
         ensures frames { self.new.frames ≡ self.old.frames }
     {
         self.cells[place as usize] = Some(new);
-        self.by_page.link(place, slot_in(new.space, new.page, self.slots));
+        self.by_page
+            .link(place, slot_in(new.space, new.page, self.slots));
         self.by_frame.link(place, new.frame);
     }
 
@@ -141,7 +144,8 @@ impl Table {
         ensures frames { self.new.frames ≡ self.old.frames }
     {
         self.cells[place as usize] = None;
-        self.by_page.unlink(place, slot_in(old.space, old.page, self.slots));
+        self.by_page
+            .unlink(place, slot_in(old.space, old.page, self.slots));
         self.by_frame.unlink(place, old.frame);
     }
 

@@ -27,7 +27,11 @@ fn a_full_pool_steals_from_place_0_on(rt: HostRuntime) -> Result<(), Fail> {
     for (space, page, frame, writable, told) in loads {
         if frame < 4 {
             assert_eq!(rt; hat.load(space, page, frame, writable), told, "page {page}");
-            assert_eq!(rt; hat.find(space, page), Some((frame, writable)), "page {page}");
+            assert_eq!(rt;
+                hat.find(space, page),
+                Some((frame, writable)),
+                "page {page}"
+            );
         }
     }
     assert_eq!(rt; hat.find(1, 8), None);

@@ -39,10 +39,11 @@ loop-at-preserved c =
       frames = c.change.ensures.frames ∙ i.frames;
       size = ap length p ∙ length-set c.loop-at.table.places c.in-Some.place (Some (cleared c.in-Some.old)) ∙ i.size;
       leads = subst (λ (p : List (Option Translation)). Walks p c.args.frame c.after-at.result) (sym p)
-        (walks-step c.loop-at.table.places c.args.frame c.in-Some.place c.in-Some.old c.loop-at.at c.after-at.result i.leads c.in-Some.is (subst (λ (p : List (Option Translation)). LeadsToFrame p c.args.frame (c.in-Some.place + 1) c.after-at.result) p c.after-at.ensures));
+          (walks-step c.loop-at.table.places c.args.frame c.in-Some.place c.in-Some.old c.loop-at.at c.after-at.result i.leads c.in-Some.is (subst (λ (p : List (Option Translation)). LeadsToFrame p c.args.frame (c.in-Some.place + 1) c.after-at.result) p c.after-at.ensures));
       rest = ap (λ (p : List (Option Translation)). change_frame c.args.frame cleared p) p ∙ clear-step c.loop-at.table.places c.args.frame c.in-Some.place c.in-Some.old h.0 h.1 ∙ i.rest;
       bits_r = ap (λ (p : List (Option Translation)). (c.loop-at.referenced || c.in-Some.old.referenced) || list_any (was_referenced c.args.frame) p) p ∙ referenced-step c.loop-at.table.places c.args.frame c.in-Some.place c.in-Some.old (Some (cleared c.in-Some.old)) c.loop-at.referenced (c.loop-at.referenced || c.in-Some.old.referenced) h.0 h.1 (cleared-unreferenced c.args.frame c.in-Some.old) refl ∙ i.bits_r;
-      bits_m = ap (λ (p : List (Option Translation)). (c.loop-at.modified || c.in-Some.old.modified) || list_any (was_modified c.args.frame) p) p ∙ modified-step c.loop-at.table.places c.args.frame c.in-Some.place c.in-Some.old (Some (cleared c.in-Some.old)) c.loop-at.modified (c.loop-at.modified || c.in-Some.old.modified) h.0 h.1 (cleared-unmodified c.args.frame c.in-Some.old) refl ∙ i.bits_m }
+      bits_m = ap (λ (p : List (Option Translation)). (c.loop-at.modified || c.in-Some.old.modified) || list_any (was_modified c.args.frame) p) p ∙ modified-step c.loop-at.table.places c.args.frame c.in-Some.place c.in-Some.old (Some (cleared c.in-Some.old)) c.loop-at.modified (c.loop-at.modified || c.in-Some.old.modified) h.0 h.1 (cleared-unmodified c.args.frame c.in-Some.old) refl ∙ i.bits_m;
+    }
 
 pub returns-clause-bits : goal.returns-clause-bits
 returns-clause-bits c =

@@ -16,4 +16,4 @@ pub returns-clause-fits : goal.returns-clause-fits
 returns-clause-fits c =
     let s = hat-pushed c.args.table.now.places (vec_capacity c.args.free.now) c.args.hand c.args.free.now.items (vec_capacity c.push_within.new.free) c.args.place c.args.old c.requires.fits c.requires.old c.push_within.ensures.capacity in
     subst (λ (p : List (Option Translation)). IsHat p c.push_within.new.free.items (vec_capacity c.push_within.new.free) c.args.hand) (sym c.take.ensures.places)
-      (subst (λ (f : List ℕ). IsHat (set c.args.table.now.places c.args.place None) f (vec_capacity c.push_within.new.free) c.args.hand) (sym c.push_within.ensures.items) s)
+    (subst (λ (f : List ℕ). IsHat (set c.args.table.now.places c.args.place None) f (vec_capacity c.push_within.new.free) c.args.hand) (sym c.push_within.ensures.items) s)

@@ -22,7 +22,8 @@ loop-at-preserved c =
       leads = c.first-at-in-Some.ensures;
       rest = ap (λ (p : List (Option Translation)). drop_frame c.args.frame p) p ∙ drop-step c.loop-at.table.places c.args.frame c.in-Some.place c.in-Some.old l.1 l.2 ∙ i.rest;
       bits_r = ap (λ (p : List (Option Translation)). (c.loop-at.referenced || c.in-Some.old.referenced) || list_any (was_referenced c.args.frame) p) p ∙ referenced-step c.loop-at.table.places c.args.frame c.in-Some.place c.in-Some.old None c.loop-at.referenced (c.loop-at.referenced || c.in-Some.old.referenced) l.1 l.2 refl refl ∙ i.bits_r;
-      bits_m = ap (λ (p : List (Option Translation)). (c.loop-at.modified || c.in-Some.old.modified) || list_any (was_modified c.args.frame) p) p ∙ modified-step c.loop-at.table.places c.args.frame c.in-Some.place c.in-Some.old None c.loop-at.modified (c.loop-at.modified || c.in-Some.old.modified) l.1 l.2 refl refl ∙ i.bits_m }
+      bits_m = ap (λ (p : List (Option Translation)). (c.loop-at.modified || c.in-Some.old.modified) || list_any (was_modified c.args.frame) p) p ∙ modified-step c.loop-at.table.places c.args.frame c.in-Some.place c.in-Some.old None c.loop-at.modified (c.loop-at.modified || c.in-Some.old.modified) l.1 l.2 refl refl ∙ i.bits_m;
+    }
 
 pub returns-clause-bits : goal.returns-clause-bits
 returns-clause-bits c =

@@ -10,4 +10,4 @@ returns c =
     let w = owned-within c.self.inside.owner.items c.args.place c.args.chain h in
     let n = c.self.invariant.lengths in
     subst (λ (l : List (Option ℕ)). LeadsFrom l c.args.chain (c.args.place + 1) c.index.result.now) o
-      (subst (λ (r : Option ℕ). LeadsFrom c.self.inside.owner.items c.args.chain (c.args.place + 1) r) (sym (c.index.ensures ∙ at-default c.self.inside.next.items c.args.place c.index.result.now None (omega arith))) (c.self.invariant.link c.args.place c.args.chain h))
+    (subst (λ (r : Option ℕ). LeadsFrom c.self.inside.owner.items c.args.chain (c.args.place + 1) r) (sym (c.index.ensures ∙ at-default c.self.inside.next.items c.args.place c.index.result.now None (omega arith))) (c.self.invariant.link c.args.place c.args.chain h))

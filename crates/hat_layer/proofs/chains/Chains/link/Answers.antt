@@ -15,4 +15,4 @@ invariant_of-self c =
     let a = subst (λ (l : List (Option ℕ)). LeadsFrom l c.args.chain (start_after c.before-before.result) c.behind-after.result) (sym o) c.behind-after.ensures in
     let s = linked-in c.self.inside.heads.items c.self.inside.next.items c.self.inside.owner.items c.args.place c.args.chain c.self.invariant r2 r3 (omega arith) c.before-before.result c.behind-after.result b a in
     subst (λ (h : List (Option ℕ)). IsLinked h c.lead.new.next.items (set c.self.inside.owner.items c.args.place (Some c.args.chain))) (sym c.lead.ensures.heads)
-      (subst (λ (x : List (Option ℕ)). IsLinked (heads_with c.before-before.result c.self.inside.heads.items c.args.chain (Some c.args.place)) x (set c.self.inside.owner.items c.args.place (Some c.args.chain))) (sym c.lead.ensures.next) s)
+    (subst (λ (x : List (Option ℕ)). IsLinked (heads_with c.before-before.result c.self.inside.heads.items c.args.chain (Some c.args.place)) x (set c.self.inside.owner.items c.args.place (Some c.args.chain))) (sym c.lead.ensures.next) s)

@@ -12,4 +12,4 @@ invariant_of-self c =
     let a = subst (λ (l : List (Option ℕ)). LeadsFrom l c.args.chain (c.args.place + 1) c.after-after.result) (sym o) c.after-after.ensures in
     let s = linked-out c.self.inside.heads.items c.self.inside.next.items c.self.inside.owner.items c.args.place c.args.chain c.self.invariant r c.before-before.result c.after-after.result b a in
     subst (λ (h : List (Option ℕ)). IsLinked h c.lead.new.next.items (set c.self.inside.owner.items c.args.place None)) (sym c.lead.ensures.heads)
-      (subst (λ (x : List (Option ℕ)). IsLinked (heads_with c.before-before.result c.self.inside.heads.items c.args.chain c.after-after.result) x (set c.self.inside.owner.items c.args.place None)) (sym c.lead.ensures.next) s)
+    (subst (λ (x : List (Option ℕ)). IsLinked (heads_with c.before-before.result c.self.inside.heads.items c.args.chain c.after-after.result) x (set c.self.inside.owner.items c.args.place None)) (sym c.lead.ensures.next) s)

@@ -16,4 +16,5 @@ invariant_of-result c =
       slots_are = a.chains;
       pages = a.empty ∙ map-none (slot_at c.args.places) refl c.args.places ∙ ap (λ (p : List (Option Translation)). map (slot_at c.args.places) p) (sym i);
       frames = b.empty ∙ map-none frame_of refl c.args.places ∙ ap (λ (p : List (Option Translation)). map frame_of p) (sym i);
-      distinct = subst AreDistinct (sym i) (distinct-none c.args.places) }
+      distinct = subst AreDistinct (sym i) (distinct-none c.args.places);
+    }
