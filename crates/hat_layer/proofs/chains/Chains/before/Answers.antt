@@ -1,0 +1,1 @@
+use Rattle.hat_layer.proofs.chains.Chains.before.Goals as goal

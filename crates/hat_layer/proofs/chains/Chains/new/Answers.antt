@@ -1,0 +1,8 @@
+use Rattle.std.proofs.Common.{rules, ◌≡◌, ◌<◌, ◌^◌, ℕ, Option, Some, None, List, sym, ap, subst, arith}
+use Rattle.std.specs.Prelude.{replicate}
+use Rattle.hat_layer.specs.Links.{IsLinked}
+use Rattle.hat_layer.proofs.ChainLemmas.{linked-none}
+use Rattle.hat_layer.proofs.chains.Chains.new.Goals as goal
+
+pub invariant_of-result : goal.invariant_of-result
+invariant_of-result c = let l = linked-none c.args.chains c.args.places (let h = c.ranges.places in omega arith) in search rules

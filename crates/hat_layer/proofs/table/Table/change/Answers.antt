@@ -1,0 +1,12 @@
+use Rattle.std.proofs.Common.{◌≡◌, ◌<◌, ◌≤◌, ◌+◌, ℕ, Option, Some, None, List, sym, ◌∙◌, ap, subst, arith, length, set, get_or, true, false, refl, Bool}
+use Rattle.hat_layer.specs.declared.translation.Translation.{Translation}
+use Rattle.hat_layer.specs.Chains.{Chained, owner_at, LeadsFrom}
+use Rattle.hat_layer.specs.Pool.{holds, frame_of, AreDistinct}
+use Rattle.hat_layer.specs.Table.{Rows, slot_of, slot_at, LeadsToFrame, FindsPlace, SameName, IsTable, Seeks}
+use Rattle.hat_layer.proofs.TableLemmas.{change-table}
+use Rattle.hat_layer.proofs.table.Table.change.Goals as goal
+
+pub invariant_of-self : goal.invariant_of-self
+invariant_of-self c =
+    let v = ap (λ (r : Rows). r.places) c.self.view_is in
+    change-table c.self.inside.cells.items c.self.inside.by_page c.self.inside.by_frame c.self.inside.slots c.args.place c.args.old c.args.new c.self.invariant (ap (λ (p : List (Option Translation)). get_or p c.args.place None) v ∙ c.requires.old) c.requires.same

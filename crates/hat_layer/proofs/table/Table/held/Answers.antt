@@ -1,0 +1,14 @@
+use Rattle.std.proofs.Common.{◌≡◌, ◌<◌, ◌≤◌, ◌+◌, ℕ, Option, Some, None, List, sym, ◌∙◌, ap, subst, arith, length, set, get_or, true, false, refl, Bool}
+use Rattle.std.specs.Prelude.{option_map}
+use Rattle.hat_layer.specs.declared.translation.Translation.{Translation}
+use Rattle.hat_layer.specs.Chains.{Chained, owner_at, LeadsFrom}
+use Rattle.hat_layer.specs.Pool.{holds, frame_of, AreDistinct}
+use Rattle.hat_layer.specs.Table.{Rows, slot_of, slot_at, LeadsToFrame, FindsPlace, FindsHeld, SameName, IsTable, Seeks}
+use Rattle.hat_layer.proofs.TableLemmas.{held-of, held-within}
+use Rattle.hat_layer.proofs.table.Table.held.Goals as goal
+
+pub entry-requires : goal.entry-requires
+entry-requires c = held-within c.args.self.now.places c.in_ok-place.place c.args.space c.args.page c.in_ok-place.ensures.found.0
+
+pub returns-clause-found : goal.returns-clause-found
+returns-clause-found c = held-of c.args.self.now.places c.args.space c.args.page c.in_ok-place.place c.entry.result c.in_ok-place.ensures.found c.entry.ensures
