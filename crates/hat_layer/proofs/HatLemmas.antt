@@ -1,17 +1,17 @@
 -- The places of the pool, its free places and its hand.
-use Rattle.std.proofs.Common.{◌≡◌, ◌≢◌, ℕ, ◌+◌, ◌-◌, ◌<◌, ◌≤◌, ◌^◌, ◌⊎◌, inl, inr, Bool, true, false, cond, Option, Some, None, List, [], ◌∷◌, ◌++◌, refl, sym, ◌∙◌, ap, subst, length, get_or, set, arith, zero, suc, length-append}
+use Rattle.std.proofs.Common.{◌≡◌, ◌≢◌, ℕ, ◌+◌, ◌-◌, ◌<◌, ◌≤◌, ◌^◌, inl, inr, Bool, true, false, cond, Option, Some, None, List, [], ◌∷◌, ◌++◌, refl, sym, ◌∙◌, ap, subst, length, get_or, set, arith, zero, suc, length-append}
 use Rattle.std.specs.Prelude.{map, ◌==◌, ◌||◌, ◌&&◌, replicate, option_map, option_and_then, find, is_some}
-use Rattle.std.specs.List.{list_any, list_all, IsDistinct}
-use Rattle.std.proofs.lemmas.List.{get_or-set_same, get_or-set_other, set-get_or}
+use Rattle.std.specs.List.{list_any, list_all}
+use Rattle.std.proofs.lemmas.List.{get_or-set_same, get_or-set_other}
 use Rattle.std.proofs.lemmas.List.Folds.{find_past}
 use Rattle.std.proofs.lemmas.Map.Steps.{length-le_from_distinct_below}
 use Rattle.std.proofs.lemmas.Map.Keys.{IsDistinct-from_apart}
 use Rattle.std.proofs.Math.ListN.{length-set}
-use Rattle.std.proofs.lemmas.Bool.{cases_eq, cases_lt, and_parts, and_from, and_right, eqb-true, eq-eqb, ne_eqb, cases_Bool, or_cases}
+use Rattle.std.proofs.lemmas.Bool.{cases_eq, cases_lt, and_from, and_right, eqb-true, eq-eqb, ne_eqb, cases_Bool, or_cases}
 use Rattle.hat_layer.specs.declared.translation.Translation.{Translation}
-use Rattle.hat_layer.specs.Pool.{Pool, AreDistinct, fresh, holds, is_of, frame_of, leads, at, due, hand_after, is_full, cleared, was_referenced, was_modified, drop_frame, change_frame}
+use Rattle.hat_layer.specs.Pool.{Pool, AreDistinct, fresh, holds, is_of, frame_of, leads, at, due, hand_after, cleared, was_referenced, was_modified, drop_frame, change_frame}
 use Rattle.hat_layer.specs.Table.{FindsHeld, LeadsToFrame, Walks, IsPast, left_of}
-use Rattle.hat_layer.specs.Free.{IsHat, IsOn, Chooses, falling}
+use Rattle.hat_layer.specs.Free.{IsHat, Chooses, falling}
 
 Cells : Type 0
 Cells = List (Option Translation)

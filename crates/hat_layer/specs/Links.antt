@@ -1,5 +1,5 @@
 -- How the chains are kept: a head for each chain, and for each place the next one of its chain, by rising number.
-use Rattle.std.specs.Prelude.{◌≡◌, ℕ, ◌+◌, ◌<◌, ◌≤◌, ◌^◌, ◌-◌, List, Option, Some, None, slice_index_or, slice_set, length}
+use Rattle.std.specs.Prelude.{◌≡◌, ℕ, ◌+◌, ◌<◌, ◌^◌, ◌-◌, List, Option, Some, None, slice_index_or, slice_set, length}
 use Rattle.hat_layer.specs.Chains.{owner_at, LeadsFrom, LeadsBack}
 
 pub record IsLinked (heads next owner : List (Option ℕ)) : Type 0 where

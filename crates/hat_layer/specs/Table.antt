@@ -1,7 +1,7 @@
 -- The pool with its two indexes.
 use Rattle.std.specs.Prelude.{◌≡◌, ℕ, ◌+◌, ◌-◌, ⊤, option_map, ◌*◌, ◌%◌, ◌<◌, ◌≤◌, true, false, List, Option, Some, None, map, slice_index_or}
 use Rattle.hat_layer.specs.declared.translation.Translation.{Translation}
-use Rattle.hat_layer.specs.Chains.{Chained, LeadsFrom, owner_at}
+use Rattle.hat_layer.specs.Chains.{Chained, owner_at}
 use Rattle.hat_layer.specs.Pool.{holds, is_of, frame_of, cleared, AreDistinct}
 
 -- the places, and the number of frames

@@ -163,9 +163,10 @@ fn without_write(old: Translation) -> Translation
 fn with_clear_bits(old: Translation) -> Translation
     ensures { result ≡ cleared old }
 {
+    let (referenced, modified) = (false, false);
     Translation {
-        referenced: false,
-        modified: false,
+        referenced,
+        modified,
         ..old
     }
 }

@@ -1,9 +1,6 @@
-use Rattle.std.proofs.Common.{◌≡◌, ◌≢◌, ◌<◌, ◌≤◌, ◌+◌, ◌-◌, ℕ, Option, Some, None, List, [], ◌∷◌, ◌++◌, sym, ◌∙◌, ap, subst, arith, length, set, get_or, true, false, refl, Bool, cond, map, rules}
-use Rattle.std.specs.Prelude.{◌==◌, option_map, ◌||◌, vec_capacity, vec_len, replicate}
-use Rattle.hat_layer.specs.declared.translation.Translation.{Translation}
-use Rattle.hat_layer.specs.Pool.{Pool, holds, is_of, frame_of, leads, at, told, fresh, touched, read_only, cleared, change_at, drop_at, change_frame, drop_frame, bits_of, due, hand_after}
-use Rattle.hat_layer.specs.Table.{Rows, FindsHeld, LeadsToFrame, SameName}
-use Rattle.hat_layer.specs.Free.{IsHat, Chooses, falling}
+use Rattle.std.proofs.Common.{◌≡◌, ◌+◌, ℕ, List, [], ◌∷◌, ◌++◌, sym, ◌∙◌, ap, subst, arith, cond}
+use Rattle.std.specs.Prelude.{◌==◌, vec_capacity}
+use Rattle.hat_layer.specs.Free.{IsHat, Chooses}
 use Rattle.hat_layer.proofs.HatLemmas.{choose-held, choose-free, choose-hand, none-of}
 use Rattle.hat_layer.proofs.hat.choose.Goals as goal
 

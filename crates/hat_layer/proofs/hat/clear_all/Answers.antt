@@ -1,12 +1,11 @@
-use Rattle.std.proofs.Common.{◌≡◌, ◌≢◌, ◌<◌, ◌≤◌, ◌+◌, ◌-◌, ℕ, Option, Some, None, List, [], ◌∷◌, ◌++◌, sym, ◌∙◌, ap, subst, arith, length, set, get_or, true, false, refl, Bool, cond, map, rules}
-use Rattle.std.specs.Prelude.{option_map, ◌||◌, vec_capacity, vec_len, replicate}
+use Rattle.std.proofs.Common.{◌≡◌, ◌+◌, ℕ, Option, Some, None, List, sym, ◌∙◌, ap, subst, arith, length, set, get_or, refl, Bool}
+use Rattle.std.specs.Prelude.{◌||◌}
 use Rattle.std.specs.List.{list_any}
 use Rattle.std.proofs.Math.ListN.{length-set}
 use Rattle.std.proofs.lemmas.List.{get_or-set_same}
 use Rattle.hat_layer.specs.declared.translation.Translation.{Translation}
-use Rattle.hat_layer.specs.Pool.{Pool, holds, is_of, frame_of, leads, at, told, fresh, touched, read_only, cleared, change_at, drop_at, change_frame, drop_frame, bits_of, due, hand_after, was_referenced, was_modified}
-use Rattle.hat_layer.specs.Table.{Rows, FindsHeld, LeadsToFrame, SameName, Walks}
-use Rattle.hat_layer.specs.Free.{IsHat, Chooses, falling}
+use Rattle.hat_layer.specs.Pool.{frame_of, cleared, change_frame, was_referenced, was_modified}
+use Rattle.hat_layer.specs.Table.{LeadsToFrame, Walks}
 use Rattle.hat_layer.proofs.HatLemmas.{clear-step, referenced-step, modified-step, clear-places, clear-referenced, clear-modified, cleared-unreferenced, cleared-unmodified, walks-step, walk-falls, all-clear, some-within}
 use Rattle.hat_layer.proofs.hat.clear_all.Goals as goal
 

@@ -1,7 +1,7 @@
-use Rattle.std.proofs.Common.{◌≡◌, ℕ, ◌+◌, ◌-◌, ◌<◌, length, Option, Some}
+use Rattle.std.proofs.Common.{◌≡◌, length}
 use Rattle.std.specs.Prelude.{◌||◌}
 use Rattle.std.specs.List.{list_any}
-use Rattle.hat_layer.specs.Pool.{change_frame, cleared, frame_of, was_referenced, was_modified}
+use Rattle.hat_layer.specs.Pool.{change_frame, cleared, was_referenced, was_modified}
 use Rattle.hat_layer.specs.Table.{left_of, Walks}
 use Rattle.hat_layer.proofs.hat.clear_all.Given as goal
 

@@ -1,4 +1,4 @@
-use Rattle.std.proofs.Common.{◌≡◌, ℕ, ◌+◌, ◌-◌, ◌<◌, length, Option}
+use Rattle.std.proofs.Common.{◌≡◌, length}
 use Rattle.std.specs.Prelude.{◌||◌, vec_capacity}
 use Rattle.std.specs.List.{list_any}
 use Rattle.hat_layer.specs.Pool.{drop_frame, was_referenced, was_modified}

@@ -1,4 +1,4 @@
-use Rattle.std.proofs.Common.{◌≡◌, ◌<◌, ◌+◌, ℕ, Option, Some, None, List, sym, ◌∙◌, ap, subst, arith, length}
+use Rattle.std.proofs.Common.{◌≡◌, ◌+◌, ℕ, Option, Some, None, List, sym, ◌∙◌, ap, subst, arith}
 use Rattle.hat_layer.specs.Chains.{Chained, owner_at, LeadsFrom}
 use Rattle.hat_layer.proofs.ChainLemmas.{at-default, owned-within}
 use Rattle.hat_layer.proofs.chains.Chains.after.Goals as goal

@@ -1,1 +1,0 @@
-use Rattle.hat_layer.proofs.chains.Chains.before.Goals as goal

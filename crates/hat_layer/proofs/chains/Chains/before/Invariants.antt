@@ -1,4 +1,4 @@
-use Rattle.std.proofs.Common.{◌≡◌, ℕ, ◌+◌, ◌-◌, length}
+use Rattle.std.proofs.Common.{length}
 use Rattle.hat_layer.specs.Links.{left, Walks}
 use Rattle.hat_layer.proofs.chains.Chains.before.Given as goal
 

@@ -1,6 +1,6 @@
-use Rattle.std.proofs.Common.{◌≡◌, ◌<◌, ℕ, Option, Some, None, List, sym, ◌∙◌, ap, subst, arith, length, set}
+use Rattle.std.proofs.Common.{◌<◌, ℕ, Option, Some, List, sym, ◌∙◌, ap, subst, arith, length, set}
 use Rattle.hat_layer.specs.Chains.{Chained, owner_at, LeadsFrom, LeadsBack}
-use Rattle.hat_layer.specs.Links.{IsLinked, start_after, heads_with, next_with}
+use Rattle.hat_layer.specs.Links.{IsLinked, start_after, heads_with}
 use Rattle.hat_layer.proofs.ChainLemmas.{linked-in}
 use Rattle.hat_layer.proofs.chains.Chains.link.Goals as goal
 

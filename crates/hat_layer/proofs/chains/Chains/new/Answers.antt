@@ -1,6 +1,4 @@
-use Rattle.std.proofs.Common.{rules, ◌≡◌, ◌<◌, ◌^◌, ℕ, Option, Some, None, List, sym, ap, subst, arith}
-use Rattle.std.specs.Prelude.{replicate}
-use Rattle.hat_layer.specs.Links.{IsLinked}
+use Rattle.std.proofs.Common.{rules, arith}
 use Rattle.hat_layer.proofs.ChainLemmas.{linked-none}
 use Rattle.hat_layer.proofs.chains.Chains.new.Goals as goal
 

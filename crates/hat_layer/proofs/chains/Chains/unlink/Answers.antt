@@ -1,6 +1,6 @@
-use Rattle.std.proofs.Common.{◌≡◌, ◌<◌, ◌+◌, ℕ, Option, Some, None, List, sym, ◌∙◌, ap, subst, arith, length, set}
+use Rattle.std.proofs.Common.{◌+◌, ℕ, Option, None, List, sym, ◌∙◌, ap, subst, set}
 use Rattle.hat_layer.specs.Chains.{Chained, owner_at, LeadsFrom, LeadsBack}
-use Rattle.hat_layer.specs.Links.{IsLinked, start_after, heads_with, next_with}
+use Rattle.hat_layer.specs.Links.{IsLinked, heads_with}
 use Rattle.hat_layer.proofs.ChainLemmas.{linked-out}
 use Rattle.hat_layer.proofs.chains.Chains.unlink.Goals as goal
 

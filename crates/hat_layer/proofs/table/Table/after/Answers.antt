@@ -1,9 +1,7 @@
-use Rattle.std.proofs.Common.{◌≡◌, ◌<◌, ◌≤◌, ◌+◌, ℕ, Option, Some, None, List, sym, ◌∙◌, ap, subst, arith, length, set, get_or, true, false, refl, Bool}
+use Rattle.std.proofs.Common.{◌<◌, ◌+◌, Option, None, List, sym, ◌∙◌, ap, subst, length, get_or}
 use Rattle.std.specs.Prelude.{option_map}
 use Rattle.hat_layer.specs.declared.translation.Translation.{Translation}
-use Rattle.hat_layer.specs.Chains.{Chained, owner_at, LeadsFrom}
-use Rattle.hat_layer.specs.Pool.{holds, frame_of, AreDistinct}
-use Rattle.hat_layer.specs.Table.{Rows, slot_of, slot_at, LeadsToFrame, FindsPlace, FindsHeld, SameName, IsTable, Seeks}
+use Rattle.hat_layer.specs.Table.{Rows, LeadsToFrame}
 use Rattle.hat_layer.proofs.TableLemmas.{leads-none, leads-some, leads-within}
 use Rattle.hat_layer.proofs.table.Table.after.Goals as goal
 

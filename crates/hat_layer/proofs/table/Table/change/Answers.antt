@@ -1,8 +1,6 @@
-use Rattle.std.proofs.Common.{◌≡◌, ◌<◌, ◌≤◌, ◌+◌, ℕ, Option, Some, None, List, sym, ◌∙◌, ap, subst, arith, length, set, get_or, true, false, refl, Bool}
+use Rattle.std.proofs.Common.{Option, None, List, ◌∙◌, ap, get_or}
 use Rattle.hat_layer.specs.declared.translation.Translation.{Translation}
-use Rattle.hat_layer.specs.Chains.{Chained, owner_at, LeadsFrom}
-use Rattle.hat_layer.specs.Pool.{holds, frame_of, AreDistinct}
-use Rattle.hat_layer.specs.Table.{Rows, slot_of, slot_at, LeadsToFrame, FindsPlace, SameName, IsTable, Seeks}
+use Rattle.hat_layer.specs.Table.{Rows}
 use Rattle.hat_layer.proofs.TableLemmas.{change-table}
 use Rattle.hat_layer.proofs.table.Table.change.Goals as goal
 

@@ -1,9 +1,3 @@
-use Rattle.std.proofs.Common.{◌≡◌, ◌<◌, ◌≤◌, ◌+◌, ℕ, Option, Some, None, List, sym, ◌∙◌, ap, subst, arith, length, set, get_or, true, false, refl, Bool}
-use Rattle.std.specs.Prelude.{option_map}
-use Rattle.hat_layer.specs.declared.translation.Translation.{Translation}
-use Rattle.hat_layer.specs.Chains.{Chained, owner_at, LeadsFrom}
-use Rattle.hat_layer.specs.Pool.{holds, frame_of, AreDistinct}
-use Rattle.hat_layer.specs.Table.{Rows, slot_of, slot_at, LeadsToFrame, FindsPlace, FindsHeld, SameName, IsTable, Seeks}
 use Rattle.hat_layer.proofs.TableLemmas.{held-of, held-within}
 use Rattle.hat_layer.proofs.table.Table.held.Goals as goal
 

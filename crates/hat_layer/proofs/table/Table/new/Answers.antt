@@ -1,8 +1,7 @@
-use Rattle.std.proofs.Common.{rules, ◌≡◌, ◌<◌, ◌≤◌, ◌+◌, ℕ, Option, Some, None, List, sym, ◌∙◌, ap, subst, arith, length, set, get_or, true, false, refl, Bool}
+use Rattle.std.proofs.Common.{rules, ◌≡◌, Option, None, List, sym, ◌∙◌, ap, subst, refl}
 use Rattle.hat_layer.specs.declared.translation.Translation.{Translation}
-use Rattle.hat_layer.specs.Chains.{Chained, owner_at, LeadsFrom}
-use Rattle.hat_layer.specs.Pool.{holds, frame_of, AreDistinct}
-use Rattle.hat_layer.specs.Table.{Rows, slot_of, slot_at, LeadsToFrame, FindsPlace, SameName, IsTable, Seeks}
+use Rattle.hat_layer.specs.Pool.{frame_of, AreDistinct}
+use Rattle.hat_layer.specs.Table.{slot_at}
 use Rattle.std.specs.Prelude.{map, replicate}
 use Rattle.hat_layer.proofs.TableLemmas.{map-none, distinct-none}
 use Rattle.hat_layer.proofs.table.Table.new.Goals as goal

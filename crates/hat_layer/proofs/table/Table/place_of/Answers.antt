@@ -1,8 +1,7 @@
-use Rattle.std.proofs.Common.{◌≡◌, ◌<◌, ◌≤◌, ◌+◌, ℕ, Option, Some, None, List, sym, ◌∙◌, ap, subst, arith, length, set, get_or, true, false, refl, Bool}
+use Rattle.std.proofs.Common.{◌≡◌, Option, Some, None, List, sym, ◌∙◌, ap, subst, arith, get_or, true}
 use Rattle.hat_layer.specs.declared.translation.Translation.{Translation}
-use Rattle.hat_layer.specs.Chains.{Chained, owner_at, LeadsFrom}
-use Rattle.hat_layer.specs.Pool.{holds, frame_of, AreDistinct}
-use Rattle.hat_layer.specs.Table.{Rows, slot_of, slot_at, LeadsToFrame, FindsPlace, SameName, IsTable, Seeks}
+use Rattle.hat_layer.specs.Pool.{holds, AreDistinct}
+use Rattle.hat_layer.specs.Table.{Rows, FindsPlace}
 use Rattle.hat_layer.proofs.TableLemmas.{start-walk, step-walk, walk-within, none-left, falls}
 use Rattle.hat_layer.proofs.ChainLemmas.{owned-within, at-default}
 use Rattle.hat_layer.proofs.table.Table.place_of.Goals as goal

@@ -1,4 +1,4 @@
-use Rattle.std.proofs.Common.{ℕ, length}
+use Rattle.std.proofs.Common.{length}
 use Rattle.hat_layer.specs.Links.{left}
 use Rattle.hat_layer.specs.Table.{Seeks}
 use Rattle.hat_layer.proofs.table.Table.place_of.Given as goal
