@@ -1,0 +1,14 @@
+pub mod Ranges
+pub mod Sums
+pub mod Gap
+pub mod Bytes
+pub mod Stores
+pub mod Forks
+pub mod Quiet
+pub mod Histories
+pub mod Entries
+pub mod Named
+pub mod Mappings
+pub mod Reserve
+pub mod Maps
+pub mod FileBytes

@@ -1,0 +1,33 @@
+-- A flat as data, so that a model may have it as its value.
+use Rattle.std.specs.Prelude.{ℕ, Bool, List, Option, refl}
+use Rattle.std.specs.Coded.{Coded, code_by, coded×, coded_ℕ, coded_bool, coded_list, coded_option}
+use Rattle.std.specs.Ordering.{nat_cmp}
+use Rattle.std.specs.FinMap as map
+use Rattle.std.specs.FinSet as set
+use Rattle.vm_types.specs.declared.prot.Prot.{Prot}
+use Rattle.vm_types.specs.declared.call.Kind.{Kind}
+use Rattle.vm_types.specs.declared.call.Object.{Object}
+use Rattle.vm_types.specs.contracts.prot.Prot as prot
+use Rattle.vm_types.specs.contracts.call.Kind as kind
+use Rattle.vm_types.specs.contracts.call.Object as object
+use Rattle.flat_model.specs.Words.{Page}
+use Rattle.flat_model.specs.Flat.{Cell, Space, File, Flat}
+
+abbrev pub page_code : Coded Page
+page_code = coded_list coded_ℕ
+
+abbrev pub cell_code : Coded Cell
+cell_code =
+    code_by (Prot × (Prot × (Kind × (Object × (ℕ × Option Page))))) (coded× prot.the_row.coded (coded× prot.the_row.coded (coded× kind.the_row.coded (coded× object.the_row.coded (coded× coded_ℕ (coded_option page_code))))))
+    (λ c. (c.prot, (c.max, (c.kind, (c.object, (c.index, c.own)))))) (λ p. record { prot = p.0; max = p.1.0; kind = p.1.1.0; object = p.1.1.1.0; index = p.1.1.1.1.0; own = p.1.1.1.1.1 }) (λ _. refl)
+
+abbrev pub file_code : Coded File
+file_code =
+    code_by (ℕ × (ℕ × (Bool × List Page))) (coded× coded_ℕ (coded× coded_ℕ (coded× coded_bool (coded_list page_code))))
+    (λ f. (f.len, (f.limit, (f.writable, f.pages)))) (λ p. record { len = p.0; limit = p.1.0; writable = p.1.1.0; pages = p.1.1.1 }) (λ _. refl)
+
+abbrev pub flat_code : Coded Flat
+flat_code =
+    code_by (ℕ × (List File × (map.FinMap nat_cmp (List Page) × (map.FinMap nat_cmp Space × set.FinSet nat_cmp))))
+    (coded× coded_ℕ (coded× (coded_list file_code) (coded× (map.code coded_ℕ (coded_list page_code)) (coded× (map.code coded_ℕ (map.code coded_ℕ cell_code)) (set.code coded_ℕ)))))
+    (λ f. (f.slots, (f.files, (f.zeros, (f.spaces, f.born))))) (λ p. record { slots = p.0; files = p.1.0; zeros = p.1.1.0; spaces = p.1.1.1.0; born = p.1.1.1.1 }) (λ _. refl)

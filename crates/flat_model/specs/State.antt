@@ -1,0 +1,11 @@
+-- What an access is allowed by.
+use Rattle.std.specs.Prelude.{Bool}
+use Rattle.vm_types.specs.declared.prot.Prot.{Prot}
+use Rattle.vm_types.specs.Prot.{can_read, can_write}
+use Rattle.flat_model.specs.declared.state.Access.{Access}
+use Rattle.flat_model.specs.declared.state.Access.TheVariants as access
+
+-- A load wants READ, and a store WRITE.
+abbrev pub allowed_by : Access → Prot → Bool
+allowed_by access.Load prot = can_read prot
+allowed_by access.Store prot = can_write prot

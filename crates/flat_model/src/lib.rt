@@ -1,0 +1,19 @@
+//! Flat memory: what the kernel's calls do, without frames, disks or translations.
+#![tactic(auto)]
+
+mod cells;
+mod files;
+mod laws;
+mod spaces;
+mod state;
+mod words;
+
+pub use cells::{CellState, Cells};
+pub use files::FileState;
+pub use laws::{
+    file_bytes_law, fork_law, lowest_gap_law, map_then_unmap_law, one_more_law, private_store_law, quiet_law,
+    ranges_law, reservation_law, store_then_load_law, zero_objects_law,
+};
+pub use spaces::Spaces;
+pub use state::{Access, FlatState};
+pub use words::{put_word, word_in};
