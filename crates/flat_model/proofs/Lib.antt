@@ -12,3 +12,4 @@ pub mod Mappings
 pub mod Reserve
 pub mod Maps
 pub mod FileBytes
+pub mod Trees

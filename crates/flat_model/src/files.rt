@@ -1,6 +1,6 @@
 //! A file of flat memory.
 /// A file: its length in bytes, its limit in pages, whether it may be written, and its pages.
-#[derive(Drop)]
+#[derive(Clone, Drop)]
 pub struct FileState {
     pub len: u32,
     pub limit: u32,

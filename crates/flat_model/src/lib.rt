@@ -4,9 +4,11 @@
 mod cells;
 mod files;
 mod laws;
+mod replies;
 mod spaces;
 mod state;
 mod words;
+mod zeros;
 
 pub use cells::{CellState, Cells};
 pub use files::FileState;

@@ -17,11 +17,11 @@ use vm_types::{Object, Prot, Reply, Signal, word_value};
 /// Flat memory, kept plainly: one tree of cells for each process.
 #[derive(Drop)]
 pub struct FlatState {
-    slots: u32,
-    files: Vec<FileState>,
-    zeros: BTreeMap<u32, Vec<Vec<u8>>>,
-    spaces: Spaces,
-    born: BTreeMap<u32, ()>,
+    pub(crate) slots: u32,
+    pub(crate) files: Vec<FileState>,
+    pub(crate) zeros: BTreeMap<u32, Vec<Vec<u8>>>,
+    pub(crate) spaces: Spaces,
+    pub(crate) born: BTreeMap<u32, ()>,
 }
 
 impl Model for FlatState {
