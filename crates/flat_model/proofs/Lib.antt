@@ -13,3 +13,4 @@ pub mod Reserve
 pub mod Maps
 pub mod FileBytes
 pub mod Trees
+pub mod Steps

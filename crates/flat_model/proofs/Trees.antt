@@ -1,6 +1,8 @@
 -- The trees of the slow form, as finite maps: their entries in order, a copy, a key that goes, and keys that stay.
-use Rattle.std.proofs.Common.{◌≡◌, ℕ, Bool, true, false, cond, not, ◌&&◌, ◌||◌, T, List, [], ◌∷◌, map, Option, Some, None, refl, sym, ap, subst, ◌∙◌, Less, Equal}
-use Rattle.std.specs.Prelude.{◌==◌, option_map, filter}
+use Rattle.std.proofs.Common.{◌≡◌, ℕ, Bool, true, false, cond, not, ◌&&◌, ◌||◌, T, List, [], ◌∷◌, map, Option, Some, None, refl, sym, ap, subst, ◌∙◌, Less, Equal, arith}
+use Rattle.std.specs.Prelude.{◌==◌, option_map, filter, is_some, length, slice_set, slice_index_or, ◌<◌, ◌≤◌, zero, suc}
+use Rattle.std.specs.FinSet as set
+use Rattle.flat_model.specs.Access.{changed_at}
 use Rattle.std.specs.Option.{option_map_or}
 use Rattle.std.specs.List.{AllZip, AllByRecursion, list_any}
 use Rattle.std.specs.List.Sorted.{IsStrictlySortedBy}
@@ -15,7 +17,8 @@ use Rattle.std.proofs.lemmas.Bool.{eqb-true}
 use Rattle.std.proofs.lemmas.Map.Entries.{lookup-filter-keys}
 use Rattle.vm_types.specs.declared.call.Object.{Object}
 use Rattle.vm_types.specs.declared.call.Object.TheVariants as object
-use Rattle.flat_model.specs.Flat.{Cell, Space, Flat, zero_of}
+use Rattle.flat_model.specs.Words.{Page}
+use Rattle.flat_model.specs.Flat.{Cell, File, Space, Flat, zero_of}
 use Rattle.flat_model.specs.Cells.{is_zero, names}
 use Rattle.flat_model.specs.Spaces.{is_named_in}
 use Rattle.flat_model.proofs.Named.{is_named-spaces}
@@ -137,3 +140,55 @@ unfolding flat_with
 named_in_is spaces z = is_named-spaces (flat_with spaces) z
     ∙ any_alike (λ space. list_any (λ c. option_map_or (λ y. z == y) (zero_of c) false) (finite.values space)) (λ space. list_any (names z) (finite.values space)) (finite.values spaces)
     (λ space. any_alike (λ c. option_map_or (λ y. z == y) (zero_of c) false) (names z) (finite.values space) (λ c. names_object z c.object))
+
+some_of : {X : Type 0} (b : Bool) (x : X) (r : Option X) → is_some (cond b (Some x) r) ≡ (b || is_some r)
+some_of true x r = refl
+some_of false x r = refl
+
+any_key : {X : Type 0} (es : List (ℕ × X)) (q : ℕ) → list_any (eq_by_cmp nat_cmp q) (keys_of es) ≡ is_some (lookup (is_at (nat_cmp q)) es)
+any_key [] q = refl
+any_key (e ∷ es) q = ap (λ b. eq_by_cmp nat_cmp q e.0 || b) (any_key es q) ∙ sym (some_of (eq_by_cmp nat_cmp q e.0) e.1 (lookup (is_at (nat_cmp q)) es))
+
+has_key : {X : Type 0} (es : List (ℕ × X)) (q : ℕ) → set.contains (set.from_list {R = nat_cmp} (keys_of es)) q ≡ is_some (lookup (is_at (nat_cmp q)) es)
+has_key es q = set.contains-from_list nat_cmp_total (keys_of es) q ∙ any_key es q
+
+-- the keys of a tree with one more
+pub keys_insert : {X : Type 0} (es fs : List (ℕ × X)) (k : ℕ) (v : X) → ((q : ℕ) → lookup (is_at (nat_cmp q)) fs ≡ cond (is_at (nat_cmp k) q) (Some v) (lookup (is_at (nat_cmp q)) es)) → set.from_list {R = nat_cmp} (keys_of fs) ≡ set.insert (set.from_list (keys_of es)) k
+keys_insert es fs k v h = set.same_set nat_cmp_total set.nat_cmp-IsAntisymmetric _ _ (λ q.
+    has_key fs q ∙ ap is_some (h q) ∙ some_of (is_at (nat_cmp k) q) v (lookup (is_at (nat_cmp q)) es)
+    ∙ ap (λ b. b || is_some (lookup (is_at (nat_cmp q)) es)) ((eq_by_cmp_equiv nat_cmp_total).symm k q)
+    ∙ ap (λ b. eq_by_cmp nat_cmp q k || b) (sym (has_key es q))
+    ∙ sym (set.contains-insert nat_cmp_total (set.from_list (keys_of es)) k q))
+
+-- a place of f of each
+pub map_set : {X Y : Type 0} (f : X → Y) (xs : List X) (i : ℕ) (x : X) → map f (slice_set xs i x) ≡ slice_set (map f xs) i (f x)
+map_set f [] i x = refl
+map_set f (y ∷ ys) zero x = refl
+map_set f (y ∷ ys) (suc i) x = ap (λ zs. f y ∷ zs) (map_set f ys i x)
+
+-- beyond its end nothing of a list is set
+pub set_past : {X : Type 0} (xs : List X) (i : ℕ) (x : X) → length xs ≤ i → slice_set xs i x ≡ xs
+set_past [] i x h = refl
+set_past (y ∷ ys) zero x h = absurd (omega (arith, h))
+set_past (y ∷ ys) (suc i) x h = ap (λ zs. y ∷ zs) (set_past ys i x (omega (arith, h)))
+
+-- an element that is changed at its place
+pub changed_there : {X Y : Type 0} (f : X → Y) (g : Y → Y) (xs : List X) (i : ℕ) (old new : X) → i < length xs → old ≡ slice_index_or xs i old → f new ≡ g (f old) → map f (slice_set xs i new) ≡ changed_at g (map f xs) i
+changed_there f g [] i old new lt at is = absurd (omega (arith, lt))
+changed_there f g (y ∷ ys) zero old new lt at is = ap (λ z. z ∷ map f ys) (is ∙ ap (λ z. g (f z)) at)
+changed_there f g (y ∷ ys) (suc i) old new lt at is = ap (λ zs. f y ∷ zs) (changed_there f g ys i old new (omega (arith, lt)) at is)
+
+-- beyond its end nothing of a list is changed
+pub changed_past : {X Y : Type 0} (f : X → Y) (g : Y → Y) (xs : List X) (i : ℕ) → length xs ≤ i → changed_at g (map f xs) i ≡ map f xs
+changed_past f g [] i h = refl
+changed_past f g (y ∷ ys) zero h = absurd (omega (arith, h))
+changed_past f g (y ∷ ys) (suc i) h = ap (λ zs. f y ∷ zs) (changed_past f g ys i (omega (arith, h)))
+
+-- a file by its fields
+abbrev pub file_by : ℕ → ℕ → Bool → List Page → File
+file_by len limit writable pages = record { len = len; limit = limit; writable = writable; pages = pages }
+
+-- what isn't there is none
+pub none_from_test : {X : Type 0} (o : Option X) → is_some o ≡ false → o ≡ None
+none_from_test None h = refl
+none_from_test (Some x) h = absurd cc

@@ -1,5 +1,5 @@
 -- What the parts of the slow form stand for.
-use Rattle.std.specs.Prelude.{ℕ, ◌==◌, Bool, false, List, map, option_map, Vec}
+use Rattle.std.specs.Prelude.{ℕ, ◌==◌, Bool, false, List, map, option_map, Some, None, Vec}
 use Rattle.vm_types.specs.declared.call.Object.{Object}
 use Rattle.vm_types.specs.declared.call.Object.TheVariants as object
 use Rattle.std.specs.Ordering.{nat_cmp}
@@ -7,6 +7,7 @@ use Rattle.std.specs.FinMap as finite
 use Rattle.std.specs.FinSet as set
 use Rattle.std.specs.declared.alloc.Global.{Global}
 use Rattle.std.specs.BTreeMap.{BTreeMap}
+use Rattle.std.specs.Map.{keys_of}
 use Rattle.flat_model.specs.declared.cells.CellState.{CellState}
 use Rattle.flat_model.specs.declared.files.FileState.{FileState}
 use Rattle.flat_model.specs.Words.{Page}
@@ -42,4 +43,12 @@ names z c = is_zero z c.object
 
 -- The processes of a tree.
 abbrev pub born_in : BTreeMap ℕ (Unit {0}) → set.FinSet nat_cmp
-born_in m = finite.from_entries m.entries
+born_in m = set.from_list (keys_of m.entries)
+
+-- The cell with no page of its own.
+abbrev pub without_own : Cell → Cell
+without_own c = record c { own = None }
+
+-- The cell with a page of its own.
+abbrev pub with_own : Cell → Page → Cell
+with_own c page = record c { own = Some page }

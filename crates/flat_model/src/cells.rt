@@ -4,7 +4,7 @@ ghost use Rattle.std.specs.List.{list_any};
 ghost use Rattle.std.specs.FinMap as map;
 ghost use Rattle.std.specs.BTreeMap.{values, IsOrdered};
 ghost use Rattle.std.specs.Ordering.{nat_cmp};
-ghost use Rattle.flat_model.specs.Cells.{cell_of, names, is_zero};
+ghost use Rattle.flat_model.specs.Cells.{cell_of, names, is_zero, without_own};
 
 use std::alloc::{AllocError, Global};
 use std::collections::BTreeMap;
@@ -112,4 +112,18 @@ fn any_names(cells: &BTreeMap<u32, CellState>, zero: u32) -> bool
     ensures ordered { IsOrdered nat_cmp cells.now }
 {
     cells.values().any(|cell| is_zero(cell.object, zero))
+}
+
+/// The cell with no page of its own.
+pub(crate) fn without_own(cell: &CellState) -> CellState
+    ensures { cell_of result ≡ without_own (cell_of cell.now) }
+{
+    CellState {
+        prot: cell.prot,
+        max: cell.max,
+        kind: cell.kind,
+        object: cell.object,
+        index: cell.index,
+        own: None,
+    }
 }

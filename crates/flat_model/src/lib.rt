@@ -4,9 +4,12 @@
 mod cells;
 mod files;
 mod laws;
+mod pages;
 mod replies;
 mod spaces;
 mod state;
+mod state_calls;
+mod state_step;
 mod words;
 mod zeros;
 

@@ -1,10 +1,11 @@
 //! Which reply is due.
-ghost use Rattle.std.specs.Prelude.{◌≡◌, ◌↔◌, IsTrue, IsFalse};
+ghost use Rattle.std.specs.Prelude.{◌≡◌, ◌≤◌, ◌↔◌, IsTrue, length};
+ghost use Rattle.vm_types.specs.declared.call.Reply.TheVariants as reply;
 ghost use Rattle.vm_types.specs.Words.{IsWordSize, number_of};
 ghost use Rattle.flat_model.specs.Words.{word_at};
-ghost use Rattle.flat_model.specs.FlatState.{IsDueReply};
+ghost use Rattle.flat_model.specs.FlatState.{IsDueReply, is_io};
 
-use vm_types::Reply;
+use vm_types::{Errno, Line, Reply, Signal};
 
 // The value of at most 4 bytes, the highest first.
 fn value_of(bytes: &[u8]) -> u32
@@ -32,27 +33,124 @@ pub(crate) fn word_of(page: &[u8], addr: u32, size: u32) -> u32
     value_of(&rest[..(size as usize).min(rest.len())])
 }
 
-ghost use Rattle.std.specs.Prelude.{◌≤◌, length};
-
-fn is_same(a: &Reply, b: &Reply) -> bool
-    ensures { IsTrue result ↔ (a.now ≡ b.now) }
+fn is_done(reply: &Reply) -> bool
+    ensures { IsTrue result ↔ (reply.now ≡ reply.Done) }
 {
-    *a == *b
+    match *reply {
+        Reply::Done => true,
+        Reply::Word(_)
+        | Reply::Mapped(_)
+        | Reply::Bytes(_)
+        | Reply::Synced(_)
+        | Reply::Signal(_)
+        | Reply::Refused(_)
+        | Reply::Io { .. } => false,
+    }
+}
+
+fn is_word(reply: &Reply, word: u32) -> bool
+    ensures { IsTrue result ↔ (reply.now ≡ reply.Word word) }
+{
+    match *reply {
+        Reply::Word(other) => other == word,
+        Reply::Done
+        | Reply::Mapped(_)
+        | Reply::Bytes(_)
+        | Reply::Synced(_)
+        | Reply::Signal(_)
+        | Reply::Refused(_)
+        | Reply::Io { .. } => false,
+    }
+}
+
+fn is_mapped(reply: &Reply, addr: u32) -> bool
+    ensures { IsTrue result ↔ (reply.now ≡ reply.Mapped addr) }
+{
+    match *reply {
+        Reply::Mapped(other) => other == addr,
+        Reply::Done
+        | Reply::Word(_)
+        | Reply::Bytes(_)
+        | Reply::Synced(_)
+        | Reply::Signal(_)
+        | Reply::Refused(_)
+        | Reply::Io { .. } => false,
+    }
+}
+
+fn is_bytes(reply: &Reply, line: &Line) -> bool
+    ensures { IsTrue result ↔ (reply.now ≡ reply.Bytes line.now) }
+{
+    match reply {
+        Reply::Bytes(other) => *other == *line,
+        Reply::Done
+        | Reply::Word(_)
+        | Reply::Mapped(_)
+        | Reply::Synced(_)
+        | Reply::Signal(_)
+        | Reply::Refused(_)
+        | Reply::Io { .. } => false,
+    }
+}
+
+fn is_synced(reply: &Reply) -> bool
+    ensures { IsTrue result ↔ (reply.now ≡ reply.Synced 0) }
+{
+    match *reply {
+        Reply::Synced(from) => from == 0,
+        Reply::Done
+        | Reply::Word(_)
+        | Reply::Mapped(_)
+        | Reply::Bytes(_)
+        | Reply::Signal(_)
+        | Reply::Refused(_)
+        | Reply::Io { .. } => false,
+    }
+}
+
+fn is_signal(reply: &Reply, signal: Signal) -> bool
+    ensures { IsTrue result ↔ (reply.now ≡ reply.Signal signal) }
+{
+    match *reply {
+        Reply::Signal(other) => other == signal,
+        Reply::Done
+        | Reply::Word(_)
+        | Reply::Mapped(_)
+        | Reply::Bytes(_)
+        | Reply::Synced(_)
+        | Reply::Refused(_)
+        | Reply::Io { .. } => false,
+    }
+}
+
+fn is_refused(reply: &Reply, errno: Errno) -> bool
+    ensures { IsTrue result ↔ (reply.now ≡ reply.Refused errno) }
+{
+    match *reply {
+        Reply::Refused(other) => other == errno,
+        Reply::Done
+        | Reply::Word(_)
+        | Reply::Mapped(_)
+        | Reply::Bytes(_)
+        | Reply::Synced(_)
+        | Reply::Signal(_)
+        | Reply::Io { .. } => false,
+    }
 }
 
 /// Whether a reply is the one that is due, or says that a transfer failed where one may have.
 pub(crate) fn is_due(reply: &Reply, may_fail: bool, due: &Reply) -> bool
     ensures { IsTrue result ↔ IsDueReply reply.now (IsTrue may_fail) due.now }
 {
-    match *reply {
+    match reply {
         Reply::Io { .. } => may_fail,
-        Reply::Synced(_) => is_same(due, &Reply::Synced(0)),
-        Reply::Done
-        | Reply::Word(_)
-        | Reply::Mapped(_)
-        | Reply::Bytes(_)
-        | Reply::Signal(_)
-        | Reply::Refused(_) => is_same(due, reply),
+        Reply::Done => is_done(due),
+        Reply::Word(word) => is_word(due, *word),
+        Reply::Mapped(addr) => is_mapped(due, *addr),
+        Reply::Bytes(line) => is_bytes(due, line),
+        Reply::Synced(_) => is_synced(due),
+        Reply::Signal(signal) => is_signal(due, *signal),
+        Reply::Refused(errno) => is_refused(due, *errno),
     }
 }
 
@@ -71,5 +169,3 @@ pub(crate) fn is_io(reply: &Reply) -> bool
         | Reply::Refused(_) => false,
     }
 }
-
-ghost use Rattle.flat_model.specs.FlatState.{is_io};

@@ -89,6 +89,19 @@ impl Spaces {
         Ok(())
     }
 
+    /// Puts a cell at a page of a process, which has an empty space if it isn't alive.
+    pub(crate) fn put_cell(&mut self, alloc: Global, process: u32, page: u32, cell: CellState) -> Result<(), AllocError>
+        ensures ok { OnOk result (self.new ≡ with_cell_in self.old process page (cell_of cell)) }
+        ensures err { OnErr result (self.new ≡ self.old) }
+    {
+        if self.is_alive(process) {
+            return self.set_cell(process, page, cell);
+        }
+        let mut cells = Cells::new(alloc);
+        cells.insert(page, cell)?;
+        self.insert(process, cells)
+    }
+
     /// Takes the cells of a process away.
     pub fn remove(&mut self, process: u32)
         ensures { self.new ≡ map.remove self.old process }
