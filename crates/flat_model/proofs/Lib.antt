@@ -14,3 +14,4 @@ pub mod Maps
 pub mod FileBytes
 pub mod Trees
 pub mod Steps
+pub mod Cuts

@@ -1,5 +1,5 @@
 -- What the parts of the slow form stand for.
-use Rattle.std.specs.Prelude.{ℕ, ◌==◌, Bool, false, List, map, option_map, Some, None, Vec}
+use Rattle.std.specs.Prelude.{ℕ, ◌==◌, ◌*◌, ◌-◌, ◌++◌, replicate, Bool, false, List, map, option_map, Some, None, Vec}
 use Rattle.vm_types.specs.declared.call.Object.{Object}
 use Rattle.vm_types.specs.declared.call.Object.TheVariants as object
 use Rattle.std.specs.Ordering.{nat_cmp}
@@ -10,7 +10,8 @@ use Rattle.std.specs.BTreeMap.{BTreeMap}
 use Rattle.std.specs.Map.{keys_of}
 use Rattle.flat_model.specs.declared.cells.CellState.{CellState}
 use Rattle.flat_model.specs.declared.files.FileState.{FileState}
-use Rattle.flat_model.specs.Words.{Page}
+use Rattle.flat_model.specs.Words.{Page, pages_in}
+use Rattle.flat_model.specs.Parts.{cut}
 use Rattle.flat_model.specs.Flat.{Cell, File, Space}
 
 -- The pages of a vector of pages.
@@ -52,3 +53,7 @@ without_own c = record c { own = None }
 -- The cell with a page of its own.
 abbrev pub with_own : Cell → Page → Cell
 with_own c page = record c { own = Some page }
+
+-- A file that has these bytes, and zeros from there to the end of its last page.
+abbrev pub opened : ℕ → ℕ → Bool → List ℕ → File
+opened len limit writable bytes = record { len = len; limit = limit; writable = writable; pages = cut (pages_in len) (bytes ++ replicate (4096 * pages_in len - len) 0) }

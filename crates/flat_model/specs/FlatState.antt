@@ -1,5 +1,5 @@
 -- What the slow form stands for.
-use Rattle.std.specs.Prelude.{ℕ, ◌≡◌, Bool, true, false, map}
+use Rattle.std.specs.Prelude.{ℕ, ◌≡◌, ◌++◌, ◌∷◌, [], Bool, true, false, map}
 use Rattle.vm_types.specs.declared.call.Call.{Call}
 use Rattle.vm_types.specs.declared.call.Call.TheVariants as call
 use Rattle.vm_types.specs.declared.call.Reply.{Reply}
@@ -8,7 +8,7 @@ use Rattle.flat_model.specs.Step.{without_start}
 use Rattle.std.specs.FinMap as finite
 use Rattle.std.specs.FinSet as set
 use Rattle.flat_model.specs.declared.state.FlatState.TheInside.{Inside}
-use Rattle.flat_model.specs.Flat.{Flat}
+use Rattle.flat_model.specs.Flat.{File, Flat}
 use Rattle.flat_model.specs.Cells.{file_of, pages_in_vec, born_in}
 
 abbrev pub flat_of : Inside → Flat
@@ -39,3 +39,7 @@ IsReached (call.Load a n) = Unit {0}
 IsReached (call.Store a n v) = Unit {0}
 IsReached call.Exit = Unit {0}
 IsReached c = ⊥
+
+-- Flat memory with a file more, which has the next number.
+abbrev pub with_file : Flat → File → Flat
+with_file F file = record F { files = F.files ++ file ∷ [] }

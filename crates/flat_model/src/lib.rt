@@ -10,6 +10,8 @@ mod spaces;
 mod state;
 mod state_calls;
 mod state_step;
+#[cfg(test)]
+mod state_tests;
 mod words;
 mod zeros;
 

@@ -1,6 +1,6 @@
 //! Which reply is due.
 ghost use Rattle.std.specs.Prelude.{◌≡◌, ◌≤◌, ◌↔◌, IsTrue, length};
-ghost use Rattle.vm_types.specs.declared.call.Reply.TheVariants as reply;
+ghost use Rattle.vm_types.specs.declared.call.Reply.TheVariants as answer;
 ghost use Rattle.vm_types.specs.Words.{IsWordSize, number_of};
 ghost use Rattle.flat_model.specs.Words.{word_at};
 ghost use Rattle.flat_model.specs.FlatState.{IsDueReply, is_io};
@@ -34,7 +34,7 @@ pub(crate) fn word_of(page: &[u8], addr: u32, size: u32) -> u32
 }
 
 fn is_done(reply: &Reply) -> bool
-    ensures { IsTrue result ↔ (reply.now ≡ reply.Done) }
+    ensures { IsTrue result ↔ (reply.now ≡ answer.Done) }
 {
     match *reply {
         Reply::Done => true,
@@ -49,7 +49,7 @@ fn is_done(reply: &Reply) -> bool
 }
 
 fn is_word(reply: &Reply, word: u32) -> bool
-    ensures { IsTrue result ↔ (reply.now ≡ reply.Word word) }
+    ensures { IsTrue result ↔ (reply.now ≡ answer.Word word) }
 {
     match *reply {
         Reply::Word(other) => other == word,
@@ -64,7 +64,7 @@ fn is_word(reply: &Reply, word: u32) -> bool
 }
 
 fn is_mapped(reply: &Reply, addr: u32) -> bool
-    ensures { IsTrue result ↔ (reply.now ≡ reply.Mapped addr) }
+    ensures { IsTrue result ↔ (reply.now ≡ answer.Mapped addr) }
 {
     match *reply {
         Reply::Mapped(other) => other == addr,
@@ -79,10 +79,10 @@ fn is_mapped(reply: &Reply, addr: u32) -> bool
 }
 
 fn is_bytes(reply: &Reply, line: &Line) -> bool
-    ensures { IsTrue result ↔ (reply.now ≡ reply.Bytes line.now) }
+    ensures { IsTrue result ↔ (reply.now ≡ answer.Bytes line.now) }
 {
     match reply {
-        Reply::Bytes(other) => *other == *line,
+        Reply::Bytes(other) => other.bytes() == line.bytes(),
         Reply::Done
         | Reply::Word(_)
         | Reply::Mapped(_)
@@ -94,7 +94,7 @@ fn is_bytes(reply: &Reply, line: &Line) -> bool
 }
 
 fn is_synced(reply: &Reply) -> bool
-    ensures { IsTrue result ↔ (reply.now ≡ reply.Synced 0) }
+    ensures { IsTrue result ↔ (reply.now ≡ answer.Synced 0) }
 {
     match *reply {
         Reply::Synced(from) => from == 0,
@@ -109,7 +109,7 @@ fn is_synced(reply: &Reply) -> bool
 }
 
 fn is_signal(reply: &Reply, signal: Signal) -> bool
-    ensures { IsTrue result ↔ (reply.now ≡ reply.Signal signal) }
+    ensures { IsTrue result ↔ (reply.now ≡ answer.Signal signal) }
 {
     match *reply {
         Reply::Signal(other) => other == signal,
@@ -124,7 +124,7 @@ fn is_signal(reply: &Reply, signal: Signal) -> bool
 }
 
 fn is_refused(reply: &Reply, errno: Errno) -> bool
-    ensures { IsTrue result ↔ (reply.now ≡ reply.Refused errno) }
+    ensures { IsTrue result ↔ (reply.now ≡ answer.Refused errno) }
 {
     match *reply {
         Reply::Refused(other) => other == errno,

@@ -1,18 +1,19 @@
 //! What each call does to the slow form.
-ghost use Rattle.std.specs.Prelude.{◌≡◌, ◌↔◌, ◌++◌, ◌∷◌, [], IsTrue, IsFalse, IfOk, OnOk, OnErr, IsSome, is_some};
+ghost use Rattle.std.specs.Prelude.{◌≡◌, ◌↔◌, ◌++◌, ◌∷◌, [], IsTrue, IsFalse, IfOk, OnOk, OnErr, IsSome, is_some, length};
 ghost use Rattle.std.specs.FinMap as finite;
 ghost use Rattle.std.specs.FinSet as set;
 ghost use Rattle.vm_types.specs.Words.{IsWordSize, FitsWord};
 ghost use Rattle.vm_types.specs.Prot.{can_read, can_write};
 ghost use Rattle.flat_model.specs.Flat.{swept};
 ghost use Rattle.flat_model.specs.Access.{met, load, store, with_page, written};
-ghost use Rattle.flat_model.specs.Cells.{cell_of, with_own};
+ghost use Rattle.flat_model.specs.Cells.{cell_of, with_own, opened};
 ghost use Rattle.flat_model.specs.Processes.{exited};
 ghost use Rattle.flat_model.specs.Step.{IsPastAtMost};
 ghost use Rattle.flat_model.specs.State.{allowed_by};
-ghost use Rattle.flat_model.specs.FlatState.{with_root};
+ghost use Rattle.flat_model.specs.FlatState.{with_root, with_file};
 
 use crate::cells::{CellState, Cells, without_own};
+use crate::files::opened;
 use crate::pages::{set_file_page, set_zero_page, with_word};
 use crate::replies::word_of;
 use crate::state::{Access, FlatState};
@@ -21,6 +22,17 @@ use std::alloc::{AllocError, Global};
 use vm_types::{Kind, Object, Reply, Signal};
 
 impl FlatState {
+    /// Appends a file with these bytes, and zeros from there to the end of its last page.
+    pub fn file(&mut self, alloc: Global, len: u32, limit: u32, writable: bool, bytes: &[u8]) -> Result<(), AllocError>
+        requires whole { length bytes.now ≡ len }
+        ensures ok { OnOk result (self.new ≡ with_file self.old (opened len limit writable bytes.now)) }
+        ensures err { OnErr result (self.new ≡ self.old) }
+    {
+        let file = opened(alloc, len, limit, writable, bytes)?;
+        self.files.push(file)?;
+        Ok(())
+    }
+
     /// The process is alive and born, with an empty space.
     pub fn root(&mut self, alloc: Global, process: u32) -> Result<(), AllocError>
         requires unborn { IsFalse (set.contains self.old.born process) }

@@ -1,0 +1,8 @@
+use Rattle.std.proofs.Common.{◌∙◌, ap, sym, map, ◌++◌, ◌∷◌, []}
+use Rattle.flat_model.proofs.Cuts.{cut_next, map_push}
+use Rattle.flat_model.proofs.files.cut.Goals as goal
+
+pub loop-i-preserved : goal.loop-i-preserved
+loop-i-preserved c =
+    ap (map (λ p. p.items)) c.in_ok-push.ensures.items ∙ map_push (λ p. p.items) _ _
+    ∙ ap (λ ps. ps ++ _ ∷ []) c.loop-i.invariant ∙ ap (λ p. _ ++ p ∷ []) c.in_ok-page_at.ensures ∙ sym (cut_next c.loop-i.i c.args.bytes.now)
