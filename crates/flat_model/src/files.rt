@@ -22,20 +22,18 @@ fn pages_in(len: u32) -> u32
     ((len as u64 + 4095) / 4096) as u32
 }
 
-// Page i of some bytes.
+// Page i of some bytes, as much of it as there is.
 fn page_at(alloc: Global, bytes: &[u8], i: u32) -> Result<Vec<u8>, AllocError>
-    requires { 4096 * (i + 1) ≤ length bytes.now }
     ensures { IfOk result (λ page. page.items ≡ take 4096 (drop (4096 * i) bytes.now)) }
 {
-    let rest = &bytes[4096 * i as usize..];
+    let rest = &bytes[(4096 * i as usize).min(bytes.len())..];
     let mut page = Vec::new(alloc);
-    page.extend_from_slice(&rest[..4096])?;
+    page.extend_from_slice(&rest[..rest.len().min(4096)])?;
     Ok(page)
 }
 
 // The first pages that bytes fill.
 fn cut(alloc: Global, bytes: &[u8], count: u32) -> Result<Vec<Vec<u8>>, AllocError>
-    requires { 4096 * count ≤ length bytes.now }
     ensures { IfOk result (λ pages. map (λ p. p.items) pages.items ≡ cut count bytes.now) }
 {
     let mut pages = Vec::new(alloc);
