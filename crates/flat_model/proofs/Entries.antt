@@ -52,7 +52,6 @@ rising a (e ∷ es) sorted start = let h = both_hold _ _ sorted in (start, risin
 pub first_found : {X : Type 0} (e : ℕ × X) (es : List (ℕ × X)) → finite.find nat_cmp e.0 (e ∷ es) ≡ Some e.1
 first_found e es = rw (unsigned_tied, eq-eqb e.0 e.0 refl) refl
 
-
 starts_at_0 : {X : Type 0} (es : List (ℕ × X)) → StartsAt 0 es
 starts_at_0 [] = tt
 starts_at_0 (e ∷ es) = omega arith
@@ -77,9 +76,9 @@ some_found t a [] above is = absurd cc
 some_found t a (e ∷ es) above is = elim (t e.1) as (λ b. t e.1 ≡ b → (b || list_any t (map (λ e. e.1) es)) ≡ true → (q : ℕ) × (v : _) × (finite.find nat_cmp q (e ∷ es) ≡ Some v) × (t v ≡ true)) [
   | true ↦ λ here _. (e.0, e.1, first_found e es, here)
   | false ↦ λ _ rest.
-    let r = some_found t (e.0 + 1) es above.1 rest in
-    let apart : r.0 ≡ e.0 → ⊥ = λ same. absurd (let none = find_below r.0 (e.0 + 1) es (omega arith) above.1 in let both : None ≡ Some r.1 = sym none ∙ r.2 in cc) in
-    (r.0, r.1, find_rest r.0 e es apart ∙ r.2, r.3)
+      let r = some_found t (e.0 + 1) es above.1 rest in
+      let apart : r.0 ≡ e.0 → ⊥ = λ same. absurd (let none = find_below r.0 (e.0 + 1) es (omega arith) above.1 in let both : None ≡ Some r.1 = sym none ∙ r.2 in cc) in
+      (r.0, r.1, find_rest r.0 e es apart ∙ r.2, r.3)
 ] refl is
 
 -- a value that passes makes some value pass

@@ -1,10 +1,10 @@
 -- The bytes of a file after a written part, and after its tail became zeros.
-use Rattle.std.proofs.Common.{◌≡◌, ℕ, zero, suc, ◌+◌, ◌-◌, ◌*◌, ◌/◌, ◌<◌, ◌≤◌, max, List, [], ◌∷◌, ◌++◌, length, take, drop, replicate, get_or, refl, sym, ap, subst, ◌∙◌, inl, inr, append_assoc, arith, length-append}
+use Rattle.std.proofs.Common.{◌≡◌, ℕ, zero, suc, ◌+◌, ◌-◌, ◌*◌, ◌≤◌, max, List, [], ◌∷◌, ◌++◌, length, take, drop, replicate, refl, sym, ap, ◌∙◌, inl, inr, append_assoc, arith, length-append}
 use Rattle.std.specs.Prelude.{All}
 use Rattle.std.specs.List.{concat}
-use Rattle.std.proofs.Math.Seq.{take-add, take-append-add, drop-append-add}
+use Rattle.std.proofs.Math.Seq.{take-add, take-append-add}
 use Rattle.std.proofs.lemmas.Bool.{cases_lt}
-use Rattle.std.proofs.lemmas.List.{length-take, length-drop, length-replicate, replicate-append-replicate, take-append-drop, take_all, take_at, take-append-le, drop-append-le, drop_all, drop_at, append-nil}
+use Rattle.std.proofs.lemmas.List.{length-take, length-drop, length-replicate, take-append-drop, take_all, take_at, take-append-le, drop-append-le, drop_all}
 use Rattle.std.proofs.lemmas.List.Folds.{concat-append}
 use Rattle.flat_model.specs.Words.{Page, IsPage, zero_page, pages_in, with_bytes}
 use Rattle.flat_model.specs.Flat.{File, IsFile}

@@ -64,9 +64,10 @@ Syncs-push H e syncs is k d at = elim (slice_get-cases H e d k at) [
 ]
 
 Syncs-front : (H : List Entry) (e : Entry) → Syncs (H ++ e ∷ []) → Syncs H × IsSyncStart H (length H) e
-Syncs-front H e syncs =
-    (λ k d at. let within = slice_get_within H k d at in IsSyncStart-alike (H ++ e ∷ []) H k d.process d.reply (λ j lt. sym (slice_get-front H e j (omega arith))) (syncs k d (slice_get-front H e k within ∙ at)),
-    IsSyncStart-alike (H ++ e ∷ []) H (length H) e.process e.reply (λ j lt. sym (slice_get-front H e j lt)) (syncs (length H) e (slice_get-pushed H e)))
+Syncs-front H e syncs = (
+  λ k d at. let within = slice_get_within H k d at in IsSyncStart-alike (H ++ e ∷ []) H k d.process d.reply (λ j lt. sym (slice_get-front H e j (omega arith))) (syncs k d (slice_get-front H e k within ∙ at)),
+  IsSyncStart-alike (H ++ e ∷ []) H (length H) e.process e.reply (λ j lt. sym (slice_get-front H e j lt)) (syncs (length H) e (slice_get-pushed H e)),
+)
 
 -- choices that are known
 when_true : (b : Bool) (P Q : Type 0) → b ≡ true → MatchBool b P Q → P
@@ -196,6 +197,7 @@ meets f holder e = by_part (is_part_of f e) refl
       | true ↦ λ aside. inr (inl (is, p, some, aside, rw (some, is, aside) refl))
       | false ↦ λ aside. inr (inr (is, rw (some, is, aside) refl, λ q other. let same : p ≡ q = let both : Some p ≡ Some q = sym some ∙ other in cc in ap (λ k. is_aside k e) (sym same) ∙ aside))
     ] refl
+
     by_part : (b : Bool) → is_part_of f e ≡ b → Meets f holder e
     by_part false is = inl (is, rw is refl)
     by_part true is = by_aside holder refl is
@@ -223,31 +225,31 @@ aside_passed f holder d p some aside q other = passed (is_part_of f d) (is_aside
 kept_rest : (f : ℕ) (holder : Option ℕ) (d : Entry) (X : List Entry) → Kept f holder (d ∷ X) → Held f holder (d ∷ []) × Kept f (open_after f holder d) X
 kept_rest f holder d X kept = elim (meets f holder d) [
   | inl m ↦
-    let skips = λ (p : ℕ) (some : holder ≡ Some p). other_part (is_part_of f d) (not (is_aside p d)) m.0 in
-    (skip_held f holder d [] skips (held_nothing f holder), subst (λ (o : Option ℕ). Kept f o X) (sym m.1) (held_skip f holder d X skips kept.0, kept.1.1))
+      let skips = λ (p : ℕ) (some : holder ≡ Some p). other_part (is_part_of f d) (not (is_aside p d)) m.0 in
+      (skip_held f holder d [] skips (held_nothing f holder), subst (λ (o : Option ℕ). Kept f o X) (sym m.1) (held_skip f holder d X skips kept.0, kept.1.1))
   | inr (inl m) ↦
-    let skips = aside_passed f holder d m.1 m.2 m.3 in
-    (skip_held f holder d [] skips (held_nothing f holder), subst (λ (o : Option ℕ). Kept f o X) (sym m.4) (held_skip f holder d X skips kept.0, kept.1.1))
+      let skips = aside_passed f holder d m.1 m.2 m.3 in
+      (skip_held f holder d [] skips (held_nothing f holder), subst (λ (o : Option ℕ). Kept f o X) (sym m.4) (held_skip f holder d X skips kept.0, kept.1.1))
   | inr (inr m) ↦
-    let takes = λ (p : ℕ) (some : holder ≡ Some p). taken (is_part_of f d) (is_aside p d) m.0 (m.2 p some) in
-    (held_take f holder d X [] takes kept.0, subst (λ (o : Option ℕ). Kept f o X) (sym m.1) (kept_of f d X m.0 (when_true (is_part_of f d) (IsKept d X) (Unit {0}) m.0 kept.1.0), kept.1.1))
+      let takes = λ (p : ℕ) (some : holder ≡ Some p). taken (is_part_of f d) (is_aside p d) m.0 (m.2 p some) in
+      (held_take f holder d X [] takes kept.0, subst (λ (o : Option ℕ). Kept f o X) (sym m.1) (kept_of f d X m.0 (when_true (is_part_of f d) (IsKept d X) (Unit {0}) m.0 kept.1.0), kept.1.1))
 ]
 
 rest_kept : (f : ℕ) (holder : Option ℕ) (d : Entry) (X : List Entry) → Held f holder (d ∷ []) → Kept f (open_after f holder d) X → Kept f holder (d ∷ X)
 rest_kept f holder d X first rest = elim (meets f holder d) [
   | inl m ↦
-    let skips = λ (p : ℕ) (some : holder ≡ Some p). other_part (is_part_of f d) (not (is_aside p d)) m.0 in
-    let kept = subst (λ (o : Option ℕ). Kept f o X) m.1 rest in
-    (skip_held f holder d X skips kept.0, (of_false (is_part_of f d) (IsKept d X) (Unit {0}) m.0 tt, kept.1))
+      let skips = λ (p : ℕ) (some : holder ≡ Some p). other_part (is_part_of f d) (not (is_aside p d)) m.0 in
+      let kept = subst (λ (o : Option ℕ). Kept f o X) m.1 rest in
+      (skip_held f holder d X skips kept.0, (of_false (is_part_of f d) (IsKept d X) (Unit {0}) m.0 tt, kept.1))
   | inr (inl m) ↦
-    let skips = aside_passed f holder d m.1 m.2 m.3 in
-    let kept = subst (λ (o : Option ℕ). Kept f o X) m.4 rest in
-    let ends = ends_call-io d (io_aside (is_io d.reply) (not (d.process == m.1)) m.3) in
-    (skip_held f holder d X skips kept.0, (of_true (is_part_of f d) (IsKept d X) (Unit {0}) m.0 (of_kept f d X m.0 (ended_free f (ends_call d.call d.reply) d.process X ends)), kept.1))
+      let skips = aside_passed f holder d m.1 m.2 m.3 in
+      let kept = subst (λ (o : Option ℕ). Kept f o X) m.4 rest in
+      let ends = ends_call-io d (io_aside (is_io d.reply) (not (d.process == m.1)) m.3) in
+      (skip_held f holder d X skips kept.0, (of_true (is_part_of f d) (IsKept d X) (Unit {0}) m.0 (of_kept f d X m.0 (ended_free f (ends_call d.call d.reply) d.process X ends)), kept.1))
   | inr (inr m) ↦
-    let takes = λ (p : ℕ) (some : holder ≡ Some p). taken (is_part_of f d) (is_aside p d) m.0 (m.2 p some) in
-    let kept = subst (λ (o : Option ℕ). Kept f o X) m.1 rest in
-    (held_take f holder d [] X takes first, (of_true (is_part_of f d) (IsKept d X) (Unit {0}) m.0 (of_kept f d X m.0 kept.0), kept.1))
+      let takes = λ (p : ℕ) (some : holder ≡ Some p). taken (is_part_of f d) (is_aside p d) m.0 (m.2 p some) in
+      let kept = subst (λ (o : Option ℕ). Kept f o X) m.1 rest in
+      (held_take f holder d [] X takes first, (of_true (is_part_of f d) (IsKept d X) (Unit {0}) m.0 (of_kept f d X m.0 kept.0), kept.1))
 ]
 
 kept_last : (f : ℕ) (holder : Option ℕ) (e : Entry) → Held f holder (e ∷ []) → Kept f holder (e ∷ [])

@@ -12,6 +12,4 @@ pub mod Mappings
 pub mod Reserve
 pub mod Maps
 pub mod FileBytes
-pub mod Trees
-pub mod Steps
-pub mod Cuts
+pub mod WellFormed

@@ -104,21 +104,21 @@ least_is : (k : ℕ) (es : List (ℕ × Unit {0})) → Above k es → IsLeast k 
 least_is k [] above = record { low = omega arith; out = refl; each = λ j low high. absurd (omega arith) }
 least_is k (e ∷ es) above = elim (cases_eq e.0 k) [
   | inl here ↦
-    let rest = least_is (k + 1) es (subst (λ (n : ℕ). Above (n + 1) es) here above.1) in
-    let low = rest.low in
-    let same : least_from k (keys_in (e ∷ es)) ≡ least_from (k + 1) (keys_in es) = ap (λ b. cond b (least_from (k + 1) (keys_in es)) k) (eq-eqb e.0 k here) in
-    rw same (record {
-      low = omega arith;
-      out = ap is_some (find_rest (least_from (k + 1) (keys_in es)) e es (λ is. omega arith)) ∙ rest.out;
-      each = λ j from below. elim (cases_eq j e.0) [
-        | inl at ↦ ap (λ n. is_some (finite.find nat_cmp n (e ∷ es))) at ∙ ap is_some (first_found e es)
-        | inr apart ↦ ap is_some (find_rest j e es apart) ∙ rest.each j (omega (arith, apart)) below
-      ];
-    })
+      let rest = least_is (k + 1) es (subst (λ (n : ℕ). Above (n + 1) es) here above.1) in
+      let low = rest.low in
+      let same : least_from k (keys_in (e ∷ es)) ≡ least_from (k + 1) (keys_in es) = ap (λ b. cond b (least_from (k + 1) (keys_in es)) k) (eq-eqb e.0 k here) in
+      rw same (record {
+        low = omega arith;
+        out = ap is_some (find_rest (least_from (k + 1) (keys_in es)) e es (λ is. omega arith)) ∙ rest.out;
+        each = λ j from below. elim (cases_eq j e.0) [
+          | inl at ↦ ap (λ n. is_some (finite.find nat_cmp n (e ∷ es))) at ∙ ap is_some (first_found e es)
+          | inr apart ↦ ap is_some (find_rest j e es apart) ∙ rest.each j (omega (arith, apart)) below
+        ];
+      })
   | inr apart ↦
-    let same : least_from k (keys_in (e ∷ es)) ≡ k = ap (λ b. cond b (least_from (k + 1) (keys_in es)) k) (not_eq e.0 k apart) in
-    let start = above.0 in
-    rw same (record { low = omega arith; out = ap is_some (find_below k (k + 1) (e ∷ es) (omega arith) (omega (arith, apart), above.1)); each = λ j from below. absurd (omega arith) })
+      let same : least_from k (keys_in (e ∷ es)) ≡ k = ap (λ b. cond b (least_from (k + 1) (keys_in es)) k) (not_eq e.0 k apart) in
+      let start = above.0 in
+      rw same (record { low = omega arith; out = ap is_some (find_below k (k + 1) (e ∷ es) (omega arith) (omega (arith, apart), above.1)); each = λ j from below. absurd (omega arith) })
 ]
 
 pub new_number-new : (F : Flat) → IsFalse (is_named F (new_number F))

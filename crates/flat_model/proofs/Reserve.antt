@@ -84,15 +84,15 @@ names_from F p first n z s cell P is new old =
     let m = named-to_cell (with_space F p (with_cells s first n cell)) z is in
     elim (cases_eq m.process p) [
       | inl here ↦
-        let at : map.get (with_cells s first n cell) m.page ≡ Some m.cell = sym (cell_at-here F p m.page (with_cells s first n cell)) ∙ ap (λ x. cell_at (with_space F p (with_cells s first n cell)) x m.page) (sym here) ∙ m.stands in
-        elim (in_range first n m.page) as (λ b. in_range first n m.page ≡ b → P) [
-          | true ↦ λ inside.
-            let same : cell (m.page - first) ≡ m.cell = let both : Some (cell (m.page - first)) ≡ Some m.cell = sym (ap (λ b. cond b (Some (cell (m.page - first))) (map.get s m.page)) inside) ∙ sym (get-with_cells s first n cell m.page) ∙ at in cc in
-            new (m.page - first) (ap zero_of same ∙ m.names)
-          | false ↦ λ outside.
-            let kept : map.get (without s first n) m.page ≡ Some m.cell = get-without s first n m.page ∙ ap (λ b. cond b None (map.get s m.page)) outside ∙ sym (ap (λ b. cond b (Some (cell (m.page - first))) (map.get s m.page)) outside) ∙ sym (get-with_cells s first n cell m.page) ∙ at in
-            old (named-from_cell (with_space F p (without s first n)) p m.page z m.cell (cell_at-here F p m.page (without s first n) ∙ kept) m.names)
-        ] refl
+          let at : map.get (with_cells s first n cell) m.page ≡ Some m.cell = sym (cell_at-here F p m.page (with_cells s first n cell)) ∙ ap (λ x. cell_at (with_space F p (with_cells s first n cell)) x m.page) (sym here) ∙ m.stands in
+          elim (in_range first n m.page) as (λ b. in_range first n m.page ≡ b → P) [
+            | true ↦ λ inside.
+                let same : cell (m.page - first) ≡ m.cell = let both : Some (cell (m.page - first)) ≡ Some m.cell = sym (ap (λ b. cond b (Some (cell (m.page - first))) (map.get s m.page)) inside) ∙ sym (get-with_cells s first n cell m.page) ∙ at in cc in
+                new (m.page - first) (ap zero_of same ∙ m.names)
+            | false ↦ λ outside.
+                let kept : map.get (without s first n) m.page ≡ Some m.cell = get-without s first n m.page ∙ ap (λ b. cond b None (map.get s m.page)) outside ∙ sym (ap (λ b. cond b (Some (cell (m.page - first))) (map.get s m.page)) outside) ∙ sym (get-with_cells s first n cell m.page) ∙ at in
+                old (named-from_cell (with_space F p (without s first n)) p m.page z m.cell (cell_at-here F p m.page (without s first n) ∙ kept) m.names)
+          ] refl
       | inr apart ↦ old (named-from_cell (with_space F p (without s first n)) m.process m.page z m.cell (cell_at-other F p m.process m.page (without s first n) apart ∙ sym (cell_at-other F p m.process m.page (with_cells s first n cell) apart) ∙ m.stands) m.names)
     ]
 
@@ -106,9 +106,9 @@ names_stay F p first n z s cell is =
     let m = named-to_cell (with_space F p (without s first n)) z is in
     elim (cases_eq m.process p) [
       | inl here ↦
-        let at : map.get (without s first n) m.page ≡ Some m.cell = sym (cell_at-here F p m.page (without s first n)) ∙ ap (λ x. cell_at (with_space F p (without s first n)) x m.page) (sym here) ∙ m.stands in
-        let stays = get-with_cells s first n cell m.page ∙ hidden (in_range first n m.page) (map.get s m.page) (Some m.cell) (Some (cell (m.page - first))) (sym (get-without s first n m.page) ∙ at) refl in
-        named-from_cell (with_space F p (with_cells s first n cell)) p m.page z m.cell (cell_at-here F p m.page (with_cells s first n cell) ∙ stays) m.names
+          let at : map.get (without s first n) m.page ≡ Some m.cell = sym (cell_at-here F p m.page (without s first n)) ∙ ap (λ x. cell_at (with_space F p (without s first n)) x m.page) (sym here) ∙ m.stands in
+          let stays = get-with_cells s first n cell m.page ∙ hidden (in_range first n m.page) (map.get s m.page) (Some m.cell) (Some (cell (m.page - first))) (sym (get-without s first n m.page) ∙ at) refl in
+          named-from_cell (with_space F p (with_cells s first n cell)) p m.page z m.cell (cell_at-here F p m.page (with_cells s first n cell) ∙ stays) m.names
       | inr apart ↦ named-from_cell (with_space F p (with_cells s first n cell)) m.process m.page z m.cell (cell_at-other F p m.process m.page (with_cells s first n cell) apart ∙ sym (cell_at-other F p m.process m.page (without s first n) apart) ∙ m.stands) m.names
     ]
 
@@ -322,9 +322,9 @@ names_before F p first n z alive is =
     let m = named-to_cell (with_space F p (without (cells_of F p) first n)) z is in
     elim (cases_eq m.process p) [
       | inl here ↦
-        let at : map.get (without (cells_of F p) first n) m.page ≡ Some m.cell = sym (cell_at-here F p m.page (without (cells_of F p) first n)) ∙ ap (λ x. cell_at (with_space F p (without (cells_of F p) first n)) x m.page) (sym here) ∙ m.stands in
-        let old : map.get (cells_of F p) m.page ≡ Some m.cell = shown_through (in_range first n m.page) (map.get (cells_of F p) m.page) m.cell (sym (get-without (cells_of F p) first n m.page) ∙ at) in
-        named-from_cell F p m.page z m.cell (get-cells_of F p m.page ∙ old) m.names
+          let at : map.get (without (cells_of F p) first n) m.page ≡ Some m.cell = sym (cell_at-here F p m.page (without (cells_of F p) first n)) ∙ ap (λ x. cell_at (with_space F p (without (cells_of F p) first n)) x m.page) (sym here) ∙ m.stands in
+          let old : map.get (cells_of F p) m.page ≡ Some m.cell = shown_through (in_range first n m.page) (map.get (cells_of F p) m.page) m.cell (sym (get-without (cells_of F p) first n m.page) ∙ at) in
+          named-from_cell F p m.page z m.cell (get-cells_of F p m.page ∙ old) m.names
       | inr apart ↦ named-from_cell F m.process m.page z m.cell (sym (cell_at-other F p m.process m.page (without (cells_of F p) first n) apart) ∙ m.stands) m.names
     ]
   where

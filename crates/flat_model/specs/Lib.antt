@@ -8,6 +8,7 @@ pub mod StoreLaws
 pub mod NamedLaws
 pub mod MapLaws
 pub mod PartLaws
+pub mod FlatLaws
 pub mod HistoryLaws
 pub mod Mapping
 pub mod Parts

@@ -1,6 +1,6 @@
 -- Laws of files: what bytes a written part leaves, and that a tail is none of a file's bytes.
-use Rattle.std.specs.Prelude.{ℕ, ◌≡◌, ◌+◌, ◌-◌, ◌≤◌, ◌++◌, max, List, length, replicate, All}
-use Rattle.flat_model.specs.Words.{Page, IsPage, pages_in, with_bytes}
+use Rattle.std.specs.Prelude.{ℕ, ◌≡◌, ◌+◌, ◌-◌, ◌++◌, max, List, length, replicate}
+use Rattle.flat_model.specs.Words.{pages_in, with_bytes}
 use Rattle.flat_model.specs.Flat.{File, IsFile}
 use Rattle.flat_model.specs.Parts.{bytes_in, with_part, without_tail}
 

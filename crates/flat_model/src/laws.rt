@@ -3,6 +3,7 @@ ghost use Rattle.flat_model.specs.MapLaws.{MapThenUnmap, Reservation};
 ghost use Rattle.flat_model.specs.NamedLaws.{ZeroObjects};
 ghost use Rattle.flat_model.specs.PartLaws.{FileBytes};
 ghost use Rattle.flat_model.specs.SpaceLaws.{LowestGap, RangesOfCells};
+ghost use Rattle.flat_model.specs.FlatLaws.{StaysFlat};
 ghost use Rattle.flat_model.specs.HistoryLaws.{Quiet, OneMore};
 ghost use Rattle.flat_model.specs.StoreLaws.{StoreThenLoad, PrivateStore, ForkThenStore};
 
@@ -70,4 +71,10 @@ pub fn reservation_law()
 #[tactic(auto, using(crate::proofs::FileBytes::file_bytes_law))]
 pub fn file_bytes_law()
     ensures { FileBytes }
+{}
+
+/// Flat memory that is well formed stays so, step by step and over a whole history.
+#[tactic(auto, using(crate::proofs::WellFormed::stays_flat_law))]
+pub fn stays_flat_law()
+    ensures { StaysFlat }
 {}

@@ -4,22 +4,17 @@
 mod cells;
 mod files;
 mod laws;
-mod pages;
-mod replies;
 mod spaces;
 mod state;
-mod state_calls;
-mod state_step;
 #[cfg(test)]
-mod state_tests;
+mod tests;
 mod words;
-mod zeros;
 
 pub use cells::{CellState, Cells};
 pub use files::FileState;
 pub use laws::{
-    file_bytes_law, fork_law, lowest_gap_law, map_then_unmap_law, one_more_law, private_store_law, quiet_law,
-    ranges_law, reservation_law, store_then_load_law, zero_objects_law,
+    file_bytes_law, fork_law, lowest_gap_law, map_then_unmap_law, one_more_law, private_store_law,
+    quiet_law, ranges_law, reservation_law, stays_flat_law, store_then_load_law, zero_objects_law,
 };
 pub use spaces::Spaces;
 pub use state::{Access, FlatState};

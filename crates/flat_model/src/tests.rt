@@ -1,0 +1,69 @@
+//! Each public call once, with values by hand.
+use crate::cells::{CellState, Cells};
+use crate::spaces::Spaces;
+use crate::state::{Access, FlatState};
+use crate::words::{put_word, word_in};
+use std::prelude::HostRuntime;
+use std::test::Fail;
+use vm_types::{Kind, Object, Prot, Signal};
+
+#[test]
+fn words_lie_big_endian_at_their_places(rt: HostRuntime) -> Result<(), Fail> {
+    let mut page = [0u8; 4096];
+    put_word(&mut page, 0x1ffc, 4, 0x01020304);
+    assert_eq!(rt;
+        (page[4092], page[4093], page[4094], page[4095]),
+        (1, 2, 3, 4)
+    );
+    put_word(&mut page, 0x1002, 2, 0xa0b0);
+    put_word(&mut page, 0x1001, 1, 0xc0);
+    assert_eq!(rt; (page[0], page[1], page[2], page[3]), (0, 0xc0, 0xa0, 0xb0));
+    let read = [
+        (0x1ffc, 4, 0x01020304),
+        (0x1002, 2, 0xa0b0),
+        (0x1003, 1, 0xb0),
+        (0x1000, 4, 0xc0a0b0),
+    ];
+    for (addr, size, word) in read {
+        assert_eq!(rt; word_in(&page, addr, size), word);
+    }
+    Ok(())
+}
+
+#[test]
+fn cells_stand_at_their_pages(rt: HostRuntime) -> Result<(), Fail> {
+    let mut cells = Cells::new(rt.alloc());
+    let cell = CellState {
+        prot: Prot::READ,
+        max: Prot::READ,
+        kind: Kind::Shared,
+        object: Object::File(3),
+        index: 7,
+        own: None,
+    };
+    cells.insert(0x10, cell)?;
+    assert!(rt; cells.get(0x11).is_none());
+    let Some(found) = cells.get(0x10) else {
+        return Err(Fail::new("no cell at page 0x10"));
+    };
+    assert_eq!(rt; (found.object, found.index), (Object::File(3), 7));
+    Ok(())
+}
+
+#[test]
+fn nothing_is_mapped_in_the_beginning(rt: HostRuntime) -> Result<(), Fail> {
+    let spaces = Spaces::new(rt.alloc());
+    assert!(rt; spaces.cell(1, 0x10).is_none());
+    let state = FlatState::new(rt.alloc(), 8);
+    assert!(rt; state.cell(1, 0x10).is_none());
+    assert!(rt; state.object_page(Object::File(0), 0).is_none());
+    let signals = [
+        (0x10001, 4, Signal::Align),
+        (0x10000, 4, Signal::NoMap),
+        (0x10001, 1, Signal::NoMap),
+    ];
+    for (addr, size, signal) in signals {
+        assert!(rt; matches!(state.met(1, Access::Load, addr, size), Err(due) if due == signal));
+    }
+    Ok(())
+}
