@@ -32,14 +32,15 @@ unborn_reached F (call.Fork child) r = absurd r
 -- an entry that clears no tails is a step where its process is alive and its reply is due
 pub step_is : (F : Flat) (e : Entry) → e.cleared ≡ 0 → IsReached e.call → IsSome (space_of F e.process) → (IsDue F e ↔ IsStep F e)
 step_is F e none reached alive =
-    let tails = tails_none F e.cleared none in
-    (λ due. record {
+    let tails = tails_none F e.cleared none in (
+      λ due. record {
         files = subst (λ (n : ℕ). n < 2 ^ length F.files) (sym none) (pow_pos (length F.files));
         alive = alive;
         unborn = unborn_reached F e.call reached;
         due = subst (λ G. IsDue G e) (sym tails) due;
       },
-     λ h. subst (λ G. IsDue G e) tails h.due)
+      λ h. subst (λ G. IsDue G e) tails h.due,
+    )
 
 pub step_acts : (F : Flat) (e : Entry) → e.cleared ≡ 0 → acted F e ≡ step F e
 step_acts F e none = ap (λ G. acted G e) (sym (tails_none F e.cleared none))

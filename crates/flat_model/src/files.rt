@@ -22,14 +22,21 @@ fn pages_in(len: u32) -> u32
     ((len as u64 + 4095) / 4096) as u32
 }
 
+// So many bytes from a place on, or as many as there are.
+fn part(alloc: Global, bytes: &[u8], at: usize, count: usize) -> Result<Vec<u8>, AllocError>
+    ensures { IfOk result (λ part. part.items ≡ take count (drop at bytes.now)) }
+{
+    let rest = &bytes[at.min(bytes.len())..];
+    let mut part = Vec::new(alloc);
+    part.extend_from_slice(&rest[..count.min(rest.len())])?;
+    Ok(part)
+}
+
 // Page i of some bytes, as much of it as there is.
 fn page_at(alloc: Global, bytes: &[u8], i: u32) -> Result<Vec<u8>, AllocError>
     ensures { IfOk result (λ page. page.items ≡ take 4096 (drop (4096 * i) bytes.now)) }
 {
-    let rest = &bytes[(4096 * i as usize).min(bytes.len())..];
-    let mut page = Vec::new(alloc);
-    page.extend_from_slice(&rest[..rest.len().min(4096)])?;
-    Ok(page)
+    part(alloc, bytes, 4096 * i as usize, 4096)
 }
 
 // The first pages that bytes fill.

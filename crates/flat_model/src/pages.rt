@@ -52,7 +52,12 @@ pub(crate) fn set_zero_page(
 }
 
 /// The bytes with some put in from a place on, over those that are there.
-pub(crate) fn with_bytes(alloc: Global, old: &[u8], at: usize, bytes: &[u8]) -> Result<Vec<u8>, AllocError>
+pub(crate) fn with_bytes(
+    alloc: Global,
+    old: &[u8],
+    at: usize,
+    bytes: &[u8],
+) -> Result<Vec<u8>, AllocError>
     requires { at < 2 ^ 32 }
     ensures { IfOk result (λ new. new.items ≡ with_bytes old.now at bytes.now) }
 {
@@ -64,12 +69,23 @@ pub(crate) fn with_bytes(alloc: Global, old: &[u8], at: usize, bytes: &[u8]) -> 
 }
 
 /// A page with a word of 1, 2 or 4 bytes put at an address.
-pub(crate) fn with_word(alloc: Global, page: &[u8], addr: u32, size: u32, value: u32) -> Result<Vec<u8>, AllocError>
+pub(crate) fn with_word(
+    alloc: Global,
+    page: &[u8],
+    addr: u32,
+    size: u32,
+    value: u32,
+) -> Result<Vec<u8>, AllocError>
     requires size { IsWordSize size }
     requires fits { FitsWord size value }
     ensures { IfOk result (λ new. new.items ≡ word_put page.now addr size value) }
 {
-    with_bytes(alloc, page, (addr % 4096) as usize, word_bytes(size, value).bytes())
+    with_bytes(
+        alloc,
+        page,
+        (addr % 4096) as usize,
+        word_bytes(size, value).bytes(),
+    )
 }
 
 ghost use Rattle.std.specs.Prelude.{◌<◌, ◌^◌};

@@ -90,7 +90,13 @@ impl Spaces {
     }
 
     /// Puts a cell at a page of a process, which has an empty space if it isn't alive.
-    pub(crate) fn put_cell(&mut self, alloc: Global, process: u32, page: u32, cell: CellState) -> Result<(), AllocError>
+    pub(crate) fn put_cell(
+        &mut self,
+        alloc: Global,
+        process: u32,
+        page: u32,
+        cell: CellState,
+    ) -> Result<(), AllocError>
         ensures ok { OnOk result (self.new ≡ with_cell_in self.old process page (cell_of cell)) }
         ensures err { OnErr result (self.new ≡ self.old) }
     {

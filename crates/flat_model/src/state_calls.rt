@@ -23,7 +23,14 @@ use vm_types::{Kind, Object, Reply, Signal};
 
 impl FlatState {
     /// Appends a file with these bytes, and zeros from there to the end of its last page.
-    pub fn file(&mut self, alloc: Global, len: u32, limit: u32, writable: bool, bytes: &[u8]) -> Result<(), AllocError>
+    pub fn file(
+        &mut self,
+        alloc: Global,
+        len: u32,
+        limit: u32,
+        writable: bool,
+        bytes: &[u8],
+    ) -> Result<(), AllocError>
         requires whole { length bytes.now ≡ len }
         ensures ok { OnOk result (self.new ≡ with_file self.old (opened len limit writable bytes.now)) }
         ensures err { OnErr result (self.new ≡ self.old) }
@@ -88,18 +95,33 @@ impl FlatState {
     }
 
     // Puts a page where a store to a cell goes: to the cell's object, or to the cell.
-    fn write(&mut self, alloc: Global, process: u32, at: u32, cell: CellState, page: Vec<u8>) -> Result<(), AllocError>
+    fn write(
+        &mut self,
+        alloc: Global,
+        process: u32,
+        at: u32,
+        cell: CellState,
+        page: Vec<u8>,
+    ) -> Result<(), AllocError>
         ensures ok { OnOk result (self.new ≡ written self.old process at (cell_of cell) page.items) }
         ensures err { OnErr result (self.new ≡ self.old) }
     {
         match cell.kind {
             Kind::Shared => self.set_page(alloc, cell.object, cell.index, page),
-            Kind::Private => self.spaces.put_cell(alloc, process, at, with_own(cell, page)),
+            Kind::Private => self
+                .spaces
+                .put_cell(alloc, process, at, with_own(cell, page)),
         }
     }
 
     // Puts a page at an index of an object.
-    fn set_page(&mut self, alloc: Global, object: Object, index: u32, page: Vec<u8>) -> Result<(), AllocError>
+    fn set_page(
+        &mut self,
+        alloc: Global,
+        object: Object,
+        index: u32,
+        page: Vec<u8>,
+    ) -> Result<(), AllocError>
         ensures ok { OnOk result (self.new ≡ with_page self.old object index page.items) }
         ensures err { OnErr result (self.new ≡ self.old) }
     {
@@ -112,14 +134,24 @@ impl FlatState {
     }
 
     /// Stores a word, where no signal is due.
-    pub(crate) fn store(&mut self, alloc: Global, process: u32, addr: u32, size: u32, value: u32) -> Result<(), AllocError>
+    pub(crate) fn store(
+        &mut self,
+        alloc: Global,
+        process: u32,
+        addr: u32,
+        size: u32,
+        value: u32,
+    ) -> Result<(), AllocError>
         requires size { IsWordSize size }
         requires fits { FitsWord size value }
         ensures ok { OnOk result (self.new ≡ (store self.old process addr size value).after) }
         ensures err { OnErr result (self.new ≡ self.old) }
     {
         let (cell, page) = match self.met(process, Access::Store, addr, size) {
-            Ok((cell, page)) => (without_own(cell), with_word(alloc, page, addr, size, value)?),
+            Ok((cell, page)) => (
+                without_own(cell),
+                with_word(alloc, page, addr, size, value)?,
+            ),
             Err(_) => return Ok(()),
         };
         self.write(alloc, process, addr / 4096, cell, page)

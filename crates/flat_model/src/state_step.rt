@@ -43,7 +43,14 @@ impl FlatState {
     }
 
     // Acts as an entry whose call is a store: false, and unchanged, where its reply isn't due.
-    fn act_store(&mut self, alloc: Global, entry: &Entry, addr: u32, size: u32, value: u32) -> Result<bool, AllocError>
+    fn act_store(
+        &mut self,
+        alloc: Global,
+        entry: &Entry,
+        addr: u32,
+        size: u32,
+        value: u32,
+    ) -> Result<bool, AllocError>
         requires size { IsWordSize size }
         requires fits { FitsWord size value }
         requires call { entry.now.call ≡ call.Store addr size value }

@@ -7,7 +7,12 @@ use std::test::Fail;
 use vm_types::{Call, Entry, Kind, Object, Prot, Reply, Signal};
 
 // Whether a load of a byte by process 1 with this reply is a step.
-fn loads(state: &mut FlatState, alloc: Global, addr: u32, reply: Reply) -> Result<bool, AllocError> {
+fn loads(
+    state: &mut FlatState,
+    alloc: Global,
+    addr: u32,
+    reply: Reply,
+) -> Result<bool, AllocError> {
     let entry = Entry {
         process: 1,
         call: Call::Load { addr, size: 1 },
@@ -56,10 +61,18 @@ fn opened(alloc: Global) -> Result<FlatState, AllocError> {
     let mut state = FlatState::new(alloc, 0);
     state.file(alloc, 5, 2, true, b"hello")?;
     state.root(alloc, 1)?;
-    state.spaces.put_cell(alloc, 1, 2, cell(Kind::Shared, both, 0))?;
-    state.spaces.put_cell(alloc, 1, 3, cell(Kind::Shared, both, 1))?;
-    state.spaces.put_cell(alloc, 1, 4, cell(Kind::Private, both, 0))?;
-    state.spaces.put_cell(alloc, 1, 5, cell(Kind::Shared, Prot::READ, 0))?;
+    state
+        .spaces
+        .put_cell(alloc, 1, 2, cell(Kind::Shared, both, 0))?;
+    state
+        .spaces
+        .put_cell(alloc, 1, 3, cell(Kind::Shared, both, 1))?;
+    state
+        .spaces
+        .put_cell(alloc, 1, 4, cell(Kind::Private, both, 0))?;
+    state
+        .spaces
+        .put_cell(alloc, 1, 5, cell(Kind::Shared, Prot::READ, 0))?;
     Ok(state)
 }
 
@@ -84,7 +97,15 @@ fn loads_and_stores_are_steps_with_the_reply_that_is_due(rt: HostRuntime) -> Res
     assert!(rt; loads(&mut state, rt.alloc(), 0x2000, Reply::Word(0x68))?);
     assert!(rt; stores(&mut state, rt.alloc(), 0x2000, 0x4a, Reply::Done)?);
     assert!(rt; loads(&mut state, rt.alloc(), 0x2000, Reply::Word(0x4a))?);
-    assert!(rt; stores(&mut state, rt.alloc(), 0x5000, 1, Reply::Signal(Signal::Prot))?);
+    assert!(rt;
+        stores(
+            &mut state,
+            rt.alloc(),
+            0x5000,
+            1,
+            Reply::Signal(Signal::Prot)
+        )?
+    );
     Ok(())
 }
 

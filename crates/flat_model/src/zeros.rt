@@ -17,7 +17,10 @@ pub(crate) fn keep_named(zeros: &mut BTreeMap<u32, Vec<Vec<u8>>>, spaces: &Space
 }
 
 /// The processes that were ever alive, and this one.
-pub(crate) fn with_born(born: &BTreeMap<u32, ()>, process: u32) -> Result<BTreeMap<u32, ()>, AllocError>
+pub(crate) fn with_born(
+    born: &BTreeMap<u32, ()>,
+    process: u32,
+) -> Result<BTreeMap<u32, ()>, AllocError>
     ensures { IfOk result (λ new. born_in new ≡ set.insert (born_in born.now) process) }
 {
     let mut new = born.clone()?;
