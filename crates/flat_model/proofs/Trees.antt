@@ -1,10 +1,10 @@
--- The trees of the slow form, as finite maps: their entries in order, a copy, a key that goes, and keys that stay.
+-- The trees of the slow form, as finite maps: their entries in order, a key that goes, and keys that stay.
 use Rattle.std.proofs.Common.{◌≡◌, ℕ, Bool, true, false, cond, not, ◌&&◌, ◌||◌, T, List, [], ◌∷◌, map, Option, Some, None, refl, sym, ap, subst, ◌∙◌, Less, Equal, arith}
 use Rattle.std.specs.Prelude.{◌==◌, option_map, filter, is_some, length, slice_set, slice_index_or, ◌<◌, ◌≤◌, zero, suc}
 use Rattle.std.specs.FinSet as set
 use Rattle.flat_model.specs.Access.{changed_at}
 use Rattle.std.specs.Option.{option_map_or}
-use Rattle.std.specs.List.{AllZip, AllByRecursion, list_any}
+use Rattle.std.specs.List.{AllByRecursion, list_any}
 use Rattle.std.specs.List.Sorted.{IsStrictlySortedBy}
 use Rattle.std.specs.Ordering.{nat_cmp, is_eq, is_lt, eq_by_cmp}
 use Rattle.std.specs.Cmp.{nat_cmp_total, eq_by_cmp_equiv, unsigned_tied}
@@ -71,18 +71,6 @@ values_mapped f es sorted = ap values_of (entries_mapped f es sorted) ∙ values
 
 pub values_plain : {X : Type 0} (es : List (ℕ × X)) → IsStrictlySortedBy nat_cmp (keys_of es) → finite.values (finite.from_entries {R = nat_cmp} es) ≡ values_of es
 values_plain es sorted = ap values_of (entries_plain es sorted)
-
--- a copy stands for the same map
-pub mapped_clone : {X Y : Type 0} (f : X → Y) (C : ℕ → ℕ → Type 0) (D : X → X → Type 0) → ((x y : ℕ) → C x y → y ≡ x) → ((v w : X) → D v w → f w ≡ f v) → (es fs : List (ℕ × X)) → AllZip (λ p q. C p.0 q.0 × D p.1 q.1) es fs → each f fs ≡ each f es
-mapped_clone f C D same alike [] [] h = refl
-mapped_clone f C D same alike [] (g ∷ fs) h = absurd h
-mapped_clone f C D same alike (e ∷ es) [] h = absurd h
-mapped_clone {Y = Y} f C D same alike (e ∷ es) (g ∷ fs) h =
-    let key = same e.0 g.0 h.0.0 in
-    let value = alike e.1 g.1 h.0.1 in
-    let rest = mapped_clone f C D same alike es fs h.1 in
-    let first : ◌≡◌ {A = ℕ × Y} (g.0, f g.1) (e.0, f e.1) = λ i. (key i, value i) in
-    λ i. first i ∷ rest i
 
 -- a key that goes
 pub mapped_remove : {X Y : Type 0} (f : X → Y) (es fs : List (ℕ × X)) (k : ℕ) → ((q : ℕ) → lookup (is_at (nat_cmp q)) fs ≡ cond (is_at (nat_cmp k) q) None (lookup (is_at (nat_cmp q)) es)) → finite.from_entries {R = nat_cmp} (map (λ e. (e.0, f e.1)) fs) ≡ finite.remove (finite.from_entries (map (λ e. (e.0, f e.1)) es)) k

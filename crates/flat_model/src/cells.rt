@@ -1,5 +1,5 @@
 //! The cells of a process, as a finite map.
-ghost use Rattle.std.specs.Prelude.{◌≡◌, IfOk, OnOk, OnErr, option_map};
+ghost use Rattle.std.specs.Prelude.{◌≡◌, OnOk, OnErr, option_map};
 ghost use Rattle.std.specs.List.{list_any};
 ghost use Rattle.std.specs.FinMap as map;
 ghost use Rattle.std.specs.BTreeMap.{values, IsOrdered};
@@ -77,15 +77,6 @@ impl Cells {
         ensures { self.new ≡ map.remove self.old page }
     {
         let _cell = self.cells.remove(&page);
-    }
-
-    /// The same cells once more.
-    pub fn copied(&self) -> Result<Cells, AllocError>
-        ensures { IfOk result (λ cells. cells ≡ self.now) }
-    {
-        Ok(Cells {
-            cells: self.cells.clone()?,
-        })
     }
 
     /// Whether some cell names the zero object. Looks at each cell.
