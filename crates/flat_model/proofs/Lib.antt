@@ -13,3 +13,6 @@ pub mod Reserve
 pub mod Maps
 pub mod FileBytes
 pub mod WellFormed
+pub mod Trees
+pub mod Steps
+pub mod Cuts

@@ -1,7 +1,10 @@
 //! The cells of a process, as a finite map.
 ghost use Rattle.std.specs.Prelude.{◌≡◌, OnOk, OnErr, option_map};
+ghost use Rattle.std.specs.List.{list_any};
 ghost use Rattle.std.specs.FinMap as map;
-ghost use Rattle.flat_model.specs.Cells.{cell_of};
+ghost use Rattle.std.specs.BTreeMap.{values, IsOrdered};
+ghost use Rattle.std.specs.Ordering.{nat_cmp};
+ghost use Rattle.flat_model.specs.Cells.{cell_of, names, is_zero, without_own};
 
 use std::alloc::{AllocError, Global};
 use std::collections::BTreeMap;
@@ -9,7 +12,7 @@ use std::marker::Model;
 use vm_types::{Kind, Object, Prot};
 
 /// A cell: one page of a mapping.
-#[derive(Drop)]
+#[derive(Clone, Drop)]
 pub struct CellState {
     pub prot: Prot,
     /// At most what `Protect` may allow.
@@ -67,5 +70,51 @@ impl Cells {
     {
         self.cells.insert(page, cell)?;
         Ok(())
+    }
+
+    /// Takes the cell at a page away, if there is one.
+    pub fn remove(&mut self, page: u32)
+        ensures { self.new ≡ map.remove self.old page }
+    {
+        let _cell = self.cells.remove(&page);
+    }
+
+    /// Whether some cell names the zero object. Looks at each cell.
+    pub fn names(&self, zero: u32) -> bool
+        ensures { result ≡ list_any (names zero) (map.values self.now) }
+    {
+        any_names(&self.cells, zero)
+    }
+}
+
+// Whether the object is the zero object of this number.
+fn is_zero(object: Object, zero: u32) -> bool
+    ensures { result ≡ is_zero zero object }
+{
+    match object {
+        Object::Zero(number) => zero == number,
+        Object::File(_) | Object::NewZero => false,
+    }
+}
+
+// Whether some value of the tree names the zero object.
+fn any_names(cells: &BTreeMap<u32, CellState>, zero: u32) -> bool
+    ensures any { result ≡ list_any (λ c. is_zero zero c.object) (values cells.now) }
+    ensures ordered { IsOrdered nat_cmp cells.now }
+{
+    cells.values().any(|cell| is_zero(cell.object, zero))
+}
+
+/// The cell with no page of its own.
+pub(crate) fn without_own(cell: &CellState) -> CellState
+    ensures { cell_of result ≡ without_own (cell_of cell.now) }
+{
+    CellState {
+        prot: cell.prot,
+        max: cell.max,
+        kind: cell.kind,
+        object: cell.object,
+        index: cell.index,
+        own: None,
     }
 }

@@ -4,11 +4,18 @@
 mod cells;
 mod files;
 mod laws;
+mod pages;
+mod replies;
 mod spaces;
 mod state;
+mod state_calls;
+mod state_step;
+#[cfg(test)]
+mod state_tests;
 #[cfg(test)]
 mod tests;
 mod words;
+mod zeros;
 
 pub use cells::{CellState, Cells};
 pub use files::FileState;

@@ -2,6 +2,7 @@
 ghost use Rattle.std.specs.Prelude.{◌≡◌, ◌<◌, [], option_map, option_and_then, slice_get, map};
 ghost use Rattle.std.specs.Result.{result_map_both};
 ghost use Rattle.std.specs.FinMap as finite;
+ghost use Rattle.std.specs.FinSet as set;
 ghost use Rattle.vm_types.specs.Words.{IsWordSize};
 ghost use Rattle.flat_model.specs.Cells.{cell_of};
 ghost use Rattle.flat_model.specs.State.{allowed_by};
@@ -17,11 +18,11 @@ use vm_types::{Object, Prot, Reply, Signal, word_value};
 /// Flat memory, kept plainly: one tree of cells for each process.
 #[derive(Drop)]
 pub struct FlatState {
-    slots: u32,
-    files: Vec<FileState>,
-    zeros: BTreeMap<u32, Vec<Vec<u8>>>,
-    spaces: Spaces,
-    born: BTreeMap<u32, ()>,
+    pub(crate) slots: u32,
+    pub(crate) files: Vec<FileState>,
+    pub(crate) zeros: BTreeMap<u32, Vec<Vec<u8>>>,
+    pub(crate) spaces: Spaces,
+    pub(crate) born: BTreeMap<u32, ()>,
 }
 
 impl Model for FlatState {
@@ -64,7 +65,7 @@ impl FlatState {
         ensures files { result.files ≡ [] }
         ensures zeros { result.zeros ≡ finite.empty }
         ensures spaces { result.spaces ≡ finite.empty }
-        ensures born { result.born ≡ finite.empty }
+        ensures born { result.born ≡ set.empty }
     {
         FlatState {
             slots,

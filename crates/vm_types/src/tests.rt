@@ -163,6 +163,8 @@ fn the_words_pages_and_protections(rt: HostRuntime) {
         assert_eq!(rt; page_of(addr), page);
         assert_eq!(rt; is_user_address(addr), user);
     }
+    assert_eq!(rt; page_of(FIRST_ADDRESS), FIRST_PAGE);
+    assert_eq!(rt; page_of(LAST_ADDRESS), LAST_PAGE);
     assert_eq!(rt; line_rest(60), 4);
     assert!(rt; Line::new(&[]).is_empty());
     let both = Prot::READ | Prot::WRITE;

@@ -1,0 +1,4 @@
+pub mod BlockLemmas
+pub mod CallLemmas
+pub mod MemLemmas
+pub mod StreamLemmas

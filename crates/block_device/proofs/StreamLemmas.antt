@@ -1,0 +1,49 @@
+-- Pieces of texts.
+use Rattle.std.proofs.Common.{◌≡◌, ℕ, ◌+◌, ◌-◌, ◌<◌, ◌≤◌, length, length-append, length-drop, arith, List, [], ◌++◌, take, drop, Option, Some, None, refl, ap, sym, ◌∙◌, append_assoc, subst}
+use Rattle.std.specs.Prelude.{option_map, Result, Ok, Err, OnErr}
+use Rattle.std.proofs.Math.Seq.{take-add, take-length}
+use Rattle.std.proofs.lemmas.List.{take-append-le, length-take}
+use Rattle.block_device.specs.StreamSeen.{SourceSeen, Came, Gives, TookSome, appended}
+
+-- One piece and the next are one piece.
+pub came_on : (x y z : Option (List ℕ)) (a b : List ℕ) → Came x a y → Came y b z → Came x (a ++ b) z
+came_on x y None a b one two = one ∙ ap (option_map (λ rest. a ++ rest)) two
+came_on x y (Some z) a b one two = one ∙ ap (option_map (λ rest. a ++ rest)) two ∙ ap (λ t. Some t) (sym (append_assoc a b z))
+
+-- Nothing was taken.
+pub came_none : (x y : Option (List ℕ)) → y ≡ x → Came x [] y
+came_none x None same = sym same
+came_none x (Some y) same = sym same
+
+-- What came into the front of a buffer came into the buffer.
+pub gives_front : (old new : SourceSeen) (part more : List ℕ) (count : ℕ) → 0 < length part → Gives old new part count → Gives old new (part ++ more) count
+gives_front old new part more count some g =
+    let fits : count ≤ length (part ++ more) = omega (arith, g.fits, length-append part more) in
+    let P : List ℕ → Type 0 = λ bytes. Came old.rest bytes new.rest in
+    record {
+      fits = fits;
+      came = subst P (sym (take-append-le count part more g.fits)) g.came;
+      end = λ _ none. g.end some none;
+    }
+
+pub appended-appended : (text : Option (List ℕ)) (a b : List ℕ) → appended (appended text a) b ≡ appended text (a ++ b)
+appended-appended None a b = refl
+appended-appended (Some t) a b = ap (λ x. Some x) (append_assoc t a b)
+
+-- A longer front was written.
+pub front_goes_on : (x y z : Option (List ℕ)) (text : List ℕ) (i n : ℕ) → y ≡ appended x (take i text) → z ≡ appended y (take n (drop i text)) → z ≡ appended x (take (i + n) text)
+front_goes_on x y z text i n h k =
+    k ∙ ap (λ t. appended t (take n (drop i text))) h ∙ appended-appended x (take i text) (take n (drop i text)) ∙ ap (appended x) (sym (take-add i n text))
+
+-- the rest of a slice
+pub tail-is : (text : List ℕ) (done : ℕ) → take (length text - done) (drop done text) ≡ drop done text
+tail-is text done = ap (λ n. take n (drop done text)) (sym (length-drop done text)) ∙ take-length (drop done text)
+
+pub on_err : {T E : Type 0} (r : Result T E) (P : Type 0) → P → OnErr r P
+on_err (Ok _) P p = tt
+on_err (Err _) P p = p
+
+-- What had come and the next piece were taken, and are no more than the limit.
+pub took_some : (x y z : Option (List ℕ)) (all piece : List ℕ) (count most limit : ℕ) → Came x all y → Came y (take count piece) z → count ≤ most → length all + most ≤ limit → TookSome x z limit
+took_some x y z all piece count most limit one two few fits =
+    (all ++ take count piece, omega (arith, length-append all (take count piece), length-take count piece, few, fits), came_on x y z all (take count piece) one two)

@@ -1,0 +1,53 @@
+-- What contracts see of a disk, and what its two transfers do.
+use Rattle.std.specs.Prelude.{ℕ, ◌≡◌, ◌<◌, List, [], length, slice_index, slice_index_or, slice_set, Option, option_map, IfSome, Result, OnOk, OnErr}
+use Rattle.block_device.specs.Counts.{HasRisen, HasCause}
+
+-- The blocks where the disk tells them, how many blocks it has, how often a transfer failed, and how
+-- often one was asked for.
+pub record DiskSeen : Type 0 where
+  pub content : Option (List (List ℕ))
+  pub size : ℕ
+  pub faults : ℕ
+  pub calls : ℕ
+
+-- 4096 bytes
+abbrev pub IsBlock : List ℕ → Type 0
+IsBlock bytes = (length bytes ≡ 4096) × ((at : ℕ) → slice_index bytes at < 256)
+
+-- Each element is a block of 4096 bytes.
+abbrev pub AreBlocks : List (List ℕ) → Type 0
+AreBlocks blocks = (block : ℕ) → block < length blocks → IsBlock (slice_index_or blocks block [])
+
+-- Where it is told, the content is `size` blocks of 4096 bytes.
+abbrev pub HasBlocks : Option (List (List ℕ)) → ℕ → Type 0
+HasBlocks content size = IfSome content (λ blocks. (length blocks ≡ size) × AreBlocks blocks)
+
+-- Where the content is told, these are the bytes of the block.
+abbrev pub Shows : Option (List (List ℕ)) → ℕ → List ℕ → Type 0
+Shows content block bytes = IfSome content (λ blocks. bytes ≡ slice_index_or blocks block [])
+
+-- the content with other bytes in one block, where it is told
+abbrev pub with_block : Option (List (List ℕ)) → ℕ → List ℕ → Option (List (List ℕ))
+with_block content block bytes = option_map (λ blocks. slice_set blocks block bytes) content
+
+-- One block has some 4096 bytes now, and every other block is as it was.
+abbrev pub Spoils : Option (List (List ℕ)) → Option (List (List ℕ)) → ℕ → Type 0
+Spoils old new block = (bytes : List ℕ) × IsBlock bytes × (new ≡ with_block old block bytes)
+
+-- What `read` does: it gives the block where the disk tells, changes no block, and fails only with a
+-- fault counted.
+pub record Reads {E : Type 0} (old new : DiskSeen) (block : ℕ) (into : List ℕ) (result : Result (Unit {0}) E) : Type 0 where
+  pub gives : OnOk result (Shows old.content block into)
+  pub content : new.content ≡ old.content
+  pub size : new.size ≡ old.size
+  pub calls : HasRisen old.calls new.calls
+  pub cause : HasCause old.faults new.faults result
+
+-- What `write` does: the block is `from`, or after a failure some 4096 bytes; no other block changes;
+-- and it fails only with a fault counted.
+pub record Writes {E : Type 0} (old new : DiskSeen) (block : ℕ) (from : List ℕ) (result : Result (Unit {0}) E) : Type 0 where
+  pub written : OnOk result (new.content ≡ with_block old.content block from)
+  pub spoiled : OnErr result (Spoils old.content new.content block)
+  pub size : new.size ≡ old.size
+  pub calls : HasRisen old.calls new.calls
+  pub cause : HasCause old.faults new.faults result

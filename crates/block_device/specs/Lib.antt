@@ -1,0 +1,9 @@
+pub mod Counts
+pub mod DiskSeen
+pub mod MemDiskLook
+pub mod MemRackSeen
+pub mod MemSeen
+pub mod OpenSeen
+pub mod Opening
+pub mod RackSeen
+pub mod StreamSeen

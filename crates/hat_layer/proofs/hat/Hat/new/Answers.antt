@@ -1,0 +1,12 @@
+use Rattle.std.proofs.Common.{sym, arith}
+use Rattle.std.specs.Prelude.{vec_capacity}
+use Rattle.hat_layer.proofs.HatLemmas.{hat-made, places-new}
+use Rattle.hat_layer.proofs.hat.Hat.new.Goals as goal
+
+pub invariant_of-result : goal.invariant_of-result
+invariant_of-result c =
+    let a = c.in_ok-table.ensures in
+    let b = c.in_ok-free.ensures in (
+      hat-made c.args.pool (vec_capacity c.in_ok-free.free) c.in_ok-table.table.places c.in_ok-free.free.items a.places b.all c.requires (let r = c.ranges.pool in omega arith) b.room,
+      sym (places-new c.args.pool c.in_ok-table.table.places a.places),
+    )

@@ -1,0 +1,5 @@
+pub mod Chains
+pub mod Links
+pub mod Pool
+pub mod Table
+pub mod Free

@@ -1,0 +1,94 @@
+-- What a contract sees of the pool of translations.
+use Rattle.std.specs.Prelude.{◌≡◌, ℕ, ◌+◌, ◌==◌, ◌&&◌, ◌||◌, Bool, true, false, List, Option, Some, None, if◌then◌else◌, map, find, length, option_map, option_and_then, is_some, slice_index_or}
+use Rattle.std.specs.List.{list_any, list_all}
+use Rattle.hat_layer.specs.declared.translation.Translation.{Translation}
+use Rattle.hat_layer.specs.declared.translation.Dropped.{Dropped}
+
+-- the places of the pool, the place that is stolen next, and the number of frames
+pub record Pool : Type 0 where
+  pub places : List (Option Translation)
+  pub hand : ℕ
+  pub frames : ℕ
+
+-- a translation is that of this page of this space
+abbrev pub is_of : ℕ → ℕ → Translation → Bool
+is_of space page t = (t.space == space) && (t.page == page)
+
+-- a place holds the translation of this page of this space
+abbrev pub holds : ℕ → ℕ → Option Translation → Bool
+holds space page None = false
+holds space page (Some t) = is_of space page t
+
+-- the map from (space, page): its translation
+abbrev pub at : List (Option Translation) → ℕ → ℕ → Option Translation
+at places space page = option_and_then (λ o. o) (find (λ o. holds space page o) places)
+
+-- the frame that a place leads to
+abbrev pub frame_of : Option Translation → Option ℕ
+frame_of None = None
+frame_of (Some t) = Some t.frame
+
+-- a place leads to this frame
+abbrev pub leads : ℕ → Option Translation → Bool
+leads frame None = false
+leads frame (Some t) = t.frame == frame
+
+-- what is told of a translation that is dropped
+abbrev pub told : Translation → Dropped
+told t = record { space = t.space; page = t.page; frame = t.frame; referenced = t.referenced; modified = t.modified }
+
+-- a translation as it is loaded: with clear bits
+abbrev pub fresh : ℕ → ℕ → ℕ → Bool → Translation
+fresh space page frame writable = record { space = space; page = page; frame = frame; writable = writable; referenced = false; modified = false }
+
+-- a translation after an access
+abbrev pub touched : Bool → Translation → Translation
+touched write t = record { space = t.space; page = t.page; frame = t.frame; writable = t.writable; referenced = true; modified = t.modified || write }
+
+abbrev pub read_only : Translation → Translation
+read_only t = record { space = t.space; page = t.page; frame = t.frame; writable = false; referenced = t.referenced; modified = t.modified }
+
+abbrev pub cleared : Translation → Translation
+cleared t = record { space = t.space; page = t.page; frame = t.frame; writable = t.writable; referenced = false; modified = false }
+
+-- the places with the translation of one page changed, or dropped, and all others as they were
+abbrev pub change_at : ℕ → ℕ → (Translation → Translation) → List (Option Translation) → List (Option Translation)
+change_at space page change places = map (λ o. if holds space page o then option_map change o else o) places
+
+abbrev pub drop_at : ℕ → ℕ → List (Option Translation) → List (Option Translation)
+drop_at space page places = map (λ o. if holds space page o then None else o) places
+
+-- the places with all translations of a frame changed, or dropped, and all others as they were
+abbrev pub change_frame : ℕ → (Translation → Translation) → List (Option Translation) → List (Option Translation)
+change_frame frame change places = map (λ o. if leads frame o then option_map change o else o) places
+
+abbrev pub drop_frame : ℕ → List (Option Translation) → List (Option Translation)
+drop_frame frame places = map (λ o. if leads frame o then None else o) places
+
+-- a place leads to the frame and its translation was referenced, modified
+abbrev pub was_referenced : ℕ → Option Translation → Bool
+was_referenced frame None = false
+was_referenced frame (Some t) = (t.frame == frame) && t.referenced
+
+abbrev pub was_modified : ℕ → Option Translation → Bool
+was_modified frame None = false
+was_modified frame (Some t) = (t.frame == frame) && t.modified
+
+-- whether one of the frame's translations was referenced, modified
+abbrev pub bits_of : ℕ → List (Option Translation) → Bool × Bool
+bits_of frame places = (list_any (was_referenced frame) places, list_any (was_modified frame) places)
+
+abbrev pub is_full : List (Option Translation) → Bool
+is_full places = list_all (λ o. is_some o) places
+
+-- the translation that gives way to a load: that of the same page, else in a full pool the one that the hand is at
+abbrev pub due : Pool → ℕ → ℕ → Option Translation
+due pool space page = if is_some (at pool.places space page) then at pool.places space page else if is_full pool.places then slice_index_or pool.places pool.hand None else None
+
+-- the hand moves on where a full pool steals, from the last place to place 0
+abbrev pub hand_after : Pool → ℕ → ℕ → ℕ
+hand_after pool space page = if is_some (at pool.places space page) then pool.hand else if is_full pool.places then (if pool.hand + 1 == length pool.places then 0 else pool.hand + 1) else pool.hand
+
+-- no page of a space has two translations
+abbrev pub AreDistinct : List (Option Translation) → Type 0
+AreDistinct places = (i j space page : ℕ) → holds space page (slice_index_or places i None) ≡ true → holds space page (slice_index_or places j None) ≡ true → i ≡ j

@@ -1,0 +1,337 @@
+//! The translations of all spaces: a map that only forgets.
+ghost use Rattle.std.specs.Prelude.{◌≡◌, ◌≢◌, ℕ, ◌+◌, ◌<◌, ◌≤◌, ◌==◌, ◌&&◌, ◌^◌, [], ◌∷◌, ◌++◌, length, replicate, true, false, Option, Some, None, IfOk, IsTrue, IsSomeAnd, slice_set, slice_index_or, if◌then◌else◌, option_map, vec_len, vec_capacity};
+ghost use Rattle.hat_layer.specs.Pool.{Pool, AreDistinct, is_of, holds, frame_of, at, told, fresh, touched, read_only, cleared, change_at, drop_at, change_frame, drop_frame, bits_of, due, hand_after};
+ghost use Rattle.hat_layer.specs.Free.{IsHat, Chooses, falling};
+
+use crate::table::Table;
+use crate::translation::{Dropped, Translation};
+use std::alloc::{AllocError, Global};
+use std::marker::Model;
+
+/// Translations from (space, page) to a frame and its rights, in a pool of a fixed size.
+///
+/// An entry that isn't told as dropped, unloaded or protected stays, and no bit is lost that isn't
+/// told. It is seen as the places of the pool, the place that is stolen next, and the number of
+/// frames. No call but `new` takes memory.
+#[derive(Drop)]
+pub struct Hat {
+    table: Table,
+    free: Vec<u32>,
+    hand: u32,
+    pool: u32,
+}
+
+impl Model for Hat {
+    ghost use Rattle.std.specs.Prelude.{◌≡◌, length, vec_capacity};
+    ghost use Rattle.hat_layer.specs.Pool.{Pool};
+    ghost use Rattle.hat_layer.specs.Free.{IsHat};
+
+    ghost Value = { Pool };
+
+    ghost view = { λ h. record { places = h.table.places; hand = h.hand; frames = h.table.frames } };
+
+    ghost invariant = { λ h. IsHat h.table.places h.free.items (vec_capacity h.free) h.hand × (h.pool ≡ length h.table.places) };
+}
+
+// The place that a load takes: that of the same page, else a free one, else the one at the hand,
+// which moves on.
+fn choose(
+    table: &Table,
+    free: &mut Vec<u32>,
+    hand: &mut u32,
+    pool: u32,
+    space: u32,
+    page: u32,
+) -> u32
+    requires fits { IsHat table.now.places free.old.items (vec_capacity free.old) hand.old }
+    requires pool { pool ≡ length table.now.places }
+    ensures { Chooses (record { places = table.now.places; hand = hand.old; frames = table.now.frames }) free.new.items (vec_capacity free.new) hand.new space page result }
+{
+    if let Some((place, _held)) = table.held(space, page) {
+        return place;
+    }
+    if let Some(place) = free.pop() {
+        return place;
+    }
+    turn(hand, pool)
+}
+
+// The place at the hand, which moves on by one, from the last place to place 0.
+fn turn(hand: &mut u32, pool: u32) -> u32
+    requires { hand.old < pool }
+    ensures place { result ≡ hand.old }
+    ensures moves { hand.new ≡ (if hand.old + 1 == pool then 0 else hand.old + 1) }
+{
+    let place = *hand;
+    if place + 1 == pool {
+        *hand = 0;
+    } else {
+        *hand = place + 1;
+    }
+    place
+}
+
+// Puts a translation into a place, whatever the place has, and answers what it had.
+fn replace(table: &mut Table, place: u32, new: Translation) -> Option<Translation>
+    requires place { place < length table.old.places }
+    requires frame { new.frame < table.old.frames }
+    requires apart { (k : ℕ) → k ≢ place → holds new.space new.page (slice_index_or table.old.places k None) ≡ false }
+    ensures old { result ≡ slice_index_or table.old.places place None }
+    ensures places { table.new.places ≡ slice_set table.old.places place (Some new) }
+    ensures frames { table.new.frames ≡ table.old.frames }
+{
+    match table.get(place) {
+        None => {
+            table.put(place, new);
+            None
+        }
+        Some(old) => {
+            table.take(place, old);
+            table.put(place, new);
+            Some(old)
+        }
+    }
+}
+
+// Pushes a place onto a stack that has room for it.
+fn push_within(free: &mut Vec<u32>, place: u32)
+    requires { vec_len free.old < vec_capacity free.old }
+    ensures items { free.new.items ≡ free.old.items ++ place ∷ [] }
+    ensures capacity { vec_capacity free.old ≤ vec_capacity free.new }
+{
+    match free.push(place) {
+        Ok(()) => {}
+        Err(_) => unreachable!(),
+    }
+}
+
+// Takes the translation out of a place, which is free then.
+fn release(table: &mut Table, free: &mut Vec<u32>, hand: u32, place: u32, old: Translation)
+    requires fits { IsHat table.old.places free.old.items (vec_capacity free.old) hand }
+    requires old { slice_index_or table.old.places place None ≡ Some old }
+    ensures fits { IsHat table.new.places free.new.items (vec_capacity free.new) hand }
+    ensures places { table.new.places ≡ slice_set table.old.places place None }
+    ensures frames { table.new.frames ≡ table.old.frames }
+{
+    table.take(place, old);
+    push_within(free, place);
+}
+
+// All places of an empty pool, so that place 0 is taken first.
+fn all_free(alloc: Global, pool: u32) -> Result<Vec<u32>, AllocError>
+    ensures all { IfOk result (λ v. v.items ≡ falling pool) }
+    ensures room { IfOk result (λ v. pool ≤ vec_capacity v) }
+{
+    let mut free = Vec::with_capacity(alloc, pool as usize)?;
+    for place in (0..pool).rev() {
+        free.push(place)?;
+    }
+    Ok(free)
+}
+
+fn told_of(old: Translation) -> Dropped
+    ensures { result ≡ told old }
+{
+    Dropped {
+        space: old.space,
+        page: old.page,
+        frame: old.frame,
+        referenced: old.referenced,
+        modified: old.modified,
+    }
+}
+
+fn after_access(old: Translation, write: bool) -> Translation
+    ensures { result ≡ touched write old }
+{
+    Translation {
+        referenced: true,
+        modified: old.modified || write,
+        ..old
+    }
+}
+
+fn without_write(old: Translation) -> Translation
+    ensures { result ≡ read_only old }
+{
+    Translation {
+        writable: false,
+        ..old
+    }
+}
+
+fn with_clear_bits(old: Translation) -> Translation
+    ensures { result ≡ cleared old }
+{
+    let (referenced, modified) = (false, false);
+    Translation {
+        referenced,
+        modified,
+        ..old
+    }
+}
+
+impl Hat {
+    /// An empty pool of so many places, for frames below this number.
+    pub fn new(alloc: Global, pool: u32, frames: u32) -> Result<Hat, AllocError>
+        requires { 0 < pool }
+        ensures places { IfOk result (λ h. h.places ≡ replicate pool None) }
+        ensures hand { IfOk result (λ h. h.hand ≡ 0) }
+        ensures frames { IfOk result (λ h. h.frames ≡ frames) }
+    {
+        let table = Table::new(alloc, pool, frames)?;
+        let free = all_free(alloc, pool)?;
+        Ok(Hat {
+            table,
+            free,
+            hand: 0,
+            pool,
+        })
+    }
+
+    /// The frame that a page leads to, and whether it is writable, in constant expected time.
+    pub fn find(&self, space: u32, page: u32) -> Option<(u32, bool)>
+        ensures found { result ≡ option_map (λ t. (t.frame, t.writable)) (at self.now.places space page) }
+        ensures distinct { AreDistinct self.now.places }
+    {
+        let (_place, held) = self.table.held(space, page)?;
+        Some((held.frame, held.writable))
+    }
+
+    /// Loads a translation with clear bits. What had to give way is told: the translation of the
+    /// same page, else in a full pool the one at the hand, which goes round from place 0.
+    pub fn load(&mut self, space: u32, page: u32, frame: u32, writable: bool) -> Option<Dropped>
+        requires { frame < self.old.frames }
+        ensures stolen { result ≡ option_map told (due self.old space page) }
+        ensures places { (place : ℕ) × (place < length self.old.places) × (slice_index_or self.old.places place None ≡ due self.old space page) × (self.new.places ≡ slice_set self.old.places place (Some (fresh space page frame writable))) }
+        ensures loaded { at self.new.places space page ≡ Some (fresh space page frame writable) }
+        ensures kept { (s p : ℕ) → is_of s p (fresh space page frame writable) ≡ false → holds s p (due self.old space page) ≡ false → at self.new.places s p ≡ at self.old.places s p }
+        ensures gone { (s p : ℕ) → is_of s p (fresh space page frame writable) ≡ false → holds s p (due self.old space page) ≡ true → at self.new.places s p ≡ None }
+        ensures hand { self.new.hand ≡ hand_after self.old space page }
+        ensures frames { self.new.frames ≡ self.old.frames }
+    {
+        let place = choose(
+            &self.table,
+            &mut self.free,
+            &mut self.hand,
+            self.pool,
+            space,
+            page,
+        );
+        let new = Translation {
+            space,
+            page,
+            frame,
+            writable,
+            referenced: false,
+            modified: false,
+        };
+        match replace(&mut self.table, place, new) {
+            None => None,
+            Some(old) => Some(told_of(old)),
+        }
+    }
+
+    /// Notes an access: referenced, and modified where it writes.
+    pub fn touch(&mut self, space: u32, page: u32, write: bool)
+        requires { IsSomeAnd (at self.old.places space page) (λ t. IsTrue write → IsTrue t.writable) }
+        ensures places { self.new.places ≡ change_at space page (touched write) self.old.places }
+        ensures hand { self.new.hand ≡ self.old.hand }
+        ensures frames { self.new.frames ≡ self.old.frames }
+    {
+        if let Some((place, old)) = self.table.held(space, page) {
+            self.table.change(place, old, after_access(old, write));
+        }
+    }
+
+    /// Drops a page's translation, and tells it. None exactly where it isn't loaded.
+    pub fn unload(&mut self, space: u32, page: u32) -> Option<Dropped>
+        ensures told { result ≡ option_map told (at self.old.places space page) }
+        ensures places { self.new.places ≡ drop_at space page self.old.places }
+        ensures hand { self.new.hand ≡ self.old.hand }
+        ensures frames { self.new.frames ≡ self.old.frames }
+    {
+        let (place, old) = self.table.held(space, page)?;
+        release(&mut self.table, &mut self.free, self.hand, place, old);
+        Some(told_of(old))
+    }
+
+    /// Takes the right to write from a page's translation, where it is loaded.
+    pub fn protect(&mut self, space: u32, page: u32)
+        ensures places { self.new.places ≡ change_at space page read_only self.old.places }
+        ensures hand { self.new.hand ≡ self.old.hand }
+        ensures frames { self.new.frames ≡ self.old.frames }
+    {
+        if let Some((place, old)) = self.table.held(space, page) {
+            self.table.change(place, old, without_write(old));
+        }
+    }
+
+    /// Drops all translations of a frame, and answers whether one was referenced, modified.
+    ///
+    /// In the number of the frame's translations.
+    pub fn page_unload(&mut self, frame: u32) -> (bool, bool)
+        requires { frame < self.old.frames }
+        ensures bits { result ≡ bits_of frame self.old.places }
+        ensures places { self.new.places ≡ drop_frame frame self.old.places }
+        ensures hand { self.new.hand ≡ self.old.hand }
+        ensures frames { self.new.frames ≡ self.old.frames }
+    {
+        unload_all(&mut self.table, &mut self.free, self.hand, frame)
+    }
+
+    /// Clears the bits of all translations of a frame, and answers whether one was referenced,
+    /// modified. The translations stay.
+    ///
+    /// In the number of the frame's translations.
+    pub fn page_sync(&mut self, frame: u32) -> (bool, bool)
+        requires { frame < self.old.frames }
+        ensures bits { result ≡ bits_of frame self.old.places }
+        ensures places { self.new.places ≡ change_frame frame cleared self.old.places }
+        ensures hand { self.new.hand ≡ self.old.hand }
+        ensures frames { self.new.frames ≡ self.old.frames }
+    {
+        clear_all(&mut self.table, frame)
+    }
+}
+
+// Drops the translations of a frame one by one.
+fn unload_all(table: &mut Table, free: &mut Vec<u32>, hand: u32, frame: u32) -> (bool, bool)
+    requires fits { IsHat table.old.places free.old.items (vec_capacity free.old) hand }
+    requires frame { frame < table.old.frames }
+    ensures fits { IsHat table.new.places free.new.items (vec_capacity free.new) hand }
+    ensures length { length table.new.places ≡ length table.old.places }
+    ensures bits { result ≡ bits_of frame table.old.places }
+    ensures places { table.new.places ≡ drop_frame frame table.old.places }
+    ensures frames { table.new.frames ≡ table.old.frames }
+{
+    let mut referenced = false;
+    let mut modified = false;
+    let mut at = table.first(frame);
+    while let Some((place, old)) = at {
+        referenced |= old.referenced;
+        modified |= old.modified;
+        release(table, free, hand, place, old);
+        at = table.first(frame);
+    }
+    (referenced, modified)
+}
+
+// Clears the bits of the translations of a frame one by one.
+fn clear_all(table: &mut Table, frame: u32) -> (bool, bool)
+    requires { frame < table.old.frames }
+    ensures bits { result ≡ bits_of frame table.old.places }
+    ensures places { table.new.places ≡ change_frame frame cleared table.old.places }
+    ensures frames { table.new.frames ≡ table.old.frames }
+{
+    let mut referenced = false;
+    let mut modified = false;
+    let mut at = table.first(frame);
+    while let Some((place, old)) = at {
+        referenced |= old.referenced;
+        modified |= old.modified;
+        table.change(place, old, with_clear_bits(old));
+        at = table.after(place, frame);
+    }
+    (referenced, modified)
+}

@@ -1,0 +1,12 @@
+//! The translations of all address spaces, in a pool of a fixed size.
+#![tactic(auto)]
+
+mod chains;
+mod hat;
+mod table;
+#[cfg(test)]
+mod tests;
+mod translation;
+
+pub use hat::Hat;
+pub use translation::{Dropped, Translation};

@@ -1,0 +1,96 @@
+-- A state that is generic in a disk, which is at home or out with one seat. Of the disk its count alone is known.
+use Rattle.std.specs.Prelude.{◌≡◌, ℕ, ◌+◌, ◌≤◌, List, [], ◌∷◌, ◌++◌, Option, Some, None, All, slice_set}
+use Rattle.std.proofs.Common.{arith, refl, ap, subst, sym, zero, suc}
+use mathlib.Core.Option.{some, some-ne-none, some-injective}
+use lib.ListN.{get_elem?}
+
+-- The disk, where it is at home, and the history.
+pub record StoreView (D : Type 0) : Type 0 where
+  pub disk : Option D
+  pub history : List (ℕ × ℕ)
+
+abbrev pub seat_named : ℕ × ℕ → ℕ
+seat_named e = e.0
+
+abbrev pub worth : Option ℕ → ℕ
+worth (Some n) = 1
+worth None = 0
+
+-- How many disks are out.
+abbrev pub out : List (Option ℕ) → ℕ
+out [] = 0
+out (n ∷ ns) = worth n + out ns
+
+abbrev pub AtLeast : ℕ → Option ℕ → Type 0
+AtLeast b (Some n) = b ≤ n
+AtLeast b None = Unit {0}
+
+module _ {D : Type 0} where
+  abbrev pub entries : StoreView D → List (ℕ × ℕ)
+  entries s = s.history
+
+  abbrev pub home : Option D → ℕ
+  home (Some d) = 1
+  home None = 0
+
+module _ {D : Type 0} (count : D → ℕ) where
+  -- A note is the count of the disk that is out.
+  abbrev pub note_of : Option D → Option ℕ
+  note_of (Some d) = Some (count d)
+  note_of None = None
+
+  -- The disk is at home or out with exactly one seat, and its count is at least what it was at the opening.
+  pub record Fits (opening s : StoreView D) (notes : List (Option ℕ)) : Type 0 where
+    pub one : home s.disk + out notes ≡ 1
+    pub risen : (o : D) → opening.disk ≡ Some o → AtLeast (count o) (note_of s.disk) × ((k : ℕ) (n : Option ℕ) → get_elem? notes k ≡ some n → AtLeast (count o) n)
+
+  -- A seat may take the disk out or bring it home with a count that is no less, and add entries of its own.
+  pub record Moves (k : ℕ) (s : StoreView D) (n : Option ℕ) (t : StoreView D) (m : Option ℕ) : Type 0 where
+    pub added : List (ℕ × ℕ)
+    pub longer : entries t ≡ entries s ++ added
+    pub by : All (λ (e : ℕ × ℕ). e.0 ≡ k) added
+    pub even : home t.disk + worth m ≡ home s.disk + worth n
+    pub rises : (b : ℕ) → AtLeast b (note_of s.disk) → AtLeast b n → AtLeast b (note_of t.disk) × AtLeast b m
+
+out_set : (ns : List (Option ℕ)) (k : ℕ) (n m : Option ℕ) → get_elem? ns k ≡ some n → out (slice_set ns k m) + worth n ≡ out ns + worth m
+out_set [] k n m e = absurd (some-ne-none n (sym e))
+out_set (x ∷ xs) zero n m e =
+    let same : worth x ≡ worth n = ap worth (some-injective x n e) in
+    let a : out (slice_set (x ∷ xs) zero m) ≡ worth m + out xs = refl in
+    let b : out (x ∷ xs) ≡ worth x + out xs = refl in omega (arith, same, a, b)
+out_set (x ∷ xs) (suc k) n m e =
+    let rest = out_set xs k n m e in
+    let a : out (slice_set (x ∷ xs) (suc k) m) ≡ worth x + out (slice_set xs k m) = refl in
+    let b : out (x ∷ xs) ≡ worth x + out xs = refl in omega (arith, rest, a, b)
+
+each_set : (P : Option ℕ → Type 0) (ns : List (Option ℕ)) (k : ℕ) (m : Option ℕ) → P m → ((i : ℕ) (n : Option ℕ) → get_elem? ns i ≡ some n → P n) → (i : ℕ) (n : Option ℕ) → get_elem? (slice_set ns k m) i ≡ some n → P n
+each_set P [] k m here all i n e = absurd (some-ne-none n (sym e))
+each_set P (x ∷ xs) zero m here all zero n e = subst P (some-injective m n e) here
+each_set P (x ∷ xs) zero m here all (suc i) n e = all (suc i) n e
+each_set P (x ∷ xs) (suc k) m here all zero n e = all zero n e
+each_set P (x ∷ xs) (suc k) m here all (suc i) n e = each_set P xs k m here (λ j. all (suc j)) i n e
+
+-- Where a seat has the disk, it is not at home.
+pub is_out : (ns : List (Option ℕ)) (k n : ℕ) → get_elem? ns k ≡ some (Some n) → 1 ≤ out ns
+is_out [] k n e = absurd (some-ne-none (Some n) (sym e))
+is_out (x ∷ xs) zero n e = let same : worth x ≡ 1 = ap worth (some-injective x (Some n) e) in let b : out (x ∷ xs) ≡ worth x + out xs = refl in omega (arith, same, b)
+is_out (x ∷ xs) (suc k) n e = let rest = is_out xs k n e in let b : out (x ∷ xs) ≡ worth x + out xs = refl in omega (arith, rest, b)
+
+module _ {D : Type 0} where
+  pub not_home : (d : Option D) → home d ≡ 0 → d ≡ None
+  not_home (Some d) e = absurd (omega (arith, e))
+  not_home None e = refl
+
+module _ {D : Type 0} (count : D → ℕ) where
+  pub keeps_of : (opening s t : StoreView D) (notes : List (Option ℕ)) (k : ℕ) (n m : Option ℕ) → Fits count opening s notes → get_elem? notes k ≡ some n → Moves count k s n t m → Fits count opening t (slice_set notes k m)
+  keeps_of opening s t notes k n m fits at moved =
+      let set = out_set notes k n m at in
+      let one = fits.one in
+      let even = moved.even in
+      record {
+        one = omega (arith, set, one, even);
+        risen = λ o is. let was = fits.risen o is in let now = moved.rises (count o) was.0 (was.1 k n at) in (now.0, each_set (AtLeast (count o)) notes k m now.1 was.1);
+      }
+
+  pub grows_of : (opening s t : StoreView D) (notes : List (Option ℕ)) (k : ℕ) (n m : Option ℕ) → Fits count opening s notes → get_elem? notes k ≡ some n → Moves count k s n t m → (added : List (ℕ × ℕ)) × (entries t ≡ entries s ++ added) × All (λ (e : ℕ × ℕ). e.0 ≡ k) added
+  grows_of opening s t notes k n m fits at moved = (moved.added, moved.longer, moved.by)

@@ -1,0 +1,18 @@
+//! One state, one history, and the seats that change it in turn.
+#![tactic(auto)]
+
+#[cfg(test)]
+mod adders;
+mod board;
+pub mod closing;
+pub mod guarded;
+pub mod lock;
+mod plays;
+pub mod seat;
+mod starting;
+#[cfg(test)]
+mod store;
+#[cfg(test)]
+mod tally;
+#[cfg(test)]
+mod tests;
