@@ -37,11 +37,13 @@ module _ (extents : List Extent) (slots : ℕ) (blank : PageName → Bool) where
       let page : Place = page_place (extent_at extents n.object) n.page (blank n) in
       let slot : Place = slot_place n.page (blank n) in
       elim (cases_Bool (is_page extents n)) [
-      | inl t ↦ inl (less n.page (extent_at extents n.object).pages t, ap (λ (b : Bool). cond b page (cond (is_slot slots n) slot (own_place n))) t)
-      | inr f ↦ elim (cases_Bool (is_slot slots n)) [
-        | inl t ↦ inr (inl (is_64 n.object (both_left (n.object == 64) (nat_lt n.page slots) t),
-            ap (λ (b : Bool). cond b page (cond (is_slot slots n) slot (own_place n))) f ∙ ap (λ (b : Bool). cond b slot (own_place n)) t))
-        | inr g ↦ inr (inr (ap (λ (b : Bool). cond b page (cond (is_slot slots n) slot (own_place n))) f ∙ ap (λ (b : Bool). cond b slot (own_place n)) g))
+        | inl t ↦ inl (less n.page (extent_at extents n.object).pages t, ap (λ (b : Bool). cond b page (cond (is_slot slots n) slot (own_place n))) t)
+        | inr f ↦ elim (cases_Bool (is_slot slots n)) [
+          | inl t ↦ inr (inl (
+            is_64 n.object (both_left (n.object == 64) (nat_lt n.page slots) t),
+            ap (λ (b : Bool). cond b page (cond (is_slot slots n) slot (own_place n))) f ∙ ap (λ (b : Bool). cond b slot (own_place n)) t,
+          ))
+          | inr g ↦ inr (inr (ap (λ (b : Bool). cond b page (cond (is_slot slots n) slot (own_place n))) f ∙ ap (λ (b : Bool). cond b slot (own_place n)) g))
         ]
       ]
 
@@ -64,57 +66,57 @@ module _ (extents : List Extent) (slots : ℕ) (blank : PageName → Bool) where
 
   pub table-apart : AreDisjoint extents → IsApart (table_of extents slots blank)
   table-apart disjoint m n d e = elim (place-cases m) [
-      | inl p ↦
+    | inl p ↦
         let dm = disk_of m (page_place (extent_at extents m.object) m.page (blank m)) p.1 in
         let bm = block_of m (page_place (extent_at extents m.object) m.page (blank m)) p.1 in
         let low = file_disk disjoint m p.0 in
         elim (place-cases n) [
-        | inl q ↦
-          let dn = disk_of n (page_place (extent_at extents n.object) n.page (blank n)) q.1 in
-          let bn = block_of n (page_place (extent_at extents n.object) n.page (blank n)) q.1 in
-          two_pages disjoint m n p.0 q.0 (sym dm ∙ d ∙ dn) (sym bm ∙ e ∙ bn)
-        | inr r ↦ elim r [
-          | inl q ↦ let dn = disk_of n (slot_place n.page (blank n)) q.1 in
-            let z : (extent_at extents m.object).disk ≡ 8 = sym dm ∙ d ∙ dn in absurd (omega (arith, z, low))
-          | inr q ↦ let dn = disk_of n (own_place n) q in
-            let z : (extent_at extents m.object).disk ≡ n.object + 9 = sym dm ∙ d ∙ dn in absurd (omega (arith, z, low))
+          | inl q ↦
+              let dn = disk_of n (page_place (extent_at extents n.object) n.page (blank n)) q.1 in
+              let bn = block_of n (page_place (extent_at extents n.object) n.page (blank n)) q.1 in
+              two_pages disjoint m n p.0 q.0 (sym dm ∙ d ∙ dn) (sym bm ∙ e ∙ bn)
+          | inr r ↦ elim r [
+            | inl q ↦ let dn = disk_of n (slot_place n.page (blank n)) q.1 in
+                let z : (extent_at extents m.object).disk ≡ 8 = sym dm ∙ d ∙ dn in absurd (omega (arith, z, low))
+            | inr q ↦ let dn = disk_of n (own_place n) q in
+                let z : (extent_at extents m.object).disk ≡ n.object + 9 = sym dm ∙ d ∙ dn in absurd (omega (arith, z, low))
           ]
         ]
-      | inr r ↦ elim r [
-        | inl p ↦
+    | inr r ↦ elim r [
+      | inl p ↦
           let dm = disk_of m (slot_place m.page (blank m)) p.1 in
           let bm = block_of m (slot_place m.page (blank m)) p.1 in
           elim (place-cases n) [
-          | inl q ↦
-            let dn = disk_of n (page_place (extent_at extents n.object) n.page (blank n)) q.1 in
-            let low = file_disk disjoint n q.0 in
-            let z : 8 ≡ (extent_at extents n.object).disk = sym dm ∙ d ∙ dn in absurd (omega (arith, z, low))
-          | inr s ↦ elim s [
             | inl q ↦
-              let bn = block_of n (slot_place n.page (blank n)) q.1 in
-              same_name m n (p.0 ∙ sym q.0) (sym bm ∙ e ∙ bn)
-            | inr q ↦ let dn = disk_of n (own_place n) q in
-              let z : 8 ≡ n.object + 9 = sym dm ∙ d ∙ dn in absurd (omega (arith, z))
+                let dn = disk_of n (page_place (extent_at extents n.object) n.page (blank n)) q.1 in
+                let low = file_disk disjoint n q.0 in
+                let z : 8 ≡ (extent_at extents n.object).disk = sym dm ∙ d ∙ dn in absurd (omega (arith, z, low))
+            | inr s ↦ elim s [
+              | inl q ↦
+                  let bn = block_of n (slot_place n.page (blank n)) q.1 in
+                  same_name m n (p.0 ∙ sym q.0) (sym bm ∙ e ∙ bn)
+              | inr q ↦ let dn = disk_of n (own_place n) q in
+                  let z : 8 ≡ n.object + 9 = sym dm ∙ d ∙ dn in absurd (omega (arith, z))
             ]
           ]
-        | inr p ↦
+      | inr p ↦
           let dm = disk_of m (own_place m) p in
           let bm = block_of m (own_place m) p in
           elim (place-cases n) [
-          | inl q ↦
-            let dn = disk_of n (page_place (extent_at extents n.object) n.page (blank n)) q.1 in
-            let low = file_disk disjoint n q.0 in
-            let z : m.object + 9 ≡ (extent_at extents n.object).disk = sym dm ∙ d ∙ dn in absurd (omega (arith, z, low))
-          | inr s ↦ elim s [
-            | inl q ↦ let dn = disk_of n (slot_place n.page (blank n)) q.1 in
-              let z : m.object + 9 ≡ 8 = sym dm ∙ d ∙ dn in absurd (omega (arith, z))
-            | inr q ↦
-              let dn = disk_of n (own_place n) q in
-              let bn = block_of n (own_place n) q in
-              let z : m.object + 9 ≡ n.object + 9 = sym dm ∙ d ∙ dn in
-              let f : m.object ≡ n.object = omega (arith, z) in
-              same_name m n f (sym bm ∙ e ∙ bn)
+            | inl q ↦
+                let dn = disk_of n (page_place (extent_at extents n.object) n.page (blank n)) q.1 in
+                let low = file_disk disjoint n q.0 in
+                let z : m.object + 9 ≡ (extent_at extents n.object).disk = sym dm ∙ d ∙ dn in absurd (omega (arith, z, low))
+            | inr s ↦ elim s [
+              | inl q ↦ let dn = disk_of n (slot_place n.page (blank n)) q.1 in
+                  let z : m.object + 9 ≡ 8 = sym dm ∙ d ∙ dn in absurd (omega (arith, z))
+              | inr q ↦
+                  let dn = disk_of n (own_place n) q in
+                  let bn = block_of n (own_place n) q in
+                  let z : m.object + 9 ≡ n.object + 9 = sym dm ∙ d ∙ dn in
+                  let f : m.object ≡ n.object = omega (arith, z) in
+                  same_name m n f (sym bm ∙ e ∙ bn)
             ]
           ]
-        ]
-      ]
+    ]
+  ]

@@ -36,7 +36,8 @@ number-at (x ∷ xs) (suc i) d lt = number-at xs i d (omega (arith, lt))
 tail-numbers : (x : ℕ) (xs : List ℕ) → AreNumbers (x ∷ xs) → AreNumbers xs
 tail-numbers x xs are = record {
   below = λ i lt. are.below (suc i) (omega (arith, lt));
-  apart = λ i j a b e. let r : suc i ≡ suc j = are.apart (suc i) (suc j) (omega (arith, a)) (omega (arith, b)) e in omega (arith, r) }
+  apart = λ i j a b e. let r : suc i ≡ suc j = are.apart (suc i) (suc j) (omega (arith, a)) (omega (arith, b)) e in omega (arith, r);
+}
 
 pub placed-other : (xs : List (ℕ × DiskSeen)) (bays : List BaySeen) (k : ℕ) → ((i : ℕ) → i < length xs → slice_index (numbers_of xs) i ≢ k) → bay_at (placed xs bays) k ≡ bay_at bays k
 placed-other [] bays k h = refl
@@ -52,8 +53,8 @@ placed-there (x ∷ xs) bays zero d nine are lt =
 placed-there (x ∷ xs) bays (suc i) d nine are lt =
     let within : i < length xs = omega (arith, lt) in
     let far : (get_or xs i d).0 ≢ x.0 = λ (q : (get_or xs i d).0 ≡ x.0).
-        let long = length-numbers xs in
-        let r : suc i ≡ 0 = are.apart (suc i) 0 (omega (arith, within, long)) (omega arith) (number-at xs i d within ∙ q) in omega (arith, r) in
+    let long = length-numbers xs in
+    let r : suc i ≡ 0 = are.apart (suc i) 0 (omega (arith, within, long)) (omega arith) (number-at xs i d within ∙ q) in omega (arith, r) in
     get_or-set_other (placed xs bays) x.0 (get_or xs i d).0 (home x.1) missing far ∙ placed-there xs bays i d nine (tail-numbers x.0 (numbers_of xs) are) within
 
 pub none-missing : (n k : ℕ) → bay_at (replicate n missing) k ≡ missing
@@ -69,17 +70,19 @@ module _ (disks : List (ℕ × DiskSeen)) (swap : Option DiskSeen) (are : AreNum
   are-home = record {
     each = λ i d lt. get_or-set_other (placed disks (replicate 9 missing)) 8 (get_or disks i d).0 (bay_of swap) missing (let l = low i d lt in omega (arith, l)) ∙ placed-there disks (replicate 9 missing) i d refl are lt;
     swap = let long = length-placed disks (replicate 9 missing) in get_or-set_same (placed disks (replicate 9 missing)) 8 (bay_of swap) missing (omega (arith, long));
-    others = λ k ne h. get_or-set_other (placed disks (replicate 9 missing)) 8 k (bay_of swap) missing ne ∙ placed-other disks (replicate 9 missing) k h ∙ none-missing 9 k }
+    others = λ k ne h. get_or-set_other (placed disks (replicate 9 missing)) 8 k (bay_of swap) missing ne ∙ placed-other disks (replicate 9 missing) k h ∙ none-missing 9 k;
+  }
 
   pub order-there : IsOrder (set (placed disks (replicate 9 missing)) 8 (bay_of swap)) (numbers_of disks)
   order-there = record {
     numbers = are;
     there = λ i lt e.
-      let long = length-numbers disks in
-      let within : i < length disks = omega (arith, lt, long) in
-      let d : ℕ × DiskSeen = (0, record { content = None; size = 0; faults = 0; calls = 0 }) in
-      let h : bay_at (set (placed disks (replicate 9 missing)) 8 (bay_of swap)) (get_or disks i d).0 ≡ home (get_or disks i d).1 = are-home.each i d within in
-      let z : home (get_or disks i d).1 ≡ missing = sym h ∙ ap (bay_at (set (placed disks (replicate 9 missing)) 8 (bay_of swap))) (sym (number-at disks i d within)) ∙ e in cc }
+        let long = length-numbers disks in
+        let within : i < length disks = omega (arith, lt, long) in
+        let d : ℕ × DiskSeen = (0, record { content = None; size = 0; faults = 0; calls = 0 }) in
+        let h : bay_at (set (placed disks (replicate 9 missing)) 8 (bay_of swap)) (get_or disks i d).0 ≡ home (get_or disks i d).1 = are-home.each i d within in
+        let z : home (get_or disks i d).1 ≡ missing = sym h ∙ ap (bay_at (set (placed disks (replicate 9 missing)) 8 (bay_of swap))) (sym (number-at disks i d within)) ∙ e in cc;
+  }
 
 at-replicate : {X : Type 0} (n k : ℕ) (x d : X) → k < n → get_or (replicate n x) k d ≡ x
 at-replicate zero k x d lt = absurd (omega (arith, lt))
@@ -118,11 +121,12 @@ sound-new origin n bays order few nine is distinct apart =
       distinct = distinct;
       lists = subst (λ (k : ℕ). AreApart (record { frames = k; free = range_with_len 0 n; cached = [] })) (sym long) apart;
       each = λ k lt.
-        let within : k < n = omega (arith, lt, long) in
-        rw (at-replicate n k (Some zeros) None within, none-named n k, at-replicate n k clear_row clear_row within) new-frame;
+          let within : k < n = omega (arith, lt, long) in
+          rw (at-replicate n k (Some zeros) None within, none-named n k, at-replicate n k clear_row clear_row within) new-frame;
       listed = λ k l. elim l [
         | inl a ↦ subst (λ (o : Option (List ℕ)). IsSome o) (sym (at-replicate n k (Some zeros) None (apart.below_free k a))) refl
         | inr b ↦ absurd b
       ];
       unnamed = λ k a. none-named n k;
-      spare = λ k b e. let within = some-within (replicate n (Some zeros)) k b in in-range 0 n k (omega arith) (omega (arith, within, long)) }
+      spare = λ k b e. let within = some-within (replicate n (Some zeros)) k b in in-range 0 n k (omega arith) (omega (arith, within, long));
+    }

@@ -42,8 +42,15 @@ module _ (old new : StoreSeen) (f : ℕ) (distinct : AreDistinct old.names) (dis
       ap (λ (b : Option (List ℕ)). residence_of b (row_at new.rows g).holder g) (e.bytes g far) ∙ ap (λ (r : Row). residence_of (bytes_at old.frames g) r.holder g) (e.rows g far)
 
   pub touches : Touches old new f
-  touches = record { frames = e.frames; bytes = e.bytes; names = e.names; rows = e.rows; free = e.free; cached = e.cached;
-    residence = λ n before after. ap (λ (o : Option ℕ). residence_in o new) (found-same n before after) ∙ residence_at n (find old.names n) refl before }
+  touches = record {
+    frames = e.frames;
+    bytes = e.bytes;
+    names = e.names;
+    rows = e.rows;
+    free = e.free;
+    cached = e.cached;
+    residence = λ n before after. ap (λ (o : Option ℕ). residence_in o new) (found-same n before after) ∙ residence_at n (find old.names n) refl before;
+  }
 
   holder_note : (before after : Notes) (g : ℕ) → g ≢ f → (h : Option ℕ) → (row_at old.rows g).holder ≡ h → ((k t : ℕ) → k ≢ f → (row_at old.rows k).holder ≡ Some t → after t ≡ before t) → note_of_holder h after ≡ note_of_holder h before
   holder_note before after g far None q notes = refl
@@ -64,7 +71,8 @@ module _ (old new : StoreSeen) (f : ℕ) (distinct : AreDistinct old.names) (dis
   same_frame k ne was = record {
     size = λ b h. was.size b (sym (e.bytes k ne) ∙ h);
     away = ap (λ (b : Option (List ℕ)). is_none b) (e.bytes k ne) ∙ was.away ∙ ap (λ (r : Row). is_some r.holder) (sym (e.rows k ne));
-    gone = ap (λ (r : Row). r.gone) (e.rows k ne) ∙ was.gone ∙ ap (λ (r : Row). is_some r.holder && is_none (name_at old.names k)) (sym (e.rows k ne)) ∙ ap (λ (n : Option PageName). is_some (row_at new.rows k).holder && is_none n) (sym (e.names k ne)) }
+    gone = ap (λ (r : Row). r.gone) (e.rows k ne) ∙ was.gone ∙ ap (λ (r : Row). is_some r.holder && is_none (name_at old.names k)) (sym (e.rows k ne)) ∙ ap (λ (n : Option PageName). is_some (row_at new.rows k).holder && is_none n) (sym (e.names k ne));
+  }
 
   -- what holds of every store still holds
   pub sound-elsewhere : IsSound old → length new.names ≡ length old.names → length new.rows ≡ length old.rows → new.clock.frames ≡ old.clock.frames → length new.bays ≡ length old.bays → IsOrder new.bays new.order
@@ -94,4 +102,5 @@ module _ (old new : StoreSeen) (f : ℕ) (distinct : AreDistinct old.names) (dis
     spare = λ k b n. elim (cases_eq k f) [
       | inl q ↦ subst (λ (j : ℕ). Has new.free j) (sym q) (spare (subst (λ (j : ℕ). IsSome (bytes_at new.frames j)) q b) (subst (λ (j : ℕ). name_at new.names j ≡ None) q n))
       | inr ne ↦ (e.free k ne).1 (sound.spare k (subst (λ (o : Option (List ℕ)). IsSome o) (e.bytes k ne) b) (sym (e.names k ne) ∙ n))
-    ] }
+    ];
+  }

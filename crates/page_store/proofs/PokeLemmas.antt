@@ -31,7 +31,8 @@ module _ (s : StoreSeen) (page : PageName) (frame at : ℕ) (from : List ℕ) (m
     names = λ k ne. refl;
     rows = λ k ne. mark_other s.rows frame k mark ne;
     free = λ k ne. (λ h. h, λ h. h);
-    cached = λ k ne. (λ h. h, λ h. h) }
+    cached = λ k ne. (λ h. h, λ h. h);
+  }
 
   -- each other name keeps its value
   pub others-poked : (notes : Notes) (table : Table) (m : PageName) → m ≢ page → value (poked s frame at from mark) notes table m ≡ value s notes table m
@@ -43,5 +44,5 @@ module _ (s : StoreSeen) (page : PageName) (frame at : ℕ) (from : List ℕ) (m
   own-poked notes table =
       let within = bytes-within s.frames frame is.bytes is.there in
       let a : bytes_at (set s.frames frame (Some (spliced (unwrap_or (bytes_at s.frames frame) []) at from))) frame ≡ Some (spliced (unwrap_or (bytes_at s.frames frame) []) at from) =
-          get_or-set_same s.frames frame (Some (spliced (unwrap_or (bytes_at s.frames frame) []) at from)) None within in
+      get_or-set_same s.frames frame (Some (spliced (unwrap_or (bytes_at s.frames frame) []) at from)) None within in
       rw (is.found, a, is.there) refl

@@ -20,8 +20,8 @@ pub record AreDisjoint (extents : List Extent) : Type 0 where
   pub disks : (f : ℕ) → f < length extents → (extent_at extents f).disk < 8
   pub blocks : (f : ℕ) → f < length extents → (extent_at extents f).start + (extent_at extents f).pages ≤ 2 ^ 32
   pub apart : (f g i j : ℕ) → i < (extent_at extents f).pages → j < (extent_at extents g).pages
-    → (extent_at extents f).disk ≡ (extent_at extents g).disk
-    → (extent_at extents f).start + i ≡ (extent_at extents g).start + j → f ≡ g
+      → (extent_at extents f).disk ≡ (extent_at extents g).disk
+      → (extent_at extents f).start + i ≡ (extent_at extents g).start + j → f ≡ g
 
 -- the name is a page of a file's extent
 abbrev pub is_page : List Extent → PageName → Bool

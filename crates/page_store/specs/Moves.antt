@@ -55,7 +55,7 @@ pub record Ends (old : StoreSeen) (before : Notes) (new : StoreSeen) (after : No
   pub fits : Fits new after table
   pub alike : TellsAlike old before new after
   pub values : (n : PageName) → (n ≡ note.name → (name_at old.names note.frame ≡ Some n) ⊎ ((frame : ℕ) × (residence old n ≡ at.Home frame)))
-    → value new after table n ≡ value old before table n
+      → value new after table n ≡ value old before table n
 
 -- the same bytes, or with zeros past the valid ones
 abbrev pub SameOrCut : Place → List ℕ → List ℕ → Type 0

@@ -29,8 +29,16 @@ pub record StoreSeen : Type 0 where
 -- the store that these parts make
 abbrev pub store_of : CoreSeen → List (Option PageName) → ListsSeen → List Row → ClockSeen → List BaySeen → List ℕ → StoreSeen
 store_of core names lists rows clock bays order = record {
-  origin = core.origin; frames = core.frames; names = names; rows = rows;
-  free = lists.free; cached = lists.cached; bays = bays; order = order; clock = clock }
+  origin = core.origin;
+  frames = core.frames;
+  names = names;
+  rows = rows;
+  free = lists.free;
+  cached = lists.cached;
+  bays = bays;
+  order = order;
+  clock = clock;
+}
 
 -- the lists of a store
 abbrev pub lists_of : StoreSeen → ListsSeen

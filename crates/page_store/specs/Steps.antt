@@ -51,7 +51,8 @@ held_row row seat = record row { holder = Some seat }
 abbrev pub poked : StoreSeen → ℕ → ℕ → List ℕ → Bool → StoreSeen
 poked s frame at from mark = record s {
   frames = slice_set s.frames frame (Some (spliced (unwrap_or (bytes_at s.frames frame) []) at from));
-  rows = if mark then slice_set s.rows frame (record (row_at s.rows frame) { modified = true }) else s.rows }
+  rows = if mark then slice_set s.rows frame (record (row_at s.rows frame) { modified = true }) else s.rows;
+}
 
 -- a frame is taken for a name, with these bytes
 abbrev pub filled : StoreSeen → ℕ → PageName → List ℕ → Bool → StoreSeen
@@ -59,14 +60,17 @@ filled s frame name bytes modified = record s {
   frames = slice_set s.frames frame (Some bytes);
   names = slice_set s.names frame (Some name);
   rows = slice_set s.rows frame (fresh_row modified);
-  free = rest_free s.free; cached = rest_cached s.free s.cached }
+  free = rest_free s.free;
+  cached = rest_cached s.free s.cached;
+}
 
 -- a frame and a disk go out with a seat, to be written
 abbrev pub sent : StoreSeen → ℕ → ℕ → ℕ → StoreSeen
 sent s frame seat number = record s {
   frames = slice_set s.frames frame None;
   rows = slice_set s.rows frame (held_row (row_at s.rows frame) seat);
-  bays = slice_set s.bays number (out seat) }
+  bays = slice_set s.bays number (out seat);
+}
 
 -- a frame is taken for a name, and goes out with a disk and a seat, to be read
 abbrev pub fetched : StoreSeen → ℕ → PageName → ℕ → ℕ → StoreSeen
@@ -74,8 +78,10 @@ fetched s frame name seat number = record s {
   frames = slice_set s.frames frame None;
   names = slice_set s.names frame (Some name);
   rows = slice_set s.rows frame (held_row clear_row seat);
-  free = rest_free s.free; cached = rest_cached s.free s.cached;
-  bays = slice_set s.bays number (out seat) }
+  free = rest_free s.free;
+  cached = rest_cached s.free s.cached;
+  bays = slice_set s.bays number (out seat);
+}
 
 -- a page that comes back has no frame where it is gone, or where it was to be read and that failed
 abbrev pub is_lost : Bool → Outcome → Option PageName → Bool
@@ -96,13 +102,15 @@ abbrev pub landed : StoreSeen → FlightSeen → Bool → StoreSeen
 landed s f false = record s {
   frames = slice_set s.frames f.frame (Some f.bytes);
   rows = slice_set s.rows f.frame (record (row_at s.rows f.frame) { holder = None; gone = false; modified = is_dirty f.outcome });
-  bays = slice_set s.bays f.number (home f.disk) }
+  bays = slice_set s.bays f.number (home f.disk);
+}
 landed s f true = record s {
   frames = slice_set s.frames f.frame (Some f.bytes);
   names = slice_set s.names f.frame None;
   rows = slice_set s.rows f.frame clear_row;
   free = s.free ++ f.frame ∷ [];
-  bays = slice_set s.bays f.number (home f.disk) }
+  bays = slice_set s.bays f.number (home f.disk);
+}
 
 abbrev pub ended : StoreSeen → FlightSeen → StoreSeen
 ended s f = landed s f (is_lost f.writes f.outcome (name_at s.names f.frame))
@@ -111,12 +119,14 @@ ended s f = landed s f (is_lost f.writes f.outcome (name_at s.names f.frame))
 abbrev pub given_up : StoreSeen → ℕ → Option (List ℕ) → StoreSeen
 given_up s frame None = record s {
   names = slice_set s.names frame None;
-  rows = slice_set s.rows frame (record (row_at s.rows frame) { gone = true }) }
+  rows = slice_set s.rows frame (record (row_at s.rows frame) { gone = true });
+}
 given_up s frame (Some bytes) = record s {
   names = slice_set s.names frame None;
   rows = slice_set s.rows frame clear_row;
   cached = without s.cached frame;
-  free = s.free ++ frame ∷ [] }
+  free = s.free ++ frame ∷ [];
+}
 
 abbrev pub aborted_in : Option ℕ → StoreSeen → StoreSeen
 aborted_in None s = s

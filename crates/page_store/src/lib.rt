@@ -12,7 +12,7 @@ mod store;
 pub use bays::{Bay, Bays};
 pub use page_clock::Pick;
 pub use page_hash::PageName;
-pub use place::{Extent, Place, PAGE_BYTES, SWAP_DISK, SWAP_OBJECT, place_of};
+pub use place::{Extent, PAGE_BYTES, Place, SWAP_DISK, SWAP_OBJECT, place_of};
 pub use plan::{Hold, Plan};
 pub use residence::Residence;
 pub use store::Store;

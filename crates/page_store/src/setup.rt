@@ -31,7 +31,11 @@ struct Parts<D: Disk> {
     order: Order<D>,
 }
 
-fn take_memory<D: Disk>(alloc: Global, frames: u32, disks: &[(u32, D)]) -> Result<Parts<D>, AllocError>
+fn take_memory<D: Disk>(
+    alloc: Global,
+    frames: u32,
+    disks: &[(u32, D)],
+) -> Result<Parts<D>, AllocError>
     ensures core { IfOk result (λ p. p.core.frames ≡ replicate frames (Some zeros)) }
     ensures names { IfOk result (λ p. p.names ≡ replicate frames None) }
     ensures distinct { IfOk result (λ p. AreDistinct p.names) }

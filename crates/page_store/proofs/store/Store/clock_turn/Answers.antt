@@ -12,7 +12,10 @@ invariant_of-self g c =
     let s : StoreSeen = store_of c.self.inside.core c.self.inside.names c.self.inside.lists c.self.inside.locks c.self.inside.clock c.self.inside.bays c.self.inside.order in
     rw c.step.ensures.new (record {
       sound = sound-clock s (stepped s.clock) c.self.invariant.sound (stepped-frames s.clock);
-      counted = c.self.invariant.counted; listed = c.self.invariant.listed; pointer = c.self.invariant.pointer })
+      counted = c.self.invariant.counted;
+      listed = c.self.invariant.listed;
+      pointer = c.self.invariant.pointer;
+    })
 
 pub returns-clause-within : goal.returns-clause-within
 returns-clause-within g c = let a = c.self.invariant.sound.hands in let b = ap (λ (x : StoreSeen). length x.frames) c.self.view_is in let d = c.step.ensures.within in omega arith

@@ -36,11 +36,12 @@ invariant_of-result g c =
     let nine : length (set (placed pairs (replicate 9 missing)) 8 (bay_of swap)) ≡ 9 = length-set (placed pairs (replicate 9 missing)) 8 (bay_of swap) ∙ length-placed pairs (replicate 9 missing) in
     record {
       sound = rw (c.in-Ok.ensures.core, c.in-Ok.ensures.names, c.in-Ok.ensures.lists, c.in-Ok.ensures.locks, c.new.ensures, bays_is, order_is)
-        (sound-new c.in-Ok.parts.core.origin c.args.frames (set (placed pairs (replicate 9 missing)) 8 (bay_of swap)) (numbers_of pairs) c.ranges.frames.fits nine (order-there pairs swap numbers)
+          (sound-new c.in-Ok.parts.core.origin c.args.frames (set (placed pairs (replicate 9 missing)) 8 (bay_of swap)) (numbers_of pairs) c.ranges.frames.fits nine (order-there pairs swap numbers)
           (subst AreDistinct c.in-Ok.ensures.names c.in-Ok.ensures.distinct) (subst AreApart c.in-Ok.ensures.lists c.in-Ok.ensures.apart));
       counted = rw c.in-Ok.ensures.core (length-replicate c.args.frames (Some zeros));
       listed = ap (λ (l : ListsSeen). l.frames) c.in-Ok.ensures.lists;
-      pointer = let two = c.requires.frames in omega (arith, two) }
+      pointer = let two = c.requires.frames in omega (arith, two);
+    }
 
 pub returns-clause-store : goal.returns-clause-store
 returns-clause-store g c =
@@ -57,4 +58,5 @@ returns-clause-store g c =
       cached = ap (λ (l : ListsSeen). l.cached) c.in-Ok.ensures.lists;
       clock = c.new.ensures;
       order = c.in-Ok.ensures.order ∙ ap numbers_of c.as_slice.ensures.value ∙ sym (numbers-seen g.D.Disk.seen c.args.disks.items);
-      bays = subst (λ (l : List BaySeen). AreHome l pairs swap) (sym bays_is) (are-home pairs swap numbers) }
+      bays = subst (λ (l : List BaySeen). AreHome l pairs swap) (sym bays_is) (are-home pairs swap numbers);
+    }

@@ -16,7 +16,10 @@ invariant_of-self g c =
     let lt : c.args.frame < length s.frames = let b = ap (λ (x : StoreSeen). length x.frames) c.self.view_is in let d = c.requires in omega arith in
     rw c.set_bits.ensures (record {
       sound = sound-row s c.args.frame (record (row_at c.self.inside.locks c.args.frame) { referenced = c.args.referenced; modified = c.args.modified }) c.self.invariant.sound lt refl refl;
-      counted = c.self.invariant.counted; listed = c.self.invariant.listed; pointer = c.self.invariant.pointer })
+      counted = c.self.invariant.counted;
+      listed = c.self.invariant.listed;
+      pointer = c.self.invariant.pointer;
+    })
 
 pub returns-clause-moves : goal.returns-clause-moves
 returns-clause-moves g c = λ notes table fits.
