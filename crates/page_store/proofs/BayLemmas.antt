@@ -1,11 +1,10 @@
 -- Disks put into bays, and taken out again.
-use Rattle.std.proofs.Common.{◌≡◌, ◌≢◌, ℕ, ◌+◌, ◌<◌, ◌≤◌, ◌⊎◌, inl, inr, List, [], ◌∷◌, ◌++◌, Option, Some, None, zero, suc, refl, sym, ◌∙◌, ap, subst, arith, rules, length, get_or, set, map, replicate, take}
+use Rattle.std.proofs.Common.{◌≡◌, ℕ, ◌+◌, ◌<◌, ◌≤◌, List, [], ◌∷◌, ◌++◌, suc, refl, sym, ◌∙◌, ap, arith, length, set, take}
 use Rattle.std.specs.Prelude.{slice_index}
-use Rattle.std.proofs.lemmas.List.{get_or-set_same, get_or-set_other, take_more, map-append}
+use Rattle.std.proofs.lemmas.List.{get_or-set_other, take_more, map-append}
 use Rattle.std.proofs.Math.ListN.{length-set}
-use Rattle.std.proofs.lemmas.Bool.{cases_eq}
 use Rattle.block_device.specs.DiskSeen.{DiskSeen}
-use Rattle.page_store.specs.Bays.{BaySeen, missing, home, out, bay_at, placed, pairs_seen, numbers_of, AreNumbers, disk_in, disks_in}
+use Rattle.page_store.specs.Bays.{BaySeen, missing, home, bay_at, placed, pairs_seen, numbers_of, AreNumbers, disk_in, disks_in}
 
 pub placed-append : (xs : List (ℕ × DiskSeen)) (d : ℕ × DiskSeen) (bays : List BaySeen) → placed (xs ++ d ∷ []) bays ≡ placed xs (set bays d.0 (home d.1))
 placed-append [] d bays = refl

@@ -1,14 +1,13 @@
 -- The table of extents and slots is apart.
-use Rattle.std.proofs.Common.{◌≡◌, ◌≢◌, ℕ, ◌+◌, ◌-◌, ◌*◌, ◌<◌, ◌≤◌, ◌==◌, ◌&&◌, Bool, true, false, cond, ◌⊎◌, inl, inr, List, [], ◌∷◌, zero, suc, refl, sym, ◌∙◌, ap, subst, arith, rules, length, get_or}
-use Rattle.std.specs.Prelude.{nat_lt, min}
+use Rattle.std.proofs.Common.{◌≡◌, ℕ, ◌+◌, ◌<◌, ◌==◌, ◌&&◌, Bool, true, false, cond, ◌⊎◌, inl, inr, List, [], ◌∷◌, zero, suc, refl, sym, ◌∙◌, ap, arith, length}
+use Rattle.std.specs.Prelude.{nat_lt}
 use Rattle.std.proofs.lemmas.Bool.{cases_Bool}
 use Rattle.std.proofs.lemmas.Bool.Decides.{nat_tests}
-use Rattle.std.proofs.lemmas.Grind.{common_steps}
 use Rattle.page_hash.specs.declared.PageName.{PageName}
 use Rattle.page_store.specs.declared.place.Place.{Place}
 use Rattle.page_store.specs.declared.place.Extent.{Extent}
-use Rattle.page_store.specs.Layout.{AreDisjoint, extent_at, no_extent, is_page, is_slot, page_place, slot_place, own_place, table_of}
-use Rattle.page_store.specs.Table.{Table, IsApart}
+use Rattle.page_store.specs.Layout.{AreDisjoint, extent_at, is_page, is_slot, page_place, slot_place, own_place, table_of}
+use Rattle.page_store.specs.Table.{IsApart}
 
 same_name : (m n : PageName) → m.object ≡ n.object → m.page ≡ n.page → m ≡ n
 same_name m n a b = ap (λ (x : ℕ). record { object = x; page = m.page }) a ∙ ap (λ (x : ℕ). record { object = n.object; page = x }) b

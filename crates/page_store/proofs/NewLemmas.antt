@@ -1,22 +1,19 @@
 -- A new store.
-use Rattle.std.proofs.Common.{◌≡◌, ◌≢◌, ℕ, ◌+◌, ◌<◌, ◌≤◌, Bool, true, false, ◌⊎◌, inl, inr, List, [], ◌∷◌, Option, Some, None, zero, suc, refl, sym, ◌∙◌, ap, subst, arith, rules, length, get_or, set, replicate, IsSome, is_some}
+use Rattle.std.proofs.Common.{◌≡◌, ◌≢◌, ℕ, ◌+◌, ◌<◌, ◌≤◌, inl, inr, List, [], ◌∷◌, Option, Some, None, zero, suc, refl, sym, ◌∙◌, ap, subst, arith, length, get_or, set, replicate, IsSome}
 use Rattle.std.specs.Prelude.{slice_index, ◌^◌, ◌/◌}
 use Rattle.std.specs.List.{range_with_len}
 use Rattle.std.proofs.lemmas.List.{get_or-set_same, get_or-set_other, length-replicate}
-use Rattle.std.proofs.Math.ListN.{length-set}
 use Rattle.std.proofs.lemmas.Bool.{cases_eq}
 use Rattle.block_device.specs.DiskSeen.{DiskSeen}
-use Rattle.core_arena.specs.Bytes.{bytes_at, zeros}
-use Rattle.core_arena.specs.Seen.{CoreSeen}
+use Rattle.core_arena.specs.Bytes.{zeros}
 use Rattle.page_clock.specs.Clock.{fresh}
 use Rattle.page_hash.specs.Names.{name_at, AreDistinct}
 use Rattle.page_hash.specs.declared.PageName.{PageName}
-use Rattle.page_lists.specs.ListsSeen.{ListsSeen, Has, AreApart}
-use Rattle.page_lock.specs.Rows.{row_at, clear_row}
-use Rattle.page_lock.specs.declared.Row.{Row}
+use Rattle.page_lists.specs.ListsSeen.{Has, AreApart}
+use Rattle.page_lock.specs.Rows.{clear_row}
 use Rattle.page_store.specs.Bays.{BaySeen, missing, home, bay_at, bay_of, placed, pairs_seen, numbers_of, AreNumbers}
-use Rattle.page_store.specs.New.{AreHome, IsNew}
-use Rattle.page_store.specs.Seen.{StoreSeen, store_of, IsSound, IsOrder, IsFrame, IsListed}
+use Rattle.page_store.specs.New.{AreHome}
+use Rattle.page_store.specs.Seen.{store_of, IsSound, IsOrder, IsFrame}
 use Rattle.page_store.proofs.BayLemmas.{length-placed}
 use Rattle.page_store.proofs.QueryLemmas.{some-within}
 

@@ -1,20 +1,19 @@
 -- Stores that differ in one frame.
-use Rattle.std.proofs.Common.{◌≡◌, ◌≢◌, ℕ, ◌<◌, Bool, true, false, ◌⊎◌, inl, inr, List, [], ◌∷◌, Option, Some, None, zero, suc, refl, sym, ◌∙◌, ap, subst, arith, rules, length, IsSome, is_some}
+use Rattle.std.proofs.Common.{◌≡◌, ◌≢◌, ℕ, ◌<◌, inl, inr, List, Option, Some, None, refl, sym, ◌∙◌, ap, subst, length, IsSome, is_some}
 use Rattle.std.specs.Prelude.{◌↔◌, ◌&&◌, ◌^◌, is_none}
 use Rattle.std.proofs.lemmas.Bool.{cases_eq}
 use Rattle.core_arena.specs.Bytes.{bytes_at}
 use Rattle.page_hash.specs.Names.{find, name_at, AreDistinct}
 use Rattle.page_hash.specs.declared.PageName.{PageName}
-use Rattle.page_hash.proofs.NameLaws.{find-at, find-none, find-some, find-absent, find-same}
+use Rattle.page_hash.proofs.NameLaws.{find-at, find-same}
 use Rattle.page_lists.specs.ListsSeen.{Has, AreApart}
 use Rattle.page_lock.specs.Rows.{row_at}
 use Rattle.page_lock.specs.declared.Row.{Row}
 use Rattle.page_store.specs.Moves.{Touches}
 use Rattle.page_store.specs.Notes.{Note, Notes}
-use Rattle.page_store.specs.Seen.{StoreSeen, IsSound, IsOrder, IsFrame, IsListed, lists_of, residence, residence_in, residence_of}
+use Rattle.page_store.specs.Seen.{StoreSeen, IsSound, IsOrder, IsFrame, IsListed, lists_of, residence_in, residence_of}
 use Rattle.page_store.specs.Value.{value_in, stored, note_of_holder, held}
 use Rattle.page_store.specs.declared.place.Place.{Place}
-use Rattle.page_store.specs.declared.residence.Residence.{Residence}
 
 -- every frame but one is as it was
 pub record Elsewhere (old new : StoreSeen) (f : ℕ) : Type 0 where

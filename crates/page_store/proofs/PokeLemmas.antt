@@ -1,21 +1,19 @@
 -- A piece written over a page that is home.
-use Rattle.std.proofs.Common.{◌≡◌, ◌≢◌, ℕ, ◌+◌, ◌<◌, ◌≤◌, Bool, true, false, ◌⊎◌, inl, inr, List, [], ◌∷◌, Option, Some, None, refl, sym, ◌∙◌, ap, subst, arith, rules, length, get_or, set, IsSome, is_some}
-use Rattle.std.specs.Prelude.{unwrap_or, is_none, ◌&&◌, cond}
+use Rattle.std.proofs.Common.{◌≡◌, ◌≢◌, ℕ, Bool, true, false, List, [], Some, None, refl, set}
+use Rattle.std.specs.Prelude.{unwrap_or, cond}
 use Rattle.std.proofs.lemmas.List.{get_or-set_same, get_or-set_other}
 use Rattle.std.proofs.Math.ListN.{length-set}
-use Rattle.std.proofs.lemmas.Bool.{cases_eq}
-use Rattle.std.proofs.lemmas.Grind.{common_steps}
 use Rattle.core_arena.specs.Bytes.{bytes_at, spliced}
-use Rattle.page_hash.specs.Names.{find, name_at}
+use Rattle.page_hash.specs.Names.{find}
 use Rattle.page_hash.specs.declared.PageName.{PageName}
 use Rattle.page_hash.proofs.NameLaws.{find-at}
 use Rattle.page_lock.specs.Rows.{row_at, clear_row}
 use Rattle.page_lock.specs.declared.Row.{Row}
 use Rattle.page_store.specs.Notes.{Notes}
-use Rattle.page_store.specs.Seen.{StoreSeen, IsSound, IsFrame}
+use Rattle.page_store.specs.Seen.{StoreSeen, IsSound}
 use Rattle.page_store.specs.Steps.{poked}
 use Rattle.page_store.specs.Table.{Table}
-use Rattle.page_store.specs.Value.{value, value_in}
+use Rattle.page_store.specs.Value.{value}
 use Rattle.page_store.proofs.OneFrame.{Elsewhere, value-elsewhere}
 use Rattle.page_store.proofs.QueryLemmas.{IsIn, bytes-within}
 

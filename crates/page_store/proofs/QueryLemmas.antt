@@ -1,18 +1,17 @@
 -- What a store tells.
-use Rattle.std.proofs.Common.{◌≡◌, ◌≢◌, ℕ, ◌<◌, ◌≤◌, Bool, true, false, ◌⊎◌, inl, inr, List, [], ◌∷◌, Option, Some, None, zero, suc, refl, sym, ◌∙◌, ap, subst, arith, rules, length, IsSome, is_some}
+use Rattle.std.proofs.Common.{◌≡◌, ◌≢◌, ℕ, ◌<◌, ◌≤◌, true, false, ◌⊎◌, inl, inr, List, [], ◌∷◌, Option, Some, None, zero, suc, refl, sym, ◌∙◌, ap, subst, arith, length, IsSome, is_some}
 use Rattle.std.specs.Prelude.{is_none, IfSome}
 use Rattle.std.proofs.lemmas.Bool.{cases_lt}
 use Rattle.core_arena.specs.Bytes.{bytes_at}
 use Rattle.page_hash.specs.Names.{find, name_at, AreDistinct}
 use Rattle.page_hash.specs.declared.PageName.{PageName}
-use Rattle.page_hash.proofs.NameLaws.{find-at, find-some, find-absent}
+use Rattle.page_hash.proofs.NameLaws.{find-at, find-some}
 use Rattle.page_lock.specs.Rows.{row_at}
 use Rattle.page_lock.specs.declared.Row.{Row}
-use Rattle.page_store.specs.Seen.{StoreSeen, IsSound, IsFrame, IsListed, residence, residence_in, residence_of}
+use Rattle.page_store.specs.Seen.{StoreSeen, IsSound, residence, residence_in, residence_of}
 use Rattle.page_store.specs.Steps.{first_of}
 use Rattle.page_store.specs.Waits.{IsVictim, Chooses}
-use Rattle.page_store.specs.declared.residence.Residence.{Residence}
-use Rattle.page_store.specs.declared.residence.Residence.TheVariants.{Home, Moving, Absent}
+use Rattle.page_store.specs.declared.residence.Residence.TheVariants.{Home, Absent}
 
 pub named-within : (names : List (Option PageName)) (k : ℕ) (n : PageName) → name_at names k ≡ Some n → k < length names
 named-within [] k n h = cc

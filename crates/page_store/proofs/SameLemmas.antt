@@ -1,6 +1,6 @@
 -- Stores that differ in rows, lists and clock alone.
-use Rattle.std.proofs.Common.{◌≡◌, ◌≢◌, ℕ, ◌<◌, Bool, true, false, ◌&&◌, ◌⊎◌, inl, inr, List, [], ◌∷◌, Option, Some, None, zero, suc, refl, sym, ◌∙◌, ap, subst, arith, rules, length, get_or, set, IsSome, is_some}
-use Rattle.std.specs.Prelude.{is_none, IsTrue, cond, ◌+◌, ◌%◌}
+use Rattle.std.proofs.Common.{◌≡◌, ℕ, ◌<◌, Bool, true, false, ◌&&◌, inl, inr, List, Option, Some, None, refl, sym, ◌∙◌, ap, subst, arith, length, set, is_some}
+use Rattle.std.specs.Prelude.{is_none, cond, ◌+◌, ◌%◌}
 use Rattle.std.proofs.lemmas.List.{get_or-set_same, get_or-set_other}
 use Rattle.std.proofs.Math.ListN.{length-set}
 use Rattle.std.proofs.lemmas.Bool.{cases_eq}
@@ -9,17 +9,16 @@ use Rattle.page_clock.specs.Clock.{stepped}
 use Rattle.page_clock.specs.Seen.{ClockSeen}
 use Rattle.page_hash.specs.Names.{find, name_at}
 use Rattle.page_hash.specs.declared.PageName.{PageName}
-use Rattle.page_lists.specs.ListsSeen.{Has, AreApart}
+use Rattle.page_lists.specs.ListsSeen.{Has}
 use Rattle.page_lock.specs.Rows.{row_at, clear_row}
 use Rattle.page_lock.specs.declared.Row.{Row}
-use Rattle.page_store.specs.Bays.{bay_at, out}
 use Rattle.page_store.specs.Fits.{Fits, IsOut, IsClean}
 use Rattle.page_store.specs.Moves.{Moves}
 use Rattle.page_store.specs.Notes.{Note, Notes}
-use Rattle.page_store.specs.Seen.{StoreSeen, IsSound, IsFrame, IsListed, lists_of}
+use Rattle.page_store.specs.Seen.{StoreSeen, IsSound, IsFrame}
 use Rattle.page_store.specs.Steps.{with_row}
 use Rattle.page_store.specs.Table.{Table}
-use Rattle.page_store.specs.Value.{value, value_in, stored, note_of_holder, held}
+use Rattle.page_store.specs.Value.{value_in, stored, note_of_holder, held}
 use Rattle.page_store.specs.declared.place.Place.{Place}
 
 -- the same holders, and no more on the cache list: every name keeps its value

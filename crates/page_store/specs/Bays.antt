@@ -1,5 +1,5 @@
 -- Where the disks are.
-use Rattle.std.specs.Prelude.{◌≡◌, ◌≢◌, ℕ, ◌<◌, List, [], ◌∷◌, Option, Some, None, slice_index_or, slice_index, slice_set, length, map}
+use Rattle.std.specs.Prelude.{◌≡◌, ℕ, ◌<◌, List, [], ◌∷◌, Option, Some, None, slice_index_or, slice_index, slice_set, length, map}
 use Rattle.block_device.specs.DiskSeen.{DiskSeen}
 use Rattle.page_store.specs.declared.bays.Bay.{Bay}
 use Rattle.page_store.specs.declared.bays.Bay.TheVariants.{Missing, Home, Out}

@@ -1,5 +1,5 @@
 -- What is seen of a flight, and what its transfer does.
-use Rattle.std.specs.Prelude.{◌≡◌, ℕ, ◌<◌, ◌≤◌, Bool, true, false, List, [], length, Option, Result, Ok, Err, OnOk, IfSome, slice_index_or}
+use Rattle.std.specs.Prelude.{◌≡◌, ℕ, Bool, true, false, List, [], Option, Result, Ok, Err, OnOk, IfSome, slice_index_or}
 use Rattle.block_device.specs.DiskSeen.{DiskSeen, with_block, Spoils}
 use Rattle.block_device.specs.Counts.{HasRisen, HasCause}
 use Rattle.page_hash.specs.declared.PageName.{PageName}

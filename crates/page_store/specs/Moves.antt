@@ -1,5 +1,5 @@
 -- What calls do to the values of names.
-use Rattle.std.specs.Prelude.{◌≡◌, ◌≢◌, ◌⊎◌, ◌↔◌, ℕ, if◌then◌else◌, List, Option, Some, None, IsTrue, length}
+use Rattle.std.specs.Prelude.{◌≡◌, ◌≢◌, ◌⊎◌, ◌↔◌, ℕ, if◌then◌else◌, List, Option, Some, IsTrue, length}
 use Rattle.core_arena.specs.Bytes.{bytes_at}
 use Rattle.page_hash.specs.Names.{name_at, is_name}
 use Rattle.page_hash.specs.declared.PageName.{PageName}

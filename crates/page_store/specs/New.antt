@@ -5,7 +5,7 @@ use Rattle.block_device.specs.DiskSeen.{DiskSeen}
 use Rattle.core_arena.specs.Bytes.{zeros}
 use Rattle.page_clock.specs.Clock.{fresh}
 use Rattle.page_lock.specs.Rows.{clear_row}
-use Rattle.page_store.specs.Bays.{BaySeen, missing, home, bay_at, bay_of, numbers_of, disk_in}
+use Rattle.page_store.specs.Bays.{BaySeen, missing, home, bay_at, bay_of, numbers_of}
 use Rattle.page_store.specs.Seen.{StoreSeen}
 
 -- Each of these disks is home under its number, the swap disk, if there is one, under 8, and no other number has a disk.

@@ -1,5 +1,5 @@
 -- What callers see of a store, and what holds of every store.
-use Rattle.std.specs.Prelude.{◌≡◌, ◌≢◌, ℕ, ◌<◌, ◌^◌, ◌⊎◌, ◌&&◌, Bool, true, List, Option, Some, None, IsSome, length, is_some, is_none, slice_index}
+use Rattle.std.specs.Prelude.{◌≡◌, ◌≢◌, ℕ, ◌<◌, ◌^◌, ◌⊎◌, ◌&&◌, List, Option, Some, None, IsSome, length, is_some, is_none, slice_index}
 use Rattle.core_arena.specs.Bytes.{bytes_at}
 use Rattle.core_arena.specs.Seen.{CoreSeen}
 use Rattle.page_clock.specs.Seen.{ClockSeen}

@@ -1,7 +1,6 @@
 -- What the calls make of a store.
-use Rattle.std.specs.Prelude.{◌≡◌, ℕ, ◌++◌, ◌||◌, ◌==◌, [], ◌∷◌, Bool, true, false, if◌then◌else◌, List, Option, Some, None, unwrap_or, slice_set, is_none}
+use Rattle.std.specs.Prelude.{ℕ, ◌++◌, [], ◌∷◌, Bool, true, false, if◌then◌else◌, List, Option, Some, None, unwrap_or, slice_set}
 use Rattle.core_arena.specs.Bytes.{bytes_at, spliced}
-use Rattle.page_clock.specs.Clock.{stepped}
 use Rattle.page_hash.specs.Names.{name_at, find}
 use Rattle.page_hash.specs.declared.PageName.{PageName}
 use Rattle.page_lists.specs.ListsSeen.{without}

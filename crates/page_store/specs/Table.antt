@@ -1,5 +1,5 @@
 -- Where pages live on the disks: the table of a machine, by name.
-use Rattle.std.specs.Prelude.{◌≡◌, ℕ}
+use Rattle.std.specs.Prelude.{◌≡◌}
 use Rattle.page_hash.specs.declared.PageName.{PageName}
 use Rattle.page_store.specs.declared.place.Place.{Place}
 

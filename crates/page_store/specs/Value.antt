@@ -1,5 +1,5 @@
 -- The value of a name, wherever its page is.
-use Rattle.std.specs.Prelude.{◌≡◌, ℕ, Bool, true, if◌then◌else◌, List, Option, Some, None, is_some}
+use Rattle.std.specs.Prelude.{ℕ, Bool, if◌then◌else◌, List, Option, Some, None, is_some}
 use Rattle.core_arena.specs.Bytes.{bytes_at, zeros}
 use Rattle.page_hash.specs.Names.{find}
 use Rattle.page_hash.specs.declared.PageName.{PageName}

@@ -9,7 +9,6 @@ mod residence;
 mod setup;
 mod store;
 
-pub use bays::{Bay, Bays};
 pub use page_clock::Pick;
 pub use page_hash::PageName;
 pub use place::{Extent, PAGE_BYTES, Place, SWAP_DISK, SWAP_OBJECT, place_of};

@@ -1,4 +1,4 @@
-use Rattle.std.proofs.Common.{◌≡◌, ℕ, length}
+use Rattle.std.proofs.Common.{◌≡◌, length}
 use Rattle.std.specs.Prelude.{vec_len}
 use Rattle.page_store.specs.Bays.{placed, pairs_seen}
 use Rattle.page_store.proofs.BayLemmas.{AreBelow}

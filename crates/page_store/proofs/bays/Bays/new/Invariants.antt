@@ -1,4 +1,4 @@
-use Rattle.std.proofs.Common.{◌≡◌, ℕ, replicate}
+use Rattle.std.proofs.Common.{◌≡◌, replicate}
 use Rattle.std.specs.Prelude.{map, vec_len, vec_capacity}
 use Rattle.page_store.specs.Bays.{bay_seen, missing}
 use Rattle.page_store.proofs.bays.Bays.new.Given as goal

@@ -1,4 +1,4 @@
-use Rattle.std.proofs.Common.{◌≡◌, List, ◌∙◌, ap, set}
+use Rattle.std.proofs.Common.{List, ◌∙◌, ap, set}
 use Rattle.std.proofs.lemmas.List.{map-set}
 use Rattle.page_store.specs.Bays.{BaySeen, bay_seen, missing}
 use Rattle.page_store.specs.declared.bays.Bay.TheVariants.{Missing}

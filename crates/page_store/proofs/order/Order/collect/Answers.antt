@@ -1,7 +1,7 @@
-use Rattle.std.proofs.Common.{◌≡◌, ℕ, ◌+◌, ◌<◌, ◌≤◌, List, length, refl, sym, ◌∙◌, ap, subst, arith, set}
-use Rattle.std.specs.Prelude.{slice_index, vec_len, vec_capacity}
+use Rattle.std.proofs.Common.{◌≡◌, ℕ, ◌+◌, ◌<◌, List, length, sym, ◌∙◌, ap, arith}
+use Rattle.std.specs.Prelude.{slice_index}
 use Rattle.std.proofs.Math.ListN.{length-set}
-use Rattle.page_store.specs.Bays.{BaySeen, bay_at, home, missing, pairs_seen, disk_in, disks_in}
+use Rattle.page_store.specs.Bays.{BaySeen, bay_at, home, missing, disk_in}
 use Rattle.page_store.proofs.BayLemmas.{collect-got, collect-rest}
 use Rattle.page_store.proofs.order.Order.collect.Goals as goal
 use Rattle.page_store.proofs.order.Order.collect.Goals.{in-Some, in_default}

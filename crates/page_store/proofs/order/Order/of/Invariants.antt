@@ -1,4 +1,4 @@
-use Rattle.std.proofs.Common.{◌≡◌, ℕ, length, take}
+use Rattle.std.proofs.Common.{◌≡◌, length, take}
 use Rattle.std.specs.Prelude.{vec_len, vec_capacity}
 use Rattle.page_store.specs.Bays.{numbers_of}
 use Rattle.page_store.proofs.order.Order.of.Given as goal

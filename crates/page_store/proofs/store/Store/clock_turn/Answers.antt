@@ -1,10 +1,7 @@
-use Rattle.std.proofs.Common.{◌≡◌, ℕ, ◌+◌, ◌-◌, ◌<◌, List, Option, Some, None, length, refl, sym, ◌∙◌, ap, subst, arith, rules, set}
+use Rattle.std.proofs.Common.{length, refl, ap, arith}
 use Rattle.page_clock.specs.Clock.{stepped}
-use Rattle.page_lock.specs.Rows.{row_at}
-use Rattle.page_lock.specs.declared.Row.{Row}
 use Rattle.page_store.specs.Seen.{StoreSeen, store_of}
-use Rattle.page_store.specs.Steps.{with_row}
-use Rattle.page_store.proofs.SameLemmas.{sound-row, row-moves, sound-clock, clock-moves, stepped-frames, moves-at}
+use Rattle.page_store.proofs.SameLemmas.{sound-clock, clock-moves, stepped-frames, moves-at}
 use Rattle.page_store.proofs.store.Store.clock_turn.Goals as goal
 
 pub invariant_of-self : goal.invariant_of-self

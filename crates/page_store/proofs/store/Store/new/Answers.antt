@@ -1,5 +1,5 @@
-use Rattle.std.proofs.Common.{◌≡◌, ◌≢◌, ℕ, ◌<◌, List, [], Option, Some, None, length, replicate, refl, sym, ◌∙◌, ap, subst, arith, set}
-use Rattle.std.specs.Prelude.{option_map, slice_index}
+use Rattle.std.proofs.Common.{◌≡◌, ℕ, List, Option, Some, length, replicate, sym, ◌∙◌, ap, subst, arith, set}
+use Rattle.std.specs.Prelude.{option_map}
 use Rattle.block_device.specs.DiskSeen.{DiskSeen}
 use Rattle.page_hash.specs.Names.{AreDistinct}
 use Rattle.page_lists.specs.ListsSeen.{ListsSeen, AreApart}

@@ -1,6 +1,6 @@
-use Rattle.std.proofs.Common.{◌≡◌, ◌<◌, ℕ, length, Some, sym, arith}
-use Rattle.page_store.specs.Seen.{StoreSeen, store_of}
-use Rattle.page_store.proofs.QueryLemmas.{found-within, found-row}
+use Rattle.std.proofs.Common.{sym}
+use Rattle.page_store.specs.Seen.{store_of}
+use Rattle.page_store.proofs.QueryLemmas.{found-row}
 use Rattle.page_store.proofs.store.Store.ready.Goals as goal
 
 pub holder-requires : goal.holder-requires

@@ -1,10 +1,9 @@
-use Rattle.std.proofs.Common.{◌≡◌, ℕ, ◌+◌, ◌-◌, ◌<◌, List, Option, Some, None, length, refl, sym, ◌∙◌, ap, subst, arith, rules, set}
-use Rattle.page_clock.specs.Clock.{stepped}
+use Rattle.std.proofs.Common.{◌-◌, ◌<◌, length, refl, ap, arith}
 use Rattle.page_lock.specs.Rows.{row_at}
 use Rattle.page_lock.specs.declared.Row.{Row}
 use Rattle.page_store.specs.Seen.{StoreSeen, store_of}
 use Rattle.page_store.specs.Steps.{with_row}
-use Rattle.page_store.proofs.SameLemmas.{sound-row, row-moves, sound-clock, clock-moves, moves-at}
+use Rattle.page_store.proofs.SameLemmas.{sound-row, row-moves, moves-at}
 use Rattle.page_store.proofs.store.Store.unkeep.Goals as goal
 
 pub unkeep-requires-clause-frame : goal.unkeep-requires-clause-frame

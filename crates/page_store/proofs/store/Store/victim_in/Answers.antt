@@ -1,4 +1,4 @@
-use Rattle.std.proofs.Common.{◌≤◌, ◌<◌, arith}
+use Rattle.std.proofs.Common.{arith}
 use Rattle.page_store.proofs.store.Store.victim_in.Goals as goal
 
 pub returns-clause-none : goal.returns-clause-none
