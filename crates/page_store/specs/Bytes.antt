@@ -1,0 +1,6 @@
+-- The bytes of a page as a disk has them.
+use Rattle.std.specs.Prelude.{ℕ, ◌-◌, ◌++◌, List, take, replicate}
+
+-- the first `valid` bytes, and zeros after them
+abbrev pub clipped : ℕ → List ℕ → List ℕ
+clipped valid bytes = take valid bytes ++ replicate (4096 - valid) 0

@@ -1,0 +1,13 @@
+pub mod Bays
+pub mod Bytes
+pub mod Fits
+pub mod Flight
+pub mod Layout
+pub mod Moves
+pub mod New
+pub mod Notes
+pub mod Seen
+pub mod Steps
+pub mod Table
+pub mod Value
+pub mod Waits

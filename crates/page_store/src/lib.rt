@@ -1,0 +1,17 @@
+//! Pages by vnode and offset: named pages in frames, in flight, or on disks that may be out in the hands of callers.
+#![tactic(auto)]
+
+mod bays;
+mod order;
+mod place;
+mod plan;
+mod residence;
+mod setup;
+mod store;
+
+pub use page_clock::Pick;
+pub use page_hash::PageName;
+pub use place::{Extent, PAGE_BYTES, Place, SWAP_DISK, SWAP_OBJECT, place_of};
+pub use plan::{Hold, Plan};
+pub use residence::Residence;
+pub use store::Store;

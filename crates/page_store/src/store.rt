@@ -1,0 +1,216 @@
+//! The store and what it tells.
+ghost use Rattle.std.specs.Prelude.{◌≡◌, ◌≢◌, ℕ, ◌+◌, ◌-◌, ◌<◌, ◌≤◌, ◌^◌, ◌↔◌, true, false, List, length, Option, Some, None, IsSome, IsTrue, [], ◌∷◌, ◌++◌, IfSome, IfOk, nat_lt};
+ghost use Rattle.block_device.specs.DiskSeen.{DiskSeen};
+ghost use Rattle.core_arena.specs.Bytes.{bytes_at};
+ghost use Rattle.page_clock.specs.Clock.{next_pick, stepped, place_of};
+ghost use Rattle.page_hash.specs.Names.{name_at, find};
+ghost use Rattle.page_hash.specs.declared.PageName.{PageName};
+ghost use Rattle.page_lock.specs.Rows.{row_at};
+ghost use Rattle.page_store.specs.Bays.{bay_at, home, missing};
+ghost use Rattle.page_store.specs.Fits.{Fits};
+ghost use Rattle.page_store.specs.Moves.{Moves};
+ghost use Rattle.page_store.specs.Notes.{Notes};
+ghost use Rattle.page_store.specs.Seen.{residence, IsListed};
+ghost use Rattle.page_store.specs.Steps.{next_frame, with_row};
+ghost use Rattle.page_store.specs.Table.{Table};
+ghost use Rattle.page_store.specs.Value.{value};
+ghost use Rattle.page_store.specs.Waits.{Waits, page_of, Chooses, IsVictim};
+
+use crate::bays::Bays;
+use crate::order::Order;
+use crate::plan::{Hold, Plan};
+use crate::residence::Residence;
+use block_device::Disk;
+use core_arena::Core;
+use page_clock::{Clock, Pick};
+use page_hash::{PageHash, PageName};
+use page_lists::PageLists;
+use page_lock::PageLocks;
+use std::marker::Model;
+
+/// Pages by name, in frames, in flight or on disks.
+#[derive(Drop)]
+pub struct Store<D: Disk> {
+    pub(crate) frames: u32,
+    pub(crate) hand: u32,
+    pub(crate) core: Core,
+    pub(crate) names: PageHash,
+    pub(crate) lists: PageLists,
+    pub(crate) locks: PageLocks,
+    pub(crate) clock: Clock,
+    pub(crate) bays: Bays<D>,
+    pub(crate) order: Order<D>,
+}
+
+impl<D: Disk> Model for Store<D> {
+    ghost use Rattle.page_store.specs.Seen.{StoreSeen, store_of, IsWhole};
+
+    ghost Value = { StoreSeen };
+
+    ghost view = { λ s. store_of s.core s.names s.lists s.locks s.clock s.bays s.order };
+
+    ghost invariant = { λ s. IsWhole s.frames s.hand s.core s.names s.lists s.locks s.clock s.bays s.order };
+}
+
+impl<D: Disk> Store<D> {
+    /// Where a page is. Constant expected time.
+    pub fn resident(&self, name: PageName) -> Residence
+        ensures { result ≡ residence self.now name }
+    {
+        match self.names.find(name) {
+            None => Residence::Absent,
+            Some(frame) => {
+                if self.core.is_home(frame) {
+                    Residence::Home(frame)
+                } else {
+                    match self.locks.holder(frame) {
+                        Some(seat) => Residence::Moving(seat),
+                        None => Residence::Absent,
+                    }
+                }
+            }
+        }
+    }
+
+    /// Whether a frame can be taken, from the free list or the cache list.
+    pub fn available(&self) -> bool
+        ensures { IsTrue result ↔ IsSome (next_frame self.now) }
+    {
+        self.lists.is_available()
+    }
+
+    /// The 4096 bytes of a page that is home. Constant expected time.
+    pub fn bytes(&self, name: PageName) -> &[u8]
+        requires { (frame : ℕ) × (residence self.now name ≡ Residence.Home frame) }
+        ensures size { length result.now ≡ 4096 }
+        ensures value { (notes : Notes) (table : Table) → result.now ≡ value self.now notes table name }
+    {
+        match self.names.find(name) {
+            None => unreachable!(),
+            Some(frame) => self.core.bytes(frame),
+        }
+    }
+
+    /// The name that a frame holds, if it holds one.
+    pub fn name_of(&self, frame: u32) -> Option<PageName>
+        requires { frame < length self.now.frames }
+        ensures held { result ≡ name_at self.now.names frame }
+        ensures leads_here { IfSome result (λ name. find self.now.names name ≡ Some frame) }
+    {
+        self.names.name_of(frame)
+    }
+
+    /// Whether a frame is on the free list or the cache list.
+    pub fn listed(&self, frame: u32) -> bool
+        requires { frame < length self.now.frames }
+        ensures { IsTrue result ↔ IsListed self.now frame }
+    {
+        self.lists.listed(frame)
+    }
+
+    /// The seat that holds a frame's lock; None exactly where nobody does.
+    pub fn holder(&self, frame: u32) -> Option<u32>
+        requires { frame < length self.now.frames }
+        ensures { result ≡ (row_at self.now.rows frame).holder }
+    {
+        self.locks.holder(frame)
+    }
+
+    /// Keeps a frame from being taken for another use, once more.
+    pub fn keep(&mut self, frame: u32)
+        requires frame { frame < length self.old.frames }
+        requires room { (row_at self.old.rows frame).keeps < 2 ^ 32 - 1 }
+        ensures step { self.new ≡ with_row self.old frame (record (row_at self.old.rows frame) { keeps = (row_at self.old.rows frame).keeps + 1 }) }
+        ensures moves { (notes : Notes) (table : Table) → Fits self.old notes table → Moves self.old notes self.new notes table }
+    {
+        self.locks.keep(frame);
+    }
+
+    /// Undoes one `keep`.
+    pub fn unkeep(&mut self, frame: u32)
+        requires frame { frame < length self.old.frames }
+        requires kept { 0 < (row_at self.old.rows frame).keeps }
+        ensures step { self.new ≡ with_row self.old frame (record (row_at self.old.rows frame) { keeps = (row_at self.old.rows frame).keeps - 1 }) }
+        ensures moves { (notes : Notes) (table : Table) → Fits self.old notes table → Moves self.old notes self.new notes table }
+    {
+        self.locks.unkeep(frame);
+    }
+
+    /// Whether a frame is referenced, and whether it is modified.
+    pub fn bits(&self, frame: u32) -> (bool, bool)
+        requires { frame < length self.now.frames }
+        ensures referenced { result.0 ≡ (row_at self.now.rows frame).referenced }
+        ensures modified { result.1 ≡ (row_at self.now.rows frame).modified }
+    {
+        self.locks.bits(frame)
+    }
+
+    /// Sets both bits of a frame to these.
+    pub fn set_bits(&mut self, frame: u32, referenced: bool, modified: bool)
+        requires { frame < length self.old.frames }
+        ensures step { self.new ≡ with_row self.old frame (record (row_at self.old.rows frame) { referenced = referenced; modified = modified }) }
+        ensures moves { (notes : Notes) (table : Table) → Fits self.old notes table → Moves self.old notes self.new notes table }
+    {
+        self.locks.set_bits(frame, referenced, modified);
+    }
+
+    /// The next hand of the clock and its frame, as `Clock::step`.
+    pub fn clock_turn(&mut self) -> Pick
+        ensures pick { result ≡ next_pick self.old.clock }
+        ensures within { place_of result < length self.old.frames }
+        ensures step { self.new ≡ record self.old { clock = stepped self.old.clock } }
+        ensures moves { (notes : Notes) (table : Table) → Fits self.old notes table → Moves self.old notes self.new notes table }
+    {
+        self.clock.step()
+    }
+
+    /// What a plan waits for, if it does: the seat that holds the page's lock, or the seat that has the disk.
+    pub fn ready(&self, plan: &Plan, disk: u32) -> Option<Hold>
+        requires { bay_at self.now.bays disk ≢ missing }
+        ensures { Waits self.now (page_of plan.now) disk result }
+    {
+        let name = match *plan {
+            Plan::Read(name) => name,
+            Plan::Push(name) => name,
+        };
+        if let Some(frame) = self.names.find(name) {
+            if let Some(seat) = self.locks.holder(frame) {
+                return Some(Hold::Page(seat));
+            }
+        }
+        self.bays.holder(disk).map(Hold::Disk)
+    }
+
+    /// A page whose frame can be had once the page was pushed or released; None where there is none.
+    ///
+    /// It looks at the frames in order, from the one behind the last frame that was taken on, so that successive searches
+    /// go round the frames.
+    pub fn victim(&self) -> Option<PageName>
+        ensures { Chooses self.now result }
+    {
+        match self.victim_in(self.hand, self.frames) {
+            Some(name) => Some(name),
+            None => self.victim_in(0, self.hand),
+        }
+    }
+
+    fn victim_in(&self, from: u32, to: u32) -> Option<PageName>
+        requires { to ≤ length self.now.frames }
+        ensures some { IfSome result (λ name. Chooses self.now (Some name)) }
+        ensures none { result ≡ None → (frame : ℕ) → from ≤ frame → frame < to → IsVictim self.now frame → ⊥ }
+    {
+        for frame in from..to {
+            if self.is_victim(frame) {
+                return self.names.name_of(frame);
+            }
+        }
+        None
+    }
+
+    fn is_victim(&self, frame: u32) -> bool
+        requires { frame < length self.now.frames }
+        ensures { IsTrue result ↔ IsVictim self.now frame }
+    {
+        self.core.is_home(frame) && !self.lists.listed(frame) && !self.locks.kept(frame)
+    }
+}
