@@ -1,5 +1,5 @@
 -- Pages of bytes, one more at a time.
-use Rattle.std.proofs.Common.{◌≡◌, ℕ, zero, suc, ◌+◌, List, [], ◌∷◌, ◌++◌, map, refl, sym, ap, ◌∙◌, arith}
+use Rattle.std.proofs.Common.{◌≡◌, ℕ, zero, suc, ◌+◌, List, [], ◌∷◌, ◌++◌, map, refl, ap, ◌∙◌, arith}
 use Rattle.std.specs.Prelude.{◌*◌, take, drop}
 use Rattle.std.proofs.lemmas.List.{drop-drop}
 use Rattle.flat_model.specs.Flat.{File, Flat}

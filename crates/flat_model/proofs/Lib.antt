@@ -16,3 +16,6 @@ pub mod WellFormed
 pub mod Trees
 pub mod Steps
 pub mod Cuts
+pub mod Slots
+pub mod Assembled
+pub mod Protects

@@ -1,12 +1,13 @@
--- The trees of the slow form, as finite maps: their entries in order, a key that goes, and keys that stay.
-use Rattle.std.proofs.Common.{◌≡◌, ℕ, Bool, true, false, cond, not, ◌&&◌, ◌||◌, T, List, [], ◌∷◌, map, Option, Some, None, refl, sym, ap, subst, ◌∙◌, Less, Equal, arith}
-use Rattle.std.specs.Prelude.{◌==◌, option_map, filter, is_some, length, slice_set, slice_index_or, ◌<◌, ◌≤◌, zero, suc}
+-- The trees of the slow form, as finite maps: their entries in order, a copy, a key that goes, and keys that stay.
+use Rattle.std.proofs.Common.{◌≡◌, ℕ, Bool, true, false, cond, ◌&&◌, ◌||◌, T, List, [], ◌∷◌, map, Option, Some, None, refl, sym, ap, subst, ◌∙◌, Less, arith}
+use Rattle.std.specs.Prelude.{Vec, vec_len, slice_get, ◌==◌, ◌+◌, sum_by, option_map, filter, is_some, length, slice_set, slice_index_or, ◌<◌, ◌≤◌, zero, suc}
 use Rattle.std.specs.FinSet as set
 use Rattle.flat_model.specs.Access.{changed_at}
 use Rattle.std.specs.Option.{option_map_or}
-use Rattle.std.specs.List.{AllByRecursion, list_any}
+use Rattle.std.specs.List.{AllZip, AllByRecursion, each_same, list_any}
+use Rattle.std.specs.declared.alloc.Global.{Global}
 use Rattle.std.specs.List.Sorted.{IsStrictlySortedBy}
-use Rattle.std.specs.Ordering.{nat_cmp, is_eq, is_lt, eq_by_cmp}
+use Rattle.std.specs.Ordering.{nat_cmp, is_lt, eq_by_cmp}
 use Rattle.std.specs.Cmp.{nat_cmp_total, eq_by_cmp_equiv, unsigned_tied}
 use Rattle.std.specs.Map.{keys_of, values_of, lookup}
 use Rattle.std.specs.BTreeMap.{is_at}
@@ -14,11 +15,12 @@ use Rattle.std.specs.FinMap as finite
 use Rattle.std.specs.FinMap.{is_sorted}
 use Rattle.std.specs.FinMap.Entries.{below_all}
 use Rattle.std.proofs.lemmas.Bool.{eqb-true}
+use Rattle.std.proofs.lemmas.List.Sums.{sum_by-cons}
 use Rattle.std.proofs.lemmas.Map.Entries.{lookup-filter-keys}
 use Rattle.vm_types.specs.declared.call.Object.{Object}
 use Rattle.vm_types.specs.declared.call.Object.TheVariants as object
 use Rattle.flat_model.specs.Words.{Page}
-use Rattle.flat_model.specs.Flat.{Cell, File, Space, Flat, zero_of}
+use Rattle.flat_model.specs.Flat.{File, Space, Flat, zero_of}
 use Rattle.flat_model.specs.Cells.{is_zero, names}
 use Rattle.flat_model.specs.Spaces.{is_named_in}
 use Rattle.flat_model.proofs.Named.{is_named-spaces}
@@ -71,6 +73,18 @@ values_mapped f es sorted = ap values_of (entries_mapped f es sorted) ∙ values
 
 pub values_plain : {X : Type 0} (es : List (ℕ × X)) → IsStrictlySortedBy nat_cmp (keys_of es) → finite.values (finite.from_entries {R = nat_cmp} es) ≡ values_of es
 values_plain es sorted = ap values_of (entries_plain es sorted)
+
+-- a copy stands for the same map
+pub mapped_clone : {X Y : Type 0} (f : X → Y) (C : ℕ → ℕ → Type 0) (D : X → X → Type 0) → ((x y : ℕ) → C x y → y ≡ x) → ((v w : X) → D v w → f w ≡ f v) → (es fs : List (ℕ × X)) → AllZip (λ p q. C p.0 q.0 × D p.1 q.1) es fs → each f fs ≡ each f es
+mapped_clone f C D same alike [] [] h = refl
+mapped_clone f C D same alike [] (g ∷ fs) h = absurd h
+mapped_clone f C D same alike (e ∷ es) [] h = absurd h
+mapped_clone {Y = Y} f C D same alike (e ∷ es) (g ∷ fs) h =
+    let key = same e.0 g.0 h.0.0 in
+    let value = alike e.1 g.1 h.0.1 in
+    let rest = mapped_clone f C D same alike es fs h.1 in
+    let first : ◌≡◌ {A = ℕ × Y} (g.0, f g.1) (e.0, f e.1) = λ i. (key i, value i) in
+    λ i. first i ∷ rest i
 
 -- a key that goes
 pub mapped_remove : {X Y : Type 0} (f : X → Y) (es fs : List (ℕ × X)) (k : ℕ) → ((q : ℕ) → lookup (is_at (nat_cmp q)) fs ≡ cond (is_at (nat_cmp k) q) None (lookup (is_at (nat_cmp q)) es)) → finite.from_entries {R = nat_cmp} (map (λ e. (e.0, f e.1)) fs) ≡ finite.remove (finite.from_entries (map (λ e. (e.0, f e.1)) es)) k
@@ -137,7 +151,7 @@ any_key : {X : Type 0} (es : List (ℕ × X)) (q : ℕ) → list_any (eq_by_cmp 
 any_key [] q = refl
 any_key (e ∷ es) q = ap (λ b. eq_by_cmp nat_cmp q e.0 || b) (any_key es q) ∙ sym (some_of (eq_by_cmp nat_cmp q e.0) e.1 (lookup (is_at (nat_cmp q)) es))
 
-has_key : {X : Type 0} (es : List (ℕ × X)) (q : ℕ) → set.contains (set.from_list {R = nat_cmp} (keys_of es)) q ≡ is_some (lookup (is_at (nat_cmp q)) es)
+pub has_key : {X : Type 0} (es : List (ℕ × X)) (q : ℕ) → set.contains (set.from_list {R = nat_cmp} (keys_of es)) q ≡ is_some (lookup (is_at (nat_cmp q)) es)
 has_key es q = set.contains-from_list nat_cmp_total (keys_of es) q ∙ any_key es q
 
 -- the keys of a tree with one more
@@ -180,3 +194,34 @@ file_by len limit writable pages = record { len = len; limit = limit; writable =
 pub none_from_test : {X : Type 0} (o : Option X) → is_some o ≡ false → o ≡ None
 none_from_test None h = refl
 none_from_test (Some x) h = absurd cc
+
+-- a sum over f of each
+pub sum_map : {X Y : Type 0} (t : Y → ℕ) (f : X → Y) (xs : List X) → sum_by t (map f xs) ≡ sum_by (λ x. t (f x)) xs
+sum_map t f [] = refl
+sum_map t f (x ∷ xs) = sum_by-cons t (f x) (map f xs) ∙ ap (λ n. t (f x) + n) (sum_map t f xs) ∙ sym (sum_by-cons (λ x. t (f x)) x xs)
+
+pub length_map : {X Y : Type 0} (f : X → Y) (xs : List X) → length (map f xs) ≡ length xs
+length_map f [] = refl
+length_map f (x ∷ xs) = ap suc (length_map f xs)
+
+-- copies of pages have their bytes
+pub pages_alike : (ps qs : List (Vec ℕ Global)) → AllZip (λ p q. AllZip (λ a b. b ≡ a) p.items q.items × (vec_len q ≡ vec_len p)) ps qs → map (λ p. p.items) qs ≡ map (λ p. p.items) ps
+pages_alike [] [] h = refl
+pages_alike [] (q ∷ qs) h = absurd h
+pages_alike (p ∷ ps) [] h = absurd h
+pages_alike (p ∷ ps) (q ∷ qs) h =
+    let first = each_same p.items q.items h.0.0 in
+    let rest = pages_alike ps qs h.1 in
+    λ i. first i ∷ rest i
+
+-- an element that is set at its place is changed there
+pub changed_set : {X : Type 0} (g : X → X) (xs : List X) (i : ℕ) (x : X) → slice_get xs i ≡ Some x → changed_at g xs i ≡ slice_set xs i (g x)
+changed_set g [] i x is = refl
+changed_set g (y ∷ ys) zero x is = let same : y ≡ x = let both : Some y ≡ Some x = is in cc in ap (λ z. g z ∷ ys) same
+changed_set g (y ∷ ys) (suc i) x is = ap (λ zs. y ∷ zs) (changed_set g ys i x is)
+
+-- beyond its end nothing of a list is changed
+pub changed_nowhere : {X : Type 0} (g : X → X) (xs : List X) (i : ℕ) → slice_get xs i ≡ None → changed_at g xs i ≡ xs
+changed_nowhere g [] i is = refl
+changed_nowhere g (y ∷ ys) zero is = absurd (let both : Some y ≡ None = is in cc)
+changed_nowhere g (y ∷ ys) (suc i) is = ap (λ zs. y ∷ zs) (changed_nowhere g ys i is)

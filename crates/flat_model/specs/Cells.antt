@@ -1,5 +1,6 @@
 -- What the parts of the slow form stand for.
-use Rattle.std.specs.Prelude.{ℕ, ◌==◌, ◌*◌, ◌-◌, ◌++◌, replicate, Bool, false, List, map, option_map, Some, None, Vec}
+use Rattle.std.specs.Prelude.{ℕ, ◌==◌, ◌+◌, ◌*◌, ◌-◌, ◌++◌, replicate, Bool, false, List, map, option_map, Some, None, Vec}
+use Rattle.vm_types.specs.declared.prot.Prot.{Prot}
 use Rattle.vm_types.specs.declared.call.Object.{Object}
 use Rattle.vm_types.specs.declared.call.Object.TheVariants as object
 use Rattle.std.specs.Ordering.{nat_cmp}
@@ -57,3 +58,11 @@ with_own c page = record c { own = Some page }
 -- A file that has these bytes, and zeros from there to the end of its last page.
 abbrev pub opened : ℕ → ℕ → Bool → List ℕ → File
 opened len limit writable bytes = record { len = len; limit = limit; writable = writable; pages = cut (pages_in len) (bytes ++ replicate (4096 * pages_in len - len) 0) }
+
+-- The cell that shows a page so far behind the cell's.
+abbrev pub with_index : Cell → ℕ → Cell
+with_index c i = record c { index = c.index + i }
+
+-- The cell with a protection.
+abbrev pub given : Cell → Prot → Cell
+given c prot = record c { prot = prot }

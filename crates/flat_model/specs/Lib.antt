@@ -22,3 +22,4 @@ pub mod Cells
 pub mod Spaces
 pub mod State
 pub mod FlatState
+pub mod Mapped

@@ -1,10 +1,15 @@
 //! The cells of a process, as a finite map.
-ghost use Rattle.std.specs.Prelude.{◌≡◌, OnOk, OnErr, option_map};
+ghost use Rattle.std.specs.Prelude.{◌≡◌, ◌+◌, ◌<◌, ◌≤◌, ◌^◌, IfOk, IfSome, OnOk, OnErr, true, is_some, option_map, sum_by, map as list_map};
 ghost use Rattle.std.specs.List.{list_any};
 ghost use Rattle.std.specs.FinMap as map;
 ghost use Rattle.std.specs.BTreeMap.{values, IsOrdered};
 ghost use Rattle.std.specs.Ordering.{nat_cmp};
-ghost use Rattle.flat_model.specs.Cells.{cell_of, names, is_zero, without_own};
+ghost use Rattle.flat_model.specs.Flat.{slots_for, private_cells};
+ghost use Rattle.std.specs.Option.{option_map_or};
+ghost use Rattle.vm_types.specs.Prot.{is_within};
+ghost use Rattle.flat_model.specs.Space.{in_range, without, with_cells, with_prots, gap_from, lowest_gap};
+ghost use Rattle.flat_model.specs.Mapping.{is_mapped, is_allowed};
+ghost use Rattle.flat_model.specs.Cells.{cell_of, names, is_zero, without_own, with_index, given};
 
 use std::alloc::{AllocError, Global};
 use std::collections::BTreeMap;
@@ -29,6 +34,14 @@ pub struct CellState {
 #[derive(Drop)]
 pub struct Cells {
     cells: BTreeMap<u32, CellState>,
+}
+
+impl Clone for Cells {
+    ghost is_clone = { λ v w. w ≡ v };
+
+    fn clone(&self) -> Result<Cells, AllocError> {
+        self.copied()
+    }
 }
 
 impl Model for Cells {
@@ -79,11 +92,195 @@ impl Cells {
         let _cell = self.cells.remove(&page);
     }
 
+    /// The same cells once more.
+    pub fn copied(&self) -> Result<Cells, AllocError>
+        ensures { IfOk result (λ cells. cells ≡ self.now) }
+    {
+        Ok(Cells {
+            cells: self.cells.clone()?,
+        })
+    }
+
     /// Whether some cell names the zero object. Looks at each cell.
     pub fn names(&self, zero: u32) -> bool
         ensures { result ≡ list_any (names zero) (map.values self.now) }
     {
         any_names(&self.cells, zero)
+    }
+
+    /// How many cells there are.
+    pub fn len(&self) -> usize
+        ensures { result ≡ map.len self.now }
+    {
+        self.cells.len()
+    }
+
+    /// Takes the cells of so many pages from the first away. Looks at each cell.
+    pub fn take_out(&mut self, first: u32, count: u32)
+        ensures { self.new ≡ without self.old first count }
+    {
+        self.cells
+            .retain(|page, _| !is_in_range(first, count, *page));
+    }
+
+    /// Puts so many cells at the pages from the first on, of which each shows the page behind the one before.
+    pub fn put_in(&mut self, first: u32, count: u32, cell: &CellState) -> Result<(), AllocError>
+        requires pages { first + count < 2 ^ 32 }
+        requires indexes { cell.now.index + count < 2 ^ 32 }
+        ensures { OnOk result (self.new ≡ with_cells self.old first count (λ i. with_index (cell_of cell.now) i)) }
+    {
+        for i in 0..count {
+            self.insert(first + i, moved(cell, i)?)?;
+        }
+        Ok(())
+    }
+
+    // Whether the page has a cell.
+    fn has(&self, page: u32) -> bool
+        ensures { result ≡ is_some (map.get self.now page) }
+    {
+        self.cells.contains_key(&page)
+    }
+
+    // Whether the cell at the page, if there is one, may have the protection.
+    fn lets(&self, page: u32, prot: Prot) -> bool
+        ensures { result ≡ option_map_or (λ c. is_within prot c.max) (map.get self.now page) true }
+    {
+        match self.get(page) {
+            Some(cell) => prot.is_within(cell.max),
+            None => true,
+        }
+    }
+
+    /// Whether each of so many pages from the first has a cell.
+    pub fn are_mapped(&self, first: u32, count: u32) -> bool
+        requires { first + count < 2 ^ 32 }
+        ensures { result ≡ is_mapped self.now first count }
+    {
+        for i in 0..count {
+            if !self.has(first + i) {
+                return false;
+            }
+        }
+        true
+    }
+
+    /// Whether each cell at so many pages from the first may have the protection.
+    pub fn may_have(&self, first: u32, count: u32, prot: Prot) -> bool
+        requires { first + count < 2 ^ 32 }
+        ensures { result ≡ is_allowed self.now first count prot }
+    {
+        for i in 0..count {
+            if !self.lets(first + i, prot) {
+                return false;
+            }
+        }
+        true
+    }
+
+    // Gives the cell at a page this protection, if there is one.
+    fn set_prot(&mut self, page: u32, prot: Prot)
+        ensures { self.new ≡ with_prots self.old page 1 prot }
+    {
+        if !self.has(page) {
+            return;
+        }
+        let Some(cell) = self.cells.get_mut(&page) else {
+            return;
+        };
+        give(cell, prot);
+    }
+
+    /// Gives the cells at so many pages from the first this protection. Takes no memory.
+    pub fn protect(&mut self, first: u32, count: u32, prot: Prot)
+        requires { first + count < 2 ^ 32 }
+        ensures { self.new ≡ with_prots self.old first count prot }
+    {
+        for i in 0..count {
+            self.set_prot(first + i, prot);
+        }
+    }
+
+    /// The lowest page from 1 on at which so many pages are free. Looks at each cell.
+    pub fn lowest_gap(&self, count: u32) -> Option<u32>
+        ensures gap { result ≡ lowest_gap self.now count }
+        ensures ends { IfSome result (λ first. first + count < 2 ^ 32) }
+    {
+        gap(&self.cells, count)
+    }
+
+    /// How many cells are private. Looks at each cell.
+    pub fn private_cells(&self) -> usize
+        ensures { result ≡ private_cells self.now }
+    {
+        count_private(&self.cells)
+    }
+}
+
+// Gives the cell this protection.
+fn give(cell: &mut CellState, prot: Prot)
+    ensures { cell_of cell.new ≡ given (cell_of cell.old) prot }
+{
+    cell.prot = prot;
+}
+
+// Whether the page is one of so many from the first.
+fn is_in_range(first: u32, count: u32, page: u32) -> bool
+    ensures { result ≡ in_range first count page }
+{
+    first <= page && (page as u64) < first as u64 + count as u64
+}
+
+// The cell that shows a page so far behind the cell's.
+fn moved(cell: &CellState, by: u32) -> Result<CellState, AllocError>
+    requires { cell.now.index + by < 2 ^ 32 }
+    ensures { IfOk result (λ new. cell_of new ≡ with_index (cell_of cell.now) by) }
+{
+    let mut new = cell.clone()?;
+    new.index = cell.index + by;
+    Ok(new)
+}
+
+// The lowest gap between the keys of the tree.
+fn gap(cells: &BTreeMap<u32, CellState>, count: u32) -> Option<u32>
+    ensures gap { result ≡ gap_from 1 count (list_map (λ e. (e.0, cell_of e.1)) cells.now.entries) }
+    ensures ends { IfSome result (λ first. first + count < 2 ^ 32) }
+    ensures ordered { IsOrdered nat_cmp cells.now }
+{
+    let mut low: u64 = 1;
+    for (page, _) in cells.iter() {
+        if low + count as u64 <= *page as u64 {
+            return Some(low as u32);
+        }
+        low = *page as u64 + 1;
+    }
+    if low + count as u64 <= 0x80000 {
+        Some(low as u32)
+    } else {
+        None
+    }
+}
+
+// How many values of the tree are private.
+fn count_private(cells: &BTreeMap<u32, CellState>) -> usize
+    ensures count { result ≡ sum_by (λ c. slots_for (cell_of c)) (values cells.now) }
+    ensures ordered { IsOrdered nat_cmp cells.now }
+{
+    let mut count = 0;
+    for cell in cells.values() {
+        count += slots_for(cell);
+    }
+    count
+}
+
+// How many slots a cell reserves.
+fn slots_for(cell: &CellState) -> usize
+    ensures slots { result ≡ slots_for (cell_of cell.now) }
+    ensures few { result ≤ 1 }
+{
+    match cell.kind {
+        Kind::Private => 1,
+        Kind::Shared => 0,
     }
 }
 

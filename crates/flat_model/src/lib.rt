@@ -4,11 +4,16 @@
 mod cells;
 mod files;
 mod laws;
+mod map_call;
 mod pages;
 mod replies;
 mod spaces;
 mod state;
 mod state_calls;
+mod state_fork;
+mod state_map;
+mod state_parts;
+mod state_ranges;
 mod state_step;
 #[cfg(test)]
 mod state_tests;

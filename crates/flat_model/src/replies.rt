@@ -1,5 +1,5 @@
 //! Which reply is due.
-ghost use Rattle.std.specs.Prelude.{◌≡◌, ◌≤◌, ◌↔◌, IsTrue, length};
+ghost use Rattle.std.specs.Prelude.{◌≡◌, ◌≤◌, ◌*◌, ◌↔◌, IsTrue, length};
 ghost use Rattle.vm_types.specs.declared.call.Reply.TheVariants as answer;
 ghost use Rattle.vm_types.specs.Words.{IsWordSize, number_of};
 ghost use Rattle.flat_model.specs.Words.{word_at};
@@ -151,6 +151,22 @@ pub(crate) fn is_due(reply: &Reply, may_fail: bool, due: &Reply) -> bool
         Reply::Synced(_) => is_synced(due),
         Reply::Signal(signal) => is_signal(due, *signal),
         Reply::Refused(errno) => is_refused(due, *errno),
+    }
+}
+
+/// Whether a reply is the one that is due to a Map whose mapping begins at this page.
+pub(crate) fn is_due_mapping(reply: &Reply, first: u32) -> bool
+    ensures { IsTrue result ↔ IsDueReply reply.now ⊥ (answer.Mapped (4096 * first)) }
+{
+    match *reply {
+        Reply::Mapped(addr) => addr as u64 == 4096 * first as u64,
+        Reply::Done
+        | Reply::Word(_)
+        | Reply::Bytes(_)
+        | Reply::Synced(_)
+        | Reply::Signal(_)
+        | Reply::Refused(_)
+        | Reply::Io { .. } => false,
     }
 }
 

@@ -1,17 +1,21 @@
 //! The spaces of the processes.
-ghost use Rattle.std.specs.Prelude.{◌≡◌, IfOk, OnOk, OnErr, IsSome, is_some, option_map};
+ghost use Rattle.std.specs.Prelude.{◌≡◌, ◌+◌, ◌<◌, ◌^◌, IfOk, OnOk, OnErr, IsSome, is_some, option_map, sum_by, unwrap_or};
 ghost use Rattle.std.specs.List.{list_any};
 ghost use Rattle.std.specs.BTreeMap.{values, IsOrdered};
 ghost use Rattle.std.specs.Ordering.{nat_cmp};
 ghost use Rattle.std.specs.FinMap as map;
-ghost use Rattle.flat_model.specs.Cells.{cell_of, names};
-ghost use Rattle.flat_model.specs.Spaces.{is_named_in};
-ghost use Rattle.flat_model.specs.Spaces.{cell_in, with_cell_in};
+ghost use Rattle.flat_model.specs.Flat.{private_cells};
+ghost use Rattle.flat_model.specs.Cells.{cell_of, names, with_index};
+ghost use Rattle.flat_model.specs.Space.{without, with_cells, with_prots};
+ghost use Rattle.flat_model.specs.Spaces.{cell_in, with_cell_in, is_named_in};
+ghost use Rattle.flat_model.specs.Mapped.{new_number_in, left_of};
 
 use crate::cells::{CellState, Cells};
+use crate::zeros::less;
 use std::alloc::{AllocError, Global};
 use std::collections::BTreeMap;
 use std::marker::Model;
+use vm_types::Prot;
 
 /// The spaces of the processes that are alive.
 #[derive(Drop)]
@@ -115,6 +119,88 @@ impl Spaces {
         let _cells = self.spaces.remove(&process);
     }
 
+    /// The same spaces once more.
+    pub(crate) fn copied(&self) -> Result<Spaces, AllocError>
+        ensures { IfOk result (λ spaces. spaces ≡ self.now) }
+    {
+        Ok(Spaces {
+            spaces: self.spaces.clone()?,
+        })
+    }
+
+    /// Takes the cells of so many pages from the first away from a process that is alive. Takes no memory.
+    pub(crate) fn take_out(&mut self, process: u32, first: u32, count: u32)
+        requires { IsSome (map.get self.old process) }
+        ensures { self.new ≡ map.insert self.old process (without (unwrap_or (map.get self.old process) map.empty) first count) }
+    {
+        let Some(space) = self.spaces.get_mut(&process) else {
+            return;
+        };
+        space.take_out(first, count);
+    }
+
+    /// Puts so many cells at the pages from the first on of a process that is alive, of which each shows the page
+    /// behind the one before.
+    pub(crate) fn put_in(
+        &mut self,
+        process: u32,
+        first: u32,
+        count: u32,
+        cell: &CellState,
+    ) -> Result<(), AllocError>
+        requires alive { IsSome (map.get self.old process) }
+        requires pages { first + count < 2 ^ 32 }
+        requires indexes { cell.now.index + count < 2 ^ 32 }
+        ensures { OnOk result (self.new ≡ map.insert self.old process (with_cells (unwrap_or (map.get self.old process) map.empty) first count (λ i. with_index (cell_of cell.now) i))) }
+    {
+        let Some(space) = self.spaces.get_mut(&process) else {
+            return Ok(());
+        };
+        space.put_in(first, count, cell)?;
+        Ok(())
+    }
+
+    /// The cells of a process once more, none for one that isn't alive.
+    pub(crate) fn cells_of(&self, alloc: Global, process: u32) -> Result<Cells, AllocError>
+        ensures { IfOk result (λ cells. cells ≡ unwrap_or (map.get self.now process) map.empty) }
+    {
+        match self.get(process) {
+            Some(cells) => cells.copied(),
+            None => Ok(Cells::new(alloc)),
+        }
+    }
+
+    /// Gives the cells at so many pages of a process that is alive this protection. Takes no memory.
+    pub(crate) fn protect(&mut self, process: u32, first: u32, count: u32, prot: Prot)
+        requires alive { IsSome (map.get self.old process) }
+        requires pages { first + count < 2 ^ 32 }
+        ensures { self.new ≡ map.insert self.old process (with_prots (unwrap_or (map.get self.old process) map.empty) first count prot) }
+    {
+        let Some(space) = self.spaces.get_mut(&process) else {
+            return;
+        };
+        space.protect(first, count, prot);
+    }
+
+    /// So many slots without one for each private cell, where there are enough. Looks at each cell.
+    pub(crate) fn slots_left(&self, slots: u32) -> Option<u32>
+        ensures { result ≡ left_of slots (sum_by private_cells (map.values self.now)) }
+    {
+        slots_left(&self.spaces, slots)
+    }
+
+    /// The least number that no cell names. Err where no number below 2^32 - 1 is left.
+    pub(crate) fn new_number(&self) -> Result<u32, AllocError>
+        ensures { IfOk result (λ number. number ≡ new_number_in self.now) }
+    {
+        for number in 0..u32::MAX {
+            if !self.names(number) {
+                return Ok(number);
+            }
+        }
+        Err(AllocError)
+    }
+
     /// Whether some cell of some process names the zero object. Looks at each cell.
     pub fn names(&self, zero: u32) -> bool
         ensures { result ≡ is_named_in self.now zero }
@@ -129,4 +215,16 @@ fn any_space_names(spaces: &BTreeMap<u32, Cells>, zero: u32) -> bool
     ensures ordered { IsOrdered nat_cmp spaces.now }
 {
     spaces.values().any(|cells| cells.names(zero))
+}
+
+// So many slots without one for each private cell of some value of the tree, where there are enough.
+fn slots_left(spaces: &BTreeMap<u32, Cells>, slots: u32) -> Option<u32>
+    ensures left { result ≡ left_of slots (sum_by private_cells (values spaces.now)) }
+    ensures ordered { IsOrdered nat_cmp spaces.now }
+{
+    let mut left = slots;
+    for cells in spaces.values() {
+        left = less(left, cells.private_cells())?;
+    }
+    Some(left)
 }

@@ -4,7 +4,8 @@ ghost use Rattle.std.specs.FinMap as finite;
 ghost use Rattle.std.specs.FinSet as set;
 ghost use Rattle.vm_types.specs.Words.{IsWordSize, FitsWord};
 ghost use Rattle.vm_types.specs.Prot.{can_read, can_write};
-ghost use Rattle.flat_model.specs.Flat.{swept};
+ghost use Rattle.flat_model.specs.Flat.{swept, space_of};
+ghost use Rattle.flat_model.specs.Mapping.{unmapped};
 ghost use Rattle.flat_model.specs.Access.{met, load, store, with_page, written};
 ghost use Rattle.flat_model.specs.Cells.{cell_of, with_own, opened};
 ghost use Rattle.flat_model.specs.Processes.{exited};
@@ -57,6 +58,16 @@ impl FlatState {
         ensures { self.new ≡ exited self.old process }
     {
         self.spaces.remove(process);
+        keep_named(&mut self.zeros, &self.spaces);
+    }
+
+    /// Takes the cells of so many pages away from a process that is alive, and the zero objects that no cell names any
+    /// more. Takes no memory.
+    pub(crate) fn unmap(&mut self, process: u32, first: u32, count: u32)
+        requires { IsSome (space_of self.old process) }
+        ensures { self.new ≡ unmapped self.old process first count }
+    {
+        self.spaces.take_out(process, first, count);
         keep_named(&mut self.zeros, &self.spaces);
     }
 

@@ -1,4 +1,4 @@
-use Rattle.std.proofs.Common.{rules, sym, ap, inl, inr, length, arith}
+use Rattle.std.proofs.Common.{rules, sym, ap, inl, inr, length}
 use Rattle.std.proofs.lemmas.Bool.{cases_lt}
 use Rattle.flat_model.specs.Access.{file_with_page}
 use Rattle.flat_model.specs.Cells.{file_of}

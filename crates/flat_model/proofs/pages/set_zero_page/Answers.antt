@@ -1,4 +1,4 @@
-use Rattle.std.proofs.Common.{rules, map, ◌∙◌, ap, sym, Some, None, true, []}
+use Rattle.std.proofs.Common.{rules, map, ◌∙◌, ap, sym, []}
 use Rattle.std.specs.Prelude.{is_some, unwrap_or, option_map, slice_set}
 use Rattle.std.specs.Ordering.{nat_cmp}
 use Rattle.std.specs.Map.{lookup}

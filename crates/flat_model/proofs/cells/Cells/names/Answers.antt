@@ -2,7 +2,7 @@ use Rattle.std.proofs.Common.{◌∙◌, ap, sym}
 use Rattle.std.specs.List.{list_any}
 use Rattle.std.specs.Map.{values_of}
 use Rattle.std.specs.FinMap as map
-use Rattle.flat_model.specs.Cells.{cell_of, names, is_zero}
+use Rattle.flat_model.specs.Cells.{cell_of, names}
 use Rattle.flat_model.proofs.Trees.{values_mapped, any_map}
 use Rattle.flat_model.proofs.cells.Cells.names.Goals as goal
 

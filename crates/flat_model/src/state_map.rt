@@ -1,0 +1,263 @@
+//! What a Map does to the slow form.
+ghost use Rattle.std.specs.Prelude.{◌≡◌, ◌+◌, ◌<◌, ◌≤◌, ◌^◌, IfOk, IsSome, nat_le, option_map, unwrap_or};
+ghost use Rattle.std.specs.FinMap as finite;
+ghost use Rattle.std.specs.Result.{result_map_both};
+ghost use Rattle.vm_types.specs.declared.call.Kind.TheVariants as kind;
+ghost use Rattle.vm_types.specs.declared.call.Object.TheVariants as object;
+ghost use Rattle.flat_model.specs.Words.{pages_in};
+ghost use Rattle.flat_model.specs.Flat.{space_of};
+ghost use Rattle.flat_model.specs.Mapping.{cells_of, is_there, max_of, read_write, cleared_for, own_for, mapped_at, mapped};
+ghost use Rattle.flat_model.specs.Cells.{cell_of, zeros_in};
+ghost use Rattle.flat_model.specs.Mapped.{request_of, asked, placed_in, made_in, object_with, first_cell, with_parts, reserved_by};
+
+use crate::cells::{CellState, Cells};
+use crate::files::pages_in;
+use crate::map_call::MapCall;
+use crate::spaces::Spaces;
+use crate::state::FlatState;
+use crate::zeros::{keep_named, slots_left, with_made, zero_page};
+use bitflags::Flags;
+use std::alloc::{AllocError, Global};
+use std::collections::BTreeMap;
+use vm_types::{Errno, Kind, Object, Place, Prot};
+
+impl FlatState {
+    // Whether there is such a file or zero object; new zero memory can always be asked for.
+    fn is_there(&self, object: Object) -> bool
+        ensures { result ≡ is_there self.now object }
+    {
+        match object {
+            Object::File(file) => (file as usize) < self.files.len(),
+            Object::Zero(zero) => self.zeros.contains_key(&zero),
+            Object::NewZero => true,
+        }
+    }
+
+    // The most that may be done with a shared mapping of a file.
+    fn max_of_file(&self, file: u32) -> Prot
+        ensures { result ≡ max_of self.now kind.Shared (object.File file) }
+    {
+        match self.files.get(file as usize) {
+            Some(file) => {
+                if file.writable {
+                    read_write()
+                } else {
+                    Prot::READ
+                }
+            }
+            None => read_write(),
+        }
+    }
+
+    // The most that may be done with a mapping of an object.
+    fn max_of(&self, kind: Kind, object: Object) -> Prot
+        ensures { result ≡ max_of self.now kind object }
+    {
+        match kind {
+            Kind::Private => read_write(),
+            Kind::Shared => match object {
+                Object::File(file) => self.max_of_file(file),
+                Object::Zero(_) | Object::NewZero => read_write(),
+            },
+        }
+    }
+
+    // The refusals that come before any cell is looked at, in their order.
+    fn asked(&self, map: &MapCall) -> Result<(), Errno>
+        ensures { result ≡ asked self.now (request_of map.now) }
+    {
+        if !map.is_valid() {
+            return Err(Errno::Invalid);
+        }
+        if !self.is_there(map.object) {
+            return Err(Errno::NoObject);
+        }
+        if !map.prot.is_within(self.max_of(map.kind, map.object)) {
+            return Err(Errno::Access);
+        }
+        Ok(())
+    }
+
+    // The spaces without the cells that a mapping replaces.
+    fn cleared(&self, process: u32, place: Place, count: u32) -> Result<Spaces, AllocError>
+        requires alive { IsSome (space_of self.now process) }
+        ensures { IfOk result (λ spaces. spaces ≡ (cleared_for self.now process place count).spaces) }
+    {
+        let mut spaces = self.spaces.copied()?;
+        let Place::At(addr) = place else {
+            return Ok(spaces);
+        };
+        spaces.take_out(process, addr / 4096, count);
+        Ok(spaces)
+    }
+
+    // The cell of a mapping at its first page.
+    fn first_cell(
+        &self,
+        alloc: Global,
+        map: &MapCall,
+        made: Option<u32>,
+    ) -> Result<CellState, AllocError>
+        ensures cell { IfOk result (λ cell. cell_of cell ≡ first_cell self.now (request_of map.now) made) }
+        ensures index { IfOk result (λ cell. cell.index < 2 ^ 20) }
+    {
+        Ok(CellState {
+            prot: map.prot,
+            max: self.max_of(map.kind, map.object),
+            kind: map.kind,
+            object: object_with(made, map.object),
+            index: map.offset / 4096,
+            own: own_for(alloc, map.kind, map.object)?,
+        })
+    }
+
+    // The mapping of a Map whose range is free in these spaces from this page on.
+    fn mapped_at(
+        &self,
+        alloc: Global,
+        process: u32,
+        map: &MapCall,
+        cleared: Spaces,
+        first: u32,
+    ) -> Result<Mapping, AllocError>
+        requires cleared { cleared ≡ (cleared_for self.now process map.now.place (pages_in map.now.length)).spaces }
+        requires alive { IsSome (finite.get cleared process) }
+        requires ends { first + pages_in map.now.length < 2 ^ 32 }
+        ensures first { IfOk result (λ m. m.first ≡ first) }
+        ensures flat { IfOk result (λ m. with_parts self.now m.spaces (zeros_in m.zeros) ≡ mapped_at self.now process (request_of map.now) first) }
+    {
+        let mut spaces = cleared;
+        let count = pages_in(map.length);
+        let made = made(&spaces, map.kind, map.object)?;
+        let cell = self.first_cell(alloc, map, made)?;
+        let mut zeros = with_made(&self.zeros, alloc, made, count)?;
+        spaces.put_in(process, first, count, &cell)?;
+        keep_named(&mut zeros, &spaces);
+        Ok(Mapping {
+            first,
+            spaces,
+            zeros,
+        })
+    }
+
+    /// What a Map gives, or the first refusal that is due.
+    pub(crate) fn mapped(
+        &self,
+        alloc: Global,
+        process: u32,
+        map: &MapCall,
+    ) -> Result<Result<Mapping, Errno>, AllocError>
+        requires alive { IsSome (space_of self.now process) }
+        ensures { IfOk result (λ r. result_map_both (λ m. (m.first, with_parts self.now m.spaces (zeros_in m.zeros))) (λ e. e) r ≡ mapped self.now process (request_of map.now)) }
+    {
+        if let Err(errno) = self.asked(map) {
+            return Ok(Err(errno));
+        }
+        let count = pages_in(map.length);
+        let spaces = self.cleared(process, map.place, count)?;
+        let first = match placed(&spaces, process, map.place, count) {
+            Ok(first) => first,
+            Err(errno) => return Ok(Err(errno)),
+        };
+        let mapping = self.mapped_at(alloc, process, map, spaces, first)?;
+        if mapping.is_backed(self.slots) {
+            Ok(Ok(mapping))
+        } else {
+            Ok(Err(Errno::NoSwap))
+        }
+    }
+}
+
+/// A mapping as it would be: its first page, and the spaces and the zero objects with it.
+#[derive(Drop)]
+pub(crate) struct Mapping {
+    pub first: u32,
+    pub spaces: Spaces,
+    pub zeros: BTreeMap<u32, Vec<Vec<u8>>>,
+}
+
+impl Mapping {
+    // Whether there are slots for all that is reserved with it.
+    fn is_backed(&self, slots: u32) -> bool
+        ensures { result ≡ nat_le (reserved_by self.now.spaces (zeros_in self.now.zeros)) slots }
+    {
+        match self.spaces.slots_left(slots) {
+            Some(left) => slots_left(&self.zeros, left).is_some(),
+            None => false,
+        }
+    }
+}
+
+// Reading and writing.
+fn read_write() -> Prot
+    ensures { result ≡ read_write }
+{
+    Prot::READ.union(Prot::WRITE)
+}
+
+// The number of the zero object that a mapping makes beside these spaces, if it makes one.
+fn made(spaces: &Spaces, kind: Kind, object: Object) -> Result<Option<u32>, AllocError>
+    ensures { IfOk result (λ made. made ≡ made_in spaces.now kind object) }
+{
+    match kind {
+        Kind::Private => Ok(None),
+        Kind::Shared => match object {
+            Object::NewZero => Ok(Some(spaces.new_number()?)),
+            Object::File(_) | Object::Zero(_) => Ok(None),
+        },
+    }
+}
+
+// The zero object that was made, or else the object asked for.
+fn object_with(made: Option<u32>, object: Object) -> Object
+    ensures { result ≡ object_with made object }
+{
+    match made {
+        Some(zero) => Object::Zero(zero),
+        None => object,
+    }
+}
+
+// The own page of the cells of a new mapping: of private new zero memory a page of zeros, else none.
+fn own_for(alloc: Global, kind: Kind, object: Object) -> Result<Option<Vec<u8>>, AllocError>
+    ensures { IfOk result (λ own. option_map (λ p. p.items) own ≡ own_for kind object) }
+{
+    match kind {
+        Kind::Shared => Ok(None),
+        Kind::Private => match object {
+            Object::NewZero => Ok(Some(zero_page(alloc)?)),
+            Object::File(_) | Object::Zero(_) => Ok(None),
+        },
+    }
+}
+
+// The first of so many pages that a mapping takes among cells whose range is free, or the refusal.
+fn placed_in(cells: &Cells, place: Place, count: u32) -> Result<u32, Errno>
+    requires { count ≤ 2 ^ 20 }
+    ensures placed { result ≡ placed_in cells.now place count }
+    ensures ends { IfOk result (λ first. first + count < 2 ^ 32) }
+{
+    if cells.len() > 65536 || cells.len() + count as usize > 65536 {
+        return Err(Errno::TooLarge);
+    }
+    match place {
+        Place::At(addr) => Ok(addr / 4096),
+        Place::Any => match cells.lowest_gap(count) {
+            Some(first) => Ok(first),
+            None => Err(Errno::NoRoom),
+        },
+    }
+}
+
+// The first of so many pages that a mapping takes in a process that is alive and whose range is free, or the refusal.
+fn placed(spaces: &Spaces, process: u32, place: Place, count: u32) -> Result<u32, Errno>
+    requires alive { IsSome (finite.get spaces.now process) }
+    requires count { count ≤ 2 ^ 20 }
+    ensures placed { result ≡ placed_in (unwrap_or (finite.get spaces.now process) finite.empty) place count }
+    ensures ends { IfOk result (λ first. first + count < 2 ^ 32) }
+{
+    match spaces.get(process) {
+        Some(cells) => placed_in(cells, place, count),
+        None => Err(Errno::NoRoom),
+    }
+}

@@ -1,0 +1,83 @@
+//! What Protect and Sync do to the slow form.
+ghost use Rattle.std.specs.Prelude.{◌≡◌, ◌+◌, ◌<◌, ◌^◌, IfOk, IsSome, unwrap_or};
+ghost use Rattle.std.specs.FinMap as finite;
+ghost use Rattle.flat_model.specs.Flat.{space_of};
+ghost use Rattle.flat_model.specs.Access.{with_space};
+ghost use Rattle.flat_model.specs.Space.{with_prots};
+ghost use Rattle.flat_model.specs.Words.{page, pages_in};
+ghost use Rattle.flat_model.specs.Mapping.{cells_of, is_mapped, is_allowed, ranged};
+ghost use Rattle.flat_model.specs.FlatState.{protected};
+
+use crate::files::pages_in;
+use crate::map_call::is_range;
+use crate::spaces::Spaces;
+use crate::state::FlatState;
+use vm_types::{Errno, Prot};
+
+impl FlatState {
+    /// Whether a range may be spoken of: it is valid, and each page of it has a cell.
+    #[tactic(auto, unfolding(crate::specs::Mapping::ranged))]
+    pub(crate) fn ranged(&self, process: u32, addr: u32, length: u32) -> Result<(), Errno>
+        requires { IsSome (space_of self.now process) }
+        ensures { result ≡ ranged self.now process addr length }
+    {
+        if !is_range(addr, length) {
+            return Err(Errno::Invalid);
+        }
+        if !are_mapped(&self.spaces, process, addr / 4096, pages_in(length)) {
+            return Err(Errno::NotMapped);
+        }
+        Ok(())
+    }
+
+    /// The first refusal that is due to a Protect, if one is.
+    pub(crate) fn protected(
+        &self,
+        process: u32,
+        addr: u32,
+        length: u32,
+        prot: Prot,
+    ) -> Result<(), Errno>
+        requires { IsSome (space_of self.now process) }
+        ensures { result ≡ protected self.now process addr length prot }
+    {
+        self.ranged(process, addr, length)?;
+        if !may_have(&self.spaces, process, addr / 4096, pages_in(length), prot) {
+            return Err(Errno::Access);
+        }
+        Ok(())
+    }
+
+    /// Gives the cells at so many pages of a process that is alive this protection. Takes no memory.
+    pub(crate) fn protect(&mut self, process: u32, first: u32, count: u32, prot: Prot)
+        requires alive { IsSome (space_of self.old process) }
+        requires pages { first + count < 2 ^ 32 }
+        ensures { self.new ≡ with_space self.old process (with_prots (cells_of self.old process) first count prot) }
+    {
+        self.spaces.protect(process, first, count, prot);
+    }
+}
+
+// Whether each of so many pages of a process that is alive has a cell.
+fn are_mapped(spaces: &Spaces, process: u32, first: u32, count: u32) -> bool
+    requires alive { IsSome (finite.get spaces.now process) }
+    requires pages { first + count < 2 ^ 32 }
+    ensures { result ≡ is_mapped (unwrap_or (finite.get spaces.now process) finite.empty) first count }
+{
+    match spaces.get(process) {
+        Some(cells) => cells.are_mapped(first, count),
+        None => false,
+    }
+}
+
+// Whether each cell at so many pages of a process that is alive may have the protection.
+fn may_have(spaces: &Spaces, process: u32, first: u32, count: u32, prot: Prot) -> bool
+    requires alive { IsSome (finite.get spaces.now process) }
+    requires pages { first + count < 2 ^ 32 }
+    ensures { result ≡ is_allowed (unwrap_or (finite.get spaces.now process) finite.empty) first count prot }
+{
+    match spaces.get(process) {
+        Some(cells) => cells.may_have(first, count, prot),
+        None => false,
+    }
+}
