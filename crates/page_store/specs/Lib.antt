@@ -7,7 +7,10 @@ pub mod Moves
 pub mod New
 pub mod Notes
 pub mod Seen
+pub mod Stages
 pub mod Steps
 pub mod Table
+pub mod Transfers
+pub mod Trips
 pub mod Value
 pub mod Waits

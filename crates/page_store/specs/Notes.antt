@@ -1,5 +1,5 @@
 -- What the seats have outside the store, as callers note it.
-use Rattle.std.specs.Prelude.{ℕ, ◌==◌, Bool, if◌then◌else◌, List, Option}
+use Rattle.std.specs.Prelude.{ℕ, ◌==◌, Bool, if◌then◌else◌, List, Option, None}
 use Rattle.block_device.specs.DiskSeen.{DiskSeen}
 use Rattle.page_hash.specs.declared.PageName.{PageName}
 
@@ -22,3 +22,7 @@ Notes = ℕ → Option Note
 -- the notes with that of one seat changed
 abbrev pub with_note : Notes → ℕ → Option Note → Notes
 with_note notes seat note other = if other == seat then note else notes other
+
+-- no seat has anything outside
+abbrev pub no_notes : Notes
+no_notes seat = None

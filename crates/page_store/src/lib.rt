@@ -2,16 +2,29 @@
 #![tactic(auto)]
 
 mod bays;
+mod flight;
+mod frames;
+mod landing;
 mod order;
+mod pages;
 mod place;
 mod plan;
 mod residence;
 mod setup;
 mod store;
+mod transfers;
 
+pub use flight::Flight;
 pub use page_clock::Pick;
 pub use page_hash::PageName;
 pub use place::{Extent, PAGE_BYTES, Place, SWAP_DISK, SWAP_OBJECT, place_of};
 pub use plan::{Hold, Plan};
 pub use residence::Residence;
 pub use store::Store;
+
+#[cfg(test)]
+mod page_tests;
+#[cfg(test)]
+mod transfer_tests;
+#[cfg(test)]
+mod trips;

@@ -6,7 +6,10 @@ ghost use Rattle.page_hash.specs.Names.{AreDistinct};
 ghost use Rattle.page_lists.specs.ListsSeen.{ListsSeen, AreApart};
 ghost use Rattle.page_lock.specs.Rows.{clear_row};
 ghost use Rattle.page_store.specs.Bays.{AreNumbers, numbers_of, pairs_seen, disks_in, placed, bay_at, bay_of, home, missing, IsStill};
+ghost use Rattle.page_store.specs.Fits.{Fits};
 ghost use Rattle.page_store.specs.New.{IsNew};
+ghost use Rattle.page_store.specs.Notes.{no_notes};
+ghost use Rattle.page_store.specs.Table.{Table, IsApart};
 
 use crate::bays::Bays;
 use crate::order::Order;
@@ -88,6 +91,8 @@ impl<D: Disk> Store<D> {
         requires frames { 2 ≤ frames }
         requires numbers { AreNumbers (numbers_of disks.items) }
         ensures store { IfOk result (λ store. IsNew store frames (pairs_seen D.seen disks.items) (option_map D.seen swap)) }
+        ensures still { IfOk result (λ store. (number : ℕ) → IsStill (bay_at store.bays number)) }
+        ensures fits { IfOk result (λ store. (table : Table) → IsApart table → Fits store no_notes table) }
         ensures given { IfErr result (λ given. (given.0 ≡ disks) × (given.1 ≡ swap)) }
     {
         let Ok(parts) = take_memory(alloc, frames, disks.as_slice()) else {

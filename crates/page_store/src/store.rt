@@ -8,7 +8,7 @@ ghost use Rattle.page_hash.specs.declared.PageName.{PageName};
 ghost use Rattle.page_lock.specs.Rows.{row_at};
 ghost use Rattle.page_store.specs.Bays.{bay_at, home, missing};
 ghost use Rattle.page_store.specs.Fits.{Fits};
-ghost use Rattle.page_store.specs.Moves.{Moves};
+ghost use Rattle.page_store.specs.Moves.{Moves, Touches};
 ghost use Rattle.page_store.specs.Notes.{Notes};
 ghost use Rattle.page_store.specs.Seen.{residence, IsListed};
 ghost use Rattle.page_store.specs.Steps.{next_frame, with_row};
@@ -55,7 +55,8 @@ impl<D: Disk> Model for Store<D> {
 impl<D: Disk> Store<D> {
     /// Where a page is. Constant expected time.
     pub fn resident(&self, name: PageName) -> Residence
-        ensures { result ≡ residence self.now name }
+        ensures residence { result ≡ residence self.now name }
+        ensures within { (frame : ℕ) → result ≡ Residence.Home frame → frame < length self.now.frames }
     {
         match self.names.find(name) {
             None => Residence::Absent,
@@ -122,6 +123,8 @@ impl<D: Disk> Store<D> {
         requires room { (row_at self.old.rows frame).keeps < 2 ^ 32 - 1 }
         ensures step { self.new ≡ with_row self.old frame (record (row_at self.old.rows frame) { keeps = (row_at self.old.rows frame).keeps + 1 }) }
         ensures moves { (notes : Notes) (table : Table) → Fits self.old notes table → Moves self.old notes self.new notes table }
+        ensures stay { (n : PageName) → residence self.new n ≡ residence self.old n }
+        ensures touches { Touches self.old self.new frame }
     {
         self.locks.keep(frame);
     }
@@ -132,6 +135,8 @@ impl<D: Disk> Store<D> {
         requires kept { 0 < (row_at self.old.rows frame).keeps }
         ensures step { self.new ≡ with_row self.old frame (record (row_at self.old.rows frame) { keeps = (row_at self.old.rows frame).keeps - 1 }) }
         ensures moves { (notes : Notes) (table : Table) → Fits self.old notes table → Moves self.old notes self.new notes table }
+        ensures stay { (n : PageName) → residence self.new n ≡ residence self.old n }
+        ensures touches { Touches self.old self.new frame }
     {
         self.locks.unkeep(frame);
     }
@@ -150,6 +155,8 @@ impl<D: Disk> Store<D> {
         requires { frame < length self.old.frames }
         ensures step { self.new ≡ with_row self.old frame (record (row_at self.old.rows frame) { referenced = referenced; modified = modified }) }
         ensures moves { (notes : Notes) (table : Table) → Fits self.old notes table → Moves self.old notes self.new notes table }
+        ensures stay { (n : PageName) → residence self.new n ≡ residence self.old n }
+        ensures touches { Touches self.old self.new frame }
     {
         self.locks.set_bits(frame, referenced, modified);
     }
@@ -160,6 +167,7 @@ impl<D: Disk> Store<D> {
         ensures within { place_of result < length self.old.frames }
         ensures step { self.new ≡ record self.old { clock = stepped self.old.clock } }
         ensures moves { (notes : Notes) (table : Table) → Fits self.old notes table → Moves self.old notes self.new notes table }
+        ensures stay { (n : PageName) → residence self.new n ≡ residence self.old n }
     {
         self.clock.step()
     }
@@ -188,9 +196,10 @@ impl<D: Disk> Store<D> {
     pub fn victim(&self) -> Option<PageName>
         ensures { Chooses self.now result }
     {
-        match self.victim_in(self.hand, self.frames) {
+        let next = self.hand + 1;
+        match self.victim_in(next, self.frames) {
             Some(name) => Some(name),
-            None => self.victim_in(0, self.hand),
+            None => self.victim_in(0, next),
         }
     }
 

@@ -1,6 +1,9 @@
-use Rattle.std.proofs.Common.{length, refl, ap, arith}
+use Rattle.std.proofs.Common.{◌≡◌, length, refl, ap, arith}
+use Rattle.page_hash.specs.declared.PageName.{PageName}
 use Rattle.page_clock.specs.Clock.{stepped}
-use Rattle.page_store.specs.Seen.{StoreSeen, store_of}
+use Rattle.page_store.specs.Seen.{StoreSeen, store_of, residence}
+use Rattle.page_store.proofs.ChangeLemmas.{carry}
+use Rattle.page_store.proofs.RowLemmas.{stay-clock}
 use Rattle.page_store.proofs.SameLemmas.{sound-clock, clock-moves, stepped-frames, moves-at}
 use Rattle.page_store.proofs.store.Store.clock_turn.Goals as goal
 
@@ -21,3 +24,9 @@ pub returns-clause-moves : goal.returns-clause-moves
 returns-clause-moves g c = λ notes table fits.
     let s : StoreSeen = store_of c.self.inside.core c.self.inside.names c.self.inside.lists c.self.inside.locks c.self.inside.clock c.self.inside.bays c.self.inside.order in
     moves-at s c.args.self.now _ (record s { clock = stepped s.clock }) notes table c.self.view_is (rw c.step.ensures.new refl) (clock-moves s (stepped s.clock) notes table) fits
+
+pub returns-clause-stay : goal.returns-clause-stay
+returns-clause-stay g c =
+    let s : StoreSeen = store_of c.self.inside.core c.self.inside.names c.self.inside.lists c.self.inside.locks c.self.inside.clock c.self.inside.bays c.self.inside.order in
+    carry (λ (a b : StoreSeen). (n : PageName) → residence b n ≡ residence a n) s c.args.self.now (store_of c.self.inside.core c.self.inside.names c.self.inside.lists c.self.inside.locks c.step.new.self c.self.inside.bays c.self.inside.order) (record s { clock = stepped s.clock }) c.self.view_is (rw c.step.ensures.new refl)
+    (stay-clock s (stepped s.clock))

@@ -10,6 +10,7 @@ use Rattle.core_arena.specs.Bytes.{zeros}
 use Rattle.page_store.specs.New.{AreHome}
 use Rattle.page_store.proofs.BayLemmas.{length-placed}
 use Rattle.page_store.proofs.NewLemmas.{numbers-seen, length-numbers, placed-other, none-missing, are-home, order-there, sound-new}
+use Rattle.page_store.proofs.StillLemmas.{new-still, new-fits}
 use Rattle.page_store.proofs.store.Store.new.Goals as goal
 
 pub place_swap-requires-clause-nine : goal.place_swap-requires-clause-nine
@@ -60,3 +61,9 @@ returns-clause-store g c =
       order = c.in-Ok.ensures.order ∙ ap numbers_of c.as_slice.ensures.value ∙ sym (numbers-seen g.D.Disk.seen c.args.disks.items);
       bays = subst (λ (l : List BaySeen). AreHome l pairs swap) (sym bays_is) (are-home pairs swap numbers);
     }
+
+pub returns-clause-still : goal.returns-clause-still
+returns-clause-still g c = new-still _ _ _ _ (returns-clause-store g c)
+
+pub returns-clause-fits : goal.returns-clause-fits
+returns-clause-fits g c = λ table apart. new-fits _ _ _ _ (returns-clause-store g c) table apart

@@ -1,0 +1,59 @@
+-- The first of the lists is taken.
+use Rattle.std.proofs.Common.{◌≡◌, ◌≢◌, ℕ, ◌⊎◌, inl, inr, List, [], ◌∷◌, Some, sym, ◌∙◌, subst}
+use Rattle.std.specs.Prelude.{◌↔◌}
+use Rattle.page_lists.specs.ListsSeen.{Has, IsOnce, AreApart}
+use Rattle.page_store.specs.Steps.{first_of, rest_free, rest_cached}
+
+-- the frame that is taken was on one of the lists
+pub first-listed : (free cached : List ℕ) (f : ℕ) → first_of free cached ≡ Some f → Has free f ⊎ Has cached f
+first-listed [] [] f h = absurd (cc)
+first-listed [] (x ∷ xs) f h = inr (inl (cc))
+first-listed (x ∷ xs) cached f h = inl (inl (cc))
+
+-- every other frame is on the lists as before
+pub rest-free : (free cached : List ℕ) (f : ℕ) → first_of free cached ≡ Some f → (k : ℕ) → k ≢ f → Has (rest_free free) k ↔ Has free k
+rest-free [] cached f h k ne = (λ a. a, λ a. a)
+rest-free (x ∷ xs) cached f h k ne = let q : x ≡ f = cc in (λ a. inr a, λ a. elim a [ inl e ↦ absurd (ne (sym e ∙ q)) | inr b ↦ b ])
+
+pub rest-cached : (free cached : List ℕ) (f : ℕ) → first_of free cached ≡ Some f → (k : ℕ) → k ≢ f → Has (rest_cached free cached) k ↔ Has cached k
+rest-cached [] [] f h k ne = (λ a. a, λ a. a)
+rest-cached [] (x ∷ xs) f h k ne = let q : x ≡ f = cc in (λ a. inr a, λ a. elim a [ inl e ↦ absurd (ne (sym e ∙ q)) | inr b ↦ b ])
+rest-cached (x ∷ xs) cached f h k ne = (λ a. a, λ a. a)
+
+-- the frame that is taken is on neither
+pub gone-free : (free cached : List ℕ) (f : ℕ) → first_of free cached ≡ Some f → IsOnce free → Has (rest_free free) f → ⊥
+gone-free [] cached f h once a = a
+gone-free (x ∷ xs) cached f h once a = let q : x ≡ f = cc in once.0 (subst (λ (k : ℕ). Has xs k) (sym q) a)
+
+pub gone-cached : (free cached : List ℕ) (f : ℕ) → first_of free cached ≡ Some f → IsOnce cached → ((k : ℕ) → Has free k → Has cached k → ⊥) → Has (rest_cached free cached) f → ⊥
+gone-cached [] [] f h once apart a = a
+gone-cached [] (x ∷ xs) f h once apart a = let q : x ≡ f = cc in once.0 (subst (λ (k : ℕ). Has xs k) (sym q) a)
+gone-cached (x ∷ xs) cached f h once apart a = let q : x ≡ f = cc in apart f (inl q) a
+
+-- and the lists are apart as before
+once_free : (free : List ℕ) → IsOnce free → IsOnce (rest_free free)
+once_free [] o = tt
+once_free (x ∷ xs) o = o.1
+
+once_cached : (free cached : List ℕ) → IsOnce cached → IsOnce (rest_cached free cached)
+once_cached [] [] o = tt
+once_cached [] (x ∷ xs) o = o.1
+once_cached (x ∷ xs) cached o = o
+
+has_free : (free : List ℕ) (k : ℕ) → Has (rest_free free) k → Has free k
+has_free [] k h = h
+has_free (x ∷ xs) k h = inr h
+
+has_cached : (free cached : List ℕ) (k : ℕ) → Has (rest_cached free cached) k → Has cached k
+has_cached [] [] k h = h
+has_cached [] (x ∷ xs) k h = inr h
+has_cached (x ∷ xs) cached k h = h
+
+pub rest-apart : (frames : ℕ) (free cached : List ℕ) → AreApart (record { frames = frames; free = free; cached = cached }) → AreApart (record { frames = frames; free = rest_free free; cached = rest_cached free cached })
+rest-apart frames free cached apart = record {
+  once_free = once_free free apart.once_free;
+  once_cached = once_cached free cached apart.once_cached;
+  one_list = λ k a b. apart.one_list k (has_free free k a) (has_cached free cached k b);
+  below_free = λ k a. apart.below_free k (has_free free k a);
+  below_cached = λ k b. apart.below_cached k (has_cached free cached k b);
+}

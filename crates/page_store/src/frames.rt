@@ -1,0 +1,84 @@
+//! The frame tables together: a frame that is taken for a name, or comes free.
+ghost use Rattle.std.specs.Prelude.{◌≡◌, ◌<◌, length, Some, None, IsSome, slice_set};
+ghost use Rattle.core_arena.specs.Bytes.{bytes_at, zeros};
+ghost use Rattle.page_hash.specs.Names.{find, AreDistinct};
+ghost use Rattle.page_lists.specs.ListsSeen.{AreApart};
+ghost use Rattle.page_lock.specs.Rows.{clear_row};
+ghost use Rattle.page_store.specs.Steps.{first_of, rest_free, rest_cached, fresh_row, held_row};
+
+use core_arena::Core;
+use page_hash::{PageHash, PageName};
+use page_lists::PageLists;
+use page_lock::PageLocks;
+
+/// Takes the first free frame, or where none is free the first cached one.
+pub(crate) fn take_frame(lists: &mut PageLists) -> u32
+    requires { IsSome (first_of lists.old.free lists.old.cached) }
+    ensures frame { first_of lists.old.free lists.old.cached ≡ Some result }
+    ensures rest { lists.new ≡ record lists.old { free = rest_free lists.old.free; cached = rest_cached lists.old.free lists.old.cached } }
+    ensures apart { AreApart lists.new }
+{
+    match lists.take() {
+        Some(taken) => taken.frame,
+        None => unreachable!(),
+    }
+}
+
+/// Takes from a frame the name that it holds, if it holds one.
+pub(crate) fn forget(names: &mut PageHash, frame: u32)
+    requires { frame < length names.old }
+    ensures emptied { names.new ≡ slice_set names.old frame None }
+    ensures distinct { AreDistinct names.new }
+{
+    if let Some(name) = names.name_of(frame) {
+        names.remove(name);
+    }
+}
+
+/// Gives a frame a name that no frame holds, in place of the name that it holds.
+pub(crate) fn rename(names: &mut PageHash, frame: u32, name: PageName)
+    requires within { frame < length names.old }
+    requires absent { find names.old name ≡ None }
+    ensures entered { names.new ≡ slice_set names.old frame (Some name) }
+    ensures distinct { AreDistinct names.new }
+{
+    forget(names, frame);
+    names.enter(name, frame);
+}
+
+/// Makes a frame's row that of a page at home.
+pub(crate) fn reset(locks: &mut PageLocks, frame: u32, modified: bool)
+    requires { frame < length locks.old }
+    ensures { locks.new ≡ slice_set locks.old frame (fresh_row modified) }
+{
+    locks.clear(frame);
+    locks.set_bits(frame, false, modified);
+}
+
+/// Makes a frame's row that of a page which a seat has.
+pub(crate) fn reserve(locks: &mut PageLocks, frame: u32, seat: u32)
+    requires { frame < length locks.old }
+    ensures { locks.new ≡ slice_set locks.old frame (held_row clear_row seat) }
+{
+    locks.clear(frame);
+    locks.lock(frame, seat);
+}
+
+/// Copies the bytes of a home frame to another.
+pub(crate) fn copy_frame(core: &mut Core, from: u32, to: u32)
+    requires from { IsSome (bytes_at core.old.frames from) }
+    requires to { IsSome (bytes_at core.old.frames to) }
+    ensures { core.new ≡ record core.old { frames = slice_set core.old.frames to (bytes_at core.old.frames from) } }
+{
+    let mut page = [0u8; 4096];
+    page.copy_from_slice(core.bytes(from));
+    core.bytes_mut(to).copy_from_slice(&page);
+}
+
+/// Makes the bytes of a home frame zeros.
+pub(crate) fn zero_frame(core: &mut Core, frame: u32)
+    requires { IsSome (bytes_at core.old.frames frame) }
+    ensures { core.new ≡ record core.old { frames = slice_set core.old.frames frame (Some zeros) } }
+{
+    core.bytes_mut(frame).fill(0);
+}

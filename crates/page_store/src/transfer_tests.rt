@@ -1,0 +1,322 @@
+//! Transfers over two disks in memory: reads, pushes, failures, pages that are given up, and a flight on a thread.
+ghost use Rattle.std.specs.Prelude.{◌≡◌, ◌≢◌, ◌<◌, ◌≤◌, None, IfOk, IfSome, IsTrue};
+ghost use Rattle.block_device.specs.MemDiskLook.{look};
+ghost use Rattle.block_device.specs.MemSeen.{disk_of};
+ghost use Rattle.page_store.specs.Bays.{bay_at};
+ghost use Rattle.page_store.specs.Flight.{fresh};
+ghost use Rattle.page_store.specs.Seen.{StoreSeen};
+ghost use Rattle.page_store.specs.Transfers.{CanBegin, IsFlightOf};
+ghost use Rattle.page_store.specs.Trips.{AreReady, IsThere};
+ghost use Rattle.page_store.specs.Waits.{Waits};
+
+use super::*;
+use crate::trips::{Fault, give_up, load_byte, push_out};
+use block_device::{Block, Disk, MemDisk};
+use std::alloc::{AllocError, Global};
+use std::test::Fail;
+use std::thread::{self, Threads};
+
+/// A store over disks 0 and 1, of four blocks each. The page of a name is in the block of its number, on the disk of its
+/// object's number; page 3 of each has 100 valid bytes.
+#[derive(Drop)]
+struct Machine {
+    store: Store<MemDisk>,
+    ghost ready: { AreReady store.bays },
+}
+
+#[derive(Clone, Copy, PartialEq, Eq, Debug)]
+enum Act {
+    Load(PageName, u32),
+    Push(PageName),
+    Poke(PageName, u8),
+    Dirty(PageName),
+    GiveUp(Plan),
+}
+
+#[derive(Clone, Copy, PartialEq, Eq, Debug)]
+enum Told {
+    Byte(u8),
+    Yes,
+    No,
+    Failed(Fault),
+}
+
+/// A disk of four blocks that are filled with these bytes, whose calls of these numbers fail.
+fn filled_disk(alloc: Global, bytes: [u8; 4], fail_at: &[u64]) -> Result<MemDisk, AllocError>
+    ensures { IfOk result (λ disk. (disk_of (look disk)).size ≡ 4) }
+{
+    let blocks = [
+        Block::new([bytes[0]; 4096]),
+        Block::new([bytes[1]; 4096]),
+        Block::new([bytes[2]; 4096]),
+        Block::new([bytes[3]; 4096]),
+    ];
+    let blocks = blocks.to_vec(alloc)?;
+    let fail_at = fail_at.to_vec(alloc)?;
+    Ok(MemDisk::from_blocks(blocks, fail_at))
+}
+
+/// A machine whose disks fail at calls of these numbers; None for want of memory.
+fn new_machine(alloc: Global, frames: u32, first: &[u64], second: &[u64]) -> Option<Machine>
+    requires { 2 ≤ frames }
+{
+    let Ok(first) = filled_disk(alloc, [0x10, 0x11, 0x12, 0x13], first) else {
+        return None;
+    };
+    let Ok(second) = filled_disk(alloc, [0x20, 0x21, 0x22, 0x23], second) else {
+        return None;
+    };
+    let Ok(mut disks) = Vec::with_capacity(alloc, 2) else {
+        return None;
+    };
+    disks.push_reserved((0, first));
+    disks.push_reserved((1, second));
+    match Store::new(alloc, frames, disks, None) {
+        Ok(store) => Some(Machine { store }),
+        Err(_given) => None,
+    }
+}
+
+/// Where a page lives.
+fn known(name: PageName) -> Option<Place>
+    ensures { IfSome result (λ place. (place.disk < 2) × (place.block < 4) × (place.valid ≤ 4096)) }
+{
+    if 2 <= name.object || 4 <= name.page {
+        return None;
+    }
+    Some(Place {
+        disk: name.object,
+        block: name.page,
+        valid: if name.page == 3 { 100 } else { PAGE_BYTES },
+        blank: false,
+    })
+}
+
+/// Whether a transfer can begin now.
+fn can_begin(store: &Store<MemDisk>, plan: Plan) -> bool
+    ensures { IsTrue result → CanBegin plan store.now }
+{
+    match plan {
+        Plan::Read(name) => match store.resident(name) {
+            Residence::Absent => store.available(),
+            Residence::Home(_) => false,
+            Residence::Moving(_) => false,
+        },
+        Plan::Push(name) => match store.resident(name) {
+            Residence::Home(frame) => !store.listed(frame),
+            Residence::Moving(_) => false,
+            Residence::Absent => false,
+        },
+    }
+}
+
+impl Machine {
+    fn load(&mut self, name: PageName, at: u32) -> Told {
+        let Some(place) = known(name) else {
+            return Told::No;
+        };
+        if at >= PAGE_BYTES {
+            return Told::No;
+        }
+        match load_byte(&mut self.store, 1, name, place, at) {
+            Ok(Some(byte)) => Told::Byte(byte),
+            Ok(None) => Told::No,
+            Err(fault) => Told::Failed(fault),
+        }
+    }
+
+    fn push(&mut self, name: PageName) -> Told {
+        let Some(place) = known(name) else {
+            return Told::No;
+        };
+        let plan = Plan::Push(name);
+        if !can_begin(&self.store, plan) || self.store.ready(&plan, place.disk).is_some() {
+            return Told::No;
+        }
+        match push_out(&mut self.store, 1, name, place) {
+            Ok(()) => Told::Yes,
+            Err(fault) => Told::Failed(fault),
+        }
+    }
+
+    fn give_up(&mut self, plan: Plan) -> Told {
+        let (Plan::Read(name) | Plan::Push(name)) = plan;
+        let Some(place) = known(name) else {
+            return Told::No;
+        };
+        if !can_begin(&self.store, plan) || self.store.ready(&plan, place.disk).is_some() {
+            return Told::No;
+        }
+        if give_up(&mut self.store, 1, plan, place) {
+            Told::Yes
+        } else {
+            Told::No
+        }
+    }
+
+    /// Writes the first byte of a page that is home.
+    fn poke(&mut self, name: PageName, byte: u8) -> Told {
+        if !can_begin(&self.store, Plan::Push(name)) {
+            return Told::No;
+        }
+        self.store.poke(name, 0, &[byte], true);
+        Told::Yes
+    }
+
+    fn dirty(&self, name: PageName) -> Told {
+        match self.store.resident(name) {
+            Residence::Home(frame) => {
+                if self.store.bits(frame).1 {
+                    Told::Yes
+                } else {
+                    Told::No
+                }
+            }
+            Residence::Moving(_) => Told::No,
+            Residence::Absent => Told::No,
+        }
+    }
+
+    fn make(&mut self, act: Act) -> Told {
+        match act {
+            Act::Load(name, at) => self.load(name, at),
+            Act::Push(name) => self.push(name),
+            Act::Poke(name, byte) => self.poke(name, byte),
+            Act::Dirty(name) => self.dirty(name),
+            Act::GiveUp(plan) => self.give_up(plan),
+        }
+    }
+}
+
+const A: PageName = PageName { object: 0, page: 0 };
+
+const B: PageName = PageName { object: 0, page: 1 };
+
+const C: PageName = PageName { object: 1, page: 3 };
+
+const D: PageName = PageName { object: 1, page: 0 };
+
+const E: PageName = PageName { object: 1, page: 1 };
+
+/// The acts in order over four frames, and what is told of each. Call 2 of each disk fails.
+const ACTS: [(Act, Told); 24] = [
+    (Act::Load(A, 0), Told::Byte(0x10)),
+    (
+        Act::Load(B, 5),
+        Told::Failed(Fault {
+            disk: 0,
+            before: 0,
+            after: 1,
+        }),
+    ),
+    (Act::Push(B), Told::No),
+    (Act::Load(B, 5), Told::Byte(0x11)),
+    (Act::Load(C, 99), Told::Byte(0x23)),
+    (Act::Load(C, 100), Told::Byte(0)),
+    (Act::Dirty(C), Told::No),
+    (
+        Act::Push(C),
+        Told::Failed(Fault {
+            disk: 1,
+            before: 0,
+            after: 1,
+        }),
+    ),
+    (Act::Dirty(C), Told::Yes),
+    (Act::Poke(C, 7), Told::Yes),
+    (Act::Push(C), Told::Yes),
+    (Act::Dirty(C), Told::No),
+    (Act::Load(C, 0), Told::Byte(7)),
+    // The page is written while its name is given up and taken anew: the new page stays.
+    (Act::Poke(A, 9), Told::Yes),
+    (Act::GiveUp(Plan::Push(A)), Told::Yes),
+    (Act::Load(A, 0), Told::Byte(0)),
+    // Its old frame came free with the flight.
+    (Act::Load(D, 0), Told::Byte(0x20)),
+    (Act::Load(E, 0), Told::No),
+    // No frame can be taken meanwhile, so the page is in none afterwards.
+    (Act::GiveUp(Plan::Push(D)), Told::No),
+    (Act::Load(D, 1), Told::Byte(0x20)),
+    (Act::GiveUp(Plan::Read(E)), Told::No),
+    (Act::GiveUp(Plan::Push(B)), Told::No),
+    (Act::GiveUp(Plan::Read(E)), Told::No),
+    (Act::Load(E, 0), Told::Byte(0x21)),
+];
+
+/// The byte at this place of a block.
+fn byte_of(disk: &MemDisk, block: usize, at: usize) -> Option<u8> {
+    let block = disk.content().get(block)?;
+    block.bytes.get(at).copied()
+}
+
+#[test]
+fn pages_come_and_go_as_their_disks_allow(rt: HostRuntime) -> Result<(), Fail> {
+    let Some(mut machine) = new_machine(rt.alloc(), 4, &[2], &[2]) else {
+        assert!(rt; false, "want of memory");
+        return Ok(());
+    };
+    for (act, told) in ACTS {
+        assert_eq!(rt; machine.make(act), told, "{act:?}");
+    }
+    let Machine { store } = machine;
+    let (disks, _) = store.into_disks();
+    let found: Vec<(u32, u64, u64, u64)> = disks
+        .iter()
+        .map(|disk| { (disk.0, disk.1.faults(), disk.1.reads(), disk.1.writes()) })
+        .collect(rt.alloc())?;
+    assert_eq!(rt; found.as_slice(), [(0, 1, 3, 2), (1, 1, 5, 3)].as_slice());
+    // The page that was given up was written; the other has its valid bytes, and zeros after them.
+    for (disk, block, at, byte) in [(0, 0, 0, 9), (1, 3, 0, 7), (1, 3, 99, 0x23), (1, 3, 100, 0)] {
+        let found = disks.get(disk).and_then(|disk| byte_of(&disk.1, block, at));
+        assert_eq!(rt; found, Some(byte), "disk {disk}, block {block}, byte {at}");
+    }
+    Ok(())
+}
+
+fn fly(mut flight: Flight<MemDisk>) -> (Flight<MemDisk>, bool)
+    requires { flight.outcome ≡ fresh }
+    ensures store { (s : StoreSeen) → IsFlightOf s flight → IsFlightOf s result.0 }
+    ensures flown { result.0.outcome ≢ fresh }
+{
+    let result = flight.perform();
+    (flight, result.is_ok())
+}
+
+fn read_on_a_thread(
+    rt: &impl Threads,
+    store: &mut Store<MemDisk>,
+    name: PageName,
+    place: Place,
+) -> bool
+    requires ready { Waits store.old name place.disk None }
+    requires there { IsThere (bay_at store.old.bays place.disk) place.block }
+    requires valid { place.valid ≤ 4096 }
+    requires can { CanBegin (Plan.Read name) store.old }
+{
+    let flight = store.begin(3, Plan::Read(name), place.disk, place.block, place.valid);
+    let ((flight, done), _) = thread::join(rt, move || fly(flight), || ());
+    store.end(flight);
+    done
+}
+
+#[test]
+fn a_flight_is_performed_on_a_thread(rt: HostRuntime) -> Result<(), Fail> {
+    let Some(mut machine) = new_machine(rt.alloc(), 2, &[], &[]) else {
+        assert!(rt; false, "want of memory");
+        return Ok(());
+    };
+    let Some(place) = known(E) else {
+        return Ok(());
+    };
+    let plan = Plan::Read(E);
+    assert!(rt; can_begin(&machine.store, plan));
+    assert_eq!(rt; machine.store.ready(&plan, place.disk), None);
+    let Machine { mut store } = machine;
+    assert!(rt; read_on_a_thread(&rt, &mut store, E, place));
+    let Residence::Home(_) = store.resident(E) else {
+        assert!(rt; false, "the page is home");
+        return Ok(());
+    };
+    assert_eq!(rt; store.bytes(E), [0x21; 4096].as_slice());
+    Ok(())
+}
