@@ -1,0 +1,17 @@
+pub mod Pieces
+pub mod Lines
+pub mod Calls
+pub mod Tables
+pub mod Plays
+pub mod Texts
+pub mod Blocks
+pub mod Ends
+pub mod Tellings
+pub mod Openings
+pub mod Finishes
+pub mod Starts
+pub mod Givens
+pub mod Sinks
+pub mod Shown
+pub mod Endings
+pub mod Beginnings

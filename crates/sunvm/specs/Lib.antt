@@ -1,0 +1,13 @@
+pub mod Reading
+pub mod Fields
+pub mod Script
+pub mod Plans
+pub mod Report
+pub mod Table
+pub mod Run
+pub mod Parts
+pub mod Playing
+pub mod Opening
+pub mod Running
+pub mod Ending
+pub mod Showing

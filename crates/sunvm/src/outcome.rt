@@ -1,0 +1,27 @@
+//! How a run ended.
+use block_device::{Disk, OpenFault};
+use vm_core::{DiskFault, KernelHistory};
+
+/// A fault of a device that ended a run.
+#[derive(Debug, Drop)]
+pub enum RunFault {
+    /// It came before the processes ran.
+    Opening(OpenFault),
+    /// It came as the file was closed.
+    Closing(DiskFault),
+    /// It came as the file was read back for the report.
+    Showing(DiskFault),
+}
+
+/// How a run ended, what its kernel kept, and its disks.
+#[derive(Drop)]
+pub struct Outcome<D: Disk> {
+    /// 0, or 2 to 8.
+    pub status: u8,
+    /// The fault that the status 7 names.
+    pub fault: Option<RunFault>,
+    pub history: KernelHistory,
+    /// The disks that were attached, in rising number.
+    pub disks: Vec<D>,
+    pub swap: Option<D>,
+}

@@ -1,0 +1,5 @@
+pub mod Closings
+pub mod Events
+pub mod Flats
+pub mod Pages
+pub mod Tables

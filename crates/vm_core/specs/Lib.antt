@@ -1,0 +1,5 @@
+pub mod Calls
+pub mod Closing
+pub mod Kept
+pub mod State
+pub mod Table
