@@ -1,6 +1,6 @@
 -- The two vectors against the parts that they stand for.
 use Rattle.std.proofs.Common.{◌≡◌, ℕ, ◌+◌, ◌-◌, ◌<◌, ◌≤◌, inl, inr, Bool, true, false, cond, Option, Some, None, List, [], ◌∷◌, length, get_or, set, drop, refl, sym, ◌∙◌, ap, subst, arith, zero, suc}
-use Rattle.std.specs.Prelude.{option_map, nat_lt, nat_le, ◌==◌, ◌&&◌, MatchOption, IfSome, IsSome, find, insert, remove}
+use Rattle.std.specs.Prelude.{option_map, nat_lt, nat_le, ◌==◌, ◌&&◌, MatchOption, IfSome, IsSome, is_some, find, insert, remove}
 use Rattle.std.proofs.lemmas.Bool.{le-leb, lt-ltb, lt-leb, le-ltb, leb-true, ltb-true, and_from, and_parts, cases_lt, cases_Bool, eq-eqb, ne_eqb}
 use Rattle.std.proofs.lemmas.List.Edits.{length-insert, length-remove}
 use Rattle.std.proofs.Math.ListN.{length-set}
@@ -9,8 +9,8 @@ use borrow.Follows.Closed.{read_of}
 use mathlib.Core.Option as maybe
 use mathlib.Core.Path.{fun_ext}
 use Rattle.addr_space.specs.declared.ranges.Span.{Span}
-use Rattle.addr_space.specs.Space.{Part, Space, part, part_at, begins, next_first, put, cut_at, without, with_piece, IsInOrder, IsPlaced, IsGap, FindsGap, FindsNext}
-use Rattle.addr_space.specs.Inside.{joined, count_below, covers, IsHolder, NoneHolds, SpansRise, gap_from, IsSound}
+use Rattle.addr_space.specs.Space.{Part, RangesSeen, part, part_at, begins, next_first, put, cut_at, without, with_piece, IsInOrder, IsPlaced, IsGap, FindsGap, FindsNext, FindsLast}
+use Rattle.addr_space.specs.Inside.{joined, count_below, covers, IsHolder, NoneHolds, SpansRise, gap_in_spans, IsSoundRanges}
 use Rattle.addr_space.proofs.PartLemmas.{has-in, has-before, has-past, has-within, at-here, at-next, none-below, free-tail, free-head, ordered-put, ordered-cut, ordered-without}
 
 pub spans-rise : {T : Type 0} (low : ℕ) (ss : List Span) (xs : List T) → length ss ≡ length xs → IsInOrder low (joined ss xs) → SpansRise low ss
@@ -30,6 +30,10 @@ first-above : (low : ℕ) (ss : List Span) (k : ℕ) (d : Span) → SpansRise lo
 first-above low [] k d r lt = absurd (omega arith)
 first-above low (s ∷ ss) zero d r lt = r.0
 first-above low (s ∷ ss) (suc k) d r lt = let a = r.0 in let b = first-above (s.first + s.pages) ss k d r.3 (omega arith) in omega arith
+
+-- a count over spans that were lent
+pub counted : (lent ss : List Span) (page from count : ℕ) → lent ≡ ss → from ≡ page → count ≡ count_below from lent → count ≡ count_below page ss
+counted lent ss page from count same e h = h ∙ ap (λ (k : ℕ). count_below k lent) e ∙ ap (λ (ss : List Span). count_below page ss) same
 
 -- the spans begin in rising order, as the search asks
 pub rises : (low bound : ℕ) (ss : List Span) → SpansRise low ss → (i j : ℕ) (d : Span) → i ≤ j → j < length ss → nat_lt (get_or ss j d).first bound ≡ true → nat_lt (get_or ss i d).first bound ≡ true
@@ -191,6 +195,43 @@ module _ {T : Type 0} where
       let a = o.0.behind in
       ap (λ (b : Bool). cond b ps (p ∷ without page ps)) (ne_eqb p.first page (λ q. omega arith)) ∙ ap (λ (l : List (Part T)). p ∷ l) (without-below (p.first + p.pages) ps page o.1 (omega arith))
 
+  -- the last part that begins below a page
+  begins-tail : (p : Part T) (ps : List (Part T)) (page : ℕ) → (p.first ≡ page → ⊥) → begins (p ∷ ps) page ≡ begins ps page
+  begins-tail p ps page ne = ap (λ (b : Bool). cond b (Some p) (begins ps page)) (ne_eqb p.first page ne)
+
+  pub none-last : (low : ℕ) (ss : List Span) (xs : List T) (page : ℕ) → length ss ≡ length xs → IsInOrder low (joined ss xs) → count_below page ss ≡ 0 → FindsLast (joined ss xs) page None
+  none-last low [] xs page n o c = λ first lt. refl
+  none-last low (s ∷ ss) [] page n o c = absurd (omega arith)
+  none-last low (s ∷ ss) (x ∷ xs) page n o c = λ first lt. elim (cases_lt s.first page) [
+    | inl l ↦ let z : suc (count_below page ss) ≡ 0 = sym (ap (λ (b : Bool). cond b (suc (count_below page ss)) 0) (lt-ltb s.first page l)) ∙ c in absurd (omega arith)
+    | inr ge ↦ begins-below s.first (part s.first s.pages x ∷ joined ss xs) first (record { behind = omega arith; some = o.0.some; within = o.0.within }, o.1) (omega arith)
+  ]
+
+  pub finds-last : (low : ℕ) (ss : List Span) (xs : List T) (page i : ℕ) (t : Span) → length ss ≡ length xs → IsInOrder low (joined ss xs) → count_below page ss ≡ suc i → t ≡ get_or ss i t → FindsLast (joined ss xs) page (Some t.first)
+  finds-last low [] xs page i t n o c e = let z : 0 ≡ suc i = c in absurd (omega arith)
+  finds-last low (s ∷ ss) [] page i t n o c e = absurd (omega arith)
+  finds-last low (s ∷ ss) (x ∷ xs) page i t n o c e = elim (cases_lt s.first page) [
+    | inr ge ↦ let z : 0 ≡ suc i = sym (ap (λ (b : Bool). cond b (suc (count_below page ss)) 0) (le-ltb s.first page ge)) ∙ c in absurd (omega arith)
+    | inl l ↦ go (λ j c e. finds-last (s.first + s.pages) ss xs page j t (omega arith) o.1 c e) i e (let z : suc (count_below page ss) ≡ suc i = sym (ap (λ (b : Bool). cond b (suc (count_below page ss)) 0) (lt-ltb s.first page l)) ∙ c in omega arith) l
+  ]
+    where
+      go : ((j : ℕ) → count_below page ss ≡ suc j → t ≡ get_or ss j t → FindsLast (joined ss xs) page (Some t.first)) → (i : ℕ) → t ≡ get_or (s ∷ ss) i t → count_below page ss ≡ i → s.first < page → FindsLast (joined (s ∷ ss) (x ∷ xs)) page (Some t.first)
+      go ih zero e c l = subst (λ (t : Span). FindsLast (part s.first s.pages x ∷ joined ss xs) page (Some t.first)) (sym e) (
+        l,
+        ap (λ (b : Bool). is_some (cond b (Some (part s.first s.pages x)) (begins (joined ss xs) s.first))) (eq-eqb s.first s.first refl),
+        λ first gt lt. begins-tail (part s.first s.pages x) (joined ss xs) first (λ q. omega arith) ∙ none-last (s.first + s.pages) ss xs page (omega arith) o.1 c first lt,
+      )
+      go ih (suc j) e c l =
+          let r = ih j c e in
+          let above : s.first < t.first = elim (cases_lt s.first t.first) [
+            | inl g ↦ g
+            | inr g ↦ let some = o.0.some in let z = sym (ap (λ (f : Option (Part T)). is_some f) (begins-below (s.first + s.pages) (joined ss xs) t.first o.1 (omega arith))) ∙ r.1 in let y : false ≡ true = z in cc
+          ] in (
+            r.0,
+            ap (λ (f : Option (Part T)). is_some f) (begins-tail (part s.first s.pages x) (joined ss xs) t.first (λ q. omega arith)) ∙ r.1,
+            λ first gt lt. begins-tail (part s.first s.pages x) (joined ss xs) first (λ q. omega arith) ∙ r.2 first gt lt,
+          )
+
   pub finds-next : (low : ℕ) (ps : List (Part T)) (page : ℕ) → IsInOrder low ps → FindsNext ps page (next_first ps page)
   finds-next low [] page o = λ first le. refl
   finds-next low (p ∷ ps) page o = elim (cases_lt p.first page) [
@@ -288,7 +329,7 @@ module _ {T : Type 0} where
         ]
       ]
 
-  finds-from : (low pages : ℕ) (ss : List Span) (xs : List T) → 1 ≤ low → length ss ≡ length xs → IsInOrder low (joined ss xs) → FindsFrom low (joined ss xs) pages (gap_from low pages ss)
+  finds-from : (low pages : ℕ) (ss : List Span) (xs : List T) → 1 ≤ low → length ss ≡ length xs → IsInOrder low (joined ss xs) → FindsFrom low (joined ss xs) pages (gap_in_spans low pages ss)
   finds-from low pages [] xs pos n o = elim (cases_Bool (nat_lt low 0x80000 && nat_le (low + pages) 0x80000)) [
     | inl t ↦ subst (λ (b : Bool). FindsFrom low [] pages (cond b (Some low) None)) (sym t)
         (let ab = and_parts (nat_lt low 0x80000) (nat_le (low + pages) 0x80000) t in
@@ -302,7 +343,7 @@ module _ {T : Type 0} where
   finds-from low pages (s ∷ ss) (x ∷ xs) pos n o =
       let behind = o.0.behind in let some = o.0.some in let within = o.0.within in
       elim (cases_lt s.first (low + pages)) [
-        | inr fits ↦ subst (λ (b : Bool). FindsFrom low (joined (s ∷ ss) (x ∷ xs)) pages (cond b (Some low) (gap_from (s.first + s.pages) pages ss))) (sym (le-leb (low + pages) s.first fits)) (
+        | inr fits ↦ subst (λ (b : Bool). FindsFrom low (joined (s ∷ ss) (x ∷ xs)) pages (cond b (Some low) (gap_in_spans (s.first + s.pages) pages ss))) (sym (le-leb (low + pages) s.first fits)) (
           omega arith,
           record {
             low = pos;
@@ -312,8 +353,8 @@ module _ {T : Type 0} where
           },
           λ other le g. le,
         )
-        | inl small ↦ subst (λ (b : Bool). FindsFrom low (joined (s ∷ ss) (x ∷ xs)) pages (cond b (Some low) (gap_from (s.first + s.pages) pages ss))) (sym (lt-leb (low + pages) s.first small))
-            (on small (gap_from (s.first + s.pages) pages ss) (finds-from (s.first + s.pages) pages ss xs (omega arith) (omega arith) o.1))
+        | inl small ↦ subst (λ (b : Bool). FindsFrom low (joined (s ∷ ss) (x ∷ xs)) pages (cond b (Some low) (gap_in_spans (s.first + s.pages) pages ss))) (sym (lt-leb (low + pages) s.first small))
+            (on small (gap_in_spans (s.first + s.pages) pages ss) (finds-from (s.first + s.pages) pages ss xs (omega arith) (omega arith) o.1))
       ]
     where
       on : s.first < low + pages → (r : Option ℕ) → FindsFrom (s.first + s.pages) (joined ss xs) pages r → FindsFrom low (joined (s ∷ ss) (x ∷ xs)) pages r
@@ -330,50 +371,44 @@ module _ {T : Type 0} where
   finds-gap ps pages None h = λ first g. h first g.low g
   finds-gap ps pages (Some first) h = (h.1, λ other g. h.2 other g.low g)
 
-  pub gap-found : (pages : ℕ) (ss : List Span) (xs : List T) (r : Option ℕ) → length ss ≡ length xs → IsInOrder 1 (joined ss xs) → r ≡ gap_from 1 pages ss → FindsGap (joined ss xs) pages r
+  pub gap-found : (pages : ℕ) (ss : List Span) (xs : List T) (r : Option ℕ) → length ss ≡ length xs → IsInOrder 1 (joined ss xs) → r ≡ gap_in_spans 1 pages ss → FindsGap (joined ss xs) pages r
   gap-found pages ss xs r n o e = finds-gap (joined ss xs) pages r (subst (λ (r : Option ℕ). FindsFrom 1 (joined ss xs) pages r) (sym e) (finds-from 1 pages ss xs (omega arith) n o))
-
--- an element is the same under every default
-pub at-default : {X : Type 0} (xs : List X) (i : ℕ) (d e : X) → i < length xs → get_or xs i d ≡ get_or xs i e
-at-default [] i d e lt = absurd (omega arith)
-at-default (x ∷ xs) zero d e lt = refl
-at-default (x ∷ xs) (suc i) d e lt = at-default xs i d e (omega arith)
 
 pub some-at : {X : Type 0} (xs : List X) (i : ℕ) → i < length xs → (x : X) × (x ≡ get_or xs i x)
 some-at [] i lt = absurd (omega arith)
 some-at (x ∷ xs) zero lt = (x, refl)
 some-at (x ∷ xs) (suc i) lt = some-at xs i (omega arith)
 
-pub sound-rise : {T : Type 0} (ss : List Span) (xs : List T) → IsSound ss xs → SpansRise 1 ss
+pub sound-rise : {T : Type 0} (ss : List Span) (xs : List T) → IsSoundRanges ss xs → SpansRise 1 ss
 sound-rise ss xs h = spans-rise 1 ss xs h.lengths h.ordered
 
 -- a search for the span that begins with the page
 module _ {T : Type 0} where
-  pub removed-sound : (ss : List Span) (xs : List T) (page i : ℕ) (s : Span) (x : T) → IsSound ss xs → i ≡ count_below page ss → i < length ss → s ≡ get_or ss i s → x ≡ get_or xs i x → s.first ≡ page → IsSound (remove ss i) (remove xs i)
+  pub removed-sound : (ss : List Span) (xs : List T) (page i : ℕ) (s : Span) (x : T) → IsSoundRanges ss xs → i ≡ count_below page ss → i < length ss → s ≡ get_or ss i s → x ≡ get_or xs i x → s.first ≡ page → IsSoundRanges (remove ss i) (remove xs i)
   removed-sound ss xs page i s x h e lt is it eq =
       let n = h.lengths in
       let a = length-remove ss i lt in
       let b = length-remove xs i (omega arith) in
       record { lengths = omega arith; ordered = subst (λ (ps : List (Part T)). IsInOrder 1 ps) (sym (removes 1 ss xs page i s x n h.ordered e lt is it eq).1) (ordered-without 1 page (joined ss xs) h.ordered) }
 
-  pub found-mut : (ss : List Span) (xs : List T) (q i : ℕ) (r : Option (MutBor T)) → IsSound ss xs → IsHolder q ss i → i < length ss → (i < length xs → IsSome r) → IfSome r (λ x. x.now ≡ get_or xs i x.now) → MatchOption r (part_at (joined ss xs) q ≡ None) (λ r. option_map (λ (p : Part T). p.piece) (part_at (joined ss xs) q) ≡ Some r.now)
+  pub found-mut : (ss : List Span) (xs : List T) (q i : ℕ) (r : Option (MutBor T)) → IsSoundRanges ss xs → IsHolder q ss i → i < length ss → (i < length xs → IsSome r) → IfSome r (λ x. x.now ≡ get_or xs i x.now) → MatchOption r (part_at (joined ss xs) q ≡ None) (λ r. option_map (λ (p : Part T). p.piece) (part_at (joined ss xs) q) ≡ Some r.now)
   found-mut ss xs q i None s h lt some is = let n = s.lengths in let z : false ≡ true = some (omega arith) in cc
   found-mut ss xs q i (Some x) s h lt some is =
       let a = some-at ss i lt in
       ap (λ (o : Option (Part T)). option_map (λ (p : Part T). p.piece) o) (holder-part ss xs q i a.0 x.now s.lengths h a.1 is)
 
-  pub lent-piece : (name : maybe.Option GName) (ss : List Span) (xs : List T) (q i spare : ℕ) (now : Space T) → IsSound ss xs → IsHolder q ss i → ◌≡◌ {A = Space T} (record { parts = joined ss xs; spare = spare }) now →
-      read_of {D = Space T} {E = T} name (λ w. record { parts = joined ss (set xs i w); spare = spare }) (record { parts = joined ss xs; spare = spare })
-      ≡ read_of {D = Space T} {E = T} name (λ w. record { parts = with_piece q w now.parts; spare = now.spare }) now
+  pub lent-piece : (name : maybe.Option GName) (ss : List Span) (xs : List T) (q i spare : ℕ) (now : RangesSeen T) → IsSoundRanges ss xs → IsHolder q ss i → ◌≡◌ {A = RangesSeen T} (record { parts = joined ss xs; spare = spare }) now →
+      read_of {D = RangesSeen T} {E = T} name (λ w. record { parts = joined ss (set xs i w); spare = spare }) (record { parts = joined ss xs; spare = spare })
+      ≡ read_of {D = RangesSeen T} {E = T} name (λ w. record { parts = with_piece q w now.parts; spare = now.spare }) now
   lent-piece name ss xs q i spare now s h view =
-      let e : ◌≡◌ {A = T → Space T} (λ w. record { parts = joined ss (set xs i w); spare = spare }) (λ w. record { parts = with_piece q w now.parts; spare = now.spare })
-      = fun_ext (λ (w : T). ap (λ (ps : List (Part T)). let z : Space T = record { parts = ps; spare = spare } in z) (joined-with_piece ss xs q i w s.lengths h) ∙ ap (λ (z : Space T). let y : Space T = record { parts = with_piece q w z.parts; spare = z.spare } in y) view) in
-      ap (λ (f : T → Space T). read_of {D = Space T} {E = T} name f (record { parts = joined ss xs; spare = spare })) e ∙ ap (λ (z : Space T). read_of {D = Space T} {E = T} name (λ w. record { parts = with_piece q w now.parts; spare = now.spare }) z) view
+      let e : ◌≡◌ {A = T → RangesSeen T} (λ w. record { parts = joined ss (set xs i w); spare = spare }) (λ w. record { parts = with_piece q w now.parts; spare = now.spare })
+      = fun_ext (λ (w : T). ap (λ (ps : List (Part T)). let z : RangesSeen T = record { parts = ps; spare = spare } in z) (joined-with_piece ss xs q i w s.lengths h) ∙ ap (λ (z : RangesSeen T). let y : RangesSeen T = record { parts = with_piece q w z.parts; spare = z.spare } in y) view) in
+      ap (λ (f : T → RangesSeen T). read_of {D = RangesSeen T} {E = T} name f (record { parts = joined ss xs; spare = spare })) e ∙ ap (λ (z : RangesSeen T). read_of {D = RangesSeen T} {E = T} name (λ w. record { parts = with_piece q w now.parts; spare = now.spare }) z) view
 
-  pub inserted : (ss : List Span) (xs : List T) (first pages : ℕ) (x : T) (i : ℕ) → IsSound ss xs → i ≡ count_below first ss → joined (insert ss i (record { first = first; pages = pages })) (insert xs i x) ≡ put (part first pages x) (joined ss xs)
+  pub inserted : (ss : List Span) (xs : List T) (first pages : ℕ) (x : T) (i : ℕ) → IsSoundRanges ss xs → i ≡ count_below first ss → joined (insert ss i (record { first = first; pages = pages })) (insert xs i x) ≡ put (part first pages x) (joined ss xs)
   inserted ss xs first pages x i s e = joined-insert ss xs (record { first = first; pages = pages }) x i s.lengths e
 
-  pub inserted-sound : (ss : List Span) (xs : List T) (first pages : ℕ) (x : T) (i : ℕ) → IsSound ss xs → i ≡ count_below first ss → 0 < pages → 1 ≤ first → first + pages ≤ 0x80000 → ((r : ℕ) → first ≤ r → r < first + pages → part_at (joined ss xs) r ≡ None) → IsSound (insert ss i (record { first = first; pages = pages })) (insert xs i x)
+  pub inserted-sound : (ss : List Span) (xs : List T) (first pages : ℕ) (x : T) (i : ℕ) → IsSoundRanges ss xs → i ≡ count_below first ss → 0 < pages → 1 ≤ first → first + pages ≤ 0x80000 → ((r : ℕ) → first ≤ r → r < first + pages → part_at (joined ss xs) r ≡ None) → IsSoundRanges (insert ss i (record { first = first; pages = pages })) (insert xs i x)
   inserted-sound ss xs first pages x i s e some low within free =
       let n = s.lengths in
       let c = count-within first ss in
@@ -382,8 +417,8 @@ module _ {T : Type 0} where
       let b = length-insert xs i x (omega arith) in
       record { lengths = omega arith; ordered = subst (λ (ps : List (Part T)). IsInOrder 1 ps) (sym (inserted ss xs first pages x i s e)) (ordered-put 1 (part first pages x) (joined ss xs) s.ordered (record { behind = low; some = some; within = within }) free) }
 
-  pub cut-sound : (ss : List Span) (xs : List T) (page i : ℕ) (s : Span) (u : T) → IsSound ss xs → IsHolder page ss i → i < length ss → s ≡ get_or ss i s → s.first < page →
-      IsSound (insert (set ss i (record { first = s.first; pages = page - s.first })) (suc i) (record { first = page; pages = s.pages - (page - s.first) })) (insert xs (suc i) u)
+  pub cut-sound : (ss : List Span) (xs : List T) (page i : ℕ) (s : Span) (u : T) → IsSoundRanges ss xs → IsHolder page ss i → i < length ss → s ≡ get_or ss i s → s.first < page →
+      IsSoundRanges (insert (set ss i (record { first = s.first; pages = page - s.first })) (suc i) (record { first = page; pages = s.pages - (page - s.first) })) (insert xs (suc i) u)
   cut-sound ss xs page i s u h holder lt is below =
       let n = h.lengths in
       let low : Span = record { first = s.first; pages = page - s.first } in
@@ -405,7 +440,7 @@ rise-first low [] i d r lt = absurd (omega arith)
 rise-first low (s ∷ ss) zero d r lt = r.0
 rise-first low (s ∷ ss) (suc i) d r lt = rise-first low ss i d r (omega arith)
 
-pub gap-here : (low pages : ℕ) (ss : List Span) (i : ℕ) (d : Span) → i < length ss → low + pages ≤ (get_or ss i d).first → gap_from low pages (drop i ss) ≡ Some low
+pub gap-here : (low pages : ℕ) (ss : List Span) (i : ℕ) (d : Span) → i < length ss → low + pages ≤ (get_or ss i d).first → gap_in_spans low pages (drop i ss) ≡ Some low
 gap-here low pages [] i d lt le = absurd (omega arith)
-gap-here low pages (s ∷ ss) zero d lt le = ap (λ (b : Bool). cond b (Some low) (gap_from (s.first + s.pages) pages ss)) (le-leb (low + pages) s.first le)
+gap-here low pages (s ∷ ss) zero d lt le = ap (λ (b : Bool). cond b (Some low) (gap_in_spans (s.first + s.pages) pages ss)) (le-leb (low + pages) s.first le)
 gap-here low pages (s ∷ ss) (suc i) d lt le = gap-here low pages ss i d (omega arith) le

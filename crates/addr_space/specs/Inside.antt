@@ -1,4 +1,4 @@
--- How the spans and the pieces are kept: two lists of one length, by rising page.
+-- How the spans and the pieces are kept: two lists of one length, by rising page. Inside: no public clause cites this.
 use Rattle.std.specs.Prelude.{◌≡◌, ℕ, ◌+◌, ◌<◌, ◌≤◌, ◌&&◌, nat_lt, nat_le, Bool, true, false, List, [], ◌∷◌, Option, Some, None, length, slice_index_or, zero, suc, if◌then◌else◌}
 use Rattle.addr_space.specs.declared.ranges.Span.{Span}
 use Rattle.addr_space.specs.Space.{Part, part, IsInOrder}
@@ -14,7 +14,7 @@ abbrev pub count_below : ℕ → List Span → ℕ
 count_below bound [] = 0
 count_below bound (s ∷ ss) = if nat_lt s.first bound then suc (count_below bound ss) else 0
 
-pub record IsSound {T : Type 0} (spans : List Span) (pieces : List T) : Type 0 where
+pub record IsSoundRanges {T : Type 0} (spans : List Span) (pieces : List T) : Type 0 where
   pub lengths : length spans ≡ length pieces
   pub ordered : IsInOrder 1 (joined spans pieces)
 
@@ -48,6 +48,6 @@ SpansRise low [] = Unit {0}
 SpansRise low (s ∷ ss) = (low ≤ s.first) × (0 < s.pages) × (s.first + s.pages ≤ 0x80000) × SpansRise (s.first + s.pages) ss
 
 -- the first room for so many pages at or behind `low`
-abbrev pub gap_from : ℕ → ℕ → List Span → Option ℕ
-gap_from low pages [] = if nat_lt low 0x80000 && nat_le (low + pages) 0x80000 then Some low else None
-gap_from low pages (s ∷ ss) = if nat_le (low + pages) s.first then Some low else gap_from (s.first + s.pages) pages ss
+abbrev pub gap_in_spans : ℕ → ℕ → List Span → Option ℕ
+gap_in_spans low pages [] = if nat_lt low 0x80000 && nat_le (low + pages) 0x80000 then Some low else None
+gap_in_spans low pages (s ∷ ss) = if nat_le (low + pages) s.first then Some low else gap_in_spans (s.first + s.pages) pages ss

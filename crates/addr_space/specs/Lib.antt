@@ -1,3 +1,4 @@
 pub mod Space
+pub mod Pages
 pub mod Inside
 pub mod Lends

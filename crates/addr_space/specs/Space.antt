@@ -1,4 +1,4 @@
--- What a contract sees of an address space: its pieces by rising page, and the room that is kept for more.
+-- What a contract sees of an address space: its pieces by rising page, and the room that is kept for more. Public clauses cite this.
 use Rattle.std.specs.Prelude.{◌≡◌, ℕ, ◌+◌, ◌-◌, ◌<◌, ◌≤◌, ◌==◌, ◌&&◌, nat_lt, nat_le, Bool, List, [], ◌∷◌, Option, Some, None, IsSome, if◌then◌else◌, find, option_map, refl}
 use Rattle.std.specs.Coded.{Coded, code_by, coded×, coded_ℕ, coded_list}
 
@@ -9,7 +9,7 @@ pub record Part (T : Type 0) : Type 0 where
   pub piece : T
 
 -- the pieces in the order of their pages, and how many more may go in without memory
-pub record Space (T : Type 0) : Type 0 where
+pub record RangesSeen (T : Type 0) : Type 0 where
   pub parts : List (Part T)
   pub spare : ℕ
 
@@ -17,7 +17,7 @@ abbrev pub part_code : {T : Type 0} → Coded T → Coded (Part T)
 part_code {T} code =
     code_by (ℕ × (ℕ × T)) (coded× coded_ℕ (coded× coded_ℕ code)) (λ p. (p.first, (p.pages, p.piece))) (λ t. record { first = t.0; pages = t.1.0; piece = t.1.1 }) (λ _. refl)
 
-abbrev pub space_code : {T : Type 0} → Coded T → Coded (Space T)
+abbrev pub space_code : {T : Type 0} → Coded T → Coded (RangesSeen T)
 space_code {T} code =
     code_by (List (Part T) × ℕ) (coded× (coded_list (part_code code)) coded_ℕ) (λ s. (s.parts, s.spare)) (λ t. record { parts = t.0; spare = t.1 }) (λ _. refl)
 
@@ -103,3 +103,8 @@ module _ {T : Type 0} where
   abbrev pub FindsNext : List (Part T) → ℕ → Option ℕ → Type 0
   FindsNext parts page None = (first : ℕ) → page ≤ first → begins parts first ≡ None
   FindsNext parts page (Some next) = (page ≤ next) × IsSome (begins parts next) × ((first : ℕ) → page ≤ first → first < next → begins parts first ≡ None)
+
+  -- what `last` answers: a part begins there, below the page, and no part begins between
+  abbrev pub FindsLast : List (Part T) → ℕ → Option ℕ → Type 0
+  FindsLast parts page None = (first : ℕ) → first < page → begins parts first ≡ None
+  FindsLast parts page (Some last) = (last < page) × IsSome (begins parts last) × ((first : ℕ) → last < first → first < page → begins parts first ≡ None)

@@ -1,8 +1,10 @@
 //! Address spaces: pieces of pages, each found by any of its pages.
 #![tactic(auto)]
 
+mod laws;
 mod ranges;
 #[cfg(test)]
 mod tests;
 
+pub use laws::pages_law;
 pub use ranges::Ranges;

@@ -1,8 +1,8 @@
 //! Pieces by page, in two vectors of one length: where each piece lies, and the piece.
 ghost use Rattle.std.specs.Prelude.{◌≡◌, ℕ, ◌+◌, ◌-◌, ◌<◌, ◌≤◌, ◌&&◌, nat_le, if◌then◌else◌, [], length, Option, Some, None, MatchOption, IfSome, IsSome, IsSomeAnd, OnOk, option_map, insert, remove, vec_len, vec_capacity};
 ghost use Rattle.std.specs.Borrow.{sem};
-ghost use Rattle.addr_space.specs.Space.{part, has, at, part_at, begins, next_first, put, cut_at, without, upper_of, IsInOrder, FindsGap, FindsNext};
-ghost use Rattle.addr_space.specs.Inside.{count_below, SpansRise, FindsHolder, FindsFirst, gap_from};
+ghost use Rattle.addr_space.specs.Space.{part, has, at, part_at, begins, next_first, put, cut_at, without, upper_of, IsInOrder, FindsGap, FindsNext, FindsLast, with_piece};
+ghost use Rattle.addr_space.specs.Inside.{count_below, SpansRise, FindsHolder, FindsFirst, gap_in_spans};
 
 use std::alloc::{AllocError, Global};
 use std::marker::Model;
@@ -29,20 +29,20 @@ pub struct Ranges<T> {
 
 impl<T> Model for Ranges<T> {
     ghost use Rattle.std.specs.Prelude.{◌-◌, min, vec_len, vec_capacity};
-    ghost use Rattle.addr_space.specs.Space.{Space, space_code};
+    ghost use Rattle.addr_space.specs.Space.{RangesSeen, space_code};
 
-    ghost Value = { Space T };
+    ghost Value = { RangesSeen T };
 
     ghost coded = { space_code T.code };
 
-    ghost use Rattle.addr_space.specs.Inside.{joined, IsSound};
+    ghost use Rattle.addr_space.specs.Inside.{joined, IsSoundRanges};
 
     ghost view = { λ r. record {
       parts = joined r.spans.items r.pieces.items;
       spare = min (vec_capacity r.spans - vec_len r.spans) (vec_capacity r.pieces - vec_len r.pieces);
     } };
 
-    ghost invariant = { λ r. IsSound r.spans.items r.pieces.items };
+    ghost invariant = { λ r. IsSoundRanges r.spans.items r.pieces.items };
 }
 
 // How many spans at the front begin below the bound.
@@ -83,7 +83,7 @@ fn place_from(spans: &Vec<Span>, page: u32) -> Option<usize>
 // The room for so many pages behind the last piece, which ends before `low`.
 fn room_from(low: u32, pages: u32) -> Option<u32>
     requires { low ≤ 0x80000 }
-    ensures { result ≡ gap_from low pages [] }
+    ensures { result ≡ gap_in_spans low pages [] }
 {
     if low < END && pages <= END - low {
         Some(low)
@@ -132,9 +132,10 @@ impl<T> Ranges<T> {
 
     /// The first page of the piece that has this page, its number of pages, and the piece.
     ///
-    /// In the logarithm of the number of pieces.
+    /// Time: the logarithm of the number of pieces.
     pub fn find(&self, page: u32) -> Option<(u32, u32, &T)>
-        ensures found { MatchOption result (part_at self.now.parts page ≡ None) (λ r. part_at self.now.parts page ≡ Some (part r.0 r.1 r.2.now)) }
+        ensures found { MatchOption result (part_at self.now.parts page ≡ None)
+            (λ r. part_at self.now.parts page ≡ Some (part r.0 r.1 r.2.now)) }
         ensures ordered { IsInOrder 1 self.now.parts }
     {
         let place = place_of(&self.spans, page)?;
@@ -144,10 +145,15 @@ impl<T> Ranges<T> {
 
     /// The piece that has this page, to write to. What is written changes that piece alone.
     ///
-    /// In the logarithm of the number of pieces.
+    /// Time: the logarithm of the number of pieces.
     pub fn find_mut(&mut self, page: u32) -> Option<&mut T>
         ensures* writes_back { sem 𝓛 (lends_piece T.row self.entry page result) }
-        ensures found { MatchOption result (part_at self.old.parts page ≡ None) (λ r. option_map (λ p. p.piece) (part_at self.old.parts page) ≡ Some r.now) }
+        ensures found { MatchOption result (part_at self.old.parts page ≡ None)
+            (λ r. option_map (λ p. p.piece) (part_at self.old.parts page) ≡ Some r.now) }
+        ensures pages { IfSome (part_at self.old.parts page) (λ p. (w : T) (q : ℕ) →
+            at (with_piece page w self.old.parts) q
+            ≡ (if has p q then Some (w, q - p.first) else at self.old.parts q)) }
+        ensures ordered { (w : T) → IsInOrder 1 (with_piece page w self.old.parts) }
     {
         let place = place_of(&self.spans, page)?;
         self.pieces.get_mut(place)
@@ -155,7 +161,7 @@ impl<T> Ranges<T> {
 
     /// The least first page of a piece that isn't below this page.
     ///
-    /// In the logarithm of the number of pieces.
+    /// Time: the logarithm of the number of pieces.
     pub fn next(&self, page: u32) -> Option<u32>
         ensures first { result ≡ next_first self.now.parts page }
         ensures least { FindsNext self.now.parts page result }
@@ -168,17 +174,30 @@ impl<T> Ranges<T> {
         }
     }
 
+    /// The greatest first page of a piece that is below this page. A caller that takes out all pieces,
+    /// or those of a range, takes them from the back: then nothing of what goes is moved.
+    ///
+    /// Time: the logarithm of the number of pieces.
+    pub fn last(&self, page: u32) -> Option<u32>
+        ensures { FindsLast self.now.parts page result }
+    {
+        let place = count_from(&self.spans, u64::from(page)).checked_sub(1)?;
+        Some(self.spans[place].first)
+    }
+
     /// Puts a piece of free pages in. It takes no memory: `spare` falls by one.
     ///
-    /// In the number of pieces behind it.
+    /// Time: the number of pieces after it.
     pub fn insert(&mut self, page: u32, pages: u32, piece: T)
         requires some { 0 < pages }
         requires low { 1 ≤ page }
         requires high { page + pages ≤ 0x80000 }
         requires absent { (q : ℕ) → page ≤ q → q < page + pages → part_at self.old.parts q ≡ None }
         requires room { 0 < self.old.spare }
+        // What it leaves.
         ensures parts { self.new.parts ≡ put (part page pages piece) self.old.parts }
-        ensures pages { (q : ℕ) → at self.new.parts q ≡ (if has (part page pages piece) q then Some (piece, q - page) else at self.old.parts q) }
+        ensures pages { (q : ℕ) → at self.new.parts q
+            ≡ (if has (part page pages piece) q then Some (piece, q - page) else at self.old.parts q) }
         ensures ordered { IsInOrder 1 self.new.parts }
         ensures spare { self.new.spare + 1 ≡ self.old.spare }
     {
@@ -190,12 +209,15 @@ impl<T> Ranges<T> {
     /// Cuts the piece that has this page in two before it: the piece keeps its pages below, and
     /// `upper` has the others, from place 0 on. It takes no memory: `spare` falls by one.
     ///
-    /// In the number of pieces behind it.
+    /// Time: the number of pieces after it.
     pub fn split_at(&mut self, page: u32, upper: T)
         requires across { IsSomeAnd (part_at self.old.parts page) (λ p. p.first < page) }
         requires room { 0 < self.old.spare }
+        // What it leaves.
         ensures parts { self.new.parts ≡ cut_at page upper self.old.parts }
-        ensures pages { IfSome (part_at self.old.parts page) (λ p. (q : ℕ) → at self.new.parts q ≡ (if has (upper_of page upper p) q then Some (upper, q - page) else at self.old.parts q)) }
+        ensures pages { IfSome (part_at self.old.parts page) (λ p. (q : ℕ) → at self.new.parts q
+            ≡ (if has (upper_of page upper p) q then Some (upper, q - page)
+            else at self.old.parts q)) }
         ensures ordered { IsInOrder 1 self.new.parts }
         ensures spare { self.new.spare + 1 ≡ self.old.spare }
     {
@@ -221,11 +243,13 @@ impl<T> Ranges<T> {
 
     /// Takes out the piece that begins with this page.
     ///
-    /// In the number of pieces behind it.
+    /// Time: the number of pieces after it.
     pub fn remove(&mut self, page: u32) -> Option<T>
         ensures taken { result ≡ option_map (λ p. p.piece) (begins self.old.parts page) }
         ensures parts { self.new.parts ≡ without page self.old.parts }
-        ensures pages { MatchOption (begins self.old.parts page) (self.new.parts ≡ self.old.parts) (λ p. (q : ℕ) → at self.new.parts q ≡ (if has p q then None else at self.old.parts q)) }
+        ensures pages { MatchOption (begins self.old.parts page) (self.new.parts ≡ self.old.parts)
+            (λ p. (q : ℕ) → at self.new.parts q
+            ≡ (if has p q then None else at self.old.parts q)) }
         ensures ordered { IsInOrder 1 self.new.parts }
         ensures spare { self.old.spare ≤ self.new.spare }
     {
@@ -236,7 +260,7 @@ impl<T> Ranges<T> {
 
     /// The least page from 1 on from which so many pages are free and lie below page 0x80000.
     ///
-    /// In the number of pieces.
+    /// Time: the number of pieces.
     pub fn gap(&self, pages: u32) -> Option<u32>
         ensures { FindsGap self.now.parts pages result }
     {

@@ -4,7 +4,7 @@ use Rattle.std.specs.Option.{IsSome, is_some, is_none}
 use Rattle.std.proofs.lemmas.Bool.{cases_lt}
 use Rattle.std.proofs.lemmas.List.{get_or_past, length_push, get_or_push, get_or_append_left}
 use Rattle.std.proofs.lemmas.List.Sums.{sum_by-set, count_by-le-length}
-use Rattle.anon_map.specs.Maps.{Map, map_at, IsThere, IsKept}
+use Rattle.anon_map.specs.Maps.{Map, anon_map_at, IsMapThere, IsSoundAnonMaps}
 
 -- how much a place of the list adds to the number of maps that are gone
 abbrev pub weight : Option Map → ℕ
@@ -14,44 +14,44 @@ weight_there : (m : Option Map) → IsSome m → weight m ≡ 0
 weight_there (Some map) there = refl
 weight_there None there = let clash : false ≡ true = there in cc
 
-pub there_within : (maps : List (Option Map)) (number : ℕ) → IsThere maps number → number < length maps
+pub there_within : (maps : List (Option Map)) (number : ℕ) → IsMapThere maps number → number < length maps
 there_within maps number there =
     ⊎_elim (λ lt. lt)
     (λ ge. let clash : false ≡ true = ap is_some (sym (get_or_past maps number None ge)) ∙ there in cc)
     (cases_lt number (length maps))
 
 -- a number that was given up isn't one of a map that is there
-pub gone_differs : (maps : List (Option Map)) (gone : List ℕ) (room number i : ℕ) → IsKept maps gone room → IsThere maps number → i < length gone → get_or gone i 0 ≢ number
+pub gone_differs : (maps : List (Option Map)) (gone : List ℕ) (room number i : ℕ) → IsSoundAnonMaps maps gone room → IsMapThere maps number → i < length gone → get_or gone i 0 ≢ number
 gone_differs maps gone room number i kept there lt same =
-    let clash : false ≡ true = ap is_some (sym (kept.absent i lt)) ∙ ap (λ (n : ℕ). is_some (map_at maps n)) same ∙ there in cc
+    let clash : false ≡ true = ap is_some (sym (kept.absent i lt)) ∙ ap (λ (n : ℕ). is_some (anon_map_at maps n)) same ∙ there in cc
 
 -- a map under the number that was given up last
 push_get : (more : List ℕ) (number i : ℕ) → i < length more → get_or (more ++ number ∷ []) i 0 ≡ get_or more i 0
 push_get more number i lt = get_or_append_left more (number ∷ []) 0 i lt
 
-pub last_gone : (maps : List (Option Map)) (more : List ℕ) (room number : ℕ) → IsKept maps (more ++ number ∷ []) room → (number < length maps) × (map_at maps number ≡ None)
+pub last_gone : (maps : List (Option Map)) (more : List ℕ) (room number : ℕ) → IsSoundAnonMaps maps (more ++ number ∷ []) room → (number < length maps) × (anon_map_at maps number ≡ None)
 last_gone maps more room number kept =
     let lt : length more < length (more ++ number ∷ []) = omega (arith, length_push more number) in
     let last : get_or (more ++ number ∷ []) (length more) 0 ≡ number = get_or_push more number 0 (length more) refl in
-    (subst (λ (n : ℕ). n < length maps) last (kept.within (length more) lt), ap (map_at maps) (sym last) ∙ kept.absent (length more) lt)
+    (subst (λ (n : ℕ). n < length maps) last (kept.within (length more) lt), ap (anon_map_at maps) (sym last) ∙ kept.absent (length more) lt)
 
-pub last_differs : (maps : List (Option Map)) (more : List ℕ) (room number i : ℕ) → IsKept maps (more ++ number ∷ []) room → i < length more → get_or more i 0 ≢ number
+pub last_differs : (maps : List (Option Map)) (more : List ℕ) (room number i : ℕ) → IsSoundAnonMaps maps (more ++ number ∷ []) room → i < length more → get_or more i 0 ≢ number
 last_differs maps more room number i kept lt same =
     let long : length (more ++ number ∷ []) ≡ length more + 1 = length_push more number in
     let at : i ≡ length more = kept.apart i (length more) (omega arith) (omega arith) (push_get more number i lt ∙ same ∙ sym (get_or_push more number 0 (length more) refl)) in
     omega arith
 
-pub kept_again : (maps : List (Option Map)) (more : List ℕ) (room number : ℕ) (map : Map) → IsKept maps (more ++ number ∷ []) room → IsKept (set maps number (Some map)) more room
+pub kept_again : (maps : List (Option Map)) (more : List ℕ) (room number : ℕ) (map : Map) → IsSoundAnonMaps maps (more ++ number ∷ []) room → IsSoundAnonMaps (set maps number (Some map)) more room
 kept_again maps more room number map kept =
     let last = last_gone maps more room number kept in
     let long : length (more ++ number ∷ []) ≡ length more + 1 = length_push more number in
-    let before : weight (map_at maps number) ≡ 1 = ap weight last.1 in
+    let before : weight (anon_map_at maps number) ≡ 1 = ap weight last.1 in
     record {
       within = λ i lt. let inside : get_or (more ++ number ∷ []) i 0 < length maps = kept.within i (omega arith) in
           omega (arith, push_get more number i lt, length-set maps number (Some map));
       absent = λ i lt. let inside : i < length (more ++ number ∷ []) = omega arith in
           get_or-set_other maps number (get_or more i 0) (Some map) None (last_differs maps more room number i kept lt)
-          ∙ ap (map_at maps) (sym (push_get more number i lt)) ∙ kept.absent i inside;
+          ∙ ap (anon_map_at maps) (sym (push_get more number i lt)) ∙ kept.absent i inside;
       apart = λ i j below_i below_j same. kept.apart i j (omega arith) (omega arith) (push_get more number i below_i ∙ same ∙ sym (push_get more number j below_j));
       counted = omega (arith, kept.counted, before, sum_by-set weight maps number (Some map) None last.0);
       roomy = omega (arith, kept.roomy, length-set maps number (Some map));
@@ -59,7 +59,7 @@ kept_again maps more room number map kept =
     }
 
 -- a map that is gone
-pub kept_gone : (maps : List (Option Map)) (gone : List ℕ) (room number : ℕ) → IsKept maps gone room → IsThere maps number → IsKept (set maps number None) (gone ++ number ∷ []) room
+pub kept_gone : (maps : List (Option Map)) (gone : List ℕ) (room number : ℕ) → IsSoundAnonMaps maps gone room → IsMapThere maps number → IsSoundAnonMaps (set maps number None) (gone ++ number ∷ []) room
 kept_gone maps gone room number kept there =
     let long : length (gone ++ number ∷ []) ≡ length gone + 1 = length_push gone number in
     let inside : number < length maps = there_within maps number there in
@@ -72,9 +72,9 @@ kept_gone maps gone room number kept there =
           (λ e. omega (arith, ap (λ (k : ℕ). get_or (gone ++ number ∷ []) k 0) e))
           (at i lt);
       absent = λ i lt. ⊎_elim
-          (λ below. ap (map_at (set maps number None)) (push_get gone number i below)
+          (λ below. ap (anon_map_at (set maps number None)) (push_get gone number i below)
           ∙ get_or-set_other maps number (get_or gone i 0) None None (gone_differs maps gone room number i kept there below) ∙ kept.absent i below)
-          (λ e. ap (map_at (set maps number None)) (ap (λ (k : ℕ). get_or (gone ++ number ∷ []) k 0) e ∙ last) ∙ get_or-set_same maps number None None inside)
+          (λ e. ap (anon_map_at (set maps number None)) (ap (λ (k : ℕ). get_or (gone ++ number ∷ []) k 0) e ∙ last) ∙ get_or-set_same maps number None None inside)
           (at i lt);
       apart = λ i j below_i below_j same. ⊎_elim
           (λ i_in. ⊎_elim
@@ -86,13 +86,13 @@ kept_gone maps gone room number kept there =
           (λ j_last. i_last ∙ sym j_last)
           (at j below_j))
           (at i below_i);
-      counted = omega (arith, kept.counted, weight_there (map_at maps number) there, sum_by-set weight maps number None None inside);
+      counted = omega (arith, kept.counted, weight_there (anon_map_at maps number) there, sum_by-set weight maps number None None inside);
       roomy = omega (arith, kept.roomy);
       few = omega (arith, kept.few);
     }
 
 -- there is room for one number more where a map is there
-pub room_for : (maps : List (Option Map)) (gone : List ℕ) (room number : ℕ) → IsKept maps gone room → IsThere maps number → length gone < room
+pub room_for : (maps : List (Option Map)) (gone : List ℕ) (room number : ℕ) → IsSoundAnonMaps maps gone room → IsMapThere maps number → length gone < room
 room_for maps gone room number kept there =
     let after = kept_gone maps gone room number kept there in
     omega (arith, after.counted, after.roomy, length_push gone number, count_by-le-length is_none (set maps number None))

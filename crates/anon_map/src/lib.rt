@@ -3,7 +3,7 @@
 
 ghost use Rattle.std.specs.Prelude.{◌≡◌, ℕ, ◌+◌, ◌-◌, ◌^◌, ◌<◌, ◌≤◌, ◌↔◌, List, [], length, take, drop, Option, Some, None, IsTrue, IfOk, OnErr, slice_set, slice_index_or, slice_range, replicate};
 ghost use Rattle.std.specs.Bool.{OnTrue, OnFalse};
-ghost use Rattle.anon_map.specs.Maps.{Map, map_at, places_of, holders_of, IsThere, IsUnused, AllThere, AreEmpty, held_once, with_map, with_places, with_holders};
+ghost use Rattle.anon_map.specs.Maps.{Map, anon_map_at, places_of, holders_of, IsMapThere, IsUnused, AllThere, AreEmpty, held_once, with_map, with_places, with_holders};
 
 mod map;
 #[cfg(test)]
@@ -24,13 +24,13 @@ pub struct AnonMaps {
 
 impl Model for AnonMaps {
     ghost use Rattle.std.specs.Prelude.{List, Option, vec_capacity};
-    ghost use Rattle.anon_map.specs.Maps.{Map, IsKept};
+    ghost use Rattle.anon_map.specs.Maps.{Map, IsSoundAnonMaps};
 
     ghost Value = { List (Option Map) };
 
     ghost view = { λ s. s.maps.items };
 
-    ghost invariant = { λ s. IsKept s.maps.items s.gone.items (vec_capacity s.gone) };
+    ghost invariant = { λ s. IsSoundAnonMaps s.maps.items s.gone.items (vec_capacity s.gone) };
 }
 
 impl AnonMaps {
@@ -45,12 +45,14 @@ impl AnonMaps {
         }
     }
 
-    /// A map of `pages` places without a slot, with one holder, under a number that no map has. Time and memory grow
-    /// with `pages`. A number is new only where no map is gone. The error also comes where all numbers are taken.
+    /// A map of `pages` places without a slot, with one holder, under a number that no map has. Time
+    /// and memory grow with `pages`. A number is new only where no map is gone. The error also comes
+    /// where all numbers are taken.
     pub fn make(&mut self, pages: u32) -> Result<u32, AllocError>
         ensures unused { IfOk result (λ number. IsUnused self.old number) }
         ensures again { IfOk result (λ number. number ≡ length self.old → AllThere self.old) }
-        ensures made { IfOk result (λ number. self.new ≡ with_map self.old number (held_once (replicate pages None))) }
+        ensures made { IfOk result (λ number. self.new
+            ≡ with_map self.old number (held_once (replicate pages None))) }
         ensures err { OnErr result (self.new ≡ self.old) }
     {
         let places = vec![in self.alloc; None; pages as usize]?;
@@ -59,7 +61,7 @@ impl AnonMaps {
 
     /// One holder more.
     pub fn hold(&mut self, map: u32)
-        requires there { IsThere self.old map }
+        requires there { IsMapThere self.old map }
         requires fits { holders_of self.old map < 2 ^ 32 - 1 }
         ensures { self.new ≡ with_holders self.old map (holders_of self.old map + 1) }
     {
@@ -67,13 +69,15 @@ impl AnonMaps {
         self.set_holders(map, holders + 1);
     }
 
-    /// One holder less, and answers whether it was the last: then the map is gone, and its number is used again.
+    /// One holder less, and answers whether it was the last: then the map is gone, and its number is
+    /// used again.
     pub fn release(&mut self, map: u32) -> bool
-        requires there { IsThere self.old map }
+        requires there { IsMapThere self.old map }
         requires empty { holders_of self.old map ≡ 1 → AreEmpty (places_of self.old map) }
         ensures last { IsTrue result ↔ (holders_of self.old map ≡ 1) }
         ensures gone { OnTrue result (self.new ≡ slice_set self.old map None) }
-        ensures kept { OnFalse result (self.new ≡ with_holders self.old map (holders_of self.old map - 1)) }
+        ensures kept { OnFalse result
+            (self.new ≡ with_holders self.old map (holders_of self.old map - 1)) }
     {
         let holders = self.holders(map);
         if holders > 1 {
@@ -87,14 +91,14 @@ impl AnonMaps {
 
     /// Whether a number names a map that is there.
     pub fn is_there(&self, map: u32) -> bool
-        ensures { IsTrue result ↔ IsThere self.now map }
+        ensures { IsTrue result ↔ IsMapThere self.now map }
     {
         matches!(self.maps.get(map as usize), Some(Some(_)))
     }
 
     /// How many places a map has.
     pub fn pages(&self, map: u32) -> u32
-        requires { IsThere self.now map }
+        requires { IsMapThere self.now map }
         ensures { result ≡ length (places_of self.now map) }
     {
         self.map(map).pages()
@@ -102,7 +106,7 @@ impl AnonMaps {
 
     /// How many holders a map has: one at least.
     pub fn holders(&self, map: u32) -> u32
-        requires { IsThere self.now map }
+        requires { IsMapThere self.now map }
         ensures value { result ≡ holders_of self.now map }
         ensures some { 0 < result }
     {
@@ -111,7 +115,7 @@ impl AnonMaps {
 
     /// The slot at a place of a map, if there is one, in constant time.
     pub fn get(&self, map: u32, i: u32) -> Option<u32>
-        requires there { IsThere self.now map }
+        requires there { IsMapThere self.now map }
         requires within { i < length (places_of self.now map) }
         ensures { result ≡ slice_index_or (places_of self.now map) i None }
     {
@@ -120,7 +124,7 @@ impl AnonMaps {
 
     /// Writes a place of a map.
     pub fn set(&mut self, map: u32, i: u32, slot: Option<u32>)
-        requires there { IsThere self.old map }
+        requires there { IsMapThere self.old map }
         requires within { i < length (places_of self.old map) }
         ensures { self.new ≡ with_places self.old map (slice_set (places_of self.old map) i slot) }
     {
@@ -130,14 +134,16 @@ impl AnonMaps {
         }
     }
 
-    /// A new map with the slots of `pages` places from `from` on, and one holder. The caller counts each of these slots
-    /// once more. The number is as in `make`.
+    /// A new map with the slots of `pages` places from `from` on, and one holder. The caller counts
+    /// each of these slots once more. The number is as in `make`.
     pub fn copy_range(&mut self, map: u32, from: u32, pages: u32) -> Result<u32, AllocError>
-        requires there { IsThere self.old map }
+        requires there { IsMapThere self.old map }
         requires within { from + pages ≤ length (places_of self.old map) }
+        // The new map.
         ensures unused { IfOk result (λ number. IsUnused self.old number) }
         ensures again { IfOk result (λ number. number ≡ length self.old → AllThere self.old) }
-        ensures copied { IfOk result (λ number. self.new ≡ with_map self.old number (held_once (slice_range (places_of self.old map) from (from + pages)))) }
+        ensures copied { IfOk result (λ number. self.new ≡ with_map self.old number
+            (held_once (slice_range (places_of self.old map) from (from + pages)))) }
         ensures err { OnErr result (self.new ≡ self.old) }
     {
         let range = &self.map(map).places()[from as usize..from as usize + pages as usize];
@@ -145,15 +151,18 @@ impl AnonMaps {
         self.add(AnonMap::new(places))
     }
 
-    /// Cuts a map in two: it keeps its first `at` places, and a new map with one holder has the others. The number is as
-    /// in `make`.
+    /// Cuts a map in two: it keeps its first `at` places, and a new map with one holder has the
+    /// others. The number is as in `make`.
     pub fn cut(&mut self, map: u32, at: u32) -> Result<u32, AllocError>
-        requires there { IsThere self.old map }
+        requires there { IsMapThere self.old map }
         requires alone { holders_of self.old map ≡ 1 }
         requires within { at ≤ length (places_of self.old map) }
+        // The two maps.
         ensures unused { IfOk result (λ number. IsUnused self.old number) }
         ensures again { IfOk result (λ number. number ≡ length self.old → AllThere self.old) }
-        ensures parted { IfOk result (λ number. self.new ≡ with_places (with_map self.old number (held_once (drop at (places_of self.old map)))) map (take at (places_of self.old map))) }
+        ensures parted { IfOk result (λ number. self.new
+            ≡ with_places (with_map self.old number (held_once (drop at (places_of self.old map))))
+            map (take at (places_of self.old map))) }
         ensures err { OnErr result (self.new ≡ self.old) }
     {
         let pages = self.pages(map);
@@ -167,8 +176,8 @@ impl AnonMaps {
 
     // The map of a number.
     fn map(&self, map: u32) -> &AnonMap
-        requires { IsThere self.now map }
-        ensures { map_at self.now map ≡ Some result.now }
+        requires { IsMapThere self.now map }
+        ensures { anon_map_at self.now map ≡ Some result.now }
     {
         match &self.maps[map as usize] {
             Some(held) => held,
@@ -178,7 +187,7 @@ impl AnonMaps {
 
     // Writes how many hold the map of a number.
     fn set_holders(&mut self, map: u32, holders: u32)
-        requires there { IsThere self.old map }
+        requires there { IsMapThere self.old map }
         requires some { 0 < holders }
         ensures { self.new ≡ with_holders self.old map holders }
     {

@@ -7,7 +7,7 @@ use Rattle.std.proofs.lemmas.List.{map-set, set-get_or, get_or-map, get_or_past,
 use Rattle.std.proofs.lemmas.List.Sums.{sum_by-set, sum_by-cons}
 use Rattle.std.proofs.lemmas.List.Folds.{sum_by-replicate}
 use Rattle.std.proofs.lemmas.List.Quantifiers.{position-Some}
-use Rattle.anon_slots.specs.Slots.{is_used, IsKept}
+use Rattle.anon_slots.specs.Slots.{is_used, IsKeptAnonSlots, IsSoundAnonSlots}
 
 -- how much a count adds to the number of slots in use
 abbrev pub weight : ℕ → ℕ
@@ -24,7 +24,7 @@ pub map-replicate : (n : ℕ) → replicate n false ≡ map is_used (replicate n
 map-replicate zero = refl
 map-replicate (suc n) = ap (λ (l : List Bool). false ∷ l) (map-replicate n)
 
-pub kept_none : (n : ℕ) → n < 2 ^ 32 → IsKept (replicate n false) (replicate n 0) (replicate n false) 0 0
+pub kept_none : (n : ℕ) → n < 2 ^ 32 → IsKeptAnonSlots (replicate n false) (replicate n 0) (replicate n false) 0 0
 kept_none n fits = record {
   marked = map-replicate n;
   lengths = length-replicate n false ∙ sym (length-replicate {A = ℕ} n 0);
@@ -34,7 +34,7 @@ kept_none n fits = record {
   fits = omega (arith, length-replicate {A = ℕ} n 0);
 }
 
-pub kept_count : (area : List Bool) (counts : List ℕ) (swapped : List Bool) (reserved in_use slot count : ℕ) → IsKept area counts swapped reserved in_use → 0 < get_or counts slot 0 → 0 < count → IsKept area (set counts slot count) swapped reserved in_use
+pub kept_count : (area : List Bool) (counts : List ℕ) (swapped : List Bool) (reserved in_use slot count : ℕ) → IsKeptAnonSlots area counts swapped reserved in_use → 0 < get_or counts slot 0 → 0 < count → IsKeptAnonSlots area (set counts slot count) swapped reserved in_use
 kept_count area counts swapped reserved in_use slot count kept used some =
     let within : slot < length counts = within_from counts slot used in
     let before : is_used (get_or counts slot 0) ≡ true = used_from (get_or counts slot 0) used in
@@ -50,7 +50,7 @@ kept_count area counts swapped reserved in_use slot count kept used some =
       fits = omega (arith, kept.fits, length-set counts slot count);
     }
 
-pub kept_dropped : (area : List Bool) (counts : List ℕ) (swapped : List Bool) (reserved in_use slot : ℕ) → IsKept area counts swapped reserved in_use → 0 < get_or counts slot 0 → IsKept (set area slot false) (set counts slot 0) swapped reserved (in_use - 1)
+pub kept_dropped : (area : List Bool) (counts : List ℕ) (swapped : List Bool) (reserved in_use slot : ℕ) → IsKeptAnonSlots area counts swapped reserved in_use → 0 < get_or counts slot 0 → IsKeptAnonSlots (set area slot false) (set counts slot 0) swapped reserved (in_use - 1)
 kept_dropped area counts swapped reserved in_use slot kept used =
     let within : slot < length counts = within_from counts slot used in
     let before : weight (get_or counts slot 0) ≡ 1 = ap (λ (b : Bool). cond b 1 0) (used_from (get_or counts slot 0) used) in
@@ -63,7 +63,7 @@ kept_dropped area counts swapped reserved in_use slot kept used =
       fits = omega (arith, kept.fits, length-set counts slot 0);
     }
 
-pub kept_made : (area : List Bool) (counts : List ℕ) (swapped : List Bool) (reserved in_use slot count : ℕ) (mark : Bool) → IsKept area counts swapped reserved in_use → slot < length counts → get_or counts slot 0 ≡ 0 → in_use < reserved → 0 < count → IsKept (set area slot true) (set counts slot count) (set swapped slot mark) reserved (in_use + 1)
+pub kept_made : (area : List Bool) (counts : List ℕ) (swapped : List Bool) (reserved in_use slot count : ℕ) (mark : Bool) → IsKeptAnonSlots area counts swapped reserved in_use → slot < length counts → get_or counts slot 0 ≡ 0 → in_use < reserved → 0 < count → IsKeptAnonSlots (set area slot true) (set counts slot count) (set swapped slot mark) reserved (in_use + 1)
 kept_made area counts swapped reserved in_use slot count mark kept within unused room some =
     let before : weight (get_or counts slot 0) ≡ 0 = ap weight unused in
     let after : weight count ≡ 1 = ap (λ (b : Bool). cond b 1 0) (used_from count some) in
@@ -117,3 +117,16 @@ pub unused_at : (counts : List ℕ) (slot : ℕ) → position (λ count. count =
 unused_at counts slot first =
     let at = position-Some (λ count. count == 0) counts slot 0 first in
     (at.0, eqb-true (get_or counts slot 0) 0 at.1)
+
+-- what a caller sees of what is kept
+pub seen_sound : (area : List Bool) (counts : List ℕ) (swapped : List Bool) (reserved in_use : ℕ) → IsKeptAnonSlots area counts swapped reserved in_use → IsSoundAnonSlots (record { counts = counts; swapped = swapped; reserved = reserved })
+seen_sound area counts swapped reserved in_use kept = record {
+  lengths = kept.lengths;
+  used = omega (arith, kept.counted, kept.used);
+  reserved = kept.within;
+  fits = kept.fits;
+}
+
+pub used_made : (counts : List ℕ) (slot : ℕ) → slot < length counts → get_or counts slot 0 ≡ 0 → count_by is_used (set counts slot 1) ≡ count_by is_used counts + 1
+used_made counts slot within unused =
+    let before : weight (get_or counts slot 0) ≡ 0 = ap weight unused in omega (arith, before, sum_by-set weight counts slot 1 0 within)

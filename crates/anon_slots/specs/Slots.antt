@@ -1,4 +1,4 @@
--- Slots for anonymous pages, by number.
+-- Slots for anonymous pages, by number. Public clauses cite this.
 use Rattle.std.specs.Prelude.{◌≡◌, ℕ, ◌<◌, ◌≤◌, ◌^◌, ◌==◌, Bool, false, not, List, length, map, replicate, count_by, slice_index, slice_set}
 
 -- how many map places hold each slot, whether a page of each was pushed, and how many slots are reserved
@@ -20,30 +20,30 @@ abbrev pub slots_in_use : Slots → ℕ
 slots_in_use s = count_by is_used s.counts
 
 -- how many map places hold the slot
-abbrev pub count_of : Slots → ℕ → ℕ
-count_of s slot = slice_index s.counts slot
+abbrev pub count_at : Slots → ℕ → ℕ
+count_at s slot = slice_index s.counts slot
 
 -- the slot is there and some map place holds it
-abbrev pub IsInUse : Slots → ℕ → Type 0
-IsInUse s slot = 0 < count_of s slot
+abbrev pub IsHeldSlot : Slots → ℕ → Type 0
+IsHeldSlot s slot = 0 < count_at s slot
 
 -- the slots with another count of one slot
 abbrev pub with_count : Slots → ℕ → ℕ → Slots
 with_count s slot count = record s { counts = slice_set s.counts slot count }
 
 -- the slots with one slot held by one place, and not pushed
-abbrev pub with_made : Slots → ℕ → Slots
-with_made s slot = record s { counts = slice_set s.counts slot 1; swapped = slice_set s.swapped slot false }
+abbrev pub with_new_slot : Slots → ℕ → Slots
+with_new_slot s slot = record s { counts = slice_set s.counts slot 1; swapped = slice_set s.swapped slot false }
 
 -- the slots in use are reserved, and no more are reserved than there are
-pub record IsSound (s : Slots) : Type 0 where
+pub record IsSoundAnonSlots (s : Slots) : Type 0 where
   pub lengths : length s.swapped ≡ length s.counts
   pub used : slots_in_use s ≤ s.reserved
   pub reserved : s.reserved ≤ length s.counts
   pub fits : length s.counts < 2 ^ 32
 
 -- what is kept agrees: the swap area has the slots in use, and they are counted
-pub record IsKept (area : List Bool) (counts : List ℕ) (swapped : List Bool) (reserved in_use : ℕ) : Type 0 where
+pub record IsKeptAnonSlots (area : List Bool) (counts : List ℕ) (swapped : List Bool) (reserved in_use : ℕ) : Type 0 where
   pub marked : area ≡ map is_used counts
   pub lengths : length swapped ≡ length counts
   pub counted : in_use ≡ count_by is_used counts

@@ -5,7 +5,7 @@ use Rattle.std.proofs.lemmas.Bool.{cases_lt}
 use Rattle.block_device.specs.DiskSeen.{IsBlock, Spoils}
 use Rattle.std.specs.Prelude.{Bool, if◌then◌else◌}
 use Rattle.block_device.specs.MemSeen.{CallsSeen, MemDiskSeen, torn, counted, after_call, after_write}
-use Rattle.block_device.specs.MemDiskLook.{bytes_of}
+use Rattle.block_device.specs.MemDiskLook.{blocks_seen}
 use Rattle.block_device.specs.declared.block.Block.{Block}
 
 -- the first half of a block
@@ -30,19 +30,19 @@ torn_is_block old new o n =
     (omega (arith, length-append (take 2048 new) (drop 2048 old), length-drop 2048 old, half_length new n.0, o.0), torn_fits old new o n)
 
 -- One block was replaced.
-pub bytes_of-set : (blocks : List Block) (at : ℕ) (block : Block) (bytes : List ℕ) → block.bytes ≡ bytes → bytes_of (set blocks at block) ≡ set (bytes_of blocks) at bytes
-bytes_of-set blocks at block bytes is = map-set (λ b. b.bytes) blocks at block ∙ ap (set (bytes_of blocks) at) is
+pub blocks_seen-set : (blocks : List Block) (at : ℕ) (block : Block) (bytes : List ℕ) → block.bytes ≡ bytes → blocks_seen (set blocks at block) ≡ set (blocks_seen blocks) at bytes
+blocks_seen-set blocks at block bytes is = map-set (λ b. b.bytes) blocks at block ∙ ap (set (blocks_seen blocks) at) is
 
 -- One block was replaced by some other one.
-pub spoils : (blocks : List Block) (at : ℕ) (block : Block) → Spoils (Some (bytes_of blocks)) (Some (bytes_of (set blocks at block))) at
-spoils blocks at block = (block.bytes, block.full, ap (λ (all : List (List ℕ)). Some all) (bytes_of-set blocks at block block.bytes refl))
+pub spoils : (blocks : List Block) (at : ℕ) (block : Block) → Spoils (Some (blocks_seen blocks)) (Some (blocks_seen (set blocks at block))) at
+spoils blocks at block = (block.bytes, block.full, ap (λ (all : List (List ℕ)). Some all) (blocks_seen-set blocks at block block.bytes refl))
 
 -- As many blocks are there.
-pub size_kept : (blocks : List Block) (at : ℕ) (block : Block) → length (bytes_of (set blocks at block)) ≡ length (bytes_of blocks)
+pub size_kept : (blocks : List Block) (at : ℕ) (block : Block) → length (blocks_seen (set blocks at block)) ≡ length (blocks_seen blocks)
 size_kept blocks at block = length-map (set blocks at block) (λ (b : Block). b.bytes) ∙ length-set blocks at block ∙ sym (length-map blocks (λ (b : Block). b.bytes))
 
 -- the bytes of the block there
-pub bytes_at : (blocks : List Block) (at : ℕ) (block : Block) → at < length (bytes_of blocks) → block ≡ get_or blocks at block → block.bytes ≡ get_or (bytes_of blocks) at []
+pub bytes_at : (blocks : List Block) (at : ℕ) (block : Block) → at < length (blocks_seen blocks) → block ≡ get_or blocks at block → block.bytes ≡ get_or (blocks_seen blocks) at []
 bytes_at blocks at block inside is =
     let within : at < length blocks = omega (arith, inside, length-map blocks (λ (b : Block). b.bytes)) in
     ap (λ (b : Block). b.bytes) is ∙ sym (get_or-map (λ (b : Block). b.bytes) blocks at block [] within)

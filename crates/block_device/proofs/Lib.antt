@@ -1,4 +1,5 @@
 pub mod BlockLemmas
 pub mod CallLemmas
+pub mod CountLemmas
 pub mod MemLemmas
 pub mod StreamLemmas

@@ -1,5 +1,6 @@
 pub mod Counts
 pub mod DiskSeen
+pub mod Faults
 pub mod MemDiskLook
 pub mod MemRackSeen
 pub mod MemSeen

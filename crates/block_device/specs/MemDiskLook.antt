@@ -7,19 +7,19 @@ use Rattle.block_device.specs.declared.block.Block.{Block}
 use Rattle.block_device.specs.declared.mem_disk.MemDisk.{MemDisk}
 
 -- the bytes of blocks
-abbrev pub bytes_of : List Block → List (List ℕ)
-bytes_of blocks = map (λ block. block.bytes) blocks
+abbrev pub blocks_seen : List Block → List (List ℕ)
+blocks_seen blocks = map (λ block. block.bytes) blocks
 
 -- a memory disk as its blocks, its calls and their counts
 abbrev pub look : MemDisk → MemDiskSeen
-look d = record { blocks = bytes_of d.blocks.items; calls = d.calls; reads = d.reads; writes = d.writes }
+look d = record { blocks = blocks_seen d.blocks.items; calls = d.calls; reads = d.reads; writes = d.writes }
 
 -- Blocks have 4096 bytes each.
-pub bytes_of_are_blocks : (blocks : List Block) → AreBlocks (bytes_of blocks)
-bytes_of_are_blocks [] block inside = absurd (not-suc-le-zero inside)
-bytes_of_are_blocks (b ∷ blocks) zero inside = b.full
-bytes_of_are_blocks (b ∷ blocks) (suc block) inside = bytes_of_are_blocks blocks block (le_of_suc-le-suc inside)
+pub blocks_seen_are_blocks : (blocks : List Block) → AreBlocks (blocks_seen blocks)
+blocks_seen_are_blocks [] block inside = absurd (not-suc-le-zero inside)
+blocks_seen_are_blocks (b ∷ blocks) zero inside = b.full
+blocks_seen_are_blocks (b ∷ blocks) (suc block) inside = blocks_seen_are_blocks blocks block (le_of_suc-le-suc inside)
 
 -- The content of a memory disk is blocks of 4096 bytes.
 pub look_has_blocks : (d : MemDisk) → HasBlocks (disk_of (look d)).content (disk_of (look d)).size
-look_has_blocks d = (refl, bytes_of_are_blocks d.blocks.items)
+look_has_blocks d = (refl, blocks_seen_are_blocks d.blocks.items)

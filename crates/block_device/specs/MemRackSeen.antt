@@ -1,36 +1,52 @@
--- What contracts see of a rack in memory, and what attaching does.
-use Rattle.std.specs.Prelude.{ℕ, List, [], None, Bool, true, slice_index_or}
-use Rattle.block_device.specs.MemSeen.{CallsSeen, MemDiskSeen, is_next_listed, after_call, fresh_disk, blank}
-use Rattle.block_device.specs.RackSeen.{RackSeen}
+-- What contracts see of a rack in memory, and what attaching does. Public clauses cite this.
+use Rattle.std.specs.Prelude.{ℕ, List, [], ◌++◌, ◌∷◌, Option, Some, Bool, ◌||◌, is_none, unwrap_or, slice_index_or}
+use Rattle.std.specs.Map.{lookup}
+use Rattle.std.specs.Str.{bytes_eq}
+use Rattle.block_device.specs.MemSeen.{CallsSeen, MemDiskSeen, is_next_listed, no_calls, after_call, fresh_disk, blank}
+use Rattle.block_device.specs.RackSeen.{RackSeen, spec_number}
 use Rattle.block_device.specs.declared.rack.Spec.{Spec}
 use Rattle.block_device.specs.declared.rack.Spec.TheVariants.{Blank, Path}
 
--- a rack in memory: for each disk number the calls of that disk that are to fail, and its own calls
+-- a rack in memory: the paths and the blocks of the disks that it keeps, for each disk number the calls of
+-- that disk that are to fail, and its own calls
 pub record MemRackSeen : Type 0 where
+  pub kept : List (List ℕ × List (List ℕ))
   pub disks_fail_at : List (List ℕ)
   pub calls : CallsSeen
 
--- It keeps no disk by path, so it tells none.
+-- a rack that keeps no disk, and of which no call was made yet
+abbrev pub fresh_rack : List ℕ → List (List ℕ) → MemRackSeen
+fresh_rack fail_at disks_fail_at = record { kept = []; disks_fail_at = disks_fail_at; calls = no_calls fail_at }
+
+-- the rack with one more disk, kept under a path
+abbrev pub with_kept : MemRackSeen → List ℕ → List (List ℕ) → MemRackSeen
+with_kept r path blocks = record r { kept = r.kept ++ (path, blocks) ∷ [] }
+
+-- the blocks of the first disk that is kept under a path
+abbrev pub kept_under : MemRackSeen → List ℕ → Option (List (List ℕ))
+kept_under r path = lookup (bytes_eq path) r.kept
+
+-- the content of the disk of a spec
+abbrev pub content_for : MemRackSeen → Spec → Option (List (List ℕ))
+content_for r (Blank number blocks) = Some (blank blocks)
+content_for r (Path number path) = kept_under r path
+
+-- A memory rack tells what it holds.
 abbrev pub rack_of : MemRackSeen → RackSeen
-rack_of r = record { holds = λ spec. None; faults = r.calls.faults }
+rack_of r = record { holds = content_for r; faults = r.calls.faults }
 
 -- the calls of the disk of this number that are to fail
 abbrev pub disk_fails_at : MemRackSeen → ℕ → List ℕ
 disk_fails_at r number = slice_index_or r.disks_fail_at number []
 
--- Does the next attaching fail? It is listed, or asks for a disk by path.
+-- Does the next attaching fail? It is listed, or no disk is kept under the path that it asks for.
 abbrev pub is_spec_refused : MemRackSeen → Spec → Bool
-is_spec_refused r (Blank number blocks) = is_next_listed r.calls
-is_spec_refused r (Path number path) = true
+is_spec_refused r spec = is_next_listed r.calls || is_none (content_for r spec)
 
--- An attaching was counted.
+-- An attaching was counted. The rack keeps what it kept.
 abbrev pub after_attach : MemRackSeen → Spec → MemRackSeen
-after_attach r spec = record {
-  disks_fail_at = r.disks_fail_at;
-  calls = after_call r.calls (is_spec_refused r spec);
-}
+after_attach r spec = record r { calls = after_call r.calls (is_spec_refused r spec) }
 
 -- the disk that a spec asks for
 abbrev pub disk_for : MemRackSeen → Spec → MemDiskSeen
-disk_for r (Blank number blocks) = fresh_disk (blank blocks) (disk_fails_at r number)
-disk_for r (Path number path) = fresh_disk [] []
+disk_for r spec = fresh_disk (unwrap_or (content_for r spec) []) (disk_fails_at r (spec_number spec))

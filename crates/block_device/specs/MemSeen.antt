@@ -77,6 +77,10 @@ pub record MemSourceSeen : Type 0 where
   pub most : ℕ
   pub calls : CallsSeen
 
+-- a source of these bytes, of which no call was made yet
+abbrev pub fresh_source : List ℕ → ℕ → List ℕ → MemSourceSeen
+fresh_source bytes most fail_at = record { rest = bytes; most = most; calls = no_calls fail_at }
+
 -- A memory source tells what is still to come.
 abbrev pub source_of : MemSourceSeen → SourceSeen
 source_of s = record { rest = Some s.rest; faults = s.calls.faults }
@@ -100,6 +104,10 @@ pub record MemSinkSeen : Type 0 where
   pub room : ℕ
   pub most : ℕ
   pub calls : CallsSeen
+
+-- an empty sink, of which no call was made yet
+abbrev pub empty_sink : ℕ → ℕ → List ℕ → MemSinkSeen
+empty_sink room most fail_at = record { written = []; room = room; most = most; calls = no_calls fail_at }
 
 -- A memory sink tells what it took.
 abbrev pub sink_of : MemSinkSeen → SinkSeen

@@ -1,4 +1,4 @@
--- What contracts see of a disk before the machine runs, and of a fault that it meets.
+-- What contracts see of a fault that a disk meets before the machine runs. Public clauses cite this.
 use Rattle.std.specs.Prelude.{ℕ, Option, IfSome}
 use Rattle.block_device.specs.Counts.{HasRisen}
 
@@ -11,8 +11,3 @@ pub record OpenFaultSeen : Type 0 where
 -- The counts, where there are any, rose in one call, or stand at 2^64 - 1.
 abbrev pub HasRisenCounts : Option (ℕ × ℕ) → Type 0
 HasRisenCounts counts = IfSome counts (λ pair. HasRisen pair.0 pair.1)
-
--- a disk and its number
-pub record Numbered (D : Type 0) : Type 0 where
-  pub number : ℕ
-  pub disk : D

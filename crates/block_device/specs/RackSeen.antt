@@ -1,11 +1,11 @@
--- What contracts see of a rack, and what attaching a disk does.
+-- What contracts see of a rack, and what attaching a disk does. Public clauses cite this.
 use Rattle.std.specs.Prelude.{ℕ, ◌≡◌, ◌≢◌, ◌≤◌, List, Option, replicate, IfSome, Result, IfOk, IsErrOf}
 use Rattle.block_device.specs.Counts.{HasRisen}
 use Rattle.block_device.specs.DiskSeen.{DiskSeen}
 use Rattle.block_device.specs.declared.rack.Spec.{Spec}
 use Rattle.block_device.specs.declared.rack.Spec.TheVariants.{Blank, Path}
 use Rattle.block_device.specs.declared.rack.RackFault.{RackFault}
-use Rattle.block_device.specs.declared.rack.RackFault.TheVariants.{Failed}
+use Rattle.block_device.specs.declared.rack.RackFault.TheVariants.{Failed, Memory}
 
 -- The content of the disk of each spec, where the rack tells it, and how often attaching failed.
 pub record RackSeen : Type 0 where
@@ -13,9 +13,9 @@ pub record RackSeen : Type 0 where
   pub faults : ℕ
 
 -- the number of the disk that a spec asks for
-abbrev pub number_of : Spec → ℕ
-number_of (Blank number blocks) = number
-number_of (Path number path) = number
+abbrev pub spec_number : Spec → ℕ
+spec_number (Blank number blocks) = number
+spec_number (Path number path) = number
 
 -- The disk is the one that the spec asks for: a blank one has so many blocks, all zeros where it tells
 -- its content; one by path has the content that the rack holds for the spec.
@@ -26,11 +26,13 @@ IsAttached (Path number path) holds disk = disk.content ≡ holds
 
 -- What the rack holds for specs of other numbers is as it was.
 abbrev pub KeepsOthers : RackSeen → RackSeen → Spec → Type 0
-KeepsOthers old new spec = (other : Spec) → number_of other ≢ number_of spec → new.holds other ≡ old.holds other
+KeepsOthers old new spec = (other : Spec) → spec_number other ≢ spec_number spec → new.holds other ≡ old.holds other
 
--- What `attach` does: it gives the disk of the spec, or fails with a fault counted, or lacks memory.
+-- What `attach` does: it gives the disk of the spec, or fails with a fault counted, or lacks memory and
+-- leaves the rack as it was.
 pub record Attaches {D : Type 0} (old new : RackSeen) (spec : Spec) (seen : D → DiskSeen) (result : Result D RackFault) : Type 0 where
   pub attached : IfOk result (λ disk. IsAttached spec (old.holds spec) (seen disk))
   pub others : KeepsOthers old new spec
   pub later : old.faults ≤ new.faults
   pub failed : IsErrOf result Failed → HasRisen old.faults new.faults
+  pub memory : IsErrOf result Memory → new ≡ old

@@ -32,12 +32,14 @@ pub trait Disk: Drop {
     fn read(&mut self, block: u32, into: &mut [u8]) -> Result<(), Failed>
         requires block { block < (seen self.old).size }
         requires size { length into.old ≡ 4096 }
+        // It gives the block where the disk tells, changes none, and fails only with a fault counted.
         ensures { Reads (seen self.old) (seen self.new) block into.new result };
 
     /// Writes a block. After `Failed` what that block holds is arbitrary.
     fn write(&mut self, block: u32, from: &[u8]) -> Result<(), Failed>
         requires block { block < (seen self.old).size }
         requires size { length from.now ≡ 4096 }
+        // It changes that block alone, and fails only with a fault counted.
         ensures { Writes (seen self.old) (seen self.new) block from.now result };
 
     ghost has_blocks: { (disk : Self) → HasBlocks (seen disk).content (seen disk).size };

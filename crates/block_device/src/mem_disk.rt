@@ -20,7 +20,7 @@ pub struct MemDisk {
 
 impl MemDisk {
     ghost use Rattle.std.specs.Prelude.{IfOk};
-    ghost use Rattle.block_device.specs.MemDiskLook.{look, bytes_of};
+    ghost use Rattle.block_device.specs.MemDiskLook.{look, blocks_seen};
     ghost use Rattle.block_device.specs.MemSeen.{fresh_disk, blank};
 
     /// A disk of so many blocks, all zeros, whose calls of these numbers fail.
@@ -34,7 +34,7 @@ impl MemDisk {
     /// A disk with these blocks, whose calls of these numbers fail. Takes no memory.
     pub fn from_blocks(blocks: Vec<Block>, fail_at: Vec<u64>) -> MemDisk
         requires { vec_len blocks < 2 ^ 32 }
-        ensures { look result ≡ fresh_disk (bytes_of blocks.items) fail_at.items }
+        ensures { look result ≡ fresh_disk (blocks_seen blocks.items) fail_at.items }
     {
         MemDisk {
             blocks,
@@ -46,14 +46,14 @@ impl MemDisk {
 
     /// The blocks.
     pub fn content(&self) -> &[Block]
-        ensures { bytes_of result.now ≡ (look self.now).blocks }
+        ensures { blocks_seen result.now ≡ (look self.now).blocks }
     {
         self.blocks.as_slice()
     }
 
     /// The blocks. Takes no memory.
     pub fn into_blocks(self) -> Vec<Block>
-        ensures { bytes_of result.items ≡ (look self).blocks }
+        ensures { blocks_seen result.items ≡ (look self).blocks }
     {
         self.blocks
     }
@@ -96,7 +96,9 @@ impl Disk for MemDisk {
     fn read(&mut self, block: u32, into: &mut [u8]) -> Result<(), Failed>
         requires block { block < length (look self.old).blocks }
         requires size { length into.old ≡ 4096 }
-        ensures reads { Reads (disk_of (look self.old)) (disk_of (look self.new)) block into.new result }
+        ensures reads { Reads
+            (disk_of (look self.old)) (disk_of (look self.new)) block into.new result }
+        // Exactly this:
         ensures after { look self.new ≡ after_read (look self.old) (is_err result) }
         ensures fails { IsErr result ↔ IsTrue (is_next_listed (look self.old).calls) }
         ensures kept { OnErr result (into.new ≡ into.old) }
@@ -114,7 +116,9 @@ impl Disk for MemDisk {
     fn write(&mut self, block: u32, from: &[u8]) -> Result<(), Failed>
         requires block { block < length (look self.old).blocks }
         requires size { length from.now ≡ 4096 }
-        ensures writes { Writes (disk_of (look self.old)) (disk_of (look self.new)) block from.now result }
+        ensures writes { Writes
+            (disk_of (look self.old)) (disk_of (look self.new)) block from.now result }
+        // Exactly this:
         ensures after { look self.new ≡ after_write (look self.old) (is_err result) block from.now }
         ensures fails { IsErr result ↔ IsTrue (is_next_listed (look self.old).calls) }
     {

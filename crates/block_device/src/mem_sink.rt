@@ -1,6 +1,6 @@
 //! A sink in memory.
 ghost use Rattle.std.specs.Prelude.{◌≡◌, ◌<◌, ◌≤◌, ◌+◌, ◌↔◌, ◌++◌, ◌&&◌, nat_lt, nat_le, [], length, IsErr, IsTrue, is_err, IfOk};
-ghost use Rattle.block_device.specs.MemSeen.{no_calls, sink_of, after_take, taken_count, is_next_refused};
+ghost use Rattle.block_device.specs.MemSeen.{empty_sink, sink_of, after_take, taken_count, is_next_refused};
 ghost use Rattle.block_device.specs.StreamSeen.{WritesNext};
 
 use crate::failing::Failing;
@@ -41,7 +41,7 @@ impl MemSink {
         fail_at: Vec<u64>,
     ) -> Result<MemSink, AllocError>
         requires { 0 < most }
-        ensures { IfOk result (λ sink. sink ≡ record { written = []; room = room; most = most; calls = no_calls fail_at.items }) }
+        ensures { IfOk result (λ sink. sink ≡ empty_sink room most fail_at.items) }
     {
         Ok(MemSink {
             text: Vec::with_capacity(alloc, room)?,

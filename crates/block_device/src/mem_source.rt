@@ -1,6 +1,6 @@
 //! A source in memory.
 ghost use Rattle.std.specs.Prelude.{◌≡◌, ◌<◌, ◌↔◌, ◌++◌, length, take, drop, IsErr, IsTrue, is_err, IfOk, OnErr};
-ghost use Rattle.block_device.specs.MemSeen.{no_calls, source_of, after_give, given_count, is_next_listed};
+ghost use Rattle.block_device.specs.MemSeen.{fresh_source, source_of, after_give, given_count, is_next_listed};
 ghost use Rattle.block_device.specs.StreamSeen.{ReadsNext};
 
 use crate::failing::Failing;
@@ -34,7 +34,7 @@ impl MemSource {
     /// A source of these bytes, at most `most` of them at a time, whose calls of these numbers fail.
     pub fn new(bytes: Vec<u8>, most: usize, fail_at: Vec<u64>) -> MemSource
         requires { 0 < most }
-        ensures { result ≡ record { rest = bytes.items; most = most; calls = no_calls fail_at.items } }
+        ensures { result ≡ fresh_source bytes.items most fail_at.items }
     {
         MemSource {
             bytes,
@@ -83,10 +83,12 @@ impl Source for MemSource {
 
     fn read(&mut self, into: &mut [u8]) -> Result<usize, Failed>
         ensures reads { ReadsNext (source_of self.old) (source_of self.new) into.new result }
+        // Exactly this:
         ensures after { self.new ≡ after_give self.old (is_err result) (length into.old) }
         ensures fails { IsErr result ↔ IsTrue (is_next_listed self.old.calls) }
         ensures count { IfOk result (λ count. count ≡ given_count self.old (length into.old)) }
-        ensures bytes { IfOk result (λ count. into.new ≡ take count self.old.rest ++ drop count into.old) }
+        ensures bytes { IfOk result (λ count.
+            into.new ≡ take count self.old.rest ++ drop count into.old) }
         ensures kept { OnErr result (into.new ≡ into.old) }
     {
         let fails = self.calls.lists_next();

@@ -1,8 +1,8 @@
 //! Faults that a disk meets before the machine runs.
 ghost use Rattle.std.specs.Prelude.{◌≡◌, Some, None};
-ghost use Rattle.block_device.specs.Counts.{HasRisen};
 ghost use Rattle.block_device.specs.OpenSeen.{HasRisenCounts};
 
+use crate::DiskFault;
 use std::marker::Model;
 use thiserror::Error;
 
@@ -34,14 +34,13 @@ impl OpenFault {
         OpenFault { disk, counts: None }
     }
 
-    // The disk failed, and counted the fault.
-    pub(crate) fn of_disk(disk: u32, before: u64, after: u64) -> OpenFault
-        requires { HasRisen before after }
-        ensures { result ≡ record { disk = disk; counts = Some (before, after) } }
+    // A transfer of the disk failed.
+    pub(crate) fn of_disk(fault: DiskFault) -> OpenFault
+        ensures { result ≡ record { disk = fault.disk; counts = Some (fault.before, fault.after) } }
     {
         OpenFault {
-            disk,
-            counts: Some((before, after)),
+            disk: fault.disk,
+            counts: Some((fault.before, fault.after)),
         }
     }
 

@@ -1,6 +1,6 @@
 //! Racks, which attach disks.
 ghost use Rattle.std.specs.Prelude.{◌≡◌};
-ghost use Rattle.block_device.specs.RackSeen.{RackSeen, Attaches, number_of};
+ghost use Rattle.block_device.specs.RackSeen.{RackSeen, Attaches, spec_number};
 
 use crate::{Disk, PathText};
 use thiserror::Error;
@@ -17,7 +17,7 @@ pub enum Spec {
 impl Spec {
     /// The number of the disk.
     pub fn number(&self) -> u32
-        ensures { result ≡ number_of self.now }
+        ensures { result ≡ spec_number self.now }
     {
         match self {
             Spec::Blank { number, .. } => *number,
@@ -49,7 +49,7 @@ pub trait Rack {
     fn faults(&self) -> u64
         ensures { result ≡ (seen self.now).faults };
 
-    /// Attaches the disk of a spec.
+    /// Attaches the disk of a spec. Where memory lacks, the rack is as it was.
     fn attach(&mut self, spec: &Spec) -> Result<Self::D, RackFault>
         ensures { Attaches (seen self.old) (seen self.new) spec.now Self.D.seen result };
 }

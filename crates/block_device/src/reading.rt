@@ -47,12 +47,18 @@ pub fn read_to_limit<S: Source>(
     source: &mut S,
     limit: usize,
 ) -> Result<Vec<u8>, ReadFault>
-    ensures bytes { IfOk result (λ all. Came (S.seen source.old).rest all.items (S.seen source.new).rest) }
+    // Ok: the next bytes of the source, to its end where the limit wasn't reached.
+    ensures bytes { IfOk result (λ all.
+        Came (S.seen source.old).rest all.items (S.seen source.new).rest) }
     ensures limit { IfOk result (λ all. vec_len all ≤ limit) }
-    ensures end { IfOk result (λ all. vec_len all < limit → IfSome (S.seen source.new).rest (λ rest. rest ≡ [])) }
-    ensures taken { OnErr result (TookSome (S.seen source.old).rest (S.seen source.new).rest limit) }
+    ensures end { IfOk result (λ all.
+        vec_len all < limit → IfSome (S.seen source.new).rest (λ rest. rest ≡ [])) }
+    // An error: some bytes were taken, and `Failed` comes only with a fault counted.
+    ensures taken { OnErr result
+        (TookSome (S.seen source.old).rest (S.seen source.new).rest limit) }
+    ensures failed { IsErrOf result ReadFault.Failed
+        → HasRisen (S.seen source.old).faults (S.seen source.new).faults }
     ensures later { (S.seen source.old).faults ≤ (S.seen source.new).faults }
-    ensures failed { IsErrOf result ReadFault.Failed → HasRisen (S.seen source.old).faults (S.seen source.new).faults }
 {
     let mut all = Vec::new(alloc);
     let mut piece = [0; 4096];
@@ -80,8 +86,10 @@ fn read_piece<S: Source>(source: &mut S, into: &mut [u8], most: usize) -> Result
 
 /// Writes all of a text to a sink, or fails where the sink does. Each turn takes at least one byte.
 pub fn write_all<K: Sink>(sink: &mut K, text: &[u8]) -> Result<(), Failed>
-    ensures whole { OnOk result ((K.seen sink.new).written ≡ appended (K.seen sink.old).written text.now) }
-    ensures part { OnErr result (AppendedPart (K.seen sink.old).written (K.seen sink.new).written text.now) }
+    ensures whole { OnOk result
+        ((K.seen sink.new).written ≡ appended (K.seen sink.old).written text.now) }
+    ensures part { OnErr result
+        (AppendedPart (K.seen sink.old).written (K.seen sink.new).written text.now) }
     ensures cause { HasCause (K.seen sink.old).faults (K.seen sink.new).faults result }
 {
     let mut done = 0;

@@ -1,7 +1,8 @@
 //! Each memory form through its calls, with listed failures.
 use crate::{
-    AttachFault, Block, Disk, MemDisk, MemRack, MemSink, MemSource, PathText, Rack, RackFault,
-    ReadFault, Sink, Source, Spec, Unopened, read_to_limit, write_all,
+    AttachFault, Block, Disk, DiskFault, MemDisk, MemRack, MemSink, MemSource, NumberedDisk,
+    PathText, Rack, RackFault, ReadFault, Sink, Source, Spec, Unopened, Untold, read_to_limit,
+    write_all,
 };
 use std::test::Fail;
 use std::thread;
@@ -124,17 +125,73 @@ fn an_unopened_disk_comes_from_a_rack_and_its_faults_have_counts(
     }
     let disk = disk.into_disk();
     assert_eq!(rt; (disk.reads(), disk.writes(), disk.faults()), (1, 1, 1));
-    let path = PathText::new(rt.alloc(), b"volume")?;
-    assert_eq!(rt; path.bytes(), b"volume".as_slice());
-    let by_path = Spec::Path { number: 3, path };
-    assert_eq!(rt; by_path.number(), 3);
-    assert_eq!(rt;
-        rack.attach(&by_path).err(),
-        Some(RackFault::Failed),
-        "no paths here"
-    );
-    assert_eq!(rt; (rack.faults(), rack.calls()), (2, 3));
     let kept = PathText::from_vec(b"v".to_vec(rt.alloc())?).into_vec();
     assert_eq!(rt; kept.as_slice(), b"v".as_slice());
+    Ok(())
+}
+
+#[test]
+fn a_memory_rack_gives_the_disk_that_it_keeps_under_a_path(rt: HostRuntime) -> Result<(), Fail> {
+    let mut rack = MemRack::new(rt.alloc(), Vec::new(rt.alloc()), Vec::new(rt.alloc()));
+    let path = PathText::new(rt.alloc(), b"volume")?;
+    assert_eq!(rt; path.bytes(), b"volume".as_slice());
+    let blocks = vec![in rt.alloc(); Block::new([5; 4096]); 3]?;
+    rack.keep(path, blocks)?;
+    for name in [b"volumes", b"volume\0", b"Volume?"] {
+        let path = PathText::new(rt.alloc(), name)?;
+        let fault = rack.attach(&Spec::Path { number: 3, path }).err();
+        assert_eq!(rt; fault, Some(RackFault::Failed), "only that path");
+    }
+    let path = PathText::new(rt.alloc(), b"volume")?;
+    let by_path = Spec::Path { number: 3, path };
+    assert_eq!(rt; by_path.number(), 3);
+    for _ in 0..2 {
+        let mut disk = rack.attach(&by_path)?;
+        assert_eq!(rt; disk.content().len(), 3);
+        if 1 < disk.blocks() {
+            assert_eq!(rt;
+                disk.content()[1].bytes[4095],
+                5,
+                "the rack's own blocks stay"
+            );
+            let _ = disk.write(1, &[6; 4096]);
+        }
+    }
+    assert_eq!(rt; (rack.faults(), rack.calls()), (3, 5));
+    Ok(())
+}
+
+#[test]
+fn a_numbered_disk_tells_what_was_counted_and_an_untold_one_does_what_its_disk_does(
+    rt: HostRuntime,
+) -> Result<(), Fail> {
+    let disk = MemDisk::new(rt.alloc(), 2, [2, 3].to_vec(rt.alloc())?)?;
+    let mut disk = NumberedDisk {
+        number: 7,
+        disk: Untold { disk },
+    };
+    if disk.disk.blocks() < 2 {
+        return Err(Fail::new("two blocks"));
+    }
+    let mut page = [0u8; 4096];
+    assert_eq!(rt; disk.write(1, &[4; 4096]), Ok(()));
+    let written = disk.write(1, &[9; 4096]).err();
+    let read = disk.read(1, &mut page).err();
+    for (fault, before) in [(written, 0), (read, 1)] {
+        match fault {
+            Some(
+                DiskFault {
+                    disk,
+                    before: counted,
+                    after,
+                    ..
+                },
+            ) => assert_eq!(rt; (disk, counted, after), (7, before, before + 1)),
+            None => assert!(rt; false, "calls 2 and 3 are listed"),
+        }
+    }
+    assert_eq!(rt; disk.read(1, &mut page), Ok(()));
+    assert_eq!(rt; (page[0], page[4095]), (9, 4), "the failed write was torn");
+    assert_eq!(rt; (disk.disk.calls(), disk.disk.disk.writes()), (4, 2));
     Ok(())
 }

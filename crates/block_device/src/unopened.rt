@@ -1,10 +1,9 @@
 //! Disks before the machine runs.
-ghost use Rattle.std.specs.Prelude.{◌≡◌, ◌<◌, length, IfErr, Some};
-ghost use Rattle.block_device.specs.Counts.{HasRisen};
+ghost use Rattle.std.specs.Prelude.{◌≡◌, ◌<◌, length, IfErr};
 ghost use Rattle.block_device.specs.DiskSeen.{Reads, Writes};
 ghost use Rattle.block_device.specs.Opening.{Opens, IsDiskFault};
 
-use crate::{Disk, OpenFault, Rack, RackFault, Spec};
+use crate::{Disk, NumberedDisk, OpenFault, Rack, RackFault, Spec};
 use std::marker::Model;
 use thiserror::Error;
 
@@ -22,16 +21,15 @@ pub enum AttachFault {
 /// An attached disk before the machine runs, with its number. Its faults say what was counted.
 #[derive(Drop)]
 pub struct Unopened<D: Disk> {
-    number: u32,
-    disk: D,
+    disk: NumberedDisk<D>,
 }
 
 impl<D: Disk> Model for Unopened<D> {
-    ghost use Rattle.block_device.specs.OpenSeen.{Numbered};
+    ghost use Rattle.block_device.specs.declared.numbered.NumberedDisk.{NumberedDisk};
 
-    ghost Value = { Numbered D };
+    ghost Value = { NumberedDisk D };
 
-    ghost view = { λ d. record { number = d.number; disk = d.disk } };
+    ghost view = { λ d. d.disk };
 }
 
 impl<D: Disk> Unopened<D> {
@@ -41,7 +39,9 @@ impl<D: Disk> Unopened<D> {
     {
         let number = spec.number();
         match rack.attach(spec) {
-            Ok(disk) => Ok(Unopened { number, disk }),
+            Ok(disk) => Ok(Unopened {
+                disk: NumberedDisk { number, disk },
+            }),
             Err(RackFault::Failed) => Err(AttachFault::Failed(OpenFault::of_rack(number))),
             Err(RackFault::Memory) => Err(AttachFault::Memory),
         }
@@ -51,14 +51,14 @@ impl<D: Disk> Unopened<D> {
     pub fn number(&self) -> u32
         ensures { result ≡ self.now.number }
     {
-        self.number
+        self.disk.number
     }
 
     /// How many blocks the disk has.
     pub fn blocks(&self) -> u32
         ensures { result ≡ (D.seen self.now.disk).size }
     {
-        self.disk.blocks()
+        self.disk.disk.blocks()
     }
 
     /// Reads a block, as the disk does.
@@ -66,13 +66,13 @@ impl<D: Disk> Unopened<D> {
         requires block { block < (D.seen self.old.disk).size }
         requires size { length into.old ≡ 4096 }
         ensures reads { Reads (D.seen self.old.disk) (D.seen self.new.disk) block into.new result }
-        ensures fault { IfErr result (IsDiskFault self.old.number (D.seen self.old.disk) (D.seen self.new.disk)) }
+        ensures fault { IfErr result
+            (IsDiskFault self.old.number (D.seen self.old.disk) (D.seen self.new.disk)) }
         ensures number { self.new.number ≡ self.old.number }
     {
-        let before = self.disk.faults();
         match self.disk.read(block, into) {
             Ok(()) => Ok(()),
-            Err(_) => Err(self.fault_since(before)),
+            Err(fault) => Err(OpenFault::of_disk(fault)),
         }
     }
 
@@ -80,29 +80,22 @@ impl<D: Disk> Unopened<D> {
     pub fn write(&mut self, block: u32, from: &[u8]) -> Result<(), OpenFault>
         requires block { block < (D.seen self.old.disk).size }
         requires size { length from.now ≡ 4096 }
-        ensures writes { Writes (D.seen self.old.disk) (D.seen self.new.disk) block from.now result }
-        ensures fault { IfErr result (IsDiskFault self.old.number (D.seen self.old.disk) (D.seen self.new.disk)) }
+        ensures writes { Writes
+            (D.seen self.old.disk) (D.seen self.new.disk) block from.now result }
+        ensures fault { IfErr result
+            (IsDiskFault self.old.number (D.seen self.old.disk) (D.seen self.new.disk)) }
         ensures number { self.new.number ≡ self.old.number }
     {
-        let before = self.disk.faults();
         match self.disk.write(block, from) {
             Ok(()) => Ok(()),
-            Err(_) => Err(self.fault_since(before)),
+            Err(fault) => Err(OpenFault::of_disk(fault)),
         }
-    }
-
-    // The fault of the transfer that failed since the count was this.
-    fn fault_since(&self, before: u64) -> OpenFault
-        requires { HasRisen before (D.seen self.now.disk).faults }
-        ensures { result ≡ record { disk = self.now.number; counts = Some (before, (D.seen self.now.disk).faults) } }
-    {
-        OpenFault::of_disk(self.number, before, self.disk.faults())
     }
 
     /// The disk as it is.
     pub fn into_disk(self) -> D
         ensures { result ≡ self.disk }
     {
-        self.disk
+        self.disk.disk
     }
 }

@@ -1,2 +1,8 @@
 pub mod BytesLemmas
-pub mod PageLemmas
+mod Crosses
+mod OriginLemmas
+mod PageLemmas
+mod Sharing
+mod Shown
+mod Vecs
+mod Walks

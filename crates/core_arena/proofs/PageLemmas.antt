@@ -1,58 +1,187 @@
--- The pages that a core keeps, and what is seen of them.
-use Rattle.std.proofs.Common.{◌≡◌, ℕ, ◌+◌, ◌<◌, List, Option, Some, None, zero, suc, false, true, [], ◌∷◌, ◌++◌, take, drop, arith, sym, ◌∙◌, ap, subst, slice_index_or, slice_set, length, replicate, IsSome, get_or, refl}
-use Rattle.std.proofs.lemmas.List.{map-set, map-append, replicate-append-replicate, length-replicate, length-map, get_or-replicate}
-use Rattle.std.specs.Global.{Vec}
-use Rattle.std.specs.Vec.{with_items}
+-- The pages that a core keeps, where they lie, and what is seen of them.
+use Rattle.std.proofs.Common.{◌≡◌, ℕ, ◌+◌, ◌*◌, ◌<◌, List, Option, Some, None, zero, suc, false, true, [], ◌∷◌, ◌++◌, arith, sym, ◌∙◌, ap, subst, slice_index_or, slice_set, length, replicate, IsSome, is_some, get_or, refl, length-append, length-set, ◌-◌, take, drop}
+use Rattle.std.proofs.Math.Seq.{take-append_seam}
+use Rattle.std.proofs.lemmas.List.{map-set, map-append, replicate-append-replicate, length-replicate, drop_at}
 use Rattle.std.specs.Option.{option_map}
-use Rattle.core_arena.specs.Bytes.{bytes_at, overwritten, zeros}
-use Rattle.core_arena.specs.Pages.{pages_seen, IsCore}
+use denote.RawPtr.{Ptr, InBlock, block_ptr, null_ptr, ◌+ₚ◌}
+use Rattle.core_arena.specs.Bytes.{bytes_at, zeros, all_bytes, overwritten}
+use Rattle.core_arena.specs.Ownership.{Extent}
+use Rattle.core_arena.specs.Pages.{pages_seen, IsSoundCore}
+use Rattle.core_arena.specs.Rows.{IsPageAt, AreInPlace, InRow, row_bytes}
+use Rattle.core_arena.specs.declared.region.Stretch.{Stretch}
+
+abbrev Place : Type 0
+Place = Option Stretch
+
+abbrev bytes_of : Place → Option (List ℕ)
+bytes_of = option_map (λ (page : Stretch). page.bytes)
+
+-- addresses
+pub placed-on : (p : Ptr) (n : ℕ) → InBlock p → InBlock (p +ₚ n)
+placed-on (block_ptr b o) n h = h
+placed-on null_ptr n h = h
+
+pub moved-none : (p : Ptr) → p +ₚ 0 * 4096 ≡ p
+moved-none (block_ptr b o) = let e : o + 0 * 4096 ≡ o = omega arith in ap (λ (k : ℕ). block_ptr b k) e
+moved-none null_ptr = refl
+
+pub moved-twice : (p : Ptr) (n m k : ℕ) → n + m ≡ k → (p +ₚ n) +ₚ m ≡ p +ₚ k
+moved-twice (block_ptr b o) n m k e = let f : o + n + m ≡ o + k = omega (arith, e) in ap (λ (i : ℕ). block_ptr b i) f
+moved-twice null_ptr n m k e = refl
+
+moved-on : (p : Ptr) (i : ℕ) → (p +ₚ 4096) +ₚ i * 4096 ≡ p +ₚ suc i * 4096
+moved-on p i = moved-twice p 4096 (i * 4096) (suc i * 4096) (omega arith)
 
 -- what is seen of a changed page
-pub seen-set : (pages : List (Option (Vec ℕ))) (i : ℕ) (place : Option (Vec ℕ)) → pages_seen (slice_set pages i place) ≡ slice_set (pages_seen pages) i (option_map (λ (page : Vec ℕ). page.items) place)
-seen-set pages i place = map-set (option_map (λ (page : Vec ℕ). page.items)) pages i place
+pub seen-set : (pages : List Place) (i : ℕ) (place : Place) → pages_seen (slice_set pages i place) ≡ slice_set (pages_seen pages) i (bytes_of place)
+seen-set pages i place = map-set bytes_of pages i place
 
 -- what is seen of a page
-pub seen-at : (pages : List (Option (Vec ℕ))) (i : ℕ) (d : Option (Vec ℕ)) → i < length pages → bytes_at (pages_seen pages) i ≡ option_map (λ (page : Vec ℕ). page.items) (get_or pages i d)
+pub seen-at : (pages : List Place) (i : ℕ) (d : Place) → i < length pages → bytes_at (pages_seen pages) i ≡ bytes_of (get_or pages i d)
 seen-at [] i d lt = absurd (omega arith)
 seen-at (x ∷ more) zero d lt = refl
 seen-at (x ∷ more) (suc i) d lt = seen-at more i d (omega arith)
 
 -- a frame that is home has a place
-pub home-within : (pages : List (Option (Vec ℕ))) (i : ℕ) → IsSome (bytes_at (pages_seen pages) i) → i < length pages
+pub home-within : (pages : List Place) (i : ℕ) → IsSome (bytes_at (pages_seen pages) i) → i < length pages
 home-within [] i h = let z : false ≡ true = h in cc
 home-within (x ∷ more) zero h = omega arith
 home-within (x ∷ more) (suc i) h = let r = home-within more i h in omega arith
 
 -- the page of a place, as bytes
-pub page-seen : (pages : List (Option (Vec ℕ))) (i : ℕ) (page : Vec ℕ) (d : Option (Vec ℕ)) → i < length pages → slice_index_or pages i d ≡ Some page → bytes_at (pages_seen pages) i ≡ Some page.items
-page-seen pages i page d lt e = seen-at pages i d lt ∙ ap (option_map (λ (p : Vec ℕ). p.items)) e
+pub page-seen : (pages : List Place) (i : ℕ) (page : Stretch) (d : Place) → i < length pages → slice_index_or pages i d ≡ Some page → bytes_at (pages_seen pages) i ≡ Some page.bytes
+page-seen pages i page d lt e = seen-at pages i d lt ∙ ap bytes_of e
 
 -- one more page of zeros
-pub zeros-more : (pages : List (Option (Vec ℕ))) (n : ℕ) (page : Vec ℕ) → pages_seen pages ≡ replicate n (Some zeros) → page.items ≡ zeros → pages_seen (pages ++ Some page ∷ []) ≡ replicate (n + 1) (Some zeros)
+pub zeros-more : (pages : List Place) (n : ℕ) (page : Stretch) → pages_seen pages ≡ replicate n (Some zeros) → page.bytes ≡ zeros → pages_seen (pages ++ Some page ∷ []) ≡ replicate (n + 1) (Some zeros)
 zeros-more pages n page so_far zero_page =
-    map-append (option_map (λ (p : Vec ℕ). p.items)) pages (Some page ∷ [])
-    ∙ ap (λ (seen : List (Option (List ℕ))). seen ++ Some page.items ∷ []) so_far
+    map-append bytes_of pages (Some page ∷ [])
+    ∙ ap (λ (seen : List (Option (List ℕ))). seen ++ Some page.bytes ∷ []) so_far
     ∙ ap (λ (bytes : List ℕ). replicate n (Some zeros) ++ Some bytes ∷ []) zero_page
     ∙ replicate-append-replicate n 1 (Some zeros)
 
--- a core whose frames are all pages of zeros
-pub zeros-core : (pages : List (Option (Vec ℕ))) (n : ℕ) → pages_seen pages ≡ replicate n (Some zeros) → IsCore n pages
-zeros-core pages n e =
-    let places : length pages ≡ n = sym (length-map pages (option_map (λ (p : Vec ℕ). p.items))) ∙ ap length e ∙ length-replicate n (Some zeros) in
+-- pages in their places: one looked up, changed, added at the end, taken off there
+pub in_place-at : (p : Ptr) (pages : List Place) (i : ℕ) (page : Stretch) (d : Place) → AreInPlace p pages → i < length pages → slice_index_or pages i d ≡ Some page → IsPageAt (p +ₚ i * 4096) (Some page)
+in_place-at p [] i page d are lt e = absurd (omega arith)
+in_place-at p (x ∷ more) zero page d are lt e = subst (λ (q : Ptr). IsPageAt q (Some page)) (sym (moved-none p)) (subst (IsPageAt p) e are.0)
+in_place-at p (x ∷ more) (suc i) page d are lt e = subst (λ (q : Ptr). IsPageAt q (Some page)) (moved-on p i) (in_place-at (p +ₚ 4096) more i page d are.1 (omega arith) e)
+
+pub in_place-set : (p : Ptr) (pages : List Place) (i : ℕ) (place : Place) → AreInPlace p pages → IsPageAt (p +ₚ i * 4096) place → AreInPlace p (slice_set pages i place)
+in_place-set p [] i place are at = tt
+in_place-set p (x ∷ more) zero place are at = (subst (λ (q : Ptr). IsPageAt q place) (moved-none p) at, are.1)
+in_place-set p (x ∷ more) (suc i) place are at = (are.0, in_place-set (p +ₚ 4096) more i place are.1 (subst (λ (q : Ptr). IsPageAt q place) (sym (moved-on p i)) at))
+
+pub in_place-push : (p : Ptr) (pages : List Place) (place : Place) → AreInPlace p pages → IsPageAt (p +ₚ length pages * 4096) place → AreInPlace p (pages ++ place ∷ [])
+in_place-push p [] place are at = (subst (λ (q : Ptr). IsPageAt q place) (moved-none p) at, tt)
+in_place-push p (x ∷ more) place are at = (are.0, in_place-push (p +ₚ 4096) more place are.1 (subst (λ (q : Ptr). IsPageAt q place) (sym (moved-on p (length more))) at))
+
+pub in_place-pop : (p : Ptr) (pages : List Place) (place : Place) → AreInPlace p (pages ++ place ∷ []) → AreInPlace p pages × IsPageAt (p +ₚ length pages * 4096) place
+in_place-pop p [] place are = (tt, subst (λ (q : Ptr). IsPageAt q place) (sym (moved-none p)) are.0)
+in_place-pop p (x ∷ more) place are =
+    let rest = in_place-pop (p +ₚ 4096) more place are.1 in
+    ((are.0, rest.0), subst (λ (q : Ptr). IsPageAt q place) (moved-on p (length more)) rest.1)
+
+-- all pages are there
+pub record IsAllHome (p : Ptr) (pages : List Place) : Type 0 where
+  pub row : InRow p pages
+  pub bytes : all_bytes (pages_seen pages) ≡ Some (row_bytes pages)
+  pub size : length (row_bytes pages) ≡ length pages * 4096
+
+still-none : (page : List ℕ) (rest : Option (List ℕ)) → is_some rest ≡ false → is_some (option_map (λ (l : List ℕ). page ++ l) rest) ≡ false
+still-none page None h = refl
+still-none page (Some l) h = h
+
+rest-home : (page : List ℕ) (rest : Option (List ℕ)) → IsSome (option_map (λ (l : List ℕ). page ++ l) rest) → IsSome rest
+rest-home page None h = h
+rest-home page (Some l) h = refl
+
+pub all-home : (p : Ptr) (pages : List Place) → AreInPlace p pages → IsSome (all_bytes (pages_seen pages)) → IsAllHome p pages
+all-home p [] are home = record { row = tt; bytes = refl; size = refl }
+all-home p (None ∷ more) are home = let z : false ≡ true = home in absurd (cc)
+all-home p (Some page ∷ more) are home =
+    let rest = all-home (p +ₚ 4096) more are.1 (rest-home page.bytes (all_bytes (pages_seen more)) home) in
     record {
-      places = places;
-      whole = λ i page d lt is.
-          let some : Some page.items ≡ Some zeros =
-          sym (page-seen pages i page d lt is)
-          ∙ ap (λ (seen : List (Option (List ℕ))). bytes_at seen i) e
-          ∙ get_or-replicate n i (Some zeros) None (subst (λ (k : ℕ). i < k) places lt) in
-          let bytes : page.items ≡ zeros = cc in
-          ap length bytes ∙ length-replicate {A = ℕ} 4096 0;
+      row = (are.0.0, are.0.1, rest.row);
+      bytes = ap (option_map (λ (l : List ℕ). page.bytes ++ l)) rest.bytes;
+      size = omega (arith, length-append page.bytes (row_bytes more), are.0.1, rest.size);
     }
 
+pub all-there : (pages : List Place) → ((i : ℕ) → i < length pages → is_some (slice_index_or pages i None) ≡ true) → all_bytes (pages_seen pages) ≡ Some (row_bytes pages)
+all-there [] home = refl
+all-there (None ∷ more) home = let z : false ≡ true = home 0 (omega arith) in absurd (cc)
+all-there (Some page ∷ more) home = ap (option_map (λ (l : List ℕ). page.bytes ++ l)) (all-there more (λ i lt. home (suc i) (omega arith)))
+
+-- one page isn't there
+pub none-away : (pages : List Place) (i : ℕ) → i < length pages → is_some (slice_index_or pages i None) ≡ false → is_some (all_bytes (pages_seen pages)) ≡ false
+none-away [] i lt e = absurd (omega arith)
+none-away (None ∷ more) i lt e = refl
+none-away (Some page ∷ more) zero lt e = let z : true ≡ false = e in absurd (cc)
+none-away (Some page ∷ more) (suc i) lt e = still-none page.bytes (all_bytes (pages_seen more)) (none-away more i (omega arith) e)
+
+-- a core's page that is home
+pub record IsHomePage (base : Ptr) (frames : ℕ) (pages : List Place) (i : ℕ) (page : Stretch) : Type 0 where
+  pub within : i < frames
+  pub at : page.at ≡ base +ₚ i * 4096
+  pub size : length page.bytes ≡ 4096
+  pub placed : InBlock base
+  pub seen : bytes_at (pages_seen pages) i ≡ Some page.bytes
+
+pub home-page : (base : Ptr) (frames : ℕ) (pages : List Place) (rest : Option Extent) (i : ℕ) (page : Stretch) (d : Place)
+    → IsSoundCore base frames pages rest → IsSome (bytes_at (pages_seen pages) i) → slice_index_or pages i d ≡ Some page → IsHomePage base frames pages i page
+home-page base frames pages rest i page d sound home is =
+    let lt : i < length pages = home-within pages i home in
+    let here = in_place-at base pages i page d sound.in_place lt is in
+    let within : i < frames = subst (λ (n : ℕ). i < n) sound.places lt in
+    record { within = within; at = here.0; size = here.1; placed = sound.placed (omega arith); seen = page-seen pages i page d lt is }
+
+-- a core with a place changed
+pub sound-set : (base : Ptr) (frames : ℕ) (pages : List Place) (rest : Option Extent) (i : ℕ) (place : Place)
+    → IsSoundCore base frames pages rest → IsPageAt (base +ₚ i * 4096) place → IsSoundCore base frames (slice_set pages i place) rest
+sound-set base frames pages rest i place sound at = record {
+  places = length-set pages i place ∙ sound.places;
+  in_place = in_place-set base pages i place sound.in_place at;
+  placed = sound.placed;
+  shell = sound.shell;
+}
+
 -- what is seen once the bytes of a page were lent and written
-pub seen-overwritten : (pages : List (Option (Vec ℕ))) (i : ℕ) (page : Vec ℕ) (w : List ℕ) → bytes_at (pages_seen pages) i ≡ Some page.items → pages_seen (slice_set pages i (Some (with_items page w))) ≡ slice_set (pages_seen pages) i (option_map (λ (bytes : List ℕ). overwritten bytes w) (bytes_at (pages_seen pages) i))
+pub seen-overwritten : (pages : List Place) (i : ℕ) (page : Stretch) (w : List ℕ) → bytes_at (pages_seen pages) i ≡ Some page.bytes
+    → pages_seen (slice_set pages i (Some (record { at = page.at; bytes = overwritten page.bytes w }))) ≡ slice_set (pages_seen pages) i (option_map (λ (bytes : List ℕ). overwritten bytes w) (bytes_at (pages_seen pages) i))
 seen-overwritten pages i page w at =
-    seen-set pages i (Some (with_items page w))
-    ∙ ap (λ (n : ℕ). slice_set (pages_seen pages) i (Some (take n (w ++ drop (length w) page.items)))) page.ok.0
+    seen-set pages i (Some (record { at = page.at; bytes = overwritten page.bytes w }))
     ∙ ap (λ (o : Option (List ℕ)). slice_set (pages_seen pages) i (option_map (λ (bytes : List ℕ). overwritten bytes w) o)) (sym at)
+
+-- the last page is taken off
+pub record IsTakenOff (p : Ptr) (old new : List Place) (page : Stretch) : Type 0 where
+  pub rest : AreInPlace p new
+  pub at : page.at ≡ p +ₚ length new * 4096
+  pub size : length page.bytes ≡ 4096
+  pub many : length old ≡ length new + 1
+  pub behind : p +ₚ length old * 4096 ≡ page.at +ₚ length page.bytes
+
+pub taken-off : (p : Ptr) (old new : List Place) (place : Place) (page : Stretch) → AreInPlace p old → old ≡ new ++ place ∷ [] → place ≡ Some page → IsTakenOff p old new page
+taken-off p old new place page are items is =
+    let parts = in_place-pop p new place (subst (AreInPlace p) items are) in
+    let here = subst (IsPageAt (p +ₚ length new * 4096)) is parts.1 in
+    let many : length old ≡ length new + 1 = ap length items ∙ length-append new (place ∷ []) in
+    record {
+      rest = parts.0;
+      at = here.0;
+      size = here.1;
+      many = many;
+      behind =
+          sym (moved-twice p (length new * 4096) 4096 (length old * 4096) (omega (arith, many)))
+          ∙ ap (λ (q : Ptr). q +ₚ 4096) (sym here.0) ∙ ap (λ (n : ℕ). page.at +ₚ n) (sym here.1);
+    }
+
+-- a page of zeros is cut off
+pub zeros-cut : (k frames : ℕ) (bytes : List ℕ) → k < frames → bytes ≡ replicate ((frames - k) * 4096) 0
+    → (take 4096 bytes ≡ zeros) × (drop 4096 bytes ≡ replicate ((frames - (k + 1)) * 4096) 0)
+zeros-cut k frames bytes lt e =
+    let left = (frames - (k + 1)) * 4096 in
+    let count : (frames - k) * 4096 ≡ 4096 + left = omega arith in
+    let both : bytes ≡ zeros ++ replicate left 0 = e ∙ ap (λ (n : ℕ). replicate n 0) count ∙ sym (replicate-append-replicate {A = ℕ} 4096 left 0) in
+    let size : length zeros ≡ 4096 = length-replicate {A = ℕ} 4096 0 in (
+      ap (take 4096) both ∙ ap (λ (n : ℕ). take n (zeros ++ replicate left 0)) (sym size) ∙ take-append_seam zeros (replicate left 0),
+      ap (drop 4096) both ∙ drop_at zeros (replicate left 0) 4096 size,
+    )

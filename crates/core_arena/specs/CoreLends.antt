@@ -1,4 +1,4 @@
--- What a core ends as, once the bytes of a frame that is home were written.
+-- What a core ends as, once the bytes of a frame that is home were written. Public clauses cite this.
 use Rattle.std.specs.Prelude.{ℕ, List, slice_set}
 use Rattle.std.specs.Borrow.{Lends, MutBor, Fml, Array, u8}
 use Rattle.std.specs.Option.{option_map}

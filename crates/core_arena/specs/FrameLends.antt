@@ -1,4 +1,4 @@
--- What a frame ends as, once its bytes were written.
+-- What a frame ends as, once its bytes were written. Public clauses cite this.
 use Rattle.std.specs.Prelude.{ℕ, List}
 use Rattle.std.specs.Borrow.{Lends, MutBor, Fml, Array, u8}
 use Rattle.core_arena.specs.Bytes.{overwritten}

@@ -1,5 +1,9 @@
 pub mod Bytes
 pub mod CoreLends
 pub mod FrameLends
+pub mod Origin
+pub mod Ownership
 pub mod Pages
+pub mod Rows
 pub mod Seen
+pub mod StretchLends

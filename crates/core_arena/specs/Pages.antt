@@ -1,13 +1,25 @@
--- The pages that a core keeps.
-use Rattle.std.specs.Prelude.{◌≡◌, ℕ, ◌<◌, List, Option, Some, map, length, slice_index_or}
+-- The pages that a core keeps. Inside: no public clause cites this.
+use Rattle.std.specs.Prelude.{◌≡◌, ℕ, ◌*◌, ◌<◌, List, Option, MatchOption, map, length}
 use Rattle.std.specs.Option.{option_map}
-use Rattle.std.specs.Global.{Vec}
+use denote.RawPtr.{Ptr, InBlock, ◌+ₚ◌}
+use Rattle.core_arena.specs.Ownership.{Extent}
+use Rattle.core_arena.specs.Rows.{AreInPlace}
+use Rattle.core_arena.specs.declared.region.Stretch.{Stretch}
 
 -- the bytes of the pages
-abbrev pub pages_seen : List (Option (Vec ℕ)) → List (Option (List ℕ))
-pages_seen pages = map (option_map (λ (page : Vec ℕ). page.items)) pages
+abbrev pub pages_seen : List (Option Stretch) → List (Option (List ℕ))
+pages_seen pages = map (option_map (λ (page : Stretch). page.bytes)) pages
 
--- there are so many places, and each page that is home is whole
-pub record IsCore (frames : ℕ) (pages : List (Option (Vec ℕ))) : Type 0 where
+-- a core of so many frames at base: each page that is home is whole and lies at its place, and the shell is that of the region
+pub record IsSoundCore (base : Ptr) (frames : ℕ) (pages : List (Option Stretch)) (rest : Option Extent) : Type 0 where
   pub places : length pages ≡ frames
-  pub whole : (i : ℕ) (page : Vec ℕ) (d : Option (Vec ℕ)) → i < length pages → slice_index_or pages i d ≡ Some page → length page.items ≡ 4096
+  pub in_place : AreInPlace base pages
+  pub placed : 0 < frames → InBlock base
+  pub shell : MatchOption rest (frames ≡ 0) (λ e. (e.at ≡ base) × (e.len ≡ frames * 4096))
+
+-- a frame has a number of its core, and a whole page at its place there
+pub record IsSoundFrame (base : Ptr) (frames number : ℕ) (page : Stretch) : Type 0 where
+  pub within : number < frames
+  pub at : page.at ≡ base +ₚ number * 4096
+  pub size : length page.bytes ≡ 4096
+  pub placed : InBlock base

@@ -1,5 +1,5 @@
--- What callers see of a core and of its frames.
-use Rattle.std.specs.Prelude.{◌≡◌, ℕ, ◌<◌, List, Option, length}
+-- What callers see of a core and of its frames. Public clauses cite this.
+use Rattle.std.specs.Prelude.{ℕ, List, Option}
 
 -- a core: where its frames come from, and the bytes of each frame by number, None where it is away
 pub record CoreSeen : Type 0 where
@@ -11,8 +11,3 @@ pub record FrameSeen : Type 0 where
   pub origin : ℕ
   pub number : ℕ
   pub bytes : List ℕ
-
--- a frame has a number of its core and a whole page
-pub record IsFrame (frames number : ℕ) (bytes : List ℕ) : Type 0 where
-  pub within : number < frames
-  pub size : length bytes ≡ 4096

@@ -1,28 +1,40 @@
-ghost use Rattle.std.specs.Prelude.{◌≡◌, ◌+◌, ◌<◌, ◌≤◌, length, replicate, Some, None, IsSome, IfOk, is_some, unwrap_or, slice_set, []};
+ghost use Rattle.std.specs.Prelude.{◌≡◌, ◌+◌, ◌*◌, ◌<◌, ◌≤◌, length, replicate, Some, None, IsSome, IfOk, IfSome, is_some, unwrap_or, slice_set, []};
 ghost use Rattle.std.specs.Borrow.{sem};
-ghost use Rattle.core_arena.specs.Bytes.{bytes_at, spliced, zeros};
+ghost use Rattle.std.specs.Option.{option_copied};
+ghost use denote.RawPtr.{◌+ₚ◌};
+ghost use Rattle.core_arena.specs.Bytes.{bytes_at, spliced, zeros, all_bytes};
 ghost use Rattle.core_arena.specs.CoreLends.{lends_home};
+ghost use Rattle.core_arena.specs.Pages.{pages_seen};
+ghost use Rattle.core_arena.specs.Rows.{AreInPlace};
 
+use crate::region::{Region, Shell, Stretch, attach, detach};
+use crate::rows::whole;
 use crate::{FRAME_BYTES, Frame, OutOfMemory};
 use std::alloc::Global;
 use std::marker::Model;
+use std::mem::ManuallyDrop;
 
-/// Core memory: so many frames, numbered from 0, each home or away.
-#[derive(Drop)]
+/// Core memory: a region of so many frames, numbered from 0, each home or away. Dropped with all of
+/// them home it frees the region, and otherwise keeps it for good.
 pub struct Core {
-    frames: u32,
-    pages: Vec<Option<Vec<u8>>>,
+    region: Region,
+    pages: Vec<Option<Stretch>>,
+    shell: Option<Shell<Global>>,
 }
 
 impl Model for Core {
     ghost use Rattle.core_arena.specs.Seen.{CoreSeen};
-    ghost use Rattle.core_arena.specs.Pages.{pages_seen, IsCore};
+    ghost use Rattle.core_arena.specs.Origin.{origin_of};
+    ghost use Rattle.core_arena.specs.Pages.{pages_seen, IsSoundCore};
 
     ghost Value = { CoreSeen };
 
-    ghost view = { λ c. record { origin = c.frames; frames = pages_seen c.pages.items } };
+    ghost view = { λ c. record {
+      origin = origin_of c.region.base c.region.frames;
+      frames = pages_seen c.pages.items;
+    } };
 
-    ghost invariant = { λ c. IsCore c.frames c.pages.items };
+    ghost invariant = { λ c. IsSoundCore c.region.base c.region.frames c.pages.items c.shell };
 }
 
 impl Core {
@@ -31,10 +43,27 @@ impl Core {
         ensures { IfOk result (λ core. core.frames ≡ replicate frames (Some zeros)) }
     {
         let mut pages = Vec::with_capacity(alloc, frames as usize)?;
-        for _made in 0..frames {
-            pages.push(Some(zero_page(alloc)?))?;
+        let mut bytes = zero_bytes(alloc, frames as usize * FRAME_BYTES)?;
+        let base = bytes.as_mut_ptr();
+        let region = Region { base, frames };
+        if frames == 0 {
+            return Ok(Core {
+                region,
+                pages,
+                shell: None,
+            });
         }
-        Ok(Core { frames, pages })
+        let (mut rest, shell) = detach(bytes);
+        for _made in 0..frames {
+            let (page, behind) = rest.cut(FRAME_BYTES);
+            pages.push_reserved(Some(page));
+            rest = behind;
+        }
+        Ok(Core {
+            region,
+            pages,
+            shell: Some(shell),
+        })
     }
 
     /// Whether a frame is home.
@@ -52,7 +81,7 @@ impl Core {
         ensures size { length result.now ≡ 4096 }
     {
         match &self.pages[i as usize] {
-            Some(page) => page.as_slice(),
+            Some(page) => page.bytes(self.region.at(i).cast_const()),
             None => unreachable!(),
         }
     }
@@ -64,17 +93,37 @@ impl Core {
         ensures value { bytes_at self.old.frames i ≡ Some result.now }
         ensures size { length result.now ≡ 4096 }
     {
+        let at = self.region.at(i);
         match self.pages[i as usize].as_mut() {
-            Some(page) => page.as_mut_slice(),
+            Some(page) => page.bytes_mut(at),
             None => unreachable!(),
         }
+    }
+
+    /// The bytes of all frames in rising order; None exactly where a frame is away. The time grows
+    /// with the number of frames, and no byte is read.
+    pub fn all(&self) -> Option<&[u8]>
+        ensures bytes { option_copied result ≡ all_bytes self.now.frames }
+        ensures size { IfSome result (λ all. length all.now ≡ length self.now.frames * 4096) }
+    {
+        if !are_home(&self.pages) {
+            return None;
+        }
+        if self.region.frames == 0 {
+            return Some(&[]);
+        }
+        let size = self.region.frames as usize * FRAME_BYTES;
+        Some(whole(&self.pages, self.region.base.cast_const(), size))
     }
 
     /// Writes a piece over the bytes of a frame that is home, from byte `at` of the frame on.
     pub fn write(&mut self, i: u32, at: u32, from: &[u8])
         requires home { IsSome (bytes_at self.old.frames i) }
         requires within { at + length from.now ≤ 4096 }
-        ensures { self.new ≡ record self.old { frames = slice_set self.old.frames i (Some (spliced (unwrap_or (bytes_at self.old.frames i) []) at from.now)) } }
+        ensures { self.new ≡ record self.old {
+          frames = slice_set self.old.frames i
+              (Some (spliced (unwrap_or (bytes_at self.old.frames i) []) at from.now));
+        } }
     {
         let at = at as usize;
         self.bytes_mut(i)[at..at + from.len()].copy_from_slice(from);
@@ -90,7 +139,7 @@ impl Core {
     {
         match self.pages[i as usize].take() {
             Some(page) => Frame {
-                frames: self.frames,
+                region: self.region,
                 number: i,
                 page,
             },
@@ -103,10 +152,12 @@ impl Core {
         requires { f.origin ≡ self.old.origin }
         ensures within { f.number < length self.old.frames }
         ensures size { length f.bytes ≡ 4096 }
-        ensures new { self.new ≡ record self.old { frames = slice_set self.old.frames f.number (Some f.bytes) } }
+        ensures new { self.new ≡ record self.old {
+          frames = slice_set self.old.frames f.number (Some f.bytes);
+        } }
     {
         let Frame {
-            frames: _,
+            region: _,
             number,
             page,
         } = f;
@@ -114,8 +165,51 @@ impl Core {
     }
 }
 
-fn zero_page(alloc: Global) -> Result<Vec<u8>, OutOfMemory>
-    ensures { IfOk result (λ page. page.items ≡ zeros) }
+impl Drop for Core {
+    fn drop(self) {
+        let Core {
+            region,
+            pages,
+            shell,
+        } = self;
+        if let Some(shell) = shell {
+            match joined(region, pages) {
+                Some(bytes) => drop(attach(bytes, shell)),
+                None => {
+                    let _kept = unsafe { ManuallyDrop::new_unchecked(shell) };
+                }
+            }
+        }
+    }
+}
+
+fn zero_bytes(alloc: Global, size: usize) -> Result<Vec<u8>, OutOfMemory>
+    ensures { IfOk result (λ bytes. bytes.items ≡ replicate size 0) }
 {
-    vec![in alloc; 0; FRAME_BYTES]
+    vec![in alloc; 0; size]
+}
+
+/// Whether all pages are home.
+fn are_home(pages: &[Option<Stretch>]) -> bool
+    ensures { result ≡ is_some (all_bytes (pages_seen pages.now)) }
+{
+    for page in pages {
+        if page.is_none() {
+            return false;
+        }
+    }
+    true
+}
+
+/// The whole region, if all its pages are home.
+fn joined(region: Region, mut pages: Vec<Option<Stretch>>) -> Option<Stretch>
+    requires { AreInPlace region.base pages.items }
+    ensures { IfSome result (λ whole. (whole.at ≡ region.base)
+        × (length whole.bytes ≡ length pages.items * 4096)) }
+{
+    let mut whole = pages.pop()??;
+    while let Some(page) = pages.pop() {
+        whole = page?.join(whole);
+    }
+    Some(whole)
 }

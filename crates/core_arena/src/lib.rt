@@ -3,6 +3,8 @@
 
 mod arena;
 mod frame;
+mod region;
+mod rows;
 
 pub use crate::arena::Core;
 pub use crate::frame::Frame;

@@ -65,12 +65,28 @@ fn frames_are_filled_on_threads(rt: HostRuntime) -> Result<(), Fail> {
         move || filled(first, 0x10),
         move || filled(third, 0x12),
     );
+    assert!(rt; core.all().is_none());
     core.put(first);
+    assert!(rt; core.all().is_none());
     core.put(third);
     for (i, byte) in [(0, 0x10), (1, 0x11), (2, 0x12)] {
         assert!(rt; core.is_home(i));
         assert_eq!(rt; core.bytes(i), [byte; 4096].as_slice());
     }
+    let mut pages = Vec::new(rt.alloc());
+    for byte in [0x10, 0x11, 0x12] {
+        pages.extend_from_slice(&[byte; 4096])?;
+    }
+    let all = core.all().ok_or("a frame is away")?;
+    assert_eq!(rt; all.len(), 12_288);
+    assert_eq!(rt; all, pages.as_slice());
+    Ok(())
+}
+
+#[test]
+fn a_core_of_no_frames_has_no_bytes(rt: HostRuntime) -> Result<(), Fail> {
+    let core = Core::new(rt.alloc(), 0)?;
+    assert_eq!(rt; core.all().ok_or("none")?.len(), 0);
     Ok(())
 }
 

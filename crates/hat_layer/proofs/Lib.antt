@@ -1,3 +1,5 @@
 pub mod ChainLemmas
-pub mod TableLemmas
+pub mod FrameLemmas
 pub mod HatLemmas
+pub mod MapLaws
+pub mod TableLemmas

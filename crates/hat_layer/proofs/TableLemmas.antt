@@ -1,44 +1,44 @@
 -- The indexes against the places.
-use Rattle.std.proofs.Common.{◌≡◌, ◌≢◌, ℕ, ◌+◌, ◌<◌, ◌≤◌, inl, inr, true, false, Option, Some, None, List, [], ◌∷◌, refl, sym, ◌∙◌, ap, subst, length, get_or, set, arith, zero, suc}
+use Rattle.std.proofs.Common.{◌≡◌, ◌≢◌, ℕ, ◌<◌, inl, inr, true, false, cond, Option, Some, None, List, [], ◌∷◌, refl, sym, ◌∙◌, ap, subst, length, get_or, set, arith, zero, suc}
 use Rattle.std.specs.Prelude.{map, ◌==◌, replicate, option_map}
-use Rattle.std.proofs.lemmas.List.{get_or-set_same, get_or-set_other, set-get_or}
-use Rattle.std.proofs.lemmas.Bool.{cases_eq, and_parts, and_from, eqb-true, eq-eqb, cases_Bool}
+use Rattle.std.proofs.lemmas.List.{get_or-set_same, get_or-set_other, map-set}
+use Rattle.std.proofs.Math.Seq.{map-set_same}
+use Rattle.std.proofs.Math.ListN.{length-set}
+use Rattle.std.proofs.lemmas.Bool.{cases_eq, and_parts, and_from, eqb-true, eq-eqb, cases_Bool, or_cases}
 use Rattle.hat_layer.specs.declared.translation.Translation.{Translation}
-use Rattle.hat_layer.specs.Chains.{Chained, owner_at, LeadsFrom}
-use Rattle.hat_layer.specs.Links.{left}
-use Rattle.hat_layer.specs.Pool.{holds, is_of, frame_of, AreDistinct}
-use Rattle.hat_layer.specs.Table.{slot_of, slot_at, LeadsToFrame, FindsPlace, FindsHeld, SameName, IsTable, Seeks, IsAhead}
+use Rattle.hat_layer.specs.Chains.{owner_at, is_owner, is_among, IsLinked, Unlinks, LeadsTo}
+use Rattle.hat_layer.specs.Pool.{holds, is_of, frame_of, IsSingleValued, with_clear_bits, change_lead, change_frame}
+use Rattle.hat_layer.specs.Table.{page_slot, slot_at, LeadsToFrame, FindsPlace, FindsHeld, SameName, IsSoundTable}
+use Rattle.hat_layer.proofs.ChainLemmas.{Walk, step, walk-ends, own-walk, owns-none, owns-some, linked-none, linked-in, linked-out, leads-to, unlinks-length}
 
 pub map-at : (f : Option Translation → Option ℕ) → f None ≡ None → (places : List (Option Translation)) (k : ℕ) → owner_at (map f places) k ≡ f (get_or places k None)
 map-at f none [] k = sym none
 map-at f none (p ∷ ps) zero = refl
 map-at f none (p ∷ ps) (suc k) = map-at f none ps k
 
-pub map-set : (f : Option Translation → Option ℕ) (places : List (Option Translation)) (k : ℕ) (x : Option Translation) → map f (set places k x) ≡ set (map f places) k (f x)
-map-set f [] k x = refl
-map-set f (p ∷ ps) zero x = refl
-map-set f (p ∷ ps) (suc k) x = ap (λ (l : List (Option ℕ)). f p ∷ l) (map-set f ps k x)
-
 frame-is : (o : Option Translation) (frame : ℕ) → frame_of o ≡ Some frame → (t : Translation) × (o ≡ Some t) × (t.frame ≡ frame)
 frame-is None frame e = let z : None ≡ Some frame = e in cc
 frame-is (Some t) frame e = (t, refl, let z : Some t.frame ≡ Some frame = e in cc)
 
-pub leads-none : (owner : List (Option ℕ)) (places : List (Option Translation)) (frame low : ℕ) → owner ≡ map frame_of places → LeadsFrom owner frame low None → LeadsToFrame places frame low None
-leads-none owner places frame low e l = λ k le h. l k le (ap (λ (o : List (Option ℕ)). owner_at o k) e ∙ map-at frame_of refl places k ∙ h)
+pub some-within : (places : List (Option Translation)) (k : ℕ) (t : Translation) → get_or places k None ≡ Some t → k < length places
+some-within [] k t e = let z : None ≡ Some t = e in cc
+some-within (p ∷ ps) zero t e = omega arith
+some-within (p ∷ ps) (suc k) t e = let r = some-within ps k t e in omega arith
 
-pub leads-within : (owner : List (Option ℕ)) (places : List (Option Translation)) (frame p : ℕ) → owner ≡ map frame_of places → owner_at owner p ≡ Some frame → p < length places
-leads-within owner places frame p e h = within places p (sym (ap (λ (o : List (Option ℕ)). owner_at o p) e ∙ map-at frame_of refl places p) ∙ h)
-  where
-    within : (places : List (Option Translation)) (k : ℕ) → frame_of (get_or places k None) ≡ Some frame → k < length places
-    within [] k e = let z : None ≡ Some frame = e in cc
-    within (p ∷ ps) zero e = omega arith
-    within (p ∷ ps) (suc k) e = let r = within ps k e in omega arith
+-- the first place of a frame's chain
+module _ (places : List (Option Translation)) (heads next : List (Option ℕ)) (frame : ℕ) (linked : IsLinked heads next (map frame_of places)) (lt : frame < length heads) where
+  pub leads-none : get_or heads frame None ≡ None → LeadsToFrame places frame None
+  leads-none e = λ k h. owns-none next (map frame_of places) frame (get_or heads frame None) (linked.own frame lt) e k (map-at frame_of refl places k ∙ h)
 
-pub leads-some : (owner : List (Option ℕ)) (places : List (Option Translation)) (frame low p : ℕ) (r : Option (ℕ × Translation)) → owner ≡ map frame_of places → LeadsFrom owner frame low (Some p) → r ≡ option_map (λ (t : Translation). (p, t)) (get_or places p None) → LeadsToFrame places frame low r
-leads-some owner places frame low p r e l is =
-    let f = frame-is (get_or places p None) frame (sym (ap (λ (o : List (Option ℕ)). owner_at o p) e ∙ map-at frame_of refl places p) ∙ l.1) in
-    subst (λ (r : Option (ℕ × Translation)). LeadsToFrame places frame low r) (sym (is ∙ ap (λ (o : Option Translation). option_map (λ (t : Translation). (p, t)) o) f.1))
-    (l.0, f.1, f.2, λ k le h. l.2 k le (ap (λ (o : List (Option ℕ)). owner_at o k) e ∙ map-at frame_of refl places k ∙ h))
+  pub leads-some : (p : ℕ) → get_or heads frame None ≡ Some p → LeadsToFrame places frame (option_map (λ (t : Translation). (p, t)) (get_or places p None))
+  leads-some p e =
+      let f = frame-is (get_or places p None) frame (sym (map-at frame_of refl places p) ∙ owns-some next (map frame_of places) frame (get_or heads frame None) p (linked.own frame lt) e) in
+      subst (λ (o : Option Translation). LeadsToFrame places frame (option_map (λ (t : Translation). (p, t)) o)) (sym f.1) (f.1, f.2)
+
+  pub leads-within : (p : ℕ) → get_or heads frame None ≡ Some p → p < length places
+  leads-within p e =
+      let f = frame-is (get_or places p None) frame (sym (map-at frame_of refl places p) ∙ owns-some next (map frame_of places) frame (get_or heads frame None) p (linked.own frame lt) e) in
+      some-within places p f.0 f.1
 
 pub held-of : (places : List (Option Translation)) (space page p : ℕ) (r : Option (ℕ × Translation)) → FindsPlace places space page (Some p) → r ≡ option_map (λ (t : Translation). (p, t)) (get_or places p None) → FindsHeld places space page r
 held-of places space page p r h is = go (get_or places p None) refl
@@ -59,19 +59,19 @@ pub is-of : (space page : ℕ) (t : Translation) → t.space ≡ space → t.pag
 is-of space page t a b = and_from (t.space == space) (t.page == page) (eq-eqb t.space space a) (eq-eqb t.page page b)
 
 -- a place that holds a page is on the page's slot
-pub slot-held : (slots space page : ℕ) (o : Option Translation) → holds space page o ≡ true → slot_at slots o ≡ Some (slot_of slots space page)
+pub slot-held : (slots space page : ℕ) (o : Option Translation) → holds space page o ≡ true → slot_at slots o ≡ Some (page_slot slots space page)
 slot-held slots space page None h = let z : false ≡ true = h in cc
 slot-held slots space page (Some t) h =
     let e = of-page space page t h in
-    ap (λ (s : ℕ). Some (slot_of slots s t.page)) e.space_is ∙ ap (λ (p : ℕ). Some (slot_of slots space p)) e.page_is
+    ap (λ (s : ℕ). Some (page_slot slots s t.page)) e.space_is ∙ ap (λ (p : ℕ). Some (page_slot slots space p)) e.page_is
 
 pub held-within : (places : List (Option Translation)) (k space page : ℕ) → holds space page (get_or places k None) ≡ true → k < length places
 held-within [] k space page h = let z : false ≡ true = h in cc
 held-within (p ∷ ps) zero space page h = omega arith
 held-within (p ∷ ps) (suc k) space page h = let r = held-within ps k space page h in omega arith
 
-pub distinct-set : (places : List (Option Translation)) (place : ℕ) (new : Option Translation) → place < length places → AreDistinct places →
-    ((k space page : ℕ) → k ≢ place → holds space page new ≡ true → holds space page (get_or places k None) ≡ true → ⊥) → AreDistinct (set places place new)
+pub distinct-set : (places : List (Option Translation)) (place : ℕ) (new : Option Translation) → place < length places → IsSingleValued places →
+    ((k space page : ℕ) → k ≢ place → holds space page new ≡ true → holds space page (get_or places k None) ≡ true → ⊥) → IsSingleValued (set places place new)
 distinct-set places place new lt d apart i j space page a b = elim (cases_eq i place) [
   | inl q ↦ elim (cases_eq j place) [
     | inl r ↦ q ∙ sym r
@@ -89,26 +89,21 @@ distinct-set places place new lt d apart i j space page a b = elim (cases_eq i p
   ]
 ]
 
-pub distinct-put : (places : List (Option Translation)) (place : ℕ) (new : Translation) → place < length places → AreDistinct places → ((k : ℕ) → holds new.space new.page (get_or places k None) ≡ false) → AreDistinct (set places place (Some new))
+pub distinct-put : (places : List (Option Translation)) (place : ℕ) (new : Translation) → place < length places → IsSingleValued places → ((k : ℕ) → holds new.space new.page (get_or places k None) ≡ false) → IsSingleValued (set places place (Some new))
 distinct-put places place new lt d absent = distinct-set places place (Some new) lt d (λ k space page ne h g.
     let e = of-page space page new h in
     let z : true ≡ false = sym (subst (λ (s : ℕ). holds s new.page (get_or places k None) ≡ true) (sym e.space_is) (subst (λ (p : ℕ). holds space p (get_or places k None) ≡ true) (sym e.page_is) g)) ∙ absent k in cc)
 
-pub distinct-take : (places : List (Option Translation)) (place : ℕ) → place < length places → AreDistinct places → AreDistinct (set places place None)
+pub distinct-take : (places : List (Option Translation)) (place : ℕ) → place < length places → IsSingleValued places → IsSingleValued (set places place None)
 distinct-take places place lt d = distinct-set places place None lt d (λ k space page ne h g. let z : false ≡ true = h in cc)
 
-pub some-within : (places : List (Option Translation)) (k : ℕ) (t : Translation) → get_or places k None ≡ Some t → k < length places
-some-within [] k t e = let z : None ≡ Some t = e in cc
-some-within (p ∷ ps) zero t e = omega arith
-some-within (p ∷ ps) (suc k) t e = let r = some-within ps k t e in omega arith
-
-pub distinct-change : (places : List (Option Translation)) (place : ℕ) (old new : Translation) → AreDistinct places → get_or places place None ≡ Some old → SameName old new → AreDistinct (set places place (Some new))
+pub distinct-change : (places : List (Option Translation)) (place : ℕ) (old new : Translation) → IsSingleValued places → get_or places place None ≡ Some old → SameName old new → IsSingleValued (set places place (Some new))
 distinct-change places place old new d is same = distinct-set places place (Some new) (some-within places place old is) d (λ k space page ne h g.
     let e = of-page space page new h in
     let was : holds space page (get_or places place None) ≡ true = ap (λ (o : Option Translation). holds space page o) is ∙ is-of space page old (sym same.space ∙ e.space_is) (sym same.page ∙ e.page_is) in
     ne (d k place space page g was))
 
-pub distinct-none : (n : ℕ) → AreDistinct (replicate n None)
+pub distinct-none : (n : ℕ) → IsSingleValued (replicate n None)
 distinct-none n i j space page a b = let z : false ≡ true = sym (ap (λ (o : Option Translation). holds space page o) (none n i)) ∙ a in cc
   where
     none : (n i : ℕ) → get_or (replicate n (let z : Option Translation = None in z)) i None ≡ None
@@ -116,88 +111,143 @@ distinct-none n i j space page a b = let z : false ≡ true = sym (ap (λ (o : O
     none (suc n) zero = refl
     none (suc n) (suc i) = none n i
 
-pub map-none : (f : Option Translation → Option ℕ) → f None ≡ None → (n : ℕ) → replicate n None ≡ map f (replicate n None)
-map-none f none zero = refl
-map-none f none (suc n) = ap (λ (o : Option ℕ). o ∷ replicate n None) (sym none) ∙ ap (λ (l : List (Option ℕ)). f None ∷ l) (map-none f none n)
+nones : (f : Option Translation → Option ℕ) → f None ≡ None → (n : ℕ) → replicate n None ≡ map f (replicate n None)
+nones f none zero = refl
+nones f none (suc n) = ap (λ (o : Option ℕ). o ∷ replicate n None) (sym none) ∙ ap (λ (l : List (Option ℕ)). f None ∷ l) (nones f none n)
 
-pub put-table : (places : List (Option Translation)) (pages frames pages' frames' : Chained) (slots place slot : ℕ) (new : Translation) → IsTable places pages frames slots → place < length places → ((k : ℕ) → holds new.space new.page (get_or places k None) ≡ false) →
-    slot ≡ slot_of slots new.space new.page → pages'.chains ≡ pages.chains → pages'.owner ≡ set pages.owner place (Some slot) → frames'.owner ≡ set frames.owner place (Some new.frame) → IsTable (set places place (Some new)) pages' frames' slots
-put-table places pages frames pages' frames' slots place slot new t lt absent s n p f = record {
-  some = t.some;
-  slots_are = n ∙ t.slots_are;
-  pages = p ∙ ap (λ (o : List (Option ℕ)). set o place (Some slot)) t.pages ∙ ap (λ (k : ℕ). set (map (slot_at slots) places) place (Some k)) s ∙ sym (map-set (slot_at slots) places place (Some new));
-  frames = f ∙ ap (λ (o : List (Option ℕ)). set o place (Some new.frame)) t.frames ∙ sym (map-set frame_of places place (Some new));
-  distinct = distinct-put places place new lt t.distinct absent;
+pub new-table : (places : List (Option Translation)) (slots ns frames nf : List (Option ℕ)) (n m : ℕ) → places ≡ replicate n None → slots ≡ replicate n None → ns ≡ replicate n None → frames ≡ replicate m None → nf ≡ replicate n None → length slots ≡ n → 0 < n → IsSoundTable places slots ns frames nf
+new-table places slots ns frames nf n m ep es en ef em len some = record {
+  some = omega arith;
+  pages = linked (slot_at (length slots)) refl n slots ns es en;
+  frames = linked frame_of refl m frames nf ef em;
+  distinct = subst IsSingleValued (sym ep) (distinct-none n);
 }
-
-pub take-table : (places : List (Option Translation)) (pages frames pages' frames' : Chained) (slots place : ℕ) (old : Translation) → IsTable places pages frames slots → get_or places place None ≡ Some old →
-    pages'.chains ≡ pages.chains → pages'.owner ≡ set pages.owner place None → frames'.owner ≡ set frames.owner place None → IsTable (set places place None) pages' frames' slots
-take-table places pages frames pages' frames' slots place old t is n p f = record {
-  some = t.some;
-  slots_are = n ∙ t.slots_are;
-  pages = p ∙ ap (λ (o : List (Option ℕ)). set o place None) t.pages ∙ sym (map-set (slot_at slots) places place None);
-  frames = f ∙ ap (λ (o : List (Option ℕ)). set o place None) t.frames ∙ sym (map-set frame_of places place None);
-  distinct = distinct-take places place (some-within places place old is) t.distinct;
-}
-
-same-set : (f : Option Translation → Option ℕ) → f None ≡ None → (places : List (Option Translation)) (place : ℕ) (new : Option Translation) → f new ≡ f (get_or places place None) → map f places ≡ map f (set places place new)
-same-set f none places place new e = sym (map-set f places place new ∙ ap (λ (o : Option ℕ). set (map f places) place o) (e ∙ sym (map-at f none places place)) ∙ set-get_or (map f places) place None)
-
-pub change-table : (places : List (Option Translation)) (pages frames : Chained) (slots place : ℕ) (old new : Translation) → IsTable places pages frames slots → get_or places place None ≡ Some old → SameName old new → IsTable (set places place (Some new)) pages frames slots
-change-table places pages frames slots place old new t is same = record {
-  some = t.some;
-  slots_are = t.slots_are;
-  pages = t.pages ∙ same-set (slot_at slots) refl places place (Some new) (ap (λ (s : ℕ). Some (slot_of slots s new.page)) same.space ∙ ap (λ (p : ℕ). Some (slot_of slots old.space p)) same.page ∙ sym (ap (slot_at slots) is));
-  frames = t.frames ∙ same-set frame_of refl places place (Some new) (ap (λ (f : ℕ). Some f) same.frame ∙ sym (ap frame_of is));
-  distinct = distinct-change places place old new t.distinct is same;
-}
-
--- a walk down the slot of a page
-ahead-of : (owner : List (Option ℕ)) (slot low k : ℕ) (at : Option ℕ) → LeadsFrom owner slot low at → low ≤ k → owner_at owner k ≡ Some slot → IsAhead at k
-ahead-of owner slot low k None l le e = l k le e
-ahead-of owner slot low k (Some p) l le e = l.2 k le e
-
-here-of : (owner : List (Option ℕ)) (slot low p : ℕ) (at : Option ℕ) → LeadsFrom owner slot low at → at ≡ Some p → owner_at owner p ≡ Some slot
-here-of owner slot low p None l e = let z : None ≡ Some p = e in cc
-here-of owner slot low p (Some q) l e = let s : q ≡ p = let z : Some q ≡ Some p = e in cc in subst (λ (k : ℕ). owner_at owner k ≡ Some slot) s l.1
-
-on-slot : (places : List (Option Translation)) (pages frames : Chained) (slots slot space page k : ℕ) → IsTable places pages frames slots → slot ≡ slot_of slots space page → holds space page (get_or places k None) ≡ true → owner_at pages.owner k ≡ Some slot
-on-slot places pages frames slots slot space page k t s h =
-    ap (λ (o : List (Option ℕ)). owner_at o k) t.pages ∙ map-at (slot_at slots) refl places k ∙ slot-held slots space page (get_or places k None) h ∙ ap (λ (n : ℕ). Some n) (sym s)
-
-pub start-walk : (places : List (Option Translation)) (pages frames : Chained) (slots slot space page : ℕ) (at : Option ℕ) → IsTable places pages frames slots → slot ≡ slot_of slots space page → LeadsFrom pages.owner slot 0 at → Seeks places pages.owner slot space page at
-start-walk places pages frames slots slot space page at t s l = record {
-  here = λ p e. here-of pages.owner slot 0 p at l e;
-  ahead = λ k h. ahead-of pages.owner slot 0 k at l (omega arith) (on-slot places pages frames slots slot space page k t s h);
-}
-
-pub step-walk : (places : List (Option Translation)) (pages frames : Chained) (slots slot space page place : ℕ) (at after : Option ℕ) → IsTable places pages frames slots → slot ≡ slot_of slots space page → Seeks places pages.owner slot space page at → at ≡ Some place → holds space page (get_or places place None) ≡ false → LeadsFrom pages.owner slot (place + 1) after → Seeks places pages.owner slot space page after
-step-walk places pages frames slots slot space page place at after t s seeks is missed l = record {
-  here = λ p e. here-of pages.owner slot (place + 1) p after l e;
-  ahead = λ k h.
-      let a : place ≤ k = subst (λ (o : Option ℕ). IsAhead o k) is (seeks.ahead k h) in
-      let ne : k ≢ place = λ q. let z : true ≡ false = sym (subst (λ (k : ℕ). holds space page (get_or places k None) ≡ true) q h) ∙ missed in cc in
-      ahead-of pages.owner slot (place + 1) k after l (omega arith) (on-slot places pages frames slots slot space page k t s h);
-}
-
-pub walk-within : (places : List (Option Translation)) (pages frames : Chained) (slots slot place : ℕ) → IsTable places pages frames slots → owner_at pages.owner place ≡ Some slot → place < length places
-walk-within places pages frames slots slot place t e =
-    within places place (sym (map-at (slot_at slots) refl places place) ∙ sym (ap (λ (o : List (Option ℕ)). owner_at o place) t.pages) ∙ e)
   where
-    within : (places : List (Option Translation)) (k : ℕ) → slot_at slots (get_or places k None) ≡ Some slot → k < length places
-    within [] k e = let z : None ≡ Some slot = e in cc
-    within (p ∷ ps) zero e = omega arith
-    within (p ∷ ps) (suc k) e = let r = within ps k e in omega arith
+    linked : (f : Option Translation → Option ℕ) → f None ≡ None → (m : ℕ) (heads next : List (Option ℕ)) → heads ≡ replicate m None → next ≡ replicate n None → IsLinked heads next (map f places)
+    linked f none m heads next eh en =
+        subst (λ (h : List (Option ℕ)). IsLinked h next (map f places)) (sym eh) (subst (λ (x : List (Option ℕ)). IsLinked (replicate m None) x (map f places)) (sym en)
+        (subst (λ (o : List (Option ℕ)). IsLinked (replicate m None) (replicate n None) o) (nones f none n ∙ ap (map f) (sym ep)) (linked-none m n)))
 
-pub none-left : (places : List (Option Translation)) (owner : List (Option ℕ)) (slot space page : ℕ) (at : Option ℕ) → Seeks places owner slot space page at → at ≡ None → FindsPlace places space page None
-none-left places owner slot space page at seeks is = λ k. elim (cases_Bool (holds space page (get_or places k None))) [
-  | inl t ↦ absurd (subst (λ (o : Option ℕ). IsAhead o k) is (seeks.ahead k t))
+pub length-mapped : (f : Option Translation → Option ℕ) (places : List (Option Translation)) → length (map f places) ≡ length places
+length-mapped f [] = refl
+length-mapped f (o ∷ os) = ap suc (length-mapped f os)
+
+module _ (places : List (Option Translation)) (slots ns frames nf : List (Option ℕ)) (t : IsSoundTable places slots ns frames nf) (place slot : ℕ) where
+  pub next-within : place < length places → place < length ns
+  next-within lt = let a = t.pages.lengths in let b = length-mapped (slot_at (length slots)) places in omega arith
+
+  pub next-within' : place < length places → place < length nf
+  next-within' lt = let a = t.frames.lengths in let b = length-mapped frame_of places in omega arith
+
+  -- a translation comes into an empty place
+  pub put-table : (new : Translation) (slots' ns' frames' nf' : List (Option ℕ)) → place < length places → get_or places place None ≡ None → ((k : ℕ) → holds new.space new.page (get_or places k None) ≡ false) →
+      slot ≡ page_slot (length slots) new.space new.page → slot < length slots → new.frame < length frames →
+      slots' ≡ set slots slot (Some place) → ns' ≡ set ns place (get_or slots slot None) → frames' ≡ set frames new.frame (Some place) → nf' ≡ set nf place (get_or frames new.frame None) → IsSoundTable (set places place (Some new)) slots' ns' frames' nf'
+  put-table new slots' ns' frames' nf' lt empty absent s in_s in_f es en ef em = let same = ap length es ∙ length-set slots slot (Some place) in record {
+    some = let a = t.some in omega arith;
+    pages = subst (λ (n : ℕ). IsLinked slots' ns' (map (slot_at n) (set places place (Some new)))) (sym same)
+        (subst (λ (o : List (Option ℕ)). IsLinked slots' ns' o) (ap (λ (k : ℕ). set (map (slot_at (length slots)) places) place (Some k)) s ∙ sym (map-set (slot_at (length slots)) places place (Some new)))
+        (subst (λ (h : List (Option ℕ)). IsLinked h ns' (set (map (slot_at (length slots)) places) place (Some slot))) (sym es) (subst (λ (x : List (Option ℕ)). IsLinked (set slots slot (Some place)) x (set (map (slot_at (length slots)) places) place (Some slot))) (sym en)
+        (linked-in slots ns (map (slot_at (length slots)) places) place slot t.pages (let b = length-mapped (slot_at (length slots)) places in omega arith) (map-at (slot_at (length slots)) refl places place ∙ ap (slot_at (length slots)) empty) in_s))));
+    frames = subst (λ (o : List (Option ℕ)). IsLinked frames' nf' o) (sym (map-set frame_of places place (Some new)))
+        (subst (λ (h : List (Option ℕ)). IsLinked h nf' (set (map frame_of places) place (Some new.frame))) (sym ef) (subst (λ (x : List (Option ℕ)). IsLinked (set frames new.frame (Some place)) x (set (map frame_of places) place (Some new.frame))) (sym em)
+        (linked-in frames nf (map frame_of places) place new.frame t.frames (let b = length-mapped frame_of places in omega arith) (map-at frame_of refl places place ∙ ap frame_of empty) in_f)));
+    distinct = distinct-put places place new lt t.distinct absent;
+  }
+
+  module _ (old : Translation) (is : get_or places place None ≡ Some old) (s : slot ≡ page_slot (length slots) old.space old.page) where
+    on-slot : owner_at (map (slot_at (length slots)) places) place ≡ Some slot
+    on-slot = map-at (slot_at (length slots)) refl places place ∙ ap (slot_at (length slots)) is ∙ ap (λ (k : ℕ). Some k) (sym s)
+
+    on-frame : owner_at (map frame_of places) place ≡ Some old.frame
+    on-frame = map-at frame_of refl places place ∙ ap frame_of is
+
+    pub leads-slot : LeadsTo ns (get_or slots slot None) place
+    leads-slot = leads-to slots ns (map (slot_at (length slots)) places) place slot t.pages on-slot
+
+    pub leads-frame : LeadsTo nf (get_or frames old.frame None) place
+    leads-frame = leads-to frames nf (map frame_of places) place old.frame t.frames on-frame
+
+    pub frame-within : old.frame < length frames
+    frame-within = t.frames.chained place old.frame on-frame
+
+    -- the translation goes out of its place
+    pub take-table : (slots' ns' frames' nf' : List (Option ℕ)) → Unlinks slots ns slots' ns' slot place → Unlinks frames nf frames' nf' old.frame place → IsSoundTable (set places place None) slots' ns' frames' nf'
+    take-table slots' ns' frames' nf' us uf = let same = unlinks-length slots ns slots' ns' slot place us in record {
+      some = let a = t.some in omega arith;
+      pages = subst (λ (n : ℕ). IsLinked slots' ns' (map (slot_at n) (set places place None))) (sym same)
+          (subst (λ (o : List (Option ℕ)). IsLinked slots' ns' o) (sym (map-set (slot_at (length slots)) places place None)) (linked-out slots ns (map (slot_at (length slots)) places) place slot t.pages on-slot slots' ns' us));
+      frames = subst (λ (o : List (Option ℕ)). IsLinked frames' nf' o) (sym (map-set frame_of places place None)) (linked-out frames nf (map frame_of places) place old.frame t.frames on-frame frames' nf' uf);
+      distinct = distinct-take places place (some-within places place old is) t.distinct;
+    }
+
+  -- rights and bits of a translation change
+  pub change-table : (old new : Translation) → get_or places place None ≡ Some old → SameName old new → IsSoundTable (set places place (Some new)) slots ns frames nf
+  change-table old new is same = record {
+    some = t.some;
+    pages = subst (λ (o : List (Option ℕ)). IsLinked slots ns o) (sym (map-set_same (slot_at (length slots)) places place (Some new) None (ap (λ (s : ℕ). Some (page_slot (length slots) s new.page)) same.space ∙ ap (λ (p : ℕ). Some (page_slot (length slots) old.space p)) same.page ∙ sym (ap (slot_at (length slots)) is)))) t.pages;
+    frames = subst (λ (o : List (Option ℕ)). IsLinked frames nf o) (sym (map-set_same frame_of places place (Some new) None (ap (λ (f : ℕ). Some f) same.frame ∙ sym (ap frame_of is)))) t.frames;
+    distinct = distinct-change places place old new t.distinct is same;
+  }
+
+-- a walk down the slot of a page: no place that it has passed holds the page
+pub record Looks (places : List (Option Translation)) (next : List (Option ℕ)) (space page : ℕ) (at : Option ℕ) : Type 0 where
+  pub walk : Walk next at
+  pub ahead : (k : ℕ) → holds space page (get_or places k None) ≡ true → is_among k walk.rest ≡ true
+
+pub look-start : (places : List (Option Translation)) (slots ns frames nf : List (Option ℕ)) (slot space page : ℕ) (at : Option ℕ) → IsSoundTable places slots ns frames nf → slot ≡ page_slot (length slots) space page → slot < length slots → at ≡ get_or slots slot None → Looks places ns space page at
+look-start places slots ns frames nf slot space page at t s lt e =
+    let o = t.pages.own slot lt in
+    subst (λ (a : Option ℕ). Looks places ns space page a) (sym e) (record {
+      walk = own-walk ns (map (slot_at (length slots)) places) slot (get_or slots slot None) o;
+      ahead = λ k h. o.owns k ∙ ap (is_owner slot) (map-at (slot_at (length slots)) refl places k ∙ slot-held (length slots) space page (get_or places k None) h) ∙ eq-eqb (page_slot (length slots) space page) slot (sym s);
+    })
+
+pub look-step : (places : List (Option Translation)) (ns : List (Option ℕ)) (space page place : ℕ) (at after : Option ℕ) → Looks places ns space page at → at ≡ Some place → after ≡ get_or ns place None → holds space page (get_or places place None) ≡ false → Looks places ns space page after
+look-step places ns space page place at after l is e missed =
+    let t = step ns at after place l.walk is e in
+    record {
+      walk = record { rest = t.more; linked = t.linked; short = t.short };
+      ahead = λ k h. elim (or_cases (k == place) (is_among k t.more) (sym (ap (is_among k) t.is) ∙ l.ahead k h)) [
+        | inl q ↦ let z : true ≡ false = sym h ∙ ap (λ (k : ℕ). holds space page (get_or places k None)) (eqb-true k place q) ∙ missed in cc
+        | inr r ↦ r
+      ];
+    }
+
+pub look-end : (places : List (Option Translation)) (ns : List (Option ℕ)) (space page : ℕ) (at : Option ℕ) → Looks places ns space page at → at ≡ None → FindsPlace places space page None
+look-end places ns space page at l is = λ k. elim (cases_Bool (holds space page (get_or places k None))) [
+  | inl t ↦ let z : false ≡ true = ap (is_among k) (sym (walk-ends ns at l.walk.rest l.walk.linked is)) ∙ l.ahead k t in cc
   | inr f ↦ f
 ]
 
-pub falls : (owner : List (Option ℕ)) (slot place : ℕ) (at after : Option ℕ) → at ≡ Some place → place < length owner → LeadsFrom owner slot (place + 1) after → left (length owner) after < left (length owner) at
-falls owner slot place at after is lt l = subst (λ (o : Option ℕ). left (length owner) after < left (length owner) o) (sym is) (go after l)
+-- the place that the walk has reached is one of the pool
+pub look-within : (places : List (Option Translation)) (slots ns frames nf : List (Option ℕ)) (space page place : ℕ) (at : Option ℕ) → IsSoundTable places slots ns frames nf → Looks places ns space page at → at ≡ Some place → place < length places
+look-within places slots ns frames nf space page place at t l is =
+    let w = (step ns at (get_or ns place None) place l.walk is refl).within in
+    let n = t.pages.lengths in
+    let m = length-mapped (slot_at (length slots)) places in omega arith
+
+-- the bits of a frame's translations are cleared
+mapped : (f : Option Translation → Option ℕ) (G : Option Translation → Option Translation) → ((o : Option Translation) → f (G o) ≡ f o) → (places : List (Option Translation)) → map f (map G places) ≡ map f places
+mapped f G same [] = refl
+mapped f G same (o ∷ os) = ap (λ (x : Option ℕ). x ∷ map f (map G os)) (same o) ∙ ap (λ (l : List (Option ℕ)). f o ∷ l) (mapped f G same os)
+
+cleared-same : {X : Type 0} (f : Option Translation → X) → ((t : Translation) → f (Some (with_clear_bits t)) ≡ f (Some t)) → (frame : ℕ) (o : Option Translation) → f (change_lead frame with_clear_bits o) ≡ f o
+cleared-same f same frame None = refl
+cleared-same f same frame (Some t) = elim (t.frame == frame) as (λ b. f (cond b (option_map with_clear_bits (Some t)) (Some t)) ≡ f (Some t)) [ true ↦ same t | false ↦ refl ]
+
+pub clear-table : (places : List (Option Translation)) (slots ns frames nf : List (Option ℕ)) → IsSoundTable places slots ns frames nf → (frame : ℕ) (places' : List (Option Translation)) → places' ≡ change_frame frame with_clear_bits places → IsSoundTable places' slots ns frames nf
+clear-table places slots ns frames nf t frame places' e = subst (λ (p : List (Option Translation)). IsSoundTable p slots ns frames nf) (sym e) (record {
+  some = t.some;
+  pages = subst (λ (o : List (Option ℕ)). IsLinked slots ns o) (sym (mapped (slot_at (length slots)) (change_lead frame with_clear_bits) (cleared-same (slot_at (length slots)) (λ t. refl) frame) places)) t.pages;
+  frames = subst (λ (o : List (Option ℕ)). IsLinked frames nf o) (sym (mapped frame_of (change_lead frame with_clear_bits) (cleared-same frame_of (λ t. refl) frame) places)) t.frames;
+  distinct = λ i j space page a b. t.distinct i j space page (sym (same i space page) ∙ a) (sym (same j space page) ∙ b);
+})
   where
-    go : (after : Option ℕ) → LeadsFrom owner slot (place + 1) after → left (length owner) after < left (length owner) (Some place)
-    go None l = omega arith
-    go (Some q) l = let a = l.0 in omega arith
+    get-map : (ps : List (Option Translation)) (i : ℕ) → get_or (map (change_lead frame with_clear_bits) ps) i None ≡ change_lead frame with_clear_bits (get_or ps i None)
+    get-map [] i = refl
+    get-map (p ∷ ps) zero = refl
+    get-map (p ∷ ps) (suc i) = get-map ps i
+
+    same : (i space page : ℕ) → holds space page (get_or (change_frame frame with_clear_bits places) i None) ≡ holds space page (get_or places i None)
+    same i space page = ap (λ (o : Option Translation). holds space page o) (get-map places i) ∙ cleared-same (λ (o : Option Translation). holds space page o) (λ t. refl) frame (get_or places i None)

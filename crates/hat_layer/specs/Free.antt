@@ -1,14 +1,14 @@
--- The free places of a pool, and the hand that steals.
+-- The free places of a pool, and the hand that steals. Inside: no public clause cites this.
 use Rattle.std.specs.Prelude.{zero, suc, ◌≡◌, ◌≢◌, ℕ, ◌<◌, ◌≤◌, ◌^◌, ◌∷◌, [], List, Option, Some, None, false, length, slice_index_or, slice_index, slice_set}
 use Rattle.hat_layer.specs.declared.translation.Translation.{Translation}
-use Rattle.hat_layer.specs.Pool.{Pool, AreDistinct, holds, due, hand_after}
+use Rattle.hat_layer.specs.Pool.{Pool, IsSingleValued, holds, dropped_by_load, hand_after}
 
 -- the stack has this place
 abbrev pub IsOn : List ℕ → ℕ → Type 0
 IsOn free k = (i : ℕ) × ((i < length free) × (slice_index free i ≡ k))
 
 -- the stack has the empty places, each once; the hand is at a place
-pub record IsHat (places : List (Option Translation)) (free : List ℕ) (room hand : ℕ) : Type 0 where
+pub record IsSoundHat (places : List (Option Translation)) (free : List ℕ) (room hand : ℕ) : Type 0 where
   pub hand_in : hand < length places
   pub few : length places < 2 ^ 32
   pub room_for_all : length places ≤ room
@@ -18,13 +18,13 @@ pub record IsHat (places : List (Option Translation)) (free : List ℕ) (room ha
   pub apart : (i j : ℕ) → i < j → j < length free → slice_index free i ≢ slice_index free j
 
 -- which place a load takes, and what stands once it has
-pub record Chooses (pool : Pool) (free' : List ℕ) (room hand' space page place : ℕ) : Type 0 where
+pub record TakesPlace (pool : Pool) (free' : List ℕ) (room hand' space page place : ℕ) : Type 0 where
   pub within : place < length pool.places
-  pub gives : slice_index_or pool.places place None ≡ due pool space page
-  pub distinct : AreDistinct pool.places
+  pub gives : slice_index_or pool.places place None ≡ dropped_by_load pool space page
+  pub distinct : IsSingleValued pool.places
   pub alone : (k : ℕ) → k ≢ place → holds space page (slice_index_or pool.places k None) ≡ false
   pub turns : hand' ≡ hand_after pool space page
-  pub fits : (new : Translation) → IsHat (slice_set pool.places place (Some new)) free' room hand'
+  pub fits : (new : Translation) → IsSoundHat (slice_set pool.places place (Some new)) free' room hand'
 
 -- n - 1, .., 1, 0
 abbrev pub falling : ℕ → List ℕ

@@ -1,4 +1,4 @@
--- What a contract sees of the pool of translations.
+-- What a contract sees of the pool of translations. Public clauses cite this.
 use Rattle.std.specs.Prelude.{◌≡◌, ℕ, ◌+◌, ◌==◌, ◌&&◌, ◌||◌, Bool, true, false, List, Option, Some, None, if◌then◌else◌, map, find, length, option_map, option_and_then, is_some, slice_index_or}
 use Rattle.std.specs.List.{list_any, list_all}
 use Rattle.hat_layer.specs.declared.translation.Translation.{Translation}
@@ -34,61 +34,86 @@ leads frame None = false
 leads frame (Some t) = t.frame == frame
 
 -- what is told of a translation that is dropped
-abbrev pub told : Translation → Dropped
-told t = record { space = t.space; page = t.page; frame = t.frame; referenced = t.referenced; modified = t.modified }
+abbrev pub told_of : Translation → Dropped
+told_of t = record { space = t.space; page = t.page; frame = t.frame; referenced = t.referenced; modified = t.modified }
 
 -- a translation as it is loaded: with clear bits
-abbrev pub fresh : ℕ → ℕ → ℕ → Bool → Translation
-fresh space page frame writable = record { space = space; page = page; frame = frame; writable = writable; referenced = false; modified = false }
+abbrev pub fresh_translation : ℕ → ℕ → ℕ → Bool → Translation
+fresh_translation space page frame writable = record { space = space; page = page; frame = frame; writable = writable; referenced = false; modified = false }
 
 -- a translation after an access
-abbrev pub touched : Bool → Translation → Translation
-touched write t = record { space = t.space; page = t.page; frame = t.frame; writable = t.writable; referenced = true; modified = t.modified || write }
+abbrev pub after_access : Bool → Translation → Translation
+after_access write t = record { space = t.space; page = t.page; frame = t.frame; writable = t.writable; referenced = true; modified = t.modified || write }
 
-abbrev pub read_only : Translation → Translation
-read_only t = record { space = t.space; page = t.page; frame = t.frame; writable = false; referenced = t.referenced; modified = t.modified }
+abbrev pub without_write : Translation → Translation
+without_write t = record { space = t.space; page = t.page; frame = t.frame; writable = false; referenced = t.referenced; modified = t.modified }
 
-abbrev pub cleared : Translation → Translation
-cleared t = record { space = t.space; page = t.page; frame = t.frame; writable = t.writable; referenced = false; modified = false }
+abbrev pub with_clear_bits : Translation → Translation
+with_clear_bits t = record { space = t.space; page = t.page; frame = t.frame; writable = t.writable; referenced = false; modified = false }
 
--- the places with the translation of one page changed, or dropped, and all others as they were
+-- the entry of one page changed, or dropped, and any other as it was
+abbrev pub change_page : ℕ → ℕ → (Translation → Translation) → Option Translation → Option Translation
+change_page space page change o = if holds space page o then option_map change o else o
+
+abbrev pub drop_page : ℕ → ℕ → Option Translation → Option Translation
+drop_page space page o = if holds space page o then None else o
+
+-- an entry that leads to a frame changed, or dropped, and any other as it was
+abbrev pub change_lead : ℕ → (Translation → Translation) → Option Translation → Option Translation
+change_lead frame change o = if leads frame o then option_map change o else o
+
+abbrev pub drop_lead : ℕ → Option Translation → Option Translation
+drop_lead frame o = if leads frame o then None else o
+
+-- the places with the translation of one page changed, or dropped
 abbrev pub change_at : ℕ → ℕ → (Translation → Translation) → List (Option Translation) → List (Option Translation)
-change_at space page change places = map (λ o. if holds space page o then option_map change o else o) places
+change_at space page change places = map (λ o. change_page space page change o) places
 
 abbrev pub drop_at : ℕ → ℕ → List (Option Translation) → List (Option Translation)
-drop_at space page places = map (λ o. if holds space page o then None else o) places
+drop_at space page places = map (λ o. drop_page space page o) places
 
--- the places with all translations of a frame changed, or dropped, and all others as they were
+-- the places with all translations of a frame changed, or dropped
 abbrev pub change_frame : ℕ → (Translation → Translation) → List (Option Translation) → List (Option Translation)
-change_frame frame change places = map (λ o. if leads frame o then option_map change o else o) places
+change_frame frame change places = map (λ o. change_lead frame change o) places
 
 abbrev pub drop_frame : ℕ → List (Option Translation) → List (Option Translation)
-drop_frame frame places = map (λ o. if leads frame o then None else o) places
+drop_frame frame places = map (λ o. drop_lead frame o) places
 
--- a place leads to the frame and its translation was referenced, modified
-abbrev pub was_referenced : ℕ → Option Translation → Bool
-was_referenced frame None = false
-was_referenced frame (Some t) = (t.frame == frame) && t.referenced
-
-abbrev pub was_modified : ℕ → Option Translation → Bool
-was_modified frame None = false
-was_modified frame (Some t) = (t.frame == frame) && t.modified
+-- a place leads to the frame, and its translation has this bit
+abbrev pub has_bit : (Translation → Bool) → ℕ → Option Translation → Bool
+has_bit bit frame None = false
+has_bit bit frame (Some t) = (t.frame == frame) && bit t
 
 -- whether one of the frame's translations was referenced, modified
 abbrev pub bits_of : ℕ → List (Option Translation) → Bool × Bool
-bits_of frame places = (list_any (was_referenced frame) places, list_any (was_modified frame) places)
+bits_of frame places = (list_any (has_bit (λ t. t.referenced) frame) places, list_any (has_bit (λ t. t.modified) frame) places)
 
 abbrev pub is_full : List (Option Translation) → Bool
 is_full places = list_all (λ o. is_some o) places
 
 -- the translation that gives way to a load: that of the same page, else in a full pool the one that the hand is at
-abbrev pub due : Pool → ℕ → ℕ → Option Translation
-due pool space page = if is_some (at pool.places space page) then at pool.places space page else if is_full pool.places then slice_index_or pool.places pool.hand None else None
+abbrev pub dropped_by_load : Pool → ℕ → ℕ → Option Translation
+dropped_by_load pool space page =
+    if is_some (at pool.places space page) then at pool.places space page
+    else if is_full pool.places then slice_index_or pool.places pool.hand None
+    else None
 
 -- the hand moves on where a full pool steals, from the last place to place 0
 abbrev pub hand_after : Pool → ℕ → ℕ → ℕ
-hand_after pool space page = if is_some (at pool.places space page) then pool.hand else if is_full pool.places then (if pool.hand + 1 == length pool.places then 0 else pool.hand + 1) else pool.hand
+hand_after pool space page =
+    if is_some (at pool.places space page) then pool.hand
+    else if is_full pool.places then (if pool.hand + 1 == length pool.places then 0 else pool.hand + 1)
+    else pool.hand
 
 -- no page of a space has two translations
-abbrev pub AreDistinct : List (Option Translation) → Type 0
-AreDistinct places = (i j space page : ℕ) → holds space page (slice_index_or places i None) ≡ true → holds space page (slice_index_or places j None) ≡ true → i ≡ j
+abbrev pub IsSingleValued : List (Option Translation) → Type 0
+IsSingleValued places = (i j space page : ℕ) → holds space page (slice_index_or places i None) ≡ true → holds space page (slice_index_or places j None) ≡ true → i ≡ j
+
+-- some page's translation leads to the frame and has this bit
+pub record SomeHas (bit : Translation → Bool) (places : List (Option Translation)) (frame : ℕ) : Type 0 where
+  pub space : ℕ
+  pub page : ℕ
+  pub entry : Translation
+  pub there : at places space page ≡ Some entry
+  pub leads_there : entry.frame ≡ frame
+  pub set : bit entry ≡ true

@@ -1,7 +1,7 @@
 //! The translations of all spaces: a map that only forgets.
-ghost use Rattle.std.specs.Prelude.{◌≡◌, ◌≢◌, ℕ, ◌+◌, ◌<◌, ◌≤◌, ◌==◌, ◌&&◌, ◌^◌, [], ◌∷◌, ◌++◌, length, replicate, true, false, Option, Some, None, IfOk, IsTrue, IsSomeAnd, slice_set, slice_index_or, if◌then◌else◌, option_map, vec_len, vec_capacity};
-ghost use Rattle.hat_layer.specs.Pool.{Pool, AreDistinct, is_of, holds, frame_of, at, told, fresh, touched, read_only, cleared, change_at, drop_at, change_frame, drop_frame, bits_of, due, hand_after};
-ghost use Rattle.hat_layer.specs.Free.{IsHat, Chooses, falling};
+ghost use Rattle.std.specs.Prelude.{◌≡◌, ◌≢◌, ◌↔◌, ℕ, ◌+◌, ◌<◌, ◌≤◌, ◌==◌, ◌&&◌, ◌^◌, [], ◌∷◌, ◌++◌, length, replicate, true, false, Option, Some, None, IfOk, IsTrue, IsSomeAnd, slice_set, slice_index_or, if◌then◌else◌, option_map, vec_len, vec_capacity};
+ghost use Rattle.hat_layer.specs.Pool.{Pool, IsSingleValued, SomeHas, is_of, holds, frame_of, at, told_of, fresh_translation, after_access, without_write, with_clear_bits, change_page, drop_page, change_lead, drop_lead, change_at, drop_at, change_frame, drop_frame, bits_of, dropped_by_load, hand_after};
+ghost use Rattle.hat_layer.specs.Free.{IsSoundHat, TakesPlace, falling};
 
 use crate::table::Table;
 use crate::translation::{Dropped, Translation};
@@ -24,13 +24,14 @@ pub struct Hat {
 impl Model for Hat {
     ghost use Rattle.std.specs.Prelude.{◌≡◌, length, vec_capacity};
     ghost use Rattle.hat_layer.specs.Pool.{Pool};
-    ghost use Rattle.hat_layer.specs.Free.{IsHat};
+    ghost use Rattle.hat_layer.specs.Free.{IsSoundHat};
 
     ghost Value = { Pool };
 
     ghost view = { λ h. record { places = h.table.places; hand = h.hand; frames = h.table.frames } };
 
-    ghost invariant = { λ h. IsHat h.table.places h.free.items (vec_capacity h.free) h.hand × (h.pool ≡ length h.table.places) };
+    ghost invariant = { λ h. IsSoundHat h.table.places h.free.items (vec_capacity h.free) h.hand
+        × (h.pool ≡ length h.table.places) };
 }
 
 // The place that a load takes: that of the same page, else a free one, else the one at the hand,
@@ -43,9 +44,11 @@ fn choose(
     space: u32,
     page: u32,
 ) -> u32
-    requires fits { IsHat table.now.places free.old.items (vec_capacity free.old) hand.old }
+    requires fits { IsSoundHat table.now.places free.old.items (vec_capacity free.old) hand.old }
     requires pool { pool ≡ length table.now.places }
-    ensures { Chooses (record { places = table.now.places; hand = hand.old; frames = table.now.frames }) free.new.items (vec_capacity free.new) hand.new space page result }
+    ensures { TakesPlace
+        (record { places = table.now.places; hand = hand.old; frames = table.now.frames })
+        free.new.items (vec_capacity free.new) hand.new space page result }
 {
     if let Some((place, _held)) = table.held(space, page) {
         return place;
@@ -75,10 +78,13 @@ fn turn(hand: &mut u32, pool: u32) -> u32
 fn replace(table: &mut Table, place: u32, new: Translation) -> Option<Translation>
     requires place { place < length table.old.places }
     requires frame { new.frame < table.old.frames }
-    requires apart { (k : ℕ) → k ≢ place → holds new.space new.page (slice_index_or table.old.places k None) ≡ false }
+    requires apart { (k : ℕ) → k ≢ place
+        → holds new.space new.page (slice_index_or table.old.places k None) ≡ false }
     ensures old { result ≡ slice_index_or table.old.places place None }
+    // What it leaves.
     ensures places { table.new.places ≡ slice_set table.old.places place (Some new) }
     ensures frames { table.new.frames ≡ table.old.frames }
+    ensures distinct { IsSingleValued table.new.places }
 {
     match table.get(place) {
         None => {
@@ -93,28 +99,18 @@ fn replace(table: &mut Table, place: u32, new: Translation) -> Option<Translatio
     }
 }
 
-// Pushes a place onto a stack that has room for it.
-fn push_within(free: &mut Vec<u32>, place: u32)
-    requires { vec_len free.old < vec_capacity free.old }
-    ensures items { free.new.items ≡ free.old.items ++ place ∷ [] }
-    ensures capacity { vec_capacity free.old ≤ vec_capacity free.new }
-{
-    match free.push(place) {
-        Ok(()) => {}
-        Err(_) => unreachable!(),
-    }
-}
-
 // Takes the translation out of a place, which is free then.
 fn release(table: &mut Table, free: &mut Vec<u32>, hand: u32, place: u32, old: Translation)
-    requires fits { IsHat table.old.places free.old.items (vec_capacity free.old) hand }
+    requires fits { IsSoundHat table.old.places free.old.items (vec_capacity free.old) hand }
     requires old { slice_index_or table.old.places place None ≡ Some old }
-    ensures fits { IsHat table.new.places free.new.items (vec_capacity free.new) hand }
+    // What it leaves.
+    ensures fits { IsSoundHat table.new.places free.new.items (vec_capacity free.new) hand }
     ensures places { table.new.places ≡ slice_set table.old.places place None }
     ensures frames { table.new.frames ≡ table.old.frames }
+    ensures distinct { IsSingleValued table.new.places }
 {
     table.take(place, old);
-    push_within(free, place);
+    free.push_reserved(place);
 }
 
 // All places of an empty pool, so that place 0 is taken first.
@@ -130,7 +126,7 @@ fn all_free(alloc: Global, pool: u32) -> Result<Vec<u32>, AllocError>
 }
 
 fn told_of(old: Translation) -> Dropped
-    ensures { result ≡ told old }
+    ensures { result ≡ told_of old }
 {
     Dropped {
         space: old.space,
@@ -142,7 +138,7 @@ fn told_of(old: Translation) -> Dropped
 }
 
 fn after_access(old: Translation, write: bool) -> Translation
-    ensures { result ≡ touched write old }
+    ensures { result ≡ after_access write old }
 {
     Translation {
         referenced: true,
@@ -152,7 +148,7 @@ fn after_access(old: Translation, write: bool) -> Translation
 }
 
 fn without_write(old: Translation) -> Translation
-    ensures { result ≡ read_only old }
+    ensures { result ≡ without_write old }
 {
     Translation {
         writable: false,
@@ -160,24 +156,14 @@ fn without_write(old: Translation) -> Translation
     }
 }
 
-fn with_clear_bits(old: Translation) -> Translation
-    ensures { result ≡ cleared old }
-{
-    let (referenced, modified) = (false, false);
-    Translation {
-        referenced,
-        modified,
-        ..old
-    }
-}
-
 impl Hat {
-    /// An empty pool of so many places, for frames below this number.
+    /// An empty pool of that many places, for frames below this number.
     pub fn new(alloc: Global, pool: u32, frames: u32) -> Result<Hat, AllocError>
         requires { 0 < pool }
         ensures places { IfOk result (λ h. h.places ≡ replicate pool None) }
         ensures hand { IfOk result (λ h. h.hand ≡ 0) }
         ensures frames { IfOk result (λ h. h.frames ≡ frames) }
+        ensures distinct { IfOk result (λ h. IsSingleValued h.places) }
     {
         let table = Table::new(alloc, pool, frames)?;
         let free = all_free(alloc, pool)?;
@@ -189,10 +175,11 @@ impl Hat {
         })
     }
 
-    /// The frame that a page leads to, and whether it is writable, in constant expected time.
+    /// The frame that a page leads to, and whether it is writable. Constant expected time.
     pub fn find(&self, space: u32, page: u32) -> Option<(u32, bool)>
-        ensures found { result ≡ option_map (λ t. (t.frame, t.writable)) (at self.now.places space page) }
-        ensures distinct { AreDistinct self.now.places }
+        ensures found { result
+            ≡ option_map (λ t. (t.frame, t.writable)) (at self.now.places space page) }
+        ensures distinct { IsSingleValued self.now.places }
     {
         let (_place, held) = self.table.held(space, page)?;
         Some((held.frame, held.writable))
@@ -202,13 +189,24 @@ impl Hat {
     /// same page, else in a full pool the one at the hand, which goes round from place 0.
     pub fn load(&mut self, space: u32, page: u32, frame: u32, writable: bool) -> Option<Dropped>
         requires { frame < self.old.frames }
-        ensures stolen { result ≡ option_map told (due self.old space page) }
-        ensures places { (place : ℕ) × (place < length self.old.places) × (slice_index_or self.old.places place None ≡ due self.old space page) × (self.new.places ≡ slice_set self.old.places place (Some (fresh space page frame writable))) }
-        ensures loaded { at self.new.places space page ≡ Some (fresh space page frame writable) }
-        ensures kept { (s p : ℕ) → is_of s p (fresh space page frame writable) ≡ false → holds s p (due self.old space page) ≡ false → at self.new.places s p ≡ at self.old.places s p }
-        ensures gone { (s p : ℕ) → is_of s p (fresh space page frame writable) ≡ false → holds s p (due self.old space page) ≡ true → at self.new.places s p ≡ None }
+        ensures stolen { result ≡ option_map told_of (dropped_by_load self.old space page) }
+        ensures places { (place : ℕ) × (place < length self.old.places)
+            × (slice_index_or self.old.places place None ≡ dropped_by_load self.old space page)
+            × (self.new.places ≡ slice_set self.old.places place
+            (Some (fresh_translation space page frame writable))) }
         ensures hand { self.new.hand ≡ hand_after self.old space page }
+        // The map from (space, page).
+        ensures loaded { at self.new.places space page
+            ≡ Some (fresh_translation space page frame writable) }
+        ensures gone { (s p : ℕ) → is_of s p (fresh_translation space page frame writable) ≡ false
+            → holds s p (dropped_by_load self.old space page) ≡ true
+            → at self.new.places s p ≡ None }
+        ensures kept { (s p : ℕ) → is_of s p (fresh_translation space page frame writable) ≡ false
+            → holds s p (dropped_by_load self.old space page) ≡ false
+            → at self.new.places s p ≡ at self.old.places s p }
+        // What stays.
         ensures frames { self.new.frames ≡ self.old.frames }
+        ensures distinct { IsSingleValued self.new.places }
     {
         let place = choose(
             &self.table,
@@ -234,10 +232,16 @@ impl Hat {
 
     /// Notes an access: referenced, and modified where it writes.
     pub fn touch(&mut self, space: u32, page: u32, write: bool)
-        requires { IsSomeAnd (at self.old.places space page) (λ t. IsTrue write → IsTrue t.writable) }
-        ensures places { self.new.places ≡ change_at space page (touched write) self.old.places }
+        requires { IsSomeAnd (at self.old.places space page)
+            (λ t. IsTrue write → IsTrue t.writable) }
+        ensures places { self.new.places
+            ≡ change_at space page (after_access write) self.old.places }
+        ensures map { (s p : ℕ) → at self.new.places s p
+            ≡ change_page space page (after_access write) (at self.old.places s p) }
+        // What stays.
         ensures hand { self.new.hand ≡ self.old.hand }
         ensures frames { self.new.frames ≡ self.old.frames }
+        ensures distinct { IsSingleValued self.new.places }
     {
         if let Some((place, old)) = self.table.held(space, page) {
             self.table.change(place, old, after_access(old, write));
@@ -246,10 +250,14 @@ impl Hat {
 
     /// Drops a page's translation, and tells it. None exactly where it isn't loaded.
     pub fn unload(&mut self, space: u32, page: u32) -> Option<Dropped>
-        ensures told { result ≡ option_map told (at self.old.places space page) }
+        ensures told { result ≡ option_map told_of (at self.old.places space page) }
         ensures places { self.new.places ≡ drop_at space page self.old.places }
+        ensures map { (s p : ℕ) → at self.new.places s p
+            ≡ drop_page space page (at self.old.places s p) }
+        // What stays.
         ensures hand { self.new.hand ≡ self.old.hand }
         ensures frames { self.new.frames ≡ self.old.frames }
+        ensures distinct { IsSingleValued self.new.places }
     {
         let (place, old) = self.table.held(space, page)?;
         release(&mut self.table, &mut self.free, self.hand, place, old);
@@ -258,9 +266,13 @@ impl Hat {
 
     /// Takes the right to write from a page's translation, where it is loaded.
     pub fn protect(&mut self, space: u32, page: u32)
-        ensures places { self.new.places ≡ change_at space page read_only self.old.places }
+        ensures places { self.new.places ≡ change_at space page without_write self.old.places }
+        ensures map { (s p : ℕ) → at self.new.places s p
+            ≡ change_page space page without_write (at self.old.places s p) }
+        // What stays.
         ensures hand { self.new.hand ≡ self.old.hand }
         ensures frames { self.new.frames ≡ self.old.frames }
+        ensures distinct { IsSingleValued self.new.places }
     {
         if let Some((place, old)) = self.table.held(space, page) {
             self.table.change(place, old, without_write(old));
@@ -268,42 +280,58 @@ impl Hat {
     }
 
     /// Drops all translations of a frame, and answers whether one was referenced, modified.
-    ///
-    /// In the number of the frame's translations.
+    /// Time: the frame's translations.
     pub fn page_unload(&mut self, frame: u32) -> (bool, bool)
         requires { frame < self.old.frames }
         ensures bits { result ≡ bits_of frame self.old.places }
+        ensures referenced { IsTrue result.0
+            ↔ SomeHas (λ t. t.referenced) self.old.places frame }
+        ensures modified { IsTrue result.1
+            ↔ SomeHas (λ t. t.modified) self.old.places frame }
         ensures places { self.new.places ≡ drop_frame frame self.old.places }
+        ensures map { (s p : ℕ) → at self.new.places s p
+            ≡ drop_lead frame (at self.old.places s p) }
+        // What stays.
         ensures hand { self.new.hand ≡ self.old.hand }
         ensures frames { self.new.frames ≡ self.old.frames }
+        ensures distinct { IsSingleValued self.new.places }
     {
         unload_all(&mut self.table, &mut self.free, self.hand, frame)
     }
 
     /// Clears the bits of all translations of a frame, and answers whether one was referenced,
-    /// modified. The translations stay.
-    ///
-    /// In the number of the frame's translations.
+    /// modified. The translations stay. Time: the frame's translations.
     pub fn page_sync(&mut self, frame: u32) -> (bool, bool)
         requires { frame < self.old.frames }
         ensures bits { result ≡ bits_of frame self.old.places }
-        ensures places { self.new.places ≡ change_frame frame cleared self.old.places }
+        ensures referenced { IsTrue result.0
+            ↔ SomeHas (λ t. t.referenced) self.old.places frame }
+        ensures modified { IsTrue result.1
+            ↔ SomeHas (λ t. t.modified) self.old.places frame }
+        ensures places { self.new.places ≡ change_frame frame with_clear_bits self.old.places }
+        ensures map { (s p : ℕ) → at self.new.places s p
+            ≡ change_lead frame with_clear_bits (at self.old.places s p) }
+        // What stays.
         ensures hand { self.new.hand ≡ self.old.hand }
         ensures frames { self.new.frames ≡ self.old.frames }
+        ensures distinct { IsSingleValued self.new.places }
     {
-        clear_all(&mut self.table, frame)
+        self.table.clear_bits(frame)
     }
 }
 
 // Drops the translations of a frame one by one.
 fn unload_all(table: &mut Table, free: &mut Vec<u32>, hand: u32, frame: u32) -> (bool, bool)
-    requires fits { IsHat table.old.places free.old.items (vec_capacity free.old) hand }
+    requires fits { IsSoundHat table.old.places free.old.items (vec_capacity free.old) hand }
     requires frame { frame < table.old.frames }
-    ensures fits { IsHat table.new.places free.new.items (vec_capacity free.new) hand }
+    ensures fits { IsSoundHat table.new.places free.new.items (vec_capacity free.new) hand }
+    // What it leaves.
     ensures length { length table.new.places ≡ length table.old.places }
     ensures bits { result ≡ bits_of frame table.old.places }
     ensures places { table.new.places ≡ drop_frame frame table.old.places }
     ensures frames { table.new.frames ≡ table.old.frames }
+    ensures was { IsSingleValued table.old.places }
+    ensures distinct { IsSingleValued table.new.places }
 {
     let mut referenced = false;
     let mut modified = false;
@@ -313,25 +341,6 @@ fn unload_all(table: &mut Table, free: &mut Vec<u32>, hand: u32, frame: u32) -> 
         modified |= old.modified;
         release(table, free, hand, place, old);
         at = table.first(frame);
-    }
-    (referenced, modified)
-}
-
-// Clears the bits of the translations of a frame one by one.
-fn clear_all(table: &mut Table, frame: u32) -> (bool, bool)
-    requires { frame < table.old.frames }
-    ensures bits { result ≡ bits_of frame table.old.places }
-    ensures places { table.new.places ≡ change_frame frame cleared table.old.places }
-    ensures frames { table.new.frames ≡ table.old.frames }
-{
-    let mut referenced = false;
-    let mut modified = false;
-    let mut at = table.first(frame);
-    while let Some((place, old)) = at {
-        referenced |= old.referenced;
-        modified |= old.modified;
-        table.change(place, old, with_clear_bits(old));
-        at = table.after(place, frame);
     }
     (referenced, modified)
 }

@@ -1,12 +1,16 @@
 //! A pool of translations that are found by page and by frame.
-ghost use Rattle.std.specs.Prelude.{◌≡◌, ℕ, ◌+◌, ◌<◌, ◌≤◌, length, replicate, true, false, Option, Some, None, IfOk, slice_set, slice_index_or, option_map, map};
-ghost use Rattle.hat_layer.specs.Pool.{holds, frame_of, AreDistinct};
-ghost use Rattle.hat_layer.specs.Table.{slot_of, FindsPlace, FindsHeld, SameName, LeadsToFrame};
+ghost use Rattle.std.specs.Prelude.{◌≡◌, ℕ, ◌<◌, ◌≤◌, length, replicate, true, false, Option, Some, None, IfOk, slice_set, slice_index_or, option_map, map, is_some};
+ghost use Rattle.hat_layer.specs.Pool.{holds, frame_of, IsSingleValued, bits_of, change_frame, with_clear_bits};
+ghost use Rattle.hat_layer.specs.Chains.{IsLinked};
+ghost use Rattle.hat_layer.specs.Table.{page_slot, FindsPlace, FindsHeld, SameName, LeadsToFrame};
 
 use crate::chains::Chains;
 use crate::translation::Translation;
 use std::alloc::{AllocError, Global};
 use std::marker::Model;
+
+/// The fraction of the golden ratio in 64 bits: its multiples by consecutive numbers lie far apart.
+const GOLDEN_FRACTION: u64 = 0x9E37_79B9_7F4A_7C15;
 
 /// Places with translations, each on the chain of its page's slot and on that of its frame.
 #[derive(Drop)]
@@ -18,22 +22,38 @@ pub struct Table {
 }
 
 impl Model for Table {
-    ghost use Rattle.hat_layer.specs.Table.{Rows, IsTable};
+    ghost use Rattle.std.specs.Prelude.{◌≡◌, length};
+    ghost use Rattle.hat_layer.specs.Table.{Rows, IsSoundTable};
 
     ghost Value = { Rows };
 
-    ghost view = { λ t. record { places = t.cells.items; frames = t.by_frame.chains } };
+    ghost view = { λ t. record { places = t.cells.items; frames = length t.by_frame.heads.items } };
 
-    ghost invariant = { λ t. IsTable t.cells.items t.by_page t.by_frame t.slots };
+    ghost invariant = { λ t. IsSoundTable t.cells.items t.by_page.heads.items t.by_page.next.items
+        t.by_frame.heads.items t.by_frame.next.items × (length t.by_page.heads.items ≡ t.slots) };
 }
 
-// The slot of a page: spaces and pages are spread over as many slots as there are places.
+// The slot of a page: consecutive pages lie far apart, and so do equal pages of several spaces.
 fn slot_in(space: u32, page: u32, slots: u32) -> u32
     requires { 0 < slots }
-    ensures slot { result ≡ slot_of slots space page }
+    ensures slot { result ≡ page_slot slots space page }
     ensures within { result < slots }
 {
-    ((u64::from(space) * 0x80021 + u64::from(page)) % u64::from(slots)) as u32
+    let number = space as u64 * 0x1_0000_0000 + page as u64;
+    let mixed = number.wrapping_mul(GOLDEN_FRACTION) >> 32;
+    ((mixed * slots as u64) >> 32) as u32
+}
+
+// A translation with clear bits.
+fn with_clear_bits(old: Translation) -> Translation
+    ensures { result ≡ with_clear_bits old }
+{
+    let (referenced, modified) = (false, false);
+    Translation {
+        referenced,
+        modified,
+        ..old
+    }
 }
 
 fn is_held(cell: Option<Translation>, space: u32, page: u32) -> bool
@@ -46,7 +66,7 @@ fn is_held(cell: Option<Translation>, space: u32, page: u32) -> bool
 }
 
 impl Table {
-    /// So many empty places, for translations to frames below this number.
+    /// That many empty places, for translations to frames below this number.
     pub fn new(alloc: Global, places: u32, frames: u32) -> Result<Table, AllocError>
         requires { 0 < places }
         ensures places { IfOk result (λ t. t.places ≡ replicate places None) }
@@ -63,7 +83,7 @@ impl Table {
     // The place of a page's translation, in constant expected time.
     fn place_of(&self, space: u32, page: u32) -> Option<u32>
         ensures found { FindsPlace self.now.places space page result }
-        ensures distinct { AreDistinct self.now.places }
+        ensures distinct { IsSingleValued self.now.places }
     {
         let slot = slot_in(space, page, self.slots);
         let mut at = self.by_page.first(slot);
@@ -71,7 +91,7 @@ impl Table {
             if is_held(self.cells[place as usize], space, page) {
                 return Some(place);
             }
-            at = self.by_page.after(place, slot);
+            at = self.by_page.after(place);
         }
         None
     }
@@ -87,7 +107,7 @@ impl Table {
     /// A page's translation and its place, in constant expected time.
     pub fn held(&self, space: u32, page: u32) -> Option<(u32, Translation)>
         ensures found { FindsHeld self.now.places space page result }
-        ensures distinct { AreDistinct self.now.places }
+        ensures distinct { IsSingleValued self.now.places }
     {
         let place = self.place_of(space, page)?;
         self.entry(place)
@@ -96,7 +116,8 @@ impl Table {
     // The translation at a place, with the place.
     fn entry(&self, place: u32) -> Option<(u32, Translation)>
         requires { place < length self.now.places }
-        ensures { result ≡ option_map (λ t. (place, t)) (slice_index_or self.now.places place None) }
+        ensures { result
+            ≡ option_map (λ t. (place, t)) (slice_index_or self.now.places place None) }
     {
         match self.get(place) {
             Some(held) => Some((place, held)),
@@ -104,22 +125,14 @@ impl Table {
         }
     }
 
-    /// The first place that leads to a frame, with its translation.
+    /// The place that came last of those that lead to a frame, with its translation.
     pub fn first(&self, frame: u32) -> Option<(u32, Translation)>
         requires { frame < self.now.frames }
-        ensures { LeadsToFrame self.now.places frame 0 result }
+        ensures leads { LeadsToFrame self.now.places frame result }
+        ensures distinct { IsSingleValued self.now.places }
     {
         let place = self.by_frame.first(frame)?;
         self.entry(place)
-    }
-
-    /// The next place that leads to the frame, with its translation.
-    pub fn after(&self, place: u32, frame: u32) -> Option<(u32, Translation)>
-        requires { frame_of (slice_index_or self.now.places place None) ≡ Some frame }
-        ensures { LeadsToFrame self.now.places frame (place + 1) result }
-    {
-        let next = self.by_frame.after(place, frame)?;
-        self.entry(next)
     }
 
     /// Puts a translation into an empty place.
@@ -127,9 +140,12 @@ impl Table {
         requires place { place < length self.old.places }
         requires frame { new.frame < self.old.frames }
         requires empty { slice_index_or self.old.places place None ≡ None }
-        requires absent { (k : ℕ) → holds new.space new.page (slice_index_or self.old.places k None) ≡ false }
+        requires absent { (k : ℕ) → holds new.space new.page
+            (slice_index_or self.old.places k None) ≡ false }
+        // What it leaves.
         ensures places { self.new.places ≡ slice_set self.old.places place (Some new) }
         ensures frames { self.new.frames ≡ self.old.frames }
+        ensures distinct { IsSingleValued self.new.places }
     {
         self.cells[place as usize] = Some(new);
         self.by_page
@@ -142,6 +158,7 @@ impl Table {
         requires { slice_index_or self.old.places place None ≡ Some old }
         ensures places { self.new.places ≡ slice_set self.old.places place None }
         ensures frames { self.new.frames ≡ self.old.frames }
+        ensures distinct { IsSingleValued self.new.places }
     {
         self.cells[place as usize] = None;
         self.by_page
@@ -153,9 +170,57 @@ impl Table {
     pub fn change(&mut self, place: u32, old: Translation, new: Translation)
         requires old { slice_index_or self.old.places place None ≡ Some old }
         requires same { SameName old new }
+        // What it leaves.
         ensures places { self.new.places ≡ slice_set self.old.places place (Some new) }
         ensures frames { self.new.frames ≡ self.old.frames }
+        ensures distinct { IsSingleValued self.new.places }
     {
         self.cells[place as usize] = Some(new);
     }
+    /// Clears the bits of all translations of a frame, and answers whether one was referenced,
+    /// modified. Time: the frame's translations.
+    pub fn clear_bits(&mut self, frame: u32) -> (bool, bool)
+        requires { frame < self.old.frames }
+        ensures bits { result ≡ bits_of frame self.old.places }
+        ensures places { self.new.places ≡ change_frame frame with_clear_bits self.old.places }
+        // What it leaves.
+        ensures frames { self.new.frames ≡ self.old.frames }
+        ensures was { IsSingleValued self.old.places }
+        ensures distinct { IsSingleValued self.new.places }
+    {
+        clear_all(&mut self.cells, &self.by_frame, frame)
+    }
+}
+
+// The translation at a place that has one.
+fn held_at(cells: &[Option<Translation>], place: u32) -> Translation
+    requires within { place < length cells.now }
+    requires held { is_some (slice_index_or cells.now place None) ≡ true }
+    ensures { slice_index_or cells.now place None ≡ Some result }
+{
+    match cells[place as usize] {
+        Some(held) => held,
+        None => unreachable!(),
+    }
+}
+
+// Clears the bits of the translations of a frame one by one.
+fn clear_all(cells: &mut Vec<Option<Translation>>, by_frame: &Chains, frame: u32) -> (bool, bool)
+    requires linked { IsLinked by_frame.now.heads.items by_frame.now.next.items
+        (map frame_of cells.old.items) }
+    requires frame { frame < length by_frame.now.heads.items }
+    ensures bits { result ≡ bits_of frame cells.old.items }
+    ensures places { cells.new.items ≡ change_frame frame with_clear_bits cells.old.items }
+{
+    let mut referenced = false;
+    let mut modified = false;
+    let mut at = by_frame.first(frame);
+    while let Some(place) = at {
+        let old = held_at(cells, place);
+        referenced |= old.referenced;
+        modified |= old.modified;
+        cells[place as usize] = Some(with_clear_bits(old));
+        at = by_frame.after(place);
+    }
+    (referenced, modified)
 }

@@ -22,7 +22,7 @@ fn loads(
     of: (u32, u32),
     frame: u32,
     writable: bool,
-    told: Option<Dropped>,
+    told_of: Option<Dropped>,
 )
     requires { frame < hat.old.frames }
     ensures { hat.new.frames ≡ hat.old.frames }
@@ -30,7 +30,7 @@ fn loads(
     let (space, page) = of;
     assert_eq!(rt;
         hat.load(space, page, frame, writable),
-        told,
+        told_of,
         "page {page} of {space}"
     );
     assert_eq!(rt;

@@ -1,4 +1,4 @@
--- What a lock asks of a state, over any types of states, entries and notes.
+-- What a lock asks of a state, over any types of states, entries and notes. Public clauses cite this.
 use Rattle.std.specs.Prelude.{◌≡◌, ℕ, List, ◌++◌, slice_set, Option, All}
 use mathlib.Core.Option.{some}
 use lib.ListN.{get_elem?}

@@ -1,4 +1,4 @@
--- A lock and its seats as contracts see them, and what each call makes of a seat.
+-- A lock and its seats as contracts see them, and what each call makes of a seat. Public clauses cite this.
 use Rattle.std.specs.Prelude.{◌≡◌, ℕ, ◌+◌, ◌<◌, ◌≤◌, ◌==◌, Bool, true, false, List, [], length, slice_index_or, Option, Some, None, if◌then◌else◌}
 use Rattle.std.specs.List.{filter}
 use mathlib.Core.Option.{some}

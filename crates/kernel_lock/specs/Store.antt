@@ -1,4 +1,4 @@
--- A state that is generic in a disk, which is at home or out with one seat. Of the disk its count alone is known.
+-- A state that is generic in a disk, which is at home or out with one seat. Of the disk its count alone is known. Inside: only tests cite this.
 use Rattle.std.specs.Prelude.{◌≡◌, ℕ, ◌+◌, ◌≤◌, List, [], ◌∷◌, ◌++◌, Option, Some, None, All, slice_set}
 use Rattle.std.proofs.Common.{arith, refl, ap, subst, sym, zero, suc}
 use mathlib.Core.Option.{some, some-ne-none, some-injective}
@@ -40,12 +40,12 @@ module _ {D : Type 0} (count : D → ℕ) where
   note_of None = None
 
   -- The disk is at home or out with exactly one seat, and its count is at least what it was at the opening.
-  pub record Fits (opening s : StoreView D) (notes : List (Option ℕ)) : Type 0 where
+  pub record FitsStore (opening s : StoreView D) (notes : List (Option ℕ)) : Type 0 where
     pub one : home s.disk + out notes ≡ 1
     pub risen : (o : D) → opening.disk ≡ Some o → AtLeast (count o) (note_of s.disk) × ((k : ℕ) (n : Option ℕ) → get_elem? notes k ≡ some n → AtLeast (count o) n)
 
   -- A seat may take the disk out or bring it home with a count that is no less, and add entries of its own.
-  pub record Moves (k : ℕ) (s : StoreView D) (n : Option ℕ) (t : StoreView D) (m : Option ℕ) : Type 0 where
+  pub record MovesStore (k : ℕ) (s : StoreView D) (n : Option ℕ) (t : StoreView D) (m : Option ℕ) : Type 0 where
     pub added : List (ℕ × ℕ)
     pub longer : entries t ≡ entries s ++ added
     pub by : All (λ (e : ℕ × ℕ). e.0 ≡ k) added
@@ -82,7 +82,7 @@ module _ {D : Type 0} where
   not_home None e = refl
 
 module _ {D : Type 0} (count : D → ℕ) where
-  pub keeps_of : (opening s t : StoreView D) (notes : List (Option ℕ)) (k : ℕ) (n m : Option ℕ) → Fits count opening s notes → get_elem? notes k ≡ some n → Moves count k s n t m → Fits count opening t (slice_set notes k m)
+  pub keeps_of : (opening s t : StoreView D) (notes : List (Option ℕ)) (k : ℕ) (n m : Option ℕ) → FitsStore count opening s notes → get_elem? notes k ≡ some n → MovesStore count k s n t m → FitsStore count opening t (slice_set notes k m)
   keeps_of opening s t notes k n m fits at moved =
       let set = out_set notes k n m at in
       let one = fits.one in
@@ -92,5 +92,5 @@ module _ {D : Type 0} (count : D → ℕ) where
         risen = λ o is. let was = fits.risen o is in let now = moved.rises (count o) was.0 (was.1 k n at) in (now.0, each_set (AtLeast (count o)) notes k m now.1 was.1);
       }
 
-  pub grows_of : (opening s t : StoreView D) (notes : List (Option ℕ)) (k : ℕ) (n m : Option ℕ) → Fits count opening s notes → get_elem? notes k ≡ some n → Moves count k s n t m → (added : List (ℕ × ℕ)) × (entries t ≡ entries s ++ added) × All (λ (e : ℕ × ℕ). e.0 ≡ k) added
+  pub grows_of : (opening s t : StoreView D) (notes : List (Option ℕ)) (k : ℕ) (n m : Option ℕ) → FitsStore count opening s notes → get_elem? notes k ≡ some n → MovesStore count k s n t m → (added : List (ℕ × ℕ)) × (entries t ≡ entries s ++ added) × All (λ (e : ℕ × ℕ). e.0 ≡ k) added
   grows_of opening s t notes k n m fits at moved = (moved.added, moved.longer, moved.by)

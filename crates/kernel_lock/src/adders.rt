@@ -3,7 +3,7 @@ ghost use Rattle.std.specs.Prelude.{◌≡◌, ◌≢◌, ℕ, ◌+◌, ◌<◌,
 ghost use Rattle.std.specs.Bool.{MatchBool, OnTrue};
 ghost use Rattle.std.specs.Thread.{IsSync};
 ghost use Rattle.kernel_lock.specs.Seats.{AreNew, IsSeatOf, newcomer, entries_by};
-ghost use Rattle.kernel_lock.specs.Tally.{IsOut, worth, total, seat_named};
+ghost use Rattle.kernel_lock.specs.Tally.{IsOutside, worth, total, seat_named};
 
 use crate::guarded::Guarded;
 use crate::lock::KernelLock;
@@ -44,9 +44,9 @@ pub fn add<R: Wait>(
     held: Option<u64>,
     number: u64,
 )
-    requires out { IsOut lock.now seat.old }
+    requires out { IsOutside lock.now seat.old }
     requires held { seat.old.note ≡ held }
-    ensures out { IsOut lock.now seat.new × (seat.new.number ≡ seat.old.number) }
+    ensures out { IsOutside lock.now seat.new × (seat.new.number ≡ seat.old.number) }
     ensures held { seat.new.note ≡ held }
 {
     let mut tally = lock.enter(rt, seat);
@@ -61,12 +61,14 @@ pub fn add_seen<R: Wait>(
     seat: &mut Seat<Tally>,
     number: u64,
 ) -> bool
-    requires out { IsOut lock.now seat.old }
+    requires out { IsOutside lock.now seat.old }
     requires held { seat.old.note ≡ None }
-    ensures out { IsOut lock.now seat.new × (seat.new.number ≡ seat.old.number) }
+    //
+    ensures out { IsOutside lock.now seat.new × (seat.new.number ≡ seat.old.number) }
     ensures held { seat.new.note ≡ None }
     ensures seen { OnTrue result (seat.new.seen ≢ []) }
-    ensures own { MatchBool result (seat.new.own ≡ seat.old.own ++ (seat.old.number, number) ∷ []) (seat.new.own ≡ seat.old.own) }
+    ensures own { MatchBool result (seat.new.own ≡ seat.old.own ++ (seat.old.number, number) ∷ [])
+        (seat.new.own ≡ seat.old.own) }
 {
     let mut tally = lock.enter(rt, seat);
     let added = tally.add(seat.number(), number);
@@ -81,9 +83,9 @@ pub fn take_out<R: Wait>(
     seat: &mut Seat<Tally>,
     number: u64,
 ) -> Option<u64>
-    requires out { IsOut lock.now seat.old }
+    requires out { IsOutside lock.now seat.old }
     requires held { seat.old.note ≡ None }
-    ensures out { IsOut lock.now seat.new × (seat.new.number ≡ seat.old.number) }
+    ensures out { IsOutside lock.now seat.new × (seat.new.number ≡ seat.old.number) }
     ensures held { seat.new.note ≡ result }
 {
     let mut tally = lock.enter(rt, seat);
@@ -99,9 +101,9 @@ pub fn put_back<R: Wait>(
     seat: &mut Seat<Tally>,
     number: u64,
 ) -> Option<u64>
-    requires out { IsOut lock.now seat.old }
+    requires out { IsOutside lock.now seat.old }
     requires held { seat.old.note ≡ Some number }
-    ensures out { IsOut lock.now seat.new × (seat.new.number ≡ seat.old.number) }
+    ensures out { IsOutside lock.now seat.new × (seat.new.number ≡ seat.old.number) }
     ensures held { seat.new.note ≡ result }
 {
     let mut tally = lock.enter(rt, seat);
@@ -117,9 +119,9 @@ pub fn look<R: Wait>(
     seat: &mut Seat<Tally>,
     held: Option<u64>,
 ) -> (u64, usize)
-    requires out { IsOut lock.now seat.old }
+    requires out { IsOutside lock.now seat.old }
     requires held { seat.old.note ≡ held }
-    ensures out { IsOut lock.now seat.new × (seat.new.number ≡ seat.old.number) }
+    ensures out { IsOutside lock.now seat.new × (seat.new.number ≡ seat.old.number) }
     ensures held { seat.new.note ≡ held }
 {
     let tally = lock.enter(rt, seat);
@@ -131,8 +133,9 @@ pub fn look<R: Wait>(
 /// Goes out with the state as it was, and with nothing out.
 pub fn go_out(lock: &KernelLock<Tally>, seat: &mut Seat<Tally>, tally: Tally)
     requires seat { IsSeatOf lock.now seat.old }
-    requires inside { (seat.old.inside ≡ true) × (seat.old.state ≡ Some tally) × (seat.old.note ≡ None) }
-    ensures out { IsOut lock.now seat.new × (seat.new.number ≡ seat.old.number) }
+    requires inside { (seat.old.inside ≡ true) × (seat.old.state ≡ Some tally)
+        × (seat.old.note ≡ None) }
+    ensures out { IsOutside lock.now seat.new × (seat.new.number ≡ seat.old.number) }
     ensures held { seat.new.note ≡ None }
 {
     lock.leave(seat, tally, &None);
@@ -145,9 +148,9 @@ pub fn add_times<R: Wait>(
     mut seat: Seat<Tally>,
     times: u32,
 ) -> Seat<Tally>
-    requires out { IsOut lock.now seat }
+    requires out { IsOutside lock.now seat }
     requires held { seat.note ≡ None }
-    ensures out { IsOut lock.now result × (result.number ≡ seat.number) }
+    ensures out { IsOutside lock.now result × (result.number ≡ seat.number) }
     ensures held { result.note ≡ None }
 {
     for _ in 0..times {
@@ -163,9 +166,9 @@ pub fn hold_times<R: Wait>(
     mut seat: Seat<Tally>,
     times: u32,
 ) -> Seat<Tally>
-    requires out { IsOut lock.now seat }
+    requires out { IsOutside lock.now seat }
     requires held { seat.note ≡ None }
-    ensures out { IsOut lock.now result × (result.number ≡ seat.number) }
+    ensures out { IsOutside lock.now result × (result.number ≡ seat.number) }
 {
     for _ in 0..times {
         add(rt, lock, &mut seat, None, 1);
@@ -188,9 +191,9 @@ pub fn add_both<R: Threads + Wait + Sync>(
     second: Seat<Tally>,
     times: u32,
 ) -> (Seat<Tally>, Seat<Tally>)
-    requires out { IsOut lock.now first × IsOut lock.now second }
+    requires out { IsOutside lock.now first × IsOutside lock.now second }
     requires held { (first.note ≡ None) × (second.note ≡ None) }
-    ensures out { IsOut lock.now result.0 × IsOut lock.now result.1 }
+    ensures out { IsOutside lock.now result.0 × IsOutside lock.now result.1 }
     ensures held { (result.0.note ≡ None) × (result.1.note ≡ None) }
     ensures numbers { (result.0.number ≡ first.number) × (result.1.number ≡ second.number) }
 {
@@ -209,9 +212,9 @@ pub fn hold_both<R: Threads + Wait + Sync>(
     second: Seat<Tally>,
     times: u32,
 ) -> (Seat<Tally>, Seat<Tally>)
-    requires out { IsOut lock.now first × IsOut lock.now second }
+    requires out { IsOutside lock.now first × IsOutside lock.now second }
     requires held { (first.note ≡ None) × (second.note ≡ None) }
-    ensures out { IsOut lock.now result.0 × IsOut lock.now result.1 }
+    ensures out { IsOutside lock.now result.0 × IsOutside lock.now result.1 }
     ensures numbers { (result.0.number ≡ first.number) × (result.1.number ≡ second.number) }
 {
     join(
@@ -230,16 +233,19 @@ pub fn all_three<R: Threads + Wait + Sync>(
     third: Seat<Tally>,
     times: u32,
 ) -> (Seat<Tally>, (Seat<Tally>, Seat<Tally>))
-    requires out { IsOut lock.now first × IsOut lock.now second × IsOut lock.now third }
+    requires out { IsOutside lock.now first × IsOutside lock.now second × IsOutside lock.now third }
     requires held { (first.note ≡ None) × (second.note ≡ None) × (third.note ≡ None) }
-    ensures out { IsOut lock.now result.0 × IsOut lock.now result.1.0 × IsOut lock.now result.1.1 }
-    ensures numbers { (result.0.number ≡ first.number) × (result.1.0.number ≡ second.number) × (result.1.1.number ≡ third.number) }
+    ensures out { IsOutside lock.now result.0 × IsOutside lock.now result.1.0
+        × IsOutside lock.now result.1.1 }
+    ensures numbers { (result.0.number ≡ first.number) × (result.1.0.number ≡ second.number)
+        × (result.1.1.number ≡ third.number) }
 {
     join(
         rt,
         move || add_times(rt, lock, first, times),
         move ||
-            requires { IsSync R.row × IsOut lock.now second × IsOut lock.now third × (second.note ≡ None) × (third.note ≡ None) }
+            requires { IsSync R.row × IsOutside lock.now second × IsOutside lock.now third
+                × (second.note ≡ None) × (third.note ≡ None) }
         { hold_both(rt, lock, second, third, times) },
     )
 }
@@ -247,9 +253,12 @@ pub fn all_three<R: Threads + Wait + Sync>(
 /// Closes a lock of two seats, in a row. What is not in the sum is out with them.
 pub fn close_row(lock: KernelLock<Tally>, row: Vec<Seat<Tally>>) -> Tally
     requires count { lock.seats ≡ 2 }
-    requires row { (a : _) × (b : _) × (row.items ≡ a ∷ b ∷ []) × IsOut lock a × IsOut lock b × (a.number ≡ 0) × (b.number ≡ 1) }
-    ensures sum { (a : _) (b : _) → row.items ≡ a ∷ b ∷ [] → result.sum + (worth a.note + worth b.note) ≡ total result.list }
-    ensures own { (a : _) (b : _) → row.items ≡ a ∷ b ∷ [] → (entries_by seat_named 0 result.list ≡ a.own) × (entries_by seat_named 1 result.list ≡ b.own) }
+    requires row { (a : _) × (b : _) × (row.items ≡ a ∷ b ∷ [])
+        × IsOutside lock a × IsOutside lock b × (a.number ≡ 0) × (b.number ≡ 1) }
+    ensures sum { (a : _) (b : _) → row.items ≡ a ∷ b ∷ []
+        → result.sum + (worth a.note + worth b.note) ≡ total result.list }
+    ensures own { (a : _) (b : _) → row.items ≡ a ∷ b ∷ []
+        → (entries_by seat_named 0 result.list ≡ a.own) × (entries_by seat_named 1 result.list ≡ b.own) }
 {
     lock.close(row)
 }
@@ -262,10 +271,13 @@ pub fn close_three(
     third: Seat<Tally>,
 ) -> Tally
     requires count { lock.seats ≡ 3 }
-    requires out { IsOut lock first × IsOut lock second × IsOut lock third }
+    requires out { IsOutside lock first × IsOutside lock second × IsOutside lock third }
     requires numbers { (first.number ≡ 0) × (second.number ≡ 1) × (third.number ≡ 2) }
-    ensures sum { result.sum + (worth first.note + (worth second.note + worth third.note)) ≡ total result.list }
-    ensures own { (entries_by seat_named 0 result.list ≡ first.own) × (entries_by seat_named 1 result.list ≡ second.own) × (entries_by seat_named 2 result.list ≡ third.own) }
+    ensures sum { result.sum + (worth first.note + (worth second.note + worth third.note))
+        ≡ total result.list }
+    ensures own { (entries_by seat_named 0 result.list ≡ first.own)
+        × (entries_by seat_named 1 result.list ≡ second.own)
+        × (entries_by seat_named 2 result.list ≡ third.own) }
 {
     let mut from = lock.gather_none();
     lock.gather(&mut from, third);
@@ -282,10 +294,11 @@ pub fn first_told<R: Wait>(
     from: &mut Seat<Tally>,
     to: &mut Seat<Tally>,
 ) -> u64
-    requires out { IsOut lock.now from.old × IsOut lock.now to.old }
+    requires out { IsOutside lock.now from.old × IsOutside lock.now to.old }
     requires held { to.old.note ≡ None }
     requires seen { from.old.seen ≢ [] }
-    ensures out { IsOut lock.now from.new × IsOut lock.now to.new }
+    //
+    ensures out { IsOutside lock.now from.new × IsOutside lock.now to.new }
     ensures numbers { (from.new.number ≡ from.old.number) × (to.new.number ≡ to.old.number) }
     ensures first { (e : _) (es : _) → from.old.seen ≡ e ∷ es → result ≡ e.1 }
 {
@@ -294,4 +307,69 @@ pub fn first_told<R: Wait>(
     let (_, number) = tally.list[0];
     lock.leave(to, tally, &None);
     number
+}
+
+/// Has a number out while it goes in and out so many times, then puts it back, and tells.
+pub fn hold_and_tell<R: Wait>(
+    rt: &R,
+    lock: &KernelLock<Tally>,
+    mut seat: Seat<Tally>,
+    number: u64,
+    times: u32,
+) -> Seat<Tally>
+    requires out { IsOutside lock.now seat }
+    requires held { seat.note ≡ Some number }
+    ensures out { IsOutside lock.now result × (result.number ≡ seat.number) }
+{
+    for _ in 0..times {
+        add(rt, lock, &mut seat, Some(number), 0);
+    }
+    let _held = put_back(rt, lock, &mut seat, number);
+    lock.tell();
+    seat
+}
+
+/// Waits until the sum is at least so much, and says how often it looked. It rests on changes.
+pub fn wait_for_sum<R: Wait>(
+    rt: &R,
+    lock: &KernelLock<Tally>,
+    mut seat: Seat<Tally>,
+    sum: u64,
+) -> (Seat<Tally>, u64)
+    requires out { IsOutside lock.now seat }
+    requires held { seat.note ≡ None }
+    ensures out { IsOutside lock.now result.0 × (result.0.number ≡ seat.number) }
+{
+    let mut looks = 0u64;
+    for _ in rt.forever() {
+        let seen = lock.changes();
+        let (there, _) = look(rt, lock, &mut seat, None);
+        looks = looks.saturating_add(1);
+        if sum <= there {
+            return (seat, looks);
+        }
+        lock.rest_on_change(rt, seen);
+    }
+    unreachable!()
+}
+
+/// One seat has a number out for so many goings in, and another waits for it. Says how often it looked.
+pub fn hold_and_wait<R: Threads + Wait + Sync>(
+    rt: &R,
+    lock: &KernelLock<Tally>,
+    first: Seat<Tally>,
+    second: Seat<Tally>,
+    number: u64,
+    times: u32,
+) -> (Seat<Tally>, (Seat<Tally>, u64))
+    requires out { IsOutside lock.now first × IsOutside lock.now second }
+    requires held { (first.note ≡ Some number) × (second.note ≡ None) }
+    ensures out { IsOutside lock.now result.0 × IsOutside lock.now result.1.0 }
+    ensures numbers { (result.0.number ≡ first.number) × (result.1.0.number ≡ second.number) }
+{
+    join(
+        rt,
+        move || hold_and_tell(rt, lock, first, number, times),
+        move || wait_for_sum(rt, lock, second, number),
+    )
 }

@@ -1,5 +1,5 @@
 //! How a lock is closed: the seats are gathered, and the state comes out.
-ghost use Rattle.std.specs.Prelude.{◌≡◌, false, [], ◌∷◌, map};
+ghost use Rattle.std.specs.Prelude.{◌≡◌, false, [], ◌∷◌, map, replicate, None};
 ghost use Rattle.std.specs.List.{All};
 ghost use Rattle.kernel_lock.specs.Rule.{gathered_of};
 ghost use Rattle.kernel_lock.specs.Seats.{IsSeatOf, HasAll, IsClosed, part_of};
@@ -64,27 +64,31 @@ impl<S: Guarded> KernelLock<S> {
         requires lock { into.old.lock ≡ self.now.lock }
         requires seat { IsSeatOf self.now seat }
         requires outside { seat.inside ≡ false }
-        ensures { into.new ≡ record { lock = into.old.lock; parts = part_of seat ∷ into.old.parts } }
+        ensures { into.new ≡ record into.old { parts = part_of seat ∷ into.old.parts } }
     {
         self.table
             .shared
             .join_seat::<Gather>(&mut into.place, seat.into_place());
     }
 
-    /// Gives the state back, once all seats are gathered. It takes no memory.
+    /// Gives the state back, once all seats are gathered. Where no seat had anything out, the state fits
+    /// empty notes. It takes no memory.
     pub fn close_gathered(self, from: Gathered<S>) -> S
         requires lock { from.lock ≡ self.lock }
         requires all { HasAll self.seats from.parts }
-        ensures { IsClosed S.seat_of S.history S.fits self.opening self.seats from.parts result }
+        ensures closed { IsClosed S.seat_of S.history S.fits
+            self.opening self.seats from.parts result }
+        ensures empty { All (λ p. p.note ≡ None) from.parts
+            → S.fits self.opening result (replicate self.seats None) }
     {
         let KernelLock {
             table,
             seats: _,
             leaves,
-            events,
+            changes,
         } = self;
         drop(leaves);
-        drop(events);
+        drop(changes);
         let mut closed = table.close_with(from.into_place());
         let slot = closed.take(0);
         closed.free();
@@ -92,11 +96,15 @@ impl<S: Guarded> KernelLock<S> {
         state
     }
 
-    /// Gives the state back for all its seats, which are outside. It takes no memory.
+    /// Gives the state back for all its seats, which are outside. Where no seat has anything out, the state
+    /// fits empty notes. It takes no memory.
     pub fn close(self, seats: Vec<Seat<S>>) -> S
         requires seats { All (λ it. IsSeatOf self it × (it.inside ≡ false)) seats.items }
         requires all { HasAll self.seats (map part_of seats.items) }
-        ensures { IsClosed S.seat_of S.history S.fits self.opening self.seats (map part_of seats.items) result }
+        ensures closed { IsClosed S.seat_of S.history S.fits self.opening self.seats
+            (map part_of seats.items) result }
+        ensures empty { All (λ it. it.note ≡ None) seats.items
+            → S.fits self.opening result (replicate self.seats None) }
     {
         let from = self.gather_all(seats);
         self.close_gathered(from)

@@ -3,6 +3,7 @@
 
 #[cfg(test)]
 mod adders;
+mod bell;
 mod board;
 pub mod closing;
 pub mod guarded;

@@ -4,17 +4,15 @@ ghost use mathlib.Core.List.{IsPrefix};
 ghost use Rattle.kernel_lock.specs.Rule.{writes};
 ghost use Rattle.kernel_lock.specs.Seats.{IsSeatOf, part_of, entered, refused_by, HasTried, left, entries_by, IsEntered};
 
+use crate::bell::Bell;
 use crate::board::{About, LockRule, Place, View};
 use crate::guarded::Guarded;
 use crate::plays::{Cut, Glue, Look, Record, Release, Said, Take};
 use crate::seat::Seat;
 use atomic_table::Table;
-use crossbeam_utils::sync::EventCount;
 use std::alloc::Global;
 use std::marker::{Brand, Model};
 use std::sync::Wait;
-use std::sync::atomic::AtomicU64;
-use std::sync::atomic::Ordering::SeqCst;
 
 /// A state behind a lock. It is shared by reference, and `close` gives the state back.
 ///
@@ -22,8 +20,8 @@ use std::sync::atomic::Ordering::SeqCst;
 pub struct KernelLock<S: Guarded> {
     pub(crate) table: Table<Option<S>, View<S, S::Entry, S::Note>, About<S>, LockRule<S>, Global>,
     pub(crate) seats: u32,
-    pub(crate) leaves: AtomicU64,
-    pub(crate) events: EventCount,
+    pub(crate) leaves: Bell,
+    pub(crate) changes: Bell,
 }
 
 impl<S: Guarded> Model for KernelLock<S> {
@@ -32,9 +30,14 @@ impl<S: Guarded> Model for KernelLock<S> {
 
     ghost Value = { LockView S };
 
-    ghost view = { λ l. record { lock = l.table.shared.table_id; seats = l.seats; opening = l.table.shared.key.opening.value } };
+    ghost view = { λ l. record {
+      lock = l.table.shared.table_id;
+      seats = l.seats;
+      opening = l.table.shared.key.opening.value;
+    } };
 
-    ghost invariant = { λ l. (l.table.shared.table_id.words ≡ 2) × (l.table.shared.table_id.slots ≡ 1) × (l.table.shared.key.seats ≡ l.seats) };
+    ghost invariant = { λ l. (l.table.shared.table_id.words ≡ 2)
+        × (l.table.shared.table_id.slots ≡ 1) × (l.table.shared.key.seats ≡ l.seats) };
 }
 
 impl<S: Guarded> KernelLock<S> {
@@ -42,10 +45,15 @@ impl<S: Guarded> KernelLock<S> {
     pub fn try_enter(&self, seat: &mut Seat<S>) -> Option<S>
         requires seat { IsSeatOf self.now seat.old }
         requires outside { seat.old.inside ≡ false }
+        //
         ensures seat { IsSeatOf self.now seat.new }
-        ensures state { IfSome result (λ s. IsEntered S.seat_of S.history S.fits self.now.opening self.now.seats (part_of seat.old) s) }
+        //
+        ensures state { IfSome result (λ s. IsEntered S.seat_of S.history S.fits
+            self.now.opening self.now.seats (part_of seat.old) s) }
         ensures inside { IfSome result (λ s. seat.new ≡ entered seat.old s) }
-        ensures refused { IfNone result ((k : ℕ) × (k ≢ seat.old.number) × (k < self.now.seats) × (seat.new ≡ refused_by seat.old k)) }
+        //
+        ensures refused { IfNone result ((k : ℕ) × (k ≢ seat.old.number) × (k < self.now.seats)
+            × (seat.new ≡ refused_by seat.old k)) }
     {
         let mine = seat.number as u64 + 1;
         let found = self
@@ -63,7 +71,8 @@ impl<S: Guarded> KernelLock<S> {
         requires seat { IsSeatOf self.now seat.old }
         requires outside { seat.old.inside ≡ false }
         ensures seat { IsSeatOf self.now seat.new }
-        ensures state { IsEntered S.seat_of S.history S.fits self.now.opening self.now.seats (part_of seat.old) result }
+        ensures state { IsEntered S.seat_of S.history S.fits
+            self.now.opening self.now.seats (part_of seat.old) result }
         ensures inside { HasTried (entered seat.old result) seat.new }
     {
         for _ in rt.forever() {
@@ -84,10 +93,17 @@ impl<S: Guarded> KernelLock<S> {
     )
         requires lock { place.old.table_id ≡ self.now.lock }
         requires said { (W.state ≡ Some state.now) × (W.note ≡ S.note_of held.now) }
-        requires inside { (place.old.me.0.inside ≡ true) × (place.old.me.0.others ≡ []) × (place.old.me.0.deals ≡ false) }
-        requires moves { (s : S) × (place.old.me.0.state ≡ Some s) × S.moves place.old.me.0.number s place.old.me.0.note state.now (S.note_of held.now) }
+        requires inside { (place.old.me.0.inside ≡ true) × (place.old.me.0.others ≡ [])
+            × (place.old.me.0.deals ≡ false) }
+        requires moves { (s : S) × (place.old.me.0.state ≡ Some s)
+            × S.moves place.old.me.0.number s place.old.me.0.note state.now (S.note_of held.now) }
+        //
         ensures lock { (place.new.table_id ≡ place.old.table_id) × (place.new.id ≡ place.old.id) }
-        ensures written { place.new.me ≡ (writes S.seat_of S.history place.old.me.0 state.now (S.note_of held.now), place.old.me.1) }
+        ensures written { place.new.me ≡ (
+          writes S.seat_of S.history place.old.me.0 state.now
+              (S.note_of held.now),
+          place.old.me.1,
+        ) }
     {
         self.table
             .shared
@@ -99,7 +115,9 @@ impl<S: Guarded> KernelLock<S> {
     pub fn leave(&self, seat: &mut Seat<S>, state: S, held: &S::Held)
         requires seat { IsSeatOf self.now seat.old }
         requires inside { seat.old.inside ≡ true }
-        requires moves { (s : S) × (seat.old.state ≡ Some s) × S.moves seat.old.number s seat.old.note state (S.note_of held.now) }
+        requires moves { (s : S) × (seat.old.state ≡ Some s)
+            × S.moves seat.old.number s seat.old.note state (S.note_of held.now) }
+        //
         ensures seat { IsSeatOf self.now seat.new }
         ensures left { seat.new ≡ left S.seat_of S.history seat.old state (S.note_of held.now) }
     {
@@ -107,17 +125,18 @@ impl<S: Guarded> KernelLock<S> {
         let before = self.table.shared.exchange(&mut seat.place, 0, Some(state));
         let None = before else { unreachable!() };
         self.table.shared.store::<Release>(&mut seat.place, 0, 0);
-        self.leaves.fetch_add(1, SeqCst);
-        self.events.notify_all();
+        self.leaves.ring();
     }
 
     /// Tells one seat what another has seen. It takes no memory and waits for nobody.
     pub fn meet(&self, from: &mut Seat<S>, to: &mut Seat<S>)
         requires seats { IsSeatOf self.now from.old × IsSeatOf self.now to.old }
         requires outside { (from.old.inside ≡ false) × (to.old.inside ≡ false) }
+        //
         ensures seats { IsSeatOf self.now from.new × IsSeatOf self.now to.new }
         ensures from { from.new ≡ from.old }
         ensures to { to.new ≡ record to.old { seen = to.new.seen } }
+        //
         ensures met { IsPrefix from.old.seen to.new.seen }
         ensures kept { IsPrefix to.old.seen to.new.seen }
         ensures own { entries_by S.seat_of to.new.number to.new.seen ≡ to.new.own }
@@ -129,14 +148,27 @@ impl<S: Guarded> KernelLock<S> {
 
     /// How many times `leave` was called, modulo 2 to the 64. Nothing is promised of it.
     pub fn leaves(&self) -> u64 {
-        self.leaves.load(SeqCst)
+        self.leaves.rings()
     }
 
     /// Sleeps until `leaves` differs from `seen`, or answers earlier. Nothing is promised of it.
     pub fn rest<R: Wait>(&self, rt: &R, seen: u64) {
-        let key = self.events.prepare_wait();
-        if self.leaves() == seen {
-            key.wait(rt);
-        }
+        self.leaves.rest(rt, seen);
+    }
+
+    /// How many times `tell` was called, modulo 2 to the 64. Nothing is promised of it.
+    pub fn changes(&self) -> u64 {
+        self.changes.rings()
+    }
+
+    /// Wakes whoever rests on a change. A caller tells where its leave may let somebody go on who waits
+    /// for something behind the lock, and not for the lock itself.
+    pub fn tell(&self) {
+        self.changes.ring();
+    }
+
+    /// Sleeps until `changes` differs from `seen`, or answers earlier. Nothing is promised of it.
+    pub fn rest_on_change<R: Wait>(&self, rt: &R, seen: u64) {
+        self.changes.rest(rt, seen);
     }
 }

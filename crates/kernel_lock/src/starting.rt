@@ -3,16 +3,15 @@ ghost use Rattle.std.specs.Prelude.{◌≡◌, ◌+◌, ◌<◌, ◌≤◌, [], 
 ghost use Rattle.kernel_lock.specs.Rule.{dealer_at};
 ghost use Rattle.kernel_lock.specs.Seats.{AreNew, newcomer};
 
+use crate::bell::Bell;
 use crate::board::{About, LockRule, Place, View};
 use crate::guarded::Guarded;
 use crate::lock::KernelLock;
 use crate::plays::Deal;
 use crate::seat::{Seat, SeatAt};
 use atomic_table::{Refused, Shared, Table};
-use crossbeam_utils::sync::EventCount;
 use std::alloc::{AllocFailed, Global};
 use std::snapshot::Snapshot;
-use std::sync::atomic::AtomicU64;
 
 type Board<S> = Shared<
     Option<S>,
@@ -54,11 +53,18 @@ fn deal<S: Guarded>(
     number: u32,
 ) -> Seat<S>
     requires board { (dealer.old.table_id ≡ board.now.table_id) × (board.now.table_id.words ≡ 2) }
-    requires dealer { dealer.old.me ≡ (dealer_at board.now.key.opening.value board.now.key.seats number, []) }
+    requires dealer { dealer.old.me
+        ≡ (dealer_at board.now.key.opening.value board.now.key.seats number, []) }
     requires room { number < board.now.key.seats }
+    //
     ensures board { dealer.new.table_id ≡ dealer.old.table_id }
-    ensures dealer { dealer.new.me ≡ (dealer_at board.now.key.opening.value board.now.key.seats (number + 1), []) }
-    ensures seat { result ≡ newcomer (record { lock = board.now.table_id; seats = board.now.key.seats; opening = board.now.key.opening.value }) number }
+    ensures dealer { dealer.new.me
+        ≡ (dealer_at board.now.key.opening.value board.now.key.seats (number + 1), []) }
+    ensures seat { result ≡ newcomer (record {
+      lock = board.now.table_id;
+      seats = board.now.key.seats;
+      opening = board.now.key.opening.value;
+    }) number }
 {
     let place = board.split_seat::<Deal>(dealer);
     SeatAt { place, number }
@@ -71,11 +77,17 @@ fn deal_all<S: Guarded>(
     row: &mut Vec<Seat<S>>,
 )
     requires board { (dealer.old.table_id ≡ board.now.table_id) × (board.now.table_id.words ≡ 2) }
-    requires dealer { dealer.old.me ≡ (dealer_at board.now.key.opening.value board.now.key.seats 0, []) }
+    requires dealer { dealer.old.me
+        ≡ (dealer_at board.now.key.opening.value board.now.key.seats 0, []) }
     requires room { seats ≤ board.now.key.seats }
     requires row { (vec_len row.old ≡ 0) × (seats ≤ vec_capacity row.old) }
+    //
     ensures len { vec_len row.new ≡ seats }
-    ensures seats { AreNew (record { lock = board.now.table_id; seats = board.now.key.seats; opening = board.now.key.opening.value }) row.new.items }
+    ensures seats { AreNew (record {
+      lock = board.now.table_id;
+      seats = board.now.key.seats;
+      opening = board.now.key.opening.value;
+    }) row.new.items }
 {
     for number in 0..seats {
         let seat = deal(board, dealer, number);
@@ -92,6 +104,7 @@ impl<S: Guarded> KernelLock<S> {
         requires count { (0 < seats) × (seats ≤ 65) }
         requires empty { S.history state ≡ [] }
         requires fits { S.fits state state (replicate seats None) }
+        //
         ensures lock { IfOk result (λ r. (r.0.seats ≡ seats) × (r.0.opening ≡ state)) }
         ensures count { IfOk result (λ r. vec_len r.1 ≡ seats) }
         ensures seats { IfOk result (λ r. AreNew r.0 r.1.items) }
@@ -111,8 +124,8 @@ impl<S: Guarded> KernelLock<S> {
                 let lock = KernelLock {
                     table,
                     seats,
-                    leaves: AtomicU64::new(0),
-                    events: EventCount::new(),
+                    leaves: Bell::new(),
+                    changes: Bell::new(),
                 };
                 Ok((lock, row))
             }

@@ -1,7 +1,7 @@
 //! A state that is generic in a disk, which one seat at a time may have outside the lock.
 ghost use Rattle.std.specs.Prelude.{◌≡◌, ℕ, ◌≤◌, List, false, [], None, Some, IfSome};
 ghost use Rattle.kernel_lock.specs.Seats.{IsSeatOf};
-ghost use Rattle.kernel_lock.specs.Store.{Moves, AtLeast, note_of};
+ghost use Rattle.kernel_lock.specs.Store.{MovesStore, AtLeast, note_of};
 
 use crate::adders::last_seat;
 use crate::guarded::Guarded;
@@ -39,7 +39,15 @@ impl<D: Disk> Model for Store<D> {
 }
 
 impl<D: Disk> Guarded for Store<D> {
-    ghost use Rattle.kernel_lock.specs.Store.{seat_named, entries, note_of, Fits, Moves, keeps_of, grows_of};
+    ghost use Rattle.kernel_lock.specs.Store.{
+      seat_named,
+      entries,
+      note_of,
+      FitsStore,
+      MovesStore,
+      keeps_of,
+      grows_of,
+    };
 
     type Entry = (u32, u64);
 
@@ -53,9 +61,9 @@ impl<D: Disk> Guarded for Store<D> {
 
     ghost note_of = { note_of D.count };
 
-    ghost fits = { Fits D.count };
+    ghost fits = { FitsStore D.count };
 
-    ghost moves = { Moves D.count };
+    ghost moves = { MovesStore D.count };
 
     fn length(&self) -> u64 {
         self.history.len() as u64
@@ -69,7 +77,7 @@ impl<D: Disk> Guarded for Store<D> {
 impl<D: Disk> Store<D> {
     /// Takes the disk out, if it is at home.
     pub fn send(&mut self) -> Option<D>
-        ensures { (k : ℕ) → Moves D.count k self.old None self.new (note_of D.count result) }
+        ensures { (k : ℕ) → MovesStore D.count k self.old None self.new (note_of D.count result) }
     {
         self.disk.take()
     }
@@ -77,7 +85,8 @@ impl<D: Disk> Store<D> {
     /// Brings the disk home.
     pub fn bring(&mut self, disk: D)
         requires { self.old.disk ≡ None }
-        ensures { (k n : ℕ) → n ≤ D.count disk → Moves D.count k self.old (Some n) self.new None }
+        ensures { (k n : ℕ) → n ≤ D.count disk
+            → MovesStore D.count k self.old (Some n) self.new None }
     {
         self.disk = Some(disk);
     }
@@ -115,10 +124,12 @@ pub fn use_by_both<R: Threads + Wait + Sync, D: Disk + Send>(
     second: Seat<Store<D>>,
 ) -> (Seat<Store<D>>, Seat<Store<D>>)
     requires seats { IsSeatOf lock.now first × IsSeatOf lock.now second }
-    requires outside { (first.inside ≡ false) × (first.note ≡ None) × (second.inside ≡ false) × (second.note ≡ None) }
+    requires outside { (first.inside ≡ false) × (first.note ≡ None)
+        × (second.inside ≡ false) × (second.note ≡ None) }
     ensures seats { IsSeatOf lock.now result.0 × IsSeatOf lock.now result.1 }
     ensures numbers { (result.0.number ≡ first.number) × (result.1.number ≡ second.number) }
-    ensures outside { (result.0.inside ≡ false) × (result.0.note ≡ None) × (result.1.inside ≡ false) × (result.1.note ≡ None) }
+    ensures outside { (result.0.inside ≡ false) × (result.0.note ≡ None)
+        × (result.1.inside ≡ false) × (result.1.note ≡ None) }
 {
     join(
         rt,
@@ -137,7 +148,8 @@ pub fn close_store<D: Disk>(
     requires seats { IsSeatOf lock first × IsSeatOf lock second }
     requires outside { (first.inside ≡ false) × (second.inside ≡ false) }
     requires numbers { (first.number ≡ 0) × (second.number ≡ 1) }
-    ensures { (o : D) → lock.opening.disk ≡ Some o → AtLeast (D.count o) (note_of D.count result.disk) }
+    ensures { (o : D) → lock.opening.disk ≡ Some o
+        → AtLeast (D.count o) (note_of D.count result.disk) }
 {
     let mut from = lock.gather_none();
     lock.gather(&mut from, second);

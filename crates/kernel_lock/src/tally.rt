@@ -1,7 +1,7 @@
 //! A small state to try the lock with: a list of numbers, each with the seat that added it, and their sum.
 ghost use Rattle.std.specs.Prelude.{◌≡◌, ℕ, ◌++◌, [], ◌∷◌, None, Some};
 ghost use Rattle.std.specs.Bool.{MatchBool};
-ghost use Rattle.kernel_lock.specs.Tally.{Moves, entries};
+ghost use Rattle.kernel_lock.specs.Tally.{MovesTally, entries};
 
 use crate::guarded::Guarded;
 use std::alloc::Global;
@@ -25,7 +25,7 @@ impl Model for Tally {
 }
 
 impl Guarded for Tally {
-    ghost use Rattle.kernel_lock.specs.Tally.{seat_named, entries, Fits, Moves, keeps_of, grows_of};
+    ghost use Rattle.kernel_lock.specs.Tally.{seat_named, entries, FitsTally, MovesTally, keeps_of, grows_of};
 
     type Entry = (u32, u64);
 
@@ -39,9 +39,9 @@ impl Guarded for Tally {
 
     ghost note_of = { λ held. held };
 
-    ghost fits = { Fits };
+    ghost fits = { FitsTally };
 
-    ghost moves = { Moves };
+    ghost moves = { MovesTally };
 
     fn length(&self) -> u64 {
         self.list.len() as u64
@@ -65,8 +65,10 @@ impl Tally {
 
     /// Adds a number where the sum and the memory allow it, and says whether it did.
     pub fn add(&mut self, seat: u32, number: u64) -> bool
-        ensures moves { (n : _) → Moves seat self.old n self.new n }
-        ensures added { MatchBool result (entries self.new ≡ entries self.old ++ (seat, number) ∷ []) (entries self.new ≡ entries self.old) }
+        ensures moves { (n : _) → MovesTally seat self.old n self.new n }
+        ensures added { MatchBool result
+            (entries self.new ≡ entries self.old ++ (seat, number) ∷ [])
+            (entries self.new ≡ entries self.old) }
     {
         let Some(sum) = self.sum.checked_add(number) else {
             return false;
@@ -80,7 +82,7 @@ impl Tally {
 
     /// Takes a number out of the sum, if there is so much, and gives what is out.
     pub fn take_out(&mut self, number: u64) -> Option<u64>
-        ensures moves { (k : ℕ) → Moves k self.old None self.new result }
+        ensures moves { (k : ℕ) → MovesTally k self.old None self.new result }
         ensures list { entries self.new ≡ entries self.old }
     {
         let sum = self.sum.checked_sub(number)?;
@@ -90,7 +92,7 @@ impl Tally {
 
     /// Puts a number that was out back into the sum, if there is room, and gives what is still out.
     pub fn put_back(&mut self, number: u64) -> Option<u64>
-        ensures moves { (k : ℕ) → Moves k self.old (Some number) self.new result }
+        ensures moves { (k : ℕ) → MovesTally k self.old (Some number) self.new result }
         ensures list { entries self.new ≡ entries self.old }
     {
         let Some(sum) = self.sum.checked_add(number) else {

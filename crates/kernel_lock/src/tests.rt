@@ -1,8 +1,8 @@
 ghost use Rattle.std.specs.Prelude.{◌≡◌, None, Some};
 
 use crate::adders::{
-    add, add_both, add_seen, all_three, close_row, close_three, first_told, go_out, last_seat,
-    look, put_back, start, take_out,
+    add, add_both, add_seen, all_three, close_row, close_three, first_told, go_out, hold_and_wait,
+    last_seat, look, put_back, start, take_out,
 };
 use crate::store::{Disk, share_disk};
 use std::test::Fail;
@@ -125,5 +125,26 @@ fn a_disk_goes_out_and_comes_home(rt: HostRuntime) -> Result<(), Fail> {
     let store = share_disk(&rt, rt.alloc(), Counter { count: 5 }).ok_or("memory")?;
     let disk = store.disk.ok_or("the disk is home")?;
     assert!(rt; 6 <= disk.count() && disk.count() <= 7);
+    Ok(())
+}
+
+#[test]
+fn a_waiter_looks_a_handful_of_times(rt: HostRuntime) -> Result<(), Fail> {
+    let (lock, mut row) = start(rt.alloc(), 2).ok_or("memory")?;
+    let second = last_seat(&lock, &mut row);
+    let mut first = last_seat(&lock, &mut row);
+    add(&rt, &lock, &mut first, None, 3);
+    let Some(three) = take_out(&rt, &lock, &mut first, 3) else {
+        panic!(rt; "there are 3")
+    };
+    let before = lock.leaves();
+    let (first, (second, looks)) = hold_and_wait(&rt, &lock, first, second, three, 20_000);
+    assert!(rt; 20_000 < lock.leaves().wrapping_sub(before));
+    assert!(rt; looks <= 20, "{looks} looks");
+    let tally = close_row(
+        lock,
+        vec![in rt.alloc(); first, second].expect(&rt, "memory"),
+    );
+    assert_eq!(rt; tally.sum, 3);
     Ok(())
 }

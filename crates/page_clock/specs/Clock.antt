@@ -1,4 +1,4 @@
--- The steps of a clock.
+-- The steps of a clock. Public clauses cite this.
 use Rattle.std.specs.Prelude.{ℕ, zero, suc, ◌+◌, ◌-◌, ◌%◌, true, false, if◌then◌else◌}
 use Rattle.page_clock.specs.Seen.{ClockSeen}
 use Rattle.page_clock.specs.declared.Pick.{Pick}

@@ -1,4 +1,4 @@
--- What callers see of a clock.
+-- What callers see of a clock. Public clauses cite `ClockSeen`.
 use Rattle.std.specs.Prelude.{ℕ, ◌<◌, ◌≤◌, Bool}
 
 -- so many frames, the distance of the hands, the front hand's place, and whether the back hand is next

@@ -80,6 +80,7 @@ impl Clock {
         requires apart { 1 ≤ distance }
         requires within { distance < frames }
         requires frame { place_of pick < frames }
+        //
         ensures soon { result < 2 * frames }
         ensures comes { next_pick (after result (fresh frames distance)) ≡ pick }
         ensures once { (number : ℕ) → number < 2 * frames

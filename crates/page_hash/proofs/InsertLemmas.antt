@@ -6,7 +6,7 @@ use Rattle.std.proofs.lemmas.Bool.{cases_eq, cases_lt}
 use Rattle.page_hash.specs.declared.PageName.{PageName}
 use Rattle.page_hash.specs.Names.{name_at, AreDistinct}
 use Rattle.page_hash.specs.Slots.{slot_of}
-use Rattle.page_hash.specs.Chains.{InSlot, AtOrAfter, Leads, IsLinked, start_after, heads_with, next_with, link_of, IsLastBefore}
+use Rattle.page_hash.specs.Chains.{InSlot, AtOrAfter, Leads, IsSoundPageHash, start_after, heads_with, next_with, link_of, IsLastBefore}
 
 pub named_within : (names : List (Option PageName)) (k : ℕ) (n : PageName) → name_at names k ≡ Some n → k < length names
 named_within [] k n h = cc
@@ -102,7 +102,7 @@ module _ (names : List (Option PageName)) (count slot frame : ℕ) (page : PageN
   ]
 
 -- a frame that goes in behind the one before it leaves all chains linked
-module _ (heads next : List (Option ℕ)) (names : List (Option PageName)) (slot frame : ℕ) (page : PageName) (at : Option ℕ) (linked : IsLinked heads next names)
+module _ (heads next : List (Option ℕ)) (names : List (Option PageName)) (slot frame : ℕ) (page : PageName) (at : Option ℕ) (linked : IsSoundPageHash heads next names)
     (within : frame < length names) (empty : name_at names frame ≡ None) (is : slot_of (length heads) page ≡ slot) (in_heads : slot < length heads)
     (absent : (k : ℕ) → name_at names k ≡ Some page → ⊥) (past : (f : ℕ) → at ≡ Some f → frame < f) where
   next_in : frame < length next
@@ -118,7 +118,7 @@ module _ (heads next : List (Option ℕ)) (names : List (Option PageName)) (slot
         | inr nb ↦ leads_other names (length heads) slot frame page within empty is b (p + 1) (get_or next p None) nb l
       ]
 
-  pub linked-first : Walked names (length heads) slot frame None at → IsLinked (set heads slot (Some frame)) (set next frame at) (set names frame (Some page))
+  pub linked-first : Walked names (length heads) slot frame None at → IsSoundPageHash (set heads slot (Some frame)) (set next frame at) (set names frame (Some page))
   linked-first w = record {
     some = subst (λ (n : ℕ). 0 < n) (sym (length-set heads slot (Some frame))) linked.some;
     enough = let a = length-set heads slot (Some frame) in let b = length-set names frame (Some page) in let c = linked.enough in omega arith;
@@ -148,7 +148,7 @@ module _ (heads next : List (Option ℕ)) (names : List (Option PageName)) (slot
         ]);
   }
 
-  pub linked-after : (q : ℕ) → Walked names (length heads) slot frame (Some q) at → IsLinked heads (set (set next frame at) q (Some frame)) (set names frame (Some page))
+  pub linked-after : (q : ℕ) → Walked names (length heads) slot frame (Some q) at → IsSoundPageHash heads (set (set next frame at) q (Some frame)) (set names frame (Some page))
   linked-after q w =
       let q_in : InSlot names (length heads) slot q = w.before_in q refl in
       let q_below : q < frame = w.before_below q refl in
@@ -198,7 +198,7 @@ module _ (heads next : List (Option ℕ)) (names : List (Option PageName)) (slot
       }
 
 -- what the walk to a frame's place found, with the link behind it
-walked : (heads next : List (Option ℕ)) (names : List (Option PageName)) (slot frame : ℕ) (before : Option ℕ) → IsLinked heads next names → slot < length heads → IsLastBefore names (length heads) slot frame before → Walked names (length heads) slot frame before (link_of heads next slot before)
+walked : (heads next : List (Option ℕ)) (names : List (Option PageName)) (slot frame : ℕ) (before : Option ℕ) → IsSoundPageHash heads next names → slot < length heads → IsLastBefore names (length heads) slot frame before → Walked names (length heads) slot frame before (link_of heads next slot before)
 walked heads next names slot frame None linked lt l = record { leads = linked.head slot lt; before_in = l.held; before_below = l.below }
 walked heads next names slot frame (Some q) linked lt l = record { leads = linked.link slot q (l.held q refl); before_in = l.held; before_below = l.below }
 
@@ -213,8 +213,8 @@ past_frame names count slot frame before at empty l w f e =
       | inr ge ↦ omega arith
     ]
 
-pub linked-inserted : (heads next : List (Option ℕ)) (names : List (Option PageName)) (slot frame : ℕ) (page : PageName) (before : Option ℕ) → IsLinked heads next names → frame < length names → name_at names frame ≡ None → slot_of (length heads) page ≡ slot → slot < length heads → ((k : ℕ) → name_at names k ≡ Some page → ⊥) → IsLastBefore names (length heads) slot frame before →
-    IsLinked (heads_with heads slot before (Some frame)) (next_with (set next frame (link_of heads next slot before)) before (Some frame)) (set names frame (Some page))
+pub linked-inserted : (heads next : List (Option ℕ)) (names : List (Option PageName)) (slot frame : ℕ) (page : PageName) (before : Option ℕ) → IsSoundPageHash heads next names → frame < length names → name_at names frame ≡ None → slot_of (length heads) page ≡ slot → slot < length heads → ((k : ℕ) → name_at names k ≡ Some page → ⊥) → IsLastBefore names (length heads) slot frame before →
+    IsSoundPageHash (heads_with heads slot before (Some frame)) (next_with (set next frame (link_of heads next slot before)) before (Some frame)) (set names frame (Some page))
 linked-inserted heads next names slot frame page None linked within empty is lt absent l =
     let w = walked heads next names slot frame None linked lt l in
     linked-first heads next names slot frame page (link_of heads next slot None) linked within empty is lt absent (past_frame names (length heads) slot frame None (link_of heads next slot None) empty l w) w
@@ -223,8 +223,8 @@ linked-inserted heads next names slot frame page (Some q) linked within empty is
     linked-after heads next names slot frame page (link_of heads next slot (Some q)) linked within empty is lt absent (past_frame names (length heads) slot frame (Some q) (link_of heads next slot (Some q)) empty l w) q w
 
 -- links that are these
-pub linked-as : (heads heads_as next next_as : List (Option ℕ)) (names names_as : List (Option PageName)) → heads ≡ heads_as → next ≡ next_as → names ≡ names_as → IsLinked heads_as next_as names_as → IsLinked heads next names
+pub linked-as : (heads heads_as next next_as : List (Option ℕ)) (names names_as : List (Option PageName)) → heads ≡ heads_as → next ≡ next_as → names ≡ names_as → IsSoundPageHash heads_as next_as names_as → IsSoundPageHash heads next names
 linked-as heads heads_as next next_as names names_as eh en em linked =
-    subst (λ (l : List (Option ℕ)). IsLinked l next names) (sym eh)
-    (subst (λ (l : List (Option ℕ)). IsLinked heads_as l names) (sym en)
-    (subst (λ (l : List (Option PageName)). IsLinked heads_as next_as l) (sym em) linked))
+    subst (λ (l : List (Option ℕ)). IsSoundPageHash l next names) (sym eh)
+    (subst (λ (l : List (Option ℕ)). IsSoundPageHash heads_as l names) (sym en)
+    (subst (λ (l : List (Option PageName)). IsSoundPageHash heads_as next_as l) (sym em) linked))

@@ -3,3 +3,4 @@ pub mod NameLaws
 pub mod NewLemmas
 pub mod RemoveLemmas
 pub mod WalkLemmas
+pub mod Walks

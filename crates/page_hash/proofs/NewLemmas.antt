@@ -1,17 +1,14 @@
 -- Frames without names.
 use Rattle.std.proofs.Common.{◌≡◌, ℕ, ◌<◌, ◌≤◌, ◌^◌, Option, Some, None, List, refl, sym, ◌∙◌, ap, subst, length, get_or, replicate, arith, zero, suc}
+use Rattle.std.proofs.lemmas.List.{length-replicate}
 use Rattle.page_hash.specs.declared.PageName.{PageName}
 use Rattle.page_hash.specs.Names.{name_at}
-use Rattle.page_hash.specs.Chains.{InSlot, Leads, IsLinked}
+use Rattle.page_hash.specs.Chains.{InSlot, Leads, IsSoundPageHash}
 
 none-at : {X : Type 0} (n k : ℕ) (d : X) → get_or (replicate n d) k d ≡ d
 none-at zero k d = refl
 none-at (suc n) zero d = refl
 none-at (suc n) (suc k) d = none-at n k d
-
-length-nones : {X : Type 0} (n : ℕ) (d : X) → length (replicate n d) ≡ n
-length-nones zero d = refl
-length-nones (suc n) d = ap (λ (k : ℕ). suc k) (length-nones n d)
 
 unnamed : (count frames slot frame : ℕ) → InSlot (replicate frames None) count slot frame → ⊥
 unnamed count frames slot frame i = let z : None ≡ Some i.name = sym (none-at frames frame None) ∙ i.held in cc
@@ -23,11 +20,11 @@ leads-none count frames slot low link e = record {
   first = λ g i h. absurd (unnamed count frames slot g i);
 }
 
-pub linked-none : (heads next : List (Option ℕ)) (names : List (Option PageName)) (slots frames : ℕ) → 0 < slots → frames ≤ slots → slots < 2 ^ 32 → frames < 2 ^ 32 → heads ≡ replicate slots None → next ≡ replicate frames None → names ≡ replicate frames None → IsLinked heads next names
+pub linked-none : (heads next : List (Option ℕ)) (names : List (Option PageName)) (slots frames : ℕ) → 0 < slots → frames ≤ slots → slots < 2 ^ 32 → frames < 2 ^ 32 → heads ≡ replicate slots None → next ≡ replicate frames None → names ≡ replicate frames None → IsSoundPageHash heads next names
 linked-none heads next names slots frames some enough few_slots few eh en em =
-    let n_heads : length heads ≡ slots = ap length eh ∙ length-nones slots None in
-    let n_next : length next ≡ frames = ap length en ∙ length-nones frames None in
-    let n_names : length names ≡ frames = ap length em ∙ length-nones frames None in
+    let n_heads : length heads ≡ slots = ap length eh ∙ length-replicate slots None in
+    let n_next : length next ≡ frames = ap length en ∙ length-replicate frames None in
+    let n_names : length names ≡ frames = ap length em ∙ length-replicate frames None in
     record {
       some = omega arith;
       enough = omega arith;

@@ -6,10 +6,10 @@ use Rattle.std.proofs.lemmas.Bool.{cases_eq, cases_lt}
 use Rattle.page_hash.specs.declared.PageName.{PageName}
 use Rattle.page_hash.specs.Names.{name_at, AreDistinct}
 use Rattle.page_hash.specs.Slots.{slot_of}
-use Rattle.page_hash.specs.Chains.{InSlot, AtOrAfter, Leads, IsLinked, IsLastBefore, start_after, heads_with, next_with}
+use Rattle.page_hash.specs.Chains.{InSlot, AtOrAfter, Leads, IsSoundPageHash, IsLastBefore, start_after, heads_with, next_with}
 use Rattle.page_hash.proofs.InsertLemmas.{named_within}
 
-module _ (heads next : List (Option ℕ)) (names : List (Option PageName)) (slot frame : ℕ) (page : PageName) (linked : IsLinked heads next names)
+module _ (heads next : List (Option ℕ)) (names : List (Option PageName)) (slot frame : ℕ) (page : PageName) (linked : IsSoundPageHash heads next names)
     (held : name_at names frame ≡ Some page) (is : slot_of (length heads) page ≡ slot) (in_heads : slot < length heads) where
   within : frame < length names
   within = named_within names frame page held
@@ -94,7 +94,7 @@ module _ (heads next : List (Option ℕ)) (names : List (Option PageName)) (slot
       let in_slot : InSlot names (length heads) slot p = subst (λ (x : ℕ). InSlot names (length heads) x p) same i in
       link_not before b p l i same ne (l.last p in_slot (omega arith)) e
 
-  pub linked-removed : (before : Option ℕ) → IsLastBefore names (length heads) slot frame before → IsLinked (heads_with heads slot before (get_or next frame None)) (next_with next before (get_or next frame None)) (set names frame None)
+  pub linked-removed : (before : Option ℕ) → IsLastBefore names (length heads) slot frame before → IsSoundPageHash (heads_with heads slot before (get_or next frame None)) (next_with next before (get_or next frame None)) (set names frame None)
   linked-removed None l = record {
     some = subst (λ (n : ℕ). 0 < n) (sym (length-set heads slot (get_or next frame None))) linked.some;
     enough = let a = length-set heads slot (get_or next frame None) in let b = length-set names frame None in let c = linked.enough in omega arith;

@@ -1,5 +1,5 @@
--- Chains of frames, each by rising number.
-use Rattle.std.specs.Prelude.{◌≡◌, ℕ, ◌+◌, ◌<◌, ◌≤◌, ◌^◌, ◌-◌, List, slice_set, Option, Some, None, slice_index_or, length}
+-- How the names are kept: chains of frames, each by rising number. Inside: no public clause cites this.
+use Rattle.std.specs.Prelude.{◌≡◌, ℕ, ◌+◌, ◌<◌, ◌≤◌, ◌^◌, List, slice_set, Option, Some, None, slice_index_or, length}
 use Rattle.page_hash.specs.declared.PageName.{PageName}
 use Rattle.page_hash.specs.Names.{name_at, AreDistinct}
 use Rattle.page_hash.specs.Slots.{slot_of}
@@ -22,7 +22,7 @@ pub record Leads (names : List (Option PageName)) (count slot low : ℕ) (link :
 
 -- the links agree with the names: a slot's head leads to its first frame, each frame to the next of its slot; there are at least
 -- as many slots as frames
-pub record IsLinked (heads next : List (Option ℕ)) (names : List (Option PageName)) : Type 0 where
+pub record IsSoundPageHash (heads next : List (Option ℕ)) (names : List (Option PageName)) : Type 0 where
   pub some : 0 < length heads
   pub enough : length names ≤ length heads
   pub few_heads : length heads < 2 ^ 32
@@ -61,19 +61,3 @@ pub record IsLastBefore (names : List (Option PageName)) (count slot frame : ℕ
   pub held : (p : ℕ) → before ≡ Some p → InSlot names count slot p
   pub below : (p : ℕ) → before ≡ Some p → p < frame
   pub last : (g : ℕ) → InSlot names count slot g → g < frame → g < start_after before
-
--- a walk along a slot up to a frame: what comes next, and the last one passed
-pub record Walks (names : List (Option PageName)) (count slot frame : ℕ) (before at : Option ℕ) : Type 0 where
-  pub held : (p : ℕ) → before ≡ Some p → InSlot names count slot p
-  pub below : (p : ℕ) → before ≡ Some p → p < frame
-  pub leads : Leads names count slot (start_after before) at
-
--- a walk for a name: the link leads to the name's frame or to one of its slot before it
-pub record Seeks (names : List (Option PageName)) (count : ℕ) (page : PageName) (link : Option ℕ) : Type 0 where
-  pub here : (f : ℕ) → link ≡ Some f → InSlot names count (slot_of count page) f
-  pub ahead : (g : ℕ) → name_at names g ≡ Some page → AtOrAfter link g
-
--- how far a walk is from its end, among so many frames
-abbrev pub left : ℕ → Option ℕ → ℕ
-left count None = 0
-left count (Some f) = count + 1 - f

@@ -1,4 +1,4 @@
--- Names by frame: a partial map, one to one.
+-- Names by frame: a partial map, one to one. Public clauses cite this.
 use Rattle.std.specs.Prelude.{◌≡◌, ℕ, ◌==◌, ◌&&◌, Bool, false, if◌then◌else◌, List, [], ◌∷◌, Option, Some, None, slice_index_or, slice_set, suc}
 use Rattle.std.specs.Option.{option_map}
 use Rattle.page_hash.specs.declared.PageName.{PageName}
@@ -22,6 +22,6 @@ abbrev pub AreDistinct : List (Option PageName) → Type 0
 AreDistinct names = (i j : ℕ) (name : PageName) → name_at names i ≡ Some name → name_at names j ≡ Some name → i ≡ j
 
 -- the names with one frame emptied, where there is one to empty
-abbrev pub emptied : List (Option PageName) → Option ℕ → List (Option PageName)
-emptied names None = names
-emptied names (Some frame) = slice_set names frame None
+abbrev pub without_name : List (Option PageName) → Option ℕ → List (Option PageName)
+without_name names None = names
+without_name names (Some frame) = slice_set names frame None

@@ -1,4 +1,4 @@
--- The slot of a name.
+-- The slot of a name. Inside: no public clause cites this.
 use Rattle.std.specs.Prelude.{ℕ, ◌+◌, ◌*◌, ◌/◌, ◌%◌, ◌^◌}
 use Rattle.page_hash.specs.declared.PageName.{PageName}
 

@@ -3,7 +3,7 @@
 ghost use Rattle.std.specs.Prelude.{◌≡◌, ℕ, ◌+◌, ◌<◌, ◌≤◌, ◌^◌, List, length, replicate, Option, Some, None, IsTrue, IfOk, slice_set};
 ghost use Rattle.page_hash.specs.Names.{name_at};
 ghost use Rattle.page_hash.specs.Slots.{slot_of};
-ghost use Rattle.page_hash.specs.Chains.{IsLinked, Finds, IsLastBefore, link_of, heads_with, next_with};
+ghost use Rattle.page_hash.specs.Chains.{IsSoundPageHash, Finds, IsLastBefore, link_of, heads_with, next_with};
 
 use crate::PageName;
 use std::alloc::{AllocError, Global};
@@ -11,7 +11,7 @@ use std::alloc::{AllocError, Global};
 /// The fraction of the golden ratio in 64 bits: its multiples by consecutive numbers lie far apart.
 const GOLDEN_FRACTION: u64 = 0x9E37_79B9_7F4A_7C15;
 
-/// The names by frame, the first frame of each slot, and behind each frame the next one of its slot.
+/// The names by frame, the first frame of each slot, and after each frame the next of its slot.
 #[derive(Drop)]
 pub struct Chains {
     pub heads: Vec<Option<u32>>,
@@ -44,7 +44,8 @@ fn is_name(held: Option<PageName>, name: PageName) -> bool
 impl Chains {
     /// So many frames without a name, and as many slots.
     pub fn new(alloc: Global, frames: u32) -> Result<Chains, AllocError>
-        ensures linked { IfOk result (λ c. IsLinked c.heads.items c.next.items c.names.items) }
+        ensures linked { IfOk result (λ c. IsSoundPageHash c.heads.items c.next.items
+            c.names.items) }
         ensures names { IfOk result (λ c. c.names.items ≡ replicate frames None) }
     {
         let count = frames as usize;
@@ -58,7 +59,7 @@ impl Chains {
 
     /// The frame that holds a name, if one does.
     pub fn find(&self, name: PageName) -> Option<u32>
-        requires { IsLinked self.now.heads.items self.now.next.items self.now.names.items }
+        requires { IsSoundPageHash self.now.heads.items self.now.next.items self.now.names.items }
         ensures { Finds self.now.names.items name result }
     {
         let mut at = self.heads[slot_in(name, self.heads.len())];
@@ -74,11 +75,14 @@ impl Chains {
 
     /// Puts a frame without a name into the chain of a name that no frame holds.
     pub fn insert(&mut self, name: PageName, frame: u32)
-        requires linked { IsLinked self.old.heads.items self.old.next.items self.old.names.items }
+        requires linked { IsSoundPageHash self.old.heads.items self.old.next.items
+            self.old.names.items }
         requires within { frame < length self.old.names.items }
         requires absent { (k : ℕ) → name_at self.old.names.items k ≡ Some name → ⊥ }
         requires empty { name_at self.old.names.items frame ≡ None }
-        ensures linked { IsLinked self.new.heads.items self.new.next.items self.new.names.items }
+        // The chains go on to fit the names.
+        ensures linked { IsSoundPageHash self.new.heads.items self.new.next.items
+            self.new.names.items }
         ensures names { self.new.names.items ≡ slice_set self.old.names.items frame (Some name) }
     {
         let slot = slot_in(name, self.heads.len());
@@ -91,9 +95,11 @@ impl Chains {
 
     /// Takes a frame out of the chain of the name that it holds.
     pub fn take_out(&mut self, name: PageName, frame: u32)
-        requires linked { IsLinked self.old.heads.items self.old.next.items self.old.names.items }
+        requires linked { IsSoundPageHash self.old.heads.items self.old.next.items
+            self.old.names.items }
         requires held { name_at self.old.names.items frame ≡ Some name }
-        ensures linked { IsLinked self.new.heads.items self.new.next.items self.new.names.items }
+        ensures linked { IsSoundPageHash self.new.heads.items self.new.next.items
+            self.new.names.items }
         ensures names { self.new.names.items ≡ slice_set self.old.names.items frame None }
     {
         let slot = slot_in(name, self.heads.len());
@@ -105,9 +111,11 @@ impl Chains {
 
     /// The last frame of a slot whose number is less than a frame's.
     fn last_before(&self, slot: usize, frame: u32) -> Option<u32>
-        requires linked { IsLinked self.now.heads.items self.now.next.items self.now.names.items }
+        requires linked { IsSoundPageHash self.now.heads.items self.now.next.items
+            self.now.names.items }
         requires slot { slot < length self.now.heads.items }
-        ensures { IsLastBefore self.now.names.items (length self.now.heads.items) slot frame result }
+        ensures { IsLastBefore self.now.names.items (length self.now.heads.items) slot frame
+            result }
     {
         let mut before = None;
         let mut at = self.heads[slot];

@@ -1,13 +1,15 @@
 //! Names of pages in memory: which frame holds a page, and which page a frame holds.
 //!
-//! A page is named by its object, a file or swap, and its number there. No two frames hold one name. Each call but `new` takes
-//! constant expected time and no memory.
+//! A page is named by its object, a file or swap, and its number there. No two frames hold one
+//! name. Each call but `new` takes constant expected time and no memory.
 #![tactic(auto)]
 
 mod chains;
+#[cfg(test)]
+mod tests;
 
-ghost use Rattle.std.specs.Prelude.{◌≡◌, ℕ, ◌+◌, ◌<◌, ◌≤◌, ◌↔◌, List, length, replicate, Option, Some, None, IfOk, IfSome, slice_set};
-ghost use Rattle.page_hash.specs.Names.{name_at, find, emptied, AreDistinct};
+ghost use Rattle.std.specs.Prelude.{◌≡◌, ◌≢◌, ℕ, ◌+◌, ◌<◌, ◌≤◌, ◌↔◌, List, length, replicate, Option, Some, None, IfOk, IfSome, slice_set};
+ghost use Rattle.page_hash.specs.Names.{name_at, find, without_name, AreDistinct};
 
 use chains::Chains;
 use std::alloc::{AllocError, Global};
@@ -15,7 +17,8 @@ use std::marker::Model;
 
 /// A page by its object and its number there.
 ///
-/// Objects 0 to 63 are files, whose pages are counted from the file's first byte. Object 64 is swap, with the slot as page.
+/// Objects 0 to 63 are files, whose pages are counted from the file's first byte. Object 64 is
+/// swap, with the slot as page; slot s is block s of the swap disk.
 #[derive(Clone, Copy, PartialEq, Eq, Debug)]
 pub struct PageName {
     pub object: u32,
@@ -34,11 +37,11 @@ impl Model for PageHash {
 
     ghost Value = { List (Option PageName) };
 
-    ghost use Rattle.page_hash.specs.Chains.{IsLinked};
+    ghost use Rattle.page_hash.specs.Chains.{IsSoundPageHash};
 
     ghost view = { λ h. h.chains.names.items };
 
-    ghost invariant = { λ h. IsLinked h.chains.heads.items h.chains.next.items h.chains.names.items };
+    ghost invariant = { λ h. IsSoundPageHash h.chains.heads.items h.chains.next.items h.chains.names.items };
 }
 
 impl PageHash {
@@ -76,9 +79,11 @@ impl PageHash {
         requires within { frame < length self.old }
         requires absent { find self.old name ≡ None }
         requires empty { name_at self.old frame ≡ None }
-        ensures entered { self.new ≡ slice_set self.old frame (Some name) }
+        ensures new { self.new ≡ slice_set self.old frame (Some name) }
         ensures found { find self.new name ≡ Some frame }
-        ensures others { (other : PageName) → (other ≡ name → ⊥) → find self.new other ≡ find self.old other }
+        // What stays.
+        ensures others { (other : PageName) → other ≢ name → find self.new other
+            ≡ find self.old other }
         ensures one_to_one { AreDistinct self.new }
     {
         self.chains.insert(name, frame);
@@ -87,50 +92,14 @@ impl PageHash {
     /// Takes a name from the frame that holds it, and gives that frame.
     pub fn remove(&mut self, name: PageName) -> Option<u32>
         ensures frame { result ≡ find self.old name }
-        ensures emptied { self.new ≡ emptied self.old result }
+        ensures new { self.new ≡ without_name self.old result }
         ensures gone { find self.new name ≡ None }
-        ensures others { (other : PageName) → (other ≡ name → ⊥) → find self.new other ≡ find self.old other }
+        ensures others { (other : PageName) → other ≢ name → find self.new other
+            ≡ find self.old other }
         ensures one_to_one { AreDistinct self.new }
     {
         let frame = self.chains.find(name)?;
         self.chains.take_out(name, frame);
         Some(frame)
-    }
-}
-
-#[cfg(test)]
-mod tests {
-    use super::*;
-    use std::test::Fail;
-
-    #[test]
-    fn names_come_and_go(rt: HostRuntime) -> Result<(), Fail> {
-        let seventh = PageName { object: 0, page: 7 };
-        let other_file = PageName { object: 1, page: 7 };
-        let swapped = PageName {
-            object: 64,
-            page: 65535,
-        };
-        let mut hash = PageHash::new(rt.alloc(), 3)?;
-        assert_eq!(rt; hash.find(seventh), None);
-        assert_eq!(rt; hash.name_of(2), None);
-        hash.enter(seventh, 2);
-        hash.enter(other_file, 0);
-        assert_eq!(rt; hash.find(swapped), None);
-        hash.enter(swapped, 1);
-        for (name, held_by) in [(seventh, 2), (other_file, 0), (swapped, 1)] {
-            assert_eq!(rt; hash.find(name), Some(held_by), "at frame {held_by}");
-        }
-        assert_eq!(rt; hash.name_of(0), Some(other_file));
-        assert_eq!(rt; hash.remove(other_file), Some(0));
-        assert_eq!(rt; hash.remove(other_file), None);
-        assert_eq!(rt; hash.name_of(0), None);
-        assert_eq!(rt; hash.find(seventh), Some(2));
-        assert_eq!(rt; hash.find(swapped), Some(1));
-        assert_eq!(rt; hash.remove(seventh), Some(2));
-        hash.enter(seventh, 0);
-        assert_eq!(rt; hash.find(seventh), Some(0));
-        assert_eq!(rt; hash.name_of(1), Some(swapped));
-        Ok(())
     }
 }

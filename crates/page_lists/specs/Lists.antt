@@ -1,4 +1,4 @@
--- Two queues as the free list and the cache list.
+-- Two queues as the free list and the cache list. Inside: no public clause cites this.
 use Rattle.std.specs.Prelude.{◌≡◌, ℕ}
 use Rattle.page_lists.specs.ListsSeen.{ListsSeen, Has}
 use Rattle.page_lists.specs.Ring.{QueueSeen, IsQueue}

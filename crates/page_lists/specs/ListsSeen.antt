@@ -1,5 +1,5 @@
--- The free list and the cache list of so many frames.
-use Rattle.std.specs.Prelude.{◌≡◌, ◌<◌, ◌==◌, ◌⊎◌, ℕ, List, [], ◌∷◌, if◌then◌else◌}
+-- The free list and the cache list of so many frames. Public clauses cite this.
+use Rattle.std.specs.Prelude.{◌≡◌, ◌<◌, ◌==◌, ◌⊎◌, ℕ, List, [], ◌∷◌, if◌then◌else◌, Option, Some, None}
 
 -- frames on each list, first to last
 pub record ListsSeen : Type 0 where
@@ -21,6 +21,12 @@ IsOnce (x ∷ xs) = (Has xs x → ⊥) × IsOnce xs
 abbrev pub without : List ℕ → ℕ → List ℕ
 without [] frame = []
 without (x ∷ xs) frame = if x == frame then without xs frame else x ∷ without xs frame
+
+-- the frame that is taken next: the first free one, or with no free frame the first cached one
+abbrev pub first_of : List ℕ → List ℕ → Option ℕ
+first_of [] [] = None
+first_of [] (frame ∷ more) = Some frame
+first_of (frame ∷ more) cached = Some frame
 
 -- a frame is on one of the lists
 abbrev pub IsListed : ListsSeen → ℕ → Type 0

@@ -1,4 +1,4 @@
--- A queue of frames as a ring of links: each frame's next and previous one, and the ends.
+-- A queue of frames as a ring of links: each frame's next and previous one, and the ends. Inside: no public clause cites this.
 use Rattle.std.specs.Prelude.{◌≡◌, ℕ, ◌<◌, ◌↔◌, Bool, true, false, zero, suc, List, [], ◌∷◌, Option, Some, None, slice_index_or, length}
 use Rattle.page_lists.specs.ListsSeen.{Has, IsOnce}
 

@@ -1,4 +1,4 @@
--- Taking a frame off the lists.
+-- Taking a frame off the lists. Public clauses cite this.
 use Rattle.std.specs.Prelude.{◌≡◌, ℕ, Bool, true, false, [], ◌∷◌, Option, Some, None}
 use Rattle.page_lists.specs.ListsSeen.{ListsSeen}
 use Rattle.page_lists.specs.declared.Taken.{Taken}

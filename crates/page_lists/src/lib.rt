@@ -8,7 +8,7 @@ mod queue;
 
 ghost use Rattle.std.specs.Prelude.{◌≡◌, ◌≢◌, ℕ, ◌<◌, ◌⊎◌, ◌↔◌, ◌++◌, ◌∷◌, [], List, Option, IsTrue, IsNone, IfOk};
 ghost use Rattle.std.specs.List.{range_with_len};
-ghost use Rattle.page_lists.specs.ListsSeen.{ListsSeen, Has, IsListed, AreApart, without};
+ghost use Rattle.page_lists.specs.ListsSeen.{ListsSeen, Has, IsListed, AreApart, first_of, without};
 ghost use Rattle.page_lists.specs.Takes.{TakesFirst};
 
 use queue::FrameQueue;
@@ -45,7 +45,11 @@ impl Model for PageLists {
 impl PageLists {
     /// All of so many frames free, in rising order. The time is proportional to the count of frames.
     pub fn new(alloc: Global, frames: u32) -> Result<PageLists, AllocError>
-        ensures all_free { IfOk result (λ lists. lists ≡ record { frames = frames; free = range_with_len 0 frames; cached = [] }) }
+        ensures all_free { IfOk result (λ lists. lists ≡ record {
+          frames = frames;
+          free = range_with_len 0 frames;
+          cached = [];
+        }) }
         ensures apart { IfOk result AreApart }
     {
         let mut free = FrameQueue::new(alloc, frames)?;
@@ -71,6 +75,17 @@ impl PageLists {
         ensures apart { AreApart self.now }
     {
         !self.free.is_empty() || !self.cached.is_empty()
+    }
+
+    /// The frame that is taken next: the first free one, or where none is free the first cached one.
+    pub fn next(&self) -> Option<u32>
+        ensures next { result ≡ first_of self.now.free self.now.cached }
+        ensures apart { AreApart self.now }
+    {
+        match self.free.first() {
+            Some(frame) => Some(frame),
+            None => self.cached.first(),
+        }
     }
 
     /// Puts a frame at the end of the free list.
@@ -137,6 +152,7 @@ mod tests {
     #[test]
     fn frames_go_round(rt: HostRuntime) -> Result<(), Fail> {
         let mut lists = PageLists::new(rt.alloc(), 3)?;
+        assert_eq!(rt; lists.next(), Some(0));
         for frame in 0..3 {
             assert!(rt; lists.listed(frame));
         }
@@ -144,6 +160,7 @@ mod tests {
         assert_eq!(rt; lists.take(), taken(1, false));
         assert_eq!(rt; lists.take(), taken(2, false));
         assert!(rt; !lists.is_available());
+        assert_eq!(rt; lists.next(), None);
         assert!(rt; !lists.listed(1));
         lists.cache(1);
         assert!(rt; !lists.listed(0));

@@ -1,7 +1,7 @@
 //! A queue of frames, from which any frame is taken at once: a doubly linked list by number of frame.
 
 ghost use Rattle.std.specs.Prelude.{◌≡◌, ◌≢◌, ℕ, ◌<◌, ◌↔◌, ◌++◌, ◌∷◌, [], List, length, Option, Some, None, IsTrue, IfOk};
-ghost use Rattle.page_lists.specs.ListsSeen.{Has, without};
+ghost use Rattle.page_lists.specs.ListsSeen.{Has, first_of, without};
 ghost use Rattle.page_lists.specs.Ring.{QueueSeen, IsQueue, follow};
 
 use std::alloc::{AllocError, Global};
@@ -24,14 +24,16 @@ impl Model for FrameQueue {
 
     ghost view = { λ q. queue_of q.first q.next.items };
 
-    ghost invariant = { λ q. IsRing q.first q.last q.next.items q.previous.items q.listed.items (queue_of q.first q.next.items).order };
+    ghost invariant = { λ q. IsRing q.first q.last q.next.items q.previous.items q.listed.items
+        (queue_of q.first q.next.items).order };
 }
 
 /// Leads the link at a place elsewhere: that of a frame, or where the place is none, the end of the queue.
 fn set_link(end: &mut Option<u32>, links: &mut Vec<Option<u32>>, at: Option<u32>, to: Option<u32>)
     requires { (frame : ℕ) → at ≡ Some frame → frame < length links.old.items }
     ensures there { follow end.new links.new.items at ≡ to }
-    ensures elsewhere { (other : Option ℕ) → other ≢ at → follow end.new links.new.items other ≡ follow end.old links.old.items other }
+    ensures elsewhere { (other : Option ℕ) → other ≢ at
+        → follow end.new links.new.items other ≡ follow end.old links.old.items other }
     ensures lengths { length links.new.items ≡ length links.old.items }
 {
     match at {
@@ -70,6 +72,13 @@ impl FrameQueue {
         self.first.is_none()
     }
 
+    /// The first frame; None where there is none.
+    pub fn first(&self) -> Option<u32>
+        ensures { result ≡ first_of self.now.order [] }
+    {
+        self.first
+    }
+
     /// Puts a frame that isn't on the queue at its end.
     pub fn push_back(&mut self, frame: u32)
         requires within { frame < self.old.frames }
@@ -106,7 +115,8 @@ impl FrameQueue {
     /// Takes the first frame off the queue.
     pub fn pop_front(&mut self) -> Option<u32>
         ensures none { result ≡ None → (self.old.order ≡ []) × (self.new ≡ self.old) }
-        ensures first { (frame : ℕ) → result ≡ Some frame → self.old ≡ record self.new { order = frame ∷ self.new.order } }
+        ensures first { (frame : ℕ) → result ≡ Some frame
+            → self.old ≡ record self.new { order = frame ∷ self.new.order } }
         ensures queue { IsQueue self.new }
     {
         let frame = self.first?;

@@ -1,11 +1,15 @@
--- The rows of frames.
-use Rattle.std.specs.Prelude.{ℕ, List, None, false, slice_index_or}
+-- The rows of frames. Public clauses cite this.
+use Rattle.std.specs.Prelude.{ℕ, Bool, ◌||◌, List, None, false, slice_index_or}
 use Rattle.page_lock.specs.declared.Row.{Row}
 
 -- nobody holds the frame or keeps it, and no bit is set
 abbrev pub clear_row : Row
-clear_row = record { holder = None; keeps = 0; gone = false; referenced = false; modified = false }
+clear_row = record { holder = None; keeps = 0; gone = false; referenced = false; modified = false; rewritten = false; snapshot = None; source = None }
 
 -- the row of a frame
 abbrev pub row_at : List Row → ℕ → Row
 row_at rows frame = slice_index_or rows frame clear_row
+
+-- the row with other bits: a page that is modified counts as rewritten
+abbrev pub with_bits : Row → Bool → Bool → Row
+with_bits row referenced modified = record row { referenced = referenced; modified = modified; rewritten = row.rewritten || modified }

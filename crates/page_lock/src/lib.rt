@@ -2,7 +2,7 @@
 #![tactic(auto)]
 
 ghost use Rattle.std.specs.Prelude.{◌≡◌, ◌+◌, ◌-◌, ◌^◌, ◌<◌, true, false, Some, None, IsSome, IfOk, nat_lt, length, replicate, slice_set};
-ghost use Rattle.page_lock.specs.Rows.{row_at, clear_row};
+ghost use Rattle.page_lock.specs.Rows.{row_at, clear_row, with_bits};
 
 use std::alloc::{AllocError, Global};
 use std::marker::Model;
@@ -26,6 +26,12 @@ pub struct Row {
     pub referenced: bool,
     /// Whether the page differs from what its disk has.
     pub modified: bool,
+    /// Whether the page was written since its last snapshot went out.
+    pub rewritten: bool,
+    /// The frame that is away with a snapshot of this frame's page.
+    pub snapshot: Option<u32>,
+    /// The frame whose page this frame, which is away, has a snapshot of.
+    pub source: Option<u32>,
 }
 
 impl Row {
@@ -36,6 +42,9 @@ impl Row {
         gone: false,
         referenced: false,
         modified: false,
+        rewritten: false,
+        snapshot: None,
+        source: None,
     };
 }
 
@@ -76,7 +85,8 @@ impl PageLocks {
     pub fn lock(&mut self, frame: u32, seat: u32)
         requires frame { frame < length self.old }
         requires unheld { (row_at self.old frame).holder ≡ None }
-        ensures { self.new ≡ slice_set self.old frame (record (row_at self.old frame) { holder = Some seat }) }
+        ensures { self.new ≡ slice_set self.old frame (record
+            (row_at self.old frame) { holder = Some seat }) }
     {
         self.rows[frame as usize].holder = Some(seat);
     }
@@ -86,7 +96,8 @@ impl PageLocks {
         requires frame { frame < length self.old }
         requires held { IsSome (row_at self.old frame).holder }
         ensures gone { result ≡ (row_at self.old frame).gone }
-        ensures new { self.new ≡ slice_set self.old frame (record (row_at self.old frame) { holder = None; gone = false }) }
+        ensures new { self.new ≡ slice_set self.old frame (record
+            (row_at self.old frame) { holder = None; gone = false }) }
     {
         let row = &mut self.rows[frame as usize];
         let gone = row.gone;
@@ -99,7 +110,8 @@ impl PageLocks {
     pub fn abort(&mut self, frame: u32)
         requires frame { frame < length self.old }
         requires held { IsSome (row_at self.old frame).holder }
-        ensures { self.new ≡ slice_set self.old frame (record (row_at self.old frame) { gone = true }) }
+        ensures { self.new ≡ slice_set self.old frame (record
+            (row_at self.old frame) { gone = true }) }
     {
         self.rows[frame as usize].gone = true;
     }
@@ -116,7 +128,10 @@ impl PageLocks {
     pub fn keep(&mut self, frame: u32)
         requires frame { frame < length self.old }
         requires room { (row_at self.old frame).keeps < 2 ^ 32 - 1 }
-        ensures { self.new ≡ slice_set self.old frame (record (row_at self.old frame) { keeps = (row_at self.old frame).keeps + 1 }) }
+        ensures { self.new ≡ slice_set self.old frame (record (row_at self.old frame) {
+          keeps =
+              (row_at self.old frame).keeps + 1;
+        }) }
     {
         self.rows[frame as usize].keeps += 1;
     }
@@ -125,7 +140,10 @@ impl PageLocks {
     pub fn unkeep(&mut self, frame: u32)
         requires frame { frame < length self.old }
         requires kept { 0 < (row_at self.old frame).keeps }
-        ensures { self.new ≡ slice_set self.old frame (record (row_at self.old frame) { keeps = (row_at self.old frame).keeps - 1 }) }
+        ensures { self.new ≡ slice_set self.old frame (record (row_at self.old frame) {
+          keeps =
+              (row_at self.old frame).keeps - 1;
+        }) }
     {
         self.rows[frame as usize].keeps -= 1;
     }
@@ -138,14 +156,24 @@ impl PageLocks {
         self.rows[frame as usize].keeps > 0
     }
 
-    /// Sets both bits of the frame to these.
+    /// Makes the frame's row this.
+    pub fn set_row(&mut self, frame: u32, row: Row)
+        requires { frame < length self.old }
+        ensures { self.new ≡ slice_set self.old frame row }
+    {
+        self.rows[frame as usize] = row;
+    }
+
+    /// Sets both bits of the frame to these. A page that is modified counts as rewritten.
     pub fn set_bits(&mut self, frame: u32, referenced: bool, modified: bool)
         requires { frame < length self.old }
-        ensures { self.new ≡ slice_set self.old frame (record (row_at self.old frame) { referenced = referenced; modified = modified }) }
+        ensures { self.new ≡ slice_set self.old frame (with_bits
+            (row_at self.old frame) referenced modified) }
     {
         let row = &mut self.rows[frame as usize];
         row.referenced = referenced;
         row.modified = modified;
+        row.rewritten = row.rewritten || modified;
     }
 
     /// Whether the frame is referenced, and whether it is modified.

@@ -14,6 +14,8 @@ fn a_lock_is_given_and_taken_back(rt: HostRuntime) -> Result<(), Fail> {
     assert_eq!(rt; locks.holder(1), Some(7));
     assert_eq!(rt; locks.row(1), HELD);
     assert_eq!(rt; locks.row(2), Row::CLEAR);
+    locks.set_row(2, HELD);
+    assert_eq!(rt; locks.row(2), HELD);
     assert!(rt; !locks.unlock(1));
     assert_eq!(rt; locks.row(1), Row::CLEAR);
     Ok(())

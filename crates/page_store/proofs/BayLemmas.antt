@@ -4,9 +4,9 @@ use Rattle.std.specs.Prelude.{slice_index}
 use Rattle.std.proofs.lemmas.List.{get_or-set_other, take_more, map-append}
 use Rattle.std.proofs.Math.ListN.{length-set}
 use Rattle.block_device.specs.DiskSeen.{DiskSeen}
-use Rattle.page_store.specs.Bays.{BaySeen, missing, home, bay_at, placed, pairs_seen, numbers_of, AreNumbers, disk_in, disks_in}
+use Rattle.page_store.specs.Bays.{BaySeen, missing, home, bay_at, bays_with, pairs_seen, numbers_of, AreNumbers, disk_in, disks_in}
 
-pub placed-append : (xs : List (ℕ × DiskSeen)) (d : ℕ × DiskSeen) (bays : List BaySeen) → placed (xs ++ d ∷ []) bays ≡ placed xs (set bays d.0 (home d.1))
+pub placed-append : (xs : List (ℕ × DiskSeen)) (d : ℕ × DiskSeen) (bays : List BaySeen) → bays_with (xs ++ d ∷ []) bays ≡ bays_with xs (set bays d.0 (home d.1))
 placed-append [] d bays = refl
 placed-append (x ∷ xs) d bays = ap (λ (l : List BaySeen). set l x.0 (home x.1)) (placed-append xs d bays)
 
@@ -14,9 +14,9 @@ pub pairs-append : {D : Type 0} (seen : D → DiskSeen) (xs : List (ℕ × D)) (
 pairs-append seen [] d = refl
 pairs-append seen (x ∷ xs) d = ap (λ (l : List (ℕ × DiskSeen)). (x.0, seen x.1) ∷ l) (pairs-append seen xs d)
 
-pub length-placed : (xs : List (ℕ × DiskSeen)) (bays : List BaySeen) → length (placed xs bays) ≡ length bays
+pub length-placed : (xs : List (ℕ × DiskSeen)) (bays : List BaySeen) → length (bays_with xs bays) ≡ length bays
 length-placed [] bays = refl
-length-placed (x ∷ xs) bays = length-set (placed xs bays) x.0 (home x.1) ∙ length-placed xs bays
+length-placed (x ∷ xs) bays = length-set (bays_with xs bays) x.0 (home x.1) ∙ length-placed xs bays
 
 -- numbers below 8, one by one
 abbrev pub AreBelow : {D : Type 0} → List (ℕ × D) → Type 0

@@ -1,121 +1,102 @@
--- The table of extents and slots is apart.
-use Rattle.std.proofs.Common.{◌≡◌, ℕ, ◌+◌, ◌<◌, ◌==◌, ◌&&◌, Bool, true, false, cond, ◌⊎◌, inl, inr, List, [], ◌∷◌, zero, suc, refl, sym, ◌∙◌, ap, arith, length}
-use Rattle.std.specs.Prelude.{nat_lt}
+-- The table of files and slots is apart.
+use Rattle.std.proofs.Common.{◌≡◌, ℕ, ◌+◌, ◌<◌, ◌≤◌, Bool, true, cond, ◌⊎◌, inl, inr, List, sym, ◌∙◌, ap, arith, length}
+use Rattle.std.specs.Prelude.{slice_get, Option, Some, None, option_map, option_and_then, unwrap_or, if◌then◌else◌}
+use Rattle.std.proofs.lemmas.Option.{slice_get_cases}
 use Rattle.std.proofs.lemmas.Bool.{cases_Bool}
 use Rattle.std.proofs.lemmas.Bool.Decides.{nat_tests}
 use Rattle.page_hash.specs.declared.PageName.{PageName}
 use Rattle.page_store.specs.declared.place.Place.{Place}
-use Rattle.page_store.specs.declared.place.Extent.{Extent}
-use Rattle.page_store.specs.Layout.{AreDisjoint, extent_at, is_page, is_slot, page_place, slot_place, own_place, table_of}
-use Rattle.page_store.specs.Table.{IsApart}
+use Rattle.page_store.specs.Layout.{FileBlocks, KeepsPage, AreDisjoint, page_place, slot_place, own_place, file_page_place, is_slot, table_of, TableOfFiles, LayoutLaw}
 
 same_name : (m n : PageName) → m.object ≡ n.object → m.page ≡ n.page → m ≡ n
 same_name m n a b = ap (λ (x : ℕ). record { object = x; page = m.page }) a ∙ ap (λ (x : ℕ). record { object = n.object; page = x }) b
 
--- a number whose extent has a page is a file's
-pub extent-within : (extents : List Extent) (k j : ℕ) → j < (extent_at extents k).pages → k < length extents
-extent-within [] k j h = absurd (omega (arith, h))
-extent-within (x ∷ more) zero j h = omega arith
-extent-within (x ∷ more) (suc k) j h = let r = extent-within more k j h in omega arith
+slot_of_test : (slots : ℕ) (n : PageName) → is_slot slots n ≡ true → n.object ≡ 64
+slot_of_test slots n h = grind (arith, nat_tests)
 
-less : (a b : ℕ) → nat_lt a b ≡ true → a < b
-less a b h = grind (arith, nat_tests)
+none_past : {A : Type 0} (xs : List A) (i : ℕ) → length xs ≤ i → slice_get xs i ≡ None
+none_past xs i past = elim ((slice_get_cases xs i).1) [
+  | inl (x, inside, at, same) ↦ absurd (omega (arith, inside, past))
+  | inr (far, none) ↦ none
+]
 
-both_left : (a b : Bool) → (a && b) ≡ true → a ≡ true
-both_left true b h = refl
-both_left false b h = cc
+-- A place of a name: that of a page which a file keeps, that of a slot, or its own.
+abbrev PlaceCases : List FileBlocks → (PageName → Bool) → PageName → Place → Type 0
+PlaceCases files blank n place =
+    ((file : FileBlocks) × (block : ℕ) × KeepsPage files n file block × (place ≡ page_place file n.page (blank n) block))
+    ⊎ (((n.object ≡ 64) × (place ≡ slot_place n.page (blank n))) ⊎ (place ≡ own_place n))
 
-is_64 : (a : ℕ) → (a == 64) ≡ true → a ≡ 64
-is_64 a h = grind (arith, nat_tests)
+module _ (files : List FileBlocks) (slots : ℕ) (blank : PageName → Bool) where
+  abbrev other : PageName → Place
+  other n = if is_slot slots n then slot_place n.page (blank n) else own_place n
 
-module _ (extents : List Extent) (slots : ℕ) (blank : PageName → Bool) where
-  -- a name is a page of a file, or a slot, or has a place of its own
-  pub place-cases : (n : PageName) → ((n.page < (extent_at extents n.object).pages) × (table_of extents slots blank n ≡ page_place (extent_at extents n.object) n.page (blank n)))
-      ⊎ (((n.object ≡ 64) × (table_of extents slots blank n ≡ slot_place n.page (blank n))) ⊎ (table_of extents slots blank n ≡ own_place n))
-  place-cases n =
-      let page : Place = page_place (extent_at extents n.object) n.page (blank n) in
-      let slot : Place = slot_place n.page (blank n) in
-      elim (cases_Bool (is_page extents n)) [
-        | inl t ↦ inl (less n.page (extent_at extents n.object).pages t, ap (λ (b : Bool). cond b page (cond (is_slot slots n) slot (own_place n))) t)
-        | inr f ↦ elim (cases_Bool (is_slot slots n)) [
-          | inl t ↦ inr (inl (
-            is_64 n.object (both_left (n.object == 64) (nat_lt n.page slots) t),
-            ap (λ (b : Bool). cond b page (cond (is_slot slots n) slot (own_place n))) f ∙ ap (λ (b : Bool). cond b slot (own_place n)) t,
-          ))
-          | inr g ↦ inr (inr (ap (λ (b : Bool). cond b page (cond (is_slot slots n) slot (own_place n))) f ∙ ap (λ (b : Bool). cond b slot (own_place n)) g))
-        ]
+  slot_cases : (n : PageName) → file_page_place files n (blank n) ≡ None → PlaceCases files blank n (table_of files slots blank n)
+  slot_cases n none =
+      let at : table_of files slots blank n ≡ other n = ap (λ (o : Option Place). unwrap_or o (other n)) none in
+      elim (cases_Bool (is_slot slots n)) [
+        | inl t ↦ inr (inl (slot_of_test slots n t, at ∙ ap (λ (b : Bool). cond b (slot_place n.page (blank n)) (own_place n)) t))
+        | inr f ↦ inr (inr (at ∙ ap (λ (b : Bool). cond b (slot_place n.page (blank n)) (own_place n)) f))
       ]
 
-  disk_of : (n : PageName) (p : Place) → table_of extents slots blank n ≡ p → (table_of extents slots blank n).disk ≡ p.disk
-  disk_of n p e = ap (λ (x : Place). x.disk) e
+  page_in : (n : PageName) (file : FileBlocks) → slice_get files n.object ≡ Some file
+      → file_page_place files n (blank n) ≡ option_map (page_place file n.page (blank n)) (slice_get file.blocks n.page)
+  page_in n file h = ap (λ (o : Option FileBlocks). option_and_then (λ f. option_map (page_place f n.page (blank n)) (slice_get f.blocks n.page)) o) h
 
-  block_of : (n : PageName) (p : Place) → table_of extents slots blank n ≡ p → (table_of extents slots blank n).block ≡ p.block
-  block_of n p e = ap (λ (x : Place). x.block) e
+  pub kept-place : (n : PageName) (file : FileBlocks) (block : ℕ) → KeepsPage files n file block → table_of files slots blank n ≡ page_place file n.page (blank n) block
+  kept-place n file block k =
+      ap (λ (o : Option Place). unwrap_or o (other n)) (page_in n file k.number ∙ ap (λ (o : Option ℕ). option_map (page_place file n.page (blank n)) o) k.place)
 
-  file_disk : AreDisjoint extents → (n : PageName) → n.page < (extent_at extents n.object).pages → (extent_at extents n.object).disk < 8
-  file_disk disjoint n h = disjoint.disks n.object (extent-within extents n.object n.page h)
-
-  two_pages : AreDisjoint extents → (m n : PageName) → m.page < (extent_at extents m.object).pages → n.page < (extent_at extents n.object).pages
-      → (extent_at extents m.object).disk ≡ (extent_at extents n.object).disk → (extent_at extents m.object).start + m.page ≡ (extent_at extents n.object).start + n.page → m ≡ n
-  two_pages disjoint m n a b d e =
-      let f : m.object ≡ n.object = disjoint.apart m.object n.object m.page n.page a b d e in
-      let g : (extent_at extents m.object).start ≡ (extent_at extents n.object).start = ap (λ (k : ℕ). (extent_at extents k).start) f in
-      let p : m.page ≡ n.page = omega (arith, e, g) in
-      same_name m n f p
-
-  pub table-apart : AreDisjoint extents → IsApart (table_of extents slots blank)
-  table-apart disjoint m n d e = elim (place-cases m) [
-    | inl p ↦
-        let dm = disk_of m (page_place (extent_at extents m.object) m.page (blank m)) p.1 in
-        let bm = block_of m (page_place (extent_at extents m.object) m.page (blank m)) p.1 in
-        let low = file_disk disjoint m p.0 in
-        elim (place-cases n) [
-          | inl q ↦
-              let dn = disk_of n (page_place (extent_at extents n.object) n.page (blank n)) q.1 in
-              let bn = block_of n (page_place (extent_at extents n.object) n.page (blank n)) q.1 in
-              two_pages disjoint m n p.0 q.0 (sym dm ∙ d ∙ dn) (sym bm ∙ e ∙ bn)
-          | inr r ↦ elim r [
-            | inl q ↦ let dn = disk_of n (slot_place n.page (blank n)) q.1 in
-                let z : (extent_at extents m.object).disk ≡ 8 = sym dm ∙ d ∙ dn in absurd (omega (arith, z, low))
-            | inr q ↦ let dn = disk_of n (own_place n) q in
-                let z : (extent_at extents m.object).disk ≡ n.object + 9 = sym dm ∙ d ∙ dn in absurd (omega (arith, z, low))
-          ]
-        ]
-    | inr r ↦ elim r [
-      | inl p ↦
-          let dm = disk_of m (slot_place m.page (blank m)) p.1 in
-          let bm = block_of m (slot_place m.page (blank m)) p.1 in
-          elim (place-cases n) [
-            | inl q ↦
-                let dn = disk_of n (page_place (extent_at extents n.object) n.page (blank n)) q.1 in
-                let low = file_disk disjoint n q.0 in
-                let z : 8 ≡ (extent_at extents n.object).disk = sym dm ∙ d ∙ dn in absurd (omega (arith, z, low))
-            | inr s ↦ elim s [
-              | inl q ↦
-                  let bn = block_of n (slot_place n.page (blank n)) q.1 in
-                  same_name m n (p.0 ∙ sym q.0) (sym bm ∙ e ∙ bn)
-              | inr q ↦ let dn = disk_of n (own_place n) q in
-                  let z : 8 ≡ n.object + 9 = sym dm ∙ d ∙ dn in absurd (omega (arith, z))
-            ]
-          ]
-      | inr p ↦
-          let dm = disk_of m (own_place m) p in
-          let bm = block_of m (own_place m) p in
-          elim (place-cases n) [
-            | inl q ↦
-                let dn = disk_of n (page_place (extent_at extents n.object) n.page (blank n)) q.1 in
-                let low = file_disk disjoint n q.0 in
-                let z : m.object + 9 ≡ (extent_at extents n.object).disk = sym dm ∙ d ∙ dn in absurd (omega (arith, z, low))
-            | inr s ↦ elim s [
-              | inl q ↦ let dn = disk_of n (slot_place n.page (blank n)) q.1 in
-                  let z : m.object + 9 ≡ 8 = sym dm ∙ d ∙ dn in absurd (omega (arith, z))
-              | inr q ↦
-                  let dn = disk_of n (own_place n) q in
-                  let bn = block_of n (own_place n) q in
-                  let z : m.object + 9 ≡ n.object + 9 = sym dm ∙ d ∙ dn in
-                  let f : m.object ≡ n.object = omega (arith, z) in
-                  same_name m n f (sym bm ∙ e ∙ bn)
-            ]
-          ]
+  pub place-cases : (n : PageName) → PlaceCases files blank n (table_of files slots blank n)
+  place-cases n = elim ((slice_get_cases files n.object).1) [
+    | inl (file, inside, at, same) ↦ elim ((slice_get_cases file.blocks n.page).1) [
+      | inl (block, within, here, equal) ↦
+          let k : KeepsPage files n file block = record { number = at; place = here } in inl (file, block, k, kept-place n file block k)
+      | inr (past, none) ↦ slot_cases n (page_in n file at ∙ ap (λ (o : Option ℕ). option_map (page_place file n.page (blank n)) o) none)
     ]
+    | inr (past, none) ↦
+        slot_cases n (ap (λ (o : Option FileBlocks). option_and_then (λ f. option_map (page_place f n.page (blank n)) (slice_get f.blocks n.page)) o) none)
   ]
+
+  -- two places on one disk, in one block, are those of one name
+  meet : AreDisjoint files → (m n : PageName) (p q : Place) → PlaceCases files blank m p → PlaceCases files blank n q → p.disk ≡ q.disk → p.block ≡ q.block → m ≡ n
+  meet d m n p q (inl (f, b, k, same)) (inl (g, c, l, equal)) disk block =
+      let on : f.disk ≡ g.disk = sym (ap (λ (x : Place). x.disk) same) ∙ disk ∙ ap (λ (x : Place). x.disk) equal in
+      let at : b ≡ c = sym (ap (λ (x : Place). x.block) same) ∙ block ∙ ap (λ (x : Place). x.block) equal in
+      d.apart m n f g c (record { number = k.number; place = k.place ∙ ap (λ (x : ℕ). Some x) at }) l on
+  meet d m n p q (inl (f, b, k, same)) (inr (inl (swap, equal))) disk block =
+      let on : f.disk ≡ 8 = sym (ap (λ (x : Place). x.disk) same) ∙ disk ∙ ap (λ (x : Place). x.disk) equal in absurd (omega (arith, on, d.disks m f b k))
+  meet d m n p q (inl (f, b, k, same)) (inr (inr equal)) disk block =
+      let on : f.disk ≡ n.object + 9 = sym (ap (λ (x : Place). x.disk) same) ∙ disk ∙ ap (λ (x : Place). x.disk) equal in absurd (omega (arith, on, d.disks m f b k))
+  meet d m n p q (inr (inl (swap, same))) (inl (g, c, l, equal)) disk block =
+      let on : 8 ≡ g.disk = sym (ap (λ (x : Place). x.disk) same) ∙ disk ∙ ap (λ (x : Place). x.disk) equal in absurd (omega (arith, on, d.disks n g c l))
+  meet d m n p q (inr (inl (swap, same))) (inr (inl (too, equal))) disk block =
+      same_name m n (swap ∙ sym too) (sym (ap (λ (x : Place). x.block) same) ∙ block ∙ ap (λ (x : Place). x.block) equal)
+  meet d m n p q (inr (inl (swap, same))) (inr (inr equal)) disk block =
+      let on : 8 ≡ n.object + 9 = sym (ap (λ (x : Place). x.disk) same) ∙ disk ∙ ap (λ (x : Place). x.disk) equal in absurd (omega (arith, on))
+  meet d m n p q (inr (inr same)) (inl (g, c, l, equal)) disk block =
+      let on : m.object + 9 ≡ g.disk = sym (ap (λ (x : Place). x.disk) same) ∙ disk ∙ ap (λ (x : Place). x.disk) equal in absurd (omega (arith, on, d.disks n g c l))
+  meet d m n p q (inr (inr same)) (inr (inl (too, equal))) disk block =
+      let on : m.object + 9 ≡ 8 = sym (ap (λ (x : Place). x.disk) same) ∙ disk ∙ ap (λ (x : Place). x.disk) equal in absurd (omega (arith, on))
+  meet d m n p q (inr (inr same)) (inr (inr equal)) disk block =
+      let on : m.object + 9 ≡ n.object + 9 = sym (ap (λ (x : Place). x.disk) same) ∙ disk ∙ ap (λ (x : Place). x.disk) equal in
+      let object : m.object ≡ n.object = omega (arith, on) in
+      same_name m n object (sym (ap (λ (x : Place). x.block) same) ∙ block ∙ ap (λ (x : Place). x.block) equal)
+
+  slot-place : length files ≤ 64 → (slot : ℕ) → slot < slots
+      → table_of files slots blank (record { object = 64; page = slot }) ≡ slot_place slot (blank (record { object = 64; page = slot }))
+  slot-place few slot low =
+      let n : PageName = record { object = 64; page = slot } in
+      let none : slice_get files 64 ≡ None = none_past files 64 few in
+      let here : is_slot slots n ≡ true = grind (arith, nat_tests, low) in
+      ap (λ (o : Option Place). unwrap_or o (other n)) (ap (λ (o : Option FileBlocks). option_and_then (λ f. option_map (page_place f slot (blank n)) (slice_get f.blocks slot)) o) none)
+      ∙ ap (λ (b : Bool). cond b (slot_place slot (blank n)) (own_place n)) here
+
+  pub table-of-files : TableOfFiles files slots blank
+  table-of-files = record {
+    page = kept-place;
+    slot = slot-place;
+    apart = λ d m n disk block. meet d m n (table_of files slots blank m) (table_of files slots blank n) (place-cases m) (place-cases n) disk block;
+  }
+
+pub layout_law : LayoutLaw
+layout_law = record { table = λ files slots blank. table-of-files files slots blank }

@@ -8,9 +8,9 @@ use Rattle.page_hash.specs.declared.PageName.{PageName}
 use Rattle.page_hash.proofs.NameLaws.{find-at, find-some}
 use Rattle.page_lock.specs.Rows.{row_at}
 use Rattle.page_lock.specs.declared.Row.{Row}
-use Rattle.page_store.specs.Seen.{StoreSeen, IsSound, residence, residence_in, residence_of}
-use Rattle.page_store.specs.Steps.{first_of}
-use Rattle.page_store.specs.Waits.{IsVictim, Chooses}
+use Rattle.page_store.specs.Seen.{StoreSeen, IsSoundStore, residence, residence_in, residence_of}
+use Rattle.page_lists.specs.ListsSeen.{first_of}
+use Rattle.page_store.specs.Waits.{IsVictim, ChoosesPage}
 use Rattle.page_store.specs.declared.residence.Residence.TheVariants.{Home, Absent}
 
 pub named-within : (names : List (Option PageName)) (k : ℕ) (n : PageName) → name_at names k ≡ Some n → k < length names
@@ -34,10 +34,10 @@ held-within (b ∷ more) zero t h = omega arith
 held-within (b ∷ more) (suc k) t h = let r = held-within more k t h in omega arith
 
 -- a frame that is found is one of the frames
-pub found-within : (s : StoreSeen) (n : PageName) (k : ℕ) → IsSound s → find s.names n ≡ Some k → k < length s.frames
+pub found-within : (s : StoreSeen) (n : PageName) (k : ℕ) → IsSoundStore s → find s.names n ≡ Some k → k < length s.frames
 found-within s n k sound h = let a = named-within s.names k n (find-at s.names n k h) in let b = sound.names in omega arith
 
-pub found-row : (s : StoreSeen) (n : PageName) (k : ℕ) → IsSound s → find s.names n ≡ Some k → k < length s.rows
+pub found-row : (s : StoreSeen) (n : PageName) (k : ℕ) → IsSoundStore s → find s.names n ≡ Some k → k < length s.rows
 found-row s n k sound h = let a = found-within s n k sound h in let b = sound.rows in omega arith
 
 -- a page that is home is in a frame, with its bytes
@@ -78,11 +78,11 @@ absent_in s k (Some bytes) h w r = cc
 absent_in s k None (Some t) w r = cc
 absent_in s k None None w r = let z : true ≡ false = w in cc
 
-absent_at : (s : StoreSeen) (page : PageName) (o : Option ℕ) → IsSound s → find s.names page ≡ o → residence_in o s ≡ Absent → find s.names page ≡ None
+absent_at : (s : StoreSeen) (page : PageName) (o : Option ℕ) → IsSoundStore s → find s.names page ≡ o → residence_in o s ≡ Absent → find s.names page ≡ None
 absent_at s page None sound e r = e
 absent_at s page (Some k) sound e r = absurd (absent_in s k (bytes_at s.frames k) (row_at s.rows k).holder (sound.each k (found-within s page k sound e)).away r)
 
-pub absent-is : (s : StoreSeen) (page : PageName) → IsSound s → residence s page ≡ Absent → find s.names page ≡ None
+pub absent-is : (s : StoreSeen) (page : PageName) → IsSoundStore s → residence s page ≡ Absent → find s.names page ≡ None
 absent-is s page sound r = absent_at s page (find s.names page) sound refl r
 
 -- a page whose frame is home is there
@@ -101,15 +101,15 @@ available-back [] (x ∷ xs) h = inr (λ q. cc)
 available-back (x ∷ xs) cached h = inl (λ q. cc)
 
 -- a frame that can be pushed out holds a name
-pub victim-named : (s : StoreSeen) (frame : ℕ) (o : Option PageName) → IsSound s → IsVictim s frame → name_at s.names frame ≡ o → o ≡ None → ⊥
+pub victim-named : (s : StoreSeen) (frame : ℕ) (o : Option PageName) → IsSoundStore s → IsVictim s frame → name_at s.names frame ≡ o → o ≡ None → ⊥
 victim-named s frame o sound v e n = v.unlisted (inl (sound.spare frame v.here (e ∙ n)))
 
-pub victim-chosen : (s : StoreSeen) (frame : ℕ) (o : Option PageName) → IsSound s → IsVictim s frame → name_at s.names frame ≡ o → IfSome o (λ (n : PageName). Chooses s (Some n))
+pub victim-chosen : (s : StoreSeen) (frame : ℕ) (o : Option PageName) → IsSoundStore s → IsVictim s frame → name_at s.names frame ≡ o → IfSome o (λ (n : PageName). ChoosesPage s (Some n))
 victim-chosen s frame None sound v e = absurd (victim-named s frame None sound v e refl)
 victim-chosen s frame (Some n) sound v e = (frame, residence-home s n frame sound.distinct e v.here, v)
 
 pub none-chosen : (s : StoreSeen) (hand count : ℕ) → count ≡ length s.frames
-    → ((frame : ℕ) → hand ≤ frame → frame < count → IsVictim s frame → ⊥) → ((frame : ℕ) → 0 ≤ frame → frame < hand → IsVictim s frame → ⊥) → Chooses s None
+    → ((frame : ℕ) → hand ≤ frame → frame < count → IsVictim s frame → ⊥) → ((frame : ℕ) → 0 ≤ frame → frame < hand → IsVictim s frame → ⊥) → ChoosesPage s None
 none-chosen s hand count e high low frame v =
     let within : frame < length s.frames = some-within s.frames frame v.here in
     elim (cases_lt frame hand) [

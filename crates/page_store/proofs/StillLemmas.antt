@@ -7,7 +7,7 @@ use Rattle.page_store.specs.Bays.{BaySeen, home, bay_at, bay_of, numbers_of, IsS
 use Rattle.page_lists.specs.ListsSeen.{Has}
 use Rattle.page_lock.specs.Rows.{row_at, clear_row}
 use Rattle.page_lock.specs.declared.Row.{Row}
-use Rattle.page_store.specs.Fits.{Fits}
+use Rattle.page_store.specs.StoreFits.{StoreFits}
 use Rattle.page_store.specs.New.{IsNew}
 use Rattle.page_store.specs.Notes.{no_notes}
 use Rattle.page_store.specs.Seen.{StoreSeen}
@@ -51,7 +51,7 @@ clear_at (suc count) zero = refl
 clear_at (suc count) (suc k) = clear_at count k
 
 -- nothing is out of a new store, and no page is on its cache list
-pub new-fits : (s : StoreSeen) (count : ℕ) (disks : List (ℕ × DiskSeen)) (swap : Option DiskSeen) → IsNew s count disks swap → (table : Table) → IsApart table → Fits s no_notes table
+pub new-fits : (s : StoreSeen) (count : ℕ) (disks : List (ℕ × DiskSeen)) (swap : Option DiskSeen) → IsNew s count disks swap → (table : Table) → IsApart table → StoreFits s no_notes table
 new-fits s count disks swap new table apart = record {
   apart = apart;
   each_note = λ t note h. absurd (cc);

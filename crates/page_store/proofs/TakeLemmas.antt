@@ -1,8 +1,8 @@
 -- The first of the lists is taken.
 use Rattle.std.proofs.Common.{◌≡◌, ◌≢◌, ℕ, ◌⊎◌, inl, inr, List, [], ◌∷◌, Some, sym, ◌∙◌, subst}
 use Rattle.std.specs.Prelude.{◌↔◌}
-use Rattle.page_lists.specs.ListsSeen.{Has, IsOnce, AreApart}
-use Rattle.page_store.specs.Steps.{first_of, rest_free, rest_cached}
+use Rattle.page_lists.specs.ListsSeen.{Has, IsOnce, AreApart, first_of}
+use Rattle.page_store.specs.Steps.{rest_free, rest_cached}
 
 -- the frame that is taken was on one of the lists
 pub first-listed : (free cached : List ℕ) (f : ℕ) → first_of free cached ≡ Some f → Has free f ⊎ Has cached f

@@ -1,4 +1,4 @@
--- Where the disks are.
+-- Where the disks are. Public clauses cite this.
 use Rattle.std.specs.Prelude.{◌≡◌, ℕ, ◌<◌, List, [], ◌∷◌, Option, Some, None, slice_index_or, slice_index, slice_set, length, map}
 use Rattle.block_device.specs.DiskSeen.{DiskSeen}
 use Rattle.page_store.specs.declared.bays.Bay.{Bay}
@@ -59,9 +59,9 @@ abbrev pub disks_in : List BaySeen → List ℕ → List (ℕ × DiskSeen)
 disks_in bays numbers = map (λ number. (number, disk_in (bay_at bays number))) numbers
 
 -- the bays once numbered disks were put there, the last one first
-abbrev pub placed : List (ℕ × DiskSeen) → List BaySeen → List BaySeen
-placed [] bays = bays
-placed (disk ∷ more) bays = slice_set (placed more bays) disk.0 (home disk.1)
+abbrev pub bays_with : List (ℕ × DiskSeen) → List BaySeen → List BaySeen
+bays_with [] bays = bays
+bays_with (disk ∷ more) bays = slice_set (bays_with more bays) disk.0 (home disk.1)
 
 -- a bay with or without a disk
 abbrev pub bay_of : Option DiskSeen → BaySeen

@@ -1,4 +1,4 @@
--- The bytes of a page as a disk has them.
+-- The bytes of a page as a disk has them. Public clauses cite this.
 use Rattle.std.specs.Prelude.{ℕ, ◌-◌, ◌++◌, List, take, replicate}
 
 -- the first `valid` bytes, and zeros after them

@@ -1,6 +1,6 @@
--- What is seen of a flight, and what its transfer does.
-use Rattle.std.specs.Prelude.{◌≡◌, ℕ, Bool, true, false, List, [], Option, Result, Ok, Err, OnOk, IfSome, slice_index_or}
-use Rattle.block_device.specs.DiskSeen.{DiskSeen, with_block, Spoils}
+-- What is seen of a flight, and what its transfer does. Public clauses cite this.
+use Rattle.std.specs.Prelude.{◌≡◌, ◌<◌, ◌≤◌, ℕ, Bool, true, false, List, [], Option, Result, Ok, Err, OnOk, IfSome, slice_index_or, length}
+use Rattle.block_device.specs.DiskSeen.{DiskSeen, with_block, Spoils, HasBlocks}
 use Rattle.block_device.specs.Counts.{HasRisen, HasCause}
 use Rattle.page_hash.specs.declared.PageName.{PageName}
 use Rattle.page_store.specs.Bays.{BaySeen, home}
@@ -8,10 +8,10 @@ use Rattle.page_store.specs.Bytes.{clipped}
 use Rattle.page_store.specs.Notes.{Note}
 
 -- how far a transfer is
-pub data Outcome : Type 0 where
-  fresh : Outcome
-  done : Outcome
-  failed : Outcome
+pub data Progress : Type 0 where
+  fresh : Progress
+  done : Progress
+  failed : Progress
 
 -- A flight: the seat that it is for; the disk under its number; whether it writes; the page's name, block and valid bytes;
 -- the frame, by its core and number, with its bytes; the disk's count of faults before the transfer; and how far it is.
@@ -27,14 +27,14 @@ pub record FlightSeen : Type 0 where
   pub frame : ℕ
   pub bytes : List ℕ
   pub before : ℕ
-  pub outcome : Outcome
+  pub outcome : Progress
 
 -- the note of a flight before its transfer
 abbrev pub note_of : FlightSeen → Note
-note_of f = record { number = f.number; disk = f.disk; writes = f.writes; name = f.name; block = f.block; valid = f.valid; frame = f.frame; bytes = f.bytes }
+note_of f = record { seat = f.seat; origin = f.origin; number = f.number; disk = f.disk; writes = f.writes; name = f.name; block = f.block; valid = f.valid; frame = f.frame; bytes = f.bytes }
 
 -- A write left the first valid bytes in its block, with zeros after them; one that failed left some bytes there.
-abbrev pub IsWritten : Note → FlightSeen → Outcome → Type 0
+abbrev pub IsWritten : Note → FlightSeen → Progress → Type 0
 IsWritten note f fresh = ⊥
 IsWritten note f done = f.disk.content ≡ with_block note.disk.content note.block (clipped note.valid note.bytes)
 IsWritten note f failed = Spoils note.disk.content f.disk.content note.block
@@ -44,14 +44,18 @@ abbrev pub HasBlock : Option (List (List ℕ)) → ℕ → ℕ → List ℕ → 
 HasBlock content block valid bytes = IfSome content (λ blocks. bytes ≡ clipped valid (slice_index_or blocks block []))
 
 -- A read gave the block's bytes; one that failed gave any.
-abbrev pub IsRead : Note → FlightSeen → Outcome → Type 0
+abbrev pub IsRead : Note → FlightSeen → Progress → Type 0
 IsRead note f fresh = ⊥
 IsRead note f done = HasBlock note.disk.content note.block note.valid f.bytes
 IsRead note f failed = Unit {0}
 
--- What became of a flight since its note was taken: a write left the frame as it was and changed at most its block; a read
--- left the disk's blocks as they were.
+-- What became of a flight since its note was taken: it is the same transfer; a write left the frame as it was and changed at
+-- most its block; a read left the disk's blocks as they were. The counts are those of this transfer: none fell, and after a
+-- failure the count of faults rose. The block is one of the disk's, the disk is whole where it tells, and the frame has 4096
+-- bytes.
 pub record IsPerformed (note : Note) (f : FlightSeen) : Type 0 where
+  pub seat : f.seat ≡ note.seat
+  pub origin : f.origin ≡ note.origin
   pub number : f.number ≡ note.number
   pub size : f.disk.size ≡ note.disk.size
   pub direction : f.writes ≡ note.writes
@@ -63,9 +67,16 @@ pub record IsPerformed (note : Note) (f : FlightSeen) : Type 0 where
   pub written : note.writes ≡ true → IsWritten note f f.outcome
   pub read : note.writes ≡ false → IsRead note f f.outcome
   pub unchanged : note.writes ≡ false → f.disk.content ≡ note.disk.content
+  pub before : f.before ≡ note.disk.faults
+  pub later : note.disk.faults ≤ f.disk.faults
+  pub risen : f.outcome ≡ failed → HasRisen note.disk.faults f.disk.faults
+  pub within : note.block < note.disk.size
+  pub valid_within : note.valid ≤ 4096
+  pub whole : HasBlocks f.disk.content f.disk.size
+  pub bytes : length f.bytes ≡ 4096
 
 -- how far a transfer is that was answered so
-abbrev pub outcome_of : {E : Type 0} → Result (Unit {0}) E → Outcome
+abbrev pub outcome_of : {E : Type 0} → Result (Unit {0}) E → Progress
 outcome_of (Ok _) = done
 outcome_of (Err _) = failed
 

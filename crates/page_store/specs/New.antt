@@ -1,4 +1,4 @@
--- A new store.
+-- A new store. Public clauses cite this.
 use Rattle.std.specs.Prelude.{◌≡◌, ◌≢◌, ℕ, ◌<◌, ◌/◌, List, [], Option, Some, None, length, replicate, slice_index, slice_index_or}
 use Rattle.std.specs.List.{range_with_len}
 use Rattle.block_device.specs.DiskSeen.{DiskSeen}

@@ -1,11 +1,13 @@
--- What the seats have outside the store, as callers note it.
+-- What the seats have outside the store, as callers note it. Public clauses cite this.
 use Rattle.std.specs.Prelude.{ℕ, ◌==◌, Bool, if◌then◌else◌, List, Option, None}
 use Rattle.block_device.specs.DiskSeen.{DiskSeen}
 use Rattle.page_hash.specs.declared.PageName.{PageName}
 
--- what a seat took out, as it was when it went: the disk under its number, whether the transfer writes, the page's name,
--- block and valid bytes, and the frame with its bytes
+-- What a seat took out, as it was when it went: the seat and the core that its frame is of; the disk under its number;
+-- whether the transfer writes; the page's name, block and valid bytes; and the frame with its bytes.
 pub record Note : Type 0 where
+  pub seat : ℕ
+  pub origin : ℕ
   pub number : ℕ
   pub disk : DiskSeen
   pub writes : Bool

@@ -1,5 +1,6 @@
--- What callers see of a store, and what holds of every store.
-use Rattle.std.specs.Prelude.{◌≡◌, ◌≢◌, ℕ, ◌<◌, ◌^◌, ◌⊎◌, ◌&&◌, List, Option, Some, None, IsSome, length, is_some, is_none, slice_index}
+-- What callers see of a store, and what holds of every store. Public clauses cite this.
+use Rattle.std.specs.Prelude.{◌≡◌, ◌≢◌, ℕ, ◌<◌, ◌^◌, ◌⊎◌, ◌&&◌, ◌||◌, true, List, Option, Some, None, IsSome, length, is_some, is_none, slice_index, unwrap_or}
+use Rattle.block_device.specs.DiskSeen.{DiskSeen, HasBlocks}
 use Rattle.core_arena.specs.Bytes.{bytes_at}
 use Rattle.core_arena.specs.Seen.{CoreSeen}
 use Rattle.page_clock.specs.Seen.{ClockSeen}
@@ -8,13 +9,13 @@ use Rattle.page_hash.specs.declared.PageName.{PageName}
 use Rattle.page_lists.specs.ListsSeen.{ListsSeen, Has, AreApart}
 use Rattle.page_lock.specs.Rows.{row_at}
 use Rattle.page_lock.specs.declared.Row.{Row}
-use Rattle.page_store.specs.Bays.{BaySeen, missing, bay_at, AreNumbers}
+use Rattle.page_store.specs.Bays.{BaySeen, missing, home, bay_at, AreNumbers}
 use Rattle.page_store.specs.declared.residence.Residence.{Residence}
 use Rattle.page_store.specs.declared.residence.Residence.TheVariants.{Home, Moving, Absent}
 
 -- A store: the core that its frames come from; by frame the bytes (None where it is away), the name that it holds and its
--- row of lock, keeps and bits; the free list and the cache list; where each disk is, by number, with 8 for the swap disk;
--- the numbers of the other disks in the order in which they came; and the clock.
+-- row of lock, keeps, bits and snapshot; the free list and the cache list; where each disk is, by number, with 8 for the
+-- swap disk; the numbers of the other disks in the order in which they came; and the clock.
 pub record StoreSeen : Type 0 where
   pub origin : ℕ
   pub frames : List (Option (List ℕ))
@@ -41,19 +42,36 @@ store_of core names lists rows clock bays order = record {
 }
 
 -- the lists of a store
-abbrev pub lists_of : StoreSeen → ListsSeen
-lists_of s = record { frames = length s.frames; free = s.free; cached = s.cached }
+abbrev pub lists_seen : StoreSeen → ListsSeen
+lists_seen s = record { frames = length s.frames; free = s.free; cached = s.cached }
 
--- a frame is on one of the lists
-abbrev pub IsListed : StoreSeen → ℕ → Type 0
-IsListed s frame = Has s.free frame ⊎ Has s.cached frame
+-- a frame is on the free list or on the cache list
+abbrev pub IsListedFrame : StoreSeen → ℕ → Type 0
+IsListedFrame s frame = Has s.free frame ⊎ Has s.cached frame
 
--- A frame has 4096 bytes; it is away exactly where a seat holds its lock; its page is gone exactly where it is held
--- without a name.
-pub record IsFrame (bytes : Option (List ℕ)) (name : Option PageName) (row : Row) : Type 0 where
+-- the page that a frame has, which is away, was given up meanwhile
+abbrev pub IsGone : StoreSeen → ℕ → Type 0
+IsGone s frame = (row_at s.rows frame).gone ≡ true
+
+-- the own frame of the page that a frame has: another one where this frame has a snapshot of it
+abbrev pub own_frame : StoreSeen → ℕ → ℕ
+own_frame s frame = unwrap_or (row_at s.rows frame).source frame
+
+-- A frame has 4096 bytes; it is away exactly where a seat holds its lock; one that is held has no name exactly where its
+-- page is gone or it has a snapshot, and not both.
+pub record FrameAgrees (bytes : Option (List ℕ)) (name : Option PageName) (row : Row) : Type 0 where
   pub size : (b : List ℕ) → bytes ≡ Some b → length b ≡ 4096
   pub away : is_none bytes ≡ is_some row.holder
-  pub gone : row.gone ≡ (is_some row.holder && is_none name)
+  pub unnamed : (is_some row.holder && is_none name) ≡ (row.gone || is_some row.source)
+  pub torn : row.gone ≡ true → row.source ≡ None
+
+-- A page and its snapshot know each other, and a page of which a snapshot is away is home, on no list.
+pub record ArePaired (s : StoreSeen) : Type 0 where
+  pub source : (own copy : ℕ) → (row_at s.rows own).snapshot ≡ Some copy → (row_at s.rows copy).source ≡ Some own
+  pub snapshot : (own copy : ℕ) → (row_at s.rows copy).source ≡ Some own → (row_at s.rows own).snapshot ≡ Some copy
+  pub home : (own copy : ℕ) → (row_at s.rows own).snapshot ≡ Some copy → IsSome (bytes_at s.frames own)
+  pub named : (own copy : ℕ) → (row_at s.rows own).snapshot ≡ Some copy → IsSome (name_at s.names own)
+  pub unlisted : (own copy : ℕ) → (row_at s.rows own).snapshot ≡ Some copy → ¬ IsListedFrame s own
 
 -- the disks of these numbers are there
 pub record IsOrder (bays : List BaySeen) (order : List ℕ) : Type 0 where
@@ -61,8 +79,9 @@ pub record IsOrder (bays : List BaySeen) (order : List ℕ) : Type 0 where
   pub there : (i : ℕ) → i < length order → bay_at bays (slice_index order i) ≢ missing
 
 -- What holds of every store: the parts have as many frames, no two frames hold one name, each frame agrees with its name
--- and row, no frame is on two lists, a listed frame is home, and the home frames without a name are the free ones.
-pub record IsSound (s : StoreSeen) : Type 0 where
+-- and row, pages and snapshots are paired, no frame is on two lists, a listed frame is home, the home frames without a name
+-- are the free ones, and a disk that tells has whole blocks.
+pub record IsSoundStore (s : StoreSeen) : Type 0 where
   pub few : length s.frames < 2 ^ 32
   pub names : length s.names ≡ length s.frames
   pub rows : length s.rows ≡ length s.frames
@@ -70,11 +89,13 @@ pub record IsSound (s : StoreSeen) : Type 0 where
   pub bays : length s.bays ≡ 9
   pub order : IsOrder s.bays s.order
   pub distinct : AreDistinct s.names
-  pub lists : AreApart (lists_of s)
-  pub each : (k : ℕ) → k < length s.frames → IsFrame (bytes_at s.frames k) (name_at s.names k) (row_at s.rows k)
-  pub listed : (k : ℕ) → IsListed s k → IsSome (bytes_at s.frames k)
+  pub lists : AreApart (lists_seen s)
+  pub each : (k : ℕ) → k < length s.frames → FrameAgrees (bytes_at s.frames k) (name_at s.names k) (row_at s.rows k)
+  pub paired : ArePaired s
+  pub listed : (k : ℕ) → IsListedFrame s k → IsSome (bytes_at s.frames k)
   pub unnamed : (k : ℕ) → Has s.free k → name_at s.names k ≡ None
   pub spare : (k : ℕ) → IsSome (bytes_at s.frames k) → name_at s.names k ≡ None → Has s.free k
+  pub whole : (number : ℕ) (d : DiskSeen) → bay_at s.bays number ≡ home d → HasBlocks d.content d.size
 
 -- where a name is: with a home frame, with the seat that has its frame, or nowhere
 abbrev pub residence_of : Option (List ℕ) → Option ℕ → ℕ → Residence
@@ -91,7 +112,7 @@ residence s name = residence_in (find s.names name) s
 
 -- what the parts of a store keep beside what is seen: the counts of frames agree
 pub record IsWhole (frames hand : ℕ) (core : CoreSeen) (names : List (Option PageName)) (lists : ListsSeen) (rows : List Row) (clock : ClockSeen) (bays : List BaySeen) (order : List ℕ) : Type 0 where
-  pub sound : IsSound (store_of core names lists rows clock bays order)
+  pub sound : IsSoundStore (store_of core names lists rows clock bays order)
   pub counted : length core.frames ≡ frames
   pub listed : lists.frames ≡ frames
   pub pointer : hand < frames

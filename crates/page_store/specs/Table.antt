@@ -1,4 +1,4 @@
--- Where pages live on the disks: the table of a machine, by name.
+-- Where pages live on the disks: the table of a machine, by name. Public clauses cite this.
 use Rattle.std.specs.Prelude.{◌≡◌}
 use Rattle.page_hash.specs.declared.PageName.{PageName}
 use Rattle.page_store.specs.declared.place.Place.{Place}

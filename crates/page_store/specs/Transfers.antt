@@ -1,17 +1,24 @@
--- When a transfer can begin, and what it makes of a store.
-use Rattle.std.specs.Prelude.{◌≡◌, ◌≢◌, ℕ, Bool, true, false, Some, None, IsSome}
-use Rattle.page_hash.specs.Names.{is_name}
-use Rattle.page_lock.specs.Rows.{row_at, clear_row}
-use Rattle.page_lock.specs.declared.Row.{Row}
-use Rattle.page_store.specs.Bays.{out, bay_at}
-use Rattle.page_store.specs.Flight.{FlightSeen}
-use Rattle.page_store.specs.Moves.{Moves, Takes}
-use Rattle.page_store.specs.Notes.{Notes}
-use Rattle.page_store.specs.Seen.{StoreSeen, IsListed, residence}
-use Rattle.page_store.specs.Steps.{next_frame, next_name, sent, fetched}
+-- When a transfer can begin, and what its begin and its end do beside their exact new stores. Public clauses cite this.
+use Rattle.std.specs.Prelude.{◌≡◌, ◌≢◌, ◌⊎◌, ◌||◌, ℕ, Bool, true, false, if◌then◌else◌, Option, Some, None, IsSome, IsTrue, is_some, length}
+use Rattle.block_device.specs.DiskSeen.{DiskSeen, HasBlocks}
+use Rattle.core_arena.specs.Bytes.{bytes_at}
+use Rattle.page_hash.specs.Names.{find, name_at}
+use Rattle.page_hash.specs.declared.PageName.{PageName}
+use Rattle.page_lists.specs.ListsSeen.{Has}
+use Rattle.page_lock.specs.Rows.{row_at}
+use Rattle.page_store.specs.Bays.{home, out, bay_at}
+use Rattle.page_store.specs.StoreFits.{StoreFits, IsClean}
+use Rattle.page_store.specs.Flight.{FlightSeen, IsPerformed, done, failed, note_of}
+use Rattle.page_store.specs.Moves.{SameDisksTell, TakesFrame, Touches, only, family, family_of}
+use Rattle.page_store.specs.Notes.{Note, Notes, with_note}
+use Rattle.page_store.specs.Out.{IsFlightOf, DisksElsewhere}
+use Rattle.page_store.specs.Seen.{StoreSeen, IsSoundStore, IsListedFrame, IsGone, own_frame, residence}
+use Rattle.page_store.specs.Steps.{next_frame, next_name, with_read_begun, with_push_begun, without_snapshot, at_frame, is_dirty}
 use Rattle.page_store.specs.Table.{Table}
+use Rattle.page_store.specs.Value.{value, stored, tells}
 use Rattle.page_store.specs.declared.plan.Plan.{Plan}
 use Rattle.page_store.specs.declared.plan.Plan.TheVariants.{Read, Push}
+use Rattle.page_store.specs.declared.residence.Residence.{Residence}
 use Rattle.page_store.specs.declared.residence.Residence.TheVariants as at
 
 -- the transfer of a plan writes
@@ -23,41 +30,106 @@ is_push (Push name) = true
 -- on neither list.
 abbrev pub CanBegin : Plan → StoreSeen → Type 0
 CanBegin (Read name) s = IsSome (next_frame s) × (residence s name ≡ at.Absent)
-CanBegin (Push name) s = (frame : ℕ) × (residence s name ≡ at.Home frame) × (IsListed s frame → ⊥)
+CanBegin (Push name) s = (frame : ℕ) × (residence s name ≡ at.Home frame) × (¬ IsListedFrame s frame)
 
--- A read takes the next frame for its page; a push sends the frame that has the page. Both go out with the disk and the
--- seat.
-abbrev pub HasBegun : Plan → StoreSeen → StoreSeen → ℕ → ℕ → ℕ → Type 0
-HasBegun (Read name) old new frame seat number = (next_frame old ≡ Some frame) × (new ≡ fetched old frame name seat number)
-HasBegun (Push name) old new frame seat number = (residence old name ≡ at.Home frame) × (new ≡ sent old frame seat number)
+-- A read takes the next frame for its page. A push takes the next frame for a snapshot, where there is one, and else sends
+-- the frame that has the page; a snapshot of the page that was out before is gone.
+abbrev pub after_begin : Plan → StoreSeen → ℕ → ℕ → StoreSeen
+after_begin (Read name) s seat number = at_frame (next_frame s) s (λ frame. with_read_begun s frame name seat number)
+after_begin (Push name) s seat number = at_frame (find s.names name) s (λ own. with_push_begun (without_snapshot s own) own (next_frame s) seat number)
 
--- the frame that a read takes doesn't hold the read's page
-abbrev pub TakesAnother : Plan → StoreSeen → Type 0
-TakesAnother (Read name) s = is_name (next_name s) name ≡ false
-TakesAnother (Push name) s = Unit {0}
+-- the frame that is taken, where one is, else the page's own
+abbrev pub taken_or : Option ℕ → Option ℕ → Option ℕ
+taken_or None own = own
+taken_or (Some frame) own = Some frame
+
+-- the frame that goes out with a plan: the next one where one is available, else that of the page
+abbrev pub frame_out : Plan → StoreSeen → Option ℕ
+frame_out (Read name) s = next_frame s
+frame_out (Push name) s = taken_or (next_frame s) (find s.names name)
+
+-- the frame whose bytes go out: a snapshot has those of its page
+abbrev pub frame_shown : Plan → StoreSeen → Option ℕ
+frame_shown (Read name) s = next_frame s
+frame_shown (Push name) s = find s.names name
+
+-- where the page of a plan is once it was begun: a push for which a frame was available leaves it where it was
+abbrev pub residence_begun : Plan → StoreSeen → ℕ → Residence
+residence_begun (Read name) s seat = at.Moving seat
+residence_begun (Push name) s seat = if is_some (next_frame s) then residence s name else at.Moving seat
+
+-- the frames that the begin of a plan touches
+abbrev pub touched_by : Plan → StoreSeen → ℕ → Bool
+touched_by (Read name) s k = only (next_frame s) k
+touched_by (Push name) s k = only (next_frame s) k || family_of s (find s.names name) k
 
 -- The table has a plan's page in this block of this disk, and a page that is read is not blank and has so many valid bytes.
 abbrev pub LivesAt : Plan → Table → ℕ → ℕ → ℕ → Type 0
 LivesAt (Read name) table disk block valid = table name ≡ record { disk = disk; block = block; valid = valid; blank = false }
 LivesAt (Push name) table disk block valid = ((table name).disk ≡ disk) × ((table name).block ≡ block)
 
--- A push that begins keeps all values; a read that begins does so too, but for the bytes past the valid ones of the name
--- that its frame held.
-abbrev pub BeginKeeps : Plan → StoreSeen → Notes → StoreSeen → Notes → Table → Type 0
-BeginKeeps (Read name) old before new after table = Takes old before new after table
-BeginKeeps (Push name) old before new after table = Moves old before new after table
+-- whether the page that a frame has a snapshot of was written since that went out
+abbrev pub rewritten_in : Option ℕ → StoreSeen → Bool
+rewritten_in None s = false
+rewritten_in (Some own) s = (row_at s.rows own).rewritten
 
--- A flight of this store that is out: its frame is of the store's core, and its seat has that frame's lock and the disk.
-pub record IsFlightOf (s : StoreSeen) (f : FlightSeen) : Type 0 where
-  pub origin : f.origin ≡ s.origin
-  pub bay : bay_at s.bays f.number ≡ out f.seat
-  pub holder : (row_at s.rows f.frame).holder ≡ Some f.seat
+abbrev pub was_rewritten : StoreSeen → ℕ → Bool
+was_rewritten s frame = rewritten_in (row_at s.rows frame).source s
 
--- every disk but one is where it was
-abbrev pub DisksElsewhere : StoreSeen → StoreSeen → ℕ → Type 0
-DisksElsewhere old new number = (k : ℕ) → k ≢ number → bay_at new.bays k ≡ bay_at old.bays k
+-- What the begin of a plan does: the frame and the disk go out with the seat, the page of a push keeps its modified bit, and
+-- every name keeps its value, but for the bytes past the valid ones of the name that the taken frame held.
+pub record BeginsTransfer (old new : StoreSeen) (plan : Plan) (name : PageName) (f : FlightSeen) : Type 0 where
+  pub sound : IsSoundStore new
+  pub out : IsFlightOf new f
+  pub disks : DisksElsewhere old new f.number
+  pub touches : Touches old new (touched_by plan old)
+  pub page : residence new name ≡ residence_begun plan old f.seat
+  pub modified : (own : ℕ) → find old.names name ≡ Some own → (row_at new.rows own).modified ≡ (row_at old.rows own).modified
+  pub ungone : (row_at new.rows f.frame).gone ≡ false
+  pub unwritten : was_rewritten new f.frame ≡ false
+  pub unlisted : ¬ IsListedFrame new f.frame
+  pub lost : (n : PageName) → next_name old ≡ Some n → residence new n ≡ at.Absent
+  pub stay : (n : PageName) → n ≢ name → next_name old ≢ Some n → residence new n ≡ residence old n
+  pub whole : HasBlocks f.disk.content f.disk.size
+  pub size : length f.bytes ≡ 4096
+  pub values : (notes : Notes) (table : Table) → StoreFits old notes table → notes f.seat ≡ None
+      → LivesAt plan table f.number f.block f.valid
+      → TakesFrame old notes new (with_note notes f.seat (Some (note_of f))) table
 
--- the row of a page that comes back: nobody holds it; one that has no frame any more leaves a clear row
-abbrev pub landed_row : Row → Bool → Bool → Row
-landed_row row dirty false = record row { holder = None; gone = false; modified = dirty }
-landed_row row dirty true = clear_row
+-- The page of a flight that comes back, where it isn't gone, is home in its own frame, with this modified bit.
+pub record ComesHome (old new : StoreSeen) (f : FlightSeen) (modified : Bool) : Type 0 where
+  pub home : residence new f.name ≡ at.Home (own_frame old f.frame)
+  pub bit : (row_at new.rows (own_frame old f.frame)).modified ≡ modified
+  pub unlisted : ¬ IsListedFrame new (own_frame old f.frame)
+
+-- A write comes back: every name keeps its value, but for the written name where its page is gone and no home frame holds
+-- the name. A read keeps the value of every name whose disk tells.
+pub record EndsValues (old : StoreSeen) (before : Notes) (new : StoreSeen) (after : Notes) (table : Table) (note : Note) : Type 0 where
+  pub fits : StoreFits new after table
+  pub alike : SameDisksTell old before new after
+  pub values : (n : PageName) → (note.writes ≡ false → IsTrue (tells old before (table n).disk))
+      → (note.writes ≡ true → n ≡ note.name → ((row_at old.rows note.frame).gone ≡ false) ⊎ ((frame : ℕ) × (residence old n ≡ at.Home frame)))
+      → value new after table n ≡ value old before table n
+  pub stored : (n : PageName) → ((table n).blank ≡ false → note.writes ≡ true → n ≢ note.name)
+      → stored new after (table n) ≡ stored old before (table n)
+
+-- What the end of a transfer does. Where the page isn't gone it is home then, but for one that was to be read and that
+-- failed; it is modified where a write failed, or where it was rewritten since it went out as a snapshot. A frame without a
+-- page is free.
+pub record EndsTransfer (old new : StoreSeen) (f : FlightSeen) : Type 0 where
+  pub sound : IsSoundStore new
+  pub disk : bay_at new.bays f.number ≡ home f.disk
+  pub disks : DisksElsewhere old new f.number
+  pub touches : Touches old new (family old f.frame)
+  pub success : (row_at old.rows f.frame).gone ≡ false → f.outcome ≡ done → ComesHome old new f (was_rewritten old f.frame)
+  pub failed_write : (row_at old.rows f.frame).gone ≡ false → f.outcome ≡ failed → f.writes ≡ true → ComesHome old new f true
+  pub failed_read : (row_at old.rows f.frame).gone ≡ false → f.outcome ≡ failed → f.writes ≡ false → residence new f.name ≡ at.Absent
+  pub free : (IsGone old f.frame ⊎ (IsSome (row_at old.rows f.frame).source ⊎ ((f.outcome ≡ failed) × (f.writes ≡ false)))) → Has new.free f.frame
+  pub stay : (n : PageName) → ((row_at old.rows f.frame).gone ≡ false → n ≢ f.name) → residence new n ≡ residence old n
+  pub bytes : (row_at old.rows f.frame).source ≡ None → bytes_at new.frames (own_frame old f.frame) ≡ Some f.bytes
+  pub values : (notes : Notes) (note : Note) (table : Table) → StoreFits old notes table → notes f.seat ≡ Some note → IsPerformed note f
+      → EndsValues old notes new (with_note notes f.seat None) table note
+  pub clean : (notes : Notes) (note : Note) (table later : Table) → StoreFits old notes table → notes f.seat ≡ Some note → IsPerformed note f
+      → (row_at old.rows f.frame).gone ≡ false → f.outcome ≡ done → bytes_at new.frames (own_frame old f.frame) ≡ Some f.bytes
+      → later note.name ≡ record { disk = note.number; block = note.block; valid = note.valid; blank = false }
+      → IsClean new (with_note notes f.seat None) later (own_frame old f.frame) note.name

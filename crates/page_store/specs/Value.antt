@@ -1,4 +1,4 @@
--- The value of a name, wherever its page is.
+-- The value of a name, wherever its page is. Public clauses cite this.
 use Rattle.std.specs.Prelude.{ℕ, Bool, if◌then◌else◌, List, Option, Some, None, is_some}
 use Rattle.core_arena.specs.Bytes.{bytes_at, zeros}
 use Rattle.page_hash.specs.Names.{find}
@@ -39,12 +39,12 @@ note_of_holder None notes = None
 note_of_holder (Some seat) notes = notes seat
 
 -- the value of a page whose frame is away: the note's bytes where the note writes
-abbrev pub moving : Option Note → List ℕ → List ℕ
-moving None otherwise = otherwise
-moving (Some note) otherwise = if note.writes then note.bytes else otherwise
+abbrev pub bytes_moving : Option Note → List ℕ → List ℕ
+bytes_moving None otherwise = otherwise
+bytes_moving (Some note) otherwise = if note.writes then note.bytes else otherwise
 
 abbrev pub held : Option (List ℕ) → Option Note → List ℕ → List ℕ
-held None it otherwise = moving it otherwise
+held None it otherwise = bytes_moving it otherwise
 held (Some bytes) it otherwise = bytes
 
 abbrev pub value_in : Option ℕ → StoreSeen → Notes → Place → List ℕ

@@ -1,4 +1,4 @@
--- What plans wait for, and which pages can be pushed out.
+-- What plans wait for, and which pages can be pushed out. Public clauses cite this.
 use Rattle.std.specs.Prelude.{◌≡◌, ℕ, Option, Some, None, IsSome}
 use Rattle.block_device.specs.DiskSeen.{DiskSeen}
 use Rattle.core_arena.specs.Bytes.{bytes_at}
@@ -6,7 +6,7 @@ use Rattle.page_hash.specs.Names.{find}
 use Rattle.page_hash.specs.declared.PageName.{PageName}
 use Rattle.page_lock.specs.Rows.{row_at}
 use Rattle.page_store.specs.Bays.{bay_at, home, out}
-use Rattle.page_store.specs.Seen.{StoreSeen, IsListed, residence}
+use Rattle.page_store.specs.Seen.{StoreSeen, IsListedFrame, residence}
 use Rattle.page_store.specs.declared.plan.Hold.{Hold}
 use Rattle.page_store.specs.declared.plan.Hold.TheVariants.{Page, Disk, File}
 use Rattle.page_store.specs.declared.plan.Plan.{Plan}
@@ -37,11 +37,11 @@ Waits s name disk (Some (File seat)) = ⊥
 -- A frame whose page can be pushed or released: it is home, on no list, and nobody has its lock or keeps it.
 pub record IsVictim (s : StoreSeen) (frame : ℕ) : Type 0 where
   pub here : IsSome (bytes_at s.frames frame)
-  pub unlisted : IsListed s frame → ⊥
+  pub unlisted : IsListedFrame s frame → ⊥
   pub unlocked : (row_at s.rows frame).holder ≡ None
   pub unkept : (row_at s.rows frame).keeps ≡ 0
 
 -- The page that is chosen is in such a frame, and none is chosen exactly where there is no such frame.
-abbrev pub Chooses : StoreSeen → Option PageName → Type 0
-Chooses s None = (frame : ℕ) → IsVictim s frame → ⊥
-Chooses s (Some page) = (frame : ℕ) × (residence s page ≡ at.Home frame) × IsVictim s frame
+abbrev pub ChoosesPage : StoreSeen → Option PageName → Type 0
+ChoosesPage s None = (frame : ℕ) → IsVictim s frame → ⊥
+ChoosesPage s (Some page) = (frame : ℕ) × (residence s page ≡ at.Home frame) × IsVictim s frame

@@ -71,7 +71,8 @@ impl<D: Disk> Bays<D> {
     pub fn remove(&mut self, number: u32) -> Option<D>
         requires within { number < length self.old }
         requires still { IsStill (bay_at self.old number) }
-        ensures disk { MatchOption result (bay_at self.old number ≡ missing) (λ disk. bay_at self.old number ≡ home (D.seen disk)) }
+        ensures disk { MatchOption result (bay_at self.old number
+            ≡ missing) (λ disk. bay_at self.old number ≡ home (D.seen disk)) }
         ensures new { self.new ≡ slice_set self.old number missing }
     {
         match mem::replace(&mut self.bays[number as usize], Bay::Missing) {
@@ -84,7 +85,8 @@ impl<D: Disk> Bays<D> {
     /// The seat that has a disk; None where the disk is home.
     pub fn holder(&self, number: u32) -> Option<u32>
         requires { bay_at self.now number ≢ missing }
-        ensures { MatchOption result ((d : DiskSeen) × (bay_at self.now number ≡ home d)) (λ seat. bay_at self.now number ≡ out seat) }
+        ensures { MatchOption result ((d : DiskSeen)
+            × (bay_at self.now number ≡ home d)) (λ seat. bay_at self.now number ≡ out seat) }
     {
         match &self.bays[number as usize] {
             Bay::Home(_) => None,

@@ -5,7 +5,7 @@ ghost use Rattle.block_device.specs.DiskSeen.{Writes, DiskSeen};
 ghost use Rattle.page_store.specs.Bytes.{clipped};
 ghost use Rattle.page_store.specs.Flight.{IsPerformed, note_of, fresh, outcome_of, IsReadClipped};
 ghost use Rattle.page_store.specs.Seen.{StoreSeen};
-ghost use Rattle.page_store.specs.Transfers.{IsFlightOf};
+ghost use Rattle.page_store.specs.Out.{IsFlightOf};
 
 use block_device::{Disk, Failed};
 use core_arena::Frame;
@@ -66,10 +66,8 @@ impl<D: Disk> Flight<D> {
         requires { self.old.outcome ≡ fresh }
         ensures performed { IsPerformed (note_of self.old) self.new }
         ensures outcome { self.new.outcome ≡ outcome_of result }
-        ensures seat { self.new.seat ≡ self.old.seat }
         ensures store { (s : StoreSeen) → IsFlightOf s self.old → IsFlightOf s self.new }
-        ensures origin { self.new.origin ≡ self.old.origin }
-        ensures before { self.new.before ≡ self.old.disk.faults }
+        // The disk was called, and a failure has its cause.
         ensures calls { HasRisen self.old.disk.calls self.new.disk.calls }
         ensures cause { HasCause self.old.disk.faults self.new.disk.faults result }
     {
@@ -83,6 +81,7 @@ impl<D: Disk> Flight<D> {
             Ok(()) => Stage::Done,
             Err(_) => Stage::Failed,
         };
+        whole(&self.frame);
         result
     }
 
@@ -96,10 +95,18 @@ impl<D: Disk> Flight<D> {
     }
 }
 
+/// A frame has 4096 bytes.
+fn whole(frame: &Frame)
+    ensures { length frame.now.bytes ≡ 4096 }
+{
+    let _ = frame.bytes();
+}
+
 fn write_page<D: Disk>(disk: &mut D, block: u32, valid: u32, frame: &Frame) -> Result<(), Failed>
     requires block { block < (D.seen disk.old).size }
     requires valid { valid ≤ 4096 }
-    ensures { Writes (D.seen disk.old) (D.seen disk.new) block (clipped valid frame.now.bytes) result }
+    ensures { Writes (D.seen disk.old) (D.seen disk.new) block
+        (clipped valid frame.now.bytes) result }
 {
     let page = clip(frame.bytes(), valid as usize);
     disk.write(block, &page)
@@ -119,7 +126,8 @@ fn clip(bytes: &[u8], valid: usize) -> [u8; 4096]
 fn read_page<D: Disk>(disk: &mut D, block: u32, valid: u32, frame: &mut Frame) -> Result<(), Failed>
     requires block { block < (D.seen disk.old).size }
     requires valid { valid ≤ 4096 }
-    ensures reads { IsReadClipped (D.seen disk.old) (D.seen disk.new) block valid frame.new.bytes result }
+    ensures reads { IsReadClipped (D.seen disk.old)
+        (D.seen disk.new) block valid frame.new.bytes result }
     ensures number { frame.new.number ≡ frame.old.number }
     ensures origin { frame.new.origin ≡ frame.old.origin }
 {

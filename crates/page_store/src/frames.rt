@@ -1,21 +1,23 @@
 //! The frame tables together: a frame that is taken for a name, or comes free.
-ghost use Rattle.std.specs.Prelude.{◌≡◌, ◌<◌, length, Some, None, IsSome, slice_set};
+ghost use Rattle.std.specs.Prelude.{◌≡◌, ◌≢◌, ℕ, ◌<◌, true, false, length, Some, None, IsSome, slice_set};
 ghost use Rattle.core_arena.specs.Bytes.{bytes_at, zeros};
 ghost use Rattle.page_hash.specs.Names.{find, AreDistinct};
-ghost use Rattle.page_lists.specs.ListsSeen.{AreApart};
-ghost use Rattle.page_lock.specs.Rows.{clear_row};
-ghost use Rattle.page_store.specs.Steps.{first_of, rest_free, rest_cached, fresh_row, held_row};
+ghost use Rattle.page_lists.specs.ListsSeen.{AreApart, first_of};
+ghost use Rattle.page_lock.specs.Rows.{row_at, clear_row};
+ghost use Rattle.page_store.specs.Parts.{rows_paired, rows_parted, rows_forsaken};
+ghost use Rattle.page_store.specs.Steps.{rest_free, rest_cached, fresh_row, held_row};
 
 use core_arena::Core;
 use page_hash::{PageHash, PageName};
 use page_lists::PageLists;
-use page_lock::PageLocks;
+use page_lock::{PageLocks, Row};
 
 /// Takes the first free frame, or where none is free the first cached one.
 pub(crate) fn take_frame(lists: &mut PageLists) -> u32
     requires { IsSome (first_of lists.old.free lists.old.cached) }
     ensures frame { first_of lists.old.free lists.old.cached ≡ Some result }
-    ensures rest { lists.new ≡ record lists.old { free = rest_free lists.old.free; cached = rest_cached lists.old.free lists.old.cached } }
+    ensures rest { lists.new ≡ record lists.old
+        { free = rest_free lists.old.free; cached = rest_cached lists.old.free lists.old.cached } }
     ensures apart { AreApart lists.new }
 {
     match lists.take() {
@@ -64,11 +66,69 @@ pub(crate) fn reserve(locks: &mut PageLocks, frame: u32, seat: u32)
     locks.lock(frame, seat);
 }
 
+/// Makes a frame a snapshot, which a seat has, of a page.
+pub(crate) fn pair(locks: &mut PageLocks, own: u32, copy: u32, seat: u32)
+    requires own { own < length locks.old }
+    requires copy { copy < length locks.old }
+    requires apart { own ≢ copy }
+    ensures { locks.new ≡ rows_paired locks.old own copy seat }
+{
+    let row = Row {
+        holder: Some(seat),
+        source: Some(own),
+        ..Row::CLEAR
+    };
+    locks.set_row(copy, row);
+    let row = Row {
+        snapshot: Some(copy),
+        rewritten: false,
+        ..locks.row(own)
+    };
+    locks.set_row(own, row);
+}
+
+/// Parts a page from its snapshot, which is gone then. The page gets this modified bit.
+pub(crate) fn part(locks: &mut PageLocks, own: u32, copy: u32, modified: bool)
+    requires own { own < length locks.old }
+    requires copy { copy < length locks.old }
+    requires apart { own ≢ copy }
+    ensures { locks.new ≡ rows_parted locks.old own copy modified }
+{
+    let row = Row {
+        source: None,
+        gone: true,
+        ..locks.row(copy)
+    };
+    locks.set_row(copy, row);
+    let row = Row {
+        snapshot: None,
+        modified,
+        ..locks.row(own)
+    };
+    locks.set_row(own, row);
+}
+
+/// The snapshot of a frame's page, where one is away, is gone.
+pub(crate) fn forsake(locks: &mut PageLocks, own: u32)
+    requires own { own < length locks.old }
+    requires copy { (copy : ℕ) → (row_at locks.old own).snapshot ≡ Some copy
+        → (copy < length locks.old) × (own ≢ copy) }
+    ensures { locks.new ≡ rows_forsaken locks.old own }
+{
+    let row = locks.row(own);
+    if let Some(copy) = row.snapshot {
+        part(locks, own, copy, row.modified);
+    }
+}
+
 /// Copies the bytes of a home frame to another.
 pub(crate) fn copy_frame(core: &mut Core, from: u32, to: u32)
     requires from { IsSome (bytes_at core.old.frames from) }
     requires to { IsSome (bytes_at core.old.frames to) }
-    ensures { core.new ≡ record core.old { frames = slice_set core.old.frames to (bytes_at core.old.frames from) } }
+    ensures { core.new ≡ record core.old {
+      frames = slice_set core.old.frames to
+          (bytes_at core.old.frames from);
+    } }
 {
     let mut page = [0u8; 4096];
     page.copy_from_slice(core.bytes(from));

@@ -1,52 +1,32 @@
 //! Transfers end.
-ghost use Rattle.std.specs.Prelude.{◌≡◌, ◌≢◌, ◌⊎◌, ℕ, ◌<◌, true, false, if◌then◌else◌, ◌++◌, ◌∷◌, [], length, Some, None, IsSome, slice_set};
-ghost use Rattle.page_hash.specs.Names.{name_at};
-ghost use Rattle.page_hash.specs.declared.PageName.{PageName};
+ghost use Rattle.std.specs.Prelude.{◌≡◌, ◌≢◌, ◌⊎◌, ◌||◌, ℕ, ◌<◌, true, false, if◌then◌else◌, ◌++◌, ◌∷◌, [], length, Some, None, IsSome, slice_set};
 ghost use Rattle.page_lists.specs.ListsSeen.{Has};
-ghost use Rattle.page_lock.specs.Rows.{row_at};
-ghost use Rattle.page_store.specs.Bays.{bay_at, home};
-ghost use Rattle.page_store.specs.Fits.{Fits};
-ghost use Rattle.page_store.specs.Flight.{IsPerformed, fresh, done, failed};
-ghost use Rattle.page_store.specs.Moves.{Moves, Ends, Touches};
-ghost use Rattle.page_store.specs.Notes.{Note, Notes, with_note};
-ghost use Rattle.page_store.specs.Seen.{residence, IsListed};
+ghost use Rattle.page_lock.specs.Rows.{row_at, clear_row};
+ghost use Rattle.page_store.specs.Flight.{fresh};
+ghost use Rattle.page_store.specs.Out.{IsFlightOf};
+ghost use Rattle.page_store.specs.Parts.{rows_settled};
 ghost use Rattle.page_store.specs.Stages.{outcome_at};
-ghost use Rattle.page_store.specs.Steps.{ended, is_lost, is_dirty};
-ghost use Rattle.page_store.specs.Table.{Table};
-ghost use Rattle.page_store.specs.Transfers.{DisksElsewhere, IsFlightOf, landed_row};
-ghost use Rattle.page_store.specs.declared.residence.Residence.{Residence};
+ghost use Rattle.page_store.specs.Steps.{after_end, is_lost, is_dirty, landed_row};
+ghost use Rattle.page_store.specs.Transfers.{EndsTransfer};
 
 use crate::flight::{Flight, Stage};
-use crate::frames::forget;
+use crate::frames::{forget, part};
 use crate::store::Store;
 use block_device::Disk;
-use page_hash::{PageHash, PageName};
+use page_hash::PageHash;
 use page_lists::PageLists;
 use page_lock::PageLocks;
 
 impl<D: Disk> Store<D> {
-    /// Ends a transfer: the frame and the disk come back, and the frame's page is home under its name, modified only
-    /// where a write failed. Where the page is gone, or was to be read and that failed, the frame is free. Constant
-    /// expected time; takes no memory and makes no disk call.
+    /// Ends a transfer: the frame and the disk come back. A page that isn't gone is home then, but for one that was to be read
+    /// and that failed; it is modified where a write failed, and where it was written since its snapshot went out. A frame
+    /// without a page is free: where the page is gone, wasn't read, or has its own frame. Constant expected time; takes no
+    /// memory and makes no disk call.
     pub fn end(&mut self, flight: Flight<D>)
         requires out { IsFlightOf self.old flight }
         requires performed { flight.outcome ≢ fresh }
-        ensures step { self.new ≡ ended self.old flight }
-        ensures home { (name : PageName) → name_at self.old.names flight.frame ≡ Some name → flight.outcome ≡ done
-            → (residence self.new name ≡ Residence.Home flight.frame) × ((row_at self.new.rows flight.frame).modified ≡ false) }
-        ensures dirty { (name : PageName) → name_at self.old.names flight.frame ≡ Some name → flight.outcome ≡ failed → flight.writes ≡ true
-            → (residence self.new name ≡ Residence.Home flight.frame) × ((row_at self.new.rows flight.frame).modified ≡ true) }
-        ensures lost { (name : PageName) → name_at self.old.names flight.frame ≡ Some name → flight.outcome ≡ failed → flight.writes ≡ false
-            → (residence self.new name ≡ Residence.Absent) × Has self.new.free flight.frame }
-        ensures unlisted { (name : PageName) → residence self.new name ≡ Residence.Home flight.frame → IsListed self.new flight.frame → ⊥ }
-        ensures gone { name_at self.old.names flight.frame ≡ None → Has self.new.free flight.frame }
-        ensures disk { bay_at self.new.bays flight.number ≡ home flight.disk }
-        ensures disks { DisksElsewhere self.old self.new flight.number }
-        ensures touches { Touches self.old self.new flight.frame }
-        ensures write { (notes : Notes) (note : Note) (table : Table) → Fits self.old notes table → notes flight.seat ≡ Some note → IsPerformed note flight → note.writes ≡ true
-            → Ends self.old notes self.new (with_note notes flight.seat None) table note }
-        ensures read { (notes : Notes) (note : Note) (table : Table) → Fits self.old notes table → notes flight.seat ≡ Some note → IsPerformed note flight → note.writes ≡ false
-            → Moves self.old notes self.new (with_note notes flight.seat None) table }
+        ensures new { self.new ≡ after_end self.old flight }
+        ensures laws { EndsTransfer self.old self.new flight }
     {
         let Flight {
             seat: _,
@@ -63,8 +43,9 @@ impl<D: Disk> Store<D> {
         let at = frame.number();
         self.core.put(frame);
         self.bays.put(number, disk);
-        let lost = is_lost(writes, stage, self.names.name_of(at));
-        settle(
+        settle(&mut self.locks, at, is_dirty(stage));
+        let lost = is_lost(writes, stage, self.locks.row(at).gone);
+        land(
             &mut self.names,
             &mut self.locks,
             &mut self.lists,
@@ -75,14 +56,24 @@ impl<D: Disk> Store<D> {
     }
 }
 
-// A page that comes back has no frame.
-fn is_lost(writes: bool, stage: Stage, name: Option<PageName>) -> bool
-    ensures { result ≡ is_lost writes (outcome_at stage) name }
+// A snapshot that comes back parts from its page, which is modified where the transfer failed or it was written meanwhile.
+fn settle(locks: &mut PageLocks, frame: u32, dirty: bool)
+    requires frame { frame < length locks.old }
+    requires own { (own : ℕ) → (row_at locks.old frame).source ≡ Some own
+        → (own < length locks.old) × (own ≢ frame) }
+    ensures { locks.new ≡ rows_settled (row_at locks.old frame).source locks.old frame dirty }
 {
-    match name {
-        None => true,
-        Some(_) => !writes && !is_done(stage),
+    if let Some(own) = locks.row(frame).source {
+        let rewritten = locks.row(own).rewritten;
+        part(locks, own, frame, dirty || rewritten);
     }
+}
+
+// A frame that comes back has no page.
+fn is_lost(writes: bool, stage: Stage, gone: bool) -> bool
+    ensures { result ≡ is_lost writes (outcome_at stage) gone }
+{
+    gone || (!writes && !is_done(stage))
 }
 
 fn is_dirty(stage: Stage) -> bool
@@ -102,7 +93,7 @@ fn is_done(stage: Stage) -> bool
 }
 
 // A frame that came back has its page and no holder, or is free.
-fn settle(
+fn land(
     names: &mut PageHash,
     locks: &mut PageLocks,
     lists: &mut PageLists,
@@ -115,9 +106,14 @@ fn settle(
     requires listed { frame < lists.old.frames }
     requires held { IsSome (row_at locks.old frame).holder }
     requires unlisted { Has lists.old.free frame ⊎ Has lists.old.cached frame → ⊥ }
+    // A lost page leaves its frame free, without a name.
     ensures names { names.new ≡ if lost then slice_set names.old frame None else names.old }
-    ensures locks { locks.new ≡ slice_set locks.old frame (landed_row (row_at locks.old frame) dirty lost) }
-    ensures lists { lists.new ≡ record lists.old { free = if lost then lists.old.free ++ frame ∷ [] else lists.old.free } }
+    ensures locks { locks.new ≡ slice_set locks.old frame
+        (if lost then clear_row else landed_row (row_at locks.old frame) dirty) }
+    ensures lists { lists.new ≡ record lists.old {
+      free = if lost then lists.old.free
+          ++ frame ∷ [] else lists.old.free;
+    } }
 {
     if lost {
         forget(names, frame);

@@ -41,7 +41,9 @@ impl<D: Disk> Order<D> {
     pub fn collect(self, bays: &mut Bays<D>) -> Vec<(u32, D)>
         requires numbers { AreNumbers self }
         requires within { (i : ℕ) → i < length self → slice_index self i < length bays.old }
-        requires there { (i : ℕ) → i < length self → bay_at bays.old (slice_index self i) ≡ home (disk_in (bay_at bays.old (slice_index self i))) }
+        requires there { (i : ℕ) → i < length self
+            → bay_at bays.old (slice_index self i)
+            ≡ home (disk_in (bay_at bays.old (slice_index self i))) }
         ensures { pairs_seen D.seen result.items ≡ disks_in bays.old self }
     {
         let Order { numbers, mut room } = self;

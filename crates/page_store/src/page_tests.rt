@@ -116,7 +116,7 @@ fn release(store: &mut Store<MemDisk>, name: PageName) -> bool {
     let Residence::Home(frame) = store.resident(victim) else {
         return false;
     };
-    if victim != name || store.bits(frame).1 {
+    if victim != name || store.bits(frame).1 || store.has_snapshot(frame) {
         return false;
     }
     store.release(frame);
@@ -232,6 +232,8 @@ fn every_value_is_as_the_calls_left_it(rt: HostRuntime) -> Result<(), Fail> {
             return Ok(());
         }
     };
+    assert_eq!(rt; store.next_frame(), Some(0));
+    assert_eq!(rt; store.next_name(), None);
     for (call, done, want) in CALLS {
         assert_eq!(rt; make(&mut store, call), done, "{call:?}");
         assert_eq!(rt; all_seen(&store).as_slice(), want.as_slice(), "{call:?}");

@@ -1,19 +1,16 @@
 //! What is done to pages while they are at home.
-ghost use Rattle.std.specs.Prelude.{◌≡◌, ℕ, ◌+◌, ◌<◌, ◌≤◌, ◌==◌, ◌++◌, ◌∷◌, [], ◌↔◌, true, false, if◌then◌else◌, List, length, Some, None, IsSome, IsTrue, is_some, slice_set};
-ghost use Rattle.core_arena.specs.Bytes.{bytes_at, spliced, zeros};
-ghost use Rattle.page_hash.specs.Names.{find, name_at};
-ghost use Rattle.page_hash.specs.declared.PageName.{PageName};
+ghost use Rattle.std.specs.Prelude.{◌≡◌, ℕ, ◌+◌, ◌<◌, ◌≤◌, ◌==◌, ◌++◌, ◌∷◌, [], ◌↔◌, true, false, if◌then◌else◌, List, length, Some, None, IsSome, IsTrue, IfSome, is_some, slice_set};
+ghost use Rattle.core_arena.specs.Bytes.{bytes_at, zeros};
+ghost use Rattle.page_hash.specs.Names.{find};
 ghost use Rattle.page_lists.specs.ListsSeen.{Has, without};
-ghost use Rattle.page_lock.specs.Rows.{row_at, clear_row};
-ghost use Rattle.page_store.specs.Fits.{Fits, IsClean};
-ghost use Rattle.page_store.specs.Moves.{Moves, MovesOthers, Fills, Touches};
-ghost use Rattle.page_store.specs.Notes.{Notes};
-ghost use Rattle.page_store.specs.Seen.{residence, IsListed};
-ghost use Rattle.page_store.specs.Steps.{next_frame, next_name, poked, filled, aborted, reclaimed};
-ghost use Rattle.page_store.specs.Table.{Table};
+ghost use Rattle.page_lock.specs.Rows.{row_at, clear_row, with_bits};
+ghost use Rattle.page_store.specs.Laws.{StaysInPlace, Releases, Pokes, FillsPage, Aborts};
+ghost use Rattle.page_store.specs.Moves.{only};
+ghost use Rattle.page_store.specs.Seen.{residence, IsListedFrame};
+ghost use Rattle.page_store.specs.Steps.{next_frame, home_bytes, after_poke, after_fill, after_abort, after_reclaim};
 ghost use Rattle.page_store.specs.Value.{value};
 
-use crate::frames::{copy_frame, rename, reset, take_frame, zero_frame};
+use crate::frames::{copy_frame, forsake, rename, reset, take_frame, zero_frame};
 use crate::place::SWAP_OBJECT;
 use crate::residence::Residence;
 use crate::store::Store;
@@ -26,13 +23,11 @@ use page_lock::PageLocks;
 impl<D: Disk> Store<D> {
     /// Writes a piece over a page that is home, from byte `at` of the page on, and sets its modified bit where `mark` is true.
     pub fn poke(&mut self, name: PageName, at: u32, from: &[u8], mark: bool)
-        requires home { (frame : ℕ) × (residence self.old name ≡ Residence.Home frame) × (IsListed self.old frame → ⊥) }
+        requires home { (frame : ℕ) × (residence self.old name ≡ Residence.Home frame)
+            × (¬ IsListedFrame self.old frame) }
         requires within { at + length from.now ≤ 4096 }
-        ensures step { (frame : ℕ) → residence self.old name ≡ Residence.Home frame → self.new ≡ poked self.old frame at from.now mark }
-        ensures value { (notes : Notes) (table : Table) → value self.new notes table name ≡ spliced (value self.old notes table name) at from.now }
-        ensures others { (notes : Notes) (table : Table) → Fits self.old notes table → MovesOthers self.old notes self.new notes table name }
-        ensures stay { (n : PageName) → residence self.new n ≡ residence self.old n }
-        ensures touches { (frame : ℕ) → residence self.old name ≡ Residence.Home frame → Touches self.old self.new frame }
+        ensures new { self.new ≡ after_poke self.old name at from.now mark }
+        ensures laws { Pokes self.old self.new name at from.now }
     {
         match self.names.find(name) {
             None => unreachable!(),
@@ -47,12 +42,8 @@ impl<D: Disk> Store<D> {
     pub fn fill_zero(&mut self, name: PageName)
         requires available { IsSome (next_frame self.old) }
         requires absent { residence self.old name ≡ Residence.Absent }
-        ensures step { (frame : ℕ) → next_frame self.old ≡ Some frame → self.new ≡ filled self.old frame name zeros (name.object == 64) }
-        ensures fills { (notes : Notes) (table : Table) → Fits self.old notes table → Fills self.old notes self.new notes table name zeros }
-        ensures home { (frame : ℕ) → next_frame self.old ≡ Some frame → residence self.new name ≡ Residence.Home frame }
-        ensures unlisted { (frame : ℕ) → next_frame self.old ≡ Some frame → IsListed self.new frame → ⊥ }
-        ensures lost { (n : PageName) → next_name self.old ≡ Some n → residence self.new n ≡ Residence.Absent }
-        ensures touches { (frame : ℕ) → next_frame self.old ≡ Some frame → Touches self.old self.new frame }
+        ensures new { self.new ≡ after_fill self.old name zeros (name.object == 64) }
+        ensures laws { FillsPage self.old self.new name (name.object == 64) (λ notes table. zeros) }
     {
         let frame = take_frame(&mut self.lists);
         rename(&mut self.names, frame, name);
@@ -67,14 +58,15 @@ impl<D: Disk> Store<D> {
     pub fn copy(&mut self, from: PageName, to: PageName)
         requires available { IsSome (next_frame self.old) }
         requires absent { residence self.old to ≡ Residence.Absent }
-        requires home { (frame : ℕ) × (residence self.old from ≡ Residence.Home frame) × (IsListed self.old frame → ⊥) }
+        requires home { (frame : ℕ) × (residence self.old from ≡ Residence.Home frame)
+            × (¬ IsListedFrame self.old frame) }
         requires slot { to.object ≡ 64 }
-        ensures step { (frame source : ℕ) (bytes : List ℕ) → next_frame self.old ≡ Some frame → residence self.old from ≡ Residence.Home source → bytes_at self.old.frames source ≡ Some bytes → self.new ≡ filled self.old frame to bytes true }
-        ensures fills { (notes : Notes) (table : Table) → Fits self.old notes table → Fills self.old notes self.new notes table to (value self.old notes table from) }
-        ensures home { (frame : ℕ) → next_frame self.old ≡ Some frame → residence self.new to ≡ Residence.Home frame }
-        ensures unlisted { (frame : ℕ) → next_frame self.old ≡ Some frame → IsListed self.new frame → ⊥ }
-        ensures lost { (n : PageName) → next_name self.old ≡ Some n → residence self.new n ≡ Residence.Absent }
-        ensures touches { (frame : ℕ) → next_frame self.old ≡ Some frame → Touches self.old self.new frame }
+        // The slot's page is home with the other page's bytes.
+        ensures new { self.new ≡ after_fill self.old to (home_bytes self.old
+            (find self.old.names from)) true }
+        ensures laws { FillsPage self.old self.new to true
+            (λ notes table. value self.old notes table from) }
+        ensures source { residence self.new from ≡ residence self.old from }
     {
         match self.names.find(from) {
             None => unreachable!(),
@@ -89,27 +81,26 @@ impl<D: Disk> Store<D> {
     }
 
     /// Gives up a page. A page that is moving is gone: its frame comes free at its flight's end. The frame of one that is
-    /// home comes free at once.
+    /// home comes free at once, and a snapshot of it that is away is gone.
     pub fn abort(&mut self, name: PageName)
-        ensures step { self.new ≡ aborted self.old name }
-        ensures absent { residence self.new name ≡ Residence.Absent }
-        ensures others { (notes : Notes) (table : Table) → Fits self.old notes table → MovesOthers self.old notes self.new notes table name }
-        ensures touches { (frame : ℕ) → find self.old.names name ≡ Some frame → Touches self.old self.new frame }
+        ensures new { self.new ≡ after_abort self.old name }
+        ensures laws { Aborts self.old self.new name }
     {
         let Some(frame) = self.names.remove(name) else {
             return;
         };
+        forsake(&mut self.locks, frame);
         give_up(&self.core, &mut self.lists, &mut self.locks, frame);
     }
 
     /// Takes a page's frame back from the cache list; false where it isn't there.
     pub fn reclaim(&mut self, name: PageName) -> bool
-        ensures cached { IsTrue result ↔ ((frame : ℕ) × (find self.old.names name ≡ Some frame) × Has self.old.cached frame) }
-        ensures step { self.new ≡ reclaimed self.old name }
-        ensures unlisted { (frame : ℕ) → find self.old.names name ≡ Some frame → IsListed self.new frame → ⊥ }
-        ensures moves { (notes : Notes) (table : Table) → Fits self.old notes table → Moves self.old notes self.new notes table }
-        ensures stay { (n : PageName) → residence self.new n ≡ residence self.old n }
-        ensures touches { (frame : ℕ) → find self.old.names name ≡ Some frame → Touches self.old self.new frame }
+        ensures cached { IsTrue result ↔ ((frame : ℕ) × (find self.old.names name ≡ Some frame)
+            × Has self.old.cached frame) }
+        ensures new { self.new ≡ after_reclaim self.old name }
+        ensures unlisted { IfSome (find self.old.names name)
+            (λ frame. ¬ IsListedFrame self.new frame) }
+        ensures laws { StaysInPlace self.old self.new (only (find self.old.names name)) }
     {
         let Some(frame) = self.names.find(name) else {
             return false;
@@ -120,14 +111,14 @@ impl<D: Disk> Store<D> {
     /// Puts the frame of a page that has its bytes elsewhere too on the cache list, where it can be taken or reclaimed.
     pub fn release(&mut self, frame: u32)
         requires within { frame < length self.old.frames }
-        requires unlisted { IsListed self.old frame → ⊥ }
+        requires unlisted { ¬ IsListedFrame self.old frame }
         requires clean { (row_at self.old.rows frame).modified ≡ false }
         requires unlocked { (row_at self.old.rows frame).holder ≡ None }
         requires unkept { (row_at self.old.rows frame).keeps ≡ 0 }
-        ensures step { self.new ≡ record self.old { cached = self.old.cached ++ frame ∷ [] } }
-        ensures moves { (notes : Notes) (table : Table) → Fits self.old notes table → ((n : PageName) → name_at self.old.names frame ≡ Some n → IsClean self.old notes table frame n) → Moves self.old notes self.new notes table }
-        ensures stay { (n : PageName) → residence self.new n ≡ residence self.old n }
-        ensures touches { Touches self.old self.new frame }
+        requires unsent { is_some (row_at self.old.rows frame).snapshot ≡ false }
+        // No page moves, and no value changes where this one is clean.
+        ensures new { self.new ≡ record self.old { cached = self.old.cached ++ frame ∷ [] } }
+        ensures laws { Releases self.old self.new frame }
     {
         self.lists.cache(frame);
     }
@@ -136,7 +127,8 @@ impl<D: Disk> Store<D> {
 /// Sets a frame's modified bit where `mark` is true.
 fn mark_if(locks: &mut PageLocks, frame: u32, mark: bool)
     requires { frame < length locks.old }
-    ensures { locks.new ≡ (if mark then slice_set locks.old frame (record (row_at locks.old frame) { modified = true }) else locks.old) }
+    ensures { locks.new ≡ (if mark then slice_set locks.old frame (with_bits
+        (row_at locks.old frame) (row_at locks.old frame).referenced true) else locks.old) }
 {
     if mark {
         let (referenced, _) = locks.bits(frame);
@@ -151,8 +143,16 @@ fn give_up(core: &Core, lists: &mut PageLists, locks: &mut PageLocks, frame: u32
     requires locked { frame < length locks.old }
     requires held { bytes_at core.now.frames frame ≡ None → IsSome (row_at locks.old frame).holder }
     requires used { Has lists.old.free frame → ⊥ }
-    ensures lists { lists.new ≡ (if is_some (bytes_at core.now.frames frame) then record lists.old { cached = without lists.old.cached frame; free = lists.old.free ++ frame ∷ [] } else lists.old) }
-    ensures locks { locks.new ≡ (if is_some (bytes_at core.now.frames frame) then slice_set locks.old frame clear_row else slice_set locks.old frame (record (row_at locks.old frame) { gone = true })) }
+    // A frame at home is free, one that is away has a page that is gone.
+    ensures lists { lists.new ≡ (if is_some
+        (bytes_at core.now.frames frame) then record lists.old {
+          cached = without lists.old.cached frame;
+          free = lists.old.free
+              ++ frame ∷ [];
+        } else lists.old) }
+    ensures locks { locks.new ≡ (if is_some
+        (bytes_at core.now.frames frame) then slice_set locks.old frame clear_row else slice_set
+        locks.old frame (record (row_at locks.old frame) { gone = true })) }
 {
     if core.is_home(frame) {
         lists.reclaim(frame);

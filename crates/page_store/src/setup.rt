@@ -5,10 +5,11 @@ ghost use Rattle.core_arena.specs.Bytes.{zeros};
 ghost use Rattle.page_hash.specs.Names.{AreDistinct};
 ghost use Rattle.page_lists.specs.ListsSeen.{ListsSeen, AreApart};
 ghost use Rattle.page_lock.specs.Rows.{clear_row};
-ghost use Rattle.page_store.specs.Bays.{AreNumbers, numbers_of, pairs_seen, disks_in, placed, bay_at, bay_of, home, missing, IsStill};
-ghost use Rattle.page_store.specs.Fits.{Fits};
+ghost use Rattle.page_store.specs.Bays.{AreNumbers, numbers_of, pairs_seen, disks_in, bays_with, bay_at, bay_of, home, missing, IsStill};
+ghost use Rattle.page_store.specs.StoreFits.{StoreFits};
 ghost use Rattle.page_store.specs.New.{IsNew};
 ghost use Rattle.page_store.specs.Notes.{no_notes};
+ghost use Rattle.page_store.specs.Seen.{IsSoundStore};
 ghost use Rattle.page_store.specs.Table.{Table, IsApart};
 
 use crate::bays::Bays;
@@ -42,7 +43,9 @@ fn take_memory<D: Disk>(
     ensures core { IfOk result (λ p. p.core.frames ≡ replicate frames (Some zeros)) }
     ensures names { IfOk result (λ p. p.names ≡ replicate frames None) }
     ensures distinct { IfOk result (λ p. AreDistinct p.names) }
-    ensures lists { IfOk result (λ p. p.lists ≡ record { frames = frames; free = range_with_len 0 frames; cached = [] }) }
+    // All frames are free, and no disk is there yet.
+    ensures lists { IfOk result (λ p. p.lists
+        ≡ record { frames = frames; free = range_with_len 0 frames; cached = [] }) }
     ensures apart { IfOk result (λ p. AreApart p.lists) }
     ensures locks { IfOk result (λ p. p.locks ≡ replicate frames clear_row) }
     ensures bays { IfOk result (λ p. p.bays ≡ replicate 9 missing) }
@@ -61,7 +64,7 @@ fn take_memory<D: Disk>(
 fn place_all<D: Disk>(bays: &mut Bays<D>, mut disks: Vec<(u32, D)>)
     requires nine { length bays.old ≡ 9 }
     requires numbers { AreNumbers (numbers_of disks.items) }
-    ensures { bays.new ≡ placed (pairs_seen D.seen disks.items) bays.old }
+    ensures { bays.new ≡ bays_with (pairs_seen D.seen disks.items) bays.old }
 {
     while let Some((number, disk)) = disks.pop() {
         bays.put(number, disk);
@@ -90,9 +93,13 @@ impl<D: Disk> Store<D> {
     ) -> Result<Store<D>, (Vec<(u32, D)>, Option<D>)>
         requires frames { 2 ≤ frames }
         requires numbers { AreNumbers (numbers_of disks.items) }
-        ensures store { IfOk result (λ store. IsNew store frames (pairs_seen D.seen disks.items) (option_map D.seen swap)) }
+        // The store is new, and agrees with no notes.
+        ensures store { IfOk result (λ store. IsNew store frames (pairs_seen D.seen disks.items)
+            (option_map D.seen swap)) }
+        ensures sound { IfOk result IsSoundStore }
         ensures still { IfOk result (λ store. (number : ℕ) → IsStill (bay_at store.bays number)) }
-        ensures fits { IfOk result (λ store. (table : Table) → IsApart table → Fits store no_notes table) }
+        ensures fits { IfOk result (λ store. (table : Table) → IsApart table
+            → StoreFits store no_notes table) }
         ensures given { IfErr result (λ given. (given.0 ≡ disks) × (given.1 ≡ swap)) }
     {
         let Ok(parts) = take_memory(alloc, frames, disks.as_slice()) else {
@@ -125,7 +132,8 @@ impl<D: Disk> Store<D> {
     pub fn into_disks(self) -> (Vec<(u32, D)>, Option<D>)
         requires { (number : ℕ) → IsStill (bay_at self.bays number) }
         ensures disks { pairs_seen D.seen result.0.items ≡ disks_in self.bays self.order }
-        ensures swap { MatchOption result.1 (bay_at self.bays 8 ≡ missing) (λ disk. bay_at self.bays 8 ≡ home (D.seen disk)) }
+        ensures swap { MatchOption result.1 (bay_at self.bays 8
+            ≡ missing) (λ disk. bay_at self.bays 8 ≡ home (D.seen disk)) }
     {
         let mut bays = self.bays;
         let swap = bays.remove(SWAP_DISK);

@@ -1,20 +1,20 @@
 //! The store and what it tells.
-ghost use Rattle.std.specs.Prelude.{◌≡◌, ◌≢◌, ℕ, ◌+◌, ◌-◌, ◌<◌, ◌≤◌, ◌^◌, ◌↔◌, true, false, List, length, Option, Some, None, IsSome, IsTrue, [], ◌∷◌, ◌++◌, IfSome, IfOk, nat_lt};
+ghost use Rattle.std.specs.Prelude.{◌≡◌, ◌≢◌, ℕ, ◌+◌, ◌-◌, ◌<◌, ◌≤◌, ◌^◌, ◌↔◌, true, false, List, length, Option, Some, None, IsSome, IsTrue, is_some, [], ◌∷◌, ◌++◌, IfSome, IfOk, nat_lt};
 ghost use Rattle.block_device.specs.DiskSeen.{DiskSeen};
 ghost use Rattle.core_arena.specs.Bytes.{bytes_at};
 ghost use Rattle.page_clock.specs.Clock.{next_pick, stepped, place_of};
 ghost use Rattle.page_hash.specs.Names.{name_at, find};
 ghost use Rattle.page_hash.specs.declared.PageName.{PageName};
-ghost use Rattle.page_lock.specs.Rows.{row_at};
+ghost use Rattle.page_lock.specs.Rows.{row_at, with_bits};
 ghost use Rattle.page_store.specs.Bays.{bay_at, home, missing};
-ghost use Rattle.page_store.specs.Fits.{Fits};
-ghost use Rattle.page_store.specs.Moves.{Moves, Touches};
+ghost use Rattle.page_store.specs.Laws.{StaysInPlace};
+ghost use Rattle.page_store.specs.Moves.{only};
 ghost use Rattle.page_store.specs.Notes.{Notes};
-ghost use Rattle.page_store.specs.Seen.{residence, IsListed};
-ghost use Rattle.page_store.specs.Steps.{next_frame, with_row};
+ghost use Rattle.page_store.specs.Seen.{residence, IsListedFrame, IsSoundStore};
+ghost use Rattle.page_store.specs.Steps.{next_frame, next_name, with_row};
 ghost use Rattle.page_store.specs.Table.{Table};
 ghost use Rattle.page_store.specs.Value.{value};
-ghost use Rattle.page_store.specs.Waits.{Waits, page_of, Chooses, IsVictim};
+ghost use Rattle.page_store.specs.Waits.{Waits, page_of, ChoosesPage, IsVictim};
 
 use crate::bays::Bays;
 use crate::order::Order;
@@ -56,7 +56,8 @@ impl<D: Disk> Store<D> {
     /// Where a page is. Constant expected time.
     pub fn resident(&self, name: PageName) -> Residence
         ensures residence { result ≡ residence self.now name }
-        ensures within { (frame : ℕ) → result ≡ Residence.Home frame → frame < length self.now.frames }
+        ensures within { (frame : ℕ) → result ≡ Residence.Home frame
+            → frame < length self.now.frames }
     {
         match self.names.find(name) {
             None => Residence::Absent,
@@ -73,6 +74,31 @@ impl<D: Disk> Store<D> {
         }
     }
 
+    /// What holds of every store.
+    pub fn sound(&self)
+        ensures { IsSoundStore self.now }
+    {
+        let _ = &self.frames;
+    }
+
+    /// The frame that the next call takes which takes one; None where none is available. Constant time.
+    pub fn next_frame(&self) -> Option<u32>
+        ensures next { result ≡ next_frame self.now }
+        ensures within { IfSome result (λ frame. frame < length self.now.frames) }
+    {
+        self.lists.next()
+    }
+
+    /// The name that this frame holds, if it holds one: whoever takes the frame takes it from this page. Constant time.
+    pub fn next_name(&self) -> Option<PageName>
+        ensures { result ≡ next_name self.now }
+    {
+        match self.next_frame() {
+            None => None,
+            Some(frame) => self.names.name_of(frame),
+        }
+    }
+
     /// Whether a frame can be taken, from the free list or the cache list.
     pub fn available(&self) -> bool
         ensures { IsTrue result ↔ IsSome (next_frame self.now) }
@@ -84,7 +110,8 @@ impl<D: Disk> Store<D> {
     pub fn bytes(&self, name: PageName) -> &[u8]
         requires { (frame : ℕ) × (residence self.now name ≡ Residence.Home frame) }
         ensures size { length result.now ≡ 4096 }
-        ensures value { (notes : Notes) (table : Table) → result.now ≡ value self.now notes table name }
+        ensures value { (notes : Notes) (table : Table)
+            → result.now ≡ value self.now notes table name }
     {
         match self.names.find(name) {
             None => unreachable!(),
@@ -104,7 +131,7 @@ impl<D: Disk> Store<D> {
     /// Whether a frame is on the free list or the cache list.
     pub fn listed(&self, frame: u32) -> bool
         requires { frame < length self.now.frames }
-        ensures { IsTrue result ↔ IsListed self.now frame }
+        ensures { IsTrue result ↔ IsListedFrame self.now frame }
     {
         self.lists.listed(frame)
     }
@@ -117,14 +144,24 @@ impl<D: Disk> Store<D> {
         self.locks.holder(frame)
     }
 
+    /// Whether a snapshot of a frame's page is away.
+    pub fn has_snapshot(&self, frame: u32) -> bool
+        requires { frame < length self.now.frames }
+        ensures { result ≡ is_some (row_at self.now.rows frame).snapshot }
+    {
+        self.locks.row(frame).snapshot.is_some()
+    }
+
     /// Keeps a frame from being taken for another use, once more.
     pub fn keep(&mut self, frame: u32)
         requires frame { frame < length self.old.frames }
         requires room { (row_at self.old.rows frame).keeps < 2 ^ 32 - 1 }
-        ensures step { self.new ≡ with_row self.old frame (record (row_at self.old.rows frame) { keeps = (row_at self.old.rows frame).keeps + 1 }) }
-        ensures moves { (notes : Notes) (table : Table) → Fits self.old notes table → Moves self.old notes self.new notes table }
-        ensures stay { (n : PageName) → residence self.new n ≡ residence self.old n }
-        ensures touches { Touches self.old self.new frame }
+        ensures new { self.new ≡ with_row self.old frame
+            (record (row_at self.old.rows frame) {
+              keeps =
+                  (row_at self.old.rows frame).keeps + 1;
+            }) }
+        ensures laws { StaysInPlace self.old self.new (only (Some frame)) }
     {
         self.locks.keep(frame);
     }
@@ -133,10 +170,12 @@ impl<D: Disk> Store<D> {
     pub fn unkeep(&mut self, frame: u32)
         requires frame { frame < length self.old.frames }
         requires kept { 0 < (row_at self.old.rows frame).keeps }
-        ensures step { self.new ≡ with_row self.old frame (record (row_at self.old.rows frame) { keeps = (row_at self.old.rows frame).keeps - 1 }) }
-        ensures moves { (notes : Notes) (table : Table) → Fits self.old notes table → Moves self.old notes self.new notes table }
-        ensures stay { (n : PageName) → residence self.new n ≡ residence self.old n }
-        ensures touches { Touches self.old self.new frame }
+        ensures new { self.new ≡ with_row self.old frame
+            (record (row_at self.old.rows frame) {
+              keeps =
+                  (row_at self.old.rows frame).keeps - 1;
+            }) }
+        ensures laws { StaysInPlace self.old self.new (only (Some frame)) }
     {
         self.locks.unkeep(frame);
     }
@@ -150,13 +189,12 @@ impl<D: Disk> Store<D> {
         self.locks.bits(frame)
     }
 
-    /// Sets both bits of a frame to these.
+    /// Sets both bits of a frame to these. A page that is modified counts as rewritten since its last snapshot.
     pub fn set_bits(&mut self, frame: u32, referenced: bool, modified: bool)
         requires { frame < length self.old.frames }
-        ensures step { self.new ≡ with_row self.old frame (record (row_at self.old.rows frame) { referenced = referenced; modified = modified }) }
-        ensures moves { (notes : Notes) (table : Table) → Fits self.old notes table → Moves self.old notes self.new notes table }
-        ensures stay { (n : PageName) → residence self.new n ≡ residence self.old n }
-        ensures touches { Touches self.old self.new frame }
+        ensures new { self.new ≡ with_row self.old frame (with_bits
+            (row_at self.old.rows frame) referenced modified) }
+        ensures laws { StaysInPlace self.old self.new (only (Some frame)) }
     {
         self.locks.set_bits(frame, referenced, modified);
     }
@@ -165,9 +203,8 @@ impl<D: Disk> Store<D> {
     pub fn clock_turn(&mut self) -> Pick
         ensures pick { result ≡ next_pick self.old.clock }
         ensures within { place_of result < length self.old.frames }
-        ensures step { self.new ≡ record self.old { clock = stepped self.old.clock } }
-        ensures moves { (notes : Notes) (table : Table) → Fits self.old notes table → Moves self.old notes self.new notes table }
-        ensures stay { (n : PageName) → residence self.new n ≡ residence self.old n }
+        ensures new { self.new ≡ record self.old { clock = stepped self.old.clock } }
+        ensures laws { StaysInPlace self.old self.new (only None) }
     {
         self.clock.step()
     }
@@ -194,7 +231,7 @@ impl<D: Disk> Store<D> {
     /// It looks at the frames in order, from the one behind the last frame that was taken on, so that successive searches
     /// go round the frames.
     pub fn victim(&self) -> Option<PageName>
-        ensures { Chooses self.now result }
+        ensures { ChoosesPage self.now result }
     {
         let next = self.hand + 1;
         match self.victim_in(next, self.frames) {
@@ -205,8 +242,9 @@ impl<D: Disk> Store<D> {
 
     fn victim_in(&self, from: u32, to: u32) -> Option<PageName>
         requires { to ≤ length self.now.frames }
-        ensures some { IfSome result (λ name. Chooses self.now (Some name)) }
-        ensures none { result ≡ None → (frame : ℕ) → from ≤ frame → frame < to → IsVictim self.now frame → ⊥ }
+        ensures some { IfSome result (λ name. ChoosesPage self.now (Some name)) }
+        ensures none { result ≡ None → (frame : ℕ) → from ≤ frame → frame < to
+            → IsVictim self.now frame → ⊥ }
     {
         for frame in from..to {
             if self.is_victim(frame) {

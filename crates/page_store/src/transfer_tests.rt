@@ -5,12 +5,13 @@ ghost use Rattle.block_device.specs.MemSeen.{disk_of};
 ghost use Rattle.page_store.specs.Bays.{bay_at};
 ghost use Rattle.page_store.specs.Flight.{fresh};
 ghost use Rattle.page_store.specs.Seen.{StoreSeen};
-ghost use Rattle.page_store.specs.Transfers.{CanBegin, IsFlightOf};
-ghost use Rattle.page_store.specs.Trips.{AreReady, IsThere};
+ghost use Rattle.page_store.specs.Out.{IsFlightOf};
+ghost use Rattle.page_store.specs.Transfers.{CanBegin};
+ghost use Rattle.page_store.specs.Trips.{AreReady, HasDisk};
 ghost use Rattle.page_store.specs.Waits.{Waits};
 
 use super::*;
-use crate::trips::{Fault, give_up, load_byte, push_out};
+use crate::trips::{Fault, Meanwhile, load_byte, push_out, transfer_while};
 use block_device::{Block, Disk, MemDisk};
 use std::alloc::{AllocError, Global};
 use std::test::Fail;
@@ -30,8 +31,11 @@ enum Act {
     Push(PageName),
     Poke(PageName, u8),
     Dirty(PageName),
-    GiveUp(Plan),
+    While(Plan, Meanwhile),
 }
+
+/// A page's first byte, and whether it is modified; None where the page isn't home.
+type Seen = Option<(u8, bool)>;
 
 #[derive(Clone, Copy, PartialEq, Eq, Debug)]
 enum Told {
@@ -139,7 +143,7 @@ impl Machine {
         }
     }
 
-    fn give_up(&mut self, plan: Plan) -> Told {
+    fn transfer_while(&mut self, plan: Plan, meanwhile: Meanwhile) -> Told {
         let (Plan::Read(name) | Plan::Push(name)) = plan;
         let Some(place) = known(name) else {
             return Told::No;
@@ -147,7 +151,7 @@ impl Machine {
         if !can_begin(&self.store, plan) || self.store.ready(&plan, place.disk).is_some() {
             return Told::No;
         }
-        if give_up(&mut self.store, 1, plan, place) {
+        if transfer_while(&mut self.store, 1, plan, place, meanwhile) {
             Told::Yes
         } else {
             Told::No
@@ -177,13 +181,35 @@ impl Machine {
         }
     }
 
+    /// A page's first byte, and whether it is modified; None where it isn't home.
+    fn seen(&self, name: PageName) -> Seen {
+        match self.store.resident(name) {
+            Residence::Home(frame) => {
+                let modified = self.store.bits(frame).1;
+                Some((self.store.bytes(name)[0], modified))
+            }
+            Residence::Moving(_) => None,
+            Residence::Absent => None,
+        }
+    }
+
+    fn all_seen(&self) -> [Seen; 5] {
+        [
+            self.seen(A),
+            self.seen(B),
+            self.seen(C),
+            self.seen(D),
+            self.seen(E),
+        ]
+    }
+
     fn make(&mut self, act: Act) -> Told {
         match act {
             Act::Load(name, at) => self.load(name, at),
             Act::Push(name) => self.push(name),
             Act::Poke(name, byte) => self.poke(name, byte),
             Act::Dirty(name) => self.dirty(name),
-            Act::GiveUp(plan) => self.give_up(plan),
+            Act::While(plan, meanwhile) => self.transfer_while(plan, meanwhile),
         }
     }
 }
@@ -198,9 +224,13 @@ const D: PageName = PageName { object: 1, page: 0 };
 
 const E: PageName = PageName { object: 1, page: 1 };
 
-/// The acts in order over four frames, and what is told of each. Call 2 of each disk fails.
-const ACTS: [(Act, Told); 24] = [
-    (Act::Load(A, 0), Told::Byte(0x10)),
+/// The acts in order over four frames, what is told of each, and every page after it. Call 2 of each disk fails.
+const ACTS: [(Act, Told, [Seen; 5]); 28] = [
+    (
+        Act::Load(A, 0),
+        Told::Byte(0x10),
+        [Some((0x10, false)), None, None, None, None],
+    ),
     (
         Act::Load(B, 5),
         Told::Failed(Fault {
@@ -208,12 +238,51 @@ const ACTS: [(Act, Told); 24] = [
             before: 0,
             after: 1,
         }),
+        [Some((0x10, false)), None, None, None, None],
     ),
-    (Act::Push(B), Told::No),
-    (Act::Load(B, 5), Told::Byte(0x11)),
-    (Act::Load(C, 99), Told::Byte(0x23)),
-    (Act::Load(C, 100), Told::Byte(0)),
-    (Act::Dirty(C), Told::No),
+    (
+        Act::Push(B),
+        Told::No,
+        [Some((0x10, false)), None, None, None, None],
+    ),
+    (
+        Act::Load(B, 5),
+        Told::Byte(0x11),
+        [Some((0x10, false)), Some((0x11, false)), None, None, None],
+    ),
+    (
+        Act::Load(C, 99),
+        Told::Byte(0x23),
+        [
+            Some((0x10, false)),
+            Some((0x11, false)),
+            Some((0x23, false)),
+            None,
+            None,
+        ],
+    ),
+    (
+        Act::Load(C, 100),
+        Told::Byte(0),
+        [
+            Some((0x10, false)),
+            Some((0x11, false)),
+            Some((0x23, false)),
+            None,
+            None,
+        ],
+    ),
+    (
+        Act::Dirty(C),
+        Told::No,
+        [
+            Some((0x10, false)),
+            Some((0x11, false)),
+            Some((0x23, false)),
+            None,
+            None,
+        ],
+    ),
     (
         Act::Push(C),
         Told::Failed(Fault {
@@ -221,26 +290,238 @@ const ACTS: [(Act, Told); 24] = [
             before: 0,
             after: 1,
         }),
+        [
+            Some((0x10, false)),
+            Some((0x11, false)),
+            Some((0x23, true)),
+            None,
+            None,
+        ],
     ),
-    (Act::Dirty(C), Told::Yes),
-    (Act::Poke(C, 7), Told::Yes),
-    (Act::Push(C), Told::Yes),
-    (Act::Dirty(C), Told::No),
-    (Act::Load(C, 0), Told::Byte(7)),
+    (
+        Act::Dirty(C),
+        Told::Yes,
+        [
+            Some((0x10, false)),
+            Some((0x11, false)),
+            Some((0x23, true)),
+            None,
+            None,
+        ],
+    ),
+    (
+        Act::Poke(C, 7),
+        Told::Yes,
+        [
+            Some((0x10, false)),
+            Some((0x11, false)),
+            Some((7, true)),
+            None,
+            None,
+        ],
+    ),
+    (
+        Act::Push(C),
+        Told::Yes,
+        [
+            Some((0x10, false)),
+            Some((0x11, false)),
+            Some((7, false)),
+            None,
+            None,
+        ],
+    ),
+    (
+        Act::Dirty(C),
+        Told::No,
+        [
+            Some((0x10, false)),
+            Some((0x11, false)),
+            Some((7, false)),
+            None,
+            None,
+        ],
+    ),
+    (
+        Act::Load(C, 0),
+        Told::Byte(7),
+        [
+            Some((0x10, false)),
+            Some((0x11, false)),
+            Some((7, false)),
+            None,
+            None,
+        ],
+    ),
     // The page is written while its name is given up and taken anew: the new page stays.
-    (Act::Poke(A, 9), Told::Yes),
-    (Act::GiveUp(Plan::Push(A)), Told::Yes),
-    (Act::Load(A, 0), Told::Byte(0)),
-    // Its old frame came free with the flight.
-    (Act::Load(D, 0), Told::Byte(0x20)),
-    (Act::Load(E, 0), Told::No),
-    // No frame can be taken meanwhile, so the page is in none afterwards.
-    (Act::GiveUp(Plan::Push(D)), Told::No),
-    (Act::Load(D, 1), Told::Byte(0x20)),
-    (Act::GiveUp(Plan::Read(E)), Told::No),
-    (Act::GiveUp(Plan::Push(B)), Told::No),
-    (Act::GiveUp(Plan::Read(E)), Told::No),
-    (Act::Load(E, 0), Told::Byte(0x21)),
+    (
+        Act::Poke(A, 9),
+        Told::Yes,
+        [
+            Some((9, true)),
+            Some((0x11, false)),
+            Some((7, false)),
+            None,
+            None,
+        ],
+    ),
+    (
+        Act::While(Plan::Push(A), Meanwhile::GivenUp),
+        Told::Yes,
+        [
+            Some((0, false)),
+            Some((0x11, false)),
+            Some((7, false)),
+            None,
+            None,
+        ],
+    ),
+    (
+        Act::Load(A, 0),
+        Told::Byte(0),
+        [
+            Some((0, false)),
+            Some((0x11, false)),
+            Some((7, false)),
+            None,
+            None,
+        ],
+    ),
+    // Its snapshot's frame came free with the flight.
+    (
+        Act::Load(D, 0),
+        Told::Byte(0x20),
+        [
+            Some((0, false)),
+            Some((0x11, false)),
+            Some((7, false)),
+            Some((0x20, false)),
+            None,
+        ],
+    ),
+    (
+        Act::Load(E, 0),
+        Told::No,
+        [
+            Some((0, false)),
+            Some((0x11, false)),
+            Some((7, false)),
+            Some((0x20, false)),
+            None,
+        ],
+    ),
+    // No frame can be taken meanwhile: the page's own frame goes out, and the page is in none afterwards.
+    (
+        Act::While(Plan::Push(D), Meanwhile::GivenUp),
+        Told::No,
+        [
+            Some((0, false)),
+            Some((0x11, false)),
+            Some((7, false)),
+            None,
+            None,
+        ],
+    ),
+    (
+        Act::Load(D, 1),
+        Told::Byte(0x20),
+        [
+            Some((0, false)),
+            Some((0x11, false)),
+            Some((7, false)),
+            Some((0x20, false)),
+            None,
+        ],
+    ),
+    (
+        Act::While(Plan::Read(E), Meanwhile::GivenUp),
+        Told::No,
+        [
+            Some((0, false)),
+            Some((0x11, false)),
+            Some((7, false)),
+            Some((0x20, false)),
+            None,
+        ],
+    ),
+    (
+        Act::While(Plan::Push(B), Meanwhile::Written(1)),
+        Told::No,
+        [
+            Some((0, false)),
+            Some((0x11, false)),
+            Some((7, false)),
+            Some((0x20, false)),
+            None,
+        ],
+    ),
+    (
+        Act::While(Plan::Push(B), Meanwhile::GivenUp),
+        Told::No,
+        [
+            Some((0, false)),
+            None,
+            Some((7, false)),
+            Some((0x20, false)),
+            None,
+        ],
+    ),
+    (
+        Act::While(Plan::Read(E), Meanwhile::GivenUp),
+        Told::No,
+        [
+            Some((0, false)),
+            None,
+            Some((7, false)),
+            Some((0x20, false)),
+            None,
+        ],
+    ),
+    // A page that is written while its snapshot goes out stays modified.
+    (
+        Act::Poke(D, 5),
+        Told::Yes,
+        [
+            Some((0, false)),
+            None,
+            Some((7, false)),
+            Some((5, true)),
+            None,
+        ],
+    ),
+    (
+        Act::While(Plan::Push(D), Meanwhile::Written(6)),
+        Told::Yes,
+        [
+            Some((0, false)),
+            None,
+            Some((7, false)),
+            Some((6, true)),
+            None,
+        ],
+    ),
+    (
+        Act::Push(D),
+        Told::Yes,
+        [
+            Some((0, false)),
+            None,
+            Some((7, false)),
+            Some((6, false)),
+            None,
+        ],
+    ),
+    (
+        Act::Load(E, 0),
+        Told::Byte(0x21),
+        [
+            Some((0, false)),
+            None,
+            Some((7, false)),
+            Some((6, false)),
+            Some((0x21, false)),
+        ],
+    ),
 ];
 
 /// The byte at this place of a block.
@@ -255,8 +536,9 @@ fn pages_come_and_go_as_their_disks_allow(rt: HostRuntime) -> Result<(), Fail> {
         assert!(rt; false, "want of memory");
         return Ok(());
     };
-    for (act, told) in ACTS {
+    for (act, told, want) in ACTS {
         assert_eq!(rt; machine.make(act), told, "{act:?}");
+        assert_eq!(rt; machine.all_seen().as_slice(), want.as_slice(), "{act:?}");
     }
     let Machine { store } = machine;
     let (disks, _) = store.into_disks();
@@ -264,9 +546,15 @@ fn pages_come_and_go_as_their_disks_allow(rt: HostRuntime) -> Result<(), Fail> {
         .iter()
         .map(|disk| { (disk.0, disk.1.faults(), disk.1.reads(), disk.1.writes()) })
         .collect(rt.alloc())?;
-    assert_eq!(rt; found.as_slice(), [(0, 1, 3, 2), (1, 1, 5, 3)].as_slice());
-    // The page that was given up was written; the other has its valid bytes, and zeros after them.
-    for (disk, block, at, byte) in [(0, 0, 0, 9), (1, 3, 0, 7), (1, 3, 99, 0x23), (1, 3, 100, 0)] {
+    assert_eq!(rt; found.as_slice(), [(0, 1, 3, 3), (1, 1, 5, 5)].as_slice());
+    // The page that was given up was written; another has its valid bytes, and zeros after them; the last was written twice.
+    for (disk, block, at, byte) in [
+        (0, 0, 0, 9),
+        (1, 3, 0, 7),
+        (1, 3, 99, 0x23),
+        (1, 3, 100, 0),
+        (1, 0, 0, 6),
+    ] {
         let found = disks.get(disk).and_then(|disk| byte_of(&disk.1, block, at));
         assert_eq!(rt; found, Some(byte), "disk {disk}, block {block}, byte {at}");
     }
@@ -289,12 +577,17 @@ fn read_on_a_thread(
     place: Place,
 ) -> bool
     requires ready { Waits store.old name place.disk None }
-    requires there { IsThere (bay_at store.old.bays place.disk) place.block }
+    requires there { HasDisk (bay_at store.old.bays place.disk) place.block }
     requires valid { place.valid ≤ 4096 }
     requires can { CanBegin (Plan.Read name) store.old }
 {
     let flight = store.begin(3, Plan::Read(name), place.disk, place.block, place.valid);
-    let ((flight, done), _) = thread::join(rt, move || fly(flight), || ());
+    let perform = move ||
+        requires { flight.outcome ≡ fresh }
+        ensures store { (s : StoreSeen) → IsFlightOf s flight → IsFlightOf s result.0 }
+        ensures flown { result.0.outcome ≢ fresh }
+    { fly(flight) };
+    let ((flight, done), _) = thread::join(rt, perform, || ());
     store.end(flight);
     done
 }

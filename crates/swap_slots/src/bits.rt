@@ -3,7 +3,6 @@ ghost use Rattle.std.specs.Prelude.{◌≡◌, ◌≢◌, ℕ, ◌+◌, ◌-◌,
 ghost use Rattle.std.specs.Int.{bit_at};
 ghost use Rattle.swap_slots.specs.Bits.{flag, IsSummary, Marks};
 
-// The word with one bit set.
 fn with_bit(word: u64, k: u32) -> u64
     requires { k < 64 }
     ensures set { bit_at result k ≡ 1 }
@@ -12,7 +11,6 @@ fn with_bit(word: u64, k: u32) -> u64
     word | (1 << k)
 }
 
-// The word with one bit clear.
 fn without_bit(word: u64, k: u32) -> u64
     requires { k < 64 }
     ensures clear { bit_at result k ≡ 0 }
@@ -21,7 +19,6 @@ fn without_bit(word: u64, k: u32) -> u64
     word & !(1 << k)
 }
 
-// The lowest bit that is clear.
 fn lowest_clear(word: u64) -> usize
     requires { word < 2 ^ 64 - 1 }
     ensures within { result < 64 }
@@ -31,7 +28,6 @@ fn lowest_clear(word: u64) -> usize
     word.trailing_ones() as usize
 }
 
-// Whether the bit at a place is set.
 pub fn is_set(words: &[u64], place: usize) -> bool
     requires { place < 64 * length words.now }
     ensures { result ≡ flag words.now place }
@@ -39,7 +35,6 @@ pub fn is_set(words: &[u64], place: usize) -> bool
     (words[place / 64] >> (place % 64)) & 1 == 1
 }
 
-// Sets the bit at a place.
 fn set_bit(words: &mut [u64], place: usize)
     requires { place < 64 * length words.old }
     ensures { Marks words.old words.new place true }
@@ -48,7 +43,6 @@ fn set_bit(words: &mut [u64], place: usize)
     words[place / 64] = with_bit(word, (place % 64) as u32);
 }
 
-// Clears the bit at a place.
 fn clear_bit(words: &mut [u64], place: usize)
     requires { place < 64 * length words.old }
     ensures { Marks words.old words.new place false }
@@ -78,6 +72,7 @@ pub fn first_free(words: &[u64], full: &[u64]) -> Option<usize>
     requires few { length words.now ≤ 2 ^ 32 }
     requires few_full { length full.now ≤ 2 ^ 32 }
     requires summary { IsSummary words.now full.now }
+    // The first place whose bit is clear.
     ensures within { IfSome result (λ place. place < 64 * length words.now) }
     ensures clear { IfSome result (λ place. flag words.now place ≡ false) }
     ensures first { IfSome result (λ place. (k : ℕ) → k < place → flag words.now k ≡ true) }

@@ -43,7 +43,8 @@ impl SwapSlots {
         Ok(SwapSlots { slots, words, full })
     }
 
-    /// Takes the least slot that isn't in use, if there is one. It looks at one word for each 4096 slots, and two more.
+    /// Takes the least slot that isn't in use, if there is one. It looks at one word for each 4096
+    /// slots, and two more.
     pub fn alloc(&mut self) -> Option<u32>
         ensures least { result ≡ position not self.old }
         ensures taken { IfSome result (λ slot. self.new ≡ slice_set self.old slot true) }

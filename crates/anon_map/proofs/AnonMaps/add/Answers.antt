@@ -1,5 +1,5 @@
 use Rattle.std.proofs.Common.{ℕ, List, subst, vec_capacity}
-use Rattle.anon_map.specs.Maps.{IsKept}
+use Rattle.anon_map.specs.Maps.{IsSoundAnonMaps}
 use Rattle.anon_map.proofs.KeptLemmas.{kept_again}
 use Rattle.anon_map.proofs.AnonMaps.add.Goals as goal
 
@@ -7,4 +7,4 @@ pub invariant_of-self : goal.invariant_of-self
 invariant_of-self c =
     rw c.in-Some.ensures.capacity
     (kept_again c.self.inside.maps.items c.pop.new.self.items (vec_capacity c.self.inside.gone) c.in-Some.number c.args.map
-    (subst (λ (gone : List ℕ). IsKept c.self.inside.maps.items gone (vec_capacity c.self.inside.gone)) c.in-Some.ensures.items c.self.invariant))
+    (subst (λ (gone : List ℕ). IsSoundAnonMaps c.self.inside.maps.items gone (vec_capacity c.self.inside.gone)) c.in-Some.ensures.items c.self.invariant))

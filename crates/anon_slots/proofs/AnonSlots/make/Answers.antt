@@ -1,7 +1,7 @@
-use Rattle.std.proofs.Common.{set, true, ◌≡◌, ◌∙◌, Option, ℕ, ap, sym, subst, arith, position, ◌==◌}
+use Rattle.std.proofs.Common.{set, ◌+◌, true, ◌≡◌, ◌∙◌, Option, ℕ, ap, sym, subst, arith, position, ◌==◌}
 use Rattle.std.specs.Option.{IsSome}
-use Rattle.anon_slots.specs.Slots.{Slots, slots_in_use}
-use Rattle.anon_slots.proofs.KeptLemmas.{kept_made, has_unused, unused_at, area_first}
+use Rattle.anon_slots.specs.Slots.{Slots, slots_in_use, count_at}
+use Rattle.anon_slots.proofs.KeptLemmas.{kept_made, used_made, has_unused, unused_at, area_first}
 use Rattle.anon_slots.proofs.AnonSlots.make.Goals as goal
 
 pub unwrap-slot-requires : goal.unwrap-slot-requires
@@ -24,3 +24,14 @@ invariant_of-self c =
     (kept_made c.self.inside.area c.self.inside.counts.items c.self.inside.swapped.items c.self.inside.reserved c.self.inside.in_use c.unwrap-slot.result _ _ c.self.invariant at.0 at.1
     (omega (arith, c.self.invariant.counted, c.requires, ap slots_in_use c.self.view_is, ap (λ (s : Slots). s.reserved) c.self.view_is))
     (omega arith))
+
+pub returns-clause-free : goal.returns-clause-free
+returns-clause-free c =
+    let first = sym (c.alloc.ensures.least ∙ area_first c.self.inside.area c.self.inside.counts.items c.self.invariant.marked) ∙ c.unwrap-slot.ensures in
+    ap (λ (s : Slots). count_at s c.unwrap-slot.result) (sym c.self.view_is) ∙ (unused_at c.self.inside.counts.items c.unwrap-slot.result first).1
+
+pub returns-clause-in_use : goal.returns-clause-in_use
+returns-clause-in_use c =
+    let first = sym (c.alloc.ensures.least ∙ area_first c.self.inside.area c.self.inside.counts.items c.self.invariant.marked) ∙ c.unwrap-slot.ensures in
+    let at = unused_at c.self.inside.counts.items c.unwrap-slot.result first in
+    used_made c.self.inside.counts.items c.unwrap-slot.result at.0 at.1 ∙ ap (λ (s : Slots). slots_in_use s + 1) c.self.view_is

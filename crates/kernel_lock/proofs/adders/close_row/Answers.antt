@@ -20,7 +20,7 @@ close-requires-clause-all c =
 pub returns-clause-sum : goal.returns-clause-sum
 returns-clause-sum c a b is =
     let r = c.requires.row in
-    let end = c.close.ensures in
+    let end = c.close.ensures.closed in
     let same = sym r.2 ∙ is in
     let first : r.0 ≡ a = cc same in
     let second : r.1 ≡ b = cc same in
@@ -33,7 +33,7 @@ returns-clause-sum c a b is =
 pub returns-clause-own : goal.returns-clause-own
 returns-clause-own c a b is =
     let r = c.requires.row in
-    let end = c.close.ensures in
+    let end = c.close.ensures.closed in
     let same = sym r.2 ∙ is in
     let first : r.0 ≡ a = cc same in
     let second : r.1 ≡ b = cc same in (

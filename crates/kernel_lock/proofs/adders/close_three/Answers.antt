@@ -15,7 +15,7 @@ close_gathered-requires-clause-all c =
 pub returns-clause-sum : goal.returns-clause-sum
 returns-clause-sum c =
     let parts = ap (λ z. z.parts) c.gather-3.ensures ∙ ap (λ z. part_of c.args.first ∷ z) (ap (λ z. z.parts) c.gather-2.ensures ∙ ap (λ z. part_of c.args.second ∷ z) (ap (λ z. z.parts) c.gather.ensures ∙ ap (λ z. part_of c.args.third ∷ z.parts) c.gather_none-from.ensures)) in
-    let end = c.close_gathered.ensures in
+    let end = c.close_gathered.ensures.closed in
     let n = c.requires.numbers in
     let a = subst (λ k. get_elem? end.notes k ≡ some c.args.first.note) n.0 (end.holds 0 (part_of c.args.first) (ap (λ l. get_elem? l 0) parts)).0 in
     let b = subst (λ k. get_elem? end.notes k ≡ some c.args.second.note) n.1 (end.holds 1 (part_of c.args.second) (ap (λ l. get_elem? l 1) parts)).0 in
@@ -27,7 +27,7 @@ returns-clause-sum c =
 pub returns-clause-own : goal.returns-clause-own
 returns-clause-own c =
     let parts = ap (λ z. z.parts) c.gather-3.ensures ∙ ap (λ z. part_of c.args.first ∷ z) (ap (λ z. z.parts) c.gather-2.ensures ∙ ap (λ z. part_of c.args.second ∷ z) (ap (λ z. z.parts) c.gather.ensures ∙ ap (λ z. part_of c.args.third ∷ z.parts) c.gather_none-from.ensures)) in
-    let end = c.close_gathered.ensures in
+    let end = c.close_gathered.ensures.closed in
     let n = c.requires.numbers in (
       subst (λ k. entries_by seat_named k (entries c.close_gathered.result) ≡ c.args.first.own) n.0 (end.holds 0 (part_of c.args.first) (ap (λ l. get_elem? l 0) parts)).2,
       subst (λ k. entries_by seat_named k (entries c.close_gathered.result) ≡ c.args.second.own) n.1 (end.holds 1 (part_of c.args.second) (ap (λ l. get_elem? l 1) parts)).2,

@@ -1,5 +1,5 @@
 use Rattle.std.proofs.Common.{ap, sym, subst, ◌∙◌}
-use Rattle.kernel_lock.specs.Tally.{Moves, stays}
+use Rattle.kernel_lock.specs.Tally.{MovesTally, stays}
 use Rattle.kernel_lock.proofs.adders.look.Goals as goal
 
 pub leave-requires-clause-moves : goal.leave-requires-clause-moves
@@ -7,5 +7,5 @@ leave-requires-clause-moves g c =
     let e = c.enter-tally.ensures.inside.3 in (
       c.enter-tally.result,
       ap (λ v. v.state) e,
-      subst (λ n. Moves c.enter-tally.new.seat.number c.enter-tally.result n c.enter-tally.result c.args.held) (sym (ap (λ v. v.note) e ∙ c.requires.held)) (stays c.enter-tally.new.seat.number c.enter-tally.result c.args.held),
+      subst (λ n. MovesTally c.enter-tally.new.seat.number c.enter-tally.result n c.enter-tally.result c.args.held) (sym (ap (λ v. v.note) e ∙ c.requires.held)) (stays c.enter-tally.new.seat.number c.enter-tally.result c.args.held),
     )

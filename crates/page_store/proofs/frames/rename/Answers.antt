@@ -12,6 +12,6 @@ enter-requires-clause-absent c =
 
 pub returns-clause-entered : goal.returns-clause-entered
 returns-clause-entered c =
-    c.enter.ensures.entered
+    c.enter.ensures.new
     ∙ ap (λ (names : List (Option PageName)). set names c.args.frame (Some c.args.name)) c.forget.ensures.emptied
     ∙ set-set c.args.names.now c.args.frame None (Some c.args.name)

@@ -4,7 +4,7 @@ use Rattle.block_device.specs.MemSeen.{disk_of}
 use Rattle.block_device.specs.declared.mem_disk.MemDisk.{MemDisk}
 use Rattle.page_store.specs.Bays.{pairs_seen}
 use Rattle.page_store.specs.New.{IsNew}
-use Rattle.page_store.proofs.TransferLemmasFlight.{ready-new}
+use Rattle.page_store.proofs.TripLemmas.{ready-new}
 use Rattle.page_store.proofs.transfer_tests.new_machine.Goals as goal
 
 pub invariant_of-result : goal.invariant_of-result

@@ -1,15 +1,15 @@
 use Rattle.std.proofs.Common.{◌≡◌, ℕ, Bool, true, List, ◌∙◌, ap, cond}
 use Rattle.std.specs.Prelude.{slice_index}
 use Rattle.page_store.specs.Bytes.{clipped}
-use Rattle.page_store.specs.Moves.{Takes}
+use Rattle.page_store.specs.Moves.{TakesFrame}
 use Rattle.page_store.specs.Value.{tells, value}
 use Rattle.page_store.specs.declared.place.Place.{Place}
-use Rattle.page_store.proofs.TransferLemmasTrip.{takes-keeps}
+use Rattle.page_store.proofs.TripLemmas.{takes-keeps}
 use Rattle.page_store.proofs.trips.load_byte.Goals as goal
 
 pub returns-in-Ok-clause-value : goal.returns-in-Ok-clause-value
 returns-in-Ok-clause-value g c = λ notes table fits idle place told.
-    let takes : Takes c.args.store.now notes c.read_in.new.store notes table = c.read_in.ensures.takes notes table fits idle place in
+    let takes : TakesFrame c.args.store.now notes c.read_in.new.store notes table = c.read_in.ensures.takes notes table fits idle place in
     let tells_it : tells c.args.store.now notes (table c.args.name).disk ≡ true = ap (λ (p : Place). tells c.args.store.now notes p.disk) place ∙ told in
     ap (λ (b : List ℕ). slice_index b c.args.at) (c.bytes-in-Ok.ensures.value notes table ∙ takes.values c.args.name tells_it
     ∙ ap (λ (b : Bool). cond b (clipped (table c.args.name).valid (value c.args.store.now notes table c.args.name)) (value c.args.store.now notes table c.args.name)) c.read_in.ensures.other)

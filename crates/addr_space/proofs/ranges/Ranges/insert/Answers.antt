@@ -1,14 +1,11 @@
-use Rattle.std.proofs.Common.{◌≡◌, ℕ, List, length, arith, sym, ◌∙◌, ap, subst}
+use Rattle.std.proofs.Common.{◌≡◌, List, length, arith, sym, ◌∙◌, ap, subst}
 use Rattle.std.specs.Prelude.{insert, vec_len}
 use Rattle.addr_space.specs.declared.ranges.Span.{Span}
-use Rattle.addr_space.specs.Space.{Part, Space, part, at, part_at, put}
-use Rattle.addr_space.specs.Inside.{joined, count_below, SpansRise, IsSound}
-use Rattle.addr_space.proofs.SpanLemmas.{sound-rise, count-within, inserted, inserted-sound}
+use Rattle.addr_space.specs.Space.{Part, RangesSeen, part, at, part_at, put}
+use Rattle.addr_space.specs.Inside.{joined, SpansRise, IsSoundRanges}
+use Rattle.addr_space.proofs.SpanLemmas.{counted, sound-rise, count-within, inserted, inserted-sound}
 use Rattle.addr_space.proofs.PartLemmas.{at-put}
 use Rattle.addr_space.proofs.ranges.Ranges.insert.Goals as goal
-
-counted : (lent ss : List Span) (page from count : ℕ) → lent ≡ ss → from ≡ page → count ≡ count_below from lent → count ≡ count_below page ss
-counted lent ss page from count same e h = h ∙ ap (λ (k : ℕ). count_below k lent) e ∙ ap (λ (ss : List Span). count_below page ss) same
 
 pub count_from-place-requires : goal.count_from-place-requires
 count_from-place-requires g c = subst (λ (ss : List Span). SpansRise 1 ss) (sym c.deref.ensures.value) (sound-rise c.self.inside.spans.items c.self.inside.pieces.items c.self.invariant)
@@ -28,16 +25,16 @@ insert_within-requires-2-clause-within g c =
 
 pub invariant_of-self : goal.invariant_of-self
 invariant_of-self g c =
-    let v = ap (λ (s : Space g.row.T.Denot). s.parts) c.self.view_is in
+    let v = ap (λ (s : RangesSeen g.row.T.Denot). s.parts) c.self.view_is in
     let e = counted c.deref.result.now c.self.inside.spans.items c.args.page c.from.result c.count_from-place.result c.deref.ensures.value c.from.ensures c.count_from-place.ensures in
     let s = inserted-sound c.self.inside.spans.items c.self.inside.pieces.items c.args.page c.args.pages c.args.piece c.count_from-place.result c.self.invariant e c.requires.some c.requires.low c.requires.high
     (λ r a b. ap (λ (ps : List (Part g.row.T.Denot)). part_at ps r) v ∙ c.requires.absent r a b) in
-    subst (λ (ss : List Span). IsSound ss c.insert_within-2.new.items.items) (sym c.insert_within.ensures.items)
-    (subst (λ (xs : List g.row.T.Denot). IsSound (insert c.self.inside.spans.items c.count_from-place.result (record { first = c.args.page; pages = c.args.pages })) xs) (sym c.insert_within-2.ensures.items) s)
+    subst (λ (ss : List Span). IsSoundRanges ss c.insert_within-2.new.items.items) (sym c.insert_within.ensures.items)
+    (subst (λ (xs : List g.row.T.Denot). IsSoundRanges (insert c.self.inside.spans.items c.count_from-place.result (record { first = c.args.page; pages = c.args.pages })) xs) (sym c.insert_within-2.ensures.items) s)
 
 parts_are : goal.returns-clause-parts
 parts_are g c =
-    let v = ap (λ (s : Space g.row.T.Denot). s.parts) c.self.view_is in
+    let v = ap (λ (s : RangesSeen g.row.T.Denot). s.parts) c.self.view_is in
     let e = counted c.deref.result.now c.self.inside.spans.items c.args.page c.from.result c.count_from-place.result c.deref.ensures.value c.from.ensures c.count_from-place.ensures in
     ap (λ (ss : List Span). joined ss c.insert_within-2.new.items.items) c.insert_within.ensures.items
     ∙ ap (λ (xs : List g.row.T.Denot). joined (insert c.self.inside.spans.items c.count_from-place.result (record { first = c.args.page; pages = c.args.pages })) xs) c.insert_within-2.ensures.items

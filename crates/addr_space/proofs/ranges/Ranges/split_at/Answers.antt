@@ -1,8 +1,8 @@
 use Rattle.std.proofs.Common.{◌≡◌, ℕ, ◌+◌, ◌-◌, ◌<◌, List, length, get_or, set, arith, sym, ◌∙◌, ap, subst, Option, Some, suc, cond, add-one}
 use Rattle.std.specs.Prelude.{insert, IsSomeAnd, IfSome}
 use Rattle.addr_space.specs.declared.ranges.Span.{Span}
-use Rattle.addr_space.specs.Space.{Part, Space, part, has, at, part_at, cut_at, upper_of, IsInOrder}
-use Rattle.addr_space.specs.Inside.{joined, IsHolder, IsSound}
+use Rattle.addr_space.specs.Space.{Part, RangesSeen, part, has, at, part_at, cut_at, upper_of, IsInOrder}
+use Rattle.addr_space.specs.Inside.{joined, IsHolder, IsSoundRanges}
 use Rattle.addr_space.proofs.SpanLemmas.{sound-rise, joined-cut, cut-sound, holder-part, none-part, some-at}
 use Rattle.addr_space.proofs.PartLemmas.{at-cut, has-within, found-in}
 use Rattle.addr_space.proofs.ranges.Ranges.split_at.Goals as goal
@@ -12,7 +12,7 @@ place_of-requires g c = sound-rise c.self.inside.spans.items c.self.inside.piece
 
 pub unreachable-requires : goal.unreachable-requires
 unreachable-requires g c =
-    let v = ap (λ (s : Space g.row.T.Denot). s.parts) c.self.view_is in
+    let v = ap (λ (s : RangesSeen g.row.T.Denot). s.parts) c.self.view_is in
     let n = ap (λ (ps : List (Part g.row.T.Denot)). part_at ps c.args.page) (sym v) ∙ none-part c.self.inside.spans.items c.self.inside.pieces.items c.args.page c.in_default.ensures in
     subst (λ (o : Option (Part g.row.T.Denot)). IsSomeAnd o (λ p. p.first < c.args.page)) n c.requires.across
 
@@ -23,7 +23,7 @@ record Cut {T : Type 0} (parts : List (Part T)) (page : ℕ) (s : Span) : Type 0
   below : s.first < page
   above : page < s.first + s.pages
 
-cut-of : {T : Type 0} (now : List (Part T)) (ss : List Span) (xs : List T) (page i : ℕ) (s : Span) → joined ss xs ≡ now → IsSound ss xs → IsHolder page ss i → i < length ss → s ≡ get_or ss i s → IsSomeAnd (part_at now page) (λ p. p.first < page) → Cut now page s
+cut-of : {T : Type 0} (now : List (Part T)) (ss : List Span) (xs : List T) (page i : ℕ) (s : Span) → joined ss xs ≡ now → IsSoundRanges ss xs → IsHolder page ss i → i < length ss → s ≡ get_or ss i s → IsSomeAnd (part_at now page) (λ p. p.first < page) → Cut now page s
 cut-of {T} now ss xs page i s v h holder lt is across =
     let n = h.lengths in
     let t = some-at xs i (omega arith) in
@@ -33,31 +33,31 @@ cut-of {T} now ss xs page i s v h holder lt is across =
 
 pub overflow_sub-below : goal.overflow_sub-below
 overflow_sub-below g c =
-    let v = ap (λ (s : Space g.row.T.Denot). s.parts) c.self.view_is in
+    let v = ap (λ (s : RangesSeen g.row.T.Denot). s.parts) c.self.view_is in
     let h = c.in-Some.ensures in
     let k = (cut-of c.args.self.now.parts c.self.inside.spans.items c.self.inside.pieces.items c.args.page c.in-Some.place c.index.result.now v c.self.invariant h.0 h.1 c.index.ensures c.requires.across).below in omega arith
 
 pub overflow_sub-pages : goal.overflow_sub-pages
 overflow_sub-pages g c =
-    let v = ap (λ (s : Space g.row.T.Denot). s.parts) c.self.view_is in
+    let v = ap (λ (s : RangesSeen g.row.T.Denot). s.parts) c.self.view_is in
     let h = c.in-Some.ensures in
     let k = (cut-of c.args.self.now.parts c.self.inside.spans.items c.self.inside.pieces.items c.args.page c.in-Some.place c.index.result.now v c.self.invariant h.0 h.1 c.index.ensures c.requires.across).above in omega arith
 
 pub invariant_of-self : goal.invariant_of-self
 invariant_of-self g c =
-    let v = ap (λ (s : Space g.row.T.Denot). s.parts) c.self.view_is in
+    let v = ap (λ (s : RangesSeen g.row.T.Denot). s.parts) c.self.view_is in
     let h = c.in-Some.ensures in
     let k = cut-of c.args.self.now.parts c.self.inside.spans.items c.self.inside.pieces.items c.args.page c.in-Some.place c.index.result.now v c.self.invariant h.0 h.1 c.index.ensures c.requires.across in
     let s = cut-sound c.self.inside.spans.items c.self.inside.pieces.items c.args.page c.in-Some.place c.index.result.now c.args.upper c.self.invariant h.0 h.1 c.index.ensures k.below in
     let one : c.in-Some.place + 1 ≡ suc c.in-Some.place = add-one c.in-Some.place in
     let a = c.insert_within.ensures.items ∙ ap (λ (n : ℕ). insert (set c.self.inside.spans.items c.in-Some.place (record { first = c.index.result.now.first; pages = c.args.page - c.index.result.now.first })) n (record { first = c.args.page; pages = c.index.result.now.pages - (c.args.page - c.index.result.now.first) })) one in
     let b = c.insert_within-2.ensures.items ∙ ap (λ (n : ℕ). insert c.self.inside.pieces.items n c.args.upper) one in
-    subst (λ (ss : List Span). IsSound ss c.insert_within-2.new.items.items) (sym a)
-    (subst (λ (xs : List g.row.T.Denot). IsSound (insert (set c.self.inside.spans.items c.in-Some.place (record { first = c.index.result.now.first; pages = c.args.page - c.index.result.now.first })) (suc c.in-Some.place) (record { first = c.args.page; pages = c.index.result.now.pages - (c.args.page - c.index.result.now.first) })) xs) (sym b) s)
+    subst (λ (ss : List Span). IsSoundRanges ss c.insert_within-2.new.items.items) (sym a)
+    (subst (λ (xs : List g.row.T.Denot). IsSoundRanges (insert (set c.self.inside.spans.items c.in-Some.place (record { first = c.index.result.now.first; pages = c.args.page - c.index.result.now.first })) (suc c.in-Some.place) (record { first = c.args.page; pages = c.index.result.now.pages - (c.args.page - c.index.result.now.first) })) xs) (sym b) s)
 
 parts-are : goal.returns-clause-parts
 parts-are g c =
-    let v = ap (λ (s : Space g.row.T.Denot). s.parts) c.self.view_is in
+    let v = ap (λ (s : RangesSeen g.row.T.Denot). s.parts) c.self.view_is in
     let h = c.in-Some.ensures in
     let one : c.in-Some.place + 1 ≡ suc c.in-Some.place = add-one c.in-Some.place in
     let a = c.insert_within.ensures.items ∙ ap (λ (n : ℕ). insert (set c.self.inside.spans.items c.in-Some.place (record { first = c.index.result.now.first; pages = c.args.page - c.index.result.now.first })) n (record { first = c.args.page; pages = c.index.result.now.pages - (c.args.page - c.index.result.now.first) })) one in
@@ -75,7 +75,7 @@ returns-clause-ordered g c = (invariant_of-self g c).ordered
 
 pub returns-clause-pages : goal.returns-clause-pages
 returns-clause-pages g c =
-    let v = ap (λ (s : Space g.row.T.Denot). s.parts) c.self.view_is in
+    let v = ap (λ (s : RangesSeen g.row.T.Denot). s.parts) c.self.view_is in
     let h = c.in-Some.ensures in
     let k = cut-of c.args.self.now.parts c.self.inside.spans.items c.self.inside.pieces.items c.args.page c.in-Some.place c.index.result.now v c.self.invariant h.0 h.1 c.index.ensures c.requires.across in
     let o = subst (λ (ps : List (Part g.row.T.Denot)). IsInOrder 1 ps) v c.self.invariant.ordered in

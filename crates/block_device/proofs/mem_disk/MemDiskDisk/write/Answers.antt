@@ -1,7 +1,7 @@
 use Rattle.std.proofs.Common.{ap, refl, arith, Some, true, false, ◌∙◌, List, ℕ}
 use Rattle.block_device.specs.MemDiskLook.{look}
 use Rattle.block_device.specs.MemSeen.{torn}
-use Rattle.block_device.proofs.BlockLemmas.{bytes_of-set, spoils, size_kept, bytes_at, written_as}
+use Rattle.block_device.proofs.BlockLemmas.{blocks_seen-set, spoils, size_kept, bytes_at, written_as}
 use Rattle.block_device.proofs.CallLemmas.{calls_risen, faults_risen, faults_later, faults_same}
 use Rattle.block_device.proofs.mem_disk.MemDiskDisk.write.Goals as goal
 
@@ -17,13 +17,13 @@ returns-then-fails-clause-writes c = record {
 pub returns-then-fails-clause-after : goal.returns-then-fails-clause-after
 returns-then-fails-clause-after c =
     written_as (look c.args.self.now) true c.lists_next-fails.result c.args.block c.args.from.now c.write_half.new.self.bytes _ c.count.new.self c.one_more-self.result
-    (bytes_of-set c.args.self.now.blocks.items c.args.block c.write_half.new.self c.write_half.new.self.bytes refl)
+    (blocks_seen-set c.args.self.now.blocks.items c.args.block c.write_half.new.self c.write_half.new.self.bytes refl)
     (c.write_half.ensures ∙ ap (λ (old : List ℕ). torn old c.args.from.now) (bytes_at c.args.self.now.blocks.items c.args.block c.index_mut.result.now c.requires.block c.index_mut.ensures.value))
     c.count.ensures c.if-fails.true c.one_more-self.ensures
 
 pub returns-clause-writes : goal.returns-clause-writes
 returns-clause-writes c = record {
-  written = ap (λ all. Some all) (bytes_of-set c.args.self.now.blocks.items c.args.block c.write.new.self c.args.from.now c.write.ensures);
+  written = ap (λ all. Some all) (blocks_seen-set c.args.self.now.blocks.items c.args.block c.write.new.self c.args.from.now c.write.ensures);
   spoiled = tt;
   size = size_kept c.args.self.now.blocks.items c.args.block c.write.new.self;
   calls = calls_risen c.args.self.now.calls c.count.new.self c.lists_next-fails.result c.count.ensures;
@@ -33,6 +33,6 @@ returns-clause-writes c = record {
 pub returns-clause-after : goal.returns-clause-after
 returns-clause-after c =
     written_as (look c.args.self.now) false c.lists_next-fails.result c.args.block c.args.from.now c.write.new.self.bytes _ c.count.new.self c.one_more-self.result
-    (bytes_of-set c.args.self.now.blocks.items c.args.block c.write.new.self c.write.new.self.bytes refl)
+    (blocks_seen-set c.args.self.now.blocks.items c.args.block c.write.new.self c.write.new.self.bytes refl)
     c.write.ensures
     c.count.ensures c.if-fails.false c.one_more-self.ensures

@@ -1,5 +1,7 @@
-use Rattle.std.proofs.Common.{sym, arith}
+use Rattle.std.proofs.Common.{sym, subst, arith}
 use Rattle.std.specs.Prelude.{vec_capacity}
+use Rattle.hat_layer.specs.Pool.{IsSingleValued}
+use Rattle.hat_layer.proofs.TableLemmas.{distinct-none}
 use Rattle.hat_layer.proofs.HatLemmas.{hat-made, places-new}
 use Rattle.hat_layer.proofs.hat.Hat.new.Goals as goal
 
@@ -10,3 +12,6 @@ invariant_of-result c =
       hat-made c.args.pool (vec_capacity c.in_ok-free.free) c.in_ok-table.table.places c.in_ok-free.free.items a.places b.all c.requires (let r = c.ranges.pool in omega arith) b.room,
       sym (places-new c.args.pool c.in_ok-table.table.places a.places),
     )
+
+pub returns-clause-distinct : goal.returns-clause-distinct
+returns-clause-distinct c = subst IsSingleValued (sym c.in_ok-table.ensures.places) (distinct-none c.args.pool)

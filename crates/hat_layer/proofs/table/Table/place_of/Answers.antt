@@ -1,47 +1,54 @@
-use Rattle.std.proofs.Common.{◌≡◌, Option, Some, None, List, sym, ◌∙◌, ap, subst, arith, get_or, true}
+use Rattle.std.proofs.Common.{◌≡◌, Option, Some, None, List, refl, sym, ◌∙◌, ap, subst, arith, get_or, true}
+use Rattle.std.proofs.lemmas.List.{get_or_default}
 use Rattle.hat_layer.specs.declared.translation.Translation.{Translation}
-use Rattle.hat_layer.specs.Pool.{holds, AreDistinct}
-use Rattle.hat_layer.specs.Table.{Rows, FindsPlace}
-use Rattle.hat_layer.proofs.TableLemmas.{start-walk, step-walk, walk-within, none-left, falls}
-use Rattle.hat_layer.proofs.ChainLemmas.{owned-within, at-default}
+use Rattle.hat_layer.specs.Pool.{holds, IsSingleValued}
+use Rattle.hat_layer.specs.Table.{Rows, page_slot, FindsPlace}
+use Rattle.hat_layer.proofs.ChainLemmas.{step}
+use Rattle.hat_layer.proofs.TableLemmas.{look-start, look-step, look-end, look-within}
 use Rattle.hat_layer.proofs.table.Table.place_of.Goals as goal
 
 pub loop-at-init : goal.loop-at-init
-loop-at-init c = start-walk c.self.inside.cells.items c.self.inside.by_page c.self.inside.by_frame c.self.inside.slots c.slot_in-slot.result c.args.space c.args.page c.first-at.result c.self.invariant c.slot_in-slot.ensures.slot c.first-at.ensures
+loop-at-init c =
+    let i = c.self.inside in let t = c.self.invariant in
+    look-start i.cells.items i.by_page.heads.items i.by_page.next.items i.by_frame.heads.items i.by_frame.next.items c.slot_in-slot.result c.args.space c.args.page c.first-at.result t.0
+    (c.slot_in-slot.ensures.slot ∙ ap (λ n. page_slot n c.args.space c.args.page) (sym t.1)) (let w = c.slot_in-slot.ensures.within in let n = t.1 in omega arith) c.first-at.ensures
 
 pub index-requires : goal.index-requires
 index-requires c =
-    let w = walk-within c.self.inside.cells.items c.self.inside.by_page c.self.inside.by_frame c.self.inside.slots c.slot_in-slot.result c.in-Some.place c.self.invariant (c.loop-at.invariant.here c.in-Some.place c.in-Some.is) in
-    let k = c.self.inside.cells.ok.0 in omega arith
+    let i = c.self.inside in
+    let w = look-within i.cells.items i.by_page.heads.items i.by_page.next.items i.by_frame.heads.items i.by_frame.next.items c.args.space c.args.page c.in-Some.place c.loop-at.at c.self.invariant.0 c.loop-at.invariant c.in-Some.is in
+    let k = i.cells.ok.0 in omega arith
+
+pub after-at-requires : goal.after-at-requires
+after-at-requires c = (step c.self.inside.by_page.next.items c.loop-at.at (get_or c.self.inside.by_page.next.items c.in-Some.place None) c.in-Some.place c.loop-at.invariant.walk c.in-Some.is refl).within
 
 pub loop-at-smaller : goal.loop-at-smaller
-loop-at-smaller c =
-    falls c.self.inside.by_page.owner c.slot_in-slot.result c.in-Some.place c.loop-at.at c.after-at.result c.in-Some.is (owned-within c.self.inside.by_page.owner c.in-Some.place c.slot_in-slot.result (c.loop-at.invariant.here c.in-Some.place c.in-Some.is)) c.after-at.ensures
+loop-at-smaller c = (step c.self.inside.by_page.next.items c.loop-at.at c.after-at.result c.in-Some.place c.loop-at.invariant.walk c.in-Some.is c.after-at.ensures).falls
 
 pub loop-at-preserved : goal.loop-at-preserved
 loop-at-preserved c =
-    let w = walk-within c.self.inside.cells.items c.self.inside.by_page c.self.inside.by_frame c.self.inside.slots c.slot_in-slot.result c.in-Some.place c.self.invariant (c.loop-at.invariant.here c.in-Some.place c.in-Some.is) in
-    let e = at-default c.self.inside.cells.items c.in-Some.place None c.index.result.now w ∙ sym c.index.ensures in
-    step-walk c.self.inside.cells.items c.self.inside.by_page c.self.inside.by_frame c.self.inside.slots c.slot_in-slot.result c.args.space c.args.page c.in-Some.place c.loop-at.at c.after-at.result c.self.invariant c.slot_in-slot.ensures.slot c.loop-at.invariant c.in-Some.is
-    (ap (λ (o : Option Translation). holds c.args.space c.args.page o) e ∙ sym c.is_held.ensures ∙ c.if-is_held.false) c.after-at.ensures
+    let i = c.self.inside in
+    let w = look-within i.cells.items i.by_page.heads.items i.by_page.next.items i.by_frame.heads.items i.by_frame.next.items c.args.space c.args.page c.in-Some.place c.loop-at.at c.self.invariant.0 c.loop-at.invariant c.in-Some.is in
+    let e = get_or_default i.cells.items c.in-Some.place None c.index.result.now w ∙ sym c.index.ensures in
+    look-step i.cells.items i.by_page.next.items c.args.space c.args.page c.in-Some.place c.loop-at.at c.after-at.result c.loop-at.invariant c.in-Some.is c.after-at.ensures
+    (ap (λ (o : Option Translation). holds c.args.space c.args.page o) e ∙ sym c.is_held.ensures ∙ c.if-is_held.false)
 
 pub returns-then-is_held-clause-found : goal.returns-then-is_held-clause-found
 returns-then-is_held-clause-found c =
-    let v = ap (λ (r : Rows). r.places) c.self.view_is in
-    let w = walk-within c.self.inside.cells.items c.self.inside.by_page c.self.inside.by_frame c.self.inside.slots c.slot_in-slot.result c.in-Some.place c.self.invariant (c.loop-at.invariant.here c.in-Some.place c.in-Some.is) in
-    let e = at-default c.self.inside.cells.items c.in-Some.place None c.index.result.now w ∙ sym c.index.ensures in
-    let h : holds c.args.space c.args.page (get_or c.self.inside.cells.items c.in-Some.place None) ≡ true = ap (λ (o : Option Translation). holds c.args.space c.args.page o) e ∙ sym c.is_held.ensures ∙ c.if-is_held.true in
-    subst (λ (p : List (Option Translation)). FindsPlace p c.args.space c.args.page (Some c.in-Some.place)) v
-    (h, λ k g. c.self.invariant.distinct k c.in-Some.place c.args.space c.args.page g h)
+    let i = c.self.inside in
+    let w = look-within i.cells.items i.by_page.heads.items i.by_page.next.items i.by_frame.heads.items i.by_frame.next.items c.args.space c.args.page c.in-Some.place c.loop-at.at c.self.invariant.0 c.loop-at.invariant c.in-Some.is in
+    let e = get_or_default i.cells.items c.in-Some.place None c.index.result.now w ∙ sym c.index.ensures in
+    let h : holds c.args.space c.args.page (get_or i.cells.items c.in-Some.place None) ≡ true = ap (λ (o : Option Translation). holds c.args.space c.args.page o) e ∙ sym c.is_held.ensures ∙ c.if-is_held.true in
+    subst (λ (p : List (Option Translation)). FindsPlace p c.args.space c.args.page (Some c.in-Some.place)) (ap (λ (r : Rows). r.places) c.self.view_is)
+    (h, λ k g. c.self.invariant.0.distinct k c.in-Some.place c.args.space c.args.page g h)
 
 pub returns-clause-found : goal.returns-clause-found
 returns-clause-found c =
-    let v = ap (λ (r : Rows). r.places) c.self.view_is in
-    subst (λ (p : List (Option Translation)). FindsPlace p c.args.space c.args.page None) v
-    (none-left c.self.inside.cells.items c.self.inside.by_page.owner c.slot_in-slot.result c.args.space c.args.page c.loop-at.at c.loop-at.invariant c.in_default.is)
+    subst (λ (p : List (Option Translation)). FindsPlace p c.args.space c.args.page None) (ap (λ (r : Rows). r.places) c.self.view_is)
+    (look-end c.self.inside.cells.items c.self.inside.by_page.next.items c.args.space c.args.page c.loop-at.at c.loop-at.invariant c.in_default.is)
 
 pub returns-then-is_held-clause-distinct : goal.returns-then-is_held-clause-distinct
-returns-then-is_held-clause-distinct c = subst AreDistinct (ap (λ (r : Rows). r.places) c.self.view_is) c.self.invariant.distinct
+returns-then-is_held-clause-distinct c = subst IsSingleValued (ap (λ (r : Rows). r.places) c.self.view_is) c.self.invariant.0.distinct
 
 pub returns-clause-distinct : goal.returns-clause-distinct
-returns-clause-distinct c = subst AreDistinct (ap (λ (r : Rows). r.places) c.self.view_is) c.self.invariant.distinct
+returns-clause-distinct c = subst IsSingleValued (ap (λ (r : Rows). r.places) c.self.view_is) c.self.invariant.0.distinct

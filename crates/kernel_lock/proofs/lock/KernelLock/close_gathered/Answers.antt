@@ -4,6 +4,7 @@ use Rattle.atomic_table.specs.Table.{Final, Seen}
 use Rattle.std.specs.Slots.{slots_items}
 use Rattle.kernel_lock.specs.Rule.{Lock}
 use Rattle.kernel_lock.specs.Seats.{HasAll, IsClosed}
+use Rattle.kernel_lock.proofs.Empties.{closed_empty, parts_none}
 use Rattle.kernel_lock.proofs.Parts.{closes}
 use Rattle.kernel_lock.proofs.lock.KernelLock.close_gathered.Goals as goal
 
@@ -19,8 +20,8 @@ unreachable-requires g c =
     all in
     c.in_default.not-Some ends.0 (some-injective _ _ (sym c.take-slot.ensures.value ∙ ends.1))
 
-pub returns : goal.returns
-returns g c =
+pub returns-clause-closed : goal.returns-clause-closed
+returns-clause-closed g c =
     let G = g.S.Guarded in
     let key = c.self.inside.table.shared.key in
     let place = c.into_place.result in
@@ -35,3 +36,8 @@ returns g c =
     subst (λ o. IsClosed G.seat_of G.history G.fits o c.args.self.seats c.args.from.parts c.in-Some.state) (ap (λ v. v.opening) c.self.view_is)
     (subst (λ n. IsClosed G.seat_of G.history G.fits key.opening.value n c.args.from.parts c.in-Some.state) many
     (subst (IsClosed G.seat_of G.history G.fits key.opening.value key.seats c.args.from.parts) (sym same) ends.2))
+
+pub returns-clause-empty : goal.returns-clause-empty
+returns-clause-empty g c none =
+    let G = g.S.Guarded in
+    closed_empty G.seat_of G.history G.fits c.args.self.opening c.args.self.seats c.args.from.parts c.in-Some.state (returns-clause-closed g c) c.requires.all (parts_none c.args.from.parts none)

@@ -1,5 +1,5 @@
 use Rattle.std.proofs.Common.{length}
-use Rattle.page_hash.specs.Chains.{Seeks, left}
+use Rattle.page_hash.proofs.Walks.{Seeks, left}
 use Rattle.page_hash.proofs.chains.Chains.find.Given as goal
 
 abbrev pub invariant-loop-at : goal.invariant-loop-at

@@ -1,5 +1,5 @@
 use Rattle.std.proofs.Common.{ℕ, length, Option, subst, arith}
-use Rattle.page_hash.specs.Chains.{Walks}
+use Rattle.page_hash.proofs.Walks.{Walks}
 use Rattle.page_hash.proofs.WalkLemmas.{walk-start, walk-step, walk-end, walk-reaches, walk-falls, slot-within}
 use Rattle.page_hash.proofs.chains.Chains.last_before.Goals as goal
 

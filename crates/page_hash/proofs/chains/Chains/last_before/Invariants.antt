@@ -1,5 +1,5 @@
 use Rattle.std.proofs.Common.{length}
-use Rattle.page_hash.specs.Chains.{Walks, left}
+use Rattle.page_hash.proofs.Walks.{Walks, left}
 use Rattle.page_hash.proofs.chains.Chains.last_before.Given as goal
 
 abbrev pub invariant-loop-at : goal.invariant-loop-at

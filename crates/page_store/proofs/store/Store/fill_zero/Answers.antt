@@ -1,78 +1,56 @@
-use Rattle.std.proofs.Common.{Option, ◌≡◌, ℕ, ◌<◌, ◌==◌, Some, None, length, refl, sym, ◌∙◌, ap, subst, arith}
+use Rattle.std.proofs.Common.{◌≡◌, ℕ, ◌<◌, ◌==◌, true, List, Option, Some, None, length, refl, sym, ◌∙◌, ap, subst, arith}
 use Rattle.std.proofs.Math.ListN.{length-set}
 use Rattle.core_arena.specs.Bytes.{zeros}
 use Rattle.page_hash.specs.Names.{find}
-use Rattle.page_store.specs.Fits.{Fits}
-use Rattle.page_store.specs.Moves.{Fills, Touches}
-use Rattle.page_store.specs.Seen.{StoreSeen, IsListed, store_of, residence}
-use Rattle.page_store.specs.Steps.{next_frame, next_name, name_in, filled}
-use Rattle.page_store.specs.declared.residence.Residence.TheVariants.{Home, Absent}
-use Rattle.page_store.proofs.ChangeLemmas.{carry}
-use Rattle.page_store.proofs.FillLemmas.{home-filled, lost-filled, unlisted-filled, fills-filled, sound-filled, taken-within, touches-filled}
+use Rattle.page_store.specs.Laws.{FillsPage}
+use Rattle.page_store.specs.Seen.{StoreSeen, IsSoundStore, IsListedFrame, store_of, residence}
+use Rattle.page_store.specs.Steps.{next_frame, at_frame, with_frame_filled, home_bytes}
+use Rattle.page_store.proofs.FillLemmas.{fills-frame, taken-within}
 use Rattle.page_store.proofs.QueryLemmas.{absent-is}
+use Rattle.page_store.proofs.store.Store.fill_zero.Given.{Over}
+use Rattle.page_store.proofs.store.Store.fill_zero.Goals.{After-zero_frame}
 use Rattle.page_store.proofs.store.Store.fill_zero.Goals as goal
 
 pub rename-requires-clause-absent : goal.rename-requires-clause-absent
-rename-requires-clause-absent g c =
-    let s : StoreSeen = store_of c.self.inside.core c.self.inside.names c.self.inside.lists c.self.inside.locks c.self.inside.clock c.self.inside.bays c.self.inside.order in
-    absent-is s c.args.name c.self.invariant.sound (ap (λ (x : StoreSeen). residence x c.args.name) c.self.view_is ∙ c.requires.absent)
+rename-requires-clause-absent g c = absent-is _ c.args.name c.self.invariant.sound (ap (λ (x : StoreSeen). residence x c.args.name) c.self.view_is ∙ c.requires.absent)
 
-pub returns-clause-fills : goal.returns-clause-fills
-returns-clause-fills g c = λ notes table fits.
-    let s : StoreSeen = store_of c.self.inside.core c.self.inside.names c.self.inside.lists c.self.inside.locks c.self.inside.clock c.self.inside.bays c.self.inside.order in
-    let absent : find s.names c.args.name ≡ None = absent-is s c.args.name c.self.invariant.sound (ap (λ (x : StoreSeen). residence x c.args.name) c.self.view_is ∙ c.requires.absent) in
-    carry (λ (a b : StoreSeen). Fills a notes b notes table c.args.name zeros) s c.args.self.now _ (filled s c.take_frame-frame.result c.args.name zeros (c.args.name.object == 64)) c.self.view_is
-    (rw (c.take_frame-frame.ensures.rest, c.rename.ensures.entered, c.reset.ensures, c.zero_frame.ensures) refl)
-    (fills-filled s c.take_frame-frame.result c.args.name zeros (c.args.name.object == 64) c.self.invariant.sound c.take_frame-frame.ensures.frame absent notes table (subst (λ (x : StoreSeen). Fits x notes table) (sym c.self.view_is) fits))
+-- the frame that is taken, the store that the call makes, and its laws
+record Filled (g : Over) (c : After-zero_frame g) : Type 0 where
+  sound : IsSoundStore c.args.self.now
+  next : next_frame c.args.self.now ≡ Some c.take_frame-frame.result
+  new : store_of c.zero_frame.new.core c.rename.new.names c.take_frame-frame.new.lists c.reset.new.locks c.self.inside.clock c.self.inside.bays c.self.inside.order ≡ with_frame_filled c.args.self.now c.take_frame-frame.result c.args.name zeros (c.args.name.object == 64)
+  laws : FillsPage c.args.self.now (with_frame_filled c.args.self.now c.take_frame-frame.result c.args.name zeros (c.args.name.object == 64)) c.args.name (c.args.name.object == 64) (λ notes table. zeros)
 
-pub returns-clause-touches : goal.returns-clause-touches
-returns-clause-touches g c = λ frame next.
-    let s : StoreSeen = store_of c.self.inside.core c.self.inside.names c.self.inside.lists c.self.inside.locks c.self.inside.clock c.self.inside.bays c.self.inside.order in
-    let absent : find s.names c.args.name ≡ None = absent-is s c.args.name c.self.invariant.sound (ap (λ (x : StoreSeen). residence x c.args.name) c.self.view_is ∙ c.requires.absent) in
-    let q : c.take_frame-frame.result ≡ frame = let z : Some c.take_frame-frame.result ≡ Some frame = sym c.take_frame-frame.ensures.frame ∙ ap (λ (x : StoreSeen). next_frame x) c.self.view_is ∙ next in cc in
-    carry (λ (a b : StoreSeen). Touches a b frame) s c.args.self.now _ (filled s c.take_frame-frame.result c.args.name zeros (c.args.name.object == 64)) c.self.view_is
-    (rw (c.take_frame-frame.ensures.rest, c.rename.ensures.entered, c.reset.ensures, c.zero_frame.ensures) refl)
-    (subst (λ (k : ℕ). Touches s (filled s c.take_frame-frame.result c.args.name zeros (c.args.name.object == 64)) k) q
-    (touches-filled s c.take_frame-frame.result c.args.name zeros (c.args.name.object == 64) c.self.invariant.sound c.take_frame-frame.ensures.frame absent))
+is : (g : Over) (c : After-zero_frame g) → Filled g c
+is g c =
+    let sound : IsSoundStore c.args.self.now = subst IsSoundStore c.self.view_is c.self.invariant.sound in
+    let next : next_frame c.args.self.now ≡ Some c.take_frame-frame.result = ap (λ (x : StoreSeen). next_frame x) (sym c.self.view_is) ∙ c.take_frame-frame.ensures.frame in
+    let absent : find c.args.self.now.names c.args.name ≡ None = absent-is c.args.self.now c.args.name sound c.requires.absent in
+    record {
+      sound = sound;
+      next = next;
+      new = rw (c.take_frame-frame.ensures.rest, c.rename.ensures.entered, c.reset.ensures, c.zero_frame.ensures) (ap (λ (x : StoreSeen). with_frame_filled x c.take_frame-frame.result c.args.name zeros (c.args.name.object == 64)) c.self.view_is);
+      laws = fills-frame c.args.self.now c.take_frame-frame.result c.args.name zeros (c.args.name.object == 64) sound next absent refl (λ notes table. zeros) (λ notes table. refl);
+    }
 
 pub invariant_of-self : goal.invariant_of-self
 invariant_of-self g c =
-    let s : StoreSeen = store_of c.self.inside.core c.self.inside.names c.self.inside.lists c.self.inside.locks c.self.inside.clock c.self.inside.bays c.self.inside.order in
-    let absent : find s.names c.args.name ≡ None = absent-is s c.args.name c.self.invariant.sound (ap (λ (x : StoreSeen). residence x c.args.name) c.self.view_is ∙ c.requires.absent) in
-    let count : length s.frames ≡ c.self.inside.frames = c.self.invariant.counted in
-    let taken : c.take_frame-frame.result < length s.frames = taken-within s c.take_frame-frame.result c.self.invariant.sound c.take_frame-frame.ensures.frame in
-    rw (c.take_frame-frame.ensures.rest, c.rename.ensures.entered, c.reset.ensures, c.zero_frame.ensures) (record {
-      sound = sound-filled s c.take_frame-frame.result c.args.name zeros (c.args.name.object == 64) c.self.invariant.sound c.take_frame-frame.ensures.frame absent refl;
-      counted = length-set c.self.inside.core.frames c.take_frame-frame.result (Some zeros) ∙ count;
-      listed = c.self.invariant.listed;
+    let i = is g (goal.at.invariant_of-self g c).After-zero_frame in
+    let count : length c.args.self.now.frames ≡ c.self.inside.frames = sym (ap (λ (x : StoreSeen). length x.frames) c.self.view_is) ∙ c.self.invariant.counted in
+    let taken : c.take_frame-frame.result < length c.args.self.now.frames = taken-within c.args.self.now c.take_frame-frame.result i.sound i.next in
+    record {
+      sound = subst IsSoundStore (sym i.new) i.laws.sound;
+      counted = ap (λ (x : StoreSeen). length x.frames) i.new ∙ length-set c.args.self.now.frames c.take_frame-frame.result _ ∙ count;
+      listed = rw c.take_frame-frame.ensures.rest c.self.invariant.listed;
       pointer = omega arith;
-    })
+    }
 
-pub returns-clause-home : goal.returns-clause-home
-returns-clause-home g c = λ frame next.
-    let s : StoreSeen = store_of c.self.inside.core c.self.inside.names c.self.inside.lists c.self.inside.locks c.self.inside.clock c.self.inside.bays c.self.inside.order in
-    let absent : find s.names c.args.name ≡ None = absent-is s c.args.name c.self.invariant.sound (ap (λ (x : StoreSeen). residence x c.args.name) c.self.view_is ∙ c.requires.absent) in
-    let q : c.take_frame-frame.result ≡ frame = let z : Some c.take_frame-frame.result ≡ Some frame = sym c.take_frame-frame.ensures.frame ∙ ap (λ (x : StoreSeen). next_frame x) c.self.view_is ∙ next in cc in
-    carry (λ (a b : StoreSeen). residence b c.args.name ≡ Home frame) s c.args.self.now (store_of c.zero_frame.new.core c.rename.new.names c.take_frame-frame.new.lists c.reset.new.locks c.self.inside.clock c.self.inside.bays c.self.inside.order) (filled s c.take_frame-frame.result c.args.name zeros (c.args.name.object == 64)) c.self.view_is
-    (rw (c.take_frame-frame.ensures.rest, c.rename.ensures.entered, c.reset.ensures, c.zero_frame.ensures) refl)
-    (subst (λ (k : ℕ). residence (filled s c.take_frame-frame.result c.args.name zeros (c.args.name.object == 64)) c.args.name ≡ Home k) q
-    (home-filled s c.take_frame-frame.result c.args.name zeros (c.args.name.object == 64) c.self.invariant.sound c.take_frame-frame.ensures.frame absent))
+pub returns-clause-new : goal.returns-clause-new
+returns-clause-new g c =
+    let i = is g (goal.at.returns-clause-new g c).After-zero_frame in
+    i.new ∙ sym (ap (λ (o : Option ℕ). at_frame o c.args.self.now (λ f. with_frame_filled c.args.self.now f c.args.name zeros (c.args.name.object == 64))) i.next)
 
-pub returns-clause-unlisted : goal.returns-clause-unlisted
-returns-clause-unlisted g c = λ frame next.
-    let s : StoreSeen = store_of c.self.inside.core c.self.inside.names c.self.inside.lists c.self.inside.locks c.self.inside.clock c.self.inside.bays c.self.inside.order in
-    let absent : find s.names c.args.name ≡ None = absent-is s c.args.name c.self.invariant.sound (ap (λ (x : StoreSeen). residence x c.args.name) c.self.view_is ∙ c.requires.absent) in
-    let q : c.take_frame-frame.result ≡ frame = let z : Some c.take_frame-frame.result ≡ Some frame = sym c.take_frame-frame.ensures.frame ∙ ap (λ (x : StoreSeen). next_frame x) c.self.view_is ∙ next in cc in
-    carry (λ (a b : StoreSeen). IsListed b frame → ⊥) s c.args.self.now (store_of c.zero_frame.new.core c.rename.new.names c.take_frame-frame.new.lists c.reset.new.locks c.self.inside.clock c.self.inside.bays c.self.inside.order) (filled s c.take_frame-frame.result c.args.name zeros (c.args.name.object == 64)) c.self.view_is
-    (rw (c.take_frame-frame.ensures.rest, c.rename.ensures.entered, c.reset.ensures, c.zero_frame.ensures) refl)
-    (subst (λ (k : ℕ). IsListed (filled s c.take_frame-frame.result c.args.name zeros (c.args.name.object == 64)) k → ⊥) q
-    (unlisted-filled s c.take_frame-frame.result c.args.name zeros (c.args.name.object == 64) c.self.invariant.sound c.take_frame-frame.ensures.frame absent))
-
-pub returns-clause-lost : goal.returns-clause-lost
-returns-clause-lost g c = λ n held.
-    let s : StoreSeen = store_of c.self.inside.core c.self.inside.names c.self.inside.lists c.self.inside.locks c.self.inside.clock c.self.inside.bays c.self.inside.order in
-    let absent : find s.names c.args.name ≡ None = absent-is s c.args.name c.self.invariant.sound (ap (λ (x : StoreSeen). residence x c.args.name) c.self.view_is ∙ c.requires.absent) in
-    carry (λ (a b : StoreSeen). residence b n ≡ Absent) s c.args.self.now (store_of c.zero_frame.new.core c.rename.new.names c.take_frame-frame.new.lists c.reset.new.locks c.self.inside.clock c.self.inside.bays c.self.inside.order) (filled s c.take_frame-frame.result c.args.name zeros (c.args.name.object == 64)) c.self.view_is
-    (rw (c.take_frame-frame.ensures.rest, c.rename.ensures.entered, c.reset.ensures, c.zero_frame.ensures) refl)
-    (lost-filled s c.take_frame-frame.result c.args.name zeros (c.args.name.object == 64) c.self.invariant.sound c.take_frame-frame.ensures.frame absent n
-    (sym (ap (λ (o : Option ℕ). name_in s.names o) c.take_frame-frame.ensures.frame) ∙ ap (λ (x : StoreSeen). next_name x) c.self.view_is ∙ held))
+pub returns-clause-laws : goal.returns-clause-laws
+returns-clause-laws g c =
+    let i = is g (goal.at.returns-clause-laws g c).After-zero_frame in
+    subst (λ (x : StoreSeen). FillsPage c.args.self.now x c.args.name (c.args.name.object == 64) (λ notes table. zeros)) (sym i.new) i.laws

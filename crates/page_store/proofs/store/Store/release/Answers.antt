@@ -1,48 +1,31 @@
-use Rattle.std.proofs.Common.{◌≡◌, ◌<◌, [], ◌∷◌, ◌++◌, Some, None, length, refl, sym, subst}
-use Rattle.page_hash.specs.Names.{name_at}
-use Rattle.page_hash.specs.declared.PageName.{PageName}
+use Rattle.std.proofs.Common.{◌≡◌, [], ◌∷◌, ◌++◌, Some, refl, sym, ap, subst}
+use Rattle.page_store.specs.Laws.{Releases}
+use Rattle.page_store.specs.Seen.{StoreSeen, IsSoundStore, IsListedFrame, store_of}
 use Rattle.page_lock.specs.Rows.{row_at}
-use Rattle.page_store.specs.Fits.{Fits, IsClean}
-use Rattle.page_store.specs.Moves.{Moves, Touches}
-use Rattle.page_store.specs.Seen.{StoreSeen, residence, store_of, IsListed}
-use Rattle.page_store.proofs.ChangeLemmas.{carry}
-use Rattle.page_store.proofs.ReleaseLemmas.{sound-released, stay-released, moves-released, touches-released}
+use Rattle.page_store.proofs.FrameLaws.{unset}
+use Rattle.page_store.proofs.RowSteps.{releases-frame}
+use Rattle.page_store.proofs.store.Store.release.Given.{Over}
+use Rattle.page_store.proofs.store.Store.release.Goals.{After-cache}
 use Rattle.page_store.proofs.store.Store.release.Goals as goal
 
+-- the store that the call makes, and its laws
+made : (g : Over) (c : After-cache g) → store_of c.self.inside.core c.self.inside.names c.cache.new.self c.self.inside.locks c.self.inside.clock c.self.inside.bays c.self.inside.order ≡ record c.args.self.now { cached = c.args.self.now.cached ++ c.args.frame ∷ [] }
+made g c = rw c.cache.ensures.appended (ap (λ (x : StoreSeen). record x { cached = x.cached ++ c.args.frame ∷ [] }) c.self.view_is)
+
+laws : (g : Over) (c : After-cache g) → Releases c.args.self.now (store_of c.self.inside.core c.self.inside.names c.cache.new.self c.self.inside.locks c.self.inside.clock c.self.inside.bays c.self.inside.order) c.args.frame
+laws g c = subst (λ (x : StoreSeen). Releases c.args.self.now x c.args.frame) (sym (made g c))
+    (releases-frame c.args.self.now c.args.frame (subst IsSoundStore c.self.view_is c.self.invariant.sound) c.requires.within c.requires.unlisted c.requires.unlocked (unset (row_at c.args.self.now.rows c.args.frame).snapshot c.requires.unsent))
+
 pub invariant_of-self : goal.invariant_of-self
-invariant_of-self g c =
-    let s : StoreSeen = store_of c.self.inside.core c.self.inside.names c.self.inside.lists c.self.inside.locks c.self.inside.clock c.self.inside.bays c.self.inside.order in
-    let lt : c.args.frame < length s.frames = subst (λ (x : StoreSeen). c.args.frame < length x.frames) (sym c.self.view_is) c.requires.within in
-    let unlocked : (row_at s.rows c.args.frame).holder ≡ None = subst (λ (x : StoreSeen). (row_at x.rows c.args.frame).holder ≡ None) (sym c.self.view_is) c.requires.unlocked in
-    rw c.cache.ensures.appended (record {
-      sound = sound-released s c.args.frame c.self.invariant.sound lt (λ l. c.requires.unlisted (subst (λ (x : StoreSeen). IsListed x c.args.frame) c.self.view_is l)) unlocked;
-      counted = c.self.invariant.counted;
-      listed = c.self.invariant.listed;
-      pointer = c.self.invariant.pointer;
-    })
+invariant_of-self g c = record {
+  sound = (laws g (goal.at.invariant_of-self g c).After-cache).sound;
+  counted = c.self.invariant.counted;
+  listed = rw c.cache.ensures.appended c.self.invariant.listed;
+  pointer = c.self.invariant.pointer;
+}
 
-pub returns-clause-moves : goal.returns-clause-moves
-returns-clause-moves g c = λ notes table fits clean.
-    let s : StoreSeen = store_of c.self.inside.core c.self.inside.names c.self.inside.lists c.self.inside.locks c.self.inside.clock c.self.inside.bays c.self.inside.order in
-    let lt : c.args.frame < length s.frames = subst (λ (x : StoreSeen). c.args.frame < length x.frames) (sym c.self.view_is) c.requires.within in
-    let unlocked : (row_at s.rows c.args.frame).holder ≡ None = subst (λ (x : StoreSeen). (row_at x.rows c.args.frame).holder ≡ None) (sym c.self.view_is) c.requires.unlocked in
-    carry (λ (a b : StoreSeen). Moves a notes b notes table) s c.args.self.now _ (record s { cached = s.cached ++ c.args.frame ∷ [] }) c.self.view_is (rw c.cache.ensures.appended refl)
-    (moves-released s c.args.frame c.self.invariant.sound lt (λ l. c.requires.unlisted (subst (λ (x : StoreSeen). IsListed x c.args.frame) c.self.view_is l)) unlocked notes table
-    (subst (λ (x : StoreSeen). Fits x notes table) (sym c.self.view_is) fits)
-    (subst (λ (x : StoreSeen). (n : PageName) → name_at x.names c.args.frame ≡ Some n → IsClean x notes table c.args.frame n) (sym c.self.view_is) clean))
+pub returns-clause-new : goal.returns-clause-new
+returns-clause-new g c = made g (goal.at.returns-clause-new g c).After-cache
 
-pub returns-clause-touches : goal.returns-clause-touches
-returns-clause-touches g c =
-    let s : StoreSeen = store_of c.self.inside.core c.self.inside.names c.self.inside.lists c.self.inside.locks c.self.inside.clock c.self.inside.bays c.self.inside.order in
-    let lt : c.args.frame < length s.frames = subst (λ (x : StoreSeen). c.args.frame < length x.frames) (sym c.self.view_is) c.requires.within in
-    let unlocked : (row_at s.rows c.args.frame).holder ≡ None = subst (λ (x : StoreSeen). (row_at x.rows c.args.frame).holder ≡ None) (sym c.self.view_is) c.requires.unlocked in
-    carry (λ (a b : StoreSeen). Touches a b c.args.frame) s c.args.self.now _ (record s { cached = s.cached ++ c.args.frame ∷ [] }) c.self.view_is (rw c.cache.ensures.appended refl)
-    (touches-released s c.args.frame c.self.invariant.sound lt (λ l. c.requires.unlisted (subst (λ (x : StoreSeen). IsListed x c.args.frame) c.self.view_is l)) unlocked)
-
-pub returns-clause-stay : goal.returns-clause-stay
-returns-clause-stay g c =
-    let s : StoreSeen = store_of c.self.inside.core c.self.inside.names c.self.inside.lists c.self.inside.locks c.self.inside.clock c.self.inside.bays c.self.inside.order in
-    let lt : c.args.frame < length s.frames = subst (λ (x : StoreSeen). c.args.frame < length x.frames) (sym c.self.view_is) c.requires.within in
-    let unlocked : (row_at s.rows c.args.frame).holder ≡ None = subst (λ (x : StoreSeen). (row_at x.rows c.args.frame).holder ≡ None) (sym c.self.view_is) c.requires.unlocked in
-    carry (λ (a b : StoreSeen). (n : PageName) → residence b n ≡ residence a n) s c.args.self.now (store_of c.self.inside.core c.self.inside.names c.cache.new.self c.self.inside.locks c.self.inside.clock c.self.inside.bays c.self.inside.order) (record s { cached = s.cached ++ c.args.frame ∷ [] }) c.self.view_is (rw c.cache.ensures.appended refl)
-    (stay-released s c.args.frame c.self.invariant.sound lt (λ l. c.requires.unlisted (subst (λ (x : StoreSeen). IsListed x c.args.frame) c.self.view_is l)) unlocked)
+pub returns-clause-laws : goal.returns-clause-laws
+returns-clause-laws g c = laws g (goal.at.returns-clause-laws g c).After-cache

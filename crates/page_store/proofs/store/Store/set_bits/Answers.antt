@@ -1,48 +1,35 @@
-use Rattle.std.proofs.Common.{◌≡◌, ◌<◌, length, refl, ap, arith}
-use Rattle.page_hash.specs.declared.PageName.{PageName}
-use Rattle.page_lock.specs.Rows.{row_at}
-use Rattle.page_lock.specs.declared.Row.{Row}
-use Rattle.page_store.specs.Moves.{Touches}
-use Rattle.page_store.specs.Seen.{StoreSeen, store_of, residence}
+use Rattle.std.proofs.Common.{◌≡◌, ◌<◌, Some, length, refl, sym, ap, subst, arith}
+use Rattle.page_lock.specs.Rows.{row_at, with_bits}
+use Rattle.page_store.specs.Laws.{StaysInPlace}
+use Rattle.page_store.specs.Moves.{only}
+use Rattle.page_store.specs.Seen.{StoreSeen, IsSoundStore, store_of}
 use Rattle.page_store.specs.Steps.{with_row}
-use Rattle.page_store.proofs.ChangeLemmas.{carry}
-use Rattle.page_store.proofs.RowLemmas.{stay-row, touches-row}
-use Rattle.page_store.proofs.SameLemmas.{sound-row, row-moves, moves-at}
+use Rattle.page_store.proofs.RowSteps.{stays-row}
+use Rattle.page_store.proofs.store.Store.set_bits.Given.{Over}
+use Rattle.page_store.proofs.store.Store.set_bits.Goals.{After-set_bits}
 use Rattle.page_store.proofs.store.Store.set_bits.Goals as goal
 
 pub set_bits-requires : goal.set_bits-requires
 set_bits-requires g c = let a = c.self.invariant.sound.rows in let b = ap (λ (x : StoreSeen). length x.frames) c.self.view_is in let d = c.requires in omega arith
 
+-- the store that the call makes, and its laws
+made : (g : Over) (c : After-set_bits g) → store_of c.self.inside.core c.self.inside.names c.self.inside.lists c.set_bits.new.self c.self.inside.clock c.self.inside.bays c.self.inside.order ≡ with_row c.args.self.now c.args.frame (with_bits (row_at c.args.self.now.rows c.args.frame) c.args.referenced c.args.modified)
+made g c = rw c.set_bits.ensures (ap (λ (x : StoreSeen). with_row x c.args.frame (with_bits (row_at x.rows c.args.frame) c.args.referenced c.args.modified)) c.self.view_is)
+
+laws : (g : Over) (c : After-set_bits g) → StaysInPlace c.args.self.now (store_of c.self.inside.core c.self.inside.names c.self.inside.lists c.set_bits.new.self c.self.inside.clock c.self.inside.bays c.self.inside.order) (only (Some c.args.frame))
+laws g c = subst (λ (x : StoreSeen). StaysInPlace c.args.self.now x (only (Some c.args.frame))) (sym (made g c))
+    (stays-row c.args.self.now c.args.frame (with_bits (row_at c.args.self.now.rows c.args.frame) c.args.referenced c.args.modified) (subst IsSoundStore c.self.view_is c.self.invariant.sound) c.requires refl refl refl refl)
+
 pub invariant_of-self : goal.invariant_of-self
-invariant_of-self g c =
-    let s : StoreSeen = store_of c.self.inside.core c.self.inside.names c.self.inside.lists c.self.inside.locks c.self.inside.clock c.self.inside.bays c.self.inside.order in
-    let lt : c.args.frame < length s.frames = let b = ap (λ (x : StoreSeen). length x.frames) c.self.view_is in let d = c.requires in omega arith in
-    rw c.set_bits.ensures (record {
-      sound = sound-row s c.args.frame (record (row_at c.self.inside.locks c.args.frame) { referenced = c.args.referenced; modified = c.args.modified }) c.self.invariant.sound lt refl refl;
-      counted = c.self.invariant.counted;
-      listed = c.self.invariant.listed;
-      pointer = c.self.invariant.pointer;
-    })
+invariant_of-self g c = record {
+  sound = (laws g (goal.at.invariant_of-self g c).After-set_bits).sound;
+  counted = c.self.invariant.counted;
+  listed = c.self.invariant.listed;
+  pointer = c.self.invariant.pointer;
+}
 
-pub returns-clause-moves : goal.returns-clause-moves
-returns-clause-moves g c = λ notes table fits.
-    let s : StoreSeen = store_of c.self.inside.core c.self.inside.names c.self.inside.lists c.self.inside.locks c.self.inside.clock c.self.inside.bays c.self.inside.order in
-    let lt : c.args.frame < length s.frames = let b = ap (λ (x : StoreSeen). length x.frames) c.self.view_is in let d = c.requires in omega arith in
-    let row : Row = record (row_at c.self.inside.locks c.args.frame) { referenced = c.args.referenced; modified = c.args.modified } in
-    moves-at s c.args.self.now _ (with_row s c.args.frame row) notes table c.self.view_is (rw c.set_bits.ensures refl) (row-moves s c.args.frame row notes table c.self.invariant.sound lt refl) fits
+pub returns-clause-new : goal.returns-clause-new
+returns-clause-new g c = made g (goal.at.returns-clause-new g c).After-set_bits
 
-pub returns-clause-stay : goal.returns-clause-stay
-returns-clause-stay g c =
-    let s : StoreSeen = store_of c.self.inside.core c.self.inside.names c.self.inside.lists c.self.inside.locks c.self.inside.clock c.self.inside.bays c.self.inside.order in
-    let lt : c.args.frame < length s.frames = let b = ap (λ (x : StoreSeen). length x.frames) c.self.view_is in let d = c.requires in omega arith in
-    let row : Row = record (row_at c.self.inside.locks c.args.frame) { referenced = c.args.referenced; modified = c.args.modified } in
-    carry (λ (a b : StoreSeen). (n : PageName) → residence b n ≡ residence a n) s c.args.self.now (store_of c.self.inside.core c.self.inside.names c.self.inside.lists c.set_bits.new.self c.self.inside.clock c.self.inside.bays c.self.inside.order) (with_row s c.args.frame row) c.self.view_is (rw c.set_bits.ensures refl)
-    (stay-row s c.args.frame row c.self.invariant.sound lt refl)
-
-pub returns-clause-touches : goal.returns-clause-touches
-returns-clause-touches g c =
-    let s : StoreSeen = store_of c.self.inside.core c.self.inside.names c.self.inside.lists c.self.inside.locks c.self.inside.clock c.self.inside.bays c.self.inside.order in
-    let lt : c.args.frame < length s.frames = let b = ap (λ (x : StoreSeen). length x.frames) c.self.view_is in let d = c.requires in omega arith in
-    let row : Row = record (row_at c.self.inside.locks c.args.frame) { referenced = c.args.referenced; modified = c.args.modified } in
-    carry (λ (a b : StoreSeen). Touches a b c.args.frame) s c.args.self.now _ (with_row s c.args.frame row) c.self.view_is (rw c.set_bits.ensures refl)
-    (touches-row s c.args.frame row c.self.invariant.sound lt)
+pub returns-clause-laws : goal.returns-clause-laws
+returns-clause-laws g c = laws g (goal.at.returns-clause-laws g c).After-set_bits

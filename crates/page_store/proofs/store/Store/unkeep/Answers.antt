@@ -1,48 +1,36 @@
-use Rattle.std.proofs.Common.{◌≡◌, ◌-◌, ◌<◌, length, refl, ap, arith}
-use Rattle.page_hash.specs.declared.PageName.{PageName}
+use Rattle.std.proofs.Common.{◌≡◌, ◌<◌, Some, length, refl, sym, ap, subst, arith}
+use Rattle.std.specs.Prelude.{◌-◌}
 use Rattle.page_lock.specs.Rows.{row_at}
-use Rattle.page_lock.specs.declared.Row.{Row}
-use Rattle.page_store.specs.Moves.{Touches}
-use Rattle.page_store.specs.Seen.{StoreSeen, store_of, residence}
+use Rattle.page_store.specs.Laws.{StaysInPlace}
+use Rattle.page_store.specs.Moves.{only}
+use Rattle.page_store.specs.Seen.{StoreSeen, IsSoundStore, store_of}
 use Rattle.page_store.specs.Steps.{with_row}
-use Rattle.page_store.proofs.ChangeLemmas.{carry}
-use Rattle.page_store.proofs.RowLemmas.{stay-row, touches-row}
-use Rattle.page_store.proofs.SameLemmas.{sound-row, row-moves, moves-at}
+use Rattle.page_store.proofs.RowSteps.{stays-row}
+use Rattle.page_store.proofs.store.Store.unkeep.Given.{Over}
+use Rattle.page_store.proofs.store.Store.unkeep.Goals.{After-unkeep}
 use Rattle.page_store.proofs.store.Store.unkeep.Goals as goal
 
 pub unkeep-requires-clause-frame : goal.unkeep-requires-clause-frame
 unkeep-requires-clause-frame g c = let a = c.self.invariant.sound.rows in let b = ap (λ (x : StoreSeen). length x.frames) c.self.view_is in let d = c.requires.frame in omega arith
 
+-- the store that the call makes, and its laws
+made : (g : Over) (c : After-unkeep g) → store_of c.self.inside.core c.self.inside.names c.self.inside.lists c.unkeep.new.self c.self.inside.clock c.self.inside.bays c.self.inside.order ≡ with_row c.args.self.now c.args.frame (record (row_at c.args.self.now.rows c.args.frame) { keeps = (row_at c.args.self.now.rows c.args.frame).keeps - 1 })
+made g c = rw c.unkeep.ensures (ap (λ (x : StoreSeen). with_row x c.args.frame (record (row_at x.rows c.args.frame) { keeps = (row_at x.rows c.args.frame).keeps - 1 })) c.self.view_is)
+
+laws : (g : Over) (c : After-unkeep g) → StaysInPlace c.args.self.now (store_of c.self.inside.core c.self.inside.names c.self.inside.lists c.unkeep.new.self c.self.inside.clock c.self.inside.bays c.self.inside.order) (only (Some c.args.frame))
+laws g c = subst (λ (x : StoreSeen). StaysInPlace c.args.self.now x (only (Some c.args.frame))) (sym (made g c))
+    (stays-row c.args.self.now c.args.frame (record (row_at c.args.self.now.rows c.args.frame) { keeps = (row_at c.args.self.now.rows c.args.frame).keeps - 1 }) (subst IsSoundStore c.self.view_is c.self.invariant.sound) c.requires.frame refl refl refl refl)
+
 pub invariant_of-self : goal.invariant_of-self
-invariant_of-self g c =
-    let s : StoreSeen = store_of c.self.inside.core c.self.inside.names c.self.inside.lists c.self.inside.locks c.self.inside.clock c.self.inside.bays c.self.inside.order in
-    let lt : c.args.frame < length s.frames = let b = ap (λ (x : StoreSeen). length x.frames) c.self.view_is in let d = c.requires.frame in omega arith in
-    rw c.unkeep.ensures (record {
-      sound = sound-row s c.args.frame (record (row_at c.self.inside.locks c.args.frame) { keeps = (row_at c.self.inside.locks c.args.frame).keeps - 1 }) c.self.invariant.sound lt refl refl;
-      counted = c.self.invariant.counted;
-      listed = c.self.invariant.listed;
-      pointer = c.self.invariant.pointer;
-    })
+invariant_of-self g c = record {
+  sound = (laws g (goal.at.invariant_of-self g c).After-unkeep).sound;
+  counted = c.self.invariant.counted;
+  listed = c.self.invariant.listed;
+  pointer = c.self.invariant.pointer;
+}
 
-pub returns-clause-moves : goal.returns-clause-moves
-returns-clause-moves g c = λ notes table fits.
-    let s : StoreSeen = store_of c.self.inside.core c.self.inside.names c.self.inside.lists c.self.inside.locks c.self.inside.clock c.self.inside.bays c.self.inside.order in
-    let lt : c.args.frame < length s.frames = let b = ap (λ (x : StoreSeen). length x.frames) c.self.view_is in let d = c.requires.frame in omega arith in
-    let row : Row = record (row_at c.self.inside.locks c.args.frame) { keeps = (row_at c.self.inside.locks c.args.frame).keeps - 1 } in
-    moves-at s c.args.self.now _ (with_row s c.args.frame row) notes table c.self.view_is (rw c.unkeep.ensures refl) (row-moves s c.args.frame row notes table c.self.invariant.sound lt refl) fits
+pub returns-clause-new : goal.returns-clause-new
+returns-clause-new g c = made g (goal.at.returns-clause-new g c).After-unkeep
 
-pub returns-clause-stay : goal.returns-clause-stay
-returns-clause-stay g c =
-    let s : StoreSeen = store_of c.self.inside.core c.self.inside.names c.self.inside.lists c.self.inside.locks c.self.inside.clock c.self.inside.bays c.self.inside.order in
-    let lt : c.args.frame < length s.frames = let b = ap (λ (x : StoreSeen). length x.frames) c.self.view_is in let d = c.requires.frame in omega arith in
-    let row : Row = record (row_at c.self.inside.locks c.args.frame) { keeps = (row_at c.self.inside.locks c.args.frame).keeps - 1 } in
-    carry (λ (a b : StoreSeen). (n : PageName) → residence b n ≡ residence a n) s c.args.self.now (store_of c.self.inside.core c.self.inside.names c.self.inside.lists c.unkeep.new.self c.self.inside.clock c.self.inside.bays c.self.inside.order) (with_row s c.args.frame row) c.self.view_is (rw c.unkeep.ensures refl)
-    (stay-row s c.args.frame row c.self.invariant.sound lt refl)
-
-pub returns-clause-touches : goal.returns-clause-touches
-returns-clause-touches g c =
-    let s : StoreSeen = store_of c.self.inside.core c.self.inside.names c.self.inside.lists c.self.inside.locks c.self.inside.clock c.self.inside.bays c.self.inside.order in
-    let lt : c.args.frame < length s.frames = let b = ap (λ (x : StoreSeen). length x.frames) c.self.view_is in let d = c.requires.frame in omega arith in
-    let row : Row = record (row_at c.self.inside.locks c.args.frame) { keeps = (row_at c.self.inside.locks c.args.frame).keeps - 1 } in
-    carry (λ (a b : StoreSeen). Touches a b c.args.frame) s c.args.self.now _ (with_row s c.args.frame row) c.self.view_is (rw c.unkeep.ensures refl)
-    (touches-row s c.args.frame row c.self.invariant.sound lt)
+pub returns-clause-laws : goal.returns-clause-laws
+returns-clause-laws g c = laws g (goal.at.returns-clause-laws g c).After-unkeep

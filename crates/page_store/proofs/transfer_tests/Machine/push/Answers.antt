@@ -1,4 +1,4 @@
-use Rattle.page_store.proofs.TransferLemmasTrip.{ready_again}
+use Rattle.page_store.proofs.TripLemmas.{ready_again}
 use Rattle.page_store.proofs.transfer_tests.Machine.push.Goals as goal
 
 pub invariant_of-self : goal.invariant_of-self

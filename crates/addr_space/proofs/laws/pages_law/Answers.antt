@@ -1,0 +1,5 @@
+use Rattle.addr_space.proofs.PageLaws.{get-pages_of}
+use Rattle.addr_space.proofs.laws.pages_law.Goals as goal
+
+pub returns : goal.returns
+returns c = λ q. get-pages_of c.args.ranges.now.parts q

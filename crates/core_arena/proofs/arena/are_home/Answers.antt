@@ -1,0 +1,19 @@
+use Rattle.std.proofs.Common.{None, is_some, arith, sym, ap, ◌∙◌, below_more}
+use Rattle.std.proofs.lemmas.List.{get_or_default}
+use Rattle.core_arena.proofs.PageLemmas.{none-away, all-there}
+use Rattle.core_arena.proofs.arena.are_home.Goals as goal
+
+pub loop-page-preserved : goal.loop-page-preserved
+loop-page-preserved c =
+    let pages = c.args.pages.now in
+    below_more _ _ c.loop-page.invariant
+    (ap is_some (get_or_default pages c.loop-page.page-index None c.page-item.result c.loop-page-test.true ∙ sym c.page-item.is) ∙ c.if-is_none.ensures)
+
+pub returns-then-is_none : goal.returns-then-is_none
+returns-then-is_none c =
+    let pages = c.args.pages.now in
+    sym (none-away pages c.loop-page.page-index c.loop-page-test.true
+    (ap is_some (get_or_default pages c.loop-page.page-index None c.page-item.result c.loop-page-test.true ∙ sym c.page-item.is) ∙ c.if-is_none.ensures))
+
+pub returns : goal.returns
+returns c = sym (ap is_some (all-there c.args.pages.now (λ i lt. c.loop-page.invariant i (omega (arith, lt, c.loop-page-test.false)))))

@@ -1,5 +1,0 @@
-use Rattle.page_store.proofs.TransferLemmasTrip.{ready_again}
-use Rattle.page_store.proofs.transfer_tests.Machine.give_up.Goals as goal
-
-pub invariant_of-self : goal.invariant_of-self
-invariant_of-self c = record { ready = ready_again c.args.self.now.store.bays c.give_up.new.store.bays c.give_up.ensures.there c.args.self.now.ready }
