@@ -124,7 +124,7 @@ def layers():
     rows = [
         (30, [('sunvm', 'run, main')]),
         (110, [('vm_script', 'plans'), ('vm_report', 'texts'), ('vm_core', 'events'), ('kernel_lock', 'one state, one history')]),
-        (220, [('page_store', 'pages by name'), ('volume_format', 'block 0')]),
+        (220, [('vm_world', 'what the state means'), ('seg_ops', 'small steps'), ('page_store', 'pages by name'), ('volume_format', 'block 0')]),
         (300, [('core_arena', 'frames'), ('page_hash', 'names'), ('page_lists', 'free, cached'), ('page_lock', 'holders, bits'), ('page_clock', 'two hands')]),
         (380, [('anon_slots', 'counts'), ('anon_map', 'arrays'), ('hat_layer', 'translations'), ('addr_space', 'pieces'), ('vnode_files', 'extents')]),
         (470, [('block_device', 'disks, streams'), ('disk_file', 'a real disk'), ('swap_slots', 'least free'), ('flat_model', 'what it all means'), ('vm_types', 'calls, replies')]),
@@ -134,7 +134,7 @@ def layers():
         left = (820 - w * len(crates) - 10 * (len(crates) - 1)) / 2
         for i, (name, words) in enumerate(crates):
             p.box(left + i * (w + 10), y, w, 52, name, words)
-    p.text(410, 205, 'the core stands on files in one list today; the page store and the tables below it wait for the core', 'small')
+    p.text(410, 205, 'sunvm stands on vm_core, flat_model, vnode_files and block_device today; the others stand, proved, and wait for the core', 'small')
     p.save()
 
 

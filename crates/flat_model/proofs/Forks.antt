@@ -8,9 +8,9 @@ use Rattle.vm_types.specs.declared.call.Errno.TheVariants as errno
 use Rattle.vm_types.specs.declared.call.Reply.TheVariants as reply
 use Rattle.flat_model.specs.Words.{page}
 use Rattle.flat_model.specs.Flat.{Flat, Space, IsFlat, space_of, private_cells, reserved}
-use Rattle.flat_model.specs.Refusals.{need, or_refused, done}
+use Rattle.flat_model.specs.Refusals.{check, or_refused, done}
 use Rattle.flat_model.specs.Mapping.{cells_of}
-use Rattle.flat_model.specs.Processes.{fork, forked}
+use Rattle.flat_model.specs.Processes.{fork, with_child}
 use Rattle.flat_model.specs.StoreLaws.{ForkCopies, ForkThenStore}
 use Rattle.flat_model.proofs.Ranges.{get-insert_here, get-insert_apart}
 use Rattle.flat_model.proofs.Stores.{load-alike, load-private_store, shown-same_objects}
@@ -30,9 +30,9 @@ unborn_apart F p child flat alive unborn same =
     let born : set.contains F.born child ≡ true = ap (set.contains F.born) (sym same) ∙ flat.born p alive in
     absurd (let both : true ≡ false = sym born ∙ unborn in cc)
 
-forked_copies : (F : Flat) (p child : ℕ) → IsSome (space_of F p) → (p ≡ child → ⊥) → ForkCopies F p child (forked F p child)
+forked_copies : (F : Flat) (p child : ℕ) → IsSome (space_of F p) → (p ≡ child → ⊥) → ForkCopies F p child (with_child F p child)
 forked_copies F p child alive apart =
-    let G = forked F p child in
+    let G = with_child F p child in
     let cells : space_of G child ≡ space_of F p = get-insert_here F.spaces child (cells_of F p) ∙ was_some (space_of F p) alive in
     let parent : space_of G p ≡ space_of F p = get-insert_apart F.spaces child (cells_of F p) p apart in
     record {
@@ -47,7 +47,7 @@ forked_copies F p child alive apart =
 
 pub fork_copies : (F : Flat) (p child : ℕ) → IsFlat F → IsSome (space_of F p) → IsFalse (set.contains F.born child) → (fork F p child).reply ≡ reply.Done → ForkCopies F p child (fork F p child).after
 fork_copies F p child flat alive unborn is =
-    let r = done_after F (λ _. forked F p child) (need (nat_le (reserved F + private_cells (cells_of F p)) F.slots) errno.NoSwap) is in
+    let r = done_after F (λ _. with_child F p child) (check (nat_le (reserved F + private_cells (cells_of F p)) F.slots) errno.NoSwap) is in
     subst (λ (G : Flat). ForkCopies F p child G) (sym r.2) (forked_copies F p child alive (unborn_apart F p child flat alive unborn))
 
 pub fork_law : ForkThenStore

@@ -1,17 +1,17 @@
 -- Histories with one entry more.
 use Rattle.std.proofs.Common.{◌≡◌, ℕ, zero, suc, ◌<◌, ◌⊎◌, Bool, true, false, not, ◌&&◌, List, [], ◌∷◌, ◌++◌, length, Option, Some, None, refl, sym, ap, subst, ◌∙◌, inl, inr, arith}
-use Rattle.std.specs.Prelude.{◌==◌, slice_get, is_none, MatchOption, MatchBool, if◌then◌else◌}
+use Rattle.std.specs.Prelude.{◌==◌, slice_get, is_none, IsTrue, MatchOption, MatchBool, if◌then◌else◌}
 use Rattle.std.proofs.lemmas.Bool.{eqb-true, eq-eqb}
 use Rattle.std.proofs.lemmas.Option.{slice_get_within}
 use Rattle.vm_types.specs.declared.call.Call.{Call}
-use Rattle.vm_types.specs.declared.call.Call.TheVariants.{Read, Write}
+use Rattle.vm_types.specs.declared.call.Call.TheVariants.{Load, Store, Map, Unmap, Protect, Sync, Read, Write, Truncate, Fork, Exit}
 use Rattle.vm_types.specs.declared.call.Reply.{Reply}
 use Rattle.vm_types.specs.declared.call.Reply.TheVariants as reply
 use Rattle.vm_types.specs.declared.call.Entry.{Entry}
-use Rattle.vm_types.specs.Parts.{next_part, part_file, ends_call}
+use Rattle.vm_types.specs.Parts.{next_part, part_file, file_of_call, is_part, ends_call}
 use Rattle.flat_model.specs.Flat.{Flat}
 use Rattle.flat_model.specs.Step.{IsStep, step}
-use Rattle.flat_model.specs.History.{replay, Steps, Legal, IsStart, IsSyncStart, is_part_of, is_io, is_aside, IsNextOwn, IsKept, KeepsParts}
+use Rattle.flat_model.specs.History.{replay, Steps, Legal, IsStart, IsSyncStart, is_of_file, is_io, is_aside, IsNextOwn, IsUnbroken, KeepsParts}
 use Rattle.flat_model.specs.HistoryLaws.{open_after, open_from, open_call, IsNextPart, IsNext, OneMore}
 
 pub replay-push : (F : Flat) (H : List Entry) (e : Entry) → replay F (H ++ e ∷ []) ≡ step (replay F H) e
@@ -102,16 +102,45 @@ part_named : (f : ℕ) (o : Option ℕ) → (elim o as (λ x. Bool) [ Some g ↦
 part_named f None is = absurd cc
 part_named f (Some g) is = ap (λ k. Some k) (sym (eqb-true f g is))
 
--- a part of f is f's
-pub part_file-is : (f : ℕ) (e : Entry) → is_part_of f e ≡ true → part_file e.call ≡ Some f
-part_file-is f e is = part_named f (part_file e.call) is
+-- a call of f is f's
+pub file_of_call-is : (f : ℕ) (e : Entry) → is_of_file f e ≡ true → file_of_call e.call ≡ Some f
+file_of_call-is f e is = part_named f (file_of_call e.call) is
 
 named_part : (f : ℕ) (o : Option ℕ) → o ≡ Some f → (elim o as (λ x. Bool) [ Some g ↦ f == g | None ↦ false ]) ≡ true
 named_part f None is = absurd cc
 named_part f (Some g) is = eq-eqb f g (let same : g ≡ f = cc in sym same)
 
-pub is_part_of-is : (f : ℕ) (e : Entry) → part_file e.call ≡ Some f → is_part_of f e ≡ true
-is_part_of-is f e is = named_part f (part_file e.call) is
+pub is_of_file-is : (f : ℕ) (e : Entry) → file_of_call e.call ≡ Some f → is_of_file f e ≡ true
+is_of_file-is f e is = named_part f (file_of_call e.call) is
+
+-- a part of f is a call of f
+pub part_is_call : (c : Call) (f : ℕ) → part_file c ≡ Some f → file_of_call c ≡ Some f
+part_is_call (Read file offset len) f is = is
+part_is_call (Write file offset line rest) f is = is
+part_is_call (Truncate file len) f is = absurd cc
+part_is_call (Load addr size) f is = absurd cc
+part_is_call (Store addr size value) f is = absurd cc
+part_is_call (Map place len prot kind object offset) f is = absurd cc
+part_is_call (Unmap addr len) f is = absurd cc
+part_is_call (Protect addr len prot) f is = absurd cc
+part_is_call (Sync addr len) f is = absurd cc
+part_is_call (Fork child) f is = absurd cc
+part_is_call Exit f is = absurd cc
+
+-- a call of f is a part of f, or it is no part and ends with its one entry
+pub part_or_last : (c : Call) (r : Reply) (f : ℕ) → file_of_call c ≡ Some f → (part_file c ≡ Some f) ⊎ ((part_file c ≡ None) × (ends_call c r ≡ true))
+unfolding next_part
+part_or_last (Read file offset len) r f is = inl is
+part_or_last (Write file offset line rest) r f is = inl is
+part_or_last (Truncate file len) r f is = inr (refl, refl)
+part_or_last (Load addr size) r f is = absurd cc
+part_or_last (Store addr size value) r f is = absurd cc
+part_or_last (Map place len prot kind object offset) r f is = absurd cc
+part_or_last (Unmap addr len) r f is = absurd cc
+part_or_last (Protect addr len prot) r f is = absurd cc
+part_or_last (Sync addr len) r f is = absurd cc
+part_or_last (Fork child) r f is = absurd cc
+part_or_last Exit r f is = absurd cc
 
 io_last : (c : Call) (r : Reply) (bytes : List ℕ) → is_io r ≡ true → is_none (next_part c r bytes) ≡ true
 unfolding next_part
@@ -124,6 +153,10 @@ io_last c r bytes is = absurd cc
 pub ends_call-io : (e : Entry) → is_io e.reply ≡ true → ends_call e.call e.reply ≡ true
 ends_call-io e is = io_last e.call e.reply [] is
 
+-- the entry is a part of p's
+abbrev IsOwnPart : ℕ → Entry → Type 0
+IsOwnPart p d = (d.process ≡ p) × IsTrue (is_part d.call)
+
 -- who holds the file has its next part
 abbrev Held : ℕ → Option ℕ → List Entry → Type 0
 Held f holder H = MatchOption holder (Unit {0}) (λ p. IsNextOwn f p H)
@@ -131,7 +164,7 @@ Held f holder H = MatchOption holder (Unit {0}) (λ p. IsNextOwn f p H)
 -- the parts of one file stay together
 abbrev KeepsOf : ℕ → List Entry → Type 0
 KeepsOf f [] = Unit {0}
-KeepsOf f (e ∷ H) = MatchBool (is_part_of f e) (IsKept e H) (Unit {0}) × KeepsOf f H
+KeepsOf f (e ∷ H) = MatchBool (is_of_file f e) (IsUnbroken e H) (Unit {0}) × KeepsOf f H
 
 abbrev Kept : ℕ → Option ℕ → List Entry → Type 0
 Kept f holder H = Held f holder H × KeepsOf f H
@@ -153,7 +186,7 @@ on_last true P h = h
 on_last false P h = tt
 
 -- who holds the file behind a part that isn't aside
-abbrev next_holder : Entry → Option ℕ
+abbrev pub next_holder : Entry → Option ℕ
 next_holder e = if ends_call e.call e.reply then None else Some e.process
 
 held_next : (f : ℕ) (b : Bool) (p : ℕ) (H : List Entry) → MatchBool b (Unit {0}) (IsNextOwn f p H) → Held f (if b then None else Some p) H
@@ -164,11 +197,21 @@ next_held : (f : ℕ) (b : Bool) (p : ℕ) (H : List Entry) → Held f (if b the
 next_held f true p H h = tt
 next_held f false p H h = h
 
-kept_of : (f : ℕ) (e : Entry) (H : List Entry) → is_part_of f e ≡ true → IsKept e H → Held f (next_holder e) H
-kept_of f e H is h = held_next f (ends_call e.call e.reply) e.process H (when_some (part_file e.call) f (λ g. MatchBool (ends_call e.call e.reply) (Unit {0}) (IsNextOwn g e.process H)) (part_file-is f e is) h)
+ended_free : (f : ℕ) (b : Bool) (p : ℕ) (X : List Entry) → b ≡ true → Held f (if b then None else Some p) X
+ended_free f true p X is = tt
+ended_free f false p X is = absurd cc
 
-of_kept : (f : ℕ) (e : Entry) (H : List Entry) → is_part_of f e ≡ true → Held f (next_holder e) H → IsKept e H
-of_kept f e H is h = of_some (part_file e.call) f (λ g. MatchBool (ends_call e.call e.reply) (Unit {0}) (IsNextOwn g e.process H)) (part_file-is f e is) (next_held f (ends_call e.call e.reply) e.process H h)
+kept_of : (f : ℕ) (e : Entry) (H : List Entry) → is_of_file f e ≡ true → IsUnbroken e H → Held f (next_holder e) H
+kept_of f e H is h = elim (part_or_last e.call e.reply f (file_of_call-is f e is)) [
+  | inl part ↦ held_next f (ends_call e.call e.reply) e.process H (when_some (part_file e.call) f (λ g. MatchBool (ends_call e.call e.reply) (Unit {0}) (IsNextOwn g e.process H)) part h)
+  | inr last ↦ ended_free f (ends_call e.call e.reply) e.process H last.1
+]
+
+of_kept : (f : ℕ) (e : Entry) (H : List Entry) → is_of_file f e ≡ true → Held f (next_holder e) H → IsUnbroken e H
+of_kept f e H is h = elim (part_or_last e.call e.reply f (file_of_call-is f e is)) [
+  | inl part ↦ of_some (part_file e.call) f (λ g. MatchBool (ends_call e.call e.reply) (Unit {0}) (IsNextOwn g e.process H)) part (next_held f (ends_call e.call e.reply) e.process H h)
+  | inr last ↦ of_none (part_file e.call) (λ g. MatchBool (ends_call e.call e.reply) (Unit {0}) (IsNextOwn g e.process H)) last.0
+]
 
 io_aside : (a b : Bool) → (a && b) ≡ true → a ≡ true
 io_aside true b is = refl
@@ -184,76 +227,72 @@ passed false b is = refl
 other_part : (a b : Bool) → a ≡ false → (a && b) ≡ false
 other_part a b is = rw is refl
 
--- the three ways in which an entry meets a file: it is no part of it, it stands aside, or it is the next part
-abbrev Meets : ℕ → Option ℕ → Entry → Type 0
-Meets f holder e = ((is_part_of f e ≡ false) × (open_after f holder e ≡ holder)) ⊎ ((is_part_of f e ≡ true) × (p : ℕ) × (holder ≡ Some p) × (is_aside p e ≡ true) × (open_after f holder e ≡ holder)) ⊎ ((is_part_of f e ≡ true) × (open_after f holder e ≡ next_holder e) × ((p : ℕ) → holder ≡ Some p → is_aside p e ≡ false))
+-- the three ways in which an entry meets a file: it is no call of it, it stands aside, or it is the next call
+abbrev pub Meets : ℕ → Option ℕ → Entry → Type 0
+Meets f holder e = ((is_of_file f e ≡ false) × (open_after f holder e ≡ holder)) ⊎ ((is_of_file f e ≡ true) × (p : ℕ) × (holder ≡ Some p) × (is_aside p e ≡ true) × (open_after f holder e ≡ holder)) ⊎ ((is_of_file f e ≡ true) × (open_after f holder e ≡ next_holder e) × ((p : ℕ) → holder ≡ Some p → is_aside p e ≡ false))
 
-meets : (f : ℕ) (holder : Option ℕ) (e : Entry) → Meets f holder e
-meets f holder e = by_part (is_part_of f e) refl
+pub meets : (f : ℕ) (holder : Option ℕ) (e : Entry) → Meets f holder e
+meets f holder e = by_part (is_of_file f e) refl
   where
-    by_aside : (o : Option ℕ) → holder ≡ o → is_part_of f e ≡ true → Meets f holder e
+    by_aside : (o : Option ℕ) → holder ≡ o → is_of_file f e ≡ true → Meets f holder e
     by_aside None none is = inr (inr (is, rw (none, is) refl, λ p some. absurd (let both : None ≡ Some p = sym none ∙ some in cc)))
     by_aside (Some p) some is = elim (is_aside p e) as (λ b. is_aside p e ≡ b → Meets f holder e) [
       | true ↦ λ aside. inr (inl (is, p, some, aside, rw (some, is, aside) refl))
       | false ↦ λ aside. inr (inr (is, rw (some, is, aside) refl, λ q other. let same : p ≡ q = let both : Some p ≡ Some q = sym some ∙ other in cc in ap (λ k. is_aside k e) (sym same) ∙ aside))
     ] refl
 
-    by_part : (b : Bool) → is_part_of f e ≡ b → Meets f holder e
+    by_part : (b : Bool) → is_of_file f e ≡ b → Meets f holder e
     by_part false is = inl (is, rw is refl)
     by_part true is = by_aside holder refl is
 
-held_skip : (f : ℕ) (holder : Option ℕ) (d : Entry) (X : List Entry) → ((p : ℕ) → holder ≡ Some p → (is_part_of f d && not (is_aside p d)) ≡ false) → Held f holder (d ∷ X) → Held f holder X
+held_skip : (f : ℕ) (holder : Option ℕ) (d : Entry) (X : List Entry) → ((p : ℕ) → holder ≡ Some p → (is_of_file f d && not (is_aside p d)) ≡ false) → Held f holder (d ∷ X) → Held f holder X
 held_skip f None d X skips h = tt
-held_skip f (Some p) d X skips h = when_false (is_part_of f d && not (is_aside p d)) (d.process ≡ p) (IsNextOwn f p X) (skips p refl) h
+held_skip f (Some p) d X skips h = when_false (is_of_file f d && not (is_aside p d)) (IsOwnPart p d) (IsNextOwn f p X) (skips p refl) h
 
-skip_held : (f : ℕ) (holder : Option ℕ) (d : Entry) (X : List Entry) → ((p : ℕ) → holder ≡ Some p → (is_part_of f d && not (is_aside p d)) ≡ false) → Held f holder X → Held f holder (d ∷ X)
+skip_held : (f : ℕ) (holder : Option ℕ) (d : Entry) (X : List Entry) → ((p : ℕ) → holder ≡ Some p → (is_of_file f d && not (is_aside p d)) ≡ false) → Held f holder X → Held f holder (d ∷ X)
 skip_held f None d X skips h = tt
-skip_held f (Some p) d X skips h = of_false (is_part_of f d && not (is_aside p d)) (d.process ≡ p) (IsNextOwn f p X) (skips p refl) h
+skip_held f (Some p) d X skips h = of_false (is_of_file f d && not (is_aside p d)) (IsOwnPart p d) (IsNextOwn f p X) (skips p refl) h
 
-held_take : (f : ℕ) (holder : Option ℕ) (d : Entry) (X Y : List Entry) → ((p : ℕ) → holder ≡ Some p → (is_part_of f d && not (is_aside p d)) ≡ true) → Held f holder (d ∷ X) → Held f holder (d ∷ Y)
+held_take : (f : ℕ) (holder : Option ℕ) (d : Entry) (X Y : List Entry) → ((p : ℕ) → holder ≡ Some p → (is_of_file f d && not (is_aside p d)) ≡ true) → Held f holder (d ∷ X) → Held f holder (d ∷ Y)
 held_take f None d X Y takes h = tt
-held_take f (Some p) d X Y takes h = of_true (is_part_of f d && not (is_aside p d)) (d.process ≡ p) (IsNextOwn f p Y) (takes p refl) (when_true (is_part_of f d && not (is_aside p d)) (d.process ≡ p) (IsNextOwn f p X) (takes p refl) h)
+held_take f (Some p) d X Y takes h = of_true (is_of_file f d && not (is_aside p d)) (IsOwnPart p d) (IsNextOwn f p Y) (takes p refl) (when_true (is_of_file f d && not (is_aside p d)) (IsOwnPart p d) (IsNextOwn f p X) (takes p refl) h)
 
-ended_free : (f : ℕ) (b : Bool) (p : ℕ) (X : List Entry) → b ≡ true → Held f (if b then None else Some p) X
-ended_free f true p X is = tt
-ended_free f false p X is = absurd cc
-
-aside_passed : (f : ℕ) (holder : Option ℕ) (d : Entry) (p : ℕ) → holder ≡ Some p → is_aside p d ≡ true → (q : ℕ) → holder ≡ Some q → (is_part_of f d && not (is_aside q d)) ≡ false
-aside_passed f holder d p some aside q other = passed (is_part_of f d) (is_aside q d) (let same : p ≡ q = let both : Some p ≡ Some q = sym some ∙ other in cc in ap (λ k. is_aside k d) (sym same) ∙ aside)
+aside_passed : (f : ℕ) (holder : Option ℕ) (d : Entry) (p : ℕ) → holder ≡ Some p → is_aside p d ≡ true → (q : ℕ) → holder ≡ Some q → (is_of_file f d && not (is_aside q d)) ≡ false
+aside_passed f holder d p some aside q other = passed (is_of_file f d) (is_aside q d) (let same : p ≡ q = let both : Some p ≡ Some q = sym some ∙ other in cc in ap (λ k. is_aside k d) (sym same) ∙ aside)
 
 -- an entry in front: it is the holder's, if the file is held, and the rest is kept with the holder behind it
 kept_rest : (f : ℕ) (holder : Option ℕ) (d : Entry) (X : List Entry) → Kept f holder (d ∷ X) → Held f holder (d ∷ []) × Kept f (open_after f holder d) X
 kept_rest f holder d X kept = elim (meets f holder d) [
   | inl m ↦
-      let skips = λ (p : ℕ) (some : holder ≡ Some p). other_part (is_part_of f d) (not (is_aside p d)) m.0 in
+      let skips = λ (p : ℕ) (some : holder ≡ Some p). other_part (is_of_file f d) (not (is_aside p d)) m.0 in
       (skip_held f holder d [] skips (held_nothing f holder), subst (λ (o : Option ℕ). Kept f o X) (sym m.1) (held_skip f holder d X skips kept.0, kept.1.1))
   | inr (inl m) ↦
       let skips = aside_passed f holder d m.1 m.2 m.3 in
       (skip_held f holder d [] skips (held_nothing f holder), subst (λ (o : Option ℕ). Kept f o X) (sym m.4) (held_skip f holder d X skips kept.0, kept.1.1))
   | inr (inr m) ↦
-      let takes = λ (p : ℕ) (some : holder ≡ Some p). taken (is_part_of f d) (is_aside p d) m.0 (m.2 p some) in
-      (held_take f holder d X [] takes kept.0, subst (λ (o : Option ℕ). Kept f o X) (sym m.1) (kept_of f d X m.0 (when_true (is_part_of f d) (IsKept d X) (Unit {0}) m.0 kept.1.0), kept.1.1))
+      let takes = λ (p : ℕ) (some : holder ≡ Some p). taken (is_of_file f d) (is_aside p d) m.0 (m.2 p some) in
+      (held_take f holder d X [] takes kept.0, subst (λ (o : Option ℕ). Kept f o X) (sym m.1) (kept_of f d X m.0 (when_true (is_of_file f d) (IsUnbroken d X) (Unit {0}) m.0 kept.1.0), kept.1.1))
 ]
 
 rest_kept : (f : ℕ) (holder : Option ℕ) (d : Entry) (X : List Entry) → Held f holder (d ∷ []) → Kept f (open_after f holder d) X → Kept f holder (d ∷ X)
 rest_kept f holder d X first rest = elim (meets f holder d) [
   | inl m ↦
-      let skips = λ (p : ℕ) (some : holder ≡ Some p). other_part (is_part_of f d) (not (is_aside p d)) m.0 in
+      let skips = λ (p : ℕ) (some : holder ≡ Some p). other_part (is_of_file f d) (not (is_aside p d)) m.0 in
       let kept = subst (λ (o : Option ℕ). Kept f o X) m.1 rest in
-      (skip_held f holder d X skips kept.0, (of_false (is_part_of f d) (IsKept d X) (Unit {0}) m.0 tt, kept.1))
+      (skip_held f holder d X skips kept.0, (of_false (is_of_file f d) (IsUnbroken d X) (Unit {0}) m.0 tt, kept.1))
   | inr (inl m) ↦
       let skips = aside_passed f holder d m.1 m.2 m.3 in
       let kept = subst (λ (o : Option ℕ). Kept f o X) m.4 rest in
       let ends = ends_call-io d (io_aside (is_io d.reply) (not (d.process == m.1)) m.3) in
-      (skip_held f holder d X skips kept.0, (of_true (is_part_of f d) (IsKept d X) (Unit {0}) m.0 (of_kept f d X m.0 (ended_free f (ends_call d.call d.reply) d.process X ends)), kept.1))
+      (skip_held f holder d X skips kept.0, (of_true (is_of_file f d) (IsUnbroken d X) (Unit {0}) m.0 (of_kept f d X m.0 (ended_free f (ends_call d.call d.reply) d.process X ends)), kept.1))
   | inr (inr m) ↦
-      let takes = λ (p : ℕ) (some : holder ≡ Some p). taken (is_part_of f d) (is_aside p d) m.0 (m.2 p some) in
+      let takes = λ (p : ℕ) (some : holder ≡ Some p). taken (is_of_file f d) (is_aside p d) m.0 (m.2 p some) in
       let kept = subst (λ (o : Option ℕ). Kept f o X) m.1 rest in
-      (held_take f holder d [] X takes first, (of_true (is_part_of f d) (IsKept d X) (Unit {0}) m.0 (of_kept f d X m.0 kept.0), kept.1))
+      (held_take f holder d [] X takes first, (of_true (is_of_file f d) (IsUnbroken d X) (Unit {0}) m.0 (of_kept f d X m.0 kept.0), kept.1))
 ]
 
 kept_last : (f : ℕ) (holder : Option ℕ) (e : Entry) → Held f holder (e ∷ []) → Kept f holder (e ∷ [])
-kept_last f holder e next = (next, (on_last (is_part_of f e) (IsKept e []) (is_kept_last (part_file e.call) (ends_call e.call e.reply)), tt))
+kept_last f holder e next = (next, (on_last (is_of_file f e) (IsUnbroken e []) (is_kept_last (part_file e.call) (ends_call e.call e.reply)), tt))
 
 kept_push : (f : ℕ) (holder : Option ℕ) (H : List Entry) (e : Entry) → Kept f holder H → Held f (open_from f holder H) (e ∷ []) → Kept f holder (H ++ e ∷ [])
 kept_push f holder [] e kept next = kept_last f holder e next
@@ -269,33 +308,33 @@ kept_front f holder (d ∷ H) e kept =
 -- all files' parts stay together exactly where each file's do
 keeps_each : (f : ℕ) (H : List Entry) → KeepsParts H → KeepsOf f H
 keeps_each f [] keeps = tt
-keeps_each f (d ∷ H) keeps = (on_last (is_part_of f d) (IsKept d H) keeps.0, keeps_each f H keeps.1)
+keeps_each f (d ∷ H) keeps = (on_last (is_of_file f d) (IsUnbroken d H) keeps.0, keeps_each f H keeps.1)
 
-kept_by_file : (d : Entry) (H : List Entry) (o : Option ℕ) → part_file d.call ≡ o → ((f : ℕ) → MatchBool (is_part_of f d) (IsKept d H) (Unit {0})) → IsKept d H
+kept_by_file : (d : Entry) (H : List Entry) (o : Option ℕ) → part_file d.call ≡ o → ((f : ℕ) → MatchBool (is_of_file f d) (IsUnbroken d H) (Unit {0})) → IsUnbroken d H
 kept_by_file d H None none each = of_none (part_file d.call) (λ f. MatchBool (ends_call d.call d.reply) (Unit {0}) (IsNextOwn f d.process H)) none
-kept_by_file d H (Some f) some each = when_true (is_part_of f d) (IsKept d H) (Unit {0}) (is_part_of-is f d some) (each f)
+kept_by_file d H (Some f) some each = when_true (is_of_file f d) (IsUnbroken d H) (Unit {0}) (is_of_file-is f d (part_is_call d.call f some)) (each f)
 
 each_keeps : (H : List Entry) → ((f : ℕ) → KeepsOf f H) → KeepsParts H
 each_keeps [] each = tt
 each_keeps (d ∷ H) each = (kept_by_file d H (part_file d.call) refl (λ f. (each f).0), each_keeps H (λ f. (each f).1))
 
-next_of_file : (H : List Entry) (e : Entry) (f : ℕ) → ((g : ℕ) → part_file e.call ≡ Some g → Held g (open_call g H) (e ∷ [])) → Held f (open_call f H) (e ∷ [])
-next_of_file H e f next = elim (is_part_of f e) as (λ b. is_part_of f e ≡ b → Held f (open_call f H) (e ∷ [])) [
-  | true ↦ λ is. next f (part_file-is f e is)
-  | false ↦ λ is. skip_held f (open_call f H) e [] (λ p some. other_part (is_part_of f e) (not (is_aside p e)) is) (held_nothing f (open_call f H))
+next_of_file : (H : List Entry) (e : Entry) (f : ℕ) → ((g : ℕ) → file_of_call e.call ≡ Some g → Held g (open_call g H) (e ∷ [])) → Held f (open_call f H) (e ∷ [])
+next_of_file H e f next = elim (is_of_file f e) as (λ b. is_of_file f e ≡ b → Held f (open_call f H) (e ∷ [])) [
+  | true ↦ λ is. next f (file_of_call-is f e is)
+  | false ↦ λ is. skip_held f (open_call f H) e [] (λ p some. other_part (is_of_file f e) (not (is_aside p e)) is) (held_nothing f (open_call f H))
 ] refl
 
-by_file : (H : List Entry) (e : Entry) (o : Option ℕ) → part_file e.call ≡ o → ((g : ℕ) → part_file e.call ≡ Some g → Held g (open_call g H) (e ∷ [])) → IsNextPart H e
-by_file H e None none next = of_none (part_file e.call) (λ f. Held f (open_call f H) (e ∷ [])) none
-by_file H e (Some g) some next = of_some (part_file e.call) g (λ f. Held f (open_call f H) (e ∷ [])) some (next g some)
+by_file : (H : List Entry) (e : Entry) (o : Option ℕ) → file_of_call e.call ≡ o → ((g : ℕ) → file_of_call e.call ≡ Some g → Held g (open_call g H) (e ∷ [])) → IsNextPart H e
+by_file H e None none next = of_none (file_of_call e.call) (λ f. Held f (open_call f H) (e ∷ [])) none
+by_file H e (Some g) some next = of_some (file_of_call e.call) g (λ f. Held f (open_call f H) (e ∷ [])) some (next g some)
 
 pub KeepsParts-push : (H : List Entry) (e : Entry) → KeepsParts H → IsNextPart H e → KeepsParts (H ++ e ∷ [])
-KeepsParts-push H e keeps next = each_keeps (H ++ e ∷ []) (λ f. (kept_push f None H e (tt, keeps_each f H keeps) (next_of_file H e f (λ g some. when_some (part_file e.call) g (λ f. Held f (open_call f H) (e ∷ [])) some next))).1)
+KeepsParts-push H e keeps next = each_keeps (H ++ e ∷ []) (λ f. (kept_push f None H e (tt, keeps_each f H keeps) (next_of_file H e f (λ g some. when_some (file_of_call e.call) g (λ f. Held f (open_call f H) (e ∷ [])) some next))).1)
 
 pub KeepsParts-front : (H : List Entry) (e : Entry) → KeepsParts (H ++ e ∷ []) → KeepsParts H × IsNextPart H e
 KeepsParts-front H e keeps =
     let each = λ (f : ℕ). kept_front f None H e (tt, keeps_each f (H ++ e ∷ []) keeps) in
-    (each_keeps H (λ f. (each f).0.1), by_file H e (part_file e.call) refl (λ g some. (each g).1))
+    (each_keeps H (λ f. (each f).0.1), by_file H e (file_of_call e.call) refl (λ g some. (each g).1))
 
 pub Legal-push : (F : Flat) (H : List Entry) (e : Entry) → Legal F H → IsNext F H e → Legal F (H ++ e ∷ [])
 Legal-push F H e legal next = record { steps = Steps-push F H e legal.steps next.step; syncs = Syncs-push H e legal.syncs next.sync; parts = KeepsParts-push H e legal.parts next.part }

@@ -6,7 +6,7 @@ use Rattle.std.specs.List.{list_any, cons_option}
 use Rattle.std.specs.Ordering.{nat_cmp}
 use Rattle.std.specs.FinMap as finite
 use Rattle.std.proofs.lemmas.Bool.{eqb-true, eq-eqb, cases_eq}
-use Rattle.flat_model.specs.Flat.{Cell, Space, Flat, space_of, cell_at, zero_of, named, is_named, swept}
+use Rattle.flat_model.specs.Flat.{Cell, Space, Flat, space_of, cell_at, zero_of, named_zeros, is_named, without_unnamed}
 use Rattle.flat_model.specs.Mapping.{least_from, set_of, new_number}
 use Rattle.flat_model.specs.NamedLaws.{IsNamed, ZeroObjects}
 use Rattle.flat_model.proofs.Ranges.{get-retain_keys, get-insert}
@@ -58,20 +58,20 @@ in_space : (o : Option Space) (q : ℕ) (c : Cell) → option_and_then (λ space
 in_space None q c is = absurd cc
 in_space (Some space) q c is = (space, refl, is)
 
-pub named-from_cell : (F : Flat) (p q z : ℕ) (c : Cell) → cell_at F p q ≡ Some c → zero_of c ≡ Some z → IsTrue (is_named F z)
-named-from_cell F p q z c at is =
+pub named_zeros-from_cell : (F : Flat) (p q z : ℕ) (c : Cell) → cell_at F p q ≡ Some c → zero_of c ≡ Some z → IsTrue (is_named F z)
+named_zeros-from_cell F p q z c at is =
     let s = in_space (space_of F p) q c at in
     is_named-spaces F z ∙ any_value (λ space. list_any (names z) (finite.values space)) F.spaces p s.0 s.1 (any_value (names z) s.0 q c s.2 (names_is z (zero_of c) is))
 
-pub named-to_cell : (F : Flat) (z : ℕ) → IsTrue (is_named F z) → IsNamed F z
-named-to_cell F z is =
+pub named_zeros-to_cell : (F : Flat) (z : ℕ) → IsTrue (is_named F z) → IsNamed F z
+named_zeros-to_cell F z is =
     let s = value_of_any (λ space. list_any (names z) (finite.values space)) F.spaces (sym (is_named-spaces F z) ∙ is) in
     let c = value_of_any (names z) s.1 s.3 in
     record { process = s.0; page = c.0; cell = c.1; stands = ap (option_and_then (λ space. finite.get space c.0)) s.2 ∙ c.2; names = is_names z (zero_of c.1) c.3 }
 
 -- what is left of the zero objects
-pub get-swept : (F : Flat) (z : ℕ) → finite.get (swept F).zeros z ≡ (if is_named F z then finite.get F.zeros z else None)
-get-swept F z = get-retain_keys F.zeros (is_named F) z
+pub get-without_unnamed : (F : Flat) (z : ℕ) → finite.get (without_unnamed F).zeros z ≡ (if is_named F z then finite.get F.zeros z else None)
+get-without_unnamed F z = get-retain_keys F.zeros (is_named F) z
 
 -- the entries of numbers in order
 abbrev entries_in : List ℕ → List (ℕ × Unit {0})
@@ -122,10 +122,10 @@ least_is k (e ∷ es) above = elim (cases_eq e.0 k) [
 ]
 
 pub new_number-new : (F : Flat) → IsFalse (is_named F (new_number F))
-new_number-new F = sym (found_number (named F) (new_number F)) ∙ (least_is 0 (entries_in (named F)) (Above-entries (set_of (named F)))).out
+new_number-new F = sym (found_number (named_zeros F) (new_number F)) ∙ (least_is 0 (entries_in (named_zeros F)) (Above-entries (set_of (named_zeros F)))).out
 
 pub new_number-least : (F : Flat) (z : ℕ) → z < new_number F → IsTrue (is_named F z)
-new_number-least F z lt = sym (found_number (named F) z) ∙ (least_is 0 (entries_in (named F)) (Above-entries (set_of (named F)))).each z (omega arith) lt
+new_number-least F z lt = sym (found_number (named_zeros F) z) ∙ (least_is 0 (entries_in (named_zeros F)) (Above-entries (set_of (named_zeros F)))).each z (omega arith) lt
 
 pub zero_objects_law : ZeroObjects
-zero_objects_law = record { from_cell = named-from_cell; to_cell = named-to_cell; stays = get-swept; new = new_number-new; least = new_number-least }
+zero_objects_law = record { from_cell = named_zeros-from_cell; to_cell = named_zeros-to_cell; stays = get-without_unnamed; new = new_number-new; least = new_number-least }

@@ -8,7 +8,7 @@ use Rattle.std.proofs.lemmas.Bool.{cases_eq, eqb-true, eq-eqb, le-leb, lt-ltb}
 use Rattle.std.proofs.lemmas.Bool.Decides.{nat_tests}
 use Rattle.vm_types.specs.declared.prot.Prot.{Prot}
 use Rattle.flat_model.specs.Flat.{Cell, Space}
-use Rattle.flat_model.specs.Space.{in_range, all_pages, without, with_cells, with_prot, with_prots}
+use Rattle.flat_model.specs.Space.{in_range, all_pages, without_range, with_cells, with_prot, with_prots}
 use Rattle.flat_model.specs.SpaceLaws.{RangesOfCells}
 
 -- what is found by equal keys in both is the same map
@@ -62,36 +62,36 @@ turned true x = refl
 turned false x = refl
 
 -- the cells after a range was taken out
-pub get-without : (s : Space) (first n q : ℕ) → finite.get (without s first n) q ≡ cond (in_range first n q) None (finite.get s q)
-get-without s first n q = get-retain_keys s (λ x. not (in_range first n x)) q ∙ turned (in_range first n q) (finite.get s q)
+pub get-without_range : (s : Space) (first n q : ℕ) → finite.get (without_range s first n) q ≡ cond (in_range first n q) None (finite.get s q)
+get-without_range s first n q = get-retain_keys s (λ x. not (in_range first n x)) q ∙ turned (in_range first n q) (finite.get s q)
 
 shadowed : {A : Type 0} (b : Bool) (x y z : Option A) → cond b x (cond b y z) ≡ cond b x z
 shadowed true x y z = refl
 shadowed false x y z = refl
 
 -- the cells after a range was replaced
-pub get-replaced : (s : Space) (first n : ℕ) (cell : ℕ → Cell) (q : ℕ) → finite.get (with_cells (without s first n) first n cell) q ≡ cond (in_range first n q) (Some (cell (q - first))) (finite.get s q)
+pub get-replaced : (s : Space) (first n : ℕ) (cell : ℕ → Cell) (q : ℕ) → finite.get (with_cells (without_range s first n) first n cell) q ≡ cond (in_range first n q) (Some (cell (q - first))) (finite.get s q)
 get-replaced s first n cell q =
-    get-with_cells (without s first n) first n cell q ∙ ap (cond (in_range first n q) (Some (cell (q - first)))) (get-without s first n q)
+    get-with_cells (without_range s first n) first n cell q ∙ ap (cond (in_range first n q) (Some (cell (q - first)))) (get-without_range s first n q)
     ∙ shadowed (in_range first n q) (Some (cell (q - first))) None (finite.get s q)
 
 -- new cells hide those that were taken out
-pub with_cells-without : (s : Space) (first n : ℕ) (cell : ℕ → Cell) → with_cells (without s first n) first n cell ≡ with_cells s first n cell
-with_cells-without s first n cell = same_space _ _ (λ q. get-replaced s first n cell q ∙ sym (get-with_cells s first n cell q))
+pub with_cells-without_range : (s : Space) (first n : ℕ) (cell : ℕ → Cell) → with_cells (without_range s first n) first n cell ≡ with_cells s first n cell
+with_cells-without_range s first n cell = same_space _ _ (λ q. get-replaced s first n cell q ∙ sym (get-with_cells s first n cell q))
 
 -- new cells that are taken out leave what was beside them
-pub without-with_cells : (s : Space) (first n : ℕ) (cell : ℕ → Cell) → without (with_cells s first n cell) first n ≡ without s first n
-without-with_cells s first n cell = same_space _ _ (λ q.
-    get-without (with_cells s first n cell) first n q ∙ ap (cond (in_range first n q) None) (get-with_cells s first n cell q)
-    ∙ shadowed (in_range first n q) None (Some (cell (q - first))) (finite.get s q) ∙ sym (get-without s first n q))
+pub without_range-with_cells : (s : Space) (first n : ℕ) (cell : ℕ → Cell) → without_range (with_cells s first n cell) first n ≡ without_range s first n
+without_range-with_cells s first n cell = same_space _ _ (λ q.
+    get-without_range (with_cells s first n cell) first n q ∙ ap (cond (in_range first n q) None) (get-with_cells s first n cell q)
+    ∙ shadowed (in_range first n q) None (Some (cell (q - first))) (finite.get s q) ∙ sym (get-without_range s first n q))
 
 absent : (b : Bool) (x : Option Cell) → (b ≡ true → x ≡ None) → cond b None x ≡ x
 absent true x h = sym (h refl)
 absent false x h = refl
 
 -- to take nothing out changes nothing
-pub without-free : (s : Space) (first n : ℕ) → ((q : ℕ) → in_range first n q ≡ true → finite.get s q ≡ None) → without s first n ≡ s
-without-free s first n free = same_space _ _ (λ q. get-without s first n q ∙ absent (in_range first n q) (finite.get s q) (free q))
+pub without_range-free : (s : Space) (first n : ℕ) → ((q : ℕ) → in_range first n q ≡ true → finite.get s q ≡ None) → without_range s first n ≡ s
+without_range-free s first n free = same_space _ _ (λ q. get-without_range s first n q ∙ absent (in_range first n q) (finite.get s q) (free q))
 
 map_cond : {X : Type 0} (b : Bool) (x : X) (y : X) (r s : Option X) → (b ≡ true → x ≡ y) → r ≡ s → cond b (Some x) r ≡ cond b (Some y) s
 map_cond true x y r s h e = ap (λ z. Some z) (h refl)
@@ -142,4 +142,4 @@ at-all_pages test first zero each = refl
 at-all_pages test first (suc n) each = rw (at-all_pages test first n (λ q low high. each q low (omega arith)), each (first + n) (omega arith) (omega arith)) refl
 
 pub ranges_law : RangesOfCells
-ranges_law = record { put_in = get-with_cells; taken_out = get-without; put_and_taken = without-with_cells }
+ranges_law = record { put_in = get-with_cells; taken_out = get-without_range; put_and_taken = without_range-with_cells }

@@ -12,10 +12,10 @@ use Rattle.vm_types.specs.declared.call.Signal.{Signal}
 use Rattle.vm_types.specs.declared.call.Signal.TheVariants as signal
 use Rattle.vm_types.specs.declared.call.Reply.TheVariants as reply
 use Rattle.vm_types.specs.Prot.{can_read, can_write}
-use Rattle.flat_model.specs.Words.{Page, IsPage, page, bytes_of, with_bytes, word_at, IsWordSize}
+use Rattle.flat_model.specs.Words.{Page, IsPage, page, word_bytes, with_bytes, word_at, IsWordSize}
 use Rattle.flat_model.specs.Flat.{Cell, File, Flat, Space, IsFlat, IsFile, IsCell, space_of, cell_at, shown, pages_of}
-use Rattle.flat_model.specs.Refusals.{◌>>=◌, ◌>>◌, need, or_signal, done}
-use Rattle.flat_model.specs.Access.{met, store, load, written, with_page, with_cell, file_with_page}
+use Rattle.flat_model.specs.Refusals.{◌>>=◌, ◌>>◌, check, or_signal, done}
+use Rattle.flat_model.specs.Access.{access_target, store, load, with_page_stored, with_page, with_cell, file_with_page}
 use Rattle.flat_model.specs.StoreLaws.{ShowSamePage, StoreThenLoad, ChangesOneCell, PrivateStore}
 use Rattle.flat_model.proofs.Ranges.{get-insert_here, get-insert_apart}
 use Rattle.flat_model.proofs.Bytes.{All-slice_get, word_again, aligned_alike, slice_get-changed_at, slice_get-slice_set}
@@ -27,7 +27,7 @@ pub record Met (F : Flat) (p : ℕ) (may : Prot → Bool) (a n : ℕ) (c : Cell)
   pub allowed : may c.prot ≡ true
   pub shows : shown F c ≡ Some bytes
 
-need_ok : {E A : Type 0} (b : Bool) (e : E) (r : Result A E) (y : A) → (need b e >> r) ≡ Ok y → (b ≡ true) × (r ≡ Ok y)
+need_ok : {E A : Type 0} (b : Bool) (e : E) (r : Result A E) (y : A) → (check b e >> r) ≡ Ok y → (b ≡ true) × (r ≡ Ok y)
 need_ok true e r y is = (refl, is)
 need_ok false e r y is = absurd cc
 
@@ -40,11 +40,11 @@ pair_ok {A} {B} x c y d is =
     let both : ◌≡◌ {A = A × B} (x, y) (c, d) = cc in
     (ap (λ (w : A × B). w.0) both, ap (λ (w : A × B). w.1) both)
 
-pub is_met : (F : Flat) (p : ℕ) (may : Prot → Bool) (a n : ℕ) (c : Cell) (bytes : Page) → met F p may a n ≡ Ok (c, bytes) → Met F p may a n c bytes
-unfolding met
+pub is_met : (F : Flat) (p : ℕ) (may : Prot → Bool) (a n : ℕ) (c : Cell) (bytes : Page) → access_target F p may a n ≡ Ok (c, bytes) → Met F p may a n c bytes
+unfolding access_target
 is_met F p may a n c bytes is =
     let last : Cell → Result (Cell × Page) Signal = λ cell. ok_or (shown F cell) signal.Past >>= λ bytes. Ok (cell, bytes) in
-    let third : Cell → Result (Cell × Page) Signal = λ cell. need (may cell.prot) signal.Prot >> last cell in
+    let third : Cell → Result (Cell × Page) Signal = λ cell. check (may cell.prot) signal.Prot >> last cell in
     let r = need_ok (a % n == 0) signal.Align (ok_or (cell_at F p (page a)) signal.NoMap >>= third) (c, bytes) is in
     let s = ok_or_ok (cell_at F p (page a)) signal.NoMap third (c, bytes) r.1 in
     let t = need_ok (may s.0.prot) signal.Prot (last s.0) (c, bytes) s.2 in
@@ -54,19 +54,19 @@ is_met F p may a n c bytes is =
     let shows = both.1 in
     record { aligned = r.0; cell = s.1 ∙ ap (λ x. Some x) same; allowed = subst (λ (x : Cell). may x.prot ≡ true) same t.0; shows = subst (λ (x : Cell). shown F x ≡ Some bytes) same (u.1 ∙ ap (λ x. Some x) shows) }
 
-pub met_is : (F : Flat) (p : ℕ) (may : Prot → Bool) (a n : ℕ) (c : Cell) (bytes : Page) → Met F p may a n c bytes → met F p may a n ≡ Ok (c, bytes)
-unfolding met
+pub met_is : (F : Flat) (p : ℕ) (may : Prot → Bool) (a n : ℕ) (c : Cell) (bytes : Page) → Met F p may a n c bytes → access_target F p may a n ≡ Ok (c, bytes)
+unfolding access_target
 met_is F p may a n c bytes m = rw (m.aligned, m.cell, m.allowed, m.shows) refl
 
 tests_alike : (F G : Flat) (may : Prot → Bool) (b : Bool) (o : Option Cell) → ((d : Cell) → o ≡ Some d → shown G d ≡ shown F d)
-    → ◌≡◌ {A = Result (Cell × Page) Signal} (need b signal.Align >> (ok_or o signal.NoMap >>= λ cell. need (may cell.prot) signal.Prot >> (ok_or (shown G cell) signal.Past >>= λ bytes. Ok (cell, bytes)))) (need b signal.Align >> (ok_or o signal.NoMap >>= λ cell. need (may cell.prot) signal.Prot >> (ok_or (shown F cell) signal.Past >>= λ bytes. Ok (cell, bytes))))
+    → ◌≡◌ {A = Result (Cell × Page) Signal} (check b signal.Align >> (ok_or o signal.NoMap >>= λ cell. check (may cell.prot) signal.Prot >> (ok_or (shown G cell) signal.Past >>= λ bytes. Ok (cell, bytes)))) (check b signal.Align >> (ok_or o signal.NoMap >>= λ cell. check (may cell.prot) signal.Prot >> (ok_or (shown F cell) signal.Past >>= λ bytes. Ok (cell, bytes))))
 tests_alike F G may b None alike = refl
 tests_alike F G may b (Some d) alike = rw (alike d refl) refl
 
 -- an access of q in G meets what one of p in F does where there is the same cell and it shows the same
-pub met-alike : (F G : Flat) (p q : ℕ) (may : Prot → Bool) (a n : ℕ) → cell_at G q (page a) ≡ cell_at F p (page a) → ((d : Cell) → cell_at F p (page a) ≡ Some d → shown G d ≡ shown F d) → met G q may a n ≡ met F p may a n
-unfolding met
-met-alike F G p q may a n same alike = rw same (tests_alike F G may (a % n == 0) (cell_at F p (page a)) alike)
+pub access_target-alike : (F G : Flat) (p q : ℕ) (may : Prot → Bool) (a n : ℕ) → cell_at G q (page a) ≡ cell_at F p (page a) → ((d : Cell) → cell_at F p (page a) ≡ Some d → shown G d ≡ shown F d) → access_target G q may a n ≡ access_target F p may a n
+unfolding access_target
+access_target-alike F G p q may a n same alike = rw same (tests_alike F G may (a % n == 0) (cell_at F p (page a)) alike)
 
 word_reply : (F G : Flat) (b m : ℕ) (r : Result (Cell × Page) Signal) → (or_signal G (λ m'. record { reply = reply.Word (word_at m'.1 b m); after = G }) r).reply ≡ (or_signal F (λ m'. record { reply = reply.Word (word_at m'.1 b m); after = F }) r).reply
 word_reply F G b m (Ok x) = refl
@@ -74,7 +74,7 @@ word_reply F G b m (Err s) = refl
 
 -- a load answers the same where there is the same cell and it shows the same
 pub load-alike : (F G : Flat) (p q b m : ℕ) → cell_at G q (page b) ≡ cell_at F p (page b) → ((d : Cell) → cell_at F p (page b) ≡ Some d → shown G d ≡ shown F d) → (load G q b m).reply ≡ (load F p b m).reply
-load-alike F G p q b m same alike = rw (met-alike F G p q can_read b m same alike) (word_reply F G b m (met F p can_read b m))
+load-alike F G p q b m same alike = rw (access_target-alike F G p q can_read b m same alike) (word_reply F G b m (access_target F p can_read b m))
 
 -- an access that was done met something
 done_met : (F : Flat) (acts : Cell × Page → Flat) (r : Result (Cell × Page) Signal) → (or_signal F (λ m. done (acts m)) r).reply ≡ reply.Done → (m : Cell × Page) × (r ≡ Ok m)
@@ -82,9 +82,9 @@ done_met F acts (Ok m) is = (m, refl)
 done_met F acts (Err s) is = absurd cc
 
 -- a store that was done met a page of the cell
-pub store_met : (F : Flat) (p a n v : ℕ) (c : Cell) → (store F p a n v).reply ≡ reply.Done → cell_at F p (page a) ≡ Some c → (bytes : Page) × (met F p can_write a n ≡ Ok (c, bytes)) × Met F p can_write a n c bytes
+pub store_met : (F : Flat) (p a n v : ℕ) (c : Cell) → (store F p a n v).reply ≡ reply.Done → cell_at F p (page a) ≡ Some c → (bytes : Page) × (access_target F p can_write a n ≡ Ok (c, bytes)) × Met F p can_write a n c bytes
 store_met F p a n v c is at =
-    let r = done_met F (λ m. written F p (page a) m.0 (with_bytes m.1 (a % 4096) (bytes_of n v))) (met F p can_write a n) is in
+    let r = done_met F (λ m. with_page_stored F p (page a) m.0 (with_bytes m.1 (a % 4096) (word_bytes n v))) (access_target F p can_write a n) is in
     let m = is_met F p can_write a n r.0.0 r.0.1 r.1 in
     let same : r.0.0 ≡ c = let both : Some r.0.0 ≡ Some c = sym m.cell ∙ at in cc in
     let e = r.1 ∙ ap (λ (d : Cell). Ok (d, r.0.1)) same in
@@ -142,22 +142,22 @@ pub IsPage-shown : (F : Flat) (c : Cell) (bytes : Page) → IsFlat F → IsCell 
 IsPage-shown F c bytes flat cell is = page_of_cell F c c.own bytes flat cell.page is
 
 -- a store through a shared cell is a new page of its object
-pub store-shared : (F : Flat) (p a n v : ℕ) (c : Cell) (bytes : Page) → met F p can_write a n ≡ Ok (c, bytes) → c.kind ≡ Shared → (store F p a n v).after ≡ with_page F c.object c.index (with_bytes bytes (a % 4096) (bytes_of n v))
+pub store-shared : (F : Flat) (p a n v : ℕ) (c : Cell) (bytes : Page) → access_target F p can_write a n ≡ Ok (c, bytes) → c.kind ≡ Shared → (store F p a n v).after ≡ with_page F c.object c.index (with_bytes bytes (a % 4096) (word_bytes n v))
 store-shared F p a n v c bytes is shared = rw (is, shared) refl
 
 -- a store through a private cell is a new page of its own
-pub store-private : (F : Flat) (p a n v : ℕ) (c : Cell) (bytes : Page) → met F p can_write a n ≡ Ok (c, bytes) → c.kind ≡ Private → (store F p a n v).after ≡ with_cell F p (page a) (record c { own = Some (with_bytes bytes (a % 4096) (bytes_of n v)) })
+pub store-private : (F : Flat) (p a n v : ℕ) (c : Cell) (bytes : Page) → access_target F p can_write a n ≡ Ok (c, bytes) → c.kind ≡ Private → (store F p a n v).after ≡ with_cell F p (page a) (record c { own = Some (with_bytes bytes (a % 4096) (word_bytes n v)) })
 store-private F p a n v c bytes is private = rw (is, private) refl
 
 -- a load of a page that has the word
-load_word : (G : Flat) (q b n v : ℕ) (d : Cell) (new : Page) → (b % n ≡ 0) → cell_at G q (page b) ≡ Some d → can_read d.prot ≡ true → shown G d ≡ Some new → word_at new b n ≡ v → (load G q b n).reply ≡ reply.Word v
+pub load_word : (G : Flat) (q b n v : ℕ) (d : Cell) (new : Page) → (b % n ≡ 0) → cell_at G q (page b) ≡ Some d → can_read d.prot ≡ true → shown G d ≡ Some new → word_at new b n ≡ v → (load G q b n).reply ≡ reply.Word v
 load_word G q b n v d new aligned at allowed shows word =
     rw (met_is G q can_read b n d new (record { aligned = eq-eqb (b % n) 0 aligned; cell = at; allowed = allowed; shows = shows })) (ap (λ w. reply.Word w) word)
 
 pub load-store_shared : (F : Flat) (p q a b n v : ℕ) (c d : Cell) → IsFlat F → IsWordSize n → v < 2 ^ (8 * n) → (store F p a n v).reply ≡ reply.Done → cell_at F p (page a) ≡ Some c → c.kind ≡ Shared → cell_at F q (page b) ≡ Some d → ShowSamePage c d → b % 4096 ≡ a % 4096 → IsTrue (can_read d.prot) → (load (store F p a n v).after q b n).reply ≡ reply.Word v
 load-store_shared F p q a b n v c d flat size lt is at shared there same offset allowed =
     let s = store_met F p a n v c is at in
-    let new = with_bytes s.0 (a % 4096) (bytes_of n v) in
+    let new = with_bytes s.0 (a % 4096) (word_bytes n v) in
     let cell = flat.cells p (page a) c at in
     let whole = (IsPage-shown F c s.0 flat cell s.2.shows).whole in
     rw (store-shared F p a n v c s.0 s.1 shared)
@@ -174,7 +174,7 @@ cell_at-with_cell F p q c = ap (option_and_then (λ space. map.get space q)) (ge
 load-store_private : (F : Flat) (p a n v : ℕ) (c : Cell) → IsFlat F → IsWordSize n → v < 2 ^ (8 * n) → (store F p a n v).reply ≡ reply.Done → cell_at F p (page a) ≡ Some c → c.kind ≡ Private → IsTrue (can_read c.prot) → (load (store F p a n v).after p a n).reply ≡ reply.Word v
 load-store_private F p a n v c flat size lt is at private allowed =
     let s = store_met F p a n v c is at in
-    let new = with_bytes s.0 (a % 4096) (bytes_of n v) in
+    let new = with_bytes s.0 (a % 4096) (word_bytes n v) in
     let whole = (IsPage-shown F c s.0 flat (flat.cells p (page a) c at) s.2.shows).whole in
     rw (store-private F p a n v c s.0 s.1 private)
     (load_word (with_cell F p (page a) (record c { own = Some new })) p a n v (record c { own = Some new }) new
@@ -193,19 +193,19 @@ or_own None other other' is = absurd cc
 or_own (Some page) other other' is = refl
 
 -- what a store does to what other cells show, by what it met
-store_cases : (F : Flat) (p a n v : ℕ) (c : Cell) (P : Flat → Type 0) → cell_at F p (page a) ≡ Some c → P F → ((bytes : Page) → met F p can_write a n ≡ Ok (c, bytes) → P (store F p a n v).after) → P (store F p a n v).after
-store_cases F p a n v c P at none some = by_result (met F p can_write a n) refl
+store_cases : (F : Flat) (p a n v : ℕ) (c : Cell) (P : Flat → Type 0) → cell_at F p (page a) ≡ Some c → P F → ((bytes : Page) → access_target F p can_write a n ≡ Ok (c, bytes) → P (store F p a n v).after) → P (store F p a n v).after
+store_cases F p a n v c P at none some = by_result (access_target F p can_write a n) refl
   where
-    by_result : (r : Result (Cell × Page) Signal) → met F p can_write a n ≡ r → P (store F p a n v).after
+    by_result : (r : Result (Cell × Page) Signal) → access_target F p can_write a n ≡ r → P (store F p a n v).after
     by_result (Ok m) is =
         let same : m.0 ≡ c = let both : Some m.0 ≡ Some c = sym (is_met F p can_write a n m.0 m.1 is).cell ∙ at in cc in
         some m.1 (is ∙ ap (λ (d : Cell). Ok (d, m.1)) same)
-    by_result (Err s) is = subst P (sym (ap (λ r. (or_signal F (λ m. done (written F p (page a) m.0 (with_bytes m.1 (a % 4096) (bytes_of n v)))) r).after) is)) none
+    by_result (Err s) is = subst P (sym (ap (λ r. (or_signal F (λ m. done (with_page_stored F p (page a) m.0 (with_bytes m.1 (a % 4096) (word_bytes n v)))) r).after) is)) none
 
 pub load-private_copy : (F : Flat) (p q a b n m v : ℕ) (c d : Cell) → cell_at F p (page a) ≡ Some c → c.kind ≡ Shared → cell_at F q (page b) ≡ Some d → IsSome d.own → (load (store F p a n v).after q b m).reply ≡ (load F q b m).reply
 load-private_copy F p q a b n m v c d at shared there own =
     store_cases F p a n v c (λ G. (load G q b m).reply ≡ (load F q b m).reply) at refl (λ bytes is.
-    let new = with_bytes bytes (a % 4096) (bytes_of n v) in
+    let new = with_bytes bytes (a % 4096) (word_bytes n v) in
     rw (store-shared F p a n v c bytes is shared)
     (load-alike F (with_page F c.object c.index new) q q b m (cell_at-with_page F c.object c.index new q (page b)) (λ x found.
     let same : x ≡ d = let both : Some x ≡ Some d = sym found ∙ there in cc in
@@ -231,7 +231,7 @@ ChangesOneCell-with_cell F p q c old at = record {
 pub ChangesOneCell-store : (F : Flat) (p a n v : ℕ) (c : Cell) → cell_at F p (page a) ≡ Some c → c.kind ≡ Private → ChangesOneCell F (store F p a n v).after p (page a)
 ChangesOneCell-store F p a n v c at private =
     store_cases F p a n v c (λ G. ChangesOneCell F G p (page a)) at (record { slots = refl; files = refl; zeros = refl; born = refl; others = λ x apart. refl; beside = λ r apart. refl }) (λ bytes is.
-    subst (λ (G : Flat). ChangesOneCell F G p (page a)) (sym (store-private F p a n v c bytes is private)) (ChangesOneCell-with_cell F p (page a) (record c { own = Some (with_bytes bytes (a % 4096) (bytes_of n v)) }) c at))
+    subst (λ (G : Flat). ChangesOneCell F G p (page a)) (sym (store-private F p a n v c bytes is private)) (ChangesOneCell-with_cell F p (page a) (record c { own = Some (with_bytes bytes (a % 4096) (word_bytes n v)) }) c at))
 
 shown-same : (F G : Flat) (d : Cell) (o : Object) → G.files ≡ F.files → G.zeros ≡ F.zeros → pages_of G o ≡ pages_of F o
 shown-same F G d (object.File f) files zeros = ap (λ fs. option_map (λ file. file.pages) (slice_get fs f)) files

@@ -2,6 +2,7 @@
 use Rattle.std.proofs.Common.{◌≡◌, ℕ, Bool, true, false, cond, ◌&&◌, ◌||◌, T, List, [], ◌∷◌, map, Option, Some, None, refl, sym, ap, subst, ◌∙◌, Less, arith}
 use Rattle.std.specs.Prelude.{Vec, vec_len, slice_get, ◌==◌, ◌+◌, sum_by, option_map, filter, is_some, length, slice_set, slice_index_or, ◌<◌, ◌≤◌, zero, suc}
 use Rattle.std.specs.FinSet as set
+use Rattle.vnode_files.specs.declared.extent.Extent.{Extent}
 use Rattle.flat_model.specs.Access.{changed_at}
 use Rattle.std.specs.Option.{option_map_or}
 use Rattle.std.specs.List.{AllZip, AllByRecursion, each_same, list_any}
@@ -134,7 +135,7 @@ names_object z (object.File f) = refl
 names_object z object.NewZero = refl
 
 flat_with : finite.FinMap nat_cmp Space → Flat
-flat_with spaces = record { slots = 0; files = []; zeros = finite.empty; spaces = spaces; born = finite.empty }
+flat_with spaces = record { slots = 0; disks = finite.empty; files = []; zeros = finite.empty; spaces = spaces; born = finite.empty }
 
 -- some cell names the zero object, space by space
 pub named_in_is : (spaces : finite.FinMap nat_cmp Space) (z : ℕ) → is_named_in spaces z ≡ list_any (λ space. list_any (names z) (finite.values space)) (finite.values spaces)
@@ -162,6 +163,17 @@ keys_insert es fs k v h = set.same_set nat_cmp_total set.nat_cmp-IsAntisymmetric
     ∙ ap (λ b. eq_by_cmp nat_cmp q k || b) (sym (has_key es q))
     ∙ sym (set.contains-insert nat_cmp_total (set.from_list (keys_of es)) k q))
 
+-- the keys of a tree with one more, which then goes again
+pub keys_back : {X : Type 0} (es fs gs : List (ℕ × X)) (k : ℕ) (v : X) → set.contains (set.from_list {R = nat_cmp} (keys_of es)) k ≡ false → ((q : ℕ) → lookup (is_at (nat_cmp q)) fs ≡ cond (is_at (nat_cmp k) q) (Some v) (lookup (is_at (nat_cmp q)) es)) → ((q : ℕ) → lookup (is_at (nat_cmp q)) gs ≡ cond (is_at (nat_cmp k) q) None (lookup (is_at (nat_cmp q)) fs)) → set.from_list {R = nat_cmp} (keys_of gs) ≡ set.from_list (keys_of es)
+keys_back es fs gs k v new more less = set.same_set nat_cmp_total set.nat_cmp-IsAntisymmetric _ _ (λ q.
+    has_key gs q ∙ ap is_some (less q ∙ ap (cond (is_at (nat_cmp k) q) None) (more q)) ∙ back q (is_at (nat_cmp k) q) refl ∙ sym (has_key es q))
+  where
+    back : (q : ℕ) (b : Bool) → is_at (nat_cmp k) q ≡ b → is_some (cond b None (cond b (Some v) (lookup (is_at (nat_cmp q)) es))) ≡ is_some (lookup (is_at (nat_cmp q)) es)
+    back q false is = refl
+    back q true is =
+        let same : k ≡ q = eqb-true k q (sym (unsigned_tied k q) ∙ is) in
+        sym (ap (λ (j : ℕ). is_some (lookup (is_at (nat_cmp j)) es)) (sym same) ∙ sym (has_key es k) ∙ new)
+
 -- a place of f of each
 pub map_set : {X Y : Type 0} (f : X → Y) (xs : List X) (i : ℕ) (x : X) → map f (slice_set xs i x) ≡ slice_set (map f xs) i (f x)
 map_set f [] i x = refl
@@ -187,8 +199,8 @@ changed_past f g (y ∷ ys) zero h = absurd (omega (arith, h))
 changed_past f g (y ∷ ys) (suc i) h = ap (λ zs. f y ∷ zs) (changed_past f g ys i (omega (arith, h)))
 
 -- a file by its fields
-abbrev pub file_by : ℕ → ℕ → Bool → List Page → File
-file_by len limit writable pages = record { len = len; limit = limit; writable = writable; pages = pages }
+abbrev pub file_by : ℕ → ℕ → List Extent → Bool → List Page → File
+file_by len disk extents writable pages = record { len = len; disk = disk; extents = extents; writable = writable; pages = pages }
 
 -- what isn't there is none
 pub none_from_test : {X : Type 0} (o : Option X) → is_some o ≡ false → o ≡ None

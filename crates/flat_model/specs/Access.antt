@@ -1,6 +1,5 @@
--- Loads and stores.
-use Rattle.std.specs.Prelude.{ℕ, zero, suc, ◌%◌, ◌==◌, Bool, List, [], ◌∷◌, slice_set, Option, Some, Result, Ok, ok_or, unwrap_or}
-use Rattle.std.specs.Result.{result_err}
+-- Loads and stores. Public clauses cite this.
+use Rattle.std.specs.Prelude.{ℕ, zero, suc, ◌%◌, ◌==◌, Bool, List, [], ◌∷◌, slice_set, Some, Result, Ok, ok_or, unwrap_or}
 use Rattle.std.specs.FinMap as map
 use Rattle.vm_types.specs.declared.prot.Prot.{Prot}
 use Rattle.vm_types.specs.declared.call.Kind.TheVariants.{Shared, Private}
@@ -11,25 +10,22 @@ use Rattle.vm_types.specs.declared.call.Signal.TheVariants as signal
 use Rattle.vm_types.specs.declared.call.Reply.TheVariants as reply
 use Rattle.vm_types.specs.Prot.{can_read, can_write}
 use Rattle.flat_model.specs.Words.{Page, page, word_at, word_put}
-use Rattle.flat_model.specs.Flat.{Cell, File, Flat, Space, space_of, cell_at, shown}
-use Rattle.flat_model.specs.Refusals.{◌>>=◌, ◌>>◌, need, Outcome, or_signal, done}
+use Rattle.flat_model.specs.Flat.{Cell, File, Flat, Space, cell_at, shown}
+use Rattle.flat_model.specs.Spaces.{with_cell_in}
+use Rattle.flat_model.specs.Refusals.{◌>>=◌, ◌>>◌, check, Effect, or_signal, done}
 
--- The cell and the page that an access of n bytes meets, or the first signal that is due: Align where n doesn't divide the address, NoMap where there is no cell, Prot where the cell doesn't let it, Past where the cell shows nothing.
-unfoldable pub met : Flat → ℕ → (Prot → Bool) → ℕ → ℕ → Result (Cell × Page) Signal
-met F p may a n = do
-  need (a % n == 0) signal.Align
+-- The cell and the page that an access of n bytes reaches, or the first signal that is due: Align where n doesn't divide the address, NoMap where there is no cell, Prot where the cell doesn't let it, Past where the cell shows nothing.
+unfoldable pub access_target : Flat → ℕ → (Prot → Bool) → ℕ → ℕ → Result (Cell × Page) Signal
+access_target F p may a n = do
+  check (a % n == 0) signal.Align
   cell ← ok_or (cell_at F p (page a)) signal.NoMap
-  need (may cell.prot) signal.Prot
+  check (may cell.prot) signal.Prot
   bytes ← ok_or (shown F cell) signal.Past
   Ok (cell, bytes)
 
--- The signal that is due, if one is.
-abbrev pub due : Flat → ℕ → (Prot → Bool) → ℕ → ℕ → Option Signal
-due F p may a n = result_err (met F p may a n)
-
 -- A load answers the signal that is due, and else the word of the page shown. Nothing changes.
-abbrev pub load : Flat → ℕ → ℕ → ℕ → Outcome
-load F p a n = or_signal F (λ m. record { reply = reply.Word (word_at m.1 a n); after = F }) (met F p can_read a n)
+abbrev pub load : Flat → ℕ → ℕ → ℕ → Effect
+load F p a n = or_signal F (λ m. record { reply = reply.Word (word_at m.1 a n); after = F }) (access_target F p can_read a n)
 
 -- The list with the element at a place changed.
 abbrev pub changed_at : {A : Type 0} → (A → A) → List A → ℕ → List A
@@ -52,12 +48,12 @@ with_space F p space = record F { spaces = map.insert F.spaces p space }
 
 -- Flat memory with a cell at a page of a process.
 abbrev pub with_cell : Flat → ℕ → ℕ → Cell → Flat
-with_cell F p q c = with_space F p (map.insert (unwrap_or (space_of F p) map.empty) q c)
+with_cell F p q c = record F { spaces = with_cell_in F.spaces p q c }
 
 -- A new page of a shared cell goes to its object. Of a private cell it becomes the cell's own.
-abbrev pub written : Flat → ℕ → ℕ → Cell → Page → Flat
-written F p q c new = elim c.kind [ Shared ↦ with_page F c.object c.index new | Private ↦ with_cell F p q (record c { own = Some new }) ]
+abbrev pub with_page_stored : Flat → ℕ → ℕ → Cell → Page → Flat
+with_page_stored F p q c new = elim c.kind [ Shared ↦ with_page F c.object c.index new | Private ↦ with_cell F p q (record c { own = Some new }) ]
 
 -- A store answers the signal that is due, and else Done: the bytes are replaced in the page shown.
-abbrev pub store : Flat → ℕ → ℕ → ℕ → ℕ → Outcome
-store F p a n v = or_signal F (λ m. done (written F p (page a) m.0 (word_put m.1 a n v))) (met F p can_write a n)
+abbrev pub store : Flat → ℕ → ℕ → ℕ → ℕ → Effect
+store F p a n v = or_signal F (λ m. done (with_page_stored F p (page a) m.0 (word_put m.1 a n v))) (access_target F p can_write a n)

@@ -1,4 +1,4 @@
--- What flat memory is made of, and what a cell shows.
+-- What flat memory is made of, and what a cell shows. Public clauses cite this.
 use Rattle.std.specs.Prelude.{ℕ, ◌≡◌, ◌==◌, ◌+◌, Bool, List, length, Option, Some, None, IsSome, option_map, option_and_then, slice_get, sum_by, filter_map, flat_map, All, IsTrue}
 use Rattle.std.specs.Option.{option_or}
 use Rattle.std.specs.List.{list_any}
@@ -11,6 +11,7 @@ use Rattle.vm_types.specs.declared.call.Kind.TheVariants.{Shared, Private}
 use Rattle.vm_types.specs.declared.call.Object.{Object}
 use Rattle.vm_types.specs.declared.call.Object.TheVariants as object
 use Rattle.vm_types.specs.Pages.{IsUserPage}
+use Rattle.vnode_files.specs.declared.extent.Extent.{Extent}
 use Rattle.flat_model.specs.Words.{Page, IsPage, pages_in}
 
 -- A cell is one page of a mapping: what may be done there, at most what Protect may allow, shared or private, the object and the page of it that the cell stands for, and the cell's own page where it has one.
@@ -26,16 +27,20 @@ pub record Cell : Type 0 where
 abbrev pub Space : Type 0
 Space = map.FinMap nat_cmp Cell
 
--- A file: its length in bytes, the most pages that it may have, whether it may be written, and its pages. The bytes past the length in the last page are its tail.
+-- A file: its length in bytes, its disk, the extents of blocks there that it keeps, whether it may be written, and its pages. It keeps as many
+-- pages as its extents have blocks. The bytes past the length in the last page are its tail.
 pub record File : Type 0 where
   pub len : ℕ
-  pub limit : ℕ
+  pub disk : ℕ
+  pub extents : List Extent
   pub writable : Bool
   pub pages : List Page
 
--- Flat memory: the number of swap slots, the files, the zero objects by number, the spaces of the processes that are alive, and the processes that were ever alive.
+-- Flat memory: the number of swap slots, the blocks of each disk by its number, the files, the zero objects by number, the spaces of the
+-- processes that are alive, and the processes that were ever alive.
 pub record Flat : Type 0 where
   pub slots : ℕ
+  pub disks : map.FinMap nat_cmp ℕ
   pub files : List File
   pub zeros : map.FinMap nat_cmp (List Page)
   pub spaces : map.FinMap nat_cmp Space
@@ -45,9 +50,13 @@ pub record Flat : Type 0 where
 abbrev pub space_of : Flat → ℕ → Option Space
 space_of F p = map.get F.spaces p
 
+-- The cell at a page of a process, of these spaces.
+abbrev pub cell_in : map.FinMap nat_cmp Space → ℕ → ℕ → Option Cell
+cell_in spaces p q = option_and_then (λ space. map.get space q) (map.get spaces p)
+
 -- The cell of a process at a page.
 abbrev pub cell_at : Flat → ℕ → ℕ → Option Cell
-cell_at F p q = option_and_then (λ space. map.get space q) (space_of F p)
+cell_at F p q = cell_in F.spaces p q
 
 -- The pages of a file or a zero object, where there is one.
 abbrev pub pages_of : Flat → Object → Option (List Page)
@@ -63,17 +72,25 @@ shown F c = option_or c.own (option_and_then (λ pages. slice_get pages c.index)
 abbrev pub zero_of : Cell → Option ℕ
 zero_of c = elim c.object [ object.Zero z ↦ Some z | object.File f ↦ None | object.NewZero ↦ None ]
 
--- The numbers of the zero objects that cells name, one for each cell that names one.
-abbrev pub named : Flat → List ℕ
-named F = flat_map (λ space. filter_map zero_of (map.values space)) (map.values F.spaces)
+-- The numbers of the zero objects that the cells of these spaces name, one for each cell that names one.
+abbrev pub named_in : map.FinMap nat_cmp Space → List ℕ
+named_in spaces = flat_map (λ space. filter_map zero_of (map.values space)) (map.values spaces)
+
+-- Some cell of these spaces names the zero object.
+abbrev pub is_named_in : map.FinMap nat_cmp Space → ℕ → Bool
+is_named_in spaces z = list_any (λ y. z == y) (named_in spaces)
+
+-- The numbers of the zero objects that cells name.
+abbrev pub named_zeros : Flat → List ℕ
+named_zeros F = named_in F.spaces
 
 -- Some cell of some process names the zero object.
 abbrev pub is_named : Flat → ℕ → Bool
-is_named F z = list_any (λ y. z == y) (named F)
+is_named F z = is_named_in F.spaces z
 
 -- A zero object that no cell names is gone.
-abbrev pub swept : Flat → Flat
-swept F = record F { zeros = map.retain_keys F.zeros (is_named F) }
+abbrev pub without_unnamed : Flat → Flat
+without_unnamed F = record F { zeros = map.retain_keys F.zeros (is_named F) }
 
 -- What a cell reserves: a private one a slot, a shared one none.
 abbrev pub slots_for : Cell → ℕ
@@ -83,9 +100,13 @@ slots_for c = elim c.kind [ Private ↦ 1 | Shared ↦ 0 ]
 abbrev pub private_cells : Space → ℕ
 private_cells space = sum_by slots_for (map.values space)
 
--- The slots that are reserved: one for each private cell, and for each zero object that some cell names one for each of its pages.
+-- The slots that these spaces and these zero objects reserve: one for each private cell, and one for each page of a zero object.
+abbrev pub reserved_by : map.FinMap nat_cmp Space → map.FinMap nat_cmp (List Page) → ℕ
+reserved_by spaces zeros = sum_by private_cells (map.values spaces) + sum_by length (map.values zeros)
+
+-- The slots that are reserved. A zero object counts once, and only where some cell names it.
 abbrev pub reserved : Flat → ℕ
-reserved F = sum_by private_cells (map.values F.spaces) + sum_by length (map.values (swept F).zeros)
+reserved F = reserved_by F.spaces (without_unnamed F).zeros
 
 -- A cell is well formed: its own page is a page, a shared cell has none, and a private cell of new zero memory has one.
 pub record IsCell (c : Cell) : Type 0 where

@@ -1,4 +1,4 @@
--- A flat as data, so that a model may have it as its value.
+-- A flat as data, so that a model may have it as its value. Inside: no public clause cites this.
 use Rattle.std.specs.Prelude.{ℕ, Bool, List, Option, refl}
 use Rattle.std.specs.Coded.{Coded, code_by, coded×, coded_ℕ, coded_bool, coded_list, coded_option}
 use Rattle.std.specs.Ordering.{nat_cmp}
@@ -10,6 +10,8 @@ use Rattle.vm_types.specs.declared.call.Object.{Object}
 use Rattle.vm_types.specs.contracts.prot.Prot as prot
 use Rattle.vm_types.specs.contracts.call.Kind as kind
 use Rattle.vm_types.specs.contracts.call.Object as object
+use Rattle.vnode_files.specs.declared.extent.Extent.{Extent}
+use Rattle.vnode_files.specs.contracts.extent.Extent as extent
 use Rattle.flat_model.specs.Words.{Page}
 use Rattle.flat_model.specs.Flat.{Cell, Space, File, Flat}
 
@@ -23,11 +25,11 @@ cell_code =
 
 abbrev pub file_code : Coded File
 file_code =
-    code_by (ℕ × (ℕ × (Bool × List Page))) (coded× coded_ℕ (coded× coded_ℕ (coded× coded_bool (coded_list page_code))))
-    (λ f. (f.len, (f.limit, (f.writable, f.pages)))) (λ p. record { len = p.0; limit = p.1.0; writable = p.1.1.0; pages = p.1.1.1 }) (λ _. refl)
+    code_by (ℕ × (ℕ × (List Extent × (Bool × List Page)))) (coded× coded_ℕ (coded× coded_ℕ (coded× (coded_list extent.the_row.coded) (coded× coded_bool (coded_list page_code)))))
+    (λ f. (f.len, (f.disk, (f.extents, (f.writable, f.pages))))) (λ p. record { len = p.0; disk = p.1.0; extents = p.1.1.0; writable = p.1.1.1.0; pages = p.1.1.1.1 }) (λ _. refl)
 
 abbrev pub flat_code : Coded Flat
 flat_code =
-    code_by (ℕ × (List File × (map.FinMap nat_cmp (List Page) × (map.FinMap nat_cmp Space × set.FinSet nat_cmp))))
-    (coded× coded_ℕ (coded× (coded_list file_code) (coded× (map.code coded_ℕ (coded_list page_code)) (coded× (map.code coded_ℕ (map.code coded_ℕ cell_code)) (set.code coded_ℕ)))))
-    (λ f. (f.slots, (f.files, (f.zeros, (f.spaces, f.born))))) (λ p. record { slots = p.0; files = p.1.0; zeros = p.1.1.0; spaces = p.1.1.1.0; born = p.1.1.1.1 }) (λ _. refl)
+    code_by (ℕ × (map.FinMap nat_cmp ℕ × (List File × (map.FinMap nat_cmp (List Page) × (map.FinMap nat_cmp Space × set.FinSet nat_cmp)))))
+    (coded× coded_ℕ (coded× (map.code coded_ℕ coded_ℕ) (coded× (coded_list file_code) (coded× (map.code coded_ℕ (coded_list page_code)) (coded× (map.code coded_ℕ (map.code coded_ℕ cell_code)) (set.code coded_ℕ))))))
+    (λ f. (f.slots, (f.disks, (f.files, (f.zeros, (f.spaces, f.born)))))) (λ p. record { slots = p.0; disks = p.1.0; files = p.1.1.0; zeros = p.1.1.1.0; spaces = p.1.1.1.1.0; born = p.1.1.1.1.1 }) (λ _. refl)

@@ -1,10 +1,10 @@
--- Which histories are legal, and what flat memory is after one.
-use Rattle.std.specs.Prelude.{ℕ, ◌≡◌, ◌≤◌, ◌<◌, ◌⊎◌, ◌==◌, Bool, true, false, not, ◌&&◌, List, [], ◌∷◌, Some, None, slice_get, MatchOption, MatchBool}
+-- Which histories are legal, and what flat memory is after one. Public clauses cite this.
+use Rattle.std.specs.Prelude.{ℕ, ◌≡◌, ◌≤◌, ◌<◌, ◌⊎◌, ◌==◌, Bool, false, not, ◌&&◌, List, [], ◌∷◌, Some, None, slice_get, MatchOption, MatchBool, IsTrue}
 use Rattle.vm_types.specs.declared.call.Call.TheVariants.{Fork}
-use Rattle.vm_types.specs.declared.call.Reply.{Reply}
 use Rattle.vm_types.specs.declared.call.Reply.TheVariants as reply
 use Rattle.vm_types.specs.declared.call.Entry.{Entry}
-use Rattle.vm_types.specs.Parts.{part_file, ends_call}
+use Rattle.vm_types.specs.Parts.{part_file, file_of_call, is_part, ends_call}
+pub use Rattle.vm_types.specs.Replies.{is_io}
 use Rattle.flat_model.specs.Flat.{Flat}
 use Rattle.flat_model.specs.Step.{IsStep, step}
 
@@ -30,31 +30,27 @@ IsStart H k p b = (b ≤ k) × ((j : ℕ) (d : Entry) → j < k → slice_get H 
 abbrev pub IsSyncStart : List Entry → ℕ → Entry → Type 0
 IsSyncStart H k e = elim e.reply [ reply.Synced b ↦ IsStart H k e.process b | r ↦ Unit {0} ]
 
--- The entry is a part of the file.
-abbrev pub is_part_of : ℕ → Entry → Bool
-is_part_of f e = elim (part_file e.call) [ Some g ↦ f == g | None ↦ false ]
+-- The entry's call is of the file: a part of it, or a Truncate of it.
+abbrev pub is_of_file : ℕ → Entry → Bool
+is_of_file f e = elim (file_of_call e.call) [ Some g ↦ f == g | None ↦ false ]
 
-abbrev pub is_io : Reply → Bool
-is_io (reply.Io disk before after) = true
-is_io r = false
-
--- A part of f by another process that met Io; it stands between the parts of a call as if it weren't there.
+-- A call of f by another process that met Io; it stands between the parts of a call as if it weren't there.
 abbrev pub is_aside : ℕ → Entry → Bool
 is_aside p e = is_io e.reply && not (e.process == p)
 
--- The next part of f, those aside left out, is p's, if there is one.
+-- The next part or Truncate of f, those aside left out, is a part of p's, if there is one.
 abbrev pub IsNextOwn : ℕ → ℕ → List Entry → Type 0
 IsNextOwn f p [] = Unit {0}
-IsNextOwn f p (e ∷ H) = MatchBool (is_part_of f e && not (is_aside p e)) (e.process ≡ p) (IsNextOwn f p H)
+IsNextOwn f p (e ∷ H) = MatchBool (is_of_file f e && not (is_aside p e)) ((e.process ≡ p) × IsTrue (is_part e.call)) (IsNextOwn f p H)
 
--- If the entry is a part that doesn't end its call, then the next part of that file is of its process.
-abbrev pub IsKept : Entry → List Entry → Type 0
-IsKept e H = MatchOption (part_file e.call) (Unit {0}) (λ f. MatchBool (ends_call e.call e.reply) (Unit {0}) (IsNextOwn f e.process H))
+-- If the entry is a part that doesn't end its call, then the next part or Truncate of that file is a part of its process.
+abbrev pub IsUnbroken : Entry → List Entry → Type 0
+IsUnbroken e H = MatchOption (part_file e.call) (Unit {0}) (λ f. MatchBool (ends_call e.call e.reply) (Unit {0}) (IsNextOwn f e.process H))
 
--- No call's part comes between the parts of another call of the same file.
+-- No call of a file comes between the parts of another call of that file.
 abbrev pub KeepsParts : List Entry → Type 0
 KeepsParts [] = Unit {0}
-KeepsParts (e ∷ H) = IsKept e H × KeepsParts H
+KeepsParts (e ∷ H) = IsUnbroken e H × KeepsParts H
 
 -- A history is legal where its entries are steps, its Syncs began behind what their processes had done before, and the parts of a call stay together.
 pub record Legal (F : Flat) (H : List Entry) : Type 0 where

@@ -1,13 +1,13 @@
--- Laws of steps and histories.
+-- Laws of steps and histories. Public clauses cite this.
 use Rattle.std.specs.Prelude.{ℕ, ◌≡◌, ◌↔◌, ◌++◌, List, [], ◌∷◌, length, Option, Some, None, MatchOption, false, if◌then◌else◌}
 use Rattle.std.specs.Option.{option_map_or}
 use Rattle.vm_types.specs.declared.call.Entry.{Entry}
 use Rattle.vm_types.specs.declared.call.Reply.{Reply}
 use Rattle.vm_types.specs.declared.call.Reply.TheVariants as reply
-use Rattle.vm_types.specs.Parts.{part_file, ends_call}
+use Rattle.vm_types.specs.Parts.{file_of_call, ends_call}
 use Rattle.flat_model.specs.Flat.{Flat}
-use Rattle.flat_model.specs.Step.{IsStep, step, tails_cleared}
-use Rattle.flat_model.specs.History.{replay, Legal, IsSyncStart, is_part_of, is_aside, IsNextOwn}
+use Rattle.flat_model.specs.Step.{IsStep, step, bit, tails_cleared}
+use Rattle.flat_model.specs.History.{replay, Legal, IsSyncStart, is_of_file, is_aside, IsNextOwn}
 
 -- The reply says that the call wasn't done: a signal, a refusal, or a transfer that failed.
 abbrev pub IsNoAction : Reply → Type 0
@@ -18,11 +18,11 @@ IsNoAction r = ⊥
 
 -- A step whose call wasn't done changes nothing but the tails that it names.
 pub record Quiet : Type 0 where
-  pub unchanged : (F : Flat) (e : Entry) → IsStep F e → IsNoAction e.reply → step F e ≡ tails_cleared F e.cleared
+  pub unchanged : (F : Flat) (e : Entry) → IsStep F e → IsNoAction e.reply → step F e ≡ tails_cleared F (bit e.cleared)
 
 -- The process whose call of a file is between two parts, if there is one, after an entry more.
 abbrev pub open_after : ℕ → Option ℕ → Entry → Option ℕ
-open_after f holder e = if is_part_of f e then (if option_map_or (λ p. is_aside p e) holder false then holder else (if ends_call e.call e.reply then None else Some e.process)) else holder
+open_after f holder e = if is_of_file f e then (if option_map_or (λ p. is_aside p e) holder false then holder else (if ends_call e.call e.reply then None else Some e.process)) else holder
 
 abbrev pub open_from : ℕ → Option ℕ → List Entry → Option ℕ
 open_from f holder [] = holder
@@ -32,9 +32,10 @@ open_from f holder (e ∷ H) = open_from f (open_after f holder e) H
 abbrev pub open_call : ℕ → List Entry → Option ℕ
 open_call f H = open_from f None H
 
--- The entry may be the next one of its file: where a call is between two parts, it is of that call's process, or another process's part that met Io.
+-- The entry may be the next one of its file: where a call is between two parts, it is a part of that call's process, or another process's
+-- call that met Io.
 abbrev pub IsNextPart : List Entry → Entry → Type 0
-IsNextPart H e = MatchOption (part_file e.call) (Unit {0}) (λ f. MatchOption (open_call f H) (Unit {0}) (λ p. IsNextOwn f p (e ∷ [])))
+IsNextPart H e = MatchOption (file_of_call e.call) (Unit {0}) (λ f. MatchOption (open_call f H) (Unit {0}) (λ p. IsNextOwn f p (e ∷ [])))
 
 -- The entry may come behind the history.
 pub record IsNext (F : Flat) (H : List Entry) (e : Entry) : Type 0 where

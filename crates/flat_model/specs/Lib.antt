@@ -1,8 +1,20 @@
+-- Flat memory and what the calls do to it.
 pub mod Words
 pub mod Flat
 pub mod Refusals
+pub mod Spaces
 pub mod Access
 pub mod Space
+pub mod Mapping
+pub mod Parts
+pub mod Processes
+pub mod Step
+pub mod Opening
+-- Histories.
+pub mod History
+pub mod Counted
+pub mod Told
+-- The laws.
 pub mod SpaceLaws
 pub mod StoreLaws
 pub mod NamedLaws
@@ -10,16 +22,24 @@ pub mod MapLaws
 pub mod PartLaws
 pub mod FlatLaws
 pub mod HistoryLaws
-pub mod Mapping
-pub mod Parts
-pub mod Processes
-pub mod Step
-pub mod History
-pub mod Counted
-pub mod Told
+pub mod ReplayLaws
+pub mod SyncLaws
+pub mod CountLaws
+pub mod SpellingLaws
+pub mod OpenLaws
+pub mod Births
+pub mod FrameLaws
+pub mod LineLaws
+pub mod ObjectLaws
+pub mod CacheLaws
+pub mod ReserveLaws
+pub mod ReachedLaws
+pub mod TailLaws
+pub mod GrownLaws
+pub mod ProtectLaws
+-- The plain form that steps over entries, `FlatState`.
 pub mod FlatCode
 pub mod Cells
-pub mod Spaces
 pub mod State
 pub mod FlatState
 pub mod Mapped

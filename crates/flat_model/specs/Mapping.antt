@@ -1,5 +1,5 @@
--- Map, Unmap, Protect and Sync.
-use Rattle.std.specs.Prelude.{ℕ, ◌+◌, ◌*◌, ◌/◌, ◌%◌, ◌==◌, Bool, true, false, not, ◌&&◌, ◌||◌, List, [], ◌∷◌, replicate, Option, Some, None, is_some, Result, Ok, ok_or, slice_get, nat_le, unwrap_or, if◌then◌else◌}
+-- Map, Unmap, Protect and Sync. Public clauses cite this.
+use Rattle.std.specs.Prelude.{ℕ, ◌+◌, ◌*◌, ◌%◌, ◌==◌, Bool, true, false, not, ◌&&◌, ◌||◌, List, [], ◌∷◌, replicate, Option, Some, None, is_some, Result, Ok, ok_or, slice_get, nat_le, unwrap_or, if◌then◌else◌}
 use Rattle.std.specs.Option.{option_map_or}
 use Rattle.std.specs.FinMap as map
 use Rattle.std.specs.Ordering.{nat_cmp}
@@ -13,20 +13,17 @@ use Rattle.vm_types.specs.declared.call.Place.TheVariants.{At, Any}
 use Rattle.vm_types.specs.declared.call.Errno.{Errno}
 use Rattle.vm_types.specs.declared.call.Errno.TheVariants as errno
 use Rattle.vm_types.specs.declared.call.Reply.TheVariants as reply
+pub use Rattle.vm_types.specs.Pages.{is_range}
 use Rattle.vm_types.specs.Prot.{is_within}
-use Rattle.flat_model.specs.Words.{Page, zero_page, page, pages_in}
-use Rattle.flat_model.specs.Flat.{Cell, Flat, Space, space_of, pages_of, named, swept, reserved}
-use Rattle.flat_model.specs.Space.{end_page, all_pages, without, with_cells, with_prots, lowest_gap}
+use Rattle.flat_model.specs.Words.{Page, zero_page, page, pages_in, page_size}
+use Rattle.flat_model.specs.Flat.{Cell, Flat, Space, space_of, pages_of, named_in, without_unnamed, reserved}
+use Rattle.flat_model.specs.Space.{all_pages, without_range, with_cells, with_prots, lowest_gap}
 use Rattle.flat_model.specs.Access.{with_space}
-use Rattle.flat_model.specs.Refusals.{◌>>=◌, ◌>>◌, need, Outcome, or_refused, done}
+use Rattle.flat_model.specs.Refusals.{◌>>=◌, ◌>>◌, check, Effect, or_refused, done}
 
 -- The cells of a process, none for one that isn't alive.
 abbrev pub cells_of : Flat → ℕ → Space
 cells_of F p = unwrap_or (space_of F p) map.empty
-
--- A range is valid where its address begins a page, its length isn't 0, and its pages lie in the user addresses.
-abbrev pub is_range : ℕ → ℕ → Bool
-is_range a len = (a % 4096 == 0) && not (len == 0) && nat_le 1 (page a) && nat_le (page a + pages_in len) end_page
 
 -- What a Map asks for.
 pub record Request : Type 0 where
@@ -47,27 +44,27 @@ is_new_zero o = false
 
 -- A request is valid where its place is, its offset begins a page, and new zero memory has the offset 0.
 abbrev pub is_valid : Request → Bool
-is_valid r = is_place r.place r.len && (r.offset % 4096 == 0) && (not (is_new_zero r.object) || (r.offset == 0))
+is_valid r = is_place r.place r.len && (r.offset % page_size == 0) && (not (is_new_zero r.object) || (r.offset == 0))
 
 -- There is such a file or zero object; new zero memory can always be asked for.
 abbrev pub is_there : Flat → Object → Bool
 is_there F o = is_new_zero o || is_some (pages_of F o)
 
-abbrev pub read_only : Prot
-read_only = record { 0 = 1 }
+abbrev pub prot_read : Prot
+prot_read = record { 0 = 1 }
 
-abbrev pub read_write : Prot
-read_write = record { 0 = 3 }
+abbrev pub prot_read_write : Prot
+prot_read_write = record { 0 = 3 }
 
--- At most a shared mapping of a file that can't be written may be read, and all else may be read and written.
+-- The most that may be done: a shared mapping of a file that can't be written may only be read, and all else may be read and written.
 abbrev pub max_of : Flat → Kind → Object → Prot
-max_of F Shared (object.File f) = option_map_or (λ file. if file.writable then read_write else read_only) (slice_get F.files f) read_write
-max_of F kind o = read_write
+max_of F Shared (object.File f) = option_map_or (λ file. if file.writable then prot_read_write else prot_read) (slice_get F.files f) prot_read_write
+max_of F kind o = prot_read_write
 
 -- Flat memory without the cells that a mapping at an address replaces.
-abbrev pub cleared_for : Flat → ℕ → Place → ℕ → Flat
-cleared_for F p (At a) n = with_space F p (without (cells_of F p) (page a) n)
-cleared_for F p Any n = F
+abbrev pub without_replaced : Flat → ℕ → Place → ℕ → Flat
+without_replaced F p (At a) n = with_space F p (without_range (cells_of F p) (page a) n)
+without_replaced F p Any n = F
 
 -- The first page of the range: the one asked for, or else the lowest gap that fits.
 abbrev pub first_page : Space → Place → ℕ → Option ℕ
@@ -84,9 +81,13 @@ abbrev pub set_of : List ℕ → map.FinMap nat_cmp (Unit {0})
 set_of [] = map.empty
 set_of (z ∷ zs) = map.insert (set_of zs) z tt
 
+-- The least number that no cell of these spaces names.
+abbrev pub new_number_in : map.FinMap nat_cmp Space → ℕ
+new_number_in spaces = least_from 0 (map.keys (set_of (named_in spaces)))
+
 -- The number of a new zero object: the least that no cell names.
 abbrev pub new_number : Flat → ℕ
-new_number G = least_from 0 (map.keys (set_of (named G)))
+new_number G = new_number_in G.spaces
 
 -- The object that the cells of a new mapping name: shared new zero memory makes a zero object.
 abbrev pub object_for : Flat → Kind → Object → Object
@@ -100,7 +101,7 @@ own_for kind o = None
 
 -- Cell i of a new mapping.
 abbrev pub new_cell : Flat → Flat → Request → ℕ → Cell
-new_cell F G r i = record { prot = r.prot; max = max_of F r.kind r.object; kind = r.kind; object = object_for G r.kind r.object; index = r.offset / 4096 + i; own = own_for r.kind r.object }
+new_cell F G r i = record { prot = r.prot; max = max_of F r.kind r.object; kind = r.kind; object = object_for G r.kind r.object; index = page r.offset + i; own = own_for r.kind r.object }
 
 -- Flat memory with the zero object of n pages that shared new zero memory makes.
 abbrev pub with_object : Flat → Kind → Object → ℕ → Flat
@@ -108,57 +109,57 @@ with_object G Shared object.NewZero n = record G { zeros = map.insert G.zeros (n
 with_object G kind o n = G
 
 -- Flat memory F with the new mapping from a page on.
-abbrev pub mapped_at : Flat → ℕ → Request → ℕ → Flat
-mapped_at F p r first =
+abbrev pub with_mapping : Flat → ℕ → Request → ℕ → Flat
+with_mapping F p r first =
     let n = pages_in r.len in
-    let G = cleared_for F p r.place n in
-    swept (with_space (with_object G r.kind r.object n) p (with_cells (cells_of G p) first n (new_cell F G r)))
+    let G = without_replaced F p r.place n in
+    without_unnamed (with_space (with_object G r.kind r.object n) p (with_cells (cells_of G p) first n (new_cell F G r)))
 
 -- The first page of a Map and flat memory with it, or the first refusal that is due: Invalid; NoObject; Access where more is asked for than the most that may be done; TooLarge past 65,536 cells; NoRoom without a gap; NoSwap where more would be reserved than there are slots.
-unfoldable pub mapped : Flat → ℕ → Request → Result (ℕ × Flat) Errno
-mapped F p r = do
+unfoldable pub map_result : Flat → ℕ → Request → Result (ℕ × Flat) Errno
+map_result F p r = do
   let n = pages_in r.len
-  let space = cells_of (cleared_for F p r.place n) p
-  need (is_valid r) errno.Invalid
-  need (is_there F r.object) errno.NoObject
-  need (is_within r.prot (max_of F r.kind r.object)) errno.Access
-  need (nat_le (map.len space + n) 65536) errno.TooLarge
+  let space = cells_of (without_replaced F p r.place n) p
+  check (is_valid r) errno.Invalid
+  check (is_there F r.object) errno.NoObject
+  check (is_within r.prot (max_of F r.kind r.object)) errno.Access
+  check (nat_le (map.len space + n) 65536) errno.TooLarge
   first ← ok_or (first_page space r.place n) errno.NoRoom
-  let new = mapped_at F p r first
-  need (nat_le (reserved new) F.slots) errno.NoSwap
+  let new = with_mapping F p r first
+  check (nat_le (reserved new) F.slots) errno.NoSwap
   Ok (first, new)
 
 -- A Map answers its first address.
-abbrev pub map_pages : Flat → ℕ → Request → Outcome
-map_pages F p r = or_refused F (λ m. record { reply = reply.Mapped (4096 * m.0); after = m.1 }) (mapped F p r)
+abbrev pub map_pages : Flat → ℕ → Request → Effect
+map_pages F p r = or_refused F (λ m. record { reply = reply.Mapped (page_size * m.0); after = m.1 }) (map_result F p r)
 
 -- Flat memory without the cells of n pages of a process.
-abbrev pub unmapped : Flat → ℕ → ℕ → ℕ → Flat
-unmapped F p first n = swept (with_space F p (without (cells_of F p) first n))
+abbrev pub without_pages : Flat → ℕ → ℕ → ℕ → Flat
+without_pages F p first n = without_unnamed (with_space F p (without_range (cells_of F p) first n))
 
 -- An Unmap takes the cells of a valid range away, if there are any.
-abbrev pub unmap : Flat → ℕ → ℕ → ℕ → Outcome
-unmap F p a len = or_refused F (λ _. done (unmapped F p (page a) (pages_in len))) (need (is_range a len) errno.Invalid)
+abbrev pub unmap : Flat → ℕ → ℕ → ℕ → Effect
+unmap F p a len = or_refused F (λ _. done (without_pages F p (page a) (pages_in len))) (check (is_range a len) errno.Invalid)
 
 -- Each page of the range has a cell.
 abbrev pub is_mapped : Space → ℕ → ℕ → Bool
 is_mapped space first n = all_pages (λ q. is_some (map.get space q)) first n
 
 -- The range may be spoken of: it is valid, and each page of it has a cell.
-unfoldable pub ranged : Flat → ℕ → ℕ → ℕ → Result (Unit {0}) Errno
-ranged F p a len = do
-  need (is_range a len) errno.Invalid
-  need (is_mapped (cells_of F p) (page a) (pages_in len)) errno.NotMapped
+unfoldable pub valid_range : Flat → ℕ → ℕ → ℕ → Result (Unit {0}) Errno
+valid_range F p a len = do
+  check (is_range a len) errno.Invalid
+  check (is_mapped (cells_of F p) (page a) (pages_in len)) errno.NotMapped
 
 -- Each cell of the range may have the protection.
 abbrev pub is_allowed : Space → ℕ → ℕ → Prot → Bool
 is_allowed space first n prot = all_pages (λ q. option_map_or (λ c. is_within prot c.max) (map.get space q) true) first n
 
 -- A Protect is refused where the range may not be spoken of, and Access where some cell may not have the protection. Else it changes the protections of the range.
-abbrev pub protect : Flat → ℕ → ℕ → ℕ → Prot → Outcome
+abbrev pub protect : Flat → ℕ → ℕ → ℕ → Prot → Effect
 protect F p a len prot = or_refused F (λ _. done (with_space F p (with_prots (cells_of F p) (page a) (pages_in len) prot)))
-    (ranged F p a len >> need (is_allowed (cells_of F p) (page a) (pages_in len) prot) errno.Access)
+    (valid_range F p a len >> check (is_allowed (cells_of F p) (page a) (pages_in len) prot) errno.Access)
 
 -- A Sync changes nothing. Its reply says where in the history it began, which flat memory doesn't know: here the number is 0.
-abbrev pub sync : Flat → ℕ → ℕ → ℕ → Outcome
-sync F p a len = or_refused F (λ _. record { reply = reply.Synced 0; after = F }) (ranged F p a len)
+abbrev pub sync : Flat → ℕ → ℕ → ℕ → Effect
+sync F p a len = or_refused F (λ _. record { reply = reply.Synced 0; after = F }) (valid_range F p a len)

@@ -1,4 +1,4 @@
--- Tests in their order, and what a call does: the reply that is due, and flat memory after it.
+-- Tests in their order, and what a call does: the reply that is due, and flat memory after it. Public clauses cite this.
 use Rattle.std.specs.Prelude.{Bool, Result, Ok, Err, if◌then◌else◌}
 use Rattle.vm_types.specs.declared.call.Signal.{Signal}
 use Rattle.vm_types.specs.declared.call.Errno.{Errno}
@@ -17,24 +17,24 @@ abbrev pub ◌>>◌ : {A B E : Type 0} → Result A E → Result B E → Result 
 r >> s = r >>= λ _. s
 
 -- A test that has to hold, and the refusal where it doesn't.
-abbrev pub need : {E : Type 0} → Bool → E → Result (Unit {0}) E
-need b e = if b then Ok tt else Err e
+abbrev pub check : {E : Type 0} → Bool → E → Result (Unit {0}) E
+check b e = if b then Ok tt else Err e
 
 -- What a call does.
-pub record Outcome : Type 0 where
+pub record Effect : Type 0 where
   pub reply : Reply
   pub after : Flat
 
 -- A signal is the reply and changes nothing.
-abbrev pub or_signal : {A : Type 0} → Flat → (A → Outcome) → Result A Signal → Outcome
+abbrev pub or_signal : {A : Type 0} → Flat → (A → Effect) → Result A Signal → Effect
 or_signal F acts (Ok x) = acts x
 or_signal F acts (Err s) = record { reply = reply.Signal s; after = F }
 
 -- A refusal is the reply and changes nothing.
-abbrev pub or_refused : {A : Type 0} → Flat → (A → Outcome) → Result A Errno → Outcome
+abbrev pub or_refused : {A : Type 0} → Flat → (A → Effect) → Result A Errno → Effect
 or_refused F acts (Ok x) = acts x
 or_refused F acts (Err e) = record { reply = reply.Refused e; after = F }
 
 -- The call is done, and this is flat memory then.
-abbrev pub done : Flat → Outcome
+abbrev pub done : Flat → Effect
 done G = record { reply = reply.Done; after = G }

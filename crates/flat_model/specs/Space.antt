@@ -1,12 +1,9 @@
--- Ranges of pages in a space, and the lowest gap.
+-- Ranges of pages in a space, and the lowest gap. Public clauses cite this.
 use Rattle.std.specs.Prelude.{ℕ, zero, suc, ◌+◌, Bool, true, not, ◌&&◌, List, [], ◌∷◌, map, Option, Some, None, nat_le, nat_lt, if◌then◌else◌}
 use Rattle.std.specs.FinMap as finite
+pub use Rattle.vm_types.specs.Pages.{end_page}
 use Rattle.vm_types.specs.declared.prot.Prot.{Prot}
 use Rattle.flat_model.specs.Flat.{Cell, Space}
-
--- User addresses end before this page, and they begin at page 1.
-abbrev pub end_page : ℕ
-end_page = 0x80000
 
 -- The page is one of the n pages from the first.
 abbrev pub in_range : ℕ → ℕ → ℕ → Bool
@@ -18,8 +15,8 @@ all_pages test first zero = true
 all_pages test first (suc n) = all_pages test first n && test (first + n)
 
 -- The space without the cells of n pages from the first.
-abbrev pub without : Space → ℕ → ℕ → Space
-without space first n = finite.retain_keys space (λ q. not (in_range first n q))
+abbrev pub without_range : Space → ℕ → ℕ → Space
+without_range space first n = finite.retain_keys space (λ q. not (in_range first n q))
 
 -- The space with n new cells from the first page on, the i-th being cell i.
 abbrev pub with_cells : Space → ℕ → ℕ → (ℕ → Cell) → Space
@@ -35,10 +32,10 @@ abbrev pub with_prots : Space → ℕ → ℕ → Prot → Space
 with_prots space first n prot = finite.from_entries (map (λ e. (e.0, with_prot first n prot e.0 e.1)) (finite.entries space))
 
 -- The lowest page from a on at which n pages are free before the end, over cells in the order of their pages.
-abbrev pub gap_from : ℕ → ℕ → List (ℕ × Cell) → Option ℕ
-gap_from a n [] = if nat_le (a + n) end_page then Some a else None
-gap_from a n (e ∷ es) = if nat_le (a + n) e.0 then Some a else gap_from (e.0 + 1) n es
+abbrev pub lowest_gap_from : ℕ → ℕ → List (ℕ × Cell) → Option ℕ
+lowest_gap_from a n [] = if nat_le (a + n) end_page then Some a else None
+lowest_gap_from a n (e ∷ es) = if nat_le (a + n) e.0 then Some a else lowest_gap_from (e.0 + 1) n es
 
 -- The lowest gap of a space that has room for n pages.
 abbrev pub lowest_gap : Space → ℕ → Option ℕ
-lowest_gap space n = gap_from 1 n (finite.entries space)
+lowest_gap space n = lowest_gap_from 1 n (finite.entries space)

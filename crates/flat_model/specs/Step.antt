@@ -1,8 +1,8 @@
--- What each call does, and which entries are steps of flat memory.
-use Rattle.std.specs.Prelude.{ℕ, ◌/◌, ◌%◌, ◌^◌, ◌<◌, ◌≡◌, ◌==◌, List, [], ◌∷◌, length, IsSome, IsOk, IsFalse, Result, Ok, Err, if◌then◌else◌}
+-- What each call does, and which entries are steps of flat memory. Public clauses cite this.
+use Rattle.std.specs.Prelude.{ℕ, zero, suc, ◌/◌, ◌%◌, ◌^◌, ◌<◌, ◌≡◌, ◌==◌, List, [], ◌∷◌, length, Bool, IsSome, IsOk, IsFalse, Result, Ok, Err, if◌then◌else◌}
 use Rattle.std.specs.FinSet as set
 use Rattle.vm_types.specs.declared.call.Call.{Call}
-use Rattle.vm_types.specs.declared.call.Call.TheVariants.{Load, Store, Map, Unmap, Protect, Sync, Read, Write, Fork, Exit}
+use Rattle.vm_types.specs.declared.call.Call.TheVariants.{Load, Store, Map, Unmap, Protect, Sync, Read, Write, Truncate, Fork, Exit}
 use Rattle.vm_types.specs.declared.call.Entry.{Entry}
 use Rattle.vm_types.specs.declared.call.Signal.{Signal}
 use Rattle.vm_types.specs.declared.call.Signal.TheVariants as signal
@@ -10,33 +10,39 @@ use Rattle.vm_types.specs.declared.call.Reply.{Reply}
 use Rattle.vm_types.specs.declared.call.Reply.TheVariants as reply
 use Rattle.vm_types.specs.Prot.{can_read, can_write}
 use Rattle.flat_model.specs.Flat.{File, Flat, space_of}
-use Rattle.flat_model.specs.Refusals.{Outcome}
-use Rattle.flat_model.specs.Access.{met, load, store}
-use Rattle.flat_model.specs.Mapping.{map_pages, unmap, ranged, protect, sync}
-use Rattle.flat_model.specs.Parts.{without_tail, file_at, read_part, writable_at, write_part}
+use Rattle.flat_model.specs.Refusals.{Effect}
+use Rattle.flat_model.specs.Access.{access_target, load, store}
+use Rattle.flat_model.specs.Mapping.{map_pages, unmap, valid_range, protect, sync}
+use Rattle.flat_model.specs.Parts.{without_tail, existing_file, read_part, writable_file, write_part, truncate}
 use Rattle.flat_model.specs.Processes.{fork, exit}
 
 -- What a call of a process does.
-abbrev pub outcome : Flat → ℕ → Call → Outcome
-outcome F p (Load a n) = load F p a n
-outcome F p (Store a n v) = store F p a n v
-outcome F p (Map place len prot kind object offset) = map_pages F p (record { place = place; len = len; prot = prot; kind = kind; object = object; offset = offset })
-outcome F p (Unmap a len) = unmap F p a len
-outcome F p (Protect a len prot) = protect F p a len prot
-outcome F p (Sync a len) = sync F p a len
-outcome F p (Read file offset len) = read_part F file offset len
-outcome F p (Write file offset line rest) = write_part F file offset line
-outcome F p (Fork child) = fork F p child
-outcome F p Exit = exit F p
+abbrev pub effect : Flat → ℕ → Call → Effect
+effect F p (Load a n) = load F p a n
+effect F p (Store a n v) = store F p a n v
+effect F p (Map place len prot kind object offset) = map_pages F p (record { place = place; len = len; prot = prot; kind = kind; object = object; offset = offset })
+effect F p (Unmap a len) = unmap F p a len
+effect F p (Protect a len prot) = protect F p a len prot
+effect F p (Sync a len) = sync F p a len
+effect F p (Read file offset len) = read_part F file offset len
+effect F p (Write file offset line rest) = write_part F file offset line
+effect F p (Truncate file len) = truncate F file len
+effect F p (Fork child) = fork F p child
+effect F p Exit = exit F p
 
--- The files, those whose bit of the mask is set with zeros in their tails. Bit 0 is the first file's.
-abbrev pub files_cleared : ℕ → List File → List File
-files_cleared mask [] = []
-files_cleared mask (file ∷ files) = (if mask % 2 == 1 then without_tail file else file) ∷ files_cleared (mask / 2) files
+-- Bit f of a mask. Bit 0 is set where the mask is odd.
+abbrev pub bit : ℕ → ℕ → Bool
+bit mask zero = mask % 2 == 1
+bit mask (suc f) = bit (mask / 2) f
 
--- Flat memory after the tails of these files became zeros.
-abbrev pub tails_cleared : Flat → ℕ → Flat
-tails_cleared F mask = record F { files = files_cleared mask F.files }
+-- The files, those whose number passes the test with zeros in their tails.
+abbrev pub files_cleared : (ℕ → Bool) → List File → List File
+files_cleared test [] = []
+files_cleared test (file ∷ files) = (if test 0 then without_tail file else file) ∷ files_cleared (λ f. test (suc f)) files
+
+-- Flat memory after the tails of the files whose number passes the test became zeros.
+abbrev pub tails_cleared : Flat → (ℕ → Bool) → Flat
+tails_cleared F test = record F { files = files_cleared test F.files }
 
 -- No signal but Past is due.
 abbrev pub IsPastAtMost : {A : Type 0} → Result A Signal → Type 0
@@ -44,14 +50,20 @@ IsPastAtMost (Ok x) = Unit {0}
 IsPastAtMost (Err signal.Past) = Unit {0}
 IsPastAtMost (Err s) = ⊥
 
--- A call may answer that a transfer failed: a load or a store to which neither Align, NoMap nor Prot is due, a Sync that isn't refused, and a part to which neither NoObject nor ReadOnly is due. No other call may.
+-- A call may answer that a transfer failed: a load or a store to which neither Align, NoMap nor Prot is due, a Sync that isn't refused, and a
+-- part or a Truncate to which neither NoObject nor ReadOnly is due. No other call may.
 abbrev pub MayFail : Flat → ℕ → Call → Type 0
-MayFail F p (Load a n) = IsPastAtMost (met F p can_read a n)
-MayFail F p (Store a n v) = IsPastAtMost (met F p can_write a n)
-MayFail F p (Sync a len) = IsOk (ranged F p a len)
-MayFail F p (Read file offset len) = IsOk (file_at F file)
-MayFail F p (Write file offset line rest) = IsOk (writable_at F file)
-MayFail F p call = ⊥
+MayFail F p (Load a n) = IsPastAtMost (access_target F p can_read a n)
+MayFail F p (Store a n v) = IsPastAtMost (access_target F p can_write a n)
+MayFail F p (Sync a len) = IsOk (valid_range F p a len)
+MayFail F p (Read file offset len) = IsOk (existing_file F file)
+MayFail F p (Write file offset line rest) = IsOk (writable_file F file)
+MayFail F p (Truncate file len) = IsOk (writable_file F file)
+MayFail F p (Map place len prot kind object offset) = ⊥
+MayFail F p (Unmap a len) = ⊥
+MayFail F p (Protect a len prot) = ⊥
+MayFail F p (Fork child) = ⊥
+MayFail F p Exit = ⊥
 
 -- The reply without the number that says where a Sync began.
 abbrev pub without_start : Reply → Reply
@@ -62,16 +74,16 @@ without_start r = r
 abbrev pub IsDue : Flat → Entry → Type 0
 IsDue F e = elim e.reply [
   | reply.Io disk before after ↦ MayFail F e.process e.call
-  | r ↦ (outcome F e.process e.call).reply ≡ without_start r
+  | r ↦ (effect F e.process e.call).reply ≡ without_start r
 ]
 
 -- What an entry's call does to flat memory: nothing where a transfer failed.
-abbrev pub acted : Flat → Entry → Flat
-acted F e = elim e.reply [ reply.Io disk before after ↦ F | r ↦ (outcome F e.process e.call).after ]
+abbrev pub after_act : Flat → Entry → Flat
+after_act F e = elim e.reply [ reply.Io disk before after ↦ F | r ↦ (effect F e.process e.call).after ]
 
 -- Flat memory after an entry: first tails become zeros, then the call acts.
 abbrev pub step : Flat → Entry → Flat
-step F e = acted (tails_cleared F e.cleared) e
+step F e = after_act (tails_cleared F (bit e.cleared)) e
 
 -- The child of a Fork was never alive before.
 abbrev pub IsUnborn : Flat → Call → Type 0
@@ -83,4 +95,4 @@ pub record IsStep (F : Flat) (e : Entry) : Type 0 where
   pub files : e.cleared < 2 ^ length F.files
   pub alive : IsSome (space_of F e.process)
   pub unborn : IsUnborn F e.call
-  pub due : IsDue (tails_cleared F e.cleared) e
+  pub due : IsDue (tails_cleared F (bit e.cleared)) e

@@ -1,4 +1,4 @@
--- Laws of loads, stores and forks.
+-- Laws of loads, stores and forks. Public clauses cite this.
 use Rattle.std.specs.Prelude.{ℕ, ◌≡◌, ◌%◌, Some, None, IsSome, IsTrue, IsFalse}
 use Rattle.std.specs.FinSet as set
 use Rattle.vm_types.specs.declared.call.Kind.TheVariants.{Shared, Private}

@@ -7,18 +7,18 @@ ghost use Rattle.std.specs.Ordering.{nat_cmp};
 ghost use Rattle.flat_model.specs.Flat.{slots_for, private_cells};
 ghost use Rattle.std.specs.Option.{option_map_or};
 ghost use Rattle.vm_types.specs.Prot.{is_within};
-ghost use Rattle.flat_model.specs.Space.{in_range, without, with_cells, with_prots, gap_from, lowest_gap};
+ghost use Rattle.flat_model.specs.Space.{in_range, without_range, with_cells, with_prots, lowest_gap_from, lowest_gap};
 ghost use Rattle.flat_model.specs.Mapping.{is_mapped, is_allowed};
-ghost use Rattle.flat_model.specs.Cells.{cell_of, names, is_zero, without_own, with_index, given};
+ghost use Rattle.flat_model.specs.Cells.{flat_cell, names, is_zero, without_own, with_index, cell_with_prot};
 
 use std::alloc::{AllocError, Global};
 use std::collections::BTreeMap;
 use std::marker::Model;
-use vm_types::{Kind, Object, Prot};
+use vm_types::{END_PAGE, Kind, Object, Prot};
 
 /// A cell: one page of a mapping.
 #[derive(Clone, Drop)]
-pub struct CellState {
+pub(crate) struct CellState {
     pub prot: Prot,
     /// At most what `Protect` may allow.
     pub max: Prot,
@@ -32,7 +32,7 @@ pub struct CellState {
 
 /// The cells of a process by page number.
 #[derive(Drop)]
-pub struct Cells {
+pub(crate) struct Cells {
     cells: BTreeMap<u32, CellState>,
 }
 
@@ -71,14 +71,14 @@ impl Cells {
 
     /// The cell at a page. Logarithmic in the number of cells.
     pub fn get(&self, page: u32) -> Option<&CellState>
-        ensures { option_map (λ c. cell_of c.now) result ≡ map.get self.now page }
+        ensures { option_map (λ c. flat_cell c.now) result ≡ map.get self.now page }
     {
         self.cells.get(&page)
     }
 
     /// Puts a cell at a page, over one that was there.
     pub fn insert(&mut self, page: u32, cell: CellState) -> Result<(), AllocError>
-        ensures ok { OnOk result (self.new ≡ map.insert self.old page (cell_of cell)) }
+        ensures ok { OnOk result (self.new ≡ map.insert self.old page (flat_cell cell)) }
         ensures err { OnErr result (self.new ≡ self.old) }
     {
         self.cells.insert(page, cell)?;
@@ -117,7 +117,7 @@ impl Cells {
 
     /// Takes the cells of so many pages from the first away. Looks at each cell.
     pub fn take_out(&mut self, first: u32, count: u32)
-        ensures { self.new ≡ without self.old first count }
+        ensures { self.new ≡ without_range self.old first count }
     {
         self.cells
             .retain(|page, _| !is_in_range(first, count, *page));
@@ -127,7 +127,9 @@ impl Cells {
     pub fn put_in(&mut self, first: u32, count: u32, cell: &CellState) -> Result<(), AllocError>
         requires pages { first + count < 2 ^ 32 }
         requires indexes { cell.now.index + count < 2 ^ 32 }
-        ensures { OnOk result (self.new ≡ with_cells self.old first count (λ i. with_index (cell_of cell.now) i)) }
+        ensures { let shown = flat_cell cell.now in
+            let new = with_cells self.old first count (λ i. with_index shown i) in
+            OnOk result (self.new ≡ new) }
     {
         for i in 0..count {
             self.insert(first + i, moved(cell, i)?)?;
@@ -219,7 +221,7 @@ impl Cells {
 
 // Gives the cell this protection.
 fn give(cell: &mut CellState, prot: Prot)
-    ensures { cell_of cell.new ≡ given (cell_of cell.old) prot }
+    ensures { flat_cell cell.new ≡ cell_with_prot (flat_cell cell.old) prot }
 {
     cell.prot = prot;
 }
@@ -234,7 +236,7 @@ fn is_in_range(first: u32, count: u32, page: u32) -> bool
 // The cell that shows a page so far behind the cell's.
 fn moved(cell: &CellState, by: u32) -> Result<CellState, AllocError>
     requires { cell.now.index + by < 2 ^ 32 }
-    ensures { IfOk result (λ new. cell_of new ≡ with_index (cell_of cell.now) by) }
+    ensures { IfOk result (λ new. flat_cell new ≡ with_index (flat_cell cell.now) by) }
 {
     let mut new = cell.clone()?;
     new.index = cell.index + by;
@@ -243,7 +245,8 @@ fn moved(cell: &CellState, by: u32) -> Result<CellState, AllocError>
 
 // The lowest gap between the keys of the tree.
 fn gap(cells: &BTreeMap<u32, CellState>, count: u32) -> Option<u32>
-    ensures gap { result ≡ gap_from 1 count (list_map (λ e. (e.0, cell_of e.1)) cells.now.entries) }
+    ensures gap { let entries = list_map (λ e. (e.0, flat_cell e.1)) cells.now.entries in
+        result ≡ lowest_gap_from 1 count entries }
     ensures ends { IfSome result (λ first. first + count < 2 ^ 32) }
     ensures ordered { IsOrdered nat_cmp cells.now }
 {
@@ -254,7 +257,7 @@ fn gap(cells: &BTreeMap<u32, CellState>, count: u32) -> Option<u32>
         }
         low = *page as u64 + 1;
     }
-    if low + count as u64 <= 0x80000 {
+    if low + count as u64 <= END_PAGE as u64 {
         Some(low as u32)
     } else {
         None
@@ -263,7 +266,7 @@ fn gap(cells: &BTreeMap<u32, CellState>, count: u32) -> Option<u32>
 
 // How many values of the tree are private.
 fn count_private(cells: &BTreeMap<u32, CellState>) -> usize
-    ensures count { result ≡ sum_by (λ c. slots_for (cell_of c)) (values cells.now) }
+    ensures count { result ≡ sum_by (λ c. slots_for (flat_cell c)) (values cells.now) }
     ensures ordered { IsOrdered nat_cmp cells.now }
 {
     let mut count = 0;
@@ -275,7 +278,7 @@ fn count_private(cells: &BTreeMap<u32, CellState>) -> usize
 
 // How many slots a cell reserves.
 fn slots_for(cell: &CellState) -> usize
-    ensures slots { result ≡ slots_for (cell_of cell.now) }
+    ensures slots { result ≡ slots_for (flat_cell cell.now) }
     ensures few { result ≤ 1 }
 {
     match cell.kind {
@@ -304,7 +307,7 @@ fn any_names(cells: &BTreeMap<u32, CellState>, zero: u32) -> bool
 
 /// The cell with no page of its own.
 pub(crate) fn without_own(cell: &CellState) -> CellState
-    ensures { cell_of result ≡ without_own (cell_of cell.now) }
+    ensures { flat_cell result ≡ without_own (flat_cell cell.now) }
 {
     CellState {
         prot: cell.prot,

@@ -1,251 +1,178 @@
-//! A file of flat memory.
-ghost use Rattle.std.specs.Prelude.{◌≡◌, ◌<◌, ◌≤◌, ◌^◌, ◌+◌, ◌*◌, ◌-◌, ◌++◌, IfOk, ◌%◌, ◌==◌, if◌then◌else◌, min, slice_set, length, map, take, drop, replicate};
+//! A file of flat memory, changed in place.
+ghost use Rattle.std.specs.Prelude.{◌≡◌, ◌≤◌, IfOk, OnOk, OnErr, All, length, map};
 ghost use Rattle.vm_types.specs.Pages.{line_rest};
-ghost use Rattle.flat_model.specs.Words.{pages_in, zero_page};
-ghost use Rattle.std.specs.List.{concat};
-ghost use Rattle.flat_model.specs.Parts.{cut, placed, without_tail, with_part, bytes_in};
-ghost use Rattle.flat_model.specs.Step.{files_cleared};
-ghost use Rattle.flat_model.specs.Cells.{file_of, opened};
+ghost use Rattle.flat_model.specs.Flat.{IsFile};
+ghost use Rattle.flat_model.specs.Access.{changed_at, file_with_page};
+ghost use Rattle.flat_model.specs.Cells.{flat_file, extents_of, with_last_page};
+ghost use Rattle.flat_model.specs.Parts.{file_at_opening, file_of_length, read_line, with_extents_of, with_part, without_tail};
 
-use crate::pages::with_bytes;
-use crate::zeros::zero_pages;
+use crate::file_pages::{clear_tail, last_page, lengthen, line_at, pages_from, put, resize};
+use crate::pages::set_page;
 use std::alloc::{AllocError, Global};
-use vm_types::{Line, line_rest};
+use vm_types::Line;
+use vnode_files::Extent;
 
-/// A file: its length in bytes, its limit in pages, whether it may be written, and its pages.
+/// A file: its length in bytes, its disk, the extents that it keeps there, whether it may be
+/// written, and its pages.
 #[derive(Drop)]
-pub struct FileState {
-    pub len: u32,
-    pub limit: u32,
+pub(crate) struct FileState {
+    pub len: u64,
+    pub disk: u32,
+    pub extents: Vec<Extent>,
     pub writable: bool,
     pub pages: Vec<Vec<u8>>,
 }
 
-/// How many pages a length takes.
-pub(crate) fn pages_in(len: u32) -> u32
-    ensures count { result ≡ pages_in len }
-    ensures few { result ≤ 2 ^ 20 }
+// Extents of these starts and pages.
+fn extents_from(alloc: Global, pairs: &[(u32, u32)]) -> Result<Vec<Extent>, AllocError>
+    ensures { IfOk result (λ extents. extents.items ≡ extents_of pairs.now) }
 {
-    ((len as u64 + 4095) / 4096) as u32
+    pairs
+        .iter()
+        .map(|pair| Extent {
+            start: pair.0,
+            pages: pair.1,
+        })
+        .collect(alloc)
 }
 
-// So many bytes from a place on, or as many as there are.
-fn part(alloc: Global, bytes: &[u8], at: usize, count: usize) -> Result<Vec<u8>, AllocError>
-    ensures { IfOk result (λ part. part.items ≡ take count (drop at bytes.now)) }
-{
-    let rest = &bytes[at.min(bytes.len())..];
-    let mut part = Vec::new(alloc);
-    part.extend_from_slice(&rest[..count.min(rest.len())])?;
-    Ok(part)
-}
-
-// Page i of some bytes, as much of it as there is.
-fn page_at(alloc: Global, bytes: &[u8], i: u32) -> Result<Vec<u8>, AllocError>
-    ensures { IfOk result (λ page. page.items ≡ take 4096 (drop (4096 * i) bytes.now)) }
-{
-    part(alloc, bytes, 4096 * i as usize, 4096)
-}
-
-// The first pages that bytes fill.
-fn cut(alloc: Global, bytes: &[u8], count: u32) -> Result<Vec<Vec<u8>>, AllocError>
-    ensures { IfOk result (λ pages. map (λ p. p.items) pages.items ≡ cut count bytes.now) }
-{
-    let mut pages = Vec::new(alloc);
-    for i in 0..count {
-        pages.push(page_at(alloc, bytes, i)?)?;
+impl FileState {
+    /// A file with these bytes, and zeros from there to the end of its last page.
+    pub(crate) fn new(
+        alloc: Global,
+        len: u32,
+        disk: u32,
+        extents: &[(u32, u32)],
+        writable: bool,
+        bytes: &[u8],
+    ) -> Result<FileState, AllocError>
+        requires { length bytes.now ≡ len }
+        ensures { let extents = extents_of extents.now in
+            let file = file_at_opening len disk extents writable bytes.now in
+            IfOk result (λ new. flat_file new ≡ file) }
+    {
+        Ok(FileState {
+            len: len as u64,
+            disk,
+            extents: extents_from(alloc, extents)?,
+            writable,
+            pages: pages_from(alloc, bytes)?,
+        })
     }
-    Ok(pages)
-}
 
-// The bytes with zeros up to the end of their last page.
-fn with_tail(alloc: Global, bytes: &[u8], len: u32) -> Result<Vec<u8>, AllocError>
-    requires { length bytes.now ≡ len }
-    ensures { IfOk result (λ whole. whole.items ≡ bytes.now ++ replicate (4096 * pages_in len - len) 0) }
-{
-    let mut whole = Vec::new(alloc);
-    whole.extend_from_slice(bytes)?;
-    whole.resize(pages_in(len) as usize * 4096, 0)?;
-    Ok(whole)
-}
-
-/// A file with these bytes, and zeros from there to the end of its last page.
-pub(crate) fn opened(
-    alloc: Global,
-    len: u32,
-    limit: u32,
-    writable: bool,
-    bytes: &[u8],
-) -> Result<FileState, AllocError>
-    requires { length bytes.now ≡ len }
-    ensures { IfOk result (λ file. file_of file ≡ opened len limit writable bytes.now) }
-{
-    let whole = with_tail(alloc, bytes, len)?;
-    Ok(FileState {
-        len,
-        limit,
-        writable,
-        pages: cut(alloc, &whole, pages_in(len))?,
-    })
-}
-
-// The bytes of pages, one page after another.
-fn joined(alloc: Global, pages: &[Vec<u8>]) -> Result<Vec<u8>, AllocError>
-    ensures { IfOk result (λ all. all.items ≡ concat (map (λ p. p.items) pages.now)) }
-{
-    let mut all = Vec::new(alloc);
-    for page in pages {
-        all.extend_from_slice(page)?;
+    /// The bytes of a part of a read: none past the line's end or the file's.
+    pub(crate) fn read_line(&self, offset: u32, length: u32) -> Line
+        requires { IsFile (flat_file self.now) }
+        ensures { result ≡ read_line (flat_file self.now) offset length }
+    {
+        line_at(&self.pages, self.len, offset, length)
     }
-    Ok(all)
-}
 
-// How many pages a file has. Err where there are 2^32 or more.
-fn page_count(pages: &[Vec<u8>]) -> Result<u32, AllocError>
-    ensures { IfOk result (λ count. count ≡ length pages.now) }
-{
-    if pages.len() > u32::MAX as usize {
-        return Err(AllocError);
+    /// Writes a part, after which the file keeps these extents.
+    #[tactic(auto, unfolding(crate::specs::Parts::with_part))]
+    pub(crate) fn write(
+        &mut self,
+        alloc: Global,
+        extents: Vec<Extent>,
+        offset: u32,
+        line: &Line,
+    ) -> Result<(), AllocError>
+        requires whole { IsFile (flat_file self.old) }
+        requires one_line { length line.now ≤ line_rest offset }
+        ensures ok { let file = with_extents_of extents.items (flat_file self.old) in
+            OnOk result (flat_file self.new ≡ with_part offset line.now file) }
+        ensures err { OnErr result (flat_file self.new ≡ flat_file self.old) }
+    {
+        let end = offset as u64 + line.len() as u64;
+        lengthen(&mut self.pages, alloc, self.len, end)?;
+        put(&mut self.pages, offset as u64, line.bytes());
+        self.len = self.len.max(end);
+        self.extents = extents;
+        Ok(())
     }
-    Ok(pages.len() as u32)
+
+    /// Gives the file this length, after which it keeps these extents.
+    pub(crate) fn set_length(
+        &mut self,
+        alloc: Global,
+        extents: Vec<Extent>,
+        length: u32,
+    ) -> Result<(), AllocError>
+        requires whole { IsFile (flat_file self.old) }
+        ensures ok { let file = with_extents_of extents.items (flat_file self.old) in
+            OnOk result (flat_file self.new ≡ file_of_length length file) }
+        ensures err { OnErr result (flat_file self.new ≡ flat_file self.old) }
+    {
+        let length = length as u64;
+        resize(&mut self.pages, alloc, self.len, length)?;
+        self.len = length;
+        self.extents = extents;
+        Ok(())
+    }
+
+    // The file's tail becomes zeros. Hands out a copy of the last page as it was.
+    fn clear_tail(&mut self, alloc: Global) -> Result<Vec<u8>, AllocError>
+        requires { IsFile (flat_file self.old) }
+        ensures ok { OnOk result (flat_file self.new ≡ without_tail (flat_file self.old)) }
+        ensures page { let new = flat_file self.new in
+            let old = flat_file self.old in
+            IfOk result (λ page. with_last_page page.items new ≡ old) }
+        ensures err { OnErr result (flat_file self.new ≡ flat_file self.old) }
+    {
+        let page = last_page(alloc, &self.pages)?;
+        clear_tail(&mut self.pages, self.len);
+        Ok(page)
+    }
+
+    // Puts a page in the place of the last one, if there is one.
+    fn set_last_page(&mut self, page: Vec<u8>)
+        ensures { flat_file self.new ≡ with_last_page page.items (flat_file self.old) }
+    {
+        let count = self.pages.len();
+        if count != 0 {
+            self.pages[count - 1] = page;
+        }
+    }
 }
 
-// The pages with these bytes from a place on.
-#[tactic(auto, unfolding(crate::specs::Parts::placed))]
-fn placed(
+/// The tail of a file of this number becomes zeros, if there is such a file. Hands out a copy of its
+/// last page as it was.
+pub(crate) fn clear_tail_of(
+    files: &mut Vec<FileState>,
     alloc: Global,
-    pages: &[Vec<u8>],
-    at: u32,
-    bytes: &[u8],
-) -> Result<Vec<Vec<u8>>, AllocError>
-    ensures { IfOk result (λ new. map (λ p. p.items) new.items ≡ placed (map (λ p. p.items) pages.now) at bytes.now) }
+    number: usize,
+) -> Result<Vec<u8>, AllocError>
+    requires { All IsFile (map flat_file files.old.items) }
+    ensures ok { let cleared = changed_at without_tail (map flat_file files.old.items) number in
+        OnOk result (map flat_file files.new.items ≡ cleared) }
+    ensures page { let new = map flat_file files.new.items in
+        let old = map flat_file files.old.items in
+        IfOk result (λ page. changed_at (with_last_page page.items) new number ≡ old) }
+    ensures err { OnErr result (map flat_file files.new.items ≡ map flat_file files.old.items) }
 {
-    let old = joined(alloc, pages)?;
-    let new = with_bytes(alloc, &old, at as usize, bytes)?;
-    cut(alloc, &new, page_count(pages)?)
-}
-
-// So many zeros.
-fn zeros(alloc: Global, count: usize) -> Result<Vec<u8>, AllocError>
-    ensures { IfOk result (λ zeros. zeros.items ≡ replicate count 0) }
-{
-    let mut zeros = Vec::new(alloc);
-    zeros.resize(count, 0)?;
-    Ok(zeros)
-}
-
-// The pages of a file of so many bytes, whose tail is zeros.
-fn pages_without_tail(
-    alloc: Global,
-    pages: &[Vec<u8>],
-    len: u32,
-) -> Result<Vec<Vec<u8>>, AllocError>
-    ensures { IfOk result (λ new. map (λ p. p.items) new.items ≡ placed (map (λ p. p.items) pages.now) len (replicate (4096 * length pages.now - len) 0)) }
-{
-    let whole = 4096 * page_count(pages)? as usize;
-    let tail = zeros(alloc, whole.saturating_sub(len as usize))?;
-    placed(alloc, pages, len, &tail)
-}
-
-// The same pages once more.
-fn copied(pages: &Vec<Vec<u8>>) -> Result<Vec<Vec<u8>>, AllocError>
-    ensures { IfOk result (λ new. map (λ p. p.items) new.items ≡ map (λ p. p.items) pages.now.items) }
-{
-    let new = pages.clone()?;
-    Ok(new)
-}
-
-// A copy of a file, with zeros in its tail if that is asked for.
-fn cleared(alloc: Global, clears: bool, file: &FileState) -> Result<FileState, AllocError>
-    ensures { IfOk result (λ new. file_of new ≡ (if clears then without_tail (file_of file.now) else file_of file.now)) }
-{
-    let pages = if clears {
-        pages_without_tail(alloc, &file.pages, file.len)?
-    } else {
-        copied(&file.pages)?
+    let Some(file) = files.get_mut(number) else {
+        return Ok(Vec::new(alloc));
     };
-    Ok(FileState {
-        len: file.len,
-        limit: file.limit,
-        writable: file.writable,
-        pages,
-    })
+    let page = file.clear_tail(alloc)?;
+    Ok(page)
 }
 
-// Pages and as many pages of zeros behind them as make so many, if there are fewer.
-fn grown(alloc: Global, pages: &Vec<Vec<u8>>, count: u32) -> Result<Vec<Vec<u8>>, AllocError>
-    ensures { IfOk result (λ new. map (λ p. p.items) new.items ≡ map (λ p. p.items) pages.now.items ++ replicate (count - length pages.now.items) zero_page) }
+/// Puts a page in the place of the last one of a file of this number, if there are such.
+pub(crate) fn put_last_page(files: &mut Vec<FileState>, number: usize, page: Vec<u8>)
+    ensures { let put = with_last_page page.items in
+        map flat_file files.new.items ≡ changed_at put (map flat_file files.old.items) number }
 {
-    let mut new = copied(pages)?;
-    let missing = (count as usize).saturating_sub(pages.len());
-    let mut more = zero_pages(alloc, missing as u32)?;
-    new.append(&mut more)?;
-    Ok(new)
-}
-
-/// A file with a written part. Copies the file. Err too where it would pass 2^32 - 1 bytes.
-#[tactic(auto, unfolding(crate::specs::Parts::with_part))]
-pub(crate) fn with_part(
-    alloc: Global,
-    file: &FileState,
-    offset: u32,
-    line: &[u8],
-) -> Result<FileState, AllocError>
-    requires { length line.now ≤ 64 }
-    ensures { IfOk result (λ new. file_of new ≡ with_part offset line.now (file_of file.now)) }
-{
-    let end = offset as u64 + line.len() as u64;
-    if end > u32::MAX as u64 {
-        return Err(AllocError);
-    }
-    let grown = grown(alloc, &file.pages, pages_in(end as u32))?;
-    let gap = zeros(alloc, offset.saturating_sub(file.len) as usize)?;
-    let zeroed = placed(alloc, &grown, file.len, &gap)?;
-    Ok(FileState {
-        len: file.len.max(end as u32),
-        limit: file.limit,
-        writable: file.writable,
-        pages: placed(alloc, &zeroed, offset, line)?,
-    })
-}
-
-/// The bytes of a part of a read: none past the line's end or the file's. Copies the file.
-pub(crate) fn read_part(
-    alloc: Global,
-    file: &FileState,
-    offset: u32,
-    length: u32,
-) -> Result<Line, AllocError>
-    ensures { IfOk result (λ line. line ≡ take (min length (line_rest offset)) (drop offset (bytes_in (file_of file.now)))) }
-{
-    let all = joined(alloc, &file.pages)?;
-    let bytes = &all[..(file.len as usize).min(all.len())];
-    let count = length.min(line_rest(offset));
-    let bytes = part(alloc, bytes, offset as usize, count as usize)?;
-    Ok(Line::new(&bytes))
-}
-
-/// Puts a file in the place of one of this number, if there is one.
-pub(crate) fn set_file(files: &mut Vec<FileState>, number: u32, file: FileState)
-    ensures { map file_of files.new.items ≡ slice_set (map file_of files.old.items) number (file_of file) }
-{
-    if (number as usize) < files.len() {
-        files[number as usize] = file;
+    if let Some(file) = files.get_mut(number) {
+        file.set_last_page(page);
     }
 }
 
-/// The files, those whose bit of the mask is set with zeros in their tails. Copies all files.
-pub(crate) fn files_cleared(
-    alloc: Global,
-    mask: u64,
-    files: &[FileState],
-) -> Result<Vec<FileState>, AllocError>
-    ensures { IfOk result (λ new. map file_of new.items ≡ files_cleared mask (map file_of files.now)) }
+/// Puts a page at an index of a file, where there are such a file and such an index.
+pub(crate) fn set_file_page(files: &mut Vec<FileState>, file: u32, index: u32, page: Vec<u8>)
+    ensures { let with_page = file_with_page index page.items in
+        map flat_file files.new.items ≡ changed_at with_page (map flat_file files.old.items) file }
 {
-    let mut new = Vec::new(alloc);
-    let mut left = mask;
-    for file in files {
-        new.push(cleared(alloc, left % 2 == 1, file)?)?;
-        left /= 2;
+    if let Some(file) = files.get_mut(file as usize) {
+        set_page(&mut file.pages, index, page);
     }
-    Ok(new)
 }

@@ -1,5 +1,6 @@
 //! The laws of the definitions. Each function does nothing: its contract is the law.
-ghost use Rattle.flat_model.specs.MapLaws.{MapThenUnmap, Reservation};
+ghost use Rattle.flat_model.specs.MapLaws.{MapThenUnmap};
+ghost use Rattle.flat_model.specs.ReserveLaws.{Reservation};
 ghost use Rattle.flat_model.specs.NamedLaws.{ZeroObjects};
 ghost use Rattle.flat_model.specs.PartLaws.{FileBytes};
 ghost use Rattle.flat_model.specs.SpaceLaws.{LowestGap, RangesOfCells};
@@ -61,8 +62,8 @@ pub fn zero_objects_law()
     ensures { ZeroObjects }
 {}
 
-/// What is reserved after a Map, an Unmap and a Fork.
-#[tactic(auto, using(crate::proofs::Reserve::reservation_law))]
+/// What is reserved after each call.
+#[tactic(auto, using(crate::proofs::ReserveKept::reservation_law))]
 pub fn reservation_law()
     ensures { Reservation }
 {}

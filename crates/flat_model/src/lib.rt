@@ -2,9 +2,15 @@
 #![tactic(auto)]
 
 mod cells;
+mod file_pages;
 mod files;
+mod flat_state;
+mod growth;
+mod history_laws;
 mod laws;
 mod map_call;
+mod mapping_laws;
+mod page_laws;
 mod pages;
 mod replies;
 mod spaces;
@@ -17,17 +23,21 @@ mod state_ranges;
 mod state_step;
 #[cfg(test)]
 mod state_tests;
+mod step_laws;
 #[cfg(test)]
 mod tests;
 mod words;
 mod zeros;
 
-pub use cells::{CellState, Cells};
-pub use files::FileState;
+pub use flat_state::FlatState;
+pub use history_laws::{
+    counted_histories_law, joined_histories_law, open_calls_law, spellings_law, sync_starts_law,
+};
 pub use laws::{
     file_bytes_law, fork_law, lowest_gap_law, map_then_unmap_law, one_more_law, private_store_law,
     quiet_law, ranges_law, reservation_law, stays_flat_law, store_then_load_law, zero_objects_law,
 };
-pub use spaces::Spaces;
-pub use state::{Access, FlatState};
+pub use mapping_laws::{cleared_tails_law, protects_law, stays_reached_law};
+pub use page_laws::{grown_pages_law, lines_in_pages_law, one_cache_law, shared_store_law};
+pub use step_laws::{births_law, steps_keep_law};
 pub use words::{put_word, word_in};

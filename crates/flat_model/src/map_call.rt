@@ -1,10 +1,9 @@
-//! What a Map asks for, and which ranges of addresses are valid.
+//! What a Map asks for.
 ghost use Rattle.std.specs.Prelude.{◌≡◌};
-ghost use Rattle.flat_model.specs.Mapping.{is_range, is_place, is_valid, is_new_zero};
+ghost use Rattle.flat_model.specs.Mapping.{is_place, is_valid, is_new_zero};
 ghost use Rattle.flat_model.specs.Mapped.{request_of};
 
-use crate::files::pages_in;
-use vm_types::{Kind, Object, Place, Prot};
+use vm_types::{Kind, Object, PAGE_SIZE, Place, Prot, is_range};
 
 /// What a Map asks for: lengths and offsets in bytes.
 #[derive(Clone, Copy)]
@@ -15,13 +14,6 @@ pub(crate) struct MapCall {
     pub kind: Kind,
     pub object: Object,
     pub offset: u32,
-}
-
-/// Whether a range begins a page, has a page, and ends within the user addresses.
-pub(crate) fn is_range(addr: u32, length: u32) -> bool
-    ensures { result ≡ is_range addr length }
-{
-    addr % 4096 == 0 && length != 0 && 1 <= addr / 4096 && addr / 4096 + pages_in(length) <= 0x80000
 }
 
 // Whether so many bytes can be mapped there.
@@ -50,7 +42,7 @@ impl MapCall {
         ensures { result ≡ is_valid (request_of self.now) }
     {
         is_place(self.place, self.length)
-            && self.offset % 4096 == 0
+            && self.offset % PAGE_SIZE == 0
             && (!is_new_zero(self.object) || self.offset == 0)
     }
 }

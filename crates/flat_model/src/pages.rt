@@ -1,12 +1,10 @@
 //! Pages of files and zero objects that are put in the place of old ones.
-ghost use Rattle.std.specs.Prelude.{◌≡◌, ℕ, [], OnOk, OnErr, IfOk, map, slice_set, unwrap_or};
+ghost use Rattle.std.specs.Prelude.{◌≡◌, ℕ, [], OnOk, OnErr, IfOk, slice_set, unwrap_or};
 ghost use Rattle.std.specs.FinMap as finite;
-ghost use Rattle.vm_types.specs.Words.{IsWordSize, FitsWord, bytes_of};
+ghost use Rattle.vm_types.specs.Words.{IsWordSize, FitsWord, word_bytes};
 ghost use Rattle.flat_model.specs.Words.{word_put, with_bytes};
-ghost use Rattle.flat_model.specs.Access.{changed_at, file_with_page};
-ghost use Rattle.flat_model.specs.Cells.{file_of, pages_in_vec, zeros_in};
+ghost use Rattle.flat_model.specs.Cells.{pages_in_vec, zeros_in};
 
-use crate::files::FileState;
 use std::alloc::{AllocError, Global};
 use std::collections::BTreeMap;
 use vm_types::word_bytes;
@@ -20,15 +18,6 @@ pub(crate) fn set_page(pages: &mut Vec<Vec<u8>>, index: u32, page: Vec<u8>)
     }
 }
 
-/// Puts a page at an index of a file, where there are such a file and such an index.
-pub(crate) fn set_file_page(files: &mut Vec<FileState>, file: u32, index: u32, page: Vec<u8>)
-    ensures { map file_of files.new.items ≡ changed_at (file_with_page index page.items) (map file_of files.old.items) file }
-{
-    if let Some(file) = files.get_mut(file as usize) {
-        set_page(&mut file.pages, index, page);
-    }
-}
-
 /// Puts a page at an index of a zero object, where it has such an index. One that isn't there becomes one with no pages.
 pub(crate) fn set_zero_page(
     zeros: &mut BTreeMap<u32, Vec<Vec<u8>>>,
@@ -37,7 +26,9 @@ pub(crate) fn set_zero_page(
     index: u32,
     page: Vec<u8>,
 ) -> Result<(), AllocError>
-    ensures ok { OnOk result (zeros_in zeros.new ≡ finite.insert (zeros_in zeros.old) zero (slice_set (unwrap_or (finite.get (zeros_in zeros.old) zero) []) index page.items)) }
+    ensures ok { let old = unwrap_or (finite.get (zeros_in zeros.old) zero) [] in
+        let new = slice_set old index page.items in
+        OnOk result (zeros_in zeros.new ≡ finite.insert (zeros_in zeros.old) zero new) }
     ensures err { OnErr result (zeros_in zeros.new ≡ zeros_in zeros.old) }
 {
     if !zeros.contains_key(&zero) {

@@ -1,16 +1,16 @@
 //! Which reply is due.
 ghost use Rattle.std.specs.Prelude.{◌≡◌, ◌≤◌, ◌*◌, ◌↔◌, IsTrue, length};
 ghost use Rattle.vm_types.specs.declared.call.Reply.TheVariants as answer;
-ghost use Rattle.vm_types.specs.Words.{IsWordSize, number_of};
+ghost use Rattle.vm_types.specs.Words.{IsWordSize, word_value};
 ghost use Rattle.flat_model.specs.Words.{word_at};
-ghost use Rattle.flat_model.specs.FlatState.{IsDueReply, is_io};
+ghost use Rattle.flat_model.specs.FlatState.{IsDueReply};
 
 use vm_types::{Errno, Line, Reply, Signal};
 
 // The value of at most 4 bytes, the highest first.
 fn value_of(bytes: &[u8]) -> u32
     requires { length bytes.now ≤ 4 }
-    ensures { result ≡ number_of bytes.now }
+    ensures { result ≡ word_value bytes.now }
 {
     match *bytes {
         [] => 0,
@@ -167,21 +167,5 @@ pub(crate) fn is_due_mapping(reply: &Reply, first: u32) -> bool
         | Reply::Signal(_)
         | Reply::Refused(_)
         | Reply::Io { .. } => false,
-    }
-}
-
-/// Whether a reply says that a transfer failed.
-pub(crate) fn is_io(reply: &Reply) -> bool
-    ensures { result ≡ is_io reply.now }
-{
-    match *reply {
-        Reply::Io { .. } => true,
-        Reply::Done
-        | Reply::Word(_)
-        | Reply::Mapped(_)
-        | Reply::Bytes(_)
-        | Reply::Synced(_)
-        | Reply::Signal(_)
-        | Reply::Refused(_) => false,
     }
 }

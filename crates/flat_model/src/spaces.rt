@@ -5,10 +5,10 @@ ghost use Rattle.std.specs.BTreeMap.{values, IsOrdered};
 ghost use Rattle.std.specs.Ordering.{nat_cmp};
 ghost use Rattle.std.specs.FinMap as map;
 ghost use Rattle.flat_model.specs.Flat.{private_cells};
-ghost use Rattle.flat_model.specs.Cells.{cell_of, names, with_index};
-ghost use Rattle.flat_model.specs.Space.{without, with_cells, with_prots};
+ghost use Rattle.flat_model.specs.Cells.{flat_cell, names, with_index};
+ghost use Rattle.flat_model.specs.Space.{without_range, with_cells, with_prots};
 ghost use Rattle.flat_model.specs.Spaces.{cell_in, with_cell_in, is_named_in};
-ghost use Rattle.flat_model.specs.Mapped.{new_number_in, left_of};
+ghost use Rattle.flat_model.specs.Mapped.{new_number_in, slots_left};
 
 use crate::cells::{CellState, Cells};
 use crate::zeros::less;
@@ -19,7 +19,7 @@ use vm_types::Prot;
 
 /// The spaces of the processes that are alive.
 #[derive(Drop)]
-pub struct Spaces {
+pub(crate) struct Spaces {
     spaces: BTreeMap<u32, Cells>,
 }
 
@@ -49,7 +49,7 @@ impl Spaces {
 
     /// The cell of a process at a page.
     pub fn cell(&self, process: u32, page: u32) -> Option<&CellState>
-        ensures { option_map (λ c. cell_of c.now) result ≡ cell_in self.now process page }
+        ensures { option_map (λ c. flat_cell c.now) result ≡ cell_in self.now process page }
     {
         match self.spaces.get(&process) {
             Some(space) => space.get(page),
@@ -60,7 +60,7 @@ impl Spaces {
     /// Puts a cell at a page of a process that is alive.
     pub fn set_cell(&mut self, process: u32, page: u32, cell: CellState) -> Result<(), AllocError>
         requires { IsSome (map.get self.old process) }
-        ensures ok { OnOk result (self.new ≡ with_cell_in self.old process page (cell_of cell)) }
+        ensures ok { OnOk result (self.new ≡ with_cell_in self.old process page (flat_cell cell)) }
         ensures err { OnErr result (self.new ≡ self.old) }
     {
         let Some(space) = self.spaces.get_mut(&process) else {
@@ -101,7 +101,7 @@ impl Spaces {
         page: u32,
         cell: CellState,
     ) -> Result<(), AllocError>
-        ensures ok { OnOk result (self.new ≡ with_cell_in self.old process page (cell_of cell)) }
+        ensures ok { OnOk result (self.new ≡ with_cell_in self.old process page (flat_cell cell)) }
         ensures err { OnErr result (self.new ≡ self.old) }
     {
         if self.is_alive(process) {
@@ -131,7 +131,8 @@ impl Spaces {
     /// Takes the cells of so many pages from the first away from a process that is alive. Takes no memory.
     pub(crate) fn take_out(&mut self, process: u32, first: u32, count: u32)
         requires { IsSome (map.get self.old process) }
-        ensures { self.new ≡ map.insert self.old process (without (unwrap_or (map.get self.old process) map.empty) first count) }
+        ensures { let cells = unwrap_or (map.get self.old process) map.empty in
+            self.new ≡ map.insert self.old process (without_range cells first count) }
     {
         let Some(space) = self.spaces.get_mut(&process) else {
             return;
@@ -151,7 +152,9 @@ impl Spaces {
         requires alive { IsSome (map.get self.old process) }
         requires pages { first + count < 2 ^ 32 }
         requires indexes { cell.now.index + count < 2 ^ 32 }
-        ensures { OnOk result (self.new ≡ map.insert self.old process (with_cells (unwrap_or (map.get self.old process) map.empty) first count (λ i. with_index (cell_of cell.now) i))) }
+        ensures { let old = unwrap_or (map.get self.old process) map.empty in
+            let new = with_cells old first count (λ i. with_index (flat_cell cell.now) i) in
+            OnOk result (self.new ≡ map.insert self.old process new) }
     {
         let Some(space) = self.spaces.get_mut(&process) else {
             return Ok(());
@@ -174,7 +177,8 @@ impl Spaces {
     pub(crate) fn protect(&mut self, process: u32, first: u32, count: u32, prot: Prot)
         requires alive { IsSome (map.get self.old process) }
         requires pages { first + count < 2 ^ 32 }
-        ensures { self.new ≡ map.insert self.old process (with_prots (unwrap_or (map.get self.old process) map.empty) first count prot) }
+        ensures { let cells = unwrap_or (map.get self.old process) map.empty in
+            self.new ≡ map.insert self.old process (with_prots cells first count prot) }
     {
         let Some(space) = self.spaces.get_mut(&process) else {
             return;
@@ -184,7 +188,7 @@ impl Spaces {
 
     /// So many slots without one for each private cell, where there are enough. Looks at each cell.
     pub(crate) fn slots_left(&self, slots: u32) -> Option<u32>
-        ensures { result ≡ left_of slots (sum_by private_cells (map.values self.now)) }
+        ensures { result ≡ slots_left slots (sum_by private_cells (map.values self.now)) }
     {
         slots_left(&self.spaces, slots)
     }
@@ -211,7 +215,8 @@ impl Spaces {
 
 // Whether a cell of some value of the tree names the zero object.
 fn any_space_names(spaces: &BTreeMap<u32, Cells>, zero: u32) -> bool
-    ensures any { result ≡ list_any (λ space. list_any (names zero) (map.values space)) (values spaces.now) }
+    ensures any { let all = values spaces.now in
+        result ≡ list_any (λ space. list_any (names zero) (map.values space)) all }
     ensures ordered { IsOrdered nat_cmp spaces.now }
 {
     spaces.values().any(|cells| cells.names(zero))
@@ -219,7 +224,7 @@ fn any_space_names(spaces: &BTreeMap<u32, Cells>, zero: u32) -> bool
 
 // So many slots without one for each private cell of some value of the tree, where there are enough.
 fn slots_left(spaces: &BTreeMap<u32, Cells>, slots: u32) -> Option<u32>
-    ensures left { result ≡ left_of slots (sum_by private_cells (values spaces.now)) }
+    ensures left { result ≡ slots_left slots (sum_by private_cells (values spaces.now)) }
     ensures ordered { IsOrdered nat_cmp spaces.now }
 {
     let mut left = slots;

@@ -1,11 +1,11 @@
-//! A slow form of flat memory.
+//! The parts of the plain form of flat memory, and what an access reaches.
 ghost use Rattle.std.specs.Prelude.{◌≡◌, ◌<◌, [], option_map, option_and_then, slice_get, map};
 ghost use Rattle.std.specs.Result.{result_map_both};
 ghost use Rattle.std.specs.FinMap as finite;
-ghost use Rattle.std.specs.FinSet as set;
 ghost use Rattle.vm_types.specs.Words.{IsWordSize};
-ghost use Rattle.flat_model.specs.Cells.{cell_of};
+ghost use Rattle.flat_model.specs.Cells.{flat_cell};
 ghost use Rattle.flat_model.specs.State.{allowed_by};
+ghost use Rattle.flat_model.specs.Opening.{flat_at_opening};
 
 use crate::cells::CellState;
 use crate::files::FileState;
@@ -17,15 +17,17 @@ use vm_types::{Object, Prot, Reply, Signal, word_value};
 
 /// Flat memory, kept plainly: one tree of cells for each process.
 #[derive(Drop)]
-pub struct FlatState {
-    pub(crate) slots: u32,
-    pub(crate) files: Vec<FileState>,
-    pub(crate) zeros: BTreeMap<u32, Vec<Vec<u8>>>,
-    pub(crate) spaces: Spaces,
-    pub(crate) born: BTreeMap<u32, ()>,
+pub(crate) struct FlatParts {
+    pub slots: u32,
+    pub disks: BTreeMap<u32, u32>,
+    pub files: Vec<FileState>,
+    pub zeros: BTreeMap<u32, Vec<Vec<u8>>>,
+    pub spaces: Spaces,
+    pub born: BTreeMap<u32, ()>,
+    pub alloc: Global,
 }
 
-impl Model for FlatState {
+impl Model for FlatParts {
     ghost use Rattle.flat_model.specs.Flat.{Flat};
     ghost use Rattle.flat_model.specs.FlatCode.{flat_code};
 
@@ -55,37 +57,35 @@ fn is_allowed(access: Access, prot: Prot) -> bool
     }
 }
 
-impl FlatState {
+impl FlatParts {
     ghost use Rattle.flat_model.specs.Flat.{cell_at, shown, pages_of};
-    ghost use Rattle.flat_model.specs.Access.{met, load};
+    ghost use Rattle.flat_model.specs.Access.{access_target, load};
 
-    /// These slots, and no files, no zero objects and no processes. Takes no memory.
+    /// These slots, and no disks, no files, no zero objects and no processes. Takes no memory.
     pub fn new(alloc: Global, slots: u32) -> Self
-        ensures slots { result.slots ≡ slots }
-        ensures files { result.files ≡ [] }
-        ensures zeros { result.zeros ≡ finite.empty }
-        ensures spaces { result.spaces ≡ finite.empty }
-        ensures born { result.born ≡ set.empty }
+        ensures { result ≡ flat_at_opening slots finite.empty [] [] }
     {
-        FlatState {
+        FlatParts {
             slots,
+            disks: BTreeMap::new(alloc),
             files: Vec::new(alloc),
             zeros: BTreeMap::new(alloc),
             spaces: Spaces::new(alloc),
             born: BTreeMap::new(alloc),
+            alloc,
         }
     }
 
     /// The cell of a process at a page.
     pub fn cell(&self, process: u32, page: u32) -> Option<&CellState>
-        ensures { option_map (λ c. cell_of c.now) result ≡ cell_at self.now process page }
+        ensures { option_map (λ c. flat_cell c.now) result ≡ cell_at self.now process page }
     {
         self.spaces.cell(process, page)
     }
 
     /// The page that a cell shows.
     pub fn page_shown<'a>(&'a self, cell: &'a CellState) -> Option<&'a [u8]>
-        ensures { option_map (λ p. p.now) result ≡ shown self.now (cell_of cell.now) }
+        ensures { option_map (λ p. p.now) result ≡ shown self.now (flat_cell cell.now) }
     {
         match &cell.own {
             Some(page) => Some(page.as_slice()),
@@ -95,7 +95,9 @@ impl FlatState {
 
     /// A page of an object.
     pub fn object_page(&self, object: Object, index: u32) -> Option<&[u8]>
-        ensures { option_map (λ p. p.now) result ≡ option_and_then (λ ps. slice_get ps index) (pages_of self.now object) }
+        ensures { let pages = pages_of self.now object in
+            let page = option_and_then (λ ps. slice_get ps index) pages in
+            option_map (λ p. p.now) result ≡ page }
     {
         match object {
             Object::File(file) => match self.files.get(file as usize) {
@@ -112,8 +114,8 @@ impl FlatState {
 
     /// The cell and the page that an access meets, or the first signal that is due: the address is tested before the
     /// cell, the cell before the protection, and the protection before the page.
-    #[tactic(auto, unfolding(crate::specs::Access::met))]
-    pub fn met(
+    #[tactic(auto, unfolding(crate::specs::Access::access_target))]
+    pub fn access_target(
         &self,
         process: u32,
         access: Access,
@@ -121,7 +123,8 @@ impl FlatState {
         size: u32,
     ) -> Result<(&CellState, &[u8]), Signal>
         requires { 0 < size }
-        ensures { result_map_both (λ m. (cell_of m.0.now, m.1.now)) (λ s. s) result ≡ met self.now process (allowed_by access) addr size }
+        ensures { let seen = result_map_both (λ m. (flat_cell m.0.now, m.1.now)) (λ s. s) result in
+            seen ≡ access_target self.now process (allowed_by access) addr size }
     {
         if addr % size != 0 {
             return Err(Signal::Align);

@@ -1,50 +1,46 @@
-//! What a Fork does to the slow form.
-ghost use Rattle.std.specs.Prelude.{◌≡◌, ◌+◌, IfOk, OnOk, OnErr, IsSome, nat_le, unwrap_or};
+//! What a Fork does to the plain form.
+ghost use Rattle.std.specs.Prelude.{◌≡◌, ◌+◌, OnOk, OnErr, IsSome, IsFalse, nat_le, unwrap_or};
 ghost use Rattle.std.specs.FinMap as finite;
+ghost use Rattle.std.specs.FinSet as set;
 ghost use Rattle.flat_model.specs.Flat.{space_of, private_cells, reserved};
 ghost use Rattle.flat_model.specs.Mapping.{cells_of};
-ghost use Rattle.flat_model.specs.Mapped.{left_of};
-ghost use Rattle.flat_model.specs.Processes.{forked};
+ghost use Rattle.flat_model.specs.Mapped.{slots_left};
+ghost use Rattle.flat_model.specs.Processes.{with_child};
 
 use crate::spaces::Spaces;
-use crate::state::FlatState;
-use crate::zeros::{copied, keep_named, less, slots_left, with_born};
-use std::alloc::{AllocError, Global};
+use crate::state::FlatParts;
+use crate::zeros::{less, named_slots_left};
+use std::alloc::AllocError;
 
-impl FlatState {
-    // The slots that aren't reserved, if no more are reserved than there are.
-    fn slots_left(&self) -> Result<Option<u32>, AllocError>
-        ensures { IfOk result (λ left. left ≡ left_of self.now.slots (reserved self.now)) }
+impl FlatParts {
+    // The slots that aren't reserved, if no more are reserved than there are. Looks at each cell.
+    fn slots_left(&self) -> Option<u32>
+        ensures { result ≡ slots_left self.now.slots (reserved self.now) }
     {
-        let mut zeros = copied(&self.zeros)?;
-        keep_named(&mut zeros, &self.spaces);
-        match self.spaces.slots_left(self.slots) {
-            Some(left) => Ok(slots_left(&zeros, left)),
-            None => Ok(None),
-        }
+        let left = self.spaces.slots_left(self.slots)?;
+        named_slots_left(&self.zeros, &self.spaces, left)
     }
 
     /// Whether there are slots for the private cells of a process that is alive once more.
-    pub(crate) fn can_fork(&self, process: u32) -> Result<bool, AllocError>
+    pub(crate) fn can_fork(&self, process: u32) -> bool
         requires { IsSome (space_of self.now process) }
-        ensures { IfOk result (λ can. can ≡ nat_le (reserved self.now + private_cells (cells_of self.now process)) self.now.slots) }
+        ensures { let needed = reserved self.now + private_cells (cells_of self.now process) in
+            result ≡ nat_le needed self.now.slots }
     {
-        match self.slots_left()? {
-            Some(left) => Ok(less(left, private_cells(&self.spaces, process)).is_some()),
-            None => Ok(false),
+        match self.slots_left() {
+            Some(left) => less(left, private_cells(&self.spaces, process)).is_some(),
+            None => false,
         }
     }
 
     /// A child of a process is alive and born, with a copy of its space.
-    pub(crate) fn fork(&mut self, alloc: Global, process: u32, child: u32) -> Result<(), AllocError>
-        ensures ok { OnOk result (self.new ≡ forked self.old process child) }
+    pub(crate) fn fork(&mut self, process: u32, child: u32) -> Result<(), AllocError>
+        requires { IsFalse (set.contains self.old.born child) }
+        ensures ok { OnOk result (self.new ≡ with_child self.old process child) }
         ensures err { OnErr result (self.new ≡ self.old) }
     {
-        let born = with_born(&self.born, child)?;
-        let cells = self.spaces.cells_of(alloc, process)?;
-        self.spaces.insert(child, cells)?;
-        self.born = born;
-        Ok(())
+        let cells = self.spaces.cells_of(self.alloc, process)?;
+        self.be_born(child, cells)
     }
 }
 

@@ -1,4 +1,4 @@
-//! What a Map does to the slow form.
+//! What a Map does to the plain form.
 ghost use Rattle.std.specs.Prelude.{◌≡◌, ◌+◌, ◌<◌, ◌≤◌, ◌^◌, IfOk, IsSome, nat_le, option_map, unwrap_or};
 ghost use Rattle.std.specs.FinMap as finite;
 ghost use Rattle.std.specs.Result.{result_map_both};
@@ -6,22 +6,21 @@ ghost use Rattle.vm_types.specs.declared.call.Kind.TheVariants as kind;
 ghost use Rattle.vm_types.specs.declared.call.Object.TheVariants as object;
 ghost use Rattle.flat_model.specs.Words.{pages_in};
 ghost use Rattle.flat_model.specs.Flat.{space_of};
-ghost use Rattle.flat_model.specs.Mapping.{cells_of, is_there, max_of, read_write, cleared_for, own_for, mapped_at, mapped};
-ghost use Rattle.flat_model.specs.Cells.{cell_of, zeros_in};
-ghost use Rattle.flat_model.specs.Mapped.{request_of, asked, placed_in, made_in, object_with, first_cell, with_parts, reserved_by};
+ghost use Rattle.flat_model.specs.Mapping.{cells_of, is_there, max_of, prot_read_write, without_replaced, own_for, with_mapping, map_result};
+ghost use Rattle.flat_model.specs.Cells.{flat_cell, zeros_in};
+ghost use Rattle.flat_model.specs.Mapped.{request_of, request_check, range_start, made_in, object_with, first_cell, with_parts, reserved_by};
 
 use crate::cells::{CellState, Cells};
-use crate::files::pages_in;
 use crate::map_call::MapCall;
 use crate::spaces::Spaces;
-use crate::state::FlatState;
-use crate::zeros::{keep_named, slots_left, with_made, zero_page};
+use crate::state::FlatParts;
+use crate::zeros::{keep_named, slots_left, with_new_zeros, zero_page};
 use bitflags::Flags;
 use std::alloc::{AllocError, Global};
 use std::collections::BTreeMap;
-use vm_types::{Errno, Kind, Object, Place, Prot};
+use vm_types::{Errno, Kind, Object, Place, Prot, page_of, pages_in};
 
-impl FlatState {
+impl FlatParts {
     // Whether there is such a file or zero object; new zero memory can always be asked for.
     fn is_there(&self, object: Object) -> bool
         ensures { result ≡ is_there self.now object }
@@ -40,12 +39,12 @@ impl FlatState {
         match self.files.get(file as usize) {
             Some(file) => {
                 if file.writable {
-                    read_write()
+                    prot_read_write()
                 } else {
                     Prot::READ
                 }
             }
-            None => read_write(),
+            None => prot_read_write(),
         }
     }
 
@@ -54,17 +53,17 @@ impl FlatState {
         ensures { result ≡ max_of self.now kind object }
     {
         match kind {
-            Kind::Private => read_write(),
+            Kind::Private => prot_read_write(),
             Kind::Shared => match object {
                 Object::File(file) => self.max_of_file(file),
-                Object::Zero(_) | Object::NewZero => read_write(),
+                Object::Zero(_) | Object::NewZero => prot_read_write(),
             },
         }
     }
 
     // The refusals that come before any cell is looked at, in their order.
-    fn asked(&self, map: &MapCall) -> Result<(), Errno>
-        ensures { result ≡ asked self.now (request_of map.now) }
+    fn request_check(&self, map: &MapCall) -> Result<(), Errno>
+        ensures { result ≡ request_check self.now (request_of map.now) }
     {
         if !map.is_valid() {
             return Err(Errno::Invalid);
@@ -81,24 +80,21 @@ impl FlatState {
     // The spaces without the cells that a mapping replaces.
     fn cleared(&self, process: u32, place: Place, count: u32) -> Result<Spaces, AllocError>
         requires alive { IsSome (space_of self.now process) }
-        ensures { IfOk result (λ spaces. spaces ≡ (cleared_for self.now process place count).spaces) }
+        ensures { let cleared = (without_replaced self.now process place count).spaces in
+            IfOk result (λ spaces. spaces ≡ cleared) }
     {
         let mut spaces = self.spaces.copied()?;
         let Place::At(addr) = place else {
             return Ok(spaces);
         };
-        spaces.take_out(process, addr / 4096, count);
+        spaces.take_out(process, page_of(addr), count);
         Ok(spaces)
     }
 
     // The cell of a mapping at its first page.
-    fn first_cell(
-        &self,
-        alloc: Global,
-        map: &MapCall,
-        made: Option<u32>,
-    ) -> Result<CellState, AllocError>
-        ensures cell { IfOk result (λ cell. cell_of cell ≡ first_cell self.now (request_of map.now) made) }
+    fn first_cell(&self, map: &MapCall, made: Option<u32>) -> Result<CellState, AllocError>
+        ensures cell { let first = first_cell self.now (request_of map.now) made in
+            IfOk result (λ cell. flat_cell cell ≡ first) }
         ensures index { IfOk result (λ cell. cell.index < 2 ^ 20) }
     {
         Ok(CellState {
@@ -106,31 +102,32 @@ impl FlatState {
             max: self.max_of(map.kind, map.object),
             kind: map.kind,
             object: object_with(made, map.object),
-            index: map.offset / 4096,
-            own: own_for(alloc, map.kind, map.object)?,
+            index: page_of(map.offset),
+            own: own_for(self.alloc, map.kind, map.object)?,
         })
     }
 
     // The mapping of a Map whose range is free in these spaces from this page on.
-    fn mapped_at(
+    fn with_mapping(
         &self,
-        alloc: Global,
         process: u32,
         map: &MapCall,
         cleared: Spaces,
         first: u32,
     ) -> Result<Mapping, AllocError>
-        requires cleared { cleared ≡ (cleared_for self.now process map.now.place (pages_in map.now.length)).spaces }
+        requires cleared { let count = pages_in map.now.length in
+            cleared ≡ (without_replaced self.now process map.now.place count).spaces }
         requires alive { IsSome (finite.get cleared process) }
         requires ends { first + pages_in map.now.length < 2 ^ 32 }
         ensures first { IfOk result (λ m. m.first ≡ first) }
-        ensures flat { IfOk result (λ m. with_parts self.now m.spaces (zeros_in m.zeros) ≡ mapped_at self.now process (request_of map.now) first) }
+        ensures flat { let new = with_mapping self.now process (request_of map.now) first in
+            IfOk result (λ m. with_parts self.now m.spaces (zeros_in m.zeros) ≡ new) }
     {
         let mut spaces = cleared;
         let count = pages_in(map.length);
         let made = made(&spaces, map.kind, map.object)?;
-        let cell = self.first_cell(alloc, map, made)?;
-        let mut zeros = with_made(&self.zeros, alloc, made, count)?;
+        let cell = self.first_cell(map, made)?;
+        let mut zeros = with_new_zeros(&self.zeros, self.alloc, made, count)?;
         spaces.put_in(process, first, count, &cell)?;
         keep_named(&mut zeros, &spaces);
         Ok(Mapping {
@@ -141,25 +138,27 @@ impl FlatState {
     }
 
     /// What a Map gives, or the first refusal that is due.
-    pub(crate) fn mapped(
+    pub(crate) fn map_result(
         &self,
-        alloc: Global,
         process: u32,
         map: &MapCall,
     ) -> Result<Result<Mapping, Errno>, AllocError>
         requires alive { IsSome (space_of self.now process) }
-        ensures { IfOk result (λ r. result_map_both (λ m. (m.first, with_parts self.now m.spaces (zeros_in m.zeros))) (λ e. e) r ≡ mapped self.now process (request_of map.now)) }
+        ensures { let answer = map_result self.now process (request_of map.now) in
+            IfOk result (λ r. result_map_both
+            (λ m. (m.first, with_parts self.now m.spaces (zeros_in m.zeros)))
+            (λ e. e) r ≡ answer) }
     {
-        if let Err(errno) = self.asked(map) {
+        if let Err(errno) = self.request_check(map) {
             return Ok(Err(errno));
         }
         let count = pages_in(map.length);
         let spaces = self.cleared(process, map.place, count)?;
-        let first = match placed(&spaces, process, map.place, count) {
+        let first = match first_page_of(&spaces, process, map.place, count) {
             Ok(first) => first,
             Err(errno) => return Ok(Err(errno)),
         };
-        let mapping = self.mapped_at(alloc, process, map, spaces, first)?;
+        let mapping = self.with_mapping(process, map, spaces, first)?;
         if mapping.is_backed(self.slots) {
             Ok(Ok(mapping))
         } else {
@@ -189,8 +188,8 @@ impl Mapping {
 }
 
 // Reading and writing.
-fn read_write() -> Prot
-    ensures { result ≡ read_write }
+fn prot_read_write() -> Prot
+    ensures { result ≡ prot_read_write }
 {
     Prot::READ.union(Prot::WRITE)
 }
@@ -232,16 +231,16 @@ fn own_for(alloc: Global, kind: Kind, object: Object) -> Result<Option<Vec<u8>>,
 }
 
 // The first of so many pages that a mapping takes among cells whose range is free, or the refusal.
-fn placed_in(cells: &Cells, place: Place, count: u32) -> Result<u32, Errno>
+fn range_start(cells: &Cells, place: Place, count: u32) -> Result<u32, Errno>
     requires { count ≤ 2 ^ 20 }
-    ensures placed { result ≡ placed_in cells.now place count }
+    ensures start { result ≡ range_start cells.now place count }
     ensures ends { IfOk result (λ first. first + count < 2 ^ 32) }
 {
     if cells.len() > 65536 || cells.len() + count as usize > 65536 {
         return Err(Errno::TooLarge);
     }
     match place {
-        Place::At(addr) => Ok(addr / 4096),
+        Place::At(addr) => Ok(page_of(addr)),
         Place::Any => match cells.lowest_gap(count) {
             Some(first) => Ok(first),
             None => Err(Errno::NoRoom),
@@ -250,14 +249,15 @@ fn placed_in(cells: &Cells, place: Place, count: u32) -> Result<u32, Errno>
 }
 
 // The first of so many pages that a mapping takes in a process that is alive and whose range is free, or the refusal.
-fn placed(spaces: &Spaces, process: u32, place: Place, count: u32) -> Result<u32, Errno>
+fn first_page_of(spaces: &Spaces, process: u32, place: Place, count: u32) -> Result<u32, Errno>
     requires alive { IsSome (finite.get spaces.now process) }
     requires count { count ≤ 2 ^ 20 }
-    ensures placed { result ≡ placed_in (unwrap_or (finite.get spaces.now process) finite.empty) place count }
+    ensures start { let cells = unwrap_or (finite.get spaces.now process) finite.empty in
+        result ≡ range_start cells place count }
     ensures ends { IfOk result (λ first. first + count < 2 ^ 32) }
 {
     match spaces.get(process) {
-        Some(cells) => placed_in(cells, place, count),
+        Some(cells) => range_start(cells, place, count),
         None => Err(Errno::NoRoom),
     }
 }

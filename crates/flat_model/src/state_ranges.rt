@@ -1,37 +1,35 @@
-//! What Protect and Sync do to the slow form.
+//! What Protect and Sync do to the plain form.
 ghost use Rattle.std.specs.Prelude.{◌≡◌, ◌+◌, ◌<◌, ◌^◌, IfOk, IsSome, unwrap_or};
 ghost use Rattle.std.specs.FinMap as finite;
 ghost use Rattle.flat_model.specs.Flat.{space_of};
 ghost use Rattle.flat_model.specs.Access.{with_space};
 ghost use Rattle.flat_model.specs.Space.{with_prots};
 ghost use Rattle.flat_model.specs.Words.{page, pages_in};
-ghost use Rattle.flat_model.specs.Mapping.{cells_of, is_mapped, is_allowed, ranged};
-ghost use Rattle.flat_model.specs.FlatState.{protected};
+ghost use Rattle.flat_model.specs.Mapping.{cells_of, is_mapped, is_allowed, valid_range};
+ghost use Rattle.flat_model.specs.FlatState.{protect_result};
 
-use crate::files::pages_in;
-use crate::map_call::is_range;
 use crate::spaces::Spaces;
-use crate::state::FlatState;
-use vm_types::{Errno, Prot};
+use crate::state::FlatParts;
+use vm_types::{Errno, Prot, is_range, page_of, pages_in};
 
-impl FlatState {
+impl FlatParts {
     /// Whether a range may be spoken of: it is valid, and each page of it has a cell.
-    #[tactic(auto, unfolding(crate::specs::Mapping::ranged))]
-    pub(crate) fn ranged(&self, process: u32, addr: u32, length: u32) -> Result<(), Errno>
+    #[tactic(auto, unfolding(crate::specs::Mapping::valid_range))]
+    pub(crate) fn valid_range(&self, process: u32, addr: u32, length: u32) -> Result<(), Errno>
         requires { IsSome (space_of self.now process) }
-        ensures { result ≡ ranged self.now process addr length }
+        ensures { result ≡ valid_range self.now process addr length }
     {
         if !is_range(addr, length) {
             return Err(Errno::Invalid);
         }
-        if !are_mapped(&self.spaces, process, addr / 4096, pages_in(length)) {
+        if !are_mapped(&self.spaces, process, page_of(addr), pages_in(length)) {
             return Err(Errno::NotMapped);
         }
         Ok(())
     }
 
     /// The first refusal that is due to a Protect, if one is.
-    pub(crate) fn protected(
+    pub(crate) fn protect_result(
         &self,
         process: u32,
         addr: u32,
@@ -39,10 +37,10 @@ impl FlatState {
         prot: Prot,
     ) -> Result<(), Errno>
         requires { IsSome (space_of self.now process) }
-        ensures { result ≡ protected self.now process addr length prot }
+        ensures { result ≡ protect_result self.now process addr length prot }
     {
-        self.ranged(process, addr, length)?;
-        if !may_have(&self.spaces, process, addr / 4096, pages_in(length), prot) {
+        self.valid_range(process, addr, length)?;
+        if !may_have(&self.spaces, process, page_of(addr), pages_in(length), prot) {
             return Err(Errno::Access);
         }
         Ok(())
@@ -52,7 +50,8 @@ impl FlatState {
     pub(crate) fn protect(&mut self, process: u32, first: u32, count: u32, prot: Prot)
         requires alive { IsSome (space_of self.old process) }
         requires pages { first + count < 2 ^ 32 }
-        ensures { self.new ≡ with_space self.old process (with_prots (cells_of self.old process) first count prot) }
+        ensures { let cells = with_prots (cells_of self.old process) first count prot in
+            self.new ≡ with_space self.old process cells }
     {
         self.spaces.protect(process, first, count, prot);
     }
@@ -62,7 +61,8 @@ impl FlatState {
 fn are_mapped(spaces: &Spaces, process: u32, first: u32, count: u32) -> bool
     requires alive { IsSome (finite.get spaces.now process) }
     requires pages { first + count < 2 ^ 32 }
-    ensures { result ≡ is_mapped (unwrap_or (finite.get spaces.now process) finite.empty) first count }
+    ensures { let cells = unwrap_or (finite.get spaces.now process) finite.empty in
+        result ≡ is_mapped cells first count }
 {
     match spaces.get(process) {
         Some(cells) => cells.are_mapped(first, count),
@@ -74,7 +74,8 @@ fn are_mapped(spaces: &Spaces, process: u32, first: u32, count: u32) -> bool
 fn may_have(spaces: &Spaces, process: u32, first: u32, count: u32, prot: Prot) -> bool
     requires alive { IsSome (finite.get spaces.now process) }
     requires pages { first + count < 2 ^ 32 }
-    ensures { result ≡ is_allowed (unwrap_or (finite.get spaces.now process) finite.empty) first count prot }
+    ensures { let cells = unwrap_or (finite.get spaces.now process) finite.empty in
+        result ≡ is_allowed cells first count prot }
 {
     match spaces.get(process) {
         Some(cells) => cells.may_have(first, count, prot),

@@ -1,23 +1,23 @@
-//! Steps of the slow form.
-ghost use Rattle.std.specs.Prelude.{◌≡◌, ◌<◌, ◌^◌, ◌↔◌, IsTrue, IsFalse, IsSome, IfOk, OnErr, map as list_map};
+//! What entries do to the plain form.
+ghost use Rattle.std.specs.Prelude.{◌≡◌, ◌<◌, ◌≤◌, ◌+◌, ◌^◌, ◌↔◌, IsTrue, IsFalse, IsSome, IfOk, OnErr, length};
+ghost use Rattle.std.specs.FinSet as set;
+ghost use Rattle.vm_types.specs.Pages.{line_rest};
 ghost use Rattle.vm_types.specs.declared.call.Call.TheVariants as call;
 ghost use Rattle.vm_types.specs.Words.{IsWordSize, FitsWord};
 ghost use Rattle.vm_types.specs.WellFormed.{IsWellFormed};
-ghost use Rattle.flat_model.specs.Flat.{space_of};
-ghost use Rattle.flat_model.specs.Cells.{file_of};
+ghost use Rattle.flat_model.specs.Flat.{IsFlat, space_of};
 ghost use Rattle.flat_model.specs.Mapped.{call_of};
-ghost use Rattle.flat_model.specs.Step.{IsDue, IsUnborn, acted, tails_cleared, IsStep, step};
-ghost use Rattle.flat_model.specs.FlatState.{MayStep, with_files};
+ghost use Rattle.flat_model.specs.Step.{IsDue, IsUnborn, after_act, tails_cleared, IsStep, step};
+ghost use Rattle.flat_model.specs.FlatState.{MayStep, bit_from};
 
-use crate::files::{FileState, files_cleared, pages_in, read_part};
-use crate::map_call::{MapCall, is_range};
-use crate::replies::{is_due, is_due_mapping, is_io};
-use crate::state::{Access, FlatState};
-use std::alloc::{AllocError, Global};
-use std::mem;
-use vm_types::{Call, Entry, Errno, Line, Prot, Reply};
+use crate::files::{clear_tail_of, put_last_page};
+use crate::map_call::MapCall;
+use crate::replies::{is_due, is_due_mapping};
+use crate::state::{Access, FlatParts};
+use std::alloc::AllocError;
+use vm_types::{Call, Entry, Errno, Line, Prot, Reply, is_range, page_of, pages_in};
 
-impl FlatState {
+impl FlatParts {
     // Whether the reply to a load is due.
     fn is_due_load(&self, entry: &Entry, addr: u32, size: u32) -> bool
         requires size { IsWordSize size }
@@ -51,7 +51,6 @@ impl FlatState {
     // Acts as an entry whose call is a store: false, and unchanged, where its reply isn't due.
     fn act_store(
         &mut self,
-        alloc: Global,
         entry: &Entry,
         addr: u32,
         size: u32,
@@ -60,16 +59,17 @@ impl FlatState {
         requires size { IsWordSize size }
         requires fits { FitsWord size value }
         requires call { entry.now.call ≡ call.Store addr size value }
+        // Whether the reply is due, and flat memory then.
         ensures exact { IfOk result (λ due. IsTrue due ↔ IsDue self.old entry.now) }
-        ensures next { IfOk result (λ due. IsTrue due → self.new ≡ acted self.old entry.now) }
+        ensures next { IfOk result (λ due. IsTrue due → self.new ≡ after_act self.old entry.now) }
         ensures stays { IfOk result (λ due. IsFalse due → self.new ≡ self.old) }
         ensures err { OnErr result (self.new ≡ self.old) }
     {
         if !self.is_due_store(entry, addr, size, value) {
             return Ok(false);
         }
-        if !is_io(&entry.reply) {
-            self.store(alloc, entry.process, addr, size, value)?;
+        if !entry.reply.is_io() {
+            self.store(entry.process, addr, size, value)?;
         }
         Ok(true)
     }
@@ -78,28 +78,29 @@ impl FlatState {
     fn act_exit(&mut self, entry: &Entry) -> bool
         requires call { entry.now.call ≡ call.Exit }
         ensures exact { IsTrue result ↔ IsDue self.old entry.now }
-        ensures next { IsTrue result → self.new ≡ acted self.old entry.now }
+        ensures next { IsTrue result → self.new ≡ after_act self.old entry.now }
         ensures stays { IsFalse result → self.new ≡ self.old }
     {
         if !self.is_due_exit(entry) {
             return false;
         }
-        if !is_io(&entry.reply) {
+        if !entry.reply.is_io() {
             self.exit(entry.process);
         }
         true
     }
 
     // Acts as an entry whose call is a Map: false, and unchanged, where its reply isn't due.
-    fn act_map(&mut self, alloc: Global, entry: &Entry, map: &MapCall) -> Result<bool, AllocError>
+    fn act_map(&mut self, entry: &Entry, map: &MapCall) -> Result<bool, AllocError>
         requires alive { IsSome (space_of self.old entry.now.process) }
         requires call { entry.now.call ≡ call_of map.now }
+        // Whether the reply is due, and flat memory then.
         ensures exact { IfOk result (λ due. IsTrue due ↔ IsDue self.old entry.now) }
-        ensures next { IfOk result (λ due. IsTrue due → self.new ≡ acted self.old entry.now) }
+        ensures next { IfOk result (λ due. IsTrue due → self.new ≡ after_act self.old entry.now) }
         ensures stays { IfOk result (λ due. IsFalse due → self.new ≡ self.old) }
         ensures err { OnErr result (self.new ≡ self.old) }
     {
-        let mapping = match self.mapped(alloc, entry.process, map)? {
+        let mapping = match self.map_result(entry.process, map)? {
             Ok(mapping) => mapping,
             Err(errno) => return Ok(is_due(&entry.reply, false, &Reply::Refused(errno))),
         };
@@ -116,7 +117,7 @@ impl FlatState {
         requires alive { IsSome (space_of self.old entry.now.process) }
         requires call { entry.now.call ≡ call.Unmap addr length }
         ensures exact { IsTrue result ↔ IsDue self.old entry.now }
-        ensures next { IsTrue result → self.new ≡ acted self.old entry.now }
+        ensures next { IsTrue result → self.new ≡ after_act self.old entry.now }
         ensures stays { IsFalse result → self.new ≡ self.old }
     {
         if !is_range(addr, length) {
@@ -125,7 +126,7 @@ impl FlatState {
         if !is_due(&entry.reply, false, &Reply::Done) {
             return false;
         }
-        self.unmap(entry.process, addr / 4096, pages_in(length));
+        self.unmap(entry.process, page_of(addr), pages_in(length));
         true
     }
 
@@ -134,16 +135,16 @@ impl FlatState {
         requires alive { IsSome (space_of self.old entry.now.process) }
         requires call { entry.now.call ≡ call.Protect addr length prot }
         ensures exact { IsTrue result ↔ IsDue self.old entry.now }
-        ensures next { IsTrue result → self.new ≡ acted self.old entry.now }
+        ensures next { IsTrue result → self.new ≡ after_act self.old entry.now }
         ensures stays { IsFalse result → self.new ≡ self.old }
     {
-        if let Err(errno) = self.protected(entry.process, addr, length, prot) {
+        if let Err(errno) = self.protect_result(entry.process, addr, length, prot) {
             return is_due(&entry.reply, false, &Reply::Refused(errno));
         }
         if !is_due(&entry.reply, false, &Reply::Done) {
             return false;
         }
-        self.protect(entry.process, addr / 4096, pages_in(length), prot);
+        self.protect(entry.process, page_of(addr), pages_in(length), prot);
         true
     }
 
@@ -153,95 +154,119 @@ impl FlatState {
         requires call { entry.now.call ≡ call.Sync addr length }
         ensures exact { IsTrue result ↔ IsDue self.now entry.now }
     {
-        match self.ranged(entry.process, addr, length) {
+        match self.valid_range(entry.process, addr, length) {
             Ok(()) => is_due(&entry.reply, true, &Reply::Synced(0)),
             Err(errno) => is_due(&entry.reply, false, &Reply::Refused(errno)),
         }
     }
 
     // Whether the reply to a part of a read is due.
-    fn is_due_read(
-        &self,
-        alloc: Global,
-        entry: &Entry,
-        file: u32,
-        offset: u32,
-        length: u32,
-    ) -> Result<bool, AllocError>
+    fn is_due_read(&self, entry: &Entry, file: u32, offset: u32, length: u32) -> bool
+        requires flat { IsFlat self.now }
         requires call { entry.now.call ≡ call.Read file offset length }
-        ensures exact { IfOk result (λ due. IsTrue due ↔ IsDue self.now entry.now) }
+        ensures exact { IsTrue result ↔ IsDue self.now entry.now }
     {
         let Some(file) = self.files.get(file as usize) else {
-            return Ok(is_due(&entry.reply, false, &Reply::Refused(Errno::NoObject)));
+            return is_due(&entry.reply, false, &Reply::Refused(Errno::NoObject));
         };
-        let line = read_part(alloc, file, offset, length)?;
-        Ok(is_due(&entry.reply, true, &Reply::Bytes(line)))
+        let line = file.read_line(offset, length);
+        is_due(&entry.reply, true, &Reply::Bytes(line))
     }
 
     // Acts as an entry whose call is a part of a write: false, and unchanged, where its reply isn't due.
     fn act_write(
         &mut self,
-        alloc: Global,
         entry: &Entry,
         file: u32,
         offset: u32,
         line: &Line,
         rest: u32,
     ) -> Result<bool, AllocError>
+        requires flat { IsFlat self.old }
+        requires one_line { length line.now ≤ line_rest offset }
         requires call { entry.now.call ≡ call.Write file offset line.now rest }
+        // Whether the reply is due, and flat memory then.
         ensures exact { IfOk result (λ due. IsTrue due ↔ IsDue self.old entry.now) }
-        ensures next { IfOk result (λ due. IsTrue due → self.new ≡ acted self.old entry.now) }
+        ensures next { IfOk result (λ due. IsTrue due → self.new ≡ after_act self.old entry.now) }
         ensures stays { IfOk result (λ due. IsFalse due → self.new ≡ self.old) }
         ensures err { OnErr result (self.new ≡ self.old) }
     {
         let _rest = rest;
-        let limit = match self.limit_of(file) {
-            Ok(limit) => limit,
-            Err(errno) => return Ok(is_due(&entry.reply, false, &Reply::Refused(errno))),
+        let can_fail = self.writable_file(file).is_ok();
+        let end = offset as u64 + line.len() as u64;
+        let extents = match self.room_for(file, end)? {
+            Ok(extents) => extents,
+            Err(errno) => return Ok(is_due(&entry.reply, can_fail, &Reply::Refused(errno))),
         };
-        if offset as u64 + line.len() as u64 > limit as u64 * 4096 {
-            return Ok(is_due(&entry.reply, true, &Reply::Refused(Errno::TooBig)));
-        }
         if !is_due(&entry.reply, true, &Reply::Done) {
             return Ok(false);
         }
-        if !is_io(&entry.reply) {
-            self.write_part(alloc, file, offset, line.bytes())?;
+        if !entry.reply.is_io() {
+            self.write_part(file, extents, offset, line)?;
+        }
+        Ok(true)
+    }
+
+    // Acts as an entry whose call is a Truncate: false, and unchanged, where its reply isn't due.
+    fn act_truncate(&mut self, entry: &Entry, file: u32, length: u32) -> Result<bool, AllocError>
+        requires flat { IsFlat self.old }
+        requires call { entry.now.call ≡ call.Truncate file length }
+        // Whether the reply is due, and flat memory then.
+        ensures exact { IfOk result (λ due. IsTrue due ↔ IsDue self.old entry.now) }
+        ensures next { IfOk result (λ due. IsTrue due → self.new ≡ after_act self.old entry.now) }
+        ensures stays { IfOk result (λ due. IsFalse due → self.new ≡ self.old) }
+        ensures err { OnErr result (self.new ≡ self.old) }
+    {
+        let can_fail = self.writable_file(file).is_ok();
+        let extents = match self.room_for(file, length as u64)? {
+            Ok(extents) => extents,
+            Err(errno) => return Ok(is_due(&entry.reply, can_fail, &Reply::Refused(errno))),
+        };
+        if !is_due(&entry.reply, true, &Reply::Done) {
+            return Ok(false);
+        }
+        if !entry.reply.is_io() {
+            self.truncate(file, extents, length)?;
         }
         Ok(true)
     }
 
     // Acts as an entry whose call is a Fork: false, and unchanged, where its reply isn't due.
-    fn act_fork(&mut self, alloc: Global, entry: &Entry, child: u32) -> Result<bool, AllocError>
+    fn act_fork(&mut self, entry: &Entry, child: u32) -> Result<bool, AllocError>
         requires alive { IsSome (space_of self.old entry.now.process) }
+        requires unborn { IsFalse (set.contains self.old.born child) }
         requires call { entry.now.call ≡ call.Fork child }
+        // Whether the reply is due, and flat memory then.
         ensures exact { IfOk result (λ due. IsTrue due ↔ IsDue self.old entry.now) }
-        ensures next { IfOk result (λ due. IsTrue due → self.new ≡ acted self.old entry.now) }
+        ensures next { IfOk result (λ due. IsTrue due → self.new ≡ after_act self.old entry.now) }
         ensures stays { IfOk result (λ due. IsFalse due → self.new ≡ self.old) }
         ensures err { OnErr result (self.new ≡ self.old) }
     {
-        if !self.can_fork(entry.process)? {
+        if !self.can_fork(entry.process) {
             return Ok(is_due(&entry.reply, false, &Reply::Refused(Errno::NoSwap)));
         }
         if !is_due(&entry.reply, false, &Reply::Done) {
             return Ok(false);
         }
-        self.fork(alloc, entry.process, child)?;
+        self.fork(entry.process, child)?;
         Ok(true)
     }
 
     // Acts as an entry: false, and unchanged, where its reply isn't due.
-    fn act(&mut self, alloc: Global, entry: &Entry) -> Result<bool, AllocError>
+    fn act(&mut self, entry: &Entry) -> Result<bool, AllocError>
+        requires flat { IsFlat self.old }
         requires alive { IsSome (space_of self.old entry.now.process) }
+        requires unborn { IsUnborn self.old entry.now.call }
         requires form { IsWellFormed entry.now.call }
+        // Whether the reply is due, and flat memory then.
         ensures exact { IfOk result (λ due. IsTrue due ↔ IsDue self.old entry.now) }
-        ensures next { IfOk result (λ due. IsTrue due → self.new ≡ acted self.old entry.now) }
+        ensures next { IfOk result (λ due. IsTrue due → self.new ≡ after_act self.old entry.now) }
         ensures stays { IfOk result (λ due. IsFalse due → self.new ≡ self.old) }
         ensures err { OnErr result (self.new ≡ self.old) }
     {
         match entry.call {
             Call::Load { addr, size } => Ok(self.is_due_load(entry, addr, size)),
-            Call::Store { addr, size, value } => self.act_store(alloc, entry, addr, size, value),
+            Call::Store { addr, size, value } => self.act_store(entry, addr, size, value),
             Call::Map {
                 place,
                 length,
@@ -258,23 +283,24 @@ impl FlatState {
                     object,
                     offset,
                 };
-                self.act_map(alloc, entry, &map)
+                self.act_map(entry, &map)
             }
             Call::Unmap { addr, length } => Ok(self.act_unmap(entry, addr, length)),
             Call::Protect { addr, length, prot } => Ok(self.act_protect(entry, addr, length, prot)),
             Call::Sync { addr, length } => Ok(self.is_due_sync(entry, addr, length)),
-            Call::Fork { child } => self.act_fork(alloc, entry, child),
+            Call::Fork { child } => self.act_fork(entry, child),
             Call::Read {
                 file,
                 offset,
                 length,
-            } => self.is_due_read(alloc, entry, file, offset, length),
+            } => Ok(self.is_due_read(entry, file, offset, length)),
             Call::Write {
                 file,
                 offset,
                 bytes,
                 rest,
-            } => self.act_write(alloc, entry, file, offset, &bytes, rest),
+            } => self.act_write(entry, file, offset, &bytes, rest),
+            Call::Truncate { file, length } => self.act_truncate(entry, file, length),
             Call::Exit => Ok(self.act_exit(entry)),
         }
     }
@@ -302,40 +328,46 @@ impl FlatState {
             | Call::Sync { .. }
             | Call::Read { .. }
             | Call::Write { .. }
+            | Call::Truncate { .. }
             | Call::Exit => true,
         }
     }
 
-    // Puts other files in the place of those that there are, and hands these out.
-    fn swap_files(&mut self, files: Vec<FileState>) -> Vec<FileState>
-        ensures new { self.new ≡ with_files self.old (list_map file_of files.items) }
-        ensures old { list_map file_of result.items ≡ self.old.files }
-    {
-        mem::replace(&mut self.files, files)
-    }
-
-    // Acts as an entry that first clears tails: false, and unchanged, where its reply isn't due then.
-    fn act_cleared(&mut self, alloc: Global, entry: &Entry) -> Result<bool, AllocError>
+    // Acts as an entry once the tails of those of the files from a number on are zeros whose bits of
+    // a mask are set: false, and unchanged, where its reply isn't due then.
+    fn act_cleared(&mut self, entry: &Entry, number: usize, mask: u64) -> Result<bool, AllocError>
+        requires flat { IsFlat self.old }
         requires alive { IsSome (space_of self.old entry.now.process) }
+        requires unborn { IsUnborn self.old entry.now.call }
         requires form { IsWellFormed entry.now.call }
-        ensures exact { IfOk result (λ due. IsTrue due ↔ IsDue (tails_cleared self.old entry.now.cleared) entry.now) }
-        ensures next { IfOk result (λ due. IsTrue due → self.new ≡ step self.old entry.now) }
+        requires fits { number + mask < 2 ^ 64 }
+        // Whether the reply is due, and flat memory then.
+        ensures exact { let cleared = tails_cleared self.old (bit_from number mask) in
+            IfOk result (λ due. IsTrue due ↔ IsDue cleared entry.now) }
+        ensures next { let cleared = tails_cleared self.old (bit_from number mask) in
+            IfOk result (λ due. IsTrue due → self.new ≡ after_act cleared entry.now) }
         ensures stays { IfOk result (λ due. IsFalse due → self.new ≡ self.old) }
         ensures err { OnErr result (self.new ≡ self.old) }
     {
-        let files = files_cleared(alloc, entry.cleared, &self.files)?;
-        let old = self.swap_files(files);
-        let acts = self.act(alloc, entry);
-        if matches!(acts, Ok(true)) {
-            return Ok(true);
+        if mask == 0 {
+            return self.act(entry);
         }
-        let _files = self.swap_files(old);
+        if mask % 2 == 0 {
+            return self.act_cleared(entry, number + 1, mask / 2);
+        }
+        let last_page = clear_tail_of(&mut self.files, self.alloc, number)?;
+        let acts = self.act_cleared(entry, number + 1, mask / 2);
+        if !matches!(acts, Ok(true)) {
+            put_last_page(&mut self.files, number, last_page);
+        }
         acts
     }
 
     /// One step of flat memory: false, and unchanged, exactly where the entry isn't a step.
-    pub fn step(&mut self, alloc: Global, entry: &Entry) -> Result<bool, AllocError>
+    pub(crate) fn step(&mut self, entry: &Entry) -> Result<bool, AllocError>
+        requires flat { IsFlat self.old }
         requires form { IsWellFormed entry.now.call }
+        // Whether the reply is due, and flat memory then.
         ensures exact { IfOk result (λ is. IsTrue is ↔ IsStep self.old entry.now) }
         ensures next { IfOk result (λ is. IsTrue is → self.new ≡ step self.old entry.now) }
         ensures stays { IfOk result (λ is. IsFalse is → self.new ≡ self.old) }
@@ -344,10 +376,7 @@ impl FlatState {
         if !self.may_step(entry) {
             return Ok(false);
         }
-        if entry.cleared == 0 {
-            return self.act(alloc, entry);
-        }
-        self.act_cleared(alloc, entry)
+        self.act_cleared(entry, 0, entry.cleared)
     }
 }
 

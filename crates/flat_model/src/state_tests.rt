@@ -1,5 +1,7 @@
 //! Worked histories.
-use crate::state::FlatState;
+ghost use Rattle.std.specs.Prelude.{◌≤◌, length};
+
+use crate::flat_state::FlatState;
 use bitflags::Flags;
 use std::alloc::{AllocError, Global};
 use std::prelude::HostRuntime;
@@ -84,48 +86,72 @@ fn writes(file: u32, offset: u32, byte: u8) -> Call {
     }
 }
 
+fn cut(file: u32, length: u32) -> Call {
+    Call::Truncate { file, length }
+}
+
+// A private Map of the first file's second page.
+fn map_second_page(addr: u32) -> Call {
+    Call::Map {
+        place: Place::At(addr),
+        length: 4096,
+        prot: Prot::READ | Prot::WRITE,
+        kind: Kind::Private,
+        object: A,
+        offset: 4096,
+    }
+}
+
 // Whether the entry is a step, where its call is well formed.
-fn acts(state: &mut FlatState, alloc: Global, entry: Entry) -> Result<bool, AllocError> {
+fn acts(state: &mut FlatState, entry: Entry) -> Result<bool, AllocError> {
     if !entry.call.is_well_formed() {
         return Ok(false);
     }
-    state.step(alloc, &entry)
+    state.step(&entry)
 }
 
 // Whether the call of process 1 with this reply is a step.
-fn steps(
-    state: &mut FlatState,
-    alloc: Global,
-    call: Call,
-    reply: Reply,
-) -> Result<bool, AllocError> {
+fn steps(state: &mut FlatState, call: Call, reply: Reply) -> Result<bool, AllocError> {
     let entry = Entry {
         process: 1,
         call,
         reply,
         cleared: 0,
     };
-    acts(state, alloc, entry)
+    acts(state, entry)
 }
 
-// Process 1 with nothing mapped, over so many slots and two files of 5 bytes, of which the first may be written.
-fn opened(alloc: Global, slots: u32) -> Result<FlatState, AllocError> {
+// Process 1 with nothing mapped, over so many slots and two files with these bytes on a disk of 4 blocks. The first
+// may be written and keeps so many pages, from block 1 on; the second keeps the page behind them.
+fn opened_with(
+    alloc: Global,
+    slots: u32,
+    pages: u32,
+    bytes: &[u8],
+    writable: bool,
+) -> Result<FlatState, AllocError>
+    requires pages { pages ≤ 2 }
+    requires bytes { length bytes.now ≤ 5 }
+{
     let mut state = FlatState::new(alloc, slots);
-    state.file(alloc, 5, 2, true, b"hello")?;
-    state.file(alloc, 5, 1, false, b"hello")?;
-    state.root(alloc, 1)?;
+    let len = bytes.len() as u32;
+    state.disk(0, 4)?;
+    state.file(len, 0, &[(1, pages)], true, bytes)?;
+    state.file(len, 0, &[(1 + pages, 1)], writable, bytes)?;
+    state.root(1)?;
     Ok(state)
 }
 
+// The same with two files of 5 bytes and no free block; the second may only be read.
+fn opened(alloc: Global, slots: u32) -> Result<FlatState, AllocError> {
+    opened_with(alloc, slots, 2, b"hello", false)
+}
+
 // How many of the entries are steps, up to the first that isn't.
-fn run(
-    state: &mut FlatState,
-    alloc: Global,
-    entries: &[(Call, Reply)],
-) -> Result<usize, AllocError> {
+fn run(state: &mut FlatState, entries: &[(Call, Reply)]) -> Result<usize, AllocError> {
     let mut done = 0;
     for (call, reply) in entries {
-        if !steps(state, alloc, *call, *reply)? {
+        if !steps(state, *call, *reply)? {
             return Ok(done);
         }
         done += 1;
@@ -142,7 +168,7 @@ fn worked_histories_are_steps(rt: HostRuntime) -> Result<(), Fail> {
     let shared = Kind::Shared;
     let private = Kind::Private;
     let zero = Object::NewZero;
-    let histories: [&[(Call, Reply)]; 10] = [
+    let histories: [&[(Call, Reply)]; 12] = [
         // First path.
         &[
             (map(0x2000, 4096, both, shared, A), Reply::Mapped(0x2000)),
@@ -258,6 +284,31 @@ fn worked_histories_are_steps(rt: HostRuntime) -> Result<(), Fail> {
             (writes(1, 0, 0x58), Reply::Refused(Errno::ReadOnly)),
             (reads(2, 4), Reply::Refused(Errno::NoObject)),
         ],
+        // Cut and grown: a private copy stays, and what a length cut off is zeros when it is passed again.
+        &[
+            (map(0x2000, 8192, both, shared, A), Reply::Mapped(0x2000)),
+            (map_second_page(0x6000), Reply::Mapped(0x6000)),
+            (writes(0, 4096, 0x5a), Reply::Done),
+            (store(0x6000, 1, 0x11), Reply::Done),
+            (cut(0, 2), Reply::Done),
+            (load(0x3000), PAST),
+            (load(0x6000), Reply::Word(0x11)),
+            (load(0x2002), Reply::Word(0)),
+            (cut(0, 8193), Reply::Refused(Errno::TooBig)),
+            (cut(0, 4), Reply::Done),
+            (reads(0, 16), Reply::Bytes(Line::new(b"he\x00\x00"))),
+            (cut(1, 0), Reply::Refused(Errno::ReadOnly)),
+            (cut(2, 0), Reply::Refused(Errno::NoObject)),
+        ],
+        // A Truncate to the same length leaves the tail.
+        &[
+            (map(0x2000, 4096, both, shared, A), Reply::Mapped(0x2000)),
+            (store(0x2005, 1, 0x77), Reply::Done),
+            (cut(0, 5), Reply::Done),
+            (load(0x2005), Reply::Word(0x77)),
+            (cut(0, 6), Reply::Done),
+            (load(0x2005), Reply::Word(0)),
+        ],
         // A zero object goes with the last cell that names it.
         &[
             (map(0x2000, 8192, both, shared, zero), Reply::Mapped(0x2000)),
@@ -279,8 +330,8 @@ fn worked_histories_are_steps(rt: HostRuntime) -> Result<(), Fail> {
     ];
     for history in histories {
         let mut state = opened(alloc, 5)?;
-        assert_eq!(rt; run(&mut state, alloc, history)?, history.len());
-        assert!(rt; !steps(&mut state, alloc, load(0x2001), Reply::Word(0x99))?);
+        assert_eq!(rt; run(&mut state, history)?, history.len());
+        assert!(rt; !steps(&mut state, load(0x2001), Reply::Word(0x99))?);
     }
     Ok(())
 }
@@ -291,8 +342,8 @@ fn tails_that_are_cleared_are_zeros(rt: HostRuntime) -> Result<(), Fail> {
     let mut state = opened(alloc, 0)?;
     let both = Prot::READ | Prot::WRITE;
     let call = map(0x2000, 4096, both, Kind::Shared, A);
-    assert!(rt; steps(&mut state, alloc, call, Reply::Mapped(0x2000))?);
-    assert!(rt; steps(&mut state, alloc, store(0x2005, 1, 0x77), Reply::Done)?);
+    assert!(rt; steps(&mut state, call, Reply::Mapped(0x2000))?);
+    assert!(rt; steps(&mut state, store(0x2005, 1, 0x77), Reply::Done)?);
     for (cleared, word, is) in [
         (0, 0x77, true),
         (2, 0x77, true),
@@ -308,7 +359,7 @@ fn tails_that_are_cleared_are_zeros(rt: HostRuntime) -> Result<(), Fail> {
             reply: Reply::Word(word),
             cleared,
         };
-        assert_eq!(rt; acts(&mut state, alloc, entry)?, is);
+        assert_eq!(rt; acts(&mut state, entry)?, is);
     }
     Ok(())
 }
@@ -337,8 +388,22 @@ fn a_child_is_new_and_has_its_own_private_pages(rt: HostRuntime) -> Result<(), F
             reply,
             cleared: 0,
         };
-        assert!(rt; acts(&mut state, alloc, entry)?);
+        assert!(rt; acts(&mut state, entry)?);
     }
+    Ok(())
+}
+
+#[test]
+fn a_file_grows_from_the_free_blocks_of_its_disk(rt: HostRuntime) -> Result<(), Fail> {
+    let mut state = opened_with(rt.alloc(), 0, 1, b"", true)?;
+    let entries = [
+        (writes(0, 4096, 0x5a), Reply::Done),
+        (writes(1, 4096, 0x5a), Reply::Refused(Errno::TooBig)),
+        (writes(1, 4095, 0x01), Reply::Done),
+        (cut(0, 8193), Reply::Refused(Errno::TooBig)),
+        (cut(0, 8192), Reply::Done),
+    ];
+    assert_eq!(rt; run(&mut state, &entries)?, entries.len());
     Ok(())
 }
 
@@ -349,7 +414,7 @@ fn a_gap_is_as_long_as_asked_for(rt: HostRuntime) -> Result<(), Fail> {
     for k in 1..16 {
         let addr = 0x8000000 * k;
         let call = map(addr, 4096, Prot::READ, Kind::Shared, A);
-        assert!(rt; steps(&mut state, alloc, call, Reply::Mapped(addr))?);
+        assert!(rt; steps(&mut state, call, Reply::Mapped(addr))?);
     }
     let entries = [
         (
@@ -362,6 +427,6 @@ fn a_gap_is_as_long_as_asked_for(rt: HostRuntime) -> Result<(), Fail> {
         ),
         (map_any(0xffffffff, Kind::Shared, A), TOO_LARGE),
     ];
-    assert_eq!(rt; run(&mut state, alloc, &entries)?, 3);
+    assert_eq!(rt; run(&mut state, &entries)?, 3);
     Ok(())
 }

@@ -1,7 +1,7 @@
 //! Each public call once, with values by hand.
 use crate::cells::{CellState, Cells};
 use crate::spaces::Spaces;
-use crate::state::{Access, FlatState};
+use crate::state::{Access, FlatParts};
 use crate::words::{put_word, word_in};
 use std::prelude::HostRuntime;
 use std::test::Fail;
@@ -54,7 +54,7 @@ fn cells_stand_at_their_pages(rt: HostRuntime) -> Result<(), Fail> {
 fn nothing_is_mapped_in_the_beginning(rt: HostRuntime) -> Result<(), Fail> {
     let spaces = Spaces::new(rt.alloc());
     assert!(rt; spaces.cell(1, 0x10).is_none());
-    let state = FlatState::new(rt.alloc(), 8);
+    let state = FlatParts::new(rt.alloc(), 8);
     assert!(rt; state.cell(1, 0x10).is_none());
     assert!(rt; state.object_page(Object::File(0), 0).is_none());
     let signals = [
@@ -63,7 +63,9 @@ fn nothing_is_mapped_in_the_beginning(rt: HostRuntime) -> Result<(), Fail> {
         (0x10001, 1, Signal::NoMap),
     ];
     for (addr, size, signal) in signals {
-        assert!(rt; matches!(state.met(1, Access::Load, addr, size), Err(due) if due == signal));
+        assert!(rt;
+            matches!(state.access_target(1, Access::Load, addr, size), Err(due) if due == signal)
+        );
     }
     Ok(())
 }

@@ -3,10 +3,9 @@ ghost use Rattle.std.specs.Prelude.{◌≡◌, IfOk, length, map, replicate, sum
 ghost use Rattle.std.specs.BTreeMap.{values, IsOrdered};
 ghost use Rattle.std.specs.Ordering.{nat_cmp};
 ghost use Rattle.std.specs.FinMap as finite;
-ghost use Rattle.std.specs.FinSet as set;
 ghost use Rattle.flat_model.specs.Words.{zero_page};
-ghost use Rattle.flat_model.specs.Cells.{zeros_in, born_in};
-ghost use Rattle.flat_model.specs.Mapped.{with_made, left_of};
+ghost use Rattle.flat_model.specs.Cells.{zeros_in};
+ghost use Rattle.flat_model.specs.Mapped.{with_new_zeros, slots_left};
 ghost use Rattle.flat_model.specs.Spaces.{is_named_in};
 
 use crate::spaces::Spaces;
@@ -15,21 +14,10 @@ use std::collections::BTreeMap;
 
 /// The zero objects that no cell names go. Takes no memory.
 pub(crate) fn keep_named(zeros: &mut BTreeMap<u32, Vec<Vec<u8>>>, spaces: &Spaces)
-    ensures { zeros_in zeros.new ≡ finite.retain_keys (zeros_in zeros.old) (is_named_in spaces.now) }
+    ensures { let kept = finite.retain_keys (zeros_in zeros.old) (is_named_in spaces.now) in
+        zeros_in zeros.new ≡ kept }
 {
     zeros.retain(|zero, _| spaces.names(*zero));
-}
-
-/// The processes that were ever alive, and this one.
-pub(crate) fn with_born(
-    born: &BTreeMap<u32, ()>,
-    process: u32,
-) -> Result<BTreeMap<u32, ()>, AllocError>
-    ensures { IfOk result (λ new. born_in new ≡ set.insert (born_in born.now) process) }
-{
-    let mut new = born.clone()?;
-    new.insert(process, ())?;
-    Ok(new)
 }
 
 /// A page of zeros.
@@ -42,7 +30,7 @@ pub(crate) fn zero_page(alloc: Global) -> Result<Vec<u8>, AllocError>
 }
 
 /// So many pages of zeros.
-pub(crate) fn zero_pages(alloc: Global, count: u32) -> Result<Vec<Vec<u8>>, AllocError>
+pub(crate) fn zero_pages(alloc: Global, count: u64) -> Result<Vec<Vec<u8>>, AllocError>
     ensures { IfOk result (λ pages. map (λ p. p.items) pages.items ≡ replicate count zero_page) }
 {
     let mut pages = Vec::new(alloc);
@@ -63,25 +51,26 @@ pub(crate) fn copied(
 }
 
 /// The zero objects and the one of so many pages that was made, if one was.
-pub(crate) fn with_made(
+pub(crate) fn with_new_zeros(
     zeros: &BTreeMap<u32, Vec<Vec<u8>>>,
     alloc: Global,
     made: Option<u32>,
     count: u32,
 ) -> Result<BTreeMap<u32, Vec<Vec<u8>>>, AllocError>
-    ensures { IfOk result (λ new. zeros_in new ≡ with_made (zeros_in zeros.now) made count) }
+    ensures { let all = with_new_zeros (zeros_in zeros.now) made count in
+        IfOk result (λ new. zeros_in new ≡ all) }
 {
     let mut new = copied(zeros)?;
     let Some(zero) = made else {
         return Ok(new);
     };
-    new.insert(zero, zero_pages(alloc, count)?)?;
+    new.insert(zero, zero_pages(alloc, count as u64)?)?;
     Ok(new)
 }
 
 /// So many slots without some, where there are enough.
 pub(crate) fn less(slots: u32, count: usize) -> Option<u32>
-    ensures { result ≡ left_of slots count }
+    ensures { result ≡ slots_left slots count }
 {
     if count <= slots as usize {
         Some(slots - count as u32)
@@ -92,12 +81,31 @@ pub(crate) fn less(slots: u32, count: usize) -> Option<u32>
 
 /// So many slots without one for each page of the zero objects, where there are enough.
 pub(crate) fn slots_left(zeros: &BTreeMap<u32, Vec<Vec<u8>>>, slots: u32) -> Option<u32>
-    ensures left { result ≡ left_of slots (sum_by (λ v. length v.items) (values zeros.now)) }
+    ensures left { result ≡ slots_left slots (sum_by (λ v. length v.items) (values zeros.now)) }
     ensures ordered { IsOrdered nat_cmp zeros.now }
 {
     let mut left = slots;
     for pages in zeros.values() {
         left = less(left, pages.len())?;
+    }
+    Some(left)
+}
+
+/// So many slots without one for each page of the zero objects that some cell names, where there
+/// are enough. Looks at each cell for each zero object.
+pub(crate) fn named_slots_left(
+    zeros: &BTreeMap<u32, Vec<Vec<u8>>>,
+    spaces: &Spaces,
+    slots: u32,
+) -> Option<u32>
+    ensures { let kept = finite.retain_keys (zeros_in zeros.now) (is_named_in spaces.now) in
+        result ≡ slots_left slots (sum_by length (finite.values kept)) }
+{
+    let mut left = slots;
+    for (zero, pages) in zeros.iter() {
+        if spaces.names(*zero) {
+            left = less(left, pages.len())?;
+        }
     }
     Some(left)
 }

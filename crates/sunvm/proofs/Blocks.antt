@@ -7,14 +7,15 @@ use Rattle.std.proofs.Math.Seq.{drop-cons, take-suc, take-suc-set, take-add}
 use Rattle.std.proofs.lemmas.Bool.{cases_lt}
 use Rattle.std.proofs.lemmas.List.{take_all, take-take, take-append-le, drop-take, drop-drop, length-take, get_or-take, append-nil}
 use Rattle.std.proofs.lemmas.List.Folds.{concat-append}
+use Rattle.vm_types.specs.Pages.{bytes_before}
 use Rattle.flat_model.specs.Words.{Page, pages_in}
-use Rattle.flat_model.specs.Parts.{cut}
-use Rattle.flat_model.proofs.FileBytes.{Whole, length-cut, concat-cut}
-use Rattle.vnode_files.specs.declared.entry.FileInfo.{FileInfo}
+use Rattle.flat_model.specs.Parts.{pages_of_bytes}
+use Rattle.flat_model.proofs.FileBytes.{Whole, length-pages_of_bytes, concat-pages_of_bytes}
+use Rattle.vnode_files.specs.declared.vnode.FileInfo.{FileInfo}
 use Rattle.block_device.specs.DiskSeen.{DiskSeen, AreBlocks, HasBlocks, with_block}
-use Rattle.vm_core.specs.State.{bytes_before, HoldsPages}
-use Rattle.sunvm.specs.Run.{filled, stored}
-use Rattle.sunvm.specs.Opening.{HasPages, Reads, IsOpened}
+use Rattle.vm_core.specs.State.{extent_of, HoldsPages}
+use Rattle.sunvm.specs.Run.{filled, stored_bytes}
+use Rattle.sunvm.specs.Opening.{HasPages, AreBytesOf, IsOpened}
 use Rattle.sunvm.specs.Parts.{plan_info}
 use Rattle.sunvm.specs.Script.{Plan}
 
@@ -98,33 +99,33 @@ same_bytes len (p ∷ ps) (q ∷ qs) wp wq same each =
     take_pages len p (concat ps) wp.0 ∙ ap (λ (xs : List ℕ). xs ++ take (len - 4096) (concat ps)) first ∙ ap (λ (xs : List ℕ). take (min 4096 len) q ++ xs) rest ∙ sym (take_pages len q (concat qs) wq.0)
 
 -- where a file's blocks hold pages, they hold their bytes
-pub stored_is : (info : FileInfo) (ps : List Page) (blocks : List (List ℕ)) → info.start ≡ 1 → Whole ps → length ps ≡ pages_in info.length → suc (length ps) ≤ length blocks → AreBlocks blocks → HoldsPages info ps blocks → stored info.length blocks ≡ take info.length (concat ps)
+pub stored_is : (info : FileInfo) (ps : List Page) (blocks : List (List ℕ)) → (extent_of info).start ≡ 1 → Whole ps → length ps ≡ pages_in info.length → suc (length ps) ≤ length blocks → AreBlocks blocks → HoldsPages info ps blocks → stored_bytes info.length blocks ≡ take info.length (concat ps)
 stored_is info ps [] start whole count some are holds = absurd (omega (arith, some))
 stored_is info ps (b ∷ bs) start whole count some are holds =
     let n = pages_in info.length in
     let file = whole_file n (b ∷ bs) (omega (arith, some, count)) are in
     same_bytes info.length (take n bs) ps file.0 whole (file.1 ∙ sym count) (λ i below.
-    let at : info.start + i ≡ suc i = omega (arith, start) in
-    let block : get_or (b ∷ bs) (info.start + i) [] ≡ get_or bs i [] = ap (λ j. get_or (b ∷ bs) j []) at in
+    let at : (extent_of info).start + i ≡ suc i = omega (arith, start) in
+    let block : get_or (b ∷ bs) ((extent_of info).start + i) [] ≡ get_or bs i [] = ap (λ j. get_or (b ∷ bs) j []) at in
     ap (take (bytes_before info.length i)) (get_or-take n bs i [] (omega (arith, below, count)) ∙ sym block) ∙ holds i below)
 
 -- a page more was written
-pub written_more : (i n at : ℕ) (bytes page : List ℕ) (blocks : List (List ℕ)) → at ≡ 1 + i → i < n → suc n ≤ length blocks → page ≡ get_or (cut n bytes) i [] → HasPages i n bytes blocks → HasPages (i + 1) n bytes (slice_set blocks at page)
+pub written_more : (i n at : ℕ) (bytes page : List ℕ) (blocks : List (List ℕ)) → at ≡ 1 + i → i < n → suc n ≤ length blocks → page ≡ get_or (pages_of_bytes n bytes) i [] → HasPages i n bytes blocks → HasPages (i + 1) n bytes (slice_set blocks at page)
 written_more i n at bytes page [] is below some page_is has = absurd (omega (arith, some))
 written_more i n at bytes page (b ∷ bs) is below some page_is has =
     let next : at ≡ suc i = omega (arith, is) in
     let one : i + 1 ≡ suc i = omega arith in
-    let count : i < length (cut n bytes) = omega (arith, below, length-cut n bytes) in
+    let count : i < length (pages_of_bytes n bytes) = omega (arith, below, length-pages_of_bytes n bytes) in
     ap (λ k. take (i + 1) (drop 1 (slice_set (b ∷ bs) k page))) next
     ∙ ap (λ k. take k (slice_set bs i page)) one
     ∙ take-suc-set bs i page (omega (arith, below, some))
     ∙ ap (λ (ps : List Page). ps ++ page ∷ []) has
-    ∙ ap (λ (p : Page). take i (cut n bytes) ++ p ∷ []) page_is
-    ∙ sym (take-suc (cut n bytes) i [] count)
-    ∙ ap (λ k. take k (cut n bytes)) (sym one)
+    ∙ ap (λ (p : Page). take i (pages_of_bytes n bytes) ++ p ∷ []) page_is
+    ∙ sym (take-suc (pages_of_bytes n bytes) i [] count)
+    ∙ ap (λ k. take k (pages_of_bytes n bytes)) (sym one)
 
 -- a page more was read
-pub read_more : (i at : ℕ) (bytes block all : List ℕ) (blocks : List (List ℕ)) → at ≡ 1 + i → suc i < length blocks → block ≡ get_or blocks at [] → all ≡ bytes ++ block → Reads i bytes blocks → Reads (i + 1) all blocks
+pub read_more : (i at : ℕ) (bytes block all : List ℕ) (blocks : List (List ℕ)) → at ≡ 1 + i → suc i < length blocks → block ≡ get_or blocks at [] → all ≡ bytes ++ block → AreBytesOf i bytes blocks → AreBytesOf (i + 1) all blocks
 read_more i at bytes block all [] is inside block_is grew so_far = absurd (omega (arith, inside))
 read_more i at bytes block all (b ∷ bs) is inside block_is grew so_far =
     let next : at ≡ suc i = omega (arith, is) in
@@ -137,21 +138,21 @@ read_more i at bytes block all (b ∷ bs) is inside block_is grew so_far =
     ∙ ap (λ k. concat (take k bs)) (sym one)
 
 -- what was read is what was written
-pub read_back : (n : ℕ) (bytes pages : List ℕ) (blocks : List (List ℕ)) → length bytes ≡ 4096 * n → HasPages n n bytes blocks → Reads n pages blocks → pages ≡ bytes
+pub read_back : (n : ℕ) (bytes pages : List ℕ) (blocks : List (List ℕ)) → length bytes ≡ 4096 * n → HasPages n n bytes blocks → AreBytesOf n pages blocks → pages ≡ bytes
 read_back n bytes pages blocks whole has reads =
-    reads ∙ ap concat (has ∙ take_all n (cut n bytes) (omega (arith, length-cut n bytes))) ∙ concat-cut n bytes ∙ take_all (4096 * n) bytes (omega (arith, whole))
+    reads ∙ ap concat (has ∙ take_all n (pages_of_bytes n bytes) (omega (arith, length-pages_of_bytes n bytes))) ∙ concat-pages_of_bytes n bytes ∙ take_all (4096 * n) bytes (omega (arith, whole))
 
 -- the blocks hold the pages that were written
-pub written_holds : (info : FileInfo) (n : ℕ) (bytes : List ℕ) (blocks : List (List ℕ)) → info.start ≡ 1 → suc n ≤ length blocks → HasPages n n bytes blocks → HoldsPages info (cut n bytes) blocks
+pub written_holds : (info : FileInfo) (n : ℕ) (bytes : List ℕ) (blocks : List (List ℕ)) → (extent_of info).start ≡ 1 → suc n ≤ length blocks → HasPages n n bytes blocks → HoldsPages info (pages_of_bytes n bytes) blocks
 written_holds info n bytes [] start some has i below = absurd (omega (arith, some))
 written_holds info n bytes (b ∷ bs) start some has i below =
-    let within : i < n = omega (arith, below, length-cut n bytes) in
-    let at : info.start + i ≡ suc i = omega (arith, start) in
-    let both : get_or (take n bs) i [] ≡ get_or (take n (cut n bytes)) i [] = ap (λ (ps : List Page). get_or ps i []) has in
-    ap (take (bytes_before info.length i)) (ap (λ j. get_or (b ∷ bs) j []) at ∙ sym (get_or-take n bs i [] within) ∙ both ∙ get_or-take n (cut n bytes) i [] within)
+    let within : i < n = omega (arith, below, length-pages_of_bytes n bytes) in
+    let at : (extent_of info).start + i ≡ suc i = omega (arith, start) in
+    let both : get_or (take n bs) i [] ≡ get_or (take n (pages_of_bytes n bytes)) i [] = ap (λ (ps : List Page). get_or ps i []) has in
+    ap (take (bytes_before info.length i)) (ap (λ j. get_or (b ∷ bs) j []) at ∙ sym (get_or-take n bs i [] within) ∙ both ∙ get_or-take n (pages_of_bytes n bytes) i [] within)
 
 -- a page that is cut from bytes
-pub cut_page : (n i at : ℕ) (bytes : List ℕ) → i < n → at ≡ 4096 * i → get_or (cut n bytes) i [] ≡ take 4096 (drop at bytes)
+pub cut_page : (n i at : ℕ) (bytes : List ℕ) → i < n → at ≡ 4096 * i → get_or (pages_of_bytes n bytes) i [] ≡ take 4096 (drop at bytes)
 cut_page zero i at bytes below is = absurd (omega (arith, below))
 cut_page (suc n) zero at bytes below is = let none : at ≡ 0 = omega (arith, is) in ap (λ k. take 4096 (drop k bytes)) (sym none)
 cut_page (suc n) (suc i) at bytes below is =
@@ -160,33 +161,33 @@ cut_page (suc n) (suc i) at bytes below is =
     ∙ ap (take 4096) (drop-drop (4096 * i) 4096 bytes ∙ ap (λ k. drop k bytes) more)
 
 -- the same, as code takes it
-pub page_slice : (n i at : ℕ) (bytes : List ℕ) → i < n → at ≡ i * 4096 → take (at + 4096 - at) (drop at bytes) ≡ get_or (cut n bytes) i []
+pub page_slice : (n i at : ℕ) (bytes : List ℕ) → i < n → at ≡ i * 4096 → take (at + 4096 - at) (drop at bytes) ≡ get_or (pages_of_bytes n bytes) i []
 page_slice n i at bytes below is =
     let count : at + 4096 - at ≡ 4096 = omega arith in
     ap (λ k. take k (drop at bytes)) count ∙ sym (cut_page n i at bytes below (omega (arith, is)))
 
 -- the same, where the disk tells
-pub written_step : (i n at size : ℕ) (bytes page : List ℕ) (o q : Option (List (List ℕ))) → at ≡ 1 + i → i < n → n < size → HasBlocks o size → page ≡ get_or (cut n bytes) i [] → q ≡ with_block o at page → IfSome o (HasPages i n bytes) → IfSome q (HasPages (i + 1) n bytes)
+pub written_step : (i n at size : ℕ) (bytes page : List ℕ) (o q : Option (List (List ℕ))) → at ≡ 1 + i → i < n → n < size → HasBlocks o size → page ≡ get_or (pages_of_bytes n bytes) i [] → q ≡ with_block o at page → IfSome o (HasPages i n bytes) → IfSome q (HasPages (i + 1) n bytes)
 written_step i n at size bytes page None q is below inside blocks page_is new has = subst (λ (o : Option (List (List ℕ))). IfSome o (HasPages (i + 1) n bytes)) (sym new) tt
 written_step i n at size bytes page (Some b) q is below inside blocks page_is new has =
     subst (λ (o : Option (List (List ℕ))). IfSome o (HasPages (i + 1) n bytes)) (sym new) (written_more i n at bytes page b is below (omega (arith, inside, blocks.0)) page_is has)
 
-pub read_step : (i at size : ℕ) (bytes block all : List ℕ) (o : Option (List (List ℕ))) → at ≡ 1 + i → suc i < size → HasBlocks o size → IfSome o (λ blocks. block ≡ get_or blocks at []) → all ≡ bytes ++ block → IfSome o (Reads i bytes) → IfSome o (Reads (i + 1) all)
+pub read_step : (i at size : ℕ) (bytes block all : List ℕ) (o : Option (List (List ℕ))) → at ≡ 1 + i → suc i < size → HasBlocks o size → IfSome o (λ blocks. block ≡ get_or blocks at []) → all ≡ bytes ++ block → IfSome o (AreBytesOf i bytes) → IfSome o (AreBytesOf (i + 1) all)
 read_step i at size bytes block all None is inside blocks block_is grew so_far = tt
 read_step i at size bytes block all (Some b) is inside blocks block_is grew so_far = read_more i at bytes block all b is (omega (arith, inside, blocks.0)) block_is grew so_far
 
 -- the plan's bytes were read back
-pub told_back : (n size : ℕ) (bytes pages : List ℕ) (o : Option (List (List ℕ))) → length bytes ≡ 4096 * n → IfSome o (HasPages n n bytes) → IfSome o (Reads n pages) → IfSome o (λ blocks. pages ≡ bytes)
+pub told_back : (n size : ℕ) (bytes pages : List ℕ) (o : Option (List (List ℕ))) → length bytes ≡ 4096 * n → IfSome o (HasPages n n bytes) → IfSome o (AreBytesOf n pages) → IfSome o (λ blocks. pages ≡ bytes)
 told_back n size bytes pages None whole has reads = tt
 told_back n size bytes pages (Some b) whole has reads = read_back n bytes pages b whole has reads
 
-pub holds_back : (info : FileInfo) (n size : ℕ) (bytes pages : List ℕ) (o : Option (List (List ℕ))) → info.start ≡ 1 → n < size → HasBlocks o size → length bytes ≡ 4096 * n → IfSome o (HasPages n n bytes) → IfSome o (Reads n pages) → IfSome o (HoldsPages info (cut n pages))
+pub holds_back : (info : FileInfo) (n size : ℕ) (bytes pages : List ℕ) (o : Option (List (List ℕ))) → (extent_of info).start ≡ 1 → n < size → HasBlocks o size → length bytes ≡ 4096 * n → IfSome o (HasPages n n bytes) → IfSome o (AreBytesOf n pages) → IfSome o (HoldsPages info (pages_of_bytes n pages))
 holds_back info n size bytes pages None start inside blocks whole has reads = tt
 holds_back info n size bytes pages (Some b) start inside blocks whole has reads =
-    subst (λ (xs : List ℕ). HoldsPages info (cut n xs) b) (sym (read_back n bytes pages b whole has reads)) (written_holds info n bytes b start (omega (arith, inside, blocks.0)) has)
+    subst (λ (xs : List ℕ). HoldsPages info (pages_of_bytes n xs) b) (sym (read_back n bytes pages b whole has reads)) (written_holds info n bytes b start (omega (arith, inside, blocks.0)) has)
 
 -- the disk is open once the pages were read back
-pub opened_if : {A E : Type 0} (items : A → List ℕ) (plan : Plan) (old new : DiskSeen) (written : List ℕ) (n : ℕ) (r : Result A E) → All (λ b. b < 256) plan.file.bytes → n ≡ pages_in (length plan.file.bytes) → written ≡ filled plan.file.bytes → length written ≡ 4096 * n → HasBlocks old.content old.size → n < old.size → new.content ≡ old.content → IfSome old.content (HasPages n n written) → IfOk r (λ a. length (items a) ≡ 4096 * n) → IfOk r (λ a. IfSome old.content (Reads n (items a))) → IfOk r (λ a. IsOpened plan new (items a))
+pub opened_if : {A E : Type 0} (items : A → List ℕ) (plan : Plan) (old new : DiskSeen) (written : List ℕ) (n : ℕ) (r : Result A E) → All (λ b. b < 256) plan.file.bytes → n ≡ pages_in (length plan.file.bytes) → written ≡ filled plan.file.bytes → length written ≡ 4096 * n → HasBlocks old.content old.size → n < old.size → new.content ≡ old.content → IfSome old.content (HasPages n n written) → IfOk r (λ a. length (items a) ≡ 4096 * n) → IfOk r (λ a. IfSome old.content (AreBytesOf n (items a))) → IfOk r (λ a. IsOpened plan new (items a))
 opened_if items plan old new written n (Err e) bytes count filled_is whole blocks inside same has long reads = tt
 opened_if items plan old new written n (Ok a) bytes count filled_is whole blocks inside same has long reads =
     let pages = items a in
@@ -195,5 +196,5 @@ opened_if items plan old new written n (Ok a) bytes count filled_is whole blocks
       bytes = bytes;
       count = long ∙ ap (λ k. 4096 * k) count;
       told = subst (O (λ bs. pages ≡ filled plan.file.bytes)) (sym same) (subst (λ (t : List ℕ). IfSome old.content (λ bs. pages ≡ t)) filled_is (told_back n old.size written pages old.content whole has reads));
-      holds = subst (O (HoldsPages (plan_info plan) (cut (pages_in (length plan.file.bytes)) pages))) (sym same) (subst (λ k. IfSome old.content (HoldsPages (plan_info plan) (cut k pages))) count (holds_back (plan_info plan) n old.size written pages old.content refl inside blocks whole has reads));
+      holds = subst (O (HoldsPages (plan_info plan) (pages_of_bytes (pages_in (length plan.file.bytes)) pages))) (sym same) (subst (λ k. IfSome old.content (HoldsPages (plan_info plan) (pages_of_bytes k pages))) count (holds_back (plan_info plan) n old.size written pages old.content refl inside blocks whole has reads));
     }

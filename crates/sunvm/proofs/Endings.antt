@@ -4,11 +4,10 @@ use Rattle.std.specs.Prelude.{All, Bool, IsTrue, Option, Some, None, IfSome, IsS
 use Rattle.std.specs.List.{concat}
 use Rattle.vm_types.specs.declared.call.Entry.{Entry}
 use Rattle.vm_types.specs.WellFormed.{IsWellFormed}
-use Rattle.flat_model.specs.FlatLaws.{HasBytes}
 use Rattle.flat_model.specs.Words.{pages_in}
 use Rattle.flat_model.specs.History.{Legal}
-use Rattle.flat_model.specs.Parts.{bytes_in}
-use Rattle.flat_model.specs.Told.{Told}
+use Rattle.flat_model.specs.Parts.{file_bytes}
+use Rattle.flat_model.specs.Told.{ToldAlone}
 use Rattle.block_device.specs.DiskSeen.{DiskSeen, AreBlocks, HasBlocks, with_block}
 use Rattle.block_device.specs.StreamSeen.{SinkSeen}
 use Rattle.vm_core.specs.declared.history.DiskFault.{DiskFault}
@@ -20,8 +19,8 @@ use Rattle.sunvm.specs.Plans.{plan_seen, IsPlan}
 use Rattle.sunvm.specs.Report.{process_section, file_heading, bytes_lines}
 use Rattle.sunvm.specs.Script.{Plan}
 use Rattle.sunvm.specs.Table.{table}
-use Rattle.sunvm.specs.Run.{blocks_in, opening, plan_lines, closing_file, whole_text, text_before, counts_line, Wrote, WroteFront, WroteTaken, WroteUpTo, stored, Closed, HasLateCause}
-use Rattle.sunvm.specs.Parts.{Ended, plan_info, Leaves, HoldsBytes, HasCount, IsFaultSince, IsLateFault}
+use Rattle.sunvm.specs.Run.{plan_extents, blocks_in, opening, plan_lines, closing_file, whole_text, text_before, counts_line, Wrote, WroteFront, WroteTaken, WroteUpTo, stored_bytes, Closed, HasLateCause}
+use Rattle.sunvm.specs.Parts.{Ended, plan_info, Leaves, HoldsBytes, HasCount, IsFaultAfter, IsLateFault}
 use Rattle.sunvm.specs.Ending.{head, table_of_plan, status_of, fault_of, IsPlayed, IsShown, IsClosingEnd, IsReport}
 use Rattle.sunvm.proofs.Blocks.{stored_is}
 use Rattle.sunvm.proofs.Ends.{Kept, if_some_any, wrote_none, ended_memory, ended_whole, ended_sink, ended_closing, ended_showing}
@@ -49,7 +48,7 @@ kept_of p whole fault h d0 d1 plan played size told = record {
   reached = reached_quiet (d1 ∷ []) h.entries played.makes.quiet;
 }
 
-pub told_of : (p : declared.Plan) (fault : Option DiskFault) (h : HistorySeen) (d0 : DiskSeen) (whole : Bool) → IsTrue whole → IsPlan 1048577 p → IsPlayed (plan_seen p) whole fault h d0 → Told 1 (plan_lines (plan_seen p)) h.entries
+pub told_of : (p : declared.Plan) (fault : Option DiskFault) (h : HistorySeen) (d0 : DiskSeen) (whole : Bool) → IsTrue whole → IsPlan 1048577 p → IsPlayed (plan_seen p) whole fault h d0 → ToldAlone 1 (plan_lines (plan_seen p)) h.entries
 told_of p fault h d0 whole is plan played = told_whole h.entries p.calls.items plan.calls (played.all is) played.makes.own
 
 -- the cause of a fault
@@ -59,7 +58,7 @@ cause_of h d1 fault late = record {
   since = (late.0, ap (count_of h.faults) late.2.number ∙ late.1, late.2.since);
 }
 
-late_of : (h : HistorySeen) (d0 d1 : DiskSeen) (low : ℕ) (fault : DiskFault) → HasCount h d0 → d0.faults ≤ low → IsFaultSince low d1 fault → IsLateFault h d1 fault
+late_of : (h : HistorySeen) (d0 d1 : DiskSeen) (low : ℕ) (fault : DiskFault) → HasCount h d0 → d0.faults ≤ low → IsFaultAfter low d1 fault → IsLateFault h d1 fault
 late_of h d0 d1 low fault count later since =
     (count.count, ap (λ (cs : List (ℕ × ℕ)). count_of cs 0) count.told, record { number = since.number; since = omega (arith, since.since, later, count.later); risen = since.risen; back = since.back })
 
@@ -68,7 +67,7 @@ pub end_lacking : (plan : Plan) (k0 k1 : SinkSeen) (r0 r1 : ℕ) (h : HistorySee
 end_lacking plan k0 k1 r0 r1 h ds kept same = ended_memory plan k0 k1 r0 r1 h ds kept (if_some_any (blocks_in ds) _ (λ b. wrote_none k0 k1 (whole_text plan h.entries) same))
 
 -- a fault in closing
-pub end_closing : (plan : Plan) (k0 k1 : SinkSeen) (r0 r1 : ℕ) (h : HistorySeen) (ds : List DiskSeen) (fault : DiskFault) (e : Ending) → Kept plan h.entries ds → Told 1 (plan_lines plan) h.entries → HasLateCause h ds fault → IsClosingEnd h.entries fault k0 k1 e → Ended (Some (Some plan)) k0 k1 r0 r1 (record { status = status_of e; fault = fault_of e; history = h; disks = ds })
+pub end_closing : (plan : Plan) (k0 k1 : SinkSeen) (r0 r1 : ℕ) (h : HistorySeen) (ds : List DiskSeen) (fault : DiskFault) (e : Ending) → Kept plan h.entries ds → ToldAlone 1 (plan_lines plan) h.entries → HasLateCause h ds fault → IsClosingEnd h.entries fault k0 k1 e → Ended (Some (Some plan)) k0 k1 r0 r1 (record { status = status_of e; fault = fault_of e; history = h; disks = ds })
 end_closing plan k0 k1 r0 r1 h ds fault ending.Whole kept told cause end = absurd end
 end_closing plan k0 k1 r0 r1 h ds fault ending.Sink kept told cause end = absurd end
 end_closing plan k0 k1 r0 r1 h ds fault ending.Memory kept told cause end = end_lacking plan k0 k1 r0 r1 h ds kept end
@@ -80,10 +79,10 @@ end_closing plan k0 k1 r0 r1 h ds fault (ending.Showing f) kept told cause end =
 -- what the blocks hold of a closed file
 record Facts (plan : Plan) (H : List Entry) (bs : List (List ℕ)) : Type 0 where
   len : (closing_file plan H).len ≡ length plan.file.bytes
-  bytes : stored (length plan.file.bytes) bs ≡ bytes_in (closing_file plan H)
+  bytes : stored_bytes (length plan.file.bytes) bs ≡ file_bytes (closing_file plan H)
   closed : Closed plan H bs
 
-facts_at : (p : declared.Plan) (H : List Entry) (blocks : List (List ℕ)) (text : List ℕ) (size : ℕ) → All (λ b. b < 256) p.file.bytes.items → IsPlan 1048577 p → All (λ e. IsWellFormed e.call × HasBytes e.call) H → text ≡ table_of_plan (plan_seen p) → size ≡ p.blocks → (length blocks ≡ size) × AreBlocks blocks → Leaves (opening (plan_seen p)) (plan_info (plan_seen p)) H → HoldsBytes (opening (plan_seen p)) (plan_info (plan_seen p)) H blocks → Facts (plan_seen p) H (slice_set blocks 0 text)
+facts_at : (p : declared.Plan) (H : List Entry) (blocks : List (List ℕ)) (text : List ℕ) (size : ℕ) → All (λ b. b < 256) p.file.bytes.items → IsPlan 1048577 p → All (λ e. IsWellFormed e.call) H → text ≡ table_of_plan (plan_seen p) → size ≡ p.blocks → (length blocks ≡ size) × AreBlocks blocks → Leaves (opening (plan_seen p)) (plan_info (plan_seen p)) H → HoldsBytes (opening (plan_seen p)) (plan_info (plan_seen p)) H blocks → Facts (plan_seen p) H (slice_set blocks 0 text)
 facts_at p H [] text size bytes plan calls text_is size_is are leaves holds = absurd (omega (arith, are.0, size_is, plan.blocks.0))
 facts_at p H (b ∷ bs) text size bytes plan calls text_is size_is are leaves holds =
     let sp = plan_seen p in
@@ -92,36 +91,36 @@ facts_at p H (b ∷ bs) text size bytes plan calls text_is size_is are leaves ho
     let file = file_whole sp H bytes calls leaves.legal.steps in
     let count : length F.pages ≡ pages_in n = file.1 ∙ ap pages_in leaves.length in
     let room : suc (length F.pages) ≤ length (b ∷ bs) = omega (arith, count, plan.file.bytes, plan.file.inside, size_is, are.0) in
-    let at : stored n (text ∷ bs) ≡ bytes_in F = stored_is (plan_info sp) F.pages (b ∷ bs) refl file.0 count room are.1 holds ∙ ap (λ k. take k (concat F.pages)) (sym leaves.length) in
+    let at : stored_bytes n (text ∷ bs) ≡ file_bytes F = stored_is (plan_info sp) F.pages (b ∷ bs) refl file.0 count room are.1 holds ∙ ap (λ k. take k (concat F.pages)) (sym leaves.length) in
     record {
       len = leaves.length;
       bytes = at;
       closed = record {
-        bytes = ap (λ k. stored k (text ∷ bs)) leaves.length ∙ at;
-        table = text_is ∙ ap (λ k. table p.blocks (record { name = p.file.name; disk = 0; start = 1; pages = p.file.pages; length = k; writable = true })) (sym leaves.length);
+        bytes = ap (λ k. stored_bytes k (text ∷ bs)) leaves.length ∙ at;
+        table = text_is ∙ ap (λ k. table p.blocks (record { name = p.file.name; disk = 0; extents = plan_extents sp; length = k; writable = true })) (sym leaves.length);
       };
     }
 
-facts_in : (p : declared.Plan) (H : List Entry) (o : Option (List (List ℕ))) (text : List ℕ) (size : ℕ) → All (λ b. b < 256) p.file.bytes.items → IsPlan 1048577 p → All (λ e. IsWellFormed e.call × HasBytes e.call) H → text ≡ table_of_plan (plan_seen p) → size ≡ p.blocks → HasBlocks o size → IfSome o (λ b. Leaves (opening (plan_seen p)) (plan_info (plan_seen p)) H) → IfSome o (HoldsBytes (opening (plan_seen p)) (plan_info (plan_seen p)) H) → IfSome (with_block o 0 text) (Facts (plan_seen p) H)
+facts_in : (p : declared.Plan) (H : List Entry) (o : Option (List (List ℕ))) (text : List ℕ) (size : ℕ) → All (λ b. b < 256) p.file.bytes.items → IsPlan 1048577 p → All (λ e. IsWellFormed e.call) H → text ≡ table_of_plan (plan_seen p) → size ≡ p.blocks → HasBlocks o size → IfSome o (λ b. Leaves (opening (plan_seen p)) (plan_info (plan_seen p)) H) → IfSome o (HoldsBytes (opening (plan_seen p)) (plan_info (plan_seen p)) H) → IfSome (with_block o 0 text) (Facts (plan_seen p) H)
 facts_in p H None text size bytes plan calls text_is size_is are leaves holds = tt
 facts_in p H (Some blocks) text size bytes plan calls text_is size_is are leaves holds = facts_at p H blocks text size bytes plan calls text_is size_is are leaves holds
 
 -- the report's text, from what the blocks hold
-text_is : (plan : Plan) (H : List Entry) (bs : List (List ℕ)) → Facts plan H bs → head plan H ++ bytes_lines 0 (stored (length plan.file.bytes) bs) ≡ whole_text plan H
+text_is : (plan : Plan) (H : List Entry) (bs : List (List ℕ)) → Facts plan H bs → head plan H ++ bytes_lines 0 (stored_bytes (length plan.file.bytes) bs) ≡ whole_text plan H
 text_is plan H bs facts =
     ap (λ (t : List ℕ). head plan H ++ bytes_lines 0 t) facts.bytes
-    ∙ ap (λ k. process_section H ++ file_heading plan.file.name k ++ bytes_lines 0 (bytes_in (closing_file plan H))) (sym facts.len)
+    ∙ ap (λ k. process_section H ++ file_heading plan.file.name k ++ bytes_lines 0 (file_bytes (closing_file plan H))) (sym facts.len)
 
-before_is : (plan : Plan) (H : List Entry) (bs : List (List ℕ)) (page : ℕ) → Facts plan H bs → head plan H ++ bytes_lines 0 (take (4096 * page) (stored (length plan.file.bytes) bs)) ≡ text_before plan H page
+before_is : (plan : Plan) (H : List Entry) (bs : List (List ℕ)) (page : ℕ) → Facts plan H bs → head plan H ++ bytes_lines 0 (take (4096 * page) (stored_bytes (length plan.file.bytes) bs)) ≡ text_before plan H page
 before_is plan H bs page facts =
     ap (λ (t : List ℕ). head plan H ++ bytes_lines 0 (take (4096 * page) t)) facts.bytes
-    ∙ ap (λ k. process_section H ++ file_heading plan.file.name k ++ bytes_lines 0 (take (4096 * page) (bytes_in (closing_file plan H)))) (sym facts.len)
+    ∙ ap (λ k. process_section H ++ file_heading plan.file.name k ++ bytes_lines 0 (take (4096 * page) (file_bytes (closing_file plan H)))) (sym facts.len)
 
 closed_of : (plan : Plan) (H : List Entry) (o q : Option (List (List ℕ))) → q ≡ o → IfSome o (Facts plan H) → IfSome q (Closed plan H)
 closed_of plan H o q same facts = subst (λ (x : Option (List (List ℕ))). IfSome x (Closed plan H)) (sym same) (if_both o (λ bs f. f.closed) facts)
 
 -- the end of a report, by how it came
-end_shown : (plan : Plan) (k0 k1 : SinkSeen) (r0 r1 : ℕ) (h : HistorySeen) (mid d1 : DiskSeen) (e : Ending) → Kept plan h.entries (d1 ∷ []) → Told 1 (plan_lines plan) h.entries → d1.content ≡ mid.content → IfSome mid.content (Facts plan h.entries) → ((low : ℕ) (fault : DiskFault) → mid.faults ≤ low → IsFaultSince low d1 fault → HasLateCause h (d1 ∷ []) fault) → IsShown (head plan h.entries) (length plan.file.bytes) k0 k1 mid d1 e → Ended (Some (Some plan)) k0 k1 r0 r1 (record { status = status_of e; fault = fault_of e; history = h; disks = d1 ∷ [] })
+end_shown : (plan : Plan) (k0 k1 : SinkSeen) (r0 r1 : ℕ) (h : HistorySeen) (mid d1 : DiskSeen) (e : Ending) → Kept plan h.entries (d1 ∷ []) → ToldAlone 1 (plan_lines plan) h.entries → d1.content ≡ mid.content → IfSome mid.content (Facts plan h.entries) → ((low : ℕ) (fault : DiskFault) → mid.faults ≤ low → IsFaultAfter low d1 fault → HasLateCause h (d1 ∷ []) fault) → IsShown (head plan h.entries) (length plan.file.bytes) k0 k1 mid d1 e → Ended (Some (Some plan)) k0 k1 r0 r1 (record { status = status_of e; fault = fault_of e; history = h; disks = d1 ∷ [] })
 end_shown plan k0 k1 r0 r1 h mid d1 ending.Whole kept told still facts cause shown = ended_whole plan k0 k1 r0 r1 h (d1 ∷ []) kept told (subst (λ (o : Option (List (List ℕ))). IfSome o (λ bs. Wrote k0 k1 (whole_text plan h.entries))) (sym still) (if_two mid.content (λ bs f w. subst (λ (t : List ℕ). Wrote k0 k1 t) (text_is plan h.entries bs f) w) facts shown)) (closed_of plan h.entries mid.content d1.content still facts)
 end_shown plan k0 k1 r0 r1 h mid d1 ending.Sink kept told still facts cause shown = ended_sink plan k0 k1 r0 r1 h (d1 ∷ []) kept told shown.0 (subst (λ (o : Option (List (List ℕ))). IfSome o (λ bs. WroteFront k0 k1 (whole_text plan h.entries))) (sym still) (if_two mid.content (λ bs f w. subst (λ (t : List ℕ). WroteFront k0 k1 t) (text_is plan h.entries bs f) w) facts shown.1)) (closed_of plan h.entries mid.content d1.content still facts)
 end_shown plan k0 k1 r0 r1 h mid d1 ending.Memory kept told still facts cause shown = ended_memory plan k0 k1 r0 r1 h (d1 ∷ []) kept (subst (λ (o : Option (List (List ℕ))). IfSome o (λ bs. WroteFront k0 k1 (whole_text plan h.entries))) (sym still) (if_two mid.content (λ bs f w. subst (λ (t : List ℕ). WroteFront k0 k1 t) (text_is plan h.entries bs f) w) facts shown))

@@ -8,7 +8,7 @@ use Rattle.vm_types.specs.declared.call.Entry.{Entry}
 use Rattle.flat_model.specs.Flat.{Flat}
 use Rattle.flat_model.specs.Counted.{Counted}
 use Rattle.flat_model.specs.History.{Legal}
-use Rattle.flat_model.specs.Told.{PlanLine, Told}
+use Rattle.flat_model.specs.Told.{SpelledLine, ToldAlone}
 use Rattle.block_device.specs.Counts.{HasRisen}
 use Rattle.block_device.specs.DiskSeen.{DiskSeen}
 use Rattle.block_device.specs.OpenSeen.{OpenFaultSeen}
@@ -19,7 +19,7 @@ use Rattle.sunvm.specs.declared.outcome.RunFault.{RunFault}
 use Rattle.sunvm.specs.declared.outcome.RunFault.TheVariants.{Opening, Closing, Showing}
 use Rattle.sunvm.specs.Report.{process_section}
 use Rattle.sunvm.specs.Script.{Plan}
-use Rattle.sunvm.specs.Run.{IfPlan, IfTold, IsOne, HaveBlocks, blocks_in, opening, plan_lines, ToldFront, whole_text, counts_line, open_fault_line, early_text, Wrote, WroteFront, WroteTaken, WroteUpTo, Closed, IfOpening, IsNoRun, HasOpenCause, HasLateCause, CountsReach, IsDiskFault, IsComplete}
+use Rattle.sunvm.specs.Run.{IfPlan, IfTold, IsOne, HaveBlocks, blocks_in, opening, plan_lines, ToldFront, whole_text, counts_line, open_fault_line, early_text, Wrote, WroteFront, WroteTaken, WroteUpTo, Closed, IfOpening, IsNoRun, HasOpenCause, HasLateCause, CountsReach, IsCountedFault, IsComplete}
 use Rattle.sunvm.specs.Parts.{End, Ended, IsUntold}
 
 pub if_some_any : {X : Type 0} (o : Option X) (P : X → Type 0) → ((x : X) → P x) → IfSome o P
@@ -37,7 +37,7 @@ if_none_any (Some x) P holds = tt
 legal_none : (F : Flat) → Legal F []
 legal_none F = record { steps = tt; syncs = λ k e is. cc; parts = tt }
 
-told_none : (lines : List PlanLine) → ToldFront 1 lines []
+told_none : (lines : List SpelledLine) → ToldFront 1 lines []
 told_none lines = (0, record { own = refl; alone = All-nil (λ (e : Entry). e.process ≡ 1) })
 
 counted_none : Counted []
@@ -193,7 +193,7 @@ ended_memory plan old new r0 r1 h ds kept wrote = record {
   showing_cause = tt;
 }
 
-pub ended_whole : (plan : Plan) (old new : SinkSeen) (r0 r1 : ℕ) (h : HistorySeen) (ds : List DiskSeen) → Kept plan h.entries ds → Told 1 (plan_lines plan) h.entries → IfTold ds (Wrote old new (whole_text plan h.entries)) → IfSome (blocks_in ds) (Closed plan h.entries) → Ended (Some (Some plan)) old new r0 r1 (record { status = 0; fault = None; history = h; disks = ds })
+pub ended_whole : (plan : Plan) (old new : SinkSeen) (r0 r1 : ℕ) (h : HistorySeen) (ds : List DiskSeen) → Kept plan h.entries ds → ToldAlone 1 (plan_lines plan) h.entries → IfTold ds (Wrote old new (whole_text plan h.entries)) → IfSome (blocks_in ds) (Closed plan h.entries) → Ended (Some (Some plan)) old new r0 r1 (record { status = 0; fault = None; history = h; disks = ds })
 ended_whole plan old new r0 r1 h ds kept told wrote closed = record {
   handed = λ it. kept.one;
   blocks = λ it. kept.blocks;
@@ -219,7 +219,7 @@ ended_whole plan old new r0 r1 h ds kept told wrote closed = record {
   showing_cause = tt;
 }
 
-pub ended_sink : (plan : Plan) (old new : SinkSeen) (r0 r1 : ℕ) (h : HistorySeen) (ds : List DiskSeen) → Kept plan h.entries ds → Told 1 (plan_lines plan) h.entries → HasRisen old.faults new.faults → IfTold ds (WroteFront old new (whole_text plan h.entries)) → IfSome (blocks_in ds) (Closed plan h.entries) → Ended (Some (Some plan)) old new r0 r1 (record { status = 6; fault = None; history = h; disks = ds })
+pub ended_sink : (plan : Plan) (old new : SinkSeen) (r0 r1 : ℕ) (h : HistorySeen) (ds : List DiskSeen) → Kept plan h.entries ds → ToldAlone 1 (plan_lines plan) h.entries → HasRisen old.faults new.faults → IfTold ds (WroteFront old new (whole_text plan h.entries)) → IfSome (blocks_in ds) (Closed plan h.entries) → Ended (Some (Some plan)) old new r0 r1 (record { status = 6; fault = None; history = h; disks = ds })
 ended_sink plan old new r0 r1 h ds kept told risen wrote closed = record {
   handed = λ it. kept.one;
   blocks = λ it. kept.blocks;
@@ -245,7 +245,7 @@ ended_sink plan old new r0 r1 h ds kept told risen wrote closed = record {
   showing_cause = tt;
 }
 
-pub ended_closing : (plan : Plan) (old new : SinkSeen) (r0 r1 : ℕ) (fault : DiskFault) (h : HistorySeen) (ds : List DiskSeen) → Kept plan h.entries ds → Told 1 (plan_lines plan) h.entries → WroteTaken old new (process_section h.entries ++ counts_line fault.disk fault.before fault.after) → HasLateCause h ds fault → Ended (Some (Some plan)) old new r0 r1 (record { status = 7; fault = Some (Closing fault); history = h; disks = ds })
+pub ended_closing : (plan : Plan) (old new : SinkSeen) (r0 r1 : ℕ) (fault : DiskFault) (h : HistorySeen) (ds : List DiskSeen) → Kept plan h.entries ds → ToldAlone 1 (plan_lines plan) h.entries → WroteTaken old new (process_section h.entries ++ counts_line fault.disk fault.before fault.after) → HasLateCause h ds fault → Ended (Some (Some plan)) old new r0 r1 (record { status = 7; fault = Some (Closing fault); history = h; disks = ds })
 ended_closing plan old new r0 r1 fault h ds kept told wrote cause = record {
   handed = λ it. kept.one;
   blocks = λ it. kept.blocks;
@@ -271,7 +271,7 @@ ended_closing plan old new r0 r1 fault h ds kept told wrote cause = record {
   showing_cause = tt;
 }
 
-pub ended_showing : (plan : Plan) (old new : SinkSeen) (r0 r1 : ℕ) (fault : DiskFault) (h : HistorySeen) (ds : List DiskSeen) → Kept plan h.entries ds → Told 1 (plan_lines plan) h.entries → IfTold ds (WroteUpTo old new plan h.entries (counts_line fault.disk fault.before fault.after)) → IfSome (blocks_in ds) (Closed plan h.entries) → HasLateCause h ds fault → Ended (Some (Some plan)) old new r0 r1 (record { status = 7; fault = Some (Showing fault); history = h; disks = ds })
+pub ended_showing : (plan : Plan) (old new : SinkSeen) (r0 r1 : ℕ) (fault : DiskFault) (h : HistorySeen) (ds : List DiskSeen) → Kept plan h.entries ds → ToldAlone 1 (plan_lines plan) h.entries → IfTold ds (WroteUpTo old new plan h.entries (counts_line fault.disk fault.before fault.after)) → IfSome (blocks_in ds) (Closed plan h.entries) → HasLateCause h ds fault → Ended (Some (Some plan)) old new r0 r1 (record { status = 7; fault = Some (Showing fault); history = h; disks = ds })
 ended_showing plan old new r0 r1 fault h ds kept told wrote closed cause = record {
   handed = λ it. kept.one;
   blocks = λ it. kept.blocks;
@@ -311,7 +311,7 @@ opening_counted : (r0 r1 : ℕ) (ds : List DiskSeen) (disk : ℕ) (counts : Opti
 opening_counted r0 r1 ds disk None rack cause = absurd (rack cause.1)
 opening_counted r0 r1 ds disk (Some counts) rack cause = refl
 
-disk_fault : (r0 r1 : ℕ) (ds : List DiskSeen) (f : Option RunFault) → (HasRisen r0 r1 → ⊥) → IsSome f → IfOpening f (HasOpenCause r0 r1 ds) → IsDiskFault f
+disk_fault : (r0 r1 : ℕ) (ds : List DiskSeen) (f : Option RunFault) → (HasRisen r0 r1 → ⊥) → IsSome f → IfOpening f (HasOpenCause r0 r1 ds) → IsCountedFault f
 disk_fault r0 r1 ds None rack some opening = cc
 disk_fault r0 r1 ds (Some (Opening fault)) rack some opening = opening_counted r0 r1 ds fault.disk fault.counts rack opening
 disk_fault r0 r1 ds (Some (Closing fault)) rack some opening = tt

@@ -2,10 +2,10 @@
 use Rattle.std.proofs.Common.{◌≡◌, ℕ, List, [], ◌∷◌, length, map, refl, sym, ap, ◌∙◌, subst, arith, inl, inr}
 use Rattle.std.specs.Prelude.{Option, Some, None, IfSome, IfNone, IsSome}
 use Rattle.flat_model.specs.Flat.{Flat}
-use Rattle.vnode_files.specs.declared.entry.FileInfo.{FileInfo}
+use Rattle.vnode_files.specs.declared.vnode.FileInfo.{FileInfo}
 use Rattle.block_device.specs.DiskSeen.{DiskSeen}
 use Rattle.vm_core.specs.declared.history.DiskFault.{DiskFault}
-use Rattle.vm_core.specs.State.{StateSeen, Fits, IsClean, disks_seen, blocks_of, info_of, HoldsPages}
+use Rattle.vm_core.specs.State.{StateSeen, Fits, IsCleanOnDisk, disks_seen, blocks_of, info_of, HoldsPages}
 use Rattle.vm_core.specs.Closing.{HistorySeen, count_of, counts_of, KeepsOutside, AreSame, HoldsFile, IsFault}
 use Rattle.sunvm.specs.Run.{first_file}
 use Rattle.sunvm.specs.Playing.{IsDisk0, size_of}
@@ -65,7 +65,7 @@ leaves_of F s info is fits = record {
 }
 
 -- the blocks hold the file's pages
-pub holds_of : (F : Flat) (s : StateSeen) (info : FileInfo) (disks : List (ℕ × DiskSeen)) (fault : Option DiskFault) → info_of s ≡ info → Fits F s → IfNone fault (IsClean s → HoldsFile s disks) → IfNone fault (IfSome (blocks_of disks) (HoldsBytes F info s.history))
+pub holds_of : (F : Flat) (s : StateSeen) (info : FileInfo) (disks : List (ℕ × DiskSeen)) (fault : Option DiskFault) → info_of s ≡ info → Fits F s → IfNone fault (IsCleanOnDisk s → HoldsFile s disks) → IfNone fault (IfSome (blocks_of disks) (HoldsBytes F info s.history))
 holds_of F s info disks (Some fault) is fits closed = tt
 holds_of F s info disks None is fits closed =
     let P : FileInfo → Type 0 = λ i. IfSome (blocks_of disks) (HoldsPages i s.pages) in

@@ -12,10 +12,9 @@ use Rattle.vm_types.specs.declared.call.Entry.{Entry}
 use Rattle.vm_types.specs.WellFormed.{IsWellFormed}
 use Rattle.flat_model.specs.Words.{IsPage, pages_in}
 use Rattle.flat_model.specs.Flat.{Cell, File, Space, IsFile, IsFlat, cell_at}
-use Rattle.flat_model.specs.FlatLaws.{HasBytes}
 use Rattle.flat_model.specs.History.{replay, Steps}
-use Rattle.flat_model.specs.Parts.{cut}
-use Rattle.flat_model.proofs.FileBytes.{Whole, Whole-pages, length-cut}
+use Rattle.flat_model.specs.Parts.{pages_of_bytes}
+use Rattle.flat_model.proofs.FileBytes.{Whole, Whole-pages, length-pages_of_bytes}
 use Rattle.flat_model.proofs.Ranges.{get-insert_here, get-insert_apart}
 use Rattle.flat_model.proofs.WellFormed.{IsFlat-replay}
 use Rattle.sunvm.specs.Script.{Plan}
@@ -27,9 +26,9 @@ length-filled bytes = omega (arith, length-append bytes (replicate (4096 * pages
 all_zeros : (n : ℕ) → All (λ b. b < 256) (replicate n 0)
 all_zeros n = All-replicate (λ b. b < 256) n 0 (omega arith)
 
-cut_pages : (n : ℕ) (bytes : List ℕ) → length bytes ≡ 4096 * n → All (λ b. b < 256) bytes → All IsPage (cut n bytes)
+cut_pages : (n : ℕ) (bytes : List ℕ) → length bytes ≡ 4096 * n → All (λ b. b < 256) bytes → All IsPage (pages_of_bytes n bytes)
 cut_pages zero bytes whole all = All-nil IsPage
-cut_pages (suc n) bytes whole all = All-cons IsPage (take 4096 bytes) (cut n (drop 4096 bytes))
+cut_pages (suc n) bytes whole all = All-cons IsPage (take 4096 bytes) (pages_of_bytes n (drop 4096 bytes))
     (record { whole = omega (arith, whole, length-take 4096 bytes); bytes = All-take (λ b. b < 256) 4096 bytes all })
     (cut_pages n (drop 4096 bytes) (omega (arith, whole, length-drop 4096 bytes)) (All-drop (λ b. b < 256) 4096 bytes all))
 
@@ -52,7 +51,7 @@ opening_flat plan bytes = record {
   pages = λ p q c at. absurd (no_cell plan p q c at);
   cells = λ p q c at. absurd (no_cell plan p q c at);
   files = All-cons IsFile (opening_file plan) [] (record {
-    count = length-cut (pages_in (length plan.file.bytes)) (filled plan.file.bytes);
+    count = length-pages_of_bytes (pages_in (length plan.file.bytes)) (filled plan.file.bytes);
     pages = cut_pages (pages_in (length plan.file.bytes)) (filled plan.file.bytes) (length-filled plan.file.bytes) (All-append (λ b. b < 256) plan.file.bytes _ bytes (all_zeros _));
   }) (All-nil IsFile);
   zeros = λ z pages at. absurd (let both : None ≡ Some pages = sym (finite.get-empty nat_cmp z) ∙ at in cc);
@@ -67,5 +66,5 @@ first_whole [] all = (tt, refl)
 first_whole (f ∷ fs) all = let file = all 0 f (omega arith) in (Whole-pages f.pages file.pages, file.count)
 
 -- the file after a history has whole pages, as many as its length takes
-pub file_whole : (plan : Plan) (H : List Entry) → All (λ b. b < 256) plan.file.bytes → All (λ e. IsWellFormed e.call × HasBytes e.call) H → Steps (opening plan) H → Whole (first_file (replay (opening plan) H).files).pages × (length (first_file (replay (opening plan) H).files).pages ≡ pages_in (first_file (replay (opening plan) H).files).len)
+pub file_whole : (plan : Plan) (H : List Entry) → All (λ b. b < 256) plan.file.bytes → All (λ e. IsWellFormed e.call) H → Steps (opening plan) H → Whole (first_file (replay (opening plan) H).files).pages × (length (first_file (replay (opening plan) H).files).pages ≡ pages_in (first_file (replay (opening plan) H).files).len)
 file_whole plan H bytes calls steps = first_whole (replay (opening plan) H).files (IsFlat-replay (opening plan) H (opening_flat plan bytes) calls steps).files

@@ -6,7 +6,7 @@ use Rattle.std.proofs.lemmas.List.Elements.{All-append, All-cons, All-nil}
 use Rattle.std.specs.FinMap as finite
 use Rattle.std.specs.Ordering.{nat_cmp}
 use Rattle.vm_types.specs.declared.call.Call.{Call}
-use Rattle.vm_types.specs.declared.call.Call.TheVariants.{Load, Store, Map, Unmap, Protect, Sync, Read, Write, Fork, Exit}
+use Rattle.vm_types.specs.declared.call.Call.TheVariants.{Load, Store, Map, Unmap, Protect, Sync, Read, Write, Truncate, Fork, Exit}
 use Rattle.vm_types.specs.declared.call.Kind.{Kind}
 use Rattle.vm_types.specs.declared.call.Kind.TheVariants.{Shared, Private}
 use Rattle.vm_types.specs.declared.call.Object.TheVariants as object
@@ -20,14 +20,14 @@ use Rattle.vm_types.specs.declared.call.Reply.TheVariants as reply
 use Rattle.vm_types.specs.Prot.{can_read, can_write}
 use Rattle.flat_model.specs.Flat.{Cell, Flat, space_of}
 use Rattle.flat_model.specs.Words.{Page, page, pages_in, word_put}
-use Rattle.flat_model.specs.Access.{met, written, with_page, with_cell}
+use Rattle.flat_model.specs.Access.{access_target, with_page_stored, with_page, with_cell}
 use Rattle.flat_model.specs.Space.{with_cells}
-use Rattle.flat_model.specs.Mapping.{Request, mapped, mapped_at, cleared_for, cells_of, new_cell}
-use Rattle.flat_model.specs.Refusals.{Outcome, or_signal, or_refused}
-use Rattle.flat_model.specs.Step.{outcome, acted, step}
+use Rattle.flat_model.specs.Mapping.{Request, map_result, with_mapping, without_replaced, cells_of, new_cell}
+use Rattle.flat_model.specs.Refusals.{Effect, or_signal, or_refused}
+use Rattle.flat_model.specs.Step.{effect, after_act, step}
 use Rattle.flat_model.specs.History.{is_io}
 use Rattle.flat_model.proofs.Cuts.{map_push}
-use Rattle.flat_model.proofs.Mappings.{is_mapped, spaces-mapped_at}
+use Rattle.flat_model.proofs.Mappings.{is_mapped, spaces-with_mapping}
 use Rattle.flat_model.proofs.Ranges.{get-insert_here}
 use Rattle.vm_core.specs.State.{StateSeen, flat, Fits}
 use Rattle.vm_core.specs.Calls.{IsKnown, entry_of}
@@ -42,7 +42,7 @@ IsAlive F = IsSome (space_of F 1)
 inserted : {X : Type 0} (m : finite.FinMap nat_cmp X) (k : ℕ) (v : X) → IsSome (finite.get (finite.insert m k v) k)
 inserted {X} m k v = let P : Option X → Type 0 = λ o. IsSome o in subst P (sym (get-insert_here m k v)) refl
 
-signal_alive : {A : Type 0} (F : Flat) (acts : A → Outcome) (r : Result A Signal) → IsAlive F → ((x : A) → IsAlive (acts x).after) → IsAlive (or_signal F acts r).after
+signal_alive : {A : Type 0} (F : Flat) (acts : A → Effect) (r : Result A Signal) → IsAlive F → ((x : A) → IsAlive (acts x).after) → IsAlive (or_signal F acts r).after
 signal_alive F acts (Ok x) alive still = still x
 signal_alive F acts (Err s) alive still = alive
 
@@ -51,39 +51,40 @@ page_alive F (object.File f) i new alive = alive
 page_alive F (object.Zero z) i new alive = alive
 page_alive F object.NewZero i new alive = alive
 
-written_alive : (F : Flat) (q : ℕ) (c : Cell) (new : Page) → IsAlive F → IsAlive (written F 1 q c new)
+written_alive : (F : Flat) (q : ℕ) (c : Cell) (new : Page) → IsAlive F → IsAlive (with_page_stored F 1 q c new)
 written_alive F q c new alive = by_kind c.kind
   where
     by_kind : (k : Kind) → IsAlive (elim k as (λ x. Flat) [ Shared ↦ with_page F c.object c.index new | Private ↦ with_cell F 1 q (record c { own = Some new }) ])
     by_kind Shared = page_alive F c.object c.index new alive
     by_kind Private = inserted F.spaces 1 (finite.insert (unwrap_or (space_of F 1) finite.empty) q (record c { own = Some new }))
 
-mapped_alive : (F : Flat) (r : Request) (first : ℕ) (G : Flat) → mapped F 1 r ≡ Ok (first, G) → IsAlive G
+mapped_alive : (F : Flat) (r : Request) (first : ℕ) (G : Flat) → map_result F 1 r ≡ Ok (first, G) → IsAlive G
 mapped_alive F r first G is =
     let m = is_mapped F 1 r first G is in
     let P : Flat → Type 0 = λ H. IsAlive H in
-    let cleared = cleared_for F 1 r.place (pages_in r.len) in
+    let cleared = without_replaced F 1 r.place (pages_in r.len) in
     let new = with_cells (cells_of cleared 1) first (pages_in r.len) (new_cell F cleared r) in
-    let at : finite.get (mapped_at F 1 r first).spaces 1 ≡ Some new = ap (λ spaces. finite.get spaces 1) (spaces-mapped_at F 1 r first) ∙ get-insert_here cleared.spaces 1 new in
+    let at : finite.get (with_mapping F 1 r first).spaces 1 ≡ Some new = ap (λ spaces. finite.get spaces 1) (spaces-with_mapping F 1 r first) ∙ get-insert_here cleared.spaces 1 new in
     subst P (sym m.after) (subst (λ o. IsSome o) (sym at) refl)
 
-map_alive : (F : Flat) (r : Request) (result : Result (ℕ × Flat) Errno) → mapped F 1 r ≡ result → IsAlive F → IsAlive (or_refused F (λ m. record { reply = reply.Mapped (4096 * m.0); after = m.1 }) result).after
+map_alive : (F : Flat) (r : Request) (result : Result (ℕ × Flat) Errno) → map_result F 1 r ≡ result → IsAlive F → IsAlive (or_refused F (λ m. record { reply = reply.Mapped (4096 * m.0); after = m.1 }) result).after
 map_alive F r (Ok m) is alive = mapped_alive F r m.0 m.1 is
 map_alive F r (Err e) is alive = alive
 
-outcome_alive : (F : Flat) (call : Call) → IsLineCall call → IsAlive F → IsAlive (outcome F 1 call).after
-outcome_alive F (Load a n) line alive = signal_alive F _ (met F 1 can_read a n) alive (λ m. alive)
-outcome_alive F (Store a n v) line alive = signal_alive F _ (met F 1 can_write a n) alive (λ m. written_alive F (page a) m.0 (word_put m.1 a n v) alive)
-outcome_alive F (Map place len prot kind o offset) line alive = map_alive F (record { place = place; len = len; prot = prot; kind = kind; object = o; offset = offset }) (mapped F 1 (record { place = place; len = len; prot = prot; kind = kind; object = o; offset = offset })) refl alive
+outcome_alive : (F : Flat) (call : Call) → IsLineCall call → IsAlive F → IsAlive (effect F 1 call).after
+outcome_alive F (Load a n) line alive = signal_alive F _ (access_target F 1 can_read a n) alive (λ m. alive)
+outcome_alive F (Store a n v) line alive = signal_alive F _ (access_target F 1 can_write a n) alive (λ m. written_alive F (page a) m.0 (word_put m.1 a n v) alive)
+outcome_alive F (Map place len prot kind o offset) line alive = map_alive F (record { place = place; len = len; prot = prot; kind = kind; object = o; offset = offset }) (map_result F 1 (record { place = place; len = len; prot = prot; kind = kind; object = o; offset = offset })) refl alive
 outcome_alive F (Unmap a len) line alive = absurd line
 outcome_alive F (Protect a len prot) line alive = absurd line
 outcome_alive F (Sync a len) line alive = absurd line
 outcome_alive F (Read file offset len) line alive = absurd line
 outcome_alive F (Write file offset text rest) line alive = absurd line
+outcome_alive F (Truncate file len) line alive = absurd line
 outcome_alive F (Fork child) line alive = absurd line
 outcome_alive F Exit line alive = absurd line
 
-acted_alive : (F : Flat) (call : Call) (r : Reply) → IsLineCall call → IsAlive F → IsAlive (acted F (entry_of 1 call r))
+acted_alive : (F : Flat) (call : Call) (r : Reply) → IsLineCall call → IsAlive F → IsAlive (after_act F (entry_of 1 call r))
 acted_alive F call reply.Done line alive = outcome_alive F call line alive
 acted_alive F call (reply.Word w) line alive = outcome_alive F call line alive
 acted_alive F call (reply.Mapped a) line alive = outcome_alive F call line alive
@@ -111,6 +112,7 @@ known (Protect a len prot) line = absurd line
 known (Sync a len) line = absurd line
 known (Read file offset len) line = absurd line
 known (Write file offset text rest) line = absurd line
+known (Truncate file len) line = absurd line
 known (Fork child) line = absurd line
 known Exit line = absurd line
 

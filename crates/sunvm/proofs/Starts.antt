@@ -3,14 +3,15 @@ use Rattle.std.proofs.Common.{◌≡◌, ℕ, ◌<◌, Bool, true, List, [], ◌
 use Rattle.std.specs.Prelude.{Option, Some, None, IfSome, IfNone, IsSome, IsTrue}
 use Rattle.std.specs.FinMap as finite
 use Rattle.std.specs.FinSet as set
+use Rattle.std.specs.Ordering.{nat_cmp}
 use Rattle.flat_model.specs.Words.{Page, pages_in}
 use Rattle.flat_model.specs.Flat.{Flat, Space, space_of}
-use Rattle.flat_model.specs.Parts.{cut}
+use Rattle.flat_model.specs.Parts.{pages_of_bytes}
 use Rattle.flat_model.proofs.Ranges.{get-insert_here}
-use Rattle.vnode_files.specs.declared.entry.FileInfo.{FileInfo}
+use Rattle.vnode_files.specs.declared.vnode.FileInfo.{FileInfo}
 use Rattle.vnode_files.specs.Files as vnode
 use Rattle.block_device.specs.DiskSeen.{DiskSeen}
-use Rattle.vm_core.specs.State.{StateSeen, flat, file_of, spaces_of, Fits, disks_seen, blocks_of, info_of, IsOnDisks, HoldsPages}
+use Rattle.vm_core.specs.State.{StateSeen, flat, file_of, sizes_of, spaces_of, Fits, disks_seen, blocks_of, info_of, IsOnDisks, HoldsPages}
 use Rattle.vm_core.specs.Table.{cells}
 use Rattle.sunvm.specs.Script.{Plan}
 use Rattle.sunvm.specs.Run.{filled, opening}
@@ -19,26 +20,28 @@ use Rattle.vm_core.specs.Closing.{HistorySeen}
 use Rattle.sunvm.specs.Ending.{IsPlayed}
 use Rattle.sunvm.specs.Playing.{IsDisk0, size_of}
 use Rattle.sunvm.specs.Parts.{plan_info, Makes, Leaves, HoldsBytes, HasCount, IsLateFault}
+use Rattle.sunvm.specs.Running.{files_of}
 use Rattle.sunvm.proofs.Sinks.{if_both}
 
 -- the file of a list of one
-pub file_is : (files : List vnode.File) (info : FileInfo) → files ≡ vnode.opened info ∷ [] → (vnode.file_at files 0).info ≡ info
-file_is files info is = ap (λ (fs : List vnode.File). (vnode.file_at fs 0).info) is
+pub file_is : (files : vnode.FilesSeen) (plan : Plan) → files ≡ files_of plan → (vnode.vnode_at files 0).info ≡ plan_info plan
+file_is files plan is = ap (λ (fs : vnode.FilesSeen). (vnode.vnode_at fs 0).info) is
 
 pub disks_are : {D : Type 0} (seen : D → DiskSeen) (disks : List (ℕ × D)) (d : D) → disks ≡ (0, d) ∷ [] → disks_seen seen disks ≡ (0, seen d) ∷ []
 disks_are seen disks d is = ap (disks_seen seen) is
 
-pub on_disks : {D : Type 0} (seen : D → DiskSeen) (files : List vnode.File) (disks : List (ℕ × D)) (plan : Plan) (d : D) → files ≡ vnode.opened (plan_info plan) ∷ [] → disks ≡ (0, d) ∷ [] → plan.file.pages < plan.blocks → (seen d).size ≡ plan.blocks → IsOnDisks (vnode.file_at files 0).info (disks_seen seen disks)
+pub on_disks : {D : Type 0} (seen : D → DiskSeen) (files : vnode.FilesSeen) (disks : List (ℕ × D)) (plan : Plan) (d : D) → files ≡ files_of plan → disks ≡ (0, d) ∷ [] → plan.file.pages < plan.blocks → (seen d).size ≡ plan.blocks → IsOnDisks (vnode.vnode_at files 0).info (disks_seen seen disks)
 on_disks seen files disks plan d files_is disks_is inside size =
     let P : FileInfo → Type 0 = λ i. IsOnDisks i (disks_seen seen disks) in
     let Q : List (ℕ × DiskSeen) → Type 0 = λ ds. IsOnDisks (plan_info plan) ds in
-    subst P (sym (file_is files (plan_info plan) files_is)) (subst Q (sym (disks_are seen disks d disks_is)) (record { number = refl; past = omega arith; inside = omega (arith, inside, size) }))
+    subst P (sym (file_is files plan files_is)) (subst Q (sym (disks_are seen disks d disks_is)) (record { number = refl; one = refl; past = omega arith; inside = omega (arith, inside, size) }))
 
-pub reads_pages : {D : Type 0} (seen : D → DiskSeen) (files : List vnode.File) (disks : List (ℕ × D)) (info : FileInfo) (d : D) (pages : List ℕ) → files ≡ vnode.opened info ∷ [] → disks ≡ (0, d) ∷ [] → IfSome (seen d).content (HoldsPages info (cut (pages_in info.length) pages)) → IfSome (blocks_of (disks_seen seen disks)) (HoldsPages (vnode.file_at files 0).info (cut (pages_in (vnode.file_at files 0).info.length) pages))
-reads_pages seen files disks info d pages files_is disks_is holds =
-    let P : FileInfo → Type 0 = λ i. IfSome (blocks_of (disks_seen seen disks)) (HoldsPages i (cut (pages_in i.length) pages)) in
-    let Q : List (ℕ × DiskSeen) → Type 0 = λ ds. IfSome (blocks_of ds) (HoldsPages info (cut (pages_in info.length) pages)) in
-    subst P (sym (file_is files info files_is)) (subst Q (sym (disks_are seen disks d disks_is)) holds)
+pub reads_pages : {D : Type 0} (seen : D → DiskSeen) (files : vnode.FilesSeen) (disks : List (ℕ × D)) (plan : Plan) (d : D) (pages : List ℕ) → files ≡ files_of plan → disks ≡ (0, d) ∷ [] → IfSome (seen d).content (HoldsPages (plan_info plan) (pages_of_bytes (pages_in (plan_info plan).length) pages)) → IfSome (blocks_of (disks_seen seen disks)) (HoldsPages (vnode.vnode_at files 0).info (pages_of_bytes (pages_in (vnode.vnode_at files 0).info.length) pages))
+reads_pages seen files disks plan d pages files_is disks_is holds =
+    let info = plan_info plan in
+    let P : FileInfo → Type 0 = λ i. IfSome (blocks_of (disks_seen seen disks)) (HoldsPages i (pages_of_bytes (pages_in i.length) pages)) in
+    let Q : List (ℕ × DiskSeen) → Type 0 = λ ds. IfSome (blocks_of ds) (HoldsPages info (pages_of_bytes (pages_in info.length) pages)) in
+    subst P (sym (file_is files plan files_is)) (subst Q (sym (disks_are seen disks d disks_is)) holds)
 
 -- the process is alive
 pub alive_at : (s : StateSeen) → s.alive ≡ true → IsSome (space_of (flat s) 1)
@@ -52,31 +55,36 @@ pub disk_0 : (ds : List (ℕ × DiskSeen)) (d : DiskSeen) → ds ≡ (0, d) ∷ 
 disk_0 ds d is = subst IsDisk0 (sym is) refl
 
 -- flat memory as the kernel starts
-made : ℕ → FileInfo → List Page → Bool → Space → Flat
-made slots info pages alive space = record { slots = slots; files = file_of info pages ∷ []; zeros = finite.empty; spaces = spaces_of alive space; born = set.insert set.empty 1 }
+made : ℕ → finite.FinMap nat_cmp ℕ → FileInfo → List Page → Bool → Space → Flat
+made slots disks info pages alive space = record { slots = slots; disks = disks; files = file_of info pages ∷ []; zeros = finite.empty; spaces = spaces_of alive space; born = set.insert set.empty 1 }
 
-pub flat_is : (plan : Plan) (s : StateSeen) (pages : List ℕ) → s.slots ≡ 0 → info_of s ≡ plan_info plan → s.pages ≡ cut (pages_in (length plan.file.bytes)) pages → pages ≡ filled plan.file.bytes → s.alive ≡ true → cells s.table ≡ finite.empty → flat s ≡ opening plan
+disks_is : (s : StateSeen) (d : DiskSeen) (n : ℕ) → s.disks ≡ (0, d) ∷ [] → d.size ≡ n → sizes_of s.disks ≡ finite.insert finite.empty 0 n
+disks_is s d n is size = ap sizes_of is ∙ ap (finite.insert finite.empty 0) size
+
+pub flat_is : (plan : Plan) (s : StateSeen) (pages : List ℕ) → s.slots ≡ 0 → sizes_of s.disks ≡ finite.insert finite.empty 0 plan.blocks → info_of s ≡ plan_info plan → s.pages ≡ pages_of_bytes (pages_in (length plan.file.bytes)) pages → pages ≡ filled plan.file.bytes → s.alive ≡ true → cells s.table ≡ finite.empty → flat s ≡ opening plan
 unfolding made
-flat_is plan s pages slots info pages_are bytes alive space =
-    ap (λ x. made x (info_of s) s.pages s.alive (cells s.table)) slots
-    ∙ ap (λ x. made 0 x s.pages s.alive (cells s.table)) info
-    ∙ ap (λ x. made 0 (plan_info plan) x s.alive (cells s.table)) (pages_are ∙ ap (cut (pages_in (length plan.file.bytes))) bytes)
-    ∙ ap (λ x. made 0 (plan_info plan) (cut (pages_in (length plan.file.bytes)) (filled plan.file.bytes)) x (cells s.table)) alive
-    ∙ ap (λ x. made 0 (plan_info plan) (cut (pages_in (length plan.file.bytes)) (filled plan.file.bytes)) true x) space
+flat_is plan s pages slots disks info pages_are bytes alive space =
+    let blocks : finite.FinMap nat_cmp ℕ = finite.insert finite.empty 0 plan.blocks in
+    ap (λ x. made x (sizes_of s.disks) (info_of s) s.pages s.alive (cells s.table)) slots
+    ∙ ap (λ x. made 0 x (info_of s) s.pages s.alive (cells s.table)) disks
+    ∙ ap (λ x. made 0 blocks x s.pages s.alive (cells s.table)) info
+    ∙ ap (λ x. made 0 blocks (plan_info plan) x s.alive (cells s.table)) (pages_are ∙ ap (pages_of_bytes (pages_in (length plan.file.bytes))) bytes)
+    ∙ ap (λ x. made 0 blocks (plan_info plan) (pages_of_bytes (pages_in (length plan.file.bytes)) (filled plan.file.bytes)) x (cells s.table)) alive
+    ∙ ap (λ x. made 0 blocks (plan_info plan) (pages_of_bytes (pages_in (length plan.file.bytes)) (filled plan.file.bytes)) true x) space
 
 -- A kernel that started with a plan's file over a disk.
 pub record Started (plan : Plan) (d : DiskSeen) (pages : List ℕ) (s : StateSeen) : Type 0 where
   pub slots : s.slots ≡ 0
   pub info : info_of s ≡ plan_info plan
-  pub read : s.pages ≡ cut (pages_in (length plan.file.bytes)) pages
+  pub read : s.pages ≡ pages_of_bytes (pages_in (length plan.file.bytes)) pages
   pub space : cells s.table ≡ finite.empty
   pub alive : s.alive ≡ true
   pub disks : s.disks ≡ (0, d) ∷ []
   pub fits : Fits (flat s) s
 
 -- where the disk tells, it fits the plan's opening
-fits_told : (plan : Plan) (d : DiskSeen) (pages : List ℕ) (s : StateSeen) → Started plan d pages s → IfSome d.content (λ b. pages ≡ filled plan.file.bytes) → IfSome d.content (λ b. Fits (opening plan) s)
-fits_told plan d pages s started told = if_both d.content (λ b is. subst (λ (F : Flat). Fits F s) (flat_is plan s pages started.slots started.info started.read is started.alive started.space) started.fits) told
+fits_told : (plan : Plan) (d : DiskSeen) (pages : List ℕ) (s : StateSeen) → Started plan d pages s → d.size ≡ plan.blocks → IfSome d.content (λ b. pages ≡ filled plan.file.bytes) → IfSome d.content (λ b. Fits (opening plan) s)
+fits_told plan d pages s started size told = if_both d.content (λ b is. subst (λ (F : Flat). Fits F s) (flat_is plan s pages started.slots (disks_is s d plan.blocks started.disks size) started.info started.read is started.alive started.space) started.fits) told
 
 told_since : (o q : Option (List (List ℕ))) (P : Type 0) → IfSome o (λ b. IsSome q) → IfSome q (λ b. P) → IfSome o (λ b. P)
 told_since None q P told holds = tt
@@ -91,7 +99,7 @@ closed_since None (Some b) P X told closed = closed told
 -- what a kernel left that started so
 pub played_of : (plan : Plan) (d e : DiskSeen) (pages : List ℕ) (s : StateSeen) (whole : Bool) (fault : Option DiskFault) (h : HistorySeen) → Started plan d pages s → d.size ≡ plan.blocks → IfSome d.content (λ b. pages ≡ filled plan.file.bytes) → Makes plan.calls h.entries → (IsTrue whole → map (λ x. x.call) h.entries ≡ plan.calls) → ((F : Flat) → Fits F s → Leaves F (info_of s) h.entries) → IfSome e.content (λ b. IsSome (blocks_of s.disks)) → ((F : Flat) → Fits F s → IfNone fault (IfSome e.content (HoldsBytes F (info_of s) h.entries))) → size_of s.disks ≡ e.size → HasCount h e → IfSome fault (IsLateFault h e) → IsPlayed plan whole fault h e
 played_of plan d e pages s whole fault h started size read makes all leaves told closed same counts late =
-    let fits = told_since e.content d.content (Fits (opening plan) s) (subst (λ (ds : List (ℕ × DiskSeen)). IfSome e.content (λ b. IsSome (blocks_of ds))) started.disks told) (fits_told plan d pages s started read) in
+    let fits = told_since e.content d.content (Fits (opening plan) s) (subst (λ (ds : List (ℕ × DiskSeen)). IfSome e.content (λ b. IsSome (blocks_of ds))) started.disks told) (fits_told plan d pages s started size read) in
     record {
       makes = makes;
       all = all;

@@ -5,23 +5,22 @@ use Rattle.std.specs.List.{take-map}
 use Rattle.std.proofs.lemmas.List.{length-map, length-take, get_or-map}
 use Rattle.std.proofs.lemmas.List.Elements.{All-append, All-cons, All-nil, All-take}
 use Rattle.vm_types.specs.declared.call.Call.{Call}
-use Rattle.vm_types.specs.declared.call.Call.TheVariants.{Load, Store, Map, Unmap, Protect, Sync, Read, Write, Fork, Exit}
+use Rattle.vm_types.specs.declared.call.Call.TheVariants.{Load, Store, Map, Unmap, Protect, Sync, Read, Write, Truncate, Fork, Exit}
 use Rattle.vm_types.specs.declared.call.Entry.{Entry}
 use Rattle.vm_types.specs.declared.call.Reply.{Reply}
 use Rattle.vm_types.specs.declared.call.Reply.TheVariants as reply
 use Rattle.vm_types.specs.Parts.{next_part}
 use Rattle.vm_types.specs.WellFormed.{IsWellFormed}
 use Rattle.flat_model.specs.Counted.{Counted}
-use Rattle.flat_model.specs.FlatLaws.{HasBytes}
 use Rattle.flat_model.specs.History.{is_io}
-use Rattle.flat_model.specs.Told.{PlanLine, Told, entries_of, Spells, SpellsAll}
+use Rattle.flat_model.specs.Told.{SpelledLine, ToldAlone, entries_of, Spells, SpellsAll}
 use Rattle.block_device.specs.DiskSeen.{DiskSeen}
 use Rattle.sunvm.specs.Plans.{IsPlanned, IsLineCall}
 use Rattle.sunvm.specs.Run.{ToldFront, CountsReach}
 use Rattle.sunvm.specs.Parts.{Makes}
 
 -- a line of a plan
-abbrev pub line_of : Call → PlanLine
+abbrev pub line_of : Call → SpelledLine
 line_of call = record { call = call; bytes = [] }
 
 -- no part follows the call
@@ -38,6 +37,7 @@ single_line (Protect a len prot) line r = absurd line
 single_line (Sync a len) line r = absurd line
 single_line (Read file offset len) line r = absurd line
 single_line (Write file offset text rest) line r = absurd line
+single_line (Truncate file len) line r = absurd line
 single_line (Fork child) line r = absurd line
 single_line Exit line r = absurd line
 
@@ -76,33 +76,21 @@ own_entries (e ∷ H) all =
     ap (λ b. cond b (e ∷ entries_of H 1) (entries_of H 1)) own
     ∙ ap (λ (es : List Entry). e ∷ es) (own_entries H (λ k d lt. all (suc k) d (omega (arith, lt))))
 
-told_calls : (H : List Entry) (cs : List Call) → map (λ e. e.call) H ≡ cs → All IsSingle cs → All (λ e. e.process ≡ 1) H → Told 1 (map line_of cs) H
+told_calls : (H : List Entry) (cs : List Call) → map (λ e. e.call) H ≡ cs → All IsSingle cs → All (λ e. e.process ≡ 1) H → ToldAlone 1 (map line_of cs) H
 told_calls H cs is all own = record {
   own = subst (SpellsAll (map line_of cs)) (sym (own_entries H own)) (spells_all H cs is (each_single cs all));
   alone = own;
 }
 
-no_bytes : (call : Call) → IsLineCall call → HasBytes call
-no_bytes (Load a n) line = tt
-no_bytes (Store a n v) line = tt
-no_bytes (Map place len prot kind o offset) line = tt
-no_bytes (Unmap a len) line = tt
-no_bytes (Protect a len prot) line = tt
-no_bytes (Sync a len) line = tt
-no_bytes (Read file offset len) line = tt
-no_bytes (Write file offset text rest) line = absurd line
-no_bytes (Fork child) line = tt
-no_bytes Exit line = tt
-
 -- a call of a block
 abbrev pub IsBlockCall : Call → Type 0
-IsBlockCall c = IsSingle c × (IsWellFormed c × HasBytes c)
+IsBlockCall c = IsSingle c × IsWellFormed c
 
 pub block_calls : (cs : List Call) → All IsPlanned cs → All IsBlockCall (cs ++ Exit ∷ [])
-block_calls cs all = All-append IsBlockCall cs (Exit ∷ []) (λ k d lt. let it = all k d lt in (single_line _ it.1, (it.0, no_bytes _ it.1))) (All-cons IsBlockCall Exit [] (single_exit, (tt, tt)) (All-nil IsBlockCall))
+block_calls cs all = All-append IsBlockCall cs (Exit ∷ []) (λ k d lt. let it = all k d lt in (single_line _ it.1, it.0)) (All-cons IsBlockCall Exit [] (single_exit, tt) (All-nil IsBlockCall))
 
 -- a whole block was told
-pub told_whole : (H : List Entry) (cs : List Call) → All IsPlanned cs → map (λ e. e.call) H ≡ cs ++ Exit ∷ [] → All (λ e. e.process ≡ 1) H → Told 1 (map line_of (cs ++ Exit ∷ [])) H
+pub told_whole : (H : List Entry) (cs : List Call) → All IsPlanned cs → map (λ e. e.call) H ≡ cs ++ Exit ∷ [] → All (λ e. e.process ≡ 1) H → ToldAlone 1 (map line_of (cs ++ Exit ∷ [])) H
 told_whole H cs all is own = told_calls H (cs ++ Exit ∷ []) is (λ k d lt. (block_calls cs all k d lt).0) own
 
 -- a front of a block was told
@@ -111,14 +99,14 @@ told_some H cs all makes =
     let n = makes.front.0 in
     let calls = cs ++ Exit ∷ [] in
     let single : All IsSingle calls = λ k d lt. (block_calls cs all k d lt).0 in
-    (n, subst (λ (ls : List PlanLine). Told 1 ls H) (sym (take-map line_of n calls)) (told_calls H (take n calls) makes.front.1 (All-take IsSingle n calls single) makes.own))
+    (n, subst (λ (ls : List SpelledLine). ToldAlone 1 ls H) (sym (take-map line_of n calls)) (told_calls H (take n calls) makes.front.1 (All-take IsSingle n calls single) makes.own))
 
 -- the calls of such a history are well formed
-pub formed : (H : List Entry) (cs : List Call) → All IsPlanned cs → Makes (cs ++ Exit ∷ []) H → All (λ e. IsWellFormed e.call × HasBytes e.call) H
+pub formed : (H : List Entry) (cs : List Call) → All IsPlanned cs → Makes (cs ++ Exit ∷ []) H → All (λ e. IsWellFormed e.call) H
 formed H cs all makes k d lt =
     let n = makes.front.0 in
     let calls = cs ++ Exit ∷ [] in
-    let P : Call → Type 0 = λ c. IsWellFormed c × HasBytes c in
+    let P : Call → Type 0 = λ c. IsWellFormed c in
     let each : All P (take n calls) = All-take P n calls (λ k d lt. (block_calls cs all k d lt).1) in
     let count : k < length (take n calls) = omega (arith, lt, length-map H (λ (e : Entry). e.call), ap length makes.front.1) in
     let at : get_or (map (λ (e : Entry). e.call) H) k d.call ≡ (get_or H k d).call = get_or-map (λ (e : Entry). e.call) H k d d.call lt in

@@ -14,8 +14,8 @@ use Rattle.sunvm.specs.declared.outcome.RunFault.TheVariants.{Closing, Showing}
 use Rattle.sunvm.specs.Report.{process_section, file_heading, bytes_lines}
 use Rattle.sunvm.specs.Script.{Plan}
 use Rattle.sunvm.specs.Table.{table}
-use Rattle.sunvm.specs.Run.{opening, counts_line, Wrote, WroteFront, WroteTaken, stored}
-use Rattle.sunvm.specs.Parts.{plan_info, Makes, Leaves, HoldsBytes, HasCount, IsFaultSince, IsLateFault}
+use Rattle.sunvm.specs.Run.{opening, counts_line, Wrote, WroteFront, WroteTaken, stored_bytes}
+use Rattle.sunvm.specs.Parts.{plan_info, Makes, Leaves, HoldsBytes, HasCount, IsFaultAfter, IsLateFault}
 
 abbrev pub status_of : Ending → ℕ
 status_of ending.Whole = 0
@@ -51,11 +51,11 @@ pub record IsPlayed (plan : Plan) (whole : Bool) (fault : Option DiskFault) (his
 
 -- How the report of a closed file ended: with all of it, with a front of it, or at the page that wasn't read. The text begins with `front`, and the file's length is `len`.
 abbrev pub IsShown : List ℕ → ℕ → SinkSeen → SinkSeen → DiskSeen → DiskSeen → Ending → Type 0
-IsShown front len k0 k1 d0 d1 ending.Whole = IfSome d0.content (λ blocks. Wrote k0 k1 (front ++ bytes_lines 0 (stored len blocks)))
-IsShown front len k0 k1 d0 d1 ending.Sink = HasRisen k0.faults k1.faults × IfSome d0.content (λ blocks. WroteFront k0 k1 (front ++ bytes_lines 0 (stored len blocks)))
-IsShown front len k0 k1 d0 d1 ending.Memory = IfSome d0.content (λ blocks. WroteFront k0 k1 (front ++ bytes_lines 0 (stored len blocks)))
+IsShown front len k0 k1 d0 d1 ending.Whole = IfSome d0.content (λ blocks. Wrote k0 k1 (front ++ bytes_lines 0 (stored_bytes len blocks)))
+IsShown front len k0 k1 d0 d1 ending.Sink = HasRisen k0.faults k1.faults × IfSome d0.content (λ blocks. WroteFront k0 k1 (front ++ bytes_lines 0 (stored_bytes len blocks)))
+IsShown front len k0 k1 d0 d1 ending.Memory = IfSome d0.content (λ blocks. WroteFront k0 k1 (front ++ bytes_lines 0 (stored_bytes len blocks)))
 IsShown front len k0 k1 d0 d1 (ending.Closing fault) = ⊥
-IsShown front len k0 k1 d0 d1 (ending.Showing fault) = IsFaultSince d0.faults d1 fault × IfSome d0.content (λ blocks. (page : ℕ) × (page < pages_in len) × WroteTaken k0 k1 (front ++ bytes_lines 0 (take (4096 * page) (stored len blocks)) ++ counts_line fault.disk fault.before fault.after))
+IsShown front len k0 k1 d0 d1 (ending.Showing fault) = IsFaultAfter d0.faults d1 fault × IfSome d0.content (λ blocks. (page : ℕ) × (page < pages_in len) × WroteTaken k0 k1 (front ++ bytes_lines 0 (take (4096 * page) (stored_bytes len blocks)) ++ counts_line fault.disk fault.before fault.after))
 
 -- The process's section and the fault's line were written, or nothing for want of memory.
 abbrev pub IsClosingEnd : List Entry → DiskFault → SinkSeen → SinkSeen → Ending → Type 0
@@ -70,7 +70,7 @@ IsShowingEnd fault k0 k1 (ending.Showing f) = (f ≡ fault) × WroteTaken k0 k1 
 IsShowingEnd fault k0 k1 e = ⊥
 
 -- The table was written over block 0, and the file was shown.
-pub record Shows (plan : Plan) (H : List Entry) (text : List ℕ) (k0 k1 : SinkSeen) (d0 d1 : DiskSeen) (e : Ending) : Type 0 where
+pub record ShowsReport (plan : Plan) (H : List Entry) (text : List ℕ) (k0 k1 : SinkSeen) (d0 d1 : DiskSeen) (e : Ending) : Type 0 where
   pub mid : DiskSeen
   pub size : mid.size ≡ d0.size
   pub content : mid.content ≡ with_block d0.content 0 text
@@ -81,7 +81,7 @@ pub record Shows (plan : Plan) (H : List Entry) (text : List ℕ) (k0 k1 : SinkS
 -- The table wasn't written, and its fault was told.
 pub record TellsFault (H : List Entry) (k0 k1 : SinkSeen) (d0 d1 : DiskSeen) (e : Ending) : Type 0 where
   pub fault : DiskFault
-  pub counted : IsFaultSince d0.faults d1 fault
+  pub counted : IsFaultAfter d0.faults d1 fault
   pub told : IfSome d1.content (λ blocks. IsSome d0.content)
   pub ends : IsClosingEnd H fault k0 k1 e
 
@@ -89,4 +89,4 @@ pub record TellsFault (H : List Entry) (k0 k1 : SinkSeen) (d0 d1 : DiskSeen) (e 
 pub record IsReport (plan : Plan) (H : List Entry) (text : List ℕ) (k0 k1 : SinkSeen) (d0 d1 : DiskSeen) (e : Ending) : Type 0 where
   pub size : d1.size ≡ d0.size
   pub later : d0.faults ≤ d1.faults
-  pub cases : Shows plan H text k0 k1 d0 d1 e ⊎ TellsFault H k0 k1 d0 d1 e
+  pub cases : ShowsReport plan H text k0 k1 d0 d1 e ⊎ TellsFault H k0 k1 d0 d1 e

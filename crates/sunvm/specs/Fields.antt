@@ -29,15 +29,15 @@ abbrev pub digit_value : ℕ → ℕ
 digit_value b = if nat_le b 57 then b - 48 else if nat_le b 70 then b - 55 else b - 87
 
 -- The value of digits in a base, the first the highest.
-abbrev pub value_in : ℕ → List ℕ → ℕ
-value_in base digits = fold (λ n b. base * n + digit_value b) 0 digits
+abbrev pub digits_value : ℕ → List ℕ → ℕ
+digits_value base digits = fold (λ n b. base * n + digit_value b) 0 digits
 
 -- The value of 1 to `most` digits that pass a test, if it is below 2^32.
 unfoldable pub digits_at : ℕ → ℕ → (ℕ → Bool) → List ℕ → Option ℕ
 digits_at base most is_right digits = do
   need (nat_le 1 (length digits) && nat_le (length digits) most && list_all is_right digits)
-  need (nat_lt (value_in base digits) (2 ^ 32))
-  Some (value_in base digits)
+  need (nat_lt (digits_value base digits) (2 ^ 32))
+  Some (digits_value base digits)
 
 -- A number is 1 to 10 decimal digits, or 0x and 1 to 8 hexadecimal digits, and is below 2^32.
 unfoldable pub number_at : List ℕ → Option ℕ
@@ -48,8 +48,8 @@ abbrev pub is_name_byte : ℕ → Bool
 is_name_byte b = (nat_le 97 b && nat_le b 122) || is_digit b || (b == 95) || (b == 46) || (b == 45)
 
 -- A name is 1 to 16 such bytes, and isn't `zero`.
-abbrev pub is_name : List ℕ → Bool
-is_name field = nat_le 1 (length field) && nat_le (length field) 16 && list_all is_name_byte field && not (is_word field (codes "zero"))
+abbrev pub is_file_name : List ℕ → Bool
+is_file_name field = nat_le 1 (length field) && nat_le (length field) 16 && list_all is_name_byte field && not (is_word field (codes "zero"))
 
 -- The bytes of pairs of hexadecimal digits.
 abbrev pub hex_bytes : List ℕ → List ℕ
@@ -58,7 +58,7 @@ hex_bytes (high ∷ []) = []
 hex_bytes (high ∷ low ∷ rest) = (16 * digit_value high + digit_value low) ∷ hex_bytes rest
 
 -- Bytes are an even number of hexadecimal digits, for 1 to 65,536 bytes; a minus sign stands for none.
-unfoldable pub bytes_at : List ℕ → Option (List ℕ)
-bytes_at field = if is_word field (codes "-") then Some [] else do
+unfoldable pub byte_list_at : List ℕ → Option (List ℕ)
+byte_list_at field = if is_word field (codes "-") then Some [] else do
   need ((length field % 2 == 0) && nat_le 2 (length field) && nat_le (length field) 131072 && list_all is_hex_digit field)
   Some (hex_bytes field)

@@ -5,8 +5,8 @@ use Rattle.vm_types.specs.declared.call.Entry.{Entry}
 use Rattle.flat_model.specs.Flat.{Flat}
 use Rattle.flat_model.specs.Counted.{Counted}
 use Rattle.flat_model.specs.History.{Legal, replay, is_io}
-use Rattle.flat_model.specs.Told.{Told}
-use Rattle.vnode_files.specs.declared.entry.FileInfo.{FileInfo}
+use Rattle.flat_model.specs.Told.{ToldAlone}
+use Rattle.vnode_files.specs.declared.vnode.FileInfo.{FileInfo}
 use Rattle.block_device.specs.Counts.{HasRisen}
 use Rattle.block_device.specs.DiskSeen.{DiskSeen}
 use Rattle.block_device.specs.StreamSeen.{SinkSeen}
@@ -17,7 +17,7 @@ use Rattle.sunvm.specs.declared.outcome.RunFault.{RunFault}
 use Rattle.sunvm.specs.declared.outcome.Outcome.{Outcome}
 use Rattle.sunvm.specs.Report.{process_section}
 use Rattle.sunvm.specs.Script.{Plan}
-use Rattle.sunvm.specs.Run.{IfPlan, IfTold, IsOne, HaveBlocks, blocks_in, opening, plan_lines, ToldFront, first_file, whole_text, counts_line, early_text, Wrote, WroteFront, WroteTaken, WroteUpTo, IfOpening, IfClosing, IfShowing, Began, HasClosed, IsEarly, Closed, IsStatus, IsNoRun, HasOpenCause, HasLateCause, CountsReach, HasUsedDisk}
+use Rattle.sunvm.specs.Run.{IfPlan, IfTold, IsOne, HaveBlocks, blocks_in, plan_extents, opening, plan_lines, ToldFront, first_file, whole_text, counts_line, early_text, Wrote, WroteFront, WroteTaken, WroteUpTo, IfOpening, IfClosing, IfShowing, Began, HasClosed, IsEarly, Closed, IsStatus, IsNoRun, HasOpenCause, HasLateCause, CountsReach, HasUsedDisk}
 
 -- How a run ended: its status, its fault, its history, and its disks.
 pub record End : Type 0 where
@@ -40,7 +40,7 @@ pub record Ended (given : Option (Option Plan)) (old new : SinkSeen) (rack_old r
   pub handed : HasUsedDisk e.status e.fault e.history.entries → IsOne e.disks
   pub blocks : HasUsedDisk e.status e.fault e.history.entries → IfPlan given (λ plan. HaveBlocks plan.blocks e.disks)
   pub legal : IfPlan given (λ plan. IfTold e.disks (Legal (opening plan) e.history.entries))
-  pub told : Began e.status e.fault → IfPlan given (λ plan. Told 1 (plan_lines plan) e.history.entries)
+  pub told : Began e.status e.fault → IfPlan given (λ plan. ToldAlone 1 (plan_lines plan) e.history.entries)
   pub told_front : IfPlan given (λ plan. ToldFront 1 (plan_lines plan) e.history.entries)
   pub counted : Counted e.history.entries
   pub reached : CountsReach e.disks e.history.entries
@@ -62,7 +62,7 @@ pub record Ended (given : Option (Option Plan)) (old new : SinkSeen) (rack_old r
 
 -- The record of a plan's file.
 abbrev pub plan_info : Plan → FileInfo
-plan_info plan = record { name = plan.file.name; disk = 0; start = 1; pages = plan.file.pages; length = length plan.file.bytes; writable = true }
+plan_info plan = record { name = plan.file.name; disk = 0; extents = plan_extents plan; length = length plan.file.bytes; writable = true }
 
 -- The entries are the first of these calls, made by process 1, and none met a device error.
 pub record Makes (calls : List Call) (H : List Entry) : Type 0 where
@@ -86,7 +86,7 @@ pub record HasCount (history : HistorySeen) (disk : DiskSeen) : Type 0 where
   pub later : count ≤ disk.faults
 
 -- The fault is of disk 0, whose count was at least `low` before, and stands at least as high as it was after.
-pub record IsFaultSince (low : ℕ) (disk : DiskSeen) (fault : DiskFault) : Type 0 where
+pub record IsFaultAfter (low : ℕ) (disk : DiskSeen) (fault : DiskFault) : Type 0 where
   pub number : fault.disk ≡ 0
   pub since : low ≤ fault.before
   pub risen : HasRisen fault.before fault.after
@@ -94,4 +94,4 @@ pub record IsFaultSince (low : ℕ) (disk : DiskSeen) (fault : DiskFault) : Type
 
 -- The fault came after the count that the history tells.
 abbrev pub IsLateFault : HistorySeen → DiskSeen → DiskFault → Type 0
-IsLateFault history disk fault = (low : ℕ) × (count_of history.faults 0 ≡ Some low) × IsFaultSince low disk fault
+IsLateFault history disk fault = (low : ℕ) × (count_of history.faults 0 ≡ Some low) × IsFaultAfter low disk fault

@@ -7,7 +7,7 @@ use Rattle.vm_types.specs.declared.call.Reply.{Reply}
 use Rattle.vm_types.specs.declared.call.Reply.TheVariants as reply
 use Rattle.vm_types.specs.declared.call.Entry.{Entry}
 use Rattle.vm_types.specs.Names.{errno_number, errno_name, signal_text}
-use Rattle.vm_types.specs.Words.{bytes_of}
+use Rattle.vm_types.specs.Words.{word_bytes}
 
 -- A hexadecimal digit, in lower case.
 abbrev pub hex_digit : ℕ → ℕ
@@ -23,7 +23,7 @@ hex_text bytes = flat_map byte_text bytes
 
 -- A word of n bytes: `0x` and two digits for each byte, the highest first.
 abbrev pub word_text : ℕ → ℕ → List ℕ
-word_text n v = codes "0x" ++ hex_text (bytes_of n v)
+word_text n v = codes "0x" ++ hex_text (word_bytes n v)
 
 -- The word of a line of the report, by its call.
 abbrev pub name_text : Call → List ℕ
@@ -35,6 +35,7 @@ name_text (call.Protect a len prot) = codes "protect"
 name_text (call.Sync a len) = codes "sync"
 name_text (call.Read file offset len) = codes "read"
 name_text (call.Write file offset line rest) = codes "write"
+name_text (call.Truncate file len) = codes "truncate"
 name_text (call.Fork child) = codes "fork"
 name_text call.Exit = codes "exit"
 
@@ -85,7 +86,7 @@ are_zeros bytes = list_all (λ b. b == 0) bytes
 
 -- The line of bytes that begin at an offset of the file; none for zeros.
 abbrev pub bytes_line : ℕ → List ℕ → List ℕ
-bytes_line offset bytes = if are_zeros bytes then [] else hex_text (bytes_of 4 offset) ++ 32 ∷ hex_text bytes ++ 10 ∷ []
+bytes_line offset bytes = if are_zeros bytes then [] else hex_text (word_bytes 4 offset) ++ 32 ∷ hex_text bytes ++ 10 ∷ []
 
 -- The lines of so many pieces of 32 bytes, from an offset of the file on; the last may be shorter.
 abbrev pub lines_of : ℕ → ℕ → List ℕ → List ℕ

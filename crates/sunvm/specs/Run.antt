@@ -2,15 +2,16 @@
 use Rattle.std.specs.Prelude.{ℕ, ◌≡◌, ◌≢◌, ◌≤◌, ◌<◌, ◌-◌, ◌*◌, ◌⊎◌, ◌==◌, true, List, [], ◌∷◌, ◌++◌, map, length, take, drop, replicate, codes, decimal, Option, Some, None, IfSome, IsSome, option_map, slice_get, slice_index_or, if◌then◌else◌}
 use Rattle.std.specs.List.{concat}
 use Rattle.std.specs.FinMap as finite
-use Rattle.std.specs.FinSet as set
 use Rattle.vm_types.specs.declared.call.Entry.{Entry}
 use Rattle.vm_types.specs.declared.call.Reply.TheVariants.{Io}
 use Rattle.flat_model.specs.Words.{pages_in}
 use Rattle.flat_model.specs.Flat.{File, Flat}
 use Rattle.flat_model.specs.History.{replay}
-use Rattle.flat_model.specs.Parts.{cut, bytes_in}
-use Rattle.flat_model.specs.Told.{PlanLine, Told}
-use Rattle.vnode_files.specs.declared.entry.FileInfo.{FileInfo}
+use Rattle.flat_model.specs.Opening.{flat_at_opening}
+use Rattle.flat_model.specs.Parts.{file_at_opening, file_bytes}
+use Rattle.vnode_files.specs.declared.extent.Extent.{Extent}
+use Rattle.flat_model.specs.Told.{SpelledLine, ToldAlone}
+use Rattle.vnode_files.specs.declared.vnode.FileInfo.{FileInfo}
 use Rattle.block_device.specs.Counts.{HasRisen}
 use Rattle.block_device.specs.DiskSeen.{DiskSeen}
 use Rattle.block_device.specs.OpenSeen.{OpenFaultSeen}
@@ -55,31 +56,29 @@ IfTold disks P = IfSome (blocks_in disks) (λ blocks. P)
 abbrev pub filled : List ℕ → List ℕ
 filled bytes = bytes ++ replicate (4096 * pages_in (length bytes) - length bytes) 0
 
+-- The blocks of the file: as many as the script says, from block 1 on.
+abbrev pub plan_extents : Plan → List Extent
+plan_extents plan = record { start = 1; pages = plan.file.pages } ∷ []
+
 -- The file of a plan as the processes find it: its bytes, and a tail of zeros.
 abbrev pub opening_file : Plan → File
-opening_file plan = record { len = length plan.file.bytes; limit = plan.file.pages; writable = true; pages = cut (pages_in (length plan.file.bytes)) (filled plan.file.bytes) }
+opening_file plan = file_at_opening (length plan.file.bytes) 0 (plan_extents plan) true plan.file.bytes
 
--- Flat memory as the processes find it: the file, no swap slots, no zero objects, and process 1 with an empty space.
+-- Flat memory as the processes find it: the disk, the file, no swap slots, no zero objects, and process 1 with an empty space.
 abbrev pub opening : Plan → Flat
-opening plan = record {
-  slots = 0;
-  files = opening_file plan ∷ [];
-  zeros = finite.empty;
-  spaces = finite.insert finite.empty 1 finite.empty;
-  born = set.insert set.empty 1;
-}
+opening plan = flat_at_opening 0 (finite.insert finite.empty 0 plan.blocks) (opening_file plan ∷ []) (1 ∷ [])
 
 -- The lines of the block. None is a write, so no bytes follow a call's first part.
-abbrev pub plan_lines : Plan → List PlanLine
+abbrev pub plan_lines : Plan → List SpelledLine
 plan_lines plan = map (λ call. record { call = call; bytes = [] }) plan.calls
 
 -- The history tells the first lines of a plan of one block, and no others.
-abbrev pub ToldFront : ℕ → List PlanLine → List Entry → Type 0
-ToldFront p lines H = (count : ℕ) × Told p (take count lines) H
+abbrev pub ToldFront : ℕ → List SpelledLine → List Entry → Type 0
+ToldFront p lines H = (count : ℕ) × ToldAlone p (take count lines) H
 
 -- The first of the files; one without bytes where there is none.
 abbrev pub first_file : List File → File
-first_file [] = record { len = 0; limit = 0; writable = true; pages = [] }
+first_file [] = record { len = 0; disk = 0; extents = []; writable = true; pages = [] }
 first_file (file ∷ files) = file
 
 -- The file after a history.
@@ -88,15 +87,15 @@ closing_file plan H = first_file (replay (opening plan) H).files
 
 -- The record of the file after a history: its blocks begin at block 1 of disk 0.
 abbrev pub closing_info : Plan → List Entry → FileInfo
-closing_info plan H = record { name = plan.file.name; disk = 0; start = 1; pages = plan.file.pages; length = (closing_file plan H).len; writable = true }
+closing_info plan H = record { name = plan.file.name; disk = 0; extents = plan_extents plan; length = (closing_file plan H).len; writable = true }
 
 -- The whole report: the process's section, and the heading and the bytes of the file after the history.
 abbrev pub whole_text : Plan → List Entry → List ℕ
-whole_text plan H = process_section H ++ file_heading plan.file.name (closing_file plan H).len ++ bytes_lines 0 (bytes_in (closing_file plan H))
+whole_text plan H = process_section H ++ file_heading plan.file.name (closing_file plan H).len ++ bytes_lines 0 (file_bytes (closing_file plan H))
 
 -- The report up to the place of page i of the file.
 abbrev pub text_before : Plan → List Entry → ℕ → List ℕ
-text_before plan H i = process_section H ++ file_heading plan.file.name (closing_file plan H).len ++ bytes_lines 0 (take (4096 * i) (bytes_in (closing_file plan H)))
+text_before plan H i = process_section H ++ file_heading plan.file.name (closing_file plan H).len ++ bytes_lines 0 (take (4096 * i) (file_bytes (closing_file plan H)))
 
 -- The line of a fault that a disk counted.
 abbrev pub counts_line : ℕ → ℕ → ℕ → List ℕ
@@ -177,12 +176,12 @@ IsEarly status (Some (Closing fault)) = ⊥
 IsEarly status (Some (Showing fault)) = ⊥
 
 -- The bytes of a file of this length that blocks hold, from block 1 on.
-abbrev pub stored : ℕ → List (List ℕ) → List ℕ
-stored len blocks = take len (concat (take (pages_in len) (drop 1 blocks)))
+abbrev pub stored_bytes : ℕ → List (List ℕ) → List ℕ
+stored_bytes len blocks = take len (concat (take (pages_in len) (drop 1 blocks)))
 
 -- The blocks from block 1 on hold the file's bytes after the history, and block 0 is the table with its length.
 pub record Closed (plan : Plan) (H : List Entry) (blocks : List (List ℕ)) : Type 0 where
-  pub bytes : stored (closing_file plan H).len blocks ≡ bytes_in (closing_file plan H)
+  pub bytes : stored_bytes (closing_file plan H).len blocks ≡ file_bytes (closing_file plan H)
   pub table : slice_index_or blocks 0 [] ≡ table plan.blocks (closing_info plan H)
 
 -- The status is 0, or one of 2 to 8.
@@ -217,15 +216,15 @@ pub record HasLateCause (history : HistorySeen) (disks : List DiskSeen) (fault :
   pub since : (count : ℕ) × (count_of history.faults fault.disk ≡ Some count) × (count ≤ fault.before)
 
 -- A fault that a disk counted.
-abbrev pub IsDiskFault : Option RunFault → Type 0
-IsDiskFault None = ⊥
-IsDiskFault (Some (Opening fault)) = IsSome fault.counts
-IsDiskFault (Some (Closing fault)) = Unit {0}
-IsDiskFault (Some (Showing fault)) = Unit {0}
+abbrev pub IsCountedFault : Option RunFault → Type 0
+IsCountedFault None = ⊥
+IsCountedFault (Some (Opening fault)) = IsSome fault.counts
+IsCountedFault (Some (Closing fault)) = Unit {0}
+IsCountedFault (Some (Showing fault)) = Unit {0}
 
 -- The whole report was written, or memory lacked, or the disk counted a fault, or it doesn't tell its blocks and block 0 wasn't zeros.
 abbrev pub IsComplete : ℕ → Option RunFault → List DiskSeen → Type 0
-IsComplete status fault disks = (status ≡ 0) ⊎ (status ≡ 8) ⊎ IsDiskFault fault ⊎ ((status ≡ 4) × (blocks_in disks ≡ None))
+IsComplete status fault disks = (status ≡ 0) ⊎ (status ≡ 8) ⊎ IsCountedFault fault ⊎ ((status ≡ 4) × (blocks_in disks ≡ None))
 
 -- The run got to its disk: it began, or block 0 wasn't zeros, or the process did something.
 abbrev pub HasUsedDisk : ℕ → Option RunFault → List Entry → Type 0

@@ -1,6 +1,7 @@
 -- What a run needs, and how it ends before its processes ran.
 use Rattle.std.specs.Prelude.{◌≡◌, ◌≤◌, ◌⊎◌, [], ◌∷◌, length, Some, None, vec_capacity}
-use Rattle.vnode_files.specs.Files.{opened}
+use Rattle.vnode_files.specs.Files.{FilesSeen, no_files, with_disk, with_next_file}
+use Rattle.vnode_files.specs.Vnode.{fresh_vnode}
 use Rattle.block_device.specs.OpenSeen.{OpenFaultSeen}
 use Rattle.block_device.specs.StreamSeen.{SinkSeen}
 use Rattle.sunvm.specs.declared.outcome.RunFault.TheVariants.{Opening}
@@ -10,9 +11,13 @@ use Rattle.sunvm.specs.Script.{Plan}
 use Rattle.sunvm.specs.Table.{table}
 use Rattle.sunvm.specs.Parts.{End, plan_info}
 
+-- The files of a plan: its one file, on its disk.
+abbrev pub files_of : Plan → FilesSeen
+files_of plan = with_next_file (with_disk no_files 0 plan.blocks) (fresh_vnode (plan_info plan))
+
 -- The rooms of a run of a plan: the file, one process that may make its calls, the table, and room for the disk.
 pub record HasRooms {D : Type 0} (plan : Plan) (r : Rooms D) : Type 0 where
-  pub files : r.files ≡ opened (plan_info plan) ∷ []
+  pub files : r.files ≡ files_of plan
   pub parents : r.parents.items ≡ 0 ∷ []
   pub entries : r.entries.items ≡ length plan.calls ∷ []
   pub table : r.table.items ≡ table plan.blocks (plan_info plan)

@@ -7,7 +7,7 @@ use Rattle.vm_types.specs.declared.call.Object.TheVariants.{File}
 use Rattle.vm_types.specs.declared.call.Place.TheVariants.{At}
 use Rattle.vm_types.specs.declared.prot.Prot.{Prot}
 use Rattle.sunvm.specs.Reading.{◌>>=◌, ◌>>◌, need}
-use Rattle.sunvm.specs.Fields.{pieces, is_word, number_at, is_name, bytes_at}
+use Rattle.sunvm.specs.Fields.{pieces, is_word, number_at, is_file_name, byte_list_at}
 
 -- What a script says of its file: its name, the most pages that it may have, and the bytes that it begins with.
 pub record FilePlan : Type 0 where
@@ -48,14 +48,14 @@ pages_at blocks field = do
 -- BYTES fill at most so many pages.
 unfoldable pub content_at : ℕ → List ℕ → Option (List ℕ)
 content_at pages field = do
-  given ← bytes_at field
+  given ← byte_list_at field
   need (nat_le (length given) (pages * 4096))
   Some given
 
 -- `file NAME rw 0 PAGES BYTES`
 unfoldable pub file_at : ℕ → List (List ℕ) → Option FilePlan
 file_at blocks (word ∷ name ∷ mode ∷ disk ∷ pages ∷ bytes ∷ []) = do
-  need (is_word word (codes "file") && is_name name && is_word mode (codes "rw") && is_word disk (codes "0"))
+  need (is_word word (codes "file") && is_file_name name && is_word mode (codes "rw") && is_word disk (codes "0"))
   n ← pages_at blocks pages
   given ← content_at n bytes
   Some (record { name = name; pages = n; bytes = given })

@@ -65,7 +65,8 @@ fn push_counts_line(
 }
 
 fn push_rack_line(text: &mut Vec<u8>, disk: u32) -> Result<(), AllocError>
-    ensures { OnOk result (text.new.items ≡ text.old.items ++ (codes "fault: rack " ++ decimal disk ++ 10 ∷ [])) }
+    ensures { OnOk result
+        (text.new.items ≡ text.old.items ++ (codes "fault: rack " ++ decimal disk ++ 10 ∷ [])) }
 {
     text.extend_from_slice(b"fault: rack ")?;
     push_decimal_32(text, disk)?;
@@ -85,7 +86,8 @@ pub fn push_open_fault(text: &mut Vec<u8>, fault: &OpenFault) -> Result<(), Allo
 
 /// Adds the line of a fault after the processes ran.
 pub fn push_disk_fault(text: &mut Vec<u8>, fault: &DiskFault) -> Result<(), AllocError>
-    ensures { OnOk result (text.new.items ≡ text.old.items ++ counts_line fault.now.disk fault.now.before fault.now.after) }
+    ensures { OnOk result (text.new.items
+        ≡ text.old.items ++ counts_line fault.now.disk fault.now.before fault.now.after) }
 {
     push_counts_line(text, fault.disk, fault.before, fault.after)
 }

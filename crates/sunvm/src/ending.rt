@@ -7,7 +7,7 @@ ghost use Rattle.flat_model.specs.Words.{pages_in};
 ghost use Rattle.sunvm.specs.Plans.{plan_seen, IsPlan};
 ghost use Rattle.sunvm.specs.Report.{process_section};
 ghost use Rattle.sunvm.specs.Run.{counts_line, Wrote};
-ghost use Rattle.sunvm.specs.Parts.{end_of, Ended, IsFaultSince};
+ghost use Rattle.sunvm.specs.Parts.{end_of, Ended, IsFaultAfter};
 ghost use Rattle.sunvm.specs.Ending.{head, IsShown, IsClosingEnd, IsShowingEnd, IsReport, IsPlayed, table_of_plan, status_of, fault_of};
 
 use crate::early::push_disk_fault;
@@ -64,11 +64,14 @@ impl Ending {
 fn write_table<D: Disk>(disk: &mut D, table: &[u8]) -> Result<(), DiskFault>
     requires some { 0 < (D.seen disk.old).size }
     requires whole { length table.now ≡ 4096 }
-    ensures written { OnOk result ((D.seen disk.new).content ≡ with_block (D.seen disk.old).content 0 table.now) }
+    // Ok: block 0 is the table. An error is a fault of this transfer.
+    ensures written { OnOk result
+        ((D.seen disk.new).content ≡ with_block (D.seen disk.old).content 0 table.now) }
+    ensures fault { IfErr result (IsFaultAfter (D.seen disk.old).faults (D.seen disk.new)) }
+    // Whether the disk tells, its size and its counts stay or rise.
     ensures told { IfSome (D.seen disk.new).content (λ _. IsSome (D.seen disk.old).content) }
     ensures later { (D.seen disk.old).faults ≤ (D.seen disk.new).faults }
     ensures size { (D.seen disk.new).size ≡ (D.seen disk.old).size }
-    ensures fault { IfErr result (IsFaultSince (D.seen disk.old).faults (D.seen disk.new)) }
 {
     let before = disk.faults();
     match disk.write(0, table) {
@@ -85,7 +88,8 @@ fn write_table<D: Disk>(disk: &mut D, table: &[u8]) -> Result<(), DiskFault>
 fn closing_text(alloc: Global, history: &[Entry], fault: &DiskFault) -> Result<Vec<u8>, AllocError>
     requires few { length history.now < 2 ^ 31 }
     requires well_formed { All (λ e. IsWellFormed e.call) history.now }
-    ensures { IfOk result (λ text. text.items ≡ process_section history.now ++ counts_line fault.now.disk fault.now.before fault.now.after) }
+    ensures { IfOk result (λ text. text.items ≡ process_section history.now
+        ++ counts_line fault.now.disk fault.now.before fault.now.after) }
 {
     let mut text = Vec::new(alloc);
     push_process(&mut text, history)?;
@@ -143,10 +147,14 @@ fn tell_showing<K: Sink>(alloc: Global, fault: DiskFault, out: &mut K) -> Ending
 fn show_file<D: Disk, K: Sink>(alloc: Global, length: u32, disk: &mut D, out: &mut K) -> Ending
     requires blocks { pages_in length < (D.seen disk.old).size }
     requires few { pages_in length ≤ 16384 }
+    // No block changes.
     ensures content { (D.seen disk.new).content ≡ (D.seen disk.old).content }
     ensures size { (D.seen disk.new).size ≡ (D.seen disk.old).size }
     ensures later { (D.seen disk.old).faults ≤ (D.seen disk.new).faults }
-    ensures shown { (before : SinkSeen) (front : List ℕ) → before.faults ≤ (K.seen out.old).faults → Wrote before (K.seen out.old) front → IsShown front length before (K.seen out.new) (D.seen disk.old) (D.seen disk.new) result }
+    // The lines stand behind whatever text was written before.
+    ensures shown { (before : SinkSeen) (front : List ℕ) → before.faults ≤ (K.seen out.old).faults
+        → Wrote before (K.seen out.old) front
+        → IsShown front length before (K.seen out.new) (D.seen disk.old) (D.seen disk.new) result }
 {
     match show_pages(alloc, length, disk, out) {
         Ok(()) => Ending::Whole,
@@ -168,10 +176,14 @@ fn show<D: Disk, K: Sink>(
     requires few { length history.now < 2 ^ 31 }
     requires well_formed { All (λ e. IsWellFormed e.call) history.now }
     requires size { (D.seen disk.old).size ≡ plan.now.blocks }
+    // No block changes.
     ensures content { (D.seen disk.new).content ≡ (D.seen disk.old).content }
     ensures size { (D.seen disk.new).size ≡ (D.seen disk.old).size }
     ensures later { (D.seen disk.old).faults ≤ (D.seen disk.new).faults }
-    ensures shown { IsShown (head (plan_seen plan.now) history.now) (length plan.now.file.bytes.items) (K.seen out.old) (K.seen out.new) (D.seen disk.old) (D.seen disk.new) result }
+    // The report was written, as far as the sink took it and the pages were read.
+    ensures shown { IsShown (head (plan_seen plan.now) history.now)
+        (length plan.now.file.bytes.items) (K.seen out.old) (K.seen out.new)
+        (D.seen disk.old) (D.seen disk.new) result }
 {
     let Ok(text) = head_text(alloc, plan, history) else {
         return Ending::Memory;
@@ -197,7 +209,9 @@ fn report<D: Disk, K: Sink>(
     requires well_formed { All (λ e. IsWellFormed e.call) history.now }
     requires size { (D.seen disk.old).size ≡ plan.now.blocks }
     requires whole { length table.now ≡ 4096 }
-    ensures { IsReport (plan_seen plan.now) history.now table.now (K.seen out.old) (K.seen out.new) (D.seen disk.old) (D.seen disk.new) result }
+    // The table and the report, or the line of the fault.
+    ensures { IsReport (plan_seen plan.now) history.now table.now
+        (K.seen out.old) (K.seen out.new) (D.seen disk.old) (D.seen disk.new) result }
 {
     match write_table(disk, table) {
         Ok(()) => show(alloc, plan, history, disk, out),
@@ -213,13 +227,22 @@ fn end<D: Disk, K: Sink>(
     table: &[u8],
     out: &mut K,
 ) -> Ending
+    // The plan was played, and its table was made.
     requires plan { IsPlan 1048577 plan.now }
     requires bytes { All (λ b. b < 256) plan.now.file.bytes.items }
     requires table { table.now ≡ table_of_plan (plan_seen plan.now) }
     requires whole { length table.now ≡ 4096 }
-    requires played { IsPlayed (plan_seen plan.now) played.old.is_whole played.old.fault played.old.history (D.seen played.old.disk) }
+    requires played { IsPlayed (plan_seen plan.now) played.old.is_whole played.old.fault
+        played.old.history (D.seen played.old.disk) }
+    // The clauses of a run hold, whatever the rack counted.
     ensures history { played.new.history ≡ played.old.history }
-    ensures ended { (rack_old rack_new : ℕ) → Ended (Some (Some (plan_seen plan.now))) (K.seen out.old) (K.seen out.new) rack_old rack_new (record { status = status_of result; fault = fault_of result; history = played.old.history; disks = D.seen played.new.disk ∷ [] }) }
+    ensures ended { (rack_old rack_new : ℕ) → Ended (Some (Some (plan_seen plan.now)))
+        (K.seen out.old) (K.seen out.new) rack_old rack_new (record {
+          status = status_of result;
+          fault = fault_of result;
+          history = played.old.history;
+          disks = D.seen played.new.disk ∷ [];
+        }) }
 {
     if !played.is_whole {
         return Ending::Memory;
@@ -246,14 +269,18 @@ pub fn end_run<D: Disk, K: Sink>(
     table: &[u8],
     out: &mut K,
 ) -> Outcome<D>
+    // The plan was played, and its table was made.
     requires plan { IsPlan 1048577 plan.now }
     requires bytes { All (λ b. b < 256) plan.now.file.bytes.items }
     requires table { table.now ≡ table_of_plan (plan_seen plan.now) }
     requires whole { length table.now ≡ 4096 }
-    requires played { IsPlayed (plan_seen plan.now) played.is_whole played.fault played.history (D.seen played.disk) }
+    requires played { IsPlayed (plan_seen plan.now) played.is_whole played.fault played.history
+        (D.seen played.disk) }
     requires empty { back.items ≡ [] }
     requires room { 1 ≤ vec_capacity back }
-    ensures ended { (rack_old rack_new : ℕ) → Ended (Some (Some (plan_seen plan.now))) (K.seen out.old) (K.seen out.new) rack_old rack_new (end_of D.seen result) }
+    // The clauses of a run hold, whatever the rack counted, and the answer is none that comes before a plan.
+    ensures ended { (rack_old rack_new : ℕ) → Ended (Some (Some (plan_seen plan.now)))
+        (K.seen out.old) (K.seen out.new) rack_old rack_new (end_of D.seen result) }
     ensures words { result.status ≢ 2 }
     ensures source { result.status ≢ 5 }
 {

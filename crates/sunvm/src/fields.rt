@@ -1,7 +1,7 @@
 //! The fields of a script's lines.
 ghost use Rattle.std.specs.Prelude.{◌≡◌, ◌+◌, ◌*◌, ◌≤◌, ◌<◌, ◌^◌, IsTrue, List, length, map, option_map, IfOk, IfSome};
 ghost use Rattle.std.specs.List.{list_all};
-ghost use Rattle.sunvm.specs.Fields.{pieces, is_word, has_front, is_digit, is_hex_digit, digit_value, value_in, digits_at, number_at, is_name_byte, is_name, hex_bytes, bytes_at};
+ghost use Rattle.sunvm.specs.Fields.{pieces, is_word, has_front, is_digit, is_hex_digit, digit_value, digits_value, digits_at, number_at, is_name_byte, is_file_name, hex_bytes, byte_list_at};
 
 use std::alloc::{AllocError, Global};
 
@@ -49,7 +49,7 @@ fn value_of_digit(b: u8) -> u8
 fn decimal_value(digits: &[u8]) -> u64
     requires few { length digits.now ≤ 10 }
     requires digits { IsTrue (list_all is_digit digits.now) }
-    ensures { result ≡ value_in 10 digits.now }
+    ensures { result ≡ digits_value 10 digits.now }
 {
     let mut value = 0;
     for b in digits {
@@ -62,7 +62,7 @@ fn decimal_value(digits: &[u8]) -> u64
 fn hexadecimal_value(digits: &[u8]) -> u64
     requires few { length digits.now ≤ 8 }
     requires digits { IsTrue (list_all is_hex_digit digits.now) }
-    ensures { result ≡ value_in 16 digits.now }
+    ensures { result ≡ digits_value 16 digits.now }
 {
     let mut value = 0;
     for b in digits {
@@ -110,7 +110,7 @@ fn are_name_bytes(field: &[u8]) -> bool
 
 /// Whether the field is the name of a file.
 pub fn is_name_of_file(field: &[u8]) -> bool
-    ensures { result ≡ is_name field.now }
+    ensures { result ≡ is_file_name field.now }
 {
     !field.is_empty() && field.len() <= 16 && are_name_bytes(field) && field != b"zero".as_slice()
 }
@@ -130,9 +130,9 @@ fn bytes_of_pairs(alloc: Global, digits: &[u8]) -> Result<Vec<u8>, AllocError>
 }
 
 /// Bytes as hexadecimal digits, or none as `-`.
-#[tactic(auto, unfolding(crate::specs::Fields::bytes_at))]
+#[tactic(auto, unfolding(crate::specs::Fields::byte_list_at))]
 pub fn bytes_of(alloc: Global, field: &[u8]) -> Result<Option<Vec<u8>>, AllocError>
-    ensures { IfOk result (λ bytes. option_map (λ v. v.items) bytes ≡ bytes_at field.now) }
+    ensures { IfOk result (λ bytes. option_map (λ v. v.items) bytes ≡ byte_list_at field.now) }
 {
     if field == b"-".as_slice() {
         return Ok(Some(Vec::new(alloc)));

@@ -4,7 +4,7 @@ ghost use Rattle.flat_model.specs.Words.{pages_in};
 ghost use Rattle.sunvm.specs.Plans.{plan_seen, IsPlan};
 ghost use Rattle.sunvm.specs.Report.{are_zeros};
 ghost use Rattle.sunvm.specs.Run.{filled};
-ghost use Rattle.sunvm.specs.Opening.{Stays, OpenCounted, HasPages, Reads, IsOpened, IsOpenStop};
+ghost use Rattle.sunvm.specs.Opening.{Stays, OpenCounted, HasPages, AreBytesOf, IsOpened, IsOpenStop};
 
 use crate::report::is_all_zeros;
 use crate::script::Plan;
@@ -49,10 +49,13 @@ impl From<OpenFault> for OpenStop {
 fn is_blank<D: Disk>(disk: &mut Unopened<D>) -> Result<bool, OpenFault>
     requires number { disk.old.number ≡ 0 }
     requires some { 0 < (D.seen disk.old.disk).size }
+    // No block changes, and the disk keeps its number and its size.
     ensures stays { Stays (D.seen disk.old.disk) (D.seen disk.new.disk) }
     ensures number { disk.new.number ≡ 0 }
     ensures content { (D.seen disk.new.disk).content ≡ (D.seen disk.old.disk).content }
-    ensures blank { IfOk result (λ blank. IfSome (D.seen disk.old.disk).content (λ blocks. blank ≡ are_zeros (slice_index_or blocks 0 []))) }
+    // Ok: the answer, where the disk tells. An error: the disk counted it.
+    ensures blank { IfOk result (λ blank. IfSome (D.seen disk.old.disk).content
+        (λ blocks. blank ≡ are_zeros (slice_index_or blocks 0 []))) }
     ensures fault { IfErr result (OpenCounted (D.seen disk.new.disk)) }
 {
     let mut block = [0; 4096];
@@ -79,9 +82,12 @@ fn write_pages<D: Disk>(disk: &mut Unopened<D>, pages: u32, bytes: &[u8]) -> Res
     requires blocks { pages < (D.seen disk.old.disk).size }
     requires few { pages ≤ 16384 }
     requires whole { length bytes.now ≡ 4096 * pages }
+    // The disk keeps its number and its size.
     ensures stays { Stays (D.seen disk.old.disk) (D.seen disk.new.disk) }
     ensures number { disk.new.number ≡ 0 }
-    ensures written { OnOk result (IfSome (D.seen disk.new.disk).content (HasPages pages pages bytes.now)) }
+    // Ok: the blocks have the bytes, where the disk tells. An error: the disk counted it.
+    ensures written { OnOk result
+        (IfSome (D.seen disk.new.disk).content (HasPages pages pages bytes.now)) }
     ensures fault { IfErr result (OpenCounted (D.seen disk.new.disk)) }
 {
     for page in 0..pages {
@@ -100,11 +106,14 @@ fn read_pages<D: Disk>(
     requires number { disk.old.number ≡ 0 }
     requires blocks { pages < (D.seen disk.old.disk).size }
     requires few { pages ≤ 16384 }
+    // No block changes, and the disk keeps its number and its size.
     ensures stays { Stays (D.seen disk.old.disk) (D.seen disk.new.disk) }
     ensures number { disk.new.number ≡ 0 }
     ensures content { (D.seen disk.new.disk).content ≡ (D.seen disk.old.disk).content }
+    // Ok: these are the blocks' bytes, where the disk tells. An error: why it stopped.
     ensures whole { IfOk result (λ bytes. length bytes.items ≡ 4096 * pages) }
-    ensures read { IfOk result (λ bytes. IfSome (D.seen disk.old.disk).content (Reads pages bytes.items)) }
+    ensures read { IfOk result
+        (λ bytes. IfSome (D.seen disk.old.disk).content (AreBytesOf pages bytes.items)) }
     ensures stopped { IfErr result (IsOpenStop (D.seen disk.new.disk)) }
 {
     let mut bytes = Vec::with_capacity(alloc, pages as usize * 4096)?;
@@ -122,12 +131,16 @@ pub fn open<D: Disk>(
     plan: &Plan,
     disk: &mut Unopened<D>,
 ) -> Result<Vec<u8>, OpenStop>
+    // The disk is blank, and has the plan's blocks.
     requires plan { IsPlan 1048577 plan.now }
     requires number { disk.old.number ≡ 0 }
     requires size { (D.seen disk.old.disk).size ≡ plan.now.blocks }
-    requires blank { IfSome (D.seen disk.old.disk).content (λ blocks. blocks ≡ replicate plan.now.blocks (replicate 4096 0)) }
+    requires blank { IfSome (D.seen disk.old.disk).content
+        (λ blocks. blocks ≡ replicate plan.now.blocks (replicate 4096 0)) }
+    // Ok: the file is on the disk, and these are its pages. An error: why it stopped.
     ensures stays { Stays (D.seen disk.old.disk) (D.seen disk.new.disk) }
-    ensures opened { IfOk result (λ pages. IsOpened (plan_seen plan.now) (D.seen disk.new.disk) pages.items) }
+    ensures opened { IfOk result
+        (λ pages. IsOpened (plan_seen plan.now) (D.seen disk.new.disk) pages.items) }
     ensures stopped { IfErr result (IsOpenStop (D.seen disk.new.disk)) }
 {
     let bytes = plan.file.bytes.as_slice();

@@ -21,6 +21,7 @@ fn name_of(call: &Call) -> &'static [u8]
         Call::Sync { .. } => b"sync",
         Call::Read { .. } => b"read",
         Call::Write { .. } => b"write",
+        Call::Truncate { .. } => b"truncate",
         Call::Fork { .. } => b"fork",
         Call::Exit => b"exit",
     }
@@ -48,7 +49,8 @@ fn io_word_of(call: &Call) -> &'static [u8]
 
 // Adds the number and the name of an error.
 fn push_errno(out: &mut Vec<u8>, errno: Errno) -> Result<(), AllocError>
-    ensures { OnOk result (out.new.items ≡ out.old.items ++ (codes "error " ++ decimal (errno_number errno) ++ 32 ∷ errno_name errno)) }
+    ensures { OnOk result (out.new.items ≡ out.old.items
+        ++ (codes "error " ++ decimal (errno_number errno) ++ 32 ∷ errno_name errno)) }
 {
     out.extend_from_slice(b"error ")?;
     push_decimal(out, u64::from(errno.number()))?;

@@ -1,10 +1,9 @@
 //! Runs a plan.
 ghost use Rattle.std.specs.Prelude.{◌≡◌, ◌≢◌, ◌≤◌, ◌+◌, ◌*◌, ◌^◌, ◌∷◌, [], ℕ, length, replicate, Some, IfOk, IfSome, vec_capacity};
-ghost use Rattle.vnode_files.specs.Files.{opened};
 ghost use Rattle.sunvm.specs.Plans.{plan_seen, IsPlan};
 ghost use Rattle.sunvm.specs.Opening.{IsOpened};
 ghost use Rattle.sunvm.specs.Parts.{end_of, Ended, plan_info};
-ghost use Rattle.sunvm.specs.Running.{HasRooms, IsOpeningEnd};
+ghost use Rattle.sunvm.specs.Running.{HasRooms, IsOpeningEnd, files_of};
 
 use crate::early::{early, lacking, push_open_fault};
 use crate::ending::end_run;
@@ -16,7 +15,7 @@ use crate::table::table_of;
 use block_device::{AttachFault, Disk, OpenFault, Rack, Sink, Spec, Unopened};
 use std::alloc::{AllocError, Global};
 use vm_core::{Setup, VmState};
-use vnode_files::{FileInfo, Files};
+use vnode_files::{Extent, Extents, FileInfo, Files};
 
 const NOT_BLANK: &[u8] = b"setup: rule 9 disk 0 volume 13\n";
 
@@ -31,27 +30,30 @@ struct Rooms<D: Disk> {
     back: Vec<D>,
 }
 
-fn info_of(plan: &Plan) -> FileInfo
+fn info_of(alloc: Global, plan: &Plan) -> Result<FileInfo, AllocError>
     requires { IsPlan 1048577 plan.now }
-    ensures { result ≡ plan_info (plan_seen plan.now) }
+    ensures { IfOk result (λ info. info ≡ plan_info (plan_seen plan.now)) }
 {
-    FileInfo {
-        name: plan.file.name,
-        disk: 0,
+    let extent = Extent {
         start: 1,
         pages: plan.file.pages,
+    };
+    Ok(FileInfo {
+        name: plan.file.name,
+        disk: 0,
+        extents: Extents::new(alloc, &[extent])?,
         length: plan.file.bytes.as_slice().len() as u32,
         writable: true,
-    }
+    })
 }
 
-fn files_of(alloc: Global, info: FileInfo) -> Result<Files, AllocError>
-    requires blocks { info.start + info.pages ≤ 2 ^ 32 }
-    requires within { info.length ≤ info.pages * 4096 }
-    ensures { IfOk result (λ files. files ≡ opened info ∷ []) }
+fn files_of(alloc: Global, plan: &Plan) -> Result<Files, AllocError>
+    requires { IsPlan 1048577 plan.now }
+    ensures { IfOk result (λ files. files ≡ files_of (plan_seen plan.now)) }
 {
     let mut files = Files::new(alloc);
-    files.add(info)?;
+    files.set_disk(0, plan.blocks)?;
+    files.add(info_of(alloc, plan)?)?;
     Ok(files)
 }
 
@@ -59,9 +61,9 @@ fn rooms_of<D: Disk>(alloc: Global, plan: &Plan) -> Result<Rooms<D>, AllocError>
     requires { IsPlan 1048577 plan.now }
     ensures { IfOk result (HasRooms (plan_seen plan.now)) }
 {
-    let info = info_of(plan);
+    let info = info_of(alloc, plan)?;
     Ok(Rooms {
-        files: files_of(alloc, info)?,
+        files: files_of(alloc, plan)?,
         parents: Vec::from_slice(alloc, &[0])?,
         entries: Vec::from_slice(alloc, &[plan.calls.len() as u32 + 1])?,
         table: table_of(alloc, plan.blocks, &info)?,
@@ -109,7 +111,9 @@ fn run_opened<K: Sink, D: Disk>(
     requires opened { IsOpened (plan_seen plan.now) (D.seen opened.0) opened.1.items }
     requires size { (D.seen opened.0).size ≡ plan.now.blocks }
     requires rooms { HasRooms (plan_seen plan.now) rooms }
-    ensures ended { (rack_old rack_new : ℕ) → Ended (Some (Some (plan_seen plan.now))) (K.seen out.old) (K.seen out.new) rack_old rack_new (end_of D.seen result) }
+    // The clauses of a run hold, whatever the rack counted, and the answer is none that comes before a plan.
+    ensures ended { (rack_old rack_new : ℕ) → Ended (Some (Some (plan_seen plan.now)))
+        (K.seen out.old) (K.seen out.new) rack_old rack_new (end_of D.seen result) }
     ensures words { result.status ≢ 2 }
     ensures source { result.status ≢ 5 }
 {
@@ -151,9 +155,12 @@ fn run_on<K: Sink, D: Disk>(
     requires plan { IsPlan 1048577 plan.now }
     requires number { disk.number ≡ 0 }
     requires size { (D.seen disk.disk).size ≡ plan.now.blocks }
-    requires blank { IfSome (D.seen disk.disk).content (λ blocks. blocks ≡ replicate plan.now.blocks (replicate 4096 0)) }
+    requires blank { IfSome (D.seen disk.disk).content
+        (λ blocks. blocks ≡ replicate plan.now.blocks (replicate 4096 0)) }
     requires rooms { HasRooms (plan_seen plan.now) rooms }
-    ensures ended { (rack_old rack_new : ℕ) → Ended (Some (Some (plan_seen plan.now))) (K.seen out.old) (K.seen out.new) rack_old rack_new (end_of D.seen result) }
+    // The clauses of a run hold, whatever the rack counted, and the answer is none that comes before a plan.
+    ensures ended { (rack_old rack_new : ℕ) → Ended (Some (Some (plan_seen plan.now)))
+        (K.seen out.old) (K.seen out.new) rack_old rack_new (end_of D.seen result) }
     ensures words { result.status ≢ 2 }
     ensures source { result.status ≢ 5 }
 {
@@ -175,7 +182,8 @@ pub fn run_plan<K: Sink, R: Rack>(
     rack: &mut R,
 ) -> Outcome<R::D>
     requires { IsPlan 1048577 plan.now }
-    ensures ended { Ended (Some (Some (plan_seen plan.now))) (K.seen out.old) (K.seen out.new) (R.seen rack.old).faults (R.seen rack.new).faults (end_of R.D.seen result) }
+    ensures ended { Ended (Some (Some (plan_seen plan.now))) (K.seen out.old) (K.seen out.new)
+        (R.seen rack.old).faults (R.seen rack.new).faults (end_of R.D.seen result) }
     ensures words { result.status ≢ 2 }
     ensures source { result.status ≢ 5 }
 {

@@ -3,7 +3,7 @@ ghost use Rattle.std.specs.Prelude.{◌≡◌, ◌+◌, ◌*◌, ◌≤◌, ◌<
 ghost use Rattle.vm_types.specs.declared.call.Call.TheVariants.{Exit};
 ghost use Rattle.vm_types.specs.Prot.{IsProt};
 ghost use Rattle.vm_types.specs.Words.{IsWordSize};
-ghost use Rattle.sunvm.specs.Fields.{is_word, is_name};
+ghost use Rattle.sunvm.specs.Fields.{is_word, is_file_name};
 ghost use Rattle.sunvm.specs.Script.{fields, disk_at, pages_at, content_at, file_at, size_at, load_at, store_at, prot_at, map_at, call_at, calls_from, is_over, plan_at, plan_of};
 ghost use Rattle.sunvm.specs.Plans.{file_seen, plan_seen, IsBlocks, IsFilePlan, IsPlanned, IsPlan};
 
@@ -34,7 +34,9 @@ pub struct Plan {
 
 // Whether these fields begin the disk's line.
 fn is_disk_line(word: &[u8], disk: &[u8], kind: &[u8]) -> bool
-    ensures { result ≡ (is_word word.now (codes "disk") && is_word disk.now (codes "0") && is_word kind.now (codes "blank")) }
+    ensures { result
+        ≡ (is_word word.now (codes "disk") && is_word disk.now (codes "0")
+        && is_word kind.now (codes "blank")) }
 {
     word == b"disk".as_slice() && disk == b"0".as_slice() && kind == b"blank".as_slice()
 }
@@ -60,7 +62,9 @@ fn disk_of(fields: &[&[u8]]) -> Option<u32>
 
 // Whether these fields begin the file's line.
 fn is_file_line(word: &[u8], name: &[u8], mode: &[u8], disk: &[u8]) -> bool
-    ensures { result ≡ (is_word word.now (codes "file") && is_name name.now && is_word mode.now (codes "rw") && is_word disk.now (codes "0")) }
+    ensures { result
+        ≡ (is_word word.now (codes "file") && is_file_name name.now
+        && is_word mode.now (codes "rw") && is_word disk.now (codes "0")) }
 {
     word == b"file".as_slice()
         && is_name_of_file(name)
@@ -86,7 +90,8 @@ fn pages_of(blocks: u32, field: &[u8]) -> Option<u32>
 // The bytes that a file begins with, which fit so many pages.
 #[tactic(auto, unfolding(crate::specs::Script::content_at))]
 fn content_of(alloc: Global, pages: u32, field: &[u8]) -> Result<Option<Vec<u8>>, AllocError>
-    ensures exact { IfOk result (λ bytes. option_map (λ v. v.items) bytes ≡ content_at pages field.now) }
+    ensures exact { IfOk result
+        (λ bytes. option_map (λ v. v.items) bytes ≡ content_at pages field.now) }
     ensures fits { IfOk result (λ bytes. IfSome bytes (λ v. length v.items ≤ pages * 4096)) }
 {
     let Some(bytes) = bytes_of(alloc, field)? else {
@@ -101,7 +106,8 @@ fn content_of(alloc: Global, pages: u32, field: &[u8]) -> Result<Option<Vec<u8>>
 
 #[tactic(auto, unfolding(crate::specs::Script::file_at))]
 fn file_of(alloc: Global, blocks: u32, fields: &[&[u8]]) -> Result<Option<FilePlan>, AllocError>
-    ensures exact { IfOk result (λ file. option_map file_seen file ≡ file_at blocks (map (λ x. x.now) fields.now)) }
+    ensures exact { IfOk result
+        (λ file. option_map file_seen file ≡ file_at blocks (map (λ x. x.now) fields.now)) }
     ensures limits { IfOk result (λ file. IfSome file (λ f. IsFilePlan blocks (file_seen f))) }
 {
     let [word, name, mode, disk, pages, bytes] = fields else {
@@ -266,7 +272,8 @@ fn calls_of(
     name: &FileName,
     lines: &[&[u8]],
 ) -> Result<Option<Vec<Call>>, AllocError>
-    ensures exact { IfOk result (λ calls. option_map (λ v. v.items ++ Exit ∷ []) calls ≡ calls_from name.now (map (λ x. x.now) lines.now)) }
+    ensures exact { IfOk result (λ calls. option_map (λ v. v.items ++ Exit ∷ []) calls
+        ≡ calls_from name.now (map (λ x. x.now) lines.now)) }
     ensures well_formed { IfOk result (λ calls. IfSome calls (λ v. All IsPlanned v.items)) }
     ensures count { IfOk result (λ calls. IfSome calls (λ v. length v.items ≤ length lines.now)) }
 {
@@ -290,7 +297,8 @@ fn calls_of(
 
 #[tactic(auto, unfolding(crate::specs::Script::plan_at))]
 fn plan_of_lines(alloc: Global, lines: &[&[u8]]) -> Result<Option<Plan>, AllocError>
-    ensures exact { IfOk result (λ plan. option_map plan_seen plan ≡ plan_at (map (λ x. x.now) lines.now)) }
+    ensures exact { IfOk result
+        (λ plan. option_map plan_seen plan ≡ plan_at (map (λ x. x.now) lines.now)) }
     ensures plan { IfOk result (λ plan. IfSome plan (IsPlan (length lines.now))) }
 {
     let [disk, file, process, block @ ..] = lines else {

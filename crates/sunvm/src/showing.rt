@@ -3,15 +3,15 @@ ghost use Rattle.std.specs.Prelude.{◌≡◌, ◌≤◌, ◌<◌, ◌+◌, ◌*
 ghost use Rattle.flat_model.specs.Words.{pages_in};
 ghost use Rattle.block_device.specs.DiskSeen.{Reads, Shows};
 ghost use Rattle.sunvm.specs.Report.{bytes_lines};
-ghost use Rattle.sunvm.specs.Run.{Wrote, stored};
-ghost use Rattle.sunvm.specs.Parts.{IsFaultSince};
-ghost use Rattle.vm_core.specs.State.{bytes_before};
+ghost use Rattle.sunvm.specs.Run.{Wrote, stored_bytes};
+ghost use Rattle.sunvm.specs.Parts.{IsFaultAfter};
 ghost use Rattle.sunvm.specs.Showing.{page_text, IsPageStop, IsStop, Looks};
 
 use crate::report::push_bytes;
 use block_device::{Disk, Failed, Sink, write_all};
 use std::alloc::{AllocError, Global};
 use vm_core::DiskFault;
+use vm_types::{bytes_before, pages_in};
 
 /// Why a section wasn't written.
 #[derive(Clone, Copy, Debug)]
@@ -30,7 +30,7 @@ fn read_block<D: Disk>(disk: &mut D, block: u32, into: &mut [u8]) -> Result<(), 
     requires size { length into.old ≡ 4096 }
     ensures looks { Looks (D.seen disk.old) (D.seen disk.new) }
     ensures gives { OnOk result (Shows (D.seen disk.old).content block into.new) }
-    ensures fault { IfErr result (IsFaultSince (D.seen disk.old).faults (D.seen disk.new)) }
+    ensures fault { IfErr result (IsFaultAfter (D.seen disk.old).faults (D.seen disk.new)) }
 {
     let before = disk.faults();
     match disk.read(block, into) {
@@ -43,13 +43,6 @@ fn read_block<D: Disk>(disk: &mut D, block: u32, into: &mut [u8]) -> Result<(), 
     }
 }
 
-// How many bytes of a page lie before the end of a file of this length.
-fn bytes_below(length: u32, page: u32) -> usize
-    ensures { result ≡ bytes_before length page }
-{
-    (length as u64).saturating_sub(page as u64 * 4096).min(4096) as usize
-}
-
 // Writes the lines of a page, once it is read.
 fn show_page<D: Disk, K: Sink>(
     alloc: Global,
@@ -60,16 +53,20 @@ fn show_page<D: Disk, K: Sink>(
 ) -> Result<(), ShowStop>
     requires block { 1 + page < (D.seen disk.old).size }
     requires few { page ≤ 16384 }
+    // No block changes, and no count falls.
     ensures looks { Looks (D.seen disk.old) (D.seen disk.new) }
     ensures later { (K.seen out.old).faults ≤ (K.seen out.new).faults }
-    ensures wrote { OnOk result (IfSome (D.seen disk.old).content (λ blocks. Wrote (K.seen out.old) (K.seen out.new) (page_text length page blocks))) }
-    ensures stopped { IfErr result (IsPageStop length page (K.seen out.old) (K.seen out.new) (D.seen disk.old) (D.seen disk.new)) }
+    // Ok: the page's lines were written. An error: why they weren't.
+    ensures wrote { OnOk result (IfSome (D.seen disk.old).content
+        (λ blocks. Wrote (K.seen out.old) (K.seen out.new) (page_text length page blocks))) }
+    ensures stopped { IfErr result (IsPageStop length page (K.seen out.old) (K.seen out.new)
+        (D.seen disk.old) (D.seen disk.new)) }
 {
     let mut block = [0; 4096];
     if let Err(fault) = read_block(disk, 1 + page, &mut block) {
         return Err(ShowStop::Fault(fault));
     }
-    let count = bytes_below(length, page);
+    let count = bytes_before(length, page) as usize;
     let mut text = Vec::new(alloc);
     if push_bytes(&mut text, 4096 * page, &block[..count]).is_err() {
         return Err(ShowStop::Memory);
@@ -89,12 +86,17 @@ pub fn show_pages<D: Disk, K: Sink>(
 ) -> Result<(), ShowStop>
     requires blocks { pages_in length < (D.seen disk.old).size }
     requires few { pages_in length ≤ 16384 }
+    // No block changes, and no count falls.
     ensures looks { Looks (D.seen disk.old) (D.seen disk.new) }
     ensures later { (K.seen out.old).faults ≤ (K.seen out.new).faults }
-    ensures wrote { OnOk result (IfSome (D.seen disk.old).content (λ blocks. Wrote (K.seen out.old) (K.seen out.new) (bytes_lines 0 (stored length blocks)))) }
-    ensures stopped { IfErr result (IsStop length (K.seen out.old) (K.seen out.new) (D.seen disk.old) (D.seen disk.new)) }
+    // Ok: the file's lines were written. An error: why they weren't.
+    ensures wrote { OnOk result (IfSome (D.seen disk.old).content
+        (λ blocks. Wrote (K.seen out.old) (K.seen out.new)
+        (bytes_lines 0 (stored_bytes length blocks)))) }
+    ensures stopped { IfErr result (IsStop length (K.seen out.old) (K.seen out.new)
+        (D.seen disk.old) (D.seen disk.new)) }
 {
-    for page in 0..length.div_ceil(4096) {
+    for page in 0..pages_in(length) {
         show_page(alloc, length, page, disk, out)?;
     }
     Ok(())

@@ -19,6 +19,7 @@ pub fn push_zeros(out: &mut Vec<u8>, count: usize) -> Result<(), AllocError>
 
 // Adds the entry of a file that may be written.
 fn push_entry(out: &mut Vec<u8>, file: &FileInfo) -> Result<(), AllocError>
+    requires { length file.now.extents ≡ 1 }
     ensures entry { OnOk result (out.new.items ≡ out.old.items ++ entry file.now) }
     ensures some { 1 ≤ length file.now.name }
     ensures short { length file.now.name ≤ 16 }
@@ -27,14 +28,16 @@ fn push_entry(out: &mut Vec<u8>, file: &FileInfo) -> Result<(), AllocError>
     out.extend_from_slice(name)?;
     push_zeros(out, 16 - name.len())?;
     push_number(out, file.length)?;
-    push_number(out, file.start)?;
-    push_number(out, file.pages)?;
+    let extent = file.extents.list()[0];
+    push_number(out, extent.start)?;
+    push_number(out, extent.pages)?;
     push_number(out, u32::from(file.writable))
 }
 
 /// The table of a volume of so many blocks with one file.
 #[tactic(auto, unfolding(crate::specs::Table::table))]
 pub fn table_of(alloc: Global, blocks: u32, file: &FileInfo) -> Result<Vec<u8>, AllocError>
+    requires { length file.now.extents ≡ 1 }
     ensures table { IfOk result (λ t. t.items ≡ table blocks file.now) }
     ensures whole { IfOk result (λ t. length t.items ≡ 4096) }
 {

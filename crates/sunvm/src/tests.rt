@@ -8,7 +8,7 @@ use crate::table::table_of;
 use std::prelude::HostRuntime;
 use std::test::Fail;
 use vm_types::{Call, Entry, Errno, Kind, Object, Place, Prot, Reply, Signal};
-use vnode_files::{FileInfo, FileName};
+use vnode_files::{Extent, Extents, FileInfo, FileName};
 
 #[test]
 fn a_script_of_one_file_is_read(rt: HostRuntime) -> Result<(), Fail> {
@@ -200,11 +200,11 @@ fn a_file_has_a_line_for_bytes_that_are_not_zeros(rt: HostRuntime) -> Result<(),
 
 #[test]
 fn a_table_names_its_file(rt: HostRuntime) -> Result<(), Fail> {
+    let extent = Extent { start: 1, pages: 2 };
     let file = FileInfo {
         name: FileName::new(b"a"),
         disk: 0,
-        start: 1,
-        pages: 2,
+        extents: Extents::new(rt.alloc(), &[extent])?,
         length: 5,
         writable: true,
     };

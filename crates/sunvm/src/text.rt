@@ -1,10 +1,11 @@
 //! Numbers and bytes as text.
 ghost use Rattle.std.specs.Prelude.{◌≡◌, ◌++◌, ◌∷◌, [], decimal, OnOk, ◌<◌};
-ghost use Rattle.vm_types.specs.Words.{IsWordSize, bytes_of};
+ghost use Rattle.vm_types.specs.Words.{IsWordSize, word_bytes};
 ghost use Rattle.sunvm.specs.Report.{hex_digit, byte_text, hex_text, word_text};
 
 use itoa::Buffer;
 use std::alloc::AllocError;
+use vm_types::word_bytes;
 
 /// Adds a number in decimal.
 pub fn push_decimal(out: &mut Vec<u8>, number: u64) -> Result<(), AllocError>
@@ -45,36 +46,26 @@ pub fn push_hex(out: &mut Vec<u8>, bytes: &[u8]) -> Result<(), AllocError>
     Ok(())
 }
 
-// The bytes of a number, the highest first.
-fn bytes_of_number(number: u32) -> [u8; 4]
-    ensures { result ≡ bytes_of 4 number }
-{
-    [
-        (number / 16_777_216) as u8,
-        (number / 65_536 % 256) as u8,
-        (number / 256 % 256) as u8,
-        (number % 256) as u8,
-    ]
-}
-
 /// Adds the bytes of a number, the highest first.
 pub fn push_number(out: &mut Vec<u8>, number: u32) -> Result<(), AllocError>
-    ensures { OnOk result (out.new.items ≡ out.old.items ++ bytes_of 4 number) }
+    ensures { OnOk result (out.new.items ≡ out.old.items ++ word_bytes 4 number) }
 {
-    out.extend_from_slice(&bytes_of_number(number))
+    let bytes = word_bytes(4, number);
+    out.extend_from_slice(bytes.bytes())
 }
 
 /// Adds the digits of a number's four bytes.
 pub fn push_number_hex(out: &mut Vec<u8>, number: u32) -> Result<(), AllocError>
-    ensures { OnOk result (out.new.items ≡ out.old.items ++ hex_text (bytes_of 4 number)) }
+    ensures { OnOk result (out.new.items ≡ out.old.items ++ hex_text (word_bytes 4 number)) }
 {
-    push_hex(out, &bytes_of_number(number))
+    let bytes = word_bytes(4, number);
+    push_hex(out, bytes.bytes())
 }
 
 // Adds the digits of a word's bytes.
 fn push_word_hex(out: &mut Vec<u8>, size: u32, value: u32) -> Result<(), AllocError>
     requires { IsWordSize size }
-    ensures { OnOk result (out.new.items ≡ out.old.items ++ hex_text (bytes_of size value)) }
+    ensures { OnOk result (out.new.items ≡ out.old.items ++ hex_text (word_bytes size value)) }
 {
     match size {
         1 => push_hex(out, &[(value % 256) as u8]),

@@ -3,13 +3,14 @@ use Rattle.std.proofs.Common.{◌≡◌, ◌≢◌, ◌⊎◌, inl, inr, ℕ, �
 use Rattle.std.specs.Prelude.{IfSome, IfNone, OnErr}
 use Rattle.std.proofs.lemmas.Bool.{cases_eq, false≢true}
 use Rattle.std.proofs.lemmas.List.{drop-replicate}
-use Rattle.vnode_files.specs.declared.entry.FileInfo.{FileInfo}
+use Rattle.vm_types.specs.Pages.{bytes_before}
+use Rattle.vnode_files.specs.declared.vnode.FileInfo.{FileInfo}
 use Rattle.block_device.specs.DiskSeen.{DiskSeen, HasBlocks, Spoils, with_block}
 use Rattle.flat_model.specs.Words.{Page}
-use Rattle.flat_model.specs.Parts.{cut}
-use Rattle.flat_model.proofs.FileBytes.{length-cut}
-use Rattle.vm_core.specs.State.{StateSeen, info_of, disks_seen, blocks_of, page_in, bytes_before, HoldsPage, HoldsClean, HoldsPages, IsClean, IsOnDisks}
-use Rattle.vm_core.specs.Closing.{KeepsOutside, HoldsFile, IsPushed, HasPushed, HasWritten, HasStopped, padded}
+use Rattle.flat_model.specs.Parts.{pages_of_bytes}
+use Rattle.flat_model.proofs.FileBytes.{length-pages_of_bytes}
+use Rattle.vm_core.specs.State.{StateSeen, info_of, disks_seen, blocks_of, page_in, extent_of, HoldsPage, HoldsClean, HoldsPages, IsCleanOnDisk, IsOnDisks}
+use Rattle.vm_core.specs.Closing.{KeepsOutside, HoldsFile, IsPushed, HasPushed, HasWritten, HasStopped, padded_front}
 use Rattle.vm_core.proofs.Pages.{whole-in}
 
 pub keeps-same : (first n : ℕ) (o : Option (List (List ℕ))) → KeepsOutside first n o o
@@ -31,11 +32,11 @@ pub keeps-write : (first n block : ℕ) (bytes : List ℕ) (o p q : Option (List
 keeps-write first n block bytes o p q is from to keeps = subst (KeepsOutside first n o) (sym is) (keeps_write first n block bytes o p from to keeps)
 
 -- bytes that are put over zeros
-pub padded-is : (new page : List ℕ) (n : ℕ) → new ≡ take n page → new ++ drop n (replicate 4096 0) ≡ padded n page
+pub padded-is : (new page : List ℕ) (n : ℕ) → new ≡ take n page → new ++ drop n (replicate 4096 0) ≡ padded_front n page
 padded-is new page n is = ap (λ (xs : List ℕ). xs ++ drop n (replicate 4096 0)) is ∙ ap (λ (xs : List ℕ). take n page ++ xs) (drop-replicate n 4096 0)
 
 -- a block that holds the bytes before the end and zeros holds the page
-holds_padded : (info : FileInfo) (i : ℕ) (page : Page) → length page ≡ 4096 → HoldsPage info i page (padded (bytes_before info.length i) page)
+holds_padded : (info : FileInfo) (i : ℕ) (page : Page) → length page ≡ 4096 → HoldsPage info i page (padded_front (bytes_before info.length i) page)
 holds_padded info i page whole =
     let n = bytes_before info.length i in
     take_at (take n page) (replicate (4096 - n) 0) n (omega (arith, length-take n page, whole))
@@ -67,22 +68,22 @@ other_block : (blocks : List (List ℕ)) (start i j : ℕ) (bytes : List ℕ) �
 other_block blocks start i j bytes apart = get_or-set_other blocks (start + i) (start + j) bytes [] (λ same. apart (omega (arith, same)))
 
 -- a page that was modified is written
-pushed_write : (info : FileInfo) (pages : List Page) (modified : List Bool) (i size : ℕ) (page : Page) (o p : Option (List (List ℕ))) → HasBlocks p size → info.start + i < size → page ≡ page_in pages i → slice_index_or modified i true ≡ true → HasPushed info pages modified i i o p
-    → HasPushed info pages modified (i + 1) (i + 1) o (with_block p (info.start + i) (padded (bytes_before info.length i) page))
+pushed_write : (info : FileInfo) (pages : List Page) (modified : List Bool) (i size : ℕ) (page : Page) (o p : Option (List (List ℕ))) → HasBlocks p size → (extent_of info).start + i < size → page ≡ page_in pages i → slice_index_or modified i true ≡ true → HasPushed info pages modified i i o p
+    → HasPushed info pages modified (i + 1) (i + 1) o (with_block p ((extent_of info).start + i) (padded_front (bytes_before info.length i) page))
 pushed_write info pages modified i size page None None has inside is mark was = tt
 pushed_write info pages modified i size page None (Some new) has inside is mark was = absurd was
 pushed_write info pages modified i size page (Some old) None has inside is mark was = absurd was
 pushed_write info pages modified i size page (Some old) (Some new) has inside is mark was = by_page
   where
     bytes : List ℕ
-    bytes = padded (bytes_before info.length i) page
+    bytes = padded_front (bytes_before info.length i) page
 
     after : List (List ℕ)
-    after = slice_set new (info.start + i) bytes
+    after = slice_set new ((extent_of info).start + i) bytes
 
     here : IsPushed info pages modified (i + 1) (i + 1) old after i
     here = record {
-      written = λ low is_marked. get_or-set_same new (info.start + i) bytes [] (omega (arith, has.0, inside)) ∙ ap (padded (bytes_before info.length i)) is;
+      written = λ low is_marked. get_or-set_same new ((extent_of info).start + i) bytes [] (omega (arith, has.0, inside)) ∙ ap (padded_front (bytes_before info.length i)) is;
       same = λ out. absurd (no_way out);
     }
       where
@@ -94,24 +95,24 @@ pushed_write info pages modified i size page (Some old) (Some new) has inside is
     by_page j below = elim (cases_eq j i) [
       | inl at ↦ subst (IsPushed info pages modified (i + 1) (i + 1) old after) (sym at) here
       | inr apart ↦ record {
-        written = λ low is_marked. other_block new info.start i j bytes apart ∙ (was j below).written (omega (arith, low, apart)) is_marked;
-        same = λ out. other_block new info.start i j bytes apart ∙ (was j below).same (not_yet i j out);
+        written = λ low is_marked. other_block new (extent_of info).start i j bytes apart ∙ (was j below).written (omega (arith, low, apart)) is_marked;
+        same = λ out. other_block new (extent_of info).start i j bytes apart ∙ (was j below).same (not_yet i j out);
       }
     ]
 
 -- a turn of the loop: the page's block is written if it was modified
-pub pushed-turn : (info : FileInfo) (pages : List Page) (modified : List Bool) (i size : ℕ) (page : Page) (marked : Bool) (o p q : Option (List (List ℕ))) → HasBlocks p size → info.start + i < size → page ≡ page_in pages i → marked ≡ slice_index_or modified i true
-    → q ≡ cond marked (with_block p (info.start + i) (padded (bytes_before info.length i) page)) p → HasPushed info pages modified i i o p → HasPushed info pages modified (i + 1) (i + 1) o q
+pub pushed-turn : (info : FileInfo) (pages : List Page) (modified : List Bool) (i size : ℕ) (page : Page) (marked : Bool) (o p q : Option (List (List ℕ))) → HasBlocks p size → (extent_of info).start + i < size → page ≡ page_in pages i → marked ≡ slice_index_or modified i true
+    → q ≡ cond marked (with_block p ((extent_of info).start + i) (padded_front (bytes_before info.length i) page)) p → HasPushed info pages modified i i o p → HasPushed info pages modified (i + 1) (i + 1) o q
 pushed-turn info pages modified i size page true o p q has inside is_page mark is was = subst (HasPushed info pages modified (i + 1) (i + 1) o) (sym is) (pushed_write info pages modified i size page o p has inside is_page (sym mark) was)
 pushed-turn info pages modified i size page false o p q has inside is_page mark is was = subst (HasPushed info pages modified (i + 1) (i + 1) o) (sym is) (pushed_skip info pages modified i o p (sym mark) was)
 
-pushed_spoil : (info : FileInfo) (pages : List Page) (modified : List Bool) (i : ℕ) (bytes : List ℕ) (o p : Option (List (List ℕ))) → slice_index_or modified i true ≡ true → HasPushed info pages modified i i o p → HasPushed info pages modified i (i + 1) o (with_block p (info.start + i) bytes)
+pushed_spoil : (info : FileInfo) (pages : List Page) (modified : List Bool) (i : ℕ) (bytes : List ℕ) (o p : Option (List (List ℕ))) → slice_index_or modified i true ≡ true → HasPushed info pages modified i i o p → HasPushed info pages modified i (i + 1) o (with_block p ((extent_of info).start + i) bytes)
 pushed_spoil info pages modified i bytes None None mark was = tt
 pushed_spoil info pages modified i bytes None (Some new) mark was = absurd was
 pushed_spoil info pages modified i bytes (Some old) None mark was = absurd was
 pushed_spoil info pages modified i bytes (Some old) (Some new) mark was = λ j below. record {
-  written = λ low is_marked. other_block new info.start i j bytes (λ here. absurd (omega (arith, low, here))) ∙ (was j below).written low is_marked;
-  same = λ out. other_block new info.start i j bytes (away j out) ∙ (was j below).same (not_yet i j out);
+  written = λ low is_marked. other_block new (extent_of info).start i j bytes (λ here. absurd (omega (arith, low, here))) ∙ (was j below).written low is_marked;
+  same = λ out. other_block new (extent_of info).start i j bytes (away j out) ∙ (was j below).same (not_yet i j out);
 }
   where
     away : (j : ℕ) → (i + 1 ≤ j) ⊎ (slice_index_or modified j true ≡ false) → j ≢ i
@@ -119,7 +120,7 @@ pushed_spoil info pages modified i bytes (Some old) (Some new) mark was = λ j b
     away j (inr clean) here = false≢true (sym clean ∙ ap (λ (k : ℕ). slice_index_or modified k true) here ∙ mark)
 
 -- the page's transfer failed
-pub pushed-stop : (info : FileInfo) (pages : List Page) (modified : List Bool) (i n : ℕ) (marked : Bool) (o p q : Option (List (List ℕ))) → i < n → marked ≡ slice_index_or modified i true → marked ≡ true → Spoils p q (info.start + i) → HasPushed info pages modified i i o p
+pub pushed-stop : (info : FileInfo) (pages : List Page) (modified : List Bool) (i n : ℕ) (marked : Bool) (o p q : Option (List (List ℕ))) → i < n → marked ≡ slice_index_or modified i true → marked ≡ true → Spoils p q ((extent_of info).start + i) → HasPushed info pages modified i i o p
     → (k : ℕ) × (k < n) × HasPushed info pages modified k (k + 1) o q
 pushed-stop info pages modified i n marked o p q below mark is spoils was = (i, below, subst (HasPushed info pages modified i (i + 1) o) (sym spoils.2) (pushed_spoil info pages modified i spoils.0 o p (sym mark ∙ is) was))
 
@@ -130,7 +131,7 @@ held-all info pages modified None (Some new) whole has clean = absurd has
 held-all info pages modified (Some old) None whole has clean = tt
 held-all info pages modified (Some old) (Some new) whole has clean = λ i below. by_mark i below (slice_index_or modified i true) refl
   where
-    by_mark : (i : ℕ) → i < length pages → (b : Bool) → slice_index_or modified i true ≡ b → HoldsPage info i (page_in pages i) (slice_index_or new (info.start + i) [])
+    by_mark : (i : ℕ) → i < length pages → (b : Bool) → slice_index_or modified i true ≡ b → HoldsPage info i (page_in pages i) (slice_index_or new ((extent_of info).start + i) [])
     by_mark i below true is = subst (HoldsPage info i (page_in pages i)) (sym ((has i below).written below is)) (holds_padded info i (page_in pages i) (whole i below))
     by_mark i below false is = subst (HoldsPage info i (page_in pages i)) (sym ((has i below).same (inr is))) (clean i below is)
 
@@ -157,12 +158,12 @@ over_disks seen disks item new s P info same on is holds =
     subst (λ (o : Option (List (List ℕ))). P o (blocks_of (disks_seen seen (slice_set disks 0 (item.0, new))))) (sym was) (subst (λ (q : Option (List (List ℕ))). P (seen item.1).content q) (sym now) holds)
 
 pub finish-outside : {D : Type 0} (seen : D → DiskSeen) (disks : List (ℕ × D)) (item : ℕ × D) (new : D) (s : StateSeen) (info : FileInfo) (n : ℕ) (on : FileInfo) → s.disks ≡ disks_seen seen disks → IsOnDisks on (disks_seen seen disks) → item ≡ slice_index_or disks 0 item → info ≡ info_of s → n ≡ length s.pages
-    → KeepsOutside info.start n (seen item.1).content (seen new).content → KeepsOutside (info_of s).start (length s.pages) (blocks_of s.disks) (blocks_of (disks_seen seen (slice_set disks 0 (item.0, new))))
+    → KeepsOutside (extent_of info).start n (seen item.1).content (seen new).content → KeepsOutside (extent_of (info_of s)).start (length s.pages) (blocks_of s.disks) (blocks_of (disks_seen seen (slice_set disks 0 (item.0, new))))
 finish-outside seen disks item new s info n on same is_on is info_is count keeps =
     let o = (seen item.1).content in
     let q = (seen new).content in
-    let here = subst (λ (k : ℕ). KeepsOutside (info_of s).start k o q) count (subst (λ (i : FileInfo). KeepsOutside i.start n o q) info_is keeps) in
-    over_disks seen disks item new s (KeepsOutside (info_of s).start (length s.pages)) on same is_on is here
+    let here = subst (λ (k : ℕ). KeepsOutside (extent_of (info_of s)).start k o q) count (subst (λ (i : FileInfo). KeepsOutside (extent_of i).start n o q) info_is keeps) in
+    over_disks seen disks item new s (KeepsOutside (extent_of (info_of s)).start (length s.pages)) on same is_on is here
 
 pub finish-pushed : {D : Type 0} (seen : D → DiskSeen) (disks : List (ℕ × D)) (item : ℕ × D) (new : D) (s : StateSeen) (info : FileInfo) (pages : List Page) (modified : List Bool) (n m : ℕ) (on : FileInfo) → s.disks ≡ disks_seen seen disks → IsOnDisks on (disks_seen seen disks) → item ≡ slice_index_or disks 0 item → info ≡ info_of s → pages ≡ s.pages → modified ≡ s.modified
     → HasPushed info pages modified n m (seen item.1).content (seen new).content → HasPushed (info_of s) s.pages s.modified n m (blocks_of s.disks) (blocks_of (disks_seen seen (slice_set disks 0 (item.0, new))))
@@ -186,11 +187,11 @@ finish-stopped seen disks item new s info pages modified n on same is_on is info
     (stop.0, omega (arith, stop.1, count), finish-pushed seen disks item new s info pages modified stop.0 (stop.0 + 1) on same is_on is info_is pages_are marks_are stop.2)
 
 -- a state whose pages are whole, and the blocks that hold them in the end
-pub finish-closed : (s : StateSeen) (n : ℕ) (bytes : List ℕ) (disks : List (ℕ × DiskSeen)) → cut n bytes ≡ s.pages → length bytes ≡ 4096 * n → HasWritten s disks → IsClean s → HoldsFile s disks
+pub finish-closed : (s : StateSeen) (n : ℕ) (bytes : List ℕ) (disks : List (ℕ × DiskSeen)) → pages_of_bytes n bytes ≡ s.pages → length bytes ≡ 4096 * n → HasWritten s disks → IsCleanOnDisk s → HoldsFile s disks
 finish-closed s n bytes disks are size written clean =
     let count = ap (λ (ps : List Page). length ps) are in
     held-all (info_of s) s.pages s.modified (blocks_of s.disks) (blocks_of disks)
-    (λ i below. ap (λ (ps : List Page). length (page_in ps i)) (sym are) ∙ whole-in n i bytes (omega (arith, below, count, length-cut n bytes)) size)
+    (λ i below. ap (λ (ps : List Page). length (page_in ps i)) (sym are) ∙ whole-in n i bytes (omega (arith, below, count, length-pages_of_bytes n bytes)) size)
     written clean
 
 -- what is wanted where there is none

@@ -2,7 +2,7 @@
 use Rattle.std.proofs.Common.{◌≡◌, ℕ, ◌+◌, ◌*◌, ◌<◌, Bool, false, List, [], ◌∷◌, ◌++◌, length, Option, Some, None, Result, Ok, Err, refl, sym, ap, ◌∙◌, subst, arith, length-append, slice_index_or}
 use Rattle.std.specs.Prelude.{IfSome, IsSome}
 use Rattle.vm_types.specs.declared.call.Call.{Call}
-use Rattle.vm_types.specs.declared.call.Call.TheVariants.{Load, Store, Map, Unmap, Protect, Sync, Read, Write, Fork, Exit}
+use Rattle.vm_types.specs.declared.call.Call.TheVariants.{Load, Store, Map, Unmap, Protect, Sync, Read, Write, Truncate, Fork, Exit}
 use Rattle.vm_types.specs.declared.call.Entry.{Entry}
 use Rattle.vm_types.specs.declared.call.Errno.{Errno}
 use Rattle.vm_types.specs.declared.call.Signal.{Signal}
@@ -11,16 +11,16 @@ use Rattle.vm_types.specs.declared.call.Reply.TheVariants as reply
 use Rattle.flat_model.specs.Flat.{Flat, space_of}
 use Rattle.vm_types.specs.Prot.{can_read, can_write}
 use Rattle.flat_model.specs.Words.{page, word_at, word_put}
-use Rattle.flat_model.specs.Access.{met, written}
-use Rattle.flat_model.specs.Mapping.{mapped}
-use Rattle.flat_model.specs.Refusals.{Outcome, or_signal, or_refused, done}
-use Rattle.flat_model.specs.Step.{outcome, acted, step, tails_cleared, IsDue, IsUnborn, IsStep}
+use Rattle.flat_model.specs.Access.{access_target, with_page_stored}
+use Rattle.flat_model.specs.Mapping.{map_result}
+use Rattle.flat_model.specs.Refusals.{Effect, or_signal, or_refused, done}
+use Rattle.flat_model.specs.Step.{effect, after_act, bit, step, tails_cleared, IsDue, IsUnborn, IsStep}
 use Rattle.flat_model.specs.History.{replay, Legal, IsSyncStart, is_io}
 use Rattle.flat_model.specs.HistoryLaws.{IsNextPart, IsNext}
 use Rattle.flat_model.proofs.Histories.{replay-push, Legal-push}
-use Rattle.vnode_files.specs.declared.entry.FileInfo.{FileInfo}
-use Rattle.vnode_files.specs.Files.{file_at}
-use Rattle.vm_core.specs.State.{StateSeen, info_of, flat, blocks_of, HoldsPage, HoldsPages, HoldsClean, IsOnDisks, Fits}
+use Rattle.vnode_files.specs.declared.vnode.FileInfo.{FileInfo}
+use Rattle.vnode_files.specs.Files.{FilesSeen, vnode_at}
+use Rattle.vm_core.specs.State.{StateSeen, info_of, extent_of, flat, blocks_of, HoldsPage, HoldsPages, HoldsClean, IsOnDisks, Fits}
 use Rattle.vm_core.specs.Calls.{IsKnown, entry_of, with_history, Keeps}
 
 -- the reply says neither that a transfer failed nor where a Sync began
@@ -34,25 +34,26 @@ IsPlain (reply.Signal s) = Unit {0}
 IsPlain (reply.Refused e) = Unit {0}
 IsPlain (reply.Io d b a) = ⊥
 
-plain_signal : {A : Type 0} (F : Flat) (acts : A → Outcome) (r : Result A Signal) → ((x : A) → IsPlain (acts x).reply) → IsPlain (or_signal F acts r).reply
+plain_signal : {A : Type 0} (F : Flat) (acts : A → Effect) (r : Result A Signal) → ((x : A) → IsPlain (acts x).reply) → IsPlain (or_signal F acts r).reply
 plain_signal F acts (Ok x) plain = plain x
 plain_signal F acts (Err s) plain = tt
 
-plain_refused : {A : Type 0} (F : Flat) (acts : A → Outcome) (r : Result A Errno) → ((x : A) → IsPlain (acts x).reply) → IsPlain (or_refused F acts r).reply
+plain_refused : {A : Type 0} (F : Flat) (acts : A → Effect) (r : Result A Errno) → ((x : A) → IsPlain (acts x).reply) → IsPlain (or_refused F acts r).reply
 plain_refused F acts (Ok x) plain = plain x
 plain_refused F acts (Err e) plain = tt
 
 -- the calls that the state can make have such replies
-pub plain : (F : Flat) (p : ℕ) (call : Call) → IsKnown call → IsPlain (outcome F p call).reply
-plain F p (Load a n) known = plain_signal F (λ m. record { reply = reply.Word (word_at m.1 a n); after = F }) (met F p can_read a n) (λ x. tt)
-plain F p (Store a n v) known = plain_signal F (λ m. done (written F p (page a) m.0 (word_put m.1 a n v))) (met F p can_write a n) (λ x. tt)
+pub plain : (F : Flat) (p : ℕ) (call : Call) → IsKnown call → IsPlain (effect F p call).reply
+plain F p (Load a n) known = plain_signal F (λ m. record { reply = reply.Word (word_at m.1 a n); after = F }) (access_target F p can_read a n) (λ x. tt)
+plain F p (Store a n v) known = plain_signal F (λ m. done (with_page_stored F p (page a) m.0 (word_put m.1 a n v))) (access_target F p can_write a n) (λ x. tt)
 plain F p (Map place len prot kind o offset) known =
-    plain_refused F (λ m. record { reply = reply.Mapped (4096 * m.0); after = m.1 }) (mapped F p (record { place = place; len = len; prot = prot; kind = kind; object = o; offset = offset })) (λ x. tt)
+    plain_refused F (λ m. record { reply = reply.Mapped (4096 * m.0); after = m.1 }) (map_result F p (record { place = place; len = len; prot = prot; kind = kind; object = o; offset = offset })) (λ x. tt)
 plain F p (Unmap a len) known = absurd known
 plain F p (Protect a len prot) known = absurd known
 plain F p (Sync a len) known = absurd known
 plain F p (Read file offset len) known = absurd known
 plain F p (Write file offset line rest) known = absurd known
+plain F p (Truncate file len) known = absurd known
 plain F p (Fork child) known = absurd known
 plain F p Exit known = tt
 
@@ -66,7 +67,7 @@ not_io (reply.Signal s) is = refl
 not_io (reply.Refused e) is = refl
 not_io (reply.Io d b a) is = absurd is
 
-due_of : (F : Flat) (p : ℕ) (call : Call) (r : Reply) → IsPlain r → r ≡ (outcome F p call).reply → IsDue F (entry_of p call r)
+due_of : (F : Flat) (p : ℕ) (call : Call) (r : Reply) → IsPlain r → r ≡ (effect F p call).reply → IsDue F (entry_of p call r)
 due_of F p call reply.Done plain is = sym is
 due_of F p call (reply.Word w) plain is = sym is
 due_of F p call (reply.Mapped a) plain is = sym is
@@ -76,7 +77,7 @@ due_of F p call (reply.Signal s) plain is = sym is
 due_of F p call (reply.Refused e) plain is = sym is
 due_of F p call (reply.Io d b a) plain is = absurd plain
 
-acted_of : (F : Flat) (p : ℕ) (call : Call) (r : Reply) → IsPlain r → acted F (entry_of p call r) ≡ (outcome F p call).after
+acted_of : (F : Flat) (p : ℕ) (call : Call) (r : Reply) → IsPlain r → after_act F (entry_of p call r) ≡ (effect F p call).after
 acted_of F p call reply.Done plain = refl
 acted_of F p call (reply.Word w) plain = refl
 acted_of F p call (reply.Mapped a) plain = refl
@@ -95,14 +96,15 @@ unborn_of F (Protect a len prot) known = absurd known
 unborn_of F (Sync a len) known = absurd known
 unborn_of F (Read file offset len) known = absurd known
 unborn_of F (Write file offset line rest) known = absurd known
+unborn_of F (Truncate file len) known = absurd known
 unborn_of F (Fork child) known = absurd known
 unborn_of F Exit known = tt
 
 -- no tail becomes zeros
-no_tails : (s : StateSeen) → tails_cleared (flat s) 0 ≡ flat s
+no_tails : (s : StateSeen) → tails_cleared (flat s) (bit 0) ≡ flat s
 no_tails s = refl
 
-pub step_is : (s : StateSeen) (p : ℕ) (call : Call) (r : Reply) → IsKnown call → IsSome (space_of (flat s) p) → r ≡ (outcome (flat s) p call).reply → IsStep (flat s) (entry_of p call r)
+pub step_is : (s : StateSeen) (p : ℕ) (call : Call) (r : Reply) → IsKnown call → IsSome (space_of (flat s) p) → r ≡ (effect (flat s) p call).reply → IsStep (flat s) (entry_of p call r)
 step_is s p call r known alive is = record {
   files = omega arith;
   alive = alive;
@@ -110,7 +112,7 @@ step_is s p call r known alive is = record {
   due = due_of (flat s) p call r (subst IsPlain (sym is) (plain (flat s) p call known)) is;
 }
 
-pub step_after : (s : StateSeen) (p : ℕ) (call : Call) (r : Reply) → IsKnown call → r ≡ (outcome (flat s) p call).reply → step (flat s) (entry_of p call r) ≡ (outcome (flat s) p call).after
+pub step_after : (s : StateSeen) (p : ℕ) (call : Call) (r : Reply) → IsKnown call → r ≡ (effect (flat s) p call).reply → step (flat s) (entry_of p call r) ≡ (effect (flat s) p call).after
 step_after s p call r known is = acted_of (flat s) p call r (subst IsPlain (sym is) (plain (flat s) p call known))
 
 sync_of : (H : List Entry) (k p : ℕ) (call : Call) (r : Reply) → IsPlain r → IsSyncStart H k (entry_of p call r)
@@ -132,6 +134,7 @@ part_of H p (Protect a len prot) r known = absurd known
 part_of H p (Sync a len) r known = absurd known
 part_of H p (Read file offset len) r known = absurd known
 part_of H p (Write file offset line rest) r known = absurd known
+part_of H p (Truncate file len) r known = absurd known
 part_of H p (Fork child) r known = absurd known
 part_of H p Exit r known = tt
 
@@ -148,17 +151,17 @@ clean_of old new keeps None is = tt
 clean_of old new keeps (Some blocks) is = λ i below clean.
     let same = keeps.pages i clean in
     let was = is i (omega (arith, keeps.count, below)) (keeps.marks i clean) in
-    subst (λ (p : List ℕ). HoldsPage (info_of old) i p (slice_index_or blocks ((info_of old).start + i) [])) (sym same) was
+    subst (λ (p : List ℕ). HoldsPage (info_of old) i p (slice_index_or blocks ((extent_of (info_of old)).start + i) [])) (sym same) was
 
 -- the state after a call fits what it fitted before
 pub fits_after : (opening : Flat) (old new : StateSeen) (p : ℕ) (call : Call) (r : Reply) → IsKnown call → IsSome (space_of (flat old) p) → length old.history < old.allowed
-    → r ≡ (outcome (flat old) p call).reply → flat new ≡ (outcome (flat old) p call).after → new.history ≡ old.history ++ entry_of p call r ∷ []
+    → r ≡ (effect (flat old) p call).reply → flat new ≡ (effect (flat old) p call).after → new.history ≡ old.history ++ entry_of p call r ∷ []
     → Keeps old (with_history new old.history) → Fits opening old → Fits opening new
 fits_after opening old new p call r known alive room is after history keeps fits =
     let e = entry_of p call r in
     let is_plain = subst IsPlain (sym is) (plain (flat old) p call known) in
     let stepped = step_is old p call r known alive is in
-    let info : info_of new ≡ info_of old = ap (λ files. (file_at files 0).info) keeps.files in
+    let info : info_of new ≡ info_of old = ap (λ (fs : FilesSeen). (vnode_at fs 0).info) keeps.files in
     let allowed = keeps.allowed in
     let count = ap length history ∙ length-append old.history (e ∷ []) in
     record {

@@ -13,20 +13,20 @@ use Rattle.vm_types.specs.declared.call.Errno.TheVariants as errno
 use Rattle.vm_types.specs.declared.prot.Prot.{Prot}
 use Rattle.vm_types.specs.Prot.{is_within}
 use Rattle.flat_model.specs.Words.{Page, page, pages_in}
-use Rattle.flat_model.specs.Flat.{Cell, Space, File, Flat, space_of, cell_at, shown, slots_for, private_cells, swept, is_named, reserved}
-use Rattle.flat_model.specs.Space.{without, with_cells}
-use Rattle.flat_model.specs.Access.{written, changed_at, file_with_page, with_space}
-use Rattle.flat_model.specs.Refusals.{◌>>◌, need}
-use Rattle.flat_model.specs.Mapping.{cells_of, cleared_for, read_only, read_write, max_of, new_cell, is_valid, is_there, mapped, mapped_at}
-use Rattle.flat_model.specs.Processes.{exited}
-use Rattle.flat_model.proofs.Ranges.{get-insert_here, get-insert_apart, get-remove_here, get-remove_apart, get-retain_keys, insert_same, with_cells-without}
+use Rattle.flat_model.specs.Flat.{Cell, Space, File, Flat, space_of, cell_at, shown, slots_for, private_cells, without_unnamed, is_named, reserved}
+use Rattle.flat_model.specs.Space.{without_range, with_cells}
+use Rattle.flat_model.specs.Access.{with_page_stored, changed_at, file_with_page, with_space}
+use Rattle.flat_model.specs.Refusals.{◌>>◌, check}
+use Rattle.flat_model.specs.Mapping.{cells_of, without_replaced, prot_read, prot_read_write, max_of, new_cell, is_valid, is_there, map_result, with_mapping}
+use Rattle.flat_model.specs.Processes.{without_process}
+use Rattle.flat_model.proofs.Ranges.{get-insert_here, get-insert_apart, get-remove_here, get-remove_apart, get-retain_keys, insert_same, with_cells-without_range}
 use Rattle.flat_model.proofs.Sums.{total, total-insert, total-remove, insert-remove}
 use Rattle.flat_model.proofs.Mappings.{cells_of-with_space}
-use Rattle.vnode_files.specs.declared.entry.FileInfo.{FileInfo}
-use Rattle.vnode_files.specs.Files as vnode
+use Rattle.vnode_files.specs.declared.vnode.FileInfo.{FileInfo}
+use Rattle.vnode_files.specs.Files.{FilesSeen, vnode_at}
 use Rattle.vm_core.specs.Table.{cell_of, mapping_at, cells, cells_from}
 use Rattle.vm_core.specs.State.{StateSeen, info_of, page_in, file_of, spaces_of, flat}
-use Rattle.vm_core.specs.Calls.{request, with_page}
+use Rattle.vm_core.specs.Calls.{request, with_modified_page}
 use Rattle.vm_core.specs.declared.mapping.Mapping.{Mapping}
 use Rattle.vm_core.specs.declared.mapping.FileMap.{FileMap}
 use Rattle.vm_core.proofs.Pages.{slice_get-in, slice_get-out}
@@ -79,11 +79,11 @@ pub shown-other : (s : StateSeen) (m : Mapping) → (m.file ≡ 0 → ⊥) → s
 shown-other s m not = no_page_of (file_of (info_of s) s.pages) m.file m.index not
 
 -- a page that is put among the pages is written in flat memory
-changed_first : (s : StateSeen) (i k : ℕ) (new : Page) → k ≡ 0 → flat (with_page s i new) ≡ record (flat s) { files = changed_at (file_with_page i new) (flat s).files k }
+changed_first : (s : StateSeen) (i k : ℕ) (new : Page) → k ≡ 0 → flat (with_modified_page s i new) ≡ record (flat s) { files = changed_at (file_with_page i new) (flat s).files k }
 changed_first s i zero new is = refl
 changed_first s i (suc k) new is = absurd (omega (arith, is))
 
-pub flat-with_page : (s : StateSeen) (m : Mapping) (q : ℕ) (new : Page) → m.file ≡ 0 → flat (with_page s m.index new) ≡ written (flat s) 1 q (cell_of m) new
+pub flat-with_page : (s : StateSeen) (m : Mapping) (q : ℕ) (new : Page) → m.file ≡ 0 → flat (with_modified_page s m.index new) ≡ with_page_stored (flat s) 1 q (cell_of m) new
 flat-with_page s m q new is = changed_first s m.index m.file new is
 
 -- flat memory with other zero objects and spaces
@@ -114,32 +114,32 @@ gone_first space = same_map _ _ (λ q. elim (cases_eq q 1) [
 ])
 
 -- the exit
-pub flat-exited : (s : StateSeen) → s.alive ≡ true → flat (record s { alive = false }) ≡ exited (flat s) 1
+pub flat-exited : (s : StateSeen) → s.alive ≡ true → flat (record s { alive = false }) ≡ without_process (flat s) 1
 flat-exited s is =
     let spaces = ap (λ m. finite.remove m 1) (alive_space s.alive (cells s.table) is) ∙ gone_first (cells s.table) in
     let G = with_parts s finite.empty (finite.remove (flat s).spaces 1) in
     sym (ap (λ z. with_parts s z (finite.remove (flat s).spaces 1)) (retain-empty (is_named G)) ∙ ap (with_parts s finite.empty) spaces)
 
 -- a shared mapping of the file
-spaces-mapped : (s : StateSeen) (asked : FileMap) → s.alive ≡ true → let n = pages_in asked.length in let G = cleared_for (flat s) 1 (request asked).place n in finite.insert G.spaces 1 (with_cells (cells_of G 1) (page asked.addr) n (new_cell (flat s) G (request asked))) ≡ finite.insert finite.empty 1 (with_cells (cells s.table) (page asked.addr) n (new_cell (flat s) G (request asked)))
+spaces-mapped : (s : StateSeen) (asked : FileMap) → s.alive ≡ true → let n = pages_in asked.length in let G = without_replaced (flat s) 1 (request asked).place n in finite.insert G.spaces 1 (with_cells (cells_of G 1) (page asked.addr) n (new_cell (flat s) G (request asked))) ≡ finite.insert finite.empty 1 (with_cells (cells s.table) (page asked.addr) n (new_cell (flat s) G (request asked)))
 spaces-mapped s asked is =
     let n = pages_in asked.length in
     let first = page asked.addr in
-    let cleared = without (cells_of (flat s) 1) first n in
+    let cleared = without_range (cells_of (flat s) 1) first n in
     let G = with_space (flat s) 1 cleared in
     let cell = new_cell (flat s) G (request asked) in
     let inside : with_cells (cells_of G 1) first n cell ≡ with_cells (cells s.table) first n cell =
-    ap (λ space. with_cells space first n cell) (cells_of-with_space (flat s) 1 cleared) ∙ with_cells-without (cells_of (flat s) 1) first n cell ∙ ap (λ space. with_cells space first n cell) (cells_of-alive s is) in
+    ap (λ space. with_cells space first n cell) (cells_of-with_space (flat s) 1 cleared) ∙ with_cells-without_range (cells_of (flat s) 1) first n cell ∙ ap (λ space. with_cells space first n cell) (cells_of-alive s is) in
     over_first (flat s).spaces cleared (with_cells (cells_of G 1) first n cell)
     ∙ ap (λ spaces. finite.insert spaces 1 (with_cells (cells_of G 1) first n cell)) (alive_space s.alive (cells s.table) is)
     ∙ over_first finite.empty (cells s.table) (with_cells (cells_of G 1) first n cell)
     ∙ ap (finite.insert finite.empty 1) inside
 
 -- flat memory after a shared mapping of the file
-pub flat-mapped : (s : StateSeen) (asked : FileMap) → s.alive ≡ true → mapped_at (flat s) 1 (request asked) (page asked.addr) ≡ with_parts s finite.empty (finite.insert finite.empty 1 (with_cells (cells s.table) (page asked.addr) (pages_in asked.length) (new_cell (flat s) (cleared_for (flat s) 1 (request asked).place (pages_in asked.length)) (request asked))))
+pub flat-mapped : (s : StateSeen) (asked : FileMap) → s.alive ≡ true → with_mapping (flat s) 1 (request asked) (page asked.addr) ≡ with_parts s finite.empty (finite.insert finite.empty 1 (with_cells (cells s.table) (page asked.addr) (pages_in asked.length) (new_cell (flat s) (without_replaced (flat s) 1 (request asked).place (pages_in asked.length)) (request asked))))
 flat-mapped s asked is =
     let n = pages_in asked.length in
-    let G = cleared_for (flat s) 1 (request asked).place n in
+    let G = without_replaced (flat s) 1 (request asked).place n in
     let spaces = finite.insert G.spaces 1 (with_cells (cells_of G 1) (page asked.addr) n (new_cell (flat s) G (request asked))) in
     ap (λ z. with_parts s z spaces) (retain-empty (is_named (with_parts s finite.empty spaces))) ∙ ap (with_parts s finite.empty) (spaces-mapped s asked is)
 
@@ -173,19 +173,19 @@ only_space space none = total-insert private_cells nothing 1 space (finite.get-e
 reserved-parts : (s : StateSeen) (space : Space) → private_cells space ≡ 0 → reserved (with_parts s finite.empty (finite.insert finite.empty 1 space)) ≡ 0
 reserved-parts s space none =
     let G = with_parts s finite.empty (finite.insert finite.empty 1 space) in
-    let zeros : sum_by length (finite.values (swept G).zeros) ≡ 0 = ap (λ z. sum_by length (finite.values z)) (retain-empty (is_named G)) ∙ empty_total length in
+    let zeros : sum_by length (finite.values (without_unnamed G).zeros) ≡ 0 = ap (λ z. sum_by length (finite.values z)) (retain-empty (is_named G)) ∙ empty_total length in
     omega (arith, only_space space none, zeros)
 
 -- nothing is reserved by a shared mapping of the file
-pub reserved-mapped : (s : StateSeen) (asked : FileMap) → s.alive ≡ true → reserved (mapped_at (flat s) 1 (request asked) (page asked.addr)) ≡ 0
+pub reserved-mapped : (s : StateSeen) (asked : FileMap) → s.alive ≡ true → reserved (with_mapping (flat s) 1 (request asked) (page asked.addr)) ≡ 0
 reserved-mapped s asked is =
     let n = pages_in asked.length in
-    let cell = new_cell (flat s) (cleared_for (flat s) 1 (request asked).place n) (request asked) in
+    let cell = new_cell (flat s) (without_replaced (flat s) 1 (request asked).place n) (request asked) in
     ap reserved (flat-mapped s asked is)
     ∙ reserved-parts s (with_cells (cells s.table) (page asked.addr) n cell) (none_with (cells s.table) (page asked.addr) n cell (λ i. refl) (none_in 0 s.table))
 
 -- what a shared mapping of the file may at most allow
-pub max_of-first : (s : StateSeen) (file : ℕ) → file ≡ 0 → max_of (flat s) Shared (object.File file) ≡ cond (info_of s).writable read_write read_only
+pub max_of-first : (s : StateSeen) (file : ℕ) → file ≡ 0 → max_of (flat s) Shared (object.File file) ≡ cond (info_of s).writable prot_read_write prot_read
 max_of-first s zero is = refl
 max_of-first s (suc k) is = absurd (omega (arith, is))
 
@@ -205,24 +205,24 @@ shown-if s m n is count = elim (cases_lt m.index n) [
 
 -- flat memory of a state with another table, which has the cells of a new mapping
 pub flat-remapped : (s : StateSeen) (asked : FileMap) (table : List (Option Mapping)) → s.alive ≡ true
-    → cells table ≡ with_cells (cells s.table) (page asked.addr) (pages_in asked.length) (new_cell (flat s) (cleared_for (flat s) 1 (request asked).place (pages_in asked.length)) (request asked))
-    → flat (record s { table = table }) ≡ mapped_at (flat s) 1 (request asked) (page asked.addr)
+    → cells table ≡ with_cells (cells s.table) (page asked.addr) (pages_in asked.length) (new_cell (flat s) (without_replaced (flat s) 1 (request asked).place (pages_in asked.length)) (request asked))
+    → flat (record s { table = table }) ≡ with_mapping (flat s) 1 (request asked) (page asked.addr)
 flat-remapped s asked table is are = ap (with_parts s finite.empty) (alive_space s.alive (cells table) is ∙ ap (finite.insert finite.empty 1) are) ∙ sym (flat-mapped s asked is)
 
 -- a page that was put, on the state behind a view
-pub put-is : {s t old : StateSeen} (i : ℕ) (new w : Page) → s ≡ old → new ≡ w → t.pages ≡ slice_set s.pages i new → t.modified ≡ slice_set s.modified i true → t ≡ record s { pages = t.pages; modified = t.modified } → t ≡ with_page old i w
+pub put-is : {s t old : StateSeen} (i : ℕ) (new w : Page) → s ≡ old → new ≡ w → t.pages ≡ slice_set s.pages i new → t.modified ≡ slice_set s.modified i true → t ≡ record s { pages = t.pages; modified = t.modified } → t ≡ with_modified_page old i w
 put-is {s} {t} {old} i new w same is pages marks shape =
     shape ∙ ap (λ (ps : List Page). record s { pages = ps; modified = t.modified }) pages ∙ ap (λ (ms : List Bool). record s { pages = slice_set s.pages i new; modified = ms }) marks
-    ∙ ap (λ (x : StateSeen). with_page x i new) same ∙ ap (with_page old i) is
+    ∙ ap (λ (x : StateSeen). with_modified_page x i new) same ∙ ap (with_modified_page old i) is
 
 -- the exit, on the state behind a view
-pub exited-is : {s old : StateSeen} → s ≡ old → old.alive ≡ true → flat (record s { alive = false }) ≡ exited (flat old) 1
-exited-is {s} {old} same is = flat-exited s (ap (λ (x : StateSeen). x.alive) same ∙ is) ∙ ap (λ (x : StateSeen). exited (flat x) 1) same
+pub exited-is : {s old : StateSeen} → s ≡ old → old.alive ≡ true → flat (record s { alive = false }) ≡ without_process (flat old) 1
+exited-is {s} {old} same is = flat-exited s (ap (λ (x : StateSeen). x.alive) same ∙ is) ∙ ap (λ (x : StateSeen). without_process (flat x) 1) same
 
 -- a mapping, on the state behind a view
 pub remapped-is : {s old : StateSeen} → s ≡ old → (asked : FileMap) (table : List (Option Mapping)) (first n : ℕ) (max : Prot) → old.alive ≡ true → first ≡ page asked.addr → n ≡ pages_in asked.length → max ≡ max_of (flat old) Shared (object.File asked.file)
     → cells table ≡ with_cells (cells s.table) first n (λ i. cell_of (mapping_at (record { prot = asked.prot; max = max; file = asked.file; index = asked.offset / 4096 }) i))
-    → flat (record s { table = table }) ≡ mapped_at (flat old) 1 (request asked) (page asked.addr)
+    → flat (record s { table = table }) ≡ with_mapping (flat old) 1 (request asked) (page asked.addr)
 remapped-is {s} {old} same asked table first n max is first_is n_is max_is are =
     let cell : Prot → ℕ → Cell = λ m i. cell_of (mapping_at (record { prot = asked.prot; max = m; file = asked.file; index = asked.offset / 4096 }) i) in
     let at : cells table ≡ with_cells (cells old.table) (page asked.addr) (pages_in asked.length) (cell (max_of (flat old) Shared (object.File asked.file))) =
@@ -231,25 +231,25 @@ remapped-is {s} {old} same asked table first n max is first_is n_is max_is are =
     ap (λ (x : StateSeen). flat (record x { table = table })) same ∙ flat-remapped old asked table is at
 
 -- what a shared mapping of the file may at most allow, by the file's record
-pub max-is : (s : StateSeen) (file : ℕ) (files : List vnode.File) (info : FileInfo) → file ≡ 0 → files ≡ s.files → info ≡ (vnode.file_at files file).info → max_of (flat s) Shared (object.File file) ≡ cond info.writable read_write read_only
+pub max-is : (s : StateSeen) (file : ℕ) (files : FilesSeen) (info : FileInfo) → file ≡ 0 → files ≡ s.files → info ≡ (vnode_at files file).info → max_of (flat s) Shared (object.File file) ≡ cond info.writable prot_read_write prot_read
 max-is s file files info is same info_is =
-    max_of-first s file is ∙ ap (λ (i : FileInfo). cond i.writable read_write read_only) (sym (info_is ∙ ap (λ (fs : List vnode.File). (vnode.file_at fs file).info) same ∙ ap (λ (k : ℕ). (vnode.file_at s.files k).info) is))
+    max_of-first s file is ∙ ap (λ (i : FileInfo). cond i.writable prot_read_write prot_read) (sym (info_is ∙ ap (λ (fs : FilesSeen). (vnode_at fs file).info) same ∙ ap (λ (k : ℕ). (vnode_at s.files k).info) is))
 
 -- how many pages the process would have
 pub room-left : (s : StateSeen) (asked : FileMap) (table : List (Option Mapping)) (mapped replaced n : ℕ) → s.alive ≡ true → table ≡ s.table → n ≡ pages_in asked.length → mapped ≡ finite.len (cells table)
-    → replaced + finite.len (without (cells table) (page asked.addr) n) ≡ finite.len (cells table)
-    → mapped - replaced + n ≡ finite.len (cells_of (cleared_for (flat s) 1 (request asked).place (pages_in asked.length)) 1) + pages_in asked.length
+    → replaced + finite.len (without_range (cells table) (page asked.addr) n) ≡ finite.len (cells table)
+    → mapped - replaced + n ≡ finite.len (cells_of (without_replaced (flat s) 1 (request asked).place (pages_in asked.length)) 1) + pages_in asked.length
 room-left s asked table mapped replaced n is same count all counted =
     let first = page asked.addr in
-    let cleared = ap finite.len (cells_of-with_space (flat s) 1 (without (cells_of (flat s) 1) first (pages_in asked.length)) ∙ ap (λ (space : Space). without space first (pages_in asked.length)) (cells_of-alive s is)) in
-    let left = ap (λ (t : List (Option Mapping)). finite.len (without (cells t) first n)) same ∙ ap (λ (k : ℕ). finite.len (without (cells s.table) first k)) count in
+    let cleared = ap finite.len (cells_of-with_space (flat s) 1 (without_range (cells_of (flat s) 1) first (pages_in asked.length)) ∙ ap (λ (space : Space). without_range space first (pages_in asked.length)) (cells_of-alive s is)) in
+    let left = ap (λ (t : List (Option Mapping)). finite.len (without_range (cells t) first n)) same ∙ ap (λ (k : ℕ). finite.len (without_range (cells s.table) first k)) count in
     omega (arith, cleared, left, count, all, counted)
 
-need_true : {A E : Type 0} (b : Bool) (e : E) (next : Result A E) → b ≡ true → (need b e >> next) ≡ next
+need_true : {A E : Type 0} (b : Bool) (e : E) (next : Result A E) → b ≡ true → (check b e >> next) ≡ next
 need_true true e next is = refl
 need_true false e next is = absurd (false≢true is)
 
-need_false : {A E : Type 0} (b : Bool) (e : E) (next : Result A E) → b ≡ false → (need b e >> next) ≡ Err e
+need_false : {A E : Type 0} (b : Bool) (e : E) (next : Result A E) → b ≡ false → (check b e >> next) ≡ Err e
 need_false true e next is = absurd (false≢true (sym is))
 need_false false e next is = refl
 
@@ -261,35 +261,35 @@ Answer = Result (ℕ × Flat) Errno
 
 -- what is due where the first four tests pass, and where the fourth alone fails
 pub mapped-here : (s : StateSeen) (asked : FileMap) → s.alive ≡ true → is_valid (request asked) ≡ true → is_there (flat s) (object.File asked.file) ≡ true → is_within asked.prot (max_of (flat s) Shared (object.File asked.file)) ≡ true
-    → nat_le (finite.len (cells_of (cleared_for (flat s) 1 (request asked).place (pages_in asked.length)) 1) + pages_in asked.length) 65536 ≡ true
-    → mapped (flat s) 1 (request asked) ≡ Ok (page asked.addr, mapped_at (flat s) 1 (request asked) (page asked.addr))
-unfolding mapped
+    → nat_le (finite.len (cells_of (without_replaced (flat s) 1 (request asked).place (pages_in asked.length)) 1) + pages_in asked.length) 65536 ≡ true
+    → map_result (flat s) 1 (request asked) ≡ Ok (page asked.addr, with_mapping (flat s) 1 (request asked) (page asked.addr))
+unfolding map_result
 mapped-here s asked is valid there within few =
     let r = request asked in
     let F = flat s in
-    let space = cells_of (cleared_for F 1 r.place (pages_in r.len)) 1 in
-    let end : Answer = Ok (page asked.addr, mapped_at F 1 r (page asked.addr)) in
-    let fifth : Answer = need (nat_le (reserved (mapped_at F 1 r (page asked.addr))) F.slots) errno.NoSwap >> end in
-    let fourth : Answer = need (nat_le (finite.len space + pages_in r.len) 65536) errno.TooLarge >> fifth in
-    let third : Answer = need (is_within r.prot (max_of F r.kind r.object)) errno.Access >> fourth in
-    let second : Answer = need (is_there F r.object) errno.NoObject >> third in
+    let space = cells_of (without_replaced F 1 r.place (pages_in r.len)) 1 in
+    let end : Answer = Ok (page asked.addr, with_mapping F 1 r (page asked.addr)) in
+    let fifth : Answer = check (nat_le (reserved (with_mapping F 1 r (page asked.addr))) F.slots) errno.NoSwap >> end in
+    let fourth : Answer = check (nat_le (finite.len space + pages_in r.len) 65536) errno.TooLarge >> fifth in
+    let third : Answer = check (is_within r.prot (max_of F r.kind r.object)) errno.Access >> fourth in
+    let second : Answer = check (is_there F r.object) errno.NoObject >> third in
     need_true (is_valid r) errno.Invalid second valid ∙ need_true (is_there F r.object) errno.NoObject third there ∙ need_true (is_within r.prot (max_of F r.kind r.object)) errno.Access fourth within
     ∙ need_true (nat_le (finite.len space + pages_in r.len) 65536) errno.TooLarge fifth few
-    ∙ need_true (nat_le (reserved (mapped_at F 1 r (page asked.addr))) F.slots) errno.NoSwap end (none_needed (reserved (mapped_at F 1 r (page asked.addr))) F.slots (reserved-mapped s asked is))
+    ∙ need_true (nat_le (reserved (with_mapping F 1 r (page asked.addr))) F.slots) errno.NoSwap end (none_needed (reserved (with_mapping F 1 r (page asked.addr))) F.slots (reserved-mapped s asked is))
 
 pub mapped-large : (s : StateSeen) (asked : FileMap) → is_valid (request asked) ≡ true → is_there (flat s) (object.File asked.file) ≡ true → is_within asked.prot (max_of (flat s) Shared (object.File asked.file)) ≡ true
-    → nat_le (finite.len (cells_of (cleared_for (flat s) 1 (request asked).place (pages_in asked.length)) 1) + pages_in asked.length) 65536 ≡ false
-    → mapped (flat s) 1 (request asked) ≡ Err errno.TooLarge
-unfolding mapped
+    → nat_le (finite.len (cells_of (without_replaced (flat s) 1 (request asked).place (pages_in asked.length)) 1) + pages_in asked.length) 65536 ≡ false
+    → map_result (flat s) 1 (request asked) ≡ Err errno.TooLarge
+unfolding map_result
 mapped-large s asked valid there within many =
     let r = request asked in
     let F = flat s in
-    let space = cells_of (cleared_for F 1 r.place (pages_in r.len)) 1 in
-    let end : Answer = Ok (page asked.addr, mapped_at F 1 r (page asked.addr)) in
-    let fifth : Answer = need (nat_le (reserved (mapped_at F 1 r (page asked.addr))) F.slots) errno.NoSwap >> end in
-    let fourth : Answer = need (nat_le (finite.len space + pages_in r.len) 65536) errno.TooLarge >> fifth in
-    let third : Answer = need (is_within r.prot (max_of F r.kind r.object)) errno.Access >> fourth in
-    let second : Answer = need (is_there F r.object) errno.NoObject >> third in
+    let space = cells_of (without_replaced F 1 r.place (pages_in r.len)) 1 in
+    let end : Answer = Ok (page asked.addr, with_mapping F 1 r (page asked.addr)) in
+    let fifth : Answer = check (nat_le (reserved (with_mapping F 1 r (page asked.addr))) F.slots) errno.NoSwap >> end in
+    let fourth : Answer = check (nat_le (finite.len space + pages_in r.len) 65536) errno.TooLarge >> fifth in
+    let third : Answer = check (is_within r.prot (max_of F r.kind r.object)) errno.Access >> fourth in
+    let second : Answer = check (is_there F r.object) errno.NoObject >> third in
     need_true (is_valid r) errno.Invalid second valid ∙ need_true (is_there F r.object) errno.NoObject third there ∙ need_true (is_within r.prot (max_of F r.kind r.object)) errno.Access fourth within
     ∙ need_false (nat_le (finite.len space + pages_in r.len) 65536) errno.TooLarge fifth many
 

@@ -4,11 +4,11 @@ use Rattle.std.proofs.lemmas.List.{take-append-le, drop-append-le, drop-take}
 use borrow.Rule.Slice.PartMut.{put_mid}
 use Rattle.std.specs.Prelude.{slice_get}
 use Rattle.flat_model.specs.Words.{Page, with_bytes}
-use Rattle.flat_model.specs.Parts.{cut}
+use Rattle.flat_model.specs.Parts.{pages_of_bytes}
 use Rattle.vm_core.specs.State.{page_in}
 
 -- a page of them
-pub page_in-cut : (n i at : ℕ) (bytes : List ℕ) → i < n → at ≡ 4096 * i → page_in (cut n bytes) i ≡ take 4096 (drop at bytes)
+pub page_in-cut : (n i at : ℕ) (bytes : List ℕ) → i < n → at ≡ 4096 * i → page_in (pages_of_bytes n bytes) i ≡ take 4096 (drop at bytes)
 page_in-cut zero i at bytes below is = absurd (omega (arith, below))
 page_in-cut (suc n) zero at bytes below is = let none : at ≡ 0 = omega (arith, is) in ap (λ k. take 4096 (drop k bytes)) (sym none)
 page_in-cut (suc n) (suc i) at bytes below is =
@@ -16,7 +16,7 @@ page_in-cut (suc n) (suc i) at bytes below is =
     page_in-cut n i (4096 * i) (drop 4096 bytes) (omega (arith, below)) refl
     ∙ ap (take 4096) (drop-drop (4096 * i) 4096 bytes ∙ ap (λ k. drop k bytes) more)
 
-pub whole-in : (n i : ℕ) (bytes : List ℕ) → i < n → length bytes ≡ 4096 * n → length (page_in (cut n bytes) i) ≡ 4096
+pub whole-in : (n i : ℕ) (bytes : List ℕ) → i < n → length bytes ≡ 4096 * n → length (page_in (pages_of_bytes n bytes) i) ≡ 4096
 whole-in n i bytes below size = ap length (page_in-cut n i (4096 * i) bytes below refl) ∙ omega (arith, length-take 4096 (drop (4096 * i) bytes), length-drop (4096 * i) bytes, below, size)
 
 -- bytes that are put over the bytes from the second page on are put over the rest
@@ -42,20 +42,20 @@ first_put old new whole =
     (ap (take 4096) is ∙ take_at new (drop 4096 old) 4096 whole, ap (drop 4096) is ∙ drop_at new (drop 4096 old) 4096 whole)
 
 -- a page that is put over the bytes is put among the pages
-pub cut-put : (n i at : ℕ) (old new : List ℕ) → i < n → length old ≡ 4096 * n → length new ≡ 4096 → at ≡ 4096 * i → cut n (with_bytes old at new) ≡ slice_set (cut n old) i new
+pub cut-put : (n i at : ℕ) (old new : List ℕ) → i < n → length old ≡ 4096 * n → length new ≡ 4096 → at ≡ 4096 * i → pages_of_bytes n (with_bytes old at new) ≡ slice_set (pages_of_bytes n old) i new
 cut-put zero i at old new below size whole is = absurd (omega (arith, below))
 cut-put (suc n) zero at old new below size whole is =
     let none : at ≡ 0 = omega (arith, is) in
     let put = first_put old new whole in
-    ap (λ k. cut (suc n) (with_bytes old k new)) none
-    ∙ ap (λ (p : Page). p ∷ cut n (drop 4096 (with_bytes old 0 new))) put.0 ∙ ap (λ (xs : List ℕ). new ∷ cut n xs) put.1
+    ap (λ k. pages_of_bytes (suc n) (with_bytes old k new)) none
+    ∙ ap (λ (p : Page). p ∷ pages_of_bytes n (drop 4096 (with_bytes old 0 new))) put.0 ∙ ap (λ (xs : List ℕ). new ∷ pages_of_bytes n xs) put.1
 cut-put (suc n) (suc i) at old new below size whole is =
     let more : at ≡ 4096 + 4096 * i = omega (arith, is) in
     let put = rest_of_put old new (4096 * i) (omega (arith, size, below)) in
     let rest = cut-put n i (4096 * i) (drop 4096 old) new (omega (arith, below)) (omega (arith, length-drop 4096 old, size)) whole refl in
-    ap (λ k. cut (suc n) (with_bytes old k new)) more
-    ∙ ap (λ (p : Page). p ∷ cut n (drop 4096 (with_bytes old (4096 + 4096 * i) new))) put.0
-    ∙ ap (λ (xs : List ℕ). take 4096 old ∷ cut n xs) put.1
+    ap (λ k. pages_of_bytes (suc n) (with_bytes old k new)) more
+    ∙ ap (λ (p : Page). p ∷ pages_of_bytes n (drop 4096 (with_bytes old (4096 + 4096 * i) new))) put.0
+    ∙ ap (λ (xs : List ℕ). take 4096 old ∷ pages_of_bytes n xs) put.1
     ∙ ap (λ (ps : List Page). take 4096 old ∷ ps) rest
 
 -- an element that is there, and one that isn't
@@ -70,22 +70,22 @@ slice_get-out (p ∷ pages) zero past = absurd (omega (arith, past))
 slice_get-out (p ∷ pages) (suc i) past = slice_get-out pages i (omega (arith, past))
 
 -- the bytes of a page, as code takes them
-pub page-slice : (n i : ℕ) (d bytes : List ℕ) (pages : List Page) → i < n → d ≡ bytes → cut n bytes ≡ pages → take (i * 4096 + 4096 - i * 4096) (drop (i * 4096) d) ≡ page_in pages i
+pub page-slice : (n i : ℕ) (d bytes : List ℕ) (pages : List Page) → i < n → d ≡ bytes → pages_of_bytes n bytes ≡ pages → take (i * 4096 + 4096 - i * 4096) (drop (i * 4096) d) ≡ page_in pages i
 page-slice n i d bytes pages below is are =
     let count : i * 4096 + 4096 - i * 4096 ≡ 4096 = omega arith in
     ap (λ k. take k (drop (i * 4096) d)) count ∙ ap (λ (xs : List ℕ). take 4096 (drop (i * 4096) xs)) is
     ∙ sym (page_in-cut n i (i * 4096) bytes below (omega arith)) ∙ ap (λ (ps : List Page). page_in ps i) are
 
 -- the pages after code put a page among their bytes
-pub cut-put_mid : (n m i : ℕ) (d bytes new : List ℕ) → m ≡ n → i < n → d ≡ bytes → length bytes ≡ 4096 * n → length new ≡ 4096 → cut m (put_mid (i * 4096) (i * 4096 + 4096 - i * 4096) d new) ≡ slice_set (cut n bytes) i new
+pub cut-put_mid : (n m i : ℕ) (d bytes new : List ℕ) → m ≡ n → i < n → d ≡ bytes → length bytes ≡ 4096 * n → length new ≡ 4096 → pages_of_bytes m (put_mid (i * 4096) (i * 4096 + 4096 - i * 4096) d new) ≡ slice_set (pages_of_bytes n bytes) i new
 cut-put_mid n m i d bytes new same below is size whole =
     let at = i * 4096 in
     let count : at + 4096 - at ≡ length new = omega (arith, whole) in
-    ap (λ k. cut k (put_mid at (at + 4096 - at) d new)) same
-    ∙ ap (λ (xs : List ℕ). cut n (put_mid at (at + 4096 - at) xs new)) is
-    ∙ ap (λ k. cut n (take at bytes ++ (new ++ drop k (drop at bytes)))) count
-    ∙ ap (λ (xs : List ℕ). cut n (take at bytes ++ (new ++ xs))) (drop-drop (length new) at bytes)
-    ∙ ap (cut n) (sym (append_assoc (take at bytes) new (drop (at + length new) bytes)))
+    ap (λ k. pages_of_bytes k (put_mid at (at + 4096 - at) d new)) same
+    ∙ ap (λ (xs : List ℕ). pages_of_bytes n (put_mid at (at + 4096 - at) xs new)) is
+    ∙ ap (λ k. pages_of_bytes n (take at bytes ++ (new ++ drop k (drop at bytes)))) count
+    ∙ ap (λ (xs : List ℕ). pages_of_bytes n (take at bytes ++ (new ++ xs))) (drop-drop (length new) at bytes)
+    ∙ ap (pages_of_bytes n) (sym (append_assoc (take at bytes) new (drop (at + length new) bytes)))
     ∙ cut-put n i at bytes new below size whole (omega arith)
 
 -- such bytes are as many as a page has
@@ -101,11 +101,11 @@ length-put_mid at k old new fits whole =
 
 -- the pages after code put a page among the bytes of a vector, which keeps its length
 pub cut-put_items : (n i len : ℕ) (d bytes new : List ℕ) → i < n → d ≡ bytes → length bytes ≡ len → length bytes ≡ 4096 * n → length new ≡ 4096
-    → cut n (take len (put_mid (i * 4096) (i * 4096 + 4096 - i * 4096) d new ++ drop (length (put_mid (i * 4096) (i * 4096 + 4096 - i * 4096) d new)) bytes)) ≡ slice_set (cut n bytes) i new
+    → pages_of_bytes n (take len (put_mid (i * 4096) (i * 4096 + 4096 - i * 4096) d new ++ drop (length (put_mid (i * 4096) (i * 4096 + 4096 - i * 4096) d new)) bytes)) ≡ slice_set (pages_of_bytes n bytes) i new
 cut-put_items n i len d bytes new below is count size whole =
     let at = i * 4096 in
     let k = at + 4096 - at in
     let all = put_mid at k d new in
     let same = ap length is in
     let long : length all ≡ len = length-put_mid at k d new (omega (arith, same, size, below)) (omega (arith, whole)) ∙ same ∙ count in
-    ap (cut n) (take_at all (drop (length all) bytes) len long) ∙ cut-put_mid n n i d bytes new refl below is size whole
+    ap (pages_of_bytes n) (take_at all (drop (length all) bytes) len long) ∙ cut-put_mid n n i d bytes new refl below is size whole

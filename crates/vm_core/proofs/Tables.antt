@@ -7,8 +7,8 @@ use Rattle.std.specs.FinMap as finite
 use Rattle.std.proofs.lemmas.Bool.{cases_eq, cases_lt, false≢true}
 use Rattle.std.proofs.lemmas.Bool.Decides.{nat_tests}
 use Rattle.flat_model.specs.Flat.{Cell, Space}
-use Rattle.flat_model.specs.Space.{in_range, without}
-use Rattle.flat_model.proofs.Ranges.{same_space, get-insert_here, get-insert_apart, get-remove_here, get-remove_apart, get-without, in_range-is, in_range-low, in_range-high, insert_same, without-free}
+use Rattle.flat_model.specs.Space.{in_range, without_range}
+use Rattle.flat_model.proofs.Ranges.{same_space, get-insert_here, get-insert_apart, get-remove_here, get-remove_apart, get-without_range, in_range-is, in_range-low, in_range-high, insert_same, without_range-free}
 use Rattle.flat_model.proofs.Sums.{insert-remove}
 use Rattle.vm_core.specs.Table.{cell_of, cells_from}
 use Rattle.vm_core.specs.declared.mapping.Mapping.{Mapping}
@@ -104,22 +104,22 @@ same_range first i q apart = elim (cases_lt q (first + i)) [
 ]
 
 -- to take out one page more
-pub without-next : (s : Space) (first i : ℕ) → without s first (i + 1) ≡ finite.remove (without s first i) (first + i)
+pub without-next : (s : Space) (first i : ℕ) → without_range s first (i + 1) ≡ finite.remove (without_range s first i) (first + i)
 without-next s first i = same_space _ _ (λ q. elim (cases_eq q (first + i)) [
   | inl is ↦
       let inside : in_range first (i + 1) q ≡ true = in_range-is first (i + 1) q (omega (arith, is)) (omega (arith, is)) in
-      get-without s first (i + 1) q ∙ ap (λ b. cond b None (finite.get s q)) inside
-      ∙ sym (ap (finite.get (finite.remove (without s first i) (first + i))) is ∙ get-remove_here (without s first i) (first + i))
+      get-without_range s first (i + 1) q ∙ ap (λ b. cond b None (finite.get s q)) inside
+      ∙ sym (ap (finite.get (finite.remove (without_range s first i) (first + i))) is ∙ get-remove_here (without_range s first i) (first + i))
   | inr apart ↦
-      get-without s first (i + 1) q ∙ ap (λ b. cond b None (finite.get s q)) (same_range first i q apart)
-      ∙ sym (get-remove_apart (without s first i) (first + i) q apart ∙ get-without s first i q)
+      get-without_range s first (i + 1) q ∙ ap (λ b. cond b None (finite.get s q)) (same_range first i q apart)
+      ∙ sym (get-remove_apart (without_range s first i) (first + i) q apart ∙ get-without_range s first i q)
 ])
 
 outside : (first i : ℕ) → in_range first i (first + i) ≡ false
 outside first i = grind (arith, nat_tests)
 
-get-beyond : (s : Space) (first i : ℕ) → finite.get (without s first i) (first + i) ≡ finite.get s (first + i)
-get-beyond s first i = get-without s first i (first + i) ∙ ap (λ b. cond b None (finite.get s (first + i))) (outside first i)
+get-beyond : (s : Space) (first i : ℕ) → finite.get (without_range s first i) (first + i) ≡ finite.get s (first + i)
+get-beyond s first i = get-without_range s first i (first + i) ∙ ap (λ b. cond b None (finite.get s (first + i))) (outside first i)
 
 len-absent : (s : Space) (q : ℕ) → finite.get s q ≡ None → finite.len (finite.remove s q) ≡ finite.len s
 len-absent s q none = finite.len-remove nat_cmp_total s q ∙ ap (λ o. cond (is_some o) (finite.len s - 1) (finite.len s)) none
@@ -130,14 +130,14 @@ len-present s q c some =
     ∙ ap (λ o. cond (is_some o) (finite.len (finite.remove s q)) (finite.len (finite.remove s q) + 1)) (get-remove_here s q)
 
 -- one page more was looked at: it counts where it has a cell
-pub counted : (s : Space) (first i n : ℕ) (o : Option Mapping) → option_map cell_of o ≡ finite.get s (first + i) → n + finite.len (without s first i) ≡ finite.len s
-    → n + (if is_some o then 1 else 0) + finite.len (without s first (i + 1)) ≡ finite.len s
+pub counted : (s : Space) (first i n : ℕ) (o : Option Mapping) → option_map cell_of o ≡ finite.get s (first + i) → n + finite.len (without_range s first i) ≡ finite.len s
+    → n + (if is_some o then 1 else 0) + finite.len (without_range s first (i + 1)) ≡ finite.len s
 counted s first i n None is before =
-    let same = len-absent (without s first i) (first + i) (get-beyond s first i ∙ sym is) in
+    let same = len-absent (without_range s first i) (first + i) (get-beyond s first i ∙ sym is) in
     let next = ap finite.len (without-next s first i) in
     omega (arith, same, next, before)
 counted s first i n (Some m) is before =
-    let one = len-present (without s first i) (first + i) (cell_of m) (get-beyond s first i ∙ sym is) in
+    let one = len-present (without_range s first i) (first + i) (cell_of m) (get-beyond s first i ∙ sym is) in
     let next = ap finite.len (without-next s first i) in
     omega (arith, one, next, before)
 
@@ -148,9 +148,9 @@ len-set s q c (Some m) is =
     let same = finite.len-insert nat_cmp_total s q c ∙ ap (λ o. cond (is_some o) (finite.len s) (finite.len s + 1)) (sym is) in omega (arith, same)
 
 -- to take nothing out
-pub without-nothing : (s : Space) (first : ℕ) → 0 + finite.len (without s first 0) ≡ finite.len s
+pub without-nothing : (s : Space) (first : ℕ) → 0 + finite.len (without_range s first 0) ≡ finite.len s
 without-nothing s first =
-    let same = without-free s first 0 (λ q inside. absurd (omega (arith, in_range-low first 0 q inside, in_range-high first 0 q inside))) in
+    let same = without_range-free s first 0 (λ q inside. absurd (omega (arith, in_range-low first 0 q inside, in_range-high first 0 q inside))) in
     ap (λ t. 0 + finite.len t) same ∙ omega arith
 
 pub at_most_one : (o : Option Mapping) → (if is_some o then 1 else 0) ≤ 1

@@ -39,16 +39,16 @@ abbrev pub entry_of : ℕ → Call → Reply → Entry
 entry_of process call reply = record { process = process; call = call; reply = reply; cleared = 0 }
 
 -- The state with an entry more.
-abbrev pub with_entry : StateSeen → Entry → StateSeen
-with_entry s e = record s { history = s.history ++ e ∷ [] }
+abbrev pub with_next_entry : StateSeen → Entry → StateSeen
+with_next_entry s e = record s { history = s.history ++ e ∷ [] }
 
 -- The state with another history.
 abbrev pub with_history : StateSeen → List Entry → StateSeen
 with_history s history = record s { history = history }
 
 -- The state with another page of the file, which is modified then.
-abbrev pub with_page : StateSeen → ℕ → Page → StateSeen
-with_page s i new = record s { pages = slice_set s.pages i new; modified = slice_set s.modified i true }
+abbrev pub with_modified_page : StateSeen → ℕ → Page → StateSeen
+with_modified_page s i new = record s { pages = slice_set s.pages i new; modified = slice_set s.modified i true }
 
 -- The disks, the files, the history and what may be made are as they were, and so is each page that isn't marked as modified.
 pub record Keeps (old new : StateSeen) : Type 0 where

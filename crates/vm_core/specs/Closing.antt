@@ -1,12 +1,13 @@
 -- What `finish` leaves on the disk, and the history that it hands out.
 use Rattle.std.specs.Prelude.{ℕ, Bool, true, false, ◌≡◌, ◌≤◌, ◌<◌, ◌+◌, ◌==◌, ◌-◌, ◌⊎◌, List, [], ◌∷◌, ◌++◌, map, length, take, replicate, Option, Some, None, IfSome, slice_index_or, if◌then◌else◌}
 use Rattle.vm_types.specs.declared.call.Entry.{Entry}
+use Rattle.vm_types.specs.Pages.{bytes_before}
 use Rattle.flat_model.specs.Words.{Page}
-use Rattle.vnode_files.specs.declared.entry.FileInfo.{FileInfo}
+use Rattle.vnode_files.specs.declared.vnode.FileInfo.{FileInfo}
 use Rattle.block_device.specs.Counts.{HasRisen}
 use Rattle.block_device.specs.DiskSeen.{DiskSeen}
 use Rattle.vm_core.specs.declared.history.DiskFault.{DiskFault}
-use Rattle.vm_core.specs.State.{StateSeen, info_of, blocks_of, page_in, bytes_before, HoldsPages}
+use Rattle.vm_core.specs.State.{StateSeen, info_of, blocks_of, page_in, extent_of, HoldsPages}
 
 -- A history that a closed kernel made: its entries, and each disk's count of faults as it was closed.
 pub record HistorySeen : Type 0 where
@@ -23,13 +24,13 @@ abbrev pub counts_of : List (ℕ × DiskSeen) → List (ℕ × ℕ)
 counts_of disks = map (λ d. (d.0, d.1.faults)) disks
 
 -- The first n bytes of a page, and zeros after them.
-abbrev pub padded : ℕ → List ℕ → List ℕ
-padded n page = take n page ++ replicate (4096 - n) 0
+abbrev pub padded_front : ℕ → List ℕ → List ℕ
+padded_front n page = take n page ++ replicate (4096 - n) 0
 
 -- What became of page i's block where each modified page before the n-th was written, and no page from the m-th on: the page's bytes before the file's end and then zeros, or what was there.
 pub record IsPushed (info : FileInfo) (pages : List Page) (modified : List Bool) (n m : ℕ) (old new : List (List ℕ)) (i : ℕ) : Type 0 where
-  pub written : i < n → slice_index_or modified i true ≡ true → slice_index_or new (info.start + i) [] ≡ padded (bytes_before info.length i) (page_in pages i)
-  pub same : (m ≤ i) ⊎ (slice_index_or modified i true ≡ false) → slice_index_or new (info.start + i) [] ≡ slice_index_or old (info.start + i) []
+  pub written : i < n → slice_index_or modified i true ≡ true → slice_index_or new ((extent_of info).start + i) [] ≡ padded_front (bytes_before info.length i) (page_in pages i)
+  pub same : (m ≤ i) ⊎ (slice_index_or modified i true ≡ false) → slice_index_or new ((extent_of info).start + i) [] ≡ slice_index_or old ((extent_of info).start + i) []
 
 -- Where the disk tells, before and after, so it is of each page.
 abbrev pub HasPushed : FileInfo → List Page → List Bool → ℕ → ℕ → Option (List (List ℕ)) → Option (List (List ℕ)) → Type 0

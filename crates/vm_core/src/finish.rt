@@ -1,15 +1,16 @@
 //! The end: modified pages go to the disk, and the history comes out.
 ghost use Rattle.std.specs.Prelude.{true, ◌≡◌, ℕ, ◌+◌, ◌*◌, ◌^◌, ◌<◌, ◌≤◌, length, OnOk, OnErr, IfErr, IfNone, IfSome, option_map, if◌then◌else◌};
-ghost use Rattle.vnode_files.specs.declared.entry.FileInfo.{FileInfo};
+ghost use Rattle.vnode_files.specs.declared.vnode.FileInfo.{FileInfo};
 ghost use Rattle.block_device.specs.Counts.{HasRisen};
 ghost use Rattle.block_device.specs.DiskSeen.{with_block, Spoils};
-ghost use Rattle.flat_model.specs.Parts.{cut};
-ghost use Rattle.vm_core.specs.State.{disks_seen, blocks_of, info_of, bytes_before, IsClean};
-ghost use Rattle.vm_core.specs.Closing.{counts_of, KeepsOutside, AreSame, HoldsFile, IsFault, padded, HasPushed, HasWritten, HasStopped};
+ghost use Rattle.flat_model.specs.Parts.{pages_of_bytes};
+ghost use Rattle.vm_core.specs.State.{disks_seen, blocks_of, info_of, extent_of, IsCleanOnDisk};
+ghost use Rattle.vm_core.specs.Closing.{counts_of, KeepsOutside, AreSame, HoldsFile, IsFault, padded_front, HasPushed, HasWritten, HasStopped};
 
 use crate::history::{DiskFault, KernelHistory};
 use crate::state::VmState;
 use block_device::Disk;
+use vm_types::bytes_before;
 use vnode_files::{FileInfo, Files};
 
 /// What is left of a state: its history, files and disks, and the transfer that failed, if one did.
@@ -46,7 +47,7 @@ fn fault_of(disk: u32, counts: Counts) -> DiskFault
 fn padded_page(page: &[u8], bytes: usize) -> [u8; 4096]
     requires whole { length page.now ≡ 4096 }
     requires inside { bytes ≤ 4096 }
-    ensures { result ≡ padded bytes page.now }
+    ensures { result ≡ padded_front bytes page.now }
 {
     let mut full = [0; 4096];
     full[..bytes].copy_from_slice(&page[..bytes]);
@@ -58,10 +59,15 @@ fn push_page<D: Disk>(disk: &mut D, block: u32, page: &[u8], bytes: usize) -> Re
     requires block { block < (D.seen disk.old).size }
     requires whole { length page.now ≡ 4096 }
     requires inside { bytes ≤ 4096 }
-    ensures written { OnOk result ((D.seen disk.new).content ≡ with_block (D.seen disk.old).content block (padded bytes page.now)) }
-    ensures spoiled { OnErr result (Spoils (D.seen disk.old).content (D.seen disk.new).content block) }
+    // Ok: the block was written. An error: the block has some 4096 bytes, and no other one changed.
+    ensures written { OnOk result ((D.seen disk.new).content
+        ≡ with_block (D.seen disk.old).content block (padded_front bytes page.now)) }
+    ensures spoiled { OnErr result
+        (Spoils (D.seen disk.old).content (D.seen disk.new).content block) }
+    // The disk keeps its size, and its count of faults doesn't fall.
     ensures size { (D.seen disk.new).size ≡ (D.seen disk.old).size }
     ensures later { (D.seen disk.old).faults ≤ (D.seen disk.new).faults }
+    // An error: the counts are those round a transfer of this call that failed, the last one.
     ensures before { IfErr result (λ counts. (D.seen disk.old).faults ≤ counts.before) }
     ensures risen { IfErr result (λ counts. HasRisen counts.before counts.after) }
     ensures after { IfErr result (λ counts. counts.after ≡ (D.seen disk.new).faults) }
@@ -87,11 +93,17 @@ fn push_if_modified<D: Disk>(
     requires block { block < (D.seen disk.old).size }
     requires whole { length page.now ≡ 4096 }
     requires inside { bytes ≤ 4096 }
-    ensures written { OnOk result ((D.seen disk.new).content ≡ (if modified then with_block (D.seen disk.old).content block (padded bytes page.now) else (D.seen disk.old).content)) }
-    ensures spoiled { OnErr result (Spoils (D.seen disk.old).content (D.seen disk.new).content block) }
+    // Ok: the block of a modified page was written. An error comes of a modified page alone.
+    ensures written { OnOk result ((D.seen disk.new).content
+        ≡ (if modified then with_block (D.seen disk.old).content block (padded_front bytes page.now)
+        else (D.seen disk.old).content)) }
+    ensures spoiled { OnErr result
+        (Spoils (D.seen disk.old).content (D.seen disk.new).content block) }
     ensures marked { OnErr result (modified ≡ true) }
+    // The disk keeps its size, and its count of faults doesn't fall.
     ensures size { (D.seen disk.new).size ≡ (D.seen disk.old).size }
     ensures later { (D.seen disk.old).faults ≤ (D.seen disk.new).faults }
+    // An error: the counts are those round a transfer of this call that failed, the last one.
     ensures before { IfErr result (λ counts. (D.seen disk.old).faults ≤ counts.before) }
     ensures risen { IfErr result (λ counts. HasRisen counts.before counts.after) }
     ensures after { IfErr result (λ counts. counts.after ≡ (D.seen disk.new).faults) }
@@ -103,11 +115,12 @@ fn push_if_modified<D: Disk>(
     }
 }
 
-// How many bytes of a page lie before the end of a file of this length.
-fn bytes_below(length: u32, page: u32) -> usize
-    ensures { result ≡ bytes_before length page }
+// The first block of a file of one extent.
+fn first_block(info: &FileInfo) -> u32
+    requires { length info.now.extents ≡ 1 }
+    ensures { result ≡ (extent_of info.now).start }
 {
-    (length as u64).saturating_sub(page as u64 * 4096).min(4096) as usize
+    info.extents.list()[0].start
 }
 
 // Writes each modified page of a file to its block, in rising order, and stops at the first failure.
@@ -117,21 +130,33 @@ fn push_modified<D: Disk>(
     pages: &[u8],
     modified: &[bool],
 ) -> Result<(), Counts>
-    requires blocks { info.now.start + length modified.now ≤ (D.seen disk.old).size }
-    requires numbers { info.now.start + length modified.now ≤ 2 ^ 32 }
+    requires one { length info.now.extents ≡ 1 }
+    requires blocks { (extent_of info.now).start + length modified.now ≤ (D.seen disk.old).size }
+    requires numbers { (extent_of info.now).start + length modified.now ≤ 2 ^ 32 }
     requires pages { length pages.now ≡ 4096 * length modified.now }
-    ensures outside { KeepsOutside info.now.start (length modified.now) (D.seen disk.old).content (D.seen disk.new).content }
-    ensures pushed { OnOk result (HasPushed info.now (cut (length modified.now) pages.now) modified.now (length modified.now) (length modified.now) (D.seen disk.old).content (D.seen disk.new).content) }
-    ensures stopped { OnErr result ((k : ℕ) × (k < length modified.now) × HasPushed info.now (cut (length modified.now) pages.now) modified.now k (k + 1) (D.seen disk.old).content (D.seen disk.new).content) }
+    // Ok: each modified page was written. An error: so were those before some page, and none behind it.
+    ensures pushed { OnOk result
+        (HasPushed info.now (pages_of_bytes (length modified.now) pages.now) modified.now
+        (length modified.now) (length modified.now)
+        (D.seen disk.old).content (D.seen disk.new).content) }
+    ensures stopped { OnErr result ((k : ℕ) × (k < length modified.now)
+        × HasPushed info.now (pages_of_bytes (length modified.now) pages.now) modified.now k (k + 1)
+        (D.seen disk.old).content (D.seen disk.new).content) }
+    // No block outside the file's changes.
+    ensures outside { KeepsOutside (extent_of info.now).start (length modified.now)
+        (D.seen disk.old).content (D.seen disk.new).content }
+    // The disk keeps its size, and its count of faults doesn't fall.
     ensures size { (D.seen disk.new).size ≡ (D.seen disk.old).size }
     ensures later { (D.seen disk.old).faults ≤ (D.seen disk.new).faults }
+    // An error: the counts are those round a transfer of this call that failed, the last one.
     ensures before { IfErr result (λ counts. (D.seen disk.old).faults ≤ counts.before) }
     ensures risen { IfErr result (λ counts. HasRisen counts.before counts.after) }
     ensures after { IfErr result (λ counts. counts.after ≡ (D.seen disk.new).faults) }
 {
+    let first = first_block(info);
     for page in 0..modified.len() {
-        let bytes = bytes_below(info.length, page as u32);
-        let block = info.start + page as u32;
+        let bytes = bytes_before(info.length, page as u32) as usize;
+        let block = first + page as u32;
         let at = page * 4096;
         push_if_modified(disk, block, &pages[at..at + 4096], bytes, modified[page])?;
     }
@@ -143,16 +168,25 @@ impl<D: Disk> VmState<D> {
     /// zeros after them. It stops at the first failure. The pages below the file's length were all read at the start, so
     /// none of them is blank. Takes no memory.
     pub fn finish(self) -> Finished<D>
+        // The history comes out, with each disk's count of faults as the call began.
         ensures history { result.history.entries ≡ self.history }
         ensures counts { result.history.faults ≡ counts_of self.disks }
+        // Without a fault each modified page was written, and the file's blocks hold its pages.
+        ensures written { IfNone result.fault
+            (HasWritten self (disks_seen D.seen result.disks.items)) }
+        ensures closed { IfNone result.fault
+            (IsCleanOnDisk self → HoldsFile self (disks_seen D.seen result.disks.items)) }
+        // A fault is that of a transfer of this call, and no page behind it was written.
+        ensures stopped { IfSome result.fault
+            (λ _. HasStopped self (disks_seen D.seen result.disks.items)) }
+        ensures fault { IfSome result.fault
+            (IsFault self.disks (disks_seen D.seen result.disks.items)) }
+        // The rest stays: the files, the swap disk, the disks' sizes, and each block outside the file.
         ensures files { result.files ≡ self.files }
         ensures swap { option_map D.seen result.swap ≡ self.swap }
         ensures disks { AreSame self.disks (disks_seen D.seen result.disks.items) }
-        ensures outside { KeepsOutside (info_of self).start (length self.pages) (blocks_of self.disks) (blocks_of (disks_seen D.seen result.disks.items)) }
-        ensures written { IfNone result.fault (HasWritten self (disks_seen D.seen result.disks.items)) }
-        ensures stopped { IfSome result.fault (λ _. HasStopped self (disks_seen D.seen result.disks.items)) }
-        ensures closed { IfNone result.fault (IsClean self → HoldsFile self (disks_seen D.seen result.disks.items)) }
-        ensures fault { IfSome result.fault (IsFault self.disks (disks_seen D.seen result.disks.items)) }
+        ensures outside { KeepsOutside (extent_of (info_of self)).start (length self.pages)
+            (blocks_of self.disks) (blocks_of (disks_seen D.seen result.disks.items)) }
     {
         let mut disks = self.disks;
         let info = self.files.info(0);

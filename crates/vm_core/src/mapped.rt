@@ -16,26 +16,7 @@ use crate::mapping::{FileMap, Mapping};
 use crate::state::VmState;
 use bitflags::Flags;
 use block_device::Disk;
-use vm_types::{Errno, Prot, Reply};
-
-// How many pages a length takes.
-fn pages_in_length(length: u32) -> u32
-    ensures pages { result ≡ pages_in length }
-{
-    ((length as u64 + 4095) / 4096) as u32
-}
-
-// Whether an address and a length are a range of pages that a process may use.
-fn is_range(addr: u32, length: u32) -> bool
-    ensures range { result ≡ mapping.is_range addr length }
-    ensures inside { OnTrue result (page addr + pages_in length ≤ end_page) }
-    ensures aligned { OnTrue result (4096 * page addr ≡ addr) }
-{
-    addr % 4096 == 0
-        && !(length == 0)
-        && 1 <= addr / 4096
-        && addr / 4096 + pages_in_length(length) <= 0x80000
-}
+use vm_types::{Errno, Prot, Reply, is_range, pages_in};
 
 // Whether a request's range and offset may be.
 fn is_valid(asked: &FileMap) -> bool
@@ -70,19 +51,26 @@ impl<D: Disk> VmState<D> {
     fn has_room(&self, asked: &FileMap) -> bool
         requires alive { self.now.alive ≡ true }
         requires inside { page asked.now.addr + pages_in asked.now.length ≤ end_page }
-        ensures { result ≡ nat_le (finite.len (mapping.cells_of (mapping.cleared_for (flat self.now) 1 (request asked.now).place (pages_in asked.now.length)) 1) + pages_in asked.now.length) 65536 }
+        ensures { let n = pages_in asked.now.length in
+            let kept = mapping.without_replaced (flat self.now) 1 (request asked.now).place n in
+            result ≡ nat_le (finite.len (mapping.cells_of kept 1) + n) 65536 }
     {
-        let pages = pages_in_length(asked.length);
+        let pages = pages_in(asked.length);
         let replaced = self.table.mapped_in(asked.addr / 4096, pages);
         self.table.len() - replaced + pages <= 65536
     }
 
     // The first page of a mapping, or the first refusal that is due: Invalid, NoObject, Access, TooLarge. Nothing is
     // reserved, since all cells are shared.
-    #[tactic(auto, unfolding(flat_model::specs::Mapping::mapped))]
+    #[tactic(auto, unfolding(flat_model::specs::Mapping::map_result))]
     fn first_page(&self, asked: &FileMap) -> Result<u32, Errno>
         requires alive { self.now.alive ≡ true }
-        ensures mapped { result_map_both (λ first. (first, mapping.mapped_at (flat self.now) 1 (request asked.now) first)) (λ e. e) result ≡ mapping.mapped (flat self.now) 1 (request asked.now) }
+        // The answer is flat memory's.
+        ensures mapped { result_map_both
+            (λ first. (first, mapping.with_mapping (flat self.now) 1 (request asked.now) first))
+            (λ e. e) result
+            ≡ mapping.map_result (flat self.now) 1 (request asked.now) }
+        // Ok: the page begins a range of user pages, of a file that is there.
         ensures first { IfOk result (λ first. first ≡ page asked.now.addr) }
         ensures aligned { IfOk result (λ first. 4096 * first ≡ asked.now.addr) }
         ensures inside { IfOk result (λ first. first + pages_in asked.now.length ≤ end_page) }
@@ -108,7 +96,8 @@ impl<D: Disk> VmState<D> {
         requires alive { self.old.alive ≡ true }
         requires inside { page asked.now.addr + pages_in asked.now.length ≤ end_page }
         requires file { asked.now.file ≡ 0 }
-        ensures flat { flat self.new ≡ mapping.mapped_at (flat self.old) 1 (request asked.now) (page asked.now.addr) }
+        ensures flat { flat self.new ≡ mapping.with_mapping (flat self.old) 1 (request asked.now)
+            (page asked.now.addr) }
         ensures keeps { Keeps self.old self.new }
     {
         let mapping = Mapping {
@@ -118,13 +107,14 @@ impl<D: Disk> VmState<D> {
             index: asked.offset / 4096,
         };
         self.table
-            .map(asked.addr / 4096, pages_in_length(asked.length), mapping);
+            .map(asked.addr / 4096, pages_in(asked.length), mapping);
     }
 
     pub(crate) fn map(&mut self, asked: &FileMap) -> Reply
         requires alive { self.old.alive ≡ true }
         ensures reply { result ≡ (mapping.map_pages (flat self.old) 1 (request asked.now)).reply }
-        ensures flat { flat self.new ≡ (mapping.map_pages (flat self.old) 1 (request asked.now)).after }
+        ensures flat { flat self.new
+            ≡ (mapping.map_pages (flat self.old) 1 (request asked.now)).after }
         ensures keeps { Keeps self.old self.new }
     {
         match self.first_page(asked) {

@@ -6,20 +6,27 @@ ghost use Rattle.vm_types.specs.Words.{IsWordSize, FitsWord};
 ghost use Rattle.flat_model.specs.Words.{word_at, word_put};
 ghost use Rattle.flat_model.specs.Flat.{cell_at, shown};
 ghost use Rattle.flat_model.specs.Access as accesses;
-ghost use Rattle.flat_model.specs.State.{allowed_by};
+ghost use Rattle.vm_core.specs.Access.{access_right};
 ghost use Rattle.vm_core.specs.Table.{cell_of};
 ghost use Rattle.vm_core.specs.State.{flat, page_in};
-ghost use Rattle.vm_core.specs.Calls.{with_page, Keeps};
+ghost use Rattle.vm_core.specs.Calls.{with_modified_page, Keeps};
 
 use crate::mapping::Mapping;
 use crate::state::VmState;
 use block_device::Disk;
-use flat_model::{Access, put_word, word_in};
+use flat_model::{put_word, word_in};
 use vm_types::{Prot, Reply, Signal};
+
+/// A load or a store.
+#[derive(Clone, Copy)]
+pub enum Access {
+    Load,
+    Store,
+}
 
 // Whether a page with this protection lets the access.
 fn is_allowed(access: Access, prot: Prot) -> bool
-    ensures { result ≡ allowed_by access prot }
+    ensures { result ≡ access_right access prot }
 {
     match access {
         Access::Load => prot.can_read(),
@@ -38,7 +45,8 @@ impl<D: Disk> VmState<D> {
 
     // Whether a mapping shows a page of the file, or else passes the file's end.
     fn shows(&self, mapping: &Mapping) -> bool
-        ensures shown { shown (flat self.now) (cell_of mapping.now) ≡ (if result then Some (page_in self.now.pages mapping.now.index) else None) }
+        ensures shown { shown (flat self.now) (cell_of mapping.now)
+            ≡ (if result then Some (page_in self.now.pages mapping.now.index) else None) }
         ensures file { OnTrue result (mapping.now.file ≡ 0) }
         ensures inside { OnTrue result (mapping.now.index < length self.now.pages) }
     {
@@ -47,11 +55,14 @@ impl<D: Disk> VmState<D> {
 
     // The mapping that an access meets, or the first signal that is due: the address is tested before the mapping, the
     // mapping before the protection, and the protection before the page.
-    #[tactic(auto, unfolding(flat_model::specs::Access::met))]
+    #[tactic(auto, unfolding(flat_model::specs::Access::access_target))]
     fn met(&self, access: Access, addr: u32, size: u32) -> Result<Mapping, Signal>
         requires alive { self.now.alive ≡ true }
         requires size { 0 < size }
-        ensures met { result_map_both (λ m. (cell_of m, page_in self.now.pages m.index)) (λ s. s) result ≡ accesses.met (flat self.now) 1 (allowed_by access) addr size }
+        // The answer is flat memory's.
+        ensures met { result_map_both (λ m. (cell_of m, page_in self.now.pages m.index)) (λ s. s)
+            result ≡ accesses.access_target (flat self.now) 1 (access_right access) addr size }
+        // Ok: the word lies in a page of the file.
         ensures aligned { IfOk result (λ _. addr % size ≡ 0) }
         ensures file { IfOk result (λ m. m.file ≡ 0) }
         ensures inside { IfOk result (λ m. m.index < length self.now.pages) }
@@ -88,7 +99,8 @@ impl<D: Disk> VmState<D> {
         requires size { IsWordSize size }
         requires fits { FitsWord size value }
         requires aligned { addr % size ≡ 0 }
-        ensures { self.new ≡ with_page self.old index (word_put (page_in self.old.pages index) addr size value) }
+        ensures { self.new ≡ with_modified_page self.old index
+            (word_put (page_in self.old.pages index) addr size value) }
     {
         let at = index as usize * 4096;
         put_word(&mut self.pages[at..at + 4096], addr, size, value);
@@ -110,6 +122,7 @@ impl<D: Disk> VmState<D> {
         requires alive { self.old.alive ≡ true }
         requires size { IsWordSize size }
         requires fits { FitsWord size value }
+        // Reply and flat memory are those of flat memory's store, and the rest stays.
         ensures reply { result ≡ (accesses.store (flat self.old) 1 addr size value).reply }
         ensures flat { flat self.new ≡ (accesses.store (flat self.old) 1 addr size value).after }
         ensures keeps { Keeps self.old self.new }

@@ -5,13 +5,13 @@ ghost use Rattle.vm_types.specs.WellFormed.{IsWellFormed};
 ghost use Rattle.flat_model.specs.Words.{pages_in};
 ghost use Rattle.flat_model.specs.Flat.{Flat, space_of};
 ghost use Rattle.flat_model.specs.History.{is_io};
-ghost use Rattle.flat_model.specs.Parts.{cut};
+ghost use Rattle.flat_model.specs.Parts.{pages_of_bytes};
 ghost use Rattle.flat_model.specs.Processes.{exit};
-ghost use Rattle.flat_model.specs.Step.{IsStep, step, outcome};
-ghost use Rattle.vnode_files.specs.Files.{file_at};
+ghost use Rattle.flat_model.specs.Step.{IsStep, step, effect};
+ghost use Rattle.vnode_files.specs.Files.{vnode_at};
 ghost use Rattle.vm_core.specs.State.{disks_seen, blocks_of, flat, Fits, IsOnDisks, HoldsPages};
 ghost use Rattle.vm_core.specs.Table.{cells};
-ghost use Rattle.vm_core.specs.Calls.{IsKnown, IsMap, reply_of, entry_of, with_entry, with_history, Keeps};
+ghost use Rattle.vm_core.specs.Calls.{IsKnown, IsMap, reply_of, entry_of, with_next_entry, with_history, Keeps};
 
 use crate::attempt::{Attempt, OutOfMemory};
 use crate::mapping::FileMap;
@@ -43,13 +43,16 @@ pub struct VmState<D: Disk> {
 
 impl<D: Disk> Model for VmState<D> {
     ghost use Rattle.std.specs.Prelude.{option_map, vec_capacity, length};
-    ghost use Rattle.flat_model.specs.Parts.{cut};
+    ghost use Rattle.flat_model.specs.Parts.{pages_of_bytes};
     ghost use Rattle.vm_core.specs.State.{StateSeen, disks_seen};
+    ghost use Rattle.vm_core.specs.StateCode.{state_code};
     ghost use Rattle.vm_core.specs.Kept.{IsKept};
 
     ghost Value = { StateSeen };
 
-    ghost view = { λ s. record { slots = s.slots; files = s.files; pages = cut (length s.modified.items) s.pages.items; modified = s.modified.items; table = s.table; alive = s.alive; history = s.history.items; allowed = s.allowed; disks = disks_seen D.seen s.disks.items; swap = option_map D.seen s.swap } };
+    ghost coded = { state_code };
+
+    ghost view = { λ s. record { slots = s.slots; files = s.files; pages = pages_of_bytes (length s.modified.items) s.pages.items; modified = s.modified.items; table = s.table; alive = s.alive; history = s.history.items; allowed = s.allowed; disks = disks_seen D.seen s.disks.items; swap = option_map D.seen s.swap } };
 
     ghost invariant = { λ s. IsKept s.files s.pages.items s.modified.items s.history.items (vec_capacity s.history) s.allowed (disks_seen D.seen s.disks.items) };
 }
@@ -58,25 +61,35 @@ impl<D: Disk> VmState<D> {
     /// A state with these files and disks. Process 1 is alive with an empty space. All memory that its calls need is
     /// taken here; where there isn't enough, the setup comes back.
     pub fn start(alloc: Global, setup: Setup<D>) -> Result<VmState<D>, Setup<D>>
+        // One process, one file on one disk, and no swap.
         requires slots { setup.slots ≡ 0 }
         requires swap { setup.swap ≡ None }
-        requires file { length setup.files ≡ 1 }
-        requires disk { IsOnDisks (file_at setup.files 0).info (disks_seen D.seen setup.disks.items) }
+        requires file { length setup.files.files ≡ 1 }
+        requires disk { IsOnDisks (vnode_at setup.files 0).info
+            (disks_seen D.seen setup.disks.items) }
         requires parents { setup.parents.items ≡ 0 ∷ [] }
         requires entries { length setup.entries.items ≡ 1 }
         requires seats { 0 < setup.seats }
-        requires pages { length setup.pages.items ≡ 4096 * pages_in (file_at setup.files 0).info.length }
-        requires read { IfSome (blocks_of (disks_seen D.seen setup.disks.items)) (HoldsPages (file_at setup.files 0).info (cut (pages_in (file_at setup.files 0).info.length) setup.pages.items)) }
+        // The pages are the file's, as its blocks hold them.
+        requires pages { length setup.pages.items
+            ≡ 4096 * pages_in (vnode_at setup.files 0).info.length }
+        requires read { IfSome (blocks_of (disks_seen D.seen setup.disks.items))
+            (HoldsPages (vnode_at setup.files 0).info
+            (pages_of_bytes (pages_in (vnode_at setup.files 0).info.length) setup.pages.items)) }
+        // Ok: the state is made of the setup, with process 1 alive in an empty space.
         ensures slots { IfOk result (λ state. state.slots ≡ setup.slots) }
         ensures files { IfOk result (λ state. state.files ≡ setup.files) }
-        ensures pages { IfOk result (λ state. state.pages ≡ cut (pages_in (file_at setup.files 0).info.length) setup.pages.items) }
+        ensures pages { IfOk result (λ state. state.pages
+            ≡ pages_of_bytes (pages_in (vnode_at setup.files 0).info.length) setup.pages.items) }
         ensures space { IfOk result (λ state. cells state.table ≡ finite.empty) }
         ensures alive { IfOk result (λ state. state.alive ≡ true) }
         ensures history { IfOk result (λ state. state.history ≡ []) }
-        ensures allowed { IfOk result (λ state. state.allowed ≡ slice_index_or setup.entries.items 0 0) }
+        ensures allowed { IfOk result
+            (λ state. state.allowed ≡ slice_index_or setup.entries.items 0 0) }
         ensures disks { IfOk result (λ state. state.disks ≡ disks_seen D.seen setup.disks.items) }
         ensures swap { IfOk result (λ state. state.swap ≡ None) }
         ensures fits { IfOk result (λ state. Fits (flat state) state) }
+        // An error: the setup comes back.
         ensures err { IfErr result (λ back. back ≡ setup) }
     {
         let allowed = setup.entries[0];
@@ -108,17 +121,23 @@ impl<D: Disk> VmState<D> {
         requires alive { IsSome (space_of (flat self.old) process) }
         requires seat { seat + 1 ≡ process }
         requires room { length self.old.history < self.old.allowed }
-        ensures entry { IfOk result (λ a. self.new.history ≡ self.old.history ++ entry_of process call.now (reply_of a) ∷ []) }
-        ensures step { IfOk result (λ a. IsStep (flat self.old) (entry_of process call.now (reply_of a))) }
-        ensures flat { IfOk result (λ a. flat self.new ≡ step (flat self.old) (entry_of process call.now (reply_of a))) }
+        // Ok: one entry came to the history, and it is a step of the flat memory that the state stood for.
+        ensures entry { IfOk result (λ a. self.new.history
+            ≡ self.old.history ++ entry_of process call.now (reply_of a) ∷ []) }
+        ensures step { IfOk result
+            (λ a. IsStep (flat self.old) (entry_of process call.now (reply_of a))) }
+        ensures flat { IfOk result
+            (λ a. flat self.new ≡ step (flat self.old) (entry_of process call.now (reply_of a))) }
         ensures io { IfOk result (λ a. is_io (reply_of a) ≡ false) }
+        // Want of memory comes at a Map alone, and nothing changed then.
+        ensures memory { OnErr result (IsMap call.now) }
+        ensures err { OnErr result (self.new ≡ self.old) }
+        // Files and disks stay, and what the state fitted it fits.
         ensures files { self.new.files ≡ self.old.files }
         ensures disks { self.new.disks ≡ self.old.disks }
         ensures swap { self.new.swap ≡ self.old.swap }
         ensures allowed { self.new.allowed ≡ self.old.allowed }
         ensures fits { (opening : Flat) → Fits opening self.old → Fits opening self.new }
-        ensures memory { OnErr result (IsMap call.now) }
-        ensures err { OnErr result (self.new ≡ self.old) }
     {
         let _ = seat;
         let reply = self.done(process, call);
@@ -146,9 +165,11 @@ impl<D: Disk> VmState<D> {
         requires alive { self.old.alive ≡ true }
         requires process { process ≡ 1 }
         requires room { length self.old.history < self.old.allowed }
-        ensures entry { self.new.history ≡ self.old.history ++ entry_of process call.now result ∷ [] }
-        ensures reply { result ≡ (outcome (flat self.old) process call.now).reply }
-        ensures flat { flat self.new ≡ (outcome (flat self.old) process call.now).after }
+        // The entry is kept, and reply and flat memory are those of the call's effect.
+        ensures entry { self.new.history
+            ≡ self.old.history ++ entry_of process call.now result ∷ [] }
+        ensures reply { result ≡ (effect (flat self.old) process call.now).reply }
+        ensures flat { flat self.new ≡ (effect (flat self.old) process call.now).after }
         ensures keeps { Keeps self.old (with_history self.new self.old.history) }
     {
         let reply = self.act(call);
@@ -159,7 +180,7 @@ impl<D: Disk> VmState<D> {
     // Keeps an entry.
     fn record(&mut self, process: u32, call: &Call, reply: &Reply)
         requires { length self.old.history < self.old.allowed }
-        ensures { self.new ≡ with_entry self.old (entry_of process call.now reply.now) }
+        ensures { self.new ≡ with_next_entry self.old (entry_of process call.now reply.now) }
     {
         self.history.push_reserved(Entry {
             process,
@@ -174,8 +195,9 @@ impl<D: Disk> VmState<D> {
         requires formed { IsWellFormed call.now }
         requires known { IsKnown call.now }
         requires alive { self.old.alive ≡ true }
-        ensures reply { result ≡ (outcome (flat self.old) 1 call.now).reply }
-        ensures flat { flat self.new ≡ (outcome (flat self.old) 1 call.now).after }
+        // Reply and flat memory are those of the call's effect, and the rest stays.
+        ensures reply { result ≡ (effect (flat self.old) 1 call.now).reply }
+        ensures flat { flat self.new ≡ (effect (flat self.old) 1 call.now).after }
         ensures keeps { Keeps self.old self.new }
     {
         match *call {

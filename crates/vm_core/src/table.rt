@@ -1,7 +1,7 @@
 //! The pages of an address space, in a table by page number.
 ghost use Rattle.std.specs.Prelude.{◌≡◌, ◌<◌, ◌≤◌, ◌+◌, ◌-◌, option_map, if◌then◌else◌, IfOk, Option, Some, None, length};
 ghost use Rattle.std.specs.FinMap as map;
-ghost use Rattle.flat_model.specs.Space.{end_page, without, with_cells};
+ghost use Rattle.flat_model.specs.Space.{end_page, without_range, with_cells};
 ghost use Rattle.vm_core.specs.Table.{cell_of, cells, cells_from, mapping_at};
 
 use crate::mapping::Mapping;
@@ -73,7 +73,8 @@ impl PageTable {
     /// How many of `pages` pages from the first are mapped.
     pub(crate) fn mapped_in(&self, first: u32, pages: u32) -> u32
         requires { first + pages ≤ end_page }
-        ensures { result + map.len (without (cells self.now) first pages) ≡ map.len (cells self.now) }
+        ensures { result + map.len (without_range (cells self.now) first pages)
+            ≡ map.len (cells self.now) }
     {
         let mut mapped = 0;
         for i in 0..pages {
@@ -86,7 +87,8 @@ impl PageTable {
     pub(crate) fn map(&mut self, first: u32, pages: u32, mapping: Mapping)
         requires inside { first + pages ≤ end_page }
         requires number { mapping.index + pages < 4294967296 }
-        ensures { cells self.new ≡ with_cells (cells self.old) first pages (λ i. cell_of (mapping_at mapping i)) }
+        ensures { cells self.new ≡ with_cells (cells self.old) first pages
+            (λ i. cell_of (mapping_at mapping i)) }
     {
         for i in 0..pages {
             let index = mapping.index + i;

@@ -3,47 +3,11 @@ ghost use Rattle.std.specs.Prelude.{◌↔◌, IsTrue};
 ghost use Rattle.vm_core.specs.Calls.{IsKnown};
 
 use crate::{Attempt, DiskFault, KernelHistory, Setup, VmState};
-use block_device::{Disk, Failed, MemDisk};
+use block_device::{Disk, MemDisk, Untold};
 use std::alloc::Global;
 use std::test::Fail;
 use vm_types::{Call, Errno, Kind, Object, Place, Prot, Reply, Signal};
-use vnode_files::{FileInfo, FileName, Files};
-
-// A memory disk that doesn't tell its content.
-#[derive(Drop)]
-struct Untold {
-    disk: MemDisk,
-}
-
-impl Disk for Untold {
-    ghost use Rattle.std.specs.Prelude.{None};
-    ghost use Rattle.block_device.specs.MemDiskLook.{look};
-    ghost use Rattle.block_device.specs.MemSeen.{disk_of};
-
-    ghost seen = { λ d. record (disk_of (look d.disk)) { content = None } };
-
-    fn blocks(&self) -> u32 {
-        self.disk.blocks()
-    }
-
-    fn faults(&self) -> u64 {
-        self.disk.faults()
-    }
-
-    fn calls(&self) -> u64 {
-        self.disk.calls()
-    }
-
-    fn read(&mut self, block: u32, into: &mut [u8]) -> Result<(), Failed> {
-        self.disk.read(block, into)
-    }
-
-    fn write(&mut self, block: u32, from: &[u8]) -> Result<(), Failed> {
-        self.disk.write(block, from)
-    }
-
-    ghost has_blocks = { λ d. tt };
-}
+use vnode_files::{Extent, Extents, FileInfo, FileName, Files};
 
 fn is_known(call: &Call) -> bool
     ensures { IsTrue result ↔ IsKnown call.now }
@@ -61,7 +25,7 @@ fn is_known(call: &Call) -> bool
 }
 
 // Tries a call of process 1, where it may be tried.
-fn tried(state: &mut VmState<Untold>, call: &Call) -> Option<Reply> {
+fn tried(state: &mut VmState<Untold<MemDisk>>, call: &Call) -> Option<Reply> {
     if !call.is_well_formed() || !is_known(call) || !state.is_alive(1) || state.room() == 0 {
         return None;
     }
@@ -74,19 +38,20 @@ fn tried(state: &mut VmState<Untold>, call: &Call) -> Option<Reply> {
 // A state whose file has two pages at block 1 of the disk, and this length and these pages.
 fn started(
     alloc: Global,
-    disk: Untold,
+    disk: Untold<MemDisk>,
     length: u32,
     pages: Vec<u8>,
-) -> Result<VmState<Untold>, Fail> {
+) -> Result<VmState<Untold<MemDisk>>, Fail> {
     if disk.blocks() < 3 || length > 8192 || pages.len() != (length as usize + 4095) / 4096 * 4096 {
         return Err(Fail::new("a wrong setup"));
     }
     let mut files = Files::new(alloc);
+    files.set_disk(0, disk.blocks())?;
+    let extent = Extent { start: 1, pages: 2 };
     files.add(FileInfo {
         name: FileName::new(b"note"),
         disk: 0,
-        start: 1,
-        pages: 2,
+        extents: Extents::new(alloc, &[extent])?,
         length,
         writable: true,
     })?;

@@ -7,7 +7,7 @@ use Rattle.std.specs.List.{flat_map}
 use Rattle.vm_types.specs.declared.call.Call.TheVariants.{Write}
 use Rattle.vm_types.specs.declared.call.Reply.TheVariants.{Done}
 use Rattle.vm_types.specs.Pages.{line_rest}
-use Rattle.vm_types.specs.Parts.{next_part, part_bytes}
+use Rattle.vm_types.specs.Parts.{first_write, next_part, part_bytes}
 use Rattle.vm_types.specs.Writes.{write_parts}
 
 -- a write with nothing left has no next part
@@ -15,7 +15,7 @@ next_part-last : (file offset : ℕ) (line bytes : List ℕ) → next_part (Writ
 unfolding next_part
 next_part-last file offset line bytes = refl
 
-next_part-more : (file offset rest : ℕ) (line bytes : List ℕ) → 1 ≤ rest → offset + length line < 2 ^ 32 → next_part (Write file offset line rest) Done bytes ≡ Some (Write file (offset + length line) (take (line_rest (offset + length line)) bytes) (rest - length (take (line_rest (offset + length line)) bytes)))
+next_part-more : (file offset rest : ℕ) (line bytes : List ℕ) → 1 ≤ rest → offset + length line < 2 ^ 32 → next_part (Write file offset line rest) Done bytes ≡ Some (first_write file (offset + length line) bytes)
 unfolding next_part
 next_part-more file offset rest line bytes some below = grind (arith, common_steps)
 
@@ -33,9 +33,9 @@ write_parts-bytes (suc most) file offset (suc rest) line bytes same end enough =
     let others : List ℕ = drop (length next) bytes in
     let some : 1 ≤ length next = taken begin bytes (omega arith) in
     let short : length next ≤ length bytes = omega (arith, length-take (line_rest begin) bytes) in
-    let left : length others ≡ suc rest - length next = omega (arith, length-drop (length next) bytes) in
+    let left : length others ≡ length bytes - length next = omega (arith, length-drop (length next) bytes) in
     let joined : next ++ others ≡ bytes = ap (λ n. next ++ drop n bytes) (length-take (line_rest begin) bytes) ∙ ap (λ xs. next ++ xs) (drop_min (line_rest begin) bytes) ∙ take-append-drop (line_rest begin) bytes in
-    let later : flat_map part_bytes (write_parts most (Write file begin next (suc rest - length next)) others) ≡ next ++ others = write_parts-bytes most file begin (suc rest - length next) next others left (omega arith) (omega arith) in
+    let later : flat_map part_bytes (write_parts most (Write file begin next (length bytes - length next)) others) ≡ next ++ others = write_parts-bytes most file begin (length bytes - length next) next others left (omega arith) (omega arith) in
     rw (next_part-more file offset (suc rest) line bytes (omega arith) (omega arith)) (ap (λ xs. line ++ xs) (later ∙ joined))
 
 pub whole_write : (file offset count : ℕ) (line bytes : List ℕ) → 1 ≤ count → count ≤ length bytes → line ≡ take count bytes → offset + length bytes ≤ 2 ^ 32 → flat_map part_bytes (write_parts (length bytes) (Write file offset line (length bytes - count)) (drop (length line) bytes)) ≡ bytes

@@ -1,4 +1,4 @@
--- The numbers and names of errors, and the texts of signals, as a report prints them.
+-- The numbers and names of errors, and the texts of signals, as a report prints them. Public clauses cite this.
 use Rattle.std.specs.Prelude.{ℕ, List, codes}
 use Rattle.vm_types.specs.declared.call.Errno.{Errno}
 use Rattle.vm_types.specs.declared.call.Errno.TheVariants.{Invalid, Access, NoSwap, NoRoom, TooLarge, NotMapped, ReadOnly, TooBig, NoObject}

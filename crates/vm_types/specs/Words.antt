@@ -1,5 +1,9 @@
--- Words: their sizes, and their bytes in big-endian order.
+-- Words: their sizes, and their bytes in big-endian order. Public clauses cite this.
 use Rattle.std.specs.Prelude.{ℕ, zero, suc, ◌≡◌, ◌<◌, ◌+◌, ◌*◌, ◌/◌, ◌%◌, ◌^◌, ◌⊎◌, List, [], ◌∷◌, fold}
+
+-- A byte is below 256.
+abbrev pub IsByte : ℕ → Type 0
+IsByte b = b < 256
 
 -- A word has 1, 2 or 4 bytes.
 abbrev pub IsWordSize : ℕ → Type 0
@@ -10,10 +14,10 @@ abbrev pub FitsWord : ℕ → ℕ → Type 0
 FitsWord n v = v < 2 ^ (8 * n)
 
 -- The number of a word is read from its bytes, the first the highest.
-abbrev pub number_of : List ℕ → ℕ
-number_of bytes = fold (λ n b. 256 * n + b) 0 bytes
+abbrev pub word_value : List ℕ → ℕ
+word_value bytes = fold (λ n b. 256 * n + b) 0 bytes
 
 -- The n bytes of a word that has this number, the first the highest.
-abbrev pub bytes_of : ℕ → ℕ → List ℕ
-bytes_of zero v = []
-bytes_of (suc n) v = v / 256 ^ n % 256 ∷ bytes_of n v
+abbrev pub word_bytes : ℕ → ℕ → List ℕ
+word_bytes zero v = []
+word_bytes (suc n) v = v / 256 ^ n % 256 ∷ word_bytes n v

@@ -1,4 +1,4 @@
--- A whole write, part by part.
+-- A whole write, part by part. Public clauses cite this.
 use Rattle.std.specs.Prelude.{ℕ, zero, suc, List, [], ◌∷◌, length, drop, Some, None}
 use Rattle.vm_types.specs.declared.call.Call.{Call}
 use Rattle.vm_types.specs.declared.call.Reply.TheVariants.{Done}

@@ -100,6 +100,20 @@ fn a_call_that_was_refused_or_met_a_device_error_ends(rt: HostRuntime) {
         assert!(rt; ends_call(&call, &reply));
     }
     assert!(rt; ends_call(&Call::Exit, &Reply::Done));
+    assert!(rt; ends_call(&cut(7), &Reply::Done));
+}
+
+#[test]
+fn the_files_of_calls(rt: HostRuntime) {
+    for (call, file, of_part) in [
+        (read(0, 1), Some(3), Some(3)),
+        (write(0, &[7], 0), Some(3), Some(3)),
+        (cut(0), Some(3), None),
+        (store(1, 1), None, None),
+    ] {
+        assert_eq!(rt; file_of_call(&call), file, "{call:?}");
+        assert_eq!(rt; part_file(&call), of_part, "{call:?}");
+    }
 }
 
 #[test]
@@ -123,10 +137,17 @@ fn the_form_of_calls(rt: HostRuntime) {
         (write(0, &[], 9), false),
         (protect(Prot::READ | Prot::WRITE), true),
         (protect(Prot::from_bits_retain(4)), false),
+        (cut(0), true),
         (Call::Exit, true),
     ] {
         assert_eq!(rt; call.is_well_formed(), want, "{call:?}");
     }
+}
+
+fn cut(length: u32) -> Call
+    ensures { result ≡ Call.Truncate 3 length }
+{
+    Call::Truncate { file: 3, length }
 }
 
 fn store(size: u32, value: u32) -> Call {
@@ -166,6 +187,26 @@ fn the_words_pages_and_protections(rt: HostRuntime) {
     assert_eq!(rt; page_of(FIRST_ADDRESS), FIRST_PAGE);
     assert_eq!(rt; page_of(LAST_ADDRESS), LAST_PAGE);
     assert_eq!(rt; line_rest(60), 4);
+    for (length, pages, in_page_1) in [
+        (0, 0, 0),
+        (1, 1, 0),
+        (4096, 1, 0),
+        (4097, 2, 1),
+        (u32::MAX, 0x10_0000, 4096),
+    ] {
+        assert_eq!(rt; pages_in(length), pages);
+        assert_eq!(rt; bytes_before(length, 1), in_page_1);
+    }
+    for (addr, length, valid) in [
+        (0x1000, 1, true),
+        (0x1000, 0, false),
+        (0, 1, false),
+        (0x1001, 1, false),
+        (0x7fff_f000, 4096, true),
+        (0x7fff_f000, 4097, false),
+    ] {
+        assert_eq!(rt; is_range(addr, length), valid);
+    }
     assert!(rt; Line::new(&[]).is_empty());
     let both = Prot::READ | Prot::WRITE;
     assert!(rt; both.can_read() && both.can_write() && both.is_known());

@@ -49,11 +49,12 @@ fn fits_word(size: u32, value: u32) -> bool
 fn is_in_one_line(offset: u32, bytes: &Line) -> bool
     ensures { IsTrue result ↔ IsInOneLine offset bytes.now }
 {
-    1 <= bytes.len() && bytes.len() <= line_rest(offset)
+    let bytes = bytes.bytes();
+    1 <= bytes.len() && bytes.len() <= line_rest(offset) as usize
 }
 
 impl Call {
-    /// Whether the call is well formed, as each function that takes a call wants it.
+    /// Whether the call is well formed, as those want it who make its next part or a step of it.
     pub fn is_well_formed(&self) -> bool
         ensures { IsTrue result ↔ IsWellFormed self.now }
     {
@@ -98,6 +99,7 @@ impl Call {
                     && is_in_one_line(offset, bytes)
                     && is_number(rest)
             }
+            Call::Truncate { file, length } => is_number(file) && is_number(length),
             Call::Fork { child } => is_number(child),
             Call::Exit => true,
         }

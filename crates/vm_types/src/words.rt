@@ -1,6 +1,6 @@
 //! Words of 1, 2 or 4 bytes, in big-endian order.
 ghost use Rattle.std.specs.Prelude.{◌≡◌, length};
-ghost use Rattle.vm_types.specs.Words.{IsWordSize, FitsWord, number_of, bytes_of};
+ghost use Rattle.vm_types.specs.Words.{IsWordSize, FitsWord, word_value, word_bytes};
 
 use crate::line::Line;
 
@@ -8,8 +8,8 @@ use crate::line::Line;
 pub fn word_bytes(size: u32, value: u32) -> Line
     requires size { IsWordSize size }
     requires fits { FitsWord size value }
-    ensures bytes { result ≡ bytes_of size value }
-    ensures number { number_of result ≡ value }
+    ensures bytes { result ≡ word_bytes size value }
+    ensures number { word_value result ≡ value }
 {
     let bytes = value.to_be_bytes();
     Line::new(&bytes[4 - size as usize..])
@@ -18,9 +18,9 @@ pub fn word_bytes(size: u32, value: u32) -> Line
 /// The value of a word of 1, 2 or 4 bytes, the highest first.
 pub fn word_value(bytes: &[u8]) -> u32
     requires { IsWordSize (length bytes.now) }
-    ensures number { result ≡ number_of bytes.now }
+    ensures number { result ≡ word_value bytes.now }
     ensures fits { FitsWord (length bytes.now) result }
-    ensures bytes { bytes_of (length bytes.now) result ≡ bytes.now }
+    ensures bytes { word_bytes (length bytes.now) result ≡ bytes.now }
 {
     match *bytes {
         [a] => a as u32,

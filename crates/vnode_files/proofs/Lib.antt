@@ -1,1 +1,14 @@
-pub mod Lists
+pub mod ExtentLemmas
+pub mod PlaceLemmas
+pub mod FindLemmas
+pub mod IndexLemmas
+pub mod ListLemmas
+pub mod BlockLemmas
+pub mod LayoutLemmas
+pub mod RoomLemmas
+pub mod SeenLemmas
+pub mod StepLemmas
+pub mod FilesLemmas
+pub mod GrowLemmas
+pub mod GrowthLaws
+pub mod LayoutLaws

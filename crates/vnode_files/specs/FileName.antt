@@ -1,4 +1,4 @@
--- The name of a file: its bytes, and zeros up to the end of the array.
+-- The name of a file: its bytes, and zeros up to the end of the array. Inside: no public clause cites this.
 use Rattle.std.specs.Prelude.{ℕ, ◌≡◌, ◌≤◌, ◌-◌, List, ◌++◌, length, take, drop, replicate}
 use Rattle.std.proofs.Common.{ap, ◌∙◌, sym, arith, length-append}
 use Rattle.std.proofs.Math.Seq.{drop-append_seam}
@@ -6,8 +6,8 @@ use Rattle.std.proofs.lemmas.List.{take-append-drop, length-take, length-drop, l
 use Rattle.vnode_files.specs.declared.name.FileName.TheInside.{Inside}
 
 -- the bytes that count
-abbrev pub bytes_in : Inside → List ℕ
-bytes_in n = take n.len n.bytes
+abbrev pub name_bytes : Inside → List ℕ
+name_bytes n = take n.len n.bytes
 
 pub record IsName (n : Inside) : Type 0 where
   pub whole : length n.bytes ≡ 16
@@ -16,22 +16,22 @@ pub record IsName (n : Inside) : Type 0 where
   pub zeros : drop n.len n.bytes ≡ replicate (16 - n.len) 0
 
 -- the fields that stand for a list
-abbrev pub fields_of : List ℕ → Inside
-fields_of xs = record { len = length xs; bytes = xs ++ replicate (16 - length xs) 0 }
+abbrev pub name_fields : List ℕ → Inside
+name_fields xs = record { len = length xs; bytes = xs ++ replicate (16 - length xs) 0 }
 
-pub fields_of-bytes_in : (n : Inside) → IsName n → fields_of (bytes_in n) ≡ n
-fields_of-bytes_in n h =
+pub name_fields-name_bytes : (n : Inside) → IsName n → name_fields (name_bytes n) ≡ n
+name_fields-name_bytes n h =
     let len : length (take n.len n.bytes) ≡ n.len = omega (arith, length-take n.len n.bytes, h.whole, h.short) in
     let bytes : take n.len n.bytes ++ replicate (16 - length (take n.len n.bytes)) 0 ≡ n.bytes =
     ap (λ m. take n.len n.bytes ++ replicate (16 - m) 0) len ∙ ap (λ (z : List ℕ). take n.len n.bytes ++ z) (sym h.zeros) ∙ take-append-drop n.len n.bytes in
     λ i. record { len = len i; bytes = bytes i }
 
 -- a list of 1 to 16 bytes, written over 16 zeros
-abbrev pub written : List ℕ → Inside
-written xs = record { len = length xs; bytes = xs ++ drop (length xs) (replicate 16 0) }
+abbrev pub name_over_zeros : List ℕ → Inside
+name_over_zeros xs = record { len = length xs; bytes = xs ++ drop (length xs) (replicate 16 0) }
 
-pub written-IsName : (xs : List ℕ) → 1 ≤ length xs → length xs ≤ 16 → IsName (written xs)
-written-IsName xs some short = record {
+pub name_over_zeros-IsName : (xs : List ℕ) → 1 ≤ length xs → length xs ≤ 16 → IsName (name_over_zeros xs)
+name_over_zeros-IsName xs some short = record {
   whole = let zs : List ℕ = replicate 16 0 in omega (arith, length-append xs (drop (length xs) zs), length-drop (length xs) zs, length-replicate {A = ℕ} 16 0);
   some = some;
   short = short;

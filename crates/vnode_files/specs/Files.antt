@@ -1,47 +1,60 @@
--- The files, by number: what each is, and which of its pages were never written.
-use Rattle.std.specs.Prelude.{ℕ, ◌≡◌, ◌≢◌, ◌<◌, ◌≤◌, ◌+◌, ◌*◌, ◌^◌, Bool, false, List, [], length, Option, Some, None, slice_index_or, slice_set}
-use Rattle.vnode_files.specs.declared.entry.FileInfo.{FileInfo}
-use Rattle.vnode_files.specs.Blanks.{blank_from}
+-- The files by number and the sizes of their disks, and how a file grows among them. Public clauses cite this.
+use Rattle.std.specs.Prelude.{ℕ, ◌≡◌, ◌≢◌, ◌<◌, ◌==◌, List, ◌∷◌, ◌++◌, [], length, Option, Some, None, unwrap_or, slice_index_or, slice_set, filter, remove}
+use Rattle.std.specs.List.{flat_map}
+use Rattle.std.specs.Ordering.{nat_cmp}
+use Rattle.std.specs.FinMap as map
+use Rattle.vnode_files.specs.declared.extent.Extent.{Extent}
+use Rattle.vnode_files.specs.Grow.{growth}
+use Rattle.vnode_files.specs.Vnode.{VnodeSeen, no_vnode, with_extents}
 
--- a file: its record, and for each page of its extent whether it is blank, that is, was never written
-pub record File : Type 0 where
-  pub info : FileInfo
-  pub blanks : List Bool
+-- The files by number, and the blocks of each disk that was set.
+pub record FilesSeen : Type 0 where
+  pub disks : map.FinMap nat_cmp ℕ
+  pub files : List VnodeSeen
 
--- the record and the blank pages agree: the file has a bit for each page, its blocks have numbers below 2 ^ 32,
--- and its length is at most the bytes of its pages
-pub record IsFile (f : File) : Type 0 where
-  pub bits : length f.blanks ≡ f.info.pages
-  pub blocks : f.info.start + f.info.pages ≤ 2 ^ 32
-  pub within : f.info.length ≤ f.info.pages * 4096
+abbrev pub no_files : FilesSeen
+no_files = record { disks = map.empty; files = [] }
 
--- a file as it begins: its pages at or past its length are blank
-abbrev pub opened : FileInfo → File
-opened info = record { info = info; blanks = blank_from info.length 0 info.pages }
+-- The file of a number.
+abbrev pub vnode_at : FilesSeen → ℕ → VnodeSeen
+vnode_at s file = slice_index_or s.files file no_vnode
 
--- a file that stands for none: it has no name, no pages and no disk
-abbrev pub no_file : File
-no_file = record { info = record { name = []; disk = 0; start = 0; pages = 0; length = 0; writable = false }; blanks = [] }
+-- The files with another one in the place of a file.
+abbrev pub with_vnode : FilesSeen → ℕ → VnodeSeen → FilesSeen
+with_vnode s file v = record s { files = slice_set s.files file v }
 
--- the file of a number
-abbrev pub file_at : List File → ℕ → File
-file_at files number = slice_index_or files number no_file
+-- The files with one more.
+abbrev pub with_next_file : FilesSeen → VnodeSeen → FilesSeen
+with_next_file s v = record s { files = s.files ++ v ∷ [] }
 
--- whether a page of a file is blank; a file has no page past its extent
-abbrev pub is_blank : File → ℕ → Bool
-is_blank f page = slice_index_or f.blanks page false
+abbrev pub with_disk : FilesSeen → ℕ → ℕ → FilesSeen
+with_disk s disk blocks = record s { disks = map.insert s.disks disk blocks }
 
-abbrev pub with_blank : File → ℕ → Bool → File
-with_blank f page blank = record f { blanks = slice_set f.blanks page blank }
+-- How many blocks a disk has; none where it wasn't set.
+abbrev pub block_count : map.FinMap nat_cmp ℕ → ℕ → ℕ
+block_count disks disk = unwrap_or (map.get disks disk) 0
 
-abbrev pub with_length : File → ℕ → File
-with_length f bytes = record f { info = record f.info { length = bytes } }
+-- The extents of those of the files that lie on a disk.
+abbrev pub extents_on : ℕ → List VnodeSeen → List Extent
+extents_on disk files = flat_map (λ v. v.info.extents) (filter (λ v. v.info.disk == disk) files)
 
--- no file before this number has the name
-abbrev pub NoneBefore : List File → List ℕ → ℕ → Type 0
-NoneBefore files name end = (k : ℕ) → k < end → (file_at files k).info.name ≢ name
+-- The extents of a file that is to keep so many pages; none where its disk has no block for one of them.
+abbrev pub growth_of : FilesSeen → ℕ → ℕ → Option (List Extent)
+growth_of s file pages =
+    let info = (vnode_at s file).info in
+    growth (block_count s.disks info.disk) (extents_on info.disk (remove s.files file)) info.extents pages
 
--- the least number of a file that has the name, or none where no file has it
-abbrev pub IsNumberOf : List File → List ℕ → Option ℕ → Type 0
+-- The files after such a growth.
+abbrev pub with_growth : FilesSeen → ℕ → Option (List Extent) → FilesSeen
+with_growth s file None = s
+with_growth s file (Some extents) = with_vnode s file (with_extents (vnode_at s file) extents)
+
+-- No file before this number has the name.
+abbrev pub NoneBefore : List VnodeSeen → List ℕ → ℕ → Type 0
+NoneBefore files name end = (k : ℕ) → k < end → (slice_index_or files k no_vnode).info.name ≢ name
+
+-- The least number of a file that has the name, or none where no file has it.
+abbrev pub IsNumberOf : List VnodeSeen → List ℕ → Option ℕ → Type 0
 IsNumberOf files name None = NoneBefore files name (length files)
-IsNumberOf files name (Some number) = (number < length files) × ((file_at files number).info.name ≡ name) × NoneBefore files name number
+IsNumberOf files name (Some number) =
+    (number < length files) × ((slice_index_or files number no_vnode).info.name ≡ name) × NoneBefore files name number

@@ -18,15 +18,15 @@ impl Model for FileName {
 
     ghost coded = { coded_list coded_ℕ };
 
-    ghost use Rattle.vnode_files.specs.FileName.{bytes_in, IsName, fields_of, fields_of-bytes_in};
+    ghost use Rattle.vnode_files.specs.FileName.{name_bytes, IsName, name_fields, name_fields-name_bytes};
 
-    ghost view = { bytes_in };
+    ghost view = { name_bytes };
 
     ghost invariant = { IsName };
 
-    ghost inverse = { fields_of };
+    ghost inverse = { name_fields };
 
-    ghost inverse_ok = { fields_of-bytes_in };
+    ghost inverse_ok = { name_fields-name_bytes };
 }
 
 impl FileName {

@@ -1,6 +1,6 @@
 use Rattle.std.specs.Prelude.{◌≡◌, ◌≤◌, ◌^◌, map}
-use Rattle.flat_model.specs.Space.{gap_from}
-use Rattle.flat_model.specs.Cells.{cell_of}
+use Rattle.flat_model.specs.Space.{lowest_gap_from}
+use Rattle.flat_model.specs.Cells.{flat_cell}
 use Rattle.flat_model.proofs.cells.gap.Given as goal
 
 -- the gap is the one from here on over the entries that are left
@@ -9,4 +9,4 @@ invariant-loop-page l =
     (goal.iterator-loop-page).can_next l.page-iterator ×
     (goal.iterator-loop-page).is_finite l.page-iterator ×
     (l.low ≤ 2 ^ 32) ×
-    (gap_from 1 l.count (map (λ e. (e.0, cell_of e.1)) l.cells.entries) ≡ gap_from l.low l.count (map (λ e. (e.0, cell_of e.1)) l.page-iterator))
+    (lowest_gap_from 1 l.count (map (λ e. (e.0, flat_cell e.1)) l.cells.entries) ≡ lowest_gap_from l.low l.count (map (λ e. (e.0, flat_cell e.1)) l.page-iterator))

@@ -1,7 +1,7 @@
 use Rattle.std.specs.Prelude.{◌≡◌, sum_by}
 use Rattle.std.specs.BTreeMap.{values}
 use Rattle.flat_model.specs.Flat.{private_cells}
-use Rattle.flat_model.specs.Mapped.{left_of}
+use Rattle.flat_model.specs.Mapped.{slots_left}
 use Rattle.flat_model.proofs.spaces.slots_left.Given as goal
 
 -- what is left after the spaces so far, less the others, is what is left after all
@@ -9,4 +9,4 @@ abbrev pub invariant-loop-cells : goal.invariant-loop-cells
 invariant-loop-cells l =
     (goal.iterator-loop-cells).can_next l.cells-iterator ×
     (goal.iterator-loop-cells).is_finite l.cells-iterator ×
-    (left_of l.left (sum_by private_cells l.cells-iterator) ≡ left_of l.slots (sum_by private_cells (values l.spaces)))
+    (slots_left l.left (sum_by private_cells l.cells-iterator) ≡ slots_left l.slots (sum_by private_cells (values l.spaces)))

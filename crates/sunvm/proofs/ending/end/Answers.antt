@@ -21,13 +21,13 @@ pub tell_closing-requires-clause-well_formed : goal.tell_closing-requires-clause
 tell_closing-requires-clause-well_formed g c =
     let played = c.args.played.now in
     let P : List Entry → Type 0 = λ H. All (λ e. IsWellFormed e.call) H in
-    subst P (sym c.entries.ensures) (λ k d lt. (formed played.history.entries c.args.plan.now.calls.items c.requires.plan.calls c.requires.played.makes k d lt).0)
+    subst P (sym c.entries.ensures) (formed played.history.entries c.args.plan.now.calls.items c.requires.plan.calls c.requires.played.makes)
 
 pub report-requires-clause-well_formed : goal.report-requires-clause-well_formed
 report-requires-clause-well_formed g c =
     let played = c.args.played.now in
     let P : List Entry → Type 0 = λ H. All (λ e. IsWellFormed e.call) H in
-    subst P (sym c.entries-in-None.ensures) (λ k d lt. (formed played.history.entries c.args.plan.now.calls.items c.requires.plan.calls c.requires.played.makes k d lt).0)
+    subst P (sym c.entries-in-None.ensures) (formed played.history.entries c.args.plan.now.calls.items c.requires.plan.calls c.requires.played.makes)
 
 pub returns-in-Some-clause-ended : goal.returns-in-Some-clause-ended
 returns-in-Some-clause-ended g c = λ r0 r1.

@@ -1,6 +1,6 @@
 use Rattle.std.proofs.Common.{◌≡◌, ◌*◌, length}
 use Rattle.std.specs.Prelude.{IfSome}
-use Rattle.sunvm.specs.Opening.{Stays, Reads}
+use Rattle.sunvm.specs.Opening.{Stays, AreBytesOf}
 use Rattle.sunvm.proofs.opening.read_pages.Given as goal
 
 abbrev pub invariant-loop-page : goal.invariant-loop-page
@@ -9,5 +9,5 @@ invariant-loop-page g l = record {
   number : l.disk.number ≡ 0;
   content : (g.D.Disk.seen l.disk.disk).content ≡ (g.D.Disk.seen l.fn.disk.disk).content;
   whole : length l.bytes.items ≡ 4096 * l.page;
-  read : IfSome (g.D.Disk.seen l.fn.disk.disk).content (Reads l.page l.bytes.items);
+  read : IfSome (g.D.Disk.seen l.fn.disk.disk).content (AreBytesOf l.page l.bytes.items);
 }

@@ -3,8 +3,8 @@ use Rattle.std.specs.Prelude.{Some}
 use Rattle.vm_types.specs.declared.call.Call.{Call}
 use Rattle.vm_types.specs.declared.call.Call.TheVariants.{Exit}
 use Rattle.flat_model.specs.Words.{pages_in}
-use Rattle.flat_model.specs.Parts.{cut}
-use Rattle.vnode_files.specs.Files.{File, file_at}
+use Rattle.flat_model.specs.Parts.{pages_of_bytes}
+use Rattle.vnode_files.specs.Files.{FilesSeen, vnode_at}
 use Rattle.sunvm.specs.Parts.{Makes}
 use Rattle.sunvm.specs.Plans.{plan_seen}
 use Rattle.sunvm.proofs.Ends.{ended_lacking}
@@ -24,8 +24,8 @@ end_run-requires-clause-played g c =
     let files = c.requires.rooms.files in
     let started : Started plan d pages c.in-Ok.state = record {
       slots = c.in-Ok.ensures.slots;
-      info = ap (λ (fs : List File). (file_at fs 0).info) (c.in-Ok.ensures.files ∙ files);
-      read = c.in-Ok.ensures.pages ∙ ap (λ (fs : List File). cut (pages_in (file_at fs 0).info.length) pages) files;
+      info = ap (λ (fs : FilesSeen). (vnode_at fs 0).info) (c.in-Ok.ensures.files ∙ files);
+      read = c.in-Ok.ensures.pages ∙ ap (λ (fs : FilesSeen). pages_of_bytes (pages_in (vnode_at fs 0).info.length) pages) files;
       space = c.in-Ok.ensures.space;
       alive = c.in-Ok.ensures.alive;
       disks = c.in-Ok.ensures.disks ∙ disks_are g.D.Disk.seen c.one.result.items c.args.opened.0 c.one.ensures;

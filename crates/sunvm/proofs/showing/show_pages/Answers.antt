@@ -6,12 +6,12 @@ use Rattle.sunvm.proofs.showing.show_pages.Goals as goal
 
 pub loop-page-preserved : goal.loop-page-preserved
 loop-page-preserved g c =
-    let below : c.loop-page.page < pages_in c.args.length = first_of (omega (arith, c.loop-page-test.true, c.div_ceil-page-end.ensures), grind (arith, common_steps)) in
+    let below : c.loop-page.page < pages_in c.args.length = omega (arith, c.loop-page-test.true, c.pages_in-page-end.ensures.pages) in
     showing_more c.args.length c.loop-page.page (g.K.Sink.seen c.args.out.now) (g.K.Sink.seen c.loop-page.out) (g.K.Sink.seen c.show_page.new.out) (g.D.Disk.seen c.args.disk.now) (g.D.Disk.seen c.loop-page.disk) (g.D.Disk.seen c.show_page.new.disk) below c.requires.blocks (g.met.D.Disk.has_blocks c.args.disk.now) c.loop-page.invariant c.in_ok-show_page.ensures.looks c.in_ok-show_page.ensures.later c.in_ok-show_page.ensures.wrote
 
 pub returns-in_err-show_page-clause-stopped : goal.returns-in_err-show_page-clause-stopped
 returns-in_err-show_page-clause-stopped g c =
-    let below : c.loop-page.page < pages_in c.args.length = first_of (omega (arith, c.loop-page-test.true, c.div_ceil-page-end.ensures), grind (arith, common_steps)) in
+    let below : c.loop-page.page < pages_in c.args.length = omega (arith, c.loop-page-test.true, c.pages_in-page-end.ensures.pages) in
     let k0 = g.K.Sink.seen c.args.out.now in
     let k2 = g.K.Sink.seen c.show_page.new.out in
     let d0 = g.D.Disk.seen c.args.disk.now in

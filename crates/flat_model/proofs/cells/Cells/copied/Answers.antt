@@ -5,7 +5,7 @@ use Rattle.std.specs.declared.alloc.Global.{Global}
 use Rattle.std.specs.FinMap as map
 use Rattle.flat_model.specs.declared.cells.CellState.{CellState}
 use Rattle.flat_model.specs.contracts.cells.CellStateClone.TheImpl.{ghosts}
-use Rattle.flat_model.specs.Cells.{cell_of}
+use Rattle.flat_model.specs.Cells.{flat_cell}
 use Rattle.flat_model.proofs.Trees.{mapped_clone}
 use Rattle.flat_model.proofs.cells.Cells.copied.Goals as goal
 
@@ -19,7 +19,7 @@ own_alike v w None (Some y) h = absurd h.1.1.1.1.1
 own_alike v w (Some x) None h = absurd h.1.1.1.1.1
 own_alike v w (Some x) (Some y) h = ap (λ i. Some i) (each_same x.items y.items h.1.1.1.1.1.0)
 
-cell_alike : (v w : CellState) → ghosts.is_clone v w → cell_of w ≡ cell_of v
+cell_alike : (v w : CellState) → ghosts.is_clone v w → flat_cell w ≡ flat_cell v
 cell_alike v w h =
     let prot : w.prot ≡ v.prot = h.0 in
     let max : w.max ≡ v.max = h.1.0 in
@@ -30,4 +30,4 @@ cell_alike v w h =
     λ i. record { prot = prot i; max = max i; kind = kind i; object = object i; index = index i; own = own i }
 
 pub returns : goal.returns
-returns c = ap map.from_entries (mapped_clone cell_of _ _ (λ x y h. search rules) cell_alike c.self.inside.cells.entries _ c.in_ok-clone.ensures.cases) ∙ c.self.view_is
+returns c = ap map.from_entries (mapped_clone flat_cell _ _ (λ x y h. search rules) cell_alike c.self.inside.cells.entries _ c.in_ok-clone.ensures.cases) ∙ c.self.view_is

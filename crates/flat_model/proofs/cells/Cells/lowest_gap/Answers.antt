@@ -1,10 +1,10 @@
 use Rattle.std.proofs.Common.{◌∙◌, ap, sym}
 use Rattle.std.specs.FinMap as map
-use Rattle.flat_model.specs.Space.{gap_from}
-use Rattle.flat_model.specs.Cells.{cell_of}
+use Rattle.flat_model.specs.Space.{lowest_gap_from}
+use Rattle.flat_model.specs.Cells.{flat_cell}
 use Rattle.flat_model.proofs.Trees.{entries_mapped}
 use Rattle.flat_model.proofs.cells.Cells.lowest_gap.Goals as goal
 
 pub returns-clause-gap : goal.returns-clause-gap
 returns-clause-gap c =
-    c.gap.ensures.gap ∙ ap (gap_from 1 c.args.count) (sym (entries_mapped cell_of c.self.inside.cells.entries c.gap.ensures.ordered) ∙ ap map.entries c.self.view_is)
+    c.gap.ensures.gap ∙ ap (lowest_gap_from 1 c.args.count) (sym (entries_mapped flat_cell c.self.inside.cells.entries c.gap.ensures.ordered) ∙ ap map.entries c.self.view_is)

@@ -2,11 +2,11 @@ use Rattle.std.proofs.Common.{◌∙◌, ap, sym}
 use Rattle.std.specs.List.{sum_by}
 use Rattle.std.specs.Map.{values_of}
 use Rattle.flat_model.specs.Flat.{slots_for, private_cells}
-use Rattle.flat_model.specs.Cells.{cell_of}
+use Rattle.flat_model.specs.Cells.{flat_cell}
 use Rattle.flat_model.proofs.Trees.{values_mapped, sum_map}
 use Rattle.flat_model.proofs.cells.Cells.private_cells.Goals as goal
 
 pub returns : goal.returns
 returns c =
-    c.count_private.ensures.count ∙ sym (sum_map slots_for cell_of (values_of c.self.inside.cells.entries))
-    ∙ ap (sum_by slots_for) (sym (values_mapped cell_of c.self.inside.cells.entries c.count_private.ensures.ordered)) ∙ ap private_cells c.self.view_is
+    c.count_private.ensures.count ∙ sym (sum_map slots_for flat_cell (values_of c.self.inside.cells.entries))
+    ∙ ap (sum_by slots_for) (sym (values_mapped flat_cell c.self.inside.cells.entries c.count_private.ensures.ordered)) ∙ ap private_cells c.self.view_is

@@ -2,7 +2,7 @@ use Rattle.std.proofs.Common.{◌∙◌, ap, sym}
 use Rattle.std.specs.Prelude.{is_some, unwrap_or}
 use Rattle.std.specs.FinMap as map
 use Rattle.flat_model.specs.Space.{with_cells}
-use Rattle.flat_model.specs.Cells.{cell_of, with_index}
+use Rattle.flat_model.specs.Cells.{flat_cell, with_index}
 use Rattle.flat_model.proofs.Maps.{get_at, insert_at}
 use Rattle.flat_model.proofs.spaces.Spaces.put_in.Goals as goal
 
@@ -17,5 +17,5 @@ returns c =
     let whole = insert_at c.self.inside.spaces.entries (c.get_mut.follows.lender c.put_in.new.self).entries c.args.process c.put_in.new.self updates.0 in
     let here = ap (λ m. map.get m c.args.process) (sym c.self.view_is) ∙ get_at c.self.inside.spaces.entries c.args.process ∙ sym c.in-Some.ensures.value in
     whole ∙ ap (map.insert (map.from_entries c.self.inside.spaces.entries) c.args.process) c.in_ok-put_in.ensures
-    ∙ ap (λ m. map.insert m c.args.process (with_cells c.in-Some.space.now c.args.first c.args.count (λ i. with_index (cell_of c.args.cell.now) i))) c.self.view_is
-    ∙ ap (λ o. map.insert c.args.self.now c.args.process (with_cells (unwrap_or o map.empty) c.args.first c.args.count (λ i. with_index (cell_of c.args.cell.now) i))) (sym here)
+    ∙ ap (λ m. map.insert m c.args.process (with_cells c.in-Some.space.now c.args.first c.args.count (λ i. with_index (flat_cell c.args.cell.now) i))) c.self.view_is
+    ∙ ap (λ o. map.insert c.args.self.now c.args.process (with_cells (unwrap_or o map.empty) c.args.first c.args.count (λ i. with_index (flat_cell c.args.cell.now) i))) (sym here)

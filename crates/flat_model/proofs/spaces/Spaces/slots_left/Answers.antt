@@ -2,10 +2,10 @@ use Rattle.std.proofs.Common.{◌∙◌, ap, sym}
 use Rattle.std.specs.Prelude.{sum_by}
 use Rattle.std.specs.FinMap as map
 use Rattle.flat_model.specs.Flat.{private_cells}
-use Rattle.flat_model.specs.Mapped.{left_of}
+use Rattle.flat_model.specs.Mapped.{slots_left}
 use Rattle.flat_model.proofs.Trees.{values_plain}
 use Rattle.flat_model.proofs.spaces.Spaces.slots_left.Goals as goal
 
 pub returns : goal.returns
 returns c =
-    c.slots_left.ensures.left ∙ ap (λ vs. left_of c.args.slots (sum_by private_cells vs)) (sym (values_plain c.self.inside.spaces.entries c.slots_left.ensures.ordered) ∙ ap map.values c.self.view_is)
+    c.slots_left.ensures.left ∙ ap (λ vs. slots_left c.args.slots (sum_by private_cells vs)) (sym (values_plain c.self.inside.spaces.entries c.slots_left.ensures.ordered) ∙ ap map.values c.self.view_is)

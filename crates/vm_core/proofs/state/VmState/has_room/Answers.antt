@@ -5,9 +5,9 @@ use Rattle.vm_core.proofs.Flats.{room-left}
 use Rattle.vm_core.proofs.state.VmState.has_room.Goals as goal
 
 pub overflow_add-result : goal.overflow_add-result
-overflow_add-result g c = omega (arith, c.len.ensures.few, c.requires.inside, c.pages_in_length-pages.ensures.pages)
+overflow_add-result g c = omega (arith, c.len.ensures.few, c.requires.inside, c.pages_in-pages.ensures.pages)
 
 pub returns : goal.returns
 returns g c =
     ap (λ (k : ℕ). nat_le k 65536)
-    (room-left c.args.self.now c.args.asked.now c.self.inside.table c.len.result c.mapped_in-replaced.result c.pages_in_length-pages.result c.requires.alive (ap (λ (s : StateSeen). s.table) c.self.view_is) c.pages_in_length-pages.ensures.pages c.len.ensures.count c.mapped_in-replaced.ensures)
+    (room-left c.args.self.now c.args.asked.now c.self.inside.table c.len.result c.mapped_in-replaced.result c.pages_in-pages.result c.requires.alive (ap (λ (s : StateSeen). s.table) c.self.view_is) c.pages_in-pages.ensures.pages c.len.ensures.count c.mapped_in-replaced.ensures)

@@ -1,7 +1,7 @@
 use Rattle.std.proofs.Common.{◌∙◌, ap, arith}
 use Rattle.std.specs.FinMap as map
 use Rattle.std.specs.Prelude.{◌+◌, Bool, if◌then◌else◌}
-use Rattle.flat_model.specs.Space.{without}
+use Rattle.flat_model.specs.Space.{without_range}
 use Rattle.vm_core.specs.Table.{cells}
 use Rattle.vm_core.proofs.Tables.{counted, without-nothing, at_most_one}
 use Rattle.vm_core.proofs.table.PageTable.mapped_in.Goals as goal
@@ -14,6 +14,6 @@ loop-i-preserved c =
     let one = at_most_one c.get.result in
     let bit = c.one_if-mapped.ensures ∙ ap (λ (b : Bool). if b then 1 else 0) c.is_some.ensures in (
       omega (arith, one, bit, c.loop-i.invariant.0),
-      ap (λ k. c.loop-i.mapped + k + map.len (without (cells c.args.self.now) c.args.first (c.loop-i.i + 1))) bit
+      ap (λ k. c.loop-i.mapped + k + map.len (without_range (cells c.args.self.now) c.args.first (c.loop-i.i + 1))) bit
           ∙ counted (cells c.args.self.now) c.args.first c.loop-i.i c.loop-i.mapped c.get.result c.get.ensures c.loop-i.invariant.1,
     )

@@ -1,0 +1,79 @@
+//! Reads the script on standard input, and prints the report of a history that answers each of its
+//! lines at once: the instructions of a run tell what reading and printing cost.
+//!
+//! With the argument `read` it prints the number of the plan's lines alone.
+#![tactic(auto)]
+
+use std::alloc::{AllocError, Global};
+use std::io::{Read, Write};
+use std::{env, io};
+use vm_report::{are_well_formed, process_sections};
+use vm_script::{Plan, PlanAct, PlanLine, parse};
+use vm_types::{Call, Entry, Errno, Place, Reply};
+
+/// An answer to the call.
+fn reply_to(call: &Call) -> Reply {
+    match call {
+        Call::Load { .. } => Reply::Word(0x65),
+        Call::Map {
+            place: Place::At(addr),
+            ..
+        } => Reply::Mapped(*addr),
+        Call::Map { .. } => Reply::Mapped(0x1000),
+        Call::Read { .. } => Reply::Refused(Errno::NoObject),
+        _ => Reply::Done,
+    }
+}
+
+/// Adds the entry of a line; a wait has none, nor has a write, which would be done in parts.
+fn add_entry(history: &mut Vec<Entry>, line: &PlanLine) -> Result<(), AllocError> {
+    let call = match &line.act {
+        PlanAct::Call(call) => *call,
+        PlanAct::Named { call, .. } => *call,
+        _ => return Ok(()),
+    };
+    let reply = reply_to(&call);
+    let process = line.process;
+    history.push(Entry {
+        process,
+        call,
+        reply,
+        cleared: 0,
+    })?;
+    Ok(())
+}
+
+fn history_of(alloc: Global, plan: &Plan) -> Result<Vec<Entry>, AllocError> {
+    let mut history = Vec::new(alloc);
+    for line in plan.lines() {
+        add_entry(&mut history, line)?;
+    }
+    Ok(history)
+}
+
+/// The sections of a plan with a history that answers its lines.
+fn report_of(alloc: Global, plan: &Plan) -> Result<Vec<u8>, AllocError> {
+    let history = history_of(alloc, plan)?;
+    let mut out = Vec::new(alloc);
+    let is_small = history.len() < 2_000_000 && plan.parents().len() < 2_000_000;
+    if is_small && are_well_formed(&history) {
+        process_sections(plan, &history, &mut out)?;
+    }
+    Ok(out)
+}
+
+fn main(rt: HostRuntime) -> io::Result<()> {
+    let only_reads = env::args(&rt)?.nth(1).is_some();
+    let mut text = Vec::new(rt.alloc());
+    rt.reader().read_to_end(&mut text)?;
+    match parse(rt.alloc(), &text)? {
+        Ok(plan) => {
+            if only_reads {
+                return println!(rt; "{}", plan.lines().len());
+            }
+            let out = report_of(rt.alloc(), &plan)?;
+            io::writer(&rt).write_all(&out)
+        }
+        Err(fault) => println!(rt; "script: line {}", fault.line),
+    }
+}

@@ -1,0 +1,111 @@
+-- The disks that pages live on are there; and what may be answered to a call that wants a page home.
+use Rattle.std.proofs.Common.{◌≡◌, ◌≢◌, ℕ, ◌<◌, ◌≤◌, ◌==◌, Bool, true, false, cond, List, length, Option, Some, None, refl, sym, ap, ◌∙◌, ◌⊎◌, inl, inr, subst, arith}
+use Rattle.std.specs.Prelude.{IsTrue, IsFalse, IsSome}
+use Rattle.std.specs.FinMap as finite
+use Rattle.std.proofs.lemmas.Bool.{eqb-true}
+use Rattle.block_device.specs.DiskSeen.{DiskSeen}
+use Rattle.page_hash.specs.Names.{find, name_at}
+use Rattle.page_hash.specs.declared.PageName.{PageName}
+use Rattle.page_hash.proofs.NameLaws.{find-at}
+use Rattle.page_lock.specs.Rows.{row_at}
+use Rattle.page_store.specs.Bays.{bay_at, missing, out}
+use Rattle.page_store.specs.Seen.{residence}
+use Rattle.page_store.specs.Steps.{next_frame}
+use Rattle.page_store.specs.Waits.{Waits, holder_of, holder_in}
+use Rattle.page_store.specs.declared.place.Place.{Place}
+use Rattle.page_store.specs.declared.plan.Plan.{Plan}
+use Rattle.page_store.specs.declared.plan.Plan.TheVariants as plan
+use Rattle.page_store.specs.declared.plan.Hold.{Hold}
+use Rattle.page_store.specs.declared.plan.Hold.TheVariants as hold
+use Rattle.page_store.specs.declared.residence.Residence.TheVariants.{Home, Absent}
+use Rattle.page_store.proofs.QueryLemmas.{home-is, absent-is}
+use Rattle.vnode_files.specs.Files.{vnode_at}
+use Rattle.vm_world.specs.FlatMemory.{Memory}
+use Rattle.vm_world.specs.FramesFit.{FilesFit}
+use Rattle.vm_world.specs.MemoryFits.{MemoryFits}
+use Rattle.vm_world.specs.Segments.{Spaces}
+use Rattle.vm_world.specs.State.{Caller}
+use Rattle.vm_world.specs.Wants.{WantsHome, IsDirtyPage, MayPlan, HoldsUp}
+use Rattle.vm_world.specs.World.{World, world_table, slot_name, is_page_name, is_unpushed, page_exists}
+use Rattle.vm_world.proofs.PageNames.{page-cases, file-place, slot-place, not-slot, is-slot}
+use Rattle.seg_ops.specs.declared.plans.Step.{Step}
+use Rattle.seg_ops.specs.declared.plans.Step.TheVariants as step
+use Rattle.seg_ops.specs.Plans.{IsAsked, NeedsPlan, FetchesPage}
+use Rattle.seg_ops.proofs.StillSteps.{memory_of}
+use Rattle.seg_ops.proofs.Evictions.{unlocked}
+use Rattle.seg_ops.proofs.Hits.{exists-page}
+
+-- WHERE A PAGE LIVES, by the test of its name
+pub record LivesOn (w : World) (name : PageName) : Type 0 where
+  pub swap : name.object ≡ 64 → (world_table w name).disk ≡ 8
+  pub file : name.object ≢ 64 → (name.object < length w.files.files) × ((world_table w name).disk ≡ (vnode_at w.files name.object).info.disk)
+  pub there : bay_at w.store.bays (world_table w name).disk ≢ missing
+
+some-blocks : (o : Option ℕ) → IsSome o → (n : ℕ) × (o ≡ Some n)
+some-blocks None h = absurd (let z : false ≡ true = h in cc)
+some-blocks (Some n) h = (n, refl)
+
+pub lives-on : (w : World) (spaces : Spaces) (name : PageName) → MemoryFits (memory_of w spaces) → IsTrue (page_exists w.files w.anon name) → LivesOn w name
+lives-on w spaces name f exists = elim (page-cases w.files w.anon name (exists-page w.files w.anon name f.files exists)) [
+  | inl s ↦
+      let same : name ≡ slot_name name.page = λ i. record { object = s.0 i; page = name.page } in
+      let disk : (world_table w name).disk ≡ 8 = ap (λ (n : PageName). (world_table w n).disk) same ∙ ap (λ (p : Place). p.disk) (slot-place w.files w.anon name.page f.files s.1) in
+      let low = s.1 in
+      record {
+        swap = λ e. disk;
+        file = λ ne. absurd (ne s.0);
+        there = λ e. f.disks.swap (omega (arith, low)) (sym (ap (bay_at w.store.bays) disk) ∙ e);
+      }
+  | inr x ↦
+      let disk : (world_table w name).disk ≡ (vnode_at w.files name.object).info.disk = ap (λ (p : Place). p.disk) (file-place w.files w.anon name.object name.page x.1 x.2) in
+      let set = some-blocks (finite.get w.files.disks (vnode_at w.files name.object).info.disk) (f.files.set name.object x.1) in
+      record {
+        swap = λ e. absurd (x.0 e);
+        file = λ ne. (x.1, disk);
+        there = λ e. f.disks.there (vnode_at w.files name.object).info.disk set.0 set.1 (sym (ap (bay_at w.store.bays) disk) ∙ e);
+      }
+]
+
+-- nobody holds the lock of a page that is absent or home
+absent-free : (w : World) (spaces : Spaces) (name : PageName) (seat : ℕ) → MemoryFits (memory_of w spaces) → residence w.store name ≡ Absent → holder_of w.store name ≡ Some seat → ⊥
+absent-free w spaces name seat f absent h = let none = absent-is w.store name f.frames.sound absent in let z : None ≡ Some seat = sym (ap (λ (o : Option ℕ). holder_in o w.store) none) ∙ h in cc
+
+home-free : (w : World) (spaces : Spaces) (name : PageName) (frame seat : ℕ) → MemoryFits (memory_of w spaces) → residence w.store name ≡ Home frame → holder_of w.store name ≡ Some seat → ⊥
+home-free w spaces name frame seat f home h =
+    let at = home-is w.store name frame home in
+    let free = unlocked w spaces frame f (subst (λ (b : Option (List ℕ)). IsSome b) (sym at.there) refl) in
+    let z : None ≡ Some seat = sym free ∙ sym (ap (λ (o : Option ℕ). holder_in o w.store) at.found) ∙ h in cc
+
+-- the page of a modified frame exists
+pub dirty-exists : (w : World) (spaces : Spaces) (name : PageName) → MemoryFits (memory_of w spaces) → IsDirtyPage w name → IsTrue (page_exists w.files w.anon name)
+dirty-exists w spaces name f d = f.frames.exist d.frame name (find-at w.store.names name d.frame (home-is w.store name d.frame d.home).found)
+
+-- TO BE READ IN, where a frame can be had.
+pub reads-page : (w : World) (spaces : Spaces) (name : PageName) (answer : Step) → MemoryFits (memory_of w spaces) → residence w.store name ≡ Absent → IsTrue (page_exists w.files w.anon name) → IsFalse (is_unpushed w.files w.anon name)
+    → IsSome (next_frame w.store) → IsAsked w (plan.Read name) answer → FetchesPage (memory_of w spaces) name answer
+reads-page w spaces name step.Loaded f absent exists pushed room asked = asked
+reads-page w spaces name step.Past f absent exists pushed room asked = asked
+reads-page w spaces name (step.Need p) f absent exists pushed room asked = subst (λ (q : Plan). NeedsPlan (memory_of w spaces) name q) (sym asked.0) (record {
+  ready = asked.1;
+  frame = λ read. room;
+  may = λ of wants. (wants, record { exists = exists; absent = absent-is w.store name f.frames.sound absent; pushed = pushed });
+})
+reads-page w spaces name (step.Busy (hold.Page seat)) f absent exists pushed room asked = absurd (absent-free w spaces name seat f absent asked)
+reads-page w spaces name (step.Busy (hold.Disk seat)) f absent exists pushed room asked = λ calls of wants.
+    (plan.Read name, (wants, record { exists = exists; absent = absent-is w.store name f.frames.sound absent; pushed = pushed }), asked)
+reads-page w spaces name (step.Busy (hold.File seat)) f absent exists pushed room asked = absurd asked
+
+-- A PUSH of a modified page, where no frame can be had.
+pub pushes-page : (w : World) (spaces : Spaces) (name page : PageName) (answer : Step) → MemoryFits (memory_of w spaces) → residence w.store name ≡ Absent → next_frame w.store ≡ None → IsDirtyPage w page
+    → IsAsked w (plan.Push page) answer → FetchesPage (memory_of w spaces) name answer
+pushes-page w spaces name page step.Loaded f absent none dirty asked = asked
+pushes-page w spaces name page step.Past f absent none dirty asked = asked
+pushes-page w spaces name page (step.Need p) f absent none dirty asked = subst (λ (q : Plan). NeedsPlan (memory_of w spaces) name q) (sym asked.0) (record {
+  ready = asked.1;
+  frame = λ read. absurd (let z : true ≡ false = read in cc);
+  may = λ of wants. (dirty, inr (inl (name, wants, absent-is w.store name f.frames.sound absent), none));
+})
+pushes-page w spaces name page (step.Busy (hold.Page seat)) f absent none dirty asked = absurd (home-free w spaces page dirty.frame seat f dirty.home asked)
+pushes-page w spaces name page (step.Busy (hold.Disk seat)) f absent none dirty asked = λ calls of wants.
+    (plan.Push page, (dirty, inr (inl (name, wants, absent-is w.store name f.frames.sound absent), none)), asked)
+pushes-page w spaces name page (step.Busy (hold.File seat)) f absent none dirty asked = absurd asked

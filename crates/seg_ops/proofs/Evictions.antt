@@ -1,0 +1,151 @@
+-- A page that isn't modified loses its translations and goes on the cache list.
+use Rattle.std.proofs.Common.{◌≡◌, ◌≢◌, ℕ, zero, suc, ◌+◌, ◌<◌, ◌==◌, Bool, true, false, cond, List, [], ◌∷◌, ◌++◌, length, Option, Some, None, refl, sym, ap, ◌∙◌, ◌⊎◌, inl, inr, subst, arith, slice_index_or}
+use Rattle.std.specs.Prelude.{IsTrue, IsSome, is_some, is_none, ◌||◌, ◌&&◌, unwrap_or}
+use Rattle.std.proofs.lemmas.Bool.{cases_Bool}
+use Rattle.core_arena.specs.Bytes.{bytes_at}
+use Rattle.page_hash.specs.Names.{name_at}
+use Rattle.page_hash.specs.declared.PageName.{PageName}
+use Rattle.page_lists.specs.ListsSeen.{Has, first_of}
+use Rattle.page_lists.proofs.ListLemmas.{has-more}
+use Rattle.page_lock.specs.Rows.{row_at, clear_row}
+use Rattle.page_lock.specs.declared.Row.{Row}
+use Rattle.page_store.specs.Laws.{Releases}
+use Rattle.page_store.specs.Notes.{Note, Notes}
+use Rattle.page_store.specs.Seen.{StoreSeen, IsSoundStore, IsListedFrame, FrameAgrees, own_frame, residence}
+use Rattle.page_store.specs.Steps.{next_frame}
+use Rattle.page_store.specs.StoreFits.{IsClean}
+use Rattle.page_store.specs.Waits.{IsVictim}
+use Rattle.page_store.proofs.QueryLemmas.{some-within}
+use Rattle.hat_layer.specs.declared.translation.Translation.{Translation}
+use Rattle.hat_layer.specs.Pool.{Pool, IsSingleValued, drop_frame}
+use Rattle.vm_world.specs.MemoryFits.{MemoryFits}
+use Rattle.vm_world.specs.NotesFit.{NotesFit}
+use Rattle.vm_world.specs.Segments.{Spaces}
+use Rattle.vm_world.specs.TranslationsFit.{TranslationFits, TranslationsFit, HasWritten, IsModified}
+use Rattle.vm_world.specs.World.{World, world_table}
+use Rattle.seg_ops.specs.Steps.{KeepsPages, IsUnwritten}
+use Rattle.seg_ops.proofs.Places.{each-drop_frame, written-drop}
+use Rattle.seg_ops.proofs.StillSteps.{KeepsFrames, with_tables, memory_of, same-row, translation-kept, step-keeps}
+
+-- nothing says of the frame that its page was modified
+pub not-modified : (store : StoreSeen) (places : List (Option Translation)) (frame : ℕ) → (row_at store.rows frame).modified ≡ false → IsUnwritten places frame → ¬ IsModified store places frame
+not-modified store places frame clear unwritten m = elim m [
+  | inl r ↦ let z : true ≡ false = sym r ∙ clear in cc
+  | inr x ↦ let z : true ≡ false = sym x.modified ∙ unwritten x.place x.translation x.there x.leads in cc
+]
+
+-- a page that is home and not modified is clean
+pub clean-page : (w : World) (notes : Notes) (frame : ℕ) (n : PageName) → NotesFit w notes → ¬ IsModified w.store w.hat.places frame → name_at w.store.names frame ≡ Some n → IsSome (bytes_at w.store.frames frame)
+    → IsClean w.store notes (world_table w) frame n
+clean-page w notes frame n nf clear name there = elim (nf.clean frame n name there) [ inl m ↦ absurd (clear m) | inr is ↦ is ]
+
+locked-of : (holder : Option ℕ) (name : Option PageName) (b : Bool) → (is_some holder && is_none name) ≡ b → b ≡ true → (seat : ℕ) × (holder ≡ Some seat)
+locked-of None name b e t = absurd (let z : false ≡ true = e ∙ t in cc)
+locked-of (Some seat) name b e t = (seat, refl)
+
+some-source : (rows : List Row) (k own : ℕ) → (row_at rows k).source ≡ Some own → k < length rows
+some-source [] k own h = cc
+some-source (r ∷ rs) zero own h = omega arith
+some-source (r ∷ rs) (suc k) own h = let more = some-source rs k own h in omega (arith, more)
+
+or-some : (gone : Bool) (o : Option ℕ) (own : ℕ) → o ≡ Some own → (gone || is_some o) ≡ true
+or-some gone None own e = absurd (cc)
+or-some true (Some x) own e = refl
+or-some false (Some x) own e = refl
+
+some-name : (o : Option PageName) → IsSome o → (n : PageName) × (o ≡ Some n)
+some-name None h = absurd (let z : false ≡ true = h in cc)
+some-name (Some n) h = (n, refl)
+
+-- NO SNAPSHOT OF A CLEAN PAGE is away: the note of the push says so.
+unsent-by : (w : World) (notes : Notes) (frame : ℕ) (o : Option ℕ) → IsSoundStore w.store → NotesFit w notes → ¬ IsModified w.store w.hat.places frame → (row_at w.store.rows frame).snapshot ≡ o → is_some o ≡ false
+unsent-by w notes frame None sound nf clear e = refl
+unsent-by w notes frame (Some copy) sound nf clear e =
+    let source : (row_at w.store.rows copy).source ≡ Some frame = sound.paired.source frame copy e in
+    let name = some-name (name_at w.store.names frame) (sound.paired.named frame copy e) in
+    let row = some-source w.store.rows copy frame source in
+    let rows = sound.rows in
+    let agrees : FrameAgrees (bytes_at w.store.frames copy) (name_at w.store.names copy) (row_at w.store.rows copy) = sound.each copy (omega (arith, row, rows)) in
+    let held = locked-of (row_at w.store.rows copy).holder (name_at w.store.names copy) ((row_at w.store.rows copy).gone || is_some (row_at w.store.rows copy).source) agrees.unnamed
+    (or-some (row_at w.store.rows copy).gone (row_at w.store.rows copy).source frame source) in
+    let out = nf.stored.each_frame copy held.0 held.1 in
+    let note = out.0 in
+    let at = out.1 in
+    let is : note.frame ≡ copy = out.2 in
+    let its : (row_at w.store.rows note.frame).source ≡ Some frame = ap (λ (k : ℕ). (row_at w.store.rows k).source) is ∙ source in
+    let agreed = (nf.stored.each_note held.0 note at).out in
+    let kept : (row_at w.store.rows copy).gone ≡ true → ⊥ = λ gone. let z : None ≡ Some frame = sym (agrees.torn gone) ∙ source in cc in
+    let there : (row_at w.store.rows note.frame).gone ≡ false = elim (cases_Bool (row_at w.store.rows note.frame).gone) [ inl yes_gone ↦ absurd (kept (ap (λ (k : ℕ). (row_at w.store.rows k).gone) (sym is) ∙ yes_gone)) | inr f ↦ f ] in
+    let writes : note.writes ≡ true = elim (cases_Bool note.writes) [ inl t ↦ t | inr f ↦ absurd (let z : None ≡ Some frame = sym (agreed.read f) ∙ its in cc) ] in
+    let own : own_frame w.store note.frame ≡ frame = ap (λ (x : Option ℕ). unwrap_or x note.frame) its in
+    let named : note.name ≡ name.0 = let z : Some note.name ≡ Some name.0 = sym (agreed.page there) ∙ ap (λ (k : ℕ). name_at w.store.names k) own ∙ name.1 in cc in
+    let gone = (clean-page w notes frame name.0 nf clear name.1 (sound.paired.home frame copy e)).unwritten held.0 note at writes named in
+    absurd (let z : true ≡ false = sym gone.0 ∙ there in cc)
+
+pub unsent : (w : World) (spaces : Spaces) (notes : Notes) (frame : ℕ) → MemoryFits (memory_of w spaces) → NotesFit w notes → (row_at w.store.rows frame).modified ≡ false → IsUnwritten w.hat.places frame
+    → is_some (row_at w.store.rows frame).snapshot ≡ false
+unsent w spaces notes frame f nf clear unwritten = unsent-by w notes frame (row_at w.store.rows frame).snapshot f.frames.sound nf (not-modified w.store w.hat.places frame clear unwritten) refl
+
+unlocked-of : (b : Option (List ℕ)) (h : Option ℕ) → is_none b ≡ is_some h → IsSome b → h ≡ None
+unlocked-of (Some x) None away there = refl
+unlocked-of (Some x) (Some y) away there = absurd (cc)
+unlocked-of None h away there = absurd (let z : false ≡ true = there in cc)
+
+pub unlocked : (w : World) (spaces : Spaces) (frame : ℕ) → MemoryFits (memory_of w spaces) → IsSome (bytes_at w.store.frames frame) → (row_at w.store.rows frame).holder ≡ None
+unlocked w spaces frame f there = unlocked-of (bytes_at w.store.frames frame) (row_at w.store.rows frame).holder (f.frames.sound.each frame (some-within w.store.frames frame there)).away there
+
+-- RELEASE: the frame's translations are gone, and it is on the cache list.
+pub evict-keeps : (w : World) (spaces : Spaces) (new : StoreSeen) (hat : Pool) (frame : ℕ) → MemoryFits (memory_of w spaces) → (row_at w.store.rows frame).modified ≡ false → IsUnwritten w.hat.places frame → IsSome (bytes_at w.store.frames frame)
+    → hat.places ≡ drop_frame frame w.hat.places → hat.frames ≡ w.hat.frames → IsSingleValued hat.places → new ≡ record w.store { cached = w.store.cached ++ frame ∷ [] } → Releases w.store new frame
+    → KeepsPages w (with_tables w new hat) spaces
+evict-keeps w spaces new hat frame f clear unwritten there places frames single step laws =
+    let row : (k : ℕ) → row_at new.rows k ≡ row_at w.store.rows k = λ k. ap (λ (x : StoreSeen). row_at x.rows k) step in
+    let listed : (k : ℕ) → IsListedFrame new k → IsListedFrame w.store k ⊎ (k ≡ frame) = λ k l. elim (subst (λ (x : StoreSeen). IsListedFrame x k) step l) [
+      | inl free ↦ inl (inl free)
+      | inr cached ↦ elim (has-more w.store.cached frame k cached) [ inl a ↦ inl (inr a) | inr b ↦ inr (sym b) ]
+    ] in
+    let written : (k : ℕ) → HasWritten w.hat.places k → HasWritten hat.places k = λ k x. subst (λ (ps : List (Option Translation)). HasWritten ps k) (sym places) (written-drop w.hat.places frame k unwritten x) in
+    step-keeps w spaces new hat f (record {
+      sound = laws.sound;
+      origin = ap (λ (x : StoreSeen). x.origin) step;
+      frames = laws.touches.frames;
+      names = ap (λ (x : StoreSeen). x.names) step;
+      bays = laws.outside.bays;
+      rows = λ k. same-row (row_at w.store.rows k) (row_at new.rows k) (row k);
+      unmodified = λ k l. ap (λ (r : Row). r.modified) (row k) ∙ elim (listed k l) [ inl a ↦ f.frames.unmodified k a | inr e ↦ ap (λ (i : ℕ). (row_at w.store.rows i).modified) e ∙ clear ];
+      residence = laws.residence;
+      modified = λ k m. elim m [ inl r ↦ inl (ap (λ (r : Row). r.modified) (row k) ∙ r) | inr x ↦ inr (written k x) ];
+      written = λ k x. inr (written k x);
+      bytes = λ k. inl (ap (λ (x : StoreSeen). bytes_at x.frames k) step);
+    }) frames single
+    (subst (λ (ps : List (Option Translation)). TranslationsFit new w.anon w.maps spaces ps) (sym places)
+    (λ i t is. let r = each-drop_frame (TranslationFits w.store w.anon w.maps spaces) frame w.hat.places f.translations i t is in
+    translation-kept w.store new w.anon w.maps spaces t laws.residence (λ h. elim (listed t.frame h) [ inl a ↦ a | inr e ↦ absurd (r.1 e) ]) r.0))
+    (λ notes nf. laws.values notes (world_table w) nf.stored (λ n name. clean-page w notes frame n nf (not-modified w.store w.hat.places frame clear unwritten) name there))
+
+-- a frame can be had after one was put on the cache list
+pub some-room : (free cached : List ℕ) (frame : ℕ) → IsSome (first_of free (cached ++ frame ∷ []))
+some-room [] [] frame = refl
+some-room [] (x ∷ xs) frame = refl
+some-room (x ∷ xs) cached frame = refl
+
+no-room : (s : StoreSeen) → next_frame s ≡ None → (k : ℕ) → ¬ IsListedFrame s k
+no-room s none k l = elim l [ inl h ↦ by_free s.free s.cached none h | inr h ↦ by_cached s.free s.cached none h ]
+  where
+    by_free : (free cached : List ℕ) → first_of free cached ≡ None → Has free k → ⊥
+    by_free [] cached e h = h
+    by_free (x ∷ xs) cached e h = absurd (cc)
+
+    by_cached : (free cached : List ℕ) → first_of free cached ≡ None → Has cached k → ⊥
+    by_cached [] [] e h = h
+    by_cached [] (x ∷ xs) e h = absurd (cc)
+    by_cached (x ∷ xs) cached e h = absurd (cc)
+
+-- with no room, each frame that is home is one that can be pushed or released
+pub some-victim : (w : World) (spaces : Spaces) (k : ℕ) → MemoryFits (memory_of w spaces) → next_frame w.store ≡ None → IsSome (bytes_at w.store.frames k) → IsVictim w.store k
+some-victim w spaces k f none there = record {
+  here = there;
+  unlisted = no-room w.store none k;
+  unlocked = unlocked w spaces k f there;
+  unkept = f.frames.unkept k;
+}

@@ -1,0 +1,187 @@
+-- Words that are read and put through a translation.
+use Rattle.std.proofs.Common.{◌≡◌, ◌≢◌, ℕ, zero, suc, ◌+◌, ◌%◌, ◌<◌, ◌≤◌, ◌==◌, Bool, true, false, cond, List, [], ◌∷◌, length, Option, Some, None, refl, sym, ap, ◌∙◌, ◌⊎◌, inl, inr, subst, arith, slice_index_or}
+use Rattle.std.specs.Prelude.{option_map, IsTrue, IsSome, IfSome, nat_lt, slice_index, ◌||◌, not}
+use Rattle.std.proofs.lemmas.Bool.{cases_eq, cases_Bool, lt-ltb, ltb-true}
+use Rattle.std.proofs.lemmas.Bool.Decides.{eqb_tells}
+use Rattle.core_arena.specs.Bytes.{bytes_at, spliced}
+use Rattle.page_hash.specs.Names.{name_at, find}
+use Rattle.page_hash.specs.declared.PageName.{PageName}
+use Rattle.page_lists.specs.ListsSeen.{Has}
+use Rattle.page_lock.specs.Rows.{row_at}
+use Rattle.page_lock.specs.declared.Row.{Row}
+use Rattle.page_store.specs.Laws.{Pokes}
+use Rattle.page_store.specs.Moves.{only}
+use Rattle.page_store.specs.Notes.{Notes}
+use Rattle.page_store.specs.Seen.{StoreSeen, IsListedFrame, residence}
+use Rattle.page_store.specs.Steps.{at_frame, with_piece, after_poke}
+use Rattle.page_store.specs.Value.{value}
+use Rattle.page_store.specs.declared.residence.Residence.TheVariants.{Home}
+use Rattle.page_store.proofs.QueryLemmas.{home-is}
+use Rattle.anon_slots.specs.Slots.{Slots, is_used, count_at}
+use Rattle.vnode_files.specs.Files.{FilesSeen, vnode_at}
+use Rattle.vnode_files.specs.Grow.{page_count}
+use Rattle.vnode_files.specs.Vnode.{VnodeSeen, no_vnode}
+use Rattle.hat_layer.specs.declared.translation.Translation.{Translation}
+use Rattle.hat_layer.specs.Pool.{Pool, IsSingleValued, at, change_at, after_access}
+use Rattle.flat_model.specs.Words.{page, pages_in, word_at, word_put, word_bytes}
+use Rattle.vm_world.specs.FramesFit.{FilesFit}
+use Rattle.vm_world.specs.MemoryFits.{MemoryFits}
+use Rattle.vm_world.specs.Pages.{page_value}
+use Rattle.vm_world.specs.Segments.{Spaces, spot_at}
+use Rattle.vm_world.specs.TranslationsFit.{TranslationFits, TranslationsFit, HasWritten}
+use Rattle.vm_world.specs.World.{World, world_table, is_page_name, page_exists}
+use Rattle.vm_world.proofs.PageNames.{below-kept}
+use Rattle.seg_ops.specs.Steps.{KeepsPages, ShowsName, PutsWord, WritesWord}
+use Rattle.seg_ops.proofs.Places.{StandsAt, stands-at, each-change_at, written-access, written-store}
+use Rattle.seg_ops.proofs.StillSteps.{KeepsFrames, with_tables, memory_of, same-row, translation-kept, memory-kept, notes-kept, tell-kept, value-is, step-keeps, keeps-store, values-same, fits-held, fits-within}
+
+-- A PAGE THAT EXISTS is a page of a file that it keeps, or a slot's.
+slot-below : (counts : List ℕ) (slot : ℕ) → is_used (slice_index counts slot) ≡ true → slot < length counts
+slot-below [] slot used = absurd (let z : false ≡ true = used in cc)
+slot-below (x ∷ xs) zero used = omega arith
+slot-below (x ∷ xs) (suc slot) used = let more = slot-below xs slot used in omega (arith, more)
+
+file-below : (f i : ℕ) (xs : List VnodeSeen) → i < pages_in (slice_index_or xs f no_vnode).info.length → f < length xs
+file-below f i [] lt = absurd (omega (arith, lt))
+file-below zero i (x ∷ xs) lt = omega arith
+file-below (suc f) i (x ∷ xs) lt = let more = file-below f i xs lt in omega (arith, more)
+
+pub exists-page : (files : FilesSeen) (anon : Slots) (name : PageName) → FilesFit files → IsTrue (page_exists files anon name) → IsTrue (is_page_name files anon name)
+exists-page files anon name fit is = elim (cases_Bool (name.object == 64)) [
+  | inl slot ↦
+      let used : is_used (count_at anon name.page) ≡ true = sym (ap (λ (b : Bool). cond b (is_used (count_at anon name.page)) (nat_lt name.page (pages_in (vnode_at files name.object).info.length))) slot) ∙ is in
+      ap (λ (b : Bool). cond b (nat_lt name.page (length anon.counts)) (nat_lt name.page (page_count (vnode_at files name.object).info.extents))) slot
+      ∙ lt-ltb name.page (length anon.counts) (slot-below anon.counts name.page used)
+  | inr file ↦
+      let low : name.page < pages_in (vnode_at files name.object).info.length = ltb-true name.page (pages_in (vnode_at files name.object).info.length) (sym (ap (λ (b : Bool). cond b (is_used (count_at anon name.page)) (nat_lt name.page (pages_in (vnode_at files name.object).info.length))) file) ∙ is) in
+      ap (λ (b : Bool). cond b (nat_lt name.page (length anon.counts)) (nat_lt name.page (page_count (vnode_at files name.object).info.extents))) file
+      ∙ lt-ltb name.page (page_count (vnode_at files name.object).info.extents) (below-kept (vnode_at files name.object) name.page (fit.each name.object (file-below name.object name.page files.files low)) low)
+]
+
+-- WHAT A TRANSLATION LEADS TO: the home frame of the page that its place shows.
+pub record Hits (w : World) (spaces : Spaces) (space q : ℕ) (t : Translation) : Type 0 where
+  pub name : PageName
+  pub shows : ShowsName w spaces space q name
+  pub home : residence w.store name ≡ Home t.frame
+  pub held : name_at w.store.names t.frame ≡ Some name
+  pub within : t.frame < length w.store.frames
+  pub unlisted : ¬ IsListedFrame w.store t.frame
+
+pub hits : (w : World) (spaces : Spaces) (space q : ℕ) (t : Translation) → MemoryFits (memory_of w spaces) → at w.hat.places space q ≡ Some t → Hits w spaces space q t
+hits w spaces space q t f is =
+    let s = stands-at w.hat.places space q t is in
+    let l = f.translations s.place t s.there in
+    let held = fits-held w.store w.anon w.maps spaces t l in
+    let same : spot_at spaces t.space t.page ≡ spot_at spaces space q = λ i. spot_at spaces (s.space_is i) (s.page_is i) in
+    record {
+      name = l.name;
+      shows = record { spot = l.spot; here = sym same ∙ l.here; shows = l.shows; is_page = exists-page w.files w.anon l.name f.files (f.frames.exist t.frame l.name held) };
+      home = l.home;
+      held = held;
+      within = fits-within w.store w.anon w.maps spaces t f.frames.sound l;
+      unlisted = l.unlisted;
+    }
+
+found-at : (o : Option Translation) (frame : ℕ) (writable : Bool) → ◌≡◌ {A = Option (ℕ × Bool)} (Some (frame, writable)) (option_map (λ (t : Translation). (t.frame, t.writable)) o) → (t : Translation) × (o ≡ Some t) × (t.frame ≡ frame)
+found-at None frame writable e = absurd (cc)
+found-at (Some t) frame writable e =
+    let both : ◌≡◌ {A = ℕ × Bool} (frame, writable) (t.frame, t.writable) = cc in
+    (t, refl, sym (ap (λ (x : ℕ × Bool). x.0) both))
+
+-- WHAT A LOOK FOUND: the translation, and the name that its frame holds.
+pub record Finds (w : World) (spaces : Spaces) (space q frame : ℕ) : Type 0 where
+  pub translation : Translation
+  pub loaded : at w.hat.places space q ≡ Some translation
+  pub frame_is : translation.frame ≡ frame
+  pub hit : Hits w spaces space q translation
+
+pub finds : (w : World) (spaces : Spaces) (space q frame : ℕ) (writable : Bool) (o : Option (ℕ × Bool)) → MemoryFits (memory_of w spaces) → o ≡ option_map (λ (t : Translation). (t.frame, t.writable)) (at w.hat.places space q) → o ≡ Some (frame, writable) → Finds w spaces space q frame
+finds w spaces space q frame writable o f e is =
+    let r = found-at (at w.hat.places space q) frame writable (sym is ∙ e) in
+    record { translation = r.0; loaded = r.1; frame_is = r.2; hit = hits w spaces space q r.0 f r.1 }
+
+pub frame-within : (w : World) (spaces : Spaces) (space q frame : ℕ) → Finds w spaces space q frame → frame < length w.store.frames
+frame-within w spaces space q frame f = subst (λ (j : ℕ). j < length w.store.frames) f.frame_is f.hit.within
+
+-- the name that the frame holds is the one that the page shows
+pub same-name : (w : World) (spaces : Spaces) (space q frame : ℕ) (f : Finds w spaces space q frame) (o : Option PageName) (name : PageName) → o ≡ name_at w.store.names frame → o ≡ Some name → f.hit.name ≡ name
+same-name w spaces space q frame f o name e is =
+    let both : Some f.hit.name ≡ Some name = sym f.hit.held ∙ ap (λ (j : ℕ). name_at w.store.names j) f.frame_is ∙ sym e ∙ is in cc
+
+pub not-nameless : (w : World) (spaces : Spaces) (space q frame : ℕ) (f : Finds w spaces space q frame) (o : Option PageName) → o ≡ name_at w.store.names frame → o ≡ None → ⊥
+not-nameless w spaces space q frame f o e is =
+    let both : Some f.hit.name ≡ None = sym f.hit.held ∙ ap (λ (j : ℕ). name_at w.store.names j) f.frame_is ∙ sym e ∙ is in cc
+
+fits-access : (w : World) (store : StoreSeen) (spaces : Spaces) (write : Bool) (t : Translation) → TranslationFits store w.anon w.maps spaces t → TranslationFits store w.anon w.maps spaces (after_access write t)
+fits-access w store spaces write t l = record { spot = l.spot; here = l.here; name = l.name; shows = l.shows; home = l.home; unlisted = l.unlisted; allowed = l.allowed; writable = l.writable }
+
+-- AN ACCESS is noted.
+pub touch-keeps : (w : World) (spaces : Spaces) (hat : Pool) (space q : ℕ) (write : Bool) → MemoryFits (memory_of w spaces) → hat.places ≡ change_at space q (after_access write) w.hat.places → hat.frames ≡ w.hat.frames → IsSingleValued hat.places
+    → KeepsPages w (with_tables w w.store hat) spaces
+touch-keeps w spaces hat space q write f places frames single =
+    step-keeps w spaces w.store hat f
+    (keeps-store w.store w.hat.places hat.places w.files w.anon f.frames (λ k x. subst (λ (ps : List (Option Translation)). HasWritten ps k) (sym places) (written-access w.hat.places space q write k x)))
+    frames single
+    (subst (λ (ps : List (Option Translation)). TranslationsFit w.store w.anon w.maps spaces ps) (sym places)
+    (each-change_at (TranslationFits w.store w.anon w.maps spaces) space q (after_access write) w.hat.places (λ t l. fits-access w w.store spaces write t l) f.translations))
+    (λ notes nf. values-same w.store notes (world_table w) nf.stored)
+
+-- what a poke that marks nothing leaves as it was
+record Alike (new s : StoreSeen) : Type 0 where
+  pub origin : new.origin ≡ s.origin
+  pub names : new.names ≡ s.names
+  pub rows : new.rows ≡ s.rows
+  pub free : new.free ≡ s.free
+  pub cached : new.cached ≡ s.cached
+
+alike-in : (o : Option ℕ) (s : StoreSeen) (at : ℕ) (from : List ℕ) → Alike (at_frame o s (λ frame. with_piece s frame at from false)) s
+alike-in None s at from = record { origin = refl; names = refl; rows = refl; free = refl; cached = refl }
+alike-in (Some frame) s at from = record { origin = refl; names = refl; rows = refl; free = refl; cached = refl }
+
+-- A WORD IS PUT: the access was noted first, so that the page is modified when its bytes change.
+pub write-word : (w : World) (spaces : Spaces) (new : StoreSeen) (hat : Pool) (space a n v : ℕ) (t : Translation) (h : Hits w spaces space (page a) t) → MemoryFits (memory_of w spaces) → at w.hat.places space (page a) ≡ Some t
+    → hat.places ≡ change_at space (page a) (after_access true) w.hat.places → hat.frames ≡ w.hat.frames → IsSingleValued hat.places
+    → new ≡ after_poke w.store h.name (a % 4096) (word_bytes n v) false → Pokes w.store new h.name (a % 4096) (word_bytes n v)
+    → WritesWord w (with_tables w new hat) spaces space a n v
+write-word w spaces new hat space a n v t h f is places frames single step laws =
+    let alike : Alike new w.store = subst (λ (x : StoreSeen). Alike x w.store) (sym step) (alike-in (find w.store.names h.name) w.store (a % 4096) (word_bytes n v)) in
+    let row : (k : ℕ) → row_at new.rows k ≡ row_at w.store.rows k = λ k. ap (λ (rows : List Row). row_at rows k) alike.rows in
+    let listed : (k : ℕ) → IsListedFrame new k → IsListedFrame w.store k = λ k l. elim l [ inl x ↦ inl (subst (λ (xs : List ℕ). Has xs k) alike.free x) | inr x ↦ inr (subst (λ (xs : List ℕ). Has xs k) alike.cached x) ] in
+    let found : find w.store.names h.name ≡ Some t.frame = (home-is w.store h.name t.frame h.home).found in
+    let wrote : HasWritten hat.places t.frame = subst (λ (ps : List (Option Translation)). HasWritten ps t.frame) (sym places) (written-store w.hat.places space (page a) t is) in
+    let written : (k : ℕ) → HasWritten w.hat.places k → HasWritten hat.places k = λ k x. subst (λ (ps : List (Option Translation)). HasWritten ps k) (sym places) (written-access w.hat.places space (page a) true k x) in
+    let k : KeepsFrames w.store new w.hat.places hat.places = record {
+      sound = laws.sound;
+      origin = alike.origin;
+      frames = laws.touches.frames;
+      names = alike.names;
+      bays = laws.outside.bays;
+      rows = λ j. same-row (row_at w.store.rows j) (row_at new.rows j) (row j);
+      unmodified = λ j l. ap (λ (r : Row). r.modified) (row j) ∙ f.frames.unmodified j (listed j l);
+      residence = laws.residence;
+      modified = λ j m. elim m [ inl r ↦ inl (ap (λ (r : Row). r.modified) (row j) ∙ r) | inr x ↦ inr (written j x) ];
+      written = λ j x. inr (written j x);
+      bytes = λ j. elim (eqb_tells j t.frame) [
+        | inl same ↦ inr (subst (λ (i : ℕ). HasWritten hat.places i) (sym same.1) wrote)
+        | inr other ↦ inl (laws.touches.bytes j (ap (λ (o : Option ℕ). only o j) found ∙ other.0))
+      ];
+    } in
+    let translations : TranslationsFit new w.anon w.maps spaces hat.places =
+    subst (λ (ps : List (Option Translation)). TranslationsFit new w.anon w.maps spaces ps) (sym places)
+    (each-change_at (TranslationFits new w.anon w.maps spaces) space (page a) (after_access true) w.hat.places (λ u l. fits-access w new spaces true u l)
+    (λ i u there. translation-kept w.store new w.anon w.maps spaces u laws.residence (listed u.frame) (f.translations i u there))) in (
+      h.name,
+      h.shows,
+      record {
+        tables = record { maps = refl; counts = refl; reserved = refl; disks = refl; infos = refl };
+        core = alike.origin;
+        frames = laws.touches.frames;
+        bays = laws.outside.bays;
+        memory = memory-kept w spaces new hat f k frames single translations;
+        notes = λ notes nf. notes-kept w spaces new hat notes f k (laws.others notes (world_table w) nf.stored).fits nf;
+        tells = λ notes nf. tell-kept w new hat notes (laws.others notes (world_table w) nf.stored).alike;
+        written = λ notes. value-is (with_tables w new hat) notes h.name h.shows.is_page ∙ laws.value notes (world_table w)
+            ∙ ap (λ (bytes : List ℕ). spliced bytes (a % 4096) (word_bytes n v)) (sym (value-is w notes h.name h.shows.is_page));
+        others = λ notes m nf tell ne real. value-is (with_tables w new hat) notes m real ∙ (laws.others notes (world_table w) nf.stored).values m ne (tell m real) ∙ sym (value-is w notes m real);
+      },
+    )

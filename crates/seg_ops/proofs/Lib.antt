@@ -1,0 +1,12 @@
+pub mod Places
+pub mod StillSteps
+pub mod Gathers
+pub mod Syncs
+pub mod Loads
+pub mod Shows
+pub mod Composed
+pub mod Hits
+pub mod Evictions
+pub mod Fills
+pub mod FillSteps
+pub mod Disks

@@ -1,0 +1,73 @@
+-- What the steps do to the world. Public clauses cite this.
+use Rattle.std.specs.Prelude.{◌≡◌, ◌≢◌, ◌↔◌, length, ℕ, ◌||◌, Bool, true, false, List, Option, Some, None, IsTrue, slice_index_or}
+use Rattle.page_hash.specs.declared.PageName.{PageName}
+use Rattle.page_lock.specs.Rows.{row_at, with_bits}
+use Rattle.page_store.specs.Notes.{Notes}
+use Rattle.page_store.specs.Seen.{StoreSeen}
+use Rattle.page_store.specs.Steps.{with_row}
+use Rattle.hat_layer.specs.declared.translation.Translation.{Translation}
+use Rattle.hat_layer.specs.declared.translation.Dropped.{Dropped}
+use Rattle.flat_model.specs.Words.{page, word_at, word_put}
+use Rattle.vm_world.specs.MemoryFits.{MemoryFits}
+use Rattle.vm_world.specs.NotesFit.{NotesFit}
+use Rattle.vm_world.specs.Pages.{page_value}
+use Rattle.vm_world.specs.Segments.{Spot, Spaces, spot_at, shown_name}
+use Rattle.vm_types.specs.Prot.{can_read, can_write}
+use Rattle.vm_world.specs.TranslationsFit.{MayWriteInPlace}
+use Rattle.vm_world.specs.World.{World, is_page_name, AllTell}
+use Rattle.vm_world.specs.WorldSteps.{WorldStep, KeepsTables, stays}
+
+-- A step that changes no page.
+abbrev pub KeepsPages : World → World → Spaces → Type 0
+KeepsPages old new spaces = WorldStep old new spaces stays (λ name. false)
+
+-- the store once bits that were told of a frame's translations, referenced and modified, were gathered into its page
+abbrev pub with_bits_gathered : StoreSeen → ℕ → Bool × Bool → StoreSeen
+with_bits_gathered s frame told =
+    with_row s frame (with_bits (row_at s.rows frame) ((row_at s.rows frame).referenced || told.0) ((row_at s.rows frame).modified || told.1))
+
+-- the same where a translation had to give way, or none
+abbrev pub with_dropped_gathered : StoreSeen → Option Dropped → StoreSeen
+with_dropped_gathered s None = s
+with_dropped_gathered s (Some d) = with_bits_gathered s d.frame (d.referenced, d.modified)
+
+-- No translation of the frame says that it was written.
+abbrev pub IsUnwritten : List (Option Translation) → ℕ → Type 0
+IsUnwritten places frame = (place : ℕ) (t : Translation) → slice_index_or places place None ≡ Some t → t.frame ≡ frame → t.modified ≡ false
+
+-- What an address of a process shows: the page of this name.
+pub record ShowsName (w : World) (spaces : Spaces) (p q : ℕ) (name : PageName) : Type 0 where
+  pub spot : Spot
+  pub here : spot_at spaces p q ≡ Some spot
+  pub shows : shown_name w.maps spot ≡ Some name
+  pub is_page : IsTrue (is_page_name w.files w.anon name)
+
+-- The word is that of the page which the address shows.
+abbrev pub ReadsWord : World → Spaces → ℕ → ℕ → ℕ → ℕ → Type 0
+ReadsWord w spaces p a n word = (name : PageName) × ShowsName w spaces p (page a) name × ((notes : Notes) → word ≡ word_at (page_value w notes name) a n)
+
+-- The page of a name has the word at the address, and every other page the value that it had; memory and the notes fit as before.
+pub record PutsWord (old new : World) (spaces : Spaces) (a n v : ℕ) (name : PageName) : Type 0 where
+  pub tables : KeepsTables old new
+  pub core : new.store.origin ≡ old.store.origin
+  pub frames : length new.store.frames ≡ length old.store.frames
+  pub bays : new.store.bays ≡ old.store.bays
+  pub memory : MemoryFits (record { world = new; spaces = spaces })
+  pub notes : (notes : Notes) → NotesFit old notes → NotesFit new notes
+  pub tells : (notes : Notes) → NotesFit old notes → AllTell old notes ↔ AllTell new notes
+  pub written : (notes : Notes) → page_value new notes name ≡ word_put (page_value old notes name) a n v
+  pub others : (notes : Notes) (m : PageName) → NotesFit old notes → AllTell old notes → m ≢ name → IsTrue (is_page_name old.files old.anon m)
+      → page_value new notes m ≡ page_value old notes m
+
+-- The page that the address shows gets the word.
+abbrev pub WritesWord : World → World → Spaces → ℕ → ℕ → ℕ → ℕ → Type 0
+WritesWord old new spaces p a n v = (name : PageName) × ShowsName old spaces p (page a) name × PutsWord old new spaces a n v name
+
+-- A place of a process that may be read or written shows the page of a name; and a writable translation is loaded only where the page may be written
+-- where it is.
+pub record MayShow (w : World) (spaces : Spaces) (p q : ℕ) (name : PageName) (writable : Bool) : Type 0 where
+  pub spot : Spot
+  pub here : spot_at spaces p q ≡ Some spot
+  pub shows : shown_name w.maps spot ≡ Some name
+  pub allowed : IsTrue (can_read spot.0.prot || can_write spot.0.prot)
+  pub in_place : writable ≡ true → MayWriteInPlace w.anon w.maps spot

@@ -1,0 +1,39 @@
+//! A page of a file that was never written: a frame of zeros.
+ghost use Rattle.std.specs.Prelude.{◌≡◌, ◌<◌, ℕ, length, false, IsSome, IsTrue, IfSome};
+ghost use Rattle.core_arena.specs.Bytes.{zeros};
+ghost use Rattle.page_hash.specs.Names.{is_name};
+ghost use Rattle.page_store.specs.Seen.{IsListedFrame, residence};
+ghost use Rattle.page_store.specs.Steps.{next_frame, next_name, after_fill};
+ghost use Rattle.vm_world.specs.MemoryFits.{MemoryFits};
+ghost use Rattle.vm_world.specs.Segments.{Spaces};
+ghost use Rattle.vm_world.specs.World.{world_seen, file_name, is_unpushed, page_exists};
+ghost use Rattle.vm_world.specs.WorldSteps.{WorldStep, stays};
+
+use block_device::Disk;
+use page_store::{PageName, Residence};
+use vm_world::World;
+
+/// Takes a frame for a blank page of a file. The name that the frame held is cut at its valid bytes. Time: one page.
+pub fn fill<D: Disk>(world: &mut World<D>, file: u32, page: u32)
+    requires file { file < length world.old.files.files }
+    requires exists { IsTrue (page_exists world.old.files world.old.anon (file_name file page)) }
+    requires blank { IsTrue (is_unpushed world.old.files world.old.anon (file_name file page)) }
+    requires absent { residence world.old.store (file_name file page) ≡ Residence.Absent }
+    requires available { IsSome (next_frame world.old.store) }
+    requires fits { (spaces : Spaces)
+        × MemoryFits (record { world = world_seen world.old; spaces = spaces }) }
+    // The page is home, in the frame that was taken.
+    ensures store { world.new.store ≡ after_fill world.old.store (file_name file page) zeros false }
+    ensures home { IfSome (next_frame world.old.store)
+        (λ frame. residence world.new.store (file_name file page) ≡ Residence.Home frame) }
+    ensures unlisted { IfSome (next_frame world.old.store)
+        (λ frame. ¬ IsListedFrame world.new.store frame) }
+    // What stays.
+    ensures rest { world.new ≡ record world.old { store = world.new.store } }
+    ensures step { (spaces : Spaces)
+        → MemoryFits (record { world = world_seen world.old; spaces = spaces })
+        → WorldStep (world_seen world.old) (world_seen world.new) spaces stays
+        (is_name (next_name world.old.store)) }
+{
+    world.store.fill_zero(PageName { object: file, page });
+}

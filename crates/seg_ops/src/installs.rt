@@ -1,0 +1,70 @@
+//! Translations that are loaded.
+ghost use Rattle.std.specs.Prelude.{◌≡◌, ℕ, ◌<◌, length, Some, option_map};
+ghost use Rattle.hat_layer.specs.Pool.{at, told_of, fresh_translation, dropped_by_load};
+ghost use Rattle.page_hash.specs.declared.PageName.{PageName};
+ghost use Rattle.page_store.specs.Laws.{SameResidence};
+ghost use Rattle.page_store.specs.Seen.{residence};
+ghost use Rattle.page_store.specs.Steps.{after_reclaim};
+ghost use Rattle.vm_world.specs.MemoryFits.{MemoryFits};
+ghost use Rattle.vm_world.specs.Segments.{Spaces};
+ghost use Rattle.vm_world.specs.TranslationsFit.{TranslationFits};
+ghost use Rattle.vm_world.specs.World.{world_seen};
+ghost use Rattle.seg_ops.specs.Steps.{KeepsPages, MayShow, with_dropped_gathered};
+
+use crate::tables::gather;
+use block_device::Disk;
+use page_store::{PageName, Residence};
+use vm_world::World;
+
+/// Loads a translation, and gathers the bits of the one that had to give way into its page. Constant expected time.
+pub fn install<D: Disk>(world: &mut World<D>, space: u32, page: u32, frame: u32, writable: bool)
+    requires frame { frame < length world.old.store.frames }
+    requires fits { (spaces : Spaces)
+        × MemoryFits (record { world = world_seen world.old; spaces = spaces }) }
+    // The page has its translation, and what gave way is told to its page.
+    ensures loaded { at world.new.hat.places space page
+        ≡ Some (fresh_translation space page frame writable) }
+    ensures store { world.new.store ≡ with_dropped_gathered world.old.store
+        (option_map told_of (dropped_by_load world.old.hat space page)) }
+    // What stays.
+    ensures rest { world.new ≡ record world.old { store = world.new.store; hat = world.new.hat } }
+    ensures stay { SameResidence world.old.store world.new.store }
+    ensures keeps { (spaces : Spaces)
+        → MemoryFits (record { world = world_seen world.old; spaces = spaces })
+        → TranslationFits world.old.store world.old.anon world.old.maps spaces
+        (fresh_translation space page frame writable)
+        → KeepsPages (world_seen world.old) (world_seen world.new) spaces }
+{
+    let dropped = world.hat.load(space, page, frame, writable);
+    gather(&mut world.store, dropped);
+}
+
+/// Loads the translation of a page that is home, and takes its frame off the cache list where it is there. Constant expected time.
+pub fn show<D: Disk>(
+    world: &mut World<D>,
+    space: u32,
+    page: u32,
+    name: PageName,
+    frame: u32,
+    writable: bool,
+)
+    requires home { residence world.old.store name ≡ Residence.Home frame }
+    requires fits { (spaces : Spaces)
+        × MemoryFits (record { world = world_seen world.old; spaces = spaces }) }
+    // The page has its translation, and what gave way is told to its page.
+    ensures loaded { at world.new.hat.places space page
+        ≡ Some (fresh_translation space page frame writable) }
+    ensures store { world.new.store
+        ≡ with_dropped_gathered (after_reclaim world.old.store name)
+        (option_map told_of (dropped_by_load world.old.hat space page)) }
+    // What stays.
+    ensures rest { world.new ≡ record world.old { store = world.new.store; hat = world.new.hat } }
+    ensures stay { SameResidence world.old.store world.new.store }
+    ensures keeps { (spaces : Spaces)
+        → MemoryFits (record { world = world_seen world.old; spaces = spaces })
+        → MayShow (world_seen world.old) spaces space page name writable
+        → KeepsPages (world_seen world.old) (world_seen world.new) spaces }
+{
+    world.store.reclaim(name);
+    install(world, space, page, frame, writable);
+}

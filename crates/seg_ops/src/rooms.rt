@@ -1,0 +1,120 @@
+//! Room for another page: a victim's bits are gathered, and it is released where it is clean.
+ghost use Rattle.std.specs.Prelude.{◌≡◌, ℕ, ◌<◌, ◌++◌, ◌∷◌, [], length, false, Some, None, IsSome, MatchOption};
+ghost use Rattle.core_arena.specs.Bytes.{bytes_at};
+ghost use Rattle.hat_layer.specs.Pool.{bits_of, change_frame, drop_frame, with_clear_bits};
+ghost use Rattle.page_lock.specs.Rows.{row_at};
+ghost use Rattle.page_store.specs.Laws.{SameResidence};
+ghost use Rattle.page_store.specs.Notes.{Notes};
+ghost use Rattle.page_store.specs.Seen.{IsListedFrame};
+ghost use Rattle.page_store.specs.Steps.{next_frame};
+ghost use Rattle.vm_world.specs.MemoryFits.{MemoryFits};
+ghost use Rattle.vm_world.specs.NotesFit.{NotesFit};
+ghost use Rattle.vm_world.specs.Segments.{Spaces};
+ghost use Rattle.vm_world.specs.Wants.{IsDirtyPage};
+ghost use Rattle.vm_world.specs.World.{world_seen};
+ghost use Rattle.seg_ops.specs.Steps.{KeepsPages, IsUnwritten, with_bits_gathered};
+
+use crate::tables::add_bits;
+use block_device::Disk;
+use page_store::{PageName, Residence};
+use vm_world::World;
+
+/// Gathers the bits of a frame's translations into its page. The translations stay.
+pub fn sync<D: Disk>(world: &mut World<D>, frame: u32)
+    requires frame { frame < length world.old.store.frames }
+    requires unlisted { ¬ IsListedFrame world.old.store frame }
+    requires fits { (spaces : Spaces)
+        × MemoryFits (record { world = world_seen world.old; spaces = spaces }) }
+    // The bits are in the page.
+    ensures store { world.new.store
+        ≡ with_bits_gathered world.old.store frame (bits_of frame world.old.hat.places) }
+    ensures places { world.new.hat.places
+        ≡ change_frame frame with_clear_bits world.old.hat.places }
+    ensures unwritten { IsUnwritten world.new.hat.places frame }
+    // What stays.
+    ensures rest { world.new ≡ record world.old { store = world.new.store; hat = world.new.hat } }
+    ensures stay { SameResidence world.old.store world.new.store }
+    ensures keeps { (spaces : Spaces)
+        → MemoryFits (record { world = world_seen world.old; spaces = spaces })
+        → KeepsPages (world_seen world.old) (world_seen world.new) spaces }
+{
+    let told = world.hat.page_sync(frame);
+    add_bits(&mut world.store, frame, told);
+}
+
+/// Drops the translations of a page that isn't modified, and puts its frame on the cache list.
+pub fn evict<D: Disk>(world: &mut World<D>, frame: u32)
+    requires home { IsSome (bytes_at world.old.store.frames frame) }
+    requires unlisted { ¬ IsListedFrame world.old.store frame }
+    requires clean { (row_at world.old.store.rows frame).modified ≡ false }
+    requires unwritten { IsUnwritten world.old.hat.places frame }
+    requires fits { (spaces : Spaces)
+        × MemoryFits (record { world = world_seen world.old; spaces = spaces }) }
+    requires noted { (notes : Notes) × NotesFit (world_seen world.old) notes }
+    // The frame can be taken.
+    ensures store { world.new.store
+        ≡ record world.old.store { cached = world.old.store.cached ++ frame ∷ [] } }
+    ensures places { world.new.hat.places ≡ drop_frame frame world.old.hat.places }
+    ensures room { IsSome (next_frame world.new.store) }
+    // What stays.
+    ensures rest { world.new ≡ record world.old { store = world.new.store; hat = world.new.hat } }
+    ensures stay { SameResidence world.old.store world.new.store }
+    ensures keeps { (spaces : Spaces)
+        → MemoryFits (record { world = world_seen world.old; spaces = spaces })
+        → KeepsPages (world_seen world.old) (world_seen world.new) spaces }
+{
+    world.hat.page_unload(frame);
+    world.store.release(frame);
+}
+
+/// A page loses its frame: None where it was clean, else a modified page, which is to be pushed first.
+fn try_victim<D: Disk>(world: &mut World<D>) -> Option<PageName>
+    requires home { (frame : ℕ) × IsSome (bytes_at world.old.store.frames frame) }
+    requires none { next_frame world.old.store ≡ None }
+    requires fits { (spaces : Spaces)
+        × MemoryFits (record { world = world_seen world.old; spaces = spaces }) }
+    requires noted { (notes : Notes) × NotesFit (world_seen world.old) notes }
+    ensures room { MatchOption result (IsSome (next_frame world.new.store))
+        (λ name. (next_frame world.new.store ≡ None) × IsDirtyPage (world_seen world.new) name) }
+    // What stays.
+    ensures rest { world.new ≡ record world.old { store = world.new.store; hat = world.new.hat } }
+    ensures stay { SameResidence world.old.store world.new.store }
+    ensures keeps { (spaces : Spaces)
+        → MemoryFits (record { world = world_seen world.old; spaces = spaces })
+        → KeepsPages (world_seen world.old) (world_seen world.new) spaces }
+{
+    let Some(name) = world.store.victim() else {
+        unreachable!();
+    };
+    let Residence::Home(frame) = world.store.resident(name) else {
+        unreachable!();
+    };
+    sync(world, frame);
+    let (_referenced, modified) = world.store.bits(frame);
+    if modified {
+        return Some(name);
+    }
+    evict(world, frame);
+    None
+}
+
+/// Makes room for another page: None where a frame can be taken then, else a modified page, which is to be pushed first.
+pub fn make_room<D: Disk>(world: &mut World<D>) -> Option<PageName>
+    requires home { (frame : ℕ) × IsSome (bytes_at world.old.store.frames frame) }
+    requires fits { (spaces : Spaces)
+        × MemoryFits (record { world = world_seen world.old; spaces = spaces }) }
+    requires noted { (notes : Notes) × NotesFit (world_seen world.old) notes }
+    ensures room { MatchOption result (IsSome (next_frame world.new.store))
+        (λ name. (next_frame world.new.store ≡ None) × IsDirtyPage (world_seen world.new) name) }
+    // What stays.
+    ensures rest { world.new ≡ record world.old { store = world.new.store; hat = world.new.hat } }
+    ensures stay { SameResidence world.old.store world.new.store }
+    ensures keeps { (spaces : Spaces)
+        → MemoryFits (record { world = world_seen world.old; spaces = spaces })
+        → KeepsPages (world_seen world.old) (world_seen world.new) spaces }
+{
+    if world.store.available() {
+        return None;
+    }
+    try_victim(world)
+}

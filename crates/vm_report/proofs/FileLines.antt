@@ -1,0 +1,76 @@
+-- The lines of a file's bytes, piece by piece, and the last of a call's entries.
+use Rattle.std.proofs.Common.{◌≡◌, ℕ, zero, suc, ◌≤◌, ◌<◌, ◌+◌, ◌*◌, ◌/◌, ◌%◌, List, [], ◌∷◌, ◌++◌, length, map, take, drop, min, Bor, refl, sym, ap, ◌∙◌, append_assoc, get_or, arith, ⊎_elim}
+use Rattle.std.proofs.lemmas.Bool.{cases_lt}
+use Rattle.std.proofs.lemmas.List.{take_all, drop_all, take-append-le, drop-append-le, length-append, length-drop, length-map}
+use Rattle.vm_types.specs.declared.call.Entry.{Entry}
+use Rattle.vm_report.specs.Report.{file_line, file_lines, pieces_text}
+use Rattle.vm_report.specs.Results.{failure_of, failure_text}
+use Rattle.vm_report.proofs.Blocks.{seen_at}
+
+short : (at : ℕ) (bytes : List ℕ) (k : ℕ) → k ≡ length bytes → 0 < length bytes → length bytes < 32
+    → file_lines at bytes ≡ file_line at (take k bytes) ++ file_lines (at + k) (drop k bytes)
+short at bytes k is some few =
+    let one : (length bytes + 31) / 32 ≡ 1 = omega arith in
+    let whole : take 32 bytes ≡ bytes = take_all 32 bytes (omega arith) in
+    let front : take k bytes ≡ bytes = take_all k bytes (omega arith) in
+    let back : drop k bytes ≡ [] = drop_all k bytes (omega arith) in
+    ap (λ n. pieces_text n at bytes) one
+    ∙ (ap (λ xs. file_line at xs ++ []) (whole ∙ sym front)
+    ∙ ap (λ xs. file_line at (take k bytes) ++ file_lines (at + k) xs) (sym back))
+
+long : (at : ℕ) (bytes : List ℕ) (k : ℕ) → k ≡ 32 → 32 ≤ length bytes
+    → file_lines at bytes ≡ file_line at (take k bytes) ++ file_lines (at + k) (drop k bytes)
+long at bytes k is many =
+    let rest = length-drop 32 bytes in
+    let more : (length bytes + 31) / 32 ≡ suc ((length (drop 32 bytes) + 31) / 32) = omega arith in
+    ap (λ n. pieces_text n at bytes) more ∙ sym (ap (λ n. file_line at (take n bytes) ++ file_lines (at + n) (drop n bytes)) is)
+
+pub file_lines_step : (at : ℕ) (bytes : List ℕ) (k : ℕ) → k ≡ min (length bytes) 32 → 0 < length bytes
+    → file_lines at bytes ≡ file_line at (take k bytes) ++ file_lines (at + k) (drop k bytes)
+file_lines_step at bytes k is some = ⊎_elim (λ few. short at bytes k (omega arith) some few) (λ many. long at bytes k (omega arith) many) (cases_lt (length bytes) 32)
+
+by_pieces : (k offset : ℕ) (front back : List ℕ) → length front ≡ 32 * k
+    → file_lines offset (front ++ back) ≡ file_lines offset front ++ file_lines (offset + length front) back
+by_pieces zero offset [] back is = let same : offset ≡ offset + 0 = omega arith in ap (λ n. file_lines n back) same
+by_pieces zero offset (b ∷ front) back is = absurd (omega arith)
+by_pieces (suc k) offset front back is =
+    let all = length-append front back in
+    let rest = length-drop 32 front in
+    let whole = file_lines_step offset (front ++ back) 32 (omega arith) (omega arith) in
+    let first = file_lines_step offset front 32 (omega arith) (omega arith) in
+    let more = by_pieces k (offset + 32) (drop 32 front) back (omega arith) in
+    let at : offset + 32 + length (drop 32 front) ≡ offset + length front = omega arith in
+    whole
+    ∙ (ap (λ xs. file_line offset xs ++ file_lines (offset + 32) (drop 32 (front ++ back))) (take-append-le 32 front back (omega arith))
+    ∙ (ap (λ xs. file_line offset (take 32 front) ++ file_lines (offset + 32) xs) (drop-append-le 32 front back (omega arith))
+    ∙ (ap (λ t. file_line offset (take 32 front) ++ t) more
+    ∙ (sym (append_assoc (file_line offset (take 32 front)) (file_lines (offset + 32) (drop 32 front)) (file_lines (offset + 32 + length (drop 32 front)) back))
+    ∙ (ap (λ t. t ++ file_lines (offset + 32 + length (drop 32 front)) back) (sym first)
+    ∙ ap (λ n. file_lines offset front ++ file_lines n back) at)))))
+
+-- the lines of two pieces, of which the first ends at a multiple of 32
+pub file_lines_append : (offset : ℕ) (front back : List ℕ) → length front % 32 ≡ 0
+    → file_lines offset (front ++ back) ≡ file_lines offset front ++ file_lines (offset + length front) back
+file_lines_append offset front back is = by_pieces (length front / 32) offset front back (omega arith)
+
+-- one line more
+pub file_lines_more : (at : ℕ) (bytes own behind out next all : List ℕ) (k : ℕ) → k ≡ min (length bytes) 32 → 0 < length bytes → own ≡ take k bytes → behind ≡ drop k bytes
+    → next ≡ out ++ file_line at own → out ++ file_lines at bytes ≡ all → next ++ file_lines (at + k) behind ≡ all
+file_lines_more at bytes own behind out next all k is some own_is behind_is more before =
+    ap (λ t. t ++ file_lines (at + k) behind) (more ∙ ap (λ xs. out ++ file_line at xs) own_is)
+    ∙ (ap (λ xs. (out ++ file_line at (take k bytes)) ++ file_lines (at + k) xs) behind_is
+    ∙ (append_assoc out (file_line at (take k bytes)) (file_lines (at + k) (drop k bytes))
+    ∙ (ap (λ t. out ++ t) (sym (file_lines_step at bytes k is some)) ∙ before)))
+
+-- the failure of a call's entries is that of the last one
+pub failure_at : (es : List Entry) (i : ℕ) (d : Entry) → i + 1 ≡ length es → failure_text es ≡ failure_of (get_or es i d)
+failure_at [] i d e = absurd (omega arith)
+failure_at (x ∷ []) zero d e = refl
+failure_at (x ∷ []) (suc i) d e = absurd (omega arith)
+failure_at (x ∷ y ∷ es) zero d e = absurd (omega arith)
+failure_at (x ∷ y ∷ es) (suc i) d e = failure_at (y ∷ es) i d (omega arith)
+
+pub failure_last : (xs : List (Bor Entry)) (x : Bor Entry) (i : ℕ) → i + 1 ≡ length xs → x ≡ get_or xs i x → failure_text (map (λ e. e.now) xs) ≡ failure_of x.now
+failure_last xs x i last is =
+    let whole : i + 1 ≡ length (map (λ (e : Bor Entry). e.now) xs) = rw length-map last in
+    failure_at (map (λ (e : Bor Entry). e.now) xs) i x.now whole ∙ ap failure_of (sym (seen_at (λ (e : Bor Entry). e.now) xs i x (omega arith) is))

@@ -1,0 +1,6 @@
+pub mod Appending
+pub mod Births
+pub mod Blocks
+pub mod Digits
+pub mod FileLines
+pub mod Spelled

@@ -1,0 +1,27 @@
+//! Every text that is printed: the report of a history, its trace and its summary, and what is said
+//! of a script that can't be run and of faults.
+#![tactic(auto)]
+
+mod faults;
+mod files;
+mod groups;
+mod laws;
+mod line_results;
+mod results;
+mod sections;
+mod summaries;
+#[cfg(test)]
+mod tests;
+mod text;
+mod traces;
+mod well_formed;
+
+pub use faults::{
+    disk_fault, rack_fault, read_fault, script_fault, setup_fault, usage, volume_fault,
+};
+pub use files::{file_heading, file_line, file_lines};
+pub use laws::{file_lines_law, own_entries_law};
+pub use sections::{process_section, process_sections};
+pub use summaries::summary;
+pub use traces::{trace_entries, trace_entry, trace_file, trace_opening};
+pub use well_formed::are_well_formed;

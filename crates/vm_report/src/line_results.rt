@@ -1,0 +1,137 @@
+//! The result of a line, by the entries that it made.
+ghost use Rattle.std.specs.Prelude.{◌≡◌, ◌≤◌, ◌<◌, ◌^◌, ◌++◌, [], All, length, map, OnOk};
+ghost use Rattle.vm_types.specs.WellFormed.{IsWellFormed};
+ghost use Rattle.vm_script.specs.Texts.{hex_text};
+ghost use Rattle.vm_report.specs.Results as results;
+
+use crate::results::{push_bytes, push_result};
+use crate::text::{push_decimal, push_hex, push_space};
+use std::alloc::AllocError;
+use vm_types::{Call, Entry, Reply};
+
+fn is_failure(reply: &Reply) -> bool
+    ensures { result ≡ results.is_failure reply.now }
+{
+    matches!(reply, Reply::Refused(_) | Reply::Io { .. })
+}
+
+fn push_failure_of(out: &mut Vec<u8>, entry: &Entry) -> Result<(), AllocError>
+    requires { IsWellFormed entry.now.call }
+    ensures { OnOk result (out.new.items ≡ out.old.items ++ results.failure_of entry.now) }
+{
+    if !is_failure(&entry.reply) {
+        return Ok(());
+    }
+    push_space(out)?;
+    push_result(out, &entry.call, &entry.reply)
+}
+
+// Where the last part was refused or met a device error, adds that.
+fn push_failure(out: &mut Vec<u8>, entries: &[&Entry]) -> Result<(), AllocError>
+    requires well_formed { All (λ e. IsWellFormed e.now.call) entries.now }
+    ensures { OnOk result (out.new.items
+        ≡ out.old.items ++ results.failure_text (map (λ e. e.now) entries.now)) }
+{
+    if entries.is_empty() {
+        return Ok(());
+    }
+    push_failure_of(out, entries[entries.len() - 1])
+}
+
+fn bytes_of_reply(reply: &Reply) -> &[u8]
+    ensures bytes { result.now ≡ results.reply_bytes reply.now }
+    ensures few { length result.now ≤ 64 }
+{
+    match reply {
+        Reply::Bytes(line) => {
+            let _len = line.len();
+            line.bytes()
+        }
+        _ => &[],
+    }
+}
+
+fn count_read(entries: &[&Entry]) -> u64
+    requires few { length entries.now < 2 ^ 32 }
+    ensures { result ≡ length (results.bytes_read (map (λ e. e.now) entries.now)) }
+{
+    let mut count = 0;
+    let mut left = entries;
+    while let [entry, rest @ ..] = left {
+        count += bytes_of_reply(&entry.reply).len() as u64;
+        left = rest;
+    }
+    count
+}
+
+fn push_bytes_read(out: &mut Vec<u8>, entries: &[&Entry]) -> Result<(), AllocError>
+    ensures { OnOk result (out.new.items ≡ out.old.items
+        ++ hex_text (results.bytes_read (map (λ e. e.now) entries.now))) }
+{
+    let mut left = entries;
+    while let [entry, rest @ ..] = left {
+        push_hex(out, bytes_of_reply(&entry.reply))?;
+        left = rest;
+    }
+    Ok(())
+}
+
+fn push_read_bytes(out: &mut Vec<u8>, entries: &[&Entry]) -> Result<(), AllocError>
+    requires few { length entries.now < 2 ^ 32 }
+    ensures { OnOk result (out.new.items ≡ out.old.items
+        ++ results.bytes_text (results.bytes_read (map (λ e. e.now) entries.now))) }
+{
+    let count = count_read(entries);
+    push_decimal(out, count)?;
+    if count == 0 {
+        return Ok(());
+    }
+    push_space(out)?;
+    push_bytes_read(out, entries)
+}
+
+fn bytes_done(call: &Call, reply: &Reply) -> u64
+    ensures done { result ≡ results.bytes_done call.now reply.now }
+    ensures few { result ≤ 64 }
+{
+    match (call, reply) {
+        (Call::Write { bytes, .. }, Reply::Done) => u64::from(bytes.len()),
+        _ => 0,
+    }
+}
+
+fn count_written(entries: &[&Entry]) -> u64
+    requires few { length entries.now < 2 ^ 32 }
+    ensures { result ≡ results.bytes_written (map (λ e. e.now) entries.now) }
+{
+    let mut count = 0;
+    let mut left = entries;
+    while let [entry, rest @ ..] = left {
+        count += bytes_done(&entry.call, &entry.reply);
+        left = rest;
+    }
+    count
+}
+
+/// Adds the result of a line that made these entries.
+pub fn push_line_result(out: &mut Vec<u8>, entries: &[&Entry]) -> Result<(), AllocError>
+    requires few { length entries.now < 2 ^ 32 }
+    requires well_formed { All (λ e. IsWellFormed e.now.call) entries.now }
+    ensures { OnOk result (out.new.items
+        ≡ out.old.items ++ results.line_result (map (λ e. e.now) entries.now)) }
+{
+    let [first, ..] = entries else {
+        return Ok(());
+    };
+    match first.call {
+        Call::Read { .. } => {
+            push_read_bytes(out, entries)?;
+            push_failure(out, entries)
+        }
+        Call::Write { .. } => {
+            push_decimal(out, count_written(entries))?;
+            push_failure(out, entries)
+        }
+        _ => push_result(out, &first.call, &first.reply),
+    }
+}

@@ -1,0 +1,271 @@
+//! The worked scripts' histories, by hand, give their reports letter by letter.
+use crate::{
+    are_well_formed, disk_fault, file_heading, file_lines, process_section, process_sections,
+    rack_fault, script_fault, setup_fault, summary, trace_entries, trace_file, trace_opening,
+    volume_fault,
+};
+use std::alloc::{AllocError, Global};
+use std::test::Fail;
+use vm_script::{ScriptFault, ScriptKind, parse};
+use vm_types::{Call, Entry, Errno, Kind, Line, Object, Place, Prot, Reply, Signal};
+
+fn entry(process: u32, call: Call, reply: Reply) -> Entry {
+    Entry {
+        process,
+        call,
+        reply,
+        cleared: 0,
+    }
+}
+
+fn store(process: u32, value: u32) -> Entry {
+    entry(
+        process,
+        Call::Store {
+            addr: 0x2000,
+            size: 1,
+            value,
+        },
+        Reply::Done,
+    )
+}
+
+fn load(process: u32, addr: u32, reply: Reply) -> Entry {
+    entry(process, Call::Load { addr, size: 1 }, reply)
+}
+
+fn map(place: Place, length: u32, reply: Reply) -> Entry {
+    let (prot, kind, object) = (Prot::READ, Kind::Private, Object::NewZero);
+    entry(
+        1,
+        Call::Map {
+            place,
+            length,
+            prot,
+            kind,
+            object,
+            offset: 0,
+        },
+        reply,
+    )
+}
+
+fn map_at(addr: u32, length: u32, reply: Reply) -> Entry {
+    map(Place::At(addr), length, reply)
+}
+
+fn fork(child: u32, reply: Reply) -> Entry {
+    entry(1, Call::Fork { child }, reply)
+}
+
+fn read(file: u32, offset: u32, length: u32, reply: Reply) -> Entry {
+    entry(
+        1,
+        Call::Read {
+            file,
+            offset,
+            length,
+        },
+        reply,
+    )
+}
+
+fn write(offset: u32, bytes: Line, rest: u32, reply: Reply) -> Entry {
+    entry(
+        1,
+        Call::Write {
+            file: 0,
+            offset,
+            bytes,
+            rest,
+        },
+        reply,
+    )
+}
+
+fn exit(process: u32) -> Entry {
+    entry(process, Call::Exit, Reply::Done)
+}
+
+// The sections of a script's processes, over this history.
+fn report(alloc: Global, script: &str, history: &[Entry]) -> Result<Vec<u8>, AllocError> {
+    let mut out = Vec::new(alloc);
+    if !are_well_formed(history) || history.len() > 1_048_576 {
+        return Ok(out);
+    }
+    if let Ok(plan) = parse(alloc, script.as_bytes())? {
+        if plan.parents().len() < 1000 {
+            process_sections(&plan, history, &mut out)?;
+        }
+    }
+    Ok(out)
+}
+
+#[test]
+fn copy_on_write_on_both_sides(rt: HostRuntime) -> Result<(), Fail> {
+    let script =
+        "process\nmap 0x2000 4096 rw private zero 0\nstore 0x2000 1 0x11\nfork\nstore 0x2000 1 0x22\nload 0x2000 1\nend\nstore 0x2000 1 0x33\nload 0x2000 1\nend\n";
+    let history = [
+        map_at(0x2000, 4096, Reply::Mapped(0x2000)),
+        store(1, 0x11),
+        fork(2, Reply::Done),
+        store(2, 0x22),
+        store(1, 0x33),
+        load(1, 0x2000, Reply::Word(0x33)),
+        load(2, 0x2000, Reply::Word(0x22)),
+        exit(2),
+        exit(1),
+    ];
+    let text =
+        "process 1\n2 map 0x00002000\n3 store ok\n4 fork 2\n8 store ok\n9 load 0x33\n10 exit ok\nprocess 2\n5 store ok\n6 load 0x22\n7 exit ok\n";
+    assert_eq!(rt;
+        report(rt.alloc(), script, &history)?.as_slice(),
+        text.as_bytes()
+    );
+    Ok(())
+}
+
+#[test]
+fn reserved_and_not_used(rt: HostRuntime) -> Result<(), Fail> {
+    let script =
+        "swap 6\nprocess\nmap 0x2000 16384 rw private zero 0\nfork\nend\nunmap 0x5000 4096\nfork\nend\nend\n";
+    let history = [
+        map_at(0x2000, 16384, Reply::Mapped(0x2000)),
+        fork(2, Reply::Refused(Errno::NoSwap)),
+        entry(
+            1,
+            Call::Unmap {
+                addr: 0x5000,
+                length: 4096,
+            },
+            Reply::Done,
+        ),
+        fork(3, Reply::Done),
+        exit(3),
+        exit(1),
+    ];
+    let text =
+        "process 1\n3 map 0x00002000\n4 fork error 3 NoSwap\n6 unmap ok\n7 fork 3\n9 exit ok\nprocess 2 not born\nprocess 3\n8 exit ok\n";
+    assert_eq!(rt;
+        report(rt.alloc(), script, &history)?.as_slice(),
+        text.as_bytes()
+    );
+    Ok(())
+}
+
+#[test]
+fn growth_with_its_files(rt: HostRuntime) -> Result<(), Fail> {
+    let script =
+        "process\nload 0x3000 1\nwrite a 4096 5a\nload 0x3000 1\nread b 0 16\nwait\nwrite a 4090 03030303030303\nread a 60 8\nend";
+    let history = [
+        load(1, 0x3000, Reply::Signal(Signal::Past)),
+        write(4096, Line::new(&[0x5a]), 0, Reply::Done),
+        load(1, 0x3000, Reply::Word(0x5a)),
+        read(1, 0, 16, Reply::Bytes(Line::new(b"hello\0\0\0X"))),
+        write(4090, Line::new(&[3, 3, 3, 3, 3, 3]), 1, Reply::Done),
+        write(4096, Line::new(&[3]), 0, Reply::Refused(Errno::TooBig)),
+        read(0, 60, 8, Reply::Bytes(Line::new(b"abcd"))),
+        read(
+            0,
+            64,
+            4,
+            Reply::Io {
+                disk: 0,
+                before: 0,
+                after: 1,
+            },
+        ),
+        exit(1),
+    ];
+    let mut out = report(rt.alloc(), script, &history)?;
+    let mut bytes = vec![in rt.alloc(); 0; 4097]?;
+    bytes[4] = b'o';
+    bytes[4096] = 0x5a;
+    file_heading(b"a", 4097, &mut out)?;
+    file_lines(0, &bytes, &mut out)?;
+    let text =
+        "process 1\n2 load BUS past\n3 write 1\n4 load 0x5a\n5 read 9 68656c6c6f00000058\n7 write 6 error 8 TooBig\n8 read 4 61626364 error io 0 0 1\n9 exit ok\nfile a 4097\n00000000 000000006f000000000000000000000000000000000000000000000000000000\n00001000 5a\n";
+    assert_eq!(rt; out.as_slice(), text.as_bytes());
+    Ok(())
+}
+
+#[test]
+fn refusals(rt: HostRuntime) -> Result<(), Fail> {
+    let script =
+        "process\nmap 0x1000 0x10001000 r shared a 0\nmap 0x1000 4096 r shared a 0\nmap any 1 r shared a 0\nwrite a 0 58\nmap 0x2000 4096 rw shared a 0\nread q 0 4\nunmap 0x2001 4096\nsync 0x9000 4096\nend";
+    let history = [
+        map_at(0x1000, 0x10001000, Reply::Refused(Errno::TooLarge)),
+        map_at(0x1000, 4096, Reply::Mapped(0x1000)),
+        map(Place::Any, 1, Reply::Refused(Errno::NoRoom)),
+        write(0, Line::new(b"X"), 0, Reply::Refused(Errno::ReadOnly)),
+        map_at(0x2000, 4096, Reply::Refused(Errno::Access)),
+        read(9, 0, 4, Reply::Refused(Errno::NoObject)),
+        entry(
+            1,
+            Call::Unmap {
+                addr: 0x2001,
+                length: 4096,
+            },
+            Reply::Refused(Errno::Invalid),
+        ),
+        entry(
+            1,
+            Call::Sync {
+                addr: 0x9000,
+                length: 4096,
+            },
+            Reply::Refused(Errno::NotMapped),
+        ),
+        exit(1),
+    ];
+    let text =
+        "process 1\n2 map error 5 TooLarge\n3 map 0x00001000\n4 map error 4 NoRoom\n5 write 0 error 7 ReadOnly\n6 map error 2 Access\n7 read 0 error 9 NoObject\n8 unmap error 1 Invalid\n9 sync error 6 NotMapped\n10 exit ok\n";
+    assert_eq!(rt;
+        report(rt.alloc(), script, &history)?.as_slice(),
+        text.as_bytes()
+    );
+    Ok(())
+}
+
+#[test]
+fn a_trace_and_a_summary(rt: HostRuntime) -> Result<(), Fail> {
+    let mut out = Vec::new(rt.alloc());
+    trace_opening(64, &[(0, 8)], &[0, 1], &mut out)?;
+    trace_file(0, b"a", true, 0, 5, &[(1, 2), (5, 1)], &mut out)?;
+    file_lines(0, b"hello", &mut out)?;
+    let history = [load(1, 0x2001, Reply::Word(0x65)), store(1, 0x4a), exit(1)];
+    if are_well_formed(&history) {
+        trace_entries(&history, &mut out)?;
+    }
+    summary(3, &history, &mut out)?;
+    let text =
+        "trace swap 64\ndisk 0 8\nroot 1\nfile 0 a rw 0 5 1+2,5+1\n00000000 68656c6c6f\nentries 3\n1 0000000000000000 load 0x00002001 1 = 0x65\n1 0000000000000000 store 0x00002000 1 0x4a = ok\n1 0000000000000000 exit = ok\nmake 3 entries 3 signals 0 refusals 0 sum 101\n";
+    assert_eq!(rt; out.as_slice(), text.as_bytes());
+    Ok(())
+}
+
+#[test]
+fn faults_and_one_section(rt: HostRuntime) -> Result<(), Fail> {
+    let mut out = Vec::new(rt.alloc());
+    script_fault(
+        &ScriptFault {
+            line: 7,
+            kind: ScriptKind::Word,
+        },
+        &mut out,
+    )?;
+    setup_fault(1, &mut out)?;
+    volume_fault(0, 8, &mut out)?;
+    disk_fault(0, 0, 1, &mut out)?;
+    rack_fault(2, &mut out)?;
+    if let Ok(plan) = parse(rt.alloc(), b"process\nend\nprocess\nend")? {
+        let history = [exit(2), exit(1)];
+        if are_well_formed(&history) {
+            process_section(&plan, 2, &history, &mut out)?;
+        }
+    }
+    let text =
+        "script: line 7: word\nsetup: rule 1\nsetup: rule 9 disk 0 volume 8\nfault: disk 0 0 1\nfault: rack 2\nprocess 2\n4 exit ok\n";
+    assert_eq!(rt; out.as_slice(), text.as_bytes());
+    Ok(())
+}

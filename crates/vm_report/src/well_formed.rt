@@ -1,0 +1,12 @@
+//! The test of what the calls on histories ask for.
+ghost use Rattle.std.specs.Prelude.{IsTrue, All};
+ghost use Rattle.vm_types.specs.WellFormed.{IsWellFormed};
+
+use vm_types::Entry;
+
+/// Whether each call of a history is well formed.
+pub fn are_well_formed(history: &[Entry]) -> bool
+    ensures { IsTrue result → All (λ e. IsWellFormed e.call) history.now }
+{
+    history.iter().all(|e| e.call.is_well_formed())
+}

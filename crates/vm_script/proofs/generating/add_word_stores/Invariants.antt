@@ -1,0 +1,7 @@
+use Rattle.std.proofs.Common.{◌≡◌}
+use Rattle.vm_script.specs.Printed.{with_statements}
+use Rattle.vm_script.specs.Generated.{word_stores}
+use Rattle.vm_script.proofs.generating.add_word_stores.Given as goal
+
+abbrev pub invariant-loop-k : goal.invariant-loop-k
+invariant-loop-k l = l.growing ≡ with_statements l.initial.growing l.line (word_stores l.n l.i l.k)

@@ -1,0 +1,35 @@
+//! Scripts: their grammar, the plan that a script spells, and what a history tells of a plan.
+#![tactic(auto)]
+
+mod byte_text;
+mod call_lines;
+mod counts;
+mod fault;
+mod fields;
+mod file_names;
+mod generating;
+mod laws;
+mod number;
+mod open_plan;
+mod parsing;
+mod plan;
+mod quick;
+mod rules;
+mod setup_lines;
+mod splitting;
+mod statement;
+mod statements;
+#[cfg(test)]
+mod tests;
+
+pub use byte_text::ByteText;
+pub use counts::{MOST_ENTRIES, parts};
+pub use fault::{ScriptFault, ScriptKind};
+pub use generating::generate;
+pub use laws::{
+    all_ended_law, blocks_law, fault_line_law, line_by_line_law, one_block_law,
+    print_and_parse_law, sound_law, stopped_law, waits_law,
+};
+pub use parsing::{MOST_BYTES, parse};
+pub use plan::{Plan, PlanAct, PlanLine, SetupAct, SetupLine};
+pub use rules::{Amounts, amounts_of, broken_rule};

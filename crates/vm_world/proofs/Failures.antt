@@ -1,0 +1,166 @@
+-- The entry of a device error.
+use Rattle.std.proofs.Common.{◌≡◌, ◌≢◌, ℕ, zero, suc, ◌<◌, ◌≤◌, ◌==◌, Bool, true, false, cond, List, [], ◌∷◌, length, Option, Some, None, refl, sym, ap, ◌∙◌, ◌⊎◌, inl, inr, subst, arith}
+use Rattle.std.specs.Prelude.{fold, option_map, slice_get, IsSomeAnd, IsTrue, MatchOption, ◌||◌, if◌then◌else◌}
+use Rattle.std.specs.FinSet as set
+use Rattle.std.proofs.lemmas.Bool.{cases_eq}
+use Rattle.std.proofs.lemmas.Bool.Decides.{eqb_tells}
+use Rattle.std.proofs.lemmas.List.Elements.{All-nil, All-cons}
+use Rattle.block_device.specs.Counts.{HasRisen}
+use Rattle.block_device.specs.DiskSeen.{DiskSeen}
+use Rattle.vm_types.specs.declared.call.Call.{Call}
+use Rattle.vm_types.specs.declared.call.Call.TheVariants.{Fork}
+use Rattle.vm_types.specs.declared.call.Entry.{Entry}
+use Rattle.vm_types.specs.declared.call.Reply.{Reply}
+use Rattle.vm_types.specs.declared.call.Reply.TheVariants as reply
+use Rattle.vm_types.specs.declared.call.Reply.TheVariants.{Io}
+use Rattle.vm_types.specs.Parts.{is_part}
+use Rattle.page_hash.specs.declared.PageName.{PageName}
+use Rattle.page_store.specs.Bays.{home, bay_at}
+use Rattle.flat_model.specs.CountLaws.{count_after, last_count}
+use Rattle.flat_model.specs.Counted.{top_count, IsCountedRise}
+use Rattle.flat_model.specs.Flat.{Flat, IsFlat}
+use Rattle.flat_model.specs.History.{replay}
+use Rattle.flat_model.specs.OpenLaws.{MayFollow, FollowsOn, IsOpenPart, last_entry}
+use Rattle.flat_model.specs.Step.{bit, IsUnborn, MayFail}
+use Rattle.flat_model.specs.Told.{entries_of}
+use Rattle.flat_model.proofs.WellFormed.{IsFlat-tails_cleared}
+use Rattle.vm_world.specs.World.{World}
+use Rattle.vm_world.specs.FlatMemory.{flat_memory}
+use Rattle.vm_world.specs.HistoryFits.{faults_in, noted_faults}
+use Rattle.vm_world.specs.EntryLaws.{LocksAfter, StartsAfter, MayUseFile}
+use Rattle.vm_world.specs.Events.{IsEvent}
+use Rattle.vm_world.specs.Failures.{io_entry, with_entry_made, FailureRule}
+use Rattle.vm_world.specs.State.{KernelState, Seats, Sent, KeptPlan, notes_of, with_sent, fixed_of, seat_of, room_of}
+use Rattle.vm_world.specs.StateFits.{StateFits, CallerFits}
+use Rattle.vm_world.specs.StateSteps.{after_step, PendsTails, CountsOn}
+use Rattle.vm_world.specs.WorldSteps.{returns, WorldStep}
+use Rattle.vm_world.proofs.Entries.{entry-step, entry-faults, entry-calls, entry-rooms, entry-births, entry-part}
+use Rattle.vm_world.proofs.Callers.{caller-longer}
+use Rattle.vm_world.proofs.FlatWhole.{some-inj}
+use Rattle.vm_world.proofs.NextParts.{follows-part}
+use Rattle.vm_world.proofs.StateSteps.{rule-ends, caller-kept, this-seat}
+
+-- no device error of a disk names more than a bound that holds of each
+last-below : (disk c last : ℕ) (H : List Entry) → ((k : ℕ) (e : Entry) (before after : ℕ) → slice_get H k ≡ Some e → e.reply ≡ Io disk before after → after ≤ c) → last ≤ c → fold (count_after disk) last H ≤ c
+last-below disk c last [] each low = low
+last-below disk c last (e ∷ H) each low = last-below disk c (count_after disk last e) H (λ k d before after at is. each (suc k) d before after at is) (by_reply e.reply refl)
+  where
+    by_reply : (r : Reply) → e.reply ≡ r → elim r [ reply.Io d before after ↦ (if d == disk then after else last) | x ↦ last ] ≤ c
+    by_reply (reply.Io d before after) is = elim (eqb_tells d disk) [
+      | inl y ↦ subst (λ (b : Bool). cond b after last ≤ c) (sym y.0) (each 0 e before after refl (is ∙ ap (λ (k : ℕ). Io k before after) y.1))
+      | inr n ↦ subst (λ (b : Bool). cond b after last ≤ c) (sym n.0) low
+    ]
+    by_reply reply.Done is = low
+    by_reply (reply.Word n) is = low
+    by_reply (reply.Mapped n) is = low
+    by_reply (reply.Bytes l) is = low
+    by_reply (reply.Synced n) is = low
+    by_reply (reply.Signal x) is = low
+    by_reply (reply.Refused x) is = low
+
+rise : (before after : ℕ) → HasRisen before after → before ≤ top_count → after ≤ top_count → IsCountedRise before after
+rise before after risen low high = split (below before)
+  where
+    below : (n : ℕ) → (n < top_count) ⊎ (top_count ≤ n)
+    below n = grind arith
+
+    split : (before < top_count) ⊎ (top_count ≤ before) → IsCountedRise before after
+    split (inl lt) = inl (omega (arith, risen, lt))
+    split (inr le) = inr (omega (arith, low, le), omega (arith, risen, le, high))
+
+no-fork : (F : Flat) (p : ℕ) (call : Call) → MayFail F p call → IsUnborn F call
+no-fork F p (Fork child) may = absurd may
+no-fork F p call may = search
+
+not-fork : (F : Flat) (p child : ℕ) (call : Call) → MayFail F p call → call ≢ Fork child
+not-fork F p child call may is = subst (λ (c : Call). MayFail F p c) is may
+
+-- THE ENTRY of a device error, in a state whose flight has come back.
+io-fits : (opening : Flat) (s : KernelState) (seats : Seats) (seat p : ℕ) (call : Call) (disk before after : ℕ) (calls syncs : List (Option ℕ)) → StateFits opening s seats → seats seat ≡ None → seat_of p ≡ seat
+    → CallerFits (flat_memory s.memory s.born (notes_of seats)) s.history s.entries seat (p, call) → IsCountedRise before after → last_count disk s.history ≤ before
+    → ((count : ℕ) → faults_in (bay_at s.memory.world.store.bays disk) (notes_of seats) ≡ Some count → after ≤ count)
+    → LocksAfter (io_entry p call disk before after s.pending) s.calls calls → StartsAfter (io_entry p call disk before after s.pending) s.syncs syncs
+    → StateFits opening (with_entry_made s (io_entry p call disk before after s.pending) calls syncs) seats
+io-fits opening s seats seat p call disk before after calls syncs fit idle own caller risen low reached locks starts =
+    let now : Flat = flat_memory s.memory s.born (notes_of seats) in
+    let follows : MayFollow s.history (io_entry p call disk before after s.pending) = caller.follows (Io disk before after) s.pending in
+    record {
+      memory = fit.memory;
+      notes = fit.notes;
+      replays = λ tell.
+          let h = fit.replays tell in
+          entry-step opening s.history s.pending now (io_entry p call disk before after s.pending) h refl (λ _. subst IsFlat (sym h.shows) (IsFlat-tails_cleared (replay opening s.history) (bit s.pending) h.whole)) caller.alive (no-fork now p call caller.fails) caller.fails tt
+          (entry-part s.history s.calls s.syncs s.parents s.entries (io_entry p call disk before after s.pending) seat fit.calls fit.rooms h.legal.parts (process-is p seat own caller.room) (may-use follows));
+      faults = entry-faults s.history s.memory.world.store.bays (notes_of seats) (io_entry p call disk before after s.pending) fit.faults (risen, low)
+          (λ d b a count is has.
+          let same : Io disk before after ≡ Io d b a = is in
+          let at : disk ≡ d = io-disk disk before after d b a same in
+          let value : after ≡ a = io-after disk before after d b a same in
+          subst (λ (x : ℕ). x ≤ count) value (reached count (ap (λ (k : ℕ). faults_in (bay_at s.memory.world.store.bays k) (notes_of seats)) at ∙ has)));
+      calls = entry-calls s.history s.calls s.syncs calls syncs (io_entry p call disk before after s.pending) fit.calls follows locks starts;
+      rooms = entry-rooms s.history s.parents s.entries (io_entry p call disk before after s.pending) fit.rooms caller.room (λ child is. absurd (not-fork now p child call caller.fails is));
+      births = entry-births s.history s.parents s.memory.spaces s.memory.spaces s.born s.born (io_entry p call disk before after s.pending) fit.births (λ q. or-false (set.contains s.born q)) fit.births.alive;
+      plans = record {
+        plan = λ kept is. absurd (let z : ◌≡◌ {A = Option KeptPlan} None (Some kept) = is in cc);
+        planned = λ kept of is _. absurd (let z : ◌≡◌ {A = Option KeptPlan} None (Some kept) = is in cc);
+        sent = λ k sent of is for_call. caller-longer now s.history s.entries (io_entry p call disk before after s.pending) seat k of own
+            (λ same. absurd (let z : ◌≡◌ {A = Option Sent} None (Some sent) = sym idle ∙ ap seats (sym same) ∙ is in cc)) (fit.plans.sent k sent of is for_call);
+      };
+    }
+  where
+    or-false : (b : Bool) → b ≡ (b || false)
+    or-false true = refl
+    or-false false = refl
+
+    io-disk : (x a b y c d : ℕ) → Io x a b ≡ Io y c d → x ≡ y
+    io-disk x a b y c d is = cc
+
+    io-after : (x a b y c d : ℕ) → Io x a b ≡ Io y c d → b ≡ d
+    io-after x a b y c d is = cc
+
+    process-is : (p seat : ℕ) → seat_of p ≡ seat → length (entries_of s.history p) < room_of s.entries p → p ≡ suc seat
+    process-is zero seat own room = absurd (omega (arith, room))
+    process-is (suc q) seat own room = ap suc own
+
+    may-use : MayFollow s.history (io_entry p call disk before after s.pending) → MayUseFile (io_entry p call disk before after s.pending) seat s.calls
+    may-use follows f t file lock = elim (cases_eq t seat) [
+      | inr ne ↦ inr (ne, refl)
+      | inl same ↦
+          let p_is : p ≡ suc seat = process-is p seat own caller.room in
+          let opened : IsSomeAnd (last_entry p s.history) (IsOpenPart f) = subst (λ (q : ℕ). IsSomeAnd (last_entry q s.history) (IsOpenPart f)) (ap suc same ∙ sym p_is) ((fit.calls.files f t).0 lock) in
+          inl (same, by_last (last_entry p s.history) opened follows)
+    ]
+      where
+        by_last : (o : Option Entry) → IsSomeAnd o (IsOpenPart f) → MatchOption o (Unit {0}) (λ d. FollowsOn d (io_entry p call disk before after s.pending)) → IsTrue (is_part call)
+        by_last None is next = absurd is
+        by_last (Some d) is next = follows-part f d (io_entry p call disk before after s.pending) is next
+
+-- A FLIGHT THAT FAILED COMES BACK.
+rule-fails : (s : KernelState) (new : World) (cut : PageName → Bool) (pending seat p : ℕ) (call : Call) (sent : Sent) (d : DiskSeen) (calls syncs : List (Option ℕ)) → WorldStep s.memory.world new s.memory.spaces (returns seat sent.note) cut → PendsTails s.memory.world cut s.pending pending
+    → sent.of ≡ Some (p, call) → seat_of p ≡ seat → bay_at new.store.bays sent.note.number ≡ home d → sent.note.disk.faults ≤ d.faults → HasRisen sent.note.disk.faults d.faults → d.faults ≤ top_count
+    → LocksAfter (io_entry p call sent.note.number sent.note.disk.faults d.faults pending) s.calls calls → StartsAfter (io_entry p call sent.note.number sent.note.disk.faults d.faults pending) s.syncs syncs → length syncs ≡ length s.syncs
+    → IsEvent seat s (Some sent) (with_entry_made (after_step s new pending) (io_entry p call sent.note.number sent.note.disk.faults d.faults pending) calls syncs) None
+rule-fails s new cut pending seat p call sent d calls syncs step tails for_call own back later risen high locks starts count =
+    let counts : CountsOn sent.note new = λ x at. let same : d ≡ x = home-inj d x (sym back ∙ at) in
+    (subst (λ (y : DiskSeen). sent.note.disk.faults ≤ y.faults) same later, subst (λ (y : DiskSeen). y.faults ≤ top_count) same high) in
+    let event = rule-ends s new cut pending seat sent step tails counts in
+    record {
+      fits = λ opening seats is fit.
+          let noted : notes_of seats seat ≡ Some sent.note = ap (option_map (λ (x : Sent). x.note)) is in
+          let old_count : faults_in (bay_at s.memory.world.store.bays sent.note.number) (notes_of seats) ≡ Some sent.note.disk.faults = ap (λ b. faults_in b (notes_of seats)) step.bays.0 ∙ ap noted_faults noted in
+          let most = fit.faults.most sent.note.number sent.note.disk.faults old_count in
+          io-fits opening (after_step s new pending) (with_sent seats seat None) seat p call sent.note.number sent.note.disk.faults d.faults calls syncs (event.fits opening seats is fit) (this-seat seats seat None) own
+          (caller-kept s new (returns seat sent.note) cut pending step tails (notes_of seats) (notes_of (with_sent seats seat None)) seat (p, call) (fit.plans.sent seat sent (p, call) is for_call))
+          (rise sent.note.disk.faults d.faults risen most high)
+          (last-below sent.note.number sent.note.disk.faults 0 s.history (λ k x b a at io. fit.faults.reached k x sent.note.number b a sent.note.disk.faults at io old_count) (omega arith))
+          (λ count has. let same : d.faults ≡ count = some-inj d.faults count (sym (ap (λ b. faults_in b (notes_of (with_sent seats seat None))) back) ∙ has) in omega (arith, same))
+          locks starts;
+      fixed = ap (λ (n : ℕ). record (fixed_of (after_step s new pending)) { seats = n }) count ∙ event.fixed;
+      grown = (io_entry p call sent.note.number sent.note.disk.faults d.faults pending ∷ [], refl, All-cons (λ (x : Entry). seat_of x.process ≡ seat) (io_entry p call sent.note.number sent.note.disk.faults d.faults pending) [] own (All-nil (λ (x : Entry). seat_of x.process ≡ seat)));
+    }
+  where
+    home-inj : (x y : DiskSeen) → home x ≡ home y → x ≡ y
+    home-inj x y is = cc
+
+pub failure_rule : FailureRule
+failure_rule = record { fails = rule-fails }

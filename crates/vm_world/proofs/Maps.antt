@@ -1,0 +1,54 @@
+-- Finite maps made of functions of the values of another map, and the cells of spaces.
+use Rattle.std.proofs.Common.{◌≡◌, ◌≢◌, ℕ, Bool, true, false, cond, List, [], ◌∷◌, map, Option, Some, None, refl, sym, ap, ◌∙◌, inl, inr, subst}
+use Rattle.std.specs.Prelude.{option_map, option_and_then}
+use Rattle.std.specs.Ordering.{nat_cmp, is_eq}
+use Rattle.std.specs.Cmp.{nat_cmp_total}
+use Rattle.std.proofs.lemmas.Bool.{cases_eq}
+use Rattle.std.specs.FinMap as finite
+use Rattle.addr_space.specs.Space.{Part, at}
+use Rattle.addr_space.specs.Pages.{pages_of}
+use Rattle.addr_space.proofs.PageLaws.{get-pages_of}
+use Rattle.flat_model.specs.Flat.{Space, cell_in}
+use Rattle.flat_model.proofs.Ranges.{get-insert_here, get-insert_apart}
+use Rattle.flat_model.specs.Words.{Page}
+use Rattle.vm_world.specs.Segments.{Segment, Spaces, spot_at}
+use Rattle.vm_world.specs.FlatMemory.{map_with, cell_of, space_with}
+
+by_key : {X Y : Type 0} (f : X → Y) (b : Bool) (x : X) (r : Option X) → cond b (Some (f x)) (option_map f r) ≡ option_map f (cond b (Some x) r)
+by_key f true x r = refl
+by_key f false x r = refl
+
+find-changed : {X Y : Type 0} (f : X → Y) (es : List (ℕ × X)) (q : ℕ) → finite.find nat_cmp q (map (λ e. (e.0, f e.1)) es) ≡ option_map f (finite.find nat_cmp q es)
+find-changed f [] q = refl
+find-changed f (e ∷ es) q = ap (cond (is_eq (nat_cmp q e.0)) (Some (f e.1))) (find-changed f es q) ∙ by_key f (is_eq (nat_cmp q e.0)) e.1 (finite.find nat_cmp q es)
+
+pub get-map_with : {X Y : Type 0} (f : X → Y) (m : finite.FinMap nat_cmp X) (q : ℕ) → finite.get (map_with f m) q ≡ option_map f (finite.get m q)
+get-map_with f m q = finite.get-from_entries nat_cmp_total (map (λ e. (e.0, f e.1)) (finite.entries m)) q ∙ find-changed f (finite.entries m) q ∙ ap (option_map f) (sym (finite.get-entries m q))
+
+on_option : {X Y : Type 0} (f g : X → Y) (o : Option X) → ((x : X) → o ≡ Some x → g x ≡ f x) → option_map g o ≡ option_map f o
+on_option f g None same = refl
+on_option f g (Some x) same = ap (λ y. Some y) (same x refl)
+
+-- functions that agree on the values there are
+pub map_with-same : {X Y : Type 0} (f g : X → Y) (m : finite.FinMap nat_cmp X) → ((q : ℕ) (x : X) → finite.get m q ≡ Some x → g x ≡ f x) → map_with g m ≡ map_with f m
+map_with-same f g m same = finite.same_map nat_cmp_total finite.nat_cmp-IsAntisymmetric _ _ (λ q. get-map_with g m q ∙ on_option f g (finite.get m q) (same q) ∙ sym (get-map_with f m q))
+
+-- functions that agree on all values but one
+pub map_with-but_one : {X Y : Type 0} (f g : X → Y) (m : finite.FinMap nat_cmp X) (k : ℕ) (x : X) → finite.get m k ≡ Some x → ((q : ℕ) (y : X) → finite.get m q ≡ Some y → q ≢ k → g y ≡ f y)
+    → map_with g m ≡ finite.insert (map_with f m) k (g x)
+map_with-but_one f g m k x is same = finite.same_map nat_cmp_total finite.nat_cmp-IsAntisymmetric _ _ (λ q. elim (cases_eq q k) [
+  | inl e ↦ subst (λ j. finite.get (map_with g m) j ≡ finite.get (finite.insert (map_with f m) k (g x)) j) (sym e) (get-map_with g m k ∙ ap (option_map g) is ∙ sym (get-insert_here (map_with f m) k (g x)))
+  | inr ne ↦ get-map_with g m q ∙ on_option f g (finite.get m q) (λ y at. same q y at ne) ∙ sym (get-map_with f m q) ∙ sym (get-insert_apart (map_with f m) k (g x) q ne)
+])
+
+-- the cell at a page of a space
+pub get-space_with : (held : ℕ → ℕ → Option Page) (parts : List (Part Segment)) (q : ℕ) → finite.get (space_with held parts) q ≡ option_map (cell_of held) (at parts q)
+get-space_with held parts q = get-map_with (cell_of held) (pages_of parts) q ∙ ap (option_map (cell_of held)) (get-pages_of parts q)
+
+-- the cell at a page of a process
+pub cell-at : (held : ℕ → ℕ → Option Page) (spaces : Spaces) (p q : ℕ) → cell_in (map_with (space_with held) spaces) p q ≡ option_map (cell_of held) (spot_at spaces p q)
+cell-at held spaces p q = ap (option_and_then (λ (space : Space). finite.get space q)) (get-map_with (space_with held) spaces p) ∙ by_space (finite.get spaces p)
+  where
+    by_space : (o : Option (List (Part Segment))) → option_and_then (λ (space : Space). finite.get space q) (option_map (space_with held) o) ≡ option_map (cell_of held) (option_and_then (λ parts. at parts q) o)
+    by_space None = refl
+    by_space (Some parts) = get-space_with held parts q

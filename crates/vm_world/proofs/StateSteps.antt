@@ -1,0 +1,250 @@
+-- A step of the world is an event.
+use Rattle.std.proofs.Common.{◌≡◌, ◌≢◌, ℕ, zero, suc, ◌<◌, ◌≤◌, ◌==◌, ◌^◌, Bool, true, false, cond, List, [], ◌∷◌, ◌++◌, length, map, Option, Some, None, refl, sym, ap, ◌∙◌, inl, inr, subst, arith}
+use Rattle.std.specs.Prelude.{option_map, slice_set, All, IsSome, is_some}
+use Rattle.std.proofs.lemmas.Bool.{cases_eq}
+use Rattle.std.proofs.lemmas.Bool.Decides.{eqb_tells}
+use Rattle.std.proofs.lemmas.List.{append-nil, length-map, get_or-set_same, get_or-set_other}
+use Rattle.std.proofs.lemmas.List.Elements.{All-nil}
+use Rattle.vm_types.specs.declared.call.Entry.{Entry}
+use Rattle.block_device.specs.DiskSeen.{DiskSeen}
+use Rattle.page_hash.specs.declared.PageName.{PageName}
+use Rattle.page_store.specs.Bays.{BaySeen, missing, home, out, bay_at}
+use Rattle.page_store.specs.Notes.{Note, Notes, with_note}
+use Rattle.vnode_files.specs.declared.vnode.FileInfo.{FileInfo}
+use Rattle.vnode_files.specs.Vnode.{VnodeSeen}
+use Rattle.flat_model.specs.Counted.{top_count}
+use Rattle.flat_model.specs.Flat.{Flat, IsFlat}
+use Rattle.flat_model.specs.History.{replay}
+use Rattle.flat_model.specs.Step.{bit}
+use Rattle.vm_world.specs.World.{World, AllTell}
+use Rattle.vm_world.specs.Pages.{contents_of}
+use Rattle.vm_world.specs.FlatMemory.{flat_memory, shape_of}
+use Rattle.vm_world.specs.HistoryFits.{HistoryFits, FaultsFit, faults_in, noted_faults}
+use Rattle.vm_world.specs.MemoryFits.{MemoryFits}
+use Rattle.vm_world.specs.NotesFit.{NotesFit}
+use Rattle.vm_world.specs.State.{KernelState, Seats, Sent, Caller, KeptPlan, FileMode, mode_of, notes_of, with_sent, fixed_of, seat_of}
+use Rattle.vm_world.specs.StateFits.{StateFits, CallerFits}
+use Rattle.vm_world.specs.Events.{IsEvent}
+use Rattle.vm_world.specs.StateSteps.{after_step, PendsTails, CountsOn, StateRule}
+use Rattle.vm_world.specs.WorldSteps.{Trip, stays, leaves, returns, HasTrip, notes_after, WorldStep, tails_lost}
+use Rattle.flat_model.proofs.WellFormed.{IsFlat-tails_cleared}
+use Rattle.vm_world.proofs.Entries.{entry-tails}
+use Rattle.vm_world.proofs.FilePages.{length-files_with_pages}
+use Rattle.vm_world.proofs.FrameRule.{frame-flat}
+use Rattle.vm_world.proofs.FlatWhole.{some-inj}
+use Rattle.vm_world.proofs.Callers.{caller-tables}
+
+-- the notes of seats one of which has something else outside
+notes-with : (seats : Seats) (seat : ℕ) (sent : Option Sent) → notes_of (with_sent seats seat sent) ≡ with_note (notes_of seats) seat (option_map (λ (s : Sent). s.note) sent)
+notes-with seats seat sent = λ i k. by_seat (k == seat) k i
+  where
+    by_seat : (b : Bool) (k : ℕ) → option_map (λ (s : Sent). s.note) (cond b sent (seats k)) ≡ cond b (option_map (λ (s : Sent). s.note) sent) (option_map (λ (s : Sent). s.note) (seats k))
+    by_seat true k = refl
+    by_seat false k = refl
+
+-- a seat that has what it had
+pub same-seats : (seats : Seats) (seat : ℕ) (sent : Option Sent) → seats seat ≡ sent → with_sent seats seat sent ≡ seats
+same-seats seats seat sent is = λ i k. by_seat k i
+  where
+    by_seat : (k : ℕ) → cond (k == seat) sent (seats k) ≡ seats k
+    by_seat k = elim (eqb_tells k seat) [
+      | inl y ↦ ap (λ (b : Bool). cond b sent (seats k)) y.0 ∙ sym is ∙ ap seats (sym y.1)
+      | inr n ↦ ap (λ (b : Bool). cond b sent (seats k)) n.0
+    ]
+
+-- what another seat has
+other-seat : (seats : Seats) (seat k : ℕ) (sent : Option Sent) → k ≢ seat → with_sent seats seat sent k ≡ seats k
+other-seat seats seat k sent far = elim (eqb_tells k seat) [ inl y ↦ absurd (far y.1) | inr n ↦ ap (λ (b : Bool). cond b sent (seats k)) n.0 ]
+
+pub this-seat : (seats : Seats) (seat : ℕ) (sent : Option Sent) → with_sent seats seat sent seat ≡ sent
+this-seat seats seat sent = elim (eqb_tells seat seat) [ inl y ↦ ap (λ (b : Bool). cond b sent (seats seat)) y.0 | inr n ↦ absurd (n.1 refl) ]
+
+pub modes-of : (vs : List VnodeSeen) → map mode_of vs ≡ map (λ (i : FileInfo). record { name = i.name; disk = i.disk; writable = i.writable }) (map (λ (v : VnodeSeen). v.info) vs)
+modes-of [] = refl
+modes-of (v ∷ vs) = ap (λ (ms : List FileMode). mode_of v ∷ ms) (modes-of vs)
+
+module _ (s : KernelState) (new : World) (trip : Trip) (cut : PageName → Bool) (pending : ℕ) (step : WorldStep s.memory.world new s.memory.spaces trip cut) (tails : PendsTails s.memory.world cut s.pending pending) where
+  fixed-same : fixed_of (after_step s new pending) ≡ fixed_of s
+  fixed-same = λ i. record {
+    origin = step.core i;
+    frames = step.frames i;
+    slots = length (step.tables.counts i);
+    disks = step.tables.disks i;
+    files = modes i;
+    seats = length s.syncs;
+    parents = s.parents;
+    entries = s.entries;
+  }
+    where
+      modes : map mode_of new.files.files ≡ map mode_of s.memory.world.files.files
+      modes = modes-of new.files.files ∙ ap (λ (is : List FileInfo). map (λ (i : FileInfo). record { name = i.name; disk = i.disk; writable = i.writable }) is) step.tables.infos ∙ sym (modes-of s.memory.world.files.files)
+
+  pub caller-kept : (before after : Notes) (seat : ℕ) (of : Caller) → CallerFits (flat_memory s.memory s.born before) s.history s.entries seat of → CallerFits (flat_memory (after_step s new pending).memory s.born after) s.history s.entries seat of
+  caller-kept before after seat of c = caller-tables s.memory.world new s.memory.spaces s.born before after s.history s.entries seat of step.tables c
+
+  history-kept : (opening : Flat) (notes : Notes) → MemoryFits s.memory → HasTrip trip notes → NotesFit s.memory.world notes
+      → (AllTell s.memory.world notes → HistoryFits opening s.history s.pending (flat_memory s.memory s.born notes))
+      → AllTell new (notes_after trip notes) → HistoryFits opening s.history pending (flat_memory (after_step s new pending).memory s.born (notes_after trip notes))
+  history-kept opening notes fits has nf replays tell =
+      let old = (step.tells notes has nf).1 tell in
+      let h = replays old in
+      let whole : IsFlat (flat_memory s.memory s.born notes) = subst IsFlat (sym h.shows) (IsFlat-tails_cleared (replay opening s.history) (bit s.pending) h.whole) in
+      let count : length (flat_memory s.memory s.born notes).files ≡ length s.memory.world.files.files = length-files_with_pages (contents_of s.memory.world notes).file 0 (shape_of s.memory).files ∙ length-map s.memory.world.files.files (λ (v : VnodeSeen). v.info) in
+      subst (λ (F : Flat). HistoryFits opening s.history pending F)
+      (sym (frame-flat s.memory.world new s.memory.spaces trip cut s.born notes fits step has nf old whole))
+      (entry-tails opening s.history s.pending pending (flat_memory s.memory s.born notes) (tails_lost s.memory.world cut) h
+      (λ f lt. tails.bits f (omega (arith, lt, count))) (subst (λ (n : ℕ). pending < 2 ^ n) (sym count) tails.below))
+
+  -- all parts but those that look at seats
+  event-state : (opening : Flat) (seats seats' : Seats) → notes_of seats' ≡ notes_after trip (notes_of seats) → HasTrip trip (notes_of seats)
+      → FaultsFit s.history new.store.bays (notes_after trip (notes_of seats))
+      → ((k : ℕ) (sent : Sent) (of : Caller) → seats' k ≡ Some sent → sent.of ≡ Some of → CallerFits (flat_memory s.memory s.born (notes_of seats)) s.history s.entries k of)
+      → StateFits opening s seats → StateFits opening (after_step s new pending) seats'
+  event-state opening seats seats' same has faults callers fit = record {
+    memory = step.memory;
+    notes = subst (λ (n : Notes). NotesFit new n) (sym same) (step.notes (notes_of seats) has fit.notes);
+    replays = subst (λ (n : Notes). AllTell new n → HistoryFits opening s.history pending (flat_memory (after_step s new pending).memory s.born n)) (sym same)
+        (history-kept opening (notes_of seats) fit.memory has fit.notes fit.replays);
+    faults = subst (λ (n : Notes). FaultsFit s.history new.store.bays n) (sym same) faults;
+    calls = fit.calls;
+    rooms = fit.rooms;
+    births = fit.births;
+    plans = record {
+      plan = λ kept is. absurd (let z : ◌≡◌ {A = Option KeptPlan} None (Some kept) = is in cc);
+      planned = λ kept of is _. absurd (let z : ◌≡◌ {A = Option KeptPlan} None (Some kept) = is in cc);
+      sent = λ k sent of is for_call. caller-kept (notes_of seats) (notes_of seats') k of (callers k sent of is for_call);
+    };
+  }
+
+no-entries : (H : List Entry) (seat : ℕ) → (added : List Entry) × (H ≡ H ++ added) × All (λ (e : Entry). seat_of e.process ≡ seat) added
+no-entries H seat = ([], sym (append-nil H), All-nil (λ (e : Entry). seat_of e.process ≡ seat))
+
+-- NOTHING LEAVES.
+rule-calm : (s : KernelState) (new : World) (cut : PageName → Bool) (pending seat : ℕ) (sent : Option Sent) → WorldStep s.memory.world new s.memory.spaces stays cut → PendsTails s.memory.world cut s.pending pending → IsEvent seat s sent (after_step s new pending) sent
+rule-calm s new cut pending seat sent step tails = record {
+  fits = λ opening seats is fit. subst (λ (x : Seats). StateFits opening (after_step s new pending) x) (sym (same-seats seats seat sent is))
+      (event-state s new stays cut pending step tails opening seats seats refl tt (subst (λ (b : List BaySeen). FaultsFit s.history b (notes_of seats)) (sym step.bays) fit.faults) (λ k x of at for_call. fit.plans.sent k x of at for_call) fit);
+  fixed = fixed-same s new stays cut pending step tails;
+  grown = no-entries s.history seat;
+}
+
+home-below : (bays : List BaySeen) (k : ℕ) (d : DiskSeen) → bay_at bays k ≡ home d → k < length bays
+home-below [] k d is = absurd (cc)
+home-below (b ∷ bs) zero d is = omega arith
+home-below (b ∷ bs) (suc k) d is = let more = home-below bs k d is in omega (arith, more)
+
+pub out-below : (bays : List BaySeen) (k seat : ℕ) → bay_at bays k ≡ out seat → k < length bays
+out-below [] k seat is = absurd (cc)
+out-below (b ∷ bs) zero seat is = omega arith
+out-below (b ∷ bs) (suc k) seat is = let more = out-below bs k seat is in omega (arith, more)
+
+-- the counts of faults as a disk leaves: what the note has of it
+faults-leave : (H : List Entry) (bays new : List BaySeen) (notes : Notes) (seat : ℕ) (note : Note) → notes seat ≡ None → ((k t : ℕ) → bay_at bays k ≡ out t → IsSome (notes t)) → bay_at bays note.number ≡ home note.disk → new ≡ slice_set bays note.number (out seat)
+    → FaultsFit H bays notes → FaultsFit H new (with_note notes seat (Some note))
+faults-leave H bays new notes seat note idle noted was set f = record {
+  counted = f.counted;
+  reached = λ k e disk before after count at is has. f.reached k e disk before after count at is (sym (same disk) ∙ has);
+  most = λ disk count has. f.most disk count (sym (same disk) ∙ has);
+}
+  where
+    this : (m : Option Note) → with_note notes seat m seat ≡ m
+    this m = elim (eqb_tells seat seat) [ inl y ↦ ap (λ (b : Bool). cond b m (notes seat)) y.0 | inr n ↦ absurd (n.1 refl) ]
+
+    other : (k : ℕ) (b : BaySeen) → bay_at bays k ≡ b → faults_in b (with_note notes seat (Some note)) ≡ faults_in b notes
+    other k missing e = refl
+    other k (home d) e = refl
+    other k (out t) e = ap noted_faults (elim (eqb_tells t seat) [
+      | inl y ↦ absurd (let z : IsSome (notes t) = noted k t e in let z' : ◌≡◌ {A = Bool} false true = sym (ap is_some (ap notes y.1 ∙ idle)) ∙ z in cc)
+      | inr n ↦ ap (λ (b : Bool). cond b (Some note) (notes t)) n.0
+    ])
+
+    same : (disk : ℕ) → faults_in (bay_at new disk) (with_note notes seat (Some note)) ≡ faults_in (bay_at bays disk) notes
+    same disk = ap (λ (b : List BaySeen). faults_in (bay_at b disk) (with_note notes seat (Some note))) set ∙ elim (cases_eq disk note.number) [
+      | inl e ↦
+          subst (λ (k : ℕ). faults_in (bay_at (slice_set bays note.number (out seat)) k) (with_note notes seat (Some note)) ≡ faults_in (bay_at bays k) notes) (sym e)
+          (ap (λ (b : BaySeen). faults_in b (with_note notes seat (Some note))) (get_or-set_same bays note.number (out seat) missing (home-below bays note.number note.disk was)) ∙ ap noted_faults (this (Some note)) ∙ sym (ap (λ (b : BaySeen). faults_in b notes) was))
+      | inr ne ↦ ap (λ (b : BaySeen). faults_in b (with_note notes seat (Some note))) (get_or-set_other bays note.number disk (out seat) missing ne) ∙ other disk (bay_at bays disk) refl
+    ]
+
+-- A FLIGHT LEAVES.
+rule-begins : (s : KernelState) (new : World) (cut : PageName → Bool) (pending seat : ℕ) (sent : Sent) (kept : KeptPlan) → WorldStep s.memory.world new s.memory.spaces (leaves seat sent.note) cut → PendsTails s.memory.world cut s.pending pending
+    → s.plan ≡ Some kept → kept.seat ≡ seat → kept.of ≡ sent.of → IsEvent seat s None (after_step s new pending) (Some sent)
+rule-begins s new cut pending seat sent kept step tails plan mine of_is = record {
+  fits = λ opening seats is fit.
+      let idle : notes_of seats seat ≡ None = ap (option_map (λ (x : Sent). x.note)) is in
+      event-state s new (leaves seat sent.note) cut pending step tails opening seats (with_sent seats seat (Some sent)) (notes-with seats seat (Some sent)) idle
+      (faults-leave s.history s.memory.world.store.bays new.store.bays (notes_of seats) seat sent.note idle (λ k t at. let b = fit.notes.stored.each_bay k t at in ap is_some b.1) step.bays.0 step.bays.1 fit.faults)
+      (λ k x of at for_call. elim (cases_eq k seat) [
+        | inl e ↦
+            let same : sent ≡ x = some-inj sent x (sym (this-seat seats seat (Some sent)) ∙ ap (with_sent seats seat (Some sent)) (sym e) ∙ at) in
+            subst (λ (j : ℕ). CallerFits (flat_memory s.memory s.born (notes_of seats)) s.history s.entries j of) (mine ∙ sym e)
+            (fit.plans.planned kept of plan (of_is ∙ ap (λ (y : Sent). y.of) same ∙ for_call))
+        | inr ne ↦ fit.plans.sent k x of (sym (other-seat seats seat k (Some sent) ne) ∙ at) for_call
+      ]) fit;
+  fixed = fixed-same s new (leaves seat sent.note) cut pending step tails;
+  grown = no-entries s.history seat;
+}
+
+-- the counts of faults as a disk comes back
+faults-return : (H : List Entry) (bays new : List BaySeen) (notes : Notes) (seat : ℕ) (note : Note) (d : DiskSeen) → notes seat ≡ Some note → ((k : ℕ) → bay_at bays k ≡ out seat → k ≡ note.number) → bay_at bays note.number ≡ out seat → new ≡ slice_set bays note.number (home d)
+    → note.disk.faults ≤ d.faults → d.faults ≤ top_count → FaultsFit H bays notes → FaultsFit H new (with_note notes seat None)
+faults-return H bays new notes seat note d noted one was set more top f = record {
+  counted = f.counted;
+  reached = λ k e disk before after count at is has. elim (cases_eq disk note.number) [
+    | inl here ↦
+        let low = f.reached k e disk before after note.disk.faults at is (old-count disk here) in
+        let now = this-count disk count here has in
+        omega (arith, low, now, more)
+    | inr ne ↦ f.reached k e disk before after count at is (sym (same disk ne) ∙ has)
+  ];
+  most = λ disk count has. elim (cases_eq disk note.number) [
+    | inl here ↦ let now = this-count disk count here has in omega (arith, now, top)
+    | inr ne ↦ f.most disk count (sym (same disk ne) ∙ has)
+  ];
+}
+  where
+    old-count : (disk : ℕ) → disk ≡ note.number → faults_in (bay_at bays disk) notes ≡ Some note.disk.faults
+    old-count disk here = ap (λ (k : ℕ). faults_in (bay_at bays k) notes) here ∙ ap (λ (b : BaySeen). faults_in b notes) was ∙ ap noted_faults noted
+
+    this-count : (disk count : ℕ) → disk ≡ note.number → faults_in (bay_at new disk) (with_note notes seat None) ≡ Some count → d.faults ≡ count
+    this-count disk count here has =
+        let at : bay_at new disk ≡ home d = ap (λ (b : List BaySeen). bay_at b disk) set ∙ ap (λ (k : ℕ). bay_at (slice_set bays note.number (home d)) k) here ∙ get_or-set_same bays note.number (home d) missing (out-below bays note.number seat was) in
+        some-inj d.faults count (sym (ap (λ (b : BaySeen). faults_in b (with_note notes seat None)) at) ∙ has)
+
+    other : (k : ℕ) (b : BaySeen) → k ≢ note.number → bay_at bays k ≡ b → faults_in b (with_note notes seat None) ≡ faults_in b notes
+    other k missing ne e = refl
+    other k (home x) ne e = refl
+    other k (out t) ne e = ap noted_faults (elim (eqb_tells t seat) [
+      | inl y ↦ absurd (ne (one k (e ∙ ap out y.1)))
+      | inr n ↦ ap (λ (b : Bool). cond b None (notes t)) n.0
+    ])
+
+    same : (disk : ℕ) → disk ≢ note.number → faults_in (bay_at new disk) (with_note notes seat None) ≡ faults_in (bay_at bays disk) notes
+    same disk ne = ap (λ (b : List BaySeen). faults_in (bay_at b disk) (with_note notes seat None)) set
+        ∙ ap (λ (b : BaySeen). faults_in b (with_note notes seat None)) (get_or-set_other bays note.number disk (home d) missing ne) ∙ other disk (bay_at bays disk) ne refl
+
+-- A FLIGHT COMES BACK.
+pub rule-ends : (s : KernelState) (new : World) (cut : PageName → Bool) (pending seat : ℕ) (sent : Sent) → WorldStep s.memory.world new s.memory.spaces (returns seat sent.note) cut → PendsTails s.memory.world cut s.pending pending → CountsOn sent.note new → IsEvent seat s (Some sent) (after_step s new pending) None
+rule-ends s new cut pending seat sent step tails counts = record {
+  fits = λ opening seats is fit.
+      let noted : notes_of seats seat ≡ Some sent.note = ap (option_map (λ (x : Sent). x.note)) is in
+      let back : bay_at new.store.bays sent.note.number ≡ home step.bays.1.0 = ap (λ (b : List BaySeen). bay_at b sent.note.number) step.bays.1.1 ∙ get_or-set_same s.memory.world.store.bays sent.note.number (home step.bays.1.0) missing (out-below s.memory.world.store.bays sent.note.number seat step.bays.0) in
+      let rise = counts step.bays.1.0 back in
+      event-state s new (returns seat sent.note) cut pending step tails opening seats (with_sent seats seat None) (notes-with seats seat None) noted
+      (faults-return s.history s.memory.world.store.bays new.store.bays (notes_of seats) seat sent.note step.bays.1.0 noted (λ k at. one-disk opening seats fit noted k at) step.bays.0 step.bays.1.1 rise.0 rise.1 fit.faults)
+      (λ k x of at for_call. elim (cases_eq k seat) [
+        | inl e ↦ absurd (let z : ◌≡◌ {A = Option Sent} None (Some x) = sym (this-seat seats seat None) ∙ ap (with_sent seats seat None) (sym e) ∙ at in cc)
+        | inr ne ↦ fit.plans.sent k x of (sym (other-seat seats seat k None ne) ∙ at) for_call
+      ]) fit;
+  fixed = fixed-same s new (returns seat sent.note) cut pending step tails;
+  grown = no-entries s.history seat;
+}
+  where
+    one-disk : (opening : Flat) (seats : Seats) → StateFits opening s seats → notes_of seats seat ≡ Some sent.note → (k : ℕ) → bay_at s.memory.world.store.bays k ≡ out seat → k ≡ sent.note.number
+    one-disk opening seats fit noted k at =
+        let b = fit.notes.stored.each_bay k seat at in
+        let same : b.0 ≡ sent.note = some-inj b.0 sent.note (sym b.1 ∙ noted) in
+        sym b.2 ∙ ap (λ (n : Note). n.number) same
+
+pub state_rule : StateRule
+state_rule = record { calm = rule-calm; begins = rule-begins; ends = rule-ends }

@@ -1,0 +1,42 @@
+-- Frames, files and disks. Public clauses cite this.
+use Rattle.std.specs.Prelude.{◌≡◌, ◌≢◌, ℕ, ◌<◌, ◌≤◌, false, List, map, length, Some, IsSome, IsTrue}
+use Rattle.std.specs.Ordering.{nat_cmp}
+use Rattle.std.specs.FinMap as finite
+use Rattle.block_device.specs.DiskSeen.{DiskSeen}
+use Rattle.page_hash.specs.Names.{name_at}
+use Rattle.page_hash.specs.declared.PageName.{PageName}
+use Rattle.page_lock.specs.Rows.{row_at}
+use Rattle.page_store.specs.Bays.{BaySeen, missing, home, bay_at}
+use Rattle.page_store.specs.Layout.{FileBlocks, KeepsPage, AreDisjoint}
+use Rattle.page_store.specs.Seen.{StoreSeen, IsSoundStore, IsListedFrame}
+use Rattle.anon_slots.specs.Slots.{Slots}
+use Rattle.vnode_files.specs.Files.{FilesSeen, vnode_at, block_count}
+use Rattle.vnode_files.specs.Vnode.{IsSoundVnode}
+use Rattle.vm_world.specs.World.{file_blocks, page_exists}
+
+-- The frame tables agree; no frame is kept; a page on the cache list isn't modified; and each name that a frame holds is that of a page which exists.
+pub record FramesFit (store : StoreSeen) (files : FilesSeen) (anon : Slots) : Type 0 where
+  pub sound : IsSoundStore store
+  pub unkept : (frame : ℕ) → (row_at store.rows frame).keeps ≡ 0
+  pub unmodified : (frame : ℕ) → IsListedFrame store frame → (row_at store.rows frame).modified ≡ false
+  pub exist : (frame : ℕ) (name : PageName) → name_at store.names frame ≡ Some name → IsTrue (page_exists files anon name)
+
+-- Each file agrees with its extents, on a disk that was set; no block is that of two pages; and each block lies on its disk, past block 0.
+pub record FilesFit (files : FilesSeen) : Type 0 where
+  pub each : (file : ℕ) → file < length files.files → IsSoundVnode (vnode_at files file)
+  pub disjoint : AreDisjoint (map file_blocks files.files)
+  pub set : (file : ℕ) → file < length files.files → IsSome (finite.get files.disks (vnode_at files file).info.disk)
+  pub low : (name : PageName) (file : FileBlocks) (block : ℕ) → KeepsPage (map file_blocks files.files) name file block → 1 ≤ block
+  pub high : (name : PageName) (file : FileBlocks) (block : ℕ) → KeepsPage (map file_blocks files.files) name file block → block < block_count files.disks file.disk
+
+-- The disk of a number has the blocks that the files count on, or, as the swap disk, one for each slot.
+pub record HasSize (disks : finite.FinMap nat_cmp ℕ) (slots number size : ℕ) : Type 0 where
+  pub file : (blocks : ℕ) → finite.get disks number ≡ Some blocks → size ≡ blocks
+  pub swap : number ≡ 8 → slots ≤ size
+
+-- The disks that the files and the slots count on are there, and those that are home have their size.
+pub record DisksFit (bays : List BaySeen) (disks : finite.FinMap nat_cmp ℕ) (slots : ℕ) : Type 0 where
+  pub numbers : (number blocks : ℕ) → finite.get disks number ≡ Some blocks → number < 8
+  pub there : (number blocks : ℕ) → finite.get disks number ≡ Some blocks → bay_at bays number ≢ missing
+  pub swap : 0 < slots → bay_at bays 8 ≢ missing
+  pub sizes : (number : ℕ) (d : DiskSeen) → bay_at bays number ≡ home d → HasSize disks slots number d.size

@@ -1,0 +1,63 @@
+-- The history beside memory, the disks' counts, calls in parts, and the set-up. Public clauses cite this.
+use Rattle.std.specs.Prelude.{◌≡◌, ◌↔◌, ◌<◌, ◌≤◌, ◌^◌, ◌||◌, ℕ, suc, List, Option, Some, None, length, IsSome, IsSomeAnd, IsTrue, slice_get, slice_index_or}
+use Rattle.std.specs.List.{list_any}
+use Rattle.std.specs.Ordering.{nat_cmp}
+use Rattle.std.specs.FinMap as finite
+use Rattle.std.specs.FinSet as set
+use Rattle.vm_types.specs.declared.call.Call.TheVariants.{Fork}
+use Rattle.vm_types.specs.declared.call.Entry.{Entry}
+use Rattle.vm_types.specs.declared.call.Reply.TheVariants.{Io}
+use Rattle.page_store.specs.Bays.{BaySeen, missing, home, out, bay_at}
+use Rattle.page_store.specs.Notes.{Note, Notes}
+use Rattle.flat_model.specs.Flat.{Flat, IsFlat}
+use Rattle.flat_model.specs.Step.{bit, tails_cleared}
+use Rattle.flat_model.specs.History.{replay, Legal, IsStart}
+use Rattle.flat_model.specs.Births.{is_birth}
+use Rattle.flat_model.specs.Counted.{Counted, top_count}
+use Rattle.flat_model.specs.OpenLaws.{last_entry, IsOpenPart, EndsCalls}
+use Rattle.flat_model.specs.Told.{entries_of}
+use Rattle.vm_world.specs.Segments.{Spaces}
+use Rattle.vm_world.specs.State.{process_parent, room_of, is_top}
+
+-- The history is legal from the opening, and leaves flat memory well formed; and flat memory as it is now is what the history leaves, with the pending
+-- tails zeros.
+pub record HistoryFits (opening : Flat) (H : List Entry) (pending : ℕ) (now : Flat) : Type 0 where
+  pub legal : Legal opening H
+  pub whole : IsFlat (replay opening H)
+  pub shows : now ≡ tails_cleared (replay opening H) (bit pending)
+  pub bits : pending < 2 ^ length (replay opening H).files
+
+-- The count of faults that a note has of its disk.
+abbrev pub noted_faults : Option Note → Option ℕ
+noted_faults None = None
+noted_faults (Some note) = Some note.disk.faults
+
+-- A disk's count of faults, at home or in a note.
+abbrev pub faults_in : BaySeen → Notes → Option ℕ
+faults_in missing notes = None
+faults_in (home disk) notes = Some disk.faults
+faults_in (out seat) notes = noted_faults (notes seat)
+
+-- The device errors name faults that were counted; no disk's count is below one that was told, nor past the end of counts.
+pub record FaultsFit (H : List Entry) (bays : List BaySeen) (notes : Notes) : Type 0 where
+  pub counted : Counted H
+  pub reached : (k : ℕ) (e : Entry) (disk before after count : ℕ) → slice_get H k ≡ Some e → e.reply ≡ Io disk before after
+      → faults_in (bay_at bays disk) notes ≡ Some count → after ≤ count
+  pub most : (disk count : ℕ) → faults_in (bay_at bays disk) notes ≡ Some count → count ≤ top_count
+
+-- Each process does each call to its end; a file's call is a seat's exactly where the last entry of the seat's process is a part of the file that
+-- doesn't end its call; and where a seat's Sync began is behind all that its process did.
+pub record CallsFit (H : List Entry) (calls syncs : List (Option ℕ)) : Type 0 where
+  pub ends : EndsCalls H
+  pub files : (f seat : ℕ) → (slice_index_or calls f None ≡ Some seat) ↔ IsSomeAnd (last_entry (suc seat) H) (IsOpenPart f)
+  pub starts : (seat b : ℕ) → slice_index_or syncs seat None ≡ Some b → IsStart H (length H) (suc seat) b
+
+-- No process has more entries than the set-up gave it, and each Fork of a child is its parent's.
+pub record RoomsFit (H : List Entry) (parents entries : List ℕ) : Type 0 where
+  pub made : (p : ℕ) → length (entries_of H p) ≤ room_of entries p
+  pub forks : (k child : ℕ) (e : Entry) → slice_get H k ≡ Some e → e.call ≡ Fork child → process_parent parents child ≡ Some e.process
+
+-- Those were ever alive who have no parent, and those whose birth the history has; and who is alive was born.
+pub record BirthsFit (H : List Entry) (parents : List ℕ) (spaces : Spaces) (born : set.FinSet nat_cmp) : Type 0 where
+  pub lived : (p : ℕ) → set.contains born p ≡ (is_top parents p || list_any (is_birth p) H)
+  pub alive : (p : ℕ) → IsSome (finite.get spaces p) → IsTrue (set.contains born p)

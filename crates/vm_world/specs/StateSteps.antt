@@ -1,0 +1,39 @@
+-- Events that are steps of the world, without an entry. Public clauses cite this.
+use Rattle.std.specs.Prelude.{◌≡◌, ◌<◌, ◌≤◌, ◌^◌, ◌||◌, ℕ, Bool, length, Option, Some, None}
+use Rattle.block_device.specs.DiskSeen.{DiskSeen}
+use Rattle.page_hash.specs.declared.PageName.{PageName}
+use Rattle.page_store.specs.Bays.{home, bay_at}
+use Rattle.page_store.specs.Notes.{Note}
+use Rattle.flat_model.specs.Counted.{top_count}
+use Rattle.flat_model.specs.Step.{bit}
+use Rattle.vm_world.specs.Events.{IsEvent}
+use Rattle.vm_world.specs.State.{KernelState, KeptPlan, Sent}
+use Rattle.vm_world.specs.World.{World}
+use Rattle.vm_world.specs.WorldSteps.{stays, leaves, returns, WorldStep, tails_lost}
+
+-- The state after a step of the world: these tails are pending then, and no plan is kept.
+abbrev pub after_step : KernelState → World → ℕ → KernelState
+after_step s new pending = record s { memory = record s.memory { world = new }; pending = pending; plan = None }
+
+-- The tails that were pending are, and those of the files whose last page the step took.
+pub record PendsTails (old : World) (cut : PageName → Bool) (pending more : ℕ) : Type 0 where
+  pub bits : (f : ℕ) → f < length old.files.files → bit more f ≡ (bit pending f || tails_lost old cut f)
+  pub below : more < 2 ^ length old.files.files
+
+-- The disk that comes back counted no fewer faults than as it went, and not past the end of counts.
+abbrev pub CountsOn : Note → World → Type 0
+CountsOn note new = (d : DiskSeen) → bay_at new.store.bays note.number ≡ home d → (note.disk.faults ≤ d.faults) × (d.faults ≤ top_count)
+
+-- A step of the world is an event of any seat, where nothing leaves or comes back; of the seat that takes a flight out, where its plan was kept for the
+-- process and call that the flight is for; and of the seat whose flight comes back.
+pub record StateRule : Type 0 where
+  pub calm : (s : KernelState) (new : World) (cut : PageName → Bool) (pending seat : ℕ) (sent : Option Sent)
+      → WorldStep s.memory.world new s.memory.spaces stays cut → PendsTails s.memory.world cut s.pending pending
+      → IsEvent seat s sent (after_step s new pending) sent
+  pub begins : (s : KernelState) (new : World) (cut : PageName → Bool) (pending seat : ℕ) (sent : Sent) (kept : KeptPlan)
+      → WorldStep s.memory.world new s.memory.spaces (leaves seat sent.note) cut → PendsTails s.memory.world cut s.pending pending
+      → s.plan ≡ Some kept → kept.seat ≡ seat → kept.of ≡ sent.of
+      → IsEvent seat s None (after_step s new pending) (Some sent)
+  pub ends : (s : KernelState) (new : World) (cut : PageName → Bool) (pending seat : ℕ) (sent : Sent)
+      → WorldStep s.memory.world new s.memory.spaces (returns seat sent.note) cut → PendsTails s.memory.world cut s.pending pending → CountsOn sent.note new
+      → IsEvent seat s (Some sent) (after_step s new pending) None

@@ -1,0 +1,64 @@
+//! Laws of the fit. Each function does nothing: its contract is the law.
+ghost use Rattle.vm_world.specs.Busy.{BusyLaw};
+ghost use Rattle.vm_world.specs.CallSteps.{CallRule};
+ghost use Rattle.vm_world.specs.EntryLaws.{EntryLaw};
+ghost use Rattle.vm_world.specs.EventLaws.{EventLaw};
+ghost use Rattle.vm_world.specs.Failures.{FailureRule};
+ghost use Rattle.vm_world.specs.Laws.{FrameRule, CountsLaw};
+ghost use Rattle.vm_world.specs.Opening.{OpeningLaw};
+ghost use Rattle.vm_world.specs.StateSteps.{StateRule};
+
+/// The state at the opening fits its own flat memory.
+#[tactic(auto, using(crate::proofs::Openings::opening_law))]
+pub fn opening_law()
+    ensures { OpeningLaw }
+{}
+
+/// A private page in swap alone, one that is being written, and one that is home, with a translation through which it was
+/// written, fit together.
+#[tactic(auto, using(crate::proofs::Busy::busy_law))]
+pub fn busy_law()
+    ensures { BusyLaw }
+{}
+
+/// What a step of the world does to flat memory, and one step after another.
+#[tactic(auto, using(crate::proofs::FrameRule::frame_law))]
+pub fn frame_law()
+    ensures { FrameRule }
+{}
+
+/// Which places hold a slot, by its count, and what a place that is set does to the counts.
+#[tactic(auto, using(crate::proofs::Counting::counts_law))]
+pub fn counts_law()
+    ensures { CountsLaw }
+{}
+
+/// The history with an entry more, and tails that become zeros meanwhile.
+#[tactic(auto, using(crate::proofs::Entries::entry_law))]
+pub fn entry_law()
+    ensures { EntryLaw }
+{}
+
+/// A step of the world without an entry is an event.
+#[tactic(auto, using(crate::proofs::StateSteps::state_rule))]
+pub fn state_law()
+    ensures { StateRule }
+{}
+
+/// A flight that failed comes back with the entry of its error.
+#[tactic(auto, using(crate::proofs::Failures::failure_rule))]
+pub fn failure_law()
+    ensures { FailureRule }
+{}
+
+/// A call that is done on pages alone is an event, with its entry.
+#[tactic(auto, using(crate::proofs::CallSteps::call_rule))]
+pub fn call_law()
+    ensures { CallRule }
+{}
+
+/// What a seat is told of the state: whom it waits for, what disks counted, and what a list of seats is.
+#[tactic(auto, using(crate::proofs::Told::event_law))]
+pub fn event_law()
+    ensures { EventLaw }
+{}

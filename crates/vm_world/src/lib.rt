@@ -1,0 +1,13 @@
+//! What the kernel's state means: the world below the segments, the flat memory that it stands for, and what holds between them.
+#![tactic(auto)]
+
+mod laws;
+mod segment;
+mod world;
+
+pub use laws::{
+    busy_law, call_law, counts_law, entry_law, event_law, failure_law, frame_law, opening_law,
+    state_law,
+};
+pub use segment::Segment;
+pub use world::World;

@@ -1,0 +1,14 @@
+use Rattle.std.proofs.Common.{◌≡◌, ◌≤◌, ◌+◌, ◌-◌, ◌*◌, ◌^◌, map}
+use Rattle.std.specs.List.{range_with_len}
+use Rattle.vnode_files.specs.Grow.{page_count}
+use Rattle.volume_format.specs.Layout.{table_extent, first_extent, extents_number}
+use Rattle.volume_format.proofs.rules.pages_of_file.Given as goal
+
+abbrev pub invariant-loop-j : goal.invariant-loop-j
+invariant-loop-j l = record {
+  first : l.first ≡ first_extent l.block l.i;
+  end : l.end ≡ first_extent l.block l.i + extents_number l.block l.i;
+  sum : l.pages + page_count (map (table_extent l.block) (range_with_len l.j (l.end - l.j)))
+      ≡ page_count (map (table_extent l.block) (range_with_len (first_extent l.block l.i) (extents_number l.block l.i)));
+  few : l.pages ≤ (l.j - l.first) * 2 ^ 32;
+}

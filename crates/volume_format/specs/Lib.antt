@@ -1,0 +1,6 @@
+pub mod Table
+pub mod Layout
+pub mod Rules
+pub mod Writing
+pub mod Place
+pub mod Volume
