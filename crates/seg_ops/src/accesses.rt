@@ -1,7 +1,7 @@
 //! Words through translations: the hot path. An access is one look for the translation and one word.
-ghost use Rattle.std.specs.Prelude.{◌≡◌, ℕ, ◌%◌, true, Some, IsSome};
+ghost use Rattle.std.specs.Prelude.{◌≡◌, ℕ, ◌%◌, true, false, Some, IsSome};
 ghost use Rattle.flat_model.specs.Words.{page};
-ghost use Rattle.hat_layer.specs.Pool.{at};
+ghost use Rattle.hat_layer.specs.Pool.{at, after_access, change_at};
 ghost use Rattle.hat_layer.specs.declared.translation.Translation.{Translation};
 ghost use Rattle.page_store.specs.Laws.{SameResidence};
 ghost use Rattle.vm_types.specs.Words.{IsWordSize, FitsWord};
@@ -25,6 +25,9 @@ pub fn read<D: Disk>(world: &mut World<D>, space: u32, addr: u32, size: u32) -> 
     ensures reads { (spaces : Spaces)
         → MemoryFits (record { world = world_seen world.old; spaces = spaces })
         → ReadsWord (world_seen world.old) spaces space addr size result }
+    // The translation stays, and says that it was used.
+    ensures noted { world.new.hat.places
+        ≡ change_at space (page addr) (after_access false) world.old.hat.places }
     // What stays.
     ensures rest { world.new ≡ record world.old { hat = world.new.hat } }
     ensures keeps { (spaces : Spaces)
@@ -55,6 +58,9 @@ pub fn write<D: Disk>(world: &mut World<D>, space: u32, addr: u32, size: u32, va
     ensures writes { (spaces : Spaces)
         → MemoryFits (record { world = world_seen world.old; spaces = spaces })
         → WritesWord (world_seen world.old) (world_seen world.new) spaces space addr size value }
+    // The translation stays, and says that it was used and written.
+    ensures noted { world.new.hat.places
+        ≡ change_at space (page addr) (after_access true) world.old.hat.places }
     // What stays.
     ensures rest { world.new ≡ record world.old { store = world.new.store; hat = world.new.hat } }
     ensures stay { SameResidence world.old.store world.new.store }

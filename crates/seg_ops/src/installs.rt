@@ -1,6 +1,6 @@
 //! Translations that are loaded.
-ghost use Rattle.std.specs.Prelude.{◌≡◌, ℕ, ◌<◌, length, Some, option_map};
-ghost use Rattle.hat_layer.specs.Pool.{at, told_of, fresh_translation, dropped_by_load};
+ghost use Rattle.std.specs.Prelude.{◌≡◌, ℕ, ◌<◌, false, length, Some, option_map};
+ghost use Rattle.hat_layer.specs.Pool.{at, is_of, holds, told_of, fresh_translation, dropped_by_load};
 ghost use Rattle.page_hash.specs.declared.PageName.{PageName};
 ghost use Rattle.page_store.specs.Laws.{SameResidence};
 ghost use Rattle.page_store.specs.Seen.{residence};
@@ -26,7 +26,10 @@ pub fn install<D: Disk>(world: &mut World<D>, space: u32, page: u32, frame: u32,
         ≡ Some (fresh_translation space page frame writable) }
     ensures store { world.new.store ≡ with_dropped_gathered world.old.store
         (option_map told_of (dropped_by_load world.old.hat space page)) }
-    // What stays.
+    // What stays: every other translation, and the rest of the world.
+    ensures kept { (s p : ℕ) → is_of s p (fresh_translation space page frame writable) ≡ false
+        → holds s p (dropped_by_load world.old.hat space page) ≡ false
+        → at world.new.hat.places s p ≡ at world.old.hat.places s p }
     ensures rest { world.new ≡ record world.old { store = world.new.store; hat = world.new.hat } }
     ensures stay { SameResidence world.old.store world.new.store }
     ensures keeps { (spaces : Spaces)
@@ -57,7 +60,10 @@ pub fn show<D: Disk>(
     ensures store { world.new.store
         ≡ with_dropped_gathered (after_reclaim world.old.store name)
         (option_map told_of (dropped_by_load world.old.hat space page)) }
-    // What stays.
+    // What stays: every other translation, and the rest of the world.
+    ensures kept { (s p : ℕ) → is_of s p (fresh_translation space page frame writable) ≡ false
+        → holds s p (dropped_by_load world.old.hat space page) ≡ false
+        → at world.new.hat.places s p ≡ at world.old.hat.places s p }
     ensures rest { world.new ≡ record world.old { store = world.new.store; hat = world.new.hat } }
     ensures stay { SameResidence world.old.store world.new.store }
     ensures keeps { (spaces : Spaces)
