@@ -13,7 +13,7 @@ use Rattle.flat_model.specs.Parts.{pages_of_bytes}
 use Rattle.flat_model.proofs.FileBytes.{Whole, length-pages_of_bytes, concat-pages_of_bytes}
 use Rattle.vnode_files.specs.declared.vnode.FileInfo.{FileInfo}
 use Rattle.block_device.specs.DiskSeen.{DiskSeen, AreBlocks, HasBlocks, with_block}
-use Rattle.vm_core.specs.State.{extent_of, HoldsPages}
+use Rattle.one_file_core.specs.State.{extent_of, HoldsPages}
 use Rattle.sunvm.specs.Run.{filled, stored_bytes}
 use Rattle.sunvm.specs.Opening.{HasPages, AreBytesOf, IsOpened}
 use Rattle.sunvm.specs.Parts.{plan_info}

@@ -10,8 +10,8 @@ use Rattle.flat_model.specs.Parts.{file_bytes}
 use Rattle.flat_model.specs.Told.{ToldAlone}
 use Rattle.block_device.specs.DiskSeen.{DiskSeen, AreBlocks, HasBlocks, with_block}
 use Rattle.block_device.specs.StreamSeen.{SinkSeen}
-use Rattle.vm_core.specs.declared.history.DiskFault.{DiskFault}
-use Rattle.vm_core.specs.Closing.{HistorySeen, count_of}
+use Rattle.one_file_core.specs.declared.history.DiskFault.{DiskFault}
+use Rattle.one_file_core.specs.Closing.{HistorySeen, count_of}
 use Rattle.sunvm.specs.declared.ending.Ending.{Ending}
 use Rattle.sunvm.specs.declared.ending.Ending.TheVariants as ending
 use Rattle.sunvm.specs.declared.script.Plan as declared

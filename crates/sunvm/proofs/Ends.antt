@@ -13,8 +13,8 @@ use Rattle.block_device.specs.Counts.{HasRisen}
 use Rattle.block_device.specs.DiskSeen.{DiskSeen}
 use Rattle.block_device.specs.OpenSeen.{OpenFaultSeen}
 use Rattle.block_device.specs.StreamSeen.{SinkSeen, appended}
-use Rattle.vm_core.specs.declared.history.DiskFault.{DiskFault}
-use Rattle.vm_core.specs.Closing.{HistorySeen}
+use Rattle.one_file_core.specs.declared.history.DiskFault.{DiskFault}
+use Rattle.one_file_core.specs.Closing.{HistorySeen}
 use Rattle.sunvm.specs.declared.outcome.RunFault.{RunFault}
 use Rattle.sunvm.specs.declared.outcome.RunFault.TheVariants.{Opening, Closing, Showing}
 use Rattle.sunvm.specs.Report.{process_section}

@@ -4,9 +4,9 @@ use Rattle.std.specs.Prelude.{Option, Some, None, IfSome, IfNone, IsSome}
 use Rattle.flat_model.specs.Flat.{Flat}
 use Rattle.vnode_files.specs.declared.vnode.FileInfo.{FileInfo}
 use Rattle.block_device.specs.DiskSeen.{DiskSeen}
-use Rattle.vm_core.specs.declared.history.DiskFault.{DiskFault}
-use Rattle.vm_core.specs.State.{StateSeen, Fits, IsCleanOnDisk, disks_seen, blocks_of, info_of, HoldsPages}
-use Rattle.vm_core.specs.Closing.{HistorySeen, count_of, counts_of, KeepsOutside, AreSame, HoldsFile, IsFault}
+use Rattle.one_file_core.specs.declared.history.DiskFault.{DiskFault}
+use Rattle.one_file_core.specs.State.{StateSeen, Fits, IsCleanOnDisk, disks_seen, blocks_of, info_of, HoldsPages}
+use Rattle.one_file_core.specs.Closing.{HistorySeen, count_of, counts_of, KeepsOutside, AreSame, HoldsFile, IsFault}
 use Rattle.sunvm.specs.Run.{first_file}
 use Rattle.sunvm.specs.Playing.{IsDisk0, size_of}
 use Rattle.sunvm.specs.Parts.{Leaves, HoldsBytes, HasCount, IsLateFault}

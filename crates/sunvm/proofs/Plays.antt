@@ -29,8 +29,8 @@ use Rattle.flat_model.specs.History.{is_io}
 use Rattle.flat_model.proofs.Cuts.{map_push}
 use Rattle.flat_model.proofs.Mappings.{is_mapped, spaces-with_mapping}
 use Rattle.flat_model.proofs.Ranges.{get-insert_here}
-use Rattle.vm_core.specs.State.{StateSeen, flat, Fits}
-use Rattle.vm_core.specs.Calls.{IsKnown, entry_of}
+use Rattle.one_file_core.specs.State.{StateSeen, flat, Fits}
+use Rattle.one_file_core.specs.Calls.{IsKnown, entry_of}
 use Rattle.sunvm.specs.Plans.{IsLineCall}
 use Rattle.sunvm.specs.Parts.{Makes}
 use Rattle.sunvm.specs.Playing.{Going}

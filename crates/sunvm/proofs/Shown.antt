@@ -9,7 +9,7 @@ use Rattle.block_device.specs.Counts.{HasRisen}
 use Rattle.block_device.specs.DiskSeen.{DiskSeen, AreBlocks, HasBlocks}
 use Rattle.block_device.specs.StreamSeen.{SinkSeen}
 use Rattle.vm_types.specs.Pages.{bytes_before}
-use Rattle.vm_core.specs.declared.history.DiskFault.{DiskFault}
+use Rattle.one_file_core.specs.declared.history.DiskFault.{DiskFault}
 use Rattle.sunvm.specs.declared.showing.ShowStop.{ShowStop}
 use Rattle.sunvm.specs.declared.showing.ShowStop.TheVariants.{Memory, Sink, Fault}
 use Rattle.sunvm.specs.declared.ending.Ending.{Ending}

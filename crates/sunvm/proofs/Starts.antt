@@ -11,12 +11,12 @@ use Rattle.flat_model.proofs.Ranges.{get-insert_here}
 use Rattle.vnode_files.specs.declared.vnode.FileInfo.{FileInfo}
 use Rattle.vnode_files.specs.Files as vnode
 use Rattle.block_device.specs.DiskSeen.{DiskSeen}
-use Rattle.vm_core.specs.State.{StateSeen, flat, file_of, sizes_of, spaces_of, Fits, disks_seen, blocks_of, info_of, IsOnDisks, HoldsPages}
-use Rattle.vm_core.specs.Table.{cells}
+use Rattle.one_file_core.specs.State.{StateSeen, flat, file_of, sizes_of, spaces_of, Fits, disks_seen, blocks_of, info_of, IsOnDisks, HoldsPages}
+use Rattle.one_file_core.specs.Table.{cells}
 use Rattle.sunvm.specs.Script.{Plan}
 use Rattle.sunvm.specs.Run.{filled, opening}
-use Rattle.vm_core.specs.declared.history.DiskFault.{DiskFault}
-use Rattle.vm_core.specs.Closing.{HistorySeen}
+use Rattle.one_file_core.specs.declared.history.DiskFault.{DiskFault}
+use Rattle.one_file_core.specs.Closing.{HistorySeen}
 use Rattle.sunvm.specs.Ending.{IsPlayed}
 use Rattle.sunvm.specs.Playing.{IsDisk0, size_of}
 use Rattle.sunvm.specs.Parts.{plan_info, Makes, Leaves, HoldsBytes, HasCount, IsLateFault}

@@ -3,7 +3,7 @@ use Rattle.std.proofs.Common.{◌≡◌, ℕ, ◌-◌, ◌++◌, length, replica
 use Rattle.std.specs.Prelude.{◌≤◌}
 use Rattle.std.proofs.lemmas.List.{length-replicate}
 use Rattle.vm_types.specs.Words.{word_bytes}
-use Rattle.vm_core.specs.State.{extent_of}
+use Rattle.one_file_core.specs.State.{extent_of}
 use Rattle.vnode_files.specs.declared.vnode.FileInfo.{FileInfo}
 use Rattle.sunvm.specs.Table.{header, entry, mode_of, table}
 

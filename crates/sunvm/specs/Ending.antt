@@ -5,8 +5,8 @@ use Rattle.flat_model.specs.Words.{pages_in}
 use Rattle.block_device.specs.Counts.{HasRisen}
 use Rattle.block_device.specs.DiskSeen.{DiskSeen, with_block}
 use Rattle.block_device.specs.StreamSeen.{SinkSeen}
-use Rattle.vm_core.specs.declared.history.DiskFault.{DiskFault}
-use Rattle.vm_core.specs.Closing.{HistorySeen}
+use Rattle.one_file_core.specs.declared.history.DiskFault.{DiskFault}
+use Rattle.one_file_core.specs.Closing.{HistorySeen}
 use Rattle.sunvm.specs.declared.ending.Ending.{Ending}
 use Rattle.sunvm.specs.declared.ending.Ending.TheVariants as ending
 use Rattle.sunvm.specs.declared.outcome.RunFault.{RunFault}

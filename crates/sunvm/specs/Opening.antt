@@ -6,7 +6,7 @@ use Rattle.flat_model.specs.Parts.{pages_of_bytes}
 use Rattle.block_device.specs.Counts.{HasRisen}
 use Rattle.block_device.specs.DiskSeen.{DiskSeen}
 use Rattle.block_device.specs.OpenSeen.{OpenFaultSeen}
-use Rattle.vm_core.specs.State.{HoldsPages}
+use Rattle.one_file_core.specs.State.{HoldsPages}
 use Rattle.sunvm.specs.declared.opening.OpenStop.{OpenStop}
 use Rattle.sunvm.specs.declared.opening.OpenStop.TheVariants.{Memory, NotBlank, Fault}
 use Rattle.sunvm.specs.Script.{Plan}

@@ -10,9 +10,9 @@ use Rattle.vnode_files.specs.declared.vnode.FileInfo.{FileInfo}
 use Rattle.block_device.specs.Counts.{HasRisen}
 use Rattle.block_device.specs.DiskSeen.{DiskSeen}
 use Rattle.block_device.specs.StreamSeen.{SinkSeen}
-use Rattle.vm_core.specs.declared.history.DiskFault.{DiskFault}
-use Rattle.vm_core.specs.Closing.{HistorySeen, count_of}
-use Rattle.vm_core.specs.State.{HoldsPages}
+use Rattle.one_file_core.specs.declared.history.DiskFault.{DiskFault}
+use Rattle.one_file_core.specs.Closing.{HistorySeen, count_of}
+use Rattle.one_file_core.specs.State.{HoldsPages}
 use Rattle.sunvm.specs.declared.outcome.RunFault.{RunFault}
 use Rattle.sunvm.specs.declared.outcome.Outcome.{Outcome}
 use Rattle.sunvm.specs.Report.{process_section}

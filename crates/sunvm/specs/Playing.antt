@@ -4,7 +4,7 @@ use Rattle.vm_types.specs.declared.call.Call.{Call}
 use Rattle.flat_model.specs.Flat.{Flat, space_of}
 use Rattle.flat_model.specs.History.{is_io}
 use Rattle.block_device.specs.DiskSeen.{DiskSeen}
-use Rattle.vm_core.specs.State.{StateSeen, flat, Fits}
+use Rattle.one_file_core.specs.State.{StateSeen, flat, Fits}
 
 -- So many of the calls were made by process 1, which is alive. None met a device error, and files and disks are as they were.
 pub record Going (calls : List Call) (n : ℕ) (old new : StateSeen) : Type 0 where

@@ -1,7 +1,7 @@
 -- The table of a volume with one file, which fills block 0.
 use Rattle.std.specs.Prelude.{ℕ, ◌-◌, Bool, List, ◌++◌, length, codes, replicate, if◌then◌else◌}
 use Rattle.vm_types.specs.Words.{word_bytes}
-use Rattle.vm_core.specs.State.{extent_of}
+use Rattle.one_file_core.specs.State.{extent_of}
 use Rattle.vnode_files.specs.declared.vnode.FileInfo.{FileInfo}
 
 -- 1 for a file that may be written, and 0 for one that may not.

@@ -6,8 +6,8 @@ use crate::outcome::{Outcome, RunFault};
 use crate::report::push_counts;
 use crate::text::push_decimal_32;
 use block_device::{Disk, OpenFault, Sink, write_all};
+use one_file_core::{DiskFault, KernelHistory};
 use std::alloc::AllocError;
-use vm_core::{DiskFault, KernelHistory};
 
 /// Ends with an empty history, once the text is written as far as the sink takes it.
 pub fn early<K: Sink, D: Disk>(

@@ -18,8 +18,8 @@ use crate::running::one;
 use crate::script::Plan;
 use crate::showing::{ShowStop, show_pages};
 use block_device::{Disk, Sink, write_all};
+use one_file_core::DiskFault;
 use std::alloc::{AllocError, Global};
-use vm_core::DiskFault;
 use vm_types::Entry;
 
 /// How a run ended whose processes ran.

@@ -1,6 +1,6 @@
 //! How a run ended.
 use block_device::{Disk, OpenFault};
-use vm_core::{DiskFault, KernelHistory};
+use one_file_core::{DiskFault, KernelHistory};
 
 /// A fault of a device that ended a run.
 #[derive(Debug, Drop)]

@@ -2,13 +2,13 @@
 ghost use Rattle.std.specs.Prelude.{◌≡◌, ◌≤◌, ◌<◌, ◌+◌, ◌++◌, ◌∷◌, [], ℕ, length, map, All, OnOk, IfOk, IfSome, IfNone, IsSome, IsTrue};
 ghost use Rattle.vm_types.specs.declared.call.Call.TheVariants.{Exit};
 ghost use Rattle.flat_model.specs.Flat.{Flat, space_of};
-ghost use Rattle.vm_core.specs.State.{flat, Fits, info_of, extent_of, disks_seen, blocks_of};
+ghost use Rattle.one_file_core.specs.State.{flat, Fits, info_of, extent_of, disks_seen, blocks_of};
 ghost use Rattle.sunvm.specs.Plans.{IsPlanned};
 ghost use Rattle.sunvm.specs.Parts.{Makes, Leaves, HoldsBytes, HasCount, IsLateFault};
 ghost use Rattle.sunvm.specs.Playing.{Going, IsDisk0, size_of};
 
 use block_device::Disk;
-use vm_core::{DiskFault, KernelHistory, OutOfMemory, VmState};
+use one_file_core::{DiskFault, KernelHistory, OutOfMemory, VmState};
 use vm_types::Call;
 
 /// What is left of a kernel that made calls.

@@ -13,8 +13,8 @@ use crate::playing::{only, play};
 use crate::script::Plan;
 use crate::table::table_of;
 use block_device::{AttachFault, Disk, OpenFault, Rack, Sink, Spec, Unopened};
+use one_file_core::{Setup, VmState};
 use std::alloc::{AllocError, Global};
-use vm_core::{Setup, VmState};
 use vnode_files::{Extent, Extents, FileInfo, Files};
 
 const NOT_BLANK: &[u8] = b"setup: rule 9 disk 0 volume 13\n";

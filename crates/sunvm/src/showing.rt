@@ -9,8 +9,8 @@ ghost use Rattle.sunvm.specs.Showing.{page_text, IsPageStop, IsStop, Looks};
 
 use crate::report::push_bytes;
 use block_device::{Disk, Failed, Sink, write_all};
+use one_file_core::DiskFault;
 use std::alloc::{AllocError, Global};
-use vm_core::DiskFault;
 use vm_types::{bytes_before, pages_in};
 
 /// Why a section wasn't written.

@@ -2,7 +2,7 @@ use Rattle.std.proofs.Common.{List, [], ◌∷◌, sym, subst, refl}
 use Rattle.std.specs.Prelude.{All, Option, IfSome, IsTrue}
 use Rattle.vm_types.specs.declared.call.Entry.{Entry}
 use Rattle.vm_types.specs.WellFormed.{IsWellFormed}
-use Rattle.vm_core.specs.declared.history.DiskFault.{DiskFault}
+use Rattle.one_file_core.specs.declared.history.DiskFault.{DiskFault}
 use Rattle.sunvm.specs.Plans.{plan_seen}
 use Rattle.sunvm.specs.Parts.{IsLateFault}
 use Rattle.sunvm.specs.Ending.{IsPlayed, IsClosingEnd, IsReport}

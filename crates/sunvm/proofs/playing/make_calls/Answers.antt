@@ -1,4 +1,4 @@
-use Rattle.vm_core.specs.Calls.{reply_of}
+use Rattle.one_file_core.specs.Calls.{reply_of}
 use Rattle.sunvm.proofs.Plays.{exit_makes}
 use Rattle.sunvm.proofs.playing.make_calls.Goals as goal
 

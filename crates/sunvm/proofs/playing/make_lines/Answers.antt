@@ -1,7 +1,7 @@
 use Rattle.std.proofs.Common.{◌<◌, ◌∷◌, ◌++◌, [], length, take, sym, ap, subst, ◌∙◌}
 use Rattle.std.proofs.lemmas.List.{take_more}
 use Rattle.vm_types.specs.declared.call.Call.{Call}
-use Rattle.vm_core.specs.Calls.{reply_of}
+use Rattle.one_file_core.specs.Calls.{reply_of}
 use Rattle.sunvm.specs.Plans.{IsPlanned}
 use Rattle.sunvm.proofs.Plays.{going_on}
 use Rattle.sunvm.proofs.playing.make_lines.Goals as goal

@@ -3,8 +3,8 @@ use Rattle.std.specs.Prelude.{IfSome, IfNone, IsSome}
 use Rattle.vm_types.specs.declared.call.Entry.{Entry}
 use Rattle.vnode_files.specs.Files.{FilesSeen, vnode_at}
 use Rattle.block_device.specs.DiskSeen.{DiskSeen}
-use Rattle.vm_core.specs.State.{info_of, extent_of, blocks_of, disks_seen}
-use Rattle.vm_core.specs.Closing.{AreSame, KeepsOutside, IsFault}
+use Rattle.one_file_core.specs.State.{info_of, extent_of, blocks_of, disks_seen}
+use Rattle.one_file_core.specs.Closing.{AreSame, KeepsOutside, IsFault}
 use Rattle.sunvm.specs.Parts.{Leaves, HoldsBytes}
 use Rattle.sunvm.specs.Playing.{IsDisk0, size_of}
 use Rattle.sunvm.proofs.Finishes.{still_one, one_seen, closed_size, closed_count, closed_faults, closed_told, leaves_of, holds_of}
