@@ -1,3 +1,5 @@
 pub mod PageLaws
 pub mod PartLemmas
 pub mod SpanLemmas
+pub mod Totals
+pub mod PartLists

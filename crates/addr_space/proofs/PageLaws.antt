@@ -68,7 +68,7 @@ module _ {T : Type 0} where
     ]
   ]
 
-  get-with_pages : (m : map.FinMap nat_cmp (T × ℕ)) (p : Part T) (n q : ℕ) → map.get (with_pages m p n) q ≡ cond (has (part p.first n p.piece) q) (Some (p.piece, q - p.first)) (map.get m q)
+  pub get-with_pages : (m : map.FinMap nat_cmp (T × ℕ)) (p : Part T) (n q : ℕ) → map.get (with_pages m p n) q ≡ cond (has (part p.first n p.piece) q) (Some (p.piece, q - p.first)) (map.get m q)
   get-with_pages m p zero q = ap (λ (b : Bool). cond b (Some (p.piece, q - p.first)) (map.get m q)) (sym (elim (cases_lt q p.first) [ inl l ↦ has-before (part p.first 0 p.piece) q l | inr g ↦ has-past (part p.first 0 p.piece) q (omega arith) ]))
   get-with_pages m p (suc n) q = insert-at (with_pages m p n) (p.first + n) (p.piece, n) q ∙ elim (cases_eq q (p.first + n)) [
     | inl e ↦

@@ -1,7 +1,7 @@
 -- How the spans and the pieces are kept: two lists of one length, by rising page. Inside: no public clause cites this.
 use Rattle.std.specs.Prelude.{◌≡◌, ℕ, ◌+◌, ◌<◌, ◌≤◌, ◌&&◌, nat_lt, nat_le, Bool, true, false, List, [], ◌∷◌, Option, Some, None, length, slice_index_or, zero, suc, if◌then◌else◌}
 use Rattle.addr_space.specs.declared.ranges.Span.{Span}
-use Rattle.addr_space.specs.Space.{Part, part, IsInOrder}
+use Rattle.addr_space.specs.Space.{Part, part, page_total, IsInOrder}
 
 -- each span with its piece
 abbrev pub joined : {T : Type 0} → List Span → List T → List (Part T)
@@ -17,6 +17,11 @@ count_below bound (s ∷ ss) = if nat_lt s.first bound then suc (count_below bou
 pub record IsSoundRanges {T : Type 0} (spans : List Span) (pieces : List T) : Type 0 where
   pub lengths : length spans ≡ length pieces
   pub ordered : IsInOrder 1 (joined spans pieces)
+
+-- the total is that of the pieces' pages
+pub record IsCountedRanges {T : Type 0} (spans : List Span) (pieces : List T) (total : ℕ) : Type 0 where
+  pub sound : IsSoundRanges spans pieces
+  pub counted : total ≡ page_total (joined spans pieces)
 
 -- the span has the page
 abbrev pub covers : Span → ℕ → Bool

@@ -1,5 +1,5 @@
 -- What a contract sees of an address space: its pieces by rising page, and the room that is kept for more. Public clauses cite this.
-use Rattle.std.specs.Prelude.{◌≡◌, ℕ, ◌+◌, ◌-◌, ◌<◌, ◌≤◌, ◌==◌, ◌&&◌, nat_lt, nat_le, Bool, List, [], ◌∷◌, Option, Some, None, IsSome, if◌then◌else◌, find, option_map, refl}
+use Rattle.std.specs.Prelude.{◌≡◌, ℕ, ◌+◌, ◌-◌, ◌<◌, ◌≤◌, ◌==◌, ◌&&◌, nat_lt, nat_le, Bool, List, [], ◌∷◌, Option, Some, None, IsSome, if◌then◌else◌, find, option_map, sum_by, refl}
 use Rattle.std.specs.Coded.{Coded, code_by, coded×, coded_ℕ, coded_list}
 
 -- a piece with its first page and its number of pages
@@ -48,6 +48,10 @@ module _ {T : Type 0} where
   -- the first page of the first part that isn't below the page
   abbrev pub next_first : List (Part T) → ℕ → Option ℕ
   next_first parts page = option_map (λ p. p.first) (find (λ p. nat_le page p.first) parts)
+
+  -- how many pages the parts have
+  abbrev pub page_total : List (Part T) → ℕ
+  page_total parts = sum_by (λ p. p.pages) parts
 
   -- a part has a page, lies at or behind `low`, and ends below page 0x80000
   pub record IsPlaced (low : ℕ) (p : Part T) : Type 0 where

@@ -6,7 +6,9 @@ ghost use Rattle.addr_space.specs.Pages.{pages_of};
 
 use crate::ranges::Ranges;
 
-/// The finite map of a space has at each page what its parts show there.
+/// The finite map of a space has at each page what its parts show there, and as many keys as the parts have pages.
 pub fn pages_law(ranges: &Ranges<u32>)
-    ensures { (q : ℕ) → map.get (pages_of ranges.now.parts) q ≡ space.at ranges.now.parts q }
+    ensures shows { (q : ℕ) → map.get (pages_of ranges.now.parts) q ≡ space.at ranges.now.parts q }
+    ensures count { space.IsInOrder 1 ranges.now.parts
+        → map.len (pages_of ranges.now.parts) ≡ space.page_total ranges.now.parts }
 {}

@@ -1,7 +1,7 @@
 //! Pieces by page, in two vectors of one length: where each piece lies, and the piece.
 ghost use Rattle.std.specs.Prelude.{◌≡◌, ℕ, ◌+◌, ◌-◌, ◌<◌, ◌≤◌, ◌&&◌, nat_le, if◌then◌else◌, [], length, Option, Some, None, MatchOption, IfSome, IsSome, IsSomeAnd, OnOk, option_map, insert, remove, vec_len, vec_capacity};
 ghost use Rattle.std.specs.Borrow.{sem};
-ghost use Rattle.addr_space.specs.Space.{part, has, at, part_at, begins, next_first, put, cut_at, without, upper_of, IsInOrder, FindsGap, FindsNext, FindsLast, with_piece};
+ghost use Rattle.addr_space.specs.Space.{part, has, at, part_at, begins, next_first, put, cut_at, without, upper_of, IsInOrder, FindsGap, FindsNext, FindsLast, with_piece, page_total};
 ghost use Rattle.addr_space.specs.Inside.{count_below, SpansRise, FindsHolder, FindsFirst, gap_in_spans};
 
 use std::alloc::{AllocError, Global};
@@ -25,6 +25,7 @@ struct Span {
 pub struct Ranges<T> {
     spans: Vec<Span>,
     pieces: Vec<T>,
+    total: u32,
 }
 
 impl<T> Model for Ranges<T> {
@@ -35,14 +36,14 @@ impl<T> Model for Ranges<T> {
 
     ghost coded = { space_code T.code };
 
-    ghost use Rattle.addr_space.specs.Inside.{joined, IsSoundRanges};
+    ghost use Rattle.addr_space.specs.Inside.{joined, IsCountedRanges};
 
     ghost view = { λ r. record {
       parts = joined r.spans.items r.pieces.items;
       spare = min (vec_capacity r.spans - vec_len r.spans) (vec_capacity r.pieces - vec_len r.pieces);
     } };
 
-    ghost invariant = { λ r. IsSoundRanges r.spans.items r.pieces.items };
+    ghost invariant = { λ r. IsCountedRanges r.spans.items r.pieces.items r.total };
 }
 
 // How many spans at the front begin below the bound.
@@ -117,6 +118,7 @@ impl<T> Ranges<T> {
         Ranges {
             spans: Vec::new(alloc),
             pieces: Vec::new(alloc),
+            total: 0,
         }
     }
 
@@ -204,6 +206,7 @@ impl<T> Ranges<T> {
         let place = count_from(&self.spans, u64::from(page));
         insert_within(&mut self.spans, place, Span { first: page, pages });
         insert_within(&mut self.pieces, place, piece);
+        self.total += pages;
     }
 
     /// Cuts the piece that has this page in two before it: the piece keeps its pages below, and
@@ -254,8 +257,17 @@ impl<T> Ranges<T> {
         ensures spare { self.old.spare ≤ self.new.spare }
     {
         let place = place_from(&self.spans, page)?;
-        self.spans.remove(place);
+        let span = self.spans.remove(place);
+        self.total -= span.pages;
         Some(self.pieces.remove(place))
+    }
+
+    /// How many pages the pieces have. Constant time.
+    pub fn pages(&self) -> u32
+        ensures total { result ≡ page_total self.now.parts }
+        ensures ordered { IsInOrder 1 self.now.parts }
+    {
+        self.total
     }
 
     /// The least page from 1 on from which so many pages are free and lie below page 0x80000.

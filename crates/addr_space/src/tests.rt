@@ -18,6 +18,7 @@ fn pieces_are_found_cut_and_taken_out(rt: HostRuntime) -> Result<(), Fail> {
     // Pages 4 to 7, then 10 and 11 behind a hole.
     ranges.insert(4, 4, 40);
     ranges.insert(10, 2, 100);
+    assert_eq!(rt; ranges.pages(), 6);
     let looks = [
         (3, None),
         (4, Some((4, 4, 40))),
@@ -57,6 +58,7 @@ fn pieces_are_found_cut_and_taken_out(rt: HostRuntime) -> Result<(), Fail> {
     }
 
     ranges.split_at(6, 60);
+    assert_eq!(rt; ranges.pages(), 6);
     let halves = [
         (4, Some((4, 2, 40))),
         (5, Some((4, 2, 40))),
@@ -80,6 +82,7 @@ fn pieces_are_found_cut_and_taken_out(rt: HostRuntime) -> Result<(), Fail> {
 
     assert_eq!(rt; ranges.remove(5), None);
     assert_eq!(rt; ranges.remove(4), Some(40));
+    assert_eq!(rt; ranges.pages(), 4);
     assert_eq!(rt; ranges.remove(4), None);
     assert_eq!(rt; ranges.gap(5), Some(1));
     assert_eq!(rt; found(&ranges, 6), Some((6, 2, 61)));

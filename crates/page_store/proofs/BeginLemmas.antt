@@ -100,7 +100,7 @@ module _ (s : StoreSeen) (f : FlightSeen) (sound : IsSoundStore s) (next : next_
         rows = length-set s.rows f.frame (held_row clear_row f.seat);
         clock = refl;
         bays = length-set s.bays f.number (out f.seat);
-        order = order-set s.bays s.order f.number (out f.seat) bay_within (λ q. cc) sound.order;
+        order = order-set s.bays s.order f.number (out f.seat) bay_within (λ q. let z : home f.disk ≡ missing = sym there ∙ q in cc) (λ q. cc) sound.order;
         distinct = distinct_now;
         lists = subst (λ (n : ℕ). AreApart (record { frames = n; free = rest_free s.free; cached = rest_cached s.free s.cached })) (sym (length-set s.frames f.frame None)) (rest-apart (length s.frames) s.free s.cached sound.lists);
         paired = paired-one s (with_read_begun s f.frame f.name f.seat f.number) f.frame one_fetched sound.paired (taken-snapshot s f.frame sound next) (taken-source s f.frame sound next) (ap (λ (r : Row). r.snapshot) row_now) (ap (λ (r : Row). r.source) row_now);
@@ -277,7 +277,7 @@ module _ (s : StoreSeen) (f : FlightSeen) (sound : IsSoundStore s) (next : next_
         rows = length-set s.rows f.frame (held_row (row_at s.rows f.frame) f.seat);
         clock = refl;
         bays = length-set s.bays f.number (out f.seat);
-        order = order-set s.bays s.order f.number (out f.seat) bay_in (λ q. cc) sound.order;
+        order = order-set s.bays s.order f.number (out f.seat) bay_in (λ q. let z : home f.disk ≡ missing = sym there ∙ q in cc) (λ q. cc) sound.order;
         distinct = sound.distinct;
         lists = subst (λ (n : ℕ). AreApart (record { frames = n; free = s.free; cached = s.cached })) (sym (length-set s.frames f.frame None)) sound.lists;
         paired = paired-one s (with_page_sent s f.frame f.seat f.number) f.frame one_sent sound.paired single own_source (ap (λ (r : Row). r.snapshot) row_sent ∙ single) (ap (λ (r : Row). r.source) row_sent ∙ own_source);
@@ -530,7 +530,7 @@ module _ (s : StoreSeen) (f : FlightSeen) (own : ℕ) (sound : IsSoundStore s) (
         rows = two-length s.rows own f.frame (record (row_at s.rows own) { snapshot = Some f.frame; rewritten = false }) (record clear_row { holder = Some f.seat; source = Some own }) copy_apart own_row_in (taken-row s f.frame sound next);
         clock = refl;
         bays = length-set s.bays f.number (out f.seat);
-        order = order-set s.bays s.order f.number (out f.seat) bay_in_copied (λ q. cc) sound.order;
+        order = order-set s.bays s.order f.number (out f.seat) bay_in_copied (λ q. let z : home f.disk ≡ missing = sym there ∙ q in cc) (λ q. cc) sound.order;
         distinct = distinct_copied;
         lists = subst (λ (n : ℕ). AreApart (record { frames = n; free = rest_free s.free; cached = rest_cached s.free s.cached })) (sym (length-set s.frames f.frame None)) (rest-apart (length s.frames) s.free s.cached sound.lists);
         paired = paired_copied;

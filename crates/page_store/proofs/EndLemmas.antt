@@ -168,7 +168,7 @@ module _ (s : StoreSeen) (f : FlightSeen) (sound : IsSoundStore s) (held : (row_
         rows = length-set s.rows f.frame (landed_row (row_at s.rows f.frame) (is_dirty f.outcome));
         clock = refl;
         bays = length-set s.bays f.number (home f.disk);
-        order = order-set s.bays s.order f.number (home f.disk) bay_in (λ q. cc) sound.order;
+        order = order-set s.bays s.order f.number (home f.disk) bay_in (λ q. let z : out f.seat ≡ missing = sym gone ∙ q in cc) (λ q. cc) sound.order;
         distinct = sound.distinct;
         lists = subst (λ (n : ℕ). AreApart (record { frames = n; free = s.free; cached = s.cached })) (sym (length-set s.frames f.frame (Some f.bytes))) sound.lists;
         paired = paired-one s (with_flight_landed s f false) f.frame (one-landed false) sound.paired unlinked unsourced (ap (λ (r : Row). r.snapshot) kept_row ∙ unlinked) (ap (λ (r : Row). r.source) kept_row ∙ unsourced);
@@ -187,7 +187,7 @@ module _ (s : StoreSeen) (f : FlightSeen) (sound : IsSoundStore s) (held : (row_
         rows = length-set s.rows f.frame clear_row;
         clock = refl;
         bays = length-set s.bays f.number (home f.disk);
-        order = order-set s.bays s.order f.number (home f.disk) bay_in (λ q. cc) sound.order;
+        order = order-set s.bays s.order f.number (home f.disk) bay_in (λ q. let z : out f.seat ≡ missing = sym gone ∙ q in cc) (λ q. cc) sound.order;
         distinct = distinct-landed true;
         lists = freed;
         paired = paired-one s (with_flight_landed s f true) f.frame (one-landed true) sound.paired unlinked unsourced (ap (λ (r : Row). r.snapshot) free_row) (ap (λ (r : Row). r.source) free_row);

@@ -1,5 +1,5 @@
 -- A new store.
-use Rattle.std.proofs.Common.{◌≡◌, ◌≢◌, ℕ, ◌+◌, ◌<◌, ◌≤◌, inl, inr, List, [], ◌∷◌, Option, Some, None, zero, suc, refl, sym, ◌∙◌, ap, subst, arith, length, get_or, set, replicate, IsSome}
+use Rattle.std.proofs.Common.{◌≡◌, ◌≢◌, ℕ, ◌+◌, ◌<◌, ◌≤◌, ◌⊎◌, inl, inr, List, [], ◌∷◌, Option, Some, None, zero, suc, refl, sym, ◌∙◌, ap, subst, arith, length, get_or, set, replicate, IsSome}
 use Rattle.std.specs.Prelude.{slice_index, ◌^◌, ◌/◌, option_map}
 use Rattle.std.specs.List.{range_with_len}
 use Rattle.std.proofs.lemmas.List.{get_or-set_same, get_or-set_other, length-replicate}
@@ -77,6 +77,21 @@ pub whole-swap : (swap : Option DiskSeen) → ((d : DiskSeen) → swap ≡ Some 
 whole-swap None law d h = cc
 whole-swap (Some x) law d h = let z : x ≡ d = cc in subst (λ (y : DiskSeen). HasBlocks y.content y.size) z (law x refl)
 
+unnumbered : (x : ℕ) (xs : List ℕ) (k : ℕ) → x ≢ k → ((i : ℕ) → i < length xs → slice_index xs i ≢ k) → (i : ℕ) → i < length (x ∷ xs) → slice_index (x ∷ xs) i ≢ k
+unnumbered x xs k ne none zero lt e = ne e
+unnumbered x xs k ne none (suc i) lt e = none i (omega (arith, lt)) e
+
+-- a number is one of a list, or none of it
+numbered : (xs : List ℕ) (k : ℕ) → ((i : ℕ) × (i < length xs) × (slice_index xs i ≡ k)) ⊎ ((i : ℕ) → i < length xs → slice_index xs i ≢ k)
+numbered [] k = inr (λ i lt. absurd (omega (arith, lt)))
+numbered (x ∷ xs) k = elim (cases_eq x k) [
+  | inl e ↦ inl (0, omega arith, e)
+  | inr ne ↦ elim (numbered xs k) [
+    | inl at ↦ let lt = at.1 in inl (suc at.0, omega (arith, lt), at.2)
+    | inr none ↦ inr (unnumbered x xs k ne none)
+  ]
+]
+
 module _ (disks : List (ℕ × DiskSeen)) (swap : Option DiskSeen) (are : AreNumbers (numbers_of disks)) where
   low : (i : ℕ) (d : ℕ × DiskSeen) → i < length disks → (get_or disks i d).0 < 8
   low i d lt = let long = length-numbers disks in subst (λ (n : ℕ). n < 8) (number-at disks i d lt) (are.below i (omega (arith, lt, long)))
@@ -91,6 +106,10 @@ module _ (disks : List (ℕ × DiskSeen)) (swap : Option DiskSeen) (are : AreNum
   pub order-there : IsOrder (set (bays_with disks (replicate 9 missing)) 8 (bay_of swap)) (numbers_of disks)
   order-there = record {
     numbers = are;
+    all = λ number low is. elim (numbered (numbers_of disks) number) [
+      | inl at ↦ at
+      | inr none ↦ absurd (is (are-home.others number (omega (arith, low)) (λ i lt. let long = length-numbers disks in none i (omega (arith, lt, long)))))
+    ];
     there = λ i lt e.
         let long = length-numbers disks in
         let within : i < length disks = omega (arith, lt, long) in

@@ -31,9 +31,13 @@ out-within (b ∷ more) zero t h = omega arith
 out-within (b ∷ more) (suc k) t h = let r = out-within more k t h in omega arith
 
 -- the disks in order are still there once a bay that was there is another that is there
-pub order-set : (bays : List BaySeen) (order : List ℕ) (k : ℕ) (b : BaySeen) → k < length bays → b ≢ missing → IsOrder bays order → IsOrder (set bays k b) order
-order-set bays order k b lt there was = record {
+pub order-set : (bays : List BaySeen) (order : List ℕ) (k : ℕ) (b : BaySeen) → k < length bays → bay_at bays k ≢ missing → b ≢ missing → IsOrder bays order → IsOrder (set bays k b) order
+order-set bays order k b lt here there was = record {
   numbers = was.numbers;
+  all = λ number low is. elim (cases_eq number k) [
+    | inl q ↦ was.all number low (λ gone. here (ap (bay_at bays) (sym q) ∙ gone))
+    | inr ne ↦ was.all number low (λ gone. is (get_or-set_other bays k number b missing ne ∙ gone))
+  ];
   there = λ i within e. elim (cases_eq (slice_index order i) k) [
     | inl q ↦ there (sym (get_or-set_same bays k b missing lt) ∙ subst (λ (j : ℕ). bay_at (set bays k b) j ≡ missing) q e)
     | inr ne ↦ was.there i within (sym (get_or-set_other bays k (slice_index order i) b missing ne) ∙ e)

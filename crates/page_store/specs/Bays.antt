@@ -63,6 +63,12 @@ abbrev pub bays_with : List (ℕ × DiskSeen) → List BaySeen → List BaySeen
 bays_with [] bays = bays
 bays_with (disk ∷ more) bays = slice_set (bays_with more bays) disk.0 (home disk.1)
 
+-- how many faults a disk that is home has counted
+abbrev pub home_faults : BaySeen → Option ℕ
+home_faults missing = None
+home_faults (home disk) = Some disk.faults
+home_faults (out seat) = None
+
 -- a bay with or without a disk
 abbrev pub bay_of : Option DiskSeen → BaySeen
 bay_of None = missing

@@ -73,10 +73,11 @@ pub record ArePaired (s : StoreSeen) : Type 0 where
   pub named : (own copy : ℕ) → (row_at s.rows own).snapshot ≡ Some copy → IsSome (name_at s.names own)
   pub unlisted : (own copy : ℕ) → (row_at s.rows own).snapshot ≡ Some copy → ¬ IsListedFrame s own
 
--- the disks of these numbers are there
+-- the disks of these numbers are there, and no other below 8
 pub record IsOrder (bays : List BaySeen) (order : List ℕ) : Type 0 where
   pub numbers : AreNumbers order
   pub there : (i : ℕ) → i < length order → bay_at bays (slice_index order i) ≢ missing
+  pub all : (number : ℕ) → number < 8 → bay_at bays number ≢ missing → (i : ℕ) × (i < length order) × (slice_index order i ≡ number)
 
 -- What holds of every store: the parts have as many frames, no two frames hold one name, each frame agrees with its name
 -- and row, pages and snapshots are paired, no frame is on two lists, a listed frame is home, the home frames without a name

@@ -1,7 +1,7 @@
 //! The disks by number, each at home or out with a seat.
 ghost use Rattle.std.specs.Prelude.{◌≡◌, ◌≢◌, ℕ, ◌<◌, List, length, slice_set, MatchOption, IfOk, replicate};
 ghost use Rattle.block_device.specs.DiskSeen.{DiskSeen};
-ghost use Rattle.page_store.specs.Bays.{bay_at, home, out, missing, IsStill};
+ghost use Rattle.page_store.specs.Bays.{bay_at, home, out, missing, home_faults, IsStill};
 
 use block_device::Disk;
 use std::alloc::{AllocError, Global};
@@ -79,6 +79,18 @@ impl<D: Disk> Bays<D> {
             Bay::Home(disk) => Some(disk),
             Bay::Missing => None,
             Bay::Out(_) => unreachable!(),
+        }
+    }
+
+    /// How many faults a disk that is home has counted; None where none is home under this number.
+    pub fn faults(&self, number: u32) -> Option<u64>
+        requires { number < length self.now }
+        ensures { result ≡ home_faults (bay_at self.now number) }
+    {
+        match &self.bays[number as usize] {
+            Bay::Home(disk) => Some(disk.faults()),
+            Bay::Missing => None,
+            Bay::Out(_) => None,
         }
     }
 

@@ -1,9 +1,9 @@
 //! A page on its way to or from its disk.
-ghost use Rattle.std.specs.Prelude.{◌≡◌, ℕ, ◌+◌, ◌<◌, ◌≤◌, true, false, length};
+ghost use Rattle.std.specs.Prelude.{◌≡◌, ◌↔◌, ℕ, ◌+◌, ◌<◌, ◌≤◌, true, false, length, IsTrue};
 ghost use Rattle.block_device.specs.Counts.{HasRisen, HasCause};
 ghost use Rattle.block_device.specs.DiskSeen.{Writes, DiskSeen};
 ghost use Rattle.page_store.specs.Bytes.{clipped};
-ghost use Rattle.page_store.specs.Flight.{IsPerformed, note_of, fresh, outcome_of, IsReadClipped};
+ghost use Rattle.page_store.specs.Flight.{IsPerformed, note_of, fresh, failed, outcome_of, IsReadClipped};
 ghost use Rattle.page_store.specs.Seen.{StoreSeen};
 ghost use Rattle.page_store.specs.Out.{IsFlightOf};
 
@@ -83,6 +83,13 @@ impl<D: Disk> Flight<D> {
         };
         whole(&self.frame);
         result
+    }
+
+    /// Whether the transfer was made and failed.
+    pub fn has_failed(&self) -> bool
+        ensures { IsTrue result ↔ (self.now.outcome ≡ failed) }
+    {
+        matches!(self.stage, Stage::Failed)
     }
 
     /// The disk's number, and its count of faults before the transfer and now.

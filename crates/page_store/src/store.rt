@@ -6,7 +6,7 @@ ghost use Rattle.page_clock.specs.Clock.{next_pick, stepped, place_of};
 ghost use Rattle.page_hash.specs.Names.{name_at, find};
 ghost use Rattle.page_hash.specs.declared.PageName.{PageName};
 ghost use Rattle.page_lock.specs.Rows.{row_at, with_bits};
-ghost use Rattle.page_store.specs.Bays.{bay_at, home, missing};
+ghost use Rattle.page_store.specs.Bays.{bay_at, home, missing, home_faults};
 ghost use Rattle.page_store.specs.Laws.{StaysInPlace};
 ghost use Rattle.page_store.specs.Moves.{only};
 ghost use Rattle.page_store.specs.Notes.{Notes};
@@ -207,6 +207,14 @@ impl<D: Disk> Store<D> {
         ensures laws { StaysInPlace self.old self.new (only None) }
     {
         self.clock.step()
+    }
+
+    /// How many faults a disk that is home has counted, by its number, which is 8 for the swap disk; None where none is home.
+    pub fn faults(&self, disk: u32) -> Option<u64>
+        requires { disk < 9 }
+        ensures { result ≡ home_faults (bay_at self.now.bays disk) }
+    {
+        self.bays.faults(disk)
     }
 
     /// What a plan waits for, if it does: the seat that holds the page's lock, or the seat that has the disk.

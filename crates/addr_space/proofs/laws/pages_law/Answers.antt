@@ -1,5 +1,6 @@
 use Rattle.addr_space.proofs.PageLaws.{get-pages_of}
+use Rattle.addr_space.proofs.Totals.{len-pages_of}
 use Rattle.addr_space.proofs.laws.pages_law.Goals as goal
 
 pub returns : goal.returns
-returns c = λ q. get-pages_of c.args.ranges.now.parts q
+returns c = record { shows = λ q. get-pages_of c.args.ranges.now.parts q; count = λ order. len-pages_of 1 c.args.ranges.now.parts order }

@@ -6,7 +6,7 @@ use Rattle.addr_space.proofs.SpanLemmas.{counted, sound-rise, none-last, finds-l
 use Rattle.addr_space.proofs.ranges.Ranges.last.Goals as goal
 
 pub count_from-requires : goal.count_from-requires
-count_from-requires g c = subst (λ (ss : List Span). SpansRise 1 ss) (sym c.deref.ensures.value) (sound-rise c.self.inside.spans.items c.self.inside.pieces.items c.self.invariant)
+count_from-requires g c = subst (λ (ss : List Span). SpansRise 1 ss) (sym c.deref.ensures.value) (sound-rise c.self.inside.spans.items c.self.inside.pieces.items c.self.invariant.sound)
 
 pub returns-in_err-place : goal.returns-in_err-place
 returns-in_err-place g c =
@@ -14,7 +14,7 @@ returns-in_err-place g c =
     let e = counted c.deref.result.now c.self.inside.spans.items c.args.page c.from.result c.count_from.result c.deref.ensures.value c.from.ensures c.count_from.ensures in
     let z : c.count_from.result ≡ 0 = omega (arith, c.in_err-place.ensures) in
     subst (λ (r : Option _). FindsLast c.args.self.now.parts c.args.page r) (sym c.from_residual.ensures)
-    (subst (λ (ps : List (Part g.row.T.Denot)). FindsLast ps c.args.page None) v (none-last 1 c.self.inside.spans.items c.self.inside.pieces.items c.args.page c.self.invariant.lengths c.self.invariant.ordered (sym e ∙ z)))
+    (subst (λ (ps : List (Part g.row.T.Denot)). FindsLast ps c.args.page None) v (none-last 1 c.self.inside.spans.items c.self.inside.pieces.items c.args.page c.self.invariant.sound.lengths c.self.invariant.sound.ordered (sym e ∙ z)))
 
 pub index-requires : goal.index-requires
 index-requires g c =
@@ -30,4 +30,4 @@ returns g c =
     let p = c.in_ok-place.ensures in
     let k : count_below c.args.page c.self.inside.spans.items ≡ suc c.in_ok-place.place = omega arith in
     subst (λ (ps : List (Part g.row.T.Denot)). FindsLast ps c.args.page (Some c.index.result.now.first)) v
-    (finds-last 1 c.self.inside.spans.items c.self.inside.pieces.items c.args.page c.in_ok-place.place c.index.result.now c.self.invariant.lengths c.self.invariant.ordered k c.index.ensures)
+    (finds-last 1 c.self.inside.spans.items c.self.inside.pieces.items c.args.page c.in_ok-place.place c.index.result.now c.self.invariant.sound.lengths c.self.invariant.sound.ordered k c.index.ensures)
