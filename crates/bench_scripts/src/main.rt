@@ -1,7 +1,8 @@
 //! Reads the script on standard input, and prints the report of a history that answers each of its
 //! lines at once: the instructions of a run tell what reading and printing cost.
 //!
-//! With the argument `read` it prints the number of the plan's lines alone.
+//! With the argument `read` it prints the number of the plan's lines alone, and with `answer` the
+//! number of the history's entries.
 #![tactic(auto)]
 
 use std::alloc::{AllocError, Global};
@@ -51,29 +52,38 @@ fn history_of(alloc: Global, plan: &Plan) -> Result<Vec<Entry>, AllocError> {
     Ok(history)
 }
 
-/// The sections of a plan with a history that answers its lines.
-fn report_of(alloc: Global, plan: &Plan) -> Result<Vec<u8>, AllocError> {
-    let history = history_of(alloc, plan)?;
+/// The sections of a plan with this history.
+fn report_of(alloc: Global, plan: &Plan, history: &[Entry]) -> Result<Vec<u8>, AllocError> {
     let mut out = Vec::new(alloc);
     let is_small = history.len() < 2_000_000 && plan.parents().len() < 2_000_000;
-    if is_small && are_well_formed(&history) {
-        process_sections(plan, &history, &mut out)?;
+    if is_small && are_well_formed(history) {
+        process_sections(plan, history, &mut out)?;
     }
     Ok(out)
 }
 
+fn is_word(word: &Option<String>, text: &str) -> bool {
+    match word {
+        Some(word) => word.as_str() == text,
+        None => false,
+    }
+}
+
 fn main(rt: HostRuntime) -> io::Result<()> {
-    let only_reads = env::args(&rt)?.nth(1).is_some();
+    let word = env::args(&rt)?.nth(1);
     let mut text = Vec::new(rt.alloc());
     rt.reader().read_to_end(&mut text)?;
-    match parse(rt.alloc(), &text)? {
-        Ok(plan) => {
-            if only_reads {
-                return println!(rt; "{}", plan.lines().len());
-            }
-            let out = report_of(rt.alloc(), &plan)?;
-            io::writer(&rt).write_all(&out)
-        }
-        Err(fault) => println!(rt; "script: line {}", fault.line),
+    let plan = match parse(rt.alloc(), &text)? {
+        Ok(plan) => plan,
+        Err(fault) => return println!(rt; "script: line {}", fault.line),
+    };
+    if is_word(&word, "read") {
+        return println!(rt; "{}", plan.lines().len());
     }
+    let history = history_of(rt.alloc(), &plan)?;
+    if is_word(&word, "answer") {
+        return println!(rt; "{}", history.len());
+    }
+    let out = report_of(rt.alloc(), &plan, &history)?;
+    io::writer(&rt).write_all(&out)
 }

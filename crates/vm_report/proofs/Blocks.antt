@@ -1,19 +1,21 @@
 -- What the lines of a block print, and the sections of all blocks.
-use Rattle.std.proofs.Common.{◌≡◌, ℕ, zero, suc, ◌≤◌, ◌<◌, ◌+◌, ◌==◌, Bool, List, [], ◌∷◌, ◌++◌, length, map, take, drop, Option, Some, None, refl, sym, ap, ap₂, ◌∙◌, subst, cond, get_or, append_assoc, arith, Bor, ⊎_elim}
+use Rattle.std.proofs.Common.{◌≡◌, ℕ, zero, suc, ◌≤◌, ◌<◌, ◌+◌, ◌==◌, Bool, true, false, List, [], ◌∷◌, ◌++◌, length, map, take, drop, Option, Some, None, refl, sym, ap, ap₂, ◌∙◌, subst, cond, get_or, append_assoc, arith, Bor, ⊎_elim}
 use Rattle.std.specs.Prelude.{All, filter}
 use Rattle.std.specs.List.{list_any}
 use Rattle.std.proofs.lemmas.Bool.{cases_Bool}
-use Rattle.std.proofs.lemmas.List.{drop_more, drop-drop, get_or_read, get_or-map, length-map, take-map}
+use Rattle.std.proofs.lemmas.List.{drop_more, drop-drop, get_or_read, get_or-map, length-map}
 use Rattle.std.proofs.lemmas.List.Elements.{All-filter}
+use Rattle.vm_types.specs.declared.call.Call.TheVariants as call
 use Rattle.vm_types.specs.declared.call.Entry.{Entry}
-use Rattle.vm_types.specs.Parts.{ends_call}
+use Rattle.vm_types.specs.declared.call.Reply.TheVariants as reply
+use Rattle.vm_types.specs.Parts.{ends_call, next_part}
 use Rattle.vm_types.specs.WellFormed.{IsWellFormed}
 use Rattle.flat_model.specs.Told.{entries_of}
 use Rattle.vm_script.specs.declared.plan.PlanLine.{PlanLine}
 use Rattle.vm_script.specs.PlanSeen.{PlanSeen}
 use Rattle.vm_script.specs.Told.{own_lines, is_born, is_born_of, is_birth, parent_of}
 use Rattle.vm_report.specs.Groups.{is_born_by, is_born_option}
-use Rattle.vm_report.specs.Report.{call_length, entries_made, own_text, lines_text, process_section, section_text, sections_from}
+use Rattle.vm_report.specs.Report.{call_length, is_wait, entries_made, own_text, lines_text, process_section, section_text, sections_from}
 
 -- the element that a loop is at, as a list of borrowed elements shows it
 pub seen_at : {X Y : Type 0} (f : X → Y) (xs : List X) (i : ℕ) (x : X) → i < length xs → x ≡ get_or xs i x → f x ≡ get_or (map f xs) i (f x)
@@ -39,6 +41,27 @@ call_on xs i x b lt is ends =
     let inside : i < length (map (λ (e : Bor Entry). e.now) xs) = rw length-map lt in
     call_step (map (λ (e : Bor Entry). e.now) xs) i x.now b inside (seen_at (λ (e : Bor Entry). e.now) xs i x lt is) ends
 
+-- a line that is no wait, over an entry that ends its call, made that one
+one_made : (l : PlanLine) (xs : List (Bor Entry)) (x : Bor Entry) → 0 < length xs → x ≡ get_or xs 0 x → is_wait l.act ≡ false → ends_call x.now.call x.now.reply ≡ true
+    → 1 ≡ entries_made l (map (λ e. e.now) xs)
+one_made l xs x lt is calls ends = sym (ap (λ b. cond b 0 (call_length (map (λ (e : Bor Entry). e.now) xs))) calls ∙ call_on xs 0 x true lt is ends)
+
+load_ends : (a n v : ℕ) → ends_call (call.Load a n) (reply.Word v) ≡ true
+unfolding next_part
+load_ends a n v = refl
+
+pub load_made : (l : PlanLine) (xs : List (Bor Entry)) (x : Bor Entry) (a n v : ℕ) → 0 < length xs → x ≡ get_or xs 0 x → is_wait l.act ≡ false
+    → x.now.call ≡ call.Load a n → x.now.reply ≡ reply.Word v → 1 ≡ entries_made l (map (λ e. e.now) xs)
+load_made l xs x a n v lt is calls load word = one_made l xs x lt is calls (ap₂ ends_call load word ∙ load_ends a n v)
+
+store_ends : (a n v : ℕ) → ends_call (call.Store a n v) reply.Done ≡ true
+unfolding next_part
+store_ends a n v = refl
+
+pub store_made : (l : PlanLine) (xs : List (Bor Entry)) (x : Bor Entry) (a n v : ℕ) → 0 < length xs → x ≡ get_or xs 0 x → is_wait l.act ≡ false
+    → x.now.call ≡ call.Store a n v → x.now.reply ≡ reply.Done → 1 ≡ entries_made l (map (λ e. e.now) xs)
+store_made l xs x a n v lt is calls store done = one_made l xs x lt is calls (ap₂ ends_call store done ∙ store_ends a n v)
+
 -- one line more
 pub lines_more : (ls : List PlanLine) (i : ℕ) (l : PlanLine) (es own behind : List Entry) (out next all : List ℕ) → i < length ls → l ≡ get_or ls i l
     → own ≡ take (entries_made l es) es → behind ≡ drop (entries_made l es) es → next ≡ out ++ own_text l own
@@ -51,9 +74,6 @@ lines_more ls i l es own behind out next all lt is own_is behind_is more before 
     ∙ (append_assoc out (own_text l (take (entries_made l es) es)) (lines_text (drop (i + 1) ls) (drop (entries_made l es) es))
     ∙ (ap (λ t. out ++ t) (sym opened) ∙ before)))
 
-pub taken : {X Y : Type 0} (f : X → Y) (xs own : List X) (n m : ℕ) → own ≡ take n xs → n ≡ m → map f own ≡ take m (map f xs)
-taken f xs own n m is e = ap (map f) is ∙ (sym (take-map f n xs) ∙ ap (λ k. take k (map f xs)) e)
-
 drop-map : {X Y : Type 0} (f : X → Y) (n : ℕ) (xs : List X) → drop n (map f xs) ≡ map f (drop n xs)
 drop-map f zero xs = refl
 drop-map f (suc n) [] = refl
@@ -63,16 +83,15 @@ pub left_behind : {X Y : Type 0} (f : X → Y) (xs behind : List X) (n m : ℕ) 
 left_behind f xs behind n m is e = ap (map f) is ∙ (sym (drop-map f n xs) ∙ ap (λ k. drop k (map f xs)) e)
 
 -- the same in the terms of the loop over a block's lines
-pub lines_on : (ls : List PlanLine) (i : ℕ) (l : PlanLine) (xs left own : List (Bor Entry)) (begin count : ℕ) (out next all : List ℕ) → i < length ls → l ≡ get_or ls i l
-    → left ≡ drop begin xs → own ≡ take count left → count ≡ entries_made l (map (λ e. e.now) left) → next ≡ out ++ own_text l (map (λ e. e.now) own)
+pub lines_on : (ls : List PlanLine) (i : ℕ) (l : PlanLine) (xs left : List (Bor Entry)) (begin count : ℕ) (out next all : List ℕ) → i < length ls → l ≡ get_or ls i l
+    → left ≡ drop begin xs → count ≡ entries_made l (map (λ e. e.now) left) → next ≡ out ++ own_text l (take count (map (λ e. e.now) left))
     → out ++ lines_text (drop i ls) (drop begin (map (λ e. e.now) xs)) ≡ all → next ++ lines_text (drop (i + 1) ls) (drop (begin + count) (map (λ e. e.now) xs)) ≡ all
-lines_on ls i l xs left own begin count out next all lt is left_is own_is count_is more before =
+lines_on ls i l xs left begin count out next all lt is left_is count_is more before =
     let now : Bor Entry → Entry = λ e. e.now in
     let es_is : map now left ≡ drop begin (map now xs) = left_behind now xs left begin begin left_is refl in
-    let front : map now own ≡ take (entries_made l (map now left)) (map now left) = taken now left own count (entries_made l (map now left)) own_is count_is in
     let back : drop (begin + count) (map now xs) ≡ drop (entries_made l (map now left)) (map now left) =
     sym (drop-drop count begin (map now xs)) ∙ (ap (λ t. drop count t) (sym es_is) ∙ ap (λ k. drop k (map now left)) count_is) in
-    lines_more ls i l (map now left) (map now own) (drop (begin + count) (map now xs)) out next all lt is front back more
+    lines_more ls i l (map now left) (take count (map now left)) (drop (begin + count) (map now xs)) out next all lt is (ap (λ k. take k (map now left)) count_is) back more
     (ap (λ t. out ++ lines_text (drop i ls) t) es_is ∙ before)
 
 -- what is borrowed of a process's group is what the group has

@@ -7,6 +7,7 @@ mod files;
 mod groups;
 mod laws;
 mod line_results;
+mod quick;
 mod results;
 mod sections;
 mod summaries;

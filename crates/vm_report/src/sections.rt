@@ -1,5 +1,5 @@
 //! The sections of processes.
-ghost use Rattle.std.specs.Prelude.{◌≡◌, ◌≤◌, ◌<◌, ◌^◌, ◌+◌, ◌++◌, ◌∷◌, ◌==◌, [], false, All, length, map, filter, OnOk, IfOk};
+ghost use Rattle.std.specs.Prelude.{◌≡◌, ◌≤◌, ◌<◌, ◌^◌, ◌+◌, ◌++◌, ◌∷◌, ◌==◌, [], false, All, length, map, filter, take, codes, IsTrue, OnOk, IfOk};
 ghost use Rattle.std.specs.List.{list_any};
 ghost use Rattle.vm_types.specs.WellFormed.{IsWellFormed};
 ghost use Rattle.flat_model.specs.Told.{entries_of};
@@ -9,6 +9,7 @@ ghost use Rattle.vm_report.specs.Report as report;
 
 use crate::groups::{births_of, entries_by_process, lines_by_process};
 use crate::line_results::push_line_result;
+use crate::quick::{push_loaded, push_stored};
 use crate::results::word_of_call;
 use crate::text::{end_line, push_number, push_space, push_text};
 use std::alloc::{AllocError, Global};
@@ -30,6 +31,20 @@ fn is_wait(act: &PlanAct) -> bool
     ensures { result ≡ report.is_wait act.now }
 {
     matches!(act, PlanAct::Wait)
+}
+
+fn is_load(act: &PlanAct) -> bool
+    ensures word { IsTrue result → report.act_word act.now ≡ codes "load" }
+    ensures call { IsTrue result → report.is_wait act.now ≡ false }
+{
+    matches!(act, PlanAct::Call(Call::Load { .. }))
+}
+
+fn is_store(act: &PlanAct) -> bool
+    ensures word { IsTrue result → report.act_word act.now ≡ codes "store" }
+    ensures call { IsTrue result → report.is_wait act.now ≡ false }
+{
+    matches!(act, PlanAct::Call(Call::Store { .. }))
 }
 
 // How many of the entries belong to the call that the first one begins.
@@ -88,6 +103,35 @@ fn push_own(out: &mut Vec<u8>, line: &PlanLine, own: &[&Entry]) -> Result<(), Al
     push_line(out, line, own)
 }
 
+// Adds what a line prints that made the first of these entries, and answers how many it made.
+fn push_next(out: &mut Vec<u8>, line: &PlanLine, entries: &[&Entry]) -> Result<usize, AllocError>
+    requires few { length entries.now < 2 ^ 32 }
+    requires well_formed { All (λ e. IsWellFormed e.now.call) entries.now }
+    ensures made { IfOk result (λ count.
+        count ≡ report.entries_made line.now (map (λ e. e.now) entries.now)) }
+    ensures inside { IfOk result (λ count. count ≤ length entries.now) }
+    ensures text { IfOk result (λ count. out.new.items ≡ out.old.items
+        ++ report.own_text line.now (take count (map (λ e. e.now) entries.now))) }
+{
+    if let [entry, ..] = entries {
+        match (&entry.call, &entry.reply) {
+            (Call::Load { size, .. }, Reply::Word(value)) if is_load(&line.act) => {
+                push_loaded(out, line.line, *size, *value)?;
+                return Ok(1);
+            }
+            (Call::Store { .. }, Reply::Done) if is_store(&line.act) => {
+                push_stored(out, line.line)?;
+                return Ok(1);
+            }
+            _ => {}
+        }
+    }
+    let count = entries_made(line, entries);
+    let (own, _) = entries.split_at(count);
+    push_own(out, line, own)?;
+    Ok(count)
+}
+
 // Adds what the lines of a block print.
 fn push_lines(out: &mut Vec<u8>, lines: &[&PlanLine], entries: &[&Entry]) -> Result<(), AllocError>
     requires few { length entries.now < 2 ^ 32 }
@@ -98,10 +142,7 @@ fn push_lines(out: &mut Vec<u8>, lines: &[&PlanLine], entries: &[&Entry]) -> Res
     let mut begin = 0;
     for line in lines {
         let (_, left) = entries.split_at(begin);
-        let count = entries_made(line, left);
-        let (own, _) = left.split_at(count);
-        push_own(out, line, own)?;
-        begin += count;
+        begin += push_next(out, line, left)?;
     }
     Ok(())
 }

@@ -34,6 +34,10 @@ fn load(process: u32, addr: u32, reply: Reply) -> Entry {
     entry(process, Call::Load { addr, size: 1 }, reply)
 }
 
+fn word(size: u32, value: u32) -> Entry {
+    entry(1, Call::Load { addr: 0x2000, size }, Reply::Word(value))
+}
+
 fn map(place: Place, length: u32, reply: Reply) -> Entry {
     let (prot, kind, object) = (Prot::READ, Kind::Private, Object::NewZero);
     entry(
@@ -220,6 +224,35 @@ fn refusals(rt: HostRuntime) -> Result<(), Fail> {
     ];
     let text =
         "process 1\n2 map error 5 TooLarge\n3 map 0x00001000\n4 map error 4 NoRoom\n5 write 0 error 7 ReadOnly\n6 map error 2 Access\n7 read 0 error 9 NoObject\n8 unmap error 1 Invalid\n9 sync error 6 NotMapped\n10 exit ok\n";
+    assert_eq!(rt;
+        report(rt.alloc(), script, &history)?.as_slice(),
+        text.as_bytes()
+    );
+    Ok(())
+}
+
+#[test]
+fn words_of_each_size(rt: HostRuntime) -> Result<(), Fail> {
+    let script =
+        "process\nload 0x2000 1\nload 0x2000 2\nload 0x2000 4\nstore 0x2000 1 7\nload 0x5000 1\nend";
+    let history = [
+        word(1, 0x68),
+        word(2, 0x6865),
+        word(4, 0x6865_6c0a),
+        entry(
+            1,
+            Call::Store {
+                addr: 0x2000,
+                size: 1,
+                value: 7,
+            },
+            Reply::Signal(Signal::Prot),
+        ),
+        load(1, 0x5000, Reply::Signal(Signal::NoMap)),
+        exit(1),
+    ];
+    let text =
+        "process 1\n2 load 0x68\n3 load 0x6865\n4 load 0x68656c0a\n5 store SEGV prot\n6 load SEGV nomap\n7 exit ok\n";
     assert_eq!(rt;
         report(rt.alloc(), script, &history)?.as_slice(),
         text.as_bytes()

@@ -61,11 +61,11 @@ fn digit_of(value: u8) -> u8
     if value < 10 { 48 + value } else { 87 + value }
 }
 
-// Adds the two digits of a byte.
-fn push_byte(out: &mut Vec<u8>, b: u8) -> Result<(), AllocError>
-    ensures { OnOk result (out.new.items ≡ out.old.items ++ byte_text b) }
+/// The two digits of a byte.
+pub fn digits_of_byte(b: u8) -> [u8; 2]
+    ensures { result ≡ byte_text b }
 {
-    push_text(out, &[digit_of(b / 16), digit_of(b % 16)])
+    [digit_of(b / 16), digit_of(b % 16)]
 }
 
 // The digits of at most 32 bytes, with zeros behind them.
@@ -116,11 +116,32 @@ fn bytes_of_number(number: u32) -> [u8; 4]
     ]
 }
 
+/// The four digits of a number's last two bytes.
+pub fn digits_of_two(number: u32) -> [u8; 4]
+    ensures { result ≡ hex_text (word_bytes 2 number) }
+{
+    let [a, b] = digits_of_byte((number / 256 % 256) as u8);
+    let [c, d] = digits_of_byte((number % 256) as u8);
+    [a, b, c, d]
+}
+
+/// The eight digits of a number's four bytes.
+pub fn digits_of_number(number: u32) -> [u8; 8]
+    ensures { result ≡ hex_text (word_bytes 4 number) }
+{
+    let [first, second, third, fourth] = bytes_of_number(number);
+    let [a, b] = digits_of_byte(first);
+    let [c, d] = digits_of_byte(second);
+    let [e, f] = digits_of_byte(third);
+    let [g, h] = digits_of_byte(fourth);
+    [a, b, c, d, e, f, g, h]
+}
+
 /// Adds the digits of a number's four bytes.
 pub fn push_number_hex(out: &mut Vec<u8>, number: u32) -> Result<(), AllocError>
     ensures { OnOk result (out.new.items ≡ out.old.items ++ hex_text (word_bytes 4 number)) }
 {
-    push_hex(out, &bytes_of_number(number))
+    push_text(out, &digits_of_number(number))
 }
 
 // The bytes of a mask, the highest first.
@@ -152,8 +173,8 @@ fn push_word_hex(out: &mut Vec<u8>, size: u32, value: u32) -> Result<(), AllocEr
     ensures { OnOk result (out.new.items ≡ out.old.items ++ hex_text (word_bytes size value)) }
 {
     match size {
-        1 => push_byte(out, (value % 256) as u8),
-        2 => push_hex(out, &[(value / 256 % 256) as u8, (value % 256) as u8]),
+        1 => push_text(out, &digits_of_byte((value % 256) as u8)),
+        2 => push_text(out, &digits_of_two(value)),
         _ => push_number_hex(out, value),
     }
 }

@@ -6,7 +6,8 @@ use vm_types::Entry;
 
 /// Whether each call of a history is well formed.
 pub fn are_well_formed(history: &[Entry]) -> bool
-    ensures { IsTrue result → All (λ e. IsWellFormed e.call) history.now }
+    ensures only { IsTrue result → All (λ e. IsWellFormed e.call) history.now }
+    ensures each { All (λ e. IsWellFormed e.call) history.now → IsTrue result }
 {
     history.iter().all(|e| e.call.is_well_formed())
 }
