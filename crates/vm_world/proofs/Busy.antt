@@ -1,6 +1,6 @@
 -- The busy state fits.
 use Rattle.std.proofs.Common.{◌≡◌, ℕ, zero, suc, ◌+◌, ◌<◌, ◌≤◌, ◌==◌, Bool, true, false, cond, List, [], ◌∷◌, ◌++◌, length, map, Option, Some, None, refl, sym, ap, ◌∙◌, ◌⊎◌, inl, inr, subst, arith}
-use Rattle.std.specs.Prelude.{option_map, option_and_then, slice_index_or, slice_index, All, IsSome, IsTrue, sum_by, count_by, flat_map, filter_map, is_some, ◌||◌}
+use Rattle.std.specs.Prelude.{option_map, option_and_then, slice_index_or, slice_index, All, IsSome, IsTrue, IsFalse, sum_by, count_by, flat_map, filter_map, is_some, ◌||◌}
 use Rattle.std.specs.Ordering.{nat_cmp}
 use Rattle.std.specs.Cmp.{nat_cmp_total, unsigned_tied}
 use Rattle.std.specs.List.{list_any}
@@ -42,7 +42,7 @@ use Rattle.vm_world.specs.MemoryFits.{MemoryFits}
 use Rattle.vm_world.specs.NotesFit.{NotesFit, PushFits}
 use Rattle.vm_world.specs.State.{Sent, Caller, notes_of, is_top}
 use Rattle.vm_world.specs.StateFits.{StateFits}
-use Rattle.vm_world.specs.HistoryFits.{faults_in}
+use Rattle.vm_world.specs.HistoryFits.{faults_in, has_left}
 use Rattle.vm_world.specs.Busy.{busy_segment, busy_part, busy_spaces, busy_maps, busy_slots, busy_store, busy_hat, busy_memory, busy_disk, busy_note, busy_seats, busy_state, BusyLaw}
 use Rattle.vm_world.proofs.Counting.{adds, adds-other}
 use Rattle.vm_world.proofs.FlatWhole.{HasPages, some-inj, flat-whole}
@@ -168,6 +168,10 @@ module _ (page : Page) (whole : IsPage page) where
   unlisted : (k : ℕ) → ¬ IsListedFrame (busy_store page) k
   unlisted k l = elim l [ inl a ↦ a | inr b ↦ b ]
 
+  -- no disk of a file is there
+  few-bays : (number : ℕ) → number < 8 → bay_at (busy_store page).bays number ≡ missing
+  few-bays number low = elim (bay-is number) [ inl m ↦ m | inr o ↦ let at = o.0 in absurd (omega (arith, low, at)) ]
+
   busy-sound : IsSoundStore (busy_store page)
   busy-sound = record {
     few = omega arith;
@@ -175,7 +179,7 @@ module _ (page : Page) (whole : IsPage page) where
     rows = refl;
     hands = refl;
     bays = refl;
-    order = record { numbers = record { below = λ i lt. absurd (omega (arith, lt)); apart = λ i j lt _ _. absurd (omega (arith, lt)) }; there = λ i lt. absurd (omega (arith, lt)) };
+    order = record { numbers = record { below = λ i lt. absurd (omega (arith, lt)); apart = λ i j lt _ _. absurd (omega (arith, lt)) }; there = λ i lt. absurd (omega (arith, lt)); all = λ number low is. absurd (is (few-bays number low)) };
     distinct = λ i j n a b. elim (names-below i n a) [
       | inl x ↦ elim (names-below j n b) [ inl y ↦ x.0 ∙ sym y.0 | inr y ↦ absurd (let z : ◌≡◌ {A = ℕ} 2 1 = ap (λ (n : PageName). n.page) (sym x.1 ∙ y.1) in omega (arith, z)) ]
       | inr x ↦ elim (names-below j n b) [ inl y ↦ absurd (let z : ◌≡◌ {A = ℕ} 1 2 = ap (λ (n : PageName). n.page) (sym x.1 ∙ y.1) in omega (arith, z)) | inr y ↦ x.0 ∙ sym y.0 ]
@@ -365,6 +369,9 @@ module _ (page : Page) (whole : IsPage page) where
       slot (suc (suc zero)) lt = whole
       slot (suc (suc (suc k))) lt = absurd (omega (arith, lt))
 
+  born-is : (p : ℕ) → set.contains (busy_state page).born p ≡ (p == 1 || false)
+  born-is p = set.contains-insert nat_cmp_total set.empty 1 p ∙ ap (λ (b : Bool). b || set.contains (set.empty {R = nat_cmp}) p) (unsigned_tied p 1) ∙ ap (λ (b : Bool). p == 1 || b) (set.contains-empty nat_cmp p)
+
   alive : (p : ℕ) → IsSome (finite.get busy_spaces p) → IsTrue (set.contains (busy_state page).born p)
   alive p is = elim (cases_eq p 1) [
     | inl e ↦ born-is p ∙ ap (λ (k : ℕ). k == 1 || false) e
@@ -372,9 +379,12 @@ module _ (page : Page) (whole : IsPage page) where
         let none : ◌≡◌ {A = Option (List (Part Segment))} (finite.get busy_spaces p) None = get-insert_apart (finite.empty {X = List (Part Segment)} {R = nat_cmp}) 1 (busy_part ∷ []) p ne ∙ finite.get-empty nat_cmp p in
         absurd (let z : false ≡ true = sym (ap (λ (o : Option (List (Part Segment))). is_some o) none) ∙ is in cc)
   ]
-    where
-      born-is : (p : ℕ) → set.contains (busy_state page).born p ≡ (p == 1 || false)
-      born-is p = set.contains-insert nat_cmp_total set.empty 1 p ∙ ap (λ (b : Bool). b || set.contains (set.empty {R = nat_cmp}) p) (unsigned_tied p 1) ∙ ap (λ (b : Bool). p == 1 || b) (set.contains-empty nat_cmp p)
+
+  stays : (p : ℕ) → IsTrue (set.contains (busy_state page).born p) → IsFalse (has_left p []) → IsSome (finite.get busy_spaces p)
+  stays p born here = elim (eqb_tells p 1) [
+    | inl y ↦ subst (λ (k : ℕ). IsSome (finite.get busy_spaces k)) (sym y.1) (ap is_some (get-insert_here (finite.empty {X = List (Part Segment)} {R = nat_cmp}) 1 (busy_part ∷ [])))
+    | inr n ↦ absurd (let z : false ≡ true = sym (ap (λ (b : Bool). b || false) n.0) ∙ sym (born-is p) ∙ born in cc)
+  ]
 
   busy-fits : StateFits (flat_memory (busy_memory page) (busy_state page).born (notes_of (busy_seats page))) (busy_state page) (busy_seats page)
   busy-fits = record {
@@ -396,7 +406,7 @@ module _ (page : Page) (whole : IsPage page) where
       starts = λ seat b is. absurd (cc);
     };
     rooms = record { made = λ p. omega arith; forks = λ k child e is _. absurd (cc) };
-    births = record { lived = lived; alive = alive };
+    births = record { lived = lived; alive = alive; stays = stays };
     plans = record {
       plan = λ kept is. absurd (cc);
       planned = λ kept of is _. absurd (cc);

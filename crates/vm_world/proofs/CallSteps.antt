@@ -1,8 +1,10 @@
--- A call that is done on pages is an event.
-use Rattle.std.proofs.Common.{◌≡◌, ◌≢◌, ℕ, zero, suc, ◌<◌, Bool, true, false, List, [], ◌∷◌, ◌++◌, length, map, Option, Some, None, refl, sym, ap, ◌∙◌, subst, arith}
-use Rattle.std.specs.Prelude.{option_map, IsSome, ◌||◌, if◌then◌else◌}
+-- A call that is done is an event, and changes of memory one after another are a change.
+use Rattle.std.proofs.Common.{◌≡◌, ◌≢◌, ℕ, zero, suc, ◌<◌, Bool, true, false, List, [], ◌∷◌, ◌++◌, length, Option, Some, None, refl, sym, ap, ◌∙◌, inl, inr, subst, arith}
+use Rattle.std.specs.Prelude.{IsSome, IsTrue, IsFalse, ◌||◌, if◌then◌else◌}
 use Rattle.std.specs.FinMap as finite
 use Rattle.std.specs.FinSet as set
+use Rattle.std.proofs.lemmas.Bool.{cases_eq}
+use Rattle.std.proofs.lemmas.Bool.Decides.{eqb_tells}
 use Rattle.std.proofs.lemmas.List.Elements.{All-nil, All-cons}
 use Rattle.vm_types.specs.declared.call.Call.{Call}
 use Rattle.vm_types.specs.declared.call.Call.TheVariants.{Fork}
@@ -12,31 +14,29 @@ use Rattle.vm_types.specs.declared.call.Reply.TheVariants as reply
 use Rattle.vm_types.specs.declared.call.Reply.TheVariants.{Io, Synced}
 use Rattle.addr_space.specs.Space.{Part}
 use Rattle.page_store.specs.Bays.{BaySeen}
-use Rattle.vnode_files.specs.declared.vnode.FileInfo.{FileInfo}
 use Rattle.flat_model.specs.Births.{is_birth, is_fork_of, is_done}
 use Rattle.flat_model.specs.CountLaws.{IsNextCount}
 use Rattle.flat_model.specs.OpenLaws.{MayFollow}
-use Rattle.flat_model.specs.Flat.{Flat, Space, IsFlat, space_of}
+use Rattle.flat_model.specs.Flat.{Flat, IsFlat, space_of}
 use Rattle.flat_model.specs.History.{replay, IsSyncStart, IsStart, is_io}
 use Rattle.flat_model.specs.Step.{bit, IsUnborn}
 use Rattle.flat_model.specs.Told.{entries_of}
 use Rattle.flat_model.proofs.WellFormed.{IsFlat-tails_cleared}
 use Rattle.vm_world.specs.World.{World}
-use Rattle.vm_world.specs.FlatMemory.{flat_memory, space_with}
+use Rattle.vm_world.specs.FlatMemory.{Memory, flat_memory, shape_of}
 use Rattle.vm_world.specs.Pages.{contents_of}
-use Rattle.vm_world.specs.Segments.{Segment}
-use Rattle.vm_world.specs.HistoryFits.{HistoryFits, FaultsFit}
+use Rattle.vm_world.specs.Segments.{Segment, Spaces}
+use Rattle.vm_world.specs.HistoryFits.{HistoryFits, FaultsFit, has_left, is_exit}
 use Rattle.vm_world.specs.Events.{IsEvent}
 use Rattle.vm_world.specs.EntryLaws.{LocksAfter, StartsAfter}
-use Rattle.vm_world.specs.CallSteps.{ActsOnPages, MayEnter, CallRule}
+use Rattle.vm_world.specs.CallSteps.{ActsOnPages, ActsOnMemory, ChangesMemory, StaysAlive, MayEnter, CallRule}
 use Rattle.vm_world.specs.Failures.{with_entry_made}
-use Rattle.vm_world.specs.State.{KernelState, Seats, Sent, KeptPlan, mode_of, notes_of, seat_of, room_of}
+use Rattle.vm_world.specs.State.{KernelState, Seats, Sent, KeptPlan, notes_of, seat_of, room_of}
 use Rattle.vm_world.specs.StateFits.{StateFits}
-use Rattle.vm_world.specs.StateSteps.{after_step}
-use Rattle.vm_world.proofs.Callers.{caller-tables, caller-longer}
-use Rattle.vm_world.proofs.Entries.{entry-history, entry-faults, entry-calls, entry-rooms, entry-births, entry-part}
-use Rattle.vm_world.proofs.Maps.{get-map_with}
-use Rattle.vm_world.proofs.StateSteps.{same-seats, modes-of}
+use Rattle.vm_world.proofs.Callers.{caller-kept, caller-longer, same-modes}
+use Rattle.vm_world.proofs.Entries.{entry-history, entry-faults, entry-calls, entry-rooms, entry-births, entry-part, not-left}
+use Rattle.vm_world.proofs.MayFails.{alive-flat}
+use Rattle.vm_world.proofs.StateSteps.{same-seats}
 
 -- a call that is no Fork makes no process
 unborn : (F : Flat) (call : Call) → ((child : ℕ) → call ≢ Fork child) → IsUnborn F call
@@ -91,17 +91,48 @@ process-is : (p seat : ℕ) (n : ℕ) (entries : List ℕ) → seat_of p ≡ sea
 process-is zero seat n entries own room = absurd (omega (arith, room))
 process-is (suc q) seat n entries own room = ap suc own
 
+-- ON PAGES ALONE.
+rule-pages : (old new : World) (spaces : Spaces) (e : Entry) → ActsOnPages old new spaces e → ActsOnMemory (record { world = old; spaces = spaces }) (record { world = new; spaces = spaces }) e
+rule-pages old new spaces e act = record {
+  machine = record { core = act.core; frames = act.frames; slots = ap length act.tables.counts; disks = act.tables.disks; modes = same-modes old new act.tables; bays = act.bays };
+  others = λ q far. refl;
+  memory = act.memory;
+  notes = act.notes;
+  tells = act.tells;
+  flat = act.acts;
+}
+
+-- ONE CHANGE AFTER ANOTHER.
+rule-joined : (p : ℕ) (u v w : Memory) (first second : Flat → Flat) → ((F : Flat) → IsFlat F → IsFlat (first F)) → ChangesMemory p u v (λ F G. G ≡ first F) → ChangesMemory p v w (λ F G. G ≡ second F) → ChangesMemory p u w (λ F G. G ≡ second (first F))
+rule-joined p u v w first second whole a b = record {
+  machine = record {
+    core = b.machine.core ∙ a.machine.core;
+    frames = b.machine.frames ∙ a.machine.frames;
+    slots = b.machine.slots ∙ a.machine.slots;
+    disks = b.machine.disks ∙ a.machine.disks;
+    modes = b.machine.modes ∙ a.machine.modes;
+    bays = b.machine.bays ∙ a.machine.bays;
+  };
+  others = λ q far. b.others q far ∙ a.others q far;
+  memory = b.memory;
+  notes = λ notes nf. b.notes notes (a.notes notes nf);
+  tells = λ notes nf. let one = a.tells notes nf in let two = b.tells notes (a.notes notes nf) in ((λ tell. two.0 (one.0 tell)), (λ tell. one.1 (two.1 tell)));
+  flat = λ born notes nf tell is.
+      let mid : flat_memory v born notes ≡ first (flat_memory u born notes) = a.flat born notes nf tell is in
+      b.flat born notes (a.notes notes nf) ((a.tells notes nf).0 tell) (subst IsFlat (sym mid) (whole (flat_memory u born notes) is)) ∙ ap second mid;
+}
+
 -- DONE.
-rule-done : (s : KernelState) (new : World) (seat : ℕ) (e : Entry) (calls syncs : List (Option ℕ)) → ActsOnPages s.memory.world new s.memory.spaces e → MayEnter s seat e → LocksAfter e s.calls calls → StartsAfter e s.syncs syncs → length syncs ≡ length s.syncs
-    → IsEvent seat s None (with_entry_made (after_step s new 0) e calls syncs) None
-rule-done s new seat e calls syncs act may locks starts count = record {
-  fits = λ opening seats is fit. subst (λ (x : Seats). StateFits opening (with_entry_made (after_step s new 0) e calls syncs) x) (sym (same-seats seats seat None is)) (state opening seats is fit);
+pub rule-done : (s : KernelState) (new : Memory) (seat : ℕ) (e : Entry) (calls syncs : List (Option ℕ)) → ActsOnMemory s.memory new e → StaysAlive new e.process e.call → MayEnter s seat e → LocksAfter e s.calls calls → StartsAfter e s.syncs syncs → length syncs ≡ length s.syncs
+    → IsEvent seat s None (with_entry_made (record s { memory = new }) e calls syncs) None
+rule-done s new seat e calls syncs act keeps may locks starts count = record {
+  fits = λ opening seats is fit. subst (λ (x : Seats). StateFits opening (with_entry_made (record s { memory = new }) e calls syncs) x) (sym (same-seats seats seat None is)) (state opening seats is fit);
   fixed = λ i. record {
-    origin = act.core i;
-    frames = act.frames i;
-    slots = length (act.tables.counts i);
-    disks = act.tables.disks i;
-    files = modes i;
+    core = act.machine.core i;
+    frames = act.machine.frames i;
+    slots = act.machine.slots i;
+    disks = act.machine.disks i;
+    files = act.machine.modes i;
     seats = count i;
     parents = s.parents;
     entries = s.entries;
@@ -109,41 +140,57 @@ rule-done s new seat e calls syncs act may locks starts count = record {
   grown = (e ∷ [], refl, All-cons (λ (x : Entry). seat_of x.process ≡ seat) e [] may.try.own (All-nil (λ (x : Entry). seat_of x.process ≡ seat)));
 }
   where
-    modes : map mode_of new.files.files ≡ map mode_of s.memory.world.files.files
-    modes = modes-of new.files.files ∙ ap (λ (is : List FileInfo). map (λ (i : FileInfo). record { name = i.name; disk = i.disk; writable = i.writable }) is) act.tables.infos ∙ sym (modes-of s.memory.world.files.files)
+    -- who is alive was born: the process itself was, and no other came
+    alive-born : ((q : ℕ) → IsSome (finite.get s.memory.spaces q) → IsTrue (set.contains s.born q)) → (q : ℕ) → IsSome (finite.get new.spaces q) → IsTrue (set.contains s.born q)
+    alive-born born q is = elim (cases_eq q e.process) [
+      | inl own ↦ born q (subst (λ (k : ℕ). IsSome (finite.get s.memory.spaces k)) (sym own) may.try.alive)
+      | inr other ↦ born q (subst (λ (o : Option (List (Part Segment))). IsSome o) (act.others q other) is)
+    ]
 
-    alive-at : (o : Option (List (Part Segment))) (f : List (Part Segment) → Space) → IsSome o → IsSome (option_map f o)
-    alive-at None f is = is
-    alive-at (Some parts) f is = refl
+    -- and who was born stays alive
+    stays-alive : ((q : ℕ) → IsTrue (set.contains s.born q) → IsFalse (has_left q s.history) → IsSome (finite.get s.memory.spaces q)) → (q : ℕ) → IsTrue (set.contains s.born q) → IsFalse (has_left q (s.history ++ e ∷ [])) → IsSome (finite.get new.spaces q)
+    stays-alive stays q born left =
+        let before = not-left q s.history e left in
+        elim (eqb_tells e.process q) [
+          | inl own ↦ subst (λ (k : ℕ). IsSome (finite.get new.spaces k)) own.1 (keeps (sym (ap (λ (b : Bool). if b then is_exit e.call else false) own.0) ∙ before.1))
+          | inr other ↦ subst (λ (o : Option (List (Part Segment))). IsSome o) (sym (act.others q (λ same. other.1 (sym same)))) (stays q born before.0)
+        ]
 
-    state : (opening : Flat) (seats : Seats) → seats seat ≡ None → StateFits opening s seats → StateFits opening (with_entry_made (after_step s new 0) e calls syncs) seats
+    -- another seat's process is another
+    far : (k q : ℕ) → seat_of q ≡ k → k ≢ seat → q ≢ e.process
+    far k q own ne same = ne (sym own ∙ ap seat_of same ∙ may.try.own)
+
+    state : (opening : Flat) (seats : Seats) → seats seat ≡ None → StateFits opening s seats → StateFits opening (with_entry_made (record s { memory = new }) e calls syncs) seats
     state opening seats is fit =
         let follows : MayFollow s.history e = may.try.follows e.reply e.cleared in
+        let now : Flat = flat_memory s.memory s.born (notes_of seats) in
         record {
           memory = act.memory;
           notes = act.notes (notes_of seats) fit.notes;
           replays = λ tell.
               let old = (act.tells (notes_of seats) fit.notes).1 tell in
               let h = fit.replays old in
-              let whole : IsFlat (flat_memory s.memory s.born (notes_of seats)) = subst IsFlat (sym h.shows) (IsFlat-tails_cleared (replay opening s.history) (bit s.pending) h.whole) in
-              let acts = act.acts s.born (notes_of seats) fit.notes old whole in
-              let alive : IsSome (space_of (flat_memory s.memory s.born (notes_of seats)) e.process) = subst (λ (o : Option Space). IsSome o) (sym (get-map_with (space_with (contents_of s.memory.world (notes_of seats)).place) s.memory.spaces e.process)) (alive-at (finite.get s.memory.spaces e.process) (space_with (contents_of s.memory.world (notes_of seats)).place) may.try.alive) in
+              let whole : IsFlat now = subst IsFlat (sym h.shows) (IsFlat-tails_cleared (replay opening s.history) (bit s.pending) h.whole) in
+              let acts = act.flat s.born (notes_of seats) fit.notes old whole in
+              let alive : IsSome (space_of now e.process) = (alive-flat (shape_of s.memory) s.born (contents_of s.memory.world (notes_of seats)) e.process).1 may.try.alive in
               subst (λ (F : Flat). HistoryFits opening (s.history ++ e ∷ []) 0 F) (sym acts.1)
-              (entry-history opening s.history s.pending (flat_memory s.memory s.born (notes_of seats)) e h may.cleared may.formed alive (unborn (flat_memory s.memory s.born (notes_of seats)) e.call may.plain) acts.0
+              (entry-history opening s.history s.pending now e h may.cleared may.formed alive (unborn now e.call may.plain) acts.0
               (starts-at s.history (length s.history) e may.sync)
               (entry-part s.history s.calls s.syncs s.parents s.entries e seat fit.calls fit.rooms h.legal.parts (process-is e.process seat (length (entries_of s.history e.process)) s.entries may.try.own may.try.room) may.file));
-          faults = entry-faults s.history new.store.bays (notes_of seats) e (subst (λ (b : List BaySeen). FaultsFit s.history b (notes_of seats)) (sym act.bays) fit.faults) (no-count s.history e may.done) (λ d b a n io has. absurd (not-io e.reply d b a may.done io));
+          faults = entry-faults s.history new.world.store.bays (notes_of seats) e (subst (λ (b : List BaySeen). FaultsFit s.history b (notes_of seats)) (sym act.machine.bays) fit.faults) (no-count s.history e may.done) (λ d b a n io has. absurd (not-io e.reply d b a may.done io));
           calls = entry-calls s.history s.calls s.syncs calls syncs e fit.calls follows locks starts;
           rooms = entry-rooms s.history s.parents s.entries e fit.rooms may.try.room (λ child fork. absurd (may.plain child fork));
-          births = entry-births s.history s.parents s.memory.spaces s.memory.spaces s.born s.born e fit.births (λ q. or-false (set.contains s.born q) (is_birth q e) (no-birth q e may.plain)) fit.births.alive;
+          births = entry-births s.history s.parents s.memory.spaces new.spaces s.born s.born e fit.births (λ q. or-false (set.contains s.born q) (is_birth q e) (no-birth q e may.plain)) (alive-born fit.births.alive) (stays-alive fit.births.stays);
           plans = record {
             plan = λ kept at. absurd (let z : ◌≡◌ {A = Option KeptPlan} None (Some kept) = at in cc);
             planned = λ kept of at _. absurd (let z : ◌≡◌ {A = Option KeptPlan} None (Some kept) = at in cc);
             sent = λ k sent of at for_call.
-                caller-longer (flat_memory (after_step s new 0).memory s.born (notes_of seats)) s.history s.entries e seat k of may.try.own (λ same. absurd (let z : ◌≡◌ {A = Option Sent} None (Some sent) = sym is ∙ ap seats (sym same) ∙ at in cc))
-                (caller-tables s.memory.world new s.memory.spaces s.born (notes_of seats) (notes_of seats) s.history s.entries k of act.tables (fit.plans.sent k sent of at for_call));
+                let caller = fit.plans.sent k sent of at for_call in
+                let other : k ≢ seat = λ same. absurd (let z : ◌≡◌ {A = Option Sent} None (Some sent) = sym is ∙ ap seats (sym same) ∙ at in cc) in
+                caller-longer (flat_memory new s.born (notes_of seats)) s.history s.entries e seat k of may.try.own other
+                (caller-kept s.memory new s.born s.born (notes_of seats) (notes_of seats) s.history s.entries k of (act.others of.0 (far k of.0 caller.own other)) act.machine.modes caller);
           };
         }
 
 pub call_rule : CallRule
-call_rule = record { done = rule-done }
+call_rule = record { pages = rule-pages; joined = rule-joined; done = rule-done }

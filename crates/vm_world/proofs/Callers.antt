@@ -1,41 +1,63 @@
--- What holds of the process and call that a plan or a flight is for stays while other pages change, and while other processes make entries.
-use Rattle.std.proofs.Common.{◌≡◌, ◌≢◌, ℕ, ◌==◌, Bool, false, cond, List, [], ◌∷◌, ◌++◌, length, Option, Some, sym, ap, ◌∙◌, inl, inr, subst, arith}
-use Rattle.std.specs.Prelude.{IsSome, MatchOption}
+-- What holds of the process and call that a plan or a flight is for stays while pages and the spaces of other processes change, and while these make entries.
+use Rattle.std.proofs.Common.{◌≡◌, ◌≢◌, ℕ, ◌==◌, Bool, false, cond, List, [], ◌∷◌, ◌++◌, length, map, Option, Some, None, refl, sym, ap, ◌∙◌, inl, inr, subst, arith}
+use Rattle.std.specs.Prelude.{option_map, slice_get, IsSome, MatchOption}
+use Rattle.std.specs.FinMap as finite
 use Rattle.std.specs.FinSet as set
 use Rattle.std.specs.Ordering.{nat_cmp}
 use Rattle.std.proofs.lemmas.Bool.Decides.{eqb_tells}
 use Rattle.std.proofs.lemmas.List.{length-append}
+use Rattle.std.proofs.lemmas.Option.{slice_get-map}
 use Rattle.vm_types.specs.declared.call.Entry.{Entry}
+use Rattle.addr_space.specs.Space.{Part}
 use Rattle.page_store.specs.Notes.{Notes}
-use Rattle.flat_model.specs.Flat.{Flat, space_of}
+use Rattle.vnode_files.specs.declared.vnode.FileInfo.{FileInfo}
+use Rattle.vnode_files.specs.Vnode.{VnodeSeen}
+use Rattle.flat_model.specs.Flat.{Flat}
 use Rattle.flat_model.specs.OpenLaws.{FollowsOn, last_entry}
-use Rattle.flat_model.specs.Step.{MayFail}
 use Rattle.flat_model.specs.Told.{entries_of}
 use Rattle.flat_model.proofs.Opens.{open_calls_law}
 use Rattle.flat_model.proofs.Replays.{joined_histories_law}
 use Rattle.vm_world.specs.World.{World}
-use Rattle.vm_world.specs.Pages.{contents_of, contents_by, page_value}
-use Rattle.vm_world.specs.Segments.{Spaces}
-use Rattle.vm_world.specs.FlatMemory.{flat_shaped, flat_memory, shape_of}
-use Rattle.vm_world.specs.State.{Caller, seat_of}
+use Rattle.vm_world.specs.Pages.{contents_of}
+use Rattle.vm_world.specs.Segments.{Segment}
+use Rattle.vm_world.specs.FlatMemory.{Memory, flat_memory, shape_of}
+use Rattle.vm_world.specs.State.{Caller, FileMode, mode_of, seat_of}
 use Rattle.vm_world.specs.StateFits.{CallerFits}
 use Rattle.vm_world.specs.WorldSteps.{KeepsTables}
-use Rattle.vm_world.proofs.FrameRule.{memory_of, shape-same}
-use Rattle.vm_world.proofs.MayFails.{may-fail, alive-same}
+use Rattle.vm_world.proofs.MayFails.{is_writable, may-fail, alive-flat}
 
--- flat memory of a world with the same tables has the same shape
-shape-kept : (old new : World) (spaces : Spaces) (born : set.FinSet nat_cmp) (notes : Notes) → KeepsTables old new
-    → flat_memory (memory_of new spaces) born notes ≡ flat_shaped (shape_of (memory_of old spaces)) born (contents_by (page_value new notes) old.maps)
-shape-kept old new spaces born notes k = λ i. flat_shaped (shape-same old new spaces k i) born (contents_by (page_value new notes) (k.maps i))
+-- a file's mode, from its record
+abbrev info_mode : FileInfo → FileMode
+info_mode i = record { name = i.name; disk = i.disk; writable = i.writable }
 
--- WHILE PAGES CHANGE.
-pub caller-tables : (old new : World) (spaces : Spaces) (born : set.FinSet nat_cmp) (before after : Notes) (H : List Entry) (entries : List ℕ) (seat : ℕ) (of : Caller) → KeepsTables old new
-    → CallerFits (flat_memory (memory_of old spaces) born before) H entries seat of → CallerFits (flat_memory (memory_of new spaces) born after) H entries seat of
-caller-tables old new spaces born before after H entries seat of k c = record {
+modes-of : (vs : List VnodeSeen) → map mode_of vs ≡ map info_mode (map (λ (v : VnodeSeen). v.info) vs)
+modes-of [] = refl
+modes-of (v ∷ vs) = ap (λ (ms : List FileMode). mode_of v ∷ ms) (modes-of vs)
+
+-- the same records have the same modes
+pub same-modes : (old new : World) → KeepsTables old new → map mode_of new.files.files ≡ map mode_of old.files.files
+same-modes old new k = modes-of new.files.files ∙ ap (map info_mode) k.infos ∙ sym (modes-of old.files.files)
+
+-- the same modes are there, and may be written, at the same numbers
+writable-same : (old new : List VnodeSeen) (f : ℕ) → map mode_of new ≡ map mode_of old
+    → option_map is_writable (slice_get (map (λ (v : VnodeSeen). v.info) new) f) ≡ option_map is_writable (slice_get (map (λ (v : VnodeSeen). v.info) old) f)
+writable-same old new f same = by_mode new f ∙ ap (λ (ms : List FileMode). option_map (λ (m : FileMode). m.writable) (slice_get ms f)) same ∙ sym (by_mode old f)
+  where
+    by_option : (o : Option VnodeSeen) → option_map is_writable (option_map (λ (v : VnodeSeen). v.info) o) ≡ option_map (λ (m : FileMode). m.writable) (option_map mode_of o)
+    by_option None = refl
+    by_option (Some v) = refl
+
+    by_mode : (vs : List VnodeSeen) (f : ℕ) → option_map is_writable (slice_get (map (λ (v : VnodeSeen). v.info) vs) f) ≡ option_map (λ (m : FileMode). m.writable) (slice_get (map mode_of vs) f)
+    by_mode vs f = ap (option_map is_writable) (slice_get-map (λ (v : VnodeSeen). v.info) vs f) ∙ by_option (slice_get vs f) ∙ sym (ap (option_map (λ (m : FileMode). m.writable)) (slice_get-map mode_of vs f))
+
+-- WHILE PAGES AND OTHER SPACES CHANGE.
+pub caller-kept : (old new : Memory) (born born' : set.FinSet nat_cmp) (before after : Notes) (H : List Entry) (entries : List ℕ) (seat : ℕ) (of : Caller) → finite.get new.spaces of.0 ≡ finite.get old.spaces of.0
+    → map mode_of new.world.files.files ≡ map mode_of old.world.files.files → CallerFits (flat_memory old born before) H entries seat of → CallerFits (flat_memory new born' after) H entries seat of
+caller-kept old new born born' before after H entries seat of space modes c = record {
   own = c.own;
-  alive = subst (λ (F : Flat). IsSome (space_of F of.0)) (sym (shape-kept old new spaces born after k)) (alive-same (shape_of (memory_of old spaces)) born (contents_of old before) (contents_by (page_value new after) old.maps) of.0 c.alive);
+  alive = (alive-flat (shape_of new) born' (contents_of new.world after) of.0).1 (subst (λ (o : Option (List (Part Segment))). IsSome o) (sym space) ((alive-flat (shape_of old) born (contents_of old.world before) of.0).0 c.alive));
   room = c.room;
-  fails = subst (λ (F : Flat). MayFail F of.0 of.1) (sym (shape-kept old new spaces born after k)) (may-fail (shape_of (memory_of old spaces)) born (contents_of old before) (contents_by (page_value new after) old.maps) of.0 of.1 c.fails);
+  fails = may-fail (shape_of old) (shape_of new) born born' (contents_of old.world before) (contents_of new.world after) of.0 space (λ f. writable-same old.world.files.files new.world.files.files f modes) of.1 c.fails;
   follows = c.follows;
 }
 

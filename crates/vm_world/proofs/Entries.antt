@@ -1,6 +1,6 @@
 -- The history with an entry more.
 use Rattle.std.proofs.Common.{◌≡◌, ℕ, zero, suc, ◌+◌, ◌<◌, ◌≤◌, ◌==◌, ◌^◌, Bool, true, false, cond, List, [], ◌∷◌, ◌++◌, length, Option, Some, None, refl, sym, ap, ◌∙◌, inl, inr, subst, arith}
-use Rattle.std.specs.Prelude.{◌↔◌, ◌||◌, ◌&&◌, not, fold, MatchBool, MatchOption, IsSome, IsSomeAnd, IsTrue, slice_index_or, if◌then◌else◌}
+use Rattle.std.specs.Prelude.{◌↔◌, ◌||◌, ◌&&◌, not, fold, MatchBool, MatchOption, IsSome, IsSomeAnd, IsTrue, IsFalse, slice_index_or, if◌then◌else◌}
 use Rattle.std.specs.List.{list_any}
 use Rattle.std.specs.Ordering.{nat_cmp}
 use Rattle.std.specs.FinMap as finite
@@ -32,7 +32,7 @@ use Rattle.flat_model.proofs.Opens.{open_calls_law}
 use Rattle.flat_model.proofs.Replays.{joined_histories_law}
 use Rattle.flat_model.proofs.Starts.{sync_starts_law}
 use Rattle.flat_model.proofs.WellFormed.{stays_flat_law}
-use Rattle.vm_world.specs.HistoryFits.{HistoryFits, FaultsFit, CallsFit, RoomsFit, BirthsFit, faults_in}
+use Rattle.vm_world.specs.HistoryFits.{HistoryFits, FaultsFit, CallsFit, RoomsFit, BirthsFit, faults_in, has_left, is_exit_of}
 use Rattle.vm_world.specs.Segments.{Spaces}
 use Rattle.vm_world.specs.State.{process_parent, room_of, is_top}
 use Rattle.vm_world.specs.EntryLaws.{LocksAfter, StartsAfter, MayUseFile, EntryLaw}
@@ -169,11 +169,20 @@ any-pushed t [] e = or-false (t e)
     or-false false = refl
 any-pushed t (d ∷ H) e = ap (λ (b : Bool). t d || b) (any-pushed t H e) ∙ or-assoc (t d) (list_any t H) (t e)
 
+or-none : (a b : Bool) → (a || b) ≡ false → (a ≡ false) × (b ≡ false)
+or-none true b is = absurd (let z : true ≡ false = is in cc)
+or-none false b is = (refl, is)
+
+-- who didn't leave hadn't left before, and didn't with the last entry
+pub not-left : (p : ℕ) (H : List Entry) (e : Entry) → IsFalse (has_left p (H ++ e ∷ [])) → IsFalse (has_left p H) × IsFalse (is_exit_of p e)
+not-left p H e is = or-none (has_left p H) (is_exit_of p e) (sym (any-pushed (is_exit_of p) H e) ∙ is)
+
 pub entry-births : (H : List Entry) (parents : List ℕ) (spaces spaces' : Spaces) (born born' : set.FinSet nat_cmp) (e : Entry) → BirthsFit H parents spaces born → ((p : ℕ) → set.contains born' p ≡ (set.contains born p || is_birth p e))
-    → ((p : ℕ) → IsSome (finite.get spaces' p) → IsTrue (set.contains born' p)) → BirthsFit (H ++ e ∷ []) parents spaces' born'
-entry-births H parents spaces spaces' born born' e fit lived alive = record {
+    → ((p : ℕ) → IsSome (finite.get spaces' p) → IsTrue (set.contains born' p)) → ((p : ℕ) → IsTrue (set.contains born' p) → IsFalse (has_left p (H ++ e ∷ [])) → IsSome (finite.get spaces' p)) → BirthsFit (H ++ e ∷ []) parents spaces' born'
+entry-births H parents spaces spaces' born born' e fit lived alive stays = record {
   lived = λ p. lived p ∙ ap (λ (b : Bool). b || is_birth p e) (fit.lived p) ∙ sym (or-assoc (is_top parents p) (list_any (is_birth p) H) (is_birth p e)) ∙ ap (λ (b : Bool). is_top parents p || b) (sym (any-pushed (is_birth p) H e));
   alive = alive;
+  stays = stays;
 }
 
 pub entry-part : (H : List Entry) (calls syncs : List (Option ℕ)) (parents entries : List ℕ) (e : Entry) (seat : ℕ) → CallsFit H calls syncs → RoomsFit H parents entries → KeepsParts H → e.process ≡ suc seat → MayUseFile e seat calls → IsNextPart H e

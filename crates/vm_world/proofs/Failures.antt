@@ -34,11 +34,11 @@ use Rattle.vm_world.specs.State.{KernelState, Seats, Sent, KeptPlan, notes_of, w
 use Rattle.vm_world.specs.StateFits.{StateFits, CallerFits}
 use Rattle.vm_world.specs.StateSteps.{after_step, PendsTails, CountsOn}
 use Rattle.vm_world.specs.WorldSteps.{returns, WorldStep}
-use Rattle.vm_world.proofs.Entries.{entry-step, entry-faults, entry-calls, entry-rooms, entry-births, entry-part}
+use Rattle.vm_world.proofs.Entries.{entry-step, entry-faults, entry-calls, entry-rooms, entry-births, entry-part, not-left}
 use Rattle.vm_world.proofs.Callers.{caller-longer}
 use Rattle.vm_world.proofs.FlatWhole.{some-inj}
 use Rattle.vm_world.proofs.NextParts.{follows-part}
-use Rattle.vm_world.proofs.StateSteps.{rule-ends, caller-kept, this-seat}
+use Rattle.vm_world.proofs.StateSteps.{rule-ends, caller-step, this-seat}
 
 -- no device error of a disk names more than a bound that holds of each
 last-below : (disk c last : ℕ) (H : List Entry) → ((k : ℕ) (e : Entry) (before after : ℕ) → slice_get H k ≡ Some e → e.reply ≡ Io disk before after → after ≤ c) → last ≤ c → fold (count_after disk) last H ≤ c
@@ -99,7 +99,8 @@ io-fits opening s seats seat p call disk before after calls syncs fit idle own c
           subst (λ (x : ℕ). x ≤ count) value (reached count (ap (λ (k : ℕ). faults_in (bay_at s.memory.world.store.bays k) (notes_of seats)) at ∙ has)));
       calls = entry-calls s.history s.calls s.syncs calls syncs (io_entry p call disk before after s.pending) fit.calls follows locks starts;
       rooms = entry-rooms s.history s.parents s.entries (io_entry p call disk before after s.pending) fit.rooms caller.room (λ child is. absurd (not-fork now p child call caller.fails is));
-      births = entry-births s.history s.parents s.memory.spaces s.memory.spaces s.born s.born (io_entry p call disk before after s.pending) fit.births (λ q. or-false (set.contains s.born q)) fit.births.alive;
+      births = entry-births s.history s.parents s.memory.spaces s.memory.spaces s.born s.born (io_entry p call disk before after s.pending) fit.births (λ q. or-false (set.contains s.born q)) fit.births.alive
+          (λ q born left. fit.births.stays q born (not-left q s.history (io_entry p call disk before after s.pending) left).0);
       plans = record {
         plan = λ kept is. absurd (let z : ◌≡◌ {A = Option KeptPlan} None (Some kept) = is in cc);
         planned = λ kept of is _. absurd (let z : ◌≡◌ {A = Option KeptPlan} None (Some kept) = is in cc);
@@ -150,7 +151,7 @@ rule-fails s new cut pending seat p call sent d calls syncs step tails for_call 
           let old_count : faults_in (bay_at s.memory.world.store.bays sent.note.number) (notes_of seats) ≡ Some sent.note.disk.faults = ap (λ b. faults_in b (notes_of seats)) step.bays.0 ∙ ap noted_faults noted in
           let most = fit.faults.most sent.note.number sent.note.disk.faults old_count in
           io-fits opening (after_step s new pending) (with_sent seats seat None) seat p call sent.note.number sent.note.disk.faults d.faults calls syncs (event.fits opening seats is fit) (this-seat seats seat None) own
-          (caller-kept s new (returns seat sent.note) cut pending step tails (notes_of seats) (notes_of (with_sent seats seat None)) seat (p, call) (fit.plans.sent seat sent (p, call) is for_call))
+          (caller-step s new (returns seat sent.note) cut pending step tails (notes_of seats) (notes_of (with_sent seats seat None)) seat (p, call) (fit.plans.sent seat sent (p, call) is for_call))
           (rise sent.note.disk.faults d.faults risen most high)
           (last-below sent.note.number sent.note.disk.faults 0 s.history (λ k x b a at io. fit.faults.reached k x sent.note.number b a sent.note.disk.faults at io old_count) (omega arith))
           (λ count has. let same : d.faults ≡ count = some-inj d.faults count (sym (ap (λ b. faults_in b (notes_of (with_sent seats seat None))) back) ∙ has) in omega (arith, same))

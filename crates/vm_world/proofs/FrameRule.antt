@@ -1,5 +1,5 @@
 -- The frame rule: what a step of the world does to flat memory, and one step after another.
-use Rattle.std.proofs.Common.{◌≡◌, ℕ, ◌+◌, ◌-◌, ◌*◌, ◌<◌, ◌≤◌, ◌==◌, min, zero, suc, Bool, true, cond, List, [], ◌∷◌, length, map, Option, Some, refl, sym, ap, ◌∙◌, inl, inr, subst, arith}
+use Rattle.std.proofs.Common.{◌≡◌, ◌≢◌, false, None, ℕ, ◌+◌, ◌-◌, ◌*◌, ◌<◌, ◌≤◌, ◌==◌, min, zero, suc, Bool, true, cond, List, [], ◌∷◌, length, map, Option, Some, refl, sym, ap, ◌∙◌, inl, inr, subst, arith}
 use Rattle.std.specs.Prelude.{option_map, slice_get, slice_index_or, IsTrue, nat_lt, ◌||◌}
 use Rattle.std.specs.FinSet as set
 use Rattle.std.specs.Ordering.{nat_cmp}
@@ -16,7 +16,7 @@ use Rattle.vnode_files.specs.Vnode.{VnodeSeen, no_vnode}
 use Rattle.flat_model.specs.Words.{Page, pages_in}
 use Rattle.flat_model.specs.Flat.{File, IsFile, IsFlat}
 use Rattle.flat_model.specs.Step.{files_cleared, tails_cleared}
-use Rattle.vm_world.specs.World.{World, file_name, slot_name, slot_in, world_table, is_page_name, AllTell}
+use Rattle.vm_world.specs.World.{World, file_name, slot_name, slot_in, world_table, is_page_name, page_exists, AllTell}
 use Rattle.vm_world.specs.Pages.{page_value, contents_of, contents_by, file_contents, Contents}
 use Rattle.vm_world.specs.Segments.{Spaces}
 use Rattle.vm_world.specs.FlatMemory.{Memory, Shape, flat_shaped, flat_memory, shape_of, file_with_pages, files_with_pages, pages_from}
@@ -24,13 +24,17 @@ use Rattle.vm_world.specs.FramesFit.{FilesFit}
 use Rattle.vm_world.specs.MemoryFits.{MemoryFits}
 use Rattle.vm_world.specs.NotesFit.{NotesFit}
 use Rattle.vm_world.specs.WorldSteps.{Trip, stays, leaves, returns, HasTrip, MovesBay, notes_after, KeepsTables, cut_page, WorldStep, tails_lost}
+use Rattle.std.proofs.lemmas.Bool.{lt-ltb}
+use Rattle.std.proofs.lemmas.Bool.Decides.{eqb_tells}
+use Rattle.std.specs.Prelude.{slice_index, not}
+use Rattle.anon_slots.specs.Slots.{is_used, count_at}
+use Rattle.vm_world.proofs.Counts.{held-used, used-below}
 use Rattle.vm_world.proofs.Clips.{cut-none, cut-twice, whole-before}
 use Rattle.vm_world.proofs.CutFiles.{cut-file, cut-files}
-use Rattle.vm_world.proofs.PageNames.{not-slot, info-there, all-get, file-apart, file-page, below-kept, page-cases, file-place, slot-place}
+use Rattle.vm_world.proofs.PageNames.{not-slot, info-there, all-get, file-apart, below-kept, page-cases, file-place, slot-place}
 use Rattle.vm_world.proofs.FilePages.{page-in, file-in}
 use Rattle.vm_world.specs.Laws.{FrameRule}
 use Rattle.page_store.specs.Bays.{BaySeen}
-use Rattle.page_store.specs.Value.{value}
 use Rattle.flat_model.specs.Parts.{without_tail}
 use Rattle.flat_model.specs.Words.{IsPage}
 use Rattle.std.proofs.lemmas.Bool.{ltb-true}
@@ -96,18 +100,45 @@ valid-same old new name k fit fit' is = elim (page-cases old.files old.anon name
       ∙ sym (ap (λ (p : Place). p.valid) (file-place old.files old.anon name.object name.page there low))
 ]
 
--- the pages of the slots stay
-slot-same : (old new : World) (spaces : Spaces) (trip : Trip) (cut : PageName → Bool) (notes : Notes) (s : ℕ) → MemoryFits (memory_of old spaces) → WorldStep old new spaces trip cut → HasTrip trip notes → NotesFit old notes → AllTell old notes
-    → page_value new (notes_after trip notes) (slot_name s) ≡ page_value old notes (slot_name s)
-slot-same old new spaces trip cut notes s fits step has nf tell = elim (cases_Bool (is_page_name old.files old.anon (slot_name s))) [
-  | inl is ↦
-      let low : s < length old.anon.counts = ltb-true s (length old.anon.counts) is in
-      let full : (world_table old (slot_name s)).valid ≡ 4096 = ap (λ (p : Place). p.valid) (slot-place old.files old.anon s fits.files low) in
-      step.pages notes (slot_name s) has nf tell is ∙ ap (λ (v : ℕ). cut_page (cut (slot_name s)) v (page_value old notes (slot_name s))) full ∙ cut-none (cut (slot_name s)) (page_value old notes (slot_name s)) (λ c. step.whole notes (slot_name s) has nf tell c)
-  | inr none ↦
-      ap (λ (b : Bool). cond b (value new.store (notes_after trip notes) (world_table new) (slot_name s)) []) (name-same old new (slot_name s) step.tables ∙ none)
-      ∙ sym (ap (λ (b : Bool). cond b (value old.store notes (world_table old) (slot_name s)) []) none)
+-- a page that exists is one that a file keeps, or a slot's
+pub exists-page : (w : World) (name : PageName) → FilesFit w.files → IsTrue (page_exists w.files w.anon name) → IsTrue (is_page_name w.files w.anon name)
+exists-page w name fit is = elim (eqb_tells name.object 64) [
+  | inl slot ↦
+      let used : is_used (count_at w.anon name.page) ≡ true = sym (ap (λ (b : Bool). cond b (is_used (count_at w.anon name.page)) (nat_lt name.page (pages_in (vnode_at w.files name.object).info.length))) slot.0) ∙ is in
+      ap (λ (b : Bool). cond b (nat_lt name.page (length w.anon.counts)) (nat_lt name.page (page_count (vnode_at w.files name.object).info.extents))) slot.0
+      ∙ lt-ltb name.page (length w.anon.counts) (used-below w.anon.counts name.page (in-use (count_at w.anon name.page) used))
+  | inr file ↦
+      let below : name.page < pages_in (vnode_at w.files name.object).info.length = ltb-true name.page (pages_in (vnode_at w.files name.object).info.length) (sym (ap (λ (b : Bool). cond b (is_used (count_at w.anon name.page)) (nat_lt name.page (pages_in (vnode_at w.files name.object).info.length))) file.0) ∙ is) in
+      ap (λ (b : Bool). cond b (nat_lt name.page (length w.anon.counts)) (nat_lt name.page (page_count (vnode_at w.files name.object).info.extents))) file.0
+      ∙ lt-ltb name.page (page_count (vnode_at w.files name.object).info.extents) (below-kept (vnode_at w.files name.object) name.page (fit.each name.object (there name.object name.page w.files.files below)) below)
 ]
+  where
+    in-use : (n : ℕ) → is_used n ≡ true → 0 < n
+    in-use zero h = absurd (let z : false ≡ true = h in cc)
+    in-use (suc n) h = omega arith
+
+    there : (f i : ℕ) (vs : List VnodeSeen) → i < pages_in (slice_index_or vs f no_vnode).info.length → f < length vs
+    there f i [] lt = absurd (omega (arith, lt))
+    there zero i (v ∷ vs) lt = omega arith
+    there (suc f) i (v ∷ vs) lt = let more = there f i vs lt in omega (arith, more)
+
+-- pages that exist go on to
+pub exists-same : (old new : World) (name : PageName) → KeepsTables old new → page_exists new.files new.anon name ≡ page_exists old.files old.anon name
+exists-same old new name k =
+    ap (λ (cs : List ℕ). cond (name.object == 64) (is_used (slice_index cs name.page)) (nat_lt name.page (pages_in (vnode_at new.files name.object).info.length))) k.counts
+    ∙ ap (λ (i : FileInfo). cond (name.object == 64) (is_used (count_at old.anon name.page)) (nat_lt name.page (pages_in i.length))) (info-same old new name.object k)
+
+-- the page of a slot that is in use stays
+slot-same : (old new : World) (spaces : Spaces) (trip : Trip) (cut : PageName → Bool) (notes : Notes) (s : ℕ) → 0 < count_at old.anon s → MemoryFits (memory_of old spaces) → WorldStep old new spaces trip cut → HasTrip trip notes → NotesFit old notes → AllTell old notes
+    → page_value new (notes_after trip notes) (slot_name s) ≡ page_value old notes (slot_name s)
+slot-same old new spaces trip cut notes s used fits step has nf tell =
+    let exists : IsTrue (page_exists old.files old.anon (slot_name s)) = in-use (count_at old.anon s) used in
+    let full : (world_table old (slot_name s)).valid ≡ 4096 = ap (λ (p : Place). p.valid) (slot-place old.files old.anon s fits.files (used-below old.anon.counts s used)) in
+    step.pages notes (slot_name s) has nf tell exists ∙ ap (λ (v : ℕ). cut_page (cut (slot_name s)) v (page_value old notes (slot_name s))) full
+    ∙ cut-none (cut (slot_name s)) (page_value old notes (slot_name s)) (λ c. step.whole notes (slot_name s) has nf tell exists c)
+  where
+    in-use : (n : ℕ) → 0 < n → is_used n ≡ true
+    in-use n lt = elim (eqb_tells n 0) [ inl y ↦ absurd (let e = y.1 in omega (arith, e, lt)) | inr x ↦ ap (λ (b : Bool). not b) x.0 ]
 
 -- A STEP ON FLAT MEMORY.
 pub frame-flat : (old new : World) (spaces : Spaces) (trip : Trip) (cut : PageName → Bool) (born : set.FinSet nat_cmp) (notes : Notes) → MemoryFits (memory_of old spaces) → WorldStep old new spaces trip cut → HasTrip trip notes → NotesFit old notes → AllTell old notes
@@ -118,13 +149,18 @@ frame-flat old new spaces trip cut born notes fits step has nf tell whole =
     let c' : Contents = contents_by (page_value new (notes_after trip notes)) old.maps in
     let same_shape : flat_memory (memory_of new spaces) born (notes_after trip notes) ≡ flat_shaped shape born c' =
     λ i. flat_shaped (shape-same old new spaces step.tables i) born (contents_by (page_value new (notes_after trip notes)) (step.tables.maps i)) in
-    let places : c'.place ≡ c.place = λ i number place. option_map (λ (s : ℕ). slot-same old new spaces trip cut notes s fits step has nf tell i) (slot_in old.maps number place) in
+    let places : c'.place ≡ c.place = λ i number place. one-place number place (slot_in old.maps number place) refl i in
     let files : files_with_pages c'.file 0 shape.files ≡ files_cleared (tails_lost old cut) (files_with_pages c.file 0 shape.files) =
     cut-files c.file c'.file (tails_lost old cut) 0 shape.files (λ f info is. let z : f ≡ 0 + f = omega arith in
     subst (λ (j : ℕ). file_with_pages (c'.file j) info ≡ cond (tails_lost old cut f) (without_tail (file_with_pages (c.file j) info)) (file_with_pages (c.file j) info)) z (one-file f info is)) in
     same_shape ∙ ap (λ (place : ℕ → ℕ → Option Page). flat_shaped shape born (record { file = c'.file; place = place })) places
     ∙ ap (λ (fs : List File). record (flat_shaped shape born c) { files = fs }) files
   where
+    one-place : (number place : ℕ) (o : Option ℕ) → slot_in old.maps number place ≡ o
+        → option_map (λ (s : ℕ). page_value new (notes_after trip notes) (slot_name s)) o ≡ option_map (λ (s : ℕ). page_value old notes (slot_name s)) o
+    one-place number place None is = refl
+    one-place number place (Some s) is = ap (λ (page : Page). Some page) (slot-same old new spaces trip cut notes s (held-used old.anon old.maps number place s fits.counts is) fits step has nf tell)
+
     one-file : (f : ℕ) (info : FileInfo) → slice_get (shape_of (memory_of old spaces)).files f ≡ Some info
         → file_with_pages (file_contents (page_value new (notes_after trip notes)) f) info ≡ cond (tails_lost old cut f) (without_tail (file_with_pages (file_contents (page_value old notes) f) info)) (file_with_pages (file_contents (page_value old notes) f) info)
     one-file f info is =
@@ -141,11 +177,14 @@ frame-flat old new spaces trip cut born notes fits step has nf tell whole =
         (λ i lt.
         let kept : i < page_count (vnode_at old.files f).info.extents = below-kept (vnode_at old.files f) i (fits.files.each f at.0) (let e : pages_in (vnode_at old.files f).info.length ≡ pages_in info.length = ap (λ (x : FileInfo). pages_in x.length) at.1 in omega (arith, e, lt)) in
         let valid : (world_table old (file_name f i)).valid ≡ min (info.length - i * 4096) 4096 = ap (λ (p : Place). p.valid) (file-place old.files old.anon f i at.0 kept) ∙ ap (λ (x : FileInfo). min (x.length - i * 4096) 4096) at.1 in
-        new_page i ∙ step.pages notes (file_name f i) has nf tell (file-page old.files old.anon f i far kept)
+        new_page i ∙ step.pages notes (file_name f i) has nf tell (exists f i far (let e : pages_in (vnode_at old.files f).info.length ≡ pages_in info.length = ap (λ (x : FileInfo). pages_in x.length) at.1 in omega (arith, e, lt)))
         ∙ ap (λ (v : ℕ). cut_page (cut (file_name f i)) v (page_value old notes (file_name f i))) valid
         ∙ ap (cut_page (cut (file_name f i)) (min (info.length - i * 4096) 4096)) (sym (old_page i)))
         ∙ ap (λ (b : Bool). cond b (without_tail (file_with_pages (file_contents (page_value old notes) f) info)) (file_with_pages (file_contents (page_value old notes) f) info)) lost
       where
+        exists : (f i : ℕ) → f ≢ 64 → i < pages_in (vnode_at old.files f).info.length → IsTrue (page_exists old.files old.anon (file_name f i))
+        exists f i far lt = ap (λ (b : Bool). cond b (is_used (count_at old.anon i)) (nat_lt i (pages_in (vnode_at old.files f).info.length))) (not-slot f far) ∙ lt-ltb i (pages_in (vnode_at old.files f).info.length) lt
+
         zero_plus : (f : ℕ) (info : FileInfo) → Some (file_with_pages (file_contents (page_value old notes) (0 + f)) info) ≡ Some (file_with_pages (file_contents (page_value old notes) f) info)
         zero_plus f info = let z : 0 + f ≡ f = omega arith in ap (λ (j : ℕ). Some (file_with_pages (file_contents (page_value old notes) j) info)) z
 
@@ -162,22 +201,16 @@ bays-then stays old mid new a b = b ∙ a
 bays-then (leaves seat note) old mid new a b = (a.0, b ∙ a.1)
 bays-then (returns seat note) old mid new a b = (a.0, (a.1.0, b ∙ a.1.1))
 
-no-page : length {A = ℕ} [] ≡ 4096 → ⊥
-no-page e = omega (arith, e)
-
 -- ONE STEP AFTER ANOTHER.
 pub step-then : (u v w : World) (spaces : Spaces) (trip : Trip) (first second : PageName → Bool) → MemoryFits (memory_of u spaces) → WorldStep u v spaces trip first → WorldStep v w spaces stays second → WorldStep u w spaces trip (λ name. first name || second name)
 step-then u v w spaces trip first second fits a b =
-    let whole : (notes : Notes) (name : PageName) → HasTrip trip notes → NotesFit u notes → AllTell u notes → (first name || second name) ≡ true → length (page_value u notes name) ≡ 4096 =
-    λ notes name has nf tell is. elim (cases_Bool (first name)) [
-      | inl cut ↦ a.whole notes name has nf tell cut
+    let whole : (notes : Notes) (name : PageName) → HasTrip trip notes → NotesFit u notes → AllTell u notes → IsTrue (page_exists u.files u.anon name) → (first name || second name) ≡ true → length (page_value u notes name) ≡ 4096 =
+    λ notes name has nf tell exists is. elim (cases_Bool (first name)) [
+      | inl cut ↦ a.whole notes name has nf tell exists cut
       | inr keep ↦
           let later : second name ≡ true = sym (ap (λ (c : Bool). c || second name) keep) ∙ is in
-          let mid : length (page_value v (notes_after trip notes) name) ≡ 4096 = b.whole (notes_after trip notes) name tt (a.notes notes has nf) ((a.tells notes has nf).0 tell) later in
-          elim (cases_Bool (is_page_name u.files u.anon name)) [
-            | inl real ↦ whole-before (first name) (world_table u name).valid (page_value u notes name) (λ c. a.whole notes name has nf tell c) (sym (ap length (a.pages notes name has nf tell real)) ∙ mid)
-            | inr none ↦ absurd (no-page (sym (ap length (ap (λ (c : Bool). cond c (value v.store (notes_after trip notes) (world_table v) name) []) (name-same u v name a.tables ∙ none))) ∙ mid))
-          ]
+          let mid : length (page_value v (notes_after trip notes) name) ≡ 4096 = b.whole (notes_after trip notes) name tt (a.notes notes has nf) ((a.tells notes has nf).0 tell) (exists-same u v name a.tables ∙ exists) later in
+          whole-before (first name) (world_table u name).valid (page_value u notes name) (λ c. a.whole notes name has nf tell exists c) (sym (ap length (a.pages notes name has nf tell exists)) ∙ mid)
     ] in
     record {
       tables = tables-then u v w a.tables b.tables;
@@ -188,12 +221,34 @@ step-then u v w spaces trip first second fits a b =
       notes = λ notes has nf. b.notes (notes_after trip notes) tt (a.notes notes has nf);
       tells = λ notes has nf. let first_tells = a.tells notes has nf in let then_tells = b.tells (notes_after trip notes) tt (a.notes notes has nf) in ((λ tell. then_tells.0 (first_tells.0 tell)), (λ tell. first_tells.1 (then_tells.1 tell)));
       whole = whole;
-      pages = λ notes name has nf tell real.
-          b.pages (notes_after trip notes) name tt (a.notes notes has nf) ((a.tells notes has nf).0 tell) (name-same u v name a.tables ∙ real)
+      pages = λ notes name has nf tell exists.
+          let real = exists-page u name fits.files exists in
+          b.pages (notes_after trip notes) name tt (a.notes notes has nf) ((a.tells notes has nf).0 tell) (exists-same u v name a.tables ∙ exists)
           ∙ ap (λ (n : ℕ). cut_page (second name) n (page_value v (notes_after trip notes) name)) (valid-same u v name a.tables fits.files a.memory.files real)
-          ∙ ap (cut_page (second name) (world_table u name).valid) (a.pages notes name has nf tell real)
-          ∙ cut-twice (first name) (second name) (world_table u name).valid (page_value u notes name) (valid-within u name fits.files real) (λ c. a.whole notes name has nf tell c);
+          ∙ ap (cut_page (second name) (world_table u name).valid) (a.pages notes name has nf tell exists)
+          ∙ cut-twice (first name) (second name) (world_table u name).valid (page_value u notes name) (valid-within u name fits.files real) (λ c. a.whole notes name has nf tell exists c);
+    }
+
+-- A STEP AFTER ONE THAT KEEPS ALL PAGES.
+pub step-later : (u v w : World) (spaces : Spaces) (trip : Trip) (cut : PageName → Bool) → MemoryFits (memory_of u spaces) → WorldStep u v spaces stays (λ name. false) → WorldStep v w spaces trip cut → WorldStep u w spaces trip cut
+step-later u v w spaces trip cut fits a b =
+    let same : (notes : Notes) (name : PageName) → NotesFit u notes → AllTell u notes → IsTrue (page_exists u.files u.anon name) → page_value v notes name ≡ page_value u notes name =
+    λ notes name nf tell exists. a.pages notes name tt nf tell exists in
+    record {
+      tables = tables-then u v w a.tables b.tables;
+      core = b.core ∙ a.core;
+      frames = b.frames ∙ a.frames;
+      bays = subst (λ (bs : List BaySeen). MovesBay trip bs w.store.bays) a.bays b.bays;
+      memory = b.memory;
+      notes = λ notes has nf. b.notes notes has (a.notes notes tt nf);
+      tells = λ notes has nf. let first = a.tells notes tt nf in let second = b.tells notes has (a.notes notes tt nf) in ((λ tell. second.0 (first.0 tell)), (λ tell. first.1 (second.1 tell)));
+      whole = λ notes name has nf tell exists is.
+          sym (ap length (same notes name nf tell exists)) ∙ b.whole notes name has (a.notes notes tt nf) ((a.tells notes tt nf).0 tell) (exists-same u v name a.tables ∙ exists) is;
+      pages = λ notes name has nf tell exists.
+          b.pages notes name has (a.notes notes tt nf) ((a.tells notes tt nf).0 tell) (exists-same u v name a.tables ∙ exists)
+          ∙ ap (λ (n : ℕ). cut_page (cut name) n (page_value v notes name)) (valid-same u v name a.tables fits.files a.memory.files (exists-page u name fits.files exists))
+          ∙ ap (cut_page (cut name) (world_table u name).valid) (same notes name nf tell exists);
     }
 
 pub frame_law : FrameRule
-frame_law = record { flat = frame-flat; joined = step-then }
+frame_law = record { flat = frame-flat; joined = step-then; later = step-later }

@@ -20,3 +20,9 @@ pub mod Failures
 pub mod Callers
 pub mod CallSteps
 pub mod Told
+pub mod FlatSpaces
+pub mod FileMappings
+pub mod SpaceSteps
+pub mod Reserves
+pub mod Servings
+pub mod SeatRules

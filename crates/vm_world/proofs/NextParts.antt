@@ -20,7 +20,7 @@ two_tests true c x n is = absurd cc
 two_tests false true x n is = absurd cc
 two_tests false false x n is = cc
 
-next-file : (c : Call) (r : Reply) (bytes : List ℕ) (n : Call) → next_part c r bytes ≡ Some n → part_file n ≡ part_file c
+pub next-file : (c : Call) (r : Reply) (bytes : List ℕ) (n : Call) → next_part c r bytes ≡ Some n → part_file n ≡ part_file c
 unfolding next_part
 next-file (Read file offset len) (reply.Bytes line) bytes n is =
     ap part_file (sym (three_tests (is_short offset len (length line)) (len - length line == 0) (is_past_numbers (offset + length line)) (Read file (offset + length line) (len - length line)) n is))

@@ -1,6 +1,6 @@
 -- The state at the opening fits.
 use Rattle.std.proofs.Common.{◌≡◌, ℕ, zero, suc, ◌-◌, ◌*◌, ◌<◌, ◌≤◌, ◌^◌, min, Bool, true, false, cond, List, [], ◌∷◌, ◌++◌, length, map, replicate, Option, Some, None, refl, sym, ap, ◌∙◌, inl, inr, subst, arith}
-use Rattle.std.specs.Prelude.{option_map, slice_index_or, slice_index, unwrap_or, is_some, if◌then◌else◌, All, IsSome, IsTrue, sum_by, ◌||◌}
+use Rattle.std.specs.Prelude.{option_map, slice_index_or, slice_index, unwrap_or, is_some, if◌then◌else◌, All, IsSome, IsTrue, IsFalse, sum_by, ◌||◌}
 use Rattle.std.specs.Ordering.{nat_cmp}
 use Rattle.std.specs.FinMap as finite
 use Rattle.std.specs.FinSet as set
@@ -37,7 +37,7 @@ use Rattle.vm_world.specs.MemoryFits.{MemoryFits}
 use Rattle.vm_world.specs.NotesFit.{NotesFit}
 use Rattle.vm_world.specs.State.{KernelState, is_top}
 use Rattle.vm_world.specs.StateFits.{StateFits}
-use Rattle.vm_world.specs.HistoryFits.{HistoryFits, FaultsFit, CallsFit, RoomsFit, BirthsFit, faults_in}
+use Rattle.vm_world.specs.HistoryFits.{HistoryFits, FaultsFit, CallsFit, RoomsFit, BirthsFit, faults_in, has_left}
 use Rattle.vm_types.specs.declared.call.Entry.{Entry}
 use Rattle.flat_model.specs.Counted.{top_count}
 use Rattle.vm_world.specs.Opening.{IsOpeningMemory, IsOpening, OpeningLaw, no_seats}
@@ -224,7 +224,7 @@ opening-fits s o = record {
   faults = opening-faults s o;
   calls = opening-calls s o;
   rooms = subst (λ (h : List Entry). RoomsFit h s.parents s.entries) (sym o.history) (record { made = λ p. omega arith; forks = λ k child e is _. absurd (cc) });
-  births = subst (λ (h : List Entry). BirthsFit h s.parents s.memory.spaces s.born) (sym o.history) (record { lived = λ p. o.born p ∙ or-false (is_top s.parents p); alive = alive });
+  births = subst (λ (h : List Entry). BirthsFit h s.parents s.memory.spaces s.born) (sym o.history) (record { lived = λ p. o.born p ∙ or-false (is_top s.parents p); alive = alive; stays = stays });
   plans = record {
     plan = λ kept is. absurd (let z : None ≡ Some kept = sym o.plan ∙ is in cc);
     planned = λ kept of is _. absurd (let z : None ≡ Some kept = sym o.plan ∙ is in cc);
@@ -238,6 +238,13 @@ opening-fits s o = record {
 
     alive : (p : ℕ) → IsSome (finite.get s.memory.spaces p) → IsTrue (set.contains s.born p)
     alive p is = o.born p ∙ by_top (is_top s.parents p) (finite.get s.memory.spaces p) (o.memory.spaces p) is
+
+    there : (b : Bool) (parts : Option (List (Part Segment))) → parts ≡ (if b then Some [] else None) → b ≡ true → IsSome parts
+    there true parts is top = ap is_some is
+    there false parts is top = absurd (let z : false ≡ true = top in cc)
+
+    stays : (p : ℕ) → IsTrue (set.contains s.born p) → IsFalse (has_left p []) → IsSome (finite.get s.memory.spaces p)
+    stays p born here = there (is_top s.parents p) (finite.get s.memory.spaces p) (o.memory.spaces p) (sym (o.born p) ∙ born)
 
 pub opening_law : OpeningLaw
 opening_law = record { fits = opening-fits }

@@ -25,7 +25,7 @@ both-right : (a b : Bool) → (a && b) ≡ true → b ≡ true
 both-right true b e = e
 both-right false b e = absurd (cc)
 
-spot-in : (P : Part Segment → Type 0) (low : ℕ) (parts : List (Part Segment)) (q : ℕ) (x : Spot) → 1 ≤ low → IsInOrder low parts → All P parts → at parts q ≡ Some x → IsSpotOf P q x
+pub spot-in : (P : Part Segment → Type 0) (low : ℕ) (parts : List (Part Segment)) (q : ℕ) (x : Spot) → 1 ≤ low → IsInOrder low parts → All P parts → at parts q ≡ Some x → IsSpotOf P q x
 spot-in P low [] q x some order each is = absurd (cc)
 spot-in P low (p ∷ ps) q x some order each is = elim (cases_Bool (has p q)) [
   | inl y ↦

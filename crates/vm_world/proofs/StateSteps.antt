@@ -1,5 +1,5 @@
 -- A step of the world is an event.
-use Rattle.std.proofs.Common.{◌≡◌, ◌≢◌, ℕ, zero, suc, ◌<◌, ◌≤◌, ◌==◌, ◌^◌, Bool, true, false, cond, List, [], ◌∷◌, ◌++◌, length, map, Option, Some, None, refl, sym, ap, ◌∙◌, inl, inr, subst, arith}
+use Rattle.std.proofs.Common.{◌≡◌, ◌≢◌, ℕ, zero, suc, ◌<◌, ◌≤◌, ◌==◌, ◌^◌, Bool, true, false, cond, List, [], ◌∷◌, ◌++◌, length, Option, Some, None, refl, sym, ap, ◌∙◌, inl, inr, subst, arith}
 use Rattle.std.specs.Prelude.{option_map, slice_set, All, IsSome, is_some}
 use Rattle.std.proofs.lemmas.Bool.{cases_eq}
 use Rattle.std.proofs.lemmas.Bool.Decides.{eqb_tells}
@@ -10,7 +10,6 @@ use Rattle.block_device.specs.DiskSeen.{DiskSeen}
 use Rattle.page_hash.specs.declared.PageName.{PageName}
 use Rattle.page_store.specs.Bays.{BaySeen, missing, home, out, bay_at}
 use Rattle.page_store.specs.Notes.{Note, Notes, with_note}
-use Rattle.vnode_files.specs.declared.vnode.FileInfo.{FileInfo}
 use Rattle.vnode_files.specs.Vnode.{VnodeSeen}
 use Rattle.flat_model.specs.Counted.{top_count}
 use Rattle.flat_model.specs.Flat.{Flat, IsFlat}
@@ -22,17 +21,19 @@ use Rattle.vm_world.specs.FlatMemory.{flat_memory, shape_of}
 use Rattle.vm_world.specs.HistoryFits.{HistoryFits, FaultsFit, faults_in, noted_faults}
 use Rattle.vm_world.specs.MemoryFits.{MemoryFits}
 use Rattle.vm_world.specs.NotesFit.{NotesFit}
-use Rattle.vm_world.specs.State.{KernelState, Seats, Sent, Caller, KeptPlan, FileMode, mode_of, notes_of, with_sent, fixed_of, seat_of}
-use Rattle.vm_world.specs.StateFits.{StateFits, CallerFits}
-use Rattle.vm_world.specs.Events.{IsEvent}
+use Rattle.vm_world.specs.Plans.{CanRunPlan, MayMeetFault}
+use Rattle.vm_world.specs.State.{KernelState, Seats, Sent, Caller, KeptPlan, notes_of, with_sent, fixed_of, seat_of}
+use Rattle.vm_world.specs.StateFits.{StateFits, CallerFits, PlanFits}
+use Rattle.vm_world.specs.Events.{IsEvent, CanTry}
 use Rattle.vm_world.specs.StateSteps.{after_step, PendsTails, CountsOn, StateRule}
 use Rattle.vm_world.specs.WorldSteps.{Trip, stays, leaves, returns, HasTrip, notes_after, WorldStep, tails_lost}
 use Rattle.flat_model.proofs.WellFormed.{IsFlat-tails_cleared}
-use Rattle.vm_world.proofs.Entries.{entry-tails}
+use Rattle.vm_world.proofs.Entries.{entry-tails, length-cleared}
 use Rattle.vm_world.proofs.FilePages.{length-files_with_pages}
 use Rattle.vm_world.proofs.FrameRule.{frame-flat}
 use Rattle.vm_world.proofs.FlatWhole.{some-inj}
-use Rattle.vm_world.proofs.Callers.{caller-tables}
+use Rattle.vm_world.proofs.Callers.{caller-kept, same-modes}
+use Rattle.vm_world.proofs.MayFails.{alive-flat}
 
 -- the notes of seats one of which has something else outside
 notes-with : (seats : Seats) (seat : ℕ) (sent : Option Sent) → notes_of (with_sent seats seat sent) ≡ with_note (notes_of seats) seat (option_map (λ (s : Sent). s.note) sent)
@@ -59,28 +60,26 @@ other-seat seats seat k sent far = elim (eqb_tells k seat) [ inl y ↦ absurd (f
 pub this-seat : (seats : Seats) (seat : ℕ) (sent : Option Sent) → with_sent seats seat sent seat ≡ sent
 this-seat seats seat sent = elim (eqb_tells seat seat) [ inl y ↦ ap (λ (b : Bool). cond b sent (seats seat)) y.0 | inr n ↦ absurd (n.1 refl) ]
 
-pub modes-of : (vs : List VnodeSeen) → map mode_of vs ≡ map (λ (i : FileInfo). record { name = i.name; disk = i.disk; writable = i.writable }) (map (λ (v : VnodeSeen). v.info) vs)
-modes-of [] = refl
-modes-of (v ∷ vs) = ap (λ (ms : List FileMode). mode_of v ∷ ms) (modes-of vs)
-
 module _ (s : KernelState) (new : World) (trip : Trip) (cut : PageName → Bool) (pending : ℕ) (step : WorldStep s.memory.world new s.memory.spaces trip cut) (tails : PendsTails s.memory.world cut s.pending pending) where
   fixed-same : fixed_of (after_step s new pending) ≡ fixed_of s
   fixed-same = λ i. record {
-    origin = step.core i;
+    core = step.core i;
     frames = step.frames i;
     slots = length (step.tables.counts i);
     disks = step.tables.disks i;
-    files = modes i;
+    files = same-modes s.memory.world new step.tables i;
     seats = length s.syncs;
     parents = s.parents;
     entries = s.entries;
   }
-    where
-      modes : map mode_of new.files.files ≡ map mode_of s.memory.world.files.files
-      modes = modes-of new.files.files ∙ ap (λ (is : List FileInfo). map (λ (i : FileInfo). record { name = i.name; disk = i.disk; writable = i.writable }) is) step.tables.infos ∙ sym (modes-of s.memory.world.files.files)
 
-  pub caller-kept : (before after : Notes) (seat : ℕ) (of : Caller) → CallerFits (flat_memory s.memory s.born before) s.history s.entries seat of → CallerFits (flat_memory (after_step s new pending).memory s.born after) s.history s.entries seat of
-  caller-kept before after seat of c = caller-tables s.memory.world new s.memory.spaces s.born before after s.history s.entries seat of step.tables c
+  pub caller-step : (before after : Notes) (seat : ℕ) (of : Caller) → CallerFits (flat_memory s.memory s.born before) s.history s.entries seat of → CallerFits (flat_memory (after_step s new pending).memory s.born after) s.history s.entries seat of
+  caller-step before after seat of c = caller-kept s.memory (record s.memory { world = new }) s.born s.born before after s.history s.entries seat of refl (same-modes s.memory.world new step.tables) c
+
+  -- the history leaves as many files as there are
+  files : (opening : Flat) (notes : Notes) → HistoryFits opening s.history s.pending (flat_memory s.memory s.born notes) → length (flat_memory s.memory s.born notes).files ≡ length s.memory.world.files.files
+      → length (replay opening s.history).files ≡ length s.memory.world.files.files
+  files opening notes h count = sym (length-cleared (bit s.pending) (replay opening s.history).files) ∙ sym (ap (λ (F : Flat). length F.files) h.shows) ∙ count
 
   history-kept : (opening : Flat) (notes : Notes) → MemoryFits s.memory → HasTrip trip notes → NotesFit s.memory.world notes
       → (AllTell s.memory.world notes → HistoryFits opening s.history s.pending (flat_memory s.memory s.born notes))
@@ -93,9 +92,9 @@ module _ (s : KernelState) (new : World) (trip : Trip) (cut : PageName → Bool)
       subst (λ (F : Flat). HistoryFits opening s.history pending F)
       (sym (frame-flat s.memory.world new s.memory.spaces trip cut s.born notes fits step has nf old whole))
       (entry-tails opening s.history s.pending pending (flat_memory s.memory s.born notes) (tails_lost s.memory.world cut) h
-      (λ f lt. tails.bits f (omega (arith, lt, count))) (subst (λ (n : ℕ). pending < 2 ^ n) (sym count) tails.below))
+      (λ f lt. tails.bits f (omega (arith, lt, count))) (subst (λ (n : ℕ). pending < 2 ^ n) (sym count) (tails.below (subst (λ (n : ℕ). s.pending < 2 ^ n) (files opening notes h count) h.bits))))
 
-  -- all parts but those that look at seats
+  -- the state after the step, with no plan
   event-state : (opening : Flat) (seats seats' : Seats) → notes_of seats' ≡ notes_after trip (notes_of seats) → HasTrip trip (notes_of seats)
       → FaultsFit s.history new.store.bays (notes_after trip (notes_of seats))
       → ((k : ℕ) (sent : Sent) (of : Caller) → seats' k ≡ Some sent → sent.of ≡ Some of → CallerFits (flat_memory s.memory s.born (notes_of seats)) s.history s.entries k of)
@@ -112,21 +111,61 @@ module _ (s : KernelState) (new : World) (trip : Trip) (cut : PageName → Bool)
     plans = record {
       plan = λ kept is. absurd (let z : ◌≡◌ {A = Option KeptPlan} None (Some kept) = is in cc);
       planned = λ kept of is _. absurd (let z : ◌≡◌ {A = Option KeptPlan} None (Some kept) = is in cc);
-      sent = λ k sent of is for_call. caller-kept (notes_of seats) (notes_of seats') k of (callers k sent of is for_call);
+      sent = λ k sent of is for_call. caller-step (notes_of seats) (notes_of seats') k of (callers k sent of is for_call);
     };
   }
 
-no-entries : (H : List Entry) (seat : ℕ) → (added : List Entry) × (H ≡ H ++ added) × All (λ (e : Entry). seat_of e.process ≡ seat) added
+pub no-entries : (H : List Entry) (seat : ℕ) → (added : List Entry) × (H ≡ H ++ added) × All (λ (e : Entry). seat_of e.process ≡ seat) added
 no-entries H seat = ([], sym (append-nil H), All-nil (λ (e : Entry). seat_of e.process ≡ seat))
 
 -- NOTHING LEAVES.
-rule-calm : (s : KernelState) (new : World) (cut : PageName → Bool) (pending seat : ℕ) (sent : Option Sent) → WorldStep s.memory.world new s.memory.spaces stays cut → PendsTails s.memory.world cut s.pending pending → IsEvent seat s sent (after_step s new pending) sent
+calm-state : (s : KernelState) (new : World) (cut : PageName → Bool) (pending : ℕ) → WorldStep s.memory.world new s.memory.spaces stays cut → PendsTails s.memory.world cut s.pending pending → (opening : Flat) (seats : Seats) → StateFits opening s seats → StateFits opening (after_step s new pending) seats
+calm-state s new cut pending step tails opening seats fit =
+    event-state s new stays cut pending step tails opening seats seats refl tt (subst (λ (b : List BaySeen). FaultsFit s.history b (notes_of seats)) (sym step.bays) fit.faults) (λ k x of at for_call. fit.plans.sent k x of at for_call) fit
+
+pub rule-calm : (s : KernelState) (new : World) (cut : PageName → Bool) (pending seat : ℕ) (sent : Option Sent) → WorldStep s.memory.world new s.memory.spaces stays cut → PendsTails s.memory.world cut s.pending pending → IsEvent seat s sent (after_step s new pending) sent
 rule-calm s new cut pending seat sent step tails = record {
-  fits = λ opening seats is fit. subst (λ (x : Seats). StateFits opening (after_step s new pending) x) (sym (same-seats seats seat sent is))
-      (event-state s new stays cut pending step tails opening seats seats refl tt (subst (λ (b : List BaySeen). FaultsFit s.history b (notes_of seats)) (sym step.bays) fit.faults) (λ k x of at for_call. fit.plans.sent k x of at for_call) fit);
+  fits = λ opening seats is fit. subst (λ (x : Seats). StateFits opening (after_step s new pending) x) (sym (same-seats seats seat sent is)) (calm-state s new cut pending step tails opening seats fit);
   fixed = fixed-same s new stays cut pending step tails;
   grown = no-entries s.history seat;
 }
+
+-- A PLAN IS KEPT.
+pub rule-plans : (s : KernelState) (new : World) (cut : PageName → Bool) (pending : ℕ) (kept : KeptPlan) → WorldStep s.memory.world new s.memory.spaces stays cut → PendsTails s.memory.world cut s.pending pending → CanRunPlan (record s.memory { world = new }) kept.of kept.plan
+    → ((of : Caller) → kept.of ≡ Some of → CanTry s kept.seat of.0 of.1 × MayMeetFault (record s.memory { world = new }) of.0 of.1) → IsEvent kept.seat s None (record (after_step s new pending) { plan = Some kept }) None
+rule-plans s new cut pending kept step tails runs may = record {
+  fits = λ opening seats is fit. subst (λ (x : Seats). StateFits opening (record (after_step s new pending) { plan = Some kept }) x) (sym (same-seats seats kept.seat None is)) (state opening seats is fit);
+  fixed = fixed-same s new stays cut pending step tails;
+  grown = no-entries s.history kept.seat;
+}
+  where
+    caller : (notes : Notes) (of : Caller) → kept.of ≡ Some of → CallerFits (flat_memory (record s.memory { world = new }) s.born notes) s.history s.entries kept.seat of
+    caller notes of is = let m = may of is in record {
+      own = m.0.own;
+      alive = (alive-flat (shape_of (record s.memory { world = new })) s.born (contents_of new notes) of.0).1 m.0.alive;
+      room = m.0.room;
+      fails = m.1 s.born notes;
+      follows = m.0.follows;
+    }
+
+    state : (opening : Flat) (seats : Seats) → seats kept.seat ≡ None → StateFits opening s seats → StateFits opening (record (after_step s new pending) { plan = Some kept }) seats
+    state opening seats is fit =
+        let calm = calm-state s new cut pending step tails opening seats fit in
+        record {
+          memory = calm.memory;
+          notes = calm.notes;
+          replays = calm.replays;
+          faults = calm.faults;
+          calls = calm.calls;
+          rooms = calm.rooms;
+          births = calm.births;
+          plans = record {
+            plan = λ k at. subst (λ (x : KeptPlan). PlanFits (record (after_step s new pending) { plan = Some kept }) seats x) (some-inj kept k at) (record { may = runs.may; ready = runs.ready; frame = runs.frame; idle = is });
+            planned = λ k of at for_call. subst (λ (x : KeptPlan). CallerFits (flat_memory (record s.memory { world = new }) s.born (notes_of seats)) s.history s.entries x.seat of) (some-inj kept k at)
+                (caller (notes_of seats) of (ap (λ (x : KeptPlan). x.of) (some-inj kept k at) ∙ for_call));
+            sent = calm.plans.sent;
+          };
+        }
 
 home-below : (bays : List BaySeen) (k : ℕ) (d : DiskSeen) → bay_at bays k ≡ home d → k < length bays
 home-below [] k d is = absurd (cc)
@@ -247,4 +286,4 @@ rule-ends s new cut pending seat sent step tails counts = record {
         sym b.2 ∙ ap (λ (n : Note). n.number) same
 
 pub state_rule : StateRule
-state_rule = record { calm = rule-calm; begins = rule-begins; ends = rule-ends }
+state_rule = record { calm = rule-calm; plans = rule-plans; begins = rule-begins; ends = rule-ends }

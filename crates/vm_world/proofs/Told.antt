@@ -1,14 +1,16 @@
--- What a seat is told of the state.
-use Rattle.std.proofs.Common.{◌≡◌, ℕ, suc, ◌<◌, ◌==◌, Bool, cond, List, length, Option, Some, None, refl, sym, ap, ◌∙◌, ◌⊎◌, inl, inr}
+-- Events at rest and one after another, and what a seat is told of the state.
+use Rattle.std.proofs.Common.{◌≡◌, ℕ, suc, ◌<◌, ◌==◌, Bool, true, false, cond, List, ◌++◌, length, Option, Some, None, refl, sym, ap, ◌∙◌, ◌⊎◌, inl, inr, append_assoc, subst}
 use Rattle.std.specs.Prelude.{option_map, IsSome, IsSomeAnd, slice_set, slice_index_or}
 use Rattle.std.proofs.lemmas.Bool.Decides.{eqb_tells}
 use Rattle.std.proofs.lemmas.List.{get_or-set_same, get_or-set_other}
+use Rattle.std.proofs.lemmas.List.Elements.{All-append}
 use Rattle.core_arena.specs.Bytes.{bytes_at}
 use Rattle.vm_types.specs.declared.call.Call.{Call}
+use Rattle.vm_types.specs.declared.call.Entry.{Entry}
 use Rattle.page_hash.specs.Names.{find}
 use Rattle.page_hash.specs.declared.PageName.{PageName}
 use Rattle.page_lock.specs.Rows.{row_at}
-use Rattle.page_store.specs.Bays.{BaySeen}
+use Rattle.page_store.specs.Bays.{BaySeen, out, bay_at}
 use Rattle.page_store.specs.Notes.{Note}
 use Rattle.page_store.specs.Seen.{StoreSeen, residence, residence_in, residence_of}
 use Rattle.page_store.specs.declared.plan.Hold.{Hold}
@@ -17,10 +19,12 @@ use Rattle.page_store.specs.declared.residence.Residence.TheVariants.{Moving}
 use Rattle.flat_model.specs.Flat.{Flat}
 use Rattle.flat_model.specs.OpenLaws.{last_entry, IsOpenPart}
 use Rattle.vm_world.specs.EventLaws.{EventLaw}
+use Rattle.vm_world.specs.Events.{IsEvent}
 use Rattle.vm_world.specs.HistoryFits.{faults_in}
-use Rattle.vm_world.specs.State.{KernelState, Seats, Sent, notes_of, seats_of, with_sent}
+use Rattle.vm_world.specs.State.{KernelState, KeptPlan, Seats, Sent, notes_of, seat_of, seats_of, with_sent}
 use Rattle.vm_world.specs.StateFits.{StateFits}
 use Rattle.vm_world.specs.Wants.{HoldsUp, seat_in}
+use Rattle.vm_world.proofs.StateSteps.{no-entries, same-seats, this-seat}
 
 -- a page that is moving has a frame whose lock the seat holds
 moving : (s : StoreSeen) (name : PageName) (seat : ℕ) → residence s name ≡ Moving seat → (frame : ℕ) × ((row_at s.rows frame).holder ≡ Some seat)
@@ -43,12 +47,19 @@ has-sent seats seat note is = by_sent (seats seat) is
     by_sent None e = absurd (cc)
     by_sent (Some s) e = refl
 
+-- the seat that has a frame's lock, that a page is moving with, or that has a disk out, has something outside
+pub lock-sent : (opening : Flat) (s : KernelState) (seats : Seats) (frame t : ℕ) → StateFits opening s seats → (row_at s.memory.world.store.rows frame).holder ≡ Some t → IsSome (seats t)
+lock-sent opening s seats frame t fit is = let n = fit.notes.stored.each_frame frame t is in has-sent seats t n.0 n.1
+
+pub moving-sent : (opening : Flat) (s : KernelState) (seats : Seats) (name : PageName) (t : ℕ) → StateFits opening s seats → residence s.memory.world.store name ≡ Moving t → IsSome (seats t)
+moving-sent opening s seats name t fit is = let held = moving s.memory.world.store name t is in lock-sent opening s seats held.0 t fit held.1
+
+pub disk-sent : (opening : Flat) (s : KernelState) (seats : Seats) (disk t : ℕ) → StateFits opening s seats → bay_at s.memory.world.store.bays disk ≡ out t → IsSome (seats t)
+disk-sent opening s seats disk t fit is = let n = fit.notes.stored.each_bay disk t is in has-sent seats t n.0 n.1
+
 tells-holds : (opening : Flat) (s : KernelState) (seats : Seats) (p : ℕ) (call : Call) (h : Hold) → StateFits opening s seats → HoldsUp s.memory s.calls p call h → IsSome (seats (seat_in h)) ⊎ ((f : ℕ) × IsSomeAnd (last_entry (suc (seat_in h)) s.history) (IsOpenPart f))
-tells-holds opening s seats p call (hold.Page t) fit cause =
-    let held = moving s.memory.world.store cause.0 t cause.2 in
-    let n = fit.notes.stored.each_frame held.0 t held.1 in
-    inl (has-sent seats t n.0 n.1)
-tells-holds opening s seats p call (hold.Disk t) fit cause = let n = fit.notes.stored.each_bay _ t cause.2 in inl (has-sent seats t n.0 n.1)
+tells-holds opening s seats p call (hold.Page t) fit cause = inl (moving-sent opening s seats cause.0 t fit cause.2)
+tells-holds opening s seats p call (hold.Disk t) fit cause = inl (disk-sent opening s seats _ t fit cause.2)
 tells-holds opening s seats p call (hold.File t) fit cause = inr (cause.0, (fit.calls.files cause.0 t).0 cause.2)
 
 same-list : (sents : List (Option Sent)) (seat : ℕ) (sent : Option Sent) → seat < length sents → with_sent (seats_of sents) seat sent ≡ seats_of (slice_set sents seat sent)
@@ -60,8 +71,60 @@ same-list sents seat sent lt = λ i k. at k i
       | inr n ↦ ap (λ (b : Bool). cond b sent (slice_index_or sents k None)) n.0 ∙ sym (get_or-set_other sents seat k sent None n.1)
     ]
 
+-- NOTHING CHANGES.
+rests : (seat : ℕ) (s : KernelState) (sent : Option Sent) → IsEvent seat s sent s sent
+rests seat s sent = record {
+  fits = λ opening seats is fit. subst (λ (x : Seats). StateFits opening s x) (sym (same-seats seats seat sent is)) fit;
+  fixed = refl;
+  grown = no-entries s.history seat;
+}
+
+-- a seat that has one thing outside and then another
+sent-twice : (seats : Seats) (seat : ℕ) (mid after : Option Sent) → with_sent (with_sent seats seat mid) seat after ≡ with_sent seats seat after
+sent-twice seats seat mid after = λ i k. by_seat (k == seat) k i
+  where
+    by_seat : (b : Bool) (k : ℕ) → cond b after (cond b mid (seats k)) ≡ cond b after (seats k)
+    by_seat true k = refl
+    by_seat false k = refl
+
+-- ONE EVENT AFTER ANOTHER.
+pub event-then : (seat : ℕ) (s t u : KernelState) (before mid after : Option Sent) → IsEvent seat s before t mid → IsEvent seat t mid u after → IsEvent seat s before u after
+event-then seat s t u before mid after a b = record {
+  fits = λ opening seats is fit. subst (λ (x : Seats). StateFits opening u x) (sent-twice seats seat mid after) (b.fits opening (with_sent seats seat mid) (this-seat seats seat mid) (a.fits opening seats is fit));
+  fixed = b.fixed ∙ a.fixed;
+  grown = (
+    a.grown.0 ++ b.grown.0,
+    b.grown.1 ∙ ap (λ (H : List Entry). H ++ b.grown.0) a.grown.1 ∙ append_assoc s.history a.grown.0 b.grown.0,
+    All-append (λ (e : Entry). seat_of e.process ≡ seat) a.grown.0 b.grown.0 a.grown.2 b.grown.2,
+  );
+}
+
+-- A PLAN IS FORGOTTEN.
+pub forgets-plan : (seat : ℕ) (s : KernelState) (sent : Option Sent) → IsEvent seat s sent (record s { plan = None }) sent
+forgets-plan seat s sent = record {
+  fits = λ opening seats is fit. subst (λ (x : Seats). StateFits opening (record s { plan = None }) x) (sym (same-seats seats seat sent is)) (record {
+    memory = fit.memory;
+    notes = fit.notes;
+    replays = fit.replays;
+    faults = fit.faults;
+    calls = fit.calls;
+    rooms = fit.rooms;
+    births = fit.births;
+    plans = record {
+      plan = λ kept at. absurd (let z : ◌≡◌ {A = Option KeptPlan} None (Some kept) = at in cc);
+      planned = λ kept of at _. absurd (let z : ◌≡◌ {A = Option KeptPlan} None (Some kept) = at in cc);
+      sent = fit.plans.sent;
+    };
+  });
+  fixed = refl;
+  grown = no-entries s.history seat;
+}
+
 pub event_law : EventLaw
 event_law = record {
+  rests = rests;
+  joined = event-then;
+  forgets = forgets-plan;
   holds = λ opening s seats p call h fit may. tells-holds opening s seats p call h fit may.cause;
   counted = λ opening s seats k e disk before after count fit at is has.
       fit.faults.reached k e disk before after count at is (ap (λ (b : BaySeen). faults_in b (notes_of seats)) has.1 ∙ ap (λ (n : ℕ). Some n) has.2);

@@ -1,32 +1,34 @@
 -- Calls that are done on pages, as events. Public clauses cite this.
-use Rattle.std.specs.Prelude.{◌≡◌, ◌≢◌, ◌↔◌, ℕ, List, length, Option, None, IsFalse}
+use Rattle.std.specs.Prelude.{◌≡◌, ◌≢◌, ◌↔◌, ℕ, List, length, map, Option, None, IsSome, IsFalse}
+use Rattle.std.specs.FinMap as finite
 use Rattle.std.specs.FinSet as set
 use Rattle.std.specs.Ordering.{nat_cmp}
+use Rattle.vm_types.specs.declared.call.Call.{Call}
 use Rattle.vm_types.specs.declared.call.Call.TheVariants.{Fork}
 use Rattle.vm_types.specs.declared.call.Entry.{Entry}
 use Rattle.vm_types.specs.declared.call.Reply.TheVariants.{Synced}
 use Rattle.vm_types.specs.WellFormed.{IsWellFormed}
 use Rattle.page_store.specs.Notes.{Notes}
-use Rattle.flat_model.specs.Flat.{IsFlat}
+use Rattle.flat_model.specs.Flat.{Flat, IsFlat}
 use Rattle.flat_model.specs.History.{IsStart, is_io}
 use Rattle.flat_model.specs.Step.{IsDue, after_act}
 use Rattle.vm_world.specs.EntryLaws.{LocksAfter, StartsAfter, MayUseFile}
 use Rattle.vm_world.specs.Events.{IsEvent, CanTry}
 use Rattle.vm_world.specs.Failures.{with_entry_made}
-use Rattle.vm_world.specs.FlatMemory.{flat_memory}
+use Rattle.vm_world.specs.FlatMemory.{Memory, flat_memory}
+use Rattle.vm_world.specs.HistoryFits.{is_exit}
 use Rattle.vm_world.specs.MemoryFits.{MemoryFits}
 use Rattle.vm_world.specs.NotesFit.{NotesFit}
 use Rattle.vm_world.specs.Segments.{Spaces}
-use Rattle.vm_world.specs.State.{KernelState}
-use Rattle.vm_world.specs.StateSteps.{after_step}
-use Rattle.vm_world.specs.World.{World, AllTell}
+use Rattle.vm_world.specs.State.{KernelState, mode_of}
+use Rattle.vm_world.specs.World.{World, core_of, AllTell}
 use Rattle.vm_world.specs.WorldSteps.{KeepsTables}
 
 -- A call is done on pages alone: no table, disk or frame moves; memory and the notes fit as before; and in flat memory, as the disks tell it, the entry is
 -- due, and flat memory is then what its call makes of it.
 pub record ActsOnPages (old new : World) (spaces : Spaces) (e : Entry) : Type 0 where
   pub tables : KeepsTables old new
-  pub core : new.store.origin ≡ old.store.origin
+  pub core : core_of new.store ≡ core_of old.store
   pub frames : length new.store.frames ≡ length old.store.frames
   pub bays : new.store.bays ≡ old.store.bays
   pub memory : MemoryFits (record { world = new; spaces = spaces })
@@ -35,6 +37,34 @@ pub record ActsOnPages (old new : World) (spaces : Spaces) (e : Entry) : Type 0 
   pub acts : (born : set.FinSet nat_cmp) (notes : Notes) → NotesFit old notes → AllTell old notes → IsFlat (flat_memory (record { world = old; spaces = spaces }) born notes)
       → IsDue (flat_memory (record { world = old; spaces = spaces }) born notes) e
       × (flat_memory (record { world = new; spaces = spaces }) born notes ≡ after_act (flat_memory (record { world = old; spaces = spaces }) born notes) e)
+
+-- What no call changes: the core of the frames and the order of the disks, the number of the frames, the slots, the disks and their blocks, and the files' names, disks and modes.
+pub record KeepsMachine (old new : World) : Type 0 where
+  pub core : core_of new.store ≡ core_of old.store
+  pub frames : length new.store.frames ≡ length old.store.frames
+  pub slots : length new.anon.counts ≡ length old.anon.counts
+  pub disks : new.files.disks ≡ old.files.disks
+  pub modes : map mode_of new.files.files ≡ map mode_of old.files.files
+  pub bays : new.store.bays ≡ old.store.bays
+
+-- A process changes memory: the machine and the spaces of the other processes stay; memory and the notes fit as before; disks tell where they told; and
+-- this is said of flat memory before and after, as the disks tell it.
+pub record ChangesMemory (p : ℕ) (old new : Memory) (means : Flat → Flat → Type 0) : Type 0 where
+  pub machine : KeepsMachine old.world new.world
+  pub others : (q : ℕ) → q ≢ p → finite.get new.spaces q ≡ finite.get old.spaces q
+  pub memory : MemoryFits new
+  pub notes : (notes : Notes) → NotesFit old.world notes → NotesFit new.world notes
+  pub tells : (notes : Notes) → NotesFit old.world notes → AllTell old.world notes ↔ AllTell new.world notes
+  pub flat : (born : set.FinSet nat_cmp) (notes : Notes) → NotesFit old.world notes → AllTell old.world notes → IsFlat (flat_memory old born notes)
+      → means (flat_memory old born notes) (flat_memory new born notes)
+
+-- A call is done: in flat memory the entry is due, and flat memory is then what its call makes of it.
+abbrev pub ActsOnMemory : Memory → Memory → Entry → Type 0
+ActsOnMemory old new e = ChangesMemory e.process old new (λ F G. IsDue F e × (G ≡ after_act F e))
+
+-- The process is alive then, unless the call is an Exit.
+abbrev pub StaysAlive : Memory → ℕ → Call → Type 0
+StaysAlive m p call = IsFalse (is_exit call) → IsSome (finite.get m.spaces p)
 
 -- The entry may be made now: it takes the pending tails; its call is well formed, no Fork, and has its own reply; a Sync says where it may have begun; and
 -- the file of its call is free, or the call goes on with the part that has the file.
@@ -47,8 +77,14 @@ pub record MayEnter (s : KernelState) (seat : ℕ) (e : Entry) : Type 0 where
   pub sync : (b : ℕ) → e.reply ≡ Synced b → IsStart s.history (length s.history) e.process b
   pub file : MayUseFile e seat s.calls
 
--- Such a call of a seat that has nothing outside is an event, with its entry.
+-- A call that is done on pages alone is done. One change after another is a change. And a call that is done, of a seat that has nothing outside, is an
+-- event, with its entry.
 pub record CallRule : Type 0 where
-  pub done : (s : KernelState) (new : World) (seat : ℕ) (e : Entry) (calls syncs : List (Option ℕ)) → ActsOnPages s.memory.world new s.memory.spaces e → MayEnter s seat e
+  pub pages : (old new : World) (spaces : Spaces) (e : Entry) → ActsOnPages old new spaces e
+      → ActsOnMemory (record { world = old; spaces = spaces }) (record { world = new; spaces = spaces }) e
+  pub joined : (p : ℕ) (u v w : Memory) (first second : Flat → Flat) → ((F : Flat) → IsFlat F → IsFlat (first F))
+      → ChangesMemory p u v (λ F G. G ≡ first F) → ChangesMemory p v w (λ F G. G ≡ second F) → ChangesMemory p u w (λ F G. G ≡ second (first F))
+  pub done : (s : KernelState) (new : Memory) (seat : ℕ) (e : Entry) (calls syncs : List (Option ℕ)) → ActsOnMemory s.memory new e
+      → StaysAlive new e.process e.call → MayEnter s seat e
       → LocksAfter e s.calls calls → StartsAfter e s.syncs syncs → length syncs ≡ length s.syncs
-      → IsEvent seat s None (with_entry_made (after_step s new 0) e calls syncs) None
+      → IsEvent seat s None (with_entry_made (record s { memory = new }) e calls syncs) None

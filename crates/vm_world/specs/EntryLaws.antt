@@ -19,7 +19,7 @@ use Rattle.flat_model.specs.OpenLaws.{MayFollow, IsOpenPart}
 use Rattle.flat_model.specs.Step.{bit, tails_cleared, after_act, IsDue, IsUnborn}
 use Rattle.flat_model.specs.SyncLaws.{is_in_life}
 use Rattle.flat_model.specs.Told.{entries_of}
-use Rattle.vm_world.specs.HistoryFits.{HistoryFits, FaultsFit, CallsFit, RoomsFit, BirthsFit, faults_in}
+use Rattle.vm_world.specs.HistoryFits.{HistoryFits, FaultsFit, CallsFit, RoomsFit, BirthsFit, faults_in, has_left}
 use Rattle.vm_world.specs.Segments.{Spaces}
 use Rattle.vm_world.specs.State.{process_parent, room_of}
 
@@ -57,4 +57,5 @@ pub record EntryLaw : Type 0 where
       → ((child : ℕ) → e.call ≡ Fork child → process_parent parents child ≡ Some e.process) → RoomsFit (H ++ e ∷ []) parents entries
   pub births : (H : List Entry) (parents : List ℕ) (spaces spaces' : Spaces) (born born' : set.FinSet nat_cmp) (e : Entry) → BirthsFit H parents spaces born
       → ((p : ℕ) → set.contains born' p ≡ (set.contains born p || is_birth p e)) → ((p : ℕ) → IsSome (finite.get spaces' p) → IsTrue (set.contains born' p))
+      → ((p : ℕ) → IsTrue (set.contains born' p) → IsFalse (has_left p (H ++ e ∷ [])) → IsSome (finite.get spaces' p))
       → BirthsFit (H ++ e ∷ []) parents spaces' born'

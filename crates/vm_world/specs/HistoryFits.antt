@@ -1,10 +1,11 @@
 -- The history beside memory, the disks' counts, calls in parts, and the set-up. Public clauses cite this.
-use Rattle.std.specs.Prelude.{◌≡◌, ◌↔◌, ◌<◌, ◌≤◌, ◌^◌, ◌||◌, ℕ, suc, List, Option, Some, None, length, IsSome, IsSomeAnd, IsTrue, slice_get, slice_index_or}
+use Rattle.std.specs.Prelude.{◌≡◌, ◌↔◌, ◌<◌, ◌≤◌, ◌^◌, ◌||◌, ◌==◌, ℕ, suc, Bool, true, false, List, Option, Some, None, length, IsSome, IsSomeAnd, IsTrue, IsFalse, slice_get, slice_index_or, if◌then◌else◌}
 use Rattle.std.specs.List.{list_any}
 use Rattle.std.specs.Ordering.{nat_cmp}
 use Rattle.std.specs.FinMap as finite
 use Rattle.std.specs.FinSet as set
-use Rattle.vm_types.specs.declared.call.Call.TheVariants.{Fork}
+use Rattle.vm_types.specs.declared.call.Call.{Call}
+use Rattle.vm_types.specs.declared.call.Call.TheVariants.{Fork, Exit}
 use Rattle.vm_types.specs.declared.call.Entry.{Entry}
 use Rattle.vm_types.specs.declared.call.Reply.TheVariants.{Io}
 use Rattle.page_store.specs.Bays.{BaySeen, missing, home, out, bay_at}
@@ -18,6 +19,10 @@ use Rattle.flat_model.specs.OpenLaws.{last_entry, IsOpenPart, EndsCalls}
 use Rattle.flat_model.specs.Told.{entries_of}
 use Rattle.vm_world.specs.Segments.{Spaces}
 use Rattle.vm_world.specs.State.{process_parent, room_of, is_top}
+
+abbrev pub is_exit : Call → Bool
+is_exit Exit = true
+is_exit call = false
 
 -- The history is legal from the opening, and leaves flat memory well formed; and flat memory as it is now is what the history leaves, with the pending
 -- tails zeros.
@@ -57,7 +62,15 @@ pub record RoomsFit (H : List Entry) (parents entries : List ℕ) : Type 0 where
   pub made : (p : ℕ) → length (entries_of H p) ≤ room_of entries p
   pub forks : (k child : ℕ) (e : Entry) → slice_get H k ≡ Some e → e.call ≡ Fork child → process_parent parents child ≡ Some e.process
 
--- Those were ever alive who have no parent, and those whose birth the history has; and who is alive was born.
+-- The entry is an Exit of the process; and the process made one.
+abbrev pub is_exit_of : ℕ → Entry → Bool
+is_exit_of p e = if e.process == p then is_exit e.call else false
+
+abbrev pub has_left : ℕ → List Entry → Bool
+has_left p H = list_any (is_exit_of p) H
+
+-- Those were ever alive who have no parent, and those whose birth the history has; who is alive was born; and who was born stays alive until its Exit.
 pub record BirthsFit (H : List Entry) (parents : List ℕ) (spaces : Spaces) (born : set.FinSet nat_cmp) : Type 0 where
   pub lived : (p : ℕ) → set.contains born p ≡ (is_top parents p || list_any (is_birth p) H)
   pub alive : (p : ℕ) → IsSome (finite.get spaces p) → IsTrue (set.contains born p)
+  pub stays : (p : ℕ) → IsTrue (set.contains born p) → IsFalse (has_left p H) → IsSome (finite.get spaces p)

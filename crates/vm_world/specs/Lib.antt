@@ -17,7 +17,12 @@ pub mod Opening
 pub mod Laws
 pub mod Busy
 pub mod EntryLaws
+pub mod Plans
 pub mod StateSteps
 pub mod Failures
 pub mod CallSteps
+pub mod Serving
+pub mod ServingLaws
 pub mod EventLaws
+pub mod SeatLaws
+pub mod SpaceSteps

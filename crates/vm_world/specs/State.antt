@@ -10,6 +10,7 @@ use Rattle.page_store.specs.Notes.{Note, Notes}
 use Rattle.page_store.specs.declared.plan.Plan.{Plan}
 use Rattle.vnode_files.specs.Vnode.{VnodeSeen}
 use Rattle.vm_world.specs.FlatMemory.{Memory}
+use Rattle.vm_world.specs.World.{StoreCore, core_of}
 
 -- A process and its call.
 abbrev pub Caller : Type 0
@@ -83,10 +84,10 @@ pub record FileMode : Type 0 where
 abbrev pub mode_of : VnodeSeen → FileMode
 mode_of v = record { name = v.info.name; disk = v.info.disk; writable = v.info.writable }
 
--- What no event changes: the core of the frames and their number, the slots, the disks' blocks, the files' modes, the seats, and the set-up's parents
--- and entries.
+-- What no event changes: the core of the frames and the order of the disks, the number of the frames, the slots, the disks' blocks, the files' modes, the
+-- seats, and the set-up's parents and entries.
 pub record Fixed : Type 0 where
-  pub origin : ℕ
+  pub core : StoreCore
   pub frames : ℕ
   pub slots : ℕ
   pub disks : finite.FinMap nat_cmp ℕ
@@ -97,7 +98,7 @@ pub record Fixed : Type 0 where
 
 abbrev pub fixed_of : KernelState → Fixed
 fixed_of s = record {
-  origin = s.memory.world.store.origin;
+  core = core_of s.memory.world.store;
   frames = length s.memory.world.store.frames;
   slots = length s.memory.world.anon.counts;
   disks = s.memory.world.files.disks;

@@ -6,8 +6,9 @@ use Rattle.page_store.specs.Bays.{home, bay_at}
 use Rattle.page_store.specs.Notes.{Note}
 use Rattle.flat_model.specs.Counted.{top_count}
 use Rattle.flat_model.specs.Step.{bit}
-use Rattle.vm_world.specs.Events.{IsEvent}
-use Rattle.vm_world.specs.State.{KernelState, KeptPlan, Sent}
+use Rattle.vm_world.specs.Events.{IsEvent, CanTry}
+use Rattle.vm_world.specs.Plans.{CanRunPlan, MayMeetFault}
+use Rattle.vm_world.specs.State.{KernelState, KeptPlan, Caller, Sent}
 use Rattle.vm_world.specs.World.{World}
 use Rattle.vm_world.specs.WorldSteps.{stays, leaves, returns, WorldStep, tails_lost}
 
@@ -15,21 +16,26 @@ use Rattle.vm_world.specs.WorldSteps.{stays, leaves, returns, WorldStep, tails_l
 abbrev pub after_step : KernelState → World → ℕ → KernelState
 after_step s new pending = record s { memory = record s.memory { world = new }; pending = pending; plan = None }
 
--- The tails that were pending are, and those of the files whose last page the step took.
+-- The tails that were pending are, and those of the files whose last page the step took. Where no bit named a file past the last, none does.
 pub record PendsTails (old : World) (cut : PageName → Bool) (pending more : ℕ) : Type 0 where
   pub bits : (f : ℕ) → f < length old.files.files → bit more f ≡ (bit pending f || tails_lost old cut f)
-  pub below : more < 2 ^ length old.files.files
+  pub below : pending < 2 ^ length old.files.files → more < 2 ^ length old.files.files
 
 -- The disk that comes back counted no fewer faults than as it went, and not past the end of counts.
 abbrev pub CountsOn : Note → World → Type 0
 CountsOn note new = (d : DiskSeen) → bay_at new.store.bays note.number ≡ home d → (note.disk.faults ≤ d.faults) × (d.faults ≤ top_count)
 
--- A step of the world is an event of any seat, where nothing leaves or comes back; of the seat that takes a flight out, where its plan was kept for the
--- process and call that the flight is for; and of the seat whose flight comes back.
+-- A step of the world is an event of any seat, where nothing leaves or comes back, also where a plan is kept then that may be answered and can run; of
+-- the seat that takes a flight out, where its plan was kept for the process and call that the flight is for; and of the seat whose flight comes back.
 pub record StateRule : Type 0 where
   pub calm : (s : KernelState) (new : World) (cut : PageName → Bool) (pending seat : ℕ) (sent : Option Sent)
       → WorldStep s.memory.world new s.memory.spaces stays cut → PendsTails s.memory.world cut s.pending pending
       → IsEvent seat s sent (after_step s new pending) sent
+  pub plans : (s : KernelState) (new : World) (cut : PageName → Bool) (pending : ℕ) (kept : KeptPlan)
+      → WorldStep s.memory.world new s.memory.spaces stays cut → PendsTails s.memory.world cut s.pending pending
+      → CanRunPlan (record s.memory { world = new }) kept.of kept.plan
+      → ((of : Caller) → kept.of ≡ Some of → CanTry s kept.seat of.0 of.1 × MayMeetFault (record s.memory { world = new }) of.0 of.1)
+      → IsEvent kept.seat s None (record (after_step s new pending) { plan = Some kept }) None
   pub begins : (s : KernelState) (new : World) (cut : PageName → Bool) (pending seat : ℕ) (sent : Sent) (kept : KeptPlan)
       → WorldStep s.memory.world new s.memory.spaces (leaves seat sent.note) cut → PendsTails s.memory.world cut s.pending pending
       → s.plan ≡ Some kept → kept.seat ≡ seat → kept.of ≡ sent.of

@@ -27,6 +27,14 @@ pub record World : Type 0 where
 abbrev pub world_seen : {D : Type 0} → rust.World D → World
 world_seen w = record { store = w.store; anon = w.anon; maps = w.maps; hat = w.hat; files = w.files }
 
+-- What of the store no event changes: the core of its frames, and the order of its disks.
+pub record StoreCore : Type 0 where
+  pub origin : ℕ
+  pub order : List ℕ
+
+abbrev pub core_of : StoreSeen → StoreCore
+core_of s = record { origin = s.origin; order = s.order }
+
 -- The name of a page of a file.
 abbrev pub file_name : ℕ → ℕ → PageName
 file_name file page = record { object = file; page = page }

@@ -12,7 +12,7 @@ use Rattle.vm_world.specs.MemoryFits.{MemoryFits}
 use Rattle.vm_world.specs.NotesFit.{NotesFit}
 use Rattle.vm_world.specs.Pages.{page_value}
 use Rattle.vm_world.specs.Segments.{Spaces}
-use Rattle.vm_world.specs.World.{World, world_table, file_name, is_page_name, AllTell}
+use Rattle.vm_world.specs.World.{World, world_table, core_of, file_name, page_exists, AllTell}
 
 -- What goes out or comes back in a step: nothing, or the flight of one seat.
 pub data Trip : Type 0 where
@@ -50,19 +50,19 @@ pub record KeepsTables (old new : World) : Type 0 where
 abbrev pub cut_page : Bool → ℕ → Page → Page
 cut_page cut valid page = if cut then clipped valid page else page
 
--- THE FRAME RULE. Memory and the notes fit after the step where they did before, and disks tell where they did; and each page keeps its value, but that
--- the names of taken frames may be cut at their valid bytes. These are names of whole pages.
+-- THE FRAME RULE. Memory and the notes fit after the step where they did before, and disks tell where they did; and each page that exists keeps its value,
+-- but that the names of taken frames may be cut at their valid bytes. These pages are whole.
 pub record WorldStep (old new : World) (spaces : Spaces) (trip : Trip) (cut : PageName → Bool) : Type 0 where
   pub tables : KeepsTables old new
-  pub core : new.store.origin ≡ old.store.origin
+  pub core : core_of new.store ≡ core_of old.store
   pub frames : length new.store.frames ≡ length old.store.frames
   pub bays : MovesBay trip old.store.bays new.store.bays
   pub memory : MemoryFits (record { world = new; spaces = spaces })
   pub notes : (notes : Notes) → HasTrip trip notes → NotesFit old notes → NotesFit new (notes_after trip notes)
   pub tells : (notes : Notes) → HasTrip trip notes → NotesFit old notes → AllTell old notes ↔ AllTell new (notes_after trip notes)
-  pub whole : (notes : Notes) (name : PageName) → HasTrip trip notes → NotesFit old notes → AllTell old notes → IsTrue (cut name)
-      → length (page_value old notes name) ≡ 4096
-  pub pages : (notes : Notes) (name : PageName) → HasTrip trip notes → NotesFit old notes → AllTell old notes → IsTrue (is_page_name old.files old.anon name)
+  pub whole : (notes : Notes) (name : PageName) → HasTrip trip notes → NotesFit old notes → AllTell old notes → IsTrue (page_exists old.files old.anon name)
+      → IsTrue (cut name) → length (page_value old notes name) ≡ 4096
+  pub pages : (notes : Notes) (name : PageName) → HasTrip trip notes → NotesFit old notes → AllTell old notes → IsTrue (page_exists old.files old.anon name)
       → page_value new (notes_after trip notes) name ≡ cut_page (cut name) (world_table old name).valid (page_value old notes name)
 
 -- The files whose tail a cut of names makes zeros: those whose last page is cut.

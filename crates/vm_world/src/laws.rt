@@ -4,8 +4,11 @@ ghost use Rattle.vm_world.specs.CallSteps.{CallRule};
 ghost use Rattle.vm_world.specs.EntryLaws.{EntryLaw};
 ghost use Rattle.vm_world.specs.EventLaws.{EventLaw};
 ghost use Rattle.vm_world.specs.Failures.{FailureRule};
-ghost use Rattle.vm_world.specs.Laws.{FrameRule, CountsLaw};
+ghost use Rattle.vm_world.specs.Laws.{FrameRule, CountsLaw, ReservedLaw};
 ghost use Rattle.vm_world.specs.Opening.{OpeningLaw};
+ghost use Rattle.vm_world.specs.SeatLaws.{SeatLaw};
+ghost use Rattle.vm_world.specs.ServingLaws.{ServingLaw};
+ghost use Rattle.vm_world.specs.SpaceSteps.{SpaceRule};
 ghost use Rattle.vm_world.specs.StateSteps.{StateRule};
 
 /// The state at the opening fits its own flat memory.
@@ -31,6 +34,12 @@ pub fn frame_law()
 #[tactic(auto, using(crate::proofs::Counting::counts_law))]
 pub fn counts_law()
     ensures { CountsLaw }
+{}
+
+/// Flat memory reserves what the segments reserve.
+#[tactic(auto, using(crate::proofs::Reserves::reserved_law))]
+pub fn reserved_law()
+    ensures { ReservedLaw }
 {}
 
 /// The history with an entry more, and tails that become zeros meanwhile.
@@ -61,4 +70,22 @@ pub fn call_law()
 #[tactic(auto, using(crate::proofs::Told::event_law))]
 pub fn event_law()
     ensures { EventLaw }
+{}
+
+/// What a change of the segments of one process does, where all segments are shared mappings of files.
+#[tactic(auto, using(crate::proofs::SpaceSteps::space_rule))]
+pub fn space_law()
+    ensures { SpaceRule }
+{}
+
+/// A call that is served is an event: where it is done, where it needs a transfer, and where it has to wait.
+#[tactic(auto, using(crate::proofs::Servings::serving_law))]
+pub fn serving_law()
+    ensures { ServingLaw }
+{}
+
+/// What a seat may try by what it knows of its process, and that all is home where no seat has anything outside.
+#[tactic(auto, using(crate::proofs::SeatRules::seat_law))]
+pub fn seat_law()
+    ensures { SeatLaw }
 {}
