@@ -1,5 +1,5 @@
 -- One step that keeps all pages after another.
-use Rattle.std.proofs.Common.{◌≡◌, ℕ, Bool, true, false, Option, Some, None, refl}
+use Rattle.std.proofs.Common.{◌≡◌, ℕ, true, false, Option, Some, None, refl}
 use Rattle.std.specs.Prelude.{IsSome}
 use Rattle.vm_world.specs.MemoryFits.{MemoryFits}
 use Rattle.vm_world.specs.Segments.{Spaces}
@@ -22,7 +22,7 @@ keeps-same w spaces f = record {
   memory = f;
   notes = λ notes trip nf. nf;
   tells = λ notes trip nf. ((λ tell. tell), (λ tell. tell));
-  whole = λ notes name trip nf tell cut. absurd (let z : false ≡ true = cut in cc);
+  whole = λ notes name trip nf tell exists cut. absurd (let z : false ≡ true = cut in cc);
   pages = λ notes name trip nf tell is. refl;
 }
 

@@ -1,39 +1,31 @@
 -- The disks that pages live on are there; and what may be answered to a call that wants a page home.
-use Rattle.std.proofs.Common.{◌≡◌, ◌≢◌, ℕ, ◌<◌, ◌≤◌, ◌==◌, Bool, true, false, cond, List, length, Option, Some, None, refl, sym, ap, ◌∙◌, ◌⊎◌, inl, inr, subst, arith}
+use Rattle.std.proofs.Common.{◌≡◌, ◌≢◌, ℕ, ◌<◌, true, false, List, length, Option, Some, None, refl, sym, ap, ◌∙◌, inl, inr, subst, arith}
 use Rattle.std.specs.Prelude.{IsTrue, IsFalse, IsSome}
 use Rattle.std.specs.FinMap as finite
-use Rattle.std.proofs.lemmas.Bool.{eqb-true}
-use Rattle.block_device.specs.DiskSeen.{DiskSeen}
-use Rattle.page_hash.specs.Names.{find, name_at}
 use Rattle.page_hash.specs.declared.PageName.{PageName}
 use Rattle.page_hash.proofs.NameLaws.{find-at}
-use Rattle.page_lock.specs.Rows.{row_at}
-use Rattle.page_store.specs.Bays.{bay_at, missing, out}
+use Rattle.page_store.specs.Bays.{bay_at, missing}
 use Rattle.page_store.specs.Seen.{residence}
 use Rattle.page_store.specs.Steps.{next_frame}
-use Rattle.page_store.specs.Waits.{Waits, holder_of, holder_in}
+use Rattle.page_store.specs.Waits.{holder_of, holder_in}
 use Rattle.page_store.specs.declared.place.Place.{Place}
 use Rattle.page_store.specs.declared.plan.Plan.{Plan}
 use Rattle.page_store.specs.declared.plan.Plan.TheVariants as plan
-use Rattle.page_store.specs.declared.plan.Hold.{Hold}
 use Rattle.page_store.specs.declared.plan.Hold.TheVariants as hold
 use Rattle.page_store.specs.declared.residence.Residence.TheVariants.{Home, Absent}
 use Rattle.page_store.proofs.QueryLemmas.{home-is, absent-is}
 use Rattle.vnode_files.specs.Files.{vnode_at}
-use Rattle.vm_world.specs.FlatMemory.{Memory}
-use Rattle.vm_world.specs.FramesFit.{FilesFit}
 use Rattle.vm_world.specs.MemoryFits.{MemoryFits}
 use Rattle.vm_world.specs.Segments.{Spaces}
-use Rattle.vm_world.specs.State.{Caller}
-use Rattle.vm_world.specs.Wants.{WantsHome, IsDirtyPage, MayPlan, HoldsUp}
-use Rattle.vm_world.specs.World.{World, world_table, slot_name, is_page_name, is_unpushed, page_exists}
-use Rattle.vm_world.proofs.PageNames.{page-cases, file-place, slot-place, not-slot, is-slot}
+use Rattle.vm_world.specs.Wants.{IsDirtyPage}
+use Rattle.vm_world.specs.World.{World, world_table, slot_name, is_unpushed, page_exists}
+use Rattle.vm_world.proofs.PageNames.{page-cases, file-place, slot-place}
+use Rattle.vm_world.proofs.FrameRule.{exists-page}
 use Rattle.seg_ops.specs.declared.plans.Step.{Step}
 use Rattle.seg_ops.specs.declared.plans.Step.TheVariants as step
 use Rattle.seg_ops.specs.Plans.{IsAsked, NeedsPlan, FetchesPage}
 use Rattle.seg_ops.proofs.StillSteps.{memory_of}
 use Rattle.seg_ops.proofs.Evictions.{unlocked}
-use Rattle.seg_ops.proofs.Hits.{exists-page}
 
 -- WHERE A PAGE LIVES, by the test of its name
 pub record LivesOn (w : World) (name : PageName) : Type 0 where
@@ -46,7 +38,7 @@ some-blocks None h = absurd (let z : false ≡ true = h in cc)
 some-blocks (Some n) h = (n, refl)
 
 pub lives-on : (w : World) (spaces : Spaces) (name : PageName) → MemoryFits (memory_of w spaces) → IsTrue (page_exists w.files w.anon name) → LivesOn w name
-lives-on w spaces name f exists = elim (page-cases w.files w.anon name (exists-page w.files w.anon name f.files exists)) [
+lives-on w spaces name f exists = elim (page-cases w.files w.anon name (exists-page w name f.files exists)) [
   | inl s ↦
       let same : name ≡ slot_name name.page = λ i. record { object = s.0 i; page = name.page } in
       let disk : (world_table w name).disk ≡ 8 = ap (λ (n : PageName). (world_table w n).disk) same ∙ ap (λ (p : Place). p.disk) (slot-place w.files w.anon name.page f.files s.1) in

@@ -1,17 +1,17 @@
 -- A page that isn't modified loses its translations and goes on the cache list.
-use Rattle.std.proofs.Common.{◌≡◌, ◌≢◌, ℕ, zero, suc, ◌+◌, ◌<◌, ◌==◌, Bool, true, false, cond, List, [], ◌∷◌, ◌++◌, length, Option, Some, None, refl, sym, ap, ◌∙◌, ◌⊎◌, inl, inr, subst, arith, slice_index_or}
-use Rattle.std.specs.Prelude.{IsTrue, IsSome, is_some, is_none, ◌||◌, ◌&&◌, unwrap_or}
+use Rattle.std.proofs.Common.{◌≡◌, ℕ, zero, suc, ◌<◌, Bool, true, false, List, [], ◌∷◌, ◌++◌, length, Option, Some, None, refl, sym, ap, ◌∙◌, ◌⊎◌, inl, inr, subst, arith}
+use Rattle.std.specs.Prelude.{IsSome, is_some, is_none, ◌||◌, ◌&&◌, unwrap_or}
 use Rattle.std.proofs.lemmas.Bool.{cases_Bool}
 use Rattle.core_arena.specs.Bytes.{bytes_at}
 use Rattle.page_hash.specs.Names.{name_at}
 use Rattle.page_hash.specs.declared.PageName.{PageName}
 use Rattle.page_lists.specs.ListsSeen.{Has, first_of}
 use Rattle.page_lists.proofs.ListLemmas.{has-more}
-use Rattle.page_lock.specs.Rows.{row_at, clear_row}
+use Rattle.page_lock.specs.Rows.{row_at}
 use Rattle.page_lock.specs.declared.Row.{Row}
 use Rattle.page_store.specs.Laws.{Releases}
 use Rattle.page_store.specs.Notes.{Note, Notes}
-use Rattle.page_store.specs.Seen.{StoreSeen, IsSoundStore, IsListedFrame, FrameAgrees, own_frame, residence}
+use Rattle.page_store.specs.Seen.{StoreSeen, IsSoundStore, IsListedFrame, FrameAgrees, own_frame}
 use Rattle.page_store.specs.Steps.{next_frame}
 use Rattle.page_store.specs.StoreFits.{IsClean}
 use Rattle.page_store.specs.Waits.{IsVictim}
@@ -22,10 +22,10 @@ use Rattle.vm_world.specs.MemoryFits.{MemoryFits}
 use Rattle.vm_world.specs.NotesFit.{NotesFit}
 use Rattle.vm_world.specs.Segments.{Spaces}
 use Rattle.vm_world.specs.TranslationsFit.{TranslationFits, TranslationsFit, HasWritten, IsModified}
-use Rattle.vm_world.specs.World.{World, world_table}
+use Rattle.vm_world.specs.World.{World, core_of, world_table}
 use Rattle.seg_ops.specs.Steps.{KeepsPages, IsUnwritten}
 use Rattle.seg_ops.proofs.Places.{each-drop_frame, written-drop}
-use Rattle.seg_ops.proofs.StillSteps.{KeepsFrames, with_tables, memory_of, same-row, translation-kept, step-keeps}
+use Rattle.seg_ops.proofs.StillSteps.{with_tables, memory_of, same-row, translation-kept, step-keeps}
 
 -- nothing says of the frame that its page was modified
 pub not-modified : (store : StoreSeen) (places : List (Option Translation)) (frame : ℕ) → (row_at store.rows frame).modified ≡ false → IsUnwritten places frame → ¬ IsModified store places frame
@@ -53,16 +53,18 @@ or-some gone None own e = absurd (cc)
 or-some true (Some x) own e = refl
 or-some false (Some x) own e = refl
 
-some-name : (o : Option PageName) → IsSome o → (n : PageName) × (o ≡ Some n)
-some-name None h = absurd (let z : false ≡ true = h in cc)
-some-name (Some n) h = (n, refl)
+-- What is known of a snapshot that is away: a note writes it, under the name of its page.
+pub record HasSnapshotOut (w : World) (notes : Notes) (frame : ℕ) : Type 0 where
+  pub seat : ℕ
+  pub note : Note
+  pub is : notes seat ≡ Some note
+  pub writes : note.writes ≡ true
+  pub there : (row_at w.store.rows note.frame).gone ≡ false
+  pub named : name_at w.store.names frame ≡ Some note.name
 
--- NO SNAPSHOT OF A CLEAN PAGE is away: the note of the push says so.
-unsent-by : (w : World) (notes : Notes) (frame : ℕ) (o : Option ℕ) → IsSoundStore w.store → NotesFit w notes → ¬ IsModified w.store w.hat.places frame → (row_at w.store.rows frame).snapshot ≡ o → is_some o ≡ false
-unsent-by w notes frame None sound nf clear e = refl
-unsent-by w notes frame (Some copy) sound nf clear e =
+pub snapshot-noted : (w : World) (notes : Notes) (frame copy : ℕ) → IsSoundStore w.store → NotesFit w notes → (row_at w.store.rows frame).snapshot ≡ Some copy → HasSnapshotOut w notes frame
+snapshot-noted w notes frame copy sound nf e =
     let source : (row_at w.store.rows copy).source ≡ Some frame = sound.paired.source frame copy e in
-    let name = some-name (name_at w.store.names frame) (sound.paired.named frame copy e) in
     let row = some-source w.store.rows copy frame source in
     let rows = sound.rows in
     let agrees : FrameAgrees (bytes_at w.store.frames copy) (name_at w.store.names copy) (row_at w.store.rows copy) = sound.each copy (omega (arith, row, rows)) in
@@ -70,17 +72,28 @@ unsent-by w notes frame (Some copy) sound nf clear e =
     (or-some (row_at w.store.rows copy).gone (row_at w.store.rows copy).source frame source) in
     let out = nf.stored.each_frame copy held.0 held.1 in
     let note = out.0 in
-    let at = out.1 in
     let is : note.frame ≡ copy = out.2 in
     let its : (row_at w.store.rows note.frame).source ≡ Some frame = ap (λ (k : ℕ). (row_at w.store.rows k).source) is ∙ source in
-    let agreed = (nf.stored.each_note held.0 note at).out in
+    let agreed = (nf.stored.each_note held.0 note out.1).out in
     let kept : (row_at w.store.rows copy).gone ≡ true → ⊥ = λ gone. let z : None ≡ Some frame = sym (agrees.torn gone) ∙ source in cc in
     let there : (row_at w.store.rows note.frame).gone ≡ false = elim (cases_Bool (row_at w.store.rows note.frame).gone) [ inl yes_gone ↦ absurd (kept (ap (λ (k : ℕ). (row_at w.store.rows k).gone) (sym is) ∙ yes_gone)) | inr f ↦ f ] in
-    let writes : note.writes ≡ true = elim (cases_Bool note.writes) [ inl t ↦ t | inr f ↦ absurd (let z : None ≡ Some frame = sym (agreed.read f) ∙ its in cc) ] in
     let own : own_frame w.store note.frame ≡ frame = ap (λ (x : Option ℕ). unwrap_or x note.frame) its in
-    let named : note.name ≡ name.0 = let z : Some note.name ≡ Some name.0 = sym (agreed.page there) ∙ ap (λ (k : ℕ). name_at w.store.names k) own ∙ name.1 in cc in
-    let gone = (clean-page w notes frame name.0 nf clear name.1 (sound.paired.home frame copy e)).unwritten held.0 note at writes named in
-    absurd (let z : true ≡ false = sym gone.0 ∙ there in cc)
+    record {
+      seat = held.0;
+      note = note;
+      is = out.1;
+      writes = elim (cases_Bool note.writes) [ inl t ↦ t | inr f ↦ absurd (let z : None ≡ Some frame = sym (agreed.read f) ∙ its in cc) ];
+      there = there;
+      named = ap (λ (k : ℕ). name_at w.store.names k) (sym own) ∙ agreed.page there;
+    }
+
+-- NO SNAPSHOT OF A CLEAN PAGE is away: the note of the push says so.
+unsent-by : (w : World) (notes : Notes) (frame : ℕ) (o : Option ℕ) → IsSoundStore w.store → NotesFit w notes → ¬ IsModified w.store w.hat.places frame → (row_at w.store.rows frame).snapshot ≡ o → is_some o ≡ false
+unsent-by w notes frame None sound nf clear e = refl
+unsent-by w notes frame (Some copy) sound nf clear e =
+    let x = snapshot-noted w notes frame copy sound nf e in
+    let gone = (clean-page w notes frame x.note.name nf clear x.named (sound.paired.home frame copy e)).unwritten x.seat x.note x.is x.writes refl in
+    absurd (let z : true ≡ false = sym gone.0 ∙ x.there in cc)
 
 pub unsent : (w : World) (spaces : Spaces) (notes : Notes) (frame : ℕ) → MemoryFits (memory_of w spaces) → NotesFit w notes → (row_at w.store.rows frame).modified ≡ false → IsUnwritten w.hat.places frame
     → is_some (row_at w.store.rows frame).snapshot ≡ false
@@ -107,7 +120,7 @@ evict-keeps w spaces new hat frame f clear unwritten there places frames single 
     let written : (k : ℕ) → HasWritten w.hat.places k → HasWritten hat.places k = λ k x. subst (λ (ps : List (Option Translation)). HasWritten ps k) (sym places) (written-drop w.hat.places frame k unwritten x) in
     step-keeps w spaces new hat f (record {
       sound = laws.sound;
-      origin = ap (λ (x : StoreSeen). x.origin) step;
+      core = ap core_of step;
       frames = laws.touches.frames;
       names = ap (λ (x : StoreSeen). x.names) step;
       bays = laws.outside.bays;

@@ -1,5 +1,5 @@
 -- A PAGE OF ZEROS of a file is made: the step, and the cut of the name that the taken frame held.
-use Rattle.std.proofs.Common.{◌≡◌, ◌≢◌, ℕ, ◌<◌, ◌≤◌, ◌==◌, Bool, true, false, cond, List, [], length, Option, Some, None, refl, sym, ap, ◌∙◌, ◌⊎◌, inl, inr, subst, arith, slice_set, get_or-set_same}
+use Rattle.std.proofs.Common.{◌≡◌, ◌≢◌, ℕ, ◌<◌, ◌==◌, Bool, true, false, cond, List, length, Option, Some, None, refl, sym, ap, ◌∙◌, inl, inr, subst, get_or-set_same}
 use Rattle.std.specs.Prelude.{IsTrue, IsSome, IfSome}
 use Rattle.std.proofs.lemmas.Bool.{cases_Bool}
 use Rattle.core_arena.specs.Bytes.{bytes_at, zeros}
@@ -22,11 +22,10 @@ use Rattle.flat_model.specs.Words.{Page}
 use Rattle.vm_world.specs.MemoryFits.{MemoryFits}
 use Rattle.vm_world.specs.Pages.{page_value}
 use Rattle.vm_world.specs.Segments.{Spaces}
-use Rattle.vm_world.specs.World.{World, world_table, is_unpushed, is_page_name, page_exists}
+use Rattle.vm_world.specs.World.{World, core_of, world_table, is_unpushed, page_exists}
 use Rattle.vm_world.specs.WorldSteps.{WorldStep, stays, cut_page}
-use Rattle.vm_world.proofs.FrameRule.{valid-within}
+use Rattle.vm_world.proofs.FrameRule.{exists-page, valid-within}
 use Rattle.seg_ops.proofs.StillSteps.{with_tables, memory_of, tell-kept, value-is}
-use Rattle.seg_ops.proofs.Hits.{exists-page}
 use Rattle.seg_ops.proofs.Fills.{TakesFor, next-listed, fill-memory, fill-notes, blank-is}
 
 -- what is said of the next frame, where there is one
@@ -47,7 +46,7 @@ takes-for w spaces new name frame f next absent file plain step laws =
     let done : new ≡ with_frame_filled w.store frame name zeros (name.object == 64) = step ∙ ap (λ (o : Option ℕ). at_frame o w.store (λ g. with_frame_filled w.store g name zeros (name.object == 64))) next in
     record {
       next = next;
-      origin = ap (λ (s : StoreSeen). s.origin) done;
+      core = ap core_of done;
       absent = absent;
       bytes = ap (λ (s : StoreSeen). bytes_at s.frames frame) done ∙ get_or-set_same w.store.frames frame (Some zeros) None lt;
       home = of-next (next_frame w.store) frame (λ g. residence new name ≡ Home g) next calm.home;
@@ -57,17 +56,30 @@ takes-for w spaces new name frame f next absent file plain step laws =
     }
 
 -- the value of a blank page that no frame holds
-absent-zeros : (s : StoreSeen) (notes : Notes) (table : Table) (n : PageName) → find s.names n ≡ None → (table n).blank ≡ true → value s notes table n ≡ zeros
+pub absent-zeros : (s : StoreSeen) (notes : Notes) (table : Table) (n : PageName) → find s.names n ≡ None → (table n).blank ≡ true → value s notes table n ≡ zeros
 absent-zeros s notes table n none blank = ap (λ (o : Option ℕ). value_in o s notes (table n)) none ∙ ap (λ (b : Bool). cond b zeros (clipped (table n).valid (block_of (content_of s notes (table n).disk) (table n).block))) blank
 
 home-value : (s : StoreSeen) (notes : Notes) (table : Table) (n : PageName) (frame : ℕ) (b : Option (List ℕ)) → find s.names n ≡ Some frame → bytes_at s.frames frame ≡ b → IsSome b → (bytes : List ℕ) × (b ≡ Some bytes) × (value s notes table n ≡ bytes)
 home-value s notes table n frame None at is there = absurd (let z : false ≡ true = there in cc)
 home-value s notes table n frame (Some bytes) at is there = (bytes, refl, ap (λ (o : Option ℕ). value_in o s notes (table n)) at ∙ ap (λ (x : Option (List ℕ)). held x (note_of_holder (row_at s.rows frame).holder notes) (stored s notes (table n))) is)
 
+-- the page of the frame that is taken next is whole
+pub next-whole : (w : World) (spaces : Spaces) (notes : Notes) (n : PageName) → MemoryFits (memory_of w spaces) → IsTrue (is_name (next_name w.store) n) → length (page_value w notes n) ≡ 4096
+next-whole w spaces notes n f cut = by_next (next_frame w.store) refl cut
+  where
+    by_next : (o : Option ℕ) → next_frame w.store ≡ o → is_name (next_name w.store) n ≡ true → length (page_value w notes n) ≡ 4096
+    by_next None e cut = absurd (let z : false ≡ true = sym (ap (λ (o : Option ℕ). is_name (name_in w.store.names o) n) e) ∙ cut in cc)
+    by_next (Some frame) e cut =
+        let at : name_at w.store.names frame ≡ Some n = sym (ap (name_in w.store.names) e) ∙ is_name-true (next_name w.store) n cut in
+        let is = exists-page w n f.files (f.frames.exist frame n at) in
+        let home = f.frames.sound.listed frame (next-listed w.store frame e) in
+        let v = home-value w.store notes (world_table w) n frame (bytes_at w.store.frames frame) (find-some w.store.names n frame f.frames.sound.distinct at) refl home in
+        ap (λ (b : Page). length b) (value-is w notes n is ∙ v.2) ∙ (f.frames.sound.each frame (some-within w.store.frames frame home)).size v.0 v.1
+
 pub fill-step : (w : World) (spaces : Spaces) (new : StoreSeen) (name : PageName) (frame : ℕ) → MemoryFits (memory_of w spaces) → TakesFor w.store new name frame → IsTrue (page_exists w.files w.anon name) → name.object ≢ 64 → IsTrue (is_unpushed w.files w.anon name)
     → WorldStep w (with_tables w new w.hat) spaces stays (is_name (next_name w.store))
 fill-step w spaces new name frame f k exists file unpushed =
-    let real = exists-page w.files w.anon name f.files exists in
+    let real = exists-page w name f.files exists in
     let blank : (world_table w name).blank ≡ true = blank-is w name f.files real ∙ unpushed in
     let valid = valid-within w name f.files real in
     let taken : next_name w.store ≡ name_at w.store.names frame = ap (name_in w.store.names) k.next in
@@ -78,19 +90,15 @@ fill-step w spaces new name frame f k exists file unpushed =
     ] in
     record {
       tables = record { maps = refl; counts = refl; reserved = refl; disks = refl; infos = refl };
-      core = k.origin;
+      core = k.core;
       frames = k.laws.touches.frames;
       bays = k.laws.outside.bays;
       memory = fill-memory w spaces new name frame f k exists file;
       notes = λ notes trip nf. fill-notes w spaces new name frame notes f k blank valid (k.laws.values notes (world_table w) nf.stored).fits nf;
       tells = λ notes trip nf. tell-kept w new w.hat notes (k.laws.values notes (world_table w) nf.stored).alike;
-      whole = λ notes n trip nf tell cut.
-          let at : name_at w.store.names frame ≡ Some n = sym taken ∙ is_name-true (next_name w.store) n cut in
-          let is = exists-page w.files w.anon n f.files (f.frames.exist frame n at) in
-          let home = f.frames.sound.listed frame (next-listed w.store frame k.next) in
-          let v = home-value w.store notes (world_table w) n frame (bytes_at w.store.frames frame) (find-some w.store.names n frame f.frames.sound.distinct at) refl home in
-          ap (λ (b : Page). length b) (value-is w notes n is ∙ v.2) ∙ (f.frames.sound.each frame (some-within w.store.frames frame home)).size v.0 v.1;
-      pages = λ notes n trip nf tell is.
+      whole = λ notes n trip nf tell exists cut. next-whole w spaces notes n f cut;
+      pages = λ notes n trip nf tell there.
+          let is = exists-page w n f.files there in
           let call = k.laws.values notes (world_table w) nf.stored in
           elim (cases_Bool (is_name (Some name) n)) [
             | inl same ↦

@@ -1,49 +1,43 @@
 -- A frame that is taken for a page of zeros of a file: memory and the notes fit, and the name that the frame held is cut at its valid bytes.
-use Rattle.std.proofs.Common.{◌≡◌, ◌≢◌, ℕ, zero, suc, ◌+◌, ◌-◌, ◌*◌, ◌<◌, ◌≤◌, ◌==◌, min, Bool, true, false, cond, List, [], ◌∷◌, ◌++◌, length, take, replicate, Option, Some, None, refl, sym, ap, ◌∙◌, ◌⊎◌, inl, inr, subst, arith, slice_index_or, slice_set, get_or-set_same}
-use Rattle.std.specs.Prelude.{IsTrue, IsFalse, IsSome, IfSome, is_none, is_some, not, unwrap_or}
+use Rattle.std.proofs.Common.{◌≡◌, ◌≢◌, ℕ, zero, suc, ◌-◌, ◌≤◌, Bool, true, false, cond, List, [], ◌∷◌, ◌++◌, length, take, replicate, Option, Some, None, refl, sym, ap, ◌∙◌, ◌⊎◌, inl, inr, subst, arith, slice_index_or}
+use Rattle.std.specs.Prelude.{IsTrue, IsSome, not, unwrap_or}
 use Rattle.std.proofs.lemmas.Bool.{cases_eq, cases_Bool}
 use Rattle.std.proofs.lemmas.Bool.Decides.{eqb_tells}
 use Rattle.core_arena.specs.Bytes.{bytes_at, zeros}
-use Rattle.page_hash.specs.Names.{name_at, find, is_name}
+use Rattle.page_hash.specs.Names.{name_at, find}
 use Rattle.page_hash.specs.declared.PageName.{PageName}
-use Rattle.page_hash.proofs.NameLaws.{find-at, find-some, find-none, is_name-true, is_name-same}
+use Rattle.page_hash.proofs.NameLaws.{find-at, find-none}
 use Rattle.page_lists.specs.ListsSeen.{Has, first_of}
-use Rattle.page_lock.specs.Rows.{row_at, clear_row}
+use Rattle.page_lock.specs.Rows.{row_at}
 use Rattle.page_lock.specs.declared.Row.{Row}
 use Rattle.page_store.specs.Bays.{BaySeen, block_of}
 use Rattle.page_store.specs.Bytes.{clipped}
 use Rattle.page_store.specs.Laws.{FillsPage}
-use Rattle.page_store.specs.Moves.{after_taking, only}
+use Rattle.page_store.specs.Moves.{only}
 use Rattle.page_store.specs.Notes.{Note, Notes}
-use Rattle.page_store.specs.Seen.{StoreSeen, IsSoundStore, IsListedFrame, IsGone, own_frame, residence}
-use Rattle.page_store.specs.Steps.{next_frame, next_name, name_in, after_fill, at_frame, with_frame_filled, fresh_row}
+use Rattle.page_store.specs.Seen.{StoreSeen, IsSoundStore, IsListedFrame, own_frame, residence}
+use Rattle.page_store.specs.Steps.{next_frame, name_in, fresh_row}
 use Rattle.page_store.specs.StoreFits.{StoreFits, IsClean}
-use Rattle.page_store.specs.Table.{Table}
 use Rattle.page_store.specs.Transfers.{rewritten_in}
-use Rattle.page_store.specs.Value.{value, value_in, held, note_of_holder, stored, tells, content_of}
+use Rattle.page_store.specs.Value.{stored, tells, content_of}
 use Rattle.page_store.specs.declared.place.Place.{Place}
-use Rattle.page_store.specs.declared.residence.Residence.{Residence}
 use Rattle.page_store.specs.declared.residence.Residence.TheVariants.{Home, Absent}
-use Rattle.page_store.proofs.QueryLemmas.{home-is, absent-is, some-within}
+use Rattle.page_store.proofs.QueryLemmas.{home-is, absent-is}
 use Rattle.hat_layer.specs.declared.translation.Translation.{Translation}
-use Rattle.vnode_files.specs.Files.{vnode_at}
-use Rattle.vm_world.specs.FramesFit.{FramesFit, FilesFit, DisksFit}
+use Rattle.vm_world.specs.FramesFit.{FilesFit, DisksFit}
 use Rattle.vm_world.specs.MemoryFits.{MemoryFits}
-use Rattle.vm_world.specs.NotesFit.{NotesFit, PushFits, WasRewritten, IsAsSent, MayWriteGone}
-use Rattle.vm_world.specs.Pages.{page_value}
+use Rattle.vm_world.specs.NotesFit.{NotesFit, PushFits}
 use Rattle.vm_world.specs.Segments.{Spaces}
-use Rattle.vm_world.specs.TranslationsFit.{TranslationFits, TranslationsFit, HasWritten, IsModified, UnpushedFit}
-use Rattle.vm_world.specs.World.{World, world_table, file_name, slot_name, is_unpushed, is_page_name, page_exists, page_table}
-use Rattle.vm_world.specs.WorldSteps.{WorldStep, stays, cut_page}
-use Rattle.vm_world.proofs.PageNames.{page-cases, file-place, slot-place, not-slot, is-slot}
-use Rattle.vm_world.proofs.FrameRule.{valid-within}
-use Rattle.seg_ops.proofs.StillSteps.{with_tables, memory_of, tell-kept, value-is}
-use Rattle.seg_ops.proofs.Hits.{exists-page}
+use Rattle.vm_world.specs.TranslationsFit.{HasWritten, IsModified}
+use Rattle.vm_world.specs.World.{World, core_of, world_table, slot_name, is_unpushed, is_page_name, page_exists}
+use Rattle.vm_world.proofs.PageNames.{page-cases, file-place, slot-place}
+use Rattle.vm_world.proofs.FrameRule.{exists-page}
+use Rattle.seg_ops.proofs.StillSteps.{with_tables, memory_of}
 
 -- What the store's call says of a page of zeros of a file.
 pub record TakesFor (old new : StoreSeen) (name : PageName) (frame : ℕ) : Type 0 where
   pub next : next_frame old ≡ Some frame
-  pub origin : new.origin ≡ old.origin
+  pub core : core_of new ≡ core_of old
   pub absent : residence old name ≡ Absent
   pub bytes : bytes_at new.frames frame ≡ Some zeros
   pub home : residence new name ≡ Home frame
@@ -59,7 +53,7 @@ next-listed s frame e = by_lists s.free s.cached e
     by_lists [] (x ∷ xs) e = inr (inl (let z : Some x ≡ Some frame = e in cc))
     by_lists (x ∷ xs) cached e = inl (inl (let z : Some x ≡ Some frame = e in cc))
 
-held-by : (s : StoreSeen) (n : PageName) (frame : ℕ) → residence s n ≡ Home frame → name_at s.names frame ≡ Some n
+pub held-by : (s : StoreSeen) (n : PageName) (frame : ℕ) → residence s n ≡ Home frame → name_at s.names frame ≡ Some n
 held-by s n frame home = find-at s.names n frame (home-is s n frame home).found
 
 -- what the frames that weren't taken keep
@@ -223,14 +217,13 @@ clean-taken w spaces new name frame notes f k nf blank valid = record {
 }
 
 -- the page of a gone push that loses its home frame is a blank one of a file
-was-taken : (w : World) (spaces : Spaces) (frame seat : ℕ) (notes : Notes) (note : Note) → MemoryFits (memory_of w spaces) → next_frame w.store ≡ Some frame → NotesFit w notes → notes seat ≡ Some note → note.writes ≡ true → residence w.store note.name ≡ Home frame
+pub was-taken : (w : World) (spaces : Spaces) (frame seat : ℕ) (notes : Notes) (note : Note) → MemoryFits (memory_of w spaces) → IsListedFrame w.store frame → NotesFit w notes → notes seat ≡ Some note → note.writes ≡ true → residence w.store note.name ≡ Home frame
     → IsTrue (is_unpushed w.files w.anon note.name) × (note.name.object ≢ 64)
-was-taken w spaces frame seat notes note f next nf is writes home =
-    let listed = next-listed w.store frame next in
+was-taken w spaces frame seat notes note f listed nf is writes home =
     let name_is = held-by w.store note.name frame home in
     let cached : Has w.store.cached frame = elim listed [ inl h ↦ absurd (let z : Some note.name ≡ None = sym name_is ∙ f.frames.sound.unnamed frame h in cc) | inr h ↦ h ] in
     let blank = ((nf.stored.each_cached frame note.name cached name_is).unwritten seat note is writes refl).1 in
-    let real = exists-page w.files w.anon note.name f.files (f.frames.exist frame note.name name_is) in
+    let real = exists-page w note.name f.files (f.frames.exist frame note.name name_is) in
     let unpushed : is_unpushed w.files w.anon note.name ≡ true = sym (blank-is w note.name f.files real) ∙ blank in (
       unpushed,
       λ e.
@@ -267,7 +260,7 @@ fill-notes w spaces new name frame notes f k blank valid fits nf = record {
           | inl c ↦ inr (inl c)
           | inr d ↦ elim (cases_eq d.0 frame) [
             | inr ne ↦ inr (inr (d.0, stays-home w.store new name note.name frame d.0 f.frames.sound k ne d.1))
-            | inl e ↦ inl (was-taken w spaces frame seat notes note f k.next nf is writes (subst (λ (i : ℕ). residence w.store note.name ≡ Home i) e d.1))
+            | inl e ↦ inl (was-taken w spaces frame seat notes note f (next-listed w.store frame k.next) nf is writes (subst (λ (i : ℕ). residence w.store note.name ≡ Home i) e d.1))
           ]
         ]
       ];

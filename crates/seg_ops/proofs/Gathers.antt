@@ -1,6 +1,6 @@
 -- Bits that are gathered into a page.
-use Rattle.std.proofs.Common.{◌≡◌, ◌≢◌, ℕ, ◌+◌, ◌<◌, ◌==◌, Bool, true, false, cond, List, length, Option, Some, None, refl, sym, ap, ◌∙◌, ◌⊎◌, inl, inr, subst, arith, slice_set, slice_index_or, get_or-set_same}
-use Rattle.std.specs.Prelude.{IsTrue, IsSome, ◌||◌}
+use Rattle.std.proofs.Common.{◌≡◌, ℕ, ◌<◌, Bool, true, List, length, Option, Some, refl, sym, ap, ◌∙◌, ◌⊎◌, inl, inr, subst, arith, get_or-set_same}
+use Rattle.std.specs.Prelude.{◌||◌}
 use Rattle.page_lock.specs.Rows.{row_at, clear_row, with_bits}
 use Rattle.page_lock.specs.declared.Row.{Row}
 use Rattle.page_store.specs.Laws.{StaysInPlace}
@@ -10,7 +10,7 @@ use Rattle.hat_layer.specs.declared.translation.Translation.{Translation}
 use Rattle.anon_slots.specs.Slots.{Slots}
 use Rattle.vnode_files.specs.Files.{FilesSeen}
 use Rattle.vm_world.specs.FramesFit.{FramesFit}
-use Rattle.vm_world.specs.TranslationsFit.{HasWritten, IsModified}
+use Rattle.vm_world.specs.TranslationsFit.{HasWritten}
 use Rattle.seg_ops.specs.Steps.{with_bits_gathered}
 use Rattle.seg_ops.proofs.Places.{index-set, or-left, or-right}
 use Rattle.seg_ops.proofs.StillSteps.{KeepsRow, KeepsFrames, same-row}
@@ -59,7 +59,7 @@ keeps-gathered s files anon before after frame told f lt unlisted laws kept =
     let few : frame < length s.rows = let a = f.sound.rows in omega (arith, a, lt) in
     record {
       sound = laws.sound;
-      origin = refl;
+      core = refl;
       frames = refl;
       names = refl;
       bays = refl;

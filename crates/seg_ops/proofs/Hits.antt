@@ -1,9 +1,8 @@
 -- Words that are read and put through a translation.
-use Rattle.std.proofs.Common.{◌≡◌, ◌≢◌, ℕ, zero, suc, ◌+◌, ◌%◌, ◌<◌, ◌≤◌, ◌==◌, Bool, true, false, cond, List, [], ◌∷◌, length, Option, Some, None, refl, sym, ap, ◌∙◌, ◌⊎◌, inl, inr, subst, arith, slice_index_or}
-use Rattle.std.specs.Prelude.{option_map, IsTrue, IsSome, IfSome, nat_lt, slice_index, ◌||◌, not}
-use Rattle.std.proofs.lemmas.Bool.{cases_eq, cases_Bool, lt-ltb, ltb-true}
+use Rattle.std.proofs.Common.{◌≡◌, ℕ, ◌%◌, ◌<◌, Bool, true, false, List, length, Option, Some, None, refl, sym, ap, ◌∙◌, inl, inr, subst}
+use Rattle.std.specs.Prelude.{option_map}
 use Rattle.std.proofs.lemmas.Bool.Decides.{eqb_tells}
-use Rattle.core_arena.specs.Bytes.{bytes_at, spliced}
+use Rattle.core_arena.specs.Bytes.{spliced}
 use Rattle.page_hash.specs.Names.{name_at, find}
 use Rattle.page_hash.specs.declared.PageName.{PageName}
 use Rattle.page_lists.specs.ListsSeen.{Has}
@@ -11,52 +10,21 @@ use Rattle.page_lock.specs.Rows.{row_at}
 use Rattle.page_lock.specs.declared.Row.{Row}
 use Rattle.page_store.specs.Laws.{Pokes}
 use Rattle.page_store.specs.Moves.{only}
-use Rattle.page_store.specs.Notes.{Notes}
 use Rattle.page_store.specs.Seen.{StoreSeen, IsListedFrame, residence}
 use Rattle.page_store.specs.Steps.{at_frame, with_piece, after_poke}
-use Rattle.page_store.specs.Value.{value}
 use Rattle.page_store.specs.declared.residence.Residence.TheVariants.{Home}
 use Rattle.page_store.proofs.QueryLemmas.{home-is}
-use Rattle.anon_slots.specs.Slots.{Slots, is_used, count_at}
-use Rattle.vnode_files.specs.Files.{FilesSeen, vnode_at}
-use Rattle.vnode_files.specs.Grow.{page_count}
-use Rattle.vnode_files.specs.Vnode.{VnodeSeen, no_vnode}
 use Rattle.hat_layer.specs.declared.translation.Translation.{Translation}
 use Rattle.hat_layer.specs.Pool.{Pool, IsSingleValued, at, change_at, after_access}
-use Rattle.flat_model.specs.Words.{page, pages_in, word_at, word_put, word_bytes}
-use Rattle.vm_world.specs.FramesFit.{FilesFit}
+use Rattle.flat_model.specs.Words.{page, word_bytes}
 use Rattle.vm_world.specs.MemoryFits.{MemoryFits}
-use Rattle.vm_world.specs.Pages.{page_value}
 use Rattle.vm_world.specs.Segments.{Spaces, spot_at}
 use Rattle.vm_world.specs.TranslationsFit.{TranslationFits, TranslationsFit, HasWritten}
-use Rattle.vm_world.specs.World.{World, world_table, is_page_name, page_exists}
-use Rattle.vm_world.proofs.PageNames.{below-kept}
-use Rattle.seg_ops.specs.Steps.{KeepsPages, ShowsName, PutsWord, WritesWord}
-use Rattle.seg_ops.proofs.Places.{StandsAt, stands-at, each-change_at, written-access, written-store}
+use Rattle.vm_world.specs.World.{World, core_of, world_table}
+use Rattle.vm_world.proofs.FrameRule.{exists-page}
+use Rattle.seg_ops.specs.Steps.{KeepsPages, ShowsName, WritesWord}
+use Rattle.seg_ops.proofs.Places.{stands-at, each-change_at, written-access, written-store}
 use Rattle.seg_ops.proofs.StillSteps.{KeepsFrames, with_tables, memory_of, same-row, translation-kept, memory-kept, notes-kept, tell-kept, value-is, step-keeps, keeps-store, values-same, fits-held, fits-within}
-
--- A PAGE THAT EXISTS is a page of a file that it keeps, or a slot's.
-slot-below : (counts : List ℕ) (slot : ℕ) → is_used (slice_index counts slot) ≡ true → slot < length counts
-slot-below [] slot used = absurd (let z : false ≡ true = used in cc)
-slot-below (x ∷ xs) zero used = omega arith
-slot-below (x ∷ xs) (suc slot) used = let more = slot-below xs slot used in omega (arith, more)
-
-file-below : (f i : ℕ) (xs : List VnodeSeen) → i < pages_in (slice_index_or xs f no_vnode).info.length → f < length xs
-file-below f i [] lt = absurd (omega (arith, lt))
-file-below zero i (x ∷ xs) lt = omega arith
-file-below (suc f) i (x ∷ xs) lt = let more = file-below f i xs lt in omega (arith, more)
-
-pub exists-page : (files : FilesSeen) (anon : Slots) (name : PageName) → FilesFit files → IsTrue (page_exists files anon name) → IsTrue (is_page_name files anon name)
-exists-page files anon name fit is = elim (cases_Bool (name.object == 64)) [
-  | inl slot ↦
-      let used : is_used (count_at anon name.page) ≡ true = sym (ap (λ (b : Bool). cond b (is_used (count_at anon name.page)) (nat_lt name.page (pages_in (vnode_at files name.object).info.length))) slot) ∙ is in
-      ap (λ (b : Bool). cond b (nat_lt name.page (length anon.counts)) (nat_lt name.page (page_count (vnode_at files name.object).info.extents))) slot
-      ∙ lt-ltb name.page (length anon.counts) (slot-below anon.counts name.page used)
-  | inr file ↦
-      let low : name.page < pages_in (vnode_at files name.object).info.length = ltb-true name.page (pages_in (vnode_at files name.object).info.length) (sym (ap (λ (b : Bool). cond b (is_used (count_at anon name.page)) (nat_lt name.page (pages_in (vnode_at files name.object).info.length))) file) ∙ is) in
-      ap (λ (b : Bool). cond b (nat_lt name.page (length anon.counts)) (nat_lt name.page (page_count (vnode_at files name.object).info.extents))) file
-      ∙ lt-ltb name.page (page_count (vnode_at files name.object).info.extents) (below-kept (vnode_at files name.object) name.page (fit.each name.object (file-below name.object name.page files.files low)) low)
-]
 
 -- WHAT A TRANSLATION LEADS TO: the home frame of the page that its place shows.
 pub record Hits (w : World) (spaces : Spaces) (space q : ℕ) (t : Translation) : Type 0 where
@@ -75,7 +43,7 @@ hits w spaces space q t f is =
     let same : spot_at spaces t.space t.page ≡ spot_at spaces space q = λ i. spot_at spaces (s.space_is i) (s.page_is i) in
     record {
       name = l.name;
-      shows = record { spot = l.spot; here = sym same ∙ l.here; shows = l.shows; is_page = exists-page w.files w.anon l.name f.files (f.frames.exist t.frame l.name held) };
+      shows = record { spot = l.spot; here = sym same ∙ l.here; shows = l.shows; is_page = exists-page w l.name f.files (f.frames.exist t.frame l.name held) };
       home = l.home;
       held = held;
       within = fits-within w.store w.anon w.maps spaces t f.frames.sound l;
@@ -128,15 +96,15 @@ touch-keeps w spaces hat space q write f places frames single =
 
 -- what a poke that marks nothing leaves as it was
 record Alike (new s : StoreSeen) : Type 0 where
-  pub origin : new.origin ≡ s.origin
+  pub core : core_of new ≡ core_of s
   pub names : new.names ≡ s.names
   pub rows : new.rows ≡ s.rows
   pub free : new.free ≡ s.free
   pub cached : new.cached ≡ s.cached
 
 alike-in : (o : Option ℕ) (s : StoreSeen) (at : ℕ) (from : List ℕ) → Alike (at_frame o s (λ frame. with_piece s frame at from false)) s
-alike-in None s at from = record { origin = refl; names = refl; rows = refl; free = refl; cached = refl }
-alike-in (Some frame) s at from = record { origin = refl; names = refl; rows = refl; free = refl; cached = refl }
+alike-in None s at from = record { core = refl; names = refl; rows = refl; free = refl; cached = refl }
+alike-in (Some frame) s at from = record { core = refl; names = refl; rows = refl; free = refl; cached = refl }
 
 -- A WORD IS PUT: the access was noted first, so that the page is modified when its bytes change.
 pub write-word : (w : World) (spaces : Spaces) (new : StoreSeen) (hat : Pool) (space a n v : ℕ) (t : Translation) (h : Hits w spaces space (page a) t) → MemoryFits (memory_of w spaces) → at w.hat.places space (page a) ≡ Some t
@@ -152,7 +120,7 @@ write-word w spaces new hat space a n v t h f is places frames single step laws 
     let written : (k : ℕ) → HasWritten w.hat.places k → HasWritten hat.places k = λ k x. subst (λ (ps : List (Option Translation)). HasWritten ps k) (sym places) (written-access w.hat.places space (page a) true k x) in
     let k : KeepsFrames w.store new w.hat.places hat.places = record {
       sound = laws.sound;
-      origin = alike.origin;
+      core = alike.core;
       frames = laws.touches.frames;
       names = alike.names;
       bays = laws.outside.bays;
@@ -174,7 +142,7 @@ write-word w spaces new hat space a n v t h f is places frames single step laws 
       h.shows,
       record {
         tables = record { maps = refl; counts = refl; reserved = refl; disks = refl; infos = refl };
-        core = alike.origin;
+        core = alike.core;
         frames = laws.touches.frames;
         bays = laws.outside.bays;
         memory = memory-kept w spaces new hat f k frames single translations;

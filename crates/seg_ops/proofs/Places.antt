@@ -1,5 +1,5 @@
 -- The places of the pool of translations, after one was loaded or touched, and after those of a frame were changed or dropped.
-use Rattle.std.proofs.Common.{◌≡◌, ◌≢◌, ℕ, zero, suc, ◌<◌, ◌+◌, ◌==◌, Bool, true, false, cond, List, [], ◌∷◌, map, length, Option, Some, None, refl, sym, ap, ◌∙◌, ◌⊎◌, inl, inr, subst, arith, slice_index_or, slice_set}
+use Rattle.std.proofs.Common.{◌≡◌, ◌≢◌, ℕ, zero, suc, ◌==◌, Bool, true, false, cond, List, [], ◌∷◌, map, Option, Some, None, refl, sym, ap, ◌∙◌, ◌⊎◌, inl, inr, subst, slice_index_or, slice_set}
 use Rattle.std.specs.Prelude.{option_map, option_and_then, find, ◌&&◌, ◌||◌}
 use Rattle.std.specs.List.{list_any}
 use Rattle.std.proofs.lemmas.Bool.{cases_Bool, eqb-true, eq-eqb}
@@ -12,7 +12,7 @@ use Rattle.seg_ops.specs.Steps.{IsUnwritten}
 abbrev pub Each : (Translation → Type 0) → List (Option Translation) → Type 0
 Each P places = (place : ℕ) (t : Translation) → slice_index_or places place None ≡ Some t → P t
 
-both : (a b : Bool) → (a && b) ≡ true → (a ≡ true) × (b ≡ true)
+pub both : (a b : Bool) → (a && b) ≡ true → (a ≡ true) × (b ≡ true)
 both true true h = (refl, refl)
 both true false h = (refl, h)
 both false b h = absurd (cc)
@@ -66,7 +66,7 @@ index-set (o ∷ os) (suc j) x (suc k) d = elim (index-set os j x k d) [
 ]
 
 -- what the place of a changed translation had
-changed-from : (b : Bool) (f : Translation → Translation) (o : Option Translation) (t : Translation) → cond b (option_map f o) o ≡ Some t → (u : Translation) × (o ≡ Some u) × ((t ≡ u) ⊎ (t ≡ f u))
+pub changed-from : (b : Bool) (f : Translation → Translation) (o : Option Translation) (t : Translation) → cond b (option_map f o) o ≡ Some t → (u : Translation) × (o ≡ Some u) × ((t ≡ u) ⊎ (t ≡ f u))
 changed-from true f None t h = absurd (cc)
 changed-from true f (Some u) t h = (u, refl, inr (let z : Some (f u) ≡ Some t = h in cc))
 changed-from false f o t h = (t, h, inl refl)
@@ -92,7 +92,7 @@ each-set P places j new has each k t there = elim (index-set places j (Some new)
 ]
 
 -- a translation that stays after those of a frame were dropped leads elsewhere
-was-kept : (frame : ℕ) (o : Option Translation) (t : Translation) (b : Bool) → leads frame o ≡ b → cond b None o ≡ Some t → (o ≡ Some t) × (b ≡ false)
+pub was-kept : (frame : ℕ) (o : Option Translation) (t : Translation) (b : Bool) → leads frame o ≡ b → cond b None o ≡ Some t → (o ≡ Some t) × (b ≡ false)
 was-kept frame o t true is e = absurd (cc)
 was-kept frame o t false is e = (e, refl)
 
@@ -140,18 +140,25 @@ any-place W [] k t is passes = absurd (cc)
 any-place W (o ∷ os) zero t is passes = or-left (W o) (list_any W os) (ap W is ∙ passes)
 any-place W (o ∷ os) (suc k) t is passes = or-right (W o) (list_any W os) (any-place W os k t is passes)
 
--- THE BITS OF A FRAME that were told: one of its translations that was written says so, and those of other frames stay
-pub written-clear : (places : List (Option Translation)) (frame j : ℕ) → HasWritten places j → ((frame ≡ j) × (list_any (has_bit (λ t. t.modified) frame) places ≡ true)) ⊎ HasWritten (change_frame frame with_clear_bits places) j
-written-clear places frame j w = elim (cases_Bool (w.translation.frame == frame)) [
+-- THE BITS OF A FRAME that were told: one of its translations that was written says so, where all others stay
+written-told : (change : Option Translation → Option Translation) (places : List (Option Translation)) (frame j : ℕ) → change None ≡ None → ((t : Translation) → (t.frame == frame) ≡ false → change (Some t) ≡ Some t) → HasWritten places j
+    → ((frame ≡ j) × (list_any (has_bit (λ t. t.modified) frame) places ≡ true)) ⊎ HasWritten (map change places) j
+written-told change places frame j none apart w = elim (cases_Bool (w.translation.frame == frame)) [
   | inl is ↦ inl (sym (eqb-true w.translation.frame frame is) ∙ w.leads, any-place (has_bit (λ t. t.modified) frame) places w.place w.translation w.there (rw (is, w.modified) refl))
-  | inr apart ↦ inr (record {
+  | inr other ↦ inr (record {
     place = w.place;
     translation = w.translation;
-    there = index-map (change_lead frame with_clear_bits) places w.place refl ∙ ap (change_lead frame with_clear_bits) w.there ∙ ap (λ b. cond b (Some (with_clear_bits w.translation)) (Some w.translation)) apart;
+    there = index-map change places w.place none ∙ ap change w.there ∙ apart w.translation other;
     leads = w.leads;
     modified = w.modified;
   })
 ]
+
+pub written-clear : (places : List (Option Translation)) (frame j : ℕ) → HasWritten places j → ((frame ≡ j) × (list_any (has_bit (λ t. t.modified) frame) places ≡ true)) ⊎ HasWritten (change_frame frame with_clear_bits places) j
+written-clear places frame j w = written-told (change_lead frame with_clear_bits) places frame j refl (λ t other. ap (λ b. cond b (Some (with_clear_bits t)) (Some t)) other) w
+
+pub written-gone : (places : List (Option Translation)) (frame j : ℕ) → HasWritten places j → ((frame ≡ j) × (list_any (has_bit (λ t. t.modified) frame) places ≡ true)) ⊎ HasWritten (drop_frame frame places) j
+written-gone places frame j w = written-told (drop_lead frame) places frame j refl (λ t other. ap (λ b. cond b None (Some t)) other) w
 
 pub written-drop : (places : List (Option Translation)) (frame j : ℕ) → IsUnwritten places frame → HasWritten places j → HasWritten (drop_frame frame places) j
 written-drop places frame j unwritten w = elim (cases_Bool (w.translation.frame == frame)) [

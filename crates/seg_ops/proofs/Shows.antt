@@ -1,5 +1,5 @@
 -- A frame comes off the cache list.
-use Rattle.std.proofs.Common.{◌≡◌, ◌≢◌, ℕ, ◌<◌, ◌==◌, Bool, true, false, List, length, Option, Some, None, refl, sym, ap, ◌∙◌, ◌⊎◌, inl, inr, subst}
+use Rattle.std.proofs.Common.{◌≡◌, ℕ, ◌<◌, ◌==◌, Bool, false, List, length, Option, Some, None, refl, sym, ap, ◌∙◌, inl, inr, subst}
 use Rattle.std.specs.Prelude.{IfSome}
 use Rattle.std.proofs.lemmas.Bool.Decides.{eqb_tells}
 use Rattle.core_arena.specs.Bytes.{bytes_at}
@@ -11,29 +11,28 @@ use Rattle.page_store.specs.Laws.{StaysInPlace}
 use Rattle.page_store.specs.Moves.{only}
 use Rattle.page_store.specs.Seen.{StoreSeen, IsListedFrame, residence}
 use Rattle.page_store.specs.Steps.{at_frame, after_reclaim}
-use Rattle.page_lists.specs.ListsSeen.{Has, without}
+use Rattle.page_lists.specs.ListsSeen.{without}
 use Rattle.page_store.specs.declared.residence.Residence.TheVariants.{Home}
 use Rattle.page_store.proofs.QueryLemmas.{home-is, found-within}
-use Rattle.hat_layer.specs.declared.translation.Translation.{Translation}
-use Rattle.hat_layer.specs.Pool.{Pool, fresh_translation}
+use Rattle.hat_layer.specs.Pool.{fresh_translation}
 use Rattle.vm_world.specs.MemoryFits.{MemoryFits}
 use Rattle.vm_world.specs.Segments.{Spaces}
 use Rattle.vm_world.specs.TranslationsFit.{TranslationFits}
-use Rattle.vm_world.specs.World.{World, world_table}
+use Rattle.vm_world.specs.World.{World, core_of, world_table}
 use Rattle.seg_ops.specs.Steps.{KeepsPages, MayShow}
-use Rattle.seg_ops.proofs.StillSteps.{KeepsFrames, with_tables, memory_of, same-row, translation-kept, step-keeps}
+use Rattle.seg_ops.proofs.StillSteps.{with_tables, memory_of, same-row, translation-kept, step-keeps}
 
 -- what a reclaim leaves as it was
 record Alike (new s : StoreSeen) : Type 0 where
-  pub origin : new.origin ≡ s.origin
+  pub core : core_of new ≡ core_of s
   pub names : new.names ≡ s.names
   pub bays : new.bays ≡ s.bays
   pub rows : new.rows ≡ s.rows
   pub frames : new.frames ≡ s.frames
 
 alike-in : (o : Option ℕ) (s : StoreSeen) → Alike (at_frame o s (λ frame. record s { cached = without s.cached frame })) s
-alike-in None s = record { origin = refl; names = refl; bays = refl; rows = refl; frames = refl }
-alike-in (Some frame) s = record { origin = refl; names = refl; bays = refl; rows = refl; frames = refl }
+alike-in None s = record { core = refl; names = refl; bays = refl; rows = refl; frames = refl }
+alike-in (Some frame) s = record { core = refl; names = refl; bays = refl; rows = refl; frames = refl }
 
 -- a home page is in one of the frames
 pub home-found : (w : World) (name : PageName) (frame : ℕ) → residence w.store name ≡ Home frame → find w.store.names name ≡ Some frame
@@ -63,7 +62,7 @@ reclaim-keeps w spaces new name frame f home step unlisted laws =
     let row : (k : ℕ) → row_at new.rows k ≡ row_at w.store.rows k = λ k. ap (λ (rows : List Row). row_at rows k) alike.rows in
     step-keeps w spaces new w.hat f (record {
       sound = laws.sound;
-      origin = alike.origin;
+      core = alike.core;
       frames = laws.touches.frames;
       names = alike.names;
       bays = alike.bays;

@@ -1,6 +1,6 @@
 -- THE STEPS THAT TAKE NO FRAME. What the store and the translations keep, so that memory and the notes fit as before.
-use Rattle.std.proofs.Common.{◌≡◌, ◌≢◌, ℕ, ◌+◌, ◌<◌, ◌≤◌, ◌==◌, Bool, true, false, cond, List, [], length, Option, Some, None, refl, sym, ap, ◌∙◌, ◌⊎◌, inl, inr, subst, arith}
-use Rattle.std.specs.Prelude.{◌↔◌, IsTrue, IsFalse, IsSome, slice_index_or, unwrap_or}
+use Rattle.std.proofs.Common.{◌≡◌, ℕ, ◌<◌, Bool, true, false, cond, List, [], length, Option, Some, None, refl, sym, ap, ◌∙◌, ◌⊎◌, inl, inr, subst}
+use Rattle.std.specs.Prelude.{◌↔◌, IsTrue, IsSome, unwrap_or}
 use Rattle.core_arena.specs.Bytes.{bytes_at}
 use Rattle.page_hash.specs.Names.{name_at}
 use Rattle.page_hash.specs.declared.PageName.{PageName}
@@ -10,14 +10,12 @@ use Rattle.page_store.specs.Bays.{BaySeen}
 use Rattle.page_store.specs.Laws.{SameResidence}
 use Rattle.page_store.specs.Moves.{KeepsValues, SameDisksTell}
 use Rattle.page_store.specs.Notes.{Note, Notes}
-use Rattle.page_store.specs.Out.{HasOut}
-use Rattle.page_store.specs.Seen.{StoreSeen, IsSoundStore, IsListedFrame, IsGone, own_frame, residence}
-use Rattle.page_store.specs.StoreFits.{StoreFits, IsClean, NoteAgrees}
+use Rattle.page_store.specs.Seen.{StoreSeen, IsSoundStore, IsListedFrame, own_frame}
+use Rattle.page_store.specs.StoreFits.{StoreFits}
 use Rattle.page_store.specs.Table.{Table}
-use Rattle.page_store.specs.Transfers.{rewritten_in, was_rewritten}
+use Rattle.page_store.specs.Transfers.{rewritten_in}
 use Rattle.page_store.specs.Value.{value, stored, tells}
 use Rattle.page_store.specs.declared.place.Place.{Place}
-use Rattle.page_store.specs.declared.residence.Residence.TheVariants.{Home}
 use Rattle.page_hash.proofs.NameLaws.{find-at}
 use Rattle.page_store.proofs.QueryLemmas.{home-is, found-within}
 use Rattle.anon_slots.specs.Slots.{Slots}
@@ -32,8 +30,8 @@ use Rattle.vm_world.specs.NotesFit.{NotesFit, CleanFit, PushFits, IsAsSent, WasR
 use Rattle.vm_world.specs.Pages.{page_value}
 use Rattle.vm_world.specs.Segments.{Spaces}
 use Rattle.vm_world.specs.TranslationsFit.{TranslationFits, TranslationsFit, UnpushedFit, HasWritten, IsModified}
-use Rattle.vm_world.specs.World.{World, world_table, is_page_name, AllTell, slot_name}
-use Rattle.vm_world.specs.WorldSteps.{WorldStep, KeepsTables, stays}
+use Rattle.vm_world.specs.World.{World, core_of, world_table, is_page_name, AllTell}
+use Rattle.vm_world.proofs.FrameRule.{exists-page}
 use Rattle.seg_ops.specs.Steps.{KeepsPages}
 
 -- the world with another store and other translations
@@ -57,7 +55,7 @@ same-row old new e = record { keeps = ap (λ (r : Row). r.keeps) e; gone = ap (�
 -- this is kept by it or by the row; and a frame has its bytes, or a translation says that it was written.
 pub record KeepsFrames (old new : StoreSeen) (before after : List (Option Translation)) : Type 0 where
   pub sound : IsSoundStore new
-  pub origin : new.origin ≡ old.origin
+  pub core : core_of new ≡ core_of old
   pub frames : length new.frames ≡ length old.frames
   pub names : new.names ≡ old.names
   pub bays : new.bays ≡ old.bays
@@ -207,21 +205,21 @@ pub step-keeps : (w : World) (spaces : Spaces) (new : StoreSeen) (hat : Pool) �
     → TranslationsFit new w.anon w.maps spaces hat.places → ((notes : Notes) → NotesFit w notes → KeepsValues w.store notes new notes (world_table w)) → KeepsPages w (with_tables w new hat) spaces
 step-keeps w spaces new hat f k frames single translations values = record {
   tables = record { maps = refl; counts = refl; reserved = refl; disks = refl; infos = refl };
-  core = k.origin;
+  core = k.core;
   frames = k.frames;
   bays = k.bays;
   memory = memory-kept w spaces new hat f k frames single translations;
   notes = λ notes trip nf. notes-kept w spaces new hat notes f k (values notes nf).fits nf;
   tells = λ notes trip nf. tell-kept w new hat notes (values notes nf).alike;
-  whole = λ notes name trip nf tell cut. absurd (let z : false ≡ true = cut in cc);
-  pages = λ notes name trip nf tell is. value-is (with_tables w new hat) notes name is ∙ (values notes nf).values name (tell name is) ∙ sym (value-is w notes name is);
+  whole = λ notes name trip nf tell exists cut. absurd (let z : false ≡ true = cut in cc);
+  pages = λ notes name trip nf tell exists. let is = exists-page w name f.files exists in value-is (with_tables w new hat) notes name is ∙ (values notes nf).values name (tell name is) ∙ sym (value-is w notes name is);
 }
 
 -- THE STORE STAYS as it is, and what a translation said, one says.
 pub keeps-store : (store : StoreSeen) (before after : List (Option Translation)) (files : FilesSeen) (anon : Slots) → FramesFit store files anon → ((k : ℕ) → HasWritten before k → HasWritten after k) → KeepsFrames store store before after
 keeps-store store before after files anon f kept = record {
   sound = f.sound;
-  origin = refl;
+  core = refl;
   frames = refl;
   names = refl;
   bays = refl;

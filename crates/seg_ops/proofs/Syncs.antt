@@ -1,5 +1,5 @@
 -- The bits of a frame's translations are gathered, and the translations stay.
-use Rattle.std.proofs.Common.{◌≡◌, ◌≢◌, ℕ, ◌<◌, ◌==◌, Bool, true, false, cond, List, length, Option, Some, None, refl, sym, ap, ◌∙◌, ◌⊎◌, inl, inr, subst, arith, slice_index_or}
+use Rattle.std.proofs.Common.{◌≡◌, ◌≢◌, ℕ, ◌<◌, Bool, true, false, cond, List, length, Option, Some, None, refl, sym, ap, ◌∙◌, ◌⊎◌, inl, inr, subst, slice_index_or}
 use Rattle.std.specs.Prelude.{option_map}
 use Rattle.std.proofs.lemmas.Bool.{eq-eqb}
 use Rattle.page_store.specs.Laws.{StaysInPlace}
@@ -9,11 +9,11 @@ use Rattle.hat_layer.specs.declared.translation.Translation.{Translation}
 use Rattle.hat_layer.specs.Pool.{Pool, IsSingleValued, leads, with_clear_bits, change_lead, change_frame, bits_of}
 use Rattle.vm_world.specs.MemoryFits.{MemoryFits}
 use Rattle.vm_world.specs.Segments.{Spaces}
-use Rattle.vm_world.specs.TranslationsFit.{TranslationFits, TranslationsFit}
+use Rattle.vm_world.specs.TranslationsFit.{TranslationFits, TranslationsFit, HasWritten}
 use Rattle.vm_world.specs.World.{World, world_table}
 use Rattle.seg_ops.specs.Steps.{KeepsPages, IsUnwritten, with_bits_gathered}
 use Rattle.seg_ops.proofs.Places.{index-map, each-change_frame, written-clear}
-use Rattle.seg_ops.proofs.StillSteps.{KeepsFrames, with_tables, memory_of, translation-kept, step-keeps}
+use Rattle.seg_ops.proofs.StillSteps.{with_tables, memory_of, translation-kept, step-keeps}
 use Rattle.seg_ops.proofs.Gathers.{keeps-gathered}
 
 fits-clear : (w : World) (store : StoreSeen) (spaces : Spaces) (t : Translation) → TranslationFits store w.anon w.maps spaces t → TranslationFits store w.anon w.maps spaces (with_clear_bits t)
@@ -34,20 +34,27 @@ sync-unwritten places frame k t is to = elim (was-cleared frame (slice_index_or 
   | inr clear ↦ clear
 ]
 
+-- BITS ARE GATHERED from translations that stay, or that are dropped: what they said, they say still or the page does.
+pub gather-keeps : (w : World) (spaces : Spaces) (new : StoreSeen) (hat : Pool) (frame : ℕ) → MemoryFits (memory_of w spaces) → frame < length w.store.frames → ¬ IsListedFrame w.store frame
+    → hat.frames ≡ w.hat.frames → IsSingleValued hat.places → new ≡ with_bits_gathered w.store frame (bits_of frame w.hat.places) → StaysInPlace w.store new (only (Some frame))
+    → ((k : ℕ) → HasWritten w.hat.places k → ((frame ≡ k) × ((bits_of frame w.hat.places).1 ≡ true)) ⊎ HasWritten hat.places k)
+    → ((store : StoreSeen) → TranslationsFit store w.anon w.maps spaces w.hat.places → TranslationsFit store w.anon w.maps spaces hat.places)
+    → KeepsPages w (with_tables w new hat) spaces
+gather-keeps w spaces new hat frame f lt unlisted frames single is laws told fit =
+    let bits = bits_of frame w.hat.places in
+    let done = with_bits_gathered w.store frame bits in
+    let calm : StaysInPlace w.store done (only (Some frame)) = subst (λ (s : StoreSeen). StaysInPlace w.store s (only (Some frame))) is laws in
+    subst (λ (s : StoreSeen). KeepsPages w (with_tables w s hat) spaces) (sym is)
+    (step-keeps w spaces done hat f (keeps-gathered w.store w.files w.anon w.hat.places hat.places frame bits f.frames lt unlisted calm told) frames single
+    (fit done (λ i t at. translation-kept w.store done w.anon w.maps spaces t calm.residence (λ h. h) (f.translations i t at)))
+    (λ notes nf. calm.values notes (world_table w) nf.stored))
+
 pub sync-keeps : (w : World) (spaces : Spaces) (new : StoreSeen) (hat : Pool) (frame : ℕ) → MemoryFits (memory_of w spaces) → frame < length w.store.frames → ¬ IsListedFrame w.store frame
     → hat.places ≡ change_frame frame with_clear_bits w.hat.places → hat.frames ≡ w.hat.frames → IsSingleValued hat.places
     → new ≡ with_bits_gathered w.store frame (bits_of frame w.hat.places) → StaysInPlace w.store new (only (Some frame))
     → KeepsPages w (with_tables w new hat) spaces
 sync-keeps w spaces new hat frame f lt unlisted places frames single is laws =
-    let told = bits_of frame w.hat.places in
-    let done = with_bits_gathered w.store frame told in
-    let calm : StaysInPlace w.store done (only (Some frame)) = subst (λ (s : StoreSeen). StaysInPlace w.store s (only (Some frame))) is laws in
-    subst (λ (s : StoreSeen). KeepsPages w (with_tables w s hat) spaces) (sym is)
-    (step-keeps w spaces done hat f
-    (subst (λ (ps : List (Option Translation)). KeepsFrames w.store done w.hat.places ps) (sym places)
-    (keeps-gathered w.store w.files w.anon w.hat.places (change_frame frame with_clear_bits w.hat.places) frame told f.frames lt unlisted calm (λ k x. written-clear w.hat.places frame k x)))
-    frames single
-    (subst (λ (ps : List (Option Translation)). TranslationsFit done w.anon w.maps spaces ps) (sym places)
-    (each-change_frame (TranslationFits done w.anon w.maps spaces) frame with_clear_bits w.hat.places (λ t l. fits-clear w done spaces t l)
-    (λ i t at. translation-kept w.store done w.anon w.maps spaces t calm.residence (λ h. h) (f.translations i t at))))
-    (λ notes nf. calm.values notes (world_table w) nf.stored))
+    gather-keeps w spaces new hat frame f lt unlisted frames single is laws
+    (λ k x. subst (λ (ps : List (Option Translation)). ((frame ≡ k) × ((bits_of frame w.hat.places).1 ≡ true)) ⊎ HasWritten ps k) (sym places) (written-clear w.hat.places frame k x))
+    (λ store fit. subst (λ (ps : List (Option Translation)). TranslationsFit store w.anon w.maps spaces ps) (sym places)
+    (each-change_frame (TranslationFits store w.anon w.maps spaces) frame with_clear_bits w.hat.places (λ t l. fits-clear w store spaces t l) fit))

@@ -1,2 +1,5 @@
 pub mod Steps
 pub mod Plans
+pub mod Marks
+pub mod Flights
+pub mod Trials

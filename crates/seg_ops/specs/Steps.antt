@@ -14,7 +14,7 @@ use Rattle.vm_world.specs.Pages.{page_value}
 use Rattle.vm_world.specs.Segments.{Spot, Spaces, spot_at, shown_name}
 use Rattle.vm_types.specs.Prot.{can_read, can_write}
 use Rattle.vm_world.specs.TranslationsFit.{MayWriteInPlace}
-use Rattle.vm_world.specs.World.{World, is_page_name, AllTell}
+use Rattle.vm_world.specs.World.{World, core_of, is_page_name, AllTell}
 use Rattle.vm_world.specs.WorldSteps.{WorldStep, KeepsTables, stays}
 
 -- A step that changes no page.
@@ -49,7 +49,7 @@ ReadsWord w spaces p a n word = (name : PageName) × ShowsName w spaces p (page 
 -- The page of a name has the word at the address, and every other page the value that it had; memory and the notes fit as before.
 pub record PutsWord (old new : World) (spaces : Spaces) (a n v : ℕ) (name : PageName) : Type 0 where
   pub tables : KeepsTables old new
-  pub core : new.store.origin ≡ old.store.origin
+  pub core : core_of new.store ≡ core_of old.store
   pub frames : length new.store.frames ≡ length old.store.frames
   pub bays : new.store.bays ≡ old.store.bays
   pub memory : MemoryFits (record { world = new; spaces = spaces })

@@ -6,9 +6,12 @@ ghost use Rattle.page_store.specs.Seen.{IsListedFrame, residence};
 ghost use Rattle.page_store.specs.Steps.{next_frame, next_name, after_fill};
 ghost use Rattle.vm_world.specs.MemoryFits.{MemoryFits};
 ghost use Rattle.vm_world.specs.Segments.{Spaces};
+ghost use Rattle.vm_world.specs.Serving.{LosesFrame};
+ghost use Rattle.vm_world.specs.StateSteps.{PendsTails};
 ghost use Rattle.vm_world.specs.World.{world_seen, file_name, is_unpushed, page_exists};
 ghost use Rattle.vm_world.specs.WorldSteps.{WorldStep, stays};
 
+use crate::tails::pend_tail;
 use block_device::Disk;
 use page_store::{PageName, Residence};
 use vm_world::World;
@@ -28,12 +31,20 @@ pub fn fill<D: Disk>(world: &mut World<D>, file: u32, page: u32)
         (λ frame. residence world.new.store (file_name file page) ≡ Residence.Home frame) }
     ensures unlisted { IfSome (next_frame world.old.store)
         (λ frame. ¬ IsListedFrame world.new.store frame) }
+    // The tail of the file whose last page lost the frame is pending.
+    ensures pends { PendsTails (world_seen world.old) (is_name (next_name world.old.store))
+        world.old.pending world.new.pending }
+    ensures took { IfSome (next_name world.old.store)
+        (λ name. LosesFrame (world_seen world.old) (world_seen world.new) name) }
     // What stays.
-    ensures rest { world.new ≡ record world.old { store = world.new.store } }
+    ensures rest { world.new
+        ≡ record world.old { store = world.new.store; pending = world.new.pending } }
     ensures step { (spaces : Spaces)
         → MemoryFits (record { world = world_seen world.old; spaces = spaces })
         → WorldStep (world_seen world.old) (world_seen world.new) spaces stays
         (is_name (next_name world.old.store)) }
 {
+    let lost = world.store.next_name();
     world.store.fill_zero(PageName { object: file, page });
+    pend_tail(world, lost);
 }

@@ -3,13 +3,23 @@
 
 mod accesses;
 mod blank;
+mod drops;
+mod flights;
 mod installs;
+mod landings;
 mod plans;
 mod rooms;
 mod tables;
+mod tails;
 
 pub use accesses::{read, write};
 pub use blank::fill;
+pub use drops::drop_translation;
+pub use flights::{begin_push, begin_read, mark_pushed};
 pub use installs::{install, show};
+pub use landings::end_flight;
 pub use plans::{Step, ask, fetch};
 pub use rooms::{evict, make_room, sync};
+
+#[cfg(test)]
+mod tests;

@@ -10,6 +10,7 @@ ghost use Rattle.page_store.specs.declared.residence.Residence.TheVariants.{Abse
 ghost use Rattle.vm_world.specs.MemoryFits.{MemoryFits};
 ghost use Rattle.vm_world.specs.NotesFit.{NotesFit};
 ghost use Rattle.vm_world.specs.Segments.{Spaces};
+ghost use Rattle.vm_world.specs.Serving.{ModifiesNone};
 ghost use Rattle.vm_world.specs.World.{world_seen, world_table, is_unpushed, page_exists};
 ghost use Rattle.seg_ops.specs.Plans.{IsAsked, FetchesPage};
 ghost use Rattle.seg_ops.specs.Steps.{KeepsPages};
@@ -81,6 +82,7 @@ pub fn fetch<D: Disk>(world: &mut World<D>, name: PageName) -> Step
     // What stays.
     ensures rest { world.new ≡ record world.old { store = world.new.store; hat = world.new.hat } }
     ensures stay { SameResidence world.old.store world.new.store }
+    ensures modified { ModifiesNone (world_seen world.old) (world_seen world.new) }
     ensures keeps { (spaces : Spaces)
         → MemoryFits (record { world = world_seen world.old; spaces = spaces })
         → KeepsPages (world_seen world.old) (world_seen world.new) spaces }

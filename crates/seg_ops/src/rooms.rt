@@ -10,6 +10,7 @@ ghost use Rattle.page_store.specs.Steps.{next_frame};
 ghost use Rattle.vm_world.specs.MemoryFits.{MemoryFits};
 ghost use Rattle.vm_world.specs.NotesFit.{NotesFit};
 ghost use Rattle.vm_world.specs.Segments.{Spaces};
+ghost use Rattle.vm_world.specs.Serving.{ModifiesNone};
 ghost use Rattle.vm_world.specs.Wants.{IsDirtyPage};
 ghost use Rattle.vm_world.specs.World.{world_seen};
 ghost use Rattle.seg_ops.specs.Steps.{KeepsPages, IsUnwritten, with_bits_gathered};
@@ -34,6 +35,7 @@ pub fn sync<D: Disk>(world: &mut World<D>, frame: u32)
     // What stays.
     ensures rest { world.new ≡ record world.old { store = world.new.store; hat = world.new.hat } }
     ensures stay { SameResidence world.old.store world.new.store }
+    ensures modified { ModifiesNone (world_seen world.old) (world_seen world.new) }
     ensures keeps { (spaces : Spaces)
         → MemoryFits (record { world = world_seen world.old; spaces = spaces })
         → KeepsPages (world_seen world.old) (world_seen world.new) spaces }
@@ -59,6 +61,7 @@ pub fn evict<D: Disk>(world: &mut World<D>, frame: u32)
     // What stays.
     ensures rest { world.new ≡ record world.old { store = world.new.store; hat = world.new.hat } }
     ensures stay { SameResidence world.old.store world.new.store }
+    ensures modified { ModifiesNone (world_seen world.old) (world_seen world.new) }
     ensures keeps { (spaces : Spaces)
         → MemoryFits (record { world = world_seen world.old; spaces = spaces })
         → KeepsPages (world_seen world.old) (world_seen world.new) spaces }
@@ -79,6 +82,8 @@ fn try_victim<D: Disk>(world: &mut World<D>) -> Option<PageName>
     // What stays.
     ensures rest { world.new ≡ record world.old { store = world.new.store; hat = world.new.hat } }
     ensures stay { SameResidence world.old.store world.new.store }
+    ensures names { world.new.store.names ≡ world.old.store.names }
+    ensures modified { ModifiesNone (world_seen world.old) (world_seen world.new) }
     ensures keeps { (spaces : Spaces)
         → MemoryFits (record { world = world_seen world.old; spaces = spaces })
         → KeepsPages (world_seen world.old) (world_seen world.new) spaces }
@@ -109,6 +114,8 @@ pub fn make_room<D: Disk>(world: &mut World<D>) -> Option<PageName>
     // What stays.
     ensures rest { world.new ≡ record world.old { store = world.new.store; hat = world.new.hat } }
     ensures stay { SameResidence world.old.store world.new.store }
+    ensures names { world.new.store.names ≡ world.old.store.names }
+    ensures modified { ModifiesNone (world_seen world.old) (world_seen world.new) }
     ensures keeps { (spaces : Spaces)
         → MemoryFits (record { world = world_seen world.old; spaces = spaces })
         → KeepsPages (world_seen world.old) (world_seen world.new) spaces }

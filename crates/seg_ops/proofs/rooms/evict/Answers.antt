@@ -4,6 +4,7 @@ use Rattle.page_store.specs.Seen.{StoreSeen}
 use Rattle.page_store.specs.Steps.{next_frame}
 use Rattle.page_store.proofs.QueryLemmas.{some-within}
 use Rattle.vm_world.specs.World.{world_seen}
+use Rattle.seg_ops.proofs.Modified.{evict-modifies}
 use Rattle.seg_ops.proofs.Evictions.{evict-keeps, some-room, unlocked, unsent}
 use Rattle.seg_ops.proofs.rooms.evict.Goals as goal
 
@@ -28,3 +29,6 @@ returns-clause-room g c = subst (λ (s : StoreSeen). IsSome (next_frame s)) (sym
 pub returns-clause-keeps : goal.returns-clause-keeps
 returns-clause-keeps g c = λ spaces fits. evict-keeps (world_seen c.args.world.now) spaces c.release.new.self c.page_unload.new.self c.args.frame fits c.requires.clean c.requires.unwritten c.requires.home
     c.page_unload.ensures.places c.page_unload.ensures.frames c.page_unload.ensures.distinct c.release.ensures.new c.release.ensures.laws
+
+pub returns-clause-modified : goal.returns-clause-modified
+returns-clause-modified g c = evict-modifies (world_seen c.args.world.now) c.release.new.self c.page_unload.new.self c.args.frame _ c.page_unload.ensures.places c.release.ensures.new c.release.ensures.laws.residence

@@ -1,5 +1,6 @@
 use Rattle.std.proofs.Common.{◌≡◌, ℕ, refl}
 use Rattle.vm_world.specs.World.{world_seen}
+use Rattle.seg_ops.proofs.Modified.{modifies-then}
 use Rattle.seg_ops.proofs.Composed.{keeps-then}
 use Rattle.seg_ops.proofs.rooms.try_victim.Goals as goal
 
@@ -13,3 +14,6 @@ pub returns-clause-keeps : goal.returns-clause-keeps
 returns-clause-keeps g c = λ spaces fits.
     let first = c.sync.ensures.keeps spaces fits in
     keeps-then (world_seen c.args.world.now) (world_seen c.sync.new.world) (world_seen c.evict.new.world) spaces fits first (c.evict.ensures.keeps spaces first.memory)
+
+pub returns-clause-modified : goal.returns-clause-modified
+returns-clause-modified g c = modifies-then (world_seen c.args.world.now) (world_seen c.sync.new.world) (world_seen c.evict.new.world) c.sync.ensures.modified c.evict.ensures.modified

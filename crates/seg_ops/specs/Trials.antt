@@ -1,0 +1,52 @@
+-- A machine on which the steps are tried: process 1 shows the three pages of a file. Inside: no public clause cites this.
+use Rattle.std.specs.Prelude.{◌≡◌, ◌<◌, ℕ, [], ◌∷◌, Some, None, IsTrue, length}
+use Rattle.std.specs.FinMap as finite
+use Rattle.vm_types.specs.declared.call.Kind.TheVariants.{Shared}
+use Rattle.vm_types.specs.declared.call.Object.TheVariants as object
+use Rattle.addr_space.specs.Space.{Part}
+use Rattle.page_store.specs.Flight.{FlightSeen, fresh, note_of}
+use Rattle.page_store.specs.Notes.{no_notes, with_note}
+use Rattle.page_store.specs.Out.{IsFlightOf}
+use Rattle.vnode_files.specs.declared.vnode.FileInfo.{FileInfo}
+use Rattle.vnode_files.specs.Files.{FilesSeen, vnode_at}
+use Rattle.vnode_files.specs.Grow.{page_count}
+use Rattle.anon_slots.specs.Slots.{Slots}
+use Rattle.vm_world.specs.MemoryFits.{MemoryFits}
+use Rattle.vm_world.specs.NotesFit.{NotesFit}
+use Rattle.vm_world.specs.declared.segment.Segment.{Segment}
+use Rattle.vm_world.specs.Segments.{Spaces}
+use Rattle.vm_world.specs.World.{World, file_name, page_exists}
+
+-- File 0, shared, from page 1 of the process on, to be read and written.
+abbrev pub trial_segment : Segment
+trial_segment = record { pages = 3; prot = record { 0 = 3 }; max = record { 0 = 3 }; kind = Shared; object = object.File 0; index = 0; own = None; shown = None }
+
+abbrev pub trial_part : Part Segment
+trial_part = record { first = 1; pages = 3; piece = trial_segment }
+
+abbrev pub trial_spaces : Spaces
+trial_spaces = finite.insert finite.empty 1 (trial_part ∷ [])
+
+-- The file has three pages, in blocks 1 to 3 of disk 0.
+pub record IsTrialFile (info : FileInfo) : Type 0 where
+  pub disk : info.disk ≡ 0
+  pub extents : info.extents ≡ record { start = 1; pages = 3 } ∷ []
+  pub length : info.length ≡ 12288
+
+-- The world fits with that process, and nothing is out.
+pub record IsTrial (w : World) : Type 0 where
+  pub memory : MemoryFits (record { world = w; spaces = trial_spaces })
+  pub notes : NotesFit w no_notes
+
+-- The page is one of file 0.
+pub record IsTrialPage (files : FilesSeen) (anon : Slots) (page : ℕ) : Type 0 where
+  pub file : 0 < length files.files
+  pub kept : page < page_count (vnode_at files 0).info.extents
+  pub exists : IsTrue (page_exists files anon (file_name 0 page))
+
+-- The world fits while the flight of one seat is out, which wasn't made yet.
+pub record IsTrialOut (w : World) (f : FlightSeen) : Type 0 where
+  pub out : IsFlightOf w.store f
+  pub outcome : f.outcome ≡ fresh
+  pub memory : MemoryFits (record { world = w; spaces = trial_spaces })
+  pub notes : NotesFit w (with_note no_notes f.seat (Some (note_of f)))

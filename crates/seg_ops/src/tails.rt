@@ -1,0 +1,42 @@
+//! Tails of files that become zeros, since the page that has the tail lost its frame.
+ghost use Rattle.std.specs.Prelude.{◌≡◌, ◌<◌, ◌≤◌, ◌^◌, ◌==◌, ◌||◌, ℕ, length, IsTrue, IfSome};
+ghost use Rattle.flat_model.specs.Step.{bit};
+ghost use Rattle.page_hash.specs.Names.{is_name};
+ghost use Rattle.vm_world.specs.StateSteps.{PendsTails};
+ghost use Rattle.vm_world.specs.World.{world_seen, page_exists};
+
+use block_device::Disk;
+use page_store::{PageName, SWAP_OBJECT};
+use vm_types::pages_in;
+use vm_world::World;
+
+/// A set of files, as bits, with one file more.
+fn with_file(files: u64, file: u32) -> u64
+    requires { file < 64 }
+    ensures bits { (f : ℕ) → bit result f ≡ (bit files f || (f == file)) }
+    ensures below { (n : ℕ) → file < n → files < 2 ^ n → result < 2 ^ n }
+{
+    files | (1 << file)
+}
+
+/// Lets the tail of a file be pending, where the page that lost its frame is the file's last one. Constant time.
+pub(crate) fn pend_tail<D: Disk>(world: &mut World<D>, lost: Option<PageName>)
+    requires exists { IfSome lost
+        (λ name. IsTrue (page_exists world.old.files world.old.anon name)) }
+    requires few { length world.old.files.files ≤ 64 }
+    ensures pends { PendsTails (world_seen world.old) (is_name lost)
+        world.old.pending world.new.pending }
+    // What stays.
+    ensures rest { world.new ≡ record world.old { pending = world.new.pending } }
+{
+    let Some(name) = lost else {
+        return;
+    };
+    if name.object == SWAP_OBJECT {
+        return;
+    }
+    let length = world.files.info(name.object).length;
+    if name.page + 1 == pages_in(length) {
+        world.pending = with_file(world.pending, name.object);
+    }
+}
