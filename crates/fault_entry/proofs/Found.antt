@@ -1,0 +1,29 @@
+-- The segment that a space has at a page.
+use Rattle.std.proofs.Common.{◌≡◌, ℕ, ◌+◌, ◌-◌, ◌≤◌, Bool, true, false, cond, List, [], ◌∷◌, Some, None, refl, sym, ap, ◌∙◌, inl, inr, subst}
+use Rattle.std.specs.Prelude.{option_map, option_and_then, nat_lt, nat_le, ◌&&◌}
+use Rattle.std.specs.FinMap as finite
+use Rattle.std.proofs.lemmas.Bool.{cases_Bool, leb-true}
+use Rattle.addr_space.specs.Space.{Part, part, part_at, has}
+use Rattle.addr_space.specs.Space as parts
+use Rattle.vm_world.specs.declared.segment.Segment.{Segment}
+use Rattle.vm_world.specs.Segments.{Spaces, spot_at}
+use Rattle.vm_world.proofs.FlatWhole.{some-inj}
+
+pub spot-found : (spaces : Spaces) (p q first pages : ℕ) (seg : Segment) (ps : List (Part Segment)) → finite.get spaces p ≡ Some ps → part_at ps q ≡ Some (part first pages seg) → spot_at spaces p q ≡ Some (seg, q - first)
+spot-found spaces p q first pages seg ps e found = ap (option_and_then (λ (xs : List (Part Segment)). parts.at xs q)) e ∙ ap (option_map (λ (r : Part Segment). (r.piece, q - r.first))) found
+
+pub spot-none : (spaces : Spaces) (p q : ℕ) (ps : List (Part Segment)) → finite.get spaces p ≡ Some ps → part_at ps q ≡ None → spot_at spaces p q ≡ None
+spot-none spaces p q ps e none = ap (option_and_then (λ (xs : List (Part Segment)). parts.at xs q)) e ∙ ap (option_map (λ (r : Part Segment). (r.piece, q - r.first))) none
+
+both-left : (a b : Bool) → (a && b) ≡ true → a ≡ true
+both-left true b h = refl
+both-left false b h = absurd (let z : false ≡ true = h in cc)
+
+pub found-low : (ps : List (Part Segment)) (q : ℕ) (r : Part Segment) → part_at ps q ≡ Some r → r.first ≤ q
+found-low [] q r h = absurd (cc)
+found-low (x ∷ xs) q r h = elim (cases_Bool (has x q)) [
+  | inl here ↦
+      let same : x ≡ r = some-inj x r (sym (ap (λ (b : Bool). cond b (Some x) (part_at xs q)) here) ∙ h) in
+      subst (λ (y : Part Segment). y.first ≤ q) same (leb-true x.first q (both-left (nat_le x.first q) (nat_lt q (x.first + x.pages)) here))
+  | inr more ↦ found-low xs q r (sym (ap (λ (b : Bool). cond b (Some x) (part_at xs q)) more) ∙ h)
+]

@@ -1,0 +1,56 @@
+-- What holds of loads and stores beside what is answered to them. Public clauses cite this.
+use Rattle.std.specs.Prelude.{◌≡◌, ℕ, Some}
+use Rattle.hat_layer.specs.Pool.{at}
+use Rattle.hat_layer.specs.declared.translation.Translation.{Translation}
+use Rattle.page_hash.specs.declared.PageName.{PageName}
+use Rattle.page_store.specs.Seen.{residence}
+use Rattle.page_store.specs.declared.residence.Residence.TheVariants.{Home}
+use Rattle.vm_types.specs.declared.call.Call.{Call}
+use Rattle.vm_types.specs.declared.call.Call.TheVariants.{Load, Store}
+use Rattle.vm_types.specs.declared.call.Reply.TheVariants as reply
+use Rattle.vm_types.specs.WellFormed.{IsWellFormed}
+use Rattle.vm_world.specs.FlatMemory.{Memory}
+use Rattle.vm_world.specs.Plans.{MayMeetFault}
+use Rattle.vm_world.specs.Segments.{Spot, Spaces, spot_at, shown_name}
+use Rattle.seg_vn.specs.declared.attempt.Attempt.{Attempt}
+use Rattle.seg_vn.specs.declared.attempt.Attempt.TheVariants.{Done, Need, Busy}
+use Rattle.seg_vn.specs.Faults.{IsFilePlace}
+use Rattle.seg_vn.specs.Serves.{Serves, IsPlainReply}
+
+-- A load or a store, well formed.
+abbrev pub IsAccess : Call → Type 0
+IsAccess (Load a n) = IsWellFormed (Load a n)
+IsAccess (Store a n v) = IsWellFormed (Store a n v)
+IsAccess call = ⊥
+
+-- Each page of the process is a place of a shared mapping of a file.
+abbrev pub ShowsFiles : Spaces → ℕ → Type 0
+ShowsFiles spaces p = (q : ℕ) (x : Spot) → spot_at spaces p q ≡ Some x → IsFilePlace spaces p q x
+
+-- The page has a translation, to the home frame of the page that its place shows.
+pub record IsShown (m : Memory) (p q : ℕ) : Type 0 where
+  pub translation : Translation
+  pub loaded : at m.world.hat.places p q ≡ Some translation
+  pub spot : Spot
+  pub here : spot_at m.spaces p q ≡ Some spot
+  pub name : PageName
+  pub shows : shown_name m.world.maps spot ≡ Some name
+  pub home : residence m.world.store name ≡ Home translation.frame
+
+-- After a load that answers a word and a store that is done, so it has.
+abbrev pub IsShownWhereDone : Memory → ℕ → ℕ → Attempt → Type 0
+IsShownWhereDone m p q (Done (reply.Word word)) = IsShown m p q
+IsShownWhereDone m p q (Done reply.Done) = IsShown m p q
+IsShownWhereDone m p q answer = Unit {0}
+
+-- What is done has a plain reply; and a transfer is needed, or somebody waited for, only where neither Align, NoMap nor Prot is due.
+abbrev pub MayBeAnswered : Memory → ℕ → Call → Attempt → Type 0
+MayBeAnswered m p call (Done reply) = IsPlainReply reply
+MayBeAnswered m p call (Need plan) = MayMeetFault m p call
+MayBeAnswered m p call (Busy h) = MayMeetFault m p call
+
+-- The three of an access of a page.
+pub record ServesWord (old new : Memory) (pending more p q : ℕ) (call : Call) (answer : Attempt) : Type 0 where
+  pub serves : Serves old new pending more p call answer
+  pub due : MayBeAnswered new p call answer
+  pub shown : IsShownWhereDone new p q answer

@@ -1,0 +1,108 @@
+//! What an access reaches.
+ghost use Rattle.std.specs.Prelude.{◌≡◌, ℕ, Some, IsSome};
+ghost use Rattle.std.specs.FinMap as finite;
+ghost use Rattle.core_arena.specs.Bytes.{bytes_at};
+ghost use Rattle.hat_layer.specs.Pool.{at};
+ghost use Rattle.page_store.specs.Notes.{Notes};
+ghost use Rattle.vm_types.specs.Words.{IsWordSize};
+ghost use Rattle.vm_world.specs.MemoryFits.{MemoryFits};
+ghost use Rattle.vm_world.specs.NotesFit.{NotesFit};
+ghost use Rattle.vm_world.specs.Segments.{Spaces};
+ghost use Rattle.vm_world.specs.World.{world_seen};
+ghost use Rattle.fault_entry.specs.Accesses.{ShowsFiles};
+ghost use Rattle.fault_entry.specs.Reaching.{may_access, lets_access, ServesAccess};
+
+use addr_space::Ranges;
+use block_device::Disk;
+use hat_layer::Hat;
+use page_store::{Hold, Plan};
+use seg_ops::Step;
+use seg_vn::VnSeg;
+use vm_types::{Prot, Signal};
+use vm_world::World;
+
+/// What an access comes to before its word is moved.
+#[derive(Clone, Copy, PartialEq, Eq, Debug)]
+pub(crate) enum Access {
+    /// The page has a translation that lets it.
+    Reached,
+    /// This signal is due.
+    Refused(Signal),
+    /// This transfer is needed first.
+    Need(Plan),
+    /// It has to wait for this.
+    Busy(Hold),
+}
+
+/// Whether a protection lets a load, or a store.
+fn allows(prot: Prot, write: bool) -> bool
+    ensures { result ≡ may_access write prot }
+{
+    if write {
+        prot.can_write()
+    } else {
+        prot.can_read()
+    }
+}
+
+/// Whether a page has a translation that lets the access.
+fn is_loaded(hat: &Hat, space: u32, page: u32, write: bool) -> bool
+    ensures { result ≡ lets_access write (at hat.now.places space page) }
+{
+    match hat.find(space, page) {
+        None => false,
+        Some((_frame, writable)) => writable || !write,
+    }
+}
+
+/// Sees that the page of an address has a translation that lets the access, or says what is due. A hit is one look for
+/// the segment and one for the translation.
+pub(crate) fn reach<D: Disk>(
+    world: &mut World<D>,
+    space: &Ranges<VnSeg>,
+    process: u32,
+    addr: u32,
+    size: u32,
+    write: bool,
+) -> Access
+    requires size { IsWordSize size }
+    requires home { (frame : ℕ) × IsSome (bytes_at world.old.store.frames frame) }
+    requires fits { (spaces : Spaces)
+        × MemoryFits (record { world = world_seen world.old; spaces = spaces })
+        × (finite.get spaces process ≡ Some space.now.parts)
+        × ShowsFiles spaces process }
+    requires noted { (notes : Notes) × NotesFit (world_seen world.old) notes }
+    ensures serves { (spaces : Spaces)
+        → MemoryFits (record { world = world_seen world.old; spaces = spaces })
+        → finite.get spaces process ≡ Some space.now.parts
+        → ShowsFiles spaces process
+        → ServesAccess (record { world = world_seen world.old; spaces = spaces })
+        (record { world = world_seen world.new; spaces = spaces })
+        world.old.pending world.new.pending process addr size write result }
+    // What stays.
+    ensures rest { world.new ≡ record world.old {
+      store = world.new.store;
+      hat = world.new.hat;
+      pending = world.new.pending;
+    } }
+{
+    if addr % size != 0 {
+        return Access::Refused(Signal::Align);
+    }
+    let page = addr / 4096;
+    let Some((first, _pages, segment)) = space.find(page) else {
+        return Access::Refused(Signal::NoMap);
+    };
+    if !allows(segment.prot(), write) {
+        return Access::Refused(Signal::Prot);
+    }
+    if is_loaded(&world.hat, process, page, write) {
+        return Access::Reached;
+    }
+    match segment.fault(world, process, first, page, write) {
+        Step::Loaded => Access::Reached,
+        Step::Past => Access::Refused(Signal::Past),
+        Step::Need(plan) => Access::Need(plan),
+        Step::Busy(hold) => Access::Busy(hold),
+    }
+}

@@ -1,0 +1,133 @@
+//! Loads and stores.
+ghost use Rattle.std.specs.Prelude.{◌≡◌, ℕ, Some, IsSome};
+ghost use Rattle.std.specs.FinMap as finite;
+ghost use Rattle.core_arena.specs.Bytes.{bytes_at};
+ghost use Rattle.flat_model.specs.Words.{page};
+ghost use Rattle.page_store.specs.Notes.{Notes};
+ghost use Rattle.vm_types.specs.Words.{IsWordSize, FitsWord};
+ghost use Rattle.vm_types.specs.declared.call.Call.TheVariants.{Load, Store};
+ghost use Rattle.vm_world.specs.MemoryFits.{MemoryFits};
+ghost use Rattle.vm_world.specs.NotesFit.{NotesFit};
+ghost use Rattle.vm_world.specs.Segments as segments;
+ghost use Rattle.vm_world.specs.Wants.{accessed_page};
+ghost use Rattle.vm_world.specs.World.{world_seen};
+ghost use Rattle.seg_vn.specs.Serves.{Serves};
+ghost use Rattle.fault_entry.specs.Accesses.{IsAccess, ShowsFiles, ServesWord, MayBeAnswered, IsShownWhereDone};
+
+use crate::access::{Access, reach};
+use addr_space::Ranges;
+use block_device::Disk;
+use seg_ops::{read, write};
+use seg_vn::{Attempt, Spaces, VnSeg};
+use vm_types::{Call, Reply};
+use vm_world::World;
+
+/// A load by a process from its space.
+fn load<D: Disk>(
+    world: &mut World<D>,
+    space: &Ranges<VnSeg>,
+    process: u32,
+    addr: u32,
+    size: u32,
+) -> Attempt
+    requires size { IsWordSize size }
+    requires home { (frame : ℕ) × IsSome (bytes_at world.old.store.frames frame) }
+    requires fits { (spaces : segments.Spaces)
+        × MemoryFits (record { world = world_seen world.old; spaces = spaces })
+        × (finite.get spaces process ≡ Some space.now.parts)
+        × ShowsFiles spaces process }
+    requires noted { (notes : Notes) × NotesFit (world_seen world.old) notes }
+    // What is answered.
+    ensures serves { (spaces : segments.Spaces)
+        → MemoryFits (record { world = world_seen world.old; spaces = spaces })
+        → finite.get spaces process ≡ Some space.now.parts
+        → ShowsFiles spaces process
+        → ServesWord (record { world = world_seen world.old; spaces = spaces })
+        (record { world = world_seen world.new; spaces = spaces })
+        world.old.pending world.new.pending process (page addr) (Load addr size) result }
+{
+    match reach(world, space, process, addr, size, false) {
+        Access::Reached => Attempt::Done(Reply::Word(read(world, process, addr, size))),
+        Access::Refused(signal) => Attempt::Done(Reply::Signal(signal)),
+        Access::Need(plan) => Attempt::Need(plan),
+        Access::Busy(hold) => Attempt::Busy(hold),
+    }
+}
+
+/// A store by a process to its space.
+fn store<D: Disk>(
+    world: &mut World<D>,
+    space: &Ranges<VnSeg>,
+    process: u32,
+    addr: u32,
+    size: u32,
+    value: u32,
+) -> Attempt
+    requires size { IsWordSize size }
+    requires word { FitsWord size value }
+    requires home { (frame : ℕ) × IsSome (bytes_at world.old.store.frames frame) }
+    requires fits { (spaces : segments.Spaces)
+        × MemoryFits (record { world = world_seen world.old; spaces = spaces })
+        × (finite.get spaces process ≡ Some space.now.parts)
+        × ShowsFiles spaces process }
+    requires noted { (notes : Notes) × NotesFit (world_seen world.old) notes }
+    // What is answered.
+    ensures serves { (spaces : segments.Spaces)
+        → MemoryFits (record { world = world_seen world.old; spaces = spaces })
+        → finite.get spaces process ≡ Some space.now.parts
+        → ShowsFiles spaces process
+        → ServesWord (record { world = world_seen world.old; spaces = spaces })
+        (record { world = world_seen world.new; spaces = spaces })
+        world.old.pending world.new.pending process (page addr) (Store addr size value) result }
+{
+    match reach(world, space, process, addr, size, true) {
+        Access::Reached => {
+            write(world, process, addr, size, value);
+            Attempt::Done(Reply::Done)
+        }
+        Access::Refused(signal) => Attempt::Done(Reply::Signal(signal)),
+        Access::Need(plan) => Attempt::Need(plan),
+        Access::Busy(hold) => Attempt::Busy(hold),
+    }
+}
+
+/// What is answered to a load or a store of a process that is alive, whose segments are shared mappings of files. Takes no
+/// memory and makes no disk call. A hit takes constant expected time beside the look for the segment, which takes the
+/// logarithm of their number.
+pub fn attempt<D: Disk>(
+    world: &mut World<D>,
+    spaces: &mut Spaces,
+    process: u32,
+    call: &Call,
+) -> Attempt
+    requires access { IsAccess call.now }
+    requires alive { IsSome (finite.get spaces.old.spaces process) }
+    requires files { ShowsFiles spaces.old.spaces process }
+    requires home { (frame : ℕ) × IsSome (bytes_at world.old.store.frames frame) }
+    requires fits { MemoryFits
+        (record { world = world_seen world.old; spaces = spaces.old.spaces }) }
+    requires noted { (notes : Notes) × NotesFit (world_seen world.old) notes }
+    // It is done, needs a transfer first, or has to wait; ..
+    ensures serves { Serves
+        (record { world = world_seen world.old; spaces = spaces.old.spaces })
+        (record { world = world_seen world.new; spaces = spaces.old.spaces })
+        world.old.pending world.new.pending process call.now result }
+    // .. its reply is plain, and it needs or waits only where the protection lets it; and after a word was moved the
+    // page has its translation.
+    ensures due { MayBeAnswered
+        (record { world = world_seen world.new; spaces = spaces.old.spaces })
+        process call.now result }
+    ensures shown { (q : ℕ) → accessed_page call.now ≡ Some q → IsShownWhereDone
+        (record { world = world_seen world.new; spaces = spaces.old.spaces }) process q result }
+    // What stays.
+    ensures spaces { spaces.new ≡ spaces.old }
+{
+    let Some(space) = spaces.get(process) else {
+        unreachable!();
+    };
+    match *call {
+        Call::Load { addr, size } => load(world, space, process, addr, size),
+        Call::Store { addr, size, value } => store(world, space, process, addr, size, value),
+        _ => unreachable!(),
+    }
+}

@@ -1,0 +1,4 @@
+pub mod Counted
+pub mod MapResults
+pub mod CutPlaces
+pub mod Replaced

@@ -1,0 +1,8 @@
+//! Calls that change the mappings of a process.
+#![tactic(auto)]
+
+mod cuts;
+mod maps;
+mod refusals;
+
+pub use maps::attempt;

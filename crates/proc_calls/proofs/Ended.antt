@@ -1,0 +1,140 @@
+-- A process whose space is empty goes.
+use Rattle.std.proofs.Common.{◌≡◌, ℕ, ◌+◌, ◌-◌, ◌≤◌, Bool, true, false, cond, List, [], ◌∷◌, Option, Some, None, refl, sym, ap, ◌∙◌, inl, inr, subst, arith}
+use Rattle.std.specs.Prelude.{option_and_then, All, nat_le, nat_lt, ◌||◌}
+use Rattle.std.specs.FinMap as finite
+use Rattle.std.proofs.lemmas.Bool.{cases_lt, and_from, le-leb, lt-ltb}
+use Rattle.std.proofs.lemmas.List.Elements.{All-nil, All-cons}
+use Rattle.addr_space.specs.Space.{Part, at, IsInOrder}
+use Rattle.addr_space.proofs.PartLemmas.{none-below}
+use Rattle.addr_space.proofs.PageLaws.{shows}
+use Rattle.hat_layer.specs.Pool as pool
+use Rattle.hat_layer.specs.declared.translation.Translation.{Translation}
+use Rattle.flat_model.specs.Access.{with_space}
+use Rattle.flat_model.specs.Processes.{without_process}
+use Rattle.flat_model.specs.Space.{in_range}
+use Rattle.flat_model.specs.Step.{bit}
+use Rattle.vm_types.specs.declared.call.Call.{Call}
+use Rattle.vm_types.specs.declared.call.Call.TheVariants.{Load, Store, Map, Unmap, Protect, Sync, Read, Write, Truncate, Fork, Exit}
+use Rattle.vm_types.specs.declared.call.Reply.TheVariants.{Done}
+use Rattle.vm_world.specs.FlatMemory.{Memory, flat_memory}
+use Rattle.vm_world.specs.MemoryFits.{MemoryFits}
+use Rattle.vm_world.specs.Segments.{Spot, Spaces, spot_at}
+use Rattle.vm_world.specs.Serving.{TakesFrames, ServesDone}
+use Rattle.vm_world.specs.SpaceSteps.{ChangesSpace, file_space, without_space}
+use Rattle.vm_world.specs.World.{World}
+use Rattle.vm_world.specs.declared.segment.Segment.{Segment}
+use Rattle.vm_world.proofs.SpaceSteps.{changes-as, rule-joined, rule-leave, get-parts, process-after}
+use Rattle.vm_world.proofs.Spots.{spot-in}
+use Rattle.seg_ops.proofs.Composed.{keeps-same}
+use Rattle.seg_ops.proofs.Places.{stands-at}
+use Rattle.proc_calls.specs.Ends.{IsServedExit}
+use Rattle.seg_vn.specs.Clears.{SpaceFits, StartsAt}
+
+-- each part begins behind page 0
+each-behind : (low : ℕ) (parts : List (Part Segment)) → 1 ≤ low → IsInOrder low parts → All (λ (p : Part Segment). 1 ≤ p.first) parts
+each-behind low [] some order = All-nil (λ (p : Part Segment). 1 ≤ p.first)
+each-behind low (p ∷ ps) some order =
+    let behind = order.0.behind in
+    All-cons (λ (p : Part Segment). 1 ≤ p.first) p ps (omega (arith, some, behind)) (each-behind (p.first + p.pages) ps (omega (arith, some, behind)) order.1)
+
+-- no part goes across the begin of the first page, nor across the end
+pub starts-first : (parts : List (Part Segment)) → IsInOrder 1 parts → StartsAt parts 1
+starts-first parts order x is =
+    let s = spot-in (λ (p : Part Segment). 1 ≤ p.first) 1 parts 1 x (omega arith) order (each-behind 1 parts (omega arith) order) is in
+    let place = s.place in
+    let first = s.fits in
+    omega (arith, place, first)
+
+pub starts-end : (parts : List (Part Segment)) → IsInOrder 1 parts → StartsAt parts 0x80000
+starts-end parts order x is =
+    let s = spot-in (λ (p : Part Segment). Unit {0}) 1 parts 0x80000 x (omega arith) order (λ j d lt. tt) is in
+    absurd (let high = s.user.1 in omega (arith, high))
+
+-- where no page has a part, none has a translation
+none-loaded : (m : Memory) (p : ℕ) (parts : List (Part Segment)) → MemoryFits m → finite.get m.spaces p ≡ Some parts → ((q : ℕ) → at parts q ≡ None) → (q : ℕ) → pool.at m.world.hat.places p q ≡ None
+none-loaded m p parts fits is none q = by_look (pool.at m.world.hat.places p q) refl
+  where
+    by_look : (o : Option Translation) → pool.at m.world.hat.places p q ≡ o → o ≡ None
+    by_look None e = refl
+    by_look (Some t) e =
+        let s = stands-at m.world.hat.places p q t e in
+        let l = fits.translations s.place t s.there in
+        let z : None ≡ Some l.spot = sym (ap (λ (j : ℕ). spot_at m.spaces j t.page) s.space_is ∙ ap (option_and_then (λ (ps : List (Part Segment)). at ps t.page)) is ∙ none t.page) ∙ l.here in cc
+
+-- THE END: what is left of a cleared space is nothing, and the process goes
+all-none : (old new : List (Part Segment)) → IsInOrder 1 old → ((q : ℕ) → at new q ≡ cond (in_range 1 (0x80000 - 1) q) None (at old q)) → (q : ℕ) → at new q ≡ None
+all-none old new order pages q = pages q ∙ elim (cases_lt q 1) [
+  | inl low ↦ ap (λ (o : Option Spot). cond (in_range 1 (0x80000 - 1) q) None o) (shows old q None (none-below 1 old q order low)) ∙ either (in_range 1 (0x80000 - 1) q)
+  | inr from ↦ elim (cases_lt q 0x80000) [
+    | inl below ↦ ap (λ (b : Bool). cond b None (at old q)) (and_from (nat_le 1 q) (nat_lt q (1 + (0x80000 - 1))) (le-leb 1 q from) (lt-ltb q (1 + (0x80000 - 1)) (omega (arith, below))))
+    | inr past ↦ ap (λ (o : Option Spot). cond (in_range 1 (0x80000 - 1) q) None o) (beyond (at old q) refl past) ∙ either (in_range 1 (0x80000 - 1) q)
+  ]
+]
+  where
+    either : (b : Bool) → cond {A = Option Spot} b None None ≡ None
+    either true = refl
+    either false = refl
+
+    beyond : (o : Option Spot) → at old q ≡ o → 0x80000 ≤ q → o ≡ None
+    beyond None e past = refl
+    beyond (Some x) e past = absurd (let high = (spot-in (λ (p : Part Segment). Unit {0}) 1 old q x (omega arith) order (λ j d lt. tt) e).user.1 in omega (arith, high, past))
+
+pub ended : (old new : World) (spaces : Spaces) (p : ℕ) (parts left : List (Part Segment)) → SpaceFits old spaces p parts
+    → ChangesSpace p (record { world = old; spaces = spaces }) (record { world = new; spaces = finite.insert spaces p left }) (λ F. with_space F p (file_space left))
+    → ((q : ℕ) → at left q ≡ cond (in_range 1 (0x80000 - 1) q) None (at parts q))
+    → ChangesSpace p (record { world = old; spaces = spaces }) (record { world = new; spaces = finite.remove (finite.insert spaces p left) p }) (λ F. without_process F p)
+ended old new spaces p parts left fits done pages =
+    let m : Memory = record { world = old; spaces = spaces } in
+    let n : Memory = record { world = new; spaces = finite.insert spaces p left } in
+    let here = get-parts (record { world = new; spaces = spaces }) p left in
+    let none = all-none parts left (fits.memory.segments.ordered p parts fits.here) pages in
+    let goes = rule-leave n p done.changes.memory done.files (none-loaded n p left done.changes.memory here none) in
+    changes-as p m (without_space n p) (λ F. without_process (with_space F p (file_space left)) p) (λ F. without_process F p)
+    (rule-joined p m n (without_space n p) (λ F. with_space F p (file_space left)) (λ F. without_process F p) done goes)
+    (λ born notes. process-after (flat_memory m born notes) p (file_space left))
+
+or-false : (b : Bool) → b ≡ (b || false)
+or-false true = refl
+or-false false = refl
+
+-- no frame is taken
+pub takes-none : (m : Memory) (pending : ℕ) → MemoryFits m → TakesFrames m m.world pending pending
+takes-none m pending fits = record {
+  cut = λ name. false;
+  step = keeps-same m.world m.spaces fits;
+  pends = record { bits = λ f lt. or-false (bit pending f); below = λ lt. lt };
+  took = λ name is. absurd (let z : false ≡ true = is in cc);
+}
+
+-- THE CALL IS DONE.
+pub exit-serves : (old new : Memory) (pending p : ℕ) → MemoryFits old → ChangesSpace p old new (λ F. without_process F p) → ServesDone old new pending pending p Exit Done
+exit-serves old new pending p fits done = record {
+  mid = old.world;
+  first = takes-none old pending fits;
+  acts = λ cleared. record {
+    machine = done.changes.machine;
+    others = done.changes.others;
+    memory = done.changes.memory;
+    notes = done.changes.notes;
+    tells = done.changes.tells;
+    flat = λ born notes nf tell whole. (refl, (done.changes.flat born notes nf tell whole).0);
+  };
+}
+
+-- an Exit alone is served
+pub only-exit : (call : Call) → IsServedExit call → (call ≡ Exit → ⊥) → ⊥
+only-exit Exit served other = other refl
+only-exit (Load a n) served other = served
+only-exit (Store a n v) served other = served
+only-exit (Map place len prot kind object offset) served other = served
+only-exit (Unmap a len) served other = served
+only-exit (Protect a len prot) served other = served
+only-exit (Sync a len) served other = served
+only-exit (Read file offset len) served other = served
+only-exit (Write file offset line rest) served other = served
+only-exit (Truncate file len) served other = served
+only-exit (Fork child) served other = served
+
+pub call-serves : (old new : Memory) (pending more p : ℕ) (call : Call) → call ≡ Exit → more ≡ pending → MemoryFits old → ChangesSpace p old new (λ F. without_process F p) → ServesDone old new pending more p call Done
+call-serves old new pending more p call is same fits done =
+    subst (λ (n : ℕ). ServesDone old new pending n p call Done) (sym same) (subst (λ (x : Call). ServesDone old new pending pending p x Done) (sym is) (exit-serves old new pending p fits done))

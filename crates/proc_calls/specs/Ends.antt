@@ -1,0 +1,17 @@
+-- The calls that are served here. Public clauses cite this.
+use Rattle.vm_types.specs.declared.call.Call.{Call}
+use Rattle.vm_types.specs.declared.call.Call.TheVariants.{Exit}
+use Rattle.seg_vn.specs.Serves.{IsPlainReply}
+use Rattle.seg_vn.specs.declared.attempt.Attempt.{Attempt}
+use Rattle.seg_vn.specs.declared.attempt.Attempt.TheVariants.{Done, Need, Busy}
+
+-- An Exit; a Fork is served by none yet.
+abbrev pub IsServedExit : Call → Type 0
+IsServedExit Exit = Unit {0}
+IsServedExit call = ⊥
+
+-- It is done, with a plain reply: it needs no transfer, and doesn't wait.
+abbrev pub IsExitDone : Attempt → Type 0
+IsExitDone (Done reply) = IsPlainReply reply
+IsExitDone (Need plan) = ⊥
+IsExitDone (Busy hold) = ⊥

@@ -1,0 +1,71 @@
+//! The end of a process.
+ghost use Rattle.std.specs.Prelude.{◌≡◌, IsSome, IfOk, IsOk};
+ghost use Rattle.std.specs.FinMap as finite;
+ghost use Rattle.flat_model.specs.Processes.{without_process};
+ghost use Rattle.vm_world.specs.MemoryFits.{MemoryFits};
+ghost use Rattle.vm_world.specs.SpaceSteps.{OnlyFiles, ChangesSpace};
+ghost use Rattle.vm_world.specs.World.{world_seen};
+ghost use Rattle.seg_vn.specs.Serves.{Serves};
+ghost use Rattle.proc_calls.specs.Ends.{IsServedExit, IsExitDone};
+
+use block_device::Disk;
+use seg_vn::{Attempt, Spaces, clear};
+use std::alloc::AllocError;
+use vm_types::{Call, Reply};
+use vm_world::World;
+
+/// The page behind the last one of a space.
+const END: u32 = 0x80000;
+
+/// Takes a process away, with all its pieces and their translations.
+fn exit<D: Disk>(world: &mut World<D>, spaces: &mut Spaces, process: u32)
+    requires fits { MemoryFits
+        (record { world = world_seen world.old; spaces = spaces.old.spaces }) }
+    requires files { OnlyFiles spaces.old.spaces }
+    requires alive { IsSome (finite.get spaces.old.spaces process) }
+    ensures changes { ChangesSpace process
+        (record { world = world_seen world.old; spaces = spaces.old.spaces })
+        (record { world = world_seen world.new; spaces = spaces.new.spaces })
+        (λ F. without_process F process) }
+    // What stays.
+    ensures rest { world.new ≡ record world.old { store = world.new.store; hat = world.new.hat } }
+    ensures processes { spaces.new.processes ≡ spaces.old.processes }
+{
+    let Some(space) = spaces.get_mut(process) else {
+        unreachable!();
+    };
+    clear(world, space, process, 1, END);
+    spaces.remove(process);
+}
+
+/// What a call of a process is answered that ends the process: Done. It takes no memory, and so has no error. Time: the pages
+/// of the process, and the logarithm of the number of its pieces for each piece.
+pub fn attempt<D: Disk>(
+    world: &mut World<D>,
+    spaces: &mut Spaces,
+    process: u32,
+    call: &Call,
+) -> Result<Attempt, AllocError>
+    requires served { IsServedExit call.now }
+    requires fits { MemoryFits
+        (record { world = world_seen world.old; spaces = spaces.old.spaces }) }
+    requires files { OnlyFiles spaces.old.spaces }
+    requires alive { IsSome (finite.get spaces.old.spaces process) }
+    ensures ok { IsOk result }
+    ensures done { IfOk result (λ answer. Serves
+        (record { world = world_seen world.old; spaces = spaces.old.spaces })
+        (record { world = world_seen world.new; spaces = spaces.new.spaces })
+        world.old.pending world.new.pending process call.now answer) }
+    ensures plain { IfOk result IsExitDone }
+    ensures files { OnlyFiles spaces.new.spaces }
+    // What stays.
+    ensures processes { spaces.new.processes ≡ spaces.old.processes }
+{
+    match *call {
+        Call::Exit => {
+            exit(world, spaces, process);
+            Ok(Attempt::Done(Reply::Done))
+        }
+        _ => unreachable!(),
+    }
+}

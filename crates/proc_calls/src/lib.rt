@@ -1,0 +1,6 @@
+//! Calls that end a process.
+#![tactic(auto)]
+
+mod exits;
+
+pub use exits::attempt;

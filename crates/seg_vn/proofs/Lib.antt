@@ -1,0 +1,6 @@
+pub mod SpacesFrom
+pub mod ClearedSpaces
+pub mod Takes
+pub mod Brings
+pub mod FilePlaces
+pub mod Faulted

@@ -1,0 +1,75 @@
+-- Steps that take frames for other pages, one after another.
+use Rattle.std.proofs.Common.{◌≡◌, ℕ, ◌<◌, ◌-◌, ◌^◌, Bool, true, false, List, Option, Some, None, length, refl, sym, ap, ◌∙◌, subst}
+use Rattle.std.specs.Prelude.{IfSome, ◌||◌}
+use Rattle.page_hash.specs.Names.{is_name, name_at}
+use Rattle.page_hash.specs.declared.PageName.{PageName}
+use Rattle.page_hash.proofs.NameLaws.{is_name-true}
+use Rattle.page_store.specs.Steps.{next_name}
+use Rattle.vnode_files.specs.Files.{FilesSeen, vnode_at}
+use Rattle.flat_model.specs.Step.{bit}
+use Rattle.flat_model.specs.Words.{pages_in}
+use Rattle.vm_world.specs.MemoryFits.{MemoryFits}
+use Rattle.vm_world.specs.Segments.{Spaces}
+use Rattle.vm_world.specs.Serving.{TakesFrames, LosesFrame}
+use Rattle.vm_world.specs.StateSteps.{PendsTails}
+use Rattle.vm_world.specs.World.{World, file_name}
+use Rattle.vm_world.specs.WorldSteps.{WorldStep, stays, tails_lost}
+use Rattle.vm_world.proofs.FrameRule.{frame_law}
+use Rattle.seg_ops.specs.Steps.{KeepsPages}
+use Rattle.seg_ops.proofs.StillSteps.{memory_of}
+
+pub or-false : (b : Bool) → (b || false) ≡ b
+or-false true = refl
+or-false false = refl
+
+-- NO FRAME is taken.
+pub takes-none : (old new : World) (spaces : Spaces) (pending : ℕ) → KeepsPages old new spaces → TakesFrames (memory_of old spaces) new pending pending
+takes-none old new spaces pending keeps = record {
+  cut = λ name. false;
+  step = keeps;
+  pends = record { bits = λ f lt. sym (or-false (bit pending f)); below = λ below. below };
+  took = λ name cut. absurd (let z : false ≡ true = cut in cc);
+}
+
+-- the tails that are pending, by the files' lengths alone
+pends-files : (u v : World) (cut : PageName → Bool) (pending more : ℕ) → v.files ≡ u.files → PendsTails v cut pending more → PendsTails u cut pending more
+pends-files u v cut pending more files t = record {
+  bits = λ f lt. subst (λ (fs : FilesSeen). bit more f ≡ (bit pending f || cut (file_name f (pages_in (vnode_at fs f).info.length - 1)))) files (t.bits f (subst (λ (fs : FilesSeen). f < length fs.files) (sym files) lt));
+  below = λ low. subst (λ (fs : FilesSeen). more < 2 ^ length fs.files) files (t.below (subst (λ (fs : FilesSeen). pending < 2 ^ length fs.files) (sym files) low));
+}
+
+-- FRAMES ARE TAKEN after a step that keeps all pages, names and files.
+pub takes-later : (old mid new : World) (spaces : Spaces) (pending more : ℕ) → MemoryFits (memory_of old spaces) → KeepsPages old mid spaces → mid.store.names ≡ old.store.names → mid.files ≡ old.files
+    → TakesFrames (memory_of mid spaces) new pending more → TakesFrames (memory_of old spaces) new pending more
+takes-later old mid new spaces pending more f first names files t = record {
+  cut = t.cut;
+  step = frame_law.later old mid new spaces stays t.cut f first t.step;
+  pends = pends-files old mid t.cut pending more files t.pends;
+  took = λ name cut. let l = t.took name cut in record { frame = l.frame; held = ap (λ (ns : List (Option PageName)). name_at ns l.frame) (sym names) ∙ l.held; taken = l.taken };
+}
+
+-- FRAMES ARE TAKEN before a step that keeps all pages and names.
+pub takes-then : (old mid new : World) (spaces : Spaces) (pending more : ℕ) → MemoryFits (memory_of old spaces) → TakesFrames (memory_of old spaces) mid pending more → KeepsPages mid new spaces → new.store.names ≡ mid.store.names
+    → TakesFrames (memory_of old spaces) new pending more
+takes-then old mid new spaces pending more f t second names = record {
+  cut = λ name. t.cut name || false;
+  step = frame_law.joined old mid new spaces stays t.cut (λ name. false) f t.step second;
+  pends = record { bits = λ f lt. t.pends.bits f lt ∙ ap (λ (b : Bool). bit pending f || b) (sym (or-false (tails_lost old t.cut f))); below = t.pends.below };
+  took = λ name cut.
+      let l = t.took name (sym (or-false (t.cut name)) ∙ cut) in
+      record { frame = l.frame; held = l.held; taken = λ is. l.taken (ap (λ (ns : List (Option PageName)). name_at ns l.frame) (sym names) ∙ is) };
+}
+
+lost-name : (old new : World) (o : Option PageName) (name : PageName) → IfSome o (λ (n : PageName). LosesFrame old new n) → is_name o name ≡ true → LosesFrame old new name
+lost-name old new None name took is = absurd (let z : false ≡ true = is in cc)
+lost-name old new (Some n) name took is = subst (LosesFrame old new) (let z : Some n ≡ Some name = is_name-true (Some n) name is in cc) took
+
+-- THE NEXT FRAME is taken.
+pub takes-next : (old new : World) (spaces : Spaces) (pending more : ℕ) → WorldStep old new spaces stays (is_name (next_name old.store)) → PendsTails old (is_name (next_name old.store)) pending more
+    → IfSome (next_name old.store) (λ (n : PageName). LosesFrame old new n) → TakesFrames (memory_of old spaces) new pending more
+takes-next old new spaces pending more step pends took = record {
+  cut = is_name (next_name old.store);
+  step = step;
+  pends = pends;
+  took = λ name cut. lost-name old new (next_name old.store) name took cut;
+}

@@ -1,0 +1,24 @@
+use Rattle.std.proofs.Common.{◌≡◌, ◌≤◌, ◌-◌, ℕ, None, cond}
+use Rattle.std.specs.FinMap as finite
+use Rattle.addr_space.specs.Space.{at}
+use Rattle.flat_model.specs.Access.{with_space}
+use Rattle.flat_model.specs.Space.{in_range}
+use Rattle.vm_world.specs.Segments.{Spaces}
+use Rattle.vm_world.specs.SpaceSteps.{ChangesSpace, file_space}
+use Rattle.vm_world.specs.World.{world_seen}
+use Rattle.seg_vn.specs.Clears.{SpaceFits}
+use Rattle.seg_vn.proofs.clears.clear.Given as goal
+
+abbrev pub decreases-loop-first : goal.decreases-loop-first
+decreases-loop-first g l = l.top
+
+abbrev pub invariant-loop-first : goal.invariant-loop-first
+invariant-loop-first g l = record {
+  low : l.fn.from ≤ l.top;
+  high : l.top ≤ l.fn.end;
+  pages : (q : ℕ) → at l.space.parts q ≡ cond (in_range l.top (l.fn.end - l.top) q) None (at l.fn.space.parts q);
+  changes : (spaces : Spaces) → SpaceFits (world_seen l.fn.world) spaces l.fn.process l.fn.space.parts → ChangesSpace l.fn.process (record { world = world_seen l.fn.world; spaces = spaces })
+      (record { world = world_seen l.world; spaces = finite.insert spaces l.fn.process l.space.parts }) (λ F. with_space F l.fn.process (file_space l.space.parts));
+  spare : l.fn.space.spare ≤ l.space.spare;
+  rest : l.world ≡ record l.fn.world { store = l.world.store; hat = l.world.hat };
+}

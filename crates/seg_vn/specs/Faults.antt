@@ -1,0 +1,47 @@
+-- What faults on pages of files come to. Public clauses cite this.
+use Rattle.std.specs.Prelude.{◌≡◌, ℕ, Bool, true, List, Option, Some, IsFalse}
+use Rattle.hat_layer.specs.Pool.{at}
+use Rattle.hat_layer.specs.declared.translation.Translation.{Translation}
+use Rattle.page_store.specs.declared.plan.Plan.{Plan}
+use Rattle.vm_types.specs.declared.call.Call.{Call}
+use Rattle.vm_types.specs.declared.call.Kind.TheVariants.{Shared}
+use Rattle.vm_types.specs.declared.call.Object.TheVariants as object
+use Rattle.vm_world.specs.FlatMemory.{Memory}
+use Rattle.vm_world.specs.Plans.{CanRunPlan}
+use Rattle.vm_world.specs.Segments.{Spot, Spaces, spot_at}
+use Rattle.vm_world.specs.Serving.{TakesFrames, KeepsWanted, ModifiesNone}
+use Rattle.vm_world.specs.Wants.{accessed_page, shows_page, HoldsUp}
+use Rattle.vm_world.specs.World.{World}
+use Rattle.seg_ops.specs.declared.plans.Step.{Step}
+use Rattle.seg_ops.specs.declared.plans.Step.TheVariants.{Loaded, Past, Need, Busy}
+
+-- The page of a process is this place of a shared mapping of a file.
+pub record IsFilePlace (spaces : Spaces) (p q : ℕ) (x : Spot) : Type 0 where
+  pub here : spot_at spaces p q ≡ Some x
+  pub shared : x.0.kind ≡ Shared
+  pub file : ℕ
+  pub object : x.0.object ≡ object.File file
+
+-- The page has a translation that lets the access.
+pub record LetsAccess (w : World) (p q : ℕ) (write : Bool) : Type 0 where
+  pub translation : Translation
+  pub loaded : at w.hat.places p q ≡ Some translation
+  pub writable : write ≡ true → translation.writable ≡ true
+
+-- Each load or store at the page needs this transfer first. It can run; no home page that the access wants lost its frame; and no page became modified.
+pub record NeedsTransfer (old new : Memory) (p q : ℕ) (plan : Plan) : Type 0 where
+  pub runs : (call : Call) → accessed_page call ≡ Some q → CanRunPlan new (Some (p, call)) plan
+  pub wanted : (call : Call) → accessed_page call ≡ Some q → KeepsWanted old new p call
+  pub modified : ModifiesNone old.world new.world
+
+-- What a fault at a place comes to: the page has its translation; or it is past the end; or each load or store there needs a transfer, or has to wait.
+abbrev pub FaultMeans : Memory → Memory → ℕ → ℕ → Spot → Bool → Step → Type 0
+FaultMeans old new p q x write Loaded = LetsAccess new.world p q write
+FaultMeans old new p q x write Past = IsFalse (shows_page new.world x)
+FaultMeans old new p q x write (Need plan) = NeedsTransfer old new p q plan
+FaultMeans old new p q x write (Busy h) = (calls : List (Option ℕ)) (call : Call) → accessed_page call ≡ Some q → HoldsUp new calls p call h
+
+-- A fault takes frames for other pages, with the tails that are pending before and after, and comes to this.
+pub record ServesFault (old new : Memory) (pending more p q : ℕ) (x : Spot) (write : Bool) (answer : Step) : Type 0 where
+  pub first : TakesFrames old new.world pending more
+  pub means : FaultMeans old new p q x write answer

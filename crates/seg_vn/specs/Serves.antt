@@ -1,0 +1,21 @@
+-- What is answered to a call. Public clauses cite this.
+use Rattle.std.specs.Prelude.{ℕ, List, Option}
+use Rattle.vm_types.specs.declared.call.Call.{Call}
+use Rattle.vm_types.specs.declared.call.Reply.{Reply}
+use Rattle.vm_types.specs.declared.call.Reply.TheVariants.{Io, Synced}
+use Rattle.vm_world.specs.FlatMemory.{Memory}
+use Rattle.vm_world.specs.Serving.{ServesDone, ServesNeed, ServesBusy}
+use Rattle.seg_vn.specs.declared.attempt.Attempt.{Attempt}
+use Rattle.seg_vn.specs.declared.attempt.Attempt.TheVariants.{Done, Need, Busy}
+
+-- The call is done with its reply; or it needs a transfer first; or it has to wait, whatever seats have the files' calls.
+abbrev pub Serves : Memory → Memory → ℕ → ℕ → ℕ → Call → Attempt → Type 0
+Serves old new pending more p call (Done reply) = ServesDone old new pending more p call reply
+Serves old new pending more p call (Need plan) = ServesNeed old new pending more p call plan
+Serves old new pending more p call (Busy h) = (calls : List (Option ℕ)) → ServesBusy old new pending more calls p call h
+
+-- The reply tells neither of a transfer that failed nor where a Sync began.
+abbrev pub IsPlainReply : Reply → Type 0
+IsPlainReply (Io disk before after) = ⊥
+IsPlainReply (Synced from) = ⊥
+IsPlainReply reply = Unit {0}

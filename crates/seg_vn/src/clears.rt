@@ -1,0 +1,67 @@
+//! Ranges of pages that are taken out of a space.
+ghost use Rattle.std.specs.Prelude.{◌≡◌, ◌≤◌, ◌<◌, ◌-◌, ℕ, None, Some, MatchOption, if◌then◌else◌};
+ghost use Rattle.std.specs.FinMap as finite;
+ghost use Rattle.addr_space.specs.Space.{at, begins, FindsLast};
+ghost use Rattle.flat_model.specs.Access.{with_space};
+ghost use Rattle.flat_model.specs.Space.{in_range};
+ghost use Rattle.vm_world.specs.Segments.{Spaces};
+ghost use Rattle.vm_world.specs.SpaceSteps.{ChangesSpace, file_space};
+ghost use Rattle.vm_world.specs.World.{world_seen};
+ghost use Rattle.seg_vn.specs.Clears.{SpaceFits, StartsAt};
+
+use crate::segment::VnSeg;
+use addr_space::Ranges;
+use block_device::Disk;
+use vm_world::World;
+
+// The first page of the last piece that begins in a range.
+fn last_in(space: &Ranges<VnSeg>, from: u32, end: u32) -> Option<u32>
+    ensures { MatchOption result
+        ((first : ℕ) → from ≤ first → first < end → begins space.now.parts first ≡ None)
+        (λ first. (from ≤ first) × FindsLast space.now.parts end (Some first)) }
+{
+    let first = space.last(end)?;
+    if first < from {
+        return None;
+    }
+    Some(first)
+}
+
+/// Takes all pieces of a range of pages out of a process's space, from the back, with their translations. No piece goes
+/// across an end of the range. Takes no memory. Time: the pages that go, and the logarithm of the number of pieces for each piece.
+pub fn clear<D: Disk>(
+    world: &mut World<D>,
+    space: &mut Ranges<VnSeg>,
+    process: u32,
+    from: u32,
+    end: u32,
+)
+    requires range { from ≤ end }
+    requires low { StartsAt space.old.parts from }
+    requires high { StartsAt space.old.parts end }
+    requires fits { (spaces : Spaces)
+        × SpaceFits (world_seen world.old) spaces process space.old.parts }
+    // The pages of the range have no cell, and all others the cell that they had.
+    ensures pages { (q : ℕ) → at space.new.parts q
+        ≡ (if in_range from (end - from) q then None else at space.old.parts q) }
+    ensures changes { (spaces : Spaces)
+        → SpaceFits (world_seen world.old) spaces process space.old.parts
+        → ChangesSpace process (record { world = world_seen world.old; spaces = spaces })
+        (record {
+          world = world_seen world.new;
+          spaces = finite.insert spaces process space.new.parts;
+        })
+        (λ F. with_space F process (file_space space.new.parts)) }
+    // What stays.
+    ensures spare { space.old.spare ≤ space.new.spare }
+    ensures rest { world.new ≡ record world.old { store = world.new.store; hat = world.new.hat } }
+{
+    let mut top = end;
+    while let Some(first) = last_in(space, from, top) {
+        let Some(mut segment) = space.remove(first) else {
+            unreachable!();
+        };
+        segment.unmap(world, process, first);
+        top = first;
+    }
+}

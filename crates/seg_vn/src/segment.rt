@@ -1,0 +1,195 @@
+//! Segments.
+ghost use Rattle.std.specs.Prelude.{◌≡◌, ℕ, ◌+◌, ◌-◌, ◌<◌, ◌≤◌, ◌^◌, Some, IsSome, IsTrue, if◌then◌else◌};
+ghost use Rattle.core_arena.specs.Bytes.{bytes_at};
+ghost use Rattle.hat_layer.specs.Pool.{at, fresh_translation};
+ghost use Rattle.page_hash.specs.declared.PageName.{PageName};
+ghost use Rattle.page_store.specs.Notes.{Notes};
+ghost use Rattle.page_store.specs.Seen.{residence};
+ghost use Rattle.vm_types.specs.Prot.{can_read, can_write, is_within};
+ghost use Rattle.vm_world.specs.MemoryFits.{MemoryFits};
+ghost use Rattle.vm_world.specs.NotesFit.{NotesFit};
+ghost use Rattle.vm_world.specs.Segments.{Spaces};
+ghost use Rattle.vm_world.specs.World.{world_seen};
+ghost use Rattle.seg_ops.specs.Steps.{KeepsPages, MayShow};
+ghost use Rattle.seg_vn.specs.Faults.{IsFilePlace, ServesFault};
+
+use crate::file_pages::bring;
+use block_device::Disk;
+use page_store::{PageName, Residence};
+use seg_ops::{Step, show};
+use std::marker::Model;
+use vm_types::{Kind, Object, Prot, pages_in};
+use vm_world::{Segment, World};
+
+/// A mapping of pages of a file or of zero memory.
+#[derive(Drop)]
+pub struct VnSeg {
+    pub(crate) segment: Segment,
+}
+
+impl Model for VnSeg {
+    ghost use Rattle.vm_world.specs.declared.segment.Segment.{Segment};
+    ghost use Rattle.seg_vn.specs.Segments.{IsSoundSegment, segment_code};
+
+    ghost Value = { Segment };
+
+    ghost coded = { segment_code };
+
+    ghost view = { λ s. s.segment };
+
+    ghost invariant = { λ s. IsSoundSegment s.segment };
+}
+
+/// Loads the translation of a page that is home.
+fn load_page<D: Disk>(world: &mut World<D>, space: u32, page: u32, name: PageName, writable: bool)
+    requires home { (frame : ℕ) × (residence world.old.store name ≡ Residence.Home frame) }
+    requires fits { (spaces : Spaces)
+        × MemoryFits (record { world = world_seen world.old; spaces = spaces }) }
+    ensures loaded { (frame : ℕ) × (at world.new.hat.places space page
+        ≡ Some (fresh_translation space page frame writable)) }
+    ensures keeps { (spaces : Spaces)
+        → MemoryFits (record { world = world_seen world.old; spaces = spaces })
+        → MayShow (world_seen world.old) spaces space page name writable
+        → KeepsPages (world_seen world.old) (world_seen world.new) spaces }
+    // What stays.
+    ensures names { world.new.store.names ≡ world.old.store.names }
+    ensures rest { world.new ≡ record world.old { store = world.new.store; hat = world.new.hat } }
+{
+    let Residence::Home(frame) = world.store.resident(name) else {
+        unreachable!();
+    };
+    show(world, space, page, name, frame, writable);
+}
+
+impl VnSeg {
+    /// A segment. `own` is the anon map of a private one, and `shown` that of the zero object that it shows.
+    pub fn new(
+        pages: u32,
+        prot: Prot,
+        max: Prot,
+        kind: Kind,
+        object: Object,
+        index: u32,
+        own: Option<u32>,
+        shown: Option<u32>,
+    ) -> VnSeg
+        requires some { 0 < pages }
+        requires end { index + pages < 2 ^ 32 }
+        ensures { result ≡ record {
+          pages = pages;
+          prot = prot;
+          max = max;
+          kind = kind;
+          object = object;
+          index = index;
+          own = own;
+          shown = shown;
+        } }
+    {
+        VnSeg {
+            segment: Segment {
+                pages,
+                prot,
+                max,
+                kind,
+                object,
+                index,
+                own,
+                shown,
+            },
+        }
+    }
+
+    /// What may be done there.
+    pub fn prot(&self) -> Prot
+        ensures { result ≡ self.now.prot }
+    {
+        self.segment.prot
+    }
+
+    /// Whether Protect may allow this there.
+    pub fn check_prot(&self, prot: Prot) -> bool
+        ensures { result ≡ is_within prot self.now.max }
+    {
+        prot.is_within(self.segment.max)
+    }
+
+    /// The anon map of the zero object that it shows; None where there is none.
+    pub fn shown(&self) -> Option<u32>
+        ensures { result ≡ self.now.shown }
+    {
+        self.segment.shown
+    }
+
+    /// How many pages it has.
+    pub fn pages(&self) -> u32
+        ensures pages { result ≡ self.now.pages }
+        ensures some { 0 < result }
+    {
+        self.segment.pages
+    }
+
+    /// The object of a place, and the page of it that the place shows.
+    pub fn object(&self, at: u32) -> (Object, u32)
+        requires { at < self.now.pages }
+        ensures object { result.0 ≡ self.now.object }
+        ensures index { result.1 ≡ self.now.index + at }
+    {
+        (self.segment.object, self.segment.index + at)
+    }
+
+    /// Loads the translation of a page of a shared mapping of a file, or says what that needs. `first` is the segment's
+    /// first page in the space. Takes no memory and makes no disk call. Time: what `make_room` takes, and one page.
+    #[inline(never)]
+    pub fn fault<D: Disk>(
+        &self,
+        world: &mut World<D>,
+        space: u32,
+        first: u32,
+        page: u32,
+        write: bool,
+    ) -> Step
+        requires low { first ≤ page }
+        requires allowed { IsTrue
+            (if write then can_write self.now.prot else can_read self.now.prot) }
+        requires home { (frame : ℕ) × IsSome (bytes_at world.old.store.frames frame) }
+        requires fits { (spaces : Spaces)
+            × MemoryFits (record { world = world_seen world.old; spaces = spaces })
+            × IsFilePlace spaces space page (self.now, page - first) }
+        requires noted { (notes : Notes) × NotesFit (world_seen world.old) notes }
+        ensures serves { (spaces : Spaces)
+            → MemoryFits (record { world = world_seen world.old; spaces = spaces })
+            → IsFilePlace spaces space page (self.now, page - first)
+            → ServesFault (record { world = world_seen world.old; spaces = spaces })
+            (record { world = world_seen world.new; spaces = spaces })
+            world.old.pending world.new.pending
+            space page (self.now, page - first) write result }
+        // What stays.
+        ensures rest { world.new ≡ record world.old {
+          store = world.new.store;
+          hat = world.new.hat;
+          pending = world.new.pending;
+        } }
+    {
+        let (object, index) = self.object(page - first);
+        let Object::File(file) = object else {
+            unreachable!();
+        };
+        if index >= pages_in(world.files.info(file).length) {
+            return Step::Past;
+        }
+        match bring(world, file, index) {
+            Step::Loaded => {
+                let name = PageName {
+                    object: file,
+                    page: index,
+                };
+                load_page(world, space, page, name, self.prot().can_write());
+                Step::Loaded
+            }
+            Step::Past => unreachable!(),
+            Step::Need(plan) => Step::Need(plan),
+            Step::Busy(hold) => Step::Busy(hold),
+        }
+    }
+}
