@@ -1,0 +1,62 @@
+-- A flight leaves the state.
+use Rattle.std.proofs.Common.{◌≡◌, ℕ, ◌+◌, ◌≤◌, Bool, true, false, List, length, Option, Some, None, refl, sym, ap, ◌∙◌, subst, arith}
+use Rattle.std.specs.Prelude.{IsSome, slice_set}
+use Rattle.flat_model.specs.Flat.{Flat}
+use Rattle.page_hash.specs.Names.{is_name}
+use Rattle.page_hash.specs.declared.PageName.{PageName}
+use Rattle.page_store.specs.Bays.{home, out}
+use Rattle.page_store.specs.Flight.{FlightSeen, note_of}
+use Rattle.page_store.specs.Seen.{StoreSeen}
+use Rattle.page_store.specs.Steps.{next_frame, next_name}
+use Rattle.page_store.specs.Transfers.{is_push}
+use Rattle.page_store.specs.Waits.{Waits, page_of}
+use Rattle.page_store.specs.declared.plan.Plan.{Plan}
+use Rattle.page_store.specs.declared.plan.Plan.TheVariants as plan
+use Rattle.vm_world.specs.Events.{IsEvent}
+use Rattle.vm_world.specs.FlatMemory.{Memory}
+use Rattle.vm_world.specs.Segments.{Spaces}
+use Rattle.vm_world.specs.State.{KernelState, KeptPlan, Sent, Seats, Caller}
+use Rattle.vm_world.specs.StateFits.{StateFits}
+use Rattle.vm_world.specs.StateSteps.{PendsTails, after_step}
+use Rattle.vm_world.specs.Wants.{MayPlan}
+use Rattle.vm_world.specs.World.{World, world_table}
+use Rattle.vm_world.specs.WorldSteps.{WorldStep, leaves}
+use Rattle.vm_world.proofs.StateSteps.{state_rule}
+use Rattle.vm_core.specs.Flights.{CanLeave, IsKeptFor, sent_with}
+use Rattle.vm_core.specs.State.{IsKept}
+use Rattle.vm_core.proofs.Landings.{disks-kept}
+
+can-leave : (m : Memory) (of : Option Caller) (p : Plan) → MayPlan m of p → (is_push p ≡ false → IsSome (next_frame m.world.store)) → CanLeave m.world p
+can-leave m (Some of) (plan.Read name) may frame = (may.1, frame refl)
+can-leave m (Some of) (plan.Push name) may frame = may.0
+can-leave m None (plan.Read name) may frame = absurd may
+can-leave m None (plan.Push name) may frame = may
+
+-- A KEPT PLAN can run.
+pub kept-leaves : (opening : Flat) (s : KernelState) (seats : Seats) (seat : ℕ) (p : Plan) (kept : KeptPlan) → StateFits opening s seats → IsKeptFor s seat p kept → CanLeave s.memory.world p
+kept-leaves opening s seats seat p kept fit k =
+    let f = fit.plans.plan kept k.is in
+    subst (λ (x : Plan). CanLeave s.memory.world x) k.same (can-leave s.memory kept.of kept.plan f.may f.frame)
+
+pub kept-ready : (opening : Flat) (s : KernelState) (seats : Seats) (seat : ℕ) (p : Plan) (kept : KeptPlan) → StateFits opening s seats → IsKeptFor s seat p kept → Waits s.memory.world.store (page_of p) (world_table s.memory.world (page_of p)).disk None
+kept-ready opening s seats seat p kept fit k =
+    subst (λ (x : Plan). Waits s.memory.world.store (page_of x) (world_table s.memory.world (page_of x)).disk None) k.same (fit.plans.plan kept k.is).ready
+
+-- WHAT IS KEPT after a flight left.
+pub kept-left : (old new : World) (spaces : Spaces) (entries : List ℕ) (seats seat : ℕ) (f : FlightSeen) (cut : PageName → Bool) → IsKept old.store spaces entries seats → WorldStep old new spaces (leaves seat (note_of f)) cut → IsKept new.store spaces entries seats
+kept-left old new spaces entries seats seat f cut k step =
+    let disks = disks-kept old.store new.store f.number (home f.disk) (out seat) step.bays.0 refl refl step.bays.1 in
+    let frames = step.frames in
+    let was = k.frames in
+    record { frames = omega (arith, disks, frames, was); files = k.files; seated = k.seated }
+
+-- THE EVENT.
+pub leaving : (s : KernelState) (new : World) (cut : PageName → Bool) (pending seat : ℕ) (p : Plan) (kept : KeptPlan) (f : FlightSeen) → WorldStep s.memory.world new s.memory.spaces (leaves seat (note_of f)) cut → PendsTails s.memory.world cut s.pending pending → IsKeptFor s seat p kept
+    → IsEvent seat s None (after_step s new pending) (Some (sent_with kept f))
+leaving s new cut pending seat p kept f step pends k = state_rule.begins s new cut pending seat (sent_with kept f) kept step pends k.is k.mine refl
+
+pub leaving-as : (s t : KernelState) (new : World) (cut : PageName → Bool) (pending seat : ℕ) (p : Plan) (kept : KeptPlan) (f : FlightSeen) → s ≡ t → WorldStep s.memory.world new s.memory.spaces (leaves seat (note_of f)) cut → PendsTails s.memory.world cut s.pending pending
+    → IsKeptFor t seat p kept → IsEvent seat t None (after_step s new pending) (Some (sent_with kept f))
+leaving-as s t new cut pending seat p kept f e step pends k =
+    subst (λ (x : KernelState). IsEvent seat x None (after_step s new pending) (Some (sent_with kept f))) e
+    (leaving s new cut pending seat p kept f step pends (subst (λ (x : KernelState). IsKeptFor x seat p kept) (sym e) k))

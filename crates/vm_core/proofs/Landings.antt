@@ -1,0 +1,277 @@
+-- A flight comes back to the state.
+use Rattle.std.proofs.Common.{◌≡◌, ◌≢◌, ℕ, zero, suc, ◌+◌, ◌-◌, ◌<◌, ◌≤◌, ◌==◌, ◌||◌, Bool, true, false, cond, List, [], ◌∷◌, ◌++◌, length, Option, Some, None, refl, sym, ap, ◌∙◌, inl, inr, subst, arith, get_or-set_same, get_or-set_other, length-set}
+use Rattle.std.specs.Prelude.{◌↔◌, ◌⊎◌, filter, slice_index_or, slice_set, option_map, IsTrue, IsFalse, IsSome, IsSomeAnd, MatchOption, MatchBool}
+use Rattle.std.proofs.lemmas.Bool.{cases_eq}
+use Rattle.std.proofs.lemmas.Bool.Decides.{eqb_tells}
+use Rattle.block_device.specs.Counts.{HasRisen}
+use Rattle.block_device.specs.DiskSeen.{DiskSeen}
+use Rattle.flat_model.specs.Births.{is_birth}
+use Rattle.flat_model.specs.Counted.{top_count}
+use Rattle.flat_model.specs.Flat.{Flat}
+use Rattle.flat_model.specs.OpenLaws.{last_entry, IsOpenPart, FollowsOn, MayFollow}
+use Rattle.flat_model.specs.Step.{bit}
+use Rattle.flat_model.specs.SyncLaws.{is_in_life}
+use Rattle.flat_model.specs.Told.{entries_of}
+use Rattle.page_hash.specs.Names.{name_at}
+use Rattle.page_hash.specs.declared.PageName.{PageName}
+use Rattle.page_lock.specs.Rows.{row_at}
+use Rattle.page_store.specs.Away.{is_disk, disk_count}
+use Rattle.page_store.specs.Bays.{BaySeen, missing, home, out, bay_at}
+use Rattle.page_store.specs.Flight.{FlightSeen, fresh, done, failed, IsPerformed}
+use Rattle.page_store.specs.Notes.{Note, Notes}
+use Rattle.page_store.specs.Out.{HasOut, IsFlightOf}
+use Rattle.page_store.specs.Seen.{StoreSeen, own_frame}
+use Rattle.page_store.specs.Steps.{after_end, with_flight_landed, with_pair_settled, is_lost}
+use Rattle.page_store.specs.Transfers.{EndsTransfer}
+use Rattle.vm_types.specs.Parts.{next_part, ends_call, part_file}
+use Rattle.vm_types.specs.declared.call.Call.{Call}
+use Rattle.vm_types.specs.declared.call.Call.TheVariants.{Read, Write}
+use Rattle.vm_types.specs.declared.call.Entry.{Entry}
+use Rattle.vm_types.specs.declared.call.Reply.{Reply}
+use Rattle.vm_types.specs.declared.call.Reply.TheVariants.{Io}
+use Rattle.vm_world.specs.EntryLaws.{LocksAfter, StartsAfter}
+use Rattle.vm_world.specs.Events.{IsEvent}
+use Rattle.vm_world.specs.Failures.{io_entry, with_entry_made}
+use Rattle.vm_world.specs.FlatMemory.{flat_memory}
+use Rattle.vm_world.specs.HistoryFits.{CallsFit}
+use Rattle.vm_world.specs.MemoryFits.{MemoryFits}
+use Rattle.vm_world.specs.NotesFit.{NotesFit}
+use Rattle.vm_world.specs.Segments.{Spaces}
+use Rattle.vm_world.specs.State.{KernelState, Seats, Sent, Caller, notes_of, seat_of, room_of}
+use Rattle.vm_world.specs.StateFits.{StateFits, CallerFits}
+use Rattle.vm_world.specs.StateSteps.{after_step, PendsTails, CountsOn}
+use Rattle.vm_world.specs.World.{World, world_table}
+use Rattle.vm_world.specs.WorldSteps.{WorldStep, returns}
+use Rattle.vm_world.proofs.Failures.{failure_rule}
+use Rattle.vm_world.proofs.NextParts.{next-file}
+use Rattle.vm_world.proofs.StateSteps.{state_rule}
+use Rattle.vm_core.specs.Flights.{IsBack, AddsEntry}
+use Rattle.vm_core.specs.State.{calls_without, without_seat, with_next_entry, IsKept}
+
+-- THE LOCK OF THE FILE. Whose call of a file is between two parts, once a seat's call of one file is over.
+other-seat : (seat t : ℕ) (o : Option ℕ) → t ≢ seat → (without_seat seat o ≡ Some t) ↔ (o ≡ Some t)
+other-seat seat t None ne = ((λ h. h), (λ h. h))
+other-seat seat t (Some x) ne = by_test (x == seat) refl
+  where
+    by_test : (b : Bool) → (x == seat) ≡ b → (cond b None (Some x) ≡ Some t) ↔ (Some x ≡ Some t)
+    by_test true e = ((λ h. absurd (cc)), (λ h. absurd (let same : x ≡ t = cc in ne (sym same ∙ elim (eqb_tells x seat) [ inl y ↦ y.1 | inr n ↦ absurd (let z : true ≡ false = sym e ∙ n.0 in cc) ]))))
+    by_test false e = ((λ h. h), (λ h. h))
+
+never-seat : (seat : ℕ) (o : Option ℕ) → without_seat seat o ≢ Some seat
+never-seat seat None h = let z : ◌≡◌ {A = Option ℕ} None (Some seat) = h in cc
+never-seat seat (Some x) h = by_test (x == seat) refl h
+  where
+    by_test : (b : Bool) → (x == seat) ≡ b → cond b None (Some x) ≡ Some seat → ⊥
+    by_test true e h = let z : ◌≡◌ {A = Option ℕ} None (Some seat) = h in cc
+    by_test false e h = elim (eqb_tells x seat) [ inl y ↦ (let z : true ≡ false = sym y.0 ∙ e in cc) | inr n ↦ n.1 (let z : Some x ≡ Some seat = h in cc) ]
+
+past-set : (calls : List (Option ℕ)) (f : ℕ) (o : Option ℕ) → length calls ≤ f → slice_index_or (slice_set calls f o) f None ≡ None
+past-set [] f o le = refl
+past-set (x ∷ xs) zero o le = absurd (omega (arith, le))
+past-set (x ∷ xs) (suc f) o le = past-set xs f o (omega (arith, le))
+
+past-index : (calls : List (Option ℕ)) (f : ℕ) → length calls ≤ f → slice_index_or calls f None ≡ None
+past-index [] f le = refl
+past-index (x ∷ xs) zero le = absurd (omega (arith, le))
+past-index (x ∷ xs) (suc f) le = past-index xs f (omega (arith, le))
+
+split : (a b : ℕ) → (a < b) ⊎ (b ≤ a)
+split a b = grind arith
+
+-- at the file itself
+at-file : (seat f : ℕ) (calls : List (Option ℕ)) → slice_index_or (calls_without seat (Some f) calls) f None ≡ without_seat seat (slice_index_or calls f None)
+at-file seat f calls = elim (split f (length calls)) [
+  | inl lt ↦ get_or-set_same calls f (without_seat seat (slice_index_or calls f None)) None lt
+  | inr le ↦ past-set calls f (without_seat seat (slice_index_or calls f None)) le ∙ sym (ap (without_seat seat) (past-index calls f le))
+]
+
+others-stay : (seat f t : ℕ) (o : Option ℕ) (calls : List (Option ℕ)) → t ≢ seat → (slice_index_or (calls_without seat o calls) f None ≡ Some t) ↔ (slice_index_or calls f None ≡ Some t)
+others-stay seat f t None calls ne = ((λ h. h), (λ h. h))
+others-stay seat f t (Some g) calls ne = elim (cases_eq f g) [
+  | inl same ↦
+      let at : slice_index_or (calls_without seat (Some g) calls) f None ≡ without_seat seat (slice_index_or calls f None) = subst (λ (k : ℕ). slice_index_or (calls_without seat (Some g) calls) k None ≡ without_seat seat (slice_index_or calls k None)) (sym same) (at-file seat g calls) in
+      let by = other-seat seat t (slice_index_or calls f None) ne in ((λ h. by.0 (sym at ∙ h)), (λ h. at ∙ by.1 h))
+  | inr far ↦
+      let at : slice_index_or (calls_without seat (Some g) calls) f None ≡ slice_index_or calls f None = get_or-set_other calls g f (without_seat seat (slice_index_or calls g None)) None far in
+      ((λ h. sym at ∙ h), (λ h. at ∙ h))
+]
+
+-- the seat has a file's lock then only where it had it, and not that file's
+seat-had : (seat f : ℕ) (o : Option ℕ) (calls : List (Option ℕ)) → slice_index_or (calls_without seat o calls) f None ≡ Some seat → (slice_index_or calls f None ≡ Some seat) × (o ≢ Some f)
+seat-had seat f None calls h = (h, λ e. let z : ◌≡◌ {A = Option ℕ} None (Some f) = e in cc)
+seat-had seat f (Some g) calls h = elim (cases_eq f g) [
+  | inl same ↦ absurd (never-seat seat (slice_index_or calls g None) (sym (at-file seat g calls) ∙ ap (λ (k : ℕ). slice_index_or (calls_without seat (Some g) calls) k None) (sym same) ∙ h))
+  | inr far ↦ (sym (get_or-set_other calls g f (without_seat seat (slice_index_or calls g None)) None far) ∙ h, λ e. far (let z : Some g ≡ Some f = e in cc))
+]
+
+io-ends : (call : Call) (disk before after : ℕ) → ends_call call (Io disk before after) ≡ true
+unfolding next_part
+io-ends (Read file offset len) disk before after = refl
+io-ends (Write file offset line rest) disk before after = refl
+io-ends call disk before after = refl
+
+-- THE LOCKS AFTER A DEVICE ERROR.
+pub locks-after : (H : List Entry) (calls syncs : List (Option ℕ)) (seat p disk before after cleared : ℕ) (call : Call) → CallsFit H calls syncs → p ≡ suc seat → MayFollow H (io_entry p call disk before after cleared)
+    → LocksAfter (io_entry p call disk before after cleared) calls (calls_without seat (part_file call) calls)
+locks-after H calls syncs seat p disk before after cleared call fit is follows f t = by_seat (p == suc t) refl
+  where
+    e : Entry
+    e = io_entry p call disk before after cleared
+
+    of-last : (o : Option Entry) → IsSomeAnd o (IsOpenPart f) → MatchOption o (Unit {0}) (λ d. FollowsOn d (io_entry p call disk before after cleared)) → part_file call ≡ Some f
+    of-last None here next = absurd here
+    of-last (Some d) here (inl ended) = absurd (let z : true ≡ false = sym ended ∙ here.1 in cc)
+    of-last (Some d) here (inr next) = next-file d.call d.reply next.0 call next.1 ∙ here.0
+
+    by_seat : (b : Bool) → (p == suc t) ≡ b → (slice_index_or (calls_without seat (part_file call) calls) f None ≡ Some t) ↔ MatchBool b (IsOpenPart f (io_entry p call disk before after cleared)) (slice_index_or calls f None ≡ Some t)
+    by_seat true own = (
+      (λ h. absurd (
+          let mine : t ≡ seat = elim (eqb_tells p (suc t)) [ inl y ↦ (let z : suc t ≡ suc seat = sym y.1 ∙ is in omega (arith, z)) | inr n ↦ absurd (let z : true ≡ false = sym own ∙ n.0 in cc) ] in
+          let had = seat-had seat f (part_file call) calls (h ∙ ap (λ (k : ℕ). Some k) mine) in
+          let still : IsSomeAnd (last_entry p H) (IsOpenPart f) = subst (λ (q : ℕ). IsSomeAnd (last_entry q H) (IsOpenPart f)) (sym is) ((fit.files f seat).0 had.0) in
+          had.1 (of-last (last_entry p H) still follows))),
+      (λ h. absurd (let z : true ≡ false = sym (io-ends call disk before after) ∙ h.1 in cc)),
+    )
+    by_seat false other = others-stay seat f t (part_file call) calls
+        (λ same. absurd (elim (eqb_tells p (suc t)) [ inl y ↦ (let z : true ≡ false = sym y.0 ∙ other in cc) | inr n ↦ n.1 (is ∙ ap suc (sym same)) ]))
+
+-- no call but a fork bears
+io-bears : (q p : ℕ) (call : Call) (disk before after cleared : ℕ) → is_birth q (io_entry p call disk before after cleared) ≡ false
+io-bears q p call disk before after cleared = refl
+
+-- THE STARTS OF SYNCS AFTER A DEVICE ERROR.
+pub starts-after : (syncs : List (Option ℕ)) (seat p disk before after cleared : ℕ) (call : Call) → p ≡ suc seat → seat < length syncs
+    → StartsAfter (io_entry p call disk before after cleared) syncs (slice_set syncs seat None)
+starts-after syncs seat p disk before after cleared call is lt t b has = elim (cases_eq t seat) [
+  | inl same ↦ absurd (let z : ◌≡◌ {A = Option ℕ} None (Some b) = sym (ap (λ (k : ℕ). slice_index_or (slice_set syncs seat None) k None) same ∙ get_or-set_same syncs seat None None lt) ∙ has in cc)
+  | inr ne ↦ (
+    elim (eqb_tells p (suc t)) [ inl y ↦ absurd (ne (let z : suc t ≡ suc seat = sym y.1 ∙ is in omega (arith, z))) | inr n ↦ ap (λ (x : Bool). x || false) n.0 ],
+    sym (get_or-set_other syncs seat t None None ne) ∙ has,
+  )
+]
+
+-- A DISK LEAVES OR COMES HOME: there are as many as before.
+one-disk : (b : BaySeen) (bays : List BaySeen) → is_disk b ≡ true → length (filter is_disk (b ∷ bays)) ≡ suc (length (filter is_disk bays))
+one-disk missing bays is = absurd (let z : false ≡ true = is in cc)
+one-disk (home d) bays is = refl
+one-disk (out t) bays is = refl
+
+same-disks : (bays : List BaySeen) (number : ℕ) (b : BaySeen) → is_disk (bay_at bays number) ≡ true → is_disk b ≡ true → length (filter is_disk (slice_set bays number b)) ≡ length (filter is_disk bays)
+same-disks [] number b was is = absurd (let z : false ≡ true = was in cc)
+same-disks (x ∷ bays) zero b was is = one-disk b bays is ∙ sym (one-disk x bays was)
+same-disks (missing ∷ bays) (suc number) b was is = same-disks bays number b was is
+same-disks (home d ∷ bays) (suc number) b was is = ap suc (same-disks bays number b was is)
+same-disks (out t ∷ bays) (suc number) b was is = ap suc (same-disks bays number b was is)
+
+pub disks-kept : (old new : StoreSeen) (number : ℕ) (before after : BaySeen) → bay_at old.bays number ≡ before → is_disk before ≡ true → is_disk after ≡ true → new.bays ≡ slice_set old.bays number after → disk_count new ≡ disk_count old
+disks-kept old new number before after at was is moved = ap (λ (bays : List BaySeen). length (filter is_disk bays)) moved ∙ same-disks old.bays number after (ap is_disk at ∙ was) is
+
+landed-bays : (s : StoreSeen) (f : FlightSeen) (lost : Bool) → (with_flight_landed s f lost).bays ≡ slice_set s.bays f.number (home f.disk)
+landed-bays s f true = refl
+landed-bays s f false = refl
+
+-- WHAT IS KEPT after a flight came back.
+pub kept-ended : (old new : StoreSeen) (f : FlightSeen) (spaces : Spaces) (entries : List ℕ) (seats : ℕ) → IsKept old spaces entries seats → IsFlightOf old f → new ≡ after_end old f → EndsTransfer old new f → IsKept new spaces entries seats
+kept-ended old new f spaces entries seats k flight is laws =
+    let disks = disks-kept old new f.number (out f.seat) (home f.disk) flight.out.bay refl refl (ap (λ (x : StoreSeen). x.bays) is ∙ landed-bays (with_pair_settled old f) f (is_lost f.writes f.outcome (row_at (with_pair_settled old f).rows f.frame).gone)) in
+    let frames = laws.touches.frames in
+    let was = k.frames in
+    record { frames = omega (arith, disks, frames, was); files = k.files; seated = k.seated }
+
+-- THE FLIGHT is one that is out.
+pub note-here : (seats : Seats) (seat : ℕ) (sent : Sent) → seats seat ≡ Some sent → notes_of seats seat ≡ Some sent.note
+note-here seats seat sent is = ap (option_map (λ (x : Sent). x.note)) is
+
+pub flight-out : (opening : Flat) (s : KernelState) (seats : Seats) (seat : ℕ) (sent : Sent) (f : FlightSeen) → StateFits opening s seats → seats seat ≡ Some sent → IsPerformed sent.note f → IsFlightOf s.memory.world.store f
+flight-out opening s seats seat sent f fit is p =
+    let a = fit.notes.stored.each_note seat sent.note (note-here seats seat sent is) in
+    let mine : f.seat ≡ seat = p.seat ∙ a.mine in
+    record {
+      origin = p.origin ∙ a.origin;
+      out = record {
+        bay = ap (bay_at s.memory.world.store.bays) p.number ∙ a.out.bay ∙ ap out (sym mine);
+        holder = ap (λ (k : ℕ). (row_at s.memory.world.store.rows k).holder) p.frame ∙ a.out.holder ∙ ap (λ (k : ℕ). Some k) (sym mine);
+        page = λ there. ap (λ (k : ℕ). name_at s.memory.world.store.names (own_frame s.memory.world.store k)) p.frame ∙ a.out.page (ap (λ (k : ℕ). (row_at s.memory.world.store.rows k).gone) (sym p.frame) ∙ there) ∙ ap (λ (n : PageName). Some n) (sym p.name);
+        read = λ reads. ap (λ (k : ℕ). (row_at s.memory.world.store.rows k).source) p.frame ∙ a.out.read (sym p.direction ∙ reads);
+      };
+    }
+
+-- EVENTS. What comes back is the flight of the seat's note.
+module _ (s : KernelState) (new : World) (seat : ℕ) (f : FlightSeen)
+    (step : (notes : Notes) (note : Note) → MemoryFits s.memory → NotesFit s.memory.world notes → notes f.seat ≡ Some note → IsPerformed note f → WorldStep s.memory.world new s.memory.spaces (returns f.seat note) (λ name. false))
+    (disk : bay_at new.store.bays f.number ≡ home f.disk) (top : f.disk.faults ≤ top_count) where
+  mine : (opening : Flat) (seats : Seats) (sent : Sent) → StateFits opening s seats → seats seat ≡ Some sent → IsPerformed sent.note f → f.seat ≡ seat
+  mine opening seats sent fit is p = p.seat ∙ (fit.notes.stored.each_note seat sent.note (note-here seats seat sent is)).mine
+
+  world-step : (opening : Flat) (seats : Seats) (sent : Sent) → StateFits opening s seats → seats seat ≡ Some sent → IsPerformed sent.note f → WorldStep s.memory.world new s.memory.spaces (returns seat sent.note) (λ name. false)
+  world-step opening seats sent fit is p =
+      let own = mine opening seats sent fit is p in
+      subst (λ (k : ℕ). WorldStep s.memory.world new s.memory.spaces (returns k sent.note) (λ name. false)) own
+      (step (notes_of seats) sent.note fit.memory fit.notes (subst (λ (k : ℕ). notes_of seats k ≡ Some sent.note) (sym own) (note-here seats seat sent is)) p)
+
+  pends : PendsTails s.memory.world (λ name. false) s.pending s.pending
+  pends = record { bits = λ g lt. or-false (bit s.pending g); below = λ h. h }
+    where
+      or-false : (b : Bool) → b ≡ (b || false)
+      or-false true = refl
+      or-false false = refl
+
+  same-home : (d : DiskSeen) → home f.disk ≡ home d → f.disk ≡ d
+  same-home d e = cc
+
+  back : (sent : Sent) → IsPerformed sent.note f → bay_at new.store.bays sent.note.number ≡ home f.disk
+  back sent p = ap (bay_at new.store.bays) (sym p.number) ∙ disk
+
+  counts : (sent : Sent) → IsPerformed sent.note f → CountsOn sent.note new
+  counts sent p d at = let same = same-home d (sym (back sent p) ∙ at) in
+      (subst (λ (x : DiskSeen). sent.note.disk.faults ≤ x.faults) same p.later, subst (λ (x : DiskSeen). x.faults ≤ top_count) same top)
+
+  -- without an entry
+  quiet-at : (opening : Flat) (seats : Seats) (sent : Sent) → StateFits opening s seats → seats seat ≡ Some sent → IsPerformed sent.note f → IsEvent seat s (Some sent) (after_step s new s.pending) None
+  quiet-at opening seats sent fit is p = state_rule.ends s new (λ name. false) s.pending seat sent (world-step opening seats sent fit is p) pends (counts sent p)
+
+  pub quiet-end : (opening : Flat) (seats : Seats) (mine : Sent) → StateFits opening s seats → seats seat ≡ Some mine → IsPerformed mine.note f
+      → (sent : Sent) → IsPerformed sent.note f → IsEvent seat s (Some sent) (after_step s new s.pending) None
+  quiet-end opening seats own fit is p sent q = record {
+    fits = λ o x here fits. (quiet-at o x sent fits here q).fits o x here fits;
+    fixed = (quiet-at opening seats own fit is p).fixed;
+    grown = (quiet-at opening seats own fit is p).grown;
+  }
+
+  -- with the entry of its error
+  failed-at : (opening : Flat) (seats : Seats) (sent : Sent) (q : ℕ) (call : Call) (calls syncs : List (Option ℕ)) → StateFits opening s seats → seats seat ≡ Some sent → IsPerformed sent.note f → sent.of ≡ Some (q, call) → f.outcome ≡ failed
+      → LocksAfter (io_entry q call f.number f.before f.disk.faults s.pending) s.calls calls → StartsAfter (io_entry q call f.number f.before f.disk.faults s.pending) s.syncs syncs → length syncs ≡ length s.syncs
+      → IsEvent seat s (Some sent) (with_entry_made (after_step s new s.pending) (io_entry q call f.number f.before f.disk.faults s.pending) calls syncs) None
+  failed-at opening seats sent q call calls syncs fit is p for_call bad locks starts count =
+      let same : io_entry q call f.number f.before f.disk.faults s.pending ≡ io_entry q call sent.note.number sent.note.disk.faults f.disk.faults s.pending =
+      ap (λ (k : ℕ). io_entry q call k f.before f.disk.faults s.pending) p.number ∙ ap (λ (k : ℕ). io_entry q call sent.note.number k f.disk.faults s.pending) p.before in
+      subst (λ (e : Entry). IsEvent seat s (Some sent) (with_entry_made (after_step s new s.pending) e calls syncs) None) (sym same)
+      (failure_rule.fails s new (λ name. false) s.pending seat q call sent f.disk calls syncs (world-step opening seats sent fit is p) pends for_call (fit.plans.sent seat sent (q, call) is for_call).own (back sent p) p.later (p.risen bad) top
+      (subst (λ (e : Entry). LocksAfter e s.calls calls) same locks) (subst (λ (e : Entry). StartsAfter e s.syncs syncs) same starts) count)
+
+  pub failed-end : (opening : Flat) (seats : Seats) (own : Sent) (q : ℕ) (call : Call) (calls syncs : List (Option ℕ)) → StateFits opening s seats → seats seat ≡ Some own → IsBack own f (Some (q, call)) → f.outcome ≡ failed
+      → LocksAfter (io_entry q call f.number f.before f.disk.faults s.pending) s.calls calls → StartsAfter (io_entry q call f.number f.before f.disk.faults s.pending) s.syncs syncs → length syncs ≡ length s.syncs
+      → (sent : Sent) → IsBack sent f (Some (q, call)) → IsEvent seat s (Some sent) (with_entry_made (after_step s new s.pending) (io_entry q call f.number f.before f.disk.faults s.pending) calls syncs) None
+  failed-end opening seats own q call calls syncs fit is b bad locks starts count sent c = record {
+    fits = λ o x here fits. (failed-at o x sent q call calls syncs fits here c.performed c.same bad locks starts count).fits o x here fits;
+    fixed = (failed-at opening seats own q call calls syncs fit is b.performed b.same bad locks starts count).fixed;
+    grown = (failed-at opening seats own q call calls syncs fit is b.performed b.same bad locks starts count).grown;
+  }
+
+-- THE STATE WITH THE ENTRY, once the file was released and the entry added.
+pub ended : (s u v w : KernelState) (new : World) (seat p : ℕ) (call : Call) (reply : Reply) → u ≡ after_step s new s.pending → v ≡ record u { calls = calls_without seat (part_file call) u.calls }
+    → w ≡ with_next_entry v (record { process = p; call = call; reply = reply; cleared = v.pending })
+    → w ≡ with_entry_made (after_step s new s.pending) (record { process = p; call = call; reply = reply; cleared = s.pending }) (calls_without seat (part_file call) s.calls) (slice_set s.syncs (p - 1) None)
+ended s u v w new seat p call reply at_u at_v at_w =
+    at_w ∙ ap (λ (x : KernelState). with_next_entry x (record { process = p; call = call; reply = reply; cleared = x.pending })) (at_v ∙ ap (λ (x : KernelState). record x { calls = calls_without seat (part_file call) x.calls }) at_u)
+
+pub added : (s w : KernelState) (new : World) (e : Entry) (calls syncs : List (Option ℕ)) → w ≡ with_entry_made (after_step s new s.pending) e calls syncs → LocksAfter e s.calls calls → StartsAfter e s.syncs syncs → AddsEntry s w e
+added s w new e calls syncs is locks starts = subst (λ (x : KernelState). AddsEntry s x e) (sym is) (record { history = refl; pending = refl; locks = locks; starts = starts })
+
+-- a process's seat
+pub own-seat : (F : Flat) (H : List Entry) (entries : List ℕ) (seat : ℕ) (of : Caller) → CallerFits F H entries seat of → of.0 ≡ suc seat
+own-seat F H entries seat of c = by_process of.0 c.own c.room
+  where
+    by_process : (p : ℕ) → seat_of p ≡ seat → length (entries_of H p) < room_of entries p → p ≡ suc seat
+    by_process zero own room = absurd (let z : length (entries_of H 0) < 0 = room in omega (arith, z))
+    by_process (suc q) own room = ap suc own

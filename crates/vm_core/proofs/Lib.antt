@@ -1,0 +1,14 @@
+pub mod Records
+pub mod Fills
+pub mod Pushes
+pub mod OnePush
+pub mod Finishes
+pub mod Ledgers
+pub mod Tops
+pub mod Landings
+pub mod Starts
+pub mod Departures
+pub mod Served
+pub mod Uses
+pub mod Looks
+pub mod Hands

@@ -1,0 +1,250 @@
+-- Pages of files that are pushed: one after another, one that isn't modified, and one push.
+use Rattle.std.proofs.Common.{◌≡◌, ◌⊎◌, ℕ, ◌≤◌, ◌-◌, ◌*◌, ◌==◌, min, Bool, true, false, cond, List, [], Option, Some, None, Result, Ok, Err, refl, sym, ap, ◌∙◌, inl, inr, subst, arith}
+use Rattle.std.specs.Prelude.{OnOk, IsTrue, IsSome, is_some, is_none, not, nat_lt, unwrap_or, slice_index_or}
+use Rattle.std.proofs.lemmas.Bool.{lt-ltb}
+use Rattle.block_device.specs.DiskSeen.{DiskSeen}
+use Rattle.block_device.specs.declared.disk_fault.DiskFault.{DiskFault}
+use Rattle.core_arena.specs.Bytes.{bytes_at, zeros}
+use Rattle.page_hash.specs.Names.{find}
+use Rattle.page_hash.specs.declared.PageName.{PageName}
+use Rattle.page_hash.proofs.NameLaws.{find-at}
+use Rattle.page_lock.specs.Rows.{row_at}
+use Rattle.page_store.specs.Bays.{BaySeen, missing, home, out, bay_at, block_of, disk_in}
+use Rattle.page_store.specs.Bytes.{clipped}
+use Rattle.page_store.specs.Layout.{page_place}
+use Rattle.page_store.specs.Notes.{Note, Notes, no_notes}
+use Rattle.page_store.specs.Seen.{StoreSeen, IsSoundStore, IsListedFrame, residence}
+use Rattle.page_store.specs.Steps.{home_bytes}
+use Rattle.page_store.specs.Value.{value, value_in, stored, tells, content_of, content_in_bay, held, note_of_holder}
+use Rattle.page_store.specs.Table.{Table}
+use Rattle.page_store.specs.declared.place.Place.{Place}
+use Rattle.page_store.specs.declared.residence.Residence.TheVariants.{Home}
+use Rattle.page_store.proofs.QueryLemmas.{home-is, found-within, residence-home}
+use Rattle.page_store.proofs.FrameLaws.{some-or-none}
+use Rattle.anon_slots.specs.Slots.{is_used, count_at}
+use Rattle.vnode_files.specs.Files.{FilesSeen, vnode_at}
+use Rattle.vnode_files.specs.Layout.{disk_of_file, block_of_page}
+use Rattle.vnode_files.specs.Vnode.{is_blank}
+use Rattle.flat_model.specs.Words.{Page, pages_in}
+use Rattle.vm_world.specs.FramesFit.{FilesFit}
+use Rattle.vm_world.specs.MemoryFits.{MemoryFits}
+use Rattle.vm_world.specs.NotesFit.{NotesFit}
+use Rattle.vm_world.specs.Pages.{page_value}
+use Rattle.vm_world.specs.Segments.{Spaces}
+use Rattle.vm_world.specs.TranslationsFit.{IsModified}
+use Rattle.vm_world.specs.World.{World, StoreCore, world_table, file_blocks, is_page_name, page_exists, is_unpushed, AllTell}
+use Rattle.vm_world.specs.WorldSteps.{KeepsTables}
+use Rattle.vm_world.proofs.Clips.{clipped-twice}
+use Rattle.vm_world.proofs.FrameRule.{memory_of}
+use Rattle.vm_world.proofs.PageNames.{not-slot, file-apart, file-page, file-place}
+use Rattle.seg_ops.specs.Steps.{KeepsPages, IsUnwritten}
+use Rattle.seg_ops.proofs.Evictions.{clean-page, not-modified}
+use Rattle.seg_ops.proofs.StillSteps.{value-is}
+use Rattle.vm_core.specs.Finish.{IsFilePage, bytes_of_page, KeepRecords}
+use Rattle.vm_core.specs.Closing.{KeepsBay, PushesPages, IsStored, StoresPages, IsFaultOfBays, stored_on}
+use Rattle.vm_core.proofs.Records.{page-kept, bytes-kept, keeps-disk-refl, keeps-disk-then}
+use Rattle.vm_core.proofs.Fills.{kept-page}
+
+pub records-of : (u v : World) → KeepsTables u v → KeepRecords u.files v.files
+records-of u v t = record { disks = t.disks; infos = t.infos }
+
+home-inj : (d e : DiskSeen) → home d ≡ home e → d ≡ e
+home-inj d e h = cc
+
+-- BAYS whose disks stay
+pub bay-refl : (F : FilesSeen) (number : ℕ) (b : BaySeen) → KeepsBay F number b b
+bay-refl F number missing = refl
+bay-refl F number (home d) = (d, refl, keeps-disk-refl F (number, d))
+bay-refl F number (out seat) = refl
+
+bay-then : (F G : FilesSeen) (number : ℕ) (a b c : BaySeen) → KeepRecords F G → KeepsBay F number a b → KeepsBay G number b c → KeepsBay F number a c
+bay-then F G number missing b c k p q = subst (λ (x : BaySeen). KeepsBay G number x c) p q
+bay-then F G number (home d) b c k p q =
+    let more = subst (λ (x : BaySeen). KeepsBay G number x c) p.1 q in
+    (more.0, more.1, keeps-disk-then F G (number, d) (number, p.0) (number, more.0) k p.2 more.2)
+bay-then F G number (out seat) b c k p q = subst (λ (x : BaySeen). KeepsBay G number x c) p q
+
+-- ONE AFTER ANOTHER
+pub pushes-refl : (w : World) (spaces : Spaces) → MemoryFits (memory_of w spaces) → NotesFit w no_notes → PushesPages w w spaces
+pushes-refl w spaces fits nf = record {
+  tables = record { maps = refl; counts = refl; reserved = refl; disks = refl; infos = refl };
+  order = refl;
+  swap = refl;
+  disks = λ number. bay-refl w.files number (bay_at w.store.bays number);
+  memory = fits;
+  notes = nf;
+  tells = λ tell. tell;
+  values = λ tell name page. refl;
+}
+
+pub pushes-then : (u v w : World) (spaces : Spaces) → PushesPages u v spaces → PushesPages v w spaces → PushesPages u w spaces
+pushes-then u v w spaces p q = record {
+  tables = record {
+    maps = q.tables.maps ∙ p.tables.maps;
+    counts = q.tables.counts ∙ p.tables.counts;
+    reserved = q.tables.reserved ∙ p.tables.reserved;
+    disks = q.tables.disks ∙ p.tables.disks;
+    infos = q.tables.infos ∙ p.tables.infos;
+  };
+  order = q.order ∙ p.order;
+  swap = q.swap ∙ p.swap;
+  disks = λ number. bay-then u.files v.files number (bay_at u.store.bays number) (bay_at v.store.bays number) (bay_at w.store.bays number) (records-of u v p.tables) (p.disks number) (q.disks number);
+  memory = q.memory;
+  notes = q.notes;
+  tells = λ tell. q.tells (p.tells tell);
+  values = λ tell name page.
+      let k = records-of u v p.tables in
+      subst (λ (n : ℕ). clipped n (page_value w no_notes name) ≡ clipped n (page_value v no_notes name)) (bytes-kept u.files v.files k name)
+      (q.values (p.tells tell) name (page-kept u.files v.files k name page)) ∙ p.values tell name page;
+}
+
+pub stores-then : (u v w : World) (spaces : Spaces) (P Q R : PageName → Type 0) → PushesPages u v spaces → StoresPages u v P → StoresPages v w Q → ((n : PageName) → IsFilePage u.files n → R n → P n ⊎ Q n) → StoresPages u w R
+stores-then u v w spaces P Q R p first second split tell name page or =
+    let on = second (p.tells tell) name (page-kept u.files v.files (records-of u v p.tables) name page) in
+    elim or [
+      | inl was ↦ on (inl (first tell name page (inl was)))
+      | inr is ↦ elim (split name page is) [ inl a ↦ on (inl (first tell name page (inr a))) | inr b ↦ on (inr b) ]
+    ]
+
+pub stores-none : (u : World) (P : PageName → Type 0) → ((n : PageName) → P n → ⊥) → StoresPages u u P
+stores-none u P none tell name page or = elim or [ inl was ↦ was | inr is ↦ absurd (none name is) ]
+
+-- the fault of a later push
+was-home : (F : FilesSeen) (number : ℕ) (a : BaySeen) (d : DiskSeen) → KeepsBay F number a (home d) → (e : DiskSeen) × (a ≡ home e) × (e.faults ≤ d.faults)
+was-home F number missing d k = absurd (cc)
+was-home F number (home e) d k = let same : k.0 ≡ d = home-inj k.0 d (sym k.1) in (e, refl, subst (λ (x : DiskSeen). e.faults ≤ x.faults) same k.2.faults)
+was-home F number (out seat) d k = absurd (cc)
+
+pub fault-later : (u v w : World) (spaces : Spaces) (fault : DiskFault) → PushesPages u v spaces → IsFaultOfBays v.store.bays w.store.bays fault → IsFaultOfBays u.store.bays w.store.bays fault
+fault-later u v w spaces fault p f =
+    let was = was-home u.files fault.disk (bay_at u.store.bays fault.disk) f.before (subst (KeepsBay u.files fault.disk (bay_at u.store.bays fault.disk)) f.was (p.disks fault.disk)) in
+    record {
+      before = was.0;
+      after = f.after;
+      low = f.low;
+      was = was.1;
+      is = f.is;
+      since = record { disk = f.since.disk; since = let a = was.2 in let b = f.since.since in omega (arith, a, b); after = f.since.after };
+    }
+
+-- WHERE A PAGE OF A FILE LIVES
+module _ (w : World) (name : PageName) (fit : FilesFit w.files) (p : IsFilePage w.files name) where
+  pub no-slot : (name.object == 64) ≡ false
+  no-slot = not-slot name.object (file-apart w.files name.object fit p.file)
+
+  pub page-exists : IsTrue (page_exists w.files w.anon name)
+  page-exists = ap (λ (b : Bool). cond b (is_used (count_at w.anon name.page)) (nat_lt name.page (pages_in (vnode_at w.files name.object).info.length))) no-slot ∙ lt-ltb name.page (pages_in (vnode_at w.files name.object).info.length) p.below
+
+  pub page-is : IsTrue (is_page_name w.files w.anon name)
+  page-is = file-page w.files w.anon name.object name.page (file-apart w.files name.object fit p.file) (kept-page w.files name fit p)
+
+  pub place-is : world_table w name ≡ page_place (file_blocks (vnode_at w.files name.object)) name.page (is_unpushed w.files w.anon name) (block_of_page w.files name.object name.page)
+  place-is = file-place w.files w.anon name.object name.page p.file (kept-page w.files name fit p)
+
+  pub valid-is : (world_table w name).valid ≡ bytes_of_page w.files name
+  valid-is = let e : min ((vnode_at w.files name.object).info.length - name.page * 4096) 4096 ≡ bytes_of_page w.files name = omega arith in ap (λ (x : Place). x.valid) place-is ∙ e
+
+  content-in : (b : BaySeen) → content_in_bay b no_notes ≡ (disk_in b).content
+  content-in missing = refl
+  content-in (home d) = refl
+  content-in (out seat) = refl
+
+  -- what its place has
+  pub stored-is : stored w.store no_notes (world_table w name) ≡ stored_on w.files (disk_in (bay_at w.store.bays (disk_of_file w.files name.object))) name
+  stored-is =
+      let e : min ((vnode_at w.files name.object).info.length - name.page * 4096) 4096 ≡ bytes_of_page w.files name = omega arith in
+      ap (stored w.store no_notes) place-is
+      ∙ ap (λ (b : Bool). cond (cond b (not (slice_index_or w.anon.swapped name.page false)) (is_blank (vnode_at w.files name.object) name.page)) zeros
+      (clipped (min ((vnode_at w.files name.object).info.length - name.page * 4096) 4096) (block_of (content_of w.store no_notes (disk_of_file w.files name.object)) (block_of_page w.files name.object name.page)))) no-slot
+      ∙ ap (λ (v : ℕ). cond (is_blank (vnode_at w.files name.object) name.page) zeros (clipped v (block_of (content_of w.store no_notes (disk_of_file w.files name.object)) (block_of_page w.files name.object name.page)))) e
+      ∙ ap (λ (o : Option (List (List ℕ))). cond (is_blank (vnode_at w.files name.object) name.page) zeros (clipped (bytes_of_page w.files name) (block_of o (block_of_page w.files name.object name.page)))) (content-in (bay_at w.store.bays (disk_of_file w.files name.object)))
+
+-- the page of a home frame has its bytes
+pub value-home : (s : StoreSeen) (notes : Notes) (table : Table) (name : PageName) (frame : ℕ) → residence s name ≡ Home frame → value s notes table name ≡ home_bytes s (find s.names name)
+value-home s notes table name frame here =
+    let at = home-is s name frame here in
+    ap (λ (o : Option ℕ). value_in o s notes (table name)) at.found ∙ ap (λ (o : Option (List ℕ)). held o (note_of_holder (row_at s.rows frame).holder notes) (stored s notes (table name))) at.there
+    ∙ sym (ap (home_bytes s) at.found ∙ ap (λ (o : Option (List ℕ)). unwrap_or o []) at.there)
+
+-- A PAGE THAT ISN'T MODIFIED is stored, where no seat has anything outside.
+pub unmodified-stored : (w : World) (spaces : Spaces) (name : PageName) → MemoryFits (memory_of w spaces) → NotesFit w no_notes → IsFilePage w.files name
+    → ((frame : ℕ) → residence w.store name ≡ Home frame → ¬ IsModified w.store w.hat.places frame) → AllTell w no_notes → IsStored w name
+unmodified-stored w spaces name fits nf p clear tell =
+    ap (clipped (bytes_of_page w.files name)) (sym (stored-is w name fits.files p)) ∙ by_find (find w.store.names name) refl ∙ sym (ap (clipped (bytes_of_page w.files name)) (value-is w no_notes name (page-is w name fits.files p)))
+  where
+    sound : IsSoundStore w.store
+    sound = fits.frames.sound
+
+    by_bytes : (frame : ℕ) (o : Option (List ℕ)) → find w.store.names name ≡ Some frame → bytes_at w.store.frames frame ≡ o
+        → clipped (bytes_of_page w.files name) (stored w.store no_notes (world_table w name)) ≡ clipped (bytes_of_page w.files name) (held o (note_of_holder (row_at w.store.rows frame).holder no_notes) (stored w.store no_notes (world_table w name)))
+    by_bytes frame (Some bytes) found there =
+        let named = find-at w.store.names name frame found in
+        let some : IsSome (bytes_at w.store.frames frame) = ap is_some there in
+        let clean = clean-page w no_notes frame name nf (clear frame (residence-home w.store name frame sound.distinct named some)) named some in
+        let whole = (sound.each frame (found-within w.store name frame sound found)).size bytes there in
+        let low : bytes_of_page w.files name ≤ 4096 = omega arith in
+        ap (clipped (bytes_of_page w.files name)) (sym (clean.same (tell name (page-is w name fits.files p)) bytes there))
+        ∙ ap (λ (v : ℕ). clipped (bytes_of_page w.files name) (clipped v bytes)) (valid-is w name fits.files p) ∙ clipped-twice (bytes_of_page w.files name) bytes low whole
+    by_bytes frame None found there = elim (some-or-none (row_at w.store.rows frame).holder) [
+      | inl none ↦ absurd (let z : true ≡ false = sym (ap is_none there) ∙ (sound.each frame (found-within w.store name frame sound found)).away ∙ ap is_some none in cc)
+      | inr held_by ↦ let out = nf.stored.each_frame frame held_by.0 held_by.1 in let z : ◌≡◌ {A = Option Note} None (Some out.0) = out.1 in absurd (cc)
+    ]
+
+    by_find : (o : Option ℕ) → find w.store.names name ≡ o → clipped (bytes_of_page w.files name) (stored w.store no_notes (world_table w name)) ≡ clipped (bytes_of_page w.files name) (value_in o w.store no_notes (world_table w name))
+    by_find None e = refl
+    by_find (Some frame) e = by_bytes frame (bytes_at w.store.frames frame) e refl
+
+-- A STEP THAT KEEPS ALL PAGES, and the files
+pub calm-pushes : (u v : World) (spaces : Spaces) → MemoryFits (memory_of u spaces) → NotesFit u no_notes → KeepsPages u v spaces → PushesPages u v spaces
+calm-pushes u v spaces fits nf step = record {
+  tables = step.tables;
+  order = ap (λ (k : StoreCore). k.order) step.core;
+  swap = ap (λ (l : List BaySeen). bay_at l 8) step.bays;
+  disks = λ number. subst (λ (l : List BaySeen). KeepsBay u.files number (bay_at u.store.bays number) (bay_at l number)) (sym step.bays) (bay-refl u.files number (bay_at u.store.bays number));
+  memory = step.memory;
+  notes = step.notes no_notes tt nf;
+  tells = (step.tells no_notes tt nf).0;
+  values = λ tell name page. ap (clipped (bytes_of_page u.files name)) (step.pages no_notes name tt nf tell (page-exists u name fits.files page));
+}
+
+abbrev stored-with : (name : PageName) (F : FilesSeen) (l : List BaySeen) (page : Page) → Type 0
+stored-with name F l page = clipped (bytes_of_page F name) (stored_on F (disk_in (bay_at l (disk_of_file F name.object))) name) ≡ clipped (bytes_of_page F name) page
+
+pub calm-stores : (u v : World) (spaces : Spaces) (P : PageName → Type 0) → MemoryFits (memory_of u spaces) → NotesFit u no_notes → KeepsPages u v spaces → v.files ≡ u.files
+    → ((name : PageName) → IsFilePage u.files name → AllTell u no_notes → P name → IsStored v name) → StoresPages u v P
+calm-stores u v spaces P fits nf step files these tell name page or = elim or [
+  | inl was ↦
+      let value = step.pages no_notes name tt nf tell (page-exists u name fits.files page) in
+      subst (λ (F : FilesSeen). stored-with name F v.store.bays (page_value v no_notes name)) (sym files)
+      (subst (λ (l : List BaySeen). stored-with name u.files l (page_value v no_notes name)) (sym step.bays) (subst (stored-with name u.files u.store.bays) (sym value) was))
+  | inr is ↦ these name page tell is
+]
+
+-- a page that is looked at: left where it isn't modified, or its bits are gathered
+pub skips-page : (u : World) (spaces : Spaces) (name : PageName) (P : PageName → Type 0) → MemoryFits (memory_of u spaces) → NotesFit u no_notes → IsFilePage u.files name
+    → ((frame : ℕ) → residence u.store name ≡ Home frame → ¬ IsModified u.store u.hat.places frame) → ((n : PageName) → P n → n ≡ name) → StoresPages u u P
+skips-page u spaces name P fits nf p clear one tell n page or = elim or [ inl was ↦ was | inr is ↦ subst (IsStored u) (sym (one n is)) (unmodified-stored u spaces name fits nf p clear tell) ]
+
+pub listed-clear : (w : World) (spaces : Spaces) (frame : ℕ) → MemoryFits (memory_of w spaces) → IsListedFrame w.store frame → ¬ IsModified w.store w.hat.places frame
+listed-clear w spaces frame fits listed =
+    not-modified w.store w.hat.places frame (fits.frames.unmodified frame listed)
+    (λ place t there leads. absurd ((fits.translations place t there).unlisted (subst (IsListedFrame w.store) (sym leads) listed)))
+
+one-home : (f g : ℕ) → Home f ≡ Home g → f ≡ g
+one-home f g e = cc
+
+pub clear-of : (w : World) (name : PageName) (frame : ℕ) → residence w.store name ≡ Home frame → ¬ IsModified w.store w.hat.places frame → (g : ℕ) → residence w.store name ≡ Home g → ¬ IsModified w.store w.hat.places g
+clear-of w name frame here clear g there = subst (λ (k : ℕ). ¬ IsModified w.store w.hat.places k) (one-home frame g (sym here ∙ there)) clear
+
+pub gathers-page : (u v : World) (spaces : Spaces) (name : PageName) (frame : ℕ) (modified : Bool) → MemoryFits (memory_of u spaces) → NotesFit u no_notes → IsFilePage u.files name → KeepsPages u v spaces → v.files ≡ u.files
+    → residence v.store name ≡ Home frame → modified ≡ (row_at v.store.rows frame).modified → IsUnwritten v.hat.places frame → StoresPages u v (λ (n : PageName). (n ≡ name) × (modified ≡ false))
+gathers-page u v spaces name frame modified fits nf p step files here bit unwritten =
+    let q = calm-pushes u v spaces fits nf step in
+    calm-stores u v spaces (λ (n : PageName). (n ≡ name) × (modified ≡ false)) fits nf step files
+    (λ n page tell is. subst (IsStored v) (sym is.0)
+    (unmodified-stored v spaces name q.memory q.notes (page-kept u.files v.files (records-of u v q.tables) name p)
+    (clear-of v name frame here (not-modified v.store v.hat.places frame (sym bit ∙ is.1) unwritten)) (q.tells tell)))
+
+pub ok-more : {T E : Type 0} (r : Result T E) (P Q : Type 0) → (P → Q) → OnOk r P → OnOk r Q
+ok-more (Ok x) P Q more h = more h
+ok-more (Err e) P Q more h = tt

@@ -1,0 +1,287 @@
+-- A call that is served becomes an event.
+use Rattle.std.proofs.Common.{◌≡◌, ◌≢◌, ℕ, zero, suc, ◌+◌, ◌-◌, ◌<◌, ◌≤◌, ◌==◌, ◌||◌, Bool, true, false, cond, List, [], ◌∷◌, ◌++◌, length, Option, Some, None, refl, sym, ap, ◌∙◌, inl, inr, subst, arith, get_or-set_same, get_or-set_other, length-set}
+use Rattle.std.specs.Prelude.{Result, Ok, Err, IfOk, OnErr, ◌↔◌, ◌⊎◌, filter, is_none, slice_index_or, slice_set, IsTrue, IsFalse, IsSome, IsSomeAnd, MatchOption, MatchBool}
+use Rattle.std.proofs.lemmas.Bool.{cases_eq}
+use Rattle.std.proofs.lemmas.Bool.Decides.{eqb_tells}
+use Rattle.core_arena.specs.Bytes.{bytes_at}
+use Rattle.flat_model.specs.Births.{is_birth, is_done, is_fork_of}
+use Rattle.flat_model.specs.Flat.{Flat}
+use Rattle.flat_model.specs.History.{is_io}
+use Rattle.flat_model.specs.OpenLaws.{last_entry, IsOpenPart, FollowsOn, MayFollow}
+use Rattle.flat_model.specs.Told.{entries_of}
+use Rattle.page_store.specs.Away.{is_disk}
+use Rattle.page_store.specs.Bays.{BaySeen}
+use Rattle.page_store.specs.Notes.{Notes}
+use Rattle.page_store.specs.Seen.{StoreSeen, IsSoundStore}
+use Rattle.page_store.specs.StoreFits.{StoreFits}
+use Rattle.page_store.specs.Table.{Table}
+use Rattle.page_store.specs.declared.plan.Hold.{Hold}
+use Rattle.page_store.specs.declared.plan.Hold.TheVariants as hold
+use Rattle.page_store.specs.declared.plan.Plan.{Plan}
+use Rattle.page_store.proofs.AwayLemmas.{away_law}
+use Rattle.vm_types.specs.Parts.{part_file, file_of_call}
+use Rattle.vm_types.specs.WellFormed.{IsWellFormed}
+use Rattle.vm_types.specs.declared.call.Call.{Call}
+use Rattle.vm_types.specs.declared.call.Call.TheVariants.{Load, Store, Map, Exit, Fork}
+use Rattle.vm_types.specs.declared.call.Kind.{Kind}
+use Rattle.vm_types.specs.declared.call.Kind.TheVariants.{Shared}
+use Rattle.vm_types.specs.declared.call.Object.{Object}
+use Rattle.vm_types.specs.declared.call.Object.TheVariants as object
+use Rattle.vm_types.specs.declared.call.Place.{Place}
+use Rattle.vm_types.specs.declared.call.Place.TheVariants.{At}
+use Rattle.vm_types.specs.declared.prot.Prot.{Prot}
+use Rattle.vm_types.specs.declared.call.Entry.{Entry}
+use Rattle.vm_types.specs.declared.call.Reply.{Reply}
+use Rattle.vm_types.specs.declared.call.Reply.TheVariants as reply
+use Rattle.vm_world.specs.CallSteps.{StaysAlive}
+use Rattle.vm_world.specs.EntryLaws.{LocksAfter, StartsAfter, MayUseFile}
+use Rattle.vm_world.specs.Events.{IsEvent, CanTry}
+use Rattle.vm_world.specs.Failures.{with_entry_made}
+use Rattle.vm_world.specs.FlatMemory.{Memory}
+use Rattle.vm_world.specs.HistoryFits.{CallsFit}
+use Rattle.vm_world.specs.MemoryFits.{MemoryFits}
+use Rattle.vm_world.specs.Segments.{Spaces, Spot, spot_at}
+use Rattle.vm_world.specs.Serving.{ServesDone, ServesNeed, ServesBusy}
+use Rattle.vm_world.specs.ServingLaws.{done_entry, after_need, after_wait, IsOfAnother, MayAnswer}
+use Rattle.vm_world.specs.SpaceSteps.{OnlyFiles, IsFileMapping}
+use Rattle.vm_world.specs.State.{KernelState, Seats, seat_of, room_of}
+use Rattle.vm_world.specs.StateFits.{StateFits}
+use Rattle.vm_world.specs.Wants.{HoldsUp}
+use Rattle.vm_world.specs.World.{World}
+use Rattle.vm_world.proofs.NextParts.{next-file}
+use Rattle.vm_world.proofs.Servings.{serving_law}
+use Rattle.vm_world.proofs.Spots.{spot-part}
+use Rattle.mmap_calls.specs.FileMaps as maps
+use Rattle.proc_calls.specs.Ends as procs
+use Rattle.fault_entry.specs.Accesses.{MayBeAnswered}
+use Rattle.seg_vn.specs.Faults.{IsFilePlace}
+use Rattle.seg_vn.specs.Serves.{Serves, IsPlainReply}
+use Rattle.vm_core.specs.Calls.{IsServed, IsDone, IsNeeded, IsBusy, IsOwnReply, AnswersCall, with_memory, concluded}
+use Rattle.vm_core.specs.State.{IsKept}
+use Rattle.seg_vn.specs.declared.attempt.Attempt.{Attempt}
+use Rattle.seg_vn.specs.declared.attempt.Attempt.TheVariants.{Done, Need, Busy}
+
+-- THE CALLS THAT ARE SERVED are of no file and bear nobody.
+pub record IsOfNoFile (call : Call) : Type 0 where
+  pub file : file_of_call call ≡ None
+  pub part : part_file call ≡ None
+  pub plain : (child : ℕ) → call ≢ Fork child
+  pub bears : (q p cleared : ℕ) (reply : Reply) → is_birth q (done_entry p call reply cleared) ≡ false
+
+either : (b : Bool) → cond b false false ≡ false
+either true = refl
+either false = refl
+
+pub served-is : (call : Call) → IsServed call → IsOfNoFile call
+served-is (Load a n) h = record { file = refl; part = refl; plain = λ child e. let z : Load a n ≡ Fork child = e in cc; bears = λ q p cleared reply. either (is_done reply) }
+served-is (Store a n v) h = record { file = refl; part = refl; plain = λ child e. let z : Store a n v ≡ Fork child = e in cc; bears = λ q p cleared reply. either (is_done reply) }
+served-is (Map place len prot kind obj offset) h = record { file = refl; part = refl; plain = λ child e. let z : Map place len prot kind obj offset ≡ Fork child = e in cc; bears = λ q p cleared r. either (is_done r) }
+served-is Exit h = record { file = refl; part = refl; plain = λ child e. let z : Exit ≡ Fork child = e in cc; bears = λ q p cleared r. either (is_done r) }
+served-is call h = absurd h
+
+pub map-served : (place : Place) (len : ℕ) (prot : Prot) (kind : Kind) (obj : Object) (offset : ℕ) → IsServed (Map place len prot kind obj offset) → maps.IsServedMap (Map place len prot kind obj offset)
+map-served (At a) len prot Shared (object.File f) offset h = tt
+map-served place len prot kind obj offset h = absurd h
+
+-- No lock of a file is the seat's, before and after such a call.
+pub locks-same : (H : List Entry) (calls syncs : List (Option ℕ)) (seat p cleared : ℕ) (call : Call) (reply : Reply) → CallsFit H calls syncs → p ≡ suc seat → MayFollow H (done_entry p call reply cleared) → part_file call ≡ None
+    → LocksAfter (done_entry p call reply cleared) calls calls
+locks-same H calls syncs seat p cleared call reply fit is follows none f t = by_seat (p == suc t) refl
+  where
+    of-last : (o : Option Entry) → IsSomeAnd o (IsOpenPart f) → MatchOption o (Unit {0}) (λ d. FollowsOn d (done_entry p call reply cleared)) → part_file call ≡ Some f
+    of-last None here next = absurd here
+    of-last (Some d) here (inl ended) = absurd (let z : true ≡ false = sym ended ∙ here.1 in cc)
+    of-last (Some d) here (inr next) = next-file d.call d.reply next.0 call next.1 ∙ here.0
+
+    by_seat : (b : Bool) → (p == suc t) ≡ b → (slice_index_or calls f None ≡ Some t) ↔ MatchBool b (IsOpenPart f (done_entry p call reply cleared)) (slice_index_or calls f None ≡ Some t)
+    by_seat true own = (
+      (λ h. absurd (
+          let mine : t ≡ seat = elim (eqb_tells p (suc t)) [ inl y ↦ (let z : suc t ≡ suc seat = sym y.1 ∙ is in omega (arith, z)) | inr n ↦ absurd (let z : true ≡ false = sym own ∙ n.0 in cc) ] in
+          let still : IsSomeAnd (last_entry p H) (IsOpenPart f) = subst (λ (q : ℕ). IsSomeAnd (last_entry q H) (IsOpenPart f)) (sym is) ((fit.files f seat).0 (h ∙ ap (λ (k : ℕ). Some k) mine)) in
+          let z : ◌≡◌ {A = Option ℕ} None (Some f) = sym none ∙ of-last (last_entry p H) still follows in cc)),
+      (λ h. absurd (let z : ◌≡◌ {A = Option ℕ} None (Some f) = sym none ∙ h.0 in cc)),
+    )
+    by_seat false other = ((λ h. h), (λ h. h))
+
+pub starts-dropped : (syncs : List (Option ℕ)) (seat : ℕ) (e : Entry) → e.process ≡ suc seat → seat < length syncs → ((q : ℕ) → is_birth q e ≡ false) → StartsAfter e syncs (slice_set syncs seat None)
+starts-dropped syncs seat e is lt bears t b has = elim (cases_eq t seat) [
+  | inl same ↦ absurd (let z : ◌≡◌ {A = Option ℕ} None (Some b) = sym (ap (λ (k : ℕ). slice_index_or (slice_set syncs seat None) k None) same ∙ get_or-set_same syncs seat None None lt) ∙ has in cc)
+  | inr ne ↦ (
+    elim (eqb_tells e.process (suc t)) [ inl y ↦ absurd (ne (let z : suc t ≡ suc seat = sym y.1 ∙ is in omega (arith, z))) | inr n ↦ ap (λ (x : Bool). x || is_birth (suc t) e) n.0 ∙ bears (suc t) ],
+    sym (get_or-set_other syncs seat t None None ne) ∙ has,
+  )
+]
+
+-- A process's seat.
+pub seat-is : (s : KernelState) (seat p : ℕ) (call : Call) → CanTry s seat p call → p ≡ suc seat
+seat-is s seat p call try = by_process p try.own try.room
+  where
+    by_process : (p : ℕ) → seat_of p ≡ seat → length (entries_of s.history p) < room_of s.entries p → p ≡ suc seat
+    by_process zero own room = absurd (let z : length (entries_of s.history 0) < 0 = room in omega (arith, z))
+    by_process (suc q) own room = ap suc own
+
+-- DONE.
+module _ (opening : Flat) (s : KernelState) (seats : Seats) (fit : StateFits opening s seats) (m : Memory) (seat p more : ℕ) (call : Call) (of : IsOfNoFile call) (try : CanTry s seat p call) where
+  abbrev pub made : Reply → KernelState
+  made reply = with_entry_made (record s { memory = m }) (done_entry p call reply more) s.calls (slice_set s.syncs seat None)
+
+  locks : (reply : Reply) → LocksAfter (done_entry p call reply more) s.calls s.calls
+  locks reply = locks-same s.history s.calls s.syncs seat p more call reply fit.calls (seat-is s seat p call try) (try.follows reply more) of.part
+
+  starts : (reply : Reply) → seat < length s.syncs → StartsAfter (done_entry p call reply more) s.syncs (slice_set s.syncs seat None)
+  starts reply lt = starts-dropped s.syncs seat (done_entry p call reply more) (seat-is s seat p call try) lt (λ q. of.bears q p more reply)
+
+  pub done-event : (reply : Reply) → IsWellFormed call → ServesDone s.memory m s.pending more p call reply → StaysAlive m p call → IsOwnReply (Done reply) → seat < length s.syncs → IsEvent seat s None (made reply) None
+  done-event reply formed serves alive own lt = serving_law.done s m seat p more call reply s.calls (slice_set s.syncs seat None) try serves alive (record {
+    formed = formed;
+    plain = of.plain;
+    own = own.0;
+    sync = λ b is. absurd (own.1 b is);
+    file = λ f t is. absurd (let z : ◌≡◌ {A = Option ℕ} None (Some f) = sym of.file ∙ is in cc);
+  }) (locks reply) (starts reply lt) (length-set s.syncs seat None)
+
+  pub done-answer : (reply : Reply) → ServesDone s.memory m s.pending more p call reply → IsOwnReply (Done reply) → seat < length s.syncs → IsDone s (made reply) p call reply
+  done-answer reply serves own lt = record {
+    mid = serves.mid;
+    cleared = more;
+    takes = serves.first;
+    adds = record { history = refl; pending = refl; locks = locks reply; starts = starts reply lt };
+    no_error = own.0;
+    plan = refl;
+  }
+
+  -- A TRANSFER IS NEEDED.
+  pub need-event : (plan : Plan) → ServesNeed s.memory m s.pending more p call plan → IsEvent seat s None (after_need s m more seat p call plan) None
+  need-event plan serves = serving_law.need s m seat p more call plan try serves
+
+  pub need-answer : (plan : Plan) → ServesNeed s.memory m s.pending more p call plan → IsNeeded s (after_need s m more seat p call plan) seat p call plan
+  need-answer plan serves = record {
+    kept = refl;
+    may = serves.runs.may;
+    wanted = serves.wanted;
+    modified = serves.modified;
+    takes = serves.first;
+    spaces = serves.spaces;
+    none = record { history = refl; calls = refl; syncs = refl };
+  }
+
+  -- SOMEBODY IS WAITED FOR.
+  no-file : (h : Hold) → HoldsUp m s.calls p call h → IsOfAnother seat h
+  no-file (hold.Page t) cause = tt
+  no-file (hold.Disk t) cause = tt
+  no-file (hold.File t) cause = absurd (let z : ◌≡◌ {A = Option ℕ} None (Some cause.0) = sym of.file ∙ cause.1 in cc)
+
+  pub wait-event : (h : Hold) → ServesBusy s.memory m s.pending more s.calls p call h → IsEvent seat s None (after_wait s m more) None
+  wait-event h serves = serving_law.busy s m seat p more call h serves
+
+  pub wait-answer : (h : Hold) → seats seat ≡ None → ServesBusy s.memory m s.pending more s.calls p call h → IsBusy s (after_wait s m more) p call h
+  wait-answer h idle serves = record {
+    holds = serving_law.another opening s seats m seat p more call h fit idle try serves (no-file h serves.holds);
+    plan = refl;
+    takes = serves.first;
+    spaces = serves.spaces;
+    none = record { history = refl; calls = refl; syncs = refl };
+  }
+
+-- WHAT IS CONCLUDED of an answer, and that it is an event.
+pub record Concludes (s t : KernelState) (seat p : ℕ) (call : Call) (a : Attempt) : Type 0 where
+  pub answers : AnswersCall s t seat p call a
+  pub event : IsEvent seat s None t None
+
+pub concludes : (opening : Flat) (s : KernelState) (seats : Seats) (m : Memory) (seat p more : ℕ) (call : Call) (a : Attempt) → StateFits opening s seats → seats seat ≡ None → IsOfNoFile call → CanTry s seat p call → IsWellFormed call
+    → Serves s.memory m s.pending more p call a → StaysAlive m p call → IsOwnReply a → ((reply : Reply) → a ≡ Done reply → p ≤ length s.syncs) → Concludes s (concluded (with_memory s m more) seat p call a) seat p call a
+concludes opening s seats m seat p more call (Done reply) fit idle of try formed serves alive own seated =
+    let p_is = seat-is s seat p call try in
+    let low = seated reply refl in
+    let lt : seat < length s.syncs = omega (arith, p_is, low) in
+    let place : p - 1 ≡ seat = omega (arith, p_is) in
+    let same : concluded (with_memory s m more) seat p call (Done reply) ≡ with_entry_made (record s { memory = m }) (done_entry p call reply more) s.calls (slice_set s.syncs seat None) = ap (λ (k : ℕ). with_entry_made (record s { memory = m }) (done_entry p call reply more) s.calls (slice_set s.syncs k None)) place in
+    subst (λ (t : KernelState). Concludes s t seat p call (Done reply)) (sym same) (record {
+      answers = done-answer opening s seats fit m seat p more call of try reply serves own lt;
+      event = done-event opening s seats fit m seat p more call of try reply formed serves alive own lt;
+    })
+concludes opening s seats m seat p more call (Need plan) fit idle of try formed serves alive own seated = record {
+  answers = need-answer opening s seats fit m seat p more call of try plan serves;
+  event = need-event opening s seats fit m seat p more call of try plan serves;
+}
+concludes opening s seats m seat p more call (Busy h) fit idle of try formed serves alive own seated = record {
+  answers = wait-answer opening s seats fit m seat p more call of try h idle (serves s.calls);
+  event = wait-event opening s seats fit m seat p more call of try h (serves s.calls);
+}
+
+-- SOME FRAME IS HOME, whatever is away.
+some-home : (frames : List (Option (List ℕ))) → length (filter is_none frames) < length frames → (frame : ℕ) × IsSome (bytes_at frames frame)
+some-home [] lt = absurd (omega (arith, lt))
+some-home (Some b ∷ frames) lt = (0, refl)
+some-home (None ∷ frames) lt = let r = some-home frames (omega (arith, lt)) in (suc r.0, r.1)
+
+pub home-frame : (store : StoreSeen) (spaces : Spaces) (entries : List ℕ) (seats : ℕ) (notes : Notes) (table : Table) → IsKept store spaces entries seats → IsSoundStore store → StoreFits store notes table → (frame : ℕ) × IsSome (bytes_at store.frames frame)
+home-frame store spaces entries seats notes table k sound fits = let few = away_law.disks store notes table sound fits in let enough = k.frames in some-home store.frames (omega (arith, few, enough))
+
+-- EACH PLACE SHOWS A FILE.
+pub places-files : (w : World) (spaces : Spaces) (p : ℕ) → MemoryFits (record { world = w; spaces = spaces }) → OnlyFiles spaces → (q : ℕ) (x : Spot) → spot_at spaces p q ≡ Some x → IsFilePlace spaces p q x
+places-files w spaces p fits only q x is =
+    let s = spot-part (λ part. IsFileMapping part.piece) spaces p q x fits.segments.ordered only is in
+    let f : IsFileMapping x.0 = subst IsFileMapping s.piece s.fits in
+    record { here = is; shared = f.shared; file = f.file.0; object = f.file.1 }
+
+-- WHAT IS KEPT after a call was served.
+kept-moved : (old new : World) (spaces after : Spaces) (entries : List ℕ) (seats : ℕ) → IsKept old.store spaces entries seats → OnlyFiles after → new.store.bays ≡ old.store.bays → length new.store.frames ≡ length old.store.frames → IsKept new.store after entries seats
+kept-moved old new spaces after entries seats k files bays frames =
+    let disks = ap (λ (b : List BaySeen). length (filter is_disk b)) bays in
+    let was = k.frames in
+    record { frames = omega (arith, disks, frames, was); files = files; seated = k.seated }
+
+pub kept-served : (old new : Memory) (pending more p : ℕ) (call : Call) (a : Attempt) (entries : List ℕ) (seats : ℕ) → IsKept old.world.store old.spaces entries seats → OnlyFiles new.spaces → Serves old new pending more p call a → IsKept new.world.store new.spaces entries seats
+kept-served old new pending more p call (Done reply) entries seats k files s =
+    let m = (s.acts 0).machine in kept-moved old.world new.world old.spaces new.spaces entries seats k files (m.bays ∙ s.first.step.bays) (m.frames ∙ s.first.step.frames)
+kept-served old new pending more p call (Need plan) entries seats k files s = kept-moved old.world new.world old.spaces new.spaces entries seats k files s.first.step.bays s.first.step.frames
+kept-served old new pending more p call (Busy h) entries seats k files s = let b = s [] in kept-moved old.world new.world old.spaces new.spaces entries seats k files b.first.step.bays b.first.step.frames
+
+-- A reply of an access is its own.
+plain-own : (r : Reply) → IsPlainReply r → IsOwnReply (Done r)
+plain-own (reply.Io disk before after) h = absurd h
+plain-own (reply.Synced from) h = absurd h
+plain-own reply.Done h = (refl, λ b e. let z : reply.Done ≡ reply.Synced b = e in cc)
+plain-own (reply.Word n) h = (refl, λ b e. let z : reply.Word n ≡ reply.Synced b = e in cc)
+plain-own (reply.Mapped n) h = (refl, λ b e. let z : reply.Mapped n ≡ reply.Synced b = e in cc)
+plain-own (reply.Bytes l) h = (refl, λ b e. let z : reply.Bytes l ≡ reply.Synced b = e in cc)
+plain-own (reply.Signal x) h = (refl, λ b e. let z : reply.Signal x ≡ reply.Synced b = e in cc)
+plain-own (reply.Refused x) h = (refl, λ b e. let z : reply.Refused x ≡ reply.Synced b = e in cc)
+
+pub own-reply : (m : Memory) (p : ℕ) (call : Call) (a : Attempt) → MayBeAnswered m p call a → IsOwnReply a
+own-reply m p call (Done r) may = plain-own r may
+own-reply m p call (Need plan) may = tt
+own-reply m p call (Busy h) may = tt
+
+pub mapped-own : (a : Attempt) → maps.IsMapDone a → IsOwnReply a
+mapped-own (Done r) may = plain-own r may
+mapped-own (Need plan) may = absurd may
+mapped-own (Busy h) may = absurd may
+
+pub exited-own : (a : Attempt) → procs.IsExitDone a → IsOwnReply a
+exited-own (Done r) may = plain-own r may
+exited-own (Need plan) may = absurd may
+exited-own (Busy h) may = absurd may
+
+-- ANSWERS THAT MAY BE WANT OF MEMORY.
+pub ok-then : {E : Type 0} (P Q : Attempt → Type 0) (r : Result Attempt E) → ((a : Attempt) → P a → Q a) → IfOk r P → IfOk r Q
+ok-then P Q (Ok a) f h = f a h
+ok-then P Q (Err e) f h = h
+
+pub ok-always : {E : Type 0} (X : Type 0) (r : Result Attempt E) → X → IfOk r (λ a. X)
+ok-always X (Ok a) x = x
+ok-always X (Err e) x = tt
+
+pub err-then : {E : Type 0} (P Q : Type 0) (r : Result Attempt E) → (P → Q) → OnErr r P → OnErr r Q
+err-then P Q (Ok a) f h = h
+err-then P Q (Err e) f h = f h
+
+pub kept-result : {E : Type 0} (old new : Memory) (pending more p : ℕ) (call : Call) (r : Result Attempt E) (entries : List ℕ) (seats : ℕ) → IsKept old.world.store old.spaces entries seats → OnlyFiles new.spaces → IfOk r (λ a. Serves old new pending more p call a)
+    → OnErr r (new ≡ old) → IsKept new.world.store new.spaces entries seats
+kept-result old new pending more p call (Ok a) entries seats k files serves same = kept-served old new pending more p call a entries seats k files serves
+kept-result old new pending more p call (Err e) entries seats k files serves same = subst (λ (m : Memory). IsKept m.world.store m.spaces entries seats) (sym same) k
+
+-- Nothing changed.
+pub same-again : (s t : KernelState) (m : Memory) (pending : ℕ) → s ≡ t → m ≡ s.memory → pending ≡ s.pending → with_memory s m pending ≡ t
+same-again s t m pending same memory tails = ap (λ (x : Memory). with_memory s x pending) memory ∙ ap (λ (n : ℕ). with_memory s s.memory n) tails ∙ same

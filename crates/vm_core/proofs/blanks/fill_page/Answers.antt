@@ -1,0 +1,52 @@
+use Rattle.std.proofs.Common.{◌≡◌, ℕ, ◌<◌, Result, sym, ap, ◌∙◌, subst}
+use Rattle.block_device.specs.declared.disk_fault.DiskFault.{DiskFault}
+use Rattle.page_store.specs.Bays.{pairs_seen}
+use Rattle.vnode_files.specs.declared.vnode.FileInfo.{FileInfo}
+use Rattle.vnode_files.specs.Files.{FilesSeen}
+use Rattle.vnode_files.specs.Layout.{disk_of_file, block_of_page}
+use Rattle.page_hash.specs.declared.PageName.{PageName}
+use Rattle.vm_world.specs.World.{file_name}
+use Rattle.vm_core.specs.Closing.{WritesZeros, WritesBlanks, FillsPages}
+use Rattle.vm_core.specs.Finish.{disk_at}
+use Rattle.vm_core.proofs.Fills.{block-within, length-seen, whole-seen, zeros-written, zeros-filled, page-filled}
+use Rattle.vm_core.proofs.blanks.fill_page.Goals as goal
+use Rattle.vm_core.proofs.blanks.fill_page.Given.{Over}
+use Rattle.vm_core.proofs.blanks.fill_page.Goals.{After-write_zeros}
+
+-- zeros were written there
+written : (g : Over) (c : After-write_zeros g)
+    → WritesZeros (pairs_seen g.D.Disk.seen c.args.disks.now) (pairs_seen g.D.Disk.seen c.write_zeros.new.disks) (disk_of_file c.args.files.now c.args.file) (block_of_page c.args.files.now c.args.file c.args.page) c.write_zeros.result
+written g c =
+    subst (λ (n : ℕ). WritesZeros (pairs_seen g.D.Disk.seen c.args.disks.now) (pairs_seen g.D.Disk.seen c.write_zeros.new.disks) n (block_of_page c.args.files.now c.args.file c.args.page) c.write_zeros.result) (ap (λ (i : FileInfo). i.disk) c.info.ensures.info)
+    (subst (λ (b : ℕ). WritesZeros (pairs_seen g.D.Disk.seen c.args.disks.now) (pairs_seen g.D.Disk.seen c.write_zeros.new.disks) c.info.result.now.disk b c.write_zeros.result) c.block.ensures c.write_zeros.ensures.writes)
+
+pub write_zeros-requires-clause-there : goal.write_zeros-requires-clause-there
+write_zeros-requires-clause-there g c =
+    let at = c.requires.disks.there c.args.file c.requires.page.file in
+    (at.0, subst (λ (n : ℕ). at.0 < n) (length-seen g.D.Disk.seen c.args.disks.now) at.1, at.2 ∙ sym (ap (λ (i : FileInfo). i.disk) c.info.ensures.info))
+
+pub write_zeros-requires-clause-block : goal.write_zeros-requires-clause-block
+write_zeros-requires-clause-block g c = λ i lt on.
+    subst (λ (b : ℕ). b < (disk_at (pairs_seen g.D.Disk.seen c.args.disks.now) i).1.size) (sym c.block.ensures)
+    (block-within c.args.files.now (pairs_seen g.D.Disk.seen c.args.disks.now) i (file_name c.args.file c.args.page) c.requires.disks
+    (subst (λ (n : ℕ). i < n) (sym (length-seen g.D.Disk.seen c.args.disks.now)) lt) c.requires.page (sym (on ∙ ap (λ (i : FileInfo). i.disk) c.info.ensures.info)))
+
+pub returns-in_err-write_zeros-clause-writes : goal.returns-in_err-write_zeros-clause-writes
+returns-in_err-write_zeros-clause-writes g c =
+    let at = (goal.at.returns-in_err-write_zeros-clause-writes g c).After-write_zeros in
+    zeros-written c.args.files.now (pairs_seen g.D.Disk.seen c.args.disks.now) (pairs_seen g.D.Disk.seen c.write_zeros.new.disks) c.args.file c.args.page c.write_zeros.result c.requires.disks c.requires.page (written g at)
+
+pub returns-in_ok-write_zeros-clause-writes : goal.returns-in_ok-write_zeros-clause-writes
+returns-in_ok-write_zeros-clause-writes g c =
+    let at = (goal.at.returns-in_ok-write_zeros-clause-writes g c).After-write_zeros in
+    subst (λ (G : FilesSeen). WritesBlanks c.args.files.now (pairs_seen g.D.Disk.seen c.args.disks.now) G (pairs_seen g.D.Disk.seen c.write_zeros.new.disks)) (sym c.set_blank.ensures.new)
+    (zeros-filled c.args.files.now (pairs_seen g.D.Disk.seen c.args.disks.now) (pairs_seen g.D.Disk.seen c.write_zeros.new.disks) c.args.file c.args.page c.write_zeros.result c.requires.disks c.requires.page (written g at))
+
+pub returns-in_ok-write_zeros-clause-fills : goal.returns-in_ok-write_zeros-clause-fills
+returns-in_ok-write_zeros-clause-fills g c =
+    let at = (goal.at.returns-in_ok-write_zeros-clause-fills g c).After-write_zeros in
+    let w = written g at in
+    let ok = subst (λ (r : Result (Unit {0}) DiskFault). WritesZeros (pairs_seen g.D.Disk.seen c.args.disks.now) (pairs_seen g.D.Disk.seen c.write_zeros.new.disks) (disk_of_file c.args.files.now c.args.file) (block_of_page c.args.files.now c.args.file c.args.page) r) c.in_ok-write_zeros.was w in
+    subst (λ (G : FilesSeen). FillsPages c.args.files.now (pairs_seen g.D.Disk.seen c.args.disks.now) G (pairs_seen g.D.Disk.seen c.write_zeros.new.disks) (λ (n : PageName). n ≡ file_name c.args.file c.args.page)) (sym c.set_blank.ensures.new)
+    (page-filled c.args.files.now (pairs_seen g.D.Disk.seen c.args.disks.now) (pairs_seen g.D.Disk.seen c.write_zeros.new.disks) c.args.file c.args.page c.requires.disks c.requires.page
+    (whole-seen g.D.Disk.seen g.met.D.Disk.has_blocks c.args.disks.now) (sym c.blank.ensures ∙ c.if-blank.true) ok.at ok.within ok.on_disk ok.disk ok.new ok.writes.written)

@@ -1,0 +1,7 @@
+use Rattle.std.proofs.Common.{◌≢◌, ℕ, ◌<◌}
+use Rattle.page_store.specs.Bays.{pairs_seen}
+use Rattle.vm_core.specs.Finish.{disk_at}
+use Rattle.vm_core.proofs.blanks.place_of.Given as goal
+
+abbrev pub invariant-loop-at : goal.invariant-loop-at
+invariant-loop-at g l = (i : ℕ) → i < l.at → (disk_at (pairs_seen g.D.Disk.seen l.disks) i).0 ≢ l.number

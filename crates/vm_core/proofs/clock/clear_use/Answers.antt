@@ -1,0 +1,30 @@
+use Rattle.std.proofs.Common.{◌≡◌, ℕ, Bool, false, ◌<◌, length, refl, sym, ap, ◌∙◌, arith}
+use Rattle.page_lock.specs.Rows.{row_at, with_bits}
+use Rattle.page_store.specs.Seen.{StoreSeen}
+use Rattle.page_store.specs.Steps.{with_row}
+use Rattle.seg_ops.proofs.Composed.{keeps-then}
+use Rattle.vm_world.specs.World.{World, world_seen}
+use Rattle.vm_core.proofs.Looks.{clear-keeps}
+use Rattle.vm_core.proofs.Uses.{front-clears}
+use Rattle.vm_core.proofs.clock.clear_use.Given.{Over}
+use Rattle.vm_core.proofs.clock.clear_use.Goals.{After-set_bits}
+use Rattle.vm_core.proofs.clock.clear_use.Goals as goal
+
+-- the row is the one that was, without the reference bit
+stored : (g : Over) (c : After-set_bits g) → c.set_bits.new.self ≡ with_row c.gather_use.new.world.store c.args.frame
+    (with_bits (row_at c.gather_use.new.world.store.rows c.args.frame) false (row_at c.gather_use.new.world.store.rows c.args.frame).modified)
+stored g c = c.set_bits.ensures.new ∙ ap (λ (m : Bool). with_row c.gather_use.new.world.store c.args.frame (with_bits (row_at c.gather_use.new.world.store.rows c.args.frame) false m)) c.bits-referenced.ensures.modified
+
+pub returns-clause-clears : goal.returns-clause-clears
+returns-clause-clears g c =
+    let k = c.gather_use.ensures.keeps c.requires.fits.0 c.requires.fits.1 in
+    let rows = k.memory.frames.sound.rows in
+    let frames = k.frames in
+    let lt : c.args.frame < length c.gather_use.new.world.store.rows = let a = c.requires.frame in omega (arith, a, rows, frames) in
+    front-clears (world_seen c.args.world.now) (world_seen c.gather_use.new.world) (record (world_seen c.gather_use.new.world) { store = c.set_bits.new.self }) c.args.frame lt c.gather_use.ensures.gathers refl (stored g c)
+
+pub returns-clause-keeps : goal.returns-clause-keeps
+returns-clause-keeps g c spaces fits =
+    let k = c.gather_use.ensures.keeps spaces fits in
+    keeps-then (world_seen c.args.world.now) (world_seen c.gather_use.new.world) (record (world_seen c.gather_use.new.world) { store = c.set_bits.new.self }) spaces fits k
+    (clear-keeps (world_seen c.gather_use.new.world) spaces c.set_bits.new.self c.args.frame k.memory (stored g c) c.set_bits.ensures.laws)

@@ -1,0 +1,32 @@
+use Rattle.std.proofs.Common.{◌≡◌, false, inr}
+use Rattle.page_hash.specs.declared.PageName.{PageName}
+use Rattle.vm_world.specs.World.{world_seen}
+use Rattle.vm_core.proofs.Records.{page-kept}
+use Rattle.vm_core.proofs.Fills.{err-then}
+use Rattle.vm_core.proofs.Pushes.{records-of, pushes-then, stores-then, fault-later, ok-more}
+use Rattle.vm_core.proofs.closing.push_if_modified.Goals as goal
+
+pub push_page-requires-clause-page : goal.push_page-requires-clause-page
+push_page-requires-clause-page g c = page-kept c.args.world.now.files c.is_modified.new.world.files (records-of (world_seen c.args.world.now) (world_seen c.is_modified.new.world) (c.is_modified.ensures.pushes c.requires.fits.0 c.requires.fits.1).tables) c.args.name c.requires.page
+
+pub push_page-requires-clause-fits : goal.push_page-requires-clause-fits
+push_page-requires-clause-fits g c = (c.requires.fits.0, (c.is_modified.ensures.pushes c.requires.fits.0 c.requires.fits.1).memory)
+
+pub returns-then-is_modified-clause-stored : goal.returns-then-is_modified-clause-stored
+returns-then-is_modified-clause-stored g c =
+    ok-more c.push_page.result _ _
+    (λ second. stores-then (world_seen c.args.world.now) (world_seen c.is_modified.new.world) (world_seen c.push_page.new.world) c.requires.fits.0
+    (λ (n : PageName). (n ≡ c.args.name) × (c.is_modified.result ≡ false)) (λ (n : PageName). n ≡ c.args.name) (λ (n : PageName). n ≡ c.args.name)
+    (c.is_modified.ensures.pushes c.requires.fits.0 c.requires.fits.1) c.is_modified.ensures.stored second (λ n page same. inr same))
+    c.push_page.ensures.stored
+
+pub returns-then-is_modified-clause-fault : goal.returns-then-is_modified-clause-fault
+returns-then-is_modified-clause-fault g c =
+    err-then c.push_page.result _ _
+    (λ fault f. fault-later (world_seen c.args.world.now) (world_seen c.is_modified.new.world) (world_seen c.push_page.new.world) c.requires.fits.0 fault (c.is_modified.ensures.pushes c.requires.fits.0 c.requires.fits.1) f)
+    c.push_page.ensures.fault
+
+pub returns-then-is_modified-clause-pushes : goal.returns-then-is_modified-clause-pushes
+returns-then-is_modified-clause-pushes g c = λ spaces fits.
+    let first = c.is_modified.ensures.pushes spaces fits in
+    pushes-then (world_seen c.args.world.now) (world_seen c.is_modified.new.world) (world_seen c.push_page.new.world) spaces first (c.push_page.ensures.pushes spaces first.memory)

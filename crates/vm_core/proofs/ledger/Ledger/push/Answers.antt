@@ -1,0 +1,9 @@
+use Rattle.std.proofs.Common.{◌≡◌, List, [], ◌∷◌, ◌++◌, ap, ◌∙◌}
+use Rattle.vm_types.specs.declared.call.Entry.{Entry}
+use Rattle.vm_core.specs.Ledger.{LedgerSeen}
+use Rattle.vm_core.proofs.Ledgers.{within-room, pushed, place-left, has-room}
+use Rattle.vm_core.proofs.ledger.Ledger.push.Goals as goal
+
+pub returns-clause-history : goal.returns-clause-history
+returns-clause-history c =
+    c.push_reserved.ensures.items ∙ ap (λ (l : LedgerSeen). l.history ++ record { process = c.args.process; call = c.args.call.now; reply = c.args.reply.now; cleared = c.args.cleared } ∷ []) c.self.view_is

@@ -1,0 +1,9 @@
+use Rattle.std.proofs.Common.{ℕ, ◌<◌, ◌≤◌, length}
+use Rattle.vnode_files.specs.Files.{vnode_at}
+use Rattle.vnode_files.specs.Vnode.{IsSoundVnode}
+use Rattle.vm_core.proofs.start.check_files.Given as goal
+
+abbrev pub invariant-loop-file : goal.invariant-loop-file
+invariant-loop-file l = record {
+  sound : (f : ℕ) → f < l.file → IsSoundVnode (vnode_at l.files f);
+}

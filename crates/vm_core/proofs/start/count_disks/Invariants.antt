@@ -1,0 +1,9 @@
+use Rattle.std.proofs.Common.{take}
+use Rattle.page_store.specs.Bays.{pairs_seen}
+use Rattle.vm_core.specs.Setup.{HaveCounted}
+use Rattle.vm_core.proofs.start.count_disks.Given as goal
+
+abbrev pub invariant-loop-disk : goal.invariant-loop-disk
+invariant-loop-disk g l = record {
+  all : HaveCounted (pairs_seen g.D.Disk.seen (take l.disk-index l.disks));
+}

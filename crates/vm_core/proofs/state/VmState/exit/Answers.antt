@@ -1,0 +1,23 @@
+use Rattle.std.proofs.Common.{◌≡◌, ℕ, sym, subst}
+use Rattle.vm_world.specs.FlatMemory.{Memory}
+use Rattle.seg_vn.specs.Serves.{Serves}
+use Rattle.vm_world.specs.MemoryFits.{MemoryFits}
+use Rattle.vm_world.specs.State.{KernelState}
+use Rattle.vm_world.specs.World.{world_seen}
+use Rattle.vm_core.proofs.Served.{exited-own, kept-served}
+use Rattle.vm_core.proofs.state.VmState.exit.Goals as goal
+
+pub attempt-requires-clause-fits : goal.attempt-requires-clause-fits
+attempt-requires-clause-fits g c = subst (λ (s : KernelState). MemoryFits s.memory) (sym c.self.view_is) c.requires.fits
+
+pub invariant_of-self : goal.invariant_of-self
+invariant_of-self g c =
+    kept-served (record { world = world_seen c.self.inside.world; spaces = c.self.inside.spaces.spaces }) (record { world = world_seen c.attempt.new.world; spaces = c.attempt.new.spaces.spaces }) _ _ _ _ _ _ _ c.self.invariant c.attempt.ensures.files c.in-Ok.ensures.done
+
+pub returns-clause-serves : goal.returns-clause-serves
+returns-clause-serves g c =
+    subst (λ (s : KernelState). Serves s.memory (record { world = world_seen c.attempt.new.world; spaces = c.attempt.new.spaces.spaces }) s.pending c.attempt.new.world.pending c.args.process c.args.call.now c.in-Ok.attempt)
+    c.self.view_is c.in-Ok.ensures.done
+
+pub returns-clause-own : goal.returns-clause-own
+returns-clause-own g c = exited-own c.in-Ok.attempt c.in-Ok.ensures.plain

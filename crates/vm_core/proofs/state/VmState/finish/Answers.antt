@@ -1,0 +1,29 @@
+use Rattle.std.proofs.Common.{◌≡◌, None, sym, ap, ◌∙◌, subst}
+use Rattle.std.specs.Prelude.{IfNone, option_map}
+use Rattle.page_store.specs.Bays.{bay_at, home_faults, pairs_seen}
+use Rattle.page_store.specs.Notes.{no_notes}
+use Rattle.vm_world.specs.MemoryFits.{MemoryFits}
+use Rattle.vm_world.specs.NotesFit.{NotesFit}
+use Rattle.vm_world.specs.State.{KernelState, Seats, notes_of}
+use Rattle.vm_world.specs.World.{World, AllTell}
+use Rattle.vm_core.specs.Finish.{HoldAllFiles}
+use Rattle.vm_core.proofs.state.VmState.finish.Goals as goal
+
+-- no seat's note, where no seat has anything outside
+no-note : (seats : Seats) → ((seat : _) → seats seat ≡ None) → notes_of seats ≡ no_notes
+no-note seats none = λ i seat. option_map (λ sent. sent.note) (none seat i)
+
+pub finish_world-requires-clause-fits : goal.finish_world-requires-clause-fits
+finish_world-requires-clause-fits g c = (c.self.inside.spaces.spaces, subst MemoryFits (sym (ap (λ (s : KernelState). s.memory) c.self.view_is)) c.requires.2.memory)
+
+pub finish_world-requires-clause-noted : goal.finish_world-requires-clause-noted
+finish_world-requires-clause-noted g c =
+    subst (λ (w : World). NotesFit w no_notes) (sym (ap (λ (s : KernelState). s.memory.world) c.self.view_is))
+    (subst (NotesFit c.args.self.memory.world) (no-note c.requires.1 c.requires.3) c.requires.2.notes)
+
+pub returns-clause-counts : goal.returns-clause-counts
+returns-clause-counts g c = λ disk. c.finish_world.ensures.counts disk ∙ ap (λ (s : KernelState). home_faults (bay_at s.memory.world.store.bays disk)) c.self.view_is
+
+pub returns-clause-closed : goal.returns-clause-closed
+returns-clause-closed g c =
+    subst (λ (s : KernelState). IfNone c.finish_world.result.fault (AllTell s.memory.world no_notes → HoldAllFiles s.memory.world (pairs_seen g.D.Disk.seen c.finish_world.result.disks.items))) c.self.view_is c.finish_world.ensures.closed

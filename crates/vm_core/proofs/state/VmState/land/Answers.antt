@@ -1,0 +1,21 @@
+use Rattle.std.proofs.Common.{◌≡◌, ℕ, false, Some, sym, subst}
+use Rattle.page_store.specs.Flight.{IsPerformed}
+use Rattle.page_store.specs.Notes.{Note, Notes}
+use Rattle.page_store.specs.Out.{IsFlightOf}
+use Rattle.vm_world.specs.MemoryFits.{MemoryFits}
+use Rattle.vm_world.specs.NotesFit.{NotesFit}
+use Rattle.vm_world.specs.State.{KernelState}
+use Rattle.vm_world.specs.World.{world_seen}
+use Rattle.vm_world.specs.WorldSteps.{WorldStep, returns}
+use Rattle.vm_core.proofs.Landings.{kept-ended}
+use Rattle.vm_core.proofs.state.VmState.land.Goals as goal
+
+pub invariant_of-self : goal.invariant_of-self
+invariant_of-self g c =
+    kept-ended _ _ c.args.flight _ _ _ c.self.invariant (subst (λ (s : KernelState). IsFlightOf s.memory.world.store c.args.flight) (sym c.self.view_is) c.requires.out) c.end_flight.ensures.store c.end_flight.ensures.ends
+
+pub returns-clause-step : goal.returns-clause-step
+returns-clause-step g c =
+    subst (λ (s : KernelState). (notes : Notes) (note : Note) → MemoryFits s.memory → NotesFit s.memory.world notes → notes c.args.flight.seat ≡ Some note → IsPerformed note c.args.flight
+    → WorldStep s.memory.world (world_seen c.end_flight.new.world) s.memory.spaces (returns c.args.flight.seat note) (λ name. false))
+    c.self.view_is (λ notes note. c.end_flight.ensures.step c.self.inside.spaces.spaces notes note)

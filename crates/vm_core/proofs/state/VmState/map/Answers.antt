@@ -1,0 +1,47 @@
+use Rattle.std.proofs.Common.{◌≡◌, ℕ, sym, ap, subst, ◌∙◌}
+use Rattle.std.specs.Prelude.{IfOk, OnErr, IsFalse, IsSome}
+use Rattle.std.specs.FinMap as finite
+use Rattle.mmap_calls.specs.FileMaps.{IsMapDone}
+use Rattle.seg_vn.specs.Serves.{Serves}
+use Rattle.vm_world.specs.CallSteps.{StaysAlive}
+use Rattle.vm_world.specs.FlatMemory.{Memory}
+use Rattle.vm_world.specs.MemoryFits.{MemoryFits}
+use Rattle.vm_world.specs.Segments.{Spaces}
+use Rattle.vm_world.specs.State.{KernelState}
+use Rattle.vm_world.specs.World.{World, world_seen}
+use Rattle.vm_core.specs.Calls.{IsOwnReply}
+use Rattle.vm_core.proofs.Served.{mapped-own, ok-then, ok-always, err-then, kept-result, same-again}
+use Rattle.vm_core.proofs.state.VmState.map.Given.{Over}
+use Rattle.vm_core.proofs.state.VmState.map.Goals.{After-attempt}
+use Rattle.vm_core.proofs.state.VmState.map.Goals as goal
+
+pub attempt-requires-clause-fits : goal.attempt-requires-clause-fits
+attempt-requires-clause-fits g c = subst (λ (s : KernelState). MemoryFits s.memory) (sym c.self.view_is) c.requires.fits
+
+abbrev before : (g : Over) (c : After-attempt g) → Memory
+before g c = record { world = world_seen c.self.inside.world; spaces = c.self.inside.spaces.spaces }
+
+abbrev after : (g : Over) (c : After-attempt g) → Memory
+after g c = record { world = world_seen c.attempt.new.world; spaces = c.attempt.new.spaces.spaces }
+
+pub invariant_of-self : goal.invariant_of-self
+invariant_of-self g c =
+    kept-result (before g c) (after g c) c.self.inside.world.pending c.attempt.new.world.pending c.args.process c.args.call.now c.attempt.result _ _ c.self.invariant c.attempt.ensures.files c.attempt.ensures.done
+    (err-then _ _ c.attempt.result (λ e. ap (λ w. record { world = world_seen w; spaces = c.attempt.new.spaces.spaces }) e.0 ∙ ap (λ (x : Spaces). record { world = world_seen c.self.inside.world; spaces = x }) e.1) c.attempt.ensures.err)
+
+pub returns-clause-serves : goal.returns-clause-serves
+returns-clause-serves g c =
+    subst (λ (s : KernelState). IfOk c.attempt.result (λ a. Serves s.memory (after g c) s.pending c.attempt.new.world.pending c.args.process c.args.call.now a)) c.self.view_is c.attempt.ensures.done
+
+pub returns-clause-own : goal.returns-clause-own
+returns-clause-own g c = ok-then IsMapDone IsOwnReply c.attempt.result mapped-own c.attempt.ensures.plain
+
+pub returns-clause-alive : goal.returns-clause-alive
+returns-clause-alive g c = ok-always (StaysAlive (after g c) c.args.process c.args.call.now) c.attempt.result (λ other. c.attempt.ensures.alive)
+
+pub returns-clause-err : goal.returns-clause-err
+returns-clause-err g c =
+    err-then _ _ c.attempt.result
+    (λ e. same-again _ c.args.self.now (after g c) c.attempt.new.world.pending c.self.view_is
+    (ap (λ w. record { world = world_seen w; spaces = c.attempt.new.spaces.spaces }) e.0 ∙ ap (λ (x : Spaces). record { world = world_seen c.self.inside.world; spaces = x }) e.1)
+    (ap (λ w. w.pending) e.0)) c.attempt.ensures.err

@@ -1,0 +1,96 @@
+-- How pages of files come to be on their disks. Inside: no public clause cites this.
+use Rattle.std.specs.Prelude.{ℕ, ◌≡◌, ◌⊎◌, ◌<◌, List, length, Some, Result, IsSome, IsFalse, if◌then◌else◌, slice_set}
+use Rattle.std.specs.FinMap as finite
+use Rattle.block_device.specs.DiskSeen.{DiskSeen, Writes}
+use Rattle.block_device.specs.Faults.{IsFaultSince}
+use Rattle.block_device.specs.declared.disk_fault.DiskFault.{DiskFault}
+use Rattle.core_arena.specs.Bytes.{zeros}
+use Rattle.page_hash.specs.declared.PageName.{PageName}
+use Rattle.page_store.specs.Bays.{BaySeen, missing, home, out, bay_at, block_of, numbers_of, AreNumbers, disk_in}
+use Rattle.page_store.specs.Bytes.{clipped}
+use Rattle.page_store.specs.Notes.{no_notes}
+use Rattle.vnode_files.specs.Files.{FilesSeen, vnode_at}
+use Rattle.vnode_files.specs.Layout.{disk_of_file, block_of_page}
+use Rattle.vnode_files.specs.Vnode.{is_blank}
+use Rattle.vm_world.specs.FramesFit.{FilesFit}
+use Rattle.vm_world.specs.MemoryFits.{MemoryFits}
+use Rattle.vm_world.specs.NotesFit.{NotesFit}
+use Rattle.vm_world.specs.Pages.{page_value}
+use Rattle.vm_world.specs.Segments.{Spaces}
+use Rattle.vm_world.specs.World.{World, AllTell}
+use Rattle.vm_world.specs.WorldSteps.{KeepsTables}
+use Rattle.vm_core.specs.Finish.{IsFilePage, bytes_of_page, disk_at, KeepsDisk, KeepDisks, KeepRecords}
+
+-- A disk that is home stays so, and keeps what isn't a page of a file; nothing else is there that wasn't.
+abbrev pub KeepsBay : FilesSeen → ℕ → BaySeen → BaySeen → Type 0
+KeepsBay files number missing new = new ≡ missing
+KeepsBay files number (home d) new = (e : DiskSeen) × (new ≡ home e) × KeepsDisk files (number, d) (number, e)
+KeepsBay files number (out seat) new = new ≡ out seat
+
+-- Pages of files are pushed, one after another, while no seat has anything outside: memory fits as before, each page of a file keeps what it has of the
+-- file, and the disks what isn't such a page.
+pub record PushesPages (old new : World) (spaces : Spaces) : Type 0 where
+  pub tables : KeepsTables old new
+  pub order : new.store.order ≡ old.store.order
+  pub swap : bay_at new.store.bays 8 ≡ bay_at old.store.bays 8
+  pub disks : (number : ℕ) → KeepsBay old.files number (bay_at old.store.bays number) (bay_at new.store.bays number)
+  pub memory : MemoryFits (record { world = new; spaces = spaces })
+  pub notes : NotesFit new no_notes
+  pub tells : AllTell old no_notes → AllTell new no_notes
+  pub values : AllTell old no_notes → (name : PageName) → IsFilePage old.files name
+      → clipped (bytes_of_page old.files name) (page_value new no_notes name) ≡ clipped (bytes_of_page old.files name) (page_value old no_notes name)
+
+-- What the place of a page of a file has, on this disk.
+abbrev pub stored_on : FilesSeen → DiskSeen → PageName → List ℕ
+stored_on files disk name =
+    if is_blank (vnode_at files name.object) name.page then zeros
+    else clipped (bytes_of_page files name) (block_of disk.content (block_of_page files name.object name.page))
+
+-- A page of a file is stored: without its frame it would have the same bytes of the file.
+abbrev pub IsStored : World → PageName → Type 0
+IsStored w name =
+    clipped (bytes_of_page w.files name) (stored_on w.files (disk_in (bay_at w.store.bays (disk_of_file w.files name.object))) name)
+    ≡ clipped (bytes_of_page w.files name) (page_value w no_notes name)
+
+-- These pages of files are stored then, and those that were.
+abbrev pub StoresPages : World → World → (PageName → Type 0) → Type 0
+StoresPages old new these =
+    AllTell old no_notes → (name : PageName) → IsFilePage old.files name → IsStored old name ⊎ these name → IsStored new name
+
+-- The fault is that of the last transfer of a disk of files, made since that disk was the one of the old bays.
+pub record IsFaultOfBays (old new : List BaySeen) (fault : DiskFault) : Type 0 where
+  pub before : DiskSeen
+  pub after : DiskSeen
+  pub low : fault.disk < 8
+  pub was : bay_at old fault.disk ≡ home before
+  pub is : bay_at new fault.disk ≡ home after
+  pub since : IsFaultSince fault.disk before.faults after fault
+
+-- These are the disks of the files: each file's disk is one of them, and has the size that its files count on.
+pub record AreDisksOf (files : FilesSeen) (disks : List (ℕ × DiskSeen)) : Type 0 where
+  pub fits : FilesFit files
+  pub numbers : AreNumbers (numbers_of disks)
+  pub there : (file : ℕ) → file < length files.files → (i : ℕ) × (i < length disks) × ((disk_at disks i).0 ≡ disk_of_file files file)
+  pub sizes : (i blocks : ℕ) → i < length disks → finite.get files.disks (disk_at disks i).0 ≡ Some blocks → (disk_at disks i).1.size ≡ blocks
+
+-- Zeros are written to blank pages of files, which aren't blank then.
+pub record WritesBlanks (F : FilesSeen) (L : List (ℕ × DiskSeen)) (G : FilesSeen) (M : List (ℕ × DiskSeen)) : Type 0 where
+  pub records : KeepRecords F G
+  pub disks : KeepDisks F L M
+  pub are : AreDisksOf G M
+
+-- Each place has what it had, and these pages aren't blank then, nor those that weren't.
+pub record FillsPages (F : FilesSeen) (L : List (ℕ × DiskSeen)) (G : FilesSeen) (M : List (ℕ × DiskSeen)) (these : PageName → Type 0) : Type 0 where
+  pub stored : (i : ℕ) (name : PageName) → i < length L → IsFilePage F name → disk_of_file F name.object ≡ (disk_at L i).0
+      → IsSome (disk_at L i).1.content → stored_on G (disk_at M i).1 name ≡ stored_on F (disk_at L i).1 name
+  pub filled : (name : PageName) → IsFilePage F name → IsFalse (is_blank (vnode_at F name.object) name.page) ⊎ these name
+      → IsFalse (is_blank (vnode_at G name.object) name.page)
+
+-- Zeros are written to a block of the disk of a number.
+pub record WritesZeros {E : Type 0} (before after : List (ℕ × DiskSeen)) (number block : ℕ) (result : Result (Unit {0}) E) : Type 0 where
+  pub at : ℕ
+  pub within : at < length before
+  pub on_disk : (disk_at before at).0 ≡ number
+  pub disk : DiskSeen
+  pub new : after ≡ slice_set before at (number, disk)
+  pub writes : Writes (disk_at before at).1 disk block zeros result

@@ -1,0 +1,9 @@
+-- What the holder of the state knows of it. Public clauses cite this.
+use Rattle.std.specs.Prelude.{◌≡◌, ℕ, Option}
+use Rattle.flat_model.specs.Flat.{Flat}
+use Rattle.vm_world.specs.State.{KernelState, Seats, Sent}
+use Rattle.vm_world.specs.StateFits.{StateFits}
+
+-- The state fits some opening, with this outside at the seat, and whatever the other seats have.
+abbrev pub FitsAt : KernelState → ℕ → Option Sent → Type 0
+FitsAt s seat sent = (opening : Flat) × (seats : Seats) × StateFits opening s seats × (seats seat ≡ sent)

@@ -1,0 +1,67 @@
+-- What the begin and the end of a transfer leave of the state. Public clauses cite this.
+use Rattle.std.specs.Prelude.{◌≡◌, ◌++◌, ◌∷◌, [], ℕ, List, Option, Some, None, IsSome}
+use Rattle.vm_types.specs.declared.call.Call.{Call}
+use Rattle.vm_types.specs.declared.call.Entry.{Entry}
+use Rattle.vm_types.specs.declared.call.Reply.{Reply}
+use Rattle.vm_types.specs.declared.call.Reply.TheVariants.{Io}
+use Rattle.page_store.specs.Bays.{home, bay_at}
+use Rattle.page_store.specs.Flight.{FlightSeen, Progress, fresh, done, failed, IsPerformed, note_of}
+use Rattle.page_store.specs.Steps.{next_frame}
+use Rattle.page_store.specs.declared.plan.Plan.{Plan}
+use Rattle.page_store.specs.declared.plan.Plan.TheVariants as plan
+use Rattle.vm_world.specs.EntryLaws.{LocksAfter, StartsAfter}
+use Rattle.vm_world.specs.Failures.{io_entry}
+use Rattle.vm_world.specs.State.{KernelState, KeptPlan, Sent, Caller}
+use Rattle.vm_world.specs.Wants.{IsDirtyPage, MayReadIn}
+use Rattle.vm_world.specs.World.{World}
+
+-- A page can be read in that no frame has, where a frame can be taken, and a page can be pushed that is home and modified.
+abbrev pub CanLeave : World → Plan → Type 0
+CanLeave w (plan.Read name) = MayReadIn w name × IsSome (next_frame w.store)
+CanLeave w (plan.Push name) = IsDirtyPage w name
+
+-- The plan is the one that is kept, for this seat.
+pub record IsKeptFor (s : KernelState) (seat : ℕ) (p : Plan) (kept : KeptPlan) : Type 0 where
+  pub is : s.plan ≡ Some kept
+  pub mine : kept.seat ≡ seat
+  pub same : kept.plan ≡ p
+
+-- What a seat has outside once its flight left: the flight's note, for the process and call of the plan.
+abbrev pub sent_with : KeptPlan → FlightSeen → Sent
+sent_with kept f = record { note = note_of f; of = kept.of }
+
+-- The flight that comes back is that of the seat, performed, and for this process and call.
+pub record IsBack (sent : Sent) (f : FlightSeen) (of : Option Caller) : Type 0 where
+  pub performed : IsPerformed sent.note f
+  pub same : sent.of ≡ of
+
+-- Exactly this entry is added, with the tails that it takes; none is pending then. Its process keeps the lock of no file but one of which its part doesn't
+-- end the call, and no start of a Sync.
+pub record AddsEntry (old new : KernelState) (e : Entry) : Type 0 where
+  pub history : new.history ≡ old.history ++ e ∷ []
+  pub pending : new.pending ≡ 0
+  pub locks : LocksAfter e old.calls new.calls
+  pub starts : StartsAfter e old.syncs new.syncs
+
+-- No entry is added, and no call of a file or Sync began or ended.
+pub record AddsNoEntry (old new : KernelState) : Type 0 where
+  pub history : new.history ≡ old.history
+  pub calls : new.calls ≡ old.calls
+  pub syncs : new.syncs ≡ old.syncs
+
+-- The device error of a transfer that failed, with the counts round that transfer.
+abbrev pub error_at_end : FlightSeen → Progress → Option Reply
+error_at_end f failed = Some (Io f.number f.before f.disk.faults)
+error_at_end f done = None
+error_at_end f fresh = None
+
+-- What is answered as a flight comes back: that error, where the transfer failed and was for a call.
+abbrev pub answer_at_end : FlightSeen → Option Caller → Option Reply
+answer_at_end f None = None
+answer_at_end f (Some of) = error_at_end f f.outcome
+
+-- The entry that an answer adds, for this process and call.
+abbrev pub EndsWith : KernelState → KernelState → Option Caller → Option Reply → Type 0
+EndsWith old new (Some of) (Some reply) = AddsEntry old new (record { process = of.0; call = of.1; reply = reply; cleared = old.pending })
+EndsWith old new of None = AddsNoEntry old new × (new.pending ≡ old.pending)
+EndsWith old new None (Some reply) = ⊥

@@ -1,0 +1,16 @@
+-- The history, with the most entries that each process may make. Public clauses don't cite this.
+use Rattle.std.specs.Prelude.{◌≡◌, ◌≤◌, ◌+◌, ℕ, List, length, sum_by}
+use Rattle.vm_types.specs.declared.call.Entry.{Entry}
+use Rattle.flat_model.specs.Told.{entries_of}
+use Rattle.vm_world.specs.State.{room_of}
+
+-- The entries that were made, and of each process the most that it may make.
+pub record LedgerSeen : Type 0 where
+  pub history : List Entry
+  pub entries : List ℕ
+
+-- What is left to each process is known, and there is room for all that is left.
+pub record IsSoundLedger (H : List Entry) (capacity : ℕ) (entries left : List ℕ) : Type 0 where
+  pub counted : (p : ℕ) → length (entries_of H p) + room_of left p ≡ room_of entries p
+  pub lengths : length left ≡ length entries
+  pub room : length H + sum_by (λ n. n) left ≤ capacity

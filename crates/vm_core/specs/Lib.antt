@@ -1,0 +1,10 @@
+pub mod Finish
+pub mod Closing
+pub mod Ledger
+pub mod State
+pub mod StateCode
+pub mod Setup
+pub mod Fits
+pub mod Clock
+pub mod Flights
+pub mod Calls

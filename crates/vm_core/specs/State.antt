@@ -1,0 +1,51 @@
+-- What a state keeps, as contracts see it. Public clauses cite `kept_seen`.
+use Rattle.std.specs.Prelude.{◌≡◌, ◌≤◌, ◌+◌, ℕ, suc, Bool, true, false, List, [], ◌∷◌, Option, Some, None, length, if◌then◌else◌, ◌++◌, ◌-◌, ◌==◌, slice_set, slice_index_or}
+use Rattle.std.specs.Ordering.{nat_cmp}
+use Rattle.std.specs.FinSet as set
+use Rattle.vm_types.specs.declared.call.Entry.{Entry}
+use Rattle.addr_space.specs.Space.{Part}
+use Rattle.page_store.specs.Away.{disk_count}
+use Rattle.page_store.specs.Seen.{StoreSeen}
+use Rattle.vm_world.specs.Segments.{Spaces}
+use Rattle.vm_world.specs.declared.segment.Segment.{Segment}
+use Rattle.vm_world.specs.SpaceSteps.{OnlyFiles}
+use Rattle.vm_world.specs.State.{KernelState, KeptPlan, is_top}
+use Rattle.vm_core.specs.declared.kept.Kept.{Kept}
+
+-- The plan as the state's meaning has it.
+abbrev pub kept_seen : Kept → KeptPlan
+kept_seen k = record { seat = k.seat; plan = k.plan; of = k.of }
+
+-- The processes that are marked, the first mark being that of process k.
+abbrev pub marked_from : ℕ → List Bool → List ℕ
+marked_from k [] = []
+marked_from k (true ∷ marks) = k ∷ marked_from (suc k) marks
+marked_from k (false ∷ marks) = marked_from (suc k) marks
+
+-- Who was ever alive, by a mark for each process from 1 on.
+abbrev pub born_of : List Bool → set.FinSet nat_cmp
+born_of marks = set.from_list (marked_from 1 marks)
+
+-- WHAT IS KEPT. There are four more frames than disks, so that some frame is home whatever is away. Only files are mapped. Each process has a seat.
+pub record IsKept (store : StoreSeen) (spaces : Spaces) (entries : List ℕ) (seats : ℕ) : Type 0 where
+  pub frames : disk_count store + 4 ≤ length store.frames
+  pub files : OnlyFiles spaces
+  pub seated : length entries ≤ seats
+
+-- The space of a process at the start: empty where it has no parent, else none.
+abbrev pub top_space : List ℕ → ℕ → Option (List (Part Segment))
+top_space parents p = if is_top parents p then Some [] else None
+
+-- The state with an entry more, which took the pending tails. No Sync of its process has begun.
+abbrev pub with_next_entry : KernelState → Entry → KernelState
+with_next_entry s e = record s { history = s.history ++ e ∷ []; pending = 0; syncs = slice_set s.syncs (e.process - 1) None }
+
+-- A seat that isn't this one.
+abbrev pub without_seat : ℕ → Option ℕ → Option ℕ
+without_seat seat None = None
+without_seat seat (Some other) = if other == seat then None else Some other
+
+-- Whose calls of files are between two parts, once that of this file isn't this seat's.
+abbrev pub calls_without : ℕ → Option ℕ → List (Option ℕ) → List (Option ℕ)
+calls_without seat None calls = calls
+calls_without seat (Some f) calls = slice_set calls f (without_seat seat (slice_index_or calls f None))

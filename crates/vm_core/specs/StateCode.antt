@@ -1,0 +1,128 @@
+-- The state as data, so that a model may have it as its value. Inside: no public clause cites this.
+use Rattle.std.specs.Prelude.{ℕ, Bool, List, Option, Some, None, refl}
+use Rattle.std.specs.Coded.{Coded, code_by, coded×, coded⊎, coded_ℕ, coded_bool, coded_list, coded_option}
+use Rattle.std.specs.Ordering.{nat_cmp}
+use Rattle.std.specs.FinMap as finite
+use Rattle.std.specs.FinSet as set
+use mathlib.Core.Logic.{inl, inr}
+use Rattle.std.specs.Prelude.{◌⊎◌, ◌≡◌}
+use Rattle.addr_space.specs.Space.{part_code}
+use Rattle.anon_map.specs.Maps.{Map}
+use Rattle.anon_slots.specs.Slots.{Slots}
+use Rattle.block_device.specs.DiskSeen.{DiskSeen}
+use Rattle.hat_layer.specs.Pool.{Pool}
+use Rattle.hat_layer.specs.declared.translation.Translation.{Translation}
+use Rattle.hat_layer.specs.contracts.translation.Translation as translation
+use Rattle.page_clock.specs.Seen.{ClockSeen}
+use Rattle.page_hash.specs.declared.PageName.{PageName}
+use Rattle.page_hash.specs.contracts.PageName as name
+use Rattle.page_lock.specs.declared.Row.{Row}
+use Rattle.page_lock.specs.contracts.Row as row
+use Rattle.page_store.specs.Bays.{BaySeen, missing, home, out}
+use Rattle.page_store.specs.Seen.{StoreSeen}
+use Rattle.page_store.specs.declared.plan.Plan.{Plan}
+use Rattle.page_store.specs.contracts.plan.Plan as plan
+use Rattle.vm_types.specs.declared.call.Entry.{Entry}
+use Rattle.vm_types.specs.contracts.call.Call as call
+use Rattle.vm_types.specs.contracts.call.Entry as entry
+use Rattle.vnode_files.specs.Files.{FilesSeen}
+use Rattle.vnode_files.specs.FilesCode.{files_code}
+use Rattle.vm_world.specs.FlatMemory.{Memory}
+use Rattle.vm_world.specs.Segments.{Spaces}
+use Rattle.vm_world.specs.State.{KernelState, KeptPlan, Caller}
+use Rattle.vm_world.specs.World.{World}
+use Rattle.seg_vn.specs.Segments.{segment_code}
+
+abbrev pub disk_code : Coded DiskSeen
+disk_code =
+    code_by (Option (List (List ℕ)) × (ℕ × (ℕ × ℕ))) (coded× (coded_option (coded_list (coded_list coded_ℕ))) (coded× coded_ℕ (coded× coded_ℕ coded_ℕ)))
+    (λ d. (d.content, (d.size, (d.faults, d.calls)))) (λ p. record { content = p.0; size = p.1.0; faults = p.1.1.0; calls = p.1.1.1 }) (λ _. refl)
+
+abbrev of_bay : BaySeen → Option (DiskSeen ⊎ ℕ)
+of_bay missing = None
+of_bay (home disk) = Some (inl disk)
+of_bay (out seat) = Some (inr seat)
+
+abbrev to_bay : Option (DiskSeen ⊎ ℕ) → BaySeen
+to_bay None = missing
+to_bay (Some (inl disk)) = home disk
+to_bay (Some (inr seat)) = out seat
+
+pub to-of : (b : BaySeen) → to_bay (of_bay b) ≡ b
+to-of missing = refl
+to-of (home disk) = refl
+to-of (out seat) = refl
+
+abbrev pub bay_code : Coded BaySeen
+bay_code = code_by (Option (DiskSeen ⊎ ℕ)) (coded_option (coded⊎ disk_code coded_ℕ)) of_bay to_bay to-of
+
+abbrev pub clock_code : Coded ClockSeen
+clock_code =
+    code_by (ℕ × (ℕ × (ℕ × Bool))) (coded× coded_ℕ (coded× coded_ℕ (coded× coded_ℕ coded_bool)))
+    (λ c. (c.frames, (c.distance, (c.front, c.back_next)))) (λ p. record { frames = p.0; distance = p.1.0; front = p.1.1.0; back_next = p.1.1.1 }) (λ _. refl)
+
+-- Frames, names and rows; the lists; where the disks are, their order, and the clock.
+abbrev pub Tables : Type 0
+Tables = ℕ × (List (Option (List ℕ)) × (List (Option PageName) × List Row))
+
+abbrev pub tables_code : Coded Tables
+tables_code = coded× coded_ℕ (coded× (coded_list (coded_option (coded_list coded_ℕ))) (coded× (coded_list (coded_option name.the_row.coded)) (coded_list row.the_row.coded)))
+
+abbrev pub Queues : Type 0
+Queues = List ℕ × (List ℕ × (List BaySeen × (List ℕ × ClockSeen)))
+
+abbrev pub queues_code : Coded Queues
+queues_code = coded× (coded_list coded_ℕ) (coded× (coded_list coded_ℕ) (coded× (coded_list bay_code) (coded× (coded_list coded_ℕ) clock_code)))
+
+abbrev pub store_code : Coded StoreSeen
+store_code =
+    code_by (Tables × Queues) (coded× tables_code queues_code)
+    (λ s. ((s.origin, (s.frames, (s.names, s.rows))), (s.free, (s.cached, (s.bays, (s.order, s.clock))))))
+    (λ p. record { origin = p.0.0; frames = p.0.1.0; names = p.0.1.1.0; rows = p.0.1.1.1; free = p.1.0; cached = p.1.1.0; bays = p.1.1.1.0; order = p.1.1.1.1.0; clock = p.1.1.1.1.1 }) (λ _. refl)
+
+abbrev pub slots_code : Coded Slots
+slots_code =
+    code_by (List ℕ × (List Bool × ℕ)) (coded× (coded_list coded_ℕ) (coded× (coded_list coded_bool) coded_ℕ))
+    (λ s. (s.counts, (s.swapped, s.reserved))) (λ p. record { counts = p.0; swapped = p.1.0; reserved = p.1.1 }) (λ _. refl)
+
+abbrev pub map_code : Coded Map
+map_code =
+    code_by (List (Option ℕ) × ℕ) (coded× (coded_list (coded_option coded_ℕ)) coded_ℕ) (λ m. (m.places, m.holders)) (λ p. record { places = p.0; holders = p.1 }) (λ _. refl)
+
+abbrev pub pool_code : Coded Pool
+pool_code =
+    code_by (List (Option Translation) × (ℕ × ℕ)) (coded× (coded_list (coded_option translation.the_row.coded)) (coded× coded_ℕ coded_ℕ))
+    (λ h. (h.places, (h.hand, h.frames))) (λ p. record { places = p.0; hand = p.1.0; frames = p.1.1 }) (λ _. refl)
+
+abbrev pub world_code : Coded World
+world_code =
+    code_by (StoreSeen × (Slots × (List (Option Map) × (Pool × FilesSeen)))) (coded× store_code (coded× slots_code (coded× (coded_list (coded_option map_code)) (coded× pool_code files_code))))
+    (λ w. (w.store, (w.anon, (w.maps, (w.hat, w.files))))) (λ p. record { store = p.0; anon = p.1.0; maps = p.1.1.0; hat = p.1.1.1.0; files = p.1.1.1.1 }) (λ _. refl)
+
+abbrev pub memory_code : Coded Memory
+memory_code =
+    code_by (World × Spaces) (coded× world_code (finite.code coded_ℕ (coded_list (part_code segment_code)))) (λ m. (m.world, m.spaces)) (λ p. record { world = p.0; spaces = p.1 }) (λ _. refl)
+
+abbrev pub kept_code : Coded KeptPlan
+kept_code =
+    code_by (ℕ × (Plan × Option Caller)) (coded× coded_ℕ (coded× plan.the_row.coded (coded_option (coded× coded_ℕ call.the_row.coded))))
+    (λ k. (k.seat, (k.plan, k.of))) (λ p. record { seat = p.0; plan = p.1.0; of = p.1.1 }) (λ _. refl)
+
+-- What happened; what is between two events; and the set-up.
+abbrev pub Past : Type 0
+Past = set.FinSet nat_cmp × (List Entry × ℕ)
+
+abbrev pub past_code : Coded Past
+past_code = coded× (set.code coded_ℕ) (coded× (coded_list entry.the_row.coded) coded_ℕ)
+
+abbrev pub Between : Type 0
+Between = List (Option ℕ) × (List (Option ℕ) × Option KeptPlan)
+
+abbrev pub between_code : Coded Between
+between_code = coded× (coded_list (coded_option coded_ℕ)) (coded× (coded_list (coded_option coded_ℕ)) (coded_option kept_code))
+
+abbrev pub state_code : Coded KernelState
+state_code =
+    code_by (Memory × (Past × (Between × (List ℕ × List ℕ)))) (coded× memory_code (coded× past_code (coded× between_code (coded× (coded_list coded_ℕ) (coded_list coded_ℕ)))))
+    (λ s. (s.memory, ((s.born, (s.history, s.pending)), ((s.calls, (s.syncs, s.plan)), (s.parents, s.entries)))))
+    (λ p. record { memory = p.0; born = p.1.0.0; history = p.1.0.1.0; pending = p.1.0.1.1; calls = p.1.1.0.0; syncs = p.1.1.0.1.0; plan = p.1.1.0.1.1; parents = p.1.1.1.0; entries = p.1.1.1.1 }) (λ _. refl)

@@ -1,0 +1,71 @@
+//! Transfers that begin.
+ghost use Rattle.std.specs.Prelude.{◌≡◌, ℕ, Some, None};
+ghost use Rattle.page_hash.specs.Names.{is_name};
+ghost use Rattle.page_store.specs.Flight.{note_of};
+ghost use Rattle.page_store.specs.Notes.{Notes};
+ghost use Rattle.page_store.specs.Steps.{next_name};
+ghost use Rattle.page_store.specs.Waits.{Waits, page_of};
+ghost use Rattle.seg_ops.specs.Flights.{BeginsFor};
+ghost use Rattle.vm_world.specs.Events.{IsEvent};
+ghost use Rattle.vm_world.specs.MemoryFits.{MemoryFits};
+ghost use Rattle.vm_world.specs.NotesFit.{NotesFit};
+ghost use Rattle.vm_world.specs.Segments.{Spaces};
+ghost use Rattle.vm_world.specs.State.{KeptPlan};
+ghost use Rattle.vm_world.specs.StateSteps.{PendsTails, after_step};
+ghost use Rattle.vm_world.specs.World.{world_seen, world_table};
+ghost use Rattle.vm_world.specs.WorldSteps.{WorldStep, leaves};
+ghost use Rattle.vm_core.specs.Fits.{FitsAt};
+ghost use Rattle.vm_core.specs.Flights.{CanLeave, IsKeptFor, sent_with};
+
+use crate::state::VmState;
+use block_device::Disk;
+use page_store::{Flight, Plan};
+use seg_ops::{begin_push, begin_read};
+use vm_world::World;
+
+/// Begins the transfer of a plan that can run.
+fn leave<D: Disk>(world: &mut World<D>, seat: u32, plan: Plan) -> Flight<D>
+    requires can { CanLeave (world_seen world.old) plan }
+    requires ready { Waits world.old.store (page_of plan)
+        (world_table (world_seen world.old) (page_of plan)).disk None }
+    requires fits { (spaces : Spaces)
+        × MemoryFits (record { world = world_seen world.old; spaces = spaces }) }
+    // The flight, and the tails that it makes pending.
+    ensures flight { BeginsFor (world_seen world.old) seat plan result }
+    ensures pends { PendsTails (world_seen world.old) (is_name (next_name world.old.store))
+        world.old.pending world.new.pending }
+    // What stays.
+    ensures step { (spaces : Spaces) (notes : Notes)
+        → MemoryFits (record { world = world_seen world.old; spaces = spaces })
+        → NotesFit (world_seen world.old) notes
+        → WorldStep (world_seen world.old) (world_seen world.new) spaces
+        (leaves seat (note_of result)) (is_name (next_name world.old.store)) }
+{
+    match plan {
+        Plan::Read(name) => begin_read(world, seat, name),
+        Plan::Push(name) => begin_push(world, seat, name),
+    }
+}
+
+impl<D: Disk> VmState<D> {
+    /// Begins the transfer of the kept plan: the frame and the disk leave with the flight.
+    ///
+    /// Takes no memory, and makes no disk call. Time: one page, and the page's translations.
+    pub fn begin(&mut self, seat: u32, plan: Plan) -> Flight<D>
+        requires fits { FitsAt self.old seat None }
+        requires kept { (kept : KeptPlan) × IsKeptFor self.old seat plan kept }
+        // The flight is the plan's, and what the seat has outside then is for the process and call of the plan.
+        ensures flight { BeginsFor self.old.memory.world seat plan result }
+        ensures event { (kept : KeptPlan) → IsKeptFor self.old seat plan kept
+            → IsEvent seat self.old None self.new (Some (sent_with kept result)) }
+        // The tail is pending that the name loses which the taken frame held.
+        ensures pends { PendsTails self.old.memory.world
+            (is_name (next_name self.old.memory.world.store)) self.old.pending self.new.pending }
+        // What stays: all but the world. No plan is kept.
+        ensures rest { self.new ≡ after_step self.old self.new.memory.world self.new.pending }
+    {
+        let flight = leave(&mut self.world, seat, plan);
+        self.plan = None;
+        flight
+    }
+}

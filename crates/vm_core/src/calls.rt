@@ -1,0 +1,148 @@
+//! Calls that are tried.
+ghost use Rattle.std.specs.Prelude.{◌≡◌, ◌<◌, ◌≤◌, ℕ, Some, None, length, IfOk, OnErr, IsSome};
+ghost use Rattle.std.specs.FinMap as finite;
+ghost use Rattle.fault_entry.specs.Accesses.{IsAccess};
+ghost use Rattle.page_store.specs.Notes.{Notes};
+ghost use Rattle.flat_model.specs.Told.{entries_of};
+ghost use Rattle.seg_vn.specs.declared.attempt.Attempt.TheVariants.{Done};
+ghost use Rattle.mmap_calls.specs.FileMaps as maps;
+ghost use Rattle.proc_calls.specs.Ends as procs;
+ghost use Rattle.vm_types.specs.WellFormed.{IsWellFormed};
+ghost use Rattle.vm_types.specs.declared.call.Reply.{Reply};
+ghost use Rattle.vm_world.specs.CallSteps.{StaysAlive};
+ghost use Rattle.vm_world.specs.Events.{IsEvent, CanTry};
+ghost use Rattle.vm_world.specs.MemoryFits.{MemoryFits};
+ghost use Rattle.vm_world.specs.NotesFit.{NotesFit};
+ghost use Rattle.vm_world.specs.State.{room_of};
+ghost use Rattle.vm_core.specs.Calls.{IsServed, TakesMemory, AnswersCall, IsOwnReply, with_memory, concluded};
+ghost use Rattle.vm_core.specs.Fits.{FitsAt};
+ghost use Rattle.seg_vn.specs.Serves.{Serves};
+
+use crate::kept::Kept;
+use crate::state::VmState;
+use block_device::Disk;
+use seg_vn::Attempt;
+use std::alloc::AllocError;
+use vm_types::Call;
+
+impl<D: Disk> VmState<D> {
+    /// Tries a call of a process at its seat.
+    ///
+    /// `Done` adds its entry to the history. `Need` is a transfer that is needed first; `begin` begins it. `Busy` says whom the call
+    /// waits for. The error is want of memory, and comes at a mapping call alone. A load or a store whose page has its translation
+    /// takes constant expected time and no memory; none makes a disk call.
+    pub fn try_call(&mut self, seat: u32, process: u32, call: &Call) -> Result<Attempt, AllocError>
+        requires fits { FitsAt self.old seat None }
+        requires formed { IsWellFormed call.now }
+        requires served { IsServed call.now }
+        requires may { CanTry self.old seat process call.now }
+        ensures answers { IfOk result (λ attempt. AnswersCall self.old self.new seat process
+            call.now attempt) }
+        ensures event { IsEvent seat self.old None self.new None }
+        // Want of memory comes at a mapping call alone, and nothing changed then.
+        ensures memory { OnErr result (TakesMemory call.now) }
+        ensures err { OnErr result (self.new ≡ self.old) }
+    {
+        let attempt = self.serve(process, call)?;
+        self.conclude(seat, process, call, &attempt);
+        Ok(attempt)
+    }
+
+    // The entry of a call that is done is made; or the plan is kept that it needs.
+    fn conclude(&mut self, seat: u32, process: u32, call: &Call, attempt: &Attempt)
+        requires { length (entries_of self.old.history process)
+            < room_of self.old.entries process }
+        ensures new { self.new ≡ concluded self.old seat process call.now attempt.now }
+        ensures seated { (reply : Reply) → attempt.now ≡ Done reply
+            → process ≤ length self.old.syncs }
+    {
+        self.plan = None;
+        match *attempt {
+            Attempt::Done(reply) => self.add(process, call, &reply),
+            Attempt::Need(plan) => {
+                self.plan = Some(Kept {
+                    seat,
+                    plan,
+                    of: Some((process, *call)),
+                });
+            }
+            Attempt::Busy(_) => {}
+        }
+    }
+
+    // What is answered to a call of a process that is alive, before its entry is made.
+    fn serve(&mut self, process: u32, call: &Call) -> Result<Attempt, AllocError>
+        requires formed { IsWellFormed call.now }
+        requires served { IsServed call.now }
+        requires alive { IsSome (finite.get self.old.memory.spaces process) }
+        requires fits { MemoryFits self.old.memory }
+        requires noted { (notes : Notes) × NotesFit self.old.memory.world notes }
+        ensures serves { IfOk result (λ attempt. Serves self.old.memory self.new.memory
+            self.old.pending self.new.pending process call.now attempt) }
+        ensures own { IfOk result IsOwnReply }
+        ensures alive { IfOk result (λ attempt. StaysAlive self.new.memory process call.now) }
+        // What stays.
+        ensures rest { self.new ≡ with_memory self.old self.new.memory self.new.pending }
+        ensures memory { OnErr result (TakesMemory call.now) }
+        ensures err { OnErr result (self.new ≡ self.old) }
+    {
+        match *call {
+            Call::Load { .. } | Call::Store { .. } => Ok(self.access(process, call)),
+            Call::Map { .. } => self.map(process, call),
+            Call::Exit => Ok(self.exit(process, call)),
+            _ => unreachable!(),
+        }
+    }
+
+    // What is answered to a load or a store.
+    fn access(&mut self, process: u32, call: &Call) -> Attempt
+        requires access { IsAccess call.now }
+        requires alive { IsSome (finite.get self.old.memory.spaces process) }
+        requires fits { MemoryFits self.old.memory }
+        requires noted { (notes : Notes) × NotesFit self.old.memory.world notes }
+        ensures serves { Serves self.old.memory self.new.memory
+            self.old.pending self.new.pending process call.now result }
+        ensures own { IsOwnReply result }
+        ensures alive { StaysAlive self.new.memory process call.now }
+        // What stays.
+        ensures rest { self.new ≡ with_memory self.old self.new.memory self.new.pending }
+    {
+        fault_entry::attempt(&mut self.world, &mut self.spaces, process, call)
+    }
+
+    // What is answered to a shared Map of a file at an address.
+    fn map(&mut self, process: u32, call: &Call) -> Result<Attempt, AllocError>
+        requires formed { IsWellFormed call.now }
+        requires served { maps.IsServedMap call.now }
+        requires alive { IsSome (finite.get self.old.memory.spaces process) }
+        requires fits { MemoryFits self.old.memory }
+        ensures serves { IfOk result (λ attempt. Serves self.old.memory self.new.memory
+            self.old.pending self.new.pending process call.now attempt) }
+        ensures own { IfOk result IsOwnReply }
+        ensures alive { IfOk result (λ attempt. StaysAlive self.new.memory process call.now) }
+        // What stays.
+        ensures rest { self.new ≡ with_memory self.old self.new.memory self.new.pending }
+        ensures err { OnErr result (self.new ≡ self.old) }
+    {
+        let from = self.ledger.history().len() as u64;
+        mmap_calls::attempt(&mut self.world, &mut self.spaces, process, call, from)
+    }
+
+    // What is answered to an Exit.
+    fn exit(&mut self, process: u32, call: &Call) -> Attempt
+        requires served { procs.IsServedExit call.now }
+        requires alive { IsSome (finite.get self.old.memory.spaces process) }
+        requires fits { MemoryFits self.old.memory }
+        ensures serves { Serves self.old.memory self.new.memory
+            self.old.pending self.new.pending process call.now result }
+        ensures own { IsOwnReply result }
+        // What stays.
+        ensures rest { self.new ≡ with_memory self.old self.new.memory self.new.pending }
+    {
+        let Ok(attempt) = proc_calls::attempt(&mut self.world, &mut self.spaces, process, call)
+        else {
+            unreachable!();
+        };
+        attempt
+    }
+}

@@ -1,0 +1,155 @@
+//! The two hands of the clock.
+ghost use Rattle.std.specs.Prelude.{◌≡◌, ◌<◌, ℕ, None, length, option_map, IfSome};
+ghost use Rattle.page_store.specs.Notes.{Notes};
+ghost use Rattle.seg_ops.specs.Steps.{KeepsPages};
+ghost use Rattle.vm_world.specs.Events.{IsEvent};
+ghost use Rattle.vm_world.specs.MemoryFits.{MemoryFits};
+ghost use Rattle.vm_world.specs.NotesFit.{NotesFit};
+ghost use Rattle.vm_world.specs.Plans.{CanRunPlan};
+ghost use Rattle.vm_world.specs.Segments.{Spaces};
+ghost use Rattle.vm_world.specs.World.{world_seen};
+ghost use Rattle.vm_core.specs.Clock.{ClockMoves, GathersUse, FrontClears, BackLooks, after_hand, kept_of_clock, plan_in};
+ghost use Rattle.vm_core.specs.State.{kept_seen};
+ghost use Rattle.vm_core.specs.Fits.{FitsAt};
+
+use crate::kept::Kept;
+use crate::state::VmState;
+use block_device::Disk;
+use page_store::{Pick, Plan};
+use seg_ops::{Step, ask, evict, sync};
+use vm_world::World;
+
+/// What the translations of a frame say of its use, its row says then.
+fn gather_use<D: Disk>(world: &mut World<D>, frame: u32)
+    requires frame { frame < length world.old.store.frames }
+    requires fits { (spaces : Spaces)
+        × MemoryFits (record { world = world_seen world.old; spaces = spaces }) }
+    ensures gathers { GathersUse (world_seen world.old) (world_seen world.new) frame }
+    ensures rest { world.new ≡ record world.old { store = world.new.store; hat = world.new.hat } }
+    ensures keeps { (spaces : Spaces)
+        → MemoryFits (record { world = world_seen world.old; spaces = spaces })
+        → KeepsPages (world_seen world.old) (world_seen world.new) spaces }
+{
+    if !world.store.listed(frame) {
+        sync(world, frame);
+    }
+}
+
+/// The front hand: a page isn't referenced any more.
+fn clear_use<D: Disk>(world: &mut World<D>, frame: u32)
+    requires frame { frame < length world.old.store.frames }
+    requires fits { (spaces : Spaces)
+        × MemoryFits (record { world = world_seen world.old; spaces = spaces }) }
+    ensures clears { FrontClears (world_seen world.old) (world_seen world.new) frame }
+    ensures rest { world.new ≡ record world.old { store = world.new.store; hat = world.new.hat } }
+    ensures keeps { (spaces : Spaces)
+        → MemoryFits (record { world = world_seen world.old; spaces = spaces })
+        → KeepsPages (world_seen world.old) (world_seen world.new) spaces }
+{
+    gather_use(world, frame);
+    let (_referenced, modified) = world.store.bits(frame);
+    world.store.set_bits(frame, false, modified);
+}
+
+/// The back hand: a page that wasn't used is released, and one that is to be pushed is answered.
+fn look<D: Disk>(world: &mut World<D>, frame: u32) -> Option<Plan>
+    requires frame { frame < length world.old.store.frames }
+    requires fits { (spaces : Spaces)
+        × MemoryFits (record { world = world_seen world.old; spaces = spaces }) }
+    requires noted { (notes : Notes) × NotesFit (world_seen world.old) notes }
+    // What the hand does, and a push that can run.
+    ensures looks { BackLooks (world_seen world.old) (world_seen world.new) frame result }
+    ensures runs { (spaces : Spaces)
+        → MemoryFits (record { world = world_seen world.old; spaces = spaces })
+        → IfSome result (CanRunPlan (record { world = world_seen world.new; spaces = spaces }) None) }
+    // What stays.
+    ensures rest { world.new ≡ record world.old { store = world.new.store; hat = world.new.hat } }
+    ensures keeps { (spaces : Spaces)
+        → MemoryFits (record { world = world_seen world.old; spaces = spaces })
+        → KeepsPages (world_seen world.old) (world_seen world.new) spaces }
+{
+    if world.store.holder(frame).is_some() || world.store.listed(frame) {
+        return None;
+    }
+    gather_use(world, frame);
+    let (referenced, modified) = world.store.bits(frame);
+    if referenced {
+        return None;
+    }
+    if !modified {
+        evict(world, frame);
+        return None;
+    }
+    let Some(name) = world.store.name_of(frame) else {
+        unreachable!();
+    };
+    plan_in(ask(world, Plan::Push(name)))
+}
+
+/// The plan that is answered, where it can begin.
+fn plan_in(step: Step) -> Option<Plan>
+    ensures { result ≡ plan_in step }
+{
+    match step {
+        Step::Need(plan) => Some(plan),
+        Step::Loaded | Step::Past | Step::Busy(_) => None,
+    }
+}
+
+/// The hand whose turn it is moves.
+fn turn_hand<D: Disk>(world: &mut World<D>) -> Option<Plan>
+    requires fits { (spaces : Spaces)
+        × MemoryFits (record { world = world_seen world.old; spaces = spaces }) }
+    requires noted { (notes : Notes) × NotesFit (world_seen world.old) notes }
+    // What the hand does, and a push that can run.
+    ensures moves { ClockMoves (world_seen world.old) (world_seen world.new) result }
+    ensures runs { (spaces : Spaces)
+        → MemoryFits (record { world = world_seen world.old; spaces = spaces })
+        → IfSome result (CanRunPlan (record { world = world_seen world.new; spaces = spaces }) None) }
+    // What stays.
+    ensures rest { world.new ≡ record world.old { store = world.new.store; hat = world.new.hat } }
+    ensures keeps { (spaces : Spaces)
+        → MemoryFits (record { world = world_seen world.old; spaces = spaces })
+        → KeepsPages (world_seen world.old) (world_seen world.new) spaces }
+{
+    match world.store.clock_turn() {
+        Pick::Front(frame) => {
+            clear_use(world, frame);
+            None
+        }
+        Pick::Back(frame) => look(world, frame),
+    }
+}
+
+/// The plan as it is kept for the clock.
+fn keep(seat: u32, plan: Option<Plan>) -> Option<Kept>
+    ensures { option_map kept_seen result ≡ option_map (kept_of_clock seat) plan }
+{
+    match plan {
+        Some(plan) => Some(Kept {
+            seat,
+            plan,
+            of: None,
+        }),
+        None => None,
+    }
+}
+
+impl<D: Disk> VmState<D> {
+    /// One move of a hand: the front hand clears the reference bits of its page, and the back hand lets go of a page that wasn't
+    /// referenced since. Some, a push, where that page has to be written first; `begin` then begins it.
+    ///
+    /// Takes no memory, and makes no disk call. Time: the page's translations.
+    pub fn clock(&mut self, seat: u32) -> Option<Plan>
+        requires fits { FitsAt self.old seat None }
+        ensures moves { ClockMoves self.old.memory.world self.new.memory.world result }
+        ensures event { IsEvent seat self.old None self.new None }
+        // What stays: all but the world and the plan that is kept.
+        ensures rest { self.new ≡ after_hand self.old self.new.memory.world
+            (option_map (kept_of_clock seat) result) }
+    {
+        let plan = turn_hand(&mut self.world);
+        self.plan = keep(seat, plan);
+        plan
+    }
+}

@@ -1,0 +1,88 @@
+//! Transfers that end.
+ghost use Rattle.std.specs.Prelude.{◌≡◌, ◌≢◌, ◌≤◌, ℕ, Some, None, false, option_map};
+ghost use Rattle.flat_model.specs.Counted.{top_count};
+ghost use Rattle.page_store.specs.Bays.{bay_at, home};
+ghost use Rattle.page_store.specs.Flight.{IsPerformed, fresh};
+ghost use Rattle.page_store.specs.Notes.{Note, Notes};
+ghost use Rattle.page_store.specs.Out.{IsFlightOf};
+ghost use Rattle.vm_world.specs.Events.{IsEvent};
+ghost use Rattle.vm_world.specs.MemoryFits.{MemoryFits};
+ghost use Rattle.vm_world.specs.NotesFit.{NotesFit};
+ghost use Rattle.vm_world.specs.State.{Sent};
+ghost use Rattle.vm_world.specs.StateSteps.{after_step};
+ghost use Rattle.vm_world.specs.WorldSteps.{WorldStep, returns};
+ghost use Rattle.vm_core.specs.Fits.{FitsAt};
+ghost use Rattle.vm_core.specs.Flights.{IsBack, answer_at_end, EndsWith};
+
+use crate::state::VmState;
+use block_device::Disk;
+use page_store::Flight;
+use seg_ops::end_flight;
+use vm_types::{Call, Reply};
+
+// No count is past the end of counts.
+fn within_counts(count: u64)
+    ensures { count ≤ top_count }
+{
+    let _ = count;
+}
+
+impl<D: Disk> VmState<D> {
+    /// Ends a transfer: its frame and its disk come back. `call` is the process and call that it was for. Some, with the device
+    /// error, exactly where the transfer failed and a call is given; that is then the reply to the call.
+    ///
+    /// Takes no memory, and makes no disk call. Constant expected time.
+    pub fn end(&mut self, seat: u32, flight: Flight<D>, call: Option<(u32, &Call)>) -> Option<Reply>
+        requires back { (sent : Sent) × FitsAt self.old seat (Some sent)
+            × IsBack sent flight (option_map (λ (c : ℕ × _). (c.0, c.1.now)) call) }
+        // The answer is the error with the flight's own counts, and the entry that it adds is the only one.
+        ensures answer { result
+            ≡ answer_at_end flight (option_map (λ (c : ℕ × _). (c.0, c.1.now)) call.entry) }
+        ensures entry { EndsWith self.old self.new
+            (option_map (λ (c : ℕ × _). (c.0, c.1.now)) call.entry) result }
+        ensures event { (sent : Sent)
+            → IsBack sent flight (option_map (λ (c : ℕ × _). (c.0, c.1.now)) call.entry)
+            → IsEvent seat self.old (Some sent) self.new None }
+        // The disk is home again.
+        ensures disk { bay_at self.new.memory.world.store.bays flight.number ≡ home flight.disk }
+        // What stays.
+        ensures spaces { self.new.memory.spaces ≡ self.old.memory.spaces }
+        ensures plan { self.new.plan ≡ None }
+    {
+        let (disk, before, after) = flight.counts();
+        let failed = flight.has_failed();
+        within_counts(after);
+        self.land(flight);
+        match call {
+            Some((process, call)) if failed => {
+                let reply = Reply::Io {
+                    disk,
+                    before,
+                    after,
+                };
+                self.release_file(seat, call);
+                self.add(process, call, &reply);
+                Some(reply)
+            }
+            _ => None,
+        }
+    }
+
+    // The flight's frame and disk come back, and no plan is kept.
+    fn land(&mut self, flight: Flight<D>)
+        requires out { IsFlightOf self.old.memory.world.store flight }
+        requires performed { flight.outcome ≢ fresh }
+        ensures new { self.new
+            ≡ after_step self.old self.new.memory.world self.old.pending }
+        ensures disk { bay_at self.new.memory.world.store.bays flight.number ≡ home flight.disk }
+        ensures step { (notes : Notes) (note : Note)
+            → MemoryFits self.old.memory
+            → NotesFit self.old.memory.world notes → notes flight.seat ≡ Some note
+            → IsPerformed note flight
+            → WorldStep self.old.memory.world self.new.memory.world self.old.memory.spaces
+            (returns flight.seat note) (λ name. false) }
+    {
+        end_flight(&mut self.world, flight);
+        self.plan = None;
+    }
+}

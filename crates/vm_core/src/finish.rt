@@ -1,0 +1,110 @@
+//! The end: modified and blank pages of files go to their disks, and the history and the disks come out.
+ghost use Rattle.std.specs.Prelude.{◌≡◌, ℕ, None, IfNone, IfSome, MatchOption, slice_index_or};
+ghost use Rattle.page_store.specs.Bays.{bay_at, home, missing, home_faults, pairs_seen};
+ghost use Rattle.page_store.specs.Notes.{no_notes};
+ghost use Rattle.page_store.specs.Seen.{IsSoundStore};
+ghost use Rattle.vm_core.specs.Finish.{FitsStill, disks_of, HoldAllFiles, IsLastFault, KeepDisks, KeepRecords, HaveNoBlankPage};
+ghost use Rattle.vm_world.specs.MemoryFits.{MemoryFits};
+ghost use Rattle.vm_world.specs.NotesFit.{NotesFit};
+ghost use Rattle.vm_world.specs.Segments.{Spaces};
+ghost use Rattle.vm_world.specs.World.{world_seen, AllTell};
+
+use crate::blanks::fill_if_pushed;
+use crate::closing::push_files;
+use crate::history::KernelHistory;
+use crate::state::VmState;
+use block_device::{Disk, DiskFault};
+use page_store::Store;
+use vm_types::Entry;
+use vm_world::World;
+use vnode_files::Files;
+
+/// What is left of a kernel: its history, files and disks, and the transfer that failed as it was closed, if one did.
+#[derive(Drop)]
+pub struct Finished<D: Disk> {
+    pub history: KernelHistory,
+    pub files: Files,
+    pub disks: Vec<(u32, D)>,
+    pub swap: Option<D>,
+    pub fault: Option<DiskFault>,
+}
+
+/// How many faults each disk has counted, by number.
+fn fault_counts<D: Disk>(store: &Store<D>) -> [Option<u64>; 9]
+    requires { IsSoundStore store.now }
+    ensures { (disk : ℕ)
+        → slice_index_or result disk None ≡ home_faults (bay_at store.now.bays disk) }
+{
+    let mut counts = [None; 9];
+    for disk in 0..9 {
+        counts[disk] = store.faults(disk as u32);
+    }
+    counts
+}
+
+/// Writes a world's files to their disks, which come out with what is left.
+fn finish_world<D: Disk>(world: World<D>, entries: Vec<Entry>) -> Finished<D>
+    requires fits { (spaces : Spaces)
+        × MemoryFits (record { world = world_seen world; spaces = spaces }) }
+    requires noted { NotesFit (world_seen world) no_notes }
+    // The history comes out, with each disk's count of faults as the call began.
+    ensures history { result.history.entries ≡ entries.items }
+    ensures counts { (disk : ℕ) → slice_index_or result.history.faults disk None
+        ≡ home_faults (bay_at world.store.bays disk) }
+    // Without a fault the disks have the pages of the files, where they tell.
+    ensures closed { IfNone result.fault (AllTell (world_seen world) no_notes
+        → HoldAllFiles (world_seen world) (pairs_seen D.seen result.disks.items)) }
+    ensures filled { IfNone result.fault (HaveNoBlankPage result.files) }
+    // A fault is that of a transfer of this call, the last one.
+    ensures fault { IfSome result.fault
+        (IsLastFault (disks_of (world_seen world)) (pairs_seen D.seen result.disks.items)) }
+    // What stays.
+    ensures disks { KeepDisks world.files (disks_of (world_seen world))
+        (pairs_seen D.seen result.disks.items) }
+    ensures swap { MatchOption result.swap (bay_at world.store.bays 8 ≡ missing)
+        (λ disk. bay_at world.store.bays 8 ≡ home (D.seen disk)) }
+    ensures files { KeepRecords world.files result.files }
+{
+    let faults = fault_counts(&world.store);
+    let mut world = world;
+    let pushed = push_files(&mut world);
+    let (mut disks, swap) = world.store.into_disks();
+    let mut files = world.files;
+    let fault = fill_if_pushed(pushed, &mut files, disks.as_mut_slice());
+    Finished {
+        history: KernelHistory::of(entries, faults),
+        files,
+        disks,
+        swap,
+        fault,
+    }
+}
+
+impl<D: Disk> VmState<D> {
+    /// Closes the kernel: each modified page of a file is pushed once, in rising order of file and page; then zeros are written
+    /// to each page below its file's length that is still blank, in the same order. It stops at the first transfer that fails.
+    ///
+    /// Takes no memory. Time: two looks at each page of each file, and the transfers.
+    pub fn finish(self) -> Finished<D>
+        requires { FitsStill self }
+        // The history comes out, with each disk's count of faults as the call began.
+        ensures history { result.history.entries ≡ self.history }
+        ensures counts { (disk : ℕ) → slice_index_or result.history.faults disk None
+            ≡ home_faults (bay_at self.memory.world.store.bays disk) }
+        // Without a fault the disks hold all files, where they tell, and no page of a file is blank.
+        ensures closed { IfNone result.fault (AllTell self.memory.world no_notes
+            → HoldAllFiles self.memory.world (pairs_seen D.seen result.disks.items)) }
+        ensures filled { IfNone result.fault (HaveNoBlankPage result.files) }
+        // A fault is that of a transfer of this call, the last one of its disk.
+        ensures fault { IfSome result.fault (IsLastFault (disks_of self.memory.world)
+            (pairs_seen D.seen result.disks.items)) }
+        // What stays, with a fault too.
+        ensures disks { KeepDisks self.memory.world.files (disks_of self.memory.world)
+            (pairs_seen D.seen result.disks.items) }
+        ensures swap { MatchOption result.swap (bay_at self.memory.world.store.bays 8 ≡ missing)
+            (λ disk. bay_at self.memory.world.store.bays 8 ≡ home (D.seen disk)) }
+        ensures files { KeepRecords self.memory.world.files result.files }
+    {
+        finish_world(self.world, self.ledger.into_history())
+    }
+}

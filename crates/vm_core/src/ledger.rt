@@ -1,0 +1,101 @@
+//! The history, which has room for all entries that the processes may make.
+ghost use Rattle.std.specs.Prelude.{◌≡◌, ◌+◌, ◌<◌, ◌≤◌, ◌++◌, ◌∷◌, ◌^◌, [], length, sum_by, IfOk};
+ghost use Rattle.flat_model.specs.Told.{entries_of};
+ghost use Rattle.vm_world.specs.State.{room_of};
+
+use std::alloc::{AllocError, Global};
+use std::marker::Model;
+use vm_types::{Call, Entry, Reply};
+
+/// The history, and of each process from 1 on the most entries that it may make.
+#[derive(Drop)]
+pub struct Ledger {
+    history: Vec<Entry>,
+    entries: Vec<u32>,
+    // How many entries are left to each process.
+    left: Vec<u32>,
+}
+
+impl Model for Ledger {
+    ghost use Rattle.std.specs.Prelude.{vec_capacity};
+    ghost use Rattle.vm_core.specs.Ledger.{LedgerSeen, IsSoundLedger};
+
+    ghost Value = { LedgerSeen };
+
+    ghost view = { λ l. record { history = l.history.items; entries = l.entries.items } };
+
+    ghost invariant = { λ l. IsSoundLedger l.history.items (vec_capacity l.history) l.entries.items l.left.items };
+}
+
+// How many entries all processes may make.
+fn total(entries: &[u32]) -> usize
+    requires { length entries.now < 2 ^ 32 }
+    ensures { result ≡ sum_by (λ n. n) entries.now }
+{
+    let mut sum = 0usize;
+    for most in entries {
+        sum += *most as usize;
+    }
+    sum
+}
+
+impl Ledger {
+    /// No entries yet, and the room for all. The only error is want of memory.
+    pub fn new(alloc: Global, entries: &[u32]) -> Result<Ledger, AllocError>
+        requires { length entries.now < 2 ^ 32 }
+        ensures history { IfOk result (λ ledger. ledger.history ≡ []) }
+        ensures entries { IfOk result (λ ledger. ledger.entries ≡ entries.now) }
+    {
+        Ok(Ledger {
+            history: Vec::with_capacity(alloc, total(entries))?,
+            entries: entries.to_vec(alloc)?,
+            left: entries.to_vec(alloc)?,
+        })
+    }
+
+    /// How many entries a process may still make; 0 for one that is none. Constant time.
+    pub fn room(&self, process: u32) -> u32
+        ensures { length (entries_of self.now.history process) + result
+            ≡ room_of self.now.entries process }
+    {
+        match process.checked_sub(1) {
+            Some(place) if (place as usize) < self.left.len() => self.left[place as usize],
+            _ => 0,
+        }
+    }
+
+    /// Adds an entry of a process that may make one more. Takes no memory.
+    pub fn push(&mut self, process: u32, call: &Call, reply: &Reply, cleared: u64)
+        requires { length (entries_of self.old.history process)
+            < room_of self.old.entries process }
+        ensures history { self.new.history ≡ self.old.history ++ record {
+          process = process;
+          call = call.now;
+          reply = reply.now;
+          cleared = cleared;
+        } ∷ [] }
+        ensures entries { self.new.entries ≡ self.old.entries }
+    {
+        self.left[process as usize - 1] -= 1;
+        self.history.push_reserved(Entry {
+            process,
+            call: *call,
+            reply: *reply,
+            cleared,
+        });
+    }
+
+    /// The entries.
+    pub fn history(&self) -> &[Entry]
+        ensures { result.now ≡ self.now.history }
+    {
+        self.history.as_slice()
+    }
+
+    /// Hands the entries out.
+    pub fn into_history(self) -> Vec<Entry>
+        ensures { result.items ≡ self.history }
+    {
+        self.history
+    }
+}

@@ -1,0 +1,24 @@
+//! The events of the virtual memory system on one state: pages by name over frames, disks and translations, for any number of
+//! seats, with transfers that are out between two events; and the end, with the history that the state kept.
+#![tactic(auto)]
+
+mod begins;
+mod blanks;
+mod calls;
+mod clock;
+mod closing;
+mod ends;
+mod finish;
+mod history;
+mod kept;
+mod ledger;
+mod setup;
+mod start;
+mod state;
+
+pub use finish::Finished;
+pub use history::KernelHistory;
+pub use kept::Kept;
+pub use seg_vn::Attempt;
+pub use setup::Setup;
+pub use state::VmState;

@@ -1,0 +1,135 @@
+//! The state, and what it tells.
+ghost use Rattle.std.specs.Prelude.{◌≡◌, ◌↔◌, ◌+◌, ◌<◌, ◌≤◌, ℕ, length, option_map, IsSome, IsTrue};
+ghost use Rattle.std.specs.FinMap as finite;
+ghost use Rattle.flat_model.specs.Told.{entries_of};
+ghost use Rattle.vm_world.specs.State.{room_of};
+ghost use Rattle.vm_types.specs.Parts.{part_file};
+ghost use Rattle.vm_core.specs.State.{kept_seen, with_next_entry, without_seat, calls_without};
+
+use crate::kept::Kept;
+use crate::ledger::Ledger;
+use block_device::Disk;
+use seg_vn::Spaces;
+use std::marker::Model;
+use vm_types::{Call, Reply, part_file};
+use vm_world::World;
+
+/// How many files there may be.
+pub(crate) const FILES: usize = 64;
+
+/// The state of the system: the world below the segments, the spaces, and the history.
+///
+/// Contracts see it as a `KernelState`. What a seat has outside it, a transfer between its begin and its end, the caller keeps.
+#[derive(Drop)]
+pub struct VmState<D: Disk> {
+    pub(crate) world: World<D>,
+    pub(crate) spaces: Spaces,
+    // The history, and of each process the most entries that it may make.
+    pub(crate) ledger: Ledger,
+    // Of each file the seat whose call is between two parts.
+    pub(crate) calls: [Option<u32>; FILES],
+    // Of each seat where its Sync began.
+    pub(crate) syncs: Vec<Option<u64>>,
+    // The last plan that was answered.
+    pub(crate) plan: Option<Kept>,
+    // Of each process whether it was ever alive, and its parent.
+    pub(crate) born: Vec<bool>,
+    pub(crate) parents: Vec<u32>,
+}
+
+// The call of a file that is a seat's is over.
+fn release(calls: &mut [Option<u32>; FILES], file: usize, seat: u32)
+    ensures { calls.new ≡ calls_without seat (Some file) calls.old }
+{
+    if file < FILES {
+        calls[file] = without_seat(seat, calls[file]);
+    }
+}
+
+// None where it is this seat.
+fn without_seat(seat: u32, holder: Option<u32>) -> Option<u32>
+    ensures { result ≡ without_seat seat holder }
+{
+    match holder {
+        Some(other) if other != seat => holder,
+        _ => None,
+    }
+}
+
+impl<D: Disk> Model for VmState<D> {
+    ghost use Rattle.std.specs.Prelude.{option_map, length};
+    ghost use Rattle.vm_world.specs.State.{KernelState};
+    ghost use Rattle.vm_world.specs.World.{world_seen};
+    ghost use Rattle.vm_core.specs.State.{kept_seen, born_of, IsKept};
+    ghost use Rattle.vm_core.specs.StateCode.{state_code};
+
+    ghost Value = { KernelState };
+
+    ghost coded = { state_code };
+
+    ghost view = { λ s. record {
+      memory = record { world = world_seen s.world; spaces = s.spaces.spaces };
+      born = born_of s.born.items;
+      history = s.ledger.history;
+      pending = s.world.pending;
+      calls = s.calls;
+      syncs = s.syncs.items;
+      plan = option_map kept_seen s.plan;
+      parents = s.parents.items;
+      entries = s.ledger.entries;
+    } };
+
+    ghost invariant = { λ s. IsKept s.world.store s.spaces.spaces s.ledger.entries (length s.syncs.items) };
+}
+
+impl<D: Disk> VmState<D> {
+    /// Whether a process is alive. Constant time.
+    pub fn is_alive(&self, process: u32) -> bool
+        ensures { IsTrue result ↔ IsSome (finite.get self.now.memory.spaces process) }
+    {
+        self.spaces.get(process).is_some()
+    }
+
+    /// How many entries a process may still make; 0 for one that is none. Constant time.
+    pub fn room(&self, process: u32) -> u32
+        ensures { length (entries_of self.now.history process) + result
+            ≡ room_of self.now.entries process }
+    {
+        self.ledger.room(process)
+    }
+
+    // Adds an entry of a process, which takes the pending tails. No Sync of the process has begun then.
+    pub(crate) fn add(&mut self, process: u32, call: &Call, reply: &Reply)
+        requires { length (entries_of self.old.history process)
+            < room_of self.old.entries process }
+        ensures new { self.new
+            ≡ with_next_entry self.old (record {
+              process = process;
+              call = call.now;
+              reply = reply.now;
+              cleared = self.old.pending;
+            }) }
+        ensures seated { process ≤ length self.old.syncs }
+    {
+        self.ledger.push(process, call, reply, self.world.pending);
+        self.world.pending = 0;
+        self.syncs[process as usize - 1] = None;
+    }
+
+    // Where this call is a part of a file whose call is the seat's, that call of the file is over.
+    pub(crate) fn release_file(&mut self, seat: u32, call: &Call)
+        ensures { self.new
+            ≡ record self.old { calls = calls_without seat (part_file call.now) self.old.calls } }
+    {
+        if let Some(file) = part_file(call) {
+            release(&mut self.calls, file as usize, seat);
+        }
+    }
+
+    /// The last plan that an event answered, where no event came since.
+    pub fn kept(&self) -> Option<Kept>
+        ensures { option_map kept_seen result ≡ self.now.plan }
+    {
+        self.plan
+    }
+}
