@@ -120,21 +120,22 @@ def turn():
 
 
 def layers():
-    p = Picture('layers.svg', 'The layers', 820, 560)
+    p = Picture('layers.svg', 'The layers', 820, 640)
     rows = [
         (30, [('sunvm', 'run, main')]),
-        (110, [('vm_script', 'plans'), ('vm_report', 'texts'), ('vm_core', 'events'), ('kernel_lock', 'one state, one history')]),
-        (220, [('vm_world', 'what the state means'), ('seg_ops', 'small steps'), ('page_store', 'pages by name'), ('volume_format', 'block 0')]),
-        (300, [('core_arena', 'frames'), ('page_hash', 'names'), ('page_lists', 'free, cached'), ('page_lock', 'holders, bits'), ('page_clock', 'two hands')]),
-        (380, [('anon_slots', 'counts'), ('anon_map', 'arrays'), ('hat_layer', 'translations'), ('addr_space', 'pieces'), ('vnode_files', 'extents')]),
-        (470, [('block_device', 'disks, streams'), ('disk_file', 'a real disk'), ('swap_slots', 'least free'), ('flat_model', 'what it all means'), ('vm_types', 'calls, replies')]),
+        (110, [('vm_script', 'plans'), ('vm_report', 'texts'), ('one_file_core', 'one file'), ('kernel_lock', 'one state, one history')]),
+        (220, [('vm_core', 'events'), ('fault_entry', 'loads, stores'), ('mmap_calls', 'mappings'), ('proc_calls', 'exit'), ('seg_vn', 'segments')]),
+        (300, [('vm_world', 'what the state means'), ('seg_ops', 'small steps'), ('page_store', 'pages by name'), ('volume_format', 'block 0')]),
+        (380, [('core_arena', 'frames'), ('page_hash', 'names'), ('page_lists', 'free, cached'), ('page_lock', 'holders, bits'), ('page_clock', 'two hands')]),
+        (460, [('anon_slots', 'counts'), ('anon_map', 'arrays'), ('hat_layer', 'translations'), ('addr_space', 'pieces'), ('vnode_files', 'extents')]),
+        (550, [('block_device', 'disks, streams'), ('disk_file', 'a real disk'), ('swap_slots', 'least free'), ('flat_model', 'what it all means'), ('vm_types', 'calls, replies')]),
     ]
     for y, crates in rows:
         w = min(150, (790 - 10 * (len(crates) - 1)) / len(crates))
         left = (820 - w * len(crates) - 10 * (len(crates) - 1)) / 2
         for i, (name, words) in enumerate(crates):
             p.box(left + i * (w + 10), y, w, 52, name, words)
-    p.text(410, 205, 'sunvm stands on vm_core, flat_model, vnode_files and block_device today; the others stand, proved, and wait for the core', 'small')
+    p.text(410, 205, 'sunvm stands on one_file_core, flat_model, vnode_files and block_device today; the others stand, proved, and wait for the program', 'small')
     p.save()
 
 
