@@ -10,10 +10,11 @@ use Rattle.page_lock.specs.Rows.{row_at}
 use Rattle.page_store.specs.Bays.{block_of}
 use Rattle.page_store.specs.Bytes.{clipped}
 use Rattle.page_store.specs.Laws.{FillsPage}
-use Rattle.page_store.specs.Moves.{after_taking}
+use Rattle.page_store.specs.Moves.{after_taking, FillsFrame}
 use Rattle.page_store.specs.Notes.{Notes}
 use Rattle.page_store.specs.Seen.{StoreSeen, IsListedFrame, residence}
 use Rattle.page_store.specs.Steps.{next_frame, next_name, name_in, after_fill, at_frame, with_frame_filled, fresh_row}
+use Rattle.page_store.specs.StoreFits.{StoreFits}
 use Rattle.page_store.specs.Table.{Table}
 use Rattle.page_store.specs.Value.{value, value_in, held, note_of_holder, stored, content_of}
 use Rattle.page_store.specs.declared.residence.Residence.TheVariants.{Home, Absent}
@@ -38,21 +39,40 @@ some-of None h = absurd (let z : false ≡ true = h in cc)
 some-of (Some x) h = (x, refl)
 
 -- the store's call, as it is used here
-pub takes-for : (w : World) (spaces : Spaces) (new : StoreSeen) (name : PageName) (frame : ℕ) → MemoryFits (memory_of w spaces) → next_frame w.store ≡ Some frame → residence w.store name ≡ Absent → name.object ≢ 64 → (name.object == 64) ≡ false
-    → new ≡ after_fill w.store name zeros (name.object == 64) → FillsPage w.store new name (name.object == 64) (λ notes table. zeros) → TakesFor w.store new name frame
-takes-for w spaces new name frame f next absent file plain step laws =
-    let calm : FillsPage w.store new name false (λ notes table. zeros) = subst (λ (b : Bool). FillsPage w.store new name b (λ notes table. zeros)) plain laws in
+pub takes-page : (w : World) (spaces : Spaces) (new : StoreSeen) (name : PageName) (frame : ℕ) (page : List ℕ) (modified : Bool) (given : Notes → Table → List ℕ) → MemoryFits (memory_of w spaces) → next_frame w.store ≡ Some frame → residence w.store name ≡ Absent
+    → new ≡ after_fill w.store name page modified → FillsPage w.store new name modified given → TakesFor w.store new name frame
+takes-page w spaces new name frame page modified given f next absent step laws =
     let lt : frame < length w.store.frames = some-within w.store.frames frame (f.frames.sound.listed frame (next-listed w.store frame next)) in
-    let done : new ≡ with_frame_filled w.store frame name zeros (name.object == 64) = step ∙ ap (λ (o : Option ℕ). at_frame o w.store (λ g. with_frame_filled w.store g name zeros (name.object == 64))) next in
+    let done : new ≡ with_frame_filled w.store frame name page modified = step ∙ ap (λ (o : Option ℕ). at_frame o w.store (λ g. with_frame_filled w.store g name page modified)) next in
     record {
+      page = page;
+      modified = modified;
+      given = given;
       next = next;
       core = ap core_of done;
       absent = absent;
-      bytes = ap (λ (s : StoreSeen). bytes_at s.frames frame) done ∙ get_or-set_same w.store.frames frame (Some zeros) None lt;
-      home = of-next (next_frame w.store) frame (λ g. residence new name ≡ Home g) next calm.home;
-      row = of-next (next_frame w.store) frame (λ g. row_at new.rows g ≡ fresh_row false) next calm.row;
-      unlisted = of-next (next_frame w.store) frame (λ g. ¬ IsListedFrame new g) next calm.unlisted;
-      laws = calm;
+      bytes = ap (λ (s : StoreSeen). bytes_at s.frames frame) done ∙ get_or-set_same w.store.frames frame (Some page) None lt;
+      home = of-next (next_frame w.store) frame (λ g. residence new name ≡ Home g) next laws.home;
+      row = of-next (next_frame w.store) frame (λ g. row_at new.rows g ≡ fresh_row modified) next laws.row;
+      unlisted = of-next (next_frame w.store) frame (λ g. ¬ IsListedFrame new g) next laws.unlisted;
+      laws = laws;
+    }
+
+-- What the store's call says of a page of zeros of a file.
+pub record TakesZeros (w : World) (new : StoreSeen) (name : PageName) (frame : ℕ) : Type 0 where
+  pub takes : TakesFor w.store new name frame
+  pub zeroed : bytes_at new.frames frame ≡ Some zeros
+  pub values : (notes : Notes) (table : Table) → StoreFits w.store notes table → FillsFrame w.store notes new notes table name zeros
+
+pub takes-for : (w : World) (spaces : Spaces) (new : StoreSeen) (name : PageName) (frame : ℕ) → MemoryFits (memory_of w spaces) → next_frame w.store ≡ Some frame → residence w.store name ≡ Absent
+    → new ≡ after_fill w.store name zeros (name.object == 64) → FillsPage w.store new name (name.object == 64) (λ notes table. zeros) → TakesZeros w new name frame
+takes-for w spaces new name frame f next absent step laws =
+    let lt : frame < length w.store.frames = some-within w.store.frames frame (f.frames.sound.listed frame (next-listed w.store frame next)) in
+    let done : new ≡ with_frame_filled w.store frame name zeros (name.object == 64) = step ∙ ap (λ (o : Option ℕ). at_frame o w.store (λ g. with_frame_filled w.store g name zeros (name.object == 64))) next in
+    record {
+      takes = takes-page w spaces new name frame zeros (name.object == 64) (λ notes table. zeros) f next absent step laws;
+      zeroed = ap (λ (s : StoreSeen). bytes_at s.frames frame) done ∙ get_or-set_same w.store.frames frame (Some zeros) None lt;
+      values = laws.values;
     }
 
 -- the value of a blank page that no frame holds
@@ -76,9 +96,10 @@ next-whole w spaces notes n f cut = by_next (next_frame w.store) refl cut
         let v = home-value w.store notes (world_table w) n frame (bytes_at w.store.frames frame) (find-some w.store.names n frame f.frames.sound.distinct at) refl home in
         ap (λ (b : Page). length b) (value-is w notes n is ∙ v.2) ∙ (f.frames.sound.each frame (some-within w.store.frames frame home)).size v.0 v.1
 
-pub fill-step : (w : World) (spaces : Spaces) (new : StoreSeen) (name : PageName) (frame : ℕ) → MemoryFits (memory_of w spaces) → TakesFor w.store new name frame → IsTrue (page_exists w.files w.anon name) → name.object ≢ 64 → IsTrue (is_unpushed w.files w.anon name)
+pub fill-step : (w : World) (spaces : Spaces) (new : StoreSeen) (name : PageName) (frame : ℕ) → MemoryFits (memory_of w spaces) → TakesZeros w new name frame → IsTrue (page_exists w.files w.anon name) → name.object ≢ 64 → IsTrue (is_unpushed w.files w.anon name)
     → WorldStep w (with_tables w new w.hat) spaces stays (is_name (next_name w.store))
-fill-step w spaces new name frame f k exists file unpushed =
+fill-step w spaces new name frame f z exists file unpushed =
+    let k = z.takes in
     let real = exists-page w name f.files exists in
     let blank : (world_table w name).blank ≡ true = blank-is w name f.files real ∙ unpushed in
     let valid = valid-within w name f.files real in
@@ -94,12 +115,12 @@ fill-step w spaces new name frame f k exists file unpushed =
       frames = k.laws.touches.frames;
       bays = k.laws.outside.bays;
       memory = fill-memory w spaces new name frame f k exists file;
-      notes = λ notes trip nf. fill-notes w spaces new name frame notes f k blank valid (k.laws.values notes (world_table w) nf.stored).fits nf;
-      tells = λ notes trip nf. tell-kept w new w.hat notes (k.laws.values notes (world_table w) nf.stored).alike;
+      notes = λ notes trip nf. fill-notes w spaces new name frame notes f k z.zeroed blank valid (z.values notes (world_table w) nf.stored).fits nf;
+      tells = λ notes trip nf. tell-kept w new w.hat notes (z.values notes (world_table w) nf.stored).alike;
       whole = λ notes n trip nf tell exists cut. next-whole w spaces notes n f cut;
       pages = λ notes n trip nf tell there.
           let is = exists-page w n f.files there in
-          let call = k.laws.values notes (world_table w) nf.stored in
+          let call = z.values notes (world_table w) nf.stored in
           elim (cases_Bool (is_name (Some name) n)) [
             | inl same ↦
                 let e : name ≡ n = let z : Some name ≡ Some n = is_name-true (Some name) n same in cc in

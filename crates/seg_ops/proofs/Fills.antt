@@ -18,6 +18,7 @@ use Rattle.page_store.specs.Notes.{Note, Notes}
 use Rattle.page_store.specs.Seen.{StoreSeen, IsSoundStore, IsListedFrame, own_frame, residence}
 use Rattle.page_store.specs.Steps.{next_frame, name_in, fresh_row}
 use Rattle.page_store.specs.StoreFits.{StoreFits, IsClean}
+use Rattle.page_store.specs.Table.{Table}
 use Rattle.page_store.specs.Transfers.{rewritten_in}
 use Rattle.page_store.specs.Value.{stored, tells, content_of}
 use Rattle.page_store.specs.declared.place.Place.{Place}
@@ -34,16 +35,19 @@ use Rattle.vm_world.proofs.PageNames.{page-cases, file-place, slot-place}
 use Rattle.vm_world.proofs.FrameRule.{exists-page}
 use Rattle.seg_ops.proofs.StillSteps.{with_tables, memory_of}
 
--- What the store's call says of a page of zeros of a file.
+-- What the store's call says of a page that the next frame is taken for.
 pub record TakesFor (old new : StoreSeen) (name : PageName) (frame : ℕ) : Type 0 where
+  pub page : List ℕ
+  pub modified : Bool
+  pub given : Notes → Table → List ℕ
   pub next : next_frame old ≡ Some frame
   pub core : core_of new ≡ core_of old
   pub absent : residence old name ≡ Absent
-  pub bytes : bytes_at new.frames frame ≡ Some zeros
+  pub bytes : bytes_at new.frames frame ≡ Some page
   pub home : residence new name ≡ Home frame
-  pub row : row_at new.rows frame ≡ fresh_row false
+  pub row : row_at new.rows frame ≡ fresh_row modified
   pub unlisted : ¬ IsListedFrame new frame
-  pub laws : FillsPage old new name false (λ notes table. zeros)
+  pub laws : FillsPage old new name modified given
 
 pub next-listed : (s : StoreSeen) (frame : ℕ) → next_frame s ≡ Some frame → IsListedFrame s frame
 next-listed s frame e = by_lists s.free s.cached e
@@ -57,13 +61,13 @@ pub held-by : (s : StoreSeen) (n : PageName) (frame : ℕ) → residence s n ≡
 held-by s n frame home = find-at s.names n frame (home-is s n frame home).found
 
 -- what the frames that weren't taken keep
-record Elsewhere (old new : StoreSeen) (j : ℕ) : Type 0 where
+pub record Elsewhere (old new : StoreSeen) (j : ℕ) : Type 0 where
   pub bytes : bytes_at new.frames j ≡ bytes_at old.frames j
   pub name : name_at new.names j ≡ name_at old.names j
   pub row : row_at new.rows j ≡ row_at old.rows j
   pub listed : IsListedFrame new j → IsListedFrame old j
 
-elsewhere : (old new : StoreSeen) (name : PageName) (frame j : ℕ) → TakesFor old new name frame → j ≢ frame → Elsewhere old new j
+pub elsewhere : (old new : StoreSeen) (name : PageName) (frame j : ℕ) → TakesFor old new name frame → j ≢ frame → Elsewhere old new j
 elsewhere old new name frame j k ne =
     let t = k.laws.touches in
     let out : only (next_frame old) j ≡ false = ap (λ (o : Option ℕ). only o j) k.next ∙ elim (eqb_tells j frame) [ inl same ↦ absurd (ne same.1) | inr apart ↦ apart.0 ] in
@@ -75,24 +79,24 @@ elsewhere old new name frame j k ne =
     }
 
 -- a page that was home in another frame is there still
-stays-home : (old new : StoreSeen) (name n : PageName) (frame g : ℕ) → IsSoundStore old → TakesFor old new name frame → g ≢ frame → residence old n ≡ Home g → residence new n ≡ Home g
+pub stays-home : (old new : StoreSeen) (name n : PageName) (frame g : ℕ) → IsSoundStore old → TakesFor old new name frame → g ≢ frame → residence old n ≡ Home g → residence new n ≡ Home g
 stays-home old new name n frame g sound k apart home =
     k.laws.stay n
     (λ e. let z : Absent ≡ Home g = sym k.absent ∙ ap (residence old) (sym e) ∙ home in cc)
     (λ e. apart (sound.distinct g frame n (held-by old n g home) (sym (ap (name_in old.names) k.next) ∙ e)))
     ∙ home
 
-still-listed : (old new : StoreSeen) (name : PageName) (frame j : ℕ) → TakesFor old new name frame → IsListedFrame new j → (j ≢ frame) × IsListedFrame old j
+pub still-listed : (old new : StoreSeen) (name : PageName) (frame j : ℕ) → TakesFor old new name frame → IsListedFrame new j → (j ≢ frame) × IsListedFrame old j
 still-listed old new name frame j k l = elim (cases_eq j frame) [
   | inl e ↦ absurd (k.unlisted (subst (λ (i : ℕ). IsListedFrame new i) e l))
   | inr ne ↦ (ne, (elsewhere old new name frame j k ne).listed l)
 ]
 
-modified-elsewhere : (old new : StoreSeen) (places : List (Option Translation)) (name : PageName) (frame j : ℕ) → TakesFor old new name frame → j ≢ frame → IsModified old places j → IsModified new places j
+pub modified-elsewhere : (old new : StoreSeen) (places : List (Option Translation)) (name : PageName) (frame j : ℕ) → TakesFor old new name frame → j ≢ frame → IsModified old places j → IsModified new places j
 modified-elsewhere old new places name frame j k ne m = elim m [ inl r ↦ inl (ap (λ (x : Row). x.modified) (elsewhere old new name frame j k ne).row ∙ r) | inr w ↦ inr w ]
 
 -- a name that a frame holds then: the new one in the taken frame, any other where it was
-named : (old new : StoreSeen) (name : PageName) (frame j : ℕ) (n : PageName) → TakesFor old new name frame → name_at new.names j ≡ Some n → ((j ≡ frame) × (name ≡ n)) ⊎ ((j ≢ frame) × (name_at old.names j ≡ Some n))
+pub named : (old new : StoreSeen) (name : PageName) (frame j : ℕ) (n : PageName) → TakesFor old new name frame → name_at new.names j ≡ Some n → ((j ≡ frame) × (name ≡ n)) ⊎ ((j ≢ frame) × (name_at old.names j ≡ Some n))
 named old new name frame j n k h = elim (cases_eq j frame) [
   | inl e ↦ inl (e, let z : Some name ≡ Some n = sym (held-by new name frame k.home) ∙ ap (λ (i : ℕ). name_at new.names i) (sym e) ∙ h in cc)
   | inr ne ↦ inr (ne, sym (elsewhere old new name frame j k ne).name ∙ h)
@@ -147,7 +151,7 @@ zeros-cut (suc n) (suc m) le = let e : suc m - suc n ≡ m - n = omega arith in 
 clip-zeros : (n : ℕ) → n ≤ 4096 → clipped n zeros ≡ zeros
 clip-zeros n le = zeros-cut n 4096 le
 
-away-home : (b : Option (List ℕ)) → b ≡ None → IsSome b → ⊥
+pub away-home : (b : Option (List ℕ)) → b ≡ None → IsSome b → ⊥
 away-home None e h = let z : false ≡ true = h in cc
 away-home (Some x) e h = absurd (cc)
 
@@ -165,11 +169,11 @@ not-true true h = absurd (let z : false ≡ true = h in cc)
 not-true false h = refl
 
 -- a note is none of the taken frame's, nor of its own page's
-note-apart : (w : World) (spaces : Spaces) (new : StoreSeen) (name : PageName) (frame seat : ℕ) (notes : Notes) (note : Note) → MemoryFits (memory_of w spaces) → TakesFor w.store new name frame → StoreFits w.store notes (world_table w) → notes seat ≡ Some note → note.frame ≢ frame
+pub note-apart : (w : World) (spaces : Spaces) (new : StoreSeen) (name : PageName) (frame seat : ℕ) (notes : Notes) (note : Note) → MemoryFits (memory_of w spaces) → TakesFor w.store new name frame → StoreFits w.store notes (world_table w) → notes seat ≡ Some note → note.frame ≢ frame
 note-apart w spaces new name frame seat notes note f k fits is e =
     away-home (bytes_at w.store.frames frame) (ap (λ (i : ℕ). bytes_at w.store.frames i) (sym e) ∙ (fits.each_note seat note is).away) (f.frames.sound.listed frame (next-listed w.store frame k.next))
 
-own-apart : (s : StoreSeen) (note frame : ℕ) (o : Option ℕ) → IsSoundStore s → IsListedFrame s frame → note ≢ frame → (row_at s.rows note).source ≡ o → unwrap_or o note ≢ frame
+pub own-apart : (s : StoreSeen) (note frame : ℕ) (o : Option ℕ) → IsSoundStore s → IsListedFrame s frame → note ≢ frame → (row_at s.rows note).source ≡ o → unwrap_or o note ≢ frame
 own-apart s note frame None sound listed ne e = ne
 own-apart s note frame (Some own) sound listed ne e = λ same. sound.paired.unlisted own note (sound.paired.snapshot own note e) (subst (λ (i : ℕ). IsListedFrame s i) (sym same) listed)
 
@@ -177,7 +181,7 @@ rewritten-same : (old new : StoreSeen) (o : Option ℕ) (note : ℕ) → row_at 
 rewritten-same old new None note e = refl
 rewritten-same old new (Some own) note e = ap (λ (r : Row). r.rewritten) e
 
-push-stays : (w : World) (spaces : Spaces) (new : StoreSeen) (name : PageName) (frame seat : ℕ) (notes : Notes) (note : Note) → MemoryFits (memory_of w spaces) → TakesFor w.store new name frame → StoreFits w.store notes (world_table w) → notes seat ≡ Some note
+pub push-stays : (w : World) (spaces : Spaces) (new : StoreSeen) (name : PageName) (frame seat : ℕ) (notes : Notes) (note : Note) → MemoryFits (memory_of w spaces) → TakesFor w.store new name frame → StoreFits w.store notes (world_table w) → notes seat ≡ Some note
     → PushFits w.store w.hat.places (world_table w) note → PushFits new w.hat.places (world_table w) note
 push-stays w spaces new name frame seat notes note f k fits is p =
     let apart = note-apart w spaces new name frame seat notes note f k fits is in
@@ -197,11 +201,11 @@ push-stays w spaces new name frame seat notes note f k fits is p =
     }
 
 -- the page of zeros is clean: it is blank, and only a push of a gone page writes it
-clean-taken : (w : World) (spaces : Spaces) (new : StoreSeen) (name : PageName) (frame : ℕ) (notes : Notes) → MemoryFits (memory_of w spaces) → TakesFor w.store new name frame → NotesFit w notes → (world_table w name).blank ≡ true → (world_table w name).valid ≤ 4096
+clean-taken : (w : World) (spaces : Spaces) (new : StoreSeen) (name : PageName) (frame : ℕ) (notes : Notes) → MemoryFits (memory_of w spaces) → TakesFor w.store new name frame → bytes_at new.frames frame ≡ Some zeros → NotesFit w notes → (world_table w name).blank ≡ true → (world_table w name).valid ≤ 4096
     → IsClean new notes (world_table w) frame name
-clean-taken w spaces new name frame notes f k nf blank valid = record {
+clean-taken w spaces new name frame notes f k zeroed nf blank valid = record {
   same = λ tell b is.
-      let b_is : zeros ≡ b = let z : Some zeros ≡ Some b = sym k.bytes ∙ is in cc in
+      let b_is : zeros ≡ b = let z : Some zeros ≡ Some b = sym zeroed ∙ is in cc in
       ap (clipped (world_table w name).valid) (sym b_is) ∙ clip-zeros (world_table w name).valid valid
       ∙ sym (ap (λ (x : Bool). cond x zeros (clipped (world_table w name).valid (block_of (content_of new notes (world_table w name).disk) (world_table w name).block))) blank);
   unwritten = λ seat note is writes same.
@@ -235,12 +239,12 @@ was-taken w spaces frame seat notes note f listed nf is writes home =
           ],
     )
 
-pub fill-notes : (w : World) (spaces : Spaces) (new : StoreSeen) (name : PageName) (frame : ℕ) (notes : Notes) → MemoryFits (memory_of w spaces) → TakesFor w.store new name frame → (world_table w name).blank ≡ true → (world_table w name).valid ≤ 4096
+pub fill-notes : (w : World) (spaces : Spaces) (new : StoreSeen) (name : PageName) (frame : ℕ) (notes : Notes) → MemoryFits (memory_of w spaces) → TakesFor w.store new name frame → bytes_at new.frames frame ≡ Some zeros → (world_table w name).blank ≡ true → (world_table w name).valid ≤ 4096
     → StoreFits new notes (world_table w) → NotesFit w notes → NotesFit (with_tables w new w.hat) notes
-fill-notes w spaces new name frame notes f k blank valid fits nf = record {
+fill-notes w spaces new name frame notes f k zeroed blank valid fits nf = record {
   stored = fits;
   clean = λ j n name_is there. elim (named w.store new name frame j n k name_is) [
-    | inl e ↦ inr (subst (λ (i : ℕ). IsClean new notes (world_table w) i n) (sym e.0) (subst (λ (m : PageName). IsClean new notes (world_table w) frame m) e.1 (clean-taken w spaces new name frame notes f k nf blank valid)))
+    | inl e ↦ inr (subst (λ (i : ℕ). IsClean new notes (world_table w) i n) (sym e.0) (subst (λ (m : PageName). IsClean new notes (world_table w) frame m) e.1 (clean-taken w spaces new name frame notes f k zeroed nf blank valid)))
     | inr e ↦ elim (nf.clean j n e.1 (subst (λ (b : Option (List ℕ)). IsSome b) (elsewhere w.store new name frame j k e.0).bytes there)) [
       | inl m ↦ inl (modified-elsewhere w.store new w.hat.places name frame j k e.0 m)
       | inr c ↦ inr (record {

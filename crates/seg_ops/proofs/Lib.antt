@@ -26,3 +26,12 @@ pub mod Prepared
 pub mod Blocks
 pub mod Unloads
 pub mod TrialLemmas
+pub mod SlotPlaces
+pub mod SlotCounts
+pub mod SlotTables
+pub mod SlotMemory
+pub mod SlotNotes
+pub mod SlotSteps
+pub mod SlotCells
+pub mod SlotFlat
+pub mod SlotOwners

@@ -3,3 +3,4 @@ pub mod Plans
 pub mod Marks
 pub mod Flights
 pub mod Trials
+pub mod Slots

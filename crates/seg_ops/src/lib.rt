@@ -2,6 +2,7 @@
 #![tactic(auto)]
 
 mod accesses;
+mod anon;
 mod blank;
 mod drops;
 mod flights;
@@ -13,6 +14,7 @@ mod tables;
 mod tails;
 
 pub use accesses::{read, write};
+pub use anon::{make_copy, make_zero, places_law};
 pub use blank::fill;
 pub use drops::drop_translation;
 pub use flights::{begin_push, begin_read, mark_pushed};

@@ -6,7 +6,7 @@ use Rattle.page_store.specs.Steps.{next_frame, next_name, after_fill}
 use Rattle.vm_world.specs.World.{World, world_seen, file_name}
 use Rattle.vm_world.specs.WorldSteps.{WorldStep, stays}
 use Rattle.vm_world.proofs.PageNames.{file-apart, not-slot}
-use Rattle.seg_ops.proofs.FillSteps.{some-of, takes-for, fill-step}
+use Rattle.seg_ops.proofs.FillSteps.{TakesZeros, some-of, takes-for, fill-step}
 use Rattle.seg_ops.proofs.Fills.{TakesFor}
 use Rattle.seg_ops.proofs.Pending.{loses}
 use Rattle.seg_ops.proofs.blank.fill.Given.{Over}
@@ -17,7 +17,7 @@ use Rattle.seg_ops.proofs.blank.fill.Goals as goal
 record Filled (g : Over) (c : After-pend_tail g) : Type 0 where
   pub frame : ℕ
   pub store : c.pend_tail.new.world.store ≡ c.fill_zero.new.self
-  pub takes : TakesFor c.args.world.now.store c.fill_zero.new.self (file_name c.args.file c.args.page) frame
+  pub takes : TakesZeros (world_seen c.args.world.now) c.fill_zero.new.self (file_name c.args.file c.args.page) frame
   pub file : c.args.file ≢ 64
 
 is : (g : Over) (c : After-pend_tail g) → Filled g c
@@ -29,7 +29,7 @@ is g c =
     record {
       frame = next.0;
       store = ap (λ v. v.store) c.pend_tail.ensures.rest;
-      takes = takes-for w c.requires.fits.0 c.fill_zero.new.self (file_name c.args.file c.args.page) next.0 fits next.1 c.requires.absent apart (not-slot c.args.file apart) c.fill_zero.ensures.new c.fill_zero.ensures.laws;
+      takes = takes-for w c.requires.fits.0 c.fill_zero.new.self (file_name c.args.file c.args.page) next.0 fits next.1 c.requires.absent c.fill_zero.ensures.new c.fill_zero.ensures.laws;
       file = apart;
     }
 
@@ -41,7 +41,7 @@ returns-clause-store g c =
 pub returns-clause-took : goal.returns-clause-took
 returns-clause-took g c =
     let i = is g (goal.at.returns-clause-took g c).After-pend_tail in
-    let taken = subst (λ (s : StoreSeen). TakesFor c.args.world.now.store s (file_name c.args.file c.args.page) i.frame) (sym i.store) i.takes in
+    let taken = subst (λ (s : StoreSeen). TakesFor c.args.world.now.store s (file_name c.args.file c.args.page) i.frame) (sym i.store) i.takes.takes in
     loses (world_seen c.args.world.now) (world_seen c.pend_tail.new.world) taken.laws.sound taken.laws.lost
 
 pub returns-clause-step : goal.returns-clause-step

@@ -1,0 +1,60 @@
+use Rattle.std.proofs.Common.{◌≡◌, ℕ, true, List, Option, Some, sym, ap, subst, slice_set}
+use Rattle.page_hash.specs.Names.{find, is_name}
+use Rattle.page_lock.specs.Rows.{row_at}
+use Rattle.page_lock.specs.declared.Row.{Row}
+use Rattle.page_store.specs.Steps.{next_frame, next_name, fresh_row, home_bytes}
+use Rattle.page_store.specs.Moves.{FillsFrame}
+use Rattle.page_store.specs.Value.{value}
+use Rattle.anon_map.specs.Maps.{Map, places_of, with_places}
+use Rattle.anon_slots.specs.Slots.{Slots, IsSoundAnonSlots}
+use Rattle.vm_world.specs.World.{World, world_seen, slot_name}
+use Rattle.vm_world.proofs.Counting.{room}
+use Rattle.seg_ops.specs.Slots.{MakesSlot, MakesPage}
+use Rattle.seg_ops.proofs.FillSteps.{of-next, some-of, takes-page}
+use Rattle.seg_ops.proofs.SlotCounts.{made-slot, least-there}
+use Rattle.seg_ops.proofs.SlotFlat.{changes-owned}
+use Rattle.seg_ops.proofs.SlotMemory.{AreShown, free-absent, copy-shown, next-exists, home-value_bytes}
+use Rattle.seg_ops.proofs.SlotSteps.{made-page}
+use Rattle.seg_ops.proofs.anon.make_copy.Given.{Over}
+use Rattle.seg_ops.proofs.anon.make_copy.Goals.{After-set, After-pend_tail}
+use Rattle.seg_ops.proofs.anon.make_copy.Goals as goal
+
+pub make-slot-requires : goal.make-slot-requires
+make-slot-requires g c = let fit = c.requires.fits.1 in room c.args.world.now.anon c.args.world.now.maps c.args.map c.args.place fit.counts c.requires.within c.requires.empty
+
+pub copy-requires-clause-absent : goal.copy-requires-clause-absent
+copy-requires-clause-absent g c = free-absent (world_seen c.args.world.now) c.make-slot.result c.requires.fits.1.frames c.make-slot.ensures.free
+
+-- the slot that was made
+slot : (g : Over) (c : After-set g) → MakesSlot c.args.world.now.anon c.make-slot.new.self c.args.world.now.maps c.set.new.self c.args.map c.args.place c.make-slot.result
+slot g c =
+    let w = world_seen c.args.world.now in
+    let s = c.make-slot.result in
+    let sound = subst IsSoundAnonSlots c.make-slot.ensures.new c.make-slot.ensures.sound in
+    subst (λ (ps : List (Option Map)). MakesSlot w.anon c.make-slot.new.self w.maps ps c.args.map c.args.place s) (sym c.set.ensures)
+    (subst (λ (a : Slots). MakesSlot w.anon a w.maps (with_places w.maps c.args.map (slice_set (places_of w.maps c.args.map) c.args.place (Some s))) c.args.map c.args.place s) (sym c.make-slot.ensures.new)
+    (made-slot w.anon w.maps c.args.map c.args.place s c.requires.fits.1.counts c.make-slot.ensures.free (least-there w.anon.counts s c.make-slot.ensures.least) sound c.requires.within c.requires.empty))
+
+pub pend_tail-requires-clause-exists : goal.pend_tail-requires-clause-exists
+pend_tail-requires-clause-exists g c =
+    let w = world_seen c.args.world.now in
+    next-exists w c.requires.fits.0 c.make-slot.new.self c.set.new.self c.args.map c.args.place c.make-slot.result c.next_name-lost.result c.requires.fits.1 (slot g (goal.at.pend_tail-requires-clause-exists g c).After-set) c.next_name-lost.ensures
+
+pub returns-clause-makes : goal.returns-clause-makes
+returns-clause-makes g c = λ spaces p q x fits owns unloaded.
+    let w = world_seen c.args.world.now in
+    let s = c.make-slot.result in
+    let k = slot g (goal.at.returns-clause-makes g c).After-set in
+    let next = some-of (next_frame w.store) c.requires.available in
+    let bytes = home_bytes w.store (find w.store.names c.args.from) in
+    let takes = takes-page w spaces c.copy.new.self (slot_name s) next.0 bytes true (λ notes table. value w.store notes table c.args.from) fits next.1 (free-absent w s fits.frames k.free) c.copy.ensures.new c.copy.ensures.laws in
+    let shown = subst (λ (ps : List (Option Map)). AreShown w spaces ps) (sym k.set) (copy-shown w spaces p q c.args.map c.args.place s x c.requires.within c.requires.empty owns unloaded) in
+    subst (λ (v : World). MakesPage w v spaces (is_name (next_name w.store)) c.args.map c.args.place s bytes) (sym (ap world_seen c.pend_tail.ensures.rest))
+    (made-page w spaces c.copy.new.self c.make-slot.new.self c.set.new.self c.args.map c.args.place s next.0 bytes fits k takes
+    (ap (λ (r : Row). r.modified) (of-next (next_frame w.store) next.0 (λ frame. row_at c.copy.new.self.rows frame ≡ fresh_row true) next.1 c.copy.ensures.laws.row)) shown
+    (λ notes table stored. subst (λ (b : List ℕ). FillsFrame w.store notes c.copy.new.self notes table (slot_name s) b) (home-value_bytes w.store notes table c.args.from c.requires.source.0 c.requires.source.1) (c.copy.ensures.laws.values notes table stored)))
+
+pub returns-clause-changes : goal.returns-clause-changes
+returns-clause-changes g c = λ spaces p q x fits owns unloaded.
+    changes-owned p q x (world_seen c.args.world.now) (world_seen c.pend_tail.new.world) spaces (is_name (next_name c.args.world.now.store)) c.args.map c.args.place c.make-slot.result (home_bytes c.args.world.now.store (find c.args.world.now.store.names c.args.from)) fits
+    (returns-clause-makes g c spaces p q x fits owns unloaded) owns

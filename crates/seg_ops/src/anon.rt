@@ -1,0 +1,148 @@
+//! Pages of anonymous memory: a slot is made for an empty place of an anon map, with its page.
+ghost use Rattle.std.specs.Prelude.{◌≡◌, ◌<◌, ℕ, length, true, Some, None, IsSome, IfSome, slice_set};
+ghost use Rattle.core_arena.specs.Bytes.{zeros};
+ghost use Rattle.hat_layer.specs.Pool.{at};
+ghost use Rattle.page_hash.specs.Names.{find, is_name};
+ghost use Rattle.page_store.specs.Seen.{IsListedFrame, residence};
+ghost use Rattle.page_store.specs.Steps.{next_frame, next_name, after_fill, home_bytes};
+ghost use Rattle.anon_map.specs.Maps.{IsMapThere, places_of, with_places};
+ghost use Rattle.anon_slots.specs.Slots.{with_new_slot};
+ghost use Rattle.flat_model.specs.Step.{tails_cleared};
+ghost use Rattle.vm_world.specs.CallSteps.{ChangesMemory};
+ghost use Rattle.vm_world.specs.MemoryFits.{MemoryFits};
+ghost use Rattle.vm_world.specs.Segments.{Spaces, Spot};
+ghost use Rattle.vm_world.specs.Serving.{LosesFrame};
+ghost use Rattle.vm_world.specs.StateSteps.{PendsTails};
+ghost use Rattle.vm_world.specs.World.{world_seen, slot_name, slot_in};
+ghost use Rattle.vm_world.specs.WorldSteps.{tails_lost};
+ghost use Rattle.seg_ops.specs.Slots.{MakesPage, IsNewZero, OwnsAlone, PlacesLaw, with_own_page};
+
+use crate::tails::pend_tail;
+use block_device::Disk;
+use page_store::{PageName, Residence, SWAP_OBJECT};
+use vm_world::World;
+
+/// Makes a slot with a page of zeros for an empty place of an anon map: one of new zero memory, or of a zero object. The
+/// name that the next frame held is cut at its valid bytes. Time: one page, and as `AnonSlots::make`.
+pub fn make_zero<D: Disk>(world: &mut World<D>, map: u32, place: u32) -> u32
+    requires there { IsMapThere world.old.maps map }
+    requires within { place < length (places_of world.old.maps map) }
+    requires empty { slot_in world.old.maps map place ≡ None }
+    requires available { IsSome (next_frame world.old.store) }
+    requires fits { (spaces : Spaces)
+        × MemoryFits (record { world = world_seen world.old; spaces = spaces }) }
+    // The slot is made for the place, and its page is home, in the frame that was taken.
+    ensures anon { world.new.anon ≡ with_new_slot world.old.anon result }
+    ensures maps { world.new.maps ≡ with_places world.old.maps map
+        (slice_set (places_of world.old.maps map) place (Some result)) }
+    ensures store { world.new.store ≡ after_fill world.old.store (slot_name result) zeros true }
+    ensures home { IfSome (next_frame world.old.store)
+        (λ frame. residence world.new.store (slot_name result) ≡ Residence.Home frame) }
+    ensures unlisted { IfSome (next_frame world.old.store)
+        (λ frame. ¬ IsListedFrame world.new.store frame) }
+    // The tail of the file whose last page lost the frame is pending.
+    ensures pends { PendsTails (world_seen world.old) (is_name (next_name world.old.store))
+        world.old.pending world.new.pending }
+    ensures took { IfSome (next_name world.old.store)
+        (λ name. LosesFrame (world_seen world.old) (world_seen world.new) name) }
+    // What stays.
+    ensures rest { world.new ≡ record world.old {
+      store = world.new.store;
+      anon = world.new.anon;
+      maps = world.new.maps;
+      pending = world.new.pending;
+    } }
+    ensures makes { (spaces : Spaces)
+        → MemoryFits (record { world = world_seen world.old; spaces = spaces })
+        → IsNewZero spaces map place
+        → MakesPage (world_seen world.old) (world_seen world.new) spaces
+        (is_name (next_name world.old.store)) map place result zeros }
+    // Flat memory loses that tail, and nothing else changes: the place showed zeros before.
+    ensures changes { (spaces : Spaces) (p : ℕ)
+        → MemoryFits (record { world = world_seen world.old; spaces = spaces })
+        → IsNewZero spaces map place
+        → ChangesMemory p (record { world = world_seen world.old; spaces = spaces })
+        (record { world = world_seen world.new; spaces = spaces })
+        (λ F G. G ≡ tails_cleared F
+        (tails_lost (world_seen world.old) (is_name (next_name world.old.store)))) }
+{
+    let lost = world.store.next_name();
+    let slot = world.anon.make();
+    world.maps.set(map, place, Some(slot));
+    world.store.fill_zero(PageName {
+        object: SWAP_OBJECT,
+        page: slot,
+    });
+    pend_tail(world, lost);
+    slot
+}
+
+/// Makes a slot for an empty place of a private mapping's map, with the bytes of a page that is home: the page gets a page
+/// of its own. The page that the place is for has no translation. The name that the next frame held is cut at its valid
+/// bytes. Time: one page, and as `AnonSlots::make`.
+pub fn make_copy<D: Disk>(world: &mut World<D>, from: PageName, map: u32, place: u32) -> u32
+    requires there { IsMapThere world.old.maps map }
+    requires within { place < length (places_of world.old.maps map) }
+    requires empty { slot_in world.old.maps map place ≡ None }
+    requires source { (frame : ℕ) × (residence world.old.store from ≡ Residence.Home frame)
+        × (¬ IsListedFrame world.old.store frame) }
+    requires available { IsSome (next_frame world.old.store) }
+    requires fits { (spaces : Spaces)
+        × MemoryFits (record { world = world_seen world.old; spaces = spaces }) }
+    // The slot is made for the place, and its page is home, in the frame that was taken.
+    ensures anon { world.new.anon ≡ with_new_slot world.old.anon result }
+    ensures maps { world.new.maps ≡ with_places world.old.maps map
+        (slice_set (places_of world.old.maps map) place (Some result)) }
+    ensures store { world.new.store ≡ after_fill world.old.store (slot_name result)
+        (home_bytes world.old.store (find world.old.store.names from)) true }
+    ensures home { IfSome (next_frame world.old.store)
+        (λ frame. residence world.new.store (slot_name result) ≡ Residence.Home frame) }
+    ensures unlisted { IfSome (next_frame world.old.store)
+        (λ frame. ¬ IsListedFrame world.new.store frame) }
+    // The tail of the file whose last page lost the frame is pending.
+    ensures pends { PendsTails (world_seen world.old) (is_name (next_name world.old.store))
+        world.old.pending world.new.pending }
+    ensures took { IfSome (next_name world.old.store)
+        (λ name. LosesFrame (world_seen world.old) (world_seen world.new) name) }
+    // What stays.
+    ensures rest { world.new ≡ record world.old {
+      store = world.new.store;
+      anon = world.new.anon;
+      maps = world.new.maps;
+      pending = world.new.pending;
+    } }
+    ensures makes { (spaces : Spaces) (p q : ℕ) (x : Spot)
+        → MemoryFits (record { world = world_seen world.old; spaces = spaces })
+        → OwnsAlone spaces p q map place x → at world.old.hat.places p q ≡ None
+        → MakesPage (world_seen world.old) (world_seen world.new) spaces
+        (is_name (next_name world.old.store)) map place result
+        (home_bytes world.old.store (find world.old.store.names from)) }
+    // In flat memory the cell of that page gets a page of its own, and the tail is lost.
+    ensures changes { (spaces : Spaces) (p q : ℕ) (x : Spot)
+        → MemoryFits (record { world = world_seen world.old; spaces = spaces })
+        → OwnsAlone spaces p q map place x → at world.old.hat.places p q ≡ None
+        → ChangesMemory p (record { world = world_seen world.old; spaces = spaces })
+        (record { world = world_seen world.new; spaces = spaces })
+        (λ F G. G ≡ tails_cleared (with_own_page F p q
+        (home_bytes world.old.store (find world.old.store.names from)))
+        (tails_lost (world_seen world.old) (is_name (next_name world.old.store)))) }
+{
+    let lost = world.store.next_name();
+    let slot = world.anon.make();
+    world.maps.set(map, place, Some(slot));
+    world.store.copy(
+        from,
+        PageName {
+            object: SWAP_OBJECT,
+            page: slot,
+        },
+    );
+    pend_tail(world, lost);
+    slot
+}
+
+/// Whose own place a place of an anon map is, where memory fits.
+#[tactic(auto, using(crate::proofs::SlotOwners::places_law))]
+pub fn places_law()
+    ensures { PlacesLaw }
+{}
