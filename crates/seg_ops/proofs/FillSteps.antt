@@ -79,7 +79,7 @@ takes-for w spaces new name frame f next absent step laws =
 pub absent-zeros : (s : StoreSeen) (notes : Notes) (table : Table) (n : PageName) → find s.names n ≡ None → (table n).blank ≡ true → value s notes table n ≡ zeros
 absent-zeros s notes table n none blank = ap (λ (o : Option ℕ). value_in o s notes (table n)) none ∙ ap (λ (b : Bool). cond b zeros (clipped (table n).valid (block_of (content_of s notes (table n).disk) (table n).block))) blank
 
-home-value : (s : StoreSeen) (notes : Notes) (table : Table) (n : PageName) (frame : ℕ) (b : Option (List ℕ)) → find s.names n ≡ Some frame → bytes_at s.frames frame ≡ b → IsSome b → (bytes : List ℕ) × (b ≡ Some bytes) × (value s notes table n ≡ bytes)
+pub home-value : (s : StoreSeen) (notes : Notes) (table : Table) (n : PageName) (frame : ℕ) (b : Option (List ℕ)) → find s.names n ≡ Some frame → bytes_at s.frames frame ≡ b → IsSome b → (bytes : List ℕ) × (b ≡ Some bytes) × (value s notes table n ≡ bytes)
 home-value s notes table n frame None at is there = absurd (let z : false ≡ true = there in cc)
 home-value s notes table n frame (Some bytes) at is there = (bytes, refl, ap (λ (o : Option ℕ). value_in o s notes (table n)) at ∙ ap (λ (x : Option (List ℕ)). held x (note_of_holder (row_at s.rows frame).holder notes) (stored s notes (table n))) is)
 

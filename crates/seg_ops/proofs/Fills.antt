@@ -177,7 +177,7 @@ pub own-apart : (s : StoreSeen) (note frame : ℕ) (o : Option ℕ) → IsSoundS
 own-apart s note frame None sound listed ne e = ne
 own-apart s note frame (Some own) sound listed ne e = λ same. sound.paired.unlisted own note (sound.paired.snapshot own note e) (subst (λ (i : ℕ). IsListedFrame s i) (sym same) listed)
 
-rewritten-same : (old new : StoreSeen) (o : Option ℕ) (note : ℕ) → row_at new.rows (unwrap_or o note) ≡ row_at old.rows (unwrap_or o note) → rewritten_in o new ≡ rewritten_in o old
+pub rewritten-same : (old new : StoreSeen) (o : Option ℕ) (note : ℕ) → row_at new.rows (unwrap_or o note) ≡ row_at old.rows (unwrap_or o note) → rewritten_in o new ≡ rewritten_in o old
 rewritten-same old new None note e = refl
 rewritten-same old new (Some own) note e = ap (λ (r : Row). r.rewritten) e
 

@@ -35,3 +35,4 @@ pub mod SlotSteps
 pub mod SlotCells
 pub mod SlotFlat
 pub mod SlotOwners
+pub mod FreedFrames

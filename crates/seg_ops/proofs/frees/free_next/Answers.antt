@@ -1,0 +1,40 @@
+use Rattle.std.proofs.Common.{◌≡◌, sym, ap, ◌∙◌, subst}
+use Rattle.std.specs.Prelude.{IfSome}
+use Rattle.page_hash.specs.Names.{is_name}
+use Rattle.page_store.specs.Steps.{next_frame, next_name}
+use Rattle.vm_world.specs.MemoryFits.{MemoryFits}
+use Rattle.vm_world.specs.Segments.{Spaces}
+use Rattle.vm_world.specs.Serving.{LosesFrame}
+use Rattle.vm_world.specs.World.{World, world_seen}
+use Rattle.vm_world.specs.WorldSteps.{WorldStep, stays}
+use Rattle.seg_ops.proofs.FreedFrames.{IsFreed, freed}
+use Rattle.seg_ops.proofs.StillSteps.{memory_of}
+use Rattle.seg_ops.proofs.frees.free_next.Given.{Over}
+use Rattle.seg_ops.proofs.frees.free_next.Goals.{After-pend_tail}
+use Rattle.seg_ops.proofs.frees.free_next.Goals as goal
+
+is : (g : Over) (c : After-pend_tail g) (spaces : Spaces) → MemoryFits (memory_of (world_seen c.args.world.now) spaces) → IsFreed (world_seen c.args.world.now) c.give_up.new.store spaces
+is g c spaces fits = freed (world_seen c.args.world.now) spaces c.give_up.new.store c.next_name-lost.result fits c.next_name-lost.ensures c.give_up.ensures.new c.give_up.ensures.laws
+
+store : (g : Over) (c : After-pend_tail g) → c.pend_tail.new.world.store ≡ c.give_up.new.store
+store g c = ap (λ v. v.store) c.pend_tail.ensures.rest
+
+pub returns-clause-same : goal.returns-clause-same
+returns-clause-same g c =
+    let at = (goal.at.returns-clause-same g c).After-pend_tail in
+    ap next_frame (store g at) ∙ (is g at c.requires.fits.0 c.requires.fits.1).same
+
+pub returns-clause-free : goal.returns-clause-free
+returns-clause-free g c =
+    let at = (goal.at.returns-clause-free g c).After-pend_tail in
+    ap next_name (store g at) ∙ (is g at c.requires.fits.0 c.requires.fits.1).free
+
+pub returns-clause-took : goal.returns-clause-took
+returns-clause-took g c =
+    let at = (goal.at.returns-clause-took g c).After-pend_tail in
+    subst (λ (v : World). IfSome (next_name c.args.world.now.store) (λ name. LosesFrame (world_seen c.args.world.now) v name)) (sym (ap world_seen c.pend_tail.ensures.rest)) (is g at c.requires.fits.0 c.requires.fits.1).took
+
+pub returns-clause-step : goal.returns-clause-step
+returns-clause-step g c = λ spaces fits.
+    let at = (goal.at.returns-clause-step g c).After-pend_tail in
+    subst (λ (v : World). WorldStep (world_seen c.args.world.now) v spaces stays (is_name (next_name c.args.world.now.store))) (sym (ap world_seen c.pend_tail.ensures.rest)) (is g at spaces fits).step

@@ -1,0 +1,54 @@
+//! A frame is freed before it is taken for an anonymous page.
+ghost use Rattle.std.specs.Prelude.{◌≡◌, ℕ, None, IfSome, MatchOption};
+ghost use Rattle.page_hash.specs.Names.{is_name};
+ghost use Rattle.page_store.specs.Laws.{Aborts};
+ghost use Rattle.page_store.specs.Steps.{next_frame, next_name, after_abort};
+ghost use Rattle.vm_world.specs.MemoryFits.{MemoryFits};
+ghost use Rattle.vm_world.specs.Segments.{Spaces};
+ghost use Rattle.vm_world.specs.Serving.{LosesFrame};
+ghost use Rattle.vm_world.specs.StateSteps.{PendsTails};
+ghost use Rattle.vm_world.specs.World.{world_seen};
+ghost use Rattle.vm_world.specs.WorldSteps.{WorldStep, stays};
+
+use crate::tails::pend_tail;
+use block_device::Disk;
+use page_store::{PageName, Store};
+use vm_world::World;
+
+/// Gives up a page, where there is one to give up.
+fn give_up<D: Disk>(store: &mut Store<D>, name: Option<PageName>)
+    ensures new { MatchOption name (store.new ≡ store.old)
+        (λ n. store.new ≡ after_abort store.old n) }
+    ensures laws { IfSome name (λ n. Aborts store.old store.new n) }
+{
+    if let Some(given) = name {
+        store.abort(given);
+    }
+}
+
+/// Frees the frame that is taken next, where that still holds a page, which is cut at its valid bytes. Constant expected time.
+pub fn free_next<D: Disk>(world: &mut World<D>)
+    requires fits { (spaces : Spaces)
+        × MemoryFits (record { world = world_seen world.old; spaces = spaces }) }
+    // The same frame is taken next, and holds no page.
+    ensures store { MatchOption (next_name world.old.store) (world.new.store ≡ world.old.store)
+        (λ name. world.new.store ≡ after_abort world.old.store name) }
+    ensures same { next_frame world.new.store ≡ next_frame world.old.store }
+    ensures free { next_name world.new.store ≡ None }
+    // The tail of the file whose last page lost the frame is pending.
+    ensures pends { PendsTails (world_seen world.old) (is_name (next_name world.old.store))
+        world.old.pending world.new.pending }
+    ensures took { IfSome (next_name world.old.store)
+        (λ name. LosesFrame (world_seen world.old) (world_seen world.new) name) }
+    // What stays.
+    ensures rest { world.new
+        ≡ record world.old { store = world.new.store; pending = world.new.pending } }
+    ensures step { (spaces : Spaces)
+        → MemoryFits (record { world = world_seen world.old; spaces = spaces })
+        → WorldStep (world_seen world.old) (world_seen world.new) spaces stays
+        (is_name (next_name world.old.store)) }
+{
+    let lost = world.store.next_name();
+    give_up(&mut world.store, lost);
+    pend_tail(world, lost);
+}
