@@ -36,3 +36,6 @@ pub mod SlotCells
 pub mod SlotFlat
 pub mod SlotOwners
 pub mod FreedFrames
+pub mod SlotLeaves
+pub mod SlotKept
+pub mod SlotUnheld

@@ -20,9 +20,9 @@ use Rattle.vm_world.specs.Segments.{Spot, Spaces, spot_at}
 use Rattle.vm_world.proofs.Maps.{get-map_with, get-space_with, map_with-same, map_with-but_one}
 use Rattle.seg_ops.specs.Slots.{OwnsAlone}
 
--- one place of a map holds a page, and each other place what it held
-pub record PutsHeld (old new : ℕ → ℕ → Option Page) (m i : ℕ) (bytes : Page) : Type 0 where
-  pub there : new m i ≡ Some bytes
+-- one place of a map holds a page or nothing, and each other place what it held
+pub record PutsHeld (old new : ℕ → ℕ → Option Page) (m i : ℕ) (held : Option Page) : Type 0 where
+  pub there : new m i ≡ held
   pub others : (a b : ℕ) → ((a ≡ m) × (b ≡ i) → ⊥) → new a b ≡ old a b
 
 on-some : {X Y : Type 0} (f g : X → Y) (o : Option X) → ((x : X) → o ≡ Some x → g x ≡ f x) → option_map g o ≡ option_map f o
@@ -30,20 +30,20 @@ on-some f g None same = refl
 on-some f g (Some x) same = ap (λ y. Some y) (same x refl)
 
 -- a cell elsewhere is as it was
-own-else : (old new : ℕ → ℕ → Option Page) (m i : ℕ) (bytes : Page) (own : Option ℕ) (j : ℕ) (ob : Object) → PutsHeld old new m i bytes → (own ≡ Some m → j ≡ i → ⊥)
+own-else : (old new : ℕ → ℕ → Option Page) (m i : ℕ) (o : Option Page) (own : Option ℕ) (j : ℕ) (ob : Object) → PutsHeld old new m i o → (own ≡ Some m → j ≡ i → ⊥)
     → option_and_then (λ k. option_or (new k j) (own_without_slot ob)) own ≡ option_and_then (λ k. option_or (old k j) (own_without_slot ob)) own
-own-else old new m i bytes None j ob puts apart = refl
-own-else old new m i bytes (Some k) j ob puts apart = ap (λ (o : Option Page). option_or o (own_without_slot ob)) (puts.others k j (λ e. apart (ap (λ (a : ℕ). Some a) e.0) e.1))
+own-else old new m i o None j ob puts apart = refl
+own-else old new m i o (Some k) j ob puts apart = ap (λ (h : Option Page). option_or h (own_without_slot ob)) (puts.others k j (λ e. apart (ap (λ (a : ℕ). Some a) e.0) e.1))
 
-pub cell-else : (old new : ℕ → ℕ → Option Page) (m i : ℕ) (bytes : Page) (y : Spot) → PutsHeld old new m i bytes → (y.0.own ≡ Some m → y.1 ≡ i → ⊥) → cell_of new y ≡ cell_of old y
-cell-else old new m i bytes y puts apart = ap (λ (o : Option Page). record (cell_of old y) { own = o }) (own-else old new m i bytes y.0.own y.1 y.0.object puts apart)
+pub cell-else : (old new : ℕ → ℕ → Option Page) (m i : ℕ) (o : Option Page) (y : Spot) → PutsHeld old new m i o → (y.0.own ≡ Some m → y.1 ≡ i → ⊥) → cell_of new y ≡ cell_of old y
+cell-else old new m i o y puts apart = ap (λ (h : Option Page). record (cell_of old y) { own = h }) (own-else old new m i o y.0.own y.1 y.0.object puts apart)
 
 -- the cell of the place itself
-cell-here : (old new : ℕ → ℕ → Option Page) (m i : ℕ) (bytes : Page) (x : Spot) → PutsHeld old new m i bytes → x.0.own ≡ Some m → x.1 ≡ i → cell_of new x ≡ record (cell_of old x) { own = Some bytes }
-cell-here old new m i bytes x puts own place = ap (λ (o : Option Page). record (cell_of old x) { own = o })
-    (ap (λ (o : Option ℕ). option_and_then (λ k. option_or (new k x.1) (own_without_slot x.0.object)) o) own
+cell-here : (old new : ℕ → ℕ → Option Page) (m i : ℕ) (o : Option Page) (x : Spot) → PutsHeld old new m i o → x.0.own ≡ Some m → x.1 ≡ i → cell_of new x ≡ record (cell_of old x) { own = option_or o (own_without_slot x.0.object) }
+cell-here old new m i o x puts own place = ap (λ (h : Option Page). record (cell_of old x) { own = h })
+    (ap (λ (k : Option ℕ). option_and_then (λ k. option_or (new k x.1) (own_without_slot x.0.object)) k) own
     ∙ ap (λ (j : ℕ). option_or (new m j) (own_without_slot x.0.object)) place
-    ∙ ap (λ (o : Option Page). option_or o (own_without_slot x.0.object)) puts.there)
+    ∙ ap (λ (h : Option Page). option_or h (own_without_slot x.0.object)) puts.there)
 
 pages-same : (old new : ℕ → Page) (k n : ℕ) → ((i : ℕ) → new i ≡ old i) → pages_from new k n ≡ pages_from old k n
 pages-same old new k n same = let e : new ≡ old = λ j i. same i j in ap (λ (g : ℕ → Page). pages_from g k n) e
@@ -68,27 +68,27 @@ cells-here old new parts q x c is cell same = finite.same_map nat_cmp_total fini
 spot-in : (spaces : Spaces) (p q : ℕ) (parts : List (Part Segment)) → finite.get spaces p ≡ Some parts → spot_at spaces p q ≡ at parts q
 spot-in spaces p q parts is = ap (option_and_then (λ (ps : List (Part Segment)). at ps q)) is
 
--- THE PAGE OF A CELL'S OWN PLACE: the cell has it as its own, and all else stays.
-pub flat-owned : (s : Shape) (born : set.FinSet nat_cmp) (file : ℕ → ℕ → Page) (old new : ℕ → ℕ → Option Page) (p q m i : ℕ) (x : Spot) (bytes : Page) → PutsHeld old new m i bytes → OwnsAlone s.spaces p q m i x
-    → flat_shaped s born (record { file = file; place = new }) ≡ with_cell (flat_shaped s born (record { file = file; place = old })) p q (record (cell_of old x) { own = Some bytes })
-flat-owned s born file old new p q m i x bytes puts owns = by_space (finite.get s.spaces p) refl
+-- WHAT A CELL'S OWN PLACE HOLDS: the cell has it as its own, and all else stays.
+pub flat-owned : (s : Shape) (born : set.FinSet nat_cmp) (file : ℕ → ℕ → Page) (old new : ℕ → ℕ → Option Page) (p q m i : ℕ) (x : Spot) (o : Option Page) → PutsHeld old new m i o → OwnsAlone s.spaces p q m i x
+    → flat_shaped s born (record { file = file; place = new }) ≡ with_cell (flat_shaped s born (record { file = file; place = old })) p q (record (cell_of old x) { own = option_or o (own_without_slot x.0.object) })
+flat-owned s born file old new p q m i x o puts owns = by_space (finite.get s.spaces p) refl
   where
-    by_space : (o : Option (List (Part Segment))) → finite.get s.spaces p ≡ o → flat_shaped s born (record { file = file; place = new }) ≡ with_cell (flat_shaped s born (record { file = file; place = old })) p q (record (cell_of old x) { own = Some bytes })
+    by_space : (a : Option (List (Part Segment))) → finite.get s.spaces p ≡ a → flat_shaped s born (record { file = file; place = new }) ≡ with_cell (flat_shaped s born (record { file = file; place = old })) p q (record (cell_of old x) { own = option_or o (own_without_slot x.0.object) })
     by_space None is = absurd (let z : None ≡ Some x = sym (ap (option_and_then (λ (ps : List (Part Segment)). at ps q)) is) ∙ owns.here in cc)
     by_space (Some parts) is =
-        let c : Cell = record (cell_of old x) { own = Some bytes } in
+        let c : Cell = record (cell_of old x) { own = option_or o (own_without_slot x.0.object) } in
         let here : at parts q ≡ Some x = sym (spot-in s.spaces p q parts is) ∙ owns.here in
         let one : space_with new parts ≡ finite.insert (space_with old parts) q c =
-        cells-here old new parts q x c here (cell-here old new m i bytes x puts owns.own owns.place) (λ r y there ne. cell-else old new m i bytes y puts (λ own place. ne (owns.alone p r y (spot-in s.spaces p r parts is ∙ there) own place).1)) in
+        cells-here old new parts q x c here (cell-here old new m i o x puts owns.own owns.place) (λ r y there ne. cell-else old new m i o y puts (λ own place. ne (owns.alone p r y (spot-in s.spaces p r parts is ∙ there) own place).1)) in
         let spaces : map_with (space_with new) s.spaces ≡ finite.insert (map_with (space_with old) s.spaces) p (space_with new parts) =
-        map_with-but_one (space_with old) (space_with new) s.spaces p parts is (λ r other there ne. cells-else old new other (λ k y is_y. cell-else old new m i bytes y puts (λ own place. ne (owns.alone r k y (spot-in s.spaces r k other there ∙ is_y) own place).0))) in
+        map_with-but_one (space_with old) (space_with new) s.spaces p parts is (λ r other there ne. cells-else old new other (λ k y is_y. cell-else old new m i o y puts (λ own place. ne (owns.alone r k y (spot-in s.spaces r k other there ∙ is_y) own place).0))) in
         let was : unwrap_or (finite.get (map_with (space_with old) s.spaces) p) finite.empty ≡ space_with old parts = ap (λ (o : Option Space). unwrap_or o finite.empty) (get-map_with (space_with old) s.spaces p ∙ ap (option_map (space_with old)) is) in
         let all = spaces ∙ ap (finite.insert (map_with (space_with old) s.spaces) p) (one ∙ ap (λ (b : Space). finite.insert b q c) (sym was)) in
         let zeros = zeros-else old new s.lengths s.spaces (λ z n k at_z. ap (λ (o : Option Page). unwrap_or o zero_page) (puts.others n k (λ e. owns.hidden z n at_z e.0))) in
         λ j. record (flat_shaped s born (record { file = file; place = old })) { spaces = all j; zeros = zeros j }
 
 -- A PAGE OF ZEROS at an empty place: the cells whose own place it is have zeros already, and so do zero objects.
-pub flat-zeros : (s : Shape) (born : set.FinSet nat_cmp) (file : ℕ → ℕ → Page) (old new : ℕ → ℕ → Option Page) (m i : ℕ) → PutsHeld old new m i zero_page → old m i ≡ None
+pub flat-zeros : (s : Shape) (born : set.FinSet nat_cmp) (file : ℕ → ℕ → Page) (old new : ℕ → ℕ → Option Page) (m i : ℕ) → PutsHeld old new m i (Some zero_page) → old m i ≡ None
     → ((p q : ℕ) (y : Spot) → spot_at s.spaces p q ≡ Some y → y.0.own ≡ Some m → y.1 ≡ i → y.0.object ≡ object.NewZero)
     → flat_shaped s born (record { file = file; place = new }) ≡ flat_shaped s born (record { file = file; place = old })
 flat-zeros s born file old new m i puts empty new_zero =

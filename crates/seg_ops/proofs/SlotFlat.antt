@@ -38,7 +38,7 @@ use Rattle.vm_world.proofs.Maps.{cell-at}
 use Rattle.vm_world.proofs.StoredPages.{zeros-are}
 use Rattle.seg_ops.specs.Slots.{MakesPage, IsNewZero, OwnsAlone, with_own_page}
 use Rattle.seg_ops.proofs.SlotCells.{PutsHeld, flat-owned, flat-zeros}
-use Rattle.seg_ops.proofs.SlotMemory.{lengths-made, lt-used}
+use Rattle.seg_ops.proofs.SlotMemory.{lengths-set, lt-used}
 use Rattle.seg_ops.proofs.SlotPlaces.{slot-here, slot-else}
 use Rattle.seg_ops.proofs.StillSteps.{memory_of}
 
@@ -52,7 +52,7 @@ module _ (old new : World) (spaces : Spaces) (cut : PageName → Bool) (m i s : 
       ∙ cut-none (cut (slot_name t)) (page_value old notes (slot_name t)) (λ c. k.whole notes (slot_name t) nf tell exists c)
 
   -- what the places hold
-  pub places-made : PutsHeld (place_contents (page_value old notes) old.maps) (place_contents (page_value new notes) new.maps) m i bytes
+  pub places-made : PutsHeld (place_contents (page_value old notes) old.maps) (place_contents (page_value new notes) new.maps) m i (Some bytes)
   places-made = record {
     there = ap (λ (ps : List (Option Map)). place_contents (page_value new notes) ps m i) k.slot.set ∙ ap (option_map (λ t. page_value new notes (slot_name t))) (slot-here old.maps m i (Some s) k.slot.within) ∙ ap (λ (b : Page). Some b) (k.page notes nf);
     others = λ a b apart.
@@ -70,7 +70,7 @@ module _ (old new : World) (spaces : Spaces) (cut : PageName → Bool) (m i s : 
     slots = k.slot.slots j;
     disks = (k.files j).disks;
     files = map (λ (v : VnodeSeen). v.info) (k.files j).files;
-    lengths = lengths-made old.anon new.anon old.maps new.maps m i s k.slot j;
+    lengths = lengths-set old.maps new.maps m i (Some s) k.slot.within k.slot.set j;
     spaces = spaces;
   }
 
@@ -123,14 +123,14 @@ module _ (old new : World) (spaces : Spaces) (cut : PageName → Bool) (m i s : 
   flat-made_zeros born whole zeroed empty new_zero =
       flat-made born whole
       ∙ ap (λ (F : Flat). tails_cleared F (tails_lost old cut)) (flat-zeros (shape_of (memory_of old spaces)) born (file_contents (page_value old notes)) (place_contents (page_value old notes) old.maps) (place_contents (page_value new notes) new.maps) m i
-      (subst (λ (b : Page). PutsHeld (place_contents (page_value old notes) old.maps) (place_contents (page_value new notes) new.maps) m i b) zeroed places-made) (ap (option_map (λ t. page_value old notes (slot_name t))) empty) new_zero)
+      (subst (λ (b : Page). PutsHeld (place_contents (page_value old notes) old.maps) (place_contents (page_value new notes) new.maps) m i (Some b)) zeroed places-made) (ap (option_map (λ t. page_value old notes (slot_name t))) empty) new_zero)
 
   -- A PAGE OF A PRIVATE CELL: it is the cell's own.
   pub flat-made_owned : (born : set.FinSet nat_cmp) (p q : ℕ) (x : Spot) → IsFlat (flat_memory (memory_of old spaces) born notes) → OwnsAlone spaces p q m i x
       → flat_memory (memory_of new spaces) born notes ≡ tails_cleared (with_cell (flat_memory (memory_of old spaces) born notes) p q (record (cell_of (contents_of old notes).place x) { own = Some bytes })) (tails_lost old cut)
   flat-made_owned born p q x whole owns =
       flat-made born whole
-      ∙ ap (λ (F : Flat). tails_cleared F (tails_lost old cut)) (flat-owned (shape_of (memory_of old spaces)) born (file_contents (page_value old notes)) (place_contents (page_value old notes) old.maps) (place_contents (page_value new notes) new.maps) p q m i x bytes places-made owns)
+      ∙ ap (λ (F : Flat). tails_cleared F (tails_lost old cut)) (flat-owned (shape_of (memory_of old spaces)) born (file_contents (page_value old notes)) (place_contents (page_value old notes) old.maps) (place_contents (page_value new notes) new.maps) p q m i x (Some bytes) places-made owns)
 
 -- A CHANGE OF MEMORY, of any process.
 pub changes-by : (p : ℕ) (old new : World) (spaces : Spaces) (cut : PageName → Bool) (m i s : ℕ) (bytes : Page) (f : Flat → Flat) → MakesPage old new spaces cut m i s bytes

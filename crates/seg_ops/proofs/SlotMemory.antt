@@ -59,15 +59,15 @@ used-lt (suc c) h = omega arith
 pub lt-used : (c : ℕ) → 0 < c → is_used c ≡ true
 lt-used c lt = elim (eqb_tells c 0) [ inl y ↦ absurd (let e = y.1 in omega (arith, e, lt)) | inr n ↦ ap not n.0 ]
 
-not-used : (c : ℕ) → is_used c ≡ false → c ≡ 0
+pub not-used : (c : ℕ) → is_used c ≡ false → c ≡ 0
 not-used zero h = refl
 not-used (suc c) h = absurd (let z : true ≡ false = sym (lt-used (suc c) (omega arith)) ∙ h in cc)
 
 -- the page of a slot exists where the slot is in use
-slot-exists : (files : FilesSeen) (anon : Slots) (n : PageName) → (n.object == 64) ≡ true → page_exists files anon n ≡ is_used (count_at anon n.page)
+pub slot-exists : (files : FilesSeen) (anon : Slots) (n : PageName) → (n.object == 64) ≡ true → page_exists files anon n ≡ is_used (count_at anon n.page)
 slot-exists files anon n is = ap (λ (b : Bool). cond b (is_used (count_at anon n.page)) (nat_lt n.page (pages_in (vnode_at files n.object).info.length))) is
 
-file-exists : (files : FilesSeen) (old new : Slots) (n : PageName) → (n.object == 64) ≡ false → page_exists files new n ≡ page_exists files old n
+pub file-exists : (files : FilesSeen) (old new : Slots) (n : PageName) → (n.object == 64) ≡ false → page_exists files new n ≡ page_exists files old n
 file-exists files old new n is =
     ap (λ (b : Bool). cond b (is_used (count_at new n.page)) (nat_lt n.page (pages_in (vnode_at files n.object).info.length))) is
     ∙ sym (ap (λ (b : Bool). cond b (is_used (count_at old n.page)) (nat_lt n.page (pages_in (vnode_at files n.object).info.length))) is)
@@ -108,29 +108,29 @@ free-unnamed w s f none k named = let used = used-lt (count_at w.anon s) (f.exis
 pub free-absent : (w : World) (s : ℕ) → FramesFit w.store w.files w.anon → count_at w.anon s ≡ 0 → residence w.store (slot_name s) ≡ Absent
 free-absent w s f none = ap (λ (o : Option ℕ). residence_in o w.store) (find-absent w.store.names (slot_name s) (free-unnamed w s f none))
 
--- the lengths of the maps stay
-pub lengths-made : (old new : Slots) (maps put : List (Option Map)) (m i s : ℕ) → MakesSlot old new maps put m i s → ◌≡◌ {A = ℕ → ℕ} (λ j. length (places_of put j)) (λ j. length (places_of maps j))
-lengths-made old new maps put m i s k = λ a j. (ap (λ (ps : List (Option Map)). length (places_of ps j)) k.set ∙ places-set maps m j (slice_set (places_of maps m) i (Some s)) (map-within maps m i k.within) (length-set (places_of maps m) i (Some s))) a
+-- the lengths of the maps stay, whatever the place holds
+pub lengths-set : (maps put : List (Option Map)) (m i : ℕ) (o : Option ℕ) → i < length (places_of maps m) → put ≡ with_places maps m (slice_set (places_of maps m) i o) → ◌≡◌ {A = ℕ → ℕ} (λ j. length (places_of put j)) (λ j. length (places_of maps j))
+lengths-set maps put m i o lt set = λ a j. (ap (λ (ps : List (Option Map)). length (places_of ps j)) set ∙ places-set maps m j (slice_set (places_of maps m) i o) (map-within maps m i lt) (length-set (places_of maps m) i o)) a
 
-segments-made : (w : World) (spaces : Spaces) (anon : Slots) (put : List (Option Map)) (m i s : ℕ) → MemoryFits (memory_of w spaces) → MakesSlot w.anon anon w.maps put m i s
+pub segments-set : (w : World) (spaces : Spaces) (anon : Slots) (put : List (Option Map)) (m i : ℕ) (o : Option ℕ) → MemoryFits (memory_of w spaces) → i < length (places_of w.maps m) → put ≡ with_places w.maps m (slice_set (places_of w.maps m) i o) → anon.reserved ≡ w.anon.reserved
     → SegmentsFit (length w.files.files) anon put spaces
-segments-made w spaces anon put m i s f k =
-    let lt = map-within w.maps m i k.within in
-    let size = length-set (places_of w.maps m) i (Some s) in
-    let places = slice_set (places_of w.maps m) i (Some s) in
+segments-set w spaces anon put m i o f within set reserved =
+    let lt = map-within w.maps m i within in
+    let size = length-set (places_of w.maps m) i o in
+    let places = slice_set (places_of w.maps m) i o in
     record {
       ordered = f.segments.ordered;
       each = λ p parts is. all-turn (SegmentFits (length w.files.files) w.maps) (SegmentFits (length w.files.files) put) parts (λ x fit. record {
         pages = fit.pages;
         end = fit.end;
         within = fit.within;
-        object = subst (λ (ps : List (Option Map)). ObjectFits (length w.files.files) ps x.piece x.piece.object) (sym k.set) (object-set (length w.files.files) w.maps m places x.piece x.piece.object lt fit.object);
-        own = subst (λ (ps : List (Option Map)). OwnFits ps x.piece x.piece.kind) (sym k.set) (own-set w.maps m places x.piece x.piece.kind lt size fit.own);
+        object = subst (λ (ps : List (Option Map)). ObjectFits (length w.files.files) ps x.piece x.piece.object) (sym set) (object-set (length w.files.files) w.maps m places x.piece x.piece.object lt fit.object);
+        own = subst (λ (ps : List (Option Map)). OwnFits ps x.piece x.piece.kind) (sym set) (own-set w.maps m places x.piece x.piece.kind lt size fit.own);
       }) (f.segments.each p parts is);
-      holders = λ j. ap (λ (ps : List (Option Map)). holders_of ps j) k.set ∙ holders-set w.maps m j places lt ∙ f.segments.holders j;
+      holders = λ j. ap (λ (ps : List (Option Map)). holders_of ps j) set ∙ holders-set w.maps m j places lt ∙ f.segments.holders j;
       zeros = f.segments.zeros;
       apart = f.segments.apart;
-      reserved = ap (λ (g : ℕ → ℕ). sum_by (λ (parts : List (Part Segment)). sum_by slots_for_part parts) (finite.values spaces) + sum_by g (finite.values (zero_maps spaces))) (lengths-made w.anon anon w.maps put m i s k) ∙ f.segments.reserved ∙ sym k.reserved;
+      reserved = ap (λ (g : ℕ → ℕ). sum_by (λ (parts : List (Part Segment)). sum_by slots_for_part parts) (finite.values spaces) + sum_by g (finite.values (zero_maps spaces))) (lengths-set w.maps put m i o within set) ∙ f.segments.reserved ∙ sym reserved;
     }
 
 -- MEMORY FITS.
@@ -175,7 +175,7 @@ made-memory w spaces new anon put m i s frame f k t dirty shown =
             modified-elsewhere w.store new w.hat.places (slot_name s) frame j t e.0 (f.unpushed j a e.1 (sym (k.swapped a apart) ∙ unpushed) (subst (λ (b : Option (List ℕ)). IsSome b) (elsewhere w.store new (slot_name s) frame j t e.0).bytes home))
       ];
       counts = k.counts;
-      segments = segments-made w spaces anon put m i s f k;
+      segments = segments-set w spaces anon put m i (Some s) f k.within k.set k.reserved;
     }
   where
     may : (x : Spot) → own_slot put x ≡ own_slot w.maps x → MayWriteInPlace w.anon w.maps x → MayWriteInPlace anon put x

@@ -48,20 +48,23 @@ had-step m p ps = sum_by-cons (times_had m) p.piece (map (λ (x : Part Segment).
 in-step : (m : ℕ) (e : ℕ × List (Part Segment)) (es : List (ℕ × List (Part Segment))) → had_in m (e ∷ es) ≡ had m e.1 + had_in m es
 in-step m e es = sum_by-append (times_had m) (map (λ (p : Part Segment). p.piece) e.1) (flat_map (λ (parts : List (Part Segment)). map (λ (p : Part Segment). p.piece) parts) (map (λ x. x.1) es))
 
--- a segment that stands somewhere counts
+-- a segment that stands somewhere counts, by whatever is summed
+counted : (f : Segment → ℕ) (parts : List (Part Segment)) (q : ℕ) (x : Spot) → at parts q ≡ Some x → 1 ≤ f x.0 → 1 ≤ sum_by f (map (λ (p : Part Segment). p.piece) parts)
+counted f [] q x is some = absurd (cc)
+counted f (p ∷ ps) q x is some =
+    let step = sum_by-cons f p.piece (map (λ (r : Part Segment). r.piece) ps) in
+    elim (test (has p q)) [
+      | inl here ↦
+          let same : (p.piece, q - p.first) ≡ x = let z : Some (p.piece, q - p.first) ≡ Some x = sym (ap (λ (b : Bool). option_map (λ (r : Part Segment). (r.piece, q - r.first)) (cond b (Some p) (part_at ps q))) here) ∙ is in cc in
+          let one = ap (λ (y : Spot). f y.0) same in
+          omega (arith, one, some, step)
+      | inr past ↦
+          let more = counted f ps q x (sym (ap (λ (b : Bool). option_map (λ (r : Part Segment). (r.piece, q - r.first)) (cond b (Some p) (part_at ps q))) past) ∙ is) some in
+          omega (arith, more, step)
+    ]
+
 at-counts : (m : ℕ) (parts : List (Part Segment)) (q : ℕ) (x : Spot) → at parts q ≡ Some x → x.0.own ≡ Some m → 1 ≤ had m parts
-at-counts m [] q x is own = absurd (cc)
-at-counts m (p ∷ ps) q x is own = elim (test (has p q)) [
-  | inl here ↦
-      let same : (p.piece, q - p.first) ≡ x = let z : Some (p.piece, q - p.first) ≡ Some x = sym (ap (λ (b : Bool). option_map (λ (r : Part Segment). (r.piece, q - r.first)) (cond b (Some p) (part_at ps q))) here) ∙ is in cc in
-      let one = own-counts m p.piece (ap (λ (y : Spot). y.0.own) same ∙ own) in
-      let step = had-step m p ps in
-      omega (arith, one, step)
-  | inr past ↦
-      let more = at-counts m ps q x (sym (ap (λ (b : Bool). option_map (λ (r : Part Segment). (r.piece, q - r.first)) (cond b (Some p) (part_at ps q))) past) ∙ is) own in
-      let step = had-step m p ps in
-      omega (arith, more, step)
-]
+at-counts m parts q x is own = counted (times_had m) parts q x is (own-counts m x.0 own)
 
 -- of one space, the place of a map is that of one page
 one-page : (m : ℕ) (parts : List (Part Segment)) (q r : ℕ) (x y : Spot) → at parts q ≡ Some x → at parts r ≡ Some y → x.0.own ≡ Some m → y.0.own ≡ Some m → y.1 ≡ x.1 → had m parts ≤ 1 → r ≡ q
@@ -181,34 +184,20 @@ parted m (s ∷ ss) =
     let more = parted m ss in
     omega (arith, a, b, c, more)
 
-owned : (m : ℕ) (parts : List (Part Segment)) (q : ℕ) (x : Spot) → at parts q ≡ Some x → x.0.own ≡ Some m → 1 ≤ sum_by (own_one m) (map (λ (p : Part Segment). p.piece) parts)
-owned m [] q x is own = absurd (cc)
-owned m (p ∷ ps) q x is own = elim (test (has p q)) [
-  | inl here ↦
-      let same : (p.piece, q - p.first) ≡ x = let z : Some (p.piece, q - p.first) ≡ Some x = sym (ap (λ (b : Bool). option_map (λ (r : Part Segment). (r.piece, q - r.first)) (cond b (Some p) (part_at ps q))) here) ∙ is in cc in
-      let one = ap (λ (b : Bool). cond {A = ℕ} b 1 0) (is-own m p.piece.own (ap (λ (y : Spot). y.0.own) same ∙ own)) in
-      let step = sum_by-cons (own_one m) p.piece (map (λ (r : Part Segment). r.piece) ps) in
-      omega (arith, one, step)
-  | inr past ↦
-      let more = owned m ps q x (sym (ap (λ (b : Bool). option_map (λ (r : Part Segment). (r.piece, q - r.first)) (cond b (Some p) (part_at ps q))) past) ∙ is) own in
-      let step = sum_by-cons (own_one m) p.piece (map (λ (r : Part Segment). r.piece) ps) in
-      omega (arith, more, step)
-]
-
 abbrev segments : List (List (Part Segment)) → List Segment
 segments vs = flat_map (λ (parts : List (Part Segment)). map (λ (p : Part Segment). p.piece) parts) vs
 
-owned-in : (m p : ℕ) (es : List (ℕ × List (Part Segment))) (parts : List (Part Segment)) → finite.find nat_cmp p es ≡ Some parts → 1 ≤ sum_by (own_one m) (map (λ (x : Part Segment). x.piece) parts) → 1 ≤ sum_by (own_one m) (segments (map (λ e. e.1) es))
-owned-in m p [] parts is one = absurd (cc)
-owned-in m p (e ∷ es) parts is one =
-    let step = sum_by-append (own_one m) (map (λ (x : Part Segment). x.piece) e.1) (segments (map (λ x. x.1) es)) in
+counted-in : (f : Segment → ℕ) (p : ℕ) (es : List (ℕ × List (Part Segment))) (parts : List (Part Segment)) → finite.find nat_cmp p es ≡ Some parts → 1 ≤ sum_by f (map (λ (x : Part Segment). x.piece) parts) → 1 ≤ sum_by f (segments (map (λ e. e.1) es))
+counted-in f p [] parts is one = absurd (cc)
+counted-in f p (e ∷ es) parts is one =
+    let step = sum_by-append f (map (λ (x : Part Segment). x.piece) e.1) (segments (map (λ x. x.1) es)) in
     elim (test (is_eq (nat_cmp p e.0))) [
       | inl here ↦
           let same : e.1 ≡ parts = let z : Some e.1 ≡ Some parts = sym (ap (λ (b : Bool). cond b (Some e.1) (finite.find nat_cmp p es)) here) ∙ is in cc in
-          let size = ap (λ (ps : List (Part Segment)). sum_by (own_one m) (map (λ (x : Part Segment). x.piece) ps)) same in
+          let size = ap (λ (ps : List (Part Segment)). sum_by f (map (λ (x : Part Segment). x.piece) ps)) same in
           omega (arith, size, step, one)
       | inr past ↦
-          let more = owned-in m p es parts (sym (ap (λ (b : Bool). cond b (Some e.1) (finite.find nat_cmp p es)) past) ∙ is) one in
+          let more = counted-in f p es parts (sym (ap (λ (b : Bool). cond b (Some e.1) (finite.find nat_cmp p es)) past) ∙ is) one in
           omega (arith, more, step)
     ]
 
@@ -251,7 +240,8 @@ owns-alone m p q x f is private =
     let same : own.0 ≡ one.0 = let z : Some own.0 ≡ Some one.0 = sym own.1 ∙ one.1 in cc in
     let all : had_in one.0 (finite.entries m.spaces) ≡ 1 = sym (f.segments.holders one.0) ∙ ap (holders_of m.world.maps) (sym same) ∙ own.2 in
     let a = spot-parts m.spaces p q x is in
-    let mine = owned-in one.0 p (finite.entries m.spaces) a.0 (sym (finite.get-entries m.spaces p) ∙ a.1) (owned one.0 a.0 q x a.2 one.1) in
+    let owns : 1 ≤ own_one one.0 x.0 = let e = ap (λ (t : Bool). cond {A = ℕ} t 1 0) (is-own one.0 x.0.own one.1) in omega (arith, e) in
+    let mine = counted-in (own_one one.0) p (finite.entries m.spaces) a.0 (sym (finite.get-entries m.spaces p) ∙ a.1) (counted (own_one one.0) a.0 q x a.2 owns) in
     let split = parted one.0 (segments (map (λ e. e.1) (finite.entries m.spaces))) in (
       one.0,
       record {
@@ -271,6 +261,9 @@ owns-alone m p q x f is private =
 has-own : (maps : List (Option Map)) (s : Segment) (k : Kind) (n : ℕ) → s.own ≡ Some n → OwnFits maps s k → k ≡ Private
 has-own maps s Shared n own fit = absurd (let z : None ≡ Some n = sym fit ∙ own in cc)
 has-own maps s Private n own fit = refl
+
+pub owner-private : (m : Memory) (p q n i : ℕ) (x : Spot) → MemoryFits m → OwnsAlone m.spaces p q n i x → x.0.kind ≡ Private
+owner-private m p q n i x f owns = has-own m.world.maps x.0 x.0.kind n owns.own (own-fits m p q x f owns.here)
 
 -- A PLACE OF NEW ZERO MEMORY, and one of a zero object.
 new-zero : (m : Memory) (p q n : ℕ) (x : Spot) → MemoryFits m → spot_at m.spaces p q ≡ Some x → x.0.own ≡ Some n → x.0.object ≡ object.NewZero → IsNewZero m.spaces n x.1
@@ -296,3 +289,18 @@ places_law = record {
   zeros = new-zero;
   shown = zero-object;
 }
+
+-- NO PAGE SHOWS A MAP that is a page's own.
+pub not-shown : (m : Memory) (p q r k n : ℕ) (x y : Spot) → MemoryFits m → spot_at m.spaces p q ≡ Some x → x.0.own ≡ Some n → spot_at m.spaces r k ≡ Some y → y.0.shown ≢ Some n
+not-shown m p q r k n x y f is own there shows =
+    let mine = private-own m.world.maps x.0 x.0.kind (has-own m.world.maps x.0 x.0.kind n own (own-fits m p q x f is)) (own-fits m p q x f is) in
+    let same : mine.0 ≡ n = let z : Some mine.0 ≡ Some n = sym mine.1 ∙ own in cc in
+    let all : had_in n (finite.entries m.spaces) ≡ 1 = sym (f.segments.holders n) ∙ ap (holders_of m.world.maps) (sym same) ∙ mine.2 in
+    let a = spot-parts m.spaces p q x is in
+    let b = spot-parts m.spaces r k y there in
+    let owns : 1 ≤ own_one n x.0 = let e = ap (λ (t : Bool). cond {A = ℕ} t 1 0) (is-own n x.0.own own) in omega (arith, e) in
+    let shown : 1 ≤ shown_one n y.0 = let e = ap (λ (t : Bool). cond {A = ℕ} t 1 0) (is-own n y.0.shown shows) in omega (arith, e) in
+    let one = counted-in (own_one n) p (finite.entries m.spaces) a.0 (sym (finite.get-entries m.spaces p) ∙ a.1) (counted (own_one n) a.0 q x a.2 owns) in
+    let more = counted-in (shown_one n) r (finite.entries m.spaces) b.0 (sym (finite.get-entries m.spaces r) ∙ b.1) (counted (shown_one n) b.0 k y b.2 shown) in
+    let split = parted n (segments (map (λ e. e.1) (finite.entries m.spaces))) in
+    omega (arith, one, more, split, all)

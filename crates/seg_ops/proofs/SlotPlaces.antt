@@ -96,6 +96,27 @@ stays-shown maps m i s x n lt empty apart is =
     by_own (Some t) is = is
     by_own None is = object-else maps m i (x.0.index + x.1) s x.0.shown x.0.object n lt empty is
 
+-- what a page shows where neither its own place nor its object's map is the one that was set
+object-apart : (maps : List (Option Map)) (m i j : ℕ) (o : Option ℕ) (shown : Option ℕ) (ob : Object) → i < length (places_of maps m) → shown ≢ Some m → object_name (with_places maps m (slice_set (places_of maps m) i o)) shown j ob ≡ object_name maps shown j ob
+object-apart maps m i j o shown (object.File f) lt far = refl
+object-apart maps m i j o shown object.NewZero lt far = refl
+object-apart maps m i j o shown (object.Zero z) lt far = by_shown shown far
+  where
+    by_shown : (a : Option ℕ) → a ≢ Some m → option_and_then (λ k. option_map slot_name (slot_in (with_places maps m (slice_set (places_of maps m) i o)) k j)) a ≡ option_and_then (λ k. option_map slot_name (slot_in maps k j)) a
+    by_shown None far = refl
+    by_shown (Some k) far = ap (option_map slot_name) (slot-else maps m i k j o lt (λ e. far (ap (λ (a : ℕ). Some a) e.0)))
+
+pub stays-apart : (maps : List (Option Map)) (m i : ℕ) (o : Option ℕ) (x : Spot) (n : PageName) → i < length (places_of maps m) → (x.0.own ≡ Some m → x.1 ≡ i → ⊥) → x.0.shown ≢ Some m → shown_name maps x ≡ Some n
+    → StaysShown maps (with_places maps m (slice_set (places_of maps m) i o)) x n
+stays-apart maps m i o x n lt apart far is =
+    let put = with_places maps m (slice_set (places_of maps m) i o) in
+    let own = own-else maps m i x.1 o x.0.own lt apart in
+    record {
+      own = own;
+      shows = ap (λ (a : Option ℕ). option_or (option_map slot_name a) (object_name put x.0.shown (x.0.index + x.1) x.0.object)) own
+          ∙ ap (λ (b : Option PageName). option_or (option_map slot_name (own_slot maps x)) b) (object-apart maps m i (x.0.index + x.1) o x.0.shown x.0.object lt far) ∙ is;
+    }
+
 -- a segment fits the maps after a place was set
 pub own-set : (maps : List (Option Map)) (m : ℕ) (places : List (Option ℕ)) (s : Segment) (k : Kind) → m < length maps → length places ≡ length (places_of maps m) → OwnFits maps s k → OwnFits (with_places maps m places) s k
 own-set maps m places s Shared lt size fit = fit

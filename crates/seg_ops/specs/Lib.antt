@@ -4,3 +4,4 @@ pub mod Marks
 pub mod Flights
 pub mod Trials
 pub mod Slots
+pub mod Empties

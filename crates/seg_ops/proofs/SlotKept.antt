@@ -1,0 +1,93 @@
+-- A PLACE THAT IS EMPTIED while other places hold its slot: memory and the notes fit, and each page keeps its value.
+use Rattle.std.proofs.Common.{◌≡◌, ℕ, ◌<◌, cond, List, [], length, Option, Some, None, refl, sym, ap, ◌∙◌, inl, inr, subst, arith, slice_index_or}
+use Rattle.std.specs.Prelude.{IsTrue, IsFalse, true, false}
+use Rattle.page_hash.specs.declared.PageName.{PageName}
+use Rattle.page_store.specs.Notes.{Notes}
+use Rattle.page_store.specs.StoreFits.{StoreFits}
+use Rattle.page_store.specs.Table.{Table}
+use Rattle.page_store.specs.Value.{value, tells}
+use Rattle.anon_map.specs.Maps.{Map}
+use Rattle.anon_slots.specs.Slots.{Slots, count_at}
+use Rattle.hat_layer.specs.Pool.{at}
+use Rattle.vm_world.specs.FramesFit.{DisksFit, HasSize}
+use Rattle.vm_world.specs.MemoryFits.{MemoryFits}
+use Rattle.vm_world.specs.NotesFit.{NotesFit, CleanFit, PushFits}
+use Rattle.vm_world.specs.Segments.{Spot, Spaces}
+use Rattle.vm_world.specs.World.{World, slot_name, is_unpushed, page_exists, page_table, world_table}
+use Rattle.seg_ops.specs.Empties.{LeavesSlot, EmptiesPlace}
+use Rattle.seg_ops.specs.Slots.{OwnsAlone}
+use Rattle.seg_ops.proofs.Marks.{cases-name}
+use Rattle.seg_ops.proofs.SlotLeaves.{existed, exists-else, table-left, page-name-left, own-unloaded, left-shown, left-writable}
+use Rattle.seg_ops.proofs.SlotMemory.{with_slot, lt-used, segments-set}
+use Rattle.seg_ops.proofs.StillSteps.{memory_of}
+
+module _ (w : World) (spaces : Spaces) (anon : Slots) (put : List (Option Map)) (p q m i s : ℕ) (x : Spot) (f : MemoryFits (memory_of w spaces)) (k : LeavesSlot w.anon anon w.maps put m i s) (more : 1 < count_at w.anon s) (owns : OwnsAlone spaces p q m i x) (unloaded : at w.hat.places p q ≡ None) where
+  -- what existed still exists
+  still : (n : PageName) → IsTrue (page_exists w.files w.anon n) → IsTrue (page_exists w.files anon n)
+  still n exists = elim (cases-name (slot_name s) n) [
+    | inr ne ↦ exists-else w.files w.anon anon w.maps put m i s k n ne ∙ exists
+    | inl e ↦ ap (page_exists w.files anon) e ∙ lt-used (count_at anon s) (let less = k.less in omega (arith, less, more))
+  ]
+
+  missing : (n : PageName) → IsFalse (page_exists w.files w.anon n) → IsFalse (page_exists w.files anon n)
+  missing n gone = elim (cases-name (slot_name s) n) [
+    | inr ne ↦ exists-else w.files w.anon anon w.maps put m i s k n ne ∙ gone
+    | inl e ↦ absurd (let z : false ≡ true = sym gone ∙ ap (page_exists w.files w.anon) e ∙ lt-used (count_at w.anon s) (omega (arith, more)) in cc)
+  ]
+
+  table : page_table w.files anon ≡ world_table w
+  table = table-left w.files w.anon anon w.maps put m i s k
+
+  kept-memory : MemoryFits (memory_of (with_slot w w.store anon put) spaces)
+  kept-memory = record {
+    frames = record { sound = f.frames.sound; unkept = f.frames.unkept; unmodified = f.frames.unmodified; exist = λ j n h. still n (f.frames.exist j n h) };
+    files = f.files;
+    disks = subst (λ (c : ℕ). DisksFit w.store.bays w.files.disks c) (sym k.slots) f.disks;
+    pool = f.pool;
+    translations = λ j t is.
+        let l = f.translations j t is in
+        let stays = left-shown w spaces anon put p q m i s x f k owns unloaded j t is l.spot l.name l.here l.shows in
+        record {
+          spot = l.spot;
+          here = l.here;
+          name = l.name;
+          shows = stays.shows;
+          home = l.home;
+          unlisted = l.unlisted;
+          allowed = l.allowed;
+          writable = λ h. left-writable w anon put m i s l.spot f.counts k (own-unloaded w.hat.places spaces p q m i j t x l.spot owns unloaded is l.here) stays.own (l.writable h);
+        };
+    unpushed = λ j a h unpushed home. f.unpushed j a h (ap (λ swapped. slice_index_or swapped a false) (sym k.swapped) ∙ unpushed) home;
+    counts = k.counts;
+    segments = segments-set w spaces anon put m i None f k.within k.set k.reserved;
+  }
+
+  kept-notes : (notes : Notes) → NotesFit w notes → NotesFit (with_slot w w.store anon put) notes
+  kept-notes notes nf = record {
+    stored = subst (λ (t : Table). StoreFits w.store notes t) (sym table) nf.stored;
+    clean = subst (λ (t : Table). CleanFit w.store w.hat.places t notes) (sym table) nf.clean;
+    pushes = λ seat note is writes there. subst (λ (t : Table). PushFits w.store w.hat.places t note) (sym table) (nf.pushes seat note is writes there);
+    gone = λ seat note is writes gone. elim (nf.gone seat note is writes gone) [
+      | inl a ↦ inl (ap (λ swapped. is_unpushed w.files (record anon { swapped = swapped }) note.name) k.swapped ∙ a.0, a.1)
+      | inr b ↦ inr (elim b [ inl c ↦ inl (missing note.name c) | inr d ↦ inr d ])
+    ];
+    sizes = λ seat note is. subst (λ (c : ℕ). HasSize w.files.disks c note.number note.disk.size) (sym k.slots) (nf.sizes seat note is);
+  }
+
+  -- WHAT HOLDS OF THE WORLD then.
+  pub kept-place : EmptiesPlace w (with_slot w w.store anon put) spaces m i s
+  kept-place = record {
+    slot = k;
+    files = refl;
+    hat = refl;
+    core = refl;
+    frames = refl;
+    bays = refl;
+    memory = kept-memory;
+    notes = kept-notes;
+    tells = λ notes nf. (
+      (λ tell n real. ap (λ (t : Table). tells w.store notes (t n).disk) table ∙ tell n (sym (page-name-left w.files w.anon anon w.maps put m i s k n) ∙ real)),
+      (λ tell n real. sym (ap (λ (t : Table). tells w.store notes (t n).disk) table) ∙ tell n (page-name-left w.files w.anon anon w.maps put m i s k n ∙ real)),
+    );
+    pages = λ notes n nf tell exists. λ j. cond (page-name-left w.files w.anon anon w.maps put m i s k n j) (value w.store notes (table j) n) [];
+  }

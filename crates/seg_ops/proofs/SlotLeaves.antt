@@ -1,0 +1,124 @@
+-- A PLACE THAT IS EMPTIED: its slot is counted once less, and what other places and pages show stays.
+use Rattle.std.proofs.Common.{◌≡◌, ◌≢◌, ℕ, ◌+◌, ◌-◌, ◌<◌, ◌==◌, cond, List, length, map, Option, Some, None, refl, sym, ap, ◌∙◌, inl, inr, subst, arith, slice_set, slice_index_or, get_or-set_same}
+use Rattle.std.specs.Prelude.{IsTrue, false, not, nat_lt, option_and_then}
+use Rattle.std.proofs.lemmas.Bool.{cases_eq}
+use Rattle.std.proofs.lemmas.Bool.Decides.{eqb_tells}
+use Rattle.std.proofs.lemmas.List.{get_or-set_other, length-set}
+use Rattle.page_hash.specs.declared.PageName.{PageName}
+use Rattle.page_store.specs.Layout.{table_of}
+use Rattle.anon_map.specs.Maps.{Map, places_of, with_places}
+use Rattle.anon_slots.specs.Slots.{Slots, count_at, is_used, IsSoundAnonSlots, with_count}
+use Rattle.hat_layer.specs.Pool.{at}
+use Rattle.hat_layer.specs.declared.translation.Translation.{Translation}
+use Rattle.vnode_files.specs.Files.{FilesSeen, vnode_at}
+use Rattle.vnode_files.specs.Grow.{page_count}
+use Rattle.vnode_files.specs.Vnode.{is_blank}
+use Rattle.vm_world.specs.CountsFit.{CountsFit}
+use Rattle.vm_world.specs.MemoryFits.{MemoryFits}
+use Rattle.vm_world.specs.Segments.{Spot, Spaces, spot_at, own_slot, shown_name}
+use Rattle.vm_world.specs.TranslationsFit.{MayWriteInPlace}
+use Rattle.vm_world.specs.World.{World, file_blocks, slot_in, slot_name, is_page_name, page_exists, page_table}
+use Rattle.vm_world.proofs.Counting.{adds, adds-own, adds-other, times-put}
+use Rattle.vm_world.proofs.Counts.{held-used, only-place, used-below}
+use Rattle.vm_world.proofs.SpaceSteps.{loaded-at}
+use Rattle.seg_ops.specs.Empties.{LeavesSlot}
+use Rattle.seg_ops.specs.Slots.{OwnsAlone}
+use Rattle.seg_ops.proofs.SlotCounts.{places-put}
+use Rattle.seg_ops.proofs.SlotMemory.{AreShown, used-lt, lt-used, slot-exists, file-exists}
+use Rattle.seg_ops.proofs.SlotOwners.{not-shown}
+use Rattle.seg_ops.proofs.SlotPlaces.{stays-apart}
+use Rattle.seg_ops.proofs.StillSteps.{memory_of}
+
+pub left-slot : (anon : Slots) (maps : List (Option Map)) (m i s : ℕ) → CountsFit anon maps → IsSoundAnonSlots (with_count anon s (count_at anon s - 1)) → i < length (places_of maps m) → slot_in maps m i ≡ Some s
+    → LeavesSlot anon (with_count anon s (count_at anon s - 1)) maps (with_places maps m (slice_set (places_of maps m) i None)) m i s
+left-slot anon maps m i s fit sound lt holds =
+    let new : Slots = with_count anon s (count_at anon s - 1) in
+    let some = held-used anon maps m i s fit holds in
+    let within : s < length anon.counts = used-below anon.counts s some in
+    let less : count_at new s ≡ count_at anon s - 1 = get_or-set_same anon.counts s (count_at anon s - 1) 0 within in
+    let else_is : (t : ℕ) → t ≢ s → count_at new t ≡ count_at anon t = λ t ne. get_or-set_other anon.counts s t (count_at anon s - 1) 0 ne in
+    record {
+      within = lt;
+      set = refl;
+      held = holds;
+      less = omega (arith, less, some);
+      others = else_is;
+      slots = length-set anon.counts s (count_at anon s - 1);
+      swapped = refl;
+      reserved = refl;
+      counts = record {
+        sound = sound;
+        counts = λ t.
+            let put = times-put t maps m i None lt in
+            let held : adds t (slot_in maps m i) ≡ adds t (Some s) = ap (adds t) holds in
+            let none : adds t None ≡ 0 = refl in
+            let was = fit.counts t in
+            elim (cases_eq t s) [
+              | inl e ↦
+                  let gone : adds t (Some s) ≡ 1 = ap (λ (j : ℕ). adds j (Some s)) e ∙ adds-own s in
+                  let now : count_at new t ≡ count_at anon s - 1 = ap (count_at new) e ∙ less in
+                  let same = ap (count_at anon) e in
+                  omega (arith, put, held, none, gone, was, now, same, some)
+              | inr ne ↦
+                  let gone = adds-other t s (λ d. ne (sym d)) in
+                  let now = else_is t ne in
+                  omega (arith, put, held, none, gone, was, now)
+            ];
+        places = places-put maps m i None lt ∙ fit.places;
+      };
+    }
+
+module _ (files : FilesSeen) (old new : Slots) (maps put : List (Option Map)) (m i s : ℕ) (k : LeavesSlot old new maps put m i s) where
+  -- what exists then existed before
+  pub existed : (n : PageName) → IsTrue (page_exists files new n) → IsTrue (page_exists files old n)
+  existed n exists = elim (eqb_tells n.object 64) [
+    | inr x ↦ sym (file-exists files old new n x.0) ∙ exists
+    | inl y ↦ slot-exists files old n y.0 ∙ lt-used (count_at old n.page) (more n.page (used-lt (count_at new n.page) (sym (slot-exists files new n y.0) ∙ exists)))
+  ]
+    where
+      more : (t : ℕ) → 0 < count_at new t → 0 < count_at old t
+      more t used = elim (cases_eq t s) [
+        | inl e ↦ let less = k.less in let a = ap (count_at old) e in let b = ap (count_at new) e in omega (arith, used, less, a, b)
+        | inr ne ↦ let e = k.others t ne in omega (arith, used, e)
+      ]
+
+  -- every other page exists if it did
+  pub exists-else : (n : PageName) → n ≢ slot_name s → page_exists files new n ≡ page_exists files old n
+  exists-else n ne = elim (eqb_tells n.object 64) [
+    | inr x ↦ file-exists files old new n x.0
+    | inl y ↦ slot-exists files new n y.0 ∙ ap is_used (k.others n.page (λ e. ne (λ j. record { object = y.1 j; page = e j }))) ∙ sym (slot-exists files old n y.0)
+  ]
+
+  -- where each page lives stays, and which names are of pages
+  pub table-left : page_table files new ≡ page_table files old
+  table-left = λ j. table_of (map file_blocks files.files) (k.slots j) (λ name. cond (name.object == 64) (not (slice_index_or (k.swapped j) name.page false)) (is_blank (vnode_at files name.object) name.page))
+
+  pub page-name-left : (n : PageName) → is_page_name files new n ≡ is_page_name files old n
+  page-name-left n = ap (λ (c : ℕ). cond (n.object == 64) (nat_lt n.page c) (nat_lt n.page (page_count (vnode_at files n.object).info.extents))) k.slots
+
+-- the page of the place has no translation
+pub own-unloaded : (places : List (Option Translation)) (spaces : Spaces) (p q m i j : ℕ) (t : Translation) (x y : Spot) → OwnsAlone spaces p q m i x → at places p q ≡ None → slice_index_or places j None ≡ Some t → spot_at spaces t.space t.page ≡ Some y
+    → y.0.own ≡ Some m → y.1 ≡ i → ⊥
+own-unloaded places spaces p q m i j t x y owns unloaded is here own place =
+    let where_is = owns.alone t.space t.page y here own place in
+    loaded-at places j t is (ap (λ (a : ℕ). at places a t.page) where_is.0 ∙ ap (λ (b : ℕ). at places p b) where_is.1 ∙ unloaded)
+
+-- EACH TRANSLATION SHOWS what it showed.
+pub left-shown : (w : World) (spaces : Spaces) (anon : Slots) (put : List (Option Map)) (p q m i s : ℕ) (x : Spot) → MemoryFits (memory_of w spaces) → LeavesSlot w.anon anon w.maps put m i s → OwnsAlone spaces p q m i x → at w.hat.places p q ≡ None → AreShown w spaces put
+left-shown w spaces anon put p q m i s x f k owns unloaded = subst (λ (ps : List (Option Map)). AreShown w spaces ps) (sym k.set) (λ j t is y n here shows.
+    stays-apart w.maps m i None y n k.within (own-unloaded w.hat.places spaces p q m i j t x y owns unloaded is here) (not-shown (memory_of w spaces) p q t.space t.page m x y f owns.here owns.own here) shows)
+
+-- and may be written in place if it might
+pub left-writable : (w : World) (anon : Slots) (put : List (Option Map)) (m i s : ℕ) (y : Spot) → CountsFit w.anon w.maps → LeavesSlot w.anon anon w.maps put m i s → (y.0.own ≡ Some m → y.1 ≡ i → ⊥) → own_slot put y ≡ own_slot w.maps y
+    → MayWriteInPlace w.anon w.maps y → MayWriteInPlace anon put y
+left-writable w anon put m i s y fit k apart own r = record {
+  prot = r.prot;
+  alone = λ private.
+      let a = r.alone private in
+      let far : a.0 ≢ s = λ e. at_place y.0.own refl (a.1 ∙ ap (λ (b : ℕ). Some b) e) (ap (λ (b : ℕ). count_at w.anon b) (sym e) ∙ a.2) in
+      (a.0, own ∙ a.1, k.others a.0 far ∙ a.2);
+}
+  where
+    at_place : (o : Option ℕ) → y.0.own ≡ o → option_and_then (λ number. slot_in w.maps number y.1) o ≡ Some s → count_at w.anon s ≡ 1 → ⊥
+    at_place None e is one = let z : None ≡ Some s = is in cc
+    at_place (Some number) e is one = let both = only-place s w.maps m i number y.1 (sym (fit.counts s) ∙ one) k.held is in apart (e ∙ ap (λ (b : ℕ). Some b) both.0) both.1

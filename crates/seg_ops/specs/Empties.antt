@@ -1,0 +1,54 @@
+-- Places of anon maps that are emptied. Public clauses cite this.
+use Rattle.std.specs.Prelude.{◌≡◌, ◌≢◌, ◌↔◌, ◌<◌, ◌+◌, ℕ, List, length, Option, Some, None, IsTrue, slice_set}
+use Rattle.std.specs.Option.{option_map_or}
+use Rattle.page_hash.specs.declared.PageName.{PageName}
+use Rattle.page_store.specs.Notes.{Notes}
+use Rattle.anon_map.specs.Maps.{Map, places_of, with_places}
+use Rattle.anon_slots.specs.Slots.{Slots, count_at}
+use Rattle.flat_model.specs.Access.{with_cell}
+use Rattle.flat_model.specs.Flat.{Cell, Flat, cell_at}
+use Rattle.flat_model.specs.Words.{Page}
+use Rattle.vm_types.specs.declared.call.Kind.TheVariants.{Shared, Private}
+use Rattle.vm_world.specs.CountsFit.{CountsFit}
+use Rattle.vm_world.specs.FlatMemory.{own_without_slot}
+use Rattle.vm_world.specs.MemoryFits.{MemoryFits}
+use Rattle.vm_world.specs.NotesFit.{NotesFit}
+use Rattle.vm_world.specs.Pages.{page_value}
+use Rattle.vm_world.specs.Segments.{Spaces}
+use Rattle.vm_world.specs.World.{World, core_of, slot_name, slot_in, page_exists, AllTell}
+
+-- A place is emptied: its slot is counted once less, and each other slot as before; no page was pushed; nothing is reserved or given up; and the counts fit
+-- the maps.
+pub record LeavesSlot (old new : Slots) (maps put : List (Option Map)) (m i s : ℕ) : Type 0 where
+  pub within : i < length (places_of maps m)
+  pub set : put ≡ with_places maps m (slice_set (places_of maps m) i None)
+  pub held : slot_in maps m i ≡ Some s
+  pub less : count_at new s + 1 ≡ count_at old s
+  pub others : (t : ℕ) → t ≢ s → count_at new t ≡ count_at old t
+  pub slots : length new.counts ≡ length old.counts
+  pub swapped : new.swapped ≡ old.swapped
+  pub reserved : new.reserved ≡ old.reserved
+  pub counts : CountsFit new put
+
+-- A place is emptied, which held this slot. Files, disks and translations stay; memory and the notes fit as before, and disks tell where they told; and each
+-- page keeps its value, the slot's where it still exists.
+pub record EmptiesPlace (old new : World) (spaces : Spaces) (m i s : ℕ) : Type 0 where
+  pub slot : LeavesSlot old.anon new.anon old.maps new.maps m i s
+  pub files : new.files ≡ old.files
+  pub hat : new.hat ≡ old.hat
+  pub core : core_of new.store ≡ core_of old.store
+  pub frames : length new.store.frames ≡ length old.store.frames
+  pub bays : new.store.bays ≡ old.store.bays
+  pub memory : MemoryFits (record { world = new; spaces = spaces })
+  pub notes : (notes : Notes) → NotesFit old notes → NotesFit new notes
+  pub tells : (notes : Notes) → NotesFit old notes → AllTell old notes ↔ AllTell new notes
+  pub pages : (notes : Notes) (name : PageName) → NotesFit old notes → AllTell old notes → (name ≡ slot_name s → IsTrue (page_exists new.files new.anon name))
+      → page_value new notes name ≡ page_value old notes name
+
+-- What a cell has as its own where its place holds no slot: a private one of new zero memory has zeros, and any other nothing.
+abbrev pub own_unheld : Cell → Option Page
+own_unheld c = elim c.kind [ Private ↦ own_without_slot c.object | Shared ↦ None ]
+
+-- Flat memory where the cell at a page of a process has lost its own page.
+abbrev pub without_own_page : Flat → ℕ → ℕ → Flat
+without_own_page F p q = option_map_or (λ c. with_cell F p q (record c { own = own_unheld c })) (cell_at F p q) F
