@@ -39,3 +39,5 @@ pub mod FreedFrames
 pub mod SlotLeaves
 pub mod SlotKept
 pub mod SlotUnheld
+pub mod OwnPages
+pub mod SlotCopies

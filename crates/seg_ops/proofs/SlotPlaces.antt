@@ -1,5 +1,5 @@
 -- The maps after a place was set.
-use Rattle.std.proofs.Common.{◌≡◌, ◌≢◌, ℕ, ◌+◌, ◌<◌, List, [], length, Option, Some, None, refl, sym, ap, ◌∙◌, ◌⊎◌, inl, inr, subst, slice_index_or, slice_set, get_or-set_same}
+use Rattle.std.proofs.Common.{◌≡◌, ◌≢◌, ℕ, zero, suc, ◌+◌, ◌<◌, List, [], ◌∷◌, length, Option, Some, None, refl, sym, ap, ◌∙◌, ◌⊎◌, inl, inr, subst, slice_index_or, slice_set, get_or-set_same}
 use Rattle.std.specs.Prelude.{IsSome, unwrap_or, option_map, option_and_then}
 use Rattle.std.specs.Option.{option_or}
 use Rattle.std.proofs.lemmas.Bool.{cases_eq}
@@ -55,6 +55,31 @@ slot-else maps m i k j o lt apart = elim (map_set maps m k (slice_set (places_of
       ∙ ap (λ (a : ℕ). slot_in maps a j) (sym e.0)
   | inr e ↦ ap (λ (x : Option Map). slice_index_or (unwrap_or x (record { places = []; holders = 0 })).places j None) e.1
 ]
+
+-- the places of the map that has others
+pub places-after : (maps : List (Option Map)) (m : ℕ) (a : List (Option ℕ)) → m < length maps → places_of (with_places maps m a) m ≡ a
+places-after maps m a lt = ap (λ (o : Option Map). (unwrap_or o (record { places = []; holders = 0 })).places) (get_or-set_same maps m (Some (record (the_map maps m) { places = a })) None lt)
+
+-- a place that is set twice
+set_twice : {X : Type 0} (xs : List X) (i : ℕ) (a b : X) → slice_set (slice_set xs i a) i b ≡ slice_set xs i b
+set_twice [] i a b = refl
+set_twice (x ∷ xs) zero a b = refl
+set_twice (x ∷ xs) (suc i) a b = ap (λ l. x ∷ l) (set_twice xs i a b)
+
+pub places-twice : (maps : List (Option Map)) (m : ℕ) (a b : List (Option ℕ)) → m < length maps → with_places (with_places maps m a) m b ≡ with_places maps m b
+places-twice maps m a b lt =
+    let old : Map = the_map maps m in
+    let the : the_map (with_places maps m a) m ≡ record old { places = a } = ap (λ (o : Option Map). unwrap_or o (record { places = []; holders = 0 })) (get_or-set_same maps m (Some (record old { places = a })) None lt) in
+    ap (λ (x : Map). slice_set (with_places maps m a) m (Some (record x { places = b }))) the ∙ set_twice maps m (Some (record old { places = a })) (Some (record old { places = b }))
+
+pub place-twice : (maps : List (Option Map)) (m i : ℕ) (o a : Option ℕ) → i < length (places_of maps m)
+    → with_places (with_places maps m (slice_set (places_of maps m) i o)) m (slice_set (places_of (with_places maps m (slice_set (places_of maps m) i o)) m) i a) ≡ with_places maps m (slice_set (places_of maps m) i a)
+place-twice maps m i o a lt =
+    let within = map-within maps m i lt in
+    let put = with_places maps m (slice_set (places_of maps m) i o) in
+    places-twice maps m (slice_set (places_of maps m) i o) (slice_set (places_of put m) i a) within
+    ∙ ap (λ (l : List (Option ℕ)). with_places maps m (slice_set l i a)) (places-after maps m (slice_set (places_of maps m) i o) within)
+    ∙ ap (λ (l : List (Option ℕ)). with_places maps m l) (set_twice (places_of maps m) i o a)
 
 some-apart : (s : ℕ) (a b : Option ℕ) → a ≡ None → b ≡ Some s → a ≡ b → ⊥
 some-apart s a b none is e = let z : None ≡ Some s = sym none ∙ e ∙ is in cc

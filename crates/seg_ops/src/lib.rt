@@ -4,6 +4,7 @@
 mod accesses;
 mod anon;
 mod blank;
+mod copies;
 mod drops;
 mod empties;
 mod flights;
@@ -18,6 +19,7 @@ mod tails;
 pub use accesses::{read, write};
 pub use anon::{make_copy, make_zero, places_law};
 pub use blank::fill;
+pub use copies::copy_slot;
 pub use drops::drop_translation;
 pub use empties::leave_slot;
 pub use flights::{begin_push, begin_read, mark_pushed};

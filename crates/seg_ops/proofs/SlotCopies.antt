@@ -1,0 +1,71 @@
+-- A PLACE GETS A COPY of the page of its slot, which other places hold too: flat memory stays as it was.
+use Rattle.std.proofs.Common.{◌≡◌, ℕ, Bool, Option, Some, sym, ap, ◌∙◌, subst}
+use Rattle.std.specs.Prelude.{option_map, option_and_then}
+use Rattle.std.specs.Option.{option_or}
+use Rattle.page_hash.specs.Names.{find}
+use Rattle.page_hash.specs.declared.PageName.{PageName}
+use Rattle.page_store.specs.Notes.{Notes}
+use Rattle.page_store.specs.Seen.{residence}
+use Rattle.page_store.specs.Steps.{home_bytes}
+use Rattle.page_store.specs.declared.residence.Residence.TheVariants.{Home}
+use Rattle.hat_layer.specs.Pool.{at}
+use Rattle.flat_model.specs.Flat.{Flat, IsFlat}
+use Rattle.flat_model.specs.Step.{tails_cleared}
+use Rattle.flat_model.specs.Words.{Page}
+use Rattle.vm_world.specs.CallSteps.{ChangesMemory}
+use Rattle.vm_world.specs.FlatMemory.{cell_of, own_without_slot, flat_memory}
+use Rattle.vm_world.specs.MemoryFits.{MemoryFits}
+use Rattle.vm_world.specs.Pages.{page_value, contents_of}
+use Rattle.vm_world.specs.Segments.{Spot, Spaces}
+use Rattle.vm_world.specs.World.{World, slot_in, slot_name, world_table}
+use Rattle.vm_world.proofs.Counts.{held-used, used-below}
+use Rattle.vm_world.proofs.Maps.{cell-at}
+use Rattle.vm_world.proofs.PageNames.{slot-page}
+use Rattle.seg_ops.specs.Empties.{without_own_page}
+use Rattle.seg_ops.specs.Slots.{OwnsAlone, with_own_page}
+use Rattle.seg_ops.proofs.OwnPages.{flat-unheld, own-back}
+use Rattle.seg_ops.proofs.SlotMemory.{home-value_bytes}
+use Rattle.seg_ops.proofs.StillSteps.{memory_of, value-is}
+use Rattle.std.specs.FinSet as set
+use Rattle.std.specs.Ordering.{nat_cmp}
+
+module _ (w : World) (spaces : Spaces) (p q m i s frame : ℕ) (x : Spot) (f : MemoryFits (memory_of w spaces)) (holds : slot_in w.maps m i ≡ Some s) (home : residence w.store (slot_name s) ≡ Home frame) (owns : OwnsAlone spaces p q m i x) where
+  -- the cell has the bytes of the slot's page
+  own-is : (notes : Notes) → (cell_of (contents_of w notes).place x).own ≡ Some (home_bytes w.store (find w.store.names (slot_name s)))
+  own-is notes =
+      let held : ℕ → ℕ → Option Page = (contents_of w notes).place in
+      ap (option_and_then (λ number. option_or (held number x.1) (own_without_slot x.0.object))) owns.own
+      ∙ ap (λ (j : ℕ). option_or (held m j) (own_without_slot x.0.object)) owns.place
+      ∙ ap (λ (o : Option ℕ). option_or (option_map (λ t. page_value w notes (slot_name t)) o) (own_without_slot x.0.object)) holds
+      ∙ ap (λ (b : Page). Some b) (value-is w notes (slot_name s) (slot-page w.files w.anon s (used-below w.anon.counts s (held-used w.anon w.maps m i s f.counts holds))) ∙ home-value_bytes w.store notes (world_table w) (slot_name s) frame home)
+
+  copied-back : (notes : Notes) (born : set.FinSet nat_cmp) → with_own_page (without_own_page (flat_memory (memory_of w spaces) born notes) p q) p q (home_bytes w.store (find w.store.names (slot_name s))) ≡ flat_memory (memory_of w spaces) born notes
+  copied-back notes born =
+      own-back (flat_memory (memory_of w spaces) born notes) p q (cell_of (contents_of w notes).place x) (home_bytes w.store (find w.store.names (slot_name s)))
+      (cell-at (contents_of w notes).place spaces p q ∙ ap (option_map (cell_of (contents_of w notes).place)) owns.here) (own-is notes)
+
+  -- THE PLACE IS EMPTIED, and then gets those bytes.
+  pub changes-copied : (mid new : World) (lost : ℕ → Bool) → ChangesMemory p (memory_of w spaces) (memory_of mid spaces) (λ F G. G ≡ without_own_page F p q)
+      → ChangesMemory p (memory_of mid spaces) (memory_of new spaces) (λ F G. G ≡ tails_cleared (with_own_page F p q (home_bytes w.store (find w.store.names (slot_name s)))) lost)
+      → ChangesMemory p (memory_of w spaces) (memory_of new spaces) (λ F G. G ≡ tails_cleared F lost)
+  changes-copied mid new lost a b = record {
+    machine = record {
+      core = b.machine.core ∙ a.machine.core;
+      frames = b.machine.frames ∙ a.machine.frames;
+      slots = b.machine.slots ∙ a.machine.slots;
+      disks = b.machine.disks ∙ a.machine.disks;
+      modes = b.machine.modes ∙ a.machine.modes;
+      bays = b.machine.bays ∙ a.machine.bays;
+    };
+    others = λ r far. b.others r far ∙ a.others r far;
+    memory = b.memory;
+    notes = λ notes nf. b.notes notes (a.notes notes nf);
+    tells = λ notes nf. let one = a.tells notes nf in let two = b.tells notes (a.notes notes nf) in ((λ tell. two.0 (one.0 tell)), (λ tell. one.1 (two.1 tell)));
+    flat = λ born notes nf tell is.
+        let F : Flat = flat_memory (memory_of w spaces) born notes in
+        let left : flat_memory (memory_of mid spaces) born notes ≡ without_own_page F p q = a.flat born notes nf tell is in
+        let whole = subst IsFlat (sym left) (flat-unheld F p q is) in
+        b.flat born notes (a.notes notes nf) ((a.tells notes nf).0 tell) whole
+        ∙ ap (λ (G : Flat). tails_cleared (with_own_page G p q (home_bytes w.store (find w.store.names (slot_name s)))) lost) left
+        ∙ ap (λ (G : Flat). tails_cleared G lost) (copied-back notes born);
+  }
