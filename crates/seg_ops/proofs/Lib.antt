@@ -41,3 +41,5 @@ pub mod SlotKept
 pub mod SlotUnheld
 pub mod OwnPages
 pub mod SlotCopies
+pub mod GivenUp
+pub mod SlotDrops

@@ -17,7 +17,7 @@ use Rattle.flat_model.proofs.Ranges.{in_range-low}
 use Rattle.vm_world.specs.declared.segment.Segment.{Segment}
 use Rattle.vm_world.specs.Segments.{Spot, Spaces, spot_at, zero_map}
 use Rattle.vm_world.specs.FlatMemory.{Memory, zero_maps}
-use Rattle.vm_world.specs.CountsFit.{SegmentFits, OwnFits, is_number, times_had}
+use Rattle.vm_world.specs.CountsFit.{SegmentFits, ObjectFits, OwnFits, is_number, times_had}
 use Rattle.vm_world.specs.MemoryFits.{MemoryFits}
 use Rattle.vm_world.proofs.Spots.{IsSpotOf, spot-part}
 use Rattle.seg_ops.specs.Slots.{OwnsAlone, IsNewZero, PlacesLaw}
@@ -141,6 +141,11 @@ own-fits : (m : Memory) (p q : ℕ) (x : Spot) → MemoryFits m → spot_at m.sp
 own-fits m p q x f is =
     let s : IsSpotOf (SegmentFits (length m.world.files.files) m.world.maps) q x = spot-part (SegmentFits (length m.world.files.files) m.world.maps) m.spaces p q x f.segments.ordered f.segments.each is in
     subst (λ (y : Segment). OwnFits m.world.maps y y.kind) s.piece s.fits.own
+
+pub object-fits : (m : Memory) (p q : ℕ) (x : Spot) → MemoryFits m → spot_at m.spaces p q ≡ Some x → ObjectFits (length m.world.files.files) m.world.maps x.0 x.0.object
+object-fits m p q x f is =
+    let s : IsSpotOf (SegmentFits (length m.world.files.files) m.world.maps) q x = spot-part (SegmentFits (length m.world.files.files) m.world.maps) m.spaces p q x f.segments.ordered f.segments.each is in
+    subst (λ (y : Segment). ObjectFits (length m.world.files.files) m.world.maps y y.object) s.piece s.fits.object
 
 -- THE OWN PLACE of a private page is that of no other page.
 pub one-owner : (m : Memory) (p q : ℕ) (x : Spot) → MemoryFits m → spot_at m.spaces p q ≡ Some x → x.0.kind ≡ Private

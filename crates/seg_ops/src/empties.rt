@@ -1,16 +1,20 @@
 //! Places of anon maps that are emptied.
-ghost use Rattle.std.specs.Prelude.{◌≡◌, ◌<◌, ◌-◌, ℕ, length, Some, None, slice_set};
+ghost use Rattle.std.specs.Prelude.{◌≡◌, ◌≢◌, ◌<◌, ◌-◌, ℕ, length, Some, None, slice_set};
 ghost use Rattle.hat_layer.specs.Pool.{at};
+ghost use Rattle.page_hash.specs.declared.PageName.{PageName};
+ghost use Rattle.page_store.specs.Seen.{residence};
+ghost use Rattle.page_store.specs.Steps.{after_abort};
 ghost use Rattle.anon_map.specs.Maps.{IsMapThere, places_of, with_places};
 ghost use Rattle.anon_slots.specs.Slots.{count_at, with_count};
 ghost use Rattle.vm_world.specs.CallSteps.{ChangesMemory};
 ghost use Rattle.vm_world.specs.MemoryFits.{MemoryFits};
 ghost use Rattle.vm_world.specs.Segments.{Spaces, Spot};
-ghost use Rattle.vm_world.specs.World.{world_seen, slot_in};
+ghost use Rattle.vm_world.specs.World.{world_seen, slot_name, slot_in};
 ghost use Rattle.seg_ops.specs.Empties.{EmptiesPlace, without_own_page};
 ghost use Rattle.seg_ops.specs.Slots.{OwnsAlone};
 
 use block_device::Disk;
+use page_store::{PageName, Residence, SWAP_OBJECT};
 use vm_world::World;
 
 /// Empties a place of a private mapping's map, whose slot other places hold too. The page that the place is for has no
@@ -42,6 +46,50 @@ pub fn leave_slot<D: Disk>(world: &mut World<D>, map: u32, place: u32, slot: u32
         (record { world = world_seen world.new; spaces = spaces })
         (λ F G. G ≡ without_own_page F p q) }
 {
+    world.anon.drop_one(slot);
+    world.maps.set(map, place, None);
+}
+
+/// Empties the one place that holds a slot, a private mapping's, and gives up the slot's page. The slot is free then. The
+/// frame of its page comes free, or does at the end of its flight where the page is moving. The page that the place is
+/// for has no translation. Constant expected time.
+pub fn drop_slot<D: Disk>(world: &mut World<D>, map: u32, place: u32, slot: u32)
+    requires there { IsMapThere world.old.maps map }
+    requires within { place < length (places_of world.old.maps map) }
+    requires holds { slot_in world.old.maps map place ≡ Some slot }
+    requires alone { count_at world.old.anon slot ≡ 1 }
+    requires fits { (spaces : Spaces)
+        × MemoryFits (record { world = world_seen world.old; spaces = spaces }) }
+    // The slot is free, the place is empty, and no frame has the slot's page.
+    ensures anon { world.new.anon ≡ with_count world.old.anon slot 0 }
+    ensures maps { world.new.maps ≡ with_places world.old.maps map
+        (slice_set (places_of world.old.maps map) place None) }
+    ensures store { world.new.store ≡ after_abort world.old.store (slot_name slot) }
+    ensures absent { residence world.new.store (slot_name slot) ≡ Residence.Absent }
+    // What stays.
+    ensures stay { (name : PageName) → name ≢ slot_name slot
+        → residence world.new.store name ≡ residence world.old.store name }
+    ensures rest { world.new ≡ record world.old {
+      store = world.new.store;
+      anon = world.new.anon;
+      maps = world.new.maps;
+    } }
+    ensures empties { (spaces : Spaces) (p q : ℕ) (x : Spot)
+        → MemoryFits (record { world = world_seen world.old; spaces = spaces })
+        → OwnsAlone spaces p q map place x → at world.old.hat.places p q ≡ None
+        → EmptiesPlace (world_seen world.old) (world_seen world.new) spaces map place slot }
+    // In flat memory the cell of that page loses its own page, and nothing else changes.
+    ensures changes { (spaces : Spaces) (p q : ℕ) (x : Spot)
+        → MemoryFits (record { world = world_seen world.old; spaces = spaces })
+        → OwnsAlone spaces p q map place x → at world.old.hat.places p q ≡ None
+        → ChangesMemory p (record { world = world_seen world.old; spaces = spaces })
+        (record { world = world_seen world.new; spaces = spaces })
+        (λ F G. G ≡ without_own_page F p q) }
+{
+    world.store.abort(PageName {
+        object: SWAP_OBJECT,
+        page: slot,
+    });
     world.anon.drop_one(slot);
     world.maps.set(map, place, None);
 }
