@@ -43,3 +43,4 @@ pub mod OwnPages
 pub mod SlotCopies
 pub mod GivenUp
 pub mod SlotDrops
+pub mod SlotRanges

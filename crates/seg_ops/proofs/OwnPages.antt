@@ -1,5 +1,5 @@
 -- A CELL LOSES ITS OWN PAGE AND GETS ONE: flat memory stays well formed, and is as it was where the page is the same.
-use Rattle.std.proofs.Common.{◌≡◌, ℕ, Option, Some, None, refl, sym, ap, ◌∙◌, inl, inr, subst}
+use Rattle.std.proofs.Common.{◌≡◌, ℕ, zero, suc, ◌+◌, Option, Some, None, refl, sym, ap, ◌∙◌, inl, inr, subst}
 use Rattle.std.specs.Prelude.{option_and_then, is_some, unwrap_or, IsSome}
 use Rattle.std.specs.Option.{option_map_or}
 use Rattle.std.specs.Ordering.{nat_cmp}
@@ -19,7 +19,7 @@ use Rattle.flat_model.proofs.WellFormed.{IsPage-zero_page}
 use Rattle.vm_world.specs.FlatMemory.{own_without_slot}
 use Rattle.vm_world.proofs.FlatSpaces.{flat-with_space}
 use Rattle.vm_world.proofs.FlatWhole.{some-inj}
-use Rattle.seg_ops.specs.Empties.{own_unheld, without_own_page}
+use Rattle.seg_ops.specs.Empties.{own_unheld, without_own_page, without_own_pages}
 use Rattle.seg_ops.specs.Slots.{with_own_page}
 
 -- a cell without its own page is well formed
@@ -68,6 +68,10 @@ flat-unheld F p q flat = by_cell (cell_at F p q) refl
     by_cell None e = flat
     by_cell (Some c) e = flat-cell F p q c (record c { own = own_unheld c }) flat e (cell-unheld c (flat.cells p q c e))
 
+pub flat-unheld_all : (F : Flat) (p first n : ℕ) → IsFlat F → IsFlat (without_own_pages F p first n)
+flat-unheld_all F p first zero flat = flat
+flat-unheld_all F p first (suc n) flat = flat-unheld (without_own_pages F p first n) p (first + n) (flat-unheld_all F p first n flat)
+
 -- one cell after another, and the cell that stood there
 twice : {X : Type 0} (m : finite.FinMap nat_cmp X) (k : ℕ) (v w : X) → finite.insert (finite.insert m k v) k w ≡ finite.insert m k w
 twice m k v w = finite.same_map nat_cmp_total finite.nat_cmp-IsAntisymmetric _ _ (λ q. elim (cases_eq q k) [
@@ -84,7 +88,7 @@ cell-twice F p q a b =
     ∙ ap (λ (x : Space). record F { spaces = finite.insert (finite.insert F.spaces p t) p x }) (twice s q a b)
     ∙ ap (λ x. record F { spaces = x }) (twice F.spaces p t (finite.insert s q b))
 
-cell-back : (F : Flat) (p q : ℕ) (c : Cell) → cell_at F p q ≡ Some c → with_cell F p q c ≡ F
+pub cell-back : (F : Flat) (p q : ℕ) (c : Cell) → cell_at F p q ≡ Some c → with_cell F p q c ≡ F
 cell-back F p q c is =
     let at = space_is F p q c is in
     let same : unwrap_or (space_of F p) finite.empty ≡ at.0 = ap (λ (o : Option Space). unwrap_or o finite.empty) at.1 in

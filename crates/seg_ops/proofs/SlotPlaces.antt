@@ -1,6 +1,6 @@
 -- The maps after a place was set.
 use Rattle.std.proofs.Common.{◌≡◌, ◌≢◌, ℕ, zero, suc, ◌+◌, ◌<◌, List, [], ◌∷◌, length, Option, Some, None, refl, sym, ap, ◌∙◌, ◌⊎◌, inl, inr, subst, slice_index_or, slice_set, get_or-set_same}
-use Rattle.std.specs.Prelude.{IsSome, unwrap_or, option_map, option_and_then}
+use Rattle.std.specs.Prelude.{IsSome, true, false, unwrap_or, option_map, option_and_then}
 use Rattle.std.specs.Option.{option_or}
 use Rattle.std.proofs.lemmas.Bool.{cases_eq}
 use Rattle.std.proofs.lemmas.List.{get_or-set_other}
@@ -65,6 +65,23 @@ set_twice : {X : Type 0} (xs : List X) (i : ℕ) (a b : X) → slice_set (slice_
 set_twice [] i a b = refl
 set_twice (x ∷ xs) zero a b = refl
 set_twice (x ∷ xs) (suc i) a b = ap (λ l. x ∷ l) (set_twice xs i a b)
+
+-- a place that holds what it held
+set_same : {X : Type 0} (xs : List X) (i : ℕ) (d : X) → slice_set xs i (slice_index_or xs i d) ≡ xs
+set_same [] i d = refl
+set_same (x ∷ xs) zero d = refl
+set_same (x ∷ xs) (suc i) d = ap (λ l. x ∷ l) (set_same xs i d)
+
+pub places-same : (maps : List (Option Map)) (m : ℕ) → IsMapThere maps m → with_places maps m (places_of maps m) ≡ maps
+places-same maps m there = ap (slice_set maps m) (by_map (anon_map_at maps m) there) ∙ set_same maps m None
+  where
+    by_map : (o : Option Map) → IsSome o → Some (record (unwrap_or o (record { places = []; holders = 0 })) { places = (unwrap_or o (record { places = []; holders = 0 })).places }) ≡ o
+    by_map None there = absurd (let z : false ≡ true = there in cc)
+    by_map (Some x) there = refl
+
+pub place-same : (maps : List (Option Map)) (m i : ℕ) (o : Option ℕ) → IsMapThere maps m → slot_in maps m i ≡ o → with_places maps m (slice_set (places_of maps m) i o) ≡ maps
+place-same maps m i o there is =
+    ap (λ (a : Option ℕ). with_places maps m (slice_set (places_of maps m) i a)) (sym is) ∙ ap (with_places maps m) (set_same (places_of maps m) i None) ∙ places-same maps m there
 
 pub places-twice : (maps : List (Option Map)) (m : ℕ) (a b : List (Option ℕ)) → m < length maps → with_places (with_places maps m a) m b ≡ with_places maps m b
 places-twice maps m a b lt =

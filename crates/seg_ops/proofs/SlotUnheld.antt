@@ -75,7 +75,7 @@ module _ (old new : World) (spaces : Spaces) (m i s : ℕ) (k : EmptiesPlace old
       ∙ flat-owned shape born (file_contents (page_value old notes)) (place_contents (page_value old notes) old.maps) (place_contents (page_value new notes) new.maps) p q m i x None places-left owns
 
 -- the cell of a spot without its own page
-unheld-is : (old : World) (spaces : Spaces) (notes : Notes) (born : set.FinSet nat_cmp) (p q : ℕ) (x : Spot) → spot_at spaces p q ≡ Some x → x.0.kind ≡ Private
+pub unheld-is : (old : World) (spaces : Spaces) (notes : Notes) (born : set.FinSet nat_cmp) (p q : ℕ) (x : Spot) → spot_at spaces p q ≡ Some x → x.0.kind ≡ Private
     → without_own_page (flat_memory (memory_of old spaces) born notes) p q ≡ with_cell (flat_memory (memory_of old spaces) born notes) p q (record (cell_of (contents_of old notes).place x) { own = own_without_slot x.0.object })
 unheld-is old spaces notes born p q x here private =
     let F : Flat = flat_memory (memory_of old spaces) born notes in

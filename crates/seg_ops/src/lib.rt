@@ -12,6 +12,7 @@ mod frees;
 mod installs;
 mod landings;
 mod plans;
+mod ranges;
 mod rooms;
 mod tables;
 mod tails;
@@ -27,6 +28,7 @@ pub use frees::free_next;
 pub use installs::{install, show};
 pub use landings::end_flight;
 pub use plans::{Step, ask, fetch};
+pub use ranges::drop_places;
 pub use rooms::{evict, make_room, sync};
 
 #[cfg(test)]

@@ -1,0 +1,18 @@
+use Rattle.std.proofs.Common.{◌≡◌, ◌≤◌, ◌-◌, ℕ}
+use Rattle.anon_map.specs.Maps.{places_of, with_places}
+use Rattle.vm_world.specs.CallSteps.{ChangesMemory}
+use Rattle.vm_world.specs.MemoryFits.{MemoryFits}
+use Rattle.vm_world.specs.Segments.{Spaces}
+use Rattle.vm_world.specs.World.{world_seen}
+use Rattle.seg_ops.specs.Empties.{OwnsPlaces, places_emptied, without_own_pages}
+use Rattle.seg_ops.proofs.StillSteps.{memory_of}
+use Rattle.seg_ops.proofs.ranges.drop_places.Given as goal
+
+abbrev pub invariant-loop-place : goal.invariant-loop-place
+invariant-loop-place g l = record {
+  maps : l.world.maps ≡ with_places l.fn.world.maps l.fn.map (places_emptied (places_of l.fn.world.maps l.fn.map) l.fn.from (l.place - l.fn.from));
+  reserved : l.world.anon.reserved ≡ l.fn.world.anon.reserved;
+  rest : l.world ≡ record l.fn.world { store = l.world.store; anon = l.world.anon; maps = l.world.maps };
+  changes : (spaces : Spaces) (p first : ℕ) → MemoryFits (memory_of (world_seen l.fn.world) spaces) → OwnsPlaces l.fn.world.hat.places spaces p first l.fn.map l.fn.from (l.fn.end - l.fn.from)
+      → ChangesMemory p (memory_of (world_seen l.fn.world) spaces) (memory_of (world_seen l.world) spaces) (λ F G. G ≡ without_own_pages F p first (l.place - l.fn.from));
+}

@@ -1,0 +1,77 @@
+//! Ranges of places of anon maps that are emptied.
+ghost use Rattle.std.specs.Prelude.{◌≡◌, ◌<◌, ◌≤◌, ◌-◌, ℕ, length, None, slice_set};
+ghost use Rattle.hat_layer.specs.Pool.{at};
+ghost use Rattle.anon_map.specs.Maps.{IsMapThere, places_of, with_places};
+ghost use Rattle.vm_world.specs.CallSteps.{ChangesMemory};
+ghost use Rattle.vm_world.specs.MemoryFits.{MemoryFits};
+ghost use Rattle.vm_world.specs.Segments.{Spaces, Spot};
+ghost use Rattle.vm_world.specs.World.{world_seen};
+ghost use Rattle.seg_ops.specs.Empties.{OwnsPlaces, places_emptied, without_own_page, without_own_pages};
+ghost use Rattle.seg_ops.specs.Slots.{OwnsAlone};
+
+use crate::empties::{drop_slot, leave_slot};
+use block_device::Disk;
+use vm_world::World;
+
+/// Empties a place, whether it holds a slot or not.
+fn empty_place<D: Disk>(world: &mut World<D>, map: u32, place: u32)
+    requires there { IsMapThere world.old.maps map }
+    requires within { place < length (places_of world.old.maps map) }
+    requires fits { (spaces : Spaces)
+        × MemoryFits (record { world = world_seen world.old; spaces = spaces }) }
+    ensures maps { world.new.maps ≡ with_places world.old.maps map
+        (slice_set (places_of world.old.maps map) place None) }
+    ensures reserved { world.new.anon.reserved ≡ world.old.anon.reserved }
+    ensures rest { world.new ≡ record world.old {
+      store = world.new.store;
+      anon = world.new.anon;
+      maps = world.new.maps;
+    } }
+    ensures changes { (spaces : Spaces) (p q : ℕ) (x : Spot)
+        → MemoryFits (record { world = world_seen world.old; spaces = spaces })
+        → OwnsAlone spaces p q map place x → at world.old.hat.places p q ≡ None
+        → ChangesMemory p (record { world = world_seen world.old; spaces = spaces })
+        (record { world = world_seen world.new; spaces = spaces })
+        (λ F G. G ≡ without_own_page F p q) }
+{
+    let Some(slot) = world.maps.get(map, place) else {
+        return;
+    };
+    if world.anon.count(slot) == 1 {
+        drop_slot(world, map, place, slot);
+    } else {
+        leave_slot(world, map, place, slot);
+    }
+}
+
+/// Empties the places of a private mapping's map from one on, up to another. The pages that they are for have no
+/// translation. Time: the places.
+pub fn drop_places<D: Disk>(world: &mut World<D>, map: u32, from: u32, end: u32)
+    requires there { IsMapThere world.old.maps map }
+    requires range { from ≤ end }
+    requires within { end ≤ length (places_of world.old.maps map) }
+    requires owned { (spaces : Spaces) × (p : ℕ) × (first : ℕ)
+        × MemoryFits (record { world = world_seen world.old; spaces = spaces })
+        × OwnsPlaces world.old.hat.places spaces p first map from (end - from) }
+    // The places are empty, and nothing is reserved or given up.
+    ensures maps { world.new.maps ≡ with_places world.old.maps map
+        (places_emptied (places_of world.old.maps map) from (end - from)) }
+    ensures reserved { world.new.anon.reserved ≡ world.old.anon.reserved }
+    // What stays.
+    ensures rest { world.new ≡ record world.old {
+      store = world.new.store;
+      anon = world.new.anon;
+      maps = world.new.maps;
+    } }
+    // In flat memory the cells of their pages lose their own pages, and nothing else changes.
+    ensures changes { (spaces : Spaces) (p first : ℕ)
+        → MemoryFits (record { world = world_seen world.old; spaces = spaces })
+        → OwnsPlaces world.old.hat.places spaces p first map from (end - from)
+        → ChangesMemory p (record { world = world_seen world.old; spaces = spaces })
+        (record { world = world_seen world.new; spaces = spaces })
+        (λ F G. G ≡ without_own_pages F p first (end - from)) }
+{
+    for place in from..end {
+        empty_place(world, map, place);
+    }
+}
