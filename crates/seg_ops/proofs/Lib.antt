@@ -44,3 +44,4 @@ pub mod SlotCopies
 pub mod GivenUp
 pub mod SlotDrops
 pub mod SlotRanges
+pub mod OwnPageLaws

@@ -19,7 +19,7 @@ use Rattle.flat_model.proofs.WellFormed.{IsPage-zero_page}
 use Rattle.vm_world.specs.FlatMemory.{own_without_slot}
 use Rattle.vm_world.proofs.FlatSpaces.{flat-with_space}
 use Rattle.vm_world.proofs.FlatWhole.{some-inj}
-use Rattle.seg_ops.specs.Empties.{own_unheld, without_own_page, without_own_pages}
+use Rattle.seg_ops.specs.OwnPages.{own_unheld, without_own_page, without_own_pages}
 use Rattle.seg_ops.specs.Slots.{with_own_page}
 
 -- a cell without its own page is well formed
@@ -47,7 +47,7 @@ space_is F p q c is = by_space (space_of F p) refl is
     by_space (Some s) e is = (s, e, is)
 
 -- FLAT MEMORY stays well formed with a cell in place of another.
-flat-cell : (F : Flat) (p q : ℕ) (old new : Cell) → IsFlat F → cell_at F p q ≡ Some old → IsCell new → IsFlat (with_cell F p q new)
+pub flat-cell : (F : Flat) (p q : ℕ) (old new : Cell) → IsFlat F → cell_at F p q ≡ Some old → IsCell new → IsFlat (with_cell F p q new)
 flat-cell F p q old new flat is whole =
     let at = space_is F p q old is in
     let same : unwrap_or (space_of F p) finite.empty ≡ at.0 = ap (λ (o : Option Space). unwrap_or o finite.empty) at.1 in
@@ -73,7 +73,7 @@ flat-unheld_all F p first zero flat = flat
 flat-unheld_all F p first (suc n) flat = flat-unheld (without_own_pages F p first n) p (first + n) (flat-unheld_all F p first n flat)
 
 -- one cell after another, and the cell that stood there
-twice : {X : Type 0} (m : finite.FinMap nat_cmp X) (k : ℕ) (v w : X) → finite.insert (finite.insert m k v) k w ≡ finite.insert m k w
+pub twice : {X : Type 0} (m : finite.FinMap nat_cmp X) (k : ℕ) (v w : X) → finite.insert (finite.insert m k v) k w ≡ finite.insert m k w
 twice m k v w = finite.same_map nat_cmp_total finite.nat_cmp-IsAntisymmetric _ _ (λ q. elim (cases_eq q k) [
   | inl e ↦ ap (finite.get (finite.insert (finite.insert m k v) k w)) e ∙ get-insert_here (finite.insert m k v) k w ∙ sym (get-insert_here m k w) ∙ ap (finite.get (finite.insert m k w)) (sym e)
   | inr ne ↦ get-insert_apart (finite.insert m k v) k w q ne ∙ get-insert_apart m k v q ne ∙ sym (get-insert_apart m k w q ne)

@@ -21,7 +21,7 @@ use Rattle.vm_world.specs.World.{World, slot_in, slot_name, world_table}
 use Rattle.vm_world.proofs.Counts.{held-used, used-below}
 use Rattle.vm_world.proofs.Maps.{cell-at}
 use Rattle.vm_world.proofs.PageNames.{slot-page}
-use Rattle.seg_ops.specs.Empties.{without_own_page}
+use Rattle.seg_ops.specs.OwnPages.{without_own_page}
 use Rattle.seg_ops.specs.Slots.{OwnsAlone, with_own_page}
 use Rattle.seg_ops.proofs.OwnPages.{flat-unheld, own-back}
 use Rattle.seg_ops.proofs.SlotMemory.{home-value_bytes}

@@ -17,7 +17,8 @@ use Rattle.vm_world.specs.Segments.{Spot, Spaces}
 use Rattle.vm_world.specs.World.{World, slot_in, slot_name}
 use Rattle.vm_world.proofs.CallSteps.{call_rule}
 use Rattle.vm_world.proofs.Maps.{cell-at}
-use Rattle.seg_ops.specs.Empties.{OwnsPlaces, places_emptied, without_own_page, without_own_pages}
+use Rattle.seg_ops.specs.Empties.{OwnsPlaces, places_emptied}
+use Rattle.seg_ops.specs.OwnPages.{without_own_page, without_own_pages}
 use Rattle.seg_ops.specs.Slots.{OwnsAlone}
 use Rattle.seg_ops.proofs.OwnPages.{cell-back, flat-unheld_all}
 use Rattle.seg_ops.proofs.SlotOwners.{owner-private, places_law}

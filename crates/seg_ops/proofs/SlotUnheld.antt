@@ -25,7 +25,8 @@ use Rattle.vm_world.specs.State.{mode_of}
 use Rattle.vm_world.specs.World.{World, file_name, slot_name, slot_in, AllTell}
 use Rattle.vm_world.proofs.Counts.{held-used}
 use Rattle.vm_world.proofs.Maps.{cell-at}
-use Rattle.seg_ops.specs.Empties.{EmptiesPlace, own_unheld, without_own_page}
+use Rattle.seg_ops.specs.Empties.{EmptiesPlace}
+use Rattle.seg_ops.specs.OwnPages.{own_unheld, without_own_page}
 use Rattle.seg_ops.specs.Slots.{OwnsAlone}
 use Rattle.seg_ops.proofs.SlotCells.{PutsHeld, flat-owned}
 use Rattle.seg_ops.proofs.SlotMemory.{lengths-set, lt-used}

@@ -1,17 +1,11 @@
 -- Places of anon maps that are emptied. Public clauses cite this.
 use Rattle.std.specs.Prelude.{◌≡◌, ◌≢◌, ◌↔◌, ◌<◌, ◌+◌, ℕ, zero, suc, List, length, Option, Some, None, IsTrue, slice_set}
-use Rattle.std.specs.Option.{option_map_or}
 use Rattle.page_hash.specs.declared.PageName.{PageName}
 use Rattle.page_store.specs.Notes.{Notes}
 use Rattle.anon_map.specs.Maps.{Map, places_of, with_places}
 use Rattle.anon_slots.specs.Slots.{Slots, count_at}
 use Rattle.hat_layer.specs.declared.translation.Translation.{Translation}
-use Rattle.flat_model.specs.Access.{with_cell}
-use Rattle.flat_model.specs.Flat.{Cell, Flat, cell_at}
-use Rattle.flat_model.specs.Words.{Page}
-use Rattle.vm_types.specs.declared.call.Kind.TheVariants.{Shared, Private}
 use Rattle.vm_world.specs.CountsFit.{CountsFit}
-use Rattle.vm_world.specs.FlatMemory.{own_without_slot}
 use Rattle.vm_world.specs.MemoryFits.{MemoryFits}
 use Rattle.vm_world.specs.NotesFit.{NotesFit}
 use Rattle.vm_world.specs.Pages.{page_value}
@@ -48,23 +42,10 @@ pub record EmptiesPlace (old new : World) (spaces : Spaces) (m i s : ℕ) : Type
   pub pages : (notes : Notes) (name : PageName) → NotesFit old notes → AllTell old notes → (name ≡ slot_name s → IsTrue (page_exists new.files new.anon name))
       → page_value new notes name ≡ page_value old notes name
 
--- What a cell has as its own where its place holds no slot: a private one of new zero memory has zeros, and any other nothing.
-abbrev pub own_unheld : Cell → Option Page
-own_unheld c = elim c.kind [ Private ↦ own_without_slot c.object | Shared ↦ None ]
-
--- Flat memory where the cell at a page of a process has lost its own page.
-abbrev pub without_own_page : Flat → ℕ → ℕ → Flat
-without_own_page F p q = option_map_or (λ c. with_cell F p q (record c { own = own_unheld c })) (cell_at F p q) F
-
 -- The places with none of the n from a place on holding a slot.
 abbrev pub places_emptied : List (Option ℕ) → ℕ → ℕ → List (Option ℕ)
 places_emptied places from zero = places
 places_emptied places from (suc n) = slice_set (places_emptied places from n) (from + n) None
-
--- Flat memory where the cells at n pages of a process, from the first on, have lost their own pages.
-abbrev pub without_own_pages : Flat → ℕ → ℕ → ℕ → Flat
-without_own_pages F p first zero = F
-without_own_pages F p first (suc n) = without_own_page (without_own_pages F p first n) p (first + n)
 
 -- The n places of an anon map from one on are the own places of the pages of a process from the first on, which are one segment's and have no translation.
 pub record OwnsPlaces (translations : List (Option Translation)) (spaces : Spaces) (p first m from n : ℕ) : Type 0 where

@@ -5,3 +5,4 @@ pub mod Flights
 pub mod Trials
 pub mod Slots
 pub mod Empties
+pub mod OwnPages

@@ -10,7 +10,8 @@ ghost use Rattle.vm_world.specs.CallSteps.{ChangesMemory};
 ghost use Rattle.vm_world.specs.MemoryFits.{MemoryFits};
 ghost use Rattle.vm_world.specs.Segments.{Spaces, Spot};
 ghost use Rattle.vm_world.specs.World.{world_seen, slot_name, slot_in};
-ghost use Rattle.seg_ops.specs.Empties.{EmptiesPlace, without_own_page};
+ghost use Rattle.seg_ops.specs.Empties.{EmptiesPlace};
+ghost use Rattle.seg_ops.specs.OwnPages.{OwnPagesLaw, without_own_page};
 ghost use Rattle.seg_ops.specs.Slots.{OwnsAlone};
 
 use block_device::Disk;
@@ -93,3 +94,9 @@ pub fn drop_slot<D: Disk>(world: &mut World<D>, map: u32, place: u32, slot: u32)
     world.anon.drop_one(slot);
     world.maps.set(map, place, None);
 }
+
+/// Flat memory as cells lose their own pages or get one.
+#[tactic(auto, using(crate::proofs::OwnPageLaws::own_pages_law))]
+pub fn own_pages_law()
+    ensures { OwnPagesLaw }
+{}

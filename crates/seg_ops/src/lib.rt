@@ -22,7 +22,7 @@ pub use anon::{make_copy, make_zero, places_law};
 pub use blank::fill;
 pub use copies::copy_slot;
 pub use drops::drop_translation;
-pub use empties::{drop_slot, leave_slot};
+pub use empties::{drop_slot, leave_slot, own_pages_law};
 pub use flights::{begin_push, begin_read, mark_pushed};
 pub use frees::free_next;
 pub use installs::{install, show};

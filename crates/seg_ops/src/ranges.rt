@@ -6,7 +6,8 @@ ghost use Rattle.vm_world.specs.CallSteps.{ChangesMemory};
 ghost use Rattle.vm_world.specs.MemoryFits.{MemoryFits};
 ghost use Rattle.vm_world.specs.Segments.{Spaces, Spot};
 ghost use Rattle.vm_world.specs.World.{world_seen};
-ghost use Rattle.seg_ops.specs.Empties.{OwnsPlaces, places_emptied, without_own_page, without_own_pages};
+ghost use Rattle.seg_ops.specs.Empties.{OwnsPlaces, places_emptied};
+ghost use Rattle.seg_ops.specs.OwnPages.{without_own_page, without_own_pages};
 ghost use Rattle.seg_ops.specs.Slots.{OwnsAlone};
 
 use crate::empties::{drop_slot, leave_slot};

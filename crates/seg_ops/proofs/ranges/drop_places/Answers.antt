@@ -6,7 +6,8 @@ use Rattle.vm_world.specs.MemoryFits.{MemoryFits}
 use Rattle.vm_world.specs.Segments.{Spaces}
 use Rattle.vm_world.specs.World.{world_seen}
 use Rattle.vm_world.specs.declared.world.World.{World}
-use Rattle.seg_ops.specs.Empties.{places_emptied, without_own_pages}
+use Rattle.seg_ops.specs.Empties.{places_emptied}
+use Rattle.seg_ops.specs.OwnPages.{without_own_pages}
 use Rattle.seg_ops.specs.Slots.{OwnsAlone}
 use Rattle.seg_ops.proofs.SlotPlaces.{places-same}
 use Rattle.seg_ops.proofs.SlotRanges.{changes-none, changes-more, there-still, length-still, maps-more, owns-next}

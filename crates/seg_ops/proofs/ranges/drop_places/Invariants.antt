@@ -4,7 +4,8 @@ use Rattle.vm_world.specs.CallSteps.{ChangesMemory}
 use Rattle.vm_world.specs.MemoryFits.{MemoryFits}
 use Rattle.vm_world.specs.Segments.{Spaces}
 use Rattle.vm_world.specs.World.{world_seen}
-use Rattle.seg_ops.specs.Empties.{OwnsPlaces, places_emptied, without_own_pages}
+use Rattle.seg_ops.specs.Empties.{OwnsPlaces, places_emptied}
+use Rattle.seg_ops.specs.OwnPages.{without_own_pages}
 use Rattle.seg_ops.proofs.StillSteps.{memory_of}
 use Rattle.seg_ops.proofs.ranges.drop_places.Given as goal
 
