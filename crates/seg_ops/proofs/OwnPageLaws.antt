@@ -121,7 +121,7 @@ law-page m born notes f index fits flat lt below =
         ∙ ap (option_map (file_with_pages (page f))) (slice_get-map (λ (v : VnodeSeen). v.info) m.world.files.files f ∙ ap (option_map (λ (v : VnodeSeen). v.info)) (slice_get-get_or m.world.files.files f no_vnode lt))
 
 -- ONE CHANGE AFTER ANOTHER.
-law-joined : (p : ℕ) (u v w : Memory) (first second : Flat → Flat)
+pub law-joined : (p : ℕ) (u v w : Memory) (first second : Flat → Flat)
     → ((born : set.FinSet nat_cmp) (notes : Notes) → NotesFit u.world notes → AllTell u.world notes → IsFlat (flat_memory u born notes) → IsFlat (first (flat_memory u born notes)))
     → ChangesMemory p u v (λ F G. G ≡ first F) → ChangesMemory p v w (λ F G. G ≡ second F) → ChangesMemory p u w (λ F G. G ≡ second (first F))
 law-joined p u v w first second whole a b = record {

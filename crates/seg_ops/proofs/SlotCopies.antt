@@ -23,6 +23,7 @@ use Rattle.vm_world.proofs.Maps.{cell-at}
 use Rattle.vm_world.proofs.PageNames.{slot-page}
 use Rattle.seg_ops.specs.OwnPages.{without_own_page}
 use Rattle.seg_ops.specs.Slots.{OwnsAlone, with_own_page}
+use Rattle.seg_ops.proofs.OwnPageLaws.{law-joined}
 use Rattle.seg_ops.proofs.OwnPages.{flat-unheld, own-back}
 use Rattle.seg_ops.proofs.SlotMemory.{home-value_bytes}
 use Rattle.seg_ops.proofs.StillSteps.{memory_of, value-is}
@@ -48,24 +49,14 @@ module _ (w : World) (spaces : Spaces) (p q m i s frame : ℕ) (x : Spot) (f : M
   pub changes-copied : (mid new : World) (lost : ℕ → Bool) → ChangesMemory p (memory_of w spaces) (memory_of mid spaces) (λ F G. G ≡ without_own_page F p q)
       → ChangesMemory p (memory_of mid spaces) (memory_of new spaces) (λ F G. G ≡ tails_cleared (with_own_page F p q (home_bytes w.store (find w.store.names (slot_name s)))) lost)
       → ChangesMemory p (memory_of w spaces) (memory_of new spaces) (λ F G. G ≡ tails_cleared F lost)
-  changes-copied mid new lost a b = record {
-    machine = record {
-      core = b.machine.core ∙ a.machine.core;
-      frames = b.machine.frames ∙ a.machine.frames;
-      slots = b.machine.slots ∙ a.machine.slots;
-      disks = b.machine.disks ∙ a.machine.disks;
-      modes = b.machine.modes ∙ a.machine.modes;
-      bays = b.machine.bays ∙ a.machine.bays;
-    };
-    others = λ r far. b.others r far ∙ a.others r far;
-    memory = b.memory;
-    notes = λ notes nf. b.notes notes (a.notes notes nf);
-    tells = λ notes nf. let one = a.tells notes nf in let two = b.tells notes (a.notes notes nf) in ((λ tell. two.0 (one.0 tell)), (λ tell. one.1 (two.1 tell)));
-    flat = λ born notes nf tell is.
-        let F : Flat = flat_memory (memory_of w spaces) born notes in
-        let left : flat_memory (memory_of mid spaces) born notes ≡ without_own_page F p q = a.flat born notes nf tell is in
-        let whole = subst IsFlat (sym left) (flat-unheld F p q is) in
-        b.flat born notes (a.notes notes nf) ((a.tells notes nf).0 tell) whole
-        ∙ ap (λ (G : Flat). tails_cleared (with_own_page G p q (home_bytes w.store (find w.store.names (slot_name s)))) lost) left
-        ∙ ap (λ (G : Flat). tails_cleared G lost) (copied-back notes born);
-  }
+  changes-copied mid new lost a b =
+      let bytes : Page = home_bytes w.store (find w.store.names (slot_name s)) in
+      let j = law-joined p (memory_of w spaces) (memory_of mid spaces) (memory_of new spaces) (λ F. without_own_page F p q) (λ F. tails_cleared (with_own_page F p q bytes) lost) (λ born notes nf tell is. flat-unheld (flat_memory (memory_of w spaces) born notes) p q is) a b in
+      record {
+        machine = j.machine;
+        others = j.others;
+        memory = j.memory;
+        notes = j.notes;
+        tells = j.tells;
+        flat = λ born notes nf tell is. j.flat born notes nf tell is ∙ ap (λ (G : Flat). tails_cleared G lost) (copied-back notes born);
+      }

@@ -10,13 +10,33 @@ ghost use Rattle.vm_world.specs.CallSteps.{ChangesMemory};
 ghost use Rattle.vm_world.specs.MemoryFits.{MemoryFits};
 ghost use Rattle.vm_world.specs.Segments.{Spaces, Spot};
 ghost use Rattle.vm_world.specs.World.{world_seen, slot_name, slot_in};
-ghost use Rattle.seg_ops.specs.Empties.{EmptiesPlace};
+ghost use Rattle.seg_ops.specs.Empties.{EmptiesPlace, LeavesSlot};
 ghost use Rattle.seg_ops.specs.OwnPages.{OwnPagesLaw, without_own_page};
 ghost use Rattle.seg_ops.specs.Slots.{OwnsAlone};
 
 use block_device::Disk;
 use page_store::{PageName, Residence, SWAP_OBJECT};
 use vm_world::World;
+
+/// Takes a slot out of a place, and counts it once less.
+fn take_out<D: Disk>(world: &mut World<D>, map: u32, place: u32, slot: u32)
+    requires there { IsMapThere world.old.maps map }
+    requires within { place < length (places_of world.old.maps map) }
+    requires holds { slot_in world.old.maps map place ≡ Some slot }
+    requires fits { (spaces : Spaces)
+        × MemoryFits (record { world = world_seen world.old; spaces = spaces }) }
+    ensures anon { world.new.anon
+        ≡ with_count world.old.anon slot (count_at world.old.anon slot - 1) }
+    ensures maps { world.new.maps ≡ with_places world.old.maps map
+        (slice_set (places_of world.old.maps map) place None) }
+    ensures leaves { LeavesSlot world.old.anon world.new.anon world.old.maps world.new.maps map place
+        slot }
+    ensures rest { world.new
+        ≡ record world.old { anon = world.new.anon; maps = world.new.maps } }
+{
+    world.anon.drop_one(slot);
+    world.maps.set(map, place, None);
+}
 
 /// Empties a place of a private mapping's map, whose slot other places hold too. The page that the place is for has no
 /// translation. Constant time.
@@ -47,8 +67,7 @@ pub fn leave_slot<D: Disk>(world: &mut World<D>, map: u32, place: u32, slot: u32
         (record { world = world_seen world.new; spaces = spaces })
         (λ F G. G ≡ without_own_page F p q) }
 {
-    world.anon.drop_one(slot);
-    world.maps.set(map, place, None);
+    take_out(world, map, place, slot);
 }
 
 /// Empties the one place that holds a slot, a private mapping's, and gives up the slot's page. The slot is free then. The
@@ -87,12 +106,12 @@ pub fn drop_slot<D: Disk>(world: &mut World<D>, map: u32, place: u32, slot: u32)
         (record { world = world_seen world.new; spaces = spaces })
         (λ F G. G ≡ without_own_page F p q) }
 {
-    world.store.abort(PageName {
+    take_out(world, map, place, slot);
+    let page = PageName {
         object: SWAP_OBJECT,
         page: slot,
-    });
-    world.anon.drop_one(slot);
-    world.maps.set(map, place, None);
+    };
+    world.store.abort(page);
 }
 
 /// Flat memory as cells lose their own pages or get one.
