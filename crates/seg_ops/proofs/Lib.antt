@@ -45,3 +45,4 @@ pub mod GivenUp
 pub mod SlotDrops
 pub mod SlotRanges
 pub mod OwnPageLaws
+pub mod SlotTrialLemmas

@@ -47,7 +47,7 @@ use Rattle.vm_world.proofs.Openings.{opening_law}
 use Rattle.vm_world.proofs.Spaces.{map-empty, entries-empty}
 use Rattle.seg_ops.specs.Flights.{BeginsFor}
 use Rattle.seg_ops.specs.Steps.{MayShow, WritesWord}
-use Rattle.seg_ops.specs.Trials.{trial_segment, trial_part, trial_spaces, IsTrial, IsTrialFile, IsTrialOut}
+use Rattle.seg_ops.specs.Trials.{trial_segment, trial_part, trial_spaces, IsTrial, IsTrialFile, IsTrialIn, IsTrialOut, IsTrialOutIn}
 
 -- THE PROCESS
 trial-entries : finite.entries trial_spaces ≡ (1, trial_part ∷ []) ∷ []
@@ -318,22 +318,29 @@ note-back seat x = fun_ext (λ t. elim (cases_eq t seat) [
 ])
 
 -- what goes out with a plan
-pub trial-out : (u v : World) (seat : ℕ) (plan : Plan) (f : FlightSeen) (cut : PageName → Bool) → IsTrial u → BeginsFor u seat plan f → IsFlightOf v.store f → WorldStep u v trial_spaces (leaves seat (note_of f)) cut → IsTrialOut v f
-trial-out u v seat plan f cut t begins is step = record {
+pub trial-leaves : (spaces : Spaces) (u v : World) (seat : ℕ) (plan : Plan) (f : FlightSeen) (cut : PageName → Bool) → IsTrialIn spaces u → BeginsFor u seat plan f → IsFlightOf v.store f → WorldStep u v spaces (leaves seat (note_of f)) cut → IsTrialOutIn spaces v f
+trial-leaves spaces u v seat plan f cut t begins is step = record {
   out = is;
   outcome = begins.begins.outcome;
   memory = step.memory;
   notes = subst (λ (k : ℕ). NotesFit v (with_note no_notes k (Some (note_of f)))) (sym begins.begins.seat) (step.notes no_notes refl t.notes);
 }
 
+pub trial-out : (u v : World) (seat : ℕ) (plan : Plan) (f : FlightSeen) (cut : PageName → Bool) → IsTrial u → BeginsFor u seat plan f → IsFlightOf v.store f → WorldStep u v trial_spaces (leaves seat (note_of f)) cut → IsTrialOut v f
+trial-out = trial-leaves trial_spaces
+
 -- it was made, and comes back
-pub trial-back : (v w : World) (f g : FlightSeen) → IsTrialOut v f → IsPerformed (note_of f) g
-    → ((spaces : Spaces) (notes : Notes) (note : Note) → MemoryFits (record { world = v; spaces = spaces }) → NotesFit v notes → notes g.seat ≡ Some note → IsPerformed note g → WorldStep v w spaces (returns g.seat note) (λ name. false)) → IsTrial w
-trial-back v w f g t performed step =
+pub trial-returns : (spaces : Spaces) (v w : World) (f g : FlightSeen) → IsTrialOutIn spaces v f → IsPerformed (note_of f) g
+    → ((notes : Notes) (note : Note) → MemoryFits (record { world = v; spaces = spaces }) → NotesFit v notes → notes g.seat ≡ Some note → IsPerformed note g → WorldStep v w spaces (returns g.seat note) (λ name. false)) → IsTrialIn spaces w
+trial-returns spaces v w f g t performed step =
     let notes : Notes = with_note no_notes f.seat (Some (note_of f)) in
     let mine : notes g.seat ≡ Some (note_of f) = ap notes performed.seat ∙ with_note-same no_notes f.seat (Some (note_of f)) in
-    let back = step trial_spaces notes (note_of f) t.memory t.notes mine performed in
+    let back = step notes (note_of f) t.memory t.notes mine performed in
     record {
       memory = back.memory;
       notes = subst (λ (ns : Notes). NotesFit w ns) (ap (λ (k : ℕ). with_note notes k None) performed.seat ∙ note-back f.seat (Some (note_of f))) (back.notes notes mine t.notes);
     }
+
+pub trial-back : (v w : World) (f g : FlightSeen) → IsTrialOut v f → IsPerformed (note_of f) g
+    → ((spaces : Spaces) (notes : Notes) (note : Note) → MemoryFits (record { world = v; spaces = spaces }) → NotesFit v notes → notes g.seat ≡ Some note → IsPerformed note g → WorldStep v w spaces (returns g.seat note) (λ name. false)) → IsTrial w
+trial-back v w f g t performed step = trial-returns trial_spaces v w f g t performed (step trial_spaces)

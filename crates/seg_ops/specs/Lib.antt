@@ -6,3 +6,4 @@ pub mod Trials
 pub mod Slots
 pub mod Empties
 pub mod OwnPages
+pub mod SlotTrials

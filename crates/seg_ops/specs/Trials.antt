@@ -33,10 +33,14 @@ pub record IsTrialFile (info : FileInfo) : Type 0 where
   pub extents : info.extents ≡ record { start = 1; pages = 3 } ∷ []
   pub length : info.length ≡ 12288
 
--- The world fits with that process, and nothing is out.
-pub record IsTrial (w : World) : Type 0 where
-  pub memory : MemoryFits (record { world = w; spaces = trial_spaces })
+-- The world fits with these spaces, and nothing is out.
+pub record IsTrialIn (spaces : Spaces) (w : World) : Type 0 where
+  pub memory : MemoryFits (record { world = w; spaces = spaces })
   pub notes : NotesFit w no_notes
+
+-- The world fits with that process.
+abbrev pub IsTrial : World → Type 0
+IsTrial w = IsTrialIn trial_spaces w
 
 -- The page is one of file 0.
 pub record IsTrialPage (files : FilesSeen) (anon : Slots) (page : ℕ) : Type 0 where
@@ -44,9 +48,12 @@ pub record IsTrialPage (files : FilesSeen) (anon : Slots) (page : ℕ) : Type 0 
   pub kept : page < page_count (vnode_at files 0).info.extents
   pub exists : IsTrue (page_exists files anon (file_name 0 page))
 
--- The world fits while the flight of one seat is out, which wasn't made yet.
-pub record IsTrialOut (w : World) (f : FlightSeen) : Type 0 where
+-- The world fits with these spaces while the flight of one seat is out, which wasn't made yet.
+pub record IsTrialOutIn (spaces : Spaces) (w : World) (f : FlightSeen) : Type 0 where
   pub out : IsFlightOf w.store f
   pub outcome : f.outcome ≡ fresh
-  pub memory : MemoryFits (record { world = w; spaces = trial_spaces })
+  pub memory : MemoryFits (record { world = w; spaces = spaces })
   pub notes : NotesFit w (with_note no_notes f.seat (Some (note_of f)))
+
+abbrev pub IsTrialOut : World → FlightSeen → Type 0
+IsTrialOut w f = IsTrialOutIn trial_spaces w f

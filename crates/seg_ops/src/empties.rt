@@ -25,12 +25,14 @@ fn take_out<D: Disk>(world: &mut World<D>, map: u32, place: u32, slot: u32)
     requires holds { slot_in world.old.maps map place ≡ Some slot }
     requires fits { (spaces : Spaces)
         × MemoryFits (record { world = world_seen world.old; spaces = spaces }) }
+    // The slot is counted once less, and the place is empty.
     ensures anon { world.new.anon
         ≡ with_count world.old.anon slot (count_at world.old.anon slot - 1) }
     ensures maps { world.new.maps ≡ with_places world.old.maps map
         (slice_set (places_of world.old.maps map) place None) }
-    ensures leaves { LeavesSlot world.old.anon world.new.anon world.old.maps world.new.maps map place
-        slot }
+    ensures leaves { LeavesSlot world.old.anon world.new.anon world.old.maps
+        world.new.maps map place slot }
+    // What stays.
     ensures rest { world.new
         ≡ record world.old { anon = world.new.anon; maps = world.new.maps } }
 {

@@ -32,4 +32,6 @@ pub use ranges::drop_places;
 pub use rooms::{evict, make_room, sync};
 
 #[cfg(test)]
+mod slot_tests;
+#[cfg(test)]
 mod tests;

@@ -20,14 +20,17 @@ fn empty_place<D: Disk>(world: &mut World<D>, map: u32, place: u32)
     requires within { place < length (places_of world.old.maps map) }
     requires fits { (spaces : Spaces)
         × MemoryFits (record { world = world_seen world.old; spaces = spaces }) }
+    // The place is empty, and nothing is reserved or given up.
     ensures maps { world.new.maps ≡ with_places world.old.maps map
         (slice_set (places_of world.old.maps map) place None) }
     ensures reserved { world.new.anon.reserved ≡ world.old.anon.reserved }
+    // What stays.
     ensures rest { world.new ≡ record world.old {
       store = world.new.store;
       anon = world.new.anon;
       maps = world.new.maps;
     } }
+    // In flat memory the cell of its page loses its own page, and nothing else changes.
     ensures changes { (spaces : Spaces) (p q : ℕ) (x : Spot)
         → MemoryFits (record { world = world_seen world.old; spaces = spaces })
         → OwnsAlone spaces p q map place x → at world.old.hat.places p q ≡ None

@@ -1,0 +1,49 @@
+-- A machine on which slots are tried: process 1 has two private mappings of new zero memory, and a page of each has the same slot. Inside: no public
+-- clause cites this.
+use Rattle.std.specs.Prelude.{◌≡◌, ◌<◌, ◌+◌, ◌*◌, ℕ, true, false, List, [], ◌∷◌, length, Option, Some, None}
+use Rattle.std.specs.FinMap as finite
+use Rattle.vm_types.specs.declared.call.Kind.TheVariants.{Private}
+use Rattle.vm_types.specs.declared.call.Object.TheVariants as object
+use Rattle.addr_space.specs.Space.{Part}
+use Rattle.anon_map.specs.Maps.{Map, IsMapThere, places_of}
+use Rattle.anon_slots.specs.Slots.{Slots, IsSoundAnonSlots}
+use Rattle.hat_layer.specs.Pool.{at}
+use Rattle.vm_world.specs.declared.segment.Segment.{Segment}
+use Rattle.vm_world.specs.Segments.{Spaces}
+use Rattle.vm_world.specs.World.{World}
+use Rattle.seg_ops.specs.Slots.{OwnsAlone}
+
+-- The mapping whose anon map has this number: two pages, to be read and written.
+abbrev pub holding_segment : ℕ → Segment
+holding_segment m = record { pages = 2; prot = record { 0 = 3 }; max = record { 0 = 3 }; kind = Private; object = object.NewZero; index = 0; own = Some m; shown = None }
+
+-- The page of the process whose own place is this one.
+abbrev pub holding_page : ℕ → ℕ → ℕ
+holding_page m i = 2 * m + 1 + i
+
+abbrev pub holding_part : ℕ → Part Segment
+holding_part m = record { first = 2 * m + 1; pages = 2; piece = holding_segment m }
+
+abbrev pub holding_spaces : Spaces
+holding_spaces = finite.insert finite.empty 1 (holding_part 0 ∷ holding_part 1 ∷ [])
+
+-- The first place of each map holds slot 0, whose page is in swap.
+abbrev pub holding_map : Option Map
+holding_map = Some (record { places = Some 0 ∷ None ∷ []; holders = 1 })
+
+abbrev pub holding_maps : List (Option Map)
+holding_maps = holding_map ∷ holding_map ∷ []
+
+abbrev pub holding_slots : Slots
+holding_slots = record { counts = 2 ∷ 0 ∷ 0 ∷ 0 ∷ []; swapped = true ∷ false ∷ false ∷ false ∷ []; reserved = 4 }
+
+pub record HoldsOne (slots : Slots) : Type 0 where
+  pub are : slots ≡ holding_slots
+  pub sound : IsSoundAnonSlots slots
+
+-- The place is there, and its page has no translation.
+pub record IsHoldingPlace (w : World) (m i : ℕ) : Type 0 where
+  pub there : IsMapThere w.maps m
+  pub within : i < length (places_of w.maps m)
+  pub owns : OwnsAlone holding_spaces 1 (holding_page m i) m i (holding_segment m, i)
+  pub unloaded : at w.hat.places 1 (holding_page m i) ≡ None
