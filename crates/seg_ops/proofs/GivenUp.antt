@@ -15,11 +15,11 @@ use Rattle.page_store.specs.Moves.{only, family, family_of}
 use Rattle.page_store.specs.Parts.{rows_without}
 use Rattle.page_store.specs.Seen.{StoreSeen, IsSoundStore, own_frame}
 use Rattle.page_store.specs.Steps.{after_abort, at_frame, with_page_given_up, without_snapshot}
-use Rattle.page_store.proofs.AbortLemmas.{Forsakes, forsakes}
+use Rattle.page_store.proofs.AbortLemmas.{forsakes}
 use Rattle.page_store.proofs.FrameLaws.{some-or-none, source-within, away-snapshot, held-away, named-unsourced, sourced-unnamed}
 use Rattle.page_store.proofs.Links.{parted-copy-row}
 use Rattle.page_store.proofs.QueryLemmas.{found-within}
-use Rattle.vm_world.specs.World.{StoreCore, core_of}
+use Rattle.vm_world.specs.World.{core_of}
 use Rattle.seg_ops.proofs.Fills.{Elsewhere}
 
 -- The frame of the page, or of its snapshot: it holds no name; where it is away its page is gone, and where it is home it isn't modified.

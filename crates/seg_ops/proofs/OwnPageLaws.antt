@@ -1,6 +1,6 @@
 -- LAWS OF OWN PAGES in flat memory.
-use Rattle.std.proofs.Common.{◌≡◌, ◌≢◌, ℕ, zero, suc, ◌+◌, ◌<◌, ◌≤◌, Bool, true, false, cond, List, [], length, Option, Some, None, refl, sym, ap, ◌∙◌, inl, inr, subst, arith}
-use Rattle.std.specs.Prelude.{option_map, slice_get, unwrap_or, option_and_then}
+use Rattle.std.proofs.Common.{◌≡◌, ◌≢◌, ℕ, zero, suc, ◌+◌, ◌<◌, Bool, true, false, cond, [], length, Option, Some, None, refl, sym, ap, ◌∙◌, inl, inr, subst, arith}
+use Rattle.std.specs.Prelude.{option_map, slice_get, unwrap_or}
 use Rattle.std.specs.Option.{option_map_or}
 use Rattle.std.specs.Ordering.{nat_cmp}
 use Rattle.std.specs.Cmp.{nat_cmp_total}
@@ -13,25 +13,24 @@ use Rattle.vnode_files.specs.Files.{vnode_at}
 use Rattle.vnode_files.specs.Vnode.{VnodeSeen, no_vnode}
 use Rattle.std.proofs.lemmas.Option.{slice_get-map, slice_get-get_or}
 use Rattle.flat_model.specs.Access.{with_cell, with_space}
-use Rattle.flat_model.specs.Flat.{Cell, Space, Flat, IsCell, IsFile, IsFlat, cell_at, space_of}
+use Rattle.flat_model.specs.Flat.{Cell, Space, Flat, IsFile, IsFlat, cell_at}
 use Rattle.flat_model.specs.Mapping.{cells_of}
 use Rattle.flat_model.specs.Space.{in_range, without_range}
 use Rattle.flat_model.specs.Words.{Page, IsPage, pages_in}
 use Rattle.flat_model.proofs.Ranges.{get-insert_here, get-insert_apart, get-without_range, in_range-is, in_range-low, in_range-high}
-use Rattle.vm_types.specs.declared.call.Kind.{Kind}
 use Rattle.vm_types.specs.declared.call.Kind.TheVariants.{Shared, Private}
 use Rattle.vm_world.specs.CallSteps.{ChangesMemory}
 use Rattle.vm_world.specs.FlatMemory.{Memory, flat_memory, shape_of, file_with_pages, files_with_pages, pages_from}
 use Rattle.vm_world.specs.MemoryFits.{MemoryFits}
 use Rattle.vm_world.specs.NotesFit.{NotesFit}
-use Rattle.vm_world.specs.Pages.{page_value, contents_of, file_contents}
+use Rattle.vm_world.specs.Pages.{page_value, contents_of}
 use Rattle.vm_world.specs.World.{file_name, AllTell}
 use Rattle.vm_world.proofs.FilePages.{page-in, file-in}
 use Rattle.vm_world.proofs.FlatWhole.{some-inj}
-use Rattle.vm_world.proofs.PageNames.{not-slot, info-there, all-get, file-apart}
-use Rattle.seg_ops.specs.OwnPages.{own_unheld, without_own_page, without_own_pages, OwnPagesLaw}
+use Rattle.vm_world.proofs.PageNames.{not-slot, all-get, file-apart}
+use Rattle.seg_ops.specs.OwnPages.{own_unheld, without_own_pages, OwnPagesLaw}
 use Rattle.seg_ops.specs.Slots.{with_own_page}
-use Rattle.seg_ops.proofs.OwnPages.{flat-cell, flat-unheld_all, twice}
+use Rattle.seg_ops.proofs.OwnPages.{flat-cell, flat-unheld_all}
 
 -- a private cell gets a page
 law-got : (F : Flat) (p q : ℕ) (c : Cell) (own : Page) → IsFlat F → cell_at F p q ≡ Some c → c.kind ≡ Private → IsPage own → IsFlat (with_own_page F p q own)

@@ -12,7 +12,7 @@ use Rattle.vm_types.specs.declared.call.Object.{Object}
 use Rattle.vm_types.specs.declared.call.Object.TheVariants as object
 use Rattle.vm_types.specs.Pages.{IsUserPage}
 use Rattle.flat_model.specs.Access.{with_cell}
-use Rattle.flat_model.specs.Flat.{Cell, Space, Flat, IsCell, IsFlat, space_of, cell_at, cell_in}
+use Rattle.flat_model.specs.Flat.{Cell, Space, Flat, IsCell, IsFlat, space_of, cell_at}
 use Rattle.flat_model.specs.Words.{Page, IsPage, zero_page}
 use Rattle.flat_model.proofs.Ranges.{get-insert_here, get-insert_apart, insert_same}
 use Rattle.flat_model.proofs.WellFormed.{IsPage-zero_page}

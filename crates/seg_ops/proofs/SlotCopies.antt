@@ -1,15 +1,13 @@
 -- A PLACE GETS A COPY of the page of its slot, which other places hold too: flat memory stays as it was.
-use Rattle.std.proofs.Common.{◌≡◌, ℕ, Bool, Option, Some, sym, ap, ◌∙◌, subst}
+use Rattle.std.proofs.Common.{◌≡◌, ℕ, Bool, Option, Some, ap, ◌∙◌}
 use Rattle.std.specs.Prelude.{option_map, option_and_then}
 use Rattle.std.specs.Option.{option_or}
 use Rattle.page_hash.specs.Names.{find}
-use Rattle.page_hash.specs.declared.PageName.{PageName}
 use Rattle.page_store.specs.Notes.{Notes}
 use Rattle.page_store.specs.Seen.{residence}
 use Rattle.page_store.specs.Steps.{home_bytes}
 use Rattle.page_store.specs.declared.residence.Residence.TheVariants.{Home}
-use Rattle.hat_layer.specs.Pool.{at}
-use Rattle.flat_model.specs.Flat.{Flat, IsFlat}
+use Rattle.flat_model.specs.Flat.{Flat}
 use Rattle.flat_model.specs.Step.{tails_cleared}
 use Rattle.flat_model.specs.Words.{Page}
 use Rattle.vm_world.specs.CallSteps.{ChangesMemory}

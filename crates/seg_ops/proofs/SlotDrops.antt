@@ -1,5 +1,5 @@
 -- THE ONE PLACE THAT HOLDS A SLOT IS EMPTIED, and the slot's page is given up: memory and the notes fit, and each other page keeps its value.
-use Rattle.std.proofs.Common.{◌≡◌, ◌≢◌, ℕ, ◌+◌, Bool, true, false, cond, List, [], length, Option, Some, None, refl, sym, ap, ◌∙◌, ◌⊎◌, inl, inr, subst, arith, slice_index_or}
+use Rattle.std.proofs.Common.{◌≡◌, ◌≢◌, ℕ, ◌+◌, Bool, true, false, cond, List, [], length, Option, Some, None, refl, sym, ap, ◌∙◌, inl, inr, subst, arith, slice_index_or}
 use Rattle.std.specs.Prelude.{IsTrue, IsFalse, IsSome, unwrap_or, option_map, option_and_then}
 use Rattle.std.specs.Option.{option_or}
 use Rattle.std.proofs.lemmas.Bool.{cases_Bool}
@@ -10,9 +10,8 @@ use Rattle.page_hash.proofs.NameLaws.{find-none}
 use Rattle.page_lock.specs.Rows.{row_at}
 use Rattle.page_lock.specs.declared.Row.{Row}
 use Rattle.page_store.specs.Bays.{BaySeen}
-use Rattle.page_store.specs.Moves.{KeepsOtherValues}
 use Rattle.page_store.specs.Notes.{Note, Notes}
-use Rattle.page_store.specs.Seen.{StoreSeen, IsListedFrame, IsGone, own_frame, residence}
+use Rattle.page_store.specs.Seen.{StoreSeen, IsListedFrame, IsGone, own_frame}
 use Rattle.page_store.specs.StoreFits.{StoreFits}
 use Rattle.page_store.specs.Table.{Table}
 use Rattle.page_store.specs.Transfers.{rewritten_in}
@@ -29,7 +28,6 @@ use Rattle.vm_world.specs.CountsFit.{ObjectFits}
 use Rattle.vm_world.specs.FramesFit.{DisksFit, HasSize}
 use Rattle.vm_world.specs.MemoryFits.{MemoryFits}
 use Rattle.vm_world.specs.NotesFit.{NotesFit, CleanFit, PushFits, MayWriteGone}
-use Rattle.vm_world.specs.Pages.{page_value}
 use Rattle.vm_world.specs.Segments.{Spot, Spaces, spot_at, own_slot, object_name, shown_name}
 use Rattle.vm_world.specs.TranslationsFit.{HasWritten, IsModified}
 use Rattle.vm_world.specs.World.{World, slot_in, slot_name, is_unpushed, is_page_name, page_exists, page_table, world_table, AllTell}
@@ -37,13 +35,13 @@ use Rattle.vm_world.proofs.Counts.{only-place}
 use Rattle.vm_world.proofs.PageNames.{file-apart}
 use Rattle.seg_ops.specs.Empties.{LeavesSlot, EmptiesPlace}
 use Rattle.seg_ops.specs.Slots.{OwnsAlone}
-use Rattle.seg_ops.proofs.Fills.{Elsewhere, away-home, held-by, rewritten-same}
-use Rattle.seg_ops.proofs.GivenUp.{IsGivenUp, GivesUp}
+use Rattle.seg_ops.proofs.Fills.{Elsewhere, held-by, rewritten-same}
+use Rattle.seg_ops.proofs.GivenUp.{GivesUp}
 use Rattle.seg_ops.proofs.Marks.{cases-name}
-use Rattle.seg_ops.proofs.SlotLeaves.{existed, exists-else, table-left, page-name-left, own-unloaded, left-shown, left-writable}
-use Rattle.seg_ops.proofs.SlotMemory.{with_slot, slot-exists, used-lt, segments-set}
+use Rattle.seg_ops.proofs.SlotLeaves.{exists-else, table-left, page-name-left, own-unloaded, left-shown, left-writable}
+use Rattle.seg_ops.proofs.SlotMemory.{with_slot, used-lt, segments-set}
 use Rattle.seg_ops.proofs.SlotOwners.{not-shown, object-fits}
-use Rattle.seg_ops.proofs.StillSteps.{memory_of, value-is}
+use Rattle.seg_ops.proofs.StillSteps.{memory_of}
 
 module _ (w : World) (spaces : Spaces) (new : StoreSeen) (anon : Slots) (put : List (Option Map)) (p q m i s : ℕ) (x : Spot) (f : MemoryFits (memory_of w spaces)) (k : LeavesSlot w.anon anon w.maps put m i s) (one : count_at w.anon s ≡ 1) (g : GivesUp w.store new (slot_name s)) (owns : OwnsAlone spaces p q m i x) (unloaded : at w.hat.places p q ≡ None) where
   -- the slot's page doesn't exist any more, and every other page does if it did

@@ -1,5 +1,5 @@
 -- A PLACE THAT IS EMPTIED while other places hold its slot: memory and the notes fit, and each page keeps its value.
-use Rattle.std.proofs.Common.{◌≡◌, ℕ, ◌<◌, cond, List, [], length, Option, Some, None, refl, sym, ap, ◌∙◌, inl, inr, subst, arith, slice_index_or}
+use Rattle.std.proofs.Common.{◌≡◌, ℕ, ◌<◌, cond, List, [], Option, None, refl, sym, ap, ◌∙◌, inl, inr, subst, arith, slice_index_or}
 use Rattle.std.specs.Prelude.{IsTrue, IsFalse, true, false}
 use Rattle.page_hash.specs.declared.PageName.{PageName}
 use Rattle.page_store.specs.Notes.{Notes}

@@ -1,5 +1,5 @@
 -- A PLACE THAT IS EMPTIED: its slot is counted once less, and what other places and pages show stays.
-use Rattle.std.proofs.Common.{◌≡◌, ◌≢◌, ℕ, ◌+◌, ◌-◌, ◌<◌, ◌==◌, cond, List, length, map, Option, Some, None, refl, sym, ap, ◌∙◌, inl, inr, subst, arith, slice_set, slice_index_or, get_or-set_same}
+use Rattle.std.proofs.Common.{◌≡◌, ◌≢◌, ℕ, ◌-◌, ◌<◌, ◌==◌, cond, List, length, map, Option, Some, None, refl, sym, ap, ◌∙◌, inl, inr, subst, arith, slice_set, slice_index_or, get_or-set_same}
 use Rattle.std.specs.Prelude.{IsTrue, false, not, nat_lt, option_and_then}
 use Rattle.std.proofs.lemmas.Bool.{cases_eq}
 use Rattle.std.proofs.lemmas.Bool.Decides.{eqb_tells}
@@ -15,7 +15,7 @@ use Rattle.vnode_files.specs.Grow.{page_count}
 use Rattle.vnode_files.specs.Vnode.{is_blank}
 use Rattle.vm_world.specs.CountsFit.{CountsFit}
 use Rattle.vm_world.specs.MemoryFits.{MemoryFits}
-use Rattle.vm_world.specs.Segments.{Spot, Spaces, spot_at, own_slot, shown_name}
+use Rattle.vm_world.specs.Segments.{Spot, Spaces, spot_at, own_slot}
 use Rattle.vm_world.specs.TranslationsFit.{MayWriteInPlace}
 use Rattle.vm_world.specs.World.{World, file_blocks, slot_in, slot_name, is_page_name, page_exists, page_table}
 use Rattle.vm_world.proofs.Counting.{adds, adds-own, adds-other, times-put}

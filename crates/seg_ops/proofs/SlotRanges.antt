@@ -5,7 +5,6 @@ use Rattle.std.specs.Option.{option_or}
 use Rattle.std.proofs.lemmas.List.{length-set}
 use Rattle.page_store.specs.Notes.{Notes}
 use Rattle.anon_map.specs.Maps.{Map, IsMapThere, places_of, with_places}
-use Rattle.hat_layer.specs.Pool.{at}
 use Rattle.hat_layer.specs.declared.translation.Translation.{Translation}
 use Rattle.flat_model.specs.Flat.{Flat, Cell}
 use Rattle.flat_model.specs.Words.{Page}

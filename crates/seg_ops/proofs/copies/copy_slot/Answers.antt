@@ -1,4 +1,4 @@
-use Rattle.std.proofs.Common.{◌≡◌, None, Some, sym, ap, ◌∙◌, subst, slice_set}
+use Rattle.std.proofs.Common.{◌≡◌, None, Some, ap, ◌∙◌, subst, slice_set}
 use Rattle.hat_layer.specs.Pool.{at}
 use Rattle.page_hash.specs.Names.{find, is_name}
 use Rattle.page_store.specs.Steps.{next_name, home_bytes}

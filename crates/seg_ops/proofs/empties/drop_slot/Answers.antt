@@ -1,5 +1,4 @@
-use Rattle.std.proofs.Common.{◌≡◌, ◌-◌, ℕ, sym, ap, ◌∙◌, subst, arith}
-use Rattle.anon_slots.specs.Slots.{count_at, with_count}
+use Rattle.std.proofs.Common.{sym, ap, ◌∙◌, subst}
 use Rattle.page_store.specs.Laws.{Aborts}
 use Rattle.page_store.specs.Seen.{StoreSeen}
 use Rattle.page_store.specs.Steps.{after_abort}
@@ -7,7 +6,6 @@ use Rattle.vm_world.specs.World.{World, world_seen, slot_name}
 use Rattle.seg_ops.specs.Empties.{EmptiesPlace}
 use Rattle.seg_ops.proofs.GivenUp.{gives-up}
 use Rattle.seg_ops.proofs.SlotDrops.{dropped-place}
-use Rattle.seg_ops.proofs.SlotMemory.{with_slot}
 use Rattle.seg_ops.proofs.SlotUnheld.{changes-left}
 use Rattle.seg_ops.proofs.empties.drop_slot.Goals as goal
 

@@ -1,5 +1,4 @@
-use Rattle.std.proofs.Common.{◌≡◌, sym, ap, subst}
-use Rattle.vm_world.specs.CallSteps.{ChangesMemory}
+use Rattle.std.proofs.Common.{sym, ap, subst}
 use Rattle.vm_world.specs.World.{World, world_seen}
 use Rattle.seg_ops.specs.Empties.{EmptiesPlace}
 use Rattle.seg_ops.proofs.SlotKept.{kept-place}

@@ -1,4 +1,4 @@
-use Rattle.std.proofs.Common.{◌≡◌, ◌-◌, List, Option, None, sym, subst, slice_set}
+use Rattle.std.proofs.Common.{List, Option, None, sym, subst, slice_set}
 use Rattle.anon_map.specs.Maps.{Map, places_of, with_places}
 use Rattle.anon_slots.specs.Slots.{Slots, IsSoundAnonSlots}
 use Rattle.vm_world.specs.World.{world_seen}

@@ -1,4 +1,4 @@
-use Rattle.std.proofs.Common.{◌≡◌, None, sym, ◌∙◌}
+use Rattle.std.proofs.Common.{None, sym, ◌∙◌}
 use Rattle.vm_world.specs.World.{world_seen}
 use Rattle.vm_world.proofs.Counts.{held-used, used-below}
 use Rattle.seg_ops.proofs.SlotPlaces.{place-same}
