@@ -8,6 +8,7 @@ pub mod Runs
 pub mod OneBlock
 pub mod Places
 pub mod Placed
+pub mod SetupLines
 pub mod Nesting
 pub mod Printing
 pub mod FileLines

@@ -24,15 +24,15 @@ use Rattle.vm_script.specs.Reading.{◌>>=◌, ◌>>◌, or_fault, need}
 use Rattle.vm_script.specs.Statements.{number, name, bytes, size, prot, kind, place, load_line, store_line, map_object, map_of, map_line, unmap_line, protect_of, protect_line, sync_line, read_of, read_call_line, write_of, write_line, truncate_line, alone, own, amount, path, disk_setup, disk, content, mode, file_setup, file, setup_statement, block_statement, word_statement, statement, is_comment}
 use Rattle.vm_script.specs.Printed.{IsPlanAct, IsContent, AreBytes, may_stand, setup_may_stand}
 
-bind : {A B : Type 0} (r : Result A ScriptKind) (f : A → Result B ScriptKind) (P : B → Type 0) → ((x : A) → r ≡ Ok x → IfOk (f x) P) → IfOk (r >>= f) P
+pub bind : {A B : Type 0} (r : Result A ScriptKind) (f : A → Result B ScriptKind) (P : B → Type 0) → ((x : A) → r ≡ Ok x → IfOk (f x) P) → IfOk (r >>= f) P
 bind (Ok x) f P h = h x refl
 bind (Err e) f P h = tt
 
-choice : {B : Type 0} (b : Bool) (r s : Result B ScriptKind) (P : B → Type 0) → (b ≡ true → IfOk r P) → (b ≡ false → IfOk s P) → IfOk (if b then r else s) P
+pub choice : {B : Type 0} (b : Bool) (r s : Result B ScriptKind) (P : B → Type 0) → (b ≡ true → IfOk r P) → (b ≡ false → IfOk s P) → IfOk (if b then r else s) P
 choice true r s P h k = h refl
 choice false r s P h k = k refl
 
-needed : {B : Type 0} (kind : ScriptKind) (b : Bool) (r : Result B ScriptKind) (P : B → Type 0) → (b ≡ true → IfOk r P) → IfOk (need kind b >> r) P
+pub needed : {B : Type 0} (kind : ScriptKind) (b : Bool) (r : Result B ScriptKind) (P : B → Type 0) → (b ≡ true → IfOk r P) → IfOk (need kind b >> r) P
 needed kind true r P h = h refl
 needed kind false r P h = tt
 
@@ -54,7 +54,7 @@ digits_number base most right digits n is =
     small true false c v e = absurd (cc e)
     small true true false v e = absurd (cc e)
 
-number_is : (field : List ℕ) (n : ℕ) → number field ≡ Ok n → IsNumber n
+pub number_is : (field : List ℕ) (n : ℕ) → number field ≡ Ok n → IsNumber n
 unfolding number_of_field
 number_is field n is = either (or_fault_is fault.Number (number_of_field field) n is)
   where
@@ -83,14 +83,14 @@ prot_is field =
     (λ _. choice (is_word field (codes "w")) _ _ IsProt (λ _. lit< tt)
     (λ _. choice (is_word field (codes "rw")) _ _ IsProt (λ _. lit< tt) (λ _. tt))))
 
-if_ok : {A : Type 0} (r : Result A ScriptKind) (P : A → Type 0) (x : A) → IfOk r P → r ≡ Ok x → P x
+pub if_ok : {A : Type 0} (r : Result A ScriptKind) (P : A → Type 0) (x : A) → IfOk r P → r ≡ Ok x → P x
 if_ok r P x h e = subst (λ s. IfOk s P) e h
 
 place_is : (field : List ℕ) → IfOk (place field) IsPlace
 unfolding place
 place_is field = choice (is_word field (codes "any")) _ _ IsPlace (λ _. tt) (λ _. bind (number field) _ IsPlace (λ n is. number_is field n is))
 
-name_is : (field t : List ℕ) → name field ≡ Ok t → IsTrue (is_file_name t)
+pub name_is : (field t : List ℕ) → name field ≡ Ok t → IsTrue (is_file_name t)
 name_is field t is = from (is_file_name field) refl is
   where
     from : (b : Bool) → is_file_name field ≡ b → (if b then Ok field else Err fault.Name) ≡ Ok t → IsTrue (is_file_name t)
@@ -123,7 +123,7 @@ hex_length [] even = refl
 hex_length (a ∷ []) even = absurd (omega (arith, even))
 hex_length (a ∷ b ∷ more) even = let ih = hex_length more (omega (arith, even)) in omega (arith, ih)
 
-bytes_is : (field t : List ℕ) → bytes field ≡ Ok t → IsContent t
+pub bytes_is : (field t : List ℕ) → bytes field ≡ Ok t → IsContent t
 unfolding bytes_of_field
 bytes_is field t is = from ((length field % 2) == 0) (nat_le 2 (length field)) (nat_le (length field) 131072) (list_all is_hex_digit field) refl refl refl refl (or_fault_is fault.Bytes (bytes_of_field field) t is)
   where

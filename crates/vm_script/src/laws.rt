@@ -13,7 +13,7 @@ ghost use Rattle.vm_script.specs.Blocks.{Nests, IsProcessBlock, IsWithin, IsFork
 ghost use Rattle.vm_script.specs.Lines.{lines as text_lines};
 ghost use Rattle.vm_script.specs.Plans.{plan_of, plan_seen, empty_plan};
 ghost use Rattle.vm_script.specs.Printed.{IsScript, script_text, with_statements};
-ghost use Rattle.vm_script.specs.Sound.{IsSoundPlan};
+ghost use Rattle.vm_script.specs.Sound.{IsSoundPlan, IsSoundSetup};
 ghost use Rattle.vm_script.specs.Told.{Tells, Told, ToldFront, Spell, Forks, HasWaited, HasWaitedByPlace};
 ghost use Rattle.vm_script.specs.Told.{parent_of, is_born, own_lines, own_calls, IsOneBlock};
 ghost use Rattle.vm_script.specs.Ended.{AllEnded, SoFar};
@@ -68,6 +68,12 @@ pub fn waits_law()
 pub fn sound_law()
     ensures sound { (text : List ℕ) (plan : PlanSeen) → plan_of text ≡ Ok plan →
         IsSoundPlan plan }
+{}
+
+/// What holds of each set-up line of a plan that a script spells: it is one that a line may say.
+pub fn setup_law()
+    ensures setup { (text : List ℕ) (plan : PlanSeen) → plan_of text ≡ Ok plan →
+        IsSoundSetup plan.setup }
 {}
 
 /// A script that is printed plainly, a line for each statement, is read as what was printed.
