@@ -8,7 +8,7 @@ use Rattle.block_device.specs.DiskSeen.{DiskSeen}
 use Rattle.page_hash.specs.Names.{name_at}
 use Rattle.page_hash.specs.declared.PageName.{PageName}
 use Rattle.page_lock.specs.Rows.{row_at}
-use Rattle.page_store.specs.Bays.{BaySeen, missing, home}
+use Rattle.page_store.specs.Bays.{BaySeen, missing, home, out, bay_at}
 use Rattle.page_store.specs.Flight.{FlightSeen, IsPerformed}
 use Rattle.page_store.specs.Notes.{Note, Notes}
 use Rattle.page_store.specs.Seen.{StoreSeen, IsListedFrame, own_frame}
@@ -68,6 +68,10 @@ disks-land old new f disks slots c size fit = subst (λ (b : List BaySeen). Disk
   swap = λ some. elim (index-set old.bays f.number (home f.disk) 8 missing) [
     | inl same ↦ λ e. fit.swap some (sym same ∙ e)
     | inr at ↦ λ e. let z : home f.disk ≡ missing = sym at.1 ∙ e in cc
+  ];
+  unused = λ none. elim (index-set old.bays f.number (home f.disk) 8 missing) [
+    | inl same ↦ same ∙ fit.unused none
+    | inr at ↦ absurd (let z : out f.seat ≡ missing = sym c.out.out.bay ∙ ap (bay_at old.bays) (sym at.0) ∙ fit.unused none in cc)
   ];
   sizes = λ number d is. elim (index-set old.bays f.number (home f.disk) number missing) [
     | inl same ↦ fit.sizes number d (sym same ∙ is)

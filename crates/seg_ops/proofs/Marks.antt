@@ -1,5 +1,5 @@
 -- A PAGE THAT COUNTS AS PUSHED from now on: its place differs in "blank" alone, and it is home and modified, so that no page changes.
-use Rattle.std.proofs.Common.{◌≡◌, ◌≢◌, ℕ, ◌<◌, Bool, true, false, cond, List, [], ◌∷◌, map, length, Option, Some, None, refl, sym, ap, ◌∙◌, ◌⊎◌, inl, inr, subst, slice_index_or}
+use Rattle.std.proofs.Common.{◌≡◌, ◌≢◌, ℕ, ◌<◌, ◌≤◌, Bool, true, false, cond, List, [], ◌∷◌, map, length, Option, Some, None, refl, sym, ap, ◌∙◌, ◌⊎◌, inl, inr, subst, slice_index_or}
 use Rattle.std.specs.Prelude.{IsSome, option_map, option_and_then, slice_get, not, unwrap_or}
 use Rattle.std.specs.Ordering.{nat_cmp}
 use Rattle.std.specs.FinMap as finite
@@ -31,6 +31,7 @@ use Rattle.vm_world.specs.World.{World, file_blocks, slot_name, is_unpushed, pag
 use Rattle.vm_world.specs.Wants.{IsDirtyPage}
 use Rattle.vm_world.specs.WorldSteps.{KeepsTables}
 use Rattle.vm_world.proofs.FrameRule.{name-same, exists-same, exists-page, info-same}
+use Rattle.vm_world.proofs.LieAlike.{lie-alike}
 use Rattle.seg_ops.specs.Steps.{KeepsPages}
 use Rattle.seg_ops.proofs.StillSteps.{memory_of, value-is}
 use Rattle.seg_ops.proofs.Fills.{held-by}
@@ -137,6 +138,7 @@ files-kept w files anon name k f =
     let blocks = map-blocks files.files w.files.files k.infos in
     let count : length files.files ≡ length w.files.files = sym (length-map files.files (λ (v : VnodeSeen). v.info)) ∙ ap length k.infos ∙ length-map w.files.files (λ (v : VnodeSeen). v.info) in
     let info : (x : ℕ) → (vnode_at files x).info ≡ (vnode_at w.files x).info = λ x. info-same w (with_marks w files anon) x (keeps-tables w files anon name k) in
+    let alike = lie-alike w.files files k.disks k.infos in
     record {
       each = λ x lt.
           let s = f.each x (subst (λ (n : ℕ). x < n) count lt) in
@@ -146,6 +148,10 @@ files-kept w files anon name k f =
       set = λ x lt. subst (λ (d : finite.FinMap nat_cmp ℕ). IsSome (finite.get d (vnode_at files x).info.disk)) (sym k.disks) (subst (λ (i : FileInfo). IsSome (finite.get w.files.disks i.disk)) (sym (info x)) (f.set x (subst (λ (n : ℕ). x < n) count lt)));
       low = λ n file block keeps. f.low n file block (subst (λ (bs : List FileBlocks). KeepsPage bs n file block) blocks keeps);
       high = λ n file block keeps. subst (λ (d : finite.FinMap nat_cmp ℕ). block < block_count d file.disk) (sym k.disks) (f.high n file block (subst (λ (bs : List FileBlocks). KeepsPage bs n file block) blocks keeps));
+      lie = alike.on_disks f.lie;
+      apart = alike.none_meet f.apart;
+      few = alike.few f.few;
+      some = λ x lt. subst (λ (i : FileInfo). 1 ≤ length i.extents) (sym (info x)) (f.some x (subst (λ (n : ℕ). x < n) count lt));
     }
 
 counts-kept : (w : World) (files : FilesSeen) (anon : Slots) (name : PageName) → Marks w files anon name → CountsFit w.anon w.maps → CountsFit anon w.maps

@@ -1,6 +1,6 @@
 -- TAILS THAT ARE PENDING, as bits of the files' numbers, and names that lose their frame.
 use Rattle.std.proofs.Common.{◌≡◌, ℕ, zero, suc, ◌*◌, ◌/◌, ◌%◌, ◌<◌, ◌==◌, Bool, Option, Some, None, refl, sym, ap, ◌∙◌, inl, inr, subst, w64}
-use Rattle.std.specs.Prelude.{◌^◌, ◌||◌, IfSome}
+use Rattle.std.specs.Prelude.{◌^◌, ◌||◌, IfSome, IsTrue}
 use Rattle.std.specs.Int.{bit_at}
 use Rattle.std.specs.Int.Bits.{bit_or}
 use Rattle.std.proofs.Math.Bool.{or-false, or-true}
@@ -15,8 +15,11 @@ use Rattle.page_store.specs.Seen.{IsSoundStore, residence}
 use Rattle.page_store.specs.Steps.{next_frame, next_name, name_in}
 use Rattle.page_store.specs.declared.residence.Residence.TheVariants.{Absent}
 use Rattle.page_store.proofs.QueryLemmas.{absent-is}
+use Rattle.vm_world.specs.MemoryFits.{MemoryFits}
+use Rattle.vm_world.specs.Segments.{Spaces}
 use Rattle.vm_world.specs.Serving.{LosesFrame}
-use Rattle.vm_world.specs.World.{World}
+use Rattle.vm_world.specs.World.{World, page_exists}
+use Rattle.seg_ops.proofs.StillSteps.{memory_of}
 
 -- a bit, by either way to it
 pub bit-is : (n f : ℕ) → bit n f ≡ (bit_at n f == 1)
@@ -37,6 +40,18 @@ bit-with word file f lt = elim (eqb_tells f file) [
 -- no bit is set from a number on, past which the new one isn't
 pub below-with : (word file n : ℕ) → file < 64 → file < n → word < 2 ^ n → bit_or word (1 * 2 ^ file % 2 ^ 64) < 2 ^ n
 below-with word file n few lt below = subst (λ (m : ℕ). bit_or word m < 2 ^ n) (sym (one_shl file 64 few)) (or_lt n word (2 ^ file) below (pow_below file n lt))
+
+-- The name that the next frame holds is that of a page which exists.
+pub next-there : (w : World) (spaces : Spaces) (lost : Option PageName) → MemoryFits (memory_of w spaces) → lost ≡ next_name w.store → IfSome lost (λ name. IsTrue (page_exists w.files w.anon name))
+next-there w spaces lost fits is = subst (λ (o : Option PageName). IfSome o (λ name. IsTrue (page_exists w.files w.anon name))) (sym is) (by_frame (next_frame w.store))
+  where
+    by_name : (frame : ℕ) (o : Option PageName) → name_at w.store.names frame ≡ o → IfSome o (λ name. IsTrue (page_exists w.files w.anon name))
+    by_name frame None e = tt
+    by_name frame (Some name) e = fits.frames.exist frame name e
+
+    by_frame : (o : Option ℕ) → IfSome (name_in w.store.names o) (λ name. IsTrue (page_exists w.files w.anon name))
+    by_frame None = tt
+    by_frame (Some frame) = by_name frame (name_at w.store.names frame) refl
 
 -- THE NAME THAT THE NEXT FRAME HELD loses it, where no frame holds the name afterwards.
 pub loses : (old new : World) → IsSoundStore new.store → ((name : PageName) → next_name old.store ≡ Some name → residence new.store name ≡ Absent) → IfSome (next_name old.store) (λ name. LosesFrame old new name)

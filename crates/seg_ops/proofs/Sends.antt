@@ -77,6 +77,10 @@ disks-stay old new seat note disks slots s f = subst (λ (b : List BaySeen). Dis
     | inl same ↦ λ e. f.swap some (sym same ∙ e)
     | inr at ↦ λ e. let z : out seat ≡ missing = sym at.1 ∙ e in cc
   ];
+  unused = λ none. elim (index-set old.bays note.number (out seat) 8 missing) [
+    | inl same ↦ same ∙ f.unused none
+    | inr at ↦ absurd (let z : home note.disk ≡ missing = sym s.was ∙ ap (bay_at old.bays) (sym at.0) ∙ f.unused none in cc)
+  ];
   sizes = λ number d is. elim (index-set old.bays note.number (out seat) number missing) [
     | inl same ↦ f.sizes number d (sym same ∙ is)
     | inr at ↦ absurd (home-not-out d seat (sym is ∙ at.1))

@@ -138,6 +138,7 @@ swap-disks s d new size = record {
   numbers = λ number blocks is. absurd (none number blocks is);
   there = λ number blocks is. absurd (none number blocks is);
   swap = λ some e. let z : home d ≡ missing = sym new.bays.swap ∙ e in cc;
+  unused = λ zeroed. absurd (omega (arith, zeroed));
   sizes = λ number x is. record {
     file = λ blocks at. absurd (none number blocks at);
     swap = λ e. let z : home d ≡ home x = sym new.bays.swap ∙ ap (bay_at s.bays) (sym e) ∙ is in let w = ap size_in z in omega (arith, w, size);
@@ -159,6 +160,10 @@ no-files = record {
   set = λ f lt. absurd (omega (arith, lt));
   low = λ n f b k. absurd (none n f b k);
   high = λ n f b k. absurd (none n f b k);
+  lie = λ k d lt. absurd (omega (arith, lt));
+  apart = λ disk b. omega arith;
+  few = λ disk. omega arith;
+  some = λ f lt. absurd (omega (arith, lt));
 }
   where
     none : (n : PageName) (f : FileBlocks) (b : ℕ) → KeepsPage [] n f b → ⊥

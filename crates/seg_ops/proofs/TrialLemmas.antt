@@ -1,5 +1,5 @@
 -- THE WORLD OF THE TRIALS fits: idle frames, no slot, map or translation, and a file of three pages, which one process shows.
-use Rattle.std.proofs.Common.{◌≡◌, ◌≢◌, ℕ, zero, suc, ◌+◌, ◌<◌, Bool, true, false, List, [], ◌∷◌, length, map, Option, Some, None, refl, sym, ap, ◌∙◌, inl, inr, subst, arith}
+use Rattle.std.proofs.Common.{◌≡◌, ◌≢◌, ℕ, zero, suc, ◌+◌, ◌<◌, ◌≤◌, ◌==◌, Bool, true, false, cond, List, [], ◌∷◌, ◌++◌, length, map, Option, Some, None, refl, sym, ap, ◌∙◌, inl, inr, subst, arith}
 use Rattle.std.specs.Prelude.{All, IsSome, slice_get, slice_index_or, sum_by, flat_map, filter_map, option_and_then, replicate, slice_index, unwrap_or, if◌then◌else◌}
 use Rattle.std.specs.Ordering.{nat_cmp}
 use Rattle.std.specs.Cmp.{nat_cmp_total}
@@ -8,7 +8,7 @@ use Rattle.std.specs.FinSet as set
 use Rattle.std.proofs.Math.Path.{fun_ext}
 use Rattle.std.proofs.lemmas.Bool.{cases_eq}
 use Rattle.std.proofs.lemmas.List.Elements.{All-nil, All-cons}
-use Rattle.std.proofs.lemmas.List.Sums.{sum_by-cons}
+use Rattle.std.proofs.lemmas.List.Sums.{sum_by-cons, count_by-le-length}
 use Rattle.addr_space.specs.Space.{Part, IsInOrder, at}
 use Rattle.anon_map.specs.Maps.{Map, places_of}
 use Rattle.anon_slots.specs.Slots.{Slots, IsSoundAnonSlots, unused_slots}
@@ -28,8 +28,11 @@ use Rattle.page_store.specs.Out.{IsFlightOf}
 use Rattle.page_store.specs.declared.plan.Plan.{Plan}
 use Rattle.page_store.proofs.TransferLemmas.{with_note-same, with_note-other}
 use Rattle.page_store.specs.Seen.{StoreSeen, IsSoundStore}
+use Rattle.vnode_files.specs.declared.extent.Extent.{Extent}
 use Rattle.vnode_files.specs.declared.vnode.FileInfo.{FileInfo}
 use Rattle.vnode_files.specs.Files.{FilesSeen, no_files, vnode_at, block_count, with_disk, with_next_file, with_vnode}
+use Rattle.vnode_files.specs.Grow.{has_block, extent_end}
+use Rattle.vnode_files.specs.Layout.{LieOnDisk, NoneMeet}
 use Rattle.vnode_files.specs.Vnode.{VnodeSeen, IsSoundVnode, fresh_vnode, page_blocks, with_blank}
 use Rattle.vm_world.specs.declared.segment.Segment.{Segment}
 use Rattle.vm_world.specs.CountsFit.{SegmentsFit, SegmentFits, ShowsZero, times_had, reserved_pages, slots_for_part}
@@ -108,6 +111,9 @@ one-disk number blocks is = elim (cases_eq number 0) [
   | inr ne ↦ absurd (let z : ◌≡◌ {A = Option ℕ} None (Some blocks) = sym (get-insert_apart (finite.empty {X = ℕ} {R = nat_cmp}) 0 4 number ne ∙ finite.get-empty nat_cmp number) ∙ is in cc)
 ]
 
+abbrev trial_extent : Extent
+trial_extent = record { start = 1; pages = 3 }
+
 -- what is known of a page that the file keeps
 record Keeps (v : VnodeSeen) (n : PageName) (f : FileBlocks) (block : ℕ) : Type 0 where
   pub object : n.object ≡ 0
@@ -142,6 +148,27 @@ module _ (v : VnodeSeen) (file : IsTrialFile v.info) (sound : IsSoundVnode v) wh
   four : (disk : ℕ) → disk ≡ 0 → block_count (trial_files v).disks disk ≡ 4
   four disk e = ap (λ (o : Option ℕ). unwrap_or o 0) (ap (finite.get (trial_files v).disks) e ∙ get-insert_here (finite.empty {X = ℕ} {R = nat_cmp}) 0 4)
 
+  lies : LieOnDisk (block_count (trial_files v).disks v.info.disk) v.info.extents
+  lies =
+      subst (λ (blocks : ℕ). LieOnDisk blocks v.info.extents) (sym (four v.info.disk file.disk))
+      (subst (λ (es : List Extent). LieOnDisk 4 es) (sym file.extents) (record {
+        some = All-cons (λ (e : Extent). 1 ≤ e.pages) trial_extent [] (omega arith) (All-nil (λ (e : Extent). 1 ≤ e.pages));
+        within = All-cons (λ (e : Extent). (1 ≤ e.start) × (extent_end e ≤ 4)) trial_extent [] (omega arith, omega arith) (All-nil (λ (e : Extent). (1 ≤ e.start) × (extent_end e ≤ 4)));
+        gaps = tt;
+      }))
+
+  on-disk : (there : Bool) → flat_map (λ (w : VnodeSeen). w.info.extents) (cond there (v ∷ []) []) ≡ cond there (trial_extent ∷ []) []
+  on-disk true = ap (λ (es : List Extent). es ++ []) file.extents
+  on-disk false = refl
+
+  one-apart : (there : Bool) → NoneMeet (cond there (trial_extent ∷ []) [])
+  one-apart true b = count_by-le-length (has_block b) (trial_extent ∷ [])
+  one-apart false b = omega arith
+
+  one-few : (there : Bool) → length (cond there (trial_extent ∷ []) []) ≤ 252
+  one-few true = omega arith
+  one-few false = omega arith
+
   pub trial-files : FilesFit (trial_files v)
   trial-files = record {
     each = λ f lt. subst (λ (i : ℕ). IsSoundVnode (vnode_at (trial_files v) i)) (sym (only f lt)) sound;
@@ -161,6 +188,10 @@ module _ (v : VnodeSeen) (file : IsTrialFile v.info) (sound : IsSoundVnode v) wh
         let low = a.low in
         let e = a.place in
         subst (λ (c : ℕ). b < c) (sym (four f.disk (disk-of f a.file))) (omega (arith, low, e));
+    lie = All-cons (λ (w : VnodeSeen). LieOnDisk (block_count (trial_files v).disks w.info.disk) w.info.extents) v [] lies (All-nil (λ (w : VnodeSeen). LieOnDisk (block_count (trial_files v).disks w.info.disk) w.info.extents));
+    apart = λ disk. subst NoneMeet (sym (on-disk (v.info.disk == disk))) (one-apart (v.info.disk == disk));
+    few = λ disk. subst (λ (es : List Extent). length es ≤ 252) (sym (on-disk (v.info.disk == disk))) (one-few (v.info.disk == disk));
+    some = λ f lt. subst (λ (i : ℕ). 1 ≤ length (vnode_at (trial_files v) i).info.extents) (sym (only f lt)) (subst (λ (es : List Extent). 1 ≤ length es) (sym file.extents) (omega arith));
   }
 
 -- THE STORE
@@ -209,6 +240,7 @@ module _ (s : StoreSeen) (d : DiskSeen) (new : IsNew s 2 ((0, d) ∷ []) None) w
     numbers = λ number blocks is. let e = (one-disk number blocks is).0 in omega (arith, e);
     there = λ number blocks is e. let z : home d ≡ missing = sym bay-zero ∙ ap (bay_at s.bays) (sym (one-disk number blocks is).0) ∙ e in cc;
     swap = λ some. absurd (omega (arith, some));
+    unused = λ none. new.bays.swap;
     sizes = λ number x is.
         let h = home-is-zero number x is in
         record {

@@ -1,5 +1,5 @@
 -- Files that keep their records, and disks that keep what isn't a page of a file.
-use Rattle.std.proofs.Common.{◌≡◌, ℕ, zero, suc, ◌<◌, List, [], ◌∷◌, length, map, Option, Some, None, refl, sym, ap, ◌∙◌, subst, arith}
+use Rattle.std.proofs.Common.{◌≡◌, ℕ, zero, suc, ◌<◌, ◌≤◌, List, [], ◌∷◌, length, map, Option, Some, None, refl, sym, ap, ◌∙◌, subst, arith}
 use Rattle.std.specs.Prelude.{slice_index_or, IsSome}
 use Rattle.std.specs.FinMap as finite
 use Rattle.std.proofs.lemmas.List.{length-map}
@@ -13,6 +13,7 @@ use Rattle.vnode_files.specs.Vnode.{VnodeSeen, no_vnode, page_blocks, IsSoundVno
 use Rattle.flat_model.specs.Words.{pages_in}
 use Rattle.vm_world.specs.FramesFit.{FilesFit}
 use Rattle.vm_world.specs.World.{file_blocks}
+use Rattle.vm_world.proofs.LieAlike.{lie-alike}
 use Rattle.vm_core.specs.Finish.{IsFilePage, bytes_of_page, disk_at, IsPageBlock, KeepsOtherBlocks, KeepsDisk, KeepDisks, KeepRecords}
 
 -- the record of a file, from the records of all
@@ -71,6 +72,7 @@ blocks-same F G k = blocks-by G.files ∙ ap (map (λ (i : FileInfo). record { d
 pub files-fit-kept : (F G : FilesSeen) → KeepRecords F G → ((f : ℕ) → f < length G.files → IsSoundVnode (vnode_at G f)) → FilesFit F → FilesFit G
 files-fit-kept F G k sound fit =
     let same = blocks-same F G k in
+    let alike = lie-alike F G k.disks k.infos in
     record {
       each = sound;
       disjoint = subst AreDisjoint (sym same) fit.disjoint;
@@ -79,6 +81,10 @@ files-fit-kept F G k sound fit =
           (subst (λ (i : FileInfo). IsSome (finite.get F.disks i.disk)) (sym (info-kept F G k f)) (fit.set f (omega (arith, lt, count))));
       low = λ n b block p. fit.low n b block (subst (λ (l : List FileBlocks). KeepsPage l n b block) same p);
       high = λ n b block p. subst (λ (m : finite.FinMap _ ℕ). block < block_count m b.disk) (sym k.disks) (fit.high n b block (subst (λ (l : List FileBlocks). KeepsPage l n b block) same p));
+      lie = alike.on_disks fit.lie;
+      apart = alike.none_meet fit.apart;
+      few = alike.few fit.few;
+      some = λ f lt. let count = count-kept F G k in subst (λ (i : FileInfo). 1 ≤ length i.extents) (sym (info-kept F G k f)) (fit.some f (omega (arith, lt, count)));
     }
 
 -- DISKS that keep their blocks, one after another

@@ -223,6 +223,10 @@ files-fit files disks numbers f few sound = record {
       let p = page-of files name file block k in
       let on = file_layout_law.on_disks files f.lie name.object name.page p.within p.below in
       subst (λ (x : FileBlocks). block < block_count files.disks x.disk) (sym p.is) (subst (λ (b : ℕ). b < block_count files.disks (disk_of_file files name.object)) p.at on.1);
+  lie = f.lie;
+  apart = f.apart;
+  few = f.few;
+  some = f.some;
 }
 
 -- THE DISKS FIT.
@@ -231,6 +235,7 @@ disks-fit bays files disks swap slots h numbers f serves = record {
   numbers = λ number blocks is. below-eight disks number blocks numbers (f.there number blocks is);
   there = λ number blocks is none. let d = f.there number blocks is in let z : missing ≡ home d.disk = sym none ∙ disk-home bays disks swap d.place number d.disk h d.there in cc;
   swap = λ some none. by_swap swap serves (sym h.swap ∙ none) some;
+  unused = λ none. h.swap ∙ no_swap swap serves none;
   sizes = λ number d at. record {
     file = λ blocks is. let x = f.there number blocks is in ap (λ (y : DiskSeen). y.size) (one d x.disk (sym at ∙ disk-home bays disks swap x.place number x.disk h x.there)) ∙ x.size;
     swap = λ eight. swap_size swap serves d (sym h.swap ∙ ap (bay_at bays) (sym eight) ∙ at);
@@ -243,6 +248,10 @@ disks-fit bays files disks swap slots h numbers f serves = record {
     by_swap : (o : Option DiskSeen) → SwapServes slots o → bay_of o ≡ missing → 0 < slots → ⊥
     by_swap None none e some = omega (arith, none, some)
     by_swap (Some x) has e some = let z : home x ≡ missing = e in cc
+
+    no_swap : (o : Option DiskSeen) → SwapServes slots o → slots ≡ 0 → bay_of o ≡ missing
+    no_swap None served none = refl
+    no_swap (Some x) has none = absurd (let low = has.0 in omega (arith, none, low))
 
     swap_size : (o : Option DiskSeen) → SwapServes slots o → (d : DiskSeen) → bay_of o ≡ home d → slots ≤ d.size
     swap_size None none d e = absurd (let z : missing ≡ home d = e in cc)

@@ -6,7 +6,7 @@ use Rattle.flat_model.specs.Counted.{top_count}
 use Rattle.page_store.specs.Bays.{AreNumbers, numbers_of, pairs_seen}
 use Rattle.page_store.specs.New.{AreHome}
 use Rattle.vnode_files.specs.Files.{FilesSeen, vnode_at}
-use Rattle.vnode_files.specs.Layout.{LieOnDisks, NoFilesMeet}
+use Rattle.vnode_files.specs.Layout.{LieOnDisks, NoFilesMeet, HaveFewExtents}
 use Rattle.vm_world.specs.State.{KernelState}
 use Rattle.vm_core.specs.declared.setup.Setup.{Setup}
 
@@ -21,12 +21,15 @@ pub record ListsDisk (disks : List (ℕ × DiskSeen)) (number blocks : ℕ) : Ty
   pub there : slice_get disks place ≡ Some (number, disk)
   pub size : disk.size ≡ blocks
 
--- Each file's disk was set, the disks that were set are there with these blocks, and the files lie on them, past block 0, where no two meet.
+-- Each file's disk was set, the disks that were set are there with these blocks, and the files lie on them, past block 0, where no two meet, with an
+-- extent each at least, and at most as many on each disk as its table has room for.
 pub record FilesOnDisks (files : FilesSeen) (disks : List (ℕ × DiskSeen)) : Type 0 where
   pub set : (file : ℕ) → file < length files.files → IsSome (finite.get files.disks (vnode_at files file).info.disk)
   pub there : (number blocks : ℕ) → finite.get files.disks number ≡ Some blocks → ListsDisk disks number blocks
   pub lie : LieOnDisks files
   pub apart : NoFilesMeet files
+  pub few : HaveFewExtents files
+  pub some : (file : ℕ) → file < length files.files → 1 ≤ length (vnode_at files file).info.extents
 
 -- There is a swap disk exactly where there are slots, and it has a block for each.
 abbrev pub SwapServes : ℕ → Option DiskSeen → Type 0

@@ -240,11 +240,16 @@ module _ (page : Page) (whole : IsPage page) where
       set = λ f lt. absurd (omega (arith, lt));
       low = λ n f b k. absurd (no-file n f b k);
       high = λ n f b k. absurd (no-file n f b k);
+      lie = λ k d lt. absurd (omega (arith, lt));
+      apart = λ disk b. omega arith;
+      few = λ disk. omega arith;
+      some = λ f lt. absurd (omega (arith, lt));
     };
     disks = record {
       numbers = λ number blocks is. absurd (no-disk number blocks is);
       there = λ number blocks is. absurd (no-disk number blocks is);
       swap = λ lt m. (let z : out 1 ≡ missing = m in cc);
+      unused = λ none. absurd (omega (arith, none));
       sizes = λ number d is. absurd (no-home number d is);
     };
     pool = record { leads = refl; single = single };

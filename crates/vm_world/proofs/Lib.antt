@@ -26,3 +26,4 @@ pub mod SpaceSteps
 pub mod Reserves
 pub mod Servings
 pub mod SeatRules
+pub mod LieAlike

@@ -8,10 +8,13 @@ use Rattle.vm_world.specs.WorldSteps.{WorldStep, stays}
 use Rattle.vm_world.proofs.PageNames.{file-apart, not-slot}
 use Rattle.seg_ops.proofs.FillSteps.{TakesZeros, some-of, takes-for, fill-step}
 use Rattle.seg_ops.proofs.Fills.{TakesFor}
-use Rattle.seg_ops.proofs.Pending.{loses}
+use Rattle.seg_ops.proofs.Pending.{loses, next-there}
 use Rattle.seg_ops.proofs.blank.fill.Given.{Over}
 use Rattle.seg_ops.proofs.blank.fill.Goals.{After-pend_tail}
 use Rattle.seg_ops.proofs.blank.fill.Goals as goal
+
+pub pend_tail-requires-clause-exists : goal.pend_tail-requires-clause-exists
+pend_tail-requires-clause-exists g c = next-there (world_seen c.args.world.now) c.requires.fits.0 c.next_name-lost.result c.requires.fits.1 c.next_name-lost.ensures
 
 -- What was taken, for whom.
 record Filled (g : Over) (c : After-pend_tail g) : Type 0 where

@@ -12,7 +12,7 @@ use Rattle.page_store.specs.declared.place.Place.{Place}
 use Rattle.vm_world.specs.World.{World, world_seen, world_table, page_exists}
 use Rattle.vm_world.specs.WorldSteps.{WorldStep, leaves}
 use Rattle.seg_ops.proofs.Begins.{Begun, begins-step, can-begin, can-exist}
-use Rattle.seg_ops.proofs.Pending.{loses}
+use Rattle.seg_ops.proofs.Pending.{loses, next-there}
 use Rattle.seg_ops.proofs.flights.send.Given.{Over}
 use Rattle.seg_ops.proofs.flights.send.Goals.{After-pend_tail}
 use Rattle.seg_ops.proofs.flights.send.Goals as goal
@@ -28,6 +28,9 @@ begin-flight-requires-clause-ready g c =
 
 pub begin-flight-requires-clause-can : goal.begin-flight-requires-clause-can
 begin-flight-requires-clause-can g c = can-begin (world_seen c.args.world.now) c.requires.fits.0 c.args.plan c.requires.fits.1 c.requires.can
+
+pub pend_tail-requires-clause-exists : goal.pend_tail-requires-clause-exists
+pend_tail-requires-clause-exists g c = next-there (world_seen c.args.world.now) c.requires.fits.0 c.next_name-lost.result c.requires.fits.1 c.next_name-lost.ensures
 
 -- What went out.
 record Out (g : Over) (c : After-pend_tail g) : Type 0 where

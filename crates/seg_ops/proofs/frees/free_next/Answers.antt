@@ -8,10 +8,14 @@ use Rattle.vm_world.specs.Serving.{LosesFrame}
 use Rattle.vm_world.specs.World.{World, world_seen}
 use Rattle.vm_world.specs.WorldSteps.{WorldStep, stays}
 use Rattle.seg_ops.proofs.FreedFrames.{IsFreed, freed}
+use Rattle.seg_ops.proofs.Pending.{next-there}
 use Rattle.seg_ops.proofs.StillSteps.{memory_of}
 use Rattle.seg_ops.proofs.frees.free_next.Given.{Over}
 use Rattle.seg_ops.proofs.frees.free_next.Goals.{After-pend_tail}
 use Rattle.seg_ops.proofs.frees.free_next.Goals as goal
+
+pub pend_tail-requires-clause-exists : goal.pend_tail-requires-clause-exists
+pend_tail-requires-clause-exists g c = next-there (world_seen c.args.world.now) c.requires.fits.0 c.next_name-lost.result c.requires.fits.1 c.next_name-lost.ensures
 
 is : (g : Over) (c : After-pend_tail g) (spaces : Spaces) → MemoryFits (memory_of (world_seen c.args.world.now) spaces) → IsFreed (world_seen c.args.world.now) c.give_up.new.store spaces
 is g c spaces fits = freed (world_seen c.args.world.now) spaces c.give_up.new.store c.next_name-lost.result fits c.next_name-lost.ensures c.give_up.ensures.new c.give_up.ensures.laws
