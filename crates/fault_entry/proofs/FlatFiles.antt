@@ -1,5 +1,5 @@
 -- Flat memory seen through a place of a shared mapping of a file.
-use Rattle.std.proofs.Common.{◌≡◌, ◌≢◌, ℕ, zero, suc, ◌+◌, ◌<◌, ◌≤◌, ◌==◌, Bool, false, cond, List, [], ◌∷◌, Option, Some, None, refl, sym, ap, ◌∙◌, arith, slice_set}
+use Rattle.std.proofs.Common.{◌≡◌, ◌≢◌, ℕ, zero, suc, ◌+◌, ◌<◌, ◌≤◌, ◌==◌, Bool, cond, List, [], ◌∷◌, Option, Some, None, refl, sym, ap, ◌∙◌, arith, slice_set}
 use Rattle.std.specs.Prelude.{option_map, option_and_then, slice_get}
 use Rattle.std.specs.Option.{option_or}
 use Rattle.std.specs.FinSet as set
@@ -16,7 +16,6 @@ use Rattle.anon_map.specs.Maps.{Map}
 use Rattle.flat_model.specs.Words.{Page, pages_in}
 use Rattle.flat_model.specs.Flat.{File, Flat, cell_at, shown, pages_of}
 use Rattle.flat_model.specs.Access.{with_page, file_with_page, changed_at}
-use Rattle.flat_model.specs.Step.{files_cleared}
 use Rattle.vm_world.specs.FlatMemory.{Shape, flat_shaped, flat_memory, shape_of, cell_of, own_page, own_without_slot, files_with_pages, file_with_pages, pages_from}
 use Rattle.vm_world.specs.MemoryFits.{MemoryFits}
 use Rattle.vm_world.specs.Pages.{Contents, contents_of, contents_by, page_value}
@@ -143,11 +142,6 @@ puts-page old new maps f i bytes file is others = record {
   others = λ g k apart. ap (cond (g == 64) []) (others (file_name g k) (λ e. apart (ap (λ (n : PageName). n.object) e, ap (λ (n : PageName). n.page) e)));
   place = λ m k. ap (λ (h : ℕ → Page). option_map h (slot_in maps m k)) (λ j s. others (slot_name s) (λ e. file (sym (ap (λ (n : PageName). n.object) e))) j);
 }
-
--- no tail is lost
-pub none-cleared : (files : List File) → files_cleared (λ f. false) files ≡ files
-none-cleared [] = refl
-none-cleared (file ∷ files) = ap (λ (fs : List File). file ∷ fs) (none-cleared files)
 
 pub flat-puts : (s : Shape) (born : set.FinSet nat_cmp) (old new : PageName → Page) (maps : List (Option Map)) (f i : ℕ) (bytes : Page) → f ≢ 64 → new (file_name f i) ≡ bytes → ((n : PageName) → n ≢ file_name f i → new n ≡ old n)
     → flat_shaped s born (contents_by new maps) ≡ with_page (flat_shaped s born (contents_by old maps)) (object.File f) i bytes

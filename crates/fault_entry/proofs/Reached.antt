@@ -1,8 +1,7 @@
 -- What an access comes to before its word is moved, case by case.
-use Rattle.std.proofs.Common.{◌≡◌, ℕ, ◌%◌, Bool, true, false, Option, Some, None, refl}
+use Rattle.std.proofs.Common.{◌≡◌, ℕ, ◌%◌, Bool, true, false, cond, Option, Some, None, refl, sym, ap, ◌∙◌}
 use Rattle.std.specs.Prelude.{not, ◌||◌}
-use Rattle.hat_layer.specs.declared.translation.Translation.{Translation}
-use Rattle.hat_layer.specs.Pool.{at}
+use Rattle.hat_layer.specs.Pool.{IsNoted, frame_let, frame_for}
 use Rattle.page_store.specs.declared.plan.Plan.{Plan}
 use Rattle.page_store.specs.declared.plan.Hold.{Hold}
 use Rattle.vm_types.specs.declared.call.Signal.TheVariants as signal
@@ -11,24 +10,26 @@ use Rattle.vm_world.specs.MemoryFits.{MemoryFits}
 use Rattle.vm_world.specs.Segments.{Spot, Spaces, spot_at}
 use Rattle.vm_world.specs.World.{World}
 use Rattle.seg_ops.specs.declared.plans.Step.TheVariants as step
+use Rattle.seg_ops.specs.Steps.{KeepsPages}
 use Rattle.seg_ops.proofs.Composed.{keeps-same}
 use Rattle.seg_ops.proofs.StillSteps.{memory_of}
 use Rattle.seg_vn.specs.Faults.{IsFilePlace, LetsAccess, ServesFault}
 use Rattle.seg_vn.proofs.FilePlaces.{past-below}
-use Rattle.seg_vn.proofs.Takes.{takes-none}
-use Rattle.fault_entry.specs.Reaching.{may_access, lets_access, ServesAccess}
+use Rattle.seg_vn.proofs.Takes.{takes-none, takes-then}
+use Rattle.fault_entry.specs.Reaching.{may_access, ServesAccess}
 use Rattle.fault_entry.specs.declared.access.Access.TheVariants as access
 use Rattle.fault_entry.proofs.Targets.{unaligned, unmapped, refused, past, may-reach}
 
--- a translation that lets the access
-pub found-lets : (w : World) (p q : ℕ) (write : Bool) (o : Option Translation) → at w.hat.places p q ≡ o → lets_access write o ≡ true → LetsAccess w p q write
-found-lets w p q write None there lets = absurd (let z : false ≡ true = lets in cc)
-found-lets w p q write (Some t) there lets = record { translation = t; loaded = there; writable = λ is. by_write t.writable write lets is }
-  where
-    by_write : (b write : Bool) → (b || not write) ≡ true → write ≡ true → b ≡ true
-    by_write true write h is = refl
-    by_write false true h is = absurd (let z : false ≡ true = h in cc)
-    by_write false false h is = absurd (let z : false ≡ true = is in cc)
+-- an access that the translation lets goes to a frame
+lets : (b write : Bool) → (write ≡ true → b ≡ true) → (b || not write) ≡ true
+lets true write is = refl
+lets false true is = absurd (let z : false ≡ true = is refl in cc)
+lets false false is = refl
+
+pub goes-there : (w : World) (p q : ℕ) (write : Bool) (o : Option ℕ) → LetsAccess w p q write → o ≡ frame_for w.hat.places p q write → o ≡ None → ⊥
+goes-there w p q write o l is none =
+    let there = ap (frame_let write) l.loaded ∙ ap (λ (b : Bool). cond b (Some l.translation.frame) None) (lets l.translation.writable write l.writable) in
+    let z : Some l.translation.frame ≡ None = sym there ∙ sym is ∙ none in cc
 
 module _ (w : World) (spaces : Spaces) (pending p a n : ℕ) (write : Bool) (f : MemoryFits (memory_of w spaces)) where
   -- NOTHING is done.
@@ -42,13 +43,15 @@ module _ (w : World) (spaces : Spaces) (pending p a n : ℕ) (write : Bool) (f :
   refused-access x even here none = record { first = takes-none w w spaces pending (keeps-same w spaces f); means = λ born notes. refused w spaces born notes p a n (may_access write) x even here none }
 
   -- A HIT.
-  pub hit-access : (x : Spot) → a % n ≡ 0 → IsFilePlace spaces p (page a) x → may_access write x.0.prot ≡ true → LetsAccess w p (page a) write → ServesAccess (memory_of w spaces) (memory_of w spaces) pending pending p a n write access.Reached
-  hit-access x even place allowed lets = record { first = takes-none w w spaces pending (keeps-same w spaces f); means = record { aligned = even; spot = x; place = place; allowed = allowed; lets = lets } }
+  pub hit-access : (new : World) (x : Spot) (frame : ℕ) → a % n ≡ 0 → IsFilePlace spaces p (page a) x → may_access write x.0.prot ≡ true → KeepsPages w new spaces → IsNoted new.hat.places p (page a) frame write
+      → ServesAccess (memory_of w spaces) (memory_of new spaces) pending pending p a n write (access.Reached frame)
+  hit-access new x frame even place allowed keeps noted = record { first = takes-none w new spaces pending keeps; means = record { aligned = even; spot = x; place = place; allowed = allowed; noted = noted } }
 
 -- A FAULT, by what it comes to.
 module _ (old new : World) (spaces : Spaces) (pending more p a n : ℕ) (write : Bool) (x : Spot) (even : a % n ≡ 0) (place : IsFilePlace spaces p (page a) x) (allowed : may_access write x.0.prot ≡ true) where
-  pub loaded-access : ServesFault (memory_of old spaces) (memory_of new spaces) pending more p (page a) x write step.Loaded → ServesAccess (memory_of old spaces) (memory_of new spaces) pending more p a n write access.Reached
-  loaded-access s = record { first = s.first; means = record { aligned = even; spot = x; place = place; allowed = allowed; lets = s.means } }
+  pub loaded-access : (mid : World) (frame : ℕ) → MemoryFits (memory_of old spaces) → ServesFault (memory_of old spaces) (memory_of mid spaces) pending more p (page a) x write step.Loaded → KeepsPages mid new spaces
+      → new.store.names ≡ mid.store.names → IsNoted new.hat.places p (page a) frame write → ServesAccess (memory_of old spaces) (memory_of new spaces) pending more p a n write (access.Reached frame)
+  loaded-access mid frame f s keeps names noted = record { first = takes-then old mid new spaces pending more f s.first keeps names; means = record { aligned = even; spot = x; place = place; allowed = allowed; noted = noted } }
 
   pub past-access : ServesFault (memory_of old spaces) (memory_of new spaces) pending more p (page a) x write step.Past → ServesAccess (memory_of old spaces) (memory_of new spaces) pending more p a n write (access.Refused signal.Past)
   past-access s =

@@ -1,9 +1,7 @@
 -- What is answered to a load or a store, by what it reaches.
-use Rattle.std.proofs.Common.{◌≡◌, ℕ, Bool, true, false, cond, List, Option, Some, refl, ap, ◌∙◌}
-use Rattle.std.proofs.lemmas.Bool.{eq-eqb}
+use Rattle.std.proofs.Common.{◌≡◌, ℕ, true, false, List, Option, Some, refl, ap, ◌∙◌}
 use Rattle.hat_layer.specs.declared.translation.Translation.{Translation}
-use Rattle.hat_layer.specs.Pool.{at, change_at, change_page, after_access, holds, IsSingleValued}
-use Rattle.hat_layer.proofs.MapLaws.{at-change_at}
+use Rattle.hat_layer.specs.Pool.{Pool, at}
 use Rattle.page_store.specs.declared.plan.Plan.{Plan}
 use Rattle.page_store.specs.declared.plan.Hold.{Hold}
 use Rattle.vm_types.specs.declared.call.Call.{Call}
@@ -20,9 +18,8 @@ use Rattle.vm_world.specs.Serving.{TakesFrames, ServesDone}
 use Rattle.vm_world.specs.Wants.{accessed_page, HoldsUp}
 use Rattle.vm_world.specs.World.{World}
 use Rattle.vm_world.proofs.CallSteps.{call_rule}
-use Rattle.seg_ops.specs.Steps.{KeepsPages, ReadsWord, WritesWord}
+use Rattle.seg_ops.specs.Steps.{ReadsWord, WritesWord}
 use Rattle.seg_ops.proofs.Hits.{hits}
-use Rattle.seg_ops.proofs.Places.{stands-at}
 use Rattle.seg_ops.proofs.StillSteps.{memory_of}
 use Rattle.seg_vn.specs.declared.attempt.Attempt.TheVariants as attempt
 use Rattle.seg_vn.specs.Faults.{NeedsTransfer}
@@ -40,46 +37,33 @@ done-serves old mid new spaces pending more p c r first acts = record {
   acts = λ cleared. call_rule.pages mid new spaces (record { process = p; call = c; reply = r; cleared = cleared }) (acts cleared);
 }
 
--- A TRANSLATION leads to the page that its place shows, also after an access.
-holds-here : (t : Translation) (p q : ℕ) → t.space ≡ p → t.page ≡ q → holds p q (Some t) ≡ true
-holds-here t p q a b = rw (eq-eqb t.space p a, eq-eqb t.page q b) refl
+-- A TRANSLATION leads to the page that its place shows.
+shown-there : (w : World) (spaces : Spaces) (p q : ℕ) (t : Translation) → MemoryFits (memory_of w spaces) → at w.hat.places p q ≡ Some t → IsShown (memory_of w spaces) p q
+shown-there w spaces p q t f there =
+    let h = hits w spaces p q t f there in
+    record { translation = t; loaded = there; spot = h.shows.spot; here = h.shows.here; name = h.name; shows = h.shows.shows; home = h.home }
 
-accessed : (places : List (Option Translation)) (p q : ℕ) (t : Translation) (write : Bool) → IsSingleValued places → at places p q ≡ Some t → at (change_at p q (after_access write) places) p q ≡ Some (after_access write t)
-accessed places p q t write single there =
-    let s = stands-at places p q t there in
-    at-change_at (after_access write) places p q p q (λ u. refl) single ∙ ap (change_page p q (after_access write)) there
-    ∙ ap (λ (b : Bool). cond b (Some (after_access write t)) (Some t)) (holds-here t p q s.space_is s.page_is)
-
-shown-after : (mid new : World) (spaces : Spaces) (p q : ℕ) (t : Translation) (write : Bool) → MemoryFits (memory_of mid spaces) → MemoryFits (memory_of new spaces) → at mid.hat.places p q ≡ Some t
-    → new.hat.places ≡ change_at p q (after_access write) mid.hat.places → IsShown (memory_of new spaces) p q
-shown-after mid new spaces p q t write f g there places =
-    let loaded : at new.hat.places p q ≡ Some (after_access write t) = ap (λ (ps : List (Option Translation)). at ps p q) places ∙ accessed mid.hat.places p q t write f.pool.single there in
-    let h = hits new spaces p q (after_access write t) g loaded in
-    record { translation = after_access write t; loaded = loaded; spot = h.shows.spot; here = h.shows.here; name = h.name; shows = h.shows.shows; home = h.home }
-
-module _ (old mid new : World) (spaces : Spaces) (pending more p a n : ℕ) where
-  -- THE WORD is moved.
-  pub load-reached : (word : ℕ) → ServesAccess (memory_of old spaces) (memory_of mid spaces) pending more p a n false access.Reached → KeepsPages mid new spaces → ReadsWord mid spaces p a n word
-      → new.hat.places ≡ change_at p (page a) (after_access false) mid.hat.places → ServesWord (memory_of old spaces) (memory_of new spaces) pending more p (page a) (call.Load a n) (attempt.Done (reply.Word word))
-  load-reached word s keeps reads places =
-      let f = s.first.step.memory in
-      record {
-        serves = done-serves old mid new spaces pending more p (call.Load a n) (reply.Word word) s.first (λ cleared. load-acts mid new spaces p a n word cleared f s.means keeps reads);
-        due = tt;
-        shown = shown-after mid new spaces p (page a) s.means.lets.translation false f keeps.memory s.means.lets.loaded places;
-      }
-
-  pub store-reached : (v : ℕ) → ServesAccess (memory_of old spaces) (memory_of mid spaces) pending more p a n true access.Reached → WritesWord mid new spaces p a n v
-      → new.hat.places ≡ change_at p (page a) (after_access true) mid.hat.places → ServesWord (memory_of old spaces) (memory_of new spaces) pending more p (page a) (call.Store a n v) (attempt.Done reply.Done)
-  store-reached v s writes places =
-      let f = s.first.step.memory in
-      record {
-        serves = done-serves old mid new spaces pending more p (call.Store a n v) reply.Done s.first (λ cleared. store-acts mid new spaces p a n v cleared f s.means writes);
-        due = tt;
-        shown = shown-after mid new spaces p (page a) s.means.lets.translation true f writes.2.memory s.means.lets.loaded places;
-      }
+-- A WORD is put.
+pub store-reached : (old mid new : World) (spaces : Spaces) (pending more p a n frame v : ℕ) → ServesAccess (memory_of old spaces) (memory_of mid spaces) pending more p a n true (access.Reached frame) → WritesWord mid new spaces p a n v → new.hat ≡ mid.hat
+    → ServesWord (memory_of old spaces) (memory_of new spaces) pending more p (page a) (call.Store a n v) (attempt.Done reply.Done)
+store-reached old mid new spaces pending more p a n frame v s writes hat = record {
+  serves = done-serves old mid new spaces pending more p (call.Store a n v) reply.Done s.first (λ cleared. store-acts mid new spaces p a n frame v cleared s.first.step.memory s.means writes);
+  due = tt;
+  shown = shown-there new spaces p (page a) s.means.noted.entry writes.2.memory (ap (λ (h : Pool). at h.places p (page a)) hat ∙ s.means.noted.there);
+}
 
 module _ (old new : World) (spaces : Spaces) (pending more p a n : ℕ) where
+  -- A WORD is read.
+  pub load-reached : (frame word : ℕ) → ServesAccess (memory_of old spaces) (memory_of new spaces) pending more p a n false (access.Reached frame) → ReadsWord new spaces p a n word
+      → ServesWord (memory_of old spaces) (memory_of new spaces) pending more p (page a) (call.Load a n) (attempt.Done (reply.Word word))
+  load-reached frame word s reads =
+      let f = s.first.step.memory in
+      record {
+        serves = done-serves old new new spaces pending more p (call.Load a n) (reply.Word word) s.first (λ cleared. load-acts new spaces p a n frame word cleared f s.means reads);
+        due = tt;
+        shown = shown-there new spaces p (page a) s.means.noted.entry f s.means.noted.there;
+      }
+
   -- A SIGNAL is due.
   pub load-refused : (s : Signal) → ServesAccess (memory_of old spaces) (memory_of new spaces) pending more p a n false (access.Refused s)
       → ServesWord (memory_of old spaces) (memory_of new spaces) pending more p (page a) (call.Load a n) (attempt.Done (reply.Signal s))

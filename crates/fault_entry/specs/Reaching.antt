@@ -1,8 +1,8 @@
 -- What an access comes to before its word is moved. Inside: no public clause cites this.
-use Rattle.std.specs.Prelude.{◌≡◌, ℕ, ◌%◌, Bool, true, false, not, ◌||◌, List, Option, Some, None, Err, if◌then◌else◌}
+use Rattle.std.specs.Prelude.{◌≡◌, ℕ, ◌%◌, Bool, true, List, Option, Some, Err, if◌then◌else◌}
 use Rattle.std.specs.FinSet as set
 use Rattle.std.specs.Ordering.{nat_cmp}
-use Rattle.hat_layer.specs.declared.translation.Translation.{Translation}
+use Rattle.hat_layer.specs.Pool.{IsNoted}
 use Rattle.page_store.specs.Notes.{Notes}
 use Rattle.vm_types.specs.declared.call.Call.{Call}
 use Rattle.vm_types.specs.declared.prot.Prot.{Prot}
@@ -14,7 +14,7 @@ use Rattle.vm_world.specs.FlatMemory.{Memory, flat_memory}
 use Rattle.vm_world.specs.Segments.{Spot}
 use Rattle.vm_world.specs.Serving.{TakesFrames}
 use Rattle.vm_world.specs.Wants.{accessed_page, HoldsUp}
-use Rattle.seg_vn.specs.Faults.{IsFilePlace, LetsAccess, NeedsTransfer}
+use Rattle.seg_vn.specs.Faults.{IsFilePlace, NeedsTransfer}
 use Rattle.fault_entry.specs.declared.access.Access.{Access}
 use Rattle.fault_entry.specs.declared.access.Access.TheVariants.{Reached, Refused, Need, Busy}
 
@@ -22,25 +22,20 @@ use Rattle.fault_entry.specs.declared.access.Access.TheVariants.{Reached, Refuse
 abbrev pub may_access : Bool → Prot → Bool
 may_access write prot = if write then can_write prot else can_read prot
 
--- A translation lets the access.
-abbrev pub lets_access : Bool → Option Translation → Bool
-lets_access write None = false
-lets_access write (Some t) = t.writable || not write
-
--- The page of the address has a translation that lets the access, and so does its protection.
-pub record ReachesPage (m : Memory) (p a n : ℕ) (write : Bool) : Type 0 where
+-- The access goes to this frame: it was noted in the page's translation, which lets it, and so does its protection.
+pub record ReachesPage (m : Memory) (p a n frame : ℕ) (write : Bool) : Type 0 where
   pub aligned : a % n ≡ 0
   pub spot : Spot
   pub place : IsFilePlace m.spaces p (page a) spot
   pub allowed : may_access write spot.0.prot ≡ true
-  pub lets : LetsAccess m.world p (page a) write
+  pub noted : IsNoted m.world.hat.places p (page a) frame write
 
 -- In flat memory, whatever is outside, neither Align, NoMap nor Prot is due.
 abbrev pub MayReach : Memory → ℕ → ℕ → ℕ → Bool → Type 0
 MayReach m p a n write = (born : set.FinSet nat_cmp) (notes : Notes) → IsPastAtMost (access_target (flat_memory m born notes) p (may_access write) a n)
 
 abbrev pub AccessMeans : Memory → Memory → ℕ → ℕ → ℕ → Bool → Access → Type 0
-AccessMeans old new p a n write Reached = ReachesPage new p a n write
+AccessMeans old new p a n write (Reached frame) = ReachesPage new p a n frame write
 AccessMeans old new p a n write (Refused s) = (born : set.FinSet nat_cmp) (notes : Notes) → access_target (flat_memory new born notes) p (may_access write) a n ≡ Err s
 AccessMeans old new p a n write (Need plan) = NeedsTransfer old new p (page a) plan × MayReach new p a n write
 AccessMeans old new p a n write (Busy h) =

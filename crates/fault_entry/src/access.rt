@@ -2,21 +2,22 @@
 ghost use Rattle.std.specs.Prelude.{◌≡◌, ℕ, Some, IsSome};
 ghost use Rattle.std.specs.FinMap as finite;
 ghost use Rattle.core_arena.specs.Bytes.{bytes_at};
-ghost use Rattle.hat_layer.specs.Pool.{at};
+ghost use Rattle.hat_layer.specs.Pool.{IsNoted};
 ghost use Rattle.page_store.specs.Notes.{Notes};
 ghost use Rattle.vm_types.specs.Words.{IsWordSize};
 ghost use Rattle.vm_world.specs.MemoryFits.{MemoryFits};
 ghost use Rattle.vm_world.specs.NotesFit.{NotesFit};
 ghost use Rattle.vm_world.specs.Segments.{Spaces};
 ghost use Rattle.vm_world.specs.World.{world_seen};
+ghost use Rattle.seg_ops.specs.Steps.{KeepsPages};
+ghost use Rattle.seg_vn.specs.Faults.{LetsAccess};
 ghost use Rattle.fault_entry.specs.Accesses.{ShowsFiles};
-ghost use Rattle.fault_entry.specs.Reaching.{may_access, lets_access, ServesAccess};
+ghost use Rattle.fault_entry.specs.Reaching.{may_access, ServesAccess};
 
 use addr_space::Ranges;
 use block_device::Disk;
-use hat_layer::Hat;
 use page_store::{Hold, Plan};
-use seg_ops::Step;
+use seg_ops::{Step, note};
 use seg_vn::VnSeg;
 use vm_types::{Prot, Signal};
 use vm_world::World;
@@ -24,8 +25,8 @@ use vm_world::World;
 /// What an access comes to before its word is moved.
 #[derive(Clone, Copy, PartialEq, Eq, Debug)]
 pub(crate) enum Access {
-    /// The page has a translation that lets it.
-    Reached,
+    /// It goes to this frame: the page has a translation that lets it, in which it was noted.
+    Reached(u32),
     /// This signal is due.
     Refused(Signal),
     /// This transfer is needed first.
@@ -45,18 +46,24 @@ fn allows(prot: Prot, write: bool) -> bool
     }
 }
 
-/// Whether a page has a translation that lets the access.
-fn is_loaded(hat: &Hat, space: u32, page: u32, write: bool) -> bool
-    ensures { result ≡ lets_access write (at hat.now.places space page) }
+/// Notes an access that the page's translation lets, and answers the frame that it goes to.
+fn noted<D: Disk>(world: &mut World<D>, space: u32, page: u32, write: bool) -> u32
+    requires lets { LetsAccess (world_seen world.old) space page write }
+    ensures noted { IsNoted world.new.hat.places space page result write }
+    // What stays.
+    ensures rest { world.new ≡ record world.old { hat = world.new.hat } }
+    ensures keeps { (spaces : Spaces)
+        → MemoryFits (record { world = world_seen world.old; spaces = spaces })
+        → KeepsPages (world_seen world.old) (world_seen world.new) spaces }
 {
-    match hat.find(space, page) {
-        None => false,
-        Some((_frame, writable)) => writable || !write,
-    }
+    let Some(frame) = note(world, space, page, write) else {
+        unreachable!();
+    };
+    frame
 }
 
-/// Sees that the page of an address has a translation that lets the access, or says what is due. A hit is one look for
-/// the segment and one for the translation.
+/// Sees that the page of an address has a translation that lets the access, which is noted, or says what is due. A hit is
+/// one look for the segment and one for the translation.
 pub(crate) fn reach<D: Disk>(
     world: &mut World<D>,
     space: &Ranges<VnSeg>,
@@ -96,11 +103,11 @@ pub(crate) fn reach<D: Disk>(
     if !allows(segment.prot(), write) {
         return Access::Refused(Signal::Prot);
     }
-    if is_loaded(&world.hat, process, page, write) {
-        return Access::Reached;
+    if let Some(frame) = note(world, process, page, write) {
+        return Access::Reached(frame);
     }
     match segment.fault(world, process, first, page, write) {
-        Step::Loaded => Access::Reached,
+        Step::Loaded => Access::Reached(noted(world, process, page, write)),
         Step::Past => Access::Refused(Signal::Past),
         Step::Need(plan) => Access::Need(plan),
         Step::Busy(hold) => Access::Busy(hold),

@@ -47,7 +47,7 @@ fn load<D: Disk>(
         world.old.pending world.new.pending process (page addr) (Load addr size) result }
 {
     match reach(world, space, process, addr, size, false) {
-        Access::Reached => Attempt::Done(Reply::Word(read(world, process, addr, size))),
+        Access::Reached(frame) => Attempt::Done(Reply::Word(read(world, frame, addr, size))),
         Access::Refused(signal) => Attempt::Done(Reply::Signal(signal)),
         Access::Need(plan) => Attempt::Need(plan),
         Access::Busy(hold) => Attempt::Busy(hold),
@@ -81,8 +81,8 @@ fn store<D: Disk>(
         world.old.pending world.new.pending process (page addr) (Store addr size value) result }
 {
     match reach(world, space, process, addr, size, true) {
-        Access::Reached => {
-            write(world, process, addr, size, value);
+        Access::Reached(frame) => {
+            write(world, frame, addr, size, value);
             Attempt::Done(Reply::Done)
         }
         Access::Refused(signal) => Attempt::Done(Reply::Signal(signal)),

@@ -2,10 +2,10 @@
 use Rattle.std.proofs.Common.{◌≡◌, ℕ, inl, inr, ◌⊎◌, Bool, true, false, cond, Option, Some, None, List, [], ◌∷◌, refl, sym, ◌∙◌, ap, get_or, arith, zero, suc}
 use Rattle.std.specs.Prelude.{map, option_and_then, option_map, find, ◌==◌}
 use Rattle.std.specs.List.{list_any}
-use Rattle.std.proofs.lemmas.Bool.{cases_Bool, and_parts, and_from, eqb-true, eq-eqb, or_cases}
+use Rattle.std.proofs.lemmas.Bool.{cases_Bool, and_parts, and_from, eqb-true, eq-eqb, or_cases, or_right}
 use Rattle.std.proofs.lemmas.List.Folds.{list_any_at}
 use Rattle.hat_layer.specs.declared.translation.Translation.{Translation}
-use Rattle.hat_layer.specs.Pool.{holds, is_of, at, leads, IsSingleValued, change_page, drop_page, change_lead, drop_lead, change_at, drop_at, change_frame, drop_frame, has_bit, SomeHas}
+use Rattle.hat_layer.specs.Pool.{holds, is_of, at, leads, IsSingleValued, change_page, drop_page, change_lead, drop_lead, change_at, drop_at, change_frame, drop_frame, has_bit, lets_access, after_access, IsNoted, SomeHas}
 use Rattle.hat_layer.proofs.TableLemmas.{some-within}
 use Rattle.hat_layer.proofs.HatLemmas.{at-held}
 
@@ -64,6 +64,18 @@ at-change_frame change places frame s p same d = at-mapped (λ (o : Option Trans
 
 pub at-change_at : (change : Translation → Translation) (places : List (Option Translation)) (space page s p : ℕ) → ((t : Translation) → is_of s p (change t) ≡ is_of s p t) → IsSingleValued places → at (change_at space page change places) s p ≡ change_page space page change (at places s p)
 at-change_at change places space page s p same d = at-mapped (λ (o : Option Translation). change_page space page change o) places s p refl (changed-stays (λ (o : Option Translation). holds space page o) change s p same) d
+
+-- the entry of the page whose access was noted
+pub noted-access : (places after : List (Option Translation)) (space page : ℕ) (write : Bool) (t : Translation) → at places space page ≡ Some t → is_of space page t ≡ true → lets_access write t ≡ true
+    → at after space page ≡ change_page space page (after_access write) (at places space page) → IsNoted after space page t.frame write
+noted-access places after space page write t is own lets changed = record {
+  entry = after_access write t;
+  there = changed ∙ ap (change_page space page (after_access write)) is ∙ ap (λ (b : Bool). cond b (Some (after_access write t)) (Some t)) own;
+  leads_there = refl;
+  lets = lets;
+  referenced = refl;
+  modified = λ w. or_right t.modified write w;
+}
 
 -- a bit of a frame, by its pages
 found-any : (bit : Translation → Bool) (places : List (Option Translation)) (frame : ℕ) → list_any (has_bit bit frame) places ≡ true → (k : ℕ) × (has_bit bit frame (get_or places k None) ≡ true)

@@ -1,5 +1,5 @@
 -- What a contract sees of the pool of translations. Public clauses cite this.
-use Rattle.std.specs.Prelude.{◌≡◌, ℕ, ◌+◌, ◌==◌, ◌&&◌, ◌||◌, Bool, true, false, List, Option, Some, None, if◌then◌else◌, map, find, length, option_map, option_and_then, is_some, slice_index_or}
+use Rattle.std.specs.Prelude.{◌≡◌, ℕ, ◌+◌, ◌==◌, ◌&&◌, ◌||◌, not, Bool, true, false, IsTrue, List, Option, Some, None, if◌then◌else◌, map, find, length, option_map, option_and_then, is_some, slice_index_or}
 use Rattle.std.specs.List.{list_any, list_all}
 use Rattle.hat_layer.specs.declared.translation.Translation.{Translation}
 use Rattle.hat_layer.specs.declared.translation.Dropped.{Dropped}
@@ -40,6 +40,18 @@ told_of t = record { space = t.space; page = t.page; frame = t.frame; referenced
 -- a translation as it is loaded: with clear bits
 abbrev pub fresh_translation : ℕ → ℕ → ℕ → Bool → Translation
 fresh_translation space page frame writable = record { space = space; page = page; frame = frame; writable = writable; referenced = false; modified = false }
+
+-- a translation lets an access: each load, and a store where it is writable
+abbrev pub lets_access : Bool → Translation → Bool
+lets_access write t = t.writable || not write
+
+-- the frame that an access goes to, where there is a translation that lets it
+abbrev pub frame_let : Bool → Option Translation → Option ℕ
+frame_let write None = None
+frame_let write (Some t) = if lets_access write t then Some t.frame else None
+
+abbrev pub frame_for : List (Option Translation) → ℕ → ℕ → Bool → Option ℕ
+frame_for places space page write = frame_let write (at places space page)
 
 -- a translation after an access
 abbrev pub after_access : Bool → Translation → Translation
@@ -117,3 +129,12 @@ pub record SomeHas (bit : Translation → Bool) (places : List (Option Translati
   pub there : at places space page ≡ Some entry
   pub leads_there : entry.frame ≡ frame
   pub set : bit entry ≡ true
+
+-- an access was noted: the page's translation leads to the frame, lets the access, was used, and was written where it writes
+pub record IsNoted (places : List (Option Translation)) (space page frame : ℕ) (write : Bool) : Type 0 where
+  pub entry : Translation
+  pub there : at places space page ≡ Some entry
+  pub leads_there : entry.frame ≡ frame
+  pub lets : lets_access write entry ≡ true
+  pub referenced : entry.referenced ≡ true
+  pub modified : IsTrue write → IsTrue entry.modified

@@ -1,6 +1,6 @@
 //! The translations of all spaces: a map that only forgets.
-ghost use Rattle.std.specs.Prelude.{◌≡◌, ◌≢◌, ◌↔◌, ℕ, ◌+◌, ◌<◌, ◌≤◌, ◌==◌, ◌&&◌, ◌^◌, [], ◌∷◌, ◌++◌, length, replicate, true, false, Option, Some, None, IfOk, IsTrue, IsSomeAnd, slice_set, slice_index_or, if◌then◌else◌, option_map, vec_len, vec_capacity};
-ghost use Rattle.hat_layer.specs.Pool.{Pool, IsSingleValued, SomeHas, is_of, holds, frame_of, at, told_of, fresh_translation, after_access, without_write, with_clear_bits, change_page, drop_page, change_lead, drop_lead, change_at, drop_at, change_frame, drop_frame, bits_of, dropped_by_load, hand_after};
+ghost use Rattle.std.specs.Prelude.{◌≡◌, ◌≢◌, ◌↔◌, ℕ, ◌+◌, ◌<◌, ◌≤◌, ◌==◌, ◌&&◌, ◌^◌, [], ◌∷◌, ◌++◌, length, replicate, true, false, Option, Some, None, IfOk, IsTrue, IsSomeAnd, IfSome, IfNone, slice_set, slice_index_or, if◌then◌else◌, option_map, vec_len, vec_capacity};
+ghost use Rattle.hat_layer.specs.Pool.{Pool, IsSingleValued, IsNoted, SomeHas, is_of, holds, frame_of, frame_for, at, told_of, fresh_translation, lets_access, after_access, without_write, with_clear_bits, change_page, drop_page, change_lead, drop_lead, change_at, drop_at, change_frame, drop_frame, bits_of, dropped_by_load, hand_after};
 ghost use Rattle.hat_layer.specs.Free.{IsSoundHat, TakesPlace, falling};
 
 use crate::table::Table;
@@ -147,6 +147,13 @@ fn after_access(old: Translation, write: bool) -> Translation
     }
 }
 
+// Whether a translation lets a load, or a store.
+fn lets_access(held: Translation, write: bool) -> bool
+    ensures { result ≡ lets_access write held }
+{
+    held.writable || !write
+}
+
 fn without_write(old: Translation) -> Translation
     ensures { result ≡ without_write old }
 {
@@ -230,6 +237,31 @@ impl Hat {
         }
     }
 
+    /// Notes an access, and answers the frame that it goes to: where the page has a translation that
+    /// lets it, for a store a writable one. None exactly otherwise. Constant expected time: one look.
+    pub fn access(&mut self, space: u32, page: u32, write: bool) -> Option<u32>
+        ensures frame { result ≡ frame_for self.old.places space page write }
+        // It is noted, ..
+        ensures places { IfSome result (λ _frame. self.new.places
+            ≡ change_at space page (after_access write) self.old.places) }
+        ensures map { IfSome result (λ _frame. (s p : ℕ) → at self.new.places s p
+            ≡ change_page space page (after_access write) (at self.old.places s p)) }
+        ensures noted { IfSome result (λ frame. IsNoted self.new.places space page frame write) }
+        // .. or nothing changes.
+        ensures none { IfNone result (self.new ≡ self.old) }
+        // What stays.
+        ensures hand { self.new.hand ≡ self.old.hand }
+        ensures frames { self.new.frames ≡ self.old.frames }
+        ensures distinct { IsSingleValued self.new.places }
+    {
+        let (place, old) = self.table.held(space, page)?;
+        if !lets_access(old, write) {
+            return None;
+        }
+        self.table.change(place, old, after_access(old, write));
+        Some(old.frame)
+    }
+
     /// Notes an access: referenced, and modified where it writes.
     pub fn touch(&mut self, space: u32, page: u32, write: bool)
         requires { IsSomeAnd (at self.old.places space page)
@@ -243,9 +275,7 @@ impl Hat {
         ensures frames { self.new.frames ≡ self.old.frames }
         ensures distinct { IsSingleValued self.new.places }
     {
-        if let Some((place, old)) = self.table.held(space, page) {
-            self.table.change(place, old, after_access(old, write));
-        }
+        let _frame = self.access(space, page, write);
     }
 
     /// Drops a page's translation, and tells it. None exactly where it isn't loaded.

@@ -62,7 +62,7 @@ lives-on w spaces name f exists = elim (page-cases w.files w.anon name (exists-p
 absent-free : (w : World) (spaces : Spaces) (name : PageName) (seat : ℕ) → MemoryFits (memory_of w spaces) → residence w.store name ≡ Absent → holder_of w.store name ≡ Some seat → ⊥
 absent-free w spaces name seat f absent h = let none = absent-is w.store name f.frames.sound absent in let z : None ≡ Some seat = sym (ap (λ (o : Option ℕ). holder_in o w.store) none) ∙ h in cc
 
-home-free : (w : World) (spaces : Spaces) (name : PageName) (frame seat : ℕ) → MemoryFits (memory_of w spaces) → residence w.store name ≡ Home frame → holder_of w.store name ≡ Some seat → ⊥
+pub home-free : (w : World) (spaces : Spaces) (name : PageName) (frame seat : ℕ) → MemoryFits (memory_of w spaces) → residence w.store name ≡ Home frame → holder_of w.store name ≡ Some seat → ⊥
 home-free w spaces name frame seat f home h =
     let at = home-is w.store name frame home in
     let free = unlocked w spaces frame f (subst (λ (b : Option (List ℕ)). IsSome b) (sym at.there) refl) in

@@ -1,7 +1,7 @@
--- A PAGE OF ZEROS of a file is made: the step, and the cut of the name that the taken frame held.
+-- A PAGE OF ZEROS is made: the step, and the cut of the name that the taken frame held.
 use Rattle.std.proofs.Common.{◌≡◌, ◌≢◌, ℕ, ◌<◌, ◌==◌, Bool, true, false, cond, List, length, Option, Some, None, refl, sym, ap, ◌∙◌, inl, inr, subst, get_or-set_same}
 use Rattle.std.specs.Prelude.{IsTrue, IsSome, IfSome}
-use Rattle.std.proofs.lemmas.Bool.{cases_Bool}
+use Rattle.std.proofs.lemmas.Bool.{cases_Bool, eq-eqb}
 use Rattle.core_arena.specs.Bytes.{bytes_at, zeros}
 use Rattle.page_hash.specs.Names.{name_at, find, is_name}
 use Rattle.page_hash.specs.declared.PageName.{PageName}
@@ -58,19 +58,22 @@ takes-page w spaces new name frame page modified given f next absent step laws =
       laws = laws;
     }
 
--- What the store's call says of a page of zeros of a file.
+-- What the store's call says of a page of zeros: a slot's is modified.
 pub record TakesZeros (w : World) (new : StoreSeen) (name : PageName) (frame : ℕ) : Type 0 where
   pub takes : TakesFor w.store new name frame
+  pub swap : name.object ≡ 64 → takes.modified ≡ true
   pub zeroed : bytes_at new.frames frame ≡ Some zeros
   pub values : (notes : Notes) (table : Table) → StoreFits w.store notes table → FillsFrame w.store notes new notes table name zeros
 
 pub takes-for : (w : World) (spaces : Spaces) (new : StoreSeen) (name : PageName) (frame : ℕ) → MemoryFits (memory_of w spaces) → next_frame w.store ≡ Some frame → residence w.store name ≡ Absent
     → new ≡ after_fill w.store name zeros (name.object == 64) → FillsPage w.store new name (name.object == 64) (λ notes table. zeros) → TakesZeros w new name frame
+unfolding takes-page
 takes-for w spaces new name frame f next absent step laws =
     let lt : frame < length w.store.frames = some-within w.store.frames frame (f.frames.sound.listed frame (next-listed w.store frame next)) in
     let done : new ≡ with_frame_filled w.store frame name zeros (name.object == 64) = step ∙ ap (λ (o : Option ℕ). at_frame o w.store (λ g. with_frame_filled w.store g name zeros (name.object == 64))) next in
     record {
       takes = takes-page w spaces new name frame zeros (name.object == 64) (λ notes table. zeros) f next absent step laws;
+      swap = λ is. eq-eqb name.object 64 is;
       zeroed = ap (λ (s : StoreSeen). bytes_at s.frames frame) done ∙ get_or-set_same w.store.frames frame (Some zeros) None lt;
       values = laws.values;
     }
@@ -96,9 +99,9 @@ next-whole w spaces notes n f cut = by_next (next_frame w.store) refl cut
         let v = home-value w.store notes (world_table w) n frame (bytes_at w.store.frames frame) (find-some w.store.names n frame f.frames.sound.distinct at) refl home in
         ap (λ (b : Page). length b) (value-is w notes n is ∙ v.2) ∙ (f.frames.sound.each frame (some-within w.store.frames frame home)).size v.0 v.1
 
-pub fill-step : (w : World) (spaces : Spaces) (new : StoreSeen) (name : PageName) (frame : ℕ) → MemoryFits (memory_of w spaces) → TakesZeros w new name frame → IsTrue (page_exists w.files w.anon name) → name.object ≢ 64 → IsTrue (is_unpushed w.files w.anon name)
+pub fill-step : (w : World) (spaces : Spaces) (new : StoreSeen) (name : PageName) (frame : ℕ) → MemoryFits (memory_of w spaces) → TakesZeros w new name frame → IsTrue (page_exists w.files w.anon name) → IsTrue (is_unpushed w.files w.anon name)
     → WorldStep w (with_tables w new w.hat) spaces stays (is_name (next_name w.store))
-fill-step w spaces new name frame f z exists file unpushed =
+fill-step w spaces new name frame f z exists unpushed =
     let k = z.takes in
     let real = exists-page w name f.files exists in
     let blank : (world_table w name).blank ≡ true = blank-is w name f.files real ∙ unpushed in
@@ -114,7 +117,7 @@ fill-step w spaces new name frame f z exists file unpushed =
       core = k.core;
       frames = k.laws.touches.frames;
       bays = k.laws.outside.bays;
-      memory = fill-memory w spaces new name frame f k exists file;
+      memory = fill-memory w spaces new name frame f k exists z.swap;
       notes = λ notes trip nf. fill-notes w spaces new name frame notes f k z.zeroed blank valid (z.values notes (world_table w) nf.stored).fits nf;
       tells = λ notes trip nf. tell-kept w new w.hat notes (z.values notes (world_table w) nf.stored).alike;
       whole = λ notes n trip nf tell exists cut. next-whole w spaces notes n f cut;

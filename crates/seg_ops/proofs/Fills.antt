@@ -1,4 +1,4 @@
--- A frame that is taken for a page of zeros of a file: memory and the notes fit, and the name that the frame held is cut at its valid bytes.
+-- A frame that is taken for a page of zeros: memory and the notes fit, and the name that the frame held is cut at its valid bytes.
 use Rattle.std.proofs.Common.{◌≡◌, ◌≢◌, ℕ, zero, suc, ◌-◌, ◌≤◌, Bool, true, false, cond, List, [], ◌∷◌, ◌++◌, length, take, replicate, Option, Some, None, refl, sym, ap, ◌∙◌, ◌⊎◌, inl, inr, subst, arith, slice_index_or}
 use Rattle.std.specs.Prelude.{IsTrue, IsSome, not, unwrap_or}
 use Rattle.std.proofs.lemmas.Bool.{cases_eq, cases_Bool}
@@ -102,9 +102,9 @@ named old new name frame j n k h = elim (cases_eq j frame) [
   | inr ne ↦ inr (ne, sym (elsewhere old new name frame j k ne).name ∙ h)
 ]
 
-pub fill-memory : (w : World) (spaces : Spaces) (new : StoreSeen) (name : PageName) (frame : ℕ) → MemoryFits (memory_of w spaces) → TakesFor w.store new name frame → IsTrue (page_exists w.files w.anon name) → name.object ≢ 64
+pub fill-memory : (w : World) (spaces : Spaces) (new : StoreSeen) (name : PageName) (frame : ℕ) → MemoryFits (memory_of w spaces) → (k : TakesFor w.store new name frame) → IsTrue (page_exists w.files w.anon name) → (name.object ≡ 64 → k.modified ≡ true)
     → MemoryFits (memory_of (with_tables w new w.hat) spaces)
-fill-memory w spaces new name frame f k exists file =
+fill-memory w spaces new name frame f k exists swap =
     let listed = next-listed w.store frame k.next in
     record {
       frames = record {
@@ -133,7 +133,7 @@ fill-memory w spaces new name frame f k exists file =
             writable = l.writable;
           };
       unpushed = λ j s h unpushed home. elim (named w.store new name frame j (slot_name s) k h) [
-        | inl e ↦ absurd (file (ap (λ (n : PageName). n.object) e.1))
+        | inl e ↦ inl (ap (λ (i : ℕ). (row_at new.rows i).modified) e.0 ∙ ap (λ (r : Row). r.modified) k.row ∙ swap (ap (λ (n : PageName). n.object) e.1))
         | inr e ↦ modified-elsewhere w.store new w.hat.places name frame j k e.0 (f.unpushed j s e.1 unpushed (subst (λ (b : Option (List ℕ)). IsSome b) (elsewhere w.store new name frame j k e.0).bytes home))
       ];
       counts = f.counts;

@@ -22,7 +22,7 @@ use Rattle.page_store.specs.StoreFits.{StoreFits, IsClean}
 use Rattle.page_store.specs.Transfers.{rewritten_in}
 use Rattle.page_store.specs.Value.{value_in, stored, tells}
 use Rattle.page_store.specs.declared.place.Place.{Place}
-use Rattle.page_store.specs.declared.residence.Residence.TheVariants.{Home}
+use Rattle.page_store.specs.declared.residence.Residence.TheVariants.{Home, Absent}
 use Rattle.page_store.proofs.FrameLaws.{home-unsourced}
 use Rattle.page_store.proofs.QueryLemmas.{absent-is, some-within}
 use Rattle.hat_layer.specs.declared.translation.Translation.{Translation}
@@ -39,6 +39,7 @@ use Rattle.vm_world.specs.WorldSteps.{WorldStep, stays, cut_page}
 use Rattle.vm_world.proofs.FrameRule.{exists-page}
 use Rattle.seg_ops.proofs.Fills.{Elsewhere, next-listed, held-by, away-home, own-apart, rewritten-same, was-taken}
 use Rattle.seg_ops.proofs.FillSteps.{home-value, next-whole}
+use Rattle.seg_ops.proofs.Marks.{cases-name}
 use Rattle.seg_ops.proofs.StillSteps.{with_tables, memory_of, tell-kept, value-is}
 
 -- What the store's call says of the next frame, which is freed.
@@ -268,6 +269,9 @@ pub record IsFreed (w : World) (new : StoreSeen) (spaces : Spaces) : Type 0 wher
   pub same : next_frame new ≡ next_frame w.store
   pub free : next_name new ≡ None
   pub took : IfSome (next_name w.store) (λ name. LosesFrame w (with_tables w new w.hat) name)
+  pub homes : (page : PageName) (frame : ℕ) → residence w.store page ≡ Home frame → ¬ IsListedFrame w.store frame → residence new page ≡ Home frame
+  pub absent : (page : PageName) → residence w.store page ≡ Absent → residence new page ≡ Absent
+  pub lists : (frame : ℕ) → IsListedFrame new frame → IsListedFrame w.store frame
   pub step : WorldStep w (with_tables w new w.hat) spaces stays (is_name (next_name w.store))
 
 nothing-lost : (w : World) (spaces : Spaces) → MemoryFits (memory_of w spaces) → next_name w.store ≡ None → WorldStep w w spaces stays (is_name (next_name w.store))
@@ -288,6 +292,9 @@ freed w spaces new None f e done laws = subst (λ (s : StoreSeen). IsFreed w s s
   same = refl;
   free = sym e;
   took = subst (λ (o : Option PageName). IfSome o (λ name. LosesFrame w w name)) e tt;
+  homes = λ page frame home unlisted. home;
+  absent = λ page none. none;
+  lists = λ frame l. l;
   step = nothing-lost w spaces f (sym e);
 })
 freed w spaces new (Some n) f e done laws = by_frame (next_frame w.store) refl
@@ -302,5 +309,11 @@ freed w spaces new (Some n) f e done laws = by_frame (next_frame w.store) refl
           same = first ∙ sym next;
           free = ap (name_in new.names) first ∙ k.lost;
           took = subst (λ (o : Option PageName). IfSome o (λ name. LosesFrame w (with_tables w new w.hat) name)) e (record { frame = frame; held = named; taken = λ h. let z : None ≡ Some n = sym k.lost ∙ h in cc });
+          homes = λ page g home unlisted. stays-elsewhere w spaces new n page frame g f k (λ same. unlisted (subst (λ (j : ℕ). IsListedFrame w.store j) (sym same) (next-listed w.store frame next))) home;
+          absent = λ page none. elim (cases-name n page) [
+            | inl e ↦ ap (residence new) e ∙ k.laws.absent
+            | inr ne ↦ k.laws.stay page ne ∙ none
+          ];
+          lists = λ g l. still-free w.store new n frame g k l;
           step = frees-step w spaces new n frame f k;
         }

@@ -1,6 +1,6 @@
 -- Words that are read and put through a translation.
-use Rattle.std.proofs.Common.{◌≡◌, ℕ, ◌%◌, ◌<◌, Bool, true, false, List, length, Option, Some, None, refl, sym, ap, ◌∙◌, inl, inr, subst}
-use Rattle.std.specs.Prelude.{option_map}
+use Rattle.std.proofs.Common.{◌≡◌, ℕ, ◌%◌, ◌<◌, Bool, false, List, length, Option, Some, None, refl, sym, ap, ◌∙◌, inl, inr, subst}
+use Rattle.std.specs.Prelude.{IfSome, IfNone}
 use Rattle.std.proofs.lemmas.Bool.Decides.{eqb_tells}
 use Rattle.core_arena.specs.Bytes.{spliced}
 use Rattle.page_hash.specs.Names.{name_at, find}
@@ -10,20 +10,23 @@ use Rattle.page_lock.specs.Rows.{row_at}
 use Rattle.page_lock.specs.declared.Row.{Row}
 use Rattle.page_store.specs.Laws.{Pokes}
 use Rattle.page_store.specs.Moves.{only}
+use Rattle.page_store.specs.Notes.{Notes}
 use Rattle.page_store.specs.Seen.{StoreSeen, IsListedFrame, residence}
 use Rattle.page_store.specs.Steps.{at_frame, with_piece, after_poke}
+use Rattle.page_store.specs.Value.{value}
 use Rattle.page_store.specs.declared.residence.Residence.TheVariants.{Home}
 use Rattle.page_store.proofs.QueryLemmas.{home-is}
 use Rattle.hat_layer.specs.declared.translation.Translation.{Translation}
-use Rattle.hat_layer.specs.Pool.{Pool, IsSingleValued, at, change_at, after_access}
-use Rattle.flat_model.specs.Words.{page, word_bytes}
+use Rattle.hat_layer.specs.Pool.{Pool, IsNoted, IsSingleValued, at, change_at, after_access}
+use Rattle.flat_model.specs.Words.{page, word_at, word_bytes}
 use Rattle.vm_world.specs.MemoryFits.{MemoryFits}
 use Rattle.vm_world.specs.Segments.{Spaces, spot_at}
 use Rattle.vm_world.specs.TranslationsFit.{TranslationFits, TranslationsFit, HasWritten}
 use Rattle.vm_world.specs.World.{World, core_of, world_table}
 use Rattle.vm_world.proofs.FrameRule.{exists-page}
-use Rattle.seg_ops.specs.Steps.{KeepsPages, ShowsName, WritesWord}
-use Rattle.seg_ops.proofs.Places.{stands-at, each-change_at, written-access, written-store}
+use Rattle.seg_ops.specs.Steps.{KeepsPages, ShowsName, ReadsWord, WritesWord}
+use Rattle.seg_ops.proofs.Composed.{keeps-same}
+use Rattle.seg_ops.proofs.Places.{stands-at, each-change_at, written-access}
 use Rattle.seg_ops.proofs.StillSteps.{KeepsFrames, with_tables, memory_of, same-row, translation-kept, memory-kept, notes-kept, tell-kept, value-is, step-keeps, keeps-store, values-same, fits-held, fits-within}
 
 -- WHAT A TRANSLATION LEADS TO: the home frame of the page that its place shows.
@@ -50,41 +53,28 @@ hits w spaces space q t f is =
       unlisted = l.unlisted;
     }
 
-found-at : (o : Option Translation) (frame : ℕ) (writable : Bool) → ◌≡◌ {A = Option (ℕ × Bool)} (Some (frame, writable)) (option_map (λ (t : Translation). (t.frame, t.writable)) o) → (t : Translation) × (o ≡ Some t) × (t.frame ≡ frame)
-found-at None frame writable e = absurd (cc)
-found-at (Some t) frame writable e =
-    let both : ◌≡◌ {A = ℕ × Bool} (frame, writable) (t.frame, t.writable) = cc in
-    (t, refl, sym (ap (λ (x : ℕ × Bool). x.0) both))
+-- A NOTED ACCESS goes to the frame that holds the page which its place shows.
+module _ (w : World) (spaces : Spaces) (space q frame : ℕ) (write : Bool) (f : MemoryFits (memory_of w spaces)) (n : IsNoted w.hat.places space q frame write) where
+  pub noted-hits : Hits w spaces space q n.entry
+  noted-hits = hits w spaces space q n.entry f n.there
 
--- WHAT A LOOK FOUND: the translation, and the name that its frame holds.
-pub record Finds (w : World) (spaces : Spaces) (space q frame : ℕ) : Type 0 where
-  pub translation : Translation
-  pub loaded : at w.hat.places space q ≡ Some translation
-  pub frame_is : translation.frame ≡ frame
-  pub hit : Hits w spaces space q translation
+  pub noted-within : frame < length w.store.frames
+  noted-within = subst (λ (j : ℕ). j < length w.store.frames) n.leads_there noted-hits.within
 
-pub finds : (w : World) (spaces : Spaces) (space q frame : ℕ) (writable : Bool) (o : Option (ℕ × Bool)) → MemoryFits (memory_of w spaces) → o ≡ option_map (λ (t : Translation). (t.frame, t.writable)) (at w.hat.places space q) → o ≡ Some (frame, writable) → Finds w spaces space q frame
-finds w spaces space q frame writable o f e is =
-    let r = found-at (at w.hat.places space q) frame writable (sym is ∙ e) in
-    record { translation = r.0; loaded = r.1; frame_is = r.2; hit = hits w spaces space q r.0 f r.1 }
+  noted-held : name_at w.store.names frame ≡ Some noted-hits.name
+  noted-held = subst (λ (j : ℕ). name_at w.store.names j ≡ Some noted-hits.name) n.leads_there noted-hits.held
 
-pub frame-within : (w : World) (spaces : Spaces) (space q frame : ℕ) → Finds w spaces space q frame → frame < length w.store.frames
-frame-within w spaces space q frame f = subst (λ (j : ℕ). j < length w.store.frames) f.frame_is f.hit.within
+  pub noted-name : (o : Option PageName) (name : PageName) → o ≡ name_at w.store.names frame → o ≡ Some name → noted-hits.name ≡ name
+  noted-name o name e is = let both : Some noted-hits.name ≡ Some name = sym noted-held ∙ sym e ∙ is in cc
 
--- the name that the frame holds is the one that the page shows
-pub same-name : (w : World) (spaces : Spaces) (space q frame : ℕ) (f : Finds w spaces space q frame) (o : Option PageName) (name : PageName) → o ≡ name_at w.store.names frame → o ≡ Some name → f.hit.name ≡ name
-same-name w spaces space q frame f o name e is =
-    let both : Some f.hit.name ≡ Some name = sym f.hit.held ∙ ap (λ (j : ℕ). name_at w.store.names j) f.frame_is ∙ sym e ∙ is in cc
-
-pub not-nameless : (w : World) (spaces : Spaces) (space q frame : ℕ) (f : Finds w spaces space q frame) (o : Option PageName) → o ≡ name_at w.store.names frame → o ≡ None → ⊥
-not-nameless w spaces space q frame f o e is =
-    let both : Some f.hit.name ≡ None = sym f.hit.held ∙ ap (λ (j : ℕ). name_at w.store.names j) f.frame_is ∙ sym e ∙ is in cc
+  pub noted-named : (o : Option PageName) → o ≡ name_at w.store.names frame → o ≡ None → ⊥
+  noted-named o e is = let both : Some noted-hits.name ≡ None = sym noted-held ∙ sym e ∙ is in cc
 
 fits-access : (w : World) (store : StoreSeen) (spaces : Spaces) (write : Bool) (t : Translation) → TranslationFits store w.anon w.maps spaces t → TranslationFits store w.anon w.maps spaces (after_access write t)
 fits-access w store spaces write t l = record { spot = l.spot; here = l.here; name = l.name; shows = l.shows; home = l.home; unlisted = l.unlisted; allowed = l.allowed; writable = l.writable }
 
 -- AN ACCESS is noted.
-pub touch-keeps : (w : World) (spaces : Spaces) (hat : Pool) (space q : ℕ) (write : Bool) → MemoryFits (memory_of w spaces) → hat.places ≡ change_at space q (after_access write) w.hat.places → hat.frames ≡ w.hat.frames → IsSingleValued hat.places
+touch-keeps : (w : World) (spaces : Spaces) (hat : Pool) (space q : ℕ) (write : Bool) → MemoryFits (memory_of w spaces) → hat.places ≡ change_at space q (after_access write) w.hat.places → hat.frames ≡ w.hat.frames → IsSingleValued hat.places
     → KeepsPages w (with_tables w w.store hat) spaces
 touch-keeps w spaces hat space q write f places frames single =
     step-keeps w spaces w.store hat f
@@ -93,6 +83,20 @@ touch-keeps w spaces hat space q write f places frames single =
     (subst (λ (ps : List (Option Translation)). TranslationsFit w.store w.anon w.maps spaces ps) (sym places)
     (each-change_at (TranslationFits w.store w.anon w.maps spaces) space q (after_access write) w.hat.places (λ t l. fits-access w w.store spaces write t l) f.translations))
     (λ notes nf. values-same w.store notes (world_table w) nf.stored)
+
+pub note-keeps : (w : World) (spaces : Spaces) (hat : Pool) (space q : ℕ) (write : Bool) (o : Option ℕ) → MemoryFits (memory_of w spaces) → IfSome o (λ frame. hat.places ≡ change_at space q (after_access write) w.hat.places) → IfNone o (hat ≡ w.hat)
+    → hat.frames ≡ w.hat.frames → IsSingleValued hat.places → KeepsPages w (with_tables w w.store hat) spaces
+note-keeps w spaces hat space q write None f noted none frames single = subst (λ (h : Pool). KeepsPages w (with_tables w w.store h) spaces) (sym none) (keeps-same w spaces f)
+note-keeps w spaces hat space q write (Some frame) f noted none frames single = touch-keeps w spaces hat space q write f noted frames single
+
+-- A WORD IS READ.
+pub read-word : (w : World) (spaces : Spaces) (space a n word : ℕ) (t : Translation) (h : Hits w spaces space (page a) t) (bytes : List ℕ) → ((notes : Notes) → bytes ≡ value w.store notes (world_table w) h.name) → word ≡ word_at bytes a n
+    → ReadsWord w spaces space a n word
+read-word w spaces space a n word t h bytes is read = (
+  h.name,
+  h.shows,
+  λ notes. read ∙ ap (λ (b : List ℕ). word_at b a n) (is notes ∙ sym (value-is w notes h.name h.shows.is_page)),
+)
 
 -- what a poke that marks nothing leaves as it was
 record Alike (new s : StoreSeen) : Type 0 where
@@ -107,18 +111,15 @@ alike-in None s at from = record { core = refl; names = refl; rows = refl; free 
 alike-in (Some frame) s at from = record { core = refl; names = refl; rows = refl; free = refl; cached = refl }
 
 -- A WORD IS PUT: the access was noted first, so that the page is modified when its bytes change.
-pub write-word : (w : World) (spaces : Spaces) (new : StoreSeen) (hat : Pool) (space a n v : ℕ) (t : Translation) (h : Hits w spaces space (page a) t) → MemoryFits (memory_of w spaces) → at w.hat.places space (page a) ≡ Some t
-    → hat.places ≡ change_at space (page a) (after_access true) w.hat.places → hat.frames ≡ w.hat.frames → IsSingleValued hat.places
+pub write-word : (w : World) (spaces : Spaces) (new : StoreSeen) (space a n v : ℕ) (t : Translation) (h : Hits w spaces space (page a) t) → MemoryFits (memory_of w spaces) → HasWritten w.hat.places t.frame
     → new ≡ after_poke w.store h.name (a % 4096) (word_bytes n v) false → Pokes w.store new h.name (a % 4096) (word_bytes n v)
-    → WritesWord w (with_tables w new hat) spaces space a n v
-write-word w spaces new hat space a n v t h f is places frames single step laws =
+    → WritesWord w (with_tables w new w.hat) spaces space a n v
+write-word w spaces new space a n v t h f wrote step laws =
     let alike : Alike new w.store = subst (λ (x : StoreSeen). Alike x w.store) (sym step) (alike-in (find w.store.names h.name) w.store (a % 4096) (word_bytes n v)) in
     let row : (k : ℕ) → row_at new.rows k ≡ row_at w.store.rows k = λ k. ap (λ (rows : List Row). row_at rows k) alike.rows in
     let listed : (k : ℕ) → IsListedFrame new k → IsListedFrame w.store k = λ k l. elim l [ inl x ↦ inl (subst (λ (xs : List ℕ). Has xs k) alike.free x) | inr x ↦ inr (subst (λ (xs : List ℕ). Has xs k) alike.cached x) ] in
     let found : find w.store.names h.name ≡ Some t.frame = (home-is w.store h.name t.frame h.home).found in
-    let wrote : HasWritten hat.places t.frame = subst (λ (ps : List (Option Translation)). HasWritten ps t.frame) (sym places) (written-store w.hat.places space (page a) t is) in
-    let written : (k : ℕ) → HasWritten w.hat.places k → HasWritten hat.places k = λ k x. subst (λ (ps : List (Option Translation)). HasWritten ps k) (sym places) (written-access w.hat.places space (page a) true k x) in
-    let k : KeepsFrames w.store new w.hat.places hat.places = record {
+    let k : KeepsFrames w.store new w.hat.places w.hat.places = record {
       sound = laws.sound;
       core = alike.core;
       frames = laws.touches.frames;
@@ -127,17 +128,14 @@ write-word w spaces new hat space a n v t h f is places frames single step laws 
       rows = λ j. same-row (row_at w.store.rows j) (row_at new.rows j) (row j);
       unmodified = λ j l. ap (λ (r : Row). r.modified) (row j) ∙ f.frames.unmodified j (listed j l);
       residence = laws.residence;
-      modified = λ j m. elim m [ inl r ↦ inl (ap (λ (r : Row). r.modified) (row j) ∙ r) | inr x ↦ inr (written j x) ];
-      written = λ j x. inr (written j x);
+      modified = λ j m. elim m [ inl r ↦ inl (ap (λ (r : Row). r.modified) (row j) ∙ r) | inr x ↦ inr x ];
+      written = λ j x. inr x;
       bytes = λ j. elim (eqb_tells j t.frame) [
-        | inl same ↦ inr (subst (λ (i : ℕ). HasWritten hat.places i) (sym same.1) wrote)
+        | inl same ↦ inr (subst (λ (i : ℕ). HasWritten w.hat.places i) (sym same.1) wrote)
         | inr other ↦ inl (laws.touches.bytes j (ap (λ (o : Option ℕ). only o j) found ∙ other.0))
       ];
     } in
-    let translations : TranslationsFit new w.anon w.maps spaces hat.places =
-    subst (λ (ps : List (Option Translation)). TranslationsFit new w.anon w.maps spaces ps) (sym places)
-    (each-change_at (TranslationFits new w.anon w.maps spaces) space (page a) (after_access true) w.hat.places (λ u l. fits-access w new spaces true u l)
-    (λ i u there. translation-kept w.store new w.anon w.maps spaces u laws.residence (listed u.frame) (f.translations i u there))) in (
+    let translations : TranslationsFit new w.anon w.maps spaces w.hat.places = λ i u there. translation-kept w.store new w.anon w.maps spaces u laws.residence (listed u.frame) (f.translations i u there) in (
       h.name,
       h.shows,
       record {
@@ -145,11 +143,11 @@ write-word w spaces new hat space a n v t h f is places frames single step laws 
         core = alike.core;
         frames = laws.touches.frames;
         bays = laws.outside.bays;
-        memory = memory-kept w spaces new hat f k frames single translations;
-        notes = λ notes nf. notes-kept w spaces new hat notes f k (laws.others notes (world_table w) nf.stored).fits nf;
-        tells = λ notes nf. tell-kept w new hat notes (laws.others notes (world_table w) nf.stored).alike;
-        written = λ notes. value-is (with_tables w new hat) notes h.name h.shows.is_page ∙ laws.value notes (world_table w)
+        memory = memory-kept w spaces new w.hat f k refl f.pool.single translations;
+        notes = λ notes nf. notes-kept w spaces new w.hat notes f k (laws.others notes (world_table w) nf.stored).fits nf;
+        tells = λ notes nf. tell-kept w new w.hat notes (laws.others notes (world_table w) nf.stored).alike;
+        written = λ notes. value-is (with_tables w new w.hat) notes h.name h.shows.is_page ∙ laws.value notes (world_table w)
             ∙ ap (λ (bytes : List ℕ). spliced bytes (a % 4096) (word_bytes n v)) (sym (value-is w notes h.name h.shows.is_page));
-        others = λ notes m nf tell ne real. value-is (with_tables w new hat) notes m real ∙ (laws.others notes (world_table w) nf.stored).values m ne (tell m real) ∙ sym (value-is w notes m real);
+        others = λ notes m nf tell ne real. value-is (with_tables w new w.hat) notes m real ∙ (laws.others notes (world_table w) nf.stored).values m ne (tell m real) ∙ sym (value-is w notes m real);
       },
     )

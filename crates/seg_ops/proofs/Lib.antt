@@ -46,3 +46,5 @@ pub mod SlotDrops
 pub mod SlotRanges
 pub mod OwnPageLaws
 pub mod SlotTrialLemmas
+mod Besides
+pub mod OwnShown

@@ -19,12 +19,10 @@ use Rattle.flat_model.specs.Space.{in_range, without_range}
 use Rattle.flat_model.specs.Words.{Page, IsPage, pages_in}
 use Rattle.flat_model.proofs.Ranges.{get-insert_here, get-insert_apart, get-without_range, in_range-is, in_range-low, in_range-high}
 use Rattle.vm_types.specs.declared.call.Kind.TheVariants.{Shared, Private}
-use Rattle.vm_world.specs.CallSteps.{ChangesMemory}
 use Rattle.vm_world.specs.FlatMemory.{Memory, flat_memory, shape_of, file_with_pages, files_with_pages, pages_from}
 use Rattle.vm_world.specs.MemoryFits.{MemoryFits}
-use Rattle.vm_world.specs.NotesFit.{NotesFit}
 use Rattle.vm_world.specs.Pages.{page_value, contents_of}
-use Rattle.vm_world.specs.World.{file_name, AllTell}
+use Rattle.vm_world.specs.World.{file_name}
 use Rattle.vm_world.proofs.FilePages.{page-in, file-in}
 use Rattle.vm_world.proofs.FlatWhole.{some-inj}
 use Rattle.vm_world.proofs.PageNames.{not-slot, all-get, file-apart}
@@ -119,27 +117,5 @@ law-page m born notes f index fits flat lt below =
         ∙ ap (λ (j : ℕ). option_map (file_with_pages (page j)) (slice_get (shape_of m).files f)) z
         ∙ ap (option_map (file_with_pages (page f))) (slice_get-map (λ (v : VnodeSeen). v.info) m.world.files.files f ∙ ap (option_map (λ (v : VnodeSeen). v.info)) (slice_get-get_or m.world.files.files f no_vnode lt))
 
--- ONE CHANGE AFTER ANOTHER.
-pub law-joined : (p : ℕ) (u v w : Memory) (first second : Flat → Flat)
-    → ((born : set.FinSet nat_cmp) (notes : Notes) → NotesFit u.world notes → AllTell u.world notes → IsFlat (flat_memory u born notes) → IsFlat (first (flat_memory u born notes)))
-    → ChangesMemory p u v (λ F G. G ≡ first F) → ChangesMemory p v w (λ F G. G ≡ second F) → ChangesMemory p u w (λ F G. G ≡ second (first F))
-law-joined p u v w first second whole a b = record {
-  machine = record {
-    core = b.machine.core ∙ a.machine.core;
-    frames = b.machine.frames ∙ a.machine.frames;
-    slots = b.machine.slots ∙ a.machine.slots;
-    disks = b.machine.disks ∙ a.machine.disks;
-    modes = b.machine.modes ∙ a.machine.modes;
-    bays = b.machine.bays ∙ a.machine.bays;
-  };
-  others = λ r far. b.others r far ∙ a.others r far;
-  memory = b.memory;
-  notes = λ notes nf. b.notes notes (a.notes notes nf);
-  tells = λ notes nf. let one = a.tells notes nf in let two = b.tells notes (a.notes notes nf) in ((λ tell. two.0 (one.0 tell)), (λ tell. one.1 (two.1 tell)));
-  flat = λ born notes nf tell is.
-      let mid : flat_memory v born notes ≡ first (flat_memory u born notes) = a.flat born notes nf tell is in
-      b.flat born notes (a.notes notes nf) ((a.tells notes nf).0 tell) (subst IsFlat (sym mid) (whole born notes nf tell is)) ∙ ap second mid;
-}
-
 pub own_pages_law : OwnPagesLaw
-own_pages_law = record { lost = flat-unheld_all; got = law-got; removed = law-removed; page = law-page; joined = law-joined }
+own_pages_law = record { lost = flat-unheld_all; got = law-got; removed = law-removed; page = law-page }

@@ -79,7 +79,7 @@ twice m k v w = finite.same_map nat_cmp_total finite.nat_cmp-IsAntisymmetric _ _
   | inr ne ↦ get-insert_apart (finite.insert m k v) k w q ne ∙ get-insert_apart m k v q ne ∙ sym (get-insert_apart m k w q ne)
 ])
 
-cell-twice : (F : Flat) (p q : ℕ) (a b : Cell) → with_cell (with_cell F p q a) p q b ≡ with_cell F p q b
+pub cell-twice : (F : Flat) (p q : ℕ) (a b : Cell) → with_cell (with_cell F p q a) p q b ≡ with_cell F p q b
 cell-twice F p q a b =
     let s : Space = unwrap_or (space_of F p) finite.empty in
     let t : Space = finite.insert s q a in
@@ -96,7 +96,7 @@ cell-back F p q c is =
     ∙ ap (λ (x : Space). record F { spaces = finite.insert F.spaces p x }) (insert_same at.0 q c at.2)
     ∙ ap (λ x. record F { spaces = x }) (insert_same F.spaces p at.0 at.1)
 
-cell-here : (F : Flat) (p q : ℕ) (c : Cell) → cell_at (with_cell F p q c) p q ≡ Some c
+pub cell-here : (F : Flat) (p q : ℕ) (c : Cell) → cell_at (with_cell F p q c) p q ≡ Some c
 cell-here F p q c =
     let t : Space = finite.insert (unwrap_or (space_of F p) finite.empty) q c in
     ap (option_and_then (λ (s : Space). finite.get s q)) (get-insert_here F.spaces p t) ∙ get-insert_here (unwrap_or (space_of F p) finite.empty) q c

@@ -1,5 +1,5 @@
 -- TAILS THAT ARE PENDING, as bits of the files' numbers, and names that lose their frame.
-use Rattle.std.proofs.Common.{◌≡◌, ℕ, zero, suc, ◌*◌, ◌/◌, ◌%◌, ◌<◌, ◌==◌, Bool, Option, Some, None, refl, sym, ap, ◌∙◌, inl, inr, subst, w64}
+use Rattle.std.proofs.Common.{◌≡◌, ℕ, zero, suc, ◌*◌, ◌/◌, ◌%◌, ◌<◌, ◌==◌, Bool, List, Option, Some, None, refl, sym, ap, ◌∙◌, inl, inr, subst, w64}
 use Rattle.std.specs.Prelude.{◌^◌, ◌||◌, IfSome, IsTrue}
 use Rattle.std.specs.Int.{bit_at}
 use Rattle.std.specs.Int.Bits.{bit_or}
@@ -68,3 +68,8 @@ loses old new sound lost = by_frame (next_frame old.store) refl
     by_frame : (o : Option ℕ) → next_frame old.store ≡ o → IfSome (name_in old.store.names o) (λ name. LosesFrame old new name)
     by_frame None next = tt
     by_frame (Some frame) next = by_name frame (name_at old.store.names frame) next refl
+
+-- it lost it also as a step before that kept the names saw it
+pub lost-before : (o : Option PageName) (u v new : World) → v.store.names ≡ u.store.names → IfSome o (λ name. LosesFrame v new name) → IfSome o (λ name. LosesFrame u new name)
+lost-before None u v new names l = tt
+lost-before (Some name) u v new names l = record { frame = l.frame; held = ap (λ (ns : List (Option PageName)). name_at ns l.frame) (sym names) ∙ l.held; taken = l.taken }

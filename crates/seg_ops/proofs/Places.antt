@@ -4,7 +4,7 @@ use Rattle.std.specs.Prelude.{option_map, option_and_then, find, ◌&&◌, ◌||
 use Rattle.std.specs.List.{list_any}
 use Rattle.std.proofs.lemmas.Bool.{cases_Bool, eqb-true, eq-eqb}
 use Rattle.hat_layer.specs.declared.translation.Translation.{Translation}
-use Rattle.hat_layer.specs.Pool.{at, holds, leads, change_page, change_at, after_access, change_lead, drop_lead, change_frame, drop_frame, with_clear_bits, has_bit}
+use Rattle.hat_layer.specs.Pool.{IsNoted, at, holds, leads, change_page, change_at, after_access, change_lead, drop_lead, change_frame, drop_frame, with_clear_bits, has_bit}
 use Rattle.vm_world.specs.TranslationsFit.{HasWritten}
 use Rattle.seg_ops.specs.Steps.{IsUnwritten}
 
@@ -105,7 +105,7 @@ access-keeps : (b : Bool) (u : Translation) (write : Bool) → (x : Translation)
 access-keeps true u write = (after_access write u, refl, refl, λ h. or-left u.modified write h)
 access-keeps false u write = (u, refl, refl, λ h. h)
 
--- WHAT IS MODIFIED after an access: what was, and after a store its frame.
+-- WHAT IS MODIFIED after an access: what was, and the frame of a store that was noted.
 pub written-access : (places : List (Option Translation)) (space page : ℕ) (write : Bool) (frame : ℕ) → HasWritten places frame → HasWritten (change_at space page (after_access write) places) frame
 written-access places space page write frame w =
     let r = access-keeps (holds space page (Some w.translation)) w.translation write in
@@ -117,22 +117,10 @@ written-access places space page write frame w =
       modified = r.3 w.modified;
     }
 
-holds-is : (t : Translation) (space page : ℕ) → t.space ≡ space → t.page ≡ page → holds space page (Some t) ≡ true
-holds-is t space page a b = rw (a, b) (tests space page)
-  where
-    tests : (space page : ℕ) → ((space == space) && (page == page)) ≡ true
-    tests space page = rw (eq-eqb space space refl, eq-eqb page page refl) refl
-
-pub written-store : (places : List (Option Translation)) (space page : ℕ) (t : Translation) → at places space page ≡ Some t → HasWritten (change_at space page (after_access true) places) t.frame
-written-store places space page t h =
-    let s = stands-at places space page t h in
-    record {
-      place = s.place;
-      translation = after_access true t;
-      there = index-map (change_page space page (after_access true)) places s.place refl ∙ ap (change_page space page (after_access true)) s.there ∙ ap (λ b. cond b (Some (after_access true t)) (Some t)) (holds-is t space page s.space_is s.page_is);
-      leads = refl;
-      modified = or-right t.modified true refl;
-    }
+pub written-store : (places : List (Option Translation)) (space page frame : ℕ) → IsNoted places space page frame true → HasWritten places frame
+written-store places space page frame n =
+    let s = stands-at places space page n.entry n.there in
+    record { place = s.place; translation = n.entry; there = s.there; leads = n.leads_there; modified = n.modified refl }
 
 -- one place that passes the test is some place
 pub any-place : (W : Option Translation → Bool) (places : List (Option Translation)) (k : ℕ) (t : Translation) → slice_index_or places k None ≡ Some t → W (Some t) ≡ true → list_any W places ≡ true

@@ -7,7 +7,7 @@ use Rattle.page_hash.specs.Names.{find}
 use Rattle.page_hash.specs.declared.PageName.{PageName}
 use Rattle.page_lock.specs.Rows.{row_at}
 use Rattle.page_lock.specs.declared.Row.{Row}
-use Rattle.page_store.specs.Laws.{StaysInPlace}
+use Rattle.page_store.specs.Laws.{StaysInPlace, SameResidence}
 use Rattle.page_store.specs.Moves.{only}
 use Rattle.page_store.specs.Seen.{StoreSeen, IsListedFrame, residence}
 use Rattle.page_store.specs.Steps.{at_frame, after_reclaim}
@@ -17,6 +17,7 @@ use Rattle.page_store.proofs.QueryLemmas.{home-is, found-within}
 use Rattle.hat_layer.specs.Pool.{fresh_translation}
 use Rattle.vm_world.specs.MemoryFits.{MemoryFits}
 use Rattle.vm_world.specs.Segments.{Spaces}
+use Rattle.vm_world.specs.Serving.{ModifiesNone}
 use Rattle.vm_world.specs.TranslationsFit.{TranslationFits}
 use Rattle.vm_world.specs.World.{World, core_of, world_table}
 use Rattle.seg_ops.specs.Steps.{KeepsPages, MayShow}
@@ -89,3 +90,14 @@ shown-fits w new spaces p q name frame writable home unlisted m = record {
   allowed = m.allowed;
   writable = m.in_place;
 }
+
+-- no page is modified by it, and no frame gets another name or other bytes
+pub reclaim-names : (s new : StoreSeen) (name : PageName) → new ≡ after_reclaim s name → (new.names ≡ s.names) × (new.frames ≡ s.frames)
+reclaim-names s new name step = let a = subst (λ (x : StoreSeen). Alike x s) (sym step) (alike-in (find s.names name) s) in (a.names, a.frames)
+
+pub reclaim-modifies : (w : World) (new : StoreSeen) (name : PageName) → new ≡ after_reclaim w.store name → SameResidence w.store new → ModifiesNone w (with_tables w new w.hat)
+reclaim-modifies w new name step stay = λ n k home m.
+    let a = subst (λ (x : StoreSeen). Alike x w.store) (sym step) (alike-in (find w.store.names name) w.store) in (
+      sym (stay n) ∙ home,
+      elim m [ inl r ↦ inl (ap (λ (rows : List Row). (row_at rows k).modified) (sym a.rows) ∙ r) | inr x ↦ inr x ],
+    )

@@ -17,7 +17,7 @@ use Rattle.vm_world.specs.World.{World, slot_name, is_unpushed, page_exists, pag
 use Rattle.seg_ops.specs.Empties.{LeavesSlot, EmptiesPlace}
 use Rattle.seg_ops.specs.Slots.{OwnsAlone}
 use Rattle.seg_ops.proofs.Marks.{cases-name}
-use Rattle.seg_ops.proofs.SlotLeaves.{existed, exists-else, table-left, page-name-left, own-unloaded, left-shown, left-writable}
+use Rattle.seg_ops.proofs.SlotLeaves.{exists-else, table-left, page-name-left, own-unloaded, left-shown, left-writable}
 use Rattle.seg_ops.proofs.SlotMemory.{with_slot, lt-used, segments-set}
 use Rattle.seg_ops.proofs.StillSteps.{memory_of}
 

@@ -61,13 +61,13 @@ pub places-after : (maps : List (Option Map)) (m : ℕ) (a : List (Option ℕ)) 
 places-after maps m a lt = ap (λ (o : Option Map). (unwrap_or o (record { places = []; holders = 0 })).places) (get_or-set_same maps m (Some (record (the_map maps m) { places = a })) None lt)
 
 -- a place that is set twice
-set_twice : {X : Type 0} (xs : List X) (i : ℕ) (a b : X) → slice_set (slice_set xs i a) i b ≡ slice_set xs i b
+pub set_twice : {X : Type 0} (xs : List X) (i : ℕ) (a b : X) → slice_set (slice_set xs i a) i b ≡ slice_set xs i b
 set_twice [] i a b = refl
 set_twice (x ∷ xs) zero a b = refl
 set_twice (x ∷ xs) (suc i) a b = ap (λ l. x ∷ l) (set_twice xs i a b)
 
 -- a place that holds what it held
-set_same : {X : Type 0} (xs : List X) (i : ℕ) (d : X) → slice_set xs i (slice_index_or xs i d) ≡ xs
+pub set_same : {X : Type 0} (xs : List X) (i : ℕ) (d : X) → slice_set xs i (slice_index_or xs i d) ≡ xs
 set_same [] i d = refl
 set_same (x ∷ xs) zero d = refl
 set_same (x ∷ xs) (suc i) d = ap (λ l. x ∷ l) (set_same xs i d)
@@ -106,7 +106,7 @@ pub record StaysShown (maps put : List (Option Map)) (x : Spot) (n : PageName) :
   pub shows : shown_name put x ≡ Some n
   pub own : own_slot put x ≡ own_slot maps x
 
-own-else : (maps : List (Option Map)) (m i j : ℕ) (o : Option ℕ) (own : Option ℕ) → i < length (places_of maps m) → (own ≡ Some m → j ≡ i → ⊥)
+pub own-else : (maps : List (Option Map)) (m i j : ℕ) (o : Option ℕ) (own : Option ℕ) → i < length (places_of maps m) → (own ≡ Some m → j ≡ i → ⊥)
     → option_and_then (λ k. slot_in (with_places maps m (slice_set (places_of maps m) i o)) k j) own ≡ option_and_then (λ k. slot_in maps k j) own
 own-else maps m i j o None lt apart = refl
 own-else maps m i j o (Some k) lt apart = slot-else maps m i k j o lt (λ e. apart (ap (λ (a : ℕ). Some a) e.0) e.1)

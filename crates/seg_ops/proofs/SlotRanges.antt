@@ -93,4 +93,4 @@ owns-next places new spaces p first m from n j f o lt = places_law.alone (memory
 -- ONE CHANGE MORE.
 pub changes-more : (p first j : ℕ) (u v w : Memory) → ChangesMemory p u v (λ F G. G ≡ without_own_pages F p first j) → ChangesMemory p v w (λ F G. G ≡ without_own_page F p (first + j))
     → ChangesMemory p u w (λ F G. G ≡ without_own_pages F p first (suc j))
-changes-more p first j u v w a b = call_rule.joined p u v w (λ F. without_own_pages F p first j) (λ F. without_own_page F p (first + j)) (λ F flat. flat-unheld_all F p first j flat) a b
+changes-more p first j u v w a b = call_rule.joined p u v w (λ F. without_own_pages F p first j) (λ F. without_own_page F p (first + j)) (λ born notes nf tell flat. flat-unheld_all (flat_memory u born notes) p first j flat) a b

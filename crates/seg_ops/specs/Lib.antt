@@ -7,3 +7,4 @@ pub mod Slots
 pub mod Empties
 pub mod OwnPages
 pub mod SlotTrials
+pub mod Rooms

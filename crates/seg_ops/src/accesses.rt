@@ -1,8 +1,7 @@
-//! Words through translations: the hot path. An access is one look for the translation and one word.
-ghost use Rattle.std.specs.Prelude.{◌≡◌, ℕ, ◌%◌, true, false, Some, IsSome};
+//! Words through translations: the hot path. An access is one look for the translation, in which it is noted, and one word.
+ghost use Rattle.std.specs.Prelude.{◌≡◌, ℕ, ◌%◌, true, false, IfSome, IfNone};
 ghost use Rattle.flat_model.specs.Words.{page};
-ghost use Rattle.hat_layer.specs.Pool.{at, after_access, change_at};
-ghost use Rattle.hat_layer.specs.declared.translation.Translation.{Translation};
+ghost use Rattle.hat_layer.specs.Pool.{IsNoted, frame_for, after_access, change_at};
 ghost use Rattle.page_store.specs.Laws.{SameResidence};
 ghost use Rattle.vm_types.specs.Words.{IsWordSize, FitsWord};
 ghost use Rattle.vm_world.specs.MemoryFits.{MemoryFits};
@@ -15,61 +14,60 @@ use flat_model::word_in;
 use vm_types::word_bytes;
 use vm_world::World;
 
-/// The word at an address whose page has a translation. The access is noted. Constant expected time.
-pub fn read<D: Disk>(world: &mut World<D>, space: u32, addr: u32, size: u32) -> u32
-    requires size { IsWordSize size }
-    requires aligned { addr % size ≡ 0 }
-    requires loaded { IsSome (at world.old.hat.places space (page addr)) }
-    requires fits { (spaces : Spaces)
-        × MemoryFits (record { world = world_seen world.old; spaces = spaces }) }
-    ensures reads { (spaces : Spaces)
-        → MemoryFits (record { world = world_seen world.old; spaces = spaces })
-        → ReadsWord (world_seen world.old) spaces space addr size result }
-    // The translation stays, and says that it was used.
-    ensures noted { world.new.hat.places
-        ≡ change_at space (page addr) (after_access false) world.old.hat.places }
+/// Notes an access to a page, and answers the frame that it goes to: where the page has a translation that lets it. None
+/// exactly otherwise. Constant expected time: one look for the translation.
+pub fn note<D: Disk>(world: &mut World<D>, space: u32, page: u32, write: bool) -> Option<u32>
+    ensures frame { result ≡ frame_for world.old.hat.places space page write }
+    // The translation stays, and says that it was used, and written by a store; ..
+    ensures places { IfSome result (λ _frame. world.new.hat.places
+        ≡ change_at space page (after_access write) world.old.hat.places) }
+    ensures noted { IfSome result (λ frame. IsNoted world.new.hat.places space page frame write) }
+    // .. or nothing changes.
+    ensures none { IfNone result (world.new ≡ world.old) }
     // What stays.
     ensures rest { world.new ≡ record world.old { hat = world.new.hat } }
     ensures keeps { (spaces : Spaces)
         → MemoryFits (record { world = world_seen world.old; spaces = spaces })
         → KeepsPages (world_seen world.old) (world_seen world.new) spaces }
 {
-    let page = addr / 4096;
-    let Some((frame, _writable)) = world.hat.find(space, page) else {
-        unreachable!();
-    };
-    world.hat.touch(space, page, false);
+    world.hat.access(space, page, write)
+}
+
+/// The word at an address of a load that was noted, in the frame that the load goes to. Constant expected time.
+pub fn read<D: Disk>(world: &World<D>, frame: u32, addr: u32, size: u32) -> u32
+    requires size { IsWordSize size }
+    requires aligned { addr % size ≡ 0 }
+    requires noted { (space : ℕ) × IsNoted world.now.hat.places space (page addr) frame false }
+    requires fits { (spaces : Spaces)
+        × MemoryFits (record { world = world_seen world.now; spaces = spaces }) }
+    ensures { (spaces : Spaces) (space : ℕ)
+        → MemoryFits (record { world = world_seen world.now; spaces = spaces })
+        → IsNoted world.now.hat.places space (page addr) frame false
+        → ReadsWord (world_seen world.now) spaces space addr size result }
+{
     let Some(name) = world.store.name_of(frame) else {
         unreachable!();
     };
     word_in(world.store.bytes(name), addr, size)
 }
 
-/// Puts a word at an address whose page has a writable translation. The access is noted first, so that the page is
-/// modified when its bytes change. Constant expected time.
-pub fn write<D: Disk>(world: &mut World<D>, space: u32, addr: u32, size: u32, value: u32)
+/// Puts a word at an address of a store that was noted, into the frame that the store goes to: so the page is modified
+/// when its bytes change. Constant expected time.
+pub fn write<D: Disk>(world: &mut World<D>, frame: u32, addr: u32, size: u32, value: u32)
     requires size { IsWordSize size }
     requires word { FitsWord size value }
     requires aligned { addr % size ≡ 0 }
-    requires loaded { (t : Translation) × (at world.old.hat.places space (page addr) ≡ Some t)
-        × (t.writable ≡ true) }
+    requires noted { (space : ℕ) × IsNoted world.old.hat.places space (page addr) frame true }
     requires fits { (spaces : Spaces)
         × MemoryFits (record { world = world_seen world.old; spaces = spaces }) }
-    ensures writes { (spaces : Spaces)
+    ensures writes { (spaces : Spaces) (space : ℕ)
         → MemoryFits (record { world = world_seen world.old; spaces = spaces })
+        → IsNoted world.old.hat.places space (page addr) frame true
         → WritesWord (world_seen world.old) (world_seen world.new) spaces space addr size value }
-    // The translation stays, and says that it was used and written.
-    ensures noted { world.new.hat.places
-        ≡ change_at space (page addr) (after_access true) world.old.hat.places }
     // What stays.
-    ensures rest { world.new ≡ record world.old { store = world.new.store; hat = world.new.hat } }
+    ensures rest { world.new ≡ record world.old { store = world.new.store } }
     ensures stay { SameResidence world.old.store world.new.store }
 {
-    let page = addr / 4096;
-    let Some((frame, _writable)) = world.hat.find(space, page) else {
-        unreachable!();
-    };
-    world.hat.touch(space, page, true);
     let Some(name) = world.store.name_of(frame) else {
         unreachable!();
     };

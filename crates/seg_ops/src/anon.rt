@@ -6,7 +6,7 @@ ghost use Rattle.page_hash.specs.Names.{find, is_name};
 ghost use Rattle.page_store.specs.Seen.{IsListedFrame, residence};
 ghost use Rattle.page_store.specs.Steps.{next_frame, next_name, after_fill, home_bytes};
 ghost use Rattle.anon_map.specs.Maps.{IsMapThere, places_of, with_places};
-ghost use Rattle.anon_slots.specs.Slots.{with_new_slot};
+ghost use Rattle.anon_slots.specs.Slots.{count_at, with_new_slot};
 ghost use Rattle.flat_model.specs.Step.{tails_cleared};
 ghost use Rattle.vm_world.specs.CallSteps.{ChangesMemory};
 ghost use Rattle.vm_world.specs.MemoryFits.{MemoryFits};
@@ -22,8 +22,8 @@ use block_device::Disk;
 use page_store::{PageName, Residence, SWAP_OBJECT};
 use vm_world::World;
 
-/// Makes a slot with a page of zeros for an empty place of an anon map: one of new zero memory, or of a zero object. The
-/// name that the next frame held is cut at its valid bytes. Time: one page, and as `AnonSlots::make`.
+/// Makes a slot with a page of zeros for an empty place of an anon map: one of new zero memory, of a zero object, or of a
+/// private page that has no translation. The name that the next frame held is cut at its valid bytes. Time: one page, and as `AnonSlots::make`.
 pub fn make_zero<D: Disk>(world: &mut World<D>, map: u32, place: u32) -> u32
     requires there { IsMapThere world.old.maps map }
     requires within { place < length (places_of world.old.maps map) }
@@ -40,6 +40,7 @@ pub fn make_zero<D: Disk>(world: &mut World<D>, map: u32, place: u32) -> u32
         (λ frame. residence world.new.store (slot_name result) ≡ Residence.Home frame) }
     ensures unlisted { IfSome (next_frame world.old.store)
         (λ frame. ¬ IsListedFrame world.new.store frame) }
+    ensures once { count_at world.new.anon result ≡ 1 }
     // The tail of the file whose last page lost the frame is pending.
     ensures pends { PendsTails (world_seen world.old) (is_name (next_name world.old.store))
         world.old.pending world.new.pending }
@@ -64,6 +65,14 @@ pub fn make_zero<D: Disk>(world: &mut World<D>, map: u32, place: u32) -> u32
         → ChangesMemory p (record { world = world_seen world.old; spaces = spaces })
         (record { world = world_seen world.new; spaces = spaces })
         (λ F G. G ≡ tails_cleared F
+        (tails_lost (world_seen world.old) (is_name (next_name world.old.store)))) }
+    // Where the place is a private page's, without a translation, that gets a page of zeros of its own.
+    ensures owned { (spaces : Spaces) (p q : ℕ) (x : Spot)
+        → MemoryFits (record { world = world_seen world.old; spaces = spaces })
+        → OwnsAlone spaces p q map place x → at world.old.hat.places p q ≡ None
+        → ChangesMemory p (record { world = world_seen world.old; spaces = spaces })
+        (record { world = world_seen world.new; spaces = spaces })
+        (λ F G. G ≡ tails_cleared (with_own_page F p q zeros)
         (tails_lost (world_seen world.old) (is_name (next_name world.old.store)))) }
 {
     let lost = world.store.next_name();
@@ -99,6 +108,7 @@ pub fn make_copy<D: Disk>(world: &mut World<D>, from: PageName, map: u32, place:
         (λ frame. residence world.new.store (slot_name result) ≡ Residence.Home frame) }
     ensures unlisted { IfSome (next_frame world.old.store)
         (λ frame. ¬ IsListedFrame world.new.store frame) }
+    ensures once { count_at world.new.anon result ≡ 1 }
     // The tail of the file whose last page lost the frame is pending.
     ensures pends { PendsTails (world_seen world.old) (is_name (next_name world.old.store))
         world.old.pending world.new.pending }

@@ -1,5 +1,5 @@
-//! A page of a file that was never written: a frame of zeros.
-ghost use Rattle.std.specs.Prelude.{◌≡◌, ◌<◌, ℕ, length, false, IsSome, IsTrue, IfSome};
+//! A page that was never pushed: a frame of zeros.
+ghost use Rattle.std.specs.Prelude.{◌≡◌, ◌<◌, ◌==◌, ℕ, length, false, IsSome, IsTrue, IfSome};
 ghost use Rattle.core_arena.specs.Bytes.{zeros};
 ghost use Rattle.page_hash.specs.Names.{is_name};
 ghost use Rattle.page_store.specs.Seen.{IsListedFrame, residence};
@@ -15,6 +15,38 @@ use crate::tails::pend_tail;
 use block_device::Disk;
 use page_store::{PageName, Residence};
 use vm_world::World;
+
+/// Takes a frame for a page that exists and was never pushed: zeros, modified where it is a slot's. The name that the frame held is cut at its valid bytes. Time: one page.
+pub fn fill_page<D: Disk>(world: &mut World<D>, name: PageName)
+    requires exists { IsTrue (page_exists world.old.files world.old.anon name) }
+    requires blank { IsTrue (is_unpushed world.old.files world.old.anon name) }
+    requires absent { residence world.old.store name ≡ Residence.Absent }
+    requires available { IsSome (next_frame world.old.store) }
+    requires fits { (spaces : Spaces)
+        × MemoryFits (record { world = world_seen world.old; spaces = spaces }) }
+    // The page is home, in the frame that was taken.
+    ensures store { world.new.store ≡ after_fill world.old.store name zeros (name.object == 64) }
+    ensures home { IfSome (next_frame world.old.store)
+        (λ frame. residence world.new.store name ≡ Residence.Home frame) }
+    ensures unlisted { IfSome (next_frame world.old.store)
+        (λ frame. ¬ IsListedFrame world.new.store frame) }
+    // The tail of the file whose last page lost the frame is pending.
+    ensures pends { PendsTails (world_seen world.old) (is_name (next_name world.old.store))
+        world.old.pending world.new.pending }
+    ensures took { IfSome (next_name world.old.store)
+        (λ name. LosesFrame (world_seen world.old) (world_seen world.new) name) }
+    // What stays.
+    ensures rest { world.new
+        ≡ record world.old { store = world.new.store; pending = world.new.pending } }
+    ensures step { (spaces : Spaces)
+        → MemoryFits (record { world = world_seen world.old; spaces = spaces })
+        → WorldStep (world_seen world.old) (world_seen world.new) spaces stays
+        (is_name (next_name world.old.store)) }
+{
+    let lost = world.store.next_name();
+    world.store.fill_zero(name);
+    pend_tail(world, lost);
+}
 
 /// Takes a frame for a blank page of a file. The name that the frame held is cut at its valid bytes. Time: one page.
 pub fn fill<D: Disk>(world: &mut World<D>, file: u32, page: u32)
@@ -44,7 +76,5 @@ pub fn fill<D: Disk>(world: &mut World<D>, file: u32, page: u32)
         → WorldStep (world_seen world.old) (world_seen world.new) spaces stays
         (is_name (next_name world.old.store)) }
 {
-    let lost = world.store.next_name();
-    world.store.fill_zero(PageName { object: file, page });
-    pend_tail(world, lost);
+    fill_page(world, PageName { object: file, page });
 }

@@ -1,5 +1,6 @@
 //! A page of anonymous memory that other places hold too is copied before it is written.
-ghost use Rattle.std.specs.Prelude.{◌≡◌, ◌<◌, ◌-◌, ℕ, length, true, Some, None, IsSome, IfSome, slice_set};
+ghost use Rattle.std.specs.Prelude.{◌≡◌, ◌<◌, ◌-◌, ℕ, length, true, Some, None, IsSome, IsTrue, IfSome, slice_set};
+ghost use Rattle.core_arena.specs.Bytes.{zeros};
 ghost use Rattle.hat_layer.specs.Pool.{at};
 ghost use Rattle.page_hash.specs.Names.{find, is_name};
 ghost use Rattle.page_store.specs.Seen.{IsListedFrame, residence};
@@ -12,11 +13,11 @@ ghost use Rattle.vm_world.specs.MemoryFits.{MemoryFits};
 ghost use Rattle.vm_world.specs.Segments.{Spaces, Spot};
 ghost use Rattle.vm_world.specs.Serving.{LosesFrame};
 ghost use Rattle.vm_world.specs.StateSteps.{PendsTails};
-ghost use Rattle.vm_world.specs.World.{world_seen, slot_name, slot_in};
+ghost use Rattle.vm_world.specs.World.{world_seen, slot_name, slot_in, is_unpushed};
 ghost use Rattle.vm_world.specs.WorldSteps.{tails_lost};
 ghost use Rattle.seg_ops.specs.Slots.{OwnsAlone};
 
-use crate::anon::make_copy;
+use crate::anon::{make_copy, make_zero};
 use crate::empties::leave_slot;
 use block_device::Disk;
 use page_store::{PageName, Residence, SWAP_OBJECT};
@@ -48,6 +49,7 @@ pub fn copy_slot<D: Disk>(world: &mut World<D>, map: u32, place: u32, slot: u32)
         (λ frame. residence world.new.store (slot_name result) ≡ Residence.Home frame) }
     ensures unlisted { IfSome (next_frame world.old.store)
         (λ frame. ¬ IsListedFrame world.new.store frame) }
+    ensures once { count_at world.new.anon result ≡ 1 }
     // The tail of the file whose last page lost the frame is pending.
     ensures pends { PendsTails (world_seen world.old) (is_name (next_name world.old.store))
         world.old.pending world.new.pending }
@@ -79,4 +81,54 @@ pub fn copy_slot<D: Disk>(world: &mut World<D>, map: u32, place: u32, slot: u32)
         map,
         place,
     )
+}
+
+/// Gives a place of a private mapping's map, whose slot other places hold too, a slot of its own with a page of zeros,
+/// where that slot's page is zeros that no frame holds. The page that the place is for has no translation. The name that
+/// the next frame held is cut at its valid bytes. Time: one page, and as `AnonSlots::make`.
+pub fn zero_slot<D: Disk>(world: &mut World<D>, map: u32, place: u32, slot: u32) -> u32
+    requires there { IsMapThere world.old.maps map }
+    requires within { place < length (places_of world.old.maps map) }
+    requires holds { slot_in world.old.maps map place ≡ Some slot }
+    requires shared { 1 < count_at world.old.anon slot }
+    requires absent { residence world.old.store (slot_name slot) ≡ Residence.Absent }
+    requires blank { IsTrue (is_unpushed world.old.files world.old.anon (slot_name slot)) }
+    requires available { IsSome (next_frame world.old.store) }
+    requires owned { (spaces : Spaces) × (p : ℕ) × (q : ℕ) × (x : Spot)
+        × MemoryFits (record { world = world_seen world.old; spaces = spaces })
+        × OwnsAlone spaces p q map place x × (at world.old.hat.places p q ≡ None) }
+    // The old slot is counted once less, the new one is made for the place, and its page is home, in the frame that was taken.
+    ensures anon { world.new.anon ≡ with_new_slot
+        (with_count world.old.anon slot (count_at world.old.anon slot - 1)) result }
+    ensures maps { world.new.maps ≡ with_places world.old.maps map
+        (slice_set (places_of world.old.maps map) place (Some result)) }
+    ensures store { world.new.store ≡ after_fill world.old.store (slot_name result) zeros true }
+    ensures home { IfSome (next_frame world.old.store)
+        (λ frame. residence world.new.store (slot_name result) ≡ Residence.Home frame) }
+    ensures unlisted { IfSome (next_frame world.old.store)
+        (λ frame. ¬ IsListedFrame world.new.store frame) }
+    ensures once { count_at world.new.anon result ≡ 1 }
+    // The tail of the file whose last page lost the frame is pending.
+    ensures pends { PendsTails (world_seen world.old) (is_name (next_name world.old.store))
+        world.old.pending world.new.pending }
+    ensures took { IfSome (next_name world.old.store)
+        (λ name. LosesFrame (world_seen world.old) (world_seen world.new) name) }
+    // What stays.
+    ensures rest { world.new ≡ record world.old {
+      store = world.new.store;
+      anon = world.new.anon;
+      maps = world.new.maps;
+      pending = world.new.pending;
+    } }
+    // Flat memory loses that tail, and nothing else changes.
+    ensures changes { (spaces : Spaces) (p q : ℕ) (x : Spot)
+        → MemoryFits (record { world = world_seen world.old; spaces = spaces })
+        → OwnsAlone spaces p q map place x → at world.old.hat.places p q ≡ None
+        → ChangesMemory p (record { world = world_seen world.old; spaces = spaces })
+        (record { world = world_seen world.new; spaces = spaces })
+        (λ F G. G ≡ tails_cleared F
+        (tails_lost (world_seen world.old) (is_name (next_name world.old.store)))) }
+{
+    leave_slot(world, map, place, slot);
+    make_zero(world, map, place)
 }

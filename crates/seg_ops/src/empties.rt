@@ -11,7 +11,7 @@ ghost use Rattle.vm_world.specs.MemoryFits.{MemoryFits};
 ghost use Rattle.vm_world.specs.Segments.{Spaces, Spot};
 ghost use Rattle.vm_world.specs.World.{world_seen, slot_name, slot_in};
 ghost use Rattle.seg_ops.specs.Empties.{EmptiesPlace, LeavesSlot};
-ghost use Rattle.seg_ops.specs.OwnPages.{OwnPagesLaw, without_own_page};
+ghost use Rattle.seg_ops.specs.OwnPages.{OwnPagesLaw, OwnShownLaw, without_own_page};
 ghost use Rattle.seg_ops.specs.Slots.{OwnsAlone};
 
 use block_device::Disk;
@@ -120,4 +120,10 @@ pub fn drop_slot<D: Disk>(world: &mut World<D>, map: u32, place: u32, slot: u32)
 #[tactic(auto, using(crate::proofs::OwnPageLaws::own_pages_law))]
 pub fn own_pages_law()
     ensures { OwnPagesLaw }
+{}
+
+/// Flat memory as a private cell gets the page that it shows.
+#[tactic(auto, using(crate::proofs::OwnShown::own_shown_law))]
+pub fn own_shown_law()
+    ensures { OwnShownLaw }
 {}

@@ -1,7 +1,9 @@
 //! A frame is freed before it is taken for an anonymous page.
 ghost use Rattle.std.specs.Prelude.{◌≡◌, ℕ, None, IfSome, MatchOption};
 ghost use Rattle.page_hash.specs.Names.{is_name};
+ghost use Rattle.page_hash.specs.declared.PageName.{PageName};
 ghost use Rattle.page_store.specs.Laws.{Aborts};
+ghost use Rattle.page_store.specs.Seen.{IsListedFrame, residence};
 ghost use Rattle.page_store.specs.Steps.{next_frame, next_name, after_abort};
 ghost use Rattle.vm_world.specs.MemoryFits.{MemoryFits};
 ghost use Rattle.vm_world.specs.Segments.{Spaces};
@@ -12,7 +14,7 @@ ghost use Rattle.vm_world.specs.WorldSteps.{WorldStep, stays};
 
 use crate::tails::pend_tail;
 use block_device::Disk;
-use page_store::{PageName, Store};
+use page_store::{PageName, Residence, Store};
 use vm_world::World;
 
 /// Gives up a page, where there is one to give up.
@@ -40,7 +42,16 @@ pub fn free_next<D: Disk>(world: &mut World<D>)
         world.old.pending world.new.pending }
     ensures took { IfSome (next_name world.old.store)
         (λ name. LosesFrame (world_seen world.old) (world_seen world.new) name) }
-    // What stays.
+    // What stays: each page that is home in a frame on no list is there, and the frame is on none; and no page comes home.
+    ensures homes { (page : PageName) (frame : ℕ)
+        → residence world.old.store page ≡ Residence.Home frame
+        → ¬ IsListedFrame world.old.store frame
+        → residence world.new.store page ≡ Residence.Home frame }
+    ensures absent { (page : PageName)
+        → residence world.old.store page ≡ Residence.Absent
+        → residence world.new.store page ≡ Residence.Absent }
+    ensures lists { (frame : ℕ) → IsListedFrame world.new.store frame
+        → IsListedFrame world.old.store frame }
     ensures rest { world.new
         ≡ record world.old { store = world.new.store; pending = world.new.pending } }
     ensures step { (spaces : Spaces)

@@ -3,10 +3,11 @@ ghost use Rattle.std.specs.Prelude.{◌≡◌, ℕ, ◌<◌, false, length, Some
 ghost use Rattle.hat_layer.specs.Pool.{at, is_of, holds, told_of, fresh_translation, dropped_by_load};
 ghost use Rattle.page_hash.specs.declared.PageName.{PageName};
 ghost use Rattle.page_store.specs.Laws.{SameResidence};
-ghost use Rattle.page_store.specs.Seen.{residence};
+ghost use Rattle.page_store.specs.Seen.{IsListedFrame, residence};
 ghost use Rattle.page_store.specs.Steps.{after_reclaim};
 ghost use Rattle.vm_world.specs.MemoryFits.{MemoryFits};
 ghost use Rattle.vm_world.specs.Segments.{Spaces};
+ghost use Rattle.vm_world.specs.Serving.{ModifiesNone};
 ghost use Rattle.vm_world.specs.TranslationsFit.{TranslationFits};
 ghost use Rattle.vm_world.specs.World.{world_seen};
 ghost use Rattle.seg_ops.specs.Steps.{KeepsPages, MayShow, with_dropped_gathered};
@@ -73,4 +74,26 @@ pub fn show<D: Disk>(
 {
     world.store.reclaim(name);
     install(world, space, page, frame, writable);
+}
+
+/// Takes the frame of a page that is home off the cache list, where it is there, so that it isn't taken for another page.
+/// Constant expected time.
+pub fn take_back<D: Disk>(world: &mut World<D>, page: PageName, frame: u32)
+    requires home { residence world.old.store page ≡ Residence.Home frame }
+    requires fits { (spaces : Spaces)
+        × MemoryFits (record { world = world_seen world.old; spaces = spaces }) }
+    ensures store { world.new.store ≡ after_reclaim world.old.store page }
+    ensures unlisted { ¬ IsListedFrame world.new.store frame }
+    // What stays.
+    ensures rest { world.new ≡ record world.old { store = world.new.store } }
+    ensures stay { SameResidence world.old.store world.new.store }
+    ensures frames { world.new.store.frames ≡ world.old.store.frames }
+    ensures names { world.new.store.names ≡ world.old.store.names }
+    ensures modified { ModifiesNone (world_seen world.old) (world_seen world.new) }
+    ensures keeps { (spaces : Spaces)
+        → MemoryFits (record { world = world_seen world.old; spaces = spaces })
+        → KeepsPages (world_seen world.old) (world_seen world.new) spaces }
+{
+    let _frame = frame;
+    world.store.reclaim(page);
 }

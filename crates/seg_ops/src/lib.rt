@@ -17,19 +17,19 @@ mod rooms;
 mod tables;
 mod tails;
 
-pub use accesses::{read, write};
+pub use accesses::{note, read, write};
 pub use anon::{make_copy, make_zero, places_law};
-pub use blank::fill;
-pub use copies::copy_slot;
+pub use blank::{fill, fill_page};
+pub use copies::{copy_slot, zero_slot};
 pub use drops::drop_translation;
-pub use empties::{drop_slot, leave_slot, own_pages_law};
+pub use empties::{drop_slot, leave_slot, own_pages_law, own_shown_law};
 pub use flights::{begin_push, begin_read, mark_pushed};
 pub use frees::free_next;
-pub use installs::{install, show};
+pub use installs::{install, show, take_back};
 pub use landings::end_flight;
 pub use plans::{Step, ask, fetch};
 pub use ranges::drop_places;
-pub use rooms::{evict, make_room, sync};
+pub use rooms::{evict, make_room, make_room_beside, sync};
 
 #[cfg(test)]
 mod slot_tests;

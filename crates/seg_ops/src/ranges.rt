@@ -1,7 +1,10 @@
 //! Ranges of places of anon maps that are emptied.
 ghost use Rattle.std.specs.Prelude.{◌≡◌, ◌<◌, ◌≤◌, ◌-◌, ℕ, length, None, slice_set};
 ghost use Rattle.hat_layer.specs.Pool.{at};
+ghost use Rattle.page_hash.specs.declared.PageName.{PageName};
+ghost use Rattle.page_store.specs.Seen.{residence};
 ghost use Rattle.anon_map.specs.Maps.{IsMapThere, places_of, with_places};
+ghost use Rattle.anon_slots.specs.Slots.{count_at};
 ghost use Rattle.vm_world.specs.CallSteps.{ChangesMemory};
 ghost use Rattle.vm_world.specs.MemoryFits.{MemoryFits};
 ghost use Rattle.vm_world.specs.Segments.{Spaces, Spot};
@@ -24,7 +27,12 @@ fn empty_place<D: Disk>(world: &mut World<D>, map: u32, place: u32)
     ensures maps { world.new.maps ≡ with_places world.old.maps map
         (slice_set (places_of world.old.maps map) place None) }
     ensures reserved { world.new.anon.reserved ≡ world.old.anon.reserved }
-    // What stays.
+    // No slot is counted more often.
+    ensures fall { (slot : ℕ) → count_at world.new.anon slot ≤ count_at world.old.anon slot }
+    // What stays: each page of a file, and that of each slot that is still held, is where it was.
+    ensures stay { (name : PageName)
+        → (name.object ≡ 64 → 0 < count_at world.new.anon name.page)
+        → residence world.new.store name ≡ residence world.old.store name }
     ensures rest { world.new ≡ record world.old {
       store = world.new.store;
       anon = world.new.anon;
@@ -61,7 +69,12 @@ pub fn drop_places<D: Disk>(world: &mut World<D>, map: u32, from: u32, end: u32)
     ensures maps { world.new.maps ≡ with_places world.old.maps map
         (places_emptied (places_of world.old.maps map) from (end - from)) }
     ensures reserved { world.new.anon.reserved ≡ world.old.anon.reserved }
-    // What stays.
+    // No slot is counted more often.
+    ensures fall { (slot : ℕ) → count_at world.new.anon slot ≤ count_at world.old.anon slot }
+    // What stays: each page of a file, and that of each slot that is still held, is where it was.
+    ensures stay { (name : PageName)
+        → (name.object ≡ 64 → 0 < count_at world.new.anon name.page)
+        → residence world.new.store name ≡ residence world.old.store name }
     ensures rest { world.new ≡ record world.old {
       store = world.new.store;
       anon = world.new.anon;

@@ -1,11 +1,11 @@
 //! Room for another page: a victim's bits are gathered, and it is released where it is clean.
-ghost use Rattle.std.specs.Prelude.{◌≡◌, ℕ, ◌<◌, ◌++◌, ◌∷◌, [], length, false, Some, None, IsSome, MatchOption};
+ghost use Rattle.std.specs.Prelude.{◌≡◌, ◌≢◌, ℕ, ◌<◌, ◌++◌, ◌∷◌, [], length, false, Some, None, IsSome, IfSome, MatchOption};
 ghost use Rattle.core_arena.specs.Bytes.{bytes_at};
 ghost use Rattle.hat_layer.specs.Pool.{bits_of, change_frame, drop_frame, with_clear_bits};
 ghost use Rattle.page_lock.specs.Rows.{row_at};
 ghost use Rattle.page_store.specs.Laws.{SameResidence};
 ghost use Rattle.page_store.specs.Notes.{Notes};
-ghost use Rattle.page_store.specs.Seen.{IsListedFrame};
+ghost use Rattle.page_store.specs.Seen.{IsListedFrame, residence};
 ghost use Rattle.page_store.specs.Steps.{next_frame};
 ghost use Rattle.vm_world.specs.MemoryFits.{MemoryFits};
 ghost use Rattle.vm_world.specs.NotesFit.{NotesFit};
@@ -13,11 +13,12 @@ ghost use Rattle.vm_world.specs.Segments.{Spaces};
 ghost use Rattle.vm_world.specs.Serving.{ModifiesNone};
 ghost use Rattle.vm_world.specs.Wants.{IsDirtyPage};
 ghost use Rattle.vm_world.specs.World.{world_seen};
+ghost use Rattle.seg_ops.specs.Rooms.{ChoosesBeside};
 ghost use Rattle.seg_ops.specs.Steps.{KeepsPages, IsUnwritten, with_bits_gathered};
 
 use crate::tables::add_bits;
 use block_device::Disk;
-use page_store::{PageName, Residence};
+use page_store::{PageName, Residence, Store};
 use vm_world::World;
 
 /// Gathers the bits of a frame's translations into its page. The translations stay.
@@ -70,6 +71,41 @@ pub fn evict<D: Disk>(world: &mut World<D>, frame: u32)
     world.store.release(frame);
 }
 
+/// A page that is home gives up its frame: None where it was clean, else the page, which is to be pushed first.
+fn try_page<D: Disk>(world: &mut World<D>, page: PageName) -> Option<PageName>
+    requires victim { (frame : ℕ) × (residence world.old.store page ≡ Residence.Home frame)
+        × (¬ IsListedFrame world.old.store frame) }
+    requires none { next_frame world.old.store ≡ None }
+    requires fits { (spaces : Spaces)
+        × MemoryFits (record { world = world_seen world.old; spaces = spaces }) }
+    requires noted { (notes : Notes) × NotesFit (world_seen world.old) notes }
+    ensures room { MatchOption result (IsSome (next_frame world.new.store))
+        (λ name. (next_frame world.new.store ≡ None) × IsDirtyPage (world_seen world.new) name) }
+    ensures pushed { IfSome result (λ name. name ≡ page) }
+    // What stays.
+    ensures rest { world.new ≡ record world.old { store = world.new.store; hat = world.new.hat } }
+    ensures stay { SameResidence world.old.store world.new.store }
+    ensures names { world.new.store.names ≡ world.old.store.names }
+    ensures frames { world.new.store.frames ≡ world.old.store.frames }
+    ensures lists { (frame : ℕ) → residence world.old.store page ≢ Residence.Home frame
+        → IsListedFrame world.new.store frame → IsListedFrame world.old.store frame }
+    ensures modified { ModifiesNone (world_seen world.old) (world_seen world.new) }
+    ensures keeps { (spaces : Spaces)
+        → MemoryFits (record { world = world_seen world.old; spaces = spaces })
+        → KeepsPages (world_seen world.old) (world_seen world.new) spaces }
+{
+    let Residence::Home(frame) = world.store.resident(page) else {
+        unreachable!();
+    };
+    sync(world, frame);
+    let (_referenced, modified) = world.store.bits(frame);
+    if modified {
+        return Some(page);
+    }
+    evict(world, frame);
+    None
+}
+
 /// A page loses its frame: None where it was clean, else a modified page, which is to be pushed first.
 fn try_victim<D: Disk>(world: &mut World<D>) -> Option<PageName>
     requires home { (frame : ℕ) × IsSome (bytes_at world.old.store.frames frame) }
@@ -83,6 +119,7 @@ fn try_victim<D: Disk>(world: &mut World<D>) -> Option<PageName>
     ensures rest { world.new ≡ record world.old { store = world.new.store; hat = world.new.hat } }
     ensures stay { SameResidence world.old.store world.new.store }
     ensures names { world.new.store.names ≡ world.old.store.names }
+    ensures frames { world.new.store.frames ≡ world.old.store.frames }
     ensures modified { ModifiesNone (world_seen world.old) (world_seen world.new) }
     ensures keeps { (spaces : Spaces)
         → MemoryFits (record { world = world_seen world.old; spaces = spaces })
@@ -91,16 +128,52 @@ fn try_victim<D: Disk>(world: &mut World<D>) -> Option<PageName>
     let Some(name) = world.store.victim() else {
         unreachable!();
     };
-    let Residence::Home(frame) = world.store.resident(name) else {
+    try_page(world, name)
+}
+
+/// A page whose frame can be had once the page was pushed or released, beside that in one frame; None where there is none.
+fn victim_beside<D: Disk>(store: &mut Store<D>, frame: u32) -> Option<PageName>
+    requires frame { frame < length store.old.frames }
+    requires unkept { (row_at store.old.rows frame).keeps ≡ 0 }
+    ensures chooses { ChoosesBeside store.old frame result }
+    // What stays.
+    ensures same { store.new ≡ store.old }
+{
+    store.keep(frame);
+    let name = store.victim();
+    store.unkeep(frame);
+    name
+}
+
+/// Makes room for another page, beside the one in a frame: None where a frame can be taken then, else a modified page,
+/// which is to be pushed first. Neither is the page in that frame. Time: the frames.
+pub fn make_room_beside<D: Disk>(world: &mut World<D>, frame: u32) -> Option<PageName>
+    requires frame { frame < length world.old.store.frames }
+    requires home { (other : ℕ) × (other ≢ frame) × IsSome (bytes_at world.old.store.frames other) }
+    requires fits { (spaces : Spaces)
+        × MemoryFits (record { world = world_seen world.old; spaces = spaces }) }
+    requires noted { (notes : Notes) × NotesFit (world_seen world.old) notes }
+    ensures room { MatchOption result (IsSome (next_frame world.new.store))
+        (λ name. (next_frame world.new.store ≡ None) × IsDirtyPage (world_seen world.new) name) }
+    ensures pushed { IfSome result (λ name. residence world.old.store name ≢ Residence.Home frame) }
+    ensures unlisted { IsListedFrame world.new.store frame → IsListedFrame world.old.store frame }
+    // What stays.
+    ensures rest { world.new ≡ record world.old { store = world.new.store; hat = world.new.hat } }
+    ensures stay { SameResidence world.old.store world.new.store }
+    ensures names { world.new.store.names ≡ world.old.store.names }
+    ensures frames { world.new.store.frames ≡ world.old.store.frames }
+    ensures modified { ModifiesNone (world_seen world.old) (world_seen world.new) }
+    ensures keeps { (spaces : Spaces)
+        → MemoryFits (record { world = world_seen world.old; spaces = spaces })
+        → KeepsPages (world_seen world.old) (world_seen world.new) spaces }
+{
+    if world.store.available() {
+        return None;
+    }
+    let Some(name) = victim_beside(&mut world.store, frame) else {
         unreachable!();
     };
-    sync(world, frame);
-    let (_referenced, modified) = world.store.bits(frame);
-    if modified {
-        return Some(name);
-    }
-    evict(world, frame);
-    None
+    try_page(world, name)
 }
 
 /// Makes room for another page: None where a frame can be taken then, else a modified page, which is to be pushed first.
@@ -115,6 +188,7 @@ pub fn make_room<D: Disk>(world: &mut World<D>) -> Option<PageName>
     ensures rest { world.new ≡ record world.old { store = world.new.store; hat = world.new.hat } }
     ensures stay { SameResidence world.old.store world.new.store }
     ensures names { world.new.store.names ≡ world.old.store.names }
+    ensures frames { world.new.store.frames ≡ world.old.store.frames }
     ensures modified { ModifiesNone (world_seen world.old) (world_seen world.new) }
     ensures keeps { (spaces : Spaces)
         → MemoryFits (record { world = world_seen world.old; spaces = spaces })

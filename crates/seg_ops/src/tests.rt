@@ -1,11 +1,8 @@
 //! The steps over a disk in memory that fails twice: two frames, and a file of three pages, of which the first two are blank.
-ghost use Rattle.std.specs.Prelude.{◌≡◌, ◌<◌, ℕ, true, length, Some, IfOk, IsTrue, IsSome};
+ghost use Rattle.std.specs.Prelude.{◌≡◌, ◌<◌, ℕ, length, IfOk, IsTrue, IsSome};
 ghost use Rattle.block_device.specs.MemDiskLook.{look};
 ghost use Rattle.block_device.specs.MemSeen.{disk_of};
 ghost use Rattle.core_arena.specs.Bytes.{bytes_at};
-ghost use Rattle.flat_model.specs.Words.{page};
-ghost use Rattle.hat_layer.specs.Pool.{at};
-ghost use Rattle.hat_layer.specs.declared.translation.Translation.{Translation};
 ghost use Rattle.page_store.specs.Seen.{residence};
 ghost use Rattle.vm_world.specs.World.{world_seen, file_name};
 ghost use Rattle.seg_ops.specs.Trials.{IsTrial, IsTrialFile, IsTrialOut, IsTrialPage};
@@ -139,17 +136,6 @@ fn is_home(world: &World<MemDisk>, page: u32) -> bool
     }
 }
 
-/// Whether the process may read and write at this address now.
-fn is_shown(world: &World<MemDisk>, addr: u32) -> bool
-    ensures { IsTrue result → (t : Translation)
-        × (at world.now.hat.places 1 (page addr) ≡ Some t) × (t.writable ≡ true) }
-{
-    match world.hat.find(1, addr / 4096) {
-        Some((_frame, writable)) => writable,
-        None => false,
-    }
-}
-
 fn try_fill(world: &mut World<MemDisk>, page: u32) -> Told
     requires fits { IsTrial (world_seen world.old) }
     ensures fits { IsTrial (world_seen world.new) }
@@ -189,21 +175,29 @@ fn try_get(world: &mut World<MemDisk>, addr: u32) -> Told
     requires fits { IsTrial (world_seen world.old) }
     ensures fits { IsTrial (world_seen world.new) }
 {
-    if addr % 4 != 0 || !is_shown(world, addr) {
+    if addr % 4 != 0 {
         return Told::No;
     }
-    Told::Word(read(world, 1, addr, 4))
+    match note(world, 1, addr / 4096, false) {
+        Some(frame) => Told::Word(read(world, frame, addr, 4)),
+        None => Told::No,
+    }
 }
 
 fn try_put(world: &mut World<MemDisk>, addr: u32, value: u32) -> Told
     requires fits { IsTrial (world_seen world.old) }
     ensures fits { IsTrial (world_seen world.new) }
 {
-    if addr % 4 != 0 || !is_shown(world, addr) {
+    if addr % 4 != 0 {
         return Told::No;
     }
-    write(world, 1, addr, 4, value);
-    Told::Yes
+    match note(world, 1, addr / 4096, true) {
+        Some(frame) => {
+            write(world, frame, addr, 4, value);
+            Told::Yes
+        }
+        None => Told::No,
+    }
 }
 
 fn try_room(world: &mut World<MemDisk>, home: u32) -> Told

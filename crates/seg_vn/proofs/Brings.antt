@@ -54,7 +54,7 @@ pub fetch-brings : (old new : World) (spaces : Spaces) (pending : ℕ) (name : P
 fetch-brings old new spaces pending name answer keeps absent modified f =
     record { first = takes-none old new spaces pending keeps; means = fetched old new spaces name answer absent modified f }
 
-some-frame : (o : Option ℕ) (P : ℕ → Type 0) → IsSome o → IfSome o P → (frame : ℕ) × P frame
+pub some-frame : (o : Option ℕ) (P : ℕ → Type 0) → IsSome o → IfSome o P → (frame : ℕ) × P frame
 some-frame None P some is = absurd (let z : false ≡ true = some in cc)
 some-frame (Some frame) P some is = (frame, is)
 

@@ -51,7 +51,7 @@ met-name m p q k x y name other same here shows there its =
     let e : y ≡ x = some-inj y x (sym there ∙ ap (spot_at m.spaces p) same ∙ here) in
     some-inj other name (sym its ∙ ap (shown_name m.world.maps) e ∙ shows)
 
-wanted-name : (m : Memory) (p q : ℕ) (x : Spot) (call : Call) (name other : PageName) → accessed_page call ≡ Some q → spot_at m.spaces p q ≡ Some x → shown_name m.world.maps x ≡ Some name → WantsHome m p call other → other ≡ name
+pub wanted-name : (m : Memory) (p q : ℕ) (x : Spot) (call : Call) (name other : PageName) → accessed_page call ≡ Some q → spot_at m.spaces p q ≡ Some x → shown_name m.world.maps x ≡ Some name → WantsHome m p call other → other ≡ name
 wanted-name m p q x (Load a n) name other acc here shows wants = met-name m p q (page a) x wants.0 name other (some-inj (page a) q acc) here shows wants.1.here wants.2
 wanted-name m p q x (Store a n v) name other acc here shows wants = met-name m p q (page a) x wants.0 name other (some-inj (page a) q acc) here shows wants.1.here wants.2
 wanted-name m p q x (Map place len prot kind object offset) name other acc here shows wants = absurd (let z : None ≡ Some q = acc in cc)
@@ -64,11 +64,11 @@ wanted-name m p q x (Truncate file len) name other acc here shows wants = absurd
 wanted-name m p q x (Fork child) name other acc here shows wants = absurd (let z : None ≡ Some q = acc in cc)
 wanted-name m p q x Exit name other acc here shows wants = absurd (let z : None ≡ Some q = acc in cc)
 
-absent-home : (r : Residence) (frame : ℕ) → r ≡ Absent → r ≡ Home frame → ⊥
+pub absent-home : (r : Residence) (frame : ℕ) → r ≡ Absent → r ≡ Home frame → ⊥
 absent-home r frame absent home = let z : Absent ≡ Home frame = sym absent ∙ home in cc
 
 -- a translation that is loaded changes no name of a frame
-gathered-names : (s : StoreSeen) (o : Option Dropped) → (with_dropped_gathered s o).names ≡ s.names
+pub gathered-names : (s : StoreSeen) (o : Option Dropped) → (with_dropped_gathered s o).names ≡ s.names
 gathered-names s None = refl
 gathered-names s (Some d) = refl
 

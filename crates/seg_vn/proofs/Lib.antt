@@ -4,3 +4,8 @@ pub mod Takes
 pub mod Brings
 pub mod FilePlaces
 pub mod Faulted
+mod AnyFaults
+mod AnyPlaces
+mod AnySteps
+mod Copies
+mod CopySteps

@@ -32,7 +32,7 @@ takes-none old new spaces pending keeps = record {
 }
 
 -- the tails that are pending, by the files' lengths alone
-pends-files : (u v : World) (cut : PageName → Bool) (pending more : ℕ) → v.files ≡ u.files → PendsTails v cut pending more → PendsTails u cut pending more
+pub pends-files : (u v : World) (cut : PageName → Bool) (pending more : ℕ) → v.files ≡ u.files → PendsTails v cut pending more → PendsTails u cut pending more
 pends-files u v cut pending more files t = record {
   bits = λ f lt. subst (λ (fs : FilesSeen). bit more f ≡ (bit pending f || cut (file_name f (pages_in (vnode_at fs f).info.length - 1)))) files (t.bits f (subst (λ (fs : FilesSeen). f < length fs.files) (sym files) lt));
   below = λ low. subst (λ (fs : FilesSeen). more < 2 ^ length fs.files) files (t.below (subst (λ (fs : FilesSeen). pending < 2 ^ length fs.files) (sym files) low));

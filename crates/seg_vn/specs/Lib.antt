@@ -5,3 +5,5 @@ pub mod Clears
 pub mod Faults
 pub mod Serves
 pub mod Brings
+pub mod Shown
+pub mod AnyPlaces

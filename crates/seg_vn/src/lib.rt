@@ -1,10 +1,15 @@
 //! Segments: mappings of files and of zero memory, and the spaces that they make up.
 #![tactic(auto)]
 
+mod any_faults;
+mod any_pages;
+mod any_segments;
 mod attempt;
 mod clears;
+mod copy_faults;
 mod file_pages;
 mod segment;
+mod shown;
 mod spaces;
 #[cfg(test)]
 mod tests;

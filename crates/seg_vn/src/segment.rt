@@ -41,7 +41,13 @@ impl Model for VnSeg {
 }
 
 /// Loads the translation of a page that is home.
-fn load_page<D: Disk>(world: &mut World<D>, space: u32, page: u32, name: PageName, writable: bool)
+pub(crate) fn load_page<D: Disk>(
+    world: &mut World<D>,
+    space: u32,
+    page: u32,
+    name: PageName,
+    writable: bool,
+)
     requires home { (frame : ℕ) × (residence world.old.store name ≡ Residence.Home frame) }
     requires fits { (spaces : Spaces)
         × MemoryFits (record { world = world_seen world.old; spaces = spaces }) }
@@ -112,6 +118,13 @@ impl VnSeg {
         ensures { result ≡ is_within prot self.now.max }
     {
         prot.is_within(self.segment.max)
+    }
+
+    /// The anon map of its private pages; None where it is shared.
+    pub fn own(&self) -> Option<u32>
+        ensures { result ≡ self.now.own }
+    {
+        self.segment.own
     }
 
     /// The anon map of the zero object that it shows; None where there is none.

@@ -12,3 +12,5 @@ pub mod Served
 pub mod Uses
 pub mod Looks
 pub mod Hands
+pub mod TrialLemmas
+pub mod TrialFiles

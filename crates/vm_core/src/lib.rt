@@ -15,6 +15,10 @@ mod ledger;
 mod setup;
 mod start;
 mod state;
+#[cfg(test)]
+mod tests;
+#[cfg(test)]
+mod trial;
 
 pub use finish::Finished;
 pub use history::KernelHistory;

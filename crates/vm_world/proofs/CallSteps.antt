@@ -1,6 +1,7 @@
 -- A call that is done is an event, and changes of memory one after another are a change.
 use Rattle.std.proofs.Common.{◌≡◌, ◌≢◌, ℕ, zero, suc, ◌<◌, Bool, true, false, List, [], ◌∷◌, ◌++◌, length, Option, Some, None, refl, sym, ap, ◌∙◌, inl, inr, subst, arith}
 use Rattle.std.specs.Prelude.{IsSome, IsTrue, IsFalse, ◌||◌, if◌then◌else◌}
+use Rattle.std.specs.Ordering.{nat_cmp}
 use Rattle.std.specs.FinMap as finite
 use Rattle.std.specs.FinSet as set
 use Rattle.std.proofs.lemmas.Bool.{cases_eq}
@@ -14,6 +15,7 @@ use Rattle.vm_types.specs.declared.call.Reply.TheVariants as reply
 use Rattle.vm_types.specs.declared.call.Reply.TheVariants.{Io, Synced}
 use Rattle.addr_space.specs.Space.{Part}
 use Rattle.page_store.specs.Bays.{BaySeen}
+use Rattle.page_store.specs.Notes.{Notes}
 use Rattle.flat_model.specs.Births.{is_birth, is_fork_of, is_done}
 use Rattle.flat_model.specs.CountLaws.{IsNextCount}
 use Rattle.flat_model.specs.OpenLaws.{MayFollow}
@@ -22,7 +24,8 @@ use Rattle.flat_model.specs.History.{replay, IsSyncStart, IsStart, is_io}
 use Rattle.flat_model.specs.Step.{bit, IsUnborn}
 use Rattle.flat_model.specs.Told.{entries_of}
 use Rattle.flat_model.proofs.WellFormed.{IsFlat-tails_cleared}
-use Rattle.vm_world.specs.World.{World}
+use Rattle.vm_world.specs.NotesFit.{NotesFit}
+use Rattle.vm_world.specs.World.{World, AllTell}
 use Rattle.vm_world.specs.FlatMemory.{Memory, flat_memory, shape_of}
 use Rattle.vm_world.specs.Pages.{contents_of}
 use Rattle.vm_world.specs.Segments.{Segment, Spaces}
@@ -103,7 +106,9 @@ rule-pages old new spaces e act = record {
 }
 
 -- ONE CHANGE AFTER ANOTHER.
-rule-joined : (p : ℕ) (u v w : Memory) (first second : Flat → Flat) → ((F : Flat) → IsFlat F → IsFlat (first F)) → ChangesMemory p u v (λ F G. G ≡ first F) → ChangesMemory p v w (λ F G. G ≡ second F) → ChangesMemory p u w (λ F G. G ≡ second (first F))
+rule-joined : (p : ℕ) (u v w : Memory) (first second : Flat → Flat)
+    → ((born : set.FinSet nat_cmp) (notes : Notes) → NotesFit u.world notes → AllTell u.world notes → IsFlat (flat_memory u born notes) → IsFlat (first (flat_memory u born notes)))
+    → ChangesMemory p u v (λ F G. G ≡ first F) → ChangesMemory p v w (λ F G. G ≡ second F) → ChangesMemory p u w (λ F G. G ≡ second (first F))
 rule-joined p u v w first second whole a b = record {
   machine = record {
     core = b.machine.core ∙ a.machine.core;
@@ -119,7 +124,7 @@ rule-joined p u v w first second whole a b = record {
   tells = λ notes nf. let one = a.tells notes nf in let two = b.tells notes (a.notes notes nf) in ((λ tell. two.0 (one.0 tell)), (λ tell. one.1 (two.1 tell)));
   flat = λ born notes nf tell is.
       let mid : flat_memory v born notes ≡ first (flat_memory u born notes) = a.flat born notes nf tell is in
-      b.flat born notes (a.notes notes nf) ((a.tells notes nf).0 tell) (subst IsFlat (sym mid) (whole (flat_memory u born notes) is)) ∙ ap second mid;
+      b.flat born notes (a.notes notes nf) ((a.tells notes nf).0 tell) (subst IsFlat (sym mid) (whole born notes nf tell is)) ∙ ap second mid;
 }
 
 -- DONE.

@@ -77,12 +77,13 @@ pub record MayEnter (s : KernelState) (seat : ℕ) (e : Entry) : Type 0 where
   pub sync : (b : ℕ) → e.reply ≡ Synced b → IsStart s.history (length s.history) e.process b
   pub file : MayUseFile e seat s.calls
 
--- A call that is done on pages alone is done. One change after another is a change. And a call that is done, of a seat that has nothing outside, is an
--- event, with its entry.
+-- A call that is done on pages alone is done. One change after another is a change, where the first leaves flat memory well formed. And a call that is
+-- done, of a seat that has nothing outside, is an event, with its entry.
 pub record CallRule : Type 0 where
   pub pages : (old new : World) (spaces : Spaces) (e : Entry) → ActsOnPages old new spaces e
       → ActsOnMemory (record { world = old; spaces = spaces }) (record { world = new; spaces = spaces }) e
-  pub joined : (p : ℕ) (u v w : Memory) (first second : Flat → Flat) → ((F : Flat) → IsFlat F → IsFlat (first F))
+  pub joined : (p : ℕ) (u v w : Memory) (first second : Flat → Flat)
+      → ((born : set.FinSet nat_cmp) (notes : Notes) → NotesFit u.world notes → AllTell u.world notes → IsFlat (flat_memory u born notes) → IsFlat (first (flat_memory u born notes)))
       → ChangesMemory p u v (λ F G. G ≡ first F) → ChangesMemory p v w (λ F G. G ≡ second F) → ChangesMemory p u w (λ F G. G ≡ second (first F))
   pub done : (s : KernelState) (new : Memory) (seat : ℕ) (e : Entry) (calls syncs : List (Option ℕ)) → ActsOnMemory s.memory new e
       → StaysAlive new e.process e.call → MayEnter s seat e

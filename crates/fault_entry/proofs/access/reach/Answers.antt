@@ -1,15 +1,18 @@
-use Rattle.std.proofs.Common.{◌≡◌, ◌-◌, Some, refl, sym, ap, ◌∙◌}
+use Rattle.std.proofs.Common.{◌≡◌, ℕ, ◌-◌, Some, sym, ap, ◌∙◌, subst}
 use Rattle.std.specs.FinMap as finite
 use Rattle.addr_space.specs.Space.{part}
-use Rattle.hat_layer.specs.Pool.{at as at_page}
+use Rattle.vm_types.specs.declared.call.Signal.TheVariants as signal
 use Rattle.flat_model.specs.Words.{page}
 use Rattle.vm_world.specs.Segments.{Spot, Spaces, spot_at}
-use Rattle.vm_world.specs.World.{world_seen}
-use Rattle.fault_entry.specs.Reaching.{may_access}
+use Rattle.vm_world.specs.World.{World, world_seen}
+use Rattle.seg_ops.proofs.StillSteps.{memory_of}
+use Rattle.fault_entry.specs.Reaching.{may_access, ServesAccess}
+use Rattle.fault_entry.specs.declared.access.Access.{Access}
+use Rattle.fault_entry.specs.declared.access.Access.TheVariants as access
 use Rattle.fault_entry.proofs.Found.{spot-found, spot-none, found-low}
-use Rattle.fault_entry.proofs.Reached.{found-lets, align-access, unmapped-access, refused-access, hit-access, loaded-access, past-access, need-access, busy-access}
+use Rattle.fault_entry.proofs.Reached.{align-access, unmapped-access, refused-access, hit-access, loaded-access, past-access, need-access, busy-access}
 use Rattle.fault_entry.proofs.access.reach.Given.{Over}
-use Rattle.fault_entry.proofs.access.reach.Goals.{After-allows}
+use Rattle.fault_entry.proofs.access.reach.Goals.{After-allows, After-fault}
 use Rattle.fault_entry.proofs.access.reach.Goals as goal
 
 pub returns-then-addr-size-ne0-clause-serves : goal.returns-then-addr-size-ne0-clause-serves
@@ -37,45 +40,68 @@ returns-then-not-allows-clause-serves g c = λ spaces fits get files.
     refused-access (world_seen c.args.world.now) spaces c.args.world.now.pending c.args.process c.args.addr c.args.size c.args.write fits (spot g at) c.if-addr-size-ne0.false
     (here g at spaces get) (sym (allows g at) ∙ c.if-not-allows.true)
 
-pub returns-then-is_loaded-clause-serves : goal.returns-then-is_loaded-clause-serves
-returns-then-is_loaded-clause-serves g c = λ spaces fits get files.
-    let at = (goal.at.returns-then-is_loaded-clause-serves g c).After-allows in
-    let lets = found-lets (world_seen c.args.world.now) c.args.process (page c.args.addr) c.args.write (at_page c.args.world.now.hat.places c.args.process (page c.args.addr)) refl (sym c.is_loaded.ensures ∙ c.if-is_loaded.true) in
-    hit-access (world_seen c.args.world.now) spaces c.args.world.now.pending c.args.process c.args.addr c.args.size c.args.write fits (spot g at) c.if-addr-size-ne0.false
-    (files (page c.args.addr) (spot g at) (here g at spaces get)) (sym (allows g at) ∙ c.if-not-allows.false) lets
-
 pub fault-requires-clause-low : goal.fault-requires-clause-low
 fault-requires-clause-low g c = found-low c.args.space.now.parts (page c.args.addr) (part c.in-Some.first c.in-Some._pages c.in-Some.segment.now) c.in-Some.ensures.found
+
+pub returns-in-Some-note-clause-serves : goal.returns-in-Some-note-clause-serves
+returns-in-Some-note-clause-serves g c = λ spaces fits get files.
+    let at = (goal.at.returns-in-Some-note-clause-serves g c).After-allows in
+    let old = world_seen c.args.world.now in
+    let new = world_seen c.note.new.world in
+    let pending : c.note.new.world.pending ≡ c.args.world.now.pending = ap (λ v. v.pending) c.note.ensures.rest in
+    subst (λ (k : ℕ). ServesAccess (memory_of old spaces) (memory_of new spaces) c.args.world.now.pending k c.args.process c.args.addr c.args.size c.args.write (access.Reached c.in-Some-note.frame)) (sym pending)
+    (hit-access old spaces c.args.world.now.pending c.args.process c.args.addr c.args.size c.args.write fits new (spot g at) c.in-Some-note.frame c.if-addr-size-ne0.false
+    (files (page c.args.addr) (spot g at) (here g at spaces get)) (sym (allows g at) ∙ c.if-not-allows.false) (c.note.ensures.keeps spaces fits) c.in-Some-note.ensures.noted)
 
 pub fault-requires-clause-fits : goal.fault-requires-clause-fits
 fault-requires-clause-fits g c =
     let at = (goal.at.fault-requires-clause-fits g c).After-allows in
-    (c.requires.fits.0, c.requires.fits.1, c.requires.fits.3 (page c.args.addr) (spot g at) (here g at c.requires.fits.0 c.requires.fits.2))
+    (c.requires.fits.0, (c.note.ensures.keeps c.requires.fits.0 c.requires.fits.1).memory, c.requires.fits.3 (page c.args.addr) (spot g at) (here g at c.requires.fits.0 c.requires.fits.2))
+
+-- where no access was noted, what is served from then on is served from the start
+served : (g : Over) (c : After-fault g) (spaces : Spaces) (new : World) (more : ℕ) (answer : Access) → ServesAccess (memory_of (world_seen c.note.new.world) spaces) (memory_of new spaces) c.note.new.world.pending more c.args.process c.args.addr c.args.size c.args.write answer
+    → ServesAccess (memory_of (world_seen c.args.world.now) spaces) (memory_of new spaces) c.args.world.now.pending more c.args.process c.args.addr c.args.size c.args.write answer
+served g c spaces new more answer s = subst (λ v. ServesAccess (memory_of (world_seen v) spaces) (memory_of new spaces) v.pending more c.args.process c.args.addr c.args.size c.args.write answer) c.in_default-note.ensures.none s
 
 pub returns-in-Loaded-clause-serves : goal.returns-in-Loaded-clause-serves
 returns-in-Loaded-clause-serves g c = λ spaces fits get files.
     let at = (goal.at.returns-in-Loaded-clause-serves g c).After-allows in
+    let still = (c.note.ensures.keeps spaces fits).memory in
     let place = files (page c.args.addr) (spot g at) (here g at spaces get) in
-    loaded-access (world_seen c.args.world.now) (world_seen c.fault.new.world) spaces c.args.world.now.pending c.fault.new.world.pending c.args.process c.args.addr c.args.size c.args.write (spot g at) c.if-addr-size-ne0.false
-    place (sym (allows g at) ∙ c.if-not-allows.false) (c.in-Loaded.ensures.serves spaces fits place)
+    let old = world_seen c.note.new.world in
+    let mid = world_seen c.fault.new.world in
+    let new = world_seen c.noted.new.world in
+    let s = c.in-Loaded.ensures.serves spaces still place in
+    let pending : c.noted.new.world.pending ≡ c.fault.new.world.pending = ap (λ v. v.pending) c.noted.ensures.rest in
+    let names : new.store.names ≡ mid.store.names = ap (λ v. v.store.names) c.noted.ensures.rest in
+    served g (goal.at.returns-in-Loaded-clause-serves g c).After-fault spaces new c.noted.new.world.pending (access.Reached c.noted.result)
+    (subst (λ (k : ℕ). ServesAccess (memory_of old spaces) (memory_of new spaces) c.note.new.world.pending k c.args.process c.args.addr c.args.size c.args.write (access.Reached c.noted.result)) (sym pending)
+    (loaded-access old new spaces c.note.new.world.pending c.fault.new.world.pending c.args.process c.args.addr c.args.size c.args.write (spot g at) c.if-addr-size-ne0.false
+    place (sym (allows g at) ∙ c.if-not-allows.false) mid c.noted.result still s (c.noted.ensures.keeps spaces s.first.step.memory) names c.noted.ensures.noted))
 
 pub returns-in-Past-clause-serves : goal.returns-in-Past-clause-serves
 returns-in-Past-clause-serves g c = λ spaces fits get files.
     let at = (goal.at.returns-in-Past-clause-serves g c).After-allows in
     let place = files (page c.args.addr) (spot g at) (here g at spaces get) in
-    past-access (world_seen c.args.world.now) (world_seen c.fault.new.world) spaces c.args.world.now.pending c.fault.new.world.pending c.args.process c.args.addr c.args.size c.args.write (spot g at) c.if-addr-size-ne0.false
-    place (sym (allows g at) ∙ c.if-not-allows.false) (c.in-Past.ensures.serves spaces fits place)
+    let new = world_seen c.fault.new.world in
+    served g (goal.at.returns-in-Past-clause-serves g c).After-fault spaces new c.fault.new.world.pending (access.Refused signal.Past)
+    (past-access (world_seen c.note.new.world) new spaces c.note.new.world.pending c.fault.new.world.pending c.args.process c.args.addr c.args.size c.args.write (spot g at) c.if-addr-size-ne0.false
+    place (sym (allows g at) ∙ c.if-not-allows.false) (c.in-Past.ensures.serves spaces (c.note.ensures.keeps spaces fits).memory place))
 
 pub returns-in-Need-clause-serves : goal.returns-in-Need-clause-serves
 returns-in-Need-clause-serves g c = λ spaces fits get files.
     let at = (goal.at.returns-in-Need-clause-serves g c).After-allows in
     let place = files (page c.args.addr) (spot g at) (here g at spaces get) in
-    need-access (world_seen c.args.world.now) (world_seen c.fault.new.world) spaces c.args.world.now.pending c.fault.new.world.pending c.args.process c.args.addr c.args.size c.args.write (spot g at) c.if-addr-size-ne0.false
-    place (sym (allows g at) ∙ c.if-not-allows.false) c.in-Need.plan (c.in-Need.ensures.serves spaces fits place)
+    let new = world_seen c.fault.new.world in
+    served g (goal.at.returns-in-Need-clause-serves g c).After-fault spaces new c.fault.new.world.pending (access.Need c.in-Need.plan)
+    (need-access (world_seen c.note.new.world) new spaces c.note.new.world.pending c.fault.new.world.pending c.args.process c.args.addr c.args.size c.args.write (spot g at) c.if-addr-size-ne0.false
+    place (sym (allows g at) ∙ c.if-not-allows.false) c.in-Need.plan (c.in-Need.ensures.serves spaces (c.note.ensures.keeps spaces fits).memory place))
 
 pub returns-in-Busy-clause-serves : goal.returns-in-Busy-clause-serves
 returns-in-Busy-clause-serves g c = λ spaces fits get files.
     let at = (goal.at.returns-in-Busy-clause-serves g c).After-allows in
     let place = files (page c.args.addr) (spot g at) (here g at spaces get) in
-    busy-access (world_seen c.args.world.now) (world_seen c.fault.new.world) spaces c.args.world.now.pending c.fault.new.world.pending c.args.process c.args.addr c.args.size c.args.write (spot g at) c.if-addr-size-ne0.false
-    place (sym (allows g at) ∙ c.if-not-allows.false) c.in-Busy.hold (c.in-Busy.ensures.serves spaces fits place)
+    let new = world_seen c.fault.new.world in
+    served g (goal.at.returns-in-Busy-clause-serves g c).After-fault spaces new c.fault.new.world.pending (access.Busy c.in-Busy.hold)
+    (busy-access (world_seen c.note.new.world) new spaces c.note.new.world.pending c.fault.new.world.pending c.args.process c.args.addr c.args.size c.args.write (spot g at) c.if-addr-size-ne0.false
+    place (sym (allows g at) ∙ c.if-not-allows.false) c.in-Busy.hold (c.in-Busy.ensures.serves spaces (c.note.ensures.keeps spaces fits).memory place))

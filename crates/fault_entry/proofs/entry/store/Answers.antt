@@ -9,10 +9,8 @@ use Rattle.fault_entry.specs.Accesses.{ServesWord}
 use Rattle.fault_entry.proofs.Served.{store-reached, store-refused, access-needs, access-busy}
 use Rattle.fault_entry.proofs.entry.store.Goals as goal
 
-pub write-requires-clause-loaded : goal.write-requires-clause-loaded
-write-requires-clause-loaded g c =
-    let lets = (c.in-Reached.ensures.serves c.requires.fits.0 c.requires.fits.1 c.requires.fits.2 c.requires.fits.3).means.lets in
-    (lets.translation, lets.loaded, lets.writable refl)
+pub write-requires-clause-noted : goal.write-requires-clause-noted
+write-requires-clause-noted g c = (c.args.process, (c.in-Reached.ensures.serves c.requires.fits.0 c.requires.fits.1 c.requires.fits.2 c.requires.fits.3).means.noted)
 
 pub write-requires-clause-fits : goal.write-requires-clause-fits
 write-requires-clause-fits g c = (c.requires.fits.0, (c.in-Reached.ensures.serves c.requires.fits.0 c.requires.fits.1 c.requires.fits.2 c.requires.fits.3).first.step.memory)
@@ -24,9 +22,9 @@ returns-in-Reached g c = record {
       let mid = world_seen c.reach.new.world in
       let new = world_seen c.write.new.world in
       let s = c.in-Reached.ensures.serves spaces fits get files in
-      let f = s.first.step.memory in
       subst (λ (k : ℕ). ServesWord (memory_of old spaces) (memory_of new spaces) c.args.world.now.pending k c.args.process (page c.args.addr) (call.Store c.args.addr c.args.size c.args.value) (attempt.Done reply.Done)) (sym (ap (λ v. v.pending) c.write.ensures.rest))
-      (store-reached old mid new spaces c.args.world.now.pending c.reach.new.world.pending c.args.process c.args.addr c.args.size c.args.value s (c.write.ensures.writes spaces f) c.write.ensures.noted);
+      (store-reached old mid new spaces c.args.world.now.pending c.reach.new.world.pending c.args.process c.args.addr c.args.size c.in-Reached.frame c.args.value s
+      (c.write.ensures.writes spaces c.args.process s.first.step.memory s.means.noted) (ap (λ v. v.hat) c.write.ensures.rest));
 }
 
 pub returns-in-Refused : goal.returns-in-Refused

@@ -1,46 +1,30 @@
-use Rattle.std.proofs.Common.{◌≡◌, ℕ, ◌<◌, List, length, false, refl, sym, ap, ◌∙◌, subst}
-use Rattle.flat_model.specs.Words.{page, word_at}
+use Rattle.std.proofs.Common.{◌≡◌, false, sym, ap, ◌∙◌, subst}
+use Rattle.flat_model.specs.Words.{page}
 use Rattle.page_hash.specs.declared.PageName.{PageName}
 use Rattle.page_store.specs.Seen.{residence}
 use Rattle.page_store.specs.Value.{value}
 use Rattle.page_store.specs.declared.residence.Residence.TheVariants.{Home}
-use Rattle.vm_world.specs.MemoryFits.{MemoryFits}
-use Rattle.vm_world.specs.Segments.{Spaces}
 use Rattle.vm_world.specs.World.{world_seen, world_table}
-use Rattle.seg_ops.proofs.StillSteps.{memory_of, value-is}
-use Rattle.seg_ops.proofs.Hits.{Finds, finds, frame-within, same-name, not-nameless, touch-keeps}
+use Rattle.seg_ops.proofs.Hits.{noted-hits, noted-within, noted-name, noted-named, read-word}
 use Rattle.seg_ops.proofs.accesses.read.Goals as goal
 
 pub name_of-requires : goal.name_of-requires
-name_of-requires g c =
-    let w = world_seen c.args.world.now in
-    frame-within w c.requires.fits.0 c.args.space (page c.args.addr) c.in-Some.frame
-    (finds w c.requires.fits.0 c.args.space (page c.args.addr) c.in-Some.frame c.in-Some._writable c.find.result c.requires.fits.1 c.find.ensures.found c.in-Some.is)
+name_of-requires g c = noted-within (world_seen c.args.world.now) c.requires.fits.0 c.requires.noted.0 (page c.args.addr) c.args.frame false c.requires.fits.1 c.requires.noted.1
 
-pub unreachable-requires-in_default-name_of : goal.unreachable-requires-in_default-name_of
-unreachable-requires-in_default-name_of g c =
-    let w = world_seen c.args.world.now in
-    not-nameless w c.requires.fits.0 c.args.space (page c.args.addr) c.in-Some.frame
-    (finds w c.requires.fits.0 c.args.space (page c.args.addr) c.in-Some.frame c.in-Some._writable c.find.result c.requires.fits.1 c.find.ensures.found c.in-Some.is)
-    c.name_of.result c.name_of.ensures.held c.in_default-name_of.is
+pub unreachable-requires : goal.unreachable-requires
+unreachable-requires g c =
+    noted-named (world_seen c.args.world.now) c.requires.fits.0 c.requires.noted.0 (page c.args.addr) c.args.frame false c.requires.fits.1 c.requires.noted.1 c.name_of.result c.name_of.ensures.held c.in_default.is
 
 pub bytes-requires : goal.bytes-requires
 bytes-requires g c =
     let w = world_seen c.args.world.now in
-    let f = finds w c.requires.fits.0 c.args.space (page c.args.addr) c.in-Some.frame c.in-Some._writable c.find.result c.requires.fits.1 c.find.ensures.found c.in-Some.is in
-    let same = same-name w c.requires.fits.0 c.args.space (page c.args.addr) c.in-Some.frame f c.name_of.result c.in-Some-name_of.name c.name_of.ensures.held c.in-Some-name_of.is in
-    (f.translation.frame, subst (λ (n : PageName). residence w.store n ≡ Home f.translation.frame) same f.hit.home)
+    let h = noted-hits w c.requires.fits.0 c.requires.noted.0 (page c.args.addr) c.args.frame false c.requires.fits.1 c.requires.noted.1 in
+    let same = noted-name w c.requires.fits.0 c.requires.noted.0 (page c.args.addr) c.args.frame false c.requires.fits.1 c.requires.noted.1 c.name_of.result c.in-Some.name c.name_of.ensures.held c.in-Some.is in
+    (c.requires.noted.1.entry.frame, subst (λ (n : PageName). residence w.store n ≡ Home c.requires.noted.1.entry.frame) same h.home)
 
-pub returns-clause-reads : goal.returns-clause-reads
-returns-clause-reads g c = λ spaces fits.
+pub returns : goal.returns
+returns g c = λ spaces space fits noted.
     let w = world_seen c.args.world.now in
-    let f = finds w spaces c.args.space (page c.args.addr) c.in-Some.frame c.in-Some._writable c.find.result fits c.find.ensures.found c.in-Some.is in
-    let same = same-name w spaces c.args.space (page c.args.addr) c.in-Some.frame f c.name_of.result c.in-Some-name_of.name c.name_of.ensures.held c.in-Some-name_of.is in (
-      f.hit.name,
-      f.hit.shows,
-      λ notes. c.word_in.ensures ∙ ap (λ (b : List ℕ). word_at b c.args.addr c.args.size)
-          (c.bytes.ensures.value notes (world_table w) ∙ ap (λ (n : PageName). value w.store notes (world_table w) n) (sym same) ∙ sym (value-is w notes f.hit.name f.hit.shows.is_page)),
-    )
-
-pub returns-clause-keeps : goal.returns-clause-keeps
-returns-clause-keeps g c = λ spaces fits. touch-keeps (world_seen c.args.world.now) spaces c.touch.new.self c.args.space (page c.args.addr) false fits c.touch.ensures.places c.touch.ensures.frames c.touch.ensures.distinct
+    let same = noted-name w spaces space (page c.args.addr) c.args.frame false fits noted c.name_of.result c.in-Some.name c.name_of.ensures.held c.in-Some.is in
+    read-word w spaces space c.args.addr c.args.size c.word_in.result noted.entry (noted-hits w spaces space (page c.args.addr) c.args.frame false fits noted) c.bytes.result.now
+    (λ notes. c.bytes.ensures.value notes (world_table w) ∙ ap (λ (n : PageName). value w.store notes (world_table w) n) (sym same)) c.word_in.ensures

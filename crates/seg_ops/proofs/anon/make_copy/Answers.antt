@@ -6,7 +6,7 @@ use Rattle.page_store.specs.Steps.{next_frame, next_name, fresh_row, home_bytes}
 use Rattle.page_store.specs.Moves.{FillsFrame}
 use Rattle.page_store.specs.Value.{value}
 use Rattle.anon_map.specs.Maps.{Map, places_of, with_places}
-use Rattle.anon_slots.specs.Slots.{Slots, IsSoundAnonSlots}
+use Rattle.anon_slots.specs.Slots.{Slots, IsSoundAnonSlots, count_at}
 use Rattle.vm_world.specs.World.{World, world_seen, slot_name}
 use Rattle.vm_world.proofs.Counting.{room}
 use Rattle.seg_ops.specs.Slots.{MakesSlot, MakesPage}
@@ -39,6 +39,10 @@ pub pend_tail-requires-clause-exists : goal.pend_tail-requires-clause-exists
 pend_tail-requires-clause-exists g c =
     let w = world_seen c.args.world.now in
     next-exists w c.requires.fits.0 c.make-slot.new.self c.set.new.self c.args.map c.args.place c.make-slot.result c.next_name-lost.result c.requires.fits.1 (slot g (goal.at.pend_tail-requires-clause-exists g c).After-set) c.next_name-lost.ensures
+
+pub returns-clause-once : goal.returns-clause-once
+returns-clause-once g c =
+    subst (λ (a : Slots). count_at a c.make-slot.result ≡ 1) (sym (ap (λ v. v.anon) c.pend_tail.ensures.rest)) (slot g (goal.at.returns-clause-once g c).After-set).alone
 
 pub returns-clause-makes : goal.returns-clause-makes
 returns-clause-makes g c = λ spaces p q x fits owns unloaded.

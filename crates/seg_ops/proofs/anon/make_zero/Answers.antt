@@ -5,15 +5,18 @@ use Rattle.page_lock.specs.Rows.{row_at}
 use Rattle.page_lock.specs.declared.Row.{Row}
 use Rattle.page_store.specs.Steps.{next_frame, next_name, fresh_row}
 use Rattle.anon_map.specs.Maps.{Map, places_of, with_places}
-use Rattle.anon_slots.specs.Slots.{Slots, IsSoundAnonSlots}
+use Rattle.anon_slots.specs.Slots.{Slots, IsSoundAnonSlots, count_at}
+use Rattle.vm_world.specs.MemoryFits.{MemoryFits}
+use Rattle.vm_world.specs.Segments.{Spaces}
 use Rattle.vm_world.specs.World.{World, world_seen, slot_name}
 use Rattle.vm_world.proofs.Counting.{room}
 use Rattle.seg_ops.specs.Slots.{MakesSlot, MakesPage}
 use Rattle.seg_ops.proofs.FillSteps.{of-next, some-of, takes-page}
 use Rattle.seg_ops.proofs.SlotCounts.{made-slot, least-there}
-use Rattle.seg_ops.proofs.SlotFlat.{changes-zeros}
-use Rattle.seg_ops.proofs.SlotMemory.{AreShown, free-absent, zero-shown, next-exists}
+use Rattle.seg_ops.proofs.SlotFlat.{changes-zeros, changes-owned}
+use Rattle.seg_ops.proofs.SlotMemory.{AreShown, free-absent, zero-shown, copy-shown, next-exists}
 use Rattle.seg_ops.proofs.SlotSteps.{made-page}
+use Rattle.seg_ops.proofs.StillSteps.{memory_of}
 use Rattle.seg_ops.proofs.anon.make_zero.Given.{Over}
 use Rattle.seg_ops.proofs.anon.make_zero.Goals.{After-set, After-pend_tail}
 use Rattle.seg_ops.proofs.anon.make_zero.Goals as goal
@@ -39,18 +42,33 @@ pend_tail-requires-clause-exists g c =
     let w = world_seen c.args.world.now in
     next-exists w c.requires.fits.0 c.make-slot.new.self c.set.new.self c.args.map c.args.place c.make-slot.result c.next_name-lost.result c.requires.fits.1 (slot g (goal.at.pend_tail-requires-clause-exists g c).After-set) c.next_name-lost.ensures
 
-pub returns-clause-makes : goal.returns-clause-makes
-returns-clause-makes g c = λ spaces fits new_zero.
+pub returns-clause-once : goal.returns-clause-once
+returns-clause-once g c =
+    subst (λ (a : Slots). count_at a c.make-slot.result ≡ 1) (sym (ap (λ v. v.anon) c.pend_tail.ensures.rest)) (slot g (goal.at.returns-clause-once g c).After-set).alone
+
+-- the page is made, where each translation shows what it showed
+makes : (g : Over) (c : After-pend_tail g) (spaces : Spaces) → MakesSlot c.args.world.now.anon c.make-slot.new.self c.args.world.now.maps c.set.new.self c.args.map c.args.place c.make-slot.result
+    → MemoryFits (memory_of (world_seen c.args.world.now) spaces)
+    → AreShown (world_seen c.args.world.now) spaces (with_places c.args.world.now.maps c.args.map (slice_set (places_of c.args.world.now.maps c.args.map) c.args.place (Some c.make-slot.result)))
+    → MakesPage (world_seen c.args.world.now) (world_seen c.pend_tail.new.world) spaces (is_name (next_name c.args.world.now.store)) c.args.map c.args.place c.make-slot.result zeros
+makes g c spaces k fits are =
     let w = world_seen c.args.world.now in
-    let at = (goal.at.returns-clause-makes g c).After-pend_tail in
     let s = c.make-slot.result in
-    let k = slot g (goal.at.returns-clause-makes g c).After-set in
     let next = some-of (next_frame w.store) c.requires.available in
     let takes = takes-page w spaces c.fill_zero.new.self (slot_name s) next.0 zeros true (λ notes table. zeros) fits next.1 (free-absent w s fits.frames k.free) c.fill_zero.ensures.new c.fill_zero.ensures.laws in
-    let shown = subst (λ (ps : List (Option Map)). AreShown w spaces ps) (sym k.set) (zero-shown w spaces c.args.map c.args.place s c.requires.within c.requires.empty new_zero) in
+    let shown = subst (λ (ps : List (Option Map)). AreShown w spaces ps) (sym k.set) are in
     subst (λ (v : World). MakesPage w v spaces (is_name (next_name w.store)) c.args.map c.args.place s zeros) (sym (ap world_seen c.pend_tail.ensures.rest))
     (made-page w spaces c.fill_zero.new.self c.make-slot.new.self c.set.new.self c.args.map c.args.place s next.0 zeros fits k takes (ap (λ (r : Row). r.modified) (of-next (next_frame w.store) next.0 (λ frame. row_at c.fill_zero.new.self.rows frame ≡ fresh_row true) next.1 c.fill_zero.ensures.laws.row)) shown c.fill_zero.ensures.laws.values)
+
+pub returns-clause-makes : goal.returns-clause-makes
+returns-clause-makes g c = λ spaces fits new_zero.
+    makes g (goal.at.returns-clause-makes g c).After-pend_tail spaces (slot g (goal.at.returns-clause-makes g c).After-set) fits (zero-shown (world_seen c.args.world.now) spaces c.args.map c.args.place c.make-slot.result c.requires.within c.requires.empty new_zero)
 
 pub returns-clause-changes : goal.returns-clause-changes
 returns-clause-changes g c = λ spaces p fits new_zero.
     changes-zeros p (world_seen c.args.world.now) (world_seen c.pend_tail.new.world) spaces (is_name (next_name c.args.world.now.store)) c.args.map c.args.place c.make-slot.result fits (returns-clause-makes g c spaces fits new_zero) c.requires.empty new_zero
+
+pub returns-clause-owned : goal.returns-clause-owned
+returns-clause-owned g c = λ spaces p q x fits owns unloaded.
+    changes-owned p q x (world_seen c.args.world.now) (world_seen c.pend_tail.new.world) spaces (is_name (next_name c.args.world.now.store)) c.args.map c.args.place c.make-slot.result zeros fits
+    (makes g (goal.at.returns-clause-owned g c).After-pend_tail spaces (slot g (goal.at.returns-clause-owned g c).After-set) fits (copy-shown (world_seen c.args.world.now) spaces p q c.args.map c.args.place c.make-slot.result x c.requires.within c.requires.empty owns unloaded)) owns

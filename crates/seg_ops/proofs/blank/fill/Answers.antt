@@ -1,55 +1,11 @@
-use Rattle.std.proofs.Common.{◌≡◌, ◌≢◌, ℕ, sym, ap, ◌∙◌, subst}
+use Rattle.std.proofs.Common.{ap, ◌∙◌}
 use Rattle.core_arena.specs.Bytes.{zeros}
-use Rattle.page_hash.specs.Names.{is_name}
-use Rattle.page_store.specs.Seen.{StoreSeen}
-use Rattle.page_store.specs.Steps.{next_frame, next_name, after_fill}
-use Rattle.vm_world.specs.World.{World, world_seen, file_name}
-use Rattle.vm_world.specs.WorldSteps.{WorldStep, stays}
+use Rattle.page_store.specs.Steps.{after_fill}
+use Rattle.vm_world.specs.World.{file_name}
 use Rattle.vm_world.proofs.PageNames.{file-apart, not-slot}
-use Rattle.seg_ops.proofs.FillSteps.{TakesZeros, some-of, takes-for, fill-step}
-use Rattle.seg_ops.proofs.Fills.{TakesFor}
-use Rattle.seg_ops.proofs.Pending.{loses, next-there}
-use Rattle.seg_ops.proofs.blank.fill.Given.{Over}
-use Rattle.seg_ops.proofs.blank.fill.Goals.{After-pend_tail}
 use Rattle.seg_ops.proofs.blank.fill.Goals as goal
-
-pub pend_tail-requires-clause-exists : goal.pend_tail-requires-clause-exists
-pend_tail-requires-clause-exists g c = next-there (world_seen c.args.world.now) c.requires.fits.0 c.next_name-lost.result c.requires.fits.1 c.next_name-lost.ensures
-
--- What was taken, for whom.
-record Filled (g : Over) (c : After-pend_tail g) : Type 0 where
-  pub frame : ℕ
-  pub store : c.pend_tail.new.world.store ≡ c.fill_zero.new.self
-  pub takes : TakesZeros (world_seen c.args.world.now) c.fill_zero.new.self (file_name c.args.file c.args.page) frame
-  pub file : c.args.file ≢ 64
-
-is : (g : Over) (c : After-pend_tail g) → Filled g c
-is g c =
-    let w = world_seen c.args.world.now in
-    let fits = c.requires.fits.1 in
-    let apart = file-apart w.files c.args.file fits.files c.requires.file in
-    let next = some-of (next_frame w.store) c.requires.available in
-    record {
-      frame = next.0;
-      store = ap (λ v. v.store) c.pend_tail.ensures.rest;
-      takes = takes-for w c.requires.fits.0 c.fill_zero.new.self (file_name c.args.file c.args.page) next.0 fits next.1 c.requires.absent c.fill_zero.ensures.new c.fill_zero.ensures.laws;
-      file = apart;
-    }
 
 pub returns-clause-store : goal.returns-clause-store
 returns-clause-store g c =
-    let i = is g (goal.at.returns-clause-store g c).After-pend_tail in
-    i.store ∙ c.fill_zero.ensures.new ∙ ap (after_fill c.args.world.now.store (file_name c.args.file c.args.page) zeros) (not-slot c.args.file i.file)
-
-pub returns-clause-took : goal.returns-clause-took
-returns-clause-took g c =
-    let i = is g (goal.at.returns-clause-took g c).After-pend_tail in
-    let taken = subst (λ (s : StoreSeen). TakesFor c.args.world.now.store s (file_name c.args.file c.args.page) i.frame) (sym i.store) i.takes.takes in
-    loses (world_seen c.args.world.now) (world_seen c.pend_tail.new.world) taken.laws.sound taken.laws.lost
-
-pub returns-clause-step : goal.returns-clause-step
-returns-clause-step g c = λ spaces fits.
-    let w = world_seen c.args.world.now in
-    let i = is g (goal.at.returns-clause-step g c).After-pend_tail in
-    subst (λ (v : World). WorldStep w v spaces stays (is_name (next_name w.store))) (sym (ap world_seen c.pend_tail.ensures.rest))
-    (fill-step w spaces c.fill_zero.new.self (file_name c.args.file c.args.page) i.frame fits i.takes c.requires.exists i.file c.requires.blank)
+    c.fill_page.ensures.store
+    ∙ ap (after_fill c.args.world.now.store (file_name c.args.file c.args.page) zeros) (not-slot c.args.file (file-apart c.args.world.now.files c.args.file c.requires.fits.1.files c.requires.file))

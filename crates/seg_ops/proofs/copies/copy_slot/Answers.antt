@@ -8,7 +8,7 @@ use Rattle.vm_world.specs.CallSteps.{ChangesMemory}
 use Rattle.vm_world.specs.World.{World, world_seen, slot_name}
 use Rattle.vm_world.specs.WorldSteps.{tails_lost}
 use Rattle.seg_ops.specs.Slots.{with_own_page}
-use Rattle.seg_ops.proofs.SlotCopies.{changes-copied}
+use Rattle.seg_ops.proofs.SlotCopies.{changes-again, own-home}
 use Rattle.seg_ops.proofs.SlotPlaces.{place-twice}
 use Rattle.seg_ops.proofs.StillSteps.{memory_of}
 use Rattle.seg_ops.proofs.copies.copy_slot.Goals as goal
@@ -36,7 +36,8 @@ returns-clause-changes g c = λ spaces p q x fits owns unloaded.
     let left = c.leave_slot.ensures.empties spaces p q x fits owns unloaded in
     let none = ap (λ hat. at hat.places p q) left.hat ∙ unloaded in
     let copied = c.make_copy.ensures.changes spaces p q x left.memory owns none in
-    changes-copied w spaces p q c.args.map c.args.place c.args.slot c.requires.source.0 x fits c.requires.holds c.requires.source.1 owns mid new (tails_lost w (is_name (next_name w.store)))
+    changes-again w spaces p q x (home_bytes w.store (find w.store.names from)) owns.here (own-home w spaces p q c.args.map c.args.place c.args.slot x fits c.requires.holds owns c.requires.source.0 c.requires.source.1)
+    mid new (tails_lost w (is_name (next_name w.store)))
     (c.leave_slot.ensures.changes spaces p q x fits owns unloaded)
     (subst (λ (v : World). ChangesMemory p (memory_of mid spaces) (memory_of new spaces) (λ F G. G ≡ tails_cleared (with_own_page F p q (home_bytes v.store (find v.store.names from))) (tails_lost v (is_name (next_name v.store)))))
     (ap world_seen c.leave_slot.ensures.rest) copied)

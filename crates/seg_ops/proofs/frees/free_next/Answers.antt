@@ -1,6 +1,7 @@
 use Rattle.std.proofs.Common.{◌≡◌, sym, ap, ◌∙◌, subst}
 use Rattle.std.specs.Prelude.{IfSome}
 use Rattle.page_hash.specs.Names.{is_name}
+use Rattle.page_store.specs.Seen.{StoreSeen, IsListedFrame, residence}
 use Rattle.page_store.specs.Steps.{next_frame, next_name}
 use Rattle.vm_world.specs.MemoryFits.{MemoryFits}
 use Rattle.vm_world.specs.Segments.{Spaces}
@@ -42,3 +43,18 @@ pub returns-clause-step : goal.returns-clause-step
 returns-clause-step g c = λ spaces fits.
     let at = (goal.at.returns-clause-step g c).After-pend_tail in
     subst (λ (v : World). WorldStep (world_seen c.args.world.now) v spaces stays (is_name (next_name c.args.world.now.store))) (sym (ap world_seen c.pend_tail.ensures.rest)) (is g at spaces fits).step
+
+pub returns-clause-homes : goal.returns-clause-homes
+returns-clause-homes g c = λ page frame home unlisted.
+    let at = (goal.at.returns-clause-homes g c).After-pend_tail in
+    ap (λ (s : StoreSeen). residence s page) (store g at) ∙ (is g at c.requires.fits.0 c.requires.fits.1).homes page frame home unlisted
+
+pub returns-clause-lists : goal.returns-clause-lists
+returns-clause-lists g c = λ frame l.
+    let at = (goal.at.returns-clause-lists g c).After-pend_tail in
+    (is g at c.requires.fits.0 c.requires.fits.1).lists frame (subst (λ (s : StoreSeen). IsListedFrame s frame) (store g at) l)
+
+pub returns-clause-absent : goal.returns-clause-absent
+returns-clause-absent g c = λ page none.
+    let at = (goal.at.returns-clause-absent g c).After-pend_tail in
+    ap (λ (s : StoreSeen). residence s page) (store g at) ∙ (is g at c.requires.fits.0 c.requires.fits.1).absent page none

@@ -18,6 +18,8 @@ loop-place-init g c =
     record {
       maps = subst (λ (n : ℕ). c.args.world.now.maps ≡ with_places c.args.world.now.maps c.args.map (places_emptied (places_of c.args.world.now.maps c.args.map) c.args.from n)) none (sym (places-same c.args.world.now.maps c.args.map c.requires.there));
       reserved = refl;
+      fall = λ slot. omega arith;
+      stay = λ name there. refl;
       rest = refl;
       changes = λ spaces p first fits owns.
           let m = memory_of (world_seen c.args.world.now) spaces in
@@ -56,6 +58,10 @@ loop-place-preserved g c =
           (maps-more old.maps cur.maps m from k c.requires.there c.loop-place.invariant.maps new.maps
           (c.empty_place.ensures.maps ∙ ap (λ (i : ℕ). with_places cur.maps m (slice_set (places_of cur.maps m) i None)) at_place));
       reserved = c.empty_place.ensures.reserved ∙ c.loop-place.invariant.reserved;
+      fall = λ slot. let less = c.empty_place.ensures.fall slot in let before = c.loop-place.invariant.fall slot in omega (arith, less, before);
+      stay = λ name there.
+          c.empty_place.ensures.stay name there
+          ∙ c.loop-place.invariant.stay name (λ swap. let some = there swap in let less = c.empty_place.ensures.fall name.page in omega (arith, some, less));
       rest = c.empty_place.ensures.rest ∙ ap (λ (w : World g.row.D.Denot). record w { store = new.store; anon = new.anon; maps = new.maps }) c.loop-place.invariant.rest;
       changes = λ spaces p first fits owns.
           let before = c.loop-place.invariant.changes spaces p first fits owns in

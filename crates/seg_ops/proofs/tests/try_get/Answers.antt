@@ -4,5 +4,8 @@ use Rattle.seg_ops.specs.Trials.{trial_spaces}
 use Rattle.seg_ops.proofs.TrialLemmas.{trial-step}
 use Rattle.seg_ops.proofs.tests.try_get.Goals as goal
 
-pub returns : goal.returns
-returns c = record { fits = trial-step (world_seen c.args.world.now) (world_seen c.read.new.world) (λ name. false) c.requires.fits (c.read.ensures.keeps trial_spaces c.requires.fits.memory) }
+pub read-requires-clause-fits : goal.read-requires-clause-fits
+read-requires-clause-fits c = (trial_spaces, (c.note.ensures.keeps trial_spaces c.requires.fits.memory).memory)
+
+pub returns-in-Some : goal.returns-in-Some
+returns-in-Some c = record { fits = trial-step (world_seen c.args.world.now) (world_seen c.note.new.world) (λ name. false) c.requires.fits (c.note.ensures.keeps trial_spaces c.requires.fits.memory) }

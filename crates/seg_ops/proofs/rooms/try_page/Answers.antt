@@ -2,7 +2,7 @@ use Rattle.std.proofs.Common.{◌≡◌, ℕ, refl}
 use Rattle.vm_world.specs.World.{world_seen}
 use Rattle.seg_ops.proofs.Modified.{modifies-then}
 use Rattle.seg_ops.proofs.Composed.{keeps-then}
-use Rattle.seg_ops.proofs.rooms.try_victim.Goals as goal
+use Rattle.seg_ops.proofs.rooms.try_page.Goals as goal
 
 pub evict-requires-clause-fits : goal.evict-requires-clause-fits
 evict-requires-clause-fits g c = (c.requires.fits.0, (c.sync.ensures.keeps c.requires.fits.0 c.requires.fits.1).memory)

@@ -1,0 +1,53 @@
+use Rattle.std.proofs.Common.{◌≡◌, None, Some, ap, ◌∙◌, subst, slice_set}
+use Rattle.std.specs.Prelude.{IfSome}
+use Rattle.hat_layer.specs.Pool.{at}
+use Rattle.core_arena.specs.Bytes.{zeros}
+use Rattle.page_hash.specs.Names.{is_name}
+use Rattle.page_store.specs.Seen.{StoreSeen}
+use Rattle.page_store.specs.Steps.{next_name}
+use Rattle.anon_map.specs.Maps.{places_of, with_places}
+use Rattle.flat_model.specs.Step.{tails_cleared}
+use Rattle.vm_world.specs.CallSteps.{ChangesMemory}
+use Rattle.vm_world.specs.Serving.{LosesFrame}
+use Rattle.vm_world.specs.World.{World, world_seen}
+use Rattle.vm_world.specs.WorldSteps.{tails_lost}
+use Rattle.seg_ops.specs.Slots.{with_own_page}
+use Rattle.seg_ops.proofs.Pending.{lost-before}
+use Rattle.seg_ops.proofs.SlotCopies.{changes-again, own-blank}
+use Rattle.seg_ops.proofs.SlotPlaces.{place-twice}
+use Rattle.seg_ops.proofs.StillSteps.{memory_of}
+use Rattle.seg_ops.proofs.copies.zero_slot.Goals as goal
+
+pub make_zero-requires-clause-fits : goal.make_zero-requires-clause-fits
+make_zero-requires-clause-fits g c =
+    let o = c.requires.owned in
+    (o.0, (c.leave_slot.ensures.empties o.0 o.1 o.2 o.3 o.4 o.5 o.6).memory)
+
+pub returns-clause-maps : goal.returns-clause-maps
+returns-clause-maps g c =
+    let maps = c.args.world.now.maps in
+    let m = c.args.map in
+    let i = c.args.place in
+    c.make_zero.ensures.maps
+    ∙ ap (λ ps. with_places ps m (slice_set (places_of ps m) i (Some c.make_zero.result))) c.leave_slot.ensures.maps
+    ∙ place-twice maps m i None (Some c.make_zero.result) c.requires.within
+
+pub returns-clause-took : goal.returns-clause-took
+returns-clause-took g c =
+    let w = world_seen c.args.world.now in
+    let mid = world_seen c.leave_slot.new.world in
+    let new = world_seen c.make_zero.new.world in
+    let names = ap (λ v. v.store.names) c.leave_slot.ensures.rest in
+    lost-before (next_name w.store) w mid new names (subst (λ (s : StoreSeen). IfSome (next_name s) (λ name. LosesFrame mid new name)) (ap (λ v. v.store) c.leave_slot.ensures.rest) c.make_zero.ensures.took)
+
+pub returns-clause-changes : goal.returns-clause-changes
+returns-clause-changes g c = λ spaces p q x fits owns unloaded.
+    let w = world_seen c.args.world.now in
+    let mid = world_seen c.leave_slot.new.world in
+    let new = world_seen c.make_zero.new.world in
+    let left = c.leave_slot.ensures.empties spaces p q x fits owns unloaded in
+    let none = ap (λ hat. at hat.places p q) left.hat ∙ unloaded in
+    let made = c.make_zero.ensures.owned spaces p q x left.memory owns none in
+    changes-again w spaces p q x zeros owns.here (own-blank w spaces p q c.args.map c.args.place c.args.slot x fits c.requires.holds owns c.requires.absent c.requires.blank) mid new (tails_lost w (is_name (next_name w.store)))
+    (c.leave_slot.ensures.changes spaces p q x fits owns unloaded)
+    (subst (λ (v : World). ChangesMemory p (memory_of mid spaces) (memory_of new spaces) (λ F G. G ≡ tails_cleared (with_own_page F p q zeros) (tails_lost v (is_name (next_name v.store))))) (ap world_seen c.leave_slot.ensures.rest) made)

@@ -1,0 +1,139 @@
+-- What faults at places of any mapping come to, by the steps that they take.
+use Rattle.std.proofs.Common.{◌≡◌, ℕ, Bool, true, false, List, [], ◌∷◌, length, Option, Some, None, refl, ap, ◌∙◌}
+use Rattle.std.specs.Prelude.{IfSome}
+use Rattle.std.specs.Ordering.{nat_cmp}
+use Rattle.std.specs.FinSet as set
+use Rattle.page_hash.specs.Names.{is_name}
+use Rattle.page_hash.specs.declared.PageName.{PageName}
+use Rattle.page_store.specs.Notes.{Notes}
+use Rattle.page_store.specs.Steps.{next_name}
+use Rattle.hat_layer.specs.Pool.{at, fresh_translation}
+use Rattle.vm_types.specs.declared.call.Call.{Call}
+use Rattle.vm_types.specs.declared.call.Call.TheVariants.{Load, Store, Map, Unmap, Protect, Sync, Read, Write, Truncate, Fork, Exit}
+use Rattle.flat_model.specs.Flat.{File, Flat, IsFlat}
+use Rattle.flat_model.specs.Step.{files_cleared, tails_cleared}
+use Rattle.vm_world.specs.CallSteps.{ChangesMemory}
+use Rattle.vm_world.specs.FlatMemory.{Memory, flat_memory}
+use Rattle.vm_world.specs.MemoryFits.{MemoryFits}
+use Rattle.vm_world.specs.NotesFit.{NotesFit}
+use Rattle.vm_world.specs.Segments.{Spot, Spaces}
+use Rattle.vm_world.specs.Serving.{TakesFrames, LosesFrame}
+use Rattle.vm_world.specs.StateSteps.{PendsTails}
+use Rattle.vm_world.specs.Wants.{accessed_page}
+use Rattle.vm_world.specs.World.{World, AllTell}
+use Rattle.vm_world.specs.WorldSteps.{WorldStep, stays, tails_lost}
+use Rattle.vm_world.proofs.Callers.{same-modes}
+use Rattle.vm_world.proofs.CallSteps.{call_rule}
+use Rattle.vm_world.proofs.FrameRule.{frame_law}
+use Rattle.seg_ops.specs.declared.plans.Step.{Step}
+use Rattle.seg_ops.specs.declared.plans.Step.TheVariants as step
+use Rattle.seg_ops.specs.Steps.{KeepsPages}
+use Rattle.seg_ops.proofs.OwnShown.{own_shown_law}
+use Rattle.seg_ops.proofs.StillSteps.{memory_of}
+use Rattle.seg_vn.specs.Faults.{Accesses, AnyFaultMeans, ServesAnyFault, after_fault}
+use Rattle.seg_vn.proofs.Takes.{takes-later, takes-next}
+
+-- an access of a page accesses it
+pub accessed : (write : Bool) (q : ℕ) (call : Call) → Accesses write q call → accessed_page call ≡ Some q
+accessed false q (Load a n) is = ap (λ (k : ℕ). Some k) is
+accessed false q (Store a n v) is = absurd is
+accessed false q (Map place len prot kind object offset) is = absurd is
+accessed false q (Unmap a len) is = absurd is
+accessed false q (Protect a len prot) is = absurd is
+accessed false q (Sync a len) is = absurd is
+accessed false q (Read file offset len) is = absurd is
+accessed false q (Write file offset line rest) is = absurd is
+accessed false q (Truncate file len) is = absurd is
+accessed false q (Fork child) is = absurd is
+accessed false q Exit is = absurd is
+accessed true q (Load a n) is = absurd is
+accessed true q (Store a n v) is = ap (λ (k : ℕ). Some k) is
+accessed true q (Map place len prot kind object offset) is = absurd is
+accessed true q (Unmap a len) is = absurd is
+accessed true q (Protect a len prot) is = absurd is
+accessed true q (Sync a len) is = absurd is
+accessed true q (Read file offset len) is = absurd is
+accessed true q (Write file offset line rest) is = absurd is
+accessed true q (Truncate file len) is = absurd is
+accessed true q (Fork child) is = absurd is
+accessed true q Exit is = absurd is
+
+-- THE SAME CHANGE, said in other words.
+pub changes-as : (p : ℕ) (u v : Memory) (f g : Flat → Flat)
+    → ((born : set.FinSet nat_cmp) (notes : Notes) → NotesFit u.world notes → AllTell u.world notes → IsFlat (flat_memory u born notes) → f (flat_memory u born notes) ≡ g (flat_memory u born notes))
+    → ChangesMemory p u v (λ F G. G ≡ f F) → ChangesMemory p u v (λ F G. G ≡ g F)
+changes-as p u v f g same c = record {
+  machine = c.machine;
+  others = c.others;
+  memory = c.memory;
+  notes = c.notes;
+  tells = c.tells;
+  flat = λ born notes nf tell whole. c.flat born notes nf tell whole ∙ same born notes nf tell whole;
+}
+
+none-cleared : (files : List File) → files_cleared (λ f. false) files ≡ files
+none-cleared [] = refl
+none-cleared (file ∷ files) = ap (λ (fs : List File). file ∷ fs) (none-cleared files)
+
+pub no-tails : (F : Flat) → tails_cleared F (λ f. false) ≡ F
+no-tails F = ap (λ (fs : List File). record F { files = fs }) (none-cleared F.files)
+
+-- A STEP THAT KEEPS ALL PAGES changes nothing.
+pub changes-kept : (p : ℕ) (u v : World) (spaces : Spaces) → MemoryFits (memory_of u spaces) → KeepsPages u v spaces → ChangesMemory p (memory_of u spaces) (memory_of v spaces) (λ F G. G ≡ F)
+changes-kept p u v spaces f k = record {
+  machine = record { core = k.core; frames = k.frames; slots = ap (λ (c : List ℕ). length c) k.tables.counts; disks = k.tables.disks; modes = same-modes u v k.tables; bays = k.bays };
+  others = λ q far. refl;
+  memory = k.memory;
+  notes = λ notes nf. k.notes notes tt nf;
+  tells = λ notes nf. k.tells notes tt nf;
+  flat = λ born notes nf tell whole. frame_law.flat u v spaces stays (λ n. false) born notes f k tt nf tell whole ∙ no-tails (flat_memory (memory_of u spaces) born notes);
+}
+
+-- no tail is lost where the frame that is taken held no page
+pub lost-none : (F : Flat) (w : World) → next_name w.store ≡ None → tails_cleared F (tails_lost w (is_name (next_name w.store))) ≡ F
+lost-none F w free = ap (λ (o : Option PageName). tails_cleared F (tails_lost w (is_name o))) free ∙ no-tails F
+
+-- flat memory stays well formed over a fault
+fault-whole : (answer : Step) (write : Bool) (F : Flat) (p q : ℕ) → IsFlat F → IsFlat (after_fault answer write F p q)
+fault-whole step.Loaded true F p q flat = own_shown_law.whole F p q flat
+fault-whole step.Loaded false F p q flat = flat
+fault-whole step.Past write F p q flat = flat
+fault-whole (step.Need x) write F p q flat = flat
+fault-whole (step.Busy h) write F p q flat = flat
+
+-- A PAGE IS MADE: first steps that keep all pages; then the next frame is freed, the page is made there, and its translation is loaded.
+pub serves-made : (old before freed made new : World) (spaces : Spaces) (p q : ℕ) (x : Spot) (write writable : Bool) (pending more frame : ℕ) (f : Flat → Flat)
+    → MemoryFits (memory_of old spaces) → KeepsPages old before spaces → before.store.names ≡ old.store.names → before.files ≡ old.files
+    → WorldStep before freed spaces stays (is_name (next_name before.store)) → PendsTails before (is_name (next_name before.store)) pending more → IfSome (next_name before.store) (λ (n : PageName). LosesFrame before freed n)
+    → ChangesMemory p (memory_of freed spaces) (memory_of made spaces) (λ F G. G ≡ f F)
+    → ((born : set.FinSet nat_cmp) (notes : Notes) → NotesFit freed notes → AllTell freed notes → IsFlat (flat_memory (memory_of freed spaces) born notes)
+    → f (flat_memory (memory_of freed spaces) born notes) ≡ after_fault step.Loaded write (flat_memory (memory_of freed spaces) born notes) p q)
+    → KeepsPages made new spaces → at new.hat.places p q ≡ Some (fresh_translation p q frame writable) → (write ≡ true → writable ≡ true)
+    → ServesAnyFault (memory_of old spaces) (memory_of new spaces) pending more p q x write step.Loaded
+serves-made old before freed made new spaces p q x write writable pending more frame f fits keeps names files frees pends took makes same shows loaded lets = record {
+  mid = freed;
+  first = takes-later old before freed spaces pending more fits keeps names files (takes-next before freed spaces pending more frees pends took);
+  acts = call_rule.joined p (memory_of freed spaces) (memory_of made spaces) (memory_of new spaces) (λ F. after_fault step.Loaded write F p q) (λ F. F)
+      (λ born notes nf tell whole. fault-whole step.Loaded write (flat_memory (memory_of freed spaces) born notes) p q whole)
+      (changes-as p (memory_of freed spaces) (memory_of made spaces) f (λ F. after_fault step.Loaded write F p q) same makes)
+      (changes-kept p made new spaces makes.memory shows);
+  means = record { translation = fresh_translation p q frame writable; loaded = loaded; writable = lets };
+}
+
+-- NOTHING IS MADE: frames may be taken, and flat memory is as it was.
+pub serves-kept : (old new : World) (spaces : Spaces) (p q : ℕ) (x : Spot) (write : Bool) (pending more : ℕ) (answer : Step) → TakesFrames (memory_of old spaces) new pending more
+    → ((born : set.FinSet nat_cmp) (notes : Notes) → flat_memory (memory_of new spaces) born notes ≡ after_fault answer write (flat_memory (memory_of new spaces) born notes) p q)
+    → AnyFaultMeans (memory_of old spaces) (memory_of new spaces) p q x write answer → ServesAnyFault (memory_of old spaces) (memory_of new spaces) pending more p q x write answer
+serves-kept old new spaces p q x write pending more answer first same means = record {
+  mid = new;
+  first = first;
+  acts = record {
+    machine = record { core = refl; frames = refl; slots = refl; disks = refl; modes = refl; bays = refl };
+    others = λ r far. refl;
+    memory = first.step.memory;
+    notes = λ notes nf. nf;
+    tells = λ notes nf. ((λ tell. tell), (λ tell. tell));
+    flat = λ born notes nf tell whole. same born notes;
+  };
+  means = means;
+}

@@ -1,0 +1,35 @@
+-- A private cell gets a page of its own, with what it shows.
+use Rattle.std.proofs.Common.{◌≡◌, ℕ, Some, None, refl, sym, ap, ◌∙◌}
+use Rattle.std.specs.Prelude.{option_and_then}
+use Rattle.page_hash.specs.Names.{is_name}
+use Rattle.page_store.specs.Steps.{next_name}
+use Rattle.flat_model.specs.Step.{tails_cleared}
+use Rattle.flat_model.specs.Words.{Page}
+use Rattle.vm_world.specs.CallSteps.{ChangesMemory}
+use Rattle.vm_world.specs.FlatMemory.{flat_memory}
+use Rattle.vm_world.specs.MemoryFits.{MemoryFits}
+use Rattle.vm_world.specs.Segments.{Spot, Spaces}
+use Rattle.vm_world.specs.World.{World, slot_in}
+use Rattle.vm_world.specs.WorldSteps.{tails_lost}
+use Rattle.seg_ops.specs.OwnPages.{with_own_shown}
+use Rattle.seg_ops.specs.Slots.{OwnsAlone, with_own_page}
+use Rattle.seg_ops.proofs.SlotOwners.{owner-private}
+use Rattle.seg_ops.proofs.StillSteps.{memory_of}
+use Rattle.seg_vn.specs.AnyPlaces.{CellShows}
+use Rattle.seg_vn.proofs.AnyFaults.{changes-as, lost-none}
+use Rattle.seg_vn.proofs.AnyPlaces.{gets-page, kept-own}
+
+module _ (old new : World) (spaces : Spaces) (p q m i : ℕ) (x : Spot) (fits : MemoryFits (memory_of old spaces)) (owns : OwnsAlone spaces p q m i x) (free : next_name old.store ≡ None) where
+  -- from nothing
+  pub changes-got : (bytes : Page) → CellShows old spaces x None bytes → ChangesMemory p (memory_of old spaces) (memory_of new spaces) (λ F G. G ≡ tails_cleared (with_own_page F p q bytes) (tails_lost old (is_name (next_name old.store))))
+      → ChangesMemory p (memory_of old spaces) (memory_of new spaces) (λ F G. G ≡ with_own_shown F p q)
+  changes-got bytes shows = changes-as p (memory_of old spaces) (memory_of new spaces) (λ F. tails_cleared (with_own_page F p q bytes) (tails_lost old (is_name (next_name old.store)))) (λ F. with_own_shown F p q)
+      (λ born notes nf tell whole. lost-none (with_own_page (flat_memory (memory_of old spaces) born notes) p q bytes) old free
+      ∙ gets-page old spaces p q x fits owns.here born notes bytes (owner-private (memory_of old spaces) p q m i x fits owns) (shows refl born notes))
+
+  -- from a slot that its place held
+  pub changes-held : (s : ℕ) → slot_in old.maps m i ≡ Some s → ChangesMemory p (memory_of old spaces) (memory_of new spaces) (λ F G. G ≡ tails_cleared F (tails_lost old (is_name (next_name old.store))))
+      → ChangesMemory p (memory_of old spaces) (memory_of new spaces) (λ F G. G ≡ with_own_shown F p q)
+  changes-held s holds = changes-as p (memory_of old spaces) (memory_of new spaces) (λ F. tails_cleared F (tails_lost old (is_name (next_name old.store)))) (λ F. with_own_shown F p q)
+      (λ born notes nf tell whole. lost-none (flat_memory (memory_of old spaces) born notes) old free
+      ∙ sym (kept-own old spaces p q x fits owns.here born notes s (ap (option_and_then (λ number. slot_in old.maps number x.1)) owns.own ∙ ap (λ (k : ℕ). slot_in old.maps m k) owns.place ∙ holds)))

@@ -1,0 +1,114 @@
+use Rattle.std.proofs.Common.{◌≡◌, ℕ, List, Option, Some, true, refl, sym, ap, ◌∙◌, subst, slice_set}
+use Rattle.anon_map.specs.Maps.{Map, places_of, with_places}
+use Rattle.page_hash.specs.Names.{find}
+use Rattle.page_store.specs.Seen.{residence}
+use Rattle.page_store.specs.Steps.{next_frame, home_bytes}
+use Rattle.page_store.specs.declared.residence.Residence.TheVariants.{Home}
+use Rattle.vm_world.specs.Segments.{shown_name}
+use Rattle.vm_world.specs.Serving.{TakesFrames}
+use Rattle.vm_world.specs.World.{world_seen, slot_name}
+use Rattle.seg_ops.proofs.Composed.{keeps-then}
+use Rattle.seg_ops.proofs.Disks.{dirty-exists}
+use Rattle.seg_ops.proofs.Modified.{modifies-then}
+use Rattle.seg_ops.proofs.StillSteps.{memory_of}
+use Rattle.seg_vn.specs.Faults.{ServesAnyFault}
+use Rattle.seg_vn.proofs.AnyFaults.{accessed}
+use Rattle.seg_vn.proofs.AnySteps.{made-asks, there-still}
+use Rattle.seg_vn.proofs.Brings.{some-frame}
+use Rattle.seg_vn.proofs.CopySteps.{own-alone, copy-spot, takes-more, serves-after, copy-may, copy-makes, cell-shows, home-value, source-wanted}
+use Rattle.seg_vn.proofs.Takes.{takes-later, takes-none}
+use Rattle.seg_vn.proofs.copy_faults.copy_page.Goals as goal
+
+pub make_room_beside-requires-clause-fits : goal.make_room_beside-requires-clause-fits
+make_room_beside-requires-clause-fits g c = (c.requires.fits.0, (c.take_back.ensures.keeps c.requires.fits.0 c.requires.fits.2).memory)
+
+pub make_room_beside-requires-clause-noted : goal.make_room_beside-requires-clause-noted
+make_room_beside-requires-clause-noted g c =
+    (c.requires.noted.0, (c.take_back.ensures.keeps c.requires.fits.0 c.requires.fits.2).notes c.requires.noted.0 tt c.requires.noted.1)
+
+pub ask-requires-clause-fits : goal.ask-requires-clause-fits
+ask-requires-clause-fits g c =
+    (c.requires.fits.0, (c.make_room_beside.ensures.keeps c.requires.fits.0 (c.take_back.ensures.keeps c.requires.fits.0 c.requires.fits.2).memory).memory)
+
+pub ask-requires-clause-exists : goal.ask-requires-clause-exists
+ask-requires-clause-exists g c =
+    dirty-exists (world_seen c.make_room_beside.new.world) c.requires.fits.0 c.in-Some.victim (c.make_room_beside.ensures.keeps c.requires.fits.0 (c.take_back.ensures.keeps c.requires.fits.0 c.requires.fits.2).memory).memory c.in-Some.ensures.room.1
+
+pub returns-in-Some-clause-serves : goal.returns-in-Some-clause-serves
+returns-in-Some-clause-serves g c = λ spaces x fits place.
+    let old = world_seen c.args.world.now in
+    let back = world_seen c.take_back.new.world in
+    let mid = world_seen c.make_room_beside.new.world in
+    let p = c.args.space in
+    let q = c.args.page in
+    let room = c.in-Some.ensures.room in
+    let maps = ap (λ v. v.maps) c.make_room_beside.ensures.rest ∙ ap (λ v. v.maps) c.take_back.ensures.rest in
+    let anon = ap (λ v. v.anon) c.make_room_beside.ensures.rest ∙ ap (λ v. v.anon) c.take_back.ensures.rest in
+    let files = ap (λ v. v.files) c.make_room_beside.ensures.rest ∙ ap (λ v. v.files) c.take_back.ensures.rest in
+    let shows = ap (λ (ms : List (Option Map)). shown_name ms x) maps ∙ place.shows in
+    let there = there-still old mid spaces p q x place.here place.some maps files in
+    let one = c.take_back.ensures.keeps spaces fits in
+    let keeps = keeps-then old back mid spaces fits one (c.make_room_beside.ensures.keeps spaces one.memory) in
+    let first = takes-none old mid spaces c.args.world.now.pending keeps in
+    let home = c.make_room_beside.ensures.stay c.args.name ∙ c.take_back.ensures.stay c.args.name ∙ c.requires.source in
+    subst (λ (k : ℕ). ServesAnyFault (memory_of old spaces) (memory_of mid spaces) c.args.world.now.pending k p q x true c.ask.result) (sym (ap (λ v. v.pending) c.make_room_beside.ensures.rest ∙ ap (λ v. v.pending) c.take_back.ensures.rest))
+    (made-asks old mid spaces p q x true c.args.world.now.pending c.args.world.now.pending c.in-Some.victim c.ask.result first there
+    (λ call acc. copy-makes old mid spaces p q c.args.map c.args.place x c.args.slot (Some c.args.name) call fits place maps anon acc)
+    (λ call acc. source-wanted old mid spaces p q x c.args.name c.args.frame place.here shows c.requires.source home (λ l. c.take_back.ensures.unlisted (c.make_room_beside.ensures.unlisted l)) call (accessed true q call acc))
+    (modifies-then old back mid c.take_back.ensures.modified c.make_room_beside.ensures.modified) room.0 room.1 c.ask.ensures)
+
+pub clear_way-requires-clause-fits : goal.clear_way-requires-clause-fits
+clear_way-requires-clause-fits g c =
+    (c.requires.fits.0, (c.make_room_beside.ensures.keeps c.requires.fits.0 (c.take_back.ensures.keeps c.requires.fits.0 c.requires.fits.2).memory).memory)
+
+pub copy_into-own-requires-clause-owned : goal.copy_into-own-requires-clause-owned
+copy_into-own-requires-clause-owned g c =
+    let o = c.requires.fits in
+    let w = world_seen c.args.world.now in
+    let room = c.make_room_beside.ensures.keeps o.0 (c.take_back.ensures.keeps o.0 o.2).memory in
+    (o.0, c.args.space, c.args.page, o.1, (c.clear_way.ensures.takes o.0 room.memory).step.memory, own-alone w o.0 c.args.space c.args.page c.args.map c.args.place o.1 o.2 o.3, c.clear_way.ensures.gone)
+
+pub load_page-requires-clause-home : goal.load_page-requires-clause-home
+load_page-requires-clause-home g c =
+    some-frame (next_frame c.clear_way.new.world.store) (λ (frame : ℕ). residence c.copy_into-own.new.world.store (slot_name c.copy_into-own.result) ≡ Home frame) c.clear_way.ensures.available c.copy_into-own.ensures.home
+
+pub load_page-requires-clause-fits : goal.load_page-requires-clause-fits
+load_page-requires-clause-fits g c =
+    let o = c.requires.fits in
+    let w = world_seen c.args.world.now in
+    let room = c.make_room_beside.ensures.keeps o.0 (c.take_back.ensures.keeps o.0 o.2).memory in
+    (o.0, c.copy_into-own.ensures.memory o.0 c.args.space c.args.page o.1 (c.clear_way.ensures.takes o.0 room.memory).step.memory (own-alone w o.0 c.args.space c.args.page c.args.map c.args.place o.1 o.2 o.3) c.clear_way.ensures.gone)
+
+pub returns-clause-serves : goal.returns-clause-serves
+returns-clause-serves g c = λ spaces x fits place.
+    let old = world_seen c.args.world.now in
+    let back = world_seen c.take_back.new.world in
+    let room = world_seen c.make_room_beside.new.world in
+    let freed = world_seen c.clear_way.new.world in
+    let made = world_seen c.copy_into-own.new.world in
+    let new = world_seen c.load_page.new.world in
+    let p = c.args.space in
+    let q = c.args.page in
+    let m = c.args.map in
+    let i = c.args.place in
+    let s = c.copy_into-own.result in
+    let name = c.args.name in
+    let one = c.take_back.ensures.keeps spaces fits in
+    let keeps = keeps-then old back room spaces fits one (c.make_room_beside.ensures.keeps spaces one.memory) in
+    let takes = c.clear_way.ensures.takes spaces keeps.memory in
+    let names = c.make_room_beside.ensures.names ∙ c.take_back.ensures.names in
+    let maps' = ap (λ v. v.maps) c.make_room_beside.ensures.rest ∙ ap (λ v. v.maps) c.take_back.ensures.rest in
+    let files' = ap (λ v. v.files) c.make_room_beside.ensures.rest ∙ ap (λ v. v.files) c.take_back.ensures.rest in
+    let before = ap (λ v. v.pending) c.make_room_beside.ensures.rest ∙ ap (λ v. v.pending) c.take_back.ensures.rest in
+    let maps = ap (λ v. v.maps) c.clear_way.ensures.rest ∙ maps' in
+    let files = ap (λ v. v.files) c.clear_way.ensures.rest ∙ files' in
+    let first = subst (λ (k : ℕ). TakesFrames (memory_of room spaces) freed k c.clear_way.new.world.pending) before takes in
+    let taken = takes-later old room freed spaces c.args.world.now.pending c.clear_way.new.world.pending fits keeps names files' first in
+    let all = subst (λ (k : ℕ). TakesFrames (memory_of old spaces) freed c.args.world.now.pending k) (sym (ap (λ v. v.pending) c.load_page.ensures.rest))
+    (takes-more old freed spaces c.args.world.now.pending c.clear_way.new.world.pending c.copy_into-own.new.world.pending taken c.copy_into-own.ensures.pends c.clear_way.ensures.free files) in
+    let home = c.clear_way.ensures.homes name c.args.frame (c.make_room_beside.ensures.stay name ∙ c.take_back.ensures.stay name ∙ c.requires.source) (λ l. c.take_back.ensures.unlisted (c.make_room_beside.ensures.unlisted l)) in
+    let shows = cell-shows old freed spaces p q m i x c.args.slot (Some name) place takes.step.memory maps files name (home_bytes freed.store (find freed.store.names name)) refl (home-value freed spaces name c.args.frame takes.step.memory home) in
+    let makes = c.copy_into-own.ensures.changes spaces p q x takes.step.memory (own-alone old spaces p q m i x fits (copy-spot old spaces p q m i x c.args.slot (Some name) place)) c.clear_way.ensures.gone c.clear_way.ensures.free shows in
+    let set = c.copy_into-own.ensures.maps ∙ ap (λ (ms : List (Option Map)). with_places ms m (slice_set (places_of ms m) i (Some s))) maps in
+    let may = copy-may old made spaces p q m i s x c.args.slot (Some name) place c.requires.within set c.copy_into-own.ensures.once in
+    serves-after old freed made new spaces p q x c.args.world.now.pending c.load_page.new.world.pending c.load_page.ensures.loaded.0 all makes (c.load_page.ensures.keeps spaces makes.memory may) c.load_page.ensures.loaded.1

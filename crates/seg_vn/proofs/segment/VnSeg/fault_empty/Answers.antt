@@ -1,0 +1,85 @@
+use Rattle.std.proofs.Common.{◌≡◌, ℕ, Bool, true, cond, Some, None, length, refl, sym, ap, ◌∙◌, inl, inr, subst}
+use Rattle.std.specs.Prelude.{option_and_then}
+use Rattle.vm_types.specs.Prot.{can_read, can_write}
+use Rattle.vm_types.specs.declared.call.Object.{Object}
+use Rattle.vm_world.specs.CountsFit.{ObjectFits}
+use Rattle.vm_world.specs.FlatMemory.{own_without_slot}
+use Rattle.vm_world.specs.Segments.{Spot}
+use Rattle.vm_world.specs.World.{world_seen, slot_in}
+use Rattle.seg_ops.proofs.StillSteps.{memory_of}
+use Rattle.seg_vn.specs.Faults.{ServesAnyFault}
+use Rattle.seg_vn.proofs.AnyPlaces.{own-there, private-has, object-fits}
+use Rattle.seg_vn.proofs.AnySteps.{shown-bare, shows-object}
+use Rattle.seg_vn.proofs.FilePlaces.{either-allowed, write-allowed}
+use Rattle.seg_vn.proofs.segment.VnSeg.fault_empty.Goals as goal
+
+pub fault_zeros-requires-clause-home : goal.fault_zeros-requires-clause-home
+fault_zeros-requires-clause-home g c = let h = c.requires.home 0 in (h.0, h.2)
+
+pub fault_zeros-requires-in_default-shown-clause-home : goal.fault_zeros-requires-in_default-shown-clause-home
+fault_zeros-requires-in_default-shown-clause-home g c = let h = c.requires.home 0 in (h.0, h.2)
+
+pub fault_zeros-requires-then-not-write-clause-home : goal.fault_zeros-requires-then-not-write-clause-home
+fault_zeros-requires-then-not-write-clause-home g c = let h = c.requires.home 0 in (h.0, h.2)
+
+pub own_zeros-requires-clause-home : goal.own_zeros-requires-clause-home
+own_zeros-requires-clause-home g c = let h = c.requires.home 0 in (h.0, h.2)
+
+pub own_zeros-requires-clause-there : goal.own_zeros-requires-clause-there
+own_zeros-requires-clause-there g c =
+    let o = c.requires.fits in
+    (own-there (world_seen c.args.world.now) o.0 c.args.space c.args.page (c.args.self.now, c.args.at) o.1 o.2 c.in-Some.own (sym c.own.ensures ∙ c.in-Some.is)).0
+
+pub own_zeros-requires-clause-within : goal.own_zeros-requires-clause-within
+own_zeros-requires-clause-within g c =
+    let o = c.requires.fits in
+    (own-there (world_seen c.args.world.now) o.0 c.args.space c.args.page (c.args.self.now, c.args.at) o.1 o.2 c.in-Some.own (sym c.own.ensures ∙ c.in-Some.is)).1
+
+pub own_zeros-requires-clause-fits : goal.own_zeros-requires-clause-fits
+own_zeros-requires-clause-fits g c =
+    let o = c.requires.fits in
+    (o.0, (c.args.self.now, c.args.at), o.1, record { here = o.2; own = sym c.own.ensures ∙ c.in-Some.is; place = refl })
+
+pub returns-in_default-clause-serves : goal.returns-in_default-clause-serves
+returns-in_default-clause-serves g c = λ spaces fits here zeros.
+    let w = world_seen c.args.world.now in
+    let x : Spot = (c.args.self.now, c.args.at) in
+    let writable : c.can_write-writable.result ≡ can_write x.0.prot = c.can_write-writable.ensures ∙ ap can_write c.prot.ensures in
+    let none : x.0.own ≡ None = sym c.own.ensures ∙ c.in_default.is in
+    c.fault_zeros.ensures.serves spaces x c.args.write fits (record {
+      here = here;
+      bare = c.requires.bare;
+      zeros = zeros;
+      allowed = either-allowed c.args.write (can_read x.0.prot) (can_write x.0.prot) c.requires.allowed;
+      in_place = λ writes. (
+        sym writable ∙ writes,
+        λ private. let o = private-has w spaces c.args.space c.args.page x fits here private in absurd (let z : None ≡ Some o.0 = sym none ∙ o.1 in cc),
+      );
+      lets = λ write. writable ∙ write-allowed c.args.write (can_read x.0.prot) (can_write x.0.prot) c.requires.allowed write;
+    })
+
+pub returns-clause-serves : goal.returns-clause-serves
+returns-clause-serves g c = λ spaces fits here zeros.
+    let w = world_seen c.args.world.now in
+    let x : Spot = (c.args.self.now, c.args.at) in
+    let write : c.args.write ≡ true = c.if-not-write.false in
+    let own : x.0.own ≡ Some c.in-Some.own = sym c.own.ensures ∙ c.in-Some.is in
+    let shown : x.0.shown ≡ Some c.in-Some-shown._shown = sym c.shown.ensures ∙ c.in-Some-shown.is in
+    let bare : own_without_slot x.0.object ≡ None = elim zeros.new [
+      | inl new ↦ absurd (
+          let fit = subst (λ (ob : Object). ObjectFits (length w.files.files) w.maps x.0 ob) new.0 (object-fits w spaces c.args.space c.args.page x fits here) in
+          let z : None ≡ Some c.in-Some-shown._shown = sym fit.1 ∙ shown in cc)
+      | inr zero ↦ ap own_without_slot zero.3
+    ] in
+    subst (λ (b : Bool). ServesAnyFault (memory_of w spaces) (memory_of (world_seen c.own_zeros.new.world) spaces) c.args.world.now.pending c.own_zeros.new.world.pending c.args.space c.args.page x b c.own_zeros.result) (sym write)
+    (c.own_zeros.ensures.serves spaces x None fits (record {
+      here = here;
+      own = own;
+      place = refl;
+      holds = sym (ap (option_and_then (λ (n : ℕ). slot_in w.maps n x.1)) own) ∙ c.requires.bare;
+      shared = λ k e. absurd (let z : None ≡ Some k = e in cc);
+      bare = λ none. bare;
+      shows = shown-bare w.maps x c.requires.bare zeros.none;
+      some = shows-object w x zeros.has;
+      allowed = sym (ap (λ (b : Bool). cond b (can_write x.0.prot) (can_read x.0.prot)) write) ∙ c.requires.allowed;
+    }) tt)

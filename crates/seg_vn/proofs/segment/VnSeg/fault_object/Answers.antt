@@ -1,0 +1,71 @@
+use Rattle.std.proofs.Common.{◌≡◌, ℕ, ◌+◌, Bool, true, cond, Option, Some, None, refl, sym, ap, ◌∙◌, subst}
+use Rattle.std.specs.Prelude.{option_and_then, option_map}
+use Rattle.std.specs.Option.{option_or}
+use Rattle.vm_types.specs.Prot.{can_read, can_write}
+use Rattle.vm_world.specs.Segments.{Spot, object_name}
+use Rattle.vm_world.specs.World.{world_seen, slot_in, slot_name}
+use Rattle.seg_ops.proofs.StillSteps.{memory_of}
+use Rattle.seg_vn.specs.Faults.{ServesAnyFault}
+use Rattle.seg_vn.proofs.AnyPlaces.{place-in, own-there, not-new}
+use Rattle.seg_vn.proofs.AnySteps.{object-place, shared-in-place, past-serves, shows-object}
+use Rattle.seg_vn.proofs.FilePlaces.{write-allowed}
+use Rattle.seg_vn.proofs.segment.VnSeg.fault_object.Goals as goal
+
+pub object_page-requires-clause-within : goal.object_page-requires-clause-within
+object_page-requires-clause-within g c = let o = c.requires.fits in place-in (world_seen c.args.world.now) o.0 c.args.space c.args.page (c.args.self.now, c.args.at) o.1 o.2
+
+pub fault_page-requires-clause-home : goal.fault_page-requires-clause-home
+fault_page-requires-clause-home g c = let h = c.requires.home 0 in (h.0, h.2)
+
+pub fault_page-requires-then-not-write-clause-home : goal.fault_page-requires-then-not-write-clause-home
+fault_page-requires-then-not-write-clause-home g c = let h = c.requires.home 0 in (h.0, h.2)
+
+pub fault_copy-requires-clause-there : goal.fault_copy-requires-clause-there
+fault_copy-requires-clause-there g c =
+    let o = c.requires.fits in
+    (own-there (world_seen c.args.world.now) o.0 c.args.space c.args.page (c.args.self.now, c.args.at) o.1 o.2 c.in-Some.map (sym c.own.ensures ∙ c.in-Some.is)).0
+
+pub fault_copy-requires-clause-within : goal.fault_copy-requires-clause-within
+fault_copy-requires-clause-within g c =
+    let o = c.requires.fits in
+    (own-there (world_seen c.args.world.now) o.0 c.args.space c.args.page (c.args.self.now, c.args.at) o.1 o.2 c.in-Some.map (sym c.own.ensures ∙ c.in-Some.is)).1
+
+pub fault_copy-requires-clause-fits : goal.fault_copy-requires-clause-fits
+fault_copy-requires-clause-fits g c =
+    let o = c.requires.fits in
+    (o.0, (c.args.self.now, c.args.at), o.1, record { here = o.2; own = sym c.own.ensures ∙ c.in-Some.is; place = refl })
+
+pub returns-in-Past-clause-serves : goal.returns-in-Past-clause-serves
+returns-in-Past-clause-serves g c = λ spaces fits here.
+    past-serves (world_seen c.args.world.now) spaces c.args.space c.args.page (c.args.self.now, c.args.at) c.args.write c.args.world.now.pending fits c.requires.bare (c.in-Past.ensures.shows spaces c.args.space c.args.page fits here)
+
+pub returns-in-None-clause-serves : goal.returns-in-None-clause-serves
+returns-in-None-clause-serves g c = λ spaces fits here.
+    let w = world_seen c.args.world.now in
+    let x : Spot = (c.args.self.now, c.args.at) in
+    let shows = c.in-Page.ensures.shows spaces c.args.space c.args.page fits here in
+    let writable : c.can_write-writable.result ≡ can_write x.0.prot = c.can_write-writable.ensures ∙ ap can_write c.prot.ensures in
+    c.fault_page.ensures.serves spaces x c.args.write fits
+    (object-place w spaces c.args.space c.args.page x c.in-Page.name c.args.write c.can_write-writable.result here c.requires.bare shows.0 shows.2 c.requires.allowed
+    (λ writes. shared-in-place w spaces c.args.space c.args.page x fits here (sym c.own.ensures ∙ c.in-None.is) (sym writable ∙ writes))
+    (λ write. writable ∙ write-allowed c.args.write (can_read x.0.prot) (can_write x.0.prot) c.requires.allowed write))
+
+pub returns-else-not-write-clause-serves : goal.returns-else-not-write-clause-serves
+returns-else-not-write-clause-serves g c = λ spaces fits here.
+    let w = world_seen c.args.world.now in
+    let x : Spot = (c.args.self.now, c.args.at) in
+    let shows = c.in-Page.ensures.shows spaces c.args.space c.args.page fits here in
+    let write : c.args.write ≡ true = c.if-not-write.false in
+    let own : x.0.own ≡ Some c.in-Some.map = sym c.own.ensures ∙ c.in-Some.is in
+    subst (λ (b : Bool). ServesAnyFault (memory_of w spaces) (memory_of (world_seen c.fault_copy.new.world) spaces) c.args.world.now.pending c.fault_copy.new.world.pending c.args.space c.args.page x b c.fault_copy.result) (sym write)
+    (c.fault_copy.ensures.serves spaces x fits (record {
+      here = here;
+      own = own;
+      place = refl;
+      holds = sym (ap (option_and_then (λ (n : ℕ). slot_in w.maps n x.1)) own) ∙ c.requires.bare;
+      shared = λ k e. absurd (let z : None ≡ Some k = e in cc);
+      bare = λ none. not-new w.maps x c.in-Page.name shows.0;
+      shows = ap (λ (o : Option ℕ). option_or (option_map slot_name o) (object_name w.maps x.0.shown (x.0.index + x.1) x.0.object)) c.requires.bare ∙ shows.0;
+      some = shows-object w x shows.2;
+      allowed = sym (ap (λ (b : Bool). cond b (can_write x.0.prot) (can_read x.0.prot)) write) ∙ c.requires.allowed;
+    }))

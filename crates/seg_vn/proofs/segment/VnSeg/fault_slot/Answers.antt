@@ -1,0 +1,73 @@
+use Rattle.std.proofs.Common.{◌≡◌, ℕ, ◌<◌, ◌+◌, Bool, true, cond, Option, Some, None, refl, sym, ap, ◌∙◌, subst, arith}
+use Rattle.std.specs.Prelude.{◌||◌, is_some, option_and_then}
+use Rattle.anon_slots.specs.Slots.{count_at}
+use Rattle.vm_types.specs.Prot.{can_read, can_write}
+use Rattle.vm_world.specs.Segments.{Spot}
+use Rattle.vm_world.specs.Wants.{object_has}
+use Rattle.vm_world.specs.World.{world_seen, slot_in}
+use Rattle.vm_world.proofs.Counts.{held-used, used-below}
+use Rattle.vm_world.proofs.FlatWhole.{some-inj}
+use Rattle.seg_ops.proofs.SlotMemory.{lt-used}
+use Rattle.seg_ops.proofs.StillSteps.{memory_of}
+use Rattle.seg_vn.specs.Faults.{ServesAnyFault}
+use Rattle.seg_vn.proofs.AnySteps.{own-shown}
+use Rattle.seg_vn.proofs.segment.VnSeg.fault_slot.Given.{Over}
+use Rattle.seg_vn.proofs.segment.VnSeg.fault_slot.Goals.{In-Some}
+use Rattle.seg_vn.proofs.segment.VnSeg.fault_slot.Goals as goal
+
+-- the place holds the slot, which is in use
+held : (g : Over) (c : In-Some g) → slot_in c.args.world.now.maps c.in-Some.map c.args.at ≡ Some c.args.slot
+held g c = sym (ap (option_and_then (λ (n : ℕ). slot_in c.args.world.now.maps n c.args.at)) (sym c.own.ensures ∙ c.in-Some.is)) ∙ c.requires.own
+
+used : (g : Over) (c : In-Some g) → 0 < count_at c.args.world.now.anon c.args.slot
+used g c = held-used c.args.world.now.anon c.args.world.now.maps c.in-Some.map c.args.at c.args.slot c.requires.fits.1.counts (held g c)
+
+pub count-requires : goal.count-requires
+count-requires g c = used-below c.args.world.now.anon.counts c.args.slot (used g (goal.at.count-requires g c).In-Some)
+
+pub fault_page-requires-clause-home : goal.fault_page-requires-clause-home
+fault_page-requires-clause-home g c = let h = c.requires.home 0 in (h.0, h.2)
+
+pub fault_page-requires-then-not-write-clause-exists : goal.fault_page-requires-then-not-write-clause-exists
+fault_page-requires-then-not-write-clause-exists g c = lt-used (count_at c.args.world.now.anon c.args.slot) (used g (goal.at.fault_page-requires-then-not-write-clause-exists g c).In-Some)
+
+pub fault_page-requires-then-not-write-clause-home : goal.fault_page-requires-then-not-write-clause-home
+fault_page-requires-then-not-write-clause-home g c = let h = c.requires.home 0 in (h.0, h.2)
+
+pub fault_copy-requires-clause-exists : goal.fault_copy-requires-clause-exists
+fault_copy-requires-clause-exists g c = lt-used (count_at c.args.world.now.anon c.args.slot) (used g (goal.at.fault_copy-requires-clause-exists g c).In-Some)
+
+pub fault_copy-requires-clause-shared : goal.fault_copy-requires-clause-shared
+fault_copy-requires-clause-shared g c =
+    let some = used g (goal.at.fault_copy-requires-clause-shared g c).In-Some in
+    let ne = c.if-count-eq1.false in
+    let is = c.count.ensures in
+    (omega (arith, some, ne, is), refl)
+
+pub fault_copy-requires-clause-fits : goal.fault_copy-requires-clause-fits
+fault_copy-requires-clause-fits g c =
+    let o = c.requires.fits in
+    (o.0, (c.args.self.now, c.args.at), o.1, record { here = o.2; own = sym c.own.ensures ∙ c.in-Some.is; place = refl })
+
+pub returns-clause-serves : goal.returns-clause-serves
+returns-clause-serves g c = λ spaces fits here.
+    let w = world_seen c.args.world.now in
+    let x : Spot = (c.args.self.now, c.args.at) in
+    let s = c.args.slot in
+    let at = (goal.at.returns-clause-serves g c).In-Some in
+    let write : c.args.write ≡ true = c.if-not-write.false in
+    let some = used g at in
+    let ne = c.if-count-eq1.false in
+    let is = c.count.ensures in
+    subst (λ (b : Bool). ServesAnyFault (memory_of w spaces) (memory_of (world_seen c.fault_copy.new.world) spaces) c.args.world.now.pending c.fault_copy.new.world.pending c.args.space c.args.page x b c.fault_copy.result) (sym write)
+    (c.fault_copy.ensures.serves spaces x fits (record {
+      here = here;
+      own = sym c.own.ensures ∙ c.in-Some.is;
+      place = refl;
+      holds = held g at;
+      shared = λ k e. subst (λ (j : ℕ). 1 < count_at w.anon j) (some-inj s k e) (omega (arith, some, ne, is));
+      bare = λ none. absurd (let z : Some s ≡ None = none in cc);
+      shows = own-shown w.maps x s c.requires.own;
+      some = ap (λ (o : Option ℕ). is_some o || object_has w x.0.shown (x.0.index + x.1) x.0.object) c.requires.own;
+      allowed = sym (ap (λ (b : Bool). cond b (can_write x.0.prot) (can_read x.0.prot)) write) ∙ c.requires.allowed;
+    }))

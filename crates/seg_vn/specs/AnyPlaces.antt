@@ -1,0 +1,67 @@
+-- Places of any mapping, as their faults are served. Inside: no public clause cites this.
+use Rattle.std.specs.Prelude.{◌≡◌, ◌<◌, ◌||◌, ℕ, Bool, true, Option, Some, None, IsTrue}
+use Rattle.std.specs.FinSet as set
+use Rattle.std.specs.Ordering.{nat_cmp}
+use Rattle.anon_slots.specs.Slots.{count_at}
+use Rattle.page_hash.specs.declared.PageName.{PageName}
+use Rattle.page_store.specs.Notes.{Notes}
+use Rattle.page_store.specs.Seen.{residence}
+use Rattle.page_store.specs.declared.residence.Residence.TheVariants.{Absent}
+use Rattle.flat_model.specs.Flat.{shown}
+use Rattle.flat_model.specs.Words.{Page}
+use Rattle.vm_types.specs.Prot.{can_read, can_write}
+use Rattle.vm_types.specs.declared.call.Kind.TheVariants.{Private}
+use Rattle.vm_types.specs.declared.call.Object.TheVariants as object
+use Rattle.vm_world.specs.FlatMemory.{cell_of, flat_memory, own_without_slot}
+use Rattle.vm_world.specs.Pages.{contents_of}
+use Rattle.vm_world.specs.Segments.{Spot, Spaces, spot_at, own_slot, shown_name}
+use Rattle.vm_world.specs.TranslationsFit.{MayWriteInPlace}
+use Rattle.vm_world.specs.Wants.{shows_page}
+use Rattle.vm_world.specs.World.{World, slot_in, is_unpushed, page_exists}
+use Rattle.seg_vn.specs.Shown.{ZerosPlace}
+
+-- A place shows this page, which a translation may lead to: a writable one only where the page may be written where it is; and a store's is.
+pub record PagePlace (w : World) (spaces : Spaces) (p q : ℕ) (x : Spot) (name : PageName) (write writable : Bool) : Type 0 where
+  pub here : spot_at spaces p q ≡ Some x
+  pub shows : shown_name w.maps x ≡ Some name
+  pub some : IsTrue (shows_page w x)
+  pub allowed : IsTrue (can_read x.0.prot || can_write x.0.prot)
+  pub in_place : writable ≡ true → MayWriteInPlace w.anon w.maps x
+  pub lets : write ≡ true → writable ≡ true
+
+-- A place shows zeros, for which a place of a map is made; where a writable translation is to be loaded, its own one, if it is private.
+pub record ZerosShown (w : World) (spaces : Spaces) (p q : ℕ) (x : Spot) (m i : ℕ) (write writable : Bool) : Type 0 where
+  pub here : spot_at spaces p q ≡ Some x
+  pub bare : own_slot w.maps x ≡ None
+  pub zeros : ZerosPlace w spaces x m i
+  pub allowed : IsTrue (can_read x.0.prot || can_write x.0.prot)
+  pub in_place : writable ≡ true → IsTrue (can_write x.0.prot) × (x.0.kind ≡ Private → x.0.object ≡ object.NewZero)
+  pub lets : write ≡ true → writable ≡ true
+
+-- A store to a place whose page isn't its own alone: a private place, with its map and what that holds there: nothing, or a slot that other places hold
+-- too; and what it shows.
+pub record CopyPlace (w : World) (spaces : Spaces) (p q : ℕ) (x : Spot) (m i : ℕ) (slot : Option ℕ) (shown : Option PageName) : Type 0 where
+  pub here : spot_at spaces p q ≡ Some x
+  pub own : x.0.own ≡ Some m
+  pub place : x.1 ≡ i
+  pub holds : slot_in w.maps m i ≡ slot
+  pub shared : (s : ℕ) → slot ≡ Some s → 1 < count_at w.anon s
+  pub bare : slot ≡ None → own_without_slot x.0.object ≡ None
+  pub shows : shown_name w.maps x ≡ shown
+  pub some : IsTrue (shows_page w x)
+  pub allowed : IsTrue (can_write x.0.prot)
+
+-- Where the place holds no slot, its cell shows these bytes.
+abbrev pub CellShows : World → Spaces → Spot → Option ℕ → Page → Type 0
+CellShows w spaces x slot bytes = slot ≡ None → (born : set.FinSet nat_cmp) (notes : Notes) → shown (flat_memory (record { world = w; spaces = spaces }) born notes) (cell_of (contents_of w notes).place x) ≡ Some bytes
+
+-- What is shown is zeros that no frame holds: a page that was never pushed, or nothing of a zero object.
+abbrev pub ShowsZeros : World → Option PageName → Type 0
+ShowsZeros w None = Unit {0}
+ShowsZeros w (Some name) = (residence w.store name ≡ Absent) × IsTrue (is_unpushed w.files w.anon name) × IsTrue (page_exists w.files w.anon name)
+
+-- The place is a private page's own.
+pub record OwnSpot (spaces : Spaces) (p q m i : ℕ) (x : Spot) : Type 0 where
+  pub here : spot_at spaces p q ≡ Some x
+  pub own : x.0.own ≡ Some m
+  pub place : x.1 ≡ i

@@ -1,0 +1,213 @@
+//! Faults of segments of any mapping.
+ghost use Rattle.std.specs.Prelude.{◌≡◌, ◌≢◌, ◌≤◌, ◌<◌, ◌-◌, ℕ, None, Some, IsSome, IsTrue, if◌then◌else◌};
+ghost use Rattle.core_arena.specs.Bytes.{bytes_at};
+ghost use Rattle.page_store.specs.Notes.{Notes};
+ghost use Rattle.vm_types.specs.Prot.{can_read, can_write};
+ghost use Rattle.vm_world.specs.MemoryFits.{MemoryFits};
+ghost use Rattle.vm_world.specs.NotesFit.{NotesFit};
+ghost use Rattle.vm_world.specs.Segments.{Spaces, spot_at, own_slot};
+ghost use Rattle.vm_world.specs.World.{world_seen};
+ghost use Rattle.seg_vn.specs.Faults.{ServesAnyFault};
+ghost use Rattle.seg_vn.specs.Shown.{ZerosPlace};
+
+use crate::any_faults::{fault_page, fault_zeros};
+use crate::copy_faults::{fault_copy, own_zeros};
+use crate::segment::VnSeg;
+use crate::shown::Shown;
+use block_device::Disk;
+use page_store::{PageName, SWAP_OBJECT};
+use seg_ops::Step;
+use vm_types::Kind;
+use vm_world::World;
+
+impl VnSeg {
+    /// A fault at a place that has a slot of its own.
+    fn fault_slot<D: Disk>(
+        &self,
+        world: &mut World<D>,
+        space: u32,
+        page: u32,
+        at: u32,
+        slot: u32,
+        write: bool,
+    ) -> Step
+        requires allowed { IsTrue
+            (if write then can_write self.now.prot else can_read self.now.prot) }
+        requires own { own_slot world.old.maps (self.now, at) ≡ Some slot }
+        requires home { (beside : ℕ) → (frame : ℕ) × (frame ≢ beside)
+            × IsSome (bytes_at world.old.store.frames frame) }
+        requires fits { (spaces : Spaces)
+            × MemoryFits (record { world = world_seen world.old; spaces = spaces })
+            × (spot_at spaces space page ≡ Some (self.now, at)) }
+        requires noted { (notes : Notes) × NotesFit (world_seen world.old) notes }
+        ensures serves { (spaces : Spaces)
+            → MemoryFits (record { world = world_seen world.old; spaces = spaces })
+            → spot_at spaces space page ≡ Some (self.now, at)
+            → ServesAnyFault (record { world = world_seen world.old; spaces = spaces })
+            (record { world = world_seen world.new; spaces = spaces })
+            world.old.pending world.new.pending space page (self.now, at) write result }
+        // What stays.
+        ensures rest { world.new ≡ record world.old {
+          store = world.new.store;
+          anon = world.new.anon;
+          maps = world.new.maps;
+          hat = world.new.hat;
+          pending = world.new.pending;
+        } }
+    {
+        let object = SWAP_OBJECT;
+        let name = PageName { object, page: slot };
+        let Some(map) = self.own() else {
+            unreachable!();
+        };
+        if world.anon.count(slot) == 1 {
+            return fault_page(world, space, page, name, self.prot().can_write());
+        }
+        if !write {
+            return fault_page(world, space, page, name, false);
+        }
+        fault_copy(world, space, page, name, map, at, Some(slot))
+    }
+
+    /// A fault at a place that shows zeros, for which this place of this map is.
+    fn fault_empty<D: Disk>(
+        &self,
+        world: &mut World<D>,
+        space: u32,
+        page: u32,
+        at: u32,
+        map: u32,
+        place: u32,
+        write: bool,
+    ) -> Step
+        requires allowed { IsTrue
+            (if write then can_write self.now.prot else can_read self.now.prot) }
+        requires bare { own_slot world.old.maps (self.now, at) ≡ None }
+        requires home { (beside : ℕ) → (frame : ℕ) × (frame ≢ beside)
+            × IsSome (bytes_at world.old.store.frames frame) }
+        requires fits { (spaces : Spaces)
+            × MemoryFits (record { world = world_seen world.old; spaces = spaces })
+            × (spot_at spaces space page ≡ Some (self.now, at))
+            × ZerosPlace (world_seen world.old) spaces (self.now, at) map place }
+        requires noted { (notes : Notes) × NotesFit (world_seen world.old) notes }
+        ensures serves { (spaces : Spaces)
+            → MemoryFits (record { world = world_seen world.old; spaces = spaces })
+            → spot_at spaces space page ≡ Some (self.now, at)
+            → ZerosPlace (world_seen world.old) spaces (self.now, at) map place
+            → ServesAnyFault (record { world = world_seen world.old; spaces = spaces })
+            (record { world = world_seen world.new; spaces = spaces })
+            world.old.pending world.new.pending space page (self.now, at) write result }
+        // What stays.
+        ensures rest { world.new ≡ record world.old {
+          store = world.new.store;
+          anon = world.new.anon;
+          maps = world.new.maps;
+          hat = world.new.hat;
+          pending = world.new.pending;
+        } }
+    {
+        let writable = self.prot().can_write();
+        let Some(own) = self.own() else {
+            return fault_zeros(world, space, page, map, place, writable);
+        };
+        let Some(_shown) = self.shown() else {
+            return fault_zeros(world, space, page, map, place, writable);
+        };
+        if !write {
+            return fault_zeros(world, space, page, map, place, false);
+        }
+        own_zeros(world, space, page, own, at, None)
+    }
+
+    /// A fault at a place that has no slot of its own.
+    fn fault_object<D: Disk>(
+        &self,
+        world: &mut World<D>,
+        space: u32,
+        page: u32,
+        at: u32,
+        write: bool,
+    ) -> Step
+        requires allowed { IsTrue
+            (if write then can_write self.now.prot else can_read self.now.prot) }
+        requires bare { own_slot world.old.maps (self.now, at) ≡ None }
+        requires home { (beside : ℕ) → (frame : ℕ) × (frame ≢ beside)
+            × IsSome (bytes_at world.old.store.frames frame) }
+        requires fits { (spaces : Spaces)
+            × MemoryFits (record { world = world_seen world.old; spaces = spaces })
+            × (spot_at spaces space page ≡ Some (self.now, at)) }
+        requires noted { (notes : Notes) × NotesFit (world_seen world.old) notes }
+        ensures serves { (spaces : Spaces)
+            → MemoryFits (record { world = world_seen world.old; spaces = spaces })
+            → spot_at spaces space page ≡ Some (self.now, at)
+            → ServesAnyFault (record { world = world_seen world.old; spaces = spaces })
+            (record { world = world_seen world.new; spaces = spaces })
+            world.old.pending world.new.pending space page (self.now, at) write result }
+        // What stays.
+        ensures rest { world.new ≡ record world.old {
+          store = world.new.store;
+          anon = world.new.anon;
+          maps = world.new.maps;
+          hat = world.new.hat;
+          pending = world.new.pending;
+        } }
+    {
+        let writable = self.prot().can_write();
+        match self.object_page(world, at) {
+            Shown::Past => Step::Past,
+            Shown::Page(name) => match self.own() {
+                None => fault_page(world, space, page, name, writable),
+                Some(map) => {
+                    if !write {
+                        return fault_page(world, space, page, name, false);
+                    }
+                    fault_copy(world, space, page, name, map, at, None)
+                }
+            },
+            Shown::Zeros(map, place) => self.fault_empty(world, space, page, at, map, place, write),
+        }
+    }
+
+    /// Loads the translation of a page of any mapping, or says what that needs: a page that is shown is brought home, one
+    /// of zeros is made, and a store to a private page gives that a page of its own. `first` is the segment's first page
+    /// in the space. Takes no memory and makes no disk call. Time: what `make_room` takes, and one page.
+    pub fn fault_any<D: Disk>(
+        &self,
+        world: &mut World<D>,
+        space: u32,
+        first: u32,
+        page: u32,
+        write: bool,
+    ) -> Step
+        requires low { first ≤ page }
+        requires allowed { IsTrue
+            (if write then can_write self.now.prot else can_read self.now.prot) }
+        requires home { (beside : ℕ) → (frame : ℕ) × (frame ≢ beside)
+            × IsSome (bytes_at world.old.store.frames frame) }
+        requires fits { (spaces : Spaces)
+            × MemoryFits (record { world = world_seen world.old; spaces = spaces })
+            × (spot_at spaces space page ≡ Some (self.now, page - first)) }
+        requires noted { (notes : Notes) × NotesFit (world_seen world.old) notes }
+        ensures serves { (spaces : Spaces)
+            → MemoryFits (record { world = world_seen world.old; spaces = spaces })
+            → spot_at spaces space page ≡ Some (self.now, page - first)
+            → ServesAnyFault (record { world = world_seen world.old; spaces = spaces })
+            (record { world = world_seen world.new; spaces = spaces })
+            world.old.pending world.new.pending
+            space page (self.now, page - first) write result }
+        // What stays.
+        ensures rest { world.new ≡ record world.old {
+          store = world.new.store;
+          anon = world.new.anon;
+          maps = world.new.maps;
+          hat = world.new.hat;
+          pending = world.new.pending;
+        } }
+    {
+        let at = page - first;
+        match self.own_slot(world, at) {
+            Some(slot) => self.fault_slot(world, space, page, at, slot, write),
+            None => self.fault_object(world, space, page, at, write),
+        }
+    }
+}

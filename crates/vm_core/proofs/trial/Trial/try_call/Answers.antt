@@ -1,0 +1,28 @@
+use Rattle.std.proofs.Common.{◌+◌, add-one, ap, arith}
+use Rattle.vm_world.specs.State.{seat_of}
+use Rattle.vm_core.proofs.TrialLemmas.{trial-at, trial-answered, served-bears}
+use Rattle.vm_core.proofs.trial.Trial.try_call.Goals as goal
+
+pub try_call-requires-clause-fits : goal.try_call-requires-clause-fits
+try_call-requires-clause-fits c = trial-at c.self.inside.state c.self.inside.trips c.args.seat c.self.invariant (c.is_idle.ensures c.if-not-is_idle.false).1
+
+pub try_call-requires-clause-may : goal.try_call-requires-clause-may
+try_call-requires-clause-may c = record {
+  own = ap seat_of (add-one c.args.seat);
+  alive = c.is_alive.ensures.0 c.if-not-is_alive.false;
+  room = omega (arith, c.room.ensures, c.if-room-eq0.false);
+  follows = λ reply cleared. c.self.invariant.follows (record { process = c.args.seat + 1; call = c.args.call.now; reply = reply; cleared = cleared });
+  bears = served-bears c.self.inside.state _ c.args.call.now c.requires;
+}
+
+pub invariant_of-self-in-Done : goal.invariant_of-self-in-Done
+invariant_of-self-in-Done c =
+    trial-answered c.self.inside.state c.try_call.new.self c.self.inside.trips c.args.seat _ c.args.call.now _ c.self.invariant (c.is_idle.ensures c.if-not-is_idle.false).1 c.requires c.try_call.ensures.event c.in_ok-reply.ensures.answers
+
+pub invariant_of-self-in-Busy : goal.invariant_of-self-in-Busy
+invariant_of-self-in-Busy c =
+    trial-answered c.self.inside.state c.try_call.new.self c.self.inside.trips c.args.seat _ c.args.call.now _ c.self.invariant (c.is_idle.ensures c.if-not-is_idle.false).1 c.requires c.try_call.ensures.event c.in_ok-reply.ensures.answers
+
+pub send-requires-clause-trial : goal.send-requires-clause-trial
+send-requires-clause-trial c =
+    trial-answered c.self.inside.state c.try_call.new.self c.self.inside.trips c.args.seat _ c.args.call.now _ c.self.invariant (c.is_idle.ensures c.if-not-is_idle.false).1 c.requires c.try_call.ensures.event c.in_ok-reply.ensures.answers

@@ -1,0 +1,15 @@
+use Rattle.std.proofs.Common.{ap}
+use Rattle.vm_world.specs.State.{KernelState}
+use Rattle.vm_core.proofs.TrialLemmas.{trial-at, trial-same}
+use Rattle.vm_core.proofs.trial.Trial.turn.Goals as goal
+
+pub clock-requires : goal.clock-requires
+clock-requires c = record { fits = trial-at c.self.inside.state c.self.inside.trips c.args.seat c.self.invariant (c.is_idle.ensures c.if-not-is_idle.false).1 }
+
+pub send-requires-clause-trial : goal.send-requires-clause-trial
+send-requires-clause-trial c =
+    trial-same c.self.inside.state c.clock.new.self c.self.inside.trips c.args.seat c.self.invariant (c.is_idle.ensures c.if-not-is_idle.false).1 c.clock.ensures.event (ap (λ (s : KernelState). s.history) c.clock.ensures.rest)
+
+pub invariant_of-self-in-None : goal.invariant_of-self-in-None
+invariant_of-self-in-None c =
+    trial-same c.self.inside.state c.clock.new.self c.self.inside.trips c.args.seat c.self.invariant (c.is_idle.ensures c.if-not-is_idle.false).1 c.clock.ensures.event (ap (λ (s : KernelState). s.history) c.clock.ensures.rest)

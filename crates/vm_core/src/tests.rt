@@ -1,0 +1,461 @@
+//! Two processes over two disks in memory, of which one fails twice: their calls, transfers and turns of the clock, act by act, and the close. What is told
+//! of each act is worked out by hand.
+ghost use Rattle.std.specs.Prelude.{◌≡◌, ◌<◌, ℕ, List, true, false, IfOk};
+ghost use Rattle.block_device.specs.MemDiskLook.{look};
+ghost use Rattle.block_device.specs.MemSeen.{disk_of};
+ghost use Rattle.vm_core.specs.Calls.{IsServed};
+ghost use Rattle.vm_core.specs.Trials.{trial_file, trial_files};
+
+use super::*;
+use crate::trial::Told::{self, Busy, Done, Landed, Sent, Still};
+use crate::trial::Trial;
+use Act::{Clock, Do, Land, Try};
+use What::{Exit, Load, Map, Store};
+use block_device::{Block, MemDisk};
+use page_store::Hold;
+use std::alloc::{AllocError, Global};
+use std::test::Fail;
+use vm_types::Reply::{Mapped, Word};
+use vm_types::{Call, Errno, Kind, Object, Place, Prot, Reply, Signal};
+use vnode_files::{Extent, Extents, FileInfo, FileName, Files};
+
+#[derive(Clone, Copy, PartialEq, Eq, Debug)]
+enum Act {
+    /// A seat makes a call.
+    Do(u32, What),
+    /// A seat tries a call once; a transfer that it needs stays out.
+    Try(u32, What),
+    /// A seat's transfer is made and ends.
+    Land(u32),
+    /// The hands move for a seat until a push is out, so many times at most.
+    Clock(u32, u32),
+}
+
+#[derive(Clone, Copy, PartialEq, Eq, Debug)]
+enum What {
+    Load(u32),
+    Store(u32, u32),
+    /// Maps so many bytes at an address, to be read and, where this says so, written: a file from an offset on.
+    Map(u32, u32, bool, u32, u32),
+    Exit,
+}
+
+/// A disk of 16 blocks: block n is full of n more than this.
+fn new_disk(alloc: Global, first: u8, fail_at: &[u64]) -> Result<MemDisk, AllocError>
+    requires { first < 200 }
+    ensures { IfOk result (λ disk. (disk_of (look disk)).size ≡ 16) }
+{
+    let mut blocks = vec![in alloc; Block::zeros(); 16]?;
+    for n in 0..16u8 {
+        blocks[n as usize] = Block::new([first + n; 4096]);
+    }
+    Ok(MemDisk::from_blocks(blocks, fail_at.to_vec(alloc)?))
+}
+
+fn new_file(
+    alloc: Global,
+    name: FileName,
+    disk: u32,
+    pages: u32,
+    length: u32,
+    writable: bool,
+) -> Result<FileInfo, AllocError>
+    ensures { IfOk result (λ info. info ≡ trial_file name disk pages length writable) }
+{
+    Ok(FileInfo {
+        name,
+        disk,
+        extents: Extents::new(alloc, &[Extent { start: 1, pages }])?,
+        length,
+        writable,
+    })
+}
+
+/// A file of eight pages on disk 0, and one of two pages on disk 1 that may not be written; five bytes are in the last page of each.
+fn new_files(alloc: Global) -> Result<Files, AllocError>
+    ensures { IfOk result (λ files. (a b : List ℕ) × (files ≡ trial_files
+        (trial_file a 0 8 28677 true) (trial_file b 1 2 4101 false))) }
+{
+    let mut files = Files::new(alloc);
+    files.set_disk(0, 16)?;
+    files.set_disk(1, 16)?;
+    files.add(new_file(alloc, FileName::new(b"a"), 0, 8, 28677, true)?)?;
+    files.add(new_file(alloc, FileName::new(b"b"), 1, 2, 4101, false)?)?;
+    Ok(files)
+}
+
+/// Two processes over six frames and four translations. Calls 1 and 4 of disk 0 fail.
+fn started(alloc: Global) -> Result<Trial, Fail> {
+    let mut disks = Vec::with_capacity(alloc, 2)?;
+    disks.push_reserved((0, new_disk(alloc, 0, &[1, 4])?));
+    disks.push_reserved((1, new_disk(alloc, 16, &[])?));
+    let setup = Setup {
+        frames: 6,
+        translations: 4,
+        slots: 0,
+        disks,
+        swap: None,
+        files: new_files(alloc)?,
+        parents: [0u32, 0].to_vec(alloc)?,
+        entries: [99u32, 99].to_vec(alloc)?,
+        seats: 2,
+    };
+    match VmState::start(alloc, setup) {
+        Ok(state) => Ok(Trial::new(state)),
+        Err(_) => Err(Fail::new("no memory for the state")),
+    }
+}
+
+fn call_of(what: What) -> Call
+    ensures { IsServed result }
+{
+    match what {
+        What::Load(addr) => Call::Load { addr, size: 4 },
+        What::Store(addr, value) => Call::Store {
+            addr,
+            size: 4,
+            value,
+        },
+        What::Map(addr, length, writable, file, offset) => Call::Map {
+            place: Place::At(addr),
+            length,
+            prot: if writable {
+                Prot::READ | Prot::WRITE
+            } else {
+                Prot::READ
+            },
+            kind: Kind::Shared,
+            object: Object::File(file),
+            offset,
+        },
+        What::Exit => Call::Exit,
+    }
+}
+
+fn make(trial: &mut Trial, act: Act) -> Result<Told, Fail> {
+    match act {
+        Act::Do(seat, what) => trial.call(seat, &call_of(what)),
+        Act::Try(seat, what) => trial.try_call(seat, &call_of(what)),
+        Act::Land(seat) => trial.land(seat),
+        Act::Clock(seat, moves) => trial.clock(seat, moves),
+    }
+}
+
+const STORED: Told = Done(Reply::Done);
+
+const NO_MAP: Told = Done(Reply::Signal(Signal::NoMap));
+
+const ALIGN: Told = Done(Reply::Signal(Signal::Align));
+
+const PAST: Told = Done(Reply::Signal(Signal::Past));
+
+const PROT: Told = Done(Reply::Signal(Signal::Prot));
+
+const INVALID: Told = Done(Reply::Refused(Errno::Invalid));
+
+const NO_OBJECT: Told = Done(Reply::Refused(Errno::NoObject));
+
+const ACCESS: Told = Done(Reply::Refused(Errno::Access));
+
+const TOO_LARGE: Told = Done(Reply::Refused(Errno::TooLarge));
+
+const READ_FAILS: Told = Done(Reply::Io {
+    disk: 0,
+    before: 0,
+    after: 1,
+});
+
+/// The first act of which something else is told, with its place and what is told.
+type Other = (usize, Act, Told);
+
+/// One process, whose first read fails. Page k of the first file is full of bytes k + 1, page k of the second of 0x11 + k.
+fn a_read_fails(trial: &mut Trial) -> Result<Option<Other>, Fail> {
+    first_other(
+        trial,
+        &[
+            (Do(0, Load(0x1_0000)), NO_MAP),
+            (
+                Do(0, Map(0x1_0000, 0x9000, true, 0, 0)),
+                Done(Mapped(0x1_0000)),
+            ),
+            (Do(0, Load(0x1_0002)), ALIGN),
+            (Do(0, Load(0x1_8000)), PAST),
+            (Do(0, Load(0x1_0000)), READ_FAILS),
+            (Do(0, Load(0x1_0000)), Done(Word(0x0101_0101))),
+            // A page that nobody uses is let go of, and found again with no transfer.
+            (Clock(0, 48), Still),
+            (Try(0, Load(0x1_0000)), Done(Word(0x0101_0101))),
+        ],
+    )
+}
+
+/// A turn of the hands is F0 B3 F1 B4 F2 B5 F3 B0 F4 B1 F5 B2, front and back. The page is in frame 1, as the frame of the failed read is free last: the
+/// tenth move pushes what was stored into it.
+fn hands_push(trial: &mut Trial) -> Result<Option<Other>, Fail> {
+    first_other(
+        trial,
+        &[
+            (Do(0, Store(0x1_0000, 5)), STORED),
+            (Clock(1, 9), Still),
+            (Clock(1, 1), Sent),
+            // It is stored into while its push is out.
+            (Try(0, Load(0x1_0000)), Done(Word(5))),
+            (Try(0, Store(0x1_0000, 1)), STORED),
+            (Land(1), Landed),
+            // It is used between the hands, F1 and B1, so that the back one leaves it alone.
+            (Clock(1, 5), Still),
+            (Try(0, Load(0x1_0000)), Done(Word(1))),
+            (Clock(1, 7), Still),
+            // Its next push fails, and is made again a turn later.
+            (Clock(1, 11), Still),
+            (Clock(1, 1), Sent),
+            (Land(1), Landed),
+            (Clock(1, 11), Still),
+            (Clock(1, 1), Sent),
+            (Land(1), Landed),
+            (Clock(1, 48), Still),
+        ],
+    )
+}
+
+/// Two seats want one page, and one disk.
+fn seats_want_one_page(trial: &mut Trial) -> Result<Option<Other>, Fail> {
+    first_other(
+        trial,
+        &[
+            (Do(1, Map(0x2000, 0x8000, true, 0, 0)), Done(Mapped(0x2000))),
+            (Try(1, Load(0x3000)), Sent),
+            (Try(0, Load(0x1_1000)), Busy(Hold::Page(1))),
+            (Try(0, Load(0x1_2000)), Busy(Hold::Disk(1))),
+            (Try(0, Load(0x1_0000)), Done(Word(1))),
+            (Land(1), Landed),
+            (Try(0, Load(0x1_1000)), Done(Word(0x0202_0202))),
+            (Try(1, Load(0x3000)), Done(Word(0x0202_0202))),
+        ],
+    )
+}
+
+/// Six pages through four translations: each is found with no transfer.
+fn translations_are_few(trial: &mut Trial) -> Result<Option<Other>, Fail> {
+    first_other(
+        trial,
+        &[
+            (Do(0, Load(0x1_2000)), Done(Word(0x0303_0303))),
+            (Do(0, Load(0x1_3000)), Done(Word(0x0404_0404))),
+            (Do(0, Load(0x1_4000)), Done(Word(0x0505_0505))),
+            (Do(0, Load(0x1_5000)), Done(Word(0x0606_0606))),
+            (Try(0, Load(0x1_0000)), Done(Word(1))),
+            (Try(0, Load(0x1_1000)), Done(Word(0x0202_0202))),
+            (Try(0, Load(0x1_2000)), Done(Word(0x0303_0303))),
+            (Try(0, Load(0x1_3000)), Done(Word(0x0404_0404))),
+            (Try(0, Load(0x1_4000)), Done(Word(0x0505_0505))),
+            (Try(0, Load(0x1_5000)), Done(Word(0x0606_0606))),
+        ],
+    )
+}
+
+/// Pages 1 to 5 are in frames 5, 0, 2, 3 and 4. The hands make F5 B2 F0 B3 F1 B4 F2, then B5 F3 B0: page 1 is used in between, and page 2 isn't, so that
+/// it loses its frame to the next page; the others stay.
+fn hands_pass(trial: &mut Trial) -> Result<Option<Other>, Fail> {
+    first_other(
+        trial,
+        &[
+            (Clock(1, 7), Still),
+            (Try(0, Load(0x1_1000)), Done(Word(0x0202_0202))),
+            (Clock(1, 3), Still),
+            (Try(0, Load(0x1_6000)), Sent),
+            (Land(0), Landed),
+            (Try(0, Load(0x1_6000)), Done(Word(0x0707_0707))),
+            (Try(0, Load(0x1_0000)), Done(Word(1))),
+            (Try(0, Load(0x1_1000)), Done(Word(0x0202_0202))),
+            (Try(0, Load(0x1_3000)), Done(Word(0x0404_0404))),
+            (Try(0, Load(0x1_4000)), Done(Word(0x0505_0505))),
+            (Try(0, Load(0x1_5000)), Done(Word(0x0606_0606))),
+            (Try(0, Load(0x1_2000)), Sent),
+            (Land(0), Landed),
+        ],
+    )
+}
+
+/// A page is read while frames of its file are taken for the other file.
+fn frames_are_taken_during_a_read(trial: &mut Trial) -> Result<Option<Other>, Fail> {
+    first_other(
+        trial,
+        &[
+            (
+                Do(0, Map(0x3_0000, 0x3000, false, 1, 0)),
+                Done(Mapped(0x3_0000)),
+            ),
+            (Try(1, Load(0x9000)), Sent),
+            (Do(0, Load(0x3_0000)), Done(Word(0x1111_1111))),
+            (Do(0, Load(0x3_1000)), Done(Word(0x1212_1212))),
+            (Do(0, Load(0x3_1004)), Done(Word(0x1200_0000))),
+            (Do(0, Load(0x3_2000)), PAST),
+            (Land(1), Landed),
+            (Do(1, Load(0x9000)), Done(Word(0x0808_0808))),
+        ],
+    )
+}
+
+/// More pages than frames, and than translations.
+fn frames_are_few(trial: &mut Trial) -> Result<Option<Other>, Fail> {
+    first_other(
+        trial,
+        &[
+            (Do(0, Store(0x1_1000, 2)), STORED),
+            (Do(0, Store(0x1_2000, 3)), STORED),
+            (Do(0, Store(0x1_3000, 4)), STORED),
+            (Do(0, Store(0x1_4000, 5)), STORED),
+            (Do(0, Store(0x1_5000, 6)), STORED),
+            (Do(0, Store(0x1_6000, 7)), STORED),
+            (Do(0, Store(0x1_7000, 8)), STORED),
+            (Do(0, Load(0x1_0000)), Done(Word(1))),
+            (Do(0, Load(0x1_1000)), Done(Word(2))),
+            (Do(0, Load(0x1_2000)), Done(Word(3))),
+            (Do(0, Load(0x1_3000)), Done(Word(4))),
+            (Do(0, Load(0x1_4000)), Done(Word(5))),
+            (Do(0, Load(0x1_5000)), Done(Word(6))),
+            (Do(0, Load(0x1_6000)), Done(Word(7))),
+            (Do(0, Load(0x1_7000)), Done(Word(8))),
+            (Do(0, Load(0x1_0004)), Done(Word(0x0101_0101))),
+            (Do(0, Load(0x1_7004)), Done(Word(0x0800_0000))),
+        ],
+    )
+}
+
+/// What one process stored the other sees.
+fn stores_are_seen(trial: &mut Trial) -> Result<Option<Other>, Fail> {
+    first_other(
+        trial,
+        &[
+            (Do(1, Load(0x2000)), Done(Word(1))),
+            (Do(1, Load(0x3000)), Done(Word(2))),
+            (Do(1, Load(0x4000)), Done(Word(3))),
+            (Do(1, Load(0x5000)), Done(Word(4))),
+            (Do(1, Load(0x6000)), Done(Word(5))),
+            (Do(1, Load(0x7000)), Done(Word(6))),
+            (Do(1, Load(0x9000)), Done(Word(8))),
+            (Do(0, Store(0x3_0000, 9)), PROT),
+        ],
+    )
+}
+
+/// Mappings in the place of others, whose ends they cut.
+fn mappings_are_replaced(trial: &mut Trial) -> Result<Option<Other>, Fail> {
+    first_other(
+        trial,
+        &[
+            (Do(0, Load(0x1_2000)), Done(Word(3))),
+            (Do(0, Load(0x1_4000)), Done(Word(5))),
+            (
+                Do(0, Map(0x1_2000, 0x3000, false, 1, 0)),
+                Done(Mapped(0x1_2000)),
+            ),
+            (Do(0, Load(0x1_1000)), Done(Word(2))),
+            (Do(0, Load(0x1_2000)), Done(Word(0x1111_1111))),
+            (Do(0, Load(0x1_3000)), Done(Word(0x1212_1212))),
+            (Do(0, Load(0x1_4000)), PAST),
+            (Do(0, Load(0x1_5000)), Done(Word(6))),
+            (
+                Do(0, Map(0x1_1000, 0x2000, true, 0, 0x6000)),
+                Done(Mapped(0x1_1000)),
+            ),
+            (Do(0, Load(0x1_0000)), Done(Word(1))),
+            (Do(0, Load(0x1_1000)), Done(Word(7))),
+            (Do(0, Load(0x1_2000)), Done(Word(8))),
+            (Do(0, Load(0x1_3000)), Done(Word(0x1212_1212))),
+        ],
+    )
+}
+
+/// Refusals, each before those that come later.
+fn maps_are_refused(trial: &mut Trial) -> Result<Option<Other>, Fail> {
+    first_other(
+        trial,
+        &[
+            (Do(0, Map(0x1_1001, 0x1000, true, 7, 0)), INVALID),
+            (Do(0, Map(0x1_1000, 0x1000_1000, true, 7, 0)), NO_OBJECT),
+            (Do(0, Map(0x1_1000, 0x1000_1000, true, 1, 0)), ACCESS),
+            (Do(0, Map(0x1_1000, 0x1000_1000, true, 0, 0)), TOO_LARGE),
+            (Do(0, Load(0x1_1000)), Done(Word(7))),
+        ],
+    )
+}
+
+/// A process ends with pages modified.
+fn processes_end(trial: &mut Trial) -> Result<Option<Other>, Fail> {
+    first_other(
+        trial,
+        &[
+            (Do(1, Store(0x7000, 16)), STORED),
+            (Do(1, Exit), STORED),
+            (Do(0, Load(0x1_5000)), Done(Word(16))),
+            (Do(0, Store(0x1_6000, 17)), STORED),
+            (Do(0, Exit), STORED),
+        ],
+    )
+}
+
+/// The first bytes of a block; none past the disk's end.
+fn first_bytes(disk: &MemDisk, block: usize) -> Option<[u8; 6]> {
+    let block = disk.content().get(block)?;
+    let bytes = &block.bytes;
+    Some([bytes[0], bytes[1], bytes[2], bytes[3], bytes[4], bytes[5]])
+}
+
+/// What they are at the close: each page of the first file has its last word, and zeros past the file's end.
+fn closed(disk: u32, block: u8) -> Option<[u8; 6]> {
+    Some(match (disk, block) {
+        (0, 6) => [0, 0, 0, 16, 6, 6],
+        (0, 7) => [0, 0, 0, 17, 7, 7],
+        (0, 8) => [0, 0, 0, 8, 8, 0],
+        (0, 1..=5) => [0, 0, 0, block, block, block],
+        (0, _) => [block; 6],
+        _ => [16 | block; 6],
+    })
+}
+
+/// The least block of a disk whose first bytes aren't what they are at the close.
+fn wrong_block(number: u32, disk: &MemDisk) -> Option<u8> {
+    for block in 0..16u8 {
+        if first_bytes(disk, block as usize) != closed(number, block) {
+            return Some(block);
+        }
+    }
+    None
+}
+
+fn first_other(trial: &mut Trial, acts: &[(Act, Told)]) -> Result<Option<Other>, Fail> {
+    for (place, &(act, told)) in acts.iter().enumerate() {
+        let made = make(trial, act)?;
+        if made != told {
+            return Ok(Some((place, act, made)));
+        }
+    }
+    Ok(None)
+}
+
+#[test]
+fn two_processes_use_files_through_few_frames(rt: HostRuntime) -> Result<(), Fail> {
+    let mut trial = started(rt.alloc())?;
+    assert_eq!(rt; a_read_fails(&mut trial)?, None);
+    assert_eq!(rt; hands_push(&mut trial)?, None);
+    assert_eq!(rt; seats_want_one_page(&mut trial)?, None);
+    assert_eq!(rt; translations_are_few(&mut trial)?, None);
+    assert_eq!(rt; hands_pass(&mut trial)?, None);
+    assert_eq!(rt; frames_are_taken_during_a_read(&mut trial)?, None);
+    assert_eq!(rt; frames_are_few(&mut trial)?, None);
+    assert_eq!(rt; stores_are_seen(&mut trial)?, None);
+    assert_eq!(rt; mappings_are_replaced(&mut trial)?, None);
+    assert_eq!(rt; maps_are_refused(&mut trial)?, None);
+    assert_eq!(rt; processes_end(&mut trial)?, None);
+    let finished = trial.finish()?;
+    let history = &finished.history;
+    assert_eq!(rt; finished.fault, None);
+    assert_eq!(rt; history.entries().len(), 86);
+    assert_eq!(rt; (history.faults(0), history.faults(1)), (Some(2), Some(0)));
+    for (number, disk) in &finished.disks {
+        assert_eq!(rt; wrong_block(*number, disk), None, "disk {number}");
+    }
+    Ok(())
+}
