@@ -123,9 +123,9 @@ def layers():
     p = Picture('layers.svg', 'The layers', 820, 640)
     rows = [
         (30, [('sunvm', 'run, main')]),
-        (110, [('vm_script', 'plans'), ('vm_report', 'texts'), ('one_file_core', 'one file'), ('kernel_lock', 'one state, one history')]),
+        (110, [('vm_script', 'plans'), ('vm_report', 'texts'), ('volume_format', 'block 0'), ('kernel_lock', 'one state, one history')]),
         (220, [('vm_core', 'events'), ('fault_entry', 'loads, stores'), ('mmap_calls', 'mappings'), ('proc_calls', 'exit'), ('seg_vn', 'segments')]),
-        (300, [('vm_world', 'what the state means'), ('seg_ops', 'small steps'), ('page_store', 'pages by name'), ('volume_format', 'block 0')]),
+        (300, [('vm_world', 'what the state means'), ('seg_ops', 'small steps'), ('page_store', 'pages by name')]),
         (380, [('core_arena', 'frames'), ('page_hash', 'names'), ('page_lists', 'free, cached'), ('page_lock', 'holders, bits'), ('page_clock', 'two hands')]),
         (460, [('anon_slots', 'counts'), ('anon_map', 'arrays'), ('hat_layer', 'translations'), ('addr_space', 'pieces'), ('vnode_files', 'extents')]),
         (550, [('block_device', 'disks, streams'), ('disk_file', 'a real disk'), ('swap_slots', 'least free'), ('flat_model', 'what it all means'), ('vm_types', 'calls, replies')]),
@@ -135,7 +135,7 @@ def layers():
         left = (820 - w * len(crates) - 10 * (len(crates) - 1)) / 2
         for i, (name, words) in enumerate(crates):
             p.box(left + i * (w + 10), y, w, 52, name, words)
-    p.text(410, 205, 'sunvm stands on one_file_core, flat_model, vnode_files and block_device today; the others stand, proved, and wait for the program', 'small')
+    p.text(410, 205, 'sunvm stands on all of them but kernel_lock, which waits for threads', 'small')
     p.save()
 
 

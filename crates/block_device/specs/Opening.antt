@@ -1,5 +1,5 @@
 -- What the calls of an unopened disk do. Public clauses cite this.
-use Rattle.std.specs.Prelude.{ℕ, ◌≡◌, ◌≤◌, Some, None, Result, IfOk, IfErr}
+use Rattle.std.specs.Prelude.{ℕ, ◌≡◌, ◌≤◌, ◌+◌, Some, None, Result, IfOk, IfErr, OnOk, OnErr}
 use Rattle.block_device.specs.Counts.{HasRisen}
 use Rattle.block_device.specs.DiskSeen.{DiskSeen}
 use Rattle.block_device.specs.OpenSeen.{OpenFaultSeen}
@@ -16,10 +16,13 @@ IsRackFault old new number (Failed fault) =
     (fault.disk ≡ number) × (fault.counts ≡ None) × HasRisen old.faults new.faults
 IsRackFault old new number Memory = new ≡ old
 
--- What `attach` does: it gives the disk of the spec under the spec's number, or a fault of the rack, or
--- lacks memory.
+-- What `attach` does: it gives the disk of the spec under the spec's number, which has counted no fault, and
+-- the rack counts it as attached; or a fault of the rack, or lacks memory.
 pub record Opens {D : Type 0} (old new : RackSeen) (spec : Spec) (seen : D → DiskSeen) (result : Result (NumberedDisk D) AttachFault) : Type 0 where
   pub attached : IfOk result (λ given. (given.number ≡ spec_number spec) × IsAttached spec (old.holds spec) (seen given.disk))
+  pub unfailed : IfOk result (λ given. (seen given.disk).faults ≡ 0)
+  pub counted : OnOk result (new.attached ≡ old.attached + 1)
+  pub uncounted : OnErr result (new.attached ≡ old.attached)
   pub others : KeepsOthers old new spec
   pub later : old.faults ≤ new.faults
   pub failed : IfErr result (IsRackFault old new (spec_number spec))

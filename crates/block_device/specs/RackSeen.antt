@@ -1,5 +1,5 @@
 -- What contracts see of a rack, and what attaching a disk does. Public clauses cite this.
-use Rattle.std.specs.Prelude.{ℕ, ◌≡◌, ◌≢◌, ◌≤◌, List, Option, replicate, IfSome, Result, IfOk, IsErrOf}
+use Rattle.std.specs.Prelude.{ℕ, ◌≡◌, ◌≢◌, ◌≤◌, ◌+◌, List, Option, replicate, IfSome, Result, IfOk, IsErrOf, OnOk, OnErr}
 use Rattle.block_device.specs.Counts.{HasRisen}
 use Rattle.block_device.specs.DiskSeen.{DiskSeen}
 use Rattle.block_device.specs.declared.rack.Spec.{Spec}
@@ -7,10 +7,11 @@ use Rattle.block_device.specs.declared.rack.Spec.TheVariants.{Blank, Path}
 use Rattle.block_device.specs.declared.rack.RackFault.{RackFault}
 use Rattle.block_device.specs.declared.rack.RackFault.TheVariants.{Failed, Memory}
 
--- The content of the disk of each spec, where the rack tells it, and how often attaching failed.
+-- The content of the disk of each spec, where the rack tells it, how often attaching failed, and how many disks were attached.
 pub record RackSeen : Type 0 where
   pub holds : Spec → Option (List (List ℕ))
   pub faults : ℕ
+  pub attached : ℕ
 
 -- the number of the disk that a spec asks for
 abbrev pub spec_number : Spec → ℕ
@@ -28,10 +29,13 @@ IsAttached (Path number path) holds disk = disk.content ≡ holds
 abbrev pub KeepsOthers : RackSeen → RackSeen → Spec → Type 0
 KeepsOthers old new spec = (other : Spec) → spec_number other ≢ spec_number spec → new.holds other ≡ old.holds other
 
--- What `attach` does: it gives the disk of the spec, or fails with a fault counted, or lacks memory and
--- leaves the rack as it was.
+-- What `attach` does: it gives the disk of the spec, which has counted no fault, and counts it as attached;
+-- or fails with a fault counted, or lacks memory and leaves the rack as it was.
 pub record Attaches {D : Type 0} (old new : RackSeen) (spec : Spec) (seen : D → DiskSeen) (result : Result D RackFault) : Type 0 where
   pub attached : IfOk result (λ disk. IsAttached spec (old.holds spec) (seen disk))
+  pub unfailed : IfOk result (λ disk. (seen disk).faults ≡ 0)
+  pub counted : OnOk result (new.attached ≡ old.attached + 1)
+  pub uncounted : OnErr result (new.attached ≡ old.attached)
   pub others : KeepsOthers old new spec
   pub later : old.faults ≤ new.faults
   pub failed : IsErrOf result Failed → HasRisen old.faults new.faults

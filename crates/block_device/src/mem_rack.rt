@@ -1,5 +1,5 @@
 //! A rack in memory.
-ghost use Rattle.std.specs.Prelude.{◌≡◌, ◌↔◌, ◌<◌, ◌^◌, map, option_map, IsTrue, IfSome, IfOk, OnOk, OnErr, IsErrOf, is_none, unwrap_or, length, vec_len, []};
+ghost use Rattle.std.specs.Prelude.{◌≡◌, ◌↔◌, ◌<◌, ◌^◌, map, option_map, IsTrue, IfSome, IfOk, OnOk, OnErr, IsErrOf, is_none, is_ok, unwrap_or, length, vec_len, []};
 ghost use Rattle.block_device.specs.MemDiskLook.{look, blocks_seen};
 ghost use Rattle.block_device.specs.MemRackSeen.{fresh_rack, with_kept, kept_under, content_for, rack_of, disk_fails_at, is_spec_refused, after_attach, disk_for};
 ghost use Rattle.block_device.specs.MemSeen.{disk_of, fresh_disk, blank};
@@ -20,7 +20,7 @@ struct KeptDisk {
 
 /// A rack in memory, which fails at listed calls, numbered from 1. It makes blank disks, and keeps disks
 /// under paths: each attaching by path gives a disk of its own with the blocks kept there, and the rack
-/// keeps them as they are. It fails at a path under which it keeps none.
+/// keeps them as they are. It fails at a path under which it keeps none, and once it attached 2^64 - 1 disks.
 ///
 /// Attaching costs the blocks of the disk, a look through the list, and for a path one comparison for each
 /// disk that is kept.
@@ -30,6 +30,7 @@ pub struct MemRack {
     kept: Vec<KeptDisk>,
     disks_fail_at: Vec<Vec<u64>>,
     calls: Failing,
+    attached: u64,
 }
 
 impl Model for MemRack {
@@ -39,7 +40,7 @@ impl Model for MemRack {
 
     ghost Value = { MemRackSeen };
 
-    ghost view = { λ r. record { kept = map (λ disk. (disk.path, blocks_seen disk.blocks.items)) r.kept.items; disks_fail_at = map (λ list. list.items) r.disks_fail_at.items; calls = r.calls } };
+    ghost view = { λ r. record { kept = map (λ disk. (disk.path, blocks_seen disk.blocks.items)) r.kept.items; disks_fail_at = map (λ list. list.items) r.disks_fail_at.items; calls = r.calls; attached = r.attached } };
 }
 
 impl MemRack {
@@ -53,6 +54,7 @@ impl MemRack {
             kept: Vec::new(alloc),
             disks_fail_at,
             calls: Failing::new(fail_at),
+            attached: 0,
         }
     }
 
@@ -151,18 +153,21 @@ impl Rack for MemRack {
     fn attach(&mut self, spec: &Spec) -> Result<MemDisk, RackFault>
         ensures attaches { Attaches
             (rack_of self.old) (rack_of self.new) spec.now (λ d. disk_of (look d)) result }
-        ensures after { self.new ≡ after_attach self.old spec.now }
+        ensures after { self.new ≡ after_attach self.old spec.now (is_ok result) }
         ensures fails { IsErrOf result RackFault.Failed
             ↔ IsTrue (is_spec_refused self.old spec.now) }
         ensures disk { IfOk result (λ disk. look disk ≡ disk_for self.old spec.now) }
     {
-        let fails = self.calls.lists_next() || self.lacks(spec);
+        let fails = self.calls.lists_next() || self.lacks(spec) || self.attached == u64::MAX;
         self.calls.count(fails);
         if fails {
             return Err(RackFault::Failed);
         }
         match self.make(spec) {
-            Ok(disk) => Ok(disk),
+            Ok(disk) => {
+                self.attached += 1;
+                Ok(disk)
+            }
             Err(_) => Err(RackFault::Memory),
         }
     }

@@ -49,7 +49,7 @@ pub trait Rack {
     fn faults(&self) -> u64
         ensures { result ≡ (seen self.now).faults };
 
-    /// Attaches the disk of a spec. Where memory lacks, the rack is as it was.
+    /// Attaches the disk of a spec, and counts it. Where memory lacks, the rack is as it was.
     fn attach(&mut self, spec: &Spec) -> Result<Self::D, RackFault>
         ensures { Attaches (seen self.old) (seen self.new) spec.now Self.D.seen result };
 }

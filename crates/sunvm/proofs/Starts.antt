@@ -1,111 +1,146 @@
--- A kernel that starts with a plan's file.
-use Rattle.std.proofs.Common.{◌≡◌, ℕ, ◌<◌, Bool, true, List, [], ◌∷◌, length, map, refl, sym, ap, ◌∙◌, subst, arith}
-use Rattle.std.specs.Prelude.{Option, Some, None, IfSome, IfNone, IsSome, IsTrue}
+-- What a kernel may be started with, once the files were placed, and what it is then.
+use Rattle.std.proofs.Common.{◌≡◌, ℕ, zero, suc, ◌+◌, ◌<◌, ◌≤◌, ◌==◌, Bool, true, false, cond, List, [], ◌∷◌, length, map, take, Option, Some, None, refl, sym, ap, ◌∙◌, inl, inr, subst, arith}
+use Rattle.std.specs.Prelude.{slice_get, slice_index, slice_index_or, option_map, is_some, count_by, IfSome, MatchOption, All}
 use Rattle.std.specs.FinMap as finite
-use Rattle.std.specs.FinSet as set
-use Rattle.std.specs.Ordering.{nat_cmp}
-use Rattle.flat_model.specs.Words.{Page, pages_in}
-use Rattle.flat_model.specs.Flat.{Flat, Space, space_of}
-use Rattle.flat_model.specs.Parts.{pages_of_bytes}
-use Rattle.flat_model.proofs.Ranges.{get-insert_here}
-use Rattle.vnode_files.specs.declared.vnode.FileInfo.{FileInfo}
-use Rattle.vnode_files.specs.Files as vnode
+use Rattle.std.proofs.lemmas.Bool.{cases_eq, ne_eqb}
+use Rattle.std.proofs.lemmas.List.{length-map, get_or-map, take_all}
 use Rattle.block_device.specs.DiskSeen.{DiskSeen}
-use Rattle.one_file_core.specs.State.{StateSeen, flat, file_of, sizes_of, spaces_of, Fits, disks_seen, blocks_of, info_of, IsOnDisks, HoldsPages}
-use Rattle.one_file_core.specs.Table.{cells}
-use Rattle.sunvm.specs.Script.{Plan}
-use Rattle.sunvm.specs.Run.{filled, opening}
-use Rattle.one_file_core.specs.declared.history.DiskFault.{DiskFault}
-use Rattle.one_file_core.specs.Closing.{HistorySeen}
-use Rattle.sunvm.specs.Ending.{IsPlayed}
-use Rattle.sunvm.specs.Playing.{IsDisk0, size_of}
-use Rattle.sunvm.specs.Parts.{plan_info, Makes, Leaves, HoldsBytes, HasCount, IsLateFault}
-use Rattle.sunvm.specs.Running.{files_of}
-use Rattle.sunvm.proofs.Sinks.{if_both}
+use Rattle.block_device.specs.RackSeen.{spec_number}
+use Rattle.block_device.specs.declared.numbered.NumberedDisk.{NumberedDisk}
+use Rattle.block_device.specs.declared.rack.Spec.{Spec}
+use Rattle.page_store.specs.Bays.{BaySeen, home, bay_at, disk_in, disks_in, AreNumbers, numbers_of, pairs_seen}
+use Rattle.page_store.specs.New.{AreHome}
+use Rattle.page_store.specs.Notes.{no_notes}
+use Rattle.vnode_files.specs.Files.{FilesSeen}
+use Rattle.vm_core.specs.Setup.{disk_total, SwapServes}
+use Rattle.vm_script.specs.declared.plan.SetupLine.{SetupLine}
+use Rattle.vm_script.specs.PlanSeen.{PlanSeen}
+use Rattle.vm_script.specs.Rules.{amounts_of, gives_a_disk, broken_rule}
+use Rattle.vm_world.specs.FlatMemory.{flat_memory}
+use Rattle.vm_world.specs.Opening.{IsOpening, no_seats}
+use Rattle.vm_world.specs.State.{KernelState}
+use Rattle.vm_world.specs.StateFits.{StateFits}
+use Rattle.vm_world.proofs.PageNames.{index-of}
+use Rattle.sunvm.specs.declared.attaching.Attached.{Attached}
+use Rattle.sunvm.specs.declared.ending.Ending.TheVariants.{Memory}
+use Rattle.sunvm.specs.declared.ending.Stop.{Stop}
+use Rattle.sunvm.specs.Attached.{AttachedSeen, ArePlaced, HandsStopped, StopCause, StopsEarly, attached_seen, numbered_seen, bare}
+use Rattle.sunvm.specs.Handed.{HandsAll, HandsFront, HaveSpecSizes, IsSwapFor, disk_numbers}
+use Rattle.sunvm.specs.Opened.{OpenedFile, opening_flat, disk_specs}
+use Rattle.sunvm.specs.Played.{IsStarted, HasRoomForPlan}
+use Rattle.sunvm.specs.Written.{LieWell, HaveDisks}
+use Rattle.sunvm.proofs.StartRules.{HasRightAmounts, right-amounts, few-disks, disk-numbers}
+use Rattle.sunvm.proofs.StartedFlat.{IsStartedWith, started-fits}
 
--- the file of a list of one
-pub file_is : (files : vnode.FilesSeen) (plan : Plan) → files ≡ files_of plan → (vnode.vnode_at files 0).info ≡ plan_info plan
-file_is files plan is = ap (λ (fs : vnode.FilesSeen). (vnode.vnode_at fs 0).info) is
+-- disks with their numbers
+abbrev pub with_number : {D : Type 0} → NumberedDisk D → ℕ × D
+with_number d = (d.number, d.disk)
 
-pub disks_are : {D : Type 0} (seen : D → DiskSeen) (disks : List (ℕ × D)) (d : D) → disks ≡ (0, d) ∷ [] → disks_seen seen disks ≡ (0, seen d) ∷ []
-disks_are seen disks d is = ap (disks_seen seen) is
+pub pairs-are : {D : Type 0} (seen : D → DiskSeen) (disks : List (NumberedDisk D)) → pairs_seen seen (map with_number disks) ≡ map (numbered_seen seen) disks
+pairs-are seen [] = refl
+pairs-are seen (d ∷ disks) = ap (λ (l : List (ℕ × DiskSeen)). numbered_seen seen d ∷ l) (pairs-are seen disks)
 
-pub on_disks : {D : Type 0} (seen : D → DiskSeen) (files : vnode.FilesSeen) (disks : List (ℕ × D)) (plan : Plan) (d : D) → files ≡ files_of plan → disks ≡ (0, d) ∷ [] → plan.file.pages < plan.blocks → (seen d).size ≡ plan.blocks → IsOnDisks (vnode.vnode_at files 0).info (disks_seen seen disks)
-on_disks seen files disks plan d files_is disks_is inside size =
-    let P : FileInfo → Type 0 = λ i. IsOnDisks i (disks_seen seen disks) in
-    let Q : List (ℕ × DiskSeen) → Type 0 = λ ds. IsOnDisks (plan_info plan) ds in
-    subst P (sym (file_is files plan files_is)) (subst Q (sym (disks_are seen disks d disks_is)) (record { number = refl; one = refl; past = omega arith; inside = omega (arith, inside, size) }))
+pub numbers-are : {D : Type 0} (seen : D → DiskSeen) (disks : List (NumberedDisk D)) → numbers_of (map with_number disks) ≡ map (λ (d : ℕ × DiskSeen). d.0) (map (numbered_seen seen) disks)
+numbers-are seen [] = refl
+numbers-are seen (d ∷ disks) = ap (λ (l : List ℕ). d.number ∷ l) (numbers-are seen disks)
 
-pub reads_pages : {D : Type 0} (seen : D → DiskSeen) (files : vnode.FilesSeen) (disks : List (ℕ × D)) (plan : Plan) (d : D) (pages : List ℕ) → files ≡ files_of plan → disks ≡ (0, d) ∷ [] → IfSome (seen d).content (HoldsPages (plan_info plan) (pages_of_bytes (pages_in (plan_info plan).length) pages)) → IfSome (blocks_of (disks_seen seen disks)) (HoldsPages (vnode.vnode_at files 0).info (pages_of_bytes (pages_in (vnode.vnode_at files 0).info.length) pages))
-reads_pages seen files disks plan d pages files_is disks_is holds =
-    let info = plan_info plan in
-    let P : FileInfo → Type 0 = λ i. IfSome (blocks_of (disks_seen seen disks)) (HoldsPages i (pages_of_bytes (pages_in i.length) pages)) in
-    let Q : List (ℕ × DiskSeen) → Type 0 = λ ds. IfSome (blocks_of ds) (HoldsPages info (pages_of_bytes (pages_in info.length) pages)) in
-    subst P (sym (file_is files plan files_is)) (subst Q (sym (disks_are seen disks d disks_is)) holds)
+pub bare-are : {D : Type 0} (seen : D → DiskSeen) (disks : List (NumberedDisk D)) → map seen (map (λ (d : ℕ × D). d.1) (map with_number disks)) ≡ bare (map (numbered_seen seen) disks)
+bare-are seen [] = refl
+bare-are seen (d ∷ disks) = ap (λ (l : List DiskSeen). seen d.disk ∷ l) (bare-are seen disks)
 
--- the process is alive
-pub alive_at : (s : StateSeen) → s.alive ≡ true → IsSome (space_of (flat s) 1)
-alive_at s is =
-    let P : Bool → Type 0 = λ b. IsSome (finite.get (spaces_of b (cells s.table)) 1) in
-    let Q : Option Space → Type 0 = λ o. IsSome o in
-    subst P (sym is) (subst Q (sym (get-insert_here finite.empty 1 (cells s.table))) refl)
+pub swap-is : {D : Type 0} (seen : D → DiskSeen) (swap : Option (NumberedDisk D)) → option_map seen (option_map (λ (d : NumberedDisk D). d.disk) swap) ≡ option_map (λ (d : NumberedDisk D). seen d.disk) swap
+swap-is seen None = refl
+swap-is seen (Some d) = refl
 
--- the one disk has the number 0
-pub disk_0 : (ds : List (ℕ × DiskSeen)) (d : DiskSeen) → ds ≡ (0, d) ∷ [] → IsDisk0 ds
-disk_0 ds d is = subst IsDisk0 (sym is) refl
+pub total-is : {D : Type 0} (seen : D → DiskSeen) (disks : List (NumberedDisk D)) (swap : Option (NumberedDisk D)) → disk_total (map with_number disks) (option_map (λ (d : NumberedDisk D). d.disk) swap)
+    ≡ length (map (numbered_seen seen) disks) + cond (is_some (option_map (λ (d : NumberedDisk D). seen d.disk) swap)) 1 0
+total-is seen disks None = ap (λ (n : ℕ). n + 0) (length-map disks with_number ∙ sym (length-map disks (numbered_seen seen)))
+total-is seen disks (Some d) = ap (λ (n : ℕ). n + 1) (length-map disks with_number ∙ sym (length-map disks (numbered_seen seen)))
 
--- flat memory as the kernel starts
-made : ℕ → finite.FinMap nat_cmp ℕ → FileInfo → List Page → Bool → Space → Flat
-made slots disks info pages alive space = record { slots = slots; disks = disks; files = file_of info pages ∷ []; zeros = finite.empty; spaces = spaces_of alive space; born = set.insert set.empty 1 }
+-- all disks are a front of all
+front : (plan : PlanSeen) (disks : List DiskSeen) (swap : Option DiskSeen) → HandsAll plan disks swap → HandsFront plan disks swap
+front plan disks swap all = record {
+  each = subst (λ (l : List Spec). HaveSpecSizes l disks) (sym (take_all (length disks) (disk_specs plan.setup) (let count = all.each.0 in omega (arith, count)))) all.each;
+  first = by_swap swap all.first;
+  before = λ some. all.first;
+}
+  where
+    by_swap : (o : Option DiskSeen) → IsSwapFor (amounts_of plan.setup).slots o → IfSome o (λ d. (0 < (amounts_of plan.setup).slots) × ((amounts_of plan.setup).slots ≤ d.size))
+    by_swap None none = tt
+    by_swap (Some d) has = has
 
-disks_is : (s : StateSeen) (d : DiskSeen) (n : ℕ) → s.disks ≡ (0, d) ∷ [] → d.size ≡ n → sizes_of s.disks ≡ finite.insert finite.empty 0 n
-disks_is s d n is size = ap sizes_of is ∙ ap (finite.insert finite.empty 0) size
+-- A START that lacked memory hands back all disks.
+module _ {D : Type 0} (seen : D → DiskSeen) (plan : PlanSeen) (told : Spec → Option (List (List ℕ))) (files : List OpenedFile) (attached : Attached D) (made : FilesSeen) (p : ArePlaced plan told files (attached_seen seen attached) made)
+    (s : Stop D) (pairs : List (ℕ × D)) (are : pairs ≡ map with_number attached.disks.items) (disks : s.disks.items ≡ map (λ (d : ℕ × D). d.1) pairs) (swap : s.swap ≡ option_map (λ (d : NumberedDisk D). d.disk) attached.swap) where
+  pub its-disks : map seen s.disks.items ≡ bare (map (numbered_seen seen) attached.disks.items)
+  its-disks = ap (map seen) (disks ∙ ap (map (λ (d : ℕ × D). d.1)) are) ∙ bare-are seen attached.disks.items
 
-pub flat_is : (plan : Plan) (s : StateSeen) (pages : List ℕ) → s.slots ≡ 0 → sizes_of s.disks ≡ finite.insert finite.empty 0 plan.blocks → info_of s ≡ plan_info plan → s.pages ≡ pages_of_bytes (pages_in (length plan.file.bytes)) pages → pages ≡ filled plan.file.bytes → s.alive ≡ true → cells s.table ≡ finite.empty → flat s ≡ opening plan
-unfolding made
-flat_is plan s pages slots disks info pages_are bytes alive space =
-    let blocks : finite.FinMap nat_cmp ℕ = finite.insert finite.empty 0 plan.blocks in
-    ap (λ x. made x (sizes_of s.disks) (info_of s) s.pages s.alive (cells s.table)) slots
-    ∙ ap (λ x. made 0 x (info_of s) s.pages s.alive (cells s.table)) disks
-    ∙ ap (λ x. made 0 blocks x s.pages s.alive (cells s.table)) info
-    ∙ ap (λ x. made 0 blocks (plan_info plan) x s.alive (cells s.table)) (pages_are ∙ ap (pages_of_bytes (pages_in (length plan.file.bytes))) bytes)
-    ∙ ap (λ x. made 0 blocks (plan_info plan) (pages_of_bytes (pages_in (length plan.file.bytes)) (filled plan.file.bytes)) x (cells s.table)) alive
-    ∙ ap (λ x. made 0 blocks (plan_info plan) (pages_of_bytes (pages_in (length plan.file.bytes)) (filled plan.file.bytes)) true x) space
+  pub its-swap : option_map seen s.swap ≡ option_map (λ (d : NumberedDisk D). seen d.disk) attached.swap
+  its-swap = ap (option_map seen) swap ∙ swap-is seen attached.swap
 
--- A kernel that started with a plan's file over a disk.
-pub record Started (plan : Plan) (d : DiskSeen) (pages : List ℕ) (s : StateSeen) : Type 0 where
-  pub slots : s.slots ≡ 0
-  pub info : info_of s ≡ plan_info plan
-  pub read : s.pages ≡ pages_of_bytes (pages_in (length plan.file.bytes)) pages
-  pub space : cells s.table ≡ finite.empty
-  pub alive : s.alive ≡ true
-  pub disks : s.disks ≡ (0, d) ∷ []
-  pub fits : Fits (flat s) s
+  hands-all : HandsAll plan (map seen s.disks.items) (option_map seen s.swap)
+  hands-all = subst (λ (l : List DiskSeen). HandsAll plan l (option_map seen s.swap)) (sym its-disks) (subst (HandsAll plan (bare (map (numbered_seen seen) attached.disks.items))) (sym its-swap) p.handed)
 
--- where the disk tells, it fits the plan's opening
-fits_told : (plan : Plan) (d : DiskSeen) (pages : List ℕ) (s : StateSeen) → Started plan d pages s → d.size ≡ plan.blocks → IfSome d.content (λ b. pages ≡ filled plan.file.bytes) → IfSome d.content (λ b. Fits (opening plan) s)
-fits_told plan d pages s started size told = if_both d.content (λ b is. subst (λ (F : Flat). Fits F s) (flat_is plan s pages started.slots (disks_is s d plan.blocks started.disks size) started.info started.read is started.alive started.space) started.fits) told
+  pub stops : (holds : Spec → Option (List (List ℕ))) (count : ℕ) → s.ending ≡ Memory → s.history.entries ≡ [] → s.history.faults ≡ [] → StopsEarly plan holds count count seen s
+  stops holds count ending entries faults = record {
+    entries = entries;
+    counts = faults;
+    handed = subst (HandsStopped plan (map seen s.disks.items) (option_map seen s.swap)) (sym ending) (front plan (map seen s.disks.items) (option_map seen s.swap) hands-all);
+    cause = subst (StopCause plan holds count count (map seen s.disks.items) (option_map seen s.swap)) (sym ending) tt;
+  }
 
-told_since : (o q : Option (List (List ℕ))) (P : Type 0) → IfSome o (λ b. IsSome q) → IfSome q (λ b. P) → IfSome o (λ b. P)
-told_since None q P told holds = tt
-told_since (Some b) None P told holds = cc
-told_since (Some b) (Some d) P told holds = holds
+-- WHAT A KERNEL MAY BE STARTED WITH
+module _ (plan : PlanSeen) (holds : Spec → Option (List (List ℕ))) (files : List OpenedFile) (a : AttachedSeen) (made : FilesSeen) (p : ArePlaced plan holds files a made) where
+  pub swap-serves : SwapServes (amounts_of plan.setup).slots a.swap
+  swap-serves = p.handed.first
 
-closed_since : (fault : Option DiskFault) (o : Option (List (List ℕ))) (P : List (List ℕ) → Type 0) (X : Type 0) → IfSome o (λ b. X) → (X → IfNone fault (IfSome o P)) → IfNone fault (IfSome o P)
-closed_since (Some fault) o P X told closed = tt
-closed_since None None P X told closed = tt
-closed_since None (Some b) P X told closed = closed told
+  pub frames-enough : broken_rule plan ≡ None → length a.disks + cond (is_some a.swap) 1 0 + 4 ≤ (amounts_of plan.setup).frames
+  frames-enough rules =
+      let right = right-amounts plan rules in
+      let enough = right.frames in
+      let few = few-disks plan.setup in
+      let count : length a.disks ≡ length (disk_specs plan.setup) = sym (length-map a.disks (λ (d : ℕ × DiskSeen). d.0)) ∙ ap length p.numbers ∙ length-map (disk_specs plan.setup) spec_number in
+      let swap = by_swap a.swap p.handed.first in
+      omega (arith, enough, few, count, swap)
+    where
+      by_swap : (o : Option DiskSeen) → IsSwapFor (amounts_of plan.setup).slots o → cond (is_some o) 1 0 ≤ cond ((amounts_of plan.setup).slots == 0) 0 1
+      by_swap None none = omega arith
+      by_swap (Some d) has = let one : ◌≡◌ {A = ℕ} 1 (cond ((amounts_of plan.setup).slots == 0) 0 1) = ap (λ (b : Bool). cond b 0 1) (sym (ne_eqb (amounts_of plan.setup).slots 0 (λ e. let low = has.0 in absurd (omega (arith, e, low))))) in omega (arith, one)
 
--- what a kernel left that started so
-pub played_of : (plan : Plan) (d e : DiskSeen) (pages : List ℕ) (s : StateSeen) (whole : Bool) (fault : Option DiskFault) (h : HistorySeen) → Started plan d pages s → d.size ≡ plan.blocks → IfSome d.content (λ b. pages ≡ filled plan.file.bytes) → Makes plan.calls h.entries → (IsTrue whole → map (λ x. x.call) h.entries ≡ plan.calls) → ((F : Flat) → Fits F s → Leaves F (info_of s) h.entries) → IfSome e.content (λ b. IsSome (blocks_of s.disks)) → ((F : Flat) → Fits F s → IfNone fault (IfSome e.content (HoldsBytes F (info_of s) h.entries))) → size_of s.disks ≡ e.size → HasCount h e → IfSome fault (IsLateFault h e) → IsPlayed plan whole fault h e
-played_of plan d e pages s whole fault h started size read makes all leaves told closed same counts late =
-    let fits = told_since e.content d.content (Fits (opening plan) s) (subst (λ (ds : List (ℕ × DiskSeen)). IfSome e.content (λ b. IsSome (blocks_of ds))) started.disks told) (fits_told plan d pages s started size read) in
-    record {
-      makes = makes;
-      all = all;
-      leaves = if_both e.content (λ b fit. subst (λ (i : FileInfo). Leaves (opening plan) i h.entries) started.info (leaves (opening plan) fit)) fits;
-      closed = closed_since fault e.content (HoldsBytes (opening plan) (plan_info plan) h.entries) (Fits (opening plan) s) fits (λ fit. subst (λ (i : FileInfo). IfNone fault (IfSome e.content (HoldsBytes (opening plan) i h.entries))) started.info (closed (opening plan) fit));
-      size = sym same ∙ ap size_of started.disks ∙ size;
-      counts = counts;
-      late = late;
-    }
+  pub are-numbers : AreNumbers (map (λ (d : ℕ × DiskSeen). d.0) a.disks)
+  are-numbers = subst AreNumbers (sym p.numbers) (disk-numbers plan.setup)
+
+  -- THE KERNEL
+  pub started : (s : KernelState) → IsOpening s → StateFits (flat_memory s.memory s.born no_notes) s no_seats → AreHome s.memory.world.store.bays a.disks a.swap
+      → s.memory.world.store.order ≡ map (λ (d : ℕ × DiskSeen). d.0) a.disks → s.memory.world.files ≡ made → s.parents ≡ plan.parents → HasRoomForPlan plan s.entries → length s.entries ≡ length plan.parents
+      → 1 ≤ length s.syncs → length plan.parents ≤ length s.syncs → length s.memory.world.anon.counts ≡ (amounts_of plan.setup).slots
+      → IsStarted plan (opening_flat plan (map (λ (d : ℕ × DiskSeen). (d.0, d.1.size)) a.disks) files) a.disks a.swap made s
+  started s opening fits at_home order is parents rooms count some enough slots =
+      let with' : IsStartedWith files a.disks a.swap s = record {
+        opening = opening;
+        fresh = ap (λ (f : FilesSeen). f.files) is ∙ p.fresh;
+        home = at_home;
+        well = subst LieWell (sym is) p.well;
+        have = subst (λ (f : FilesSeen). HaveDisks f a.disks) (sym is) p.have;
+        stored = p.stored;
+      } in
+      record {
+        opening = opening;
+        fits = started-fits files a.disks a.swap s with' plan (map (λ (d : ℕ × DiskSeen). (d.0, d.1.size)) a.disks) parents slots (ap (λ (f : FilesSeen). f.disks) is ∙ p.sizes) fits;
+        parents = parents;
+        rooms = rooms;
+        seats = (some, omega (arith, enough, count));
+        racked = ap (disks_in s.memory.world.store.bays) order ∙ racked a.disks at_home.each;
+        swapped = at_home.swap;
+        placed = is;
+        slots = slots;
+        well = p.well;
+        have = p.have;
+      }
+    where
+      racked : (ds : List (ℕ × DiskSeen)) → ((i : ℕ) (d : ℕ × DiskSeen) → i < length ds → bay_at s.memory.world.store.bays (slice_index_or ds i d).0 ≡ home (slice_index_or ds i d).1)
+          → disks_in s.memory.world.store.bays (map (λ (d : ℕ × DiskSeen). d.0) ds) ≡ ds
+      racked [] each = refl
+      racked (d ∷ ds) each =
+          ap (λ (b : BaySeen). (d.0, disk_in b) ∷ disks_in s.memory.world.store.bays (map (λ (x : ℕ × DiskSeen). x.0) ds)) (each 0 d (omega arith))
+          ∙ ap (λ (l : List (ℕ × DiskSeen)). d ∷ l) (racked ds (λ i x lt. each (suc i) x (omega (arith, lt))))

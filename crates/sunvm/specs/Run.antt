@@ -1,235 +1,300 @@
--- What a run shows, and when each of its answers comes.
-use Rattle.std.specs.Prelude.{ℕ, ◌≡◌, ◌≢◌, ◌≤◌, ◌<◌, ◌-◌, ◌*◌, ◌⊎◌, ◌==◌, true, List, [], ◌∷◌, ◌++◌, map, length, take, drop, replicate, codes, decimal, Option, Some, None, IfSome, IsSome, option_map, slice_get, slice_index_or, if◌then◌else◌}
-use Rattle.std.specs.List.{concat}
-use Rattle.std.specs.FinMap as finite
+-- HOW A RUN ENDED, case by case. Public clauses cite this.
+use Rattle.std.specs.Prelude.{ℕ, ◌≡◌, ◌<◌, ◌+◌, ◌⊎◌, true, List, [], ◌∷◌, ◌++◌, length, slice_get, map, IsSome, Option, Some, None, IfOk, Result, Ok, Err}
 use Rattle.vm_types.specs.declared.call.Entry.{Entry}
-use Rattle.vm_types.specs.declared.call.Reply.TheVariants.{Io}
-use Rattle.flat_model.specs.Words.{pages_in}
-use Rattle.flat_model.specs.Flat.{File, Flat}
-use Rattle.flat_model.specs.History.{replay}
-use Rattle.flat_model.specs.Opening.{flat_at_opening}
-use Rattle.flat_model.specs.Parts.{file_at_opening, file_bytes}
-use Rattle.vnode_files.specs.declared.extent.Extent.{Extent}
-use Rattle.flat_model.specs.Told.{SpelledLine, ToldAlone}
-use Rattle.vnode_files.specs.declared.vnode.FileInfo.{FileInfo}
 use Rattle.block_device.specs.Counts.{HasRisen}
 use Rattle.block_device.specs.DiskSeen.{DiskSeen}
 use Rattle.block_device.specs.OpenSeen.{OpenFaultSeen}
-use Rattle.block_device.specs.StreamSeen.{SinkSeen, appended}
-use Rattle.one_file_core.specs.declared.history.DiskFault.{DiskFault}
-use Rattle.one_file_core.specs.Closing.{HistorySeen, count_of}
+use Rattle.block_device.specs.RackSeen.{RackSeen}
+use Rattle.block_device.specs.StreamSeen.{SinkSeen, SourceSeen}
+use Rattle.block_device.specs.declared.disk_fault.DiskFault.{DiskFault}
+use Rattle.flat_model.specs.Counted.{Counted}
+use Rattle.flat_model.specs.Flat.{File, Flat}
+use Rattle.flat_model.specs.History.{Legal, replay}
+use Rattle.vnode_files.specs.declared.vnode.FileInfo.{FileInfo}
+use Rattle.vm_report.specs.Faults.{disk_fault_text}
+use Rattle.vm_script.specs.PlanSeen.{PlanSeen}
+use Rattle.vm_script.specs.Told.{Told, ToldFront}
+use Rattle.sunvm.specs.declared.ending.Refusal.{Refusal}
+use Rattle.sunvm.specs.declared.ending.Ending.{Ending}
+use Rattle.sunvm.specs.declared.ending.Ending.TheVariants as ending
 use Rattle.sunvm.specs.declared.outcome.RunFault.{RunFault}
-use Rattle.sunvm.specs.declared.outcome.RunFault.TheVariants.{Opening, Closing, Showing}
-use Rattle.sunvm.specs.Report.{process_section, file_heading, bytes_lines, counts_text}
-use Rattle.sunvm.specs.Script.{Plan, plan_of}
-use Rattle.sunvm.specs.Table.{table}
+use Rattle.sunvm.specs.declared.outcome.RunFault.TheVariants as fault
+use Rattle.sunvm.specs.declared.showing.Heading.TheVariants.{Report, Trace}
+use Rattle.sunvm.specs.Asked.{Given, Asked, FailsToRead, WasAsked, asked}
+use Rattle.sunvm.specs.Closed.{StoreFiles, SayTables, infos_in_flat, flat_bytes}
+use Rattle.sunvm.specs.Ending.{status_of, fault_of, last_line_of}
+use Rattle.sunvm.specs.Handed.{End, HaveTold, RackTells, HandsNone, HandsFront, HandsAll, HandsRefused, HandsFailed, HasOpeningCause, HasLateCause, NoneBreaksBefore, CountsReach, plan_disks, sizes_of, handed_count}
+use Rattle.sunvm.specs.Opened.{OpenedFile, opened, infos_of, names_of, numbered_plan, opening_flat}
+use Rattle.sunvm.specs.Texts.{Wrote, WroteAndFront, WroteAndPart, WroteFront, WroteOn, WrotePart, IsPageUnread, file_sections, files_or_none, middle_text, sections_before, trace_front, trace_opening}
 
--- What the bytes that are still to come spell, where the source tells them: a plan, or none where they are no script.
-abbrev pub plan_from : Option (List ℕ) → Option (Option Plan)
-plan_from rest = option_map plan_of rest
+-- What the outside has seen of a run: the counts of faults of source and rack before and after it, how many disks the rack had attached, and the sink.
+pub record Outside : Type 0 where
+  pub source_old : ℕ
+  pub source_new : ℕ
+  pub rack_old : ℕ
+  pub rack_new : ℕ
+  pub attached_old : ℕ
+  pub attached_new : ℕ
+  pub sink_old : SinkSeen
+  pub sink_new : SinkSeen
 
--- Where the source tells a script, this holds of its plan.
-abbrev pub IfPlan : Option (Option Plan) → (Plan → Type 0) → Type 0
-IfPlan given P = IfSome given (λ p. IfSome p P)
+abbrev pub outside_of : SourceSeen → SourceSeen → RackSeen → RackSeen → SinkSeen → SinkSeen → Outside
+outside_of s0 s1 r0 r1 k0 k1 = record {
+  source_old = s0.faults;
+  source_new = s1.faults;
+  rack_old = r0.faults;
+  rack_new = r1.faults;
+  attached_old = r0.attached;
+  attached_new = r1.attached;
+  sink_old = k0;
+  sink_new = k1;
+}
 
--- The blocks of the one disk, where there is one and it tells them.
-abbrev pub blocks_in : List DiskSeen → Option (List (List ℕ))
-blocks_in [] = None
-blocks_in (disk ∷ disks) = disk.content
+-- What is said of a text and the last line behind it: as a run has ended, that the text was written, and the line as far as the sink took it; before its
+-- last line, that the text was written.
+abbrev pub Writing : Type 1
+Writing = List ℕ → List ℕ → Type 0
 
--- There is one disk.
-abbrev pub IsOne : List DiskSeen → Type 0
-IsOne [] = ⊥
-IsOne (disk ∷ []) = Unit {0}
-IsOne (disk ∷ other ∷ disks) = ⊥
+abbrev pub wrote_all : Outside → Writing
+wrote_all o text line = WroteOn o.sink_old o.sink_new text line
 
--- Each disk has so many blocks.
-abbrev pub HaveBlocks : ℕ → List DiskSeen → Type 0
-HaveBlocks n [] = Unit {0}
-HaveBlocks n (disk ∷ disks) = (disk.size ≡ n) × HaveBlocks n disks
+abbrev pub wrote_before : Outside → Writing
+wrote_before o text line = Wrote o.sink_old o.sink_new text
 
--- Where the disk tells its blocks, this holds.
-abbrev pub IfTold : List DiskSeen → Type 0 → Type 0
-IfTold disks P = IfSome (blocks_in disks) (λ blocks. P)
+-- The rack tells what it holds, and each disk that came back tells its blocks.
+pub record DisksTell (g : Given) (what : Asked) (e : End) : Type 0 where
+  pub rack : RackTells g.holds what.plan
+  pub disks : HaveTold e.disks e.swap
 
--- Bytes, and zeros behind them up to the end of their last page.
-abbrev pub filled : List ℕ → List ℕ
-filled bytes = bytes ++ replicate (4096 * pages_in (length bytes) - length bytes) 0
+-- The processes never ran: the history is empty.
+pub record HasNoHistory (e : End) : Type 0 where
+  pub entries : e.history.entries ≡ []
+  pub counts : e.history.faults ≡ []
 
--- The blocks of the file: as many as the script says, from block 1 on.
-abbrev pub plan_extents : Plan → List Extent
-plan_extents plan = record { start = 1; pages = plan.file.pages } ∷ []
+-- Nothing was attached, and the line of the ending was printed, as far as the sink took it.
+pub record EndsBare (W : Writing) (how : Ending) (e : End) : Type 0 where
+  pub none : HandsNone e.disks e.swap
+  pub history : HasNoHistory e
+  pub wrote : W [] (last_line_of how)
 
--- The file of a plan as the processes find it: its bytes, and a tail of zeros.
-abbrev pub opening_file : Plan → File
-opening_file plan = file_at_opening (length plan.file.bytes) 0 (plan_extents plan) true plan.file.bytes
+-- A disk, or the lines of the files, break a set-up rule.
+pub record BreaksRule (g : Given) (W : Writing) (r : Refusal) (e : End) : Type 0 where
+  pub what : Asked
+  pub asked : WasAsked g (Ok what)
+  pub handed : HandsRefused what.plan e.disks e.swap r
+  pub history : HasNoHistory e
+  pub opened : HaveTold e.disks e.swap → opened what.plan g.holds ≡ Err r
+  pub wrote : W [] (last_line_of (ending.Refused r))
 
--- Flat memory as the processes find it: the disk, the file, no swap slots, no zero objects, and process 1 with an empty space.
-abbrev pub opening : Plan → Flat
-opening plan = flat_at_opening 0 (finite.insert finite.empty 0 plan.blocks) (opening_file plan ∷ []) (1 ∷ [])
+-- The bytes of files that were read from the disks, each as long as its record says; where the disks tell, those of the files as they are opened.
+pub record AreOpenedBytes (g : Given) (what : Asked) (files : List OpenedFile) (e : End) (bytes : ℕ → List ℕ) : Type 0 where
+  pub lengths : (k : ℕ) (f : OpenedFile) → slice_get files k ≡ Some f → length (bytes k) ≡ f.info.length
+  pub told : DisksTell g what e → (k : ℕ) (f : OpenedFile) → slice_get files k ≡ Some f → bytes k ≡ f.bytes
 
--- The lines of the block. None is a write, so no bytes follow a call's first part.
-abbrev pub plan_lines : Plan → List SpelledLine
-plan_lines plan = map (λ call. record { call = call; bytes = [] }) plan.calls
+-- What was asked and how the files were opened, whether they tell or not; where they tell, by the set-up rules.
+pub record IsOpened (g : Given) (what : Asked) (files : List OpenedFile) (e : End) : Type 0 where
+  pub asked : WasAsked g (Ok what)
+  pub handed : HandsAll what.plan e.disks e.swap
+  pub opened : DisksTell g what e → opened what.plan g.holds ≡ Ok files
 
--- The history tells the first lines of a plan of one block, and no others.
-abbrev pub ToldFront : ℕ → List SpelledLine → List Entry → Type 0
-ToldFront p lines H = (count : ℕ) × ToldAlone p (take count lines) H
+-- What was printed before a fault of this disk that came before the processes ran: nothing, or, where the files were opened, a trace up to the place of
+-- a page that wasn't read from it.
+abbrev pub IsTraceText : Asked → List OpenedFile → List DiskSeen → ℕ → (ℕ → List ℕ) → List ℕ → Type 0
+IsTraceText what files disks disk bytes text =
+    (file : ℕ) × (page : ℕ) × (what.options.trace ≡ true) × IsPageUnread (infos_of files) file page disk
+    × (text ≡ trace_front what.plan (sizes_of what.plan disks) ++ sections_before Trace (infos_of files) bytes file page)
 
--- The first of the files; one without bytes where there is none.
-abbrev pub first_file : List File → File
-first_file [] = record { len = 0; disk = 0; extents = []; writable = true; pages = [] }
-first_file (file ∷ files) = file
+abbrev pub IsOpeningText : Given → Asked → List OpenedFile → End → ℕ → (ℕ → List ℕ) → List ℕ → Type 0
+IsOpeningText g what files e disk bytes text = (text ≡ []) ⊎ (IsOpened g what files e × IsTraceText what files e.disks disk bytes text)
 
--- The file after a history.
-abbrev pub closing_file : Plan → List Entry → File
-closing_file plan H = first_file (replay (opening plan) H).files
+-- A disk or the rack failed before the processes ran.
+pub record FailsToOpen (g : Given) (o : Outside) (W : Writing) (fault : OpenFaultSeen) (e : End) : Type 0 where
+  pub what : Asked
+  pub files : List OpenedFile
+  pub bytes : ℕ → List ℕ
+  pub text : List ℕ
+  pub asked : WasAsked g (Ok what)
+  pub handed : HandsFailed what.plan e.disks e.swap fault
+  pub history : HasNoHistory e
+  pub cause : HasOpeningCause what.plan e.disks e.swap o.rack_old o.rack_new fault
+  pub first : DisksTell g what e → NoneBreaksBefore what.plan g.holds fault.disk
+  pub read : AreOpenedBytes g what files e bytes
+  pub before : IsOpeningText g what files e fault.disk bytes text
+  pub wrote : W text (last_line_of (ending.Opening fault))
 
--- The record of the file after a history: its blocks begin at block 1 of disk 0.
-abbrev pub closing_info : Plan → List Entry → FileInfo
-closing_info plan H = record { name = plan.file.name; disk = 0; extents = plan_extents plan; length = (closing_file plan H).len; writable = true }
+-- The opening part of the trace.
+abbrev pub opening_part : Asked → List OpenedFile → List DiskSeen → (ℕ → List ℕ) → List ℕ
+opening_part what files disks bytes = trace_opening what.options what.plan (sizes_of what.plan disks) (infos_of files) bytes
 
--- The whole report: the process's section, and the heading and the bytes of the file after the history.
-abbrev pub whole_text : Plan → List Entry → List ℕ
-whole_text plan H = process_section H ++ file_heading plan.file.name (closing_file plan H).len ++ bytes_lines 0 (file_bytes (closing_file plan H))
+-- The sink failed in the opening part of the trace.
+pub record StopsInTrace (g : Given) (o : Outside) (e : End) : Type 0 where
+  pub what : Asked
+  pub files : List OpenedFile
+  pub bytes : ℕ → List ℕ
+  pub opened : IsOpened g what files e
+  pub history : HasNoHistory e
+  pub read : AreOpenedBytes g what files e bytes
+  pub cause : HasRisen o.sink_old.faults o.sink_new.faults
+  pub wrote : WrotePart o.sink_old o.sink_new (opening_part what files e.disks bytes)
 
--- The report up to the place of page i of the file.
-abbrev pub text_before : Plan → List Entry → ℕ → List ℕ
-text_before plan H i = process_section H ++ file_heading plan.file.name (closing_file plan H).len ++ bytes_lines 0 (take (4096 * i) (file_bytes (closing_file plan H)))
+-- THE RUN BEGAN. Flat memory as the processes find it; the history is legal for it; each of its device errors names a fault that its disk counted.
+abbrev pub flat_opened : Asked → List OpenedFile → List DiskSeen → Flat
+flat_opened what files disks = opening_flat what.plan (sizes_of what.plan disks) files
 
--- The line of a fault that a disk counted.
-abbrev pub counts_line : ℕ → ℕ → ℕ → List ℕ
-counts_line disk before after = codes "fault: disk " ++ counts_text disk before after ++ 10 ∷ []
+abbrev pub plan_opened : Asked → List OpenedFile → PlanSeen
+plan_opened what files = numbered_plan files what.plan
 
--- The line of a fault before the processes ran: the disk's, or the rack's where there are no counts.
-abbrev pub open_fault_line : OpenFaultSeen → List ℕ
-open_fault_line fault = elim fault.counts [
-  | None ↦ codes "fault: rack " ++ decimal fault.disk ++ 10 ∷ []
-  | Some counts ↦ counts_line fault.disk counts.0 counts.1
-]
+abbrev pub flat_closed : Asked → List OpenedFile → List DiskSeen → List Entry → Flat
+flat_closed what files disks H = replay (flat_opened what files disks) H
 
--- The line of a fault that ended a run.
-abbrev pub fault_line : RunFault → List ℕ
-fault_line (Opening fault) = open_fault_line fault
-fault_line (Closing fault) = counts_line fault.disk fault.before fault.after
-fault_line (Showing fault) = counts_line fault.disk fault.before fault.after
+pub record Begun (g : Given) (what : Asked) (files : List OpenedFile) (bytes : ℕ → List ℕ) (e : End) : Type 0 where
+  pub opened : IsOpened g what files e
+  pub read : AreOpenedBytes g what files e bytes
+  pub legal : DisksTell g what e → Legal (flat_opened what files e.disks) e.history.entries
+  pub counted : Counted e.history.entries
+  pub reached : CountsReach what.plan e.disks e.swap e.history.entries
 
--- The text of an answer that comes before the processes run.
-abbrev pub early_text : ℕ → Option RunFault → List ℕ
-early_text status (Some fault) = fault_line fault
-early_text status None =
-    if status == 2 then codes "usage: sunvm [--trace] [--pageout N] [--make N]" ++ 10 ∷ []
-    else if status == 3 then codes "script: later" ++ 10 ∷ []
-    else if status == 4 then codes "setup: rule 9 disk 0 volume 13" ++ 10 ∷ []
-    else codes "script: read fault" ++ 10 ∷ []
+-- ITS FILES WERE CLOSED: where the disks tell, their records are those of flat memory after the history, and so are the bytes that the disks have;
+-- and block 0 of each disk says the table of its files.
+pub record ClosesFiles (g : Given) (what : Asked) (files : List OpenedFile) (infos : List FileInfo) (e : End) : Type 0 where
+  pub records : DisksTell g what e → infos ≡ infos_in_flat (names_of files) (flat_closed what files e.disks e.history.entries).files
+  pub stored : DisksTell g what e → StoreFiles (plan_disks what.plan e.disks) infos (flat_bytes (flat_closed what files e.disks e.history.entries).files)
+  pub tables : SayTables (plan_disks what.plan e.disks) infos
 
--- The whole text was written.
-abbrev pub Wrote : SinkSeen → SinkSeen → List ℕ → Type 0
-Wrote old new text = new.written ≡ appended old.written text
+-- The bytes of the files that were read back, each as long as its record says; where the disks tell, those of flat memory after the history.
+pub record AreClosedBytes (g : Given) (what : Asked) (files : List OpenedFile) (infos : List FileInfo) (e : End) (bytes : ℕ → List ℕ) : Type 0 where
+  pub lengths : (k : ℕ) (i : FileInfo) → slice_get infos k ≡ Some i → length (bytes k) ≡ i.length
+  pub told : DisksTell g what e → (k : ℕ) (i : FileInfo) → slice_get infos k ≡ Some i
+      → bytes k ≡ flat_bytes (flat_closed what files e.disks e.history.entries).files k
 
--- A front of the text was written.
-abbrev pub WroteFront : SinkSeen → SinkSeen → List ℕ → Type 0
-WroteFront old new text = (count : ℕ) × Wrote old new (take count text)
+-- What was asked, how it was opened, and how it was closed and read back.
+pub record Course : Type 0 where
+  pub what : Asked
+  pub files : List OpenedFile
+  pub bytes : ℕ → List ℕ
+  pub infos : List FileInfo
+  pub shown : ℕ → List ℕ
 
--- The text was written as far as the sink took it: all of it, or a front where the sink's count of faults rose.
-abbrev pub WroteTaken : SinkSeen → SinkSeen → List ℕ → Type 0
-WroteTaken old new text = Wrote old new text ⊎ (HasRisen old.faults new.faults × WroteFront old new text)
+-- Its text: the opening part; what stands between that and the files; and the report, which is that and the files.
+abbrev pub opening_of : Course → End → List ℕ
+opening_of c e = opening_part c.what c.files e.disks c.bytes
 
--- The report was written up to the place of a page of the file, and this line behind it, as far as the sink took them.
-abbrev pub WroteUpTo : SinkSeen → SinkSeen → Plan → List Entry → List ℕ → Type 0
-WroteUpTo old new plan H line = (page : ℕ) × (page < pages_in (closing_file plan H).len) × WroteTaken old new (text_before plan H page ++ line)
+abbrev pub middle_of : Course → End → List ℕ
+middle_of c e = middle_text c.what.options (plan_opened c.what c.files) e.history.entries
 
--- What holds of a fault that came before the processes ran.
-abbrev pub IfOpening : Option RunFault → (OpenFaultSeen → Type 0) → Type 0
-IfOpening (Some (Opening fault)) P = P fault
-IfOpening fault P = Unit {0}
+abbrev pub report_of : Course → End → List ℕ
+report_of c e = middle_of c e ++ files_or_none c.what.options.make c.infos c.shown
 
--- What holds of a fault that came as the file was closed.
-abbrev pub IfClosing : Option RunFault → (DiskFault → Type 0) → Type 0
-IfClosing (Some (Closing fault)) P = P fault
-IfClosing fault P = Unit {0}
+abbrev pub whole_text : Course → End → List ℕ
+whole_text c e = opening_of c e ++ report_of c e
 
--- What holds of a fault that came as the file was read back for the report.
-abbrev pub IfShowing : Option RunFault → (DiskFault → Type 0) → Type 0
-IfShowing (Some (Showing fault)) P = P fault
-IfShowing fault P = Unit {0}
+-- The run began, and each process did its lines, once and in order.
+pub record RunsThrough (g : Given) (c : Course) (e : End) : Type 0 where
+  pub begun : Begun g c.what c.files c.bytes e
+  pub told : Told (plan_opened c.what c.files) e.history.entries
 
--- The run began: it ended with its report, or stopped as it wrote it, closed its file or read it back.
-abbrev pub Began : ℕ → Option RunFault → Type 0
-Began status None = (status ≡ 0) ⊎ (status ≡ 6)
-Began status (Some (Opening fault)) = ⊥
-Began status (Some (Closing fault)) = Unit {0}
-Began status (Some (Showing fault)) = Unit {0}
+-- It ran through, its files were closed, and they were read back.
+pub record WasShown (g : Given) (c : Course) (e : End) : Type 0 where
+  pub runs : RunsThrough g c e
+  pub closed : ClosesFiles g c.what c.files c.infos e
+  pub shown : AreClosedBytes g c.what c.files c.infos e c.shown
 
--- The file was closed: the run ended with its report, or stopped as it wrote it or read the file back.
-abbrev pub HasClosed : ℕ → Option RunFault → Type 0
-HasClosed status None = (status ≡ 0) ⊎ (status ≡ 6)
-HasClosed status (Some (Opening fault)) = ⊥
-HasClosed status (Some (Closing fault)) = ⊥
-HasClosed status (Some (Showing fault)) = Unit {0}
+pub record EndsWhole (g : Given) (o : Outside) (e : End) : Type 0 where
+  pub course : Course
+  pub shown : WasShown g course e
+  pub wrote : Wrote o.sink_old o.sink_new (whole_text course e)
 
--- The answer came before the processes ran.
-abbrev pub IsEarly : ℕ → Option RunFault → Type 0
-IsEarly status None = (2 ≤ status) × (status ≤ 5)
-IsEarly status (Some (Opening fault)) = Unit {0}
-IsEarly status (Some (Closing fault)) = ⊥
-IsEarly status (Some (Showing fault)) = ⊥
+-- The sink failed in the report. The files were closed before, and the opening part was written whole.
+pub record EndsInReport (g : Given) (o : Outside) (e : End) : Type 0 where
+  pub course : Course
+  pub shown : WasShown g course e
+  pub cause : HasRisen o.sink_old.faults o.sink_new.faults
+  pub wrote : WroteAndPart o.sink_old o.sink_new (opening_of course e) (report_of course e)
 
--- The bytes of a file of this length that blocks hold, from block 1 on.
-abbrev pub stored_bytes : ℕ → List (List ℕ) → List ℕ
-stored_bytes len blocks = take len (concat (take (pages_in len) (drop 1 blocks)))
+-- A disk failed as the files were closed. The line of the fault stands in place of the files.
+pub record FailsToClose (g : Given) (o : Outside) (fault : DiskFault) (e : End) : Type 0 where
+  pub course : Course
+  pub runs : RunsThrough g course e
+  pub cause : HasLateCause course.what.plan e.history e.disks e.swap fault
+  pub wrote : WroteOn o.sink_old o.sink_new (opening_of course e) (middle_of course e ++ disk_fault_text fault.disk fault.before fault.after)
 
--- The blocks from block 1 on hold the file's bytes after the history, and block 0 is the table with its length.
-pub record Closed (plan : Plan) (H : List Entry) (blocks : List (List ℕ)) : Type 0 where
-  pub bytes : stored_bytes (closing_file plan H).len blocks ≡ file_bytes (closing_file plan H)
-  pub table : slice_index_or blocks 0 [] ≡ table plan.blocks (closing_info plan H)
+-- A disk failed as a page of a file was read back.
+pub record FailsToShow (g : Given) (W : Writing) (fault : DiskFault) (e : End) : Type 0 where
+  pub course : Course
+  pub file : ℕ
+  pub page : ℕ
+  pub shown : WasShown g course e
+  pub cause : HasLateCause course.what.plan e.history e.disks e.swap fault
+  pub place : IsPageUnread course.infos file page fault.disk
+  pub none : course.what.options.make ≡ None
+  pub wrote : W (opening_of course e ++ (middle_of course e ++ sections_before Report course.infos course.shown file page)) (last_line_of (ending.Showing fault))
 
--- The status is 0, or one of 2 to 8.
-abbrev pub IsStatus : ℕ → Type 0
-IsStatus status = (status ≡ 0) ⊎ ((2 ≤ status) × (status ≤ 8))
+-- Memory lacked before the processes ran. Nothing was written, or a front of the opening part of the trace.
+pub record LacksBare (o : Outside) (e : End) : Type 0 where
+  pub none : HandsNone e.disks e.swap
+  pub history : HasNoHistory e
+  pub wrote : Wrote o.sink_old o.sink_new []
 
--- These are the only answers where the bytes are no script: the words weren't accepted, the script isn't one, it wasn't read, or memory lacked.
-abbrev pub IsNoRun : ℕ → Type 0
-IsNoRun status = (status ≡ 2) ⊎ (status ≡ 3) ⊎ (status ≡ 5) ⊎ (status ≡ 8)
+pub record LacksOpening (g : Given) (o : Outside) (e : End) : Type 0 where
+  pub what : Asked
+  pub asked : WasAsked g (Ok what)
+  pub handed : HandsFront what.plan e.disks e.swap
+  pub history : HasNoHistory e
+  pub wrote : Wrote o.sink_old o.sink_new []
 
--- The count of faults of the one disk that was handed back.
-abbrev pub faults_of : List DiskSeen → ℕ
-faults_of [] = 0
-faults_of (disk ∷ disks) = disk.faults
+pub record LacksInTrace (g : Given) (o : Outside) (e : End) : Type 0 where
+  pub what : Asked
+  pub files : List OpenedFile
+  pub bytes : ℕ → List ℕ
+  pub opened : IsOpened g what files e
+  pub history : HasNoHistory e
+  pub read : AreOpenedBytes g what files e bytes
+  pub wrote : WroteFront o.sink_old o.sink_new (opening_part what files e.disks bytes)
 
--- The counts are those of disk 0 round one transfer: the count rose in it, and the disk handed back has at least the later one.
-pub record IsCounted (disks : List DiskSeen) (disk before after : ℕ) : Type 0 where
-  pub number : disk ≡ 0
-  pub risen : HasRisen before after
-  pub back : after ≤ faults_of disks
+-- Memory lacked as they ran or later: each process did a front of its lines, and the opening part was written whole; behind it a front of the report,
+-- but only where each process did all its lines, and the files were closed and read back.
+pub record LacksLate (g : Given) (o : Outside) (e : End) : Type 0 where
+  pub course : Course
+  pub begun : Begun g course.what course.files course.bytes e
+  pub told : ToldFront (plan_opened course.what course.files) e.history.entries
+  pub wrote : Wrote o.sink_old o.sink_new (opening_of course e) ⊎ (WasShown g course e × WroteAndFront o.sink_old o.sink_new (opening_of course e) (report_of course e))
 
--- The cause of a fault before the processes ran: the rack's count rose in this call, or the disk counted it.
-abbrev pub HasOpenCause : ℕ → ℕ → List DiskSeen → OpenFaultSeen → Type 0
-HasOpenCause old new disks fault = elim fault.counts [
-  | None ↦ (fault.disk ≡ 0) × HasRisen old new
-  | Some counts ↦ IsCounted disks fault.disk counts.0 counts.1
-]
+abbrev pub Lacks : Given → Outside → End → Type 0
+Lacks g o e = LacksBare o e ⊎ LacksOpening g o e ⊎ LacksInTrace g o e ⊎ LacksLate g o e
 
--- The cause of a fault after the processes ran: the disk counted it, and not before its count stood as the history tells.
-pub record HasLateCause (history : HistorySeen) (disks : List DiskSeen) (fault : DiskFault) : Type 0 where
-  pub counted : IsCounted disks fault.disk fault.before fault.after
-  pub since : (count : ℕ) × (count_of history.faults fault.disk ≡ Some count) × (count ≤ fault.before)
+abbrev pub CaseOf : Given → Outside → Writing → End → Ending → Type 0
+CaseOf g o W e ending.Whole = EndsWhole g o e
+CaseOf g o W e ending.Usage = WasAsked g (Err ending.Usage) × EndsBare W ending.Usage e
+CaseOf g o W e (ending.NoScript f) = WasAsked g (Err (ending.NoScript f)) × EndsBare W (ending.NoScript f) e
+CaseOf g o W e ending.Later = WasAsked g (Err ending.Later) × EndsBare W ending.Later e
+CaseOf g o W e (ending.Refused r) = (WasAsked g (Err (ending.Refused r)) × EndsBare W (ending.Refused r) e) ⊎ BreaksRule g W r e
+CaseOf g o W e ending.NotRead = FailsToRead g o.source_old o.source_new × EndsBare W ending.NotRead e
+CaseOf g o W e ending.OpeningSink = StopsInTrace g o e
+CaseOf g o W e ending.Sink = EndsInReport g o e
+CaseOf g o W e (ending.Opening f) = FailsToOpen g o W f e
+CaseOf g o W e (ending.Closing f) = FailsToClose g o f e
+CaseOf g o W e (ending.Showing f) = FailsToShow g W f e
+CaseOf g o W e ending.Memory = Lacks g o e
+
+-- THE RUN ENDED in one of these ways, and each disk that the rack attached in it is handed back.
+pub record RunEnds (g : Given) (o : Outside) (e : End) : Type 0 where
+  pub how : Ending
+  pub status : e.status ≡ status_of how
+  pub fault : e.fault ≡ fault_of how
+  pub back : o.attached_new ≡ o.attached_old + handed_count e.disks e.swap
+  pub case : CaseOf g o (wrote_all o) e how
 
 -- A fault that a disk counted.
-abbrev pub IsCountedFault : Option RunFault → Type 0
-IsCountedFault None = ⊥
-IsCountedFault (Some (Opening fault)) = IsSome fault.counts
-IsCountedFault (Some (Closing fault)) = Unit {0}
-IsCountedFault (Some (Showing fault)) = Unit {0}
+abbrev pub IsDiskCounted : Option RunFault → Type 0
+IsDiskCounted None = ⊥
+IsDiskCounted (Some (fault.Opening f)) = IsSome f.counts
+IsDiskCounted (Some (fault.Closing f)) = Unit {0}
+IsDiskCounted (Some (fault.Showing f)) = Unit {0}
 
--- The whole report was written, or memory lacked, or the disk counted a fault, or it doesn't tell its blocks and block 0 wasn't zeros.
-abbrev pub IsComplete : ℕ → Option RunFault → List DiskSeen → Type 0
-IsComplete status fault disks = (status ≡ 0) ⊎ (status ≡ 8) ⊎ IsCountedFault fault ⊎ ((status ≡ 4) × (blocks_in disks ≡ None))
-
--- The run got to its disk: it began, or block 0 wasn't zeros, or the process did something.
-abbrev pub HasUsedDisk : ℕ → Option RunFault → List Entry → Type 0
-HasUsedDisk status fault H = Began status fault ⊎ (status ≡ 4) ⊎ (H ≢ [])
-
--- The disk was handed back with a count at least as high as each that a device error of the history names.
-abbrev pub CountsReach : List DiskSeen → List Entry → Type 0
-CountsReach disks H = (k : ℕ) (e : Entry) (disk before after : ℕ) → slice_get H k ≡ Some e → e.reply ≡ Io disk before after → after ≤ faults_of disks
+-- Words that are taken, a script, the set-up rules kept, and no fault counted by source, sink and rack: the whole report, or want of memory, or a
+-- fault that a disk counted, or disks that don't tell break a rule.
+abbrev pub IsComplete : Given → Outside → End → Type 0
+IsComplete g o e =
+    (what : Asked) (files : List OpenedFile) → asked g ≡ Some (Ok what) → opened what.plan g.holds ≡ Ok files
+    → ¬ HasRisen o.source_old o.source_new → ¬ HasRisen o.sink_old.faults o.sink_new.faults → ¬ HasRisen o.rack_old o.rack_new
+    → (e.status ≡ 0) ⊎ (e.status ≡ 8) ⊎ IsDiskCounted e.fault ⊎ ((e.status ≡ 4) × ¬ DisksTell g what e)

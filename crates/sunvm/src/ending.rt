@@ -1,295 +1,86 @@
-//! Ends a run: the table, and the report.
-ghost use Rattle.std.specs.Prelude.{List, ◌≡◌, ◌≢◌, ◌≤◌, ◌<◌, ◌^◌, ◌++◌, ◌∷◌, [], ℕ, length, All, Some, None, IfOk, IfErr, IfSome, IsSome, OnOk, vec_capacity};
-ghost use Rattle.vm_types.specs.WellFormed.{IsWellFormed};
-ghost use Rattle.block_device.specs.DiskSeen.{with_block};
-ghost use Rattle.block_device.specs.StreamSeen.{SinkSeen};
-ghost use Rattle.flat_model.specs.Words.{pages_in};
-ghost use Rattle.sunvm.specs.Plans.{plan_seen, IsPlan};
-ghost use Rattle.sunvm.specs.Report.{process_section};
-ghost use Rattle.sunvm.specs.Run.{counts_line, Wrote};
-ghost use Rattle.sunvm.specs.Parts.{end_of, Ended, IsFaultAfter};
-ghost use Rattle.sunvm.specs.Ending.{head, IsShown, IsClosingEnd, IsShowingEnd, IsReport, IsPlayed, table_of_plan, status_of, fault_of};
+//! The ways in which a run ends.
+ghost use Rattle.std.specs.Prelude.{◌≡◌};
+ghost use Rattle.sunvm.specs.Ending.{status_of, fault_of};
 
-use crate::early::push_disk_fault;
-use crate::outcome::{Outcome, RunFault};
-use crate::playing::Played;
-use crate::report::{push_heading, push_process};
-use crate::running::one;
-use crate::script::Plan;
-use crate::showing::{ShowStop, show_pages};
-use block_device::{Disk, Sink, write_all};
-use one_file_core::DiskFault;
-use std::alloc::{AllocError, Global};
-use vm_types::Entry;
+use crate::outcome::RunFault;
+use block_device::{Disk, DiskFault, OpenFault};
+use vm_core::KernelHistory;
+use vm_script::ScriptFault;
 
-/// How a run ended whose processes ran.
-#[derive(Clone, Copy, Debug)]
+/// The set-up rule that is broken.
+#[derive(Clone, Copy, Debug, PartialEq, Eq)]
+pub enum Refusal {
+    /// The rule of this number.
+    Rule(u32),
+    /// Rule 9: a disk has too few or too many blocks, or its block 0 breaks a rule of volumes.
+    Volume { disk: u32, rule: u32 },
+}
+
+/// How a run ended, with all that its text needs.
+#[derive(Debug, Drop)]
 pub enum Ending {
     /// The report was written.
     Whole,
-    /// The sink failed.
+    /// The words aren't accepted.
+    Usage,
+    /// The script isn't in the grammar.
+    NoScript(ScriptFault),
+    /// The script has more than one block, or a line whose call isn't served yet.
+    Later,
+    /// A set-up rule is broken.
+    Refused(Refusal),
+    /// The source failed.
+    NotRead,
+    /// The sink failed in the opening part of the trace.
+    OpeningSink,
+    /// The sink failed in the report.
     Sink,
+    /// A disk or the rack failed before the processes ran.
+    Opening(OpenFault),
+    /// A transfer failed as the files were closed.
+    Closing(DiskFault),
+    /// A transfer failed as a file was read back.
+    Showing(DiskFault),
     /// There is no memory left.
     Memory,
-    /// A transfer failed as the file was closed.
-    Closing(DiskFault),
-    /// A transfer failed as the file was read back.
-    Showing(DiskFault),
+}
+
+/// A run that stopped: how, with what history, and with its disks.
+#[derive(Drop)]
+pub struct Stop<D: Disk> {
+    pub ending: Ending,
+    pub history: KernelHistory,
+    /// The disks that were attached, in rising number.
+    pub disks: Vec<D>,
+    pub swap: Option<D>,
 }
 
 impl Ending {
-    fn status(&self) -> u8
+    /// The status.
+    pub fn status(&self) -> u8
         ensures { result ≡ status_of self.now }
     {
         match self {
             Ending::Whole => 0,
-            Ending::Sink => 6,
+            Ending::Usage => 2,
+            Ending::NoScript(_) | Ending::Later => 3,
+            Ending::Refused(_) => 4,
+            Ending::NotRead => 5,
+            Ending::OpeningSink | Ending::Sink => 6,
+            Ending::Opening(_) | Ending::Closing(_) | Ending::Showing(_) => 7,
             Ending::Memory => 8,
-            Ending::Closing(_) | Ending::Showing(_) => 7,
         }
     }
 
-    fn fault(&self) -> Option<RunFault>
-        ensures { result ≡ fault_of self.now }
+    /// The fault that the status 7 names.
+    pub fn into_fault(self) -> Option<RunFault>
+        ensures { result ≡ fault_of self }
     {
         match self {
-            Ending::Closing(fault) => Some(RunFault::Closing(*fault)),
-            Ending::Showing(fault) => Some(RunFault::Showing(*fault)),
+            Ending::Opening(fault) => Some(RunFault::Opening(fault)),
+            Ending::Closing(fault) => Some(RunFault::Closing(fault)),
+            Ending::Showing(fault) => Some(RunFault::Showing(fault)),
             _ => None,
         }
-    }
-}
-
-// Writes the table to block 0.
-fn write_table<D: Disk>(disk: &mut D, table: &[u8]) -> Result<(), DiskFault>
-    requires some { 0 < (D.seen disk.old).size }
-    requires whole { length table.now ≡ 4096 }
-    // Ok: block 0 is the table. An error is a fault of this transfer.
-    ensures written { OnOk result
-        ((D.seen disk.new).content ≡ with_block (D.seen disk.old).content 0 table.now) }
-    ensures fault { IfErr result (IsFaultAfter (D.seen disk.old).faults (D.seen disk.new)) }
-    // Whether the disk tells, its size and its counts stay or rise.
-    ensures told { IfSome (D.seen disk.new).content (λ _. IsSome (D.seen disk.old).content) }
-    ensures later { (D.seen disk.old).faults ≤ (D.seen disk.new).faults }
-    ensures size { (D.seen disk.new).size ≡ (D.seen disk.old).size }
-{
-    let before = disk.faults();
-    match disk.write(0, table) {
-        Ok(()) => Ok(()),
-        Err(_) => Err(DiskFault {
-            disk: 0,
-            before,
-            after: disk.faults(),
-        }),
-    }
-}
-
-// The process's section, and the line of a fault.
-fn closing_text(alloc: Global, history: &[Entry], fault: &DiskFault) -> Result<Vec<u8>, AllocError>
-    requires few { length history.now < 2 ^ 31 }
-    requires well_formed { All (λ e. IsWellFormed e.call) history.now }
-    ensures { IfOk result (λ text. text.items ≡ process_section history.now
-        ++ counts_line fault.now.disk fault.now.before fault.now.after) }
-{
-    let mut text = Vec::new(alloc);
-    push_process(&mut text, history)?;
-    push_disk_fault(&mut text, fault)?;
-    Ok(text)
-}
-
-// Writes the process's section and the line of a fault, as far as the sink takes them.
-fn tell_closing<K: Sink>(alloc: Global, history: &[Entry], fault: DiskFault, out: &mut K) -> Ending
-    requires few { length history.now < 2 ^ 31 }
-    requires well_formed { All (λ e. IsWellFormed e.call) history.now }
-    ensures { IsClosingEnd history.now fault (K.seen out.old) (K.seen out.new) result }
-{
-    match closing_text(alloc, history, &fault) {
-        Ok(text) => {
-            let _ = write_all(out, &text);
-            Ending::Closing(fault)
-        }
-        Err(_) => Ending::Memory,
-    }
-}
-
-// The process's section and the heading of the file's.
-fn head_text(alloc: Global, plan: &Plan, history: &[Entry]) -> Result<Vec<u8>, AllocError>
-    requires plan { IsPlan 1048577 plan.now }
-    requires few { length history.now < 2 ^ 31 }
-    requires well_formed { All (λ e. IsWellFormed e.call) history.now }
-    ensures { IfOk result (λ text. text.items ≡ head (plan_seen plan.now) history.now) }
-{
-    let mut text = Vec::new(alloc);
-    push_process(&mut text, history)?;
-    push_heading(
-        &mut text,
-        plan.file.name.bytes(),
-        plan.file.bytes.as_slice().len() as u32,
-    )?;
-    Ok(text)
-}
-
-// Writes the line of a fault, as far as the sink takes it.
-fn tell_showing<K: Sink>(alloc: Global, fault: DiskFault, out: &mut K) -> Ending
-    ensures { IsShowingEnd fault (K.seen out.old) (K.seen out.new) result }
-{
-    let mut text = Vec::new(alloc);
-    match push_disk_fault(&mut text, &fault) {
-        Ok(()) => {
-            let _ = write_all(out, &text);
-            Ending::Showing(fault)
-        }
-        Err(_) => Ending::Memory,
-    }
-}
-
-// Writes the lines of a file of this length behind what was written before.
-fn show_file<D: Disk, K: Sink>(alloc: Global, length: u32, disk: &mut D, out: &mut K) -> Ending
-    requires blocks { pages_in length < (D.seen disk.old).size }
-    requires few { pages_in length ≤ 16384 }
-    // No block changes.
-    ensures content { (D.seen disk.new).content ≡ (D.seen disk.old).content }
-    ensures size { (D.seen disk.new).size ≡ (D.seen disk.old).size }
-    ensures later { (D.seen disk.old).faults ≤ (D.seen disk.new).faults }
-    // The lines stand behind whatever text was written before.
-    ensures shown { (before : SinkSeen) (front : List ℕ) → before.faults ≤ (K.seen out.old).faults
-        → Wrote before (K.seen out.old) front
-        → IsShown front length before (K.seen out.new) (D.seen disk.old) (D.seen disk.new) result }
-{
-    match show_pages(alloc, length, disk, out) {
-        Ok(()) => Ending::Whole,
-        Err(ShowStop::Memory) => Ending::Memory,
-        Err(ShowStop::Sink) => Ending::Sink,
-        Err(ShowStop::Fault(fault)) => tell_showing(alloc, fault, out),
-    }
-}
-
-// Writes the report of a file that was closed.
-fn show<D: Disk, K: Sink>(
-    alloc: Global,
-    plan: &Plan,
-    history: &[Entry],
-    disk: &mut D,
-    out: &mut K,
-) -> Ending
-    requires plan { IsPlan 1048577 plan.now }
-    requires few { length history.now < 2 ^ 31 }
-    requires well_formed { All (λ e. IsWellFormed e.call) history.now }
-    requires size { (D.seen disk.old).size ≡ plan.now.blocks }
-    // No block changes.
-    ensures content { (D.seen disk.new).content ≡ (D.seen disk.old).content }
-    ensures size { (D.seen disk.new).size ≡ (D.seen disk.old).size }
-    ensures later { (D.seen disk.old).faults ≤ (D.seen disk.new).faults }
-    // The report was written, as far as the sink took it and the pages were read.
-    ensures shown { IsShown (head (plan_seen plan.now) history.now)
-        (length plan.now.file.bytes.items) (K.seen out.old) (K.seen out.new)
-        (D.seen disk.old) (D.seen disk.new) result }
-{
-    let Ok(text) = head_text(alloc, plan, history) else {
-        return Ending::Memory;
-    };
-    let length = plan.file.bytes.as_slice().len() as u32;
-    match write_all(out, &text) {
-        Ok(()) => show_file(alloc, length, disk, out),
-        Err(_) => Ending::Sink,
-    }
-}
-
-// Writes the table and then the report, or the line of the fault.
-fn report<D: Disk, K: Sink>(
-    alloc: Global,
-    plan: &Plan,
-    history: &[Entry],
-    table: &[u8],
-    disk: &mut D,
-    out: &mut K,
-) -> Ending
-    requires plan { IsPlan 1048577 plan.now }
-    requires few { length history.now < 2 ^ 31 }
-    requires well_formed { All (λ e. IsWellFormed e.call) history.now }
-    requires size { (D.seen disk.old).size ≡ plan.now.blocks }
-    requires whole { length table.now ≡ 4096 }
-    // The table and the report, or the line of the fault.
-    ensures { IsReport (plan_seen plan.now) history.now table.now
-        (K.seen out.old) (K.seen out.new) (D.seen disk.old) (D.seen disk.new) result }
-{
-    match write_table(disk, table) {
-        Ok(()) => show(alloc, plan, history, disk, out),
-        Err(fault) => tell_closing(alloc, history, fault, out),
-    }
-}
-
-// Tells how the run ended.
-fn end<D: Disk, K: Sink>(
-    alloc: Global,
-    plan: &Plan,
-    played: &mut Played<D>,
-    table: &[u8],
-    out: &mut K,
-) -> Ending
-    // The plan was played, and its table was made.
-    requires plan { IsPlan 1048577 plan.now }
-    requires bytes { All (λ b. b < 256) plan.now.file.bytes.items }
-    requires table { table.now ≡ table_of_plan (plan_seen plan.now) }
-    requires whole { length table.now ≡ 4096 }
-    requires played { IsPlayed (plan_seen plan.now) played.old.is_whole played.old.fault
-        played.old.history (D.seen played.old.disk) }
-    // The clauses of a run hold, whatever the rack counted.
-    ensures history { played.new.history ≡ played.old.history }
-    ensures ended { (rack_old rack_new : ℕ) → Ended (Some (Some (plan_seen plan.now)))
-        (K.seen out.old) (K.seen out.new) rack_old rack_new (record {
-          status = status_of result;
-          fault = fault_of result;
-          history = played.old.history;
-          disks = D.seen played.new.disk ∷ [];
-        }) }
-{
-    if !played.is_whole {
-        return Ending::Memory;
-    }
-    match played.fault {
-        Some(fault) => tell_closing(alloc, played.history.entries(), fault, out),
-        None => report(
-            alloc,
-            plan,
-            played.history.entries(),
-            table,
-            &mut played.disk,
-            out,
-        ),
-    }
-}
-
-/// Ends a run whose processes ran: writes the table and the report, and hands back the history and the disk.
-pub fn end_run<D: Disk, K: Sink>(
-    alloc: Global,
-    plan: &Plan,
-    mut played: Played<D>,
-    back: Vec<D>,
-    table: &[u8],
-    out: &mut K,
-) -> Outcome<D>
-    // The plan was played, and its table was made.
-    requires plan { IsPlan 1048577 plan.now }
-    requires bytes { All (λ b. b < 256) plan.now.file.bytes.items }
-    requires table { table.now ≡ table_of_plan (plan_seen plan.now) }
-    requires whole { length table.now ≡ 4096 }
-    requires played { IsPlayed (plan_seen plan.now) played.is_whole played.fault played.history
-        (D.seen played.disk) }
-    requires empty { back.items ≡ [] }
-    requires room { 1 ≤ vec_capacity back }
-    // The clauses of a run hold, whatever the rack counted, and the answer is none that comes before a plan.
-    ensures ended { (rack_old rack_new : ℕ) → Ended (Some (Some (plan_seen plan.now)))
-        (K.seen out.old) (K.seen out.new) rack_old rack_new (end_of D.seen result) }
-    ensures words { result.status ≢ 2 }
-    ensures source { result.status ≢ 5 }
-{
-    let ending = end(alloc, plan, &mut played, table, out);
-    Outcome {
-        status: ending.status(),
-        fault: ending.fault(),
-        history: played.history,
-        disks: one(back, played.disk),
-        swap: None,
     }
 }

@@ -1,57 +1,80 @@
 //! The rack of the program.
 ghost use Rattle.std.specs.Prelude.{◌≡◌};
+ghost use Rattle.sunvm.specs.HostSeen.{HostRackSeen};
 
+use crate::host_disk::HostDisk;
 use block_device::{MemDisk, Rack, RackFault, Spec};
 use std::alloc::Global;
+use std::fs::File;
 use std::marker::Model;
+use std::rt::Files;
 
-/// A rack that makes blank disks in memory. It keeps no disk by path, so it fails at each spec by path. Contracts see its
-/// count of faults.
+/// A rack that makes blank disks in memory, and opens the file at a path as a disk. Contracts see its count of faults
+/// and of the disks that it attached. Once it attached 2^64 - 1 disks it fails.
 #[derive(Drop)]
-pub struct HostRack {
+pub struct HostRack<'a, R: Files<File = File>> {
     alloc: Global,
+    files: &'a R,
     faults: u64,
+    attached: u64,
 }
 
-impl Model for HostRack {
-    ghost use Rattle.std.specs.Prelude.{ℕ};
+impl<'a, R: Files<File = File>> Model for HostRack<'a, R> {
+    ghost use Rattle.sunvm.specs.HostSeen.{HostRackSeen};
 
-    ghost Value = { ℕ };
+    ghost Value = { HostRackSeen };
 
-    ghost view = { λ rack. rack.faults };
+    ghost view = { λ rack. record { faults = rack.faults; attached = rack.attached } };
 }
 
-impl HostRack {
-    /// A rack with no fault yet.
-    pub fn new(alloc: Global) -> HostRack
-        ensures { result ≡ 0 }
+impl<'a, R: Files<File = File>> HostRack<'a, R> {
+    /// A rack with no fault and no disk yet.
+    pub fn new(alloc: Global, files: &'a R) -> HostRack<'a, R>
+        ensures { result ≡ record { faults = 0; attached = 0 } }
     {
-        HostRack { alloc, faults: 0 }
+        HostRack {
+            alloc,
+            files,
+            faults: 0,
+            attached: 0,
+        }
     }
 }
 
-impl Rack for HostRack {
+impl<R: Files<File = File>> Rack for HostRack<'_, R> {
     ghost use Rattle.std.specs.Prelude.{None};
 
-    type D = MemDisk;
+    type D = HostDisk;
 
-    ghost seen = { λ faults. record { holds = λ spec. None; faults = faults } };
+    ghost seen = { λ rack. record { holds = λ spec. None; faults = rack.faults; attached = rack.attached } };
 
     fn faults(&self) -> u64 {
         self.faults
     }
 
-    fn attach(&mut self, spec: &Spec) -> Result<MemDisk, RackFault> {
+    fn attach(&mut self, spec: &Spec) -> Result<HostDisk, RackFault> {
+        let Some(attached) = self.attached.checked_add(1) else {
+            self.faults = self.faults.saturating_add(1);
+            return Err(RackFault::Failed);
+        };
         match spec {
             Spec::Blank { blocks, .. } => {
                 match MemDisk::new(self.alloc, *blocks, Vec::new(self.alloc)) {
-                    Ok(disk) => Ok(disk),
+                    Ok(disk) => {
+                        self.attached = attached;
+                        Ok(HostDisk::Blank(disk))
+                    }
                     Err(_) => Err(RackFault::Memory),
                 }
             }
-            Spec::Path { .. } => {
-                self.faults = self.faults.saturating_add(1);
-                Err(RackFault::Failed)
+            Spec::Path { path, .. } => {
+                match disk_file::open(self.files, path, &mut self.faults) {
+                    Ok(disk) => {
+                        self.attached = attached;
+                        Ok(HostDisk::Path(disk))
+                    }
+                    Err(_) => Err(RackFault::Failed),
+                }
             }
         }
     }

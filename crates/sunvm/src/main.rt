@@ -1,25 +1,39 @@
-//! The virtual memory system as a program. It runs scripts of one process, one file and one blank disk: the process maps
-//! the file, loads from it and stores to it, and the report tells what each call answered and what the file holds at the end.
+//! The virtual memory system as a program: it runs scripts of processes over simulated frames, disks and translations.
 #![tactic(auto)]
 
-mod early;
+mod attaching;
+mod closing;
+mod concluding;
+mod disk_tables;
 mod ending;
-mod fields;
+mod ending_files;
+mod entry_rooms;
+mod file_lines;
+mod free_places;
+mod host_disk;
 mod host_rack;
-mod opening;
+mod lines;
+mod making;
+mod mounting;
+mod options;
 mod outcome;
+mod page_disk;
+mod page_lines;
+mod pages;
+mod placing;
 mod playing;
-mod report;
+mod reading;
+mod ready;
+mod reporting;
 mod run;
 #[cfg(test)]
 mod run_tests;
-mod running;
-mod script;
 mod showing;
-mod table;
+mod starting;
+mod table_files;
+mod tracing;
 #[cfg(test)]
-mod tests;
-mod text;
+mod word_tests;
 
 use crate::host_rack::HostRack;
 use crate::run::run;
@@ -29,7 +43,7 @@ use std::env;
 use std::io::ErrorKind;
 use std::process::ExitCode;
 
-// The words behind the program's name. Where one isn't text, an empty word stands for all: no word is accepted yet.
+// The words behind the program's name. Where one isn't text, an empty word stands for all: the command takes no such word.
 fn words_of(rt: &HostRuntime) -> Result<Vec<String>, AllocError> {
     let mut words = Vec::new(rt.alloc());
     match env::args(rt) {
@@ -51,7 +65,7 @@ fn main(rt: HostRuntime) -> ExitCode {
     };
     let mut script = HostSource::new(rt.stdin());
     let mut out = HostSink::new(rt.stdout());
-    let mut rack = HostRack::new(alloc);
-    let outcome = run(alloc, &words, &mut script, &mut out, &mut rack);
+    let mut rack = HostRack::new(alloc, &rt);
+    let outcome = run(&rt, alloc, &words, &mut script, &mut out, &mut rack);
     ExitCode::from(outcome.status)
 }

@@ -1,15 +1,15 @@
 //! How a run ended.
-use block_device::{Disk, OpenFault};
-use one_file_core::{DiskFault, KernelHistory};
+use block_device::{Disk, DiskFault, OpenFault};
+use vm_core::KernelHistory;
 
 /// A fault of a device that ended a run.
 #[derive(Debug, Drop)]
 pub enum RunFault {
     /// It came before the processes ran.
     Opening(OpenFault),
-    /// It came as the file was closed.
+    /// It came as the files were closed.
     Closing(DiskFault),
-    /// It came as the file was read back for the report.
+    /// It came as a file was read back for the report.
     Showing(DiskFault),
 }
 
@@ -23,5 +23,6 @@ pub struct Outcome<D: Disk> {
     pub history: KernelHistory,
     /// The disks that were attached, in rising number.
     pub disks: Vec<D>,
+    /// The swap disk, where one was attached.
     pub swap: Option<D>,
 }

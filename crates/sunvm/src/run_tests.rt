@@ -1,11 +1,13 @@
-//! Whole runs over memory forms.
-ghost use Rattle.std.specs.Prelude.{◌≡◌, IfOk};
-ghost use Rattle.block_device.specs.MemDiskLook.{look};
-ghost use Rattle.block_device.specs.MemSeen.{disk_of};
+//! Whole runs over memory forms, with a fault in each place.
+ghost use Rattle.std.specs.Prelude.{◌≡◌, ◌≤◌, length};
 
+use crate::outcome::{Outcome, RunFault};
 use crate::run::run;
-use block_device::{Disk, Failed, MemDisk, MemRack, MemSink, MemSource, Rack, RackFault, Spec};
+use block_device::{
+    Block, MemDisk, MemRack, MemSink, MemSource, PathText, Rack, RackFault, Spec, Untold,
+};
 use std::alloc::{AllocError, Global};
+use std::sync::Wait;
 use std::test::Fail;
 
 const FIRST: &[u8] =
@@ -17,85 +19,112 @@ const AGAIN: &[u8] =
 const TAIL: &[u8] =
     b"disk 0 blank 8\nfile a rw 0 2 68656c6c6f\nprocess\nmap 0x2000 8192 rw shared a 0\nload 0x2005 1\nload 0x3000 1\nend\n";
 
-const LATER: &[u8] = b"disk 0 blank 8\nfile a rw 0 2 68656c6c6f\nprocess\nfork\nend\nend\n";
+const TWO: &[u8] =
+    b"swap 0\ndisk 1 blank 4\ndisk 0 blank 8\nfile b ro 1 1 00ff\nfile a rw 0 2 -\nprocess\nend\n";
+
+const FOUR: &[u8] =
+    b"swap 0\ndisk 0 blank 8\ndisk 3 blank 8\nfile d rw 3 1 44\nfile c rw 0 1 43\nfile b rw 3 2 42\nfile a ro 0 1 41\nprocess\nmap 0x2000 4096 rw shared b 0\nstore 0x2000 1 0x62\nend\n";
+
+const REPORT: &[u8] =
+    b"process 1\n4 map 0x00002000\n5 load 0x65\n6 store ok\n7 exit ok\nfile a 5\n00000000 4a656c6c6f\n";
+
+const TRACE: &[u8] =
+    b"trace swap 64\ndisk 0 8\nroot 1\nfile 0 a rw 0 5 1+2\n00000000 68656c6c6f\nentries 4\n1 0000000000000000 map 0x00002000 4096 rw shared file 0 0 = 0x00002000\n1 0000000000000000 load 0x00002001 1 = 0x65\n1 0000000000000000 store 0x00002000 1 0x4a = ok\n1 0000000000000000 exit = ok\nprocess 1\n4 map 0x00002000\n5 load 0x65\n6 store ok\n7 exit ok\nfile a 5\n00000000 4a656c6c6f\n";
 
 // A run, and how it ends. A call that fails has its number, and 0 stands for none.
 #[derive(Clone, Copy)]
 struct Case {
     name: &'static str,
     script: &'static [u8],
-    words: u8,
+    words: &'static [&'static str],
     source: u64,
     sink: u64,
     rack: u64,
-    disk: u64,
+    disk_0: u64,
+    disk_1: u64,
     status: u8,
+    fault: &'static str,
     text: &'static [u8],
 }
 
-// What a run left: its status, its text, and its disk's reads and writes.
+const WHOLE: Case = Case {
+    name: "the first path",
+    script: FIRST,
+    words: &[],
+    source: 0,
+    sink: 0,
+    rack: 0,
+    disk_0: 0,
+    disk_1: 0,
+    status: 0,
+    fault: "none",
+    text: REPORT,
+};
+
+// What a run left: its status, the step of its fault, its text, how many disks came back, and the first disk's transfers.
 #[derive(Drop)]
 struct Left {
     status: u8,
+    fault: &'static str,
     text: Vec<u8>,
+    disks: usize,
     reads: u64,
     writes: u64,
 }
 
-fn failing(alloc: Global, call: u64) -> Result<Vec<u64>, AllocError> {
-    let mut calls = Vec::new(alloc);
-    if call > 0 {
-        calls.push(call)?;
-    }
-    Ok(calls)
-}
-
-fn words_of(alloc: Global, count: u8) -> Result<Vec<String>, AllocError> {
+fn words_of(alloc: Global, texts: &[&str]) -> Result<Vec<String>, AllocError> {
     let mut words = Vec::new(alloc);
-    for added in 0..count {
-        words.push(String::new(alloc))?;
+    for text in texts {
+        words.push(String::from_str(alloc, text)?)?;
     }
     Ok(words)
 }
 
-fn run_case(alloc: Global, case: &Case) -> Result<Left, AllocError> {
+fn step_of(fault: &Option<RunFault>) -> &'static str {
+    match fault {
+        None => "none",
+        Some(RunFault::Opening(_)) => "opening",
+        Some(RunFault::Closing(_)) => "closing",
+        Some(RunFault::Showing(_)) => "showing",
+    }
+}
+
+fn rack_of(alloc: Global, case: &Case) -> Result<MemRack, AllocError> {
+    let mut disks = Vec::new(alloc);
+    disks.push([case.disk_0].to_vec(alloc)?)?;
+    disks.push([case.disk_1].to_vec(alloc)?)?;
+    Ok(MemRack::new(alloc, [case.rack].to_vec(alloc)?, disks))
+}
+
+fn run_case(rt: &impl Wait, alloc: Global, case: &Case) -> Result<Left, AllocError> {
     let words = words_of(alloc, case.words)?;
     let bytes = Vec::from_slice(alloc, case.script)?;
-    let mut script = MemSource::new(bytes, 7, failing(alloc, case.source)?);
-    let mut out = MemSink::new(alloc, 4096, 5, failing(alloc, case.sink)?)?;
-    let mut disks = Vec::new(alloc);
-    disks.push(failing(alloc, case.disk)?)?;
-    let mut rack = MemRack::new(alloc, failing(alloc, case.rack)?, disks);
-    let outcome = run(alloc, &words, &mut script, &mut out, &mut rack);
+    let mut script = MemSource::new(bytes, 7, [case.source].to_vec(alloc)?);
+    let mut out = MemSink::new(alloc, 16384, 5, [case.sink].to_vec(alloc)?)?;
+    let mut rack = rack_of(alloc, case)?;
+    let outcome = run(rt, alloc, &words, &mut script, &mut out, &mut rack);
     let (reads, writes) = match outcome.disks.first() {
         Some(disk) => (disk.reads(), disk.writes()),
         None => (0, 0),
     };
     Ok(Left {
         status: outcome.status,
+        fault: step_of(&outcome.fault),
         text: out.into_written(),
+        disks: outcome.disks.len(),
         reads,
         writes,
     })
 }
 
-const REPORT: &[u8] =
-    b"process 1\n4 map 0x00002000\n5 load 0x65\n6 store ok\n7 exit ok\nfile a 5\n00000000 4a656c6c6f\n";
-
-const WHOLE: Case = Case {
-    name: "the first path",
-    script: FIRST,
-    words: 0,
-    source: 0,
-    sink: 0,
-    rack: 0,
-    disk: 0,
-    status: 0,
-    text: REPORT,
-};
-
-const CASES: [Case; 11] = [
+const CASES: [Case; 31] = [
     WHOLE,
+    Case {
+        name: "a trace",
+        words: &["--trace"],
+        text: TRACE,
+        ..WHOLE
+    },
     Case {
         name: "the tail and the end",
         script: TAIL,
@@ -103,38 +132,151 @@ const CASES: [Case; 11] = [
         ..WHOLE
     },
     Case {
+        name: "the tail isn't the file's",
+        script: b"disk 0 blank 8\nfile a rw 0 2 68656c6c6f\nprocess\nmap 0x2000 4096 rw shared a 0\nstore 0x2005 1 0x77\nload 0x2005 1\nend\n",
+        text: b"process 1\n4 map 0x00002000\n5 store ok\n6 load 0x77\n7 exit ok\nfile a 5\n00000000 68656c6c6f\n",
+        ..WHOLE
+    },
+    Case {
+        name: "nothing is mapped",
+        script: b"process\nload 0x2002 4\nload 0x2004 4\nend\n",
+        text: b"process 1\n2 load BUS align\n3 load SEGV nomap\n4 exit ok\n",
+        ..WHOLE
+    },
+    Case {
+        name: "mappings are refused",
+        script: b"disk 0 blank 4\nfile a ro 0 1 68656c6c6f\nprocess\nmap 0x1000 0x10001000 r shared a 0\nmap 0x1000 0x10000000 r shared a 0\nmap 0x1000 4096 r shared a 0\nmap 0x2000 4096 rw shared a 0\nmap 0x2000 4096 r shared q 0\nmap 0x2000 0 r shared a 0\nend\n",
+        text: b"process 1\n4 map error 5 TooLarge\n5 map 0x00001000\n6 map 0x00001000\n7 map error 2 Access\n8 map error 9 NoObject\n9 map error 1 Invalid\n10 exit ok\nfile a 5\n00000000 68656c6c6f\n",
+        ..WHOLE
+    },
+    Case {
+        name: "a page isn't brought in at first, with another beside it",
+        script: b"disk 0 blank 8\nfile a rw 0 1 68656c6c6f\nfile b rw 0 1 776f726c64\nprocess\nmap 0x2000 4096 r shared a 0\nmap 0x4000 4096 r shared b 0\nload 0x2000 1\nload 0x4000 1\nload 0x4000 1\nend\n",
+        disk_0: 5,
+        text: b"process 1\n5 map 0x00002000\n6 map 0x00004000\n7 load 0x68\n8 load BUS io 0 0 1\n9 load 0x77\n10 exit ok\nfile a 5\n00000000 68656c6c6f\nfile b 5\n00000000 776f726c64\n",
+        ..WHOLE
+    },
+    Case {
+        name: "two disks, a file on each",
+        script: TWO,
+        text: b"process 1\n7 exit ok\nfile b 2\n00000000 00ff\nfile a 0\n",
+        ..WHOLE
+    },
+    Case {
+        name: "two disks, with a trace and no swap",
+        script: TWO,
+        words: &["--trace"],
+        text: b"trace swap 0\ndisk 0 8\ndisk 1 4\nroot 1\nfile 0 b ro 1 2 1+1\n00000000 00ff\nfile 1 a rw 0 0 1+2\nentries 1\n1 0000000000000000 exit = ok\nprocess 1\n7 exit ok\nfile b 2\n00000000 00ff\nfile a 0\n",
+        ..WHOLE
+    },
+    Case {
+        name: "two files on each of two disks",
+        script: FOUR,
+        text: b"process 1\n9 map 0x00002000\n10 store ok\n11 exit ok\nfile d 1\n00000000 44\nfile c 1\n00000000 43\nfile b 1\n00000000 62\nfile a 1\n00000000 41\n",
+        ..WHOLE
+    },
+    Case {
+        name: "nothing",
+        script: b"",
+        text: b"",
+        ..WHOLE
+    },
+    Case {
         name: "block 0 isn't read",
-        disk: 1,
+        disk_0: 1,
         status: 7,
+        fault: "opening",
         text: b"fault: disk 0 0 1\n",
         ..WHOLE
     },
     Case {
-        name: "the page isn't pushed",
-        disk: 4,
+        name: "the file's page isn't written",
+        disk_0: 2,
         status: 7,
+        fault: "opening",
+        text: b"fault: disk 0 0 1\n",
+        ..WHOLE
+    },
+    Case {
+        name: "the page isn't brought in, and then is",
+        disk_0: 3,
+        text: b"process 1\n4 map 0x00002000\n5 load BUS io 0 0 1\n6 store ok\n7 exit ok\nfile a 5\n00000000 4a656c6c6f\n",
+        ..WHOLE
+    },
+    Case {
+        name: "the page isn't pushed",
+        disk_0: 4,
+        status: 7,
+        fault: "closing",
         text: b"process 1\n4 map 0x00002000\n5 load 0x65\n6 store ok\n7 exit ok\nfault: disk 0 0 1\n",
         ..WHOLE
     },
     Case {
         name: "the table isn't written",
-        disk: 5,
+        disk_0: 5,
         status: 7,
+        fault: "closing",
         text: b"process 1\n4 map 0x00002000\n5 load 0x65\n6 store ok\n7 exit ok\nfault: disk 0 0 1\n",
         ..WHOLE
     },
     Case {
         name: "the page isn't read back",
-        disk: 6,
+        disk_0: 6,
         status: 7,
+        fault: "showing",
         text: b"process 1\n4 map 0x00002000\n5 load 0x65\n6 store ok\n7 exit ok\nfile a 5\nfault: disk 0 0 1\n",
         ..WHOLE
     },
     Case {
-        name: "the disk isn't attached",
+        name: "the page isn't read for the trace",
+        words: &["--trace"],
+        disk_0: 3,
+        status: 7,
+        fault: "opening",
+        text: b"trace swap 64\ndisk 0 8\nroot 1\nfile 0 a rw 0 5 1+2\nfault: disk 0 0 1\n",
+        ..WHOLE
+    },
+    Case {
+        name: "the other disk's table isn't written",
+        script: TWO,
+        disk_1: 3,
+        status: 7,
+        fault: "closing",
+        text: b"process 1\n7 exit ok\nfault: disk 1 0 1\n",
+        ..WHOLE
+    },
+    Case {
+        name: "the other disk's page isn't read back",
+        script: TWO,
+        disk_1: 4,
+        status: 7,
+        fault: "showing",
+        text: b"process 1\n7 exit ok\nfile b 2\nfault: disk 1 0 1\n",
+        ..WHOLE
+    },
+    Case {
+        name: "the swap disk isn't attached",
         rack: 1,
         status: 7,
+        fault: "opening",
+        text: b"fault: rack 8\n",
+        ..WHOLE
+    },
+    Case {
+        name: "the disk isn't attached",
+        rack: 2,
+        status: 7,
+        fault: "opening",
         text: b"fault: rack 0\n",
+        ..WHOLE
+    },
+    Case {
+        name: "the second disk isn't attached",
+        script: TWO,
+        rack: 2,
+        status: 7,
+        fault: "opening",
+        text: b"fault: rack 1\n",
         ..WHOLE
     },
     Case {
@@ -152,15 +294,43 @@ const CASES: [Case; 11] = [
         ..WHOLE
     },
     Case {
-        name: "a word",
-        words: 1,
+        name: "a word that isn't taken",
+        words: &["--pageout", "x"],
         status: 2,
         text: b"usage: sunvm [--trace] [--pageout N] [--make N]\n",
         ..WHOLE
     },
     Case {
-        name: "a script of another kind",
-        script: LATER,
+        name: "a line with no such word",
+        script: b"process\nlaod 0x2000 1\nend\n",
+        status: 3,
+        text: b"script: line 2: word\n",
+        ..WHOLE
+    },
+    Case {
+        name: "a block that is open at the end",
+        script: b"process\n",
+        status: 3,
+        text: b"script: line 2: place\n",
+        ..WHOLE
+    },
+    Case {
+        name: "a child",
+        script: b"process\nfork\nend\nend\n",
+        status: 3,
+        text: b"script: later\n",
+        ..WHOLE
+    },
+    Case {
+        name: "two top blocks",
+        script: b"process\nend\nprocess\nend\n",
+        status: 3,
+        text: b"script: later\n",
+        ..WHOLE
+    },
+    Case {
+        name: "a private mapping",
+        script: b"disk 0 blank 8\nfile a rw 0 1 -\nprocess\nmap 0x2000 4096 rw private a 0\nend\n",
         status: 3,
         text: b"script: later\n",
         ..WHOLE
@@ -170,113 +340,462 @@ const CASES: [Case; 11] = [
 #[test]
 fn runs_end_as_the_rules_say(rt: HostRuntime) -> Result<(), Fail> {
     for case in &CASES {
-        let left = run_case(rt.alloc(), case)?;
+        let left = run_case(&rt, rt.alloc(), case)?;
         let name = case.name;
-        assert_eq!(rt; left.status, case.status, "{name}");
+        assert_eq!(rt;
+            (left.status, left.fault),
+            (case.status, case.fault),
+            "{name}"
+        );
         assert_eq!(rt; left.text.as_slice(), case.text, "{name}");
     }
     Ok(())
 }
 
+// A script that isn't in the grammar or breaks a set-up rule, its status, and what is printed.
+#[derive(Clone, Copy)]
+struct Broken {
+    status: u8,
+    script: &'static [u8],
+    text: &'static [u8],
+}
+
+const BROKEN: [Broken; 17] = [
+    Broken {
+        status: 3,
+        script: b"process\nload 0x2000\t1\nend\n",
+        text: b"script: line 2: byte\n",
+    },
+    Broken {
+        status: 3,
+        script: b"disk 0 blank 8\nfile a rw 0 2 68656c6c6f\nprocess\nmap 0x2000 4096 rw shared a 0\nload 0x2001 1\nstore 0x2000 1 0x4a\nlaod 0x2000 1\nend\n",
+        text: b"script: line 7: word\n",
+    },
+    Broken {
+        status: 3,
+        script: b"process\nload 0x2000\nend\n",
+        text: b"script: line 2: count\n",
+    },
+    Broken {
+        status: 3,
+        script: b"process\nload x 1\nend\n",
+        text: b"script: line 2: number\n",
+    },
+    Broken {
+        status: 3,
+        script: b"file zero rw 0 1 -\n",
+        text: b"script: line 1: name\n",
+    },
+    Broken {
+        status: 3,
+        script: b"file a rw 0 1 123\n",
+        text: b"script: line 1: bytes\n",
+    },
+    Broken {
+        status: 3,
+        script: b"process\nload 0x2000 3\nend\n",
+        text: b"script: line 2: value\n",
+    },
+    Broken {
+        status: 4,
+        script: b"frames 4\nprocess\nend\n",
+        text: b"setup: rule 1\n",
+    },
+    Broken {
+        status: 4,
+        script: b"swap 65537\nprocess\nend\n",
+        text: b"setup: rule 2\n",
+    },
+    Broken {
+        status: 4,
+        script: b"translations 7\nprocess\nend\n",
+        text: b"setup: rule 3\n",
+    },
+    Broken {
+        status: 4,
+        script: b"disk 8 blank 8\nprocess\nend\n",
+        text: b"setup: rule 4\n",
+    },
+    Broken {
+        status: 4,
+        script: b"file a rw 0 1 -\nprocess\nend\n",
+        text: b"setup: rule 5\n",
+    },
+    Broken {
+        status: 4,
+        script: b"disk 0 blank 8\nfile a rw 0 0 -\nprocess\nend\n",
+        text: b"setup: rule 6\n",
+    },
+    Broken {
+        status: 4,
+        script: b"disk 0 blank 8\nfile a rw 0 1 -\nfile a rw 0 1 -\nprocess\nend\n",
+        text: b"setup: rule 11\n",
+    },
+    Broken {
+        status: 4,
+        script: b"disk 0 blank 2\nfile a rw 0 2 -\nprocess\nend\n",
+        text: b"setup: rule 12\n",
+    },
+    Broken {
+        status: 4,
+        script: b"frames 5\nswap 16\ndisk 0 blank 2\nprocess\nend\n",
+        text: b"setup: rule 1\n",
+    },
+    Broken {
+        status: 4,
+        script: b"disk 0 blank 4\nfile a rw 0 2 -\nfile b rw 0 1 -\nfile c rw 0 1 -\nprocess\nend\n",
+        text: b"setup: rule 12\n",
+    },
+];
+
 #[test]
-fn a_load_makes_no_transfer(rt: HostRuntime) -> Result<(), Fail> {
-    for script in [FIRST, AGAIN] {
-        let case = Case { script, ..WHOLE };
-        let left = run_case(rt.alloc(), &case)?;
-        assert_eq!(rt; (left.reads, left.writes), (3, 3));
+fn what_is_wrong_with_a_script_is_told(rt: HostRuntime) -> Result<(), Fail> {
+    for broken in &BROKEN {
+        let case = Case {
+            script: broken.script,
+            ..WHOLE
+        };
+        let left = run_case(&rt, rt.alloc(), &case)?;
+        assert_eq!(rt; left.status, broken.status);
+        assert_eq!(rt; left.text.as_slice(), broken.text);
     }
     Ok(())
 }
 
-// A memory disk that doesn't tell its content.
-#[derive(Drop)]
-struct Untold {
-    disk: MemDisk,
+#[test]
+fn a_load_that_finds_its_page_makes_no_transfer(rt: HostRuntime) -> Result<(), Fail> {
+    for script in [FIRST, AGAIN] {
+        let case = Case { script, ..WHOLE };
+        let left = run_case(&rt, rt.alloc(), &case)?;
+        assert_eq!(rt; (left.reads, left.writes, left.disks), (3, 3, 1));
+        assert_eq!(rt; left.status, 0);
+    }
+    Ok(())
 }
 
-impl Disk for Untold {
-    ghost use Rattle.std.specs.Prelude.{None};
-    ghost use Rattle.block_device.specs.MemDiskLook.{look};
-    ghost use Rattle.block_device.specs.MemSeen.{disk_of};
-
-    ghost seen = { λ d. record (disk_of (look d.disk)) { content = None } };
-
-    fn blocks(&self) -> u32 {
-        self.disk.blocks()
+// A sink that fails at each of its calls in turn has a front of the text, each time a longer one.
+#[test]
+fn a_sink_that_fails_has_a_front_of_the_text(rt: HostRuntime) -> Result<(), Fail> {
+    let mut before = 0;
+    for sink in 1..400 {
+        let case = Case {
+            words: &["--trace"],
+            sink,
+            ..WHOLE
+        };
+        let left = run_case(&rt, rt.alloc(), &case)?;
+        let count = left.text.len();
+        assert!(rt; TRACE.starts_with(left.text.as_slice()), "call {sink}");
+        if left.status == 0 {
+            assert_eq!(rt; count, TRACE.len(), "all was taken");
+            assert!(rt; sink > 70, "5 bytes a call");
+            return Ok(());
+        }
+        assert_eq!(rt; left.status, 6, "call {sink}");
+        assert!(rt; sink == 1 || before < count, "call {sink}");
+        assert_eq!(rt; left.disks, 1, "call {sink}");
+        before = count;
     }
-
-    fn faults(&self) -> u64 {
-        self.disk.faults()
-    }
-
-    fn calls(&self) -> u64 {
-        self.disk.calls()
-    }
-
-    fn read(&mut self, block: u32, into: &mut [u8]) -> Result<(), Failed> {
-        self.disk.read(block, into)
-    }
-
-    fn write(&mut self, block: u32, from: &[u8]) -> Result<(), Failed> {
-        self.disk.write(block, from)
-    }
-
-    ghost has_blocks = { λ d. tt };
+    Err(Fail::new("the text has fewer calls"))
 }
 
-// A rack whose disks have a byte in block 0.
-#[derive(Drop)]
-struct UsedRack {
+// A source that fails at each of its calls in turn.
+#[test]
+fn a_source_that_fails_ends_the_run(rt: HostRuntime) -> Result<(), Fail> {
+    for source in 1..400 {
+        let case = Case { source, ..WHOLE };
+        let left = run_case(&rt, rt.alloc(), &case)?;
+        if left.status == 0 {
+            assert_eq!(rt; left.text.as_slice(), REPORT);
+            assert!(rt; source > FIRST.len() as u64 / 7, "7 bytes a call");
+            return Ok(());
+        }
+        assert_eq!(rt; (left.status, left.disks), (5, 0), "call {source}");
+        assert_eq!(rt; left.text.as_slice(), b"script: read fault\n".as_slice());
+    }
+    Err(Fail::new("the script has fewer calls"))
+}
+
+// The outcome of a run over this rack, and what it prints.
+fn run_over<R: Rack>(
+    rt: &impl Wait,
     alloc: Global,
+    script: &[u8],
+    rack: &mut R,
+) -> Result<(Outcome<R::D>, Vec<u8>), AllocError> {
+    let words = Vec::new(alloc);
+    let bytes = Vec::from_slice(alloc, script)?;
+    let mut source = MemSource::new(bytes, 4096, Vec::new(alloc));
+    let mut out = MemSink::new(alloc, 65536, 65536, Vec::new(alloc))?;
+    let outcome = run(rt, alloc, &words, &mut source, &mut out, rack);
+    Ok((outcome, out.into_written()))
 }
 
-// A disk of so many blocks, the first of which isn't zeros.
-fn used_disk(alloc: Global, blocks: u32) -> Result<Untold, AllocError>
-    ensures { IfOk result (λ d. (disk_of (look d.disk)).size ≡ blocks) }
-{
-    let mut disk = MemDisk::new(alloc, blocks, Vec::new(alloc))?;
-    if disk.blocks() > 0 {
-        let _ = disk.write(0, &[1; 4096]);
+// What a run over this rack prints, and its status.
+fn text_over<R: Rack>(
+    rt: &impl Wait,
+    alloc: Global,
+    script: &[u8],
+    rack: &mut R,
+) -> Result<(u8, Vec<u8>), AllocError> {
+    let (outcome, text) = run_over(rt, alloc, script, rack)?;
+    Ok((outcome.status, text))
+}
+
+// A rack that keeps a disk with these blocks under the path v.
+fn rack_with(alloc: Global, blocks: Vec<Block>) -> Result<MemRack, AllocError> {
+    let mut rack = MemRack::new(alloc, Vec::new(alloc), Vec::new(alloc));
+    if blocks.len() <= 16_384 {
+        rack.keep(PathText::new(alloc, b"v")?, blocks)?;
     }
-    Ok(Untold { disk })
+    Ok(rack)
 }
 
-impl Rack for UsedRack {
+// A number of 4 bytes at a place of a block.
+type Word = (usize, u32);
+
+fn put_words(block: &mut [u8], words: &[Word])
+    requires { length block.old ≡ 4096 }
+{
+    for &(at, word) in words {
+        if at <= 4092 {
+            block[at..at + 4].copy_from_slice(&word.to_be_bytes());
+        }
+    }
+}
+
+// The table of the first path's disk, as version 1 says it.
+const OLD_TABLE: [Word; 10] = [
+    (0, 0x53554e56),
+    (4, 0x4d564f4c),
+    (8, 1),
+    (12, 8),
+    (16, 1),
+    (32, 0x61000000),
+    (48, 5),
+    (52, 1),
+    (56, 2),
+    (60, 1),
+];
+
+// The same table in version 2.
+const TABLE: [Word; 12] = [
+    (0, 0x53554e56),
+    (4, 0x4d564f4c),
+    (8, 2),
+    (12, 8),
+    (16, 1),
+    (20, 1),
+    (32, 0x61000000),
+    (48, 5),
+    (56, 1),
+    (60, 1),
+    (2080, 1),
+    (2084, 2),
+];
+
+// Three files in version 1, of which the last is cut off behind its name.
+const THREE_FILES: [Word; 13] = [
+    (0, 0x53554e56),
+    (4, 0x4d564f4c),
+    (8, 1),
+    (12, 8),
+    (16, 3),
+    (32, 0x61000000),
+    (52, 1),
+    (56, 2),
+    (64, 0x62000000),
+    (84, 3),
+    (88, 1),
+    (96, 0x63000000),
+    (100, 0),
+];
+
+const MANY_FILES: [Word; 5] = [
+    (0, 0x53554e56),
+    (4, 0x4d564f4c),
+    (8, 1),
+    (12, 8),
+    (16, 0xffffffff),
+];
+
+// So many blocks, each full of this byte but for these words.
+fn blocks_of(
+    alloc: Global,
+    count: usize,
+    byte: u8,
+    words: &[Word],
+) -> Result<Vec<Block>, AllocError> {
+    let mut bytes = [byte; 4096];
+    put_words(&mut bytes, words);
+    vec![in alloc; Block::new(bytes); count]
+}
+
+#[test]
+fn a_disk_whose_block_0_is_no_table_is_refused(rt: HostRuntime) -> Result<(), Fail> {
+    let alloc = rt.alloc();
+    let script = b"disk 0 path v\nprocess\nend\n";
+    let cases: [(usize, u8, &[Word], &[u8]); 4] = [
+        (8, 1, &[], b"setup: rule 9 disk 0 volume 1\n"),
+        (1, 0, &[], b"setup: rule 9 disk 0 volume 0\n"),
+        (8, 0, &THREE_FILES, b"setup: rule 9 disk 0 volume 8\n"),
+        (8, 0, &MANY_FILES, b"setup: rule 9 disk 0 volume 4\n"),
+    ];
+    for (count, byte, words, expected) in cases {
+        let mut rack = rack_with(alloc, blocks_of(alloc, count, byte, words)?)?;
+        let (status, text) = text_over(&rt, alloc, script, &mut rack)?;
+        assert_eq!(rt; status, 4);
+        assert_eq!(rt; text.as_slice(), expected);
+    }
+    Ok(())
+}
+
+// The disk of the first path as version 1 says it.
+fn old_disk(alloc: Global) -> Result<Vec<Block>, AllocError> {
+    let mut blocks = blocks_of(alloc, 1, 0, &OLD_TABLE)?;
+    blocks.append(&mut blocks_of(alloc, 1, 0, &[(0, 0x4a656c6c), (4, 0x6f000000)])?)?;
+    blocks.append(&mut blocks_of(alloc, 6, 0, &[])?)?;
+    Ok(blocks)
+}
+
+// The disk of the first path is mounted again, and then its like with a table of version 1: the table tells the file, and a
+// table of version 2 is written.
+#[test]
+fn a_disk_that_was_closed_is_mounted_again(rt: HostRuntime) -> Result<(), Fail> {
+    let alloc = rt.alloc();
+    let mut rack = MemRack::new(alloc, Vec::new(alloc), Vec::new(alloc));
+    let (mut outcome, _) = run_over(&rt, alloc, FIRST, &mut rack)?;
+    let Some(disk) = outcome.disks.pop() else {
+        return Err(Fail::new("the disk came back"));
+    };
+    let again = b"disk 0 path v\nprocess\nmap 0x2000 4096 r shared a 0\nload 0x2000 1\nend\n";
+    let mut table = [0; 4096];
+    put_words(&mut table, &TABLE);
+    for blocks in vec![in alloc; disk.into_blocks(), old_disk(alloc)?]? {
+        let mut rack = rack_with(alloc, blocks)?;
+        let (mut outcome, text) = run_over(&rt, alloc, again, &mut rack)?;
+        assert_eq!(rt; outcome.status, 0);
+        assert_eq!(rt;
+            text.as_slice(),
+            b"process 1\n3 map 0x00002000\n4 load 0x4a\n5 exit ok\nfile a 5\n00000000 4a656c6c6f\n".as_slice()
+        );
+        let Some(disk) = outcome.disks.pop() else {
+            return Err(Fail::new("the disk came back"));
+        };
+        let blocks = disk.into_blocks();
+        assert_eq!(rt; blocks.len(), 8);
+        assert!(rt; blocks[0].bytes == table, "the table");
+    }
+    Ok(())
+}
+
+// A rack whose disks don't tell what they hold.
+#[derive(Drop)]
+struct UntoldRack<R: Rack + Drop> {
+    rack: R,
+}
+
+impl<R: Rack + Drop> Rack for UntoldRack<R> {
     ghost use Rattle.std.specs.Prelude.{None};
 
-    type D = Untold;
+    type D = Untold<R::D>;
 
-    ghost seen = { λ rack. record { holds = λ spec. None; faults = 0 } };
+    ghost seen = { λ rack. record (R.seen rack.rack) { holds = λ spec. None } };
 
     fn faults(&self) -> u64 {
-        0
+        self.rack.faults()
     }
 
-    fn attach(&mut self, spec: &Spec) -> Result<Untold, RackFault> {
-        match spec {
-            Spec::Blank { blocks, .. } => match used_disk(self.alloc, *blocks) {
-                Ok(disk) => Ok(disk),
-                Err(_) => Err(RackFault::Memory),
-            },
-            Spec::Path { .. } => Err(RackFault::Memory),
+    fn attach(&mut self, spec: &Spec) -> Result<Untold<R::D>, RackFault> {
+        match self.rack.attach(spec) {
+            Ok(disk) => Ok(Untold { disk }),
+            Err(fault) => Err(fault),
         }
     }
 }
 
 #[test]
-fn a_disk_that_is_not_blank_is_refused(rt: HostRuntime) -> Result<(), Fail> {
+fn a_run_is_the_same_over_disks_that_tell_nothing(rt: HostRuntime) -> Result<(), Fail> {
     let alloc = rt.alloc();
-    let words = Vec::new(alloc);
-    let bytes = Vec::from_slice(alloc, FIRST)?;
-    let mut script = MemSource::new(bytes, 4096, Vec::new(alloc));
-    let mut out = MemSink::new(alloc, 4096, 4096, Vec::new(alloc))?;
-    let mut rack = UsedRack { alloc };
-    let outcome = run(alloc, &words, &mut script, &mut out, &mut rack);
-    assert_eq!(rt; outcome.status, 4);
-    assert_eq!(rt; outcome.disks.len(), 1);
-    assert_eq!(rt;
-        out.written(),
-        b"setup: rule 9 disk 0 volume 13\n".as_slice()
-    );
+    let mut rack = UntoldRack {
+        rack: MemRack::new(alloc, Vec::new(alloc), Vec::new(alloc)),
+    };
+    let (status, text) = text_over(&rt, alloc, FIRST, &mut rack)?;
+    assert_eq!(rt; status, 0);
+    assert_eq!(rt; text.as_slice(), REPORT);
+    Ok(())
+}
+
+// A script with a file of so many bytes, all 0x41.
+fn long_script(alloc: Global, count: usize) -> Result<Vec<u8>, AllocError> {
+    let mut script = Vec::from_slice(alloc, b"disk 0 blank 8\nfile c rw 0 2 ")?;
+    for _ in 0..count {
+        script.extend_from_slice(b"41")?;
+    }
+    script.extend_from_slice(b"\nprocess\nend\n")?;
+    Ok(script)
+}
+
+// So many lines of such a file, of 32 bytes each.
+fn long_lines(alloc: Global, count: u32) -> Result<String, AllocError>
+    requires { count ≤ 128 }
+{
+    let mut lines = String::new(alloc);
+    for line in 0..count {
+        lines.push_str(&format!(in alloc; "{:08x} ", 32 * line)?)?;
+        for _ in 0..32 {
+            lines.push_str("41")?;
+        }
+        lines.push_str("\n")?;
+    }
+    Ok(lines)
+}
+
+// So many files of one page each on one disk.
+fn many_files(alloc: Global, count: u32) -> Result<String, AllocError> {
+    let mut script = String::from_str(alloc, "disk 0 blank 128\n")?;
+    for file in 0..count {
+        script.push_str(&format!(in alloc; "file f{file} rw 0 1 -\n")?)?;
+    }
+    script.push_str("process\nend\n")?;
+    Ok(script)
+}
+
+#[test]
+fn a_script_that_is_too_long_or_has_too_many_files_is_told(rt: HostRuntime) -> Result<(), Fail> {
+    let alloc = rt.alloc();
+    let long = vec![in alloc; b' '; 1_048_577]?;
+    let mut rack = MemRack::new(alloc, Vec::new(alloc), Vec::new(alloc));
+    let (status, text) = text_over(&rt, alloc, long.as_slice(), &mut rack)?;
+    assert_eq!(rt; status, 3);
+    assert_eq!(rt; text.as_slice(), b"script: line 0: long\n".as_slice());
+    for (count, expected) in [(64, 0), (65, 4)] {
+        let script = many_files(alloc, count)?;
+        let (status, text) = text_over(&rt, alloc, script.as_bytes(), &mut rack)?;
+        assert_eq!(rt; status, expected, "{count} files");
+        assert!(rt;
+            status == 0 || text.as_slice() == b"setup: rule 10\n".as_slice(),
+            "{count} files"
+        );
+    }
+    Ok(())
+}
+
+// A file of two pages: the first page's lines stand before the fault of the second.
+#[test]
+fn a_file_is_shown_page_by_page(rt: HostRuntime) -> Result<(), Fail> {
+    let alloc = rt.alloc();
+    let script = long_script(alloc, 4100)?;
+    let first = long_lines(alloc, 128)?;
+    let head = "process 1\n4 exit ok\nfile c 4100\n";
+    for (call, tail) in [(0, "00001000 41414141\n"), (6, "fault: disk 0 0 1\n")] {
+        let mut disks = Vec::new(alloc);
+        disks.push([call].to_vec(alloc)?)?;
+        let mut rack = MemRack::new(alloc, Vec::new(alloc), disks);
+        let (status, text) = text_over(&rt, rt.alloc(), script.as_slice(), &mut rack)?;
+        let expected = format!(in alloc; "{head}{first}{tail}")?;
+        assert_eq!(rt; status, if call == 0 { 0 } else { 7 });
+        assert_eq!(rt; text.as_slice(), expected.as_bytes());
+    }
     Ok(())
 }

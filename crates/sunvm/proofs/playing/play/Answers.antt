@@ -1,62 +1,77 @@
-use Rattle.std.proofs.Common.{◌≡◌, ℕ, List, length, sym, ap, ◌∙◌, subst}
-use Rattle.std.specs.Prelude.{IfSome, IfNone, IsSome}
-use Rattle.vm_types.specs.declared.call.Entry.{Entry}
-use Rattle.vnode_files.specs.Files.{FilesSeen, vnode_at}
-use Rattle.block_device.specs.DiskSeen.{DiskSeen}
-use Rattle.one_file_core.specs.State.{info_of, extent_of, blocks_of, disks_seen}
-use Rattle.one_file_core.specs.Closing.{AreSame, KeepsOutside, IsFault}
-use Rattle.sunvm.specs.Parts.{Leaves, HoldsBytes}
-use Rattle.sunvm.specs.Playing.{IsDisk0, size_of}
-use Rattle.sunvm.proofs.Finishes.{still_one, one_seen, closed_size, closed_count, closed_faults, closed_told, leaves_of, holds_of}
+use Rattle.std.proofs.Common.{ℕ, ◌<◌, ◌≤◌, List, IsTrue, length, sym, ◌∙◌, subst}
+use Rattle.page_store.specs.Bays.{bay_at}
+use Rattle.vm_core.proofs.Fills.{whole-seen}
+use Rattle.vm_core.proofs.Finishes.{ok-then}
+use Rattle.vm_script.specs.declared.plan.PlanLine.{PlanLine}
+use Rattle.vm_world.specs.State.{is_top, room_of}
+use Rattle.sunvm.specs.Lines.{AreLines, HasCome}
+use Rattle.sunvm.specs.Played.{left_seen}
+use Rattle.sunvm.proofs.BlockLines.{plays-one}
+use Rattle.sunvm.proofs.GoingOn.{stays-still}
+use Rattle.sunvm.proofs.Plays.{is-left, played-front, played-whole, started-room, started-still, started-top, swap-seen}
+use Rattle.sunvm.proofs.Returned.{Closes}
+use Rattle.sunvm.proofs.playing.play.Given.{Over}
 use Rattle.sunvm.proofs.playing.play.Goals as goal
+use Rattle.sunvm.proofs.playing.play.Goals.{After-make_lines, After-look_at}
 
-pub only-requires : goal.only-requires
-only-requires g c = still_one g.D.Disk.seen c.make_calls.new.state.disks c.finish-finished.result.disks.items (subst IsDisk0 (sym c.make_calls.ensures.disks) c.requires.disk) c.finish-finished.ensures.disks
+pub make_lines-requires-clause-still : goal.make_lines-requires-clause-still
+make_lines-requires-clause-still g c = let st = c.requires.started in started-still c.args.plan.now st.0 st.1 st.2 st.3 c.args.state st.4
 
-pub returns-clause-leaves : goal.returns-clause-leaves
-returns-clause-leaves g c = λ F fits.
-    let s = c.make_calls.new.state in
-    let info = info_of c.args.state in
-    let is : info_of s ≡ info = ap (λ (fs : FilesSeen). (vnode_at fs 0).info) c.make_calls.ensures.files in
-    subst (λ (H : List Entry). Leaves F info H) (sym c.finish-finished.ensures.history) (leaves_of F s info is (c.make_calls.ensures.fits F fits))
+pub make_lines-requires-clause-none : goal.make_lines-requires-clause-none
+make_lines-requires-clause-none g c = c.requires.started.4.opening.history
 
-pub returns-clause-told : goal.returns-clause-told
-returns-clause-told g c =
-    let s = c.make_calls.new.state in
-    let e = g.D.Disk.seen c.only.result in
-    let one = one_seen g.D.Disk.seen c.finish-finished.result.disks.items c.only.result c.only.ensures in
-    let outside = subst (λ (ds : List (ℕ × DiskSeen)). KeepsOutside (extent_of (info_of s)).start (length s.pages) (blocks_of s.disks) (blocks_of ds)) one.1 c.finish-finished.ensures.outside in
-    subst (λ (ds : List (ℕ × DiskSeen)). IfSome e.content (λ b. IsSome (blocks_of ds))) c.make_calls.ensures.disks (closed_told (extent_of (info_of s)).start (length s.pages) (blocks_of s.disks) e.content outside)
+pub make_lines-requires-clause-lines : goal.make_lines-requires-clause-lines
+make_lines-requires-clause-lines g c = subst AreLines (sym c.lines.ensures) (plays-one c.args.plan.now c.requires.playable).lines
 
-pub returns-clause-closed : goal.returns-clause-closed
-returns-clause-closed g c = λ F fits.
-    let s = c.make_calls.new.state in
-    let info = info_of c.args.state in
-    let fault = c.finish-finished.result.fault in
-    let is : info_of s ≡ info = ap (λ (fs : FilesSeen). (vnode_at fs 0).info) c.make_calls.ensures.files in
-    let one = one_seen g.D.Disk.seen c.finish-finished.result.disks.items c.only.result c.only.ensures in
-    let holds = holds_of F s info (disks_seen g.D.Disk.seen c.finish-finished.result.disks.items) fault is (c.make_calls.ensures.fits F fits) c.finish-finished.ensures.closed in
-    let there = subst (λ (ds : List (ℕ × DiskSeen)). IfNone fault (IfSome (blocks_of ds) (HoldsBytes F info s.history))) one.1 holds in
-    subst (λ (H : List Entry). IfNone fault (IfSome (g.D.Disk.seen c.only.result).content (HoldsBytes F info H))) (sym c.finish-finished.ensures.history) there
+pub make_lines-requires-clause-top : goal.make_lines-requires-clause-top
+make_lines-requires-clause-top g c =
+    let st = c.requires.started in
+    subst (λ (ls : List PlanLine). 0 < length ls → IsTrue (is_top c.args.state.parents 1)) (sym c.lines.ensures) (started-top c.args.plan.now st.0 st.1 st.2 st.3 c.args.state c.requires.playable st.4)
 
-pub returns-clause-size : goal.returns-clause-size
-returns-clause-size g c =
-    let s = c.make_calls.new.state in
-    let one = one_seen g.D.Disk.seen c.finish-finished.result.disks.items c.only.result c.only.ensures in
-    let same = subst (λ (ds : List (ℕ × DiskSeen)). AreSame s.disks ds) one.1 c.finish-finished.ensures.disks in
-    ap size_of (sym c.make_calls.ensures.disks) ∙ closed_size s.disks one.0 (g.D.Disk.seen c.only.result) (subst IsDisk0 (sym c.make_calls.ensures.disks) c.requires.disk) same
+pub make_lines-requires-clause-room : goal.make_lines-requires-clause-room
+make_lines-requires-clause-room g c =
+    let st = c.requires.started in
+    subst (λ (ls : List PlanLine). length ls ≤ room_of c.args.state.entries 1) (sym c.lines.ensures) (started-room c.args.plan.now st.0 st.1 st.2 st.3 c.args.state c.requires.playable st.4)
 
-pub returns-clause-counts : goal.returns-clause-counts
-returns-clause-counts g c =
-    let s = c.make_calls.new.state in
-    let one = one_seen g.D.Disk.seen c.finish-finished.result.disks.items c.only.result c.only.ensures in
-    let same = subst (λ (ds : List (ℕ × DiskSeen)). AreSame s.disks ds) one.1 c.finish-finished.ensures.disks in
-    closed_count s.disks one.0 (g.D.Disk.seen c.only.result) c.finish-finished.result.history (subst IsDisk0 (sym c.make_calls.ensures.disks) c.requires.disk) same c.finish-finished.ensures.counts
+-- how far the lines came
+come : (g : Over) (c : After-make_lines g) → (n : ℕ) × HasCome c.args.plan.now.lines n c.args.state c.make_lines.new.state
+come g c =
+    let is = c.make_lines.ensures.come in
+    (is.0, subst (λ (ls : List PlanLine). HasCome ls is.0 c.args.state c.make_lines.new.state) c.lines.ensures is.2)
 
-pub returns-clause-fault : goal.returns-clause-fault
-returns-clause-fault g c =
-    let s = c.make_calls.new.state in
-    let fault = c.finish-finished.result.fault in
-    let one = one_seen g.D.Disk.seen c.finish-finished.result.disks.items c.only.result c.only.ensures in
-    let cause = subst (λ (ds : List (ℕ × DiskSeen)). IfSome fault (IsFault s.disks ds)) one.1 c.finish-finished.ensures.fault in
-    closed_faults s.disks one.0 (g.D.Disk.seen c.only.result) c.finish-finished.result.history fault (subst IsDisk0 (sym c.make_calls.ensures.disks) c.requires.disk) c.finish-finished.ensures.counts cause
+pub finish-finished-requires : goal.finish-finished-requires
+finish-finished-requires g c =
+    let at = (goal.at.finish-finished-requires g c).After-make_lines in
+    let st = c.requires.started in
+    stays-still c.args.state c.make_lines.new.state (come g at).1.event (started-still c.args.plan.now st.0 st.1 st.2 st.3 c.args.state st.4)
+
+closes : (g : Over) (c : After-look_at g) → Closes c.make_lines.new.state (left_seen g.D.Disk.seen c.finish-finished.result)
+closes g c = record {
+  entries = c.finish-finished.ensures.history;
+  counts = c.finish-finished.ensures.counts;
+  closed = c.finish-finished.ensures.closed;
+  fault = c.finish-finished.ensures.fault;
+  disks = c.finish-finished.ensures.disks;
+  swap = swap-seen g.D.Disk.seen c.finish-finished.result.swap (bay_at c.make_lines.new.state.memory.world.store.bays 8) c.finish-finished.ensures.swap;
+  files = c.finish-finished.ensures.files;
+  whole = whole-seen g.D.Disk.seen g.met.D.Disk.has_blocks c.finish-finished.result.disks.items;
+  sound = c.look_at.ensures.sound;
+  few = c.look_at.ensures.few;
+}
+
+pub returns-clause-whole : goal.returns-clause-whole
+returns-clause-whole g c all =
+    let whole : HasCome c.lines.result.now (length c.lines.result.now) c.args.state c.make_lines.new.state = ok-then c.make_lines.result _ c.make_lines.ensures.all (sym c.is_ok-is_whole.ensures.value ∙ all) in
+    played-whole c.args.plan.now c.args.state c.make_lines.new.state c.finish-finished.result.history.entries c.requires.playable
+    (subst (λ (ls : List PlanLine). HasCome ls (length ls) c.args.state c.make_lines.new.state) c.lines.ensures whole) c.finish-finished.ensures.history
+
+pub returns-clause-front : goal.returns-clause-front
+returns-clause-front g c =
+    let at = (goal.at.returns-clause-front g c).After-make_lines in
+    played-front c.args.plan.now (come g at).0 c.args.state c.make_lines.new.state c.finish-finished.result.history.entries c.requires.playable (come g at).1 c.finish-finished.ensures.history
+
+pub returns-clause-left : goal.returns-clause-left
+returns-clause-left g c = λ F disks swap files st.
+    let at = (goal.at.returns-clause-left g c).After-look_at in
+    let made = (goal.at.returns-clause-left g c).After-make_lines in
+    is-left c.args.plan.now F disks swap files (come g made).0 c.args.state c.make_lines.new.state (left_seen g.D.Disk.seen c.finish-finished.result) c.requires.playable st (come g made).1 (closes g at)

@@ -1,5 +1,0 @@
-pub mod Closings
-pub mod Events
-pub mod Flats
-pub mod Pages
-pub mod Tables

@@ -1,0 +1,184 @@
+-- A run that stops as its files are placed: what is handed back, and the cause.
+use Rattle.std.specs.Prelude.{All, ℕ, zero, suc, ◌≡◌, ◌<◌, ◌≤◌, ◌==◌, ◌⊎◌, Bool, List, [], ◌∷◌, length, map, zip, slice_index_or, Option, Some, None, option_map, IfSome, IsSome, is_some, MatchOption, nat_le, Ok, if◌then◌else◌}
+use Rattle.std.specs.List.{AllByRecursion}
+use Rattle.std.specs.Map.{lookup}
+use Rattle.std.specs.FinMap as finite
+use Rattle.std.proofs.Common.{ap, ◌∙◌, sym, subst, refl, arith, inr}
+use Rattle.std.proofs.lemmas.Bool.{false≢true, ne_eqb}
+use Rattle.std.proofs.Common.{Vec}
+use Rattle.std.specs.Vec.{with_items}
+use Rattle.std.proofs.lemmas.List.{length-map, take_all, get_or-map, with_items_is}
+use Rattle.std.proofs.lemmas.List.Elements.{All-nil, All-cons, All-head, All-tail, recursion_from_All}
+use Rattle.block_device.specs.DiskSeen.{DiskSeen}
+use Rattle.block_device.specs.OpenSeen.{OpenFaultSeen}
+use Rattle.block_device.specs.RackSeen.{IsAttached}
+use Rattle.block_device.specs.declared.numbered.NumberedDisk.{NumberedDisk}
+use Rattle.block_device.specs.declared.rack.Spec.{Spec}
+use Rattle.block_device.specs.declared.rack.Spec.TheVariants as spec
+use Rattle.vnode_files.specs.Files.{block_count}
+use Rattle.volume_format.specs.Table.{TableSeen}
+use Rattle.vm_script.specs.PlanSeen.{PlanSeen}
+use Rattle.vm_script.specs.Rules.{amounts_of}
+use Rattle.sunvm.specs.declared.ending.Ending.{Ending}
+use Rattle.sunvm.specs.declared.ending.Stop.{Stop}
+use Rattle.sunvm.specs.declared.table_files.PlaceStop.{PlaceStop}
+use Rattle.sunvm.specs.declared.table_files.PlaceStop.TheVariants as stop
+use Rattle.sunvm.specs.Attached.{AreMounted, HandsStopped, StopCause, StopsEarly, numbered_seen, bare}
+use Rattle.sunvm.specs.Handed.{HandsAll, HandsFront, HandsFailed, HandsUnracked, HandsBelow, HasOpeningCause, IsCountedBy, IsSwapFor, TellsSpec, disk_numbers, disk_handed, HaveSpecSizes}
+use Rattle.block_device.specs.Counts.{HasRisen}
+use Rattle.sunvm.specs.Opened.{disk_specs, if_few, with_line_files}
+use Rattle.sunvm.specs.Placing.{IsFaultThere, PlaceStopped, RemainThere, attached_numbers, ending_of, found_files, placing_read}
+use Rattle.sunvm.proofs.AllPlaced.{hands-all}
+use Rattle.sunvm.proofs.FoundLemmas.{AllBlocks}
+use Rattle.sunvm.proofs.HandLemmas.{SameDisks, lookup-at, mounted-numbers, opened-is, plan-numbers, same-disks, same-numbers}
+use Rattle.sunvm.proofs.OpenLemmas.{TellOrEmpty}
+use Rattle.sunvm.proofs.PlacedLemmas.{at_index, numbers-seen, sizes-seen}
+use Rattle.sunvm.specs.Written.{HasLastFault, open_fault_counts}
+use Rattle.sunvm.proofs.BrokenDisks.{none-broken}
+use Rattle.sunvm.proofs.FaultCauses.{if-counted}
+use Rattle.sunvm.proofs.MountDisks.{Told}
+
+-- what was handed back of all disks is a front of them
+front_swap : (slots : ℕ) (swap : Option DiskSeen) → IsSwapFor slots swap → IfSome swap (λ d. (0 < slots) × (slots ≤ d.size))
+front_swap slots None serves = tt
+front_swap slots (Some d) serves = serves
+
+pub hands-front : (plan : PlanSeen) (disks : List DiskSeen) (swap : Option DiskSeen) → HandsAll plan disks swap → HandsFront plan disks swap
+hands-front plan disks swap all = record {
+  each = subst (λ (ss : List Spec). HaveSpecSizes ss disks) (sym (take_all (length disks) (disk_specs plan.setup) (omega (arith, all.each.0)))) all.each;
+  first = front_swap (amounts_of plan.setup).slots swap all.first;
+  before = λ some. all.first;
+}
+
+-- where the disks tell, so does the rack
+rack-tells : (holds : Spec → Option (List (List ℕ))) (specs : List Spec) (ds : List (ℕ × DiskSeen)) (ts : List TableSeen) → AreMounted holds specs ds ts → AllByRecursion (λ (d : DiskSeen). IsSome d.content) (bare ds)
+    → AllByRecursion (TellsSpec holds) specs × TellOrEmpty ds ts
+rack-tells holds [] [] [] m told = (tt, tt)
+rack-tells holds [] [] (t ∷ ts) m told = absurd m
+rack-tells holds [] (d ∷ ds) ts m told = absurd m
+rack-tells holds (s ∷ specs) [] ts m told = absurd m
+rack-tells holds (s ∷ specs) (d ∷ ds) [] m told = absurd m
+rack-tells holds (s ∷ specs) (d ∷ ds) (t ∷ ts) m told =
+    let rest = rack-tells holds specs ds ts m.1 told.1 in
+    ((one s m.0.attached told.0, rest.0), ((λ e es is. told.0), rest.1))
+  where
+    one : (s : Spec) → IsAttached s (holds s) d.1 → IsSome d.1.content → TellsSpec holds s
+    one (spec.Blank number n) attached some = tt
+    one (spec.Path number path) attached some = ap is_some (sym attached) ∙ some
+
+-- disks that tell told before they were written
+told-one : (a b : Option (List (List ℕ))) → (a ≡ None → b ≡ None) → IsSome b → IsSome a
+told-one None b keeps some = absurd (false≢true (ap is_some (sym (keeps refl)) ∙ some))
+told-one (Some x) b keeps some = refl
+
+told-before : {D : Type 0} (seen : D → DiskSeen) (ds es : List (NumberedDisk D)) → SameDisks seen ds es → All Told (bare (map (numbered_seen seen) es)) → All Told (bare (map (numbered_seen seen) ds))
+told-before seen [] [] r told = All-nil Told
+told-before seen [] (e ∷ es) r told = absurd r
+told-before seen (d ∷ ds) [] r told = absurd r
+told-before seen (d ∷ ds) (e ∷ es) r told =
+    All-cons Told (seen d.disk) (bare (map (numbered_seen seen) ds))
+    (told-one (seen d.disk).content (seen e.disk).content r.0.untold (All-head Told (seen e.disk) (bare (map (numbered_seen seen) es)) told))
+    (told-before seen ds es r.1 (All-tail Told (seen e.disk) (bare (map (numbered_seen seen) es)) told))
+
+-- the disk of a fault
+bare-at : {D : Type 0} (seen : D → DiskSeen) (new : List (NumberedDisk D)) (i : ℕ) (x : NumberedDisk D) → i < length new → slice_index_or (bare (map (numbered_seen seen) new)) i (seen x.disk) ≡ seen (slice_index_or new i x).disk
+bare-at seen [] i x below = absurd (omega (arith, below))
+bare-at seen (d ∷ new) zero x below = refl
+bare-at seen (d ∷ new) (suc i) x below = bare-at seen new i x (omega (arith, below))
+
+nth : {A : Type 0} (xs : List A) (i : ℕ) → i < length xs → A
+nth [] i below = absurd (omega (arith, below))
+nth (x ∷ xs) i below = x
+
+fault-cause : {D : Type 0} (seen : D → DiskSeen) (plan : PlanSeen) (new : List (NumberedDisk D)) (swap : Option DiskSeen) (count : ℕ) (fault : OpenFaultSeen)
+    → attached_numbers new ≡ disk_numbers plan → IsFaultThere seen new fault → HasOpeningCause plan (bare (map (numbered_seen seen) new)) swap count count fault
+fault-cause seen plan new swap count fault numbers there =
+    let x = nth new there.i there.inside in
+    let one = there.one x in
+    let disks = bare (map (numbered_seen seen) new) in
+    let d = slice_index_or new there.i x in
+    let inside : there.i < length (disk_numbers plan) = omega (arith, there.inside, ap length numbers, length-map new (λ (y : NumberedDisk _). y.number)) in
+    let number : slice_index_or (disk_numbers plan) there.i 0 ≡ d.number =
+    ap (λ (ns : List ℕ). slice_index_or ns there.i 0) (sym numbers) ∙ get_or-map (λ (y : NumberedDisk _). y.number) new there.i x 0 there.inside in
+    let fault_number : fault.disk ≡ slice_index_or (disk_numbers plan) there.i 0 = one.number ∙ sym number in
+    let small : slice_index_or (disk_numbers plan) there.i 0 < 8 = (at_index (λ m. (0 ≤ m) × (m < 8)) (disk_numbers plan) there.i 0 (plan-numbers plan).0 inside).1 in
+    let long : length disks ≡ length (disk_numbers plan) =
+    omega (arith, length-map (map (numbered_seen seen) new) (λ (q : ℕ × DiskSeen). q.1), length-map new (numbered_seen seen), length-map new (λ (y : NumberedDisk _). y.number), ap length numbers) in
+    let found : lookup (λ m. m == fault.disk) (zip (disk_numbers plan) disks) ≡ Some (seen d.disk) =
+    ap (λ n. lookup (λ m. m == n) (zip (disk_numbers plan) disks)) fault_number
+    ∙ lookup-at (disk_numbers plan) disks there.i (seen x.disk) (plan-numbers plan).1 long inside ∙ ap (λ (q : DiskSeen). Some q) (bare-at seen new there.i x there.inside) in
+    let back : disk_handed plan disks swap fault.disk ≡ Some (seen d.disk) =
+    ap (λ (t : Bool). if t then swap else lookup (λ m. m == fault.disk) (zip (disk_numbers plan) disks)) (ne_eqb fault.disk 8 (λ e. omega (arith, e, fault_number, small))) ∙ found in
+    if-counted (HasRisen count count) (λ (counts : ℕ × ℕ). IsCountedBy plan disks swap fault.disk counts.0 counts.1) fault.counts one.risen
+    (record { risen = one.risen; disk = seen d.disk; back = back; last = one.last })
+
+fault-hands : (plan : PlanSeen) (disks : List DiskSeen) (swap : Option DiskSeen) (fault : OpenFaultSeen) (d : ℕ × DiskSeen) → HasLastFault 0 d (open_fault_counts fault) → HandsAll plan disks swap
+    → HandsFailed plan disks swap fault
+fault-hands plan disks swap fault d last all =
+    if-counted (HandsUnracked plan disks swap fault.disk) (λ (c : ℕ × ℕ). HandsBelow plan (λ n. nat_le n fault.disk) disks swap ⊎ HandsAll plan disks swap) fault.counts last.risen (inr all)
+
+-- A STOP AS FILES ARE PLACED
+pub stop-early : {D : Type 0} (seen : D → DiskSeen) (plan : PlanSeen) (holds : Spec → Option (List (List ℕ))) (old new : List (NumberedDisk D)) (ts : List TableSeen) (swap : Option DiskSeen) (count : ℕ) (how : PlaceStop)
+    → AllBlocks (map (numbered_seen seen) old) → AreMounted holds (disk_specs plan.setup) (map (numbered_seen seen) old) ts → IsSwapFor (amounts_of plan.setup).slots swap → RemainThere seen old new
+    → PlaceStopped seen (placing_read seen old ts plan.setup) old new how
+    → HandsStopped plan (bare (map (numbered_seen seen) new)) swap (ending_of how) × StopCause plan holds count count (bare (map (numbered_seen seen) new)) swap (ending_of how)
+stop-early seen plan holds old new ts swap count stop.Memory blocks m serves remain stopped =
+    (hands-front plan (bare (map (numbered_seen seen) new)) swap (hands-all seen plan holds old new ts swap m serves remain), tt)
+stop-early seen plan holds old new ts swap count (stop.Rule n) blocks m serves remain stopped = (
+  hands-all seen plan holds old new ts swap m serves remain,
+  λ told.
+      let own : AllByRecursion (λ (d : DiskSeen). IsSome d.content) (bare (map (numbered_seen seen) old)) =
+      subst (λ (ds : List (NumberedDisk _)). AllByRecursion (λ (d : DiskSeen). IsSome d.content) (bare (map (numbered_seen seen) ds))) stopped.1
+      (recursion_from_All (λ (d : DiskSeen). IsSome d.content) (bare (map (numbered_seen seen) new)) told.each) in
+      let tells = rack-tells holds (disk_specs plan.setup) (map (numbered_seen seen) old) ts m own in
+      opened-is holds plan (map (numbered_seen seen) old) ts m tells.0 blocks tells.1
+      ∙ ap (λ (xs : List (ℕ × ℕ)). with_line_files (block_count (finite.from_entries xs)) (if_few (Ok (found_files (map (numbered_seen seen) old) ts))) plan.setup) (sizes-seen seen old)
+      ∙ stopped.0,
+)
+stop-early seen plan holds old new ts swap count (stop.Fault f) blocks m serves remain stopped =
+    let all = hands-all seen plan holds old new ts swap m serves remain in
+    let numbers : attached_numbers new ≡ disk_numbers plan =
+    same-numbers seen old new (same-disks seen old new remain) ∙ sym (numbers-seen seen old) ∙ mounted-numbers holds (disk_specs plan.setup) (map (numbered_seen seen) old) ts m in
+    let x = nth new stopped.i stopped.inside in
+    let one = stopped.one x in (
+      fault-hands plan (bare (map (numbered_seen seen) new)) swap f (numbered_seen seen (slice_index_or new stopped.i x)) one all,
+      (
+        fault-cause seen plan new swap count f numbers stopped,
+        λ told n rule broken.
+            absurd (none-broken plan holds (map (numbered_seen seen) old) ts m (told-before seen old new (same-disks seen old new remain) told.each) n rule broken),
+      ),
+    )
+
+bare-seen : {D : Type 0} (seen : D → DiskSeen) (ds : List (NumberedDisk D)) → bare (map (numbered_seen seen) ds) ≡ map seen (map (λ (d : NumberedDisk D). d.disk) ds)
+bare-seen seen [] = refl
+bare-seen seen (d ∷ ds) = λ i. seen d.disk ∷ bare-seen seen ds i
+
+swap-seen : {D : Type 0} (seen : D → DiskSeen) (swap : Option (NumberedDisk D)) → option_map (λ (d : NumberedDisk D). seen d.disk) swap ≡ option_map seen (option_map (λ (d : NumberedDisk D). d.disk) swap)
+swap-seen seen None = refl
+swap-seen seen (Some d) = refl
+
+-- the run that stops so
+pub stops-early : {D : Type 0} (seen : D → DiskSeen) (plan : PlanSeen) (holds : Spec → Option (List (List ℕ))) (old new : List (NumberedDisk D)) (ts : List TableSeen) (swap : Option (NumberedDisk D)) (count : ℕ)
+    (how : PlaceStop) (s : Stop D) → s.ending ≡ ending_of how → s.history.entries ≡ [] → s.history.faults ≡ []
+    → s.disks.items ≡ map (λ (d : NumberedDisk D). d.disk) new → s.swap ≡ option_map (λ (d : NumberedDisk D). d.disk) swap
+    → AllBlocks (map (numbered_seen seen) old) → AreMounted holds (disk_specs plan.setup) (map (numbered_seen seen) old) ts
+    → IsSwapFor (amounts_of plan.setup).slots (option_map (λ (d : NumberedDisk D). seen d.disk) swap) → RemainThere seen old new
+    → PlaceStopped seen (placing_read seen old ts plan.setup) old new how → StopsEarly plan holds count count seen s
+stops-early {D} seen plan holds old new ts swap count how s ends entries counts disks swaps blocks m serves remain stopped =
+    let r = stop-early seen plan holds old new ts (option_map (λ (d : NumberedDisk D). seen d.disk) swap) count how blocks m serves remain stopped in
+    let same_disks : bare (map (numbered_seen seen) new) ≡ map seen s.disks.items = bare-seen seen new ∙ ap (map seen) (sym disks) in
+    let same_swap : option_map (λ (d : NumberedDisk D). seen d.disk) swap ≡ option_map seen s.swap = swap-seen seen swap ∙ ap (option_map seen) (sym swaps) in
+    record {
+      entries = entries;
+      counts = counts;
+      handed = subst (λ (e : Ending). HandsStopped plan (map seen s.disks.items) (option_map seen s.swap) e) (sym ends)
+          (subst (λ (ds : List DiskSeen). HandsStopped plan ds (option_map seen s.swap) (ending_of how)) same_disks
+          (subst (λ (o : Option DiskSeen). HandsStopped plan (bare (map (numbered_seen seen) new)) o (ending_of how)) same_swap r.0));
+      cause = subst (λ (e : Ending). StopCause plan holds count count (map seen s.disks.items) (option_map seen s.swap) e) (sym ends)
+          (subst (λ (ds : List DiskSeen). StopCause plan holds count count ds (option_map seen s.swap) (ending_of how)) same_disks
+          (subst (λ (o : Option DiskSeen). StopCause plan holds count count (bare (map (numbered_seen seen) new)) o (ending_of how)) same_swap r.1));
+    }
+
+-- the elements of a vector that was written through
+pub items-written : {X Z : Type 0} (v : Vec X Z) (ws : List X) → length ws ≡ length v.items → (with_items v ws).items ≡ ws
+items-written v ws count = with_items_is v ws (count ∙ sym v.ok.0)

@@ -1,0 +1,15 @@
+use Rattle.std.proofs.Common.{rules, ◌≡◌, ℕ, refl}
+use Rattle.page_store.specs.Bays.{pairs_seen}
+use Rattle.sunvm.proofs.DiskLists.{writes-refl}
+use Rattle.sunvm.proofs.Endings.{lacks-closed}
+use Rattle.sunvm.proofs.Sinks.{wrote_nothing}
+use Rattle.sunvm.proofs.ending_files.close.Goals as goal
+
+pub returns-then-is_some-clause-ends : goal.returns-then-is_some-clause-ends
+returns-then-is_some-clause-ends g c =
+    lacks-closed c.args.is_whole _ _ _ _ _ _ _ _ _ _ (search rules)
+    (record {
+      memory = refl;
+      writes = writes-refl (pairs_seen g.D.Disk.seen c.args.finished.now.disks.items);
+      wrote = wrote_nothing (g.K.Sink.seen c.args.out.now);
+    })

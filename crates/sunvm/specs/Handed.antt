@@ -1,0 +1,147 @@
+-- What a run hands back: its history and its disks by number. Public clauses cite this.
+use Rattle.std.specs.Prelude.{ℕ, ◌≡◌, ◌≤◌, ◌<◌, ◌==◌, ◌⊎◌, Bool, nat_le, nat_lt, count_by, List, [], ◌∷◌, length, map, take, Option, Some, None, Err, IfSome, IsSome, MatchOption, MatchBool, All, zip, slice_get, slice_index_or, option_map, if◌then◌else◌, ◌+◌, is_some}
+use Rattle.std.specs.List.{Contains}
+use Rattle.std.specs.Map.{lookup}
+use Rattle.vm_types.specs.declared.call.Entry.{Entry}
+use Rattle.vm_types.specs.declared.call.Reply.TheVariants.{Io}
+use Rattle.block_device.specs.Counts.{HasRisen}
+use Rattle.block_device.specs.DiskSeen.{DiskSeen}
+use Rattle.block_device.specs.OpenSeen.{OpenFaultSeen}
+use Rattle.block_device.specs.RackSeen.{spec_number}
+use Rattle.block_device.specs.declared.disk_fault.DiskFault.{DiskFault}
+use Rattle.block_device.specs.declared.rack.Spec.{Spec}
+use Rattle.block_device.specs.declared.rack.Spec.TheVariants as spec
+use Rattle.vm_core.specs.Finish.{HistorySeen}
+use Rattle.vm_script.specs.PlanSeen.{PlanSeen}
+use Rattle.vm_script.specs.Rules.{amounts_of}
+use Rattle.sunvm.specs.declared.ending.Stop.{Stop}
+use Rattle.sunvm.specs.declared.ending.Refusal.{Refusal}
+use Rattle.sunvm.specs.declared.ending.Refusal.TheVariants as refusal
+use Rattle.sunvm.specs.declared.outcome.RunFault.{RunFault}
+use Rattle.sunvm.specs.declared.outcome.Outcome.{Outcome}
+use Rattle.sunvm.specs.Opened.{disk_specs, opened}
+
+-- A run that ended: its status and fault, the history, the disks in rising number, and the swap disk.
+pub record End : Type 0 where
+  pub status : ℕ
+  pub fault : Option RunFault
+  pub history : HistorySeen
+  pub disks : List DiskSeen
+  pub swap : Option DiskSeen
+
+abbrev pub end_of : {D : Type 0} → (D → DiskSeen) → Outcome D → End
+end_of seen o = record { status = o.status; fault = o.fault; history = o.history; disks = map seen o.disks.items; swap = option_map seen o.swap }
+
+-- The rack tells what it holds for each disk by path.
+abbrev pub TellsSpec : (Spec → Option (List (List ℕ))) → Spec → Type 0
+TellsSpec holds (spec.Blank number blocks) = Unit {0}
+TellsSpec holds (spec.Path number path) = IsSome (holds (spec.Path number path))
+
+abbrev pub RackTells : (Spec → Option (List (List ℕ))) → PlanSeen → Type 0
+RackTells holds plan = All (TellsSpec holds) (disk_specs plan.setup)
+
+-- Each disk that came back tells its blocks.
+pub record HaveTold (disks : List DiskSeen) (swap : Option DiskSeen) : Type 0 where
+  pub each : All (λ (d : DiskSeen). IsSome d.content) disks
+  pub last : IfSome swap (λ d. IsSome d.content)
+
+-- The numbers of a plan's disks, in rising order; and the disks with their numbers.
+abbrev pub disk_numbers : PlanSeen → List ℕ
+disk_numbers plan = map spec_number (disk_specs plan.setup)
+
+abbrev pub plan_disks : PlanSeen → List DiskSeen → List (ℕ × DiskSeen)
+plan_disks plan disks = zip (disk_numbers plan) disks
+
+-- The disk of a number; that of the swap slots has number 8.
+abbrev pub disk_handed : PlanSeen → List DiskSeen → Option DiskSeen → ℕ → Option DiskSeen
+disk_handed plan disks swap number = if number == 8 then swap else lookup (λ n. n == number) (plan_disks plan disks)
+
+-- How many blocks each disk has, by number.
+abbrev pub sizes_of : PlanSeen → List DiskSeen → List (ℕ × ℕ)
+sizes_of plan disks = map (λ (d : ℕ × DiskSeen). (d.0, d.1.size)) (plan_disks plan disks)
+
+-- A blank disk has as many blocks as its spec says.
+abbrev pub HasSpecSize : Spec → DiskSeen → Type 0
+HasSpecSize (spec.Blank number blocks) disk = disk.size ≡ blocks
+HasSpecSize (spec.Path number path) disk = Unit {0}
+
+abbrev pub HaveSpecSizes : List Spec → List DiskSeen → Type 0
+HaveSpecSizes specs disks = (length disks ≡ length specs) × ((i : ℕ) (s : Spec) (d : DiskSeen) → slice_get specs i ≡ Some s → slice_get disks i ≡ Some d → HasSpecSize s d)
+
+-- How many disks these are, the swap disk among them.
+abbrev pub swap_count : {B : Type 0} → Option B → ℕ
+swap_count swap = if is_some swap then 1 else 0
+
+abbrev pub handed_count : {A B : Type 0} → List A → Option B → ℕ
+handed_count disks swap = length disks + swap_count swap
+
+-- There is a swap disk exactly where there are slots, with a block for each at least.
+abbrev pub IsSwapFor : ℕ → Option DiskSeen → Type 0
+IsSwapFor slots swap = MatchOption swap (slots ≡ 0) (λ d. (0 < slots) × (slots ≤ d.size))
+
+-- The disks of a front of the plan's are handed back, in rising number, and the swap disk or none; with a disk the swap disk too, where there are slots.
+pub record HandsFront (plan : PlanSeen) (disks : List DiskSeen) (swap : Option DiskSeen) : Type 0 where
+  pub each : HaveSpecSizes (take (length disks) (disk_specs plan.setup)) disks
+  pub first : IfSome swap (λ d. (0 < (amounts_of plan.setup).slots) × ((amounts_of plan.setup).slots ≤ d.size))
+  pub before : 0 < length disks → IsSwapFor (amounts_of plan.setup).slots swap
+
+-- All of the plan's disks are handed back, in rising number, and the swap disk where there are slots.
+pub record HandsAll (plan : PlanSeen) (disks : List DiskSeen) (swap : Option DiskSeen) : Type 0 where
+  pub each : HaveSpecSizes (disk_specs plan.setup) disks
+  pub first : IsSwapFor (amounts_of plan.setup).slots swap
+
+-- The swap disk where there are slots, and the disks whose numbers pass a test, which are a front of the plan's.
+pub record HandsBelow (plan : PlanSeen) (passes : ℕ → Bool) (disks : List DiskSeen) (swap : Option DiskSeen) : Type 0 where
+  pub each : HandsFront plan disks swap
+  pub first : IsSwapFor (amounts_of plan.setup).slots swap
+  pub count : length disks ≡ count_by passes (disk_numbers plan)
+
+-- Nothing was attached.
+pub record HandsNone (disks : List DiskSeen) (swap : Option DiskSeen) : Type 0 where
+  pub no_disk : disks ≡ []
+  pub no_swap : swap ≡ None
+
+-- What is handed back where a rule is broken: where a disk breaks rule 9, that disk and those of lower numbers; else all.
+abbrev pub HandsRefused : PlanSeen → List DiskSeen → Option DiskSeen → Refusal → Type 0
+HandsRefused plan disks swap (refusal.Volume number rule) = HandsBelow plan (λ n. nat_le n number) disks swap
+HandsRefused plan disks swap (refusal.Rule n) = HandsAll plan disks swap
+
+-- What is handed back where the rack or a disk fails before the processes run. The rack attaches the swap disk, number 8, first, where there are slots,
+-- and then the plan's disks in rising number, each of which is read before the next one is attached; then all are read and written.
+abbrev pub HandsUnracked : PlanSeen → List DiskSeen → Option DiskSeen → ℕ → Type 0
+HandsUnracked plan disks swap number =
+    MatchBool (number == 8) ((0 < (amounts_of plan.setup).slots) × HandsNone disks swap)
+    (Contains (disk_numbers plan) number × HandsBelow plan (λ n. nat_lt n number) disks swap)
+
+abbrev pub HandsFailed : PlanSeen → List DiskSeen → Option DiskSeen → OpenFaultSeen → Type 0
+HandsFailed plan disks swap fault =
+    MatchOption fault.counts (HandsUnracked plan disks swap fault.disk) (λ counts. HandsBelow plan (λ n. nat_le n fault.disk) disks swap ⊎ HandsAll plan disks swap)
+
+-- No disk that was read before this one breaks a rule of volumes. The swap disk, number 8, is attached before all others.
+abbrev pub NoneBreaksBefore : PlanSeen → (Spec → Option (List (List ℕ))) → ℕ → Type 0
+NoneBreaksBefore plan holds disk = (number rule : ℕ) → opened plan holds ≡ Err (refusal.Volume number rule) → (disk ≡ 8) ⊎ (disk ≤ number)
+
+-- The counts are those of the disk of this number before and after its last transfer: its count rose in it, and the disk comes back with the later one.
+pub record IsCountedBy (plan : PlanSeen) (disks : List DiskSeen) (swap : Option DiskSeen) (number before after : ℕ) : Type 0 where
+  pub risen : HasRisen before after
+  pub disk : DiskSeen
+  pub back : disk_handed plan disks swap number ≡ Some disk
+  pub last : after ≡ disk.faults
+
+-- The cause of a fault before the processes ran: the rack counted it in this call, or the disk.
+abbrev pub HasOpeningCause : PlanSeen → List DiskSeen → Option DiskSeen → ℕ → ℕ → OpenFaultSeen → Type 0
+HasOpeningCause plan disks swap old new fault = MatchOption fault.counts (HasRisen old new) (λ counts. IsCountedBy plan disks swap fault.disk counts.0 counts.1)
+
+-- The cause of a fault after the processes ran: the disk counted it, and not before its count stood as the history tells.
+pub record HasLateCause (plan : PlanSeen) (history : HistorySeen) (disks : List DiskSeen) (swap : Option DiskSeen) (fault : DiskFault) : Type 0 where
+  pub counted : IsCountedBy plan disks swap fault.disk fault.before fault.after
+  pub since : (count : ℕ) × (slice_index_or history.faults fault.disk None ≡ Some count) × (count ≤ fault.before)
+
+-- Each disk that a device error of the history names comes back with at least the count that the error names.
+abbrev pub CountsReach : PlanSeen → List DiskSeen → Option DiskSeen → List Entry → Type 0
+CountsReach plan disks swap H =
+    (k : ℕ) (e : Entry) (number before after : ℕ) (d : DiskSeen) → slice_get H k ≡ Some e → e.reply ≡ Io number before after → disk_handed plan disks swap number ≡ Some d → after ≤ d.faults
+
+-- A run that stopped, but for its status and fault.
+abbrev pub stop_end : {D : Type 0} → (D → DiskSeen) → Stop D → End
+stop_end seen s = record { status = 0; fault = None; history = s.history; disks = map seen s.disks.items; swap = option_map seen s.swap }
