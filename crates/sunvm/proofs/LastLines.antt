@@ -257,25 +257,25 @@ module _ (g : Given) (s0 s1 r0 r1 n0 n1 : ℕ) (k0 k1 k2 : SinkSeen) (e : End) (
       (line-lacks was c lacks.2 (lacks.1 ∙ sym (nothing_more k1.written)))
 
 -- ends with the same history and disks
-end-same : (st : ℕ) (ft : Option RunFault) (H H2 : HistorySeen) (d d2 : List DiskSeen) (w w2 : Option DiskSeen) → H2 ≡ H → d2 ≡ d → w2 ≡ w
-    → ◌≡◌ {A = End} (record { status = st; fault = ft; history = H; disks = d; swap = w }) (record { status = st; fault = ft; history = H2; disks = d2; swap = w2 })
-end-same st ft H H2 d d2 w w2 a b c = rw (a, b, c) refl
+pub end-same : (st : ℕ) (ft : Option RunFault) (H H-new : HistorySeen) (d d-new : List DiskSeen) (w w-new : Option DiskSeen) → H-new ≡ H → d-new ≡ d → w-new ≡ w
+    → ◌≡◌ {A = End} (record { status = st; fault = ft; history = H; disks = d; swap = w }) (record { status = st; fault = ft; history = H-new; disks = d-new; swap = w-new })
+end-same st ft H H-new d d-new w w-new a b c = rw (a, b, c) refl
 
 -- THE RUN ENDED in one of the ways
-pub ends-so : (g : Given) (s0 s1 r0 r1 n0 n1 : ℕ) (k0 k1 k2 : SinkSeen) → k0.faults ≤ k1.faults → k1.faults ≤ k2.faults → (H H2 : HistorySeen) (d d2 : List DiskSeen) (w w2 : Option DiskSeen)
-    → H2 ≡ H → d2 ≡ d → w2 ≡ w → (was how : Ending) (st : ℕ) (ft : Option RunFault)
+pub ends-so : (g : Given) (s0 s1 r0 r1 n0 n1 : ℕ) (k0 k1 k2 : SinkSeen) → k0.faults ≤ k1.faults → k1.faults ≤ k2.faults → (H H-new : HistorySeen) (d d-new : List DiskSeen) (w w-new : Option DiskSeen)
+    → H-new ≡ H → d-new ≡ d → w-new ≡ w → (was how : Ending) (st : ℕ) (ft : Option RunFault)
     → ((x : ℕ) (y : Option RunFault) → CaseOf g (record { source_old = s0; source_new = s1; rack_old = r0; rack_new = r1; attached_old = n0; attached_new = n1; sink_old = k0; sink_new = k1 })
     (wrote_before (record { source_old = s0; source_new = s1; rack_old = r0; rack_new = r1; attached_old = n0; attached_new = n1; sink_old = k0; sink_new = k1 }))
     (record { status = x; fault = y; history = H; disks = d; swap = w }) was)
-    → IsConcluded was k1 k2 how → st ≡ status_of how → ft ≡ fault_of how → n1 ≡ n0 + handed_count d2 w2
+    → IsConcluded was k1 k2 how → st ≡ status_of how → ft ≡ fault_of how → n1 ≡ n0 + handed_count d-new w-new
     → RunEnds g (record { source_old = s0; source_new = s1; rack_old = r0; rack_new = r1; attached_old = n0; attached_new = n1; sink_old = k0; sink_new = k2 })
-    (record { status = st; fault = ft; history = H2; disks = d2; swap = w2 })
-ends-so g s0 s1 r0 r1 n0 n1 k0 k1 k2 first later H H2 d d2 w w2 a b c was how st ft case concluded status fault back = record {
+    (record { status = st; fault = ft; history = H-new; disks = d-new; swap = w-new })
+ends-so g s0 s1 r0 r1 n0 n1 k0 k1 k2 first later H H-new d d-new w w-new a b c was how st ft case concluded status fault back = record {
   how = how;
   status = status;
   fault = fault;
   back = back;
   case = subst (λ (e : End). CaseOf g (record { source_old = s0; source_new = s1; rack_old = r0; rack_new = r1; attached_old = n0; attached_new = n1; sink_old = k0; sink_new = k2 })
-      (wrote_all (record { source_old = s0; source_new = s1; rack_old = r0; rack_new = r1; attached_old = n0; attached_new = n1; sink_old = k0; sink_new = k2 })) e how) (end-same st ft H H2 d d2 w w2 a b c)
+      (wrote_all (record { source_old = s0; source_new = s1; rack_old = r0; rack_new = r1; attached_old = n0; attached_new = n1; sink_old = k0; sink_new = k2 })) e how) (end-same st ft H H-new d d-new w w-new a b c)
       (last-line g s0 s1 r0 r1 n0 n1 k0 k1 k2 (record { status = st; fault = ft; history = H; disks = d; swap = w }) first later was how (case st ft) concluded);
 }

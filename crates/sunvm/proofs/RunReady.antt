@@ -30,6 +30,7 @@ use Rattle.sunvm.specs.Texts.{Wrote, trace_opening}
 use Rattle.sunvm.specs.Written.{AreOnlyRead, HaveFirstBlocks, disk_sizes}
 use Rattle.sunvm.proofs.Cases.{close-case}
 use Rattle.sunvm.proofs.DiskLists.{first-same, low-disks, number, reads-refl}
+use Rattle.sunvm.proofs.LastLines.{end-same}
 use Rattle.sunvm.proofs.Traced.{infos-placed, lacks-behind, opening-read, placed-read, tell-read}
 
 -- placed by the plan, and so by the plan with the numbers of its files
@@ -55,10 +56,6 @@ pub placed-as : (plan old : PlanSeen) (holds : Spec → Option (List (List ℕ))
     → ArePlaced old holds files a made → ArePlaced plan holds files a made
 placed-as plan old holds files a made is p = subst (λ (q : PlanSeen). ArePlaced q holds files a made) (sym is) (numbered-placed old holds files a made p)
 
-end-as : (st : ℕ) (ft : Option RunFault) (H H2 : HistorySeen) (d d2 : List DiskSeen) (w w2 : Option DiskSeen) → H2 ≡ H → d2 ≡ d → w2 ≡ w
-    → ◌≡◌ {A = End} (record { status = st; fault = ft; history = H; disks = d; swap = w }) (record { status = st; fault = ft; history = H2; disks = d2; swap = w2 })
-end-as st ft H H2 d d2 w w2 a b c = rw (a, b, c) refl
-
 module _ (st : ℕ) (ft : Option RunFault) (g : Given) (o : Outside) (what : Asked) (files : List OpenedFile) (bytes : ℕ → List ℕ) (a : AttachedSeen) (made : FilesSeen) (plan : PlanSeen) (k1 : SinkSeen)
     (ready : IsReady g o.sink_old k1 what files bytes a made plan) where
   -- its processes ran
@@ -66,23 +63,23 @@ module _ (st : ℕ) (ft : Option RunFault) (g : Given) (o : Outside) (what : Ask
       → KernelLeaves (opening_flat plan (disk_sizes a.disks) files) s l → o.sink_old.faults ≤ k1.faults → (whole : Bool) → (IsTrue whole → Told plan l.history.entries)
       → ToldFront plan l.history.entries → (new : List (ℕ × DiskSeen)) (how : Ending) (k2 : SinkSeen) → o.sink_new ≡ k2
       → CloseEnds whole l.fault options plan l.history.entries (infos_made l.files) k1 k2 l.disks new how
-      → (H2 : HistorySeen) (d2 : List DiskSeen) (w2 : Option DiskSeen) → H2 ≡ l.history → d2 ≡ bare new → w2 ≡ l.swap
-      → CaseOf g o (wrote_before o) (record { status = st; fault = ft; history = H2; disks = d2; swap = w2 }) how
-  ready-ends options opt s l started left later whole told front new how k2 sink c H2 d2 w2 sameH same-d same-w =
+      → (H-new : HistorySeen) (d-new : List DiskSeen) (w-new : Option DiskSeen) → H-new ≡ l.history → d-new ≡ bare new → w-new ≡ l.swap
+      → CaseOf g o (wrote_before o) (record { status = st; fault = ft; history = H-new; disks = d-new; swap = w-new }) how
+  ready-ends options opt s l started left later whole told front new how k2 sink c H-new d-new w-new sameH same-d same-w =
       let low = low-disks what.plan l.disks (left.disks.numbers ∙ ap (map number) started.racked ∙ ready.placed.numbers) in
       let by-options = subst (λ (op : Options). CloseEnds whole l.fault op plan l.history.entries (infos_made l.files) k1 k2 l.disks new how) (sym opt) c in
       let by-sink = subst (λ (k : SinkSeen). CloseEnds whole l.fault what.options plan l.history.entries (infos_made l.files) k1 k l.disks new how) (sym sink) by-options in
-      subst (λ (e : End). CaseOf g o (wrote_before o) e how) (end-as st ft l.history H2 (bare new) d2 l.swap w2 sameH same-d same-w)
+      subst (λ (e : End). CaseOf g o (wrote_before o) e how) (end-same st ft l.history H-new (bare new) d-new l.swap w-new sameH same-d same-w)
       (close-case st ft g o what files bytes a made plan k1 ready s l started left low later whole told front l.fault refl new how by-sink)
 
   -- memory lacked for its kernel
-  pub start-lacks : o.sink_new ≡ k1 → (H : HistorySeen) (d2 : List DiskSeen) (w2 : Option DiskSeen) (how : Ending) → H.entries ≡ [] → H.faults ≡ [] → how ≡ ending.Memory
-      → d2 ≡ bare a.disks → w2 ≡ a.swap → CaseOf g o (wrote_before o) (record { status = st; fault = ft; history = H; disks = d2; swap = w2 }) how
-  start-lacks sink H d2 w2 how entries counts is same-d same-w =
+  pub start-lacks : o.sink_new ≡ k1 → (H : HistorySeen) (d-new : List DiskSeen) (w-new : Option DiskSeen) (how : Ending) → H.entries ≡ [] → H.faults ≡ [] → how ≡ ending.Memory
+      → d-new ≡ bare a.disks → w-new ≡ a.swap → CaseOf g o (wrote_before o) (record { status = st; fault = ft; history = H; disks = d-new; swap = w-new }) how
+  start-lacks sink H d-new w-new how entries counts is same-d same-w =
       let low = low-disks what.plan a.disks ready.placed.numbers in
       let wrote = subst (λ (k : SinkSeen). Wrote o.sink_old k (opening_part what files (bare a.disks) bytes)) (sym sink) ready.wrote in
-      subst (λ (x : Ending). CaseOf g o (wrote_before o) (record { status = st; fault = ft; history = H; disks = d2; swap = w2 }) x) (sym is)
-      (subst (λ (e : End). CaseOf g o (wrote_before o) e ending.Memory) (end-as st ft H H (bare a.disks) d2 a.swap w2 refl same-d same-w)
+      subst (λ (x : Ending). CaseOf g o (wrote_before o) (record { status = st; fault = ft; history = H; disks = d-new; swap = w-new }) x) (sym is)
+      (subst (λ (e : End). CaseOf g o (wrote_before o) e ending.Memory) (end-same st ft H H (bare a.disks) d-new a.swap w-new refl same-d same-w)
       (lacks-behind st ft g o what files bytes ready.asked a made ready.placed ready.read a.disks (reads-refl a.disks) H entries counts low wrote))
 
   -- the disks that a kernel left have a first block

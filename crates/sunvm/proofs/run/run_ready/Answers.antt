@@ -4,13 +4,14 @@ use Rattle.std.proofs.lemmas.List.{length-map}
 use Rattle.page_store.specs.Bays.{pairs_seen}
 use Rattle.sunvm.specs.Attached.{attached_seen, numbered_seen}
 use Rattle.sunvm.specs.Opened.{opening_flat}
-use Rattle.sunvm.specs.Played.{left_seen}
+use Rattle.sunvm.specs.Played.{IsStarted, KernelLeaves, left_seen}
 use Rattle.sunvm.specs.Written.{disk_sizes}
 use Rattle.vm_script.specs.Rules.{amounts_of}
 use Rattle.sunvm.specs.Handed.{IsSwapFor}
 use Rattle.block_device.specs.declared.numbered.NumberedDisk.{NumberedDisk}
 use Rattle.sunvm.proofs.DiskCounts.{count-as, count-handed, count-served}
 use Rattle.sunvm.proofs.RunReady.{first-left, names-left, placed-as, ready-ends, start-lacks}
+use Rattle.sunvm.proofs.run.run_ready.Given as Given
 use Rattle.sunvm.proofs.run.run_ready.Goals as goal
 
 pub start-requires-clause-placed : goal.start-requires-clause-placed
@@ -28,73 +29,56 @@ play-played-requires-clause-started g c =
     let placed = placed-as c.args.ready.plan q.2.plan q.0.holds q.3 a c.args.ready.placed.files q.5.numbered q.5.placed in
     (opening_flat c.args.ready.plan (disk_sizes a.disks) q.3, a.disks, a.swap, c.args.ready.placed.files, rw c.in-Ok.field-0-is at (c.in-Ok.ensures.ok q.0.holds q.3 placed))
 
-pub end_run-requires-clause-few : goal.end_run-requires-clause-few
-end_run-requires-clause-few g c =
+-- the kernel that was started, and what it left
+started : (g : Given.Over) (c : goal.After-end_run-arg-1 g) → IsStarted c.args.ready.plan
+    (opening_flat c.args.ready.plan (disk_sizes (attached_seen g.D.Disk.seen c.args.ready.placed.attached).disks) c.requires.ready.3)
+    (attached_seen g.D.Disk.seen c.args.ready.placed.attached).disks (attached_seen g.D.Disk.seen c.args.ready.placed.attached).swap c.args.ready.placed.files c.in-Ok.field-0.state
+started g c =
     let q = c.requires.ready in
     let a = attached_seen g.D.Disk.seen c.args.ready.placed.attached in
-    let placed = placed-as c.args.ready.plan q.2.plan q.0.holds q.3 a c.args.ready.placed.files q.5.numbered q.5.placed in
-    (c.play-played.ensures.left _ _ _ _ (rw c.in-Ok.field-0-is at (c.in-Ok.ensures.ok q.0.holds q.3 placed))).few
+    c.in-Ok.ensures.ok q.0.holds q.3 (placed-as c.args.ready.plan q.2.plan q.0.holds q.3 a c.args.ready.placed.files q.5.numbered q.5.placed)
+
+left : (g : Given.Over) (c : goal.After-end_run-arg-1 g) → KernelLeaves
+    (opening_flat c.args.ready.plan (disk_sizes (attached_seen g.D.Disk.seen c.args.ready.placed.attached).disks) c.requires.ready.3) c.in-Ok.field-0.state
+    (left_seen g.D.Disk.seen c.play-played.result.finished)
+left g c = c.play-played.ensures.left _ _ _ _ (started g c)
+
+pub end_run-requires-clause-few : goal.end_run-requires-clause-few
+end_run-requires-clause-few g c = (left g c).few
 
 pub end_run-requires-clause-well_formed : goal.end_run-requires-clause-well_formed
-end_run-requires-clause-well_formed g c =
-    let q = c.requires.ready in
-    let a = attached_seen g.D.Disk.seen c.args.ready.placed.attached in
-    let placed = placed-as c.args.ready.plan q.2.plan q.0.holds q.3 a c.args.ready.placed.files q.5.numbered q.5.placed in
-    (c.play-played.ensures.left _ _ _ _ (rw c.in-Ok.field-0-is at (c.in-Ok.ensures.ok q.0.holds q.3 placed))).formed
+end_run-requires-clause-well_formed g c = (left g c).formed
 
 pub end_run-requires-clause-lie : goal.end_run-requires-clause-lie
-end_run-requires-clause-lie g c =
-    let q = c.requires.ready in
-    let a = attached_seen g.D.Disk.seen c.args.ready.placed.attached in
-    let placed = placed-as c.args.ready.plan q.2.plan q.0.holds q.3 a c.args.ready.placed.files q.5.numbered q.5.placed in
-    (c.play-played.ensures.left _ _ _ _ (rw c.in-Ok.field-0-is at (c.in-Ok.ensures.ok q.0.holds q.3 placed))).lie
+end_run-requires-clause-lie g c = (left g c).lie
 
 pub end_run-requires-clause-extents : goal.end_run-requires-clause-extents
-end_run-requires-clause-extents g c =
-    let q = c.requires.ready in
-    let a = attached_seen g.D.Disk.seen c.args.ready.placed.attached in
-    let placed = placed-as c.args.ready.plan q.2.plan q.0.holds q.3 a c.args.ready.placed.files q.5.numbered q.5.placed in
-    (c.play-played.ensures.left _ _ _ _ (rw c.in-Ok.field-0-is at (c.in-Ok.ensures.ok q.0.holds q.3 placed))).extents
+end_run-requires-clause-extents g c = (left g c).extents
 
 pub end_run-requires-clause-disks : goal.end_run-requires-clause-disks
-end_run-requires-clause-disks g c =
-    let q = c.requires.ready in
-    let a = attached_seen g.D.Disk.seen c.args.ready.placed.attached in
-    let placed = placed-as c.args.ready.plan q.2.plan q.0.holds q.3 a c.args.ready.placed.files q.5.numbered q.5.placed in
-    (c.play-played.ensures.left _ _ _ _ (rw c.in-Ok.field-0-is at (c.in-Ok.ensures.ok q.0.holds q.3 placed))).have
+end_run-requires-clause-disks g c = (left g c).have
 
 pub end_run-requires-clause-names : goal.end_run-requires-clause-names
 end_run-requires-clause-names g c =
     let q = c.requires.ready in
-    let a = attached_seen g.D.Disk.seen c.args.ready.placed.attached in
-    let placed = placed-as c.args.ready.plan q.2.plan q.0.holds q.3 a c.args.ready.placed.files q.5.numbered q.5.placed in
-    let started = c.in-Ok.ensures.ok q.0.holds q.3 placed in
-    let left = c.play-played.ensures.left _ _ _ _ started in
-    names-left c.args.ready.plan q.2.plan q.0.holds q.3 a c.args.ready.placed.files q.5.placed c.in-Ok.field-0.state (left_seen g.D.Disk.seen c.play-played.result.finished)
-    started.placed left.modes
+    names-left c.args.ready.plan q.2.plan q.0.holds q.3 (attached_seen g.D.Disk.seen c.args.ready.placed.attached) c.args.ready.placed.files q.5.placed c.in-Ok.field-0.state
+    (left_seen g.D.Disk.seen c.play-played.result.finished) (started g c).placed (left g c).modes
 
 pub end_run-requires-clause-some : goal.end_run-requires-clause-some
 end_run-requires-clause-some g c =
     let q = c.requires.ready in
-    let a = attached_seen g.D.Disk.seen c.args.ready.placed.attached in
-    let placed = placed-as c.args.ready.plan q.2.plan q.0.holds q.3 a c.args.ready.placed.files q.5.numbered q.5.placed in
-    let started = c.in-Ok.ensures.ok q.0.holds q.3 placed in
-    first-left 0 None q.0 (record { source_old = 0; source_new = 0; rack_old = 0; rack_new = 0; attached_old = 0; attached_new = 0; sink_old = q.1; sink_new = q.1 }) q.2 q.3 q.4 a c.args.ready.placed.files
-    c.args.ready.plan (g.K.Sink.seen c.args.out.now) q.5 c.in-Ok.field-0.state (left_seen g.D.Disk.seen c.play-played.result.finished) started
-    (c.play-played.ensures.left _ _ _ _ started)
+    first-left 0 None q.0 (record { source_old = 0; source_new = 0; rack_old = 0; rack_new = 0; attached_old = 0; attached_new = 0; sink_old = q.1; sink_new = q.1 }) q.2 q.3 q.4
+    (attached_seen g.D.Disk.seen c.args.ready.placed.attached) c.args.ready.placed.files c.args.ready.plan (g.K.Sink.seen c.args.out.now) q.5 c.in-Ok.field-0.state
+    (left_seen g.D.Disk.seen c.play-played.result.finished) (started g c) (left g c)
 
 pub end_run-requires-clause-room : goal.end_run-requires-clause-room
 end_run-requires-clause-room g c =
-    let q = c.requires.ready in
-    let a = attached_seen g.D.Disk.seen c.args.ready.placed.attached in
-    let placed = placed-as c.args.ready.plan q.2.plan q.0.holds q.3 a c.args.ready.placed.files q.5.numbered q.5.placed in
-    let started = c.in-Ok.ensures.ok q.0.holds q.3 placed in
-    let left = c.play-played.ensures.left _ _ _ _ started in
     let room = rw c.in-Ok.field-0-is at c.in-Ok.ensures.room in
     let disks = c.play-played.result.finished.disks.items in
-    let count = left.disks.count ∙ ap length started.racked in
+    let count = (left g c).disks.count ∙ ap length (started g c).racked in
     let new : length (pairs_seen g.D.Disk.seen disks) ≡ length disks = length-map disks _ in
-    let old : length a.disks ≡ length c.args.ready.placed.attached.disks.items = length-map c.args.ready.placed.attached.disks.items _ in
+    let old : length (attached_seen g.D.Disk.seen c.args.ready.placed.attached).disks ≡ length c.args.ready.placed.attached.disks.items =
+    length-map c.args.ready.placed.attached.disks.items _ in
     omega (arith, room, count, new, old)
 
 pub returns-in-Ok-clause-ends : goal.returns-in-Ok-clause-ends
