@@ -1,5 +1,5 @@
 -- How the spans and the pieces are kept: two lists of one length, by rising page. Inside: no public clause cites this.
-use Rattle.std.specs.Prelude.{◌≡◌, ℕ, ◌+◌, ◌<◌, ◌≤◌, ◌&&◌, nat_lt, nat_le, Bool, true, false, List, [], ◌∷◌, Option, Some, None, length, slice_index_or, zero, suc, if◌then◌else◌}
+use Rattle.std.specs.Prelude.{◌≡◌, ◌≢◌, ℕ, ◌+◌, ◌<◌, ◌≤◌, ◌&&◌, nat_lt, nat_le, Bool, true, false, List, [], ◌∷◌, Option, Some, None, length, slice_index_or, zero, suc, if◌then◌else◌}
 use Rattle.addr_space.specs.declared.ranges.Span.{Span}
 use Rattle.addr_space.specs.Space.{Part, part, page_total, IsInOrder}
 
@@ -44,7 +44,7 @@ FindsHolder ss page (Some i) = IsHolder page ss i × (i < length ss)
 
 -- the span that begins with the page: the first that isn't below it, if that one begins there
 abbrev pub FindsFirst : List Span → ℕ → Option ℕ → Type 0
-FindsFirst ss page None = (s : Span) → count_below page ss < length ss → s ≡ slice_index_or ss (count_below page ss) s → s.first ≡ page → ⊥
+FindsFirst ss page None = (s : Span) → count_below page ss < length ss → s ≡ slice_index_or ss (count_below page ss) s → s.first ≢ page
 FindsFirst ss page (Some i) = (i ≡ count_below page ss) × (i < length ss) × ((s : Span) → s ≡ slice_index_or ss i s → s.first ≡ page)
 
 -- the spans lie one behind the other

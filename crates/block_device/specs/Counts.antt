@@ -1,4 +1,4 @@
--- Counts of faults and of calls, which never fall and stop at the largest number of 64 bits.
+-- Counts of faults and of calls, which never fall and stop at the largest number of 64 bits. Public clauses cite this.
 use Rattle.std.specs.Prelude.{ℕ, ◌+◌, ◌-◌, ◌^◌, ◌≤◌, min, Result, OnErr}
 
 -- The count rose, or it stands at 2^64 - 1.

@@ -1,4 +1,4 @@
--- What contracts see of a disk, and what its two transfers do.
+-- What contracts see of a disk, and what its two transfers do. Public clauses cite this.
 use Rattle.std.specs.Prelude.{ℕ, ◌≡◌, ◌<◌, List, [], length, slice_index, slice_index_or, slice_set, Option, option_map, IfSome, Result, OnOk, OnErr}
 use Rattle.block_device.specs.Counts.{HasRisen, HasCause}
 

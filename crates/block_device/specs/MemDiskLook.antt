@@ -1,4 +1,4 @@
--- What contracts see of a memory disk.
+-- What contracts see of a memory disk. Public clauses cite this.
 use Rattle.std.specs.Prelude.{ℕ, zero, suc, List, [], ◌∷◌, map, refl}
 use Rattle.std.proofs.Math.Nat.{not-suc-le-zero, le_of_suc-le-suc}
 use Rattle.block_device.specs.DiskSeen.{AreBlocks, HasBlocks}

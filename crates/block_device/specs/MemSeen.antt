@@ -1,4 +1,4 @@
--- What contracts see of the memory forms, and what their calls do to them.
+-- What contracts see of the memory forms, and what their calls do to them. Public clauses cite this.
 use Rattle.std.specs.Prelude.{ℕ, ◌+◌, ◌-◌, ◌^◌, min, max, Bool, ◌||◌, ◌&&◌, nat_eq, nat_lt, nat_le, List, [], ◌++◌, length, take, drop, replicate, slice_set, slice_index_or, Some, if◌then◌else◌}
 use Rattle.std.specs.List.{list_any}
 use Rattle.block_device.specs.DiskSeen.{DiskSeen}

@@ -1,4 +1,4 @@
--- What contracts see of sources and sinks of bytes, and what their calls do.
+-- What contracts see of sources and sinks of bytes, and what their calls do. Public clauses cite this.
 use Rattle.std.specs.Prelude.{ℕ, ◌≡◌, ◌<◌, ◌≤◌, List, [], ◌++◌, length, take, Option, option_map, IfSome, Result, IfOk, OnErr}
 use Rattle.block_device.specs.Counts.{HasCause}
 

@@ -1,5 +1,5 @@
 -- The pool with its two indexes. Inside: no public clause cites this.
-use Rattle.std.specs.Prelude.{◌≡◌, ℕ, ◌+◌, ◌*◌, ◌/◌, ◌%◌, ◌^◌, ◌<◌, true, false, List, Option, Some, None, map, length, slice_index_or}
+use Rattle.std.specs.Prelude.{◌≡◌, ◌≢◌, ℕ, ◌+◌, ◌*◌, ◌/◌, ◌%◌, ◌^◌, ◌<◌, true, false, List, Option, Some, None, map, length, slice_index_or}
 use Rattle.hat_layer.specs.declared.translation.Translation.{Translation}
 use Rattle.hat_layer.specs.Chains.{IsLinked}
 use Rattle.hat_layer.specs.Pool.{holds, is_of, frame_of, IsSingleValued}
@@ -19,7 +19,7 @@ slot_at slots (Some t) = Some (page_slot slots t.space t.page)
 
 -- a place that leads to the frame, and its translation
 abbrev pub LeadsToFrame : List (Option Translation) → ℕ → Option (ℕ × Translation) → Type 0
-LeadsToFrame places frame None = (k : ℕ) → frame_of (slice_index_or places k None) ≡ Some frame → ⊥
+LeadsToFrame places frame None = (k : ℕ) → frame_of (slice_index_or places k None) ≢ Some frame
 LeadsToFrame places frame (Some r) = (slice_index_or places r.0 None ≡ Some r.1) × (r.1.frame ≡ frame)
 
 -- the one place that holds the page's translation

@@ -1,5 +1,5 @@
 -- How the names are kept: chains of frames, each by rising number. Inside: no public clause cites this.
-use Rattle.std.specs.Prelude.{◌≡◌, ℕ, ◌+◌, ◌<◌, ◌≤◌, ◌^◌, List, slice_set, Option, Some, None, slice_index_or, length}
+use Rattle.std.specs.Prelude.{◌≡◌, ◌≢◌, ℕ, ◌+◌, ◌<◌, ◌≤◌, ◌^◌, List, slice_set, Option, Some, None, slice_index_or, length}
 use Rattle.page_hash.specs.declared.PageName.{PageName}
 use Rattle.page_hash.specs.Names.{name_at, AreDistinct}
 use Rattle.page_hash.specs.Slots.{slot_of}
@@ -34,7 +34,7 @@ pub record IsSoundPageHash (heads next : List (Option ℕ)) (names : List (Optio
 
 -- the frame that holds a name, or none where none does
 abbrev pub Finds : List (Option PageName) → PageName → Option ℕ → Type 0
-Finds names name None = (k : ℕ) → name_at names k ≡ Some name → ⊥
+Finds names name None = (k : ℕ) → name_at names k ≢ Some name
 Finds names name (Some frame) = name_at names frame ≡ Some name
 
 -- the link behind a frame of a chain, or the chain's head

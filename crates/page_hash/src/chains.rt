@@ -1,6 +1,6 @@
 //! Chains of frames, one for each slot of a name's hash, by rising number of frame.
 
-ghost use Rattle.std.specs.Prelude.{◌≡◌, ℕ, ◌+◌, ◌<◌, ◌≤◌, ◌^◌, List, length, replicate, Option, Some, None, IsTrue, IfOk, slice_set};
+ghost use Rattle.std.specs.Prelude.{◌≡◌, ◌≢◌, ℕ, ◌+◌, ◌<◌, ◌≤◌, ◌^◌, List, length, replicate, Option, Some, None, IsTrue, IfOk, slice_set};
 ghost use Rattle.page_hash.specs.Names.{name_at};
 ghost use Rattle.page_hash.specs.Slots.{slot_of};
 ghost use Rattle.page_hash.specs.Chains.{IsSoundPageHash, Finds, IsLastBefore, link_of, heads_with, next_with};
@@ -78,7 +78,7 @@ impl Chains {
         requires linked { IsSoundPageHash self.old.heads.items self.old.next.items
             self.old.names.items }
         requires within { frame < length self.old.names.items }
-        requires absent { (k : ℕ) → name_at self.old.names.items k ≡ Some name → ⊥ }
+        requires absent { (k : ℕ) → name_at self.old.names.items k ≢ Some name }
         requires empty { name_at self.old.names.items frame ≡ None }
         // The chains go on to fit the names.
         ensures linked { IsSoundPageHash self.new.heads.items self.new.next.items

@@ -1,17 +1,12 @@
 -- What a queue's links and marks say, as frames come and go.
 use Rattle.std.proofs.Common.{◌≡◌, ◌≢◌, ℕ, ◌<◌, ◌↔◌, inl, inr, Bool, true, false, Option, Some, None, List, [], ◌∷◌, ◌++◌, length, zero, suc, refl, sym, ◌∙◌, ap, subst, arith, get_or, set, replicate}
-use Rattle.std.proofs.lemmas.List.{get_or-set_same, get_or-set_other}
+use Rattle.std.proofs.lemmas.List.{get_or-set_same, get_or-set_other, get_or_default, length-replicate}
 use Rattle.std.proofs.Math.ListN.{length-set}
 use Rattle.std.proofs.lemmas.Bool.{cases_eq}
 use Rattle.page_lists.specs.ListsSeen.{Has, without}
 use Rattle.page_lists.specs.Ring.{follow, walk, IsRing, IsQueue, QueueSeen, queue_of}
 use Rattle.page_lists.proofs.ListLemmas.{has-more, more-has, once-more, has-without, without-has, without-absent, once-without, once-short}
 use Rattle.page_lists.proofs.ChainLemmas.{chain-appended, chain-removed, walk-chain, last-in, forth-in, back-in, chain-first}
-
-pub any_default : {X : Type 0} (xs : List X) (i : ℕ) (d e : X) → i < length xs → get_or xs i d ≡ get_or xs i e
-any_default [] i d e lt = absurd (omega arith)
-any_default (x ∷ xs) zero d e lt = refl
-any_default (x ∷ xs) (suc i) d e lt = any_default xs i d e (omega arith)
 
 follow_other : (end : Option ℕ) (links : List (Option ℕ)) (frame : ℕ) (to q : Option ℕ) → q ≢ Some frame → follow end (set links frame to) q ≡ follow end links q
 follow_other end links frame to None ne = refl
@@ -54,16 +49,12 @@ all_same zero k d = refl
 all_same (suc n) zero d = refl
 all_same (suc n) (suc k) d = all_same n k d
 
-length_same : {X : Type 0} (n : ℕ) (d : X) → length (replicate n d) ≡ n
-length_same zero d = refl
-length_same (suc n) d = ap (λ (k : ℕ). suc k) (length_same n d)
-
 -- no frame yet
 pub ring-none : (next previous : List (Option ℕ)) (listed : List Bool) (frames : ℕ) → next ≡ replicate frames None → previous ≡ replicate frames None → listed ≡ replicate frames false → IsRing None None next previous listed []
 ring-none next previous listed frames en ep el =
-    let n : length next ≡ frames = ap (λ (l : List (Option ℕ)). length l) en ∙ length_same frames None in
-    let p : length previous ≡ frames = ap (λ (l : List (Option ℕ)). length l) ep ∙ length_same frames None in
-    let m : length listed ≡ frames = ap (λ (l : List Bool). length l) el ∙ length_same frames false in
+    let n : length next ≡ frames = ap (λ (l : List (Option ℕ)). length l) en ∙ length-replicate frames None in
+    let p : length previous ≡ frames = ap (λ (l : List (Option ℕ)). length l) ep ∙ length-replicate frames None in
+    let m : length listed ≡ frames = ap (λ (l : List Bool). length l) el ∙ length-replicate frames false in
     record {
       previous_length = omega arith;
       listed_length = omega arith;
@@ -185,7 +176,7 @@ marked-has first last next previous listed now frame mark ring seen lt e =
     let n : length next ≡ now.frames = ap (λ (q : QueueSeen). q.frames) seen in
     let o : walk next (length next) first ≡ now.order = ap (λ (q : QueueSeen). q.order) seen in
     let in_listed : frame < length listed = let a = ring.listed_length in omega arith in
-    let m : mark ≡ get_or listed frame false = e ∙ any_default listed frame mark false in_listed in
+    let m : mark ≡ get_or listed frame false = e ∙ get_or_default listed frame mark false in_listed in
     ((λ t. subst (λ (l : List ℕ). Has l frame) o ((ring.marked frame).0 (sym m ∙ t))), (λ h. m ∙ (ring.marked frame).1 (subst (λ (l : List ℕ). Has l frame) (sym o) h)))
 
 -- the links of a frame on the queue lead to frames

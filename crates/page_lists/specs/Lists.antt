@@ -11,4 +11,4 @@ pub record AreLists (free_queue cached_queue : QueueSeen) : Type 0 where
   pub free : IsQueue free_queue
   pub cached : IsQueue cached_queue
   pub frames : cached_queue.frames ≡ free_queue.frames
-  pub one_list : (frame : ℕ) → Has free_queue.order frame → Has cached_queue.order frame → ⊥
+  pub one_list : (frame : ℕ) → Has free_queue.order frame → ¬ Has cached_queue.order frame

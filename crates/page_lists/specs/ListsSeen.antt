@@ -15,7 +15,7 @@ Has (x ∷ xs) frame = (x ≡ frame) ⊎ Has xs frame
 -- a list has no frame twice
 abbrev pub IsOnce : List ℕ → Type 0
 IsOnce [] = Unit {0}
-IsOnce (x ∷ xs) = (Has xs x → ⊥) × IsOnce xs
+IsOnce (x ∷ xs) = (¬ Has xs x) × IsOnce xs
 
 -- a list with a frame taken off
 abbrev pub without : List ℕ → ℕ → List ℕ
@@ -36,6 +36,6 @@ IsListed lists frame = Has lists.free frame ⊎ Has lists.cached frame
 pub record AreApart (lists : ListsSeen) : Type 0 where
   pub once_free : IsOnce lists.free
   pub once_cached : IsOnce lists.cached
-  pub one_list : (frame : ℕ) → Has lists.free frame → Has lists.cached frame → ⊥
+  pub one_list : (frame : ℕ) → Has lists.free frame → ¬ Has lists.cached frame
   pub below_free : (frame : ℕ) → Has lists.free frame → frame < lists.frames
   pub below_cached : (frame : ℕ) → Has lists.cached frame → frame < lists.frames

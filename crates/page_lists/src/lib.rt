@@ -91,7 +91,7 @@ impl PageLists {
     /// Puts a frame at the end of the free list.
     pub fn free(&mut self, frame: u32)
         requires within { frame < self.old.frames }
-        requires unlisted { IsListed self.old frame → ⊥ }
+        requires unlisted { ¬ IsListed self.old frame }
         ensures appended { self.new ≡ record self.old { free = self.old.free ++ frame ∷ [] } }
         ensures apart { AreApart self.new }
     {
@@ -101,7 +101,7 @@ impl PageLists {
     /// Puts a frame at the end of the cache list.
     pub fn cache(&mut self, frame: u32)
         requires within { frame < self.old.frames }
-        requires unlisted { IsListed self.old frame → ⊥ }
+        requires unlisted { ¬ IsListed self.old frame }
         ensures appended { self.new ≡ record self.old { cached = self.old.cached ++ frame ∷ [] } }
         ensures apart { AreApart self.new }
     {
@@ -113,7 +113,7 @@ impl PageLists {
         requires { frame < self.old.frames }
         ensures cached { IsTrue result ↔ Has self.old.cached frame }
         ensures taken_off { self.new ≡ record self.old { cached = without self.old.cached frame } }
-        ensures otherwise_same { (Has self.old.cached frame → ⊥) → self.new ≡ self.old }
+        ensures otherwise_same { ¬ Has self.old.cached frame → self.new ≡ self.old }
         ensures apart { AreApart self.new }
     {
         self.cached.remove(frame)

@@ -82,7 +82,7 @@ impl FrameQueue {
     /// Puts a frame that isn't on the queue at its end.
     pub fn push_back(&mut self, frame: u32)
         requires within { frame < self.old.frames }
-        requires absent { Has self.old.order frame → ⊥ }
+        requires absent { ¬ Has self.old.order frame }
         ensures appended { self.new ≡ record self.old { order = self.old.order ++ frame ∷ [] } }
         ensures queue { IsQueue self.new }
     {

@@ -57,6 +57,6 @@ pub record IsFreePlace (blocks : ℕ) (extents : List Extent) (pages start : ℕ
 
 -- The least such place, or none where there is none.
 abbrev pub IsLeastPlace : ℕ → List Extent → ℕ → Option ℕ → Type 0
-IsLeastPlace blocks extents pages None = (start : ℕ) → IsFreePlace blocks extents pages start → ⊥
+IsLeastPlace blocks extents pages None = (start : ℕ) → ¬ IsFreePlace blocks extents pages start
 IsLeastPlace blocks extents pages (Some start) =
-    IsFreePlace blocks extents pages start × ((before : ℕ) → before < start → IsFreePlace blocks extents pages before → ⊥)
+    IsFreePlace blocks extents pages start × ((before : ℕ) → before < start → ¬ IsFreePlace blocks extents pages before)
