@@ -1,6 +1,7 @@
 //! Chains of frames, one for each slot of a name's hash, by rising number of frame.
 
 ghost use Rattle.std.specs.Prelude.{◌≡◌, ◌≢◌, ℕ, ◌+◌, ◌<◌, ◌≤◌, ◌^◌, List, length, replicate, Option, Some, None, IsTrue, IfOk, slice_set};
+ghost use Rattle.std.specs.Option.{ForSome};
 ghost use Rattle.page_hash.specs.Names.{name_at};
 ghost use Rattle.page_hash.specs.Slots.{slot_of};
 ghost use Rattle.page_hash.specs.Chains.{IsSoundPageHash, Finds, IsLastBefore, link_of, heads_with, next_with};
@@ -132,7 +133,7 @@ impl Chains {
     /// The link behind a frame, or the head of the slot.
     fn link(&self, slot: usize, before: Option<u32>) -> Option<u32>
         requires slot { slot < length self.now.heads.items }
-        requires before { (p : ℕ) → before ≡ Some p → p < length self.now.next.items }
+        requires before { ForSome before (λ p. p < length self.now.next.items) }
         ensures { result ≡ link_of self.now.heads.items self.now.next.items slot before }
     {
         match before {
@@ -144,7 +145,7 @@ impl Chains {
     /// Leads the link behind a frame, or the head of the slot, to another frame.
     fn set_link(&mut self, slot: usize, before: Option<u32>, link: Option<u32>)
         requires slot { slot < length self.old.heads.items }
-        requires before { (p : ℕ) → before ≡ Some p → p < length self.old.next.items }
+        requires before { ForSome before (λ p. p < length self.old.next.items) }
         ensures heads { self.new.heads.items ≡ heads_with self.old.heads.items slot before link }
         ensures next { self.new.next.items ≡ next_with self.old.next.items before link }
         ensures names { self.new.names.items ≡ self.old.names.items }

@@ -1,6 +1,7 @@
 //! A queue of frames, from which any frame is taken at once: a doubly linked list by number of frame.
 
 ghost use Rattle.std.specs.Prelude.{◌≡◌, ◌≢◌, ℕ, ◌<◌, ◌↔◌, ◌++◌, ◌∷◌, [], List, length, Option, Some, None, IsTrue, IfOk};
+ghost use Rattle.std.specs.Option.{ForSome};
 ghost use Rattle.page_lists.specs.ListsSeen.{Has, first_of, without};
 ghost use Rattle.page_lists.specs.Ring.{QueueSeen, IsQueue, follow};
 
@@ -30,7 +31,7 @@ impl Model for FrameQueue {
 
 /// Leads the link at a place elsewhere: that of a frame, or where the place is none, the end of the queue.
 fn set_link(end: &mut Option<u32>, links: &mut Vec<Option<u32>>, at: Option<u32>, to: Option<u32>)
-    requires { (frame : ℕ) → at ≡ Some frame → frame < length links.old.items }
+    requires { ForSome at (λ frame. frame < length links.old.items) }
     ensures there { follow end.new links.new.items at ≡ to }
     ensures elsewhere { (other : Option ℕ) → other ≢ at
         → follow end.new links.new.items other ≡ follow end.old links.old.items other }
@@ -115,8 +116,8 @@ impl FrameQueue {
     /// Takes the first frame off the queue.
     pub fn pop_front(&mut self) -> Option<u32>
         ensures none { result ≡ None → (self.old.order ≡ []) × (self.new ≡ self.old) }
-        ensures first { (frame : ℕ) → result ≡ Some frame
-            → self.old ≡ record self.new { order = frame ∷ self.new.order } }
+        ensures first { ForSome result (λ frame. self.old
+            ≡ record self.new { order = frame ∷ self.new.order }) }
         ensures queue { IsQueue self.new }
     {
         let frame = self.first?;
