@@ -8,7 +8,10 @@ use Rattle.page_hash.specs.declared.PageName.{PageName}
 use Rattle.page_hash.proofs.NameLaws.{find-at, find-some}
 use Rattle.page_lock.specs.Rows.{row_at}
 use Rattle.page_lock.specs.declared.Row.{Row}
+use Rattle.page_store.specs.Notes.{Notes}
 use Rattle.page_store.specs.Seen.{StoreSeen, IsSoundStore, residence, residence_in, residence_of}
+use Rattle.page_store.specs.Table.{Table}
+use Rattle.page_store.specs.Value.{value}
 use Rattle.page_lists.specs.ListsSeen.{first_of}
 use Rattle.page_store.specs.Waits.{IsVictim, ChoosesPage}
 use Rattle.page_store.specs.declared.residence.Residence.TheVariants.{Home, Absent}
@@ -67,6 +70,16 @@ is-in s page frame g r e =
 
 pub same-frame : (s : StoreSeen) (page : PageName) (frame g : ℕ) → residence s page ≡ Home g → find s.names page ≡ Some frame → g ≡ frame
 same-frame s page frame g r e = let i = home-is s page g r in let z : Some g ≡ Some frame = sym i.found ∙ e in cc
+
+-- its bytes are there, its frame has a row, and its value is these bytes
+pub home-some : (s : StoreSeen) (page : PageName) (frame : ℕ) → residence s page ≡ Home frame → IsSome (bytes_at s.frames frame)
+home-some s page frame r = subst (λ (b : Option (List ℕ)). IsSome b) (sym (home-is s page frame r).there) refl
+
+pub home-row : (s : StoreSeen) (page : PageName) (frame : ℕ) → IsSoundStore s → residence s page ≡ Home frame → frame < length s.rows
+home-row s page frame sound r = found-row s page frame sound (home-is s page frame r).found
+
+pub value-home : (s : StoreSeen) (notes : Notes) (table : Table) (page : PageName) (frame : ℕ) (bytes : List ℕ) → residence s page ≡ Home frame → bytes_at s.frames frame ≡ Some bytes → bytes ≡ value s notes table page
+value-home s notes table page frame bytes r there = rw ((home-is s page frame r).found, there) refl
 
 some_home : (b : Option (List ℕ)) (h : Option ℕ) (frame : ℕ) → IsSome b → residence_of b h frame ≡ Home frame
 some_home (Some bytes) h frame there = refl

@@ -7,7 +7,7 @@ ghost use Rattle.page_lock.specs.Rows.{row_at, clear_row, with_bits};
 ghost use Rattle.page_store.specs.Laws.{StaysInPlace, Releases, Pokes, FillsPage, Aborts};
 ghost use Rattle.page_store.specs.Moves.{only};
 ghost use Rattle.page_store.specs.Seen.{residence, IsListedFrame};
-ghost use Rattle.page_store.specs.Steps.{next_frame, home_bytes, after_poke, after_fill, after_abort, after_reclaim};
+ghost use Rattle.page_store.specs.Steps.{next_frame, home_bytes, with_piece, after_poke, after_fill, after_abort, after_reclaim};
 ghost use Rattle.page_store.specs.Value.{value};
 
 use crate::frames::{copy_frame, forsake, rename, reset, take_frame, zero_frame};
@@ -31,11 +31,21 @@ impl<D: Disk> Store<D> {
     {
         match self.names.find(name) {
             None => unreachable!(),
-            Some(frame) => {
-                self.core.write(frame, at, from);
-                mark_if(&mut self.locks, frame, mark);
-            }
+            Some(frame) => self.poke_frame(frame, at, from, mark),
         }
+    }
+
+    /// Does so to the page that is home in a frame. The frame needs no look for its page.
+    pub fn poke_frame(&mut self, frame: u32, at: u32, from: &[u8], mark: bool)
+        requires home { (name : PageName) × (residence self.old name ≡ Residence.Home frame) }
+        requires unlisted { ¬ IsListedFrame self.old frame }
+        requires within { at + length from.now ≤ 4096 }
+        ensures new { self.new ≡ with_piece self.old frame at from.now mark }
+        ensures laws { (name : PageName) → residence self.old name ≡ Residence.Home frame
+            → Pokes self.old self.new name at from.now }
+    {
+        self.core.write(frame, at, from);
+        mark_if(&mut self.locks, frame, mark);
     }
 
     /// Makes a page of zeros for a name that no frame holds. The frame of a slot is modified, that of a file's page is not.

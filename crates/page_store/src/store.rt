@@ -119,6 +119,16 @@ impl<D: Disk> Store<D> {
         }
     }
 
+    /// The 4096 bytes of the page that is home in a frame. Constant time: the frame needs no look for its page.
+    pub fn frame_bytes(&self, frame: u32) -> &[u8]
+        requires home { (name : PageName) × (residence self.now name ≡ Residence.Home frame) }
+        ensures size { length result.now ≡ 4096 }
+        ensures value { (name : PageName) → residence self.now name ≡ Residence.Home frame
+            → (notes : Notes) (table : Table) → result.now ≡ value self.now notes table name }
+    {
+        self.core.bytes(frame)
+    }
+
     /// The name that a frame holds, if it holds one.
     pub fn name_of(&self, frame: u32) -> Option<PageName>
         requires { frame < length self.now.frames }
