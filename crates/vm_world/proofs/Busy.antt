@@ -42,7 +42,8 @@ use Rattle.vm_world.specs.MemoryFits.{MemoryFits}
 use Rattle.vm_world.specs.NotesFit.{NotesFit, PushFits}
 use Rattle.vm_world.specs.State.{Sent, Caller, notes_of, is_top}
 use Rattle.vm_world.specs.StateFits.{StateFits}
-use Rattle.vm_world.specs.HistoryFits.{faults_in, has_left}
+use Rattle.vm_world.specs.DiskPlaces.{faults_in}
+use Rattle.vm_world.specs.HistoryFits.{has_left}
 use Rattle.vm_world.specs.Busy.{busy_segment, busy_part, busy_spaces, busy_maps, busy_slots, busy_store, busy_hat, busy_memory, busy_disk, busy_note, busy_seats, busy_state, BusyLaw}
 use Rattle.vm_world.proofs.Counting.{adds, adds-other}
 use Rattle.vm_world.proofs.FlatWhole.{HasPages, some-inj, flat-whole}
@@ -398,7 +399,7 @@ module _ (page : Page) (whole : IsPage page) where
     replays = λ tell. opening-history (flat_memory (busy_memory page) (busy_state page).born (notes_of (busy_seats page))) [] 0 (flat-whole (busy_memory page) (notes_of (busy_seats page)) busy-fits-memory busy-pages (busy_state page).born alive) refl refl;
     faults = record {
       counted = record { risen = λ k e disk before after is _. absurd (cc); ordered = λ j k d e disk b after before a lt is _ _ _. absurd (cc) };
-      reached = λ k e disk before after count is _ _. absurd (cc);
+      reached = λ k e disk before after is _. absurd (cc);
       most = λ disk count is. elim (bay-is disk) [
         | inl m ↦ absurd (let z : ◌≡◌ {A = Option ℕ} None (Some count) = sym (ap (λ (b : BaySeen). faults_in b (notes_of (busy_seats page))) m) ∙ is in cc)
         | inr o ↦ let z : ◌≡◌ {A = Option ℕ} (Some 0) (Some count) = sym (ap (λ (b : BaySeen). faults_in b (notes_of (busy_seats page))) o.1) ∙ is in

@@ -39,7 +39,7 @@ use Rattle.vm_world.specs.StateFits.{StateFits}
 use Rattle.vm_world.proofs.Callers.{caller-kept, caller-longer, same-modes}
 use Rattle.vm_world.proofs.Entries.{entry-history, entry-faults, entry-calls, entry-rooms, entry-births, entry-part, not-left}
 use Rattle.vm_world.proofs.MayFails.{alive-flat}
-use Rattle.vm_world.proofs.StateSteps.{same-seats}
+use Rattle.vm_world.proofs.StateSteps.{same-seats, sizes-still}
 
 -- a call that is no Fork makes no process
 unborn : (F : Flat) (call : Call) → ((child : ℕ) → call ≢ Fork child) → IsUnborn F call
@@ -142,6 +142,7 @@ rule-done s new seat e calls syncs act keeps may locks starts count = record {
     parents = s.parents;
     entries = s.entries;
   };
+  sizes = λ opening seats is fit. sizes-still s (with_entry_made (record s { memory = new }) e calls syncs) seat None act.machine.bays seats is;
   grown = (e ∷ [], refl, All-cons (λ (x : Entry). seat_of x.process ≡ seat) e [] may.try.own (All-nil (λ (x : Entry). seat_of x.process ≡ seat)));
 }
   where
@@ -182,7 +183,7 @@ rule-done s new seat e calls syncs act keeps may locks starts count = record {
               (entry-history opening s.history s.pending now e h may.cleared may.formed alive (unborn now e.call may.plain) acts.0
               (starts-at s.history (length s.history) e may.sync)
               (entry-part s.history s.calls s.syncs s.parents s.entries e seat fit.calls fit.rooms h.legal.parts (process-is e.process seat (length (entries_of s.history e.process)) s.entries may.try.own may.try.room) may.file));
-          faults = entry-faults s.history new.world.store.bays (notes_of seats) e (subst (λ (b : List BaySeen). FaultsFit s.history b (notes_of seats)) (sym act.machine.bays) fit.faults) (no-count s.history e may.done) (λ d b a n io has. absurd (not-io e.reply d b a may.done io));
+          faults = entry-faults s.history new.world.store.bays (notes_of seats) e (subst (λ (b : List BaySeen). FaultsFit s.history b (notes_of seats)) (sym act.machine.bays) fit.faults) (no-count s.history e may.done) (λ d b a io. absurd (not-io e.reply d b a may.done io));
           calls = entry-calls s.history s.calls s.syncs calls syncs e fit.calls follows locks starts;
           rooms = entry-rooms s.history s.parents s.entries e fit.rooms may.try.room (λ child fork. absurd (may.plain child fork));
           births = entry-births s.history s.parents s.memory.spaces new.spaces s.born s.born e fit.births (λ q. or-false (set.contains s.born q) (is_birth q e) (no-birth q e may.plain)) (alive-born fit.births.alive) (stays-alive fit.births.stays);

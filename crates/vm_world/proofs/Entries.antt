@@ -14,7 +14,7 @@ use Rattle.vm_types.specs.declared.call.Entry.{Entry}
 use Rattle.vm_types.specs.declared.call.Reply.TheVariants.{Io}
 use Rattle.vm_types.specs.Parts.{file_of_call, is_part}
 use Rattle.vm_types.specs.WellFormed.{IsWellFormed}
-use Rattle.page_store.specs.Bays.{BaySeen, bay_at}
+use Rattle.page_store.specs.Bays.{BaySeen}
 use Rattle.page_store.specs.Notes.{Notes}
 use Rattle.flat_model.specs.Births.{is_birth}
 use Rattle.flat_model.specs.CountLaws.{IsNextCount}
@@ -32,7 +32,8 @@ use Rattle.flat_model.proofs.Opens.{open_calls_law}
 use Rattle.flat_model.proofs.Replays.{joined_histories_law}
 use Rattle.flat_model.proofs.Starts.{sync_starts_law}
 use Rattle.flat_model.proofs.WellFormed.{stays_flat_law}
-use Rattle.vm_world.specs.HistoryFits.{HistoryFits, FaultsFit, CallsFit, RoomsFit, BirthsFit, faults_in, has_left, is_exit_of}
+use Rattle.vm_world.specs.DiskPlaces.{HasCounted}
+use Rattle.vm_world.specs.HistoryFits.{HistoryFits, FaultsFit, CallsFit, RoomsFit, BirthsFit, has_left, is_exit_of}
 use Rattle.vm_world.specs.Segments.{Spaces}
 use Rattle.vm_world.specs.State.{process_parent, room_of, is_top}
 use Rattle.vm_world.specs.EntryLaws.{LocksAfter, StartsAfter, MayUseFile, EntryLaw}
@@ -90,13 +91,13 @@ entry-tails opening H pending more now lost fit bits below =
       bits = subst (λ (n : ℕ). more < 2 ^ n) count below;
     }
 
-pub entry-faults : (H : List Entry) (bays : List BaySeen) (notes : Notes) (e : Entry) → FaultsFit H bays notes → IsNextCount H e → ((disk before after count : ℕ) → e.reply ≡ Io disk before after → faults_in (bay_at bays disk) notes ≡ Some count → after ≤ count)
+pub entry-faults : (H : List Entry) (bays : List BaySeen) (notes : Notes) (e : Entry) → FaultsFit H bays notes → IsNextCount H e → ((disk before after : ℕ) → e.reply ≡ Io disk before after → HasCounted bays notes disk after)
     → FaultsFit (H ++ e ∷ []) bays notes
 entry-faults H bays notes e fit next reached = record {
   counted = (counted_histories_law.one_more H e).1 (fit.counted, next);
-  reached = λ k d disk before after count at is has. elim (slice_get-cases H e d k at) [
-    | inl old ↦ fit.reached k d disk before after count old.1 is has
-    | inr new ↦ reached disk before after count (ap (λ (x : Entry). x.reply) new.1 ∙ is) has
+  reached = λ k d disk before after at is. elim (slice_get-cases H e d k at) [
+    | inl old ↦ fit.reached k d disk before after old.1 is
+    | inr new ↦ reached disk before after (ap (λ (x : Entry). x.reply) new.1 ∙ is)
   ];
   most = fit.most;
 }

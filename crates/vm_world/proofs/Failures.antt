@@ -26,13 +26,13 @@ use Rattle.flat_model.specs.Told.{entries_of}
 use Rattle.flat_model.proofs.WellFormed.{IsFlat-tails_cleared}
 use Rattle.vm_world.specs.World.{World}
 use Rattle.vm_world.specs.FlatMemory.{flat_memory}
-use Rattle.vm_world.specs.HistoryFits.{faults_in, noted_faults}
+use Rattle.vm_world.specs.DiskPlaces.{HasCounted, faults_in, seen_noted}
 use Rattle.vm_world.specs.EntryLaws.{LocksAfter, StartsAfter, MayUseFile}
 use Rattle.vm_world.specs.Events.{IsEvent}
 use Rattle.vm_world.specs.Failures.{io_entry, with_entry_made, FailureRule}
 use Rattle.vm_world.specs.State.{KernelState, Seats, Sent, KeptPlan, notes_of, with_sent, fixed_of, seat_of, room_of}
 use Rattle.vm_world.specs.StateFits.{StateFits, CallerFits}
-use Rattle.vm_world.specs.StateSteps.{after_step, PendsTails, CountsOn}
+use Rattle.vm_world.specs.StateSteps.{after_step, PendsTails, CountsOn, ComesBack}
 use Rattle.vm_world.specs.WorldSteps.{returns, WorldStep}
 use Rattle.vm_world.proofs.Entries.{entry-step, entry-faults, entry-calls, entry-rooms, entry-births, entry-part, not-left}
 use Rattle.vm_world.proofs.Callers.{caller-longer}
@@ -78,7 +78,7 @@ not-fork F p child call may is = subst (λ (c : Call). MayFail F p c) is may
 -- THE ENTRY of a device error, in a state whose flight has come back.
 io-fits : (opening : Flat) (s : KernelState) (seats : Seats) (seat p : ℕ) (call : Call) (disk before after : ℕ) (calls syncs : List (Option ℕ)) → StateFits opening s seats → seats seat ≡ None → seat_of p ≡ seat
     → CallerFits (flat_memory s.memory s.born (notes_of seats)) s.history s.entries seat (p, call) → IsCountedRise before after → last_count disk s.history ≤ before
-    → ((count : ℕ) → faults_in (bay_at s.memory.world.store.bays disk) (notes_of seats) ≡ Some count → after ≤ count)
+    → HasCounted s.memory.world.store.bays (notes_of seats) disk after
     → LocksAfter (io_entry p call disk before after s.pending) s.calls calls → StartsAfter (io_entry p call disk before after s.pending) s.syncs syncs
     → StateFits opening (with_entry_made s (io_entry p call disk before after s.pending) calls syncs) seats
 io-fits opening s seats seat p call disk before after calls syncs fit idle own caller risen low reached locks starts =
@@ -92,11 +92,11 @@ io-fits opening s seats seat p call disk before after calls syncs fit idle own c
           entry-step opening s.history s.pending now (io_entry p call disk before after s.pending) h refl (λ _. subst IsFlat (sym h.shows) (IsFlat-tails_cleared (replay opening s.history) (bit s.pending) h.whole)) caller.alive (no-fork now p call caller.fails) caller.fails tt
           (entry-part s.history s.calls s.syncs s.parents s.entries (io_entry p call disk before after s.pending) seat fit.calls fit.rooms h.legal.parts (process-is p seat own caller.room) (may-use follows));
       faults = entry-faults s.history s.memory.world.store.bays (notes_of seats) (io_entry p call disk before after s.pending) fit.faults (risen, low)
-          (λ d b a count is has.
+          (λ d b a is.
           let same : Io disk before after ≡ Io d b a = is in
           let at : disk ≡ d = io-disk disk before after d b a same in
           let value : after ≡ a = io-after disk before after d b a same in
-          subst (λ (x : ℕ). x ≤ count) value (reached count (ap (λ (k : ℕ). faults_in (bay_at s.memory.world.store.bays k) (notes_of seats)) at ∙ has)));
+          subst (λ (x : ℕ). HasCounted s.memory.world.store.bays (notes_of seats) d x) value (subst (λ (x : ℕ). HasCounted s.memory.world.store.bays (notes_of seats) x after) at reached));
       calls = entry-calls s.history s.calls s.syncs calls syncs (io_entry p call disk before after s.pending) fit.calls follows locks starts;
       rooms = entry-rooms s.history s.parents s.entries (io_entry p call disk before after s.pending) fit.rooms caller.room (λ child is. absurd (not-fork now p child call caller.fails is));
       births = entry-births s.history s.parents s.memory.spaces s.memory.spaces s.born s.born (io_entry p call disk before after s.pending) fit.births (λ q. or-false (set.contains s.born q)) fit.births.alive
@@ -138,25 +138,29 @@ io-fits opening s seats seat p call disk before after calls syncs fit idle own c
 
 -- A FLIGHT THAT FAILED COMES BACK.
 rule-fails : (s : KernelState) (new : World) (cut : PageName → Bool) (pending seat p : ℕ) (call : Call) (sent : Sent) (d : DiskSeen) (calls syncs : List (Option ℕ)) → WorldStep s.memory.world new s.memory.spaces (returns seat sent.note) cut → PendsTails s.memory.world cut s.pending pending
-    → sent.of ≡ Some (p, call) → seat_of p ≡ seat → bay_at new.store.bays sent.note.number ≡ home d → sent.note.disk.faults ≤ d.faults → HasRisen sent.note.disk.faults d.faults → d.faults ≤ top_count
+    → sent.of ≡ Some (p, call) → seat_of p ≡ seat → bay_at new.store.bays sent.note.number ≡ home d → CountsOn sent.note.disk d → HasRisen sent.note.disk.faults d.faults
     → LocksAfter (io_entry p call sent.note.number sent.note.disk.faults d.faults pending) s.calls calls → StartsAfter (io_entry p call sent.note.number sent.note.disk.faults d.faults pending) s.syncs syncs → length syncs ≡ length s.syncs
     → IsEvent seat s (Some sent) (with_entry_made (after_step s new pending) (io_entry p call sent.note.number sent.note.disk.faults d.faults pending) calls syncs) None
-rule-fails s new cut pending seat p call sent d calls syncs step tails for_call own back later risen high locks starts count =
-    let counts : CountsOn sent.note new = λ x at. let same : d ≡ x = home-inj d x (sym back ∙ at) in
-    (subst (λ (y : DiskSeen). sent.note.disk.faults ≤ y.faults) same later, subst (λ (y : DiskSeen). y.faults ≤ top_count) same high) in
+rule-fails s new cut pending seat p call sent d calls syncs step tails for_call own back on risen locks starts count =
+    let counts : ComesBack sent.note new = λ x at. subst (λ (y : DiskSeen). CountsOn sent.note.disk y) (home-inj d x (sym back ∙ at)) on in
     let event = rule-ends s new cut pending seat sent step tails counts in
     record {
       fits = λ opening seats is fit.
           let noted : notes_of seats seat ≡ Some sent.note = ap (option_map (λ (x : Sent). x.note)) is in
-          let old_count : faults_in (bay_at s.memory.world.store.bays sent.note.number) (notes_of seats) ≡ Some sent.note.disk.faults = ap (λ b. faults_in b (notes_of seats)) step.bays.0 ∙ ap noted_faults noted in
+          let old_count : faults_in (bay_at s.memory.world.store.bays sent.note.number) (notes_of seats) ≡ Some sent.note.disk.faults = ap (λ b. faults_in b (notes_of seats)) step.bays.0 ∙ ap (seen_noted (λ disk. disk.faults)) noted in
           let most = fit.faults.most sent.note.number sent.note.disk.faults old_count in
           io-fits opening (after_step s new pending) (with_sent seats seat None) seat p call sent.note.number sent.note.disk.faults d.faults calls syncs (event.fits opening seats is fit) (this-seat seats seat None) own
           (caller-step s new (returns seat sent.note) cut pending step tails (notes_of seats) (notes_of (with_sent seats seat None)) seat (p, call) (fit.plans.sent seat sent (p, call) is for_call))
-          (rise sent.note.disk.faults d.faults risen most high)
-          (last-below sent.note.number sent.note.disk.faults 0 s.history (λ k x b a at io. fit.faults.reached k x sent.note.number b a sent.note.disk.faults at io old_count) (omega arith))
-          (λ count has. let same : d.faults ≡ count = some-inj d.faults count (sym (ap (λ b. faults_in b (notes_of (with_sent seats seat None))) back) ∙ has) in omega (arith, same))
+          (rise sent.note.disk.faults d.faults risen most on.most)
+          (last-below sent.note.number sent.note.disk.faults 0 s.history (λ k x b a at io.
+          let r = fit.faults.reached k x sent.note.number b a at io in
+          let enough = r.enough in
+          let same : r.count ≡ sent.note.disk.faults = some-inj r.count sent.note.disk.faults (sym r.there ∙ old_count) in
+          omega (arith, enough, same)) (omega arith))
+          (record { count = d.faults; there = ap (λ b. faults_in b (notes_of (with_sent seats seat None))) back; enough = omega arith })
           locks starts;
       fixed = ap (λ (n : ℕ). record (fixed_of (after_step s new pending)) { seats = n }) count ∙ event.fixed;
+      sizes = event.sizes;
       grown = (io_entry p call sent.note.number sent.note.disk.faults d.faults pending ∷ [], refl, All-cons (λ (x : Entry). seat_of x.process ≡ seat) (io_entry p call sent.note.number sent.note.disk.faults d.faults pending) [] own (All-nil (λ (x : Entry). seat_of x.process ≡ seat)));
     }
   where

@@ -37,7 +37,8 @@ use Rattle.vm_world.specs.MemoryFits.{MemoryFits}
 use Rattle.vm_world.specs.NotesFit.{NotesFit}
 use Rattle.vm_world.specs.State.{KernelState, is_top}
 use Rattle.vm_world.specs.StateFits.{StateFits}
-use Rattle.vm_world.specs.HistoryFits.{HistoryFits, FaultsFit, CallsFit, RoomsFit, BirthsFit, faults_in, has_left}
+use Rattle.vm_world.specs.DiskPlaces.{faults_in}
+use Rattle.vm_world.specs.HistoryFits.{HistoryFits, FaultsFit, CallsFit, RoomsFit, BirthsFit, has_left}
 use Rattle.vm_types.specs.declared.call.Entry.{Entry}
 use Rattle.flat_model.specs.Counted.{top_count}
 use Rattle.vm_world.specs.Opening.{IsOpeningMemory, IsOpening, OpeningLaw, no_seats}
@@ -190,7 +191,7 @@ opening-history F H pending whole empty none = subst (λ (h : List Entry). Histo
 opening-faults : (s : KernelState) → IsOpening s → FaultsFit s.history s.memory.world.store.bays no_notes
 opening-faults s o = subst (λ (h : List Entry). FaultsFit h s.memory.world.store.bays no_notes) (sym o.history) (record {
   counted = record { risen = λ k e disk before after is _. absurd (cc); ordered = λ j k d e disk b after before a lt is _ _ _. absurd (cc) };
-  reached = λ k e disk before after count is _ _. absurd (cc);
+  reached = λ k e disk before after is _. absurd (cc);
   most = λ disk count is. by_bay disk count (bay_at s.memory.world.store.bays disk) refl is;
 })
   where

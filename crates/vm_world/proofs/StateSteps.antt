@@ -18,14 +18,15 @@ use Rattle.flat_model.specs.Step.{bit}
 use Rattle.vm_world.specs.World.{World, AllTell}
 use Rattle.vm_world.specs.Pages.{contents_of}
 use Rattle.vm_world.specs.FlatMemory.{flat_memory, shape_of}
-use Rattle.vm_world.specs.HistoryFits.{HistoryFits, FaultsFit, faults_in, noted_faults}
+use Rattle.vm_world.specs.DiskPlaces.{HasCounted, KeepSizes, faults_in, seen_in, seen_noted}
+use Rattle.vm_world.specs.HistoryFits.{HistoryFits, FaultsFit}
 use Rattle.vm_world.specs.MemoryFits.{MemoryFits}
 use Rattle.vm_world.specs.NotesFit.{NotesFit}
 use Rattle.vm_world.specs.Plans.{CanRunPlan, MayMeetFault}
 use Rattle.vm_world.specs.State.{KernelState, Seats, Sent, Caller, KeptPlan, notes_of, with_sent, fixed_of, seat_of}
 use Rattle.vm_world.specs.StateFits.{StateFits, CallerFits, PlanFits}
 use Rattle.vm_world.specs.Events.{IsEvent, CanTry}
-use Rattle.vm_world.specs.StateSteps.{after_step, PendsTails, CountsOn, StateRule}
+use Rattle.vm_world.specs.StateSteps.{after_step, PendsTails, CountsOn, ComesBack, StateRule}
 use Rattle.vm_world.specs.WorldSteps.{Trip, stays, leaves, returns, HasTrip, notes_after, WorldStep, tails_lost}
 use Rattle.flat_model.proofs.WellFormed.{IsFlat-tails_cleared}
 use Rattle.vm_world.proofs.Entries.{entry-tails, length-cleared}
@@ -59,6 +60,16 @@ other-seat seats seat k sent far = elim (eqb_tells k seat) [ inl y ↦ absurd (f
 
 pub this-seat : (seats : Seats) (seat : ℕ) (sent : Option Sent) → with_sent seats seat sent seat ≡ sent
 this-seat seats seat sent = elim (eqb_tells seat seat) [ inl y ↦ ap (λ (b : Bool). cond b sent (seats seat)) y.0 | inr n ↦ absurd (n.1 refl) ]
+
+-- the size of the disk of a number, wherever it is
+abbrev pub size_of : KernelState → Seats → ℕ → Option ℕ
+size_of s seats number = seen_in (λ disk. disk.size) (bay_at s.memory.world.store.bays number) (notes_of seats)
+
+-- no disk moves
+pub sizes-still : (s t : KernelState) (seat : ℕ) (sent : Option Sent) → t.memory.world.store.bays ≡ s.memory.world.store.bays → (seats : Seats) → seats seat ≡ sent
+    → KeepSizes s.memory.world.store.bays (notes_of seats) t.memory.world.store.bays (notes_of (with_sent seats seat sent))
+sizes-still s t seat sent bays seats is number =
+    ap (λ (x : Seats). size_of t x number) (same-seats seats seat sent is) ∙ ap (λ (b : List BaySeen). seen_in (λ disk. disk.size) (bay_at b number) (notes_of seats)) bays
 
 module _ (s : KernelState) (new : World) (trip : Trip) (cut : PageName → Bool) (pending : ℕ) (step : WorldStep s.memory.world new s.memory.spaces trip cut) (tails : PendsTails s.memory.world cut s.pending pending) where
   fixed-same : fixed_of (after_step s new pending) ≡ fixed_of s
@@ -127,6 +138,7 @@ pub rule-calm : (s : KernelState) (new : World) (cut : PageName → Bool) (pendi
 rule-calm s new cut pending seat sent step tails = record {
   fits = λ opening seats is fit. subst (λ (x : Seats). StateFits opening (after_step s new pending) x) (sym (same-seats seats seat sent is)) (calm-state s new cut pending step tails opening seats fit);
   fixed = fixed-same s new stays cut pending step tails;
+  sizes = λ opening seats is fit. sizes-still s (after_step s new pending) seat sent step.bays seats is;
   grown = no-entries s.history seat;
 }
 
@@ -136,6 +148,7 @@ pub rule-plans : (s : KernelState) (new : World) (cut : PageName → Bool) (pend
 rule-plans s new cut pending kept step tails runs may = record {
   fits = λ opening seats is fit. subst (λ (x : Seats). StateFits opening (record (after_step s new pending) { plan = Some kept }) x) (sym (same-seats seats kept.seat None is)) (state opening seats is fit);
   fixed = fixed-same s new stays cut pending step tails;
+  sizes = λ opening seats is fit. sizes-still s (record (after_step s new pending) { plan = Some kept }) kept.seat None step.bays seats is;
   grown = no-entries s.history kept.seat;
 }
   where
@@ -177,33 +190,43 @@ out-below [] k seat is = absurd (cc)
 out-below (b ∷ bs) zero seat is = omega arith
 out-below (b ∷ bs) (suc k) seat is = let more = out-below bs k seat is in omega (arith, more)
 
--- the counts of faults as a disk leaves: what the note has of it
+-- what is seen of the disks as one leaves: the note has it
+module _ (seen : DiskSeen → ℕ) (bays new : List BaySeen) (notes : Notes) (seat : ℕ) (note : Note) (idle : notes seat ≡ None) (noted : (k t : ℕ) → bay_at bays k ≡ out t → IsSome (notes t))
+    (was : bay_at bays note.number ≡ home note.disk) (set : new ≡ slice_set bays note.number (out seat)) where
+  this-note : (m : Option Note) → with_note notes seat m seat ≡ m
+  this-note m = elim (eqb_tells seat seat) [ inl y ↦ ap (λ (b : Bool). cond b m (notes seat)) y.0 | inr n ↦ absurd (n.1 refl) ]
+
+  other-bay : (k : ℕ) (b : BaySeen) → bay_at bays k ≡ b → seen_in seen b (with_note notes seat (Some note)) ≡ seen_in seen b notes
+  other-bay k missing e = refl
+  other-bay k (home d) e = refl
+  other-bay k (out t) e = ap (seen_noted seen) (elim (eqb_tells t seat) [
+    | inl y ↦ absurd (let z : IsSome (notes t) = noted k t e in let z' : ◌≡◌ {A = Bool} false true = sym (ap is_some (ap notes y.1 ∙ idle)) ∙ z in cc)
+    | inr n ↦ ap (λ (b : Bool). cond b (Some note) (notes t)) n.0
+  ])
+
+  seen-leaves : (disk : ℕ) → seen_in seen (bay_at new disk) (with_note notes seat (Some note)) ≡ seen_in seen (bay_at bays disk) notes
+  seen-leaves disk = ap (λ (b : List BaySeen). seen_in seen (bay_at b disk) (with_note notes seat (Some note))) set ∙ elim (cases_eq disk note.number) [
+    | inl e ↦
+        subst (λ (k : ℕ). seen_in seen (bay_at (slice_set bays note.number (out seat)) k) (with_note notes seat (Some note)) ≡ seen_in seen (bay_at bays k) notes) (sym e)
+        (ap (λ (b : BaySeen). seen_in seen b (with_note notes seat (Some note))) (get_or-set_same bays note.number (out seat) missing (home-below bays note.number note.disk was)) ∙ ap (seen_noted seen) (this-note (Some note)) ∙ sym (ap (λ (b : BaySeen). seen_in seen b notes) was))
+    | inr ne ↦ ap (λ (b : BaySeen). seen_in seen b (with_note notes seat (Some note))) (get_or-set_other bays note.number disk (out seat) missing ne) ∙ other-bay disk (bay_at bays disk) refl
+  ]
+
+-- a disk that is there counted so many faults still, where its count is the same
+same-count : (bays new : List BaySeen) (before after : Notes) (disk least : ℕ) → faults_in (bay_at new disk) after ≡ faults_in (bay_at bays disk) before → HasCounted bays before disk least → HasCounted new after disk least
+same-count bays new before after disk least same h = record { count = h.count; there = same ∙ h.there; enough = h.enough }
+
+-- the counts of faults as a disk leaves
 faults-leave : (H : List Entry) (bays new : List BaySeen) (notes : Notes) (seat : ℕ) (note : Note) → notes seat ≡ None → ((k t : ℕ) → bay_at bays k ≡ out t → IsSome (notes t)) → bay_at bays note.number ≡ home note.disk → new ≡ slice_set bays note.number (out seat)
     → FaultsFit H bays notes → FaultsFit H new (with_note notes seat (Some note))
 faults-leave H bays new notes seat note idle noted was set f = record {
   counted = f.counted;
-  reached = λ k e disk before after count at is has. f.reached k e disk before after count at is (sym (same disk) ∙ has);
+  reached = λ k e disk before after at is. same-count bays new notes (with_note notes seat (Some note)) disk after (same disk) (f.reached k e disk before after at is);
   most = λ disk count has. f.most disk count (sym (same disk) ∙ has);
 }
   where
-    this : (m : Option Note) → with_note notes seat m seat ≡ m
-    this m = elim (eqb_tells seat seat) [ inl y ↦ ap (λ (b : Bool). cond b m (notes seat)) y.0 | inr n ↦ absurd (n.1 refl) ]
-
-    other : (k : ℕ) (b : BaySeen) → bay_at bays k ≡ b → faults_in b (with_note notes seat (Some note)) ≡ faults_in b notes
-    other k missing e = refl
-    other k (home d) e = refl
-    other k (out t) e = ap noted_faults (elim (eqb_tells t seat) [
-      | inl y ↦ absurd (let z : IsSome (notes t) = noted k t e in let z' : ◌≡◌ {A = Bool} false true = sym (ap is_some (ap notes y.1 ∙ idle)) ∙ z in cc)
-      | inr n ↦ ap (λ (b : Bool). cond b (Some note) (notes t)) n.0
-    ])
-
     same : (disk : ℕ) → faults_in (bay_at new disk) (with_note notes seat (Some note)) ≡ faults_in (bay_at bays disk) notes
-    same disk = ap (λ (b : List BaySeen). faults_in (bay_at b disk) (with_note notes seat (Some note))) set ∙ elim (cases_eq disk note.number) [
-      | inl e ↦
-          subst (λ (k : ℕ). faults_in (bay_at (slice_set bays note.number (out seat)) k) (with_note notes seat (Some note)) ≡ faults_in (bay_at bays k) notes) (sym e)
-          (ap (λ (b : BaySeen). faults_in b (with_note notes seat (Some note))) (get_or-set_same bays note.number (out seat) missing (home-below bays note.number note.disk was)) ∙ ap noted_faults (this (Some note)) ∙ sym (ap (λ (b : BaySeen). faults_in b notes) was))
-      | inr ne ↦ ap (λ (b : BaySeen). faults_in b (with_note notes seat (Some note))) (get_or-set_other bays note.number disk (out seat) missing ne) ∙ other disk (bay_at bays disk) refl
-    ]
+    same = seen-leaves (λ disk. disk.faults) bays new notes seat note idle noted was set
 
 -- A FLIGHT LEAVES.
 rule-begins : (s : KernelState) (new : World) (cut : PageName → Bool) (pending seat : ℕ) (sent : Sent) (kept : KeptPlan) → WorldStep s.memory.world new s.memory.spaces (leaves seat sent.note) cut → PendsTails s.memory.world cut s.pending pending
@@ -212,7 +235,7 @@ rule-begins s new cut pending seat sent kept step tails plan mine of_is = record
   fits = λ opening seats is fit.
       let idle : notes_of seats seat ≡ None = ap (option_map (λ (x : Sent). x.note)) is in
       event-state s new (leaves seat sent.note) cut pending step tails opening seats (with_sent seats seat (Some sent)) (notes-with seats seat (Some sent)) idle
-      (faults-leave s.history s.memory.world.store.bays new.store.bays (notes_of seats) seat sent.note idle (λ k t at. let b = fit.notes.stored.each_bay k t at in ap is_some b.1) step.bays.0 step.bays.1 fit.faults)
+      (faults-leave s.history s.memory.world.store.bays new.store.bays (notes_of seats) seat sent.note idle (noted opening seats fit) step.bays.0 step.bays.1 fit.faults)
       (λ k x of at for_call. elim (cases_eq k seat) [
         | inl e ↦
             let same : sent ≡ x = some-inj sent x (sym (this-seat seats seat (Some sent)) ∙ ap (with_sent seats seat (Some sent)) (sym e) ∙ at) in
@@ -221,64 +244,97 @@ rule-begins s new cut pending seat sent kept step tails plan mine of_is = record
         | inr ne ↦ fit.plans.sent k x of (sym (other-seat seats seat k (Some sent) ne) ∙ at) for_call
       ]) fit;
   fixed = fixed-same s new (leaves seat sent.note) cut pending step tails;
+  sizes = λ opening seats is fit number.
+      let idle : notes_of seats seat ≡ None = ap (option_map (λ (x : Sent). x.note)) is in
+      ap (λ (n : Notes). seen_in (λ disk. disk.size) (bay_at new.store.bays number) n) (notes-with seats seat (Some sent))
+      ∙ seen-leaves (λ disk. disk.size) s.memory.world.store.bays new.store.bays (notes_of seats) seat sent.note idle (noted opening seats fit) step.bays.0 step.bays.1 number;
   grown = no-entries s.history seat;
 }
+  where
+    noted : (opening : Flat) (seats : Seats) → StateFits opening s seats → (k t : ℕ) → bay_at s.memory.world.store.bays k ≡ out t → IsSome (notes_of seats t)
+    noted opening seats fit k t at = let b = fit.notes.stored.each_bay k t at in ap is_some b.1
+
+-- what is seen of the disks as one comes back
+module _ (seen : DiskSeen → ℕ) (bays new : List BaySeen) (notes : Notes) (seat : ℕ) (note : Note) (d : DiskSeen) (noted : notes seat ≡ Some note) (one : (k : ℕ) → bay_at bays k ≡ out seat → k ≡ note.number)
+    (was : bay_at bays note.number ≡ out seat) (set : new ≡ slice_set bays note.number (home d)) where
+  seen-noted : (disk : ℕ) → disk ≡ note.number → seen_in seen (bay_at bays disk) notes ≡ Some (seen note.disk)
+  seen-noted disk here = ap (λ (k : ℕ). seen_in seen (bay_at bays k) notes) here ∙ ap (λ (b : BaySeen). seen_in seen b notes) was ∙ ap (seen_noted seen) noted
+
+  seen-back : (disk : ℕ) → disk ≡ note.number → seen_in seen (bay_at new disk) (with_note notes seat None) ≡ Some (seen d)
+  seen-back disk here =
+      let at : bay_at new disk ≡ home d = ap (λ (b : List BaySeen). bay_at b disk) set ∙ ap (λ (k : ℕ). bay_at (slice_set bays note.number (home d)) k) here ∙ get_or-set_same bays note.number (home d) missing (out-below bays note.number seat was) in
+      ap (λ (b : BaySeen). seen_in seen b (with_note notes seat None)) at
+
+  apart-bay : (k : ℕ) (b : BaySeen) → k ≢ note.number → bay_at bays k ≡ b → seen_in seen b (with_note notes seat None) ≡ seen_in seen b notes
+  apart-bay k missing ne e = refl
+  apart-bay k (home x) ne e = refl
+  apart-bay k (out t) ne e = ap (seen_noted seen) (elim (eqb_tells t seat) [
+    | inl y ↦ absurd (ne (one k (e ∙ ap out y.1)))
+    | inr n ↦ ap (λ (b : Bool). cond b None (notes t)) n.0
+  ])
+
+  seen-apart : (disk : ℕ) → disk ≢ note.number → seen_in seen (bay_at new disk) (with_note notes seat None) ≡ seen_in seen (bay_at bays disk) notes
+  seen-apart disk ne = ap (λ (b : List BaySeen). seen_in seen (bay_at b disk) (with_note notes seat None)) set
+      ∙ ap (λ (b : BaySeen). seen_in seen b (with_note notes seat None)) (get_or-set_other bays note.number disk (home d) missing ne) ∙ apart-bay disk (bay_at bays disk) ne refl
+
+  -- all that stays of a disk is as it was
+  seen-returns : seen d ≡ seen note.disk → (disk : ℕ) → seen_in seen (bay_at new disk) (with_note notes seat None) ≡ seen_in seen (bay_at bays disk) notes
+  seen-returns same disk = elim (cases_eq disk note.number) [
+    | inl here ↦ seen-back disk here ∙ ap Some same ∙ sym (seen-noted disk here)
+    | inr ne ↦ seen-apart disk ne
+  ]
 
 -- the counts of faults as a disk comes back
 faults-return : (H : List Entry) (bays new : List BaySeen) (notes : Notes) (seat : ℕ) (note : Note) (d : DiskSeen) → notes seat ≡ Some note → ((k : ℕ) → bay_at bays k ≡ out seat → k ≡ note.number) → bay_at bays note.number ≡ out seat → new ≡ slice_set bays note.number (home d)
     → note.disk.faults ≤ d.faults → d.faults ≤ top_count → FaultsFit H bays notes → FaultsFit H new (with_note notes seat None)
 faults-return H bays new notes seat note d noted one was set more top f = record {
   counted = f.counted;
-  reached = λ k e disk before after count at is has. elim (cases_eq disk note.number) [
+  reached = λ k e disk before after at is. elim (cases_eq disk note.number) [
     | inl here ↦
-        let low = f.reached k e disk before after note.disk.faults at is (old-count disk here) in
-        let now = this-count disk count here has in
-        omega (arith, low, now, more)
-    | inr ne ↦ f.reached k e disk before after count at is (sym (same disk ne) ∙ has)
+        let r = f.reached k e disk before after at is in
+        let enough = r.enough in
+        let same : r.count ≡ note.disk.faults = some-inj r.count note.disk.faults (sym r.there ∙ old-count disk here) in
+        record { count = d.faults; there = back disk here; enough = omega (arith, enough, same, more) }
+    | inr ne ↦ same-count bays new notes (with_note notes seat None) disk after (same disk ne) (f.reached k e disk before after at is)
   ];
   most = λ disk count has. elim (cases_eq disk note.number) [
-    | inl here ↦ let now = this-count disk count here has in omega (arith, now, top)
+    | inl here ↦ let now = some-inj d.faults count (sym (back disk here) ∙ has) in omega (arith, now, top)
     | inr ne ↦ f.most disk count (sym (same disk ne) ∙ has)
   ];
 }
   where
     old-count : (disk : ℕ) → disk ≡ note.number → faults_in (bay_at bays disk) notes ≡ Some note.disk.faults
-    old-count disk here = ap (λ (k : ℕ). faults_in (bay_at bays k) notes) here ∙ ap (λ (b : BaySeen). faults_in b notes) was ∙ ap noted_faults noted
+    old-count = seen-noted (λ disk. disk.faults) bays new notes seat note d noted one was set
 
-    this-count : (disk count : ℕ) → disk ≡ note.number → faults_in (bay_at new disk) (with_note notes seat None) ≡ Some count → d.faults ≡ count
-    this-count disk count here has =
-        let at : bay_at new disk ≡ home d = ap (λ (b : List BaySeen). bay_at b disk) set ∙ ap (λ (k : ℕ). bay_at (slice_set bays note.number (home d)) k) here ∙ get_or-set_same bays note.number (home d) missing (out-below bays note.number seat was) in
-        some-inj d.faults count (sym (ap (λ (b : BaySeen). faults_in b (with_note notes seat None)) at) ∙ has)
-
-    other : (k : ℕ) (b : BaySeen) → k ≢ note.number → bay_at bays k ≡ b → faults_in b (with_note notes seat None) ≡ faults_in b notes
-    other k missing ne e = refl
-    other k (home x) ne e = refl
-    other k (out t) ne e = ap noted_faults (elim (eqb_tells t seat) [
-      | inl y ↦ absurd (ne (one k (e ∙ ap out y.1)))
-      | inr n ↦ ap (λ (b : Bool). cond b None (notes t)) n.0
-    ])
+    back : (disk : ℕ) → disk ≡ note.number → faults_in (bay_at new disk) (with_note notes seat None) ≡ Some d.faults
+    back = seen-back (λ disk. disk.faults) bays new notes seat note d noted one was set
 
     same : (disk : ℕ) → disk ≢ note.number → faults_in (bay_at new disk) (with_note notes seat None) ≡ faults_in (bay_at bays disk) notes
-    same disk ne = ap (λ (b : List BaySeen). faults_in (bay_at b disk) (with_note notes seat None)) set
-        ∙ ap (λ (b : BaySeen). faults_in b (with_note notes seat None)) (get_or-set_other bays note.number disk (home d) missing ne) ∙ other disk (bay_at bays disk) ne refl
+    same = seen-apart (λ disk. disk.faults) bays new notes seat note d noted one was set
 
 -- A FLIGHT COMES BACK.
-pub rule-ends : (s : KernelState) (new : World) (cut : PageName → Bool) (pending seat : ℕ) (sent : Sent) → WorldStep s.memory.world new s.memory.spaces (returns seat sent.note) cut → PendsTails s.memory.world cut s.pending pending → CountsOn sent.note new → IsEvent seat s (Some sent) (after_step s new pending) None
-rule-ends s new cut pending seat sent step tails counts = record {
+pub rule-ends : (s : KernelState) (new : World) (cut : PageName → Bool) (pending seat : ℕ) (sent : Sent) → WorldStep s.memory.world new s.memory.spaces (returns seat sent.note) cut → PendsTails s.memory.world cut s.pending pending → ComesBack sent.note new → IsEvent seat s (Some sent) (after_step s new pending) None
+rule-ends s new cut pending seat sent step tails comes = record {
   fits = λ opening seats is fit.
       let noted : notes_of seats seat ≡ Some sent.note = ap (option_map (λ (x : Sent). x.note)) is in
-      let back : bay_at new.store.bays sent.note.number ≡ home step.bays.1.0 = ap (λ (b : List BaySeen). bay_at b sent.note.number) step.bays.1.1 ∙ get_or-set_same s.memory.world.store.bays sent.note.number (home step.bays.1.0) missing (out-below s.memory.world.store.bays sent.note.number seat step.bays.0) in
-      let rise = counts step.bays.1.0 back in
       event-state s new (returns seat sent.note) cut pending step tails opening seats (with_sent seats seat None) (notes-with seats seat None) noted
-      (faults-return s.history s.memory.world.store.bays new.store.bays (notes_of seats) seat sent.note step.bays.1.0 noted (λ k at. one-disk opening seats fit noted k at) step.bays.0 step.bays.1.1 rise.0 rise.1 fit.faults)
+      (faults-return s.history s.memory.world.store.bays new.store.bays (notes_of seats) seat sent.note step.bays.1.0 noted (λ k at. one-disk opening seats fit noted k at) step.bays.0 step.bays.1.1 on.later on.most fit.faults)
       (λ k x of at for_call. elim (cases_eq k seat) [
         | inl e ↦ absurd (let z : ◌≡◌ {A = Option Sent} None (Some x) = sym (this-seat seats seat None) ∙ ap (with_sent seats seat None) (sym e) ∙ at in cc)
         | inr ne ↦ fit.plans.sent k x of (sym (other-seat seats seat k None ne) ∙ at) for_call
       ]) fit;
   fixed = fixed-same s new (returns seat sent.note) cut pending step tails;
+  sizes = λ opening seats is fit number.
+      let noted : notes_of seats seat ≡ Some sent.note = ap (option_map (λ (x : Sent). x.note)) is in
+      ap (λ (n : Notes). seen_in (λ disk. disk.size) (bay_at new.store.bays number) n) (notes-with seats seat None)
+      ∙ seen-returns (λ disk. disk.size) s.memory.world.store.bays new.store.bays (notes_of seats) seat sent.note step.bays.1.0 noted (λ k at. one-disk opening seats fit noted k at) step.bays.0 step.bays.1.1 on.size number;
   grown = no-entries s.history seat;
 }
   where
+    on : CountsOn sent.note.disk step.bays.1.0
+    on = comes step.bays.1.0 (ap (λ (b : List BaySeen). bay_at b sent.note.number) step.bays.1.1
+        ∙ get_or-set_same s.memory.world.store.bays sent.note.number (home step.bays.1.0) missing (out-below s.memory.world.store.bays sent.note.number seat step.bays.0))
+
     one-disk : (opening : Flat) (seats : Seats) → StateFits opening s seats → notes_of seats seat ≡ Some sent.note → (k : ℕ) → bay_at s.memory.world.store.bays k ≡ out seat → k ≡ sent.note.number
     one-disk opening seats fit noted k at =
         let b = fit.notes.stored.each_bay k seat at in

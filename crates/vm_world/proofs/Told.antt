@@ -20,11 +20,10 @@ use Rattle.flat_model.specs.Flat.{Flat}
 use Rattle.flat_model.specs.OpenLaws.{last_entry, IsOpenPart}
 use Rattle.vm_world.specs.EventLaws.{EventLaw}
 use Rattle.vm_world.specs.Events.{IsEvent}
-use Rattle.vm_world.specs.HistoryFits.{faults_in}
 use Rattle.vm_world.specs.State.{KernelState, KeptPlan, Seats, Sent, notes_of, seat_of, seats_of, with_sent}
 use Rattle.vm_world.specs.StateFits.{StateFits}
 use Rattle.vm_world.specs.Wants.{HoldsUp, seat_in}
-use Rattle.vm_world.proofs.StateSteps.{no-entries, same-seats, this-seat}
+use Rattle.vm_world.proofs.StateSteps.{no-entries, same-seats, this-seat, size_of, sizes-still}
 
 -- a page that is moving has a frame whose lock the seat holds
 moving : (s : StoreSeen) (name : PageName) (seat : ℕ) → residence s name ≡ Moving seat → (frame : ℕ) × ((row_at s.rows frame).holder ≡ Some seat)
@@ -76,6 +75,7 @@ rests : (seat : ℕ) (s : KernelState) (sent : Option Sent) → IsEvent seat s s
 rests seat s sent = record {
   fits = λ opening seats is fit. subst (λ (x : Seats). StateFits opening s x) (sym (same-seats seats seat sent is)) fit;
   fixed = refl;
+  sizes = λ opening seats is fit. sizes-still s s seat sent refl seats is;
   grown = no-entries s.history seat;
 }
 
@@ -92,6 +92,9 @@ pub event-then : (seat : ℕ) (s t u : KernelState) (before mid after : Option S
 event-then seat s t u before mid after a b = record {
   fits = λ opening seats is fit. subst (λ (x : Seats). StateFits opening u x) (sent-twice seats seat mid after) (b.fits opening (with_sent seats seat mid) (this-seat seats seat mid) (a.fits opening seats is fit));
   fixed = b.fixed ∙ a.fixed;
+  sizes = λ opening seats is fit number.
+      let later = b.sizes opening (with_sent seats seat mid) (this-seat seats seat mid) (a.fits opening seats is fit) number in
+      subst (λ (x : Seats). size_of u x number ≡ size_of t (with_sent seats seat mid) number) (sent-twice seats seat mid after) later ∙ a.sizes opening seats is fit number;
   grown = (
     a.grown.0 ++ b.grown.0,
     b.grown.1 ∙ ap (λ (H : List Entry). H ++ b.grown.0) a.grown.1 ∙ append_assoc s.history a.grown.0 b.grown.0,
@@ -117,6 +120,7 @@ forgets-plan seat s sent = record {
     };
   });
   fixed = refl;
+  sizes = λ opening seats is fit. sizes-still s (record s { plan = None }) seat sent refl seats is;
   grown = no-entries s.history seat;
 }
 
@@ -126,7 +130,6 @@ event_law = record {
   joined = event-then;
   forgets = forgets-plan;
   holds = λ opening s seats p call h fit may. tells-holds opening s seats p call h fit may.cause;
-  counted = λ opening s seats k e disk before after count fit at is has.
-      fit.faults.reached k e disk before after count at is (ap (λ (b : BaySeen). faults_in b (notes_of seats)) has.1 ∙ ap (λ (n : ℕ). Some n) has.2);
+  counted = λ opening s seats k e disk before after fit at is. fit.faults.reached k e disk before after at is;
   list = same-list;
 }

@@ -8,7 +8,7 @@ use Rattle.vm_types.specs.declared.call.Entry.{Entry}
 use Rattle.vm_types.specs.declared.call.Reply.TheVariants.{Io}
 use Rattle.vm_types.specs.Parts.{file_of_call, is_part}
 use Rattle.vm_types.specs.WellFormed.{IsWellFormed}
-use Rattle.page_store.specs.Bays.{BaySeen, bay_at}
+use Rattle.page_store.specs.Bays.{BaySeen}
 use Rattle.page_store.specs.Notes.{Notes}
 use Rattle.flat_model.specs.Births.{is_birth}
 use Rattle.flat_model.specs.CountLaws.{IsNextCount}
@@ -19,7 +19,8 @@ use Rattle.flat_model.specs.OpenLaws.{MayFollow, IsOpenPart}
 use Rattle.flat_model.specs.Step.{bit, tails_cleared, after_act, IsDue, IsUnborn}
 use Rattle.flat_model.specs.SyncLaws.{is_in_life}
 use Rattle.flat_model.specs.Told.{entries_of}
-use Rattle.vm_world.specs.HistoryFits.{HistoryFits, FaultsFit, CallsFit, RoomsFit, BirthsFit, faults_in, has_left}
+use Rattle.vm_world.specs.DiskPlaces.{HasCounted}
+use Rattle.vm_world.specs.HistoryFits.{HistoryFits, FaultsFit, CallsFit, RoomsFit, BirthsFit, has_left}
 use Rattle.vm_world.specs.Segments.{Spaces}
 use Rattle.vm_world.specs.State.{process_parent, room_of}
 
@@ -47,7 +48,7 @@ pub record EntryLaw : Type 0 where
       → ((f : ℕ) → f < length now.files → bit more f ≡ (bit pending f || lost f)) → more < 2 ^ length now.files
       → HistoryFits opening H more (tails_cleared now lost)
   pub faults : (H : List Entry) (bays : List BaySeen) (notes : Notes) (e : Entry) → FaultsFit H bays notes → IsNextCount H e
-      → ((disk before after count : ℕ) → e.reply ≡ Io disk before after → faults_in (bay_at bays disk) notes ≡ Some count → after ≤ count)
+      → ((disk before after : ℕ) → e.reply ≡ Io disk before after → HasCounted bays notes disk after)
       → FaultsFit (H ++ e ∷ []) bays notes
   pub calls : (H : List Entry) (calls syncs calls' syncs' : List (Option ℕ)) (e : Entry) → CallsFit H calls syncs → MayFollow H e → LocksAfter e calls calls' → StartsAfter e syncs syncs'
       → CallsFit (H ++ e ∷ []) calls' syncs'

@@ -6,20 +6,21 @@ use Rattle.vm_types.specs.declared.call.Reply.TheVariants.{Io}
 use Rattle.page_store.specs.declared.plan.Hold.{Hold}
 use Rattle.flat_model.specs.Flat.{Flat}
 use Rattle.flat_model.specs.OpenLaws.{last_entry, IsOpenPart}
-use Rattle.vm_world.specs.Events.{IsEvent, HasFaults}
-use Rattle.vm_world.specs.State.{KernelState, Seats, Sent, seats_of, with_sent}
+use Rattle.vm_world.specs.DiskPlaces.{HasCounted}
+use Rattle.vm_world.specs.Events.{IsEvent}
+use Rattle.vm_world.specs.State.{KernelState, Seats, Sent, notes_of, seats_of, with_sent}
 use Rattle.vm_world.specs.StateFits.{StateFits}
 use Rattle.vm_world.specs.Wants.{MayHold, seat_in}
 
 -- Where nothing changes, that is an event; one event of a seat after another is an event; and a plan that is kept may be forgotten. A seat that is waited
--- for has something outside, or its process has a call of a file between two parts. A disk that is home counted at least what each of its device errors
--- names. And the seats of a list, one of which has something else outside, are those of the list with that one changed.
+-- for has something outside, or its process has a call of a file between two parts. The disk of each device error
+-- is there, and counted at least what the error names. And the seats of a list, one of which has something else outside, are those of the list with that one changed.
 pub record EventLaw : Type 0 where
   pub rests : (seat : ℕ) (s : KernelState) (sent : Option Sent) → IsEvent seat s sent s sent
   pub joined : (seat : ℕ) (s t u : KernelState) (before mid after : Option Sent) → IsEvent seat s before t mid → IsEvent seat t mid u after → IsEvent seat s before u after
   pub forgets : (seat : ℕ) (s : KernelState) (sent : Option Sent) → IsEvent seat s sent (record s { plan = None }) sent
   pub holds : (opening : Flat) (s : KernelState) (seats : Seats) (p : ℕ) (call : Call) (h : Hold) → StateFits opening s seats → MayHold s.memory s.calls p call h
       → IsSome (seats (seat_in h)) ⊎ ((f : ℕ) × IsSomeAnd (last_entry (suc (seat_in h)) s.history) (IsOpenPart f))
-  pub counted : (opening : Flat) (s : KernelState) (seats : Seats) (k : ℕ) (e : Entry) (disk before after count : ℕ) → StateFits opening s seats
-      → slice_get s.history k ≡ Some e → e.reply ≡ Io disk before after → HasFaults s disk count → after ≤ count
+  pub counted : (opening : Flat) (s : KernelState) (seats : Seats) (k : ℕ) (e : Entry) (disk before after : ℕ) → StateFits opening s seats
+      → slice_get s.history k ≡ Some e → e.reply ≡ Io disk before after → HasCounted s.memory.world.store.bays (notes_of seats) disk after
   pub list : (sents : List (Option Sent)) (seat : ℕ) (sent : Option Sent) → seat < length sents → with_sent (seats_of sents) seat sent ≡ seats_of (slice_set sents seat sent)

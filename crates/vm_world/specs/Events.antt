@@ -6,19 +6,20 @@ use Rattle.vm_types.specs.declared.call.Call.{Call}
 use Rattle.vm_types.specs.declared.call.Call.TheVariants.{Fork}
 use Rattle.vm_types.specs.declared.call.Entry.{Entry}
 use Rattle.vm_types.specs.declared.call.Reply.{Reply}
-use Rattle.block_device.specs.DiskSeen.{DiskSeen}
-use Rattle.page_store.specs.Bays.{home, bay_at}
 use Rattle.flat_model.specs.Flat.{Flat}
 use Rattle.flat_model.specs.OpenLaws.{MayFollow}
 use Rattle.flat_model.specs.Told.{entries_of}
-use Rattle.vm_world.specs.State.{KernelState, Seats, Sent, with_sent, fixed_of, seat_of, process_parent, room_of}
+use Rattle.vm_world.specs.DiskPlaces.{KeepSizes}
+use Rattle.vm_world.specs.State.{KernelState, Seats, Sent, notes_of, with_sent, fixed_of, seat_of, process_parent, room_of}
 use Rattle.vm_world.specs.StateFits.{StateFits}
 
 -- THE EVENT. Whatever the opening and the other seats are: where a state fits with what a seat had outside, the next one fits with what the seat has
--- then. What is fixed stays, and the history grew by entries of the seat's process alone.
+-- then. What is fixed stays, each disk has its size, wherever it is, and the history grew by entries of the seat's process alone.
 pub record IsEvent (seat : ℕ) (s : KernelState) (before : Option Sent) (t : KernelState) (after : Option Sent) : Type 0 where
   pub fits : (opening : Flat) (seats : Seats) → seats seat ≡ before → StateFits opening s seats → StateFits opening t (with_sent seats seat after)
   pub fixed : fixed_of t ≡ fixed_of s
+  pub sizes : (opening : Flat) (seats : Seats) → seats seat ≡ before → StateFits opening s seats
+      → KeepSizes s.memory.world.store.bays (notes_of seats) t.memory.world.store.bays (notes_of (with_sent seats seat after))
   pub grown : (added : List Entry) × (t.history ≡ s.history ++ added) × All (λ (e : Entry). seat_of e.process ≡ seat) added
 
 -- A Fork's child is a child of this process that was never alive.
@@ -33,7 +34,3 @@ pub record CanTry (s : KernelState) (seat p : ℕ) (call : Call) : Type 0 where
   pub room : length (entries_of s.history p) < room_of s.entries p
   pub follows : (reply : Reply) (cleared : ℕ) → MayFollow s.history (record { process = p; call = call; reply = reply; cleared = cleared })
   pub bears : MayBear s p call
-
--- The disk of a number is home with this count of faults.
-abbrev pub HasFaults : KernelState → ℕ → ℕ → Type 0
-HasFaults s number count = (d : DiskSeen) × (bay_at s.memory.world.store.bays number ≡ home d) × (d.faults ≡ count)

@@ -1,5 +1,5 @@
 -- A flight that failed comes back, with its entry. Public clauses cite this.
-use Rattle.std.specs.Prelude.{◌≡◌, ◌≤◌, ◌++◌, ℕ, [], ◌∷◌, List, length, Option, Some, None, Bool}
+use Rattle.std.specs.Prelude.{◌≡◌, ◌++◌, ℕ, [], ◌∷◌, List, length, Option, Some, None, Bool}
 use Rattle.block_device.specs.Counts.{HasRisen}
 use Rattle.block_device.specs.DiskSeen.{DiskSeen}
 use Rattle.vm_types.specs.declared.call.Call.{Call}
@@ -7,11 +7,10 @@ use Rattle.vm_types.specs.declared.call.Entry.{Entry}
 use Rattle.vm_types.specs.declared.call.Reply.TheVariants.{Io}
 use Rattle.page_hash.specs.declared.PageName.{PageName}
 use Rattle.page_store.specs.Bays.{home, bay_at}
-use Rattle.flat_model.specs.Counted.{top_count}
 use Rattle.vm_world.specs.EntryLaws.{LocksAfter, StartsAfter}
 use Rattle.vm_world.specs.Events.{IsEvent}
 use Rattle.vm_world.specs.State.{KernelState, Sent, seat_of}
-use Rattle.vm_world.specs.StateSteps.{after_step, PendsTails}
+use Rattle.vm_world.specs.StateSteps.{after_step, PendsTails, CountsOn}
 use Rattle.vm_world.specs.World.{World}
 use Rattle.vm_world.specs.WorldSteps.{returns, WorldStep}
 
@@ -29,7 +28,7 @@ pub record FailureRule : Type 0 where
   pub fails : (s : KernelState) (new : World) (cut : PageName → Bool) (pending seat p : ℕ) (call : Call) (sent : Sent) (d : DiskSeen) (calls syncs : List (Option ℕ))
       → WorldStep s.memory.world new s.memory.spaces (returns seat sent.note) cut → PendsTails s.memory.world cut s.pending pending
       → sent.of ≡ Some (p, call) → seat_of p ≡ seat
-      → bay_at new.store.bays sent.note.number ≡ home d → sent.note.disk.faults ≤ d.faults → HasRisen sent.note.disk.faults d.faults → d.faults ≤ top_count
+      → bay_at new.store.bays sent.note.number ≡ home d → CountsOn sent.note.disk d → HasRisen sent.note.disk.faults d.faults
       → LocksAfter (io_entry p call sent.note.number sent.note.disk.faults d.faults pending) s.calls calls
       → StartsAfter (io_entry p call sent.note.number sent.note.disk.faults d.faults pending) s.syncs syncs → length syncs ≡ length s.syncs
       → IsEvent seat s (Some sent) (with_entry_made (after_step s new pending) (io_entry p call sent.note.number sent.note.disk.faults d.faults pending) calls syncs) None

@@ -8,8 +8,8 @@ use Rattle.vm_types.specs.declared.call.Call.{Call}
 use Rattle.vm_types.specs.declared.call.Call.TheVariants.{Fork, Exit}
 use Rattle.vm_types.specs.declared.call.Entry.{Entry}
 use Rattle.vm_types.specs.declared.call.Reply.TheVariants.{Io}
-use Rattle.page_store.specs.Bays.{BaySeen, missing, home, out, bay_at}
-use Rattle.page_store.specs.Notes.{Note, Notes}
+use Rattle.page_store.specs.Bays.{BaySeen, bay_at}
+use Rattle.page_store.specs.Notes.{Notes}
 use Rattle.flat_model.specs.Flat.{Flat, IsFlat}
 use Rattle.flat_model.specs.Step.{bit, tails_cleared}
 use Rattle.flat_model.specs.History.{replay, Legal, IsStart}
@@ -17,6 +17,7 @@ use Rattle.flat_model.specs.Births.{is_birth}
 use Rattle.flat_model.specs.Counted.{Counted, top_count}
 use Rattle.flat_model.specs.OpenLaws.{last_entry, IsOpenPart, EndsCalls}
 use Rattle.flat_model.specs.Told.{entries_of}
+use Rattle.vm_world.specs.DiskPlaces.{HasCounted, faults_in}
 use Rattle.vm_world.specs.Segments.{Spaces}
 use Rattle.vm_world.specs.State.{process_parent, room_of, is_top}
 
@@ -32,22 +33,12 @@ pub record HistoryFits (opening : Flat) (H : List Entry) (pending : ℕ) (now : 
   pub shows : now ≡ tails_cleared (replay opening H) (bit pending)
   pub bits : pending < 2 ^ length (replay opening H).files
 
--- The count of faults that a note has of its disk.
-abbrev pub noted_faults : Option Note → Option ℕ
-noted_faults None = None
-noted_faults (Some note) = Some note.disk.faults
-
--- A disk's count of faults, at home or in a note.
-abbrev pub faults_in : BaySeen → Notes → Option ℕ
-faults_in missing notes = None
-faults_in (home disk) notes = Some disk.faults
-faults_in (out seat) notes = noted_faults (notes seat)
-
--- The device errors name faults that were counted; no disk's count is below one that was told, nor past the end of counts.
+-- The device errors name faults that were counted, each of a disk that is there, whose count isn't below the one that was told; and no count is past the
+-- end of counts.
 pub record FaultsFit (H : List Entry) (bays : List BaySeen) (notes : Notes) : Type 0 where
   pub counted : Counted H
-  pub reached : (k : ℕ) (e : Entry) (disk before after count : ℕ) → slice_get H k ≡ Some e → e.reply ≡ Io disk before after
-      → faults_in (bay_at bays disk) notes ≡ Some count → after ≤ count
+  pub reached : (k : ℕ) (e : Entry) (disk before after : ℕ) → slice_get H k ≡ Some e → e.reply ≡ Io disk before after
+      → HasCounted bays notes disk after
   pub most : (disk count : ℕ) → faults_in (bay_at bays disk) notes ≡ Some count → count ≤ top_count
 
 -- Each process does each call to its end; a file's call is a seat's exactly where the last entry of the seat's process is a part of the file that

@@ -21,9 +21,15 @@ pub record PendsTails (old : World) (cut : PageName → Bool) (pending more : �
   pub bits : (f : ℕ) → f < length old.files.files → bit more f ≡ (bit pending f || tails_lost old cut f)
   pub below : pending < 2 ^ length old.files.files → more < 2 ^ length old.files.files
 
--- The disk that comes back counted no fewer faults than as it went, and not past the end of counts.
-abbrev pub CountsOn : Note → World → Type 0
-CountsOn note new = (d : DiskSeen) → bay_at new.store.bays note.number ≡ home d → (note.disk.faults ≤ d.faults) × (d.faults ≤ top_count)
+-- A disk that comes back has its size, and counted no fewer faults than as it went, and not past the end of counts.
+pub record CountsOn (old new : DiskSeen) : Type 0 where
+  pub size : new.size ≡ old.size
+  pub later : old.faults ≤ new.faults
+  pub most : new.faults ≤ top_count
+
+-- So does the disk that a note has, where it comes home.
+abbrev pub ComesBack : Note → World → Type 0
+ComesBack note new = (d : DiskSeen) → bay_at new.store.bays note.number ≡ home d → CountsOn note.disk d
 
 -- A step of the world is an event of any seat, where nothing leaves or comes back, also where a plan is kept then that may be answered and can run; of
 -- the seat that takes a flight out, where its plan was kept for the process and call that the flight is for; and of the seat whose flight comes back.
@@ -41,5 +47,5 @@ pub record StateRule : Type 0 where
       → s.plan ≡ Some kept → kept.seat ≡ seat → kept.of ≡ sent.of
       → IsEvent seat s None (after_step s new pending) (Some sent)
   pub ends : (s : KernelState) (new : World) (cut : PageName → Bool) (pending seat : ℕ) (sent : Sent)
-      → WorldStep s.memory.world new s.memory.spaces (returns seat sent.note) cut → PendsTails s.memory.world cut s.pending pending → CountsOn sent.note new
+      → WorldStep s.memory.world new s.memory.spaces (returns seat sent.note) cut → PendsTails s.memory.world cut s.pending pending → ComesBack sent.note new
       → IsEvent seat s (Some sent) (after_step s new pending) None
