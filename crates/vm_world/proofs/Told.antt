@@ -10,7 +10,7 @@ use Rattle.vm_types.specs.declared.call.Entry.{Entry}
 use Rattle.page_hash.specs.Names.{find}
 use Rattle.page_hash.specs.declared.PageName.{PageName}
 use Rattle.page_lock.specs.Rows.{row_at}
-use Rattle.page_store.specs.Bays.{BaySeen, out, bay_at}
+use Rattle.page_store.specs.Bays.{out, bay_at}
 use Rattle.page_store.specs.Notes.{Note}
 use Rattle.page_store.specs.Seen.{StoreSeen, residence, residence_in, residence_of}
 use Rattle.page_store.specs.declared.plan.Hold.{Hold}

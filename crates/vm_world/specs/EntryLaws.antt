@@ -1,5 +1,5 @@
 -- The history with an entry more, and tails that become zeros meanwhile. Public clauses cite this.
-use Rattle.std.specs.Prelude.{◌≡◌, ◌≢◌, ◌↔◌, ◌⊎◌, ◌<◌, ◌≤◌, ◌^◌, ◌||◌, ◌++◌, ◌==◌, ℕ, suc, Bool, List, [], ◌∷◌, Option, Some, None, length, MatchBool, IsSome, IsTrue, IsFalse, slice_index_or}
+use Rattle.std.specs.Prelude.{◌≡◌, ◌≢◌, ◌↔◌, ◌⊎◌, ◌<◌, ◌^◌, ◌||◌, ◌++◌, ◌==◌, ℕ, suc, Bool, List, [], ◌∷◌, Option, Some, None, length, MatchBool, IsSome, IsTrue, IsFalse, slice_index_or}
 use Rattle.std.specs.Ordering.{nat_cmp}
 use Rattle.std.specs.FinMap as finite
 use Rattle.std.specs.FinSet as set

@@ -1,5 +1,5 @@
 -- Laws of what a seat is told of the state. Public clauses cite this.
-use Rattle.std.specs.Prelude.{◌≡◌, ◌⊎◌, ◌<◌, ◌≤◌, ℕ, suc, List, length, Option, Some, None, IsSome, IsSomeAnd, slice_get, slice_set}
+use Rattle.std.specs.Prelude.{◌≡◌, ◌⊎◌, ◌<◌, ℕ, suc, List, length, Option, Some, None, IsSome, IsSomeAnd, slice_get, slice_set}
 use Rattle.vm_types.specs.declared.call.Call.{Call}
 use Rattle.vm_types.specs.declared.call.Entry.{Entry}
 use Rattle.vm_types.specs.declared.call.Reply.TheVariants.{Io}
