@@ -114,6 +114,7 @@ busy-segments-fit = record {
   holders = λ number. holders number ∙ sym (ap (sum_by (times_had number)) busy-segments);
   zeros = subst (λ (ss : List Segment). All (ShowsZero (zero_maps busy_spaces)) ss) (sym busy-segments) (All-cons (ShowsZero (zero_maps busy_spaces)) busy_segment [] (λ z number is. absurd (cc)) (All-nil (ShowsZero (zero_maps busy_spaces))));
   apart = λ y z number is _. absurd (let e : None ≡ Some number = sym (finite.get-empty nat_cmp y) ∙ sym (ap (λ (zs : finite.FinMap nat_cmp ℕ). finite.get zs y) busy-zeros) ∙ is in cc);
+  once = λ y number place slot is _. absurd (let e : None ≡ Some number = sym (finite.get-empty nat_cmp y) ∙ sym (ap (λ (zs : finite.FinMap nat_cmp ℕ). finite.get zs y) busy-zeros) ∙ is in cc);
   reserved = busy-reserved;
 }
   where

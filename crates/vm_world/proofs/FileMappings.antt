@@ -124,6 +124,7 @@ files-fit files anon maps old new before after fit each =
       holders = λ number. fit.holders number ∙ file-holders number old before ∙ sym (file-holders number new after);
       zeros = all-turn IsFileMapping (ShowsZero (zero_maps new)) (segments_of new) (λ s file z number is. absurd (let k : None ≡ Some (z, number) = sym (no-zero s file) ∙ is in cc)) (all-files new after);
       apart = λ y z number is _. absurd (let k : None ≡ Some number = sym (finite.get-empty nat_cmp y) ∙ ap (λ (zs : finite.FinMap nat_cmp ℕ). finite.get zs y) (sym none) ∙ is in cc);
+      once = λ y number place slot is _. absurd (let k : None ≡ Some number = sym (finite.get-empty nat_cmp y) ∙ ap (λ (zs : finite.FinMap nat_cmp ℕ). finite.get zs y) (sym none) ∙ is in cc);
       reserved = file-reserved maps new after ∙ sym (file-reserved maps old before) ∙ fit.reserved;
     }
 

@@ -81,6 +81,7 @@ module _ (m : Memory) (parents : List ℕ) (o : IsOpeningMemory m parents) where
     holders = λ number. ap (λ (ms : List (Option Map)). holders_of ms number) o.maps ∙ no_holders number ∙ sym (ap (sum_by (times_had number)) (empty-segments m.spaces empty-spaces));
     zeros = subst (λ (ss : List Segment). All (ShowsZero (zero_maps m.spaces)) ss) (sym (empty-segments m.spaces empty-spaces)) (All-nil (ShowsZero (zero_maps m.spaces)));
     apart = λ y z number is _. absurd (let e : None ≡ Some number = sym (finite.get-empty nat_cmp y) ∙ sym (ap (λ (zs : finite.FinMap nat_cmp ℕ). finite.get zs y) (empty-zeros m.spaces empty-spaces)) ∙ is in cc);
+    once = λ y number place slot is _. absurd (let e : None ≡ Some number = sym (finite.get-empty nat_cmp y) ∙ sym (ap (λ (zs : finite.FinMap nat_cmp ℕ). finite.get zs y) (empty-zeros m.spaces empty-spaces)) ∙ is in cc);
     reserved = empty-reserved m.world.maps m.spaces empty-spaces ∙ sym (ap (λ (a : Slots). a.reserved) o.anon);
   }
     where

@@ -12,6 +12,7 @@ use Rattle.anon_slots.specs.Slots.{Slots, IsSoundAnonSlots, count_at}
 use Rattle.anon_map.specs.Maps.{Map, IsMapThere, places_of, holders_of}
 use Rattle.vm_world.specs.Segments.{Segment, Spaces, segments_of, zero_map}
 use Rattle.vm_world.specs.FlatMemory.{zero_maps}
+use Rattle.vm_world.specs.World.{slot_in}
 
 -- The value is this number.
 abbrev pub is_number : ℕ → Option ℕ → Bool
@@ -71,11 +72,12 @@ abbrev pub ShowsZero : finite.FinMap nat_cmp ℕ → Segment → Type 0
 ShowsZero zeros s = (z number : ℕ) → zero_map s ≡ Some (z, number) → finite.get zeros z ≡ Some number
 
 -- The parts of each space lie in order, and each segment fits; a map has a holder for each time that a segment has it; a zero object has one map, and
--- a map at most one zero object; and what is reserved is what the segments reserve.
+-- a map at most one zero object; no other place holds a slot that a zero object's map holds; and what is reserved is what the segments reserve.
 pub record SegmentsFit (files : ℕ) (anon : Slots) (maps : List (Option Map)) (spaces : Spaces) : Type 0 where
   pub ordered : (p : ℕ) (parts : List (Part Segment)) → finite.get spaces p ≡ Some parts → IsInOrder 1 parts
   pub each : (p : ℕ) (parts : List (Part Segment)) → finite.get spaces p ≡ Some parts → All (SegmentFits files maps) parts
   pub holders : (number : ℕ) → holders_of maps number ≡ sum_by (times_had number) (segments_of spaces)
   pub zeros : All (ShowsZero (zero_maps spaces)) (segments_of spaces)
   pub apart : (y z number : ℕ) → finite.get (zero_maps spaces) y ≡ Some number → finite.get (zero_maps spaces) z ≡ Some number → y ≡ z
+  pub once : (z number place slot : ℕ) → finite.get (zero_maps spaces) z ≡ Some number → slot_in maps number place ≡ Some slot → count_at anon slot ≡ 1
   pub reserved : reserved_pages maps spaces ≡ anon.reserved
