@@ -162,6 +162,15 @@ used-le (suc x ∷ cs) =
     at_most_one true = omega arith
     at_most_one false = omega arith
 
+-- No more slots are in use than there are places.
+pub used-within : (anon : Slots) (maps : List (Option Map)) → ((slot : ℕ) → count_at anon slot ≡ times_held maps slot) → slots_in_use anon ≤ sum_by (λ m. length (places_in m)) maps
+used-within anon maps counts =
+    let used = used-le anon.counts in
+    let held = sums-same (count_at anon) (times_held maps) (length anon.counts) counts in
+    let places = sums-maps maps (length anon.counts) in
+    let most = maps-le maps in
+    omega (arith, used, held, places, most)
+
 -- ROOM. While a place is empty, fewer slots are in use than are reserved.
 pub room : (anon : Slots) (maps : List (Option Map)) (m i : ℕ) → CountsFit anon maps → i < length (places_of maps m) → slot_in maps m i ≡ None → slots_in_use anon < anon.reserved
 room anon maps m i fit lt empty =

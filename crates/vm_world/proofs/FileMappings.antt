@@ -52,11 +52,11 @@ pub all-map : {X Y : Type 0} (P : X → Type 0) (Q : Y → Type 0) (f : X → Y)
 all-map P Q f [] turn each = All-nil Q
 all-map P Q f (x ∷ xs) turn each = All-cons Q (f x) (map f xs) (turn x (All-head P x xs each)) (all-map P Q f xs turn (All-tail P x xs each))
 
-all-append : {X : Type 0} (P : X → Type 0) (xs ys : List X) → All P xs → All P ys → All P (xs ++ ys)
+pub all-append : {X : Type 0} (P : X → Type 0) (xs ys : List X) → All P xs → All P ys → All P (xs ++ ys)
 all-append P [] ys a b = b
 all-append P (x ∷ xs) ys a b = All-cons P x (xs ++ ys) (All-head P x xs a) (all-append P xs ys (All-tail P x xs a) b)
 
-all-flat_map : {X Y : Type 0} (P : X → Type 0) (Q : Y → Type 0) (f : X → List Y) (xs : List X) → ((x : X) → P x → All Q (f x)) → All P xs → All Q (flat_map f xs)
+pub all-flat_map : {X Y : Type 0} (P : X → Type 0) (Q : Y → Type 0) (f : X → List Y) (xs : List X) → ((x : X) → P x → All Q (f x)) → All P xs → All Q (flat_map f xs)
 all-flat_map P Q f [] turn each = All-nil Q
 all-flat_map P Q f (x ∷ xs) turn each = all-append Q (f x) (flat_map f xs) (turn x (All-head P x xs each)) (all-flat_map P Q f xs turn (All-tail P x xs each))
 

@@ -27,3 +27,16 @@ pub mod Reserves
 pub mod Servings
 pub mod SeatRules
 pub mod LieAlike
+pub mod SegmentSteps
+pub mod PartSums
+pub mod MapChanges
+pub mod ShownZeros
+pub mod KeptMaps
+pub mod SegmentChange
+pub mod SweptFlat
+pub mod GoneParts
+pub mod NewParts
+pub mod ComingParts
+pub mod CutParts
+pub mod LeftProcesses
+pub mod SegmentCells

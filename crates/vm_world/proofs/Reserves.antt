@@ -104,10 +104,10 @@ module _ (held : ℕ → ℕ → Option Page) where
   private-parts ps order = total-map_with slots_for (cell_of held) (pages_of ps) ∙ total-parts 1 ps order
 
 -- ZERO OBJECTS: each that a segment shows is named by the cell of its first page
-abbrev zeros_of : List (Part Segment) → List (ℕ × ℕ)
+abbrev pub zeros_of : List (Part Segment) → List (ℕ × ℕ)
 zeros_of parts = filter_map (λ (p : Part Segment). zero_map p.piece) parts
 
-found-either : (z n : ℕ) (es fs : List (ℕ × ℕ)) → finite.find nat_cmp z (es ++ fs) ≡ Some n → (finite.find nat_cmp z es ≡ Some n) ⊎ (finite.find nat_cmp z fs ≡ Some n)
+pub found-either : (z n : ℕ) (es fs : List (ℕ × ℕ)) → finite.find nat_cmp z (es ++ fs) ≡ Some n → (finite.find nat_cmp z es ≡ Some n) ⊎ (finite.find nat_cmp z fs ≡ Some n)
 found-either z n [] fs is = inr is
 found-either z n (e ∷ es) fs is = by_key (found-either z n es fs) (is_eq (nat_cmp z e.0)) is
   where
@@ -136,7 +136,7 @@ record IsZeroPart (z low : ℕ) (parts : List (Part Segment)) : Type 0 where
   here : at parts part.first ≡ Some (part.piece, 0)
   shows : part.piece.object ≡ object.Zero z
 
-zero-object : (o : Object) (shown : Option ℕ) (y n : ℕ) → (elim o as (λ x. Option (ℕ × ℕ)) [ object.Zero x ↦ option_map (λ (number : ℕ). (x, number)) shown | object.File f ↦ None | object.NewZero ↦ None ]) ≡ Some (y, n) → o ≡ object.Zero y
+pub zero-object : (o : Object) (shown : Option ℕ) (y n : ℕ) → (elim o as (λ x. Option (ℕ × ℕ)) [ object.Zero x ↦ option_map (λ (number : ℕ). (x, number)) shown | object.File f ↦ None | object.NewZero ↦ None ]) ≡ Some (y, n) → o ≡ object.Zero y
 zero-object (object.Zero x) (Some m) y n is = ap (λ (e : ℕ × ℕ). object.Zero e.0) (some-inj (x, m) (y, n) is)
 zero-object (object.Zero x) None y n is = absurd (cc)
 zero-object (object.File f) shown y n is = absurd (cc)

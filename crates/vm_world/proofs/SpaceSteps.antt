@@ -1,56 +1,48 @@
 -- Changes of one process's segments.
 use Rattle.std.proofs.Common.{◌≡◌, ◌≢◌, ℕ, zero, suc, ◌+◌, ◌-◌, ◌<◌, ◌≤◌, Bool, true, false, cond, List, [], ◌∷◌, length, map, Option, Some, None, refl, sym, ap, ◌∙◌, inl, inr, subst, arith}
-use Rattle.std.specs.Prelude.{◌↔◌, option_map, option_and_then, find, is_some, All, IsSome, IsTrue, slice_index_or, sum_by, unwrap_or, nat_le, nat_lt, ◌&&◌, ◌||◌}
+use Rattle.std.specs.Prelude.{option_map, option_and_then, find, is_some, All, IsSome, IsTrue, slice_index_or, sum_by, unwrap_or, ◌||◌}
 use Rattle.std.specs.Option.{option_or}
 use Rattle.std.specs.Ordering.{nat_cmp}
 use Rattle.std.specs.Cmp.{nat_cmp_total}
 use Rattle.std.specs.FinMap as finite
 use Rattle.std.specs.FinSet as set
-use Rattle.std.proofs.lemmas.Bool.{cases_Bool, cases_eq, cases_lt, eq-eqb}
+use Rattle.std.proofs.lemmas.Bool.{cases_Bool, cases_eq, eq-eqb}
 use Rattle.vm_types.specs.declared.call.Kind.{Kind}
 use Rattle.vm_types.specs.declared.call.Kind.TheVariants.{Shared, Private}
 use Rattle.vm_types.specs.declared.call.Object.{Object}
-use Rattle.vm_types.specs.declared.call.Object.TheVariants as object
-use Rattle.vm_types.specs.Prot.{can_read, can_write, is_within}
-use Rattle.addr_space.specs.Space.{Part, part, at, has, part_at, begins, put, cut_at, without, with_piece, upper_of, page_total, IsInOrder, IsPlaced}
+use Rattle.vm_types.specs.Prot.{can_read, can_write}
+use Rattle.addr_space.specs.Space.{Part, part, at, has, part_at, begins, put, without, with_piece, upper_of, IsInOrder, IsPlaced}
 use Rattle.addr_space.proofs.PartLemmas.{has-in, has-within, found-in, at-put, ordered-put, at-without, ordered-without, ordered-cut}
-use Rattle.addr_space.proofs.PageLaws.{shows, ordered-written}
-use Rattle.addr_space.proofs.PartLists.{all-put, all-without, all-found, all-begins, all-cut, begins-first, found-with_piece, at-cut_both, at-found}
+use Rattle.addr_space.proofs.PageLaws.{ordered-written}
+use Rattle.addr_space.proofs.PartLists.{all-put, all-without, all-found, all-cut, begins-first, found-with_piece, at-cut_both, at-found}
 use Rattle.anon_map.specs.Maps.{Map}
 use Rattle.anon_slots.specs.Slots.{Slots}
 use Rattle.hat_layer.specs.Pool as pool
 use Rattle.hat_layer.specs.declared.translation.Translation.{Translation}
-use Rattle.page_hash.specs.declared.PageName.{PageName}
-use Rattle.page_store.specs.Bays.{BaySeen}
 use Rattle.page_store.specs.Notes.{Notes}
 use Rattle.page_store.specs.Seen.{StoreSeen}
-use Rattle.vnode_files.specs.declared.vnode.FileInfo.{FileInfo}
-use Rattle.vnode_files.specs.Vnode.{VnodeSeen}
 use Rattle.flat_model.specs.Access.{with_space}
-use Rattle.flat_model.specs.Flat.{Cell, Space, Flat, IsCell, IsFlat, space_of, slots_for, private_cells, named_in, is_named, without_unnamed, reserved}
+use Rattle.flat_model.specs.Flat.{Cell, Space, Flat, IsCell, IsFlat, space_of, slots_for, private_cells, is_named, without_unnamed, reserved}
 use Rattle.flat_model.specs.Mapping.{cells_of}
 use Rattle.flat_model.specs.Processes.{without_process}
 use Rattle.flat_model.specs.Space.{in_range, without_range, with_cells}
-use Rattle.flat_model.specs.Step.{tails_cleared}
 use Rattle.flat_model.specs.Words.{Page}
 use Rattle.flat_model.proofs.ClearedTails.{cleared_tails_law}
 use Rattle.flat_model.proofs.Ranges.{same_space, get-insert_here, get-insert_apart, get-remove_here, get-remove_apart, get-retain_keys, get-with_cells, get-without_range, insert_same}
 use Rattle.flat_model.proofs.Reserve.{put_back}
 use Rattle.vm_world.proofs.FlatSpaces.{Standing, flat-with_space, flat-without_process}
-use Rattle.vm_world.specs.CallSteps.{KeepsMachine, ChangesMemory}
-use Rattle.vm_world.specs.CountsFit.{ObjectFits, OwnFits, SegmentFits, SegmentsFit}
-use Rattle.vm_world.specs.FlatMemory.{Memory, flat_memory, map_with, space_with, zero_maps, zero_pages, shape_of}
+use Rattle.vm_world.specs.CallSteps.{KeepsMachine}
+use Rattle.vm_world.specs.CountsFit.{ObjectFits, OwnFits, SegmentFits}
+use Rattle.vm_world.specs.FlatMemory.{Memory, flat_memory, map_with, space_with, zero_pages, shape_of}
 use Rattle.vm_world.specs.MemoryFits.{MemoryFits}
-use Rattle.vm_world.specs.NotesFit.{NotesFit}
 use Rattle.vm_world.specs.Pages.{contents_of}
-use Rattle.vm_world.specs.Segments.{Segment, Spot, Spaces, spot_at, object_name, shown_name, own_slot}
+use Rattle.vm_world.specs.Segments.{Segment, Spot, Spaces, spot_at, object_name, shown_name}
 use Rattle.vm_world.specs.SpaceSteps.{IsFileMapping, OnlyFiles, file_cell, file_space, first_pages, later_pages, cut_before, AreUnloaded, with_space_parts, without_space, Becomes, ChangesSpace, SpaceRule}
-use Rattle.vm_world.specs.State.{mode_of}
-use Rattle.vm_world.specs.TranslationsFit.{TranslationFits, TranslationsFit, MayWriteInPlace}
-use Rattle.vm_world.specs.World.{World, slot_name, slot_in, AllTell}
+use Rattle.vm_world.specs.TranslationsFit.{TranslationFits, MayWriteInPlace}
+use Rattle.vm_world.specs.World.{World, slot_name, slot_in}
 use Rattle.vm_world.specs.WorldSteps.{stays, WorldStep}
 use Rattle.vm_world.proofs.Callers.{same-modes}
-use Rattle.vm_world.proofs.FileMappings.{files-fit, file-zeros, space-files, get-file_space, len-file_space, all-values, all-turn, sum-zero}
+use Rattle.vm_world.proofs.FileMappings.{files-fit, file-zeros, space-files, get-file_space, len-file_space, all-values, sum-zero}
 use Rattle.vm_world.proofs.FrameRule.{frame_law}
 use Rattle.vm_world.proofs.Maps.{get-map_with}
 use Rattle.vm_world.proofs.Spaces.{entries-empty}
@@ -140,7 +132,7 @@ map-insert f m k v = finite.same_map nat_cmp_total finite.nat_cmp-IsAntisymmetri
   | inr ne ↦ ap (option_map f) (get-insert_apart m k v q ne) ∙ sym (get-map_with f m q) ∙ sym (get-insert_apart (map_with f m) k (f v) q ne)
 ])
 
-map-remove : {X Y : Type 0} (f : X → Y) (m : finite.FinMap nat_cmp X) (k : ℕ) → map_with f (finite.remove m k) ≡ finite.remove (map_with f m) k
+pub map-remove : {X Y : Type 0} (f : X → Y) (m : finite.FinMap nat_cmp X) (k : ℕ) → map_with f (finite.remove m k) ≡ finite.remove (map_with f m) k
 map-remove f m k = finite.same_map nat_cmp_total finite.nat_cmp-IsAntisymmetric _ _ (λ q. get-map_with f (finite.remove m k) q ∙ elim (cases_eq q k) [
   | inl e ↦ ap (λ (j : ℕ). option_map f (finite.get (finite.remove m k) j)) e ∙ ap (option_map f) (get-remove_here m k) ∙ sym (get-remove_here (map_with f m) k) ∙ ap (finite.get (finite.remove (map_with f m) k)) (sym e)
   | inr ne ↦ ap (option_map f) (get-remove_apart m k q ne) ∙ sym (get-map_with f m q) ∙ sym (get-remove_apart (map_with f m) k q ne)
@@ -536,7 +528,7 @@ rule-keeps p old new spaces fits only step = record {
 }
 
 -- ONE CHANGE AFTER ANOTHER.
-machine-then : (u v w : World) → KeepsMachine u v → KeepsMachine v w → KeepsMachine u w
+pub machine-then : (u v w : World) → KeepsMachine u v → KeepsMachine v w → KeepsMachine u w
 machine-then u v w a b = record { core = b.core ∙ a.core; frames = b.frames ∙ a.frames; slots = b.slots ∙ a.slots; disks = b.disks ∙ a.disks; modes = b.modes ∙ a.modes; bays = b.bays ∙ a.bays }
 
 pub rule-joined : (p : ℕ) (u v w : Memory) (first second : Flat → Flat) → ChangesSpace p u v first → ChangesSpace p v w second → ChangesSpace p u w (λ F. second (first F))

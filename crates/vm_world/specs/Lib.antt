@@ -27,3 +27,5 @@ pub mod ServingLaws
 pub mod EventLaws
 pub mod SeatLaws
 pub mod SpaceSteps
+pub mod MapSteps
+pub mod SegmentSteps

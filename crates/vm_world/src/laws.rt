@@ -8,6 +8,7 @@ ghost use Rattle.vm_world.specs.Laws.{FrameRule, CountsLaw, ReservedLaw};
 ghost use Rattle.vm_world.specs.Opening.{OpeningLaw};
 ghost use Rattle.vm_world.specs.SeatLaws.{SeatLaw};
 ghost use Rattle.vm_world.specs.ServingLaws.{ServingLaw};
+ghost use Rattle.vm_world.specs.SegmentSteps.{SegmentRule, SegmentCells};
 ghost use Rattle.vm_world.specs.SpaceSteps.{SpaceRule};
 ghost use Rattle.vm_world.specs.StateSteps.{StateRule};
 
@@ -76,6 +77,18 @@ pub fn event_law()
 #[tactic(auto, using(crate::proofs::SpaceSteps::space_rule))]
 pub fn space_law()
     ensures { SpaceRule }
+{}
+
+/// What a change of the segments of one process does.
+#[tactic(auto, using(crate::proofs::SegmentSteps::segment_rule))]
+pub fn segment_law()
+    ensures { SegmentRule }
+{}
+
+/// The cells of a process, the zero objects and what is reserved, told by the segments.
+#[tactic(auto, using(crate::proofs::SegmentCells::segment_cells))]
+pub fn segment_cells_law()
+    ensures { SegmentCells }
 {}
 
 /// A call that is served is an event: where it is done, where it needs a transfer, and where it has to wait.
