@@ -5,14 +5,13 @@ use Rattle.std.proofs.lemmas.Bool.Decides.{eqb_tells}
 use Rattle.core_arena.specs.Bytes.{spliced}
 use Rattle.page_hash.specs.Names.{name_at, find}
 use Rattle.page_hash.specs.declared.PageName.{PageName}
-use Rattle.page_lists.specs.ListsSeen.{Has}
 use Rattle.page_lock.specs.Rows.{row_at}
 use Rattle.page_lock.specs.declared.Row.{Row}
 use Rattle.page_store.specs.Laws.{Pokes}
 use Rattle.page_store.specs.Moves.{only}
 use Rattle.page_store.specs.Notes.{Notes}
 use Rattle.page_store.specs.Seen.{StoreSeen, IsListedFrame, residence}
-use Rattle.page_store.specs.Steps.{at_frame, with_piece, after_poke}
+use Rattle.page_store.specs.Steps.{with_piece}
 use Rattle.page_store.specs.Value.{value}
 use Rattle.page_store.specs.declared.residence.Residence.TheVariants.{Home}
 use Rattle.page_store.proofs.QueryLemmas.{home-is}
@@ -58,17 +57,11 @@ module _ (w : World) (spaces : Spaces) (space q frame : ℕ) (write : Bool) (f :
   pub noted-hits : Hits w spaces space q n.entry
   noted-hits = hits w spaces space q n.entry f n.there
 
-  pub noted-within : frame < length w.store.frames
-  noted-within = subst (λ (j : ℕ). j < length w.store.frames) n.leads_there noted-hits.within
+  pub noted-home : residence w.store noted-hits.name ≡ Home frame
+  noted-home = subst (λ (j : ℕ). residence w.store noted-hits.name ≡ Home j) n.leads_there noted-hits.home
 
-  noted-held : name_at w.store.names frame ≡ Some noted-hits.name
-  noted-held = subst (λ (j : ℕ). name_at w.store.names j ≡ Some noted-hits.name) n.leads_there noted-hits.held
-
-  pub noted-name : (o : Option PageName) (name : PageName) → o ≡ name_at w.store.names frame → o ≡ Some name → noted-hits.name ≡ name
-  noted-name o name e is = let both : Some noted-hits.name ≡ Some name = sym noted-held ∙ sym e ∙ is in cc
-
-  pub noted-named : (o : Option PageName) → o ≡ name_at w.store.names frame → o ≡ None → ⊥
-  noted-named o e is = let both : Some noted-hits.name ≡ None = sym noted-held ∙ sym e ∙ is in cc
+  pub noted-unlisted : ¬ IsListedFrame w.store frame
+  noted-unlisted = subst (λ (j : ℕ). ¬ IsListedFrame w.store j) n.leads_there noted-hits.unlisted
 
 fits-access : (w : World) (store : StoreSeen) (spaces : Spaces) (write : Bool) (t : Translation) → TranslationFits store w.anon w.maps spaces t → TranslationFits store w.anon w.maps spaces (after_access write t)
 fits-access w store spaces write t l = record { spot = l.spot; here = l.here; name = l.name; shows = l.shows; home = l.home; unlisted = l.unlisted; allowed = l.allowed; writable = l.writable }
@@ -98,32 +91,20 @@ read-word w spaces space a n word t h bytes is read = (
   λ notes. read ∙ ap (λ (b : List ℕ). word_at b a n) (is notes ∙ sym (value-is w notes h.name h.shows.is_page)),
 )
 
--- what a poke that marks nothing leaves as it was
-record Alike (new s : StoreSeen) : Type 0 where
-  pub core : core_of new ≡ core_of s
-  pub names : new.names ≡ s.names
-  pub rows : new.rows ≡ s.rows
-  pub free : new.free ≡ s.free
-  pub cached : new.cached ≡ s.cached
-
-alike-in : (o : Option ℕ) (s : StoreSeen) (at : ℕ) (from : List ℕ) → Alike (at_frame o s (λ frame. with_piece s frame at from false)) s
-alike-in None s at from = record { core = refl; names = refl; rows = refl; free = refl; cached = refl }
-alike-in (Some frame) s at from = record { core = refl; names = refl; rows = refl; free = refl; cached = refl }
-
 -- A WORD IS PUT: the access was noted first, so that the page is modified when its bytes change.
 pub write-word : (w : World) (spaces : Spaces) (new : StoreSeen) (space a n v : ℕ) (t : Translation) (h : Hits w spaces space (page a) t) → MemoryFits (memory_of w spaces) → HasWritten w.hat.places t.frame
-    → new ≡ after_poke w.store h.name (a % 4096) (word_bytes n v) false → Pokes w.store new h.name (a % 4096) (word_bytes n v)
+    → new ≡ with_piece w.store t.frame (a % 4096) (word_bytes n v) false → Pokes w.store new h.name (a % 4096) (word_bytes n v)
     → WritesWord w (with_tables w new w.hat) spaces space a n v
 write-word w spaces new space a n v t h f wrote step laws =
-    let alike : Alike new w.store = subst (λ (x : StoreSeen). Alike x w.store) (sym step) (alike-in (find w.store.names h.name) w.store (a % 4096) (word_bytes n v)) in
-    let row : (k : ℕ) → row_at new.rows k ≡ row_at w.store.rows k = λ k. ap (λ (rows : List Row). row_at rows k) alike.rows in
-    let listed : (k : ℕ) → IsListedFrame new k → IsListedFrame w.store k = λ k l. elim l [ inl x ↦ inl (subst (λ (xs : List ℕ). Has xs k) alike.free x) | inr x ↦ inr (subst (λ (xs : List ℕ). Has xs k) alike.cached x) ] in
+    let row : (k : ℕ) → row_at new.rows k ≡ row_at w.store.rows k = λ k. ap (λ (x : StoreSeen). row_at x.rows k) step in
+    let listed : (k : ℕ) → IsListedFrame new k → IsListedFrame w.store k = λ k l. subst (λ (x : StoreSeen). IsListedFrame x k) step l in
+    let core : core_of new ≡ core_of w.store = ap core_of step in
     let found : find w.store.names h.name ≡ Some t.frame = (home-is w.store h.name t.frame h.home).found in
     let k : KeepsFrames w.store new w.hat.places w.hat.places = record {
       sound = laws.sound;
-      core = alike.core;
+      core = core;
       frames = laws.touches.frames;
-      names = alike.names;
+      names = ap (λ (x : StoreSeen). x.names) step;
       bays = laws.outside.bays;
       rows = λ j. same-row (row_at w.store.rows j) (row_at new.rows j) (row j);
       unmodified = λ j l. ap (λ (r : Row). r.modified) (row j) ∙ f.frames.unmodified j (listed j l);
@@ -140,7 +121,7 @@ write-word w spaces new space a n v t h f wrote step laws =
       h.shows,
       record {
         tables = record { maps = refl; counts = refl; reserved = refl; disks = refl; infos = refl };
-        core = alike.core;
+        core = core;
         frames = laws.touches.frames;
         bays = laws.outside.bays;
         memory = memory-kept w spaces new w.hat f k refl f.pool.single translations;

@@ -45,10 +45,7 @@ pub fn read<D: Disk>(world: &World<D>, frame: u32, addr: u32, size: u32) -> u32
         → IsNoted world.now.hat.places space (page addr) frame false
         → ReadsWord (world_seen world.now) spaces space addr size result }
 {
-    let Some(name) = world.store.name_of(frame) else {
-        unreachable!();
-    };
-    word_in(world.store.bytes(name), addr, size)
+    word_in(world.store.frame_bytes(frame), addr, size)
 }
 
 /// Puts a word at an address of a store that was noted, into the frame that the store goes to: so the page is modified
@@ -68,9 +65,8 @@ pub fn write<D: Disk>(world: &mut World<D>, frame: u32, addr: u32, size: u32, va
     ensures rest { world.new ≡ record world.old { store = world.new.store } }
     ensures stay { SameResidence world.old.store world.new.store }
 {
-    let Some(name) = world.store.name_of(frame) else {
-        unreachable!();
-    };
     let word = word_bytes(size, value);
-    world.store.poke(name, addr % 4096, word.bytes(), false);
+    world
+        .store
+        .poke_frame(frame, addr % 4096, word.bytes(), false);
 }
