@@ -18,7 +18,7 @@ ghost use Rattle.vm_core.specs.Calls.{IsServed, TakesMemory, AnswersCall, IsOwnR
 ghost use Rattle.vm_core.specs.Fits.{FitsAt};
 ghost use Rattle.seg_vn.specs.Serves.{Serves};
 
-use crate::kept::Kept;
+use crate::kept::{Kept, forget};
 use crate::state::VmState;
 use block_device::Disk;
 use seg_vn::Attempt;
@@ -56,13 +56,13 @@ impl<D: Disk> VmState<D> {
         ensures seated { (reply : Reply) → attempt.now ≡ Done reply
             → process ≤ length self.old.syncs }
     {
-        self.plan = None;
-        match *attempt {
-            Attempt::Done(reply) => self.add(process, call, &reply),
+        forget(&mut self.plan);
+        match attempt {
+            Attempt::Done(reply) => self.add(process, call, reply),
             Attempt::Need(plan) => {
                 self.plan = Some(Kept {
                     seat,
-                    plan,
+                    plan: *plan,
                     of: Some((process, *call)),
                 });
             }

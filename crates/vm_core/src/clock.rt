@@ -12,7 +12,7 @@ ghost use Rattle.vm_core.specs.Clock.{ClockMoves, GathersUse, FrontClears, BackL
 ghost use Rattle.vm_core.specs.State.{kept_seen};
 ghost use Rattle.vm_core.specs.Fits.{FitsAt};
 
-use crate::kept::Kept;
+use crate::kept::{Kept, forget};
 use crate::state::VmState;
 use block_device::Disk;
 use page_store::{Pick, Plan};
@@ -121,17 +121,19 @@ fn turn_hand<D: Disk>(world: &mut World<D>) -> Option<Plan>
     }
 }
 
-/// The plan as it is kept for the clock.
-fn keep(seat: u32, plan: Option<Plan>) -> Option<Kept>
-    ensures { option_map kept_seen result ≡ option_map (kept_of_clock seat) plan }
+/// The plan is kept for the clock, where there is one.
+fn keep(kept: &mut Option<Kept>, seat: u32, plan: Option<Plan>)
+    ensures { option_map kept_seen kept.new ≡ option_map (kept_of_clock seat) plan }
 {
     match plan {
-        Some(plan) => Some(Kept {
-            seat,
-            plan,
-            of: None,
-        }),
-        None => None,
+        Some(plan) => {
+            *kept = Some(Kept {
+                seat,
+                plan,
+                of: None,
+            });
+        }
+        None => forget(kept),
     }
 }
 
@@ -149,7 +151,7 @@ impl<D: Disk> VmState<D> {
             (option_map (kept_of_clock seat) result) }
     {
         let plan = turn_hand(&mut self.world);
-        self.plan = keep(seat, plan);
+        keep(&mut self.plan, seat, plan);
         plan
     }
 }

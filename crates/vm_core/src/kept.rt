@@ -1,4 +1,6 @@
 //! The last plan that an event answered.
+ghost use Rattle.std.specs.Prelude.{◌≡◌, None};
+
 use page_store::Plan;
 use vm_types::Call;
 
@@ -9,4 +11,13 @@ pub struct Kept {
     pub seat: u32,
     pub plan: Plan,
     pub of: Option<(u32, Call)>,
+}
+
+/// No plan is kept. Where none was, nothing is written: each hit comes here, and a plan has room for a whole call.
+pub(crate) fn forget(plan: &mut Option<Kept>)
+    ensures { plan.new ≡ None }
+{
+    if plan.is_some() {
+        *plan = None;
+    }
 }

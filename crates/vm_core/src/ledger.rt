@@ -1,5 +1,5 @@
 //! The history, which has room for all entries that the processes may make.
-ghost use Rattle.std.specs.Prelude.{◌≡◌, ◌+◌, ◌<◌, ◌≤◌, ◌++◌, ◌∷◌, ◌^◌, [], length, sum_by, IfOk};
+ghost use Rattle.std.specs.Prelude.{◌≡◌, ◌+◌, ◌<◌, ◌≤◌, ◌++◌, ◌∷◌, ◌^◌, [], length, sum_by, vec_len, vec_capacity, IfOk};
 ghost use Rattle.flat_model.specs.Told.{entries_of};
 ghost use Rattle.vm_world.specs.State.{room_of};
 
@@ -37,6 +37,37 @@ fn total(entries: &[u32]) -> usize
         sum += *most as usize;
     }
     sum
+}
+
+// Appends an entry where there is room for it. That of a word which was loaded, the most frequent, is made of its parts: a copy of
+// a call or a reply moves the 64 bytes of a file that it may hold, too.
+fn append(history: &mut Vec<Entry>, process: u32, call: &Call, reply: &Reply, cleared: u64)
+    requires { vec_len history.old < vec_capacity history.old }
+    ensures items { history.new.items ≡ history.old.items ++ record {
+      process = process;
+      call = call.now;
+      reply = reply.now;
+      cleared = cleared;
+    } ∷ [] }
+    ensures capacity { vec_capacity history.new ≡ vec_capacity history.old }
+{
+    if let Call::Load { addr, size } = *call {
+        if let Reply::Word(word) = *reply {
+            history.push_reserved(Entry {
+                process,
+                call: Call::Load { addr, size },
+                reply: Reply::Word(word),
+                cleared,
+            });
+            return;
+        }
+    }
+    history.push_reserved(Entry {
+        process,
+        call: *call,
+        reply: *reply,
+        cleared,
+    });
 }
 
 impl Ledger {
@@ -77,12 +108,7 @@ impl Ledger {
         ensures entries { self.new.entries ≡ self.old.entries }
     {
         self.left[process as usize - 1] -= 1;
-        self.history.push_reserved(Entry {
-            process,
-            call: *call,
-            reply: *reply,
-            cleared,
-        });
+        append(&mut self.history, process, call, reply, cleared);
     }
 
     /// The entries.
