@@ -39,7 +39,7 @@ use Rattle.vm_world.specs.NotesFit.{NotesFit}
 use Rattle.vm_world.specs.Segments.{Spaces}
 use Rattle.vm_world.specs.State.{KernelState, Seats, Sent, Caller, notes_of, seat_of, room_of}
 use Rattle.vm_world.specs.StateFits.{StateFits, CallerFits}
-use Rattle.vm_world.specs.StateSteps.{after_step, PendsTails, CountsOn}
+use Rattle.vm_world.specs.StateSteps.{after_step, PendsTails, CountsOn, ComesBack}
 use Rattle.vm_world.specs.World.{World, world_table}
 use Rattle.vm_world.specs.WorldSteps.{WorldStep, returns}
 use Rattle.vm_world.proofs.Failures.{failure_rule}
@@ -222,19 +222,22 @@ module _ (s : KernelState) (new : World) (seat : ℕ) (f : FlightSeen)
   back : (sent : Sent) → IsPerformed sent.note f → bay_at new.store.bays sent.note.number ≡ home f.disk
   back sent p = ap (bay_at new.store.bays) (sym p.number) ∙ disk
 
-  counts : (sent : Sent) → IsPerformed sent.note f → CountsOn sent.note new
-  counts sent p d at = let same = same-home d (sym (back sent p) ∙ at) in
-      (subst (λ (x : DiskSeen). sent.note.disk.faults ≤ x.faults) same p.later, subst (λ (x : DiskSeen). x.faults ≤ top_count) same top)
+  on : (sent : Sent) → IsPerformed sent.note f → CountsOn sent.note.disk f.disk
+  on sent p = record { size = p.size; later = p.later; most = top }
+
+  comes : (sent : Sent) → IsPerformed sent.note f → ComesBack sent.note new
+  comes sent p d at = subst (λ (x : DiskSeen). CountsOn sent.note.disk x) (same-home d (sym (back sent p) ∙ at)) (on sent p)
 
   -- without an entry
   quiet-at : (opening : Flat) (seats : Seats) (sent : Sent) → StateFits opening s seats → seats seat ≡ Some sent → IsPerformed sent.note f → IsEvent seat s (Some sent) (after_step s new s.pending) None
-  quiet-at opening seats sent fit is p = state_rule.ends s new (λ name. false) s.pending seat sent (world-step opening seats sent fit is p) pends (counts sent p)
+  quiet-at opening seats sent fit is p = state_rule.ends s new (λ name. false) s.pending seat sent (world-step opening seats sent fit is p) pends (comes sent p)
 
   pub quiet-end : (opening : Flat) (seats : Seats) (mine : Sent) → StateFits opening s seats → seats seat ≡ Some mine → IsPerformed mine.note f
       → (sent : Sent) → IsPerformed sent.note f → IsEvent seat s (Some sent) (after_step s new s.pending) None
   quiet-end opening seats own fit is p sent q = record {
     fits = λ o x here fits. (quiet-at o x sent fits here q).fits o x here fits;
     fixed = (quiet-at opening seats own fit is p).fixed;
+    sizes = λ o x here fits. (quiet-at o x sent fits here q).sizes o x here fits;
     grown = (quiet-at opening seats own fit is p).grown;
   }
 
@@ -246,7 +249,7 @@ module _ (s : KernelState) (new : World) (seat : ℕ) (f : FlightSeen)
       let same : io_entry q call f.number f.before f.disk.faults s.pending ≡ io_entry q call sent.note.number sent.note.disk.faults f.disk.faults s.pending =
       ap (λ (k : ℕ). io_entry q call k f.before f.disk.faults s.pending) p.number ∙ ap (λ (k : ℕ). io_entry q call sent.note.number k f.disk.faults s.pending) p.before in
       subst (λ (e : Entry). IsEvent seat s (Some sent) (with_entry_made (after_step s new s.pending) e calls syncs) None) (sym same)
-      (failure_rule.fails s new (λ name. false) s.pending seat q call sent f.disk calls syncs (world-step opening seats sent fit is p) pends for_call (fit.plans.sent seat sent (q, call) is for_call).own (back sent p) p.later (p.risen bad) top
+      (failure_rule.fails s new (λ name. false) s.pending seat q call sent f.disk calls syncs (world-step opening seats sent fit is p) pends for_call (fit.plans.sent seat sent (q, call) is for_call).own (back sent p) (on sent p) (p.risen bad)
       (subst (λ (e : Entry). LocksAfter e s.calls calls) same locks) (subst (λ (e : Entry). StartsAfter e s.syncs syncs) same starts) count)
 
   pub failed-end : (opening : Flat) (seats : Seats) (own : Sent) (q : ℕ) (call : Call) (calls syncs : List (Option ℕ)) → StateFits opening s seats → seats seat ≡ Some own → IsBack own f (Some (q, call)) → f.outcome ≡ failed
@@ -255,6 +258,7 @@ module _ (s : KernelState) (new : World) (seat : ℕ) (f : FlightSeen)
   failed-end opening seats own q call calls syncs fit is b bad locks starts count sent c = record {
     fits = λ o x here fits. (failed-at o x sent q call calls syncs fits here c.performed c.same bad locks starts count).fits o x here fits;
     fixed = (failed-at opening seats own q call calls syncs fit is b.performed b.same bad locks starts count).fixed;
+    sizes = λ o x here fits. (failed-at o x sent q call calls syncs fits here c.performed c.same bad locks starts count).sizes o x here fits;
     grown = (failed-at opening seats own q call calls syncs fit is b.performed b.same bad locks starts count).grown;
   }
 

@@ -4,11 +4,14 @@ use Rattle.vm_types.specs.declared.call.Call.{Call}
 use Rattle.vm_types.specs.declared.call.Entry.{Entry}
 use Rattle.vm_types.specs.declared.call.Reply.{Reply}
 use Rattle.vm_types.specs.declared.call.Reply.TheVariants.{Io}
+use Rattle.hat_layer.specs.declared.translation.Translation.{Translation}
+use Rattle.page_hash.specs.Names.{find}
 use Rattle.page_store.specs.Bays.{home, bay_at}
 use Rattle.page_store.specs.Flight.{FlightSeen, Progress, fresh, done, failed, IsPerformed, note_of}
 use Rattle.page_store.specs.Steps.{next_frame}
 use Rattle.page_store.specs.declared.plan.Plan.{Plan}
 use Rattle.page_store.specs.declared.plan.Plan.TheVariants as plan
+use Rattle.seg_ops.specs.Flights.{places_pushed}
 use Rattle.vm_world.specs.EntryLaws.{LocksAfter, StartsAfter}
 use Rattle.vm_world.specs.Failures.{io_entry}
 use Rattle.vm_world.specs.State.{KernelState, KeptPlan, Sent, Caller}
@@ -19,6 +22,12 @@ use Rattle.vm_world.specs.World.{World}
 abbrev pub CanLeave : World → Plan → Type 0
 CanLeave w (plan.Read name) = MayReadIn w name × IsSome (next_frame w.store)
 CanLeave w (plan.Push name) = IsDirtyPage w name
+
+-- The translations once a transfer began: those of a page that is pushed stay with clear bits, where a snapshot goes out, and go with its own frame, where
+-- that goes out; every other is as it was.
+abbrev pub places_begun : World → Plan → List (Option Translation)
+places_begun w (plan.Read name) = w.hat.places
+places_begun w (plan.Push name) = places_pushed (next_frame w.store) (find w.store.names name) w.hat.places
 
 -- The plan is the one that is kept, for this seat.
 pub record IsKeptFor (s : KernelState) (seat : ℕ) (p : Plan) (kept : KeptPlan) : Type 0 where

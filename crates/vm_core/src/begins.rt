@@ -15,7 +15,7 @@ ghost use Rattle.vm_world.specs.StateSteps.{PendsTails, after_step};
 ghost use Rattle.vm_world.specs.World.{world_seen, world_table};
 ghost use Rattle.vm_world.specs.WorldSteps.{WorldStep, leaves};
 ghost use Rattle.vm_core.specs.Fits.{FitsAt};
-ghost use Rattle.vm_core.specs.Flights.{CanLeave, IsKeptFor, sent_with};
+ghost use Rattle.vm_core.specs.Flights.{CanLeave, IsKeptFor, places_begun, sent_with};
 
 use crate::state::VmState;
 use block_device::Disk;
@@ -30,10 +30,11 @@ fn leave<D: Disk>(world: &mut World<D>, seat: u32, plan: Plan) -> Flight<D>
         (world_table (world_seen world.old) (page_of plan)).disk None }
     requires fits { (spaces : Spaces)
         × MemoryFits (record { world = world_seen world.old; spaces = spaces }) }
-    // The flight, and the tails that it makes pending.
+    // The flight, the tails that it makes pending, and the translations.
     ensures flight { BeginsFor (world_seen world.old) seat plan result }
     ensures pends { PendsTails (world_seen world.old) (is_name (next_name world.old.store))
         world.old.pending world.new.pending }
+    ensures places { world.new.hat.places ≡ places_begun (world_seen world.old) plan }
     // What stays.
     ensures step { (spaces : Spaces) (notes : Notes)
         → MemoryFits (record { world = world_seen world.old; spaces = spaces })
@@ -61,6 +62,9 @@ impl<D: Disk> VmState<D> {
         // The tail is pending that the name loses which the taken frame held.
         ensures pends { PendsTails self.old.memory.world
             (is_name (next_name self.old.memory.world.store)) self.old.pending self.new.pending }
+        // No translation goes but those of a page that is pushed.
+        ensures places { self.new.memory.world.hat.places
+            ≡ places_begun self.old.memory.world plan }
         // What stays: all but the world. No plan is kept.
         ensures rest { self.new ≡ after_step self.old self.new.memory.world self.new.pending }
     {

@@ -5,6 +5,7 @@ ghost use Rattle.page_store.specs.Bays.{bay_at, home};
 ghost use Rattle.page_store.specs.Flight.{IsPerformed, fresh};
 ghost use Rattle.page_store.specs.Notes.{Note, Notes};
 ghost use Rattle.page_store.specs.Out.{IsFlightOf};
+ghost use Rattle.page_store.specs.Transfers.{EndsTransfer};
 ghost use Rattle.vm_world.specs.Events.{IsEvent};
 ghost use Rattle.vm_world.specs.MemoryFits.{MemoryFits};
 ghost use Rattle.vm_world.specs.NotesFit.{NotesFit};
@@ -43,9 +44,12 @@ impl<D: Disk> VmState<D> {
         ensures event { (sent : Sent)
             → IsBack sent flight (option_map (λ (c : ℕ × _). (c.0, c.1.now)) call.entry)
             → IsEvent seat self.old (Some sent) self.new None }
-        // The disk is home again.
+        // The disk is home again, and the page where the transfer leaves it.
         ensures disk { bay_at self.new.memory.world.store.bays flight.number ≡ home flight.disk }
+        ensures ends { EndsTransfer self.old.memory.world.store self.new.memory.world.store flight }
         // What stays.
+        ensures tables { self.new.memory.world
+            ≡ record self.old.memory.world { store = self.new.memory.world.store } }
         ensures spaces { self.new.memory.spaces ≡ self.old.memory.spaces }
         ensures plan { self.new.plan ≡ None }
     {
@@ -72,15 +76,20 @@ impl<D: Disk> VmState<D> {
     fn land(&mut self, flight: Flight<D>)
         requires out { IsFlightOf self.old.memory.world.store flight }
         requires performed { flight.outcome ≢ fresh }
-        ensures new { self.new
-            ≡ after_step self.old self.new.memory.world self.old.pending }
+        // The disk is home again, and the page where the transfer leaves it.
         ensures disk { bay_at self.new.memory.world.store.bays flight.number ≡ home flight.disk }
+        ensures ends { EndsTransfer self.old.memory.world.store self.new.memory.world.store flight }
         ensures step { (notes : Notes) (note : Note)
             → MemoryFits self.old.memory
             → NotesFit self.old.memory.world notes → notes flight.seat ≡ Some note
             → IsPerformed note flight
             → WorldStep self.old.memory.world self.new.memory.world self.old.memory.spaces
             (returns flight.seat note) (λ name. false) }
+        // What stays.
+        ensures new { self.new
+            ≡ after_step self.old self.new.memory.world self.old.pending }
+        ensures tables { self.new.memory.world
+            ≡ record self.old.memory.world { store = self.new.memory.world.store } }
     {
         end_flight(&mut self.world, flight);
         self.plan = None;

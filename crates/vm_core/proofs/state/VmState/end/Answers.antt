@@ -3,6 +3,7 @@ use Rattle.std.specs.Prelude.{option_map, slice_set}
 use Rattle.flat_model.specs.Counted.{top_count}
 use Rattle.flat_model.specs.Told.{entries_of}
 use Rattle.page_store.specs.Flight.{failed}
+use Rattle.page_store.specs.Transfers.{EndsTransfer}
 use Rattle.vm_types.specs.Parts.{part_file}
 use Rattle.vm_types.specs.declared.call.Call.{Call}
 use Rattle.vm_types.specs.declared.call.Entry.{Entry}
@@ -99,3 +100,13 @@ returns-in_default-clause-event g c sent back =
     subst (λ (x : KernelState). IsEvent c.args.seat s (Some sent) x None) (sym c.land.ensures.new)
     (quiet-end s c.land.new.self.memory.world c.args.seat c.args.flight c.land.ensures.step c.land.ensures.disk (subst (λ (n : ℕ). n ≤ top_count) c.counts-disk.ensures.after c.within_counts.ensures)
     b.1.0 b.1.1 b.0 b.1.2 b.1.3 b.2.performed sent back.performed)
+
+pub returns-in-Some-clause-ends : goal.returns-in-Some-clause-ends
+returns-in-Some-clause-ends g c =
+    let s = c.args.self.now in
+    subst (λ (x : KernelState). EndsTransfer s.memory.world.store x.memory.world.store c.args.flight) (sym (failed-is g c).is) c.land.ensures.ends
+
+pub returns-in-Some-clause-tables : goal.returns-in-Some-clause-tables
+returns-in-Some-clause-tables g c =
+    let s = c.args.self.now in
+    subst (λ (x : KernelState). x.memory.world ≡ record s.memory.world { store = x.memory.world.store }) (sym (failed-is g c).is) c.land.ensures.tables

@@ -2,6 +2,7 @@ use Rattle.std.proofs.Common.{◌≡◌, ℕ, false, Some, sym, subst}
 use Rattle.page_store.specs.Flight.{IsPerformed}
 use Rattle.page_store.specs.Notes.{Note, Notes}
 use Rattle.page_store.specs.Out.{IsFlightOf}
+use Rattle.page_store.specs.Transfers.{EndsTransfer}
 use Rattle.vm_world.specs.MemoryFits.{MemoryFits}
 use Rattle.vm_world.specs.NotesFit.{NotesFit}
 use Rattle.vm_world.specs.State.{KernelState}
@@ -19,3 +20,7 @@ returns-clause-step g c =
     subst (λ (s : KernelState). (notes : Notes) (note : Note) → MemoryFits s.memory → NotesFit s.memory.world notes → notes c.args.flight.seat ≡ Some note → IsPerformed note c.args.flight
     → WorldStep s.memory.world (world_seen c.end_flight.new.world) s.memory.spaces (returns c.args.flight.seat note) (λ name. false))
     c.self.view_is (λ notes note. c.end_flight.ensures.step c.self.inside.spaces.spaces notes note)
+
+pub returns-clause-ends : goal.returns-clause-ends
+returns-clause-ends g c =
+    subst (λ (s : KernelState). EndsTransfer s.memory.world.store (world_seen c.end_flight.new.world).store c.args.flight) c.self.view_is c.end_flight.ensures.ends
