@@ -57,7 +57,7 @@ value_of_decimal = decimal_by_steps (λ n ds. value_of_digits 10 ds ≡ n)
 pub some_decimal : (n : ℕ) → n < 2 ^ 64 → 1 ≤ length (decimal n)
 some_decimal = decimal_by_steps (λ n ds. 1 ≤ length ds) (λ n lt. omega arith) (λ n ds le ih. omega (arith, length-append ds ((48 + n % 10) ∷ [])))
 
-no_prefix : (ds : List ℕ) → list_all is_digit ds ≡ true → has_front (codes "0x") ds ≡ false
+pub no_prefix : (ds : List ℕ) → list_all is_digit ds ≡ true → has_front (codes "0x") ds ≡ false
 no_prefix [] all = refl
 no_prefix (a ∷ []) all = grind (rules, tests, arith, nat_tests)
 no_prefix (a ∷ b ∷ ds) all =

@@ -1,7 +1,11 @@
 -- A line whose fields stand one space apart is read as it is by its fields.
-use Rattle.std.proofs.Common.{◌≡◌, ℕ, ◌^◌, ◌+◌, ◌*◌, ◌==◌, true, false, not, ◌&&◌, List, [], ◌∷◌, ◌++◌, length, take, Option, Some, Ok, refl, sym, ap, ap₂, ◌∙◌, subst, append_assoc, arith, rules, tests, ⊎_elim, length-append}
-use Rattle.std.specs.Prelude.{codes, nat_lt, if◌then◌else◌}
+use Rattle.std.proofs.Common.{◌≡◌, ℕ, ◌≤◌, ◌<◌, ◌^◌, ◌+◌, ◌*◌, ◌==◌, Bool, true, false, not, ◌&&◌, List, [], ◌∷◌, ◌++◌, length, take, drop, slice_index_or, Some, None, Ok, refl, sym, ap, ap₂, ◌∙◌, subst, append_assoc, arith, rules, tests, ⊎_elim, length-append}
+use Rattle.std.specs.Prelude.{codes, nat_le, nat_lt, if◌then◌else◌}
 use Rattle.std.specs.List.{list_all}
+use Rattle.std.proofs.lemmas.Bool.Decides.{nat_tests}
+use Rattle.std.proofs.lemmas.List.{length-take-le, take-append-drop}
+use Rattle.std.proofs.lemmas.List.Folds.{list_all_more}
+use Rattle.std.proofs.lemmas.List.Sums.{fold_more}
 use Rattle.vm_types.specs.declared.call.Call.{Call}
 use Rattle.vm_types.specs.declared.call.Call.TheVariants as call
 use Rattle.vm_types.specs.Words.{IsWordSize}
@@ -9,49 +13,71 @@ use Rattle.vm_script.specs.declared.plan.PlanAct.TheVariants as act
 use Rattle.vm_script.specs.declared.statement.Statement.TheVariants as says
 use Rattle.vm_script.specs.declared.statement.Spot.{Spot}
 use Rattle.vm_script.specs.Lines.{is_graphic, is_plain, isnt_empty, fields, lines}
-use Rattle.vm_script.specs.Cursor.{after_graphic}
-use Rattle.vm_script.specs.Fields.{number_of_field, digits_at}
+use Rattle.vm_script.specs.Fields.{is_digit, is_hex_digit, digit_value, value_of_digits, digits_at, number_of_field}
 use Rattle.vm_script.specs.Statements.{statement, word_statement, load_line, store_line, size}
 use Rattle.vm_script.specs.Printed.{line_of_fields}
 use Rattle.vm_script.specs.Plans.{OpenPlan, with_line, with_statement, spot_of, plan_from}
-use Rattle.vm_script.specs.Quick.{none, more, BeginsWithNumber, BeginsWithCall}
+use Rattle.vm_script.specs.Quick.{none, more, BeginsWithDigits, BeginsWithNumber, BeginsWithCall}
 use Rattle.vm_script.specs.ReadLines.{ReadsLine}
-use Rattle.vm_script.proofs.Printing.{fields_joined, plain_joined, lines_joined}
-
--- the graphic bytes in front of a text
-abbrev pub graphic_front : List ℕ → List ℕ
-graphic_front [] = []
-graphic_front (b ∷ xs) = if is_graphic b then b ∷ graphic_front xs else []
-
-pub length_front : (xs : List ℕ) → length (graphic_front xs) + length (after_graphic xs) ≡ length xs
-length_front [] = refl
-length_front (b ∷ xs) = let ih = length_front xs in grind (rules, tests, arith, ih)
-
-pub take_graphic : (xs : List ℕ) → take (length (graphic_front xs)) xs ≡ graphic_front xs
-take_graphic [] = refl
-take_graphic (b ∷ xs) = let ih = take_graphic xs in grind (rules, tests, arith, ih)
-
-pub join_front : (xs : List ℕ) → graphic_front xs ++ after_graphic xs ≡ xs
-join_front [] = refl
-join_front (b ∷ xs) = let ih = join_front xs in grind (rules, tests, arith, ih)
-
-pub all_front : (xs : List ℕ) → list_all is_graphic (graphic_front xs) ≡ true
-all_front [] = refl
-all_front (b ∷ xs) = let ih = all_front xs in grind (rules, tests, arith, ih)
+use Rattle.vm_script.proofs.Printing.{all_implies, no_prefix, fields_joined, plain_joined, lines_joined}
 
 isnt_empty_number : (word : List ℕ) (n : ℕ) → number_of_field word ≡ Some n → isnt_empty word ≡ true
 unfolding number_of_field digits_at
 isnt_empty_number [] n is = absurd (cc is)
 isnt_empty_number (b ∷ word) n is = refl
 
-pub number_begins : (text word rest : List ℕ) (n : ℕ) (o : Option ℕ) → text ≡ word ++ rest → list_all is_graphic word ≡ true → o ≡ number_of_field word → o ≡ Some n → BeginsWithNumber text n rest
-number_begins text word rest n o is all read some = record {
-  word = word;
-  is = is;
-  graphic = all;
-  some = isnt_empty_number word n (sym read ∙ some);
-  number = sym read ∙ some;
+-- digits of a value below 2^32
+pub digits_are : (base most n : ℕ) (p : ℕ → Bool) (ds : List ℕ) → 1 ≤ length ds → length ds ≤ most → list_all p ds ≡ true → n ≡ value_of_digits base ds → n < 2 ^ 32 → digits_at base most p ds ≡ Some n
+unfolding digits_at
+digits_are base most n p ds some few right value small = rw (right, sym value) (tests_of (length ds) some few)
+  where
+    tests_of : (k : ℕ) → 1 ≤ k → k ≤ most → (if nat_le 1 k && nat_le k most && true && nat_lt n (2 ^ 32) then Some n else None) ≡ Some n
+    tests_of k low high = grind (rules, tests, arith, nat_tests, low, high, small)
+
+-- one digit more
+pub value_more : (base : ℕ) (text : List ℕ) (i v : ℕ) → i < length text → v ≡ value_of_digits base (take i text) → base * v + digit_value (slice_index_or text i 0) ≡ value_of_digits base (take (i + 1) text)
+value_more base text i v lt is = ap (λ a. base * a + digit_value (slice_index_or text i 0)) is ∙ sym (fold_more (λ a b. base * a + digit_value b) 0 text i 0 lt)
+
+pub right_more : (p : ℕ → Bool) (text : List ℕ) (i : ℕ) → i < length text → list_all p (take i text) ≡ true → p (slice_index_or text i 0) ≡ true → list_all p (take (i + 1) text) ≡ true
+right_more p text i lt all one = list_all_more p text i 0 lt ∙ rw (all, one) refl
+
+-- the digits in front of a text
+pub digits_begin : (base most n i : ℕ) (p : ℕ → Bool) (text rest : List ℕ) → 1 ≤ i → i ≤ most → i ≤ length text → list_all p (take i text) ≡ true → n ≡ value_of_digits base (take i text) → n < 2 ^ 32 → rest ≡ drop i text
+    → BeginsWithDigits base most p text n rest
+digits_begin base most n i p text rest some few within right value small is =
+    let count : length (take i text) ≡ i = length-take-le i text within in
+    record {
+      digits = take i text;
+      is = sym (ap (λ r. take i text ++ r) is ∙ take-append-drop i text);
+      right = right;
+      number = digits_are base most n p (take i text) (omega (arith, count, some)) (omega (arith, count, few)) right value small;
+    }
+
+pub decimal_begins : (text rest : List ℕ) (n : ℕ) → BeginsWithDigits 10 10 is_digit text n rest → BeginsWithNumber text n rest
+unfolding number_of_field
+decimal_begins text rest n d = record {
+  word = d.digits;
+  is = d.is;
+  graphic = all_implies is_digit is_graphic (λ b is. grind (rules, tests, arith, nat_tests, is)) d.digits d.right;
+  some = isnt_empty_number d.digits n number;
+  number = number;
 }
+  where
+    number : number_of_field d.digits ≡ Some n
+    number = rw (no_prefix d.digits d.right) d.number
+
+pub hexadecimal_begins : (text digits rest : List ℕ) (n : ℕ) → text ≡ codes "0x" ++ digits → BeginsWithDigits 16 8 is_hex_digit digits n rest → BeginsWithNumber text n rest
+unfolding number_of_field
+hexadecimal_begins text digits rest n is d = record {
+  word = 48 ∷ 120 ∷ d.digits;
+  is = is ∙ ap (λ t. 48 ∷ 120 ∷ t) d.is;
+  graphic = all_implies is_hex_digit is_graphic (λ b is. grind (rules, tests, arith, nat_tests, is)) d.digits d.right;
+  some = refl;
+  number = number;
+}
+  where
+    number : number_of_field (48 ∷ 120 ∷ d.digits) ≡ Some n
+    number = d.number
 
 -- the digits 1, 2 and 4, which begin a size
 abbrev pub IsSizeDigit : ℕ → ℕ → Type 0

@@ -1,12 +1,12 @@
 -- Loads and stores whose fields stand one space apart. Inside: no public clause cites this.
-use Rattle.std.specs.Prelude.{ℕ, ◌≡◌, true, List, [], ◌∷◌, ◌++◌, Some, Ok}
+use Rattle.std.specs.Prelude.{ℕ, Bool, ◌≡◌, true, List, [], ◌∷◌, ◌++◌, Some, Ok}
 use Rattle.std.specs.List.{list_all}
 use Rattle.vm_types.specs.declared.call.Call.{Call}
 use Rattle.vm_script.specs.declared.plan.PlanAct.TheVariants as act
 use Rattle.vm_script.specs.declared.statement.Statement.TheVariants as says
 use Rattle.vm_script.specs.declared.statement.Spot.{Spot}
 use Rattle.vm_script.specs.Lines.{is_graphic, isnt_empty}
-use Rattle.vm_script.specs.Fields.{number_of_field}
+use Rattle.vm_script.specs.Fields.{digits_at, number_of_field}
 use Rattle.vm_script.specs.Statements.{statement}
 use Rattle.vm_script.specs.Printed.{line_of_fields}
 
@@ -14,6 +14,13 @@ use Rattle.vm_script.specs.Printed.{line_of_fields}
 pub data AreWords : List (List ℕ) → Type 0 where
   none : AreWords []
   more : {f : List ℕ} {fs : List (List ℕ)} → list_all is_graphic f ≡ true → isnt_empty f ≡ true → AreWords fs → AreWords (f ∷ fs)
+
+-- A text begins with 1 to so many digits of a base, whose value is a number, and goes on with the rest.
+pub record BeginsWithDigits (base most : ℕ) (is_right : ℕ → Bool) (text : List ℕ) (n : ℕ) (rest : List ℕ) : Type 0 where
+  pub digits : List ℕ
+  pub is : text ≡ digits ++ rest
+  pub right : list_all is_right digits ≡ true
+  pub number : digits_at base most is_right digits ≡ Some n
 
 -- A text begins with a number, and goes on with the rest.
 pub record BeginsWithNumber (text : List ℕ) (n : ℕ) (rest : List ℕ) : Type 0 where

@@ -26,6 +26,7 @@ pub fn load(args: &[&[u8]]) -> Result<PlanAct, ReadError>
 }
 
 /// Whether the value fits the word.
+#[inline(always)]
 pub fn fits_word(size: u32, value: u32) -> bool
     requires { IsWordSize size }
     ensures { result ≡ nat_lt value (2 ^ (8 * size)) }

@@ -85,6 +85,7 @@ impl Growing {
     }
 
     /// The block that is open innermost, 0 outside blocks.
+    #[inline(always)]
     pub fn inside(&self) -> u32
         ensures { result ≡ self.now.inside }
     {
@@ -105,6 +106,7 @@ impl Growing {
     }
 
     /// Adds a line of the innermost block.
+    #[inline(always)]
     pub fn add_line(&mut self, line: u32, act: PlanAct) -> Result<(), AllocError>
         ensures new { OnOk result (self.new ≡ with_line self.old line act) }
     {

@@ -27,8 +27,8 @@ fn skip_spaces(text: &[u8]) -> &[u8]
     left
 }
 
-/// What follows the bytes from 0x21 to 0x7e in front.
-pub fn skip_graphic(text: &[u8]) -> &[u8]
+// What follows the bytes from 0x21 to 0x7e in front.
+fn skip_graphic(text: &[u8]) -> &[u8]
     ensures { result.now ≡ after_graphic text.now }
 {
     let mut left = text;

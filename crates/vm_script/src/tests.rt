@@ -260,38 +260,94 @@ fn names_become_file_numbers(rt: HostRuntime) -> Result<(), Fail> {
     Ok(())
 }
 
-// A line's number, its process, and its call where it loads or stores a word.
-fn word_of(line: &PlanLine) -> (u32, u32, u32, u32) {
-    match line.act {
-        PlanAct::Call(Call::Store { addr, value, .. }) => (line.line, line.process, addr, value),
-        PlanAct::Call(Call::Load { addr, .. }) => (line.line, line.process, addr, 0),
-        _ => (line.line, line.process, 0, 0),
+// The text of the generated script of a number, by its description.
+fn text_of_number(alloc: Global, n: u32) -> Result<String, AllocError> {
+    let mut text = String::new(alloc);
+    text.push_str("frames 24\nswap 512\ntranslations 64\ndisk 0 blank 16\nfile f rw 0 8 -\n")?;
+    for i in 0..8 {
+        text.push_str("process\nmap 0x100000 131072 rw private zero 0\n")?;
+        text.push_str("map 0x400000 32768 rw shared f 0\n")?;
+        for k in 0..1000 {
+            let addr = 0x100000 + 4096 * ((n % 32 + 5 * k) % 32) + 4 * (k / 32);
+            text.push_str(&format!(in alloc; "store {addr} 4 {}\n", k + i)?)?;
+        }
+        text.push_str("fork\n")?;
+        text.push_str(&lines_of_ends(alloc, "store", " 1")?)?;
+        text.push_str(&lines_of_ends(alloc, "load", "")?)?;
+        text.push_str("end\n")?;
+        for k in 0..1000 {
+            let addr = 0x100000 + 4096 * ((n % 32 + 5 * k) % 32) + 4 * (k / 32);
+            text.push_str(&format!(in alloc; "load {addr} 4\n")?)?;
+        }
+        text.push_str(&lines_of_ends(alloc, "load", "")?)?;
+        text.push_str(&format!(in alloc; "write f {} 00\n", 4096 * i + 4095)?)?;
+        let addr = 0x400000 + 4096 * i;
+        text.push_str(&format!(in alloc; "store {addr} 4 {n}\nload {addr} 4\nend\n")?)?;
+    }
+    Ok(text)
+}
+
+// A line for the last word of each of 32 pages.
+fn lines_of_ends(alloc: Global, word: &str, more: &str) -> Result<String, AllocError> {
+    let mut text = String::new(alloc);
+    for j in 0..32 {
+        let addr = 0x100000 + 4096 * j + 4092;
+        text.push_str(&format!(in alloc; "{word} {addr} 4{more}\n")?)?;
+    }
+    Ok(text)
+}
+
+fn same_act(a: &PlanAct, b: &PlanAct) -> bool {
+    match (a, b) {
+        (PlanAct::Call(a), PlanAct::Call(b)) => a == b,
+        (
+            PlanAct::Named { name, call },
+            PlanAct::Named {
+                name: other,
+                call: other_call,
+            },
+        ) => name.bytes() == other.bytes() && call == other_call,
+        (
+            PlanAct::Write {
+                name,
+                file,
+                offset,
+                bytes,
+            },
+            PlanAct::Write {
+                name: other,
+                file: other_file,
+                offset: other_offset,
+                bytes: other_bytes,
+            },
+        ) => {
+            name.bytes() == other.bytes()
+                && file == other_file
+                && offset == other_offset
+                && bytes.bytes() == other_bytes.bytes()
+        }
+        (PlanAct::Wait, PlanAct::Wait) => true,
+        _ => false,
     }
 }
 
 #[test]
-fn the_generated_script(rt: HostRuntime) -> Result<(), Fail> {
-    let plan = generate(rt.alloc(), 3)?;
-    assert_eq!(rt; plan.setup().len(), 5);
-    assert_eq!(rt; plan.lines().len(), 16_832);
-    assert_eq!(rt;
-        plan.parents(),
-        [0, 1, 0, 3, 0, 5, 0, 7, 0, 9, 0, 11, 0, 13, 0, 15].as_slice()
-    );
-    // Word 33 of the second block is the second word of page (3 + 165) mod 32, and its value is 34.
-    let lines = [
-        (2 + 33, (5 + 3 + 34, 1, 1_081_348, 33)),
-        (2104 + 2 + 33, (5 + 2105 + 3 + 34, 3, 1_081_348, 34)),
-        (1003, (5 + 1005, 2, 1_052_668, 1)),
-        (2101, (5 + 2103, 1, 4_194_304, 3)),
-        (16_831, (16_845, 15, 0, 0)),
-    ];
-    for (at, word) in lines {
-        match plan.lines().get(at) {
-            Some(line) => assert_eq!(rt; word_of(line), word),
-            None => return Err(Fail::from("too few lines")),
+fn the_generated_script_is_its_text(rt: HostRuntime) -> Result<(), Fail> {
+    for n in [0, 3] {
+        let plan = generate(rt.alloc(), n)?;
+        let text = text_of_number(rt.alloc(), n)?;
+        let read = match parse(rt.alloc(), text.as_bytes())? {
+            Ok(read) => read,
+            Err(_) => return Err(Fail::from("not read")),
+        };
+        assert_eq!(rt; broken_rule(&plan), None);
+        assert_eq!(rt; plan.setup().len(), read.setup().len());
+        assert_eq!(rt; plan.parents(), read.parents());
+        assert_eq!(rt; plan.lines().len(), read.lines().len());
+        for (a, b) in plan.lines().iter().zip(read.lines()) {
+            assert_eq!(rt; (a.line, a.process), (b.line, b.process));
+            assert!(rt; same_act(&a.act, &b.act));
         }
     }
-    assert_eq!(rt; broken_rule(&plan), None);
     Ok(())
 }
