@@ -167,7 +167,7 @@ segments-kept : (w : World) (files : FilesSeen) (anon : Slots) (name : PageName)
 segments-kept w files anon name spaces k f =
     let count : length files.files ≡ length w.files.files = sym (length-map files.files (λ (v : VnodeSeen). v.info)) ∙ ap length k.infos ∙ length-map w.files.files (λ (v : VnodeSeen). v.info) in
     subst (λ (n : ℕ). SegmentsFit n anon w.maps spaces) (sym count)
-    (record { ordered = f.ordered; each = f.each; holders = f.holders; zeros = f.zeros; apart = f.apart; reserved = f.reserved ∙ sym k.reserved })
+    (record { ordered = f.ordered; each = f.each; holders = f.holders; zeros = f.zeros; apart = f.apart; once = λ z number place slot is held. ap (λ (cs : List ℕ). count_at (record w.anon { counts = cs }) slot) k.counts ∙ f.once z number place slot is held; reserved = f.reserved ∙ sym k.reserved })
 
 same-not : (a b : Bool) → not a ≡ not b → a ≡ b
 same-not true true e = refl

@@ -45,7 +45,7 @@ cell-here old new m i o x puts own place = ap (λ (h : Option Page). record (cel
     ∙ ap (λ (j : ℕ). option_or (new m j) (own_without_slot x.0.object)) place
     ∙ ap (λ (h : Option Page). option_or h (own_without_slot x.0.object)) puts.there)
 
-pages-same : (old new : ℕ → Page) (k n : ℕ) → ((i : ℕ) → new i ≡ old i) → pages_from new k n ≡ pages_from old k n
+pub pages-same : (old new : ℕ → Page) (k n : ℕ) → ((i : ℕ) → new i ≡ old i) → pages_from new k n ≡ pages_from old k n
 pages-same old new k n same = let e : new ≡ old = λ j i. same i j in ap (λ (g : ℕ → Page). pages_from g k n) e
 
 -- the zero objects, where their maps hold what they held
@@ -54,7 +54,7 @@ zeros-else : (old new : ℕ → ℕ → Option Page) (lengths : ℕ → ℕ) (sp
 zeros-else old new lengths spaces same = map_with-same (zero_pages old lengths) (zero_pages new lengths) (zero_maps spaces) (λ z n is. pages-same (λ k. unwrap_or (old n k) zero_page) (λ k. unwrap_or (new n k) zero_page) 0 (lengths n) (λ k. same z n k is))
 
 -- the cells of a space whose pages are all elsewhere
-cells-else : (old new : ℕ → ℕ → Option Page) (parts : List (Part Segment)) → ((q : ℕ) (y : Spot) → at parts q ≡ Some y → cell_of new y ≡ cell_of old y) → space_with new parts ≡ space_with old parts
+pub cells-else : (old new : ℕ → ℕ → Option Page) (parts : List (Part Segment)) → ((q : ℕ) (y : Spot) → at parts q ≡ Some y → cell_of new y ≡ cell_of old y) → space_with new parts ≡ space_with old parts
 cells-else old new parts same = finite.same_map nat_cmp_total finite.nat_cmp-IsAntisymmetric _ _ (λ q. get-space_with new parts q ∙ on-some (cell_of old) (cell_of new) (at parts q) (same q) ∙ sym (get-space_with old parts q))
 
 -- the cells of a space of which one page is the place
@@ -65,7 +65,7 @@ cells-here old new parts q x c is cell same = finite.same_map nat_cmp_total fini
   | inr ne ↦ get-space_with new parts r ∙ on-some (cell_of old) (cell_of new) (at parts r) (λ y there. same r y there ne) ∙ sym (get-space_with old parts r) ∙ sym (get-insert_apart (space_with old parts) q c r ne)
 ])
 
-spot-in : (spaces : Spaces) (p q : ℕ) (parts : List (Part Segment)) → finite.get spaces p ≡ Some parts → spot_at spaces p q ≡ at parts q
+pub spot-in : (spaces : Spaces) (p q : ℕ) (parts : List (Part Segment)) → finite.get spaces p ≡ Some parts → spot_at spaces p q ≡ at parts q
 spot-in spaces p q parts is = ap (option_and_then (λ (ps : List (Part Segment)). at ps q)) is
 
 -- WHAT A CELL'S OWN PLACE HOLDS: the cell has it as its own, and all else stays.

@@ -1,14 +1,15 @@
 -- THE COUNTS once a slot was made for an empty place.
-use Rattle.std.proofs.Common.{◌≡◌, ◌≢◌, ℕ, ◌<◌, List, length, Option, Some, None, refl, sym, ap, ◌∙◌, inl, inr, arith, slice_set, slice_index_or, get_or-set_same}
+use Rattle.std.proofs.Common.{◌≡◌, ◌≢◌, ℕ, ◌<◌, ◌-◌, List, length, Option, Some, None, refl, sym, ap, ◌∙◌, inl, inr, arith, slice_set, slice_index_or, get_or-set_same}
 use Rattle.std.specs.Prelude.{sum_by, false, ◌==◌, position}
 use Rattle.std.proofs.lemmas.Bool.{cases_eq}
 use Rattle.std.proofs.lemmas.List.{get_or-set_other, length-set}
 use Rattle.std.proofs.lemmas.List.Quantifiers.{position-Some}
 use Rattle.std.proofs.lemmas.List.Sums.{sum_by-set}
 use Rattle.anon_map.specs.Maps.{Map, the_map, places_of, with_places}
-use Rattle.anon_slots.specs.Slots.{Slots, count_at, IsSoundAnonSlots, with_new_slot}
+use Rattle.anon_slots.specs.Slots.{Slots, count_at, IsSoundAnonSlots, with_count, with_new_slot}
 use Rattle.vm_world.specs.World.{slot_in}
 use Rattle.vm_world.specs.CountsFit.{places_in, times_held, CountsFit}
+use Rattle.vm_world.proofs.Counts.{used-below}
 use Rattle.vm_world.proofs.Counting.{adds, adds-own, adds-other, map-within, places-are, times-put}
 use Rattle.seg_ops.specs.Slots.{MakesSlot}
 
@@ -62,3 +63,14 @@ made-slot anon maps m i s fit free there sound lt empty =
 -- the slot that is made is one of those that there are
 pub least-there : (counts : List ℕ) (s : ℕ) → position (λ (c : ℕ). c == 0) counts ≡ Some s → s < length counts
 least-there counts s is = (position-Some (λ (c : ℕ). c == 0) counts s 0 is).0
+
+-- a slot that is free once another is counted once less, which some place holds still, was free before
+pub left-free : (anon : Slots) (s t : ℕ) → 1 < count_at anon s → count_at (with_count anon s (count_at anon s - 1)) t ≡ 0 → count_at anon t ≡ 0
+left-free anon s t many none = elim (cases_eq t s) [
+  | inl e ↦
+      let there : s < length anon.counts = used-below anon.counts s (omega (arith, many)) in
+      let less : count_at (with_count anon s (count_at anon s - 1)) s ≡ count_at anon s - 1 = get_or-set_same anon.counts s (count_at anon s - 1) 0 there in
+      let is : count_at (with_count anon s (count_at anon s - 1)) s ≡ 0 = ap (count_at (with_count anon s (count_at anon s - 1))) (sym e) ∙ none in
+      absurd (let z : ⊥ = omega (arith, less, is, many) in z)
+  | inr ne ↦ sym (get_or-set_other anon.counts s t (count_at anon s - 1) 0 ne) ∙ none
+]

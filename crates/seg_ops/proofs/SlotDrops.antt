@@ -38,7 +38,7 @@ use Rattle.seg_ops.specs.Slots.{OwnsAlone}
 use Rattle.seg_ops.proofs.Fills.{Elsewhere, held-by, rewritten-same}
 use Rattle.seg_ops.proofs.GivenUp.{GivesUp}
 use Rattle.seg_ops.proofs.Marks.{cases-name}
-use Rattle.seg_ops.proofs.SlotLeaves.{exists-else, table-left, page-name-left, own-unloaded, left-shown, left-writable}
+use Rattle.seg_ops.proofs.SlotLeaves.{exists-else, table-left, page-name-left, own-unloaded, left-once, left-shown, left-writable}
 use Rattle.seg_ops.proofs.SlotMemory.{with_slot, used-lt, segments-set}
 use Rattle.seg_ops.proofs.SlotOwners.{not-shown, object-fits}
 use Rattle.seg_ops.proofs.StillSteps.{memory_of}
@@ -146,7 +146,7 @@ module _ (w : World) (spaces : Spaces) (new : StoreSeen) (anon : Slots) (put : L
         let e = held j (slot_name a) h in
         still-modified j e.2 (f.unpushed j a e.1 (ap (λ swapped. slice_index_or swapped a false) (sym k.swapped) ∙ unpushed) (subst (λ (b : Option (List ℕ)). IsSome b) e.2.bytes home));
     counts = k.counts;
-    segments = segments-set w spaces anon put m i None f k.within k.set k.reserved;
+    segments = segments-set w spaces anon put m i None f k.within k.set k.reserved (λ number place t held was. left-once w.anon anon w.maps put m i s number place t f.counts k held was);
   }
 
   stored-same : (notes : Notes) (p : Place) → stored new notes p ≡ stored w.store notes p

@@ -17,7 +17,7 @@ use Rattle.vm_world.specs.World.{World, slot_name, is_unpushed, page_exists, pag
 use Rattle.seg_ops.specs.Empties.{LeavesSlot, EmptiesPlace}
 use Rattle.seg_ops.specs.Slots.{OwnsAlone}
 use Rattle.seg_ops.proofs.Marks.{cases-name}
-use Rattle.seg_ops.proofs.SlotLeaves.{exists-else, table-left, page-name-left, own-unloaded, left-shown, left-writable}
+use Rattle.seg_ops.proofs.SlotLeaves.{exists-else, table-left, page-name-left, own-unloaded, left-once, left-shown, left-writable}
 use Rattle.seg_ops.proofs.SlotMemory.{with_slot, lt-used, segments-set}
 use Rattle.seg_ops.proofs.StillSteps.{memory_of}
 
@@ -59,7 +59,7 @@ module _ (w : World) (spaces : Spaces) (anon : Slots) (put : List (Option Map)) 
         };
     unpushed = λ j a h unpushed home. f.unpushed j a h (ap (λ swapped. slice_index_or swapped a false) (sym k.swapped) ∙ unpushed) home;
     counts = k.counts;
-    segments = segments-set w spaces anon put m i None f k.within k.set k.reserved;
+    segments = segments-set w spaces anon put m i None f k.within k.set k.reserved (λ number place t held was. left-once w.anon anon w.maps put m i s number place t f.counts k held was);
   }
 
   kept-notes : (notes : Notes) → NotesFit w notes → NotesFit (with_slot w w.store anon put) notes

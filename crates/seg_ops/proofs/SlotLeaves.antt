@@ -26,7 +26,7 @@ use Rattle.seg_ops.specs.Slots.{OwnsAlone}
 use Rattle.seg_ops.proofs.SlotCounts.{places-put}
 use Rattle.seg_ops.proofs.SlotMemory.{AreShown, used-lt, lt-used, slot-exists, file-exists}
 use Rattle.seg_ops.proofs.SlotOwners.{not-shown}
-use Rattle.seg_ops.proofs.SlotPlaces.{stays-apart}
+use Rattle.seg_ops.proofs.SlotPlaces.{slot-here, slot-else, stays-apart}
 use Rattle.seg_ops.proofs.StillSteps.{memory_of}
 
 pub left-slot : (anon : Slots) (maps : List (Option Map)) (m i s : ℕ) → CountsFit anon maps → IsSoundAnonSlots (with_count anon s (count_at anon s - 1)) → i < length (places_of maps m) → slot_in maps m i ≡ Some s
@@ -102,6 +102,17 @@ pub own-unloaded : (places : List (Option Translation)) (spaces : Spaces) (p q m
 own-unloaded places spaces p q m i j t x y owns unloaded is here own place =
     let where_is = owns.alone t.space t.page y here own place in
     loaded-at places j t is (ap (λ (a : ℕ). at places a t.page) where_is.0 ∙ ap (λ (b : ℕ). at places p b) where_is.1 ∙ unloaded)
+
+-- a slot that was counted once where it is held still is
+pub left-once : (old new : Slots) (maps put : List (Option Map)) (m i s number place t : ℕ) → CountsFit old maps → LeavesSlot old new maps put m i s → slot_in put number place ≡ Some t → (slot_in maps number place ≡ Some t → count_at old t ≡ 1) → count_at new t ≡ 1
+left-once old new maps put m i s number place t fit k held was =
+    let empty : List (Option Map) = with_places maps m (slice_set (places_of maps m) i None) in
+    let set : slot_in put number place ≡ slot_in empty number place = ap (λ (ps : List (Option Map)). slot_in ps number place) k.set in
+    let apart : (number ≡ m) × (place ≡ i) → ⊥ = λ e.
+    let z : Some t ≡ None = sym held ∙ set ∙ ap (λ (a : ℕ). slot_in empty a place) e.0 ∙ ap (slot_in empty m) e.1 ∙ slot-here maps m i None k.within in cc in
+    let there : slot_in maps number place ≡ Some t = sym (slot-else maps m i number place None k.within apart) ∙ sym set ∙ held in
+    let one = was there in
+    k.others t (λ e. apart (only-place t maps m i number place (sym (fit.counts t) ∙ one) (k.held ∙ ap (λ (a : ℕ). Some a) (sym e)) there)) ∙ one
 
 -- EACH TRANSLATION SHOWS what it showed.
 pub left-shown : (w : World) (spaces : Spaces) (anon : Slots) (put : List (Option Map)) (p q m i s : ℕ) (x : Spot) → MemoryFits (memory_of w spaces) → LeavesSlot w.anon anon w.maps put m i s → OwnsAlone spaces p q m i x → at w.hat.places p q ≡ None → AreShown w spaces put

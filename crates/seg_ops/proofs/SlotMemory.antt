@@ -38,9 +38,10 @@ use Rattle.vm_world.specs.TranslationsFit.{MayWriteInPlace}
 use Rattle.vm_world.specs.World.{World, slot_name, slot_in, page_exists}
 use Rattle.vm_world.proofs.Counting.{map-within}
 use Rattle.vm_world.proofs.FileMappings.{all-turn}
+use Rattle.vm_world.proofs.FlatWhole.{some-inj}
 use Rattle.seg_ops.specs.Slots.{MakesSlot, IsNewZero, OwnsAlone}
 use Rattle.seg_ops.proofs.Fills.{TakesFor, next-listed, named, stays-home, still-listed, modified-elsewhere, elsewhere}
-use Rattle.seg_ops.proofs.SlotPlaces.{places-set, holders-set, own-set, object-set, StaysShown, stays-shown}
+use Rattle.seg_ops.proofs.SlotPlaces.{slot-here, slot-else, places-set, holders-set, own-set, object-set, StaysShown, stays-shown}
 use Rattle.seg_ops.proofs.SlotTables.{IsUnnamed}
 use Rattle.seg_ops.proofs.StillSteps.{memory_of}
 
@@ -113,8 +114,9 @@ pub lengths-set : (maps put : List (Option Map)) (m i : ℕ) (o : Option ℕ) �
 lengths-set maps put m i o lt set = λ a j. (ap (λ (ps : List (Option Map)). length (places_of ps j)) set ∙ places-set maps m j (slice_set (places_of maps m) i o) (map-within maps m i lt) (length-set (places_of maps m) i o)) a
 
 pub segments-set : (w : World) (spaces : Spaces) (anon : Slots) (put : List (Option Map)) (m i : ℕ) (o : Option ℕ) → MemoryFits (memory_of w spaces) → i < length (places_of w.maps m) → put ≡ with_places w.maps m (slice_set (places_of w.maps m) i o) → anon.reserved ≡ w.anon.reserved
+    → ((number place slot : ℕ) → slot_in put number place ≡ Some slot → (slot_in w.maps number place ≡ Some slot → count_at w.anon slot ≡ 1) → count_at anon slot ≡ 1)
     → SegmentsFit (length w.files.files) anon put spaces
-segments-set w spaces anon put m i o f within set reserved =
+segments-set w spaces anon put m i o f within set reserved counts =
     let lt = map-within w.maps m i within in
     let size = length-set (places_of w.maps m) i o in
     let places = slice_set (places_of w.maps m) i o in
@@ -130,8 +132,19 @@ segments-set w spaces anon put m i o f within set reserved =
       holders = λ j. ap (λ (ps : List (Option Map)). holders_of ps j) set ∙ holders-set w.maps m j places lt ∙ f.segments.holders j;
       zeros = f.segments.zeros;
       apart = f.segments.apart;
+      once = λ z number place slot is held. counts number place slot held (f.segments.once z number place slot is);
       reserved = ap (λ (g : ℕ → ℕ). sum_by (λ (parts : List (Part Segment)). sum_by slots_for_part parts) (finite.values spaces) + sum_by g (finite.values (zero_maps spaces))) (lengths-set w.maps put m i o within set) ∙ f.segments.reserved ∙ sym reserved;
     }
+
+-- a slot that was counted once where it is held still is
+made-once : (old new : Slots) (maps put : List (Option Map)) (m i s number place t : ℕ) → MakesSlot old new maps put m i s → slot_in put number place ≡ Some t → (slot_in maps number place ≡ Some t → count_at old t ≡ 1) → count_at new t ≡ 1
+made-once old new maps put m i s number place t k held was = elim (cases_eq t s) [
+  | inl e ↦ ap (count_at new) e ∙ k.alone
+  | inr ne ↦
+      let apart : (number ≡ m) × (place ≡ i) → ⊥ = λ e. ne (some-inj t s (sym held ∙ ap (λ (ps : List (Option Map)). slot_in ps number place) k.set
+      ∙ ap (λ (a : ℕ). slot_in (with_places maps m (slice_set (places_of maps m) i (Some s))) a place) e.0 ∙ ap (slot_in (with_places maps m (slice_set (places_of maps m) i (Some s))) m) e.1 ∙ slot-here maps m i (Some s) k.within)) in
+      k.once t ne (was (sym (slot-else maps m i number place (Some s) k.within apart) ∙ sym (ap (λ (ps : List (Option Map)). slot_in ps number place) k.set) ∙ held))
+]
 
 -- MEMORY FITS.
 pub made-memory : (w : World) (spaces : Spaces) (new : StoreSeen) (anon : Slots) (put : List (Option Map)) (m i s frame : ℕ) → MemoryFits (memory_of w spaces) → MakesSlot w.anon anon w.maps put m i s → TakesFor w.store new (slot_name s) frame → (row_at new.rows frame).modified ≡ true → AreShown w spaces put
@@ -175,7 +188,7 @@ made-memory w spaces new anon put m i s frame f k t dirty shown =
             modified-elsewhere w.store new w.hat.places (slot_name s) frame j t e.0 (f.unpushed j a e.1 (sym (k.swapped a apart) ∙ unpushed) (subst (λ (b : Option (List ℕ)). IsSome b) (elsewhere w.store new (slot_name s) frame j t e.0).bytes home))
       ];
       counts = k.counts;
-      segments = segments-set w spaces anon put m i (Some s) f k.within k.set k.reserved;
+      segments = segments-set w spaces anon put m i (Some s) f k.within k.set k.reserved (λ number place t held was. made-once w.anon anon w.maps put m i s number place t k held was);
     }
   where
     may : (x : Spot) → own_slot put x ≡ own_slot w.maps x → MayWriteInPlace w.anon w.maps x → MayWriteInPlace anon put x

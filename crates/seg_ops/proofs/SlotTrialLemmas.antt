@@ -1,5 +1,5 @@
 -- THE WORLD OF THE SLOTS' TRIAL fits: idle frames, and two maps that hold one slot, whose page is in swap.
-use Rattle.std.proofs.Common.{◌≡◌, ◌≢◌, ℕ, zero, suc, ◌+◌, ◌-◌, ◌*◌, ◌<◌, true, false, List, [], ◌∷◌, length, map, replicate, Option, Some, None, refl, sym, ap, ◌∙◌, inl, inr, subst, arith, slice_index, slice_index_or}
+use Rattle.std.proofs.Common.{◌≡◌, ◌≢◌, ℕ, zero, suc, ◌+◌, ◌-◌, ◌*◌, ◌<◌, Bool, true, false, List, [], ◌∷◌, length, map, replicate, Option, Some, None, refl, sym, ap, ◌∙◌, inl, inr, subst, arith, slice_index, slice_index_or}
 use Rattle.std.specs.Prelude.{All, IsSome, is_some, option_map, sum_by, flat_map, filter_map, option_and_then, slice_get}
 use Rattle.std.specs.Ordering.{nat_cmp}
 use Rattle.std.specs.Cmp.{nat_cmp_total}
@@ -21,6 +21,7 @@ use Rattle.page_lock.specs.Rows.{row_at, clear_row}
 use Rattle.page_lock.specs.declared.Row.{Row}
 use Rattle.page_store.specs.Bays.{BaySeen, missing, home, out, bay_at, IsStill}
 use Rattle.page_store.specs.Layout.{FileBlocks, KeepsPage}
+use Rattle.core_arena.specs.Bytes.{zeros}
 use Rattle.page_store.specs.New.{IsNew}
 use Rattle.page_store.specs.Notes.{no_notes}
 use Rattle.page_store.specs.Seen.{StoreSeen, IsSoundStore}
@@ -73,8 +74,8 @@ holding-reserved =
     omega (arith, a, b)
 
 -- THE COUNTS
-holding-counts : (anon : Slots) → HoldsOne anon → CountsFit anon holding_maps
-holding-counts anon h = record {
+holding-counts : (pushed : Bool) (anon : Slots) → HoldsOne pushed anon → CountsFit anon holding_maps
+holding-counts pushed anon h = record {
   sound = h.sound;
   counts = λ s. ap (λ (a : Slots). slice_index a.counts s) h.are ∙ sym (times s ∙ count s);
   places = sym (ap (λ (a : Slots). a.reserved) h.are);
@@ -101,8 +102,8 @@ holding-part_fits zero lt = record { pages = refl; end = omega arith; within = r
 holding-part_fits (suc zero) lt = record { pages = refl; end = omega arith; within = refl; object = (refl, refl); own = (1, refl, refl, refl, refl) }
 holding-part_fits (suc (suc m)) lt = absurd (omega (arith, lt))
 
-holding-fit : (anon : Slots) → HoldsOne anon → SegmentsFit 0 anon holding_maps holding_spaces
-holding-fit anon h = record {
+holding-fit : (pushed : Bool) (anon : Slots) → HoldsOne pushed anon → SegmentsFit 0 anon holding_maps holding_spaces
+holding-fit pushed anon h = record {
   ordered = λ p parts is. subst (λ (ps : List (Part Segment)). IsInOrder 1 ps) (holding-get p parts is).1
       (record { behind = omega arith; some = omega arith; within = omega arith }, (record { behind = omega arith; some = omega arith; within = omega arith }, tt));
   each = λ p parts is. subst (λ (ps : List (Part Segment)). All (SegmentFits 0 holding_maps) ps) (holding-get p parts is).1
@@ -111,6 +112,7 @@ holding-fit anon h = record {
   zeros = subst (λ (ss : List Segment). All (ShowsZero (zero_maps holding_spaces)) ss) (sym holding-segments)
       (All-cons (ShowsZero (zero_maps holding_spaces)) (holding_segment 0) (holding_segment 1 ∷ []) (λ z number is. absurd (cc)) (All-cons (ShowsZero (zero_maps holding_spaces)) (holding_segment 1) [] (λ z number is. absurd (cc)) (All-nil (ShowsZero (zero_maps holding_spaces)))));
   apart = λ y z number is _. absurd (let e : None ≡ Some number = sym (finite.get-empty nat_cmp y) ∙ sym (ap (λ (zs : finite.FinMap nat_cmp ℕ). finite.get zs y) holding-zeros) ∙ is in cc);
+  once = λ y number place slot is _. absurd (let e : None ≡ Some number = sym (finite.get-empty nat_cmp y) ∙ sym (ap (λ (zs : finite.FinMap nat_cmp ℕ). finite.get zs y) holding-zeros) ∙ is in cc);
   reserved = holding-reserved ∙ sym (ap (λ (a : Slots). a.reserved) h.are);
 }
   where
@@ -125,16 +127,20 @@ holding-fit anon h = record {
         omega (arith, a, b, y, z)
 
 -- THE STORE, with the swap disk alone
+counted : {X : Type 0} (n : ℕ) (x : X) → length (replicate n x) ≡ n
+counted zero x = refl
+counted (suc n) x = ap suc (counted n x)
+
 replicated : {X : Type 0} (n : ℕ) (x : X) (k : ℕ) → slice_index_or (replicate n x) k x ≡ x
 replicated zero x k = refl
 replicated (suc n) x zero = refl
 replicated (suc n) x (suc k) = replicated n x k
 
-bay-other : (s : StoreSeen) (d : DiskSeen) → IsNew s 2 [] (Some d) → (k : ℕ) → k ≢ 8 → bay_at s.bays k ≡ missing
-bay-other s d new k ne = new.bays.others k ne (λ i lt e. omega (arith, lt))
+pub bay-other : (frames : ℕ) (s : StoreSeen) (d : DiskSeen) → IsNew s frames [] (Some d) → (k : ℕ) → k ≢ 8 → bay_at s.bays k ≡ missing
+bay-other frames s d new k ne = new.bays.others k ne (λ i lt e. omega (arith, lt))
 
-swap-disks : (s : StoreSeen) (d : DiskSeen) → IsNew s 2 [] (Some d) → d.size ≡ 4 → DisksFit s.bays no_files.disks 4
-swap-disks s d new size = record {
+swap-disks : (frames : ℕ) (s : StoreSeen) (d : DiskSeen) → IsNew s frames [] (Some d) → d.size ≡ 4 → DisksFit s.bays no_files.disks 4
+swap-disks frames s d new size = record {
   numbers = λ number blocks is. absurd (none number blocks is);
   there = λ number blocks is. absurd (none number blocks is);
   swap = λ some e. let z : home d ≡ missing = sym new.bays.swap ∙ e in cc;
@@ -170,27 +176,28 @@ no-files = record {
     none n f b k = let z : None ≡ Some f = k.number in cc
 
 -- THE WORLD
-pub record HoldsFresh (w : World) : Type 0 where
+pub record HoldsFresh (frames : ℕ) (pushed : Bool) (w : World) : Type 0 where
   pub disk : DiskSeen
-  pub store : IsNew w.store 2 [] (Some disk)
+  pub store : IsNew w.store frames [] (Some disk)
   pub sound : IsSoundStore w.store
   pub still : (number : ℕ) → IsStill (bay_at w.store.bays number)
   pub size : disk.size ≡ 4
-  pub anon : HoldsOne w.anon
+  pub anon : HoldsOne pushed w.anon
   pub maps : w.maps ≡ holding_maps
-  pub leads : w.hat.frames ≡ 2
-  pub hat : w.hat.places ≡ replicate 2 None
+  pub leads : w.hat.frames ≡ frames
+  pub places : ℕ
+  pub hat : w.hat.places ≡ replicate places None
   pub files : w.files ≡ no_files
 
-module _ (w : World) (h : HoldsFresh w) where
+module _ (frames : ℕ) (pushed : Bool) (w : World) (h : HoldsFresh frames pushed w) where
   unnamed : (k : ℕ) (n : PageName) → name_at w.store.names k ≡ Some n → ⊥
-  unnamed k n is = let z : None ≡ Some n = sym (ap (λ (names : List (Option PageName)). name_at names k) h.store.names ∙ replicated 2 None k) ∙ is in cc
+  unnamed k n is = let z : None ≡ Some n = sym (ap (λ (names : List (Option PageName)). name_at names k) h.store.names ∙ replicated frames None k) ∙ is in cc
 
   clear : (k : ℕ) → row_at w.store.rows k ≡ clear_row
-  clear k = ap (λ (rows : List Row). row_at rows k) h.store.rows ∙ replicated 2 clear_row k
+  clear k = ap (λ (rows : List Row). row_at rows k) h.store.rows ∙ replicated frames clear_row k
 
   unloaded : (k : ℕ) → slice_index_or w.hat.places k None ≡ None
-  unloaded k = ap (λ (places : List (Option Translation)). slice_index_or places k None) h.hat ∙ replicated 2 None k
+  unloaded k = ap (λ (places : List (Option Translation)). slice_index_or places k None) h.hat ∙ replicated h.places None k
 
   slots-four : length w.anon.counts ≡ 4
   slots-four = ap (λ (a : Slots). length a.counts) h.anon.are
@@ -205,15 +212,15 @@ module _ (w : World) (h : HoldsFresh w) where
         exist = λ k n is. absurd (unnamed k n is);
       };
       files = subst FilesFit (sym h.files) no-files;
-      disks = subst (λ (f : FilesSeen). DisksFit w.store.bays f.disks (length w.anon.counts)) (sym h.files) (subst (λ (c : ℕ). DisksFit w.store.bays no_files.disks c) (sym slots-four) (swap-disks w.store h.disk h.store h.size));
+      disks = subst (λ (f : FilesSeen). DisksFit w.store.bays f.disks (length w.anon.counts)) (sym h.files) (subst (λ (c : ℕ). DisksFit w.store.bays no_files.disks c) (sym slots-four) (swap-disks frames w.store h.disk h.store h.size));
       pool = record {
-        leads = h.leads ∙ sym (ap (λ (fs : List (Option (List ℕ))). length fs) h.store.frames);
+        leads = h.leads ∙ sym (ap (λ (fs : List (Option (List ℕ))). length fs) h.store.frames ∙ counted frames (Some zeros));
         single = λ i j space page is _. absurd (let z : false ≡ true = sym (ap (pool.holds space page) (unloaded i)) ∙ is in cc);
       };
       translations = λ k t is. absurd (let z : None ≡ Some t = sym (unloaded k) ∙ is in cc);
       unpushed = λ k s is _ _. absurd (unnamed k (slot_name s) is);
-      counts = subst (λ (ms : List (Option Map)). CountsFit w.anon ms) (sym h.maps) (holding-counts w.anon h.anon);
-      segments = subst (λ (n : ℕ). SegmentsFit n w.anon w.maps holding_spaces) (sym (ap (λ (f : FilesSeen). length f.files) h.files)) (subst (λ (ms : List (Option Map)). SegmentsFit 0 w.anon ms holding_spaces) (sym h.maps) (holding-fit w.anon h.anon));
+      counts = subst (λ (ms : List (Option Map)). CountsFit w.anon ms) (sym h.maps) (holding-counts pushed w.anon h.anon);
+      segments = subst (λ (n : ℕ). SegmentsFit n w.anon w.maps holding_spaces) (sym (ap (λ (f : FilesSeen). length f.files) h.files)) (subst (λ (ms : List (Option Map)). SegmentsFit 0 w.anon ms holding_spaces) (sym h.maps) (holding-fit pushed w.anon h.anon));
     };
     notes = record {
       stored = record {
@@ -234,7 +241,7 @@ module _ (w : World) (h : HoldsFresh w) where
       still-not number seat is = subst IsStill is (h.still number)
 
 -- WHOSE PLACE IT IS.
-holding-spot : (m i : ℕ) → m < 2 → i < 2 → spot_at holding_spaces 1 (holding_page m i) ≡ Some (holding_segment m, i)
+pub holding-spot : (m i : ℕ) → m < 2 → i < 2 → spot_at holding_spaces 1 (holding_page m i) ≡ Some (holding_segment m, i)
 holding-spot m i low lt = ap (λ (o : Option (List (Part Segment))). option_and_then (λ parts. at parts (holding_page m i)) o) (get-insert_here (finite.empty {X = List (Part Segment)} {R = nat_cmp}) 1 holding_parts) ∙ by_page m i low lt
   where
     by_page : (m i : ℕ) → m < 2 → i < 2 → at holding_parts (holding_page m i) ≡ Some (holding_segment m, i)

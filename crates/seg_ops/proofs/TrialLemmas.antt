@@ -88,6 +88,7 @@ trial-segments-fit = record {
   holders = λ number. sym (ap (sum_by (times_had number)) trial-segments ∙ sum_by-cons (times_had number) trial_segment []);
   zeros = subst (λ (ss : List Segment). All (ShowsZero (zero_maps trial_spaces)) ss) (sym trial-segments) (All-cons (ShowsZero (zero_maps trial_spaces)) trial_segment [] (λ z number is. absurd (cc)) (All-nil (ShowsZero (zero_maps trial_spaces))));
   apart = λ y z number is _. absurd (let e : None ≡ Some number = sym (finite.get-empty nat_cmp y) ∙ sym (ap (λ (zs : finite.FinMap nat_cmp ℕ). finite.get zs y) trial-zeros) ∙ is in cc);
+  once = λ y number place slot is _. absurd (let e : None ≡ Some number = sym (finite.get-empty nat_cmp y) ∙ sym (ap (λ (zs : finite.FinMap nat_cmp ℕ). finite.get zs y) trial-zeros) ∙ is in cc);
   reserved = trial-reserved;
 }
 

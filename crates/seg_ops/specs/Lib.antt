@@ -8,3 +8,5 @@ pub mod Empties
 pub mod OwnPages
 pub mod SlotTrials
 pub mod Rooms
+pub mod SlotsDue
+pub mod Faults

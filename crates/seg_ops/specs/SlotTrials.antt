@@ -1,6 +1,6 @@
 -- A machine on which slots are tried: process 1 has two private mappings of new zero memory, and a page of each has the same slot. Inside: no public
 -- clause cites this.
-use Rattle.std.specs.Prelude.{◌≡◌, ◌<◌, ◌+◌, ◌*◌, ℕ, true, false, List, [], ◌∷◌, length, Option, Some, None}
+use Rattle.std.specs.Prelude.{◌≡◌, ◌<◌, ◌+◌, ◌*◌, ℕ, Bool, false, List, [], ◌∷◌, length, Option, Some, None}
 use Rattle.std.specs.FinMap as finite
 use Rattle.vm_types.specs.declared.call.Kind.TheVariants.{Private}
 use Rattle.vm_types.specs.declared.call.Object.TheVariants as object
@@ -34,11 +34,12 @@ holding_map = Some (record { places = Some 0 ∷ None ∷ []; holders = 1 })
 abbrev pub holding_maps : List (Option Map)
 holding_maps = holding_map ∷ holding_map ∷ []
 
-abbrev pub holding_slots : Slots
-holding_slots = record { counts = 2 ∷ 0 ∷ 0 ∷ 0 ∷ []; swapped = true ∷ false ∷ false ∷ false ∷ []; reserved = 4 }
+-- Whose page was pushed, or wasn't.
+abbrev pub holding_slots : Bool → Slots
+holding_slots pushed = record { counts = 2 ∷ 0 ∷ 0 ∷ 0 ∷ []; swapped = pushed ∷ false ∷ false ∷ false ∷ []; reserved = 4 }
 
-pub record HoldsOne (slots : Slots) : Type 0 where
-  pub are : slots ≡ holding_slots
+pub record HoldsOne (pushed : Bool) (slots : Slots) : Type 0 where
+  pub are : slots ≡ holding_slots pushed
   pub sound : IsSoundAnonSlots slots
 
 -- The place is there, and its page has no translation.

@@ -1,11 +1,11 @@
 -- Slots that are made for places of anon maps, with their pages. Public clauses cite this.
-use Rattle.std.specs.Prelude.{◌≡◌, ◌≢◌, ◌↔◌, ◌<◌, ℕ, Bool, false, List, length, Option, Some, IsTrue, slice_index_or, slice_set}
+use Rattle.std.specs.Prelude.{◌≡◌, ◌≢◌, ◌↔◌, ◌<◌, ◌-◌, ℕ, Bool, false, List, length, Option, Some, None, IsTrue, slice_index_or, slice_set}
 use Rattle.std.specs.FinMap as finite
 use Rattle.std.specs.Option.{option_map_or}
 use Rattle.page_hash.specs.declared.PageName.{PageName}
 use Rattle.page_store.specs.Notes.{Notes}
 use Rattle.anon_map.specs.Maps.{Map, places_of, with_places}
-use Rattle.anon_slots.specs.Slots.{Slots, count_at}
+use Rattle.anon_slots.specs.Slots.{Slots, count_at, with_count, with_new_slot}
 use Rattle.flat_model.specs.Access.{with_cell}
 use Rattle.flat_model.specs.Flat.{Flat, cell_at}
 use Rattle.flat_model.specs.Words.{Page}
@@ -16,7 +16,7 @@ use Rattle.vm_world.specs.MemoryFits.{MemoryFits}
 use Rattle.vm_world.specs.NotesFit.{NotesFit}
 use Rattle.vm_world.specs.Pages.{page_value}
 use Rattle.vm_world.specs.Segments.{Spaces, Spot, spot_at}
-use Rattle.vm_world.specs.World.{World, core_of, slot_name, world_table, page_exists, AllTell}
+use Rattle.vm_world.specs.World.{World, core_of, slot_name, slot_in, world_table, page_exists, AllTell}
 use Rattle.vm_world.specs.WorldSteps.{cut_page}
 
 -- A slot that no place held is held by one; each other slot is in use where it was, and one that a single place held still is; the slot was never pushed,
@@ -35,6 +35,19 @@ pub record MakesSlot (old new : Slots) (maps put : List (Option Map)) (m i s : �
   pub swapped : (t : ℕ) → t ≢ s → slice_index_or new.swapped t false ≡ slice_index_or old.swapped t false
   pub reserved : new.reserved ≡ old.reserved
   pub counts : CountsFit new put
+
+-- The slots once the slot that a place held, if it held one, is counted once less.
+abbrev pub anon_left : Slots → Option ℕ → Slots
+anon_left anon None = anon
+anon_left anon (Some s) = with_count anon s (count_at anon s - 1)
+
+-- A place gets a slot that no place held: it is counted there alone, and was never pushed; the slot that the place held before, if it held one, is counted
+-- once less; and every other slot and every other place is as it was.
+pub record GivesSlot (old new : Slots) (maps put : List (Option Map)) (m i s : ℕ) : Type 0 where
+  pub free : count_at old s ≡ 0
+  pub alone : count_at new s ≡ 1
+  pub counts : new ≡ with_new_slot (anon_left old (slot_in maps m i)) s
+  pub set : put ≡ with_places maps m (slice_set (places_of maps m) i (Some s))
 
 -- A slot is made for a place, with its page, in a frame that is taken. Files, disks and translations stay; memory and the notes fit as before, and disks
 -- tell where they told; the slot's page has these bytes; and each page that existed keeps its value, but that the names of taken frames may be cut at

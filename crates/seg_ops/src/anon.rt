@@ -40,6 +40,7 @@ pub fn make_zero<D: Disk>(world: &mut World<D>, map: u32, place: u32) -> u32
         (λ frame. residence world.new.store (slot_name result) ≡ Residence.Home frame) }
     ensures unlisted { IfSome (next_frame world.old.store)
         (λ frame. ¬ IsListedFrame world.new.store frame) }
+    ensures free { count_at world.old.anon result ≡ 0 }
     ensures once { count_at world.new.anon result ≡ 1 }
     // The tail of the file whose last page lost the frame is pending.
     ensures pends { PendsTails (world_seen world.old) (is_name (next_name world.old.store))
@@ -108,6 +109,7 @@ pub fn make_copy<D: Disk>(world: &mut World<D>, from: PageName, map: u32, place:
         (λ frame. residence world.new.store (slot_name result) ≡ Residence.Home frame) }
     ensures unlisted { IfSome (next_frame world.old.store)
         (λ frame. ¬ IsListedFrame world.new.store frame) }
+    ensures free { count_at world.old.anon result ≡ 0 }
     ensures once { count_at world.new.anon result ≡ 1 }
     // The tail of the file whose last page lost the frame is pending.
     ensures pends { PendsTails (world_seen world.old) (is_name (next_name world.old.store))

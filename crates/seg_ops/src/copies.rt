@@ -49,6 +49,7 @@ pub fn copy_slot<D: Disk>(world: &mut World<D>, map: u32, place: u32, slot: u32)
         (λ frame. residence world.new.store (slot_name result) ≡ Residence.Home frame) }
     ensures unlisted { IfSome (next_frame world.old.store)
         (λ frame. ¬ IsListedFrame world.new.store frame) }
+    ensures free { count_at world.old.anon result ≡ 0 }
     ensures once { count_at world.new.anon result ≡ 1 }
     // The tail of the file whose last page lost the frame is pending.
     ensures pends { PendsTails (world_seen world.old) (is_name (next_name world.old.store))
@@ -107,6 +108,7 @@ pub fn zero_slot<D: Disk>(world: &mut World<D>, map: u32, place: u32, slot: u32)
         (λ frame. residence world.new.store (slot_name result) ≡ Residence.Home frame) }
     ensures unlisted { IfSome (next_frame world.old.store)
         (λ frame. ¬ IsListedFrame world.new.store frame) }
+    ensures free { count_at world.old.anon result ≡ 0 }
     ensures once { count_at world.new.anon result ≡ 1 }
     // The tail of the file whose last page lost the frame is pending.
     ensures pends { PendsTails (world_seen world.old) (is_name (next_name world.old.store))

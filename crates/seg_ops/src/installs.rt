@@ -78,12 +78,13 @@ pub fn show<D: Disk>(
 
 /// Takes the frame of a page that is home off the cache list, where it is there, so that it isn't taken for another page.
 /// Constant expected time.
-pub fn take_back<D: Disk>(world: &mut World<D>, page: PageName, frame: u32)
-    requires home { residence world.old.store page ≡ Residence.Home frame }
+pub fn take_back<D: Disk>(world: &mut World<D>, page: PageName)
+    requires home { (frame : ℕ) × (residence world.old.store page ≡ Residence.Home frame) }
     requires fits { (spaces : Spaces)
         × MemoryFits (record { world = world_seen world.old; spaces = spaces }) }
     ensures store { world.new.store ≡ after_reclaim world.old.store page }
-    ensures unlisted { ¬ IsListedFrame world.new.store frame }
+    ensures unlisted { (frame : ℕ) → residence world.old.store page ≡ Residence.Home frame
+        → ¬ IsListedFrame world.new.store frame }
     // What stays.
     ensures rest { world.new ≡ record world.old { store = world.new.store } }
     ensures stay { SameResidence world.old.store world.new.store }
@@ -94,6 +95,5 @@ pub fn take_back<D: Disk>(world: &mut World<D>, page: PageName, frame: u32)
         → MemoryFits (record { world = world_seen world.old; spaces = spaces })
         → KeepsPages (world_seen world.old) (world_seen world.new) spaces }
 {
-    let _frame = frame;
     world.store.reclaim(page);
 }

@@ -68,7 +68,7 @@ fn swap_disk(alloc: Global) -> Result<MemDisk, AllocError>
 
 /// Four slots, of which two places hold the first, whose page was pushed.
 fn one_slot(alloc: Global) -> Result<AnonSlots, AllocError>
-    ensures { IfOk result HoldsOne }
+    ensures { IfOk result (HoldsOne true) }
 {
     let mut anon = AnonSlots::new(alloc, 4)?;
     let Ok(()) = anon.reserve(4) else {

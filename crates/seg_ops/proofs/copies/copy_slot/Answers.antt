@@ -1,4 +1,4 @@
-use Rattle.std.proofs.Common.{◌≡◌, None, Some, ap, ◌∙◌, subst, slice_set}
+use Rattle.std.proofs.Common.{◌≡◌, None, Some, sym, ap, ◌∙◌, subst, slice_set}
 use Rattle.hat_layer.specs.Pool.{at}
 use Rattle.page_hash.specs.Names.{find, is_name}
 use Rattle.page_store.specs.Steps.{next_name, home_bytes}
@@ -9,6 +9,8 @@ use Rattle.vm_world.specs.World.{World, world_seen, slot_name}
 use Rattle.vm_world.specs.WorldSteps.{tails_lost}
 use Rattle.seg_ops.specs.Slots.{with_own_page}
 use Rattle.seg_ops.proofs.SlotCopies.{changes-again, own-home}
+use Rattle.anon_slots.specs.Slots.{Slots, count_at}
+use Rattle.seg_ops.proofs.SlotCounts.{left-free}
 use Rattle.seg_ops.proofs.SlotPlaces.{place-twice}
 use Rattle.seg_ops.proofs.StillSteps.{memory_of}
 use Rattle.seg_ops.proofs.copies.copy_slot.Goals as goal
@@ -41,3 +43,8 @@ returns-clause-changes g c = λ spaces p q x fits owns unloaded.
     (c.leave_slot.ensures.changes spaces p q x fits owns unloaded)
     (subst (λ (v : World). ChangesMemory p (memory_of mid spaces) (memory_of new spaces) (λ F G. G ≡ tails_cleared (with_own_page F p q (home_bytes v.store (find v.store.names from))) (tails_lost v (is_name (next_name v.store)))))
     (ap world_seen c.leave_slot.ensures.rest) copied)
+
+pub returns-clause-free : goal.returns-clause-free
+returns-clause-free g c =
+    left-free c.args.world.now.anon c.args.slot c.make_copy.result c.requires.shared
+    (sym (ap (λ (a : Slots). count_at a c.make_copy.result) c.leave_slot.ensures.anon) ∙ c.make_copy.ensures.free)

@@ -1,4 +1,4 @@
-use Rattle.std.proofs.Common.{◌≡◌, None, Some, ap, ◌∙◌, subst, slice_set}
+use Rattle.std.proofs.Common.{◌≡◌, None, Some, sym, ap, ◌∙◌, subst, slice_set}
 use Rattle.std.specs.Prelude.{IfSome}
 use Rattle.hat_layer.specs.Pool.{at}
 use Rattle.core_arena.specs.Bytes.{zeros}
@@ -14,6 +14,8 @@ use Rattle.vm_world.specs.WorldSteps.{tails_lost}
 use Rattle.seg_ops.specs.Slots.{with_own_page}
 use Rattle.seg_ops.proofs.Pending.{lost-before}
 use Rattle.seg_ops.proofs.SlotCopies.{changes-again, own-blank}
+use Rattle.anon_slots.specs.Slots.{Slots, count_at}
+use Rattle.seg_ops.proofs.SlotCounts.{left-free}
 use Rattle.seg_ops.proofs.SlotPlaces.{place-twice}
 use Rattle.seg_ops.proofs.StillSteps.{memory_of}
 use Rattle.seg_ops.proofs.copies.zero_slot.Goals as goal
@@ -51,3 +53,8 @@ returns-clause-changes g c = λ spaces p q x fits owns unloaded.
     changes-again w spaces p q x zeros owns.here (own-blank w spaces p q c.args.map c.args.place c.args.slot x fits c.requires.holds owns c.requires.absent c.requires.blank) mid new (tails_lost w (is_name (next_name w.store)))
     (c.leave_slot.ensures.changes spaces p q x fits owns unloaded)
     (subst (λ (v : World). ChangesMemory p (memory_of mid spaces) (memory_of new spaces) (λ F G. G ≡ tails_cleared (with_own_page F p q zeros) (tails_lost v (is_name (next_name v.store))))) (ap world_seen c.leave_slot.ensures.rest) made)
+
+pub returns-clause-free : goal.returns-clause-free
+returns-clause-free g c =
+    left-free c.args.world.now.anon c.args.slot c.make_zero.result c.requires.shared
+    (sym (ap (λ (a : Slots). count_at a c.make_zero.result) c.leave_slot.ensures.anon) ∙ c.make_zero.ensures.free)

@@ -3,7 +3,7 @@ use Rattle.seg_ops.proofs.Shows.{reclaim-keeps, reclaim-unlisted, reclaim-names,
 use Rattle.seg_ops.proofs.installs.take_back.Goals as goal
 
 pub returns-clause-unlisted : goal.returns-clause-unlisted
-returns-clause-unlisted g c = reclaim-unlisted (world_seen c.args.world.now) c.reclaim.new.self c.args.page c.args.frame c.requires.home c.reclaim.ensures.unlisted
+returns-clause-unlisted g c = λ frame home. reclaim-unlisted (world_seen c.args.world.now) c.reclaim.new.self c.args.page frame home c.reclaim.ensures.unlisted
 
 pub returns-clause-frames : goal.returns-clause-frames
 returns-clause-frames g c = (reclaim-names c.args.world.now.store c.reclaim.new.self c.args.page c.reclaim.ensures.new).1
@@ -17,5 +17,6 @@ returns-clause-modified g c = reclaim-modifies (world_seen c.args.world.now) c.r
 pub returns-clause-keeps : goal.returns-clause-keeps
 returns-clause-keeps g c = λ spaces fits.
     let w = world_seen c.args.world.now in
-    let unlisted = reclaim-unlisted w c.reclaim.new.self c.args.page c.args.frame c.requires.home c.reclaim.ensures.unlisted in
-    reclaim-keeps w spaces c.reclaim.new.self c.args.page c.args.frame fits c.requires.home c.reclaim.ensures.new unlisted c.reclaim.ensures.laws
+    let home = c.requires.home in
+    let unlisted = reclaim-unlisted w c.reclaim.new.self c.args.page home.0 home.1 c.reclaim.ensures.unlisted in
+    reclaim-keeps w spaces c.reclaim.new.self c.args.page home.0 fits home.1 c.reclaim.ensures.new unlisted c.reclaim.ensures.laws

@@ -10,7 +10,7 @@ use Rattle.seg_ops.proofs.slot_tests.new_world.Goals as goal
 pub returns : goal.returns
 returns c =
     let d = disk_of (look c.in_ok-swap.swap) in
-    holding-trial _ (record {
+    holding-trial 2 true _ (record {
       disk = d;
       store = subst (λ (l : List (ℕ × MemDisk)). IsNew c.in-Ok.store 2 (pairs_seen (λ x. disk_of (look x)) l) (Some d)) c.new-disks.ensures.items c.in-Ok.ensures.store;
       sound = c.in-Ok.ensures.sound;
@@ -19,6 +19,7 @@ returns c =
       anon = c.in_ok-anon.ensures;
       maps = c.in_ok-maps.ensures;
       leads = c.in_ok-hat.ensures.frames;
+      places = 2;
       hat = c.in_ok-hat.ensures.places;
       files = c.new-3.ensures;
     })

@@ -1,0 +1,67 @@
+-- What faults come to. Public clauses cite this.
+use Rattle.std.specs.Prelude.{◌≡◌, ℕ, Bool, true, false, List, Option, Some, IsFalse}
+use Rattle.hat_layer.specs.Pool.{at}
+use Rattle.hat_layer.specs.declared.translation.Translation.{Translation}
+use Rattle.page_store.specs.declared.plan.Plan.{Plan}
+use Rattle.vm_types.specs.declared.call.Call.{Call}
+use Rattle.vm_types.specs.declared.call.Call.TheVariants.{Load, Store}
+use Rattle.vm_types.specs.declared.call.Kind.TheVariants.{Shared}
+use Rattle.vm_types.specs.declared.call.Object.TheVariants as object
+use Rattle.flat_model.specs.Flat.{Flat}
+use Rattle.flat_model.specs.Words.{page}
+use Rattle.vm_world.specs.CallSteps.{ChangesMemory}
+use Rattle.vm_world.specs.FlatMemory.{Memory}
+use Rattle.vm_world.specs.Plans.{CanRunPlan}
+use Rattle.vm_world.specs.Segments.{Spot, Spaces, spot_at}
+use Rattle.vm_world.specs.Serving.{TakesFrames, KeepsWanted, ModifiesNone}
+use Rattle.vm_world.specs.Wants.{accessed_page, shows_page, HoldsUp}
+use Rattle.vm_world.specs.World.{World}
+use Rattle.seg_ops.specs.OwnPages.{with_own_shown}
+use Rattle.seg_ops.specs.declared.plans.Step.{Step}
+use Rattle.seg_ops.specs.declared.plans.Step.TheVariants.{Loaded, Past, Need, Busy}
+use Rattle.seg_ops.specs.SlotsDue.{SlotsAfter}
+
+-- The page has a translation that lets the access.
+pub record LetsAccess (w : World) (p q : ℕ) (write : Bool) : Type 0 where
+  pub translation : Translation
+  pub loaded : at w.hat.places p q ≡ Some translation
+  pub writable : write ≡ true → translation.writable ≡ true
+
+-- The call is a store to this page, or a load of it.
+abbrev pub Accesses : Bool → ℕ → Call → Type 0
+Accesses false q (Load a n) = page a ≡ q
+Accesses true q (Store a n v) = page a ≡ q
+Accesses write q call = ⊥
+
+-- Each such access needs this transfer first. It can run; no home page that the access wants lost its frame; and no page became modified.
+pub record NeedsTransfer (old new : Memory) (p q : ℕ) (write : Bool) (plan : Plan) : Type 0 where
+  pub runs : (call : Call) → Accesses write q call → CanRunPlan new (Some (p, call)) plan
+  pub wanted : (call : Call) → Accesses write q call → KeepsWanted old new p call
+  pub modified : ModifiesNone old.world new.world
+
+-- What a fault at a place of any mapping comes to.
+abbrev pub FaultMeans : Memory → Memory → ℕ → ℕ → Spot → Bool → Step → Type 0
+FaultMeans old new p q x write Loaded = LetsAccess new.world p q write
+FaultMeans old new p q x write Past = IsFalse (shows_page new.world x)
+FaultMeans old new p q x write (Need plan) = NeedsTransfer old new p q write plan
+FaultMeans old new p q x write (Busy h) = (calls : List (Option ℕ)) (call : Call) → Accesses write q call → HoldsUp new calls p call h
+
+-- Flat memory after a fault: for a store a private cell gets the page that it shows as its own.
+abbrev pub after_fault : Step → Bool → Flat → ℕ → ℕ → Flat
+after_fault Loaded true F p q = with_own_shown F p q
+after_fault answer write F p q = F
+
+-- Nothing follows what took frames, unless the page is loaded.
+abbrev pub EndsThere : Step → World → World → Type 0
+EndsThere Loaded mid new = Unit {0}
+EndsThere answer mid new = new ≡ mid
+
+-- A fault takes frames for other pages, with the tails that are pending before and after; then, if the page is loaded, flat memory is so; a slot was made
+-- exactly where one was due; and it comes to this.
+pub record ServesFault (old new : Memory) (pending more p q : ℕ) (x : Spot) (write : Bool) (answer : Step) : Type 0 where
+  pub mid : World
+  pub first : TakesFrames old mid pending more
+  pub acts : ChangesMemory p (record old { world = mid }) new (λ F G. G ≡ after_fault answer write F p q)
+  pub ends : EndsThere answer mid new.world
+  pub slots : SlotsAfter old.world new.world x write answer
+  pub means : FaultMeans old new p q x write answer
