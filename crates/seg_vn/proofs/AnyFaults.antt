@@ -30,7 +30,8 @@ use Rattle.seg_ops.specs.declared.plans.Step.TheVariants as step
 use Rattle.seg_ops.specs.Steps.{KeepsPages}
 use Rattle.seg_ops.proofs.OwnShown.{own_shown_law}
 use Rattle.seg_ops.proofs.StillSteps.{memory_of}
-use Rattle.seg_vn.specs.Faults.{Accesses, AnyFaultMeans, ServesAnyFault, after_fault}
+use Rattle.seg_ops.specs.Faults.{Accesses, FaultMeans, EndsThere, ServesFault, after_fault}
+use Rattle.seg_ops.specs.SlotsDue.{SlotsAfter}
 use Rattle.seg_vn.proofs.Takes.{takes-later, takes-next}
 
 -- an access of a page accesses it
@@ -94,7 +95,7 @@ pub lost-none : (F : Flat) (w : World) → next_name w.store ≡ None → tails_
 lost-none F w free = ap (λ (o : Option PageName). tails_cleared F (tails_lost w (is_name o))) free ∙ no-tails F
 
 -- flat memory stays well formed over a fault
-fault-whole : (answer : Step) (write : Bool) (F : Flat) (p q : ℕ) → IsFlat F → IsFlat (after_fault answer write F p q)
+pub fault-whole : (answer : Step) (write : Bool) (F : Flat) (p q : ℕ) → IsFlat F → IsFlat (after_fault answer write F p q)
 fault-whole step.Loaded true F p q flat = own_shown_law.whole F p q flat
 fault-whole step.Loaded false F p q flat = flat
 fault-whole step.Past write F p q flat = flat
@@ -108,23 +109,32 @@ pub serves-made : (old before freed made new : World) (spaces : Spaces) (p q : �
     → ChangesMemory p (memory_of freed spaces) (memory_of made spaces) (λ F G. G ≡ f F)
     → ((born : set.FinSet nat_cmp) (notes : Notes) → NotesFit freed notes → AllTell freed notes → IsFlat (flat_memory (memory_of freed spaces) born notes)
     → f (flat_memory (memory_of freed spaces) born notes) ≡ after_fault step.Loaded write (flat_memory (memory_of freed spaces) born notes) p q)
-    → KeepsPages made new spaces → at new.hat.places p q ≡ Some (fresh_translation p q frame writable) → (write ≡ true → writable ≡ true)
-    → ServesAnyFault (memory_of old spaces) (memory_of new spaces) pending more p q x write step.Loaded
-serves-made old before freed made new spaces p q x write writable pending more frame f fits keeps names files frees pends took makes same shows loaded lets = record {
+    → KeepsPages made new spaces → at new.hat.places p q ≡ Some (fresh_translation p q frame writable) → (write ≡ true → writable ≡ true) → SlotsAfter old new x write step.Loaded
+    → ServesFault (memory_of old spaces) (memory_of new spaces) pending more p q x write step.Loaded
+serves-made old before freed made new spaces p q x write writable pending more frame f fits keeps names files frees pends took makes same shows loaded lets slots = record {
   mid = freed;
   first = takes-later old before freed spaces pending more fits keeps names files (takes-next before freed spaces pending more frees pends took);
   acts = call_rule.joined p (memory_of freed spaces) (memory_of made spaces) (memory_of new spaces) (λ F. after_fault step.Loaded write F p q) (λ F. F)
       (λ born notes nf tell whole. fault-whole step.Loaded write (flat_memory (memory_of freed spaces) born notes) p q whole)
       (changes-as p (memory_of freed spaces) (memory_of made spaces) f (λ F. after_fault step.Loaded write F p q) same makes)
       (changes-kept p made new spaces makes.memory shows);
+  ends = tt;
+  slots = slots;
   means = record { translation = fresh_translation p q frame writable; loaded = loaded; writable = lets };
 }
+
+-- where nothing follows
+ends-there : (answer : Step) (w : World) → EndsThere answer w w
+ends-there step.Loaded w = tt
+ends-there step.Past w = refl
+ends-there (step.Need plan) w = refl
+ends-there (step.Busy h) w = refl
 
 -- NOTHING IS MADE: frames may be taken, and flat memory is as it was.
 pub serves-kept : (old new : World) (spaces : Spaces) (p q : ℕ) (x : Spot) (write : Bool) (pending more : ℕ) (answer : Step) → TakesFrames (memory_of old spaces) new pending more
     → ((born : set.FinSet nat_cmp) (notes : Notes) → flat_memory (memory_of new spaces) born notes ≡ after_fault answer write (flat_memory (memory_of new spaces) born notes) p q)
-    → AnyFaultMeans (memory_of old spaces) (memory_of new spaces) p q x write answer → ServesAnyFault (memory_of old spaces) (memory_of new spaces) pending more p q x write answer
-serves-kept old new spaces p q x write pending more answer first same means = record {
+    → SlotsAfter old new x write answer → FaultMeans (memory_of old spaces) (memory_of new spaces) p q x write answer → ServesFault (memory_of old spaces) (memory_of new spaces) pending more p q x write answer
+serves-kept old new spaces p q x write pending more answer first same slots means = record {
   mid = new;
   first = first;
   acts = record {
@@ -135,5 +145,7 @@ serves-kept old new spaces p q x write pending more answer first same means = re
     tells = λ notes nf. ((λ tell. tell), (λ tell. tell));
     flat = λ born notes nf tell whole. same born notes;
   };
+  ends = ends-there answer new;
+  slots = slots;
   means = means;
 }

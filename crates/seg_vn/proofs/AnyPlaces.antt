@@ -160,7 +160,7 @@ module _ (w : World) (spaces : Spaces) (p q : ℕ) (x : Spot) (fits : MemoryFits
     pub cell-is : cell_at F p q ≡ Some cell
     cell-is = cell-at (contents_of w notes).place spaces p q ∙ ap (option_map (cell_of (contents_of w notes).place)) here
 
-    own-by_slot : (s : ℕ) (o : Option ℕ) → option_and_then (λ number. slot_in w.maps number x.1) o ≡ Some s
+    pub own-by_slot : (s : ℕ) (o : Option ℕ) → option_and_then (λ number. slot_in w.maps number x.1) o ≡ Some s
         → option_and_then (λ (number : ℕ). option_or ((contents_of w notes).place number x.1) (own_without_slot x.0.object)) o ≡ Some (page_value w notes (slot_name s))
     own-by_slot s None is = absurd (let z : None ≡ Some s = is in cc)
     own-by_slot s (Some m) is = ap (λ (o : Option ℕ). option_or (option_map (λ t. page_value w notes (slot_name t)) o) (own_without_slot x.0.object)) is
@@ -193,7 +193,7 @@ module _ (w : World) (spaces : Spaces) (p q : ℕ) (x : Spot) (fits : MemoryFits
     abbrev index : ℕ
     index = x.0.index + x.1
 
-    shown-by : (o : Object) → cell.own ≡ None → x.0.object ≡ o → shown F cell ≡ option_and_then (λ (ps : List Page). slice_get ps index) (pages_of F o)
+    pub shown-by : (o : Object) → cell.own ≡ None → x.0.object ≡ o → shown F cell ≡ option_and_then (λ (ps : List Page). slice_get ps index) (pages_of F o)
     shown-by o none is = ap (λ (own : Option Page). option_or own (option_and_then (λ (ps : List Page). slice_get ps index) (pages_of F x.0.object))) none ∙ ap (λ (a : Object). option_and_then (λ (ps : List Page). slice_get ps index) (pages_of F a)) is
 
     pub file-shown : (f : ℕ) → x.0.object ≡ object.File f → cell.own ≡ None → index < pages_in (vnode_at w.files f).info.length → shown F cell ≡ Some (page_value w notes (file_name f index))

@@ -50,12 +50,14 @@ use Rattle.seg_ops.proofs.SlotPlaces.{own-else, slot-here}
 use Rattle.seg_ops.proofs.StillSteps.{memory_of}
 use Rattle.seg_vn.specs.AnyPlaces.{PagePlace, ZerosShown}
 use Rattle.seg_vn.specs.Brings.{BringsPage}
-use Rattle.seg_vn.specs.Faults.{Accesses, AnyFaultMeans, NeedsForAccess, ServesAnyFault, after_fault}
+use Rattle.seg_ops.specs.Faults.{Accesses, FaultMeans, NeedsTransfer, ServesFault, after_fault}
 use Rattle.seg_vn.specs.Shown.{ZerosPlace}
+use Rattle.seg_ops.specs.SlotsDue.{KeepsSlots, SlotsAfter}
 use Rattle.seg_vn.proofs.AnyFaults.{accessed, serves-kept}
 use Rattle.seg_vn.proofs.AnyPlaces.{kept-shared, kept-own, kept-new, private-has}
 use Rattle.seg_vn.proofs.Faulted.{access-wants, wanted-name, absent-home}
 use Rattle.seg_vn.proofs.FilePlaces.{either-allowed}
+use Rattle.seg_vn.proofs.SlotsDue.{due-none, slots-kept}
 use Rattle.seg_vn.proofs.Takes.{or-false, takes-none, takes-then}
 
 -- what a place shows, by the maps and the files alone
@@ -105,17 +107,18 @@ module _ (old mid : World) (spaces : Spaces) (p q : ℕ) (x : Spot) (write writa
   }
 
   pub page-loaded : (new : World) (frame : ℕ) → BringsPage (memory_of old spaces) (memory_of mid spaces) pending more name step.Loaded → KeepsPages mid new spaces → new.store.names ≡ mid.store.names → new.maps ≡ mid.maps → new.anon ≡ mid.anon
-      → at new.hat.places p q ≡ Some (fresh_translation p q frame writable) → ServesAnyFault (memory_of old spaces) (memory_of new spaces) pending more p q x write step.Loaded
+      → at new.hat.places p q ≡ Some (fresh_translation p q frame writable) → ServesFault (memory_of old spaces) (memory_of new spaces) pending more p q x write step.Loaded
   page-loaded new frame b keeps names maps' anon' loaded =
       serves-kept old new spaces p q x write pending more step.Loaded (takes-then old mid new spaces pending more fits b.first keeps names)
       (λ born notes. kept-in-place new spaces p q x write writable born notes keeps.memory place.here place.lets (λ writes. in-place-still old new x (maps' ∙ maps) (anon' ∙ anon) (place.in_place writes)))
+      (slots-kept old new x write (due-none old.anon old.maps x write name place.shows (λ writes. place.in_place (place.lets writes))) (anon' ∙ anon) (maps' ∙ maps))
       (record { translation = fresh_translation p q frame writable; loaded = loaded; writable = place.lets })
 
   shows-there : shown_name mid.maps x ≡ Some name
   shows-there = ap (λ (ms : List (Option maps_of.Map)). shown_name ms x) maps ∙ place.shows
 
-  pub page-needs : (plan : Plan) → BringsPage (memory_of old spaces) (memory_of mid spaces) pending more name (step.Need plan) → ServesAnyFault (memory_of old spaces) (memory_of mid spaces) pending more p q x write (step.Need plan)
-  page-needs plan b = serves-kept old mid spaces p q x write pending more (step.Need plan) b.first (λ born notes. refl) (record {
+  pub page-needs : (plan : Plan) → BringsPage (memory_of old spaces) (memory_of mid spaces) pending more name (step.Need plan) → ServesFault (memory_of old spaces) (memory_of mid spaces) pending more p q x write (step.Need plan)
+  page-needs plan b = serves-kept old mid spaces p q x write pending more (step.Need plan) b.first (λ born notes. refl) (record { counts = anon; places = maps }) (record {
     runs = λ call acc. record {
       may = b.means.0.may (p, call) (access-wants (memory_of mid spaces) p q x call name (accessed write q call acc) (there-still old mid spaces p q x place.here place.some maps files) shows-there);
       ready = b.means.0.ready;
@@ -126,17 +129,17 @@ module _ (old mid : World) (spaces : Spaces) (p q : ℕ) (x : Spot) (write writa
     modified = b.means.2;
   })
 
-  pub page-busy : (h : Hold) → BringsPage (memory_of old spaces) (memory_of mid spaces) pending more name (step.Busy h) → ServesAnyFault (memory_of old spaces) (memory_of mid spaces) pending more p q x write (step.Busy h)
-  page-busy h b = serves-kept old mid spaces p q x write pending more (step.Busy h) b.first (λ born notes. refl)
+  pub page-busy : (h : Hold) → BringsPage (memory_of old spaces) (memory_of mid spaces) pending more name (step.Busy h) → ServesFault (memory_of old spaces) (memory_of mid spaces) pending more p q x write (step.Busy h)
+  page-busy h b = serves-kept old mid spaces p q x write pending more (step.Busy h) b.first (λ born notes. refl) (record { counts = anon; places = maps })
       (λ calls call acc. b.means calls (p, call) (access-wants (memory_of mid spaces) p q x call name (accessed write q call acc) (there-still old mid spaces p q x place.here place.some maps files) shows-there))
 
 -- A FRAME IS WANTED for a page that is made, and none can be had.
 pub pushes-made : (old w : World) (spaces : Spaces) (p q : ℕ) (x : Spot) (write : Bool) (victim : PageName) (answer : Step) → MemoryFits (memory_of w spaces) → ShowsPage (memory_of w spaces) p q x
     → ((call : Call) → Accesses write q call → MakesSlotFor w x call) → ((call : Call) → Accesses write q call → KeepsWanted (memory_of old spaces) (memory_of w spaces) p call) → ModifiesNone old w
-    → next_frame w.store ≡ None → IsDirtyPage w victim → IsAsked w (plan.Push victim) answer → AnyFaultMeans (memory_of old spaces) (memory_of w spaces) p q x write answer
+    → next_frame w.store ≡ None → IsDirtyPage w victim → IsAsked w (plan.Push victim) answer → FaultMeans (memory_of old spaces) (memory_of w spaces) p q x write answer
 pushes-made old w spaces p q x write victim step.Loaded f there makes wanted modified none dirty asked = absurd asked
 pushes-made old w spaces p q x write victim step.Past f there makes wanted modified none dirty asked = absurd asked
-pushes-made old w spaces p q x write victim (step.Need a) f there makes wanted modified none dirty asked = subst (λ (b : Plan). NeedsForAccess (memory_of old spaces) (memory_of w spaces) p q write b) (sym asked.0) (record {
+pushes-made old w spaces p q x write victim (step.Need a) f there makes wanted modified none dirty asked = subst (λ (b : Plan). NeedsTransfer (memory_of old spaces) (memory_of w spaces) p q write b) (sym asked.0) (record {
   runs = λ call acc. record {
     may = (dirty, inr (inr (q, x, accessed write q call acc, there, makes call acc), none));
     ready = asked.1;
@@ -157,11 +160,18 @@ asked-keeps w victim step.Past write F p q asked = absurd asked
 asked-keeps w victim (step.Need a) write F p q asked = refl
 asked-keeps w victim (step.Busy h) write F p q asked = refl
 
-pub made-asks : (old w : World) (spaces : Spaces) (p q : ℕ) (x : Spot) (write : Bool) (pending more : ℕ) (victim : PageName) (answer : Step) → TakesFrames (memory_of old spaces) w pending more → ShowsPage (memory_of w spaces) p q x
+-- .. and slots
+asked-slots : (old w : World) (x : Spot) (victim : PageName) (answer : Step) (write : Bool) → IsAsked w (plan.Push victim) answer → KeepsSlots old w → SlotsAfter old w x write answer
+asked-slots old w x victim step.Loaded write asked kept = absurd asked
+asked-slots old w x victim step.Past write asked kept = absurd asked
+asked-slots old w x victim (step.Need a) write asked kept = kept
+asked-slots old w x victim (step.Busy h) write asked kept = kept
+
+pub made-asks : (old w : World) (spaces : Spaces) (p q : ℕ) (x : Spot) (write : Bool) (pending more : ℕ) (victim : PageName) (answer : Step) → TakesFrames (memory_of old spaces) w pending more → KeepsSlots old w → ShowsPage (memory_of w spaces) p q x
     → ((call : Call) → Accesses write q call → MakesSlotFor w x call) → ((call : Call) → Accesses write q call → KeepsWanted (memory_of old spaces) (memory_of w spaces) p call) → ModifiesNone old w
-    → next_frame w.store ≡ None → IsDirtyPage w victim → IsAsked w (plan.Push victim) answer → ServesAnyFault (memory_of old spaces) (memory_of w spaces) pending more p q x write answer
-made-asks old w spaces p q x write pending more victim answer first there makes wanted modified none dirty asked =
-    serves-kept old w spaces p q x write pending more answer first (λ born notes. asked-keeps w victim answer write (flat_memory (memory_of w spaces) born notes) p q asked)
+    → next_frame w.store ≡ None → IsDirtyPage w victim → IsAsked w (plan.Push victim) answer → ServesFault (memory_of old spaces) (memory_of w spaces) pending more p q x write answer
+made-asks old w spaces p q x write pending more victim answer first kept there makes wanted modified none dirty asked =
+    serves-kept old w spaces p q x write pending more answer first (λ born notes. asked-keeps w victim answer write (flat_memory (memory_of w spaces) born notes) p q asked) (asked-slots old w x victim answer write asked kept)
     (pushes-made old w spaces p q x write victim answer first.step.memory there makes wanted modified none dirty asked)
 
 -- ZEROS: no page is shown, and an access makes one.
@@ -324,6 +334,6 @@ shared-in-place w spaces p q x fits here own writes = record {
 
 -- nothing is shown past the object's end
 pub past-serves : (w : World) (spaces : Spaces) (p q : ℕ) (x : Spot) (write : Bool) (pending : ℕ) → MemoryFits (memory_of w spaces) → own_slot w.maps x ≡ None → IsFalse (object_has w x.0.shown (x.0.index + x.1) x.0.object)
-    → ServesAnyFault (memory_of w spaces) (memory_of w spaces) pending pending p q x write step.Past
-past-serves w spaces p q x write pending fits bare past = serves-kept w w spaces p q x write pending pending step.Past (takes-none w w spaces pending (keeps-same w spaces fits)) (λ born notes. refl)
+    → ServesFault (memory_of w spaces) (memory_of w spaces) pending pending p q x write step.Past
+past-serves w spaces p q x write pending fits bare past = serves-kept w w spaces p q x write pending pending step.Past (takes-none w w spaces pending (keeps-same w spaces fits)) (λ born notes. refl) (record { counts = refl; places = refl })
     (ap (λ (o : Option ℕ). is_some o || object_has w x.0.shown (x.0.index + x.1) x.0.object) bare ∙ past)

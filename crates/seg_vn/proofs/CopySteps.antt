@@ -52,11 +52,13 @@ use Rattle.seg_ops.proofs.SlotMemory.{home-value_bytes}
 use Rattle.seg_ops.proofs.SlotOwners.{places_law}
 use Rattle.seg_ops.proofs.StillSteps.{memory_of, value-is}
 use Rattle.seg_vn.specs.AnyPlaces.{CellShows, CopyPlace, OwnSpot, ShowsZeros}
-use Rattle.seg_vn.specs.Faults.{Accesses, ServesAnyFault}
+use Rattle.seg_ops.specs.Faults.{Accesses, ServesFault}
+use Rattle.seg_ops.specs.SlotsDue.{KeepsSlots, SlotsAfter, slot_due}
 use Rattle.seg_vn.proofs.AnyFaults.{accessed, changes-kept, serves-kept}
 use Rattle.seg_vn.proofs.AnyPlaces.{own-none, own-private, file-shown, zero-shown, zero-at}
 use Rattle.seg_vn.proofs.AnySteps.{makes-copy, own-gets, own-shown, pends-then, shows-same, wanted-none}
 use Rattle.seg_vn.proofs.Faulted.{access-wants, wanted-name, absent-home}
+use Rattle.seg_vn.proofs.SlotsDue.{due-own}
 use Rattle.seg_vn.proofs.Takes.{takes-none}
 
 -- bits that are gathered leave the lists and the names
@@ -94,13 +96,15 @@ takes-more old freed spaces a b c t second none files = record { cut = t.cut; st
 
 -- THE CELL GOT ITS PAGE, and the translation of that is loaded.
 pub serves-after : (old freed made new : World) (spaces : Spaces) (p q : ℕ) (x : Spot) (pending more frame : ℕ) → TakesFrames (memory_of old spaces) freed pending more
-    → ChangesMemory p (memory_of freed spaces) (memory_of made spaces) (λ F G. G ≡ with_own_shown F p q) → KeepsPages made new spaces → at new.hat.places p q ≡ Some (fresh_translation p q frame true)
-    → ServesAnyFault (memory_of old spaces) (memory_of new spaces) pending more p q x true step.Loaded
-serves-after old freed made new spaces p q x pending more frame first makes shows loaded = record {
+    → ChangesMemory p (memory_of freed spaces) (memory_of made spaces) (λ F G. G ≡ with_own_shown F p q) → KeepsPages made new spaces → at new.hat.places p q ≡ Some (fresh_translation p q frame true) → SlotsAfter old new x true step.Loaded
+    → ServesFault (memory_of old spaces) (memory_of new spaces) pending more p q x true step.Loaded
+serves-after old freed made new spaces p q x pending more frame first makes shows loaded slots = record {
   mid = freed;
   first = first;
   acts = call_rule.joined p (memory_of freed spaces) (memory_of made spaces) (memory_of new spaces) (λ F. with_own_shown F p q) (λ F. F)
       (λ born notes nf tell whole. own_shown_law.whole (flat_memory (memory_of freed spaces) born notes) p q whole) makes (changes-kept p made new spaces makes.memory shows);
+  ends = tt;
+  slots = slots;
   means = record { translation = fresh_translation p q frame true; loaded = loaded; writable = λ is. refl };
 }
 
@@ -125,7 +129,12 @@ copy-may w made spaces p q m i s x slot shown c within set once =
 pub held-there : (maps : List (Option Map)) (x : Spot) (m i : ℕ) (slot : Option ℕ) → x.0.own ≡ Some m → x.1 ≡ i → slot_in maps m i ≡ slot → own_slot maps x ≡ slot
 held-there maps x m i slot own place holds = ap (option_and_then (λ number. slot_in maps number x.1)) own ∙ ap (λ (k : ℕ). slot_in maps m k) place ∙ holds
 
--- A STORE THERE makes a slot.
+-- A STORE THERE makes a slot, in its own place, ..
+pub copy-due : (w : World) (spaces : Spaces) (p q m i : ℕ) (x : Spot) (slot : Option ℕ) (shown : Option PageName) → MemoryFits (memory_of w spaces) → CopyPlace w spaces p q x m i slot shown → slot_due w.anon w.maps x true ≡ Some (m, i)
+copy-due w spaces p q m i x slot shown fits c =
+    due-own w.anon w.maps x m i slot (own-private w spaces p q x fits c.here m c.own) c.own c.place (held-there w.maps x m i slot c.own c.place c.holds) c.shared
+
+-- .. as the calls say that want a frame for one.
 pub copy-makes : (w v : World) (spaces : Spaces) (p q m i : ℕ) (x : Spot) (slot : Option ℕ) (shown : Option PageName) (call : Call) → MemoryFits (memory_of w spaces) → CopyPlace w spaces p q x m i slot shown → v.maps ≡ w.maps → v.anon ≡ w.anon
     → Accesses true q call → MakesSlotFor v x call
 copy-makes w v spaces p q m i x slot shown call fits c maps anon acc =
@@ -255,22 +264,22 @@ zeros-stay w v (Some name) stay files anon zs = (
 
 -- THE PAGE THAT IS SHOWN has to be waited for, or to be read in.
 pub away-serves : (w : World) (spaces : Spaces) (p q : ℕ) (x : Spot) (write : Bool) (pending seat : ℕ) (name : PageName) → MemoryFits (memory_of w spaces) → spot_at spaces p q ≡ Some x → IsTrue (shows_page w x) → shown_name w.maps x ≡ Some name
-    → residence w.store name ≡ Moving seat → ServesAnyFault (memory_of w spaces) (memory_of w spaces) pending pending p q x write (step.Busy (hold.Page seat))
+    → residence w.store name ≡ Moving seat → ServesFault (memory_of w spaces) (memory_of w spaces) pending pending p q x write (step.Busy (hold.Page seat))
 away-serves w spaces p q x write pending seat name fits here some shows away =
-    serves-kept w w spaces p q x write pending pending (step.Busy (hold.Page seat)) (takes-none w w spaces pending (keeps-same w spaces fits)) (λ born notes. refl)
+    serves-kept w w spaces p q x write pending pending (step.Busy (hold.Page seat)) (takes-none w w spaces pending (keeps-same w spaces fits)) (λ born notes. refl) (record { counts = refl; places = refl })
     (λ calls call acc. (name, inl (access-wants (memory_of w spaces) p q x call name (accessed write q call acc) (record { here = here; some = some }) shows), away))
 
-pub fetch-serves : (old mid : World) (spaces : Spaces) (p q : ℕ) (x : Spot) (write : Bool) (pending : ℕ) (name : PageName) (answer : Step) → KeepsPages old mid spaces → residence old.store name ≡ Absent → ModifiesNone old mid
-    → ShowsPage (memory_of mid spaces) p q x → shown_name mid.maps x ≡ Some name → FetchesPage (memory_of mid spaces) name answer → ServesAnyFault (memory_of old spaces) (memory_of mid spaces) pending pending p q x write answer
-fetch-serves old mid spaces p q x write pending name step.Loaded keeps absent modified there shows f = absurd f
-fetch-serves old mid spaces p q x write pending name step.Past keeps absent modified there shows f = absurd f
-fetch-serves old mid spaces p q x write pending name (step.Need plan) keeps absent modified there shows f =
-    serves-kept old mid spaces p q x write pending pending (step.Need plan) (takes-none old mid spaces pending keeps) (λ born notes. refl) (record {
+pub fetch-serves : (old mid : World) (spaces : Spaces) (p q : ℕ) (x : Spot) (write : Bool) (pending : ℕ) (name : PageName) (answer : Step) → KeepsPages old mid spaces → KeepsSlots old mid → residence old.store name ≡ Absent → ModifiesNone old mid
+    → ShowsPage (memory_of mid spaces) p q x → shown_name mid.maps x ≡ Some name → FetchesPage (memory_of mid spaces) name answer → ServesFault (memory_of old spaces) (memory_of mid spaces) pending pending p q x write answer
+fetch-serves old mid spaces p q x write pending name step.Loaded keeps kept absent modified there shows f = absurd f
+fetch-serves old mid spaces p q x write pending name step.Past keeps kept absent modified there shows f = absurd f
+fetch-serves old mid spaces p q x write pending name (step.Need plan) keeps kept absent modified there shows f =
+    serves-kept old mid spaces p q x write pending pending (step.Need plan) (takes-none old mid spaces pending keeps) (λ born notes. refl) kept (record {
       runs = λ call acc. record { may = f.may (p, call) (access-wants (memory_of mid spaces) p q x call name (accessed write q call acc) there shows); ready = f.ready; frame = f.frame };
       wanted = λ call acc other frame wants home. absurd (absent-home (residence old.store name) frame absent
           (ap (residence old.store) (sym (wanted-name (memory_of mid spaces) p q x call name other (accessed write q call acc) there.here shows wants)) ∙ home));
       modified = modified;
     })
-fetch-serves old mid spaces p q x write pending name (step.Busy h) keeps absent modified there shows f =
-    serves-kept old mid spaces p q x write pending pending (step.Busy h) (takes-none old mid spaces pending keeps) (λ born notes. refl)
+fetch-serves old mid spaces p q x write pending name (step.Busy h) keeps kept absent modified there shows f =
+    serves-kept old mid spaces p q x write pending pending (step.Busy h) (takes-none old mid spaces pending keeps) (λ born notes. refl) kept
     (λ calls call acc. f calls (p, call) (access-wants (memory_of mid spaces) p q x call name (accessed write q call acc) there shows))

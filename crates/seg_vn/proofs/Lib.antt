@@ -4,8 +4,12 @@ pub mod Takes
 pub mod Brings
 pub mod FilePlaces
 pub mod Faulted
-mod AnyFaults
-mod AnyPlaces
+pub mod SlotsDue
+pub mod AnyFaults
+pub mod AnyPlaces
 mod AnySteps
 mod Copies
 mod CopySteps
+pub mod PlacesShown
+pub mod HomeFrames
+mod FaultTrialLemmas

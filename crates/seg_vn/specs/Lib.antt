@@ -2,8 +2,8 @@ pub mod Segments
 pub mod Spaces
 pub mod Lends
 pub mod Clears
-pub mod Faults
 pub mod Serves
 pub mod Brings
 pub mod Shown
 pub mod AnyPlaces
+pub mod FaultTrials

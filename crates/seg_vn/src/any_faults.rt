@@ -9,7 +9,7 @@ ghost use Rattle.vm_world.specs.Segments.{Spaces, Spot};
 ghost use Rattle.vm_world.specs.World.{world_seen, slot_in, page_exists};
 ghost use Rattle.seg_ops.specs.Slots.{IsNewZero};
 ghost use Rattle.seg_vn.specs.AnyPlaces.{PagePlace, ZerosShown};
-ghost use Rattle.seg_vn.specs.Faults.{ServesAnyFault};
+ghost use Rattle.seg_ops.specs.Faults.{ServesFault};
 
 use crate::any_pages::bring_page;
 use crate::segment::load_page;
@@ -34,7 +34,7 @@ pub(crate) fn fault_page<D: Disk>(
     ensures serves { (spaces : Spaces) (x : Spot) (write : Bool)
         → MemoryFits (record { world = world_seen world.old; spaces = spaces })
         → PagePlace (world_seen world.old) spaces space page x name write writable
-        → ServesAnyFault (record { world = world_seen world.old; spaces = spaces })
+        → ServesFault (record { world = world_seen world.old; spaces = spaces })
         (record { world = world_seen world.new; spaces = spaces })
         world.old.pending world.new.pending space page x write result }
     // What stays.
@@ -75,7 +75,7 @@ pub(crate) fn fault_zeros<D: Disk>(
     ensures serves { (spaces : Spaces) (x : Spot) (write : Bool)
         → MemoryFits (record { world = world_seen world.old; spaces = spaces })
         → ZerosShown (world_seen world.old) spaces space page x map place write writable
-        → ServesAnyFault (record { world = world_seen world.old; spaces = spaces })
+        → ServesFault (record { world = world_seen world.old; spaces = spaces })
         (record { world = world_seen world.new; spaces = spaces })
         world.old.pending world.new.pending space page x write result }
     // What stays.

@@ -7,7 +7,7 @@ ghost use Rattle.vm_world.specs.MemoryFits.{MemoryFits};
 ghost use Rattle.vm_world.specs.NotesFit.{NotesFit};
 ghost use Rattle.vm_world.specs.Segments.{Spaces, spot_at, own_slot};
 ghost use Rattle.vm_world.specs.World.{world_seen};
-ghost use Rattle.seg_vn.specs.Faults.{ServesAnyFault};
+ghost use Rattle.seg_ops.specs.Faults.{ServesFault};
 ghost use Rattle.seg_vn.specs.Shown.{ZerosPlace};
 
 use crate::any_faults::{fault_page, fault_zeros};
@@ -43,7 +43,7 @@ impl VnSeg {
         ensures serves { (spaces : Spaces)
             → MemoryFits (record { world = world_seen world.old; spaces = spaces })
             → spot_at spaces space page ≡ Some (self.now, at)
-            → ServesAnyFault (record { world = world_seen world.old; spaces = spaces })
+            → ServesFault (record { world = world_seen world.old; spaces = spaces })
             (record { world = world_seen world.new; spaces = spaces })
             world.old.pending world.new.pending space page (self.now, at) write result }
         // What stays.
@@ -94,7 +94,7 @@ impl VnSeg {
             → MemoryFits (record { world = world_seen world.old; spaces = spaces })
             → spot_at spaces space page ≡ Some (self.now, at)
             → ZerosPlace (world_seen world.old) spaces (self.now, at) map place
-            → ServesAnyFault (record { world = world_seen world.old; spaces = spaces })
+            → ServesFault (record { world = world_seen world.old; spaces = spaces })
             (record { world = world_seen world.new; spaces = spaces })
             world.old.pending world.new.pending space page (self.now, at) write result }
         // What stays.
@@ -140,7 +140,7 @@ impl VnSeg {
         ensures serves { (spaces : Spaces)
             → MemoryFits (record { world = world_seen world.old; spaces = spaces })
             → spot_at spaces space page ≡ Some (self.now, at)
-            → ServesAnyFault (record { world = world_seen world.old; spaces = spaces })
+            → ServesFault (record { world = world_seen world.old; spaces = spaces })
             (record { world = world_seen world.new; spaces = spaces })
             world.old.pending world.new.pending space page (self.now, at) write result }
         // What stays.
@@ -171,7 +171,8 @@ impl VnSeg {
     /// Loads the translation of a page of any mapping, or says what that needs: a page that is shown is brought home, one
     /// of zeros is made, and a store to a private page gives that a page of its own. `first` is the segment's first page
     /// in the space. Takes no memory and makes no disk call. Time: what `make_room` takes, and one page.
-    pub fn fault_any<D: Disk>(
+    #[inline(never)]
+    pub fn fault<D: Disk>(
         &self,
         world: &mut World<D>,
         space: u32,
@@ -191,7 +192,7 @@ impl VnSeg {
         ensures serves { (spaces : Spaces)
             → MemoryFits (record { world = world_seen world.old; spaces = spaces })
             → spot_at spaces space page ≡ Some (self.now, page - first)
-            → ServesAnyFault (record { world = world_seen world.old; spaces = spaces })
+            → ServesFault (record { world = world_seen world.old; spaces = spaces })
             (record { world = world_seen world.new; spaces = spaces })
             world.old.pending world.new.pending
             space page (self.now, page - first) write result }

@@ -1,5 +1,5 @@
 //! Stores to private pages that aren't their cell's alone: the cell gets a page of its own.
-ghost use Rattle.std.specs.Prelude.{◌≡◌, ◌≢◌, ◌<◌, ℕ, Option, true, length, Some, None, IsSome, IsTrue, IfSome, slice_set};
+ghost use Rattle.std.specs.Prelude.{◌≡◌, ◌≢◌, ◌<◌, ℕ, Option, true, length, Some, None, IsSome, IsTrue, IfSome};
 ghost use Rattle.core_arena.specs.Bytes.{bytes_at, zeros};
 ghost use Rattle.hat_layer.specs.Pool.{at};
 ghost use Rattle.page_hash.specs.Names.{find, is_name};
@@ -7,7 +7,7 @@ ghost use Rattle.page_hash.specs.declared.PageName.{PageName};
 ghost use Rattle.page_store.specs.Notes.{Notes};
 ghost use Rattle.page_store.specs.Seen.{IsListedFrame, residence};
 ghost use Rattle.page_store.specs.Steps.{next_frame, next_name, home_bytes};
-ghost use Rattle.anon_map.specs.Maps.{IsMapThere, places_of, with_places};
+ghost use Rattle.anon_map.specs.Maps.{IsMapThere, places_of};
 ghost use Rattle.anon_slots.specs.Slots.{count_at};
 ghost use Rattle.vm_world.specs.CallSteps.{ChangesMemory};
 ghost use Rattle.vm_world.specs.MemoryFits.{MemoryFits};
@@ -17,9 +17,9 @@ ghost use Rattle.vm_world.specs.Serving.{TakesFrames};
 ghost use Rattle.vm_world.specs.StateSteps.{PendsTails};
 ghost use Rattle.vm_world.specs.World.{world_seen, slot_name, slot_in, is_unpushed, page_exists};
 ghost use Rattle.seg_ops.specs.OwnPages.{with_own_shown};
-ghost use Rattle.seg_ops.specs.Slots.{OwnsAlone};
+ghost use Rattle.seg_ops.specs.Slots.{GivesSlot, OwnsAlone};
 ghost use Rattle.seg_vn.specs.AnyPlaces.{CellShows, CopyPlace, OwnSpot, ShowsZeros};
-ghost use Rattle.seg_vn.specs.Faults.{ServesAnyFault};
+ghost use Rattle.seg_ops.specs.Faults.{ServesFault};
 
 use crate::any_pages::is_blank;
 use crate::segment::load_page;
@@ -50,9 +50,8 @@ fn copy_into<D: Disk>(
         × MemoryFits (record { world = world_seen world.old; spaces = spaces })
         × OwnsAlone spaces p q map place x × (at world.old.hat.places p q ≡ None) }
     // The place has a slot of its own, whose page is home.
-    ensures maps { world.new.maps ≡ with_places world.old.maps map
-        (slice_set (places_of world.old.maps map) place (Some result)) }
-    ensures once { count_at world.new.anon result ≡ 1 }
+    ensures gives { GivesSlot world.old.anon world.new.anon
+        world.old.maps world.new.maps map place result }
     ensures home { IfSome (next_frame world.old.store)
         (λ frame. residence world.new.store (slot_name result) ≡ Residence.Home frame) }
     ensures pends { PendsTails (world_seen world.old) (is_name (next_name world.old.store))
@@ -96,9 +95,8 @@ fn zeros_into<D: Disk>(world: &mut World<D>, map: u32, place: u32, slot: Option<
         × MemoryFits (record { world = world_seen world.old; spaces = spaces })
         × OwnsAlone spaces p q map place x × (at world.old.hat.places p q ≡ None) }
     // The place has a slot of its own, whose page is home.
-    ensures maps { world.new.maps ≡ with_places world.old.maps map
-        (slice_set (places_of world.old.maps map) place (Some result)) }
-    ensures once { count_at world.new.anon result ≡ 1 }
+    ensures gives { GivesSlot world.old.anon world.new.anon
+        world.old.maps world.new.maps map place result }
     ensures home { IfSome (next_frame world.old.store)
         (λ frame. residence world.new.store (slot_name result) ≡ Residence.Home frame) }
     ensures pends { PendsTails (world_seen world.old) (is_name (next_name world.old.store))
@@ -183,7 +181,7 @@ pub(crate) fn own_zeros<D: Disk>(
         → MemoryFits (record { world = world_seen world.old; spaces = spaces })
         → CopyPlace (world_seen world.old) spaces space page x map place slot shown
         → ShowsZeros (world_seen world.old) shown
-        → ServesAnyFault (record { world = world_seen world.old; spaces = spaces })
+        → ServesFault (record { world = world_seen world.old; spaces = spaces })
         (record { world = world_seen world.new; spaces = spaces })
         world.old.pending world.new.pending space page x true result }
     // What stays.
@@ -229,7 +227,7 @@ fn copy_page<D: Disk>(
     ensures serves { (spaces : Spaces) (x : Spot)
         → MemoryFits (record { world = world_seen world.old; spaces = spaces })
         → CopyPlace (world_seen world.old) spaces space page x map place slot (Some name)
-        → ServesAnyFault (record { world = world_seen world.old; spaces = spaces })
+        → ServesFault (record { world = world_seen world.old; spaces = spaces })
         (record { world = world_seen world.new; spaces = spaces })
         world.old.pending world.new.pending space page x true result }
     // What stays.
@@ -241,7 +239,7 @@ fn copy_page<D: Disk>(
       pending = world.new.pending;
     } }
 {
-    take_back(world, name, frame);
+    take_back(world, name);
     if let Some(victim) = make_room_beside(world, frame) {
         return ask(world, Plan::Push(victim));
     }
@@ -276,7 +274,7 @@ pub(crate) fn fault_copy<D: Disk>(
     ensures serves { (spaces : Spaces) (x : Spot)
         → MemoryFits (record { world = world_seen world.old; spaces = spaces })
         → CopyPlace (world_seen world.old) spaces space page x map place slot (Some name)
-        → ServesAnyFault (record { world = world_seen world.old; spaces = spaces })
+        → ServesFault (record { world = world_seen world.old; spaces = spaces })
         (record { world = world_seen world.new; spaces = spaces })
         world.old.pending world.new.pending space page x true result }
     // What stays.

@@ -7,7 +7,9 @@ mod any_segments;
 mod attempt;
 mod clears;
 mod copy_faults;
-mod file_pages;
+mod driver;
+#[cfg(test)]
+mod fault_tests;
 mod segment;
 mod shown;
 mod spaces;

@@ -11,9 +11,7 @@ ghost use Rattle.vm_world.specs.NotesFit.{NotesFit};
 ghost use Rattle.vm_world.specs.Segments.{Spaces};
 ghost use Rattle.vm_world.specs.World.{world_seen};
 ghost use Rattle.seg_ops.specs.Steps.{KeepsPages, MayShow};
-ghost use Rattle.seg_vn.specs.Faults.{IsFilePlace, ServesFault};
 
-use crate::file_pages::bring;
 use block_device::Disk;
 use page_store::{PageName, Residence};
 use seg_ops::{Step, show};
@@ -149,60 +147,5 @@ impl VnSeg {
         ensures index { result.1 ≡ self.now.index + at }
     {
         (self.segment.object, self.segment.index + at)
-    }
-
-    /// Loads the translation of a page of a shared mapping of a file, or says what that needs. `first` is the segment's
-    /// first page in the space. Takes no memory and makes no disk call. Time: what `make_room` takes, and one page.
-    #[inline(never)]
-    pub fn fault<D: Disk>(
-        &self,
-        world: &mut World<D>,
-        space: u32,
-        first: u32,
-        page: u32,
-        write: bool,
-    ) -> Step
-        requires low { first ≤ page }
-        requires allowed { IsTrue
-            (if write then can_write self.now.prot else can_read self.now.prot) }
-        requires home { (frame : ℕ) × IsSome (bytes_at world.old.store.frames frame) }
-        requires fits { (spaces : Spaces)
-            × MemoryFits (record { world = world_seen world.old; spaces = spaces })
-            × IsFilePlace spaces space page (self.now, page - first) }
-        requires noted { (notes : Notes) × NotesFit (world_seen world.old) notes }
-        ensures serves { (spaces : Spaces)
-            → MemoryFits (record { world = world_seen world.old; spaces = spaces })
-            → IsFilePlace spaces space page (self.now, page - first)
-            → ServesFault (record { world = world_seen world.old; spaces = spaces })
-            (record { world = world_seen world.new; spaces = spaces })
-            world.old.pending world.new.pending
-            space page (self.now, page - first) write result }
-        // What stays.
-        ensures rest { world.new ≡ record world.old {
-          store = world.new.store;
-          hat = world.new.hat;
-          pending = world.new.pending;
-        } }
-    {
-        let (object, index) = self.object(page - first);
-        let Object::File(file) = object else {
-            unreachable!();
-        };
-        if index >= pages_in(world.files.info(file).length) {
-            return Step::Past;
-        }
-        match bring(world, file, index) {
-            Step::Loaded => {
-                let name = PageName {
-                    object: file,
-                    page: index,
-                };
-                load_page(world, space, page, name, self.prot().can_write());
-                Step::Loaded
-            }
-            Step::Past => unreachable!(),
-            Step::Need(plan) => Step::Need(plan),
-            Step::Busy(hold) => Step::Busy(hold),
-        }
     }
 }

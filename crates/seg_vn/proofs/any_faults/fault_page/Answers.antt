@@ -2,7 +2,7 @@ use Rattle.std.proofs.Common.{ℕ, sym, ap, subst}
 use Rattle.vm_world.specs.World.{world_seen}
 use Rattle.seg_ops.specs.declared.plans.Step.TheVariants as step
 use Rattle.seg_ops.proofs.StillSteps.{memory_of}
-use Rattle.seg_vn.specs.Faults.{ServesAnyFault}
+use Rattle.seg_ops.specs.Faults.{ServesFault}
 use Rattle.seg_vn.proofs.AnySteps.{may-show, page-loaded, page-needs, page-busy}
 use Rattle.seg_vn.proofs.any_faults.fault_page.Goals as goal
 
@@ -19,7 +19,7 @@ returns-in-Loaded-clause-serves g c = λ spaces x write fits place.
     let files = ap (λ v. v.files) c.bring_page.ensures.rest in
     let brings = c.in-Loaded.ensures.brings spaces fits in
     let may = may-show old mid spaces c.args.space c.args.page x write c.args.writable c.args.world.now.pending c.bring_page.new.world.pending c.args.name fits place maps anon files in
-    subst (λ (k : ℕ). ServesAnyFault (memory_of old spaces) (memory_of new spaces) c.args.world.now.pending k c.args.space c.args.page x write step.Loaded) (sym (ap (λ v. v.pending) c.load_page.ensures.rest))
+    subst (λ (k : ℕ). ServesFault (memory_of old spaces) (memory_of new spaces) c.args.world.now.pending k c.args.space c.args.page x write step.Loaded) (sym (ap (λ v. v.pending) c.load_page.ensures.rest))
     (page-loaded old mid spaces c.args.space c.args.page x write c.args.writable c.args.world.now.pending c.bring_page.new.world.pending c.args.name fits place maps anon files new c.load_page.ensures.loaded.0
     brings (c.load_page.ensures.keeps spaces brings.first.step.memory may) c.load_page.ensures.names (ap (λ v. v.maps) c.load_page.ensures.rest) (ap (λ v. v.anon) c.load_page.ensures.rest) c.load_page.ensures.loaded.1)
 

@@ -9,14 +9,16 @@ use Rattle.flat_model.specs.Step.{tails_cleared}
 use Rattle.vm_world.specs.FlatMemory.{flat_memory}
 use Rattle.vm_world.specs.Segments.{shown_name}
 use Rattle.vm_world.specs.StateSteps.{PendsTails}
-use Rattle.vm_world.specs.World.{world_seen, slot_name}
+use Rattle.vm_world.specs.World.{world_seen, slot_in, slot_name}
 use Rattle.vm_world.specs.WorldSteps.{tails_lost}
+use Rattle.seg_ops.specs.Slots.{GivesSlot}
 use Rattle.seg_ops.proofs.Disks.{dirty-exists}
 use Rattle.seg_ops.proofs.StillSteps.{memory_of}
-use Rattle.seg_vn.specs.Faults.{ServesAnyFault}
+use Rattle.seg_ops.specs.Faults.{ServesFault}
 use Rattle.seg_vn.proofs.AnyFaults.{accessed, lost-none, serves-made}
 use Rattle.seg_vn.proofs.AnySteps.{there-still, shows-object, shown-bare, wanted-none, makes-zeros, made-asks, pends-then, zeros-may, zeros-kept}
 use Rattle.seg_vn.proofs.Brings.{some-frame}
+use Rattle.seg_vn.proofs.SlotsDue.{due-zeros, gives-new, slots-made}
 use Rattle.seg_vn.proofs.Takes.{takes-none}
 use Rattle.seg_vn.proofs.any_faults.fault_zeros.Goals as goal
 
@@ -38,8 +40,8 @@ returns-in-Some-clause-serves g c = λ spaces x write fits place.
     let none : shown_name mid.maps x ≡ None = ap (λ (ms : List (Option Map)). shown_name ms x) maps ∙ shown-bare old.maps x place.bare place.zeros.none in
     let there = there-still old mid spaces p q x place.here (shows-object old x place.zeros.has) maps (ap (λ v. v.files) c.make_room.ensures.rest) in
     let first = takes-none old mid spaces c.args.world.now.pending (c.make_room.ensures.keeps spaces fits) in
-    subst (λ (k : ℕ). ServesAnyFault (memory_of old spaces) (memory_of mid spaces) c.args.world.now.pending k p q x write c.ask.result) (sym (ap (λ v. v.pending) c.make_room.ensures.rest))
-    (made-asks old mid spaces p q x write c.args.world.now.pending c.args.world.now.pending c.in-Some.victim c.ask.result first there (λ call acc. makes-zeros mid x write q call none acc)
+    subst (λ (k : ℕ). ServesFault (memory_of old spaces) (memory_of mid spaces) c.args.world.now.pending k p q x write c.ask.result) (sym (ap (λ v. v.pending) c.make_room.ensures.rest))
+    (made-asks old mid spaces p q x write c.args.world.now.pending c.args.world.now.pending c.in-Some.victim c.ask.result first (record { counts = ap (λ v. v.anon) c.make_room.ensures.rest; places = maps }) there (λ call acc. makes-zeros mid x write q call none acc)
     (λ call acc name frame wants home. absurd (wanted-none (memory_of mid spaces) p q x call name (accessed write q call acc) place.here none wants))
     c.make_room.ensures.modified room.0 room.1 c.ask.ensures)
 
@@ -78,6 +80,9 @@ returns-clause-serves g c = λ spaces x write fits place.
     let maps = ap (λ v. v.maps) c.free_next.ensures.rest ∙ ap (λ v. v.maps) c.make_room.ensures.rest in
     let set = c.make_zero-slot.ensures.maps ∙ ap (λ (ms : List (Option Map)). with_places ms c.args.map (slice_set (places_of ms c.args.map) c.args.place (Some s))) maps in
     let may = zeros-may old made spaces p q x c.args.map c.args.place s write c.args.writable fits place set c.make_zero-slot.ensures.once in
+    let gives : GivesSlot freed.anon made.anon freed.maps made.maps c.args.map c.args.place s =
+    gives-new freed.anon made.anon freed.maps made.maps c.args.map c.args.place s (ap (λ (ms : List (Option Map)). slot_in ms c.args.map c.args.place) maps ∙ c.requires.empty)
+    c.make_zero-slot.ensures.free c.make_zero-slot.ensures.once c.make_zero-slot.ensures.anon c.make_zero-slot.ensures.maps in
     let pends = subst (λ (k : ℕ). PendsTails room cut k c.load_page.new.world.pending) (ap (λ v. v.pending) c.make_room.ensures.rest)
     (subst (λ (k : ℕ). PendsTails room cut c.make_room.new.world.pending k) (sym (ap (λ v. v.pending) c.load_page.ensures.rest))
     (pends-then room freed cut c.make_room.new.world.pending c.free_next.new.world.pending c.make_zero-slot.new.world.pending c.free_next.ensures.pends c.make_zero-slot.ensures.pends c.free_next.ensures.free (ap (λ v. v.files) c.free_next.ensures.rest))) in
@@ -85,3 +90,5 @@ returns-clause-serves g c = λ spaces x write fits place.
     fits keeps c.make_room.ensures.names (ap (λ v. v.files) c.make_room.ensures.rest) frees pends c.free_next.ensures.took makes
     (λ born notes nf tell whole. lost-none (flat_memory (memory_of freed spaces) born notes) freed c.free_next.ensures.free ∙ zeros-kept freed spaces p q x write c.args.writable born notes frees.memory place.here place.lets place.in_place)
     (c.load_page.ensures.keeps spaces makes.memory may) c.load_page.ensures.loaded.1 place.lets
+    (slots-made old freed made new x write c.args.map c.args.place s (due-zeros old spaces p q c.args.map c.args.place x write c.args.writable place (shown-bare old.maps x place.bare place.zeros.none)) gives
+    (ap (λ v. v.anon) c.free_next.ensures.rest ∙ ap (λ v. v.anon) c.make_room.ensures.rest) maps (ap (λ v. v.anon) c.load_page.ensures.rest) (ap (λ v. v.maps) c.load_page.ensures.rest))

@@ -3,6 +3,7 @@ use Rattle.page_hash.specs.Names.{find}
 use Rattle.page_store.specs.Steps.{home_bytes}
 use Rattle.vm_world.specs.World.{world_seen}
 use Rattle.seg_vn.proofs.Copies.{changes-got, changes-held}
+use Rattle.seg_vn.proofs.SlotsDue.{gives-new, gives-other}
 use Rattle.seg_vn.proofs.copy_faults.copy_into.Goals as goal
 
 pub returns-in-None-clause-changes : goal.returns-in-None-clause-changes
@@ -20,3 +21,13 @@ returns-in-None-clause-memory g c = λ spaces p q x fits owns unloaded. (c.make_
 
 pub returns-in-Some-clause-memory : goal.returns-in-Some-clause-memory
 returns-in-Some-clause-memory g c = λ spaces p q x fits owns unloaded. (c.copy_slot.ensures.changes spaces p q x fits owns unloaded).memory
+
+pub returns-in-None-clause-gives : goal.returns-in-None-clause-gives
+returns-in-None-clause-gives g c =
+    gives-new c.args.world.now.anon c.make_copy.new.world.anon c.args.world.now.maps c.make_copy.new.world.maps c.args.map c.args.place c.make_copy.result (c.requires.holds ∙ c.in-None.is)
+    c.make_copy.ensures.free c.make_copy.ensures.once c.make_copy.ensures.anon c.make_copy.ensures.maps
+
+pub returns-in-Some-clause-gives : goal.returns-in-Some-clause-gives
+returns-in-Some-clause-gives g c =
+    gives-other c.args.world.now.anon c.copy_slot.new.world.anon c.args.world.now.maps c.copy_slot.new.world.maps c.args.map c.args.place c.in-Some.held c.copy_slot.result (c.requires.holds ∙ c.in-Some.is)
+    c.copy_slot.ensures.free c.copy_slot.ensures.once c.copy_slot.ensures.anon c.copy_slot.ensures.maps

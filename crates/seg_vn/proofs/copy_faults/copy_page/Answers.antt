@@ -11,11 +11,12 @@ use Rattle.seg_ops.proofs.Composed.{keeps-then}
 use Rattle.seg_ops.proofs.Disks.{dirty-exists}
 use Rattle.seg_ops.proofs.Modified.{modifies-then}
 use Rattle.seg_ops.proofs.StillSteps.{memory_of}
-use Rattle.seg_vn.specs.Faults.{ServesAnyFault}
+use Rattle.seg_ops.specs.Faults.{ServesFault}
 use Rattle.seg_vn.proofs.AnyFaults.{accessed}
 use Rattle.seg_vn.proofs.AnySteps.{made-asks, there-still}
 use Rattle.seg_vn.proofs.Brings.{some-frame}
-use Rattle.seg_vn.proofs.CopySteps.{own-alone, copy-spot, takes-more, serves-after, copy-may, copy-makes, cell-shows, home-value, source-wanted}
+use Rattle.seg_vn.proofs.CopySteps.{own-alone, copy-spot, takes-more, serves-after, copy-may, copy-due, copy-makes, cell-shows, home-value, source-wanted}
+use Rattle.seg_vn.proofs.SlotsDue.{slots-made}
 use Rattle.seg_vn.proofs.Takes.{takes-later, takes-none}
 use Rattle.seg_vn.proofs.copy_faults.copy_page.Goals as goal
 
@@ -51,10 +52,10 @@ returns-in-Some-clause-serves g c = λ spaces x fits place.
     let keeps = keeps-then old back mid spaces fits one (c.make_room_beside.ensures.keeps spaces one.memory) in
     let first = takes-none old mid spaces c.args.world.now.pending keeps in
     let home = c.make_room_beside.ensures.stay c.args.name ∙ c.take_back.ensures.stay c.args.name ∙ c.requires.source in
-    subst (λ (k : ℕ). ServesAnyFault (memory_of old spaces) (memory_of mid spaces) c.args.world.now.pending k p q x true c.ask.result) (sym (ap (λ v. v.pending) c.make_room_beside.ensures.rest ∙ ap (λ v. v.pending) c.take_back.ensures.rest))
-    (made-asks old mid spaces p q x true c.args.world.now.pending c.args.world.now.pending c.in-Some.victim c.ask.result first there
+    subst (λ (k : ℕ). ServesFault (memory_of old spaces) (memory_of mid spaces) c.args.world.now.pending k p q x true c.ask.result) (sym (ap (λ v. v.pending) c.make_room_beside.ensures.rest ∙ ap (λ v. v.pending) c.take_back.ensures.rest))
+    (made-asks old mid spaces p q x true c.args.world.now.pending c.args.world.now.pending c.in-Some.victim c.ask.result first (record { counts = anon; places = maps }) there
     (λ call acc. copy-makes old mid spaces p q c.args.map c.args.place x c.args.slot (Some c.args.name) call fits place maps anon acc)
-    (λ call acc. source-wanted old mid spaces p q x c.args.name c.args.frame place.here shows c.requires.source home (λ l. c.take_back.ensures.unlisted (c.make_room_beside.ensures.unlisted l)) call (accessed true q call acc))
+    (λ call acc. source-wanted old mid spaces p q x c.args.name c.args.frame place.here shows c.requires.source home (λ l. c.take_back.ensures.unlisted c.args.frame c.requires.source (c.make_room_beside.ensures.unlisted l)) call (accessed true q call acc))
     (modifies-then old back mid c.take_back.ensures.modified c.make_room_beside.ensures.modified) room.0 room.1 c.ask.ensures)
 
 pub clear_way-requires-clause-fits : goal.clear_way-requires-clause-fits
@@ -97,6 +98,7 @@ returns-clause-serves g c = λ spaces x fits place.
     let keeps = keeps-then old back room spaces fits one (c.make_room_beside.ensures.keeps spaces one.memory) in
     let takes = c.clear_way.ensures.takes spaces keeps.memory in
     let names = c.make_room_beside.ensures.names ∙ c.take_back.ensures.names in
+    let anon' = ap (λ v. v.anon) c.make_room_beside.ensures.rest ∙ ap (λ v. v.anon) c.take_back.ensures.rest in
     let maps' = ap (λ v. v.maps) c.make_room_beside.ensures.rest ∙ ap (λ v. v.maps) c.take_back.ensures.rest in
     let files' = ap (λ v. v.files) c.make_room_beside.ensures.rest ∙ ap (λ v. v.files) c.take_back.ensures.rest in
     let before = ap (λ v. v.pending) c.make_room_beside.ensures.rest ∙ ap (λ v. v.pending) c.take_back.ensures.rest in
@@ -106,9 +108,19 @@ returns-clause-serves g c = λ spaces x fits place.
     let taken = takes-later old room freed spaces c.args.world.now.pending c.clear_way.new.world.pending fits keeps names files' first in
     let all = subst (λ (k : ℕ). TakesFrames (memory_of old spaces) freed c.args.world.now.pending k) (sym (ap (λ v. v.pending) c.load_page.ensures.rest))
     (takes-more old freed spaces c.args.world.now.pending c.clear_way.new.world.pending c.copy_into-own.new.world.pending taken c.copy_into-own.ensures.pends c.clear_way.ensures.free files) in
-    let home = c.clear_way.ensures.homes name c.args.frame (c.make_room_beside.ensures.stay name ∙ c.take_back.ensures.stay name ∙ c.requires.source) (λ l. c.take_back.ensures.unlisted (c.make_room_beside.ensures.unlisted l)) in
+    let home = c.clear_way.ensures.homes name c.args.frame (c.make_room_beside.ensures.stay name ∙ c.take_back.ensures.stay name ∙ c.requires.source) (λ l. c.take_back.ensures.unlisted c.args.frame c.requires.source (c.make_room_beside.ensures.unlisted l)) in
     let shows = cell-shows old freed spaces p q m i x c.args.slot (Some name) place takes.step.memory maps files name (home_bytes freed.store (find freed.store.names name)) refl (home-value freed spaces name c.args.frame takes.step.memory home) in
     let makes = c.copy_into-own.ensures.changes spaces p q x takes.step.memory (own-alone old spaces p q m i x fits (copy-spot old spaces p q m i x c.args.slot (Some name) place)) c.clear_way.ensures.gone c.clear_way.ensures.free shows in
-    let set = c.copy_into-own.ensures.maps ∙ ap (λ (ms : List (Option Map)). with_places ms m (slice_set (places_of ms m) i (Some s))) maps in
-    let may = copy-may old made spaces p q m i s x c.args.slot (Some name) place c.requires.within set c.copy_into-own.ensures.once in
+    let gives = c.copy_into-own.ensures.gives in
+    let set = gives.set ∙ ap (λ (ms : List (Option Map)). with_places ms m (slice_set (places_of ms m) i (Some s))) maps in
+    let may = copy-may old made spaces p q m i s x c.args.slot (Some name) place c.requires.within set gives.alone in
     serves-after old freed made new spaces p q x c.args.world.now.pending c.load_page.new.world.pending c.load_page.ensures.loaded.0 all makes (c.load_page.ensures.keeps spaces makes.memory may) c.load_page.ensures.loaded.1
+    (slots-made old freed made new x true m i s (copy-due old spaces p q m i x c.args.slot (Some name) fits place) gives (ap (λ v. v.anon) c.clear_way.ensures.rest ∙ anon') maps (ap (λ v. v.anon) c.load_page.ensures.rest) (ap (λ v. v.maps) c.load_page.ensures.rest))
+
+pub copy_into-own-requires-clause-source : goal.copy_into-own-requires-clause-source
+copy_into-own-requires-clause-source g c = (
+  c.args.frame,
+  c.clear_way.ensures.homes c.args.name c.args.frame (c.make_room_beside.ensures.stay c.args.name ∙ c.take_back.ensures.stay c.args.name ∙ c.requires.source)
+      (λ l. c.take_back.ensures.unlisted c.args.frame c.requires.source (c.make_room_beside.ensures.unlisted l)),
+  λ l. c.take_back.ensures.unlisted c.args.frame c.requires.source (c.make_room_beside.ensures.unlisted (c.clear_way.ensures.lists c.args.frame l)),
+)

@@ -3,7 +3,7 @@ use Rattle.anon_map.specs.Maps.{Map}
 use Rattle.vm_world.specs.Segments.{shown_name}
 use Rattle.vm_world.specs.World.{world_seen}
 use Rattle.seg_ops.proofs.StillSteps.{memory_of}
-use Rattle.seg_vn.specs.Faults.{ServesAnyFault}
+use Rattle.seg_ops.specs.Faults.{ServesFault}
 use Rattle.seg_vn.proofs.AnySteps.{there-still}
 use Rattle.seg_vn.proofs.CopySteps.{away-serves, fetch-serves}
 use Rattle.seg_vn.proofs.copy_faults.fault_copy.Goals as goal
@@ -29,6 +29,6 @@ returns-else-is_blank-clause-serves g c = λ spaces x fits place.
     let p = c.args.space in
     let q = c.args.page in
     let maps = ap (λ v. v.maps) c.fetch.ensures.rest in
-    subst (λ (k : ℕ). ServesAnyFault (memory_of old spaces) (memory_of mid spaces) c.args.world.now.pending k p q x true c.fetch.result) (sym (ap (λ v. v.pending) c.fetch.ensures.rest))
-    (fetch-serves old mid spaces p q x true c.args.world.now.pending c.args.name c.fetch.result (c.fetch.ensures.keeps spaces fits) (sym c.resident.ensures.residence ∙ c.in-Absent.is) c.fetch.ensures.modified
+    subst (λ (k : ℕ). ServesFault (memory_of old spaces) (memory_of mid spaces) c.args.world.now.pending k p q x true c.fetch.result) (sym (ap (λ v. v.pending) c.fetch.ensures.rest))
+    (fetch-serves old mid spaces p q x true c.args.world.now.pending c.args.name c.fetch.result (c.fetch.ensures.keeps spaces fits) (record { counts = ap (λ v. v.anon) c.fetch.ensures.rest; places = maps }) (sym c.resident.ensures.residence ∙ c.in-Absent.is) c.fetch.ensures.modified
     (there-still old mid spaces p q x place.here place.some maps (ap (λ v. v.files) c.fetch.ensures.rest)) (ap (λ (ms : List (Option Map)). shown_name ms x) maps ∙ place.shows) (c.fetch.ensures.fetches spaces fits))

@@ -8,11 +8,12 @@ use Rattle.vm_world.specs.Serving.{TakesFrames}
 use Rattle.vm_world.specs.World.{world_seen, slot_name}
 use Rattle.seg_ops.proofs.Disks.{dirty-exists}
 use Rattle.seg_ops.proofs.StillSteps.{memory_of}
-use Rattle.seg_vn.specs.Faults.{ServesAnyFault}
+use Rattle.seg_ops.specs.Faults.{ServesFault}
 use Rattle.seg_vn.proofs.AnyFaults.{accessed}
 use Rattle.seg_vn.proofs.AnySteps.{made-asks, there-still}
 use Rattle.seg_vn.proofs.Brings.{some-frame}
-use Rattle.seg_vn.proofs.CopySteps.{own-alone, copy-spot, takes-more, serves-after, copy-may, copy-makes, zeros-wanted, zeros-show, zeros-stay}
+use Rattle.seg_vn.proofs.CopySteps.{own-alone, copy-spot, takes-more, serves-after, copy-may, copy-due, copy-makes, zeros-wanted, zeros-show, zeros-stay}
+use Rattle.seg_vn.proofs.SlotsDue.{slots-made}
 use Rattle.seg_vn.proofs.Takes.{takes-later, takes-none}
 use Rattle.seg_vn.proofs.copy_faults.own_zeros.Goals as goal
 
@@ -35,8 +36,8 @@ returns-in-Some-clause-serves g c = λ spaces x shown fits place zs.
     let shows = ap (λ (ms : List (Option Map)). shown_name ms x) maps ∙ place.shows in
     let there = there-still old mid spaces p q x place.here place.some maps (ap (λ v. v.files) c.make_room.ensures.rest) in
     let first = takes-none old mid spaces c.args.world.now.pending (c.make_room.ensures.keeps spaces fits) in
-    subst (λ (k : ℕ). ServesAnyFault (memory_of old spaces) (memory_of mid spaces) c.args.world.now.pending k p q x true c.ask.result) (sym (ap (λ v. v.pending) c.make_room.ensures.rest))
-    (made-asks old mid spaces p q x true c.args.world.now.pending c.args.world.now.pending c.in-Some.victim c.ask.result first there
+    subst (λ (k : ℕ). ServesFault (memory_of old spaces) (memory_of mid spaces) c.args.world.now.pending k p q x true c.ask.result) (sym (ap (λ v. v.pending) c.make_room.ensures.rest))
+    (made-asks old mid spaces p q x true c.args.world.now.pending c.args.world.now.pending c.in-Some.victim c.ask.result first (record { counts = anon; places = maps }) there
     (λ call acc. copy-makes old mid spaces p q c.args.map c.args.place x c.args.slot shown call fits place maps anon acc)
     (λ call acc. zeros-wanted old mid spaces p q x shown place.here shows zs call (accessed true q call acc))
     c.make_room.ensures.modified room.0 room.1 c.ask.ensures)
@@ -84,6 +85,8 @@ returns-clause-serves g c = λ spaces x shown fits place zs.
     let still = zeros-stay old freed shown (λ name none. c.clear_way.ensures.absent name (c.make_room.ensures.stay name ∙ none)) files anon zs in
     let shows = zeros-show old freed spaces p q m i x c.args.slot shown place takes.step.memory maps files still in
     let makes = c.zeros_into-own.ensures.changes spaces p q x takes.step.memory (own-alone old spaces p q m i x fits (copy-spot old spaces p q m i x c.args.slot shown place)) c.clear_way.ensures.gone c.clear_way.ensures.free shows in
-    let set = c.zeros_into-own.ensures.maps ∙ ap (λ (ms : List (Option Map)). with_places ms m (slice_set (places_of ms m) i (Some s))) maps in
-    let may = copy-may old made spaces p q m i s x c.args.slot shown place c.requires.within set c.zeros_into-own.ensures.once in
+    let gives = c.zeros_into-own.ensures.gives in
+    let set = gives.set ∙ ap (λ (ms : List (Option Map)). with_places ms m (slice_set (places_of ms m) i (Some s))) maps in
+    let may = copy-may old made spaces p q m i s x c.args.slot shown place c.requires.within set gives.alone in
     serves-after old freed made new spaces p q x c.args.world.now.pending c.load_page.new.world.pending c.load_page.ensures.loaded.0 all makes (c.load_page.ensures.keeps spaces makes.memory may) c.load_page.ensures.loaded.1
+    (slots-made old freed made new x true m i s (copy-due old spaces p q m i x c.args.slot shown fits place) gives anon maps (ap (λ v. v.anon) c.load_page.ensures.rest) (ap (λ v. v.maps) c.load_page.ensures.rest))

@@ -2,6 +2,7 @@ use Rattle.std.proofs.Common.{◌∙◌}
 use Rattle.core_arena.specs.Bytes.{zeros}
 use Rattle.vm_world.specs.World.{world_seen}
 use Rattle.seg_vn.proofs.Copies.{changes-got, changes-held}
+use Rattle.seg_vn.proofs.SlotsDue.{gives-new, gives-other}
 use Rattle.seg_vn.proofs.copy_faults.zeros_into.Goals as goal
 
 pub returns-in-None-clause-changes : goal.returns-in-None-clause-changes
@@ -19,3 +20,13 @@ returns-in-None-clause-memory g c = λ spaces p q x fits owns unloaded. (c.make_
 
 pub returns-in-Some-clause-memory : goal.returns-in-Some-clause-memory
 returns-in-Some-clause-memory g c = λ spaces p q x fits owns unloaded. (c.zero_slot.ensures.changes spaces p q x fits owns unloaded).memory
+
+pub returns-in-None-clause-gives : goal.returns-in-None-clause-gives
+returns-in-None-clause-gives g c =
+    gives-new c.args.world.now.anon c.make_zero.new.world.anon c.args.world.now.maps c.make_zero.new.world.maps c.args.map c.args.place c.make_zero.result (c.requires.holds ∙ c.in-None.is)
+    c.make_zero.ensures.free c.make_zero.ensures.once c.make_zero.ensures.anon c.make_zero.ensures.maps
+
+pub returns-in-Some-clause-gives : goal.returns-in-Some-clause-gives
+returns-in-Some-clause-gives g c =
+    gives-other c.args.world.now.anon c.zero_slot.new.world.anon c.args.world.now.maps c.zero_slot.new.world.maps c.args.map c.args.place c.in-Some.held c.zero_slot.result (c.requires.holds ∙ c.in-Some.is)
+    c.zero_slot.ensures.free c.zero_slot.ensures.once c.zero_slot.ensures.anon c.zero_slot.ensures.maps

@@ -7,7 +7,7 @@ use Rattle.vm_world.specs.FlatMemory.{own_without_slot}
 use Rattle.vm_world.specs.Segments.{Spot}
 use Rattle.vm_world.specs.World.{world_seen, slot_in}
 use Rattle.seg_ops.proofs.StillSteps.{memory_of}
-use Rattle.seg_vn.specs.Faults.{ServesAnyFault}
+use Rattle.seg_ops.specs.Faults.{ServesFault}
 use Rattle.seg_vn.proofs.AnyPlaces.{own-there, private-has, object-fits}
 use Rattle.seg_vn.proofs.AnySteps.{shown-bare, shows-object}
 use Rattle.seg_vn.proofs.FilePlaces.{either-allowed, write-allowed}
@@ -71,7 +71,7 @@ returns-clause-serves g c = λ spaces fits here zeros.
           let z : None ≡ Some c.in-Some-shown._shown = sym fit.1 ∙ shown in cc)
       | inr zero ↦ ap own_without_slot zero.3
     ] in
-    subst (λ (b : Bool). ServesAnyFault (memory_of w spaces) (memory_of (world_seen c.own_zeros.new.world) spaces) c.args.world.now.pending c.own_zeros.new.world.pending c.args.space c.args.page x b c.own_zeros.result) (sym write)
+    subst (λ (b : Bool). ServesFault (memory_of w spaces) (memory_of (world_seen c.own_zeros.new.world) spaces) c.args.world.now.pending c.own_zeros.new.world.pending c.args.space c.args.page x b c.own_zeros.result) (sym write)
     (c.own_zeros.ensures.serves spaces x None fits (record {
       here = here;
       own = own;

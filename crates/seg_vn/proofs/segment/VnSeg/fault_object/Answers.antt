@@ -5,7 +5,7 @@ use Rattle.vm_types.specs.Prot.{can_read, can_write}
 use Rattle.vm_world.specs.Segments.{Spot, object_name}
 use Rattle.vm_world.specs.World.{world_seen, slot_in, slot_name}
 use Rattle.seg_ops.proofs.StillSteps.{memory_of}
-use Rattle.seg_vn.specs.Faults.{ServesAnyFault}
+use Rattle.seg_ops.specs.Faults.{ServesFault}
 use Rattle.seg_vn.proofs.AnyPlaces.{place-in, own-there, not-new}
 use Rattle.seg_vn.proofs.AnySteps.{object-place, shared-in-place, past-serves, shows-object}
 use Rattle.seg_vn.proofs.FilePlaces.{write-allowed}
@@ -57,7 +57,7 @@ returns-else-not-write-clause-serves g c = λ spaces fits here.
     let shows = c.in-Page.ensures.shows spaces c.args.space c.args.page fits here in
     let write : c.args.write ≡ true = c.if-not-write.false in
     let own : x.0.own ≡ Some c.in-Some.map = sym c.own.ensures ∙ c.in-Some.is in
-    subst (λ (b : Bool). ServesAnyFault (memory_of w spaces) (memory_of (world_seen c.fault_copy.new.world) spaces) c.args.world.now.pending c.fault_copy.new.world.pending c.args.space c.args.page x b c.fault_copy.result) (sym write)
+    subst (λ (b : Bool). ServesFault (memory_of w spaces) (memory_of (world_seen c.fault_copy.new.world) spaces) c.args.world.now.pending c.fault_copy.new.world.pending c.args.space c.args.page x b c.fault_copy.result) (sym write)
     (c.fault_copy.ensures.serves spaces x fits (record {
       here = here;
       own = own;
@@ -69,3 +69,7 @@ returns-else-not-write-clause-serves g c = λ spaces fits here.
       some = shows-object w x shows.2;
       allowed = sym (ap (λ (b : Bool). cond b (can_write x.0.prot) (can_read x.0.prot)) write) ∙ c.requires.allowed;
     }))
+
+pub returns-in-Zeros-clause-serves : goal.returns-in-Zeros-clause-serves
+returns-in-Zeros-clause-serves g c = λ spaces fits here.
+    c.fault_empty.ensures.serves spaces fits here (c.in-Zeros.ensures.shows spaces c.args.space c.args.page fits here)

@@ -9,7 +9,7 @@ use Rattle.vm_world.proofs.Counts.{held-used, used-below}
 use Rattle.vm_world.proofs.FlatWhole.{some-inj}
 use Rattle.seg_ops.proofs.SlotMemory.{lt-used}
 use Rattle.seg_ops.proofs.StillSteps.{memory_of}
-use Rattle.seg_vn.specs.Faults.{ServesAnyFault}
+use Rattle.seg_ops.specs.Faults.{ServesFault}
 use Rattle.seg_vn.proofs.AnySteps.{own-shown}
 use Rattle.seg_vn.proofs.segment.VnSeg.fault_slot.Given.{Over}
 use Rattle.seg_vn.proofs.segment.VnSeg.fault_slot.Goals.{In-Some}
@@ -59,7 +59,7 @@ returns-clause-serves g c = λ spaces fits here.
     let some = used g at in
     let ne = c.if-count-eq1.false in
     let is = c.count.ensures in
-    subst (λ (b : Bool). ServesAnyFault (memory_of w spaces) (memory_of (world_seen c.fault_copy.new.world) spaces) c.args.world.now.pending c.fault_copy.new.world.pending c.args.space c.args.page x b c.fault_copy.result) (sym write)
+    subst (λ (b : Bool). ServesFault (memory_of w spaces) (memory_of (world_seen c.fault_copy.new.world) spaces) c.args.world.now.pending c.fault_copy.new.world.pending c.args.space c.args.page x b c.fault_copy.result) (sym write)
     (c.fault_copy.ensures.serves spaces x fits (record {
       here = here;
       own = sym c.own.ensures ∙ c.in-Some.is;
