@@ -1,24 +1,41 @@
 -- What an access comes to before its word is moved, case by case.
-use Rattle.std.proofs.Common.{◌≡◌, ℕ, ◌%◌, Bool, true, false, cond, Option, Some, None, refl, sym, ap, ◌∙◌}
+use Rattle.std.proofs.Common.{◌≡◌, ℕ, ◌%◌, Bool, true, false, cond, Option, Some, None, Err, refl, sym, ap, ◌∙◌, subst}
 use Rattle.std.specs.Prelude.{not, ◌||◌}
+use Rattle.std.specs.FinSet as set
+use Rattle.std.specs.Ordering.{nat_cmp}
 use Rattle.hat_layer.specs.Pool.{IsNoted, frame_let, frame_for}
+use Rattle.page_store.specs.Notes.{Notes}
 use Rattle.page_store.specs.declared.plan.Plan.{Plan}
 use Rattle.page_store.specs.declared.plan.Hold.{Hold}
+use Rattle.vm_types.specs.declared.call.Kind.{Kind}
+use Rattle.vm_types.specs.declared.call.Kind.TheVariants.{Shared, Private}
+use Rattle.vm_types.specs.declared.call.Signal.{Signal}
 use Rattle.vm_types.specs.declared.call.Signal.TheVariants as signal
+use Rattle.flat_model.specs.Access.{access_target}
+use Rattle.flat_model.specs.Flat.{Flat}
 use Rattle.flat_model.specs.Words.{page}
+use Rattle.vm_world.specs.CallSteps.{ChangesMemory}
+use Rattle.vm_world.specs.FlatMemory.{flat_memory}
 use Rattle.vm_world.specs.MemoryFits.{MemoryFits}
 use Rattle.vm_world.specs.Segments.{Spot, Spaces, spot_at}
 use Rattle.vm_world.specs.World.{World}
+use Rattle.vm_world.proofs.CallSteps.{call_rule}
+use Rattle.vm_world.proofs.FlatWhole.{some-inj}
+use Rattle.seg_ops.specs.OwnPages.{with_own_shown}
 use Rattle.seg_ops.specs.declared.plans.Step.TheVariants as step
 use Rattle.seg_ops.specs.Steps.{KeepsPages}
 use Rattle.seg_ops.proofs.Composed.{keeps-same}
 use Rattle.seg_ops.proofs.StillSteps.{memory_of}
-use Rattle.seg_vn.specs.Faults.{IsFilePlace, LetsAccess, ServesFault}
-use Rattle.seg_vn.proofs.FilePlaces.{past-below}
-use Rattle.seg_vn.proofs.Takes.{takes-none, takes-then}
-use Rattle.fault_entry.specs.Reaching.{may_access, ServesAccess}
+use Rattle.seg_ops.specs.Faults.{LetsAccess, ServesFault, after_fault}
+use Rattle.seg_ops.specs.SlotsDue.{MakesSlotAt, slot_due}
+use Rattle.seg_vn.proofs.AnyFaults.{changes-as, changes-kept, fault-whole}
+use Rattle.seg_vn.proofs.AnyPlaces.{kept-own, kept-shared}
+use Rattle.seg_vn.proofs.SlotsDue.{due-none, made-still, slots-kept}
+use Rattle.seg_vn.proofs.Takes.{takes-none}
+use Rattle.fault_entry.specs.Reaching.{may_access, ReachesPage, ServesAccess, after_reach}
 use Rattle.fault_entry.specs.declared.access.Access.TheVariants as access
 use Rattle.fault_entry.proofs.Targets.{unaligned, unmapped, refused, past, may-reach}
+use Rattle.fault_entry.proofs.Words.{name, place-shows, place-writable}
 
 -- an access that the translation lets goes to a frame
 lets : (b write : Bool) → (write ≡ true → b ≡ true) → (b || not write) ≡ true
@@ -31,35 +48,101 @@ goes-there w p q write o l is none =
     let there = ap (frame_let write) l.loaded ∙ ap (λ (b : Bool). cond b (Some l.translation.frame) None) (lets l.translation.writable write l.writable) in
     let z : Some l.translation.frame ≡ None = sym there ∙ sym is ∙ none in cc
 
+-- flat memory is as it was where a page that may be written in place is, or is only read
+hit-same : (w : World) (spaces : Spaces) (p a n frame : ℕ) (write : Bool) (f : MemoryFits (memory_of w spaces)) (r : ReachesPage (memory_of w spaces) p a n frame write) (born : set.FinSet nat_cmp) (notes : Notes)
+    → flat_memory (memory_of w spaces) born notes ≡ after_reach (access.Reached frame) write (flat_memory (memory_of w spaces) born notes) p (page a)
+hit-same w spaces p a n frame false f r born notes = refl
+hit-same w spaces p a n frame true f r born notes = by_kind r.spot.0.kind refl
+  where
+    by_kind : (k : Kind) → r.spot.0.kind ≡ k → flat_memory (memory_of w spaces) born notes ≡ with_own_shown (flat_memory (memory_of w spaces) born notes) p (page a)
+    by_kind Shared kind = sym (kept-shared w spaces p (page a) r.spot f r.here born notes kind)
+    by_kind Private kind = let a' = (place-writable w spaces p a n frame true f r refl).alone kind in sym (kept-own w spaces p (page a) r.spot f r.here born notes a'.0 a'.1)
+
+-- a fault leaves what its access finds
+reach-is : (write : Bool) (frame : ℕ) (F : Flat) (p q : ℕ) → after_fault step.Loaded write F p q ≡ after_reach (access.Reached frame) write F p q
+reach-is true frame F p q = refl
+reach-is false frame F p q = refl
+
+-- NOTHING is done: what is said of a memory that stays.
 module _ (w : World) (spaces : Spaces) (pending p a n : ℕ) (write : Bool) (f : MemoryFits (memory_of w spaces)) where
-  -- NOTHING is done.
+  abbrev same-machine : ChangesMemory p (memory_of w spaces) (memory_of w spaces) (λ F G. G ≡ F)
+  same-machine = changes-kept p w w spaces f (keeps-same w spaces f)
+
+  signal-serves : (s : Signal) → ((born : set.FinSet nat_cmp) (notes : Notes) → access_target (flat_memory (memory_of w spaces) born notes) p (may_access write) a n ≡ Err s)
+      → ServesAccess (memory_of w spaces) (memory_of w spaces) pending pending p a n write (access.Refused s)
+  signal-serves s means = record { mid = w; first = takes-none w w spaces pending (keeps-same w spaces f); acts = same-machine; ends = refl; slots = record { counts = refl; places = refl }; means = means }
+
   pub align-access : ¬ (a % n ≡ 0) → ServesAccess (memory_of w spaces) (memory_of w spaces) pending pending p a n write (access.Refused signal.Align)
-  align-access odd = record { first = takes-none w w spaces pending (keeps-same w spaces f); means = λ born notes. unaligned w spaces born notes p a n (may_access write) odd }
+  align-access odd = signal-serves signal.Align (λ born notes. unaligned w spaces born notes p a n (may_access write) odd)
 
   pub unmapped-access : a % n ≡ 0 → spot_at spaces p (page a) ≡ None → ServesAccess (memory_of w spaces) (memory_of w spaces) pending pending p a n write (access.Refused signal.NoMap)
-  unmapped-access even none = record { first = takes-none w w spaces pending (keeps-same w spaces f); means = λ born notes. unmapped w spaces born notes p a n (may_access write) even none }
+  unmapped-access even none = signal-serves signal.NoMap (λ born notes. unmapped w spaces born notes p a n (may_access write) even none)
 
   pub refused-access : (x : Spot) → a % n ≡ 0 → spot_at spaces p (page a) ≡ Some x → may_access write x.0.prot ≡ false → ServesAccess (memory_of w spaces) (memory_of w spaces) pending pending p a n write (access.Refused signal.Prot)
-  refused-access x even here none = record { first = takes-none w w spaces pending (keeps-same w spaces f); means = λ born notes. refused w spaces born notes p a n (may_access write) x even here none }
+  refused-access x even here none = signal-serves signal.Prot (λ born notes. refused w spaces born notes p a n (may_access write) x even here none)
 
-  -- A HIT.
-  pub hit-access : (new : World) (x : Spot) (frame : ℕ) → a % n ≡ 0 → IsFilePlace spaces p (page a) x → may_access write x.0.prot ≡ true → KeepsPages w new spaces → IsNoted new.hat.places p (page a) frame write
-      → ServesAccess (memory_of w spaces) (memory_of new spaces) pending pending p a n write (access.Reached frame)
-  hit-access new x frame even place allowed keeps noted = record { first = takes-none w new spaces pending keeps; means = record { aligned = even; spot = x; place = place; allowed = allowed; noted = noted } }
+  -- A HIT makes no slot: its page is shown, and written in place.
+  pub hit-access : (new : World) (x : Spot) (frame : ℕ) → a % n ≡ 0 → spot_at spaces p (page a) ≡ Some x → may_access write x.0.prot ≡ true → KeepsPages w new spaces → new.anon ≡ w.anon → new.maps ≡ w.maps
+      → IsNoted new.hat.places p (page a) frame write → ServesAccess (memory_of w spaces) (memory_of new spaces) pending pending p a n write (access.Reached frame)
+  hit-access new x frame even here allowed keeps anon maps noted =
+      let r : ReachesPage (memory_of new spaces) p a n frame write = record { aligned = even; spot = x; here = here; allowed = allowed; noted = noted } in
+      let due : slot_due new.anon new.maps x write ≡ None =
+      due-none new.anon new.maps x write (name new spaces p a n frame write keeps.memory r) (place-shows new spaces p a n frame write keeps.memory r) (λ is. place-writable new spaces p a n frame write keeps.memory r is) in
+      let moved : slot_due new.anon new.maps x write ≡ slot_due w.anon w.maps x write = λ i. slot_due (anon i) (maps i) x write in
+      let still : slot_due w.anon w.maps x write ≡ None = sym moved ∙ due in
+      record {
+        mid = new;
+        first = takes-none w new spaces pending keeps;
+        acts = changes-as p (memory_of new spaces) (memory_of new spaces) (λ F. F) (λ F. after_reach (access.Reached frame) write F p (page a))
+            (λ born notes nf tell whole. hit-same new spaces p a n frame write keeps.memory r born notes)
+            (changes-kept p new new spaces keeps.memory (keeps-same new spaces keeps.memory));
+        ends = tt;
+        slots = λ y there. slots-kept w new y write (subst (λ (z : Spot). slot_due w.anon w.maps z write ≡ None) (some-inj x y (sym here ∙ there)) still) anon maps;
+        means = r;
+      }
 
 -- A FAULT, by what it comes to.
-module _ (old new : World) (spaces : Spaces) (pending more p a n : ℕ) (write : Bool) (x : Spot) (even : a % n ≡ 0) (place : IsFilePlace spaces p (page a) x) (allowed : may_access write x.0.prot ≡ true) where
-  pub loaded-access : (mid : World) (frame : ℕ) → MemoryFits (memory_of old spaces) → ServesFault (memory_of old spaces) (memory_of mid spaces) pending more p (page a) x write step.Loaded → KeepsPages mid new spaces
-      → new.store.names ≡ mid.store.names → IsNoted new.hat.places p (page a) frame write → ServesAccess (memory_of old spaces) (memory_of new spaces) pending more p a n write (access.Reached frame)
-  loaded-access mid frame f s keeps names noted = record { first = takes-then old mid new spaces pending more f s.first keeps names; means = record { aligned = even; spot = x; place = place; allowed = allowed; noted = noted } }
+module _ (old new : World) (spaces : Spaces) (pending more p a n : ℕ) (write : Bool) (x : Spot) (even : a % n ≡ 0) (here : spot_at spaces p (page a) ≡ Some x) (allowed : may_access write x.0.prot ≡ true) where
+  pub loaded-access : (mid : World) (frame : ℕ) → ServesFault (memory_of old spaces) (memory_of mid spaces) pending more p (page a) x write step.Loaded → KeepsPages mid new spaces
+      → new.anon ≡ mid.anon → new.maps ≡ mid.maps → IsNoted new.hat.places p (page a) frame write → ServesAccess (memory_of old spaces) (memory_of new spaces) pending more p a n write (access.Reached frame)
+  loaded-access mid frame s keeps anon maps noted = record {
+    mid = s.mid;
+    first = s.first;
+    acts = changes-as p (memory_of s.mid spaces) (memory_of new spaces) (λ F. after_fault step.Loaded write F p (page a)) (λ F. after_reach (access.Reached frame) write F p (page a))
+        (λ born notes nf tell whole. reach-is write frame (flat_memory (memory_of s.mid spaces) born notes) p (page a))
+        (call_rule.joined p (memory_of s.mid spaces) (memory_of mid spaces) (memory_of new spaces) (λ F. after_fault step.Loaded write F p (page a)) (λ F. F)
+        (λ born notes nf tell whole. fault-whole step.Loaded write (flat_memory (memory_of s.mid spaces) born notes) p (page a) whole) s.acts (changes-kept p mid new spaces s.acts.memory keeps));
+    ends = tt;
+    slots = λ y there. subst (λ (z : Spot). MakesSlotAt old new (slot_due old.anon old.maps z write)) (some-inj x y (sym here ∙ there)) (made-still old mid new (slot_due old.anon old.maps x write) anon maps s.slots);
+    means = record { aligned = even; spot = x; here = here; allowed = allowed; noted = noted };
+  }
 
   pub past-access : ServesFault (memory_of old spaces) (memory_of new spaces) pending more p (page a) x write step.Past → ServesAccess (memory_of old spaces) (memory_of new spaces) pending more p a n write (access.Refused signal.Past)
-  past-access s =
-      let f = s.first.step.memory in
-      record { first = s.first; means = λ born notes. past new spaces born notes p a n (may_access write) x even f place allowed (past-below new spaces p (page a) x f place s.means) }
+  past-access s = record {
+    mid = s.mid;
+    first = s.first;
+    acts = s.acts;
+    ends = s.ends;
+    slots = s.slots;
+    means = λ born notes. past new spaces born notes p a n (may_access write) x even s.acts.memory here allowed s.means;
+  }
 
   pub need-access : (plan : Plan) → ServesFault (memory_of old spaces) (memory_of new spaces) pending more p (page a) x write (step.Need plan) → ServesAccess (memory_of old spaces) (memory_of new spaces) pending more p a n write (access.Need plan)
-  need-access plan s = record { first = s.first; means = (s.means, λ born notes. may-reach new spaces born notes p a n (may_access write) x even place.here allowed) }
+  need-access plan s = record {
+    mid = s.mid;
+    first = s.first;
+    acts = s.acts;
+    ends = s.ends;
+    slots = s.slots;
+    means = (s.means, λ born notes. may-reach new spaces born notes p a n (may_access write) x even here allowed);
+  }
 
   pub busy-access : (h : Hold) → ServesFault (memory_of old spaces) (memory_of new spaces) pending more p (page a) x write (step.Busy h) → ServesAccess (memory_of old spaces) (memory_of new spaces) pending more p a n write (access.Busy h)
-  busy-access h s = record { first = s.first; means = (s.means, λ born notes. may-reach new spaces born notes p a n (may_access write) x even place.here allowed) }
+  busy-access h s = record {
+    mid = s.mid;
+    first = s.first;
+    acts = s.acts;
+    ends = s.ends;
+    slots = s.slots;
+    means = (s.means, λ born notes. may-reach new spaces born notes p a n (may_access write) x even here allowed);
+  }

@@ -1,14 +1,13 @@
 -- What an access reaches in flat memory: the signals in their order, and the page.
-use Rattle.std.proofs.Common.{◌≡◌, ℕ, ◌+◌, ◌%◌, ◌≤◌, ◌==◌, Bool, true, false, Option, Some, None, Ok, Err, refl, ap, ◌∙◌}
-use Rattle.std.specs.Prelude.{option_map, ok_or}
+use Rattle.std.proofs.Common.{◌≡◌, ℕ, ◌%◌, ◌==◌, Bool, true, false, Option, Some, None, Ok, Err, refl, ap, ◌∙◌}
+use Rattle.std.specs.Prelude.{IsFalse, option_map, ok_or}
 use Rattle.std.specs.FinSet as set
 use Rattle.std.specs.Ordering.{nat_cmp}
 use Rattle.std.proofs.lemmas.Bool.{eq-eqb, ne_eqb}
 use Rattle.vm_types.specs.declared.prot.Prot.{Prot}
 use Rattle.vm_types.specs.declared.call.Signal.TheVariants as signal
 use Rattle.page_store.specs.Notes.{Notes}
-use Rattle.vnode_files.specs.Files.{vnode_at}
-use Rattle.flat_model.specs.Words.{Page, page, pages_in}
+use Rattle.flat_model.specs.Words.{Page, page}
 use Rattle.flat_model.specs.Flat.{Cell, Flat, cell_at, shown}
 use Rattle.flat_model.specs.Access.{access_target}
 use Rattle.flat_model.specs.Refusals.{◌>>=◌}
@@ -19,8 +18,9 @@ use Rattle.vm_world.specs.Pages.{contents_of}
 use Rattle.vm_world.specs.Segments.{Spot, Spaces, spot_at}
 use Rattle.vm_world.specs.World.{World}
 use Rattle.seg_ops.proofs.StillSteps.{memory_of}
-use Rattle.seg_vn.specs.Faults.{IsFilePlace}
-use Rattle.fault_entry.proofs.FlatFiles.{cell-there, shows-none}
+use Rattle.vm_world.specs.Wants.{shows_page}
+use Rattle.vm_world.proofs.Maps.{cell-at}
+use Rattle.seg_vn.proofs.PlacesShown.{shown-past}
 
 target-unaligned : (F : Flat) (p : ℕ) (may : Prot → Bool) (a n : ℕ) → (a % n == 0) ≡ false → access_target F p may a n ≡ Err signal.Align
 unfolding access_target
@@ -53,18 +53,18 @@ module _ (w : World) (spaces : Spaces) (born : set.FinSet nat_cmp) (notes : Note
 
   pub unmapped : a % n ≡ 0 → spot_at spaces p (page a) ≡ None → access_target (flat_memory (memory_of w spaces) born notes) p may a n ≡ Err signal.NoMap
   unmapped even none = target-unmapped (flat_memory (memory_of w spaces) born notes) p may a n (eq-eqb (a % n) 0 even)
-      (cell-there w spaces born notes p (page a) ∙ ap (option_map (cell_of (contents_of w notes).place)) none)
+      (cell-at (contents_of w notes).place spaces p (page a) ∙ ap (option_map (cell_of (contents_of w notes).place)) none)
 
-  there : (x : Spot) → spot_at spaces p (page a) ≡ Some x → cell_at (flat_memory (memory_of w spaces) born notes) p (page a) ≡ Some (cell_of (contents_of w notes).place x)
-  there x here = cell-there w spaces born notes p (page a) ∙ ap (option_map (cell_of (contents_of w notes).place)) here
+  pub there : (x : Spot) → spot_at spaces p (page a) ≡ Some x → cell_at (flat_memory (memory_of w spaces) born notes) p (page a) ≡ Some (cell_of (contents_of w notes).place x)
+  there x here = cell-at (contents_of w notes).place spaces p (page a) ∙ ap (option_map (cell_of (contents_of w notes).place)) here
 
   pub refused : (x : Spot) → a % n ≡ 0 → spot_at spaces p (page a) ≡ Some x → may x.0.prot ≡ false → access_target (flat_memory (memory_of w spaces) born notes) p may a n ≡ Err signal.Prot
   refused x even here no_access = target-refused (flat_memory (memory_of w spaces) born notes) p may a n (cell_of (contents_of w notes).place x) (eq-eqb (a % n) 0 even) (there x here) no_access
 
-  pub past : (x : Spot) → a % n ≡ 0 → MemoryFits (memory_of w spaces) → (place : IsFilePlace spaces p (page a) x) → may x.0.prot ≡ true → pages_in (vnode_at w.files place.file).info.length ≤ x.0.index + x.1
+  pub past : (x : Spot) → a % n ≡ 0 → MemoryFits (memory_of w spaces) → spot_at spaces p (page a) ≡ Some x → may x.0.prot ≡ true → IsFalse (shows_page w x)
       → access_target (flat_memory (memory_of w spaces) born notes) p may a n ≡ Err signal.Past
-  past x even f place allowed beyond = target-past (flat_memory (memory_of w spaces) born notes) p may a n (cell_of (contents_of w notes).place x) (eq-eqb (a % n) 0 even) (there x place.here) allowed
-      (shows-none w spaces born notes p (page a) x f place beyond)
+  past x even f here allowed beyond = target-past (flat_memory (memory_of w spaces) born notes) p may a n (cell_of (contents_of w notes).place x) (eq-eqb (a % n) 0 even) (there x here) allowed
+      (shown-past w spaces p (page a) x f here born notes beyond)
 
   pub may-reach : (x : Spot) → a % n ≡ 0 → spot_at spaces p (page a) ≡ Some x → may x.0.prot ≡ true → IsPastAtMost (access_target (flat_memory (memory_of w spaces) born notes) p may a n)
   may-reach x even here allowed = target-may (flat_memory (memory_of w spaces) born notes) p may a n (cell_of (contents_of w notes).place x) (eq-eqb (a % n) 0 even) (there x here) allowed

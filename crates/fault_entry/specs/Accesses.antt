@@ -1,5 +1,5 @@
 -- What holds of loads and stores beside what is answered to them. Public clauses cite this.
-use Rattle.std.specs.Prelude.{◌≡◌, ℕ, Some}
+use Rattle.std.specs.Prelude.{◌≡◌, ℕ, Bool, true, false, Some}
 use Rattle.hat_layer.specs.Pool.{at}
 use Rattle.hat_layer.specs.declared.translation.Translation.{Translation}
 use Rattle.page_hash.specs.declared.PageName.{PageName}
@@ -11,11 +11,12 @@ use Rattle.vm_types.specs.declared.call.Reply.TheVariants as reply
 use Rattle.vm_types.specs.WellFormed.{IsWellFormed}
 use Rattle.vm_world.specs.FlatMemory.{Memory}
 use Rattle.vm_world.specs.Plans.{MayMeetFault}
-use Rattle.vm_world.specs.Segments.{Spot, Spaces, spot_at, shown_name}
+use Rattle.vm_world.specs.Segments.{Spot, spot_at, shown_name}
+use Rattle.vm_world.specs.World.{World}
 use Rattle.seg_vn.specs.declared.attempt.Attempt.{Attempt}
 use Rattle.seg_vn.specs.declared.attempt.Attempt.TheVariants.{Done, Need, Busy}
-use Rattle.seg_vn.specs.Faults.{IsFilePlace}
 use Rattle.seg_vn.specs.Serves.{Serves, IsPlainReply}
+use Rattle.seg_ops.specs.SlotsDue.{KeepsSlots, MakesSlotAt, slot_due}
 
 -- A load or a store, well formed.
 abbrev pub IsAccess : Call → Type 0
@@ -23,9 +24,16 @@ IsAccess (Load a n) = IsWellFormed (Load a n)
 IsAccess (Store a n v) = IsWellFormed (Store a n v)
 IsAccess call = ⊥
 
--- Each page of the process is a place of a shared mapping of a file.
-abbrev pub ShowsFiles : Spaces → ℕ → Type 0
-ShowsFiles spaces p = (q : ℕ) (x : Spot) → spot_at spaces p q ≡ Some x → IsFilePlace spaces p q x
+-- The call is a store.
+abbrev pub is_store : Call → Bool
+is_store (Store a n v) = true
+is_store call = false
+
+-- After a load that answers a word and a store that is done, a slot was made for the page exactly where one is due; else every slot and place is as it was.
+abbrev pub SlotsWhereDone : Memory → World → ℕ → ℕ → Bool → Attempt → Type 0
+SlotsWhereDone old new p q write (Done (reply.Word word)) = (x : Spot) → spot_at old.spaces p q ≡ Some x → MakesSlotAt old.world new (slot_due old.world.anon old.world.maps x write)
+SlotsWhereDone old new p q write (Done reply.Done) = (x : Spot) → spot_at old.spaces p q ≡ Some x → MakesSlotAt old.world new (slot_due old.world.anon old.world.maps x write)
+SlotsWhereDone old new p q write answer = KeepsSlots old.world new
 
 -- The page has a translation, to the home frame of the page that its place shows.
 pub record IsShown (m : Memory) (p q : ℕ) : Type 0 where
@@ -49,8 +57,9 @@ MayBeAnswered m p call (Done reply) = IsPlainReply reply
 MayBeAnswered m p call (Need plan) = MayMeetFault m p call
 MayBeAnswered m p call (Busy h) = MayMeetFault m p call
 
--- The three of an access of a page.
+-- The four of an access of a page.
 pub record ServesWord (old new : Memory) (pending more p q : ℕ) (call : Call) (answer : Attempt) : Type 0 where
   pub serves : Serves old new pending more p call answer
   pub due : MayBeAnswered new p call answer
   pub shown : IsShownWhereDone new p q answer
+  pub slots : SlotsWhereDone old new.world p q (is_store call) answer

@@ -8,13 +8,18 @@ use Rattle.vm_types.specs.declared.call.Call.{Call}
 use Rattle.vm_types.specs.declared.prot.Prot.{Prot}
 use Rattle.vm_types.specs.Prot.{can_read, can_write}
 use Rattle.flat_model.specs.Access.{access_target}
+use Rattle.flat_model.specs.Flat.{Flat}
 use Rattle.flat_model.specs.Step.{IsPastAtMost}
 use Rattle.flat_model.specs.Words.{page}
+use Rattle.vm_world.specs.CallSteps.{ChangesMemory}
 use Rattle.vm_world.specs.FlatMemory.{Memory, flat_memory}
-use Rattle.vm_world.specs.Segments.{Spot}
+use Rattle.vm_world.specs.Segments.{Spot, spot_at}
 use Rattle.vm_world.specs.Serving.{TakesFrames}
-use Rattle.vm_world.specs.Wants.{accessed_page, HoldsUp}
-use Rattle.seg_vn.specs.Faults.{IsFilePlace, NeedsTransfer}
+use Rattle.vm_world.specs.Wants.{HoldsUp}
+use Rattle.vm_world.specs.World.{World}
+use Rattle.seg_ops.specs.OwnPages.{with_own_shown}
+use Rattle.seg_ops.specs.Faults.{Accesses, NeedsTransfer}
+use Rattle.seg_ops.specs.SlotsDue.{KeepsSlots, MakesSlotAt, slot_due}
 use Rattle.fault_entry.specs.declared.access.Access.{Access}
 use Rattle.fault_entry.specs.declared.access.Access.TheVariants.{Reached, Refused, Need, Busy}
 
@@ -26,7 +31,7 @@ may_access write prot = if write then can_write prot else can_read prot
 pub record ReachesPage (m : Memory) (p a n frame : ℕ) (write : Bool) : Type 0 where
   pub aligned : a % n ≡ 0
   pub spot : Spot
-  pub place : IsFilePlace m.spaces p (page a) spot
+  pub here : spot_at m.spaces p (page a) ≡ Some spot
   pub allowed : may_access write spot.0.prot ≡ true
   pub noted : IsNoted m.world.hat.places p (page a) frame write
 
@@ -37,11 +42,30 @@ MayReach m p a n write = (born : set.FinSet nat_cmp) (notes : Notes) → IsPastA
 abbrev pub AccessMeans : Memory → Memory → ℕ → ℕ → ℕ → Bool → Access → Type 0
 AccessMeans old new p a n write (Reached frame) = ReachesPage new p a n frame write
 AccessMeans old new p a n write (Refused s) = (born : set.FinSet nat_cmp) (notes : Notes) → access_target (flat_memory new born notes) p (may_access write) a n ≡ Err s
-AccessMeans old new p a n write (Need plan) = NeedsTransfer old new p (page a) plan × MayReach new p a n write
+AccessMeans old new p a n write (Need plan) = NeedsTransfer old new p (page a) write plan × MayReach new p a n write
 AccessMeans old new p a n write (Busy h) =
-    ((calls : List (Option ℕ)) (call : Call) → accessed_page call ≡ Some (page a) → HoldsUp new calls p call h) × MayReach new p a n write
+    ((calls : List (Option ℕ)) (call : Call) → Accesses write (page a) call → HoldsUp new calls p call h) × MayReach new p a n write
 
--- Frames may be taken for other pages, and then the access comes to this.
+-- Flat memory as the access goes to its frame: a store to a private page finds that page its own.
+abbrev pub after_reach : Access → Bool → Flat → ℕ → ℕ → Flat
+after_reach (Reached frame) true F p q = with_own_shown F p q
+after_reach answer write F p q = F
+
+-- Nothing follows what took frames, unless the access goes to a frame.
+abbrev pub EndsReach : Access → World → World → Type 0
+EndsReach (Reached frame) mid new = Unit {0}
+EndsReach answer mid new = new ≡ mid
+
+-- A slot was made exactly where one is due, as the access goes to its frame.
+abbrev pub ReachSlots : Memory → World → ℕ → ℕ → Bool → Access → Type 0
+ReachSlots old new p q write (Reached frame) = (x : Spot) → spot_at old.spaces p q ≡ Some x → MakesSlotAt old.world new (slot_due old.world.anon old.world.maps x write)
+ReachSlots old new p q write answer = KeepsSlots old.world new
+
+-- Frames may be taken for other pages, then a page may be made, with its slot, and the access comes to this.
 pub record ServesAccess (old new : Memory) (pending more p a n : ℕ) (write : Bool) (answer : Access) : Type 0 where
-  pub first : TakesFrames old new.world pending more
+  pub mid : World
+  pub first : TakesFrames old mid pending more
+  pub acts : ChangesMemory p (record old { world = mid }) new (λ F G. G ≡ after_reach answer write F p (page a))
+  pub ends : EndsReach answer mid new.world
+  pub slots : ReachSlots old new.world p (page a) write answer
   pub means : AccessMeans old new p a n write answer

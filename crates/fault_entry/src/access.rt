@@ -1,5 +1,5 @@
 //! What an access reaches.
-ghost use Rattle.std.specs.Prelude.{◌≡◌, ℕ, Some, IsSome};
+ghost use Rattle.std.specs.Prelude.{◌≡◌, ◌≢◌, ℕ, Some, IsSome};
 ghost use Rattle.std.specs.FinMap as finite;
 ghost use Rattle.core_arena.specs.Bytes.{bytes_at};
 ghost use Rattle.hat_layer.specs.Pool.{IsNoted};
@@ -10,8 +10,7 @@ ghost use Rattle.vm_world.specs.NotesFit.{NotesFit};
 ghost use Rattle.vm_world.specs.Segments.{Spaces};
 ghost use Rattle.vm_world.specs.World.{world_seen};
 ghost use Rattle.seg_ops.specs.Steps.{KeepsPages};
-ghost use Rattle.seg_vn.specs.Faults.{LetsAccess};
-ghost use Rattle.fault_entry.specs.Accesses.{ShowsFiles};
+ghost use Rattle.seg_ops.specs.Faults.{LetsAccess};
 ghost use Rattle.fault_entry.specs.Reaching.{may_access, ServesAccess};
 
 use addr_space::Ranges;
@@ -73,22 +72,23 @@ pub(crate) fn reach<D: Disk>(
     write: bool,
 ) -> Access
     requires size { IsWordSize size }
-    requires home { (frame : ℕ) × IsSome (bytes_at world.old.store.frames frame) }
+    requires home { (beside : ℕ) → (frame : ℕ) × (frame ≢ beside)
+        × IsSome (bytes_at world.old.store.frames frame) }
     requires fits { (spaces : Spaces)
         × MemoryFits (record { world = world_seen world.old; spaces = spaces })
-        × (finite.get spaces process ≡ Some space.now.parts)
-        × ShowsFiles spaces process }
+        × (finite.get spaces process ≡ Some space.now.parts) }
     requires noted { (notes : Notes) × NotesFit (world_seen world.old) notes }
     ensures serves { (spaces : Spaces)
         → MemoryFits (record { world = world_seen world.old; spaces = spaces })
         → finite.get spaces process ≡ Some space.now.parts
-        → ShowsFiles spaces process
         → ServesAccess (record { world = world_seen world.old; spaces = spaces })
         (record { world = world_seen world.new; spaces = spaces })
         world.old.pending world.new.pending process addr size write result }
     // What stays.
     ensures rest { world.new ≡ record world.old {
       store = world.new.store;
+      anon = world.new.anon;
+      maps = world.new.maps;
       hat = world.new.hat;
       pending = world.new.pending;
     } }

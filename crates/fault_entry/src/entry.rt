@@ -1,5 +1,5 @@
 //! Loads and stores.
-ghost use Rattle.std.specs.Prelude.{◌≡◌, ℕ, Some, IsSome};
+ghost use Rattle.std.specs.Prelude.{◌≡◌, ◌≢◌, ℕ, Some, IsSome};
 ghost use Rattle.std.specs.FinMap as finite;
 ghost use Rattle.core_arena.specs.Bytes.{bytes_at};
 ghost use Rattle.flat_model.specs.Words.{page};
@@ -12,7 +12,7 @@ ghost use Rattle.vm_world.specs.Segments as segments;
 ghost use Rattle.vm_world.specs.Wants.{accessed_page};
 ghost use Rattle.vm_world.specs.World.{world_seen};
 ghost use Rattle.seg_vn.specs.Serves.{Serves};
-ghost use Rattle.fault_entry.specs.Accesses.{IsAccess, ShowsFiles, ServesWord, MayBeAnswered, IsShownWhereDone};
+ghost use Rattle.fault_entry.specs.Accesses.{IsAccess, ServesWord, MayBeAnswered, IsShownWhereDone, SlotsWhereDone, is_store};
 
 use crate::access::{Access, reach};
 use addr_space::Ranges;
@@ -31,17 +31,16 @@ fn load<D: Disk>(
     size: u32,
 ) -> Attempt
     requires size { IsWordSize size }
-    requires home { (frame : ℕ) × IsSome (bytes_at world.old.store.frames frame) }
+    requires home { (beside : ℕ) → (frame : ℕ) × (frame ≢ beside)
+        × IsSome (bytes_at world.old.store.frames frame) }
     requires fits { (spaces : segments.Spaces)
         × MemoryFits (record { world = world_seen world.old; spaces = spaces })
-        × (finite.get spaces process ≡ Some space.now.parts)
-        × ShowsFiles spaces process }
+        × (finite.get spaces process ≡ Some space.now.parts) }
     requires noted { (notes : Notes) × NotesFit (world_seen world.old) notes }
     // What is answered.
     ensures serves { (spaces : segments.Spaces)
         → MemoryFits (record { world = world_seen world.old; spaces = spaces })
         → finite.get spaces process ≡ Some space.now.parts
-        → ShowsFiles spaces process
         → ServesWord (record { world = world_seen world.old; spaces = spaces })
         (record { world = world_seen world.new; spaces = spaces })
         world.old.pending world.new.pending process (page addr) (Load addr size) result }
@@ -65,17 +64,16 @@ fn store<D: Disk>(
 ) -> Attempt
     requires size { IsWordSize size }
     requires word { FitsWord size value }
-    requires home { (frame : ℕ) × IsSome (bytes_at world.old.store.frames frame) }
+    requires home { (beside : ℕ) → (frame : ℕ) × (frame ≢ beside)
+        × IsSome (bytes_at world.old.store.frames frame) }
     requires fits { (spaces : segments.Spaces)
         × MemoryFits (record { world = world_seen world.old; spaces = spaces })
-        × (finite.get spaces process ≡ Some space.now.parts)
-        × ShowsFiles spaces process }
+        × (finite.get spaces process ≡ Some space.now.parts) }
     requires noted { (notes : Notes) × NotesFit (world_seen world.old) notes }
     // What is answered.
     ensures serves { (spaces : segments.Spaces)
         → MemoryFits (record { world = world_seen world.old; spaces = spaces })
         → finite.get spaces process ≡ Some space.now.parts
-        → ShowsFiles spaces process
         → ServesWord (record { world = world_seen world.old; spaces = spaces })
         (record { world = world_seen world.new; spaces = spaces })
         world.old.pending world.new.pending process (page addr) (Store addr size value) result }
@@ -91,8 +89,7 @@ fn store<D: Disk>(
     }
 }
 
-/// What is answered to a load or a store of a process that is alive, whose segments are shared mappings of files. Takes no
-/// memory and makes no disk call. A hit takes constant expected time beside the look for the segment, which takes the
+/// What is answered to a load or a store of a process that is alive. Takes no memory and makes no disk call. A hit takes constant expected time beside the look for the segment, which takes the
 /// logarithm of their number.
 pub fn attempt<D: Disk>(
     world: &mut World<D>,
@@ -102,8 +99,8 @@ pub fn attempt<D: Disk>(
 ) -> Attempt
     requires access { IsAccess call.now }
     requires alive { IsSome (finite.get spaces.old.spaces process) }
-    requires files { ShowsFiles spaces.old.spaces process }
-    requires home { (frame : ℕ) × IsSome (bytes_at world.old.store.frames frame) }
+    requires home { (beside : ℕ) → (frame : ℕ) × (frame ≢ beside)
+        × IsSome (bytes_at world.old.store.frames frame) }
     requires fits { MemoryFits
         (record { world = world_seen world.old; spaces = spaces.old.spaces }) }
     requires noted { (notes : Notes) × NotesFit (world_seen world.old) notes }
@@ -119,6 +116,10 @@ pub fn attempt<D: Disk>(
         process call.now result }
     ensures shown { (q : ℕ) → accessed_page call.now ≡ Some q → IsShownWhereDone
         (record { world = world_seen world.new; spaces = spaces.old.spaces }) process q result }
+    // Then a slot was made for the page exactly where one was due, and else none.
+    ensures slots { (q : ℕ) → accessed_page call.now ≡ Some q → SlotsWhereDone
+        (record { world = world_seen world.old; spaces = spaces.old.spaces })
+        (world_seen world.new) process q (is_store call.now) result }
     // What stays.
     ensures spaces { spaces.new ≡ spaces.old }
 {

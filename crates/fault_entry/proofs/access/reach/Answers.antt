@@ -1,4 +1,6 @@
-use Rattle.std.proofs.Common.{◌≡◌, ℕ, ◌-◌, Some, sym, ap, ◌∙◌, subst}
+use Rattle.std.proofs.Common.{◌≡◌, ℕ, ◌-◌, List, Option, Some, sym, ap, ◌∙◌, subst}
+use Rattle.std.specs.Prelude.{IsSome}
+use Rattle.core_arena.specs.Bytes.{bytes_at}
 use Rattle.std.specs.FinMap as finite
 use Rattle.addr_space.specs.Space.{part}
 use Rattle.vm_types.specs.declared.call.Signal.TheVariants as signal
@@ -16,11 +18,11 @@ use Rattle.fault_entry.proofs.access.reach.Goals.{After-allows, After-fault}
 use Rattle.fault_entry.proofs.access.reach.Goals as goal
 
 pub returns-then-addr-size-ne0-clause-serves : goal.returns-then-addr-size-ne0-clause-serves
-returns-then-addr-size-ne0-clause-serves g c = λ spaces fits get files.
+returns-then-addr-size-ne0-clause-serves g c = λ spaces fits get.
     align-access (world_seen c.args.world.now) spaces c.args.world.now.pending c.args.process c.args.addr c.args.size c.args.write fits c.if-addr-size-ne0.true
 
 pub returns-in_default-clause-serves : goal.returns-in_default-clause-serves
-returns-in_default-clause-serves g c = λ spaces fits get files.
+returns-in_default-clause-serves g c = λ spaces fits get.
     unmapped-access (world_seen c.args.world.now) spaces c.args.world.now.pending c.args.process c.args.addr c.args.size c.args.write fits c.if-addr-size-ne0.false
     (spot-none spaces c.args.process (page c.args.addr) c.args.space.now.parts get c.in_default.ensures.found)
 
@@ -35,7 +37,7 @@ allows : (g : Over) (c : After-allows g) → c.allows.result ≡ may_access c.ar
 allows g c = c.allows.ensures ∙ ap (may_access c.args.write) c.prot.ensures
 
 pub returns-then-not-allows-clause-serves : goal.returns-then-not-allows-clause-serves
-returns-then-not-allows-clause-serves g c = λ spaces fits get files.
+returns-then-not-allows-clause-serves g c = λ spaces fits get.
     let at = (goal.at.returns-then-not-allows-clause-serves g c).After-allows in
     refused-access (world_seen c.args.world.now) spaces c.args.world.now.pending c.args.process c.args.addr c.args.size c.args.write fits (spot g at) c.if-addr-size-ne0.false
     (here g at spaces get) (sym (allows g at) ∙ c.if-not-allows.true)
@@ -44,19 +46,24 @@ pub fault-requires-clause-low : goal.fault-requires-clause-low
 fault-requires-clause-low g c = found-low c.args.space.now.parts (page c.args.addr) (part c.in-Some.first c.in-Some._pages c.in-Some.segment.now) c.in-Some.ensures.found
 
 pub returns-in-Some-note-clause-serves : goal.returns-in-Some-note-clause-serves
-returns-in-Some-note-clause-serves g c = λ spaces fits get files.
+returns-in-Some-note-clause-serves g c = λ spaces fits get.
     let at = (goal.at.returns-in-Some-note-clause-serves g c).After-allows in
     let old = world_seen c.args.world.now in
     let new = world_seen c.note.new.world in
     let pending : c.note.new.world.pending ≡ c.args.world.now.pending = ap (λ v. v.pending) c.note.ensures.rest in
     subst (λ (k : ℕ). ServesAccess (memory_of old spaces) (memory_of new spaces) c.args.world.now.pending k c.args.process c.args.addr c.args.size c.args.write (access.Reached c.in-Some-note.frame)) (sym pending)
     (hit-access old spaces c.args.world.now.pending c.args.process c.args.addr c.args.size c.args.write fits new (spot g at) c.in-Some-note.frame c.if-addr-size-ne0.false
-    (files (page c.args.addr) (spot g at) (here g at spaces get)) (sym (allows g at) ∙ c.if-not-allows.false) (c.note.ensures.keeps spaces fits) c.in-Some-note.ensures.noted)
+    (here g at spaces get) (sym (allows g at) ∙ c.if-not-allows.false) (c.note.ensures.keeps spaces fits) (ap (λ v. v.anon) c.note.ensures.rest) (ap (λ v. v.maps) c.note.ensures.rest) c.in-Some-note.ensures.noted)
+
+pub fault-requires-clause-home : goal.fault-requires-clause-home
+fault-requires-clause-home g c = λ beside.
+    let h = c.requires.home beside in
+    (h.0, h.1, subst (λ (frames : List (Option (List ℕ))). IsSome (bytes_at frames h.0)) (sym (ap (λ v. v.store.frames) c.note.ensures.rest)) h.2)
 
 pub fault-requires-clause-fits : goal.fault-requires-clause-fits
 fault-requires-clause-fits g c =
     let at = (goal.at.fault-requires-clause-fits g c).After-allows in
-    (c.requires.fits.0, (c.note.ensures.keeps c.requires.fits.0 c.requires.fits.1).memory, c.requires.fits.3 (page c.args.addr) (spot g at) (here g at c.requires.fits.0 c.requires.fits.2))
+    (c.requires.fits.0, (c.note.ensures.keeps c.requires.fits.0 c.requires.fits.1).memory, here g at c.requires.fits.0 c.requires.fits.2)
 
 -- where no access was noted, what is served from then on is served from the start
 served : (g : Over) (c : After-fault g) (spaces : Spaces) (new : World) (more : ℕ) (answer : Access) → ServesAccess (memory_of (world_seen c.note.new.world) spaces) (memory_of new spaces) c.note.new.world.pending more c.args.process c.args.addr c.args.size c.args.write answer
@@ -64,43 +71,42 @@ served : (g : Over) (c : After-fault g) (spaces : Spaces) (new : World) (more : 
 served g c spaces new more answer s = subst (λ v. ServesAccess (memory_of (world_seen v) spaces) (memory_of new spaces) v.pending more c.args.process c.args.addr c.args.size c.args.write answer) c.in_default-note.ensures.none s
 
 pub returns-in-Loaded-clause-serves : goal.returns-in-Loaded-clause-serves
-returns-in-Loaded-clause-serves g c = λ spaces fits get files.
+returns-in-Loaded-clause-serves g c = λ spaces fits get.
     let at = (goal.at.returns-in-Loaded-clause-serves g c).After-allows in
     let still = (c.note.ensures.keeps spaces fits).memory in
-    let place = files (page c.args.addr) (spot g at) (here g at spaces get) in
+    let place = here g at spaces get in
     let old = world_seen c.note.new.world in
     let mid = world_seen c.fault.new.world in
     let new = world_seen c.noted.new.world in
     let s = c.in-Loaded.ensures.serves spaces still place in
     let pending : c.noted.new.world.pending ≡ c.fault.new.world.pending = ap (λ v. v.pending) c.noted.ensures.rest in
-    let names : new.store.names ≡ mid.store.names = ap (λ v. v.store.names) c.noted.ensures.rest in
     served g (goal.at.returns-in-Loaded-clause-serves g c).After-fault spaces new c.noted.new.world.pending (access.Reached c.noted.result)
     (subst (λ (k : ℕ). ServesAccess (memory_of old spaces) (memory_of new spaces) c.note.new.world.pending k c.args.process c.args.addr c.args.size c.args.write (access.Reached c.noted.result)) (sym pending)
     (loaded-access old new spaces c.note.new.world.pending c.fault.new.world.pending c.args.process c.args.addr c.args.size c.args.write (spot g at) c.if-addr-size-ne0.false
-    place (sym (allows g at) ∙ c.if-not-allows.false) mid c.noted.result still s (c.noted.ensures.keeps spaces s.first.step.memory) names c.noted.ensures.noted))
+    place (sym (allows g at) ∙ c.if-not-allows.false) mid c.noted.result s (c.noted.ensures.keeps spaces s.acts.memory) (ap (λ v. v.anon) c.noted.ensures.rest) (ap (λ v. v.maps) c.noted.ensures.rest) c.noted.ensures.noted))
 
 pub returns-in-Past-clause-serves : goal.returns-in-Past-clause-serves
-returns-in-Past-clause-serves g c = λ spaces fits get files.
+returns-in-Past-clause-serves g c = λ spaces fits get.
     let at = (goal.at.returns-in-Past-clause-serves g c).After-allows in
-    let place = files (page c.args.addr) (spot g at) (here g at spaces get) in
+    let place = here g at spaces get in
     let new = world_seen c.fault.new.world in
     served g (goal.at.returns-in-Past-clause-serves g c).After-fault spaces new c.fault.new.world.pending (access.Refused signal.Past)
     (past-access (world_seen c.note.new.world) new spaces c.note.new.world.pending c.fault.new.world.pending c.args.process c.args.addr c.args.size c.args.write (spot g at) c.if-addr-size-ne0.false
     place (sym (allows g at) ∙ c.if-not-allows.false) (c.in-Past.ensures.serves spaces (c.note.ensures.keeps spaces fits).memory place))
 
 pub returns-in-Need-clause-serves : goal.returns-in-Need-clause-serves
-returns-in-Need-clause-serves g c = λ spaces fits get files.
+returns-in-Need-clause-serves g c = λ spaces fits get.
     let at = (goal.at.returns-in-Need-clause-serves g c).After-allows in
-    let place = files (page c.args.addr) (spot g at) (here g at spaces get) in
+    let place = here g at spaces get in
     let new = world_seen c.fault.new.world in
     served g (goal.at.returns-in-Need-clause-serves g c).After-fault spaces new c.fault.new.world.pending (access.Need c.in-Need.plan)
     (need-access (world_seen c.note.new.world) new spaces c.note.new.world.pending c.fault.new.world.pending c.args.process c.args.addr c.args.size c.args.write (spot g at) c.if-addr-size-ne0.false
     place (sym (allows g at) ∙ c.if-not-allows.false) c.in-Need.plan (c.in-Need.ensures.serves spaces (c.note.ensures.keeps spaces fits).memory place))
 
 pub returns-in-Busy-clause-serves : goal.returns-in-Busy-clause-serves
-returns-in-Busy-clause-serves g c = λ spaces fits get files.
+returns-in-Busy-clause-serves g c = λ spaces fits get.
     let at = (goal.at.returns-in-Busy-clause-serves g c).After-allows in
-    let place = files (page c.args.addr) (spot g at) (here g at spaces get) in
+    let place = here g at spaces get in
     let new = world_seen c.fault.new.world in
     served g (goal.at.returns-in-Busy-clause-serves g c).After-fault spaces new c.fault.new.world.pending (access.Busy c.in-Busy.hold)
     (busy-access (world_seen c.note.new.world) new spaces c.note.new.world.pending c.fault.new.world.pending c.args.process c.args.addr c.args.size c.args.write (spot g at) c.if-addr-size-ne0.false

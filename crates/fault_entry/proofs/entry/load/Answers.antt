@@ -1,39 +1,39 @@
-use Rattle.std.proofs.Common.{refl}
+use Rattle.std.proofs.Common.{false, refl}
 use Rattle.vm_types.specs.declared.call.Call.TheVariants as call
 use Rattle.vm_world.specs.World.{world_seen}
 use Rattle.fault_entry.proofs.Served.{load-reached, load-refused, access-needs, access-busy}
 use Rattle.fault_entry.proofs.entry.load.Goals as goal
 
 pub read-requires-clause-noted : goal.read-requires-clause-noted
-read-requires-clause-noted g c = (c.args.process, (c.in-Reached.ensures.serves c.requires.fits.0 c.requires.fits.1 c.requires.fits.2 c.requires.fits.3).means.noted)
+read-requires-clause-noted g c = (c.args.process, (c.in-Reached.ensures.serves c.requires.fits.0 c.requires.fits.1 c.requires.fits.2).means.noted)
 
 pub read-requires-clause-fits : goal.read-requires-clause-fits
-read-requires-clause-fits g c = (c.requires.fits.0, (c.in-Reached.ensures.serves c.requires.fits.0 c.requires.fits.1 c.requires.fits.2 c.requires.fits.3).first.step.memory)
+read-requires-clause-fits g c = (c.requires.fits.0, (c.in-Reached.ensures.serves c.requires.fits.0 c.requires.fits.1 c.requires.fits.2).acts.memory)
 
 pub returns-in-Reached : goal.returns-in-Reached
 returns-in-Reached g c = record {
-  serves = λ spaces fits get files.
-      let s = c.in-Reached.ensures.serves spaces fits get files in
+  serves = λ spaces fits get.
+      let s = c.in-Reached.ensures.serves spaces fits get in
       load-reached (world_seen c.args.world.now) (world_seen c.reach.new.world) spaces c.args.world.now.pending c.reach.new.world.pending c.args.process c.args.addr c.args.size c.in-Reached.frame c.read.result s
-      (c.read.ensures spaces c.args.process s.first.step.memory s.means.noted);
+      (c.read.ensures spaces c.args.process s.acts.memory s.means.noted);
 }
 
 pub returns-in-Refused : goal.returns-in-Refused
 returns-in-Refused g c = record {
-  serves = λ spaces fits get files.
-      load-refused (world_seen c.args.world.now) (world_seen c.reach.new.world) spaces c.args.world.now.pending c.reach.new.world.pending c.args.process c.args.addr c.args.size c.in-Refused.signal (c.in-Refused.ensures.serves spaces fits get files);
+  serves = λ spaces fits get.
+      load-refused (world_seen c.args.world.now) (world_seen c.reach.new.world) spaces c.args.world.now.pending c.reach.new.world.pending c.args.process c.args.addr c.args.size c.in-Refused.signal (c.in-Refused.ensures.serves spaces fits get);
 }
 
 pub returns-in-Need : goal.returns-in-Need
 returns-in-Need g c = record {
-  serves = λ spaces fits get files.
-      let s = c.in-Need.ensures.serves spaces fits get files in
-      access-needs (world_seen c.args.world.now) (world_seen c.reach.new.world) spaces c.args.world.now.pending c.reach.new.world.pending c.args.process c.args.addr c.args.size (call.Load c.args.addr c.args.size) c.in-Need.plan refl s.first s.means.0 s.means.1;
+  serves = λ spaces fits get.
+      let s = c.in-Need.ensures.serves spaces fits get in
+      access-needs (world_seen c.args.world.now) (world_seen c.reach.new.world) spaces c.args.world.now.pending c.reach.new.world.pending c.args.process c.args.addr c.args.size false (call.Load c.args.addr c.args.size) c.in-Need.plan refl s s.means.1;
 }
 
 pub returns-in-Busy : goal.returns-in-Busy
 returns-in-Busy g c = record {
-  serves = λ spaces fits get files.
-      let s = c.in-Busy.ensures.serves spaces fits get files in
-      access-busy (world_seen c.args.world.now) (world_seen c.reach.new.world) spaces c.args.world.now.pending c.reach.new.world.pending c.args.process c.args.addr c.args.size (call.Load c.args.addr c.args.size) c.in-Busy.hold refl s.first s.means.0 s.means.1;
+  serves = λ spaces fits get.
+      let s = c.in-Busy.ensures.serves spaces fits get in
+      access-busy (world_seen c.args.world.now) (world_seen c.reach.new.world) spaces c.args.world.now.pending c.reach.new.world.pending c.args.process c.args.addr c.args.size false (call.Load c.args.addr c.args.size) c.in-Busy.hold refl s s.means.1;
 }

@@ -1,4 +1,4 @@
-use Rattle.std.proofs.Common.{ℕ, refl, sym, ap, subst}
+use Rattle.std.proofs.Common.{ℕ, true, refl, sym, ap, subst}
 use Rattle.flat_model.specs.Words.{page}
 use Rattle.vm_types.specs.declared.call.Call.TheVariants as call
 use Rattle.vm_types.specs.declared.call.Reply.TheVariants as reply
@@ -10,39 +10,39 @@ use Rattle.fault_entry.proofs.Served.{store-reached, store-refused, access-needs
 use Rattle.fault_entry.proofs.entry.store.Goals as goal
 
 pub write-requires-clause-noted : goal.write-requires-clause-noted
-write-requires-clause-noted g c = (c.args.process, (c.in-Reached.ensures.serves c.requires.fits.0 c.requires.fits.1 c.requires.fits.2 c.requires.fits.3).means.noted)
+write-requires-clause-noted g c = (c.args.process, (c.in-Reached.ensures.serves c.requires.fits.0 c.requires.fits.1 c.requires.fits.2).means.noted)
 
 pub write-requires-clause-fits : goal.write-requires-clause-fits
-write-requires-clause-fits g c = (c.requires.fits.0, (c.in-Reached.ensures.serves c.requires.fits.0 c.requires.fits.1 c.requires.fits.2 c.requires.fits.3).first.step.memory)
+write-requires-clause-fits g c = (c.requires.fits.0, (c.in-Reached.ensures.serves c.requires.fits.0 c.requires.fits.1 c.requires.fits.2).acts.memory)
 
 pub returns-in-Reached : goal.returns-in-Reached
 returns-in-Reached g c = record {
-  serves = λ spaces fits get files.
+  serves = λ spaces fits get.
       let old = world_seen c.args.world.now in
       let mid = world_seen c.reach.new.world in
       let new = world_seen c.write.new.world in
-      let s = c.in-Reached.ensures.serves spaces fits get files in
+      let s = c.in-Reached.ensures.serves spaces fits get in
       subst (λ (k : ℕ). ServesWord (memory_of old spaces) (memory_of new spaces) c.args.world.now.pending k c.args.process (page c.args.addr) (call.Store c.args.addr c.args.size c.args.value) (attempt.Done reply.Done)) (sym (ap (λ v. v.pending) c.write.ensures.rest))
       (store-reached old mid new spaces c.args.world.now.pending c.reach.new.world.pending c.args.process c.args.addr c.args.size c.in-Reached.frame c.args.value s
-      (c.write.ensures.writes spaces c.args.process s.first.step.memory s.means.noted) (ap (λ v. v.hat) c.write.ensures.rest));
+      (c.write.ensures.writes spaces c.args.process s.acts.memory s.means.noted) (ap (λ v. v.hat) c.write.ensures.rest) (ap (λ v. v.anon) c.write.ensures.rest) (ap (λ v. v.maps) c.write.ensures.rest));
 }
 
 pub returns-in-Refused : goal.returns-in-Refused
 returns-in-Refused g c = record {
-  serves = λ spaces fits get files.
-      store-refused (world_seen c.args.world.now) (world_seen c.reach.new.world) spaces c.args.world.now.pending c.reach.new.world.pending c.args.process c.args.addr c.args.size c.args.value c.in-Refused.signal (c.in-Refused.ensures.serves spaces fits get files);
+  serves = λ spaces fits get.
+      store-refused (world_seen c.args.world.now) (world_seen c.reach.new.world) spaces c.args.world.now.pending c.reach.new.world.pending c.args.process c.args.addr c.args.size c.args.value c.in-Refused.signal (c.in-Refused.ensures.serves spaces fits get);
 }
 
 pub returns-in-Need : goal.returns-in-Need
 returns-in-Need g c = record {
-  serves = λ spaces fits get files.
-      let s = c.in-Need.ensures.serves spaces fits get files in
-      access-needs (world_seen c.args.world.now) (world_seen c.reach.new.world) spaces c.args.world.now.pending c.reach.new.world.pending c.args.process c.args.addr c.args.size (call.Store c.args.addr c.args.size c.args.value) c.in-Need.plan refl s.first s.means.0 s.means.1;
+  serves = λ spaces fits get.
+      let s = c.in-Need.ensures.serves spaces fits get in
+      access-needs (world_seen c.args.world.now) (world_seen c.reach.new.world) spaces c.args.world.now.pending c.reach.new.world.pending c.args.process c.args.addr c.args.size true (call.Store c.args.addr c.args.size c.args.value) c.in-Need.plan refl s s.means.1;
 }
 
 pub returns-in-Busy : goal.returns-in-Busy
 returns-in-Busy g c = record {
-  serves = λ spaces fits get files.
-      let s = c.in-Busy.ensures.serves spaces fits get files in
-      access-busy (world_seen c.args.world.now) (world_seen c.reach.new.world) spaces c.args.world.now.pending c.reach.new.world.pending c.args.process c.args.addr c.args.size (call.Store c.args.addr c.args.size c.args.value) c.in-Busy.hold refl s.first s.means.0 s.means.1;
+  serves = λ spaces fits get.
+      let s = c.in-Busy.ensures.serves spaces fits get in
+      access-busy (world_seen c.args.world.now) (world_seen c.reach.new.world) spaces c.args.world.now.pending c.reach.new.world.pending c.args.process c.args.addr c.args.size true (call.Store c.args.addr c.args.size c.args.value) c.in-Busy.hold refl s s.means.1;
 }
