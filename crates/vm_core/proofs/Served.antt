@@ -54,8 +54,8 @@ use Rattle.vm_world.proofs.Spots.{spot-part}
 use Rattle.mmap_calls.specs.FileMaps as maps
 use Rattle.proc_calls.specs.Ends as procs
 use Rattle.fault_entry.specs.Accesses.{MayBeAnswered}
-use Rattle.seg_vn.specs.Faults.{IsFilePlace}
 use Rattle.seg_vn.specs.Serves.{Serves, IsPlainReply}
+use Rattle.seg_vn.proofs.HomeFrames.{home-beside}
 use Rattle.vm_core.specs.Calls.{IsServed, IsDone, IsNeeded, IsBusy, IsOwnReply, AnswersCall, with_memory, concluded}
 use Rattle.vm_core.specs.State.{IsKept}
 use Rattle.seg_vn.specs.declared.attempt.Attempt.{Attempt}
@@ -209,21 +209,10 @@ concludes opening s seats m seat p more call (Busy h) fit idle of try formed ser
   event = wait-event opening s seats fit m seat p more call of try h (serves s.calls);
 }
 
--- SOME FRAME IS HOME, whatever is away.
-some-home : (frames : List (Option (List ℕ))) → length (filter is_none frames) < length frames → (frame : ℕ) × IsSome (bytes_at frames frame)
-some-home [] lt = absurd (omega (arith, lt))
-some-home (Some b ∷ frames) lt = (0, refl)
-some-home (None ∷ frames) lt = let r = some-home frames (omega (arith, lt)) in (suc r.0, r.1)
-
-pub home-frame : (store : StoreSeen) (spaces : Spaces) (entries : List ℕ) (seats : ℕ) (notes : Notes) (table : Table) → IsKept store spaces entries seats → IsSoundStore store → StoreFits store notes table → (frame : ℕ) × IsSome (bytes_at store.frames frame)
-home-frame store spaces entries seats notes table k sound fits = let few = away_law.disks store notes table sound fits in let enough = k.frames in some-home store.frames (omega (arith, few, enough))
-
--- EACH PLACE SHOWS A FILE.
-pub places-files : (w : World) (spaces : Spaces) (p : ℕ) → MemoryFits (record { world = w; spaces = spaces }) → OnlyFiles spaces → (q : ℕ) (x : Spot) → spot_at spaces p q ≡ Some x → IsFilePlace spaces p q x
-places-files w spaces p fits only q x is =
-    let s = spot-part (λ part. IsFileMapping part.piece) spaces p q x fits.segments.ordered only is in
-    let f : IsFileMapping x.0 = subst IsFileMapping s.piece s.fits in
-    record { here = is; shared = f.shared; file = f.file.0; object = f.file.1 }
+-- BESIDE ANY FRAME ANOTHER IS HOME, whatever is away.
+pub home-frame : (store : StoreSeen) (spaces : Spaces) (entries : List ℕ) (seats : ℕ) (notes : Notes) (table : Table) → IsKept store spaces entries seats → IsSoundStore store → StoreFits store notes table
+    → (beside : ℕ) → (frame : ℕ) × (frame ≢ beside) × IsSome (bytes_at store.frames frame)
+home-frame store spaces entries seats notes table k sound fits beside = let few = away_law.disks store notes table sound fits in let enough = k.frames in home-beside store.frames beside (omega (arith, few, enough))
 
 -- WHAT IS KEPT after a call was served.
 kept-moved : (old new : World) (spaces after : Spaces) (entries : List ℕ) (seats : ℕ) → IsKept old.store spaces entries seats → OnlyFiles after → new.store.bays ≡ old.store.bays → length new.store.frames ≡ length old.store.frames → IsKept new.store after entries seats

@@ -7,7 +7,7 @@ use Rattle.vm_world.specs.Segments.{Spaces}
 use Rattle.vm_world.specs.SpaceSteps.{OnlyFiles}
 use Rattle.seg_vn.specs.Serves.{Serves}
 use Rattle.seg_vn.specs.Spaces.{SpacesSeen}
-use Rattle.vm_core.proofs.Served.{home-frame, places-files, kept-served, own-reply}
+use Rattle.vm_core.proofs.Served.{home-frame, kept-served, own-reply}
 use Rattle.vm_core.proofs.state.VmState.access.Given.{Over}
 use Rattle.vm_core.proofs.state.VmState.access.Goals.{After-attempt}
 use Rattle.vm_core.proofs.state.VmState.access.Goals as goal
@@ -18,10 +18,6 @@ attempt-requires-clause-home g c =
     home-frame c.self.inside.world.store _ _ _ n.0 (world_table (world_seen c.self.inside.world)) c.self.invariant
     (subst (λ (s : KernelState). MemoryFits s.memory) (sym c.self.view_is) c.requires.fits).frames.sound
     (subst (λ (s : KernelState). NotesFit s.memory.world n.0) (sym c.self.view_is) n.1).stored
-
-pub attempt-requires-clause-files : goal.attempt-requires-clause-files
-attempt-requires-clause-files g c q x is =
-    places-files (world_seen c.self.inside.world) c.self.inside.spaces.spaces c.args.process (subst (λ (s : KernelState). MemoryFits s.memory) (sym c.self.view_is) c.requires.fits) c.self.invariant.files q x is
 
 -- what is answered, over the state as it was
 serves-is : (g : Over) (c : After-attempt g) → Serves (record { world = world_seen c.self.inside.world; spaces = c.self.inside.spaces.spaces }) (record { world = world_seen c.attempt.new.world; spaces = c.attempt.new.spaces.spaces })
