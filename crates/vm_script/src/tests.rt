@@ -264,10 +264,10 @@ fn names_become_file_numbers(rt: HostRuntime) -> Result<(), Fail> {
 fn text_of_number(alloc: Global, n: u32) -> Result<String, AllocError> {
     let mut text = String::new(alloc);
     text.push_str("frames 24\nswap 512\ntranslations 64\ndisk 0 blank 16\nfile f rw 0 8 -\n")?;
-    for i in 0..8 {
+    for i in 0_u32..8 {
         text.push_str("process\nmap 0x100000 131072 rw private zero 0\n")?;
         text.push_str("map 0x400000 32768 rw shared f 0\n")?;
-        for k in 0..1000 {
+        for k in 0_u32..1000 {
             let addr = 0x100000 + 4096 * ((n % 32 + 5 * k) % 32) + 4 * (k / 32);
             text.push_str(&format!(in alloc; "store {addr} 4 {}\n", k + i)?)?;
         }
@@ -275,7 +275,7 @@ fn text_of_number(alloc: Global, n: u32) -> Result<String, AllocError> {
         text.push_str(&lines_of_ends(alloc, "store", " 1")?)?;
         text.push_str(&lines_of_ends(alloc, "load", "")?)?;
         text.push_str("end\n")?;
-        for k in 0..1000 {
+        for k in 0_u32..1000 {
             let addr = 0x100000 + 4096 * ((n % 32 + 5 * k) % 32) + 4 * (k / 32);
             text.push_str(&format!(in alloc; "load {addr} 4\n")?)?;
         }
@@ -290,7 +290,7 @@ fn text_of_number(alloc: Global, n: u32) -> Result<String, AllocError> {
 // A line for the last word of each of 32 pages.
 fn lines_of_ends(alloc: Global, word: &str, more: &str) -> Result<String, AllocError> {
     let mut text = String::new(alloc);
-    for j in 0..32 {
+    for j in 0_u32..32 {
         let addr = 0x100000 + 4096 * j + 4092;
         text.push_str(&format!(in alloc; "{word} {addr} 4{more}\n")?)?;
     }
