@@ -31,6 +31,7 @@ use Rattle.sunvm.specs.Placing.{Distinct, HasOpened, PlacesFiles, RemainThere, W
 use Rattle.sunvm.specs.Written.{HaveFirstBlocks}
 use Rattle.sunvm.proofs.FileLineLemmas.{length-made}
 use Rattle.sunvm.proofs.FoundLemmas.{AllBlocks, found-good, found-stored, own-disk}
+use Rattle.sunvm.proofs.GivenFiles.{comes-to}
 use Rattle.sunvm.proofs.HandLemmas.{SameDisks, same-disks, same-numbers, spec-sizes, plan-numbers, mounted-numbers, opened-is}
 use Rattle.sunvm.proofs.LawLemmas.{GoodFiles, LineLaw, good-kept, line-laws, holding-lines, placeable-lines}
 use Rattle.sunvm.proofs.LineLemmas.{Stored, StoredBehind, stored_kept, lines_keep, err-ok, HoldsItsBytes, none-or-some, with_file-on, with_file-off}
@@ -352,6 +353,7 @@ placed-all {D} seen plan holds old new ts swap files has kept sound m serves rem
       names = record { names = λ k below. name-at (infos_of after) k good.names below; differ = λ i k less below on. differ-at (infos_of after) i k good.differ less below on };
       own = All-from_recursion HasItsBytes after good.own;
       kept = All-from_recursion (λ (f : OpenedFile). 1 ≤ page_count f.info.extents) after good.kept;
+      given = comes-to seen plan holds old new ts (Ok after) m same p.read;
       told = λ tells disks_tell.
           opened-is holds plan ds ts m (recursion_from_All (TellsSpec holds) specs tells) blocks (told-tables seen old new ts after lines remain p.wrote are disks_tell)
           ∙ ap (λ (xs : List (ℕ × ℕ)). with_line_files (block_count (finite.from_entries xs)) (if_few (Ok found)) plan.setup) (sizes-seen seen old) ∙ p.read;

@@ -1,6 +1,6 @@
 -- How a run ended whose processes ran.
 use Rattle.std.proofs.Common.{◌≡◌, ℕ, ◌≤◌, ◌<◌, ◌++◌, true, false, List, [], ◌∷◌, length, map, refl, sym, ap, ◌∙◌, subst, arith, inl, inr}
-use Rattle.std.specs.Prelude.{Bool, IsTrue, Option, Some, None, slice_get, slice_index_or, IfSome}
+use Rattle.std.specs.Prelude.{◌⊎◌, Bool, IsTrue, Option, Some, None, slice_get, slice_index_or, IfSome}
 use Rattle.vm_types.specs.declared.call.Entry.{Entry}
 use Rattle.block_device.specs.DiskSeen.{DiskSeen}
 use Rattle.block_device.specs.StreamSeen.{SinkSeen}
@@ -19,14 +19,15 @@ use Rattle.sunvm.specs.Asked.{Given, Asked}
 use Rattle.sunvm.specs.Attached.{AttachedSeen, bare}
 use Rattle.sunvm.specs.Closed.{SayTables, SaysTable}
 use Rattle.sunvm.specs.Course.{IsReady, CloseEnds, CloseFails, ShowEnds, TablesEnd, ShowsClosed, FailsTable, LacksTable}
+use Rattle.sunvm.specs.Handed.{HasLateCause}
 use Rattle.sunvm.specs.Opened.{OpenedFile, infos_of, opening_flat}
 use Rattle.sunvm.specs.Played.{IsStarted, KernelLeaves, LeftSeen, IsClosingFault, infos_made}
-use Rattle.sunvm.specs.Run.{CaseOf, Course, Outside, WasShown, Lacks, LacksLate, RunsThrough, middle_of, opening_of, opening_part, plan_opened, wrote_before}
+use Rattle.sunvm.specs.Run.{CaseOf, Course, LeavesFiles, Outside, WasShown, Lacks, LacksLate, RunsThrough, middle_of, opening_of, opening_part, plan_opened, wrote_before}
 use Rattle.sunvm.specs.Texts.{Wrote, WroteAndFront, WroteAndPart, WroteFront, WroteOn, WrotePart, files_or_none, middle_text, sections_before, trace_opening}
 use Rattle.sunvm.specs.Written.{AreFilesBytes, AreOnlyRead, FaultCounts, HaveDisks, IsCountedSince, KeepsBlocks, OnlyReads, WriteTables, disk_fault_counts, disk_sizes}
 use Rattle.sunvm.proofs.DiskLists.{mate, have-written, writes-refl, same-member}
 use Rattle.sunvm.proofs.Sinks.{front_behind, nothing_more, on_behind, part_behind, risen_before, still_wrote, wrote_then}
-use Rattle.sunvm.proofs.Courses.{ended, begun, closes, closed-bytes, late-cause, sizes-same}
+use Rattle.sunvm.proofs.Courses.{ended, begun, closes, closed-bytes, late-cause, leaves, sizes-same}
 
 -- disks that are only read after their tables were written
 blocks-read : (d e f : DiskSeen) → KeepsBlocks d e → OnlyReads e f → KeepsBlocks d f
@@ -130,39 +131,54 @@ module _ (st : ℕ) (ft : Option RunFault) (g : Given) (o : Outside) (what : Ask
       shown = closed-bytes st ft g what files bytes a made plan o.sink_old k1 ready s l started left new w none have shown are;
     }
 
+    -- the disks have the files, or one of them failed
+    abbrev IsLeft : Type 0
+    IsLeft = LeavesFiles g what files infos e ⊎ ((f : DiskFault) × HasLateCause what.plan l.history (bare new) l.swap f)
+
+    is-left : l.fault ≡ None → IsLeft
+    is-left none = inl (leaves st ft g what files bytes a made plan o.sink_old k1 ready s l started left new w none)
+
     -- nothing was written behind the opening part
-    lacking : ToldFront plan l.history.entries → Wrote k1 o.sink_new [] → Lacks g o e
-    lacking told wrote = inr (inr (inr (record {
+    lacking : ToldFront plan l.history.entries → IsLeft → Wrote k1 o.sink_new [] → Lacks g o e
+    lacking told kept wrote = inr (inr (inr (record {
       course = course (λ k. []);
       begun = begun st ft g what files bytes a made plan o.sink_old k1 ready s l started left new w;
       told = subst (λ (p : PlanSeen). ToldFront p l.history.entries) ready.numbered told;
+      left = kept;
       wrote = inl (still_wrote o.sink_old k1 o.sink_new opening first (wrote ∙ sym (nothing_more k1.written)));
     })))
+
+  -- the cause of a fault in closing
+  fault-cause : (f : DiskFault) (new : List (ℕ × DiskSeen)) (w : WriteTables l.disks new) (i : ℕ) (disk : DiskSeen) → slice_get new i ≡ Some (f.disk, disk) → f.disk < 8 → f.after ≡ disk.faults
+      → ((count : ℕ) × (slice_index_or l.history.faults f.disk None ≡ Some count) × (count ≤ f.before)) → HasLateCause what.plan l.history (bare new) l.swap f
+  fault-cause f new w i disk at small last since =
+      late-cause st ft g what files bytes a made plan o.sink_old k1 ready s l started left new w f i disk small (have new w) at last since
 
   -- a fault in closing
   close-failed : (f : DiskFault) (new : List (ℕ × DiskSeen)) (w : WriteTables l.disks new) (i : ℕ) (disk : DiskSeen) → slice_get new i ≡ Some (f.disk, disk) → f.disk < 8 → f.after ≡ disk.faults
       → ((count : ℕ) × (slice_index_or l.history.faults f.disk None ≡ Some count) × (count ≤ f.before)) → Told plan l.history.entries → ToldFront plan l.history.entries
+      → IsLeft new w
       → (how : Ending) → CloseFails what.options plan l.history.entries f k1 o.sink_new how → CaseOf g o (wrote_before o) (e new w) how
-  close-failed f new w i disk at small last since told front ending.Memory c = lacking new w front c
-  close-failed f new w i disk at small last since told front (ending.Closing h) c = record {
+  close-failed f new w i disk at small last since told front kept ending.Memory c = lacking new w front kept c
+  close-failed f new w i disk at small last since told front kept (ending.Closing h) c = record {
     course = course (λ k. []);
     runs = through new w told (λ k. []);
-    cause = late-cause st ft g what files bytes a made plan o.sink_old k1 ready s l started left new w h i disk (subst (λ (x : DiskFault). x.disk < 8) (sym c.0) small) (have new w)
-        (at ∙ ap (λ (x : DiskFault). Some (x.disk, disk)) (sym c.0)) (subst (λ (x : DiskFault). x.after ≡ disk.faults) (sym c.0) last)
+    cause = fault-cause h new w i disk
+        (at ∙ ap (λ (x : DiskFault). Some (x.disk, disk)) (sym c.0)) (subst (λ (x : DiskFault). x.disk < 8) (sym c.0) small) (subst (λ (x : DiskFault). x.after ≡ disk.faults) (sym c.0) last)
         (subst (λ (x : DiskFault). (count : ℕ) × (slice_index_or l.history.faults x.disk None ≡ Some count) × (count ≤ x.before)) (sym c.0) since);
     wrote = subst (λ (x : DiskFault). WroteOn o.sink_old o.sink_new (opening_of (course (λ k. [])) (e new w)) (middle_of (course (λ k. [])) (e new w) ++ disk_fault_text x.disk x.before x.after)) (sym c.0)
         (behind-on new w _ c.1);
   }
-  close-failed f new w i disk at small last since told front ending.Whole c = absurd c
-  close-failed f new w i disk at small last since told front ending.Usage c = absurd c
-  close-failed f new w i disk at small last since told front (ending.NoScript x) c = absurd c
-  close-failed f new w i disk at small last since told front ending.Later c = absurd c
-  close-failed f new w i disk at small last since told front (ending.Refused x) c = absurd c
-  close-failed f new w i disk at small last since told front ending.NotRead c = absurd c
-  close-failed f new w i disk at small last since told front ending.OpeningSink c = absurd c
-  close-failed f new w i disk at small last since told front ending.Sink c = absurd c
-  close-failed f new w i disk at small last since told front (ending.Opening x) c = absurd c
-  close-failed f new w i disk at small last since told front (ending.Showing x) c = absurd c
+  close-failed f new w i disk at small last since told front kept ending.Whole c = absurd c
+  close-failed f new w i disk at small last since told front kept ending.Usage c = absurd c
+  close-failed f new w i disk at small last since told front kept (ending.NoScript x) c = absurd c
+  close-failed f new w i disk at small last since told front kept ending.Later c = absurd c
+  close-failed f new w i disk at small last since told front kept (ending.Refused x) c = absurd c
+  close-failed f new w i disk at small last since told front kept ending.NotRead c = absurd c
+  close-failed f new w i disk at small last since told front kept ending.OpeningSink c = absurd c
+  close-failed f new w i disk at small last since told front kept ending.Sink c = absurd c
+  close-failed f new w i disk at small last since told front kept (ending.Opening x) c = absurd c
+  close-failed f new w i disk at small last since told front kept (ending.Showing x) c = absurd c
 
   -- the disk of a fault since the processes ran
   fault-low : (f : DiskFault) (new : List (ℕ × DiskSeen)) (c : IsCountedSince l.disks new (disk_fault_counts f)) → f.disk < 8
@@ -207,6 +223,7 @@ module _ (st : ℕ) (ft : Option RunFault) (g : Given) (o : Outside) (what : Ask
     course = course h.0;
     begun = begun st ft g what files bytes a made plan o.sink_old k1 ready s l started left new (writes-then l.disks mid new w r);
     told = subst (λ (p : PlanSeen). ToldFront p l.history.entries) ready.numbered front;
+    left = is-left new (writes-then l.disks mid new w r) none;
     wrote = inr (is-shown new (writes-then l.disks mid new w r) told none (tables-read mid new infos r tables) h.0 (bytes-read mid new infos h.0 r h.1), behind-front new (writes-then l.disks mid new w r) _ h.2);
   })))
   shows told front none mid new w r tables (ending.Closing f) h = absurd h
@@ -219,20 +236,37 @@ module _ (st : ℕ) (ft : Option RunFault) (g : Given) (o : Outside) (what : Ask
   shows told front none mid new w r tables (ending.Opening x) h = absurd h
 
   -- memory lacked
-  lacked : (new : List (ℕ × DiskSeen)) → ToldFront plan l.history.entries → (how : Ending) → (c : LacksTable k1 o.sink_new l.disks new how) → CaseOf g o (wrote_before o) (e new c.writes) how
-  lacked new front how c = subst (λ (x : Ending). CaseOf g o (wrote_before o) (e new c.writes) x) (sym c.memory) (lacking new c.writes front c.wrote)
+  lacked : (new : List (ℕ × DiskSeen)) → ToldFront plan l.history.entries → (how : Ending) → (c : LacksTable k1 o.sink_new l.disks new how) → IsLeft new c.writes → CaseOf g o (wrote_before o) (e new c.writes) how
+  lacked new front how c kept = subst (λ (x : Ending). CaseOf g o (wrote_before o) (e new c.writes) x) (sym c.memory) (lacking new c.writes front kept c.wrote)
+
+  -- the fault in which the kernel was closed, where its disks are as it left them
+  module _ (f : DiskFault) (is : l.fault ≡ Some f) (new : List (ℕ × DiskSeen)) (same : new ≡ l.disks) where
+    closing-fault : IsClosingFault l f
+    closing-fault = subst (λ (q : Option DiskFault). IfSome q (IsClosingFault l)) is left.fault
+
+    closing-at : slice_get new closing-fault.there.0 ≡ Some (f.disk, closing-fault.disk.1)
+    closing-at = ap (λ (d : List (ℕ × DiskSeen)). slice_get d closing-fault.there.0) same ∙ closing-fault.there.1 ∙ ap (λ (n : ℕ). Some (n, closing-fault.disk.1)) (sym closing-fault.fault.number)
+
+    closing-low : f.disk < 8
+    closing-low = subst (λ (n : ℕ). n < 8) (sym closing-fault.fault.number) (low closing-fault.there.0 closing-fault.disk closing-fault.there.1)
+
+    closing-since : (count : ℕ) × (slice_index_or l.history.faults f.disk None ≡ Some count) × (count ≤ f.before)
+    closing-since = (closing-fault.count, closing-fault.told, closing-fault.fault.since)
+
+    closing-left : (w : WriteTables l.disks new) → IsLeft new w
+    closing-left w = inr (f, fault-cause f new w closing-fault.there.0 closing-fault.disk.1 closing-at closing-low closing-fault.fault.last closing-since)
 
   -- the end of a run whose processes ran, whichever it is
   pub close-case : (whole : Bool) → (IsTrue whole → Told plan l.history.entries) → ToldFront plan l.history.entries → (fault : Option DiskFault) → l.fault ≡ fault → (new : List (ℕ × DiskSeen)) (how : Ending)
       → CloseEnds whole fault what.options plan l.history.entries infos k1 o.sink_new l.disks new how
       → CaseOf g o (wrote_before o) (record { status = st; fault = ft; history = l.history; disks = bare new; swap = l.swap }) how
-  close-case false told front fault is new how c = lacked new front how c
+  close-case false told front (Some f) is new how c = lacked new front how c.1 (closing-left f is new c.0 c.1.writes)
+  close-case false told front None is new how c = lacked new front how c (is-left new c.writes is)
   close-case true told front (Some f) is new how c =
-      let x = subst (λ (q : Option DiskFault). IfSome q (IsClosingFault l)) is left.fault in
-      let at = ap (λ (d : List (ℕ × DiskSeen)). slice_get d x.there.0) c.0 ∙ x.there.1 ∙ ap (λ (n : ℕ). Some (n, x.disk.1)) (sym x.fault.number) in
-      let small = subst (λ (n : ℕ). n < 8) (sym x.fault.number) (low x.there.0 x.disk x.there.1) in
-      close-failed f new (subst (WriteTables l.disks) (sym c.0) (writes-refl l.disks)) x.there.0 x.disk.1 at small x.fault.last (x.count, x.told, x.fault.since) (told refl) front how c.1
+      let x = closing-fault f is new c.0 in
+      let w = subst (WriteTables l.disks) (sym c.0) (writes-refl l.disks) in
+      close-failed f new w x.there.0 x.disk.1 (closing-at f is new c.0) (closing-low f is new c.0) x.fault.last (closing-since f is new c.0) (told refl) front (closing-left f is new c.0 w) how c.1
   close-case true told front None is new how (inl c) = shows (told refl) front is c.mid new c.writes c.reads c.tables how c.ends
   close-case true told front None is new how (inr (inl c)) =
-      close-failed c.fault new c.writes c.counted.i c.counted.is.1 (fault-at c.fault new c.counted) (fault-low c.fault new c.counted) c.counted.fault.last (since-closed c.fault new c.counted) (told refl) front how c.ends
-  close-case true told front None is new how (inr (inr c)) = lacked new front how c
+      close-failed c.fault new c.writes c.counted.i c.counted.is.1 (fault-at c.fault new c.counted) (fault-low c.fault new c.counted) c.counted.fault.last (since-closed c.fault new c.counted) (told refl) front (is-left new c.writes is) how c.ends
+  close-case true told front None is new how (inr (inr c)) = lacked new front how c (is-left new c.writes is)

@@ -16,7 +16,7 @@ use Rattle.sunvm.specs.Options.{options_of}
 use Rattle.sunvm.specs.Ending.{fault_of, status_of}
 use Rattle.sunvm.specs.Handed.{End, IsCountedBy}
 use Rattle.sunvm.specs.Opened.{OpenedFile, opened}
-use Rattle.sunvm.specs.Run.{CaseOf, DisksTell, IsComplete, IsDiskCounted, Outside, RunEnds, wrote_all}
+use Rattle.sunvm.specs.Run.{CaseOf, DisksTell, FailsToOpen, IsComplete, IsDiskCounted, Outside, RunEnds, wrote_all}
 
 told-text : {R : Type 0} (said : Option (List ℕ)) (F : List ℕ → R) (q r : R) → option_map F said ≡ Some q → (text : List ℕ) × IfSome said (λ told. told ≡ text) × (F text ≡ r) → r ≡ q
 told-text None F q r is h = absurd (none-some q is)
@@ -51,15 +51,18 @@ module _ (g : Given) (o : Outside) (e : End) where
     s,
     λ (t : DisksTell g what e).
         let same : c.what ≡ what = same-asked g what c.what is c.asked in
-        let broken : opened what.plan g.holds ≡ Err r = subst (λ (w : Asked). opened w.plan g.holds ≡ Err r) same (c.opened t.disks) in
+        let broken : opened what.plan g.holds ≡ Err r = subst (λ (w : Asked). opened w.plan g.holds ≡ Err r) same (c.cause.told t.disks) in
         let bad : ◌≡◌ {A = Result (List OpenedFile) Refusal} (Ok files) (Err r) = sym op ∙ broken in
         cc,
   )))
   by-case ending.NotRead s f c what files is op ns nk nr = absurd (ns c.0.risen)
   by-case ending.OpeningSink s f c what files is op ns nk nr = absurd (nk c.cause)
   by-case ending.Sink s f c what files is op ns nk nr = absurd (nk c.cause)
-  by-case (ending.Opening x) s f c what files is op ns nk nr = inr (inr (inl (subst IsDiskCounted (sym f)
-      (rack-or-disk x (HasRisen o.rack_old o.rack_new) (λ counts. IsCountedBy c.what.plan e.disks e.swap x.disk counts.0 counts.1) c.cause nr))))
+  by-case (ending.Opening x) s f c what files is op ns nk nr = inr (inr (inl (subst IsDiskCounted (sym f) (counted c))))
+    where
+      counted : FailsToOpen g o (wrote_all o) x e → IsSome x.counts
+      counted (inl k) = rack-or-disk x (HasRisen o.rack_old o.rack_new) (λ counts. IsCountedBy k.what.plan e.disks e.swap x.disk counts.0 counts.1) k.cause nr
+      counted (inr k) = rack-or-disk x ⊥ (λ counts. IsCountedBy k.what.plan e.disks e.swap x.disk counts.0 counts.1) k.cause (λ none. none)
   by-case (ending.Closing x) s f c what files is op ns nk nr = inr (inr (inl (subst IsDiskCounted (sym f) tt)))
   by-case (ending.Showing x) s f c what files is op ns nk nr = inr (inr (inl (subst IsDiskCounted (sym f) tt)))
   by-case ending.Memory s f c what files is op ns nk nr = inr (inl s)

@@ -1,6 +1,6 @@
 -- A run that began: what it left, and what that is of what was asked.
 use Rattle.std.proofs.Common.{◌≡◌, ℕ, zero, suc, ◌≤◌, ◌<◌, ◌==◌, true, false, List, [], ◌∷◌, length, map, refl, sym, ap, ◌∙◌, subst, arith, inl, inr}
-use Rattle.std.specs.Prelude.{All, IfNone, IfSome, IsSome, Option, Some, None, slice_get, slice_index_or, zip, if◌then◌else◌}
+use Rattle.std.specs.Prelude.{All, Bool, IfNone, IfSome, IsSome, Ok, Option, Some, None, slice_get, slice_index_or, zip, if◌then◌else◌}
 use Rattle.std.specs.Map.{lookup}
 use Rattle.std.proofs.lemmas.Bool.{false≢true}
 use Rattle.std.proofs.lemmas.Bool.Decides.{eqb_tells}
@@ -28,12 +28,12 @@ use Rattle.vm_world.specs.World.{AllTell}
 use Rattle.sunvm.specs.declared.outcome.RunFault.{RunFault}
 use Rattle.sunvm.specs.Asked.{Given, Asked}
 use Rattle.sunvm.specs.Attached.{AttachedSeen, FileDisksTell, bare}
-use Rattle.sunvm.specs.Closed.{SayTables, StoreFiles, StoresFile, flat_bytes, info_at, infos_in_flat}
+use Rattle.sunvm.specs.Closed.{SayTables, StoreFiles, StoresFile, flat_bytes, info_at, infos_in_flat, mode_in, modes_in}
 use Rattle.sunvm.specs.Course.{IsReady}
 use Rattle.sunvm.specs.Handed.{End, HaveTold, HandsAll, HaveSpecSizes, HasSpecSize, HasLateCause, IsSwapFor, CountsReach, disk_numbers, disk_handed, plan_disks, sizes_of}
-use Rattle.sunvm.specs.Opened.{OpenedFile, disk_specs, infos_of, names_of, numbered_plan, opening_flat, stored_bytes}
+use Rattle.sunvm.specs.Opened.{ComesTo, OpenedFile, disk_specs, infos_of, names_of, numbered_plan, opening_flat, stored_bytes}
 use Rattle.sunvm.specs.Played.{IsStarted, KernelLeaves, LeftSeen, IsClosingFault, infos_made}
-use Rattle.sunvm.specs.Run.{AreClosedBytes, AreOpenedBytes, Begun, ClosesFiles, DisksTell, IsOpened, flat_opened, flat_closed}
+use Rattle.sunvm.specs.Run.{AreClosedBytes, AreOpenedBytes, Begun, ClosesFiles, LeavesFiles, DisksTell, IsOpened, flat_opened, flat_closed}
 use Rattle.sunvm.specs.Written.{AreFilesBytes, HaveDisks, IsCountedSince, KeepsBlocks, WriteTables, disk_sizes}
 use Rattle.sunvm.proofs.DiskLists.{at-map, in-map, mate, number, to-all, zip-back, sizes-by, sizes-written, lookup-in, lookup-at, same-member}
 use Rattle.sunvm.proofs.DisksTell.{file-disks-tell}
@@ -59,6 +59,19 @@ names-of-modes (v ∷ vs) = ap (λ l. v.info.name ∷ l) (names-of-modes vs)
 names-fresh : (files : List OpenedFile) → map (λ (v : VnodeSeen). v.info.name) (map fresh_vnode (infos_of files)) ≡ names_of files
 names-fresh [] = refl
 names-fresh (f ∷ files) = ap (λ l. f.info.name ∷ l) (names-fresh files)
+
+-- their modes
+abbrev mode-from : FileMode → List ℕ × ℕ × Bool
+mode-from m = (m.name, m.disk, m.writable)
+
+modes-of : (vs : List VnodeSeen) → modes_in (map (λ (v : VnodeSeen). v.info) vs) ≡ map mode-from (map mode_of vs)
+modes-of [] = refl
+modes-of (v ∷ vs) = ap (λ l. mode_in v.info ∷ l) (modes-of vs)
+
+-- the records of fresh files
+pub made-infos : (infos : List FileInfo) → map (λ (v : VnodeSeen). v.info) (map fresh_vnode infos) ≡ infos
+made-infos [] = refl
+made-infos (i ∷ infos) = ap (λ (l : List FileInfo). i ∷ l) (made-infos infos)
 
 -- the size of the disk at a place
 size-at : (xs : List (ℕ × DiskSeen)) (i : ℕ) (x : ℕ × DiskSeen) → slice_get xs i ≡ Some x → slice_get (map (λ (d : ℕ × DiskSeen). d.1.size) xs) i ≡ Some x.1.size
@@ -124,7 +137,12 @@ module _ (st : ℕ) (ft : Option RunFault) (g : Given) (what : Asked) (files : L
   }
 
   pub is-opened : IsOpened g what files ended
-  is-opened = record { asked = ready.asked; handed = hands-all; opened = λ t. ready.placed.told t.rack (disks-told t) }
+  is-opened = record {
+    asked = ready.asked;
+    handed = hands-all;
+    given = subst (λ (xs : List (ℕ × ℕ)). ComesTo what.plan g.holds xs (Ok files)) (sym sizes-new) ready.placed.given;
+    opened = λ t. ready.placed.told t.rack (disks-told t);
+  }
 
   reached : CountsReach what.plan (bare new) l.swap l.history.entries
   reached k e n before after d at io found = elim (eqb_tells n 8) [
@@ -159,14 +177,22 @@ module _ (st : ℕ) (ft : Option RunFault) (g : Given) (what : Asked) (files : L
       (stored-kept l.files l.disks new left.lie w _ (subst (λ (f : Option DiskFault). IfNone f (HaveTold (bare l.disks) l.swap
       → StoreFiles l.disks (infos_made l.files) (flat_bytes (replay (opening_flat plan (disk_sizes a.disks) files) l.history.entries).files))) none left.stored (told-left t.disks)))
 
-  -- the files were closed
-  pub closes : l.fault ≡ None → SayTables new (infos_made l.files) → ClosesFiles g what files (infos_made l.files) ended
-  closes none tables = record {
+  modes-left : modes_in (infos_made l.files) ≡ modes_in (infos_of files)
+  modes-left = modes-of l.files.files ∙ ap (map mode-from) (left.modes ∙ ap (λ (f : FilesSeen). map mode_of f.files) started.placed)
+      ∙ sym (modes-of made.files) ∙ ap modes_in (ap (map (λ (v : VnodeSeen). v.info)) ready.placed.fresh ∙ made-infos (infos_of files))
+
+  -- the disks have the files
+  pub leaves : l.fault ≡ None → LeavesFiles g what files (infos_made l.files) ended
+  leaves none = record {
+    modes = modes-left;
     records = λ t. left.infos (told-left t.disks) ∙ ap (λ ns. infos_in_flat ns (replay (opening_flat plan (disk_sizes a.disks) files) l.history.entries).files) names-left
         ∙ ap (infos_in_flat (names_of files)) closed-same;
     stored = λ t. subst (λ (d : List (ℕ × DiskSeen)). StoreFiles d (infos_made l.files) (flat_bytes (flat_closed what files (bare new) l.history.entries).files)) (sym pairs-new) (stored none t);
-    tables = subst (λ (d : List (ℕ × DiskSeen)). SayTables d (infos_made l.files)) (sym pairs-new) tables;
   }
+
+  -- the files were closed
+  pub closes : l.fault ≡ None → SayTables new (infos_made l.files) → ClosesFiles g what files (infos_made l.files) ended
+  closes none tables = record { left = leaves none; tables = subst (λ (d : List (ℕ × DiskSeen)). SayTables d (infos_made l.files)) (sym pairs-new) tables }
 
   -- the bytes that were read back
   pub closed-bytes : l.fault ≡ None → HaveDisks l.files new → (shown : ℕ → List ℕ) → AreFilesBytes (infos_made l.files) new shown → AreClosedBytes g what files (infos_made l.files) ended shown

@@ -1,7 +1,6 @@
 -- A run that stops before its trace: the rack, a disk or memory failed, or a rule is broken.
 use Rattle.std.proofs.Common.{◌≡◌, ℕ, ◌≤◌, List, [], refl, sym, ap, ◌∙◌, subst, arith, inl, inr, map}
-use Rattle.std.specs.Prelude.{MatchOption, Option, Some, None, Ok, option_map, slice_get}
-use Rattle.std.proofs.lemmas.Option.{none-some}
+use Rattle.std.specs.Prelude.{MatchOption, Option, Some, None, Ok, option_map}
 use Rattle.block_device.specs.Counts.{HasRisen}
 use Rattle.block_device.specs.DiskSeen.{DiskSeen}
 use Rattle.block_device.specs.OpenSeen.{OpenFaultSeen}
@@ -65,23 +64,29 @@ module _ (st : ℕ) (ft : Option RunFault) (g : Given) (o : Outside) (nothing : 
       asked = asked;
       handed = hands;
       history = record { entries = entries; counts = counts };
-      opened = cause;
+      cause = cause;
       wrote = nothing;
     })
-    early-case H disks swap (ending.Opening f) entries counts hands cause = record {
-      what = what;
-      files = [];
-      bytes = λ k. [];
-      text = [];
-      asked = asked;
-      handed = hands;
-      history = record { entries = entries; counts = counts };
-      cause = same-cause disks swap f cause.0;
-      first = λ t. cause.1 t.disks;
-      read = record { lengths = λ k x at. absurd (none-some x at); told = λ t k x at. absurd (none-some x at) };
-      before = inl refl;
-      wrote = nothing;
-    }
+    early-case H disks swap (ending.Opening f) entries counts hands cause = elim cause [
+      | inl c ↦ inl (record {
+        what = what;
+        asked = asked;
+        history = record { entries = entries; counts = counts };
+        cause = same-cause disks swap f c.0;
+        stopped = c.1;
+        wrote = nothing;
+      })
+      | inr c ↦ inr (record {
+        what = what;
+        files = c.files;
+        text = [];
+        opened = record { asked = asked; handed = c.handed; given = c.given; opened = λ t. c.opened t.disks };
+        history = record { entries = entries; counts = counts };
+        cause = c.cause;
+        before = inl refl;
+        wrote = nothing;
+      })
+    ]
     early-case H disks swap ending.Memory entries counts hands cause = inr (inl (record {
       what = what;
       asked = asked;

@@ -71,5 +71,9 @@ module _ (o : Options) (plan : PlanSeen) (H : List Entry) (infos : List FileInfo
 
 -- not all lines were made
 pub lacks-closed : (whole : Bool) (fault : Option DiskFault) (o : Options) (plan : PlanSeen) (H : List Entry) (infos : List FileInfo) (k0 k1 : SinkSeen) (old new : List (ℕ × DiskSeen)) (how : Ending)
-    → whole ≡ false → LacksTable k0 k1 old new how → CloseEnds whole fault o plan H infos k0 k1 old new how
-lacks-closed whole fault o plan H infos k0 k1 old new how is h = subst (λ (b : Bool). CloseEnds b fault o plan H infos k0 k1 old new how) (sym is) h
+    → whole ≡ false → (is_some fault ≡ true → new ≡ old) → LacksTable k0 k1 old new how → CloseEnds whole fault o plan H infos k0 k1 old new how
+lacks-closed whole fault o plan H infos k0 k1 old new how is same h = subst (λ (b : Bool). CloseEnds b fault o plan H infos k0 k1 old new how) (sym is) (by fault same)
+  where
+    by : (f : Option DiskFault) → (is_some f ≡ true → new ≡ old) → CloseEnds false f o plan H infos k0 k1 old new how
+    by None same = h
+    by (Some f) same = (same refl, h)

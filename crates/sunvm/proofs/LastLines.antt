@@ -24,7 +24,7 @@ use Rattle.sunvm.specs.declared.showing.Heading.TheVariants.{Report, Trace}
 use Rattle.sunvm.specs.Asked.{Given, Asked}
 use Rattle.sunvm.specs.declared.outcome.RunFault.{RunFault}
 use Rattle.sunvm.specs.Ending.{fault_of, last_line_of, status_of}
-use Rattle.sunvm.specs.Handed.{End, HandsAll, HandsBelow, HandsFailed, HandsFront, HandsNone, HandsRefused, HandsUnracked, HaveSpecSizes, IsSwapFor, disk_numbers, sizes_of, handed_count}
+use Rattle.sunvm.specs.Handed.{End, HandsAll, HandsBelow, HandsFront, HandsNone, HandsRefused, HandsUnracked, HandsUnread, HaveSpecSizes, IsSwapFor, disk_numbers, sizes_of, handed_count}
 use Rattle.sunvm.specs.Opened.{OpenedFile, disk_specs, infos_of}
 use Rattle.sunvm.specs.Reading.{IsConcluded}
 use Rattle.sunvm.specs.Run.{BreaksRule, CaseOf, RunEnds, EndsBare, FailsToOpen, FailsToShow, HasNoHistory, IsOpeningText, Lacks, LacksOpening, Outside, middle_of, opening_of, opening_part, report_of, whole_text, wrote_all, wrote_before}
@@ -55,8 +55,8 @@ none-front plan disks swap h = record {
   before = λ some. absurd (let none = ap (λ (d : List DiskSeen). length d) h.no_disk in omega (arith, some, none));
 }
 
-failed-front : (plan : PlanSeen) (disks : List DiskSeen) (swap : Option DiskSeen) (f : OpenFaultSeen) → HandsFailed plan disks swap f → HandsFront plan disks swap
-failed-front plan disks swap f h = by f.counts h
+unread-front : (plan : PlanSeen) (disks : List DiskSeen) (swap : Option DiskSeen) (f : OpenFaultSeen) → HandsUnread plan disks swap f → HandsFront plan disks swap
+unread-front plan disks swap f h = by f.counts h
   where
     unracked : (b : Bool) → MatchBool b ((0 < (amounts_of plan.setup).slots) × HandsNone disks swap) (Contains (disk_numbers plan) f.disk × HandsBelow plan (λ n. nat_lt n f.disk) disks swap)
         → HandsFront plan disks swap
@@ -64,10 +64,9 @@ failed-front plan disks swap f h = by f.counts h
     unracked false k = k.1.each
 
     by : (counts : Option (ℕ × ℕ)) → MatchOption counts (HandsUnracked plan disks swap f.disk)
-        (λ c. HandsBelow plan (λ n. nat_le n f.disk) disks swap ⊎ HandsAll plan disks swap) → HandsFront plan disks swap
+        (λ c. HandsBelow plan (λ n. nat_le n f.disk) disks swap) → HandsFront plan disks swap
     by None k = unracked (f.disk == 8) k
-    by (Some c) (inl k) = k.each
-    by (Some c) (inr k) = all-front plan disks swap k
+    by (Some c) k = k.each
 
 -- all lines are a front of them
 told-front : (plan : PlanSeen) (H : List Entry) → Told plan H → ToldFront plan H
@@ -111,7 +110,7 @@ module _ (g : Given) (s0 s1 r0 r1 n0 n1 : ℕ) (k0 k1 k2 : SinkSeen) (e : End) (
     asked = c.asked;
     handed = c.handed;
     history = c.history;
-    opened = c.opened;
+    cause = c.cause;
     wrote = on_behind k0 k1 k2 [] (last_line_of (ending.Refused r)) first c.wrote w;
   })
   line-told ending.NotRead c w = (c.0, bare-line ending.NotRead c.1 w)
@@ -131,20 +130,24 @@ module _ (g : Given) (s0 s1 r0 r1 n0 n1 : ℕ) (k0 k1 k2 : SinkSeen) (e : End) (
     cause = risen-after k0.faults k1.faults k2.faults c.cause later;
     wrote = still_part k0 k1 k2 (opening_of c.course e) (report_of c.course e) c.wrote (silent k1 k2 w);
   }
-  line-told (ending.Opening f) c w = record {
+  line-told (ending.Opening f) (inl c) w = inl (record {
     what = c.what;
-    files = c.files;
-    bytes = c.bytes;
-    text = c.text;
     asked = c.asked;
-    handed = c.handed;
     history = c.history;
     cause = c.cause;
-    first = c.first;
-    read = c.read;
+    stopped = c.stopped;
+    wrote = on_behind k0 k1 k2 [] (last_line_of (ending.Opening f)) first c.wrote w;
+  })
+  line-told (ending.Opening f) (inr c) w = inr (record {
+    what = c.what;
+    files = c.files;
+    text = c.text;
+    opened = c.opened;
+    history = c.history;
+    cause = c.cause;
     before = c.before;
     wrote = on_behind k0 k1 k2 c.text (last_line_of (ending.Opening f)) first c.wrote w;
-  }
+  })
   line-told (ending.Closing f) c w = record {
     course = c.course;
     runs = c.runs;
@@ -182,6 +185,7 @@ module _ (g : Given) (s0 s1 r0 r1 n0 n1 : ℕ) (k0 k1 k2 : SinkSeen) (e : End) (
     course = c.course;
     begun = c.begun;
     told = c.told;
+    left = c.left;
     wrote = elim c.wrote [
       | inl opening ↦ inl (still_wrote k0 k1 k2 (opening_of c.course e) opening (silent k1 k2 w))
       | inr shown ↦ inr (shown.0, still_front k0 k1 k2 (opening_of c.course e) (report_of c.course e) shown.1 (silent k1 k2 w))
@@ -192,27 +196,34 @@ module _ (g : Given) (s0 s1 r0 r1 n0 n1 : ℕ) (k0 k1 k2 : SinkSeen) (e : End) (
   bare-lacks how b same = inl (record { none = b.none; history = b.history; wrote = still_wrote k0 k1 k2 [] b.wrote same })
 
   opening-lacks : (f : OpenFaultSeen) → FailsToOpen g (outside k1) (wrote_before (outside k1)) f e → k2.written ≡ k1.written → Lacks g (outside k2) e
-  opening-lacks f c same = by c.before
+  opening-lacks f (inl c) same = inr (inl (record {
+    what = c.what;
+    asked = c.asked;
+    handed = unread-front c.what.plan e.disks e.swap f c.stopped.handed;
+    history = c.history;
+    wrote = still_wrote k0 k1 k2 [] c.wrote same;
+  }))
+  opening-lacks f (inr c) same = by c.before
     where
-      by : IsOpeningText g c.what c.files e f.disk c.bytes c.text → Lacks g (outside k2) e
+      by : IsOpeningText g c.what c.files e f.disk c.text → Lacks g (outside k2) e
       by (inl none) = inr (inl (record {
         what = c.what;
-        asked = c.asked;
-        handed = failed-front c.what.plan e.disks e.swap f c.handed;
+        asked = c.opened.asked;
+        handed = all-front c.what.plan e.disks e.swap c.opened.handed;
         history = c.history;
         wrote = still_wrote k0 k1 k2 [] (subst (Wrote k0 k1) none c.wrote) same;
       }))
       by (inr t) = inr (inr (inl (record {
         what = c.what;
         files = c.files;
-        bytes = c.bytes;
-        opened = t.0;
+        bytes = t.0;
+        opened = c.opened;
         history = c.history;
-        read = c.read;
-        wrote = still_front k0 k1 k2 [] (opening_part c.what c.files e.disks c.bytes)
-            (subst (λ (b : Bool). WroteFront k0 k1 (if b then trace_front c.what.plan (sizes_of c.what.plan e.disks) ++ file_sections Trace (infos_of c.files) c.bytes else [])) (sym t.1.2)
-            (before-front k0 k1 [] (trace_front c.what.plan (sizes_of c.what.plan e.disks)) Trace (infos_of c.files) c.bytes t.1.0 t.1.1 t.1.3.there
-            (subst (Wrote k0 k1) t.1.4 c.wrote))) same;
+        read = t.1;
+        wrote = still_front k0 k1 k2 [] (opening_part c.what c.files e.disks t.0)
+            (subst (λ (b : Bool). WroteFront k0 k1 (if b then trace_front c.what.plan (sizes_of c.what.plan e.disks) ++ file_sections Trace (infos_of c.files) t.0 else [])) (sym t.2.2)
+            (before-front k0 k1 [] (trace_front c.what.plan (sizes_of c.what.plan e.disks)) Trace (infos_of c.files) t.0 t.2.0 t.2.1 t.2.3.there
+            (subst (Wrote k0 k1) t.2.4 c.wrote))) same;
       })))
 
   showing-lacks : (f : DiskFault) → FailsToShow g (wrote_before (outside k1)) f e → k2.written ≡ k1.written → Lacks g (outside k2) e
@@ -220,6 +231,7 @@ module _ (g : Given) (s0 s1 r0 r1 n0 n1 : ℕ) (k0 k1 k2 : SinkSeen) (e : End) (
     course = c.course;
     begun = c.shown.runs.begun;
     told = told-front _ e.history.entries c.shown.runs.told;
+    left = inl c.shown.closed.left;
     wrote = inr (
       c.shown,
       still_front k0 k1 k2 (opening_of c.course e) (report_of c.course e)

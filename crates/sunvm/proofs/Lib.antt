@@ -50,6 +50,7 @@ pub mod LawLemmas
 pub mod FoundLemmas
 pub mod HandLemmas
 pub mod PlaceLemmas
+pub mod GivenFiles
 pub mod AllPlaced
 pub mod StopLemmas
 pub mod MountSpecs

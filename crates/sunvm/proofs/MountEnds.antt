@@ -10,7 +10,7 @@ use Rattle.vm_script.specs.Rules.{amounts_of}
 use Rattle.sunvm.specs.declared.ending.Ending.{Ending}
 use Rattle.sunvm.specs.declared.ending.Stop.{Stop}
 use Rattle.sunvm.specs.Attached.{StopsEarly, bare, numbered_seen}
-use Rattle.sunvm.specs.Handed.{IsSwapFor}
+use Rattle.sunvm.specs.Handed.{IsSwapAsGiven, IsSwapFor}
 use Rattle.sunvm.specs.Mounting.{Holds, HaltsNumber, Halts}
 use Rattle.sunvm.proofs.MountStops.{ungiven_later, Stopped, stopped}
 
@@ -29,9 +29,9 @@ halts_later setup holds old mid new disks how le h =
       ],
     )
 
-pub stopped_later : (plan : PlanSeen) (holds : Holds) (old mid new : ℕ) (swap : Option DiskSeen) (disks : List (ℕ × DiskSeen)) (how : Ending) → old ≤ mid → IsSwapFor (amounts_of plan.setup).slots swap
+pub stopped_later : (plan : PlanSeen) (holds : Holds) (old mid new : ℕ) (swap : Option DiskSeen) (disks : List (ℕ × DiskSeen)) (how : Ending) → old ≤ mid → IsSwapFor (amounts_of plan.setup).slots swap → IsSwapAsGiven (amounts_of plan.setup).slots swap
     → Halts plan.setup holds mid new disks how → Stopped plan holds old new (bare disks) swap how
-stopped_later plan holds old mid new swap disks how le swaps h = stopped plan holds old new swap disks how swaps (halts_later plan.setup holds old mid new disks how le h)
+stopped_later plan holds old mid new swap disks how le swaps blank h = stopped plan holds old new swap disks how swaps blank (halts_later plan.setup holds old mid new disks how le h)
 
 pub err_then : {T E : Type 0} (r : Result T E) (P Q : E → Type 0) → ((e : E) → P e → Q e) → IfErr r P → IfErr r Q
 err_then (Ok x) P Q f h = tt

@@ -14,8 +14,8 @@ use Rattle.vnode_files.specs.declared.vnode.FileInfo.{FileInfo}
 use Rattle.volume_format.specs.Table.{TableSeen, empty_table}
 use Rattle.sunvm.specs.declared.table_files.PlaceStop.{PlaceStop}
 use Rattle.sunvm.specs.declared.table_files.PlaceStop.TheVariants as stop
-use Rattle.sunvm.specs.Opened.{info_on}
-use Rattle.sunvm.specs.Placing.{with_infos, mounted_infos, IsTooMany, table_at, attached_numbers, sizes_by_number, AreSet}
+use Rattle.sunvm.specs.Opened.{info_on, mounted_infos}
+use Rattle.sunvm.specs.Placing.{with_infos, IsTooMany, table_at, attached_numbers, sizes_by_number, AreSet}
 
 files_with : FilesSeen → List VnodeSeen → FilesSeen
 files_with s vs = record s { files = vs }

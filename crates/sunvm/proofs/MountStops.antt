@@ -1,6 +1,6 @@
 -- What is handed back, and why, where the attaching stopped.
 use Rattle.std.proofs.Common.{◌≡◌, ℕ, suc, ◌+◌, ◌-◌, ◌<◌, ◌≤◌, ◌==◌, Bool, true, false, List, [], ◌∷◌, ◌++◌, length, map, Option, Some, None, Result, Ok, Err, refl, sym, ap, ◌∙◌, subst, arith, append-nil, inl, inr}
-use Rattle.std.specs.Prelude.{◌⊎◌, All, IfErr, IfSome, MatchBool, MatchOption, nat_lt, nat_le, zip, take, if◌then◌else◌}
+use Rattle.std.specs.Prelude.{All, IfErr, IfSome, MatchBool, MatchOption, nat_lt, nat_le, zip, take, if◌then◌else◌}
 use Rattle.std.specs.List.{Contains, cons_option}
 use Rattle.std.specs.Map.{lookup}
 use Rattle.std.proofs.lemmas.Bool.Decides.{nat_tests}
@@ -19,11 +19,12 @@ use Rattle.sunvm.specs.declared.ending.Ending.TheVariants as ending
 use Rattle.sunvm.specs.declared.ending.Refusal.{Refusal}
 use Rattle.sunvm.specs.declared.ending.Refusal.TheVariants as refusal
 use Rattle.sunvm.specs.Attached.{AreMounted, StopCause, HandsStopped, bare}
-use Rattle.sunvm.specs.Handed.{HaveTold, HaveSpecSizes, IsSwapFor, IsCountedBy, HandsFront, HandsAll, HandsBelow, HandsNone, HandsUnracked, disk_numbers, disk_handed}
+use Rattle.sunvm.specs.Handed.{HaveTold, HaveSpecSizes, IsSwapAsGiven, IsSwapFor, IsCountedBy, AreAsGiven, AreUntouched, HandsFront, HandsBelow, HandsNone, HandsUnracked, disk_numbers, disk_handed}
 use Rattle.sunvm.specs.Mounting.{Holds, specs_below, IsGiven, UnreadCause, UngivenCause, MountsOne, MountsNumber, HaltsBare, HaltsSpec, HaltsNumber, Halts}
 use Rattle.sunvm.specs.Opened.{OpenedFile, disk_numbered, disk_specs, disks_held, mounted, opened, size_held, if_few, with_line_files, table_on}
 use Rattle.sunvm.proofs.BrokenDisks.{broken-behind}
 use Rattle.sunvm.proofs.FaultCauses.{if-counted}
+use Rattle.sunvm.proofs.GivenFiles.{as-given}
 use Rattle.sunvm.proofs.MountSpecs.{numbered_is, specs_from, specs_split, specs_more, count_below, low_specs}
 use Rattle.sunvm.proofs.MountDisks.{AreGiven, given_of_mounted, given_push, mounted_push, given_held, mounted_held, given_length, front_sizes, lookup_given, mounted_err, mounted_here, Told, all_last}
 
@@ -116,10 +117,17 @@ module _ (plan : PlanSeen) (holds : Holds) (swap : Option DiskSeen) (swaps : IsS
 not_eight : (number : ℕ) → number < 8 → (number == 8) ≡ false
 not_eight number lt = grind (arith, nat_tests, lt)
 
-module _ (plan : PlanSeen) (holds : Holds) (old new : ℕ) (swap : Option DiskSeen) (swaps : IsSwapFor (amounts_of plan.setup).slots swap) (number k : ℕ) (all : number + suc k ≡ 8)
+module _ (plan : PlanSeen) (holds : Holds) (old new : ℕ) (swap : Option DiskSeen) (swaps : IsSwapFor (amounts_of plan.setup).slots swap) (blank : IsSwapAsGiven (amounts_of plan.setup).slots swap) (number k : ℕ) (all : number + suc k ≡ 8)
     (front : List (ℕ × DiskSeen)) (tables : List TableSeen) (before : AreMounted holds (specs_below plan.setup number) front tables) where
   unasked_stop : HandsStopped plan (bare front) swap ending.Memory × StopCause plan holds old new (bare front) swap ending.Memory
   unasked_stop = (hands_front plan holds swap swaps number (suc k) all front (given_of_mounted holds (specs_below plan.setup number) front tables before), tt)
+
+  -- nothing was written
+  untouched : (m rest : ℕ) → m + rest ≡ 8 → (disks : List (ℕ × DiskSeen)) → AreGiven holds (specs_below plan.setup m) disks → AreUntouched plan holds (bare disks) swap
+  untouched m rest count disks given = record {
+    each = subst (λ xs. AreAsGiven holds xs (bare disks)) (sym (specs_split plan.setup m rest 8 count)) (as-given holds (specs_below plan.setup m) (specs_from plan.setup m rest) disks given);
+    last = blank;
+  }
 
   module _ (s : Spec) (is : disk_numbered plan.setup number ≡ Some s) where
     specs_now : disk_specs plan.setup ≡ specs_below plan.setup number ++ (s ∷ specs_from plan.setup (number + 1) k)
@@ -145,12 +153,16 @@ module _ (plan : PlanSeen) (holds : Holds) (old new : ℕ) (swap : Option DiskSe
         (sym (not_eight number lt)) (named, below) in
         let same : number ≡ f.disk = sym (c.0 ∙ numbered_is plan.setup number s is) in
         let at_disk : HandsUnracked plan (bare front) swap f.disk = subst (λ n. HandsUnracked plan (bare front) swap n) same unracked in (
-          subst (λ o. MatchOption o (HandsUnracked plan (bare front) swap f.disk) (λ counts. HandsBelow plan (λ n. nat_le n f.disk) (bare front) swap ⊎ HandsAll plan (bare front) swap)) (sym c.1) at_disk,
-          (
+          tt,
+          inl (
             subst (λ o. MatchOption o (HasRisen old new) (λ counts. IsCountedBy plan (bare front) swap f.disk counts.0 counts.1)) (sym c.1) c.2,
-            λ told n rule broken.
-                let le = broken-behind plan holds number (suc k) all front tables before told.each n rule broken in
-                inr (omega (arith, le, same)),
+            record {
+              handed = subst (λ o. MatchOption o (HandsUnracked plan (bare front) swap f.disk) (λ counts. HandsBelow plan (λ n. nat_le n f.disk) (bare front) swap)) (sym c.1) at_disk;
+              first = λ told n rule broken.
+                  let le = broken-behind plan holds number (suc k) all front tables before told.each n rule broken in
+                  inr (omega (arith, le, same));
+              same = untouched number (suc k) all front given;
+            },
           ),
         )
     bare_stop ending.Memory c = unasked_stop
@@ -203,19 +215,23 @@ module _ (plan : PlanSeen) (holds : Holds) (old new : ℕ) (swap : Option DiskSe
       unread_stop : (how : Ending) → UnreadCause d how → HandsStopped plan (bare (front ++ d ∷ [])) swap how × StopCause plan holds old new (bare (front ++ d ∷ [])) swap how
       unread_stop (ending.Refused (refusal.Volume n rule)) c =
           let e : n ≡ number = c.0 ∙ (given.number ∙ numbered_is plan.setup number s is) in
-          (upto n e, λ told. refused n rule e c.1 told)
+          (upto n e, record { told = λ told. refused n rule e c.1 told; line = tt; same = untouched (number + 1) k all_now (front ++ d ∷ []) given_now })
       unread_stop (ending.Opening f) c =
           let e : f.disk ≡ number = c.number ∙ (given.number ∙ numbered_is plan.setup number s is) in
           let found : disk_handed plan (bare (front ++ d ∷ [])) swap f.disk ≡ Some d.1 = ap (disk_handed plan (bare (front ++ d ∷ [])) swap) e ∙ found_now in (
-            if-counted (HandsUnracked plan (bare (front ++ d ∷ [])) swap f.disk) (λ counts. HandsBelow plan (λ n. nat_le n f.disk) (bare (front ++ d ∷ [])) swap ⊎ HandsAll plan (bare (front ++ d ∷ [])) swap)
-                f.counts c.risen (inl (upto f.disk e)),
-            (
+            tt,
+            inl (
               if-counted (HasRisen old new) (λ counts. IsCountedBy plan (bare (front ++ d ∷ [])) swap f.disk counts.0 counts.1)
                   f.counts c.risen (record { risen = c.risen; disk = d.1; back = found; last = c.last }),
-              λ told n rule broken.
-                  let each = all_last (bare front) d.1 (subst (λ ds. All Told ds) bare_now told.each) in
-                  let le = broken-behind plan holds number (suc k) all front tables before each.0 n rule broken in
-                  inr (omega (arith, le, e)),
+              record {
+                handed = if-counted (HandsUnracked plan (bare (front ++ d ∷ [])) swap f.disk) (λ counts. HandsBelow plan (λ n. nat_le n f.disk) (bare (front ++ d ∷ [])) swap)
+                    f.counts c.risen (upto f.disk e);
+                first = λ told n rule broken.
+                    let each = all_last (bare front) d.1 (subst (λ ds. All Told ds) bare_now told.each) in
+                    let le = broken-behind plan holds number (suc k) all front tables before each.0 n rule broken in
+                    inr (omega (arith, le, e));
+                same = untouched (number + 1) k all_now (front ++ d ∷ []) given_now;
+              },
             ),
           )
       unread_stop ending.Memory c = (hands_front plan holds swap swaps (number + 1) k all_now (front ++ d ∷ []) given_now, tt)
@@ -235,22 +251,22 @@ pub record Stopped (plan : PlanSeen) (holds : Holds) (old new : ℕ) (disks : Li
   pub handed : HandsStopped plan disks swap how
   pub cause : StopCause plan holds old new disks swap how
 
-pub stopped : (plan : PlanSeen) (holds : Holds) (old new : ℕ) (swap : Option DiskSeen) (disks : List (ℕ × DiskSeen)) (how : Ending) → IsSwapFor (amounts_of plan.setup).slots swap
+pub stopped : (plan : PlanSeen) (holds : Holds) (old new : ℕ) (swap : Option DiskSeen) (disks : List (ℕ × DiskSeen)) (how : Ending) → IsSwapFor (amounts_of plan.setup).slots swap → IsSwapAsGiven (amounts_of plan.setup).slots swap
     → Halts plan.setup holds old new disks how → Stopped plan holds old new (bare disks) swap how
-stopped plan holds old new swap disks how swaps h = at h.cause
+stopped plan holds old new swap disks how swaps blank h = at h.cause
   where
     all : h.number + suc (7 - h.number) ≡ 8
     all = let lt = h.below in omega (arith, lt)
 
     at : HaltsNumber plan.setup h.number holds old new h.front disks how → Stopped plan holds old new (bare disks) swap how
     at (inl m) =
-        let r = unasked_stop plan holds old new swap swaps h.number (7 - h.number) all h.front h.tables h.mounted in
+        let r = unasked_stop plan holds old new swap swaps blank h.number (7 - h.number) all h.front h.tables h.mounted in
         subst (λ x. Stopped plan holds old new (bare disks) swap x) (sym m.memory) (subst (λ ds. Stopped plan holds old new (bare ds) swap ending.Memory) (sym m.same) (record { handed = r.0; cause = r.1 }))
     at (inr x) = elim x.2 [
       | inl b ↦
-          let r = bare_stop plan holds old new swap swaps h.number (7 - h.number) all h.front h.tables h.mounted x.0 x.1 how b.cause in
+          let r = bare_stop plan holds old new swap swaps blank h.number (7 - h.number) all h.front h.tables h.mounted x.0 x.1 how b.cause in
           subst (λ ds. Stopped plan holds old new (bare ds) swap how) (sym b.same) (record { handed = r.0; cause = r.1 })
       | inr u ↦
-          let r = unread_stop plan holds old new swap swaps h.number (7 - h.number) all h.front h.tables h.mounted x.0 x.1 u.disk u.given how u.cause in
+          let r = unread_stop plan holds old new swap swaps blank h.number (7 - h.number) all h.front h.tables h.mounted x.0 x.1 u.disk u.given how u.cause in
           subst (λ ds. Stopped plan holds old new (bare ds) swap how) (sym u.behind) (record { handed = r.0; cause = r.1 })
     ]

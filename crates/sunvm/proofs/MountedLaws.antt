@@ -17,8 +17,8 @@ use Rattle.volume_format.specs.Rules.{do_meet, is_on_disk}
 use Rattle.volume_format.specs.Table.{TableSeen, all_extents, entry_at, no_entry}
 use Rattle.volume_format.specs.Volume.{IsVolumeTable, IsVolumeFile, extent_at}
 use Rattle.sunvm.specs.Closed.{info_at}
-use Rattle.sunvm.specs.Opened.{info_on, extents_of_disk}
-use Rattle.sunvm.specs.Placing.{Distinct, mounted_infos, IsAddable}
+use Rattle.sunvm.specs.Opened.{info_on, extents_of_disk, mounted_infos}
+use Rattle.sunvm.specs.Placing.{Distinct, IsAddable}
 
 -- Of each table's files, on its disk.
 abbrev pub EachTable : (FileInfo → Type 0) → List ℕ → List TableSeen → Type 0

@@ -17,8 +17,8 @@ use Rattle.vm_script.specs.Rules.{is_from_to}
 use Rattle.sunvm.specs.declared.ending.Refusal.{Refusal}
 use Rattle.sunvm.specs.Attached.{IsMounted, AreMounted}
 use Rattle.sunvm.specs.Handed.{TellsSpec}
-use Rattle.sunvm.specs.Opened.{OpenedFile, info_on, stored_bytes, blocks_held, disks_held, mounted_file, mounted, with_mounted, table_on, table_read, infos_of}
-use Rattle.sunvm.specs.Placing.{found_file, found_files, content_bytes, mounted_infos}
+use Rattle.sunvm.specs.Opened.{OpenedFile, info_on, stored_bytes, blocks_held, disks_held, mounted_file, mounted, with_mounted, table_on, table_read, infos_of, mounted_infos}
+use Rattle.sunvm.specs.Placing.{found_file, found_files, content_bytes}
 
 -- the records of the files
 infos-one : (d : ℕ × DiskSeen) (es : List FileInfo) → infos_of (map (found_file d) es) ≡ map (info_on d.0) es

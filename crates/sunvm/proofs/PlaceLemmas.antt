@@ -6,6 +6,7 @@ use Rattle.std.proofs.Common.{ap, ◌∙◌, sym, subst, refl, arith, length-app
 use Rattle.std.proofs.lemmas.Bool.{lt-ltb, le-ltb}
 use Rattle.std.proofs.lemmas.List.{length-map, append_cancel_left, append-nil}
 use Rattle.block_device.specs.DiskSeen.{DiskSeen}
+use Rattle.block_device.specs.OpenSeen.{OpenFaultSeen}
 use Rattle.block_device.specs.declared.numbered.NumberedDisk.{NumberedDisk}
 use Rattle.block_device.specs.declared.rack.Spec.{Spec}
 use Rattle.vnode_files.specs.Files.{FilesSeen, block_count}
@@ -18,8 +19,8 @@ use Rattle.sunvm.specs.declared.ending.Refusal.TheVariants as refusal
 use Rattle.sunvm.specs.declared.table_files.PlaceStop.{PlaceStop}
 use Rattle.sunvm.specs.declared.table_files.PlaceStop.TheVariants as stop
 use Rattle.sunvm.specs.Attached.{AreMounted, numbered_seen}
-use Rattle.sunvm.specs.Opened.{OpenedFile, infos_of, if_few, new_file, with_line_files}
-use Rattle.sunvm.specs.Placing.{Distinct, Gave, HasOpened, HavePlaces, IsPlaceable, IsTooMany, LieRight, Stopped, PlaceStopped, attached_numbers, found_files, line_files, mounted_infos, sizes_by_number, with_infos}
+use Rattle.sunvm.specs.Opened.{OpenedFile, infos_of, if_few, new_file, with_line_files, mounted_infos}
+use Rattle.sunvm.specs.Placing.{Distinct, Gave, HasOpened, HavePlaces, IsPlaceable, IsFaultThere, IsTooMany, LieRight, Stopped, PlaceStopped, attached_numbers, found_files, line_files, sizes_by_number, with_infos}
 use Rattle.sunvm.proofs.OpenLemmas.{infos-found}
 use Rattle.sunvm.proofs.FileLineLemmas.{length-made}
 use Rattle.sunvm.proofs.LawLemmas.{holding-lines}
@@ -81,6 +82,13 @@ mounted-lies seen holds specs old ts m distinct =
 pub gave-ok : (new : FilesSeen) (r : Result (List OpenedFile) Refusal) → Gave new r → (after : List OpenedFile) × (r ≡ Ok after) × HasOpened new after
 gave-ok new (Ok after) has = (after, refl, has)
 gave-ok new (Err e) has = absurd has
+
+pub stop-writing : {D : Type 0} (seen : D → DiskSeen) (sizes : ℕ → ℕ) (files : List OpenedFile) (setup : List SetupLine) (old new : List (NumberedDisk D)) (made : FilesSeen) (f : OpenFaultSeen)
+    → length files ≤ 64 → Gave made (with_line_files sizes (Ok files) setup) → IsFaultThere seen new f
+    → PlaceStopped seen (with_line_files sizes (if_few (Ok files)) setup) old new (stop.Fault f)
+stop-writing seen sizes files setup old new made f few gave there =
+    let r = gave-ok made (with_line_files sizes (Ok files) setup) gave in
+    (there, (r.0, ap (λ (q : Result (List OpenedFile) Refusal). with_line_files sizes q setup) (few-taken files few) ∙ r.1))
 
 few_kept : (sizes : ℕ → ℕ) → KeptByLines sizes HoldsItsBytes (λ (files : List OpenedFile). length files ≤ 64)
 few_kept sizes files name writable disk pages bytes start law can few =

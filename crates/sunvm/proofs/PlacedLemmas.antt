@@ -26,8 +26,8 @@ use Rattle.vm_script.specs.declared.plan.SetupLine.{SetupLine}
 use Rattle.sunvm.specs.declared.ending.Refusal.{Refusal}
 use Rattle.sunvm.specs.declared.ending.Refusal.TheVariants as refusal
 use Rattle.sunvm.specs.Attached.{AreMounted, numbered_seen}
-use Rattle.sunvm.specs.Opened.{OpenedFile, infos_of, names_of, new_file, extents_of_disk, place_for, with_placed, with_line_file, with_line_files}
-use Rattle.sunvm.specs.Placing.{Distinct, HasOpened, HaveAddable, HasPlaceOn, HasPlaces, HavePlaces, LieRight, attached_numbers, bytes_given, line_files, with_given, mounted_infos, sizes_by_number, table_at}
+use Rattle.sunvm.specs.Opened.{OpenedFile, infos_of, names_of, new_file, extents_of_disk, place_for, with_placed, with_line_file, with_line_files, mounted_infos}
+use Rattle.sunvm.specs.Placing.{Distinct, HasOpened, HaveAddable, HasPlaceOn, HasPlaces, HavePlaces, LieRight, attached_numbers, bytes_given, line_files, with_given, sizes_by_number, table_at}
 use Rattle.sunvm.proofs.LineLemmas.{KeptByLines, place-run, run-free, same_Ok, err-ok, all_push, HoldsItsBytes}
 use Rattle.sunvm.proofs.MountedLaws.{EachTable, all_at, all_then, mounted-each, mounted-extents, tables-apart, tables-few, table-addable, file-lies}
 use Rattle.sunvm.proofs.FileLineLemmas.{extents-made}

@@ -48,6 +48,7 @@ numbered-placed plan holds files a made p = record {
   names = p.names;
   own = p.own;
   kept = p.kept;
+  given = record { tables = p.given.tables; found = p.given.found; read = p.given.read; mounted = p.given.mounted; lines = p.given.lines };
   told = p.told;
   stored = p.stored;
 }

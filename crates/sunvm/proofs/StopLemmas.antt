@@ -1,9 +1,9 @@
 -- A run that stops as its files are placed: what is handed back, and the cause.
-use Rattle.std.specs.Prelude.{All, ℕ, zero, suc, ◌≡◌, ◌<◌, ◌≤◌, ◌==◌, ◌⊎◌, Bool, List, [], ◌∷◌, length, map, zip, slice_index_or, Option, Some, None, option_map, IfSome, IsSome, is_some, MatchOption, nat_le, Ok, if◌then◌else◌}
+use Rattle.std.specs.Prelude.{All, ℕ, zero, suc, ◌≡◌, ◌<◌, ◌≤◌, ◌==◌, ◌⊎◌, Bool, List, [], ◌∷◌, length, map, zip, slice_index_or, Option, Some, None, option_map, IfSome, IsSome, is_some, MatchOption, Ok, Err, Result, if◌then◌else◌}
 use Rattle.std.specs.List.{AllByRecursion}
 use Rattle.std.specs.Map.{lookup}
 use Rattle.std.specs.FinMap as finite
-use Rattle.std.proofs.Common.{ap, ◌∙◌, sym, subst, refl, arith, inr}
+use Rattle.std.proofs.Common.{append-nil, ap, ◌∙◌, sym, subst, refl, arith, inr}
 use Rattle.std.proofs.lemmas.Bool.{false≢true, ne_eqb}
 use Rattle.std.proofs.Common.{Vec}
 use Rattle.std.specs.Vec.{with_items}
@@ -20,13 +20,14 @@ use Rattle.volume_format.specs.Table.{TableSeen}
 use Rattle.vm_script.specs.PlanSeen.{PlanSeen}
 use Rattle.vm_script.specs.Rules.{amounts_of}
 use Rattle.sunvm.specs.declared.ending.Ending.{Ending}
+use Rattle.sunvm.specs.declared.ending.Refusal.{Refusal}
+use Rattle.sunvm.specs.declared.ending.Refusal.TheVariants as refusal
 use Rattle.sunvm.specs.declared.ending.Stop.{Stop}
 use Rattle.sunvm.specs.declared.table_files.PlaceStop.{PlaceStop}
 use Rattle.sunvm.specs.declared.table_files.PlaceStop.TheVariants as stop
 use Rattle.sunvm.specs.Attached.{AreMounted, HandsStopped, StopCause, StopsEarly, numbered_seen, bare}
-use Rattle.sunvm.specs.Handed.{HandsAll, HandsFront, HandsFailed, HandsUnracked, HandsBelow, HasOpeningCause, IsCountedBy, IsSwapFor, TellsSpec, disk_numbers, disk_handed, HaveSpecSizes}
-use Rattle.block_device.specs.Counts.{HasRisen}
-use Rattle.sunvm.specs.Opened.{disk_specs, if_few, with_line_files}
+use Rattle.sunvm.specs.Handed.{AreAsGiven, AreUntouched, HandsAll, HandsFront, HasDiskCause, IsCountedBy, IsSwapAsGiven, IsSwapFor, TellsSpec, disk_numbers, disk_handed, sizes_of, HaveSpecSizes}
+use Rattle.sunvm.specs.Opened.{ComesTo, OpenedFile, disk_specs, if_few, opened, with_line_files}
 use Rattle.sunvm.specs.Placing.{IsFaultThere, PlaceStopped, RemainThere, attached_numbers, ending_of, found_files, placing_read}
 use Rattle.sunvm.proofs.AllPlaced.{hands-all}
 use Rattle.sunvm.proofs.FoundLemmas.{AllBlocks}
@@ -34,9 +35,9 @@ use Rattle.sunvm.proofs.HandLemmas.{SameDisks, lookup-at, mounted-numbers, opene
 use Rattle.sunvm.proofs.OpenLemmas.{TellOrEmpty}
 use Rattle.sunvm.proofs.PlacedLemmas.{at_index, numbers-seen, sizes-seen}
 use Rattle.sunvm.specs.Written.{HasLastFault, open_fault_counts}
-use Rattle.sunvm.proofs.BrokenDisks.{none-broken}
+use Rattle.sunvm.proofs.GivenFiles.{as-given, comes-to, sizes-handed}
 use Rattle.sunvm.proofs.FaultCauses.{if-counted}
-use Rattle.sunvm.proofs.MountDisks.{Told}
+use Rattle.sunvm.proofs.MountDisks.{Told, given_of_mounted}
 
 -- what was handed back of all disks is a front of them
 front_swap : (slots : ℕ) (swap : Option DiskSeen) → IsSwapFor slots swap → IfSome swap (λ d. (0 < slots) × (slots ≤ d.size))
@@ -90,9 +91,9 @@ nth : {A : Type 0} (xs : List A) (i : ℕ) → i < length xs → A
 nth [] i below = absurd (omega (arith, below))
 nth (x ∷ xs) i below = x
 
-fault-cause : {D : Type 0} (seen : D → DiskSeen) (plan : PlanSeen) (new : List (NumberedDisk D)) (swap : Option DiskSeen) (count : ℕ) (fault : OpenFaultSeen)
-    → attached_numbers new ≡ disk_numbers plan → IsFaultThere seen new fault → HasOpeningCause plan (bare (map (numbered_seen seen) new)) swap count count fault
-fault-cause seen plan new swap count fault numbers there =
+fault-cause : {D : Type 0} (seen : D → DiskSeen) (plan : PlanSeen) (new : List (NumberedDisk D)) (swap : Option DiskSeen) (fault : OpenFaultSeen)
+    → attached_numbers new ≡ disk_numbers plan → IsFaultThere seen new fault → HasDiskCause plan (bare (map (numbered_seen seen) new)) swap fault
+fault-cause seen plan new swap fault numbers there =
     let x = nth new there.i there.inside in
     let one = there.one x in
     let disks = bare (map (numbered_seen seen) new) in
@@ -109,45 +110,65 @@ fault-cause seen plan new swap count fault numbers there =
     ∙ lookup-at (disk_numbers plan) disks there.i (seen x.disk) (plan-numbers plan).1 long inside ∙ ap (λ (q : DiskSeen). Some q) (bare-at seen new there.i x there.inside) in
     let back : disk_handed plan disks swap fault.disk ≡ Some (seen d.disk) =
     ap (λ (t : Bool). if t then swap else lookup (λ m. m == fault.disk) (zip (disk_numbers plan) disks)) (ne_eqb fault.disk 8 (λ e. omega (arith, e, fault_number, small))) ∙ found in
-    if-counted (HasRisen count count) (λ (counts : ℕ × ℕ). IsCountedBy plan disks swap fault.disk counts.0 counts.1) fault.counts one.risen
+    if-counted ⊥ (λ (counts : ℕ × ℕ). IsCountedBy plan disks swap fault.disk counts.0 counts.1) fault.counts one.risen
     (record { risen = one.risen; disk = seen d.disk; back = back; last = one.last })
 
-fault-hands : (plan : PlanSeen) (disks : List DiskSeen) (swap : Option DiskSeen) (fault : OpenFaultSeen) (d : ℕ × DiskSeen) → HasLastFault 0 d (open_fault_counts fault) → HandsAll plan disks swap
-    → HandsFailed plan disks swap fault
-fault-hands plan disks swap fault d last all =
-    if-counted (HandsUnracked plan disks swap fault.disk) (λ (c : ℕ × ℕ). HandsBelow plan (λ n. nat_le n fault.disk) disks swap ⊎ HandsAll plan disks swap) fault.counts last.risen (inr all)
+-- where the disks tell, what placing comes to is how the plan is opened
+opened-told : {D : Type 0} (seen : D → DiskSeen) (plan : PlanSeen) (holds : Spec → Option (List (List ℕ))) (old : List (NumberedDisk D)) (ts : List TableSeen) (r : Result (List OpenedFile) Refusal)
+    → AllBlocks (map (numbered_seen seen) old) → AreMounted holds (disk_specs plan.setup) (map (numbered_seen seen) old) ts → placing_read seen old ts plan.setup ≡ r
+    → All Told (bare (map (numbered_seen seen) old)) → opened plan holds ≡ r
+opened-told seen plan holds old ts r blocks m read told =
+    let tells = rack-tells holds (disk_specs plan.setup) (map (numbered_seen seen) old) ts m (recursion_from_All (λ (d : DiskSeen). IsSome d.content) (bare (map (numbered_seen seen) old)) told) in
+    opened-is holds plan (map (numbered_seen seen) old) ts m tells.0 blocks tells.1
+    ∙ ap (λ (xs : List (ℕ × ℕ)). with_line_files (block_count (finite.from_entries xs)) (if_few (Ok (found_files (map (numbered_seen seen) old) ts))) plan.setup) (sizes-seen seen old)
+    ∙ read
+
+-- disks that were mounted are as the rack gave them
+mounted-given : (plan : PlanSeen) (holds : Spec → Option (List (List ℕ))) (disks : List (ℕ × DiskSeen)) (ts : List TableSeen) (swap : Option DiskSeen) → AreMounted holds (disk_specs plan.setup) disks ts
+    → IsSwapAsGiven (amounts_of plan.setup).slots swap → AreUntouched plan holds (bare disks) swap
+mounted-given plan holds disks ts swap m blank = record {
+  each = subst (λ (ss : List Spec). AreAsGiven holds ss (bare disks)) (append-nil (disk_specs plan.setup))
+      (as-given holds (disk_specs plan.setup) [] disks (given_of_mounted holds (disk_specs plan.setup) disks ts m));
+  last = blank;
+}
 
 -- A STOP AS FILES ARE PLACED
-pub stop-early : {D : Type 0} (seen : D → DiskSeen) (plan : PlanSeen) (holds : Spec → Option (List (List ℕ))) (old new : List (NumberedDisk D)) (ts : List TableSeen) (swap : Option DiskSeen) (count : ℕ) (how : PlaceStop)
-    → AllBlocks (map (numbered_seen seen) old) → AreMounted holds (disk_specs plan.setup) (map (numbered_seen seen) old) ts → IsSwapFor (amounts_of plan.setup).slots swap → RemainThere seen old new
-    → PlaceStopped seen (placing_read seen old ts plan.setup) old new how
-    → HandsStopped plan (bare (map (numbered_seen seen) new)) swap (ending_of how) × StopCause plan holds count count (bare (map (numbered_seen seen) new)) swap (ending_of how)
-stop-early seen plan holds old new ts swap count stop.Memory blocks m serves remain stopped =
-    (hands-front plan (bare (map (numbered_seen seen) new)) swap (hands-all seen plan holds old new ts swap m serves remain), tt)
-stop-early seen plan holds old new ts swap count (stop.Rule n) blocks m serves remain stopped = (
-  hands-all seen plan holds old new ts swap m serves remain,
-  λ told.
-      let own : AllByRecursion (λ (d : DiskSeen). IsSome d.content) (bare (map (numbered_seen seen) old)) =
-      subst (λ (ds : List (NumberedDisk _)). AllByRecursion (λ (d : DiskSeen). IsSome d.content) (bare (map (numbered_seen seen) ds))) stopped.1
-      (recursion_from_All (λ (d : DiskSeen). IsSome d.content) (bare (map (numbered_seen seen) new)) told.each) in
-      let tells = rack-tells holds (disk_specs plan.setup) (map (numbered_seen seen) old) ts m own in
-      opened-is holds plan (map (numbered_seen seen) old) ts m tells.0 blocks tells.1
-      ∙ ap (λ (xs : List (ℕ × ℕ)). with_line_files (block_count (finite.from_entries xs)) (if_few (Ok (found_files (map (numbered_seen seen) old) ts))) plan.setup) (sizes-seen seen old)
-      ∙ stopped.0,
-)
-stop-early seen plan holds old new ts swap count (stop.Fault f) blocks m serves remain stopped =
-    let all = hands-all seen plan holds old new ts swap m serves remain in
-    let numbers : attached_numbers new ≡ disk_numbers plan =
-    same-numbers seen old new (same-disks seen old new remain) ∙ sym (numbers-seen seen old) ∙ mounted-numbers holds (disk_specs plan.setup) (map (numbered_seen seen) old) ts m in
-    let x = nth new stopped.i stopped.inside in
-    let one = stopped.one x in (
-      fault-hands plan (bare (map (numbered_seen seen) new)) swap f (numbered_seen seen (slice_index_or new stopped.i x)) one all,
-      (
-        fault-cause seen plan new swap count f numbers stopped,
-        λ told n rule broken.
-            absurd (none-broken plan holds (map (numbered_seen seen) old) ts m (told-before seen old new (same-disks seen old new remain) told.each) n rule broken),
-      ),
-    )
+module _ {D : Type 0} (seen : D → DiskSeen) (plan : PlanSeen) (holds : Spec → Option (List (List ℕ))) (old new : List (NumberedDisk D)) (ts : List TableSeen) (swap : Option DiskSeen) (count : ℕ)
+    (blocks : AllBlocks (map (numbered_seen seen) old)) (m : AreMounted holds (disk_specs plan.setup) (map (numbered_seen seen) old) ts) (serves : IsSwapFor (amounts_of plan.setup).slots swap)
+    (blank : IsSwapAsGiven (amounts_of plan.setup).slots swap) (remain : RemainThere seen old new) where
+  same : SameDisks seen old new
+  same = same-disks seen old new remain
+
+  numbers : attached_numbers new ≡ disk_numbers plan
+  numbers = same-numbers seen old new same ∙ sym (numbers-seen seen old) ∙ mounted-numbers holds (disk_specs plan.setup) (map (numbered_seen seen) old) ts m
+
+  all : HandsAll plan (bare (map (numbered_seen seen) new)) swap
+  all = hands-all seen plan holds old new ts swap m serves remain
+
+  comes : (r : Result (List OpenedFile) Refusal) → placing_read seen old ts plan.setup ≡ r → ComesTo plan holds (sizes_of plan (bare (map (numbered_seen seen) new))) r
+  comes r read = subst (λ (xs : List (ℕ × ℕ)). ComesTo plan holds xs r) (sizes-handed plan (map (numbered_seen seen) new) (numbers-seen seen new ∙ numbers)) (comes-to seen plan holds old new ts r m same read)
+
+  pub stop-early : (how : PlaceStop) → PlaceStopped seen (placing_read seen old ts plan.setup) old new how
+      → HandsStopped plan (bare (map (numbered_seen seen) new)) swap (ending_of how) × StopCause plan holds count count (bare (map (numbered_seen seen) new)) swap (ending_of how)
+  stop-early stop.Memory stopped = (hands-front plan (bare (map (numbered_seen seen) new)) swap all, tt)
+  stop-early (stop.Rule n) stopped = (
+    all,
+    record {
+      told = λ told. opened-told seen plan holds old ts (Err (refusal.Rule n)) blocks m stopped.0 (subst (λ (ds : List (NumberedDisk D)). All Told (bare (map (numbered_seen seen) ds))) stopped.1 told.each);
+      line = comes (Err (refusal.Rule n)) stopped.0;
+      same = subst (λ (ds : List (NumberedDisk D)). AreUntouched plan holds (bare (map (numbered_seen seen) ds)) swap) (sym stopped.1) (mounted-given plan holds (map (numbered_seen seen) old) ts swap m blank);
+    },
+  )
+  stop-early (stop.Fault f) stopped = (
+    tt,
+    inr (record {
+      cause = fault-cause seen plan new swap f numbers stopped.0;
+      files = stopped.1.0;
+      handed = all;
+      given = comes (Ok stopped.1.0) stopped.1.1;
+      opened = λ told. opened-told seen plan holds old ts (Ok stopped.1.0) blocks m stopped.1.1 (told-before seen old new same told.each);
+    }),
+  )
 
 bare-seen : {D : Type 0} (seen : D → DiskSeen) (ds : List (NumberedDisk D)) → bare (map (numbered_seen seen) ds) ≡ map seen (map (λ (d : NumberedDisk D). d.disk) ds)
 bare-seen seen [] = refl
@@ -162,10 +183,10 @@ pub stops-early : {D : Type 0} (seen : D → DiskSeen) (plan : PlanSeen) (holds 
     (how : PlaceStop) (s : Stop D) → s.ending ≡ ending_of how → s.history.entries ≡ [] → s.history.faults ≡ []
     → s.disks.items ≡ map (λ (d : NumberedDisk D). d.disk) new → s.swap ≡ option_map (λ (d : NumberedDisk D). d.disk) swap
     → AllBlocks (map (numbered_seen seen) old) → AreMounted holds (disk_specs plan.setup) (map (numbered_seen seen) old) ts
-    → IsSwapFor (amounts_of plan.setup).slots (option_map (λ (d : NumberedDisk D). seen d.disk) swap) → RemainThere seen old new
-    → PlaceStopped seen (placing_read seen old ts plan.setup) old new how → StopsEarly plan holds count count seen s
-stops-early {D} seen plan holds old new ts swap count how s ends entries counts disks swaps blocks m serves remain stopped =
-    let r = stop-early seen plan holds old new ts (option_map (λ (d : NumberedDisk D). seen d.disk) swap) count how blocks m serves remain stopped in
+    → IsSwapFor (amounts_of plan.setup).slots (option_map (λ (d : NumberedDisk D). seen d.disk) swap) → IsSwapAsGiven (amounts_of plan.setup).slots (option_map (λ (d : NumberedDisk D). seen d.disk) swap)
+    → RemainThere seen old new → PlaceStopped seen (placing_read seen old ts plan.setup) old new how → StopsEarly plan holds count count seen s
+stops-early {D} seen plan holds old new ts swap count how s ends entries counts disks swaps blocks m serves blank remain stopped =
+    let r = stop-early seen plan holds old new ts (option_map (λ (d : NumberedDisk D). seen d.disk) swap) count blocks m serves blank remain how stopped in
     let same_disks : bare (map (numbered_seen seen) new) ≡ map seen s.disks.items = bare-seen seen new ∙ ap (map seen) (sym disks) in
     let same_swap : option_map (λ (d : NumberedDisk D). seen d.disk) swap ≡ option_map seen s.swap = swap-seen seen swap ∙ ap (option_map seen) (sym swaps) in
     record {

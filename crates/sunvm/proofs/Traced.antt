@@ -1,12 +1,11 @@
 -- Files that are placed, once their disks were read for the trace.
 use Rattle.std.proofs.Common.{◌≡◌, ℕ, zero, suc, ◌≤◌, ◌<◌, ◌==◌, ◌++◌, true, false, List, [], ◌∷◌, length, map, take, drop, append-nil, refl, sym, ap, ◌∙◌, subst, arith, inl, inr}
-use Rattle.std.specs.Prelude.{All, Bool, IfSome, IsSome, MatchOption, Err, Ok, Result, Option, Some, None, option_map, slice_get, slice_index_or, nat_le, zip, if◌then◌else◌, ◌⊎◌}
+use Rattle.std.specs.Prelude.{All, Bool, IfSome, IsSome, MatchOption, Err, Ok, Result, Option, Some, None, option_map, slice_get, slice_index_or, zip, if◌then◌else◌}
 use Rattle.std.specs.FinMap as finite
 use Rattle.std.specs.Map.{lookup}
 use Rattle.std.proofs.lemmas.Bool.{false≢true, ne_eqb}
 use Rattle.std.proofs.lemmas.List.{drop_all, length-map, take_all}
 use Rattle.std.proofs.lemmas.Option.{none-some, same_Some}
-use Rattle.block_device.specs.Counts.{HasRisen}
 use Rattle.block_device.specs.DiskSeen.{DiskSeen}
 use Rattle.block_device.specs.OpenSeen.{OpenFaultSeen}
 use Rattle.block_device.specs.StreamSeen.{SinkSeen}
@@ -17,7 +16,7 @@ use Rattle.vm_core.specs.Finish.{HistorySeen}
 use Rattle.vm_core.specs.Setup.{FilesOnDisks, ListsDisk}
 use Rattle.vm_script.specs.PlanSeen.{PlanSeen}
 use Rattle.vnode_files.specs.Files.{FilesSeen}
-use Rattle.vnode_files.specs.Vnode.{VnodeSeen, fresh_vnode}
+use Rattle.vnode_files.specs.Vnode.{VnodeSeen}
 use Rattle.vnode_files.specs.declared.vnode.FileInfo.{FileInfo}
 use Rattle.sunvm.specs.declared.ending.Ending.{Ending}
 use Rattle.sunvm.specs.declared.ending.Ending.TheVariants as ending
@@ -31,15 +30,13 @@ use Rattle.sunvm.specs.Asked.{Given, Asked, WasAsked}
 use Rattle.sunvm.specs.Attached.{ArePlaced, AttachedSeen, FileDisksTell, HasItsBytes, bare, numbered_seen}
 use Rattle.sunvm.specs.Closed.{StoreFiles, info_at}
 use Rattle.sunvm.specs.Course.{AreReadBytes, TraceStops, opening_stop}
-use Rattle.sunvm.specs.Handed.{End, HandsAll, HasOpeningCause, HasSpecSize, HaveSpecSizes, HaveTold, IsCountedBy, HandsFailed, HandsBelow, HandsUnracked, disk_handed, plan_disks, sizes_of, stop_end}
-use Rattle.sunvm.specs.Opened.{OpenedFile, opened_bytes_at, disk_specs, infos_of, numbered_plan, stored_bytes}
+use Rattle.sunvm.specs.Handed.{End, HandsAll, HasDiskCause, HasSpecSize, HaveSpecSizes, HaveTold, IsCountedBy, disk_handed, plan_disks, sizes_of, stop_end}
+use Rattle.sunvm.specs.Opened.{ComesTo, OpenedFile, opened_bytes_at, disk_specs, infos_of, numbered_plan, stored_bytes}
 use Rattle.sunvm.specs.Played.{infos_made}
-use Rattle.sunvm.specs.declared.ending.Refusal.{Refusal}
-use Rattle.sunvm.specs.declared.ending.Refusal.TheVariants as refusal
 use Rattle.sunvm.specs.Run.{AreOpenedBytes, CaseOf, DisksTell, IsOpened, Outside, opening_part, wrote_before}
 use Rattle.sunvm.specs.Texts.{IsPageUnread, Wrote, WroteFront, WrotePart, file_sections, sections_before, trace_front, trace_opening}
 use Rattle.sunvm.specs.Written.{AreFilesBytes, AreOnlyRead, HaveDisks, HaveFirstBlocks, FaultCounts, IsCountedSince, TraceShows, disk_sizes, open_fault_counts}
-use Rattle.sunvm.proofs.Courses.{spec-size}
+use Rattle.sunvm.proofs.Courses.{made-infos, spec-size}
 use Rattle.sunvm.proofs.Sinks.{whole_front}
 use Rattle.sunvm.proofs.FaultCauses.{if-counted}
 use Rattle.sunvm.proofs.DiskLists.{at-map, have-read, in-map, lookup-at, low-disks, mate, number, same-image, sizes-by, zip-back}
@@ -118,6 +115,7 @@ placed-read plan holds files a b made p r same = record {
   names = p.names;
   own = p.own;
   kept = p.kept;
+  given = subst (λ (xs : List (ℕ × ℕ)). ComesTo plan holds xs (Ok files)) (sym (pairs-read a.disks b.disks r)) p.given;
   told = λ rack tell. p.told rack (tell-read (infos_of files) a.disks b.disks r tell);
   stored = stored-read (infos_of files) (opened_bytes_at files) a.disks b.disks r p.stored;
 }
@@ -141,10 +139,6 @@ info-of-file : (files : List OpenedFile) (k : ℕ) (f : OpenedFile) → slice_ge
 info-of-file [] k f at = absurd (none-some f at)
 info-of-file (x ∷ files) zero f at = let e = ap (λ (y : OpenedFile). y.info) (same_Some x f at) in (e, omega arith, ap (λ (y : FileInfo). Some y) e)
 info-of-file (x ∷ files) (suc k) f at = let r = info-of-file files k f at in let lt = r.1 in (r.0, omega (arith, lt), r.2)
-
-made-infos : (infos : List FileInfo) → map (λ (v : VnodeSeen). v.info) (map fresh_vnode infos) ≡ infos
-made-infos [] = refl
-made-infos (i ∷ infos) = ap (λ (l : List FileInfo). i ∷ l) (made-infos infos)
 
 pub infos-placed : (plan : PlanSeen) (holds : Spec → Option (List (List ℕ))) (files : List OpenedFile) (a : AttachedSeen) (made : FilesSeen) → ArePlaced plan holds files a made
     → infos_made made ≡ infos_of files
@@ -227,9 +221,6 @@ opening-read what files bytes a new made holds p r =
 
 -- ---- a trace that stopped
 
-opened-well : (files : List OpenedFile) (r : Refusal) → ◌≡◌ {A = Result (List OpenedFile) Refusal} (Ok files) (Err r) → ⊥
-opened-well files r bad = cc bad
-
 module _ (st : ℕ) (ft : Option RunFault) (g : Given) (o : Outside) (what : Asked) (files : List OpenedFile) (bytes : ℕ → List ℕ) (asked : WasAsked g (Ok what)) (a : AttachedSeen)
     (made : FilesSeen) (p : ArePlaced what.plan g.holds files a made) (read : AreReadBytes files a.disks bytes) (new : List (ℕ × DiskSeen)) (r : AreOnlyRead a.disks new)
     (H : HistorySeen) (entries : H.entries ≡ []) (counts : H.faults ≡ []) (low : (i : ℕ) (d : ℕ × DiskSeen) → slice_get a.disks i ≡ Some d → d.0 < 8) where
@@ -247,17 +238,18 @@ module _ (st : ℕ) (ft : Option RunFault) (g : Given) (o : Outside) (what : Ask
   sizes = ap disk_sizes pairs ∙ pairs-read a.disks new r
 
   pub opened-so : IsOpened g what files stopped
-  opened-so = record { asked = asked; handed = hands-read what.plan a.disks new a.swap r p.handed; opened = λ t. p.told t.rack (tell t.disks) }
+  opened-so = record {
+    asked = asked;
+    handed = hands-read what.plan a.disks new a.swap r p.handed;
+    given = subst (λ (xs : List (ℕ × ℕ)). ComesTo what.plan g.holds xs (Ok files)) (sym sizes) p.given;
+    opened = λ t. p.told t.rack (tell t.disks);
+  }
 
   pub bytes-so : AreOpenedBytes g what files stopped bytes
   bytes-so = record { lengths = read.lengths; told = λ t. read.told (tell t.disks) }
 
   opening-text : trace_opening what.options (numbered_plan files what.plan) (disk_sizes a.disks) (infos_of files) bytes ≡ opening_part what files (bare new) bytes
   opening-text = opening-read what files bytes a new made g.holds p r
-
-  handed : (f : OpenFaultSeen) → IsCountedSince a.disks new (open_fault_counts f) → HandsFailed what.plan (bare new) a.swap f
-  handed f c = if-counted (HandsUnracked what.plan (bare new) a.swap f.disk) (λ x. HandsBelow what.plan (λ n. nat_le n f.disk) (bare new) a.swap ⊎ HandsAll what.plan (bare new) a.swap)
-      f.counts c.fault.risen (inr (hands-read what.plan a.disks new a.swap r p.handed))
 
   counted : (f : FaultCounts) → IsCountedSince a.disks new f → IsCountedBy what.plan (bare new) a.swap f.number f.before f.after
   counted f k =
@@ -275,8 +267,8 @@ module _ (st : ℕ) (ft : Option RunFault) (g : Given) (o : Outside) (what : Ask
       other : (m : ℕ) → m < 8 → (m == 8) ≡ false
       other m lt = ne_eqb m 8 (λ e. omega (arith, lt, e))
 
-  cause : (f : OpenFaultSeen) → IsCountedSince a.disks new (open_fault_counts f) → HasOpeningCause what.plan (bare new) a.swap o.rack_old o.rack_new f
-  cause f c = if-counted (HasRisen o.rack_old o.rack_new) (λ x. IsCountedBy what.plan (bare new) a.swap f.disk x.0 x.1) f.counts c.fault.risen (counted (open_fault_counts f) c)
+  cause : (f : OpenFaultSeen) → IsCountedSince a.disks new (open_fault_counts f) → HasDiskCause what.plan (bare new) a.swap f
+  cause f c = if-counted ⊥ (λ x. IsCountedBy what.plan (bare new) a.swap f.disk x.0 x.1) f.counts c.fault.risen (counted (open_fault_counts f) c)
 
   pub traced-stop : (how : Ending) → TraceStops what.options (numbered_plan files what.plan) files bytes o.sink_old o.sink_new a.disks new how → CaseOf g o (wrote_before o) stopped how
   traced-stop ending.Memory t = inr (inr (inl (record {
@@ -298,20 +290,16 @@ module _ (st : ℕ) (ft : Option RunFault) (g : Given) (o : Outside) (what : Ask
     cause = t.0;
     wrote = subst (WrotePart o.sink_old o.sink_new) opening-text t.1;
   }
-  traced-stop (ending.Opening f) t = record {
+  traced-stop (ending.Opening f) t = inr (record {
     what = what;
     files = files;
-    bytes = bytes;
     text = trace_front what.plan (sizes_of what.plan (bare new)) ++ sections_before Trace (infos_of files) bytes t.2.0 t.2.1;
-    asked = asked;
-    handed = handed f t.1;
+    opened = opened-so;
     history = record { entries = entries; counts = counts };
     cause = cause f t.1;
-    first = λ told n rule broken. absurd (opened-well files (refusal.Volume n rule) (sym (opened-so.opened told) ∙ broken));
-    read = bytes-so;
-    before = inr (opened-so, (t.2.0, t.2.1, t.0, t.2.2, refl));
+    before = inr (bytes, bytes-so, (t.2.0, t.2.1, t.0, t.2.2, refl));
     wrote = subst (λ (z : List (ℕ × ℕ)). Wrote o.sink_old o.sink_new (trace_front what.plan z ++ sections_before Trace (infos_of files) bytes t.2.0 t.2.1)) (sym sizes) t.2.3;
-  }
+  })
   traced-stop ending.Whole t = absurd t
   traced-stop ending.Usage t = absurd t
   traced-stop (ending.NoScript f) t = absurd t

@@ -1,7 +1,8 @@
 -- Disks that are attached, and files that are placed on them, before the processes run. Inside: no clause of `run` cites this.
-use Rattle.std.specs.Prelude.{ℕ, ◌≡◌, ◌≢◌, ◌<◌, ◌≤◌, List, [], ◌∷◌, length, map, All, Ok, Err, Some, None, IfSome, IsSome, Option, option_map, slice_get, vec_capacity}
+use Rattle.std.specs.Prelude.{ℕ, ◌≡◌, ◌≢◌, ◌<◌, ◌≤◌, ◌⊎◌, List, [], ◌∷◌, length, map, All, Ok, Err, Some, None, IfSome, IsSome, Option, option_map, slice_get, vec_capacity}
 use Rattle.std.specs.FinMap as finite
 use Rattle.block_device.specs.DiskSeen.{DiskSeen}
+use Rattle.block_device.specs.OpenSeen.{OpenFaultSeen}
 use Rattle.block_device.specs.RackSeen.{spec_number, IsAttached}
 use Rattle.block_device.specs.declared.numbered.NumberedDisk.{NumberedDisk}
 use Rattle.block_device.specs.declared.rack.Spec.{Spec}
@@ -19,9 +20,9 @@ use Rattle.sunvm.specs.declared.ending.Ending.{Ending}
 use Rattle.sunvm.specs.declared.ending.Ending.TheVariants as ending
 use Rattle.sunvm.specs.declared.ending.Stop.{Stop}
 use Rattle.sunvm.specs.Closed.{StoreFiles, info_at}
-use Rattle.sunvm.specs.Handed.{HaveTold, RackTells, HandsFront, HandsAll, HandsRefused, HandsFailed, HasOpeningCause, NoneBreaksBefore, IsSwapFor, disk_numbers}
+use Rattle.sunvm.specs.Handed.{HaveTold, RackTells, HandsFront, HandsAll, HandsRefused, HasDiskCause, HasOpeningCause, HasRefusalCause, IsSwapAsGiven, IsSwapFor, StopsAttaching, disk_numbers, sizes_of}
 use Rattle.sunvm.specs.Written.{LieWell, HaveDisks, HaveFirstBlocks}
-use Rattle.sunvm.specs.Opened.{OpenedFile, opened, infos_of, opened_bytes_at, table_on, disk_specs}
+use Rattle.sunvm.specs.Opened.{ComesTo, OpenedFile, opened, infos_of, opened_bytes_at, table_on, disk_specs}
 
 -- The disks with their numbers, in rising number; the table of each; and the swap disk.
 pub record AttachedSeen : Type 0 where
@@ -70,19 +71,28 @@ AreMounted holds specs disks tables = ⊥
 pub record AreAttached (plan : PlanSeen) (holds : Spec → Option (List (List ℕ))) (a : AttachedSeen) : Type 0 where
   pub mounted : AreMounted holds (disk_specs plan.setup) a.disks a.tables
   pub swap : IsSwapFor (amounts_of plan.setup).slots a.swap
+  pub blank : IsSwapAsGiven (amounts_of plan.setup).slots a.swap
+
+-- A disk failed as pages of files were written: no rule is broken.
+pub record StopsWriting (plan : PlanSeen) (holds : Spec → Option (List (List ℕ))) (disks : List DiskSeen) (swap : Option DiskSeen) (fault : OpenFaultSeen) : Type 0 where
+  pub cause : HasDiskCause plan disks swap fault
+  pub files : List OpenedFile
+  pub handed : HandsAll plan disks swap
+  pub given : ComesTo plan holds (sizes_of plan disks) (Ok files)
+  pub opened : HaveTold disks swap → opened plan holds ≡ Ok files
 
 -- A run that stops before its processes run: a rule is broken, a disk or the rack failed, or memory lacked; the disks so far are handed back.
 abbrev pub StopCause : PlanSeen → (Spec → Option (List (List ℕ))) → ℕ → ℕ → List DiskSeen → Option DiskSeen → Ending → Type 0
-StopCause plan holds rack_old rack_new disks swap (ending.Refused r) = HaveTold disks swap → opened plan holds ≡ Err r
+StopCause plan holds rack_old rack_new disks swap (ending.Refused r) = HasRefusalCause plan holds disks swap r
 StopCause plan holds rack_old rack_new disks swap (ending.Opening f) =
-    HasOpeningCause plan disks swap rack_old rack_new f × (HaveTold disks swap → NoneBreaksBefore plan holds f.disk)
+    (HasOpeningCause plan disks swap rack_old rack_new f × StopsAttaching plan holds disks swap f) ⊎ StopsWriting plan holds disks swap f
 StopCause plan holds rack_old rack_new disks swap ending.Memory = Unit {0}
 StopCause plan holds rack_old rack_new disks swap how = ⊥
 
--- What is handed back then.
+-- What is handed back then; where a disk or the rack failed, the cause says it.
 abbrev pub HandsStopped : PlanSeen → List DiskSeen → Option DiskSeen → Ending → Type 0
 HandsStopped plan disks swap (ending.Refused r) = HandsRefused plan disks swap r
-HandsStopped plan disks swap (ending.Opening f) = HandsFailed plan disks swap f
+HandsStopped plan disks swap (ending.Opening f) = Unit {0}
 HandsStopped plan disks swap how = HandsFront plan disks swap
 
 pub record StopsEarly {D : Type 0} (plan : PlanSeen) (holds : Spec → Option (List (List ℕ))) (rack_old rack_new : ℕ) (seen : D → DiskSeen) (s : Stop D) : Type 0 where
@@ -118,5 +128,6 @@ pub record ArePlaced (plan : PlanSeen) (holds : Spec → Option (List (List ℕ)
   pub names : HaveVolumeNames (infos_of files)
   pub own : All HasItsBytes files
   pub kept : All (λ f. 1 ≤ page_count f.info.extents) files
+  pub given : ComesTo plan holds (map (λ (d : ℕ × DiskSeen). (d.0, d.1.size)) a.disks) (Ok files)
   pub told : RackTells holds plan → FileDisksTell (infos_of files) a.disks → opened plan holds ≡ Ok files
   pub stored : StoreFiles a.disks (infos_of files) (opened_bytes_at files)

@@ -1,5 +1,5 @@
 -- The files as a run closes them: their records, the bytes that the disks have of them, and the tables. Public clauses cite this.
-use Rattle.std.specs.Prelude.{ℕ, ◌≡◌, ◌<◌, ◌==◌, List, [], ◌∷◌, length, map, filter, fold, Ok, IfSome, Some, slice_get, slice_index_or, false}
+use Rattle.std.specs.Prelude.{ℕ, Bool, ◌≡◌, ◌<◌, ◌==◌, List, [], ◌∷◌, length, map, filter, fold, Ok, IfSome, Some, slice_get, slice_index_or, false}
 use Rattle.block_device.specs.DiskSeen.{DiskSeen}
 use Rattle.flat_model.specs.Flat.{File}
 use Rattle.flat_model.specs.Parts.{file_bytes}
@@ -17,6 +17,13 @@ abbrev pub infos_in_flat : List (List ℕ) → List File → List FileInfo
 infos_in_flat [] files = []
 infos_in_flat (name ∷ names) [] = []
 infos_in_flat (name ∷ names) (file ∷ files) = info_in_flat name file ∷ infos_in_flat names files
+
+-- What no call changes of a file's record: its name, its disk and its mode.
+abbrev pub mode_in : FileInfo → List ℕ × ℕ × Bool
+mode_in info = (info.name, info.disk, info.writable)
+
+abbrev pub modes_in : List FileInfo → List (List ℕ × ℕ × Bool)
+modes_in infos = map mode_in infos
 
 -- The files of a disk, as its table has them: in the order of their first blocks.
 abbrev pub table_entries : ℕ → List FileInfo → List FileInfo

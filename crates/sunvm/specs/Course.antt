@@ -135,9 +135,10 @@ abbrev pub TablesEnd : Options → PlanSeen → List Entry → List FileInfo →
 TablesEnd o plan H infos k0 k1 old new how =
     ShowsClosed o plan H infos k0 k1 old new how ⊎ FailsTable o plan H k0 k1 old new how ⊎ LacksTable k0 k1 old new how
 
--- How a run ends that was closed, by whether all lines were made and by the transfer that failed, if one did.
+-- How a run ends that was closed, by whether all lines were made and by the transfer that failed, if one did; then no table is written.
 abbrev pub CloseEnds : Bool → Option DiskFault → Options → PlanSeen → List Entry → List FileInfo → SinkSeen → SinkSeen → List (ℕ × DiskSeen) → List (ℕ × DiskSeen) → Ending → Type 0
-CloseEnds false fault o plan H infos k0 k1 old new how = LacksTable k0 k1 old new how
+CloseEnds false (Some f) o plan H infos k0 k1 old new how = (new ≡ old) × LacksTable k0 k1 old new how
+CloseEnds false None o plan H infos k0 k1 old new how = LacksTable k0 k1 old new how
 CloseEnds true (Some f) o plan H infos k0 k1 old new how = (new ≡ old) × CloseFails o plan H f k0 k1 how
 CloseEnds true None o plan H infos k0 k1 old new how = TablesEnd o plan H infos k0 k1 old new how
 

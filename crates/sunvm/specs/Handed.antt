@@ -7,7 +7,7 @@ use Rattle.vm_types.specs.declared.call.Reply.TheVariants.{Io}
 use Rattle.block_device.specs.Counts.{HasRisen}
 use Rattle.block_device.specs.DiskSeen.{DiskSeen}
 use Rattle.block_device.specs.OpenSeen.{OpenFaultSeen}
-use Rattle.block_device.specs.RackSeen.{spec_number}
+use Rattle.block_device.specs.RackSeen.{IsAttached, spec_number}
 use Rattle.block_device.specs.declared.disk_fault.DiskFault.{DiskFault}
 use Rattle.block_device.specs.declared.rack.Spec.{Spec}
 use Rattle.block_device.specs.declared.rack.Spec.TheVariants as spec
@@ -19,7 +19,7 @@ use Rattle.sunvm.specs.declared.ending.Refusal.{Refusal}
 use Rattle.sunvm.specs.declared.ending.Refusal.TheVariants as refusal
 use Rattle.sunvm.specs.declared.outcome.RunFault.{RunFault}
 use Rattle.sunvm.specs.declared.outcome.Outcome.{Outcome}
-use Rattle.sunvm.specs.Opened.{disk_specs, opened}
+use Rattle.sunvm.specs.Opened.{ComesTo, disk_specs, opened}
 
 -- A run that ended: its status and fault, the history, the disks in rising number, and the swap disk.
 pub record End : Type 0 where
@@ -106,20 +106,49 @@ abbrev pub HandsRefused : PlanSeen → List DiskSeen → Option DiskSeen → Ref
 HandsRefused plan disks swap (refusal.Volume number rule) = HandsBelow plan (λ n. nat_le n number) disks swap
 HandsRefused plan disks swap (refusal.Rule n) = HandsAll plan disks swap
 
--- What is handed back where the rack or a disk fails before the processes run. The rack attaches the swap disk, number 8, first, where there are slots,
--- and then the plan's disks in rising number, each of which is read before the next one is attached; then all are read and written.
+-- What is handed back where the rack fails, or a disk's block 0 isn't read. The rack attaches the swap disk, number 8, first, where there are slots, and
+-- then the plan's disks in rising number, each of which is read before the next one is attached.
 abbrev pub HandsUnracked : PlanSeen → List DiskSeen → Option DiskSeen → ℕ → Type 0
 HandsUnracked plan disks swap number =
     MatchBool (number == 8) ((0 < (amounts_of plan.setup).slots) × HandsNone disks swap)
     (Contains (disk_numbers plan) number × HandsBelow plan (λ n. nat_lt n number) disks swap)
 
-abbrev pub HandsFailed : PlanSeen → List DiskSeen → Option DiskSeen → OpenFaultSeen → Type 0
-HandsFailed plan disks swap fault =
-    MatchOption fault.counts (HandsUnracked plan disks swap fault.disk) (λ counts. HandsBelow plan (λ n. nat_le n fault.disk) disks swap ⊎ HandsAll plan disks swap)
+abbrev pub HandsUnread : PlanSeen → List DiskSeen → Option DiskSeen → OpenFaultSeen → Type 0
+HandsUnread plan disks swap fault =
+    MatchOption fault.counts (HandsUnracked plan disks swap fault.disk) (λ counts. HandsBelow plan (λ n. nat_le n fault.disk) disks swap)
+
+-- Nothing was written: each of these disks is as the rack gave it, and so is the swap disk. A blank disk has its blocks, zeros where it tells, and one by
+-- path has what the rack holds for it.
+abbrev pub AreAsGiven : (Spec → Option (List (List ℕ))) → List Spec → List DiskSeen → Type 0
+AreAsGiven holds specs disks = (i : ℕ) (s : Spec) (d : DiskSeen) → slice_get specs i ≡ Some s → slice_get disks i ≡ Some d → IsAttached s (holds s) d
+
+abbrev pub IsSwapAsGiven : ℕ → Option DiskSeen → Type 0
+IsSwapAsGiven slots swap = IfSome swap (λ d. IsAttached (spec.Blank 8 slots) None d)
+
+pub record AreUntouched (plan : PlanSeen) (holds : Spec → Option (List (List ℕ))) (disks : List DiskSeen) (swap : Option DiskSeen) : Type 0 where
+  pub each : AreAsGiven holds (disk_specs plan.setup) disks
+  pub last : IsSwapAsGiven (amounts_of plan.setup).slots swap
 
 -- No disk that was read before this one breaks a rule of volumes. The swap disk, number 8, is attached before all others.
 abbrev pub NoneBreaksBefore : PlanSeen → (Spec → Option (List (List ℕ))) → ℕ → Type 0
 NoneBreaksBefore plan holds disk = (number rule : ℕ) → opened plan holds ≡ Err (refusal.Volume number rule) → (disk ≡ 8) ⊎ (disk ≤ number)
+
+-- Why a rule that the disks or the lines of files break is told: where each disk that came back tells, it is the first that is broken; that of a line is
+-- so over any disks. Nothing was written.
+abbrev pub BreaksLine : PlanSeen → (Spec → Option (List (List ℕ))) → List DiskSeen → Refusal → Type 0
+BreaksLine plan holds disks (refusal.Volume number rule) = Unit {0}
+BreaksLine plan holds disks (refusal.Rule n) = ComesTo plan holds (sizes_of plan disks) (Err (refusal.Rule n))
+
+pub record HasRefusalCause (plan : PlanSeen) (holds : Spec → Option (List (List ℕ))) (disks : List DiskSeen) (swap : Option DiskSeen) (r : Refusal) : Type 0 where
+  pub told : HaveTold disks swap → opened plan holds ≡ Err r
+  pub line : BreaksLine plan holds disks r
+  pub same : AreUntouched plan holds disks swap
+
+-- The rack failed, or a disk's block 0 wasn't read: nothing was written, and where each disk that came back tells, none that was read before breaks a rule.
+pub record StopsAttaching (plan : PlanSeen) (holds : Spec → Option (List (List ℕ))) (disks : List DiskSeen) (swap : Option DiskSeen) (fault : OpenFaultSeen) : Type 0 where
+  pub handed : HandsUnread plan disks swap fault
+  pub first : HaveTold disks swap → NoneBreaksBefore plan holds fault.disk
+  pub same : AreUntouched plan holds disks swap
 
 -- The counts are those of the disk of this number before and after its last transfer: its count rose in it, and the disk comes back with the later one.
 pub record IsCountedBy (plan : PlanSeen) (disks : List DiskSeen) (swap : Option DiskSeen) (number before after : ℕ) : Type 0 where
@@ -131,6 +160,10 @@ pub record IsCountedBy (plan : PlanSeen) (disks : List DiskSeen) (swap : Option 
 -- The cause of a fault before the processes ran: the rack counted it in this call, or the disk.
 abbrev pub HasOpeningCause : PlanSeen → List DiskSeen → Option DiskSeen → ℕ → ℕ → OpenFaultSeen → Type 0
 HasOpeningCause plan disks swap old new fault = MatchOption fault.counts (HasRisen old new) (λ counts. IsCountedBy plan disks swap fault.disk counts.0 counts.1)
+
+-- The cause of a fault once the files had their places: the disk counted it.
+abbrev pub HasDiskCause : PlanSeen → List DiskSeen → Option DiskSeen → OpenFaultSeen → Type 0
+HasDiskCause plan disks swap fault = MatchOption fault.counts ⊥ (λ counts. IsCountedBy plan disks swap fault.disk counts.0 counts.1)
 
 -- The cause of a fault after the processes ran: the disk counted it, and not before its count stood as the history tells.
 pub record HasLateCause (plan : PlanSeen) (history : HistorySeen) (disks : List DiskSeen) (swap : Option DiskSeen) (fault : DiskFault) : Type 0 where

@@ -1,5 +1,5 @@
 -- The files as the processes find them, or the set-up rule that keeps them from being opened. Public clauses cite this.
-use Rattle.std.specs.Prelude.{ℕ, ◌==◌, ◌+◌, ◌-◌, ◌&&◌, not, nat_le, nat_lt, Bool, List, [], ◌∷◌, ◌++◌, length, take, map, filter, filter_map, replicate, slice_index_or, unwrap_or, Option, Some, None, option_map, option_and_then, Result, Ok, Err, if◌then◌else◌}
+use Rattle.std.specs.Prelude.{ℕ, ◌==◌, ◌+◌, ◌-◌, ◌&&◌, not, nat_le, nat_lt, Bool, List, [], ◌∷◌, ◌++◌, length, take, map, filter, filter_map, replicate, slice_index_or, unwrap_or, Option, Some, None, option_map, option_and_then, IfSome, Result, Ok, Err, if◌then◌else◌, ◌≡◌, ◌≤◌}
 use Rattle.std.specs.List.{concat, find, flat_map, list_all, list_any, range_with_len}
 use Rattle.std.specs.FinMap as finite
 use Rattle.std.specs.Map.{lookup}
@@ -18,6 +18,7 @@ use Rattle.vnode_files.specs.Vnode.{page_blocks}
 use Rattle.volume_format.specs.declared.rules.BadVolume.{BadVolume}
 use Rattle.volume_format.specs.Rules.{reading}
 use Rattle.volume_format.specs.Table.{TableSeen}
+use Rattle.volume_format.specs.Volume.{IsVolumeTable}
 use Rattle.vm_script.specs.declared.plan.SetupAct.{SetupAct}
 use Rattle.vm_script.specs.declared.plan.SetupAct.TheVariants as given
 use Rattle.vm_script.specs.declared.plan.SetupLine.{SetupLine}
@@ -149,6 +150,45 @@ opened_on disks setup = with_line_files (size_held disks) (if_few (mounted disks
 -- THE FILES AS THEY ARE OPENED: those of the disks and then those of the script's lines; or the first set-up rule that is broken.
 abbrev pub opened : PlanSeen → (Spec → Option (List (List ℕ))) → Result (List OpenedFile) Refusal
 opened plan holds = opened_on (disks_held holds (disk_specs plan.setup)) plan.setup
+
+-- The records of the files that tables have, on the disks of these numbers.
+abbrev pub mounted_infos : List ℕ → List TableSeen → List FileInfo
+mounted_infos [] tables = []
+mounted_infos (n ∷ numbers) [] = []
+mounted_infos (n ∷ numbers) (t ∷ tables) = map (info_on n) t.entries ++ mounted_infos numbers tables
+
+-- How many blocks the disk of a number has, of disks with these numbers and sizes.
+abbrev pub size_among : List (ℕ × ℕ) → ℕ → ℕ
+size_among sizes number = unwrap_or (lookup (λ n. n == number) sizes) 0
+
+-- Where the rack tells what it holds for a disk by path, block 0 of that says this table.
+abbrev pub RackSays : (Spec → Option (List (List ℕ))) → Spec → TableSeen → Type 0
+RackSays holds (spec.Blank number blocks) table = Unit {0}
+RackSays holds (spec.Path number path) table = IfSome (holds (spec.Path number path)) (λ blocks. table_on blocks ≡ Ok table)
+
+-- The table that was read of the disk of a spec, of this number and size, as it was attached.
+pub record IsTableRead (holds : Spec → Option (List (List ℕ))) (s : Spec) (disk : ℕ × ℕ) (table : TableSeen) : Type 0 where
+  pub number : disk.0 ≡ spec_number s
+  pub some : 2 ≤ disk.1
+  pub few : disk.1 ≤ 16384
+  pub blocks : table.blocks ≡ disk.1
+  pub volume : IsVolumeTable table
+  pub told : RackSays holds s table
+
+-- So is each of these tables, of the disk at its place.
+abbrev pub AreTablesRead : (Spec → Option (List (List ℕ))) → List Spec → List (ℕ × ℕ) → List TableSeen → Type 0
+AreTablesRead holds [] [] [] = Unit {0}
+AreTablesRead holds (s ∷ specs) (d ∷ disks) (t ∷ tables) = IsTableRead holds s d t × AreTablesRead holds specs disks tables
+AreTablesRead holds specs disks tables = ⊥
+
+-- THE FILES OVER ANY DISKS, whether they tell or not: those of the tables that were read, and then those of the script's lines; or the rule from 10 to
+-- 12 that is broken. What hangs on telling is which tables these are, and the bytes of their files.
+pub record ComesTo (plan : PlanSeen) (holds : Spec → Option (List (List ℕ))) (sizes : List (ℕ × ℕ)) (files : Result (List OpenedFile) Refusal) : Type 0 where
+  pub tables : List TableSeen
+  pub found : List OpenedFile
+  pub read : AreTablesRead holds (disk_specs plan.setup) sizes tables
+  pub mounted : infos_of found ≡ mounted_infos (map (λ (d : ℕ × ℕ). d.0) sizes) tables
+  pub lines : with_line_files (size_among sizes) (if_few (Ok found)) plan.setup ≡ files
 
 -- The plan with the numbers of the files of its names.
 abbrev pub numbered_plan : List OpenedFile → PlanSeen → PlanSeen

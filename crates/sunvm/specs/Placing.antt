@@ -46,12 +46,6 @@ attached_numbers disks = map (λ d. d.number) disks
 abbrev pub sizes_by_number : {D : Type 0} → (D → DiskSeen) → List (NumberedDisk D) → List (ℕ × ℕ)
 sizes_by_number seen disks = map (λ (d : NumberedDisk _). (d.number, (seen d.disk).size)) disks
 
--- The records of the files that tables have, on the disks of these numbers.
-abbrev pub mounted_infos : List ℕ → List TableSeen → List FileInfo
-mounted_infos [] tables = []
-mounted_infos (n ∷ numbers) [] = []
-mounted_infos (n ∷ numbers) (t ∷ tables) = map (info_on n) t.entries ++ mounted_infos numbers tables
-
 abbrev pub table_at : List TableSeen → ℕ → TableSeen
 table_at tables i = slice_index_or tables i (empty_table 0)
 
@@ -213,11 +207,11 @@ pub record PlacesFiles {D : Type 0} (seen : D → DiskSeen) (setup : List SetupL
   pub disks : files.disks ≡ finite.from_entries (sizes_by_number seen old)
   pub wrote : WroteEach seen (line_files files (length (found_files (map (numbered_seen seen) old) tables)) setup) old new
 
--- Why placing stopped: a broken rule before anything was written, or the fault of a disk.
+-- Why placing stopped: a broken rule before anything was written, or the fault of a disk, which breaks no rule.
 abbrev pub PlaceStopped : {D : Type 0} → (D → DiskSeen) → Result (List OpenedFile) Refusal → List (NumberedDisk D) → List (NumberedDisk D) → PlaceStop → Type 0
 PlaceStopped seen read old new stop.Memory = Unit {0}
 PlaceStopped seen read old new (stop.Rule n) = (read ≡ Err (refusal.Rule n)) × (new ≡ old)
-PlaceStopped seen read old new (stop.Fault f) = IsFaultThere seen new f
+PlaceStopped seen read old new (stop.Fault f) = IsFaultThere seen new f × ((files : List OpenedFile) × (read ≡ Ok files))
 
 abbrev pub ending_of : PlaceStop → Ending
 ending_of stop.Memory = ending.Memory

@@ -21,10 +21,10 @@ use Rattle.sunvm.specs.declared.outcome.RunFault.{RunFault}
 use Rattle.sunvm.specs.declared.outcome.RunFault.TheVariants as fault
 use Rattle.sunvm.specs.declared.showing.Heading.TheVariants.{Report, Trace}
 use Rattle.sunvm.specs.Asked.{Given, Asked, FailsToRead, WasAsked, asked}
-use Rattle.sunvm.specs.Closed.{StoreFiles, SayTables, infos_in_flat, flat_bytes}
+use Rattle.sunvm.specs.Closed.{StoreFiles, SayTables, infos_in_flat, flat_bytes, modes_in}
 use Rattle.sunvm.specs.Ending.{status_of, fault_of, last_line_of}
-use Rattle.sunvm.specs.Handed.{End, HaveTold, RackTells, HandsNone, HandsFront, HandsAll, HandsRefused, HandsFailed, HasOpeningCause, HasLateCause, NoneBreaksBefore, CountsReach, plan_disks, sizes_of, handed_count}
-use Rattle.sunvm.specs.Opened.{OpenedFile, opened, infos_of, names_of, numbered_plan, opening_flat}
+use Rattle.sunvm.specs.Handed.{End, HaveTold, RackTells, HandsNone, HandsFront, HandsAll, HandsRefused, HasDiskCause, HasOpeningCause, HasLateCause, HasRefusalCause, StopsAttaching, CountsReach, plan_disks, sizes_of, handed_count}
+use Rattle.sunvm.specs.Opened.{ComesTo, OpenedFile, opened, infos_of, names_of, numbered_plan, opening_flat}
 use Rattle.sunvm.specs.Texts.{Wrote, WroteAndFront, WroteAndPart, WroteFront, WroteOn, WrotePart, IsPageUnread, file_sections, files_or_none, middle_text, sections_before, trace_front, trace_opening}
 
 -- What the outside has seen of a run: the counts of faults of source and rack before and after it, how many disks the rack had attached, and the sink.
@@ -77,13 +77,13 @@ pub record EndsBare (W : Writing) (how : Ending) (e : End) : Type 0 where
   pub history : HasNoHistory e
   pub wrote : W [] (last_line_of how)
 
--- A disk, or the lines of the files, break a set-up rule.
+-- A disk, or the lines of the files, break a set-up rule; no disk was written.
 pub record BreaksRule (g : Given) (W : Writing) (r : Refusal) (e : End) : Type 0 where
   pub what : Asked
   pub asked : WasAsked g (Ok what)
   pub handed : HandsRefused what.plan e.disks e.swap r
   pub history : HasNoHistory e
-  pub opened : HaveTold e.disks e.swap → opened what.plan g.holds ≡ Err r
+  pub cause : HasRefusalCause what.plan g.holds e.disks e.swap r
   pub wrote : W [] (last_line_of (ending.Refused r))
 
 -- The bytes of files that were read from the disks, each as long as its record says; where the disks tell, those of the files as they are opened.
@@ -91,36 +91,48 @@ pub record AreOpenedBytes (g : Given) (what : Asked) (files : List OpenedFile) (
   pub lengths : (k : ℕ) (f : OpenedFile) → slice_get files k ≡ Some f → length (bytes k) ≡ f.info.length
   pub told : DisksTell g what e → (k : ℕ) (f : OpenedFile) → slice_get files k ≡ Some f → bytes k ≡ f.bytes
 
--- What was asked and how the files were opened, whether they tell or not; where they tell, by the set-up rules.
+-- What was asked, and how the files were opened. Over any disks they are those of the tables that were read and then those of the script's lines, and no
+-- set-up rule is broken; where the disks tell, they are the very files by the set-up rules.
 pub record IsOpened (g : Given) (what : Asked) (files : List OpenedFile) (e : End) : Type 0 where
   pub asked : WasAsked g (Ok what)
   pub handed : HandsAll what.plan e.disks e.swap
+  pub given : ComesTo what.plan g.holds (sizes_of what.plan e.disks) (Ok files)
   pub opened : DisksTell g what e → opened what.plan g.holds ≡ Ok files
 
--- What was printed before a fault of this disk that came before the processes ran: nothing, or, where the files were opened, a trace up to the place of
--- a page that wasn't read from it.
+-- What was printed before a fault of this disk that came once the files had their places: nothing, or a trace up to the place of a page that wasn't read
+-- from it.
 abbrev pub IsTraceText : Asked → List OpenedFile → List DiskSeen → ℕ → (ℕ → List ℕ) → List ℕ → Type 0
 IsTraceText what files disks disk bytes text =
     (file : ℕ) × (page : ℕ) × (what.options.trace ≡ true) × IsPageUnread (infos_of files) file page disk
     × (text ≡ trace_front what.plan (sizes_of what.plan disks) ++ sections_before Trace (infos_of files) bytes file page)
 
-abbrev pub IsOpeningText : Given → Asked → List OpenedFile → End → ℕ → (ℕ → List ℕ) → List ℕ → Type 0
-IsOpeningText g what files e disk bytes text = (text ≡ []) ⊎ (IsOpened g what files e × IsTraceText what files e.disks disk bytes text)
+abbrev pub IsOpeningText : Given → Asked → List OpenedFile → End → ℕ → List ℕ → Type 0
+IsOpeningText g what files e disk text =
+    (text ≡ []) ⊎ ((bytes : ℕ → List ℕ) × AreOpenedBytes g what files e bytes × IsTraceText what files e.disks disk bytes text)
 
--- A disk or the rack failed before the processes ran.
-pub record FailsToOpen (g : Given) (o : Outside) (W : Writing) (fault : OpenFaultSeen) (e : End) : Type 0 where
+-- The rack failed, or a disk as its table was read; no disk was written.
+pub record FailsToAttach (g : Given) (o : Outside) (W : Writing) (fault : OpenFaultSeen) (e : End) : Type 0 where
   pub what : Asked
-  pub files : List OpenedFile
-  pub bytes : ℕ → List ℕ
-  pub text : List ℕ
   pub asked : WasAsked g (Ok what)
-  pub handed : HandsFailed what.plan e.disks e.swap fault
   pub history : HasNoHistory e
   pub cause : HasOpeningCause what.plan e.disks e.swap o.rack_old o.rack_new fault
-  pub first : DisksTell g what e → NoneBreaksBefore what.plan g.holds fault.disk
-  pub read : AreOpenedBytes g what files e bytes
-  pub before : IsOpeningText g what files e fault.disk bytes text
+  pub stopped : StopsAttaching what.plan g.holds e.disks e.swap fault
+  pub wrote : W [] (last_line_of (ending.Opening fault))
+
+-- A disk failed as pages of files were written to it, or read from it for the trace. No set-up rule is broken.
+pub record FailsToPlace (g : Given) (W : Writing) (fault : OpenFaultSeen) (e : End) : Type 0 where
+  pub what : Asked
+  pub files : List OpenedFile
+  pub text : List ℕ
+  pub opened : IsOpened g what files e
+  pub history : HasNoHistory e
+  pub cause : HasDiskCause what.plan e.disks e.swap fault
+  pub before : IsOpeningText g what files e fault.disk text
   pub wrote : W text (last_line_of (ending.Opening fault))
+
+-- A disk or the rack failed before the processes ran.
+abbrev pub FailsToOpen : Given → Outside → Writing → OpenFaultSeen → End → Type 0
+FailsToOpen g o W fault e = FailsToAttach g o W fault e ⊎ FailsToPlace g W fault e
 
 -- The opening part of the trace.
 abbrev pub opening_part : Asked → List OpenedFile → List DiskSeen → (ℕ → List ℕ) → List ℕ
@@ -154,11 +166,16 @@ pub record Begun (g : Given) (what : Asked) (files : List OpenedFile) (bytes : �
   pub counted : Counted e.history.entries
   pub reached : CountsReach what.plan e.disks e.swap e.history.entries
 
--- ITS FILES WERE CLOSED: where the disks tell, their records are those of flat memory after the history, and so are the bytes that the disks have;
--- and block 0 of each disk says the table of its files.
-pub record ClosesFiles (g : Given) (what : Asked) (files : List OpenedFile) (infos : List FileInfo) (e : End) : Type 0 where
+-- The disks have its files: those with which it began, by name, disk and mode; where the disks tell, their records are those of flat memory after the
+-- history, and so are the bytes that the disks have.
+pub record LeavesFiles (g : Given) (what : Asked) (files : List OpenedFile) (infos : List FileInfo) (e : End) : Type 0 where
+  pub modes : modes_in infos ≡ modes_in (infos_of files)
   pub records : DisksTell g what e → infos ≡ infos_in_flat (names_of files) (flat_closed what files e.disks e.history.entries).files
   pub stored : DisksTell g what e → StoreFiles (plan_disks what.plan e.disks) infos (flat_bytes (flat_closed what files e.disks e.history.entries).files)
+
+-- ITS FILES WERE CLOSED: the disks have them, and block 0 of each disk says the table of its files.
+pub record ClosesFiles (g : Given) (what : Asked) (files : List OpenedFile) (infos : List FileInfo) (e : End) : Type 0 where
+  pub left : LeavesFiles g what files infos e
   pub tables : SayTables (plan_disks what.plan e.disks) infos
 
 -- The bytes of the files that were read back, each as long as its record says; where the disks tell, those of flat memory after the history.
@@ -251,12 +268,14 @@ pub record LacksInTrace (g : Given) (o : Outside) (e : End) : Type 0 where
   pub read : AreOpenedBytes g what files e bytes
   pub wrote : WroteFront o.sink_old o.sink_new (opening_part what files e.disks bytes)
 
--- Memory lacked as they ran or later: each process did a front of its lines, and the opening part was written whole; behind it a front of the report,
--- but only where each process did all its lines, and the files were closed and read back.
+-- Memory lacked as they ran or later: each process did a front of its lines, and the kernel was closed all the same: the disks have the files as the
+-- history leaves them, or one of them failed since. The opening part was written whole; behind it a front of the report, but only where each process did
+-- all its lines, and the files were closed and read back.
 pub record LacksLate (g : Given) (o : Outside) (e : End) : Type 0 where
   pub course : Course
   pub begun : Begun g course.what course.files course.bytes e
   pub told : ToldFront (plan_opened course.what course.files) e.history.entries
+  pub left : LeavesFiles g course.what course.files course.infos e ⊎ ((fault : DiskFault) × HasLateCause course.what.plan e.history e.disks e.swap fault)
   pub wrote : Wrote o.sink_old o.sink_new (opening_of course e) ⊎ (WasShown g course e × WroteAndFront o.sink_old o.sink_new (opening_of course e) (report_of course e))
 
 abbrev pub Lacks : Given → Outside → End → Type 0

@@ -2,7 +2,7 @@
 ghost use Rattle.std.specs.Prelude.{◌≡◌, ◌≤◌, ◌<◌, ◌+◌, [], map, option_map, length, None, IfOk, IfErr, OnErr, vec_capacity};
 ghost use Rattle.vm_script.specs.Rules.{amounts_of, broken_rule};
 ghost use Rattle.sunvm.specs.Attached.{AreAttached, HasRooms, StopsEarly, attached_seen};
-ghost use Rattle.sunvm.specs.Handed.{IsSwapFor, handed_count, swap_count};
+ghost use Rattle.sunvm.specs.Handed.{IsSwapAsGiven, IsSwapFor, handed_count, swap_count};
 ghost use Rattle.sunvm.specs.Mounting.{HoldSame, UngivenCause};
 
 use crate::ending::{Ending, Stop};
@@ -47,6 +47,8 @@ fn take_rooms<D: Disk>(alloc: Global) -> Result<Attached<D>, AllocError>
 // Attaches the swap disk, with a block for each slot, where there are slots.
 fn attach_swap<R: Rack>(slots: u32, rack: &mut R) -> Result<Option<Unopened<R::D>>, Ending>
     ensures ok { IfOk result (λ swap. IsSwapFor slots (option_map (λ d. R.D.seen d.disk) swap)) }
+    ensures blank { IfOk result (λ swap.
+        IsSwapAsGiven slots (option_map (λ d. R.D.seen d.disk) swap)) }
     ensures err { IfErr result (UngivenCause 8 (R.seen rack.old).faults (R.seen rack.new).faults) }
     ensures slots { IfErr result (λ _. 0 < slots) }
     // The rack counts the disk.

@@ -1,8 +1,8 @@
 //! The files of the disks' tables.
 ghost use Rattle.std.specs.Prelude.{◌≡◌, ◌<◌, ◌+◌, ◌++◌, [], All, IfOk, IfErr, OnOk, IsSome, length, map};
 ghost use Rattle.std.specs.FinMap as finite;
-ghost use Rattle.sunvm.specs.Opened.{info_on};
-ghost use Rattle.sunvm.specs.Placing.{AreSet, HaveAddable, IsAddable, IsTooMany, mounted_infos, attached_numbers, sizes_by_number, with_infos};
+ghost use Rattle.sunvm.specs.Opened.{info_on, mounted_infos};
+ghost use Rattle.sunvm.specs.Placing.{AreSet, HaveAddable, IsAddable, IsTooMany, attached_numbers, sizes_by_number, with_infos};
 
 use block_device::{Disk, OpenFault, Unopened};
 use std::alloc::{AllocError, AllocFailed, Global};

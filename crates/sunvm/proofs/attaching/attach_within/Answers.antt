@@ -6,7 +6,7 @@ use Rattle.vm_script.specs.declared.rules.Amounts.{Amounts}
 use Rattle.vm_script.specs.Rules.{amounts_of}
 use Rattle.sunvm.specs.declared.ending.Ending.{Ending}
 use Rattle.sunvm.specs.Attached.{numbered_seen}
-use Rattle.sunvm.specs.Handed.{IsSwapFor}
+use Rattle.sunvm.specs.Handed.{IsSwapAsGiven, IsSwapFor}
 use Rattle.sunvm.specs.Mounting.{Halts}
 use Rattle.sunvm.proofs.MountEnds.{stopped_later, early}
 use Rattle.sunvm.proofs.attaching.attach_within.Goals as goal
@@ -31,6 +31,10 @@ returns-in-Err-mount_all-clause-err g c =
     subst (λ (r : Result (Option (NumberedDisk g.row.R-D.Denot)) Ending). IfOk r (λ o. IsSwapFor c.amounts_of.result.slots (option_map (λ (d : NumberedDisk g.row.R-D.Denot). seen d.disk) o)))
     c.in-Ok.is c.attach_swap.ensures.ok in
     let swaps : IsSwapFor (amounts_of plan.setup).slots swap = subst (λ n. IsSwapFor n swap) slots given in
+    let made : IsSwapAsGiven c.amounts_of.result.slots swap =
+    subst (λ (r : Result (Option (NumberedDisk g.row.R-D.Denot)) Ending). IfOk r (λ o. IsSwapAsGiven c.amounts_of.result.slots (option_map (λ (d : NumberedDisk g.row.R-D.Denot). seen d.disk) o)))
+    c.in-Ok.is c.attach_swap.ensures.blank in
+    let blank : IsSwapAsGiven (amounts_of plan.setup).slots swap = subst (λ n. IsSwapAsGiven n swap) slots made in
     let e = c.stop-in-Err-mount_all.ensures in
     early seen plan first.holds first.faults new.faults c.stop-in-Err-mount_all.result c.mount_all.new.disks.items c.in-Ok.swap how e.ending e.entries e.counts e.disks e.swap
-    (stopped_later plan first.holds first.faults mid.faults new.faults swap disks how c.attach_swap.ensures.later swaps halts)
+    (stopped_later plan first.holds first.faults mid.faults new.faults swap disks how c.attach_swap.ensures.later swaps blank halts)

@@ -7,7 +7,7 @@ use Rattle.sunvm.proofs.ending_files.close.Goals as goal
 
 pub returns-then-is_some-clause-ends : goal.returns-then-is_some-clause-ends
 returns-then-is_some-clause-ends g c =
-    lacks-closed c.args.is_whole _ _ _ _ _ _ _ _ _ _ (search rules)
+    lacks-closed c.args.is_whole _ _ _ _ _ _ _ _ _ _ (search rules) (λ some. refl)
     (record {
       memory = refl;
       writes = writes-refl (pairs_seen g.D.Disk.seen c.args.finished.now.disks.items);

@@ -7,10 +7,10 @@ use Rattle.std.proofs.lemmas.Result.{err_from_is_err_and}
 use Rattle.vnode_files.specs.Files.{FilesSeen, block_count}
 use Rattle.sunvm.specs.declared.ending.Refusal.{Refusal}
 use Rattle.sunvm.specs.Attached.{numbered_seen}
-use Rattle.sunvm.specs.Opened.{OpenedFile, with_line_files}
-use Rattle.sunvm.specs.Placing.{HasOpened, LieRight, Stopped, WroteEach, attached_numbers, found_files, line_files, mounted_infos, sizes_by_number}
+use Rattle.sunvm.specs.Opened.{OpenedFile, with_line_files, mounted_infos}
+use Rattle.sunvm.specs.Placing.{Gave, HasOpened, LieRight, Stopped, WroteEach, attached_numbers, found_files, line_files, sizes_by_number}
 use Rattle.sunvm.proofs.FileLineLemmas.{length-made}
-use Rattle.sunvm.proofs.PlaceLemmas.{mounted-opened, length-found, few-taken, stop-mounting, stop-lines, mounted-lies, lines-given}
+use Rattle.sunvm.proofs.PlaceLemmas.{mounted-opened, length-found, few-taken, stop-mounting, stop-lines, mounted-lies, lines-given, stop-writing}
 use Rattle.sunvm.proofs.PlacedLemmas.{mounted-volumes, mounted-addable}
 use Rattle.sunvm.proofs.placing.place_files.Goals as goal
 
@@ -71,6 +71,22 @@ write_lines-requires-clause-places g c =
     let opened = mounted-opened seen c.args.disks.now c.args.tables.now none c.in_ok-files.files refl c.in_ok-files.ensures.ok in
     (lines-given seen m.0 m.1 c.args.disks.now c.args.tables.now c.args.setup.now c.in_ok-files.files c.add_lines.new.files c.count-first.result m.2 c.requires.distinct c.requires.placeable
     c.in_ok-files.ensures.ok c.count-first.ensures.count c.count-first.ensures.few (c.in_ok-add_lines.ensures.placed (found_files (map (numbered_seen seen) c.args.disks.now) c.args.tables.now) opened)).places
+
+-- a page that wasn't written breaks no rule
+pub returns-in_err-write_lines-clause-stop : goal.returns-in_err-write_lines-clause-stop
+returns-in_err-write_lines-clause-stop g c =
+    let seen = g.D.Disk.seen in
+    let old = c.args.disks.now in
+    let found = found_files (map (numbered_seen seen) old) c.args.tables.now in
+    let none : FilesSeen = record { disks = finite.from_entries (sizes_by_number seen old); files = [] } in
+    let opened = mounted-opened seen old c.args.tables.now none c.in_ok-files.files refl c.in_ok-files.ensures.ok in
+    let few : length found ≤ 64 = omega (arith, c.count-first.ensures.few, length-made c.in_ok-files.files found opened) in
+    let disks : c.in_ok-files.files.disks ≡ finite.from_entries (sizes_by_number seen old) = ap (λ (s : FilesSeen). s.disks) c.in_ok-files.ensures.ok in
+    let gave : Gave c.add_lines.new.files (with_line_files (block_count (finite.from_entries (sizes_by_number seen old))) (Ok found) c.args.setup.now) =
+    subst (λ (t : finite.FinMap nat_cmp ℕ). Gave c.add_lines.new.files (with_line_files (block_count t) (Ok found) c.args.setup.now)) disks (c.in_ok-add_lines.ensures.placed found opened) in
+    let p = err_from_is_err_and c.from_residual-in_err-write_lines.result c.from_residual-in_err-write_lines.ensures.1 in
+    rw (p.1, p.2) (stop-writing seen (block_count (finite.from_entries (sizes_by_number seen old))) found c.args.setup.now old c.write_lines.new.disks c.add_lines.new.files c.in_err-write_lines.field-0.0
+    few gave c.in_err-write_lines.ensures.fault)
 
 pub returns-clause-ok : goal.returns-clause-ok
 returns-clause-ok g c =

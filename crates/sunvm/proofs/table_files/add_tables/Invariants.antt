@@ -1,5 +1,6 @@
 use Rattle.std.specs.Prelude.{◌≡◌, drop}
-use Rattle.sunvm.specs.Placing.{with_infos, mounted_infos, attached_numbers}
+use Rattle.sunvm.specs.Opened.{mounted_infos}
+use Rattle.sunvm.specs.Placing.{with_infos, attached_numbers}
 use Rattle.sunvm.proofs.table_files.add_tables.Given as goal
 
 -- the files so far and those to come are all files
