@@ -1,8 +1,8 @@
 -- A run that began: what it left, and what that is of what was asked.
-use Rattle.std.proofs.Common.{◌≡◌, ℕ, zero, suc, ◌≤◌, ◌<◌, ◌==◌, true, false, List, [], ◌∷◌, length, map, refl, sym, ap, ◌∙◌, subst, arith, inl, inr}
-use Rattle.std.specs.Prelude.{All, Bool, IfNone, IfSome, IsSome, Ok, Option, Some, None, slice_get, slice_index_or, zip, if◌then◌else◌}
+use Rattle.std.proofs.Common.{◌≡◌, ℕ, zero, suc, ◌≤◌, ◌<◌, ◌==◌, Bool, true, false, List, [], ◌∷◌, length, map, refl, sym, ap, ◌∙◌, subst, arith, inl, inr}
+use Rattle.std.specs.Prelude.{All, IfNone, IfSome, IsSome, IsSomeAnd, Ok, Option, Some, None, slice_get, slice_index_or, zip, if◌then◌else◌}
 use Rattle.std.specs.Map.{lookup}
-use Rattle.std.proofs.lemmas.Bool.{false≢true}
+use Rattle.std.proofs.lemmas.Bool.{false≢true, ne_eqb}
 use Rattle.std.proofs.lemmas.Bool.Decides.{eqb_tells}
 use Rattle.std.proofs.lemmas.Option.{none-some, same_Some}
 use Rattle.std.proofs.lemmas.List.{length-map}
@@ -30,14 +30,15 @@ use Rattle.sunvm.specs.Asked.{Given, Asked}
 use Rattle.sunvm.specs.Attached.{AttachedSeen, FileDisksTell, bare}
 use Rattle.sunvm.specs.Closed.{SayTables, StoreFiles, StoresFile, flat_bytes, info_at, infos_in_flat, mode_in, modes_in}
 use Rattle.sunvm.specs.Course.{IsReady}
-use Rattle.sunvm.specs.Handed.{End, HaveTold, HandsAll, HaveSpecSizes, HasSpecSize, HasLateCause, IsSwapFor, CountsReach, disk_numbers, disk_handed, plan_disks, sizes_of}
+use Rattle.sunvm.specs.Handed.{End, HaveTold, HandsAll, HaveSpecSizes, HasSpecSize, HasLateCause, CountsReach, disk_numbers, disk_handed, plan_disks, sizes_of}
 use Rattle.sunvm.specs.Opened.{ComesTo, OpenedFile, disk_specs, infos_of, names_of, numbered_plan, opening_flat, stored_bytes}
-use Rattle.sunvm.specs.Played.{IsStarted, KernelLeaves, LeftSeen, IsClosingFault, infos_made}
+use Rattle.sunvm.specs.Played.{IsStarted, KernelLeaves, LeftSeen, IsClosingFault, IsDiskOf, infos_made}
 use Rattle.sunvm.specs.Run.{AreClosedBytes, AreOpenedBytes, Begun, ClosesFiles, LeavesFiles, DisksTell, IsOpened, flat_opened, flat_closed}
 use Rattle.sunvm.specs.Written.{AreFilesBytes, HaveDisks, IsCountedSince, KeepsBlocks, WriteTables, disk_sizes}
-use Rattle.sunvm.proofs.DiskLists.{at-map, in-map, mate, number, to-all, zip-back, sizes-by, sizes-written, lookup-in, lookup-at, same-member}
+use Rattle.sunvm.proofs.DiskLists.{at-map, in-map, mate, number, to-all, zip-back, sizes-by, sizes-written, low-disks, lookup-at, same-member}
 use Rattle.sunvm.proofs.DisksTell.{file-disks-tell}
 use Rattle.sunvm.proofs.KeptBytes.{stored-kept}
+use Rattle.sunvm.proofs.Returned.{swap-serves-still}
 
 -- a disk that tells did so before
 told-before : (old new : DiskSeen) → KeepsBlocks old new → IsSome new.content → IsSome old.content
@@ -133,7 +134,7 @@ module _ (st : ℕ) (ft : Option RunFault) (g : Given) (what : Asked) (files : L
           let y = in-map (λ (p : ℕ × DiskSeen). p.1.size) a.disks i x.0.1.size (ap (λ (z : List ℕ). slice_get z i) (sym sizes-old) ∙ size-at new i x.0 x.1) in
           subst (HasSpecSize sp) x.2 (spec-size sp y.0.1 x.0.1 (sym y.2) (ready.placed.handed.each.1 i sp y.0.1 si (at-map (λ (p : ℕ × DiskSeen). p.1) a.disks i y.0 y.1))),
     );
-    first = subst (λ (n : ℕ). IsSwapFor n l.swap) (started.slots ∙ ap (λ (p : PlanSeen). (amounts_of p.setup).slots) ready.numbered) left.swap;
+    first = swap-serves-still (amounts_of what.plan.setup).slots a.swap (opening_flat plan (disk_sizes a.disks) files) s l started.swapped left ready.placed.handed.first;
   }
 
   pub is-opened : IsOpened g what files ended
@@ -144,17 +145,36 @@ module _ (st : ℕ) (ft : Option RunFault) (g : Given) (what : Asked) (files : L
     opened = λ t. ready.placed.told t.rack (disks-told t);
   }
 
+  -- the disks that come back have numbers of the plan
+  numbers-new : map number new ≡ disk_numbers what.plan
+  numbers-new = numbers-old ∙ ready.placed.numbers
+
   reached : CountsReach what.plan (bare new) l.swap l.history.entries
-  reached k e n before after d at io found = elim (eqb_tells n 8) [
-    | inl swap ↦ left.reached k e n before after d at io (inr (swap.1, sym (ap (λ b. if◌then◌else◌ b l.swap (lookup (λ m. m == n) (plan_disks what.plan (bare new)))) swap.0) ∙ found))
-    | inr other ↦
-        let there = lookup-in n new d (ap (lookup (λ m. m == n)) (sym pairs-new)
-        ∙ (sym (ap (λ b. if◌then◌else◌ b l.swap (lookup (λ m. m == n) (plan_disks what.plan (bare new)))) other.0) ∙ found)) in
-        let m = mate new l.disks (sym w.numbers) there.0 (n, d) there.1 in
-        let low = left.reached k e n before after m.0.1 at io (inl (there.0, m.1 ∙ ap (λ (j : ℕ). Some (j, m.0.1)) m.2)) in
-        let up = (w.each there.0 m.0 (n, d) m.1 there.1).faults in
-        omega (arith, low, up)
-  ]
+  reached k e n before after at io = let x = left.reached k e n before after at io in by_disk x.0 x.1 x.2
+    where
+      handed : Bool → Option DiskSeen
+      handed eight = if◌then◌else◌ eight l.swap (lookup (λ m. m == n) (plan_disks what.plan (bare new)))
+
+      some : (o : Option DiskSeen) (d : DiskSeen) → o ≡ Some d → after ≤ d.faults → IsSomeAnd o (λ (x : DiskSeen). after ≤ x.faults)
+      some o d is low = subst (λ (p : Option DiskSeen). IsSomeAnd p (λ (x : DiskSeen). after ≤ x.faults)) (sym is) low
+
+      apart : (j k : ℕ) (x y : ℕ × DiskSeen) → slice_get new j ≡ Some x → slice_get new k ≡ Some y → x.0 ≡ y.0 → j ≡ k
+      apart j k x y xj yk is =
+          let a = mate new l.disks (sym w.numbers) j x xj in
+          let b = mate new l.disks (sym w.numbers) k y yk in
+          left.have.numbers j k a.0 b.0 a.1 b.1 (a.2 ∙ is ∙ sym b.2)
+
+      by_disk : (d : DiskSeen) → IsDiskOf l.disks l.swap n d → after ≤ d.faults → IsSomeAnd (disk_handed what.plan (bare new) l.swap n) (λ (x : DiskSeen). after ≤ x.faults)
+      by_disk d (inr swapped) low = some (disk_handed what.plan (bare new) l.swap n) d (ap handed (subst (λ (m : ℕ). (m == 8) ≡ true) (sym swapped.0) refl) ∙ swapped.1) low
+      by_disk d (inl listed) low =
+          let m = mate l.disks new w.numbers listed.0 (n, d) listed.1 in
+          let up = (w.each listed.0 (n, d) m.0 listed.1 m.1).faults in
+          let own : m.0 ≡ (n, m.0.1) = ap (λ (j : ℕ). (j, m.0.1)) m.2 in
+          let there : slice_get new listed.0 ≡ Some (n, m.0.1) = m.1 ∙ ap Some own in
+          let low-number = low-disks what.plan new numbers-new listed.0 (n, m.0.1) there in
+          some (disk_handed what.plan (bare new) l.swap n) m.0.1
+          (ap handed (ne_eqb n 8 (λ eight. omega (arith, eight, low-number))) ∙ ap (lookup (λ m. m == n)) pairs-new ∙ lookup-at n new listed.0 m.0.1 apart there)
+          (omega (arith, low, up))
 
   pub begun : Begun g what files bytes ended
   begun = record {

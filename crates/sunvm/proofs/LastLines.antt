@@ -37,7 +37,7 @@ use Rattle.sunvm.proofs.Sinks.{nothing_more, on_behind, still_front, still_part,
 sizes-front : (specs : List Spec) (disks : List DiskSeen) → HaveSpecSizes specs disks → HaveSpecSizes (take (length disks) specs) disks
 sizes-front specs disks h = subst (λ (s : List Spec). HaveSpecSizes s disks) (sym (take_all (length disks) specs (let e = h.0 in omega (arith, e)))) h
 
-swap-front : (slots : ℕ) (swap : Option DiskSeen) → IsSwapFor slots swap → IfSome swap (λ d. (0 < slots) × (slots ≤ d.size))
+swap-front : (slots : ℕ) (swap : Option DiskSeen) → IsSwapFor slots swap → IfSome swap (λ d. (0 < slots) × (d.size ≡ slots))
 swap-front slots None h = tt
 swap-front slots (Some d) h = h
 
@@ -51,7 +51,7 @@ refused-front plan disks swap (refusal.Volume number rule) h = h.each
 none-front : (plan : PlanSeen) (disks : List DiskSeen) (swap : Option DiskSeen) → HandsNone disks swap → HandsFront plan disks swap
 none-front plan disks swap h = record {
   each = subst (λ (d : List DiskSeen). HaveSpecSizes (take (length d) (disk_specs plan.setup)) d) (sym h.no_disk) (refl, λ i s d si di. absurd (let e : ◌≡◌ {A = Option DiskSeen} None (Some d) = di in cc));
-  first = subst (λ (o : Option DiskSeen). IfSome o (λ d. (0 < (amounts_of plan.setup).slots) × ((amounts_of plan.setup).slots ≤ d.size))) (sym h.no_swap) tt;
+  first = subst (λ (o : Option DiskSeen). IfSome o (λ d. (0 < (amounts_of plan.setup).slots) × (d.size ≡ (amounts_of plan.setup).slots))) (sym h.no_swap) tt;
   before = λ some. absurd (let none = ap (λ (d : List DiskSeen). length d) h.no_disk in omega (arith, some, none));
 }
 

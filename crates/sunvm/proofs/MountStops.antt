@@ -93,7 +93,7 @@ pub opened_err : (plan : PlanSeen) (holds : Holds) (r : Refusal) → mounted (di
 opened_err plan holds r e =
     ap (λ (m : Result (List OpenedFile) Refusal). with_line_files (size_held (disks_held holds (disk_specs plan.setup))) (if_few m) plan.setup) e
 
-swap_front : (slots : ℕ) (swap : Option DiskSeen) → IsSwapFor slots swap → IfSome swap (λ d. (0 < slots) × (slots ≤ d.size))
+swap_front : (slots : ℕ) (swap : Option DiskSeen) → IsSwapFor slots swap → IfSome swap (λ d. (0 < slots) × (d.size ≡ slots))
 swap_front slots None h = tt
 swap_front slots (Some d) h = h
 

@@ -1,14 +1,15 @@
 -- The disks that come back from a kernel that is closed.
 use Rattle.std.proofs.Common.{◌≡◌, ◌≢◌, ℕ, zero, suc, ◌<◌, ◌≤◌, List, [], ◌∷◌, length, map, Option, Some, None, refl, sym, ap, ◌∙◌, ◌⊎◌, inl, inr, subst, arith}
-use Rattle.std.specs.Prelude.{All, IfSome, IfNone, IsSome, IsTrue, MatchOption, is_some, slice_get, slice_index, slice_index_or}
+use Rattle.std.specs.Prelude.{All, IfSome, IfNone, IsSome, IsTrue, MatchOption, is_some, option_map, slice_get, slice_index, slice_index_or}
 use Rattle.std.specs.Ordering.{nat_cmp}
 use Rattle.std.specs.FinMap as finite
 use Rattle.std.proofs.lemmas.List.{length-map}
-use Rattle.std.proofs.lemmas.Option.{slice_get_within, slice_get-get_or}
+use Rattle.std.proofs.lemmas.Bool.{cases_eq}
+use Rattle.std.proofs.lemmas.Option.{none-some, slice_get_within, slice_get-get_or}
 use Rattle.block_device.specs.DiskSeen.{DiskSeen, HasBlocks}
 use Rattle.block_device.specs.declared.disk_fault.DiskFault.{DiskFault}
 use Rattle.page_hash.specs.declared.PageName.{PageName}
-use Rattle.page_store.specs.Bays.{BaySeen, missing, home, out, bay_at, disk_in, home_faults, no_disk, IsStill}
+use Rattle.page_store.specs.Bays.{BaySeen, missing, home, out, bay_at, bay_of, disk_in, home_faults, no_disk, IsStill}
 use Rattle.page_store.specs.Notes.{no_notes}
 use Rattle.page_store.specs.declared.place.Place.{Place}
 use Rattle.page_store.specs.Value.{tells, content_in_bay}
@@ -19,17 +20,18 @@ use Rattle.vnode_files.specs.Layout.{disk_of_file}
 use Rattle.vnode_files.specs.Grow.{page_count}
 use Rattle.vnode_files.specs.Vnode.{VnodeSeen, IsSoundVnode, no_vnode}
 use Rattle.flat_model.specs.Flat.{Flat}
+use Rattle.vm_world.specs.DiskPlaces.{faults_in, seen_in}
 use Rattle.vm_world.specs.Events.{IsEvent}
-use Rattle.vm_world.specs.FramesFit.{DisksFit}
 use Rattle.vm_world.specs.MemoryFits.{MemoryFits}
 use Rattle.vm_world.specs.NotesFit.{NotesFit}
 use Rattle.vm_world.specs.Opening.{no_seats}
 use Rattle.vm_world.specs.Segments.{Spaces}
-use Rattle.vm_world.specs.State.{KernelState, Fixed}
+use Rattle.vm_world.specs.State.{KernelState, Fixed, Seats}
 use Rattle.vm_world.specs.StateFits.{StateFits}
 use Rattle.vm_world.specs.World.{World, AllTell, world_table, slot_name}
 use Rattle.vm_world.proofs.PageNames.{index-of, page-cases, file-place, slot-place}
-use Rattle.vm_world.proofs.StateSteps.{same-seats}
+use Rattle.vm_world.proofs.StateSteps.{same-seats, size_of}
+use Rattle.vm_world.proofs.FlatWhole.{some-inj}
 use Rattle.vm_world.proofs.Told.{event_law}
 use Rattle.vm_core.specs.Closing.{AreDisksOf}
 use Rattle.vm_core.specs.Finish.{disk_at, disks_of, HoldAllFiles, IsLastFault, KeepsDisk, KeepDisks, KeepsOtherBlocks, KeepRecords}
@@ -37,7 +39,7 @@ use Rattle.vm_core.proofs.Fills.{are-kept, number-of}
 use Rattle.vm_core.proofs.Finishes.{still, disk-in-order, are-disks}
 use Rattle.sunvm.specs.Attached.{bare}
 use Rattle.sunvm.specs.Handed.{HaveTold, IsSwapFor}
-use Rattle.sunvm.specs.Played.{LeftSeen, IsDiskOf, DisksCameBack, IsClosingFault}
+use Rattle.sunvm.specs.Played.{LeftSeen, IsDiskOf, DisksCameBack, IsClosingFault, KernelLeaves, SwapCameBack}
 use Rattle.sunvm.specs.Written.{HaveDisks}
 
 -- What a kernel in this state leaves as it is closed.
@@ -84,6 +86,23 @@ same-maps f g [] (y ∷ ys) long same = absurd (omega (arith, long))
 same-maps f g (x ∷ xs) [] long same = absurd (omega (arith, long))
 same-maps {A} {B} {X} f g (x ∷ xs) (y ∷ ys) long same =
     ap (λ (z : X). z ∷ map f xs) (same 0 x y refl refl) ∙ ap (λ (zs : List X). g y ∷ zs) (same-maps f g xs ys (omega (arith, long)) (λ i a b p q. same (suc i) a b p q))
+
+-- where a disk is home there is a bay
+home-below : (bays : List BaySeen) (k : ℕ) (d : DiskSeen) → bay_at bays k ≡ home d → k < length bays
+home-below [] k d is = absurd (cc)
+home-below (b ∷ bs) zero d is = omega arith
+home-below (b ∷ bs) (suc k) d is = let more = home-below bs k d is in omega (arith, more)
+
+-- a swap disk that came back with its size serves the slots as it did
+swap-back : (slots : ℕ) (old new : Option DiskSeen) → SwapCameBack (bay_of old) new → IsSwapFor slots old → IsSwapFor slots new
+swap-back slots None None same serves = serves
+swap-back slots None (Some d) same serves = absurd (none-some d.size (sym same))
+swap-back slots (Some x) None same serves = absurd (none-some x.size same)
+swap-back slots (Some x) (Some d) same serves = (serves.0, some-inj d.size x.size same ∙ serves.1)
+
+pub swap-serves-still : (slots : ℕ) (swap : Option DiskSeen) (F : Flat) (s : KernelState) (l : LeftSeen) → bay_at s.memory.world.store.bays 8 ≡ bay_of swap → KernelLeaves F s l
+    → IsSwapFor slots swap → IsSwapFor slots l.swap
+swap-serves-still slots swap F s l at left serves = swap-back slots swap l.swap (subst (λ (b : BaySeen). SwapCameBack b l.swap) at left.swap) serves
 
 module _ (F : Flat) (s t : KernelState) (l : LeftSeen) (event : IsEvent 0 s None t None) (before : StateFits F s no_seats) (c : Closes t l) where
   after : StateFits F t no_seats
@@ -143,27 +162,50 @@ module _ (F : Flat) (s t : KernelState) (l : LeftSeen) (event : IsEvent 0 s None
         k.faults,
       )
 
-  reached-at : (k : ℕ) (e : Entry) (number low high : ℕ) (d : DiskSeen) → slice_get l.history.entries k ≡ Some e → e.reply ≡ Io number low high → bay_at t.memory.world.store.bays number ≡ home d → high ≤ d.faults
-  reached-at k e number low high d at reply here =
-      event_law.counted F t no_seats k e number low high d.faults after (sym (ap (λ (H : List Entry). slice_get H k) c.entries) ∙ at) reply (d, here, refl)
-
-  pub reached-left : (k : ℕ) (e : Entry) (number low high : ℕ) (d : DiskSeen) → slice_get l.history.entries k ≡ Some e → e.reply ≡ Io number low high → IsDiskOf l.disks l.swap number d → high ≤ d.faults
-  reached-left k e number low high d at reply is = by_disk is
+  -- THE SWAP DISK comes back as it was
+  swap-home : (d : DiskSeen) → bay_at t.memory.world.store.bays 8 ≡ home d → l.swap ≡ Some d
+  swap-home d here = by_swap l.swap c.swap
     where
-      by_swap : (o : Option DiskSeen) → o ≡ Some d → MatchOption o (bay_at t.memory.world.store.bays 8 ≡ missing) (λ disk. bay_at t.memory.world.store.bays 8 ≡ home disk) → bay_at t.memory.world.store.bays 8 ≡ home d
-      by_swap None same here = absurd (cc)
-      by_swap (Some x) same here = let z : ◌≡◌ {A = Option DiskSeen} (Some x) (Some d) = same in let e : x ≡ d = cc in here ∙ ap home e
+      by_swap : (o : Option DiskSeen) → MatchOption o (bay_at t.memory.world.store.bays 8 ≡ missing) (λ disk. bay_at t.memory.world.store.bays 8 ≡ home disk) → o ≡ Some d
+      by_swap None none = absurd (let z : missing ≡ home d = sym none ∙ here in cc)
+      by_swap (Some x) is = let z : home x ≡ home d = sym is ∙ here in let e : x ≡ d = cc in ap Some e
 
-      by_disk : IsDiskOf l.disks l.swap number d → high ≤ d.faults
-      by_disk (inl listed) =
-          let i = listed.0 in
-          let k' = kept i (number, d) listed.1 in
-          let here = home-after i (within-new i (number, d) listed.1) in
-          let low' = reached-at k e number low high (disk_at old i).1 at reply (ap (bay_at t.memory.world.store.bays) k'.number ∙ here) in
-          let more = k'.faults in
-          omega (arith, low', more)
-      by_disk (inr swapped) =
-          reached-at k e number low high d at reply (ap (bay_at t.memory.world.store.bays) swapped.0 ∙ by_swap l.swap swapped.1 c.swap)
+  -- A DISK THAT IS HOME comes back, with its count at least
+  comes-back : (number : ℕ) (d : DiskSeen) → bay_at t.memory.world.store.bays number ≡ home d → (x : DiskSeen) × IsDiskOf l.disks l.swap number x × (d.faults ≤ x.faults)
+  comes-back number d here = elim (cases_eq number 8) [
+    | inl eight ↦ (d, inr (eight, swap-home d (ap (bay_at t.memory.world.store.bays) (sym eight) ∙ here)), omega arith)
+    | inr other ↦
+        let below = home-below t.memory.world.store.bays number d here in
+        let nine = after.memory.frames.sound.bays in
+        let there : bay_at t.memory.world.store.bays number ≢ missing = λ none. let z : missing ≡ home d = sym none ∙ here in cc in
+        let listed = after.memory.frames.sound.order.all number (omega (arith, below, nine, other)) there in
+        let i = listed.0 in
+        let long = length-map {B = ℕ × DiskSeen} t.memory.world.store.order (λ (n : ℕ). (n, disk_in (bay_at t.memory.world.store.bays n))) in
+        let low : i < length old = let lt = listed.1 in omega (arith, long, lt) in
+        let number-is : (disk_at old i).0 ≡ number = ap (λ (x : ℕ × DiskSeen). x.0) (disk-in-order t.memory.world.store.bays t.memory.world.store.order i listed.1) ∙ listed.2 in
+        let same : (disk_at old i).1 ≡ d = home-same (disk_at old i).1 d (sym (home-after i low) ∙ ap (bay_at t.memory.world.store.bays) number-is ∙ here) in
+        let k = c.disks.each i low in
+        let more = k.faults in
+        let count = ap (λ (x : DiskSeen). x.faults) same in
+        ((disk_at l.disks i).1, inl (i, get-place l.disks i (let e = long-new in omega (arith, low, e)) ∙ ap (λ (n : ℕ). Some (n, (disk_at l.disks i).1)) (k.number ∙ number-is)), omega (arith, more, count))
+  ]
+    where
+      home-same : (x y : DiskSeen) → home x ≡ home y → x ≡ y
+      home-same x y is = cc
+
+  pub reached-left : (k : ℕ) (e : Entry) (number low high : ℕ) → slice_get l.history.entries k ≡ Some e → e.reply ≡ Io number low high → (d : DiskSeen) × IsDiskOf l.disks l.swap number d × (high ≤ d.faults)
+  reached-left k e number low high at reply =
+      let r = event_law.counted F t no_seats k e number low high after (sym (ap (λ (H : List Entry). slice_get H k) c.entries) ∙ at) reply in
+      by_bay (bay_at t.memory.world.store.bays number) refl r.count r.there r.enough
+    where
+      by_bay : (b : BaySeen) → bay_at t.memory.world.store.bays number ≡ b → (count : ℕ) → faults_in b no_notes ≡ Some count → high ≤ count → (d : DiskSeen) × IsDiskOf l.disks l.swap number d × (high ≤ d.faults)
+      by_bay missing is count there enough = absurd (cc)
+      by_bay (out seat) is count there enough = absurd (cc)
+      by_bay (home d) is count there enough =
+          let x = comes-back number d is in
+          let more = x.2 in
+          let same : d.faults ≡ count = some-inj d.faults count there in
+          (x.0, x.1, omega (arith, more, same, enough))
 
   -- THE FAULT
   pub fault-left : IfSome l.fault (IsClosingFault l)
@@ -200,23 +242,14 @@ module _ (F : Flat) (s t : KernelState) (l : LeftSeen) (event : IsEvent 0 s None
         (kept i d at).size ∙ size-same files have placed i (within-new i d at) ∙ ap (λ (x : ℕ × DiskSeen). x.1.size) (at-place start i e is));
   }
 
-  -- THE SWAP DISK
-  pub swap-left : IsSwapFor (length s.memory.world.anon.counts) l.swap
-  swap-left = by_swap l.swap c.swap
+  -- THE SWAP DISK has its size
+  pub swap-left : SwapCameBack (bay_at s.memory.world.store.bays 8) l.swap
+  swap-left = by_swap l.swap c.swap ∙ ap (λ (x : Seats). size_of t x 8) (sym (same-seats no_seats 0 None refl)) ∙ event.sizes F no_seats refl before 8
     where
-      fit : DisksFit t.memory.world.store.bays t.memory.world.files.disks (length s.memory.world.anon.counts)
-      fit = subst (DisksFit t.memory.world.store.bays t.memory.world.files.disks) slots-same after.memory.disks
-
-      some-or-none : (n : ℕ) → (n ≡ 0) ⊎ (0 < n)
-      some-or-none zero = inl refl
-      some-or-none (suc n) = inr (omega arith)
-
-      by_swap : (o : Option DiskSeen) → MatchOption o (bay_at t.memory.world.store.bays 8 ≡ missing) (λ disk. bay_at t.memory.world.store.bays 8 ≡ home disk) → IsSwapFor (length s.memory.world.anon.counts) o
-      by_swap None here = elim (some-or-none (length s.memory.world.anon.counts)) [ inl zero-slots ↦ zero-slots | inr slots ↦ absurd (fit.swap slots here) ]
-      by_swap (Some d) here = (
-        elim (some-or-none (length s.memory.world.anon.counts)) [ inl zero-slots ↦ absurd (let z : missing ≡ home d = sym (fit.unused zero-slots) ∙ here in cc) | inr slots ↦ slots ],
-        (fit.sizes 8 d here).swap refl,
-      )
+      by_swap : (o : Option DiskSeen) → MatchOption o (bay_at t.memory.world.store.bays 8 ≡ missing) (λ disk. bay_at t.memory.world.store.bays 8 ≡ home disk)
+          → option_map (λ (d : DiskSeen). d.size) o ≡ size_of t no_seats 8
+      by_swap None none = sym (ap (λ (b : BaySeen). seen_in (λ (d : DiskSeen). d.size) b no_notes) none)
+      by_swap (Some d) here = sym (ap (λ (b : BaySeen). seen_in (λ (d : DiskSeen). d.size) b no_notes) here)
 
   -- THE DISKS OF THE FILES
   pub are-left : AreDisksOf l.files l.disks

@@ -65,7 +65,7 @@ front plan disks swap all = record {
   before = λ some. all.first;
 }
   where
-    by_swap : (o : Option DiskSeen) → IsSwapFor (amounts_of plan.setup).slots o → IfSome o (λ d. (0 < (amounts_of plan.setup).slots) × ((amounts_of plan.setup).slots ≤ d.size))
+    by_swap : (o : Option DiskSeen) → IsSwapFor (amounts_of plan.setup).slots o → IfSome o (λ d. (0 < (amounts_of plan.setup).slots) × (d.size ≡ (amounts_of plan.setup).slots))
     by_swap None none = tt
     by_swap (Some d) has = has
 
@@ -92,7 +92,11 @@ module _ {D : Type 0} (seen : D → DiskSeen) (plan : PlanSeen) (told : Spec →
 -- WHAT A KERNEL MAY BE STARTED WITH
 module _ (plan : PlanSeen) (holds : Spec → Option (List (List ℕ))) (files : List OpenedFile) (a : AttachedSeen) (made : FilesSeen) (p : ArePlaced plan holds files a made) where
   pub swap-serves : SwapServes (amounts_of plan.setup).slots a.swap
-  swap-serves = p.handed.first
+  swap-serves = by_swap a.swap p.handed.first
+    where
+      by_swap : (o : Option DiskSeen) → IsSwapFor (amounts_of plan.setup).slots o → SwapServes (amounts_of plan.setup).slots o
+      by_swap None none = none
+      by_swap (Some d) has = let size = has.1 in (has.0, omega (arith, size))
 
   pub frames-enough : broken_rule plan ≡ None → length a.disks + cond (is_some a.swap) 1 0 + 4 ≤ (amounts_of plan.setup).frames
   frames-enough rules =

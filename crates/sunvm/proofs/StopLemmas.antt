@@ -40,7 +40,7 @@ use Rattle.sunvm.proofs.FaultCauses.{if-counted}
 use Rattle.sunvm.proofs.MountDisks.{Told, given_of_mounted}
 
 -- what was handed back of all disks is a front of them
-front_swap : (slots : ℕ) (swap : Option DiskSeen) → IsSwapFor slots swap → IfSome swap (λ d. (0 < slots) × (slots ≤ d.size))
+front_swap : (slots : ℕ) (swap : Option DiskSeen) → IsSwapFor slots swap → IfSome swap (λ d. (0 < slots) × (d.size ≡ slots))
 front_swap slots None serves = tt
 front_swap slots (Some d) serves = serves
 

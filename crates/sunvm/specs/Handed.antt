@@ -1,5 +1,5 @@
 -- What a run hands back: its history and its disks by number. Public clauses cite this.
-use Rattle.std.specs.Prelude.{ℕ, ◌≡◌, ◌≤◌, ◌<◌, ◌==◌, ◌⊎◌, Bool, nat_le, nat_lt, count_by, List, [], ◌∷◌, length, map, take, Option, Some, None, Err, IfSome, IsSome, MatchOption, MatchBool, All, zip, slice_get, slice_index_or, option_map, if◌then◌else◌, ◌+◌, is_some}
+use Rattle.std.specs.Prelude.{ℕ, ◌≡◌, ◌≤◌, ◌<◌, ◌==◌, ◌⊎◌, Bool, nat_le, nat_lt, count_by, List, [], ◌∷◌, length, map, take, Option, Some, None, Err, IfSome, IsSome, IsSomeAnd, MatchOption, MatchBool, All, zip, slice_get, slice_index_or, option_map, if◌then◌else◌, ◌+◌, is_some}
 use Rattle.std.specs.List.{Contains}
 use Rattle.std.specs.Map.{lookup}
 use Rattle.vm_types.specs.declared.call.Entry.{Entry}
@@ -75,14 +75,14 @@ swap_count swap = if is_some swap then 1 else 0
 abbrev pub handed_count : {A B : Type 0} → List A → Option B → ℕ
 handed_count disks swap = length disks + swap_count swap
 
--- There is a swap disk exactly where there are slots, with a block for each at least.
+-- There is a swap disk exactly where there are slots, with one block for each.
 abbrev pub IsSwapFor : ℕ → Option DiskSeen → Type 0
-IsSwapFor slots swap = MatchOption swap (slots ≡ 0) (λ d. (0 < slots) × (slots ≤ d.size))
+IsSwapFor slots swap = MatchOption swap (slots ≡ 0) (λ d. (0 < slots) × (d.size ≡ slots))
 
 -- The disks of a front of the plan's are handed back, in rising number, and the swap disk or none; with a disk the swap disk too, where there are slots.
 pub record HandsFront (plan : PlanSeen) (disks : List DiskSeen) (swap : Option DiskSeen) : Type 0 where
   pub each : HaveSpecSizes (take (length disks) (disk_specs plan.setup)) disks
-  pub first : IfSome swap (λ d. (0 < (amounts_of plan.setup).slots) × ((amounts_of plan.setup).slots ≤ d.size))
+  pub first : IfSome swap (λ d. (0 < (amounts_of plan.setup).slots) × (d.size ≡ (amounts_of plan.setup).slots))
   pub before : 0 < length disks → IsSwapFor (amounts_of plan.setup).slots swap
 
 -- All of the plan's disks are handed back, in rising number, and the swap disk where there are slots.
@@ -170,10 +170,11 @@ pub record HasLateCause (plan : PlanSeen) (history : HistorySeen) (disks : List 
   pub counted : IsCountedBy plan disks swap fault.disk fault.before fault.after
   pub since : (count : ℕ) × (slice_index_or history.faults fault.disk None ≡ Some count) × (count ≤ fault.before)
 
--- Each disk that a device error of the history names comes back with at least the count that the error names.
+-- The disk that a device error of the history names is one that comes back, and it counted at least what the error names.
 abbrev pub CountsReach : PlanSeen → List DiskSeen → Option DiskSeen → List Entry → Type 0
 CountsReach plan disks swap H =
-    (k : ℕ) (e : Entry) (number before after : ℕ) (d : DiskSeen) → slice_get H k ≡ Some e → e.reply ≡ Io number before after → disk_handed plan disks swap number ≡ Some d → after ≤ d.faults
+    (k : ℕ) (e : Entry) (number before after : ℕ) → slice_get H k ≡ Some e → e.reply ≡ Io number before after
+    → IsSomeAnd (disk_handed plan disks swap number) (λ d. after ≤ d.faults)
 
 -- A run that stopped, but for its status and fault.
 abbrev pub stop_end : {D : Type 0} → (D → DiskSeen) → Stop D → End

@@ -8,7 +8,7 @@ use Rattle.block_device.specs.declared.disk_fault.DiskFault.{DiskFault}
 use Rattle.flat_model.specs.Counted.{Counted}
 use Rattle.flat_model.specs.Flat.{Flat}
 use Rattle.flat_model.specs.History.{Legal, replay}
-use Rattle.page_store.specs.Bays.{bay_at, bay_of, pairs_seen}
+use Rattle.page_store.specs.Bays.{BaySeen, bay_at, bay_of, pairs_seen}
 use Rattle.vnode_files.specs.Files.{FilesSeen}
 use Rattle.vnode_files.specs.Vnode.{VnodeSeen}
 use Rattle.vnode_files.specs.declared.vnode.FileInfo.{FileInfo}
@@ -17,6 +17,7 @@ use Rattle.vm_core.specs.Finish.{HistorySeen, disks_of}
 use Rattle.vm_script.specs.Counts.{entry_count}
 use Rattle.vm_script.specs.PlanSeen.{PlanSeen}
 use Rattle.vm_script.specs.Told.{own_lines}
+use Rattle.vm_world.specs.DiskPlaces.{seen_in}
 use Rattle.vm_world.specs.Opening.{IsOpening, no_seats}
 use Rattle.vm_world.specs.State.{KernelState, room_of, mode_of}
 use Rattle.vm_world.specs.StateFits.{StateFits}
@@ -24,7 +25,7 @@ use Rattle.vm_script.specs.Sound.{IsSoundPlan}
 use Rattle.sunvm.specs.Asked.{is_later}
 use Rattle.sunvm.specs.Attached.{bare}
 use Rattle.sunvm.specs.Closed.{StoreFiles, infos_in_flat, flat_bytes}
-use Rattle.sunvm.specs.Handed.{HaveTold, IsSwapFor}
+use Rattle.sunvm.specs.Handed.{HaveTold}
 use Rattle.sunvm.specs.Written.{LieWell, HaveDisks, HaveExtents, HasLastFault, disk_fault_counts}
 use Rattle.page_store.specs.Notes.{no_notes}
 use Rattle.vm_world.specs.World.{AllTell}
@@ -73,6 +74,10 @@ pub record DisksCameBack (old new : List (ℕ × DiskSeen)) : Type 0 where
   pub numbers : map (λ (d : ℕ × DiskSeen). d.0) new ≡ map (λ (d : ℕ × DiskSeen). d.0) old
   pub sizes : map (λ (d : ℕ × DiskSeen). d.1.size) new ≡ map (λ (d : ℕ × DiskSeen). d.1.size) old
 
+-- The swap disk came back with its size, where there was one.
+abbrev pub SwapCameBack : BaySeen → Option DiskSeen → Type 0
+SwapCameBack old new = option_map (λ (d : DiskSeen). d.size) new ≡ seen_in (λ (d : DiskSeen). d.size) old no_notes
+
 -- A fault that ended the closing: that of the last transfer of a disk, which had counted no fewer faults than the history tells.
 pub record IsClosingFault (l : LeftSeen) (f : DiskFault) : Type 0 where
   pub disk : ℕ × DiskSeen
@@ -87,8 +92,8 @@ pub record KernelLeaves (F : Flat) (s : KernelState) (l : LeftSeen) : Type 0 whe
   pub formed : All (λ (e : Entry). IsWellFormed e.call) l.history.entries
   pub few : length l.history.entries < 2 ^ 32
   pub counted : Counted l.history.entries
-  pub reached : (k : ℕ) (e : Entry) (number before after : ℕ) (d : DiskSeen) → slice_get l.history.entries k ≡ Some e → e.reply ≡ Io number before after
-      → IsDiskOf l.disks l.swap number d → after ≤ d.faults
+  pub reached : (k : ℕ) (e : Entry) (number before after : ℕ) → slice_get l.history.entries k ≡ Some e → e.reply ≡ Io number before after
+      → (d : DiskSeen) × IsDiskOf l.disks l.swap number d × (after ≤ d.faults)
   pub modes : map mode_of l.files.files ≡ map mode_of s.memory.world.files.files
   pub lie : LieWell l.files
   pub have : HaveDisks l.files l.disks
@@ -99,7 +104,7 @@ pub record KernelLeaves (F : Flat) (s : KernelState) (l : LeftSeen) : Type 0 whe
   pub fault : IfSome l.fault (IsClosingFault l)
   pub counts : (i : ℕ) (d : ℕ × DiskSeen) → slice_get l.disks i ≡ Some d → (count : ℕ) × (slice_index_or l.history.faults d.0 None ≡ Some count) × (count ≤ d.1.faults)
   pub disks : DisksCameBack (disks_of s.memory.world) l.disks
-  pub swap : IsSwapFor (length s.memory.world.anon.counts) l.swap
+  pub swap : SwapCameBack (bay_at s.memory.world.store.bays 8) l.swap
   pub tells : HaveTold (bare l.disks) l.swap → AllTell s.memory.world no_notes
 
 -- A plan whose lines the kernel can make one after another: one block at most, each line a call that is served and well formed.

@@ -10,6 +10,7 @@ use Rattle.vm_script.specs.Rules.{amounts_of}
 use Rattle.sunvm.specs.Handed.{IsSwapFor}
 use Rattle.block_device.specs.declared.numbered.NumberedDisk.{NumberedDisk}
 use Rattle.sunvm.proofs.DiskCounts.{count-as, count-handed, count-served}
+use Rattle.sunvm.proofs.Returned.{swap-serves-still}
 use Rattle.sunvm.proofs.RunReady.{first-left, names-left, placed-as, ready-ends, start-lacks}
 use Rattle.sunvm.proofs.run.run_ready.Given as Given
 use Rattle.sunvm.proofs.run.run_ready.Goals as goal
@@ -115,7 +116,7 @@ returns-in-Ok-clause-count g c =
     let new : length (pairs_seen seen done.disks.items) ≡ length done.disks.items = length-map done.disks.items _ in
     let old : length a.disks ≡ length at.disks.items = length-map at.disks.items _ in
     let long : length done.disks.items ≡ length at.disks.items = omega (arith, count, new, old) in
-    let swaps : IsSwapFor (amounts_of c.args.ready.plan.setup).slots (option_map seen done.swap) = subst (λ (n : ℕ). IsSwapFor n (option_map seen done.swap)) started.slots left.swap in
+    let swaps : IsSwapFor (amounts_of c.args.ready.plan.setup).slots (option_map seen done.swap) = swap-serves-still _ a.swap _ _ (left_seen seen done) started.swapped left placed.handed.first in
     count-as c.end_run.result.disks.items done.disks.items c.end_run.result.swap done.swap c.end_run.ensures.count c.end_run.ensures.swap
     ∙ count-served seen (λ (d : NumberedDisk _). seen d.disk) done.disks.items at.disks.items (amounts_of c.args.ready.plan.setup).slots done.swap at.swap long swaps placed.handed.first
 
