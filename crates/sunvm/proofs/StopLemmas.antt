@@ -1,5 +1,5 @@
 -- A run that stops as its files are placed: what is handed back, and the cause.
-use Rattle.std.specs.Prelude.{All, ℕ, zero, suc, ◌≡◌, ◌<◌, ◌≤◌, ◌==◌, ◌⊎◌, Bool, List, [], ◌∷◌, length, map, zip, slice_index_or, Option, Some, None, option_map, IfSome, IsSome, is_some, MatchOption, Ok, Err, Result, if◌then◌else◌}
+use Rattle.std.specs.Prelude.{All, ℕ, zero, suc, ◌≡◌, ◌<◌, ◌≤◌, ◌==◌, Bool, List, [], ◌∷◌, length, map, zip, slice_index_or, Option, Some, None, option_map, IfSome, IsSome, is_some, Ok, Err, Result, if◌then◌else◌}
 use Rattle.std.specs.List.{AllByRecursion}
 use Rattle.std.specs.Map.{lookup}
 use Rattle.std.specs.FinMap as finite
@@ -34,7 +34,6 @@ use Rattle.sunvm.proofs.FoundLemmas.{AllBlocks}
 use Rattle.sunvm.proofs.HandLemmas.{SameDisks, lookup-at, mounted-numbers, opened-is, plan-numbers, same-disks, same-numbers}
 use Rattle.sunvm.proofs.OpenLemmas.{TellOrEmpty}
 use Rattle.sunvm.proofs.PlacedLemmas.{at_index, numbers-seen, sizes-seen}
-use Rattle.sunvm.specs.Written.{HasLastFault, open_fault_counts}
 use Rattle.sunvm.proofs.GivenFiles.{as-given, comes-to, sizes-handed}
 use Rattle.sunvm.proofs.FaultCauses.{if-counted}
 use Rattle.sunvm.proofs.MountDisks.{Told, given_of_mounted}

@@ -1,6 +1,6 @@
 -- Files that are placed, once their disks were read for the trace.
 use Rattle.std.proofs.Common.{◌≡◌, ℕ, zero, suc, ◌≤◌, ◌<◌, ◌==◌, ◌++◌, true, false, List, [], ◌∷◌, length, map, take, drop, append-nil, refl, sym, ap, ◌∙◌, subst, arith, inl, inr}
-use Rattle.std.specs.Prelude.{All, Bool, IfSome, IsSome, MatchOption, Err, Ok, Result, Option, Some, None, option_map, slice_get, slice_index_or, zip, if◌then◌else◌}
+use Rattle.std.specs.Prelude.{All, Bool, IfSome, IsSome, Err, Ok, Result, Option, Some, None, option_map, slice_get, slice_index_or, zip, if◌then◌else◌}
 use Rattle.std.specs.FinMap as finite
 use Rattle.std.specs.Map.{lookup}
 use Rattle.std.proofs.lemmas.Bool.{false≢true, ne_eqb}
