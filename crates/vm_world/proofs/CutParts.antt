@@ -224,8 +224,8 @@ module _ (m : Memory) (p page number : ℕ) (parts : List (Part Segment)) (x : P
   upper-map : (k : ℕ) → x.piece.own ≡ Some k → anon_map_at now number ≡ Some (held_once (drop cut_to (places_of maps k)))
   upper-map k its =
       held-else mid x.piece.shown number (λ shown. absurd (
-          let t : IsSome (anon_map_at maps number) = shown-x number shown in
-          let z : false ≡ true = sym (ap is_some (unused (subst (λ (o : Option ℕ). IsSome o) (sym its) refl)).absent) ∙ t in cc))
+      let t : IsSome (anon_map_at maps number) = shown-x number shown in
+      let z : false ≡ true = sym (ap is_some (unused (subst (λ (o : Option ℕ). IsSome o) (sym its) refl)).absent) ∙ t in cc))
       ∙ mid-upper maps x.piece.own number cut_to there-own unused k its
 
   -- THE OTHERS keep their maps
@@ -378,15 +378,13 @@ module _ (m : Memory) (p page number : ℕ) (parts : List (Part Segment)) (x : P
         let same : (x.piece, k - x.first) ≡ y = let z : Some (x.piece, k - x.first) ≡ Some y = sym (at-found 1 parts page k x old-order found t) ∙ there in cc in
         elim (cases_lt k page) [
           | inl before ↦
-              let no : has up k ≡ false = elim (cases_Bool (has up k)) [ inl b ↦ absurd (let c = (has-within up k b).from in omega (arith, c, before)) | inr f ↦ f ] in
-              (
+              let no : has up k ≡ false = elim (cases_Bool (has up k)) [ inl b ↦ absurd (let c = (has-within up k b).from in omega (arith, c, before)) | inr f ↦ f ] in (
                 (w, k - x.first),
                 cut-shows k ∙ ap (λ (b : Bool). cond b (Some (u, k - page)) (cond (has x k) (Some (w, k - x.first)) (at parts k))) no ∙ ap (λ (b : Bool). cond b (Some (w, k - x.first)) (at parts k)) t,
                 subst (λ (s : Spot). Turns s (w, k - x.first)) same (half-turns w (k - x.first) (k - x.first) refl refl refl refl refl refl (lower-slot (k - x.first) (omega (arith, before, from))) refl),
               )
           | inr le ↦
-              let yes : has up k ≡ true = has-in up k le (omega (arith, below, high, lt)) in
-              (
+              let yes : has up k ≡ true = has-in up k le (omega (arith, below, high, lt)) in (
                 (u, k - page),
                 cut-shows k ∙ ap (λ (b : Bool). cond b (Some (u, k - page)) (cond (has x k) (Some (w, k - x.first)) (at parts k))) yes,
                 subst (λ (s : Spot). Turns s (u, k - page)) same (half-turns u (k - page) (k - x.first) refl refl refl refl refl (omega (arith, le, lt)) (upper-slot k le) (some-mapped x.piece.own)),
@@ -396,8 +394,7 @@ module _ (m : Memory) (p page number : ℕ) (parts : List (Part Segment)) (x : P
         let no : has up k ≡ false = elim (cases_Bool (has up k)) [
           | inl b ↦ absurd (let c = has-within up k b in let from = c.from in let below = c.below in let z : false ≡ true = sym out ∙ has-in x k (omega (arith, from, lt)) (omega (arith, below, high)) in cc)
           | inr f ↦ f
-        ] in
-        (
+        ] in (
           y,
           cut-shows k ∙ ap (λ (b : Bool). cond b (Some (u, k - page)) (cond (has x k) (Some (w, k - x.first)) (at parts k))) no ∙ ap (λ (b : Bool). cond b (Some (w, k - x.first)) (at parts k)) out ∙ there,
           kept-turns y (rest-keeps k y out there),

@@ -38,8 +38,8 @@ module _ (maps : List (Option Map)) (n : ℕ) (a : Map) (unused : IsUnused maps 
     | inl t ↦ ap (λ (b : Bool). anon_map_at (cond b (slice_set maps n (Some a)) (maps ++ Some a ∷ [])) n) t ∙ get_or-set_same maps n (Some a) None (ltb-true n (length maps) t)
     | inr f ↦ ap (λ (b : Bool). anon_map_at (cond b (slice_set maps n (Some a)) (maps ++ Some a ∷ [])) n) f
         ∙ (let next = unused.next in
-           let end : n ≡ length maps = (let l : n < length maps → ⊥ = λ lt. (let z : false ≡ true = sym f ∙ lt-ltb n (length maps) lt in cc) in elim (cases_eq n (length maps)) [ inl e ↦ e | inr ne ↦ absurd (l (omega (arith, next, ne))) ]) in
-           get_or-append_right maps (Some a ∷ []) (length maps) n None refl (omega (arith, end)) ∙ ap (λ (k : ℕ). slice_index_or (Some a ∷ []) k None) (let z : n - length maps ≡ 0 = omega (arith, end) in z))
+        let end : n ≡ length maps = (let l : n < length maps → ⊥ = λ lt. (let z : false ≡ true = sym f ∙ lt-ltb n (length maps) lt in cc) in elim (cases_eq n (length maps)) [ inl e ↦ e | inr ne ↦ absurd (l (omega (arith, next, ne))) ]) in
+        get_or-append_right maps (Some a ∷ []) (length maps) n None refl (omega (arith, end)) ∙ ap (λ (k : ℕ). slice_index_or (Some a ∷ []) k None) (let z : n - length maps ≡ 0 = omega (arith, end) in z))
   ]
 
   pub with-else : (k : ℕ) → k ≢ n → anon_map_at (with_map maps n a) k ≡ anon_map_at maps k
@@ -47,8 +47,8 @@ module _ (maps : List (Option Map)) (n : ℕ) (a : Map) (unused : IsUnused maps 
     | inl t ↦ ap (λ (b : Bool). anon_map_at (cond b (slice_set maps n (Some a)) (maps ++ Some a ∷ [])) k) t ∙ get_or-set_other maps n k (Some a) None ne
     | inr f ↦ ap (λ (b : Bool). anon_map_at (cond b (slice_set maps n (Some a)) (maps ++ Some a ∷ [])) k) f
         ∙ (let next = unused.next in
-           let end : n ≡ length maps = (let l : n < length maps → ⊥ = λ lt. (let z : false ≡ true = sym f ∙ lt-ltb n (length maps) lt in cc) in elim (cases_eq n (length maps)) [ inl e ↦ e | inr ne ↦ absurd (l (omega (arith, next, ne))) ]) in
-           appended maps k (λ e. ne (e ∙ sym end)))
+        let end : n ≡ length maps = (let l : n < length maps → ⊥ = λ lt. (let z : false ≡ true = sym f ∙ lt-ltb n (length maps) lt in cc) in elim (cases_eq n (length maps)) [ inl e ↦ e | inr ne ↦ absurd (l (omega (arith, next, ne))) ]) in
+        appended maps k (λ e. ne (e ∙ sym end)))
   ]
     where
       appended : (xs : List (Option Map)) (k : ℕ) → k ≢ length xs → slice_index_or (xs ++ Some a ∷ []) k None ≡ slice_index_or xs k None
