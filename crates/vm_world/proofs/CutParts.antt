@@ -75,36 +75,36 @@ all-cut-rest P low page w u (r ∷ rs) x order is each down up = elim (cases_Boo
 ]
 
 -- THE MAPS of a cut, whether the segment has one of its own or not
-module _ (maps : List (Option Map)) (o : Option ℕ) (number at : ℕ) (there : (k : ℕ) → o ≡ Some k → IsMapThere maps k) (unused : IsSome o → IsUnused maps number) where
+module _ (maps : List (Option Map)) (o : Option ℕ) (number place : ℕ) (there : (k : ℕ) → o ≡ Some k → IsMapThere maps k) (unused : IsSome o → IsUnused maps number) where
   is-unused : (k : ℕ) → o ≡ Some k → IsUnused maps number
   is-unused k is = unused (subst (λ (x : Option ℕ). IsSome x) (sym is) refl)
 
-  mid-else : (n : ℕ) → IsMapThere maps n → o ≢ Some n → anon_map_at (maps_cut maps o number at) n ≡ anon_map_at maps n
+  mid-else : (n : ℕ) → IsMapThere maps n → o ≢ Some n → anon_map_at (maps_cut maps o number place) n ≡ anon_map_at maps n
   mid-else n is ne = by_own o refl
     where
-      by_own : (c : Option ℕ) → o ≡ c → anon_map_at (maps_cut maps c number at) n ≡ anon_map_at maps n
+      by_own : (c : Option ℕ) → o ≡ c → anon_map_at (maps_cut maps c number place) n ≡ anon_map_at maps n
       by_own None e = refl
-      by_own (Some k) e = cut-else maps k number at (there k e) (is-unused k e) n is (λ same. ne (e ∙ ap (λ (j : ℕ). Some j) (sym same)))
+      by_own (Some k) e = cut-else maps k number place (there k e) (is-unused k e) n is (λ same. ne (e ∙ ap (λ (j : ℕ). Some j) (sym same)))
 
-  mid-lower : (k : ℕ) → o ≡ Some k → anon_map_at (maps_cut maps o number at) k ≡ Some (record (the_map maps k) { places = take at (places_of maps k) })
-  mid-lower k is = ap (λ (c : Option ℕ). anon_map_at (maps_cut maps c number at) k) is ∙ cut-lower maps k number at (there k is) (is-unused k is)
+  mid-lower : (k : ℕ) → o ≡ Some k → anon_map_at (maps_cut maps o number place) k ≡ Some (record (the_map maps k) { places = take place (places_of maps k) })
+  mid-lower k is = ap (λ (c : Option ℕ). anon_map_at (maps_cut maps c number place) k) is ∙ cut-lower maps k number place (there k is) (is-unused k is)
 
-  mid-upper : (k : ℕ) → o ≡ Some k → anon_map_at (maps_cut maps o number at) number ≡ Some (held_once (drop at (places_of maps k)))
-  mid-upper k is = ap (λ (c : Option ℕ). anon_map_at (maps_cut maps c number at) number) is ∙ cut-upper maps k number at (there k is) (is-unused k is)
+  mid-upper : (k : ℕ) → o ≡ Some k → anon_map_at (maps_cut maps o number place) number ≡ Some (held_once (drop place (places_of maps k)))
+  mid-upper k is = ap (λ (c : Option ℕ). anon_map_at (maps_cut maps c number place) number) is ∙ cut-upper maps k number place (there k is) (is-unused k is)
 
-  mid-sum : (f : List (Option ℕ) → ℕ) → f [] ≡ 0 → ((ps : List (Option ℕ)) → f (take at ps) + f (drop at ps) ≡ f ps) → sum_by (λ (m : Option Map). f (places_in m)) (maps_cut maps o number at) ≡ sum_by (λ (m : Option Map). f (places_in m)) maps
+  mid-sum : (f : List (Option ℕ) → ℕ) → f [] ≡ 0 → ((ps : List (Option ℕ)) → f (take place ps) + f (drop place ps) ≡ f ps) → sum_by (λ (m : Option Map). f (places_in m)) (maps_cut maps o number place) ≡ sum_by (λ (m : Option Map). f (places_in m)) maps
   mid-sum f none parts = by_own o refl
     where
-      by_own : (c : Option ℕ) → o ≡ c → sum_by (λ (m : Option Map). f (places_in m)) (maps_cut maps c number at) ≡ sum_by (λ (m : Option Map). f (places_in m)) maps
+      by_own : (c : Option ℕ) → o ≡ c → sum_by (λ (m : Option Map). f (places_in m)) (maps_cut maps c number place) ≡ sum_by (λ (m : Option Map). f (places_in m)) maps
       by_own None e = refl
-      by_own (Some k) e = cut-sum maps k number at (there k e) (is-unused k e) f none (parts (places_of maps k))
+      by_own (Some k) e = cut-sum maps k number place (there k e) (is-unused k e) f none (parts (places_of maps k))
 
-  mid-holders : (n : ℕ) → holders_of (maps_cut maps o number at) n ≡ holders_of maps n + cond (is_number n (option_map (λ (own : ℕ). number) o)) 1 0
+  mid-holders : (n : ℕ) → holders_of (maps_cut maps o number place) n ≡ holders_of maps n + cond (is_number n (option_map (λ (own : ℕ). number) o)) 1 0
   mid-holders n = by_own o refl
     where
-      by_own : (c : Option ℕ) → o ≡ c → holders_of (maps_cut maps c number at) n ≡ holders_of maps n + cond (is_number n (option_map (λ (own : ℕ). number) c)) 1 0
+      by_own : (c : Option ℕ) → o ≡ c → holders_of (maps_cut maps c number place) n ≡ holders_of maps n + cond (is_number n (option_map (λ (own : ℕ). number) c)) 1 0
       by_own None e = omega arith
-      by_own (Some k) e = cut-holders maps k number at (there k e) (is-unused k e) n
+      by_own (Some k) e = cut-holders maps k number place (there k e) (is-unused k e) n
 
 abbrev no_places : List (Option ℕ)
 no_places = []
