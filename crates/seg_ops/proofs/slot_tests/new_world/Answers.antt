@@ -1,4 +1,4 @@
-use Rattle.std.proofs.Common.{◌≡◌, ℕ, List, [], Some, subst}
+use Rattle.std.proofs.Common.{◌≡◌, ℕ, List, [], Some, true, subst}
 use Rattle.block_device.specs.MemDiskLook.{look}
 use Rattle.block_device.specs.MemSeen.{disk_of}
 use Rattle.block_device.specs.declared.mem_disk.MemDisk.{MemDisk}
