@@ -12,4 +12,3 @@ mod Copies
 mod CopySteps
 pub mod PlacesShown
 pub mod HomeFrames
-mod FaultTrialLemmas

@@ -6,4 +6,3 @@ pub mod Serves
 pub mod Brings
 pub mod Shown
 pub mod AnyPlaces
-pub mod FaultTrials

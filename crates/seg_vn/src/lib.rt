@@ -8,8 +8,6 @@ mod attempt;
 mod clears;
 mod copy_faults;
 mod driver;
-#[cfg(test)]
-mod fault_tests;
 mod segment;
 mod shown;
 mod spaces;
