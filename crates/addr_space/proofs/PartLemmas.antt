@@ -2,7 +2,7 @@
 use Rattle.std.proofs.Common.{◌≡◌, ℕ, ◌+◌, ◌-◌, ◌<◌, ◌≤◌, inl, inr, Bool, true, false, cond, Option, Some, None, List, [], ◌∷◌, refl, sym, ◌∙◌, ap, subst, arith}
 use Rattle.std.specs.Prelude.{option_map, nat_lt, nat_le, ◌==◌}
 use Rattle.std.proofs.lemmas.Bool.{le-leb, lt-ltb, lt-leb, le-ltb, leb-true, ltb-true, and_from, and_left, and_right, and_parts, cases_lt, cases_Bool}
-use Rattle.addr_space.specs.Space.{Part, has, at, part_at, begins, put, cut_at, without, lower, upper_of, IsInOrder, IsPlaced}
+use Rattle.addr_space.specs.Space.{Part, has, piece_at, part_at, begins, put, cut_at, without_part, lower_part, upper_part, IsInOrder, LiesFrom}
 
 module _ {T : Type 0} where
   pub has-in : (p : Part T) (q : ℕ) → p.first ≤ q → q < p.first + p.pages → has p q ≡ true
@@ -64,11 +64,11 @@ module _ {T : Type 0} where
     ]
   ]
 
-  pub at-put : (x : Part T) (ps : List (Part T)) → ((r : ℕ) → x.first ≤ r → r < x.first + x.pages → part_at ps r ≡ None) → (q : ℕ) → at (put x ps) q ≡ cond (has x q) (Some (x.piece, q - x.first)) (at ps q)
+  pub at-put : (x : Part T) (ps : List (Part T)) → ((r : ℕ) → x.first ≤ r → r < x.first + x.pages → part_at ps r ≡ None) → (q : ℕ) → piece_at (put x ps) q ≡ cond (has x q) (Some (x.piece, q - x.first)) (piece_at ps q)
   at-put x ps free q = ap (λ (o : Option (Part T)). option_map (λ (p : Part T). (p.piece, q - p.first)) o) (part_at-put x ps q free)
-      ∙ elim (has x q) as (λ b. option_map (λ (p : Part T). (p.piece, q - p.first)) (cond b (Some x) (part_at ps q)) ≡ cond b (Some (x.piece, q - x.first)) (at ps q)) [ true ↦ refl | false ↦ refl ]
+      ∙ elim (has x q) as (λ b. option_map (λ (p : Part T). (p.piece, q - p.first)) (cond b (Some x) (part_at ps q)) ≡ cond b (Some (x.piece, q - x.first)) (piece_at ps q)) [ true ↦ refl | false ↦ refl ]
 
-  pub ordered-put : (low : ℕ) (x : Part T) (ps : List (Part T)) → IsInOrder low ps → IsPlaced low x → ((r : ℕ) → x.first ≤ r → r < x.first + x.pages → part_at ps r ≡ None) → IsInOrder low (put x ps)
+  pub ordered-put : (low : ℕ) (x : Part T) (ps : List (Part T)) → IsInOrder low ps → LiesFrom low x → ((r : ℕ) → x.first ≤ r → r < x.first + x.pages → part_at ps r ≡ None) → IsInOrder low (put x ps)
   ordered-put low x [] o placed free = (placed, tt)
   ordered-put low x (p ∷ ps) o placed free = elim (cases_lt p.first x.first) [
     | inl lt ↦ subst (λ (b : Bool). IsInOrder low (cond b (p ∷ put x ps) (x ∷ p ∷ ps))) (sym (lt-ltb p.first x.first lt)) (
@@ -116,54 +116,54 @@ module _ {T : Type 0} where
         record { behind = omega arith; some = t.some; within = t.within; here = t.here }
   ]
 
-  shows : (ps : List (Part T)) (q : ℕ) (o : Option (Part T)) → part_at ps q ≡ o → at ps q ≡ option_map (λ (p : Part T). (p.piece, q - p.first)) o
+  shows : (ps : List (Part T)) (q : ℕ) (o : Option (Part T)) → part_at ps q ≡ o → piece_at ps q ≡ option_map (λ (p : Part T). (p.piece, q - p.first)) o
   shows ps q o e = ap (λ (o : Option (Part T)). option_map (λ (p : Part T). (p.piece, q - p.first)) o) e
 
   -- the pages at and behind the cut show the upper piece, and all others what they showed
-  pub at-cut : (low page : ℕ) (u : T) (ps : List (Part T)) (p : Part T) → IsInOrder low ps → part_at ps page ≡ Some p → p.first < page → (q : ℕ) → at (cut_at page u ps) q ≡ cond (has (upper_of page u p) q) (Some (u, q - page)) (at ps q)
+  pub at-cut : (low page : ℕ) (u : T) (ps : List (Part T)) (p : Part T) → IsInOrder low ps → part_at ps page ≡ Some p → p.first < page → (q : ℕ) → piece_at (cut_at page u ps) q ≡ cond (has (upper_part page u p) q) (Some (u, q - page)) (piece_at ps q)
   at-cut low page u [] p o e lt q = let z : None ≡ Some p = e in cc
   at-cut low page u (r ∷ rs) p o e lt q = elim (cases_Bool (has r page)) [
     | inl t ↦
         let same : r ≡ p = let z : Some r ≡ Some p = sym (at-here r rs page t) ∙ e in cc in
-        subst (λ (p : Part T). at (cut_at page u (r ∷ rs)) q ≡ cond (has (upper_of page u p) q) (Some (u, q - page)) (at (r ∷ rs) q)) same
-        (ap (λ (b : Bool). at (cond b (lower page r ∷ upper_of page u r ∷ rs) (r ∷ cut_at page u rs)) q) t ∙ halves (has-within r page t).from (has-within r page t).below)
+        subst (λ (p : Part T). piece_at (cut_at page u (r ∷ rs)) q ≡ cond (has (upper_part page u p) q) (Some (u, q - page)) (piece_at (r ∷ rs) q)) same
+        (ap (λ (b : Bool). piece_at (cond b (lower_part page r ∷ upper_part page u r ∷ rs) (r ∷ cut_at page u rs)) q) t ∙ halves (has-within r page t).from (has-within r page t).below)
     | inr f ↦
         let e' : part_at rs page ≡ Some p = sym (at-next r rs page f) ∙ e in
         let found = found-in (r.first + r.pages) rs page p o.1 e' in
         let b = found.behind in
-        ap (λ (b : Bool). at (cond b (lower page r ∷ upper_of page u r ∷ rs) (r ∷ cut_at page u rs)) q) f
+        ap (λ (b : Bool). piece_at (cond b (lower_part page r ∷ upper_part page u r ∷ rs) (r ∷ cut_at page u rs)) q) f
         ∙ elim (cases_Bool (has r q)) [
           | inl h ↦ let w = (has-within r q h).below in
               shows (r ∷ cut_at page u rs) q (Some r) (at-here r (cut_at page u rs) q h)
               ∙ sym (shows (r ∷ rs) q (Some r) (at-here r rs q h))
-              ∙ ap (λ (b : Bool). cond b (Some (u, q - page)) (at (r ∷ rs) q)) (sym (has-before (upper_of page u p) q (omega arith)))
+              ∙ ap (λ (b : Bool). cond b (Some (u, q - page)) (piece_at (r ∷ rs) q)) (sym (has-before (upper_part page u p) q (omega arith)))
           | inr h ↦
               shows (r ∷ cut_at page u rs) q (part_at (cut_at page u rs) q) (at-next r (cut_at page u rs) q h)
               ∙ at-cut (r.first + r.pages) page u rs p o.1 e' lt q
-              ∙ ap (λ (a : Option (T × ℕ)). cond (has (upper_of page u p) q) (Some (u, q - page)) a) (sym (shows (r ∷ rs) q (part_at rs q) (at-next r rs q h)))
+              ∙ ap (λ (a : Option (T × ℕ)). cond (has (upper_part page u p) q) (Some (u, q - page)) a) (sym (shows (r ∷ rs) q (part_at rs q) (at-next r rs q h)))
         ]
   ]
     where
-      halves : r.first ≤ page → page < r.first + r.pages → at (lower page r ∷ upper_of page u r ∷ rs) q ≡ cond (has (upper_of page u r) q) (Some (u, q - page)) (at (r ∷ rs) q)
+      halves : r.first ≤ page → page < r.first + r.pages → piece_at (lower_part page r ∷ upper_part page u r ∷ rs) q ≡ cond (has (upper_part page u r) q) (Some (u, q - page)) (piece_at (r ∷ rs) q)
       halves from below = elim (cases_lt q page) [
         | inl before ↦ elim (cases_lt q r.first) [
           | inl out ↦
-              shows (lower page r ∷ upper_of page u r ∷ rs) q (part_at rs q) (at-next (lower page r) (upper_of page u r ∷ rs) q (has-before (lower page r) q out) ∙ at-next (upper_of page u r) rs q (has-before (upper_of page u r) q before))
+              shows (lower_part page r ∷ upper_part page u r ∷ rs) q (part_at rs q) (at-next (lower_part page r) (upper_part page u r ∷ rs) q (has-before (lower_part page r) q out) ∙ at-next (upper_part page u r) rs q (has-before (upper_part page u r) q before))
               ∙ sym (shows (r ∷ rs) q (part_at rs q) (at-next r rs q (has-before r q out)))
-              ∙ ap (λ (b : Bool). cond b (Some (u, q - page)) (at (r ∷ rs) q)) (sym (has-before (upper_of page u r) q before))
+              ∙ ap (λ (b : Bool). cond b (Some (u, q - page)) (piece_at (r ∷ rs) q)) (sym (has-before (upper_part page u r) q before))
           | inr in_ ↦
-              shows (lower page r ∷ upper_of page u r ∷ rs) q (Some (lower page r)) (at-here (lower page r) (upper_of page u r ∷ rs) q (has-in (lower page r) q in_ (omega arith)))
+              shows (lower_part page r ∷ upper_part page u r ∷ rs) q (Some (lower_part page r)) (at-here (lower_part page r) (upper_part page u r ∷ rs) q (has-in (lower_part page r) q in_ (omega arith)))
               ∙ sym (shows (r ∷ rs) q (Some r) (at-here r rs q (has-in r q in_ (omega arith))))
-              ∙ ap (λ (b : Bool). cond b (Some (u, q - page)) (at (r ∷ rs) q)) (sym (has-before (upper_of page u r) q before))
+              ∙ ap (λ (b : Bool). cond b (Some (u, q - page)) (piece_at (r ∷ rs) q)) (sym (has-before (upper_part page u r) q before))
         ]
         | inr after ↦ elim (cases_lt q (r.first + r.pages)) [
           | inl in_ ↦
-              shows (lower page r ∷ upper_of page u r ∷ rs) q (Some (upper_of page u r)) (at-next (lower page r) (upper_of page u r ∷ rs) q (has-past (lower page r) q (omega arith)) ∙ at-here (upper_of page u r) rs q (has-in (upper_of page u r) q after (omega arith)))
-              ∙ ap (λ (b : Bool). cond b (Some (u, q - page)) (at (r ∷ rs) q)) (sym (has-in (upper_of page u r) q after (omega arith)))
+              shows (lower_part page r ∷ upper_part page u r ∷ rs) q (Some (upper_part page u r)) (at-next (lower_part page r) (upper_part page u r ∷ rs) q (has-past (lower_part page r) q (omega arith)) ∙ at-here (upper_part page u r) rs q (has-in (upper_part page u r) q after (omega arith)))
+              ∙ ap (λ (b : Bool). cond b (Some (u, q - page)) (piece_at (r ∷ rs) q)) (sym (has-in (upper_part page u r) q after (omega arith)))
           | inr out ↦
-              shows (lower page r ∷ upper_of page u r ∷ rs) q (part_at rs q) (at-next (lower page r) (upper_of page u r ∷ rs) q (has-past (lower page r) q (omega arith)) ∙ at-next (upper_of page u r) rs q (has-past (upper_of page u r) q (omega arith)))
+              shows (lower_part page r ∷ upper_part page u r ∷ rs) q (part_at rs q) (at-next (lower_part page r) (upper_part page u r ∷ rs) q (has-past (lower_part page r) q (omega arith)) ∙ at-next (upper_part page u r) rs q (has-past (upper_part page u r) q (omega arith)))
               ∙ sym (shows (r ∷ rs) q (part_at rs q) (at-next r rs q (has-past r q out)))
-              ∙ ap (λ (b : Bool). cond b (Some (u, q - page)) (at (r ∷ rs) q)) (sym (has-past (upper_of page u r) q (omega arith)))
+              ∙ ap (λ (b : Bool). cond b (Some (u, q - page)) (piece_at (r ∷ rs) q)) (sym (has-past (upper_part page u r) q (omega arith)))
         ]
       ]
 
@@ -174,7 +174,7 @@ module _ {T : Type 0} where
         let same : r ≡ p = let z : Some r ≡ Some p = sym (at-here r rs page t) ∙ e in cc in
         let f : r.first < page = subst (λ (p : Part T). p.first < page) (sym same) lt in
         let w = (has-within r page t).below in let v = o.0.within in
-        subst (λ (b : Bool). IsInOrder low (cond b (lower page r ∷ upper_of page u r ∷ rs) (r ∷ cut_at page u rs))) (sym t) (
+        subst (λ (b : Bool). IsInOrder low (cond b (lower_part page r ∷ upper_part page u r ∷ rs) (r ∷ cut_at page u rs))) (sym t) (
           record { behind = o.0.behind; some = omega arith; within = omega arith },
           (
             record { behind = omega arith; some = omega arith; within = omega arith },
@@ -182,7 +182,7 @@ module _ {T : Type 0} where
           ),
         )
     | inr f ↦
-        subst (λ (b : Bool). IsInOrder low (cond b (lower page r ∷ upper_of page u r ∷ rs) (r ∷ cut_at page u rs))) (sym f)
+        subst (λ (b : Bool). IsInOrder low (cond b (lower_part page r ∷ upper_part page u r ∷ rs) (r ∷ cut_at page u rs))) (sym f)
         (o.0, ordered-cut (r.first + r.pages) page u rs p o.1 (sym (at-next r rs page f) ∙ e) lt)
   ]
 
@@ -196,25 +196,25 @@ module _ {T : Type 0} where
       ]
 
   -- the pages of the part that goes are free, and all others show what they showed
-  pub at-without : (low page : ℕ) (ps : List (Part T)) (p : Part T) → IsInOrder low ps → begins ps page ≡ Some p → (q : ℕ) → at (without page ps) q ≡ cond (has p q) None (at ps q)
-  at-without low page [] p o e q = let z : None ≡ Some p = e in cc
-  at-without low page (r ∷ rs) p o e q = elim (cases_Bool (r.first == page)) [
+  pub at-without_part : (low page : ℕ) (ps : List (Part T)) (p : Part T) → IsInOrder low ps → begins ps page ≡ Some p → (q : ℕ) → piece_at (without_part page ps) q ≡ cond (has p q) None (piece_at ps q)
+  at-without_part low page [] p o e q = let z : None ≡ Some p = e in cc
+  at-without_part low page (r ∷ rs) p o e q = elim (cases_Bool (r.first == page)) [
     | inl t ↦
         let same : r ≡ p = let z : Some r ≡ Some p = ap (λ (b : Bool). cond b (Some r) (begins rs page)) (sym t) ∙ e in cc in
-        subst (λ (p : Part T). at (without page (r ∷ rs)) q ≡ cond (has p q) None (at (r ∷ rs) q)) same
-        (ap (λ (b : Bool). at (cond b rs (r ∷ without page rs)) q) t ∙ elim (cases_Bool (has r q)) [
-          | inl h ↦ shows rs q None (none-below (r.first + r.pages) rs q o.1 (has-within r q h).below) ∙ ap (λ (b : Bool). cond b None (at (r ∷ rs) q)) (sym h)
-          | inr h ↦ sym (shows (r ∷ rs) q (part_at rs q) (at-next r rs q h)) ∙ ap (λ (b : Bool). cond b None (at (r ∷ rs) q)) (sym h)
+        subst (λ (p : Part T). piece_at (without_part page (r ∷ rs)) q ≡ cond (has p q) None (piece_at (r ∷ rs) q)) same
+        (ap (λ (b : Bool). piece_at (cond b rs (r ∷ without_part page rs)) q) t ∙ elim (cases_Bool (has r q)) [
+          | inl h ↦ shows rs q None (none-below (r.first + r.pages) rs q o.1 (has-within r q h).below) ∙ ap (λ (b : Bool). cond b None (piece_at (r ∷ rs) q)) (sym h)
+          | inr h ↦ sym (shows (r ∷ rs) q (part_at rs q) (at-next r rs q h)) ∙ ap (λ (b : Bool). cond b None (piece_at (r ∷ rs) q)) (sym h)
         ])
     | inr f ↦
         let e' : begins rs page ≡ Some p = ap (λ (b : Bool). cond b (Some r) (begins rs page)) (sym f) ∙ e in
         let b = begins-in (r.first + r.pages) rs page p o.1 e' in
-        ap (λ (b : Bool). at (cond b rs (r ∷ without page rs)) q) f ∙ elim (cases_Bool (has r q)) [
+        ap (λ (b : Bool). piece_at (cond b rs (r ∷ without_part page rs)) q) f ∙ elim (cases_Bool (has r q)) [
           | inl h ↦ let w = (has-within r q h).below in
-              shows (r ∷ without page rs) q (Some r) (at-here r (without page rs) q h) ∙ sym (shows (r ∷ rs) q (Some r) (at-here r rs q h)) ∙ ap (λ (b : Bool). cond b None (at (r ∷ rs) q)) (sym (has-before p q (omega arith)))
+              shows (r ∷ without_part page rs) q (Some r) (at-here r (without_part page rs) q h) ∙ sym (shows (r ∷ rs) q (Some r) (at-here r rs q h)) ∙ ap (λ (b : Bool). cond b None (piece_at (r ∷ rs) q)) (sym (has-before p q (omega arith)))
           | inr h ↦
-              shows (r ∷ without page rs) q (part_at (without page rs) q) (at-next r (without page rs) q h)
-              ∙ at-without (r.first + r.pages) page rs p o.1 e' q
+              shows (r ∷ without_part page rs) q (part_at (without_part page rs) q) (at-next r (without_part page rs) q h)
+              ∙ at-without_part (r.first + r.pages) page rs p o.1 e' q
               ∙ ap (λ (a : Option (T × ℕ)). cond (has p q) None a) (sym (shows (r ∷ rs) q (part_at rs q) (at-next r rs q h)))
         ]
   ]
@@ -224,9 +224,9 @@ module _ {T : Type 0} where
   lower-order low low' [] le o = tt
   lower-order low low' (p ∷ ps) le o = let a = o.0.behind in (record { behind = omega arith; some = o.0.some; within = o.0.within }, o.1)
 
-  pub ordered-without : (low page : ℕ) (ps : List (Part T)) → IsInOrder low ps → IsInOrder low (without page ps)
-  ordered-without low page [] o = tt
-  ordered-without low page (r ∷ rs) o = elim (cases_Bool (r.first == page)) [
-    | inl t ↦ let a = o.0.behind in subst (λ (b : Bool). IsInOrder low (cond b rs (r ∷ without page rs))) (sym t) (lower-order (r.first + r.pages) low rs (omega arith) o.1)
-    | inr f ↦ subst (λ (b : Bool). IsInOrder low (cond b rs (r ∷ without page rs))) (sym f) (o.0, ordered-without (r.first + r.pages) page rs o.1)
+  pub ordered-without_part : (low page : ℕ) (ps : List (Part T)) → IsInOrder low ps → IsInOrder low (without_part page ps)
+  ordered-without_part low page [] o = tt
+  ordered-without_part low page (r ∷ rs) o = elim (cases_Bool (r.first == page)) [
+    | inl t ↦ let a = o.0.behind in subst (λ (b : Bool). IsInOrder low (cond b rs (r ∷ without_part page rs))) (sym t) (lower-order (r.first + r.pages) low rs (omega arith) o.1)
+    | inr f ↦ subst (λ (b : Bool). IsInOrder low (cond b rs (r ∷ without_part page rs))) (sym f) (o.0, ordered-without_part (r.first + r.pages) page rs o.1)
   ]

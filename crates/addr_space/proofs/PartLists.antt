@@ -3,9 +3,9 @@ use Rattle.std.proofs.Common.{◌≡◌, ℕ, ◌+◌, ◌-◌, ◌<◌, ◌≤�
 use Rattle.std.specs.Prelude.{option_map, nat_lt, nat_le, ◌==◌, ◌&&◌, All}
 use Rattle.std.proofs.lemmas.Bool.{cases_Bool, cases_lt, eqb-true, eq-eqb, ne_eqb, le-leb, lt-ltb, lt-leb, le-ltb, and_from, and_left, and_right}
 use Rattle.std.proofs.lemmas.List.Elements.{All-nil, All-cons, All-head, All-tail}
-use Rattle.addr_space.specs.Space.{Part, part, has, at, part_at, begins, put, cut_at, without, with_piece, lower, upper_of, IsInOrder, FindsLast}
-use Rattle.addr_space.proofs.PartLemmas.{has-in, has-within, has-before, has-past, at-without, at-here, at-next, found-in, at-cut}
-use Rattle.addr_space.proofs.PageLaws.{shows, at-with_piece, ordered-written}
+use Rattle.addr_space.specs.Space.{Part, part, has, piece_at, part_at, begins, put, cut_at, without_part, with_new_piece, lower_part, upper_part, IsInOrder, FindsLast}
+use Rattle.addr_space.proofs.PartLemmas.{has-in, has-within, has-before, has-past, at-without_part, at-here, at-next, found-in, at-cut}
+use Rattle.addr_space.proofs.PageLaws.{shows, at-with_new_piece, ordered-written}
 
 module _ {T : Type 0} where
   pub all-put : (P : Part T → Type 0) (x : Part T) (ps : List (Part T)) → P x → All P ps → All P (put x ps)
@@ -15,11 +15,11 @@ module _ {T : Type 0} where
     | false ↦ All-cons P x (p ∷ ps) new each
   ]
 
-  pub all-without : (P : Part T → Type 0) (page : ℕ) (ps : List (Part T)) → All P ps → All P (without page ps)
-  all-without P page [] each = each
-  all-without P page (p ∷ ps) each = elim (p.first == page) as (λ b. All P (cond b ps (p ∷ without page ps))) [
+  pub all-without_part : (P : Part T → Type 0) (page : ℕ) (ps : List (Part T)) → All P ps → All P (without_part page ps)
+  all-without_part P page [] each = each
+  all-without_part P page (p ∷ ps) each = elim (p.first == page) as (λ b. All P (cond b ps (p ∷ without_part page ps))) [
     | true ↦ All-tail P p ps each
-    | false ↦ All-cons P p (without page ps) (All-head P p ps each) (all-without P page ps (All-tail P p ps each))
+    | false ↦ All-cons P p (without_part page ps) (All-head P p ps each) (all-without_part P page ps (All-tail P p ps each))
   ]
 
   -- a part that is found is one of them
@@ -61,43 +61,43 @@ module _ {T : Type 0} where
   ]
 
   -- the part that has a page, with another piece
-  pub found-with_piece : (ps : List (Part T)) (page : ℕ) (w : T) (p : Part T) → part_at ps page ≡ Some p → part_at (with_piece page w ps) page ≡ Some (part p.first p.pages w)
-  found-with_piece [] page w p e = absurd (let z : None ≡ Some p = e in cc)
-  found-with_piece (r ∷ rs) page w p e = elim (cases_Bool (has r page)) [
+  pub found-with_new_piece : (ps : List (Part T)) (page : ℕ) (w : T) (p : Part T) → part_at ps page ≡ Some p → part_at (with_new_piece page w ps) page ≡ Some (part p.first p.pages w)
+  found-with_new_piece [] page w p e = absurd (let z : None ≡ Some p = e in cc)
+  found-with_new_piece (r ∷ rs) page w p e = elim (cases_Bool (has r page)) [
     | inl t ↦
         let same : r ≡ p = let z : Some r ≡ Some p = sym (at-here r rs page t) ∙ e in cc in
-        ap (λ (b : Bool). part_at (cond b (part r.first r.pages w ∷ rs) (r ∷ with_piece page w rs)) page) t ∙ at-here (part r.first r.pages w) rs page t ∙ ap (λ (p : Part T). Some (part p.first p.pages w)) same
+        ap (λ (b : Bool). part_at (cond b (part r.first r.pages w ∷ rs) (r ∷ with_new_piece page w rs)) page) t ∙ at-here (part r.first r.pages w) rs page t ∙ ap (λ (p : Part T). Some (part p.first p.pages w)) same
     | inr f ↦
-        ap (λ (b : Bool). part_at (cond b (part r.first r.pages w ∷ rs) (r ∷ with_piece page w rs)) page) f ∙ at-next r (with_piece page w rs) page f
-        ∙ found-with_piece rs page w p (sym (at-next r rs page f) ∙ e)
+        ap (λ (b : Bool). part_at (cond b (part r.first r.pages w ∷ rs) (r ∷ with_new_piece page w rs)) page) f ∙ at-next r (with_new_piece page w rs) page f
+        ∙ found-with_new_piece rs page w p (sym (at-next r rs page f) ∙ e)
   ]
 
   -- a cut, with another piece below it
   pub all-cut : (P : Part T → Type 0) (page : ℕ) (w u : T) (ps : List (Part T)) (p : Part T) → part_at ps page ≡ Some p → All P ps → P (part p.first (page - p.first) w) → P (part page (p.first + p.pages - page) u)
-      → All P (cut_at page u (with_piece page w ps))
+      → All P (cut_at page u (with_new_piece page w ps))
   all-cut P page w u [] p e each low high = absurd (let z : None ≡ Some p = e in cc)
   all-cut P page w u (r ∷ rs) p e each low high = elim (cases_Bool (has r page)) [
     | inl t ↦
         let same : r ≡ p = let z : Some r ≡ Some p = sym (at-here r rs page t) ∙ e in cc in
         let new = part r.first r.pages w in
-        subst (λ (b : Bool). All P (cut_at page u (cond b (new ∷ rs) (r ∷ with_piece page w rs)))) (sym t)
-        (subst (λ (b : Bool). All P (cond b (lower page new ∷ upper_of page u new ∷ rs) (new ∷ cut_at page u rs))) (sym t)
-        (All-cons P (lower page new) (upper_of page u new ∷ rs) (subst (λ (p : Part T). P (part p.first (page - p.first) w)) (sym same) low)
-        (All-cons P (upper_of page u new) rs (subst (λ (p : Part T). P (part page (p.first + p.pages - page) u)) (sym same) high) (All-tail P r rs each))))
+        subst (λ (b : Bool). All P (cut_at page u (cond b (new ∷ rs) (r ∷ with_new_piece page w rs)))) (sym t)
+        (subst (λ (b : Bool). All P (cond b (lower_part page new ∷ upper_part page u new ∷ rs) (new ∷ cut_at page u rs))) (sym t)
+        (All-cons P (lower_part page new) (upper_part page u new ∷ rs) (subst (λ (p : Part T). P (part p.first (page - p.first) w)) (sym same) low)
+        (All-cons P (upper_part page u new) rs (subst (λ (p : Part T). P (part page (p.first + p.pages - page) u)) (sym same) high) (All-tail P r rs each))))
     | inr f ↦
-        subst (λ (b : Bool). All P (cut_at page u (cond b (part r.first r.pages w ∷ rs) (r ∷ with_piece page w rs)))) (sym f)
-        (subst (λ (b : Bool). All P (cond b (lower page r ∷ upper_of page u r ∷ with_piece page w rs) (r ∷ cut_at page u (with_piece page w rs)))) (sym f)
-        (All-cons P r (cut_at page u (with_piece page w rs)) (All-head P r rs each) (all-cut P page w u rs p (sym (at-next r rs page f) ∙ e) (All-tail P r rs each) low high)))
+        subst (λ (b : Bool). All P (cut_at page u (cond b (part r.first r.pages w ∷ rs) (r ∷ with_new_piece page w rs)))) (sym f)
+        (subst (λ (b : Bool). All P (cond b (lower_part page r ∷ upper_part page u r ∷ with_new_piece page w rs) (r ∷ cut_at page u (with_new_piece page w rs)))) (sym f)
+        (All-cons P r (cut_at page u (with_new_piece page w rs)) (All-head P r rs each) (all-cut P page w u rs p (sym (at-next r rs page f) ∙ e) (All-tail P r rs each) low high)))
   ]
 
   -- WHAT A CUT WITH ANOTHER PIECE BELOW IT shows at each page
   pub at-cut_both : (page : ℕ) (w u : T) (ps : List (Part T)) (p : Part T) → IsInOrder 1 ps → part_at ps page ≡ Some p → p.first < page → (q : ℕ)
-      → at (cut_at page u (with_piece page w ps)) q ≡ cond (has (upper_of page u p) q) (Some (u, q - page)) (cond (has p q) (Some (w, q - p.first)) (at ps q))
+      → piece_at (cut_at page u (with_new_piece page w ps)) q ≡ cond (has (upper_part page u p) q) (Some (u, q - page)) (cond (has p q) (Some (w, q - p.first)) (piece_at ps q))
   at-cut_both page w u ps p o e lt q =
-      at-cut 1 page u (with_piece page w ps) (part p.first p.pages w) (ordered-written ps page o w) (found-with_piece ps page w p e) lt q
-      ∙ ap (λ (x : Option (T × ℕ)). cond (has (upper_of page u p) q) (Some (u, q - page)) x) (at-with_piece 1 page w ps p o e q)
+      at-cut 1 page u (with_new_piece page w ps) (part p.first p.pages w) (ordered-written ps page o w) (found-with_new_piece ps page w p e) lt q
+      ∙ ap (λ (x : Option (T × ℕ)). cond (has (upper_part page u p) q) (Some (u, q - page)) x) (at-with_new_piece 1 page w ps p o e q)
 
-  pub at-found : (low : ℕ) (ps : List (Part T)) (page q : ℕ) (p : Part T) → IsInOrder low ps → part_at ps page ≡ Some p → has p q ≡ true → at ps q ≡ Some (p.piece, q - p.first)
+  pub at-found : (low : ℕ) (ps : List (Part T)) (page q : ℕ) (p : Part T) → IsInOrder low ps → part_at ps page ≡ Some p → has p q ≡ true → piece_at ps q ≡ Some (p.piece, q - p.first)
   at-found low ps page q p o e h = shows ps q (Some p) (found-has low ps page q p o e h)
 
   -- a part that begins with a page has it, and a part that is found begins with its first page
@@ -134,7 +134,7 @@ module _ {T : Type 0} where
         ap (λ (b : Bool). cond b (Some r) (begins rs p.first)) (ne_eqb r.first p.first (λ same. omega (arith, same, behind, some))) ∙ found-begins (r.first + r.pages) rs q p o.1 e'
   ]
 
-  none-at : (ps : List (Part T)) (q : ℕ) → ((p : Part T) → part_at ps q ≡ Some p → ⊥) → at ps q ≡ None
+  none-at : (ps : List (Part T)) (q : ℕ) → ((p : Part T) → part_at ps q ≡ Some p → ⊥) → piece_at ps q ≡ None
   none-at ps q none = shows ps q None (by_part (part_at ps q) refl)
     where
       by_part : (o : Option (Part T)) → part_at ps q ≡ o → part_at ps q ≡ None
@@ -145,7 +145,7 @@ module _ {T : Type 0} where
   some-same ps q p r a b = let z : Some p ≡ Some r = sym a ∙ b in cc
 
   -- behind the last part below a bound nothing is
-  pub last-free : (ps : List (Part T)) (end k : ℕ) (x : Part T) → IsInOrder 1 ps → FindsLast ps end (Some k) → begins ps k ≡ Some x → (q : ℕ) → x.first + x.pages ≤ q → q < end → at ps q ≡ None
+  pub last-free : (ps : List (Part T)) (end k : ℕ) (x : Part T) → IsInOrder 1 ps → FindsLast ps end (Some k) → begins ps k ≡ Some x → (q : ℕ) → x.first + x.pages ≤ q → q < end → piece_at ps q ≡ None
   last-free ps end k x o last is q past below = none-at ps q (λ y found.
       let first = begins-first ps k x is in
       let w = has-within y q (found-in 1 ps q y o found).here in
@@ -163,10 +163,10 @@ module _ {T : Type 0} where
 
   -- a page that has a part is the part's first
   abbrev pub StartsAt : List (Part T) → ℕ → Type 0
-  StartsAt ps q = (x : T × ℕ) → at ps q ≡ Some x → x.1 ≡ 0
+  StartsAt ps q = (x : T × ℕ) → piece_at ps q ≡ Some x → x.1 ≡ 0
 
   -- no part begins in a range, nor goes into it: so it is free
-  pub none-begin : (ps : List (Part T)) (from end : ℕ) → IsInOrder 1 ps → ((first : ℕ) → from ≤ first → first < end → begins ps first ≡ None) → StartsAt ps from → (q : ℕ) → from ≤ q → q < end → at ps q ≡ None
+  pub none-begin : (ps : List (Part T)) (from end : ℕ) → IsInOrder 1 ps → ((first : ℕ) → from ≤ first → first < end → begins ps first ≡ None) → StartsAt ps from → (q : ℕ) → from ≤ q → q < end → piece_at ps q ≡ None
   none-begin ps from end o none edge q low high = none-at ps q (λ y found.
       let w = has-within y q (found-in 1 ps q y o found).here in
       let start = w.from in
@@ -179,67 +179,67 @@ module _ {T : Type 0} where
       ])
 
   -- THE LAST PART OF A RANGE goes, behind which the range is free already
-  pub pages-step : (old now : List (Part T)) (end top k : ℕ) (x : Part T) → IsInOrder 1 now → end ≤ top → k < end → ((q : ℕ) → at now q ≡ cond (nat_le end q && nat_lt q (end + (top - end))) None (at old q))
-      → StartsAt old top → FindsLast now end (Some k) → begins now k ≡ Some x → (q : ℕ) → at (without k now) q ≡ cond (nat_le k q && nat_lt q (k + (top - k))) None (at old q)
+  pub pages-step : (old now : List (Part T)) (end top k : ℕ) (x : Part T) → IsInOrder 1 now → end ≤ top → k < end → ((q : ℕ) → piece_at now q ≡ cond (nat_le end q && nat_lt q (end + (top - end))) None (piece_at old q))
+      → StartsAt old top → FindsLast now end (Some k) → begins now k ≡ Some x → (q : ℕ) → piece_at (without_part k now) q ≡ cond (nat_le k q && nat_lt q (k + (top - k))) None (piece_at old q)
   pages-step old now end top k x o le lt pages edge last is q =
       let first = begins-first now k x is in
       let found = begins-found 1 now k x o is in
-      let outside : (q : ℕ) → nat_le end q ≡ false → at now q ≡ at old q = λ q f. pages q ∙ ap (λ (b : Bool). cond (b && nat_lt q (end + (top - end))) None (at old q)) f in
+      let outside : (q : ℕ) → nat_le end q ≡ false → piece_at now q ≡ piece_at old q = λ q f. pages q ∙ ap (λ (b : Bool). cond (b && nat_lt q (end + (top - end))) None (piece_at old q)) f in
       let short : x.first + x.pages ≤ end = elim (cases_lt end (x.first + x.pages)) [
         | inr fine ↦ fine
         | inl long ↦ absurd (
-            let here : at now end ≡ Some (x.piece, end - x.first) = at-found 1 now k end x o found (has-in x end (omega (arith, first, lt)) long) in
+            let here : piece_at now end ≡ Some (x.piece, end - x.first) = at-found 1 now k end x o found (has-in x end (omega (arith, first, lt)) long) in
             elim (cases_lt end top) [
               | inl inner ↦
-                  let gone : at now end ≡ None = pages end ∙ ap (λ (b : Bool). cond b None (at old end)) (and_from (nat_le end end) (nat_lt end (end + (top - end))) (le-leb end end (omega arith)) (lt-ltb end (end + (top - end)) (omega (arith, inner)))) in
+                  let gone : piece_at now end ≡ None = pages end ∙ ap (λ (b : Bool). cond b None (piece_at old end)) (and_from (nat_le end end) (nat_lt end (end + (top - end))) (le-leb end end (omega arith)) (lt-ltb end (end + (top - end)) (omega (arith, inner)))) in
                   let z : None ≡ Some (x.piece, end - x.first) = sym gone ∙ here in cc
               | inr outer ↦
                   let same : end ≡ top = omega (arith, le, outer) in
-                  let was : at old end ≡ Some (x.piece, end - x.first) = sym (pages end ∙ ap (λ (b : Bool). cond b None (at old end)) (and_right (nat_le end end) (nat_lt end (end + (top - end))) (le-ltb end (end + (top - end)) (omega (arith, same))))) ∙ here in
-                  let zero = edge (x.piece, end - x.first) (ap (at old) (sym same) ∙ was) in
+                  let was : piece_at old end ≡ Some (x.piece, end - x.first) = sym (pages end ∙ ap (λ (b : Bool). cond b None (piece_at old end)) (and_right (nat_le end end) (nat_lt end (end + (top - end))) (le-ltb end (end + (top - end)) (omega (arith, same))))) ∙ here in
+                  let zero = edge (x.piece, end - x.first) (ap (piece_at old) (sym same) ∙ was) in
                   omega (arith, zero, first, lt)
             ])
       ] in
-      at-without 1 k now x o is q ∙ elim (cases_Bool (has x q)) [
+      at-without_part 1 k now x o is q ∙ elim (cases_Bool (has x q)) [
         | inl here ↦
             let w = has-within x q here in
             let from = w.from in
             let below = w.below in
-            ap (λ (b : Bool). cond b None (at now q)) here
-            ∙ sym (ap (λ (b : Bool). cond b None (at old q)) (and_from (nat_le k q) (nat_lt q (k + (top - k))) (le-leb k q (omega (arith, from, first))) (lt-ltb q (k + (top - k)) (omega (arith, below, short, le, lt)))))
-        | inr other ↦ ap (λ (b : Bool). cond b None (at now q)) other ∙ elim (cases_lt q k) [
+            ap (λ (b : Bool). cond b None (piece_at now q)) here
+            ∙ sym (ap (λ (b : Bool). cond b None (piece_at old q)) (and_from (nat_le k q) (nat_lt q (k + (top - k))) (le-leb k q (omega (arith, from, first))) (lt-ltb q (k + (top - k)) (omega (arith, below, short, le, lt)))))
+        | inr other ↦ ap (λ (b : Bool). cond b None (piece_at now q)) other ∙ elim (cases_lt q k) [
           | inl before ↦
-              outside q (lt-leb end q (omega (arith, before, lt))) ∙ sym (ap (λ (b : Bool). cond b None (at old q)) (and_left (nat_le k q) (nat_lt q (k + (top - k))) (lt-leb k q before)))
+              outside q (lt-leb end q (omega (arith, before, lt))) ∙ sym (ap (λ (b : Bool). cond b None (piece_at old q)) (and_left (nat_le k q) (nat_lt q (k + (top - k))) (lt-leb k q before)))
           | inr from ↦ elim (cases_lt q end) [
             | inl inner ↦
                 let past : x.first + x.pages ≤ q = elim (cases_lt q (x.first + x.pages)) [ inr fine ↦ fine | inl low ↦ absurd (let z : true ≡ false = sym (has-in x q (omega (arith, from, first)) low) ∙ other in cc) ] in
                 last-free now end k x o last is q past inner
-                ∙ sym (ap (λ (b : Bool). cond b None (at old q)) (and_from (nat_le k q) (nat_lt q (k + (top - k))) (le-leb k q from) (lt-ltb q (k + (top - k)) (omega (arith, inner, le, lt)))))
+                ∙ sym (ap (λ (b : Bool). cond b None (piece_at old q)) (and_from (nat_le k q) (nat_lt q (k + (top - k))) (le-leb k q from) (lt-ltb q (k + (top - k)) (omega (arith, inner, le, lt)))))
             | inr beyond ↦
                 let both : k + (top - k) ≡ end + (top - end) = omega (arith, le, lt) in
-                pages q ∙ ap (λ (b : Bool). cond (b && nat_lt q (end + (top - end))) None (at old q)) (le-leb end q beyond)
-                ∙ ap (λ (n : ℕ). cond (nat_lt q n) None (at old q)) (sym both)
-                ∙ sym (ap (λ (b : Bool). cond (b && nat_lt q (k + (top - k))) None (at old q)) (le-leb k q from))
+                pages q ∙ ap (λ (b : Bool). cond (b && nat_lt q (end + (top - end))) None (piece_at old q)) (le-leb end q beyond)
+                ∙ ap (λ (n : ℕ). cond (nat_lt q n) None (piece_at old q)) (sym both)
+                ∙ sym (ap (λ (b : Bool). cond (b && nat_lt q (k + (top - k))) None (piece_at old q)) (le-leb k q from))
           ]
         ]
       ]
 
   -- and where no part is left in it, the whole range is
-  pub pages-end : (old now : List (Part T)) (from end top : ℕ) → IsInOrder 1 now → from ≤ end → end ≤ top → ((q : ℕ) → at now q ≡ cond (nat_le end q && nat_lt q (end + (top - end))) None (at old q))
-      → StartsAt old from → ((first : ℕ) → from ≤ first → first < end → begins now first ≡ None) → (q : ℕ) → at now q ≡ cond (nat_le from q && nat_lt q (from + (top - from))) None (at old q)
+  pub pages-end : (old now : List (Part T)) (from end top : ℕ) → IsInOrder 1 now → from ≤ end → end ≤ top → ((q : ℕ) → piece_at now q ≡ cond (nat_le end q && nat_lt q (end + (top - end))) None (piece_at old q))
+      → StartsAt old from → ((first : ℕ) → from ≤ first → first < end → begins now first ≡ None) → (q : ℕ) → piece_at now q ≡ cond (nat_le from q && nat_lt q (from + (top - from))) None (piece_at old q)
   pages-end old now from end top o low high pages edge none q = elim (cases_lt q from) [
     | inl before ↦
-        pages q ∙ ap (λ (b : Bool). cond (b && nat_lt q (end + (top - end))) None (at old q)) (lt-leb end q (omega (arith, before, low)))
-        ∙ sym (ap (λ (b : Bool). cond (b && nat_lt q (from + (top - from))) None (at old q)) (lt-leb from q before))
+        pages q ∙ ap (λ (b : Bool). cond (b && nat_lt q (end + (top - end))) None (piece_at old q)) (lt-leb end q (omega (arith, before, low)))
+        ∙ sym (ap (λ (b : Bool). cond (b && nat_lt q (from + (top - from))) None (piece_at old q)) (lt-leb from q before))
     | inr inside ↦ elim (cases_lt q end) [
       | inl inner ↦
-          let here : at now from ≡ at old from = pages from ∙ ap (λ (b : Bool). cond (b && nat_lt from (end + (top - end))) None (at old from)) (lt-leb end from (omega (arith, inner, inside))) in
+          let here : piece_at now from ≡ piece_at old from = pages from ∙ ap (λ (b : Bool). cond (b && nat_lt from (end + (top - end))) None (piece_at old from)) (lt-leb end from (omega (arith, inner, inside))) in
           none-begin now from end o none (λ x is. edge x (sym here ∙ is)) q inside inner
-          ∙ sym (ap (λ (b : Bool). cond b None (at old q)) (and_from (nat_le from q) (nat_lt q (from + (top - from))) (le-leb from q inside) (lt-ltb q (from + (top - from)) (omega (arith, inner, low, high)))))
+          ∙ sym (ap (λ (b : Bool). cond b None (piece_at old q)) (and_from (nat_le from q) (nat_lt q (from + (top - from))) (le-leb from q inside) (lt-ltb q (from + (top - from)) (omega (arith, inner, low, high)))))
       | inr beyond ↦
           let both : from + (top - from) ≡ end + (top - end) = omega (arith, low, high) in
-          pages q ∙ ap (λ (b : Bool). cond (b && nat_lt q (end + (top - end))) None (at old q)) (le-leb end q beyond)
-          ∙ ap (λ (n : ℕ). cond (nat_lt q n) None (at old q)) (sym both)
-          ∙ sym (ap (λ (b : Bool). cond (b && nat_lt q (from + (top - from))) None (at old q)) (le-leb from q inside))
+          pages q ∙ ap (λ (b : Bool). cond (b && nat_lt q (end + (top - end))) None (piece_at old q)) (le-leb end q beyond)
+          ∙ ap (λ (n : ℕ). cond (nat_lt q n) None (piece_at old q)) (sym both)
+          ∙ sym (ap (λ (b : Bool). cond (b && nat_lt q (from + (top - from))) None (piece_at old q)) (le-leb from q inside))
     ]
   ]

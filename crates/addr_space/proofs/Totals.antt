@@ -6,12 +6,12 @@ use Rattle.std.specs.FinMap as map
 use Rattle.std.specs.Cmp.{nat_cmp_total}
 use Rattle.std.proofs.lemmas.Bool.{cases_Bool}
 use Rattle.std.proofs.lemmas.List.Sums.{sum_by-cons}
-use Rattle.addr_space.specs.Space.{Part, part, has, begins, put, cut_at, without, lower, upper_of, page_total, IsInOrder}
+use Rattle.addr_space.specs.Space.{Part, part, has, begins, put, cut_at, without_part, lower_part, upper_part, page_total, IsInOrder}
 use Rattle.addr_space.specs.declared.ranges.Span.{Span}
-use Rattle.addr_space.specs.Inside.{joined}
-use Rattle.addr_space.specs.Pages.{with_pages, pages_of}
+use Rattle.addr_space.specs.Inside.{span_parts}
+use Rattle.addr_space.specs.Pages.{with_pages, pages_of_parts}
 use Rattle.addr_space.proofs.PartLemmas.{has-within, has-past, none-below}
-use Rattle.addr_space.proofs.PageLaws.{shows, get-with_pages, get-pages_of}
+use Rattle.addr_space.proofs.PageLaws.{shows, get-with_pages, get-pages_of_parts}
 
 module _ {T : Type 0} where
   pub total-cons : (p : Part T) (ps : List (Part T)) → page_total (p ∷ ps) ≡ p.pages + page_total ps
@@ -35,43 +35,43 @@ module _ {T : Type 0} where
         let w = has-within p page t in
         let low = w.from in
         let high = w.below in
-        let a = total-cons (lower page p) (upper_of page u p ∷ ps) in
-        let b = total-cons (upper_of page u p) ps in
+        let a = total-cons (lower_part page p) (upper_part page u p ∷ ps) in
+        let b = total-cons (upper_part page u p) ps in
         let d = total-cons p ps in
-        ap (λ (b : Bool). page_total (cond b (lower page p ∷ upper_of page u p ∷ ps) (p ∷ cut_at page u ps))) t ∙ omega (arith, a, b, d, low, high)
+        ap (λ (b : Bool). page_total (cond b (lower_part page p ∷ upper_part page u p ∷ ps) (p ∷ cut_at page u ps))) t ∙ omega (arith, a, b, d, low, high)
     | inr f ↦
         let more = total-cut page u ps in
         let a = total-cons p (cut_at page u ps) in
         let b = total-cons p ps in
-        ap (λ (b : Bool). page_total (cond b (lower page p ∷ upper_of page u p ∷ ps) (p ∷ cut_at page u ps))) f ∙ omega (arith, more, a, b)
+        ap (λ (b : Bool). page_total (cond b (lower_part page p ∷ upper_part page u p ∷ ps) (p ∷ cut_at page u ps))) f ∙ omega (arith, more, a, b)
   ]
 
-  pub total-without : (page : ℕ) (ps : List (Part T)) (p : Part T) → begins ps page ≡ Some p → page_total (without page ps) + p.pages ≡ page_total ps
-  total-without page [] p e = let z : None ≡ Some p = e in cc
-  total-without page (r ∷ rs) p e = elim (cases_Bool (r.first == page)) [
+  pub total-without_part : (page : ℕ) (ps : List (Part T)) (p : Part T) → begins ps page ≡ Some p → page_total (without_part page ps) + p.pages ≡ page_total ps
+  total-without_part page [] p e = let z : None ≡ Some p = e in cc
+  total-without_part page (r ∷ rs) p e = elim (cases_Bool (r.first == page)) [
     | inl t ↦
         let same : r ≡ p = let z : Some r ≡ Some p = ap (λ (b : Bool). cond b (Some r) (begins rs page)) (sym t) ∙ e in cc in
         let a = total-cons r rs in
         let n : r.pages ≡ p.pages = ap (λ (p : Part T). p.pages) same in
-        let w : page_total (without page (r ∷ rs)) ≡ page_total rs = ap (λ (b : Bool). page_total (cond b rs (r ∷ without page rs))) t in
+        let w : page_total (without_part page (r ∷ rs)) ≡ page_total rs = ap (λ (b : Bool). page_total (cond b rs (r ∷ without_part page rs))) t in
         omega (arith, a, n, w)
     | inr f ↦
-        let more = total-without page rs p (ap (λ (b : Bool). cond b (Some r) (begins rs page)) (sym f) ∙ e) in
+        let more = total-without_part page rs p (ap (λ (b : Bool). cond b (Some r) (begins rs page)) (sym f) ∙ e) in
         let a = total-cons r rs in
-        let b = total-cons r (without page rs) in
-        let w : page_total (without page (r ∷ rs)) ≡ page_total (r ∷ without page rs) = ap (λ (b : Bool). page_total (cond b rs (r ∷ without page rs))) f in
+        let b = total-cons r (without_part page rs) in
+        let w : page_total (without_part page (r ∷ rs)) ≡ page_total (r ∷ without_part page rs) = ap (λ (b : Bool). page_total (cond b rs (r ∷ without_part page rs))) f in
         omega (arith, more, a, b, w)
   ]
 
   -- another piece has the same pages
-  pub total-piece : (ss : List Span) (xs : List T) (i : ℕ) (w : T) → page_total (joined ss (set xs i w)) ≡ page_total (joined ss xs)
+  pub total-piece : (ss : List Span) (xs : List T) (i : ℕ) (w : T) → page_total (span_parts ss (set xs i w)) ≡ page_total (span_parts ss xs)
   total-piece [] xs i w = refl
   total-piece (s ∷ ss) [] i w = refl
-  total-piece (s ∷ ss) (x ∷ xs) zero w = let a = total-cons (part s.first s.pages w) (joined ss xs) in let b = total-cons (part s.first s.pages x) (joined ss xs) in omega (arith, a, b)
+  total-piece (s ∷ ss) (x ∷ xs) zero w = let a = total-cons (part s.first s.pages w) (span_parts ss xs) in let b = total-cons (part s.first s.pages x) (span_parts ss xs) in omega (arith, a, b)
   total-piece (s ∷ ss) (x ∷ xs) (suc i) w =
       let more = total-piece ss xs i w in
-      let a = total-cons (part s.first s.pages x) (joined ss (set xs i w)) in
-      let b = total-cons (part s.first s.pages x) (joined ss xs) in
+      let a = total-cons (part s.first s.pages x) (span_parts ss (set xs i w)) in
+      let b = total-cons (part s.first s.pages x) (span_parts ss xs) in
       omega (arith, more, a, b)
 
   -- parts in order have fewer pages than a space
@@ -99,10 +99,10 @@ module _ {T : Type 0} where
       omega (arith, more, one)
 
   -- THE KEYS of the finite map are as many as the pages
-  pub len-pages_of : (low : ℕ) (ps : List (Part T)) → IsInOrder low ps → map.len (pages_of ps) ≡ page_total ps
-  len-pages_of low [] o = map.len-empty nat_cmp (T × ℕ)
-  len-pages_of low (p ∷ ps) o =
-      let more = len-pages_of (p.first + p.pages) ps o.1 in
+  pub len-pages_of_parts : (low : ℕ) (ps : List (Part T)) → IsInOrder low ps → map.len (pages_of_parts ps) ≡ page_total ps
+  len-pages_of_parts low [] o = map.len-empty nat_cmp (T × ℕ)
+  len-pages_of_parts low (p ∷ ps) o =
+      let more = len-pages_of_parts (p.first + p.pages) ps o.1 in
       let a = total-cons p ps in
-      let one = len-with_pages (pages_of ps) p p.pages (λ q from below. get-pages_of ps q ∙ shows ps q None (none-below (p.first + p.pages) ps q o.1 below)) in
+      let one = len-with_pages (pages_of_parts ps) p p.pages (λ q from below. get-pages_of_parts ps q ∙ shows ps q None (none-below (p.first + p.pages) ps q o.1 below)) in
       omega (arith, more, a, one)

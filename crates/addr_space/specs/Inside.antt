@@ -4,10 +4,10 @@ use Rattle.addr_space.specs.declared.ranges.Span.{Span}
 use Rattle.addr_space.specs.Space.{Part, part, page_total, IsInOrder}
 
 -- each span with its piece
-abbrev pub joined : {T : Type 0} → List Span → List T → List (Part T)
-joined [] xs = []
-joined (s ∷ ss) [] = []
-joined (s ∷ ss) (x ∷ xs) = part s.first s.pages x ∷ joined ss xs
+abbrev pub span_parts : {T : Type 0} → List Span → List T → List (Part T)
+span_parts [] xs = []
+span_parts (s ∷ ss) [] = []
+span_parts (s ∷ ss) (x ∷ xs) = part s.first s.pages x ∷ span_parts ss xs
 
 -- how many spans at the front begin below the bound
 abbrev pub count_below : ℕ → List Span → ℕ
@@ -16,12 +16,12 @@ count_below bound (s ∷ ss) = if nat_lt s.first bound then suc (count_below bou
 
 pub record IsSoundRanges {T : Type 0} (spans : List Span) (pieces : List T) : Type 0 where
   pub lengths : length spans ≡ length pieces
-  pub ordered : IsInOrder 1 (joined spans pieces)
+  pub ordered : IsInOrder 1 (span_parts spans pieces)
 
 -- the total is that of the pieces' pages
 pub record IsCountedRanges {T : Type 0} (spans : List Span) (pieces : List T) (total : ℕ) : Type 0 where
   pub sound : IsSoundRanges spans pieces
-  pub counted : total ≡ page_total (joined spans pieces)
+  pub counted : total ≡ page_total (span_parts spans pieces)
 
 -- the span has the page
 abbrev pub covers : Span → ℕ → Bool

@@ -11,6 +11,6 @@ module _ {T : Type 0} where
   with_pages m p (suc n) = map.insert (with_pages m p n) (p.first + n) (p.piece, n)
 
   -- the map from page to piece and place
-  abbrev pub pages_of : List (Part T) → map.FinMap nat_cmp (T × ℕ)
-  pages_of [] = map.empty
-  pages_of (p ∷ ps) = with_pages (pages_of ps) p p.pages
+  abbrev pub pages_of_parts : List (Part T) → map.FinMap nat_cmp (T × ℕ)
+  pages_of_parts [] = map.empty
+  pages_of_parts (p ∷ ps) = with_pages (pages_of_parts ps) p p.pages

@@ -26,8 +26,8 @@ module _ {T : Type 0} where
   part first pages piece = record { first = first; pages = pages; piece = piece }
 
   -- the page behind the last one of a part
-  abbrev pub end_of : Part T → ℕ
-  end_of p = p.first + p.pages
+  abbrev pub end_of_part : Part T → ℕ
+  end_of_part p = p.first + p.pages
 
   -- the part has the page
   abbrev pub has : Part T → ℕ → Bool
@@ -38,8 +38,8 @@ module _ {T : Type 0} where
   part_at parts page = find (λ p. has p page) parts
 
   -- the map from pages: the piece that has the page, and the page's place in it
-  abbrev pub at : List (Part T) → ℕ → Option (T × ℕ)
-  at parts page = option_map (λ p. (p.piece, page - p.first)) (part_at parts page)
+  abbrev pub piece_at : List (Part T) → ℕ → Option (T × ℕ)
+  piece_at parts page = option_map (λ p. (p.piece, page - p.first)) (part_at parts page)
 
   -- the part that begins with the page
   abbrev pub begins : List (Part T) → ℕ → Option (Part T)
@@ -54,7 +54,7 @@ module _ {T : Type 0} where
   page_total parts = sum_by (λ p. p.pages) parts
 
   -- a part has a page, lies at or behind `low`, and ends below page 0x80000
-  pub record IsPlaced (low : ℕ) (p : Part T) : Type 0 where
+  pub record LiesFrom (low : ℕ) (p : Part T) : Type 0 where
     pub behind : low ≤ p.first
     pub some : 0 < p.pages
     pub within : p.first + p.pages ≤ 0x80000
@@ -62,7 +62,7 @@ module _ {T : Type 0} where
   -- the parts lie at or behind `low`, one behind the other
   abbrev pub IsInOrder : ℕ → List (Part T) → Type 0
   IsInOrder low [] = Unit {0}
-  IsInOrder low (p ∷ ps) = IsPlaced low p × IsInOrder (p.first + p.pages) ps
+  IsInOrder low (p ∷ ps) = LiesFrom low p × IsInOrder (p.first + p.pages) ps
 
   -- the parts with one more, behind those that begin below it
   abbrev pub put : Part T → List (Part T) → List (Part T)
@@ -70,26 +70,26 @@ module _ {T : Type 0} where
   put new (p ∷ ps) = if nat_lt p.first new.first then p ∷ put new ps else new ∷ p ∷ ps
 
   -- what a part keeps below the page, and what the upper piece has from there on
-  abbrev pub lower : ℕ → Part T → Part T
-  lower page p = part p.first (page - p.first) p.piece
+  abbrev pub lower_part : ℕ → Part T → Part T
+  lower_part page p = part p.first (page - p.first) p.piece
 
-  abbrev pub upper_of : ℕ → T → Part T → Part T
-  upper_of page upper p = part page (p.first + p.pages - page) upper
+  abbrev pub upper_part : ℕ → T → Part T → Part T
+  upper_part page upper p = part page (p.first + p.pages - page) upper
 
   -- the part that has the page is cut in two before it
   abbrev pub cut_at : ℕ → T → List (Part T) → List (Part T)
   cut_at page upper [] = []
-  cut_at page upper (p ∷ ps) = if has p page then lower page p ∷ upper_of page upper p ∷ ps else p ∷ cut_at page upper ps
+  cut_at page upper (p ∷ ps) = if has p page then lower_part page p ∷ upper_part page upper p ∷ ps else p ∷ cut_at page upper ps
 
   -- the parts without the one that begins with the page
-  abbrev pub without : ℕ → List (Part T) → List (Part T)
-  without page [] = []
-  without page (p ∷ ps) = if p.first == page then ps else p ∷ without page ps
+  abbrev pub without_part : ℕ → List (Part T) → List (Part T)
+  without_part page [] = []
+  without_part page (p ∷ ps) = if p.first == page then ps else p ∷ without_part page ps
 
   -- the part that has the page has another piece
-  abbrev pub with_piece : ℕ → T → List (Part T) → List (Part T)
-  with_piece page piece [] = []
-  with_piece page piece (p ∷ ps) = if has p page then part p.first p.pages piece ∷ ps else p ∷ with_piece page piece ps
+  abbrev pub with_new_piece : ℕ → T → List (Part T) → List (Part T)
+  with_new_piece page piece [] = []
+  with_new_piece page piece (p ∷ ps) = if has p page then part p.first p.pages piece ∷ ps else p ∷ with_new_piece page piece ps
 
   -- so many pages from `first` on are free, and lie from page 1 to page 0x7ffff
   pub record IsGap (parts : List (Part T)) (pages first : ℕ) : Type 0 where

@@ -1,7 +1,7 @@
 //! Pieces by page, in two vectors of one length: where each piece lies, and the piece.
 ghost use Rattle.std.specs.Prelude.{◌≡◌, ℕ, ◌+◌, ◌-◌, ◌<◌, ◌≤◌, ◌&&◌, nat_le, if◌then◌else◌, [], length, Option, Some, None, MatchOption, IfSome, IsSome, IsSomeAnd, OnOk, option_map, insert, remove, vec_len, vec_capacity};
 ghost use Rattle.std.specs.Borrow.{sem};
-ghost use Rattle.addr_space.specs.Space.{part, has, at, part_at, begins, next_first, put, cut_at, without, upper_of, IsInOrder, FindsGap, FindsNext, FindsLast, with_piece, page_total};
+ghost use Rattle.addr_space.specs.Space.{part, has, piece_at, part_at, begins, next_first, put, cut_at, without_part, upper_part, IsInOrder, FindsGap, FindsNext, FindsLast, with_new_piece, page_total};
 ghost use Rattle.addr_space.specs.Inside.{count_below, SpansRise, FindsHolder, FindsFirst, gap_in_spans};
 
 use std::alloc::{AllocError, Global};
@@ -36,10 +36,10 @@ impl<T> Model for Ranges<T> {
 
     ghost coded = { space_code T.code };
 
-    ghost use Rattle.addr_space.specs.Inside.{joined, IsCountedRanges};
+    ghost use Rattle.addr_space.specs.Inside.{span_parts, IsCountedRanges};
 
     ghost view = { λ r. record {
-      parts = joined r.spans.items r.pieces.items;
+      parts = span_parts r.spans.items r.pieces.items;
       spare = min (vec_capacity r.spans - vec_len r.spans) (vec_capacity r.pieces - vec_len r.pieces);
     } };
 
@@ -153,9 +153,9 @@ impl<T> Ranges<T> {
         ensures found { MatchOption result (part_at self.old.parts page ≡ None)
             (λ r. option_map (λ p. p.piece) (part_at self.old.parts page) ≡ Some r.now) }
         ensures pages { IfSome (part_at self.old.parts page) (λ p. (w : T) (q : ℕ) →
-            at (with_piece page w self.old.parts) q
-            ≡ (if has p q then Some (w, q - p.first) else at self.old.parts q)) }
-        ensures ordered { (w : T) → IsInOrder 1 (with_piece page w self.old.parts) }
+            piece_at (with_new_piece page w self.old.parts) q
+            ≡ (if has p q then Some (w, q - p.first) else piece_at self.old.parts q)) }
+        ensures ordered { (w : T) → IsInOrder 1 (with_new_piece page w self.old.parts) }
     {
         let place = place_of(&self.spans, page)?;
         self.pieces.get_mut(place)
@@ -198,8 +198,8 @@ impl<T> Ranges<T> {
         requires room { 0 < self.old.spare }
         // What it leaves.
         ensures parts { self.new.parts ≡ put (part page pages piece) self.old.parts }
-        ensures pages { (q : ℕ) → at self.new.parts q
-            ≡ (if has (part page pages piece) q then Some (piece, q - page) else at self.old.parts q) }
+        ensures pages { (q : ℕ) → piece_at self.new.parts q
+            ≡ (if has (part page pages piece) q then Some (piece, q - page) else piece_at self.old.parts q) }
         ensures ordered { IsInOrder 1 self.new.parts }
         ensures spare { self.new.spare + 1 ≡ self.old.spare }
     {
@@ -218,9 +218,10 @@ impl<T> Ranges<T> {
         requires room { 0 < self.old.spare }
         // What it leaves.
         ensures parts { self.new.parts ≡ cut_at page upper self.old.parts }
-        ensures pages { IfSome (part_at self.old.parts page) (λ p. (q : ℕ) → at self.new.parts q
-            ≡ (if has (upper_of page upper p) q then Some (upper, q - page)
-            else at self.old.parts q)) }
+        ensures pages { IfSome (part_at self.old.parts page) (λ p. (q : ℕ)
+            → piece_at self.new.parts q
+            ≡ (if has (upper_part page upper p) q then Some (upper, q - page)
+            else piece_at self.old.parts q)) }
         ensures ordered { IsInOrder 1 self.new.parts }
         ensures spare { self.new.spare + 1 ≡ self.old.spare }
     {
@@ -249,10 +250,10 @@ impl<T> Ranges<T> {
     /// Time: the number of pieces after it.
     pub fn remove(&mut self, page: u32) -> Option<T>
         ensures taken { result ≡ option_map (λ p. p.piece) (begins self.old.parts page) }
-        ensures parts { self.new.parts ≡ without page self.old.parts }
+        ensures parts { self.new.parts ≡ without_part page self.old.parts }
         ensures pages { MatchOption (begins self.old.parts page) (self.new.parts ≡ self.old.parts)
-            (λ p. (q : ℕ) → at self.new.parts q
-            ≡ (if has p q then None else at self.old.parts q)) }
+            (λ p. (q : ℕ) → piece_at self.new.parts q
+            ≡ (if has p q then None else piece_at self.old.parts q)) }
         ensures ordered { IsInOrder 1 self.new.parts }
         ensures spare { self.old.spare ≤ self.new.spare }
     {

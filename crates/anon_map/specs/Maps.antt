@@ -7,8 +7,8 @@ pub record Map : Type 0 where
   pub holders : ℕ
 
 -- a map with these places and one holder
-abbrev pub held_once : List (Option ℕ) → Map
-held_once places = record { places = places; holders = 1 }
+abbrev pub fresh_map : List (Option ℕ) → Map
+fresh_map places = record { places = places; holders = 1 }
 
 -- the map of a number, if it is there
 abbrev pub anon_map_at : List (Option Map) → ℕ → Option Map

@@ -3,7 +3,7 @@
 
 ghost use Rattle.std.specs.Prelude.{◌≡◌, ℕ, ◌+◌, ◌-◌, ◌^◌, ◌<◌, ◌≤◌, ◌↔◌, List, [], length, take, drop, Option, Some, None, IsTrue, IfOk, OnErr, slice_set, slice_index_or, slice_range, replicate};
 ghost use Rattle.std.specs.Bool.{OnTrue, OnFalse};
-ghost use Rattle.anon_map.specs.Maps.{Map, anon_map_at, places_of, holders_of, IsMapThere, IsUnused, AllThere, AreEmpty, held_once, with_map, with_places, with_holders};
+ghost use Rattle.anon_map.specs.Maps.{Map, anon_map_at, places_of, holders_of, IsMapThere, IsUnused, AllThere, AreEmpty, fresh_map, with_map, with_places, with_holders};
 
 mod map;
 #[cfg(test)]
@@ -52,7 +52,7 @@ impl AnonMaps {
         ensures unused { IfOk result (λ number. IsUnused self.old number) }
         ensures again { IfOk result (λ number. number ≡ length self.old → AllThere self.old) }
         ensures made { IfOk result (λ number. self.new
-            ≡ with_map self.old number (held_once (replicate pages None))) }
+            ≡ with_map self.old number (fresh_map (replicate pages None))) }
         ensures err { OnErr result (self.new ≡ self.old) }
     {
         let places = vec![in self.alloc; None; pages as usize]?;
@@ -143,7 +143,7 @@ impl AnonMaps {
         ensures unused { IfOk result (λ number. IsUnused self.old number) }
         ensures again { IfOk result (λ number. number ≡ length self.old → AllThere self.old) }
         ensures copied { IfOk result (λ number. self.new ≡ with_map self.old number
-            (held_once (slice_range (places_of self.old map) from (from + pages)))) }
+            (fresh_map (slice_range (places_of self.old map) from (from + pages)))) }
         ensures err { OnErr result (self.new ≡ self.old) }
     {
         let range = &self.map(map).places()[from as usize..from as usize + pages as usize];
@@ -161,7 +161,7 @@ impl AnonMaps {
         ensures unused { IfOk result (λ number. IsUnused self.old number) }
         ensures again { IfOk result (λ number. number ≡ length self.old → AllThere self.old) }
         ensures parted { IfOk result (λ number. self.new
-            ≡ with_places (with_map self.old number (held_once (drop at (places_of self.old map))))
+            ≡ with_places (with_map self.old number (fresh_map (drop at (places_of self.old map))))
             map (take at (places_of self.old map))) }
         ensures err { OnErr result (self.new ≡ self.old) }
     {

@@ -1,6 +1,6 @@
 //! One anon map.
 ghost use Rattle.std.specs.Prelude.{◌≡◌, ◌+◌, ◌^◌, ◌<◌, ◌≤◌, length, take, slice_set, vec_len};
-ghost use Rattle.anon_map.specs.Maps.{Map, held_once};
+ghost use Rattle.anon_map.specs.Maps.{Map, fresh_map};
 
 use std::marker::Model;
 
@@ -29,7 +29,7 @@ impl AnonMap {
     /// A map of these places, with one holder.
     pub fn new(places: Vec<Option<u32>>) -> AnonMap
         requires { length places.items < 2 ^ 32 }
-        ensures { result ≡ held_once places.items }
+        ensures { result ≡ fresh_map places.items }
     {
         AnonMap { places, holders: 1 }
     }

@@ -3,7 +3,7 @@ use Rattle.std.proofs.Common.{◌≡◌, ℕ, ◌+◌, ◌-◌, ◌<◌, ◌≤�
 use Rattle.std.specs.Prelude.{option_map, Result, Ok, Err, OnErr}
 use Rattle.std.proofs.Math.Seq.{take-add, take-length}
 use Rattle.std.proofs.lemmas.List.{take-append-le, length-take}
-use Rattle.block_device.specs.StreamSeen.{SourceSeen, Came, Gives, TookSome, appended}
+use Rattle.block_device.specs.StreamSeen.{SourceSeen, Came, Gives, TookSome, text_with_more}
 
 -- One piece and the next are one piece.
 pub came_on : (x y z : Option (List ℕ)) (a b : List ℕ) → Came x a y → Came y b z → Came x (a ++ b) z
@@ -26,14 +26,14 @@ gives_front old new part more count some g =
       end = λ _ none. g.end some none;
     }
 
-pub appended-appended : (text : Option (List ℕ)) (a b : List ℕ) → appended (appended text a) b ≡ appended text (a ++ b)
-appended-appended None a b = refl
-appended-appended (Some t) a b = ap (λ x. Some x) (append_assoc t a b)
+pub text_with_more-text_with_more : (text : Option (List ℕ)) (a b : List ℕ) → text_with_more (text_with_more text a) b ≡ text_with_more text (a ++ b)
+text_with_more-text_with_more None a b = refl
+text_with_more-text_with_more (Some t) a b = ap (λ x. Some x) (append_assoc t a b)
 
 -- A longer front was written.
-pub front_goes_on : (x y z : Option (List ℕ)) (text : List ℕ) (i n : ℕ) → y ≡ appended x (take i text) → z ≡ appended y (take n (drop i text)) → z ≡ appended x (take (i + n) text)
+pub front_goes_on : (x y z : Option (List ℕ)) (text : List ℕ) (i n : ℕ) → y ≡ text_with_more x (take i text) → z ≡ text_with_more y (take n (drop i text)) → z ≡ text_with_more x (take (i + n) text)
 front_goes_on x y z text i n h k =
-    k ∙ ap (λ t. appended t (take n (drop i text))) h ∙ appended-appended x (take i text) (take n (drop i text)) ∙ ap (appended x) (sym (take-add i n text))
+    k ∙ ap (λ t. text_with_more t (take n (drop i text))) h ∙ text_with_more-text_with_more x (take i text) (take n (drop i text)) ∙ ap (text_with_more x) (sym (take-add i n text))
 
 -- the rest of a slice
 pub tail-is : (text : List ℕ) (done : ℕ) → take (length text - done) (drop done text) ≡ drop done text

@@ -2,7 +2,7 @@
 use Rattle.std.specs.Prelude.{ℕ, ◌+◌, ◌-◌, ◌^◌, nat_eq, List, [], ◌++◌, ◌∷◌, Option, Some, Bool, ◌||◌, is_none, unwrap_or, slice_index_or, if◌then◌else◌}
 use Rattle.std.specs.Map.{lookup}
 use Rattle.std.specs.Str.{bytes_eq}
-use Rattle.block_device.specs.MemSeen.{CallsSeen, MemDiskSeen, is_next_listed, no_calls, after_call, fresh_disk, blank}
+use Rattle.block_device.specs.MemSeen.{CallsSeen, MemDiskSeen, is_next_listed, no_calls, after_call, fresh_disk, blank_blocks}
 use Rattle.block_device.specs.RackSeen.{RackSeen, spec_number}
 use Rattle.block_device.specs.declared.rack.Spec.{Spec}
 use Rattle.block_device.specs.declared.rack.Spec.TheVariants.{Blank, Path}
@@ -29,7 +29,7 @@ kept_under r path = lookup (bytes_eq path) r.kept
 
 -- the content of the disk of a spec
 abbrev pub content_for : MemRackSeen → Spec → Option (List (List ℕ))
-content_for r (Blank number blocks) = Some (blank blocks)
+content_for r (Blank number blocks) = Some (blank_blocks blocks)
 content_for r (Path number path) = kept_under r path
 
 -- A memory rack tells what it holds.

@@ -11,8 +11,8 @@ pub record CallsSeen : Type 0 where
   pub faults : ℕ
 
 -- one more, or the same at 2^64 - 1
-abbrev pub counted : ℕ → ℕ
-counted n = max n (min (n + 1) (2 ^ 64 - 1))
+abbrev pub one_more : ℕ → ℕ
+one_more n = max n (min (n + 1) (2 ^ 64 - 1))
 
 -- no call yet
 abbrev pub no_calls : List ℕ → CallsSeen
@@ -20,14 +20,14 @@ no_calls fail_at = record { fail_at = fail_at; calls = 0; faults = 0 }
 
 -- Is the next call one of those that are to fail? Calls are numbered from 1.
 abbrev pub is_next_listed : CallsSeen → Bool
-is_next_listed c = list_any (λ number. nat_eq number (counted c.calls)) c.fail_at
+is_next_listed c = list_any (λ number. nat_eq number (one_more c.calls)) c.fail_at
 
 -- One more call was made, and one more failed if this one did.
 abbrev pub after_call : CallsSeen → Bool → CallsSeen
 after_call c failed = record {
   fail_at = c.fail_at;
-  calls = counted c.calls;
-  faults = if failed then counted c.faults else c.faults;
+  calls = one_more c.calls;
+  faults = if failed then one_more c.faults else c.faults;
 }
 
 -- a disk in memory: its blocks, its calls, and how many of them were reads and writes
@@ -46,29 +46,29 @@ abbrev pub fresh_disk : List (List ℕ) → List ℕ → MemDiskSeen
 fresh_disk blocks fail_at = record { blocks = blocks; calls = no_calls fail_at; reads = 0; writes = 0 }
 
 -- so many blocks of zeros
-abbrev pub blank : ℕ → List (List ℕ)
-blank blocks = replicate blocks (replicate 4096 0)
+abbrev pub blank_blocks : ℕ → List (List ℕ)
+blank_blocks blocks = replicate blocks (replicate 4096 0)
 
 -- A write that fails is torn: the first half of the block is new, and the second as it was.
-abbrev pub torn : List ℕ → List ℕ → List ℕ
-torn old new = take 2048 new ++ drop 2048 old
+abbrev pub torn_block : List ℕ → List ℕ → List ℕ
+torn_block old new = take 2048 new ++ drop 2048 old
 
 -- A read was counted, as failed or not.
 abbrev pub after_read : MemDiskSeen → Bool → MemDiskSeen
 after_read d failed = record {
   blocks = d.blocks;
   calls = after_call d.calls failed;
-  reads = counted d.reads;
+  reads = one_more d.reads;
   writes = d.writes;
 }
 
 -- A write was counted, and the block is `from`, or torn where the write failed.
 abbrev pub after_write : MemDiskSeen → Bool → ℕ → List ℕ → MemDiskSeen
 after_write d failed block from = record {
-  blocks = slice_set d.blocks block (if failed then torn (slice_index_or d.blocks block []) from else from);
+  blocks = slice_set d.blocks block (if failed then torn_block (slice_index_or d.blocks block []) from else from);
   calls = after_call d.calls failed;
   reads = d.reads;
-  writes = counted d.writes;
+  writes = one_more d.writes;
 }
 
 -- a source in memory: what is still to come, how many bytes it gives at a time at most, and its calls

@@ -17,8 +17,8 @@ abbrev pub Came : Option (List ℕ) → List ℕ → Option (List ℕ) → Type 
 Came before bytes after = before ≡ option_map (λ rest. bytes ++ rest) after
 
 -- the text with more bytes at its end, where it is told
-abbrev pub appended : Option (List ℕ) → List ℕ → Option (List ℕ)
-appended text more = option_map (λ written. written ++ more) text
+abbrev pub text_with_more : Option (List ℕ) → List ℕ → Option (List ℕ)
+text_with_more text more = option_map (λ written. written ++ more) text
 
 -- The next `count` bytes came into the front of `into`; none come only at the end of the input.
 pub record Gives (old new : SourceSeen) (into : List ℕ) (count : ℕ) : Type 0 where
@@ -36,7 +36,7 @@ pub record ReadsNext {E : Type 0} (old new : SourceSeen) (into : List ℕ) (resu
 pub record Appends (old new : SinkSeen) (from : List ℕ) (count : ℕ) : Type 0 where
   pub fits : count ≤ length from
   pub some : 0 < length from → 0 < count
-  pub text : new.written ≡ appended old.written (take count from)
+  pub text : new.written ≡ text_with_more old.written (take count from)
 
 -- What a write to a sink does: it appends a front of `from`, or fails with a fault counted and takes none.
 pub record WritesNext {E : Type 0} (old new : SinkSeen) (from : List ℕ) (result : Result ℕ E) : Type 0 where
@@ -50,4 +50,4 @@ TookSome before after most = (bytes : List ℕ) × (length bytes ≤ most) × Ca
 
 -- A front of the text was appended, and not all of it.
 abbrev pub AppendedPart : Option (List ℕ) → Option (List ℕ) → List ℕ → Type 0
-AppendedPart before after text = (count : ℕ) × (count < length text) × (after ≡ appended before (take count text))
+AppendedPart before after text = (count : ℕ) × (count < length text) × (after ≡ text_with_more before (take count text))

@@ -1,7 +1,7 @@
 //! Blocks of 4096 bytes.
 ghost use Rattle.std.specs.Prelude.{◌≡◌, length, replicate};
 ghost use Rattle.block_device.specs.DiskSeen.{IsBlock};
-ghost use Rattle.block_device.specs.MemSeen.{torn};
+ghost use Rattle.block_device.specs.MemSeen.{torn_block};
 
 /// The 4096 bytes of a block.
 #[derive(Clone, Copy)]
@@ -36,7 +36,7 @@ impl Block {
     // Replaces the first half of the bytes.
     pub(crate) fn write_half(&mut self, from: &[u8])
         requires { length from.now ≡ 4096 }
-        ensures { self.new.bytes ≡ torn self.old.bytes from.now }
+        ensures { self.new.bytes ≡ torn_block self.old.bytes from.now }
     {
         let mut bytes = self.bytes;
         bytes[..2048].copy_from_slice(&from[..2048]);

@@ -1,6 +1,6 @@
 //! Which calls of a memory form fail, and what was counted.
 ghost use Rattle.std.specs.Prelude.{◌≡◌};
-ghost use Rattle.block_device.specs.MemSeen.{counted, no_calls, is_next_listed, after_call};
+ghost use Rattle.block_device.specs.MemSeen.{one_more, no_calls, is_next_listed, after_call};
 
 use std::marker::Model;
 
@@ -22,7 +22,7 @@ impl Model for Failing {
 
 // One more, or the same at 2^64 - 1.
 pub(crate) fn one_more(count: u64) -> u64
-    ensures { result ≡ counted count }
+    ensures { result ≡ one_more count }
 {
     count.saturating_add(1)
 }

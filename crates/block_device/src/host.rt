@@ -1,6 +1,6 @@
 //! Standard input and output.
 ghost use Rattle.std.specs.Prelude.{◌≡◌};
-ghost use Rattle.block_device.specs.MemSeen.{counted};
+ghost use Rattle.block_device.specs.MemSeen.{one_more};
 
 use crate::failing::one_more;
 use crate::{Failed, Sink, Source};
@@ -78,7 +78,7 @@ impl HostSink {
 
     // Counts a fault.
     fn fail(&mut self) -> Failed
-        ensures { self.new ≡ counted self.old }
+        ensures { self.new ≡ one_more self.old }
     {
         self.faults = one_more(self.faults);
         Failed

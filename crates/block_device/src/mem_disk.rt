@@ -21,11 +21,11 @@ pub struct MemDisk {
 impl MemDisk {
     ghost use Rattle.std.specs.Prelude.{IfOk};
     ghost use Rattle.block_device.specs.MemDiskLook.{look, blocks_seen};
-    ghost use Rattle.block_device.specs.MemSeen.{fresh_disk, blank};
+    ghost use Rattle.block_device.specs.MemSeen.{fresh_disk, blank_blocks};
 
     /// A disk of so many blocks, all zeros, whose calls of these numbers fail.
     pub fn new(alloc: Global, blocks: u32, fail_at: Vec<u64>) -> Result<MemDisk, AllocError>
-        ensures { IfOk result (λ disk. look disk ≡ fresh_disk (blank blocks) fail_at.items) }
+        ensures { IfOk result (λ disk. look disk ≡ fresh_disk (blank_blocks blocks) fail_at.items) }
     {
         let blocks = vec![in alloc; Block::zeros(); blocks as usize]?;
         Ok(MemDisk::from_blocks(blocks, fail_at))
@@ -99,7 +99,7 @@ impl Disk for MemDisk {
         ensures reads { Reads
             (disk_of (look self.old)) (disk_of (look self.new)) block into.new result }
         // Exactly this:
-        ensures after { look self.new ≡ after_read (look self.old) (is_err result) }
+        ensures new { look self.new ≡ after_read (look self.old) (is_err result) }
         ensures fails { IsErr result ↔ IsTrue (is_next_listed (look self.old).calls) }
         ensures kept { OnErr result (into.new ≡ into.old) }
     {
@@ -119,7 +119,7 @@ impl Disk for MemDisk {
         ensures writes { Writes
             (disk_of (look self.old)) (disk_of (look self.new)) block from.now result }
         // Exactly this:
-        ensures after { look self.new ≡ after_write (look self.old) (is_err result) block from.now }
+        ensures new { look self.new ≡ after_write (look self.old) (is_err result) block from.now }
         ensures fails { IsErr result ↔ IsTrue (is_next_listed (look self.old).calls) }
     {
         let fails = self.calls.lists_next();

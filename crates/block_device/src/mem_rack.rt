@@ -2,7 +2,7 @@
 ghost use Rattle.std.specs.Prelude.{◌≡◌, ◌↔◌, ◌<◌, ◌^◌, map, option_map, IsTrue, IfSome, IfOk, OnOk, OnErr, IsErrOf, is_none, is_ok, unwrap_or, length, vec_len, []};
 ghost use Rattle.block_device.specs.MemDiskLook.{look, blocks_seen};
 ghost use Rattle.block_device.specs.MemRackSeen.{fresh_rack, with_kept, kept_under, content_for, rack_of, disk_fails_at, is_spec_refused, after_attach, disk_for};
-ghost use Rattle.block_device.specs.MemSeen.{disk_of, fresh_disk, blank};
+ghost use Rattle.block_device.specs.MemSeen.{disk_of, fresh_disk, blank_blocks};
 ghost use Rattle.block_device.specs.RackSeen.{Attaches, spec_number};
 
 use crate::failing::Failing;
@@ -153,7 +153,7 @@ impl Rack for MemRack {
     fn attach(&mut self, spec: &Spec) -> Result<MemDisk, RackFault>
         ensures attaches { Attaches
             (rack_of self.old) (rack_of self.new) spec.now (λ d. disk_of (look d)) result }
-        ensures after { self.new ≡ after_attach self.old spec.now (is_ok result) }
+        ensures new { self.new ≡ after_attach self.old spec.now (is_ok result) }
         ensures fails { IsErrOf result RackFault.Failed
             ↔ IsTrue (is_spec_refused self.old spec.now) }
         ensures disk { IfOk result (λ disk. look disk ≡ disk_for self.old spec.now) }

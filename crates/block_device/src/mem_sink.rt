@@ -99,7 +99,7 @@ impl Sink for MemSink {
 
     fn write(&mut self, from: &[u8]) -> Result<usize, Failed>
         ensures writes { WritesNext (sink_of self.old) (sink_of self.new) from.now result }
-        ensures after { self.new ≡ after_take self.old (is_err result) from.now }
+        ensures new { self.new ≡ after_take self.old (is_err result) from.now }
         ensures fails { IsErr result ↔ IsTrue (is_next_refused self.old (length from.now)) }
         ensures count { IfOk result (λ count. count ≡ taken_count self.old (length from.now)) }
     {

@@ -62,7 +62,7 @@ impl MemSource {
     fn give(&mut self, into: &mut [u8]) -> usize
         ensures count { result ≡ given_count self.old (length into.old) }
         ensures bytes { into.new ≡ take result self.old.rest ++ drop result into.old }
-        ensures after { self.new ≡ record self.old { rest = drop result self.old.rest } }
+        ensures new { self.new ≡ record self.old { rest = drop result self.old.rest } }
     {
         let left = self.bytes.len() - self.at;
         let count = left.min(into.len().min(self.most));
@@ -84,7 +84,7 @@ impl Source for MemSource {
     fn read(&mut self, into: &mut [u8]) -> Result<usize, Failed>
         ensures reads { ReadsNext (source_of self.old) (source_of self.new) into.new result }
         // Exactly this:
-        ensures after { self.new ≡ after_give self.old (is_err result) (length into.old) }
+        ensures new { self.new ≡ after_give self.old (is_err result) (length into.old) }
         ensures fails { IsErr result ↔ IsTrue (is_next_listed self.old.calls) }
         ensures count { IfOk result (λ count. count ≡ given_count self.old (length into.old)) }
         ensures bytes { IfOk result (λ count.

@@ -1,7 +1,7 @@
 //! Reading a source, and writing to a sink, as a whole.
 ghost use Rattle.std.specs.Prelude.{◌≡◌, ◌<◌, ◌≤◌, [], length, vec_len, OnOk, OnErr, IfOk, IfSome, IsErrOf};
 ghost use Rattle.block_device.specs.Counts.{HasRisen, HasCause};
-ghost use Rattle.block_device.specs.StreamSeen.{Came, TookSome, AppendedPart, appended, ReadsNext};
+ghost use Rattle.block_device.specs.StreamSeen.{Came, TookSome, AppendedPart, text_with_more, ReadsNext};
 
 use crate::{Failed, Sink, Source};
 use std::alloc::{AllocError, Global};
@@ -87,7 +87,7 @@ fn read_piece<S: Source>(source: &mut S, into: &mut [u8], most: usize) -> Result
 /// Writes all of a text to a sink, or fails where the sink does. Each turn takes at least one byte.
 pub fn write_all<K: Sink>(sink: &mut K, text: &[u8]) -> Result<(), Failed>
     ensures whole { OnOk result
-        ((K.seen sink.new).written ≡ appended (K.seen sink.old).written text.now) }
+        ((K.seen sink.new).written ≡ text_with_more (K.seen sink.old).written text.now) }
     ensures part { OnErr result
         (AppendedPart (K.seen sink.old).written (K.seen sink.new).written text.now) }
     ensures cause { HasCause (K.seen sink.old).faults (K.seen sink.new).faults result }

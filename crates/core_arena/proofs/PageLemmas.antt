@@ -4,7 +4,7 @@ use Rattle.std.proofs.Math.Seq.{take-append_seam}
 use Rattle.std.proofs.lemmas.List.{map-set, map-append, replicate-append-replicate, length-replicate, drop_at}
 use Rattle.std.specs.Option.{option_map}
 use denote.RawPtr.{Ptr, InBlock, block_ptr, null_ptr, ◌+ₚ◌}
-use Rattle.core_arena.specs.Bytes.{bytes_at, zeros, all_bytes, overwritten}
+use Rattle.core_arena.specs.Bytes.{bytes_at, zeros, all_bytes, slice_after_write}
 use Rattle.core_arena.specs.Ownership.{Extent}
 use Rattle.core_arena.specs.Pages.{pages_seen, IsSoundCore}
 use Rattle.core_arena.specs.Rows.{IsPageAt, AreInPlace, InRow, row_bytes}
@@ -146,10 +146,10 @@ sound-set base frames pages rest i place sound at = record {
 
 -- what is seen once the bytes of a page were lent and written
 pub seen-overwritten : (pages : List Place) (i : ℕ) (page : Stretch) (w : List ℕ) → bytes_at (pages_seen pages) i ≡ Some page.bytes
-    → pages_seen (slice_set pages i (Some (record { at = page.at; bytes = overwritten page.bytes w }))) ≡ slice_set (pages_seen pages) i (option_map (λ (bytes : List ℕ). overwritten bytes w) (bytes_at (pages_seen pages) i))
+    → pages_seen (slice_set pages i (Some (record { at = page.at; bytes = slice_after_write page.bytes w }))) ≡ slice_set (pages_seen pages) i (option_map (λ (bytes : List ℕ). slice_after_write bytes w) (bytes_at (pages_seen pages) i))
 seen-overwritten pages i page w at =
-    seen-set pages i (Some (record { at = page.at; bytes = overwritten page.bytes w }))
-    ∙ ap (λ (o : Option (List ℕ)). slice_set (pages_seen pages) i (option_map (λ (bytes : List ℕ). overwritten bytes w) o)) (sym at)
+    seen-set pages i (Some (record { at = page.at; bytes = slice_after_write page.bytes w }))
+    ∙ ap (λ (o : Option (List ℕ)). slice_set (pages_seen pages) i (option_map (λ (bytes : List ℕ). slice_after_write bytes w) o)) (sym at)
 
 -- the last page is taken off
 pub record IsTakenOff (p : Ptr) (old new : List Place) (page : Stretch) : Type 0 where

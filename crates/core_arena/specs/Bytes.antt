@@ -11,12 +11,12 @@ abbrev pub zeros : List ℕ
 zeros = replicate 4096 0
 
 -- the bytes with a piece written over them from a place on
-abbrev pub spliced : List ℕ → ℕ → List ℕ → List ℕ
-spliced bytes at from = take at bytes ++ from ++ drop (at + length from) bytes
+abbrev pub bytes_with_piece : List ℕ → ℕ → List ℕ → List ℕ
+bytes_with_piece bytes at from = take at bytes ++ from ++ drop (at + length from) bytes
 
 -- a slice keeps its length: what is left in it are the bytes w, cut or filled up to the length of the old ones
-abbrev pub overwritten : List ℕ → List ℕ → List ℕ
-overwritten bytes w = take (length bytes) (w ++ drop (length w) bytes)
+abbrev pub slice_after_write : List ℕ → List ℕ → List ℕ
+slice_after_write bytes w = take (length bytes) (w ++ drop (length w) bytes)
 
 -- the bytes of all frames in order; None where one is away
 abbrev pub all_bytes : List (Option (List ℕ)) → Option (List ℕ)

@@ -2,7 +2,7 @@ ghost use Rattle.std.specs.Prelude.{◌≡◌, ◌+◌, ◌*◌, ◌<◌, ◌≤
 ghost use Rattle.std.specs.Borrow.{sem};
 ghost use Rattle.std.specs.Option.{option_copied};
 ghost use denote.RawPtr.{◌+ₚ◌};
-ghost use Rattle.core_arena.specs.Bytes.{bytes_at, spliced, zeros, all_bytes};
+ghost use Rattle.core_arena.specs.Bytes.{bytes_at, bytes_with_piece, zeros, all_bytes};
 ghost use Rattle.core_arena.specs.CoreLends.{lends_home};
 ghost use Rattle.core_arena.specs.Pages.{pages_seen};
 ghost use Rattle.core_arena.specs.Rows.{AreInPlace};
@@ -122,7 +122,7 @@ impl Core {
         requires within { at + length from.now ≤ 4096 }
         ensures { self.new ≡ record self.old {
           frames = slice_set self.old.frames i
-              (Some (spliced (unwrap_or (bytes_at self.old.frames i) []) at from.now));
+              (Some (bytes_with_piece (unwrap_or (bytes_at self.old.frames i) []) at from.now));
         } }
     {
         let at = at as usize;

@@ -1,7 +1,7 @@
 -- What contracts see of a disk over a file. Public clauses cite this.
 use Rattle.std.specs.Prelude.{ℕ, None, Bool, if◌then◌else◌}
 use Rattle.block_device.specs.DiskSeen.{DiskSeen}
-use Rattle.block_device.specs.MemSeen.{counted}
+use Rattle.block_device.specs.MemSeen.{one_more}
 
 -- a disk over a file: how many blocks it has, how often a transfer failed, and how often one was asked for
 pub record FileDiskSeen : Type 0 where
@@ -20,6 +20,6 @@ fresh_file_disk blocks = record { size = blocks; faults = 0; calls = 0 }
 -- A transfer was counted, as failed or not.
 abbrev pub after_transfer : FileDiskSeen → Bool → FileDiskSeen
 after_transfer d failed = record d {
-  faults = if failed then counted d.faults else d.faults;
-  calls = counted d.calls;
+  faults = if failed then one_more d.faults else d.faults;
+  calls = one_more d.calls;
 }

@@ -20,7 +20,7 @@ use Rattle.anon_map.specs.Maps.{Map, places_of}
 use Rattle.anon_slots.specs.Slots.{Slots, count_at}
 use Rattle.flat_model.specs.Words.{Page, pages_in, zero_page}
 use Rattle.flat_model.specs.Flat.{Cell, Flat}
-use Rattle.flat_model.specs.Access.{with_page, with_cell, with_page_stored, file_with_page, changed_at}
+use Rattle.flat_model.specs.Access.{with_page, with_cell, with_page_stored, file_with_page, with_change_at}
 use Rattle.vm_world.specs.CountsFit.{CountsFit}
 use Rattle.vm_world.specs.FlatMemory.{Shape, flat_shaped, flat_memory, shape_of, cell_of, files_with_pages, file_with_pages, map_with, pages_from, space_with, zero_maps, zero_pages}
 use Rattle.vm_world.specs.MemoryFits.{MemoryFits}
@@ -82,7 +82,7 @@ files-beyond old new k f (x ∷ xs) lt same =
     λ j. file_with_pages (page_same j) x ∷ rest j
 
 files-set : (old new : ℕ → ℕ → Page) (k n i : ℕ) (bytes : Page) (infos : List FileInfo) → new (k + n) i ≡ bytes → ((g j : ℕ) → ((g ≡ k + n) × (j ≡ i) → ⊥) → new g j ≡ old g j)
-    → files_with_pages new k infos ≡ changed_at (file_with_page i bytes) (files_with_pages old k infos) n
+    → files_with_pages new k infos ≡ with_change_at (file_with_page i bytes) (files_with_pages old k infos) n
 files-set old new k n i bytes [] is others = refl
 files-set old new k zero i bytes (x ∷ xs) is others =
     let here : k + 0 ≡ k = omega arith in

@@ -10,10 +10,10 @@ use Rattle.vm_world.specs.Segments.{Spaces, spot_at}
 use Rattle.vm_world.proofs.FlatWhole.{some-inj}
 
 pub spot-found : (spaces : Spaces) (p q first pages : ℕ) (seg : Segment) (ps : List (Part Segment)) → finite.get spaces p ≡ Some ps → part_at ps q ≡ Some (part first pages seg) → spot_at spaces p q ≡ Some (seg, q - first)
-spot-found spaces p q first pages seg ps e found = ap (option_and_then (λ (xs : List (Part Segment)). parts.at xs q)) e ∙ ap (option_map (λ (r : Part Segment). (r.piece, q - r.first))) found
+spot-found spaces p q first pages seg ps e found = ap (option_and_then (λ (xs : List (Part Segment)). parts.piece_at xs q)) e ∙ ap (option_map (λ (r : Part Segment). (r.piece, q - r.first))) found
 
 pub spot-none : (spaces : Spaces) (p q : ℕ) (ps : List (Part Segment)) → finite.get spaces p ≡ Some ps → part_at ps q ≡ None → spot_at spaces p q ≡ None
-spot-none spaces p q ps e none = ap (option_and_then (λ (xs : List (Part Segment)). parts.at xs q)) e ∙ ap (option_map (λ (r : Part Segment). (r.piece, q - r.first))) none
+spot-none spaces p q ps e none = ap (option_and_then (λ (xs : List (Part Segment)). parts.piece_at xs q)) e ∙ ap (option_map (λ (r : Part Segment). (r.piece, q - r.first))) none
 
 both-left : (a b : Bool) → (a && b) ≡ true → a ≡ true
 both-left true b h = refl

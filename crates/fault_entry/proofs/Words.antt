@@ -8,7 +8,7 @@ use Rattle.vm_types.specs.declared.call.Call.TheVariants as call
 use Rattle.vm_types.specs.declared.call.Reply.TheVariants as reply
 use Rattle.vm_types.specs.declared.call.Signal.{Signal}
 use Rattle.vm_types.specs.Prot.{can_read, can_write}
-use Rattle.hat_layer.specs.Pool.{at, lets_access}
+use Rattle.hat_layer.specs.Pool.{translation_at, lets_access}
 use Rattle.hat_layer.specs.declared.translation.Translation.{Translation}
 use Rattle.page_hash.specs.declared.PageName.{PageName}
 use Rattle.page_store.specs.Notes.{Notes}
@@ -16,7 +16,7 @@ use Rattle.page_store.specs.Value.{value}
 use Rattle.flat_model.specs.Words.{Page, page, word_at, word_put}
 use Rattle.flat_model.specs.Flat.{Cell, Flat}
 use Rattle.flat_model.specs.Access.{access_target, load, store, with_page_stored}
-use Rattle.flat_model.specs.Refusals.{Effect, done}
+use Rattle.flat_model.specs.Refusals.{Effect, done_effect}
 use Rattle.flat_model.proofs.Stores.{met_is}
 use Rattle.vm_world.specs.CallSteps.{ActsOnPages}
 use Rattle.vm_world.specs.FlatMemory.{flat_memory, flat_shaped, shape_of, cell_of}
@@ -77,7 +77,7 @@ store-signals w spaces p a n v cleared s f target = record {
 }
 
 -- a page that has a translation is written in place where that is writable
-may-write : (w : World) (spaces : Spaces) (p q : ℕ) (x : Spot) (t : Translation) → MemoryFits (memory_of w spaces) → spot_at spaces p q ≡ Some x → at w.hat.places p q ≡ Some t → t.writable ≡ true → MayWriteInPlace w.anon w.maps x
+may-write : (w : World) (spaces : Spaces) (p q : ℕ) (x : Spot) (t : Translation) → MemoryFits (memory_of w spaces) → spot_at spaces p q ≡ Some x → translation_at w.hat.places p q ≡ Some t → t.writable ≡ true → MayWriteInPlace w.anon w.maps x
 may-write w spaces p q x t f here is writable =
     let s = stands-at w.hat.places p q t is in
     let l = f.translations s.place t s.there in
@@ -169,7 +169,7 @@ store-acts w new spaces p a n frame v cleared f r puts_word =
           ] in
           let shaped : flat_memory (memory_of new spaces) born notes ≡ flat_shaped (shape_of (memory_of w spaces)) born (contents_by (page_value new notes) w.maps) =
           λ i. flat_shaped (shape-same w new spaces puts.tables i) born (contents_by (page_value new notes) (puts.tables.maps i)) in
-          let stored : store F p a n v ≡ done (with_page_stored F p (page a) cell bytes) = rw met refl in (
+          let stored : store F p a n v ≡ done_effect (with_page_stored F p (page a) cell bytes) = rw met refl in (
             ap (λ (e : Effect). e.reply) stored,
             shaped ∙ flat-stored w spaces born notes p (page a) r.spot page_name bytes (page_value new notes) f r.here (place-shows w spaces p a n frame true f r) (place-writable w spaces p a n frame true f r refl) (puts.written notes) others
                 ∙ sym (ap (λ (e : Effect). e.after) stored),

@@ -1,6 +1,6 @@
 -- What holds of loads and stores beside what is answered to them. Public clauses cite this.
 use Rattle.std.specs.Prelude.{◌≡◌, ℕ, Bool, true, false, Some}
-use Rattle.hat_layer.specs.Pool.{at}
+use Rattle.hat_layer.specs.Pool.{translation_at}
 use Rattle.hat_layer.specs.declared.translation.Translation.{Translation}
 use Rattle.page_hash.specs.declared.PageName.{PageName}
 use Rattle.page_store.specs.Seen.{residence}
@@ -38,7 +38,7 @@ SlotsWhereDone old new p q write answer = KeepsSlots old.world new
 -- The page has a translation, to the home frame of the page that its place shows.
 pub record IsShown (m : Memory) (p q : ℕ) : Type 0 where
   pub translation : Translation
-  pub loaded : at m.world.hat.places p q ≡ Some translation
+  pub loaded : translation_at m.world.hat.places p q ≡ Some translation
   pub spot : Spot
   pub here : spot_at m.spaces p q ≡ Some spot
   pub name : PageName

@@ -4,7 +4,7 @@ use Rattle.std.specs.Prelude.{slice_get, slice_set, option_map, All}
 use Rattle.std.proofs.lemmas.Option.{slice_get_within, get_or_from_slice_get}
 use Rattle.std.proofs.lemmas.List.{length-take, drop_at}
 use Rattle.flat_model.specs.Words.{Page, word_value, word_bytes, with_bytes, word_at, IsWordSize}
-use Rattle.flat_model.specs.Access.{changed_at}
+use Rattle.flat_model.specs.Access.{with_change_at}
 
 -- what holds of all holds of the one at a place
 pub All-slice_get : {X : Type 0} (P : X → Type 0) (xs : List X) (i : ℕ) (x : X) → All P xs → slice_get xs i ≡ Some x → P x
@@ -43,13 +43,13 @@ aligned_alike a b n (inl one) is same = subst (λ (k : ℕ). b % k ≡ 0) (sym o
 aligned_alike a b n (inr (inl two)) is same = subst (λ (k : ℕ). a % k ≡ 0 → b % k ≡ 0) (sym two) (λ e. omega arith) is
 aligned_alike a b n (inr (inr four)) is same = subst (λ (k : ℕ). a % k ≡ 0 → b % k ≡ 0) (sym four) (λ e. omega arith) is
 
-pub slice_get-changed_at : {A : Type 0} (f : A → A) (xs : List A) (i : ℕ) → slice_get (changed_at f xs i) i ≡ option_map f (slice_get xs i)
-slice_get-changed_at f [] zero = refl
-slice_get-changed_at f [] (suc i) = refl
-slice_get-changed_at f (x ∷ xs) zero = refl
-slice_get-changed_at f (x ∷ xs) (suc i) = slice_get-changed_at f xs i
+pub slice_get-with_change_at : {A : Type 0} (f : A → A) (xs : List A) (i : ℕ) → slice_get (with_change_at f xs i) i ≡ option_map f (slice_get xs i)
+slice_get-with_change_at f [] zero = refl
+slice_get-with_change_at f [] (suc i) = refl
+slice_get-with_change_at f (x ∷ xs) zero = refl
+slice_get-with_change_at f (x ∷ xs) (suc i) = slice_get-with_change_at f xs i
 
-pub slice_get-changed_apart : {A : Type 0} (f : A → A) (xs : List A) (i j : ℕ) → (j ≡ i → ⊥) → slice_get (changed_at f xs i) j ≡ slice_get xs j
+pub slice_get-changed_apart : {A : Type 0} (f : A → A) (xs : List A) (i j : ℕ) → (j ≡ i → ⊥) → slice_get (with_change_at f xs i) j ≡ slice_get xs j
 slice_get-changed_apart f [] i j apart = refl
 slice_get-changed_apart f (x ∷ xs) zero zero apart = absurd (apart refl)
 slice_get-changed_apart f (x ∷ xs) zero (suc j) apart = refl

@@ -14,11 +14,11 @@ use Rattle.vm_types.specs.Prot.{can_read}
 use Rattle.flat_model.specs.Words.{Page, IsPage, page, word_put, with_bytes, word_bytes, word_value, IsWordSize}
 use Rattle.flat_model.specs.Flat.{Cell, File, Flat, Space, IsFile, IsFlat, space_of, cell_at, pages_of}
 use Rattle.flat_model.specs.Refusals.{or_refused}
-use Rattle.flat_model.specs.Access.{load, store, changed_at, file_with_page, with_page}
+use Rattle.flat_model.specs.Access.{load, store, with_change_at, file_with_page, with_page}
 use Rattle.flat_model.specs.Parts.{file_bytes, pages_with_bytes, read_line, read_part}
 use Rattle.flat_model.specs.LineLaws.{AreWhole}
 use Rattle.flat_model.specs.CacheLaws.{ShowsFile, offset_of, HasStored, OneCache}
-use Rattle.flat_model.proofs.Bytes.{All-slice_get, slice_get-changed_at, slice_get-slice_set, drop-with_bytes}
+use Rattle.flat_model.proofs.Bytes.{All-slice_get, slice_get-with_change_at, slice_get-slice_set, drop-with_bytes}
 use Rattle.flat_model.proofs.Stores.{store_met, store-shared, load_word}
 use Rattle.flat_model.proofs.FileBytes.{length-concat, length-with_bytes, concat-pages_with_bytes}
 use Rattle.flat_model.proofs.WellFormed.{word_fits, length-word_bytes, flat_store}
@@ -100,9 +100,9 @@ read_as_loaded F q b n f offset len k line c flat size aligned read fits at show
 -- a page of pages that has bytes put into it is the pages with these bytes put over them
 set_placed : (ps : List Page) (i at : ℕ) (old : Page) (bytes : List ℕ) → AreWhole ps → slice_get ps i ≡ Some old → at % 4096 + length bytes ≤ 4096 → page at ≡ i → slice_set ps i (with_bytes old (at % 4096) bytes) ≡ pages_with_bytes ps at bytes
 set_placed ps i at old bytes whole is fits here =
-    sym (pages_with_bytes-in_page ps at bytes whole fits ∙ ap (changed_at (λ x. with_bytes x (at % 4096) bytes) ps) here ∙ changed_set ps i old is)
+    sym (pages_with_bytes-in_page ps at bytes whole fits ∙ ap (with_change_at (λ x. with_bytes x (at % 4096) bytes) ps) here ∙ changed_set ps i old is)
   where
-    changed_set : (qs : List Page) (j : ℕ) (x : Page) → slice_get qs j ≡ Some x → changed_at (λ y. with_bytes y (at % 4096) bytes) qs j ≡ slice_set qs j (with_bytes x (at % 4096) bytes)
+    changed_set : (qs : List Page) (j : ℕ) (x : Page) → slice_get qs j ≡ Some x → with_change_at (λ y. with_bytes y (at % 4096) bytes) qs j ≡ slice_set qs j (with_bytes x (at % 4096) bytes)
     changed_set [] j x is = absurd cc
     changed_set (q ∷ qs) zero x is = let same : q ≡ x = cc in ap (λ (y : Page). with_bytes y (at % 4096) bytes ∷ qs) same
     changed_set (q ∷ qs) (suc j) x is = ap (λ (rs : List Page). q ∷ rs) (changed_set qs j x is)
@@ -158,7 +158,7 @@ stored_in F p a n v f c is at shared shows =
       was = r.1;
       page_was = r.2;
       aligned = eqb-true (a % n) 0 s.2.aligned;
-      now = ap (λ (G : Flat). slice_get G.files f) (store-shared F p a n v c s.0 s.1 shared) ∙ ap (λ o. slice_get (with_page F o c.index new).files f) shows.object ∙ slice_get-changed_at (file_with_page c.index new) F.files f ∙ ap (option_map (file_with_page c.index new)) r.1;
+      now = ap (λ (G : Flat). slice_get G.files f) (store-shared F p a n v c s.0 s.1 shared) ∙ ap (λ o. slice_get (with_page F o c.index new).files f) shows.object ∙ slice_get-with_change_at (file_with_page c.index new) F.files f ∙ ap (option_map (file_with_page c.index new)) r.1;
     }
 
 slice_get_low : {X : Type 0} (xs : List X) (i : ℕ) (x : X) → slice_get xs i ≡ Some x → i < length xs

@@ -11,7 +11,7 @@ use Rattle.std.proofs.lemmas.List.Folds.{concat-append}
 use Rattle.flat_model.specs.Words.{Page, IsPage, zero_page, pages_in, with_bytes}
 use Rattle.vnode_files.specs.declared.extent.Extent.{Extent}
 use Rattle.flat_model.specs.Flat.{File, IsFile}
-use Rattle.flat_model.specs.Access.{changed_at}
+use Rattle.flat_model.specs.Access.{with_change_at}
 use Rattle.flat_model.specs.Cells.{pages_of_length}
 use Rattle.flat_model.specs.Parts.{pages_of_bytes, pages_with_bytes, longer_file, file_of_length, with_part, with_extents_of}
 use Rattle.flat_model.proofs.Trees.{map_set}
@@ -360,7 +360,7 @@ at-mapped f (y ∷ ys) zero old lt is = ap f (sym is)
 at-mapped f (y ∷ ys) (suc i) old lt is = at-mapped f ys i old (omega arith) is
 
 -- an element that was set at its place, changed back
-pub changed_back : {X Y : Type 0} (f : X → Y) (g : Y → Y) (xs : List X) (i : ℕ) (old new : X) → i < length xs → old ≡ get_or xs i old → g (f new) ≡ f old → changed_at g (map f (slice_set xs i new)) i ≡ map f xs
+pub changed_back : {X Y : Type 0} (f : X → Y) (g : Y → Y) (xs : List X) (i : ℕ) (old new : X) → i < length xs → old ≡ get_or xs i old → g (f new) ≡ f old → with_change_at g (map f (slice_set xs i new)) i ≡ map f xs
 changed_back f g [] i old new lt at is = absurd (omega arith)
 changed_back f g (y ∷ ys) zero old new lt at is = ap (λ z. z ∷ map f ys) (is ∙ ap f at)
 changed_back f g (y ∷ ys) (suc i) old new lt at is = ap (λ zs. f y ∷ zs) (changed_back f g ys i old new (omega arith) at is)

@@ -10,7 +10,7 @@ use Rattle.vm_types.specs.declared.call.Reply.TheVariants as reply
 use Rattle.vnode_files.specs.declared.extent.Extent.{Extent}
 use Rattle.flat_model.specs.declared.files.FileState.{FileState}
 use Rattle.flat_model.specs.Flat.{File, Flat, IsFlat, IsFile}
-use Rattle.flat_model.specs.Refusals.{◌>>=◌, ◌>>◌, check, or_refused, done}
+use Rattle.flat_model.specs.Refusals.{◌>>=◌, ◌>>◌, check, or_refused, done_effect}
 use Rattle.flat_model.specs.Cells.{flat_file}
 use Rattle.flat_model.specs.Parts.{existing_file, read_line, read_part, writable_file, room_for, with_extents_of, with_file_at}
 use Rattle.flat_model.proofs.Trees.{map_set, length_map}
@@ -70,13 +70,13 @@ room-writable F n end extents is =
     ap (λ (o : Option File). is_ok (ok_or o errno.NoObject >>= λ file. (check file.writable errno.ReadOnly >> Ok file))) r.found ∙ ap (λ (b : Bool). is_ok {T = File} {E = Errno} (check b errno.ReadOnly >> Ok r.old)) r.writable
 
 -- what is done where there is room is done
-pub room-done : (F : Flat) (n end : ℕ) (extents : List Extent) (g : File → Flat) → extents_got (room_for F n end) ≡ Ok extents → (or_refused F (λ f. done (g f)) (room_for F n end)).reply ≡ reply.Done
-room-done F n end extents g is = ap (λ (r : Result File Errno). (or_refused F (λ f. done (g f)) r).reply) (has_extents F n end extents is).room
+pub room-done : (F : Flat) (n end : ℕ) (extents : List Extent) (g : File → Flat) → extents_got (room_for F n end) ≡ Ok extents → (or_refused F (λ f. done_effect (g f)) (room_for F n end)).reply ≡ reply.Done
+room-done F n end extents g is = ap (λ (r : Result File Errno). (or_refused F (λ f. done_effect (g f)) r).reply) (has_extents F n end extents is).room
 
 -- a file that was changed where there was room for it
-pub file-changed : (F : Flat) (files : List FileState) (n end : ℕ) (extents : List Extent) (file new : FileState) (g : File → File) → F.files ≡ map flat_file files → n < length files → file ≡ get_or files n file → extents_got (room_for F n end) ≡ Ok extents → flat_file new ≡ g (with_extents_of extents (flat_file file)) → record F { files = map flat_file (slice_set files n new) } ≡ (or_refused F (λ f. done (with_file_at F n (g f))) (room_for F n end)).after
+pub file-changed : (F : Flat) (files : List FileState) (n end : ℕ) (extents : List Extent) (file new : FileState) (g : File → File) → F.files ≡ map flat_file files → n < length files → file ≡ get_or files n file → extents_got (room_for F n end) ≡ Ok extents → flat_file new ≡ g (with_extents_of extents (flat_file file)) → record F { files = map flat_file (slice_set files n new) } ≡ (or_refused F (λ f. done_effect (with_file_at F n (g f))) (room_for F n end)).after
 file-changed F files n end extents file new g is lt at room changed =
     let h = has_extents F n end extents room in
     let old : h.old ≡ flat_file file = sym (get_or_from_slice_get F.files n h.old (flat_file file) h.found) ∙ ap (λ (fs : List File). get_or fs n (flat_file file)) is ∙ at-mapped flat_file files n file lt at in
     ap (λ (fs : List File). record F { files = fs }) (map_set flat_file files n new ∙ ap (λ (fs : List File). slice_set fs n (flat_file new)) (sym is) ∙ ap (slice_set F.files n) (changed ∙ ap (λ (f : File). g (with_extents_of extents f)) (sym old)))
-    ∙ sym (ap (λ (r : Result File Errno). (or_refused F (λ f. done (with_file_at F n (g f))) r).after) h.room)
+    ∙ sym (ap (λ (r : Result File Errno). (or_refused F (λ f. done_effect (with_file_at F n (g f))) r).after) h.room)

@@ -8,7 +8,7 @@ use Rattle.vm_types.specs.declared.call.Errno.TheVariants as errno
 use Rattle.vm_types.specs.declared.call.Reply.TheVariants as reply
 use Rattle.flat_model.specs.Words.{page}
 use Rattle.flat_model.specs.Flat.{Flat, Space, IsFlat, space_of, private_cells, reserved}
-use Rattle.flat_model.specs.Refusals.{check, or_refused, done}
+use Rattle.flat_model.specs.Refusals.{check, or_refused, done_effect}
 use Rattle.flat_model.specs.Mapping.{cells_of}
 use Rattle.flat_model.specs.Processes.{fork, with_child}
 use Rattle.flat_model.specs.StoreLaws.{ForkCopies, ForkThenStore}
@@ -16,7 +16,7 @@ use Rattle.flat_model.proofs.Ranges.{get-insert_here, get-insert_apart}
 use Rattle.flat_model.proofs.Stores.{load-alike, load-private_store, shown-same_objects}
 
 -- a call that was done left what it leaves
-pub done_after : {A : Type 0} (F : Flat) (acts : A → Flat) (r : Result A Errno) → (or_refused F (λ x. done (acts x)) r).reply ≡ reply.Done → (x : A) × (r ≡ Ok x) × ((or_refused F (λ x. done (acts x)) r).after ≡ acts x)
+pub done_after : {A : Type 0} (F : Flat) (acts : A → Flat) (r : Result A Errno) → (or_refused F (λ x. done_effect (acts x)) r).reply ≡ reply.Done → (x : A) × (r ≡ Ok x) × ((or_refused F (λ x. done_effect (acts x)) r).after ≡ acts x)
 done_after F acts (Ok x) is = (x, refl, refl)
 done_after F acts (Err e) is = absurd cc
 

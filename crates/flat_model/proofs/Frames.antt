@@ -25,8 +25,8 @@ use Rattle.vm_types.specs.declared.prot.Prot.{Prot}
 use Rattle.vm_types.specs.Prot.{can_read, can_write}
 use Rattle.flat_model.specs.Words.{Page, zero_page, page, pages_in, word_at, word_put}
 use Rattle.flat_model.specs.Flat.{Cell, File, Flat, Space, space_of, cell_at, zero_of, is_named, without_unnamed, reserved, private_cells}
-use Rattle.flat_model.specs.Refusals.{◌>>◌, check, Effect, or_signal, or_refused, done}
-use Rattle.flat_model.specs.Access.{access_target, changed_at, file_with_page, with_page, with_space, with_cell, with_page_stored}
+use Rattle.flat_model.specs.Refusals.{◌>>◌, check, Effect, or_signal, or_refused, done_effect}
+use Rattle.flat_model.specs.Access.{access_target, with_change_at, file_with_page, with_page, with_space, with_cell, with_page_stored}
 use Rattle.flat_model.specs.Space.{in_range, without_range, with_cells, with_prot, with_prots}
 use Rattle.flat_model.specs.Mapping.{Request, cells_of, is_range, without_replaced, first_page, new_number, new_cell, with_object, map_result, without_pages, valid_range, is_allowed}
 use Rattle.flat_model.specs.Parts.{read_line, without_tail, longer_file, shorter_file, file_of_length, with_part, with_file_at, existing_file, room_for}
@@ -34,7 +34,7 @@ use Rattle.flat_model.specs.Processes.{with_child, without_process}
 use Rattle.flat_model.specs.Step.{effect, after_act, step, bit, files_cleared, tails_cleared, without_start, IsUnborn, IsDue, IsStep}
 use Rattle.flat_model.specs.Births.{is_done, is_fork_of, is_birth, AreBorn}
 use Rattle.flat_model.specs.FrameLaws.{takes, MapsSame, KeepsMode, StepFrame, StepsKeep}
-use Rattle.flat_model.proofs.Bytes.{slice_get-changed_at, slice_get-changed_apart, slice_get-slice_set}
+use Rattle.flat_model.proofs.Bytes.{slice_get-with_change_at, slice_get-changed_apart, slice_get-slice_set}
 use Rattle.flat_model.proofs.Ranges.{get-insert_here, get-insert_apart, get-remove_apart, get-without_range, get-with_cells, get-with_prots, in_range-low, in_range-high}
 use Rattle.flat_model.proofs.Stores.{is_met, ChangesOneCell-with_cell}
 use Rattle.flat_model.proofs.Named.{named_zeros-from_cell, new_number-new, get-without_unnamed}
@@ -110,15 +110,15 @@ kept_file F p f old new gone was keeps =
     let all = all_kept F p gone in
     record { slots = all.slots; disks = all.disks; files = length-set F.files f new; modes = λ k file at. modes-set F.files f k old new file was keeps at; spaces = all.spaces; born = all.born; cells = all.cells; zeros = all.zeros }
 
-pub length-changed_at : (g : File → File) (fs : List File) (i : ℕ) → length (changed_at g fs i) ≡ length fs
-length-changed_at g [] i = refl
-length-changed_at g (x ∷ fs) zero = refl
-length-changed_at g (x ∷ fs) (suc i) = ap (λ n. suc n) (length-changed_at g fs i)
+pub length-with_change_at : (g : File → File) (fs : List File) (i : ℕ) → length (with_change_at g fs i) ≡ length fs
+length-with_change_at g [] i = refl
+length-with_change_at g (x ∷ fs) zero = refl
+length-with_change_at g (x ∷ fs) (suc i) = ap (λ n. suc n) (length-with_change_at g fs i)
 
-modes-changed_at : (j : ℕ) (new : Page) (fs : List File) (i f : ℕ) (file : File) → slice_get fs f ≡ Some file → IsSomeAnd (slice_get (changed_at (file_with_page j new) fs i) f) (KeepsMode file)
-modes-changed_at j new fs i f file at = elim (cases_eq f i) [
-  | inl here ↦ there (slice_get (changed_at (file_with_page j new) fs i) f) (file_with_page j new file) (KeepsMode file) (ap (slice_get (changed_at (file_with_page j new) fs i)) here ∙ slice_get-changed_at (file_with_page j new) fs i ∙ ap (option_map (file_with_page j new)) (ap (slice_get fs) (sym here) ∙ at)) (record { disk = refl; writable = refl })
-  | inr apart ↦ there (slice_get (changed_at (file_with_page j new) fs i) f) file (KeepsMode file) (slice_get-changed_apart (file_with_page j new) fs i f apart ∙ at) (same_mode file)
+modes-with_change_at : (j : ℕ) (new : Page) (fs : List File) (i f : ℕ) (file : File) → slice_get fs f ≡ Some file → IsSomeAnd (slice_get (with_change_at (file_with_page j new) fs i) f) (KeepsMode file)
+modes-with_change_at j new fs i f file at = elim (cases_eq f i) [
+  | inl here ↦ there (slice_get (with_change_at (file_with_page j new) fs i) f) (file_with_page j new file) (KeepsMode file) (ap (slice_get (with_change_at (file_with_page j new) fs i)) here ∙ slice_get-with_change_at (file_with_page j new) fs i ∙ ap (option_map (file_with_page j new)) (ap (slice_get fs) (sym here) ∙ at)) (record { disk = refl; writable = refl })
+  | inr apart ↦ there (slice_get (with_change_at (file_with_page j new) fs i) f) file (KeepsMode file) (slice_get-changed_apart (file_with_page j new) fs i f apart ∙ at) (same_mode file)
 ]
 
 -- OBJECTS
@@ -129,7 +129,7 @@ zero_kept (Some ps) pages i new is = let same : ps ≡ pages = cc in length-set 
 kept_page : (F : Flat) (p : ℕ) (o : Object) (i : ℕ) (new : Page) (gone : ℕ → Bool) → Kept F (with_page F o i new) p nobody gone
 kept_page F p (object.File f) i new gone =
     let all = all_kept F p gone in
-    record { slots = all.slots; disks = all.disks; files = length-changed_at (file_with_page i new) F.files f; modes = λ k file at. modes-changed_at i new F.files f k file at; spaces = all.spaces; born = all.born; cells = all.cells; zeros = all.zeros }
+    record { slots = all.slots; disks = all.disks; files = length-with_change_at (file_with_page i new) F.files f; modes = λ k file at. modes-with_change_at i new F.files f k file at; spaces = all.spaces; born = all.born; cells = all.cells; zeros = all.zeros }
 kept_page F p (object.Zero z) i new gone =
     let all = all_kept F p gone in
     let put = slice_set (unwrap_or (map.get F.zeros z) []) i new in
@@ -433,24 +433,24 @@ kept_room F p f end file new gone is keeps =
 
 kept_outcome : (F : Flat) (p : ℕ) (call : Call) → ((child : ℕ) → call ≡ Fork child → space_of F child ≡ None) → KeptBy F p call (effect F p call)
 kept_outcome F p (Load a n) unborn = by_signal (KeptBy F p (Load a n)) F (λ m. record { reply = reply.Word (word_at m.1 a n); after = F }) (access_target F p can_read a n) (λ s. all_kept F p (takes (Load a n))) (λ m is. all_kept F p (takes (Load a n)))
-kept_outcome F p (Store a n v) unborn = by_signal (KeptBy F p (Store a n v)) F (λ m. done (with_page_stored F p (page a) m.0 (word_put m.1 a n v))) (access_target F p can_write a n) (λ s. all_kept F p (takes (Store a n v)))
+kept_outcome F p (Store a n v) unborn = by_signal (KeptBy F p (Store a n v)) F (λ m. done_effect (with_page_stored F p (page a) m.0 (word_put m.1 a n v))) (access_target F p can_write a n) (λ s. all_kept F p (takes (Store a n v)))
     (λ m is. kept_written F p (page a) m.0 (word_put m.1 a n v) (takes (Store a n v)) (is_met F p can_write a n m.0 m.1 is).cell)
 kept_outcome F p (Map place len prot kind object offset) unborn =
     let r : Request = record { place = place; len = len; prot = prot; kind = kind; object = object; offset = offset } in
     by_refusal (KeptBy F p (Map place len prot kind object offset)) F (λ m. record { reply = reply.Mapped (4096 * m.0); after = m.1 }) (map_result F p r) (λ e. all_kept F p (takes (Map place len prot kind object offset))) (λ m is. kept_mapped F p r m.0 m.1 is)
-kept_outcome F p (Unmap a len) unborn = by_refusal (KeptBy F p (Unmap a len)) F (λ x. done (without_pages F p (page a) (pages_in len))) (check (is_range a len) errno.Invalid) (λ e. all_kept F p (takes (Unmap a len))) (λ x is. kept_unmapped F p (page a) (pages_in len))
+kept_outcome F p (Unmap a len) unborn = by_refusal (KeptBy F p (Unmap a len)) F (λ x. done_effect (without_pages F p (page a) (pages_in len))) (check (is_range a len) errno.Invalid) (λ e. all_kept F p (takes (Unmap a len))) (λ x is. kept_unmapped F p (page a) (pages_in len))
 kept_outcome F p (Protect a len prot) unborn =
-    by_refusal (KeptBy F p (Protect a len prot)) F (λ x. done (with_space F p (with_prots (cells_of F p) (page a) (pages_in len) prot))) (valid_range F p a len >> check (is_allowed (cells_of F p) (page a) (pages_in len) prot) errno.Access) (λ e. all_kept F p (takes (Protect a len prot)))
+    by_refusal (KeptBy F p (Protect a len prot)) F (λ x. done_effect (with_space F p (with_prots (cells_of F p) (page a) (pages_in len) prot))) (valid_range F p a len >> check (is_allowed (cells_of F p) (page a) (pages_in len) prot) errno.Access) (λ e. all_kept F p (takes (Protect a len prot)))
     (λ x is. kept_protected F p (page a) (pages_in len) prot (takes (Protect a len prot)))
 kept_outcome F p (Sync a len) unborn = by_refusal (KeptBy F p (Sync a len)) F (λ x. record { reply = reply.Synced 0; after = F }) (valid_range F p a len) (λ e. all_kept F p (takes (Sync a len))) (λ x is. all_kept F p (takes (Sync a len)))
 kept_outcome F p (Read file offset len) unborn = by_refusal (KeptBy F p (Read file offset len)) F (λ x. record { reply = reply.Bytes (read_line x offset len); after = F }) (existing_file F file) (λ e. all_kept F p (takes (Read file offset len))) (λ x is. all_kept F p (takes (Read file offset len)))
 kept_outcome F p (Write file offset line rest) unborn =
-    by_refusal (KeptBy F p (Write file offset line rest)) F (λ x. done (with_file_at F file (with_part offset line x))) (room_for F file (offset + length line)) (λ e. all_kept F p (takes (Write file offset line rest)))
+    by_refusal (KeptBy F p (Write file offset line rest)) F (λ x. done_effect (with_file_at F file (with_part offset line x))) (room_for F file (offset + length line)) (λ e. all_kept F p (takes (Write file offset line rest)))
     (λ x is. kept_room F p file (offset + length line) x (with_part offset line x) (takes (Write file offset line rest)) is (mode_with_part offset line x))
 kept_outcome F p (Truncate file len) unborn =
-    by_refusal (KeptBy F p (Truncate file len)) F (λ x. done (with_file_at F file (file_of_length len x))) (room_for F file len) (λ e. all_kept F p (takes (Truncate file len)))
+    by_refusal (KeptBy F p (Truncate file len)) F (λ x. done_effect (with_file_at F file (file_of_length len x))) (room_for F file len) (λ e. all_kept F p (takes (Truncate file len)))
     (λ x is. kept_room F p file len x (file_of_length len x) (takes (Truncate file len)) is (mode_of_length len x))
-kept_outcome F p (Fork child) unborn = by_refusal (KeptBy F p (Fork child)) F (λ x. done (with_child F p child)) (check (nat_le (reserved F + private_cells (cells_of F p)) F.slots) errno.NoSwap) (λ e. all_kept F p (takes (Fork child))) (λ x is. kept_forked F p child (takes (Fork child)) (unborn child refl))
+kept_outcome F p (Fork child) unborn = by_refusal (KeptBy F p (Fork child)) F (λ x. done_effect (with_child F p child)) (check (nat_le (reserved F + private_cells (cells_of F p)) F.slots) errno.NoSwap) (λ e. all_kept F p (takes (Fork child))) (λ x is. kept_forked F p child (takes (Fork child)) (unborn child refl))
 kept_outcome F p Exit unborn = kept_exited F p
 
 -- A STEP

@@ -8,11 +8,11 @@ use Rattle.std.proofs.lemmas.List.{length-take, length-drop, length-replicate, t
 use Rattle.vm_types.specs.Pages.{bytes_before}
 use Rattle.flat_model.specs.Words.{Page, zero_page, page, page_size, pages_in, with_bytes}
 use Rattle.flat_model.specs.Flat.{File, IsFile}
-use Rattle.flat_model.specs.Access.{changed_at}
+use Rattle.flat_model.specs.Access.{with_change_at}
 use Rattle.flat_model.specs.Parts.{pages_of_bytes, pages_with_bytes, longer_file, shorter_file, with_part}
 use Rattle.flat_model.specs.LineLaws.{page_front}
 use Rattle.flat_model.specs.GrownLaws.{zeros_between, GrownPages}
-use Rattle.flat_model.proofs.Bytes.{slice_get-changed_at, slice_get-changed_apart}
+use Rattle.flat_model.proofs.Bytes.{slice_get-with_change_at, slice_get-changed_apart}
 use Rattle.flat_model.proofs.FileBytes.{Whole, Whole-pages, Whole-append, Whole-zeros, longer, shorter-whole}
 use Rattle.flat_model.proofs.Lines.{pages_of_bytes-page, pages_of_bytes-with_bytes, with_bytes-left, with_bytes-right, without_tail-fronts, at-fronts}
 
@@ -203,7 +203,7 @@ written-pages file offset i line is fits =
     let change = λ (old : Page). with_bytes old (offset % 4096) line in
     ap (λ (ps : List Page). slice_get ps i) (pages_of_bytes-with_bytes long offset line (longer (offset + length line) file is).1.whole fits)
     ∙ elim (cases_eq i (page offset)) [
-      | inl here ↦ ap (slice_get (changed_at change long (page offset))) here ∙ slice_get-changed_at change long (page offset) ∙ ap (λ (k : ℕ). option_map change (slice_get long k)) (sym here)
+      | inl here ↦ ap (slice_get (with_change_at change long (page offset))) here ∙ slice_get-with_change_at change long (page offset) ∙ ap (λ (k : ℕ). option_map change (slice_get long k)) (sym here)
           ∙ sym (ap (λ b. if b then option_map change (slice_get long i) else slice_get long i) (eq-eqb i (page offset) here))
       | inr apart ↦ slice_get-changed_apart change long (page offset) i apart ∙ sym (ap (λ b. if b then option_map change (slice_get long i) else slice_get long i) (not_eq i (page offset) apart))
     ]

@@ -8,7 +8,7 @@ use Rattle.std.proofs.lemmas.List.{length-take, length-drop, length-replicate, t
 use Rattle.vm_types.specs.Pages.{line_rest}
 use Rattle.flat_model.specs.Words.{Page, page, with_bytes}
 use Rattle.flat_model.specs.Flat.{File}
-use Rattle.flat_model.specs.Access.{changed_at}
+use Rattle.flat_model.specs.Access.{with_change_at}
 use Rattle.flat_model.specs.Parts.{pages_of_bytes, pages_with_bytes, file_bytes, without_tail}
 use Rattle.flat_model.specs.LineLaws.{AreWhole, page_front, LinesInPages}
 use Rattle.flat_model.proofs.FileBytes.{Whole, length-concat, length-with_bytes}
@@ -49,7 +49,7 @@ with_bytes-right p rest bytes n at size le =
     (λ i. (front i ++ bytes) ++ back i) ∙ ap (λ (b : List ℕ). b ++ drop (at - n + length bytes) rest) (append_assoc p (take (at - n) rest) bytes)
     ∙ append_assoc p (take (at - n) rest ++ bytes) (drop (at - n + length bytes) rest)
 
-pub pages_of_bytes-with_bytes : (ps : List Page) (at : ℕ) (bytes : List ℕ) → Whole ps → at % 4096 + length bytes ≤ 4096 → pages_of_bytes (length ps) (with_bytes (concat ps) at bytes) ≡ changed_at (λ old. with_bytes old (at % 4096) bytes) ps (page at)
+pub pages_of_bytes-with_bytes : (ps : List Page) (at : ℕ) (bytes : List ℕ) → Whole ps → at % 4096 + length bytes ≤ 4096 → pages_of_bytes (length ps) (with_bytes (concat ps) at bytes) ≡ with_change_at (λ old. with_bytes old (at % 4096) bytes) ps (page at)
 pages_of_bytes-with_bytes [] at bytes whole fits = refl
 pages_of_bytes-with_bytes (p ∷ ps) at bytes whole fits =
     let size = whole.0 in
@@ -61,18 +61,18 @@ pages_of_bytes-with_bytes (p ∷ ps) at bytes whole fits =
           ∙ pages_of_bytes-page (length ps) (with_bytes p at bytes) (concat ps) (length-with_bytes p bytes at (omega arith) ∙ size)
           ∙ ap (λ (qs : List Page). with_bytes p at bytes ∷ qs) (pages_of_bytes-concat ps whole.1)
           ∙ ap (λ (k : ℕ). with_bytes p k bytes ∷ ps) (sym same)
-          ∙ ap (changed_at (λ old. with_bytes old (at % 4096) bytes) (p ∷ ps)) (sym first)
+          ∙ ap (with_change_at (λ old. with_bytes old (at % 4096) bytes) (p ∷ ps)) (sym first)
       | inr high ↦
           let next : at / 4096 ≡ suc ((at - 4096) / 4096) = omega arith in
           let same : (at - 4096) % 4096 ≡ at % 4096 = omega arith in
           ap (pages_of_bytes (suc (length ps))) (with_bytes-right p (concat ps) bytes 4096 at size high)
           ∙ pages_of_bytes-page (length ps) p (with_bytes (concat ps) (at - 4096) bytes) size
           ∙ ap (λ (qs : List Page). p ∷ qs) (pages_of_bytes-with_bytes ps (at - 4096) bytes whole.1 (omega arith))
-          ∙ ap (λ (k : ℕ). p ∷ changed_at (λ old. with_bytes old k bytes) ps (page (at - 4096))) same
-          ∙ ap (changed_at (λ old. with_bytes old (at % 4096) bytes) (p ∷ ps)) (sym next)
+          ∙ ap (λ (k : ℕ). p ∷ with_change_at (λ old. with_bytes old k bytes) ps (page (at - 4096))) same
+          ∙ ap (with_change_at (λ old. with_bytes old (at % 4096) bytes) (p ∷ ps)) (sym next)
     ]
 
-pub pages_with_bytes-in_page : (ps : List Page) (at : ℕ) (bytes : List ℕ) → AreWhole ps → at % 4096 + length bytes ≤ 4096 → pages_with_bytes ps at bytes ≡ changed_at (λ old. with_bytes old (at % 4096) bytes) ps (page at)
+pub pages_with_bytes-in_page : (ps : List Page) (at : ℕ) (bytes : List ℕ) → AreWhole ps → at % 4096 + length bytes ≤ 4096 → pages_with_bytes ps at bytes ≡ with_change_at (λ old. with_bytes old (at % 4096) bytes) ps (page at)
 unfolding pages_with_bytes
 pages_with_bytes-in_page ps at bytes whole fits = pages_of_bytes-with_bytes ps at bytes (Whole-of ps whole) fits
 

@@ -11,12 +11,12 @@ use Rattle.vm_types.specs.declared.call.Object.TheVariants as object
 use Rattle.vm_types.specs.declared.call.Reply.TheVariants as reply
 use Rattle.flat_model.specs.Words.{Page, page, word_put}
 use Rattle.flat_model.specs.Flat.{Cell, File, Flat, cell_at, pages_of}
-use Rattle.flat_model.specs.Access.{store, changed_at, file_with_page, with_page}
+use Rattle.flat_model.specs.Access.{store, with_change_at, file_with_page, with_page}
 use Rattle.flat_model.specs.ObjectLaws.{object_page, KeepsLength, ChangesOnePage, SharedStore}
-use Rattle.flat_model.proofs.Bytes.{slice_get-changed_at, slice_get-changed_apart, slice_get-slice_set}
+use Rattle.flat_model.proofs.Bytes.{slice_get-with_change_at, slice_get-changed_apart, slice_get-slice_set}
 use Rattle.flat_model.proofs.Ranges.{get-insert_here, get-insert_apart}
 use Rattle.flat_model.proofs.Stores.{store_met, store-shared}
-use Rattle.flat_model.proofs.Frames.{there, slice_get-set_apart, length-changed_at}
+use Rattle.flat_model.proofs.Frames.{there, slice_get-set_apart, length-with_change_at}
 
 -- one page of an object's pages is another
 changed_there : (o : Option (List Page)) (i : ℕ) (old new : Page) → option_and_then (λ pages. slice_get pages i) o ≡ Some old → option_and_then (λ pages. slice_get pages i) (option_map (λ (pages : List Page). slice_set pages i new) o) ≡ Some new
@@ -45,7 +45,7 @@ zero_pages i new (Some pages) old is = refl
 
 pages_changed : (F : Flat) (o : Object) (i : ℕ) (old new : Page) → object_page F o i ≡ Some old → PagesChanged F o i new (with_page F o i new)
 pages_changed F (object.File f) i old new is = (
-  ap (option_map (λ file. file.pages)) (slice_get-changed_at (file_with_page i new) F.files f) ∙ file_pages i new (slice_get F.files f),
+  ap (option_map (λ file. file.pages)) (slice_get-with_change_at (file_with_page i new) F.files f) ∙ file_pages i new (slice_get F.files f),
   other,
 )
   where
@@ -78,10 +78,10 @@ record Rest (F G : Flat) : Type 0 where
 
 rest_kept : (F : Flat) (o : Object) (i : ℕ) (new : Page) → Rest F (with_page F o i new)
 rest_kept F (object.File f) i new = record {
-  files = length-changed_at (file_with_page i new) F.files f;
+  files = length-with_change_at (file_with_page i new) F.files f;
   lengths = λ g file at. elim (cases_eq g f) [
-    | inl here ↦ there (slice_get (changed_at (file_with_page i new) F.files f) g) (file_with_page i new file) (KeepsLength file) (ap (slice_get (changed_at (file_with_page i new) F.files f)) here ∙ slice_get-changed_at (file_with_page i new) F.files f ∙ ap (option_map (file_with_page i new)) (ap (slice_get F.files) (sym here) ∙ at)) (record { len = refl; extents = refl; mode = record { disk = refl; writable = refl } })
-    | inr apart ↦ there (slice_get (changed_at (file_with_page i new) F.files f) g) file (KeepsLength file) (slice_get-changed_apart (file_with_page i new) F.files f g apart ∙ at) (same_file file)
+    | inl here ↦ there (slice_get (with_change_at (file_with_page i new) F.files f) g) (file_with_page i new file) (KeepsLength file) (ap (slice_get (with_change_at (file_with_page i new) F.files f)) here ∙ slice_get-with_change_at (file_with_page i new) F.files f ∙ ap (option_map (file_with_page i new)) (ap (slice_get F.files) (sym here) ∙ at)) (record { len = refl; extents = refl; mode = record { disk = refl; writable = refl } })
+    | inr apart ↦ there (slice_get (with_change_at (file_with_page i new) F.files f) g) file (KeepsLength file) (slice_get-changed_apart (file_with_page i new) F.files f g apart ∙ at) (same_file file)
   ];
   slots = refl;
   disks = refl;

@@ -11,7 +11,7 @@ use Rattle.vm_types.specs.Pages.{is_range}
 use Rattle.vm_types.specs.Prot.{is_within}
 use Rattle.flat_model.specs.Words.{page, pages_in}
 use Rattle.flat_model.specs.Flat.{Cell, Flat, cell_at}
-use Rattle.flat_model.specs.Refusals.{◌>>◌, check, or_refused, done}
+use Rattle.flat_model.specs.Refusals.{◌>>◌, check, or_refused, done_effect}
 use Rattle.flat_model.specs.Access.{with_space}
 use Rattle.flat_model.specs.Space.{with_prot, with_prots}
 use Rattle.flat_model.specs.Mapping.{cells_of, is_mapped, is_allowed, valid_range, protect}
@@ -40,7 +40,7 @@ then_ok (Ok y) true e x is = (refl, refl)
 then_ok (Ok y) false e x is = absurd cc
 then_ok (Err f) b e x is = absurd cc
 
-done_both : (F : Flat) (acts : Unit {0} → Flat) (r : Result (Unit {0}) Errno) (b : Bool) (e : Errno) → IsOk r → b ≡ true → (or_refused F (λ x. done (acts x)) (r >> check b e)).reply ≡ reply.Done
+done_both : (F : Flat) (acts : Unit {0} → Flat) (r : Result (Unit {0}) Errno) (b : Bool) (e : Errno) → IsOk r → b ≡ true → (or_refused F (λ x. done_effect (acts x)) (r >> check b e)).reply ≡ reply.Done
 done_both F acts (Ok x) true e is passed = refl
 done_both F acts (Ok x) false e is passed = absurd cc
 done_both F acts (Err f) b e is passed = absurd cc

@@ -24,7 +24,7 @@ use Rattle.vm_types.specs.Pages.{is_range}
 use Rattle.flat_model.specs.Words.{Page, page, pages_in, word_at, word_put}
 use Rattle.flat_model.specs.Flat.{Cell, File, Flat, Space, space_of, cell_at, is_named, without_unnamed, slots_for, reserved, private_cells}
 use Rattle.flat_model.specs.Opening.{flat_at_opening}
-use Rattle.flat_model.specs.Refusals.{◌>>◌, check, Effect, or_signal, or_refused, done}
+use Rattle.flat_model.specs.Refusals.{◌>>◌, check, Effect, or_signal, or_refused, done_effect}
 use Rattle.flat_model.specs.Access.{access_target, with_page, with_space, with_cell, with_page_stored}
 use Rattle.flat_model.specs.Space.{without_range, with_prots}
 use Rattle.flat_model.specs.Mapping.{Request, cells_of, is_there, without_replaced, new_number, new_cell, object_for, with_object, map_result, without_pages, valid_range, is_allowed}
@@ -139,19 +139,19 @@ by_refusal P F acts (Err e) none some = none
 
 effect_alone : (F : Flat) (p : ℕ) (call : Call) → NamedAlone F → IsSome (space_of F p) → ((child : ℕ) → call ≡ Fork child → space_of F child ≡ None) → NamedAlone (effect F p call).after
 effect_alone F p (Load a n) alone alive unborn = by_signal NamedAlone F (λ m. record { reply = reply.Word (word_at m.1 a n); after = F }) (access_target F p can_read a n) alone (λ m is. alone)
-effect_alone F p (Store a n v) alone alive unborn = by_signal NamedAlone F (λ m. done (with_page_stored F p (page a) m.0 (word_put m.1 a n v))) (access_target F p can_write a n) alone (λ m is. stored_alone F p (page a) m.0 (word_put m.1 a n v) alone alive (is_met F p can_write a n m.0 m.1 is).cell)
+effect_alone F p (Store a n v) alone alive unborn = by_signal NamedAlone F (λ m. done_effect (with_page_stored F p (page a) m.0 (word_put m.1 a n v))) (access_target F p can_write a n) alone (λ m is. stored_alone F p (page a) m.0 (word_put m.1 a n v) alone alive (is_met F p can_write a n m.0 m.1 is).cell)
 effect_alone F p (Map place len prot kind object offset) alone alive unborn =
     let r : Request = record { place = place; len = len; prot = prot; kind = kind; object = object; offset = offset } in
     by_refusal NamedAlone F (λ m. record { reply = reply.Mapped (4096 * m.0); after = m.1 }) (map_result F p r) alone (λ m is. mapped_alone F p r m.0 m.1 alone alive is)
-effect_alone F p (Unmap a len) alone alive unborn = by_refusal NamedAlone F (λ x. done (without_pages F p (page a) (pages_in len))) (check (is_range a len) errno.Invalid) alone (λ x is. unmapped_alone F p (page a) (pages_in len) alone alive)
+effect_alone F p (Unmap a len) alone alive unborn = by_refusal NamedAlone F (λ x. done_effect (without_pages F p (page a) (pages_in len))) (check (is_range a len) errno.Invalid) alone (λ x is. unmapped_alone F p (page a) (pages_in len) alone alive)
 effect_alone F p (Protect a len prot) alone alive unborn =
-    by_refusal NamedAlone F (λ x. done (with_space F p (with_prots (cells_of F p) (page a) (pages_in len) prot))) (valid_range F p a len >> check (is_allowed (cells_of F p) (page a) (pages_in len) prot) errno.Access) alone
+    by_refusal NamedAlone F (λ x. done_effect (with_space F p (with_prots (cells_of F p) (page a) (pages_in len) prot))) (valid_range F p a len >> check (is_allowed (cells_of F p) (page a) (pages_in len) prot) errno.Access) alone
     (λ x is z. alone z ∙ sym (named-alike F p (with_prots (cells_of F p) (page a) (pages_in len) prot) (alike_prots F p (page a) (pages_in len) prot) z))
 effect_alone F p (Sync a len) alone alive unborn = by_refusal NamedAlone F (λ x. record { reply = reply.Synced 0; after = F }) (valid_range F p a len) alone (λ x is. alone)
 effect_alone F p (Read file offset len) alone alive unborn = by_refusal NamedAlone F (λ x. record { reply = reply.Bytes (read_line x offset len); after = F }) (existing_file F file) alone (λ x is. alone)
-effect_alone F p (Write file offset line rest) alone alive unborn = by_refusal NamedAlone F (λ x. done (with_file_at F file (with_part offset line x))) (room_for F file (offset + length line)) alone (λ x is. alone)
-effect_alone F p (Truncate file len) alone alive unborn = by_refusal NamedAlone F (λ x. done (with_file_at F file (file_of_length len x))) (room_for F file len) alone (λ x is. alone)
-effect_alone F p (Fork child) alone alive unborn = by_refusal NamedAlone F (λ x. done (with_child F p child)) (check (nat_le (reserved F + private_cells (cells_of F p)) F.slots) errno.NoSwap) alone (λ x is. forked_alone F p child alone (unborn child refl))
+effect_alone F p (Write file offset line rest) alone alive unborn = by_refusal NamedAlone F (λ x. done_effect (with_file_at F file (with_part offset line x))) (room_for F file (offset + length line)) alone (λ x is. alone)
+effect_alone F p (Truncate file len) alone alive unborn = by_refusal NamedAlone F (λ x. done_effect (with_file_at F file (file_of_length len x))) (room_for F file len) alone (λ x is. alone)
+effect_alone F p (Fork child) alone alive unborn = by_refusal NamedAlone F (λ x. done_effect (with_child F p child)) (check (nat_le (reserved F + private_cells (cells_of F p)) F.slots) errno.NoSwap) alone (λ x is. forked_alone F p child alone (unborn child refl))
 effect_alone F p Exit alone alive unborn = exited_alone F p alone
 
 checked : (b : Bool) (e : Errno) (x : Unit {0}) → check b e ≡ Ok x → b ≡ true
@@ -165,9 +165,9 @@ effect_backed : (F : Flat) (p : ℕ) (call : Call) → AreBorn F → reserved F 
 effect_backed F p (Map place len prot kind object offset) born backed alive unborn =
     let r : Request = record { place = place; len = len; prot = prot; kind = kind; object = object; offset = offset } in
     by_refusal (λ G. reserved G ≤ F.slots) F (λ m. record { reply = reply.Mapped (4096 * m.0); after = m.1 }) (map_result F p r) backed (λ m is. leb-true (reserved m.1) F.slots (is_mapped F p r m.0 m.1 is).backed)
-effect_backed F p (Unmap a len) born backed alive unborn = by_refusal (λ G. reserved G ≤ F.slots) F (λ x. done (without_pages F p (page a) (pages_in len))) (check (is_range a len) errno.Invalid) backed (λ x is. let sum = reserved-unmap F p (page a) (pages_in len) alive in omega (arith, sum, backed))
+effect_backed F p (Unmap a len) born backed alive unborn = by_refusal (λ G. reserved G ≤ F.slots) F (λ x. done_effect (without_pages F p (page a) (pages_in len))) (check (is_range a len) errno.Invalid) backed (λ x is. let sum = reserved-unmap F p (page a) (pages_in len) alive in omega (arith, sum, backed))
 effect_backed F p (Fork child) born backed alive unborn =
-    by_refusal (λ G. reserved G ≤ F.slots) F (λ x. done (with_child F p child)) (check (nat_le (reserved F + private_cells (cells_of F p)) F.slots) errno.NoSwap) backed
+    by_refusal (λ G. reserved G ≤ F.slots) F (λ x. done_effect (with_child F p child)) (check (nat_le (reserved F + private_cells (cells_of F p)) F.slots) errno.NoSwap) backed
     (λ x is. let sum = reserved-fork F p child born alive unborn in let fits = leb-true (reserved F + private_cells (cells_of F p)) F.slots (checked (nat_le (reserved F + private_cells (cells_of F p)) F.slots) errno.NoSwap x is) in omega (arith, sum, fits))
 effect_backed F p Exit born backed alive unborn = let sum = reserved-exit F p alive in omega (arith, sum, backed)
 effect_backed F p (Load a n) born backed alive unborn = kept_backed F p (Load a n) backed alive tt

@@ -20,7 +20,7 @@ use Rattle.vm_types.specs.declared.call.Signal.{Signal}
 use Rattle.vm_types.specs.Prot.{can_read, can_write}
 use Rattle.flat_model.specs.Words.{Page, page, pages_in, word_at, word_put}
 use Rattle.flat_model.specs.Flat.{Cell, Flat, Space, space_of, cell_at, zero_of, is_named, slots_for, private_cells, reserved}
-use Rattle.flat_model.specs.Refusals.{◌>>◌, check, Effect, or_signal, or_refused, done}
+use Rattle.flat_model.specs.Refusals.{◌>>◌, check, Effect, or_signal, or_refused, done_effect}
 use Rattle.flat_model.specs.Access.{access_target, with_page, with_space, with_cell, with_page_stored}
 use Rattle.flat_model.specs.Space.{in_range, with_prots}
 use Rattle.flat_model.specs.Mapping.{cells_of, valid_range, is_allowed}
@@ -216,15 +216,15 @@ by_refusal P F acts (Err e) none some = none
 
 pub reserved-others : (F : Flat) (p : ℕ) (call : Call) → IsSome (space_of F p) → KeepsReservation call → reserved (effect F p call).after ≡ reserved F
 reserved-others F p (Load a n) alive keeps = by_signal (λ G. reserved G ≡ reserved F) F (λ m. record { reply = reply.Word (word_at m.1 a n); after = F }) (access_target F p can_read a n) refl (λ m is. refl)
-reserved-others F p (Store a n v) alive keeps = by_signal (λ G. reserved G ≡ reserved F) F (λ m. done (with_page_stored F p (page a) m.0 (word_put m.1 a n v))) (access_target F p can_write a n) refl (λ m is. reserved-with_page_stored F p (page a) m.0 (word_put m.1 a n v) alive (is_met F p can_write a n m.0 m.1 is).cell)
+reserved-others F p (Store a n v) alive keeps = by_signal (λ G. reserved G ≡ reserved F) F (λ m. done_effect (with_page_stored F p (page a) m.0 (word_put m.1 a n v))) (access_target F p can_write a n) refl (λ m is. reserved-with_page_stored F p (page a) m.0 (word_put m.1 a n v) alive (is_met F p can_write a n m.0 m.1 is).cell)
 reserved-others F p (Map place len prot kind object offset) alive keeps = absurd keeps
 reserved-others F p (Unmap a len) alive keeps = absurd keeps
 reserved-others F p (Protect a len prot) alive keeps =
-    by_refusal (λ G. reserved G ≡ reserved F) F (λ x. done (with_space F p (with_prots (cells_of F p) (page a) (pages_in len) prot))) (valid_range F p a len >> check (is_allowed (cells_of F p) (page a) (pages_in len) prot) errno.Access) refl (λ x is. reserved-with_prots F p (page a) (pages_in len) prot alive)
+    by_refusal (λ G. reserved G ≡ reserved F) F (λ x. done_effect (with_space F p (with_prots (cells_of F p) (page a) (pages_in len) prot))) (valid_range F p a len >> check (is_allowed (cells_of F p) (page a) (pages_in len) prot) errno.Access) refl (λ x is. reserved-with_prots F p (page a) (pages_in len) prot alive)
 reserved-others F p (Sync a len) alive keeps = by_refusal (λ G. reserved G ≡ reserved F) F (λ x. record { reply = reply.Synced 0; after = F }) (valid_range F p a len) refl (λ x is. refl)
 reserved-others F p (Read file offset len) alive keeps = by_refusal (λ G. reserved G ≡ reserved F) F (λ x. record { reply = reply.Bytes (read_line x offset len); after = F }) (existing_file F file) refl (λ x is. refl)
-reserved-others F p (Write file offset line rest) alive keeps = by_refusal (λ G. reserved G ≡ reserved F) F (λ x. done (with_file_at F file (with_part offset line x))) (room_for F file (offset + length line)) refl (λ x is. refl)
-reserved-others F p (Truncate file len) alive keeps = by_refusal (λ G. reserved G ≡ reserved F) F (λ x. done (with_file_at F file (file_of_length len x))) (room_for F file len) refl (λ x is. refl)
+reserved-others F p (Write file offset line rest) alive keeps = by_refusal (λ G. reserved G ≡ reserved F) F (λ x. done_effect (with_file_at F file (with_part offset line x))) (room_for F file (offset + length line)) refl (λ x is. refl)
+reserved-others F p (Truncate file len) alive keeps = by_refusal (λ G. reserved G ≡ reserved F) F (λ x. done_effect (with_file_at F file (file_of_length len x))) (room_for F file len) refl (λ x is. refl)
 reserved-others F p (Fork child) alive keeps = absurd keeps
 reserved-others F p Exit alive keeps = absurd keeps
 

@@ -7,7 +7,7 @@ use Rattle.vm_types.specs.declared.call.Call.TheVariants.{Load, Store, Map, Unma
 use Rattle.vm_types.specs.declared.call.Entry.{Entry}
 use Rattle.vm_types.specs.WellFormed.{IsWellFormed}
 use Rattle.flat_model.specs.Flat.{File, Flat, IsFlat}
-use Rattle.flat_model.specs.Access.{changed_at}
+use Rattle.flat_model.specs.Access.{with_change_at}
 use Rattle.flat_model.specs.Parts.{without_tail}
 use Rattle.vm_types.specs.declared.call.Reply.{Reply}
 use Rattle.vm_types.specs.declared.call.Reply.TheVariants as reply
@@ -41,7 +41,7 @@ pub tails_alike : (F : Flat) (s t : ℕ → Bool) → ((f : ℕ) → s f ≡ t f
 tails_alike F s t alike = ap (λ fs. record F { files = fs }) (cleared_alike s t F.files alike)
 
 -- one more file, and then the others
-cleared_one : (t : ℕ → Bool) (files : List File) (n : ℕ) → t n ≡ false → ((f : ℕ) → f < n → t f ≡ false) → files_cleared t (changed_at without_tail files n) ≡ files_cleared (λ f. (f == n) || t f) files
+cleared_one : (t : ℕ → Bool) (files : List File) (n : ℕ) → t n ≡ false → ((f : ℕ) → f < n → t f ≡ false) → files_cleared t (with_change_at without_tail files n) ≡ files_cleared (λ f. (f == n) || t f) files
 cleared_one t [] n here below = refl
 cleared_one t (file ∷ files) zero here below = rw here (ap (λ fs. without_tail file ∷ fs) (cleared_alike (λ f. t (suc f)) (λ f. (suc f == 0) || t (suc f)) files (λ f. ap (λ b. b || t (suc f)) (sym (not_eq (suc f) 0 (omega arith))))))
 cleared_one t (file ∷ files) (suc n) here below =
@@ -49,7 +49,7 @@ cleared_one t (file ∷ files) (suc n) here below =
     (ap (λ fs. file ∷ fs) (cleared_one (λ f. t (suc f)) files n here (λ f lt. below (suc f) (omega arith))
     ∙ cleared_alike (λ f. (f == n) || t (suc f)) (λ f. (suc f == suc n) || t (suc f)) files (λ f. ap (λ b. b || t (suc f)) (next_eq f n))))
 
-pub tails_one : (F : Flat) (t : ℕ → Bool) (n : ℕ) → t n ≡ false → ((f : ℕ) → f < n → t f ≡ false) → tails_cleared (record F { files = changed_at without_tail F.files n }) t ≡ tails_cleared F (λ f. (f == n) || t f)
+pub tails_one : (F : Flat) (t : ℕ → Bool) (n : ℕ) → t n ≡ false → ((f : ℕ) → f < n → t f ≡ false) → tails_cleared (record F { files = with_change_at without_tail F.files n }) t ≡ tails_cleared F (λ f. (f == n) || t f)
 tails_one F t n here below = ap (λ fs. record F { files = fs }) (cleared_one t F.files n here below)
 
 -- no bit of 0 is set
@@ -117,7 +117,7 @@ pub decided : (b : Bool) (A B : Type 0) → IsTrue b ↔ A → A ↔ B → IsTru
 decided b A B h same = (λ t. same.0 (h.0 t), λ x. h.1 (same.1 x))
 
 -- one file's tail becomes zeros, and then those of the files behind it whose bits are set
-pub bits_next : (F : Flat) (n mask : ℕ) → mask % 2 ≡ 1 → tails_cleared (record F { files = changed_at without_tail F.files n }) (bit_from (n + 1) (mask / 2)) ≡ tails_cleared F (bit_from n mask)
+pub bits_next : (F : Flat) (n mask : ℕ) → mask % 2 ≡ 1 → tails_cleared (record F { files = with_change_at without_tail F.files n }) (bit_from (n + 1) (mask / 2)) ≡ tails_cleared F (bit_from n mask)
 bits_next F n mask odd =
     tails_one F (bit_from (n + 1) (mask / 2)) n (behind n (omega arith)) (λ f lt. behind f (omega arith))
     ∙ tails_alike F (λ f. (f == n) || bit_from (n + 1) (mask / 2) f) (bit_from n mask) (λ f. sym (bit_from-next n mask f ∙ ap (λ b. b || bit_from (n + 1) (mask / 2) f) (ap (λ b. (f == n) && b) (eq-eqb (mask % 2) 1 odd) ∙ and_true (f == n))))

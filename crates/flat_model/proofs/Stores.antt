@@ -14,11 +14,11 @@ use Rattle.vm_types.specs.declared.call.Reply.TheVariants as reply
 use Rattle.vm_types.specs.Prot.{can_read, can_write}
 use Rattle.flat_model.specs.Words.{Page, IsPage, page, word_bytes, with_bytes, word_at, IsWordSize}
 use Rattle.flat_model.specs.Flat.{Cell, File, Flat, Space, IsFlat, IsFile, IsCell, space_of, cell_at, shown, pages_of}
-use Rattle.flat_model.specs.Refusals.{◌>>=◌, ◌>>◌, check, or_signal, done}
+use Rattle.flat_model.specs.Refusals.{◌>>=◌, ◌>>◌, check, or_signal, done_effect}
 use Rattle.flat_model.specs.Access.{access_target, store, load, with_page_stored, with_page, with_cell, file_with_page}
 use Rattle.flat_model.specs.StoreLaws.{ShowSamePage, StoreThenLoad, ChangesOneCell, PrivateStore}
 use Rattle.flat_model.proofs.Ranges.{get-insert_here, get-insert_apart}
-use Rattle.flat_model.proofs.Bytes.{All-slice_get, word_again, aligned_alike, slice_get-changed_at, slice_get-slice_set}
+use Rattle.flat_model.proofs.Bytes.{All-slice_get, word_again, aligned_alike, slice_get-with_change_at, slice_get-slice_set}
 
 -- what an access met
 pub record Met (F : Flat) (p : ℕ) (may : Prot → Bool) (a n : ℕ) (c : Cell) (bytes : Page) : Type 0 where
@@ -77,7 +77,7 @@ pub load-alike : (F G : Flat) (p q b m : ℕ) → cell_at G q (page b) ≡ cell_
 load-alike F G p q b m same alike = rw (access_target-alike F G p q can_read b m same alike) (word_reply F G b m (access_target F p can_read b m))
 
 -- an access that was done met something
-done_met : (F : Flat) (acts : Cell × Page → Flat) (r : Result (Cell × Page) Signal) → (or_signal F (λ m. done (acts m)) r).reply ≡ reply.Done → (m : Cell × Page) × (r ≡ Ok m)
+done_met : (F : Flat) (acts : Cell × Page → Flat) (r : Result (Cell × Page) Signal) → (or_signal F (λ m. done_effect (acts m)) r).reply ≡ reply.Done → (m : Cell × Page) × (r ≡ Ok m)
 done_met F acts (Ok m) is = (m, refl)
 done_met F acts (Err s) is = absurd cc
 
@@ -93,7 +93,7 @@ store_met F p a n v c is at =
 -- the pages of an object after a page was put into it
 pages_of-with_page : (F : Flat) (o : Object) (i : ℕ) (new : Page) (ps : List Page) → pages_of F o ≡ Some ps → pages_of (with_page F o i new) o ≡ Some (slice_set ps i new)
 pages_of-with_page F (object.File f) i new ps is =
-    ap (option_map (λ file. file.pages)) (slice_get-changed_at (file_with_page i new) F.files f) ∙ moved (slice_get F.files f) is
+    ap (option_map (λ file. file.pages)) (slice_get-with_change_at (file_with_page i new) F.files f) ∙ moved (slice_get F.files f) is
   where
     moved : (x : Option File) → option_map (λ file. file.pages) x ≡ Some ps → option_map (λ file. file.pages) (option_map (file_with_page i new) x) ≡ Some (slice_set ps i new)
     moved None is = absurd cc
@@ -200,7 +200,7 @@ store_cases F p a n v c P at none some = by_result (access_target F p can_write 
     by_result (Ok m) is =
         let same : m.0 ≡ c = let both : Some m.0 ≡ Some c = sym (is_met F p can_write a n m.0 m.1 is).cell ∙ at in cc in
         some m.1 (is ∙ ap (λ (d : Cell). Ok (d, m.1)) same)
-    by_result (Err s) is = subst P (sym (ap (λ r. (or_signal F (λ m. done (with_page_stored F p (page a) m.0 (with_bytes m.1 (a % 4096) (word_bytes n v)))) r).after) is)) none
+    by_result (Err s) is = subst P (sym (ap (λ r. (or_signal F (λ m. done_effect (with_page_stored F p (page a) m.0 (with_bytes m.1 (a % 4096) (word_bytes n v)))) r).after) is)) none
 
 pub load-private_copy : (F : Flat) (p q a b n m v : ℕ) (c d : Cell) → cell_at F p (page a) ≡ Some c → c.kind ≡ Shared → cell_at F q (page b) ≡ Some d → IsSome d.own → (load (store F p a n v).after q b m).reply ≡ (load F q b m).reply
 load-private_copy F p q a b n m v c d at shared there own =

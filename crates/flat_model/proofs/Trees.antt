@@ -3,7 +3,7 @@ use Rattle.std.proofs.Common.{◌≡◌, ℕ, Bool, true, false, cond, ◌&&◌,
 use Rattle.std.specs.Prelude.{Vec, vec_len, slice_get, ◌==◌, ◌+◌, sum_by, option_map, filter, is_some, length, slice_set, slice_index_or, ◌<◌, ◌≤◌, zero, suc}
 use Rattle.std.specs.FinSet as set
 use Rattle.vnode_files.specs.declared.extent.Extent.{Extent}
-use Rattle.flat_model.specs.Access.{changed_at}
+use Rattle.flat_model.specs.Access.{with_change_at}
 use Rattle.std.specs.Option.{option_map_or}
 use Rattle.std.specs.List.{AllZip, AllByRecursion, each_same, list_any}
 use Rattle.std.specs.declared.alloc.Global.{Global}
@@ -187,13 +187,13 @@ set_past (y ∷ ys) zero x h = absurd (omega (arith, h))
 set_past (y ∷ ys) (suc i) x h = ap (λ zs. y ∷ zs) (set_past ys i x (omega (arith, h)))
 
 -- an element that is changed at its place
-pub changed_there : {X Y : Type 0} (f : X → Y) (g : Y → Y) (xs : List X) (i : ℕ) (old new : X) → i < length xs → old ≡ slice_index_or xs i old → f new ≡ g (f old) → map f (slice_set xs i new) ≡ changed_at g (map f xs) i
+pub changed_there : {X Y : Type 0} (f : X → Y) (g : Y → Y) (xs : List X) (i : ℕ) (old new : X) → i < length xs → old ≡ slice_index_or xs i old → f new ≡ g (f old) → map f (slice_set xs i new) ≡ with_change_at g (map f xs) i
 changed_there f g [] i old new lt at is = absurd (omega (arith, lt))
 changed_there f g (y ∷ ys) zero old new lt at is = ap (λ z. z ∷ map f ys) (is ∙ ap (λ z. g (f z)) at)
 changed_there f g (y ∷ ys) (suc i) old new lt at is = ap (λ zs. f y ∷ zs) (changed_there f g ys i old new (omega (arith, lt)) at is)
 
 -- beyond its end nothing of a list is changed
-pub changed_past : {X Y : Type 0} (f : X → Y) (g : Y → Y) (xs : List X) (i : ℕ) → length xs ≤ i → changed_at g (map f xs) i ≡ map f xs
+pub changed_past : {X Y : Type 0} (f : X → Y) (g : Y → Y) (xs : List X) (i : ℕ) → length xs ≤ i → with_change_at g (map f xs) i ≡ map f xs
 changed_past f g [] i h = refl
 changed_past f g (y ∷ ys) zero h = absurd (omega (arith, h))
 changed_past f g (y ∷ ys) (suc i) h = ap (λ zs. f y ∷ zs) (changed_past f g ys i (omega (arith, h)))
@@ -227,13 +227,13 @@ pages_alike (p ∷ ps) (q ∷ qs) h =
     λ i. first i ∷ rest i
 
 -- an element that is set at its place is changed there
-pub changed_set : {X : Type 0} (g : X → X) (xs : List X) (i : ℕ) (x : X) → slice_get xs i ≡ Some x → changed_at g xs i ≡ slice_set xs i (g x)
+pub changed_set : {X : Type 0} (g : X → X) (xs : List X) (i : ℕ) (x : X) → slice_get xs i ≡ Some x → with_change_at g xs i ≡ slice_set xs i (g x)
 changed_set g [] i x is = refl
 changed_set g (y ∷ ys) zero x is = let same : y ≡ x = let both : Some y ≡ Some x = is in cc in ap (λ z. g z ∷ ys) same
 changed_set g (y ∷ ys) (suc i) x is = ap (λ zs. y ∷ zs) (changed_set g ys i x is)
 
 -- beyond its end nothing of a list is changed
-pub changed_nowhere : {X : Type 0} (g : X → X) (xs : List X) (i : ℕ) → slice_get xs i ≡ None → changed_at g xs i ≡ xs
+pub changed_nowhere : {X : Type 0} (g : X → X) (xs : List X) (i : ℕ) → slice_get xs i ≡ None → with_change_at g xs i ≡ xs
 changed_nowhere g [] i is = refl
 changed_nowhere g (y ∷ ys) zero is = absurd (let both : Some y ≡ None = is in cc)
 changed_nowhere g (y ∷ ys) (suc i) is = ap (λ zs. y ∷ zs) (changed_nowhere g ys i is)

@@ -29,8 +29,8 @@ use Rattle.vm_types.specs.Words.{IsWordSize}
 use Rattle.vm_types.specs.WellFormed.{IsWellFormed}
 use Rattle.flat_model.specs.Words.{Page, IsPage, zero_page, page, pages_in, word_at, word_put, with_bytes, word_bytes, IsByte}
 use Rattle.flat_model.specs.Flat.{Cell, File, Flat, Space, IsCell, IsFile, IsFlat, space_of, cell_at, without_unnamed, is_named, reserved, private_cells}
-use Rattle.flat_model.specs.Refusals.{◌>>◌, check, Effect, or_signal, or_refused, done}
-use Rattle.flat_model.specs.Access.{access_target, changed_at, file_with_page, with_page, with_space, with_cell, with_page_stored}
+use Rattle.flat_model.specs.Refusals.{◌>>◌, check, Effect, or_signal, or_refused, done_effect}
+use Rattle.flat_model.specs.Access.{access_target, with_change_at, file_with_page, with_page, with_space, with_cell, with_page_stored}
 use Rattle.flat_model.specs.Space.{end_page, in_range, without_range, with_cells, with_prot, with_prots}
 use Rattle.flat_model.specs.Mapping.{Request, cells_of, is_range, is_place, without_replaced, first_page, new_number, object_for, own_for, new_cell, with_object, map_result, without_pages, valid_range, is_allowed}
 use Rattle.flat_model.specs.Parts.{pages_of_bytes, pages_with_bytes, read_line, without_tail, longer_file, shorter_file, file_of_length, with_part, with_file_at, existing_file, room_for}
@@ -84,10 +84,10 @@ pub Each-replicate : {X : Type 0} (P : X → Type 0) (n : ℕ) (x : X) → P x �
 Each-replicate P zero x is = tt
 Each-replicate P (suc n) x is = (is, Each-replicate P n x is)
 
-Each-changed_at : {X : Type 0} (P : X → Type 0) (f : X → X) (xs : List X) (i : ℕ) → Each P xs → ((x : X) → P x → P (f x)) → Each P (changed_at f xs i)
-Each-changed_at P f [] i each keeps = tt
-Each-changed_at P f (x ∷ xs) zero each keeps = (keeps x each.0, each.1)
-Each-changed_at P f (x ∷ xs) (suc i) each keeps = (each.0, Each-changed_at P f xs i each.1 keeps)
+Each-with_change_at : {X : Type 0} (P : X → Type 0) (f : X → X) (xs : List X) (i : ℕ) → Each P xs → ((x : X) → P x → P (f x)) → Each P (with_change_at f xs i)
+Each-with_change_at P f [] i each keeps = tt
+Each-with_change_at P f (x ∷ xs) zero each keeps = (keeps x each.0, each.1)
+Each-with_change_at P f (x ∷ xs) (suc i) each keeps = (each.0, Each-with_change_at P f xs i each.1 keeps)
 
 Bytes-with : (old at' : List ℕ) (at : ℕ) → Each IsByte old → Each IsByte at' → Each IsByte (with_bytes old at at')
 Bytes-with old new at left right = Each-append IsByte (take at old ++ new) (drop (at + length new) old) (Each-append IsByte (take at old) new (Each-take IsByte at old left) right) (Each-drop IsByte (at + length new) old left)
@@ -236,13 +236,13 @@ old_pages F z None is flat = tt
 old_pages F z (Some ps) is flat = Each-All IsPage ps (flat.zeros z ps is)
 
 IsFlat-with_page : (F : Flat) (o : Object) (i : ℕ) (new : Page) → IsFlat F → IsPage new → IsFlat (with_page F o i new)
-IsFlat-with_page F (object.File f) i new flat is = IsFlat-with_files F (changed_at (file_with_page i new) F.files f) flat (Each-changed_at IsFile (file_with_page i new) F.files f (Each-All IsFile F.files flat.files) (λ file old. IsFile-with_page i new file is old))
+IsFlat-with_page F (object.File f) i new flat is = IsFlat-with_files F (with_change_at (file_with_page i new) F.files f) flat (Each-with_change_at IsFile (file_with_page i new) F.files f (Each-All IsFile F.files flat.files) (λ file old. IsFile-with_page i new file is old))
 IsFlat-with_page F (object.Zero z) i new flat is = IsFlat-with_zero F z (slice_set (unwrap_or (map.get F.zeros z) []) i new) flat (Each-set IsPage (unwrap_or (map.get F.zeros z) []) i new (old_pages F z (map.get F.zeros z) refl flat) is)
 IsFlat-with_page F object.NewZero i new flat is = flat
 
 -- and so does flat memory with one tail of zeros
-pub IsFlat-tail_cleared : (F : Flat) (f : ℕ) → IsFlat F → IsFlat (record F { files = changed_at without_tail F.files f })
-IsFlat-tail_cleared F f flat = IsFlat-with_files F (changed_at without_tail F.files f) flat (Each-changed_at IsFile without_tail F.files f (Each-All IsFile F.files flat.files) IsFile-without_tail)
+pub IsFlat-tail_cleared : (F : Flat) (f : ℕ) → IsFlat F → IsFlat (record F { files = with_change_at without_tail F.files f })
+IsFlat-tail_cleared F f flat = IsFlat-with_files F (with_change_at without_tail F.files f) flat (Each-with_change_at IsFile without_tail F.files f (Each-All IsFile F.files flat.files) IsFile-without_tail)
 
 pub IsFlat-tails_cleared : (F : Flat) (test : ℕ → Bool) → IsFlat F → IsFlat (tails_cleared F test)
 IsFlat-tails_cleared F test flat = IsFlat-with_files F (files_cleared test F.files) flat (cleared test F.files (Each-All IsFile F.files flat.files))
@@ -294,7 +294,7 @@ IsFlat-with_page_stored F p q c new flat alive at is = by_kind c.kind refl
 
 pub flat_store : (F : Flat) (p a n v : ℕ) → IsFlat F → IsSome (space_of F p) → IsWordSize n → IsFlat (effect F p (Store a n v)).after
 flat_store F p a n v flat alive size =
-    by_signal IsFlat F (λ m. done (with_page_stored F p (page a) m.0 (word_put m.1 a n v))) (access_target F p can_write a n) flat (λ m is.
+    by_signal IsFlat F (λ m. done_effect (with_page_stored F p (page a) m.0 (word_put m.1 a n v))) (access_target F p can_write a n) flat (λ m is.
     let met_it = is_met F p can_write a n m.0 m.1 is in
     IsFlat-with_page_stored F p (page a) m.0 (word_put m.1 a n v) flat alive met_it.cell
     (IsPage-word_put m.1 a n v (IsPage-shown F m.0 m.1 flat (flat.cells p (page a) m.0 met_it.cell) met_it.shows) (word_fits a n size (eqb-true (a % n) 0 met_it.aligned))))
@@ -445,19 +445,19 @@ IsFlat-effect F p (Store a n v) flat alive well = flat_store F p a n v flat aliv
 IsFlat-effect F p (Map place len prot kind object offset) flat alive well =
     let r : Request = record { place = place; len = len; prot = prot; kind = kind; object = object; offset = offset } in
     by_refusal IsFlat F (λ m. record { reply = reply.Mapped (4096 * m.0); after = m.1 }) (map_result F p r) flat (λ m is. IsFlat-map_result F p r m.0 m.1 flat alive is)
-IsFlat-effect F p (Unmap a len) flat alive well = by_refusal IsFlat F (λ x. done (without_pages F p (page a) (pages_in len))) (check (is_range a len) errno.Invalid) flat (λ x is. IsFlat-without_pages F p (page a) (pages_in len) flat alive)
+IsFlat-effect F p (Unmap a len) flat alive well = by_refusal IsFlat F (λ x. done_effect (without_pages F p (page a) (pages_in len))) (check (is_range a len) errno.Invalid) flat (λ x is. IsFlat-without_pages F p (page a) (pages_in len) flat alive)
 IsFlat-effect F p (Protect a len prot) flat alive well =
-    by_refusal IsFlat F (λ x. done (with_space F p (with_prots (cells_of F p) (page a) (pages_in len) prot))) (valid_range F p a len >> check (is_allowed (cells_of F p) (page a) (pages_in len) prot) errno.Access) flat
+    by_refusal IsFlat F (λ x. done_effect (with_space F p (with_prots (cells_of F p) (page a) (pages_in len) prot))) (valid_range F p a len >> check (is_allowed (cells_of F p) (page a) (pages_in len) prot) errno.Access) flat
     (λ x is. IsFlat-with_space F p (with_prots (cells_of F p) (page a) (pages_in len) prot) flat alive (with_prots_stand (cells_of F p) (page a) (pages_in len) prot (cells_stand F p flat)))
 IsFlat-effect F p (Sync a len) flat alive well = by_refusal IsFlat F (λ x. record { reply = reply.Synced 0; after = F }) (valid_range F p a len) flat (λ x is. flat)
 IsFlat-effect F p (Read file offset len) flat alive well = by_refusal IsFlat F (λ x. record { reply = reply.Bytes (read_line x offset len); after = F }) (existing_file F file) flat (λ x is. flat)
 IsFlat-effect F p (Write file offset line rest) flat alive well =
-    by_refusal IsFlat F (λ x. done (with_file_at F file (with_part offset line x))) (room_for F file (offset + length line)) flat
+    by_refusal IsFlat F (λ x. done_effect (with_file_at F file (with_part offset line x))) (room_for F file (offset + length line)) flat
     (λ x is. IsFlat-with_file_at F file (with_part offset line x) flat (IsFile-with_part offset line x (Each-All IsByte line well.2.each) (IsFile-room_for F file (offset + length line) x flat is)))
 IsFlat-effect F p (Truncate file len) flat alive well =
-    by_refusal IsFlat F (λ x. done (with_file_at F file (file_of_length len x))) (room_for F file len) flat
+    by_refusal IsFlat F (λ x. done_effect (with_file_at F file (file_of_length len x))) (room_for F file len) flat
     (λ x is. IsFlat-with_file_at F file (file_of_length len x) flat (IsFile-file_of_length len x (IsFile-room_for F file len x flat is)))
-IsFlat-effect F p (Fork child) flat alive well = by_refusal IsFlat F (λ x. done (with_child F p child)) (check (nat_le (reserved F + private_cells (cells_of F p)) F.slots) errno.NoSwap) flat (λ x is. IsFlat-with_child F p child flat)
+IsFlat-effect F p (Fork child) flat alive well = by_refusal IsFlat F (λ x. done_effect (with_child F p child)) (check (nat_le (reserved F + private_cells (cells_of F p)) F.slots) errno.NoSwap) flat (λ x is. IsFlat-with_child F p child flat)
 IsFlat-effect F p Exit flat alive well = IsFlat-without_process F p flat
 
 flat_acted : (F : Flat) (p : ℕ) (call : Call) (cleared : ℕ) (r : Reply) → IsFlat F → IsFlat (effect F p call).after → IsFlat (after_act F (record { process = p; call = call; reply = r; cleared = cleared }))

@@ -12,7 +12,7 @@ use Rattle.vm_types.specs.Prot.{can_read, can_write}
 use Rattle.flat_model.specs.Words.{Page, page, word_at, word_put}
 use Rattle.flat_model.specs.Flat.{Cell, File, Flat, Space, cell_at, shown}
 use Rattle.flat_model.specs.Spaces.{with_cell_in}
-use Rattle.flat_model.specs.Refusals.{◌>>=◌, ◌>>◌, check, Effect, or_signal, done}
+use Rattle.flat_model.specs.Refusals.{◌>>=◌, ◌>>◌, check, Effect, or_signal, done_effect}
 
 -- The cell and the page that an access of n bytes reaches, or the first signal that is due: Align where n doesn't divide the address, NoMap where there is no cell, Prot where the cell doesn't let it, Past where the cell shows nothing.
 unfoldable pub access_target : Flat → ℕ → (Prot → Bool) → ℕ → ℕ → Result (Cell × Page) Signal
@@ -28,17 +28,17 @@ abbrev pub load : Flat → ℕ → ℕ → ℕ → Effect
 load F p a n = or_signal F (λ m. record { reply = reply.Word (word_at m.1 a n); after = F }) (access_target F p can_read a n)
 
 -- The list with the element at a place changed.
-abbrev pub changed_at : {A : Type 0} → (A → A) → List A → ℕ → List A
-changed_at f [] i = []
-changed_at f (x ∷ xs) zero = f x ∷ xs
-changed_at f (x ∷ xs) (suc i) = x ∷ changed_at f xs i
+abbrev pub with_change_at : {A : Type 0} → (A → A) → List A → ℕ → List A
+with_change_at f [] i = []
+with_change_at f (x ∷ xs) zero = f x ∷ xs
+with_change_at f (x ∷ xs) (suc i) = x ∷ with_change_at f xs i
 
 abbrev pub file_with_page : ℕ → Page → File → File
 file_with_page i new file = record file { pages = slice_set file.pages i new }
 
 -- Flat memory with another page at an index of an object.
 abbrev pub with_page : Flat → Object → ℕ → Page → Flat
-with_page F (object.File f) i new = record F { files = changed_at (file_with_page i new) F.files f }
+with_page F (object.File f) i new = record F { files = with_change_at (file_with_page i new) F.files f }
 with_page F (object.Zero z) i new = record F { zeros = map.insert F.zeros z (slice_set (unwrap_or (map.get F.zeros z) []) i new) }
 with_page F object.NewZero i new = F
 
@@ -56,4 +56,4 @@ with_page_stored F p q c new = elim c.kind [ Shared ↦ with_page F c.object c.i
 
 -- A store answers the signal that is due, and else Done: the bytes are replaced in the page shown.
 abbrev pub store : Flat → ℕ → ℕ → ℕ → ℕ → Effect
-store F p a n v = or_signal F (λ m. done (with_page_stored F p (page a) m.0 (word_put m.1 a n v))) (access_target F p can_write a n)
+store F p a n v = or_signal F (λ m. done_effect (with_page_stored F p (page a) m.0 (word_put m.1 a n v))) (access_target F p can_write a n)

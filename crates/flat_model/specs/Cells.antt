@@ -62,8 +62,8 @@ abbrev pub names : ℕ → Cell → Bool
 names z c = is_zero z c.object
 
 -- The processes of a tree.
-abbrev pub born_in : BTreeMap ℕ (Unit {0}) → set.FinSet nat_cmp
-born_in m = set.from_list (keys_of m.entries)
+abbrev pub processes_in : BTreeMap ℕ (Unit {0}) → set.FinSet nat_cmp
+processes_in m = set.from_list (keys_of m.entries)
 
 -- The cell with no page of its own.
 abbrev pub without_own : Cell → Cell

@@ -73,16 +73,16 @@ abbrev pub zero_of : Cell → Option ℕ
 zero_of c = elim c.object [ object.Zero z ↦ Some z | object.File f ↦ None | object.NewZero ↦ None ]
 
 -- The numbers of the zero objects that the cells of these spaces name, one for each cell that names one.
-abbrev pub named_in : map.FinMap nat_cmp Space → List ℕ
-named_in spaces = flat_map (λ space. filter_map zero_of (map.values space)) (map.values spaces)
+abbrev pub named_zeros_in : map.FinMap nat_cmp Space → List ℕ
+named_zeros_in spaces = flat_map (λ space. filter_map zero_of (map.values space)) (map.values spaces)
 
 -- Some cell of these spaces names the zero object.
 abbrev pub is_named_in : map.FinMap nat_cmp Space → ℕ → Bool
-is_named_in spaces z = list_any (λ y. z == y) (named_in spaces)
+is_named_in spaces z = list_any (λ y. z == y) (named_zeros_in spaces)
 
 -- The numbers of the zero objects that cells name.
 abbrev pub named_zeros : Flat → List ℕ
-named_zeros F = named_in F.spaces
+named_zeros F = named_zeros_in F.spaces
 
 -- Some cell of some process names the zero object.
 abbrev pub is_named : Flat → ℕ → Bool

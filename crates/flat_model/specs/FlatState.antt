@@ -14,7 +14,7 @@ use Rattle.std.specs.FinMap as finite
 use Rattle.std.specs.FinSet as set
 use Rattle.flat_model.specs.declared.state.FlatParts.TheInside.{Inside}
 use Rattle.flat_model.specs.Flat.{File, Flat, Space, space_of}
-use Rattle.flat_model.specs.Cells.{flat_file, pages_in_vec, born_in}
+use Rattle.flat_model.specs.Cells.{flat_file, pages_in_vec, processes_in}
 
 abbrev pub flat_of : Inside → Flat
 flat_of s = record {
@@ -23,7 +23,7 @@ flat_of s = record {
   files = map flat_file s.files.items;
   zeros = finite.from_entries (map (λ e. (e.0, pages_in_vec e.1)) s.zeros.entries);
   spaces = s.spaces;
-  born = born_in s.born;
+  born = processes_in s.born;
 }
 
 -- The reply is the one that is due, the number of a Sync aside, or says that a transfer failed where one may have.

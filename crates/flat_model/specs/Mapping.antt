@@ -16,10 +16,10 @@ use Rattle.vm_types.specs.declared.call.Reply.TheVariants as reply
 pub use Rattle.vm_types.specs.Pages.{is_range}
 use Rattle.vm_types.specs.Prot.{is_within}
 use Rattle.flat_model.specs.Words.{Page, zero_page, page, pages_in, page_size}
-use Rattle.flat_model.specs.Flat.{Cell, Flat, Space, space_of, pages_of, named_in, without_unnamed, reserved}
+use Rattle.flat_model.specs.Flat.{Cell, Flat, Space, space_of, pages_of, named_zeros_in, without_unnamed, reserved}
 use Rattle.flat_model.specs.Space.{all_pages, without_range, with_cells, with_prots, lowest_gap}
 use Rattle.flat_model.specs.Access.{with_space}
-use Rattle.flat_model.specs.Refusals.{◌>>=◌, ◌>>◌, check, Effect, or_refused, done}
+use Rattle.flat_model.specs.Refusals.{◌>>=◌, ◌>>◌, check, Effect, or_refused, done_effect}
 
 -- The cells of a process, none for one that isn't alive.
 abbrev pub cells_of : Flat → ℕ → Space
@@ -83,7 +83,7 @@ set_of (z ∷ zs) = map.insert (set_of zs) z tt
 
 -- The least number that no cell of these spaces names.
 abbrev pub new_number_in : map.FinMap nat_cmp Space → ℕ
-new_number_in spaces = least_from 0 (map.keys (set_of (named_in spaces)))
+new_number_in spaces = least_from 0 (map.keys (set_of (named_zeros_in spaces)))
 
 -- The number of a new zero object: the least that no cell names.
 abbrev pub new_number : Flat → ℕ
@@ -139,7 +139,7 @@ without_pages F p first n = without_unnamed (with_space F p (without_range (cell
 
 -- An Unmap takes the cells of a valid range away, if there are any.
 abbrev pub unmap : Flat → ℕ → ℕ → ℕ → Effect
-unmap F p a len = or_refused F (λ _. done (without_pages F p (page a) (pages_in len))) (check (is_range a len) errno.Invalid)
+unmap F p a len = or_refused F (λ _. done_effect (without_pages F p (page a) (pages_in len))) (check (is_range a len) errno.Invalid)
 
 -- Each page of the range has a cell.
 abbrev pub is_mapped : Space → ℕ → ℕ → Bool
@@ -157,7 +157,7 @@ is_allowed space first n prot = all_pages (λ q. option_map_or (λ c. is_within 
 
 -- A Protect is refused where the range may not be spoken of, and Access where some cell may not have the protection. Else it changes the protections of the range.
 abbrev pub protect : Flat → ℕ → ℕ → ℕ → Prot → Effect
-protect F p a len prot = or_refused F (λ _. done (with_space F p (with_prots (cells_of F p) (page a) (pages_in len) prot)))
+protect F p a len prot = or_refused F (λ _. done_effect (with_space F p (with_prots (cells_of F p) (page a) (pages_in len) prot)))
     (valid_range F p a len >> check (is_allowed (cells_of F p) (page a) (pages_in len) prot) errno.Access)
 
 -- A Sync changes nothing. Its reply says where in the history it began, which flat memory doesn't know: here the number is 0.

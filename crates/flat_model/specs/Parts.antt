@@ -10,7 +10,7 @@ use Rattle.vnode_files.specs.declared.extent.Extent.{Extent}
 use Rattle.vnode_files.specs.Grow.{growth}
 use Rattle.flat_model.specs.Words.{Page, zero_page, pages_in, page_size, with_bytes}
 use Rattle.flat_model.specs.Flat.{File, Flat}
-use Rattle.flat_model.specs.Refusals.{◌>>=◌, ◌>>◌, check, Effect, or_refused, done}
+use Rattle.flat_model.specs.Refusals.{◌>>=◌, ◌>>◌, check, Effect, or_refused, done_effect}
 
 -- The n pages that bytes fill.
 abbrev pub pages_of_bytes : ℕ → List ℕ → List Page
@@ -103,8 +103,8 @@ with_file_at F f file = record F { files = slice_set F.files f file }
 
 -- A write part is refused where there is no room for its end. Else the file grows as far as that needs, and the part is written.
 abbrev pub write_part : Flat → ℕ → ℕ → List ℕ → Effect
-write_part F f offset line = or_refused F (λ file. done (with_file_at F f (with_part offset line file))) (room_for F f (offset + length line))
+write_part F f offset line = or_refused F (λ file. done_effect (with_file_at F f (with_part offset line file))) (room_for F f (offset + length line))
 
 -- A Truncate is refused where there is no room for its length. Else the file grows as far as that needs, and it has that length.
 abbrev pub truncate : Flat → ℕ → ℕ → Effect
-truncate F f len = or_refused F (λ file. done (with_file_at F f (file_of_length len file))) (room_for F f len)
+truncate F f len = or_refused F (λ file. done_effect (with_file_at F f (file_of_length len file))) (room_for F f len)

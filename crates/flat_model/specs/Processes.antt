@@ -5,7 +5,7 @@ use Rattle.std.specs.FinSet as set
 use Rattle.vm_types.specs.declared.call.Errno.TheVariants as errno
 use Rattle.flat_model.specs.Flat.{Flat, private_cells, without_unnamed, reserved}
 use Rattle.flat_model.specs.Mapping.{cells_of}
-use Rattle.flat_model.specs.Refusals.{check, Effect, or_refused, done}
+use Rattle.flat_model.specs.Refusals.{check, Effect, or_refused, done_effect}
 
 -- Flat memory with a child that has a copy of its parent's space.
 abbrev pub with_child : Flat → ℕ → ℕ → Flat
@@ -13,7 +13,7 @@ with_child F p child = record F { spaces = map.insert F.spaces child (cells_of F
 
 -- A Fork is refused NoSwap where what is reserved and the parent's private cells once more are more than the slots.
 abbrev pub fork : Flat → ℕ → ℕ → Effect
-fork F p child = or_refused F (λ _. done (with_child F p child)) (check (nat_le (reserved F + private_cells (cells_of F p)) F.slots) errno.NoSwap)
+fork F p child = or_refused F (λ _. done_effect (with_child F p child)) (check (nat_le (reserved F + private_cells (cells_of F p)) F.slots) errno.NoSwap)
 
 -- Flat memory without a process.
 abbrev pub without_process : Flat → ℕ → Flat
@@ -21,4 +21,4 @@ without_process F p = without_unnamed (record F { spaces = map.remove F.spaces p
 
 -- An Exit takes the process away.
 abbrev pub exit : Flat → ℕ → Effect
-exit F p = done (without_process F p)
+exit F p = done_effect (without_process F p)

@@ -36,5 +36,5 @@ or_refused F acts (Ok x) = acts x
 or_refused F acts (Err e) = record { reply = reply.Refused e; after = F }
 
 -- The call is done, and this is flat memory then.
-abbrev pub done : Flat → Effect
-done G = record { reply = reply.Done; after = G }
+abbrev pub done_effect : Flat → Effect
+done_effect G = record { reply = reply.Done; after = G }

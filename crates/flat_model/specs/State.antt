@@ -6,6 +6,6 @@ use Rattle.flat_model.specs.declared.state.Access.{Access}
 use Rattle.flat_model.specs.declared.state.Access.TheVariants as access
 
 -- A load wants READ, and a store WRITE.
-abbrev pub allowed_by : Access → Prot → Bool
-allowed_by access.Load prot = can_read prot
-allowed_by access.Store prot = can_write prot
+abbrev pub is_allowed_by : Access → Prot → Bool
+is_allowed_by access.Load prot = can_read prot
+is_allowed_by access.Store prot = can_write prot

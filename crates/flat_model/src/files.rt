@@ -2,7 +2,7 @@
 ghost use Rattle.std.specs.Prelude.{◌≡◌, ◌≤◌, IfOk, OnOk, OnErr, All, length, map};
 ghost use Rattle.vm_types.specs.Pages.{line_rest};
 ghost use Rattle.flat_model.specs.Flat.{IsFile};
-ghost use Rattle.flat_model.specs.Access.{changed_at, file_with_page};
+ghost use Rattle.flat_model.specs.Access.{with_change_at, file_with_page};
 ghost use Rattle.flat_model.specs.Cells.{flat_file, extents_of, with_last_page};
 ghost use Rattle.flat_model.specs.Parts.{file_at_opening, file_of_length, read_line, with_extents_of, with_part, without_tail};
 
@@ -143,11 +143,11 @@ pub(crate) fn clear_tail_of(
     number: usize,
 ) -> Result<Vec<u8>, AllocError>
     requires { All IsFile (map flat_file files.old.items) }
-    ensures ok { let cleared = changed_at without_tail (map flat_file files.old.items) number in
+    ensures ok { let cleared = with_change_at without_tail (map flat_file files.old.items) number in
         OnOk result (map flat_file files.new.items ≡ cleared) }
     ensures page { let new = map flat_file files.new.items in
         let old = map flat_file files.old.items in
-        IfOk result (λ page. changed_at (with_last_page page.items) new number ≡ old) }
+        IfOk result (λ page. with_change_at (with_last_page page.items) new number ≡ old) }
     ensures err { OnErr result (map flat_file files.new.items ≡ map flat_file files.old.items) }
 {
     let Some(file) = files.get_mut(number) else {
@@ -160,7 +160,7 @@ pub(crate) fn clear_tail_of(
 /// Puts a page in the place of the last one of a file of this number, if there are such.
 pub(crate) fn put_last_page(files: &mut Vec<FileState>, number: usize, page: Vec<u8>)
     ensures { let put = with_last_page page.items in
-        map flat_file files.new.items ≡ changed_at put (map flat_file files.old.items) number }
+        map flat_file files.new.items ≡ with_change_at put (map flat_file files.old.items) number }
 {
     if let Some(file) = files.get_mut(number) {
         file.set_last_page(page);
@@ -170,7 +170,7 @@ pub(crate) fn put_last_page(files: &mut Vec<FileState>, number: usize, page: Vec
 /// Puts a page at an index of a file, where there are such a file and such an index.
 pub(crate) fn set_file_page(files: &mut Vec<FileState>, file: u32, index: u32, page: Vec<u8>)
     ensures { let with_page = file_with_page index page.items in
-        map flat_file files.new.items ≡ changed_at with_page (map flat_file files.old.items) file }
+        map flat_file files.new.items ≡ with_change_at with_page (map flat_file files.old.items) file }
 {
     if let Some(file) = files.get_mut(file as usize) {
         set_page(&mut file.pages, index, page);

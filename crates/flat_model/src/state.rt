@@ -4,7 +4,7 @@ ghost use Rattle.std.specs.Result.{result_map_both};
 ghost use Rattle.std.specs.FinMap as finite;
 ghost use Rattle.vm_types.specs.Words.{IsWordSize};
 ghost use Rattle.flat_model.specs.Cells.{flat_cell};
-ghost use Rattle.flat_model.specs.State.{allowed_by};
+ghost use Rattle.flat_model.specs.State.{is_allowed_by};
 ghost use Rattle.flat_model.specs.Opening.{flat_at_opening};
 
 use crate::cells::CellState;
@@ -49,7 +49,7 @@ pub enum Access {
 
 // Whether a cell with this protection lets the access.
 fn is_allowed(access: Access, prot: Prot) -> bool
-    ensures { result ≡ allowed_by access prot }
+    ensures { result ≡ is_allowed_by access prot }
 {
     match access {
         Access::Load => prot.can_read(),
@@ -124,7 +124,7 @@ impl FlatParts {
     ) -> Result<(&CellState, &[u8]), Signal>
         requires { 0 < size }
         ensures { let seen = result_map_both (λ m. (flat_cell m.0.now, m.1.now)) (λ s. s) result in
-            seen ≡ access_target self.now process (allowed_by access) addr size }
+            seen ≡ access_target self.now process (is_allowed_by access) addr size }
     {
         if addr % size != 0 {
             return Err(Signal::Align);

@@ -11,7 +11,7 @@ ghost use Rattle.flat_model.specs.Cells.{flat_cell, with_own, extents_of};
 ghost use Rattle.flat_model.specs.Parts.{file_at_opening};
 ghost use Rattle.flat_model.specs.Processes.{without_process};
 ghost use Rattle.flat_model.specs.Step.{IsPastAtMost};
-ghost use Rattle.flat_model.specs.State.{allowed_by};
+ghost use Rattle.flat_model.specs.State.{is_allowed_by};
 ghost use Rattle.flat_model.specs.FlatState.{with_root, with_process, with_one_more_file, with_blocks};
 
 use crate::cells::{CellState, Cells, without_own};
@@ -108,7 +108,7 @@ impl FlatParts {
     /// Whether an access reaches its cell, so that a transfer for it may fail.
     pub(crate) fn reaches(&self, process: u32, access: Access, addr: u32, size: u32) -> bool
         requires { IsWordSize size }
-        ensures { let target = access_target self.now process (allowed_by access) addr size in
+        ensures { let target = access_target self.now process (is_allowed_by access) addr size in
             IsTrue result ↔ IsPastAtMost target }
     {
         match self.access_target(process, access, addr, size) {

@@ -9,21 +9,21 @@ use Rattle.std.proofs.lemmas.Map.Keys.{IsDistinct-from_apart}
 use Rattle.std.proofs.Math.ListN.{length-set}
 use Rattle.std.proofs.lemmas.Bool.{cases_eq, cases_lt, and_from, eqb-true, eq-eqb, ne_eqb, cases_Bool, or_cases}
 use Rattle.hat_layer.specs.declared.translation.Translation.{Translation}
-use Rattle.hat_layer.specs.Pool.{Pool, IsSingleValued, fresh_translation, holds, is_of, at, dropped_by_load, hand_after}
+use Rattle.hat_layer.specs.Pool.{Pool, IsSingleValued, fresh_translation, holds, is_of, translation_at, dropped_by_load, hand_after}
 use Rattle.hat_layer.specs.Table.{FindsHeld}
 use Rattle.hat_layer.proofs.TableLemmas.{some-within}
 use Rattle.hat_layer.proofs.FrameLemmas.{map-fixed, map-one}
-use Rattle.hat_layer.specs.Free.{IsSoundHat, TakesPlace, falling}
+use Rattle.hat_layer.specs.Free.{IsSoundHat, TakesPlace, countdown}
 
 Cells : Type 0
 Cells = List (Option Translation)
 
 -- the map from pages at what a search found
-pub at-none : (places : List (Option Translation)) (space page : ℕ) → ((k : ℕ) → holds space page (get_or places k None) ≡ false) → at places space page ≡ None
+pub at-none : (places : List (Option Translation)) (space page : ℕ) → ((k : ℕ) → holds space page (get_or places k None) ≡ false) → translation_at places space page ≡ None
 at-none [] space page h = refl
 at-none (o ∷ os) space page h = ap (λ (b : Bool). option_and_then (λ (o : Option Translation). o) (cond b (Some o) (find (λ (o : Option Translation). holds space page o) os))) (h zero) ∙ at-none os space page (λ k. h (suc k))
 
-pub at-held : (places : List (Option Translation)) (space page k : ℕ) (t : Translation) → get_or places k None ≡ Some t → is_of space page t ≡ true → ((j : ℕ) → holds space page (get_or places j None) ≡ true → j ≡ k) → at places space page ≡ Some t
+pub at-held : (places : List (Option Translation)) (space page k : ℕ) (t : Translation) → get_or places k None ≡ Some t → is_of space page t ≡ true → ((j : ℕ) → holds space page (get_or places j None) ≡ true → j ≡ k) → translation_at places space page ≡ Some t
 at-held [] space page k t e is one = let z : None ≡ Some t = e in cc
 at-held (o ∷ os) space page zero t e is one =
     ap (λ (b : Bool). option_and_then (λ (o : Option Translation). o) (cond b (Some o) (find (λ (o : Option Translation). holds space page o) os))) (ap (λ (o : Option Translation). holds space page o) e ∙ is) ∙ e
@@ -188,10 +188,10 @@ hat-room places free room hand place old h is =
     two (suc i) (suc j) d l lj = ne_eqb (get_or free i d) (get_or free j d) (λ q. h.apart i j (omega arith) (omega arith) (sym (get_or_default free i d 0 (omega arith)) ∙ q ∙ get_or_default free j d 0 (omega arith)))
 
 -- what a load takes
-due-of : (pool : Pool) (space page : ℕ) (a : Option Translation) (f : Bool) → at pool.places space page ≡ a → list_all (λ (o : Option Translation). is_some o) pool.places ≡ f → dropped_by_load pool space page ≡ cond (is_some a) a (cond f (get_or pool.places pool.hand None) None)
+due-of : (pool : Pool) (space page : ℕ) (a : Option Translation) (f : Bool) → translation_at pool.places space page ≡ a → list_all (λ (o : Option Translation). is_some o) pool.places ≡ f → dropped_by_load pool space page ≡ cond (is_some a) a (cond f (get_or pool.places pool.hand None) None)
 due-of pool space page a f e g = ap (λ (a : Option Translation). cond (is_some a) a (cond (list_all (λ (o : Option Translation). is_some o) pool.places) (get_or pool.places pool.hand None) None)) e ∙ ap (λ (f : Bool). cond (is_some a) a (cond f (get_or pool.places pool.hand None) None)) g
 
-hand-of : (pool : Pool) (space page : ℕ) (a : Option Translation) (f : Bool) → at pool.places space page ≡ a → list_all (λ (o : Option Translation). is_some o) pool.places ≡ f → hand_after pool space page ≡ cond (is_some a) pool.hand (cond f (cond (pool.hand + 1 == length pool.places) 0 (pool.hand + 1)) pool.hand)
+hand-of : (pool : Pool) (space page : ℕ) (a : Option Translation) (f : Bool) → translation_at pool.places space page ≡ a → list_all (λ (o : Option Translation). is_some o) pool.places ≡ f → hand_after pool space page ≡ cond (is_some a) pool.hand (cond f (cond (pool.hand + 1 == length pool.places) 0 (pool.hand + 1)) pool.hand)
 hand-of pool space page a f e g = ap (λ (a : Option Translation). cond (is_some a) pool.hand (cond (list_all (λ (o : Option Translation). is_some o) pool.places) (cond (pool.hand + 1 == length pool.places) 0 (pool.hand + 1)) pool.hand)) e ∙ ap (λ (f : Bool). cond (is_some a) pool.hand (cond f (cond (pool.hand + 1 == length pool.places) 0 (pool.hand + 1)) pool.hand)) g
 
 pub choose-held : (pool : Pool) (free : List ℕ) (room space page : ℕ) (r : ℕ × Translation) → IsSoundHat pool.places free room pool.hand → IsSingleValued pool.places → FindsHeld pool.places space page (Some r) → TakesPlace pool free room pool.hand space page r.0
@@ -241,51 +241,51 @@ choose-hand pool room hand' space page h d f e =
     }
 
 -- the free places of an empty pool
-length-falling : (n : ℕ) → length (falling n) ≡ n
-length-falling zero = refl
-length-falling (suc n) = ap suc (length-falling n)
+length-countdown : (n : ℕ) → length (countdown n) ≡ n
+length-countdown zero = refl
+length-countdown (suc n) = ap suc (length-countdown n)
 
-falling-at : (n i : ℕ) → i < n → get_or (falling n) i 0 + i + 1 ≡ n
-falling-at zero i lt = absurd (omega arith)
-falling-at (suc n) zero lt = omega arith
-falling-at (suc n) (suc i) lt = let a = falling-at n i (omega arith) in omega arith
+countdown-at : (n i : ℕ) → i < n → get_or (countdown n) i 0 + i + 1 ≡ n
+countdown-at zero i lt = absurd (omega arith)
+countdown-at (suc n) zero lt = omega arith
+countdown-at (suc n) (suc i) lt = let a = countdown-at n i (omega arith) in omega arith
 
 empty-at : (n i : ℕ) → get_or (replicate n (let z : Option Translation = None in z)) i None ≡ None
 empty-at zero i = refl
 empty-at (suc n) zero = refl
 empty-at (suc n) (suc i) = empty-at n i
 
-pub hat-new : (pool room : ℕ) → 0 < pool → pool < 2 ^ 32 → pool ≤ room → IsSoundHat (replicate pool None) (falling pool) room 0
+pub hat-new : (pool room : ℕ) → 0 < pool → pool < 2 ^ 32 → pool ≤ room → IsSoundHat (replicate pool None) (countdown pool) room 0
 hat-new pool room some few all =
     let n = length-replicate pool (let z : Option Translation = None in z) in
-    let m = length-falling pool in
+    let m = length-countdown pool in
     record {
       hand_in = omega arith;
       few = omega arith;
       room_for_all = omega arith;
-      within = λ i l. let a = falling-at pool i (omega arith) in omega arith;
-      empty = λ i l. empty-at pool (get_or (falling pool) i 0);
-      all = λ k l e. (pool - (k + 1), (omega arith, let a = falling-at pool (pool - (k + 1)) (omega arith) in omega arith));
-      apart = λ i j l lj q. let a = falling-at pool i (omega arith) in let b = falling-at pool j (omega arith) in omega arith;
+      within = λ i l. let a = countdown-at pool i (omega arith) in omega arith;
+      empty = λ i l. empty-at pool (get_or (countdown pool) i 0);
+      all = λ k l e. (pool - (k + 1), (omega arith, let a = countdown-at pool (pool - (k + 1)) (omega arith) in omega arith));
+      apart = λ i j l lj q. let a = countdown-at pool i (omega arith) in let b = countdown-at pool j (omega arith) in omega arith;
     }
 
 pub places-new : (pool : ℕ) (places : List (Option Translation)) → places ≡ replicate pool None → length places ≡ pool
 places-new pool places e = ap length e ∙ length-replicate pool (let z : Option Translation = None in z)
 
-pub hat-made : (pool room : ℕ) (places : List (Option Translation)) (free : List ℕ) → places ≡ replicate pool None → free ≡ falling pool → 0 < pool → pool < 2 ^ 32 → pool ≤ room → IsSoundHat places free room 0
+pub hat-made : (pool room : ℕ) (places : List (Option Translation)) (free : List ℕ) → places ≡ replicate pool None → free ≡ countdown pool → 0 < pool → pool < 2 ^ 32 → pool ≤ room → IsSoundHat places free room 0
 hat-made pool room places free p f some few all =
     subst (λ (p : List (Option Translation)). IsSoundHat p free room 0) (sym p) (subst (λ (f : List ℕ). IsSoundHat (replicate pool None) f room 0) (sym f) (hat-new pool room some few all))
 
-pub falls-one : (n : ℕ) → 0 < n → (n - 1) ∷ falling (n - 1) ≡ falling n
+pub falls-one : (n : ℕ) → 0 < n → (n - 1) ∷ countdown (n - 1) ≡ countdown n
 falls-one zero lt = absurd (omega arith)
-falls-one (suc n) lt = let e : suc n - 1 ≡ n = omega arith in ap (λ (k : ℕ). k ∷ falling k) e
+falls-one (suc n) lt = let e : suc n - 1 ≡ n = omega arith in ap (λ (k : ℕ). k ∷ countdown k) e
 
 -- what a load leaves at its own page, and at all others
 module _ (pool : Pool) (free' : List ℕ) (room hand' space page place : ℕ) (c : TakesPlace pool free' room hand' space page place) (frame : ℕ) (writable : Bool) where
   own : is_of space page (fresh_translation space page frame writable) ≡ true
   own = and_from (space == space) (page == page) (eq-eqb space space refl) (eq-eqb page page refl)
 
-  pub load-own : at (set pool.places place (Some (fresh_translation space page frame writable))) space page ≡ Some (fresh_translation space page frame writable)
+  pub load-own : translation_at (set pool.places place (Some (fresh_translation space page frame writable))) space page ≡ Some (fresh_translation space page frame writable)
   load-own = at-held (set pool.places place (Some (fresh_translation space page frame writable))) space page place (fresh_translation space page frame writable) (get_or-set_same pool.places place (Some (fresh_translation space page frame writable)) None c.within) own
       (λ j h. elim (cases_eq j place) [
         | inl q ↦ q
@@ -296,11 +296,11 @@ module _ (pool : Pool) (free' : List ℕ) (room hand' space page place : ℕ) (c
   other s p differs k q = subst (λ (k : ℕ). holds s p (get_or (set pool.places place (Some (fresh_translation space page frame writable))) k None) ≡ false) (sym q)
       (ap (λ (o : Option Translation). holds s p o) (get_or-set_same pool.places place (Some (fresh_translation space page frame writable)) None c.within) ∙ differs)
 
-  pub load-kept : (s p : ℕ) → is_of s p (fresh_translation space page frame writable) ≡ false → holds s p (dropped_by_load pool space page) ≡ false → at (set pool.places place (Some (fresh_translation space page frame writable))) s p ≡ at pool.places s p
+  pub load-kept : (s p : ℕ) → is_of s p (fresh_translation space page frame writable) ≡ false → holds s p (dropped_by_load pool space page) ≡ false → translation_at (set pool.places place (Some (fresh_translation space page frame writable))) s p ≡ translation_at pool.places s p
   load-kept s p differs kept = ap (λ (o : Option (Option Translation)). option_and_then (λ (o : Option Translation). o) o)
       (find_past (λ (o : Option Translation). holds s p o) pool.places place (Some (fresh_translation space page frame writable)) None (ap (λ (o : Option Translation). holds s p o) c.gives ∙ kept) differs)
 
-  pub load-gone : (s p : ℕ) → is_of s p (fresh_translation space page frame writable) ≡ false → holds s p (dropped_by_load pool space page) ≡ true → at (set pool.places place (Some (fresh_translation space page frame writable))) s p ≡ None
+  pub load-gone : (s p : ℕ) → is_of s p (fresh_translation space page frame writable) ≡ false → holds s p (dropped_by_load pool space page) ≡ true → translation_at (set pool.places place (Some (fresh_translation space page frame writable))) s p ≡ None
   load-gone s p differs gone = at-none (set pool.places place (Some (fresh_translation space page frame writable))) s p (λ k. elim (cases_eq k place) [
     | inl q ↦ other s p differs k q
     | inr ne ↦ elim (cases_Bool (holds s p (get_or pool.places k None))) [

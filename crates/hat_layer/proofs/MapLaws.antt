@@ -5,17 +5,17 @@ use Rattle.std.specs.List.{list_any}
 use Rattle.std.proofs.lemmas.Bool.{cases_Bool, and_parts, and_from, eqb-true, eq-eqb, or_cases, or_right}
 use Rattle.std.proofs.lemmas.List.Folds.{list_any_at}
 use Rattle.hat_layer.specs.declared.translation.Translation.{Translation}
-use Rattle.hat_layer.specs.Pool.{holds, is_of, at, leads, IsSingleValued, change_page, drop_page, change_lead, drop_lead, change_at, drop_at, change_frame, drop_frame, has_bit, lets_access, after_access, IsNoted, SomeHas}
+use Rattle.hat_layer.specs.Pool.{holds, is_of, translation_at, leads, IsSingleValued, change_page, drop_page, change_lead, drop_lead, change_at, drop_at, change_frame, drop_frame, has_bit, lets_access, after_access, IsNoted, SomeHas}
 use Rattle.hat_layer.proofs.TableLemmas.{some-within}
 use Rattle.hat_layer.proofs.HatLemmas.{at-held}
 
 Cell : Type 0
 Cell = Option Translation
 
-at-here : (o : Option Translation) (os : List (Option Translation)) (s p : ℕ) → holds s p o ≡ true → at (o ∷ os) s p ≡ o
+at-here : (o : Option Translation) (os : List (Option Translation)) (s p : ℕ) → holds s p o ≡ true → translation_at (o ∷ os) s p ≡ o
 at-here o os s p h = ap (λ (b : Bool). option_and_then (λ (o : Option Translation). o) (cond b (Some o) (find (λ (o : Option Translation). holds s p o) os))) h
 
-at-next : (o : Option Translation) (os : List (Option Translation)) (s p : ℕ) → holds s p o ≡ false → at (o ∷ os) s p ≡ at os s p
+at-next : (o : Option Translation) (os : List (Option Translation)) (s p : ℕ) → holds s p o ≡ false → translation_at (o ∷ os) s p ≡ translation_at os s p
 at-next o os s p h = ap (λ (b : Bool). option_and_then (λ (o : Option Translation). o) (cond b (Some o) (find (λ (o : Option Translation). holds s p o) os))) h
 
 -- a place keeps its page or is emptied
@@ -25,12 +25,12 @@ Stays G s p = (o : Option Translation) → (G o ≡ None) ⊎ (holds s p (G o) �
 missed : (G : Option Translation → Option Translation) (s p : ℕ) → Stays G s p → (o : Option Translation) → holds s p o ≡ false → holds s p (G o) ≡ false
 missed G s p stays o h = elim (stays o) [ inl none ↦ ap (λ (o : Option Translation). holds s p o) none | inr same ↦ same ∙ h ]
 
-none-mapped : (G : Option Translation → Option Translation) (os : List (Option Translation)) (s p : ℕ) → Stays G s p → ((k : ℕ) → holds s p (get_or os k None) ≡ false) → at (map G os) s p ≡ None
+none-mapped : (G : Option Translation → Option Translation) (os : List (Option Translation)) (s p : ℕ) → Stays G s p → ((k : ℕ) → holds s p (get_or os k None) ≡ false) → translation_at (map G os) s p ≡ None
 none-mapped G [] s p stays h = refl
 none-mapped G (o ∷ os) s p stays h = at-next (G o) (map G os) s p (missed G s p stays o (h zero)) ∙ none-mapped G os s p stays (λ k. h (suc k))
 
 -- what each place becomes, the entry of each page becomes
-pub at-mapped : (G : Option Translation → Option Translation) (places : List (Option Translation)) (s p : ℕ) → G None ≡ None → Stays G s p → IsSingleValued places → at (map G places) s p ≡ G (at places s p)
+pub at-mapped : (G : Option Translation → Option Translation) (places : List (Option Translation)) (s p : ℕ) → G None ≡ None → Stays G s p → IsSingleValued places → translation_at (map G places) s p ≡ G (translation_at places s p)
 at-mapped G [] s p none stays d = sym none
 at-mapped G (o ∷ os) s p none stays d = elim (cases_Bool (holds s p o)) [
   | inl h ↦
@@ -38,7 +38,7 @@ at-mapped G (o ∷ os) s p none stays d = elim (cases_Bool (holds s p o)) [
         | inl g ↦ let z : zero ≡ suc k = d zero (suc k) s p h g in absurd (omega arith)
         | inr g ↦ g
       ] in
-      let old : G (at (o ∷ os) s p) ≡ G o = ap G (at-here o os s p h) in
+      let old : G (translation_at (o ∷ os) s p) ≡ G o = ap G (at-here o os s p h) in
       elim (stays o) [
         | inl empty ↦ at-next (G o) (map G os) s p (ap (λ (o : Option Translation). holds s p o) empty) ∙ none-mapped G os s p stays others ∙ sym (old ∙ empty)
         | inr same ↦ at-here (G o) (map G os) s p (same ∙ h) ∙ sym old
@@ -53,21 +53,21 @@ changed-stays : (test : Option Translation → Bool) (change : Translation → T
 changed-stays test change s p same None = inl (elim (test None) as (λ b. cond b (option_map change None) None ≡ None) [ true ↦ refl | false ↦ refl ])
 changed-stays test change s p same (Some t) = inr (elim (test (Some t)) as (λ b. holds s p (cond b (option_map change (Some t)) (Some t)) ≡ holds s p (Some t)) [ true ↦ same t | false ↦ refl ])
 
-pub at-drop_frame : (places : List (Option Translation)) (frame s p : ℕ) → IsSingleValued places → at (drop_frame frame places) s p ≡ drop_lead frame (at places s p)
+pub at-drop_frame : (places : List (Option Translation)) (frame s p : ℕ) → IsSingleValued places → translation_at (drop_frame frame places) s p ≡ drop_lead frame (translation_at places s p)
 at-drop_frame places frame s p d = at-mapped (λ (o : Option Translation). drop_lead frame o) places s p refl (dropped-stays (leads frame) s p) d
 
-pub at-drop_at : (places : List (Option Translation)) (space page s p : ℕ) → IsSingleValued places → at (drop_at space page places) s p ≡ drop_page space page (at places s p)
+pub at-drop_at : (places : List (Option Translation)) (space page s p : ℕ) → IsSingleValued places → translation_at (drop_at space page places) s p ≡ drop_page space page (translation_at places s p)
 at-drop_at places space page s p d = at-mapped (λ (o : Option Translation). drop_page space page o) places s p refl (dropped-stays (λ (o : Option Translation). holds space page o) s p) d
 
-pub at-change_frame : (change : Translation → Translation) (places : List (Option Translation)) (frame s p : ℕ) → ((t : Translation) → is_of s p (change t) ≡ is_of s p t) → IsSingleValued places → at (change_frame frame change places) s p ≡ change_lead frame change (at places s p)
+pub at-change_frame : (change : Translation → Translation) (places : List (Option Translation)) (frame s p : ℕ) → ((t : Translation) → is_of s p (change t) ≡ is_of s p t) → IsSingleValued places → translation_at (change_frame frame change places) s p ≡ change_lead frame change (translation_at places s p)
 at-change_frame change places frame s p same d = at-mapped (λ (o : Option Translation). change_lead frame change o) places s p refl (changed-stays (leads frame) change s p same) d
 
-pub at-change_at : (change : Translation → Translation) (places : List (Option Translation)) (space page s p : ℕ) → ((t : Translation) → is_of s p (change t) ≡ is_of s p t) → IsSingleValued places → at (change_at space page change places) s p ≡ change_page space page change (at places s p)
+pub at-change_at : (change : Translation → Translation) (places : List (Option Translation)) (space page s p : ℕ) → ((t : Translation) → is_of s p (change t) ≡ is_of s p t) → IsSingleValued places → translation_at (change_at space page change places) s p ≡ change_page space page change (translation_at places s p)
 at-change_at change places space page s p same d = at-mapped (λ (o : Option Translation). change_page space page change o) places s p refl (changed-stays (λ (o : Option Translation). holds space page o) change s p same) d
 
 -- the entry of the page whose access was noted
-pub noted-access : (places after : List (Option Translation)) (space page : ℕ) (write : Bool) (t : Translation) → at places space page ≡ Some t → is_of space page t ≡ true → lets_access write t ≡ true
-    → at after space page ≡ change_page space page (after_access write) (at places space page) → IsNoted after space page t.frame write
+pub noted-access : (places after : List (Option Translation)) (space page : ℕ) (write : Bool) (t : Translation) → translation_at places space page ≡ Some t → is_of space page t ≡ true → lets_access write t ≡ true
+    → translation_at after space page ≡ change_page space page (after_access write) (translation_at places space page) → IsNoted after space page t.frame write
 noted-access places after space page write t is own lets changed = record {
   entry = after_access write t;
   there = changed ∙ ap (change_page space page (after_access write)) is ∙ ap (λ (b : Bool). cond b (Some (after_access write t)) (Some t)) own;
@@ -85,7 +85,7 @@ found-any bit (o ∷ os) frame h = elim (or_cases (has_bit bit frame o) (list_an
   | inr t ↦ let r = found-any bit os frame t in (suc r.0, r.1)
 ]
 
-found-at : (places : List (Option Translation)) (s p : ℕ) (t : Translation) → at places s p ≡ Some t → (k : ℕ) × (get_or places k None ≡ Some t)
+found-at : (places : List (Option Translation)) (s p : ℕ) (t : Translation) → translation_at places s p ≡ Some t → (k : ℕ) × (get_or places k None ≡ Some t)
 found-at [] s p t e = let z : None ≡ Some t = e in cc
 found-at (o ∷ os) s p t e = elim (cases_Bool (holds s p o)) [
   | inl h ↦ (zero, sym (at-here o os s p h) ∙ e)

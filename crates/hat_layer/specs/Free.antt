@@ -27,6 +27,6 @@ pub record TakesPlace (pool : Pool) (free' : List ℕ) (room hand' space page pl
   pub fits : (new : Translation) → IsSoundHat (slice_set pool.places place (Some new)) free' room hand'
 
 -- n - 1, .., 1, 0
-abbrev pub falling : ℕ → List ℕ
-falling zero = []
-falling (suc n) = n ∷ falling n
+abbrev pub countdown : ℕ → List ℕ
+countdown zero = []
+countdown (suc n) = n ∷ countdown n

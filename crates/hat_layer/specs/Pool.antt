@@ -20,8 +20,8 @@ holds space page None = false
 holds space page (Some t) = is_of space page t
 
 -- the map from (space, page): its translation
-abbrev pub at : List (Option Translation) → ℕ → ℕ → Option Translation
-at places space page = option_and_then (λ o. o) (find (λ o. holds space page o) places)
+abbrev pub translation_at : List (Option Translation) → ℕ → ℕ → Option Translation
+translation_at places space page = option_and_then (λ o. o) (find (λ o. holds space page o) places)
 
 -- the frame that a place leads to
 abbrev pub frame_of : Option Translation → Option ℕ
@@ -51,7 +51,7 @@ frame_let write None = None
 frame_let write (Some t) = if lets_access write t then Some t.frame else None
 
 abbrev pub frame_for : List (Option Translation) → ℕ → ℕ → Bool → Option ℕ
-frame_for places space page write = frame_let write (at places space page)
+frame_for places space page write = frame_let write (translation_at places space page)
 
 -- a translation after an access
 abbrev pub after_access : Bool → Translation → Translation
@@ -106,14 +106,14 @@ is_full places = list_all (λ o. is_some o) places
 -- the translation that gives way to a load: that of the same page, else in a full pool the one that the hand is at
 abbrev pub dropped_by_load : Pool → ℕ → ℕ → Option Translation
 dropped_by_load pool space page =
-    if is_some (at pool.places space page) then at pool.places space page
+    if is_some (translation_at pool.places space page) then translation_at pool.places space page
     else if is_full pool.places then slice_index_or pool.places pool.hand None
     else None
 
 -- the hand moves on where a full pool steals, from the last place to place 0
 abbrev pub hand_after : Pool → ℕ → ℕ → ℕ
 hand_after pool space page =
-    if is_some (at pool.places space page) then pool.hand
+    if is_some (translation_at pool.places space page) then pool.hand
     else if is_full pool.places then (if pool.hand + 1 == length pool.places then 0 else pool.hand + 1)
     else pool.hand
 
@@ -126,14 +126,14 @@ pub record SomeHas (bit : Translation → Bool) (places : List (Option Translati
   pub space : ℕ
   pub page : ℕ
   pub entry : Translation
-  pub there : at places space page ≡ Some entry
+  pub there : translation_at places space page ≡ Some entry
   pub leads_there : entry.frame ≡ frame
   pub set : bit entry ≡ true
 
 -- an access was noted: the page's translation leads to the frame, lets the access, was used, and was written where it writes
 pub record IsNoted (places : List (Option Translation)) (space page frame : ℕ) (write : Bool) : Type 0 where
   pub entry : Translation
-  pub there : at places space page ≡ Some entry
+  pub there : translation_at places space page ≡ Some entry
   pub leads_there : entry.frame ≡ frame
   pub lets : lets_access write entry ≡ true
   pub referenced : entry.referenced ≡ true

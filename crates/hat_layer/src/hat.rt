@@ -1,7 +1,7 @@
 //! The translations of all spaces: a map that only forgets.
 ghost use Rattle.std.specs.Prelude.{◌≡◌, ◌≢◌, ◌↔◌, ℕ, ◌+◌, ◌<◌, ◌≤◌, ◌==◌, ◌&&◌, ◌^◌, [], ◌∷◌, ◌++◌, length, replicate, true, false, Option, Some, None, IfOk, IsTrue, IsSomeAnd, IfSome, IfNone, slice_set, slice_index_or, if◌then◌else◌, option_map, vec_len, vec_capacity};
-ghost use Rattle.hat_layer.specs.Pool.{Pool, IsSingleValued, IsNoted, SomeHas, is_of, holds, frame_of, frame_for, at, told_of, fresh_translation, lets_access, after_access, without_write, with_clear_bits, change_page, drop_page, change_lead, drop_lead, change_at, drop_at, change_frame, drop_frame, bits_of, dropped_by_load, hand_after};
-ghost use Rattle.hat_layer.specs.Free.{IsSoundHat, TakesPlace, falling};
+ghost use Rattle.hat_layer.specs.Pool.{Pool, IsSingleValued, IsNoted, SomeHas, is_of, holds, frame_of, frame_for, translation_at, told_of, fresh_translation, lets_access, after_access, without_write, with_clear_bits, change_page, drop_page, change_lead, drop_lead, change_at, drop_at, change_frame, drop_frame, bits_of, dropped_by_load, hand_after};
+ghost use Rattle.hat_layer.specs.Free.{IsSoundHat, TakesPlace, countdown};
 
 use crate::table::Table;
 use crate::translation::{Dropped, Translation};
@@ -115,7 +115,7 @@ fn release(table: &mut Table, free: &mut Vec<u32>, hand: u32, place: u32, old: T
 
 // All places of an empty pool, so that place 0 is taken first.
 fn all_free(alloc: Global, pool: u32) -> Result<Vec<u32>, AllocError>
-    ensures all { IfOk result (λ v. v.items ≡ falling pool) }
+    ensures all { IfOk result (λ v. v.items ≡ countdown pool) }
     ensures room { IfOk result (λ v. pool ≤ vec_capacity v) }
 {
     let mut free = Vec::with_capacity(alloc, pool as usize)?;
@@ -185,7 +185,7 @@ impl Hat {
     /// The frame that a page leads to, and whether it is writable. Constant expected time.
     pub fn find(&self, space: u32, page: u32) -> Option<(u32, bool)>
         ensures found { result
-            ≡ option_map (λ t. (t.frame, t.writable)) (at self.now.places space page) }
+            ≡ option_map (λ t. (t.frame, t.writable)) (translation_at self.now.places space page) }
         ensures distinct { IsSingleValued self.now.places }
     {
         let (_place, held) = self.table.held(space, page)?;
@@ -203,14 +203,14 @@ impl Hat {
             (Some (fresh_translation space page frame writable))) }
         ensures hand { self.new.hand ≡ hand_after self.old space page }
         // The map from (space, page).
-        ensures loaded { at self.new.places space page
+        ensures loaded { translation_at self.new.places space page
             ≡ Some (fresh_translation space page frame writable) }
         ensures gone { (s p : ℕ) → is_of s p (fresh_translation space page frame writable) ≡ false
             → holds s p (dropped_by_load self.old space page) ≡ true
-            → at self.new.places s p ≡ None }
+            → translation_at self.new.places s p ≡ None }
         ensures kept { (s p : ℕ) → is_of s p (fresh_translation space page frame writable) ≡ false
             → holds s p (dropped_by_load self.old space page) ≡ false
-            → at self.new.places s p ≡ at self.old.places s p }
+            → translation_at self.new.places s p ≡ translation_at self.old.places s p }
         // What stays.
         ensures frames { self.new.frames ≡ self.old.frames }
         ensures distinct { IsSingleValued self.new.places }
@@ -244,8 +244,8 @@ impl Hat {
         // It is noted, ..
         ensures places { IfSome result (λ _frame. self.new.places
             ≡ change_at space page (after_access write) self.old.places) }
-        ensures map { IfSome result (λ _frame. (s p : ℕ) → at self.new.places s p
-            ≡ change_page space page (after_access write) (at self.old.places s p)) }
+        ensures map { IfSome result (λ _frame. (s p : ℕ) → translation_at self.new.places s p
+            ≡ change_page space page (after_access write) (translation_at self.old.places s p)) }
         ensures noted { IfSome result (λ frame. IsNoted self.new.places space page frame write) }
         // .. or nothing changes.
         ensures none { IfNone result (self.new ≡ self.old) }
@@ -264,12 +264,12 @@ impl Hat {
 
     /// Notes an access: referenced, and modified where it writes.
     pub fn touch(&mut self, space: u32, page: u32, write: bool)
-        requires { IsSomeAnd (at self.old.places space page)
+        requires { IsSomeAnd (translation_at self.old.places space page)
             (λ t. IsTrue write → IsTrue t.writable) }
         ensures places { self.new.places
             ≡ change_at space page (after_access write) self.old.places }
-        ensures map { (s p : ℕ) → at self.new.places s p
-            ≡ change_page space page (after_access write) (at self.old.places s p) }
+        ensures map { (s p : ℕ) → translation_at self.new.places s p
+            ≡ change_page space page (after_access write) (translation_at self.old.places s p) }
         // What stays.
         ensures hand { self.new.hand ≡ self.old.hand }
         ensures frames { self.new.frames ≡ self.old.frames }
@@ -280,10 +280,10 @@ impl Hat {
 
     /// Drops a page's translation, and tells it. None exactly where it isn't loaded.
     pub fn unload(&mut self, space: u32, page: u32) -> Option<Dropped>
-        ensures told { result ≡ option_map told_of (at self.old.places space page) }
+        ensures told { result ≡ option_map told_of (translation_at self.old.places space page) }
         ensures places { self.new.places ≡ drop_at space page self.old.places }
-        ensures map { (s p : ℕ) → at self.new.places s p
-            ≡ drop_page space page (at self.old.places s p) }
+        ensures map { (s p : ℕ) → translation_at self.new.places s p
+            ≡ drop_page space page (translation_at self.old.places s p) }
         // What stays.
         ensures hand { self.new.hand ≡ self.old.hand }
         ensures frames { self.new.frames ≡ self.old.frames }
@@ -297,8 +297,8 @@ impl Hat {
     /// Takes the right to write from a page's translation, where it is loaded.
     pub fn protect(&mut self, space: u32, page: u32)
         ensures places { self.new.places ≡ change_at space page without_write self.old.places }
-        ensures map { (s p : ℕ) → at self.new.places s p
-            ≡ change_page space page without_write (at self.old.places s p) }
+        ensures map { (s p : ℕ) → translation_at self.new.places s p
+            ≡ change_page space page without_write (translation_at self.old.places s p) }
         // What stays.
         ensures hand { self.new.hand ≡ self.old.hand }
         ensures frames { self.new.frames ≡ self.old.frames }
@@ -319,8 +319,8 @@ impl Hat {
         ensures modified { IsTrue result.1
             ↔ SomeHas (λ t. t.modified) self.old.places frame }
         ensures places { self.new.places ≡ drop_frame frame self.old.places }
-        ensures map { (s p : ℕ) → at self.new.places s p
-            ≡ drop_lead frame (at self.old.places s p) }
+        ensures map { (s p : ℕ) → translation_at self.new.places s p
+            ≡ drop_lead frame (translation_at self.old.places s p) }
         // What stays.
         ensures hand { self.new.hand ≡ self.old.hand }
         ensures frames { self.new.frames ≡ self.old.frames }
@@ -339,8 +339,8 @@ impl Hat {
         ensures modified { IsTrue result.1
             ↔ SomeHas (λ t. t.modified) self.old.places frame }
         ensures places { self.new.places ≡ change_frame frame with_clear_bits self.old.places }
-        ensures map { (s p : ℕ) → at self.new.places s p
-            ≡ change_lead frame with_clear_bits (at self.old.places s p) }
+        ensures map { (s p : ℕ) → translation_at self.new.places s p
+            ≡ change_lead frame with_clear_bits (translation_at self.old.places s p) }
         // What stays.
         ensures hand { self.new.hand ≡ self.old.hand }
         ensures frames { self.new.frames ≡ self.old.frames }

@@ -12,7 +12,7 @@ use mathlib.Core.List.{IsPrefix}
 use mathlib.Core.Option.{some, some-injective, some-ne-none}
 use lib.ListN.{get_elem?}
 use Rattle.atomic_table.proofs.Lists.{at_set}
-use Rattle.kernel_lock.specs.Rule.{Each, longer}
+use Rattle.kernel_lock.specs.Rule.{Each, longer_list}
 use Rattle.kernel_lock.specs.Seats.{entries_by}
 
 pub prefix_self : {A : Type 0} (xs : List A) → IsPrefix xs xs
@@ -68,7 +68,7 @@ prefix_shorter (x ∷ xs) (y ∷ ys) (z ∷ zs) p q le =
     (rest.0, cc (heads, rest.1))
 
 -- the longer of two lists is one of them
-pub longer_is : {A : Type 0} (P : List A → Type 0) (xs ys : List A) → P xs → P ys → P (longer xs ys)
+pub longer_is : {A : Type 0} (P : List A → Type 0) (xs ys : List A) → P xs → P ys → P (longer_list xs ys)
 longer_is {A} P xs ys p q = go (ltb (length xs) (length ys))
   where
     go : (b : Bool) → P (if b then ys else xs)
@@ -76,7 +76,7 @@ longer_is {A} P xs ys p q = go (ltb (length xs) (length ys))
     go false = p
 
 -- and both begin it, where they begin one list
-pub longer_begun : {A : Type 0} (xs ys zs : List A) → IsPrefix xs zs → IsPrefix ys zs → IsPrefix xs (longer xs ys) × IsPrefix ys (longer xs ys)
+pub longer_begun : {A : Type 0} (xs ys zs : List A) → IsPrefix xs zs → IsPrefix ys zs → IsPrefix xs (longer_list xs ys) × IsPrefix ys (longer_list xs ys)
 longer_begun {A} xs ys zs p q = go (ltb (length xs) (length ys)) refl
   where
     go : (b : Bool) → ltb (length xs) (length ys) ≡ b → IsPrefix xs (if b then ys else xs) × IsPrefix ys (if b then ys else xs)

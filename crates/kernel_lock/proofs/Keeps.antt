@@ -14,7 +14,7 @@ use Rattle.std.proofs.Common.{eq-eqb, ne_eqb}
 use Rattle.kernel_lock.specs.declared.board.View.{View}
 use Rattle.kernel_lock.specs.declared.board.Part.{Part}
 use Rattle.kernel_lock.specs.Laws.{Keeps, Grows}
-use Rattle.kernel_lock.specs.Rule.{Lock, Knows, HasPart, Each, goes_in, is_refused, writes, goes_out, known_of, took, recorded, released}
+use Rattle.kernel_lock.specs.Rule.{Lock, Knows, HasPart, Each, goes_in, with_refused_try, writes, goes_out, known_of, TakesTurn, MakesKnown, ReleasesTurn}
 use Rattle.kernel_lock.specs.Seats.{IsEntered, entries_by}
 use Rattle.kernel_lock.proofs.Begun.{prefix_self, prefix_more, each_imp, unchanged_by, set_at, each_set, set_only, at_below}
 
@@ -85,8 +85,8 @@ module _ {S E N : Type 0} (seat_of : E → ℕ) (history : S → List E) (fits :
       )
 
   -- a step that changes no word, and of this seat's view only its refused tries
-  refuses : (s : St) (r : Rule s) (id : ℕ) (v : V) (by : ℕ) → get_elem? s.views id ≡ some v → v.inside ≡ false → Rule (stepped s 0 (turn s) id [] (is_refused v by) keeps)
-  refuses s r id v by at out = subst (λ (ws : List ℕ). Rule record { words = ws; homes = s.homes; views = set s.views id (is_refused v by) }) (sym (set-get_or s.words 0 0))
+  refuses : (s : St) (r : Rule s) (id : ℕ) (v : V) (by : ℕ) → get_elem? s.views id ≡ some v → v.inside ≡ false → Rule (stepped s 0 (turn s) id [] (with_refused_try v by) keeps)
+  refuses s r id v by at out = subst (λ (ws : List ℕ). Rule record { words = ws; homes = s.homes; views = set s.views id (with_refused_try v by) }) (sym (set-get_or s.words 0 0))
       (let k = r.each id v at in record {
         core = r.core;
         notes = r.notes;
@@ -100,10 +100,10 @@ module _ {S E N : Type 0} (seat_of : E → ℕ) (history : S → List E) (fits :
         home = r.home;
         held = λ z. let (u, is, inside) = r.held z in (
           u,
-          set_else s.views id r.holder (is_refused v by) (λ e. let same : v ≡ u = some-injective v u (sym at ∙ (sym (ap (get_elem? s.views) e) ∙ is)) in absurd (cc (out, inside, same))) ∙ is,
+          set_else s.views id r.holder (with_refused_try v by) (λ e. let same : v ≡ u = some-injective v u (sym at ∙ (sym (ap (get_elem? s.views) e) ∙ is)) in absurd (cc (out, inside, same))) ∙ is,
           inside,
         );
-        each = each_set (Knows seat_of history opening seats r.core r.notes r.owner (turn s) r.holder) s.views id (is_refused v by)
+        each = each_set (Knows seat_of history opening seats r.core r.notes r.owner (turn s) r.holder) s.views id (with_refused_try v by)
             record { opened = k.opened; begun = k.begun; begun_olds = k.begun_olds; mine = k.mine; told = k.told; theirs = k.theirs; fresh = k.fresh; within = k.within }
             (λ j u ne e. r.each j u e);
       })
@@ -116,10 +116,10 @@ module _ {S E N : Type 0} (seat_of : E → ℕ) (history : S → List E) (fits :
       record { notes = r.notes; fitting = subst (λ z. fits z r.core r.notes) (sym same.0) r.fitting; whole = r.sized ∙ sym same.1; holds = (p.0, k.begun, p.1) }
 
   pub takes_turn : (slots id n : ℕ) (v : V) (cs : List (ℕ × Option S)) → v.inside ≡ false → v.seated ≡ true → v.number ≡ n → cs ≡ []
-      → Allows Rule slots id (v, cs) 0 (λ r. either (eqb r 0) (n + 1) r) (took seat_of history fits (step slots 0 0 (n + 1) none) (v, cs))
-  takes_turn slots id n v cs out seated named empty = subst (λ c. Allows Rule slots id (v, c) 0 (λ r. either (eqb r 0) (n + 1) r) (took seat_of history fits (step slots 0 0 (n + 1) none) (v, c))) (sym empty) go
+      → Allows Rule slots id (v, cs) 0 (λ r. either (eqb r 0) (n + 1) r) (TakesTurn seat_of history fits (step slots 0 0 (n + 1) none) (v, cs))
+  takes_turn slots id n v cs out seated named empty = subst (λ c. Allows Rule slots id (v, c) 0 (λ r. either (eqb r 0) (n + 1) r) (TakesTurn seat_of history fits (step slots 0 0 (n + 1) none) (v, c))) (sym empty) go
     where
-      go : Allows Rule slots id (v, []) 0 (λ r. either (eqb r 0) (n + 1) r) (took seat_of history fits (step slots 0 0 (n + 1) none) (v, []))
+      go : Allows Rule slots id (v, []) 0 (λ r. either (eqb r 0) (n + 1) r) (TakesTurn seat_of history fits (step slots 0 0 (n + 1) none) (v, []))
       go s r wide at bound = dite (ℕ_discrete (turn s) 0)
           (λ free. let new : either (eqb (turn s) 0) (n + 1) (turn s) ≡ v.number + 1 = rw (eq-eqb (turn s) 0 free) (ap (λ z. z + 1) (sym named)) in (
             goes_in v r.core,
@@ -129,10 +129,10 @@ module _ {S E N : Type 0} (seat_of : E → ℕ) (history : S → List E) (fits :
             ((λ _. (r.core, refl, promised s r id v at seated)), (λ ne. absurd (ne free))),
           ))
           (λ busy. let same : either (eqb (turn s) 0) (n + 1) (turn s) ≡ turn s = rw (ne_eqb (turn s) 0 busy) refl in (
-            is_refused v (another s r id v at out seated busy).0,
+            with_refused_try v (another s r id v at out seated busy).0,
             keeps,
             tt,
-            subst (λ z. Rule (stepped s 0 z id [] (is_refused v (another s r id v at out seated busy).0) keeps)) (sym same) (refuses s r id v (another s r id v at out seated busy).0 at out),
+            subst (λ z. Rule (stepped s 0 z id [] (with_refused_try v (another s r id v at out seated busy).0) keeps)) (sym same) (refuses s r id v (another s r id v at out seated busy).0 at out),
             ((λ e. absurd (busy e)), (λ _. let by = another s r id v at out seated busy in (by.0, by.1, by.2, by.3, refl))),
           ))
 
@@ -207,7 +207,7 @@ module _ {S E N : Type 0} (seat_of : E → ℕ) (history : S → List E) (fits :
 
   pub writes_down : (slots id n : ℕ) (v : V2) (cs : List (ℕ × Option S)) (said : Option S) (note : Option N) (t : S) (m : Option N) → v.inside ≡ true → v.others ≡ [] → v.deals ≡ false
       → ((b : S) × (v.state ≡ Some b) × moves v.number b v.note t m) → n ≡ length (history t) → said ≡ Some t → note ≡ m
-      → Allows (Lock seat_of history fits opening seats) slots id (v, cs) 1 (λ _. n) (λ _. recorded seat_of history said note (step slots 1 n 0 none) (v, cs) n)
+      → Allows (Lock seat_of history fits opening seats) slots id (v, cs) 1 (λ _. n) (λ _. MakesKnown seat_of history said note (step slots 1 n 0 none) (v, cs) n)
   writes_down slots id n v cs said told t m inside alone dealt move long is noted s r wide at bound = (
     writes seat_of history v t m,
     keeps,
@@ -256,8 +256,8 @@ module _ {S E N : Type 0} (seat_of : E → ℕ) (history : S → List E) (fits :
       }
 
   pub gives_back : (slots id : ℕ) (v : V3) (cs : List (ℕ × Option S)) (t : S) → v.inside ≡ true → v.state ≡ Some t → cs ≡ (0, Some t) ∷ []
-      → Allows (Lock seat_of history fits opening seats) slots id (v, cs) 0 (λ _. 0) (λ _. released (step slots 0 0 0 none) (v, cs) 0)
-  gives_back slots id v cs t inside kept has = subst (λ c. Allows (Lock seat_of history fits opening seats) slots id (v, c) 0 (λ _. 0) (λ _. released (step slots 0 0 0 none) (v, c) 0)) (sym has)
+      → Allows (Lock seat_of history fits opening seats) slots id (v, cs) 0 (λ _. 0) (λ _. ReleasesTurn (step slots 0 0 0 none) (v, cs) 0)
+  gives_back slots id v cs t inside kept has = subst (λ c. Allows (Lock seat_of history fits opening seats) slots id (v, c) 0 (λ _. 0) (λ _. ReleasesTurn (step slots 0 0 0 none) (v, c) 0)) (sym has)
       (λ s r wide at bound. (goes_out v, gives, tt, gave s r id v t at inside kept, refl))
 
 -- the one slot that is held

@@ -11,7 +11,7 @@ use Rattle.atomic_table.specs.Table.{State, keeps, step, Allows, Enters, Splits,
 use Rattle.atomic_table.proofs.Lists.{at_set, set_again, set_else, at_longer}
 use Rattle.kernel_lock.specs.declared.board.View.{View}
 use Rattle.kernel_lock.specs.declared.board.Part.{Part}
-use Rattle.kernel_lock.specs.Rule.{Lock, Knows, HasPart, Each, courier, blank, dealer_at, dealt, longer, longer_seen, gathered, gathered_of, sat, looked}
+use Rattle.kernel_lock.specs.Rule.{Lock, Knows, HasPart, Each, courier, blank_view, dealer_at, dealt_seat, longer_list, longer_seen, with_known_seat, gatherer_of, SitsDown, LooksAtLength}
 use Rattle.kernel_lock.specs.Seats.{entries_by, HasAll, IsClosed}
 use Rattle.kernel_lock.proofs.Begun.{each_imp, each_at, set_at, each_set, longer_is, longer_begun, at_append, at_below, own_between}
 
@@ -55,7 +55,7 @@ module _ {S E N : Type 0} (seat_of : E → ℕ) (history : S → List E) (fits :
       (λ e. let vu : v ≡ u = some-injective v u (sym at ∙ (sym (ap (get_elem? vs) e) ∙ is)) in (w, subst (λ h. get_elem? (set vs id w) h ≡ some w) (sym e) (set_at vs id v w at), cc (same, inside, vu)))
       (λ ne. (u, set_else vs id holder w ne ∙ is, inside))
 
-  pub looks : (slots id : ℕ) (v : V) (cs : List (ℕ × Option S)) → Allows Rule slots id (v, cs) 1 (λ n. n) (looked seat_of (step slots 1 0 0 none) (v, cs))
+  pub looks : (slots id : ℕ) (v : V) (cs : List (ℕ × Option S)) → Allows Rule slots id (v, cs) 1 (λ n. n) (LooksAtLength seat_of (step slots 1 0 0 none) (v, cs))
   looks slots id v cs s r wide at bound =
       let k = r.each id v at in
       let w : V = record v { olds = [] } in (
@@ -81,18 +81,18 @@ module _ {S E N : Type 0} (seat_of : E → ℕ) (history : S → List E) (fits :
       record { opened = k.opened; begun = k.begun; begun_olds = tt; mine = λ z. absurd (cc z); told = λ z. absurd (cc z); theirs = tt; fresh = λ z. absurd (cc z); within = λ z. absurd (cc z) })
       (at_append s.views (courier v) u j e)))
 
-  pub joins_seen : (id : ℕ) (v : V) (other : ℕ) (w : V) → w.inside ≡ false → Joins Rule id v other w (longer_seen v w) blank
+  pub joins_seen : (id : ℕ) (v : V) (other : ℕ) (w : V) → w.inside ≡ false → Joins Rule id v other w (longer_seen v w) blank_view
   joins_seen id v other w out s r at apart there =
       let k = r.each id v at in
       let b : V = longer_seen v w in
       let old : get_elem? s.views other ≡ some w = sym (set_else s.views id other b apart) ∙ there in
       let o = r.each other w old in
       let begins : List E → Type 0 = λ h. IsPrefix h (history r.core) in
-      let whole : begins (longer v.seen w.seen) = longer_is begins v.seen w.seen k.begun o.begun in
+      let whole : begins (longer_list v.seen w.seen) = longer_is begins v.seen w.seen k.begun o.begun in
       let K : ℕ → V → Type 0 = Knows seat_of history opening seats r.core r.notes r.owner (turn s) r.holder in
-      revised s r (set (set s.views id b) other blank) r.owner
-      (held_set s r.holder (set s.views id b) other w blank there (sym out) (held_set s r.holder s.views id v b at refl r.held))
-      (each_set K (set s.views id b) other blank
+      revised s r (set (set s.views id b) other blank_view) r.owner
+      (held_set s r.holder (set s.views id b) other w blank_view there (sym out) (held_set s r.holder s.views id v b at refl r.held))
+      (each_set K (set s.views id b) other blank_view
       record { opened = λ x e. absurd (cc e); begun = (history r.core, refl); begun_olds = tt; mine = λ z. absurd (cc z); told = λ z. absurd (cc z); theirs = tt; fresh = λ z. absurd (cc z); within = λ z. absurd (cc z) }
       (λ j u ne e. each_set K s.views id b
       record {
@@ -100,17 +100,17 @@ module _ {S E N : Type 0} (seat_of : E → ℕ) (history : S → List E) (fits :
         begun = whole;
         begun_olds = (k.begun, (o.begun, k.begun_olds));
         mine = k.mine;
-        told = λ z. own_between seat_of v.number v.seen (longer v.seen w.seen) (history r.core) v.own (longer_begun v.seen w.seen (history r.core) k.begun o.begun).0 whole (k.told z) (k.mine z).1;
+        told = λ z. own_between seat_of v.number v.seen (longer_list v.seen w.seen) (history r.core) v.own (longer_begun v.seen w.seen (history r.core) k.begun o.begun).0 whole (k.told z) (k.mine z).1;
         theirs = k.theirs;
         fresh = k.fresh;
         within = k.within;
       }
       (λ i x _ f. r.each i x f) j u e))
 
-  pub deals_out : (id : ℕ) (o : S) (n : ℕ) → n < seats → Splits Rule id (dealer_at o seats n) (dealer_at o seats (n + 1)) (dealt (dealer_at o seats n))
+  pub deals_out : (id : ℕ) (o : S) (n : ℕ) → n < seats → Splits Rule id (dealer_at o seats n) (dealer_at o seats (n + 1)) (dealt_seat (dealer_at o seats n))
   deals_out id o n room s r at =
       let v : V = dealer_at o seats n in
-      let d : V = dealt v in
+      let d : V = dealt_seat v in
       let w : V = dealer_at o seats (n + 1) in
       let k = r.each id v at in
       let free = k.fresh refl n (le_refl n) (subst (λ z. n < z) (sym r.sized) room) in
@@ -160,10 +160,10 @@ module _ {S E N : Type 0} (seat_of : E → ℕ) (history : S → List E) (fits :
       (at_append (set s.views id w) (d) u j e))
 
   -- whoever closes takes in a seat with its number
-  pub joins_part : (id : ℕ) (v : V) (other : ℕ) (w : V) → v.inside ≡ false → v.seated ≡ false → v.deals ≡ false → w.inside ≡ false → w.seated ≡ true → Joins Rule id v other w (gathered v w) blank
+  pub joins_part : (id : ℕ) (v : V) (other : ℕ) (w : V) → v.inside ≡ false → v.seated ≡ false → v.deals ≡ false → w.inside ≡ false → w.seated ≡ true → Joins Rule id v other w (with_known_seat v w) blank_view
   joins_part id v other w out unseated dealt out' seated s r at apart there =
       let k = r.each id v at in
-      let b : V = gathered v w in
+      let b : V = with_known_seat v w in
       let old : get_elem? s.views other ≡ some w = sym (set_else s.views id other b apart) ∙ there in
       let o = r.each other w old in
       let part = o.mine seated in
@@ -174,9 +174,9 @@ module _ {S E N : Type 0} (seat_of : E → ℕ) (history : S → List E) (fits :
       let Part' : ℕ → (ℕ → ℕ) → ℕ → Option N → List E → Type 0 = λ j f i m own. HasPart seat_of history r.core r.notes f j i m own in
       let mine : (i : ℕ) (m : Option N) (own : List E) → Part' id r.owner i m own → Part' id owner i m own =
       λ i m own p. (p.0, p.1, dite (ℕ_discrete i w.number) (here i) (λ ne. else' i ne ∙ p.2)) in
-      revised s r (set (set s.views id b) other blank) owner
-      (held_set s r.holder (set s.views id b) other w blank there (sym out') (held_set s r.holder s.views id v b at refl r.held))
-      (each_set K (set s.views id b) other blank
+      revised s r (set (set s.views id b) other blank_view) owner
+      (held_set s r.holder (set s.views id b) other w blank_view there (sym out') (held_set s r.holder s.views id v b at refl r.held))
+      (each_set K (set s.views id b) other blank_view
       record { opened = λ x e. absurd (cc e); begun = (history r.core, refl); begun_olds = tt; mine = λ z. absurd (cc z); told = λ z. absurd (cc z); theirs = tt; fresh = λ z. absurd (cc z); within = λ z. absurd (cc z) }
       (λ j u ne e. ⊎_elim
       (λ (t : (j ≡ id) × (b ≡ u)). subst (λ (x : ℕ × V). K x.0 x.1) (λ i. (sym t.0 i, t.1 i)) record {
@@ -206,23 +206,23 @@ module _ {S E N : Type 0} (seat_of : E → ℕ) (history : S → List E) (fits :
       (at_set s.views id j b u e)))
 
   -- a seat that knows nothing may come at any time
-  pub sits : (slots i : ℕ) → Enters Rule slots i (λ n w. sat (step slots i 0 0 none) (dealer_at opening seats 0, []) n (w, []))
+  pub sits : (slots i : ℕ) → Enters Rule slots i (λ n w. SitsDown (step slots i 0 0 none) (dealer_at opening seats 0, []) n (w, []))
   sits slots i s r wide bound = (
-    blank,
-    revised s r (s.views ++ blank ∷ []) r.owner
-        (λ busy. let (u, is, inside) = r.held busy in (u, at_longer s.views (blank ∷ []) r.holder u is, inside))
+    blank_view,
+    revised s r (s.views ++ blank_view ∷ []) r.owner
+        (λ busy. let (u, is, inside) = r.held busy in (u, at_longer s.views (blank_view ∷ []) r.holder u is, inside))
         (λ j u e. ⊎_elim (r.each j u)
-        (λ (t : (j ≡ length s.views) × (blank ≡ u)). subst (Knows seat_of history opening seats r.core r.notes r.owner (turn s) r.holder j) t.1
+        (λ (t : (j ≡ length s.views) × (blank_view ≡ u)). subst (Knows seat_of history opening seats r.core r.notes r.owner (turn s) r.holder j) t.1
         record { opened = λ x e. absurd (cc e); begun = (history r.core, refl); begun_olds = tt; mine = λ z. absurd (cc z); told = λ z. absurd (cc z); theirs = tt; fresh = λ z. absurd (cc z); within = λ z. absurd (cc z) })
-        (at_append s.views blank u j e)),
+        (at_append s.views blank_view u j e)),
     refl,
   )
 
   -- with all seats gathered nobody is inside, and the state that lies in the slot fits all notes
-  pub closes : (id : ℕ) (ps : List (Part E N)) (ws : List ℕ) (xs : List (Option S)) → Final (Seen Rule id (gathered_of ps)) ws xs → HasAll seats ps
+  pub closes : (id : ℕ) (ps : List (Part E N)) (ws : List ℕ) (xs : List (Option S)) → Final (Seen Rule id (gatherer_of ps)) ws xs → HasAll seats ps
       → (t : S) × (get_elem? xs 0 ≡ some (Some t)) × IsClosed seat_of history fits opening seats ps t
   closes id ps ws xs (s, (r, at), words, wide, lies) all =
-      let k = r.each id (gathered_of ps) at in
+      let k = r.each id (gatherer_of ps) at in
       let P : Part E N → Type 0 = λ p. HasPart seat_of history r.core r.notes r.owner id p.number p.note p.own × IsPrefix p.seen (history r.core) in
       let free : turn s ≡ 0 = dite (ℕ_discrete (turn s) 0) (λ e. e) (λ busy.
       let (u, is, inside) = r.held busy in
@@ -233,7 +233,7 @@ module _ {S E N : Type 0} (seat_of : E → ℕ) (history : S → List E) (fits :
       let there = all u.number (omega (arith, below, sized)) in
       let mine = (each_at P ps k.theirs there.0 there.1 there.2).0 in
       let same : r.holder ≡ id = sym part.2 ∙ (ap r.owner (sym there.3) ∙ mine.2) in
-      let whole : gathered_of ps ≡ u = some-injective (gathered_of ps) u (sym at ∙ (sym (ap (get_elem? s.views) same) ∙ is)) in
+      let whole : gatherer_of ps ≡ u = some-injective (gatherer_of ps) u (sym at ∙ (sym (ap (get_elem? s.views) same) ∙ is)) in
       absurd (cc (inside, ap (λ (z : V). z.inside) whole))) in (
         r.core,
         lies 0 (Some r.core) (ap (λ hs. get_elem? hs 0) (r.home free)),
@@ -286,5 +286,5 @@ pub meets : {S E N : Type 0} (v w m n : View S E N) (f h : List E) → m ≡ lon
 meets {S} {E} {N} v w m n f h joined from begun looked =
     let all : Each (λ (o : List E). IsPrefix o h) (v.seen ∷ w.seen ∷ v.olds) = subst (λ (z : View S E N). Each (λ (o : List E). IsPrefix o h) z.olds) joined begun in
     let both = longer_begun v.seen w.seen h all.0 all.1.0 in
-    let same : n.seen ≡ longer v.seen w.seen = looked ∙ ap (λ (z : View S E N). z.seen) joined in
+    let same : n.seen ≡ longer_list v.seen w.seen = looked ∙ ap (λ (z : View S E N). z.seen) joined in
     (subst (IsPrefix v.seen) (sym same) both.0, subst (λ z. IsPrefix z n.seen) from (subst (IsPrefix w.seen) (sym same) both.1))

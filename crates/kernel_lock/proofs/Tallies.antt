@@ -5,11 +5,11 @@ use mathlib.Core.Option.{some, some-injective}
 use lib.ListN.{get_elem?}
 use Rattle.kernel_lock.specs.declared.board.Part.{Part}
 use Rattle.kernel_lock.specs.Seats.{HasAll}
-use Rattle.kernel_lock.specs.Tally.{out, worth}
+use Rattle.kernel_lock.specs.Tally.{sum_out, worth}
 
-pub out_none : (n : ℕ) → out (replicate n None) ≡ 0
+pub out_none : (n : ℕ) → sum_out (replicate n None) ≡ 0
 out_none zero = refl
-out_none (suc n) = let rest = out_none n in let e : out (replicate (suc n) None) ≡ 0 + out (replicate n None) = refl in omega (arith, rest, e)
+out_none (suc n) = let rest = out_none n in let e : sum_out (replicate (suc n) None) ≡ 0 + sum_out (replicate n None) = refl in omega (arith, rest, e)
 
 pub all_one : {A : Type 0} (P : A → Type 0) (x : A) → P x → All P (x ∷ [])
 all_one P x p zero d lt = p
@@ -20,21 +20,21 @@ all_two P x y p q zero d lt = p
 all_two P x y p q (suc zero) d lt = q
 all_two P x y p q (suc (suc k)) d lt = absurd (omega (arith, lt))
 
-pub out_two : (ns : List (Option ℕ)) (x y : Option ℕ) → length ns ≡ 2 → get_elem? ns 0 ≡ some x → get_elem? ns 1 ≡ some y → out ns ≡ worth x + worth y
+pub out_two : (ns : List (Option ℕ)) (x y : Option ℕ) → length ns ≡ 2 → get_elem? ns 0 ≡ some x → get_elem? ns 1 ≡ some y → sum_out ns ≡ worth x + worth y
 out_two [] x y long a b = absurd (omega (arith, long))
 out_two (n ∷ []) x y long a b = absurd (omega (arith, long))
 out_two (n ∷ m ∷ []) x y long a b =
     let p : worth n ≡ worth x = ap worth (some-injective n x a) in
     let q : worth m ≡ worth y = ap worth (some-injective m y b) in
-    let e : out (n ∷ m ∷ []) ≡ worth n + (worth m + 0) = refl in omega (arith, p, q, e)
+    let e : sum_out (n ∷ m ∷ []) ≡ worth n + (worth m + 0) = refl in omega (arith, p, q, e)
 out_two (n ∷ m ∷ l ∷ ns) x y long a b = let k : length (n ∷ m ∷ l ∷ ns) ≡ length ns + 3 = omega arith in absurd (omega (arith, long, k))
 
-pub out_three : (ns : List (Option ℕ)) (x y z : Option ℕ) → length ns ≡ 3 → get_elem? ns 0 ≡ some x → get_elem? ns 1 ≡ some y → get_elem? ns 2 ≡ some z → out ns ≡ worth x + (worth y + worth z)
+pub out_three : (ns : List (Option ℕ)) (x y z : Option ℕ) → length ns ≡ 3 → get_elem? ns 0 ≡ some x → get_elem? ns 1 ≡ some y → get_elem? ns 2 ≡ some z → sum_out ns ≡ worth x + (worth y + worth z)
 out_three [] x y z long a b c = absurd (omega (arith, long))
 out_three (n ∷ ns) x y z long a b c =
     let p : worth n ≡ worth x = ap worth (some-injective n x a) in
     let rest = out_two ns y z (omega (arith, long)) b c in
-    let e : out (n ∷ ns) ≡ worth n + out ns = refl in omega (arith, p, rest, e)
+    let e : sum_out (n ∷ ns) ≡ worth n + sum_out ns = refl in omega (arith, p, rest, e)
 
 module _ {E N : Type 0} where
   pub has_two : (p q : Part E N) (n : ℕ) → n ≡ 2 → p.number ≡ 0 → q.number ≡ 1 → HasAll n (p ∷ q ∷ [])

@@ -16,8 +16,8 @@ Each P [] = Unit {0}
 Each P (x ∷ xs) = P x × Each P xs
 
 -- The longer of two lists.
-abbrev pub longer : {A : Type 0} → List A → List A → List A
-longer xs ys = if ltb (length xs) (length ys) then ys else xs
+abbrev pub longer_list : {A : Type 0} → List A → List A → List A
+longer_list xs ys = if ltb (length xs) (length ys) then ys else xs
 
 -- The slots that a seat has: the one slot while it is inside, out of which it has taken the state.
 abbrev pub hand : {S : Type 0} → Bool → List (ℕ × Option S)
@@ -30,39 +30,39 @@ module _ {S E N : Type 0} where
   dealer_at o seats n = record { opening = Some o; seats = seats; state = None; inside = false; seated = false; deals = true; number = n; note = None; own = []; others = []; seen = []; olds = []; refused = 0; refused_by = None; leaves = 0; emptied = 0; last_emptied = None }
 
   -- A view that knows nothing, and that of a seat which is spent.
-  abbrev pub blank : View S E N
-  blank = record { opening = None; seats = 0; state = None; inside = false; seated = false; deals = false; number = 0; note = None; own = []; others = []; seen = []; olds = []; refused = 0; refused_by = None; leaves = 0; emptied = 0; last_emptied = None }
+  abbrev pub blank_view : View S E N
+  blank_view = record { opening = None; seats = 0; state = None; inside = false; seated = false; deals = false; number = 0; note = None; own = []; others = []; seen = []; olds = []; refused = 0; refused_by = None; leaves = 0; emptied = 0; last_emptied = None }
 
   -- A courier has a copy of what a seat has seen.
   abbrev pub courier : View S E N → View S E N
   courier v = record { opening = v.opening; seats = v.seats; state = None; inside = false; seated = false; deals = false; number = 0; note = None; own = []; others = []; seen = v.seen; olds = []; refused = 0; refused_by = None; leaves = 0; emptied = 0; last_emptied = None }
 
   -- A new seat with the dealer's next number.
-  abbrev pub dealt : View S E N → View S E N
-  dealt v = record { opening = v.opening; seats = v.seats; state = None; inside = false; seated = true; deals = false; number = v.number; note = None; own = []; others = []; seen = []; olds = []; refused = 0; refused_by = None; leaves = 0; emptied = 0; last_emptied = None }
+  abbrev pub dealt_seat : View S E N → View S E N
+  dealt_seat v = record { opening = v.opening; seats = v.seats; state = None; inside = false; seated = true; deals = false; number = v.number; note = None; own = []; others = []; seen = []; olds = []; refused = 0; refused_by = None; leaves = 0; emptied = 0; last_emptied = None }
 
   abbrev pub dealer_after : View S E N → View S E N
   dealer_after v = record v { number = v.number + 1 }
 
   abbrev pub longer_seen : View S E N → View S E N → View S E N
-  longer_seen v w = record v { seen = longer v.seen w.seen; olds = v.seen ∷ w.seen ∷ v.olds }
+  longer_seen v w = record v { seen = longer_list v.seen w.seen; olds = v.seen ∷ w.seen ∷ v.olds }
 
   abbrev pub known_of : View S E N → Part E N
   known_of v = record { number = v.number; note = v.note; own = v.own; seen = v.seen }
 
   -- Whoever closes keeps what is known of the seat that it takes in.
-  abbrev pub gathered : View S E N → View S E N → View S E N
-  gathered v w = record v { others = known_of w ∷ v.others }
+  abbrev pub with_known_seat : View S E N → View S E N → View S E N
+  with_known_seat v w = record v { others = known_of w ∷ v.others }
 
   -- Whoever closes knows nothing besides.
-  abbrev pub gathered_of : List (Part E N) → View S E N
-  gathered_of ps = record blank { others = ps }
+  abbrev pub gatherer_of : List (Part E N) → View S E N
+  gatherer_of ps = record blank_view { others = ps }
 
   abbrev pub goes_in : View S E N → S → View S E N
   goes_in v s = record v { inside = true; state = Some s }
 
-  abbrev pub is_refused : View S E N → ℕ → View S E N
-  is_refused v k = record v { refused = v.refused + 1; refused_by = Some k }
+  abbrev pub with_refused_try : View S E N → ℕ → View S E N
+  with_refused_try v k = record v { refused = v.refused + 1; refused_by = Some k }
 
   abbrev pub goes_out : View S E N → View S E N
   goes_out v = record v { inside = false }
@@ -120,24 +120,24 @@ module _ {S E N : Type 0} (seat_of : E → ℕ) (history : S → List E) (fits :
     pub each : (j : ℕ) (v : View S E N) → get_elem? s.views j ≡ some v → Knows seat_of history opening seats core notes owner (slice_index s.words 0) holder j v
 
   -- Taking the turn: where nobody had it, the seat is inside, has the slot with the state in it, and the state is as is promised to whoever enters. Otherwise the turn word named another seat, and one more try is refused.
-  abbrev pub took : Step (Option S) → Me (Option S) (View S E N) → ℕ → Me (Option S) (View S E N) → Type 0
-  took st m r m' =
+  abbrev pub TakesTurn : Step (Option S) → Me (Option S) (View S E N) → ℕ → Me (Option S) (View S E N) → Type 0
+  TakesTurn st m r m' =
       (r ≡ 0 → (s : S) × (m' ≡ (goes_in m.0 s, (0, Some s) ∷ [])) × ((o : S) → m.0.opening ≡ Some o → IsEntered seat_of history fits o m.0.seats (known_of m.0) s))
-      × (r ≢ 0 → (k : ℕ) × (r ≡ k + 1) × (k ≢ m.0.number) × ((o : S) → m.0.opening ≡ Some o → k < m.0.seats) × (m' ≡ (is_refused m.0 k, [])))
+      × (r ≢ 0 → (k : ℕ) × (r ≡ k + 1) × (k ≢ m.0.number) × ((o : S) → m.0.opening ≡ Some o → k < m.0.seats) × (m' ≡ (with_refused_try m.0 k, [])))
 
 module _ {S E N : Type 0} where
   -- Making known: the view has the state and the note that are said.
-  abbrev pub recorded : (E → ℕ) → (S → List E) → Option S → Option N → Step (Option S) → Me (Option S) (View S E N) → ℕ → Me (Option S) (View S E N) → Type 0
-  recorded seat_of history said n st m r m' = (t : S) → said ≡ Some t → m' ≡ (writes seat_of history m.0 t n, m.1)
+  abbrev pub MakesKnown : (E → ℕ) → (S → List E) → Option S → Option N → Step (Option S) → Me (Option S) (View S E N) → ℕ → Me (Option S) (View S E N) → Type 0
+  MakesKnown seat_of history said n st m r m' = (t : S) → said ≡ Some t → m' ≡ (writes seat_of history m.0 t n, m.1)
 
   -- Releasing: the seat is outside and has no slot.
-  abbrev pub released : Step (Option S) → Me (Option S) (View S E N) → ℕ → Me (Option S) (View S E N) → Type 0
-  released st m r m' = m' ≡ (goes_out m.0, [])
+  abbrev pub ReleasesTurn : Step (Option S) → Me (Option S) (View S E N) → ℕ → Me (Option S) (View S E N) → Type 0
+  ReleasesTurn st m r m' = m' ≡ (goes_out m.0, [])
 
   -- Looking: a history as long as the word says begins with what the seat had seen and with each old one that a join left it. What it has seen has of its entries just those that it made.
-  abbrev pub looked : (E → ℕ) → Step (Option S) → Me (Option S) (View S E N) → ℕ → Me (Option S) (View S E N) → Type 0
-  looked seat_of st m r m' = (h : List E) × (length h ≡ r) × IsPrefix m.0.seen h × Each (λ o. IsPrefix o h) m.0.olds × (m' ≡ (record m.0 { olds = [] }, m.1)) × (m.0.seated ≡ true → entries_by seat_of m.0.number m.0.seen ≡ m.0.own)
+  abbrev pub LooksAtLength : (E → ℕ) → Step (Option S) → Me (Option S) (View S E N) → ℕ → Me (Option S) (View S E N) → Type 0
+  LooksAtLength seat_of st m r m' = (h : List E) × (length h ≡ r) × IsPrefix m.0.seen h × Each (λ o. IsPrefix o h) m.0.olds × (m' ≡ (record m.0 { olds = [] }, m.1)) × (m.0.seated ≡ true → entries_by seat_of m.0.number m.0.seen ≡ m.0.own)
 
   -- Sitting down: a new seat that knows nothing.
-  abbrev pub sat : Step (Option S) → Me (Option S) (View S E N) → ℕ → Me (Option S) (View S E N) → Type 0
-  sat st m r m' = m' ≡ (blank, [])
+  abbrev pub SitsDown : Step (Option S) → Me (Option S) (View S E N) → ℕ → Me (Option S) (View S E N) → Type 0
+  SitsDown st m r m' = m' ≡ (blank_view, [])

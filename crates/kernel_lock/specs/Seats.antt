@@ -67,12 +67,12 @@ module _ {S E N : Type 0} where
   AreNew l vs = (k : ℕ) (d : SeatView S E N) → k < length vs → slice_index_or vs k d ≡ newcomer l k
 
   -- The seat is inside, with this state.
-  abbrev pub entered : SeatView S E N → S → SeatView S E N
-  entered v s = record v { inside = true; state = Some s }
+  abbrev pub after_enter : SeatView S E N → S → SeatView S E N
+  after_enter v s = record v { inside = true; state = Some s }
 
   -- One more of its tries was refused: the seat k had the turn.
-  abbrev pub refused_by : SeatView S E N → ℕ → SeatView S E N
-  refused_by v k = record v { refused = v.refused + 1; refused_by = Some k }
+  abbrev pub after_refusal : SeatView S E N → ℕ → SeatView S E N
+  after_refusal v k = record v { refused = v.refused + 1; refused_by = Some k }
 
   -- The seat is the same but for its refused tries, which are no fewer.
   abbrev pub HasTried : SeatView S E N → SeatView S E N → Type 0
@@ -80,8 +80,8 @@ module _ {S E N : Type 0} where
 
 module _ {S E N : Type 0} (seat_of : E → ℕ) (history : S → List E) where
   -- The seat is outside and has left the state t and the note n: it has seen all of t's history, and the entries that this has of the seat are its own.
-  abbrev pub left : SeatView S E N → S → Option N → SeatView S E N
-  left v t n = record v {
+  abbrev pub after_leave : SeatView S E N → S → Option N → SeatView S E N
+  after_leave v t n = record v {
     inside = false;
     state = Some t;
     note = n;

@@ -17,9 +17,9 @@ worth (Some n) = 1
 worth None = 0
 
 -- How many disks are out.
-abbrev pub out : List (Option ℕ) → ℕ
-out [] = 0
-out (n ∷ ns) = worth n + out ns
+abbrev pub count_out : List (Option ℕ) → ℕ
+count_out [] = 0
+count_out (n ∷ ns) = worth n + count_out ns
 
 abbrev pub AtLeast : ℕ → Option ℕ → Type 0
 AtLeast b (Some n) = b ≤ n
@@ -29,39 +29,39 @@ module _ {D : Type 0} where
   abbrev pub entries : StoreView D → List (ℕ × ℕ)
   entries s = s.history
 
-  abbrev pub home : Option D → ℕ
-  home (Some d) = 1
-  home None = 0
+  abbrev pub count_home : Option D → ℕ
+  count_home (Some d) = 1
+  count_home None = 0
 
 module _ {D : Type 0} (count : D → ℕ) where
   -- A note is the count of the disk that is out.
-  abbrev pub note_of : Option D → Option ℕ
-  note_of (Some d) = Some (count d)
-  note_of None = None
+  abbrev pub note_of_disk : Option D → Option ℕ
+  note_of_disk (Some d) = Some (count d)
+  note_of_disk None = None
 
   -- The disk is at home or out with exactly one seat, and its count is at least what it was at the opening.
   pub record FitsStore (opening s : StoreView D) (notes : List (Option ℕ)) : Type 0 where
-    pub one : home s.disk + out notes ≡ 1
-    pub risen : (o : D) → opening.disk ≡ Some o → AtLeast (count o) (note_of s.disk) × ((k : ℕ) (n : Option ℕ) → get_elem? notes k ≡ some n → AtLeast (count o) n)
+    pub one : count_home s.disk + count_out notes ≡ 1
+    pub risen : (o : D) → opening.disk ≡ Some o → AtLeast (count o) (note_of_disk s.disk) × ((k : ℕ) (n : Option ℕ) → get_elem? notes k ≡ some n → AtLeast (count o) n)
 
   -- A seat may take the disk out or bring it home with a count that is no less, and add entries of its own.
   pub record MovesStore (k : ℕ) (s : StoreView D) (n : Option ℕ) (t : StoreView D) (m : Option ℕ) : Type 0 where
     pub added : List (ℕ × ℕ)
     pub longer : entries t ≡ entries s ++ added
     pub by : All (λ (e : ℕ × ℕ). e.0 ≡ k) added
-    pub even : home t.disk + worth m ≡ home s.disk + worth n
-    pub rises : (b : ℕ) → AtLeast b (note_of s.disk) → AtLeast b n → AtLeast b (note_of t.disk) × AtLeast b m
+    pub even : count_home t.disk + worth m ≡ count_home s.disk + worth n
+    pub rises : (b : ℕ) → AtLeast b (note_of_disk s.disk) → AtLeast b n → AtLeast b (note_of_disk t.disk) × AtLeast b m
 
-out_set : (ns : List (Option ℕ)) (k : ℕ) (n m : Option ℕ) → get_elem? ns k ≡ some n → out (slice_set ns k m) + worth n ≡ out ns + worth m
+out_set : (ns : List (Option ℕ)) (k : ℕ) (n m : Option ℕ) → get_elem? ns k ≡ some n → count_out (slice_set ns k m) + worth n ≡ count_out ns + worth m
 out_set [] k n m e = absurd (some-ne-none n (sym e))
 out_set (x ∷ xs) zero n m e =
     let same : worth x ≡ worth n = ap worth (some-injective x n e) in
-    let a : out (slice_set (x ∷ xs) zero m) ≡ worth m + out xs = refl in
-    let b : out (x ∷ xs) ≡ worth x + out xs = refl in omega (arith, same, a, b)
+    let a : count_out (slice_set (x ∷ xs) zero m) ≡ worth m + count_out xs = refl in
+    let b : count_out (x ∷ xs) ≡ worth x + count_out xs = refl in omega (arith, same, a, b)
 out_set (x ∷ xs) (suc k) n m e =
     let rest = out_set xs k n m e in
-    let a : out (slice_set (x ∷ xs) (suc k) m) ≡ worth x + out (slice_set xs k m) = refl in
-    let b : out (x ∷ xs) ≡ worth x + out xs = refl in omega (arith, rest, a, b)
+    let a : count_out (slice_set (x ∷ xs) (suc k) m) ≡ worth x + count_out (slice_set xs k m) = refl in
+    let b : count_out (x ∷ xs) ≡ worth x + count_out xs = refl in omega (arith, rest, a, b)
 
 each_set : (P : Option ℕ → Type 0) (ns : List (Option ℕ)) (k : ℕ) (m : Option ℕ) → P m → ((i : ℕ) (n : Option ℕ) → get_elem? ns i ≡ some n → P n) → (i : ℕ) (n : Option ℕ) → get_elem? (slice_set ns k m) i ≡ some n → P n
 each_set P [] k m here all i n e = absurd (some-ne-none n (sym e))
@@ -71,13 +71,13 @@ each_set P (x ∷ xs) (suc k) m here all zero n e = all zero n e
 each_set P (x ∷ xs) (suc k) m here all (suc i) n e = each_set P xs k m here (λ j. all (suc j)) i n e
 
 -- Where a seat has the disk, it is not at home.
-pub is_out : (ns : List (Option ℕ)) (k n : ℕ) → get_elem? ns k ≡ some (Some n) → 1 ≤ out ns
+pub is_out : (ns : List (Option ℕ)) (k n : ℕ) → get_elem? ns k ≡ some (Some n) → 1 ≤ count_out ns
 is_out [] k n e = absurd (some-ne-none (Some n) (sym e))
-is_out (x ∷ xs) zero n e = let same : worth x ≡ 1 = ap worth (some-injective x (Some n) e) in let b : out (x ∷ xs) ≡ worth x + out xs = refl in omega (arith, same, b)
-is_out (x ∷ xs) (suc k) n e = let rest = is_out xs k n e in let b : out (x ∷ xs) ≡ worth x + out xs = refl in omega (arith, rest, b)
+is_out (x ∷ xs) zero n e = let same : worth x ≡ 1 = ap worth (some-injective x (Some n) e) in let b : count_out (x ∷ xs) ≡ worth x + count_out xs = refl in omega (arith, same, b)
+is_out (x ∷ xs) (suc k) n e = let rest = is_out xs k n e in let b : count_out (x ∷ xs) ≡ worth x + count_out xs = refl in omega (arith, rest, b)
 
 module _ {D : Type 0} where
-  pub not_home : (d : Option D) → home d ≡ 0 → d ≡ None
+  pub not_home : (d : Option D) → count_home d ≡ 0 → d ≡ None
   not_home (Some d) e = absurd (omega (arith, e))
   not_home None e = refl
 

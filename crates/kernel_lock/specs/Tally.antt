@@ -28,13 +28,13 @@ worth (Some n) = n
 worth None = 0
 
 -- The numbers that are out, added up.
-abbrev pub out : List (Option ℕ) → ℕ
-out [] = 0
-out (n ∷ ns) = worth n + out ns
+abbrev pub sum_out : List (Option ℕ) → ℕ
+sum_out [] = 0
+sum_out (n ∷ ns) = worth n + sum_out ns
 
 -- The sum and the numbers that are out add up to the list's total.
 abbrev pub FitsTally : TallyView → TallyView → List (Option ℕ) → Type 0
-FitsTally opening t notes = t.sum + out notes ≡ total (entries t)
+FitsTally opening t notes = t.sum + sum_out notes ≡ total (entries t)
 
 -- A seat may add entries of its own, and move numbers between the sum and its note.
 abbrev pub MovesTally : ℕ → TallyView → Option ℕ → TallyView → Option ℕ → Type 0
@@ -44,16 +44,16 @@ MovesTally k s n t m = (added : List (ℕ × ℕ)) × (entries t ≡ entries s +
 abbrev pub IsOutside : LockView TallyView → SeatView TallyView (ℕ × ℕ) ℕ → Type 0
 IsOutside l v = IsSeatOf l v × (v.inside ≡ false)
 
-pub out_set : (ns : List (Option ℕ)) (k : ℕ) (n m : Option ℕ) → get_elem? ns k ≡ some n → out (slice_set ns k m) + worth n ≡ out ns + worth m
+pub out_set : (ns : List (Option ℕ)) (k : ℕ) (n m : Option ℕ) → get_elem? ns k ≡ some n → sum_out (slice_set ns k m) + worth n ≡ sum_out ns + worth m
 out_set [] k n m e = absurd (some-ne-none n (sym e))
 out_set (x ∷ xs) zero n m e =
     let same : worth x ≡ worth n = ap worth (some-injective x n e) in
-    let a : out (slice_set (x ∷ xs) zero m) ≡ worth m + out xs = refl in
-    let b : out (x ∷ xs) ≡ worth x + out xs = refl in omega (arith, same, a, b)
+    let a : sum_out (slice_set (x ∷ xs) zero m) ≡ worth m + sum_out xs = refl in
+    let b : sum_out (x ∷ xs) ≡ worth x + sum_out xs = refl in omega (arith, same, a, b)
 out_set (x ∷ xs) (suc k) n m e =
     let rest = out_set xs k n m e in
-    let a : out (slice_set (x ∷ xs) (suc k) m) ≡ worth x + out (slice_set xs k m) = refl in
-    let b : out (x ∷ xs) ≡ worth x + out xs = refl in omega (arith, rest, a, b)
+    let a : sum_out (slice_set (x ∷ xs) (suc k) m) ≡ worth x + sum_out (slice_set xs k m) = refl in
+    let b : sum_out (x ∷ xs) ≡ worth x + sum_out xs = refl in omega (arith, rest, a, b)
 
 pub keeps_of : (opening s t : TallyView) (notes : List (Option ℕ)) (k : ℕ) (n m : Option ℕ) → FitsTally opening s notes → get_elem? notes k ≡ some n → MovesTally k s n t m → FitsTally opening t (slice_set notes k m)
 keeps_of opening s t notes k n m fits at (added, longer, all, even) =

@@ -1,7 +1,7 @@
 //! How a lock is closed: the seats are gathered, and the state comes out.
 ghost use Rattle.std.specs.Prelude.{◌≡◌, false, [], ◌∷◌, map, replicate, None};
 ghost use Rattle.std.specs.List.{All};
-ghost use Rattle.kernel_lock.specs.Rule.{gathered_of};
+ghost use Rattle.kernel_lock.specs.Rule.{gatherer_of};
 ghost use Rattle.kernel_lock.specs.Seats.{IsSeatOf, HasAll, IsClosed, part_of};
 
 use crate::board::Place;
@@ -21,13 +21,13 @@ pub struct GatheredAt<S, E, N> {
 impl<S, E, N> Model for GatheredAt<S, E, N> {
     ghost use Rattle.std.specs.Prelude.{◌≡◌, []};
     ghost use Rattle.kernel_lock.specs.Seats.{GatheredView};
-    ghost use Rattle.kernel_lock.specs.Rule.{gathered_of};
+    ghost use Rattle.kernel_lock.specs.Rule.{gatherer_of};
 
     ghost Value = { GatheredView E N };
 
     ghost view = { λ g. record { lock = g.place.table_id; parts = g.place.me.0.others } };
 
-    ghost invariant = { λ g. g.place.me ≡ (gathered_of g.place.me.0.others, []) };
+    ghost invariant = { λ g. g.place.me ≡ (gatherer_of g.place.me.0.others, []) };
 }
 
 impl<S, E, N> Drop for GatheredAt<S, E, N> {
@@ -40,7 +40,7 @@ impl<S, E, N> Drop for GatheredAt<S, E, N> {
 impl<S, E, N> GatheredAt<S, E, N> {
     fn into_place(self) -> Place<S, E, N>
         ensures lock { result.table_id ≡ self.lock }
-        ensures parts { result.me ≡ (gathered_of self.parts, []) }
+        ensures parts { result.me ≡ (gatherer_of self.parts, []) }
     {
         let Self { place } = self;
         place

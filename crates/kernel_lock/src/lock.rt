@@ -2,7 +2,7 @@
 ghost use Rattle.std.specs.Prelude.{◌≡◌, ◌≢◌, ◌<◌, ℕ, true, false, [], Option, Some, IfSome, IfNone};
 ghost use mathlib.Core.List.{IsPrefix};
 ghost use Rattle.kernel_lock.specs.Rule.{writes};
-ghost use Rattle.kernel_lock.specs.Seats.{IsSeatOf, part_of, entered, refused_by, HasTried, left, entries_by, IsEntered};
+ghost use Rattle.kernel_lock.specs.Seats.{IsSeatOf, part_of, after_enter, after_refusal, HasTried, after_leave, entries_by, IsEntered};
 
 use crate::bell::Bell;
 use crate::board::{About, LockRule, Place, View};
@@ -50,10 +50,10 @@ impl<S: Guarded> KernelLock<S> {
         //
         ensures state { IfSome result (λ s. IsEntered S.seat_of S.history S.fits
             self.now.opening self.now.seats (part_of seat.old) s) }
-        ensures inside { IfSome result (λ s. seat.new ≡ entered seat.old s) }
+        ensures inside { IfSome result (λ s. seat.new ≡ after_enter seat.old s) }
         //
         ensures refused { IfNone result ((k : ℕ) × (k ≢ seat.old.number) × (k < self.now.seats)
-            × (seat.new ≡ refused_by seat.old k)) }
+            × (seat.new ≡ after_refusal seat.old k)) }
     {
         let mine = seat.number as u64 + 1;
         let found = self
@@ -73,7 +73,7 @@ impl<S: Guarded> KernelLock<S> {
         ensures seat { IsSeatOf self.now seat.new }
         ensures state { IsEntered S.seat_of S.history S.fits
             self.now.opening self.now.seats (part_of seat.old) result }
-        ensures inside { HasTried (entered seat.old result) seat.new }
+        ensures inside { HasTried (after_enter seat.old result) seat.new }
     {
         for _ in rt.forever() {
             let seen = self.leaves();
@@ -119,7 +119,8 @@ impl<S: Guarded> KernelLock<S> {
             × S.moves seat.old.number s seat.old.note state (S.note_of held.now) }
         //
         ensures seat { IsSeatOf self.now seat.new }
-        ensures left { seat.new ≡ left S.seat_of S.history seat.old state (S.note_of held.now) }
+        ensures new { seat.new
+            ≡ after_leave S.seat_of S.history seat.old state (S.note_of held.now) }
     {
         self.write_down::<Brand>(&mut seat.place, &state, held);
         let before = self.table.shared.exchange(&mut seat.place, 0, Some(state));

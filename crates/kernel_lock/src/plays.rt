@@ -1,6 +1,6 @@
 //! What each step on the table tells the seat that makes it.
 ghost use Rattle.std.specs.Prelude.{Option, None};
-ghost use Rattle.kernel_lock.specs.Rule.{took, recorded, released, looked, courier, longer_seen, blank, dealt, dealer_after, gathered, sat};
+ghost use Rattle.kernel_lock.specs.Rule.{TakesTurn, MakesKnown, ReleasesTurn, LooksAtLength, courier, longer_seen, blank_view, dealt_seat, dealer_after, with_known_seat, SitsDown};
 
 use crate::board::View;
 use crate::guarded::Guarded;
@@ -26,7 +26,7 @@ pub(crate) struct Take<S> {
 }
 
 impl<S: Guarded> Play<Option<S>, View<S, S::Entry, S::Note>> for Take<S> {
-    ghost then = { took S.seat_of S.history S.fits };
+    ghost then = { TakesTurn S.seat_of S.history S.fits };
 }
 
 /// The holder makes its new state and note known. Here one event takes effect.
@@ -35,14 +35,14 @@ pub(crate) struct Record<S, W> {
 }
 
 impl<S: Guarded, W: Said<S, S::Note>> Play<Option<S>, View<S, S::Entry, S::Note>> for Record<S, W> {
-    ghost then = { recorded S.seat_of S.history W.state W.note };
+    ghost then = { MakesKnown S.seat_of S.history W.state W.note };
 }
 
 /// The holder gives the turn up.
 pub(crate) struct Release;
 
 impl<S, E, N> Play<Option<S>, View<S, E, N>> for Release {
-    ghost then = { released };
+    ghost then = { ReleasesTurn };
 }
 
 /// A seat reads how long the history is.
@@ -51,7 +51,7 @@ pub(crate) struct Look<S> {
 }
 
 impl<S: Guarded> Play<Option<S>, View<S, S::Entry, S::Note>> for Look<S> {
-    ghost then = { looked S.seat_of };
+    ghost then = { LooksAtLength S.seat_of };
 }
 
 /// A seat keeps its view, and a courier has what it has seen.
@@ -69,7 +69,7 @@ pub(crate) struct Glue;
 impl<S, E, N> Join<View<S, E, N>> for Glue {
     ghost both = { longer_seen };
 
-    ghost spent = { blank };
+    ghost spent = { blank_view };
 }
 
 /// The dealer gives the next number to a new seat.
@@ -78,21 +78,21 @@ pub(crate) struct Deal;
 impl<S, E, N> Split<View<S, E, N>> for Deal {
     ghost left = { dealer_after };
 
-    ghost right = { dealt };
+    ghost right = { dealt_seat };
 }
 
 /// Whoever closes takes in a seat with its number.
 pub(crate) struct Gather;
 
 impl<S, E, N> Join<View<S, E, N>> for Gather {
-    ghost both = { gathered };
+    ghost both = { with_known_seat };
 
-    ghost spent = { blank };
+    ghost spent = { blank_view };
 }
 
 /// A seat that knows nothing.
 pub(crate) struct Sit;
 
 impl<S, E, N> Play<Option<S>, View<S, E, N>> for Sit {
-    ghost then = { sat };
+    ghost then = { SitsDown };
 }

@@ -1,7 +1,7 @@
 //! A state that is generic in a disk, which one seat at a time may have outside the lock.
 ghost use Rattle.std.specs.Prelude.{◌≡◌, ℕ, ◌≤◌, List, false, [], None, Some, IfSome};
 ghost use Rattle.kernel_lock.specs.Seats.{IsSeatOf};
-ghost use Rattle.kernel_lock.specs.Store.{MovesStore, AtLeast, note_of};
+ghost use Rattle.kernel_lock.specs.Store.{MovesStore, AtLeast, note_of_disk};
 
 use crate::adders::last_seat;
 use crate::guarded::Guarded;
@@ -42,7 +42,7 @@ impl<D: Disk> Guarded for Store<D> {
     ghost use Rattle.kernel_lock.specs.Store.{
       seat_named,
       entries,
-      note_of,
+      note_of_disk,
       FitsStore,
       MovesStore,
       keeps_of,
@@ -59,7 +59,7 @@ impl<D: Disk> Guarded for Store<D> {
 
     ghost history = { entries };
 
-    ghost note_of = { note_of D.count };
+    ghost note_of = { note_of_disk D.count };
 
     ghost fits = { FitsStore D.count };
 
@@ -77,7 +77,8 @@ impl<D: Disk> Guarded for Store<D> {
 impl<D: Disk> Store<D> {
     /// Takes the disk out, if it is at home.
     pub fn send(&mut self) -> Option<D>
-        ensures { (k : ℕ) → MovesStore D.count k self.old None self.new (note_of D.count result) }
+        ensures { (k : ℕ)
+            → MovesStore D.count k self.old None self.new (note_of_disk D.count result) }
     {
         self.disk.take()
     }
@@ -149,7 +150,7 @@ pub fn close_store<D: Disk>(
     requires outside { (first.inside ≡ false) × (second.inside ≡ false) }
     requires numbers { (first.number ≡ 0) × (second.number ≡ 1) }
     ensures { (o : D) → lock.opening.disk ≡ Some o
-        → AtLeast (D.count o) (note_of D.count result.disk) }
+        → AtLeast (D.count o) (note_of_disk D.count result.disk) }
 {
     let mut from = lock.gather_none();
     lock.gather(&mut from, second);
@@ -163,7 +164,7 @@ pub fn share_disk<R: Threads + Wait + Sync, D: Disk + Send>(
     alloc: Global,
     disk: D,
 ) -> Option<Store<D>>
-    ensures { IfSome result (λ s. AtLeast (D.count disk) (note_of D.count s.disk)) }
+    ensures { IfSome result (λ s. AtLeast (D.count disk) (note_of_disk D.count s.disk)) }
 {
     let store = Store {
         disk: Some(disk),

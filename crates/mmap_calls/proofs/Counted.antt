@@ -4,7 +4,7 @@ use Rattle.std.specs.Prelude.{option_map, is_some}
 use Rattle.std.specs.FinMap as finite
 use Rattle.std.specs.Cmp.{nat_cmp_total}
 use Rattle.std.proofs.lemmas.Bool.{cases_eq, eq-eqb, ne_eqb}
-use Rattle.addr_space.specs.Space.{Part, at, part_at, page_total, IsInOrder}
+use Rattle.addr_space.specs.Space.{Part, piece_at, part_at, page_total, IsInOrder}
 use Rattle.addr_space.proofs.PageLaws.{shows}
 use Rattle.flat_model.specs.Flat.{Cell, Space}
 use Rattle.flat_model.specs.Space.{in_range, without_range}
@@ -13,10 +13,10 @@ use Rattle.vm_world.specs.Segments.{Spot}
 use Rattle.vm_world.specs.SpaceSteps.{file_cell, file_space}
 use Rattle.vm_world.specs.declared.segment.Segment.{Segment}
 use Rattle.vm_world.proofs.FileMappings.{get-file_space, len-file_space}
-use Rattle.mmap_calls.specs.FileMaps.{mapped_in}
+use Rattle.mmap_calls.specs.FileMaps.{mapped_pages}
 
 -- no more than there are
-pub mapped-few : (parts : List (Part Segment)) (first n : ℕ) → mapped_in parts first n ≤ n
+pub mapped-few : (parts : List (Part Segment)) (first n : ℕ) → mapped_pages parts first n ≤ n
 mapped-few parts first zero = omega arith
 mapped-few parts first (suc n) = let more = mapped-few parts first n in let one : cond {A = ℕ} (is_some (part_at parts (first + n))) 1 0 ≤ 1 = by_test (is_some (part_at parts (first + n))) in omega (arith, more, one)
   where
@@ -25,11 +25,11 @@ mapped-few parts first (suc n) = let more = mapped-few parts first n in let one 
     by_test false = omega arith
 
 -- one page more
-pub mapped-next : (parts : List (Part Segment)) (first page : ℕ) → first ≤ page → mapped_in parts first (page + 1 - first) ≡ mapped_in parts first (page - first) + cond {A = ℕ} (is_some (part_at parts page)) 1 0
+pub mapped-next : (parts : List (Part Segment)) (first page : ℕ) → first ≤ page → mapped_pages parts first (page + 1 - first) ≡ mapped_pages parts first (page - first) + cond {A = ℕ} (is_some (part_at parts page)) 1 0
 mapped-next parts first page le =
     let n : page + 1 - first ≡ suc (page - first) = omega arith in
     let at_page : first + (page - first) ≡ page = omega arith in
-    ap (mapped_in parts first) n ∙ ap (λ (q : ℕ). mapped_in parts first (page - first) + cond {A = ℕ} (is_some (part_at parts q)) 1 0) at_page
+    ap (mapped_pages parts first) n ∙ ap (λ (q : ℕ). mapped_pages parts first (page - first) + cond {A = ℕ} (is_some (part_at parts q)) 1 0) at_page
 
 -- a space without one page has one cell less, where the page had one
 remove-one : (s : Space) (k : ℕ) (c : Cell) → finite.get s k ≡ Some c → finite.len (finite.remove s k) + 1 ≡ finite.len s
@@ -77,7 +77,7 @@ range-next s first n = same_space _ _ (λ q. get-without_range s first (suc n) q
             sym (in_range-is first n q low (omega (arith, ne))) ∙ x
 
 -- WHAT IS LEFT without the range, and what of it was mapped, is all
-pub left-without : (parts : List (Part Segment)) (first n : ℕ) → IsInOrder 1 parts → finite.len (without_range (file_space parts) first n) + mapped_in parts first n ≡ page_total parts
+pub left-without : (parts : List (Part Segment)) (first n : ℕ) → IsInOrder 1 parts → finite.len (without_range (file_space parts) first n) + mapped_pages parts first n ≡ page_total parts
 left-without parts first zero order =
     let same : without_range (file_space parts) first zero ≡ file_space parts = same_space _ _ (λ q. get-without_range (file_space parts) first zero q ∙ none q (in_range first zero q) refl) in
     let len = len-file_space parts order in
@@ -92,16 +92,16 @@ left-without parts first (suc n) order =
     let next = ap (λ (s : Space). finite.len s) (range-next (file_space parts) first n) in
     by_part (part_at parts (first + n)) refl more next
   where
-    here : finite.get (without_range (file_space parts) first n) (first + n) ≡ option_map (λ (x : Spot). file_cell x.0 x.1) (at parts (first + n))
+    here : finite.get (without_range (file_space parts) first n) (first + n) ≡ option_map (λ (x : Spot). file_cell x.0 x.1) (piece_at parts (first + n))
     here = get-without_range (file_space parts) first n (first + n) ∙ outside (in_range first n (first + n)) refl ∙ get-file_space parts (first + n)
       where
         outside : (b : Bool) → in_range first n (first + n) ≡ b → cond b None (finite.get (file_space parts) (first + n)) ≡ finite.get (file_space parts) (first + n)
         outside false is = refl
         outside true is = absurd (let high = in_range-high first n (first + n) is in omega arith)
 
-    by_part : (o : Option (Part Segment)) → part_at parts (first + n) ≡ o → finite.len (without_range (file_space parts) first n) + mapped_in parts first n ≡ page_total parts
+    by_part : (o : Option (Part Segment)) → part_at parts (first + n) ≡ o → finite.len (without_range (file_space parts) first n) + mapped_pages parts first n ≡ page_total parts
         → finite.len (without_range (file_space parts) first (suc n)) ≡ finite.len (finite.remove (without_range (file_space parts) first n) (first + n))
-        → finite.len (without_range (file_space parts) first (suc n)) + (mapped_in parts first n + cond {A = ℕ} (is_some (part_at parts (first + n))) 1 0) ≡ page_total parts
+        → finite.len (without_range (file_space parts) first (suc n)) + (mapped_pages parts first n + cond {A = ℕ} (is_some (part_at parts (first + n))) 1 0) ≡ page_total parts
     by_part None e more next =
         let none = ap (λ (s : Space). finite.len s) (remove-none (without_range (file_space parts) first n) (first + n) (here ∙ ap (option_map (λ (x : Spot). file_cell x.0 x.1)) (shows parts (first + n) None e))) in
         let zero : cond {A = ℕ} (is_some (part_at parts (first + n))) 1 0 ≡ 0 = ap (λ (o : Option (Part Segment)). cond {A = ℕ} (is_some o) 1 0) e in

@@ -33,7 +33,7 @@ use Rattle.vm_world.proofs.PageNames.{info-there}
 use Rattle.vm_world.proofs.SpaceSteps.{cells-here, space-here, space_rule}
 use Rattle.seg_vn.specs.Clears.{SpaceFits}
 use Rattle.mmap_calls.specs.declared.refusals.FileMap.{FileMap}
-use Rattle.mmap_calls.specs.FileMaps.{map_request, mapped_in, most_allowed, refusal_of}
+use Rattle.mmap_calls.specs.FileMaps.{map_request, mapped_pages, most_allowed, refusal_of}
 use Rattle.mmap_calls.proofs.Counted.{left-without}
 
 -- the tests of a Map, one after another
@@ -137,7 +137,7 @@ module _ (m : Memory) (born : set.FinSet nat_cmp) (notes : Notes) (p : ℕ) (par
   alive-here : IsSome (space_of (flat_memory m born notes) p)
   alive-here = ap is_some (space-here m p parts born notes fits.files (fits.memory.segments.ordered p parts fits.here) fits.here)
 
-  left-here : finite.len (cells_of (without_replaced (flat_memory m born notes) p (At q.addr) (pages_in q.length)) p) ≡ page_total parts - mapped_in parts (page q.addr) (pages_in q.length)
+  left-here : finite.len (cells_of (without_replaced (flat_memory m born notes) p (At q.addr) (pages_in q.length)) p) ≡ page_total parts - mapped_pages parts (page q.addr) (pages_in q.length)
   left-here =
       let order = fits.memory.segments.ordered p parts fits.here in
       let F : Flat = flat_memory m born notes in
@@ -162,7 +162,7 @@ module _ (m : Memory) (born : set.FinSet nat_cmp) (notes : Notes) (p : ℕ) (par
       let t : Bool = nat_lt q.file (length m.world.files.files) in
       let w : Bool = is_within q.prot (most_allowed m.world q.file) in
       let u : Bool = is_within q.prot (max_of F Shared (File q.file)) in
-      let l : Bool = nat_le (page_total parts - mapped_in parts (page q.addr) (pages_in q.length) + pages_in q.length) 65536 in
+      let l : Bool = nat_le (page_total parts - mapped_pages parts (page q.addr) (pages_in q.length) + pages_in q.length) 65536 in
       let backed : ℕ → Bool = λ first. nat_le (reserved (with_mapping F p (map_request q) first)) F.slots in
       let same : map_result F p (map_request q) ≡ tested v t u l (Some (page q.addr)) backed (with_mapping F p (map_request q)) =
       map-tested F p (map_request q)

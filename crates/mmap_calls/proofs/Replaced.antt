@@ -6,7 +6,7 @@ use Rattle.std.specs.FinSet as set
 use Rattle.std.specs.Ordering.{nat_cmp}
 use Rattle.std.specs.Cmp.{nat_cmp_total}
 use Rattle.std.proofs.lemmas.Bool.{cases_Bool, ltb-true, leb-true}
-use Rattle.addr_space.specs.Space.{Part, part, at, part_at, put, page_total, IsPlaced}
+use Rattle.addr_space.specs.Space.{Part, part, piece_at, part_at, put, page_total, LiesFrom}
 use Rattle.addr_space.proofs.PartLemmas.{at-put}
 use Rattle.page_store.specs.Notes.{Notes}
 use Rattle.vnode_files.specs.Files.{FilesSeen}
@@ -45,7 +45,7 @@ use Rattle.seg_ops.proofs.Composed.{keeps-same}
 use Rattle.seg_vn.specs.Clears.{SpaceFits}
 use Rattle.seg_vn.specs.Serves.{IsPlainReply}
 use Rattle.mmap_calls.specs.declared.refusals.FileMap.{FileMap}
-use Rattle.mmap_calls.specs.FileMaps.{AnswersMap, MapsFile, map_request, map_call, cell_of_parts, mapped_in, most_allowed, refusal_of}
+use Rattle.mmap_calls.specs.FileMaps.{AnswersMap, MapsFile, map_request, map_call, cell_of_parts, mapped_pages, most_allowed, refusal_of}
 use Rattle.mmap_calls.proofs.MapResults.{results, most-seen, Passes, passes}
 
 -- nothing is kept of no zero object
@@ -78,7 +78,7 @@ fits-after p m w spaces parts f c = record { here = get-parts (record { world = 
 abbrev pub new_segment : World → FileMap → Segment
 new_segment w q = record { pages = pages_in q.length; prot = q.prot; max = most_allowed w q.file; kind = Shared; object = File q.file; index = page q.offset; own = None; shown = None }
 
-none-part : (ps : List (Part Segment)) (q : ℕ) → at ps q ≡ None → part_at ps q ≡ None
+none-part : (ps : List (Part Segment)) (q : ℕ) → piece_at ps q ≡ None → part_at ps q ≡ None
 none-part ps q is = by_part (part_at ps q) refl is
   where
     by_part : (o : Option (Part Segment)) → part_at ps q ≡ o → option_map {U = Spot} (λ (p : Part Segment). (p.piece, q - p.first)) o ≡ None → part_at ps q ≡ None
@@ -86,12 +86,12 @@ none-part ps q is = by_part (part_at ps q) refl is
     by_part (Some p) e is = absurd (let y : Spot = (p.piece, q - p.first) in let z : Some y ≡ None = is in cc)
 
 -- the range is free once it is cleared
-pub range-free : (cut left : List (Part Segment)) (first n : ℕ) → ((k : ℕ) → at left k ≡ cond (in_range first (first + n - first) k) None (at cut k)) → (k : ℕ) → first ≤ k → k < first + n → part_at left k ≡ None
+pub range-free : (cut left : List (Part Segment)) (first n : ℕ) → ((k : ℕ) → piece_at left k ≡ cond (in_range first (first + n - first) k) None (piece_at cut k)) → (k : ℕ) → first ≤ k → k < first + n → part_at left k ≡ None
 range-free cut left first n clear k low high =
-    none-part left k (clear k ∙ ap (λ (b : Bool). cond b None (at cut k)) (in_range-is first (first + n - first) k low (omega (arith, high))))
+    none-part left k (clear k ∙ ap (λ (b : Bool). cond b None (piece_at cut k)) (in_range-is first (first + n - first) k low (omega (arith, high))))
 
 module _ (m : Memory) (p : ℕ) (parts cut left : List (Part Segment)) (q : FileMap) (fits : SpaceFits m.world m.spaces p parts) (cells : (k : ℕ) → cell_of_parts cut k ≡ cell_of_parts parts k)
-    (clear : (k : ℕ) → at left k ≡ cond (in_range (page q.addr) (page q.addr + pages_in q.length - page q.addr) k) None (at cut k)) (there : nat_lt q.file (length m.world.files.files) ≡ true) where
+    (clear : (k : ℕ) → piece_at left k ≡ cond (in_range (page q.addr) (page q.addr + pages_in q.length - page q.addr) k) None (piece_at cut k)) (there : nat_lt q.file (length m.world.files.files) ≡ true) where
   new-space : (born : set.FinSet nat_cmp) (notes : Notes) → file_space (put (part (page q.addr) (pages_in q.length) (new_segment m.world q)) left)
       ≡ with_cells (cells_of (without_replaced (flat_memory m born notes) p (At q.addr) (pages_in q.length)) p) (page q.addr) (pages_in q.length)
       (new_cell (flat_memory m born notes) (without_replaced (flat_memory m born notes) p (At q.addr) (pages_in q.length)) (map_request q))
@@ -108,12 +108,12 @@ module _ (m : Memory) (p : ℕ) (parts cut left : List (Part Segment)) (q : File
       get-file_space (put x left) k ∙ ap (option_map (λ (y : Spot). file_cell y.0 y.1)) (at-put x left (range-free cut left first n clear) k)
       ∙ elim (cases_Bool (in_range first n k)) [
         | inl inside ↦
-            ap (λ (b : Bool). option_map (λ (y : Spot). file_cell y.0 y.1) (cond b (Some (new_segment m.world q, k - first)) (at left k))) inside
+            ap (λ (b : Bool). option_map (λ (y : Spot). file_cell y.0 y.1) (cond b (Some (new_segment m.world q, k - first)) (piece_at left k))) inside
             ∙ ap (λ (max : Prot). Some (same-cell max (k - first))) (sym (most-seen m born notes q.file there))
             ∙ sym (get-with_cells (cells_of G p) first n (new_cell F G (map_request q)) k ∙ ap (λ (b : Bool). cond b (Some (new_cell F G (map_request q) (k - first))) (finite.get (cells_of G p) k)) inside)
         | inr outside ↦
-            ap (λ (b : Bool). option_map (λ (y : Spot). file_cell y.0 y.1) (cond b (Some (new_segment m.world q, k - first)) (at left k))) outside
-            ∙ ap (option_map (λ (y : Spot). file_cell y.0 y.1)) (clear k ∙ ap (λ (j : ℕ). cond (in_range first j k) None (at cut k)) size ∙ ap (λ (b : Bool). cond b None (at cut k)) outside)
+            ap (λ (b : Bool). option_map (λ (y : Spot). file_cell y.0 y.1) (cond b (Some (new_segment m.world q, k - first)) (piece_at left k))) outside
+            ∙ ap (option_map (λ (y : Spot). file_cell y.0 y.1)) (clear k ∙ ap (λ (j : ℕ). cond (in_range first j k) None (piece_at cut k)) size ∙ ap (λ (b : Bool). cond b None (piece_at cut k)) outside)
             ∙ cells k ∙ sym (get-file_space parts k)
             ∙ sym (get-with_cells (cells_of G p) first n (new_cell F G (map_request q)) k ∙ ap (λ (b : Bool). cond b (Some (new_cell F G (map_request q) (k - first))) (finite.get (cells_of G p) k)) outside
             ∙ ap (λ (s : Space). finite.get s k) was ∙ get-without_range (file_space parts) first n k ∙ ap (λ (b : Bool). cond b None (finite.get (file_space parts) k)) outside)
@@ -136,16 +136,16 @@ module _ (m : Memory) (p : ℕ) (parts cut left : List (Part Segment)) (q : File
 
 -- what a Map that isn't refused asks for passes each test
 pub passed : (w : World) (parts : List (Part Segment)) (q : FileMap) → refusal_of w parts q ≡ None
-    → Passes (is_valid (map_request q)) (nat_lt q.file (length w.files.files)) (is_within q.prot (most_allowed w q.file)) (nat_le (page_total parts - mapped_in parts (page q.addr) (pages_in q.length) + pages_in q.length) 65536)
+    → Passes (is_valid (map_request q)) (nat_lt q.file (length w.files.files)) (is_within q.prot (most_allowed w q.file)) (nat_le (page_total parts - mapped_pages parts (page q.addr) (pages_in q.length) + pages_in q.length) 65536)
 passed w parts q due =
-    passes (is_valid (map_request q)) (nat_lt q.file (length w.files.files)) (is_within q.prot (most_allowed w q.file)) (nat_le (page_total parts - mapped_in parts (page q.addr) (pages_in q.length) + pages_in q.length) 65536) due
+    passes (is_valid (map_request q)) (nat_lt q.file (length w.files.files)) (is_within q.prot (most_allowed w q.file)) (nat_le (page_total parts - mapped_pages parts (page q.addr) (pages_in q.length) + pages_in q.length) 65536) due
 
 -- it lies in the user addresses, and its segment fits
 both : (a b : Bool) → (a && b) ≡ true → (a ≡ true) × (b ≡ true)
 both true b h = (refl, h)
 both false b h = absurd (let z : false ≡ true = h in cc)
 
-placed : (q : FileMap) (s : Segment) → is_valid (map_request q) ≡ true → IsPlaced 1 (part (page q.addr) (pages_in q.length) s)
+placed : (q : FileMap) (s : Segment) → is_valid (map_request q) ≡ true → LiesFrom 1 (part (page q.addr) (pages_in q.length) s)
 placed q s valid =
     let range = (both _ _ (both _ _ valid).0).0 in
     let ends = both _ _ range in
@@ -168,7 +168,7 @@ new-fits w files maps parts q small few due same =
 
 -- THE MAPPING TAKES ITS PLACE once the range is free.
 pub replaced : (m : Memory) (p : ℕ) (parts cut left final : List (Part Segment)) (w : World) (q : FileMap) → SpaceFits m.world m.spaces p parts → refusal_of m.world parts q ≡ None → q.offset < 2 ^ 32 → q.length < 2 ^ 32 → w.files ≡ m.world.files
-    → ((k : ℕ) → cell_of_parts cut k ≡ cell_of_parts parts k) → ((k : ℕ) → at left k ≡ cond (in_range (page q.addr) (page q.addr + pages_in q.length - page q.addr) k) None (at cut k))
+    → ((k : ℕ) → cell_of_parts cut k ≡ cell_of_parts parts k) → ((k : ℕ) → piece_at left k ≡ cond (in_range (page q.addr) (page q.addr + pages_in q.length - page q.addr) k) None (piece_at cut k))
     → ChangesSpace p m (record { world = w; spaces = finite.insert m.spaces p left }) (λ F. with_space F p (file_space left))
     → final ≡ put (part (page q.addr) (pages_in q.length) (new_segment m.world q)) left → MapsFile p m (record { world = w; spaces = finite.insert m.spaces p final }) q
 replaced m p parts cut left final w q fits due small few same cells clear done is =

@@ -2,7 +2,7 @@
 use Rattle.std.specs.Prelude.{◌≡◌, ◌+◌, ◌-◌, ℕ, zero, suc, not, length, List, Option, Some, None, is_some, nat_lt, nat_le, option_map, if◌then◌else◌}
 use Rattle.std.specs.FinSet as set
 use Rattle.std.specs.Ordering.{nat_cmp}
-use Rattle.addr_space.specs.Space.{Part, at, part_at, page_total}
+use Rattle.addr_space.specs.Space.{Part, piece_at, part_at, page_total}
 use Rattle.vnode_files.specs.Files.{vnode_at}
 use Rattle.page_store.specs.Notes.{Notes}
 use Rattle.vm_types.specs.declared.call.Call.{Call}
@@ -50,12 +50,12 @@ pub record AsksNumbers (m : FileMap) : Type 0 where
 
 -- The cell of a page, of parts that are shared mappings of files.
 abbrev pub cell_of_parts : List (Part Segment) → ℕ → Option Cell
-cell_of_parts parts q = option_map (λ (x : Spot). file_cell x.0 x.1) (at parts q)
+cell_of_parts parts q = option_map (λ (x : Spot). file_cell x.0 x.1) (piece_at parts q)
 
 -- How many of so many pages from the first are mapped.
-abbrev pub mapped_in : List (Part Segment) → ℕ → ℕ → ℕ
-mapped_in parts first zero = 0
-mapped_in parts first (suc n) = mapped_in parts first n + (if is_some (part_at parts (first + n)) then 1 else 0)
+abbrev pub mapped_pages : List (Part Segment) → ℕ → ℕ → ℕ
+mapped_pages parts first zero = 0
+mapped_pages parts first (suc n) = mapped_pages parts first n + (if is_some (part_at parts (first + n)) then 1 else 0)
 
 -- The most that may be done with a shared mapping of a file.
 abbrev pub most_allowed : World → ℕ → Prot
@@ -67,7 +67,7 @@ refusal_of w parts m =
     if not (is_valid (map_request m)) then Some errno.Invalid
     else if not (nat_lt m.file (length w.files.files)) then Some errno.NoObject
     else if not (is_within m.prot (most_allowed w m.file)) then Some errno.Access
-    else if not (nat_le (page_total parts - mapped_in parts (page m.addr) (pages_in m.length) + pages_in m.length) 65536) then Some errno.TooLarge
+    else if not (nat_le (page_total parts - mapped_pages parts (page m.addr) (pages_in m.length) + pages_in m.length) 65536) then Some errno.TooLarge
     else None
 
 -- Memory has the new mapping, which isn't refused.

@@ -1,7 +1,7 @@
 //! Pieces that go across an end of a range are cut there.
 ghost use Rattle.std.specs.Prelude.{◌≡◌, ◌≤◌, ◌<◌, ◌+◌, ℕ, IsOk, option_map};
 ghost use Rattle.std.specs.FinMap as finite;
-ghost use Rattle.addr_space.specs.Space.{at};
+ghost use Rattle.addr_space.specs.Space.{piece_at};
 ghost use Rattle.flat_model.specs.Access.{with_space};
 ghost use Rattle.vm_world.specs.Segments.{Spaces};
 ghost use Rattle.vm_world.specs.SpaceSteps.{ChangesSpace, file_space};

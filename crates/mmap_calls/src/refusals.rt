@@ -3,7 +3,7 @@ ghost use Rattle.std.specs.Prelude.{◌≡◌, ◌+◌, ◌≤◌, ◌<◌, ℕ,
 ghost use Rattle.addr_space.specs.Space.{part_at, IsInOrder};
 ghost use Rattle.flat_model.specs.Mapping.{prot_read_write};
 ghost use Rattle.vm_world.specs.World.{world_seen};
-ghost use Rattle.mmap_calls.specs.FileMaps.{mapped_in, most_allowed, refusal_of};
+ghost use Rattle.mmap_calls.specs.FileMaps.{mapped_pages, most_allowed, refusal_of};
 
 use addr_space::Ranges;
 use bitflags::Flags;
@@ -38,7 +38,7 @@ fn one_if_mapped(space: &Ranges<VnSeg>, page: u32) -> u32
 // How many pages of a range are mapped. Time: the pages of the range, and the logarithm of the number of pieces for each.
 fn mapped_pages(space: &Ranges<VnSeg>, first: u32, pages: u32) -> u32
     requires { first + pages ≤ 0x80000 }
-    ensures { result ≡ mapped_in space.now.parts first pages }
+    ensures { result ≡ mapped_pages space.now.parts first pages }
 {
     let mut count = 0;
     for page in first..first + pages {

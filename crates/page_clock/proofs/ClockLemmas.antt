@@ -3,23 +3,23 @@ use Rattle.std.proofs.Common.{◌≡◌, ℕ, ◌+◌, ◌-◌, ◌*◌, ◌%◌
 use Rattle.std.proofs.Math.Nat.{mod-eq_of_lt, mod-eq-sub-mod}
 use Rattle.std.proofs.lemmas.Bool.{cases_lt}
 use Rattle.page_clock.specs.Seen.{ClockSeen}
-use Rattle.page_clock.specs.Clock.{stepped, fresh, after}
+use Rattle.page_clock.specs.Clock.{next_clock, fresh_clock, clock_after}
 
 -- after an even number of steps the front hand is next
-pub after-even : (F D m : ℕ) → m < F → after (2 * m) (fresh F D) ≡ record { frames = F; distance = D; front = m; back_next = false }
+pub after-even : (F D m : ℕ) → m < F → clock_after (2 * m) (fresh_clock F D) ≡ record { frames = F; distance = D; front = m; back_next = false }
 after-even F D zero lt = refl
 after-even F D (suc m) lt =
     let two : 2 * suc m ≡ suc (suc (2 * m)) = omega arith in
     let next : (m + 1) % F ≡ suc m = let n : m + 1 ≡ suc m = omega arith in mod-eq_of_lt (omega arith) ∙ n in
-    ap (λ (k : ℕ). after k (fresh F D)) two
-    ∙ ap (λ (c : ClockSeen). stepped (stepped c)) (after-even F D m (omega arith))
+    ap (λ (k : ℕ). clock_after k (fresh_clock F D)) two
+    ∙ ap (λ (c : ClockSeen). next_clock (next_clock c)) (after-even F D m (omega arith))
     ∙ ap (λ (f : ℕ). record { frames = F; distance = D; front = f; back_next = false }) next
 
 -- after an odd number of steps the back hand is next
-pub after-odd : (F D m : ℕ) → m < F → after (2 * m + 1) (fresh F D) ≡ record { frames = F; distance = D; front = m; back_next = true }
+pub after-odd : (F D m : ℕ) → m < F → clock_after (2 * m + 1) (fresh_clock F D) ≡ record { frames = F; distance = D; front = m; back_next = true }
 after-odd F D m lt =
     let one : 2 * m + 1 ≡ suc (2 * m) = omega arith in
-    ap (λ (k : ℕ). after k (fresh F D)) one ∙ ap stepped (after-even F D m lt)
+    ap (λ (k : ℕ). clock_after k (fresh_clock F D)) one ∙ ap next_clock (after-even F D m lt)
 
 -- a number is even or odd
 pub even-or-odd : (n : ℕ) → (m : ℕ) × ((n ≡ 2 * m) ⊎ (n ≡ 2 * m + 1))

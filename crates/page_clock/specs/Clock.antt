@@ -13,8 +13,8 @@ abbrev pub next_pick : ClockSeen → Pick
 next_pick c = if c.back_next then Back (back_place c) else Front c.front
 
 -- the hands take turns, and the front hand moves on once the back hand had its turn
-abbrev pub stepped : ClockSeen → ClockSeen
-stepped c = if c.back_next then record c { front = (c.front + 1) % c.frames; back_next = false } else record c { back_next = true }
+abbrev pub next_clock : ClockSeen → ClockSeen
+next_clock c = if c.back_next then record c { front = (c.front + 1) % c.frames; back_next = false } else record c { back_next = true }
 
 -- the frame of a pick
 abbrev pub place_of : Pick → ℕ
@@ -22,10 +22,10 @@ place_of (Front frame) = frame
 place_of (Back frame) = frame
 
 -- a new clock: the front hand is at frame 0 and moves first
-abbrev pub fresh : ℕ → ℕ → ClockSeen
-fresh frames distance = record { frames = frames; distance = distance; front = 0; back_next = false }
+abbrev pub fresh_clock : ℕ → ℕ → ClockSeen
+fresh_clock frames distance = record { frames = frames; distance = distance; front = 0; back_next = false }
 
 -- a clock after so many more steps
-abbrev pub after : ℕ → ClockSeen → ClockSeen
-after zero c = c
-after (suc n) c = stepped (after n c)
+abbrev pub clock_after : ℕ → ClockSeen → ClockSeen
+clock_after zero c = c
+clock_after (suc n) c = next_clock (clock_after n c)

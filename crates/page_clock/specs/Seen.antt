@@ -9,7 +9,7 @@ pub record ClockSeen : Type 0 where
   pub back_next : Bool
 
 -- the hands are apart, and the front hand is at a frame
-pub record IsRunning (frames distance front : ℕ) : Type 0 where
+pub record IsSoundClock (frames distance front : ℕ) : Type 0 where
   pub apart : 1 ≤ distance
   pub round : distance < frames
   pub at : front < frames

@@ -5,7 +5,7 @@
 #![tactic(auto)]
 
 ghost use Rattle.std.specs.Prelude.{◌≡◌, ℕ, ◌+◌, ◌-◌, ◌*◌, ◌%◌, ◌<◌, ◌≤◌};
-ghost use Rattle.page_clock.specs.Clock.{next_pick, stepped, place_of, fresh, after};
+ghost use Rattle.page_clock.specs.Clock.{next_pick, next_clock, place_of, fresh_clock, clock_after};
 
 use std::marker::Model;
 
@@ -31,13 +31,13 @@ pub struct Clock {
 }
 
 impl Model for Clock {
-    ghost use Rattle.page_clock.specs.Seen.{ClockSeen, IsRunning};
+    ghost use Rattle.page_clock.specs.Seen.{ClockSeen, IsSoundClock};
 
     ghost Value = { ClockSeen };
 
     ghost view = { λ c. record { frames = c.frames; distance = c.distance; front = c.front; back_next = c.back_next } };
 
-    ghost invariant = { λ c. IsRunning c.frames c.distance c.front };
+    ghost invariant = { λ c. IsSoundClock c.frames c.distance c.front };
 }
 
 impl Clock {
@@ -46,7 +46,7 @@ impl Clock {
     pub const fn new(frames: u32, distance: u32) -> Clock
         requires apart { 1 ≤ distance }
         requires within { distance < frames }
-        ensures { result ≡ fresh frames distance }
+        ensures { result ≡ fresh_clock frames distance }
     {
         Clock {
             frames,
@@ -60,7 +60,7 @@ impl Clock {
     /// hand gives the place that is `distance` behind it, and the front hand moves on by one frame.
     pub fn step(&mut self) -> Pick
         ensures pick { result ≡ next_pick self.old }
-        ensures new { self.new ≡ stepped self.old }
+        ensures new { self.new ≡ next_clock self.old }
         ensures within { place_of result < self.old.frames }
     {
         let front = self.front;
@@ -82,9 +82,10 @@ impl Clock {
         requires frame { place_of pick < frames }
         //
         ensures soon { result < 2 * frames }
-        ensures comes { next_pick (after result (fresh frames distance)) ≡ pick }
+        ensures comes { next_pick (clock_after result (fresh_clock frames distance)) ≡ pick }
         ensures once { (number : ℕ) → number < 2 * frames
-            → next_pick (after number (fresh frames distance)) ≡ pick → number ≡ result }
+            → next_pick (clock_after number (fresh_clock frames distance)) ≡ pick → number
+            ≡ result }
     {
         match pick {
             Pick::Front(frame) => 2 * frame as u64,

@@ -1,9 +1,9 @@
 -- Chains of steps forth and back.
 use Rattle.std.proofs.Common.{◌≡◌, ◌≢◌, ℕ, ◌≤◌, ◌⊎◌, inl, inr, Option, Some, None, List, [], ◌∷◌, ◌++◌, length, zero, suc, refl, sym, ◌∙◌, ap, subst, arith}
 use Rattle.std.proofs.lemmas.Bool.{cases_eq}
-use Rattle.page_lists.specs.ListsSeen.{Has, IsOnce, without}
+use Rattle.page_lists.specs.ListsSeen.{Has, IsOnce, without_frame}
 use Rattle.page_lists.specs.Ring.{Chain, follow, walk}
-use Rattle.page_lists.proofs.ListLemmas.{without-same, without-other, without-absent}
+use Rattle.page_lists.proofs.ListLemmas.{without_frame-same, without_frame-other, without_frame-absent}
 
 module _ (forth back : Option ℕ → Option ℕ) where
   -- a step forth and one back lead to where they began
@@ -99,11 +99,11 @@ module _ (forth back forth_new back_new : Option ℕ → Option ℕ) where
   pub chain-removed : (from : Option ℕ) (xs : List ℕ) (y : ℕ) → Chain forth back from xs → IsOnce xs → Has xs y → ((g : ℕ) → Has xs g → from ≡ Some g → ⊥) →
       forth_new (back (Some y)) ≡ forth (Some y) → ((q : Option ℕ) → q ≢ back (Some y) → forth_new q ≡ forth q) →
       back_new (forth (Some y)) ≡ back (Some y) → ((q : Option ℕ) → q ≢ forth (Some y) → back_new q ≡ back q) →
-      Chain forth_new back_new from (without xs y)
+      Chain forth_new back_new from (without_frame xs y)
   chain-removed from [] y c once h out into kept before still = absurd h
   chain-removed from (x ∷ xs) y c once h out into kept before still = elim (cases_eq x y) [
     | inl e ↦
-        let gone : without (x ∷ xs) y ≡ xs = without-same x xs y e ∙ without-absent xs y (λ i. once.0 (subst (λ (k : ℕ). Has xs k) (sym e) i)) in
+        let gone : without_frame (x ∷ xs) y ≡ xs = without_frame-same x xs y e ∙ without_frame-absent xs y (λ i. once.0 (subst (λ (k : ℕ). Has xs k) (sym e) i)) in
         let here : back (Some y) ≡ from = ap (λ (k : ℕ). back (Some k)) (sym e) ∙ c.1 in
         let ahead : forth (Some y) ≡ forth (Some x) = ap (λ (k : ℕ). forth (Some k)) (sym e) in
         subst (λ (l : List ℕ). Chain forth_new back_new from l) (sym gone)
@@ -114,7 +114,7 @@ module _ (forth back forth_new back_new : Option ℕ → Option ℕ) where
         let inside : Has xs y = elim h [ inl e ↦ absurd (ne e) | inr i ↦ i ] in
         let not_before : from ≢ back (Some y) = λ (q : from ≡ back (Some y)). let z : Some x ≡ Some y = sym c.0 ∙ ap forth q ∙ forth-back forth back from (x ∷ xs) y c h in let e : x ≡ y = cc in ne e in
         let not_after : Some x ≢ forth (Some y) = λ (q : Some x ≡ forth (Some y)). out y (inr inside) (sym c.1 ∙ ap back q ∙ back-forth forth back from (x ∷ xs) y c h) in
-        subst (λ (l : List ℕ). Chain forth_new back_new from l) (sym (without-other x xs y ne)) (
+        subst (λ (l : List ℕ). Chain forth_new back_new from l) (sym (without_frame-other x xs y ne)) (
           kept from not_before ∙ c.0,
           still (Some x) not_after ∙ c.1,
           chain-removed (Some x) xs y c.2 once.1 inside (λ g i q. let e : x ≡ g = cc in once.0 (subst (λ (k : ℕ). Has xs k) (sym e) i)) into kept before still,
@@ -129,9 +129,9 @@ walk-chain first next back from (x ∷ xs) zero c le = absurd (omega arith)
 walk-chain first next back from (x ∷ xs) (suc n) c le = ap (λ (o : Option ℕ). walk next (suc n) o) c.0 ∙ ap (λ (l : List ℕ). x ∷ l) (walk-chain first next back (Some x) xs n c.2 (omega arith))
 
 -- what comes first, and what is left behind it
-pub chain-first : (forth back : Option ℕ → Option ℕ) (xs : List ℕ) (f : ℕ) → Chain forth back None xs → IsOnce xs → forth None ≡ Some f → xs ≡ f ∷ without xs f
+pub chain-first : (forth back : Option ℕ → Option ℕ) (xs : List ℕ) (f : ℕ) → Chain forth back None xs → IsOnce xs → forth None ≡ Some f → xs ≡ f ∷ without_frame xs f
 chain-first forth back [] f c once e = let z : None ≡ Some f = sym c.0 ∙ e in cc
 chain-first forth back (x ∷ xs) f c once e =
     let z : Some x ≡ Some f = sym c.0 ∙ e in
     let q : x ≡ f = cc in
-    ap (λ (k : ℕ). k ∷ xs) q ∙ ap (λ (l : List ℕ). f ∷ l) (sym (without-same x xs f q ∙ without-absent xs f (λ h. once.0 (subst (λ (k : ℕ). Has xs k) (sym q) h))))
+    ap (λ (k : ℕ). k ∷ xs) q ∙ ap (λ (l : List ℕ). f ∷ l) (sym (without_frame-same x xs f q ∙ without_frame-absent xs f (λ h. once.0 (subst (λ (k : ℕ). Has xs k) (sym q) h))))

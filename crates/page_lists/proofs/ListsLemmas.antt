@@ -1,12 +1,12 @@
 -- Two queues without a common frame.
 use Rattle.std.proofs.Common.{◌≡◌, ℕ, ◌+◌, ◌<◌, inl, inr, List, [], ◌∷◌, ◌++◌, suc, refl, sym, ◌∙◌, ap, subst, arith}
 use Rattle.std.specs.List.{range_with_len}
-use Rattle.page_lists.specs.ListsSeen.{ListsSeen, Has, IsListed, AreApart, without}
-use Rattle.page_lists.specs.Lists.{lists_of, AreLists}
+use Rattle.page_lists.specs.ListsSeen.{ListsSeen, Has, IsListed, AreApart, without_frame}
+use Rattle.page_lists.specs.Lists.{lists_of, AreSoundLists}
 use Rattle.page_lists.specs.Ring.{QueueSeen, IsQueue}
-use Rattle.page_lists.proofs.ListLemmas.{has-more, has-without, without-absent, has-range, once-range, range-more}
+use Rattle.page_lists.proofs.ListLemmas.{has-more, has-without_frame, without_frame-absent, has-range, once-range, range-more}
 
-pub lists-apart : (free cached : QueueSeen) → AreLists free cached → AreApart (lists_of free cached)
+pub lists-apart : (free cached : QueueSeen) → AreSoundLists free cached → AreApart (lists_of free cached)
 lists-apart free cached l = record {
   once_free = l.free.once;
   once_cached = l.cached.once;
@@ -16,7 +16,7 @@ lists-apart free cached l = record {
 }
 
 -- a frame of neither queue comes to one
-pub lists-freed : (free cached new : QueueSeen) (frame : ℕ) → AreLists free cached → new ≡ record { frames = free.frames; order = free.order ++ frame ∷ [] } → IsQueue new → (Has cached.order frame → ⊥) → AreLists new cached
+pub lists-freed : (free cached new : QueueSeen) (frame : ℕ) → AreSoundLists free cached → new ≡ record { frames = free.frames; order = free.order ++ frame ∷ [] } → IsQueue new → (Has cached.order frame → ⊥) → AreSoundLists new cached
 lists-freed free cached new frame l e q absent = record {
   free = q;
   cached = l.cached;
@@ -27,7 +27,7 @@ lists-freed free cached new frame l e q absent = record {
   ];
 }
 
-pub lists-cached : (free cached new : QueueSeen) (frame : ℕ) → AreLists free cached → new ≡ record { frames = cached.frames; order = cached.order ++ frame ∷ [] } → IsQueue new → (Has free.order frame → ⊥) → AreLists free new
+pub lists-cached : (free cached new : QueueSeen) (frame : ℕ) → AreSoundLists free cached → new ≡ record { frames = cached.frames; order = cached.order ++ frame ∷ [] } → IsQueue new → (Has free.order frame → ⊥) → AreSoundLists free new
 lists-cached free cached new frame l e q absent = record {
   free = l.free;
   cached = q;
@@ -39,15 +39,15 @@ lists-cached free cached new frame l e q absent = record {
 }
 
 -- a frame goes from one
-pub lists-reclaimed : (free cached new : QueueSeen) (frame : ℕ) → AreLists free cached → new ≡ record { frames = cached.frames; order = without cached.order frame } → IsQueue new → AreLists free new
+pub lists-reclaimed : (free cached new : QueueSeen) (frame : ℕ) → AreSoundLists free cached → new ≡ record { frames = cached.frames; order = without_frame cached.order frame } → IsQueue new → AreSoundLists free new
 lists-reclaimed free cached new frame l e q = record {
   free = l.free;
   cached = q;
   frames = ap (λ (x : QueueSeen). x.frames) e ∙ l.frames;
-  one_list = λ g h i. let r = has-without cached.order frame g (subst (λ (o : List ℕ). Has o g) (ap (λ (x : QueueSeen). x.order) e) i) in l.one_list g h r.0;
+  one_list = λ g h i. let r = has-without_frame cached.order frame g (subst (λ (o : List ℕ). Has o g) (ap (λ (x : QueueSeen). x.order) e) i) in l.one_list g h r.0;
 }
 
-pub lists-free_taken : (free cached new : QueueSeen) (frame : ℕ) → AreLists free cached → free ≡ record { frames = new.frames; order = frame ∷ new.order } → IsQueue new → AreLists new cached
+pub lists-free_taken : (free cached new : QueueSeen) (frame : ℕ) → AreSoundLists free cached → free ≡ record { frames = new.frames; order = frame ∷ new.order } → IsQueue new → AreSoundLists new cached
 lists-free_taken free cached new frame l e q = record {
   free = q;
   cached = l.cached;
@@ -55,7 +55,7 @@ lists-free_taken free cached new frame l e q = record {
   one_list = λ g h i. l.one_list g (subst (λ (o : List ℕ). Has o g) (sym (ap (λ (x : QueueSeen). x.order) e)) (inr h)) i;
 }
 
-pub lists-cached_taken : (free cached new : QueueSeen) (frame : ℕ) → AreLists free cached → cached ≡ record { frames = new.frames; order = frame ∷ new.order } → IsQueue new → AreLists free new
+pub lists-cached_taken : (free cached new : QueueSeen) (frame : ℕ) → AreSoundLists free cached → cached ≡ record { frames = new.frames; order = frame ∷ new.order } → IsQueue new → AreSoundLists free new
 lists-cached_taken free cached new frame l e q = record {
   free = l.free;
   cached = q;
@@ -64,9 +64,9 @@ lists-cached_taken free cached new frame l e q = record {
 }
 
 -- all free
-pub lists-new : (free cached : QueueSeen) (frames : ℕ) → free ≡ record { frames = frames; order = range_with_len 0 frames } → cached ≡ record { frames = frames; order = [] } → AreLists free cached
+pub lists-new : (free cached : QueueSeen) (frames : ℕ) → free ≡ record { frames = frames; order = range_with_len 0 frames } → cached ≡ record { frames = frames; order = [] } → AreSoundLists free cached
 lists-new free cached frames ef ec =
-    subst (λ (x : QueueSeen). AreLists x cached) (sym ef) (subst (λ (x : QueueSeen). AreLists (record { frames = frames; order = range_with_len 0 frames }) x) (sym ec)
+    subst (λ (x : QueueSeen). AreSoundLists x cached) (sym ef) (subst (λ (x : QueueSeen). AreSoundLists (record { frames = frames; order = range_with_len 0 frames }) x) (sym ec)
     (record {
       free = record { once = once-range 0 frames; below = λ g h. let r = has-range 0 frames g h in let u : g < 0 + frames = r.1 in omega arith };
       cached = record { once = tt; below = λ g h. absurd h };
@@ -75,9 +75,9 @@ lists-new free cached frames ef ec =
     }))
 
 -- a frame that isn't cached is not taken off
-pub none-reclaimed : (free cached new : QueueSeen) (now : ListsSeen) (frame : ℕ) → lists_of free cached ≡ now → new ≡ record { frames = cached.frames; order = without cached.order frame } → (Has now.cached frame → ⊥) → lists_of free new ≡ now
+pub none-reclaimed : (free cached new : QueueSeen) (now : ListsSeen) (frame : ℕ) → lists_of free cached ≡ now → new ≡ record { frames = cached.frames; order = without_frame cached.order frame } → (Has now.cached frame → ⊥) → lists_of free new ≡ now
 none-reclaimed free cached new now frame seen e absent =
-    let o : new.order ≡ cached.order = ap (λ (x : QueueSeen). x.order) e ∙ without-absent cached.order frame (λ h. absent (subst (λ (l : List ℕ). Has l frame) (ap (λ (s : ListsSeen). s.cached) seen) h)) in
+    let o : new.order ≡ cached.order = ap (λ (x : QueueSeen). x.order) e ∙ without_frame-absent cached.order frame (λ h. absent (subst (λ (l : List ℕ). Has l frame) (ap (λ (s : ListsSeen). s.cached) seen) h)) in
     ap (λ (l : List ℕ). record { frames = free.frames; free = free.order; cached = l }) o ∙ seen
 
 pub not-free : (free cached : QueueSeen) (now : ListsSeen) (frame : ℕ) → lists_of free cached ≡ now → (IsListed now frame → ⊥) → Has free.order frame → ⊥

@@ -7,7 +7,7 @@ abbrev pub lists_of : QueueSeen → QueueSeen → ListsSeen
 lists_of free cached = record { frames = free.frames; free = free.order; cached = cached.order }
 
 -- both queues are over the same frames, and none is on both
-pub record AreLists (free_queue cached_queue : QueueSeen) : Type 0 where
+pub record AreSoundLists (free_queue cached_queue : QueueSeen) : Type 0 where
   pub free : IsQueue free_queue
   pub cached : IsQueue cached_queue
   pub frames : cached_queue.frames ≡ free_queue.frames

@@ -18,9 +18,9 @@ IsOnce [] = Unit {0}
 IsOnce (x ∷ xs) = (¬ Has xs x) × IsOnce xs
 
 -- a list with a frame taken off
-abbrev pub without : List ℕ → ℕ → List ℕ
-without [] frame = []
-without (x ∷ xs) frame = if x == frame then without xs frame else x ∷ without xs frame
+abbrev pub without_frame : List ℕ → ℕ → List ℕ
+without_frame [] frame = []
+without_frame (x ∷ xs) frame = if x == frame then without_frame xs frame else x ∷ without_frame xs frame
 
 -- the frame that is taken next: the first free one, or with no free frame the first cached one
 abbrev pub first_of : List ℕ → List ℕ → Option ℕ

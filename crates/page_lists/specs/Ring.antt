@@ -28,7 +28,7 @@ Chain forth back from [] = (forth from ≡ None) × (back None ≡ from)
 Chain forth back from (x ∷ xs) = (forth from ≡ Some x) × (back (Some x) ≡ from) × Chain forth back (Some x) xs
 
 -- the links and marks say that the queue is this list
-pub record IsRing (first last : Option ℕ) (next previous : List (Option ℕ)) (listed : List Bool) (order : List ℕ) : Type 0 where
+pub record IsSoundQueue (first last : Option ℕ) (next previous : List (Option ℕ)) (listed : List Bool) (order : List ℕ) : Type 0 where
   pub previous_length : length previous ≡ length next
   pub listed_length : length listed ≡ length next
   pub chain : Chain (follow first next) (follow last previous) None order

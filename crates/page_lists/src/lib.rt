@@ -8,7 +8,7 @@ mod queue;
 
 ghost use Rattle.std.specs.Prelude.{◌≡◌, ◌≢◌, ℕ, ◌<◌, ◌⊎◌, ◌↔◌, ◌++◌, ◌∷◌, [], List, Option, IsTrue, IsNone, IfOk};
 ghost use Rattle.std.specs.List.{range_with_len};
-ghost use Rattle.page_lists.specs.ListsSeen.{ListsSeen, Has, IsListed, AreApart, first_of, without};
+ghost use Rattle.page_lists.specs.ListsSeen.{ListsSeen, Has, IsListed, AreApart, first_of, without_frame};
 ghost use Rattle.page_lists.specs.Takes.{TakesFirst};
 
 use queue::FrameQueue;
@@ -35,11 +35,11 @@ impl Model for PageLists {
 
     ghost Value = { ListsSeen };
 
-    ghost use Rattle.page_lists.specs.Lists.{lists_of, AreLists};
+    ghost use Rattle.page_lists.specs.Lists.{lists_of, AreSoundLists};
 
     ghost view = { λ l. lists_of l.free l.cached };
 
-    ghost invariant = { λ l. AreLists l.free l.cached };
+    ghost invariant = { λ l. AreSoundLists l.free l.cached };
 }
 
 impl PageLists {
@@ -92,7 +92,7 @@ impl PageLists {
     pub fn free(&mut self, frame: u32)
         requires within { frame < self.old.frames }
         requires unlisted { ¬ IsListed self.old frame }
-        ensures appended { self.new ≡ record self.old { free = self.old.free ++ frame ∷ [] } }
+        ensures new { self.new ≡ record self.old { free = self.old.free ++ frame ∷ [] } }
         ensures apart { AreApart self.new }
     {
         self.free.push_back(frame);
@@ -102,7 +102,7 @@ impl PageLists {
     pub fn cache(&mut self, frame: u32)
         requires within { frame < self.old.frames }
         requires unlisted { ¬ IsListed self.old frame }
-        ensures appended { self.new ≡ record self.old { cached = self.old.cached ++ frame ∷ [] } }
+        ensures new { self.new ≡ record self.old { cached = self.old.cached ++ frame ∷ [] } }
         ensures apart { AreApart self.new }
     {
         self.cached.push_back(frame);
@@ -112,7 +112,7 @@ impl PageLists {
     pub fn reclaim(&mut self, frame: u32) -> bool
         requires { frame < self.old.frames }
         ensures cached { IsTrue result ↔ Has self.old.cached frame }
-        ensures taken_off { self.new ≡ record self.old { cached = without self.old.cached frame } }
+        ensures new { self.new ≡ record self.old { cached = without_frame self.old.cached frame } }
         ensures otherwise_same { ¬ Has self.old.cached frame → self.new ≡ self.old }
         ensures apart { AreApart self.new }
     {

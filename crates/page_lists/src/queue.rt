@@ -2,7 +2,7 @@
 
 ghost use Rattle.std.specs.Prelude.{◌≡◌, ◌≢◌, ℕ, ◌<◌, ◌↔◌, ◌++◌, ◌∷◌, [], List, length, Option, Some, None, IsTrue, IfOk};
 ghost use Rattle.std.specs.Option.{ForSome};
-ghost use Rattle.page_lists.specs.ListsSeen.{Has, first_of, without};
+ghost use Rattle.page_lists.specs.ListsSeen.{Has, first_of, without_frame};
 ghost use Rattle.page_lists.specs.Ring.{QueueSeen, IsQueue, follow};
 
 use std::alloc::{AllocError, Global};
@@ -19,13 +19,13 @@ pub struct FrameQueue {
 }
 
 impl Model for FrameQueue {
-    ghost use Rattle.page_lists.specs.Ring.{QueueSeen, IsRing, queue_of};
+    ghost use Rattle.page_lists.specs.Ring.{QueueSeen, IsSoundQueue, queue_of};
 
     ghost Value = { QueueSeen };
 
     ghost view = { λ q. queue_of q.first q.next.items };
 
-    ghost invariant = { λ q. IsRing q.first q.last q.next.items q.previous.items q.listed.items
+    ghost invariant = { λ q. IsSoundQueue q.first q.last q.next.items q.previous.items q.listed.items
         (queue_of q.first q.next.items).order };
 }
 
@@ -84,7 +84,7 @@ impl FrameQueue {
     pub fn push_back(&mut self, frame: u32)
         requires within { frame < self.old.frames }
         requires absent { ¬ Has self.old.order frame }
-        ensures appended { self.new ≡ record self.old { order = self.old.order ++ frame ∷ [] } }
+        ensures new { self.new ≡ record self.old { order = self.old.order ++ frame ∷ [] } }
         ensures queue { IsQueue self.new }
     {
         let before = self.last;
@@ -99,7 +99,7 @@ impl FrameQueue {
     pub fn remove(&mut self, frame: u32) -> bool
         requires { frame < self.old.frames }
         ensures removed { IsTrue result ↔ Has self.old.order frame }
-        ensures order { self.new ≡ record self.old { order = without self.old.order frame } }
+        ensures new { self.new ≡ record self.old { order = without_frame self.old.order frame } }
         ensures queue { IsQueue self.new }
     {
         if !self.listed[frame as usize] {

@@ -10,14 +10,14 @@ use Rattle.page_clock.specs.Seen.{ClockSeen}
 use Rattle.page_hash.specs.Names.{find, name_at, AreDistinct}
 use Rattle.page_hash.specs.declared.PageName.{PageName}
 use Rattle.page_hash.proofs.NameLaws.{find-at, find-emptied, emptied-distinct}
-use Rattle.page_lists.specs.ListsSeen.{ListsSeen, Has, AreApart, without}
-use Rattle.page_lists.proofs.ListLemmas.{has-more, more-has, once-more, has-without, without-has, once-without}
+use Rattle.page_lists.specs.ListsSeen.{ListsSeen, Has, AreApart, without_frame}
+use Rattle.page_lists.proofs.ListLemmas.{has-more, more-has, once-more, has-without_frame, without_frame-has, once-without_frame}
 use Rattle.page_lock.specs.Rows.{row_at, clear_row}
 use Rattle.page_lock.specs.declared.Row.{Row}
 use Rattle.page_store.specs.Bays.{BaySeen}
 use Rattle.page_store.specs.StoreFits.{StoreFits}
 use Rattle.page_store.specs.Laws.{Aborts, SameFlights}
-use Rattle.page_store.specs.Moves.{KeepsOtherValues, KeepsValues, Touches, only, family, family_of}
+use Rattle.page_store.specs.Moves.{KeepsOtherValues, KeepsValues, Touches, is_only, family, family_of}
 use Rattle.page_store.specs.Notes.{Notes}
 use Rattle.page_store.specs.Parts.{rows_without, rows_forsaken}
 use Rattle.page_store.specs.Seen.{StoreSeen, IsSoundStore, FrameAgrees, IsListedFrame, store_of, own_frame, residence, residence_in}
@@ -25,7 +25,7 @@ use Rattle.page_store.specs.Steps.{with_page_given_up, without_snapshot, with_pa
 use Rattle.page_store.specs.Table.{Table}
 use Rattle.page_store.specs.Value.{value, tells}
 use Rattle.page_store.specs.declared.residence.Residence.TheVariants.{Absent}
-use Rattle.page_store.proofs.Agree.{SameOut, same-out, same-row, Calm, own-far, clean-calm, alike-calm, fits-calm, stored-calm, outside-calm, outside-then}
+use Rattle.page_store.proofs.Agree.{SameOut, same-out, same-row, Calm, own-far, clean-calm, alike-calm, fits-calm, backing_value-calm, outside-calm, outside-then}
 use Rattle.page_store.proofs.Elsewhere.{Elsewhere, OneFrame, SoundAt, one-elsewhere, same-elsewhere, elsewhere-then, only-none, sound-one, touches, touches-one, paired-one, value-elsewhere}
 use Rattle.page_store.proofs.FrameLaws.{some-or-none, some-not, eq-same, eq-is, eq-far, false-left, false-right, agrees-at, home-unheld, home-ungone, home-source, away-snapshot, away-held, named-unsourced}
 use Rattle.page_store.proofs.Links.{either, or-both, family-own, family-copy, sound-parted, same-parted, elsewhere-parted, parted-own, parted-own-row}
@@ -127,19 +127,19 @@ module _ (s : StoreSeen) (page : PageName) (f : ℕ) (sound : IsSoundStore s) (f
     names = λ k ne. get_or-set_other s.names f k None None ne;
     rows = λ k ne. get_or-set_other s.rows f k clear_row clear_row ne;
     free = λ k ne. (λ h. elim (has-more s.free f k h) [ inl a ↦ a | inr b ↦ absurd (ne (sym b)) ], λ h. more-has s.free f k (inl h));
-    cached = λ k ne. (λ h. (has-without s.cached f k h).0, λ h. without-has s.cached f k h ne);
+    cached = λ k ne. (λ h. (has-without_frame s.cached f k h).0, λ h. without_frame-has s.cached f k h ne);
   }
 
-  lists_given : AreApart (record { frames = length s.frames; free = s.free ++ f ∷ []; cached = without s.cached f })
+  lists_given : AreApart (record { frames = length s.frames; free = s.free ++ f ∷ []; cached = without_frame s.cached f })
   lists_given = record {
     once_free = once-more s.free f sound.lists.once_free not_free;
-    once_cached = once-without s.cached f sound.lists.once_cached;
+    once_cached = once-without_frame s.cached f sound.lists.once_cached;
     one_list = λ k a b. elim (has-more s.free f k a) [
-      | inl h ↦ sound.lists.one_list k h (has-without s.cached f k b).0
-      | inr e ↦ (has-without s.cached f k b).1 (sym e)
+      | inl h ↦ sound.lists.one_list k h (has-without_frame s.cached f k b).0
+      | inr e ↦ (has-without_frame s.cached f k b).1 (sym e)
     ];
     below_free = λ k a. elim (has-more s.free f k a) [ inl h ↦ sound.lists.below_free k h | inr e ↦ subst (λ (j : ℕ). j < length s.frames) e within ];
-    below_cached = λ k b. sound.lists.below_cached k (has-without s.cached f k b).0;
+    below_cached = λ k b. sound.lists.below_cached k (has-without_frame s.cached f k b).0;
   }
 
   agrees_gone : bytes_at s.frames f ≡ None → FrameAgrees (bytes_at s.frames f) None (record (row_at s.rows f) { gone = true })
@@ -251,8 +251,8 @@ module _ (s : StoreSeen) (page : PageName) (f : ℕ) (sound : IsSoundStore s) (f
         let far : k ≢ f = λ (q : k ≡ f). no_after b n (ap (name_at (with_page_given_up s f b).names) (sym q) ∙ m) in
         clean-calm s (with_page_given_up s f b) notes table (calm_given b e) k n (fits.each_cached k n (((one_given b).cached k far).0 h) (sym ((one_given b).names k far) ∙ m)) ((one_given b).bytes k far)) fits;
     alike = alike-calm s (with_page_given_up s f b) notes table (calm_given b e);
-    values = λ n ne t. value-elsewhere s (with_page_given_up s f b) (only (Some f)) (distinct_given b) (one-elsewhere s (with_page_given_up s f b) f (one_given b)) notes notes table n
-        (only-none s.names f n (no_before n ne)) (only-none (with_page_given_up s f b).names f n (no_after b n)) (stored-calm s (with_page_given_up s f b) notes table (calm_given b e) (table n)) (λ g t far h. refl);
+    values = λ n ne t. value-elsewhere s (with_page_given_up s f b) (is_only (Some f)) (distinct_given b) (one-elsewhere s (with_page_given_up s f b) f (one_given b)) notes notes table n
+        (only-none s.names f n (no_before n ne)) (only-none (with_page_given_up s f b).names f n (no_after b n)) (backing_value-calm s (with_page_given_up s f b) notes table (calm_given b e) (table n)) (λ g t far h. refl);
   }
 
   pub outside-given : (b : Option (List ℕ)) → bytes_at s.frames f ≡ b → SameFlights s (with_page_given_up s f b)
@@ -282,7 +282,7 @@ aborts-frame s page f sound found =
       sound = sound-given (without_snapshot s f) page f mid.sound found mid.single b refl;
       touches = subst (λ (o : Option ℕ). Touches s (with_page_given_up (without_snapshot s f) f b) (family_of s o)) (sym found)
           (touches s (with_page_given_up (without_snapshot s f) f b) (family s f) (distinct-given (without_snapshot s f) page f mid.sound found mid.single b)
-          (elsewhere-then s (without_snapshot s f) (with_page_given_up (without_snapshot s f) f b) (family s f) (only (Some f)) (family s f)
+          (elsewhere-then s (without_snapshot s f) (with_page_given_up (without_snapshot s f) f b) (family s f) (is_only (Some f)) (family s f)
           (λ k h. (h, eq-far k f (family-own s f k h))) mid.elsewhere (one-elsewhere (without_snapshot s f) (with_page_given_up (without_snapshot s f) f b) f (one-given (without_snapshot s f) page f mid.sound found mid.single b))));
       outside = outside-then s (without_snapshot s f) (with_page_given_up (without_snapshot s f) f b) (outside-calm s (without_snapshot s f) (calm-rows s (without_snapshot s f).rows s.free s.cached s.clock mid.rows) sound) (outside-given (without_snapshot s f) page f mid.sound found mid.single b refl);
       absent = absent-given (without_snapshot s f) page f mid.sound found mid.single b;
@@ -306,25 +306,25 @@ aborts-none s page sound absent = record {
 
 -- what the parts make of the store
 made_so : (core : CoreSeen) (names : List (Option PageName)) (lists : ListsSeen) (rows : List Row) (clock : ClockSeen) (bays : List BaySeen) (order : List ℕ) (f : ℕ) (b : Option (List ℕ))
-    → store_of core (set names f None) (cond (is_some b) (record lists { cached = without lists.cached f; free = lists.free ++ f ∷ [] }) lists) (cond (is_some b) (set rows f clear_row) (set rows f (record (row_at rows f) { gone = true }))) clock bays order ≡ with_page_given_up (store_of core names lists rows clock bays order) f b
+    → store_of core (set names f None) (cond (is_some b) (record lists { cached = without_frame lists.cached f; free = lists.free ++ f ∷ [] }) lists) (cond (is_some b) (set rows f clear_row) (set rows f (record (row_at rows f) { gone = true }))) clock bays order ≡ with_page_given_up (store_of core names lists rows clock bays order) f b
 made_so core names lists rows clock bays order f None = refl
 made_so core names lists rows clock bays order f (Some bytes) = refl
 
 pub made-given : (core : CoreSeen) (names names' : List (Option PageName)) (lists lists' : ListsSeen) (rows mid rows' : List Row) (clock : ClockSeen) (bays : List BaySeen) (order : List ℕ) (f : ℕ)
     → names' ≡ set names f None → mid ≡ rows_forsaken rows f
-    → lists' ≡ cond (is_some (bytes_at core.frames f)) (record lists { cached = without lists.cached f; free = lists.free ++ f ∷ [] }) lists
+    → lists' ≡ cond (is_some (bytes_at core.frames f)) (record lists { cached = without_frame lists.cached f; free = lists.free ++ f ∷ [] }) lists
     → rows' ≡ cond (is_some (bytes_at core.frames f)) (set mid f clear_row) (set mid f (record (row_at mid f) { gone = true }))
     → store_of core names' lists' rows' clock bays order ≡ with_page_given_up (without_snapshot (store_of core names lists rows clock bays order) f) f (bytes_at core.frames f)
 made-given core names names' lists lists' rows mid rows' clock bays order f a m b c =
     ap (λ (l : List (Option PageName)). store_of core l lists' rows' clock bays order) a
     ∙ ap (λ (l : ListsSeen). store_of core (set names f None) l rows' clock bays order) b
-    ∙ ap (λ (r : List Row). store_of core (set names f None) (cond (is_some (bytes_at core.frames f)) (record lists { cached = without lists.cached f; free = lists.free ++ f ∷ [] }) lists) r clock bays order) c
+    ∙ ap (λ (r : List Row). store_of core (set names f None) (cond (is_some (bytes_at core.frames f)) (record lists { cached = without_frame lists.cached f; free = lists.free ++ f ∷ [] }) lists) r clock bays order) c
     ∙ made_so core names lists mid clock bays order f (bytes_at core.frames f)
     ∙ ap (λ (r : List Row). with_page_given_up (store_of core names lists r clock bays order) f (bytes_at core.frames f)) m
 
-frames_so : (lists : ListsSeen) (f : ℕ) (b : Bool) → (cond b (record lists { cached = without lists.cached f; free = lists.free ++ f ∷ [] }) lists).frames ≡ lists.frames
+frames_so : (lists : ListsSeen) (f : ℕ) (b : Bool) → (cond b (record lists { cached = without_frame lists.cached f; free = lists.free ++ f ∷ [] }) lists).frames ≡ lists.frames
 frames_so lists f true = refl
 frames_so lists f false = refl
 
-pub frames-given : (lists lists' : ListsSeen) (f : ℕ) (b : Bool) → lists' ≡ cond b (record lists { cached = without lists.cached f; free = lists.free ++ f ∷ [] }) lists → lists'.frames ≡ lists.frames
+pub frames-given : (lists lists' : ListsSeen) (f : ℕ) (b : Bool) → lists' ≡ cond b (record lists { cached = without_frame lists.cached f; free = lists.free ++ f ∷ [] }) lists → lists'.frames ≡ lists.frames
 frames-given lists lists' f b e = ap (λ (l : ListsSeen). l.frames) e ∙ frames_so lists f b

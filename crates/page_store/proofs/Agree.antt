@@ -9,14 +9,14 @@ use Rattle.page_lists.specs.ListsSeen.{Has}
 use Rattle.page_lock.specs.Rows.{row_at}
 use Rattle.page_lock.specs.declared.Row.{Row}
 use Rattle.page_store.specs.Bays.{BaySeen, missing, home, out, bay_at, block_of}
-use Rattle.page_store.specs.Bytes.{clipped}
+use Rattle.page_store.specs.Bytes.{clip}
 use Rattle.page_store.specs.StoreFits.{StoreFits, NoteAgrees, IsClean}
 use Rattle.page_store.specs.Laws.{SameFlights}
 use Rattle.page_store.specs.Moves.{SameDisksTell}
 use Rattle.page_store.specs.Notes.{Note, Notes, with_note}
 use Rattle.page_store.specs.Seen.{StoreSeen, IsSoundStore, IsGone, own_frame}
 use Rattle.page_store.specs.Table.{Table}
-use Rattle.page_store.specs.Value.{content_in_note, content_in_bay, content_of, stored, tells}
+use Rattle.page_store.specs.Value.{content_in_note, content_in_bay, content_of, backing_value, tells}
 use Rattle.page_store.specs.declared.place.Place.{Place}
 use Rattle.page_store.proofs.FrameLaws.{some-or-none, some-not, agrees-at, held-away}
 use Rattle.page_store.proofs.QueryLemmas.{held-within}
@@ -89,7 +89,7 @@ note-same old new table t n was origin bay row away names = record {
 
 -- a page that is clean stays clean with its bytes, its block and the notes that write it
 pub clean-same : (old new : StoreSeen) (before after : Notes) (table : Table) (k : ℕ) (n : PageName) → IsClean old before table k n
-    → SameDisksTell old before new after → bytes_at new.frames k ≡ bytes_at old.frames k → stored new after (table n) ≡ stored old before (table n)
+    → SameDisksTell old before new after → bytes_at new.frames k ≡ bytes_at old.frames k → backing_value new after (table n) ≡ backing_value old before (table n)
     → ((t : ℕ) (x : Note) → after t ≡ Some x → x.writes ≡ true → x.name ≡ n → (before t ≡ Some x) × (IsGone old x.frame → IsGone new x.frame)) → IsClean new after table k n
 clean-same old new before after table k n was alike bytes same notes = record {
   same = λ t b h. was.same (sym (alike (table n).disk) ∙ t) b (sym bytes ∙ h) ∙ sym same;
@@ -105,14 +105,14 @@ pub record Calm (old new : StoreSeen) : Type 0 where
   pub names : (k : ℕ) → bytes_at old.frames k ≡ None → (row_at new.rows k).gone ≡ false → name_at new.names (own_frame old k) ≡ name_at old.names (own_frame old k)
 
 module _ (old new : StoreSeen) (notes : Notes) (table : Table) (calm : Calm old new) where
-  pub stored-calm : (place : Place) → stored new notes place ≡ stored old notes place
-  stored-calm place = ap (λ (b : List BaySeen). stored (record old { bays = b }) notes place) calm.bays
+  pub backing_value-calm : (place : Place) → backing_value new notes place ≡ backing_value old notes place
+  backing_value-calm place = ap (λ (b : List BaySeen). backing_value (record old { bays = b }) notes place) calm.bays
 
   pub alike-calm : SameDisksTell old notes new notes
   alike-calm number = ap (λ (b : List BaySeen). tells (record old { bays = b }) notes number) calm.bays
 
   pub clean-calm : (k : ℕ) (n : PageName) → IsClean old notes table k n → bytes_at new.frames k ≡ bytes_at old.frames k → IsClean new notes table k n
-  clean-calm k n was bytes = clean-same old new notes notes table k n was alike-calm bytes (stored-calm (table n)) (λ t x h w q. (h, gone-stays (calm.rows x.frame)))
+  clean-calm k n was bytes = clean-same old new notes notes table k n was alike-calm bytes (backing_value-calm (table n)) (λ t x h w q. (h, gone-stays (calm.rows x.frame)))
 
   pub fits-calm : ((k : ℕ) (n : PageName) → Has new.cached k → name_at new.names k ≡ Some n → IsClean new notes table k n) → StoreFits old notes table → StoreFits new notes table
   fits-calm clean fits = record {
@@ -199,8 +199,8 @@ module _ (old new : StoreSeen) (notes : Notes) (table : Table) (seat : ℕ) (not
     | inr ne ↦ ap (λ (b : BaySeen). content_in_bay b (with_note notes seat (Some note))) (can.bays k ne) ∙ other_bay k (bay_at old.bays k) refl
   ]
 
-  pub stored-left : (place : Place) → stored new (with_note notes seat (Some note)) place ≡ stored old notes place
-  stored-left place = ap (λ (x : Option (List (List ℕ))). cond place.blank zeros (clipped place.valid (block_of x place.block))) (content_left place.disk)
+  pub backing_value-left : (place : Place) → backing_value new (with_note notes seat (Some note)) place ≡ backing_value old notes place
+  backing_value-left place = ap (λ (x : Option (List (List ℕ))). cond place.blank zeros (clip place.valid (block_of x place.block))) (content_left place.disk)
 
   pub alike-left : SameDisksTell old notes new (with_note notes seat (Some note))
   alike-left k = ap (λ (x : Option (List (List ℕ))). is_some x) (content_left k)
@@ -244,7 +244,7 @@ module _ (old new : StoreSeen) (notes : Notes) (table : Table) (seat : ℕ) (not
   each_cached k n h e =
       let far : k ≢ note.frame = (can.cached k h).1 in
       let was = can.fits.each_cached k n (can.cached k h).0 (sym (can.names k far) ∙ e) in
-      clean-same old new notes (with_note notes seat (Some note)) table k n was alike-left (can.bytes k far) (stored-left (table n))
+      clean-same old new notes (with_note notes seat (Some note)) table k n was alike-left (can.bytes k far) (backing_value-left (table n))
       (λ t x f w q. elim (cases_eq t seat) [
         | inl here ↦
             let b : note ≡ x = this_note t x here f in

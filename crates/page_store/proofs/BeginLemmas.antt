@@ -15,24 +15,24 @@ use Rattle.page_lists.specs.ListsSeen.{ListsSeen, Has, AreApart, first_of}
 use Rattle.page_lock.specs.Rows.{row_at, clear_row}
 use Rattle.page_lock.specs.declared.Row.{Row}
 use Rattle.page_store.specs.Bays.{BaySeen, missing, home, out, bay_at}
-use Rattle.page_store.specs.Bytes.{clipped}
+use Rattle.page_store.specs.Bytes.{clip}
 use Rattle.page_store.specs.StoreFits.{StoreFits, NoteAgrees}
 use Rattle.page_store.specs.Flight.{FlightSeen, note_of}
-use Rattle.page_store.specs.Moves.{TakesFrame, Touches, after_taking, only, family, family_of}
+use Rattle.page_store.specs.Moves.{TakesFrame, Touches, after_taking, is_only, family, family_of}
 use Rattle.page_store.specs.Notes.{Note, Notes, with_note}
 use Rattle.page_store.specs.Out.{HasOut, IsFlightOf}
 use Rattle.page_store.specs.Seen.{StoreSeen, IsSoundStore, FrameAgrees, ArePaired, IsListedFrame, store_of, own_frame, residence, residence_in}
 use Rattle.page_store.specs.Parts.{rows_paired, rows_forsaken, rows_pushed, names_taken}
 use Rattle.page_store.specs.Steps.{with_read_begun, with_page_sent, with_snapshot_sent, with_push_begun, without_snapshot, held_row, next_frame, next_name, name_in, rest_free, rest_cached}
 use Rattle.page_store.specs.Table.{Table}
-use Rattle.page_store.specs.Transfers.{BeginsTransfer, LivesAt, rewritten_in, taken_or, touched_by, residence_begun}
-use Rattle.page_store.specs.Value.{value, value_in, stored, tells}
+use Rattle.page_store.specs.Transfers.{BeginsTransfer, LivesAt, is_rewritten_in, taken_or, is_touched_by, residence_begun}
+use Rattle.page_store.specs.Value.{value, value_in, backing_value, tells}
 use Rattle.page_store.specs.declared.place.Place.{Place}
 use Rattle.page_store.specs.declared.plan.Plan.{Plan}
 use Rattle.page_store.specs.declared.plan.Plan.TheVariants.{Read, Push}
 use Rattle.page_store.specs.declared.residence.Residence.{Residence}
 use Rattle.page_store.specs.declared.residence.Residence.TheVariants.{Home, Moving, Absent}
-use Rattle.page_store.proofs.Agree.{Leaves, SameOut, same-row, own-self, own-other, stored-left, alike-left, notes-left, fits-left}
+use Rattle.page_store.proofs.Agree.{Leaves, SameOut, same-row, own-self, own-other, backing_value-left, alike-left, notes-left, fits-left}
 use Rattle.page_store.proofs.AbortLemmas.{Forsakes, forsakes}
 use Rattle.page_store.proofs.Elsewhere.{Elsewhere, OneFrame, SoundAt, one-elsewhere, one-within, of-touches, elsewhere-then, same-elsewhere, only-none, sound-one, sound-elsewhere, touches, touches-one, paired-one, value-elsewhere}
 use Rattle.page_store.proofs.FillLemmas.{taken-home, taken-within, taken-name, taken-row, taken-snapshot, taken-source, taken-free, taken-cached, taken-lost, taken-value, next-is, next-own, next-other}
@@ -52,7 +52,7 @@ whole-out bays number seat lt was k d h = elim (cases_eq k number) [
 ]
 
 -- a value that no frame cuts
-pub uncut : (b : Bool) (place : Place) (x : List ℕ) → b ≡ false → x ≡ cond b (clipped place.valid x) x
+pub uncut : (b : Bool) (place : Place) (x : List ℕ) → b ≡ false → x ≡ cond b (clip place.valid x) x
 uncut false place x h = refl
 uncut true place x h = let z : true ≡ false = h in absurd (cc)
 
@@ -171,14 +171,14 @@ module _ (s : StoreSeen) (f : FlightSeen) (sound : IsSoundStore s) (next : next_
       unwritten = λ w. absurd (let z : true ≡ false = sym w ∙ reads in cc);
     }
 
-    stored_now : (place : Place) → stored (with_read_begun s f.frame f.name f.seat f.number) (with_note notes f.seat (Some (note_of f))) place ≡ stored s notes place
-    stored_now = stored-left s (with_read_begun s f.frame f.name f.seat f.number) notes table f.seat (note_of f) leaves_fetched
+    stored_now : (place : Place) → backing_value (with_read_begun s f.frame f.name f.seat f.number) (with_note notes f.seat (Some (note_of f))) place ≡ backing_value s notes place
+    stored_now = backing_value-left s (with_read_begun s f.frame f.name f.seat f.number) notes table f.seat (note_of f) leaves_fetched
 
-    value_own : (place : Place) → value_in (Some f.frame) (with_read_begun s f.frame f.name f.seat f.number) (with_note notes f.seat (Some (note_of f))) place ≡ stored s notes place
+    value_own : (place : Place) → value_in (Some f.frame) (with_read_begun s f.frame f.name f.seat f.number) (with_note notes f.seat (Some (note_of f))) place ≡ backing_value s notes place
     value_own place = rw (away_now, row_now, with_note-same notes f.seat (Some (note_of f)))
-        (ap (λ (b : Bool). cond b f.bytes (stored (with_read_begun s f.frame f.name f.seat f.number) (with_note notes f.seat (Some (note_of f))) place)) reads ∙ stored_now place)
+        (ap (λ (b : Bool). cond b f.bytes (backing_value (with_read_begun s f.frame f.name f.seat f.number) (with_note notes f.seat (Some (note_of f))) place)) reads ∙ stored_now place)
 
-    own_before : value s notes table f.name ≡ stored s notes (table f.name)
+    own_before : value s notes table f.name ≡ backing_value s notes (table f.name)
     own_before = ap (λ (o : Option ℕ). value_in o s notes (table f.name)) absent
 
     value_fetched : (n : PageName) → IsTrue (tells s notes (table n).disk) → value (with_read_begun s f.frame f.name f.seat f.number) (with_note notes f.seat (Some (note_of f))) table n ≡ after_taking (next_name s) n (table n) (value s notes table n)
@@ -189,7 +189,7 @@ module _ (s : StoreSeen) (f : FlightSeen) (sound : IsSoundStore s) (next : next_
       | inr ne ↦ elim (holds-or-not (name_at s.names f.frame) n) [
         | inl h ↦ rw (lost_fetched n h, next-own s f.frame sound next n h) (stored_now (table n) ∙ taken-value s f.frame sound next notes table n fits h t)
         | inr before ↦
-            value-elsewhere s (with_read_begun s f.frame f.name f.seat f.number) (only (Some f.frame)) distinct_now (one-elsewhere s (with_read_begun s f.frame f.name f.seat f.number) f.frame one_fetched) notes (with_note notes f.seat (Some (note_of f))) table n
+            value-elsewhere s (with_read_begun s f.frame f.name f.seat f.number) (is_only (Some f.frame)) distinct_now (one-elsewhere s (with_read_begun s f.frame f.name f.seat f.number) f.frame one_fetched) notes (with_note notes f.seat (Some (note_of f))) table n
             (only-none s.names f.frame n before) (only-none (set s.names f.frame (Some f.name)) f.frame n (after_far n ne)) (stored_now (table n))
             (λ g u far h. notes-left s (with_read_begun s f.frame f.name f.seat f.number) notes table f.seat (note_of f) leaves_fetched g u h)
             ∙ uncut (is_name (next_name s) n) (table n) (value s notes table n) (next-other s f.frame sound next n before)
@@ -208,11 +208,11 @@ module _ (s : StoreSeen) (f : FlightSeen) (sound : IsSoundStore s) (next : next_
     sound = sound_fetched;
     out = record { origin = origin; out = out_fetched };
     disks = λ k ne. get_or-set_other s.bays f.number k (out f.seat) missing ne;
-    touches = subst (λ (o : Option ℕ). Touches s (with_read_begun s f.frame f.name f.seat f.number) (only o)) (sym next) (touches-one s (with_read_begun s f.frame f.name f.seat f.number) f.frame distinct_now one_fetched);
+    touches = subst (λ (o : Option ℕ). Touches s (with_read_begun s f.frame f.name f.seat f.number) (is_only o)) (sym next) (touches-one s (with_read_begun s f.frame f.name f.seat f.number) f.frame distinct_now one_fetched);
     page = rw (found_now, away_now, row_now) refl;
     modified = λ own e. absurd (let z : None ≡ Some own = sym absent ∙ e in cc);
     ungone = ap (λ (r : Row). r.gone) row_now;
-    unwritten = ap (λ (o : Option ℕ). rewritten_in o (with_read_begun s f.frame f.name f.seat f.number)) source_now;
+    unwritten = ap (λ (o : Option ℕ). is_rewritten_in o (with_read_begun s f.frame f.name f.seat f.number)) source_now;
     unlisted = λ l. elim l [ inl a ↦ taken-free s f.frame sound next a | inr b ↦ taken-cached s f.frame sound next b ];
     lost = λ n h. ap (λ (o : Option ℕ). residence_in o (with_read_begun s f.frame f.name f.seat f.number)) (lost_fetched n (sym (next-is s f.frame sound next) ∙ h));
     stay = λ n ne other. (touches-one s (with_read_begun s f.frame f.name f.seat f.number) f.frame distinct_now one_fetched).residence n
@@ -337,9 +337,9 @@ module _ (s : StoreSeen) (f : FlightSeen) (sound : IsSoundStore s) (next : next_
   value_sent notes table fits idle lives n = elim (holds-or-not (name_at s.names f.frame) n) [
     | inl h ↦
         let found_n : find s.names n ≡ Some f.frame = find-some s.names n f.frame sound.distinct h in
-        rw (found_n, gone_away, row_sent, with_note-same notes f.seat (Some (note_of f)), bytes) (ap (λ (b : Bool). cond b f.bytes (stored (with_page_sent s f.frame f.seat f.number) (with_note notes f.seat (Some (note_of f))) (table n))) writes)
-    | inr before ↦ value-elsewhere s (with_page_sent s f.frame f.seat f.number) (only (Some f.frame)) sound.distinct (one-elsewhere s (with_page_sent s f.frame f.seat f.number) f.frame one_sent) notes (with_note notes f.seat (Some (note_of f))) table n
-        (only-none s.names f.frame n before) (only-none s.names f.frame n before) (stored-left s (with_page_sent s f.frame f.seat f.number) notes table f.seat (note_of f) (leaves_sent notes table fits idle lives) (table n))
+        rw (found_n, gone_away, row_sent, with_note-same notes f.seat (Some (note_of f)), bytes) (ap (λ (b : Bool). cond b f.bytes (backing_value (with_page_sent s f.frame f.seat f.number) (with_note notes f.seat (Some (note_of f))) (table n))) writes)
+    | inr before ↦ value-elsewhere s (with_page_sent s f.frame f.seat f.number) (is_only (Some f.frame)) sound.distinct (one-elsewhere s (with_page_sent s f.frame f.seat f.number) f.frame one_sent) notes (with_note notes f.seat (Some (note_of f))) table n
+        (only-none s.names f.frame n before) (only-none s.names f.frame n before) (backing_value-left s (with_page_sent s f.frame f.seat f.number) notes table f.seat (note_of f) (leaves_sent notes table fits idle lives) (table n))
         (λ g u far h. notes-left s (with_page_sent s f.frame f.seat f.number) notes table f.seat (note_of f) (leaves_sent notes table fits idle lives) g u h)
   ]
 
@@ -354,15 +354,15 @@ module _ (s : StoreSeen) (f : FlightSeen) (sound : IsSoundStore s) (next : next_
     sound = sound_sent;
     out = record { origin = origin; out = out_sent };
     disks = λ k ne. get_or-set_other s.bays f.number k (out f.seat) missing ne;
-    touches = touches s (with_page_sent s f.frame f.seat f.number) (touched_by (Push f.name) s) sound.distinct
-        (one-within s (with_page_sent s f.frame f.seat f.number) f.frame (touched_by (Push f.name) s) one_sent
-        (λ k h. family-own s f.frame k (family-of-own s (find s.names f.name) f.frame k found (false-right (only (next_frame s) k) (family_of s (find s.names f.name) k) h))));
+    touches = touches s (with_page_sent s f.frame f.seat f.number) (is_touched_by (Push f.name) s) sound.distinct
+        (one-within s (with_page_sent s f.frame f.seat f.number) f.frame (is_touched_by (Push f.name) s) one_sent
+        (λ k h. family-own s f.frame k (family-of-own s (find s.names f.name) f.frame k found (false-right (is_only (next_frame s) k) (family_of s (find s.names f.name) k) h))));
     page = rw (next, found, gone_away, row_sent) refl;
     modified = λ own e.
         let q : f.frame ≡ own = let z : Some f.frame ≡ Some own = sym found ∙ e in cc in
         subst (λ (j : ℕ). (row_at (set s.rows f.frame (held_row (row_at s.rows f.frame) f.seat)) j).modified ≡ (row_at s.rows j).modified) q (ap (λ (r : Row). r.modified) row_sent);
     ungone = ap (λ (r : Row). r.gone) row_sent ∙ own_gone;
-    unwritten = ap (λ (o : Option ℕ). rewritten_in o (with_page_sent s f.frame f.seat f.number)) source_sent;
+    unwritten = ap (λ (o : Option ℕ). is_rewritten_in o (with_page_sent s f.frame f.seat f.number)) source_sent;
     unlisted = unlisted;
     lost = λ n h. absurd (let z : None ≡ Some n = sym none_next ∙ h in cc);
     stay = λ n ne other. (touches-one s (with_page_sent s f.frame f.seat f.number) f.frame sound.distinct one_sent).residence n (only-none s.names f.frame n (far_name n ne)) (only-none s.names f.frame n (far_name n ne));
@@ -614,7 +614,7 @@ module _ (s : StoreSeen) (f : FlightSeen) (own : ℕ) (sound : IsSoundStore s) (
   value_copied : (notes : Notes) (table : Table) (fits : StoreFits s notes table) (idle : notes f.seat ≡ None) (lives : LivesAt (Push f.name) table f.number f.block f.valid) (n : PageName) → IsTrue (tells s notes (table n).disk)
       → value (with_snapshot_sent s own f.frame f.seat f.number) (with_note notes f.seat (Some (note_of f))) table n ≡ after_taking (next_name s) n (table n) (value s notes table n)
   value_copied notes table fits idle lives n t =
-      let same = stored-left s (with_snapshot_sent s own f.frame f.seat f.number) notes table f.seat (note_of f) (leaves_copied notes table fits idle lives) (table n) in
+      let same = backing_value-left s (with_snapshot_sent s own f.frame f.seat f.number) notes table f.seat (note_of f) (leaves_copied notes table fits idle lives) (table n) in
       elim (holds-or-not (name_at s.names f.frame) n) [
         | inl h ↦ rw (taken-lost s f.frame sound next None n (λ q. cc) h, next-own s f.frame sound next n h) (same ∙ taken-value s f.frame sound next notes table n fits h t)
         | inr before ↦ elim (is-or-not n f.name) [
@@ -627,18 +627,18 @@ module _ (s : StoreSeen) (f : FlightSeen) (own : ℕ) (sound : IsSoundStore s) (
         ] ∙ uncut (is_name (next_name s) n) (table n) (value s notes table n) (next-other s f.frame sound next n before)
       ]
 
-  in_both : (k : ℕ) → touched_by (Push f.name) s k ≡ false → either own f.frame k ≡ false
+  in_both : (k : ℕ) → is_touched_by (Push f.name) s k ≡ false → either own f.frame k ≡ false
   in_both k h = or-both (k == own) (k == f.frame)
-      (eq-far k own (family-own s own k (family-of-own s (find s.names f.name) own k found (false-right (only (next_frame s) k) (family_of s (find s.names f.name) k) h))))
-      (ap (λ (o : Option ℕ). only o k) (sym next) ∙ false-left (only (next_frame s) k) (family_of s (find s.names f.name) k) h)
+      (eq-far k own (family-own s own k (family-of-own s (find s.names f.name) own k found (false-right (is_only (next_frame s) k) (family_of s (find s.names f.name) k) h))))
+      (ap (λ (o : Option ℕ). is_only o k) (sym next) ∙ false-left (is_only (next_frame s) k) (family_of s (find s.names f.name) k) h)
 
   pub begins-copied : BeginsTransfer s (with_snapshot_sent s own f.frame f.seat f.number) (Push f.name) f.name f
   begins-copied = record {
     sound = sound_copied;
     out = record { origin = origin; out = out_copied };
     disks = λ k ne. get_or-set_other s.bays f.number k (out f.seat) missing ne;
-    touches = touches s (with_snapshot_sent s own f.frame f.seat f.number) (touched_by (Push f.name) s) distinct_copied
-        (elsewhere-then s (with_snapshot_sent s own f.frame f.seat f.number) (with_snapshot_sent s own f.frame f.seat f.number) (either own f.frame) (either own f.frame) (touched_by (Push f.name) s) (λ k h. (in_both k h, in_both k h)) elsewhere_copied (same-elsewhere (with_snapshot_sent s own f.frame f.seat f.number) (either own f.frame)));
+    touches = touches s (with_snapshot_sent s own f.frame f.seat f.number) (is_touched_by (Push f.name) s) distinct_copied
+        (elsewhere-then s (with_snapshot_sent s own f.frame f.seat f.number) (with_snapshot_sent s own f.frame f.seat f.number) (either own f.frame) (either own f.frame) (is_touched_by (Push f.name) s) (λ k h. (in_both k h, in_both k h)) elsewhere_copied (same-elsewhere (with_snapshot_sent s own f.frame f.seat f.number) (either own f.frame)));
     page =
         let now : residence (with_snapshot_sent s own f.frame f.seat f.number) f.name ≡ Home own = rw (found_copied, own_bytes) refl in
         let was : residence s f.name ≡ Home own = rw (found, bytes) refl in
@@ -647,7 +647,7 @@ module _ (s : StoreSeen) (f : FlightSeen) (own : ℕ) (sound : IsSoundStore s) (
         let q : own ≡ k = let z : Some own ≡ Some k = sym found ∙ e in cc in
         subst (λ (j : ℕ). (row_at (rows_paired s.rows own f.frame f.seat) j).modified ≡ (row_at s.rows j).modified) q (ap (λ (r : Row). r.modified) at_own);
     ungone = ap (λ (r : Row). r.gone) at_copy;
-    unwritten = ap (λ (o : Option ℕ). rewritten_in o (with_snapshot_sent s own f.frame f.seat f.number)) source_copied ∙ ap (λ (r : Row). r.rewritten) at_own;
+    unwritten = ap (λ (o : Option ℕ). is_rewritten_in o (with_snapshot_sent s own f.frame f.seat f.number)) source_copied ∙ ap (λ (r : Row). r.rewritten) at_own;
     unlisted = copy_unlisted;
     lost = λ n h. ap (λ (o : Option ℕ). residence_in o (with_snapshot_sent s own f.frame f.seat f.number)) (taken-lost s f.frame sound next None n (λ q. cc) (sym (next-is s f.frame sound next) ∙ h));
     stay = λ n ne other. (touches s (with_snapshot_sent s own f.frame f.seat f.number) (either own f.frame) distinct_copied elsewhere_copied).residence n
@@ -668,16 +668,16 @@ module _ (s : StoreSeen) (f : FlightSeen) (own : ℕ) (sound : IsSoundStore s) (
   mid_source = named-unsourced (bytes_at s.frames own) (name_at s.names own) (row_at (without_snapshot s own).rows own) ((forsakes s own sound).sound.each own (bytes-within s.frames own f.bytes bytes)) f.name (find-at s.names f.name own found)
 
   mid_family : (k : ℕ) → k ≢ own → family (without_snapshot s own) own k ≡ false
-  mid_family k ne = or-both (k == own) (only (row_at (without_snapshot s own).rows own).snapshot k || only (row_at (without_snapshot s own).rows own).source k) (eq-far k own ne)
-      (or-both (only (row_at (without_snapshot s own).rows own).snapshot k) (only (row_at (without_snapshot s own).rows own).source k)
-      (ap (λ (o : Option ℕ). only o k) (forsakes s own sound).single) (ap (λ (o : Option ℕ). only o k) mid_source))
+  mid_family k ne = or-both (k == own) (is_only (row_at (without_snapshot s own).rows own).snapshot k || is_only (row_at (without_snapshot s own).rows own).source k) (eq-far k own ne)
+      (or-both (is_only (row_at (without_snapshot s own).rows own).snapshot k) (is_only (row_at (without_snapshot s own).rows own).source k)
+      (ap (λ (o : Option ℕ). is_only o k) (forsakes s own sound).single) (ap (λ (o : Option ℕ). is_only o k) mid_source))
 
-  family_push : (k : ℕ) → touched_by (Push f.name) s k ≡ false → family s own k ≡ false
-  family_push k h = family-of-own s (find s.names f.name) own k found (false-right (only (next_frame s) k) (family_of s (find s.names f.name) k) h)
+  family_push : (k : ℕ) → is_touched_by (Push f.name) s k ≡ false → family s own k ≡ false
+  family_push k h = family-of-own s (find s.names f.name) own k found (false-right (is_only (next_frame s) k) (family_of s (find s.names f.name) k) h)
 
-  touched_mid : (k : ℕ) → touched_by (Push f.name) s k ≡ false → touched_by (Push f.name) (without_snapshot s own) k ≡ false
-  touched_mid k h = or-both (only (next_frame s) k) (family_of (without_snapshot s own) (find s.names f.name) k)
-      (false-left (only (next_frame s) k) (family_of s (find s.names f.name) k) h)
+  touched_mid : (k : ℕ) → is_touched_by (Push f.name) s k ≡ false → is_touched_by (Push f.name) (without_snapshot s own) k ≡ false
+  touched_mid k h = or-both (is_only (next_frame s) k) (family_of (without_snapshot s own) (find s.names f.name) k)
+      (false-left (is_only (next_frame s) k) (family_of s (find s.names f.name) k) h)
       (subst (λ (o : Option ℕ). family_of (without_snapshot s own) o k ≡ false) (sym found) (mid_family k (family-own s own k (family_push k h))))
 
   after_forsaken : (new : StoreSeen) → BeginsTransfer (without_snapshot s own) new (Push f.name) f.name f → BeginsTransfer s new (Push f.name) f.name f
@@ -688,9 +688,9 @@ module _ (s : StoreSeen) (f : FlightSeen) (own : ℕ) (sound : IsSoundStore s) (
         sound = b.sound;
         out = b.out;
         disks = b.disks;
-        touches = touches s new (touched_by (Push f.name) s) b.sound.distinct
-            (elsewhere-then s (without_snapshot s own) new (family s own) (touched_by (Push f.name) (without_snapshot s own)) (touched_by (Push f.name) s) (λ k h. (family_push k h, touched_mid k h))
-            mid.elsewhere (of-touches (without_snapshot s own) new (touched_by (Push f.name) (without_snapshot s own)) b.touches));
+        touches = touches s new (is_touched_by (Push f.name) s) b.sound.distinct
+            (elsewhere-then s (without_snapshot s own) new (family s own) (is_touched_by (Push f.name) (without_snapshot s own)) (is_touched_by (Push f.name) s) (λ k h. (family_push k h, touched_mid k h))
+            mid.elsewhere (of-touches (without_snapshot s own) new (is_touched_by (Push f.name) (without_snapshot s own)) b.touches));
         page = b.page ∙ ap (λ (r : Residence). cond (is_some (next_frame s)) r (Moving f.seat)) (same f.name);
         modified = λ k e.
             let q : own ≡ k = let z : Some own ≡ Some k = sym found ∙ e in cc in

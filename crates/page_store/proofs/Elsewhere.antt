@@ -11,11 +11,11 @@ use Rattle.page_lists.specs.ListsSeen.{Has, AreApart}
 use Rattle.page_lock.specs.Rows.{row_at}
 use Rattle.page_lock.specs.declared.Row.{Row}
 use Rattle.page_store.specs.Bays.{home, bay_at}
-use Rattle.page_store.specs.Moves.{Touches, only}
+use Rattle.page_store.specs.Moves.{Touches, is_only}
 use Rattle.page_store.specs.Notes.{Note, Notes}
 use Rattle.page_store.specs.Seen.{StoreSeen, IsSoundStore, IsOrder, FrameAgrees, ArePaired, IsListedFrame, lists_seen, residence_in, residence_of}
 use Rattle.page_store.specs.Table.{Table}
-use Rattle.page_store.specs.Value.{value, value_in, stored, note_of_holder, held}
+use Rattle.page_store.specs.Value.{value, value_in, backing_value, note_of_holder, frame_value}
 use Rattle.page_store.specs.declared.place.Place.{Place}
 use Rattle.page_store.proofs.FrameLaws.{eq-not, eq-is}
 
@@ -37,7 +37,7 @@ pub record OneFrame (old new : StoreSeen) (f : ℕ) : Type 0 where
   pub free : (k : ℕ) → k ≢ f → Has new.free k ↔ Has old.free k
   pub cached : (k : ℕ) → k ≢ f → Has new.cached k ↔ Has old.cached k
 
-pub one-elsewhere : (old new : StoreSeen) (f : ℕ) → OneFrame old new f → Elsewhere old new (only (Some f))
+pub one-elsewhere : (old new : StoreSeen) (f : ℕ) → OneFrame old new f → Elsewhere old new (is_only (Some f))
 one-elsewhere old new f e = record {
   frames = e.frames;
   bytes = λ k h. e.bytes k (eq-not k f h);
@@ -90,7 +90,7 @@ untouched names touched k n differs h = elim (cases_Bool (touched k)) [
 ]
 
 -- only one frame is in the set of one
-pub only-none : (names : List (Option PageName)) (f : ℕ) (n : PageName) → (name_at names f ≡ Some n → ⊥) → (j : ℕ) → only (Some f) j ≡ true → name_at names j ≡ Some n → ⊥
+pub only-none : (names : List (Option PageName)) (f : ℕ) (n : PageName) → (name_at names f ≡ Some n → ⊥) → (j : ℕ) → is_only (Some f) j ≡ true → name_at names j ≡ Some n → ⊥
 only-none names f n differs j t h = differs (subst (λ (k : ℕ). name_at names k ≡ Some n) (eq-is j f t) h)
 
 module _ (old new : StoreSeen) (touched : ℕ → Bool) (distinct' : AreDistinct new.names) (e : Elsewhere old new touched) where
@@ -122,16 +122,16 @@ module _ (old new : StoreSeen) (touched : ℕ → Bool) (distinct' : AreDistinct
   holder_note before after (Some t) notes = notes t refl
 
   -- a frame outside the set has for a name the value that it had
-  pub value_in-same : (before after : Notes) (place : Place) (g : ℕ) → touched g ≡ false → stored new after place ≡ stored old before place
+  pub value_in-same : (before after : Notes) (place : Place) (g : ℕ) → touched g ≡ false → backing_value new after place ≡ backing_value old before place
       → ((t : ℕ) → (row_at old.rows g).holder ≡ Some t → after t ≡ before t) → value_in (Some g) new after place ≡ value_in (Some g) old before place
   value_in-same before after place g far same notes =
-      ap (λ (b : Option (List ℕ)). held b (note_of_holder (row_at new.rows g).holder after) (stored new after place)) (e.bytes g far)
-      ∙ ap (λ (r : Row). held (bytes_at old.frames g) (note_of_holder r.holder after) (stored new after place)) (e.rows g far)
-      ∙ ap (λ (x : List ℕ). held (bytes_at old.frames g) (note_of_holder (row_at old.rows g).holder after) x) same
-      ∙ ap (λ (x : Option Note). held (bytes_at old.frames g) x (stored old before place)) (holder_note before after (row_at old.rows g).holder notes)
+      ap (λ (b : Option (List ℕ)). frame_value b (note_of_holder (row_at new.rows g).holder after) (backing_value new after place)) (e.bytes g far)
+      ∙ ap (λ (r : Row). frame_value (bytes_at old.frames g) (note_of_holder r.holder after) (backing_value new after place)) (e.rows g far)
+      ∙ ap (λ (x : List ℕ). frame_value (bytes_at old.frames g) (note_of_holder (row_at old.rows g).holder after) x) same
+      ∙ ap (λ (x : Option Note). frame_value (bytes_at old.frames g) x (backing_value old before place)) (holder_note before after (row_at old.rows g).holder notes)
 
   value_found : (before after : Notes) (place : Place) (n : PageName) (o : Option ℕ) → find old.names n ≡ o → ((j : ℕ) → touched j ≡ true → name_at old.names j ≡ Some n → ⊥)
-      → stored new after place ≡ stored old before place → ((g t : ℕ) → touched g ≡ false → (row_at old.rows g).holder ≡ Some t → after t ≡ before t)
+      → backing_value new after place ≡ backing_value old before place → ((g t : ℕ) → touched g ≡ false → (row_at old.rows g).holder ≡ Some t → after t ≡ before t)
       → value_in o new after place ≡ value_in o old before place
   value_found before after place n None h differs same notes = same
   value_found before after place n (Some g) h differs same notes =
@@ -140,7 +140,7 @@ module _ (old new : StoreSeen) (touched : ℕ → Bool) (distinct' : AreDistinct
 
   -- a name that these frames hold neither before nor after keeps its value
   pub value-elsewhere : (before after : Notes) (table : Table) (n : PageName) → ((j : ℕ) → touched j ≡ true → name_at old.names j ≡ Some n → ⊥) → ((j : ℕ) → touched j ≡ true → name_at new.names j ≡ Some n → ⊥)
-      → stored new after (table n) ≡ stored old before (table n) → ((g t : ℕ) → touched g ≡ false → (row_at old.rows g).holder ≡ Some t → after t ≡ before t)
+      → backing_value new after (table n) ≡ backing_value old before (table n) → ((g t : ℕ) → touched g ≡ false → (row_at old.rows g).holder ≡ Some t → after t ≡ before t)
       → value new after table n ≡ value old before table n
   value-elsewhere before after table n was now same notes =
       ap (λ (o : Option ℕ). value_in o new after (table n)) (found-same n was now) ∙ value_found before after (table n) n (find old.names n) refl was same notes
@@ -202,10 +202,10 @@ sound-elsewhere old new touched e sound parts here = record {
 -- the same where one frame changes
 pub sound-one : (old new : StoreSeen) (f : ℕ) → OneFrame old new f → IsSoundStore old → SoundParts old new → SoundAt new f → IsSoundStore new
 sound-one old new f e sound parts here =
-    sound-elsewhere old new (only (Some f)) (one-elsewhere old new f e) sound parts (λ k t. subst (λ (j : ℕ). SoundAt new j) (sym (eq-is k f t)) here)
+    sound-elsewhere old new (is_only (Some f)) (one-elsewhere old new f e) sound parts (λ k t. subst (λ (j : ℕ). SoundAt new j) (sym (eq-is k f t)) here)
 
-pub touches-one : (old new : StoreSeen) (f : ℕ) → AreDistinct new.names → OneFrame old new f → Touches old new (only (Some f))
-touches-one old new f distinct e = touches old new (only (Some f)) distinct (one-elsewhere old new f e)
+pub touches-one : (old new : StoreSeen) (f : ℕ) → AreDistinct new.names → OneFrame old new f → Touches old new (is_only (Some f))
+touches-one old new f distinct e = touches old new (is_only (Some f)) distinct (one-elsewhere old new f e)
 
 -- pages and snapshots stay paired where each frame has the links that it had, and those that have a snapshot stay
 pub paired-links : (old new : StoreSeen) → ArePaired old → ((k : ℕ) → (row_at new.rows k).snapshot ≡ (row_at old.rows k).snapshot) → ((k : ℕ) → (row_at new.rows k).source ≡ (row_at old.rows k).source)

@@ -15,32 +15,32 @@ use Rattle.page_lists.proofs.ListLemmas.{has-more, more-has, once-more}
 use Rattle.page_lock.specs.Rows.{row_at, clear_row}
 use Rattle.page_lock.specs.declared.Row.{Row}
 use Rattle.page_store.specs.Bays.{BaySeen, missing, home, out, bay_at, block_of}
-use Rattle.page_store.specs.Bytes.{clipped}
+use Rattle.page_store.specs.Bytes.{clip}
 use Rattle.page_store.specs.StoreFits.{StoreFits, IsClean}
 use Rattle.page_store.specs.Flight.{FlightSeen, Progress, fresh, done, failed, IsPerformed, IsRead, IsWritten, HasBlock}
-use Rattle.page_store.specs.Moves.{Touches, only, family}
+use Rattle.page_store.specs.Moves.{Touches, is_only, family}
 use Rattle.page_store.specs.Notes.{Note, Notes, with_note}
 use Rattle.page_store.specs.Out.{IsFlightOf}
 use Rattle.page_store.specs.Parts.{rows_settled}
 use Rattle.page_store.specs.Seen.{StoreSeen, IsSoundStore, FrameAgrees, IsListedFrame, IsGone, own_frame, residence, residence_in}
 use Rattle.page_store.specs.Steps.{with_flight_landed, landed_row, with_pair_parted, after_end, is_lost, is_dirty}
 use Rattle.page_store.specs.Table.{Table}
-use Rattle.page_store.specs.Transfers.{EndsTransfer, EndsValues, ComesHome, was_rewritten, rewritten_in}
-use Rattle.page_store.specs.Value.{value, value_in, stored, tells, content_of, content_in_bay}
+use Rattle.page_store.specs.Transfers.{EndsTransfer, EndsValues, ComesHome, was_rewritten, is_rewritten_in}
+use Rattle.page_store.specs.Value.{value, value_in, backing_value, tells, content_of, content_in_bay}
 use Rattle.page_store.specs.declared.place.Place.{Place}
 use Rattle.page_store.specs.declared.residence.Residence.TheVariants.{Home, Absent}
-use Rattle.page_store.proofs.Agree.{own-self, own-other, stored-calm}
+use Rattle.page_store.proofs.Agree.{own-self, own-other, backing_value-calm}
 use Rattle.page_store.proofs.Elsewhere.{Elsewhere, OneFrame, SoundAt, one-elsewhere, one-within, elsewhere-then, same-elsewhere, only-none, sound-one, touches, touches-one, paired-one}
 use Rattle.page_store.proofs.FrameLaws.{some-not, some-or-none, none-is, snapshot-within, eq-far, false-right, away-snapshot, copy-held, copy-apart, gone-unnamed, held-away}
 use Rattle.page_store.proofs.Links.{either, or-both, family-own, family-source, sound-parted, same-parted, elsewhere-parted, parted-own-row, parted-copy-row}
 use Rattle.page_store.proofs.QueryLemmas.{held-within, residence-home}
-use Rattle.page_store.proofs.Returning.{Returns, ends-back, value-here, stored-back, content-new, content-old, frame_away, frame_held, mine_out}
+use Rattle.page_store.proofs.Returning.{Returns, ends-back, value-here, backing_value-back, content-new, content-old, frame_away, frame_held, mine_out}
 use Rattle.page_store.proofs.RowSteps.{residence-rows, values-rows, value-rows, calm-rows}
 use Rattle.page_store.proofs.TransferLemmas.{with_note-same, with_note-other, out-within, order-set}
 
 -- bytes that are cut already
-pub clipped-twice : (valid : ℕ) (bytes : List ℕ) → valid ≤ length bytes → clipped valid (clipped valid bytes) ≡ clipped valid bytes
-clipped-twice valid bytes within =
+pub clip-twice : (valid : ℕ) (bytes : List ℕ) → valid ≤ length bytes → clip valid (clip valid bytes) ≡ clip valid bytes
+clip-twice valid bytes within =
     let long : valid ≤ length (take valid bytes) = simp length-take (omega arith) in
     ap (λ (l : List ℕ). l ++ replicate (4096 - valid) 0) (take-append-le valid (take valid bytes) (replicate (4096 - valid) 0) long ∙ take-take valid valid bytes (omega arith))
 
@@ -55,7 +55,7 @@ whole-back bays number disk lt was now k d h = elim (cases_eq k number) [
   | inr ne ↦ was k d (sym (get_or-set_other bays number k (home disk) missing ne) ∙ h)
 ]
 
-told_bytes : (c : Option (List (List ℕ))) (block valid : ℕ) (bytes : List ℕ) → is_some c ≡ true → HasBlock c block valid bytes → bytes ≡ clipped valid (block_of c block)
+told_bytes : (c : Option (List (List ℕ))) (block valid : ℕ) (bytes : List ℕ) → is_some c ≡ true → HasBlock c block valid bytes → bytes ≡ clip valid (block_of c block)
 told_bytes None block valid bytes t h = absurd (let z : false ≡ true = t in cc)
 told_bytes (Some blocks) block valid bytes t h = h
 
@@ -265,7 +265,7 @@ module _ (s : StoreSeen) (f : FlightSeen) (sound : IsSoundStore s) (held : (row_
     }
 
     -- the value of the frame's name before: the note's bytes where it writes, else what is stored
-    own_before : (n : PageName) → name_at s.names f.frame ≡ Some n → value s notes table n ≡ cond note.writes note.bytes (stored s notes (table n))
+    own_before : (n : PageName) → name_at s.names f.frame ≡ Some n → value s notes table n ≡ cond note.writes note.bytes (backing_value s notes (table n))
     own_before n h = rw (find-some s.names n f.frame sound.distinct h, away, held, mine) refl
 
     ungone_named : (n : PageName) → name_at s.names f.frame ≡ Some n → (row_at s.rows f.frame).gone ≡ false
@@ -285,7 +285,7 @@ module _ (s : StoreSeen) (f : FlightSeen) (sound : IsSoundStore s) (held : (row_
         let z : Some n ≡ Some note.name = sym h ∙ ap (name_at s.names) (sym own) ∙ out_page ungone in cc
 
     -- a page that was read has its block's valid bytes
-    read_bytes : (n : PageName) → note.writes ≡ false → f.outcome ≡ done → name_at s.names f.frame ≡ Some n → IsTrue (tells s notes (table n).disk) → f.bytes ≡ stored s notes (table n)
+    read_bytes : (n : PageName) → note.writes ≡ false → f.outcome ≡ done → name_at s.names f.frame ≡ Some n → IsTrue (tells s notes (table n).disk) → f.bytes ≡ backing_value s notes (table n)
     read_bytes n reads ended h t =
         let out_note = fits.each_note f.seat note mine in
         let e : n ≡ note.name = name_is n h in
@@ -294,7 +294,7 @@ module _ (s : StoreSeen) (f : FlightSeen) (sound : IsSoundStore s) (held : (row_
         let number : (table n).disk ≡ f.number = ap (λ (x : PageName). (table x).disk) e ∙ out_note.disk ∙ sym performed.number in
         let old : content_of s notes f.number ≡ note.disk.content = content-old s (with_flight_landed s f false) notes table f note (returns-landed false) in
         let told : is_some note.disk.content ≡ true = sym (ap (λ (c : Option (List (List ℕ))). is_some c) (ap (content_of s notes) number ∙ old)) ∙ t in
-        let b : f.bytes ≡ clipped note.valid (block_of note.disk.content note.block) = told_bytes note.disk.content note.block note.valid f.bytes told (was_read note f f.outcome ended (performed.read reads)) in
+        let b : f.bytes ≡ clip note.valid (block_of note.disk.content note.block) = told_bytes note.disk.content note.block note.valid f.bytes told (was_read note f f.outcome ended (performed.read reads)) in
         let blank : (table n).blank ≡ false = ap (λ (x : PageName). (table x).blank) e ∙ at.1 in
         let valid : (table n).valid ≡ note.valid = ap (λ (x : PageName). (table x).valid) e ∙ at.0 in
         let block : (table n).block ≡ note.block = ap (λ (x : PageName). (table x).block) e ∙ out_note.block in
@@ -307,8 +307,8 @@ module _ (s : StoreSeen) (f : FlightSeen) (sound : IsSoundStore s) (held : (row_
         ap (λ (o : Option ℕ). value_in o (with_flight_landed s f false) (with_note notes f.seat None) (table n)) (find-some s.names n f.frame sound.distinct h)
         ∙ value-here s (with_flight_landed s f false) notes table f note (returns-landed false) (table n) in
         now ∙ elim (cases_Bool note.writes) [
-          | inl w ↦ performed.kept w ∙ sym (ap (λ (b : Bool). cond b note.bytes (stored s notes (table n))) w)
-          | inr r ↦ read_bytes n r (well r) h (told r) ∙ sym (ap (λ (b : Bool). cond b note.bytes (stored s notes (table n))) r)
+          | inl w ↦ performed.kept w ∙ sym (ap (λ (b : Bool). cond b note.bytes (backing_value s notes (table n))) w)
+          | inr r ↦ read_bytes n r (well r) h (told r) ∙ sym (ap (λ (b : Bool). cond b note.bytes (backing_value s notes (table n))) r)
         ] ∙ sym (own_before n h)
 
     own_lost : ((row_at s.rows f.frame).gone ≡ false → note.writes ≡ false) → (n : PageName) → name_at s.names f.frame ≡ Some n → (note.writes ≡ false → IsTrue (tells s notes (table n).disk))
@@ -316,8 +316,8 @@ module _ (s : StoreSeen) (f : FlightSeen) (sound : IsSoundStore s) (held : (row_
     own_lost reads n h told =
         let r : note.writes ≡ false = reads (ungone_named n h) in
         ap (λ (o : Option ℕ). value_in o (with_flight_landed s f true) (with_note notes f.seat None) (table n)) (find-emptied s.names n f.frame sound.distinct h)
-        ∙ stored-back s (with_flight_landed s f true) notes table f note (returns-landed true) n (λ u w q. let z : true ≡ false = sym w ∙ r in cc)
-        ∙ sym (ap (λ (b : Bool). cond b note.bytes (stored s notes (table n))) r) ∙ sym (own_before n h)
+        ∙ backing_value-back s (with_flight_landed s f true) notes table f note (returns-landed true) n (λ u w q. let z : true ≡ false = sym w ∙ r in cc)
+        ∙ sym (ap (λ (b : Bool). cond b note.bytes (backing_value s notes (table n))) r) ∙ sym (own_before n h)
 
     -- what comes of the values
     pub ends-landed : (lost : Bool) → (lost ≡ false → note.writes ≡ false → f.outcome ≡ done) → (lost ≡ true → (row_at s.rows f.frame).gone ≡ false → note.writes ≡ false)
@@ -373,28 +373,28 @@ still_told : (content : Option (List (List ℕ))) (block : ℕ) (x : List ℕ) �
 still_told None block x h = h
 still_told (Some blocks) block x h = refl
 
-written_done : (note : Note) (f : FlightSeen) (o : Progress) → o ≡ done → IsWritten note f o → f.disk.content ≡ with_block note.disk.content note.block (clipped note.valid note.bytes)
+written_done : (note : Note) (f : FlightSeen) (o : Progress) → o ≡ done → IsWritten note f o → f.disk.content ≡ with_block note.disk.content note.block (clip note.valid note.bytes)
 written_done note f fresh e p = absurd p
 written_done note f done e p = p
 written_done note f failed e p = absurd (cc)
 
 -- after a transfer that didn't fail the block has the valid bytes of the frame
 done_block : (note : Note) (f : FlightSeen) → IsPerformed note f → HasBlocks note.disk.content note.disk.size → length note.bytes ≡ 4096 → f.outcome ≡ done → is_some f.disk.content ≡ true
-    → clipped note.valid f.bytes ≡ clipped note.valid (block_of f.disk.content note.block)
+    → clip note.valid f.bytes ≡ clip note.valid (block_of f.disk.content note.block)
 done_block note f performed whole size ended t = elim (cases_Bool note.writes) [
   | inl w ↦
       let c = written_done note f f.outcome ended (performed.written w) in
-      let told = still_told note.disk.content note.block (clipped note.valid note.bytes) (sym (ap (λ (x : Option (List (List ℕ))). is_some x) c) ∙ t) in
-      let b : block_of f.disk.content note.block ≡ clipped note.valid note.bytes = ap (λ (x : Option (List (List ℕ))). block_of x note.block) c ∙ with_same note.disk.content note.block note.disk.size (clipped note.valid note.bytes) whole performed.within told in
+      let told = still_told note.disk.content note.block (clip note.valid note.bytes) (sym (ap (λ (x : Option (List (List ℕ))). is_some x) c) ∙ t) in
+      let b : block_of f.disk.content note.block ≡ clip note.valid note.bytes = ap (λ (x : Option (List (List ℕ))). block_of x note.block) c ∙ with_same note.disk.content note.block note.disk.size (clip note.valid note.bytes) whole performed.within told in
       let v = performed.valid_within in
-      ap (clipped note.valid) (performed.kept w) ∙ sym (ap (clipped note.valid) b ∙ clipped-twice note.valid note.bytes (omega arith))
+      ap (clip note.valid) (performed.kept w) ∙ sym (ap (clip note.valid) b ∙ clip-twice note.valid note.bytes (omega arith))
   | inr r ↦
       let c = performed.unchanged r in
       let told : is_some note.disk.content ≡ true = sym (ap (λ (x : Option (List (List ℕ))). is_some x) c) ∙ t in
-      let b : f.bytes ≡ clipped note.valid (block_of note.disk.content note.block) = told_bytes note.disk.content note.block note.valid f.bytes told (was_read note f f.outcome ended (performed.read r)) in
+      let b : f.bytes ≡ clip note.valid (block_of note.disk.content note.block) = told_bytes note.disk.content note.block note.valid f.bytes told (was_read note f f.outcome ended (performed.read r)) in
       let l = block_size note.disk.content note.block note.disk.size whole performed.within told in
       let v = performed.valid_within in
-      ap (clipped note.valid) b ∙ clipped-twice note.valid (block_of note.disk.content note.block) (omega arith) ∙ sym (ap (λ (x : Option (List (List ℕ))). clipped note.valid (block_of x note.block)) c)
+      ap (clip note.valid) b ∙ clip-twice note.valid (block_of note.disk.content note.block) (omega arith) ∙ sym (ap (λ (x : Option (List (List ℕ))). clip note.valid (block_of x note.block)) c)
 ]
 
 -- the page of a transfer that didn't fail is clean in a home frame that has the flight's bytes
@@ -403,7 +403,7 @@ module _ (s new : StoreSeen) (notes : Notes) (table later : Table) (f : FlightSe
   content_now : content_of new (with_note notes f.seat None) (later note.name).disk ≡ f.disk.content
   content_now = ap (content_of new (with_note notes f.seat None)) (ap (λ (p : Place). p.disk) place ∙ sym performed.number) ∙ ap (λ (b : BaySeen). content_in_bay b (with_note notes f.seat None)) disk
 
-  stored_now : stored new (with_note notes f.seat None) (later note.name) ≡ clipped note.valid (block_of f.disk.content note.block)
+  stored_now : backing_value new (with_note notes f.seat None) (later note.name) ≡ clip note.valid (block_of f.disk.content note.block)
   stored_now = rw (content_now, ap (λ (p : Place). p.blank) place, ap (λ (p : Place). p.valid) place, ap (λ (p : Place). p.block) place) refl
 
   pub clean-ended : IsClean new (with_note notes f.seat None) later k note.name
@@ -412,7 +412,7 @@ module _ (s new : StoreSeen) (notes : Notes) (table later : Table) (f : FlightSe
       record {
         same = λ t bytes b.
             let q : bytes ≡ f.bytes = let z : Some bytes ≡ Some f.bytes = sym b ∙ here in cc in
-            ap (λ (v : ℕ). clipped v bytes) (ap (λ (p : Place). p.valid) place) ∙ ap (clipped note.valid) q
+            ap (λ (v : ℕ). clip v bytes) (ap (λ (p : Place). p.valid) place) ∙ ap (clip note.valid) q
             ∙ done_block note f performed agrees.whole agrees.bytes ended (sym (ap (λ (c : Option (List (List ℕ))). is_some c) content_now) ∙ t) ∙ sym stored_now;
         unwritten = λ t x h w q. elim (cases_eq t f.seat) [
           | inl e ↦ absurd (let z : None ≡ Some x = sym (with_note-same notes f.seat None) ∙ ap (with_note notes f.seat None) (sym e) ∙ h in cc)
@@ -463,7 +463,7 @@ module _ (s : StoreSeen) (f : FlightSeen) (sound : IsSoundStore s) (is : IsFligh
         (one-within s (with_flight_landed s f (is_lost f.writes f.outcome (row_at s.rows f.frame).gone)) f.frame (family s f.frame)
         (one-landed s f sound is.out.holder is.out.bay unsourced whole size (is_lost f.writes f.outcome (row_at s.rows f.frame).gone)) (λ k h. family-own s f.frame k h));
     success = λ g e. home_here (is_lost f.writes f.outcome (row_at s.rows f.frame).gone) (was_rewritten s f.frame) (kept_done f.writes f.outcome (row_at s.rows f.frame).gone g e)
-        (ap is_dirty e ∙ sym (ap (λ (o : Option ℕ). rewritten_in o s) unsourced)) g;
+        (ap is_dirty e ∙ sym (ap (λ (o : Option ℕ). is_rewritten_in o s) unsourced)) g;
     failed_write = λ g e w. home_here (is_lost f.writes f.outcome (row_at s.rows f.frame).gone) true (kept_write f.writes f.outcome (row_at s.rows f.frame).gone g w) (ap is_dirty e) g;
     failed_read = λ g e w. absent_here (is_lost f.writes f.outcome (row_at s.rows f.frame).gone) (lost_read f.writes f.outcome (row_at s.rows f.frame).gone g e w) g;
     free = λ h. elim h [
@@ -562,7 +562,7 @@ module _ (s : StoreSeen) (f : FlightSeen) (own : ℕ) (sound : IsSoundStore s) (
       record {
         fits = second.fits;
         alike = λ number. second.alike number ∙ first.alike number;
-        stored = λ n far. second.stored n far ∙ stored-calm s mid notes table calm (table n);
+        stored = λ n far. second.stored n far ∙ backing_value-calm s mid notes table calm (table n);
         values = λ n reads writes.
             second.values n (λ r. first.alike (table n).disk ∙ reads r)
             (λ w e. inr (elim (writes w e) [
@@ -583,10 +583,10 @@ module _ (s : StoreSeen) (f : FlightSeen) (own : ℕ) (sound : IsSoundStore s) (
     disk = disk-landed mid f mid_sound mid_holder is.out.bay mid_source whole size true;
     disks = disks-landed mid f mid_sound mid_holder is.out.bay mid_source whole size true;
     touches = touches s (with_flight_landed mid f true) (family s f.frame) distinct_mid
-        (elsewhere-then s mid (with_flight_landed mid f true) (either own f.frame) (only (Some f.frame)) (family s f.frame)
+        (elsewhere-then s mid (with_flight_landed mid f true) (either own f.frame) (is_only (Some f.frame)) (family s f.frame)
         (λ k h. (or-both (k == own) (k == f.frame) (eq-far k own (family-source s own f.frame k source h)) (eq-far k f.frame (family-own s f.frame k h)), eq-far k f.frame (family-own s f.frame k h)))
         (elsewhere-parted s own f.frame bit sound source) (one-elsewhere mid (with_flight_landed mid f true) f.frame one_mid));
-    success = λ g e. comes (was_rewritten s f.frame) (ap (λ (b : Bool). b || (row_at s.rows own).rewritten) (ap is_dirty e) ∙ sym (ap (λ (o : Option ℕ). rewritten_in o s) source)) g;
+    success = λ g e. comes (was_rewritten s f.frame) (ap (λ (b : Bool). b || (row_at s.rows own).rewritten) (ap is_dirty e) ∙ sym (ap (λ (o : Option ℕ). is_rewritten_in o s) source)) g;
     failed_write = λ g e w. comes true (ap (λ (b : Bool). b || (row_at s.rows own).rewritten) (ap is_dirty e)) g;
     failed_read = λ g e w. absurd (not_reads w);
     free = λ h. free-landed mid f mid_sound mid_holder is.out.bay mid_source whole size;

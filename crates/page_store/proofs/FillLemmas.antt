@@ -11,15 +11,15 @@ use Rattle.page_hash.proofs.NameLaws.{find-at, find-some, find-none, find-absent
 use Rattle.page_lists.specs.ListsSeen.{Has, AreApart}
 use Rattle.page_lock.specs.Rows.{row_at, clear_row}
 use Rattle.page_lock.specs.declared.Row.{Row}
-use Rattle.page_store.specs.Bytes.{clipped}
+use Rattle.page_store.specs.Bytes.{clip}
 use Rattle.page_store.specs.StoreFits.{StoreFits}
 use Rattle.page_store.specs.Laws.{FillsPage}
-use Rattle.page_store.specs.Moves.{FillsFrame, Touches, after_taking, only}
+use Rattle.page_store.specs.Moves.{FillsFrame, Touches, after_taking, is_only}
 use Rattle.page_store.specs.Notes.{Notes}
 use Rattle.page_store.specs.Seen.{StoreSeen, IsSoundStore, FrameAgrees, IsListedFrame, own_frame, residence, residence_in}
 use Rattle.page_store.specs.Steps.{next_frame, next_name, name_in, with_frame_filled, fresh_row, rest_free, rest_cached}
 use Rattle.page_store.specs.Table.{Table}
-use Rattle.page_store.specs.Value.{value, stored, tells}
+use Rattle.page_store.specs.Value.{value, backing_value, tells}
 use Rattle.page_store.specs.declared.residence.Residence.TheVariants.{Home, Absent}
 use Rattle.page_store.proofs.Agree.{SameOut, same-row, Calm, own-far, clean-calm, fits-calm, outside-calm}
 use Rattle.page_store.proofs.Elsewhere.{OneFrame, SoundAt, one-elsewhere, only-none, sound-one, touches-one, paired-one, value-elsewhere, touches}
@@ -82,7 +82,7 @@ module _ (s : StoreSeen) (frame : ℕ) (sound : IsSoundStore s) (next : next_fra
       ne (sym (get_or-set_same s.names frame held None taken-name) ∙ ap (name_at (set s.names frame held)) (sym q) ∙ m))
 
   -- the value of the name that the frame had is what is stored, cut
-  pub taken-value : (notes : Notes) (table : Table) (n : PageName) → StoreFits s notes table → name_at s.names frame ≡ Some n → IsTrue (tells s notes (table n).disk) → stored s notes (table n) ≡ clipped (table n).valid (value s notes table n)
+  pub taken-value : (notes : Notes) (table : Table) (n : PageName) → StoreFits s notes table → name_at s.names frame ≡ Some n → IsTrue (tells s notes (table n).disk) → backing_value s notes (table n) ≡ clip (table n).valid (value s notes table n)
   taken-value notes table n fits h t = by_bytes (bytes_at s.frames frame) refl
     where
       found : find s.names n ≡ Some frame
@@ -94,11 +94,11 @@ module _ (s : StoreSeen) (frame : ℕ) (sound : IsSoundStore s) (next : next_fra
         | inr c ↦ c
       ]
 
-      by_bytes : (o : Option (List ℕ)) → bytes_at s.frames frame ≡ o → stored s notes (table n) ≡ clipped (table n).valid (value s notes table n)
+      by_bytes : (o : Option (List ℕ)) → bytes_at s.frames frame ≡ o → backing_value s notes (table n) ≡ clip (table n).valid (value s notes table n)
       by_bytes None e = absurd (some-not (bytes_at s.frames frame) taken-home e)
       by_bytes (Some b) e =
           let v : value s notes table n ≡ b = rw (found, e) refl in
-          sym (ap (λ (l : List ℕ). clipped (table n).valid l) v ∙ (fits.each_cached frame n was_cached h).same t b e)
+          sym (ap (λ (l : List ℕ). clip (table n).valid l) v ∙ (fits.each_cached frame n was_cached h).same t b e)
 
   -- what the next name tells of a name
   pub next-other : (n : PageName) → (name_at s.names frame ≡ Some n → ⊥) → is_name (next_name s) n ≡ false
@@ -202,15 +202,15 @@ module _ (s : StoreSeen) (frame : ℕ) (page : PageName) (bytes : List ℕ) (mod
         rw (taken-lost s frame sound next (Some page) n (λ q. let z : Some page ≡ Some n = q in ne (let w : page ≡ n = cc in sym w)) h, next-own s frame sound next n h) (taken-value s frame sound next notes table n fits h t)
     | inr other ↦
         let before : name_at s.names frame ≡ Some n → ⊥ = λ (h : name_at s.names frame ≡ Some n). let z : true ≡ false = sym (is_name-same n) ∙ sym (ap (λ (o : Option PageName). is_name o n) h) ∙ other in cc in
-        value-elsewhere s (with_frame_filled s frame page bytes modified) (only (Some frame)) distinct_after (one-elsewhere s (with_frame_filled s frame page bytes modified) frame one_filled) notes notes table n
+        value-elsewhere s (with_frame_filled s frame page bytes modified) (is_only (Some frame)) distinct_after (one-elsewhere s (with_frame_filled s frame page bytes modified) frame one_filled) notes notes table n
         (only-none s.names frame n before) (only-none (set s.names frame (Some page)) frame n (not_after n ne)) refl (λ g t far h. refl)
-        ∙ sym (ap (λ (b : Bool). cond b (clipped (table n).valid (value s notes table n)) (value s notes table n)) (next-other s frame sound next n before))
+        ∙ sym (ap (λ (b : Bool). cond b (clip (table n).valid (value s notes table n)) (value s notes table n)) (next-other s frame sound next n before))
   ]
 
   pub fills-frame : (given : Notes → Table → List ℕ) → ((notes : Notes) (table : Table) → given notes table ≡ bytes) → FillsPage s (with_frame_filled s frame page bytes modified) page modified given
   fills-frame given is = record {
     sound = sound_filled;
-    touches = subst (λ (o : Option ℕ). Touches s (with_frame_filled s frame page bytes modified) (only o)) (sym next) (touches-one s (with_frame_filled s frame page bytes modified) frame distinct_after one_filled);
+    touches = subst (λ (o : Option ℕ). Touches s (with_frame_filled s frame page bytes modified) (is_only o)) (sym next) (touches-one s (with_frame_filled s frame page bytes modified) frame distinct_after one_filled);
     home = subst (λ (o : Option ℕ). IfSome o (λ (f : ℕ). residence (with_frame_filled s frame page bytes modified) page ≡ Home f)) (sym next) (rw (found_after, bytes_there) refl);
     unlisted = subst (λ (o : Option ℕ). IfSome o (λ (f : ℕ). ¬ IsListedFrame (with_frame_filled s frame page bytes modified) f)) (sym next)
         (λ l. elim l [ inl a ↦ taken-free s frame sound next a | inr b ↦ taken-cached s frame sound next b ]);

@@ -8,7 +8,7 @@ use Rattle.page_hash.specs.Names.{name_at}
 use Rattle.page_hash.specs.declared.PageName.{PageName}
 use Rattle.page_lock.specs.Rows.{row_at, clear_row}
 use Rattle.page_lock.specs.declared.Row.{Row}
-use Rattle.page_store.specs.Moves.{only}
+use Rattle.page_store.specs.Moves.{is_only}
 use Rattle.page_store.specs.Seen.{StoreSeen, IsSoundStore, FrameAgrees, IsListedFrame, own_frame}
 use Rattle.page_store.proofs.QueryLemmas.{held-within, some-within}
 

@@ -9,7 +9,7 @@ use Rattle.page_hash.specs.Names.{name_at}
 use Rattle.page_hash.specs.declared.PageName.{PageName}
 use Rattle.page_lock.specs.Rows.{row_at, clear_row}
 use Rattle.page_lock.specs.declared.Row.{Row}
-use Rattle.page_store.specs.Moves.{only, family, family_of}
+use Rattle.page_store.specs.Moves.{is_only, family, family_of}
 use Rattle.page_store.specs.Parts.{rows_parted, rows_without, rows_forsaken, rows_settled}
 use Rattle.page_store.specs.Seen.{StoreSeen, IsSoundStore, FrameAgrees, ArePaired}
 use Rattle.page_store.specs.Steps.{with_pair_parted, without_snapshot}
@@ -45,12 +45,12 @@ either-not f g k h = (eq-not k f (false-left (k == f) (k == g) h), eq-not k g (f
 
 -- what a family has
 pub family-own : (s : StoreSeen) (own k : ℕ) → family s own k ≡ false → k ≢ own
-family-own s own k h e = let z : true ≡ false = sym (eq-same own) ∙ ap (λ (j : ℕ). j == own) (sym e) ∙ false-left (k == own) (only (row_at s.rows own).snapshot k || only (row_at s.rows own).source k) h in cc
+family-own s own k h e = let z : true ≡ false = sym (eq-same own) ∙ ap (λ (j : ℕ). j == own) (sym e) ∙ false-left (k == own) (is_only (row_at s.rows own).snapshot k || is_only (row_at s.rows own).source k) h in cc
 
 pub family-copy : (s : StoreSeen) (own copy k : ℕ) → (row_at s.rows own).snapshot ≡ Some copy → family s own k ≡ false → (k == copy) ≡ false
 family-copy s own copy k e h =
-    ap (λ (o : Option ℕ). only o k) (sym e)
-    ∙ false-left (only (row_at s.rows own).snapshot k) (only (row_at s.rows own).source k) (false-right (k == own) (only (row_at s.rows own).snapshot k || only (row_at s.rows own).source k) h)
+    ap (λ (o : Option ℕ). is_only o k) (sym e)
+    ∙ false-left (is_only (row_at s.rows own).snapshot k) (is_only (row_at s.rows own).source k) (false-right (k == own) (is_only (row_at s.rows own).snapshot k || is_only (row_at s.rows own).source k) h)
 
 pub or-both : (a b : Bool) → a ≡ false → b ≡ false → (a || b) ≡ false
 or-both false b h g = g
@@ -58,8 +58,8 @@ or-both true b h g = let z : true ≡ false = h in absurd (cc)
 
 pub family-source : (s : StoreSeen) (own f k : ℕ) → (row_at s.rows f).source ≡ Some own → family s f k ≡ false → k ≢ own
 family-source s own f k e h =
-    eq-not k own (ap (λ (o : Option ℕ). only o k) (sym e)
-    ∙ false-right (only (row_at s.rows f).snapshot k) (only (row_at s.rows f).source k) (false-right (k == f) (only (row_at s.rows f).snapshot k || only (row_at s.rows f).source k) h))
+    eq-not k own (ap (λ (o : Option ℕ). is_only o k) (sym e)
+    ∙ false-right (is_only (row_at s.rows f).snapshot k) (is_only (row_at s.rows f).source k) (false-right (k == f) (is_only (row_at s.rows f).snapshot k || is_only (row_at s.rows f).source k) h))
 
 pub family-of-own : (s : StoreSeen) (o : Option ℕ) (own k : ℕ) → o ≡ Some own → family_of s o k ≡ false → family s own k ≡ false
 family-of-own s o own k e h = subst (λ (x : Option ℕ). family_of s x k ≡ false) e h

@@ -6,7 +6,7 @@ use Rattle.std.proofs.lemmas.List.{get_or-set_same, get_or-set_other, length-rep
 use Rattle.std.proofs.lemmas.Bool.{cases_eq}
 use Rattle.block_device.specs.DiskSeen.{DiskSeen, HasBlocks}
 use Rattle.core_arena.specs.Bytes.{zeros}
-use Rattle.page_clock.specs.Clock.{fresh}
+use Rattle.page_clock.specs.Clock.{fresh_clock}
 use Rattle.page_hash.specs.Names.{name_at, AreDistinct}
 use Rattle.page_hash.specs.declared.PageName.{PageName}
 use Rattle.page_lists.specs.ListsSeen.{Has, AreApart}
@@ -162,7 +162,7 @@ whole-placed seen law [] bays was k d h = was k d h
 whole-placed seen law (x ∷ xs) bays was k d h = whole-set (bays_with (pairs_seen seen xs) bays) x.0 (home (seen x.1)) (λ e q. let z : seen x.1 ≡ e = cc in subst (λ (y : DiskSeen). HasBlocks y.content y.size) z (law x.1)) (whole-placed seen law xs bays was) k d h
 
 pub sound-new : (origin n : ℕ) (bays : List BaySeen) (order : List ℕ) → n < 2 ^ 32 → length bays ≡ 9 → ((k : ℕ) (d : DiskSeen) → bay_at bays k ≡ home d → HasBlocks d.content d.size) → IsOrder bays order → AreDistinct (replicate n None) → AreApart (record { frames = n; free = range_with_len 0 n; cached = [] })
-    → IsSoundStore (store_of (record { origin = origin; frames = replicate n (Some zeros) }) (replicate n None) (record { frames = n; free = range_with_len 0 n; cached = [] }) (replicate n clear_row) (fresh n (n / 2)) bays order)
+    → IsSoundStore (store_of (record { origin = origin; frames = replicate n (Some zeros) }) (replicate n None) (record { frames = n; free = range_with_len 0 n; cached = [] }) (replicate n clear_row) (fresh_clock n (n / 2)) bays order)
 sound-new origin n bays order few nine whole is distinct apart =
     let long : length (replicate n (Some zeros)) ≡ n = length-replicate n (Some zeros) in
     let none : Option PageName = None in
@@ -176,7 +176,7 @@ sound-new origin n bays order few nine whole is distinct apart =
       bays = nine;
       order = is;
       distinct = distinct;
-      paired = unpaired (store_of (record { origin = origin; frames = replicate n (Some zeros) }) (replicate n None) (record { frames = n; free = range_with_len 0 n; cached = [] }) (replicate n clear_row) (fresh n (n / 2)) bays order) n refl;
+      paired = unpaired (store_of (record { origin = origin; frames = replicate n (Some zeros) }) (replicate n None) (record { frames = n; free = range_with_len 0 n; cached = [] }) (replicate n clear_row) (fresh_clock n (n / 2)) bays order) n refl;
       whole = whole;
       lists = subst (λ (k : ℕ). AreApart (record { frames = k; free = range_with_len 0 n; cached = [] })) (sym long) apart;
       each = λ k lt.

@@ -5,7 +5,7 @@ use Rattle.std.proofs.lemmas.Bool.{cases_eq}
 use Rattle.std.proofs.lemmas.Grind.{common_steps}
 use Rattle.std.proofs.lemmas.List.{get_or-set_same, get_or-set_other}
 use Rattle.std.proofs.Math.ListN.{length-set}
-use Rattle.core_arena.specs.Bytes.{bytes_at, spliced}
+use Rattle.core_arena.specs.Bytes.{bytes_at, bytes_with_piece}
 use Rattle.page_hash.specs.Names.{find, name_at}
 use Rattle.page_hash.specs.declared.PageName.{PageName}
 use Rattle.page_hash.proofs.NameLaws.{find-at}
@@ -14,7 +14,7 @@ use Rattle.page_lock.specs.Rows.{row_at, clear_row, with_bits}
 use Rattle.page_lock.specs.declared.Row.{Row}
 use Rattle.page_store.specs.StoreFits.{StoreFits, IsClean}
 use Rattle.page_store.specs.Laws.{Pokes}
-use Rattle.page_store.specs.Moves.{KeepsOtherValues, Touches, only}
+use Rattle.page_store.specs.Moves.{KeepsOtherValues, Touches, is_only}
 use Rattle.page_store.specs.Notes.{Notes}
 use Rattle.page_store.specs.Seen.{StoreSeen, IsSoundStore, FrameAgrees, IsListedFrame, residence, residence_in, residence_of}
 use Rattle.page_store.specs.Steps.{with_piece}
@@ -43,9 +43,9 @@ marked_length rows frame false = refl
 
 -- the bytes of the frame then
 abbrev piece_over : StoreSeen → ℕ → ℕ → List ℕ → List ℕ
-piece_over s frame at from = spliced (unwrap_or (bytes_at s.frames frame) []) at from
+piece_over s frame at from = bytes_with_piece (unwrap_or (bytes_at s.frames frame) []) at from
 
-spliced_length : (bytes : List ℕ) (at : ℕ) (from : List ℕ) → length bytes ≡ 4096 → at + length from ≤ 4096 → length (spliced bytes at from) ≡ 4096
+spliced_length : (bytes : List ℕ) (at : ℕ) (from : List ℕ) → length bytes ≡ 4096 → at + length from ≤ 4096 → length (bytes_with_piece bytes at from) ≡ 4096
 spliced_length bytes at from size small = grind (arith, common_steps)
 
 module _ (s : StoreSeen) (page : PageName) (frame at : ℕ) (from : List ℕ) (mark : Bool) (sound : IsSoundStore s) (is : IsIn s page frame) (unlisted : IsListedFrame s frame → ⊥) (small : at + length from ≤ 4096) where
@@ -76,7 +76,7 @@ module _ (s : StoreSeen) (page : PageName) (frame at : ℕ) (from : List ℕ) (m
   ]
 
   size_now : length (piece_over s frame at from) ≡ 4096
-  size_now = ap (λ (b : Option (List ℕ)). length (spliced (unwrap_or b []) at from)) is.there ∙ spliced_length is.bytes at from ((sound.each frame frame_within).size is.bytes is.there) small
+  size_now = ap (λ (b : Option (List ℕ)). length (bytes_with_piece (unwrap_or b []) at from)) is.there ∙ spliced_length is.bytes at from ((sound.each frame frame_within).size is.bytes is.there) small
 
   same_home : is_none (bytes_at (set s.frames frame (Some (piece_over s frame at from))) frame) ≡ is_none (bytes_at s.frames frame)
   same_home = ap (λ (b : Option (List ℕ)). is_none b) there_now ∙ sym (ap (λ (b : Option (List ℕ)). is_none b) is.there)
@@ -149,13 +149,13 @@ module _ (s : StoreSeen) (page : PageName) (frame at : ℕ) (from : List ℕ) (m
   others_poked : (notes : Notes) (table : Table) (m : PageName) → m ≢ page → value (with_piece s frame at from mark) notes table m ≡ value s notes table m
   others_poked notes table m ne =
       let no : name_at s.names frame ≡ Some m → ⊥ = λ (h : name_at s.names frame ≡ Some m). let b : Some page ≡ Some m = sym (find-at s.names page frame is.found) ∙ h in ne (let w : page ≡ m = cc in sym w) in
-      value-elsewhere s (with_piece s frame at from mark) (only (Some frame)) sound.distinct (one-elsewhere s (with_piece s frame at from mark) frame one_poked) notes notes table m
+      value-elsewhere s (with_piece s frame at from mark) (is_only (Some frame)) sound.distinct (one-elsewhere s (with_piece s frame at from mark) frame one_poked) notes notes table m
       (only-none s.names frame m no) (only-none s.names frame m no) refl (λ g t far h. refl)
 
   pub pokes-frame : Pokes s (with_piece s frame at from mark) page at from
   pokes-frame = record {
     sound = sound_poked;
-    touches = subst (λ (o : Option ℕ). Touches s (with_piece s frame at from mark) (only o)) (sym is.found) (touches-one s (with_piece s frame at from mark) frame sound.distinct one_poked);
+    touches = subst (λ (o : Option ℕ). Touches s (with_piece s frame at from mark) (is_only o)) (sym is.found) (touches-one s (with_piece s frame at from mark) frame sound.distinct one_poked);
     residence = λ n. residence_at (find s.names n);
     outside = outside-calm s (with_piece s frame at from mark) calm_poked sound;
     value = λ notes table. rw (is.found, there_now, is.there) refl;

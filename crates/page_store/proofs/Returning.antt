@@ -11,15 +11,15 @@ use Rattle.page_lists.specs.ListsSeen.{Has}
 use Rattle.page_lock.specs.Rows.{row_at}
 use Rattle.page_lock.specs.declared.Row.{Row}
 use Rattle.page_store.specs.Bays.{BaySeen, missing, home, out, bay_at, block_of}
-use Rattle.page_store.specs.Bytes.{clipped}
+use Rattle.page_store.specs.Bytes.{clip}
 use Rattle.page_store.specs.StoreFits.{StoreFits, NoteAgrees, IsClean}
 use Rattle.page_store.specs.Flight.{FlightSeen, Progress, fresh, done, failed, IsWritten, IsPerformed}
-use Rattle.page_store.specs.Moves.{SameDisksTell, only}
+use Rattle.page_store.specs.Moves.{SameDisksTell, is_only}
 use Rattle.page_store.specs.Notes.{Note, Notes, with_note}
 use Rattle.page_store.specs.Seen.{StoreSeen, IsSoundStore, own_frame, residence}
 use Rattle.page_store.specs.Table.{Table}
 use Rattle.page_store.specs.Transfers.{EndsValues}
-use Rattle.page_store.specs.Value.{value, value_in, content_in_note, content_in_bay, content_of, stored, tells}
+use Rattle.page_store.specs.Value.{value, value_in, content_in_note, content_in_bay, content_of, backing_value, tells}
 use Rattle.page_store.specs.declared.place.Place.{Place}
 use Rattle.page_store.specs.declared.residence.Residence.TheVariants.{Home}
 use Rattle.page_store.proofs.Agree.{same-row, note-same, clean-same, own-far, own-self}
@@ -40,7 +40,7 @@ still_tells (Some blocks) block x = refl
 -- whatever became of a write, at most its block is new
 one_block : (note : Note) (f : FlightSeen) (outcome : Progress) → IsWritten note f outcome → (x : List ℕ) × (f.disk.content ≡ with_block note.disk.content note.block x)
 one_block note f fresh h = absurd h
-one_block note f done h = (clipped note.valid note.bytes, h)
+one_block note f done h = (clip note.valid note.bytes, h)
 one_block note f failed h = (h.0, h.2)
 
 -- a flight that was performed comes back, as its seat's note says
@@ -141,15 +141,15 @@ module _ (old new : StoreSeen) (notes : Notes) (table : Table) (f : FlightSeen) 
     | inr ne ↦ ap (λ (c : Option (List (List ℕ))). block_of c block) (content_other disk ne)
   ]
 
-  stored_back : (place : Place) → (place.blank ≡ false → place.disk ≡ f.number → note.writes ≡ true → place.block ≢ note.block) → stored new (with_note notes f.seat None) place ≡ stored old notes place
+  stored_back : (place : Place) → (place.blank ≡ false → place.disk ≡ f.number → note.writes ≡ true → place.block ≢ note.block) → backing_value new (with_note notes f.seat None) place ≡ backing_value old notes place
   stored_back place far = elim (cases_Bool place.blank) [
     | inl b ↦ rw b refl
-    | inr w ↦ ap (λ (x : List ℕ). cond place.blank zeros (clipped place.valid x)) (block_same place.disk place.block (far w))
+    | inr w ↦ ap (λ (x : List ℕ). cond place.blank zeros (clip place.valid x)) (block_same place.disk place.block (far w))
   ]
 
   -- what is stored of a name that the flight didn't write, or that is blank, is as it was
-  pub stored-back : (m : PageName) → ((table m).blank ≡ false → note.writes ≡ true → m ≢ note.name) → stored new (with_note notes f.seat None) (table m) ≡ stored old notes (table m)
-  stored-back m ne = stored_back (table m) (λ u d w b. ne u w (can.fits.apart m note.name (d ∙ can.performed.number ∙ sym mine_out.disk) (b ∙ sym mine_out.block)))
+  pub backing_value-back : (m : PageName) → ((table m).blank ≡ false → note.writes ≡ true → m ≢ note.name) → backing_value new (with_note notes f.seat None) (table m) ≡ backing_value old notes (table m)
+  backing_value-back m ne = stored_back (table m) (λ u d w b. ne u w (can.fits.apart m note.name (d ∙ can.performed.number ∙ sym mine_out.disk) (b ∙ sym mine_out.block)))
 
   other_seat : (t : ℕ) (n : Note) → with_note notes f.seat None t ≡ Some n → (t ≢ f.seat) × (notes t ≡ Some n)
   other_seat t n h = elim (cases_eq t f.seat) [
@@ -199,7 +199,7 @@ module _ (old new : StoreSeen) (notes : Notes) (table : Table) (f : FlightSeen) 
       let far : k ≢ f.frame = λ (q : k ≡ f.frame). some-not (bytes_at old.frames k) there (ap (bytes_at old.frames) q ∙ frame_away) in
       let was = can.fits.each_cached k n (can.cached k h) (sym (can.one.names k far) ∙ e) in
       clean-same old new notes (with_note notes f.seat None) table k n was alike-back (can.one.bytes k far)
-      (stored-back n (λ u w q. let z : true ≡ false = sym ((was.unwritten f.seat note can.mine w (sym q)).1) ∙ u in cc))
+      (backing_value-back n (λ u w q. let z : true ≡ false = sym ((was.unwritten f.seat note can.mine w (sym q)).1) ∙ u in cc))
       (λ t x g w q. let o = other_seat t x g in (o.1, (λ gone. ap (λ (r : Row). r.gone) (can.one.rows x.frame (other_frame t x o.0 o.1)) ∙ gone)))
 
   -- the notes and the table agree with the store
@@ -215,12 +215,12 @@ module _ (old new : StoreSeen) (notes : Notes) (table : Table) (f : FlightSeen) 
       let far : g ≢ f.frame = λ (q : g ≡ f.frame). let a : Some bytes ≡ None = sym there ∙ ap (bytes_at old.frames) q ∙ frame_away in cc in
       rw (can.one.bytes g far ∙ there, there) refl
 
-  value_far : (n : PageName) (o : Option ℕ) → find old.names n ≡ o → (name_at old.names f.frame ≡ Some n → ⊥) → stored new (with_note notes f.seat None) (table n) ≡ stored old notes (table n)
+  value_far : (n : PageName) (o : Option ℕ) → find old.names n ≡ o → (name_at old.names f.frame ≡ Some n → ⊥) → backing_value new (with_note notes f.seat None) (table n) ≡ backing_value old notes (table n)
       → value_in o new (with_note notes f.seat None) (table n) ≡ value_in o old notes (table n)
   value_far n None e before same = same
   value_far n (Some g) e before same =
       let far : g ≢ f.frame = λ (q : g ≡ f.frame). before (ap (name_at old.names) (sym q) ∙ find-at old.names n g e) in
-      value_in-same old new (only (Some f.frame)) can.distinct (one-elsewhere old new f.frame can.one) notes (with_note notes f.seat None) (table n) g (eq-far g f.frame far) same (λ t h. notes-back g t far h)
+      value_in-same old new (is_only (Some f.frame)) can.distinct (one-elsewhere old new f.frame can.one) notes (with_note notes f.seat None) (table n) g (eq-far g f.frame far) same (λ t h. notes-back g t far h)
 
   -- the page that the flight wrote, and whose frame it isn't, is at home
   value_written : (n : PageName) → n ≡ note.name → (name_at old.names f.frame ≡ Some n → ⊥) → ((row_at old.rows note.frame).gone ≡ false) ⊎ ((frame : ℕ) × (residence old n ≡ Home frame))
@@ -240,17 +240,17 @@ module _ (old new : StoreSeen) (notes : Notes) (table : Table) (f : FlightSeen) 
   ends-back own after = record {
     fits = fits-back;
     alike = alike-back;
-    stored = stored-back;
+    stored = backing_value-back;
     values = λ n reads writes. elim (holds-or-not (name_at old.names f.frame) n) [
       | inl h ↦ own n h reads
       | inr before ↦
           ap (λ (o : Option ℕ). value_in o new (with_note notes f.seat None) (table n))
-          (found-same old new (only (Some f.frame)) can.distinct (one-elsewhere old new f.frame can.one) n (only-none old.names f.frame n before) (only-none new.names f.frame n (after n before)))
+          (found-same old new (is_only (Some f.frame)) can.distinct (one-elsewhere old new f.frame can.one) n (only-none old.names f.frame n before) (only-none new.names f.frame n (after n before)))
           ∙ elim (is-or-not n note.name) [
-            | inr ne ↦ value_far n (find old.names n) refl before (stored-back n (λ u w. ne))
+            | inr ne ↦ value_far n (find old.names n) refl before (backing_value-back n (λ u w. ne))
             | inl e ↦ elim (cases_Bool note.writes) [
               | inl w ↦ value_written n e before (writes w e)
-              | inr r ↦ value_far n (find old.names n) refl before (stored-back n (λ u w q. let z : true ≡ false = sym w ∙ r in cc))
+              | inr r ↦ value_far n (find old.names n) refl before (backing_value-back n (λ u w q. let z : true ≡ false = sym w ∙ r in cc))
             ]
           ]
     ];

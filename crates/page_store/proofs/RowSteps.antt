@@ -5,23 +5,23 @@ use Rattle.std.proofs.lemmas.List.{get_or-set_same, get_or-set_other}
 use Rattle.std.proofs.Math.ListN.{length-set}
 use Rattle.std.proofs.lemmas.Bool.{cases_eq}
 use Rattle.core_arena.specs.Bytes.{bytes_at}
-use Rattle.page_clock.specs.Clock.{stepped}
+use Rattle.page_clock.specs.Clock.{next_clock}
 use Rattle.page_clock.specs.Seen.{ClockSeen}
 use Rattle.page_hash.specs.Names.{find, name_at}
 use Rattle.page_hash.specs.declared.PageName.{PageName}
 use Rattle.page_hash.proofs.NameLaws.{find-at}
-use Rattle.page_lists.specs.ListsSeen.{Has, AreApart, without}
-use Rattle.page_lists.proofs.ListLemmas.{has-more, more-has, once-more, has-without, without-has, once-without}
+use Rattle.page_lists.specs.ListsSeen.{Has, AreApart, without_frame}
+use Rattle.page_lists.proofs.ListLemmas.{has-more, more-has, once-more, has-without_frame, without_frame-has, once-without_frame}
 use Rattle.page_lock.specs.Rows.{row_at, clear_row}
 use Rattle.page_lock.specs.declared.Row.{Row}
 use Rattle.page_store.specs.StoreFits.{StoreFits, IsClean}
 use Rattle.page_store.specs.Laws.{StaysInPlace, Releases, SameResidence}
-use Rattle.page_store.specs.Moves.{KeepsValues, Touches, only}
+use Rattle.page_store.specs.Moves.{KeepsValues, Touches, is_only}
 use Rattle.page_store.specs.Notes.{Notes}
 use Rattle.page_store.specs.Seen.{StoreSeen, IsSoundStore, FrameAgrees, ArePaired, IsListedFrame, residence_in, residence_of}
 use Rattle.page_store.specs.Steps.{with_row, with_pair_parted, without_snapshot}
 use Rattle.page_store.specs.Table.{Table}
-use Rattle.page_store.specs.Value.{value_in, stored, note_of_holder, held}
+use Rattle.page_store.specs.Value.{value_in, backing_value, note_of_holder, frame_value}
 use Rattle.page_store.specs.declared.place.Place.{Place}
 use Rattle.page_store.proofs.Agree.{SameOut, same-out, Calm, clean-calm, fits-calm, outside-calm}
 use Rattle.page_store.proofs.Elsewhere.{Elsewhere, OneFrame, SoundAt, SoundParts, one-elsewhere, same-elsewhere, sound-one, sound-elsewhere, touches, touches-one, paired-links}
@@ -43,7 +43,7 @@ module _ (s : StoreSeen) (rows : List Row) (free cached : List ℕ) (clock : Clo
 
   pub value-rows : (o : Option ℕ) (notes : Notes) (place : Place) → value_in o (rows_after s rows free cached clock) notes place ≡ value_in o s notes place
   value-rows None notes place = refl
-  value-rows (Some g) notes place = ap (λ (h : Option ℕ). held (bytes_at s.frames g) (note_of_holder h notes) (stored s notes place)) (same g).holder
+  value-rows (Some g) notes place = ap (λ (h : Option ℕ). frame_value (bytes_at s.frames g) (note_of_holder h notes) (backing_value s notes place)) (same g).holder
 
   pub calm-rows : Calm s (rows_after s rows free cached clock)
   calm-rows = record { origin = refl; bays = refl; rows = same; away = λ k h. h; names = λ k h g. refl }
@@ -118,7 +118,7 @@ module _ (s : StoreSeen) (f : ℕ) (row : Row) (sound : IsSoundStore s) (lt : f 
         spare = sound.spare f;
       })
 
-  pub stays-row : StaysInPlace s (with_row s f row) (only (Some f))
+  pub stays-row : StaysInPlace s (with_row s f row) (is_only (Some f))
   stays-row = record {
     sound = sound_row;
     touches = touches-one s (with_row s f row) f sound.distinct one_row;
@@ -131,22 +131,22 @@ stepped_by : (c : ClockSeen) (b : Bool) → (cond b (record c { front = (c.front
 stepped_by c true = refl
 stepped_by c false = refl
 
-pub stepped-frames : (c : ClockSeen) → (stepped c).frames ≡ c.frames
-stepped-frames c = stepped_by c c.back_next
+pub next_clock-frames : (c : ClockSeen) → (next_clock c).frames ≡ c.frames
+next_clock-frames c = stepped_by c c.back_next
 
 -- the clock alone changes
-pub stays-clock : (s : StoreSeen) (clock : ClockSeen) → IsSoundStore s → clock.frames ≡ s.clock.frames → StaysInPlace s (record s { clock = clock }) (only None)
+pub stays-clock : (s : StoreSeen) (clock : ClockSeen) → IsSoundStore s → clock.frames ≡ s.clock.frames → StaysInPlace s (record s { clock = clock }) (is_only None)
 stays-clock s clock sound frames = record {
-  sound = sound-elsewhere s (record s { clock = clock }) (only None) elsewhere_clock sound
+  sound = sound-elsewhere s (record s { clock = clock }) (is_only None) elsewhere_clock sound
       (record { names = refl; rows = refl; clock = frames; bays = refl; order = sound.order; distinct = sound.distinct; lists = sound.lists; paired = paired_clock; whole = sound.whole })
       (λ k t. absurd (let z : false ≡ true = t in cc));
-  touches = touches s (record s { clock = clock }) (only None) sound.distinct elsewhere_clock;
+  touches = touches s (record s { clock = clock }) (is_only None) sound.distinct elsewhere_clock;
   residence = residence-rows s s.rows s.free s.cached clock (λ k. same-out (row_at s.rows k));
   outside = outside-calm s (record s { clock = clock }) (calm-rows s s.rows s.free s.cached clock (λ k. same-out (row_at s.rows k))) sound;
   values = λ notes table fits. values-rows s s.rows s.free s.cached clock (λ k. same-out (row_at s.rows k)) notes table fits fits.each_cached;
 }
   where
-    elsewhere_clock : Elsewhere s (record s { clock = clock }) (only None)
+    elsewhere_clock : Elsewhere s (record s { clock = clock }) (is_only None)
     elsewhere_clock = record { frames = refl; bytes = λ k h. refl; names = λ k h. refl; rows = λ k h. refl; free = λ k h. (λ z. z, λ z. z); cached = λ k h. (λ z. z, λ z. z) }
 
     paired_clock : ArePaired (record s { clock = clock })
@@ -222,38 +222,38 @@ module _ (s : StoreSeen) (f : ℕ) (sound : IsSoundStore s) (lt : f < length s.f
 
 -- a frame comes off the cache list
 module _ (s : StoreSeen) (f : ℕ) (sound : IsSoundStore s) (lt : f < length s.frames) where
-  one_reclaimed : OneFrame s (record s { cached = without s.cached f }) f
+  one_reclaimed : OneFrame s (record s { cached = without_frame s.cached f }) f
   one_reclaimed = record {
     frames = refl;
     bytes = λ k ne. refl;
     names = λ k ne. refl;
     rows = λ k ne. refl;
     free = λ k ne. (λ h. h, λ h. h);
-    cached = λ k ne. (λ h. (has-without s.cached f k h).0, λ h. without-has s.cached f k h ne);
+    cached = λ k ne. (λ h. (has-without_frame s.cached f k h).0, λ h. without_frame-has s.cached f k h ne);
   }
 
-  lists_reclaimed : AreApart (record { frames = length s.frames; free = s.free; cached = without s.cached f })
+  lists_reclaimed : AreApart (record { frames = length s.frames; free = s.free; cached = without_frame s.cached f })
   lists_reclaimed = record {
     once_free = sound.lists.once_free;
-    once_cached = once-without s.cached f sound.lists.once_cached;
-    one_list = λ k a b. sound.lists.one_list k a (has-without s.cached f k b).0;
+    once_cached = once-without_frame s.cached f sound.lists.once_cached;
+    one_list = λ k a b. sound.lists.one_list k a (has-without_frame s.cached f k b).0;
     below_free = sound.lists.below_free;
-    below_cached = λ k b. sound.lists.below_cached k (has-without s.cached f k b).0;
+    below_cached = λ k b. sound.lists.below_cached k (has-without_frame s.cached f k b).0;
   }
 
-  listed_before : (k : ℕ) → IsListedFrame (record s { cached = without s.cached f }) k → IsListedFrame s k
-  listed_before k l = elim l [ inl a ↦ inl a | inr b ↦ inr (has-without s.cached f k b).0 ]
+  listed_before : (k : ℕ) → IsListedFrame (record s { cached = without_frame s.cached f }) k → IsListedFrame s k
+  listed_before k l = elim l [ inl a ↦ inl a | inr b ↦ inr (has-without_frame s.cached f k b).0 ]
 
   -- a frame that holds a name is on no list then
-  pub unlisted-reclaimed : (n : PageName) → find s.names n ≡ Some f → IsListedFrame (record s { cached = without s.cached f }) f → ⊥
+  pub unlisted-reclaimed : (n : PageName) → find s.names n ≡ Some f → IsListedFrame (record s { cached = without_frame s.cached f }) f → ⊥
   unlisted-reclaimed n found l = elim l [
     | inl a ↦ let z : None ≡ Some n = sym (sound.unnamed f a) ∙ find-at s.names n f found in cc
-    | inr b ↦ (has-without s.cached f f b).1 refl
+    | inr b ↦ (has-without_frame s.cached f f b).1 refl
   ]
 
-  pub stays-reclaimed : StaysInPlace s (record s { cached = without s.cached f }) (only (Some f))
+  pub stays-reclaimed : StaysInPlace s (record s { cached = without_frame s.cached f }) (is_only (Some f))
   stays-reclaimed = record {
-    sound = sound-one s (record s { cached = without s.cached f }) f one_reclaimed sound
+    sound = sound-one s (record s { cached = without_frame s.cached f }) f one_reclaimed sound
         (record {
           names = refl;
           rows = refl;
@@ -262,13 +262,13 @@ module _ (s : StoreSeen) (f : ℕ) (sound : IsSoundStore s) (lt : f < length s.f
           order = sound.order;
           distinct = sound.distinct;
           lists = lists_reclaimed;
-          paired = paired-links s (record s { cached = without s.cached f }) sound.paired (λ k. refl) (λ k. refl)
+          paired = paired-links s (record s { cached = without_frame s.cached f }) sound.paired (λ k. refl) (λ k. refl)
               (λ own copy h. (sound.paired.home own copy h, sound.paired.named own copy h, λ l. sound.paired.unlisted own copy h (listed_before own l)));
           whole = sound.whole;
         })
         (record { agrees = sound.each f lt; listed = λ l. sound.listed f (listed_before f l); unnamed = sound.unnamed f; spare = sound.spare f });
-    touches = touches-one s (record s { cached = without s.cached f }) f sound.distinct one_reclaimed;
-    residence = residence-rows s s.rows s.free (without s.cached f) s.clock (λ k. same-out (row_at s.rows k));
-    outside = outside-calm s (record s { cached = without s.cached f }) (calm-rows s s.rows s.free (without s.cached f) s.clock (λ k. same-out (row_at s.rows k))) sound;
-    values = λ notes table fits. values-rows s s.rows s.free (without s.cached f) s.clock (λ k. same-out (row_at s.rows k)) notes table fits (λ k n h e. fits.each_cached k n (has-without s.cached f k h).0 e);
+    touches = touches-one s (record s { cached = without_frame s.cached f }) f sound.distinct one_reclaimed;
+    residence = residence-rows s s.rows s.free (without_frame s.cached f) s.clock (λ k. same-out (row_at s.rows k));
+    outside = outside-calm s (record s { cached = without_frame s.cached f }) (calm-rows s s.rows s.free (without_frame s.cached f) s.clock (λ k. same-out (row_at s.rows k))) sound;
+    values = λ notes table fits. values-rows s s.rows s.free (without_frame s.cached f) s.clock (λ k. same-out (row_at s.rows k)) notes table fits (λ k n h e. fits.each_cached k n (has-without_frame s.cached f k h).0 e);
   }

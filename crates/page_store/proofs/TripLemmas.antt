@@ -9,7 +9,7 @@ use Rattle.page_hash.specs.declared.PageName.{PageName}
 use Rattle.page_hash.proofs.NameLaws.{is_name-true}
 use Rattle.page_lock.specs.Rows.{row_at}
 use Rattle.page_store.specs.Bays.{BaySeen, missing, home, out, bay_at, IsStill}
-use Rattle.page_store.specs.Bytes.{clipped}
+use Rattle.page_store.specs.Bytes.{clip}
 use Rattle.page_store.specs.StoreFits.{StoreFits}
 use Rattle.page_store.specs.Flight.{FlightSeen, IsPerformed, note_of}
 use Rattle.page_store.specs.Moves.{TakesFrame, KeepsButTails, SameOrCut}
@@ -62,7 +62,7 @@ takes-another old new plan name f seat laws bytes_moving = elim (cases_Bool (is_
   | inr w ↦ w
 ]
 
-cut_or_same : (b : Bool) (place : Place) (old new : List ℕ) → new ≡ cond b (clipped place.valid old) old → SameOrCut place old new
+cut_or_same : (b : Bool) (place : Place) (old new : List ℕ) → new ≡ cond b (clip place.valid old) old → SameOrCut place old new
 cut_or_same true place old new h = inr h
 cut_or_same false place old new h = inl h
 

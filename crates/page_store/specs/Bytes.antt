@@ -2,5 +2,5 @@
 use Rattle.std.specs.Prelude.{ℕ, ◌-◌, ◌++◌, List, take, replicate}
 
 -- the first `valid` bytes, and zeros after them
-abbrev pub clipped : ℕ → List ℕ → List ℕ
-clipped valid bytes = take valid bytes ++ replicate (4096 - valid) 0
+abbrev pub clip : ℕ → List ℕ → List ℕ
+clip valid bytes = take valid bytes ++ replicate (4096 - valid) 0

@@ -4,7 +4,7 @@ use Rattle.block_device.specs.DiskSeen.{DiskSeen, with_block, Spoils, HasBlocks}
 use Rattle.block_device.specs.Counts.{HasRisen, HasCause}
 use Rattle.page_hash.specs.declared.PageName.{PageName}
 use Rattle.page_store.specs.Bays.{BaySeen, home}
-use Rattle.page_store.specs.Bytes.{clipped}
+use Rattle.page_store.specs.Bytes.{clip}
 use Rattle.page_store.specs.Notes.{Note}
 
 -- how far a transfer is
@@ -36,12 +36,12 @@ note_of f = record { seat = f.seat; origin = f.origin; number = f.number; disk =
 -- A write left the first valid bytes in its block, with zeros after them; one that failed left some bytes there.
 abbrev pub IsWritten : Note → FlightSeen → Progress → Type 0
 IsWritten note f fresh = ⊥
-IsWritten note f done = f.disk.content ≡ with_block note.disk.content note.block (clipped note.valid note.bytes)
+IsWritten note f done = f.disk.content ≡ with_block note.disk.content note.block (clip note.valid note.bytes)
 IsWritten note f failed = Spoils note.disk.content f.disk.content note.block
 
 -- where the disk tells, the bytes are the block's first valid ones, with zeros after them
 abbrev pub HasBlock : Option (List (List ℕ)) → ℕ → ℕ → List ℕ → Type 0
-HasBlock content block valid bytes = IfSome content (λ blocks. bytes ≡ clipped valid (slice_index_or blocks block []))
+HasBlock content block valid bytes = IfSome content (λ blocks. bytes ≡ clip valid (slice_index_or blocks block []))
 
 -- A read gave the block's bytes; one that failed gave any.
 abbrev pub IsRead : Note → FlightSeen → Progress → Type 0

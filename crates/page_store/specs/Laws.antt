@@ -1,11 +1,11 @@
 -- What each call on pages at home does, beside its exact new store: one record a call. Public clauses cite this.
 use Rattle.std.specs.Prelude.{◌≡◌, ◌≢◌, ℕ, Bool, List, Option, Some, None, IfSome}
-use Rattle.core_arena.specs.Bytes.{spliced}
+use Rattle.core_arena.specs.Bytes.{bytes_with_piece}
 use Rattle.page_hash.specs.Names.{find, name_at}
 use Rattle.page_hash.specs.declared.PageName.{PageName}
 use Rattle.page_lock.specs.Rows.{row_at}
 use Rattle.page_store.specs.StoreFits.{StoreFits, IsClean}
-use Rattle.page_store.specs.Moves.{KeepsValues, KeepsOtherValues, FillsFrame, Touches, only, family_of}
+use Rattle.page_store.specs.Moves.{KeepsValues, KeepsOtherValues, FillsFrame, Touches, is_only, family_of}
 use Rattle.page_store.specs.Flight.{FlightSeen}
 use Rattle.page_store.specs.Notes.{Notes}
 use Rattle.page_store.specs.Out.{IsFlightOf}
@@ -35,7 +35,7 @@ pub record StaysInPlace (old new : StoreSeen) (touched : ℕ → Bool) : Type 0 
 -- A frame goes on the cache list: no value changes where its page is clean.
 pub record Releases (old new : StoreSeen) (frame : ℕ) : Type 0 where
   pub sound : IsSoundStore new
-  pub touches : Touches old new (only (Some frame))
+  pub touches : Touches old new (is_only (Some frame))
   pub residence : SameResidence old new
   pub outside : SameFlights old new
   pub values : (notes : Notes) (table : Table) → StoreFits old notes table
@@ -45,16 +45,16 @@ pub record Releases (old new : StoreSeen) (frame : ℕ) : Type 0 where
 -- A piece is written over the page of a name.
 pub record Pokes (old new : StoreSeen) (name : PageName) (at : ℕ) (piece : List ℕ) : Type 0 where
   pub sound : IsSoundStore new
-  pub touches : Touches old new (only (find old.names name))
+  pub touches : Touches old new (is_only (find old.names name))
   pub residence : SameResidence old new
   pub outside : SameFlights old new
-  pub value : (notes : Notes) (table : Table) → value new notes table name ≡ spliced (value old notes table name) at piece
+  pub value : (notes : Notes) (table : Table) → value new notes table name ≡ bytes_with_piece (value old notes table name) at piece
   pub others : (notes : Notes) (table : Table) → StoreFits old notes table → KeepsOtherValues old notes new notes table name
 
 -- The next frame is taken for a name, which is home there with these bytes; the name that the frame held is absent.
 pub record FillsPage (old new : StoreSeen) (name : PageName) (modified : Bool) (bytes : Notes → Table → List ℕ) : Type 0 where
   pub sound : IsSoundStore new
-  pub touches : Touches old new (only (next_frame old))
+  pub touches : Touches old new (is_only (next_frame old))
   pub home : IfSome (next_frame old) (λ frame. residence new name ≡ at.Home frame)
   pub unlisted : IfSome (next_frame old) (λ frame. ¬ IsListedFrame new frame)
   pub row : IfSome (next_frame old) (λ frame. row_at new.rows frame ≡ fresh_row modified)

@@ -5,7 +5,7 @@ use Rattle.page_hash.specs.Names.{name_at, is_name}
 use Rattle.page_hash.specs.declared.PageName.{PageName}
 use Rattle.page_lists.specs.ListsSeen.{Has}
 use Rattle.page_lock.specs.Rows.{row_at}
-use Rattle.page_store.specs.Bytes.{clipped}
+use Rattle.page_store.specs.Bytes.{clip}
 use Rattle.page_store.specs.StoreFits.{StoreFits}
 use Rattle.page_store.specs.Notes.{Note, Notes}
 use Rattle.page_store.specs.Seen.{StoreSeen, residence}
@@ -21,7 +21,7 @@ SameDisksTell old before new after = (number : ℕ) → tells new after number �
 
 -- the value that a name has once a frame was taken: the name that the frame held is cut at its valid bytes
 abbrev pub after_taking : Option PageName → PageName → Place → List ℕ → List ℕ
-after_taking taken n place bytes = if is_name taken n then clipped place.valid bytes else bytes
+after_taking taken n place bytes = if is_name taken n then clip place.valid bytes else bytes
 
 -- Every name keeps its value.
 pub record KeepsValues (old : StoreSeen) (before : Notes) (new : StoreSeen) (after : Notes) (table : Table) : Type 0 where
@@ -55,7 +55,7 @@ pub record FillsFrame (old : StoreSeen) (before : Notes) (new : StoreSeen) (afte
 
 -- the same bytes, or with zeros past the valid ones
 abbrev pub SameOrCut : Place → List ℕ → List ℕ → Type 0
-SameOrCut place old new = (new ≡ old) ⊎ (new ≡ clipped place.valid old)
+SameOrCut place old new = (new ≡ old) ⊎ (new ≡ clip place.valid old)
 
 -- Any number of calls that keep values: each name has its value, or that cut at its valid bytes.
 pub record KeepsButTails (old : StoreSeen) (before : Notes) (new : StoreSeen) (after : Notes) (table : Table) : Type 0 where
@@ -65,13 +65,13 @@ pub record KeepsButTails (old : StoreSeen) (before : Notes) (new : StoreSeen) (a
       → SameOrCut (table n) (value old before table n) (value new after table n)
 
 -- a set of frames: this one, or none
-abbrev pub only : Option ℕ → ℕ → Bool
-only None k = false
-only (Some frame) k = k == frame
+abbrev pub is_only : Option ℕ → ℕ → Bool
+is_only None k = false
+is_only (Some frame) k = k == frame
 
 -- a frame with the snapshot of its page, and with the own frame of the page that it has a snapshot of
 abbrev pub family : StoreSeen → ℕ → ℕ → Bool
-family s frame k = (k == frame) || (only (row_at s.rows frame).snapshot k || only (row_at s.rows frame).source k)
+family s frame k = (k == frame) || (is_only (row_at s.rows frame).snapshot k || is_only (row_at s.rows frame).source k)
 
 abbrev pub family_of : StoreSeen → Option ℕ → ℕ → Bool
 family_of s None k = false

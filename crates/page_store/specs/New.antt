@@ -3,7 +3,7 @@ use Rattle.std.specs.Prelude.{◌≡◌, ◌≢◌, ℕ, ◌<◌, ◌/◌, List,
 use Rattle.std.specs.List.{range_with_len}
 use Rattle.block_device.specs.DiskSeen.{DiskSeen}
 use Rattle.core_arena.specs.Bytes.{zeros}
-use Rattle.page_clock.specs.Clock.{fresh}
+use Rattle.page_clock.specs.Clock.{fresh_clock}
 use Rattle.page_lock.specs.Rows.{clear_row}
 use Rattle.page_store.specs.Bays.{BaySeen, missing, home, bay_at, bay_of, numbers_of}
 use Rattle.page_store.specs.Seen.{StoreSeen}
@@ -22,6 +22,6 @@ pub record IsNew (s : StoreSeen) (count : ℕ) (disks : List (ℕ × DiskSeen)) 
   pub rows : s.rows ≡ replicate count clear_row
   pub free : s.free ≡ range_with_len 0 count
   pub cached : s.cached ≡ []
-  pub clock : s.clock ≡ fresh count (count / 2)
+  pub clock : s.clock ≡ fresh_clock count (count / 2)
   pub order : s.order ≡ numbers_of disks
   pub bays : AreHome s.bays disks swap

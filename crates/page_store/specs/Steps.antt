@@ -1,9 +1,9 @@
 -- What the calls make of a store. Public clauses cite this.
 use Rattle.std.specs.Prelude.{ℕ, ◌++◌, ◌||◌, [], ◌∷◌, Bool, true, false, if◌then◌else◌, List, Option, Some, None, unwrap_or, slice_set}
-use Rattle.core_arena.specs.Bytes.{bytes_at, spliced}
+use Rattle.core_arena.specs.Bytes.{bytes_at, bytes_with_piece}
 use Rattle.page_hash.specs.Names.{name_at, find}
 use Rattle.page_hash.specs.declared.PageName.{PageName}
-use Rattle.page_lists.specs.ListsSeen.{first_of, without}
+use Rattle.page_lists.specs.ListsSeen.{first_of, without_frame}
 use Rattle.page_lock.specs.Rows.{row_at, clear_row, with_bits}
 use Rattle.page_lock.specs.declared.Row.{Row}
 use Rattle.page_store.specs.Bays.{home, out}
@@ -53,7 +53,7 @@ with_row s frame row = record s { rows = slice_set s.rows frame row }
 -- a piece is written over a page at home, which is modified then where `mark` is true
 abbrev pub with_piece : StoreSeen → ℕ → ℕ → List ℕ → Bool → StoreSeen
 with_piece s frame at from mark = record s {
-  frames = slice_set s.frames frame (Some (spliced (unwrap_or (bytes_at s.frames frame) []) at from));
+  frames = slice_set s.frames frame (Some (bytes_with_piece (unwrap_or (bytes_at s.frames frame) []) at from));
   rows = if mark then slice_set s.rows frame (with_bits (row_at s.rows frame) (row_at s.rows frame).referenced true) else s.rows;
 }
 
@@ -171,7 +171,7 @@ with_page_given_up s frame None = record s {
 with_page_given_up s frame (Some bytes) = record s {
   names = slice_set s.names frame None;
   rows = slice_set s.rows frame clear_row;
-  cached = without s.cached frame;
+  cached = without_frame s.cached frame;
   free = s.free ++ frame ∷ [];
 }
 
@@ -181,4 +181,4 @@ after_abort s name = at_frame (find s.names name) s (λ frame. with_page_given_u
 
 -- a frame is taken off the cache list
 abbrev pub after_reclaim : StoreSeen → PageName → StoreSeen
-after_reclaim s name = at_frame (find s.names name) s (λ frame. record s { cached = without s.cached frame })
+after_reclaim s name = at_frame (find s.names name) s (λ frame. record s { cached = without_frame s.cached frame })

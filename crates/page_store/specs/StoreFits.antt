@@ -7,12 +7,12 @@ use Rattle.page_hash.specs.declared.PageName.{PageName}
 use Rattle.page_lists.specs.ListsSeen.{Has}
 use Rattle.page_lock.specs.Rows.{row_at}
 use Rattle.page_store.specs.Bays.{out, bay_at}
-use Rattle.page_store.specs.Bytes.{clipped}
+use Rattle.page_store.specs.Bytes.{clip}
 use Rattle.page_store.specs.Notes.{Note, Notes}
 use Rattle.page_store.specs.Seen.{StoreSeen, IsGone}
 use Rattle.page_store.specs.Table.{Table, IsApart}
 use Rattle.page_store.specs.Out.{HasOut}
-use Rattle.page_store.specs.Value.{stored, tells}
+use Rattle.page_store.specs.Value.{backing_value, tells}
 
 -- A seat's note says what is out with it: its disk, whole where it tells, and its frame with 4096 bytes. The name lives in
 -- the note's block, and a page that is read in and isn't gone has the note's valid bytes and isn't blank.
@@ -32,7 +32,7 @@ pub record NoteAgrees (s : StoreSeen) (table : Table) (seat : ℕ) (note : Note)
 -- past the valid ones aside; and a note that writes this name writes a page that is gone, and the name is blank.
 pub record IsClean (s : StoreSeen) (notes : Notes) (table : Table) (frame : ℕ) (n : PageName) : Type 0 where
   pub same : IsTrue (tells s notes (table n).disk) → (bytes : List ℕ) → bytes_at s.frames frame ≡ Some bytes
-      → clipped (table n).valid bytes ≡ stored s notes (table n)
+      → clip (table n).valid bytes ≡ backing_value s notes (table n)
   pub unwritten : (seat : ℕ) (note : Note) → notes seat ≡ Some note → note.writes ≡ true → note.name ≡ n
       → IsGone s note.frame × ((table n).blank ≡ true)
 

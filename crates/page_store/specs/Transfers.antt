@@ -9,13 +9,13 @@ use Rattle.page_lock.specs.Rows.{row_at}
 use Rattle.page_store.specs.Bays.{home, out, bay_at}
 use Rattle.page_store.specs.StoreFits.{StoreFits, IsClean}
 use Rattle.page_store.specs.Flight.{FlightSeen, IsPerformed, done, failed, note_of}
-use Rattle.page_store.specs.Moves.{SameDisksTell, TakesFrame, Touches, only, family, family_of}
+use Rattle.page_store.specs.Moves.{SameDisksTell, TakesFrame, Touches, is_only, family, family_of}
 use Rattle.page_store.specs.Notes.{Note, Notes, with_note}
 use Rattle.page_store.specs.Out.{IsFlightOf, DisksElsewhere}
 use Rattle.page_store.specs.Seen.{StoreSeen, IsSoundStore, IsListedFrame, IsGone, own_frame, residence}
 use Rattle.page_store.specs.Steps.{next_frame, next_name, with_read_begun, with_push_begun, without_snapshot, at_frame, is_dirty}
 use Rattle.page_store.specs.Table.{Table}
-use Rattle.page_store.specs.Value.{value, stored, tells}
+use Rattle.page_store.specs.Value.{value, backing_value, tells}
 use Rattle.page_store.specs.declared.plan.Plan.{Plan}
 use Rattle.page_store.specs.declared.plan.Plan.TheVariants.{Read, Push}
 use Rattle.page_store.specs.declared.residence.Residence.{Residence}
@@ -59,9 +59,9 @@ residence_begun (Read name) s seat = at.Moving seat
 residence_begun (Push name) s seat = if is_some (next_frame s) then residence s name else at.Moving seat
 
 -- the frames that the begin of a plan touches
-abbrev pub touched_by : Plan → StoreSeen → ℕ → Bool
-touched_by (Read name) s k = only (next_frame s) k
-touched_by (Push name) s k = only (next_frame s) k || family_of s (find s.names name) k
+abbrev pub is_touched_by : Plan → StoreSeen → ℕ → Bool
+is_touched_by (Read name) s k = is_only (next_frame s) k
+is_touched_by (Push name) s k = is_only (next_frame s) k || family_of s (find s.names name) k
 
 -- The table has a plan's page in this block of this disk, and a page that is read is not blank and has so many valid bytes.
 abbrev pub LivesAt : Plan → Table → ℕ → ℕ → ℕ → Type 0
@@ -69,12 +69,12 @@ LivesAt (Read name) table disk block valid = table name ≡ record { disk = disk
 LivesAt (Push name) table disk block valid = ((table name).disk ≡ disk) × ((table name).block ≡ block)
 
 -- whether the page that a frame has a snapshot of was written since that went out
-abbrev pub rewritten_in : Option ℕ → StoreSeen → Bool
-rewritten_in None s = false
-rewritten_in (Some own) s = (row_at s.rows own).rewritten
+abbrev pub is_rewritten_in : Option ℕ → StoreSeen → Bool
+is_rewritten_in None s = false
+is_rewritten_in (Some own) s = (row_at s.rows own).rewritten
 
 abbrev pub was_rewritten : StoreSeen → ℕ → Bool
-was_rewritten s frame = rewritten_in (row_at s.rows frame).source s
+was_rewritten s frame = is_rewritten_in (row_at s.rows frame).source s
 
 -- What the begin of a plan does: the frame and the disk go out with the seat, the page of a push keeps its modified bit, and
 -- every name keeps its value, but for the bytes past the valid ones of the name that the taken frame held.
@@ -82,7 +82,7 @@ pub record BeginsTransfer (old new : StoreSeen) (plan : Plan) (name : PageName) 
   pub sound : IsSoundStore new
   pub out : IsFlightOf new f
   pub disks : DisksElsewhere old new f.number
-  pub touches : Touches old new (touched_by plan old)
+  pub touches : Touches old new (is_touched_by plan old)
   pub page : residence new name ≡ residence_begun plan old f.seat
   pub modified : (own : ℕ) → find old.names name ≡ Some own → (row_at new.rows own).modified ≡ (row_at old.rows own).modified
   pub ungone : (row_at new.rows f.frame).gone ≡ false
@@ -111,7 +111,7 @@ pub record EndsValues (old : StoreSeen) (before : Notes) (new : StoreSeen) (afte
       → (note.writes ≡ true → n ≡ note.name → ((row_at old.rows note.frame).gone ≡ false) ⊎ ((frame : ℕ) × (residence old n ≡ at.Home frame)))
       → value new after table n ≡ value old before table n
   pub stored : (n : PageName) → ((table n).blank ≡ false → note.writes ≡ true → n ≢ note.name)
-      → stored new after (table n) ≡ stored old before (table n)
+      → backing_value new after (table n) ≡ backing_value old before (table n)
 
 -- What the end of a transfer does. Where the page isn't gone it is home then, but for one that was to be read and that
 -- failed; it is modified where a write failed, or where it was rewritten since it went out as a snapshot. A frame without a

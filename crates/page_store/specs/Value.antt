@@ -5,7 +5,7 @@ use Rattle.page_hash.specs.Names.{find}
 use Rattle.page_hash.specs.declared.PageName.{PageName}
 use Rattle.page_lock.specs.Rows.{row_at}
 use Rattle.page_store.specs.Bays.{BaySeen, missing, home, out, bay_at, block_of}
-use Rattle.page_store.specs.Bytes.{clipped}
+use Rattle.page_store.specs.Bytes.{clip}
 use Rattle.page_store.specs.Notes.{Note, Notes}
 use Rattle.page_store.specs.Seen.{StoreSeen}
 use Rattle.page_store.specs.Table.{Table}
@@ -30,8 +30,8 @@ abbrev pub tells : StoreSeen → Notes → ℕ → Bool
 tells s notes number = is_some (content_of s notes number)
 
 -- the value that a page has where no frame holds it: zeros where it is blank, else its block up to its valid bytes
-abbrev pub stored : StoreSeen → Notes → Place → List ℕ
-stored s notes place = if place.blank then zeros else clipped place.valid (block_of (content_of s notes place.disk) place.block)
+abbrev pub backing_value : StoreSeen → Notes → Place → List ℕ
+backing_value s notes place = if place.blank then zeros else clip place.valid (block_of (content_of s notes place.disk) place.block)
 
 -- the note of the seat that holds a frame
 abbrev pub note_of_holder : Option ℕ → Notes → Option Note
@@ -43,13 +43,13 @@ abbrev pub bytes_moving : Option Note → List ℕ → List ℕ
 bytes_moving None otherwise = otherwise
 bytes_moving (Some note) otherwise = if note.writes then note.bytes else otherwise
 
-abbrev pub held : Option (List ℕ) → Option Note → List ℕ → List ℕ
-held None it otherwise = bytes_moving it otherwise
-held (Some bytes) it otherwise = bytes
+abbrev pub frame_value : Option (List ℕ) → Option Note → List ℕ → List ℕ
+frame_value None it otherwise = bytes_moving it otherwise
+frame_value (Some bytes) it otherwise = bytes
 
 abbrev pub value_in : Option ℕ → StoreSeen → Notes → Place → List ℕ
-value_in None s notes place = stored s notes place
-value_in (Some frame) s notes place = held (bytes_at s.frames frame) (note_of_holder (row_at s.rows frame).holder notes) (stored s notes place)
+value_in None s notes place = backing_value s notes place
+value_in (Some frame) s notes place = frame_value (bytes_at s.frames frame) (note_of_holder (row_at s.rows frame).holder notes) (backing_value s notes place)
 
 -- The value of a name: the bytes of the home frame that holds it; else those of the note that writes it; else what its
 -- disk has, or zeros where it is blank.

@@ -2,7 +2,7 @@
 ghost use Rattle.std.specs.Prelude.{◌≡◌, ◌↔◌, ℕ, ◌+◌, ◌<◌, ◌≤◌, true, false, length, IsTrue};
 ghost use Rattle.block_device.specs.Counts.{HasRisen, HasCause};
 ghost use Rattle.block_device.specs.DiskSeen.{Writes, DiskSeen};
-ghost use Rattle.page_store.specs.Bytes.{clipped};
+ghost use Rattle.page_store.specs.Bytes.{clip};
 ghost use Rattle.page_store.specs.Flight.{IsPerformed, note_of, fresh, failed, outcome_of, IsReadClipped};
 ghost use Rattle.page_store.specs.Seen.{StoreSeen};
 ghost use Rattle.page_store.specs.Out.{IsFlightOf};
@@ -113,7 +113,7 @@ fn write_page<D: Disk>(disk: &mut D, block: u32, valid: u32, frame: &Frame) -> R
     requires block { block < (D.seen disk.old).size }
     requires valid { valid ≤ 4096 }
     ensures { Writes (D.seen disk.old) (D.seen disk.new) block
-        (clipped valid frame.now.bytes) result }
+        (clip valid frame.now.bytes) result }
 {
     let page = clip(frame.bytes(), valid as usize);
     disk.write(block, &page)
@@ -123,7 +123,7 @@ fn write_page<D: Disk>(disk: &mut D, block: u32, valid: u32, frame: &Frame) -> R
 fn clip(bytes: &[u8], valid: usize) -> [u8; 4096]
     requires within { valid ≤ 4096 }
     requires size { length bytes.now ≡ 4096 }
-    ensures { result ≡ clipped valid bytes.now }
+    ensures { result ≡ clip valid bytes.now }
 {
     let mut page = [0u8; 4096];
     page[..valid].copy_from_slice(&bytes[..valid]);

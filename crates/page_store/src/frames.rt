@@ -29,7 +29,7 @@ pub(crate) fn take_frame(lists: &mut PageLists) -> u32
 /// Takes from a frame the name that it holds, if it holds one.
 pub(crate) fn forget(names: &mut PageHash, frame: u32)
     requires { frame < length names.old }
-    ensures emptied { names.new ≡ slice_set names.old frame None }
+    ensures new { names.new ≡ slice_set names.old frame None }
     ensures distinct { AreDistinct names.new }
 {
     if let Some(name) = names.name_of(frame) {
@@ -41,7 +41,7 @@ pub(crate) fn forget(names: &mut PageHash, frame: u32)
 pub(crate) fn rename(names: &mut PageHash, frame: u32, name: PageName)
     requires within { frame < length names.old }
     requires absent { find names.old name ≡ None }
-    ensures entered { names.new ≡ slice_set names.old frame (Some name) }
+    ensures new { names.new ≡ slice_set names.old frame (Some name) }
     ensures distinct { AreDistinct names.new }
 {
     forget(names, frame);

@@ -2,10 +2,10 @@
 ghost use Rattle.std.specs.Prelude.{◌≡◌, ℕ, ◌+◌, ◌<◌, ◌≤◌, ◌==◌, ◌++◌, ◌∷◌, [], ◌↔◌, true, false, if◌then◌else◌, List, length, Some, None, IsSome, IsTrue, IfSome, is_some, slice_set};
 ghost use Rattle.core_arena.specs.Bytes.{bytes_at, zeros};
 ghost use Rattle.page_hash.specs.Names.{find};
-ghost use Rattle.page_lists.specs.ListsSeen.{Has, without};
+ghost use Rattle.page_lists.specs.ListsSeen.{Has, without_frame};
 ghost use Rattle.page_lock.specs.Rows.{row_at, clear_row, with_bits};
 ghost use Rattle.page_store.specs.Laws.{StaysInPlace, Releases, Pokes, FillsPage, Aborts};
-ghost use Rattle.page_store.specs.Moves.{only};
+ghost use Rattle.page_store.specs.Moves.{is_only};
 ghost use Rattle.page_store.specs.Seen.{residence, IsListedFrame};
 ghost use Rattle.page_store.specs.Steps.{next_frame, home_bytes, with_piece, after_poke, after_fill, after_abort, after_reclaim};
 ghost use Rattle.page_store.specs.Value.{value};
@@ -110,7 +110,7 @@ impl<D: Disk> Store<D> {
         ensures new { self.new ≡ after_reclaim self.old name }
         ensures unlisted { IfSome (find self.old.names name)
             (λ frame. ¬ IsListedFrame self.new frame) }
-        ensures laws { StaysInPlace self.old self.new (only (find self.old.names name)) }
+        ensures laws { StaysInPlace self.old self.new (is_only (find self.old.names name)) }
     {
         let Some(frame) = self.names.find(name) else {
             return false;
@@ -156,7 +156,7 @@ fn give_up(core: &Core, lists: &mut PageLists, locks: &mut PageLocks, frame: u32
     // A frame at home is free, one that is away has a page that is gone.
     ensures lists { lists.new ≡ (if is_some
         (bytes_at core.now.frames frame) then record lists.old {
-          cached = without lists.old.cached frame;
+          cached = without_frame lists.old.cached frame;
           free = lists.old.free
               ++ frame ∷ [];
         } else lists.old) }

@@ -2,13 +2,13 @@
 ghost use Rattle.std.specs.Prelude.{◌≡◌, ◌≢◌, ℕ, ◌+◌, ◌-◌, ◌<◌, ◌≤◌, ◌^◌, ◌↔◌, true, false, List, length, Option, Some, None, IsSome, IsTrue, is_some, [], ◌∷◌, ◌++◌, IfSome, IfOk, nat_lt};
 ghost use Rattle.block_device.specs.DiskSeen.{DiskSeen};
 ghost use Rattle.core_arena.specs.Bytes.{bytes_at};
-ghost use Rattle.page_clock.specs.Clock.{next_pick, stepped, place_of};
+ghost use Rattle.page_clock.specs.Clock.{next_pick, next_clock, place_of};
 ghost use Rattle.page_hash.specs.Names.{name_at, find};
 ghost use Rattle.page_hash.specs.declared.PageName.{PageName};
 ghost use Rattle.page_lock.specs.Rows.{row_at, with_bits};
 ghost use Rattle.page_store.specs.Bays.{bay_at, home, missing, home_faults};
 ghost use Rattle.page_store.specs.Laws.{StaysInPlace};
-ghost use Rattle.page_store.specs.Moves.{only};
+ghost use Rattle.page_store.specs.Moves.{is_only};
 ghost use Rattle.page_store.specs.Notes.{Notes};
 ghost use Rattle.page_store.specs.Seen.{residence, IsListedFrame, IsSoundStore};
 ghost use Rattle.page_store.specs.Steps.{next_frame, next_name, with_row};
@@ -171,7 +171,7 @@ impl<D: Disk> Store<D> {
               keeps =
                   (row_at self.old.rows frame).keeps + 1;
             }) }
-        ensures laws { StaysInPlace self.old self.new (only (Some frame)) }
+        ensures laws { StaysInPlace self.old self.new (is_only (Some frame)) }
     {
         self.locks.keep(frame);
     }
@@ -185,7 +185,7 @@ impl<D: Disk> Store<D> {
               keeps =
                   (row_at self.old.rows frame).keeps - 1;
             }) }
-        ensures laws { StaysInPlace self.old self.new (only (Some frame)) }
+        ensures laws { StaysInPlace self.old self.new (is_only (Some frame)) }
     {
         self.locks.unkeep(frame);
     }
@@ -204,7 +204,7 @@ impl<D: Disk> Store<D> {
         requires { frame < length self.old.frames }
         ensures new { self.new ≡ with_row self.old frame (with_bits
             (row_at self.old.rows frame) referenced modified) }
-        ensures laws { StaysInPlace self.old self.new (only (Some frame)) }
+        ensures laws { StaysInPlace self.old self.new (is_only (Some frame)) }
     {
         self.locks.set_bits(frame, referenced, modified);
     }
@@ -213,8 +213,8 @@ impl<D: Disk> Store<D> {
     pub fn clock_turn(&mut self) -> Pick
         ensures pick { result ≡ next_pick self.old.clock }
         ensures within { place_of result < length self.old.frames }
-        ensures new { self.new ≡ record self.old { clock = stepped self.old.clock } }
-        ensures laws { StaysInPlace self.old self.new (only None) }
+        ensures new { self.new ≡ record self.old { clock = next_clock self.old.clock } }
+        ensures laws { StaysInPlace self.old self.new (is_only None) }
     {
         self.clock.step()
     }

@@ -4,7 +4,7 @@ use Rattle.std.specs.Prelude.{option_and_then, All, nat_le, nat_lt, ◌||◌}
 use Rattle.std.specs.FinMap as finite
 use Rattle.std.proofs.lemmas.Bool.{cases_lt, and_from, le-leb, lt-ltb}
 use Rattle.std.proofs.lemmas.List.Elements.{All-nil, All-cons}
-use Rattle.addr_space.specs.Space.{Part, at, IsInOrder}
+use Rattle.addr_space.specs.Space.{Part, piece_at, IsInOrder}
 use Rattle.addr_space.proofs.PartLemmas.{none-below}
 use Rattle.addr_space.proofs.PageLaws.{shows}
 use Rattle.hat_layer.specs.Pool as pool
@@ -51,23 +51,23 @@ starts-end parts order x is =
     absurd (let high = s.user.1 in omega (arith, high))
 
 -- where no page has a part, none has a translation
-none-loaded : (m : Memory) (p : ℕ) (parts : List (Part Segment)) → MemoryFits m → finite.get m.spaces p ≡ Some parts → ((q : ℕ) → at parts q ≡ None) → (q : ℕ) → pool.at m.world.hat.places p q ≡ None
-none-loaded m p parts fits is none q = by_look (pool.at m.world.hat.places p q) refl
+none-loaded : (m : Memory) (p : ℕ) (parts : List (Part Segment)) → MemoryFits m → finite.get m.spaces p ≡ Some parts → ((q : ℕ) → piece_at parts q ≡ None) → (q : ℕ) → pool.translation_at m.world.hat.places p q ≡ None
+none-loaded m p parts fits is none q = by_look (pool.translation_at m.world.hat.places p q) refl
   where
-    by_look : (o : Option Translation) → pool.at m.world.hat.places p q ≡ o → o ≡ None
+    by_look : (o : Option Translation) → pool.translation_at m.world.hat.places p q ≡ o → o ≡ None
     by_look None e = refl
     by_look (Some t) e =
         let s = stands-at m.world.hat.places p q t e in
         let l = fits.translations s.place t s.there in
-        let z : None ≡ Some l.spot = sym (ap (λ (j : ℕ). spot_at m.spaces j t.page) s.space_is ∙ ap (option_and_then (λ (ps : List (Part Segment)). at ps t.page)) is ∙ none t.page) ∙ l.here in cc
+        let z : None ≡ Some l.spot = sym (ap (λ (j : ℕ). spot_at m.spaces j t.page) s.space_is ∙ ap (option_and_then (λ (ps : List (Part Segment)). piece_at ps t.page)) is ∙ none t.page) ∙ l.here in cc
 
 -- THE END: what is left of a cleared space is nothing, and the process goes
-all-none : (old new : List (Part Segment)) → IsInOrder 1 old → ((q : ℕ) → at new q ≡ cond (in_range 1 (0x80000 - 1) q) None (at old q)) → (q : ℕ) → at new q ≡ None
+all-none : (old new : List (Part Segment)) → IsInOrder 1 old → ((q : ℕ) → piece_at new q ≡ cond (in_range 1 (0x80000 - 1) q) None (piece_at old q)) → (q : ℕ) → piece_at new q ≡ None
 all-none old new order pages q = pages q ∙ elim (cases_lt q 1) [
   | inl low ↦ ap (λ (o : Option Spot). cond (in_range 1 (0x80000 - 1) q) None o) (shows old q None (none-below 1 old q order low)) ∙ either (in_range 1 (0x80000 - 1) q)
   | inr from ↦ elim (cases_lt q 0x80000) [
-    | inl below ↦ ap (λ (b : Bool). cond b None (at old q)) (and_from (nat_le 1 q) (nat_lt q (1 + (0x80000 - 1))) (le-leb 1 q from) (lt-ltb q (1 + (0x80000 - 1)) (omega (arith, below))))
-    | inr past ↦ ap (λ (o : Option Spot). cond (in_range 1 (0x80000 - 1) q) None o) (beyond (at old q) refl past) ∙ either (in_range 1 (0x80000 - 1) q)
+    | inl below ↦ ap (λ (b : Bool). cond b None (piece_at old q)) (and_from (nat_le 1 q) (nat_lt q (1 + (0x80000 - 1))) (le-leb 1 q from) (lt-ltb q (1 + (0x80000 - 1)) (omega (arith, below))))
+    | inr past ↦ ap (λ (o : Option Spot). cond (in_range 1 (0x80000 - 1) q) None o) (beyond (piece_at old q) refl past) ∙ either (in_range 1 (0x80000 - 1) q)
   ]
 ]
   where
@@ -75,13 +75,13 @@ all-none old new order pages q = pages q ∙ elim (cases_lt q 1) [
     either true = refl
     either false = refl
 
-    beyond : (o : Option Spot) → at old q ≡ o → 0x80000 ≤ q → o ≡ None
+    beyond : (o : Option Spot) → piece_at old q ≡ o → 0x80000 ≤ q → o ≡ None
     beyond None e past = refl
     beyond (Some x) e past = absurd (let high = (spot-in (λ (p : Part Segment). Unit {0}) 1 old q x (omega arith) order (λ j d lt. tt) e).user.1 in omega (arith, high, past))
 
 pub ended : (old new : World) (spaces : Spaces) (p : ℕ) (parts left : List (Part Segment)) → SpaceFits old spaces p parts
     → ChangesSpace p (record { world = old; spaces = spaces }) (record { world = new; spaces = finite.insert spaces p left }) (λ F. with_space F p (file_space left))
-    → ((q : ℕ) → at left q ≡ cond (in_range 1 (0x80000 - 1) q) None (at parts q))
+    → ((q : ℕ) → piece_at left q ≡ cond (in_range 1 (0x80000 - 1) q) None (piece_at parts q))
     → ChangesSpace p (record { world = old; spaces = spaces }) (record { world = new; spaces = finite.remove (finite.insert spaces p left) p }) (λ F. without_process F p)
 ended old new spaces p parts left fits done pages =
     let m : Memory = record { world = old; spaces = spaces } in

@@ -8,7 +8,7 @@ use Rattle.page_hash.specs.declared.PageName.{PageName}
 use Rattle.page_hash.proofs.NameLaws.{find-some, find-none, is_name-true, is_name-same}
 use Rattle.page_lock.specs.Rows.{row_at}
 use Rattle.page_store.specs.Bays.{block_of}
-use Rattle.page_store.specs.Bytes.{clipped}
+use Rattle.page_store.specs.Bytes.{clip}
 use Rattle.page_store.specs.Laws.{FillsPage}
 use Rattle.page_store.specs.Moves.{after_taking, FillsFrame}
 use Rattle.page_store.specs.Notes.{Notes}
@@ -16,7 +16,7 @@ use Rattle.page_store.specs.Seen.{StoreSeen, IsListedFrame, residence}
 use Rattle.page_store.specs.Steps.{next_frame, next_name, name_in, after_fill, at_frame, with_frame_filled, fresh_row}
 use Rattle.page_store.specs.StoreFits.{StoreFits}
 use Rattle.page_store.specs.Table.{Table}
-use Rattle.page_store.specs.Value.{value, value_in, held, note_of_holder, stored, content_of}
+use Rattle.page_store.specs.Value.{value, value_in, frame_value, note_of_holder, backing_value, content_of}
 use Rattle.page_store.specs.declared.residence.Residence.TheVariants.{Home, Absent}
 use Rattle.page_store.proofs.QueryLemmas.{absent-is, some-within}
 use Rattle.flat_model.specs.Words.{Page}
@@ -80,11 +80,11 @@ takes-for w spaces new name frame f next absent step laws =
 
 -- the value of a blank page that no frame holds
 pub absent-zeros : (s : StoreSeen) (notes : Notes) (table : Table) (n : PageName) → find s.names n ≡ None → (table n).blank ≡ true → value s notes table n ≡ zeros
-absent-zeros s notes table n none blank = ap (λ (o : Option ℕ). value_in o s notes (table n)) none ∙ ap (λ (b : Bool). cond b zeros (clipped (table n).valid (block_of (content_of s notes (table n).disk) (table n).block))) blank
+absent-zeros s notes table n none blank = ap (λ (o : Option ℕ). value_in o s notes (table n)) none ∙ ap (λ (b : Bool). cond b zeros (clip (table n).valid (block_of (content_of s notes (table n).disk) (table n).block))) blank
 
 pub home-value : (s : StoreSeen) (notes : Notes) (table : Table) (n : PageName) (frame : ℕ) (b : Option (List ℕ)) → find s.names n ≡ Some frame → bytes_at s.frames frame ≡ b → IsSome b → (bytes : List ℕ) × (b ≡ Some bytes) × (value s notes table n ≡ bytes)
 home-value s notes table n frame None at is there = absurd (let z : false ≡ true = there in cc)
-home-value s notes table n frame (Some bytes) at is there = (bytes, refl, ap (λ (o : Option ℕ). value_in o s notes (table n)) at ∙ ap (λ (x : Option (List ℕ)). held x (note_of_holder (row_at s.rows frame).holder notes) (stored s notes (table n))) is)
+home-value s notes table n frame (Some bytes) at is there = (bytes, refl, ap (λ (o : Option ℕ). value_in o s notes (table n)) at ∙ ap (λ (x : Option (List ℕ)). frame_value x (note_of_holder (row_at s.rows frame).holder notes) (backing_value s notes (table n))) is)
 
 -- the page of the frame that is taken next is whole
 pub next-whole : (w : World) (spaces : Spaces) (notes : Notes) (n : PageName) → MemoryFits (memory_of w spaces) → IsTrue (is_name (next_name w.store) n) → length (page_value w notes n) ≡ 4096

@@ -11,16 +11,16 @@ use Rattle.page_lists.specs.ListsSeen.{Has, first_of}
 use Rattle.page_lock.specs.Rows.{row_at}
 use Rattle.page_lock.specs.declared.Row.{Row}
 use Rattle.page_store.specs.Bays.{BaySeen, block_of}
-use Rattle.page_store.specs.Bytes.{clipped}
+use Rattle.page_store.specs.Bytes.{clip}
 use Rattle.page_store.specs.Laws.{FillsPage}
-use Rattle.page_store.specs.Moves.{only}
+use Rattle.page_store.specs.Moves.{is_only}
 use Rattle.page_store.specs.Notes.{Note, Notes}
 use Rattle.page_store.specs.Seen.{StoreSeen, IsSoundStore, IsListedFrame, own_frame, residence}
 use Rattle.page_store.specs.Steps.{next_frame, name_in, fresh_row}
 use Rattle.page_store.specs.StoreFits.{StoreFits, IsClean}
 use Rattle.page_store.specs.Table.{Table}
-use Rattle.page_store.specs.Transfers.{rewritten_in}
-use Rattle.page_store.specs.Value.{stored, tells, content_of}
+use Rattle.page_store.specs.Transfers.{is_rewritten_in}
+use Rattle.page_store.specs.Value.{backing_value, tells, content_of}
 use Rattle.page_store.specs.declared.place.Place.{Place}
 use Rattle.page_store.specs.declared.residence.Residence.TheVariants.{Home, Absent}
 use Rattle.page_store.proofs.QueryLemmas.{home-is, absent-is}
@@ -70,7 +70,7 @@ pub record Elsewhere (old new : StoreSeen) (j : ℕ) : Type 0 where
 pub elsewhere : (old new : StoreSeen) (name : PageName) (frame j : ℕ) → TakesFor old new name frame → j ≢ frame → Elsewhere old new j
 elsewhere old new name frame j k ne =
     let t = k.laws.touches in
-    let out : only (next_frame old) j ≡ false = ap (λ (o : Option ℕ). only o j) k.next ∙ elim (eqb_tells j frame) [ inl same ↦ absurd (ne same.1) | inr apart ↦ apart.0 ] in
+    let out : is_only (next_frame old) j ≡ false = ap (λ (o : Option ℕ). is_only o j) k.next ∙ elim (eqb_tells j frame) [ inl same ↦ absurd (ne same.1) | inr apart ↦ apart.0 ] in
     record {
       bytes = t.bytes j out;
       name = t.names j out;
@@ -148,7 +148,7 @@ zeros-cut zero m le = let e : m - 0 ≡ m = omega arith in ap nils e
 zeros-cut (suc n) zero le = absurd (omega (arith, le))
 zeros-cut (suc n) (suc m) le = let e : suc m - suc n ≡ m - n = omega arith in ap (λ (k : ℕ). take (suc n) (nils (suc m)) ++ nils k) e ∙ ap (λ (b : List ℕ). 0 ∷ b) (zeros-cut n m (omega (arith, le)))
 
-clip-zeros : (n : ℕ) → n ≤ 4096 → clipped n zeros ≡ zeros
+clip-zeros : (n : ℕ) → n ≤ 4096 → clip n zeros ≡ zeros
 clip-zeros n le = zeros-cut n 4096 le
 
 pub away-home : (b : Option (List ℕ)) → b ≡ None → IsSome b → ⊥
@@ -177,7 +177,7 @@ pub own-apart : (s : StoreSeen) (note frame : ℕ) (o : Option ℕ) → IsSoundS
 own-apart s note frame None sound listed ne e = ne
 own-apart s note frame (Some own) sound listed ne e = λ same. sound.paired.unlisted own note (sound.paired.snapshot own note e) (subst (λ (i : ℕ). IsListedFrame s i) (sym same) listed)
 
-pub rewritten-same : (old new : StoreSeen) (o : Option ℕ) (note : ℕ) → row_at new.rows (unwrap_or o note) ≡ row_at old.rows (unwrap_or o note) → rewritten_in o new ≡ rewritten_in o old
+pub rewritten-same : (old new : StoreSeen) (o : Option ℕ) (note : ℕ) → row_at new.rows (unwrap_or o note) ≡ row_at old.rows (unwrap_or o note) → is_rewritten_in o new ≡ is_rewritten_in o old
 rewritten-same old new None note e = refl
 rewritten-same old new (Some own) note e = ap (λ (r : Row). r.rewritten) e
 
@@ -193,7 +193,7 @@ push-stays w spaces new name frame seat notes note f k fits is p =
       pushed = p.pushed;
       same = elim p.same [
         | inl r ↦ inl (elim r [
-          | inl was ↦ inl (ap (λ (o : Option ℕ). rewritten_in o new) source ∙ rewritten-same w.store new (row_at w.store.rows note.frame).source note.frame other.row ∙ was)
+          | inl was ↦ inl (ap (λ (o : Option ℕ). is_rewritten_in o new) source ∙ rewritten-same w.store new (row_at w.store.rows note.frame).source note.frame other.row ∙ was)
           | inr x ↦ inr (subst (λ (i : ℕ). HasWritten w.hat.places i) (sym own) x)
         ])
         | inr s ↦ inr (record { valid = s.valid; bytes = λ b h. s.bytes b (sym other.bytes ∙ ap (λ (i : ℕ). bytes_at new.frames i) (sym own) ∙ h) })
@@ -206,8 +206,8 @@ clean-taken : (w : World) (spaces : Spaces) (new : StoreSeen) (name : PageName) 
 clean-taken w spaces new name frame notes f k zeroed nf blank valid = record {
   same = λ tell b is.
       let b_is : zeros ≡ b = let z : Some zeros ≡ Some b = sym zeroed ∙ is in cc in
-      ap (clipped (world_table w name).valid) (sym b_is) ∙ clip-zeros (world_table w name).valid valid
-      ∙ sym (ap (λ (x : Bool). cond x zeros (clipped (world_table w name).valid (block_of (content_of new notes (world_table w name).disk) (world_table w name).block))) blank);
+      ap (clip (world_table w name).valid) (sym b_is) ∙ clip-zeros (world_table w name).valid valid
+      ∙ sym (ap (λ (x : Bool). cond x zeros (clip (world_table w name).valid (block_of (content_of new notes (world_table w name).disk) (world_table w name).block))) blank);
   unwritten = λ seat note is writes same.
       let apart = note-apart w spaces new name frame seat notes note f k nf.stored is in
       let row = (elsewhere w.store new name frame note.frame k apart).row in
@@ -271,8 +271,8 @@ fill-notes w spaces new name frame notes f k zeroed blank valid fits nf = record
   sizes = nf.sizes;
 }
   where
-    stored-same : (p : Place) → stored new notes p ≡ stored w.store notes p
-    stored-same p = ap (λ (b : List BaySeen). stored (record w.store { bays = b }) notes p) k.laws.outside.bays
+    stored-same : (p : Place) → backing_value new notes p ≡ backing_value w.store notes p
+    stored-same p = ap (λ (b : List BaySeen). backing_value (record w.store { bays = b }) notes p) k.laws.outside.bays
 
     tells-same : (n : PageName) → tells new notes (world_table w n).disk ≡ tells w.store notes (world_table w n).disk
     tells-same n = ap (λ (b : List BaySeen). tells (record w.store { bays = b }) notes (world_table w n).disk) k.laws.outside.bays

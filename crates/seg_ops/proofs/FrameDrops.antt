@@ -5,7 +5,7 @@ use Rattle.std.proofs.lemmas.Bool.{eq-eqb}
 use Rattle.page_lock.specs.Rows.{row_at, clear_row, with_bits}
 use Rattle.page_lock.specs.declared.Row.{Row}
 use Rattle.page_store.specs.Laws.{StaysInPlace}
-use Rattle.page_store.specs.Moves.{only}
+use Rattle.page_store.specs.Moves.{is_only}
 use Rattle.page_store.specs.Seen.{StoreSeen, IsListedFrame}
 use Rattle.page_store.specs.Steps.{next_frame}
 use Rattle.page_store.specs.Transfers.{taken_or}
@@ -25,7 +25,7 @@ use Rattle.seg_ops.proofs.Syncs.{gather-keeps}
 -- DROPPED, with their bits in the page.
 pub unload-keeps : (w : World) (spaces : Spaces) (new : StoreSeen) (hat : Pool) (frame : ℕ) → MemoryFits (memory_of w spaces) → frame < length w.store.frames → ¬ IsListedFrame w.store frame
     → hat.places ≡ drop_frame frame w.hat.places → hat.frames ≡ w.hat.frames → IsSingleValued hat.places
-    → new ≡ with_bits_gathered w.store frame (bits_of frame w.hat.places) → StaysInPlace w.store new (only (Some frame))
+    → new ≡ with_bits_gathered w.store frame (bits_of frame w.hat.places) → StaysInPlace w.store new (is_only (Some frame))
     → KeepsPages w (with_tables w new hat) spaces
 unload-keeps w spaces new hat frame f lt unlisted places frames single is laws =
     gather-keeps w spaces new hat frame f lt unlisted frames single is laws

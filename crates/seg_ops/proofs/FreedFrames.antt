@@ -7,20 +7,20 @@ use Rattle.core_arena.specs.Bytes.{bytes_at}
 use Rattle.page_hash.specs.Names.{name_at, find, is_name}
 use Rattle.page_hash.specs.declared.PageName.{PageName}
 use Rattle.page_hash.proofs.NameLaws.{find-some, is_name-true, is_name-same}
-use Rattle.page_lists.specs.ListsSeen.{Has, first_of, without}
+use Rattle.page_lists.specs.ListsSeen.{Has, first_of, without_frame}
 use Rattle.page_lock.specs.Rows.{row_at, clear_row}
 use Rattle.page_lock.specs.declared.Row.{Row}
 use Rattle.page_store.specs.Bays.{BaySeen}
-use Rattle.page_store.specs.Bytes.{clipped}
+use Rattle.page_store.specs.Bytes.{clip}
 use Rattle.page_store.specs.Laws.{Aborts}
-use Rattle.page_store.specs.Moves.{only, family_of}
+use Rattle.page_store.specs.Moves.{is_only, family_of}
 use Rattle.page_store.specs.Notes.{Note, Notes}
 use Rattle.page_store.specs.Parts.{rows_without}
 use Rattle.page_store.specs.Seen.{StoreSeen, IsListedFrame, own_frame, residence}
 use Rattle.page_store.specs.Steps.{next_frame, next_name, name_in, after_abort, at_frame, with_page_given_up, without_snapshot}
 use Rattle.page_store.specs.StoreFits.{StoreFits, IsClean}
-use Rattle.page_store.specs.Transfers.{rewritten_in}
-use Rattle.page_store.specs.Value.{value_in, stored, tells}
+use Rattle.page_store.specs.Transfers.{is_rewritten_in}
+use Rattle.page_store.specs.Value.{value_in, backing_value, tells}
 use Rattle.page_store.specs.declared.place.Place.{Place}
 use Rattle.page_store.specs.declared.residence.Residence.TheVariants.{Home, Absent}
 use Rattle.page_store.proofs.FrameLaws.{home-unsourced}
@@ -46,15 +46,15 @@ use Rattle.seg_ops.proofs.StillSteps.{with_tables, memory_of, tell-kept, value-i
 pub record Frees (s new : StoreSeen) (n : PageName) (frame : ℕ) : Type 0 where
   pub next : next_frame s ≡ Some frame
   pub named : name_at s.names frame ≡ Some n
-  pub done : new ≡ record s { names = slice_set s.names frame None; rows = slice_set s.rows frame clear_row; cached = without s.cached frame; free = s.free ++ frame ∷ [] }
+  pub done : new ≡ record s { names = slice_set s.names frame None; rows = slice_set s.rows frame clear_row; cached = without_frame s.cached frame; free = s.free ++ frame ∷ [] }
   pub elsewhere : (j : ℕ) → j ≢ frame → Elsewhere s new j
   pub row : row_at new.rows frame ≡ clear_row
   pub lost : name_at new.names frame ≡ None
   pub laws : Aborts s new n
 
-no-other : (k frame : ℕ) (snapshot source : Option ℕ) → snapshot ≡ None → source ≡ None → k ≢ frame → ((k == frame) || (only snapshot k || only source k)) ≡ false
+no-other : (k frame : ℕ) (snapshot source : Option ℕ) → snapshot ≡ None → source ≡ None → k ≢ frame → ((k == frame) || (is_only snapshot k || is_only source k)) ≡ false
 no-other k frame snapshot source a b ne =
-    ap (λ (o : Option ℕ). (k == frame) || (only o k || only source k)) a ∙ ap (λ (o : Option ℕ). (k == frame) || (only None k || only o k)) b
+    ap (λ (o : Option ℕ). (k == frame) || (is_only o k || is_only source k)) a ∙ ap (λ (o : Option ℕ). (k == frame) || (is_only None k || is_only o k)) b
     ∙ elim (eqb_tells k frame) [ inl same ↦ absurd (ne same.1) | inr apart ↦ ap (λ (b : Bool). b || false) apart.0 ]
 
 pub frees-next : (w : World) (spaces : Spaces) (new : StoreSeen) (n : PageName) (frame : ℕ) → MemoryFits (memory_of w spaces) → next_frame w.store ≡ Some frame → name_at w.store.names frame ≡ Some n → new ≡ after_abort w.store n → Aborts w.store new n → Frees w.store new n frame
@@ -88,7 +88,7 @@ frees-next w spaces new n frame f next named step laws =
     by_snapshot None e listed = e
     by_snapshot (Some copy) e listed = absurd (f.frames.sound.paired.unlisted frame copy e listed)
 
-    by_bytes : (b : Option (List ℕ)) → IsSome b → with_page_given_up w.store frame b ≡ record w.store { names = slice_set w.store.names frame None; rows = slice_set w.store.rows frame clear_row; cached = without w.store.cached frame; free = w.store.free ++ frame ∷ [] }
+    by_bytes : (b : Option (List ℕ)) → IsSome b → with_page_given_up w.store frame b ≡ record w.store { names = slice_set w.store.names frame None; rows = slice_set w.store.rows frame clear_row; cached = without_frame w.store.cached frame; free = w.store.free ++ frame ∷ [] }
     by_bytes None there = absurd (let z : false ≡ true = there in cc)
     by_bytes (Some b) there = refl
 
@@ -188,8 +188,8 @@ freed-notes w spaces new n frame notes f k fits nf = record {
     apart : (seat : ℕ) (note : Note) → notes seat ≡ Some note → note.frame ≢ frame
     apart seat note is e = away-home (bytes_at w.store.frames frame) (ap (λ (i : ℕ). bytes_at w.store.frames i) (sym e) ∙ (nf.stored.each_note seat note is).away) (f.frames.sound.listed frame listed)
 
-    stored-same : (p : Place) → stored new notes p ≡ stored w.store notes p
-    stored-same p = ap (λ (b : List BaySeen). stored (record w.store { bays = b }) notes p) k.laws.outside.bays
+    stored-same : (p : Place) → backing_value new notes p ≡ backing_value w.store notes p
+    stored-same p = ap (λ (b : List BaySeen). backing_value (record w.store { bays = b }) notes p) k.laws.outside.bays
 
     tells-same : (m : PageName) → tells new notes (world_table w m).disk ≡ tells w.store notes (world_table w m).disk
     tells-same m = ap (λ (b : List BaySeen). tells (record w.store { bays = b }) notes (world_table w m).disk) k.laws.outside.bays
@@ -204,7 +204,7 @@ freed-notes w spaces new n frame notes f k fits nf = record {
           pushed = p.pushed;
           same = elim p.same [
             | inl r ↦ inl (elim r [
-              | inl was ↦ inl (ap (λ (o : Option ℕ). rewritten_in o new) source ∙ rewritten-same w.store new (row_at w.store.rows note.frame).source note.frame other.row ∙ was)
+              | inl was ↦ inl (ap (λ (o : Option ℕ). is_rewritten_in o new) source ∙ rewritten-same w.store new (row_at w.store.rows note.frame).source note.frame other.row ∙ was)
               | inr x ↦ inr (subst (λ (i : ℕ). HasWritten w.hat.places i) (sym own) x)
             ])
             | inr s ↦ inr (record { valid = s.valid; bytes = λ b h. s.bytes b (sym other.bytes ∙ ap (λ (i : ℕ). bytes_at new.frames i) (sym own) ∙ h) })
@@ -248,16 +248,16 @@ frees-step w spaces new n frame f k =
         let v = home-value w.store notes (world_table w) n frame (bytes_at w.store.frames frame) (find-some w.store.names n frame f.frames.sound.distinct k.named) refl (f.frames.sound.listed frame listed) in
         value-is (with_tables w new w.hat) notes n is
         ∙ ap (λ (o : Option ℕ). value_in o new notes (world_table w n)) (absent-is new n k.laws.sound k.laws.absent)
-        ∙ ap (λ (b : List BaySeen). stored (record w.store { bays = b }) notes (world_table w n)) k.laws.outside.bays
+        ∙ ap (λ (b : List BaySeen). backing_value (record w.store { bays = b }) notes (world_table w n)) k.laws.outside.bays
         ∙ sym (clean.same tell v.0 v.1)
-        ∙ ap (λ (b : Page). clipped (world_table w n).valid b) (sym v.2 ∙ sym (value-is w notes n is))
+        ∙ ap (λ (b : Page). clip (world_table w n).valid b) (sym v.2 ∙ sym (value-is w notes n is))
         ∙ sym (ap (λ (b : Bool). cut_page b (world_table w n).valid (page_value w notes n)) (ap (λ (o : Option PageName). is_name o n) taken ∙ is_name-same n))
 
 -- THE NEXT FRAME is the same, and free.
 pub frees-first : (w : World) (spaces : Spaces) (new : StoreSeen) (n : PageName) (frame : ℕ) → MemoryFits (memory_of w spaces) → Frees w.store new n frame → next_frame new ≡ Some frame
 frees-first w spaces new n frame f k = ap next_frame k.done ∙ by_free w.store.free refl
   where
-    by_free : (xs : List ℕ) → w.store.free ≡ xs → first_of (xs ++ frame ∷ []) (without w.store.cached frame) ≡ Some frame
+    by_free : (xs : List ℕ) → w.store.free ≡ xs → first_of (xs ++ frame ∷ []) (without_frame w.store.cached frame) ≡ Some frame
     by_free [] e = refl
     by_free (x ∷ xs) e = absurd (
         let first : x ≡ frame = let z : Some x ≡ Some frame = sym (ap (λ (l : List ℕ). first_of l w.store.cached) e) ∙ k.next in cc in

@@ -4,7 +4,7 @@ use Rattle.std.specs.Prelude.{◌||◌}
 use Rattle.page_lock.specs.Rows.{row_at, clear_row, with_bits}
 use Rattle.page_lock.specs.declared.Row.{Row}
 use Rattle.page_store.specs.Laws.{StaysInPlace}
-use Rattle.page_store.specs.Moves.{only}
+use Rattle.page_store.specs.Moves.{is_only}
 use Rattle.page_store.specs.Seen.{StoreSeen, IsListedFrame}
 use Rattle.hat_layer.specs.declared.translation.Translation.{Translation}
 use Rattle.anon_slots.specs.Slots.{Slots}
@@ -52,7 +52,7 @@ row-told s frame told lt h =
 
 -- BITS OF A FRAME ON NO LIST are gathered, and what the translations no longer say was told.
 pub keeps-gathered : (s : StoreSeen) (files : FilesSeen) (anon : Slots) (before after : List (Option Translation)) (frame : ℕ) (told : Bool × Bool) → FramesFit s files anon → frame < length s.frames → ¬ IsListedFrame s frame
-    → StaysInPlace s (with_bits_gathered s frame told) (only (Some frame))
+    → StaysInPlace s (with_bits_gathered s frame told) (is_only (Some frame))
     → ((k : ℕ) → HasWritten before k → ((frame ≡ k) × (told.1 ≡ true)) ⊎ HasWritten after k)
     → KeepsFrames s (with_bits_gathered s frame told) before after
 keeps-gathered s files anon before after frame told f lt unlisted laws kept =

@@ -11,7 +11,7 @@ use Rattle.page_hash.proofs.NameLaws.{find-at, find-none}
 use Rattle.page_lock.specs.Rows.{row_at, clear_row}
 use Rattle.page_lock.specs.declared.Row.{Row}
 use Rattle.page_store.specs.Laws.{Aborts}
-use Rattle.page_store.specs.Moves.{only, family, family_of}
+use Rattle.page_store.specs.Moves.{is_only, family, family_of}
 use Rattle.page_store.specs.Parts.{rows_without}
 use Rattle.page_store.specs.Seen.{StoreSeen, IsSoundStore, own_frame}
 use Rattle.page_store.specs.Steps.{after_abort, at_frame, with_page_given_up, without_snapshot}
@@ -148,13 +148,13 @@ module _ (s new : StoreSeen) (n : PageName) (frame : ℕ) (sound : IsSoundStore 
     | inl in_it ↦ elim (cases_eq k frame) [
       | inl e ↦ inl (subst (λ (j : ℕ). IsGivenUp s new n j) (sym e) own-given)
       | inr ne ↦
-          let linked : (only (row_at s.rows frame).snapshot k || only (row_at s.rows frame).source k) ≡ true = elim (eqb_tells k frame) [ inl same ↦ absurd (ne same.1) | inr far ↦ sym (ap (λ (b : Bool). b || (only (row_at s.rows frame).snapshot k || only (row_at s.rows frame).source k)) far.0) ∙ in_it ] in
-          let shot : (only (row_at s.rows frame).snapshot k || false) ≡ true = sym (ap (λ (o : Option ℕ). only (row_at s.rows frame).snapshot k || only o k) unsourced) ∙ linked in
+          let linked : (is_only (row_at s.rows frame).snapshot k || is_only (row_at s.rows frame).source k) ≡ true = elim (eqb_tells k frame) [ inl same ↦ absurd (ne same.1) | inr far ↦ sym (ap (λ (b : Bool). b || (is_only (row_at s.rows frame).snapshot k || is_only (row_at s.rows frame).source k)) far.0) ∙ in_it ] in
+          let shot : (is_only (row_at s.rows frame).snapshot k || false) ≡ true = sym (ap (λ (o : Option ℕ). is_only (row_at s.rows frame).snapshot k || is_only o k) unsourced) ∙ linked in
           inl (by_shot k (row_at s.rows frame).snapshot refl shot)
     ]
   ]
     where
-      by_shot : (k : ℕ) (o : Option ℕ) → (row_at s.rows frame).snapshot ≡ o → (only o k || false) ≡ true → IsGivenUp s new n k
+      by_shot : (k : ℕ) (o : Option ℕ) → (row_at s.rows frame).snapshot ≡ o → (is_only o k || false) ≡ true → IsGivenUp s new n k
       by_shot k None e h = absurd (let z : false ≡ true = h in cc)
       by_shot k (Some copy) e h = subst (λ (j : ℕ). IsGivenUp s new n j) (sym (eqb-true k copy (left (k == copy) h))) (copy-given copy e)
         where

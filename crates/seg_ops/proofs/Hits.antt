@@ -2,13 +2,13 @@
 use Rattle.std.proofs.Common.{◌≡◌, ℕ, ◌%◌, ◌<◌, Bool, false, List, length, Option, Some, None, refl, sym, ap, ◌∙◌, inl, inr, subst}
 use Rattle.std.specs.Prelude.{IfSome, IfNone}
 use Rattle.std.proofs.lemmas.Bool.Decides.{eqb_tells}
-use Rattle.core_arena.specs.Bytes.{spliced}
+use Rattle.core_arena.specs.Bytes.{bytes_with_piece}
 use Rattle.page_hash.specs.Names.{name_at, find}
 use Rattle.page_hash.specs.declared.PageName.{PageName}
 use Rattle.page_lock.specs.Rows.{row_at}
 use Rattle.page_lock.specs.declared.Row.{Row}
 use Rattle.page_store.specs.Laws.{Pokes}
-use Rattle.page_store.specs.Moves.{only}
+use Rattle.page_store.specs.Moves.{is_only}
 use Rattle.page_store.specs.Notes.{Notes}
 use Rattle.page_store.specs.Seen.{StoreSeen, IsListedFrame, residence}
 use Rattle.page_store.specs.Steps.{with_piece}
@@ -16,7 +16,7 @@ use Rattle.page_store.specs.Value.{value}
 use Rattle.page_store.specs.declared.residence.Residence.TheVariants.{Home}
 use Rattle.page_store.proofs.QueryLemmas.{home-is}
 use Rattle.hat_layer.specs.declared.translation.Translation.{Translation}
-use Rattle.hat_layer.specs.Pool.{Pool, IsNoted, IsSingleValued, at, change_at, after_access}
+use Rattle.hat_layer.specs.Pool.{Pool, IsNoted, IsSingleValued, translation_at, change_at, after_access}
 use Rattle.flat_model.specs.Words.{page, word_at, word_bytes}
 use Rattle.vm_world.specs.MemoryFits.{MemoryFits}
 use Rattle.vm_world.specs.Segments.{Spaces, spot_at}
@@ -37,7 +37,7 @@ pub record Hits (w : World) (spaces : Spaces) (space q : ℕ) (t : Translation) 
   pub within : t.frame < length w.store.frames
   pub unlisted : ¬ IsListedFrame w.store t.frame
 
-pub hits : (w : World) (spaces : Spaces) (space q : ℕ) (t : Translation) → MemoryFits (memory_of w spaces) → at w.hat.places space q ≡ Some t → Hits w spaces space q t
+pub hits : (w : World) (spaces : Spaces) (space q : ℕ) (t : Translation) → MemoryFits (memory_of w spaces) → translation_at w.hat.places space q ≡ Some t → Hits w spaces space q t
 hits w spaces space q t f is =
     let s = stands-at w.hat.places space q t is in
     let l = f.translations s.place t s.there in
@@ -113,7 +113,7 @@ write-word w spaces new space a n v t h f wrote step laws =
       written = λ j x. inr x;
       bytes = λ j. elim (eqb_tells j t.frame) [
         | inl same ↦ inr (subst (λ (i : ℕ). HasWritten w.hat.places i) (sym same.1) wrote)
-        | inr other ↦ inl (laws.touches.bytes j (ap (λ (o : Option ℕ). only o j) found ∙ other.0))
+        | inr other ↦ inl (laws.touches.bytes j (ap (λ (o : Option ℕ). is_only o j) found ∙ other.0))
       ];
     } in
     let translations : TranslationsFit new w.anon w.maps spaces w.hat.places = λ i u there. translation-kept w.store new w.anon w.maps spaces u laws.residence (listed u.frame) (f.translations i u there) in (
@@ -128,7 +128,7 @@ write-word w spaces new space a n v t h f wrote step laws =
         notes = λ notes nf. notes-kept w spaces new w.hat notes f k (laws.others notes (world_table w) nf.stored).fits nf;
         tells = λ notes nf. tell-kept w new w.hat notes (laws.others notes (world_table w) nf.stored).alike;
         written = λ notes. value-is (with_tables w new w.hat) notes h.name h.shows.is_page ∙ laws.value notes (world_table w)
-            ∙ ap (λ (bytes : List ℕ). spliced bytes (a % 4096) (word_bytes n v)) (sym (value-is w notes h.name h.shows.is_page));
+            ∙ ap (λ (bytes : List ℕ). bytes_with_piece bytes (a % 4096) (word_bytes n v)) (sym (value-is w notes h.name h.shows.is_page));
         others = λ notes m nf tell ne real. value-is (with_tables w new w.hat) notes m real ∙ (laws.others notes (world_table w) nf.stored).values m ne (tell m real) ∙ sym (value-is w notes m real);
       },
     )

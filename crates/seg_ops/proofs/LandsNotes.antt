@@ -10,7 +10,7 @@ use Rattle.page_store.specs.Flight.{FlightSeen, Progress, fresh, done, failed}
 use Rattle.page_store.specs.Notes.{Note, Notes, with_note}
 use Rattle.page_store.specs.Seen.{StoreSeen, own_frame, residence}
 use Rattle.page_store.specs.StoreFits.{IsClean}
-use Rattle.page_store.specs.Transfers.{EndsValues, was_rewritten, rewritten_in}
+use Rattle.page_store.specs.Transfers.{EndsValues, was_rewritten, is_rewritten_in}
 use Rattle.page_store.specs.declared.residence.Residence.TheVariants.{Home, Absent}
 use Rattle.page_store.proofs.Agree.{own-far, own-other}
 use Rattle.page_store.proofs.FrameLaws.{copy-apart, some-or-none}
@@ -43,7 +43,7 @@ is-another w new f notes note t x c k is = elim (cases_eq t f.seat) [
 ]
 
 -- a push of another seat
-source-kept : (old new : StoreSeen) (o : Option ℕ) (note : ℕ) → KeepsRow (row_at old.rows (unwrap_or o note)) (row_at new.rows (unwrap_or o note)) → rewritten_in o old ≡ true → rewritten_in o new ≡ true
+source-kept : (old new : StoreSeen) (o : Option ℕ) (note : ℕ) → KeepsRow (row_at old.rows (unwrap_or o note)) (row_at new.rows (unwrap_or o note)) → is_rewritten_in o old ≡ true → is_rewritten_in o new ≡ true
 source-kept old new None note k h = absurd (let z : false ≡ true = h in cc)
 source-kept old new (Some own) note k h = k.rewritten h
 
@@ -56,7 +56,7 @@ push-lands w new f notes t x c a p =
       pushed = p.pushed;
       same = elim p.same [
         | inl r ↦ inl (elim r [
-          | inl was ↦ inl (ap (λ (o : Option ℕ). rewritten_in o new) source ∙ source-kept w.store new (row_at w.store.rows x.frame).source x.frame kept.row was)
+          | inl was ↦ inl (ap (λ (o : Option ℕ). is_rewritten_in o new) source ∙ source-kept w.store new (row_at w.store.rows x.frame).source x.frame kept.row was)
           | inr y ↦ inr (subst (λ (i : ℕ). HasWritten w.hat.places i) (sym own) y)
         ])
         | inr sent ↦ inr (record { valid = sent.valid; bytes = λ b h. sent.bytes b (sym kept.bytes ∙ ap (bytes_at new.frames) (sym own) ∙ h) })

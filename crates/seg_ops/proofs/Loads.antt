@@ -2,7 +2,7 @@
 use Rattle.std.proofs.Common.{◌≡◌, ◌≢◌, ℕ, ◌<◌, Bool, true, false, cond, List, length, Option, Some, None, refl, sym, ap, ◌∙◌, ◌⊎◌, inl, inr, subst, slice_index_or, slice_set}
 use Rattle.std.specs.Prelude.{option_map, IfSome}
 use Rattle.page_store.specs.Laws.{StaysInPlace}
-use Rattle.page_store.specs.Moves.{only}
+use Rattle.page_store.specs.Moves.{is_only}
 use Rattle.page_store.specs.Seen.{StoreSeen, IsListedFrame}
 use Rattle.hat_layer.specs.declared.translation.Translation.{Translation}
 use Rattle.hat_layer.specs.declared.translation.Dropped.{Dropped}
@@ -47,7 +47,7 @@ install-none w spaces hat place loaded f leads was places frames single =
 
 install-some : (w : World) (spaces : Spaces) (hat : Pool) (place : ℕ) (loaded t : Translation) → MemoryFits (memory_of w spaces) → TranslationFits w.store w.anon w.maps spaces loaded
     → slice_index_or w.hat.places place None ≡ Some t → hat.places ≡ slice_set w.hat.places place (Some loaded) → hat.frames ≡ w.hat.frames → IsSingleValued hat.places
-    → StaysInPlace w.store (with_bits_gathered w.store t.frame (t.referenced, t.modified)) (only (Some t.frame))
+    → StaysInPlace w.store (with_bits_gathered w.store t.frame (t.referenced, t.modified)) (is_only (Some t.frame))
     → KeepsPages w (with_tables w (with_bits_gathered w.store t.frame (t.referenced, t.modified)) hat) spaces
 install-some w spaces hat place loaded t f leads was places frames single laws =
     let told : Bool × Bool = (t.referenced, t.modified) in
@@ -68,10 +68,10 @@ install-some w spaces hat place loaded t f leads was places frames single laws =
 -- WHAT GIVES WAY TO A TRANSLATION has its bits gathered.
 pub install-keeps : (w : World) (spaces : Spaces) (new : StoreSeen) (hat : Pool) (place : ℕ) (loaded : Translation) (was : Option Translation) → MemoryFits (memory_of w spaces) → TranslationFits w.store w.anon w.maps spaces loaded
     → slice_index_or w.hat.places place None ≡ was → hat.places ≡ slice_set w.hat.places place (Some loaded) → hat.frames ≡ w.hat.frames → IsSingleValued hat.places
-    → new ≡ with_dropped_gathered w.store (option_map told_of was) → IfSome (option_map told_of was) (λ d. StaysInPlace w.store new (only (Some d.frame)))
+    → new ≡ with_dropped_gathered w.store (option_map told_of was) → IfSome (option_map told_of was) (λ d. StaysInPlace w.store new (is_only (Some d.frame)))
     → KeepsPages w (with_tables w new hat) spaces
 install-keeps w spaces new hat place loaded None f leads was places frames single step laws =
     subst (λ (s : StoreSeen). KeepsPages w (with_tables w s hat) spaces) (sym step) (install-none w spaces hat place loaded f leads was places frames single)
 install-keeps w spaces new hat place loaded (Some t) f leads was places frames single step laws =
     subst (λ (s : StoreSeen). KeepsPages w (with_tables w s hat) spaces) (sym step)
-    (install-some w spaces hat place loaded t f leads was places frames single (subst (λ (s : StoreSeen). StaysInPlace w.store s (only (Some t.frame))) step laws))
+    (install-some w spaces hat place loaded t f leads was places frames single (subst (λ (s : StoreSeen). StaysInPlace w.store s (is_only (Some t.frame))) step laws))

@@ -6,7 +6,7 @@ use Rattle.vm_types.specs.declared.call.Kind.{Kind}
 use Rattle.vm_types.specs.declared.call.Kind.TheVariants.{Shared, Private}
 use Rattle.vm_types.specs.Prot.{can_write}
 use Rattle.flat_model.specs.Access.{access_target, store, with_cell, with_page, with_page_stored}
-use Rattle.flat_model.specs.Refusals.{done}
+use Rattle.flat_model.specs.Refusals.{done_effect}
 use Rattle.flat_model.specs.Flat.{Cell, Flat, IsCell, IsFlat, cell_at, shown, pages_of}
 use Rattle.flat_model.specs.Words.{Page, IsPage, page, word_put}
 use Rattle.flat_model.proofs.Stores.{IsPage-shown, is_met, met_is}
@@ -71,7 +71,7 @@ law-gets F p q c new at kind shows =
     ∙ sym (ap (λ (o : Option Cell). option_map_or (λ d. with_cell F p q (record d { own = Some new })) o F) at)
 
 -- A STORE.
-store-met : (F : Flat) (p a n v : ℕ) (c : Cell) (new : Page) → access_target F p can_write a n ≡ Ok (c, new) → store F p a n v ≡ done (with_page_stored F p (page a) c (word_put new a n v))
+store-met : (F : Flat) (p a n v : ℕ) (c : Cell) (new : Page) → access_target F p can_write a n ≡ Ok (c, new) → store F p a n v ≡ done_effect (with_page_stored F p (page a) c (word_put new a n v))
 store-met F p a n v c new met = rw met refl
 
 law-stores : (F : Flat) (p a n v : ℕ) (c : Cell) (new : Page) → access_target F p can_write a n ≡ Ok (c, new) → store (with_own_shown F p (page a)) p a n v ≡ store F p a n v
@@ -89,7 +89,7 @@ law-stores F p a n v c new met = by_kind c.kind refl
         λ H e is. ap (λ (k : Kind). elim k as (λ (b : Kind). Flat) [ Shared ↦ with_page H e.object e.index bytes | Private ↦ with_cell H p (page a) (record e { own = Some bytes }) ]) is in
         ap (λ (H : Flat). store H p a n v) (shown-is F p (page a) c m.cell ∙ ap (with_shown F p (page a) c) m.shows ∙ private-is F p (page a) c new kind)
         ∙ store-met G p a n v d new there
-        ∙ ap (λ (H : Flat). done H) (stored G d kind ∙ cell-twice F p (page a) d (record c { own = Some bytes }) ∙ sym (stored F c kind))
+        ∙ ap (λ (H : Flat). done_effect H) (stored G d kind ∙ cell-twice F p (page a) d (record c { own = Some bytes }) ∙ sym (stored F c kind))
         ∙ sym (store-met F p a n v c new met)
 
 pub own_shown_law : OwnShownLaw

@@ -4,7 +4,7 @@ use Rattle.std.specs.Prelude.{option_map, option_and_then, find, ◌&&◌, ◌||
 use Rattle.std.specs.List.{list_any}
 use Rattle.std.proofs.lemmas.Bool.{cases_Bool, eqb-true, eq-eqb}
 use Rattle.hat_layer.specs.declared.translation.Translation.{Translation}
-use Rattle.hat_layer.specs.Pool.{IsNoted, at, holds, leads, change_page, change_at, after_access, change_lead, drop_lead, change_frame, drop_frame, with_clear_bits, has_bit}
+use Rattle.hat_layer.specs.Pool.{IsNoted, translation_at, holds, leads, change_page, change_at, after_access, change_lead, drop_lead, change_frame, drop_frame, with_clear_bits, has_bit}
 use Rattle.vm_world.specs.TranslationsFit.{HasWritten}
 use Rattle.seg_ops.specs.Steps.{IsUnwritten}
 
@@ -40,11 +40,11 @@ held-here (Some u) space page t is e =
     (ap (λ (x : Translation). x.space) (sym same) ∙ eqb-true u.space space tests.0, ap (λ (x : Translation). x.page) (sym same) ∙ eqb-true u.page page tests.1)
 
 stands-in : (o : Option Translation) (os : List (Option Translation)) (space page : ℕ) (t : Translation) (b : Bool) → holds space page o ≡ b → option_and_then (λ (x : Option Translation). x) (cond b (Some o) (find (λ x. holds space page x) os)) ≡ Some t
-    → (at os space page ≡ Some t → StandsAt os space page t) → StandsAt (o ∷ os) space page t
+    → (translation_at os space page ≡ Some t → StandsAt os space page t) → StandsAt (o ∷ os) space page t
 stands-in o os space page t true is e more = let r = held-here o space page t is e in record { place = 0; there = e; space_is = r.0; page_is = r.1 }
 stands-in o os space page t false is e more = let s = more e in record { place = suc s.place; there = s.there; space_is = s.space_is; page_is = s.page_is }
 
-pub stands-at : (places : List (Option Translation)) (space page : ℕ) (t : Translation) → at places space page ≡ Some t → StandsAt places space page t
+pub stands-at : (places : List (Option Translation)) (space page : ℕ) (t : Translation) → translation_at places space page ≡ Some t → StandsAt places space page t
 stands-at [] space page t h = absurd (cc)
 stands-at (o ∷ os) space page t h = stands-in o os space page t (holds space page o) refl h (λ e. stands-at os space page t e)
 

@@ -10,14 +10,14 @@ use Rattle.page_hash.specs.Names.{name_at, is_name}
 use Rattle.page_hash.specs.declared.PageName.{PageName}
 use Rattle.page_lock.specs.Rows.{row_at}
 use Rattle.page_store.specs.Bays.{BaySeen, missing, home, out, bay_at, block_of}
-use Rattle.page_store.specs.Bytes.{clipped}
+use Rattle.page_store.specs.Bytes.{clip}
 use Rattle.page_store.specs.Moves.{TakesFrame}
 use Rattle.page_store.specs.Notes.{Note, Notes, with_note}
 use Rattle.page_store.specs.Seen.{StoreSeen, IsListedFrame, IsGone, own_frame, residence}
 use Rattle.page_store.specs.Steps.{next_name}
 use Rattle.page_store.specs.StoreFits.{StoreFits, IsClean}
-use Rattle.page_store.specs.Transfers.{rewritten_in}
-use Rattle.page_store.specs.Value.{stored, content_of, content_in_bay, content_in_note}
+use Rattle.page_store.specs.Transfers.{is_rewritten_in}
+use Rattle.page_store.specs.Value.{backing_value, content_of, content_in_bay, content_in_note}
 use Rattle.page_store.specs.declared.place.Place.{Place}
 use Rattle.page_store.specs.declared.residence.Residence.TheVariants.{Home}
 use Rattle.page_store.proofs.Agree.{own-far}
@@ -164,8 +164,8 @@ content-sent w new notes seat number note s fits idle = elim (index-set w.store.
     ]
 
 stored-sent : (w : World) (new : StoreSeen) (notes : Notes) (seat : ℕ) (note : Note) (p : Place) → Sends w.store new seat note → StoreFits w.store notes (world_table w) → notes seat ≡ None
-    → stored new (with_note notes seat (Some note)) p ≡ stored w.store notes p
-stored-sent w new notes seat note p s fits idle = ap (λ (c : Option (List (List ℕ))). cond p.blank zeros (clipped p.valid (block_of c p.block))) (content-sent w new notes seat p.disk note s fits idle)
+    → backing_value new (with_note notes seat (Some note)) p ≡ backing_value w.store notes p
+stored-sent w new notes seat note p s fits idle = ap (λ (c : Option (List (List ℕ))). cond p.blank zeros (clip p.valid (block_of c p.block))) (content-sent w new notes seat p.disk note s fits idle)
 
 -- a frame that didn't go out has a clean page where it was clean, but for the page that is sent
 clean-sent : (w : World) (new : StoreSeen) (notes : Notes) (seat j : ℕ) (note : Note) (n : PageName) → Sends w.store new seat note → StoreFits w.store notes (world_table w) → notes seat ≡ None → TakesFrame w.store notes new (with_note notes seat (Some note)) (world_table w)
@@ -199,14 +199,14 @@ push-sent w spaces new notes seat t note x f s k fits is there p =
       pushed = p.pushed;
       same = elim p.same [
         | inl r ↦ inl (elim r [
-          | inl was ↦ inl (ap (λ (o : Option ℕ). rewritten_in o new) frame.source ∙ by_source (row_at w.store.rows x.frame).source refl (kept.rewritten other) ∙ was)
+          | inl was ↦ inl (ap (λ (o : Option ℕ). is_rewritten_in o new) frame.source ∙ by_source (row_at w.store.rows x.frame).source refl (kept.rewritten other) ∙ was)
           | inr y ↦ inr (subst (λ (i : ℕ). HasWritten w.hat.places i) (sym own) y)
         ])
         | inr sent ↦ inr (record { valid = sent.valid; bytes = λ b h. sent.bytes b (sym kept.bytes ∙ ap (λ (i : ℕ). bytes_at new.frames i) (sym own) ∙ h) })
       ];
     }
   where
-    by_source : (o : Option ℕ) → (row_at w.store.rows x.frame).source ≡ o → (row_at new.rows (unwrap_or o x.frame)).rewritten ≡ (row_at w.store.rows (unwrap_or o x.frame)).rewritten → rewritten_in o new ≡ rewritten_in o w.store
+    by_source : (o : Option ℕ) → (row_at w.store.rows x.frame).source ≡ o → (row_at new.rows (unwrap_or o x.frame)).rewritten ≡ (row_at w.store.rows (unwrap_or o x.frame)).rewritten → is_rewritten_in o new ≡ is_rewritten_in o w.store
     by_source None is same = refl
     by_source (Some own) is same = same
 
@@ -287,5 +287,5 @@ sends-step w spaces new seat note f s k exists unled takes = record {
   whole = λ notes n idle nf tell there cut. next-whole w spaces notes n f cut;
   pages = λ notes n idle nf tell there.
       let is = exists-page w n f.files there in
-      value-is (with_tables w new w.hat) (with_note notes seat (Some note)) n is ∙ (takes notes nf idle).values n (tell n is) ∙ ap (λ (b : Page). cond (is_name (next_name w.store) n) (clipped (world_table w n).valid b) b) (sym (value-is w notes n is));
+      value-is (with_tables w new w.hat) (with_note notes seat (Some note)) n is ∙ (takes notes nf idle).values n (tell n is) ∙ ap (λ (b : Page). cond (is_name (next_name w.store) n) (clip (world_table w n).valid b) b) (sym (value-is w notes n is));
 }

@@ -8,10 +8,10 @@ use Rattle.page_hash.specs.declared.PageName.{PageName}
 use Rattle.page_lock.specs.Rows.{row_at}
 use Rattle.page_lock.specs.declared.Row.{Row}
 use Rattle.page_store.specs.Laws.{StaysInPlace, SameResidence}
-use Rattle.page_store.specs.Moves.{only}
+use Rattle.page_store.specs.Moves.{is_only}
 use Rattle.page_store.specs.Seen.{StoreSeen, IsListedFrame, residence}
 use Rattle.page_store.specs.Steps.{at_frame, after_reclaim}
-use Rattle.page_lists.specs.ListsSeen.{without}
+use Rattle.page_lists.specs.ListsSeen.{without_frame}
 use Rattle.page_store.specs.declared.residence.Residence.TheVariants.{Home}
 use Rattle.page_store.proofs.QueryLemmas.{home-is, found-within}
 use Rattle.hat_layer.specs.Pool.{fresh_translation}
@@ -31,7 +31,7 @@ record Alike (new s : StoreSeen) : Type 0 where
   pub rows : new.rows ≡ s.rows
   pub frames : new.frames ≡ s.frames
 
-alike-in : (o : Option ℕ) (s : StoreSeen) → Alike (at_frame o s (λ frame. record s { cached = without s.cached frame })) s
+alike-in : (o : Option ℕ) (s : StoreSeen) → Alike (at_frame o s (λ frame. record s { cached = without_frame s.cached frame })) s
 alike-in None s = record { core = refl; names = refl; bays = refl; rows = refl; frames = refl }
 alike-in (Some frame) s = record { core = refl; names = refl; bays = refl; rows = refl; frames = refl }
 
@@ -51,11 +51,11 @@ pub reclaim-unlisted : (w : World) (new : StoreSeen) (name : PageName) (frame : 
 reclaim-unlisted w new name frame home h = of-frame (find w.store.names name) frame (λ f. ¬ IsListedFrame new f) (home-found w name frame home) h
 
 pub reclaim-keeps : (w : World) (spaces : Spaces) (new : StoreSeen) (name : PageName) (frame : ℕ) → MemoryFits (memory_of w spaces) → residence w.store name ≡ Home frame → new ≡ after_reclaim w.store name
-    → ¬ IsListedFrame new frame → StaysInPlace w.store new (only (find w.store.names name)) → KeepsPages w (with_tables w new w.hat) spaces
+    → ¬ IsListedFrame new frame → StaysInPlace w.store new (is_only (find w.store.names name)) → KeepsPages w (with_tables w new w.hat) spaces
 reclaim-keeps w spaces new name frame f home step unlisted laws =
     let alike : Alike new w.store = subst (λ (x : StoreSeen). Alike x w.store) (sym step) (alike-in (find w.store.names name) w.store) in
     let found = home-found w name frame home in
-    let apart : (k : ℕ) → (k == frame) ≡ false → only (find w.store.names name) k ≡ false = λ k ne. ap (λ (o : Option ℕ). only o k) found ∙ ne in
+    let apart : (k : ℕ) → (k == frame) ≡ false → is_only (find w.store.names name) k ≡ false = λ k ne. ap (λ (o : Option ℕ). is_only o k) found ∙ ne in
     let listed : (k : ℕ) → IsListedFrame new k → IsListedFrame w.store k = λ k l. elim (eqb_tells k frame) [
       | inl same ↦ absurd (unlisted (subst (λ (j : ℕ). IsListedFrame new j) same.1 l))
       | inr other ↦ elim l [ inl h ↦ inl ((laws.touches.free k (apart k other.0)).0 h) | inr h ↦ inr ((laws.touches.cached k (apart k other.0)).0 h) ]

@@ -7,7 +7,7 @@ use Rattle.std.specs.Cmp.{nat_cmp_total}
 use Rattle.std.specs.FinSet as set
 use Rattle.std.specs.FinMap as finite
 use Rattle.std.proofs.lemmas.Bool.{cases_eq}
-use Rattle.addr_space.specs.Space.{Part, at}
+use Rattle.addr_space.specs.Space.{Part, piece_at}
 use Rattle.flat_model.specs.Access.{with_cell}
 use Rattle.flat_model.specs.Flat.{Cell, Space}
 use Rattle.flat_model.specs.Words.{Page, zero_page}
@@ -54,19 +54,19 @@ zeros-else : (old new : ℕ → ℕ → Option Page) (lengths : ℕ → ℕ) (sp
 zeros-else old new lengths spaces same = map_with-same (zero_pages old lengths) (zero_pages new lengths) (zero_maps spaces) (λ z n is. pages-same (λ k. unwrap_or (old n k) zero_page) (λ k. unwrap_or (new n k) zero_page) 0 (lengths n) (λ k. same z n k is))
 
 -- the cells of a space whose pages are all elsewhere
-pub cells-else : (old new : ℕ → ℕ → Option Page) (parts : List (Part Segment)) → ((q : ℕ) (y : Spot) → at parts q ≡ Some y → cell_of new y ≡ cell_of old y) → space_with new parts ≡ space_with old parts
-cells-else old new parts same = finite.same_map nat_cmp_total finite.nat_cmp-IsAntisymmetric _ _ (λ q. get-space_with new parts q ∙ on-some (cell_of old) (cell_of new) (at parts q) (same q) ∙ sym (get-space_with old parts q))
+pub cells-else : (old new : ℕ → ℕ → Option Page) (parts : List (Part Segment)) → ((q : ℕ) (y : Spot) → piece_at parts q ≡ Some y → cell_of new y ≡ cell_of old y) → space_with new parts ≡ space_with old parts
+cells-else old new parts same = finite.same_map nat_cmp_total finite.nat_cmp-IsAntisymmetric _ _ (λ q. get-space_with new parts q ∙ on-some (cell_of old) (cell_of new) (piece_at parts q) (same q) ∙ sym (get-space_with old parts q))
 
 -- the cells of a space of which one page is the place
-cells-here : (old new : ℕ → ℕ → Option Page) (parts : List (Part Segment)) (q : ℕ) (x : Spot) (c : Cell) → at parts q ≡ Some x → cell_of new x ≡ c → ((r : ℕ) (y : Spot) → at parts r ≡ Some y → r ≢ q → cell_of new y ≡ cell_of old y)
+cells-here : (old new : ℕ → ℕ → Option Page) (parts : List (Part Segment)) (q : ℕ) (x : Spot) (c : Cell) → piece_at parts q ≡ Some x → cell_of new x ≡ c → ((r : ℕ) (y : Spot) → piece_at parts r ≡ Some y → r ≢ q → cell_of new y ≡ cell_of old y)
     → space_with new parts ≡ finite.insert (space_with old parts) q c
 cells-here old new parts q x c is cell same = finite.same_map nat_cmp_total finite.nat_cmp-IsAntisymmetric _ _ (λ r. elim (cases_eq r q) [
   | inl e ↦ subst (λ (j : ℕ). finite.get (space_with new parts) j ≡ finite.get (finite.insert (space_with old parts) q c) j) (sym e) (get-space_with new parts q ∙ ap (option_map (cell_of new)) is ∙ ap (λ (d : Cell). Some d) cell ∙ sym (get-insert_here (space_with old parts) q c))
-  | inr ne ↦ get-space_with new parts r ∙ on-some (cell_of old) (cell_of new) (at parts r) (λ y there. same r y there ne) ∙ sym (get-space_with old parts r) ∙ sym (get-insert_apart (space_with old parts) q c r ne)
+  | inr ne ↦ get-space_with new parts r ∙ on-some (cell_of old) (cell_of new) (piece_at parts r) (λ y there. same r y there ne) ∙ sym (get-space_with old parts r) ∙ sym (get-insert_apart (space_with old parts) q c r ne)
 ])
 
-pub spot-in : (spaces : Spaces) (p q : ℕ) (parts : List (Part Segment)) → finite.get spaces p ≡ Some parts → spot_at spaces p q ≡ at parts q
-spot-in spaces p q parts is = ap (option_and_then (λ (ps : List (Part Segment)). at ps q)) is
+pub spot-in : (spaces : Spaces) (p q : ℕ) (parts : List (Part Segment)) → finite.get spaces p ≡ Some parts → spot_at spaces p q ≡ piece_at parts q
+spot-in spaces p q parts is = ap (option_and_then (λ (ps : List (Part Segment)). piece_at ps q)) is
 
 -- WHAT A CELL'S OWN PLACE HOLDS: the cell has it as its own, and all else stays.
 pub flat-owned : (s : Shape) (born : set.FinSet nat_cmp) (file : ℕ → ℕ → Page) (old new : ℕ → ℕ → Option Page) (p q m i : ℕ) (x : Spot) (o : Option Page) → PutsHeld old new m i o → OwnsAlone s.spaces p q m i x
@@ -74,10 +74,10 @@ pub flat-owned : (s : Shape) (born : set.FinSet nat_cmp) (file : ℕ → ℕ →
 flat-owned s born file old new p q m i x o puts owns = by_space (finite.get s.spaces p) refl
   where
     by_space : (a : Option (List (Part Segment))) → finite.get s.spaces p ≡ a → flat_shaped s born (record { file = file; place = new }) ≡ with_cell (flat_shaped s born (record { file = file; place = old })) p q (record (cell_of old x) { own = option_or o (own_without_slot x.0.object) })
-    by_space None is = absurd (let z : None ≡ Some x = sym (ap (option_and_then (λ (ps : List (Part Segment)). at ps q)) is) ∙ owns.here in cc)
+    by_space None is = absurd (let z : None ≡ Some x = sym (ap (option_and_then (λ (ps : List (Part Segment)). piece_at ps q)) is) ∙ owns.here in cc)
     by_space (Some parts) is =
         let c : Cell = record (cell_of old x) { own = option_or o (own_without_slot x.0.object) } in
-        let here : at parts q ≡ Some x = sym (spot-in s.spaces p q parts is) ∙ owns.here in
+        let here : piece_at parts q ≡ Some x = sym (spot-in s.spaces p q parts is) ∙ owns.here in
         let one : space_with new parts ≡ finite.insert (space_with old parts) q c =
         cells-here old new parts q x c here (cell-here old new m i o x puts owns.own owns.place) (λ r y there ne. cell-else old new m i o y puts (λ own place. ne (owns.alone p r y (spot-in s.spaces p r parts is ∙ there) own place).1)) in
         let spaces : map_with (space_with new) s.spaces ≡ finite.insert (map_with (space_with old) s.spaces) p (space_with new parts) =

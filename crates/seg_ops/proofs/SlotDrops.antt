@@ -14,13 +14,13 @@ use Rattle.page_store.specs.Notes.{Note, Notes}
 use Rattle.page_store.specs.Seen.{StoreSeen, IsListedFrame, IsGone, own_frame}
 use Rattle.page_store.specs.StoreFits.{StoreFits}
 use Rattle.page_store.specs.Table.{Table}
-use Rattle.page_store.specs.Transfers.{rewritten_in}
-use Rattle.page_store.specs.Value.{value, stored, tells}
+use Rattle.page_store.specs.Transfers.{is_rewritten_in}
+use Rattle.page_store.specs.Value.{value, backing_value, tells}
 use Rattle.page_store.specs.declared.place.Place.{Place}
 use Rattle.page_store.proofs.QueryLemmas.{absent-is}
 use Rattle.anon_map.specs.Maps.{Map}
 use Rattle.anon_slots.specs.Slots.{Slots, count_at}
-use Rattle.hat_layer.specs.Pool.{at}
+use Rattle.hat_layer.specs.Pool.{translation_at}
 use Rattle.hat_layer.specs.declared.translation.Translation.{Translation}
 use Rattle.vm_types.specs.declared.call.Object.{Object}
 use Rattle.vm_types.specs.declared.call.Object.TheVariants as object
@@ -43,7 +43,7 @@ use Rattle.seg_ops.proofs.SlotMemory.{with_slot, used-lt, segments-set}
 use Rattle.seg_ops.proofs.SlotOwners.{not-shown, object-fits}
 use Rattle.seg_ops.proofs.StillSteps.{memory_of}
 
-module _ (w : World) (spaces : Spaces) (new : StoreSeen) (anon : Slots) (put : List (Option Map)) (p q m i s : ℕ) (x : Spot) (f : MemoryFits (memory_of w spaces)) (k : LeavesSlot w.anon anon w.maps put m i s) (one : count_at w.anon s ≡ 1) (g : GivesUp w.store new (slot_name s)) (owns : OwnsAlone spaces p q m i x) (unloaded : at w.hat.places p q ≡ None) where
+module _ (w : World) (spaces : Spaces) (new : StoreSeen) (anon : Slots) (put : List (Option Map)) (p q m i s : ℕ) (x : Spot) (f : MemoryFits (memory_of w spaces)) (k : LeavesSlot w.anon anon w.maps put m i s) (one : count_at w.anon s ≡ 1) (g : GivesUp w.store new (slot_name s)) (owns : OwnsAlone spaces p q m i x) (unloaded : translation_at w.hat.places p q ≡ None) where
   -- the slot's page doesn't exist any more, and every other page does if it did
   missing : IsFalse (page_exists w.files anon (slot_name s))
   missing = by_exists (page_exists w.files anon (slot_name s)) refl
@@ -149,8 +149,8 @@ module _ (w : World) (spaces : Spaces) (new : StoreSeen) (anon : Slots) (put : L
     segments = segments-set w spaces anon put m i None f k.within k.set k.reserved (λ number place t held was. left-once w.anon anon w.maps put m i s number place t f.counts k held was);
   }
 
-  stored-same : (notes : Notes) (p : Place) → stored new notes p ≡ stored w.store notes p
-  stored-same notes p = ap (λ (b : List BaySeen). stored (record w.store { bays = b }) notes p) g.laws.outside.bays
+  backing_value-same : (notes : Notes) (p : Place) → backing_value new notes p ≡ backing_value w.store notes p
+  backing_value-same notes p = ap (λ (b : List BaySeen). backing_value (record w.store { bays = b }) notes p) g.laws.outside.bays
 
   tells-same : (notes : Notes) (number : ℕ) → tells new notes number ≡ tells w.store notes number
   tells-same notes number = ap (λ (b : List BaySeen). tells (record w.store { bays = b }) notes number) g.laws.outside.bays
@@ -181,7 +181,7 @@ module _ (w : World) (spaces : Spaces) (new : StoreSeen) (anon : Slots) (put : L
           pushed = fit.pushed;
           same = elim fit.same [
             | inl r ↦ inl (elim r [
-              | inl was ↦ inl (ap (λ (o : Option ℕ). rewritten_in o new) source ∙ rewritten-same w.store new (row_at w.store.rows note.frame).source note.frame beside.row ∙ was)
+              | inl was ↦ inl (ap (λ (o : Option ℕ). is_rewritten_in o new) source ∙ rewritten-same w.store new (row_at w.store.rows note.frame).source note.frame beside.row ∙ was)
               | inr h ↦ inr (subst (λ (a : ℕ). HasWritten w.hat.places a) (sym own) h)
             ])
             | inr sent ↦ inr (record { valid = sent.valid; bytes = λ b h. sent.bytes b (sym beside.bytes ∙ ap (λ (a : ℕ). bytes_at new.frames a) (sym own) ∙ h) })
@@ -202,7 +202,7 @@ module _ (w : World) (spaces : Spaces) (new : StoreSeen) (anon : Slots) (put : L
       elim (nf.clean j n e.1 (subst (λ (b : Option (List ℕ)). IsSome b) e.2.bytes there)) [
         | inl a ↦ inl (still-modified j e.2 a)
         | inr c ↦ inr (record {
-          same = λ tell b h. c.same (subst (λ (a : Bool). IsTrue a) (tells-same notes (world_table w n).disk) tell) b (sym e.2.bytes ∙ h) ∙ sym (stored-same notes (world_table w n));
+          same = λ tell b h. c.same (subst (λ (a : Bool). IsTrue a) (tells-same notes (world_table w n).disk) tell) b (sym e.2.bytes ∙ h) ∙ sym (backing_value-same notes (world_table w n));
           unwritten = λ seat note is writes same. let u = c.unwritten seat note is writes same in (gone-still notes seat note nf is u.0, u.1);
         })
       ]

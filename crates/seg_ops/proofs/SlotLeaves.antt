@@ -8,7 +8,7 @@ use Rattle.page_hash.specs.declared.PageName.{PageName}
 use Rattle.page_store.specs.Layout.{table_of}
 use Rattle.anon_map.specs.Maps.{Map, places_of, with_places}
 use Rattle.anon_slots.specs.Slots.{Slots, count_at, is_used, IsSoundAnonSlots, with_count}
-use Rattle.hat_layer.specs.Pool.{at}
+use Rattle.hat_layer.specs.Pool.{translation_at}
 use Rattle.hat_layer.specs.declared.translation.Translation.{Translation}
 use Rattle.vnode_files.specs.Files.{FilesSeen, vnode_at}
 use Rattle.vnode_files.specs.Grow.{page_count}
@@ -97,11 +97,11 @@ module _ (files : FilesSeen) (old new : Slots) (maps put : List (Option Map)) (m
   page-name-left n = ap (λ (c : ℕ). cond (n.object == 64) (nat_lt n.page c) (nat_lt n.page (page_count (vnode_at files n.object).info.extents))) k.slots
 
 -- the page of the place has no translation
-pub own-unloaded : (places : List (Option Translation)) (spaces : Spaces) (p q m i j : ℕ) (t : Translation) (x y : Spot) → OwnsAlone spaces p q m i x → at places p q ≡ None → slice_index_or places j None ≡ Some t → spot_at spaces t.space t.page ≡ Some y
+pub own-unloaded : (places : List (Option Translation)) (spaces : Spaces) (p q m i j : ℕ) (t : Translation) (x y : Spot) → OwnsAlone spaces p q m i x → translation_at places p q ≡ None → slice_index_or places j None ≡ Some t → spot_at spaces t.space t.page ≡ Some y
     → y.0.own ≡ Some m → y.1 ≡ i → ⊥
 own-unloaded places spaces p q m i j t x y owns unloaded is here own place =
     let where_is = owns.alone t.space t.page y here own place in
-    loaded-at places j t is (ap (λ (a : ℕ). at places a t.page) where_is.0 ∙ ap (λ (b : ℕ). at places p b) where_is.1 ∙ unloaded)
+    loaded-at places j t is (ap (λ (a : ℕ). translation_at places a t.page) where_is.0 ∙ ap (λ (b : ℕ). translation_at places p b) where_is.1 ∙ unloaded)
 
 -- a slot that was counted once where it is held still is
 pub left-once : (old new : Slots) (maps put : List (Option Map)) (m i s number place t : ℕ) → CountsFit old maps → LeavesSlot old new maps put m i s → slot_in put number place ≡ Some t → (slot_in maps number place ≡ Some t → count_at old t ≡ 1) → count_at new t ≡ 1
@@ -115,7 +115,7 @@ left-once old new maps put m i s number place t fit k held was =
     k.others t (λ e. apart (only-place t maps m i number place (sym (fit.counts t) ∙ one) (k.held ∙ ap (λ (a : ℕ). Some a) (sym e)) there)) ∙ one
 
 -- EACH TRANSLATION SHOWS what it showed.
-pub left-shown : (w : World) (spaces : Spaces) (anon : Slots) (put : List (Option Map)) (p q m i s : ℕ) (x : Spot) → MemoryFits (memory_of w spaces) → LeavesSlot w.anon anon w.maps put m i s → OwnsAlone spaces p q m i x → at w.hat.places p q ≡ None → AreShown w spaces put
+pub left-shown : (w : World) (spaces : Spaces) (anon : Slots) (put : List (Option Map)) (p q m i s : ℕ) (x : Spot) → MemoryFits (memory_of w spaces) → LeavesSlot w.anon anon w.maps put m i s → OwnsAlone spaces p q m i x → translation_at w.hat.places p q ≡ None → AreShown w spaces put
 left-shown w spaces anon put p q m i s x f k owns unloaded = subst (λ (ps : List (Option Map)). AreShown w spaces ps) (sym k.set) (λ j t is y n here shows.
     stays-apart w.maps m i None y n k.within (own-unloaded w.hat.places spaces p q m i j t x y owns unloaded is here) (not-shown (memory_of w spaces) p q t.space t.page m x y f owns.here owns.own here) shows)
 

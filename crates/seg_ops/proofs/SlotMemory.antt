@@ -17,9 +17,9 @@ use Rattle.page_store.specs.Seen.{StoreSeen, IsListedFrame, residence, residence
 use Rattle.page_store.specs.Steps.{next_frame, next_name, name_in, home_bytes}
 use Rattle.page_store.specs.Notes.{Notes}
 use Rattle.page_store.specs.Table.{Table}
-use Rattle.page_store.specs.Value.{value, value_in, held, note_of_holder, stored}
+use Rattle.page_store.specs.Value.{value, value_in, frame_value, note_of_holder, backing_value}
 use Rattle.page_store.proofs.QueryLemmas.{home-is}
-use Rattle.hat_layer.specs.Pool.{at}
+use Rattle.hat_layer.specs.Pool.{translation_at}
 use Rattle.vm_world.proofs.SpaceSteps.{loaded-at}
 use Rattle.page_store.specs.declared.residence.Residence.TheVariants.{Home, Absent}
 use Rattle.anon_map.specs.Maps.{Map, places_of, holders_of, with_places}
@@ -224,15 +224,15 @@ next-exists w spaces anon put m i s lost f k is = subst (λ (o : Option PageName
     by_frame (Some frame) = by_name frame (name_at w.store.names frame) refl
 
 -- THE PAGE OF A PRIVATE CELL shows another name, and has no translation.
-pub copy-shown : (w : World) (spaces : Spaces) (p q m i s : ℕ) (x : Spot) → i < length (places_of w.maps m) → slot_in w.maps m i ≡ None → OwnsAlone spaces p q m i x → at w.hat.places p q ≡ None → AreShown w spaces (with_places w.maps m (slice_set (places_of w.maps m) i (Some s)))
+pub copy-shown : (w : World) (spaces : Spaces) (p q m i s : ℕ) (x : Spot) → i < length (places_of w.maps m) → slot_in w.maps m i ≡ None → OwnsAlone spaces p q m i x → translation_at w.hat.places p q ≡ None → AreShown w spaces (with_places w.maps m (slice_set (places_of w.maps m) i (Some s)))
 copy-shown w spaces p q m i s x lt empty owns unloaded k t is y n here shows =
     stays-shown w.maps m i s y n lt empty (λ own place.
     let where_is = owns.alone t.space t.page y here own place in
-    loaded-at w.hat.places k t is (ap (λ (a : ℕ). at w.hat.places a t.page) where_is.0 ∙ ap (λ (b : ℕ). at w.hat.places p b) where_is.1 ∙ unloaded)) shows
+    loaded-at w.hat.places k t is (ap (λ (a : ℕ). translation_at w.hat.places a t.page) where_is.0 ∙ ap (λ (b : ℕ). translation_at w.hat.places p b) where_is.1 ∙ unloaded)) shows
 
 -- the value of a page that is home
 pub home-value_bytes : (s : StoreSeen) (notes : Notes) (table : Table) (n : PageName) (frame : ℕ) → residence s n ≡ Home frame → value s notes table n ≡ home_bytes s (find s.names n)
 home-value_bytes s notes table n frame home =
     let i = home-is s n frame home in
-    ap (λ (o : Option ℕ). value_in o s notes (table n)) i.found ∙ ap (λ (b : Option (List ℕ)). held b (note_of_holder (row_at s.rows frame).holder notes) (stored s notes (table n))) i.there
+    ap (λ (o : Option ℕ). value_in o s notes (table n)) i.found ∙ ap (λ (b : Option (List ℕ)). frame_value b (note_of_holder (row_at s.rows frame).holder notes) (backing_value s notes (table n))) i.there
     ∙ sym (ap (home_bytes s) i.found ∙ ap (λ (b : Option (List ℕ)). unwrap_or b []) i.there)

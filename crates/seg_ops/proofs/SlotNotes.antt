@@ -6,11 +6,11 @@ use Rattle.page_hash.specs.declared.PageName.{PageName}
 use Rattle.page_lock.specs.Rows.{row_at}
 use Rattle.page_lock.specs.declared.Row.{Row}
 use Rattle.page_store.specs.Bays.{BaySeen}
-use Rattle.page_store.specs.Bytes.{clipped}
+use Rattle.page_store.specs.Bytes.{clip}
 use Rattle.page_store.specs.Notes.{Note, Notes}
 use Rattle.page_store.specs.Seen.{StoreSeen, IsGone, residence}
 use Rattle.page_store.specs.StoreFits.{StoreFits}
-use Rattle.page_store.specs.Value.{stored, tells}
+use Rattle.page_store.specs.Value.{backing_value, tells}
 use Rattle.page_store.specs.declared.place.Place.{Place}
 use Rattle.page_store.specs.declared.residence.Residence.TheVariants.{Home}
 use Rattle.anon_map.specs.Maps.{Map}
@@ -38,7 +38,7 @@ made-notes w spaces new anon put m i s frame notes f k t dirty fits nf = record 
       | inr c ↦
           let place : page_table w.files anon n ≡ world_table w n = table-else w anon put m i s n k (λ d. unnamed j (e.1 ∙ ap (λ (x : PageName). Some x) d)) in
           inr (record {
-            same = λ tell b h. subst (λ (p : Place). clipped p.valid b ≡ stored new notes p) (sym place)
+            same = λ tell b h. subst (λ (p : Place). clip p.valid b ≡ backing_value new notes p) (sym place)
                 (c.same (subst (λ (x : Bool). IsTrue x) (tells-same n) (subst (λ (p : Place). IsTrue (tells new notes p.disk)) place tell)) b (sym (elsewhere w.store new (slot_name s) frame j t e.0).bytes ∙ h) ∙ sym (stored-same (world_table w n)));
             unwritten = λ seat note is writes same.
                 let u = c.unwritten seat note is writes same in
@@ -86,8 +86,8 @@ made-notes w spaces new anon put m i s frame notes f k t dirty fits nf = record 
     gone-same : (seat : ℕ) (note : Note) → notes seat ≡ Some note → (row_at new.rows note.frame).gone ≡ (row_at w.store.rows note.frame).gone
     gone-same seat note is = ap (λ (r : Row). r.gone) (elsewhere w.store new (slot_name s) frame note.frame t (note-apart w spaces new (slot_name s) frame seat notes note f t nf.stored is)).row
 
-    stored-same : (p : Place) → stored new notes p ≡ stored w.store notes p
-    stored-same p = ap (λ (b : List BaySeen). stored (record w.store { bays = b }) notes p) t.laws.outside.bays
+    stored-same : (p : Place) → backing_value new notes p ≡ backing_value w.store notes p
+    stored-same p = ap (λ (b : List BaySeen). backing_value (record w.store { bays = b }) notes p) t.laws.outside.bays
 
     tells-same : (n : PageName) → tells new notes (world_table w n).disk ≡ tells w.store notes (world_table w n).disk
     tells-same n = ap (λ (b : List BaySeen). tells (record w.store { bays = b }) notes (world_table w n).disk) t.laws.outside.bays

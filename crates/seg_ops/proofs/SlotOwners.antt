@@ -11,7 +11,7 @@ use Rattle.vm_types.specs.declared.call.Object.{Object}
 use Rattle.vm_types.specs.declared.call.Object.TheVariants as object
 use Rattle.vm_types.specs.declared.call.Kind.{Kind}
 use Rattle.vm_types.specs.declared.call.Kind.TheVariants.{Shared, Private}
-use Rattle.addr_space.specs.Space.{Part, has, part_at, at}
+use Rattle.addr_space.specs.Space.{Part, has, part_at, piece_at}
 use Rattle.anon_map.specs.Maps.{Map, holders_of}
 use Rattle.flat_model.proofs.Ranges.{in_range-low}
 use Rattle.vm_world.specs.declared.segment.Segment.{Segment}
@@ -49,7 +49,7 @@ in-step : (m : ℕ) (e : ℕ × List (Part Segment)) (es : List (ℕ × List (Pa
 in-step m e es = sum_by-append (times_had m) (map (λ (p : Part Segment). p.piece) e.1) (flat_map (λ (parts : List (Part Segment)). map (λ (p : Part Segment). p.piece) parts) (map (λ x. x.1) es))
 
 -- a segment that stands somewhere counts, by whatever is summed
-counted : (f : Segment → ℕ) (parts : List (Part Segment)) (q : ℕ) (x : Spot) → at parts q ≡ Some x → 1 ≤ f x.0 → 1 ≤ sum_by f (map (λ (p : Part Segment). p.piece) parts)
+counted : (f : Segment → ℕ) (parts : List (Part Segment)) (q : ℕ) (x : Spot) → piece_at parts q ≡ Some x → 1 ≤ f x.0 → 1 ≤ sum_by f (map (λ (p : Part Segment). p.piece) parts)
 counted f [] q x is some = absurd (cc)
 counted f (p ∷ ps) q x is some =
     let step = sum_by-cons f p.piece (map (λ (r : Part Segment). r.piece) ps) in
@@ -63,16 +63,16 @@ counted f (p ∷ ps) q x is some =
           omega (arith, more, step)
     ]
 
-at-counts : (m : ℕ) (parts : List (Part Segment)) (q : ℕ) (x : Spot) → at parts q ≡ Some x → x.0.own ≡ Some m → 1 ≤ had m parts
+at-counts : (m : ℕ) (parts : List (Part Segment)) (q : ℕ) (x : Spot) → piece_at parts q ≡ Some x → x.0.own ≡ Some m → 1 ≤ had m parts
 at-counts m parts q x is own = counted (times_had m) parts q x is (own-counts m x.0 own)
 
 -- of one space, the place of a map is that of one page
-one-page : (m : ℕ) (parts : List (Part Segment)) (q r : ℕ) (x y : Spot) → at parts q ≡ Some x → at parts r ≡ Some y → x.0.own ≡ Some m → y.0.own ≡ Some m → y.1 ≡ x.1 → had m parts ≤ 1 → r ≡ q
+one-page : (m : ℕ) (parts : List (Part Segment)) (q r : ℕ) (x y : Spot) → piece_at parts q ≡ Some x → piece_at parts r ≡ Some y → x.0.own ≡ Some m → y.0.own ≡ Some m → y.1 ≡ x.1 → had m parts ≤ 1 → r ≡ q
 one-page m [] q r x y is there own own' place le = absurd (cc)
 one-page m (p ∷ ps) q r x y is there own own' place le =
     let step = had-step m p ps in
-    let first : (k : ℕ) (w : Spot) → has p k ≡ true → at (p ∷ ps) k ≡ Some w → (p.piece, k - p.first) ≡ w = λ k w h e. (let z : Some (p.piece, k - p.first) ≡ Some w = sym (ap (λ (b : Bool). option_map (λ (s : Part Segment). (s.piece, k - s.first)) (cond b (Some p) (part_at ps k))) h) ∙ e in cc) in
-    let rest : (k : ℕ) (w : Spot) → has p k ≡ false → at (p ∷ ps) k ≡ Some w → at ps k ≡ Some w = λ k w h e. sym (ap (λ (b : Bool). option_map (λ (s : Part Segment). (s.piece, k - s.first)) (cond b (Some p) (part_at ps k))) h) ∙ e in
+    let first : (k : ℕ) (w : Spot) → has p k ≡ true → piece_at (p ∷ ps) k ≡ Some w → (p.piece, k - p.first) ≡ w = λ k w h e. (let z : Some (p.piece, k - p.first) ≡ Some w = sym (ap (λ (b : Bool). option_map (λ (s : Part Segment). (s.piece, k - s.first)) (cond b (Some p) (part_at ps k))) h) ∙ e in cc) in
+    let rest : (k : ℕ) (w : Spot) → has p k ≡ false → piece_at (p ∷ ps) k ≡ Some w → piece_at ps k ≡ Some w = λ k w h e. sym (ap (λ (b : Bool). option_map (λ (s : Part Segment). (s.piece, k - s.first)) (cond b (Some p) (part_at ps k))) h) ∙ e in
     elim (test (has p q)) [
       | inl hq ↦ elim (test (has p r)) [
         | inl hr ↦
@@ -125,10 +125,10 @@ two-spaces m p r (e ∷ es) a b ne is there =
       ]
     ]
 
-spot-parts : (spaces : Spaces) (p q : ℕ) (x : Spot) → spot_at spaces p q ≡ Some x → (parts : List (Part Segment)) × (finite.get spaces p ≡ Some parts) × (at parts q ≡ Some x)
+spot-parts : (spaces : Spaces) (p q : ℕ) (x : Spot) → spot_at spaces p q ≡ Some x → (parts : List (Part Segment)) × (finite.get spaces p ≡ Some parts) × (piece_at parts q ≡ Some x)
 spot-parts spaces p q x is = by_space (finite.get spaces p) refl is
   where
-    by_space : (o : Option (List (Part Segment))) → finite.get spaces p ≡ o → option_and_then (λ (ps : List (Part Segment)). at ps q) o ≡ Some x → (parts : List (Part Segment)) × (finite.get spaces p ≡ Some parts) × (at parts q ≡ Some x)
+    by_space : (o : Option (List (Part Segment))) → finite.get spaces p ≡ o → option_and_then (λ (ps : List (Part Segment)). piece_at ps q) o ≡ Some x → (parts : List (Part Segment)) × (finite.get spaces p ≡ Some parts) × (piece_at parts q ≡ Some x)
     by_space None e is = absurd (cc)
     by_space (Some parts) e is = (parts, e, is)
 
@@ -169,7 +169,7 @@ one-owner m p q x f is private =
             | inl e ↦
                 let same : b.0 ≡ a.0 = let z : Some b.0 ≡ Some a.0 = sym b.1 ∙ ap (finite.get m.spaces) e ∙ a.1 in cc in
                 let le = space-counts own.0 p (finite.entries m.spaces) a.0 in_a in
-                (e, one-page own.0 a.0 q k x y a.2 (ap (λ (ps : List (Part Segment)). at ps k) (sym same) ∙ b.2) own.1 mine place (omega (arith, le, all)))
+                (e, one-page own.0 a.0 q k x y a.2 (ap (λ (ps : List (Part Segment)). piece_at ps k) (sym same) ∙ b.2) own.1 mine place (omega (arith, le, all)))
           ],
     )
 

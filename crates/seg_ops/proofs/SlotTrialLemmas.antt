@@ -7,8 +7,8 @@ use Rattle.std.specs.FinMap as finite
 use Rattle.std.proofs.lemmas.Bool.{cases_eq}
 use Rattle.std.proofs.lemmas.List.Elements.{All-nil, All-cons}
 use Rattle.std.proofs.lemmas.List.Sums.{sum_by-cons}
-use Rattle.addr_space.specs.Space.{Part, IsInOrder, at}
-use Rattle.anon_map.specs.Maps.{Map, IsUnused, held_once, holders_of, places_of, with_map, with_places, anon_map_at}
+use Rattle.addr_space.specs.Space.{Part, IsInOrder, piece_at}
+use Rattle.anon_map.specs.Maps.{Map, IsUnused, fresh_map, holders_of, places_of, with_map, with_places, anon_map_at}
 use Rattle.anon_slots.specs.Slots.{Slots}
 use Rattle.block_device.specs.DiskSeen.{DiskSeen}
 use Rattle.flat_model.proofs.Ranges.{get-insert_here, get-insert_apart}
@@ -242,9 +242,9 @@ module _ (frames : ℕ) (pushed : Bool) (w : World) (h : HoldsFresh frames pushe
 
 -- WHOSE PLACE IT IS.
 pub holding-spot : (m i : ℕ) → m < 2 → i < 2 → spot_at holding_spaces 1 (holding_page m i) ≡ Some (holding_segment m, i)
-holding-spot m i low lt = ap (λ (o : Option (List (Part Segment))). option_and_then (λ parts. at parts (holding_page m i)) o) (get-insert_here (finite.empty {X = List (Part Segment)} {R = nat_cmp}) 1 holding_parts) ∙ by_page m i low lt
+holding-spot m i low lt = ap (λ (o : Option (List (Part Segment))). option_and_then (λ parts. piece_at parts (holding_page m i)) o) (get-insert_here (finite.empty {X = List (Part Segment)} {R = nat_cmp}) 1 holding_parts) ∙ by_page m i low lt
   where
-    by_page : (m i : ℕ) → m < 2 → i < 2 → at holding_parts (holding_page m i) ≡ Some (holding_segment m, i)
+    by_page : (m i : ℕ) → m < 2 → i < 2 → piece_at holding_parts (holding_page m i) ≡ Some (holding_segment m, i)
     by_page zero zero low lt = refl
     by_page zero (suc zero) low lt = refl
     by_page (suc zero) zero low lt = refl
@@ -266,18 +266,18 @@ pub holding-changes : {means : Flat → Flat → Type 0} (p : ℕ) (u v : World)
 holding-changes p u v t c = record { memory = c.memory; notes = c.notes no_notes t.notes }
 
 -- the places of a map
-pub holding-places : (w : World) (m : ℕ) → m < 2 → ((i : ℕ) → i < 2 → pool.at w.hat.places 1 (holding_page m i) ≡ None) → OwnsPlaces w.hat.places holding_spaces 1 (2 * m + 1) m 0 2
+pub holding-places : (w : World) (m : ℕ) → m < 2 → ((i : ℕ) → i < 2 → pool.translation_at w.hat.places 1 (holding_page m i) ≡ None) → OwnsPlaces w.hat.places holding_spaces 1 (2 * m + 1) m 0 2
 holding-places w m low none = record {
   segment = holding_segment m;
   own = refl;
   here = λ j lt. let z : 0 + j ≡ j = omega arith in holding-spot m j low lt ∙ ap (λ (i : ℕ). Some (holding_segment m, i)) (sym z);
   unloaded = λ q from below.
       let e : 2 * m + 1 + (q - (2 * m + 1)) ≡ q = omega (arith, from) in
-      ap (λ (a : ℕ). pool.at w.hat.places 1 a) (sym e) ∙ none (q - (2 * m + 1)) (omega (arith, from, below));
+      ap (λ (a : ℕ). pool.translation_at w.hat.places 1 a) (sym e) ∙ none (q - (2 * m + 1)) (omega (arith, from, below));
 }
 
 -- both pages
-pub holding-both : (w : World) (m : ℕ) → pool.at w.hat.places 1 (holding_page m 0) ≡ None → pool.at w.hat.places 1 (holding_page m 1) ≡ None → (i : ℕ) → i < 2 → pool.at w.hat.places 1 (holding_page m i) ≡ None
+pub holding-both : (w : World) (m : ℕ) → pool.translation_at w.hat.places 1 (holding_page m 0) ≡ None → pool.translation_at w.hat.places 1 (holding_page m 1) ≡ None → (i : ℕ) → i < 2 → pool.translation_at w.hat.places 1 (holding_page m i) ≡ None
 holding-both w m a b zero lt = a
 holding-both w m a b (suc zero) lt = b
 holding-both w m a b (suc (suc i)) lt = absurd (omega (arith, lt))

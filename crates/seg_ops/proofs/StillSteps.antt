@@ -13,8 +13,8 @@ use Rattle.page_store.specs.Notes.{Note, Notes}
 use Rattle.page_store.specs.Seen.{StoreSeen, IsSoundStore, IsListedFrame, own_frame}
 use Rattle.page_store.specs.StoreFits.{StoreFits}
 use Rattle.page_store.specs.Table.{Table}
-use Rattle.page_store.specs.Transfers.{rewritten_in}
-use Rattle.page_store.specs.Value.{value, stored, tells}
+use Rattle.page_store.specs.Transfers.{is_rewritten_in}
+use Rattle.page_store.specs.Value.{value, backing_value, tells}
 use Rattle.page_store.specs.declared.place.Place.{Place}
 use Rattle.page_hash.proofs.NameLaws.{find-at}
 use Rattle.page_store.proofs.QueryLemmas.{home-is, found-within}
@@ -108,8 +108,8 @@ memory-kept w spaces new hat f k frames single translations = record {
   segments = f.segments;
 }
 
-stored-kept : (old new : StoreSeen) (notes : Notes) (place : Place) → new.bays ≡ old.bays → stored new notes place ≡ stored old notes place
-stored-kept old new notes place bays = ap (λ (b : List BaySeen). stored (record old { bays = b }) notes place) bays
+backing_value-kept : (old new : StoreSeen) (notes : Notes) (place : Place) → new.bays ≡ old.bays → backing_value new notes place ≡ backing_value old notes place
+backing_value-kept old new notes place bays = ap (λ (b : List BaySeen). backing_value (record old { bays = b }) notes place) bays
 
 tells-kept : (old new : StoreSeen) (notes : Notes) (disk : ℕ) → new.bays ≡ old.bays → tells new notes disk ≡ tells old notes disk
 tells-kept old new notes disk bays = ap (λ (b : List BaySeen). tells (record old { bays = b }) notes disk) bays
@@ -120,7 +120,7 @@ clean-kept old new before after notes table k clean j n name there = elim (k.byt
   | inl same ↦ elim (clean j n (ap (λ ns. name_at ns j) (sym k.names) ∙ name) (subst (λ (b : Option (List ℕ)). IsSome b) same there)) [
     | inl is ↦ inl (k.modified j is)
     | inr is ↦ inr (record {
-      same = λ tell b h. is.same (subst (λ (x : Bool). IsTrue x) (tells-kept old new notes (table n).disk k.bays) tell) b (sym same ∙ h) ∙ sym (stored-kept old new notes (table n) k.bays);
+      same = λ tell b h. is.same (subst (λ (x : Bool). IsTrue x) (tells-kept old new notes (table n).disk k.bays) tell) b (sym same ∙ h) ∙ sym (backing_value-kept old new notes (table n) k.bays);
       unwritten = λ seat note at writes named. let u = is.unwritten seat note at writes named in ((k.rows note.frame).gone ∙ u.0, u.1);
     })
   ]
@@ -138,11 +138,11 @@ not-away None h e = let z : false ≡ true = h in cc
 not-away (Some x) h e = cc
 
 -- whether the page of a push was rewritten, by the frame that the push has a snapshot of
-rewritten-kept : (old new : StoreSeen) (o : Option ℕ) → ((k : ℕ) → KeepsRow (row_at old.rows k) (row_at new.rows k)) → rewritten_in o old ≡ true → rewritten_in o new ≡ true
+rewritten-kept : (old new : StoreSeen) (o : Option ℕ) → ((k : ℕ) → KeepsRow (row_at old.rows k) (row_at new.rows k)) → is_rewritten_in o old ≡ true → is_rewritten_in o new ≡ true
 rewritten-kept old new None rows h = absurd (let z : false ≡ true = h in cc)
 rewritten-kept old new (Some own) rows h = (rows own).rewritten h
 
-own-rewritten : (new : StoreSeen) (frame : ℕ) (o : Option ℕ) → (o ≡ None → ⊥) → (row_at new.rows (unwrap_or o frame)).rewritten ≡ true → rewritten_in o new ≡ true
+own-rewritten : (new : StoreSeen) (frame : ℕ) (o : Option ℕ) → (o ≡ None → ⊥) → (row_at new.rows (unwrap_or o frame)).rewritten ≡ true → is_rewritten_in o new ≡ true
 own-rewritten new frame None some h = absurd (some refl)
 own-rewritten new frame (Some own) some h = h
 
@@ -158,10 +158,10 @@ push-kept w spaces new hat notes note f k away p = record { pushed = p.pushed; s
 
     again : WasRewritten w.store w.hat.places note.frame → WasRewritten new hat.places note.frame
     again r = elim r [
-      | inl was ↦ inl (ap (λ (o : Option ℕ). rewritten_in o new) source ∙ rewritten-kept w.store new (row_at w.store.rows note.frame).source k.rows was)
+      | inl was ↦ inl (ap (λ (o : Option ℕ). is_rewritten_in o new) source ∙ rewritten-kept w.store new (row_at w.store.rows note.frame).source k.rows was)
       | inr x ↦ elim (k.written (own_frame w.store note.frame) x) [
         | inr y ↦ inr (subst (λ (i : ℕ). HasWritten hat.places i) (sym own) y)
-        | inl set ↦ inl (ap (λ (o : Option ℕ). rewritten_in o new) source ∙ own-rewritten new note.frame (row_at w.store.rows note.frame).source
+        | inl set ↦ inl (ap (λ (o : Option ℕ). is_rewritten_in o new) source ∙ own-rewritten new note.frame (row_at w.store.rows note.frame).source
             (λ none. not-away (bytes_at w.store.frames note.frame) (written-home w.store w.anon w.maps spaces w.hat.places note.frame f.translations (subst (λ (i : ℕ). HasWritten w.hat.places i) (ap (λ (o : Option ℕ). unwrap_or o note.frame) none) x)) away) set)
       ]
     ]

@@ -3,7 +3,7 @@ use Rattle.std.proofs.Common.{◌≡◌, ◌≢◌, ℕ, ◌<◌, Bool, true, fa
 use Rattle.std.specs.Prelude.{option_map}
 use Rattle.std.proofs.lemmas.Bool.{eq-eqb}
 use Rattle.page_store.specs.Laws.{StaysInPlace}
-use Rattle.page_store.specs.Moves.{only}
+use Rattle.page_store.specs.Moves.{is_only}
 use Rattle.page_store.specs.Seen.{StoreSeen, IsListedFrame}
 use Rattle.hat_layer.specs.declared.translation.Translation.{Translation}
 use Rattle.hat_layer.specs.Pool.{Pool, IsSingleValued, leads, with_clear_bits, change_lead, change_frame, bits_of}
@@ -36,14 +36,14 @@ sync-unwritten places frame k t is to = elim (was-cleared frame (slice_index_or 
 
 -- BITS ARE GATHERED from translations that stay, or that are dropped: what they said, they say still or the page does.
 pub gather-keeps : (w : World) (spaces : Spaces) (new : StoreSeen) (hat : Pool) (frame : ℕ) → MemoryFits (memory_of w spaces) → frame < length w.store.frames → ¬ IsListedFrame w.store frame
-    → hat.frames ≡ w.hat.frames → IsSingleValued hat.places → new ≡ with_bits_gathered w.store frame (bits_of frame w.hat.places) → StaysInPlace w.store new (only (Some frame))
+    → hat.frames ≡ w.hat.frames → IsSingleValued hat.places → new ≡ with_bits_gathered w.store frame (bits_of frame w.hat.places) → StaysInPlace w.store new (is_only (Some frame))
     → ((k : ℕ) → HasWritten w.hat.places k → ((frame ≡ k) × ((bits_of frame w.hat.places).1 ≡ true)) ⊎ HasWritten hat.places k)
     → ((store : StoreSeen) → TranslationsFit store w.anon w.maps spaces w.hat.places → TranslationsFit store w.anon w.maps spaces hat.places)
     → KeepsPages w (with_tables w new hat) spaces
 gather-keeps w spaces new hat frame f lt unlisted frames single is laws told fit =
     let bits = bits_of frame w.hat.places in
     let done = with_bits_gathered w.store frame bits in
-    let calm : StaysInPlace w.store done (only (Some frame)) = subst (λ (s : StoreSeen). StaysInPlace w.store s (only (Some frame))) is laws in
+    let calm : StaysInPlace w.store done (is_only (Some frame)) = subst (λ (s : StoreSeen). StaysInPlace w.store s (is_only (Some frame))) is laws in
     subst (λ (s : StoreSeen). KeepsPages w (with_tables w s hat) spaces) (sym is)
     (step-keeps w spaces done hat f (keeps-gathered w.store w.files w.anon w.hat.places hat.places frame bits f.frames lt unlisted calm told) frames single
     (fit done (λ i t at. translation-kept w.store done w.anon w.maps spaces t calm.residence (λ h. h) (f.translations i t at)))
@@ -51,7 +51,7 @@ gather-keeps w spaces new hat frame f lt unlisted frames single is laws told fit
 
 pub sync-keeps : (w : World) (spaces : Spaces) (new : StoreSeen) (hat : Pool) (frame : ℕ) → MemoryFits (memory_of w spaces) → frame < length w.store.frames → ¬ IsListedFrame w.store frame
     → hat.places ≡ change_frame frame with_clear_bits w.hat.places → hat.frames ≡ w.hat.frames → IsSingleValued hat.places
-    → new ≡ with_bits_gathered w.store frame (bits_of frame w.hat.places) → StaysInPlace w.store new (only (Some frame))
+    → new ≡ with_bits_gathered w.store frame (bits_of frame w.hat.places) → StaysInPlace w.store new (is_only (Some frame))
     → KeepsPages w (with_tables w new hat) spaces
 sync-keeps w spaces new hat frame f lt unlisted places frames single is laws =
     gather-keeps w spaces new hat frame f lt unlisted frames single is laws

@@ -9,7 +9,7 @@ use Rattle.std.proofs.Math.Path.{fun_ext}
 use Rattle.std.proofs.lemmas.Bool.{cases_eq}
 use Rattle.std.proofs.lemmas.List.Elements.{All-nil, All-cons}
 use Rattle.std.proofs.lemmas.List.Sums.{sum_by-cons, count_by-le-length}
-use Rattle.addr_space.specs.Space.{Part, IsInOrder, at}
+use Rattle.addr_space.specs.Space.{Part, IsInOrder, piece_at}
 use Rattle.anon_map.specs.Maps.{Map, places_of}
 use Rattle.anon_slots.specs.Slots.{Slots, IsSoundAnonSlots, unused_slots}
 use Rattle.block_device.specs.DiskSeen.{DiskSeen}
@@ -94,9 +94,9 @@ trial-segments-fit = record {
 
 -- its page after a page of the file
 pub trial-spot : (page : ℕ) → page < 3 → spot_at trial_spaces 1 (page + 1) ≡ Some (trial_segment, page)
-trial-spot page lt = ap (λ (o : Option (List (Part Segment))). option_and_then (λ parts. at parts (page + 1)) o) (get-insert_here (finite.empty {X = List (Part Segment)} {R = nat_cmp}) 1 (trial_part ∷ [])) ∙ by_page page lt
+trial-spot page lt = ap (λ (o : Option (List (Part Segment))). option_and_then (λ parts. piece_at parts (page + 1)) o) (get-insert_here (finite.empty {X = List (Part Segment)} {R = nat_cmp}) 1 (trial_part ∷ [])) ∙ by_page page lt
   where
-    by_page : (q : ℕ) → q < 3 → at (trial_part ∷ []) (q + 1) ≡ Some (trial_segment, q)
+    by_page : (q : ℕ) → q < 3 → piece_at (trial_part ∷ []) (q + 1) ≡ Some (trial_segment, q)
     by_page zero low = refl
     by_page (suc zero) low = refl
     by_page (suc (suc zero)) low = refl

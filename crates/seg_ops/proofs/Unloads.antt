@@ -3,11 +3,11 @@ use Rattle.std.proofs.Common.{◌≡◌, ◌≢◌, ℕ, ◌<◌, Bool, true, fa
 use Rattle.std.specs.Prelude.{option_map, IfSome, ◌&&◌, ◌==◌}
 use Rattle.std.proofs.lemmas.Bool.{cases_Bool, eqb-true}
 use Rattle.page_store.specs.Laws.{StaysInPlace}
-use Rattle.page_store.specs.Moves.{only}
+use Rattle.page_store.specs.Moves.{is_only}
 use Rattle.page_store.specs.Seen.{StoreSeen, IsListedFrame}
 use Rattle.hat_layer.specs.declared.translation.Translation.{Translation}
 use Rattle.hat_layer.specs.declared.translation.Dropped.{Dropped}
-use Rattle.hat_layer.specs.Pool.{Pool, IsSingleValued, at, holds, told_of, drop_page, drop_at}
+use Rattle.hat_layer.specs.Pool.{Pool, IsSingleValued, translation_at, holds, told_of, drop_page, drop_at}
 use Rattle.vm_world.specs.MemoryFits.{MemoryFits}
 use Rattle.vm_world.specs.Segments.{Spaces}
 use Rattle.vm_world.specs.TranslationsFit.{TranslationFits, TranslationsFit, HasWritten}
@@ -52,7 +52,7 @@ holds-at : (t : Translation) (space page : ℕ) → t.space ≡ space → t.page
 holds-at t space page a b = let x = sym a in let y = sym b in (λ i. holds (x i) (y i) (Some t)) ∙ holds-own t
 
 -- the translation of a page that stands somewhere is the one that is found
-found-own : (places : List (Option Translation)) (space page : ℕ) (t u : Translation) (place : ℕ) → IsSingleValued places → at places space page ≡ Some t → slice_index_or places place None ≡ Some u → holds space page (Some u) ≡ true → u ≡ t
+found-own : (places : List (Option Translation)) (space page : ℕ) (t u : Translation) (place : ℕ) → IsSingleValued places → translation_at places space page ≡ Some t → slice_index_or places place None ≡ Some u → holds space page (Some u) ≡ true → u ≡ t
 found-own places space page t u place single is there own =
     let s = stands-at places space page t is in
     let mine : holds space page (slice_index_or places s.place None) ≡ true = ap (holds space page) s.there ∙ holds-at t space page s.space_is s.page_is in
@@ -60,14 +60,14 @@ found-own places space page t u place single is there own =
     let both : Some t ≡ Some u = sym s.there ∙ ap (λ (i : ℕ). slice_index_or places i None) same ∙ there in cc
 
 -- WHAT IS TOLD of a dropped translation leads to a frame that is there
-pub unloaded-within : (w : World) (spaces : Spaces) (space page : ℕ) (o : Option Dropped) → MemoryFits (memory_of w spaces) → o ≡ option_map told_of (at w.hat.places space page) → IfSome o (λ d. d.frame < length w.store.frames)
-unloaded-within w spaces space page o f e = subst (λ (x : Option Dropped). IfSome x (λ d. d.frame < length w.store.frames)) (sym e) (by_was (at w.hat.places space page) refl)
+pub unloaded-within : (w : World) (spaces : Spaces) (space page : ℕ) (o : Option Dropped) → MemoryFits (memory_of w spaces) → o ≡ option_map told_of (translation_at w.hat.places space page) → IfSome o (λ d. d.frame < length w.store.frames)
+unloaded-within w spaces space page o f e = subst (λ (x : Option Dropped). IfSome x (λ d. d.frame < length w.store.frames)) (sym e) (by_was (translation_at w.hat.places space page) refl)
   where
-    by_was : (x : Option Translation) → at w.hat.places space page ≡ x → IfSome (option_map told_of x) (λ d. d.frame < length w.store.frames)
+    by_was : (x : Option Translation) → translation_at w.hat.places space page ≡ x → IfSome (option_map told_of x) (λ d. d.frame < length w.store.frames)
     by_was None is = tt
     by_was (Some t) is = let s = stands-at w.hat.places space page t is in fits-within w.store w.anon w.maps spaces t f.frames.sound (f.translations s.place t s.there)
 
-drop-none : (w : World) (spaces : Spaces) (hat : Pool) (space page : ℕ) → MemoryFits (memory_of w spaces) → at w.hat.places space page ≡ None → hat.places ≡ drop_at space page w.hat.places → hat.frames ≡ w.hat.frames → IsSingleValued hat.places
+drop-none : (w : World) (spaces : Spaces) (hat : Pool) (space page : ℕ) → MemoryFits (memory_of w spaces) → translation_at w.hat.places space page ≡ None → hat.places ≡ drop_at space page w.hat.places → hat.frames ≡ w.hat.frames → IsSingleValued hat.places
     → KeepsPages w (with_tables w w.store hat) spaces
 drop-none w spaces hat space page f was places frames single =
     step-keeps w spaces w.store hat f
@@ -80,10 +80,10 @@ drop-none w spaces hat space page f was places frames single =
     (λ notes nf. values-same w.store notes (world_table w) nf.stored)
   where
     not-there : (t : Translation) (place : ℕ) → slice_index_or w.hat.places place None ≡ Some t → holds space page (Some t) ≡ true → ⊥
-    not-there t place there own = loaded-at w.hat.places place t there (let e = held-is t space page own in (λ i. at w.hat.places (e.0 i) (e.1 i)) ∙ was)
+    not-there t place there own = loaded-at w.hat.places place t there (let e = held-is t space page own in (λ i. translation_at w.hat.places (e.0 i) (e.1 i)) ∙ was)
 
-drop-some : (w : World) (spaces : Spaces) (hat : Pool) (space page : ℕ) (t : Translation) → MemoryFits (memory_of w spaces) → at w.hat.places space page ≡ Some t → hat.places ≡ drop_at space page w.hat.places → hat.frames ≡ w.hat.frames → IsSingleValued hat.places
-    → StaysInPlace w.store (with_bits_gathered w.store t.frame (t.referenced, t.modified)) (only (Some t.frame))
+drop-some : (w : World) (spaces : Spaces) (hat : Pool) (space page : ℕ) (t : Translation) → MemoryFits (memory_of w spaces) → translation_at w.hat.places space page ≡ Some t → hat.places ≡ drop_at space page w.hat.places → hat.frames ≡ w.hat.frames → IsSingleValued hat.places
+    → StaysInPlace w.store (with_bits_gathered w.store t.frame (t.referenced, t.modified)) (is_only (Some t.frame))
     → KeepsPages w (with_tables w (with_bits_gathered w.store t.frame (t.referenced, t.modified)) hat) spaces
 drop-some w spaces hat space page t f was places frames single laws =
     let told : Bool × Bool = (t.referenced, t.modified) in
@@ -102,20 +102,20 @@ drop-some w spaces hat space page t f was places frames single laws =
     (λ notes nf. laws.values notes (world_table w) nf.stored)
 
 -- A TRANSLATION IS DROPPED.
-pub drop-keeps : (w : World) (spaces : Spaces) (new : StoreSeen) (hat : Pool) (space page : ℕ) (was : Option Translation) → MemoryFits (memory_of w spaces) → at w.hat.places space page ≡ was → hat.places ≡ drop_at space page w.hat.places
+pub drop-keeps : (w : World) (spaces : Spaces) (new : StoreSeen) (hat : Pool) (space page : ℕ) (was : Option Translation) → MemoryFits (memory_of w spaces) → translation_at w.hat.places space page ≡ was → hat.places ≡ drop_at space page w.hat.places
     → hat.frames ≡ w.hat.frames → IsSingleValued hat.places
-    → new ≡ with_dropped_gathered w.store (option_map told_of was) → IfSome (option_map told_of was) (λ d. StaysInPlace w.store new (only (Some d.frame)))
+    → new ≡ with_dropped_gathered w.store (option_map told_of was) → IfSome (option_map told_of was) (λ d. StaysInPlace w.store new (is_only (Some d.frame)))
     → KeepsPages w (with_tables w new hat) spaces
 drop-keeps w spaces new hat space page None f is places frames single step laws =
     subst (λ (s : StoreSeen). KeepsPages w (with_tables w s hat) spaces) (sym step) (drop-none w spaces hat space page f is places frames single)
 drop-keeps w spaces new hat space page (Some t) f is places frames single step laws =
     subst (λ (s : StoreSeen). KeepsPages w (with_tables w s hat) spaces) (sym step)
-    (drop-some w spaces hat space page t f is places frames single (subst (λ (s : StoreSeen). StaysInPlace w.store s (only (Some t.frame))) step laws))
+    (drop-some w spaces hat space page t f is places frames single (subst (λ (s : StoreSeen). StaysInPlace w.store s (is_only (Some t.frame))) step laws))
 
 -- after it the page has none
-pub drop-gone : (places : List (Option Translation)) (space page : ℕ) (new : Option Translation) → new ≡ drop_page space page (at places space page) → new ≡ None
-drop-gone places space page new e = e ∙ by_was (at places space page) refl
+pub drop-gone : (places : List (Option Translation)) (space page : ℕ) (new : Option Translation) → new ≡ drop_page space page (translation_at places space page) → new ≡ None
+drop-gone places space page new e = e ∙ by_was (translation_at places space page) refl
   where
-    by_was : (o : Option Translation) → at places space page ≡ o → drop_page space page o ≡ None
+    by_was : (o : Option Translation) → translation_at places space page ≡ o → drop_page space page o ≡ None
     by_was None is = refl
     by_was (Some t) is = let s = stands-at places space page t is in ap (λ (b : Bool). cond b None (Some t)) (holds-at t space page s.space_is s.page_is)

@@ -1,6 +1,6 @@
 -- What faults come to. Public clauses cite this.
 use Rattle.std.specs.Prelude.{◌≡◌, ℕ, Bool, true, false, List, Option, Some, IsFalse}
-use Rattle.hat_layer.specs.Pool.{at}
+use Rattle.hat_layer.specs.Pool.{translation_at}
 use Rattle.hat_layer.specs.declared.translation.Translation.{Translation}
 use Rattle.page_store.specs.declared.plan.Plan.{Plan}
 use Rattle.vm_types.specs.declared.call.Call.{Call}
@@ -24,7 +24,7 @@ use Rattle.seg_ops.specs.SlotsDue.{SlotsAfter}
 -- The page has a translation that lets the access.
 pub record LetsAccess (w : World) (p q : ℕ) (write : Bool) : Type 0 where
   pub translation : Translation
-  pub loaded : at w.hat.places p q ≡ Some translation
+  pub loaded : translation_at w.hat.places p q ≡ Some translation
   pub writable : write ≡ true → translation.writable ≡ true
 
 -- The call is a store to this page, or a load of it.

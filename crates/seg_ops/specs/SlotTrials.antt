@@ -7,7 +7,7 @@ use Rattle.vm_types.specs.declared.call.Object.TheVariants as object
 use Rattle.addr_space.specs.Space.{Part}
 use Rattle.anon_map.specs.Maps.{Map, IsMapThere, places_of}
 use Rattle.anon_slots.specs.Slots.{Slots, IsSoundAnonSlots}
-use Rattle.hat_layer.specs.Pool.{at}
+use Rattle.hat_layer.specs.Pool.{translation_at}
 use Rattle.vm_world.specs.declared.segment.Segment.{Segment}
 use Rattle.vm_world.specs.Segments.{Spaces}
 use Rattle.vm_world.specs.World.{World}
@@ -47,4 +47,4 @@ pub record IsHoldingPlace (w : World) (m i : ℕ) : Type 0 where
   pub there : IsMapThere w.maps m
   pub within : i < length (places_of w.maps m)
   pub owns : OwnsAlone holding_spaces 1 (holding_page m i) m i (holding_segment m, i)
-  pub unloaded : at w.hat.places 1 (holding_page m i) ≡ None
+  pub unloaded : translation_at w.hat.places 1 (holding_page m i) ≡ None

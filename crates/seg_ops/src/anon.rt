@@ -1,7 +1,7 @@
 //! Pages of anonymous memory: a slot is made for an empty place of an anon map, with its page.
 ghost use Rattle.std.specs.Prelude.{◌≡◌, ◌<◌, ℕ, length, true, Some, None, IsSome, IfSome, slice_set};
 ghost use Rattle.core_arena.specs.Bytes.{zeros};
-ghost use Rattle.hat_layer.specs.Pool.{at};
+ghost use Rattle.hat_layer.specs.Pool.{translation_at};
 ghost use Rattle.page_hash.specs.Names.{find, is_name};
 ghost use Rattle.page_store.specs.Seen.{IsListedFrame, residence};
 ghost use Rattle.page_store.specs.Steps.{next_frame, next_name, after_fill, home_bytes};
@@ -70,7 +70,7 @@ pub fn make_zero<D: Disk>(world: &mut World<D>, map: u32, place: u32) -> u32
     // Where the place is a private page's, without a translation, that gets a page of zeros of its own.
     ensures owned { (spaces : Spaces) (p q : ℕ) (x : Spot)
         → MemoryFits (record { world = world_seen world.old; spaces = spaces })
-        → OwnsAlone spaces p q map place x → at world.old.hat.places p q ≡ None
+        → OwnsAlone spaces p q map place x → translation_at world.old.hat.places p q ≡ None
         → ChangesMemory p (record { world = world_seen world.old; spaces = spaces })
         (record { world = world_seen world.new; spaces = spaces })
         (λ F G. G ≡ tails_cleared (with_own_page F p q zeros)
@@ -125,14 +125,14 @@ pub fn make_copy<D: Disk>(world: &mut World<D>, from: PageName, map: u32, place:
     } }
     ensures makes { (spaces : Spaces) (p q : ℕ) (x : Spot)
         → MemoryFits (record { world = world_seen world.old; spaces = spaces })
-        → OwnsAlone spaces p q map place x → at world.old.hat.places p q ≡ None
+        → OwnsAlone spaces p q map place x → translation_at world.old.hat.places p q ≡ None
         → MakesPage (world_seen world.old) (world_seen world.new) spaces
         (is_name (next_name world.old.store)) map place result
         (home_bytes world.old.store (find world.old.store.names from)) }
     // In flat memory the cell of that page gets a page of its own, and the tail is lost.
     ensures changes { (spaces : Spaces) (p q : ℕ) (x : Spot)
         → MemoryFits (record { world = world_seen world.old; spaces = spaces })
-        → OwnsAlone spaces p q map place x → at world.old.hat.places p q ≡ None
+        → OwnsAlone spaces p q map place x → translation_at world.old.hat.places p q ≡ None
         → ChangesMemory p (record { world = world_seen world.old; spaces = spaces })
         (record { world = world_seen world.new; spaces = spaces })
         (λ F G. G ≡ tails_cleared (with_own_page F p q

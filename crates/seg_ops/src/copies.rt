@@ -1,7 +1,7 @@
 //! A page of anonymous memory that other places hold too is copied before it is written.
 ghost use Rattle.std.specs.Prelude.{◌≡◌, ◌<◌, ◌-◌, ℕ, length, true, Some, None, IsSome, IsTrue, IfSome, slice_set};
 ghost use Rattle.core_arena.specs.Bytes.{zeros};
-ghost use Rattle.hat_layer.specs.Pool.{at};
+ghost use Rattle.hat_layer.specs.Pool.{translation_at};
 ghost use Rattle.page_hash.specs.Names.{find, is_name};
 ghost use Rattle.page_store.specs.Seen.{IsListedFrame, residence};
 ghost use Rattle.page_store.specs.Steps.{next_frame, next_name, after_fill, home_bytes};
@@ -37,7 +37,7 @@ pub fn copy_slot<D: Disk>(world: &mut World<D>, map: u32, place: u32, slot: u32)
     requires available { IsSome (next_frame world.old.store) }
     requires owned { (spaces : Spaces) × (p : ℕ) × (q : ℕ) × (x : Spot)
         × MemoryFits (record { world = world_seen world.old; spaces = spaces })
-        × OwnsAlone spaces p q map place x × (at world.old.hat.places p q ≡ None) }
+        × OwnsAlone spaces p q map place x × (translation_at world.old.hat.places p q ≡ None) }
     // The old slot is counted once less, the new one is made for the place, and its page is home, in the frame that was taken.
     ensures anon { world.new.anon ≡ with_new_slot
         (with_count world.old.anon slot (count_at world.old.anon slot - 1)) result }
@@ -66,7 +66,7 @@ pub fn copy_slot<D: Disk>(world: &mut World<D>, map: u32, place: u32, slot: u32)
     // Flat memory loses that tail, and nothing else changes.
     ensures changes { (spaces : Spaces) (p q : ℕ) (x : Spot)
         → MemoryFits (record { world = world_seen world.old; spaces = spaces })
-        → OwnsAlone spaces p q map place x → at world.old.hat.places p q ≡ None
+        → OwnsAlone spaces p q map place x → translation_at world.old.hat.places p q ≡ None
         → ChangesMemory p (record { world = world_seen world.old; spaces = spaces })
         (record { world = world_seen world.new; spaces = spaces })
         (λ F G. G ≡ tails_cleared F
@@ -97,7 +97,7 @@ pub fn zero_slot<D: Disk>(world: &mut World<D>, map: u32, place: u32, slot: u32)
     requires available { IsSome (next_frame world.old.store) }
     requires owned { (spaces : Spaces) × (p : ℕ) × (q : ℕ) × (x : Spot)
         × MemoryFits (record { world = world_seen world.old; spaces = spaces })
-        × OwnsAlone spaces p q map place x × (at world.old.hat.places p q ≡ None) }
+        × OwnsAlone spaces p q map place x × (translation_at world.old.hat.places p q ≡ None) }
     // The old slot is counted once less, the new one is made for the place, and its page is home, in the frame that was taken.
     ensures anon { world.new.anon ≡ with_new_slot
         (with_count world.old.anon slot (count_at world.old.anon slot - 1)) result }
@@ -125,7 +125,7 @@ pub fn zero_slot<D: Disk>(world: &mut World<D>, map: u32, place: u32, slot: u32)
     // Flat memory loses that tail, and nothing else changes.
     ensures changes { (spaces : Spaces) (p q : ℕ) (x : Spot)
         → MemoryFits (record { world = world_seen world.old; spaces = spaces })
-        → OwnsAlone spaces p q map place x → at world.old.hat.places p q ≡ None
+        → OwnsAlone spaces p q map place x → translation_at world.old.hat.places p q ≡ None
         → ChangesMemory p (record { world = world_seen world.old; spaces = spaces })
         (record { world = world_seen world.new; spaces = spaces })
         (λ F G. G ≡ tails_cleared F

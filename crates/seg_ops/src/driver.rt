@@ -1,7 +1,7 @@
 //! Segment drivers: what serves the faults of a mapping.
 ghost use Rattle.std.specs.Prelude.{◌≡◌, ◌≢◌, ◌≤◌, ◌+◌, ◌-◌, ℕ, Some, None, IsSome, IsTrue, if◌then◌else◌};
 ghost use Rattle.core_arena.specs.Bytes.{bytes_at};
-ghost use Rattle.hat_layer.specs.Pool.{at};
+ghost use Rattle.hat_layer.specs.Pool.{translation_at};
 ghost use Rattle.page_store.specs.Notes.{Notes};
 ghost use Rattle.vm_types.specs.Prot.{can_read, can_write, is_within};
 ghost use Rattle.vm_world.specs.declared.segment.Segment.{Segment};
@@ -67,8 +67,8 @@ pub trait SegDriver<D: Disk>: Sized {
             × MemoryFits (record { world = world_seen world.old; spaces = spaces }) }
         // None of its pages has a translation, nor has any page that had none.
         ensures unloaded { AreUnloaded world.new.hat.places space first (segment self.old).pages }
-        ensures none { (s q : ℕ) → at world.old.hat.places s q ≡ None
-            → at world.new.hat.places s q ≡ None }
+        ensures none { (s q : ℕ) → translation_at world.old.hat.places s q ≡ None
+            → translation_at world.new.hat.places s q ≡ None }
         // What stays.
         ensures same { segment self.new ≡ segment self.old }
         ensures rest { world.new

@@ -1,6 +1,6 @@
 //! Translations that are dropped.
 ghost use Rattle.std.specs.Prelude.{◌≡◌, ℕ, None, option_map};
-ghost use Rattle.hat_layer.specs.Pool.{at, told_of, drop_page, drop_at};
+ghost use Rattle.hat_layer.specs.Pool.{translation_at, told_of, drop_page, drop_at};
 ghost use Rattle.page_store.specs.Laws.{SameResidence};
 ghost use Rattle.vm_world.specs.MemoryFits.{MemoryFits};
 ghost use Rattle.vm_world.specs.Segments.{Spaces};
@@ -16,12 +16,12 @@ pub fn drop_translation<D: Disk>(world: &mut World<D>, space: u32, page: u32)
     requires fits { (spaces : Spaces)
         × MemoryFits (record { world = world_seen world.old; spaces = spaces }) }
     // The page has no translation, and what its translation said is told to its page.
-    ensures gone { at world.new.hat.places space page ≡ None }
-    ensures map { (s p : ℕ) → at world.new.hat.places s p
-        ≡ drop_page space page (at world.old.hat.places s p) }
+    ensures gone { translation_at world.new.hat.places space page ≡ None }
+    ensures map { (s p : ℕ) → translation_at world.new.hat.places s p
+        ≡ drop_page space page (translation_at world.old.hat.places s p) }
     ensures places { world.new.hat.places ≡ drop_at space page world.old.hat.places }
     ensures store { world.new.store ≡ with_dropped_gathered world.old.store
-        (option_map told_of (at world.old.hat.places space page)) }
+        (option_map told_of (translation_at world.old.hat.places space page)) }
     // What stays.
     ensures rest { world.new ≡ record world.old { store = world.new.store; hat = world.new.hat } }
     ensures stay { SameResidence world.old.store world.new.store }

@@ -1,6 +1,6 @@
 //! Places of anon maps that are emptied.
 ghost use Rattle.std.specs.Prelude.{◌≡◌, ◌≢◌, ◌<◌, ◌-◌, ℕ, length, Some, None, slice_set};
-ghost use Rattle.hat_layer.specs.Pool.{at};
+ghost use Rattle.hat_layer.specs.Pool.{translation_at};
 ghost use Rattle.page_hash.specs.declared.PageName.{PageName};
 ghost use Rattle.page_store.specs.Seen.{residence};
 ghost use Rattle.page_store.specs.Steps.{after_abort};
@@ -59,12 +59,12 @@ pub fn leave_slot<D: Disk>(world: &mut World<D>, map: u32, place: u32, slot: u32
         ≡ record world.old { anon = world.new.anon; maps = world.new.maps } }
     ensures empties { (spaces : Spaces) (p q : ℕ) (x : Spot)
         → MemoryFits (record { world = world_seen world.old; spaces = spaces })
-        → OwnsAlone spaces p q map place x → at world.old.hat.places p q ≡ None
+        → OwnsAlone spaces p q map place x → translation_at world.old.hat.places p q ≡ None
         → EmptiesPlace (world_seen world.old) (world_seen world.new) spaces map place slot }
     // In flat memory the cell of that page loses its own page, and nothing else changes.
     ensures changes { (spaces : Spaces) (p q : ℕ) (x : Spot)
         → MemoryFits (record { world = world_seen world.old; spaces = spaces })
-        → OwnsAlone spaces p q map place x → at world.old.hat.places p q ≡ None
+        → OwnsAlone spaces p q map place x → translation_at world.old.hat.places p q ≡ None
         → ChangesMemory p (record { world = world_seen world.old; spaces = spaces })
         (record { world = world_seen world.new; spaces = spaces })
         (λ F G. G ≡ without_own_page F p q) }
@@ -98,12 +98,12 @@ pub fn drop_slot<D: Disk>(world: &mut World<D>, map: u32, place: u32, slot: u32)
     } }
     ensures empties { (spaces : Spaces) (p q : ℕ) (x : Spot)
         → MemoryFits (record { world = world_seen world.old; spaces = spaces })
-        → OwnsAlone spaces p q map place x → at world.old.hat.places p q ≡ None
+        → OwnsAlone spaces p q map place x → translation_at world.old.hat.places p q ≡ None
         → EmptiesPlace (world_seen world.old) (world_seen world.new) spaces map place slot }
     // In flat memory the cell of that page loses its own page, and nothing else changes.
     ensures changes { (spaces : Spaces) (p q : ℕ) (x : Spot)
         → MemoryFits (record { world = world_seen world.old; spaces = spaces })
-        → OwnsAlone spaces p q map place x → at world.old.hat.places p q ≡ None
+        → OwnsAlone spaces p q map place x → translation_at world.old.hat.places p q ≡ None
         → ChangesMemory p (record { world = world_seen world.old; spaces = spaces })
         (record { world = world_seen world.new; spaces = spaces })
         (λ F G. G ≡ without_own_page F p q) }

@@ -1,6 +1,6 @@
 //! Translations that are loaded.
 ghost use Rattle.std.specs.Prelude.{◌≡◌, ℕ, ◌<◌, false, length, Some, option_map};
-ghost use Rattle.hat_layer.specs.Pool.{at, is_of, holds, told_of, fresh_translation, dropped_by_load};
+ghost use Rattle.hat_layer.specs.Pool.{translation_at, is_of, holds, told_of, fresh_translation, dropped_by_load};
 ghost use Rattle.page_hash.specs.declared.PageName.{PageName};
 ghost use Rattle.page_store.specs.Laws.{SameResidence};
 ghost use Rattle.page_store.specs.Seen.{IsListedFrame, residence};
@@ -23,14 +23,14 @@ pub fn install<D: Disk>(world: &mut World<D>, space: u32, page: u32, frame: u32,
     requires fits { (spaces : Spaces)
         × MemoryFits (record { world = world_seen world.old; spaces = spaces }) }
     // The page has its translation, and what gave way is told to its page.
-    ensures loaded { at world.new.hat.places space page
+    ensures loaded { translation_at world.new.hat.places space page
         ≡ Some (fresh_translation space page frame writable) }
     ensures store { world.new.store ≡ with_dropped_gathered world.old.store
         (option_map told_of (dropped_by_load world.old.hat space page)) }
     // What stays: every other translation, and the rest of the world.
     ensures kept { (s p : ℕ) → is_of s p (fresh_translation space page frame writable) ≡ false
         → holds s p (dropped_by_load world.old.hat space page) ≡ false
-        → at world.new.hat.places s p ≡ at world.old.hat.places s p }
+        → translation_at world.new.hat.places s p ≡ translation_at world.old.hat.places s p }
     ensures rest { world.new ≡ record world.old { store = world.new.store; hat = world.new.hat } }
     ensures stay { SameResidence world.old.store world.new.store }
     ensures keeps { (spaces : Spaces)
@@ -56,7 +56,7 @@ pub fn show<D: Disk>(
     requires fits { (spaces : Spaces)
         × MemoryFits (record { world = world_seen world.old; spaces = spaces }) }
     // The page has its translation, and what gave way is told to its page.
-    ensures loaded { at world.new.hat.places space page
+    ensures loaded { translation_at world.new.hat.places space page
         ≡ Some (fresh_translation space page frame writable) }
     ensures store { world.new.store
         ≡ with_dropped_gathered (after_reclaim world.old.store name)
@@ -64,7 +64,7 @@ pub fn show<D: Disk>(
     // What stays: every other translation, and the rest of the world.
     ensures kept { (s p : ℕ) → is_of s p (fresh_translation space page frame writable) ≡ false
         → holds s p (dropped_by_load world.old.hat space page) ≡ false
-        → at world.new.hat.places s p ≡ at world.old.hat.places s p }
+        → translation_at world.new.hat.places s p ≡ translation_at world.old.hat.places s p }
     ensures rest { world.new ≡ record world.old { store = world.new.store; hat = world.new.hat } }
     ensures stay { SameResidence world.old.store world.new.store }
     ensures keeps { (spaces : Spaces)

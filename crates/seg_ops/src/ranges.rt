@@ -1,6 +1,6 @@
 //! Ranges of places of anon maps that are emptied.
 ghost use Rattle.std.specs.Prelude.{◌≡◌, ◌<◌, ◌≤◌, ◌-◌, ℕ, length, None, slice_set};
-ghost use Rattle.hat_layer.specs.Pool.{at};
+ghost use Rattle.hat_layer.specs.Pool.{translation_at};
 ghost use Rattle.page_hash.specs.declared.PageName.{PageName};
 ghost use Rattle.page_store.specs.Seen.{residence};
 ghost use Rattle.anon_map.specs.Maps.{IsMapThere, places_of, with_places};
@@ -41,7 +41,7 @@ fn empty_place<D: Disk>(world: &mut World<D>, map: u32, place: u32)
     // In flat memory the cell of its page loses its own page, and nothing else changes.
     ensures changes { (spaces : Spaces) (p q : ℕ) (x : Spot)
         → MemoryFits (record { world = world_seen world.old; spaces = spaces })
-        → OwnsAlone spaces p q map place x → at world.old.hat.places p q ≡ None
+        → OwnsAlone spaces p q map place x → translation_at world.old.hat.places p q ≡ None
         → ChangesMemory p (record { world = world_seen world.old; spaces = spaces })
         (record { world = world_seen world.new; spaces = spaces })
         (λ F G. G ≡ without_own_page F p q) }

@@ -1,7 +1,7 @@
 //! Bits that are told of translations, gathered into their pages.
 ghost use Rattle.std.specs.Prelude.{◌≡◌, ◌<◌, length, Some, None, IfSome};
 ghost use Rattle.page_store.specs.Laws.{StaysInPlace, SameResidence};
-ghost use Rattle.page_store.specs.Moves.{only};
+ghost use Rattle.page_store.specs.Moves.{is_only};
 ghost use Rattle.seg_ops.specs.Steps.{with_bits_gathered, with_dropped_gathered};
 
 use block_device::Disk;
@@ -12,7 +12,7 @@ use page_store::Store;
 pub(crate) fn add_bits<D: Disk>(store: &mut Store<D>, frame: u32, told: (bool, bool))
     requires { frame < length store.old.frames }
     ensures new { store.new ≡ with_bits_gathered store.old frame told }
-    ensures laws { StaysInPlace store.old store.new (only (Some frame)) }
+    ensures laws { StaysInPlace store.old store.new (is_only (Some frame)) }
 {
     let (referenced, modified) = store.bits(frame);
     store.set_bits(frame, referenced || told.0, modified || told.1);
@@ -22,7 +22,7 @@ pub(crate) fn add_bits<D: Disk>(store: &mut Store<D>, frame: u32, told: (bool, b
 pub(crate) fn gather<D: Disk>(store: &mut Store<D>, dropped: Option<Dropped>)
     requires { IfSome dropped (λ d. d.frame < length store.old.frames) }
     ensures new { store.new ≡ with_dropped_gathered store.old dropped }
-    ensures laws { IfSome dropped (λ d. StaysInPlace store.old store.new (only (Some d.frame))) }
+    ensures laws { IfSome dropped (λ d. StaysInPlace store.old store.new (is_only (Some d.frame))) }
     ensures stay { SameResidence store.old store.new }
 {
     if let Some(told) = dropped {

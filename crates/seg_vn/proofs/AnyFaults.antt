@@ -7,7 +7,7 @@ use Rattle.page_hash.specs.Names.{is_name}
 use Rattle.page_hash.specs.declared.PageName.{PageName}
 use Rattle.page_store.specs.Notes.{Notes}
 use Rattle.page_store.specs.Steps.{next_name}
-use Rattle.hat_layer.specs.Pool.{at, fresh_translation}
+use Rattle.hat_layer.specs.Pool.{translation_at, fresh_translation}
 use Rattle.vm_types.specs.declared.call.Call.{Call}
 use Rattle.vm_types.specs.declared.call.Call.TheVariants.{Load, Store, Map, Unmap, Protect, Sync, Read, Write, Truncate, Fork, Exit}
 use Rattle.flat_model.specs.Flat.{File, Flat, IsFlat}
@@ -109,7 +109,7 @@ pub serves-made : (old before freed made new : World) (spaces : Spaces) (p q : �
     → ChangesMemory p (memory_of freed spaces) (memory_of made spaces) (λ F G. G ≡ f F)
     → ((born : set.FinSet nat_cmp) (notes : Notes) → NotesFit freed notes → AllTell freed notes → IsFlat (flat_memory (memory_of freed spaces) born notes)
     → f (flat_memory (memory_of freed spaces) born notes) ≡ after_fault step.Loaded write (flat_memory (memory_of freed spaces) born notes) p q)
-    → KeepsPages made new spaces → at new.hat.places p q ≡ Some (fresh_translation p q frame writable) → (write ≡ true → writable ≡ true) → SlotsAfter old new x write step.Loaded
+    → KeepsPages made new spaces → translation_at new.hat.places p q ≡ Some (fresh_translation p q frame writable) → (write ≡ true → writable ≡ true) → SlotsAfter old new x write step.Loaded
     → ServesFault (memory_of old spaces) (memory_of new spaces) pending more p q x write step.Loaded
 serves-made old before freed made new spaces p q x write writable pending more frame f fits keeps names files frees pends took makes same shows loaded lets slots = record {
   mid = freed;

@@ -12,7 +12,7 @@ use Rattle.vm_types.specs.declared.call.Kind.{Kind}
 use Rattle.vm_types.specs.declared.call.Kind.TheVariants.{Shared, Private}
 use Rattle.vm_types.specs.declared.call.Object.{Object}
 use Rattle.vm_types.specs.declared.call.Object.TheVariants as object
-use Rattle.addr_space.specs.Space.{Part, has, at, part_at}
+use Rattle.addr_space.specs.Space.{Part, has, piece_at, part_at}
 use Rattle.anon_map.specs.Maps.{Map, IsMapThere, places_of}
 use Rattle.page_hash.specs.declared.PageName.{PageName}
 use Rattle.page_store.specs.Notes.{Notes}
@@ -51,7 +51,7 @@ all-right P (x ∷ xs) ys all = all-right P xs ys (All-tail P x (xs ++ ys) all)
 abbrev pieces : List (Part Segment) → List Segment
 pieces parts = map (λ (p : Part Segment). p.piece) parts
 
-in-space : (P : Segment → Type 0) (parts : List (Part Segment)) (q : ℕ) (x : Spot) → at parts q ≡ Some x → All P (pieces parts) → P x.0
+in-space : (P : Segment → Type 0) (parts : List (Part Segment)) (q : ℕ) (x : Spot) → piece_at parts q ≡ Some x → All P (pieces parts) → P x.0
 in-space P [] q x is all = absurd (cc)
 in-space P (p ∷ ps) q x is all = elim (cases_Bool (has p q)) [
   | inl here ↦
@@ -72,7 +72,7 @@ in-spaces P p (e ∷ es) parts is all = elim (cases_Bool (is_eq (nat_cmp p e.0))
 pub of-spot : (P : Segment → Type 0) (spaces : Spaces) (p q : ℕ) (x : Spot) → spot_at spaces p q ≡ Some x → All P (segments_of spaces) → P x.0
 of-spot P spaces p q x is all = by_space (finite.get spaces p) refl is
   where
-    by_space : (o : Option (List (Part Segment))) → finite.get spaces p ≡ o → option_and_then (λ (ps : List (Part Segment)). at ps q) o ≡ Some x → P x.0
+    by_space : (o : Option (List (Part Segment))) → finite.get spaces p ≡ o → option_and_then (λ (ps : List (Part Segment)). piece_at ps q) o ≡ Some x → P x.0
     by_space None e is = absurd (let z : None ≡ Some x = is in cc)
     by_space (Some parts) e is = in-space P parts q x is (in-spaces P p (finite.entries spaces) parts (sym (finite.get-entries spaces p) ∙ e) all)
 

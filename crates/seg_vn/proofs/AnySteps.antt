@@ -16,7 +16,7 @@ use Rattle.page_store.specs.declared.plan.Plan.{Plan}
 use Rattle.page_store.specs.declared.plan.Plan.TheVariants as plan
 use Rattle.page_store.specs.declared.plan.Hold.{Hold}
 use Rattle.page_store.specs.declared.plan.Hold.TheVariants as hold
-use Rattle.hat_layer.specs.Pool.{at, fresh_translation}
+use Rattle.hat_layer.specs.Pool.{translation_at, fresh_translation}
 use Rattle.vm_types.specs.Prot.{can_read, can_write}
 use Rattle.vm_types.specs.declared.call.Call.{Call}
 use Rattle.vm_types.specs.declared.call.Call.TheVariants.{Load, Store, Map, Unmap, Protect, Sync, Read, Write, Truncate, Fork, Exit}
@@ -107,7 +107,7 @@ module _ (old mid : World) (spaces : Spaces) (p q : ℕ) (x : Spot) (write writa
   }
 
   pub page-loaded : (new : World) (frame : ℕ) → BringsPage (memory_of old spaces) (memory_of mid spaces) pending more name step.Loaded → KeepsPages mid new spaces → new.store.names ≡ mid.store.names → new.maps ≡ mid.maps → new.anon ≡ mid.anon
-      → at new.hat.places p q ≡ Some (fresh_translation p q frame writable) → ServesFault (memory_of old spaces) (memory_of new spaces) pending more p q x write step.Loaded
+      → translation_at new.hat.places p q ≡ Some (fresh_translation p q frame writable) → ServesFault (memory_of old spaces) (memory_of new spaces) pending more p q x write step.Loaded
   page-loaded new frame b keeps names maps' anon' loaded =
       serves-kept old new spaces p q x write pending more step.Loaded (takes-then old mid new spaces pending more fits b.first keeps names)
       (λ born notes. kept-in-place new spaces p q x write writable born notes keeps.memory place.here place.lets (λ writes. in-place-still old new x (maps' ∙ maps) (anon' ∙ anon) (place.in_place writes)))

@@ -16,7 +16,7 @@ use Rattle.page_store.specs.Steps.{next_frame, next_name, home_bytes}
 use Rattle.page_store.specs.declared.residence.Residence.TheVariants.{Home, Moving, Absent}
 use Rattle.page_store.specs.declared.plan.Hold.TheVariants as hold
 use Rattle.page_store.proofs.QueryLemmas.{absent-is}
-use Rattle.hat_layer.specs.Pool.{at, fresh_translation}
+use Rattle.hat_layer.specs.Pool.{translation_at, fresh_translation}
 use Rattle.hat_layer.specs.declared.translation.Dropped.{Dropped}
 use Rattle.vm_types.specs.declared.call.Call.{Call}
 use Rattle.vm_types.specs.Prot.{can_read}
@@ -96,7 +96,7 @@ takes-more old freed spaces a b c t second none files = record { cut = t.cut; st
 
 -- THE CELL GOT ITS PAGE, and the translation of that is loaded.
 pub serves-after : (old freed made new : World) (spaces : Spaces) (p q : ℕ) (x : Spot) (pending more frame : ℕ) → TakesFrames (memory_of old spaces) freed pending more
-    → ChangesMemory p (memory_of freed spaces) (memory_of made spaces) (λ F G. G ≡ with_own_shown F p q) → KeepsPages made new spaces → at new.hat.places p q ≡ Some (fresh_translation p q frame true) → SlotsAfter old new x true step.Loaded
+    → ChangesMemory p (memory_of freed spaces) (memory_of made spaces) (λ F G. G ≡ with_own_shown F p q) → KeepsPages made new spaces → translation_at new.hat.places p q ≡ Some (fresh_translation p q frame true) → SlotsAfter old new x true step.Loaded
     → ServesFault (memory_of old spaces) (memory_of new spaces) pending more p q x true step.Loaded
 serves-after old freed made new spaces p q x pending more frame first makes shows loaded slots = record {
   mid = freed;

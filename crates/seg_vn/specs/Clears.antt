@@ -1,7 +1,7 @@
 -- Spaces from which ranges are taken out. Public clauses cite this.
 use Rattle.std.specs.Prelude.{◌≡◌, ℕ, List, Some}
 use Rattle.std.specs.FinMap as finite
-use Rattle.addr_space.specs.Space.{Part, at}
+use Rattle.addr_space.specs.Space.{Part, piece_at}
 use Rattle.vm_world.specs.MemoryFits.{MemoryFits}
 use Rattle.vm_world.specs.Segments.{Spot, Spaces}
 use Rattle.vm_world.specs.declared.segment.Segment.{Segment}
@@ -16,4 +16,4 @@ pub record SpaceFits (w : World) (spaces : Spaces) (p : ℕ) (parts : List (Part
 
 -- No part goes across the begin of this page.
 abbrev pub StartsAt : List (Part Segment) → ℕ → Type 0
-StartsAt parts q = (x : Spot) → at parts q ≡ Some x → x.1 ≡ 0
+StartsAt parts q = (x : Spot) → piece_at parts q ≡ Some x → x.1 ≡ 0

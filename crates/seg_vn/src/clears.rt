@@ -1,7 +1,7 @@
 //! Ranges of pages that are taken out of a space.
 ghost use Rattle.std.specs.Prelude.{◌≡◌, ◌≤◌, ◌<◌, ◌-◌, ℕ, None, Some, MatchOption, if◌then◌else◌};
 ghost use Rattle.std.specs.FinMap as finite;
-ghost use Rattle.addr_space.specs.Space.{at, begins, FindsLast};
+ghost use Rattle.addr_space.specs.Space.{piece_at, begins, FindsLast};
 ghost use Rattle.flat_model.specs.Access.{with_space};
 ghost use Rattle.flat_model.specs.Space.{in_range};
 ghost use Rattle.vm_world.specs.Segments.{Spaces};
@@ -42,8 +42,8 @@ pub fn clear<D: Disk>(
     requires fits { (spaces : Spaces)
         × SpaceFits (world_seen world.old) spaces process space.old.parts }
     // The pages of the range have no cell, and all others the cell that they had.
-    ensures pages { (q : ℕ) → at space.new.parts q
-        ≡ (if in_range from (end - from) q then None else at space.old.parts q) }
+    ensures pages { (q : ℕ) → piece_at space.new.parts q
+        ≡ (if in_range from (end - from) q then None else piece_at space.old.parts q) }
     ensures changes { (spaces : Spaces)
         → SpaceFits (world_seen world.old) spaces process space.old.parts
         → ChangesSpace process (record { world = world_seen world.old; spaces = spaces })

@@ -1,7 +1,7 @@
 //! Stores to private pages that aren't their cell's alone: the cell gets a page of its own.
 ghost use Rattle.std.specs.Prelude.{◌≡◌, ◌≢◌, ◌<◌, ℕ, Option, true, length, Some, None, IsSome, IsTrue, IfSome};
 ghost use Rattle.core_arena.specs.Bytes.{bytes_at, zeros};
-ghost use Rattle.hat_layer.specs.Pool.{at};
+ghost use Rattle.hat_layer.specs.Pool.{translation_at};
 ghost use Rattle.page_hash.specs.Names.{find, is_name};
 ghost use Rattle.page_hash.specs.declared.PageName.{PageName};
 ghost use Rattle.page_store.specs.Notes.{Notes};
@@ -48,7 +48,7 @@ fn copy_into<D: Disk>(
     requires available { IsSome (next_frame world.old.store) }
     requires owned { (spaces : Spaces) × (p : ℕ) × (q : ℕ) × (x : Spot)
         × MemoryFits (record { world = world_seen world.old; spaces = spaces })
-        × OwnsAlone spaces p q map place x × (at world.old.hat.places p q ≡ None) }
+        × OwnsAlone spaces p q map place x × (translation_at world.old.hat.places p q ≡ None) }
     // The place has a slot of its own, whose page is home.
     ensures gives { GivesSlot world.old.anon world.new.anon
         world.old.maps world.new.maps map place result }
@@ -64,11 +64,11 @@ fn copy_into<D: Disk>(
     } }
     ensures memory { (spaces : Spaces) (p q : ℕ) (x : Spot)
         → MemoryFits (record { world = world_seen world.old; spaces = spaces })
-        → OwnsAlone spaces p q map place x → at world.old.hat.places p q ≡ None
+        → OwnsAlone spaces p q map place x → translation_at world.old.hat.places p q ≡ None
         → MemoryFits (record { world = world_seen world.new; spaces = spaces }) }
     ensures changes { (spaces : Spaces) (p q : ℕ) (x : Spot)
         → MemoryFits (record { world = world_seen world.old; spaces = spaces })
-        → OwnsAlone spaces p q map place x → at world.old.hat.places p q ≡ None
+        → OwnsAlone spaces p q map place x → translation_at world.old.hat.places p q ≡ None
         → next_name world.old.store ≡ None
         → CellShows (world_seen world.old) spaces x slot
         (home_bytes world.old.store (find world.old.store.names name))
@@ -93,7 +93,7 @@ fn zeros_into<D: Disk>(world: &mut World<D>, map: u32, place: u32, slot: Option<
     requires available { IsSome (next_frame world.old.store) }
     requires owned { (spaces : Spaces) × (p : ℕ) × (q : ℕ) × (x : Spot)
         × MemoryFits (record { world = world_seen world.old; spaces = spaces })
-        × OwnsAlone spaces p q map place x × (at world.old.hat.places p q ≡ None) }
+        × OwnsAlone spaces p q map place x × (translation_at world.old.hat.places p q ≡ None) }
     // The place has a slot of its own, whose page is home.
     ensures gives { GivesSlot world.old.anon world.new.anon
         world.old.maps world.new.maps map place result }
@@ -109,11 +109,11 @@ fn zeros_into<D: Disk>(world: &mut World<D>, map: u32, place: u32, slot: Option<
     } }
     ensures memory { (spaces : Spaces) (p q : ℕ) (x : Spot)
         → MemoryFits (record { world = world_seen world.old; spaces = spaces })
-        → OwnsAlone spaces p q map place x → at world.old.hat.places p q ≡ None
+        → OwnsAlone spaces p q map place x → translation_at world.old.hat.places p q ≡ None
         → MemoryFits (record { world = world_seen world.new; spaces = spaces }) }
     ensures changes { (spaces : Spaces) (p q : ℕ) (x : Spot)
         → MemoryFits (record { world = world_seen world.old; spaces = spaces })
-        → OwnsAlone spaces p q map place x → at world.old.hat.places p q ≡ None
+        → OwnsAlone spaces p q map place x → translation_at world.old.hat.places p q ≡ None
         → next_name world.old.store ≡ None → CellShows (world_seen world.old) spaces x slot zeros
         → ChangesMemory p (record { world = world_seen world.old; spaces = spaces })
         (record { world = world_seen world.new; spaces = spaces })
@@ -130,7 +130,7 @@ fn clear_way<D: Disk>(world: &mut World<D>, space: u32, page: u32)
     requires available { IsSome (next_frame world.old.store) }
     requires fits { (spaces : Spaces)
         × MemoryFits (record { world = world_seen world.old; spaces = spaces }) }
-    ensures gone { at world.new.hat.places space page ≡ None }
+    ensures gone { translation_at world.new.hat.places space page ≡ None }
     ensures available { IsSome (next_frame world.new.store) }
     ensures free { next_name world.new.store ≡ None }
     ensures takes { (spaces : Spaces)

@@ -1,7 +1,7 @@
 //! Segments.
 ghost use Rattle.std.specs.Prelude.{◌≡◌, ℕ, ◌+◌, ◌-◌, ◌<◌, ◌≤◌, ◌^◌, Some, IsSome, IsTrue, if◌then◌else◌};
 ghost use Rattle.core_arena.specs.Bytes.{bytes_at};
-ghost use Rattle.hat_layer.specs.Pool.{at, fresh_translation};
+ghost use Rattle.hat_layer.specs.Pool.{translation_at, fresh_translation};
 ghost use Rattle.page_hash.specs.declared.PageName.{PageName};
 ghost use Rattle.page_store.specs.Notes.{Notes};
 ghost use Rattle.page_store.specs.Seen.{residence};
@@ -49,7 +49,7 @@ pub(crate) fn load_page<D: Disk>(
     requires home { (frame : ℕ) × (residence world.old.store name ≡ Residence.Home frame) }
     requires fits { (spaces : Spaces)
         × MemoryFits (record { world = world_seen world.old; spaces = spaces }) }
-    ensures loaded { (frame : ℕ) × (at world.new.hat.places space page
+    ensures loaded { (frame : ℕ) × (translation_at world.new.hat.places space page
         ≡ Some (fresh_translation space page frame writable)) }
     ensures keeps { (spaces : Spaces)
         → MemoryFits (record { world = world_seen world.old; spaces = spaces })

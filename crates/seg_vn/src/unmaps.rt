@@ -1,6 +1,6 @@
 //! Segments that lose their translations, or are cut in two.
 ghost use Rattle.std.specs.Prelude.{◌≡◌, ◌≤◌, ◌<◌, ◌+◌, ℕ, None, IfOk, IsOk};
-ghost use Rattle.hat_layer.specs.Pool.{at};
+ghost use Rattle.hat_layer.specs.Pool.{translation_at};
 ghost use Rattle.vm_world.specs.MemoryFits.{MemoryFits};
 ghost use Rattle.vm_world.specs.Segments.{Spaces};
 ghost use Rattle.vm_world.specs.SpaceSteps.{AreUnloaded, first_pages, later_pages};
@@ -21,8 +21,8 @@ impl VnSeg {
             × MemoryFits (record { world = world_seen world.old; spaces = spaces }) }
         // None of its pages has a translation, nor has any page that had none.
         ensures unloaded { AreUnloaded world.new.hat.places space first self.old.pages }
-        ensures none { (s q : ℕ) → at world.old.hat.places s q ≡ None
-            → at world.new.hat.places s q ≡ None }
+        ensures none { (s q : ℕ) → translation_at world.old.hat.places s q ≡ None
+            → translation_at world.new.hat.places s q ≡ None }
         // What stays.
         ensures segment { self.new ≡ self.old }
         ensures rest { world.new

@@ -23,7 +23,7 @@ use Rattle.vm_script.specs.PlanSeen.{PlanSeen}
 use Rattle.vm_script.specs.Rules.{broken_rule, amounts_of}
 use Rattle.vm_script.specs.Sound.{IsSoundSetup}
 use Rattle.sunvm.specs.declared.ending.Refusal.TheVariants as refusal
-use Rattle.sunvm.specs.Attached.{AreMounted, ArePlaced, FileDisksTell, HasItsBytes, numbered_seen, bare}
+use Rattle.sunvm.specs.Attached.{AreMounted, ArePlaced, FileDisksTell, HasItsBytes, numbered_seen, bare_disks}
 use Rattle.sunvm.specs.Closed.{StoreFiles, info_at}
 use Rattle.sunvm.specs.Handed.{HandsAll, IsSwapFor, TellsSpec}
 use Rattle.sunvm.specs.Opened.{OpenedFile, infos_of, opened_bytes_at, disk_specs, if_few, with_line_files, stored_bytes}
@@ -174,7 +174,7 @@ distinct-attached seen plan holds old ts m = subst Distinct (numbers-seen seen o
 -- all disks are handed back
 pub hands-all : {D : Type 0} (seen : D → DiskSeen) (plan : PlanSeen) (holds : Spec → Option (List (List ℕ))) (old new : List (NumberedDisk D)) (ts : List TableSeen) (swap : Option DiskSeen)
     → AreMounted holds (disk_specs plan.setup) (map (numbered_seen seen) old) ts → IsSwapFor (amounts_of plan.setup).slots swap → RemainThere seen old new
-    → HandsAll plan (bare (map (numbered_seen seen) new)) swap
+    → HandsAll plan (bare_disks (map (numbered_seen seen) new)) swap
 hands-all seen plan holds old new ts swap m serves remain = record {
   each = spec-sizes seen holds (disk_specs plan.setup) old new ts m (same-disks seen old new remain);
   first = serves;

@@ -16,7 +16,7 @@ use Rattle.sunvm.specs.declared.ending.Ending.TheVariants as ending
 use Rattle.sunvm.specs.declared.showing.Heading.TheVariants.{Report}
 use Rattle.sunvm.specs.declared.outcome.RunFault.{RunFault}
 use Rattle.sunvm.specs.Asked.{Given, Asked}
-use Rattle.sunvm.specs.Attached.{AttachedSeen, bare}
+use Rattle.sunvm.specs.Attached.{AttachedSeen, bare_disks}
 use Rattle.sunvm.specs.Closed.{SayTables, SaysTable}
 use Rattle.sunvm.specs.Course.{IsReady, CloseEnds, CloseFails, ShowEnds, TablesEnd, ShowsClosed, FailsTable, LacksTable}
 use Rattle.sunvm.specs.Handed.{HasLateCause}
@@ -93,9 +93,9 @@ module _ (st : ℕ) (ft : Option RunFault) (g : Given) (o : Outside) (what : Ask
     have = have-written l.files l.disks new w left.have
 
     abbrev opening : List ℕ
-    opening = opening_part what files (bare new) bytes
+    opening = opening_part what files (bare_disks new) bytes
 
-    first : Wrote o.sink_old k1 (opening_part what files (bare new) bytes)
+    first : Wrote o.sink_old k1 (opening_part what files (bare_disks new) bytes)
     first = subst (λ z. Wrote o.sink_old k1 (trace_opening what.options what.plan z (infos_of files) bytes))
         (sizes-same st ft g what files bytes a made plan o.sink_old k1 ready s l started left new w) ready.wrote
 
@@ -133,7 +133,7 @@ module _ (st : ℕ) (ft : Option RunFault) (g : Given) (o : Outside) (what : Ask
 
     -- the disks have the files, or one of them failed
     abbrev IsLeft : Type 0
-    IsLeft = LeavesFiles g what files infos e ⊎ ((f : DiskFault) × HasLateCause what.plan l.history (bare new) l.swap f)
+    IsLeft = LeavesFiles g what files infos e ⊎ ((f : DiskFault) × HasLateCause what.plan l.history (bare_disks new) l.swap f)
 
     is-left : l.fault ≡ None → IsLeft
     is-left none = inl (leaves st ft g what files bytes a made plan o.sink_old k1 ready s l started left new w none)
@@ -150,7 +150,7 @@ module _ (st : ℕ) (ft : Option RunFault) (g : Given) (o : Outside) (what : Ask
 
   -- the cause of a fault in closing
   fault-cause : (f : DiskFault) (new : List (ℕ × DiskSeen)) (w : WriteTables l.disks new) (i : ℕ) (disk : DiskSeen) → slice_get new i ≡ Some (f.disk, disk) → f.disk < 8 → f.after ≡ disk.faults
-      → ((count : ℕ) × (slice_index_or l.history.faults f.disk None ≡ Some count) × (count ≤ f.before)) → HasLateCause what.plan l.history (bare new) l.swap f
+      → ((count : ℕ) × (slice_index_or l.history.faults f.disk None ≡ Some count) × (count ≤ f.before)) → HasLateCause what.plan l.history (bare_disks new) l.swap f
   fault-cause f new w i disk at small last since =
       late-cause st ft g what files bytes a made plan o.sink_old k1 ready s l started left new w f i disk small (have new w) at last since
 
@@ -259,7 +259,7 @@ module _ (st : ℕ) (ft : Option RunFault) (g : Given) (o : Outside) (what : Ask
   -- the end of a run whose processes ran, whichever it is
   pub close-case : (whole : Bool) → (IsTrue whole → Told plan l.history.entries) → ToldFront plan l.history.entries → (fault : Option DiskFault) → l.fault ≡ fault → (new : List (ℕ × DiskSeen)) (how : Ending)
       → CloseEnds whole fault what.options plan l.history.entries infos k1 o.sink_new l.disks new how
-      → CaseOf g o (wrote_before o) (record { status = st; fault = ft; history = l.history; disks = bare new; swap = l.swap }) how
+      → CaseOf g o (wrote_before o) (record { status = st; fault = ft; history = l.history; disks = bare_disks new; swap = l.swap }) how
   close-case false told front (Some f) is new how c = lacked new front how c.1 (closing-left f is new c.0 c.1.writes)
   close-case false told front None is new how c = lacked new front how c (is-left new c.writes is)
   close-case true told front (Some f) is new how c =

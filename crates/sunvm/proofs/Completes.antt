@@ -11,11 +11,11 @@ use Rattle.sunvm.specs.declared.outcome.RunFault.{RunFault}
 use Rattle.sunvm.specs.declared.outcome.RunFault.TheVariants as fault
 use Rattle.vm_script.specs.Plans.{plan_of}
 use Rattle.sunvm.specs.declared.options.Options.{Options}
-use Rattle.sunvm.specs.Asked.{Given, Asked, Asks, WasAsked, asked, asked_of, by_script, script_told}
+use Rattle.sunvm.specs.Asked.{Given, Asked, Asks, WasAsked, run_request, request_of_options, by_script, script_told}
 use Rattle.sunvm.specs.Options.{options_of}
 use Rattle.sunvm.specs.Ending.{fault_of, status_of}
 use Rattle.sunvm.specs.Handed.{End, IsCountedBy}
-use Rattle.sunvm.specs.Opened.{OpenedFile, opened}
+use Rattle.sunvm.specs.Opened.{OpenedFile, opened_files}
 use Rattle.sunvm.specs.Run.{CaseOf, DisksTell, FailsToOpen, IsComplete, IsDiskCounted, Outside, RunEnds, wrote_all}
 
 told-text : {R : Type 0} (said : Option (List ℕ)) (F : List ℕ → R) (q r : R) → option_map F said ≡ Some q → (text : List ℕ) × IfSome said (λ told. told ≡ text) × (F text ≡ r) → r ≡ q
@@ -23,15 +23,15 @@ told-text None F q r is h = absurd (none-some q is)
 told-text (Some told) F q r is h = sym h.2 ∙ ap F (sym h.1) ∙ same_Some (F told) q is
 
 -- what was asked is the one thing that the words and the text ask for, where the text is told
-one-asked : (words : Option Options) (rest : Option (List ℕ)) (q r : Result Asked Ending) → asked_of words rest ≡ Some q → Asks words rest r → r ≡ q
+one-asked : (words : Option Options) (rest : Option (List ℕ)) (q r : Result Asked Ending) → request_of_options words rest ≡ Some q → Asks words rest r → r ≡ q
 one-asked None rest q r is h = h ∙ same_Some (Err ending.Usage) q is
 one-asked (Some o) rest q r is h = told-text (script_told o.make rest) (λ text. by_script o (plan_of text)) q r is h
 
-not-stopped : (g : Given) (what : Asked) (h : Ending) → asked g ≡ Some (Ok what) → WasAsked g (Err h) → ⊥
+not-stopped : (g : Given) (what : Asked) (h : Ending) → run_request g ≡ Some (Ok what) → WasAsked g (Err h) → ⊥
 not-stopped g what h is p = let b : ◌≡◌ {A = Result Asked Ending} (Err h) (Ok what) = one-asked (options_of g.words) g.rest (Ok what) (Err h) is p in cc
 
-same-asked : (g : Given) (what other : Asked) → asked g ≡ Some (Ok what) → WasAsked g (Ok other) → other ≡ what
-same-asked g what other is p = let b : ◌≡◌ {A = Result Asked Ending} (Ok other) (Ok what) = one-asked (options_of g.words) g.rest (Ok what) (Ok other) is p in cc
+same-run_request : (g : Given) (what other : Asked) → run_request g ≡ Some (Ok what) → WasAsked g (Ok other) → other ≡ what
+same-run_request g what other is p = let b : ◌≡◌ {A = Result Asked Ending} (Ok other) (Ok what) = one-asked (options_of g.words) g.rest (Ok what) (Ok other) is p in cc
 
 rack-or-disk : (f : OpenFaultSeen) (P : Type 0) (Q : ℕ × ℕ → Type 0) → MatchOption f.counts P Q → (P → ⊥) → IsSome f.counts
 rack-or-disk f P Q h never = by f.counts h
@@ -50,8 +50,8 @@ module _ (g : Given) (o : Outside) (e : End) where
   by-case (ending.Refused r) s f (inr c) what files is op ns nk nr = inr (inr (inr (
     s,
     λ (t : DisksTell g what e).
-        let same : c.what ≡ what = same-asked g what c.what is c.asked in
-        let broken : opened what.plan g.holds ≡ Err r = subst (λ (w : Asked). opened w.plan g.holds ≡ Err r) same (c.cause.told t.disks) in
+        let same : c.what ≡ what = same-run_request g what c.what is c.asked in
+        let broken : opened_files what.plan g.holds ≡ Err r = subst (λ (w : Asked). opened_files w.plan g.holds ≡ Err r) same (c.cause.told t.disks) in
         let bad : ◌≡◌ {A = Result (List OpenedFile) Refusal} (Ok files) (Err r) = sym op ∙ broken in
         cc,
   )))

@@ -27,7 +27,7 @@ use Rattle.vm_world.specs.State.{KernelState, FileMode, mode_of}
 use Rattle.vm_world.specs.World.{AllTell}
 use Rattle.sunvm.specs.declared.outcome.RunFault.{RunFault}
 use Rattle.sunvm.specs.Asked.{Given, Asked}
-use Rattle.sunvm.specs.Attached.{AttachedSeen, FileDisksTell, bare}
+use Rattle.sunvm.specs.Attached.{AttachedSeen, FileDisksTell, bare_disks}
 use Rattle.sunvm.specs.Closed.{SayTables, StoreFiles, StoresFile, flat_bytes, info_at, infos_in_flat, mode_in, modes_in}
 use Rattle.sunvm.specs.Course.{IsReady}
 use Rattle.sunvm.specs.Handed.{End, HaveTold, HandsAll, HaveSpecSizes, HasSpecSize, HasLateCause, CountsReach, disk_numbers, disk_handed, plan_disks, sizes_of}
@@ -83,7 +83,7 @@ module _ (st : ℕ) (ft : Option RunFault) (g : Given) (what : Asked) (files : L
     (started : IsStarted plan (opening_flat plan (disk_sizes a.disks) files) a.disks a.swap made s)
     (left : KernelLeaves (opening_flat plan (disk_sizes a.disks) files) s l) (new : List (ℕ × DiskSeen)) (w : WriteTables l.disks new) where
   abbrev pub ended : End
-  ended = record { status = st; fault = ft; history = l.history; disks = bare new; swap = l.swap }
+  ended = record { status = st; fault = ft; history = l.history; disks = bare_disks new; swap = l.swap }
 
   numbers-old : map number new ≡ map number a.disks
   numbers-old = w.numbers ∙ left.disks.numbers ∙ ap (map number) started.racked
@@ -91,28 +91,28 @@ module _ (st : ℕ) (ft : Option RunFault) (g : Given) (what : Asked) (files : L
   sizes-old : map (λ (d : ℕ × DiskSeen). d.1.size) new ≡ map (λ (d : ℕ × DiskSeen). d.1.size) a.disks
   sizes-old = sizes-written l.disks new w ∙ left.disks.sizes ∙ ap (map (λ (d : ℕ × DiskSeen). d.1.size)) started.racked
 
-  pub pairs-new : plan_disks what.plan (bare new) ≡ new
-  pairs-new = ap (λ (ns : List ℕ). zip ns (bare new)) (sym ready.placed.numbers ∙ sym numbers-old) ∙ zip-back new
+  pub pairs-new : plan_disks what.plan (bare_disks new) ≡ new
+  pairs-new = ap (λ (ns : List ℕ). zip ns (bare_disks new)) (sym ready.placed.numbers ∙ sym numbers-old) ∙ zip-back new
 
-  pairs-old : plan_disks what.plan (bare a.disks) ≡ a.disks
-  pairs-old = ap (λ (ns : List ℕ). zip ns (bare a.disks)) (sym ready.placed.numbers) ∙ zip-back a.disks
+  pairs-old : plan_disks what.plan (bare_disks a.disks) ≡ a.disks
+  pairs-old = ap (λ (ns : List ℕ). zip ns (bare_disks a.disks)) (sym ready.placed.numbers) ∙ zip-back a.disks
 
-  pub sizes-new : sizes_of what.plan (bare new) ≡ disk_sizes a.disks
+  pub sizes-new : sizes_of what.plan (bare_disks new) ≡ disk_sizes a.disks
   sizes-new = ap disk_sizes pairs-new ∙ sizes-by new a.disks numbers-old sizes-old
 
-  pub sizes-same : sizes_of what.plan (bare a.disks) ≡ sizes_of what.plan (bare new)
+  pub sizes-same : sizes_of what.plan (bare_disks a.disks) ≡ sizes_of what.plan (bare_disks new)
   sizes-same = ap disk_sizes pairs-old ∙ sym sizes-new
 
-  pub flat-same : opening_flat plan (disk_sizes a.disks) files ≡ flat_opened what files (bare new)
+  pub flat-same : opening_flat plan (disk_sizes a.disks) files ≡ flat_opened what files (bare_disks new)
   flat-same = ap (λ (p : PlanSeen). opening_flat p (disk_sizes a.disks) files) ready.numbered ∙ ap (λ (z : List (ℕ × ℕ)). opening_flat what.plan z files) (sym sizes-new)
 
-  told-left : HaveTold (bare new) l.swap → HaveTold (bare l.disks) l.swap
+  told-left : HaveTold (bare_disks new) l.swap → HaveTold (bare_disks l.disks) l.swap
   told-left h = record {
-    each = to-all (λ (d : DiskSeen). IsSome d.content) (bare l.disks) (λ i d at.
+    each = to-all (λ (d : DiskSeen). IsSome d.content) (bare_disks l.disks) (λ i d at.
         let x = in-map (λ (p : ℕ × DiskSeen). p.1) l.disks i d at in
         let m = mate l.disks new w.numbers i x.0 x.1 in
         subst (λ (y : DiskSeen). IsSome y.content) x.2 (told-before x.0.1 m.0.1 (w.each i x.0 m.0 x.1 m.1)
-        (All-slice_get (λ (d : DiskSeen). IsSome d.content) (bare new) i m.0.1 h.each (at-map (λ (p : ℕ × DiskSeen). p.1) new i m.0 m.1))));
+        (All-slice_get (λ (d : DiskSeen). IsSome d.content) (bare_disks new) i m.0.1 h.each (at-map (λ (p : ℕ × DiskSeen). p.1) new i m.0 m.1))));
     last = h.last;
   }
 
@@ -122,10 +122,10 @@ module _ (st : ℕ) (ft : Option RunFault) (g : Given) (what : Asked) (files : L
   read-bytes : AreOpenedBytes g what files ended bytes
   read-bytes = record { lengths = ready.read.lengths; told = λ t. ready.read.told (disks-told t) }
 
-  count-new : length (bare new) ≡ length (disk_specs what.plan.setup)
+  count-new : length (bare_disks new) ≡ length (disk_specs what.plan.setup)
   count-new = length-map new (λ (p : ℕ × DiskSeen). p.1) ∙ sym (length-map new number) ∙ ap length (numbers-old ∙ ready.placed.numbers) ∙ length-map (disk_specs what.plan.setup) spec_number
 
-  hands-all : HandsAll what.plan (bare new) l.swap
+  hands-all : HandsAll what.plan (bare_disks new) l.swap
   hands-all = record {
     each = (
       count-new,
@@ -149,11 +149,11 @@ module _ (st : ℕ) (ft : Option RunFault) (g : Given) (what : Asked) (files : L
   numbers-new : map number new ≡ disk_numbers what.plan
   numbers-new = numbers-old ∙ ready.placed.numbers
 
-  reached : CountsReach what.plan (bare new) l.swap l.history.entries
+  reached : CountsReach what.plan (bare_disks new) l.swap l.history.entries
   reached k e n before after at io = let x = left.reached k e n before after at io in by_disk x.0 x.1 x.2
     where
       handed : Bool → Option DiskSeen
-      handed eight = if◌then◌else◌ eight l.swap (lookup (λ m. m == n) (plan_disks what.plan (bare new)))
+      handed eight = if◌then◌else◌ eight l.swap (lookup (λ m. m == n) (plan_disks what.plan (bare_disks new)))
 
       some : (o : Option DiskSeen) (d : DiskSeen) → o ≡ Some d → after ≤ d.faults → IsSomeAnd o (λ (x : DiskSeen). after ≤ x.faults)
       some o d is low = subst (λ (p : Option DiskSeen). IsSomeAnd p (λ (x : DiskSeen). after ≤ x.faults)) (sym is) low
@@ -164,15 +164,15 @@ module _ (st : ℕ) (ft : Option RunFault) (g : Given) (what : Asked) (files : L
           let b = mate new l.disks (sym w.numbers) k y yk in
           left.have.numbers j k a.0 b.0 a.1 b.1 (a.2 ∙ is ∙ sym b.2)
 
-      by_disk : (d : DiskSeen) → IsDiskOf l.disks l.swap n d → after ≤ d.faults → IsSomeAnd (disk_handed what.plan (bare new) l.swap n) (λ (x : DiskSeen). after ≤ x.faults)
-      by_disk d (inr swapped) low = some (disk_handed what.plan (bare new) l.swap n) d (ap handed (subst (λ (m : ℕ). (m == 8) ≡ true) (sym swapped.0) refl) ∙ swapped.1) low
+      by_disk : (d : DiskSeen) → IsDiskOf l.disks l.swap n d → after ≤ d.faults → IsSomeAnd (disk_handed what.plan (bare_disks new) l.swap n) (λ (x : DiskSeen). after ≤ x.faults)
+      by_disk d (inr swapped) low = some (disk_handed what.plan (bare_disks new) l.swap n) d (ap handed (subst (λ (m : ℕ). (m == 8) ≡ true) (sym swapped.0) refl) ∙ swapped.1) low
       by_disk d (inl listed) low =
           let m = mate l.disks new w.numbers listed.0 (n, d) listed.1 in
           let up = (w.each listed.0 (n, d) m.0 listed.1 m.1).faults in
           let own : m.0 ≡ (n, m.0.1) = ap (λ (j : ℕ). (j, m.0.1)) m.2 in
           let there : slice_get new listed.0 ≡ Some (n, m.0.1) = m.1 ∙ ap Some own in
           let low-number = low-disks what.plan new numbers-new listed.0 (n, m.0.1) there in
-          some (disk_handed what.plan (bare new) l.swap n) m.0.1
+          some (disk_handed what.plan (bare_disks new) l.swap n) m.0.1
           (ap handed (ne_eqb n 8 (λ eight. omega (arith, eight, low-number))) ∙ ap (lookup (λ m. m == n)) pairs-new ∙ lookup-at n new listed.0 m.0.1 apart there)
           (omega (arith, low, up))
 
@@ -189,12 +189,12 @@ module _ (st : ℕ) (ft : Option RunFault) (g : Given) (what : Asked) (files : L
   names-left = names-of-modes l.files.files ∙ ap (map (λ (m : FileMode). m.name)) (left.modes ∙ ap (λ (f : FilesSeen). map mode_of f.files) started.placed)
       ∙ sym (names-of-modes made.files) ∙ ap (map (λ (v : VnodeSeen). v.info.name)) ready.placed.fresh ∙ names-fresh files
 
-  closed-same : (replay (opening_flat plan (disk_sizes a.disks) files) l.history.entries).files ≡ (flat_closed what files (bare new) l.history.entries).files
+  closed-same : (replay (opening_flat plan (disk_sizes a.disks) files) l.history.entries).files ≡ (flat_closed what files (bare_disks new) l.history.entries).files
   closed-same = ap (λ (F : Flat). (replay F l.history.entries).files) flat-same
 
-  stored : l.fault ≡ None → DisksTell g what ended → StoreFiles new (infos_made l.files) (flat_bytes (flat_closed what files (bare new) l.history.entries).files)
+  stored : l.fault ≡ None → DisksTell g what ended → StoreFiles new (infos_made l.files) (flat_bytes (flat_closed what files (bare_disks new) l.history.entries).files)
   stored none t = subst (λ fs. StoreFiles new (infos_made l.files) (flat_bytes fs)) closed-same
-      (stored-kept l.files l.disks new left.lie w _ (subst (λ (f : Option DiskFault). IfNone f (HaveTold (bare l.disks) l.swap
+      (stored-kept l.files l.disks new left.lie w _ (subst (λ (f : Option DiskFault). IfNone f (HaveTold (bare_disks l.disks) l.swap
       → StoreFiles l.disks (infos_made l.files) (flat_bytes (replay (opening_flat plan (disk_sizes a.disks) files) l.history.entries).files))) none left.stored (told-left t.disks)))
 
   modes-left : modes_in (infos_made l.files) ≡ modes_in (infos_of files)
@@ -207,7 +207,7 @@ module _ (st : ℕ) (ft : Option RunFault) (g : Given) (what : Asked) (files : L
     modes = modes-left;
     records = λ t. left.infos (told-left t.disks) ∙ ap (λ ns. infos_in_flat ns (replay (opening_flat plan (disk_sizes a.disks) files) l.history.entries).files) names-left
         ∙ ap (infos_in_flat (names_of files)) closed-same;
-    stored = λ t. subst (λ (d : List (ℕ × DiskSeen)). StoreFiles d (infos_made l.files) (flat_bytes (flat_closed what files (bare new) l.history.entries).files)) (sym pairs-new) (stored none t);
+    stored = λ t. subst (λ (d : List (ℕ × DiskSeen)). StoreFiles d (infos_made l.files) (flat_bytes (flat_closed what files (bare_disks new) l.history.entries).files)) (sym pairs-new) (stored none t);
   }
 
   -- the files were closed
@@ -222,10 +222,10 @@ module _ (st : ℕ) (ft : Option RunFault) (g : Given) (what : Asked) (files : L
         let v = in-map (λ (v : VnodeSeen). v.info) l.files.files k info at in
         let there = have.there k v.0 v.1 in
         let disk : ℕ × DiskSeen = (v.0.info.disk, there.1) in
-        let told = All-slice_get (λ (d : DiskSeen). IsSome d.content) (bare new) there.0 there.1 t.disks.each (at-map (λ (p : ℕ × DiskSeen). p.1) new there.0 disk there.2) in
+        let told = All-slice_get (λ (d : DiskSeen). IsSome d.content) (bare_disks new) there.0 there.1 t.disks.each (at-map (λ (p : ℕ × DiskSeen). p.1) new there.0 disk there.2) in
         let own : info.disk ≡ v.0.info.disk = ap (λ (i : FileInfo). i.disk) (sym v.2) in
         both there.1.content (shown k) _ info told (are.told there.0 k disk info there.2 at own)
-        (subst (λ (i : FileInfo). IfSome there.1.content (λ blocks. stored_bytes blocks i ≡ flat_bytes (flat_closed what files (bare new) l.history.entries).files k)) (at-place (infos_made l.files) k info at)
+        (subst (λ (i : FileInfo). IfSome there.1.content (λ blocks. stored_bytes blocks i ≡ flat_bytes (flat_closed what files (bare_disks new) l.history.entries).files k)) (at-place (infos_made l.files) k info at)
         (stored none t there.0 k disk there.2 (within (infos_made l.files) k info at) (ap (λ (i : FileInfo). i.disk) (at-place (infos_made l.files) k info at) ∙ own)));
   }
     where
@@ -246,12 +246,12 @@ module _ (st : ℕ) (ft : Option RunFault) (g : Given) (what : Asked) (files : L
 
   -- a fault of a disk that came back, counted since the kernel was closed
   pub late-cause : (f : DiskFault) (i : ℕ) (disk : DiskSeen) → f.disk < 8 → HaveDisks l.files new → slice_get new i ≡ Some (f.disk, disk) → f.after ≡ disk.faults
-      → ((count : ℕ) × (slice_index_or l.history.faults f.disk None ≡ Some count) × (count ≤ f.before)) → HasLateCause what.plan l.history (bare new) l.swap f
+      → ((count : ℕ) × (slice_index_or l.history.faults f.disk None ≡ Some count) × (count ≤ f.before)) → HasLateCause what.plan l.history (bare_disks new) l.swap f
   late-cause f i disk low have at last since = record {
     counted = record {
       risen = f.risen;
       disk = disk;
-      back = ap (λ b. if◌then◌else◌ b l.swap (lookup (λ m. m == f.disk) (plan_disks what.plan (bare new)))) (other f.disk low)
+      back = ap (λ b. if◌then◌else◌ b l.swap (lookup (λ m. m == f.disk) (plan_disks what.plan (bare_disks new)))) (other f.disk low)
           ∙ ap (lookup (λ m. m == f.disk)) pairs-new ∙ lookup-at f.disk new i disk (λ j k x y xj yk is. have.numbers j k x y xj yk is) at;
       last = last;
     };

@@ -4,7 +4,7 @@ use Rattle.std.proofs.Common.{ap, sym, ◌∙◌, refl, arith}
 use Rattle.std.proofs.lemmas.List.{length-map}
 use Rattle.block_device.specs.DiskSeen.{DiskSeen}
 use Rattle.block_device.specs.declared.numbered.NumberedDisk.{NumberedDisk}
-use Rattle.sunvm.specs.Attached.{bare, numbered_seen}
+use Rattle.sunvm.specs.Attached.{bare_disks, numbered_seen}
 use Rattle.sunvm.specs.Handed.{IsSwapFor, handed_count, swap_count}
 
 swap-mapped : {B E : Type 0} (g : B → E) (w : Option B) → swap_count (option_map g w) ≡ swap_count w
@@ -29,13 +29,13 @@ count-seen f g h k ds es w v disks swap =
     let swaps = sym (swap-mapped g w) ∙ ap swap_count swap ∙ swap-mapped k v in
     omega (arith, long, swaps)
 
-pub length-bare : {D : Type 0} (seen : D → DiskSeen) (es : List (NumberedDisk D)) → length (bare (map (numbered_seen seen) es)) ≡ length es
-length-bare seen es = length-map (map (numbered_seen seen) es) (λ (d : ℕ × DiskSeen). d.1) ∙ length-map es (numbered_seen seen)
+pub length-bare_disks : {D : Type 0} (seen : D → DiskSeen) (es : List (NumberedDisk D)) → length (bare_disks (map (numbered_seen seen) es)) ≡ length es
+length-bare_disks seen es = length-map (map (numbered_seen seen) es) (λ (d : ℕ × DiskSeen). d.1) ∙ length-map es (numbered_seen seen)
 
-pub count-handed : {D : Type 0} (seen : D → DiskSeen) (ds : List D) (es : List (NumberedDisk D)) (w : Option D) (v : Option (NumberedDisk D)) → map seen ds ≡ bare (map (numbered_seen seen) es)
+pub count-handed : {D : Type 0} (seen : D → DiskSeen) (ds : List D) (es : List (NumberedDisk D)) (w : Option D) (v : Option (NumberedDisk D)) → map seen ds ≡ bare_disks (map (numbered_seen seen) es)
     → option_map seen w ≡ option_map (λ (d : NumberedDisk D). seen d.disk) v → handed_count ds w ≡ handed_count es v
 count-handed {D} seen ds es w v disks swap =
-    let long = sym (length-map ds seen) ∙ ap (λ (l : List DiskSeen). length l) disks ∙ length-bare seen es in
+    let long = sym (length-map ds seen) ∙ ap (λ (l : List DiskSeen). length l) disks ∙ length-bare_disks seen es in
     let swaps = sym (swap-mapped seen w) ∙ ap swap_count swap ∙ swap-mapped (λ (d : NumberedDisk D). seen d.disk) v in
     omega (arith, long, swaps)
 

@@ -11,7 +11,7 @@ use Rattle.block_device.specs.DiskSeen.{DiskSeen}
 use Rattle.vnode_files.specs.Files.{FilesSeen}
 use Rattle.vm_script.specs.PlanSeen.{PlanSeen}
 use Rattle.page_store.specs.Bays.{pairs_seen}
-use Rattle.sunvm.specs.Attached.{bare}
+use Rattle.sunvm.specs.Attached.{bare_disks}
 use Rattle.sunvm.specs.Handed.{disk_numbers}
 use Rattle.sunvm.proofs.HandLemmas.{plan-numbers}
 use Rattle.sunvm.specs.Written.{HaveDisks, HaveFirstBlocks, KeepsBlocks, WriteTables, OnlyReads, AreOnlyRead, disk_sizes}
@@ -96,7 +96,7 @@ same-image f (x ∷ xs) (y ∷ ys) c h =
     ap (λ z. z ∷ map f ys) (h 0 x y refl refl) ∙ ap (λ l. f x ∷ l) (same-image f xs ys (omega (arith, c)) (λ i a b ai bi. h (suc i) a b ai bi))
 
 -- disks as their numbers and themselves
-pub zip-back : (disks : List (ℕ × DiskSeen)) → zip (map number disks) (bare disks) ≡ disks
+pub zip-back : (disks : List (ℕ × DiskSeen)) → zip (map number disks) (bare_disks disks) ≡ disks
 zip-back [] = refl
 zip-back (d ∷ disks) = ap (λ l. d ∷ l) (zip-back disks)
 
@@ -138,9 +138,9 @@ pub low-disks : (plan : PlanSeen) (disks : List (ℕ × DiskSeen)) → map numbe
 low-disks plan disks same i d at = low-number (disk_numbers plan) (plan-numbers plan).0 i d.0 (ap (λ (l : List ℕ). slice_get l i) (sym same) ∙ at-map number disks i d at)
 
 -- the disks without their numbers
-pub seen-bare : {D : Type 0} (seen : D → DiskSeen) (xs : List (ℕ × D)) → map seen (map (λ (d : ℕ × D). d.1) xs) ≡ bare (pairs_seen seen xs)
-seen-bare seen [] = refl
-seen-bare seen (x ∷ xs) = ap (λ (l : List DiskSeen). seen x.1 ∷ l) (seen-bare seen xs)
+pub seen-bare_disks : {D : Type 0} (seen : D → DiskSeen) (xs : List (ℕ × D)) → map seen (map (λ (d : ℕ × D). d.1) xs) ≡ bare_disks (pairs_seen seen xs)
+seen-bare_disks seen [] = refl
+seen-bare_disks seen (x ∷ xs) = ap (λ (l : List DiskSeen). seen x.1 ∷ l) (seen-bare_disks seen xs)
 
 -- disks of the same sizes have a first block
 pub first-same : (old new : List (ℕ × DiskSeen)) → map number new ≡ map number old → map (λ (d : ℕ × DiskSeen). d.1.size) new ≡ map (λ (d : ℕ × DiskSeen). d.1.size) old

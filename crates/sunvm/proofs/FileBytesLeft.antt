@@ -9,7 +9,7 @@ use Rattle.std.proofs.lemmas.Option.{slice_get-get_or, slice_get_within}
 use Rattle.block_device.specs.DiskSeen.{DiskSeen, HasBlocks}
 use Rattle.block_device.specs.declared.disk_fault.DiskFault.{DiskFault}
 use Rattle.page_hash.specs.declared.PageName.{PageName}
-use Rattle.page_store.specs.Bytes.{clipped}
+use Rattle.page_store.specs.Bytes.{clip}
 use Rattle.page_store.specs.Notes.{no_notes}
 use Rattle.vm_types.specs.Pages.{bytes_before}
 use Rattle.vm_types.specs.declared.call.Entry.{Entry}
@@ -39,7 +39,7 @@ use Rattle.vm_world.specs.StateFits.{StateFits}
 use Rattle.vm_world.specs.World.{AllTell, file_name}
 use Rattle.vm_world.proofs.FilePages.{file-in, length-files_with_pages, length-pages_from, page-in}
 use Rattle.vm_world.proofs.PageNames.{file-apart, index-of, not-slot}
-use Rattle.sunvm.specs.Attached.{bare}
+use Rattle.sunvm.specs.Attached.{bare_disks}
 use Rattle.sunvm.specs.Closed.{StoreFiles, flat_bytes, info_at}
 use Rattle.sunvm.specs.Handed.{HaveTold}
 use Rattle.sunvm.specs.Opened.{stored_bytes}
@@ -90,8 +90,8 @@ cut-same (suc n) (b ∷ bs) (p ∷ ps) long_b long_p same =
     ]
 
 -- what is clipped alike begins alike
-front-of-clipped : (valid : ℕ) (b p : List ℕ) → length b ≡ 4096 → length p ≡ 4096 → valid ≤ 4096 → clipped valid b ≡ clipped valid p → take valid b ≡ take valid p
-front-of-clipped valid b p whole_b whole_p le same =
+front-of-clip : (valid : ℕ) (b p : List ℕ) → length b ≡ 4096 → length p ≡ 4096 → valid ≤ 4096 → clip valid b ≡ clip valid p → take valid b ≡ take valid p
+front-of-clip valid b p whole_b whole_p le same =
     let long_b : length (take valid b) ≡ valid = let e = length-take valid b in omega (arith, e, whole_b, le) in
     let long_p : length (take valid p) ≡ valid = let e = length-take valid p in omega (arith, e, whole_p, le) in
     sym (take_at (take valid b) (replicate (4096 - valid) 0) valid long_b) ∙ ap (take valid) same ∙ take_at (take valid p) (replicate (4096 - valid) 0) valid long_p
@@ -137,7 +137,7 @@ module _ (F : Flat) (s t : KernelState) (l : LeftSeen) (event : IsEvent 0 s None
       ∙ ap (λ (b : Bool). Some (file_with_pages (λ (j : ℕ). cond b [] (page_of k j)) (info_of k))) (apart k lt))
 
   -- its pages are whole
-  page-whole : HaveTold (bare l.disks) l.swap → (k j : ℕ) → k < length l.files.files → j < pages_in (info_of k).length → length (page_of k j) ≡ 4096
+  page-whole : HaveTold (bare_disks l.disks) l.swap → (k j : ℕ) → k < length l.files.files → j < pages_in (info_of k).length → length (page_of k j) ≡ 4096
   page-whole told k j lt below =
       let fits = history-left F s t l event before c told in
       let flat : IsFlat (flat_memory t.memory t.born no_notes) = subst IsFlat (sym fits.shows) (IsFlat-tails_cleared (replay F t.history) (bit t.pending) fits.whole) in
@@ -157,10 +157,10 @@ module _ (F : Flat) (s t : KernelState) (l : LeftSeen) (event : IsEvent 0 s None
           ∙ ap (λ (is : List FileInfo). length is) (sym c.files.infos) ∙ length-map l.files.files (λ (v : VnodeSeen). v.info)
 
   -- ALL FILES ARE STORED.
-  pub stored-left : IfNone l.fault (HaveTold (bare l.disks) l.swap → StoreFiles l.disks (infos_made l.files) (flat_bytes (replay F l.history.entries).files))
+  pub stored-left : IfNone l.fault (HaveTold (bare_disks l.disks) l.swap → StoreFiles l.disks (infos_made l.files) (flat_bytes (replay F l.history.entries).files))
   stored-left = by_fault l.fault c.closed
     where
-      by_content : (k i : ℕ) (o : Option (List (List ℕ))) → HaveTold (bare l.disks) l.swap → k < length l.files.files → i < length l.disks → o ≡ (disk_at l.disks i).1.content → disk_of_file l.files k ≡ (disk_at l.disks i).0
+      by_content : (k i : ℕ) (o : Option (List (List ℕ))) → HaveTold (bare_disks l.disks) l.swap → k < length l.files.files → i < length l.disks → o ≡ (disk_at l.disks i).1.content → disk_of_file l.files k ≡ (disk_at l.disks i).0
           → IfSome o (λ blocks. (name : PageName) → IsFilePage old name → disk_of_file old name.object ≡ (disk_at l.disks i).0 → HoldsPage old blocks name (page_value t.memory.world no_notes name))
           → IfSome o (λ blocks. stored_bytes blocks (info_of k) ≡ take (info_of k).length (concat (pages_from (page_of k) 0 (pages_in (info_of k).length))))
       by_content k i None told lt inside is on_disk holds = tt
@@ -196,14 +196,14 @@ module _ (F : Flat) (s t : KernelState) (l : LeftSeen) (event : IsEvent 0 s None
               let count = blocks-whole.0 in
               let whole_b : length (slice_index_or blocks place []) ≡ 4096 = (blocks-whole.1 place (omega (arith, low, count))).0 in
               let whole_p : length (page_of k j) ≡ 4096 = page-whole told k j lt below in
-              let clips : clipped (bytes_before (info_of k).length j) (slice_index_or blocks place []) ≡ clipped (bytes_before (info_of k).length j) (page_of k j) =
-              subst (λ (i : FileInfo). clipped (bytes_before i.length j) (slice_index_or blocks (block_at i.extents j) []) ≡ clipped (bytes_before i.length j) (page_of k j)) (sym (info-kept old l.files c.files k))
+              let clips : clip (bytes_before (info_of k).length j) (slice_index_or blocks place []) ≡ clip (bytes_before (info_of k).length j) (page_of k j) =
+              subst (λ (i : FileInfo). clip (bytes_before i.length j) (slice_index_or blocks (block_at i.extents j) []) ≡ clip (bytes_before i.length j) (page_of k j)) (sym (info-kept old l.files c.files k))
               (holds name old_page (sym (disk-kept old l.files c.files k) ∙ on_disk)) in
               subst (λ (x : List ℕ). SameFront (bytes_before (info_of k).length j) x (at (pages_from (page_of k) 0 (pages_in (info_of k).length)) j)) (sym here_b)
               (subst (λ (y : List ℕ). SameFront (bytes_before (info_of k).length j) (slice_index_or blocks place []) y) (sym here_p)
-              (record { block = whole_b; page = whole_p; front = front-of-clipped (bytes_before (info_of k).length j) (slice_index_or blocks place []) (page_of k j) whole_b whole_p (omega arith) clips }))
+              (record { block = whole_b; page = whole_p; front = front-of-clip (bytes_before (info_of k).length j) (slice_index_or blocks place []) (page_of k j) whole_b whole_p (omega arith) clips }))
 
-      flat-bytes : HaveTold (bare l.disks) l.swap → (k : ℕ) → k < length l.files.files → take (info_of k).length (concat (pages_from (page_of k) 0 (pages_in (info_of k).length))) ≡ flat_bytes (replay F l.history.entries).files k
+      flat-bytes : HaveTold (bare_disks l.disks) l.swap → (k : ℕ) → k < length l.files.files → take (info_of k).length (concat (pages_from (page_of k) 0 (pages_in (info_of k).length))) ≡ flat_bytes (replay F l.history.entries).files k
       flat-bytes told k lt =
           let fits = history-left F s t l event before c told in
           let d : File = record { len = 0; disk = 0; extents = []; writable = false; pages = [] } in
@@ -213,7 +213,7 @@ module _ (F : Flat) (s t : KernelState) (l : LeftSeen) (event : IsEvent 0 s None
           ∙ ap (λ (H : List Entry). flat_bytes (replay F H).files k) (sym c.entries)
 
       by_fault : (o : Option DiskFault) → IfNone o (AllTell t.memory.world no_notes → HoldAllFiles t.memory.world l.disks)
-          → IfNone o (HaveTold (bare l.disks) l.swap → StoreFiles l.disks (infos_made l.files) (flat_bytes (replay F l.history.entries).files))
+          → IfNone o (HaveTold (bare_disks l.disks) l.swap → StoreFiles l.disks (infos_made l.files) (flat_bytes (replay F l.history.entries).files))
       by_fault (Some fault) closed = tt
       by_fault None closed = λ told i k disk there lt on_disk.
           let inside = slice_get_within l.disks i disk there in

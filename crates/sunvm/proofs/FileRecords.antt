@@ -28,7 +28,7 @@ use Rattle.vm_world.specs.Pages.{contents_of}
 use Rattle.vm_world.specs.State.{FileMode, Fixed, KernelState, mode_of}
 use Rattle.vm_world.specs.StateFits.{StateFits}
 use Rattle.vm_world.specs.World.{AllTell, world_table}
-use Rattle.sunvm.specs.Attached.{bare}
+use Rattle.sunvm.specs.Attached.{bare_disks}
 use Rattle.sunvm.specs.Closed.{info_at, info_in_flat, infos_in_flat}
 use Rattle.sunvm.specs.Handed.{HaveTold}
 use Rattle.sunvm.specs.Played.{LeftSeen, infos_made}
@@ -89,13 +89,13 @@ module _ (F : Flat) (s t : KernelState) (l : LeftSeen) (event : IsEvent 0 s None
       let low : k < length l.files.files = omega (arith, count, lt) in
       subst (λ (i : FileInfo). 1 ≤ length i.extents) (sym (record-at l.files k low)) ((are-left F s t l event before c).fits.some k low)
 
-  pub history-left : HaveTold (bare l.disks) l.swap → HistoryFits F t.history t.pending (flat_memory t.memory t.born no_notes)
+  pub history-left : HaveTold (bare_disks l.disks) l.swap → HistoryFits F t.history t.pending (flat_memory t.memory t.born no_notes)
   history-left told = (fits-after F s t event before).replays (all-tell F s t l event before c told)
 
-  pub legal-left : HaveTold (bare l.disks) l.swap → Legal F l.history.entries
+  pub legal-left : HaveTold (bare_disks l.disks) l.swap → Legal F l.history.entries
   legal-left told = subst (Legal F) (sym c.entries) (history-left told).legal
 
-  pub infos-left : HaveTold (bare l.disks) l.swap → infos_made l.files ≡ infos_in_flat (map (λ (v : VnodeSeen). v.info.name) l.files.files) (replay F l.history.entries).files
+  pub infos-left : HaveTold (bare_disks l.disks) l.swap → infos_made l.files ≡ infos_in_flat (map (λ (v : VnodeSeen). v.info.name) l.files.files) (replay F l.history.entries).files
   infos-left told =
       let fits = history-left told in
       let names = map (λ (v : VnodeSeen). v.info.name) l.files.files in
@@ -109,7 +109,7 @@ module _ (F : Flat) (s t : KernelState) (l : LeftSeen) (event : IsEvent 0 s None
       ∙ ap (λ (H : List Entry). infos_in_flat names (replay F H).files) (sym c.entries)
 
   -- THE DISKS TOLD AT THE START where they tell at the end: else any flat memory would do for the start, and those of one number of slots end with it.
-  pub told-left : HaveTold (bare l.disks) l.swap → AllTell s.memory.world no_notes
+  pub told-left : HaveTold (bare_disks l.disks) l.swap → AllTell s.memory.world no_notes
   told-left told name is = elim (cases_Bool (tells s.memory.world.store no_notes (world_table s.memory.world name).disk)) [
     | inl tell ↦ tell
     | inr silent ↦ absurd (never silent)

@@ -16,7 +16,7 @@ use Rattle.vnode_files.specs.Files.{block_count}
 use Rattle.volume_format.specs.Table.{TableSeen}
 use Rattle.vm_script.specs.PlanSeen.{PlanSeen}
 use Rattle.sunvm.specs.declared.ending.Refusal.{Refusal}
-use Rattle.sunvm.specs.Attached.{AreMounted, IsMounted, bare, numbered_seen}
+use Rattle.sunvm.specs.Attached.{AreMounted, IsMounted, bare_disks, numbered_seen}
 use Rattle.sunvm.specs.Handed.{AreAsGiven, disk_numbers, sizes_of}
 use Rattle.sunvm.specs.Mounting.{Holds}
 use Rattle.sunvm.specs.Opened.{AreTablesRead, ComesTo, IsTableRead, OpenedFile, RackSays, disk_specs, if_few, mounted_infos, size_among, table_on, with_line_files}
@@ -103,11 +103,11 @@ module _ {D : Type 0} (seen : D → DiskSeen) where
       }
 
 -- the sizes of disks that are handed back
-pub sizes-handed : (plan : PlanSeen) (disks : List (ℕ × DiskSeen)) → map (λ (d : ℕ × DiskSeen). d.0) disks ≡ disk_numbers plan → map sized disks ≡ sizes_of plan (bare disks)
-sizes-handed plan disks same = ap (map sized) (sym (ap (λ (ns : List ℕ). zip ns (bare disks)) (sym same) ∙ zip-back disks))
+pub sizes-handed : (plan : PlanSeen) (disks : List (ℕ × DiskSeen)) → map (λ (d : ℕ × DiskSeen). d.0) disks ≡ disk_numbers plan → map sized disks ≡ sizes_of plan (bare_disks disks)
+sizes-handed plan disks same = ap (map sized) (sym (ap (λ (ns : List ℕ). zip ns (bare_disks disks)) (sym same) ∙ zip-back disks))
 
 -- disks as the rack gave them are those of a front of the specs
-pub as-given : (holds : Holds) (specs rest : List Spec) (disks : List (ℕ × DiskSeen)) → AreGiven holds specs disks → AreAsGiven holds (specs ++ rest) (bare disks)
+pub as-given : (holds : Holds) (specs rest : List Spec) (disks : List (ℕ × DiskSeen)) → AreGiven holds specs disks → AreAsGiven holds (specs ++ rest) (bare_disks disks)
 as-given holds [] rest [] h i s d si di = absurd (none-some d di)
 as-given holds [] rest (y ∷ disks) h i s d si di = absurd h
 as-given holds (x ∷ specs) rest [] h i s d si di = absurd h

@@ -22,9 +22,9 @@ use Rattle.vm_script.specs.declared.plan.SetupLine.{SetupLine}
 use Rattle.vm_script.specs.PlanSeen.{PlanSeen}
 use Rattle.vm_script.specs.Rules.{gives_disk}
 use Rattle.sunvm.specs.declared.ending.Refusal.{Refusal}
-use Rattle.sunvm.specs.Attached.{AreMounted, numbered_seen, bare}
+use Rattle.sunvm.specs.Attached.{AreMounted, numbered_seen, bare_disks}
 use Rattle.sunvm.specs.Handed.{TellsSpec, HaveSpecSizes, HasSpecSize, disk_numbers}
-use Rattle.sunvm.specs.Opened.{OpenedFile, given_disk, disk_numbered, disk_specs, disks_held, blocks_held, size_held, mounted, if_few, with_line_files, opened}
+use Rattle.sunvm.specs.Opened.{OpenedFile, given_disk, disk_numbered, disk_specs, disks_held, blocks_held, size_held, mounted_files, if_few, with_line_files, opened_files}
 use Rattle.sunvm.specs.Placing.{Distinct, RemainsThere, RemainThere, found_files, attached_numbers}
 use Rattle.sunvm.proofs.FoundLemmas.{AllBlocks}
 use Rattle.sunvm.proofs.LineLemmas.{none-or-some}
@@ -113,7 +113,7 @@ spec-size (spec.Blank number n) h d e attached same = same ∙ attached.0
 spec-size (spec.Path number path) h d e attached same = tt
 
 pub spec-sizes : {D : Type 0} (seen : D → DiskSeen) (holds : Spec → Option (List (List ℕ))) (specs : List Spec) (ds es : List (NumberedDisk D)) (ts : List TableSeen)
-    → AreMounted holds specs (map (numbered_seen seen) ds) ts → SameDisks seen ds es → HaveSpecSizes specs (bare (map (numbered_seen seen) es))
+    → AreMounted holds specs (map (numbered_seen seen) ds) ts → SameDisks seen ds es → HaveSpecSizes specs (bare_disks (map (numbered_seen seen) es))
 spec-sizes seen holds [] [] [] [] m r = (refl, λ i s d none some. absurd (none-or-some s none))
 spec-sizes seen holds [] [] (e ∷ es) ts m r = absurd r
 spec-sizes seen holds [] [] [] (t ∷ ts) m r = absurd m
@@ -125,8 +125,8 @@ spec-sizes seen holds (s ∷ specs) (d ∷ ds) (e ∷ es) (t ∷ ts) m r =
     let rest = spec-sizes seen holds specs ds es ts m.1 r.1 in
     (ap suc rest.0, each rest.1)
   where
-    each : ((i : ℕ) (q : Spec) (x : DiskSeen) → slice_get specs i ≡ Some q → slice_get (bare (map (numbered_seen seen) es)) i ≡ Some x → HasSpecSize q x)
-        → (i : ℕ) (q : Spec) (x : DiskSeen) → slice_get (s ∷ specs) i ≡ Some q → slice_get (bare (map (numbered_seen seen) (e ∷ es))) i ≡ Some x → HasSpecSize q x
+    each : ((i : ℕ) (q : Spec) (x : DiskSeen) → slice_get specs i ≡ Some q → slice_get (bare_disks (map (numbered_seen seen) es)) i ≡ Some x → HasSpecSize q x)
+        → (i : ℕ) (q : Spec) (x : DiskSeen) → slice_get (s ∷ specs) i ≡ Some q → slice_get (bare_disks (map (numbered_seen seen) (e ∷ es))) i ≡ Some x → HasSpecSize q x
     each more zero q x is at =
         subst (λ (z : Spec). HasSpecSize z x) (same_Some s q is) (subst (λ (y : DiskSeen). HasSpecSize s y) (same_Some (seen e.disk) x at) (spec-size s (holds s) (seen d.disk) (seen e.disk) m.0.attached r.0.size))
     each more (suc i) q x is at = more i q x is at
@@ -184,10 +184,10 @@ sizes-held holds (s ∷ specs) (d ∷ ds) (t ∷ ts) m tells has n =
 -- THE FILES AS THEY ARE OPENED are those that were found, and then those of the lines
 pub opened-is : (holds : Spec → Option (List (List ℕ))) (plan : PlanSeen) (ds : List (ℕ × DiskSeen)) (ts : List TableSeen) → AreMounted holds (disk_specs plan.setup) ds ts
     → AllByRecursion (TellsSpec holds) (disk_specs plan.setup) → AllBlocks ds → TellOrEmpty ds ts
-    → opened plan holds ≡ with_line_files (block_count (finite.from_entries (map (λ (d : ℕ × DiskSeen). (d.0, d.1.size)) ds))) (if_few (Ok (found_files ds ts))) plan.setup
+    → opened_files plan holds ≡ with_line_files (block_count (finite.from_entries (map (λ (d : ℕ × DiskSeen). (d.0, d.1.size)) ds))) (if_few (Ok (found_files ds ts))) plan.setup
 opened-is holds plan ds ts m tells has empty =
     let sizes : size_held (disks_held holds (disk_specs plan.setup)) ≡ block_count (finite.from_entries (map (λ (d : ℕ × DiskSeen). (d.0, d.1.size)) ds)) =
     λ i n. sizes-held holds (disk_specs plan.setup) ds ts m tells has n i in
-    ap (λ (f : ℕ → ℕ). with_line_files f (if_few (mounted (disks_held holds (disk_specs plan.setup)))) plan.setup) sizes
+    ap (λ (f : ℕ → ℕ). with_line_files f (if_few (mounted_files (disks_held holds (disk_specs plan.setup)))) plan.setup) sizes
     ∙ ap (λ (r : Result (List OpenedFile) Refusal). with_line_files (block_count (finite.from_entries (map (λ (d : ℕ × DiskSeen). (d.0, d.1.size)) ds))) (if_few r) plan.setup)
     (mounted-found holds (disk_specs plan.setup) ds ts m tells empty)

@@ -9,7 +9,7 @@ use Rattle.vm_types.specs.declared.call.Entry.{Entry}
 use Rattle.block_device.specs.Counts.{HasRisen}
 use Rattle.block_device.specs.DiskSeen.{DiskSeen}
 use Rattle.block_device.specs.OpenSeen.{OpenFaultSeen}
-use Rattle.block_device.specs.StreamSeen.{SinkSeen, appended}
+use Rattle.block_device.specs.StreamSeen.{SinkSeen, text_with_more}
 use Rattle.block_device.specs.declared.disk_fault.DiskFault.{DiskFault}
 use Rattle.block_device.specs.declared.rack.Spec.{Spec}
 use Rattle.vm_core.specs.Finish.{HistorySeen}
@@ -78,7 +78,7 @@ told-front plan H told = record { lines_of = own_lines plan; front = λ p born. 
 silent : (k1 k2 : SinkSeen) → WroteOn k1 k2 [] [] → k2.written ≡ k1.written
 silent k1 k2 taken = elim taken [
   | inl all ↦ all ∙ sym (nothing_more k1.written)
-  | inr part ↦ part.1.1 ∙ ap (appended k1.written) (take-nil part.1.0) ∙ sym (nothing_more k1.written)
+  | inr part ↦ part.1.1 ∙ ap (text_with_more k1.written) (take-nil part.1.0) ∙ sym (nothing_more k1.written)
 ]
 
 risen-after : (a b c : ℕ) → HasRisen a b → b ≤ c → HasRisen a c

@@ -11,18 +11,18 @@ use Rattle.block_device.specs.RackSeen.{spec_number, IsAttached}
 use Rattle.block_device.specs.declared.rack.Spec.{Spec}
 use Rattle.block_device.specs.declared.rack.Spec.TheVariants as spec
 use Rattle.volume_format.specs.declared.rules.BadVolume.{BadVolume}
-use Rattle.volume_format.specs.Rules.{reading, told_by, first_failed, tests}
+use Rattle.volume_format.specs.Rules.{reading, table_or_rule, first_failed, tests}
 use Rattle.volume_format.specs.Layout.{are_zeros, table_in}
 use Rattle.volume_format.specs.Table.{TableSeen, empty_table}
 use Rattle.vm_script.specs.Rules.{is_from_to}
 use Rattle.sunvm.specs.declared.ending.Refusal.{Refusal}
 use Rattle.sunvm.specs.declared.ending.Refusal.TheVariants as refusal
-use Rattle.sunvm.specs.Attached.{IsMounted, AreMounted, bare}
+use Rattle.sunvm.specs.Attached.{IsMounted, AreMounted, bare_disks}
 use Rattle.sunvm.specs.Handed.{HasSpecSize, HaveSpecSizes}
 use Rattle.volume_format.specs.Volume.{IsVolumeTable}
 use Rattle.sunvm.specs.declared.ending.Ending.{Ending}
 use Rattle.sunvm.specs.Mounting.{Holds, IsGiven, SaysTableRead}
-use Rattle.sunvm.specs.Opened.{OpenedFile, blocks_held, disks_held, table_read, table_on, with_mounted, mounted}
+use Rattle.sunvm.specs.Opened.{OpenedFile, blocks_held, disks_held, table_read, table_on, with_mounted, mounted_files}
 use Rattle.sunvm.specs.Written.{OnlyReads}
 use Rattle.sunvm.proofs.MountSpecs.{AreLow}
 
@@ -79,14 +79,14 @@ spec_size : (s : Spec) (h : Option (List (List ℕ))) (d : DiskSeen) → IsAttac
 spec_size (spec.Blank number blocks) h d a = a.0
 spec_size (spec.Path number path) h d a = tt
 
-pub given_length : (holds : Holds) (specs : List Spec) (disks : List (ℕ × DiskSeen)) → AreGiven holds specs disks → length (bare disks) ≡ length specs
+pub given_length : (holds : Holds) (specs : List Spec) (disks : List (ℕ × DiskSeen)) → AreGiven holds specs disks → length (bare_disks disks) ≡ length specs
 given_length holds [] [] h = refl
 given_length holds (s ∷ specs) (d ∷ disks) h = ap suc (given_length holds specs disks h.1)
 given_length holds [] (d ∷ disks) h = absurd h
 given_length holds (s ∷ specs) [] h = absurd h
 
 size_at : (holds : Holds) (specs : List Spec) (disks : List (ℕ × DiskSeen)) → AreGiven holds specs disks → (i : ℕ) (s : Spec) (d : DiskSeen)
-    → slice_get specs i ≡ Some s → slice_get (bare disks) i ≡ Some d → HasSpecSize s d
+    → slice_get specs i ≡ Some s → slice_get (bare_disks disks) i ≡ Some d → HasSpecSize s d
 size_at holds [] [] h i s d es ed = absurd (cc es)
 size_at holds [] (y ∷ disks) h i s d es ed = absurd h
 size_at holds (x ∷ specs) [] h i s d es ed = absurd h
@@ -97,20 +97,20 @@ size_at holds (x ∷ specs) (y ∷ disks) h zero s d es ed =
 size_at holds (x ∷ specs) (y ∷ disks) h (suc i) s d es ed = size_at holds specs disks h.1 i s d es ed
 
 pub front_sizes : (holds : Holds) (specs rest : List Spec) (disks : List (ℕ × DiskSeen)) → AreGiven holds specs disks
-    → HaveSpecSizes (take (length (bare disks)) (specs ++ rest)) (bare disks)
+    → HaveSpecSizes (take (length (bare_disks disks)) (specs ++ rest)) (bare_disks disks)
 front_sizes holds specs rest disks h =
-    let e : take (length (bare disks)) (specs ++ rest) ≡ specs = ap (λ n. take n (specs ++ rest)) (given_length holds specs disks h) ∙ take-append_seam specs rest in
-    subst (λ xs. HaveSpecSizes xs (bare disks)) (sym e) (given_length holds specs disks h, size_at holds specs disks h)
+    let e : take (length (bare_disks disks)) (specs ++ rest) ≡ specs = ap (λ n. take n (specs ++ rest)) (given_length holds specs disks h) ∙ take-append_seam specs rest in
+    subst (λ xs. HaveSpecSizes xs (bare_disks disks)) (sym e) (given_length holds specs disks h, size_at holds specs disks h)
 
 pub lookup_given : (holds : Holds) (specs : List Spec) (disks : List (ℕ × DiskSeen)) (number : ℕ) (d : DiskSeen) (more : List ℕ) → AreGiven holds specs disks → AreLow number specs
-    → lookup (λ n. n == number) (zip (map spec_number specs ++ number ∷ more) (bare disks ++ d ∷ [])) ≡ Some d
+    → lookup (λ n. n == number) (zip (map spec_number specs ++ number ∷ more) (bare_disks disks ++ d ∷ [])) ≡ Some d
 lookup_given holds [] [] number d more h low =
     let here : (number == number) ≡ true = grind (arith, nat_tests) in
     ap (λ b. cond b (Some d) (lookup (λ n. n == number) (zip more []))) here
 lookup_given holds (s ∷ specs) (x ∷ disks) number d more h low =
     let lt = low.0 in
     let other : (spec_number s == number) ≡ false = grind (arith, nat_tests, lt) in
-    ap (λ b. cond b (Some x.1) (lookup (λ n. n == number) (zip (map spec_number specs ++ number ∷ more) (bare disks ++ d ∷ [])))) other
+    ap (λ b. cond b (Some x.1) (lookup (λ n. n == number) (zip (map spec_number specs ++ number ∷ more) (bare_disks disks ++ d ∷ [])))) other
     ∙ lookup_given holds specs disks number d more h.1 low.1
 lookup_given holds [] (x ∷ disks) number d more h low = absurd h
 lookup_given holds (s ∷ specs) [] number d more h low = absurd h
@@ -132,12 +132,12 @@ abbrev pub Told : DiskSeen → Type 0
 Told d = IsSome d.content
 
 pub mounted_err : (holds : Holds) (specs rest : List Spec) (disks : List (ℕ × DiskSeen)) (tables : List TableSeen) (r : Refusal) → AreMounted holds specs disks tables
-    → All Told (bare disks) → mounted (disks_held holds rest) ≡ Err r → mounted (disks_held holds (specs ++ rest)) ≡ Err r
+    → All Told (bare_disks disks) → mounted_files (disks_held holds rest) ≡ Err r → mounted_files (disks_held holds (specs ++ rest)) ≡ Err r
 mounted_err holds [] rest [] [] r h told e = e
 mounted_err holds (s ∷ specs) rest (d ∷ disks) (t ∷ tables) r h told e =
-    let ih = mounted_err holds specs rest disks tables r h.1 (All-tail Told d.1 (bare disks) told) e in
-    let here = told_table s holds d.1 (Ok t) h.0.attached (All-head Told d.1 (bare disks) told) h.0.read in
-    ap (λ (x : Result TableSeen ℕ). with_mounted (spec_number s, blocks_held holds s) x (mounted (disks_held holds (specs ++ rest)))) here
+    let ih = mounted_err holds specs rest disks tables r h.1 (All-tail Told d.1 (bare_disks disks) told) e in
+    let here = told_table s holds d.1 (Ok t) h.0.attached (All-head Told d.1 (bare_disks disks) told) h.0.read in
+    ap (λ (x : Result TableSeen ℕ). with_mounted (spec_number s, blocks_held holds s) x (mounted_files (disks_held holds (specs ++ rest)))) here
     ∙ ap (λ (x : Result (List OpenedFile) Refusal). with_mounted (spec_number s, blocks_held holds s) (Ok t) x) ih
 mounted_err holds [] rest [] (t ∷ tables) r h told e = absurd h
 mounted_err holds [] rest (d ∷ disks) [] r h told e = absurd h
@@ -147,9 +147,9 @@ mounted_err holds (s ∷ specs) rest [] (t ∷ tables) r h told e = absurd h
 mounted_err holds (s ∷ specs) rest (d ∷ disks) [] r h told e = absurd h
 
 pub mounted_here : (holds : Holds) (s : Spec) (rest : List Spec) (d : DiskSeen) (rule : ℕ) → IsAttached s (holds s) d → IsSome d.content → IfSome d.content (λ blocks. table_on blocks ≡ Err rule)
-    → mounted (disks_held holds (s ∷ rest)) ≡ Err (refusal.Volume (spec_number s) rule)
+    → mounted_files (disks_held holds (s ∷ rest)) ≡ Err (refusal.Volume (spec_number s) rule)
 mounted_here holds s rest d rule a some h =
-    ap (λ (x : Result TableSeen ℕ). with_mounted (spec_number s, blocks_held holds s) x (mounted (disks_held holds rest))) (told_table s holds d (Err rule) a some h)
+    ap (λ (x : Result TableSeen ℕ). with_mounted (spec_number s, blocks_held holds s) x (mounted_files (disks_held holds rest))) (told_table s holds d (Err rule) a some h)
 
 pub all_last : (disks : List DiskSeen) (d : DiskSeen) → All Told (disks ++ d ∷ []) → All Told disks × Told d
 all_last [] d h = (All-nil Told, All-head Told d [] h)
@@ -162,11 +162,11 @@ reading_blocks : (block : List ℕ) (size : ℕ) (t : TableSeen) → reading blo
 unfolding reading
 reading_blocks block size t e = at (are_zeros block) e
   where
-    by_rule : (o : Option ℕ) → told_by block size o ≡ Ok t → t.blocks ≡ size
+    by_rule : (o : Option ℕ) → table_or_rule block size o ≡ Ok t → t.blocks ≡ size
     by_rule None e = let same : table_in block size ≡ t = cc e in sym (ap (λ (x : TableSeen). x.blocks) same)
     by_rule (Some rule) e = absurd (cc e)
 
-    at : (b : Bool) → (if b then Ok (empty_table size) else told_by block size (first_failed (tests block size))) ≡ Ok t → t.blocks ≡ size
+    at : (b : Bool) → (if b then Ok (empty_table size) else table_or_rule block size (first_failed (tests block size))) ≡ Ok t → t.blocks ≡ size
     at true e = let same : empty_table size ≡ t = cc e in sym (ap (λ (x : TableSeen). x.blocks) same)
     at false e = by_rule (first_failed (tests block size)) e
 

@@ -9,7 +9,7 @@ use Rattle.vm_script.specs.PlanSeen.{PlanSeen}
 use Rattle.vm_script.specs.Rules.{amounts_of}
 use Rattle.sunvm.specs.declared.ending.Ending.{Ending}
 use Rattle.sunvm.specs.declared.ending.Stop.{Stop}
-use Rattle.sunvm.specs.Attached.{StopsEarly, bare, numbered_seen}
+use Rattle.sunvm.specs.Attached.{StopsEarly, bare_disks, numbered_seen}
 use Rattle.sunvm.specs.Handed.{IsSwapAsGiven, IsSwapFor}
 use Rattle.sunvm.specs.Mounting.{Holds, HaltsNumber, Halts}
 use Rattle.sunvm.proofs.MountStops.{ungiven_later, Stopped, stopped}
@@ -30,7 +30,7 @@ halts_later setup holds old mid new disks how le h =
     )
 
 pub stopped_later : (plan : PlanSeen) (holds : Holds) (old mid new : ℕ) (swap : Option DiskSeen) (disks : List (ℕ × DiskSeen)) (how : Ending) → old ≤ mid → IsSwapFor (amounts_of plan.setup).slots swap → IsSwapAsGiven (amounts_of plan.setup).slots swap
-    → Halts plan.setup holds mid new disks how → Stopped plan holds old new (bare disks) swap how
+    → Halts plan.setup holds mid new disks how → Stopped plan holds old new (bare_disks disks) swap how
 stopped_later plan holds old mid new swap disks how le swaps blank h = stopped plan holds old new swap disks how swaps blank (halts_later plan.setup holds old mid new disks how le h)
 
 pub err_then : {T E : Type 0} (r : Result T E) (P Q : E → Type 0) → ((e : E) → P e → Q e) → IfErr r P → IfErr r Q
@@ -38,7 +38,7 @@ err_then (Ok x) P Q f h = tt
 err_then (Err e) P Q f h = f e h
 
 module _ {D : Type 0} (seen : D → DiskSeen) where
-  same_disks : (disks : List (NumberedDisk D)) → bare (map (numbered_seen seen) disks) ≡ map seen (map (λ (d : NumberedDisk D). d.disk) disks)
+  same_disks : (disks : List (NumberedDisk D)) → bare_disks (map (numbered_seen seen) disks) ≡ map seen (map (λ (d : NumberedDisk D). d.disk) disks)
   same_disks [] = refl
   same_disks (d ∷ disks) = ap (λ ds. seen d.disk ∷ ds) (same_disks disks)
 
@@ -49,9 +49,9 @@ module _ {D : Type 0} (seen : D → DiskSeen) where
   pub early : (plan : PlanSeen) (holds : Holds) (old new : ℕ) (s : Stop D) (disks : List (NumberedDisk D)) (swap : Option (NumberedDisk D)) (how : Ending)
       → s.ending ≡ how → s.history.entries ≡ [] → s.history.faults ≡ [] → s.disks.items ≡ map (λ (d : NumberedDisk D). d.disk) disks
       → s.swap ≡ option_map (λ (d : NumberedDisk D). d.disk) swap
-      → Stopped plan holds old new (bare (map (numbered_seen seen) disks)) (option_map (λ (d : NumberedDisk D). seen d.disk) swap) how → StopsEarly plan holds old new seen s
+      → Stopped plan holds old new (bare_disks (map (numbered_seen seen) disks)) (option_map (λ (d : NumberedDisk D). seen d.disk) swap) how → StopsEarly plan holds old new seen s
   early plan holds old new s disks swap how ends entries counts back last h =
-      let items : bare (map (numbered_seen seen) disks) ≡ map seen s.disks.items = same_disks disks ∙ ap (map seen) (sym back) in
+      let items : bare_disks (map (numbered_seen seen) disks) ≡ map seen s.disks.items = same_disks disks ∙ ap (map seen) (sym back) in
       let other : option_map (λ (d : NumberedDisk D). seen d.disk) swap ≡ option_map seen s.swap = same_swap swap ∙ ap (option_map seen) (sym last) in
       let a : Stopped plan holds old new (map seen s.disks.items) (option_map (λ (d : NumberedDisk D). seen d.disk) swap) how =
       subst (λ (ds : List DiskSeen). Stopped plan holds old new ds (option_map (λ (d : NumberedDisk D). seen d.disk) swap) how) items h in

@@ -18,10 +18,10 @@ use Rattle.sunvm.specs.declared.ending.Ending.{Ending}
 use Rattle.sunvm.specs.declared.ending.Ending.TheVariants as ending
 use Rattle.sunvm.specs.declared.ending.Refusal.{Refusal}
 use Rattle.sunvm.specs.declared.ending.Refusal.TheVariants as refusal
-use Rattle.sunvm.specs.Attached.{AreMounted, StopCause, HandsStopped, bare}
+use Rattle.sunvm.specs.Attached.{AreMounted, StopCause, HandsStopped, bare_disks}
 use Rattle.sunvm.specs.Handed.{HaveTold, HaveSpecSizes, IsSwapAsGiven, IsSwapFor, IsCountedBy, AreAsGiven, AreUntouched, HandsFront, HandsBelow, HandsNone, HandsUnracked, disk_numbers, disk_handed}
 use Rattle.sunvm.specs.Mounting.{Holds, specs_below, IsGiven, UnreadCause, UngivenCause, MountsOne, MountsNumber, HaltsBare, HaltsSpec, HaltsNumber, Halts}
-use Rattle.sunvm.specs.Opened.{OpenedFile, disk_numbered, disk_specs, disks_held, mounted, opened, size_held, if_few, with_line_files, table_on}
+use Rattle.sunvm.specs.Opened.{OpenedFile, disk_numbered, disk_specs, disks_held, mounted_files, opened_files, size_held, if_few, with_line_files, table_on}
 use Rattle.sunvm.proofs.BrokenDisks.{broken-behind}
 use Rattle.sunvm.proofs.FaultCauses.{if-counted}
 use Rattle.sunvm.proofs.GivenFiles.{as-given}
@@ -89,7 +89,7 @@ halted setup number holds others old mid new front disks tables how below agree 
           ],
         )
 
-pub opened_err : (plan : PlanSeen) (holds : Holds) (r : Refusal) → mounted (disks_held holds (disk_specs plan.setup)) ≡ Err r → opened plan holds ≡ Err r
+pub opened_err : (plan : PlanSeen) (holds : Holds) (r : Refusal) → mounted_files (disks_held holds (disk_specs plan.setup)) ≡ Err r → opened_files plan holds ≡ Err r
 opened_err plan holds r e =
     ap (λ (m : Result (List OpenedFile) Refusal). with_line_files (size_held (disks_held holds (disk_specs plan.setup))) (if_few m) plan.setup) e
 
@@ -99,15 +99,15 @@ swap_front slots (Some d) h = h
 
 -- What is handed back where the disks of the numbers below one are attached.
 module _ (plan : PlanSeen) (holds : Holds) (swap : Option DiskSeen) (swaps : IsSwapFor (amounts_of plan.setup).slots swap) (m k : ℕ) (count : m + k ≡ 8) (disks : List (ℕ × DiskSeen)) (given : AreGiven holds (specs_below plan.setup m) disks) where
-  pub hands_front : HandsFront plan (bare disks) swap
+  pub hands_front : HandsFront plan (bare_disks disks) swap
   hands_front = record {
-    each = subst (λ xs. HaveSpecSizes (take (length (bare disks)) xs) (bare disks)) (sym (specs_split plan.setup m k 8 count))
+    each = subst (λ xs. HaveSpecSizes (take (length (bare_disks disks)) xs) (bare_disks disks)) (sym (specs_split plan.setup m k 8 count))
         (front_sizes holds (specs_below plan.setup m) (specs_from plan.setup m k) disks given);
     first = swap_front (amounts_of plan.setup).slots swap swaps;
     before = λ some. swaps;
   }
 
-  pub hands_below : (p : ℕ → Bool) → ((x : ℕ) → x < m → p x ≡ true) → ((x : ℕ) → m ≤ x → p x ≡ false) → HandsBelow plan p (bare disks) swap
+  pub hands_below : (p : ℕ → Bool) → ((x : ℕ) → x < m → p x ≡ true) → ((x : ℕ) → m ≤ x → p x ≡ false) → HandsBelow plan p (bare_disks disks) swap
   hands_below p passing failing = record {
     each = hands_front;
     first = swaps;
@@ -119,13 +119,13 @@ not_eight number lt = grind (arith, nat_tests, lt)
 
 module _ (plan : PlanSeen) (holds : Holds) (old new : ℕ) (swap : Option DiskSeen) (swaps : IsSwapFor (amounts_of plan.setup).slots swap) (blank : IsSwapAsGiven (amounts_of plan.setup).slots swap) (number k : ℕ) (all : number + suc k ≡ 8)
     (front : List (ℕ × DiskSeen)) (tables : List TableSeen) (before : AreMounted holds (specs_below plan.setup number) front tables) where
-  unasked_stop : HandsStopped plan (bare front) swap ending.Memory × StopCause plan holds old new (bare front) swap ending.Memory
+  unasked_stop : HandsStopped plan (bare_disks front) swap ending.Memory × StopCause plan holds old new (bare_disks front) swap ending.Memory
   unasked_stop = (hands_front plan holds swap swaps number (suc k) all front (given_of_mounted holds (specs_below plan.setup number) front tables before), tt)
 
   -- nothing was written
-  untouched : (m rest : ℕ) → m + rest ≡ 8 → (disks : List (ℕ × DiskSeen)) → AreGiven holds (specs_below plan.setup m) disks → AreUntouched plan holds (bare disks) swap
+  untouched : (m rest : ℕ) → m + rest ≡ 8 → (disks : List (ℕ × DiskSeen)) → AreGiven holds (specs_below plan.setup m) disks → AreUntouched plan holds (bare_disks disks) swap
   untouched m rest count disks given = record {
-    each = subst (λ xs. AreAsGiven holds xs (bare disks)) (sym (specs_split plan.setup m rest 8 count)) (as-given holds (specs_below plan.setup m) (specs_from plan.setup m rest) disks given);
+    each = subst (λ xs. AreAsGiven holds xs (bare_disks disks)) (sym (specs_split plan.setup m rest 8 count)) (as-given holds (specs_below plan.setup m) (specs_from plan.setup m rest) disks given);
     last = blank;
   }
 
@@ -142,22 +142,22 @@ module _ (plan : PlanSeen) (holds : Holds) (old new : ℕ) (swap : Option DiskSe
     named = subst (λ ns. Contains ns number) (sym numbers_now)
         (Contains-append_right (map spec_number (specs_below plan.setup number)) (number ∷ map spec_number (specs_from plan.setup (number + 1) k)) number (0, omega arith, refl))
 
-    bare_stop : (how : Ending) → UngivenCause (spec_number s) old new how → HandsStopped plan (bare front) swap how × StopCause plan holds old new (bare front) swap how
+    bare_stop : (how : Ending) → UngivenCause (spec_number s) old new how → HandsStopped plan (bare_disks front) swap how × StopCause plan holds old new (bare_disks front) swap how
     bare_stop (ending.Opening f) c =
         let given = given_of_mounted holds (specs_below plan.setup number) front tables before in
-        let below : HandsBelow plan (λ n. nat_lt n number) (bare front) swap =
+        let below : HandsBelow plan (λ n. nat_lt n number) (bare_disks front) swap =
         hands_below plan holds swap swaps number (suc k) all front given (λ n. nat_lt n number) (λ x lt. grind (arith, nat_tests, lt)) (λ x le. grind (arith, nat_tests, le)) in
         let lt : number < 8 = omega (arith, all) in
-        let unracked : HandsUnracked plan (bare front) swap number =
-        subst (λ b. MatchBool b ((0 < (amounts_of plan.setup).slots) × HandsNone (bare front) swap) (Contains (disk_numbers plan) number × HandsBelow plan (λ n. nat_lt n number) (bare front) swap))
+        let unracked : HandsUnracked plan (bare_disks front) swap number =
+        subst (λ b. MatchBool b ((0 < (amounts_of plan.setup).slots) × HandsNone (bare_disks front) swap) (Contains (disk_numbers plan) number × HandsBelow plan (λ n. nat_lt n number) (bare_disks front) swap))
         (sym (not_eight number lt)) (named, below) in
         let same : number ≡ f.disk = sym (c.0 ∙ numbered_is plan.setup number s is) in
-        let at_disk : HandsUnracked plan (bare front) swap f.disk = subst (λ n. HandsUnracked plan (bare front) swap n) same unracked in (
+        let at_disk : HandsUnracked plan (bare_disks front) swap f.disk = subst (λ n. HandsUnracked plan (bare_disks front) swap n) same unracked in (
           tt,
           inl (
-            subst (λ o. MatchOption o (HasRisen old new) (λ counts. IsCountedBy plan (bare front) swap f.disk counts.0 counts.1)) (sym c.1) c.2,
+            subst (λ o. MatchOption o (HasRisen old new) (λ counts. IsCountedBy plan (bare_disks front) swap f.disk counts.0 counts.1)) (sym c.1) c.2,
             record {
-              handed = subst (λ o. MatchOption o (HandsUnracked plan (bare front) swap f.disk) (λ counts. HandsBelow plan (λ n. nat_le n f.disk) (bare front) swap)) (sym c.1) at_disk;
+              handed = subst (λ o. MatchOption o (HandsUnracked plan (bare_disks front) swap f.disk) (λ counts. HandsBelow plan (λ n. nat_le n f.disk) (bare_disks front) swap)) (sym c.1) at_disk;
               first = λ told n rule broken.
                   let le = broken-behind plan holds number (suc k) all front tables before told.each n rule broken in
                   inr (omega (arith, le, same));
@@ -185,49 +185,49 @@ module _ (plan : PlanSeen) (holds : Holds) (old new : ℕ) (swap : Option DiskSe
       all_now : (number + 1) + k ≡ 8
       all_now = omega (arith, all)
 
-      upto : (n : ℕ) → n ≡ number → HandsBelow plan (λ x. nat_le x n) (bare (front ++ d ∷ [])) swap
+      upto : (n : ℕ) → n ≡ number → HandsBelow plan (λ x. nat_le x n) (bare_disks (front ++ d ∷ [])) swap
       upto n e = hands_below plan holds swap swaps (number + 1) k all_now (front ++ d ∷ []) given_now (λ x. nat_le x n)
           (λ x lt. grind (arith, nat_tests, lt, e)) (λ x le. grind (arith, nat_tests, le, e))
 
-      bare_now : bare (front ++ d ∷ []) ≡ bare front ++ d.1 ∷ []
+      bare_now : bare_disks (front ++ d ∷ []) ≡ bare_disks front ++ d.1 ∷ []
       bare_now = map-append (λ (x : ℕ × DiskSeen). x.1) front (d ∷ [])
 
-      refused : (n rule : ℕ) → n ≡ number → IfSome d.1.content (λ blocks. table_on blocks ≡ Err rule) → HaveTold (bare (front ++ d ∷ [])) swap
-          → opened plan holds ≡ Err (refusal.Volume n rule)
+      refused : (n rule : ℕ) → n ≡ number → IfSome d.1.content (λ blocks. table_on blocks ≡ Err rule) → HaveTold (bare_disks (front ++ d ∷ [])) swap
+          → opened_files plan holds ≡ Err (refusal.Volume n rule)
       refused n rule e breaks told =
-          let each = all_last (bare front) d.1 (subst (λ ds. All Told ds) bare_now told.each) in
+          let each = all_last (bare_disks front) d.1 (subst (λ ds. All Told ds) bare_now told.each) in
           let here = mounted_here holds s (specs_from plan.setup (number + 1) k) d.1 rule given.attached each.1 breaks in
           let later = mounted_err holds (specs_below plan.setup number) (s ∷ specs_from plan.setup (number + 1) k) front tables (refusal.Volume (spec_number s) rule) before each.0 here in
-          let whole : mounted (disks_held holds (disk_specs plan.setup)) ≡ Err (refusal.Volume (spec_number s) rule) = ap (λ xs. mounted (disks_held holds xs)) specs_now ∙ later in
+          let whole : mounted_files (disks_held holds (disk_specs plan.setup)) ≡ Err (refusal.Volume (spec_number s) rule) = ap (λ xs. mounted_files (disks_held holds xs)) specs_now ∙ later in
           let name : spec_number s ≡ n = numbered_is plan.setup number s is ∙ sym e in
           opened_err plan holds (refusal.Volume n rule) (whole ∙ ap (λ x. Err (refusal.Volume x rule)) name)
 
-      found_now : disk_handed plan (bare (front ++ d ∷ [])) swap number ≡ Some d.1
+      found_now : disk_handed plan (bare_disks (front ++ d ∷ [])) swap number ≡ Some d.1
       found_now =
           let lt : number < 8 = omega (arith, all) in
           let low : 0 + number ≤ number = omega arith in
-          ap (λ b. if b then swap else lookup (λ n. n == number) (zip (disk_numbers plan) (bare (front ++ d ∷ [])))) (not_eight number lt)
-          ∙ (ap (λ ns. lookup (λ n. n == number) (zip ns (bare (front ++ d ∷ [])))) numbers_now
+          ap (λ b. if b then swap else lookup (λ n. n == number) (zip (disk_numbers plan) (bare_disks (front ++ d ∷ [])))) (not_eight number lt)
+          ∙ (ap (λ ns. lookup (λ n. n == number) (zip ns (bare_disks (front ++ d ∷ [])))) numbers_now
           ∙ (ap (λ ds. lookup (λ n. n == number) (zip (map spec_number (specs_below plan.setup number) ++ number ∷ map spec_number (specs_from plan.setup (number + 1) k)) ds)) bare_now
           ∙ lookup_given holds (specs_below plan.setup number) front number d.1 (map spec_number (specs_from plan.setup (number + 1) k))
           (given_of_mounted holds (specs_below plan.setup number) front tables before) (low_specs plan.setup number 0 number low)))
 
-      unread_stop : (how : Ending) → UnreadCause d how → HandsStopped plan (bare (front ++ d ∷ [])) swap how × StopCause plan holds old new (bare (front ++ d ∷ [])) swap how
+      unread_stop : (how : Ending) → UnreadCause d how → HandsStopped plan (bare_disks (front ++ d ∷ [])) swap how × StopCause plan holds old new (bare_disks (front ++ d ∷ [])) swap how
       unread_stop (ending.Refused (refusal.Volume n rule)) c =
           let e : n ≡ number = c.0 ∙ (given.number ∙ numbered_is plan.setup number s is) in
           (upto n e, record { told = λ told. refused n rule e c.1 told; line = tt; same = untouched (number + 1) k all_now (front ++ d ∷ []) given_now })
       unread_stop (ending.Opening f) c =
           let e : f.disk ≡ number = c.number ∙ (given.number ∙ numbered_is plan.setup number s is) in
-          let found : disk_handed plan (bare (front ++ d ∷ [])) swap f.disk ≡ Some d.1 = ap (disk_handed plan (bare (front ++ d ∷ [])) swap) e ∙ found_now in (
+          let found : disk_handed plan (bare_disks (front ++ d ∷ [])) swap f.disk ≡ Some d.1 = ap (disk_handed plan (bare_disks (front ++ d ∷ [])) swap) e ∙ found_now in (
             tt,
             inl (
-              if-counted (HasRisen old new) (λ counts. IsCountedBy plan (bare (front ++ d ∷ [])) swap f.disk counts.0 counts.1)
+              if-counted (HasRisen old new) (λ counts. IsCountedBy plan (bare_disks (front ++ d ∷ [])) swap f.disk counts.0 counts.1)
                   f.counts c.risen (record { risen = c.risen; disk = d.1; back = found; last = c.last }),
               record {
-                handed = if-counted (HandsUnracked plan (bare (front ++ d ∷ [])) swap f.disk) (λ counts. HandsBelow plan (λ n. nat_le n f.disk) (bare (front ++ d ∷ [])) swap)
+                handed = if-counted (HandsUnracked plan (bare_disks (front ++ d ∷ [])) swap f.disk) (λ counts. HandsBelow plan (λ n. nat_le n f.disk) (bare_disks (front ++ d ∷ [])) swap)
                     f.counts c.risen (upto f.disk e);
                 first = λ told n rule broken.
-                    let each = all_last (bare front) d.1 (subst (λ ds. All Told ds) bare_now told.each) in
+                    let each = all_last (bare_disks front) d.1 (subst (λ ds. All Told ds) bare_now told.each) in
                     let le = broken-behind plan holds number (suc k) all front tables before each.0 n rule broken in
                     inr (omega (arith, le, e));
                 same = untouched (number + 1) k all_now (front ++ d ∷ []) given_now;
@@ -252,21 +252,21 @@ pub record Stopped (plan : PlanSeen) (holds : Holds) (old new : ℕ) (disks : Li
   pub cause : StopCause plan holds old new disks swap how
 
 pub stopped : (plan : PlanSeen) (holds : Holds) (old new : ℕ) (swap : Option DiskSeen) (disks : List (ℕ × DiskSeen)) (how : Ending) → IsSwapFor (amounts_of plan.setup).slots swap → IsSwapAsGiven (amounts_of plan.setup).slots swap
-    → Halts plan.setup holds old new disks how → Stopped plan holds old new (bare disks) swap how
+    → Halts plan.setup holds old new disks how → Stopped plan holds old new (bare_disks disks) swap how
 stopped plan holds old new swap disks how swaps blank h = at h.cause
   where
     all : h.number + suc (7 - h.number) ≡ 8
     all = let lt = h.below in omega (arith, lt)
 
-    at : HaltsNumber plan.setup h.number holds old new h.front disks how → Stopped plan holds old new (bare disks) swap how
+    at : HaltsNumber plan.setup h.number holds old new h.front disks how → Stopped plan holds old new (bare_disks disks) swap how
     at (inl m) =
         let r = unasked_stop plan holds old new swap swaps blank h.number (7 - h.number) all h.front h.tables h.mounted in
-        subst (λ x. Stopped plan holds old new (bare disks) swap x) (sym m.memory) (subst (λ ds. Stopped plan holds old new (bare ds) swap ending.Memory) (sym m.same) (record { handed = r.0; cause = r.1 }))
+        subst (λ x. Stopped plan holds old new (bare_disks disks) swap x) (sym m.memory) (subst (λ ds. Stopped plan holds old new (bare_disks ds) swap ending.Memory) (sym m.same) (record { handed = r.0; cause = r.1 }))
     at (inr x) = elim x.2 [
       | inl b ↦
           let r = bare_stop plan holds old new swap swaps blank h.number (7 - h.number) all h.front h.tables h.mounted x.0 x.1 how b.cause in
-          subst (λ ds. Stopped plan holds old new (bare ds) swap how) (sym b.same) (record { handed = r.0; cause = r.1 })
+          subst (λ ds. Stopped plan holds old new (bare_disks ds) swap how) (sym b.same) (record { handed = r.0; cause = r.1 })
       | inr u ↦
           let r = unread_stop plan holds old new swap swaps blank h.number (7 - h.number) all h.front h.tables h.mounted x.0 x.1 u.disk u.given how u.cause in
-          subst (λ ds. Stopped plan holds old new (bare ds) swap how) (sym u.behind) (record { handed = r.0; cause = r.1 })
+          subst (λ ds. Stopped plan holds old new (bare_disks ds) swap how) (sym u.behind) (record { handed = r.0; cause = r.1 })
     ]

@@ -17,7 +17,7 @@ use Rattle.vm_script.specs.Rules.{is_from_to}
 use Rattle.sunvm.specs.declared.ending.Refusal.{Refusal}
 use Rattle.sunvm.specs.Attached.{IsMounted, AreMounted}
 use Rattle.sunvm.specs.Handed.{TellsSpec}
-use Rattle.sunvm.specs.Opened.{OpenedFile, info_on, stored_bytes, blocks_held, disks_held, mounted_file, mounted, with_mounted, table_on, table_read, infos_of, mounted_infos}
+use Rattle.sunvm.specs.Opened.{OpenedFile, info_on, stored_bytes, blocks_held, disks_held, mounted_file, mounted_files, with_mounted, table_on, table_read, infos_of, mounted_infos}
 use Rattle.sunvm.specs.Placing.{found_file, found_files, content_bytes}
 
 -- the records of the files
@@ -104,7 +104,7 @@ one_gives holds s d t m tells empty =
 
 -- the files of the disks are those that were found
 pub mounted-found : (holds : Spec → Option (List (List ℕ))) (specs : List Spec) (ds : List (ℕ × DiskSeen)) (ts : List TableSeen) → AreMounted holds specs ds ts
-    → AllByRecursion (TellsSpec holds) specs → TellOrEmpty ds ts → mounted (disks_held holds specs) ≡ Ok (found_files ds ts)
+    → AllByRecursion (TellsSpec holds) specs → TellOrEmpty ds ts → mounted_files (disks_held holds specs) ≡ Ok (found_files ds ts)
 mounted-found holds [] [] [] m tells empty = refl
 mounted-found holds [] [] (t ∷ ts) m tells empty = absurd m
 mounted-found holds [] (d ∷ ds) ts m tells empty = absurd m
@@ -113,6 +113,6 @@ mounted-found holds (s ∷ specs) (d ∷ ds) [] m tells empty = absurd m
 mounted-found holds (s ∷ specs) (d ∷ ds) (t ∷ ts) m tells empty =
     let one = one_gives holds s d t m.0 tells.0 empty.0 in
     let disk : ℕ × List (List ℕ) = (spec_number s, blocks_held holds s) in
-    ap (λ (r : Result TableSeen ℕ). with_mounted disk r (mounted (disks_held holds specs))) one.1
+    ap (λ (r : Result TableSeen ℕ). with_mounted disk r (mounted_files (disks_held holds specs))) one.1
     ∙ ap (λ (r : Result (List OpenedFile) Refusal). with_mounted disk (Ok one.0) r) (mounted-found holds specs ds ts m.1 tells.1 empty.1)
     ∙ ap (λ (fs : List OpenedFile). Ok (fs ++ found_files ds ts)) one.2

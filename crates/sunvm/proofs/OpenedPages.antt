@@ -5,7 +5,7 @@ use Rattle.std.specs.List.{concat}
 use Rattle.std.proofs.Math.Seq.{take-append-add}
 use Rattle.std.proofs.lemmas.Bool.{cases_lt}
 use Rattle.std.proofs.lemmas.List.{length-take, length-replicate, take_all, take_at, drop_at, take-append-le, append-nil, replicate-append-replicate}
-use Rattle.page_store.specs.Bytes.{clipped}
+use Rattle.page_store.specs.Bytes.{clip}
 use Rattle.flat_model.specs.Parts.{pages_of_bytes}
 use Rattle.flat_model.specs.Words.{Page}
 use Rattle.flat_model.proofs.FileBytes.{Whole}
@@ -32,7 +32,7 @@ filled len n bytes = take len bytes ++ replicate (4096 * n - len) 0
 
 -- the first page of these
 record Cut (len m : ℕ) (q rest : List ℕ) : Type 0 where
-  first : take 4096 (filled len (suc m) (q ++ rest)) ≡ clipped (min len 4096) q
+  first : take 4096 (filled len (suc m) (q ++ rest)) ≡ clip (min len 4096) q
   others : drop 4096 (filled len (suc m) (q ++ rest)) ≡ filled (len - 4096) m rest
 
 cut : (len m : ℕ) (q rest : List ℕ) → length q ≡ 4096 → Cut len m q rest
@@ -46,7 +46,7 @@ cut len m q rest whole = elim (cases_lt 4096 len) [
       ∙ ap (λ (n : ℕ). q ++ (take (len - 4096) rest ++ replicate n 0)) back in
       let most : min len 4096 ≡ 4096 = omega (arith, long) in
       record {
-        first = ap (take 4096) is ∙ take_at q (filled (len - 4096) m rest) 4096 whole ∙ sym (ap (λ (n : ℕ). clipped n q) most ∙ ap (λ (xs : List ℕ). xs ++ []) (take_all 4096 q (omega (arith, whole))) ∙ append-nil q);
+        first = ap (take 4096) is ∙ take_at q (filled (len - 4096) m rest) 4096 whole ∙ sym (ap (λ (n : ℕ). clip n q) most ∙ ap (λ (xs : List ℕ). xs ++ []) (take_all 4096 q (omega (arith, whole))) ∙ append-nil q);
         others = ap (drop 4096) is ∙ drop_at q (filled (len - 4096) m rest) 4096 whole;
       }
   | inr short ↦
@@ -61,23 +61,23 @@ cut len m q rest whole = elim (cases_lt 4096 len) [
       let none : len - 4096 ≡ 0 = omega (arith, short) in
       let whole-rest : 4096 * m ≡ 4096 * m - 0 = omega arith in
       record {
-        first = ap (take 4096) is ∙ take_at front (replicate (4096 * m) 0) 4096 size ∙ sym (ap (λ (n : ℕ). clipped n q) most);
+        first = ap (take 4096) is ∙ take_at front (replicate (4096 * m) 0) 4096 size ∙ sym (ap (λ (n : ℕ). clip n q) most);
         others = ap (drop 4096) is ∙ drop_at front (replicate (4096 * m) 0) 4096 size ∙ ap (λ (n : ℕ). replicate n 0) whole-rest ∙ sym (ap (λ (n : ℕ). filled n m rest) none);
       }
 ]
 
 -- THE PAGES of whole blocks, up to a length.
 pub opened-pages : (qs : List Page) (len n : ℕ) → Whole qs → n ≤ length qs
-    → pages_of_bytes n (take len (concat qs) ++ replicate (4096 * n - len) 0) ≡ pages_from (λ (i : ℕ). clipped (min (len - i * 4096) 4096) (slice_index_or qs i [])) 0 n
+    → pages_of_bytes n (take len (concat qs) ++ replicate (4096 * n - len) 0) ≡ pages_from (λ (i : ℕ). clip (min (len - i * 4096) 4096) (slice_index_or qs i [])) 0 n
 opened-pages qs len zero whole few = refl
 opened-pages [] len (suc m) whole few = absurd (omega (arith, few))
 opened-pages (q ∷ qs) len (suc m) whole few =
     let c = cut len m q (concat qs) whole.0 in
     let most : min len 4096 ≡ min (len - 0 * 4096) 4096 = omega arith in
-    ap (λ (p : Page). p ∷ pages_of_bytes m (drop 4096 (filled len (suc m) (q ++ concat qs)))) (c.first ∙ ap (λ (n : ℕ). clipped n q) most)
-    ∙ ap (λ (bytes : List ℕ). clipped (min (len - 0 * 4096) 4096) q ∷ pages_of_bytes m bytes) c.others
-    ∙ ap (λ (ps : List Page). clipped (min (len - 0 * 4096) 4096) q ∷ ps)
+    ap (λ (p : Page). p ∷ pages_of_bytes m (drop 4096 (filled len (suc m) (q ++ concat qs)))) (c.first ∙ ap (λ (n : ℕ). clip n q) most)
+    ∙ ap (λ (bytes : List ℕ). clip (min (len - 0 * 4096) 4096) q ∷ pages_of_bytes m bytes) c.others
+    ∙ ap (λ (ps : List Page). clip (min (len - 0 * 4096) 4096) q ∷ ps)
     (opened-pages qs (len - 4096) m whole.1 (omega (arith, few))
-    ∙ pages-agree (λ (i : ℕ). clipped (min ((len - 4096) - i * 4096) 4096) (slice_index_or qs i [])) (λ (i : ℕ). clipped (min (len - suc i * 4096) 4096) (slice_index_or qs i [])) m
-    (λ i lt. let e : (len - 4096) - i * 4096 ≡ len - suc i * 4096 = omega arith in ap (λ (n : ℕ). clipped (min n 4096) (slice_index_or qs i [])) e)
-    ∙ sym (pages-shift (λ (i : ℕ). clipped (min (len - i * 4096) 4096) (slice_index_or (q ∷ qs) i [])) 0 m))
+    ∙ pages-agree (λ (i : ℕ). clip (min ((len - 4096) - i * 4096) 4096) (slice_index_or qs i [])) (λ (i : ℕ). clip (min (len - suc i * 4096) 4096) (slice_index_or qs i [])) m
+    (λ i lt. let e : (len - 4096) - i * 4096 ≡ len - suc i * 4096 = omega arith in ap (λ (n : ℕ). clip (min n 4096) (slice_index_or qs i [])) e)
+    ∙ sym (pages-shift (λ (i : ℕ). clip (min (len - i * 4096) 4096) (slice_index_or (q ∷ qs) i [])) 0 m))

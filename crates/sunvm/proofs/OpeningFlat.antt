@@ -11,7 +11,7 @@ use Rattle.std.proofs.lemmas.Bool.Decides.{nat_tests}
 use Rattle.std.proofs.lemmas.List.{length-map, get_or-map}
 use Rattle.std.proofs.lemmas.List.FromFn.{get_or-map-range_with_len}
 use Rattle.addr_space.specs.Space.{Part}
-use Rattle.addr_space.specs.Pages.{pages_of as pages_of_parts}
+use Rattle.addr_space.specs.Pages.{pages_of_parts}
 use Rattle.anon_slots.specs.Slots.{Slots}
 use Rattle.block_device.specs.DiskSeen.{DiskSeen, HasBlocks}
 use Rattle.flat_model.specs.Flat.{Cell, File, Flat, Space}
@@ -21,10 +21,10 @@ use Rattle.flat_model.proofs.FileBytes.{Whole}
 use Rattle.page_hash.specs.Names.{name_at, find}
 use Rattle.page_hash.specs.declared.PageName.{PageName}
 use Rattle.page_store.specs.Bays.{BaySeen, missing, home, out, bay_at, block_of}
-use Rattle.page_store.specs.Bytes.{clipped}
+use Rattle.page_store.specs.Bytes.{clip}
 use Rattle.page_store.specs.Layout.{page_place}
 use Rattle.page_store.specs.Notes.{no_notes}
-use Rattle.page_store.specs.Value.{value, value_in, stored, content_of, content_in_bay, tells}
+use Rattle.page_store.specs.Value.{value, value_in, backing_value, content_of, content_in_bay, tells}
 use Rattle.page_store.specs.declared.place.Place.{Place}
 use Rattle.core_arena.specs.Bytes.{zeros}
 use Rattle.vnode_files.specs.declared.vnode.FileInfo.{FileInfo}
@@ -43,7 +43,7 @@ use Rattle.vm_world.proofs.FilePages.{file-in}
 use Rattle.vm_world.proofs.Maps.{get-map_with}
 use Rattle.vm_world.proofs.PageNames.{file-page, file-place, below-kept, not-slot, index-of, file-there}
 use Rattle.vm_world.proofs.Spaces.{EmptySpaces, empty-zeros, map-empty, entries-empty}
-use Rattle.vm_core.specs.State.{marked_from, born_of}
+use Rattle.vm_core.specs.State.{marked_processes, born_of}
 use Rattle.vm_core.proofs.Tops.{born-tops}
 use Rattle.vm_script.specs.PlanSeen.{PlanSeen}
 use Rattle.sunvm.specs.Opened.{OpenedFile, stored_bytes, opened_flat_file, top_processes}
@@ -89,7 +89,7 @@ module _ (w : World) (f : ℕ) (o : OpenedFile) (blocks : List (List ℕ)) (is :
       late a b lt = grind (arith, nat_tests)
 
   -- the page of a name
-  page-is : (i : ℕ) → i < pages_in o.info.length → file_contents (page_value w no_notes) f i ≡ clipped (min (o.info.length - i * 4096) 4096) (slice_index_or (its_pages blocks o.info) i [])
+  page-is : (i : ℕ) → i < pages_in o.info.length → file_contents (page_value w no_notes) f i ≡ clip (min (o.info.length - i * 4096) 4096) (slice_index_or (its_pages blocks o.info) i [])
   page-is i lt =
       let below = kept i lt in
       let some : 0 < pages_in o.info.length = omega (arith, lt) in
@@ -103,9 +103,9 @@ module _ (w : World) (f : ℕ) (o : OpenedFile) (blocks : List (List ℕ)) (is :
       ap (λ (b : Bool). cond b [] (page_value w no_notes name)) (not-slot f is.low)
       ∙ ap (λ (b : Bool). cond b (value w.store no_notes (world_table w) name) []) (file-page w.files w.anon f i is.low inside)
       ∙ ap (λ (h : Option ℕ). value_in h w.store no_notes (world_table w name)) (unnamed-find w.store.names name is.unnamed)
-      ∙ ap (λ (p : Place). stored w.store no_notes p) place
-      ∙ ap (λ (c : Option (List (List ℕ))). clipped (min (o.info.length - i * 4096) 4096) (block_of c (slice_index_or (page_blocks o.info.extents) i 0))) (is.told some)
-      ∙ ap (λ (p : Page). clipped (min (o.info.length - i * 4096) 4096) p) (sym (get_or-map (λ (b : ℕ). slice_index_or blocks b []) (page_blocks o.info.extents) i 0 [] (omega (arith, below, count))))
+      ∙ ap (λ (p : Place). backing_value w.store no_notes p) place
+      ∙ ap (λ (c : Option (List (List ℕ))). clip (min (o.info.length - i * 4096) 4096) (block_of c (slice_index_or (page_blocks o.info.extents) i 0))) (is.told some)
+      ∙ ap (λ (p : Page). clip (min (o.info.length - i * 4096) 4096) p) (sym (get_or-map (λ (b : ℕ). slice_index_or blocks b []) (page_blocks o.info.extents) i 0 [] (omega (arith, below, count))))
 
   pages-are : pages_from (file_contents (page_value w no_notes) f) 0 (pages_in o.info.length) ≡ (opened_flat_file o).pages
   pages-are = by_count (pages_in o.info.length) refl
@@ -117,7 +117,7 @@ module _ (w : World) (f : ℕ) (o : OpenedFile) (blocks : List (List ℕ)) (is :
           let last = kept m (omega (arith, e)) in
           let count = length-page_blocks o.info.extents in
           let size = length-map (page_blocks o.info.extents) (λ (b : ℕ). slice_index_or blocks b []) in
-          pages-agree (file_contents (page_value w no_notes) f) (λ (i : ℕ). clipped (min (o.info.length - i * 4096) 4096) (slice_index_or (its_pages blocks o.info) i [])) (suc m) (λ i lt. page-is i (subst (λ (n : ℕ). i < n) (sym e) lt))
+          pages-agree (file_contents (page_value w no_notes) f) (λ (i : ℕ). clip (min (o.info.length - i * 4096) 4096) (slice_index_or (its_pages blocks o.info) i [])) (suc m) (λ i lt. page-is i (subst (λ (n : ℕ). i < n) (sym e) lt))
           ∙ sym (opened-pages (its_pages blocks o.info) o.info.length (suc m) (is.whole some) (omega (arith, last, count, size)))
           ∙ ap (λ (bytes : List ℕ). pages_of_bytes (suc m) (bytes ++ replicate (4096 * suc m - o.info.length) 0)) (is.stores some)
 
@@ -135,15 +135,15 @@ opened-files w k (o ∷ files) each =
     ∙ ap (λ (xs : List File). opened_flat_file o ∷ xs) (opened-files w (suc k) files (λ i p is. let s : k + suc i ≡ suc k + i = omega arith in let next = each (suc i) p is in (next.0, subst (λ (n : ℕ). IsAsOpened w n p next.0) s next.1)))
 
 -- THE PROCESSES without a parent.
-tops-marked : (k : ℕ) (parents : List ℕ) → top_processes k parents ≡ marked_from k (map (λ (n : ℕ). n == 0) parents)
+tops-marked : (k : ℕ) (parents : List ℕ) → top_processes k parents ≡ marked_processes k (map (λ (n : ℕ). n == 0) parents)
 tops-marked k [] = refl
 tops-marked k (x ∷ parents) = by_test (x == 0) (ap (λ (n : ℕ). top_processes n parents) next ∙ tops-marked (suc k) parents)
   where
     next : k + 1 ≡ suc k
     next = omega arith
 
-    by_test : (b : Bool) → top_processes (k + 1) parents ≡ marked_from (suc k) (map (λ (n : ℕ). n == 0) parents)
-        → cond b (k ∷ top_processes (k + 1) parents) (top_processes (k + 1) parents) ≡ marked_from k (b ∷ map (λ (n : ℕ). n == 0) parents)
+    by_test : (b : Bool) → top_processes (k + 1) parents ≡ marked_processes (suc k) (map (λ (n : ℕ). n == 0) parents)
+        → cond b (k ∷ top_processes (k + 1) parents) (top_processes (k + 1) parents) ≡ marked_processes k (b ∷ map (λ (n : ℕ). n == 0) parents)
     by_test true rest = ap (λ (l : List ℕ). k ∷ l) rest
     by_test false rest = rest
 

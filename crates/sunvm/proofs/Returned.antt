@@ -37,7 +37,7 @@ use Rattle.vm_core.specs.Closing.{AreDisksOf}
 use Rattle.vm_core.specs.Finish.{disk_at, disks_of, HoldAllFiles, IsLastFault, KeepsDisk, KeepDisks, KeepsOtherBlocks, KeepRecords}
 use Rattle.vm_core.proofs.Fills.{are-kept, number-of}
 use Rattle.vm_core.proofs.Finishes.{still, disk-in-order, are-disks}
-use Rattle.sunvm.specs.Attached.{bare}
+use Rattle.sunvm.specs.Attached.{bare_disks}
 use Rattle.sunvm.specs.Handed.{HaveTold, IsSwapFor}
 use Rattle.sunvm.specs.Played.{LeftSeen, IsDiskOf, DisksCameBack, IsClosingFault, KernelLeaves, SwapCameBack}
 use Rattle.sunvm.specs.Written.{HaveDisks}
@@ -277,7 +277,7 @@ module _ (F : Flat) (s t : KernelState) (l : LeftSeen) (event : IsEvent 0 s None
   }
 
   -- ALL TELL, where the disks that came back do
-  pub all-tell : HaveTold (bare l.disks) l.swap → AllTell t.memory.world no_notes
+  pub all-tell : HaveTold (bare_disks l.disks) l.swap → AllTell t.memory.world no_notes
   all-tell told name is = by_name (page-cases t.memory.world.files t.memory.world.anon name is)
     where
       in-bay : (number : ℕ) (d : DiskSeen) → bay_at t.memory.world.store.bays number ≡ home d → IsSome d.content → IsTrue (tells t.memory.world.store no_notes number)
@@ -309,7 +309,7 @@ module _ (F : Flat) (s t : KernelState) (l : LeftSeen) (event : IsEvent 0 s None
           subst (λ (n : ℕ). IsTrue (tells t.memory.world.store no_notes n)) (at.2 ∙ sym disk)
           (in-bay (disk_at old i).0 (disk_at old i).1 (home-after i lt) (told-before (disk_at old i).1.content (disk_at l.disks i).1.content (disk_at old i).0 (c.disks.each i lt).blocks tell))
         where
-          bare-at : (L : List (ℕ × DiskSeen)) (i : ℕ) → i < length L → slice_index_or (bare L) i no_disk ≡ (disk_at L i).1
+          bare-at : (L : List (ℕ × DiskSeen)) (i : ℕ) → i < length L → slice_index_or (bare_disks L) i no_disk ≡ (disk_at L i).1
           bare-at [] i lt = absurd (omega (arith, lt))
           bare-at (d ∷ L) zero lt = refl
           bare-at (d ∷ L) (suc i) lt = bare-at L i (omega (arith, lt))

@@ -19,7 +19,7 @@ use Rattle.sunvm.specs.declared.ending.Ending.TheVariants as ending
 use Rattle.sunvm.specs.declared.options.Options.{Options}
 use Rattle.sunvm.specs.declared.outcome.RunFault.{RunFault}
 use Rattle.sunvm.specs.Asked.{Given, Asked, WasAsked}
-use Rattle.sunvm.specs.Attached.{ArePlaced, AttachedSeen, HaveVolumeNames, bare}
+use Rattle.sunvm.specs.Attached.{ArePlaced, AttachedSeen, HaveVolumeNames, bare_disks}
 use Rattle.sunvm.specs.Closed.{info_at}
 use Rattle.sunvm.specs.Course.{AreReadBytes, CloseEnds, IsReady}
 use Rattle.sunvm.specs.Handed.{End}
@@ -64,23 +64,23 @@ module _ (st : ℕ) (ft : Option RunFault) (g : Given) (o : Outside) (what : Ask
       → KernelLeaves (opening_flat plan (disk_sizes a.disks) files) s l → o.sink_old.faults ≤ k1.faults → (whole : Bool) → (IsTrue whole → Told plan l.history.entries)
       → ToldFront plan l.history.entries → (new : List (ℕ × DiskSeen)) (how : Ending) (k2 : SinkSeen) → o.sink_new ≡ k2
       → CloseEnds whole l.fault options plan l.history.entries (infos_made l.files) k1 k2 l.disks new how
-      → (H-new : HistorySeen) (d-new : List DiskSeen) (w-new : Option DiskSeen) → H-new ≡ l.history → d-new ≡ bare new → w-new ≡ l.swap
+      → (H-new : HistorySeen) (d-new : List DiskSeen) (w-new : Option DiskSeen) → H-new ≡ l.history → d-new ≡ bare_disks new → w-new ≡ l.swap
       → CaseOf g o (wrote_before o) (record { status = st; fault = ft; history = H-new; disks = d-new; swap = w-new }) how
   ready-ends options opt s l started left later whole told front new how k2 sink c H-new d-new w-new sameH same-d same-w =
       let low = low-disks what.plan l.disks (left.disks.numbers ∙ ap (map number) started.racked ∙ ready.placed.numbers) in
       let by-options = subst (λ (op : Options). CloseEnds whole l.fault op plan l.history.entries (infos_made l.files) k1 k2 l.disks new how) (sym opt) c in
       let by-sink = subst (λ (k : SinkSeen). CloseEnds whole l.fault what.options plan l.history.entries (infos_made l.files) k1 k l.disks new how) (sym sink) by-options in
-      subst (λ (e : End). CaseOf g o (wrote_before o) e how) (end-same st ft l.history H-new (bare new) d-new l.swap w-new sameH same-d same-w)
+      subst (λ (e : End). CaseOf g o (wrote_before o) e how) (end-same st ft l.history H-new (bare_disks new) d-new l.swap w-new sameH same-d same-w)
       (close-case st ft g o what files bytes a made plan k1 ready s l started left low later whole told front l.fault refl new how by-sink)
 
   -- memory lacked for its kernel
   pub start-lacks : o.sink_new ≡ k1 → (H : HistorySeen) (d-new : List DiskSeen) (w-new : Option DiskSeen) (how : Ending) → H.entries ≡ [] → H.faults ≡ [] → how ≡ ending.Memory
-      → d-new ≡ bare a.disks → w-new ≡ a.swap → CaseOf g o (wrote_before o) (record { status = st; fault = ft; history = H; disks = d-new; swap = w-new }) how
+      → d-new ≡ bare_disks a.disks → w-new ≡ a.swap → CaseOf g o (wrote_before o) (record { status = st; fault = ft; history = H; disks = d-new; swap = w-new }) how
   start-lacks sink H d-new w-new how entries counts is same-d same-w =
       let low = low-disks what.plan a.disks ready.placed.numbers in
-      let wrote = subst (λ (k : SinkSeen). Wrote o.sink_old k (opening_part what files (bare a.disks) bytes)) (sym sink) ready.wrote in
+      let wrote = subst (λ (k : SinkSeen). Wrote o.sink_old k (opening_part what files (bare_disks a.disks) bytes)) (sym sink) ready.wrote in
       subst (λ (x : Ending). CaseOf g o (wrote_before o) (record { status = st; fault = ft; history = H; disks = d-new; swap = w-new }) x) (sym is)
-      (subst (λ (e : End). CaseOf g o (wrote_before o) e ending.Memory) (end-same st ft H H (bare a.disks) d-new a.swap w-new refl same-d same-w)
+      (subst (λ (e : End). CaseOf g o (wrote_before o) e ending.Memory) (end-same st ft H H (bare_disks a.disks) d-new a.swap w-new refl same-d same-w)
       (lacks-behind st ft g o what files bytes ready.asked a made ready.placed ready.read a.disks (reads-refl a.disks) H entries counts low wrote))
 
   -- the disks that a kernel left have a first block

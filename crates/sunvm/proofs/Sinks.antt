@@ -3,16 +3,16 @@ use Rattle.std.proofs.Common.{◌≡◌, ℕ, ◌≤◌, List, [], ◌++◌, len
 use Rattle.std.specs.Prelude.{Option, Some, None, IfSome}
 use Rattle.std.proofs.lemmas.List.{take_all, take-append-le}
 use Rattle.block_device.specs.Counts.{HasRisen}
-use Rattle.block_device.specs.StreamSeen.{SinkSeen, appended}
+use Rattle.block_device.specs.StreamSeen.{SinkSeen, text_with_more}
 use Rattle.sunvm.specs.Texts.{Wrote, WroteAndFront, WroteAndPart, WroteFront, WroteOn, WrotePart}
 
-appended_more : (o : Option (List ℕ)) (a b : List ℕ) → appended (appended o a) b ≡ appended o (a ++ b)
+appended_more : (o : Option (List ℕ)) (a b : List ℕ) → text_with_more (text_with_more o a) b ≡ text_with_more o (a ++ b)
 appended_more None a b = refl
 appended_more (Some w) a b = ap (λ (x : List ℕ). Some x) (append_assoc w a b)
 
 -- a text behind another
 pub wrote_then : (k0 k1 k2 : SinkSeen) (a b : List ℕ) → Wrote k0 k1 a → Wrote k1 k2 b → Wrote k0 k2 (a ++ b)
-wrote_then k0 k1 k2 a b first second = second ∙ ap (λ (o : Option (List ℕ)). appended o b) first ∙ appended_more k0.written a b
+wrote_then k0 k1 k2 a b first second = second ∙ ap (λ (o : Option (List ℕ)). text_with_more o b) first ∙ appended_more k0.written a b
 
 pub front_behind : (k0 k1 k2 : SinkSeen) (a b : List ℕ) → Wrote k0 k1 a → WroteFront k1 k2 b → WroteAndFront k0 k2 a b
 front_behind k0 k1 k2 a b first second = (second.0, wrote_then k0 k1 k2 a (take second.0 b) first second.1)
@@ -24,11 +24,11 @@ part_behind k0 k1 k2 a b first second = (second.0, second.1, wrote_then k0 k1 k2
 pub goes_on : (k0 k1 : SinkSeen) (a b c : List ℕ) → Wrote k0 k1 (a ++ b) → WroteAndFront k0 k1 a (b ++ c)
 goes_on k0 k1 a b c wrote = (
   length b,
-  wrote ∙ ap (λ (t : List ℕ). appended k0.written (a ++ t)) (sym (take-append-le (length b) b c (omega arith) ∙ take_all (length b) b (omega arith))),
+  wrote ∙ ap (λ (t : List ℕ). text_with_more k0.written (a ++ t)) (sym (take-append-le (length b) b c (omega arith) ∙ take_all (length b) b (omega arith))),
 )
 
 pub whole_front : (k0 k1 : SinkSeen) (a : List ℕ) → Wrote k0 k1 a → WroteFront k0 k1 a
-whole_front k0 k1 a wrote = (length a, wrote ∙ ap (appended k0.written) (sym (take_all (length a) a (omega arith))))
+whole_front k0 k1 a wrote = (length a, wrote ∙ ap (text_with_more k0.written) (sym (take_all (length a) a (omega arith))))
 
 pub risen_before : (a b c : ℕ) → a ≤ b → HasRisen b c → HasRisen a c
 risen_before a b c le risen = omega (arith, le, risen)
@@ -59,7 +59,7 @@ if_two None f p q = tt
 if_two (Some x) f p q = f x p q
 
 -- a text that is written as far as it was before
-pub nothing_more : (o : Option (List ℕ)) → o ≡ appended o []
+pub nothing_more : (o : Option (List ℕ)) → o ≡ text_with_more o []
 nothing_more None = refl
 nothing_more (Some w) = ap (λ (x : List ℕ). Some x) (sym (append-nil w))
 

@@ -24,7 +24,7 @@ use Rattle.vm_world.proofs.PageNames.{index-of}
 use Rattle.sunvm.specs.declared.attaching.Attached.{Attached}
 use Rattle.sunvm.specs.declared.ending.Ending.TheVariants.{Memory}
 use Rattle.sunvm.specs.declared.ending.Stop.{Stop}
-use Rattle.sunvm.specs.Attached.{AttachedSeen, ArePlaced, HandsStopped, StopCause, StopsEarly, attached_seen, numbered_seen, bare}
+use Rattle.sunvm.specs.Attached.{AttachedSeen, ArePlaced, HandsStopped, StopCause, StopsEarly, attached_seen, numbered_seen, bare_disks}
 use Rattle.sunvm.specs.Handed.{HandsAll, HandsFront, HaveSpecSizes, IsSwapFor, disk_numbers}
 use Rattle.sunvm.specs.Opened.{OpenedFile, opening_flat, disk_specs}
 use Rattle.sunvm.specs.Played.{IsStarted, HasRoomForPlan}
@@ -44,9 +44,9 @@ pub numbers-are : {D : Type 0} (seen : D → DiskSeen) (disks : List (NumberedDi
 numbers-are seen [] = refl
 numbers-are seen (d ∷ disks) = ap (λ (l : List ℕ). d.number ∷ l) (numbers-are seen disks)
 
-pub bare-are : {D : Type 0} (seen : D → DiskSeen) (disks : List (NumberedDisk D)) → map seen (map (λ (d : ℕ × D). d.1) (map with_number disks)) ≡ bare (map (numbered_seen seen) disks)
-bare-are seen [] = refl
-bare-are seen (d ∷ disks) = ap (λ (l : List DiskSeen). seen d.disk ∷ l) (bare-are seen disks)
+pub bare_disks-are : {D : Type 0} (seen : D → DiskSeen) (disks : List (NumberedDisk D)) → map seen (map (λ (d : ℕ × D). d.1) (map with_number disks)) ≡ bare_disks (map (numbered_seen seen) disks)
+bare_disks-are seen [] = refl
+bare_disks-are seen (d ∷ disks) = ap (λ (l : List DiskSeen). seen d.disk ∷ l) (bare_disks-are seen disks)
 
 pub swap-is : {D : Type 0} (seen : D → DiskSeen) (swap : Option (NumberedDisk D)) → option_map seen (option_map (λ (d : NumberedDisk D). d.disk) swap) ≡ option_map (λ (d : NumberedDisk D). seen d.disk) swap
 swap-is seen None = refl
@@ -72,14 +72,14 @@ front plan disks swap all = record {
 -- A START that lacked memory hands back all disks.
 module _ {D : Type 0} (seen : D → DiskSeen) (plan : PlanSeen) (told : Spec → Option (List (List ℕ))) (files : List OpenedFile) (attached : Attached D) (made : FilesSeen) (p : ArePlaced plan told files (attached_seen seen attached) made)
     (s : Stop D) (pairs : List (ℕ × D)) (are : pairs ≡ map with_number attached.disks.items) (disks : s.disks.items ≡ map (λ (d : ℕ × D). d.1) pairs) (swap : s.swap ≡ option_map (λ (d : NumberedDisk D). d.disk) attached.swap) where
-  pub its-disks : map seen s.disks.items ≡ bare (map (numbered_seen seen) attached.disks.items)
-  its-disks = ap (map seen) (disks ∙ ap (map (λ (d : ℕ × D). d.1)) are) ∙ bare-are seen attached.disks.items
+  pub its-disks : map seen s.disks.items ≡ bare_disks (map (numbered_seen seen) attached.disks.items)
+  its-disks = ap (map seen) (disks ∙ ap (map (λ (d : ℕ × D). d.1)) are) ∙ bare_disks-are seen attached.disks.items
 
   pub its-swap : option_map seen s.swap ≡ option_map (λ (d : NumberedDisk D). seen d.disk) attached.swap
   its-swap = ap (option_map seen) swap ∙ swap-is seen attached.swap
 
   hands-all : HandsAll plan (map seen s.disks.items) (option_map seen s.swap)
-  hands-all = subst (λ (l : List DiskSeen). HandsAll plan l (option_map seen s.swap)) (sym its-disks) (subst (HandsAll plan (bare (map (numbered_seen seen) attached.disks.items))) (sym its-swap) p.handed)
+  hands-all = subst (λ (l : List DiskSeen). HandsAll plan l (option_map seen s.swap)) (sym its-disks) (subst (HandsAll plan (bare_disks (map (numbered_seen seen) attached.disks.items))) (sym its-swap) p.handed)
 
   pub stops : (holds : Spec → Option (List (List ℕ))) (count : ℕ) → s.ending ≡ Memory → s.history.entries ≡ [] → s.history.faults ≡ [] → StopsEarly plan holds count count seen s
   stops holds count ending entries faults = record {

@@ -25,9 +25,9 @@ use Rattle.sunvm.specs.declared.ending.Refusal.TheVariants as refusal
 use Rattle.sunvm.specs.declared.ending.Stop.{Stop}
 use Rattle.sunvm.specs.declared.table_files.PlaceStop.{PlaceStop}
 use Rattle.sunvm.specs.declared.table_files.PlaceStop.TheVariants as stop
-use Rattle.sunvm.specs.Attached.{AreMounted, HandsStopped, StopCause, StopsEarly, numbered_seen, bare}
+use Rattle.sunvm.specs.Attached.{AreMounted, HandsStopped, StopCause, StopsEarly, numbered_seen, bare_disks}
 use Rattle.sunvm.specs.Handed.{AreAsGiven, AreUntouched, HandsAll, HandsFront, HasDiskCause, IsCountedBy, IsSwapAsGiven, IsSwapFor, TellsSpec, disk_numbers, disk_handed, sizes_of, HaveSpecSizes}
-use Rattle.sunvm.specs.Opened.{ComesTo, OpenedFile, disk_specs, if_few, opened, with_line_files}
+use Rattle.sunvm.specs.Opened.{ComesTo, OpenedFile, disk_specs, if_few, opened_files, with_line_files}
 use Rattle.sunvm.specs.Placing.{IsFaultThere, PlaceStopped, RemainThere, attached_numbers, ending_of, found_files, placing_read}
 use Rattle.sunvm.proofs.AllPlaced.{hands-all}
 use Rattle.sunvm.proofs.FoundLemmas.{AllBlocks}
@@ -51,7 +51,7 @@ hands-front plan disks swap all = record {
 }
 
 -- where the disks tell, so does the rack
-rack-tells : (holds : Spec → Option (List (List ℕ))) (specs : List Spec) (ds : List (ℕ × DiskSeen)) (ts : List TableSeen) → AreMounted holds specs ds ts → AllByRecursion (λ (d : DiskSeen). IsSome d.content) (bare ds)
+rack-tells : (holds : Spec → Option (List (List ℕ))) (specs : List Spec) (ds : List (ℕ × DiskSeen)) (ts : List TableSeen) → AreMounted holds specs ds ts → AllByRecursion (λ (d : DiskSeen). IsSome d.content) (bare_disks ds)
     → AllByRecursion (TellsSpec holds) specs × TellOrEmpty ds ts
 rack-tells holds [] [] [] m told = (tt, tt)
 rack-tells holds [] [] (t ∷ ts) m told = absurd m
@@ -71,31 +71,31 @@ told-one : (a b : Option (List (List ℕ))) → (a ≡ None → b ≡ None) → 
 told-one None b keeps some = absurd (false≢true (ap is_some (sym (keeps refl)) ∙ some))
 told-one (Some x) b keeps some = refl
 
-told-before : {D : Type 0} (seen : D → DiskSeen) (ds es : List (NumberedDisk D)) → SameDisks seen ds es → All Told (bare (map (numbered_seen seen) es)) → All Told (bare (map (numbered_seen seen) ds))
+told-before : {D : Type 0} (seen : D → DiskSeen) (ds es : List (NumberedDisk D)) → SameDisks seen ds es → All Told (bare_disks (map (numbered_seen seen) es)) → All Told (bare_disks (map (numbered_seen seen) ds))
 told-before seen [] [] r told = All-nil Told
 told-before seen [] (e ∷ es) r told = absurd r
 told-before seen (d ∷ ds) [] r told = absurd r
 told-before seen (d ∷ ds) (e ∷ es) r told =
-    All-cons Told (seen d.disk) (bare (map (numbered_seen seen) ds))
-    (told-one (seen d.disk).content (seen e.disk).content r.0.untold (All-head Told (seen e.disk) (bare (map (numbered_seen seen) es)) told))
-    (told-before seen ds es r.1 (All-tail Told (seen e.disk) (bare (map (numbered_seen seen) es)) told))
+    All-cons Told (seen d.disk) (bare_disks (map (numbered_seen seen) ds))
+    (told-one (seen d.disk).content (seen e.disk).content r.0.untold (All-head Told (seen e.disk) (bare_disks (map (numbered_seen seen) es)) told))
+    (told-before seen ds es r.1 (All-tail Told (seen e.disk) (bare_disks (map (numbered_seen seen) es)) told))
 
 -- the disk of a fault
-bare-at : {D : Type 0} (seen : D → DiskSeen) (new : List (NumberedDisk D)) (i : ℕ) (x : NumberedDisk D) → i < length new → slice_index_or (bare (map (numbered_seen seen) new)) i (seen x.disk) ≡ seen (slice_index_or new i x).disk
-bare-at seen [] i x below = absurd (omega (arith, below))
-bare-at seen (d ∷ new) zero x below = refl
-bare-at seen (d ∷ new) (suc i) x below = bare-at seen new i x (omega (arith, below))
+bare_disks-at : {D : Type 0} (seen : D → DiskSeen) (new : List (NumberedDisk D)) (i : ℕ) (x : NumberedDisk D) → i < length new → slice_index_or (bare_disks (map (numbered_seen seen) new)) i (seen x.disk) ≡ seen (slice_index_or new i x).disk
+bare_disks-at seen [] i x below = absurd (omega (arith, below))
+bare_disks-at seen (d ∷ new) zero x below = refl
+bare_disks-at seen (d ∷ new) (suc i) x below = bare_disks-at seen new i x (omega (arith, below))
 
 nth : {A : Type 0} (xs : List A) (i : ℕ) → i < length xs → A
 nth [] i below = absurd (omega (arith, below))
 nth (x ∷ xs) i below = x
 
 fault-cause : {D : Type 0} (seen : D → DiskSeen) (plan : PlanSeen) (new : List (NumberedDisk D)) (swap : Option DiskSeen) (fault : OpenFaultSeen)
-    → attached_numbers new ≡ disk_numbers plan → IsFaultThere seen new fault → HasDiskCause plan (bare (map (numbered_seen seen) new)) swap fault
+    → attached_numbers new ≡ disk_numbers plan → IsFaultThere seen new fault → HasDiskCause plan (bare_disks (map (numbered_seen seen) new)) swap fault
 fault-cause seen plan new swap fault numbers there =
     let x = nth new there.i there.inside in
     let one = there.one x in
-    let disks = bare (map (numbered_seen seen) new) in
+    let disks = bare_disks (map (numbered_seen seen) new) in
     let d = slice_index_or new there.i x in
     let inside : there.i < length (disk_numbers plan) = omega (arith, there.inside, ap length numbers, length-map new (λ (y : NumberedDisk _). y.number)) in
     let number : slice_index_or (disk_numbers plan) there.i 0 ≡ d.number =
@@ -106,7 +106,7 @@ fault-cause seen plan new swap fault numbers there =
     omega (arith, length-map (map (numbered_seen seen) new) (λ (q : ℕ × DiskSeen). q.1), length-map new (numbered_seen seen), length-map new (λ (y : NumberedDisk _). y.number), ap length numbers) in
     let found : lookup (λ m. m == fault.disk) (zip (disk_numbers plan) disks) ≡ Some (seen d.disk) =
     ap (λ n. lookup (λ m. m == n) (zip (disk_numbers plan) disks)) fault_number
-    ∙ lookup-at (disk_numbers plan) disks there.i (seen x.disk) (plan-numbers plan).1 long inside ∙ ap (λ (q : DiskSeen). Some q) (bare-at seen new there.i x there.inside) in
+    ∙ lookup-at (disk_numbers plan) disks there.i (seen x.disk) (plan-numbers plan).1 long inside ∙ ap (λ (q : DiskSeen). Some q) (bare_disks-at seen new there.i x there.inside) in
     let back : disk_handed plan disks swap fault.disk ≡ Some (seen d.disk) =
     ap (λ (t : Bool). if t then swap else lookup (λ m. m == fault.disk) (zip (disk_numbers plan) disks)) (ne_eqb fault.disk 8 (λ e. omega (arith, e, fault_number, small))) ∙ found in
     if-counted ⊥ (λ (counts : ℕ × ℕ). IsCountedBy plan disks swap fault.disk counts.0 counts.1) fault.counts one.risen
@@ -115,18 +115,18 @@ fault-cause seen plan new swap fault numbers there =
 -- where the disks tell, what placing comes to is how the plan is opened
 opened-told : {D : Type 0} (seen : D → DiskSeen) (plan : PlanSeen) (holds : Spec → Option (List (List ℕ))) (old : List (NumberedDisk D)) (ts : List TableSeen) (r : Result (List OpenedFile) Refusal)
     → AllBlocks (map (numbered_seen seen) old) → AreMounted holds (disk_specs plan.setup) (map (numbered_seen seen) old) ts → placing_read seen old ts plan.setup ≡ r
-    → All Told (bare (map (numbered_seen seen) old)) → opened plan holds ≡ r
+    → All Told (bare_disks (map (numbered_seen seen) old)) → opened_files plan holds ≡ r
 opened-told seen plan holds old ts r blocks m read told =
-    let tells = rack-tells holds (disk_specs plan.setup) (map (numbered_seen seen) old) ts m (recursion_from_All (λ (d : DiskSeen). IsSome d.content) (bare (map (numbered_seen seen) old)) told) in
+    let tells = rack-tells holds (disk_specs plan.setup) (map (numbered_seen seen) old) ts m (recursion_from_All (λ (d : DiskSeen). IsSome d.content) (bare_disks (map (numbered_seen seen) old)) told) in
     opened-is holds plan (map (numbered_seen seen) old) ts m tells.0 blocks tells.1
     ∙ ap (λ (xs : List (ℕ × ℕ)). with_line_files (block_count (finite.from_entries xs)) (if_few (Ok (found_files (map (numbered_seen seen) old) ts))) plan.setup) (sizes-seen seen old)
     ∙ read
 
 -- disks that were mounted are as the rack gave them
 mounted-given : (plan : PlanSeen) (holds : Spec → Option (List (List ℕ))) (disks : List (ℕ × DiskSeen)) (ts : List TableSeen) (swap : Option DiskSeen) → AreMounted holds (disk_specs plan.setup) disks ts
-    → IsSwapAsGiven (amounts_of plan.setup).slots swap → AreUntouched plan holds (bare disks) swap
+    → IsSwapAsGiven (amounts_of plan.setup).slots swap → AreUntouched plan holds (bare_disks disks) swap
 mounted-given plan holds disks ts swap m blank = record {
-  each = subst (λ (ss : List Spec). AreAsGiven holds ss (bare disks)) (append-nil (disk_specs plan.setup))
+  each = subst (λ (ss : List Spec). AreAsGiven holds ss (bare_disks disks)) (append-nil (disk_specs plan.setup))
       (as-given holds (disk_specs plan.setup) [] disks (given_of_mounted holds (disk_specs plan.setup) disks ts m));
   last = blank;
 }
@@ -141,21 +141,21 @@ module _ {D : Type 0} (seen : D → DiskSeen) (plan : PlanSeen) (holds : Spec �
   numbers : attached_numbers new ≡ disk_numbers plan
   numbers = same-numbers seen old new same ∙ sym (numbers-seen seen old) ∙ mounted-numbers holds (disk_specs plan.setup) (map (numbered_seen seen) old) ts m
 
-  all : HandsAll plan (bare (map (numbered_seen seen) new)) swap
+  all : HandsAll plan (bare_disks (map (numbered_seen seen) new)) swap
   all = hands-all seen plan holds old new ts swap m serves remain
 
-  comes : (r : Result (List OpenedFile) Refusal) → placing_read seen old ts plan.setup ≡ r → ComesTo plan holds (sizes_of plan (bare (map (numbered_seen seen) new))) r
+  comes : (r : Result (List OpenedFile) Refusal) → placing_read seen old ts plan.setup ≡ r → ComesTo plan holds (sizes_of plan (bare_disks (map (numbered_seen seen) new))) r
   comes r read = subst (λ (xs : List (ℕ × ℕ)). ComesTo plan holds xs r) (sizes-handed plan (map (numbered_seen seen) new) (numbers-seen seen new ∙ numbers)) (comes-to seen plan holds old new ts r m same read)
 
   pub stop-early : (how : PlaceStop) → PlaceStopped seen (placing_read seen old ts plan.setup) old new how
-      → HandsStopped plan (bare (map (numbered_seen seen) new)) swap (ending_of how) × StopCause plan holds count count (bare (map (numbered_seen seen) new)) swap (ending_of how)
-  stop-early stop.Memory stopped = (hands-front plan (bare (map (numbered_seen seen) new)) swap all, tt)
+      → HandsStopped plan (bare_disks (map (numbered_seen seen) new)) swap (ending_of how) × StopCause plan holds count count (bare_disks (map (numbered_seen seen) new)) swap (ending_of how)
+  stop-early stop.Memory stopped = (hands-front plan (bare_disks (map (numbered_seen seen) new)) swap all, tt)
   stop-early (stop.Rule n) stopped = (
     all,
     record {
-      told = λ told. opened-told seen plan holds old ts (Err (refusal.Rule n)) blocks m stopped.0 (subst (λ (ds : List (NumberedDisk D)). All Told (bare (map (numbered_seen seen) ds))) stopped.1 told.each);
+      told = λ told. opened-told seen plan holds old ts (Err (refusal.Rule n)) blocks m stopped.0 (subst (λ (ds : List (NumberedDisk D)). All Told (bare_disks (map (numbered_seen seen) ds))) stopped.1 told.each);
       line = comes (Err (refusal.Rule n)) stopped.0;
-      same = subst (λ (ds : List (NumberedDisk D)). AreUntouched plan holds (bare (map (numbered_seen seen) ds)) swap) (sym stopped.1) (mounted-given plan holds (map (numbered_seen seen) old) ts swap m blank);
+      same = subst (λ (ds : List (NumberedDisk D)). AreUntouched plan holds (bare_disks (map (numbered_seen seen) ds)) swap) (sym stopped.1) (mounted-given plan holds (map (numbered_seen seen) old) ts swap m blank);
     },
   )
   stop-early (stop.Fault f) stopped = (
@@ -169,9 +169,9 @@ module _ {D : Type 0} (seen : D → DiskSeen) (plan : PlanSeen) (holds : Spec �
     }),
   )
 
-bare-seen : {D : Type 0} (seen : D → DiskSeen) (ds : List (NumberedDisk D)) → bare (map (numbered_seen seen) ds) ≡ map seen (map (λ (d : NumberedDisk D). d.disk) ds)
-bare-seen seen [] = refl
-bare-seen seen (d ∷ ds) = λ i. seen d.disk ∷ bare-seen seen ds i
+bare_disks-seen : {D : Type 0} (seen : D → DiskSeen) (ds : List (NumberedDisk D)) → bare_disks (map (numbered_seen seen) ds) ≡ map seen (map (λ (d : NumberedDisk D). d.disk) ds)
+bare_disks-seen seen [] = refl
+bare_disks-seen seen (d ∷ ds) = λ i. seen d.disk ∷ bare_disks-seen seen ds i
 
 swap-seen : {D : Type 0} (seen : D → DiskSeen) (swap : Option (NumberedDisk D)) → option_map (λ (d : NumberedDisk D). seen d.disk) swap ≡ option_map seen (option_map (λ (d : NumberedDisk D). d.disk) swap)
 swap-seen seen None = refl
@@ -186,17 +186,17 @@ pub stops-early : {D : Type 0} (seen : D → DiskSeen) (plan : PlanSeen) (holds 
     → RemainThere seen old new → PlaceStopped seen (placing_read seen old ts plan.setup) old new how → StopsEarly plan holds count count seen s
 stops-early {D} seen plan holds old new ts swap count how s ends entries counts disks swaps blocks m serves blank remain stopped =
     let r = stop-early seen plan holds old new ts (option_map (λ (d : NumberedDisk D). seen d.disk) swap) count blocks m serves blank remain how stopped in
-    let same_disks : bare (map (numbered_seen seen) new) ≡ map seen s.disks.items = bare-seen seen new ∙ ap (map seen) (sym disks) in
+    let same_disks : bare_disks (map (numbered_seen seen) new) ≡ map seen s.disks.items = bare_disks-seen seen new ∙ ap (map seen) (sym disks) in
     let same_swap : option_map (λ (d : NumberedDisk D). seen d.disk) swap ≡ option_map seen s.swap = swap-seen seen swap ∙ ap (option_map seen) (sym swaps) in
     record {
       entries = entries;
       counts = counts;
       handed = subst (λ (e : Ending). HandsStopped plan (map seen s.disks.items) (option_map seen s.swap) e) (sym ends)
           (subst (λ (ds : List DiskSeen). HandsStopped plan ds (option_map seen s.swap) (ending_of how)) same_disks
-          (subst (λ (o : Option DiskSeen). HandsStopped plan (bare (map (numbered_seen seen) new)) o (ending_of how)) same_swap r.0));
+          (subst (λ (o : Option DiskSeen). HandsStopped plan (bare_disks (map (numbered_seen seen) new)) o (ending_of how)) same_swap r.0));
       cause = subst (λ (e : Ending). StopCause plan holds count count (map seen s.disks.items) (option_map seen s.swap) e) (sym ends)
           (subst (λ (ds : List DiskSeen). StopCause plan holds count count ds (option_map seen s.swap) (ending_of how)) same_disks
-          (subst (λ (o : Option DiskSeen). StopCause plan holds count count (bare (map (numbered_seen seen) new)) o (ending_of how)) same_swap r.1));
+          (subst (λ (o : Option DiskSeen). StopCause plan holds count count (bare_disks (map (numbered_seen seen) new)) o (ending_of how)) same_swap r.1));
     }
 
 -- the elements of a vector that was written through

@@ -27,7 +27,7 @@ use Rattle.sunvm.specs.declared.showing.Heading.TheVariants.{Trace}
 use Rattle.sunvm.specs.declared.showing.ShowStop.{ShowStop}
 use Rattle.sunvm.specs.declared.showing.ShowStop.TheVariants as show
 use Rattle.sunvm.specs.Asked.{Given, Asked, WasAsked}
-use Rattle.sunvm.specs.Attached.{ArePlaced, AttachedSeen, FileDisksTell, HasItsBytes, bare, numbered_seen}
+use Rattle.sunvm.specs.Attached.{ArePlaced, AttachedSeen, FileDisksTell, HasItsBytes, bare_disks, numbered_seen}
 use Rattle.sunvm.specs.Closed.{StoreFiles, info_at}
 use Rattle.sunvm.specs.Course.{AreReadBytes, TraceStops, opening_stop}
 use Rattle.sunvm.specs.Handed.{End, HandsAll, HasDiskCause, HasSpecSize, HaveSpecSizes, HaveTold, IsCountedBy, disk_handed, plan_disks, sizes_of, stop_end}
@@ -88,7 +88,7 @@ lie-read made old new r h = record {
   some = h.some;
 }
 
-specs-read : (specs : List Spec) (old new : List (ℕ × DiskSeen)) → AreOnlyRead old new → HaveSpecSizes specs (bare old) → HaveSpecSizes specs (bare new)
+specs-read : (specs : List Spec) (old new : List (ℕ × DiskSeen)) → AreOnlyRead old new → HaveSpecSizes specs (bare_disks old) → HaveSpecSizes specs (bare_disks new)
 specs-read specs old new r h = (
   length-map new (λ (p : ℕ × DiskSeen). p.1) ∙ r.count ∙ sym (length-map old (λ (p : ℕ × DiskSeen). p.1)) ∙ h.0,
   λ i s d si di.
@@ -97,7 +97,7 @@ specs-read specs old new r h = (
       subst (HasSpecSize s) x.2 (spec-size s m.0.1 x.0.1 (r.each i m.0 x.0 m.1 x.1).size (h.1 i s m.0.1 si (at-map (λ (p : ℕ × DiskSeen). p.1) old i m.0 m.1))),
 )
 
-hands-read : (plan : PlanSeen) (old new : List (ℕ × DiskSeen)) (swap : Option DiskSeen) → AreOnlyRead old new → HandsAll plan (bare old) swap → HandsAll plan (bare new) swap
+hands-read : (plan : PlanSeen) (old new : List (ℕ × DiskSeen)) (swap : Option DiskSeen) → AreOnlyRead old new → HandsAll plan (bare_disks old) swap → HandsAll plan (bare_disks new) swap
 hands-read plan old new swap r h = record { each = specs-read (disk_specs plan.setup) old new r h.each; first = h.first }
 
 -- the files are placed still
@@ -105,7 +105,7 @@ pub placed-read : (plan : PlanSeen) (holds : Spec → Option (List (List ℕ))) 
     → AreOnlyRead a.disks b.disks → b.swap ≡ a.swap → ArePlaced plan holds files b made
 placed-read plan holds files a b made p r same = record {
   numbers = r.numbers ∙ p.numbers;
-  handed = subst (HandsAll plan (bare b.disks)) (sym same) (hands-read plan a.disks b.disks a.swap r p.handed);
+  handed = subst (HandsAll plan (bare_disks b.disks)) (sym same) (hands-read plan a.disks b.disks a.swap r p.handed);
   sizes = p.sizes ∙ ap finite.from_entries (sym (pairs-read a.disks b.disks r));
   fresh = p.fresh;
   lie = lie-read made a.disks b.disks r p.lie;
@@ -213,10 +213,10 @@ module _ (plan : PlanSeen) (holds : Spec → Option (List (List ℕ))) (files : 
 -- the opening part that was written is that of the disks as they are handed back
 pub opening-read : (what : Asked) (files : List OpenedFile) (bytes : ℕ → List ℕ) (a : AttachedSeen) (new : List (ℕ × DiskSeen)) (made : FilesSeen) (holds : Spec → Option (List (List ℕ)))
     → ArePlaced what.plan holds files a made → AreOnlyRead a.disks new
-    → trace_opening what.options (numbered_plan files what.plan) (disk_sizes a.disks) (infos_of files) bytes ≡ opening_part what files (bare new) bytes
+    → trace_opening what.options (numbered_plan files what.plan) (disk_sizes a.disks) (infos_of files) bytes ≡ opening_part what files (bare_disks new) bytes
 opening-read what files bytes a new made holds p r =
-    let pairs : plan_disks what.plan (bare new) ≡ new = ap (λ (ns : List ℕ). zip ns (bare new)) (sym p.numbers ∙ sym r.numbers) ∙ zip-back new in
-    let sizes : sizes_of what.plan (bare new) ≡ disk_sizes a.disks = ap disk_sizes pairs ∙ pairs-read a.disks new r in
+    let pairs : plan_disks what.plan (bare_disks new) ≡ new = ap (λ (ns : List ℕ). zip ns (bare_disks new)) (sym p.numbers ∙ sym r.numbers) ∙ zip-back new in
+    let sizes : sizes_of what.plan (bare_disks new) ≡ disk_sizes a.disks = ap disk_sizes pairs ∙ pairs-read a.disks new r in
     ap (λ (z : List (ℕ × ℕ)). trace_opening what.options what.plan z (infos_of files) bytes) (sym sizes)
 
 -- ---- a trace that stopped
@@ -225,16 +225,16 @@ module _ (st : ℕ) (ft : Option RunFault) (g : Given) (o : Outside) (what : Ask
     (made : FilesSeen) (p : ArePlaced what.plan g.holds files a made) (read : AreReadBytes files a.disks bytes) (new : List (ℕ × DiskSeen)) (r : AreOnlyRead a.disks new)
     (H : HistorySeen) (entries : H.entries ≡ []) (counts : H.faults ≡ []) (low : (i : ℕ) (d : ℕ × DiskSeen) → slice_get a.disks i ≡ Some d → d.0 < 8) where
   abbrev pub stopped : End
-  stopped = record { status = st; fault = ft; history = H; disks = bare new; swap = a.swap }
+  stopped = record { status = st; fault = ft; history = H; disks = bare_disks new; swap = a.swap }
 
-  tell : HaveTold (bare new) a.swap → FileDisksTell (infos_of files) a.disks
+  tell : HaveTold (bare_disks new) a.swap → FileDisksTell (infos_of files) a.disks
   tell t = tell-read (infos_of files) a.disks new r (λ i k disk at lt own.
-      All-slice_get (λ (d : DiskSeen). IsSome d.content) (bare new) i disk.1 t.each (at-map (λ (q : ℕ × DiskSeen). q.1) new i disk at))
+      All-slice_get (λ (d : DiskSeen). IsSome d.content) (bare_disks new) i disk.1 t.each (at-map (λ (q : ℕ × DiskSeen). q.1) new i disk at))
 
-  pairs : plan_disks what.plan (bare new) ≡ new
-  pairs = ap (λ (ns : List ℕ). zip ns (bare new)) (sym p.numbers ∙ sym r.numbers) ∙ zip-back new
+  pairs : plan_disks what.plan (bare_disks new) ≡ new
+  pairs = ap (λ (ns : List ℕ). zip ns (bare_disks new)) (sym p.numbers ∙ sym r.numbers) ∙ zip-back new
 
-  sizes : sizes_of what.plan (bare new) ≡ disk_sizes a.disks
+  sizes : sizes_of what.plan (bare_disks new) ≡ disk_sizes a.disks
   sizes = ap disk_sizes pairs ∙ pairs-read a.disks new r
 
   pub opened-so : IsOpened g what files stopped
@@ -248,17 +248,17 @@ module _ (st : ℕ) (ft : Option RunFault) (g : Given) (o : Outside) (what : Ask
   pub bytes-so : AreOpenedBytes g what files stopped bytes
   bytes-so = record { lengths = read.lengths; told = λ t. read.told (tell t.disks) }
 
-  opening-text : trace_opening what.options (numbered_plan files what.plan) (disk_sizes a.disks) (infos_of files) bytes ≡ opening_part what files (bare new) bytes
+  opening-text : trace_opening what.options (numbered_plan files what.plan) (disk_sizes a.disks) (infos_of files) bytes ≡ opening_part what files (bare_disks new) bytes
   opening-text = opening-read what files bytes a new made g.holds p r
 
-  counted : (f : FaultCounts) → IsCountedSince a.disks new f → IsCountedBy what.plan (bare new) a.swap f.number f.before f.after
+  counted : (f : FaultCounts) → IsCountedSince a.disks new f → IsCountedBy what.plan (bare_disks new) a.swap f.number f.before f.after
   counted f k =
       let n = f.number in
       let is : n ≡ k.is.0 = k.fault.number in
       record {
         risen = k.fault.risen;
         disk = k.is.1;
-        back = ap (λ (b : Bool). if b then a.swap else lookup (λ m. m == n) (plan_disks what.plan (bare new))) (other n (subst (λ (m : ℕ). m < 8) (sym (is ∙ k.same)) (low k.i k.was k.there)))
+        back = ap (λ (b : Bool). if b then a.swap else lookup (λ m. m == n) (plan_disks what.plan (bare_disks new))) (other n (subst (λ (m : ℕ). m < 8) (sym (is ∙ k.same)) (low k.i k.was k.there)))
             ∙ ap (lookup (λ m. m == n)) pairs
             ∙ lookup-at n new k.i k.is.1 (have-read made a.disks new r p.have).numbers (k.now ∙ ap (λ (m : ℕ). Some (m, k.is.1)) (sym is));
         last = k.fault.last;
@@ -267,8 +267,8 @@ module _ (st : ℕ) (ft : Option RunFault) (g : Given) (o : Outside) (what : Ask
       other : (m : ℕ) → m < 8 → (m == 8) ≡ false
       other m lt = ne_eqb m 8 (λ e. omega (arith, lt, e))
 
-  cause : (f : OpenFaultSeen) → IsCountedSince a.disks new (open_fault_counts f) → HasDiskCause what.plan (bare new) a.swap f
-  cause f c = if-counted ⊥ (λ x. IsCountedBy what.plan (bare new) a.swap f.disk x.0 x.1) f.counts c.fault.risen (counted (open_fault_counts f) c)
+  cause : (f : OpenFaultSeen) → IsCountedSince a.disks new (open_fault_counts f) → HasDiskCause what.plan (bare_disks new) a.swap f
+  cause f c = if-counted ⊥ (λ x. IsCountedBy what.plan (bare_disks new) a.swap f.disk x.0 x.1) f.counts c.fault.risen (counted (open_fault_counts f) c)
 
   pub traced-stop : (how : Ending) → TraceStops what.options (numbered_plan files what.plan) files bytes o.sink_old o.sink_new a.disks new how → CaseOf g o (wrote_before o) stopped how
   traced-stop ending.Memory t = inr (inr (inl (record {
@@ -293,7 +293,7 @@ module _ (st : ℕ) (ft : Option RunFault) (g : Given) (o : Outside) (what : Ask
   traced-stop (ending.Opening f) t = inr (record {
     what = what;
     files = files;
-    text = trace_front what.plan (sizes_of what.plan (bare new)) ++ sections_before Trace (infos_of files) bytes t.2.0 t.2.1;
+    text = trace_front what.plan (sizes_of what.plan (bare_disks new)) ++ sections_before Trace (infos_of files) bytes t.2.0 t.2.1;
     opened = opened-so;
     history = record { entries = entries; counts = counts };
     cause = cause f t.1;
@@ -311,7 +311,7 @@ module _ (st : ℕ) (ft : Option RunFault) (g : Given) (o : Outside) (what : Ask
   traced-stop (ending.Showing f) t = absurd t
 
   -- memory lacked behind the whole opening part
-  pub lacks-behind : Wrote o.sink_old o.sink_new (opening_part what files (bare new) bytes) → CaseOf g o (wrote_before o) stopped ending.Memory
+  pub lacks-behind : Wrote o.sink_old o.sink_new (opening_part what files (bare_disks new) bytes) → CaseOf g o (wrote_before o) stopped ending.Memory
   lacks-behind wrote = inr (inr (inl (record {
     what = what;
     files = files;
@@ -319,11 +319,11 @@ module _ (st : ℕ) (ft : Option RunFault) (g : Given) (o : Outside) (what : Ask
     opened = opened-so;
     history = record { entries = entries; counts = counts };
     read = bytes-so;
-    wrote = whole_front o.sink_old o.sink_new (opening_part what files (bare new) bytes) wrote;
+    wrote = whole_front o.sink_old o.sink_new (opening_part what files (bare_disks new) bytes) wrote;
   })))
 
 -- the disks that a run which stopped hands back
-pub handed-disks : {D : Type 0} (seen : D → DiskSeen) (xs : List (NumberedDisk D)) → map seen (map (λ d. d.disk) xs) ≡ bare (map (numbered_seen seen) xs)
+pub handed-disks : {D : Type 0} (seen : D → DiskSeen) (xs : List (NumberedDisk D)) → map seen (map (λ d. d.disk) xs) ≡ bare_disks (map (numbered_seen seen) xs)
 handed-disks seen [] = refl
 handed-disks seen (x ∷ xs) = ap (λ (l : List DiskSeen). seen x.disk ∷ l) (handed-disks seen xs)
 
@@ -343,6 +343,6 @@ stopped-tracing st ft g o what files bytes asked a b made p read r same k0 k1 be
     let told : TraceStops what.options (numbered_plan files what.plan) files bytes o.sink_old o.sink_new a.disks b.disks how =
     rw (sym numbered, before, after) t in
     let case = traced-stop st ft g o what files bytes asked a made p read b.disks r s.history entries counts low how told in
-    let back : map seen s.disks.items ≡ bare b.disks = ap (map seen) disks ∙ handed-disks seen xs ∙ ap bare (sym all) in
+    let back : map seen s.disks.items ≡ bare_disks b.disks = ap (map seen) disks ∙ handed-disks seen xs ∙ ap bare_disks (sym all) in
     let swapped : option_map seen s.swap ≡ a.swap = ap (option_map seen) swap ∙ handed-swap seen w ∙ sym last ∙ same in
     rw (is, back, swapped) case

@@ -86,12 +86,12 @@ abbrev pub WasAsked : Given → Result Asked Ending → Type 0
 WasAsked g r = Asks (options_of g.words) g.rest r
 
 -- The same as a function, where the text is told.
-abbrev pub asked_of : Option Options → Option (List ℕ) → Option (Result Asked Ending)
-asked_of None rest = Some (Err ending.Usage)
-asked_of (Some o) rest = option_map (λ text. by_script o (plan_of text)) (script_told o.make rest)
+abbrev pub request_of_options : Option Options → Option (List ℕ) → Option (Result Asked Ending)
+request_of_options None rest = Some (Err ending.Usage)
+request_of_options (Some o) rest = option_map (λ text. by_script o (plan_of text)) (script_told o.make rest)
 
-abbrev pub asked : Given → Option (Result Asked Ending)
-asked g = asked_of (options_of g.words) g.rest
+abbrev pub run_request : Given → Option (Result Asked Ending)
+run_request g = request_of_options (options_of g.words) g.rest
 
 -- The source failed, from which the script was to be read: its count of faults rose, and the words name no generated script.
 pub record FailsToRead (g : Given) (old new : ℕ) : Type 0 where

@@ -22,7 +22,7 @@ use Rattle.sunvm.specs.declared.ending.Stop.{Stop}
 use Rattle.sunvm.specs.Closed.{StoreFiles, info_at}
 use Rattle.sunvm.specs.Handed.{HaveTold, RackTells, HandsFront, HandsAll, HandsRefused, HasDiskCause, HasOpeningCause, HasRefusalCause, IsSwapAsGiven, IsSwapFor, StopsAttaching, disk_numbers, sizes_of}
 use Rattle.sunvm.specs.Written.{LieWell, HaveDisks, HaveFirstBlocks}
-use Rattle.sunvm.specs.Opened.{ComesTo, OpenedFile, opened, infos_of, opened_bytes_at, table_on, disk_specs}
+use Rattle.sunvm.specs.Opened.{ComesTo, OpenedFile, opened_files, infos_of, opened_bytes_at, table_on, disk_specs}
 
 -- The disks with their numbers, in rising number; the table of each; and the swap disk.
 pub record AttachedSeen : Type 0 where
@@ -41,8 +41,8 @@ attached_seen seen a = record {
 }
 
 -- The disks without their numbers.
-abbrev pub bare : List (ℕ × DiskSeen) → List DiskSeen
-bare disks = map (λ (d : ℕ × DiskSeen). d.1) disks
+abbrev pub bare_disks : List (ℕ × DiskSeen) → List DiskSeen
+bare_disks disks = map (λ (d : ℕ × DiskSeen). d.1) disks
 
 -- There is room for the disks to be started with and to be handed back.
 pub record HasRooms {D : Type 0} (a : Attached D) : Type 0 where
@@ -79,7 +79,7 @@ pub record StopsWriting (plan : PlanSeen) (holds : Spec → Option (List (List �
   pub files : List OpenedFile
   pub handed : HandsAll plan disks swap
   pub given : ComesTo plan holds (sizes_of plan disks) (Ok files)
-  pub opened : HaveTold disks swap → opened plan holds ≡ Ok files
+  pub opened : HaveTold disks swap → opened_files plan holds ≡ Ok files
 
 -- A run that stops before its processes run: a rule is broken, a disk or the rack failed, or memory lacked; the disks so far are handed back.
 abbrev pub StopCause : PlanSeen → (Spec → Option (List (List ℕ))) → ℕ → ℕ → List DiskSeen → Option DiskSeen → Ending → Type 0
@@ -118,7 +118,7 @@ FileDisksTell infos disks = (i k : ℕ) (disk : ℕ × DiskSeen) → slice_get d
 -- ALL FILES ARE PLACED: their records, on disks that are there; where the disks tell, as the set-up rules say; and each disk that tells has their bytes.
 pub record ArePlaced (plan : PlanSeen) (holds : Spec → Option (List (List ℕ))) (files : List OpenedFile) (a : AttachedSeen) (made : FilesSeen) : Type 0 where
   pub numbers : map (λ (d : ℕ × DiskSeen). d.0) a.disks ≡ disk_numbers plan
-  pub handed : HandsAll plan (bare a.disks) a.swap
+  pub handed : HandsAll plan (bare_disks a.disks) a.swap
   pub sizes : made.disks ≡ finite.from_entries (map (λ (d : ℕ × DiskSeen). (d.0, d.1.size)) a.disks)
   pub fresh : made.files ≡ map fresh_vnode (infos_of files)
   pub lie : FilesOnDisks made a.disks
@@ -129,5 +129,5 @@ pub record ArePlaced (plan : PlanSeen) (holds : Spec → Option (List (List ℕ)
   pub own : All HasItsBytes files
   pub kept : All (λ f. 1 ≤ page_count f.info.extents) files
   pub given : ComesTo plan holds (map (λ (d : ℕ × DiskSeen). (d.0, d.1.size)) a.disks) (Ok files)
-  pub told : RackTells holds plan → FileDisksTell (infos_of files) a.disks → opened plan holds ≡ Ok files
+  pub told : RackTells holds plan → FileDisksTell (infos_of files) a.disks → opened_files plan holds ≡ Ok files
   pub stored : StoreFiles a.disks (infos_of files) (opened_bytes_at files)

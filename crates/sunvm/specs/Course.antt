@@ -21,7 +21,7 @@ use Rattle.sunvm.specs.declared.showing.Heading.TheVariants.{Report, Trace}
 use Rattle.sunvm.specs.declared.showing.ShowStop.{ShowStop}
 use Rattle.sunvm.specs.declared.showing.ShowStop.TheVariants as show
 use Rattle.sunvm.specs.Asked.{Given, Asked, FailsToRead, WasAsked}
-use Rattle.sunvm.specs.Attached.{AttachedSeen, ArePlaced, FileDisksTell, bare}
+use Rattle.sunvm.specs.Attached.{AttachedSeen, ArePlaced, FileDisksTell, bare_disks}
 use Rattle.sunvm.specs.Closed.{SayTables}
 use Rattle.sunvm.specs.Handed.{stop_end}
 use Rattle.sunvm.specs.Opened.{OpenedFile, infos_of, numbered_plan}
@@ -43,7 +43,7 @@ pub record IsReady (g : Given) (k0 k1 : SinkSeen) (what : Asked) (files : List O
   pub rules : broken_rule plan ≡ None
   pub playable : IsPlayable plan
   pub read : AreReadBytes files a.disks bytes
-  pub wrote : Wrote k0 k1 (opening_part what files (bare a.disks) bytes)
+  pub wrote : Wrote k0 k1 (opening_part what files (bare_disks a.disks) bytes)
 
 -- A run that stopped ends in the case of its ending, whatever its status and fault will be.
 abbrev pub HasCase : Given → Outside → {D : Type 0} → (D → DiskSeen) → Stop D → Type 0

@@ -19,7 +19,7 @@ use Rattle.sunvm.specs.declared.ending.Refusal.{Refusal}
 use Rattle.sunvm.specs.declared.ending.Refusal.TheVariants as refusal
 use Rattle.sunvm.specs.declared.outcome.RunFault.{RunFault}
 use Rattle.sunvm.specs.declared.outcome.Outcome.{Outcome}
-use Rattle.sunvm.specs.Opened.{ComesTo, disk_specs, opened}
+use Rattle.sunvm.specs.Opened.{ComesTo, disk_specs, opened_files}
 
 -- A run that ended: its status and fault, the history, the disks in rising number, and the swap disk.
 pub record End : Type 0 where
@@ -131,7 +131,7 @@ pub record AreUntouched (plan : PlanSeen) (holds : Spec → Option (List (List �
 
 -- No disk that was read before this one breaks a rule of volumes. The swap disk, number 8, is attached before all others.
 abbrev pub NoneBreaksBefore : PlanSeen → (Spec → Option (List (List ℕ))) → ℕ → Type 0
-NoneBreaksBefore plan holds disk = (number rule : ℕ) → opened plan holds ≡ Err (refusal.Volume number rule) → (disk ≡ 8) ⊎ (disk ≤ number)
+NoneBreaksBefore plan holds disk = (number rule : ℕ) → opened_files plan holds ≡ Err (refusal.Volume number rule) → (disk ≡ 8) ⊎ (disk ≤ number)
 
 -- Why a rule that the disks or the lines of files break is told: where each disk that came back tells, it is the first that is broken; that of a line is
 -- so over any disks. Nothing was written.
@@ -140,7 +140,7 @@ BreaksLine plan holds disks (refusal.Volume number rule) = Unit {0}
 BreaksLine plan holds disks (refusal.Rule n) = ComesTo plan holds (sizes_of plan disks) (Err (refusal.Rule n))
 
 pub record HasRefusalCause (plan : PlanSeen) (holds : Spec → Option (List (List ℕ))) (disks : List DiskSeen) (swap : Option DiskSeen) (r : Refusal) : Type 0 where
-  pub told : HaveTold disks swap → opened plan holds ≡ Err r
+  pub told : HaveTold disks swap → opened_files plan holds ≡ Err r
   pub line : BreaksLine plan holds disks r
   pub same : AreUntouched plan holds disks swap
 

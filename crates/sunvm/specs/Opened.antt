@@ -83,9 +83,9 @@ with_mounted disk (Ok table) (Err r) = Err r
 with_mounted disk (Ok table) (Ok files) = Ok (map (mounted_file disk) table.entries ++ files)
 
 -- The files that disks have as they are attached, disk by disk, each in the order of its table; or the first disk's rule that is broken.
-abbrev pub mounted : List (ℕ × List (List ℕ)) → Result (List OpenedFile) Refusal
-mounted [] = Ok []
-mounted (disk ∷ disks) = with_mounted disk (table_on disk.1) (mounted disks)
+abbrev pub mounted_files : List (ℕ × List (List ℕ)) → Result (List OpenedFile) Refusal
+mounted_files [] = Ok []
+mounted_files (disk ∷ disks) = with_mounted disk (table_on disk.1) (mounted_files disks)
 
 -- The extents of those of the files that lie on a disk.
 abbrev pub extents_of_disk : ℕ → List FileInfo → List Extent
@@ -144,12 +144,12 @@ if_few (Ok files) = if nat_lt 64 (length files) then Err (refusal.Rule 10) else 
 abbrev pub size_held : List (ℕ × List (List ℕ)) → ℕ → ℕ
 size_held disks number = unwrap_or (option_map length (lookup (λ n. n == number) disks)) 0
 
-abbrev pub opened_on : List (ℕ × List (List ℕ)) → List SetupLine → Result (List OpenedFile) Refusal
-opened_on disks setup = with_line_files (size_held disks) (if_few (mounted disks)) setup
+abbrev pub files_opened_on : List (ℕ × List (List ℕ)) → List SetupLine → Result (List OpenedFile) Refusal
+files_opened_on disks setup = with_line_files (size_held disks) (if_few (mounted_files disks)) setup
 
 -- THE FILES AS THEY ARE OPENED: those of the disks and then those of the script's lines; or the first set-up rule that is broken.
-abbrev pub opened : PlanSeen → (Spec → Option (List (List ℕ))) → Result (List OpenedFile) Refusal
-opened plan holds = opened_on (disks_held holds (disk_specs plan.setup)) plan.setup
+abbrev pub opened_files : PlanSeen → (Spec → Option (List (List ℕ))) → Result (List OpenedFile) Refusal
+opened_files plan holds = files_opened_on (disks_held holds (disk_specs plan.setup)) plan.setup
 
 -- The records of the files that tables have, on the disks of these numbers.
 abbrev pub mounted_infos : List ℕ → List TableSeen → List FileInfo

@@ -23,7 +23,7 @@ use Rattle.vm_world.specs.State.{KernelState, room_of, mode_of}
 use Rattle.vm_world.specs.StateFits.{StateFits}
 use Rattle.vm_script.specs.Sound.{IsSoundPlan}
 use Rattle.sunvm.specs.Asked.{is_later}
-use Rattle.sunvm.specs.Attached.{bare}
+use Rattle.sunvm.specs.Attached.{bare_disks}
 use Rattle.sunvm.specs.Closed.{StoreFiles, infos_in_flat, flat_bytes}
 use Rattle.sunvm.specs.Handed.{HaveTold}
 use Rattle.sunvm.specs.Written.{LieWell, HaveDisks, HaveExtents, HasLastFault, disk_fault_counts}
@@ -88,7 +88,7 @@ pub record IsClosingFault (l : LeftSeen) (f : DiskFault) : Type 0 where
 
 -- WHAT A KERNEL LEAVES that was started with flat memory F: a history that is legal, the files as the history leaves them, and the disks.
 pub record KernelLeaves (F : Flat) (s : KernelState) (l : LeftSeen) : Type 0 where
-  pub legal : HaveTold (bare l.disks) l.swap → Legal F l.history.entries
+  pub legal : HaveTold (bare_disks l.disks) l.swap → Legal F l.history.entries
   pub formed : All (λ (e : Entry). IsWellFormed e.call) l.history.entries
   pub few : length l.history.entries < 2 ^ 32
   pub counted : Counted l.history.entries
@@ -98,14 +98,14 @@ pub record KernelLeaves (F : Flat) (s : KernelState) (l : LeftSeen) : Type 0 whe
   pub lie : LieWell l.files
   pub have : HaveDisks l.files l.disks
   pub extents : HaveExtents (infos_made l.files)
-  pub infos : HaveTold (bare l.disks) l.swap
+  pub infos : HaveTold (bare_disks l.disks) l.swap
       → infos_made l.files ≡ infos_in_flat (map (λ (v : VnodeSeen). v.info.name) l.files.files) (replay F l.history.entries).files
-  pub stored : IfNone l.fault (HaveTold (bare l.disks) l.swap → StoreFiles l.disks (infos_made l.files) (flat_bytes (replay F l.history.entries).files))
+  pub stored : IfNone l.fault (HaveTold (bare_disks l.disks) l.swap → StoreFiles l.disks (infos_made l.files) (flat_bytes (replay F l.history.entries).files))
   pub fault : IfSome l.fault (IsClosingFault l)
   pub counts : (i : ℕ) (d : ℕ × DiskSeen) → slice_get l.disks i ≡ Some d → (count : ℕ) × (slice_index_or l.history.faults d.0 None ≡ Some count) × (count ≤ d.1.faults)
   pub disks : DisksCameBack (disks_of s.memory.world) l.disks
   pub swap : SwapCameBack (bay_at s.memory.world.store.bays 8) l.swap
-  pub tells : HaveTold (bare l.disks) l.swap → AllTell s.memory.world no_notes
+  pub tells : HaveTold (bare_disks l.disks) l.swap → AllTell s.memory.world no_notes
 
 -- A plan whose lines the kernel can make one after another: one block at most, each line a call that is served and well formed.
 pub record IsPlayable (plan : PlanSeen) : Type 0 where

@@ -20,11 +20,11 @@ use Rattle.sunvm.specs.declared.ending.Ending.TheVariants as ending
 use Rattle.sunvm.specs.declared.outcome.RunFault.{RunFault}
 use Rattle.sunvm.specs.declared.outcome.RunFault.TheVariants as fault
 use Rattle.sunvm.specs.declared.showing.Heading.TheVariants.{Report, Trace}
-use Rattle.sunvm.specs.Asked.{Given, Asked, FailsToRead, WasAsked, asked}
+use Rattle.sunvm.specs.Asked.{Given, Asked, FailsToRead, WasAsked, run_request}
 use Rattle.sunvm.specs.Closed.{StoreFiles, SayTables, infos_in_flat, flat_bytes, modes_in}
 use Rattle.sunvm.specs.Ending.{status_of, fault_of, last_line_of}
 use Rattle.sunvm.specs.Handed.{End, HaveTold, RackTells, HandsNone, HandsFront, HandsAll, HandsRefused, HasDiskCause, HasOpeningCause, HasLateCause, HasRefusalCause, StopsAttaching, CountsReach, plan_disks, sizes_of, handed_count}
-use Rattle.sunvm.specs.Opened.{ComesTo, OpenedFile, opened, infos_of, names_of, numbered_plan, opening_flat}
+use Rattle.sunvm.specs.Opened.{ComesTo, OpenedFile, opened_files, infos_of, names_of, numbered_plan, opening_flat}
 use Rattle.sunvm.specs.Texts.{Wrote, WroteAndFront, WroteAndPart, WroteFront, WroteOn, WrotePart, IsPageUnread, file_sections, files_or_none, middle_text, sections_before, trace_front, trace_opening}
 
 -- What the outside has seen of a run: the counts of faults of source and rack before and after it, how many disks the rack had attached, and the sink.
@@ -97,7 +97,7 @@ pub record IsOpened (g : Given) (what : Asked) (files : List OpenedFile) (e : En
   pub asked : WasAsked g (Ok what)
   pub handed : HandsAll what.plan e.disks e.swap
   pub given : ComesTo what.plan g.holds (sizes_of what.plan e.disks) (Ok files)
-  pub opened : DisksTell g what e → opened what.plan g.holds ≡ Ok files
+  pub opened : DisksTell g what e → opened_files what.plan g.holds ≡ Ok files
 
 -- What was printed before a fault of this disk that came once the files had their places: nothing, or a trace up to the place of a page that wasn't read
 -- from it.
@@ -314,6 +314,6 @@ IsDiskCounted (Some (fault.Showing f)) = Unit {0}
 -- fault that a disk counted, or disks that don't tell break a rule.
 abbrev pub IsComplete : Given → Outside → End → Type 0
 IsComplete g o e =
-    (what : Asked) (files : List OpenedFile) → asked g ≡ Some (Ok what) → opened what.plan g.holds ≡ Ok files
+    (what : Asked) (files : List OpenedFile) → run_request g ≡ Some (Ok what) → opened_files what.plan g.holds ≡ Ok files
     → ¬ HasRisen o.source_old o.source_new → ¬ HasRisen o.sink_old.faults o.sink_new.faults → ¬ HasRisen o.rack_old o.rack_new
     → (e.status ≡ 0) ⊎ (e.status ≡ 8) ⊎ IsDiskCounted e.fault ⊎ ((e.status ≡ 4) × ¬ DisksTell g what e)

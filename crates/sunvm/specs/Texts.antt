@@ -2,7 +2,7 @@
 use Rattle.std.specs.Prelude.{ℕ, ◌≡◌, ◌<◌, ◌+◌, ◌*◌, ◌⊎◌, Bool, List, [], ◌∷◌, ◌++◌, length, map, take, Option, Some, None, if◌then◌else◌}
 use Rattle.vm_types.specs.declared.call.Entry.{Entry}
 use Rattle.block_device.specs.Counts.{HasRisen}
-use Rattle.block_device.specs.StreamSeen.{SinkSeen, appended}
+use Rattle.block_device.specs.StreamSeen.{SinkSeen, text_with_more}
 use Rattle.flat_model.specs.Words.{pages_in}
 use Rattle.vnode_files.specs.declared.extent.Extent.{Extent}
 use Rattle.vnode_files.specs.declared.vnode.FileInfo.{FileInfo}
@@ -74,7 +74,7 @@ files_or_none (Some number) infos bytes = []
 
 -- The whole text was written.
 abbrev pub Wrote : SinkSeen → SinkSeen → List ℕ → Type 0
-Wrote old new text = new.written ≡ appended old.written text
+Wrote old new text = new.written ≡ text_with_more old.written text
 
 -- The whole text was written, and a front of the rest behind it.
 abbrev pub WroteAndFront : SinkSeen → SinkSeen → List ℕ → List ℕ → Type 0

@@ -4,7 +4,7 @@ ghost use Rattle.block_device.specs.Counts.{HasRisen};
 ghost use Rattle.page_store.specs.Bays.{pairs_seen};
 ghost use Rattle.vm_report.specs.Faults.{disk_fault_text};
 ghost use Rattle.vm_types.specs.WellFormed.{IsWellFormed};
-ghost use Rattle.sunvm.specs.Attached.{HaveVolumeNames, bare};
+ghost use Rattle.sunvm.specs.Attached.{HaveVolumeNames, bare_disks};
 ghost use Rattle.block_device.specs.DiskSeen.{DiskSeen};
 ghost use Rattle.sunvm.specs.Course.{CloseEnds, CloseFails, MiddleStops, ShowEnds, TablesEnd, showing_stop};
 ghost use Rattle.sunvm.specs.Played.{infos_made};
@@ -242,7 +242,7 @@ pub fn end_run<D: Disk, K: Sink>(
     requires empty { back.items ≡ [] }
     requires room { length played.finished.disks.items ≤ vec_capacity back }
     ensures ends { (new : List (ℕ × DiskSeen))
-        × (map D.seen result.disks.items ≡ bare new)
+        × (map D.seen result.disks.items ≡ bare_disks new)
         × CloseEnds played.is_whole played.finished.fault options.now plan.now
         played.finished.history.entries (infos_made played.finished.files)
         (K.seen out.old) (K.seen out.new)

@@ -2,7 +2,7 @@
 ghost use Rattle.std.specs.Prelude.{ℕ, ◌≡◌, ◌≤◌, ◌<◌, ◌+◌, ◌^◌, List, Option, map, string_bytes, IfOk, IfErr};
 ghost use Rattle.block_device.specs.declared.rack.Spec.{Spec};
 ghost use Rattle.sunvm.specs.Asked.{Given, Asked, WasAsked, given_of};
-ghost use Rattle.sunvm.specs.Attached.{AreAttached, ArePlaced, HasRooms, attached_seen, bare, numbered_seen};
+ghost use Rattle.sunvm.specs.Attached.{AreAttached, ArePlaced, HasRooms, attached_seen, bare_disks, numbered_seen};
 ghost use Rattle.sunvm.specs.Course.{HasCase, IsReady, IsReadPlan, AreReadBytes, Traces, opening_stop};
 ghost use Rattle.sunvm.specs.Handed.{handed_count};
 ghost use Rattle.sunvm.specs.Opened.{OpenedFile, numbered_plan};

@@ -5,7 +5,7 @@ ghost use Rattle.block_device.specs.declared.rack.Spec.{Spec};
 ghost use Rattle.block_device.specs.DiskSeen.{DiskSeen};
 ghost use Rattle.vm_script.specs.Rules.{broken_rule};
 ghost use Rattle.vm_script.specs.Sound.{IsSoundPlan};
-ghost use Rattle.sunvm.specs.Attached.{ArePlaced, HasRooms, StopsEarly, attached_seen, bare};
+ghost use Rattle.sunvm.specs.Attached.{ArePlaced, HasRooms, StopsEarly, attached_seen, bare_disks};
 ghost use Rattle.sunvm.specs.Opened.{OpenedFile, opening_flat};
 ghost use Rattle.sunvm.specs.Played.{IsStarted, HasRoomForPlan};
 ghost use Rattle.sunvm.specs.declared.ending.Ending.TheVariants.{Memory};
@@ -124,7 +124,7 @@ pub fn start<D: Disk>(alloc: Global, plan: &Plan, placed: Placed<D>) -> Result<S
         → IfErr result (StopsEarly plan.now holds count count D.seen) }
     ensures memory { IfErr result (λ s. s.ending ≡ Memory) }
     ensures same { IfErr result (λ s.
-        (map D.seen s.disks.items ≡ bare (attached_seen D.seen placed.attached).disks)
+        (map D.seen s.disks.items ≡ bare_disks (attached_seen D.seen placed.attached).disks)
         × (option_map D.seen s.swap ≡ (attached_seen D.seen placed.attached).swap)) }
 {
     let Placed { attached, files } = placed;

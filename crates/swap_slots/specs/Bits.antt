@@ -23,7 +23,7 @@ pub record IsSummary (words full : List ℕ) : Type 0 where
   pub marks : (word : ℕ) → word < length words → flag full word ≡ (slice_index words word == 2 ^ 64 - 1)
 
 -- the words have a bit for each slot
-pub record IsIndexed (slots : ℕ) (words full : List ℕ) : Type 0 where
+pub record IsSoundSwapSlots (slots : ℕ) (words full : List ℕ) : Type 0 where
   pub enough : slots ≤ 64 * length words
   pub few : length words ≤ 2 ^ 32
   pub few_full : length full ≤ 2 ^ 32

@@ -23,13 +23,13 @@ pub struct SwapSlots {
 
 impl Model for SwapSlots {
     ghost use Rattle.std.specs.Prelude.{List, Bool};
-    ghost use Rattle.swap_slots.specs.Bits.{flags, IsIndexed};
+    ghost use Rattle.swap_slots.specs.Bits.{flags, IsSoundSwapSlots};
 
     ghost Value = { List Bool };
 
     ghost view = { λ s. flags s.words.items s.slots };
 
-    ghost invariant = { λ s. IsIndexed s.slots s.words.items s.full.items };
+    ghost invariant = { λ s. IsSoundSwapSlots s.slots s.words.items s.full.items };
 }
 
 impl SwapSlots {

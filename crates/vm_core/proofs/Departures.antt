@@ -23,7 +23,7 @@ use Rattle.vm_world.specs.World.{World, world_table}
 use Rattle.vm_world.specs.WorldSteps.{WorldStep, leaves}
 use Rattle.vm_world.proofs.StateSteps.{state_rule}
 use Rattle.vm_core.specs.Flights.{CanLeave, IsKeptFor, sent_with}
-use Rattle.vm_core.specs.State.{IsKept}
+use Rattle.vm_core.specs.State.{IsSoundKernel}
 use Rattle.vm_core.proofs.Landings.{disks-kept}
 
 can-leave : (m : Memory) (of : Option Caller) (p : Plan) → MayPlan m of p → (is_push p ≡ false → IsSome (next_frame m.world.store)) → CanLeave m.world p
@@ -43,7 +43,7 @@ kept-ready opening s seats seat p kept fit k =
     subst (λ (x : Plan). Waits s.memory.world.store (page_of x) (world_table s.memory.world (page_of x)).disk None) k.same (fit.plans.plan kept k.is).ready
 
 -- WHAT IS KEPT after a flight left.
-pub kept-left : (old new : World) (spaces : Spaces) (entries : List ℕ) (seats seat : ℕ) (f : FlightSeen) (cut : PageName → Bool) → IsKept old.store spaces entries seats → WorldStep old new spaces (leaves seat (note_of f)) cut → IsKept new.store spaces entries seats
+pub kept-left : (old new : World) (spaces : Spaces) (entries : List ℕ) (seats seat : ℕ) (f : FlightSeen) (cut : PageName → Bool) → IsSoundKernel old.store spaces entries seats → WorldStep old new spaces (leaves seat (note_of f)) cut → IsSoundKernel new.store spaces entries seats
 kept-left old new spaces entries seats seat f cut k step =
     let disks = disks-kept old.store new.store f.number (home f.disk) (out seat) step.bays.0 refl refl step.bays.1 in
     let frames = step.frames in

@@ -10,7 +10,7 @@ use Rattle.block_device.specs.declared.disk_fault.DiskFault.{DiskFault}
 use Rattle.core_arena.specs.Bytes.{zeros}
 use Rattle.page_hash.specs.declared.PageName.{PageName}
 use Rattle.page_store.specs.Bays.{no_disk, numbers_of, block_of, pairs_seen}
-use Rattle.page_store.specs.Bytes.{clipped}
+use Rattle.page_store.specs.Bytes.{clip}
 use Rattle.page_store.specs.Layout.{KeepsPage}
 use Rattle.page_store.proofs.TransferLemmas.{is-or-not}
 use Rattle.vnode_files.specs.declared.vnode.FileInfo.{FileInfo}
@@ -23,7 +23,7 @@ use Rattle.vm_world.specs.World.{file_blocks, file_name}
 use Rattle.vm_world.proofs.PageNames.{keeps-page, below-kept}
 use Rattle.seg_ops.proofs.Places.{index-set}
 use Rattle.vm_core.specs.Finish.{IsFilePage, bytes_of_page, disk_at, IsPageBlock, KeepsOtherBlocks, KeepsDisk, KeepDisks, KeepRecords, IsLastFault}
-use Rattle.vm_core.specs.Closing.{AreDisksOf, stored_on, WritesBlanks, FillsPages, WritesZeros}
+use Rattle.vm_core.specs.Closing.{AreDisksOf, page_on_disk, WritesBlanks, FillsPages, WritesZeros}
 use Rattle.vm_core.proofs.Records.{count-kept, disk-kept, block-kept, bytes-kept, page-kept, records-refl, records-then, files-fit-kept, keeps-disk-refl, keep-disks-then}
 
 -- a page of a file is one that the file keeps
@@ -182,7 +182,7 @@ cleared (b ∷ bs) (suc i) = cleared bs i
 pub blank-now : (F : FilesSeen) (file page : ℕ) → file < length F.files → is_blank (vnode_at (with_page_filled F file page) file) page ≡ false
 blank-now F file page lt = ap (λ (v : VnodeSeen). is_blank v page) (get_or-set_same F.files file (with_blank (vnode_at F file) page false) no_vnode lt) ∙ cleared (vnode_at F file).blanks page
 
-pub clip-zeros : (n : ℕ) → n ≤ 4096 → clipped n zeros ≡ zeros
+pub clip-zeros : (n : ℕ) → n ≤ 4096 → clip n zeros ≡ zeros
 clip-zeros n low = let e : n + (4096 - n) ≡ 4096 = omega (arith, low) in
     ap (λ (l : List ℕ). l ++ replicate (4096 - n) 0) (take-replicate n 4096 0 low) ∙ replicate-append-replicate n (4096 - n) 0 ∙ ap (λ (m : ℕ). replicate m 0) e
 
@@ -195,10 +195,10 @@ block-other None block b bytes ne = refl
 block-other (Some blocks) block b bytes ne = get_or-set_other blocks block b bytes [] ne
 
 pub stored-same : (F G : FilesSeen) (d e : DiskSeen) (n : PageName) → KeepRecords F G → is_blank (vnode_at G n.object) n.page ≡ is_blank (vnode_at F n.object) n.page
-    → block_of e.content (block_of_page F n.object n.page) ≡ block_of d.content (block_of_page F n.object n.page) → stored_on G e n ≡ stored_on F d n
+    → block_of e.content (block_of_page F n.object n.page) ≡ block_of d.content (block_of_page F n.object n.page) → page_on_disk G e n ≡ page_on_disk F d n
 stored-same F G d e n k blank block =
-    ap (λ (b : ℕ). cond (is_blank (vnode_at G n.object) n.page) zeros (clipped (bytes_of_page G n) (block_of e.content b))) (block-kept F G k n)
-    ∙ (λ i. cond (blank i) zeros (clipped (bytes-kept F G k n i) (block i)))
+    ap (λ (b : ℕ). cond (is_blank (vnode_at G n.object) n.page) zeros (clip (bytes_of_page G n) (block_of e.content b))) (block-kept F G k n)
+    ∙ (λ i. cond (blank i) zeros (clip (bytes-kept F G k n i) (block i)))
 
 -- A BLANK PAGE GETS ZEROS: each place has what it had.
 module _ (F : FilesSeen) (L M : List (ℕ × DiskSeen)) (file page : ℕ) (are : AreDisksOf F L) (p : IsFilePage F (file_name file page)) (whole : (i : ℕ) → HasBlocks (disk_at L i).1.content (disk_at L i).1.size)
@@ -207,22 +207,22 @@ module _ (F : FilesSeen) (L M : List (ℕ × DiskSeen)) (file page : ℕ) (are :
   abbrev G : FilesSeen
   G = with_page_filled F file page
 
-  here : (i : ℕ) → i ≡ at → IsSome (disk_at L i).1.content → stored_on G (disk_at M i).1 (file_name file page) ≡ stored_on F (disk_at L i).1 (file_name file page)
+  here : (i : ℕ) → i ≡ at → IsSome (disk_at L i).1.content → page_on_disk G (disk_at M i).1 (file_name file page) ≡ page_on_disk F (disk_at L i).1 (file_name file page)
   here i e told =
       let k = records-filled F file page in
       let some : IsSome (disk_at L at).1.content = subst (λ (j : ℕ). IsSome (disk_at L j).1.content) e told in
       let disk_is : disk_at M i ≡ (disk_of_file F file, disk) = ap (disk_at M) e ∙ ap (λ (l : List (ℕ × DiskSeen)). disk_at l at) new ∙ get_or-set_same L at (disk_of_file F file, disk) _ within in
       let low : bytes_of_page F (file_name file page) ≤ 4096 = omega arith in
-      ap (λ (d : ℕ × DiskSeen). stored_on G d.1 (file_name file page)) disk_is
-      ∙ ap (λ (b : Bool). cond b zeros (clipped (bytes_of_page G (file_name file page)) (block_of disk.content (block_of_page G file page)))) (blank-now F file page p.file)
-      ∙ ap (λ (b : ℕ). clipped (bytes_of_page G (file_name file page)) (block_of disk.content b)) (block-kept F G k (file_name file page))
-      ∙ ap (λ (o : Option (List (List ℕ))). clipped (bytes_of_page G (file_name file page)) (block_of o (block_of_page F file page))) written
-      ∙ ap (clipped (bytes_of_page G (file_name file page))) (block-now (disk_at L at).1.content (block_of_page F file page) (disk_at L at).1.size zeros some (whole at) (block-within F L at (file_name file page) are within p (sym number)))
-      ∙ ap (λ (v : ℕ). clipped v zeros) (bytes-kept F G k (file_name file page))
+      ap (λ (d : ℕ × DiskSeen). page_on_disk G d.1 (file_name file page)) disk_is
+      ∙ ap (λ (b : Bool). cond b zeros (clip (bytes_of_page G (file_name file page)) (block_of disk.content (block_of_page G file page)))) (blank-now F file page p.file)
+      ∙ ap (λ (b : ℕ). clip (bytes_of_page G (file_name file page)) (block_of disk.content b)) (block-kept F G k (file_name file page))
+      ∙ ap (λ (o : Option (List (List ℕ))). clip (bytes_of_page G (file_name file page)) (block_of o (block_of_page F file page))) written
+      ∙ ap (clip (bytes_of_page G (file_name file page))) (block-now (disk_at L at).1.content (block_of_page F file page) (disk_at L at).1.size zeros some (whole at) (block-within F L at (file_name file page) are within p (sym number)))
+      ∙ ap (λ (v : ℕ). clip v zeros) (bytes-kept F G k (file_name file page))
       ∙ clip-zeros (bytes_of_page F (file_name file page)) low
-      ∙ sym (ap (λ (b : Bool). cond b zeros (clipped (bytes_of_page F (file_name file page)) (block_of (disk_at L i).1.content (block_of_page F file page)))) blank)
+      ∙ sym (ap (λ (b : Bool). cond b zeros (clip (bytes_of_page F (file_name file page)) (block_of (disk_at L i).1.content (block_of_page F file page)))) blank)
 
-  there : (i : ℕ) (n : PageName) → n ≢ file_name file page → IsFilePage F n → disk_of_file F n.object ≡ (disk_at L i).0 → stored_on G (disk_at M i).1 n ≡ stored_on F (disk_at L i).1 n
+  there : (i : ℕ) (n : PageName) → n ≢ file_name file page → IsFilePage F n → disk_of_file F n.object ≡ (disk_at L i).0 → page_on_disk G (disk_at M i).1 n ≡ page_on_disk F (disk_at L i).1 n
   there i n ne q on =
       let block : block_of (disk_at M i).1.content (block_of_page F n.object n.page) ≡ block_of (disk_at L i).1.content (block_of_page F n.object n.page) =
       subst (λ (l : List (ℕ × DiskSeen)). block_of (disk_at l i).1.content (block_of_page F n.object n.page) ≡ block_of (disk_at L i).1.content (block_of_page F n.object n.page)) (sym new)
@@ -239,7 +239,7 @@ module _ (F : FilesSeen) (L M : List (ℕ × DiskSeen)) (file page : ℕ) (are :
     stored = λ i n lt q on told. elim (is-or-not n (file_name file page)) [
       | inl same ↦
           let mine : (disk_at L i).0 ≡ (disk_at L at).0 = sym on ∙ ap (λ (m : PageName). disk_of_file F m.object) same ∙ sym number in
-          subst (λ (m : PageName). stored_on G (disk_at M i).1 m ≡ stored_on F (disk_at L i).1 m) (sym same) (here i (one-disk F L i at are lt within mine) told)
+          subst (λ (m : PageName). page_on_disk G (disk_at M i).1 m ≡ page_on_disk F (disk_at L i).1 m) (sym same) (here i (one-disk F L i at are lt within mine) told)
       | inr ne ↦ there i n ne q on
     ];
     filled = λ n q or. elim (is-or-not n (file_name file page)) [

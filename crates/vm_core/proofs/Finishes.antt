@@ -10,7 +10,7 @@ use Rattle.block_device.specs.declared.disk_fault.DiskFault.{DiskFault}
 use Rattle.core_arena.specs.Bytes.{zeros}
 use Rattle.page_hash.specs.declared.PageName.{PageName}
 use Rattle.page_store.specs.Bays.{BaySeen, missing, home, out, bay_at, block_of, disk_in, disks_in, no_disk, numbers_of, AreNumbers, IsStill}
-use Rattle.page_store.specs.Bytes.{clipped}
+use Rattle.page_store.specs.Bytes.{clip}
 use Rattle.page_store.specs.Notes.{Note, no_notes}
 use Rattle.page_store.specs.Waits.{Waits, holder_in}
 use Rattle.page_store.proofs.QueryLemmas.{home-is}
@@ -22,12 +22,12 @@ use Rattle.vm_world.specs.Pages.{page_value}
 use Rattle.vm_world.specs.Segments.{Spaces}
 use Rattle.vm_world.specs.Wants.{IsDirtyPage}
 use Rattle.vm_world.specs.World.{World, world_table, AllTell}
-use Rattle.vm_world.proofs.Clips.{clipped-twice}
+use Rattle.vm_world.proofs.Clips.{clip-twice}
 use Rattle.vm_world.proofs.FrameRule.{memory_of}
 use Rattle.seg_ops.proofs.Disks.{lives-on, dirty-exists}
 use Rattle.seg_ops.proofs.Evictions.{unlocked}
 use Rattle.vm_core.specs.Finish.{IsFilePage, bytes_of_page, disk_at, disks_of, HoldsPage, HoldAllFiles, KeepsOtherBlocks, KeepsDisk, KeepDisks, KeepRecords, IsLastFault, HaveNoBlankPage}
-use Rattle.vm_core.specs.Closing.{KeepsBay, PushesPages, StoresPages, IsFaultOfBays, AreDisksOf, stored_on, WritesBlanks, FillsPages}
+use Rattle.vm_core.specs.Closing.{KeepsBay, PushesPages, StoresPages, IsFaultOfBays, AreDisksOf, page_on_disk, WritesBlanks, FillsPages}
 use Rattle.vm_core.proofs.Records.{records-back, records-then, page-kept, disk-kept, block-kept, bytes-kept, keeps-disk-refl, keep-disks-then}
 use Rattle.vm_core.proofs.Fills.{block-within, fault-then}
 use Rattle.vm_core.proofs.Pushes.{records-of}
@@ -171,13 +171,13 @@ module _ (u v : World) (spaces : Spaces) (G : FilesSeen) (M : List (ℕ × DiskS
         let size = h.0 in
         (h.1 b (omega (arith, low, same, size))).0
 
-    placed : stored_on G (disk_at M i).1 name ≡ clipped n (slice_index_or blocks b [])
+    placed : page_on_disk G (disk_at M i).1 name ≡ clip n (slice_index_or blocks b [])
     placed =
         let ks = records-then u.files v.files G k w.records in
-        ap (λ (x : Bool). cond x zeros (clipped (bytes_of_page G name) (block_of (disk_at M i).1.content (block_of_page G name.object name.page)))) (fills.filled name page1 (inr tt))
-        ∙ ap (λ (m : ℕ). clipped m (block_of (disk_at M i).1.content (block_of_page G name.object name.page))) (bytes-kept u.files G ks name)
-        ∙ ap (λ (m : ℕ). clipped n (block_of (disk_at M i).1.content m)) (block-kept u.files G ks name)
-        ∙ ap (λ (o : Option (List (List ℕ))). clipped n (block_of o b)) is
+        ap (λ (x : Bool). cond x zeros (clip (bytes_of_page G name) (block_of (disk_at M i).1.content (block_of_page G name.object name.page)))) (fills.filled name page1 (inr tt))
+        ∙ ap (λ (m : ℕ). clip m (block_of (disk_at M i).1.content (block_of_page G name.object name.page))) (bytes-kept u.files G ks name)
+        ∙ ap (λ (m : ℕ). clip n (block_of (disk_at M i).1.content m)) (block-kept u.files G ks name)
+        ∙ ap (λ (o : Option (List (List ℕ))). clip n (block_of o b)) is
 
     its-disk : (disk_at (disks_of v) i).1 ≡ disk_in (bay_at v.store.bays (disk_of_file v.files name.object))
     its-disk =
@@ -188,9 +188,9 @@ module _ (u v : World) (spaces : Spaces) (G : FilesSeen) (M : List (ℕ × DiskS
     pub held-page : HoldsPage u.files blocks name (page_value u no_notes name)
     held-page =
         let low : n ≤ 4096 = omega arith in
-        sym (clipped-twice n (slice_index_or blocks b []) low full)
-        ∙ ap (clipped n) (sym placed ∙ fills.stored i name within page1 on1 told ∙ ap (λ (d : DiskSeen). stored_on v.files d name) its-disk)
-        ∙ subst (λ (m : ℕ). clipped m (stored_on v.files (disk_in (bay_at v.store.bays (disk_of_file v.files name.object))) name) ≡ clipped m (page_value v no_notes name)) (bytes-kept u.files v.files k name) (stores tell name page (inr tt))
+        sym (clip-twice n (slice_index_or blocks b []) low full)
+        ∙ ap (clip n) (sym placed ∙ fills.stored i name within page1 on1 told ∙ ap (λ (d : DiskSeen). page_on_disk v.files d name) its-disk)
+        ∙ subst (λ (m : ℕ). clip m (page_on_disk v.files (disk_in (bay_at v.store.bays (disk_of_file v.files name.object))) name) ≡ clip m (page_value v no_notes name)) (bytes-kept u.files v.files k name) (stores tell name page (inr tt))
         ∙ p.values tell name page
 
   pub all-held : AllTell u no_notes → HoldAllFiles u M

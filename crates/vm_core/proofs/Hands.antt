@@ -15,7 +15,7 @@ use Rattle.vm_world.specs.StateSteps.{PendsTails}
 use Rattle.vm_world.specs.World.{World}
 use Rattle.vm_world.proofs.StateSteps.{state_rule}
 use Rattle.vm_core.specs.Clock.{after_hand, kept_of_clock}
-use Rattle.vm_core.specs.State.{IsKept}
+use Rattle.vm_core.specs.State.{IsSoundKernel}
 
 no-tails : (w : World) (pending : ℕ) → PendsTails w (λ name. false) pending pending
 no-tails w pending = record { bits = λ g lt. or-false (bit pending g); below = λ h. h }
@@ -32,7 +32,7 @@ hand-event s new seat (Some p) keeps runs =
     state_rule.plans s new (λ name. false) s.pending (kept_of_clock seat p) keeps (no-tails s.memory.world s.pending) runs (λ of e. absurd (let z : ◌≡◌ {A = Option Caller} None (Some of) = e in cc))
 
 -- WHAT IS KEPT after a step that keeps all pages.
-pub kept-still : (old new : World) (spaces : Spaces) (entries : List ℕ) (seats : ℕ) → IsKept old.store spaces entries seats → KeepsPages old new spaces → IsKept new.store spaces entries seats
+pub kept-still : (old new : World) (spaces : Spaces) (entries : List ℕ) (seats : ℕ) → IsSoundKernel old.store spaces entries seats → KeepsPages old new spaces → IsSoundKernel new.store spaces entries seats
 kept-still old new spaces entries seats k step =
     let disks = ap (λ (bays : List BaySeen). length (filter is_disk bays)) step.bays in
     let frames = step.frames in

@@ -46,7 +46,7 @@ use Rattle.vm_world.proofs.Failures.{failure_rule}
 use Rattle.vm_world.proofs.NextParts.{next-file}
 use Rattle.vm_world.proofs.StateSteps.{state_rule}
 use Rattle.vm_core.specs.Flights.{IsBack, AddsEntry}
-use Rattle.vm_core.specs.State.{calls_without, without_seat, with_next_entry, IsKept}
+use Rattle.vm_core.specs.State.{calls_without, without_seat, with_next_entry, IsSoundKernel}
 
 -- THE LOCK OF THE FILE. Whose call of a file is between two parts, once a seat's call of one file is over.
 other-seat : (seat t : ℕ) (o : Option ℕ) → t ≢ seat → (without_seat seat o ≡ Some t) ↔ (o ≡ Some t)
@@ -171,7 +171,7 @@ landed-bays s f true = refl
 landed-bays s f false = refl
 
 -- WHAT IS KEPT after a flight came back.
-pub kept-ended : (old new : StoreSeen) (f : FlightSeen) (spaces : Spaces) (entries : List ℕ) (seats : ℕ) → IsKept old spaces entries seats → IsFlightOf old f → new ≡ after_end old f → EndsTransfer old new f → IsKept new spaces entries seats
+pub kept-ended : (old new : StoreSeen) (f : FlightSeen) (spaces : Spaces) (entries : List ℕ) (seats : ℕ) → IsSoundKernel old spaces entries seats → IsFlightOf old f → new ≡ after_end old f → EndsTransfer old new f → IsSoundKernel new spaces entries seats
 kept-ended old new f spaces entries seats k flight is laws =
     let disks = disks-kept old new f.number (out f.seat) (home f.disk) flight.out.bay refl refl (ap (λ (x : StoreSeen). x.bays) is ∙ landed-bays (with_pair_settled old f) f (is_lost f.writes f.outcome (row_at (with_pair_settled old f).rows f.frame).gone)) in
     let frames = laws.touches.frames in

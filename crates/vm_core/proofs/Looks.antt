@@ -6,7 +6,7 @@ use Rattle.block_device.specs.DiskSeen.{DiskSeen}
 use Rattle.core_arena.specs.Bytes.{bytes_at}
 use Rattle.hat_layer.specs.Pool.{Pool, frame_of, leads, drop_lead, drop_frame}
 use Rattle.hat_layer.specs.declared.translation.Translation.{Translation}
-use Rattle.page_clock.specs.Clock.{stepped}
+use Rattle.page_clock.specs.Clock.{next_clock}
 use Rattle.page_hash.specs.Names.{name_at, find}
 use Rattle.page_hash.specs.declared.PageName.{PageName}
 use Rattle.page_hash.proofs.NameLaws.{find-at}
@@ -14,7 +14,7 @@ use Rattle.page_lock.specs.Rows.{row_at, clear_row, with_bits}
 use Rattle.page_lock.specs.declared.Row.{Row}
 use Rattle.page_store.specs.Bays.{BaySeen, home, out, bay_at}
 use Rattle.page_store.specs.Laws.{StaysInPlace}
-use Rattle.page_store.specs.Moves.{only}
+use Rattle.page_store.specs.Moves.{is_only}
 use Rattle.page_store.specs.Notes.{Notes}
 use Rattle.page_store.specs.Seen.{StoreSeen, IsSoundStore, IsListedFrame, residence, residence_in, residence_of}
 use Rattle.page_store.specs.Steps.{with_row, next_frame}
@@ -228,7 +228,7 @@ looks-runs u spaces frame name Loaded here dirty h = absurd h
 looks-runs u spaces frame name Past here dirty h = absurd h
 
 -- STEPS OF THE WORLD. The hands move on.
-pub hand-keeps : (w : World) (spaces : Spaces) (new : StoreSeen) → MemoryFits (memory_of w spaces) → new ≡ record w.store { clock = stepped w.store.clock } → StaysInPlace w.store new (only None) → KeepsPages w (with_tables w new w.hat) spaces
+pub hand-keeps : (w : World) (spaces : Spaces) (new : StoreSeen) → MemoryFits (memory_of w spaces) → new ≡ record w.store { clock = next_clock w.store.clock } → StaysInPlace w.store new (is_only None) → KeepsPages w (with_tables w new w.hat) spaces
 hand-keeps w spaces new f is laws =
     step-keeps w spaces new w.hat f (record {
       sound = laws.sound;
@@ -247,7 +247,7 @@ hand-keeps w spaces new f is laws =
     (λ notes nf. laws.values notes (world_table w) nf.stored)
 
 -- The reference bit of a row is cleared.
-pub clear-keeps : (w : World) (spaces : Spaces) (new : StoreSeen) (frame : ℕ) → MemoryFits (memory_of w spaces) → new ≡ with_row w.store frame (with_bits (row_at w.store.rows frame) false (row_at w.store.rows frame).modified) → StaysInPlace w.store new (only (Some frame))
+pub clear-keeps : (w : World) (spaces : Spaces) (new : StoreSeen) (frame : ℕ) → MemoryFits (memory_of w spaces) → new ≡ with_row w.store frame (with_bits (row_at w.store.rows frame) false (row_at w.store.rows frame).modified) → StaysInPlace w.store new (is_only (Some frame))
     → KeepsPages w (with_tables w new w.hat) spaces
 clear-keeps w spaces new frame f is laws =
     let cleared : ℕ → Row = λ k. with_bits (row_at w.store.rows k) false (row_at w.store.rows k).modified in

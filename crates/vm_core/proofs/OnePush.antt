@@ -8,7 +8,7 @@ use Rattle.block_device.specs.declared.disk_fault.DiskFault.{DiskFault}
 use Rattle.core_arena.specs.Bytes.{zeros}
 use Rattle.page_hash.specs.declared.PageName.{PageName}
 use Rattle.page_store.specs.Bays.{BaySeen, missing, home, out, bay_at, block_of, disk_in}
-use Rattle.page_store.specs.Bytes.{clipped}
+use Rattle.page_store.specs.Bytes.{clip}
 use Rattle.page_store.specs.Flight.{FlightSeen, Progress, fresh, done, failed, note_of, IsPerformed, IsWritten}
 use Rattle.page_store.specs.Notes.{Note, Notes, no_notes, with_note}
 use Rattle.page_store.specs.Value.{tells, content_in_bay}
@@ -27,13 +27,13 @@ use Rattle.vm_world.specs.Pages.{page_value}
 use Rattle.vm_world.specs.Segments.{Spaces}
 use Rattle.vm_world.specs.World.{World, StoreCore, world_table, AllTell}
 use Rattle.vm_world.specs.WorldSteps.{WorldStep, leaves, returns, cut_page}
-use Rattle.vm_world.proofs.Clips.{clipped-twice}
+use Rattle.vm_world.proofs.Clips.{clip-twice}
 use Rattle.vm_world.proofs.FrameRule.{memory_of, exists-same}
 use Rattle.seg_ops.specs.Flights.{BeginsFor}
 use Rattle.seg_ops.specs.Marks.{files_pushed}
 use Rattle.seg_ops.proofs.StillSteps.{value-is}
 use Rattle.vm_core.specs.Finish.{IsFilePage, bytes_of_page, KeepsDisk, KeepRecords}
-use Rattle.vm_core.specs.Closing.{KeepsBay, PushesPages, IsStored, StoresPages, IsFaultOfBays, stored_on}
+use Rattle.vm_core.specs.Closing.{KeepsBay, PushesPages, IsStored, StoresPages, IsFaultOfBays, page_on_disk}
 use Rattle.vm_core.proofs.Records.{disk-kept, block-kept, bytes-kept}
 use Rattle.vm_core.proofs.Fills.{with_page_filled, blank-other, blank-now, stored-same, block-now, block-other, one-page, other-blocks-written}
 use Rattle.vm_core.proofs.Pushes.{records-of, bay-refl, no-slot, page-exists, page-is, place-is, valid-is, value-home}
@@ -46,16 +46,16 @@ none-left false x = refl
 pub note-back : (note : Note) → with_note (with_note no_notes 0 (Some note)) 0 None ≡ no_notes
 note-back note = λ i seat. none-left (seat == 0) note i
 
-cut-clip : (c : Bool) (v n : ℕ) (page : Page) → v ≡ n → n ≤ 4096 → (c ≡ true → length page ≡ 4096) → clipped n (cut_page c v page) ≡ clipped n page
+cut-clip : (c : Bool) (v n : ℕ) (page : Page) → v ≡ n → n ≤ 4096 → (c ≡ true → length page ≡ 4096) → clip n (cut_page c v page) ≡ clip n page
 cut-clip false v n page same low whole = refl
-cut-clip true v n page same low whole = ap (λ (m : ℕ). clipped n (clipped m page)) same ∙ clipped-twice n page low (whole refl)
+cut-clip true v n page same low whole = ap (λ (m : ℕ). clip n (clip m page)) same ∙ clip-twice n page low (whole refl)
 
 written-some : (note : Note) (e : FlightSeen) (o : Progress) → IsWritten note e o → (bytes : List ℕ) × (e.disk.content ≡ with_block note.disk.content note.block bytes)
 written-some note e fresh w = absurd w
-written-some note e done w = (clipped note.valid note.bytes, w)
+written-some note e done w = (clip note.valid note.bytes, w)
 written-some note e failed w = (w.0, w.2)
 
-written-done : (note : Note) (e : FlightSeen) (o : Progress) → o ≡ done → IsWritten note e o → e.disk.content ≡ with_block note.disk.content note.block (clipped note.valid note.bytes)
+written-done : (note : Note) (e : FlightSeen) (o : Progress) → o ≡ done → IsWritten note e o → e.disk.content ≡ with_block note.disk.content note.block (clip note.valid note.bytes)
 written-done note e fresh is w = absurd w
 written-done note e done is w = w
 written-done note e failed is w = absurd (cc)
@@ -109,13 +109,13 @@ module _ (u v w : World) (spaces : Spaces) (name : PageName) (f e : FlightSeen) 
   tell1 tell = (first.tells no_notes refl nf).0 tell
 
   -- every page keeps what it has of its file
-  pub value-kept : AllTell u no_notes → (n : PageName) → IsFilePage u.files n → clipped (bytes_of_page u.files n) (page_value w no_notes n) ≡ clipped (bytes_of_page u.files n) (page_value u no_notes n)
+  pub value-kept : AllTell u no_notes → (n : PageName) → IsFilePage u.files n → clip (bytes_of_page u.files n) (page_value w no_notes n) ≡ clip (bytes_of_page u.files n) (page_value u no_notes n)
   value-kept tell n page =
       let exists = page-exists u n fits.files page in
       let later = exists-same u v n first.tables ∙ exists in
       let low : bytes_of_page u.files n ≤ 4096 = omega arith in
       let back : page_value w no_notes n ≡ page_value v N n = subst (λ (m : Notes). page_value w m n ≡ page_value v N n) (note-back (note_of f)) (second.pages N n refl nf1 (tell1 tell) later) in
-      ap (clipped (bytes_of_page u.files n)) (back ∙ first.pages no_notes n refl nf tell exists)
+      ap (clip (bytes_of_page u.files n)) (back ∙ first.pages no_notes n refl nf tell exists)
       ∙ cut-clip (x.cut n) (world_table u n).valid (bytes_of_page u.files n) (page_value u no_notes n) (valid-is u n fits.files page) low (λ c. first.whole no_notes n refl nf tell exists c)
 
   other-bay : (k : ℕ) → k ≢ f.number → bay_at w.store.bays k ≡ bay_at u.store.bays k
@@ -175,7 +175,7 @@ module _ (u v w : World) (spaces : Spaces) (name : PageName) (f e : FlightSeen) 
 
   -- a page that was stored, and isn't the one that was pushed
   other-stored : (n : PageName) → n ≢ name → IsFilePage u.files n
-      → stored_on w.files (disk_in (bay_at w.store.bays (disk_of_file u.files n.object))) n ≡ stored_on u.files (disk_in (bay_at u.store.bays (disk_of_file u.files n.object))) n
+      → page_on_disk w.files (disk_in (bay_at w.store.bays (disk_of_file u.files n.object))) n ≡ page_on_disk u.files (disk_in (bay_at u.store.bays (disk_of_file u.files n.object))) n
   other-stored n ne page =
       let D : ℕ = disk_of_file u.files n.object in
       let b : ℕ = block_of_page u.files n.object n.page in
@@ -195,9 +195,9 @@ module _ (u v w : World) (spaces : Spaces) (name : PageName) (f e : FlightSeen) 
   was-stored tell n ne page was =
       let d = disk-kept u.files w.files kept n.object in
       let m = bytes-kept u.files w.files kept n in
-      subst (λ (k : ℕ). clipped k (stored_on w.files (disk_in (bay_at w.store.bays (disk_of_file w.files n.object))) n) ≡ clipped k (page_value w no_notes n)) (sym m)
-      (ap (λ (j : ℕ). clipped (bytes_of_page u.files n) (stored_on w.files (disk_in (bay_at w.store.bays j)) n)) d
-      ∙ ap (clipped (bytes_of_page u.files n)) (other-stored n ne page) ∙ was ∙ sym (value-kept tell n page))
+      subst (λ (k : ℕ). clip k (page_on_disk w.files (disk_in (bay_at w.store.bays (disk_of_file w.files n.object))) n) ≡ clip k (page_value w no_notes n)) (sym m)
+      (ap (λ (j : ℕ). clip (bytes_of_page u.files n) (page_on_disk w.files (disk_in (bay_at w.store.bays j)) n)) d
+      ∙ ap (clip (bytes_of_page u.files n)) (other-stored n ne page) ∙ was ∙ sym (value-kept tell n page))
 
   -- the page that was pushed
   module _ (is : e.outcome ≡ done) (frame : ℕ) (homed : residence u.store name ≡ Home frame) where
@@ -215,27 +215,27 @@ module _ (u v w : World) (spaces : Spaces) (name : PageName) (f e : FlightSeen) 
         subst IsSome (ap (λ (b : BaySeen). content_in_bay b no_notes) (ap (bay_at u.store.bays) (ap (λ (x : Place). x.disk) (place-is u name fits.files p) ∙ sym number) ∙ first.bays.0))
         (tell name (page-is u name fits.files p))
 
-    now-block : AllTell u no_notes → block_of e.disk.content B ≡ clipped f.valid f.bytes
+    now-block : AllTell u no_notes → block_of e.disk.content B ≡ clip f.valid f.bytes
     now-block tell =
-        ap (λ (o : Option (List (List ℕ))). block_of o B) (written-done (note_of f) e e.outcome is (performed.written writes)) ∙ ap (block_of (with_block f.disk.content f.block (clipped f.valid f.bytes))) (sym block)
-        ∙ block-now f.disk.content f.block f.disk.size (clipped f.valid f.bytes) (told tell) (fits.frames.sound.whole f.number f.disk first.bays.0) performed.within
+        ap (λ (o : Option (List (List ℕ))). block_of o B) (written-done (note_of f) e e.outcome is (performed.written writes)) ∙ ap (block_of (with_block f.disk.content f.block (clip f.valid f.bytes))) (sym block)
+        ∙ block-now f.disk.content f.block f.disk.size (clip f.valid f.bytes) (told tell) (fits.frames.sound.whole f.number f.disk first.bays.0) performed.within
 
-    now-place : AllTell u no_notes → stored_on w.files (disk_in (bay_at w.store.bays (disk_of_file w.files name.object))) name ≡ clipped n f.bytes
+    now-place : AllTell u no_notes → page_on_disk w.files (disk_in (bay_at w.store.bays (disk_of_file w.files name.object))) name ≡ clip n f.bytes
     now-place tell =
         let low : n ≤ 4096 = omega arith in
-        ap (λ (b : Bool). cond b zeros (clipped (bytes_of_page w.files name) (block_of (disk_in (bay_at w.store.bays (disk_of_file w.files name.object))).content (block_of_page w.files name.object name.page))))
+        ap (λ (b : Bool). cond b zeros (clip (bytes_of_page w.files name) (block_of (disk_in (bay_at w.store.bays (disk_of_file w.files name.object))).content (block_of_page w.files name.object name.page))))
         (ap (λ (G : FilesSeen). is_blank (vnode_at G name.object) name.page) filled ∙ blank-now u.files name.object name.page p.file)
-        ∙ ap (λ (k : ℕ). clipped k (block_of (disk_in (bay_at w.store.bays (disk_of_file w.files name.object))).content (block_of_page w.files name.object name.page))) (bytes-kept u.files w.files kept name)
-        ∙ ap (λ (k : ℕ). clipped n (block_of (disk_in (bay_at w.store.bays (disk_of_file w.files name.object))).content k)) (block-kept u.files w.files kept name)
-        ∙ ap (λ (b : BaySeen). clipped n (block_of (disk_in b).content B)) (ap (bay_at w.store.bays) (disk-kept u.files w.files kept name.object ∙ sym number) ∙ new-bay)
-        ∙ ap (clipped n) (now-block tell) ∙ ap (λ (k : ℕ). clipped n (clipped k f.bytes)) valid ∙ clipped-twice n f.bytes low whole
+        ∙ ap (λ (k : ℕ). clip k (block_of (disk_in (bay_at w.store.bays (disk_of_file w.files name.object))).content (block_of_page w.files name.object name.page))) (bytes-kept u.files w.files kept name)
+        ∙ ap (λ (k : ℕ). clip n (block_of (disk_in (bay_at w.store.bays (disk_of_file w.files name.object))).content k)) (block-kept u.files w.files kept name)
+        ∙ ap (λ (b : BaySeen). clip n (block_of (disk_in b).content B)) (ap (bay_at w.store.bays) (disk-kept u.files w.files kept name.object ∙ sym number) ∙ new-bay)
+        ∙ ap (clip n) (now-block tell) ∙ ap (λ (k : ℕ). clip n (clip k f.bytes)) valid ∙ clip-twice n f.bytes low whole
 
     now-stored : AllTell u no_notes → IsStored w name
     now-stored tell =
         let low : n ≤ 4096 = omega arith in
         let value : page_value u no_notes name ≡ f.bytes = value-is u no_notes name (page-is u name fits.files p) ∙ value-home u.store no_notes (world_table u) name frame homed ∙ sym x.begins.bytes in
-        subst (λ (k : ℕ). clipped k (stored_on w.files (disk_in (bay_at w.store.bays (disk_of_file w.files name.object))) name) ≡ clipped k (page_value w no_notes name)) (sym (bytes-kept u.files w.files kept name))
-        (ap (clipped n) (now-place tell) ∙ clipped-twice n f.bytes low whole ∙ ap (clipped n) (sym value) ∙ sym (value-kept tell name p))
+        subst (λ (k : ℕ). clip k (page_on_disk w.files (disk_in (bay_at w.store.bays (disk_of_file w.files name.object))) name) ≡ clip k (page_value w no_notes name)) (sym (bytes-kept u.files w.files kept name))
+        (ap (clip n) (now-place tell) ∙ clip-twice n f.bytes low whole ∙ ap (clip n) (sym value) ∙ sym (value-kept tell name p))
 
     -- IT STORES THE PAGE, and leaves those that were stored.
     pub push-stores : StoresPages u w (λ (other : PageName). other ≡ name)

@@ -10,12 +10,12 @@ use Rattle.page_hash.specs.declared.PageName.{PageName}
 use Rattle.page_hash.proofs.NameLaws.{find-at}
 use Rattle.page_lock.specs.Rows.{row_at}
 use Rattle.page_store.specs.Bays.{BaySeen, missing, home, out, bay_at, block_of, disk_in}
-use Rattle.page_store.specs.Bytes.{clipped}
+use Rattle.page_store.specs.Bytes.{clip}
 use Rattle.page_store.specs.Layout.{page_place}
 use Rattle.page_store.specs.Notes.{Note, Notes, no_notes}
 use Rattle.page_store.specs.Seen.{StoreSeen, IsSoundStore, IsListedFrame, residence}
 use Rattle.page_store.specs.Steps.{home_bytes}
-use Rattle.page_store.specs.Value.{value, value_in, stored, tells, content_of, content_in_bay, held, note_of_holder}
+use Rattle.page_store.specs.Value.{value, value_in, backing_value, tells, content_of, content_in_bay, frame_value, note_of_holder}
 use Rattle.page_store.specs.Table.{Table}
 use Rattle.page_store.specs.declared.place.Place.{Place}
 use Rattle.page_store.specs.declared.residence.Residence.TheVariants.{Home}
@@ -34,14 +34,14 @@ use Rattle.vm_world.specs.Segments.{Spaces}
 use Rattle.vm_world.specs.TranslationsFit.{IsModified}
 use Rattle.vm_world.specs.World.{World, StoreCore, world_table, file_blocks, is_page_name, page_exists, is_unpushed, AllTell}
 use Rattle.vm_world.specs.WorldSteps.{KeepsTables}
-use Rattle.vm_world.proofs.Clips.{clipped-twice}
+use Rattle.vm_world.proofs.Clips.{clip-twice}
 use Rattle.vm_world.proofs.FrameRule.{memory_of}
 use Rattle.vm_world.proofs.PageNames.{not-slot, file-apart, file-page, file-place}
 use Rattle.seg_ops.specs.Steps.{KeepsPages, IsUnwritten}
 use Rattle.seg_ops.proofs.Evictions.{clean-page, not-modified}
 use Rattle.seg_ops.proofs.StillSteps.{value-is}
 use Rattle.vm_core.specs.Finish.{IsFilePage, bytes_of_page, KeepRecords}
-use Rattle.vm_core.specs.Closing.{KeepsBay, PushesPages, IsStored, StoresPages, IsFaultOfBays, stored_on}
+use Rattle.vm_core.specs.Closing.{KeepsBay, PushesPages, IsStored, StoresPages, IsFaultOfBays, page_on_disk}
 use Rattle.vm_core.proofs.Records.{page-kept, bytes-kept, keeps-disk-refl, keeps-disk-then}
 use Rattle.vm_core.proofs.Fills.{kept-page}
 
@@ -94,7 +94,7 @@ pushes-then u v w spaces p q = record {
   tells = λ tell. q.tells (p.tells tell);
   values = λ tell name page.
       let k = records-of u v p.tables in
-      subst (λ (n : ℕ). clipped n (page_value w no_notes name) ≡ clipped n (page_value v no_notes name)) (bytes-kept u.files v.files k name)
+      subst (λ (n : ℕ). clip n (page_value w no_notes name) ≡ clip n (page_value v no_notes name)) (bytes-kept u.files v.files k name)
       (q.values (p.tells tell) name (page-kept u.files v.files k name page)) ∙ p.values tell name page;
 }
 
@@ -150,47 +150,47 @@ module _ (w : World) (name : PageName) (fit : FilesFit w.files) (p : IsFilePage 
   content-in (out seat) = refl
 
   -- what its place has
-  pub stored-is : stored w.store no_notes (world_table w name) ≡ stored_on w.files (disk_in (bay_at w.store.bays (disk_of_file w.files name.object))) name
-  stored-is =
+  pub backing_value-is : backing_value w.store no_notes (world_table w name) ≡ page_on_disk w.files (disk_in (bay_at w.store.bays (disk_of_file w.files name.object))) name
+  backing_value-is =
       let e : min ((vnode_at w.files name.object).info.length - name.page * 4096) 4096 ≡ bytes_of_page w.files name = omega arith in
-      ap (stored w.store no_notes) place-is
+      ap (backing_value w.store no_notes) place-is
       ∙ ap (λ (b : Bool). cond (cond b (not (slice_index_or w.anon.swapped name.page false)) (is_blank (vnode_at w.files name.object) name.page)) zeros
-      (clipped (min ((vnode_at w.files name.object).info.length - name.page * 4096) 4096) (block_of (content_of w.store no_notes (disk_of_file w.files name.object)) (block_of_page w.files name.object name.page)))) no-slot
-      ∙ ap (λ (v : ℕ). cond (is_blank (vnode_at w.files name.object) name.page) zeros (clipped v (block_of (content_of w.store no_notes (disk_of_file w.files name.object)) (block_of_page w.files name.object name.page)))) e
-      ∙ ap (λ (o : Option (List (List ℕ))). cond (is_blank (vnode_at w.files name.object) name.page) zeros (clipped (bytes_of_page w.files name) (block_of o (block_of_page w.files name.object name.page)))) (content-in (bay_at w.store.bays (disk_of_file w.files name.object)))
+      (clip (min ((vnode_at w.files name.object).info.length - name.page * 4096) 4096) (block_of (content_of w.store no_notes (disk_of_file w.files name.object)) (block_of_page w.files name.object name.page)))) no-slot
+      ∙ ap (λ (v : ℕ). cond (is_blank (vnode_at w.files name.object) name.page) zeros (clip v (block_of (content_of w.store no_notes (disk_of_file w.files name.object)) (block_of_page w.files name.object name.page)))) e
+      ∙ ap (λ (o : Option (List (List ℕ))). cond (is_blank (vnode_at w.files name.object) name.page) zeros (clip (bytes_of_page w.files name) (block_of o (block_of_page w.files name.object name.page)))) (content-in (bay_at w.store.bays (disk_of_file w.files name.object)))
 
 -- the page of a home frame has its bytes
 pub value-home : (s : StoreSeen) (notes : Notes) (table : Table) (name : PageName) (frame : ℕ) → residence s name ≡ Home frame → value s notes table name ≡ home_bytes s (find s.names name)
 value-home s notes table name frame here =
     let at = home-is s name frame here in
-    ap (λ (o : Option ℕ). value_in o s notes (table name)) at.found ∙ ap (λ (o : Option (List ℕ)). held o (note_of_holder (row_at s.rows frame).holder notes) (stored s notes (table name))) at.there
+    ap (λ (o : Option ℕ). value_in o s notes (table name)) at.found ∙ ap (λ (o : Option (List ℕ)). frame_value o (note_of_holder (row_at s.rows frame).holder notes) (backing_value s notes (table name))) at.there
     ∙ sym (ap (home_bytes s) at.found ∙ ap (λ (o : Option (List ℕ)). unwrap_or o []) at.there)
 
 -- A PAGE THAT ISN'T MODIFIED is stored, where no seat has anything outside.
 pub unmodified-stored : (w : World) (spaces : Spaces) (name : PageName) → MemoryFits (memory_of w spaces) → NotesFit w no_notes → IsFilePage w.files name
     → ((frame : ℕ) → residence w.store name ≡ Home frame → ¬ IsModified w.store w.hat.places frame) → AllTell w no_notes → IsStored w name
 unmodified-stored w spaces name fits nf p clear tell =
-    ap (clipped (bytes_of_page w.files name)) (sym (stored-is w name fits.files p)) ∙ by_find (find w.store.names name) refl ∙ sym (ap (clipped (bytes_of_page w.files name)) (value-is w no_notes name (page-is w name fits.files p)))
+    ap (clip (bytes_of_page w.files name)) (sym (backing_value-is w name fits.files p)) ∙ by_find (find w.store.names name) refl ∙ sym (ap (clip (bytes_of_page w.files name)) (value-is w no_notes name (page-is w name fits.files p)))
   where
     sound : IsSoundStore w.store
     sound = fits.frames.sound
 
     by_bytes : (frame : ℕ) (o : Option (List ℕ)) → find w.store.names name ≡ Some frame → bytes_at w.store.frames frame ≡ o
-        → clipped (bytes_of_page w.files name) (stored w.store no_notes (world_table w name)) ≡ clipped (bytes_of_page w.files name) (held o (note_of_holder (row_at w.store.rows frame).holder no_notes) (stored w.store no_notes (world_table w name)))
+        → clip (bytes_of_page w.files name) (backing_value w.store no_notes (world_table w name)) ≡ clip (bytes_of_page w.files name) (frame_value o (note_of_holder (row_at w.store.rows frame).holder no_notes) (backing_value w.store no_notes (world_table w name)))
     by_bytes frame (Some bytes) found there =
         let named = find-at w.store.names name frame found in
         let some : IsSome (bytes_at w.store.frames frame) = ap is_some there in
         let clean = clean-page w no_notes frame name nf (clear frame (residence-home w.store name frame sound.distinct named some)) named some in
         let whole = (sound.each frame (found-within w.store name frame sound found)).size bytes there in
         let low : bytes_of_page w.files name ≤ 4096 = omega arith in
-        ap (clipped (bytes_of_page w.files name)) (sym (clean.same (tell name (page-is w name fits.files p)) bytes there))
-        ∙ ap (λ (v : ℕ). clipped (bytes_of_page w.files name) (clipped v bytes)) (valid-is w name fits.files p) ∙ clipped-twice (bytes_of_page w.files name) bytes low whole
+        ap (clip (bytes_of_page w.files name)) (sym (clean.same (tell name (page-is w name fits.files p)) bytes there))
+        ∙ ap (λ (v : ℕ). clip (bytes_of_page w.files name) (clip v bytes)) (valid-is w name fits.files p) ∙ clip-twice (bytes_of_page w.files name) bytes low whole
     by_bytes frame None found there = elim (some-or-none (row_at w.store.rows frame).holder) [
       | inl none ↦ absurd (let z : true ≡ false = sym (ap is_none there) ∙ (sound.each frame (found-within w.store name frame sound found)).away ∙ ap is_some none in cc)
       | inr held_by ↦ let out = nf.stored.each_frame frame held_by.0 held_by.1 in let z : ◌≡◌ {A = Option Note} None (Some out.0) = out.1 in absurd (cc)
     ]
 
-    by_find : (o : Option ℕ) → find w.store.names name ≡ o → clipped (bytes_of_page w.files name) (stored w.store no_notes (world_table w name)) ≡ clipped (bytes_of_page w.files name) (value_in o w.store no_notes (world_table w name))
+    by_find : (o : Option ℕ) → find w.store.names name ≡ o → clip (bytes_of_page w.files name) (backing_value w.store no_notes (world_table w name)) ≡ clip (bytes_of_page w.files name) (value_in o w.store no_notes (world_table w name))
     by_find None e = refl
     by_find (Some frame) e = by_bytes frame (bytes_at w.store.frames frame) e refl
 
@@ -204,11 +204,11 @@ calm-pushes u v spaces fits nf step = record {
   memory = step.memory;
   notes = step.notes no_notes tt nf;
   tells = (step.tells no_notes tt nf).0;
-  values = λ tell name page. ap (clipped (bytes_of_page u.files name)) (step.pages no_notes name tt nf tell (page-exists u name fits.files page));
+  values = λ tell name page. ap (clip (bytes_of_page u.files name)) (step.pages no_notes name tt nf tell (page-exists u name fits.files page));
 }
 
 abbrev stored-with : (name : PageName) (F : FilesSeen) (l : List BaySeen) (page : Page) → Type 0
-stored-with name F l page = clipped (bytes_of_page F name) (stored_on F (disk_in (bay_at l (disk_of_file F name.object))) name) ≡ clipped (bytes_of_page F name) page
+stored-with name F l page = clip (bytes_of_page F name) (page_on_disk F (disk_in (bay_at l (disk_of_file F name.object))) name) ≡ clip (bytes_of_page F name) page
 
 pub calm-stores : (u v : World) (spaces : Spaces) (P : PageName → Type 0) → MemoryFits (memory_of u spaces) → NotesFit u no_notes → KeepsPages u v spaces → v.files ≡ u.files
     → ((name : PageName) → IsFilePage u.files name → AllTell u no_notes → P name → IsStored v name) → StoresPages u v P

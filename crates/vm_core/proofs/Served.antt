@@ -56,8 +56,8 @@ use Rattle.proc_calls.specs.Ends as procs
 use Rattle.fault_entry.specs.Accesses.{MayBeAnswered}
 use Rattle.seg_vn.specs.Serves.{Serves, IsPlainReply}
 use Rattle.seg_vn.proofs.HomeFrames.{home-beside}
-use Rattle.vm_core.specs.Calls.{IsServed, IsDone, IsNeeded, IsBusy, IsOwnReply, AnswersCall, with_memory, concluded}
-use Rattle.vm_core.specs.State.{IsKept}
+use Rattle.vm_core.specs.Calls.{IsServed, IsDone, IsNeeded, IsBusy, IsOwnReply, AnswersCall, with_memory, after_answer}
+use Rattle.vm_core.specs.State.{IsSoundKernel}
 use Rattle.seg_vn.specs.declared.attempt.Attempt.{Attempt}
 use Rattle.seg_vn.specs.declared.attempt.Attempt.TheVariants.{Done, Need, Busy}
 
@@ -189,13 +189,13 @@ pub record Concludes (s t : KernelState) (seat p : ℕ) (call : Call) (a : Attem
   pub event : IsEvent seat s None t None
 
 pub concludes : (opening : Flat) (s : KernelState) (seats : Seats) (m : Memory) (seat p more : ℕ) (call : Call) (a : Attempt) → StateFits opening s seats → seats seat ≡ None → IsOfNoFile call → CanTry s seat p call → IsWellFormed call
-    → Serves s.memory m s.pending more p call a → StaysAlive m p call → IsOwnReply a → ((reply : Reply) → a ≡ Done reply → p ≤ length s.syncs) → Concludes s (concluded (with_memory s m more) seat p call a) seat p call a
+    → Serves s.memory m s.pending more p call a → StaysAlive m p call → IsOwnReply a → ((reply : Reply) → a ≡ Done reply → p ≤ length s.syncs) → Concludes s (after_answer (with_memory s m more) seat p call a) seat p call a
 concludes opening s seats m seat p more call (Done reply) fit idle of try formed serves alive own seated =
     let p_is = seat-is s seat p call try in
     let low = seated reply refl in
     let lt : seat < length s.syncs = omega (arith, p_is, low) in
     let place : p - 1 ≡ seat = omega (arith, p_is) in
-    let same : concluded (with_memory s m more) seat p call (Done reply) ≡ with_entry_made (record s { memory = m }) (done_entry p call reply more) s.calls (slice_set s.syncs seat None) = ap (λ (k : ℕ). with_entry_made (record s { memory = m }) (done_entry p call reply more) s.calls (slice_set s.syncs k None)) place in
+    let same : after_answer (with_memory s m more) seat p call (Done reply) ≡ with_entry_made (record s { memory = m }) (done_entry p call reply more) s.calls (slice_set s.syncs seat None) = ap (λ (k : ℕ). with_entry_made (record s { memory = m }) (done_entry p call reply more) s.calls (slice_set s.syncs k None)) place in
     subst (λ (t : KernelState). Concludes s t seat p call (Done reply)) (sym same) (record {
       answers = done-answer opening s seats fit m seat p more call of try reply serves own lt;
       event = done-event opening s seats fit m seat p more call of try reply formed serves alive own lt;
@@ -210,18 +210,18 @@ concludes opening s seats m seat p more call (Busy h) fit idle of try formed ser
 }
 
 -- BESIDE ANY FRAME ANOTHER IS HOME, whatever is away.
-pub home-frame : (store : StoreSeen) (spaces : Spaces) (entries : List ℕ) (seats : ℕ) (notes : Notes) (table : Table) → IsKept store spaces entries seats → IsSoundStore store → StoreFits store notes table
+pub home-frame : (store : StoreSeen) (spaces : Spaces) (entries : List ℕ) (seats : ℕ) (notes : Notes) (table : Table) → IsSoundKernel store spaces entries seats → IsSoundStore store → StoreFits store notes table
     → (beside : ℕ) → (frame : ℕ) × (frame ≢ beside) × IsSome (bytes_at store.frames frame)
 home-frame store spaces entries seats notes table k sound fits beside = let few = away_law.disks store notes table sound fits in let enough = k.frames in home-beside store.frames beside (omega (arith, few, enough))
 
 -- WHAT IS KEPT after a call was served.
-kept-moved : (old new : World) (spaces after : Spaces) (entries : List ℕ) (seats : ℕ) → IsKept old.store spaces entries seats → OnlyFiles after → new.store.bays ≡ old.store.bays → length new.store.frames ≡ length old.store.frames → IsKept new.store after entries seats
+kept-moved : (old new : World) (spaces after : Spaces) (entries : List ℕ) (seats : ℕ) → IsSoundKernel old.store spaces entries seats → OnlyFiles after → new.store.bays ≡ old.store.bays → length new.store.frames ≡ length old.store.frames → IsSoundKernel new.store after entries seats
 kept-moved old new spaces after entries seats k files bays frames =
     let disks = ap (λ (b : List BaySeen). length (filter is_disk b)) bays in
     let was = k.frames in
     record { frames = omega (arith, disks, frames, was); files = files; seated = k.seated }
 
-pub kept-served : (old new : Memory) (pending more p : ℕ) (call : Call) (a : Attempt) (entries : List ℕ) (seats : ℕ) → IsKept old.world.store old.spaces entries seats → OnlyFiles new.spaces → Serves old new pending more p call a → IsKept new.world.store new.spaces entries seats
+pub kept-served : (old new : Memory) (pending more p : ℕ) (call : Call) (a : Attempt) (entries : List ℕ) (seats : ℕ) → IsSoundKernel old.world.store old.spaces entries seats → OnlyFiles new.spaces → Serves old new pending more p call a → IsSoundKernel new.world.store new.spaces entries seats
 kept-served old new pending more p call (Done reply) entries seats k files s =
     let m = (s.acts 0).machine in kept-moved old.world new.world old.spaces new.spaces entries seats k files (m.bays ∙ s.first.step.bays) (m.frames ∙ s.first.step.frames)
 kept-served old new pending more p call (Need plan) entries seats k files s = kept-moved old.world new.world old.spaces new.spaces entries seats k files s.first.step.bays s.first.step.frames
@@ -266,10 +266,10 @@ pub err-then : {E : Type 0} (P Q : Type 0) (r : Result Attempt E) → (P → Q) 
 err-then P Q (Ok a) f h = h
 err-then P Q (Err e) f h = f h
 
-pub kept-result : {E : Type 0} (old new : Memory) (pending more p : ℕ) (call : Call) (r : Result Attempt E) (entries : List ℕ) (seats : ℕ) → IsKept old.world.store old.spaces entries seats → OnlyFiles new.spaces → IfOk r (λ a. Serves old new pending more p call a)
-    → OnErr r (new ≡ old) → IsKept new.world.store new.spaces entries seats
+pub kept-result : {E : Type 0} (old new : Memory) (pending more p : ℕ) (call : Call) (r : Result Attempt E) (entries : List ℕ) (seats : ℕ) → IsSoundKernel old.world.store old.spaces entries seats → OnlyFiles new.spaces → IfOk r (λ a. Serves old new pending more p call a)
+    → OnErr r (new ≡ old) → IsSoundKernel new.world.store new.spaces entries seats
 kept-result old new pending more p call (Ok a) entries seats k files serves same = kept-served old new pending more p call a entries seats k files serves
-kept-result old new pending more p call (Err e) entries seats k files serves same = subst (λ (m : Memory). IsKept m.world.store m.spaces entries seats) (sym same) k
+kept-result old new pending more p call (Err e) entries seats k files serves same = subst (λ (m : Memory). IsSoundKernel m.world.store m.spaces entries seats) (sym same) k
 
 -- Nothing changed.
 pub same-again : (s t : KernelState) (m : Memory) (pending : ℕ) → s ≡ t → m ≡ s.memory → pending ≡ s.pending → with_memory s m pending ≡ t

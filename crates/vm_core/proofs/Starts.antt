@@ -36,7 +36,7 @@ use Rattle.vm_world.specs.declared.segment.Segment.{Segment}
 use Rattle.vm_world.specs.World.{file_blocks, file_name}
 use Rattle.vm_world.proofs.PageNames.{index-of}
 use Rattle.vm_core.specs.Setup.{disk_total, FilesOnDisks, ListsDisk, SwapServes, HaveCounted}
-use Rattle.vm_core.specs.State.{top_space, IsKept}
+use Rattle.vm_core.specs.State.{top_space, IsSoundKernel}
 
 pub at-replicate : {X : Type 0} (n k : ℕ) (x : X) → slice_index_or (replicate n x) k x ≡ x
 at-replicate zero k x = refl
@@ -314,7 +314,7 @@ same-total seen disks (Some d) = ap (λ (n : ℕ). n + 1) (length-map disks (λ 
 
 -- WHAT IS KEPT of the start.
 pub kept-start : (store : StoreSeen) (spaces : Spaces) (parents entries : List ℕ) (frames count seats : ℕ) (syncs : List (Option ℕ)) (disks : List (ℕ × DiskSeen)) (swap : Option DiskSeen) → IsNew store frames disks swap
-    → ((p : ℕ) → finite.get spaces p ≡ top_space parents p) → disk_total disks swap + 4 ≤ frames → syncs ≡ replicate seats None → length entries ≤ seats → IsKept store spaces entries (length syncs)
+    → ((p : ℕ) → finite.get spaces p ≡ top_space parents p) → disk_total disks swap + 4 ≤ frames → syncs ≡ replicate seats None → length entries ≤ seats → IsSoundKernel store spaces entries (length syncs)
 kept-start store spaces parents entries frames count seats syncs disks swap new tops enough are few =
     let disks_are = count-disks store.bays disks swap new.bays in
     let frames_are = ap (λ (l : List (Option (List ℕ))). length l) new.frames ∙ length-replicate frames (Some zeros) in

@@ -14,7 +14,7 @@ use Rattle.addr_space.specs.Space.{Part}
 use Rattle.vm_world.specs.Segments.{Spaces}
 use Rattle.vm_world.specs.declared.segment.Segment.{Segment}
 use Rattle.vm_world.specs.State.{is_top}
-use Rattle.vm_core.specs.State.{born_of, marked_from, top_space}
+use Rattle.vm_core.specs.State.{born_of, marked_processes, top_space}
 
 -- The spaces once the first so many processes were looked at.
 pub record TopsBelow (parents : List ℕ) (n : ℕ) (spaces : Spaces) : Type 0 where
@@ -90,29 +90,29 @@ tops-more parents i old new lt t is = by_top (slice_index parents i == 0) refl
     }
 
 -- Who was ever alive at the start: who has no parent.
-any-below : (marks : List Bool) (k p : ℕ) → p < k → list_any (λ (y : ℕ). y == p) (marked_from k marks) ≡ false
+any-below : (marks : List Bool) (k p : ℕ) → p < k → list_any (λ (y : ℕ). y == p) (marked_processes k marks) ≡ false
 any-below [] k p lt = refl
-any-below (true ∷ marks) k p lt = ap (λ (b : Bool). b || list_any (λ (y : ℕ). y == p) (marked_from (suc k) marks)) (let e : (k == p) ≡ false = grind (arith, nat_tests) in e) ∙ any-below marks (suc k) p (omega (arith, lt))
+any-below (true ∷ marks) k p lt = ap (λ (b : Bool). b || list_any (λ (y : ℕ). y == p) (marked_processes (suc k) marks)) (let e : (k == p) ≡ false = grind (arith, nat_tests) in e) ∙ any-below marks (suc k) p (omega (arith, lt))
 any-below (false ∷ marks) k p lt = any-below marks (suc k) p (omega (arith, lt))
 
-any-top : (parents : List ℕ) (k j : ℕ) → list_any (λ (y : ℕ). y == (k + j)) (marked_from k (map (λ (n : ℕ). n == 0) parents)) ≡ option_map_or (λ (n : ℕ). n == 0) (slice_get parents j) false
+any-top : (parents : List ℕ) (k j : ℕ) → list_any (λ (y : ℕ). y == (k + j)) (marked_processes k (map (λ (n : ℕ). n == 0) parents)) ≡ option_map_or (λ (n : ℕ). n == 0) (slice_get parents j) false
 any-top [] k j = refl
 any-top (x ∷ xs) k zero = by_mark (x == 0)
   where
-    by_mark : (b : Bool) → list_any (λ (y : ℕ). y == (k + 0)) (marked_from k (b ∷ map (λ (n : ℕ). n == 0) xs)) ≡ b
-    by_mark true = ap (λ (b : Bool). b || list_any (λ (y : ℕ). y == (k + 0)) (marked_from (suc k) (map (λ (n : ℕ). n == 0) xs))) (let e : (k == (k + 0)) ≡ true = grind (arith, nat_tests) in e)
+    by_mark : (b : Bool) → list_any (λ (y : ℕ). y == (k + 0)) (marked_processes k (b ∷ map (λ (n : ℕ). n == 0) xs)) ≡ b
+    by_mark true = ap (λ (b : Bool). b || list_any (λ (y : ℕ). y == (k + 0)) (marked_processes (suc k) (map (λ (n : ℕ). n == 0) xs))) (let e : (k == (k + 0)) ≡ true = grind (arith, nat_tests) in e)
     by_mark false = any-below (map (λ (n : ℕ). n == 0) xs) (suc k) (k + 0) (omega arith)
-any-top (x ∷ xs) k (suc j) = by_mark (x == 0) (subst (λ (m : ℕ). list_any (λ (y : ℕ). y == m) (marked_from (suc k) (map (λ (n : ℕ). n == 0) xs)) ≡ option_map_or (λ (n : ℕ). n == 0) (slice_get xs j) false) (later k j) (any-top xs (suc k) j))
+any-top (x ∷ xs) k (suc j) = by_mark (x == 0) (subst (λ (m : ℕ). list_any (λ (y : ℕ). y == m) (marked_processes (suc k) (map (λ (n : ℕ). n == 0) xs)) ≡ option_map_or (λ (n : ℕ). n == 0) (slice_get xs j) false) (later k j) (any-top xs (suc k) j))
   where
     later : (k j : ℕ) → suc k + j ≡ k + suc j
     later k j = omega arith
 
-    by_mark : (b : Bool) → list_any (λ (y : ℕ). y == (k + suc j)) (marked_from (suc k) (map (λ (n : ℕ). n == 0) xs)) ≡ option_map_or (λ (n : ℕ). n == 0) (slice_get xs j) false
-        → list_any (λ (y : ℕ). y == (k + suc j)) (marked_from k (b ∷ map (λ (n : ℕ). n == 0) xs)) ≡ option_map_or (λ (n : ℕ). n == 0) (slice_get xs j) false
-    by_mark true further = ap (λ (b : Bool). b || list_any (λ (y : ℕ). y == (k + suc j)) (marked_from (suc k) (map (λ (n : ℕ). n == 0) xs))) (let e : (k == (k + suc j)) ≡ false = grind (arith, nat_tests) in e) ∙ further
+    by_mark : (b : Bool) → list_any (λ (y : ℕ). y == (k + suc j)) (marked_processes (suc k) (map (λ (n : ℕ). n == 0) xs)) ≡ option_map_or (λ (n : ℕ). n == 0) (slice_get xs j) false
+        → list_any (λ (y : ℕ). y == (k + suc j)) (marked_processes k (b ∷ map (λ (n : ℕ). n == 0) xs)) ≡ option_map_or (λ (n : ℕ). n == 0) (slice_get xs j) false
+    by_mark true further = ap (λ (b : Bool). b || list_any (λ (y : ℕ). y == (k + suc j)) (marked_processes (suc k) (map (λ (n : ℕ). n == 0) xs))) (let e : (k == (k + suc j)) ≡ false = grind (arith, nat_tests) in e) ∙ further
     by_mark false further = further
 
 pub born-tops : (parents : List ℕ) (p : ℕ) → set.contains (born_of (map (λ (n : ℕ). n == 0) parents)) p ≡ is_top parents p
-born-tops parents zero = set.contains-from_list_nat (marked_from 1 (map (λ (n : ℕ). n == 0) parents)) 0 ∙ any-below (map (λ (n : ℕ). n == 0) parents) 1 0 (omega arith)
-born-tops parents (suc p) = set.contains-from_list_nat (marked_from 1 (map (λ (n : ℕ). n == 0) parents)) (suc p)
-    ∙ subst (λ (m : ℕ). list_any (λ (y : ℕ). y == m) (marked_from 1 (map (λ (n : ℕ). n == 0) parents)) ≡ option_map_or (λ (n : ℕ). n == 0) (slice_get parents p) false) (let e : 1 + p ≡ suc p = omega arith in e) (any-top parents 1 p)
+born-tops parents zero = set.contains-from_list_nat (marked_processes 1 (map (λ (n : ℕ). n == 0) parents)) 0 ∙ any-below (map (λ (n : ℕ). n == 0) parents) 1 0 (omega arith)
+born-tops parents (suc p) = set.contains-from_list_nat (marked_processes 1 (map (λ (n : ℕ). n == 0) parents)) (suc p)
+    ∙ subst (λ (m : ℕ). list_any (λ (y : ℕ). y == m) (marked_processes 1 (map (λ (n : ℕ). n == 0) parents)) ≡ option_map_or (λ (n : ℕ). n == 0) (slice_get parents p) false) (let e : 1 + p ≡ suc p = omega arith in e) (any-top parents 1 p)

@@ -33,10 +33,10 @@ abbrev pub with_memory : KernelState → Memory → ℕ → KernelState
 with_memory s m pending = record s { memory = m; pending = pending }
 
 -- The state once an answer was concluded: with its entry; or with the plan kept that it needs; or with none.
-abbrev pub concluded : KernelState → ℕ → ℕ → Call → Attempt → KernelState
-concluded s seat p call (Done reply) = with_next_entry (record s { plan = None }) (record { process = p; call = call; reply = reply; cleared = s.pending })
-concluded s seat p call (Need plan) = record s { plan = Some (record { seat = seat; plan = plan; of = Some (p, call) }) }
-concluded s seat p call (Busy hold) = record s { plan = None }
+abbrev pub after_answer : KernelState → ℕ → ℕ → Call → Attempt → KernelState
+after_answer s seat p call (Done reply) = with_next_entry (record s { plan = None }) (record { process = p; call = call; reply = reply; cleared = s.pending })
+after_answer s seat p call (Need plan) = record s { plan = Some (record { seat = seat; plan = plan; of = Some (p, call) }) }
+after_answer s seat p call (Busy hold) = record s { plan = None }
 
 -- A reply that is neither a device error nor a Sync's.
 abbrev pub IsOwnReply : Attempt → Type 0

@@ -4,7 +4,7 @@ use Rattle.block_device.specs.DiskSeen.{DiskSeen}
 use Rattle.core_arena.specs.Bytes.{bytes_at}
 use Rattle.hat_layer.specs.Pool.{frame_of}
 use Rattle.hat_layer.specs.declared.translation.Translation.{Translation}
-use Rattle.page_clock.specs.Clock.{next_pick, stepped}
+use Rattle.page_clock.specs.Clock.{next_pick, next_clock}
 use Rattle.page_clock.specs.declared.Pick.{Pick}
 use Rattle.page_clock.specs.declared.Pick.TheVariants.{Front, Back}
 use Rattle.page_hash.specs.declared.PageName.{PageName}
@@ -80,7 +80,7 @@ pub record TouchesFrame (old new : World) (frame : ℕ) : Type 0 where
 
 -- The hands moved on.
 abbrev pub with_hand_moved : World → World
-with_hand_moved w = record w { store = record w.store { clock = stepped w.store.clock } }
+with_hand_moved w = record w { store = record w.store { clock = next_clock w.store.clock } }
 
 -- No translation was dropped.
 abbrev pub KeepsLoaded : World → World → Type 0

@@ -7,7 +7,7 @@ use Rattle.block_device.specs.declared.disk_fault.DiskFault.{DiskFault}
 use Rattle.core_arena.specs.Bytes.{zeros}
 use Rattle.page_hash.specs.declared.PageName.{PageName}
 use Rattle.page_store.specs.Bays.{BaySeen, missing, home, out, bay_at, block_of, numbers_of, AreNumbers, disk_in}
-use Rattle.page_store.specs.Bytes.{clipped}
+use Rattle.page_store.specs.Bytes.{clip}
 use Rattle.page_store.specs.Notes.{no_notes}
 use Rattle.vnode_files.specs.Files.{FilesSeen, vnode_at}
 use Rattle.vnode_files.specs.Layout.{disk_of_file, block_of_page}
@@ -38,19 +38,19 @@ pub record PushesPages (old new : World) (spaces : Spaces) : Type 0 where
   pub notes : NotesFit new no_notes
   pub tells : AllTell old no_notes → AllTell new no_notes
   pub values : AllTell old no_notes → (name : PageName) → IsFilePage old.files name
-      → clipped (bytes_of_page old.files name) (page_value new no_notes name) ≡ clipped (bytes_of_page old.files name) (page_value old no_notes name)
+      → clip (bytes_of_page old.files name) (page_value new no_notes name) ≡ clip (bytes_of_page old.files name) (page_value old no_notes name)
 
 -- What the place of a page of a file has, on this disk.
-abbrev pub stored_on : FilesSeen → DiskSeen → PageName → List ℕ
-stored_on files disk name =
+abbrev pub page_on_disk : FilesSeen → DiskSeen → PageName → List ℕ
+page_on_disk files disk name =
     if is_blank (vnode_at files name.object) name.page then zeros
-    else clipped (bytes_of_page files name) (block_of disk.content (block_of_page files name.object name.page))
+    else clip (bytes_of_page files name) (block_of disk.content (block_of_page files name.object name.page))
 
 -- A page of a file is stored: without its frame it would have the same bytes of the file.
 abbrev pub IsStored : World → PageName → Type 0
 IsStored w name =
-    clipped (bytes_of_page w.files name) (stored_on w.files (disk_in (bay_at w.store.bays (disk_of_file w.files name.object))) name)
-    ≡ clipped (bytes_of_page w.files name) (page_value w no_notes name)
+    clip (bytes_of_page w.files name) (page_on_disk w.files (disk_in (bay_at w.store.bays (disk_of_file w.files name.object))) name)
+    ≡ clip (bytes_of_page w.files name) (page_value w no_notes name)
 
 -- These pages of files are stored then, and those that were.
 abbrev pub StoresPages : World → World → (PageName → Type 0) → Type 0
@@ -82,7 +82,7 @@ pub record WritesBlanks (F : FilesSeen) (L : List (ℕ × DiskSeen)) (G : FilesS
 -- Each place has what it had, and these pages aren't blank then, nor those that weren't.
 pub record FillsPages (F : FilesSeen) (L : List (ℕ × DiskSeen)) (G : FilesSeen) (M : List (ℕ × DiskSeen)) (these : PageName → Type 0) : Type 0 where
   pub stored : (i : ℕ) (name : PageName) → i < length L → IsFilePage F name → disk_of_file F name.object ≡ (disk_at L i).0
-      → IsSome (disk_at L i).1.content → stored_on G (disk_at M i).1 name ≡ stored_on F (disk_at L i).1 name
+      → IsSome (disk_at L i).1.content → page_on_disk G (disk_at M i).1 name ≡ page_on_disk F (disk_at L i).1 name
   pub filled : (name : PageName) → IsFilePage F name → IsFalse (is_blank (vnode_at F name.object) name.page) ⊎ these name
       → IsFalse (is_blank (vnode_at G name.object) name.page)
 

@@ -7,7 +7,7 @@ use Rattle.block_device.specs.Faults.{IsFaultSince}
 use Rattle.block_device.specs.declared.disk_fault.DiskFault.{DiskFault}
 use Rattle.page_hash.specs.declared.PageName.{PageName}
 use Rattle.page_store.specs.Bays.{no_disk, disks_in}
-use Rattle.page_store.specs.Bytes.{clipped}
+use Rattle.page_store.specs.Bytes.{clip}
 use Rattle.page_store.specs.Notes.{no_notes}
 use Rattle.vnode_files.specs.Files.{FilesSeen, vnode_at}
 use Rattle.vnode_files.specs.Vnode.{VnodeSeen, is_blank}
@@ -48,7 +48,7 @@ bytes_of_page files name = bytes_before (vnode_at files name.object).info.length
 -- Blocks have a page of a file, as far as the file goes.
 abbrev pub HoldsPage : FilesSeen → List (List ℕ) → PageName → Page → Type 0
 HoldsPage files blocks name page =
-    clipped (bytes_of_page files name) (slice_index_or blocks (block_of_page files name.object name.page) []) ≡ clipped (bytes_of_page files name) page
+    clip (bytes_of_page files name) (slice_index_or blocks (block_of_page files name.object name.page) []) ≡ clip (bytes_of_page files name) page
 
 -- A disk, where it tells, has each page of each file that lies there, as the world shows it while no seat has anything outside.
 abbrev pub HoldsFiles : World → ℕ × DiskSeen → Type 0

@@ -17,17 +17,17 @@ abbrev pub kept_seen : Kept → KeptPlan
 kept_seen k = record { seat = k.seat; plan = k.plan; of = k.of }
 
 -- The processes that are marked, the first mark being that of process k.
-abbrev pub marked_from : ℕ → List Bool → List ℕ
-marked_from k [] = []
-marked_from k (true ∷ marks) = k ∷ marked_from (suc k) marks
-marked_from k (false ∷ marks) = marked_from (suc k) marks
+abbrev pub marked_processes : ℕ → List Bool → List ℕ
+marked_processes k [] = []
+marked_processes k (true ∷ marks) = k ∷ marked_processes (suc k) marks
+marked_processes k (false ∷ marks) = marked_processes (suc k) marks
 
 -- Who was ever alive, by a mark for each process from 1 on.
 abbrev pub born_of : List Bool → set.FinSet nat_cmp
-born_of marks = set.from_list (marked_from 1 marks)
+born_of marks = set.from_list (marked_processes 1 marks)
 
 -- WHAT IS KEPT. There are four more frames than disks, so that some frame is home whatever is away. Only files are mapped. Each process has a seat.
-pub record IsKept (store : StoreSeen) (spaces : Spaces) (entries : List ℕ) (seats : ℕ) : Type 0 where
+pub record IsSoundKernel (store : StoreSeen) (spaces : Spaces) (entries : List ℕ) (seats : ℕ) : Type 0 where
   pub frames : disk_count store + 4 ≤ length store.frames
   pub files : OnlyFiles spaces
   pub seated : length entries ≤ seats

@@ -14,7 +14,7 @@ ghost use Rattle.vm_world.specs.Events.{IsEvent, CanTry};
 ghost use Rattle.vm_world.specs.MemoryFits.{MemoryFits};
 ghost use Rattle.vm_world.specs.NotesFit.{NotesFit};
 ghost use Rattle.vm_world.specs.State.{room_of};
-ghost use Rattle.vm_core.specs.Calls.{IsServed, TakesMemory, AnswersCall, IsOwnReply, with_memory, concluded};
+ghost use Rattle.vm_core.specs.Calls.{IsServed, TakesMemory, AnswersCall, IsOwnReply, with_memory, after_answer};
 ghost use Rattle.vm_core.specs.Fits.{FitsAt};
 ghost use Rattle.seg_vn.specs.Serves.{Serves};
 
@@ -52,7 +52,7 @@ impl<D: Disk> VmState<D> {
     fn conclude(&mut self, seat: u32, process: u32, call: &Call, attempt: &Attempt)
         requires { length (entries_of self.old.history process)
             < room_of self.old.entries process }
-        ensures new { self.new ≡ concluded self.old seat process call.now attempt.now }
+        ensures new { self.new ≡ after_answer self.old seat process call.now attempt.now }
         ensures seated { (reply : Reply) → attempt.now ≡ Done reply
             → process ≤ length self.old.syncs }
     {

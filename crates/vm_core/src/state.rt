@@ -60,7 +60,7 @@ impl<D: Disk> Model for VmState<D> {
     ghost use Rattle.std.specs.Prelude.{option_map, length};
     ghost use Rattle.vm_world.specs.State.{KernelState};
     ghost use Rattle.vm_world.specs.World.{world_seen};
-    ghost use Rattle.vm_core.specs.State.{kept_seen, born_of, IsKept};
+    ghost use Rattle.vm_core.specs.State.{kept_seen, born_of, IsSoundKernel};
     ghost use Rattle.vm_core.specs.StateCode.{state_code};
 
     ghost Value = { KernelState };
@@ -79,7 +79,7 @@ impl<D: Disk> Model for VmState<D> {
       entries = s.ledger.entries;
     } };
 
-    ghost invariant = { λ s. IsKept s.world.store s.spaces.spaces s.ledger.entries (length s.syncs.items) };
+    ghost invariant = { λ s. IsSoundKernel s.world.store s.spaces.spaces s.ledger.entries (length s.syncs.items) };
 }
 
 impl<D: Disk> VmState<D> {

@@ -13,7 +13,7 @@ use Rattle.vm_types.specs.WellFormed.{IsNumber}
 use Rattle.vm_types.specs.Words.{IsByte}
 use Rattle.vm_script.specs.declared.statement.Statement.{Statement}
 use Rattle.vm_script.specs.declared.statement.Statement.TheVariants as says
-use Rattle.vm_script.specs.Plans.{OpenPlan, empty_plan, plan_seen, plan_of, outside, with_statement}
+use Rattle.vm_script.specs.Plans.{OpenPlan, empty_plan, plan_seen, plan_of, enclosing_block, with_statement}
 use Rattle.vm_script.specs.Printed.{IsStatement, with_statements, StandRight, IsScript, line_of_fields, statement_fields, script_text}
 use Rattle.vm_script.specs.Generated.{numbers_below, call_line, word_address, page_end, word_store, word_load, end_store, end_load, word_stores, word_loads, end_stores, end_loads, file_write, file_store, file_load, generated_setup, block_head, block_tail, child_block, generated_block, generated_script, generated_text}
 use Rattle.vm_script.proofs.Scripts.{parsed}
@@ -301,11 +301,11 @@ then_piece g n xs ys p q ps qs a b = record {
   after = subst (λ h. At h q qs) (sym (with-append g n xs ys)) b.after;
 }
 
-outside_last : (qs : List ℕ) (p : ℕ) → outside (qs ++ p ∷ []) (suc (length qs)) ≡ p
+outside_last : (qs : List ℕ) (p : ℕ) → enclosing_block (qs ++ p ∷ []) (suc (length qs)) ≡ p
 outside_last [] p = refl
 outside_last (q ∷ qs) p = outside_last qs p
 
-outside_inner : (qs : List ℕ) (p : ℕ) (ys : List ℕ) → outside ((qs ++ p ∷ []) ++ ys) (suc (length qs)) ≡ p
+outside_inner : (qs : List ℕ) (p : ℕ) (ys : List ℕ) → enclosing_block ((qs ++ p ∷ []) ++ ys) (suc (length qs)) ≡ p
 outside_inner [] p ys = refl
 outside_inner (q ∷ qs) p ys = outside_inner qs p ys
 
@@ -315,10 +315,10 @@ fork_piece g n p ps at = record {
   after = record { inside_is = ap (λ qs. length qs + 1) at.parents_are ∙ plus_one (length ps); parents_are = ap₂ (λ qs q. qs ++ q ∷ []) at.parents_are at.inside_is };
 }
 
-end_piece : (g : OpenPlan) (n p : ℕ) (ps : List ℕ) → At g (suc p) ps → Piece g n (says.End ∷ []) (outside ps (suc p)) ps
+end_piece : (g : OpenPlan) (n p : ℕ) (ps : List ℕ) → At g (suc p) ps → Piece g n (says.End ∷ []) (enclosing_block ps (suc p)) ps
 end_piece g n p ps at = record {
   stand = (inside_true g p at.inside_is, tt);
-  after = record { inside_is = ap₂ outside at.parents_are at.inside_is; parents_are = at.parents_are };
+  after = record { inside_is = ap₂ enclosing_block at.parents_are at.inside_is; parents_are = at.parents_are };
 }
 
 process_piece : (g : OpenPlan) (n : ℕ) (ps : List ℕ) → At g 0 ps → Piece g n (says.Process ∷ []) (suc (length ps)) (ps ++ 0 ∷ [])
@@ -333,7 +333,7 @@ child_piece g n p ps at =
     let a = fork_piece g n p ps at in
     let b = then_piece g n (says.Fork ∷ []) (end_stores 32) (suc (length ps)) (suc (length ps)) qs qs a (own_piece (end_stores 32) (keeps_map end_store 32 (λ j. refl)) _ _ (length ps) qs a.after) in
     let d = then_piece g n (says.Fork ∷ [] ++ end_stores 32) (end_loads 32) (suc (length ps)) (suc (length ps)) qs qs b (own_piece (end_loads 32) (keeps_map end_load 32 (λ j. refl)) _ _ (length ps) qs b.after) in
-    let e = then_piece g n (says.Fork ∷ [] ++ end_stores 32 ++ end_loads 32) (says.End ∷ []) (suc (length ps)) (outside qs (suc (length ps))) qs qs d (end_piece _ _ (length ps) qs d.after) in
+    let e = then_piece g n (says.Fork ∷ [] ++ end_stores 32 ++ end_loads 32) (says.End ∷ []) (suc (length ps)) (enclosing_block qs (suc (length ps))) qs qs d (end_piece _ _ (length ps) qs d.after) in
     subst (λ k. Piece g n child_block k qs) (outside_last ps (suc p)) e
 
 head_piece : (g : OpenPlan) (n : ℕ) (ps : List ℕ) → At g 0 ps → Piece g n block_head (suc (length ps)) (ps ++ 0 ∷ [])
@@ -354,7 +354,7 @@ block_piece g l n i ps at =
     let t = then_piece g l (block_head ++ word_stores n i 1000 ++ child_block ++ word_loads n 1000 ++ end_loads 32) (block_tail n i) (suc p) 0 rs rs f (tail_piece _ _ p rs f.after (outside_inner ps 0 (suc p ∷ []))) in
     t
   where
-    tail_piece : (h : OpenPlan) (k p : ℕ) (rs : List ℕ) → At h (suc p) rs → outside rs (suc p) ≡ 0 → Piece h k (block_tail n i) 0 rs
+    tail_piece : (h : OpenPlan) (k p : ℕ) (rs : List ℕ) → At h (suc p) rs → enclosing_block rs (suc p) ≡ 0 → Piece h k (block_tail n i) 0 rs
     tail_piece h k p rs at out =
         let xs = file_write i ∷ file_store n i ∷ file_load i ∷ [] in
         let a = own_piece xs refl h k p rs at in

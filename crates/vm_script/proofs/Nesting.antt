@@ -20,7 +20,7 @@ use Rattle.vm_script.specs.declared.statement.Statement.TheVariants as says
 use Rattle.vm_script.specs.PlanSeen.{PlanSeen}
 use Rattle.vm_script.specs.Lines.{is_plain, fields, lines}
 use Rattle.vm_script.specs.Statements.{statement, unknown_file}
-use Rattle.vm_script.specs.Plans.{OpenPlan, empty_plan, plan_seen, outside, with_line, with_new_block, without_block, with_statement, spot_of, plan_from, plan_of}
+use Rattle.vm_script.specs.Plans.{OpenPlan, empty_plan, plan_seen, enclosing_block, with_line, with_new_block, without_block, with_statement, spot_of, plan_from, plan_of}
 use Rattle.vm_script.specs.Blocks.{IsInner, IsProcessBlock, ends, goes_on, forks, AreProcessBlocks, over, block}
 use Rattle.vm_script.specs.Told.{parent_of}
 use Rattle.vm_script.specs.Printed.{IsPlainCall, IsNamedCall, IsPlanAct}
@@ -30,7 +30,7 @@ use Rattle.vm_script.proofs.Placed.{IsPlaced, placed}
 -- what follows a place in a plan, where the block p is opened innermost
 data Completes (parents : List ℕ) : ℕ → ℕ → List PlanLine → ℕ → Type 0 where
   tops : (n m : ℕ) (rest : List PlanLine) → AreProcessBlocks parents n rest m → Completes parents 0 n rest m
-  closes : (i n k m : ℕ) (own rest : List PlanLine) → IsProcessBlock parents (suc i) n own k → Completes parents (outside parents (suc i)) k rest m → Completes parents (suc i) n (own ++ rest) m
+  closes : (i n k m : ℕ) (own rest : List PlanLine) → IsProcessBlock parents (suc i) n own k → Completes parents (enclosing_block parents (suc i)) k rest m → Completes parents (suc i) n (own ++ rest) m
 
 top_of : (parents : List ℕ) (n : ℕ) (rest : List PlanLine) (m : ℕ) → Completes parents 0 n rest m → AreProcessBlocks parents n rest m
 top_of parents n rest m (tops _ _ _ h) = h
@@ -44,7 +44,7 @@ record Closed (parents : List ℕ) (i n : ℕ) (all : List PlanLine) (m : ℕ) :
   k : ℕ
   is : own ++ rest ≡ all
   body : IsProcessBlock parents (suc i) n own k
-  after : Completes parents (outside parents (suc i)) k rest m
+  after : Completes parents (enclosing_block parents (suc i)) k rest m
 
 closed : (parents : List ℕ) (i n : ℕ) (rest : List PlanLine) (m : ℕ) → Completes parents (suc i) n rest m → Closed parents i n rest m
 closed parents i n rest m (closes _ _ k _ own more body after) = record { own = own; rest = more; k = k; is = refl; body = body; after = after }
@@ -66,10 +66,10 @@ more_before (x ∷ xs) p k all le (suc i) =
     let ih = more_before xs p (suc k) rest (omega (arith, le)) i in
     omega (arith, ih)
 
-outside_le : (g : OpenPlan) → IsOpen g → outside g.parents g.inside ≤ length g.parents
+outside_le : (g : OpenPlan) → IsOpen g → enclosing_block g.parents g.inside ≤ length g.parents
 outside_le g opened = from g.inside opened.inside
   where
-    from : (p : ℕ) → p ≤ length g.parents → outside g.parents p ≤ length g.parents
+    from : (p : ℕ) → p ≤ length g.parents → enclosing_block g.parents p ≤ length g.parents
     from zero le = omega arith
     from (suc i) le = let h = opened.before i in omega (arith, h, le)
 
@@ -92,7 +92,7 @@ index_front [] ys i lt = absurd (omega (arith, lt))
 index_front (x ∷ xs) ys zero lt = refl
 index_front (x ∷ xs) ys (suc i) lt = index_front xs ys i (omega (arith, lt))
 
-outside_front : (xs ys : List ℕ) (p : ℕ) → p ≤ length xs → outside (xs ++ ys) p ≡ outside xs p
+outside_front : (xs ys : List ℕ) (p : ℕ) → p ≤ length xs → enclosing_block (xs ++ ys) p ≡ enclosing_block xs p
 outside_front xs ys zero le = refl
 outside_front xs ys (suc i) le = index_front xs ys i (omega (arith, le))
 
@@ -178,20 +178,20 @@ with_own parents (suc i) n m line a rest inside inner c =
     let k = closed parents i n rest m c in
     open_block parents i n m _ (record { own = record { line = line; process = suc i; act = a } ∷ k.own; rest = k.rest; k = k.k; is = ap (λ xs. record { line = line; process = suc i; act = a } ∷ xs) k.is; body = goes_on (suc i) n k.k line a k.own inner k.body; after = k.after })
 
-with_end : (parents : List ℕ) (p n m line : ℕ) (rest : List PlanLine) → (p == 0) ≡ false → Completes parents (outside parents p) n rest m
+with_end : (parents : List ℕ) (p n m line : ℕ) (rest : List PlanLine) → (p == 0) ≡ false → Completes parents (enclosing_block parents p) n rest m
     → Completes parents p n (record { line = line; process = p; act = act.Call call.Exit } ∷ rest) m
 with_end parents zero n m line rest inside c = absurd (false≢true (sym inside))
 with_end parents (suc i) n m line rest inside c =
     closes i n n m (record { line = line; process = suc i; act = act.Call call.Exit } ∷ []) rest (ends (suc i) n line) c
 
-with_top : (parents : List ℕ) (i m : ℕ) (rest : List PlanLine) → parent_of parents (suc i) ≡ Some 0 → outside parents (suc i) ≡ 0
+with_top : (parents : List ℕ) (i m : ℕ) (rest : List PlanLine) → parent_of parents (suc i) ≡ Some 0 → enclosing_block parents (suc i) ≡ 0
     → Completes parents (suc i) (suc i + 1) rest m → Completes parents 0 (suc i) rest m
 with_top parents i m rest top out c =
     let k = closed parents i (suc i + 1) rest m c in
     let after = top_of parents k.k k.rest m (subst (λ p. Completes parents p k.k k.rest m) out k.after) in
     subst (λ xs. Completes parents 0 (suc i) xs m) k.is (tops (suc i) m (k.own ++ k.rest) (block (suc i) k.k m k.own k.rest top k.body after))
 
-with_fork : (parents : List ℕ) (p i m line : ℕ) (rest : List PlanLine) → (p == 0) ≡ false → parent_of parents (suc i) ≡ Some p → outside parents (suc i) ≡ p
+with_fork : (parents : List ℕ) (p i m line : ℕ) (rest : List PlanLine) → (p == 0) ≡ false → parent_of parents (suc i) ≡ Some p → enclosing_block parents (suc i) ≡ p
     → Completes parents (suc i) (suc i + 1) rest m → Completes parents p (suc i) (record { line = line; process = p; act = act.Call (call.Fork (suc i)) } ∷ rest) m
 with_fork parents zero i m line rest inside is out c = absurd (false≢true (sym inside))
 with_fork parents (suc j) i m line rest inside is out c =
@@ -239,7 +239,7 @@ module _ (g : OpenPlan) (n : ℕ) (plan : PlanSeen) (most : ℕ) (opened : IsOpe
     is_parents = r.is_parents;
     completes = with_end plan.parents g.inside (length g.parents + 1) (length plan.parents + 1) n r.rest inside
         (subst (λ p. Completes plan.parents p (length g.parents + 1) r.rest (length plan.parents + 1))
-        (sym (ap (λ ps. outside ps g.inside) (sym r.is_parents) ∙ outside_front g.parents r.more g.inside opened.inside)) r.completes);
+        (sym (ap (λ ps. enclosing_block ps g.inside) (sym r.is_parents) ∙ outside_front g.parents r.more g.inside opened.inside)) r.completes);
     acts = All-cons (λ (l : PlanLine). IsSoundAct l.act) _ _ tt r.acts;
     few_lines = let le = r.few_lines in omega (arith, le);
     few_blocks = let le = r.few_blocks in omega (arith, le);
@@ -248,7 +248,7 @@ module _ (g : OpenPlan) (n : ℕ) (plan : PlanSeen) (most : ℕ) (opened : IsOpe
   -- the block that begins has the next number, and this parent
   begun : (p : ℕ) (more : List ℕ) (rest : List PlanLine) → (g.parents ++ p ∷ []) ++ more ≡ plan.parents
       → Completes plan.parents (length g.parents + 1) (length (g.parents ++ p ∷ []) + 1) rest (length plan.parents + 1)
-      → (parent_of plan.parents (suc (length g.parents)) ≡ Some p) × (outside plan.parents (suc (length g.parents)) ≡ p)
+      → (parent_of plan.parents (suc (length g.parents)) ≡ Some p) × (enclosing_block plan.parents (suc (length g.parents)) ≡ p)
       × Completes plan.parents (suc (length g.parents)) (suc (length g.parents) + 1) rest (length plan.parents + 1)
   begun p more rest is c = (
     ap (λ ps. slice_get ps (length g.parents)) (sym is) ∙ get_at g.parents more p,

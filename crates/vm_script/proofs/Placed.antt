@@ -21,7 +21,7 @@ use Rattle.vm_script.specs.declared.statement.Statement.TheVariants as says
 use Rattle.vm_script.specs.declared.statement.Spot.{Spot}
 use Rattle.vm_script.specs.Fields.{is_word, digits_at, number_of_field, is_file_name, is_hex_digit, is_digit, digit_value, value_of_digits, hex_bytes, bytes_of_field}
 use Rattle.vm_script.specs.Reading.{◌>>=◌, ◌>>◌, or_fault, need}
-use Rattle.vm_script.specs.Statements.{number, name, bytes, size, prot, kind, place, load_line, store_line, map_object, map_of, map_line, unmap_line, protect_of, protect_line, sync_line, read_of, read_call_line, write_of, write_line, truncate_line, alone, own, amount, path, disk_setup, disk, content, mode, file_setup, file, setup_statement, block_statement, word_statement, statement, is_comment}
+use Rattle.vm_script.specs.Statements.{number, name, bytes, size, prot, kind, place, load_line, store_line, map_object, map_of, map_line, unmap_line, protect_of, protect_line, sync_line, read_of, read_call_line, write_of, write_line, truncate_line, lone_word, own, amount, path, disk_setup, disk, content, mode, file_setup, file, setup_statement, block_statement, word_statement, statement, is_comment}
 use Rattle.vm_script.specs.Printed.{IsPlanAct, IsContent, AreBytes, may_stand, setup_may_stand}
 
 pub bind : {A B : Type 0} (r : Result A ScriptKind) (f : A → Result B ScriptKind) (P : B → Type 0) → ((x : A) → r ≡ Ok x → IfOk (f x) P) → IfOk (r >>= f) P
@@ -242,7 +242,7 @@ IsPlaced spot s = (may_stand spot s ≡ true) × OwnIs s
 own_is : (spot : Spot) (r : Result PlanAct ScriptKind) → spot.inside ≡ true → IfOk r IsPlanAct → IfOk (own r) (IsPlaced spot)
 own_is spot r inside is = bind r _ (IsPlaced spot) (λ a e. (inside, if_ok r IsPlanAct a is e))
 
-alone_is : {A : Type 0} (x : A) (args : List (List ℕ)) (P : A → Type 0) → P x → IfOk (alone x args) P
+alone_is : {A : Type 0} (x : A) (args : List (List ℕ)) (P : A → Type 0) → P x → IfOk (lone_word x args) P
 alone_is x [] P h = h
 alone_is x (a ∷ more) P h = tt
 
@@ -286,7 +286,7 @@ setup_is spot word args =
 block_is : (spot : Spot) (word : List ℕ) (args : List (List ℕ)) → IfOk (block_statement spot word args) (IsPlaced spot)
 unfolding block_statement
 block_is spot word args =
-    choice (is_word word (codes "wait")) _ _ (IsPlaced spot) (λ _. needed fault.Place spot.inside _ (IsPlaced spot) (λ ok. own_is spot (alone act.Wait args) ok (alone_is act.Wait args IsPlanAct tt)))
+    choice (is_word word (codes "wait")) _ _ (IsPlaced spot) (λ _. needed fault.Place spot.inside _ (IsPlaced spot) (λ ok. own_is spot (lone_word act.Wait args) ok (alone_is act.Wait args IsPlanAct tt)))
     (λ _. choice (is_word word (codes "process")) _ _ (IsPlaced spot) (λ _. needed fault.Place (not spot.inside) _ (IsPlaced spot) (λ ok. alone_is says.Process args (IsPlaced spot) (ok, tt)))
     (λ _. choice (is_word word (codes "fork")) _ _ (IsPlaced spot) (λ _. needed fault.Place spot.inside _ (IsPlaced spot) (λ ok. alone_is says.Fork args (IsPlaced spot) (ok, tt)))
     (λ _. choice (is_word word (codes "end")) _ _ (IsPlaced spot) (λ _. needed fault.Place spot.inside _ (IsPlaced spot) (λ ok. alone_is says.End args (IsPlaced spot) (ok, tt)))

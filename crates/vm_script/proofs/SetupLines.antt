@@ -25,7 +25,7 @@ use Rattle.vm_script.specs.Printed.{IsSetupAct, AreBytes}
 use Rattle.vm_script.specs.Quick.{AreWords, none, more}
 use Rattle.vm_script.specs.Reading.{◌>>◌, need}
 use Rattle.vm_script.specs.Sound.{IsSoundSetup}
-use Rattle.vm_script.specs.Statements.{number, name, bytes, amount, path, disk_setup, disk, content, mode, file_setup, file, own, alone, load_line, store_line, map_line, unmap_line, protect_line, sync_line, read_call_line, write_line, truncate_line, setup_statement, block_statement, word_statement, statement, is_comment}
+use Rattle.vm_script.specs.Statements.{number, name, bytes, amount, path, disk_setup, disk, content, mode, file_setup, file, own, lone_word, load_line, store_line, map_line, unmap_line, protect_line, sync_line, read_call_line, write_line, truncate_line, setup_statement, block_statement, word_statement, statement, is_comment}
 use Rattle.vm_script.proofs.Placed.{bind, choice, needed, number_is, name_is, bytes_is, if_ok}
 
 -- A plain line's fields are words.
@@ -147,14 +147,14 @@ setup_is spot word args w =
     (λ _. choice (is_word word (codes "disk")) _ _ SetupIs (λ _. needed fault.Place spot.opening _ SetupIs (λ _. bind (disk args) _ SetupIs (λ a e. if_ok (disk args) IsSetupAct a (disk_is args w) e)))
     (λ _. choice (is_word word (codes "file")) _ _ SetupIs (λ _. needed fault.Place spot.opening _ SetupIs (λ _. bind (file args) _ SetupIs (λ a e. if_ok (file args) IsSetupAct a (file_is args) e))) (λ _. tt)))))
 
-alone_is : {A : Type 0} (x : A) (args : List (List ℕ)) (P : A → Type 0) → P x → IfOk (alone x args) P
+alone_is : {A : Type 0} (x : A) (args : List (List ℕ)) (P : A → Type 0) → P x → IfOk (lone_word x args) P
 alone_is x [] P h = h
 alone_is x (a ∷ args) P h = tt
 
 block_is : (spot : Spot) (word : List ℕ) (args : List (List ℕ)) → AreWords args → IfOk (block_statement spot word args) SetupIs
 unfolding block_statement
 block_is spot word args w =
-    choice (is_word word (codes "wait")) _ _ SetupIs (λ _. needed fault.Place spot.inside _ SetupIs (λ _. bind (alone act.Wait args) _ SetupIs (λ a e. tt)))
+    choice (is_word word (codes "wait")) _ _ SetupIs (λ _. needed fault.Place spot.inside _ SetupIs (λ _. bind (lone_word act.Wait args) _ SetupIs (λ a e. tt)))
     (λ _. choice (is_word word (codes "process")) _ _ SetupIs (λ _. needed fault.Place (not spot.inside) _ SetupIs (λ _. alone_is says.Process args SetupIs tt))
     (λ _. choice (is_word word (codes "fork")) _ _ SetupIs (λ _. needed fault.Place spot.inside _ SetupIs (λ _. alone_is says.Fork args SetupIs tt))
     (λ _. choice (is_word word (codes "end")) _ _ SetupIs (λ _. needed fault.Place spot.inside _ SetupIs (λ _. alone_is says.End args SetupIs tt))

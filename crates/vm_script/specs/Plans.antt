@@ -33,9 +33,9 @@ abbrev pub empty_plan : OpenPlan
 empty_plan = record { setup = []; lines = []; parents = []; inside = 0 }
 
 -- The block that is open where the block p has ended: its parent, or 0.
-abbrev pub outside : List ℕ → ℕ → ℕ
-outside parents zero = 0
-outside parents (suc i) = slice_index_or parents i 0
+abbrev pub enclosing_block : List ℕ → ℕ → ℕ
+enclosing_block parents zero = 0
+enclosing_block parents (suc i) = slice_index_or parents i 0
 
 -- With a line of the innermost block.
 abbrev pub with_line : OpenPlan → ℕ → PlanAct → OpenPlan
@@ -47,7 +47,7 @@ with_new_block g parent = record g { parents = g.parents ++ parent ∷ []; insid
 
 -- The innermost block has ended.
 abbrev pub without_block : OpenPlan → OpenPlan
-without_block g = record g { inside = outside g.parents g.inside }
+without_block g = record g { inside = enclosing_block g.parents g.inside }
 
 -- With what line n says.
 abbrev pub with_statement : OpenPlan → ℕ → Statement → OpenPlan

@@ -166,9 +166,9 @@ truncate_line (n ∷ l ∷ []) = do
 truncate_line args = Err fault.Count
 
 -- A line of one word alone.
-abbrev pub alone : {A : Type 0} → A → List (List ℕ) → Result A ScriptKind
-alone x [] = Ok x
-alone x args = Err fault.Count
+abbrev pub lone_word : {A : Type 0} → A → List (List ℕ) → Result A ScriptKind
+lone_word x [] = Ok x
+lone_word x args = Err fault.Count
 
 -- The number of a line of one number, as `frames N`.
 abbrev pub amount : List (List ℕ) → Result ℕ ScriptKind
@@ -229,10 +229,10 @@ setup_statement spot word args =
 -- What a line of this word says that begins a block, ends it or waits for children.
 unfoldable pub block_statement : Spot → List ℕ → List (List ℕ) → Result Statement ScriptKind
 block_statement spot word args =
-    if is_word word (codes "wait") then (need fault.Place spot.inside >> own (alone act.Wait args))
-    else if is_word word (codes "process") then (need fault.Place (not spot.inside) >> alone says.Process args)
-    else if is_word word (codes "fork") then (need fault.Place spot.inside >> alone says.Fork args)
-    else if is_word word (codes "end") then (need fault.Place spot.inside >> alone says.End args)
+    if is_word word (codes "wait") then (need fault.Place spot.inside >> own (lone_word act.Wait args))
+    else if is_word word (codes "process") then (need fault.Place (not spot.inside) >> lone_word says.Process args)
+    else if is_word word (codes "fork") then (need fault.Place spot.inside >> lone_word says.Fork args)
+    else if is_word word (codes "end") then (need fault.Place spot.inside >> lone_word says.End args)
     else setup_statement spot word args
 
 -- What a line of this word says: first the word, then the place, then the number of fields, then the fields from the left.

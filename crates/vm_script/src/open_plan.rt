@@ -1,6 +1,6 @@
 //! A plan while it grows line by line.
 ghost use Rattle.std.specs.Prelude.{◌≡◌, ◌+◌, ◌<◌, ◌^◌, ◌||◌, length, OnOk};
-ghost use Rattle.vm_script.specs.Plans.{outside, with_line, with_new_block, with_statement, spot_of, empty_plan, plan_seen, gives_frames, gives_swap, gives_translations};
+ghost use Rattle.vm_script.specs.Plans.{enclosing_block, with_line, with_new_block, with_statement, spot_of, empty_plan, plan_seen, gives_frames, gives_swap, gives_translations};
 
 use crate::plan::{Plan, PlanAct, PlanLine, SetupAct, SetupLine};
 use crate::statement::{Spot, Statement};
@@ -33,7 +33,7 @@ impl Model for Growing {
 
 // The parent of a block, or 0.
 fn parent_of(parents: &[u32], p: u32) -> u32
-    ensures { result ≡ outside parents.now p }
+    ensures { result ≡ enclosing_block parents.now p }
 {
     if p == 0 {
         return 0;

@@ -13,7 +13,7 @@ use std::alloc::Global;
 
 // A line of one word alone.
 fn alone(args: &[&[u8]]) -> Result<(), ReadError>
-    ensures { IsReadAs (λ u. u) result (statements.alone tt (over (λ f. f.now) args.now)) }
+    ensures { IsReadAs (λ u. u) result (statements.lone_word tt (over (λ f. f.now) args.now)) }
 {
     if args.is_empty() {
         Ok(())

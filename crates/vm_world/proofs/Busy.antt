@@ -14,7 +14,7 @@ use Rattle.std.proofs.lemmas.Bool.{cases_eq}
 use Rattle.std.proofs.lemmas.Bool.Decides.{eqb_tells}
 use Rattle.std.proofs.lemmas.List.Elements.{All-nil, All-cons}
 use Rattle.std.proofs.lemmas.List.Sums.{sum_by-cons}
-use Rattle.addr_space.specs.Space.{Part, IsInOrder, at}
+use Rattle.addr_space.specs.Space.{Part, IsInOrder, piece_at}
 use Rattle.anon_map.specs.Maps.{Map, places_of, holders_of}
 use Rattle.vnode_files.specs.Files.{no_files}
 use Rattle.block_device.specs.DiskSeen.{DiskSeen, IsBlock, AreBlocks, HasBlocks}
@@ -50,7 +50,7 @@ use Rattle.vm_world.proofs.FlatWhole.{HasPages, some-inj, flat-whole}
 use Rattle.vm_world.proofs.Openings.{opening-history}
 use Rattle.vm_world.proofs.PageNames.{page-cases}
 use Rattle.vm_world.proofs.Spaces.{map-empty, entries-empty}
-use Rattle.vm_world.proofs.StoredPages.{IsPage-clipped}
+use Rattle.vm_world.proofs.StoredPages.{IsPage-clip}
 
 -- the one process
 one-entries : {X : Type 0} (p : ℕ) (v : X) → finite.entries (finite.insert (finite.empty {X = X} {R = nat_cmp}) p v) ≡ (p, v) ∷ []
@@ -210,7 +210,7 @@ module _ (page : Page) (whole : IsPage page) where
   written = record { place = 0; translation = record { space = 1; page = 3; frame = 0; writable = true; referenced = true; modified = true }; there = refl; leads = refl; modified = refl }
 
   busy-spot : spot_at busy_spaces 1 3 ≡ Some (busy_segment, 2)
-  busy-spot = ap (λ (o : Option (List (Part Segment))). option_and_then (λ parts. at parts 3) o) (get-insert_here (finite.empty {X = List (Part Segment)} {R = nat_cmp}) 1 (busy_part ∷ []))
+  busy-spot = ap (λ (o : Option (List (Part Segment))). option_and_then (λ parts. piece_at parts 3) o) (get-insert_here (finite.empty {X = List (Part Segment)} {R = nat_cmp}) 1 (busy_part ∷ []))
 
   leads : (place : ℕ) (t : Translation) → slice_index_or busy_hat.places place None ≡ Some t → TranslationFits (busy_store page) busy_slots busy_maps busy_spaces t
   leads zero t is = subst (λ (x : Translation). TranslationFits (busy_store page) busy_slots busy_maps busy_spaces x) (some-inj (record { space = 1; page = 3; frame = 0; writable = true; referenced = true; modified = true }) t is) (record {
@@ -371,7 +371,7 @@ module _ (page : Page) (whole : IsPage page) where
   ]
     where
       slot : (k : ℕ) → k < 3 → IsPage (page_value (busy_memory page).world (notes_of (busy_seats page)) (slot_name k))
-      slot zero lt = IsPage-clipped 4096 page (omega arith) page-block
+      slot zero lt = IsPage-clip 4096 page (omega arith) page-block
       slot (suc zero) lt = whole
       slot (suc (suc zero)) lt = whole
       slot (suc (suc (suc k))) lt = absurd (omega (arith, lt))

@@ -15,7 +15,7 @@ use Rattle.vm_types.specs.declared.call.Object.{Object}
 use Rattle.vm_types.specs.declared.call.Object.TheVariants as object
 use Rattle.addr_space.specs.Space.{Part, part_at}
 use Rattle.addr_space.proofs.PartLists.{all-found}
-use Rattle.anon_map.specs.Maps.{Map, anon_map_at, IsMapThere, IsUnused, places_of, holders_of, held_once}
+use Rattle.anon_map.specs.Maps.{Map, anon_map_at, IsMapThere, IsUnused, places_of, holders_of, fresh_map}
 use Rattle.page_store.specs.Notes.{Notes}
 use Rattle.flat_model.specs.Flat.{Flat, IsCell, IsFlat}
 use Rattle.flat_model.specs.Mapping.{own_for}
@@ -216,10 +216,10 @@ module _ (m : Memory) (p : ℕ) (parts : List (Part Segment)) (x : Part Segment)
       (all-both (SegmentFits files maps) (λ (a : Part Segment). (z n : ℕ) → a.piece.own ≡ Some n → holders_of maps n ≡ 1 → finite.get zs z ≡ Some n → ⊥) ps (fits.segments.each q ps there) (own-unshown m fits q ps there))
 
   -- the own map that comes
-  own-here : (k : ℕ) → x.piece.own ≡ Some k → anon_map_at now k ≡ Some (held_once (replicate x.piece.pages None))
+  own-here : (k : ℕ) → x.piece.own ≡ Some k → anon_map_at now k ≡ Some (fresh_map (replicate x.piece.pages None))
   own-here k its =
       held-else mid x.piece.shown k (λ shown. absurd (let t : IsSome (anon_map_at maps k) = (shown-x k shown).0 in let z : false ≡ true = sym (ap is_some (unused k its).absent) ∙ t in cc))
-      ∙ ap (λ (o : Option ℕ). anon_map_at (maps_made maps o x.piece.pages) k) its ∙ with-here maps k (held_once (replicate x.piece.pages None)) (unused k its)
+      ∙ ap (λ (o : Option ℕ). anon_map_at (maps_made maps o x.piece.pages) k) its ∙ with-here maps k (fresh_map (replicate x.piece.pages None)) (unused k its)
 
   part-x : SegmentFits files now x
   part-x = record {
@@ -344,8 +344,8 @@ module _ (m : Memory) (p : ℕ) (parts : List (Part Segment)) (x : Part Segment)
   same-made : (n : ℕ) → IsMapThere maps_before n → anon_map_at with_made n ≡ anon_map_at maps_before n
   same-made n there = made-else maps_before x.piece.shown x.piece.pages n is-unused there
 
-  here-made : anon_map_at with_made number ≡ Some (held_once (replicate x.piece.pages None))
-  here-made = ap (λ (o : Option ℕ). anon_map_at (maps_made maps_before o x.piece.pages) number) may.shown ∙ with-here maps_before number (held_once (replicate x.piece.pages None)) may.unused
+  here-made : anon_map_at with_made number ≡ Some (fresh_map (replicate x.piece.pages None))
+  here-made = ap (λ (o : Option ℕ). anon_map_at (maps_made maps_before o x.piece.pages) number) may.shown ∙ with-here maps_before number (fresh_map (replicate x.piece.pages None)) may.unused
 
   zero-x : zero_map x.piece ≡ Some (z, number)
   zero-x = zero_map-of x.piece z number may.object may.shown

@@ -8,10 +8,10 @@ use Rattle.flat_model.specs.LineLaws.{page_front}
 use Rattle.flat_model.specs.Parts.{without_tail}
 use Rattle.flat_model.specs.Step.{files_cleared}
 use Rattle.flat_model.proofs.Lines.{lines_in_pages_law}
-use Rattle.page_store.specs.Bytes.{clipped}
+use Rattle.page_store.specs.Bytes.{clip}
 use Rattle.vm_world.specs.FlatMemory.{pages_from, file_with_pages, files_with_pages}
 use Rattle.vm_world.specs.WorldSteps.{cut_page}
-use Rattle.vm_world.proofs.Clips.{clipped-whole, front-clipped, cut-none}
+use Rattle.vm_world.proofs.Clips.{clip-whole, front-clip, cut-none}
 use Rattle.vm_world.proofs.FilePages.{page-in, page-past, each-page}
 
 pages-same : (xs ys : List Page) → ((i : ℕ) → slice_get xs i ≡ slice_get ys i) → xs ≡ ys
@@ -61,15 +61,15 @@ cut-file old new info cut whole pages = by_last (cut (pages_in info.length - 1))
         cut-last : (i : ℕ) → i < pages_in info.length → cut (pages_in info.length - 1) ≡ true → new i ≡ page_front (info.length - 4096 * i) (old i)
         cut-last i lt e =
             let same : info.length - i * 4096 ≡ info.length - 4096 * i = omega arith in
-            let front = front-clipped (info.length - 4096 * i) (old i) (whole i lt) in
+            let front = front-clip (info.length - 4096 * i) (old i) (whole i lt) in
             elim (split (i + 1) (pages_in info.length)) [
               | inl inner ↦
                   let full : min (info.length - i * 4096) 4096 ≡ 4096 = omega (arith, inner) in
                   let full' : min (info.length - 4096 * i) 4096 ≡ 4096 = omega (arith, inner) in
-                  pages i lt ∙ ap (λ (v : ℕ). cut_page (cut i) v (old i)) full ∙ cut-none (cut i) (old i) (λ _. whole i lt) ∙ sym (front ∙ ap (λ (v : ℕ). clipped v (old i)) full' ∙ clipped-whole (old i) (whole i lt))
+                  pages i lt ∙ ap (λ (v : ℕ). cut_page (cut i) v (old i)) full ∙ cut-none (cut i) (old i) (λ _. whole i lt) ∙ sym (front ∙ ap (λ (v : ℕ). clip v (old i)) full' ∙ clip-whole (old i) (whole i lt))
               | inr last ↦
                   let at : i ≡ pages_in info.length - 1 = omega (arith, lt, last) in
-                  pages i lt ∙ ap (λ (b : Bool). cut_page b (min (info.length - i * 4096) 4096) (old i)) (ap cut at ∙ e) ∙ ap (λ (k : ℕ). clipped (min k 4096) (old i)) same ∙ sym front
+                  pages i lt ∙ ap (λ (b : Bool). cut_page b (min (info.length - i * 4096) 4096) (old i)) (ap cut at ∙ e) ∙ ap (λ (k : ℕ). clip (min k 4096) (old i)) same ∙ sym front
             ]
 
 -- ALL FILES, where each has its tail cleared or not.

@@ -13,11 +13,11 @@ use Rattle.vm_types.specs.declared.call.Kind.{Kind}
 use Rattle.vm_types.specs.declared.call.Kind.TheVariants.{Shared, Private}
 use Rattle.vm_types.specs.declared.call.Object.{Object}
 use Rattle.vm_types.specs.declared.call.Object.TheVariants as object
-use Rattle.addr_space.specs.Space.{Part, part, IsInOrder, at, has, part_at, without, cut_at, with_piece, lower, upper_of}
-use Rattle.addr_space.proofs.PartLemmas.{has-in, has-within, found-in, at-here, at-next, ordered-cut, ordered-without, at-without}
-use Rattle.addr_space.proofs.PartLists.{all-without, all-found, at-cut_both, at-found, found-begins, found-with_piece}
+use Rattle.addr_space.specs.Space.{Part, part, IsInOrder, piece_at, has, part_at, without_part, cut_at, with_new_piece, lower_part, upper_part}
+use Rattle.addr_space.proofs.PartLemmas.{has-in, has-within, found-in, at-here, at-next, ordered-cut, ordered-without_part, at-without_part}
+use Rattle.addr_space.proofs.PartLists.{all-without_part, all-found, at-cut_both, at-found, found-begins, found-with_new_piece}
 use Rattle.addr_space.proofs.PageLaws.{ordered-written}
-use Rattle.anon_map.specs.Maps.{Map, anon_map_at, IsMapThere, IsUnused, places_of, holders_of, held_once, the_map}
+use Rattle.anon_map.specs.Maps.{Map, anon_map_at, IsMapThere, IsUnused, places_of, holders_of, fresh_map, the_map}
 use Rattle.page_store.specs.Notes.{Notes}
 use Rattle.page_hash.specs.declared.PageName.{PageName}
 use Rattle.flat_model.specs.Access.{with_space}
@@ -40,7 +40,7 @@ use Rattle.vm_world.proofs.ComingParts.{zero-there, zero-pages-of, own-is-unshow
 use Rattle.vm_world.proofs.FileMappings.{all-turn}
 use Rattle.vm_world.proofs.KeptMaps.{KeepsMaps, Touches, same-places, same-there, kept-fits, kept-cell, others-keep, own-there, shown-there, is-the-number, all-both, all-every, slot-in-same}
 use Rattle.vm_world.proofs.MapChanges.{cut-else, cut-lower, cut-upper, cut-sum, cut-holders, held-else, held-places, held-sum, held-holders}
-use Rattle.vm_world.proofs.PartSums.{all_parts, sum-cut, sum-without, sum-insert, sum-segments, part-le}
+use Rattle.vm_world.proofs.PartSums.{all_parts, sum-cut, sum-without_part, sum-insert, sum-segments, part-le}
 use Rattle.vm_world.proofs.Reserves.{total-same}
 use Rattle.vm_world.proofs.SegmentChange.{ShowsAs, counts-change, change-memory, segments-change, spaces-change, shows-kept}
 use Rattle.vm_world.proofs.ShownZeros.{IsShown, shown-by, fits-shown, maps-are, zeros-are}
@@ -51,27 +51,27 @@ abbrev had : ℕ → Part Segment → ℕ
 had n a = times_had n a.piece
 
 -- what holds of the other parts and of the two holds of all, once one is cut
-all-cut-rest : (P : Part Segment → Type 0) (low page : ℕ) (w u : Segment) (ps : List (Part Segment)) (x : Part Segment) → IsInOrder low ps → part_at ps page ≡ Some x → All P (without x.first ps) → P (part x.first (page - x.first) w) → P (part page (x.first + x.pages - page) u)
-    → All P (cut_at page u (with_piece page w ps))
+all-cut-rest : (P : Part Segment → Type 0) (low page : ℕ) (w u : Segment) (ps : List (Part Segment)) (x : Part Segment) → IsInOrder low ps → part_at ps page ≡ Some x → All P (without_part x.first ps) → P (part x.first (page - x.first) w) → P (part page (x.first + x.pages - page) u)
+    → All P (cut_at page u (with_new_piece page w ps))
 all-cut-rest P low page w u [] x order is each down up = absurd (let z : None ≡ Some x = is in cc)
 all-cut-rest P low page w u (r ∷ rs) x order is each down up = elim (cases_Bool (has r page)) [
   | inl t ↦
       let same : r ≡ x = let z : Some r ≡ Some x = sym (at-here r rs page t) ∙ is in cc in
       let new : Part Segment = part r.first r.pages w in
-      let rest : All P rs = subst (λ (b : Bool). All P (cond b rs (r ∷ without x.first rs))) (eq-eqb r.first x.first (ap (λ (a : Part Segment). a.first) same)) each in
-      subst (λ (b : Bool). All P (cut_at page u (cond b (new ∷ rs) (r ∷ with_piece page w rs)))) (sym t)
-      (subst (λ (b : Bool). All P (cond b (lower page new ∷ upper_of page u new ∷ rs) (new ∷ cut_at page u rs))) (sym t)
-      (All-cons P (lower page new) (upper_of page u new ∷ rs) (subst (λ (a : Part Segment). P (part a.first (page - a.first) w)) (sym same) down)
-      (All-cons P (upper_of page u new) rs (subst (λ (a : Part Segment). P (part page (a.first + a.pages - page) u)) (sym same) up) rest)))
+      let rest : All P rs = subst (λ (b : Bool). All P (cond b rs (r ∷ without_part x.first rs))) (eq-eqb r.first x.first (ap (λ (a : Part Segment). a.first) same)) each in
+      subst (λ (b : Bool). All P (cut_at page u (cond b (new ∷ rs) (r ∷ with_new_piece page w rs)))) (sym t)
+      (subst (λ (b : Bool). All P (cond b (lower_part page new ∷ upper_part page u new ∷ rs) (new ∷ cut_at page u rs))) (sym t)
+      (All-cons P (lower_part page new) (upper_part page u new ∷ rs) (subst (λ (a : Part Segment). P (part a.first (page - a.first) w)) (sym same) down)
+      (All-cons P (upper_part page u new) rs (subst (λ (a : Part Segment). P (part page (a.first + a.pages - page) u)) (sym same) up) rest)))
   | inr f ↦
       let more : part_at rs page ≡ Some x = sym (at-next r rs page f) ∙ is in
       let behind = (found-in (r.first + r.pages) rs page x order.1 more).behind in
       let some = order.0.some in
-      let rest : All P (r ∷ without x.first rs) = subst (λ (b : Bool). All P (cond b rs (r ∷ without x.first rs))) (ne_eqb r.first x.first (λ e. absurd (omega (arith, e, behind, some)))) each in
-      subst (λ (b : Bool). All P (cut_at page u (cond b (part r.first r.pages w ∷ rs) (r ∷ with_piece page w rs)))) (sym f)
-      (subst (λ (b : Bool). All P (cond b (lower page r ∷ upper_of page u r ∷ with_piece page w rs) (r ∷ cut_at page u (with_piece page w rs)))) (sym f)
-      (All-cons P r (cut_at page u (with_piece page w rs)) (All-head P r (without x.first rs) rest)
-      (all-cut-rest P (r.first + r.pages) page w u rs x order.1 more (All-tail P r (without x.first rs) rest) down up)))
+      let rest : All P (r ∷ without_part x.first rs) = subst (λ (b : Bool). All P (cond b rs (r ∷ without_part x.first rs))) (ne_eqb r.first x.first (λ e. absurd (omega (arith, e, behind, some)))) each in
+      subst (λ (b : Bool). All P (cut_at page u (cond b (part r.first r.pages w ∷ rs) (r ∷ with_new_piece page w rs)))) (sym f)
+      (subst (λ (b : Bool). All P (cond b (lower_part page r ∷ upper_part page u r ∷ with_new_piece page w rs) (r ∷ cut_at page u (with_new_piece page w rs)))) (sym f)
+      (All-cons P r (cut_at page u (with_new_piece page w rs)) (All-head P r (without_part x.first rs) rest)
+      (all-cut-rest P (r.first + r.pages) page w u rs x order.1 more (All-tail P r (without_part x.first rs) rest) down up)))
 ]
 
 -- THE MAPS of a cut, whether the segment has one of its own or not
@@ -89,7 +89,7 @@ module _ (maps : List (Option Map)) (o : Option ℕ) (number place : ℕ) (there
   mid-lower : (k : ℕ) → o ≡ Some k → anon_map_at (maps_cut maps o number place) k ≡ Some (record (the_map maps k) { places = take place (places_of maps k) })
   mid-lower k is = ap (λ (c : Option ℕ). anon_map_at (maps_cut maps c number place) k) is ∙ cut-lower maps k number place (there k is) (is-unused k is)
 
-  mid-upper : (k : ℕ) → o ≡ Some k → anon_map_at (maps_cut maps o number place) number ≡ Some (held_once (drop place (places_of maps k)))
+  mid-upper : (k : ℕ) → o ≡ Some k → anon_map_at (maps_cut maps o number place) number ≡ Some (fresh_map (drop place (places_of maps k)))
   mid-upper k is = ap (λ (c : Option ℕ). anon_map_at (maps_cut maps c number place) number) is ∙ cut-upper maps k number place (there k is) (is-unused k is)
 
   mid-sum : (f : List (Option ℕ) → ℕ) → f [] ≡ 0 → ((ps : List (Option ℕ)) → f (take place ps) + f (drop place ps) ≡ f ps) → sum_by (λ (m : Option Map). f (places_in m)) (maps_cut maps o number place) ≡ sum_by (λ (m : Option Map). f (places_in m)) maps
@@ -156,7 +156,7 @@ module _ (m : Memory) (p page number : ℕ) (parts : List (Part Segment)) (x : P
   after = finite.insert m.spaces p new
 
   abbrev rest : Spaces
-  rest = finite.insert m.spaces p (without x.first parts)
+  rest = finite.insert m.spaces p (without_part x.first parts)
 
   abbrev files : ℕ
   files = length m.world.files.files
@@ -175,8 +175,8 @@ module _ (m : Memory) (p page number : ℕ) (parts : List (Part Segment)) (x : P
 
   beside : (n : ℕ) → all_parts (had n) rest + times_had n x.piece ≡ holders_of maps n
   beside n =
-      let a = sum-insert (had n) m.spaces p parts (without x.first parts) is in
-      let b = sum-without (had n) parts x.first x (found-begins 1 parts page x old-order found) in
+      let a = sum-insert (had n) m.spaces p parts (without_part x.first parts) is in
+      let b = sum-without_part (had n) parts x.first x (found-begins 1 parts page x old-order found) in
       let c = sum-segments (times_had n) m.spaces in
       let d = fits.segments.holders n in
       omega (arith, a, b, c, d)
@@ -221,7 +221,7 @@ module _ (m : Memory) (p page number : ℕ) (parts : List (Part Segment)) (x : P
   lower-map : (k : ℕ) → x.piece.own ≡ Some k → anon_map_at now k ≡ Some (record (the_map maps k) { places = take cut_to (places_of maps k) })
   lower-map k its = held-else mid x.piece.shown k (λ shown. absurd (apart-x k shown its)) ∙ mid-lower maps x.piece.own number cut_to there-own unused k its
 
-  upper-map : (k : ℕ) → x.piece.own ≡ Some k → anon_map_at now number ≡ Some (held_once (drop cut_to (places_of maps k)))
+  upper-map : (k : ℕ) → x.piece.own ≡ Some k → anon_map_at now number ≡ Some (fresh_map (drop cut_to (places_of maps k)))
   upper-map k its =
       held-else mid x.piece.shown number (λ shown. absurd (
       let t : IsSome (anon_map_at maps number) = shown-x number shown in
@@ -231,8 +231,8 @@ module _ (m : Memory) (p page number : ℕ) (parts : List (Part Segment)) (x : P
   -- THE OTHERS keep their maps
   rest-order : (q : ℕ) (ps : List (Part Segment)) → finite.get rest q ≡ Some ps → All (SegmentFits files maps) ps
   rest-order q ps there = elim (cases_eq q p) [
-    | inl same ↦ subst (All (SegmentFits files maps)) (let z : Some (without x.first parts) ≡ Some ps = sym (get-insert_here m.spaces p (without x.first parts)) ∙ ap (finite.get rest) (sym same) ∙ there in let e : without x.first parts ≡ ps = cc in e) (all-without (SegmentFits files maps) x.first parts (fits.segments.each p parts is))
-    | inr ne ↦ fits.segments.each q ps (sym (get-insert_apart m.spaces p (without x.first parts) q ne) ∙ there)
+    | inl same ↦ subst (All (SegmentFits files maps)) (let z : Some (without_part x.first parts) ≡ Some ps = sym (get-insert_here m.spaces p (without_part x.first parts)) ∙ ap (finite.get rest) (sym same) ∙ there in let e : without_part x.first parts ≡ ps = cc in e) (all-without_part (SegmentFits files maps) x.first parts (fits.segments.each p parts is))
+    | inr ne ↦ fits.segments.each q ps (sym (get-insert_apart m.spaces p (without_part x.first parts) q ne) ∙ there)
   ]
 
   keeps : (q : ℕ) (ps : List (Part Segment)) → finite.get rest q ≡ Some ps → All (λ (a : Part Segment). SegmentFits files maps a × KeepsMaps maps now a.piece) ps
@@ -242,7 +242,7 @@ module _ (m : Memory) (p page number : ℕ) (parts : List (Part Segment)) (x : P
       (all-every (λ (n : ℕ) (a : Part Segment). times_had n a.piece ≤ all_parts (had n) rest) ps (λ n. part-le (had n) rest q ps there)))
 
   others : (q : ℕ) (ps : List (Part Segment)) → q ≢ p → finite.get m.spaces q ≡ Some ps → All (λ (a : Part Segment). SegmentFits files maps a × KeepsMaps maps now a.piece) ps
-  others q ps ne there = keeps q ps (get-insert_apart m.spaces p (without x.first parts) q ne ∙ there)
+  others q ps ne there = keeps q ps (get-insert_apart m.spaces p (without_part x.first parts) q ne ∙ there)
 
   others-fit : (ps : List (Part Segment)) → All (λ (a : Part Segment). SegmentFits files maps a × KeepsMaps maps now a.piece) ps → All (SegmentFits files now) ps
   others-fit ps each = all-turn (λ (a : Part Segment). SegmentFits files maps a × KeepsMaps maps now a.piece) (SegmentFits files now) ps (λ a both. kept-fits files maps now a both.1 both.0) each
@@ -297,7 +297,7 @@ module _ (m : Memory) (p page number : ℕ) (parts : List (Part Segment)) (x : P
           )
 
   order : IsInOrder 1 new
-  order = ordered-cut 1 page u (with_piece page w parts) (part x.first x.pages w) (ordered-written parts page old-order w) (found-with_piece parts page w x found) lt
+  order = ordered-cut 1 page u (with_new_piece page w parts) (part x.first x.pages w) (ordered-written parts page old-order w) (found-with_new_piece parts page w x found) lt
 
   ordered-after : (q : ℕ) (ps : List (Part Segment)) → finite.get after q ≡ Some ps → IsInOrder 1 ps
   ordered-after q ps there = elim (cases_eq q p) [
@@ -366,10 +366,10 @@ module _ (m : Memory) (p page number : ℕ) (parts : List (Part Segment)) (x : P
       by_own (Some n) e =
           ap (λ (o : Option Map). slice_index_or (unwrap_or o (record { places = []; holders = 0 })).places i None) (lower-map n e) ∙ get_or-take cut_to (places_of maps n) i None below
 
-  cut-shows : (k : ℕ) → at new k ≡ cond (has up k) (Some (u, k - page)) (cond (has x k) (Some (w, k - x.first)) (at parts k))
+  cut-shows : (k : ℕ) → piece_at new k ≡ cond (has up k) (Some (u, k - page)) (cond (has x k) (Some (w, k - x.first)) (piece_at parts k))
   cut-shows k = at-cut_both page w u parts x old-order found lt k
 
-  turn-here : (k : ℕ) (y : Spot) → at parts k ≡ Some y → (v : Spot) × (at new k ≡ Some v) × Turns y v
+  turn-here : (k : ℕ) (y : Spot) → piece_at parts k ≡ Some y → (v : Spot) × (piece_at new k ≡ Some v) × Turns y v
   turn-here k y there = elim (cases_Bool (has x k)) [
     | inl t ↦
         let in_x = has-within x k t in
@@ -380,13 +380,13 @@ module _ (m : Memory) (p page number : ℕ) (parts : List (Part Segment)) (x : P
           | inl before ↦
               let no : has up k ≡ false = elim (cases_Bool (has up k)) [ inl b ↦ absurd (let c = (has-within up k b).from in omega (arith, c, before)) | inr f ↦ f ] in (
                 (w, k - x.first),
-                cut-shows k ∙ ap (λ (b : Bool). cond b (Some (u, k - page)) (cond (has x k) (Some (w, k - x.first)) (at parts k))) no ∙ ap (λ (b : Bool). cond b (Some (w, k - x.first)) (at parts k)) t,
+                cut-shows k ∙ ap (λ (b : Bool). cond b (Some (u, k - page)) (cond (has x k) (Some (w, k - x.first)) (piece_at parts k))) no ∙ ap (λ (b : Bool). cond b (Some (w, k - x.first)) (piece_at parts k)) t,
                 subst (λ (s : Spot). Turns s (w, k - x.first)) same (half-turns w (k - x.first) (k - x.first) refl refl refl refl refl refl (lower-slot (k - x.first) (omega (arith, before, from))) refl),
               )
           | inr le ↦
               let yes : has up k ≡ true = has-in up k le (omega (arith, below, high, lt)) in (
                 (u, k - page),
-                cut-shows k ∙ ap (λ (b : Bool). cond b (Some (u, k - page)) (cond (has x k) (Some (w, k - x.first)) (at parts k))) yes,
+                cut-shows k ∙ ap (λ (b : Bool). cond b (Some (u, k - page)) (cond (has x k) (Some (w, k - x.first)) (piece_at parts k))) yes,
                 subst (λ (s : Spot). Turns s (u, k - page)) same (half-turns u (k - page) (k - x.first) refl refl refl refl refl (omega (arith, le, lt)) (upper-slot k le) (some-mapped x.piece.own)),
               )
         ]
@@ -396,37 +396,37 @@ module _ (m : Memory) (p page number : ℕ) (parts : List (Part Segment)) (x : P
           | inr f ↦ f
         ] in (
           y,
-          cut-shows k ∙ ap (λ (b : Bool). cond b (Some (u, k - page)) (cond (has x k) (Some (w, k - x.first)) (at parts k))) no ∙ ap (λ (b : Bool). cond b (Some (w, k - x.first)) (at parts k)) out ∙ there,
+          cut-shows k ∙ ap (λ (b : Bool). cond b (Some (u, k - page)) (cond (has x k) (Some (w, k - x.first)) (piece_at parts k))) no ∙ ap (λ (b : Bool). cond b (Some (w, k - x.first)) (piece_at parts k)) out ∙ there,
           kept-turns y (rest-keeps k y out there),
         )
   ]
     where
-      rest-keeps : (k : ℕ) (y : Spot) → has x k ≡ false → at parts k ≡ Some y → KeepsMaps maps now y.0
+      rest-keeps : (k : ℕ) (y : Spot) → has x k ≡ false → piece_at parts k ≡ Some y → KeepsMaps maps now y.0
       rest-keeps k y out there =
           let P = λ (a : Part Segment). SegmentFits files maps a × KeepsMaps maps now a.piece in
-          let here : finite.get rest p ≡ Some (without x.first parts) = get-insert_here m.spaces p (without x.first parts) in
-          let gone : at (without x.first parts) k ≡ Some y = at-without 1 x.first parts x old-order (found-begins 1 parts page x old-order found) k ∙ ap (λ (b : Bool). cond b None (at parts k)) out ∙ there in
-          let s = spot-in P 1 (without x.first parts) k y (omega arith) (ordered-without 1 x.first parts old-order) (keeps p (without x.first parts) here) gone in
+          let here : finite.get rest p ≡ Some (without_part x.first parts) = get-insert_here m.spaces p (without_part x.first parts) in
+          let gone : piece_at (without_part x.first parts) k ≡ Some y = at-without_part 1 x.first parts x old-order (found-begins 1 parts page x old-order found) k ∙ ap (λ (b : Bool). cond b None (piece_at parts k)) out ∙ there in
+          let s = spot-in P 1 (without_part x.first parts) k y (omega arith) (ordered-without_part 1 x.first parts old-order) (keeps p (without_part x.first parts) here) gone in
           subst (KeepsMaps maps now) s.piece s.fits.1
 
   turn-spot : (q k : ℕ) (y : Spot) → spot_at m.spaces q k ≡ Some y → (v : Spot) × (spot_at after q k ≡ Some v) × Turns y v
   turn-spot q k y there = elim (cases_eq q p) [
     | inl same ↦
-        let here : at parts k ≡ Some y = sym (ap (option_and_then (λ (ps : List (Part Segment)). at ps k)) is) ∙ ap (λ (j : ℕ). spot_at m.spaces j k) (sym same) ∙ there in
+        let here : piece_at parts k ≡ Some y = sym (ap (option_and_then (λ (ps : List (Part Segment)). piece_at ps k)) is) ∙ ap (λ (j : ℕ). spot_at m.spaces j k) (sym same) ∙ there in
         let v = turn-here k y here in
-        (v.0, ap (λ (j : ℕ). spot_at after j k) same ∙ ap (option_and_then (λ (ps : List (Part Segment)). at ps k)) (get-insert_here m.spaces p new) ∙ v.1, v.2)
+        (v.0, ap (λ (j : ℕ). spot_at after j k) same ∙ ap (option_and_then (λ (ps : List (Part Segment)). piece_at ps k)) (get-insert_here m.spaces p new) ∙ v.1, v.2)
     | inr ne ↦
         let P = λ (a : Part Segment). KeepsMaps maps now a.piece in
         let s : IsSpotOf P k y = by_space q ne k y (finite.get m.spaces q) refl there in
-        (y, ap (option_and_then (λ (ps : List (Part Segment)). at ps k)) (get-insert_apart m.spaces p new q ne) ∙ there, kept-turns y (subst (KeepsMaps maps now) s.piece s.fits))
+        (y, ap (option_and_then (λ (ps : List (Part Segment)). piece_at ps k)) (get-insert_apart m.spaces p new q ne) ∙ there, kept-turns y (subst (KeepsMaps maps now) s.piece s.fits))
   ]
     where
-      by_space : (q : ℕ) → q ≢ p → (k : ℕ) (y : Spot) (o : Option (List (Part Segment))) → finite.get m.spaces q ≡ o → option_and_then (λ (ps : List (Part Segment)). at ps k) o ≡ Some y → IsSpotOf (λ (a : Part Segment). KeepsMaps maps now a.piece) k y
+      by_space : (q : ℕ) → q ≢ p → (k : ℕ) (y : Spot) (o : Option (List (Part Segment))) → finite.get m.spaces q ≡ o → option_and_then (λ (ps : List (Part Segment)). piece_at ps k) o ≡ Some y → IsSpotOf (λ (a : Part Segment). KeepsMaps maps now a.piece) k y
       by_space q ne k y None e there = absurd (let z : None ≡ Some y = there in cc)
       by_space q ne k y (Some ps) e there = spot-in (λ (a : Part Segment). KeepsMaps maps now a.piece) 1 ps k y (omega arith) (fits.segments.ordered q ps e)
           (all-turn (λ (a : Part Segment). SegmentFits files maps a × KeepsMaps maps now a.piece) (λ (a : Part Segment). KeepsMaps maps now a.piece) ps (λ a both. both.1) (others q ps ne e)) there
 
-  none-here : (k : ℕ) → at parts k ≡ None → at new k ≡ None
+  none-here : (k : ℕ) → piece_at parts k ≡ None → piece_at new k ≡ None
   none-here k none =
       let out : has x k ≡ false = elim (cases_Bool (has x k)) [
         | inl t ↦ absurd (let z : Some (x.piece, k - x.first) ≡ None = sym (at-found 1 parts page k x old-order found t) ∙ none in cc)
@@ -436,7 +436,7 @@ module _ (m : Memory) (p page number : ℕ) (parts : List (Part Segment)) (x : P
         | inl b ↦ absurd (let c = has-within up k b in let from = c.from in let below = c.below in let z : false ≡ true = sym out ∙ has-in x k (omega (arith, from, lt)) (omega (arith, below, high)) in cc)
         | inr f ↦ f
       ] in
-      cut-shows k ∙ ap (λ (b : Bool). cond b (Some (u, k - page)) (cond (has x k) (Some (w, k - x.first)) (at parts k))) no ∙ ap (λ (b : Bool). cond b (Some (w, k - x.first)) (at parts k)) out ∙ none
+      cut-shows k ∙ ap (λ (b : Bool). cond b (Some (u, k - page)) (cond (has x k) (Some (w, k - x.first)) (piece_at parts k))) no ∙ ap (λ (b : Bool). cond b (Some (w, k - x.first)) (piece_at parts k)) out ∙ none
 
   -- each page that has a cell then had one
   spot-was : (q k : ℕ) (v : Spot) → spot_at after q k ≡ Some v → (y : Spot) × (spot_at m.spaces q k ≡ Some y) × (zero_map v.0 ≡ zero_map y.0)
@@ -449,9 +449,9 @@ module _ (m : Memory) (p page number : ℕ) (parts : List (Part Segment)) (x : P
           (y, e, ap (λ (s : Spot). zero_map s.0) (sym same) ∙ t.2.zero)
       by_old None e = absurd (elim (cases_eq q p) [
         | inl same ↦
-            let none : at parts k ≡ None = sym (ap (option_and_then (λ (ps : List (Part Segment)). at ps k)) is) ∙ ap (λ (j : ℕ). spot_at m.spaces j k) (sym same) ∙ e in
-            let z : None ≡ Some v = sym (ap (λ (j : ℕ). spot_at after j k) same ∙ ap (option_and_then (λ (ps : List (Part Segment)). at ps k)) (get-insert_here m.spaces p new) ∙ none-here k none) ∙ there in cc
-        | inr ne ↦ let z : None ≡ Some v = sym (ap (option_and_then (λ (ps : List (Part Segment)). at ps k)) (get-insert_apart m.spaces p new q ne) ∙ e) ∙ there in cc
+            let none : piece_at parts k ≡ None = sym (ap (option_and_then (λ (ps : List (Part Segment)). piece_at ps k)) is) ∙ ap (λ (j : ℕ). spot_at m.spaces j k) (sym same) ∙ e in
+            let z : None ≡ Some v = sym (ap (λ (j : ℕ). spot_at after j k) same ∙ ap (option_and_then (λ (ps : List (Part Segment)). piece_at ps k)) (get-insert_here m.spaces p new) ∙ none-here k none) ∙ there in cc
+        | inr ne ↦ let z : None ≡ Some v = sym (ap (option_and_then (λ (ps : List (Part Segment)). piece_at ps k)) (get-insert_apart m.spaces p new q ne) ∙ e) ∙ there in cc
       ])
 
   within : (z n : ℕ) → IsShown after z n → finite.get zs z ≡ Some n
@@ -495,7 +495,7 @@ module _ (m : Memory) (p page number : ℕ) (parts : List (Part Segment)) (x : P
 
   segments : SegmentsFit files (record m.world.anon { reserved = m.world.anon.reserved }) now after
   segments = segments-change files m.world.anon maps now m.world.anon.reserved m.spaces p parts new zs fits.segments is order
-      (all-cut-rest (SegmentFits files now) 1 page w u parts x old-order found (others-fit (without x.first parts) (keeps p (without x.first parts) (get-insert_here m.spaces p (without x.first parts)))) down-fits up-fits)
+      (all-cut-rest (SegmentFits files now) 1 page w u parts x old-order found (others-fit (without_part x.first parts) (keeps p (without_part x.first parts) (get-insert_here m.spaces p (without_part x.first parts)))) down-fits up-fits)
       (λ q ps ne there. others-fit ps (others q ps ne there))
       (λ n.
       let a = held-holders mid x.piece.shown n there-mid in
@@ -521,7 +521,7 @@ module _ (m : Memory) (p page number : ℕ) (parts : List (Part Segment)) (x : P
       let e = swept-flat m now m.world.anon.reserved p new born notes F.zeros (cells_of F p) segments
       (spaces-change m now m.world.anon.reserved p new (cells_of F p) born notes fits.segments.ordered
       (λ q ps ne there. all-turn (λ (a : Part Segment). SegmentFits files maps a × KeepsMaps maps now a.piece) (λ (a : Part Segment). KeepsMaps maps now a.piece) ps (λ a both. both.1) (others q ps ne there))
-      (λ k. cells page k (at parts k) refl ∙ sym (cell-is m p parts born notes k is)))
+      (λ k. cells page k (piece_at parts k) refl ∙ sym (cell-is m p parts born notes k is)))
       (λ z n there.
       let was = ap (λ (t : finite.FinMap nat_cmp ℕ). finite.get t z) (sym zeros-now) ∙ there in
       zero-pages-of m fits born notes z n was ∙ ap (λ (ps : List Page). Some ps) (sym (zero-pages-same (page_value m.world notes) maps now n (zero-still z n was)))) in
@@ -530,7 +530,7 @@ module _ (m : Memory) (p page number : ℕ) (parts : List (Part Segment)) (x : P
       let same = e ∙ ap without_unnamed back ∙ all in
       (same, subst IsFlat (sym same) whole)
     where
-      cells : (page : PageName → Page) (k : ℕ) (o : Option Spot) → at parts k ≡ o → option_map (cell_of (place_contents page now)) (at new k) ≡ option_map (cell_of (place_contents page maps)) (at parts k)
+      cells : (page : PageName → Page) (k : ℕ) (o : Option Spot) → piece_at parts k ≡ o → option_map (cell_of (place_contents page now)) (piece_at new k) ≡ option_map (cell_of (place_contents page maps)) (piece_at parts k)
       cells page k None e = ap (option_map (cell_of (place_contents page now))) (none-here k e) ∙ ap (option_map (cell_of (place_contents page maps))) (sym e)
       cells page k (Some y) e =
           let v = turn-here k y e in

@@ -13,10 +13,10 @@ use Rattle.vm_types.specs.declared.call.Kind.{Kind}
 use Rattle.vm_types.specs.declared.call.Kind.TheVariants.{Shared, Private}
 use Rattle.vm_types.specs.declared.call.Object.{Object}
 use Rattle.vm_types.specs.declared.call.Object.TheVariants as object
-use Rattle.addr_space.specs.Space.{Part, at, page_total, IsInOrder}
-use Rattle.addr_space.specs.Pages.{pages_of}
-use Rattle.addr_space.proofs.PageLaws.{get-pages_of}
-use Rattle.addr_space.proofs.Totals.{len-pages_of}
+use Rattle.addr_space.specs.Space.{Part, piece_at, page_total, IsInOrder}
+use Rattle.addr_space.specs.Pages.{pages_of_parts}
+use Rattle.addr_space.proofs.PageLaws.{get-pages_of_parts}
+use Rattle.addr_space.proofs.Totals.{len-pages_of_parts}
 use Rattle.anon_map.specs.Maps.{Map, places_of}
 use Rattle.anon_slots.specs.Slots.{Slots}
 use Rattle.flat_model.specs.Words.{Page}
@@ -130,16 +130,16 @@ files-fit files anon maps old new before after fit each =
 
 -- THE CELLS of such parts.
 pub space-files : (held : ℕ → ℕ → Option Page) (parts : List (Part Segment)) → AreFiles parts → IsInOrder 1 parts → space_with held parts ≡ file_space parts
-space-files held parts files order = map_with-same (λ (x : Spot). file_cell x.0 x.1) (cell_of held) (pages_of parts) (λ q x is.
-    let s = spot-in (λ (p : Part Segment). IsFileMapping p.piece) 1 parts q x (omega arith) order files (sym (get-pages_of parts q) ∙ is) in
+space-files held parts files order = map_with-same (λ (x : Spot). file_cell x.0 x.1) (cell_of held) (pages_of_parts parts) (λ q x is.
+    let s = spot-in (λ (p : Part Segment). IsFileMapping p.piece) 1 parts q x (omega arith) order files (sym (get-pages_of_parts parts q) ∙ is) in
     let file : IsFileMapping x.0 = subst IsFileMapping s.piece s.fits in
     same x file)
   where
     same : (x : Spot) → IsFileMapping x.0 → cell_of held x ≡ file_cell x.0 x.1
     same x file = λ i. record { prot = x.0.prot; max = x.0.max; kind = x.0.kind; object = x.0.object; index = x.0.index + x.1; own = option_and_then (λ number. option_or (held number x.1) (own_without_slot x.0.object)) (file.own i) }
 
-pub get-file_space : (parts : List (Part Segment)) (q : ℕ) → finite.get (file_space parts) q ≡ option_map (λ (x : Spot). file_cell x.0 x.1) (at parts q)
-get-file_space parts q = get-map_with (λ (x : Spot). file_cell x.0 x.1) (pages_of parts) q ∙ ap (option_map (λ (x : Spot). file_cell x.0 x.1)) (get-pages_of parts q)
+pub get-file_space : (parts : List (Part Segment)) (q : ℕ) → finite.get (file_space parts) q ≡ option_map (λ (x : Spot). file_cell x.0 x.1) (piece_at parts q)
+get-file_space parts q = get-map_with (λ (x : Spot). file_cell x.0 x.1) (pages_of_parts parts) q ∙ ap (option_map (λ (x : Spot). file_cell x.0 x.1)) (get-pages_of_parts parts q)
 
 -- as many keys as before
 len-above : {X : Type 0} (a : ℕ) (es : List (ℕ × X)) → Above a es → finite.len (finite.from_entries {R = nat_cmp} es) ≡ length es
@@ -160,4 +160,4 @@ len-map_with {X} f m =
     len-above 0 (map (λ (e : ℕ × X). (e.0, f e.1)) (finite.entries m)) (above-changed f 0 (finite.entries m) (Above-entries m)) ∙ length-map (finite.entries m) (λ (e : ℕ × X). (e.0, f e.1)) ∙ sym (finite.len-entries m)
 
 pub len-file_space : (parts : List (Part Segment)) → IsInOrder 1 parts → finite.len (file_space parts) ≡ page_total parts
-len-file_space parts order = len-map_with (λ (x : Spot). file_cell x.0 x.1) (pages_of parts) ∙ len-pages_of 1 parts order
+len-file_space parts order = len-map_with (λ (x : Spot). file_cell x.0 x.1) (pages_of_parts parts) ∙ len-pages_of_parts 1 parts order

@@ -10,9 +10,9 @@ use Rattle.vm_types.specs.declared.call.Kind.{Kind}
 use Rattle.vm_types.specs.declared.call.Kind.TheVariants.{Shared, Private}
 use Rattle.vm_types.specs.declared.call.Object.{Object}
 use Rattle.vm_types.specs.declared.call.Object.TheVariants as object
-use Rattle.addr_space.specs.Space.{Part, IsInOrder, at, has, begins, without}
-use Rattle.addr_space.proofs.PartLemmas.{has-within, at-without, ordered-without}
-use Rattle.addr_space.proofs.PartLists.{all-without, all-begins, begins-found, at-found}
+use Rattle.addr_space.specs.Space.{Part, IsInOrder, piece_at, has, begins, without_part}
+use Rattle.addr_space.proofs.PartLemmas.{has-within, at-without_part, ordered-without_part}
+use Rattle.addr_space.proofs.PartLists.{all-without_part, all-begins, begins-found, at-found}
 use Rattle.anon_map.specs.Maps.{Map, anon_map_at, IsMapThere, AreEmpty, places_of, holders_of}
 use Rattle.hat_layer.specs.Pool as pool
 use Rattle.page_hash.specs.declared.PageName.{PageName}
@@ -37,7 +37,7 @@ use Rattle.vm_world.proofs.FlatSpaces.{Standing, flat-with_space}
 use Rattle.vm_world.proofs.KeptMaps.{KeepsMaps, Touches, same-places, same-holders, same-there, kept-fits, kept-cell, others-keep, own-there, shown-there, shown-counts, number-is, is-the-number, all-both, all-every, slot-in-same}
 use Rattle.vm_world.proofs.MapChanges.{released-else, released-held, released-sum, freed-none, freed-length, released-holders, count-empty}
 use Rattle.vm_world.proofs.Maps.{get-map_with}
-use Rattle.vm_world.proofs.PartSums.{all_parts, sum-without, sum-insert, sum-segments, part-le, segments-all}
+use Rattle.vm_world.proofs.PartSums.{all_parts, sum-without_part, sum-insert, sum-segments, part-le, segments-all}
 use Rattle.vm_world.proofs.Reserves.{total-same}
 use Rattle.vm_world.proofs.SegmentChange.{counts-change, change-memory, segments-change, spaces-change, shows-kept}
 use Rattle.vm_world.proofs.ShownZeros.{IsShown, shown-by, shown-some, fits-shown, all-spots, zero_map-of}
@@ -72,7 +72,7 @@ module _ (m : Memory) (p : ℕ) (parts : List (Part Segment)) (x : Part Segment)
   put = maps_released mid x.piece.shown
 
   abbrev new : List (Part Segment)
-  new = without x.first parts
+  new = without_part x.first parts
 
   abbrev after : Spaces
   after = finite.insert m.spaces p new
@@ -90,7 +90,7 @@ module _ (m : Memory) (p : ℕ) (parts : List (Part Segment)) (x : Part Segment)
   beside : (n : ℕ) → all_parts (had n) after + times_had n x.piece ≡ holders_of maps n
   beside n =
       let a = sum-insert (had n) m.spaces p parts new is in
-      let b = sum-without (had n) parts x.first x found in
+      let b = sum-without_part (had n) parts x.first x found in
       let c = has-all n in
       omega (arith, a, b, c)
 
@@ -128,13 +128,13 @@ module _ (m : Memory) (p : ℕ) (parts : List (Part Segment)) (x : Part Segment)
 
   ordered-after : (q : ℕ) (ps : List (Part Segment)) → finite.get after q ≡ Some ps → IsInOrder 1 ps
   ordered-after q ps there = elim (cases_eq q p) [
-    | inl same ↦ subst (IsInOrder 1) (let z : Some new ≡ Some ps = sym (get-insert_here m.spaces p new) ∙ ap (finite.get after) (sym same) ∙ there in let e : new ≡ ps = cc in e) (ordered-without 1 x.first parts (fits.segments.ordered p parts is))
+    | inl same ↦ subst (IsInOrder 1) (let z : Some new ≡ Some ps = sym (get-insert_here m.spaces p new) ∙ ap (finite.get after) (sym same) ∙ there in let e : new ≡ ps = cc in e) (ordered-without_part 1 x.first parts (fits.segments.ordered p parts is))
     | inr ne ↦ fits.segments.ordered q ps (sym (get-insert_apart m.spaces p new q ne) ∙ there)
   ]
 
   fit-after : (q : ℕ) (ps : List (Part Segment)) → finite.get after q ≡ Some ps → All (SegmentFits files maps) ps
   fit-after q ps there = elim (cases_eq q p) [
-    | inl same ↦ subst (All (SegmentFits files maps)) (let z : Some new ≡ Some ps = sym (get-insert_here m.spaces p new) ∙ ap (finite.get after) (sym same) ∙ there in let e : new ≡ ps = cc in e) (all-without (SegmentFits files maps) x.first parts (fits.segments.each p parts is))
+    | inl same ↦ subst (All (SegmentFits files maps)) (let z : Some new ≡ Some ps = sym (get-insert_here m.spaces p new) ∙ ap (finite.get after) (sym same) ∙ there in let e : new ≡ ps = cc in e) (all-without_part (SegmentFits files maps) x.first parts (fits.segments.each p parts is))
     | inr ne ↦ fits.segments.each q ps (sym (get-insert_apart m.spaces p new q ne) ∙ there)
   ]
 
@@ -154,15 +154,15 @@ module _ (m : Memory) (p : ℕ) (parts : List (Part Segment)) (x : Part Segment)
   apart q ps ne there = get-insert_apart m.spaces p new q ne ∙ there
 
   -- WHAT EACH PAGE shows
-  gone : (k : ℕ) → at new k ≡ cond (has x k) None (at parts k)
-  gone k = at-without 1 x.first parts x (fits.segments.ordered p parts is) found k
+  gone : (k : ℕ) → piece_at new k ≡ cond (has x k) None (piece_at parts k)
+  gone k = at-without_part 1 x.first parts x (fits.segments.ordered p parts is) found k
 
   spot-before : (q k : ℕ) (y : Spot) → spot_at after q k ≡ Some y → spot_at m.spaces q k ≡ Some y
   spot-before q k y there = elim (cases_eq q p) [
     | inl same ↦
-        let a : at new k ≡ Some y = sym (ap (option_and_then (λ (ps : List (Part Segment)). at ps k)) here) ∙ ap (λ (j : ℕ). spot_at after j k) (sym same) ∙ there in
-        ap (λ (j : ℕ). spot_at m.spaces j k) same ∙ ap (option_and_then (λ (ps : List (Part Segment)). at ps k)) is ∙ out (has x k) (at parts k) (sym (gone k) ∙ a)
-    | inr ne ↦ sym (ap (option_and_then (λ (ps : List (Part Segment)). at ps k)) (get-insert_apart m.spaces p new q ne)) ∙ there
+        let a : piece_at new k ≡ Some y = sym (ap (option_and_then (λ (ps : List (Part Segment)). piece_at ps k)) here) ∙ ap (λ (j : ℕ). spot_at after j k) (sym same) ∙ there in
+        ap (λ (j : ℕ). spot_at m.spaces j k) same ∙ ap (option_and_then (λ (ps : List (Part Segment)). piece_at ps k)) is ∙ out (has x k) (piece_at parts k) (sym (gone k) ∙ a)
+    | inr ne ↦ sym (ap (option_and_then (λ (ps : List (Part Segment)). piece_at ps k)) (get-insert_apart m.spaces p new q ne)) ∙ there
   ]
     where
       out : (b : Bool) (o : Option Spot) → cond b None o ≡ Some y → o ≡ Some y
@@ -173,9 +173,9 @@ module _ (m : Memory) (p : ℕ) (parts : List (Part Segment)) (x : Part Segment)
   spot-after : (q k : ℕ) (y : Spot) → spot_at m.spaces q k ≡ Some y → (q ≡ p → has x k ≡ false) → spot_at after q k ≡ Some y
   spot-after q k y there not = elim (cases_eq q p) [
     | inl same ↦
-        let a : at parts k ≡ Some y = sym (ap (option_and_then (λ (ps : List (Part Segment)). at ps k)) is) ∙ ap (λ (j : ℕ). spot_at m.spaces j k) (sym same) ∙ there in
-        ap (λ (j : ℕ). spot_at after j k) same ∙ ap (option_and_then (λ (ps : List (Part Segment)). at ps k)) here ∙ gone k ∙ ap (λ (b : Bool). cond b None (at parts k)) (not same) ∙ a
-    | inr ne ↦ ap (option_and_then (λ (ps : List (Part Segment)). at ps k)) (get-insert_apart m.spaces p new q ne) ∙ there
+        let a : piece_at parts k ≡ Some y = sym (ap (option_and_then (λ (ps : List (Part Segment)). piece_at ps k)) is) ∙ ap (λ (j : ℕ). spot_at m.spaces j k) (sym same) ∙ there in
+        ap (λ (j : ℕ). spot_at after j k) same ∙ ap (option_and_then (λ (ps : List (Part Segment)). piece_at ps k)) here ∙ gone k ∙ ap (λ (b : Bool). cond b None (piece_at parts k)) (not same) ∙ a
+    | inr ne ↦ ap (option_and_then (λ (ps : List (Part Segment)). piece_at ps k)) (get-insert_apart m.spaces p new q ne) ∙ there
   ]
 
   spot-keeps : (q k : ℕ) (y : Spot) → spot_at after q k ≡ Some y → KeepsMaps maps put y.0
@@ -209,7 +209,7 @@ module _ (m : Memory) (p : ℕ) (parts : List (Part Segment)) (x : Part Segment)
   held-on z n was its more none =
       let P = λ (s : Segment). times_had n s ≡ 0 in
       let each : (q : ℕ) (ps : List (Part Segment)) → finite.get after q ≡ Some ps → All (λ (a : Part Segment). P a.piece) ps =
-      λ q ps there. all-spots P 1 ps (ordered-after q ps there) (λ k y at_k. none-has q k y (ap (option_and_then (λ (ps : List (Part Segment)). at ps k)) there ∙ at_k)) in
+      λ q ps there. all-spots P 1 ps (ordered-after q ps there) (λ k y at_k. none-has q k y (ap (option_and_then (λ (ps : List (Part Segment)). piece_at ps k)) there ∙ at_k)) in
       let zero : all_parts (had n) after ≡ 0 = sum-zero (λ (ps : List (Part Segment)). sum_by (had n) ps) (finite.values after)
       (all-values (λ (ps : List (Part Segment)). sum_by (had n) ps ≡ 0) after (λ q ps there. sum-zero (had n) ps (each q ps there))) in
       let all = beside n in
@@ -246,7 +246,7 @@ module _ (m : Memory) (p : ℕ) (parts : List (Part Segment)) (x : Part Segment)
           omega (arith, a, b)
 
   -- the part that a page of it is in
-  the-part : (k : ℕ) → has x k ≡ true → (y : Spot) → at parts k ≡ Some y → x.piece ≡ y.0
+  the-part : (k : ℕ) → has x k ≡ true → (y : Spot) → piece_at parts k ≡ Some y → x.piece ≡ y.0
   the-part k t y at_k =
       let order = fits.segments.ordered p parts is in
       let same : (x.piece, k - x.first) ≡ y = let z : Some (x.piece, k - x.first) ≡ Some y = sym (at-found 1 parts x.first k x order (begins-found 1 parts x.first x order found) t) ∙ at_k in cc in
@@ -265,7 +265,7 @@ module _ (m : Memory) (p : ℕ) (parts : List (Part Segment)) (x : Part Segment)
             | inl t ↦ elim (cases_eq s.process p) [
               | inr ne ↦ out (λ e. absurd (ne e))
               | inl same ↦
-                  let at_k : at parts s.page ≡ Some s.spot = sym (ap (option_and_then (λ (ps : List (Part Segment)). at ps s.page)) is) ∙ ap (λ (j : ℕ). spot_at m.spaces j s.page) (sym same) ∙ s.here in
+                  let at_k : piece_at parts s.page ≡ Some s.spot = sym (ap (option_and_then (λ (ps : List (Part Segment)). piece_at ps s.page)) is) ∙ ap (λ (j : ℕ). spot_at m.spaces j s.page) (sym same) ∙ s.here in
                   let piece : x.piece ≡ s.spot.0 = the-part s.page t s.spot at_k in
                   let its : x.piece.shown ≡ Some n = shown-of-zero x.piece z n (ap zero_map piece ∙ s.shows) in
                   held-on z n was its (more its) none
@@ -420,10 +420,10 @@ module _ (m : Memory) (p : ℕ) (parts : List (Part Segment)) (x : Part Segment)
   segments : SegmentsFit files (record m.world.anon { reserved = left }) put after
   segments = segments-change files m.world.anon maps put left m.spaces p parts new old_zeros fits.segments is (ordered-after p new here)
       (fits-put p new here) (λ q ps ne there. fits-put q ps (apart q ps ne there))
-      (λ n. let a = holders-now n in let b = sum-without (had n) parts x.first x found in omega (arith, a, b))
+      (λ n. let a = holders-now n in let b = sum-without_part (had n) parts x.first x found in omega (arith, a, b))
       within fits.segments.apart
       (λ z n place slot there held. fits.segments.once z n place slot (within z n (shown-by after z n ordered-after there)) (sym (slot-in-same maps put n place (kept-length z n there)) ∙ held))
-      (let a = zero-places in let b = own-places in let c = sum-without slots_for_part parts x.first x found in let d = places-now in let e = fits.counts.places in omega (arith, a, b, c, d, e))
+      (let a = zero-places in let b = own-places in let c = sum-without_part slots_for_part parts x.first x found in let d = places-now in let e = fits.counts.places in omega (arith, a, b, c, d, e))
     where
       fits-put : (q : ℕ) (ps : List (Part Segment)) → finite.get after q ≡ Some ps → All (SegmentFits files put) ps
       fits-put q ps there = all-turn (λ (a : Part Segment). KeepsMaps maps put a.piece × SegmentFits files maps a) (SegmentFits files put) ps (λ a both. kept-fits files maps put a both.0 both.1)
@@ -435,8 +435,8 @@ module _ (m : Memory) (p : ℕ) (parts : List (Part Segment)) (x : Part Segment)
       let F : Flat = flat_memory m born notes in
       let page = page_value m.world notes in
       let S : Space = without_range (cells_of F p) x.first x.pages in
-      let cells : (q : ℕ) → option_map (cell_of (place_contents page put)) (at new q) ≡ finite.get S q = λ q.
-      kept-cells page q (at new q) refl ∙ ap (option_map (cell_of (place_contents page maps))) (gone q) ∙ turn (cell_of (place_contents page maps)) (has x q) (at parts q)
+      let cells : (q : ℕ) → option_map (cell_of (place_contents page put)) (piece_at new q) ≡ finite.get S q = λ q.
+      kept-cells page q (piece_at new q) refl ∙ ap (option_map (cell_of (place_contents page maps))) (gone q) ∙ turn (cell_of (place_contents page maps)) (has x q) (piece_at parts q)
       ∙ ap (λ (o : Option Cell). cond (has x q) None o) (sym (cell-is m p parts born notes q is)) ∙ sym (get-without_range (cells_of F p) x.first x.pages q) in
       let e = swept-flat m put left p new born notes F.zeros S segments
       (spaces-change m put left p new S born notes fits.segments.ordered (λ q ps ne there. keeps q ps (apart q ps ne there)) cells)
@@ -451,15 +451,15 @@ module _ (m : Memory) (p : ℕ) (parts : List (Part Segment)) (x : Part Segment)
       turn f true o = refl
       turn f false o = refl
 
-      kept-cells : (page : PageName → Page) (q : ℕ) (o : Option Spot) → at new q ≡ o → option_map (cell_of (place_contents page put)) o ≡ option_map (cell_of (place_contents page maps)) o
+      kept-cells : (page : PageName → Page) (q : ℕ) (o : Option Spot) → piece_at new q ≡ o → option_map (cell_of (place_contents page put)) o ≡ option_map (cell_of (place_contents page maps)) o
       kept-cells page q None e = refl
-      kept-cells page q (Some y) e = ap (λ (c : Cell). Some c) (kept-cell page maps put y (spot-keeps p q y (ap (option_and_then (λ (ps : List (Part Segment)). at ps q)) here ∙ e)))
+      kept-cells page q (Some y) e = ap (λ (c : Cell). Some c) (kept-cell page maps put y (spot-keeps p q y (ap (option_and_then (λ (ps : List (Part Segment)). piece_at ps q)) here ∙ e)))
 
   pub part-gone : ChangesSegments p m (with_part_gone m p parts x) (λ F. without_pages F p x.first x.pages)
   part-gone = change-memory m put left after p (λ F. without_pages F p x.first x.pages) fits (λ q ne. get-insert_apart m.spaces p new q ne) counts segments
       (λ place t there l.
       let not : t.space ≡ p → has x t.page ≡ false = λ own. elim (cases_Bool (has x t.page)) [
-        | inl in_it ↦ absurd (let w = has-within x t.page in_it in loaded-at m.world.hat.places place t there (ap (λ (j : ℕ). pool.at m.world.hat.places j t.page) own ∙ may.unloaded t.page w.from w.below))
+        | inl in_it ↦ absurd (let w = has-within x t.page in_it in loaded-at m.world.hat.places place t there (ap (λ (j : ℕ). pool.translation_at m.world.hat.places j t.page) own ∙ may.unloaded t.page w.from w.below))
         | inr out ↦ out
       ] in
       let y = spot-after t.space t.page l.spot l.here not in

@@ -5,7 +5,7 @@ use Rattle.std.specs.Ordering.{nat_cmp}
 use Rattle.std.specs.FinMap as finite
 use Rattle.std.specs.FinSet as set
 use Rattle.std.proofs.lemmas.Bool.{cases_eq}
-use Rattle.addr_space.specs.Space.{Part, at, IsInOrder}
+use Rattle.addr_space.specs.Space.{Part, piece_at, IsInOrder}
 use Rattle.anon_map.specs.Maps.{places_of}
 use Rattle.page_store.specs.Notes.{Notes}
 use Rattle.flat_model.specs.Flat.{Space, Flat, IsFlat, is_named_in}
@@ -32,10 +32,10 @@ module _ (m : Memory) (p : ℕ) (fits : MemoryFits m) (is : finite.get m.spaces 
 
   -- it has no page
   not-here : (q k : ℕ) (y : Spot) → spot_at m.spaces q k ≡ Some y → q ≢ p
-  not-here q k y there e = let z : None ≡ Some y = sym (ap (λ (j : ℕ). spot_at m.spaces j k) e ∙ ap (option_and_then (λ (ps : List (Part Segment)). at ps k)) is) ∙ there in cc
+  not-here q k y there e = let z : None ≡ Some y = sym (ap (λ (j : ℕ). spot_at m.spaces j k) e ∙ ap (option_and_then (λ (ps : List (Part Segment)). piece_at ps k)) is) ∙ there in cc
 
   spot-after : (q k : ℕ) (y : Spot) → spot_at m.spaces q k ≡ Some y → spot_at after q k ≡ Some y
-  spot-after q k y there = ap (option_and_then (λ (ps : List (Part Segment)). at ps k)) (get-remove_apart m.spaces p q (not-here q k y there)) ∙ there
+  spot-after q k y there = ap (option_and_then (λ (ps : List (Part Segment)). piece_at ps k)) (get-remove_apart m.spaces p q (not-here q k y there)) ∙ there
 
   old-get : (q : ℕ) (ps : List (Part Segment)) → finite.get after q ≡ Some ps → finite.get m.spaces q ≡ Some ps
   old-get q ps there = elim (cases_eq q p) [
@@ -45,8 +45,8 @@ module _ (m : Memory) (p : ℕ) (fits : MemoryFits m) (is : finite.get m.spaces 
 
   spot-before : (q k : ℕ) (y : Spot) → spot_at after q k ≡ Some y → spot_at m.spaces q k ≡ Some y
   spot-before q k y there = elim (cases_eq q p) [
-    | inl e ↦ absurd (let z : None ≡ Some y = sym (ap (λ (j : ℕ). spot_at after j k) e ∙ ap (option_and_then (λ (ps : List (Part Segment)). at ps k)) (get-remove_here m.spaces p)) ∙ there in cc)
-    | inr ne ↦ sym (ap (option_and_then (λ (ps : List (Part Segment)). at ps k)) (get-remove_apart m.spaces p q ne)) ∙ there
+    | inl e ↦ absurd (let z : None ≡ Some y = sym (ap (λ (j : ℕ). spot_at after j k) e ∙ ap (option_and_then (λ (ps : List (Part Segment)). piece_at ps k)) (get-remove_here m.spaces p)) ∙ there in cc)
+    | inr ne ↦ sym (ap (option_and_then (λ (ps : List (Part Segment)). piece_at ps k)) (get-remove_apart m.spaces p q ne)) ∙ there
   ]
 
   within : (z n : ℕ) → IsShown after z n → finite.get (zero_maps m.spaces) z ≡ Some n

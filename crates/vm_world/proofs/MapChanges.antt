@@ -4,7 +4,7 @@ use Rattle.std.specs.Prelude.{◌==◌, count_by, sum_by, IsSome, is_some, nat_l
 use Rattle.std.proofs.lemmas.Bool.{cases_Bool, cases_eq, eq-eqb, eqb-true, ltb-true, lt-ltb}
 use Rattle.std.proofs.lemmas.List.{get_or-set_other, get_or-append_right}
 use Rattle.std.proofs.lemmas.List.Sums.{sum_by-cons, sum_by-append, sum_by-set}
-use Rattle.anon_map.specs.Maps.{Map, anon_map_at, the_map, places_of, holders_of, IsMapThere, IsUnused, AreEmpty, held_once, with_map, with_holders}
+use Rattle.anon_map.specs.Maps.{Map, anon_map_at, the_map, places_of, holders_of, IsMapThere, IsUnused, AreEmpty, fresh_map, with_map, with_holders}
 use Rattle.vm_world.specs.CountsFit.{places_in, is_number}
 use Rattle.vm_world.specs.MapSteps.{maps_cut, maps_made, maps_held, maps_released, places_released}
 use Rattle.vm_world.proofs.Counting.{places-are}
@@ -166,7 +166,7 @@ made f (Some n) pages = f (replicate pages None)
 
 pub made-else : (maps : List (Option Map)) (o : Option ℕ) (pages n : ℕ) → ((k : ℕ) → o ≡ Some k → IsUnused maps k) → IsMapThere maps n → anon_map_at (maps_made maps o pages) n ≡ anon_map_at maps n
 made-else maps None pages n unused there = refl
-made-else maps (Some k) pages n unused there = with-else maps k (held_once (replicate pages None)) (unused k refl) n (λ e. absurd (
+made-else maps (Some k) pages n unused there = with-else maps k (fresh_map (replicate pages None)) (unused k refl) n (λ e. absurd (
     let gone = (unused k refl).absent in
     let t : IsSome (anon_map_at maps k) = subst (λ (j : ℕ). IsMapThere maps j) e there in
     let z : false ≡ true = sym (ap is_some gone) ∙ t in cc))
@@ -174,18 +174,18 @@ made-else maps (Some k) pages n unused there = with-else maps k (held_once (repl
 pub made-sum : (f : List (Option ℕ) → ℕ) (maps : List (Option Map)) (o : Option ℕ) (pages : ℕ) → f [] ≡ 0 → ((k : ℕ) → o ≡ Some k → IsUnused maps k)
     → sum_by (λ (m : Option Map). f (places_in m)) (maps_made maps o pages) ≡ sum_by (λ (m : Option Map). f (places_in m)) maps + made f o pages
 made-sum f maps None pages none unused = omega arith
-made-sum f maps (Some k) pages none unused = with-sum maps k (held_once (replicate pages None)) (unused k refl) f none
+made-sum f maps (Some k) pages none unused = with-sum maps k (fresh_map (replicate pages None)) (unused k refl) f none
 
 pub made-holders : (maps : List (Option Map)) (o : Option ℕ) (pages n : ℕ) → ((k : ℕ) → o ≡ Some k → IsUnused maps k) → holders_of (maps_made maps o pages) n ≡ holders_of maps n + cond (is_number n o) 1 0
 made-holders maps None pages n unused = omega arith
 made-holders maps (Some k) pages n unused = elim (cases_eq n k) [
   | inr ne ↦
-      let same = same-holders maps (maps_made maps (Some k) pages) n (with-else maps k (held_once (replicate pages None)) (unused k refl) n ne) in
+      let same = same-holders maps (maps_made maps (Some k) pages) n (with-else maps k (fresh_map (replicate pages None)) (unused k refl) n ne) in
       let not : cond {A = ℕ} (is_number n (Some k)) 1 0 ≡ 0 = elim (cases_Bool (k == n)) [ inl y ↦ absurd (ne (sym (eqb-true k n y))) | inr f ↦ ap (λ (b : Bool). cond {A = ℕ} b 1 0) f ] in
       omega (arith, same, not)
   | inl e ↦
       let is : cond {A = ℕ} (is_number n (Some k)) 1 0 ≡ 1 = ap (λ (b : Bool). cond {A = ℕ} b 1 0) (eq-eqb k n (sym e)) in
-      let here : holders_of (maps_made maps (Some k) pages) n ≡ 1 = ap (λ (j : ℕ). holders_of (maps_made maps (Some k) pages) j) e ∙ ap (λ (o : Option Map). (unwrap_or o (record { places = []; holders = 0 })).holders) (with-here maps k (held_once (replicate pages None)) (unused k refl)) in
+      let here : holders_of (maps_made maps (Some k) pages) n ≡ 1 = ap (λ (j : ℕ). holders_of (maps_made maps (Some k) pages) j) e ∙ ap (λ (o : Option Map). (unwrap_or o (record { places = []; holders = 0 })).holders) (with-here maps k (fresh_map (replicate pages None)) (unused k refl)) in
       let was : holders_of maps n ≡ 0 = ap (λ (j : ℕ). holders_of maps j) e ∙ ap (λ (o : Option Map). (unwrap_or o (record { places = []; holders = 0 })).holders) (unused k refl).absent in
       omega (arith, is, here, was)
 ]
@@ -235,7 +235,7 @@ slot-replicate (suc n) (suc i) = slot-replicate n i
 -- A MAP THAT IS CUT IN TWO
 module _ (maps : List (Option Map)) (k number at : ℕ) (there : IsMapThere maps k) (unused : IsUnused maps number) where
   abbrev upper_map : Map
-  upper_map = held_once (drop at (places_of maps k))
+  upper_map = fresh_map (drop at (places_of maps k))
 
   abbrev with_upper : List (Option Map)
   with_upper = with_map maps number upper_map

@@ -5,9 +5,9 @@ use Rattle.std.specs.Ordering.{nat_cmp, is_eq}
 use Rattle.std.specs.Cmp.{nat_cmp_total}
 use Rattle.std.proofs.lemmas.Bool.{cases_eq}
 use Rattle.std.specs.FinMap as finite
-use Rattle.addr_space.specs.Space.{Part, at}
-use Rattle.addr_space.specs.Pages.{pages_of}
-use Rattle.addr_space.proofs.PageLaws.{get-pages_of}
+use Rattle.addr_space.specs.Space.{Part, piece_at}
+use Rattle.addr_space.specs.Pages.{pages_of_parts}
+use Rattle.addr_space.proofs.PageLaws.{get-pages_of_parts}
 use Rattle.flat_model.specs.Flat.{Space, cell_in}
 use Rattle.flat_model.proofs.Ranges.{get-insert_here, get-insert_apart}
 use Rattle.flat_model.specs.Words.{Page}
@@ -42,13 +42,13 @@ map_with-but_one f g m k x is same = finite.same_map nat_cmp_total finite.nat_cm
 ])
 
 -- the cell at a page of a space
-pub get-space_with : (held : ℕ → ℕ → Option Page) (parts : List (Part Segment)) (q : ℕ) → finite.get (space_with held parts) q ≡ option_map (cell_of held) (at parts q)
-get-space_with held parts q = get-map_with (cell_of held) (pages_of parts) q ∙ ap (option_map (cell_of held)) (get-pages_of parts q)
+pub get-space_with : (held : ℕ → ℕ → Option Page) (parts : List (Part Segment)) (q : ℕ) → finite.get (space_with held parts) q ≡ option_map (cell_of held) (piece_at parts q)
+get-space_with held parts q = get-map_with (cell_of held) (pages_of_parts parts) q ∙ ap (option_map (cell_of held)) (get-pages_of_parts parts q)
 
 -- the cell at a page of a process
 pub cell-at : (held : ℕ → ℕ → Option Page) (spaces : Spaces) (p q : ℕ) → cell_in (map_with (space_with held) spaces) p q ≡ option_map (cell_of held) (spot_at spaces p q)
 cell-at held spaces p q = ap (option_and_then (λ (space : Space). finite.get space q)) (get-map_with (space_with held) spaces p) ∙ by_space (finite.get spaces p)
   where
-    by_space : (o : Option (List (Part Segment))) → option_and_then (λ (space : Space). finite.get space q) (option_map (space_with held) o) ≡ option_map (cell_of held) (option_and_then (λ parts. at parts q) o)
+    by_space : (o : Option (List (Part Segment))) → option_and_then (λ (space : Space). finite.get space q) (option_map (space_with held) o) ≡ option_map (cell_of held) (option_and_then (λ parts. piece_at parts q) o)
     by_space None = refl
     by_space (Some parts) = get-space_with held parts q

@@ -13,7 +13,7 @@ use Rattle.vm_types.specs.declared.call.Signal.TheVariants as signal
 use Rattle.vm_types.specs.declared.call.Errno.{Errno}
 use Rattle.vm_types.specs.declared.call.Errno.TheVariants as errno
 use Rattle.vnode_files.specs.declared.vnode.FileInfo.{FileInfo}
-use Rattle.addr_space.specs.Space.{Part, at}
+use Rattle.addr_space.specs.Space.{Part, piece_at}
 use Rattle.flat_model.specs.Words.{Page, page, pages_in}
 use Rattle.flat_model.specs.Flat.{Cell, File, Flat, Space, space_of, cell_at, shown}
 use Rattle.flat_model.specs.Refusals.{◌>>=◌, ◌>>◌, check}
@@ -86,7 +86,7 @@ module _ (s s' : Shape) (born born' : set.FinSet nat_cmp) (c c' : Contents) (p :
   access-fails a n may is =
       let F : Flat = flat_shaped s born c in
       let G : Flat = flat_shaped s' born' c' in
-      let spot : spot_at s'.spaces p (page a) ≡ spot_at s.spaces p (page a) = ap (option_and_then (λ (parts : List (Part Segment)). at parts (page a))) space in
+      let spot : spot_at s'.spaces p (page a) ≡ spot_at s.spaces p (page a) = ap (option_and_then (λ (parts : List (Part Segment)). piece_at parts (page a))) space in
       let old = met-of F p may a n ∙ ap (λ (o : Option Cell). met_of (a % n == 0) o may (shown F)) (cell-at c.place s.spaces p (page a)) in
       let new = met-of G p may a n ∙ ap (λ (o : Option Cell). met_of (a % n == 0) o may (shown G)) (cell-at c'.place s'.spaces p (page a) ∙ ap (option_map (cell_of c'.place)) spot) in
       subst IsPastAtMost (sym new) (past-spot (a % n == 0) (spot_at s.spaces p (page a)) may c.place c'.place (shown F) (shown G) (subst IsPastAtMost old is))
@@ -103,7 +103,7 @@ module _ (s s' : Shape) (born born' : set.FinSet nat_cmp) (c c' : Contents) (p :
 
       by_space : (o : Option (List (Part Segment))) → is_some (finite.get (unwrap_or (option_map (space_with c.place) o) finite.empty) q) ≡ is_some (finite.get (unwrap_or (option_map (space_with c'.place) o) finite.empty) q)
       by_space None = refl
-      by_space (Some parts) = ap (λ (o : Option Cell). is_some o) (get-space_with c.place parts q) ∙ some-map (cell_of c.place) (cell_of c'.place) (at parts q) ∙ sym (ap (λ (o : Option Cell). is_some o) (get-space_with c'.place parts q))
+      by_space (Some parts) = ap (λ (o : Option Cell). is_some o) (get-space_with c.place parts q) ∙ some-map (cell_of c.place) (cell_of c'.place) (piece_at parts q) ∙ sym (ap (λ (o : Option Cell). is_some o) (get-space_with c'.place parts q))
 
   sync-fails : (a len : ℕ) → IsOk (valid_range (flat_shaped s born c) p a len) → IsOk (valid_range (flat_shaped s' born' c') p a len)
   unfolding valid_range

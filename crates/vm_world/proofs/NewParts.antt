@@ -6,7 +6,7 @@ use Rattle.std.specs.FinMap as finite
 use Rattle.std.specs.FinSet as set
 use Rattle.std.proofs.lemmas.Bool.{cases_Bool, cases_eq}
 use Rattle.vm_types.specs.Pages.{IsUserPage}
-use Rattle.addr_space.specs.Space.{Part, IsInOrder, at, has, put}
+use Rattle.addr_space.specs.Space.{Part, IsInOrder, piece_at, has, put}
 use Rattle.addr_space.proofs.PartLemmas.{has-in, has-within, at-put, ordered-put}
 use Rattle.addr_space.proofs.PartLists.{all-put}
 use Rattle.anon_map.specs.Maps.{Map, places_of, holders_of}
@@ -69,7 +69,7 @@ module _ (m : Memory) (p : ℕ) (parts : List (Part Segment)) (x : Part Segment)
   abbrev files : ℕ
   files = length m.world.files.files
 
-  come : (k : ℕ) → at new k ≡ cond (has x k) (Some (x.piece, k - x.first)) (at parts k)
+  come : (k : ℕ) → piece_at new k ≡ cond (has x k) (Some (x.piece, k - x.first)) (piece_at parts k)
   come k = at-put x parts c.place.free k
 
   order : IsInOrder 1 new
@@ -82,7 +82,7 @@ module _ (m : Memory) (p : ℕ) (parts : List (Part Segment)) (x : Part Segment)
   ]
 
   -- the pages before show what they showed
-  no-cell : (k : ℕ) (y : Spot) → at parts k ≡ Some y → has x k ≡ false
+  no-cell : (k : ℕ) (y : Spot) → piece_at parts k ≡ Some y → has x k ≡ false
   no-cell k y there = elim (cases_Bool (has x k)) [
     | inl t ↦ absurd (let w = has-within x k t in let z : None ≡ Some y = sym (ap (option_map (λ (a : Part Segment). (a.piece, k - a.first))) (c.place.free k w.from w.below)) ∙ there in cc)
     | inr f ↦ f
@@ -91,18 +91,18 @@ module _ (m : Memory) (p : ℕ) (parts : List (Part Segment)) (x : Part Segment)
   spot-after : (q k : ℕ) (y : Spot) → spot_at m.spaces q k ≡ Some y → spot_at after q k ≡ Some y
   spot-after q k y there = elim (cases_eq q p) [
     | inl same ↦
-        let a : at parts k ≡ Some y = sym (ap (option_and_then (λ (ps : List (Part Segment)). at ps k)) is) ∙ ap (λ (j : ℕ). spot_at m.spaces j k) (sym same) ∙ there in
-        ap (λ (j : ℕ). spot_at after j k) same ∙ ap (option_and_then (λ (ps : List (Part Segment)). at ps k)) (get-insert_here m.spaces p new) ∙ come k ∙ ap (λ (b : Bool). cond b (Some (x.piece, k - x.first)) (at parts k)) (no-cell k y a) ∙ a
-    | inr ne ↦ ap (option_and_then (λ (ps : List (Part Segment)). at ps k)) (get-insert_apart m.spaces p new q ne) ∙ there
+        let a : piece_at parts k ≡ Some y = sym (ap (option_and_then (λ (ps : List (Part Segment)). piece_at ps k)) is) ∙ ap (λ (j : ℕ). spot_at m.spaces j k) (sym same) ∙ there in
+        ap (λ (j : ℕ). spot_at after j k) same ∙ ap (option_and_then (λ (ps : List (Part Segment)). piece_at ps k)) (get-insert_here m.spaces p new) ∙ come k ∙ ap (λ (b : Bool). cond b (Some (x.piece, k - x.first)) (piece_at parts k)) (no-cell k y a) ∙ a
+    | inr ne ↦ ap (option_and_then (λ (ps : List (Part Segment)). piece_at ps k)) (get-insert_apart m.spaces p new q ne) ∙ there
   ]
 
   -- and each page shows what it showed, or the part that comes
   spot-before : (q k : ℕ) (y : Spot) → spot_at after q k ≡ Some y → (spot_at m.spaces q k ≡ Some y) ⊎ (x.piece ≡ y.0)
   spot-before q k y there = elim (cases_eq q p) [
     | inl same ↦
-        let a : at new k ≡ Some y = sym (ap (option_and_then (λ (ps : List (Part Segment)). at ps k)) (get-insert_here m.spaces p new)) ∙ ap (λ (j : ℕ). spot_at after j k) (sym same) ∙ there in
-        out (has x k) (at parts k) (sym (come k) ∙ a) (λ was. ap (λ (j : ℕ). spot_at m.spaces j k) same ∙ ap (option_and_then (λ (ps : List (Part Segment)). at ps k)) is ∙ was)
-    | inr ne ↦ inl (sym (ap (option_and_then (λ (ps : List (Part Segment)). at ps k)) (get-insert_apart m.spaces p new q ne)) ∙ there)
+        let a : piece_at new k ≡ Some y = sym (ap (option_and_then (λ (ps : List (Part Segment)). piece_at ps k)) (get-insert_here m.spaces p new)) ∙ ap (λ (j : ℕ). spot_at after j k) (sym same) ∙ there in
+        out (has x k) (piece_at parts k) (sym (come k) ∙ a) (λ was. ap (λ (j : ℕ). spot_at m.spaces j k) same ∙ ap (option_and_then (λ (ps : List (Part Segment)). piece_at ps k)) is ∙ was)
+    | inr ne ↦ inl (sym (ap (option_and_then (λ (ps : List (Part Segment)). piece_at ps k)) (get-insert_apart m.spaces p new q ne)) ∙ there)
   ]
     where
       out : (b : Bool) (o : Option Spot) → cond b (Some (x.piece, k - x.first)) o ≡ Some y → (o ≡ Some y → spot_at m.spaces q k ≡ Some y) → (spot_at m.spaces q k ≡ Some y) ⊎ (x.piece ≡ y.0)
@@ -118,7 +118,7 @@ module _ (m : Memory) (p : ℕ) (parts : List (Part Segment)) (x : Part Segment)
   first-here : spot_at after p x.first ≡ Some (x.piece, x.first - x.first)
   first-here =
       let some = c.place.placed.some in
-      ap (option_and_then (λ (ps : List (Part Segment)). at ps x.first)) (get-insert_here m.spaces p new) ∙ come x.first ∙ ap (λ (b : Bool). cond b (Some (x.piece, x.first - x.first)) (at parts x.first)) (has-in x x.first (omega arith) (omega (arith, some)))
+      ap (option_and_then (λ (ps : List (Part Segment)). piece_at ps x.first)) (get-insert_here m.spaces p new) ∙ come x.first ∙ ap (λ (b : Bool). cond b (Some (x.piece, x.first - x.first)) (piece_at parts x.first)) (has-in x x.first (omega arith) (omega (arith, some)))
 
   zeros-now : zero_maps after ≡ Z
   zeros-now = maps-are after ordered-after Z within (λ z n there. elim (c.from z n there) [
@@ -153,9 +153,9 @@ module _ (m : Memory) (p : ℕ) (parts : List (Part Segment)) (x : Part Segment)
       let page = page_value m.world notes in
       let S : Space = with_cells (cells_of F p) x.first x.pages (segment_cell x.piece) in
       let s = space-is m p parts born notes is in
-      let cells : (q : ℕ) → option_map (cell_of (place_contents page now)) (at new q) ≡ finite.get S q = λ q.
+      let cells : (q : ℕ) → option_map (cell_of (place_contents page now)) (piece_at new q) ≡ finite.get S q = λ q.
       ap (option_map (cell_of (place_contents page now))) (come q)
-      ∙ turn page q (has x q) (at parts q) refl (cell notes (q - x.first))
+      ∙ turn page q (has x q) (piece_at parts q) refl (cell notes (q - x.first))
       ∙ ap (λ (o : Option Cell). cond (has x q) (Some (segment_cell x.piece (q - x.first))) o) (sym (cell-is m p parts born notes q is)) ∙ sym (get-with_cells (cells_of F p) x.first x.pages (segment_cell x.piece) q) in
       let e = swept-flat m now r p new born notes (zeros F) S segments
       (spaces-change m now r p new S born notes fits.segments.ordered (λ q ps ne there. c.keeps q ps there) cells)
@@ -164,11 +164,11 @@ module _ (m : Memory) (p : ℕ) (parts : List (Part Segment)) (x : Part Segment)
       let stand : Standing S = λ q d there. by_range q d (cases_Bool (in_range x.first x.pages q)) (sym (get-with_cells (cells_of F p) x.first x.pages (segment_cell x.piece) q) ∙ there) (old q d) in
       (e, subst IsFlat (sym e) (flat-unnamed (with_space G p S) (flat-with_space G p S (fine F whole) (ap is_some s) stand)))
     where
-      turn : (page : PageName → Page) (q : ℕ) (b : Bool) (o : Option Spot) → at parts q ≡ o → cell_of (place_contents page now) (x.piece, q - x.first) ≡ segment_cell x.piece (q - x.first)
+      turn : (page : PageName → Page) (q : ℕ) (b : Bool) (o : Option Spot) → piece_at parts q ≡ o → cell_of (place_contents page now) (x.piece, q - x.first) ≡ segment_cell x.piece (q - x.first)
           → option_map (cell_of (place_contents page now)) (cond b (Some (x.piece, q - x.first)) o) ≡ cond b (Some (segment_cell x.piece (q - x.first))) (option_map (cell_of (place_contents page maps)) o)
       turn page q true o e cell = ap (λ (d : Cell). Some d) cell
       turn page q false None e cell = refl
-      turn page q false (Some y) e cell = ap (λ (d : Cell). Some d) (kept-cell page maps now y (spot-keeps p q y (ap (option_and_then (λ (ps : List (Part Segment)). at ps q)) is ∙ e)))
+      turn page q false (Some y) e cell = ap (λ (d : Cell). Some d) (kept-cell page maps now y (spot-keeps p q y (ap (option_and_then (λ (ps : List (Part Segment)). piece_at ps q)) is ∙ e)))
 
       by_range : {o : Option Cell} (q : ℕ) (d : Cell) → (in_range x.first x.pages q ≡ true) ⊎ (in_range x.first x.pages q ≡ false) → cond (in_range x.first x.pages q) (Some (segment_cell x.piece (q - x.first))) o ≡ Some d → (o ≡ Some d → IsUserPage q × IsCell d) → IsUserPage q × IsCell d
       by_range {o} q d (inl t) e old =

@@ -14,7 +14,7 @@ use Rattle.page_lock.specs.declared.Row.{Row}
 use Rattle.page_store.specs.Bays.{BaySeen, missing, home, out, bay_at}
 use Rattle.page_store.specs.Notes.{no_notes}
 use Rattle.page_store.specs.StoreFits.{StoreFits}
-use Rattle.page_store.specs.Value.{value, stored, value_in, content_in_bay, content_of}
+use Rattle.page_store.specs.Value.{value, backing_value, value_in, content_in_bay, content_of}
 use Rattle.page_store.specs.declared.place.Place.{Place}
 use Rattle.page_store.proofs.LayoutLemmas.{layout_law}
 use Rattle.anon_slots.specs.Slots.{Slots, count_at}
@@ -125,8 +125,8 @@ module _ (m : Memory) (parents : List ℕ) (o : IsOpeningMemory m parents) where
   }
 
   -- what no frame holds has the value that its disk has
-  value-stored : (name : PageName) → value m.world.store no_notes (world_table m.world) name ≡ stored m.world.store no_notes (world_table m.world name)
-  value-stored name = ap (λ (f : Option ℕ). value_in f m.world.store no_notes (world_table m.world name)) (unnamed-find m.world.store.names name o.store.unnamed)
+  value-backing_value : (name : PageName) → value m.world.store no_notes (world_table m.world) name ≡ backing_value m.world.store no_notes (world_table m.world name)
+  value-backing_value name = ap (λ (f : Option ℕ). value_in f m.world.store no_notes (world_table m.world name)) (unnamed-find m.world.store.names name o.store.unnamed)
 
   -- a block of a disk that tells is a block
   told-block : (number block : ℕ) (blocks : List (List ℕ)) → ((d : DiskSeen) → bay_at m.world.store.bays number ≡ home d → block < d.size) → content_of m.world.store no_notes number ≡ Some blocks → IsBlock (slice_index_or blocks block [])
@@ -143,7 +143,7 @@ module _ (m : Memory) (parents : List ℕ) (o : IsOpeningMemory m parents) where
           at.1 block (omega (arith, lt, len))
 
   pub opening-pages : AllTell m.world no_notes → HasPages m.world no_notes
-  opening-pages tell name is = subst IsPage (sym (ap (λ (b : Bool). cond b (value m.world.store no_notes (world_table m.world) name) []) is ∙ value-stored name)) (elim (page-cases m.world.files m.world.anon name is) [
+  opening-pages tell name is = subst IsPage (sym (ap (λ (b : Bool). cond b (value m.world.store no_notes (world_table m.world) name) []) is ∙ value-backing_value name)) (elim (page-cases m.world.files m.world.anon name is) [
     | inl s ↦
         let same : slot_name name.page ≡ name = λ i. record { object = sym s.0 i; page = name.page } in
         let place : world_table m.world name ≡ slot_place name.page (is_unpushed m.world.files m.world.anon (slot_name name.page)) =

@@ -6,7 +6,7 @@ use Rattle.std.specs.FinMap as finite
 use Rattle.std.proofs.lemmas.Bool.{cases_Bool, cases_eq}
 use Rattle.std.proofs.lemmas.List.Elements.{All-nil, All-cons, All-head, All-tail}
 use Rattle.std.proofs.lemmas.List.Sums.{sum_by-cons, sum_by-append}
-use Rattle.addr_space.specs.Space.{Part, part, has, part_at, begins, put, cut_at, without, with_piece, lower, upper_of}
+use Rattle.addr_space.specs.Space.{Part, part, has, part_at, begins, put, cut_at, without_part, with_new_piece, lower_part, upper_part}
 use Rattle.addr_space.proofs.PartLemmas.{at-here, at-next}
 use Rattle.flat_model.proofs.Entries.{find_rest, first_found}
 use Rattle.flat_model.proofs.Ranges.{insert_same}
@@ -27,43 +27,43 @@ sum-put g x (p ∷ ps) = elim (cases_Bool (nat_lt p.first x.first)) [
   | inr f ↦ ap (λ (b : Bool). sum_by g (cond b (p ∷ put x ps) (x ∷ p ∷ ps))) f ∙ sum_by-cons g x (p ∷ ps)
 ]
 
-pub sum-without : (g : Part Segment → ℕ) (ps : List (Part Segment)) (page : ℕ) (x : Part Segment) → begins ps page ≡ Some x → g x + sum_by g (without page ps) ≡ sum_by g ps
-sum-without g [] page x is = absurd (let z : None ≡ Some x = is in cc)
-sum-without g (p ∷ ps) page x is = elim (cases_Bool (p.first == page)) [
+pub sum-without_part : (g : Part Segment → ℕ) (ps : List (Part Segment)) (page : ℕ) (x : Part Segment) → begins ps page ≡ Some x → g x + sum_by g (without_part page ps) ≡ sum_by g ps
+sum-without_part g [] page x is = absurd (let z : None ≡ Some x = is in cc)
+sum-without_part g (p ∷ ps) page x is = elim (cases_Bool (p.first == page)) [
   | inl t ↦
       let same : p ≡ x = let z : Some p ≡ Some x = ap (λ (b : Bool). cond b (Some p) (begins ps page)) (sym t) ∙ is in cc in
-      let e = ap (λ (b : Bool). sum_by g (cond b ps (p ∷ without page ps))) t in
+      let e = ap (λ (b : Bool). sum_by g (cond b ps (p ∷ without_part page ps))) t in
       let a = sum_by-cons g p ps in
       let k = ap g same in
       omega (arith, e, a, k)
   | inr f ↦
-      let e = ap (λ (b : Bool). sum_by g (cond b ps (p ∷ without page ps))) f in
-      let a = sum_by-cons g p (without page ps) in
+      let e = ap (λ (b : Bool). sum_by g (cond b ps (p ∷ without_part page ps))) f in
+      let a = sum_by-cons g p (without_part page ps) in
       let b = sum_by-cons g p ps in
-      let more = sum-without g ps page x (ap (λ (b : Bool). cond b (Some p) (begins ps page)) (sym f) ∙ is) in
+      let more = sum-without_part g ps page x (ap (λ (b : Bool). cond b (Some p) (begins ps page)) (sym f) ∙ is) in
       omega (arith, e, a, b, more)
 ]
 
 pub sum-cut : (g : Part Segment → ℕ) (page : ℕ) (w u : Segment) (ps : List (Part Segment)) (x : Part Segment) → part_at ps page ≡ Some x
-    → sum_by g (cut_at page u (with_piece page w ps)) + g x ≡ g (part x.first (page - x.first) w) + g (part page (x.first + x.pages - page) u) + sum_by g ps
+    → sum_by g (cut_at page u (with_new_piece page w ps)) + g x ≡ g (part x.first (page - x.first) w) + g (part page (x.first + x.pages - page) u) + sum_by g ps
 sum-cut g page w u [] x is = absurd (let z : None ≡ Some x = is in cc)
 sum-cut g page w u (p ∷ ps) x is = elim (cases_Bool (has p page)) [
   | inl t ↦
       let same : p ≡ x = let z : Some p ≡ Some x = sym (at-here p ps page t) ∙ is in cc in
       let new : Part Segment = part p.first p.pages w in
-      let e = ap (λ (b : Bool). sum_by g (cut_at page u (cond b (new ∷ ps) (p ∷ with_piece page w ps)))) t in
-      let d = ap (λ (b : Bool). sum_by g (cond b (lower page new ∷ upper_of page u new ∷ ps) (new ∷ cut_at page u ps))) t in
-      let a = sum_by-cons g (lower page new) (upper_of page u new ∷ ps) in
-      let b = sum_by-cons g (upper_of page u new) ps in
+      let e = ap (λ (b : Bool). sum_by g (cut_at page u (cond b (new ∷ ps) (p ∷ with_new_piece page w ps)))) t in
+      let d = ap (λ (b : Bool). sum_by g (cond b (lower_part page new ∷ upper_part page u new ∷ ps) (new ∷ cut_at page u ps))) t in
+      let a = sum_by-cons g (lower_part page new) (upper_part page u new ∷ ps) in
+      let b = sum_by-cons g (upper_part page u new) ps in
       let c = sum_by-cons g p ps in
       let k = ap g same in
       let l = ap (λ (y : Part Segment). g (part y.first (page - y.first) w)) same in
       let h = ap (λ (y : Part Segment). g (part page (y.first + y.pages - page) u)) same in
       omega (arith, e, d, a, b, c, k, l, h)
   | inr f ↦
-      let e = ap (λ (b : Bool). sum_by g (cut_at page u (cond b (part p.first p.pages w ∷ ps) (p ∷ with_piece page w ps)))) f in
-      let d = ap (λ (b : Bool). sum_by g (cond b (lower page p ∷ upper_of page u p ∷ with_piece page w ps) (p ∷ cut_at page u (with_piece page w ps)))) f in
-      let a = sum_by-cons g p (cut_at page u (with_piece page w ps)) in
+      let e = ap (λ (b : Bool). sum_by g (cut_at page u (cond b (part p.first p.pages w ∷ ps) (p ∷ with_new_piece page w ps)))) f in
+      let d = ap (λ (b : Bool). sum_by g (cond b (lower_part page p ∷ upper_part page u p ∷ with_new_piece page w ps) (p ∷ cut_at page u (with_new_piece page w ps)))) f in
+      let a = sum_by-cons g p (cut_at page u (with_new_piece page w ps)) in
       let b = sum_by-cons g p ps in
       let more = sum-cut g page w u ps x (sym (at-next p ps page f) ∙ is) in
       omega (arith, e, d, a, b, more)

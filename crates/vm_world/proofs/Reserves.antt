@@ -12,9 +12,9 @@ use Rattle.vm_types.specs.declared.call.Kind.{Kind}
 use Rattle.vm_types.specs.declared.call.Kind.TheVariants.{Shared, Private}
 use Rattle.vm_types.specs.declared.call.Object.{Object}
 use Rattle.vm_types.specs.declared.call.Object.TheVariants as object
-use Rattle.addr_space.specs.Space.{Part, IsInOrder, at, part_at}
-use Rattle.addr_space.specs.Pages.{with_pages, pages_of}
-use Rattle.addr_space.proofs.PageLaws.{get-with_pages, get-pages_of}
+use Rattle.addr_space.specs.Space.{Part, IsInOrder, piece_at, part_at}
+use Rattle.addr_space.specs.Pages.{with_pages, pages_of_parts}
+use Rattle.addr_space.proofs.PageLaws.{get-with_pages, get-pages_of_parts}
 use Rattle.addr_space.proofs.PartLemmas.{has-in, has-past, none-below}
 use Rattle.anon_map.specs.Maps.{places_of}
 use Rattle.page_store.specs.Notes.{Notes}
@@ -94,14 +94,14 @@ module _ (held : ℕ → ℕ → Option Page) where
       let more = kind-more p.piece.kind n in
       omega (arith, one, rest, more)
 
-  total-parts : (low : ℕ) (ps : List (Part Segment)) → IsInOrder low ps → total spot_slots (pages_of ps) ≡ sum_by slots_for_part ps
+  total-parts : (low : ℕ) (ps : List (Part Segment)) → IsInOrder low ps → total spot_slots (pages_of_parts ps) ≡ sum_by slots_for_part ps
   total-parts low [] order = total-empty spot_slots
   total-parts low (p ∷ ps) order =
-      total-pages (pages_of ps) p p.pages (λ q from below. get-pages_of ps q ∙ ap (option_map (λ (r : Part Segment). (r.piece, q - r.first))) (none-below (p.first + p.pages) ps q order.1 below))
+      total-pages (pages_of_parts ps) p p.pages (λ q from below. get-pages_of_parts ps q ∙ ap (option_map (λ (r : Part Segment). (r.piece, q - r.first))) (none-below (p.first + p.pages) ps q order.1 below))
       ∙ ap (λ (n : ℕ). slots_for_part p + n) (total-parts (p.first + p.pages) ps order.1) ∙ sym (sum_by-cons slots_for_part p ps)
 
   pub private-parts : (ps : List (Part Segment)) → IsInOrder 1 ps → private_cells (space_with held ps) ≡ sum_by slots_for_part ps
-  private-parts ps order = total-map_with slots_for (cell_of held) (pages_of ps) ∙ total-parts 1 ps order
+  private-parts ps order = total-map_with slots_for (cell_of held) (pages_of_parts ps) ∙ total-parts 1 ps order
 
 -- ZERO OBJECTS: each that a segment shows is named by the cell of its first page
 abbrev pub zeros_of : List (Part Segment) → List (ℕ × ℕ)
@@ -133,7 +133,7 @@ some-space z n (v ∷ vs) is = elim (found-either z n (zeros_of v) (flat_map zer
 record IsZeroPart (z low : ℕ) (parts : List (Part Segment)) : Type 0 where
   part : Part Segment
   behind : low ≤ part.first
-  here : at parts part.first ≡ Some (part.piece, 0)
+  here : piece_at parts part.first ≡ Some (part.piece, 0)
   shows : part.piece.object ≡ object.Zero z
 
 pub zero-object : (o : Object) (shown : Option ℕ) (y n : ℕ) → (elim o as (λ x. Option (ℕ × ℕ)) [ object.Zero x ↦ option_map (λ (number : ℕ). (x, number)) shown | object.File f ↦ None | object.NewZero ↦ None ]) ≡ Some (y, n) → o ≡ object.Zero y
@@ -185,7 +185,7 @@ module _ (m : Memory) (born : set.FinSet nat_cmp) (c : Contents) (ordered : AreO
       let entries = flat_map zeros_of (finite.values m.spaces) in
       let v = value_of_any (shows_zero z) m.spaces (some-space z n (finite.values m.spaces) (sym (finite.get-from_entries nat_cmp_total entries z) ∙ is)) in
       let r = zero-part z 1 v.1 (ordered v.0 v.1 v.2) v.3 in
-      let spot : spot_at m.spaces v.0 r.part.first ≡ Some (r.part.piece, 0) = ap (option_and_then (λ (ps : List (Part Segment)). at ps r.part.first)) v.2 ∙ r.here in
+      let spot : spot_at m.spaces v.0 r.part.first ≡ Some (r.part.piece, 0) = ap (option_and_then (λ (ps : List (Part Segment)). piece_at ps r.part.first)) v.2 ∙ r.here in
       let stands : cell_at (flat_shaped (shape_of m) born c) v.0 r.part.first ≡ Some (cell_of c.place (r.part.piece, 0)) = cell-at c.place m.spaces v.0 r.part.first ∙ ap (option_map (cell_of c.place)) spot in
       named_zeros-from_cell (flat_shaped (shape_of m) born c) v.0 r.part.first z (cell_of c.place (r.part.piece, 0)) stands
       (ap (λ (o : Object). elim o as (λ x. Option ℕ) [ object.Zero y ↦ Some y | object.File f ↦ None | object.NewZero ↦ None ]) r.shows)

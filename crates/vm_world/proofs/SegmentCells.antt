@@ -6,8 +6,8 @@ use Rattle.std.specs.FinMap as finite
 use Rattle.std.specs.FinSet as set
 use Rattle.std.proofs.lemmas.Bool.{cases_eq, cases_lt}
 use Rattle.addr_space.specs.Space.{Part, page_total}
-use Rattle.addr_space.specs.Pages.{pages_of}
-use Rattle.addr_space.proofs.Totals.{len-pages_of}
+use Rattle.addr_space.specs.Pages.{pages_of_parts}
+use Rattle.addr_space.proofs.Totals.{len-pages_of_parts}
 use Rattle.anon_map.specs.Maps.{places_of}
 use Rattle.page_store.specs.Notes.{Notes}
 use Rattle.flat_model.specs.Flat.{Space, Flat, is_named}
@@ -48,7 +48,7 @@ new-number m born notes z fits none least =
 pub segment_cells : SegmentCells
 segment_cells = record {
   cells = λ m p parts born notes fits is. cells-are m p parts born notes is;
-  count = λ m p parts born notes fits is. ap (λ (s : Space). finite.len s) (cells-are m p parts born notes is) ∙ len-map_with (cell_of (contents_of m.world notes).place) (pages_of parts) ∙ len-pages_of 1 parts (fits.segments.ordered p parts is);
+  count = λ m p parts born notes fits is. ap (λ (s : Space). finite.len s) (cells-are m p parts born notes is) ∙ len-map_with (cell_of (contents_of m.world notes).place) (pages_of_parts parts) ∙ len-pages_of_parts 1 parts (fits.segments.ordered p parts is);
   named = λ m born notes z fits. is-named m born notes z fits;
   there = λ m born notes z fits.
       ap is_some (get-map_with (zero_pages (contents_of m.world notes).place (λ number. length (places_of m.world.maps number))) (zero_maps m.spaces) z) ∙ some-mapped (zero_pages (contents_of m.world notes).place (λ number. length (places_of m.world.maps number))) (finite.get (zero_maps m.spaces) z);

@@ -8,9 +8,9 @@ use Rattle.std.specs.FinSet as set
 use Rattle.std.proofs.lemmas.Bool.{cases_eq}
 use Rattle.vm_types.specs.declared.prot.Prot.{Prot}
 use Rattle.vm_types.specs.Prot.{can_read, can_write}
-use Rattle.addr_space.specs.Space.{Part, IsInOrder, at}
-use Rattle.addr_space.specs.Pages.{pages_of}
-use Rattle.addr_space.proofs.PageLaws.{get-pages_of}
+use Rattle.addr_space.specs.Space.{Part, IsInOrder, piece_at}
+use Rattle.addr_space.specs.Pages.{pages_of_parts}
+use Rattle.addr_space.proofs.PageLaws.{get-pages_of_parts}
 use Rattle.anon_map.specs.Maps.{Map, places_of, holders_of}
 use Rattle.anon_slots.specs.Slots.{Slots, count_at}
 use Rattle.hat_layer.specs.declared.translation.Translation.{Translation}
@@ -142,7 +142,7 @@ segments-change files anon maps put r spaces p old new Z fit is order each other
 pub spaces-change : (m : Memory) (put : List (Option Map)) (r p : ℕ) (new : List (Part Segment)) (S : Space) (born : set.FinSet nat_cmp) (notes : Notes)
     → ((q : ℕ) (ps : List (Part Segment)) → finite.get m.spaces q ≡ Some ps → IsInOrder 1 ps)
     → ((q : ℕ) (ps : List (Part Segment)) → q ≢ p → finite.get m.spaces q ≡ Some ps → All (λ (a : Part Segment). KeepsMaps m.world.maps put a.piece) ps)
-    → ((q : ℕ) → option_map (cell_of (place_contents (page_value m.world notes) put)) (at new q) ≡ finite.get S q)
+    → ((q : ℕ) → option_map (cell_of (place_contents (page_value m.world notes) put)) (piece_at new q) ≡ finite.get S q)
     → (flat_memory (with_segments m put r p new) born notes).spaces ≡ finite.insert (flat_memory m born notes).spaces p S
 spaces-change m put r p new S born notes ordered keep here =
     let held = place_contents (page_value m.world notes) put in
@@ -151,7 +151,7 @@ spaces-change m put r p new S born notes ordered keep here =
     get-map_with (space_with held) (finite.insert m.spaces p new) q ∙ elim (cases_eq q p) [
       | inl same ↦
           ap (λ (j : ℕ). option_map (space_with held) (finite.get (finite.insert m.spaces p new) j)) same ∙ ap (option_map (space_with held)) (get-insert_here m.spaces p new)
-          ∙ ap (λ (s : Space). Some s) (same_space (space_with held new) S (λ k. get-map_with (cell_of held) (pages_of new) k ∙ ap (option_map (cell_of held)) (get-pages_of new k) ∙ here k))
+          ∙ ap (λ (s : Space). Some s) (same_space (space_with held new) S (λ k. get-map_with (cell_of held) (pages_of_parts new) k ∙ ap (option_map (cell_of held)) (get-pages_of_parts new k) ∙ here k))
           ∙ sym (get-insert_here (map_with (space_with before) m.spaces) p S) ∙ ap (finite.get (finite.insert (map_with (space_with before) m.spaces) p S)) (sym same)
       | inr ne ↦
           ap (option_map (space_with held)) (get-insert_apart m.spaces p new q ne) ∙ by_space q (finite.get m.spaces q) refl (λ ps is. keep q ps ne is)
@@ -161,8 +161,8 @@ spaces-change m put r p new S born notes ordered keep here =
     by_space : (q : ℕ) (o : Option (List (Part Segment))) → finite.get m.spaces q ≡ o → ((ps : List (Part Segment)) → finite.get m.spaces q ≡ Some ps → All (λ (a : Part Segment). KeepsMaps m.world.maps put a.piece) ps)
         → option_map (space_with (place_contents (page_value m.world notes) put)) o ≡ option_map (space_with (place_contents (page_value m.world notes) m.world.maps)) o
     by_space q None e keep = refl
-    by_space q (Some ps) e keep = ap (λ (s : Space). Some s) (map_with-same (cell_of (place_contents (page_value m.world notes) m.world.maps)) (cell_of (place_contents (page_value m.world notes) put)) (pages_of ps) (λ k x is.
-        let s = spot-in (λ (a : Part Segment). KeepsMaps m.world.maps put a.piece) 1 ps k x (omega arith) (ordered q ps e) (keep ps e) (sym (get-pages_of ps k) ∙ is) in
+    by_space q (Some ps) e keep = ap (λ (s : Space). Some s) (map_with-same (cell_of (place_contents (page_value m.world notes) m.world.maps)) (cell_of (place_contents (page_value m.world notes) put)) (pages_of_parts ps) (λ k x is.
+        let s = spot-in (λ (a : Part Segment). KeepsMaps m.world.maps put a.piece) 1 ps k x (omega arith) (ordered q ps e) (keep ps e) (sym (get-pages_of_parts ps k) ∙ is) in
         kept-cell (page_value m.world notes) m.world.maps put x (subst (KeepsMaps m.world.maps put) s.piece s.fits)))
 
 -- a place of a segment whose maps stay shows what it showed

@@ -11,7 +11,7 @@ use Rattle.std.proofs.lemmas.Bool.Decides.{eqb_tells}
 use Rattle.std.proofs.lemmas.List.Elements.{All-nil, All-cons}
 use Rattle.vm_types.specs.declared.call.Object.{Object}
 use Rattle.vm_types.specs.declared.call.Object.TheVariants as object
-use Rattle.addr_space.specs.Space.{Part, IsInOrder, at, part_at, has}
+use Rattle.addr_space.specs.Space.{Part, IsInOrder, piece_at, part_at, has}
 use Rattle.addr_space.proofs.PartLemmas.{has-in, has-past, has-within, none-below}
 use Rattle.anon_map.specs.Maps.{Map, IsMapThere}
 use Rattle.anon_slots.specs.Slots.{Slots}
@@ -62,16 +62,16 @@ shown-space z n (v ∷ vs) is = elim (found-either z n (zeros_of v) (flat_map ze
 record ShownPart (z n low : ℕ) (parts : List (Part Segment)) : Type 0 where
   part : Part Segment
   behind : low ≤ part.first
-  here : at parts part.first ≡ Some (part.piece, 0)
+  here : piece_at parts part.first ≡ Some (part.piece, 0)
   shows : zero_map part.piece ≡ Some (z, n)
 
-first-spot : (p : Part Segment) (ps : List (Part Segment)) (low : ℕ) → IsInOrder low (p ∷ ps) → at (p ∷ ps) p.first ≡ Some (p.piece, 0)
+first-spot : (p : Part Segment) (ps : List (Part Segment)) (low : ℕ) → IsInOrder low (p ∷ ps) → piece_at (p ∷ ps) p.first ≡ Some (p.piece, 0)
 first-spot p ps low order =
     let some = order.0.some in
     let none : p.first - p.first ≡ 0 = omega arith in
     ap (λ (b : Bool). option_map (λ (x : Part Segment). (x.piece, p.first - x.first)) (cond b (Some p) (part_at ps p.first))) (has-in p p.first (omega arith) (omega (arith, some))) ∙ ap (λ (k : ℕ). Some (p.piece, k)) none
 
-later-spot : (p : Part Segment) (ps : List (Part Segment)) (k : ℕ) → p.first + p.pages ≤ k → at (p ∷ ps) k ≡ at ps k
+later-spot : (p : Part Segment) (ps : List (Part Segment)) (k : ℕ) → p.first + p.pages ≤ k → piece_at (p ∷ ps) k ≡ piece_at ps k
 later-spot p ps k behind = ap (λ (b : Bool). option_map (λ (x : Part Segment). (x.piece, k - x.first)) (cond b (Some p) (part_at ps k))) (has-past p k behind)
 
 shown-part : (z n low : ℕ) (ps : List (Part Segment)) → IsInOrder low ps → finite.find nat_cmp z (zeros_of ps) ≡ Some n → ShownPart z n low ps
@@ -100,7 +100,7 @@ shown-by spaces z n ordered is =
     let t = λ (v : List (Part Segment)). is_number n (finite.find nat_cmp z (zeros_of v)) in
     let v = value_of_any t spaces (shown-space z n (finite.values spaces) (sym (finite.get-from_entries nat_cmp_total entries z) ∙ is)) in
     let r = shown-part z n 1 v.1 (ordered v.0 v.1 v.2) (number-is n (finite.find nat_cmp z (zeros_of v.1)) v.3) in
-    record { process = v.0; page = r.part.first; spot = (r.part.piece, 0); here = ap (option_and_then (λ (ps : List (Part Segment)). at ps r.part.first)) v.2 ∙ r.here; shows = r.shows }
+    record { process = v.0; page = r.part.first; spot = (r.part.piece, 0); here = ap (option_and_then (λ (ps : List (Part Segment)). piece_at ps r.part.first)) v.2 ∙ r.here; shows = r.shows }
 
 -- AND EACH THAT IS SHOWN has one
 some-append : (z : ℕ) (es fs : List (ℕ × ℕ)) → is_some (finite.find nat_cmp z (es ++ fs)) ≡ (is_some (finite.find nat_cmp z es) || is_some (finite.find nat_cmp z fs))
@@ -128,7 +128,7 @@ some-option z (Some e) rest is = by_key (is_eq (nat_cmp z e.0))
     by_key true = refl
     by_key false = is
 
-some-part : (z n k : ℕ) (ps : List (Part Segment)) (x : Spot) → at ps k ≡ Some x → zero_map x.0 ≡ Some (z, n) → is_some (finite.find nat_cmp z (zeros_of ps)) ≡ true
+some-part : (z n k : ℕ) (ps : List (Part Segment)) (x : Spot) → piece_at ps k ≡ Some x → zero_map x.0 ≡ Some (z, n) → is_some (finite.find nat_cmp z (zeros_of ps)) ≡ true
 some-part z n k [] x is shows = absurd (let y : None ≡ Some x = is in cc)
 some-part z n k (p ∷ ps) x is shows = elim (cases_Bool (has p k)) [
   | inl here ↦
@@ -142,20 +142,20 @@ some-part z n k (p ∷ ps) x is shows = elim (cases_Bool (has p k)) [
 pub shown-some : (spaces : Spaces) (z n : ℕ) → IsShown spaces z n → IsSome (finite.get (zero_maps spaces) z)
 shown-some spaces z n s = by_space (finite.get spaces s.process) refl s.here
   where
-    by_space : (o : Option (List (Part Segment))) → finite.get spaces s.process ≡ o → option_and_then (λ (ps : List (Part Segment)). at ps s.page) o ≡ Some s.spot → IsSome (finite.get (zero_maps spaces) z)
+    by_space : (o : Option (List (Part Segment))) → finite.get spaces s.process ≡ o → option_and_then (λ (ps : List (Part Segment)). piece_at ps s.page) o ≡ Some s.spot → IsSome (finite.get (zero_maps spaces) z)
     by_space None e is = absurd (let y : None ≡ Some s.spot = is in cc)
     by_space (Some ps) e is =
         ap is_some (finite.get-from_entries nat_cmp_total (flat_map zeros_of (finite.values spaces)) z)
         ∙ some-in z (finite.values spaces) (any_value (λ v. is_some (finite.find nat_cmp z (zeros_of v))) spaces s.process ps e (some-part z n s.page ps s.spot is s.shows))
 
 -- WHAT HOLDS of the segment of each page holds of each part
-pub all-spots : (P : Segment → Type 0) (low : ℕ) (ps : List (Part Segment)) → IsInOrder low ps → ((k : ℕ) (x : Spot) → at ps k ≡ Some x → P x.0) → All (λ (a : Part Segment). P a.piece) ps
+pub all-spots : (P : Segment → Type 0) (low : ℕ) (ps : List (Part Segment)) → IsInOrder low ps → ((k : ℕ) (x : Spot) → piece_at ps k ≡ Some x → P x.0) → All (λ (a : Part Segment). P a.piece) ps
 all-spots P low [] order each = All-nil (λ (a : Part Segment). P a.piece)
 all-spots P low (p ∷ ps) order each =
     All-cons (λ (a : Part Segment). P a.piece) p ps (each p.first (p.piece, 0) (first-spot p ps low order))
     (all-spots P (p.first + p.pages) ps order.1 (λ k x is. each k x (by_page k (cases_Bool (has p k)) x is)))
   where
-    by_page : (k : ℕ) → (has p k ≡ true) ⊎ (has p k ≡ false) → (x : Spot) → at ps k ≡ Some x → at (p ∷ ps) k ≡ Some x
+    by_page : (k : ℕ) → (has p k ≡ true) ⊎ (has p k ≡ false) → (x : Spot) → piece_at ps k ≡ Some x → piece_at (p ∷ ps) k ≡ Some x
     by_page k (inr past) x is = ap (λ (b : Bool). option_map (λ (r : Part Segment). (r.piece, k - r.first)) (cond b (Some p) (part_at ps k))) past ∙ is
     by_page k (inl here) x is = absurd (let none = none-below (p.first + p.pages) ps k order.1 (has-within p k here).below in let y : None ≡ Some x = sym (ap (option_map (λ (r : Part Segment). (r.piece, k - r.first))) none) ∙ is in cc)
 
@@ -173,7 +173,7 @@ module _ (spaces : Spaces) (ordered : AreOrdered spaces) (Z : finite.FinMap nat_
 
   pub all-shown : All (ShowsZero (zero_maps spaces)) (segments_of spaces)
   all-shown = all-segments (ShowsZero (zero_maps spaces)) spaces (λ q ps is. all-spots (ShowsZero (zero_maps spaces)) 1 ps (ordered q ps is) (λ k x here z n shows.
-      shown-maps z n (record { process = q; page = k; spot = x; here = ap (option_and_then (λ (ps : List (Part Segment)). at ps k)) is ∙ here; shows = shows })))
+      shown-maps z n (record { process = q; page = k; spot = x; here = ap (option_and_then (λ (ps : List (Part Segment)). piece_at ps k)) is ∙ here; shows = shows })))
 
   pub apart-maps : ((y z n : ℕ) → finite.get Z y ≡ Some n → finite.get Z z ≡ Some n → y ≡ z) → (y z n : ℕ) → finite.get (zero_maps spaces) y ≡ Some n → finite.get (zero_maps spaces) z ≡ Some n → y ≡ z
   apart-maps apart y z n is there = apart y z n (within-maps y n is) (within-maps z n there)

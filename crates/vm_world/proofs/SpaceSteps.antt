@@ -11,10 +11,10 @@ use Rattle.vm_types.specs.declared.call.Kind.{Kind}
 use Rattle.vm_types.specs.declared.call.Kind.TheVariants.{Shared, Private}
 use Rattle.vm_types.specs.declared.call.Object.{Object}
 use Rattle.vm_types.specs.Prot.{can_read, can_write}
-use Rattle.addr_space.specs.Space.{Part, part, at, has, part_at, begins, put, without, with_piece, upper_of, IsInOrder, IsPlaced}
-use Rattle.addr_space.proofs.PartLemmas.{has-in, has-within, found-in, at-put, ordered-put, at-without, ordered-without, ordered-cut}
+use Rattle.addr_space.specs.Space.{Part, part, piece_at, has, part_at, begins, put, without_part, with_new_piece, upper_part, IsInOrder, LiesFrom}
+use Rattle.addr_space.proofs.PartLemmas.{has-in, has-within, found-in, at-put, ordered-put, at-without_part, ordered-without_part, ordered-cut}
 use Rattle.addr_space.proofs.PageLaws.{ordered-written}
-use Rattle.addr_space.proofs.PartLists.{all-put, all-without, all-found, all-cut, begins-first, found-with_piece, at-cut_both, at-found}
+use Rattle.addr_space.proofs.PartLists.{all-put, all-without_part, all-found, all-cut, begins-first, found-with_new_piece, at-cut_both, at-found}
 use Rattle.anon_map.specs.Maps.{Map}
 use Rattle.anon_slots.specs.Slots.{Slots}
 use Rattle.hat_layer.specs.Pool as pool
@@ -81,14 +81,14 @@ translation-shown store anon maps old new t l y here before file same = record {
 }
 
 -- the segment of a page is such a segment
-spot-file : (parts : List (Part Segment)) (q : ℕ) (x : Spot) → AreFiles parts → IsInOrder 1 parts → at parts q ≡ Some x → IsFileMapping x.0
+spot-file : (parts : List (Part Segment)) (q : ℕ) (x : Spot) → AreFiles parts → IsInOrder 1 parts → piece_at parts q ≡ Some x → IsFileMapping x.0
 spot-file parts q x files order is = let s = spot-in (λ (p : Part Segment). IsFileMapping p.piece) 1 parts q x (omega arith) order files is in subst IsFileMapping s.piece s.fits
 
 -- THE CHANGE: the segments of other processes stay, and the translations of this one show what they showed.
 module _ (m : Memory) (p : ℕ) (spaces : Spaces) (f : Flat → Flat) (fits : MemoryFits m) (only : OnlyFiles m.spaces) (files : OnlyFiles spaces)
     (others : (q : ℕ) → q ≢ p → finite.get spaces q ≡ finite.get m.spaces q) where
   same-elsewhere : (t : Translation) (x : Spot) → t.space ≢ p → spot_at m.spaces t.space t.page ≡ Some x → spot_at spaces t.space t.page ≡ Some x
-  same-elsewhere t x ne is = ap (option_and_then (λ (ps : List (Part Segment)). at ps t.page)) (others t.space ne) ∙ is
+  same-elsewhere t x ne is = ap (option_and_then (λ (ps : List (Part Segment)). piece_at ps t.page)) (others t.space ne) ∙ is
 
   change-space : ((parts : List (Part Segment)) → finite.get spaces p ≡ Some parts → IsInOrder 1 parts × All (FitsWorld m.world) parts)
       → ((place : ℕ) (t : Translation) → slice_index_or m.world.hat.places place None ≡ Some t → t.space ≡ p → TranslationFits m.world.store m.world.anon m.world.maps m.spaces t → TranslationFits m.world.store m.world.anon m.world.maps spaces t)
@@ -166,9 +166,9 @@ flat-parts m p parts born notes only files order =
 
 -- such cells may stand where they do
 stand-files : (parts : List (Part Segment)) → AreFiles parts → IsInOrder 1 parts → Standing (file_space parts)
-stand-files parts files order q c is = by_spot (at parts q) refl (sym (get-file_space parts q) ∙ is)
+stand-files parts files order q c is = by_spot (piece_at parts q) refl (sym (get-file_space parts q) ∙ is)
   where
-    by_spot : (o : Option Spot) → at parts q ≡ o → option_map (λ (x : Spot). file_cell x.0 x.1) o ≡ Some c → ((1 ≤ q) × (q ≤ 0x7ffff)) × IsCell c
+    by_spot : (o : Option Spot) → piece_at parts q ≡ o → option_map (λ (x : Spot). file_cell x.0 x.1) o ≡ Some c → ((1 ≤ q) × (q ≤ 0x7ffff)) × IsCell c
     by_spot None e is = absurd (let z : None ≡ Some c = is in cc)
     by_spot (Some x) e is =
         let s = spot-in (λ (p : Part Segment). IsFileMapping p.piece) 1 parts q x (omega arith) order files e in
@@ -201,7 +201,7 @@ files-insert spaces p parts only files q ps is = elim (cases_eq q p) [
 -- PARTS CHANGE: they lie in order and fit, and each page that has a translation shows the cell that it showed.
 change-parts : (m : Memory) (p : ℕ) (old parts : List (Part Segment)) (f : Flat → Flat) → MemoryFits m → OnlyFiles m.spaces → finite.get m.spaces p ≡ Some old
     → IsInOrder 1 parts → All (FitsWorld m.world) parts → AreFiles parts
-    → ((place : ℕ) (t : Translation) (x : Spot) → slice_index_or m.world.hat.places place None ≡ Some t → t.space ≡ p → at old t.page ≡ Some x → (y : Spot) × (at parts t.page ≡ Some y) × (file_cell y.0 y.1 ≡ file_cell x.0 x.1))
+    → ((place : ℕ) (t : Translation) (x : Spot) → slice_index_or m.world.hat.places place None ≡ Some t → t.space ≡ p → piece_at old t.page ≡ Some x → (y : Spot) × (piece_at parts t.page ≡ Some y) × (file_cell y.0 y.1 ≡ file_cell x.0 x.1))
     → ((born : set.FinSet nat_cmp) (notes : Notes) → with_space (flat_memory m born notes) p (file_space parts) ≡ f (flat_memory m born notes))
     → ChangesSpace p m (with_space_parts m p parts) f
 change-parts m p old parts f fits only is order each files shown same =
@@ -210,9 +210,9 @@ change-parts m p old parts f fits only is order each files shown same =
     change-space m p spaces f fits only after (λ q ne. get-insert_apart m.spaces p parts q ne)
     (λ ps there. let e : parts ≡ ps = let z : Some parts ≡ Some ps = sym (get-here m.spaces p parts) ∙ there in cc in (subst (IsInOrder 1) e order, subst (All (FitsWorld m.world)) e each))
     (λ place t there own l.
-    let here : at old t.page ≡ Some l.spot = sym (ap (λ (j : ℕ). spot_at m.spaces j t.page) own ∙ ap (option_and_then (λ (ps : List (Part Segment)). at ps t.page)) is) ∙ l.here in
+    let here : piece_at old t.page ≡ Some l.spot = sym (ap (λ (j : ℕ). spot_at m.spaces j t.page) own ∙ ap (option_and_then (λ (ps : List (Part Segment)). piece_at ps t.page)) is) ∙ l.here in
     let y = shown place t l.spot there own here in
-    let spot : spot_at spaces t.space t.page ≡ Some y.0 = ap (λ (j : ℕ). spot_at spaces j t.page) own ∙ ap (option_and_then (λ (ps : List (Part Segment)). at ps t.page)) (get-here m.spaces p parts) ∙ y.1 in
+    let spot : spot_at spaces t.space t.page ≡ Some y.0 = ap (λ (j : ℕ). spot_at spaces j t.page) own ∙ ap (option_and_then (λ (ps : List (Part Segment)). piece_at ps t.page)) (get-here m.spaces p parts) ∙ y.1 in
     translation-shown m.world.store m.world.anon m.world.maps m.spaces spaces t l y.0 spot
     (spot-file old t.page l.spot (only p old is) (fits.segments.ordered p old is) here) (spot-file parts t.page y.0 files order y.1) y.2)
     (λ born notes whole. let b = becomes-parts m p old parts born notes only after (fits.segments.ordered p old is) order is whole in (b.0 ∙ same born notes, b.1))
@@ -225,14 +225,14 @@ not-held (Some u) space q h e = cc
 pub holds-own : (t : Translation) → pool.holds t.space t.page (Some t) ≡ true
 holds-own t = rw (eq-eqb t.space t.space refl, eq-eqb t.page t.page refl) refl
 
-at-found-here : (o : Option Translation) (os : List (Option Translation)) (space q : ℕ) (b : Bool) → pool.holds space q o ≡ b → pool.at (o ∷ os) space q ≡ cond b o (pool.at os space q)
+at-found-here : (o : Option Translation) (os : List (Option Translation)) (space q : ℕ) (b : Bool) → pool.holds space q o ≡ b → pool.translation_at (o ∷ os) space q ≡ cond b o (pool.translation_at os space q)
 at-found-here o os space q b e = ap (λ (b : Bool). option_and_then (λ (x : Option Translation). x) (cond b (Some o) (find (λ x. pool.holds space q x) os))) e ∙ by_test b
   where
-    by_test : (b : Bool) → option_and_then (λ (x : Option Translation). x) (cond b (Some o) (find (λ x. pool.holds space q x) os)) ≡ cond b o (pool.at os space q)
+    by_test : (b : Bool) → option_and_then (λ (x : Option Translation). x) (cond b (Some o) (find (λ x. pool.holds space q x) os)) ≡ cond b o (pool.translation_at os space q)
     by_test true = refl
     by_test false = refl
 
-pub loaded-at : (places : List (Option Translation)) (k : ℕ) (t : Translation) → slice_index_or places k None ≡ Some t → pool.at places t.space t.page ≡ None → ⊥
+pub loaded-at : (places : List (Option Translation)) (k : ℕ) (t : Translation) → slice_index_or places k None ≡ Some t → pool.translation_at places t.space t.page ≡ None → ⊥
 loaded-at [] k t is none = let z : None ≡ Some t = is in cc
 loaded-at (o ∷ os) zero t is none =
     let h : pool.holds t.space t.page o ≡ true = ap (pool.holds t.space t.page) is ∙ holds-own t in
@@ -280,19 +280,19 @@ retain-empty test = finite.same_map nat_cmp_total finite.nat_cmp-IsAntisymmetric
     either true = refl
     either false = refl
 
-without-cells : (parts : List (Part Segment)) (first : ℕ) (x : Part Segment) → x.first ≡ first → ((q : ℕ) → at (without first parts) q ≡ cond (has x q) None (at parts q)) → file_space (without first parts) ≡ without_range (file_space parts) first x.pages
-without-cells parts first x begin gone =
+without_part-cells : (parts : List (Part Segment)) (first : ℕ) (x : Part Segment) → x.first ≡ first → ((q : ℕ) → piece_at (without_part first parts) q ≡ cond (has x q) None (piece_at parts q)) → file_space (without_part first parts) ≡ without_range (file_space parts) first x.pages
+without_part-cells parts first x begin gone =
     let cell = λ (y : Spot). file_cell y.0 y.1 in
-    same_space _ _ (λ q. get-file_space (without first parts) q ∙ ap (option_map cell) (gone q) ∙ turn (has x q) (at parts q) ∙ ap (cond (has x q) None) (sym (get-file_space parts q))
+    same_space _ _ (λ q. get-file_space (without_part first parts) q ∙ ap (option_map cell) (gone q) ∙ turn (has x q) (piece_at parts q) ∙ ap (cond (has x q) None) (sym (get-file_space parts q))
     ∙ ap (λ (k : ℕ). cond (in_range k x.pages q) None (finite.get (file_space parts) q)) begin ∙ sym (get-without_range (file_space parts) first x.pages q))
   where
     turn : (b : Bool) (o : Option Spot) → option_map (λ (y : Spot). file_cell y.0 y.1) (cond b None o) ≡ cond b None (option_map (λ (y : Spot). file_cell y.0 y.1) o)
     turn true o = refl
     turn false o = refl
 
-with-cells : (parts : List (Part Segment)) (x : Part Segment) → ((q : ℕ) → at (put x parts) q ≡ cond (has x q) (Some (x.piece, q - x.first)) (at parts q)) → file_space (put x parts) ≡ with_cells (file_space parts) x.first x.pages (file_cell x.piece)
+with-cells : (parts : List (Part Segment)) (x : Part Segment) → ((q : ℕ) → piece_at (put x parts) q ≡ cond (has x q) (Some (x.piece, q - x.first)) (piece_at parts q)) → file_space (put x parts) ≡ with_cells (file_space parts) x.first x.pages (file_cell x.piece)
 with-cells parts x come =
-    same_space _ _ (λ q. get-file_space (put x parts) q ∙ ap (option_map (λ (y : Spot). file_cell y.0 y.1)) (come q) ∙ turn q (has x q) (at parts q)
+    same_space _ _ (λ q. get-file_space (put x parts) q ∙ ap (option_map (λ (y : Spot). file_cell y.0 y.1)) (come q) ∙ turn q (has x q) (piece_at parts q)
     ∙ ap (cond (has x q) (Some (file_cell x.piece (q - x.first)))) (sym (get-file_space parts q)) ∙ sym (get-with_cells (file_space parts) x.first x.pages (file_cell x.piece) q))
   where
     turn : (q : ℕ) (b : Bool) (o : Option Spot) → option_map (λ (y : Spot). file_cell y.0 y.1) (cond b (Some (x.piece, q - x.first)) o) ≡ cond b (Some (file_cell x.piece (q - x.first))) (option_map (λ (y : Spot). file_cell y.0 y.1) o)
@@ -306,27 +306,27 @@ cell-moved s first page q low high =
     λ i. record { prot = s.prot; max = s.max; kind = s.kind; object = s.object; index = e i; own = None }
 
 pub cut-shows : (page : ℕ) (parts : List (Part Segment)) (x : Part Segment) → IsInOrder 1 parts → part_at parts page ≡ Some x → x.first < page → (q : ℕ)
-    → option_map (λ (y : Spot). file_cell y.0 y.1) (at (cut_before page x parts) q) ≡ option_map (λ (y : Spot). file_cell y.0 y.1) (at parts q)
+    → option_map (λ (y : Spot). file_cell y.0 y.1) (piece_at (cut_before page x parts) q) ≡ option_map (λ (y : Spot). file_cell y.0 y.1) (piece_at parts q)
 cut-shows page parts x order found lt q =
     let u : Segment = later_pages (page - x.first) x.piece in
     let w : Segment = first_pages (page - x.first) x.piece in
     let e = at-cut_both page w u parts x order found lt q in
     let high = (has-within x page (found-in 1 parts page x order found).here).below in
-    ap (option_map (λ (y : Spot). file_cell y.0 y.1)) e ∙ elim (cases_Bool (has (upper_of page u x) q)) [
+    ap (option_map (λ (y : Spot). file_cell y.0 y.1)) e ∙ elim (cases_Bool (has (upper_part page u x) q)) [
       | inl up ↦
-          let within = has-within (upper_of page u x) q up in
+          let within = has-within (upper_part page u x) q up in
           let from = within.from in
           let below = within.below in
           let here : has x q ≡ true = has-in x q (omega (arith, from, lt)) (omega (arith, below, high)) in
-          ap (λ (b : Bool). option_map (λ (y : Spot). file_cell y.0 y.1) (cond b (Some (u, q - page)) (cond (has x q) (Some (w, q - x.first)) (at parts q)))) up
+          ap (λ (b : Bool). option_map (λ (y : Spot). file_cell y.0 y.1) (cond b (Some (u, q - page)) (cond (has x q) (Some (w, q - x.first)) (piece_at parts q)))) up
           ∙ ap (λ (c : Cell). Some c) (cell-moved x.piece x.first page q (omega (arith, lt)) from)
           ∙ ap (option_map (λ (y : Spot). file_cell y.0 y.1)) (sym (at-found 1 parts page q x order found here))
       | inr down ↦
-          ap (λ (b : Bool). option_map (λ (y : Spot). file_cell y.0 y.1) (cond b (Some (u, q - page)) (cond (has x q) (Some (w, q - x.first)) (at parts q)))) down ∙ elim (cases_Bool (has x q)) [
+          ap (λ (b : Bool). option_map (λ (y : Spot). file_cell y.0 y.1) (cond b (Some (u, q - page)) (cond (has x q) (Some (w, q - x.first)) (piece_at parts q)))) down ∙ elim (cases_Bool (has x q)) [
             | inl here ↦
-                ap (λ (b : Bool). option_map (λ (y : Spot). file_cell y.0 y.1) (cond b (Some (w, q - x.first)) (at parts q))) here
+                ap (λ (b : Bool). option_map (λ (y : Spot). file_cell y.0 y.1) (cond b (Some (w, q - x.first)) (piece_at parts q))) here
                 ∙ ap (option_map (λ (y : Spot). file_cell y.0 y.1)) (sym (at-found 1 parts page q x order found here))
-            | inr out ↦ ap (λ (b : Bool). option_map (λ (y : Spot). file_cell y.0 y.1) (cond b (Some (w, q - x.first)) (at parts q))) out
+            | inr out ↦ ap (λ (b : Bool). option_map (λ (y : Spot). file_cell y.0 y.1) (cond b (Some (w, q - x.first)) (piece_at parts q))) out
           ]
     ]
 
@@ -339,7 +339,7 @@ with-cell old (Some y) x same is = (y, refl, let z : Some (file_cell y.0 y.1) �
     some-is : ◌≡◌ {A = Option Cell} (Some (file_cell y.0 y.1)) (Some (file_cell x.0 x.1)) → file_cell y.0 y.1 ≡ file_cell x.0 x.1
     some-is z = ap (λ (o : Option Cell). unwrap_or o (file_cell x.0 x.1)) z
 
-same-cells : (old new : List (Part Segment)) → ((q : ℕ) → option_map (λ (y : Spot). file_cell y.0 y.1) (at new q) ≡ option_map (λ (y : Spot). file_cell y.0 y.1) (at old q)) → file_space new ≡ file_space old
+same-cells : (old new : List (Part Segment)) → ((q : ℕ) → option_map (λ (y : Spot). file_cell y.0 y.1) (piece_at new q) ≡ option_map (λ (y : Spot). file_cell y.0 y.1) (piece_at old q)) → file_space new ≡ file_space old
 same-cells old new same = same_space (file_space new) (file_space old) (λ q. get-file_space new q ∙ same q ∙ sym (get-file_space old q))
 
 lower-fits : (files : ℕ) (maps : List (Option Map)) (x : Part Segment) (page : ℕ) → SegmentFits files maps x → IsFileMapping x.piece → x.first < page → page < x.first + x.pages
@@ -374,12 +374,12 @@ cut-parts m p page parts x fits only is found lt =
     let w : Segment = first_pages (page - x.first) x.piece in
     let u : Segment = later_pages (page - x.first) x.piece in
     let shows = cut-shows page parts x order found lt in
-    let cut-order : IsInOrder 1 (cut_before page x parts) = ordered-cut 1 page u (with_piece page w parts) (part x.first x.pages w) (ordered-written parts page order w) (found-with_piece parts page w x found) lt in
+    let cut-order : IsInOrder 1 (cut_before page x parts) = ordered-cut 1 page u (with_new_piece page w parts) (part x.first x.pages w) (ordered-written parts page order w) (found-with_new_piece parts page w x found) lt in
     change-parts m p parts (cut_before page x parts) (λ F. with_space F p (file_space (cut_before page x parts))) fits only is cut-order
     (all-cut (FitsWorld m.world) page w u parts x found each (lower-fits (length m.world.files.files) m.world.maps x page s file lt high) (upper-fits (length m.world.files.files) m.world.maps x page s file lt high))
     (all-cut (λ (y : Part Segment). IsFileMapping y.piece) page w u parts x found files
     (record { shared = file.shared; file = file.file; own = file.own; shown = file.shown }) (record { shared = file.shared; file = file.file; own = file.own; shown = file.shown }))
-    (λ place t y there own here. with-cell (at parts t.page) (at (cut_before page x parts) t.page) y (shows t.page) here)
+    (λ place t y there own here. with-cell (piece_at parts t.page) (piece_at (cut_before page x parts) t.page) y (shows t.page) here)
     (λ born notes. refl)
 
 rule-cut : (m : Memory) (p page : ℕ) (parts : List (Part Segment)) (x : Part Segment) → MemoryFits m → OnlyFiles m.spaces → finite.get m.spaces p ≡ Some parts → part_at parts page ≡ Some x → x.first < page
@@ -391,36 +391,36 @@ rule-cut m p page parts x fits only is found lt =
 
 -- A PART GOES, none of whose pages has a translation.
 pub remove-parts : (m : Memory) (p first : ℕ) (parts : List (Part Segment)) (x : Part Segment) → MemoryFits m → OnlyFiles m.spaces → finite.get m.spaces p ≡ Some parts → begins parts first ≡ Some x
-    → AreUnloaded m.world.hat.places p first x.pages → ChangesSpace p m (with_space_parts m p (without first parts)) (λ F. with_space F p (file_space (without first parts)))
+    → AreUnloaded m.world.hat.places p first x.pages → ChangesSpace p m (with_space_parts m p (without_part first parts)) (λ F. with_space F p (file_space (without_part first parts)))
 remove-parts m p first parts x fits only is found none =
     let order = fits.segments.ordered p parts is in
     let begin : x.first ≡ first = begins-first parts first x found in
-    let gone = at-without 1 first parts x order found in
-    change-parts m p parts (without first parts) (λ F. with_space F p (file_space (without first parts))) fits only is
-    (ordered-without 1 first parts order)
-    (all-without (FitsWorld m.world) first parts (fits.segments.each p parts is))
-    (all-without (λ (y : Part Segment). IsFileMapping y.piece) first parts (only p parts is))
+    let gone = at-without_part 1 first parts x order found in
+    change-parts m p parts (without_part first parts) (λ F. with_space F p (file_space (without_part first parts))) fits only is
+    (ordered-without_part 1 first parts order)
+    (all-without_part (FitsWorld m.world) first parts (fits.segments.each p parts is))
+    (all-without_part (λ (y : Part Segment). IsFileMapping y.piece) first parts (only p parts is))
     (λ place t y there own here. elim (cases_Bool (has x t.page)) [
       | inl in_it ↦ absurd (
           let within = has-within x t.page in_it in
           let from = within.from in
           let below = within.below in
-          loaded-at m.world.hat.places place t there (ap (λ (j : ℕ). pool.at m.world.hat.places j t.page) own ∙ none t.page (omega (arith, from, begin)) (omega (arith, below, begin))))
-      | inr out ↦ (y, gone t.page ∙ ap (λ (b : Bool). cond b None (at parts t.page)) out ∙ here, refl)
+          loaded-at m.world.hat.places place t there (ap (λ (j : ℕ). pool.translation_at m.world.hat.places j t.page) own ∙ none t.page (omega (arith, from, begin)) (omega (arith, below, begin))))
+      | inr out ↦ (y, gone t.page ∙ ap (λ (b : Bool). cond b None (piece_at parts t.page)) out ∙ here, refl)
     ])
     (λ born notes. refl)
 
 rule-remove : (m : Memory) (p first : ℕ) (parts : List (Part Segment)) (x : Part Segment) → MemoryFits m → OnlyFiles m.spaces → finite.get m.spaces p ≡ Some parts → begins parts first ≡ Some x
-    → AreUnloaded m.world.hat.places p first x.pages → ChangesSpace p m (with_space_parts m p (without first parts)) (λ F. with_space F p (without_range (cells_of F p) first x.pages))
+    → AreUnloaded m.world.hat.places p first x.pages → ChangesSpace p m (with_space_parts m p (without_part first parts)) (λ F. with_space F p (without_range (cells_of F p) first x.pages))
 rule-remove m p first parts x fits only is found none =
     let order = fits.segments.ordered p parts is in
-    changes-as p m (with_space_parts m p (without first parts)) (λ F. with_space F p (file_space (without first parts))) (λ F. with_space F p (without_range (cells_of F p) first x.pages))
+    changes-as p m (with_space_parts m p (without_part first parts)) (λ F. with_space F p (file_space (without_part first parts))) (λ F. with_space F p (without_range (cells_of F p) first x.pages))
     (remove-parts m p first parts x fits only is found none)
     (λ born notes. ap (λ (s : Space). with_space (flat_memory m born notes) p s)
-    (without-cells parts first x (begins-first parts first x found) (at-without 1 first parts x order found) ∙ ap (λ (s : Space). without_range s first x.pages) (sym (cells-here m p parts born notes only order is))))
+    (without_part-cells parts first x (begins-first parts first x found) (at-without_part 1 first parts x order found) ∙ ap (λ (s : Space). without_range s first x.pages) (sym (cells-here m p parts born notes only order is))))
 
 -- A PART COMES where no page has a cell.
-pub put-parts : (m : Memory) (p : ℕ) (parts : List (Part Segment)) (x : Part Segment) → MemoryFits m → OnlyFiles m.spaces → finite.get m.spaces p ≡ Some parts → IsPlaced 1 x → FitsWorld m.world x → IsFileMapping x.piece
+pub put-parts : (m : Memory) (p : ℕ) (parts : List (Part Segment)) (x : Part Segment) → MemoryFits m → OnlyFiles m.spaces → finite.get m.spaces p ≡ Some parts → LiesFrom 1 x → FitsWorld m.world x → IsFileMapping x.piece
     → ((q : ℕ) → x.first ≤ q → q < x.first + x.pages → part_at parts q ≡ None)
     → ChangesSpace p m (with_space_parts m p (put x parts)) (λ F. with_space F p (file_space (put x parts)))
 put-parts m p parts x fits only is placed s file free =
@@ -432,11 +432,11 @@ put-parts m p parts x fits only is placed s file free =
     (all-put (λ (y : Part Segment). IsFileMapping y.piece) x parts file (only p parts is))
     (λ place t y there own here. elim (cases_Bool (has x t.page)) [
       | inl in_it ↦ absurd (let within = has-within x t.page in_it in let z : None ≡ Some y = sym (ap (option_map (λ (r : Part Segment). (r.piece, t.page - r.first))) (free t.page within.from within.below)) ∙ here in cc)
-      | inr out ↦ (y, come t.page ∙ ap (λ (b : Bool). cond b (Some (x.piece, t.page - x.first)) (at parts t.page)) out ∙ here, refl)
+      | inr out ↦ (y, come t.page ∙ ap (λ (b : Bool). cond b (Some (x.piece, t.page - x.first)) (piece_at parts t.page)) out ∙ here, refl)
     ])
     (λ born notes. refl)
 
-rule-put : (m : Memory) (p : ℕ) (parts : List (Part Segment)) (x : Part Segment) → MemoryFits m → OnlyFiles m.spaces → finite.get m.spaces p ≡ Some parts → IsPlaced 1 x → FitsWorld m.world x → IsFileMapping x.piece
+rule-put : (m : Memory) (p : ℕ) (parts : List (Part Segment)) (x : Part Segment) → MemoryFits m → OnlyFiles m.spaces → finite.get m.spaces p ≡ Some parts → LiesFrom 1 x → FitsWorld m.world x → IsFileMapping x.piece
     → ((q : ℕ) → x.first ≤ q → q < x.first + x.pages → part_at parts q ≡ None)
     → ChangesSpace p m (with_space_parts m p (put x parts)) (λ F. with_space F p (with_cells (cells_of F p) x.first x.pages (file_cell x.piece)))
 rule-put m p parts x fits only is placed s file free =
@@ -447,7 +447,7 @@ rule-put m p parts x fits only is placed s file free =
     (with-cells parts x (at-put x parts free) ∙ ap (λ (s : Space). with_cells s x.first x.pages (file_cell x.piece)) (sym (cells-here m p parts born notes only order is))))
 
 -- A PROCESS GOES that has no translation.
-pub rule-leave : (m : Memory) (p : ℕ) → MemoryFits m → OnlyFiles m.spaces → ((q : ℕ) → pool.at m.world.hat.places p q ≡ None) → ChangesSpace p m (without_space m p) (λ F. without_process F p)
+pub rule-leave : (m : Memory) (p : ℕ) → MemoryFits m → OnlyFiles m.spaces → ((q : ℕ) → pool.translation_at m.world.hat.places p q ≡ None) → ChangesSpace p m (without_space m p) (λ F. without_process F p)
 rule-leave m p fits only none =
     let spaces : Spaces = finite.remove m.spaces p in
     let files : OnlyFiles spaces = λ q parts is. elim (cases_eq q p) [
@@ -456,7 +456,7 @@ rule-leave m p fits only none =
     ] in
     change-space m p spaces (λ F. without_process F p) fits only files (λ q ne. get-remove_apart m.spaces p q ne)
     (λ parts is. absurd (let z : None ≡ Some parts = sym (get-remove_here m.spaces p) ∙ is in cc))
-    (λ place t there own l. absurd (loaded-at m.world.hat.places place t there (ap (λ (j : ℕ). pool.at m.world.hat.places j t.page) own ∙ none t.page)))
+    (λ place t there own l. absurd (loaded-at m.world.hat.places place t there (ap (λ (j : ℕ). pool.translation_at m.world.hat.places j t.page) own ∙ none t.page)))
     (λ born notes whole.
     let F : Flat = flat_memory m born notes in
     let empty = zeros-none m born notes only in
@@ -554,23 +554,23 @@ rule-joined p u v w first second one two =
 pub then-removed : (p : ℕ) (m : Memory) (mid new : World) (parts : List (Part Segment)) (first : ℕ) (x : Part Segment)
     → ChangesSpace p m (record { world = mid; spaces = finite.insert m.spaces p parts }) (λ F. with_space F p (file_space parts))
     → WorldStep mid new (finite.insert m.spaces p parts) stays (λ name. false) → begins parts first ≡ Some x → AreUnloaded new.hat.places p first x.pages
-    → ChangesSpace p m (record { world = new; spaces = finite.insert m.spaces p (without first parts) }) (λ F. with_space F p (file_space (without first parts)))
+    → ChangesSpace p m (record { world = new; spaces = finite.insert m.spaces p (without_part first parts) }) (λ F. with_space F p (file_space (without_part first parts)))
 then-removed p m mid new parts first x done step found none =
     let spaces : Spaces = finite.insert m.spaces p parts in
     let n : Memory = record { world = new; spaces = spaces } in
     let keeps = rule-keeps p mid new spaces done.changes.memory done.files step in
     let gone = remove-parts n p first parts x keeps.changes.memory done.files (get-here m.spaces p parts) found none in
-    let both = rule-joined p m n (with_space_parts n p (without first parts)) (λ F. with_space F p (file_space parts)) (λ F. with_space F p (file_space (without first parts)))
+    let both = rule-joined p m n (with_space_parts n p (without_part first parts)) (λ F. with_space F p (file_space parts)) (λ F. with_space F p (file_space (without_part first parts)))
     (rule-joined p m (record { world = mid; spaces = spaces }) n (λ F. with_space F p (file_space parts)) (λ F. F) done keeps) gone in
-    subst (λ (x : Spaces). ChangesSpace p m (record { world = new; spaces = x }) (λ F. with_space F p (file_space (without first parts)))) (insert-twice m.spaces p parts (without first parts))
-    (changes-as p m (with_space_parts n p (without first parts)) (λ F. with_space (with_space F p (file_space parts)) p (file_space (without first parts))) (λ F. with_space F p (file_space (without first parts))) both
-    (λ born notes. space-twice (flat_memory m born notes) p (file_space parts) (file_space (without first parts))))
+    subst (λ (x : Spaces). ChangesSpace p m (record { world = new; spaces = x }) (λ F. with_space F p (file_space (without_part first parts)))) (insert-twice m.spaces p parts (without_part first parts))
+    (changes-as p m (with_space_parts n p (without_part first parts)) (λ F. with_space (with_space F p (file_space parts)) p (file_space (without_part first parts))) (λ F. with_space F p (file_space (without_part first parts))) both
+    (λ born notes. space-twice (flat_memory m born notes) p (file_space parts) (file_space (without_part first parts))))
 
 -- NOTHING IS RESERVED.
 cell-none : (parts : List (Part Segment)) → AreFiles parts → IsInOrder 1 parts → private_cells (file_space parts) ≡ 0
-cell-none parts files order = sum-zero slots_for (finite.values (file_space parts)) (all-values (λ (c : Cell). slots_for c ≡ 0) (file_space parts) (λ q c is. by_spot q c (at parts q) refl (sym (get-file_space parts q) ∙ is)))
+cell-none parts files order = sum-zero slots_for (finite.values (file_space parts)) (all-values (λ (c : Cell). slots_for c ≡ 0) (file_space parts) (λ q c is. by_spot q c (piece_at parts q) refl (sym (get-file_space parts q) ∙ is)))
   where
-    by_spot : (q : ℕ) (c : Cell) (o : Option Spot) → at parts q ≡ o → option_map (λ (x : Spot). file_cell x.0 x.1) o ≡ Some c → slots_for c ≡ 0
+    by_spot : (q : ℕ) (c : Cell) (o : Option Spot) → piece_at parts q ≡ o → option_map (λ (x : Spot). file_cell x.0 x.1) o ≡ Some c → slots_for c ≡ 0
     by_spot q c None e is = absurd (let z : None ≡ Some c = is in cc)
     by_spot q c (Some x) e is =
         let same : file_cell x.0 x.1 ≡ c = let z : Some (file_cell x.0 x.1) ≡ Some c = is in cc in

@@ -4,7 +4,7 @@ use Rattle.std.specs.Prelude.{option_map, option_and_then, nat_le, nat_lt, ◌&&
 use Rattle.std.specs.FinMap as finite
 use Rattle.std.proofs.lemmas.Bool.{cases_Bool, ltb-true, leb-true}
 use Rattle.std.proofs.lemmas.List.Elements.{All-head, All-tail}
-use Rattle.addr_space.specs.Space.{Part, IsInOrder, has, at, part_at}
+use Rattle.addr_space.specs.Space.{Part, IsInOrder, has, piece_at, part_at}
 use Rattle.vm_world.specs.Segments.{Segment, Spot, Spaces, spot_at}
 
 -- The part that has a page, and the page's place in it.
@@ -25,7 +25,7 @@ both-right : (a b : Bool) → (a && b) ≡ true → b ≡ true
 both-right true b e = e
 both-right false b e = absurd (cc)
 
-pub spot-in : (P : Part Segment → Type 0) (low : ℕ) (parts : List (Part Segment)) (q : ℕ) (x : Spot) → 1 ≤ low → IsInOrder low parts → All P parts → at parts q ≡ Some x → IsSpotOf P q x
+pub spot-in : (P : Part Segment → Type 0) (low : ℕ) (parts : List (Part Segment)) (q : ℕ) (x : Spot) → 1 ≤ low → IsInOrder low parts → All P parts → piece_at parts q ≡ Some x → IsSpotOf P q x
 spot-in P low [] q x some order each is = absurd (cc)
 spot-in P low (p ∷ ps) q x some order each is = elim (cases_Bool (has p q)) [
   | inl y ↦
@@ -44,7 +44,7 @@ spot-in P low (p ∷ ps) q x some order each is = elim (cases_Bool (has p q)) [
         user = (omega (arith, some, behind, above), omega (arith, within, below));
       }
   | inr no_page ↦
-      let more : at ps q ≡ Some x = sym (ap (λ (b : Bool). option_map (λ (r : Part Segment). (r.piece, q - r.first)) (cond b (Some p) (part_at ps q))) no_page) ∙ is in
+      let more : piece_at ps q ≡ Some x = sym (ap (λ (b : Bool). option_map (λ (r : Part Segment). (r.piece, q - r.first)) (cond b (Some p) (part_at ps q))) no_page) ∙ is in
       let behind = order.0.behind in
       spot-in P (p.first + p.pages) ps q x (omega (arith, some, behind)) order.1 (All-tail P p ps each) more
 ]
@@ -54,6 +54,6 @@ pub spot-part : (P : Part Segment → Type 0) (spaces : Spaces) (p q : ℕ) (x :
     → ((p : ℕ) (parts : List (Part Segment)) → finite.get spaces p ≡ Some parts → All P parts) → spot_at spaces p q ≡ Some x → IsSpotOf P q x
 spot-part P spaces p q x ordered each is = by_space (finite.get spaces p) refl is
   where
-    by_space : (o : Option (List (Part Segment))) → finite.get spaces p ≡ o → option_and_then (λ (ps : List (Part Segment)). at ps q) o ≡ Some x → IsSpotOf P q x
+    by_space : (o : Option (List (Part Segment))) → finite.get spaces p ≡ o → option_and_then (λ (ps : List (Part Segment)). piece_at ps q) o ≡ Some x → IsSpotOf P q x
     by_space None e is = absurd (cc)
     by_space (Some parts) e is = spot-in P 1 parts q x (omega arith) (ordered p parts e) (each p parts e) is

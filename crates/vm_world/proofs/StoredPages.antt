@@ -7,10 +7,10 @@ use Rattle.std.proofs.lemmas.List.Elements.{All-append, All-replicate, All-take,
 use Rattle.block_device.specs.DiskSeen.{IsBlock}
 use Rattle.core_arena.specs.Bytes.{zeros}
 use Rattle.page_store.specs.Bays.{block_of}
-use Rattle.page_store.specs.Bytes.{clipped}
+use Rattle.page_store.specs.Bytes.{clip}
 use Rattle.page_store.specs.Notes.{Notes}
 use Rattle.page_store.specs.Seen.{StoreSeen}
-use Rattle.page_store.specs.Value.{content_of, tells, stored}
+use Rattle.page_store.specs.Value.{content_of, tells, backing_value}
 use Rattle.page_store.specs.declared.place.Place.{Place}
 use Rattle.flat_model.specs.Words.{IsPage, IsByte, zero_page}
 use Rattle.flat_model.proofs.WellFormed.{IsPage-zero_page}
@@ -22,17 +22,17 @@ zeros-are = refl
 pub IsPage-zeros : IsPage zeros
 IsPage-zeros = subst IsPage (sym zeros-are) IsPage-zero_page
 
-pub length-clipped : (valid : ℕ) (bytes : List ℕ) → valid ≤ 4096 → length bytes ≡ 4096 → length (clipped valid bytes) ≡ 4096
-length-clipped valid bytes low whole =
+pub length-clip : (valid : ℕ) (bytes : List ℕ) → valid ≤ 4096 → length bytes ≡ 4096 → length (clip valid bytes) ≡ 4096
+length-clip valid bytes low whole =
     let a = length-append (take valid bytes) (replicate (4096 - valid) 0) in
     let b = length-take valid bytes in
     let c = length-replicate {A = ℕ} (4096 - valid) 0 in
     omega (arith, a, b, c, low, whole)
 
 -- the valid bytes of a block, with zeros behind them
-pub IsPage-clipped : (valid : ℕ) (bytes : List ℕ) → valid ≤ 4096 → IsBlock bytes → IsPage (clipped valid bytes)
-IsPage-clipped valid bytes low block = record {
-  whole = length-clipped valid bytes low block.0;
+pub IsPage-clip : (valid : ℕ) (bytes : List ℕ) → valid ≤ 4096 → IsBlock bytes → IsPage (clip valid bytes)
+IsPage-clip valid bytes low block = record {
+  whole = length-clip valid bytes low block.0;
   bytes = All-append IsByte (take valid bytes) (replicate (4096 - valid) 0)
       (All-take IsByte valid bytes (All-from_get_or IsByte bytes 0 (λ i lt. block.1 i)))
       (All-replicate IsByte (4096 - valid) 0 (omega arith));
@@ -40,12 +40,12 @@ IsPage-clipped valid bytes low block = record {
 
 -- A PLACE OF A DISK THAT TELLS has a page, where the disk, home or in a note, has the block.
 pub IsPage-stored : (s : StoreSeen) (notes : Notes) (place : Place) → place.valid ≤ 4096 → IsTrue (tells s notes place.disk)
-    → ((blocks : List (List ℕ)) → content_of s notes place.disk ≡ Some blocks → IsBlock (slice_index_or blocks place.block [])) → IsPage (stored s notes place)
+    → ((blocks : List (List ℕ)) → content_of s notes place.disk ≡ Some blocks → IsBlock (slice_index_or blocks place.block [])) → IsPage (backing_value s notes place)
 IsPage-stored s notes place low tell block = elim (cases_Bool place.blank) [
-  | inl blank ↦ subst IsPage (ap (λ (b : Bool). cond b zeros (clipped place.valid (block_of (content_of s notes place.disk) place.block))) (sym blank)) IsPage-zeros
-  | inr pushed ↦ subst IsPage (ap (λ (b : Bool). cond b zeros (clipped place.valid (block_of (content_of s notes place.disk) place.block))) (sym pushed)) (by_content (content_of s notes place.disk) refl tell)
+  | inl blank ↦ subst IsPage (ap (λ (b : Bool). cond b zeros (clip place.valid (block_of (content_of s notes place.disk) place.block))) (sym blank)) IsPage-zeros
+  | inr pushed ↦ subst IsPage (ap (λ (b : Bool). cond b zeros (clip place.valid (block_of (content_of s notes place.disk) place.block))) (sym pushed)) (by_content (content_of s notes place.disk) refl tell)
 ]
   where
-    by_content : (o : Option (List (List ℕ))) → content_of s notes place.disk ≡ o → is_some o ≡ true → IsPage (clipped place.valid (block_of (content_of s notes place.disk) place.block))
+    by_content : (o : Option (List (List ℕ))) → content_of s notes place.disk ≡ o → is_some o ≡ true → IsPage (clip place.valid (block_of (content_of s notes place.disk) place.block))
     by_content None e is = absurd (cc)
-    by_content (Some blocks) e is = subst (λ (o : Option (List (List ℕ))). IsPage (clipped place.valid (block_of o place.block))) (sym e) (IsPage-clipped place.valid (slice_index_or blocks place.block []) low (block blocks e))
+    by_content (Some blocks) e is = subst (λ (o : Option (List (List ℕ))). IsPage (clip place.valid (block_of o place.block))) (sym e) (IsPage-clip place.valid (slice_index_or blocks place.block []) low (block blocks e))

@@ -4,7 +4,7 @@ use Rattle.std.specs.Prelude.{option_map, option_and_then, unwrap_or}
 use Rattle.std.specs.Ordering.{nat_cmp}
 use Rattle.std.specs.FinMap as finite
 use Rattle.std.specs.FinSet as set
-use Rattle.addr_space.specs.Space.{Part, at}
+use Rattle.addr_space.specs.Space.{Part, piece_at}
 use Rattle.anon_map.specs.Maps.{Map, places_of}
 use Rattle.page_hash.specs.declared.PageName.{PageName}
 use Rattle.page_store.specs.Notes.{Notes}
@@ -34,7 +34,7 @@ pub cells-are : (m : Memory) (p : ℕ) (parts : List (Part Segment)) (born : set
 cells-are m p parts born notes is = ap (λ (o : Option Space). unwrap_or o finite.empty) (space-is m p parts born notes is)
 
 pub cell-is : (m : Memory) (p : ℕ) (parts : List (Part Segment)) (born : set.FinSet nat_cmp) (notes : Notes) (q : ℕ) → finite.get m.spaces p ≡ Some parts
-    → finite.get (cells_of (flat_memory m born notes) p) q ≡ option_map (cell_of (place_contents (page_value m.world notes) m.world.maps)) (at parts q)
+    → finite.get (cells_of (flat_memory m born notes) p) q ≡ option_map (cell_of (place_contents (page_value m.world notes) m.world.maps)) (piece_at parts q)
 cell-is m p parts born notes q is = ap (λ (s : Space). finite.get s q) (cells-are m p parts born notes is) ∙ get-space_with (contents_of m.world notes).place parts q
 
 -- the pages of a zero object whose map has the places that it had

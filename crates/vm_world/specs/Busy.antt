@@ -9,7 +9,7 @@ use Rattle.anon_map.specs.Maps.{Map}
 use Rattle.anon_slots.specs.Slots.{Slots}
 use Rattle.block_device.specs.DiskSeen.{DiskSeen}
 use Rattle.hat_layer.specs.Pool.{Pool}
-use Rattle.page_clock.specs.Clock.{fresh}
+use Rattle.page_clock.specs.Clock.{fresh_clock}
 use Rattle.page_lock.specs.Rows.{clear_row}
 use Rattle.page_store.specs.Bays.{missing, out}
 use Rattle.page_store.specs.Notes.{Note}
@@ -50,7 +50,7 @@ busy_store page = record {
   cached = [];
   bays = missing ∷ missing ∷ missing ∷ missing ∷ missing ∷ missing ∷ missing ∷ missing ∷ out 1 ∷ [];
   order = [];
-  clock = fresh 2 1;
+  clock = fresh_clock 2 1;
 }
 
 -- The third page has a translation, through which it was written.

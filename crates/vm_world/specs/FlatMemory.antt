@@ -9,7 +9,7 @@ use Rattle.vm_types.specs.declared.call.Object.TheVariants as object
 use Rattle.vnode_files.specs.declared.vnode.FileInfo.{FileInfo}
 use Rattle.vnode_files.specs.Vnode.{VnodeSeen}
 use Rattle.addr_space.specs.Space.{Part}
-use Rattle.addr_space.specs.Pages.{pages_of}
+use Rattle.addr_space.specs.Pages.{pages_of_parts}
 use Rattle.anon_map.specs.Maps.{places_of}
 use Rattle.page_store.specs.Notes.{Notes}
 use Rattle.flat_model.specs.Words.{Page, zero_page, pages_in}
@@ -51,7 +51,7 @@ cell_of held x = record { prot = x.0.prot; max = x.0.max; kind = x.0.kind; objec
 
 -- The cells of a process.
 abbrev pub space_with : (ℕ → ℕ → Option Page) → List (Part Segment) → Space
-space_with held parts = map_with (cell_of held) (pages_of parts)
+space_with held parts = map_with (cell_of held) (pages_of_parts parts)
 
 -- So many pages, from place k on.
 abbrev pub pages_from : (ℕ → Page) → ℕ → ℕ → List Page

@@ -7,7 +7,7 @@ use Rattle.vm_types.specs.Prot.{is_within}
 use Rattle.vm_types.specs.declared.call.Kind.{Kind}
 use Rattle.vm_types.specs.declared.call.Kind.TheVariants.{Shared, Private}
 use Rattle.vm_types.specs.declared.call.Object.TheVariants as object
-use Rattle.addr_space.specs.Space.{Part, IsPlaced, part_at, begins, put, cut_at, without, with_piece, page_total}
+use Rattle.addr_space.specs.Space.{Part, LiesFrom, part_at, begins, put, cut_at, without_part, with_new_piece, page_total}
 use Rattle.anon_map.specs.Maps.{Map, IsUnused, AreEmpty, places_of, holders_of}
 use Rattle.page_store.specs.Notes.{Notes}
 use Rattle.flat_model.specs.Access.{with_space}
@@ -38,7 +38,7 @@ upper_pages n number s = record s { pages = s.pages - n; index = s.index + n; ow
 -- A part is cut in two before a page: its own map is cut, and what the upper part has is the new map; the map of the zero object that it shows has a
 -- holder more.
 abbrev pub parts_cut : ℕ → ℕ → Part Segment → List (Part Segment) → List (Part Segment)
-parts_cut page number x parts = cut_at page (upper_pages (page - x.first) number x.piece) (with_piece page (first_pages (page - x.first) x.piece) parts)
+parts_cut page number x parts = cut_at page (upper_pages (page - x.first) number x.piece) (with_new_piece page (first_pages (page - x.first) x.piece) parts)
 
 abbrev pub with_part_cut : Memory → ℕ → ℕ → ℕ → List (Part Segment) → Part Segment → Memory
 with_part_cut m p page number parts x =
@@ -52,7 +52,7 @@ abbrev pub places_left : List (Option Map) → Segment → ℕ
 places_left maps s = places_released maps s.own + places_released (maps_released maps s.own) s.shown
 
 abbrev pub with_part_gone : Memory → ℕ → List (Part Segment) → Part Segment → Memory
-with_part_gone m p parts x = with_segments m (maps_left m.world.maps x.piece) (m.world.anon.reserved - places_left m.world.maps x.piece) p (without x.first parts)
+with_part_gone m p parts x = with_segments m (maps_left m.world.maps x.piece) (m.world.anon.reserved - places_left m.world.maps x.piece) p (without_part x.first parts)
 
 -- A part may go: none of its pages has a translation, and the maps that go with it hold no slot.
 pub record MayLeave (m : Memory) (p : ℕ) (x : Part Segment) : Type 0 where
@@ -68,7 +68,7 @@ IsOwnNew maps s Private = (number : ℕ) × (s.own ≡ Some number) × IsUnused 
 -- A part has a place among others: no page of it has a cell, its pages have numbers in its object, and what may be done there lies within the most that
 -- may be.
 pub record HasPlace (parts : List (Part Segment)) (x : Part Segment) : Type 0 where
-  pub placed : IsPlaced 1 x
+  pub placed : LiesFrom 1 x
   pub pages : x.pages ≡ x.piece.pages
   pub end : x.piece.index + x.piece.pages < 2 ^ 32
   pub within : is_within x.piece.prot x.piece.max ≡ true

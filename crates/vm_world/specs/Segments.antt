@@ -7,7 +7,7 @@ use Rattle.vm_types.specs.declared.call.Object.{Object}
 use Rattle.vm_types.specs.declared.call.Object.TheVariants as object
 use Rattle.page_hash.specs.declared.PageName.{PageName}
 use Rattle.anon_map.specs.Maps.{Map}
-use Rattle.addr_space.specs.Space.{Part, at}
+use Rattle.addr_space.specs.Space.{Part, piece_at}
 pub use Rattle.vm_world.specs.declared.segment.Segment.{Segment}
 use Rattle.vm_world.specs.World.{slot_in, file_name, slot_name}
 
@@ -21,7 +21,7 @@ Spaces = finite.FinMap nat_cmp (List (Part Segment))
 
 -- The segment that has a page of a process, and the page's place in it.
 abbrev pub spot_at : Spaces → ℕ → ℕ → Option Spot
-spot_at spaces process page = option_and_then (λ parts. at parts page) (finite.get spaces process)
+spot_at spaces process page = option_and_then (λ parts. piece_at parts page) (finite.get spaces process)
 
 -- The segments of all processes.
 abbrev pub segments_of : Spaces → List Segment

@@ -5,8 +5,8 @@ use Rattle.std.specs.FinSet as set
 use Rattle.std.specs.Ordering.{nat_cmp}
 use Rattle.vm_types.specs.declared.call.Kind.TheVariants.{Shared}
 use Rattle.vm_types.specs.declared.call.Object.TheVariants as object
-use Rattle.addr_space.specs.Space.{Part, IsPlaced, part_at, begins, put, cut_at, without, with_piece, page_total}
-use Rattle.addr_space.specs.Pages.{pages_of}
+use Rattle.addr_space.specs.Space.{Part, LiesFrom, part_at, begins, put, cut_at, without_part, with_new_piece, page_total}
+use Rattle.addr_space.specs.Pages.{pages_of_parts}
 use Rattle.hat_layer.specs.Pool as pool
 use Rattle.hat_layer.specs.declared.translation.Translation.{Translation}
 use Rattle.page_store.specs.Notes.{Notes}
@@ -40,7 +40,7 @@ file_cell s i = record { prot = s.prot; max = s.max; kind = s.kind; object = s.o
 
 -- The cells of parts that are such segments.
 abbrev pub file_space : List (Part Segment) → Space
-file_space parts = map_with (λ (x : Spot). file_cell x.0 x.1) (pages_of parts)
+file_space parts = map_with (λ (x : Spot). file_cell x.0 x.1) (pages_of_parts parts)
 
 -- The first pages of a segment, and those from a place on.
 abbrev pub first_pages : ℕ → Segment → Segment
@@ -51,11 +51,11 @@ later_pages n s = record s { pages = s.pages - n; index = s.index + n }
 
 -- The parts, with the one that has the page cut in two before it.
 abbrev pub cut_before : ℕ → Part Segment → List (Part Segment) → List (Part Segment)
-cut_before page p parts = cut_at page (later_pages (page - p.first) p.piece) (with_piece page (first_pages (page - p.first) p.piece) parts)
+cut_before page p parts = cut_at page (later_pages (page - p.first) p.piece) (with_new_piece page (first_pages (page - p.first) p.piece) parts)
 
 -- None of so many pages of a process, from the first on, has a translation.
 abbrev pub AreUnloaded : List (Option Translation) → ℕ → ℕ → ℕ → Type 0
-AreUnloaded places p first n = (q : ℕ) → first ≤ q → q < first + n → pool.at places p q ≡ None
+AreUnloaded places p first n = (q : ℕ) → first ≤ q → q < first + n → pool.translation_at places p q ≡ None
 
 -- Memory with these parts of a process, and without a process.
 abbrev pub with_space_parts : Memory → ℕ → List (Part Segment) → Memory
@@ -82,12 +82,12 @@ pub record SpaceRule : Type 0 where
       → ChangesSpace p m (with_space_parts m p (cut_before page part parts)) (λ F. F)
   pub remove : (m : Memory) (p first : ℕ) (parts : List (Part Segment)) (part : Part Segment) → MemoryFits m → OnlyFiles m.spaces → finite.get m.spaces p ≡ Some parts
       → begins parts first ≡ Some part → AreUnloaded m.world.hat.places p first part.pages
-      → ChangesSpace p m (with_space_parts m p (without first parts)) (λ F. with_space F p (without_range (cells_of F p) first part.pages))
+      → ChangesSpace p m (with_space_parts m p (without_part first parts)) (λ F. with_space F p (without_range (cells_of F p) first part.pages))
   pub put : (m : Memory) (p : ℕ) (parts : List (Part Segment)) (part : Part Segment) → MemoryFits m → OnlyFiles m.spaces → finite.get m.spaces p ≡ Some parts
-      → IsPlaced 1 part → SegmentFits (length m.world.files.files) m.world.maps part → IsFileMapping part.piece
+      → LiesFrom 1 part → SegmentFits (length m.world.files.files) m.world.maps part → IsFileMapping part.piece
       → ((q : ℕ) → part.first ≤ q → q < part.first + part.pages → part_at parts q ≡ None)
       → ChangesSpace p m (with_space_parts m p (put part parts)) (λ F. with_space F p (with_cells (cells_of F p) part.first part.pages (file_cell part.piece)))
-  pub leave : (m : Memory) (p : ℕ) → MemoryFits m → OnlyFiles m.spaces → ((q : ℕ) → pool.at m.world.hat.places p q ≡ None)
+  pub leave : (m : Memory) (p : ℕ) → MemoryFits m → OnlyFiles m.spaces → ((q : ℕ) → pool.translation_at m.world.hat.places p q ≡ None)
       → ChangesSpace p m (without_space m p) (λ F. without_process F p)
   pub keeps : (p : ℕ) (old new : World) (spaces : Spaces) → MemoryFits (record { world = old; spaces = spaces }) → OnlyFiles spaces
       → WorldStep old new spaces stays (λ name. false)

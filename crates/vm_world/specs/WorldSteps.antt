@@ -3,7 +3,7 @@ use Rattle.std.specs.Prelude.{◌≡◌, ◌↔◌, ◌-◌, ℕ, Bool, List, ma
 use Rattle.block_device.specs.DiskSeen.{DiskSeen}
 use Rattle.page_hash.specs.declared.PageName.{PageName}
 use Rattle.page_store.specs.Bays.{BaySeen, home, out, bay_at}
-use Rattle.page_store.specs.Bytes.{clipped}
+use Rattle.page_store.specs.Bytes.{clip}
 use Rattle.page_store.specs.Notes.{Note, Notes, with_note}
 use Rattle.vnode_files.specs.Files.{vnode_at}
 use Rattle.vnode_files.specs.Vnode.{VnodeSeen}
@@ -48,7 +48,7 @@ pub record KeepsTables (old new : World) : Type 0 where
 
 -- A page, or the page with zeros past its valid bytes.
 abbrev pub cut_page : Bool → ℕ → Page → Page
-cut_page cut valid page = if cut then clipped valid page else page
+cut_page cut valid page = if cut then clip valid page else page
 
 -- THE FRAME RULE. Memory and the notes fit after the step where they did before, and disks tell where they did; and each page that exists keeps its value,
 -- but that the names of taken frames may be cut at their valid bytes. These pages are whole.

@@ -140,10 +140,10 @@ tests block blocks =
     else header_tests_2 block ++ file_tests_2 block blocks)
 
 -- What a block says: a block of zeros is the empty table; otherwise it says the table of its fields where every rule holds, else the first rule that fails.
-abbrev pub told_by : List ℕ → ℕ → Option ℕ → Result TableSeen BadVolume
-told_by block blocks None = Ok (table_in block blocks)
-told_by block blocks (Some rule) = Err (record { rule = rule })
+abbrev pub table_or_rule : List ℕ → ℕ → Option ℕ → Result TableSeen BadVolume
+table_or_rule block blocks None = Ok (table_in block blocks)
+table_or_rule block blocks (Some rule) = Err (record { rule = rule })
 
 unfoldable pub reading : List ℕ → ℕ → Result TableSeen BadVolume
 reading block blocks =
-    if are_zeros block then Ok (empty_table blocks) else told_by block blocks (first_failed (tests block blocks))
+    if are_zeros block then Ok (empty_table blocks) else table_or_rule block blocks (first_failed (tests block blocks))

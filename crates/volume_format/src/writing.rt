@@ -12,7 +12,7 @@ use vnode_files::{Extent, FileInfo, FileName};
 /// Writes a table as block 0, in version 2. It takes no memory.
 pub fn encode(table: &Table, into: &mut [u8])
     requires { length into.old ≡ 4096 }
-    ensures exact { into.new ≡ encoding table.now }
+    ensures new { into.new ≡ encoding table.now }
     ensures told { IsVolumeTable table.now → reading into.new table.now.blocks ≡ Ok table.now }
 {
     clear(into);

@@ -1,6 +1,6 @@
 use Rattle.std.proofs.Common.{◌≡◌, ℕ, ◌+◌, ◌-◌, cond, List, None, sym, ap, ◌∙◌, subst}
 use Rattle.std.specs.FinMap as finite
-use Rattle.addr_space.specs.Space.{Part, part, at, put}
+use Rattle.addr_space.specs.Space.{Part, part, piece_at, put}
 use Rattle.flat_model.specs.Access.{with_space}
 use Rattle.flat_model.specs.Mapping.{prot_read, prot_read_write}
 use Rattle.flat_model.specs.Space.{in_range}
@@ -55,7 +55,7 @@ returns-clause-done g c = λ spaces fits.
     let index = c.page_of.ensures in
     replaced m p c.args.space.now.parts b left c.insert.new.self.parts (world_seen c.clear.new.world) q fits c.requires.due c.requires.numbers.offset c.requires.numbers.length files
     (λ k. c.cut-2.ensures.cells k ∙ c.cut.ensures.cells k ∙ ap (λ (ps : List (Part Segment)). cell_of_parts ps k) c.reserve.ensures.parts)
-    (λ k. c.clear.ensures.pages k ∙ (λ i. cond (in_range (e i) (e i + n i - e i) k) None (at b k)))
+    (λ k. c.clear.ensures.pages k ∙ (λ i. cond (in_range (e i) (e i + n i - e i) k) None (piece_at b k)))
     all
     (c.insert.ensures.parts ∙ ap (λ (s : Segment). put (part c.page_of-first.result c.pages_in-pages.result s) left) c.new-segment.ensures
     ∙ (λ i. put (part (e i) (n i) (record { pages = n i; prot = q.prot; max = most i; kind = Shared; object = File q.file; index = index i; own = None; shown = None })) left))

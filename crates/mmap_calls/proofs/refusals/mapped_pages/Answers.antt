@@ -1,10 +1,10 @@
 use Rattle.std.proofs.Common.{◌≡◌, ◌-◌, ◌+◌, ap, sym, ◌∙◌, arith}
-use Rattle.mmap_calls.specs.FileMaps.{mapped_in}
+use Rattle.mmap_calls.specs.FileMaps.{mapped_pages}
 use Rattle.mmap_calls.proofs.Counted.{mapped-few, mapped-next}
 use Rattle.mmap_calls.proofs.refusals.mapped_pages.Goals as goal
 
 pub loop-page-init : goal.loop-page-init
-loop-page-init c = let e : c.args.first - c.args.first ≡ 0 = omega arith in ap (mapped_in c.args.space.now.parts c.args.first) (sym e)
+loop-page-init c = let e : c.args.first - c.args.first ≡ 0 = omega arith in ap (mapped_pages c.args.space.now.parts c.args.first) (sym e)
 
 pub overflow_add-count : goal.overflow_add-count
 overflow_add-count c =
@@ -29,4 +29,4 @@ returns c =
     let most = c.loop-page.auto.page-end in
     let high = c.requires in
     let n : c.loop-page.page - c.args.first ≡ c.args.pages = let e = most (omega arith) in omega (arith, past, e) in
-    c.loop-page.invariant ∙ ap (mapped_in c.args.space.now.parts c.args.first) n
+    c.loop-page.invariant ∙ ap (mapped_pages c.args.space.now.parts c.args.first) n

@@ -1,5 +1,5 @@
 use Rattle.std.proofs.Common.{◌≡◌, ℕ, ◌+◌, ◌-◌, ◌*◌, ◌%◌, ◌<◌, inl, inr, arith, sym, ◌∙◌, ap, subst}
-use Rattle.page_clock.specs.Clock.{next_pick, place_of, fresh, after}
+use Rattle.page_clock.specs.Clock.{next_pick, place_of, fresh_clock, clock_after}
 use Rattle.page_clock.specs.declared.Pick.{Pick}
 use Rattle.page_clock.specs.declared.Pick.TheVariants.{Front, Back}
 use Rattle.page_clock.proofs.ClockLemmas.{after-even, after-odd, even-or-odd, ahead-below, ahead-back, back-ahead, IsAhead}
@@ -28,14 +28,14 @@ returns-in-Front-clause-once c number within at =
           let m = half.0 in
           let lt : m < F = omega arith in
           let picks : Front m ≡ Front c.in-Front.frame =
-          sym (ap next_pick (ap (λ (k : ℕ). after k (fresh F D)) e ∙ after-even F D m lt)) ∙ at ∙ c.in-Front.is in
+          sym (ap next_pick (ap (λ (k : ℕ). clock_after k (fresh_clock F D)) e ∙ after-even F D m lt)) ∙ at ∙ c.in-Front.is in
           let same : m ≡ c.in-Front.frame = cc in
           e ∙ ap (λ (k : ℕ). 2 * k) same
       | inr e ↦
           let m = half.0 in
           let lt : m < F = omega arith in
           let picks : Back ((m + F - D) % F) ≡ Front c.in-Front.frame =
-          sym (ap next_pick (ap (λ (k : ℕ). after k (fresh F D)) e ∙ after-odd F D m lt)) ∙ at ∙ c.in-Front.is in
+          sym (ap next_pick (ap (λ (k : ℕ). clock_after k (fresh_clock F D)) e ∙ after-odd F D m lt)) ∙ at ∙ c.in-Front.is in
           absurd (cc)
     ]
 
@@ -59,13 +59,13 @@ returns-in-Back-clause-once c number within at =
           let m = half.0 in
           let lt : m < F = omega arith in
           let picks : Front m ≡ Back c.in-Back.frame =
-          sym (ap next_pick (ap (λ (k : ℕ). after k (fresh F D)) e ∙ after-even F D m lt)) ∙ at ∙ c.in-Back.is in
+          sym (ap next_pick (ap (λ (k : ℕ). clock_after k (fresh_clock F D)) e ∙ after-even F D m lt)) ∙ at ∙ c.in-Back.is in
           absurd (cc)
       | inr e ↦
           let m = half.0 in
           let lt : m < F = omega arith in
           let picks : Back ((m + F - D) % F) ≡ Back c.in-Back.frame =
-          sym (ap next_pick (ap (λ (k : ℕ). after k (fresh F D)) e ∙ after-odd F D m lt)) ∙ at ∙ c.in-Back.is in
+          sym (ap next_pick (ap (λ (k : ℕ). clock_after k (fresh_clock F D)) e ∙ after-odd F D m lt)) ∙ at ∙ c.in-Back.is in
           let place : (m + F - D) % F ≡ c.in-Back.frame = cc in
           let same : m ≡ c.place_ahead.result =
           back-ahead F D c.in-Back.frame c.place_ahead.result m c.requires.within (back_within c) lt (is_ahead c) place in

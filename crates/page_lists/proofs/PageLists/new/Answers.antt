@@ -8,7 +8,7 @@ push_back-requires-clause-absent c = range-ends c.loop-frame.free c.args.frames 
 
 pub loop-frame-preserved : goal.loop-frame-preserved
 loop-frame-preserved c = record {
-  free = range-pushed c.loop-frame.free c.push_back.new.self c.args.frames c.loop-frame.frame c.loop-frame.invariant.free c.push_back.ensures.appended;
+  free = range-pushed c.loop-frame.free c.push_back.new.self c.args.frames c.loop-frame.frame c.loop-frame.invariant.free c.push_back.ensures.new;
   cached = c.loop-frame.invariant.cached;
 }
 

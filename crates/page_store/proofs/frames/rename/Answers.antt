@@ -7,11 +7,11 @@ use Rattle.page_store.proofs.frames.rename.Goals as goal
 
 pub enter-requires-clause-absent : goal.enter-requires-clause-absent
 enter-requires-clause-absent c =
-    ap (λ (names : List (Option PageName)). find names c.args.name) c.forget.ensures.emptied
+    ap (λ (names : List (Option PageName)). find names c.args.name) c.forget.ensures.new
     ∙ absent-emptied c.args.names.now c.args.frame c.args.name c.requires.within c.requires.absent
 
-pub returns-clause-entered : goal.returns-clause-entered
-returns-clause-entered c =
+pub returns-clause-new : goal.returns-clause-new
+returns-clause-new c =
     c.enter.ensures.new
-    ∙ ap (λ (names : List (Option PageName)). set names c.args.frame (Some c.args.name)) c.forget.ensures.emptied
+    ∙ ap (λ (names : List (Option PageName)). set names c.args.frame (Some c.args.name)) c.forget.ensures.new
     ∙ set-set c.args.names.now c.args.frame None (Some c.args.name)

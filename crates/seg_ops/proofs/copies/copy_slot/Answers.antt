@@ -1,5 +1,5 @@
 use Rattle.std.proofs.Common.{◌≡◌, None, Some, sym, ap, ◌∙◌, subst, slice_set}
-use Rattle.hat_layer.specs.Pool.{at}
+use Rattle.hat_layer.specs.Pool.{translation_at}
 use Rattle.page_hash.specs.Names.{find, is_name}
 use Rattle.page_store.specs.Steps.{next_name, home_bytes}
 use Rattle.anon_map.specs.Maps.{places_of, with_places}
@@ -36,7 +36,7 @@ returns-clause-changes g c = λ spaces p q x fits owns unloaded.
     let new = world_seen c.make_copy.new.world in
     let from = slot_name c.args.slot in
     let left = c.leave_slot.ensures.empties spaces p q x fits owns unloaded in
-    let none = ap (λ hat. at hat.places p q) left.hat ∙ unloaded in
+    let none = ap (λ hat. translation_at hat.places p q) left.hat ∙ unloaded in
     let copied = c.make_copy.ensures.changes spaces p q x left.memory owns none in
     changes-again w spaces p q x (home_bytes w.store (find w.store.names from)) owns.here (own-home w spaces p q c.args.map c.args.place c.args.slot x fits c.requires.holds owns c.requires.source.0 c.requires.source.1)
     mid new (tails_lost w (is_name (next_name w.store)))

@@ -1,6 +1,6 @@
 use Rattle.std.proofs.Common.{◌≡◌, None, Some, sym, ap, ◌∙◌, subst, slice_set}
 use Rattle.std.specs.Prelude.{IfSome}
-use Rattle.hat_layer.specs.Pool.{at}
+use Rattle.hat_layer.specs.Pool.{translation_at}
 use Rattle.core_arena.specs.Bytes.{zeros}
 use Rattle.page_hash.specs.Names.{is_name}
 use Rattle.page_store.specs.Seen.{StoreSeen}
@@ -48,7 +48,7 @@ returns-clause-changes g c = λ spaces p q x fits owns unloaded.
     let mid = world_seen c.leave_slot.new.world in
     let new = world_seen c.make_zero.new.world in
     let left = c.leave_slot.ensures.empties spaces p q x fits owns unloaded in
-    let none = ap (λ hat. at hat.places p q) left.hat ∙ unloaded in
+    let none = ap (λ hat. translation_at hat.places p q) left.hat ∙ unloaded in
     let made = c.make_zero.ensures.owned spaces p q x left.memory owns none in
     changes-again w spaces p q x zeros owns.here (own-blank w spaces p q c.args.map c.args.place c.args.slot x fits c.requires.holds owns c.requires.absent c.requires.blank) mid new (tails_lost w (is_name (next_name w.store)))
     (c.leave_slot.ensures.changes spaces p q x fits owns unloaded)

@@ -3,7 +3,7 @@ use Rattle.std.specs.Prelude.{option_map, IfSome}
 use Rattle.hat_layer.specs.declared.translation.Dropped.{Dropped}
 use Rattle.hat_layer.specs.Pool.{dropped_by_load, told_of, fresh_translation}
 use Rattle.page_store.specs.Laws.{StaysInPlace}
-use Rattle.page_store.specs.Moves.{only}
+use Rattle.page_store.specs.Moves.{is_only}
 use Rattle.vm_world.specs.World.{world_seen}
 use Rattle.seg_ops.specs.Steps.{with_dropped_gathered}
 use Rattle.seg_ops.proofs.Loads.{install-keeps, dropped-within}
@@ -28,4 +28,4 @@ returns-clause-keeps g c = λ spaces fits leads.
     install-keeps w spaces c.gather.new.store c.load-dropped.new.self p.0 (fresh_translation c.args.space c.args.page c.args.frame c.args.writable) (dropped_by_load w.hat c.args.space c.args.page) fits leads p.2 p.3
     c.load-dropped.ensures.frames c.load-dropped.ensures.distinct
     (c.gather.ensures.new ∙ ap (with_dropped_gathered w.store) c.load-dropped.ensures.stolen)
-    (subst (λ (o : Option Dropped). IfSome o (λ d. StaysInPlace w.store c.gather.new.store (only (Some d.frame)))) c.load-dropped.ensures.stolen c.gather.ensures.laws)
+    (subst (λ (o : Option Dropped). IfSome o (λ d. StaysInPlace w.store c.gather.new.store (is_only (Some d.frame)))) c.load-dropped.ensures.stolen c.gather.ensures.laws)

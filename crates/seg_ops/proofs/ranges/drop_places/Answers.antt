@@ -1,5 +1,5 @@
 use Rattle.std.proofs.Common.{◌≡◌, ◌+◌, ◌-◌, ℕ, suc, None, refl, sym, ap, ◌∙◌, subst, arith, slice_set}
-use Rattle.hat_layer.specs.Pool.{at}
+use Rattle.hat_layer.specs.Pool.{translation_at}
 use Rattle.anon_map.specs.Maps.{places_of, with_places}
 use Rattle.vm_world.specs.CallSteps.{ChangesMemory}
 use Rattle.vm_world.specs.World.{world_seen}
@@ -66,7 +66,7 @@ loop-place-preserved g c =
       changes = λ spaces p first fits owns.
           let before = c.loop-place.invariant.changes spaces p first fits owns in
           let own = owns-next old.hat.places (world_seen cur) spaces p first m from (c.args.end - from) k before.memory owns (omega (arith, lt, low)) in
-          let none = ap (λ (w : World g.row.D.Denot). at w.hat.places p (first + k)) c.loop-place.invariant.rest ∙ owns.unloaded (first + k) (omega arith) (omega (arith, lt, low)) in
+          let none = ap (λ (w : World g.row.D.Denot). translation_at w.hat.places p (first + k)) c.loop-place.invariant.rest ∙ owns.unloaded (first + k) (omega arith) (omega (arith, lt, low)) in
           let one = c.empty_place.ensures.changes spaces p (first + k) (owns.segment, from + k) before.memory (subst (λ (i : ℕ). OwnsAlone spaces p (first + k) m i (owns.segment, from + k)) (sym at_place) own) none in
           subst (λ (n : ℕ). ChangesMemory p (memory_of (world_seen old) spaces) (memory_of (world_seen new) spaces) (λ F G. G ≡ without_own_pages F p first n)) next
           (changes-more p first k (memory_of (world_seen old) spaces) (memory_of (world_seen cur) spaces) (memory_of (world_seen new) spaces) before one);

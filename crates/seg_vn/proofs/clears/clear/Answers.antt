@@ -1,6 +1,6 @@
 use Rattle.std.proofs.Common.{ℕ, Bool, cond, List, None, refl, sym, ap, ◌∙◌, subst, arith}
 use Rattle.std.specs.FinMap as finite
-use Rattle.addr_space.specs.Space.{Part, at}
+use Rattle.addr_space.specs.Space.{Part, piece_at}
 use Rattle.addr_space.proofs.PartLists.{pages-step, pages-end}
 use Rattle.flat_model.specs.Access.{with_space}
 use Rattle.vm_world.specs.SpaceSteps.{AreUnloaded, ChangesSpace, file_space}
@@ -15,7 +15,7 @@ pub loop-first-init : goal.loop-first-init
 loop-first-init g c = record {
   low = c.requires.range;
   high = omega arith;
-  pages = λ q. sym (ap (λ (b : Bool). cond b None (at c.args.space.now.parts q)) (none-out c.args.end q));
+  pages = λ q. sym (ap (λ (b : Bool). cond b None (piece_at c.args.space.now.parts q)) (none-out c.args.end q));
   changes = λ spaces fits. same-parts (record { world = world_seen c.args.world.now; spaces = spaces }) c.args.process c.args.space.now.parts fits.memory fits.files fits.here;
   spare = omega arith;
   rest = refl;
@@ -50,7 +50,7 @@ loop-first-preserved g c =
     record {
       low = found.0;
       high = omega (arith, below, high);
-      pages = λ q. ap (λ (ps : List (Part Segment)). at ps q) c.remove.ensures.parts
+      pages = λ q. ap (λ (ps : List (Part Segment)). piece_at ps q) c.remove.ensures.parts
           ∙ pages-step c.args.space.now.parts now c.loop-first.top c.args.end k gone.part order high below inv.pages c.requires.high found.1 gone.is q;
       changes = λ spaces fits.
           let done = inv.changes spaces fits in

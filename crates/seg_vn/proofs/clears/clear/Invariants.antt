@@ -1,6 +1,6 @@
 use Rattle.std.proofs.Common.{◌≡◌, ◌≤◌, ◌-◌, ℕ, None, cond}
 use Rattle.std.specs.FinMap as finite
-use Rattle.addr_space.specs.Space.{at}
+use Rattle.addr_space.specs.Space.{piece_at}
 use Rattle.flat_model.specs.Access.{with_space}
 use Rattle.flat_model.specs.Space.{in_range}
 use Rattle.vm_world.specs.Segments.{Spaces}
@@ -16,7 +16,7 @@ abbrev pub invariant-loop-first : goal.invariant-loop-first
 invariant-loop-first g l = record {
   low : l.fn.from ≤ l.top;
   high : l.top ≤ l.fn.end;
-  pages : (q : ℕ) → at l.space.parts q ≡ cond (in_range l.top (l.fn.end - l.top) q) None (at l.fn.space.parts q);
+  pages : (q : ℕ) → piece_at l.space.parts q ≡ cond (in_range l.top (l.fn.end - l.top) q) None (piece_at l.fn.space.parts q);
   changes : (spaces : Spaces) → SpaceFits (world_seen l.fn.world) spaces l.fn.process l.fn.space.parts → ChangesSpace l.fn.process (record { world = world_seen l.fn.world; spaces = spaces })
       (record { world = world_seen l.world; spaces = finite.insert spaces l.fn.process l.space.parts }) (λ F. with_space F l.fn.process (file_space l.space.parts));
   spare : l.fn.space.spare ≤ l.space.spare;

@@ -1,6 +1,6 @@
 use Rattle.std.proofs.Common.{ℕ, Option, sym, ap, ◌∙◌, subst}
 use Rattle.std.specs.Prelude.{IsSome, option_map}
-use Rattle.hat_layer.specs.Pool.{at, told_of}
+use Rattle.hat_layer.specs.Pool.{translation_at, told_of}
 use Rattle.page_hash.specs.Names.{is_name}
 use Rattle.page_store.specs.Steps.{next_name}
 use Rattle.vm_world.specs.StateSteps.{PendsTails}
@@ -15,22 +15,22 @@ free_next-requires g c = record { fits = (c.requires.fits.0, (c.drop_translation
 pub returns-clause-available : goal.returns-clause-available
 returns-clause-available g c =
     let s = c.args.world.now.store in
-    subst (λ (o : Option ℕ). IsSome o) (sym (c.free_next.ensures.same ∙ gathered-next s c.drop_translation.new.world.store (option_map told_of (at c.args.world.now.hat.places c.args.space c.args.page)) c.drop_translation.ensures.store)) c.requires.available
+    subst (λ (o : Option ℕ). IsSome o) (sym (c.free_next.ensures.same ∙ gathered-next s c.drop_translation.new.world.store (option_map told_of (translation_at c.args.world.now.hat.places c.args.space c.args.page)) c.drop_translation.ensures.store)) c.requires.available
 
 pub returns-clause-gone : goal.returns-clause-gone
-returns-clause-gone g c = ap (λ v. at v.hat.places c.args.space c.args.page) c.free_next.ensures.rest ∙ c.drop_translation.ensures.gone
+returns-clause-gone g c = ap (λ v. translation_at v.hat.places c.args.space c.args.page) c.free_next.ensures.rest ∙ c.drop_translation.ensures.gone
 
 pub returns-clause-homes : goal.returns-clause-homes
 returns-clause-homes g c = λ page frame home unlisted.
     c.free_next.ensures.homes page frame (c.drop_translation.ensures.stay page ∙ home)
-    (λ l. unlisted (gathered-listed c.args.world.now.store c.drop_translation.new.world.store (option_map told_of (at c.args.world.now.hat.places c.args.space c.args.page)) c.drop_translation.ensures.store frame l))
+    (λ l. unlisted (gathered-listed c.args.world.now.store c.drop_translation.new.world.store (option_map told_of (translation_at c.args.world.now.hat.places c.args.space c.args.page)) c.drop_translation.ensures.store frame l))
 
 pub returns-clause-absent : goal.returns-clause-absent
 returns-clause-absent g c = λ page none. c.free_next.ensures.absent page (c.drop_translation.ensures.stay page ∙ none)
 
 pub returns-clause-lists : goal.returns-clause-lists
 returns-clause-lists g c = λ frame l.
-    gathered-listed c.args.world.now.store c.drop_translation.new.world.store (option_map told_of (at c.args.world.now.hat.places c.args.space c.args.page)) c.drop_translation.ensures.store frame (c.free_next.ensures.lists frame l)
+    gathered-listed c.args.world.now.store c.drop_translation.new.world.store (option_map told_of (translation_at c.args.world.now.hat.places c.args.space c.args.page)) c.drop_translation.ensures.store frame (c.free_next.ensures.lists frame l)
 
 pub returns-clause-takes : goal.returns-clause-takes
 returns-clause-takes g c = λ spaces fits.
@@ -40,5 +40,5 @@ returns-clause-takes g c = λ spaces fits.
     let keeps = c.drop_translation.ensures.keeps spaces fits in
     let pends = subst (λ (k : ℕ). PendsTails mid (is_name (next_name mid.store)) k c.free_next.new.world.pending) (ap (λ v. v.pending) c.drop_translation.ensures.rest) c.free_next.ensures.pends in
     takes-later old mid new spaces c.args.world.now.pending c.free_next.new.world.pending fits keeps
-    (gathered-same old.store mid.store (option_map told_of (at c.args.world.now.hat.places c.args.space c.args.page)) c.drop_translation.ensures.store) (ap (λ v. v.files) c.drop_translation.ensures.rest)
+    (gathered-same old.store mid.store (option_map told_of (translation_at c.args.world.now.hat.places c.args.space c.args.page)) c.drop_translation.ensures.store) (ap (λ v. v.files) c.drop_translation.ensures.rest)
     (takes-next mid new spaces c.args.world.now.pending c.free_next.new.world.pending (c.free_next.ensures.step spaces keeps.memory) pends c.free_next.ensures.took)

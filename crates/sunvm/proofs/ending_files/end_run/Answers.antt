@@ -1,14 +1,14 @@
 use Rattle.std.proofs.Common.{◌≡◌, ◌∙◌, ℕ, List, ap, length, map}
 use Rattle.std.proofs.lemmas.List.{length-map}
 use Rattle.page_store.specs.Bays.{pairs_seen}
-use Rattle.sunvm.proofs.DiskLists.{seen-bare}
+use Rattle.sunvm.proofs.DiskLists.{seen-bare_disks}
 use Rattle.sunvm.proofs.ending_files.end_run.Goals as goal
 
 pub returns-clause-ends : goal.returns-clause-ends
 returns-clause-ends g c =
     let new = c.close-ending.new.finished.disks.items in (
       pairs_seen g.D.Disk.seen new,
-      ap (map g.D.Disk.seen) c.bare_disks.ensures ∙ seen-bare g.D.Disk.seen new,
+      ap (map g.D.Disk.seen) c.bare_disks.ensures ∙ seen-bare_disks g.D.Disk.seen new,
       c.close-ending.ensures.ends,
     )
 

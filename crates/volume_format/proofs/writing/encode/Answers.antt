@@ -25,8 +25,8 @@ written c =
     (omega (arith, size, count, c.put_entries.ensures.size, c.entries.ensures.room.files))
     (omega (arith, length-flat_map-same extent_bytes 8 length-extent_bytes (all_extents t.entries), c.entries.ensures.room.extents))
 
-pub returns-clause-exact : goal.returns-clause-exact
-returns-clause-exact c = written (goal.at.returns-clause-exact c).After-put_extents
+pub returns-clause-new : goal.returns-clause-new
+returns-clause-new c = written (goal.at.returns-clause-new c).After-put_extents
 
 pub returns-clause-told : goal.returns-clause-told
 returns-clause-told c = λ volume.

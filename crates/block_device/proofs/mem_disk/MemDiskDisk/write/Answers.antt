@@ -1,6 +1,6 @@
 use Rattle.std.proofs.Common.{ap, refl, arith, Some, true, false, ◌∙◌, List, ℕ}
 use Rattle.block_device.specs.MemDiskLook.{look}
-use Rattle.block_device.specs.MemSeen.{torn}
+use Rattle.block_device.specs.MemSeen.{torn_block}
 use Rattle.block_device.proofs.BlockLemmas.{blocks_seen-set, spoils, size_kept, bytes_at, written_as}
 use Rattle.block_device.proofs.CallLemmas.{calls_risen, faults_risen, faults_later, faults_same}
 use Rattle.block_device.proofs.mem_disk.MemDiskDisk.write.Goals as goal
@@ -14,11 +14,11 @@ returns-then-fails-clause-writes c = record {
   cause = record { later = faults_later c.args.self.now.calls c.count.new.self c.lists_next-fails.result c.count.ensures c.if-fails.true; failed = faults_risen c.args.self.now.calls c.count.new.self c.lists_next-fails.result c.count.ensures c.if-fails.true };
 }
 
-pub returns-then-fails-clause-after : goal.returns-then-fails-clause-after
-returns-then-fails-clause-after c =
+pub returns-then-fails-clause-new : goal.returns-then-fails-clause-new
+returns-then-fails-clause-new c =
     written_as (look c.args.self.now) true c.lists_next-fails.result c.args.block c.args.from.now c.write_half.new.self.bytes _ c.count.new.self c.one_more-self.result
     (blocks_seen-set c.args.self.now.blocks.items c.args.block c.write_half.new.self c.write_half.new.self.bytes refl)
-    (c.write_half.ensures ∙ ap (λ (old : List ℕ). torn old c.args.from.now) (bytes_at c.args.self.now.blocks.items c.args.block c.index_mut.result.now c.requires.block c.index_mut.ensures.value))
+    (c.write_half.ensures ∙ ap (λ (old : List ℕ). torn_block old c.args.from.now) (bytes_at c.args.self.now.blocks.items c.args.block c.index_mut.result.now c.requires.block c.index_mut.ensures.value))
     c.count.ensures c.if-fails.true c.one_more-self.ensures
 
 pub returns-clause-writes : goal.returns-clause-writes
@@ -30,8 +30,8 @@ returns-clause-writes c = record {
   cause = record { later = omega (arith, faults_same c.args.self.now.calls c.count.new.self c.lists_next-fails.result c.count.ensures c.if-fails.false); failed = tt };
 }
 
-pub returns-clause-after : goal.returns-clause-after
-returns-clause-after c =
+pub returns-clause-new : goal.returns-clause-new
+returns-clause-new c =
     written_as (look c.args.self.now) false c.lists_next-fails.result c.args.block c.args.from.now c.write.new.self.bytes _ c.count.new.self c.one_more-self.result
     (blocks_seen-set c.args.self.now.blocks.items c.args.block c.write.new.self c.write.new.self.bytes refl)
     c.write.ensures

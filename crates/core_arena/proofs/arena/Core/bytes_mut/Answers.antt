@@ -4,7 +4,7 @@ use Rattle.std.specs.Option.{option_map, option_copied_mut}
 use denote.RawPtr.{InBlock}
 use Rattle.core_arena.specs.Origin.{origin_of}
 use Rattle.core_arena.specs.Seen.{CoreSeen}
-use Rattle.core_arena.specs.Bytes.{bytes_at, overwritten}
+use Rattle.core_arena.specs.Bytes.{bytes_at, slice_after_write}
 use Rattle.core_arena.proofs.PageLemmas.{IsHomePage, home-page, placed-on, sound-set, seen-overwritten}
 use Rattle.core_arena.proofs.arena.Core.bytes_mut.Goals as goal
 use Rattle.core_arena.proofs.arena.Core.bytes_mut.Goals.{In-Some}
@@ -24,7 +24,7 @@ pub invariant_of-self-lent : goal.invariant_of-self-lent
 invariant_of-self-lent c = λ w.
     let h = home ((goal.at.invariant_of-self-lent c).In-Some) in
     let page = c.in-Some.page.now in
-    sound-set c.self.inside.region.base c.self.inside.region.frames c.self.inside.pages.items c.self.inside.shell c.args.i (Some (record { at = page.at; bytes = overwritten page.bytes w })) c.self.invariant
+    sound-set c.self.inside.region.base c.self.inside.region.frames c.self.inside.pages.items c.self.inside.shell c.args.i (Some (record { at = page.at; bytes = slice_after_write page.bytes w })) c.self.invariant
     (h.at, sym (length_refill (length page.bytes) page.bytes w refl) ∙ h.size)
 
 pub returns : goal.returns
@@ -34,7 +34,7 @@ returns c =
         refl,
         λ w.
             ap (λ frames. record { origin = origin_of c.self.inside.region.base c.self.inside.region.frames; frames = frames }) (seen-overwritten c.self.inside.pages.items c.args.i c.in-Some.page.now w h.seen)
-            ∙ ap (λ (k : CoreSeen). record k { frames = slice_set k.frames c.args.i (option_map (λ (bytes : List ℕ). overwritten bytes w) (bytes_at k.frames c.args.i)) }) c.self.view_is,
+            ∙ ap (λ (k : CoreSeen). record k { frames = slice_set k.frames c.args.i (option_map (λ (bytes : List ℕ). slice_after_write bytes w) (bytes_at k.frames c.args.i)) }) c.self.view_is,
       ),
       record {
         writes_back = tt;

@@ -34,10 +34,10 @@ use denote.Triple.Clauses.{Clauses, Ended, closing}
 use denote.Triple.Spec.{Meets, triple_of}
 use denote.Triple.Table.{entered}
 use denote.Triple.Walked.{says, Stays, stay_dropped, walk_of, ends_at, walk_Meets, Goes-dropped, Goes-spent_ref}
-use Rattle.core_arena.specs.Bytes.{overwritten}
+use Rattle.core_arena.specs.Bytes.{slice_after_write}
 use Rattle.core_arena.specs.Ownership.{stretch_owns}
 use Rattle.core_arena.specs.contracts.region.Stretch as Stretch
-use Rattle.core_arena.proofs.BytesLemmas.{overwritten-whole}
+use Rattle.core_arena.proofs.BytesLemmas.{slice_after_write-whole}
 use Rattle.core_arena.proofs.Walks.{plainly, big_lit}
 use Rattle.core_arena.proofs.Vecs.{to_cells, of_cells}
 use Rattle.core_arena.specs.contracts.region.Stretch.bytes_mut as F
@@ -69,13 +69,13 @@ module _ {M : Type 1} {𝓤 : Ura M} (𝓛 : Logic 𝓤) (at_mem : Memory → SP
 
   module _ (s : S.Denot) (b o rb ro : ℕ) (vs : List Val) where
     abbrev new : List ℕ → S.Denot
-    new ws = record { at = s.at; bytes = overwritten s.bytes ws }
+    new ws = record { at = s.at; bytes = slice_after_write s.bytes ws }
 
     back : s.at ≡ block_ptr b o → (ws : List ℕ) → length ws ≡ length s.bytes → ent 𝓤 (sep 𝓤 (sem 𝓛 (cells (mem u8) ws b o)) (sem 𝓛 (Rest vs rb ro))) (sem 𝓛 ((mem S).own_at (new ws) rb ro))
     unfolding part_of
     back at ws same =
         qed 𝓛 (‵ (cells (mem u8) ws b o) ∷ ‵ (Rest vs rb ro) ∷ []) ∵ use1 𝓛 (‵ (bytes full_share ws b o)) (of_cells 𝓛 ws b o) $
-        rewrite ! 0 (λ (l : List ℕ). ‵ (bytes full_share l b o)) (sym (overwritten-whole s.bytes ws same)) refl $
+        rewrite ! 0 (λ (l : List ℕ). ‵ (bytes full_share l b o)) (sym (slice_after_write-whole s.bytes ws same)) refl $
         rewrite ! 0 (λ (p : Ptr). ‵ (stretch_owns p (new ws).bytes)) (sym at) refl $ move ! (1 ∷ []) $ fsplit ! $ move ! (0 ∷ 2 ∷ []) $ fjoin ! $ move ! (1 ∷ 0 ∷ []) $ fjoin ! $
         fpack ! (List Val) (λ us. fsep (cell_at full_share S.mir us rb ro) (S.own_val (new ws) us)) vs $ done !
 

@@ -1,7 +1,7 @@
 use Rattle.std.proofs.Common.{◌≡◌, ◌∙◌, ℕ, ◌+◌, ◌/◌, ◌%◌, ap, sym, subst, arith}
 use Rattle.std.specs.Prelude.{IsSome, map}
 use Rattle.flat_model.specs.Flat.{Flat, IsFlat, space_of}
-use Rattle.flat_model.specs.Access.{changed_at}
+use Rattle.flat_model.specs.Access.{with_change_at}
 use Rattle.flat_model.specs.Parts.{without_tail}
 use Rattle.flat_model.specs.Cells.{flat_file}
 use Rattle.flat_model.specs.Step.{IsDue, IsUnborn, after_act, tails_cleared}
@@ -40,7 +40,7 @@ returns-then-mask-eq0-2-clause-next t c = next_of _ _ _ c.act_cleared.result c.a
 
 -- flat memory with zeros in the file's tail
 abbrev with_zeros : Flat → ℕ → Flat
-with_zeros F n = record F { files = changed_at without_tail F.files n }
+with_zeros F n = record F { files = with_change_at without_tail F.files n }
 
 pub act_cleared-acts-requires : goal.act_cleared-acts-requires
 act_cleared-acts-requires t c =
@@ -49,7 +49,7 @@ act_cleared-acts-requires t c =
     let same = ap (with_files (flat_of c.self.inside)) c.in_ok-last_page.ensures.ok ∙ ap (λ (G : Flat). with_zeros G c.args.number) c.self.view_is in
     let flat = subst IsFlat (sym same) (IsFlat-tail_cleared F c.args.number c.requires.flat) in
     let alive = subst (λ (G : Flat). IsSome (space_of G p)) (sym same) c.requires.alive in
-    let unborn = subst (λ (G : Flat). IsUnborn G c.args.entry.now.call) (sym same) (unborn_over F (changed_at without_tail F.files c.args.number) c.args.entry.now.call c.requires.unborn) in
+    let unborn = subst (λ (G : Flat). IsUnborn G c.args.entry.now.call) (sym same) (unborn_over F (with_change_at without_tail F.files c.args.number) c.args.entry.now.call c.requires.unborn) in
     let less = c.decreases in
     let some = c.if-mask-eq0.false in
     let fits = c.requires.fits in

@@ -1,7 +1,7 @@
 use Rattle.std.proofs.Common.{◌≡◌, Bool, true, cond, Option, Some, None, List, sym, ◌∙◌, ap, subst, set, refl}
 use Rattle.std.specs.Prelude.{option_map}
 use Rattle.hat_layer.specs.declared.translation.Translation.{Translation}
-use Rattle.hat_layer.specs.Pool.{Pool, lets_access, frame_let, frame_for, after_access, change_at, at, IsSingleValued}
+use Rattle.hat_layer.specs.Pool.{Pool, lets_access, frame_let, frame_for, after_access, change_at, translation_at, IsSingleValued}
 use Rattle.hat_layer.proofs.HatLemmas.{at-none, at-held, changes-held}
 use Rattle.hat_layer.proofs.MapLaws.{at-change_at, noted-access}
 use Rattle.hat_layer.proofs.hat.Hat.access.Goals.{After-lets_access}
@@ -13,10 +13,10 @@ returns-in_err-place-clause-frame c =
     ∙ ap (frame_let c.args.write) (at-none c.self.inside.table.places c.args.space c.args.page c.in_err-place.ensures.found))
 
 -- the translation that was found
-found : (c : After-lets_access) → at c.args.self.now.places c.args.space c.args.page ≡ Some c.in_ok-place.old
+found : (c : After-lets_access) → translation_at c.args.self.now.places c.args.space c.args.page ≡ Some c.in_ok-place.old
 found c =
     let h = c.in_ok-place.ensures.found in
-    ap (λ (p : Pool). at p.places c.args.space c.args.page) (sym c.self.view_is) ∙ at-held c.self.inside.table.places c.args.space c.args.page c.in_ok-place.place c.in_ok-place.old h.0 h.1 h.2
+    ap (λ (p : Pool). translation_at p.places c.args.space c.args.page) (sym c.self.view_is) ∙ at-held c.self.inside.table.places c.args.space c.args.page c.in_ok-place.place c.in_ok-place.old h.0 h.1 h.2
 
 -- the frame, by whether it lets the access
 frame : (c : After-lets_access) (b : Bool) → c.lets_access.result ≡ b → frame_for c.args.self.now.places c.args.space c.args.page c.args.write ≡ cond b (Some c.in_ok-place.old.frame) None
@@ -36,7 +36,7 @@ returns-clause-places c =
     ∙ sym (ap (λ (p : List (Option Translation)). change_at c.args.space c.args.page (after_access c.args.write) p) (sym v) ∙ changes-held (option_map (after_access c.args.write)) c.self.inside.table.places c.args.space c.args.page c.in_ok-place.place c.in_ok-place.old h.0 h.1 h.2)
 
 pub returns-clause-map : goal.returns-clause-map
-returns-clause-map c = λ s p. ap (λ (l : List (Option Translation)). at l s p) (returns-clause-places c)
+returns-clause-map c = λ s p. ap (λ (l : List (Option Translation)). translation_at l s p) (returns-clause-places c)
     ∙ at-change_at (after_access c.args.write) c.args.self.now.places c.args.space c.args.page s p (λ t. refl) (subst IsSingleValued (ap (λ (p : Pool). p.places) c.self.view_is) c.in_ok-place.ensures.distinct)
 
 pub returns-clause-noted : goal.returns-clause-noted

@@ -1,11 +1,11 @@
 use Rattle.std.proofs.Common.{Option, List, Bool, sym, ◌∙◌, ap, subst}
 use Rattle.hat_layer.specs.declared.translation.Translation.{Translation}
-use Rattle.hat_layer.specs.Pool.{Pool, at, IsSingleValued, bits_of, drop_frame}
+use Rattle.hat_layer.specs.Pool.{Pool, translation_at, IsSingleValued, bits_of, drop_frame}
 use Rattle.hat_layer.proofs.MapLaws.{at-drop_frame, some-has, has-some}
 use Rattle.hat_layer.proofs.hat.Hat.page_unload.Goals as goal
 
 pub returns-clause-map : goal.returns-clause-map
-returns-clause-map c = λ s p. ap (λ (l : List (Option Translation)). at l s p) (c.unload_all.ensures.places ∙ ap (λ (l : List (Option Translation)). drop_frame c.args.frame l) (ap (λ (p : Pool). p.places) c.self.view_is))
+returns-clause-map c = λ s p. ap (λ (l : List (Option Translation)). translation_at l s p) (c.unload_all.ensures.places ∙ ap (λ (l : List (Option Translation)). drop_frame c.args.frame l) (ap (λ (p : Pool). p.places) c.self.view_is))
     ∙ at-drop_frame c.args.self.now.places c.args.frame s p (subst IsSingleValued (ap (λ (p : Pool). p.places) c.self.view_is) c.unload_all.ensures.was)
 
 pub returns-clause-referenced : goal.returns-clause-referenced

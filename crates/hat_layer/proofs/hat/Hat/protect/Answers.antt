@@ -1,7 +1,7 @@
 use Rattle.std.proofs.Common.{Option, Some, List, sym, ◌∙◌, ap, subst, set, refl}
 use Rattle.std.specs.Prelude.{option_map}
 use Rattle.hat_layer.specs.declared.translation.Translation.{Translation}
-use Rattle.hat_layer.specs.Pool.{Pool, without_write, change_at, at, IsSingleValued}
+use Rattle.hat_layer.specs.Pool.{Pool, without_write, change_at, translation_at, IsSingleValued}
 use Rattle.hat_layer.proofs.HatLemmas.{changes-held, changes-none}
 use Rattle.hat_layer.proofs.MapLaws.{at-change_at}
 use Rattle.hat_layer.proofs.hat.Hat.protect.Goals as goal
@@ -19,11 +19,11 @@ returns-in_default-clause-places c =
     sym (ap (λ (p : List (Option Translation)). change_at c.args.space c.args.page without_write p) (sym v) ∙ changes-none (option_map without_write) c.self.inside.table.places c.args.space c.args.page c.in_default.ensures.found ∙ v)
 
 pub returns-in-Some-clause-map : goal.returns-in-Some-clause-map
-returns-in-Some-clause-map c = λ s p. ap (λ (l : List (Option Translation)). at l s p) (returns-in-Some-clause-places c)
+returns-in-Some-clause-map c = λ s p. ap (λ (l : List (Option Translation)). translation_at l s p) (returns-in-Some-clause-places c)
     ∙ at-change_at without_write c.args.self.now.places c.args.space c.args.page s p (λ t. refl) (subst IsSingleValued (ap (λ (p : Pool). p.places) c.self.view_is) c.in-Some.ensures.distinct)
 
 pub returns-in_default-clause-map : goal.returns-in_default-clause-map
-returns-in_default-clause-map c = λ s p. ap (λ (l : List (Option Translation)). at l s p) (returns-in_default-clause-places c)
+returns-in_default-clause-map c = λ s p. ap (λ (l : List (Option Translation)). translation_at l s p) (returns-in_default-clause-places c)
     ∙ at-change_at without_write c.args.self.now.places c.args.space c.args.page s p (λ t. refl) (subst IsSingleValued (ap (λ (p : Pool). p.places) c.self.view_is) c.in_default.ensures.distinct)
 
 pub returns-in_default-clause-distinct : goal.returns-in_default-clause-distinct

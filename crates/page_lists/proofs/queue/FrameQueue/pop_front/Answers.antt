@@ -8,4 +8,4 @@ remove-requires c = first-within c.self.inside.first c.self.inside.last c.self.i
 pub returns-clause-first : goal.returns-clause-first
 returns-clause-first c = λ f e.
     let q : c.in_ok-frame.frame ≡ f = cc in
-    first-off c.args.self.now c.remove.new.self c.in_ok-frame.frame f (first-ahead c.self.inside.first c.self.inside.last c.self.inside.next.items c.self.inside.previous.items c.self.inside.listed.items c.args.self.now c.in_ok-frame.frame c.self.invariant c.self.view_is c.in_ok-frame.was) c.remove.ensures.order q
+    first-off c.args.self.now c.remove.new.self c.in_ok-frame.frame f (first-ahead c.self.inside.first c.self.inside.last c.self.inside.next.items c.self.inside.previous.items c.self.inside.listed.items c.args.self.now c.in_ok-frame.frame c.self.invariant c.self.view_is c.in_ok-frame.was) c.remove.ensures.new q

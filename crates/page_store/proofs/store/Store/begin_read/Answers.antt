@@ -51,7 +51,7 @@ is g c =
     record {
       next = next;
       bytes = bytes;
-      new = rw (n, c.take-frame.ensures.new, c.take_frame-at.ensures.rest, c.rename.ensures.entered, c.reserve.ensures, c.take.ensures.new) (ap (λ (x : StoreSeen). with_read_begun x c.take_frame-at.result c.args.name c.args.seat c.args.disk) c.self.view_is);
+      new = rw (n, c.take-frame.ensures.new, c.take_frame-at.ensures.rest, c.rename.ensures.new, c.reserve.ensures, c.take.ensures.new) (ap (λ (x : StoreSeen). with_read_begun x c.take_frame-at.result c.args.name c.args.seat c.args.disk) c.self.view_is);
       laws = begins-read c.args.self.now (flight g c) sound next (absent-is c.args.self.now c.args.name sound c.requires.can.1) (ap (λ (x : StoreSeen). bay_at x.bays c.args.disk) (sym c.self.view_is) ∙ c.take.ensures.disk) refl
           (c.take-frame.ensures.origin ∙ ap (λ (x : StoreSeen). x.origin) c.self.view_is) bytes;
     }

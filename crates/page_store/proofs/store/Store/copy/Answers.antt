@@ -35,7 +35,7 @@ is g c =
       sound = sound;
       next = next;
       page = page;
-      new = rw (c.take_frame-frame.ensures.rest, c.rename.ensures.entered, c.reset.ensures, c.copy_frame.ensures, there) (ap (λ (x : StoreSeen). with_frame_filled x c.take_frame-frame.result c.args.to page.bytes true) c.self.view_is);
+      new = rw (c.take_frame-frame.ensures.rest, c.rename.ensures.new, c.reset.ensures, c.copy_frame.ensures, there) (ap (λ (x : StoreSeen). with_frame_filled x c.take_frame-frame.result c.args.to page.bytes true) c.self.view_is);
       laws = fills-frame c.args.self.now c.take_frame-frame.result c.args.to page.bytes true sound next absent (home-size c.args.self.now c.args.from c.in-Some.source sound page)
           (λ notes table. value c.args.self.now notes table c.args.from) (λ notes table. home-value c.args.self.now c.args.from c.in-Some.source page notes table);
     }

@@ -29,7 +29,7 @@ is g c =
     record {
       sound = sound;
       next = next;
-      new = rw (c.take_frame-frame.ensures.rest, c.rename.ensures.entered, c.reset.ensures, c.zero_frame.ensures) (ap (λ (x : StoreSeen). with_frame_filled x c.take_frame-frame.result c.args.name zeros (c.args.name.object == 64)) c.self.view_is);
+      new = rw (c.take_frame-frame.ensures.rest, c.rename.ensures.new, c.reset.ensures, c.zero_frame.ensures) (ap (λ (x : StoreSeen). with_frame_filled x c.take_frame-frame.result c.args.name zeros (c.args.name.object == 64)) c.self.view_is);
       laws = fills-frame c.args.self.now c.take_frame-frame.result c.args.name zeros (c.args.name.object == 64) sound next absent refl (λ notes table. zeros) (λ notes table. refl);
     }
 

@@ -1,6 +1,6 @@
 use Rattle.std.proofs.Common.{◌≡◌, ℕ, None, refl, ap, ◌∙◌, inl, inr, arith}
 use Rattle.std.proofs.lemmas.Bool.{cases_eq}
-use Rattle.hat_layer.specs.Pool.{at, drop_page}
+use Rattle.hat_layer.specs.Pool.{translation_at, drop_page}
 use Rattle.vm_world.specs.World.{world_seen}
 use Rattle.vm_world.specs.declared.world.World.{World}
 use Rattle.seg_ops.proofs.Composed.{keeps-then, keeps-same}
@@ -19,10 +19,10 @@ drop_translation-requires g c = record { fits = (c.requires.fits.0, (c.loop-page
 
 pub loop-page-preserved : goal.loop-page-preserved
 loop-page-preserved g c =
-    let none = λ (s q : ℕ) (is : at c.loop-page.world.hat.places s q ≡ None). c.drop_translation.ensures.map s q ∙ ap (drop_page c.args.space c.loop-page.page) is in
+    let none = λ (s q : ℕ) (is : translation_at c.loop-page.world.hat.places s q ≡ None). c.drop_translation.ensures.map s q ∙ ap (drop_page c.args.space c.loop-page.page) is in
     record {
       gone = λ q low high. elim (cases_eq q c.loop-page.page) [
-        | inl same ↦ ap (at c.drop_translation.new.world.hat.places c.args.space) same ∙ c.drop_translation.ensures.gone
+        | inl same ↦ ap (translation_at c.drop_translation.new.world.hat.places c.args.space) same ∙ c.drop_translation.ensures.gone
         | inr apart ↦ none c.args.space q (c.loop-page.invariant.gone q low (omega (arith, high, apart)))
       ];
       none = λ s q is. none s q (c.loop-page.invariant.none s q is);

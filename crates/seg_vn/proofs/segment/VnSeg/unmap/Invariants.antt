@@ -1,5 +1,5 @@
 use Rattle.std.proofs.Common.{◌≡◌, ◌≤◌, ◌<◌, ℕ, None}
-use Rattle.hat_layer.specs.Pool.{at}
+use Rattle.hat_layer.specs.Pool.{translation_at}
 use Rattle.vm_world.specs.MemoryFits.{MemoryFits}
 use Rattle.vm_world.specs.Segments.{Spaces}
 use Rattle.vm_world.specs.World.{world_seen}
@@ -8,8 +8,8 @@ use Rattle.seg_vn.proofs.segment.VnSeg.unmap.Given as goal
 
 abbrev pub invariant-loop-page : goal.invariant-loop-page
 invariant-loop-page g l = record {
-  gone : (q : ℕ) → l.fn.first ≤ q → q < l.page → at l.world.hat.places l.fn.space q ≡ None;
-  none : (s q : ℕ) → at l.fn.world.hat.places s q ≡ None → at l.world.hat.places s q ≡ None;
+  gone : (q : ℕ) → l.fn.first ≤ q → q < l.page → translation_at l.world.hat.places l.fn.space q ≡ None;
+  none : (s q : ℕ) → translation_at l.fn.world.hat.places s q ≡ None → translation_at l.world.hat.places s q ≡ None;
   rest : l.world ≡ record l.fn.world { store = l.world.store; hat = l.world.hat };
   keeps : (spaces : Spaces) → MemoryFits (record { world = world_seen l.fn.world; spaces = spaces }) → KeepsPages (world_seen l.fn.world) (world_seen l.world) spaces;
 }

@@ -2,7 +2,7 @@ use Rattle.std.proofs.Common.{◌≡◌, ℕ, ◌≤◌, None, length, sym, ap, 
 use Rattle.vm_world.specs.Events.{IsEvent}
 use Rattle.vm_world.specs.State.{KernelState}
 use Rattle.vm_world.proofs.Told.{event_law}
-use Rattle.vm_core.specs.Calls.{concluded}
+use Rattle.vm_core.specs.Calls.{after_answer}
 use Rattle.vm_core.proofs.Served.{Concludes, concludes, served-is}
 use Rattle.vm_core.proofs.state.VmState.try_call.Given.{Over}
 use Rattle.vm_core.proofs.state.VmState.try_call.Goals.{After-conclude}
@@ -15,7 +15,7 @@ is g c =
     let s = c.args.self.now in
     let e = c.in_ok-attempt.ensures in
     subst (λ (t : KernelState). Concludes s t c.args.seat c.args.process c.args.call.now c.in_ok-attempt.attempt)
-    (sym (c.conclude.ensures.new ∙ ap (λ (x : KernelState). concluded x c.args.seat c.args.process c.args.call.now c.in_ok-attempt.attempt) e.rest))
+    (sym (c.conclude.ensures.new ∙ ap (λ (x : KernelState). after_answer x c.args.seat c.args.process c.args.call.now c.in_ok-attempt.attempt) e.rest))
     (concludes b.0 s b.1 c.serve.new.self.memory c.args.seat c.args.process c.serve.new.self.pending c.args.call.now c.in_ok-attempt.attempt b.2 b.3 (served-is c.args.call.now c.requires.served) c.requires.may c.requires.formed e.serves e.alive e.own
     (λ reply done. subst (λ (x : KernelState). c.args.process ≤ length x.syncs) e.rest (c.conclude.ensures.seated reply done)))
 
