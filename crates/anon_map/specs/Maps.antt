@@ -43,6 +43,10 @@ AllThere maps = (number : ℕ) → number < length maps → IsMapThere maps numb
 abbrev pub AreEmpty : List (Option ℕ) → Type 0
 AreEmpty places = (i : ℕ) → slice_index_or places i None ≡ None
 
+-- how many of the numbers that were used name no map
+abbrev pub free_numbers : List (Option Map) → ℕ
+free_numbers maps = count_by is_none maps
+
 -- the maps with this one under a number that was used or is the next
 abbrev pub with_map : List (Option Map) → ℕ → Map → List (Option Map)
 with_map maps number map = if nat_lt number (length maps) then slice_set maps number (Some map) else maps ++ Some map ∷ []

@@ -1,9 +1,9 @@
 //! Anon maps: numbered arrays of optional slots, each with a count of holders.
 #![tactic(auto)]
 
-ghost use Rattle.std.specs.Prelude.{◌≡◌, ℕ, ◌+◌, ◌-◌, ◌^◌, ◌<◌, ◌≤◌, ◌↔◌, List, [], length, take, drop, Option, Some, None, IsTrue, IfOk, OnErr, slice_set, slice_index_or, slice_range, replicate};
+ghost use Rattle.std.specs.Prelude.{◌≡◌, ℕ, ◌+◌, ◌-◌, ◌^◌, ◌<◌, ◌≤◌, ◌↔◌, ◌++◌, List, [], length, vec_capacity, take, drop, Option, Some, None, IsTrue, IfOk, OnErr, slice_set, slice_index_or, slice_range, replicate};
 ghost use Rattle.std.specs.Bool.{OnTrue, OnFalse};
-ghost use Rattle.anon_map.specs.Maps.{Map, anon_map_at, places_of, holders_of, IsMapThere, IsUnused, AllThere, AreEmpty, fresh_map, with_map, with_places, with_holders};
+ghost use Rattle.anon_map.specs.Maps.{Map, anon_map_at, places_of, holders_of, IsMapThere, IsUnused, AllThere, AreEmpty, fresh_map, with_map, with_places, with_holders, free_numbers};
 
 mod map;
 #[cfg(test)]
@@ -172,6 +172,93 @@ impl AnonMaps {
             None => unreachable!(),
         }
         Ok(number)
+    }
+
+    /// Room for so many places, for `cut_into`. The only error is want of memory. Constant time.
+    pub fn room(&self, places: u32) -> Result<Vec<Option<u32>>, AllocError>
+        ensures empty { IfOk result (λ room. room.items ≡ []) }
+        ensures roomy { IfOk result (λ room. places ≤ vec_capacity room) }
+    {
+        Vec::with_capacity(self.alloc, places as usize)
+    }
+
+    /// So many places that hold no slot, for `put`. The only error is want of memory. Time and memory:
+    /// the places.
+    pub fn no_slots(&self, places: u32) -> Result<Vec<Option<u32>>, AllocError>
+        ensures { IfOk result (λ none. none.items ≡ replicate places None) }
+    {
+        vec![in self.alloc; None; places as usize]
+    }
+
+    /// Sees to it that so many numbers are free for `put` and `cut_into`. The only error is want of
+    /// memory, or of numbers; then nothing changed. Constant time where they are free, else amortized
+    /// the numbers.
+    pub fn reserve(&mut self, numbers: u32) -> Result<(), AllocError>
+        ensures free { IfOk result (λ _. numbers ≤ free_numbers self.new) }
+        ensures more { IfOk result
+            (λ _. (more : ℕ) × (self.new ≡ self.old ++ replicate more None)) }
+        ensures err { OnErr result (self.new ≡ self.old) }
+    {
+        let free = self.gone.len();
+        if free >= numbers as usize {
+            return Ok(());
+        }
+        let more = numbers as usize - free;
+        let last = self.maps.len() + more;
+        if last > u32::MAX as usize + 1 {
+            return Err(AllocError);
+        }
+        self.gone.reserve(last)?;
+        self.maps.reserve(more)?;
+        for number in self.maps.len()..last {
+            self.maps.push_reserved(None);
+            self.gone.push_reserved(number as u32);
+        }
+        Ok(())
+    }
+
+    /// A map with these places and one holder, under a number that was free. Takes no memory. Constant
+    /// time.
+    pub fn put(&mut self, places: Vec<Option<u32>>) -> u32
+        requires some { 0 < free_numbers self.old }
+        requires few { length places.items < 2 ^ 32 }
+        ensures unused { IsUnused self.old result }
+        ensures new { self.new ≡ with_map self.old result (fresh_map places.items) }
+        ensures free { free_numbers self.new + 1 ≡ free_numbers self.old }
+    {
+        let Some(number) = self.gone.pop() else {
+            unreachable!();
+        };
+        self.maps[number as usize] = Some(AnonMap::new(places));
+        number
+    }
+
+    /// As `cut`, with room for the later places that was taken before: takes no memory. Time: the
+    /// places that go over.
+    pub fn cut_into(&mut self, map: u32, at: u32, room: Vec<Option<u32>>) -> u32
+        requires there { IsMapThere self.old map }
+        requires alone { holders_of self.old map ≡ 1 }
+        requires within { at ≤ length (places_of self.old map) }
+        requires some { 0 < free_numbers self.old }
+        requires empty { room.items ≡ [] }
+        requires roomy { length (places_of self.old map) - at ≤ vec_capacity room }
+        // The two maps.
+        ensures unused { IsUnused self.old result }
+        ensures parted { self.new
+            ≡ with_places (with_map self.old result (fresh_map (drop at (places_of self.old map))))
+            map (take at (places_of self.old map)) }
+        ensures free { free_numbers self.new + 1 ≡ free_numbers self.old }
+    {
+        let mut later = room;
+        for place in at..self.pages(map) {
+            later.push_reserved(self.get(map, place));
+        }
+        let number = self.put(later);
+        match &mut self.maps[map as usize] {
+            Some(held) => held.truncate(at),
+            None => unreachable!(),
+        }
+        number
     }
 
     // The map of a number.

@@ -55,6 +55,22 @@ fn cut(maps: &mut AnonMaps, map: u32, at: u32) -> Result<u32, AllocError> {
     }
 }
 
+fn put(maps: &mut AnonMaps, pages: u32) -> Result<u32, AllocError> {
+    maps.reserve(1)?;
+    let places = maps.no_slots(pages)?;
+    Ok(maps.put(places))
+}
+
+fn cut_into(maps: &mut AnonMaps, map: u32, at: u32) -> Result<u32, AllocError> {
+    maps.reserve(1)?;
+    if maps.is_there(map) && maps.holders(map) == 1 && at <= maps.pages(map) {
+        let room = maps.room(maps.pages(map) - at)?;
+        Ok(maps.cut_into(map, at, room))
+    } else {
+        Ok(u32::MAX)
+    }
+}
+
 // How many places and holders a map has, and its first two places.
 fn shape(
     maps: &AnonMaps,
@@ -104,5 +120,30 @@ fn makes_copies_cuts_and_gives_up_maps(rt: HostRuntime) -> Result<(), AllocError
     for number in [1, 4, 5] {
         assert_eq!(rt; maps.make(1)?, number);
     }
+    Ok(())
+}
+
+#[test]
+fn puts_and_cuts_where_all_room_was_taken_before(rt: HostRuntime) -> Result<(), AllocError> {
+    let mut maps = AnonMaps::new(rt.alloc());
+    assert_eq!(rt; put(&mut maps, 3)?, 0);
+    assert_eq!(rt; shape(&maps, 0), Some((3, 1, Some(None), Some(None))));
+    assert!(rt; set(&mut maps, 0, 1, Some(7)));
+    assert!(rt; set(&mut maps, 0, 2, Some(9)));
+    assert_eq!(rt; cut_into(&mut maps, 0, 1)?, 1);
+    assert_eq!(rt; shape(&maps, 0), Some((1, 1, Some(None), None)));
+    assert_eq!(rt; shape(&maps, 1), Some((2, 1, Some(Some(7)), Some(Some(9)))));
+    assert_eq!(rt; cut_into(&mut maps, 1, 2)?, 2);
+    assert_eq!(rt; shape(&maps, 2), Some((0, 1, None, None)));
+
+    // Numbers that are free already are enough, and one that was given up is free.
+    maps.reserve(3)?;
+    assert_eq!(rt; release(&mut maps, 2), Some(true));
+    for pages in [1, 0, 4, 2] {
+        let number = put(&mut maps, pages)?;
+        assert!(rt; 2 <= number && number <= 5);
+        assert_eq!(rt; shape(&maps, number).map(|seen| seen.0), Some(pages));
+    }
+    assert_eq!(rt; put(&mut maps, 0)?, 6);
     Ok(())
 }

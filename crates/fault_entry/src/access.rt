@@ -35,7 +35,7 @@ pub(crate) enum Access {
 }
 
 /// Whether a protection lets a load, or a store.
-fn allows(prot: Prot, write: bool) -> bool
+fn may_access(prot: Prot, write: bool) -> bool
     ensures { result ≡ may_access write prot }
 {
     if write {
@@ -100,7 +100,7 @@ pub(crate) fn reach<D: Disk>(
     let Some((first, _pages, segment)) = space.find(page) else {
         return Access::Refused(Signal::NoMap);
     };
-    if !allows(segment.prot(), write) {
+    if !may_access(segment.prot(), write) {
         return Access::Refused(Signal::Prot);
     }
     if let Some(frame) = note(world, process, page, write) {

@@ -1,8 +1,9 @@
 -- The places of the pool, its free places and its hand.
 use Rattle.std.proofs.Common.{◌≡◌, ℕ, ◌+◌, ◌-◌, ◌<◌, ◌≤◌, ◌^◌, inl, inr, Bool, true, false, cond, Option, Some, None, List, [], ◌∷◌, ◌++◌, refl, sym, ◌∙◌, ap, subst, length, get_or, set, arith, zero, suc, length-append}
-use Rattle.std.specs.Prelude.{map, ◌==◌, replicate, option_and_then, find, is_some}
+use Rattle.std.specs.Prelude.{map, ◌==◌, replicate, option_and_then, find, is_some, Contains}
 use Rattle.std.specs.List.{list_any, list_all}
 use Rattle.std.proofs.lemmas.List.{get_or-set_same, get_or-set_other, get_or_append_left, get_or_push, get_or_default, length-replicate}
+use Rattle.std.proofs.lemmas.List.Elements.{Contains-append_left, Contains-get_or, Contains-push, Contains-push_cases}
 use Rattle.std.proofs.lemmas.List.Folds.{find_past}
 use Rattle.std.proofs.lemmas.Map.Steps.{length-le_from_distinct_below}
 use Rattle.std.proofs.lemmas.Map.Keys.{IsDistinct-from_apart}
@@ -94,13 +95,7 @@ module _ (places : List (Option Translation)) (room hand : ℕ) where
             get_or-set_other places place (get_or free i 0) (Some new) None (λ q. h.apart i (length free) l last (get_or_append_left free (place ∷ []) 0 i l ∙ q ∙ sym (get_or_push free place 0 (length free) refl))) ∙ e;
         all = λ k l e. elim (cases_eq k place) [
           | inl q ↦ let z : Some new ≡ None = sym (get_or-set_same places place (Some new) None lt) ∙ subst (λ (k : ℕ). get_or (set places place (Some new)) k None ≡ None) q e in cc
-          | inr ne ↦
-              let on = h.all k (omega arith) (sym (get_or-set_other places place k (Some new) None ne) ∙ e) in
-              let il = on.1.0 in
-              elim (cases_lt on.0 (length free)) [
-                | inl front ↦ (on.0, (front, sym (get_or_append_left free (place ∷ []) 0 on.0 front) ∙ on.1.1))
-                | inr back ↦ let q : on.0 ≡ length free = omega arith in absurd (ne (sym on.1.1 ∙ ap (λ (i : ℕ). get_or (free ++ place ∷ []) i 0) q ∙ get_or_push free place 0 (length free) refl))
-              ]
+          | inr ne ↦ elim (Contains-push_cases free place k (h.all k (omega arith) (sym (get_or-set_other places place k (Some new) None ne) ∙ e))) [ inl on ↦ on | inr q ↦ absurd (ne (sym q)) ]
         ];
         apart = λ i j l lj q. h.apart i j l (omega arith) (get_or_append_left free (place ∷ []) 0 i (omega arith) ∙ q ∙ sym (get_or_append_left free (place ∷ []) 0 j lj));
       }
@@ -146,8 +141,8 @@ module _ (places : List (Option Translation)) (room hand : ℕ) where
           | inr back ↦ let q : i ≡ length free = omega arith in subst (λ (k : ℕ). get_or (set places place None) k None ≡ None) (sym (ap (λ (i : ℕ). get_or (free ++ place ∷ []) i 0) q ∙ get_or_push free place 0 (length free) refl)) here
         ];
         all = λ k l e. elim (cases_eq k place) [
-          | inl q ↦ (length free, (omega arith, get_or_push free place 0 (length free) refl ∙ sym q))
-          | inr ne ↦ let on = h.all k (omega arith) (sym (get_or-set_other places place k None None ne) ∙ e) in let il = on.1.0 in (on.0, (omega arith, get_or_append_left free (place ∷ []) 0 on.0 il ∙ on.1.1))
+          | inl q ↦ subst (λ (j : ℕ). Contains (free ++ place ∷ []) j) (sym q) (Contains-push free place)
+          | inr ne ↦ Contains-append_left free (place ∷ []) k (h.all k (omega arith) (sym (get_or-set_other places place k None None ne) ∙ e))
         ];
         apart = λ i j l lj q.
             let fi : i < length free = omega arith in
@@ -227,7 +222,7 @@ pub choose-hand : (pool : Pool) (room hand' space page : ℕ) → IsSoundHat poo
 choose-hand pool room hand' space page h d f e =
     let a = at-none pool.places space page f in
     let lt = h.hand_in in
-    let full = full-true pool.places (λ k l z. let on = h.all k l z in let il = on.1.0 in omega arith) in
+    let full = full-true pool.places (λ k l z. let on = h.all k l z in let within = on.1 in omega arith) in
     record {
       within = lt;
       distinct = d;
@@ -265,7 +260,7 @@ hat-new pool room some few all =
       room_for_all = omega arith;
       within = λ i l. let a = countdown-at pool i (omega arith) in omega arith;
       empty = λ i l. empty-at pool (get_or (countdown pool) i 0);
-      all = λ k l e. (pool - (k + 1), (omega arith, let a = countdown-at pool (pool - (k + 1)) (omega arith) in omega arith));
+      all = λ k l e. let a = countdown-at pool (pool - (k + 1)) (omega arith) in subst (λ (j : ℕ). Contains (countdown pool) j) (omega arith) (Contains-get_or (countdown pool) (pool - (k + 1)) 0 (omega arith));
       apart = λ i j l lj q. let a = countdown-at pool i (omega arith) in let b = countdown-at pool j (omega arith) in omega arith;
     }
 

@@ -1,11 +1,7 @@
 -- The free places of a pool, and the hand that steals. Inside: no public clause cites this.
-use Rattle.std.specs.Prelude.{zero, suc, ◌≡◌, ◌≢◌, ℕ, ◌<◌, ◌≤◌, ◌^◌, ◌∷◌, [], List, Option, Some, None, false, length, slice_index_or, slice_index, slice_set}
+use Rattle.std.specs.Prelude.{zero, suc, ◌≡◌, ◌≢◌, ℕ, ◌<◌, ◌≤◌, ◌^◌, ◌∷◌, [], List, Option, Some, None, false, length, slice_index_or, slice_index, slice_set, Contains}
 use Rattle.hat_layer.specs.declared.translation.Translation.{Translation}
 use Rattle.hat_layer.specs.Pool.{Pool, IsSingleValued, holds, dropped_by_load, hand_after}
-
--- the stack has this place
-abbrev pub IsOn : List ℕ → ℕ → Type 0
-IsOn free k = (i : ℕ) × ((i < length free) × (slice_index free i ≡ k))
 
 -- the stack has the empty places, each once; the hand is at a place
 pub record IsSoundHat (places : List (Option Translation)) (free : List ℕ) (room hand : ℕ) : Type 0 where
@@ -14,7 +10,7 @@ pub record IsSoundHat (places : List (Option Translation)) (free : List ℕ) (ro
   pub room_for_all : length places ≤ room
   pub within : (i : ℕ) → i < length free → slice_index free i < length places
   pub empty : (i : ℕ) → i < length free → slice_index_or places (slice_index free i) None ≡ None
-  pub all : (k : ℕ) → k < length places → slice_index_or places k None ≡ None → IsOn free k
+  pub all : (k : ℕ) → k < length places → slice_index_or places k None ≡ None → Contains free k
   pub apart : (i j : ℕ) → i < j → j < length free → slice_index free i ≢ slice_index free j
 
 -- which place a load takes, and what stands once it has

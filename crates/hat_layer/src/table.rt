@@ -56,7 +56,7 @@ fn with_clear_bits(old: Translation) -> Translation
     }
 }
 
-fn is_held(cell: Option<Translation>, space: u32, page: u32) -> bool
+fn holds(cell: Option<Translation>, space: u32, page: u32) -> bool
     ensures { result ≡ holds space page cell }
 {
     match cell {
@@ -88,7 +88,7 @@ impl Table {
         let slot = slot_in(space, page, self.slots);
         let mut at = self.by_page.first(slot);
         while let Some(place) = at {
-            if is_held(self.cells[place as usize], space, page) {
+            if holds(self.cells[place as usize], space, page) {
                 return Some(place);
             }
             at = self.by_page.after(place);

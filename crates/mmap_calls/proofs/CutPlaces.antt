@@ -1,81 +1,151 @@
 -- A part that goes across the begin of a page is cut there.
-use Rattle.std.proofs.Common.{◌≡◌, ℕ, ◌+◌, ◌-◌, ◌<◌, Bool, true, false, cond, List, length, Option, Some, None, sym, ap, ◌∙◌, inl, inr, subst, arith}
-use Rattle.std.specs.Prelude.{option_map, IsSomeAnd}
-use Rattle.std.proofs.lemmas.Bool.{cases_Bool}
+use Rattle.std.proofs.Common.{◌≡◌, ℕ, ◌+◌, ◌-◌, ◌<◌, ◌≤◌, Bool, true, false, cond, List, length, Option, Some, None, refl, sym, ap, ◌∙◌, inl, inr, subst, arith}
+use Rattle.std.specs.Prelude.{option_map, IsSome, IsSomeAnd}
+use Rattle.std.specs.Option.{option_map_or}
+use Rattle.std.specs.FinMap as finite
+use Rattle.std.proofs.lemmas.Bool.{cases_Bool, cases_lt}
 use Rattle.addr_space.specs.Space.{Part, has, piece_at, part_at, cut_at, with_new_piece, upper_part, IsInOrder}
-use Rattle.addr_space.proofs.PartLemmas.{has-in, has-within, has-before, found-in}
-use Rattle.addr_space.proofs.PartLists.{all-found, at-found, found-with_new_piece, at-cut_both}
+use Rattle.addr_space.proofs.PageLaws.{shows}
+use Rattle.addr_space.proofs.PartLemmas.{has-in, has-within, found-in}
+use Rattle.addr_space.proofs.PartLists.{all-found, all-cut, at-found, found-with_new_piece, at-cut_both}
+use Rattle.flat_model.proofs.Ranges.{insert_same}
 use Rattle.vm_world.specs.CountsFit.{SegmentFits}
 use Rattle.vm_world.specs.Segments.{Spot, Spaces}
-use Rattle.vm_world.specs.SpaceSteps.{IsFileMapping, first_pages, later_pages, cut_before}
+use Rattle.vm_world.specs.SegmentSteps.{parts_cut, upper_pages}
+use Rattle.vm_world.specs.SpaceSteps.{first_pages}
+use Rattle.vm_world.specs.PlainSteps.{ShowNoZeros, ChangesSpace}
 use Rattle.vm_world.specs.World.{World}
 use Rattle.vm_world.specs.declared.segment.Segment.{Segment}
-use Rattle.seg_vn.specs.Clears.{SpaceFits, StartsAt}
+use Rattle.vm_world.proofs.PlainSteps.{plain-insert, space_rule}
+use Rattle.seg_ops.proofs.Composed.{keeps-same}
+use Rattle.seg_vn.specs.Clears.{SpaceFits, StartsAt, slots_at}
+use Rattle.seg_vn.specs.Cuts.{IsCutPart}
+use Rattle.mmap_calls.specs.Rooms.{HasRoomAt}
 
--- what is known of such a part
+-- a page lies within the part that has it
+pub record Within (page : ℕ) (x : Part Segment) : Type 0 where
+  pub from : x.first ≤ page
+  pub below : page < x.first + x.pages
+  pub pages : x.pages ≡ x.piece.pages
+
+pub within-part : (w : World) (spaces : Spaces) (p : ℕ) (parts : List (Part Segment)) (page : ℕ) (x : Part Segment) → SpaceFits w spaces p parts → part_at parts page ≡ Some x → Within page x
+within-part w spaces p parts page x fits found =
+    let within = has-within x page (found-in 1 parts page x (fits.memory.segments.ordered p parts fits.here) found).here in
+    record {
+      from = within.from;
+      below = within.below;
+      pages = (all-found (SegmentFits (length w.files.files) w.maps) parts page x (fits.memory.segments.each p parts fits.here) found).pages;
+    }
+
+-- what is known of a part that goes across the begin of a page
 pub record Across (page : ℕ) (x : Part Segment) : Type 0 where
   pub low : x.first < page
   pub high : page < x.first + x.pages
   pub pages : x.pages ≡ x.piece.pages
-  pub own : x.piece.own ≡ None
+  pub plain : x.piece.shown ≡ None
 
 pub across : (w : World) (spaces : Spaces) (p : ℕ) (parts : List (Part Segment)) (page : ℕ) (x : Part Segment) → SpaceFits w spaces p parts → part_at parts page ≡ Some x → (x.first ≡ page → ⊥) → Across page x
 across w spaces p parts page x fits found apart =
-    let order = fits.memory.segments.ordered p parts fits.here in
-    let within = has-within x page (found-in 1 parts page x order found).here in
+    let within = within-part w spaces p parts page x fits found in
     let from = within.from in
     record {
       low = omega (arith, from, apart);
       high = within.below;
-      pages = (all-found (SegmentFits (length w.files.files) w.maps) parts page x (fits.memory.segments.each p parts fits.here) found).pages;
-      own = (all-found (λ (y : Part Segment). IsFileMapping y.piece) parts page x (fits.files p parts fits.here) found).own;
+      pages = within.pages;
+      plain = all-found (λ (y : Part Segment). y.piece.shown ≡ None) parts page x (fits.plain p parts fits.here) found;
     }
 
 -- the piece that is lent is the part's
-pub same-piece : (parts : List (Part Segment)) (page : ℕ) (x : Part Segment) (s : Segment) → part_at parts page ≡ Some x → option_map (λ (p : Part Segment). p.piece) (part_at parts page) ≡ Some s → s ≡ x.piece
-same-piece parts page x s found lent = let z : Some s ≡ Some x.piece = sym lent ∙ ap (option_map (λ (p : Part Segment). p.piece)) found in cc
+pub same-piece : (parts : List (Part Segment)) (page : ℕ) (x : Part Segment) (s : Segment) → part_at parts page ≡ Some x → option_map (λ (p : Part Segment). p.piece) (part_at parts page) ≡ Some s → x.piece ≡ s
+same-piece parts page x s found lent = let z : Some x.piece ≡ Some s = sym (ap (option_map (λ (p : Part Segment). p.piece)) found) ∙ lent in cc
 
-pub cut-is : (new parts : List (Part Segment)) (page : ℕ) (x : Part Segment) (lower upper s : Segment) → new ≡ cut_at page upper (with_new_piece page lower parts) → lower ≡ first_pages (page - x.first) s → upper ≡ later_pages (page - x.first) s → s ≡ x.piece
-    → new ≡ cut_before page x parts
-cut-is new parts page x lower upper s is low up same =
-    is ∙ ap (λ (u : Segment). cut_at page u (with_new_piece page lower parts)) (up ∙ ap (later_pages (page - x.first)) same)
-    ∙ ap (λ (w : Segment). cut_at page (later_pages (page - x.first) x.piece) (with_new_piece page w parts)) (low ∙ ap (first_pages (page - x.first)) same)
+abbrev pub cut-part : (w : World) (spaces : Spaces) (p : ℕ) (parts : List (Part Segment)) (page : ℕ) (x : Part Segment) (s : Segment) → SpaceFits w spaces p parts → part_at parts page ≡ Some x → x.first < page → x.piece ≡ s → IsCutPart w spaces p page (page - x.first) s
+cut-part w spaces p parts page x s fits found low same = record { parts = parts; part = x; memory = fits.memory; here = fits.here; found = found; lies = low; place = refl; piece = same }
+
+pub room-here : (items : List (Option ℕ)) (room : ℕ) (parts : List (Part Segment)) (page : ℕ) (x : Part Segment) (s : Segment) → HasRoomAt items room parts page → part_at parts page ≡ Some x → x.piece ≡ s → IsSome s.own → s.pages - (page - x.first) ≤ room
+room-here items room parts page x s has found same = subst (λ (t : Segment). IsSome t.own → t.pages - (page - x.first) ≤ room) same (has.roomy (x.piece, page - x.first) (shows parts page (Some x) found))
+
+pub cut-is : (new parts : List (Part Segment)) (page number : ℕ) (x : Part Segment) (lower upper s : Segment) → new ≡ cut_at page upper (with_new_piece page lower parts) → lower ≡ first_pages (page - x.first) s → upper ≡ upper_pages (page - x.first) number s → x.piece ≡ s
+    → new ≡ parts_cut page number x parts
+cut-is new parts page number x lower upper s is low up same =
+    is ∙ ap (λ (u : Segment). cut_at page u (with_new_piece page lower parts)) (up ∙ ap (upper_pages (page - x.first) number) (sym same))
+    ∙ ap (λ (w : Segment). cut_at page (upper_pages (page - x.first) number x.piece) (with_new_piece page w parts)) (low ∙ ap (first_pages (page - x.first)) (sym same))
 
 pub across-with : (parts : List (Part Segment)) (page : ℕ) (x : Part Segment) (w : Segment) → part_at parts page ≡ Some x → x.first < page → IsSomeAnd (part_at (with_new_piece page w parts) page) (λ p. p.first < page)
 across-with parts page x w found low = subst (λ (o : Option (Part Segment)). IsSomeAnd o (λ p. p.first < page)) (sym (found-with_new_piece parts page w x found)) low
 
-module _ (page : ℕ) (parts : List (Part Segment)) (x : Part Segment) (order : IsInOrder 1 parts) (found : part_at parts page ≡ Some x) (a : Across page x) where
-  pub starts-cut : StartsAt (cut_before page x parts) page
-  starts-cut y is =
-      let u : Segment = later_pages (page - x.first) x.piece in
-      let high = a.high in
-      let here : has (upper_part page u x) page ≡ true = has-in (upper_part page u x) page (omega arith) (omega (arith, high)) in
-      let e = at-cut_both page (first_pages (page - x.first) x.piece) u parts x order found a.low page
-      ∙ ap (λ (b : Bool). cond b (Some (u, page - page)) (cond (has x page) (Some (first_pages (page - x.first) x.piece, page - x.first)) (piece_at parts page))) here in
-      let same : (u, page - page) ≡ y = let z : Some (u, page - page) ≡ Some y = sym e ∙ is in cc in
-      let n = ap (λ (y : Spot). y.1) same in
-      omega (arith, n)
+-- no part shows a zero object then either
+pub plain-cut : (spaces : Spaces) (p page number : ℕ) (parts : List (Part Segment)) (x : Part Segment) → ShowNoZeros spaces → finite.get spaces p ≡ Some parts → part_at parts page ≡ Some x → x.piece.shown ≡ None → ShowNoZeros (finite.insert spaces p (parts_cut page number x parts))
+plain-cut spaces p page number parts x plain here found none =
+    plain-insert spaces p (parts_cut page number x parts) plain
+    (all-cut (λ (y : Part Segment). y.piece.shown ≡ None) page (first_pages (page - x.first) x.piece) (upper_pages (page - x.first) number x.piece) parts x found (plain p parts here) none none)
 
-  pub starts-kept : (q : ℕ) → StartsAt parts q → StartsAt (cut_before page x parts) q
-  starts-kept q start y is =
-      let u : Segment = later_pages (page - x.first) x.piece in
-      let w : Segment = first_pages (page - x.first) x.piece in
-      let low = a.low in
-      let high = a.high in
-      let e = at-cut_both page w u parts x order found low q in
-      elim (cases_Bool (has x q)) [
-        | inl here ↦
-            let zero = start (x.piece, q - x.first) (at-found 1 parts page q x order found here) in
-            let from = (has-within x q here).from in
-            let out : has (upper_part page u x) q ≡ false = has-before (upper_part page u x) q (omega (arith, zero, from, low)) in
-            let z : Some (w, q - x.first) ≡ Some y = sym (e ∙ ap (λ (b : Bool). cond b (Some (u, q - page)) (cond (has x q) (Some (w, q - x.first)) (piece_at parts q))) out ∙ ap (λ (b : Bool). cond b (Some (w, q - x.first)) (piece_at parts q)) here) ∙ is in
-            let same : (w, q - x.first) ≡ y = cc in
-            let n = ap (λ (y : Spot). y.1) same in
-            omega (arith, n, zero)
-        | inr gone ↦
-            let out : has (upper_part page u x) q ≡ false = elim (cases_Bool (has (upper_part page u x) q)) [
-              | inr f ↦ f
-              | inl t ↦ absurd (let v = has-within (upper_part page u x) q t in let from = v.from in let below = v.below in let z : true ≡ false = sym (has-in x q (omega (arith, from, low)) (omega (arith, below, high))) ∙ gone in cc)
-            ] in
-            start y (sym (e ∙ ap (λ (b : Bool). cond b (Some (u, q - page)) (cond (has x q) (Some (w, q - x.first)) (piece_at parts q))) out ∙ ap (λ (b : Bool). cond b (Some (w, q - x.first)) (piece_at parts q)) gone) ∙ is)
+module _ (page number : ℕ) (parts : List (Part Segment)) (x : Part Segment) (order : IsInOrder 1 parts) (found : part_at parts page ≡ Some x) (a : Across page x) where
+  abbrev lower : Segment
+  lower = first_pages (page - x.first) x.piece
+
+  abbrev upper : Segment
+  upper = upper_pages (page - x.first) number x.piece
+
+  -- what a page has then: the upper piece, the lower one, or what it had
+  shows-cut : (P : Option Spot → Type 0) (q : ℕ) → (page ≤ q → has x q ≡ true → P (Some (upper, q - page))) → (q < page → has x q ≡ true → P (Some (lower, q - x.first))) → (has x q ≡ false → P (piece_at parts q)) → P (piece_at (parts_cut page number x parts) q)
+  shows-cut P q high low else = subst P (sym (at-cut_both page lower upper parts x order found a.low q)) (elim (cases_Bool (has (upper_part page upper x) q)) [
+    | inl t ↦
+        let v = has-within (upper_part page upper x) q t in
+        let from = v.from in
+        let below = v.below in
+        let first = a.low in
+        let last = a.high in
+        subst (λ (b : Bool). P (cond b (Some (upper, q - page)) (cond (has x q) (Some (lower, q - x.first)) (piece_at parts q)))) (sym t) (high from (has-in x q (omega (arith, from, first)) (omega (arith, below, last))))
+    | inr f ↦ subst (λ (b : Bool). P (cond b (Some (upper, q - page)) (cond (has x q) (Some (lower, q - x.first)) (piece_at parts q)))) (sym f) (elim (cases_Bool (has x q)) [
+      | inl here ↦ subst (λ (b : Bool). P (cond b (Some (lower, q - x.first)) (piece_at parts q))) (sym here) (low (before q f here) here)
+      | inr gone ↦ subst (λ (b : Bool). P (cond b (Some (lower, q - x.first)) (piece_at parts q))) (sym gone) (else gone)
+    ])
+  ])
+    where
+      before : (q : ℕ) → has (upper_part page upper x) q ≡ false → has x q ≡ true → q < page
+      before q f here = elim (cases_lt q page) [
+        | inl lt ↦ lt
+        | inr le ↦ absurd (let v = has-within x q here in let below = v.below in let high = a.high in let z : true ≡ false = sym (has-in (upper_part page upper x) q le (omega (arith, below, high))) ∙ f in cc)
       ]
+
+  had : (q : ℕ) → has x q ≡ true → piece_at parts q ≡ Some (x.piece, q - x.first)
+  had q here = at-found 1 parts page q x order found here
+
+  pub starts-cut : StartsAt (parts_cut page number x parts) page
+  starts-cut = shows-cut (λ o. (y : Spot) → o ≡ Some y → y.1 ≡ 0) page
+      (λ le here y is. let e : page - page ≡ y.1 = ap (λ (o : Option Spot). option_map_or (λ (s : Spot). s.1) o 0) is in omega (arith, e))
+      (λ lt. absurd (omega (arith, lt)))
+      (λ gone. absurd (let low = a.low in let z : true ≡ false = sym (has-in x page (omega (arith, low)) a.high) ∙ gone in cc))
+
+  pub starts-kept : (q : ℕ) → StartsAt parts q → StartsAt (parts_cut page number x parts) q
+  starts-kept q start = shows-cut (λ o. (y : Spot) → o ≡ Some y → y.1 ≡ 0) q
+      (λ le here. absurd (let zero = start (x.piece, q - x.first) (had q here) in let low = a.low in omega (arith, zero, le, low)))
+      (λ lt here y is. let zero = start (x.piece, q - x.first) (had q here) in let e : q - x.first ≡ y.1 = ap (λ (o : Option Spot). option_map_or (λ (s : Spot). s.1) o 0) is in omega (arith, e, zero))
+      (λ gone. start)
+
+  pub slots-kept : (q : ℕ) → slots_at (piece_at (parts_cut page number x parts) q) ≡ slots_at (piece_at parts q)
+  slots-kept q = shows-cut (λ o. slots_at o ≡ slots_at (piece_at parts q)) q (λ le here. ap slots_at (sym (had q here))) (λ lt here. ap slots_at (sym (had q here))) (λ gone. refl)
+
+  -- room at a page that isn't behind the cut is room there then
+  pub room-kept : (items : List (Option ℕ)) (room q : ℕ) → q ≤ page → HasRoomAt items room parts q → HasRoomAt items room (parts_cut page number x parts) q
+  room-kept items room q le r = record {
+    empty = r.empty;
+    roomy = shows-cut (λ o. (y : Spot) → o ≡ Some y → IsSome y.0.own → y.0.pages - y.1 ≤ room) q
+        (λ ge here. roomy-of (upper, q - page) (λ own. let was = r.roomy (x.piece, q - x.first) (had q here) (own-was x.piece.own own) in omega (arith, was, le, ge)))
+        (λ lt here. roomy-of (lower, q - x.first) (λ own. let was = r.roomy (x.piece, q - x.first) (had q here) own in let pages = a.pages in let high = a.high in omega (arith, was, pages, high, lt)))
+        (λ gone. r.roomy);
+  }
+    where
+      own-was : (o : Option ℕ) → IsSome (option_map (λ (own : ℕ). number) o) → IsSome o
+      own-was None own = own
+      own-was (Some own) is = is
+
+      roomy-of : (s : Spot) → (IsSome s.0.own → s.0.pages - s.1 ≤ room) → (y : Spot) → Some s ≡ Some y → IsSome y.0.own → y.0.pages - y.1 ≤ room
+      roomy-of s few y is = let e : s ≡ y = let z = is in cc in subst (λ (y : Spot). IsSome y.0.own → y.0.pages - y.1 ≤ room) e few
+
+-- A process whose parts stay is as it was.
+pub same-space : (w : World) (spaces : Spaces) (p : ℕ) (parts : List (Part Segment)) → SpaceFits w spaces p parts → ChangesSpace p (record { world = w; spaces = spaces }) (record { world = w; spaces = finite.insert spaces p parts }) (λ F. F)
+same-space w spaces p parts fits =
+    subst (λ (s : Spaces). ChangesSpace p (record { world = w; spaces = spaces }) (record { world = w; spaces = s }) (λ F. F)) (sym (insert_same spaces p parts fits.here))
+    (space_rule.keeps p w w spaces fits.memory fits.plain (keeps-same w spaces fits.memory))

@@ -1,5 +1,6 @@
 -- A frame and a disk go out.
 use Rattle.std.proofs.Common.{◌≡◌, ◌≢◌, ℕ, ◌<◌, Bool, true, false, cond, ◌⊎◌, inl, inr, List, [], ◌∷◌, Option, Some, None, IsTrue, IsSome, refl, sym, ◌∙◌, ap, subst, arith, length, set, is_some}
+use Rattle.std.specs.Option.{option_or}
 use Rattle.std.specs.Prelude.{◌&&◌, ◌||◌, ◌==◌, is_none}
 use Rattle.std.proofs.lemmas.Bool.{cases_eq, cases_Bool}
 use Rattle.std.proofs.lemmas.List.{get_or-set_same, get_or-set_other}
@@ -25,7 +26,7 @@ use Rattle.page_store.specs.Seen.{StoreSeen, IsSoundStore, FrameAgrees, ArePaire
 use Rattle.page_store.specs.Parts.{rows_paired, rows_forsaken, rows_pushed, names_taken}
 use Rattle.page_store.specs.Steps.{with_read_begun, with_page_sent, with_snapshot_sent, with_push_begun, without_snapshot, held_row, next_frame, next_name, name_in, rest_free, rest_cached}
 use Rattle.page_store.specs.Table.{Table}
-use Rattle.page_store.specs.Transfers.{BeginsTransfer, LivesAt, is_rewritten_in, taken_or, is_touched_by, residence_begun}
+use Rattle.page_store.specs.Transfers.{BeginsTransfer, LivesAt, is_rewritten_in, is_touched_by, residence_begun}
 use Rattle.page_store.specs.Value.{value, value_in, backing_value, tells}
 use Rattle.page_store.specs.declared.place.Place.{Place}
 use Rattle.page_store.specs.declared.plan.Plan.{Plan}
@@ -712,7 +713,7 @@ module _ (s : StoreSeen) (f : FlightSeen) (own : ℕ) (sound : IsSoundStore s) (
             };
       }
 
-  pub begins-push : (next : Option ℕ) → next_frame s ≡ next → taken_or next (Some own) ≡ Some f.frame → BeginsTransfer s (with_push_begun (without_snapshot s own) own next f.seat f.number) (Push f.name) f.name f
+  pub begins-push : (next : Option ℕ) → next_frame s ≡ next → option_or next (Some own) ≡ Some f.frame → BeginsTransfer s (with_push_begun (without_snapshot s own) own next f.seat f.number) (Push f.name) f.name f
   begins-push None e q =
       let mid = forsakes s own sound in
       let same : own ≡ f.frame = let z : Some own ≡ Some f.frame = q in cc in
@@ -734,7 +735,7 @@ rest_none [] (x ∷ xs) h = absurd (cc)
 rest_none (x ∷ xs) cached h = absurd (cc)
 
 pushed_so : (core : CoreSeen) (names : List (Option PageName)) (lists : ListsSeen) (rows : List Row) (clock : ClockSeen) (bays : List BaySeen) (order : List ℕ) (own frame seat number : ℕ) (next : Option ℕ)
-    → first_of lists.free lists.cached ≡ next → taken_or next (Some own) ≡ Some frame
+    → first_of lists.free lists.cached ≡ next → option_or next (Some own) ≡ Some frame
     → store_of (record core { frames = set core.frames frame None }) (names_taken next names) (record lists { free = rest_free lists.free; cached = rest_cached lists.free lists.cached }) (rows_pushed next rows own seat) clock (set bays number (out seat)) order
     ≡ with_push_begun (store_of core names lists rows clock bays order) own next seat number
 pushed_so core names lists rows clock bays order own frame seat number None e q =
@@ -748,7 +749,7 @@ pushed_so core names lists rows clock bays order own frame seat number (Some tak
     ap (λ (k : ℕ). store_of (record core { frames = set core.frames k None }) (set names taken None) (record lists { free = rest_free lists.free; cached = rest_cached lists.free lists.cached }) (rows_paired rows own taken seat) clock (set bays number (out seat)) order) (sym same)
 
 pub pushed-parts : (core core' : CoreSeen) (names names' : List (Option PageName)) (lists lists' : ListsSeen) (rows mid rows' : List Row) (clock : ClockSeen) (bays bays' : List BaySeen) (order : List ℕ) (own frame seat number : ℕ)
-    → taken_or (first_of lists.free lists.cached) (Some own) ≡ Some frame
+    → option_or (first_of lists.free lists.cached) (Some own) ≡ Some frame
     → mid ≡ rows_forsaken rows own
     → core' ≡ record core { frames = set core.frames frame None } → names' ≡ names_taken (first_of lists.free lists.cached) names
     → lists' ≡ record lists { free = rest_free lists.free; cached = rest_cached lists.free lists.cached } → rows' ≡ rows_pushed (first_of lists.free lists.cached) mid own seat → bays' ≡ set bays number (out seat)
@@ -762,6 +763,6 @@ taken-others s own at sound unlisted next =
     (taken-home s at sound next, (λ q. unlisted (subst (λ (k : ℕ). IsListedFrame s k) (sym q) (first-listed s.free s.cached at next))), taken-name s at sound next, taken-row s at sound next)
 
 -- the frame that goes out is one of the frames
-pub out-within : (s : StoreSeen) (own frame : ℕ) (next : Option ℕ) → IsSoundStore s → next_frame s ≡ next → taken_or next (Some own) ≡ Some frame → own < length s.frames → frame < length s.frames
+pub out-within : (s : StoreSeen) (own frame : ℕ) (next : Option ℕ) → IsSoundStore s → next_frame s ≡ next → option_or next (Some own) ≡ Some frame → own < length s.frames → frame < length s.frames
 out-within s own frame None sound e q lt = let same : own ≡ frame = let z : Some own ≡ Some frame = q in cc in subst (λ (k : ℕ). k < length s.frames) same lt
 out-within s own frame (Some taken) sound e q lt = let same : taken ≡ frame = let z : Some taken ≡ Some frame = q in cc in subst (λ (k : ℕ). k < length s.frames) same (taken-within s taken sound e)

@@ -1,5 +1,6 @@
 -- When a transfer can begin, and what its begin and its end do beside their exact new stores. Public clauses cite this.
 use Rattle.std.specs.Prelude.{◌≡◌, ◌≢◌, ◌⊎◌, ◌||◌, ℕ, Bool, true, false, if◌then◌else◌, Option, Some, None, IsSome, IsTrue, is_some, length}
+use Rattle.std.specs.Option.{option_or}
 use Rattle.block_device.specs.DiskSeen.{DiskSeen, HasBlocks}
 use Rattle.core_arena.specs.Bytes.{bytes_at}
 use Rattle.page_hash.specs.Names.{find, name_at}
@@ -38,15 +39,10 @@ abbrev pub after_begin : Plan → StoreSeen → ℕ → ℕ → StoreSeen
 after_begin (Read name) s seat number = at_frame (next_frame s) s (λ frame. with_read_begun s frame name seat number)
 after_begin (Push name) s seat number = at_frame (find s.names name) s (λ own. with_push_begun (without_snapshot s own) own (next_frame s) seat number)
 
--- the frame that is taken, where one is, else the page's own
-abbrev pub taken_or : Option ℕ → Option ℕ → Option ℕ
-taken_or None own = own
-taken_or (Some frame) own = Some frame
-
 -- the frame that goes out with a plan: the next one where one is available, else that of the page
 abbrev pub frame_out : Plan → StoreSeen → Option ℕ
 frame_out (Read name) s = next_frame s
-frame_out (Push name) s = taken_or (next_frame s) (find s.names name)
+frame_out (Push name) s = option_or (next_frame s) (find s.names name)
 
 -- the frame whose bytes go out: a snapshot has those of its page
 abbrev pub frame_shown : Plan → StoreSeen → Option ℕ

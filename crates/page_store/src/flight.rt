@@ -115,7 +115,11 @@ fn write_page<D: Disk>(disk: &mut D, block: u32, valid: u32, frame: &Frame) -> R
     ensures { Writes (D.seen disk.old) (D.seen disk.new) block
         (clip valid frame.now.bytes) result }
 {
-    let page = clip(frame.bytes(), valid as usize);
+    let bytes = frame.bytes();
+    if valid as usize == bytes.len() {
+        return disk.write(block, bytes);
+    }
+    let page = clip(bytes, valid as usize);
     disk.write(block, &page)
 }
 

@@ -1,5 +1,6 @@
 //! Transfers begin.
 ghost use Rattle.std.specs.Prelude.{◌≡◌, ◌≢◌, ℕ, ◌<◌, ◌≤◌, true, false, length, Some, None, IsSome, slice_set};
+ghost use Rattle.std.specs.Option.{option_or};
 ghost use Rattle.block_device.specs.DiskSeen.{DiskSeen};
 ghost use Rattle.core_arena.specs.Bytes.{bytes_at};
 ghost use Rattle.page_hash.specs.Names.{find};
@@ -10,7 +11,7 @@ ghost use Rattle.page_store.specs.Bays.{bay_at, home};
 ghost use Rattle.page_store.specs.Flight.{Begins};
 ghost use Rattle.page_store.specs.Parts.{rows_pushed, names_taken};
 ghost use Rattle.page_store.specs.Steps.{rest_free, rest_cached, home_bytes};
-ghost use Rattle.page_store.specs.Transfers.{CanBegin, BeginsTransfer, after_begin, frame_out, frame_shown, is_push, taken_or};
+ghost use Rattle.page_store.specs.Transfers.{CanBegin, BeginsTransfer, after_begin, frame_out, frame_shown, is_push};
 ghost use Rattle.page_store.specs.Waits.{Waits, page_of};
 
 use crate::flight::{Flight, Stage};
@@ -162,7 +163,7 @@ fn take_out(
         → IsSome (bytes_at core.old.frames at) × (own ≢ at) × (at < length names.old)
         × (at < length locks.old) }
     ensures origin { result.origin ≡ core.old.origin }
-    ensures number { taken_or (first_of lists.old.free lists.old.cached) (Some own)
+    ensures number { option_or (first_of lists.old.free lists.old.cached) (Some own)
         ≡ Some result.number }
     ensures bytes { bytes_at core.old.frames own ≡ Some result.bytes }
     ensures core { core.new ≡ record core.old

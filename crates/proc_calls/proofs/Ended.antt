@@ -1,32 +1,37 @@
 -- A process whose space is empty goes.
 use Rattle.std.proofs.Common.{◌≡◌, ℕ, ◌+◌, ◌-◌, ◌≤◌, Bool, true, false, cond, List, [], ◌∷◌, Option, Some, None, refl, sym, ap, ◌∙◌, inl, inr, subst, arith}
-use Rattle.std.specs.Prelude.{option_and_then, All, nat_le, nat_lt, ◌||◌}
+use Rattle.std.specs.Prelude.{All, nat_le, nat_lt, ◌||◌}
 use Rattle.std.specs.FinMap as finite
+use Rattle.std.specs.Ordering.{nat_cmp}
+use Rattle.std.specs.Cmp.{nat_cmp_total}
 use Rattle.std.proofs.lemmas.Bool.{cases_lt, and_from, le-leb, lt-ltb}
 use Rattle.std.proofs.lemmas.List.Elements.{All-nil, All-cons}
 use Rattle.addr_space.specs.Space.{Part, piece_at, IsInOrder}
-use Rattle.addr_space.proofs.PartLemmas.{none-below}
+use Rattle.addr_space.proofs.PartLemmas.{none-below, at-here, has-in}
 use Rattle.addr_space.proofs.PageLaws.{shows}
-use Rattle.hat_layer.specs.Pool as pool
-use Rattle.hat_layer.specs.declared.translation.Translation.{Translation}
 use Rattle.flat_model.specs.Access.{with_space}
+use Rattle.flat_model.specs.Flat.{Space, Flat, is_named, without_unnamed}
+use Rattle.flat_model.specs.Mapping.{cells_of, without_pages}
 use Rattle.flat_model.specs.Processes.{without_process}
-use Rattle.flat_model.specs.Space.{in_range}
+use Rattle.flat_model.specs.Space.{in_range, without_range}
 use Rattle.flat_model.specs.Step.{bit}
+use Rattle.flat_model.specs.Words.{Page}
+use Rattle.flat_model.proofs.Ranges.{get-insert_here, get-retain_keys}
 use Rattle.vm_types.specs.declared.call.Call.{Call}
 use Rattle.vm_types.specs.declared.call.Call.TheVariants.{Load, Store, Map, Unmap, Protect, Sync, Read, Write, Truncate, Fork, Exit}
 use Rattle.vm_types.specs.declared.call.Reply.TheVariants.{Done}
 use Rattle.vm_world.specs.FlatMemory.{Memory, flat_memory}
 use Rattle.vm_world.specs.MemoryFits.{MemoryFits}
-use Rattle.vm_world.specs.Segments.{Spot, Spaces, spot_at}
+use Rattle.vm_world.specs.Segments.{Spot, Spaces}
 use Rattle.vm_world.specs.Serving.{TakesFrames, ServesDone}
-use Rattle.vm_world.specs.SpaceSteps.{ChangesSpace, file_space, without_space}
+use Rattle.vm_world.specs.PlainSteps.{ChangesSpace}
+use Rattle.vm_world.specs.SpaceSteps.{without_space}
 use Rattle.vm_world.specs.World.{World}
 use Rattle.vm_world.specs.declared.segment.Segment.{Segment}
-use Rattle.vm_world.proofs.SpaceSteps.{changes-as, rule-joined, rule-leave, get-parts, process-after}
+use Rattle.vm_world.proofs.Maps.{remove-inserted}
+use Rattle.vm_world.proofs.PlainSteps.{space_rule}
 use Rattle.vm_world.proofs.Spots.{spot-in}
 use Rattle.seg_ops.proofs.Composed.{keeps-same}
-use Rattle.seg_ops.proofs.Places.{stands-at}
 use Rattle.proc_calls.specs.Ends.{IsServedExit}
 use Rattle.seg_vn.specs.Clears.{SpaceFits, StartsAt}
 
@@ -50,17 +55,6 @@ starts-end parts order x is =
     let s = spot-in (λ (p : Part Segment). Unit {0}) 1 parts 0x80000 x (omega arith) order (λ j d lt. tt) is in
     absurd (let high = s.user.1 in omega (arith, high))
 
--- where no page has a part, none has a translation
-none-loaded : (m : Memory) (p : ℕ) (parts : List (Part Segment)) → MemoryFits m → finite.get m.spaces p ≡ Some parts → ((q : ℕ) → piece_at parts q ≡ None) → (q : ℕ) → pool.translation_at m.world.hat.places p q ≡ None
-none-loaded m p parts fits is none q = by_look (pool.translation_at m.world.hat.places p q) refl
-  where
-    by_look : (o : Option Translation) → pool.translation_at m.world.hat.places p q ≡ o → o ≡ None
-    by_look None e = refl
-    by_look (Some t) e =
-        let s = stands-at m.world.hat.places p q t e in
-        let l = fits.translations s.place t s.there in
-        let z : None ≡ Some l.spot = sym (ap (λ (j : ℕ). spot_at m.spaces j t.page) s.space_is ∙ ap (option_and_then (λ (ps : List (Part Segment)). piece_at ps t.page)) is ∙ none t.page) ∙ l.here in cc
-
 -- THE END: what is left of a cleared space is nothing, and the process goes
 all-none : (old new : List (Part Segment)) → IsInOrder 1 old → ((q : ℕ) → piece_at new q ≡ cond (in_range 1 (0x80000 - 1) q) None (piece_at old q)) → (q : ℕ) → piece_at new q ≡ None
 all-none old new order pages q = pages q ∙ elim (cases_lt q 1) [
@@ -79,19 +73,44 @@ all-none old new order pages q = pages q ∙ elim (cases_lt q 1) [
     beyond None e past = refl
     beyond (Some x) e past = absurd (let high = (spot-in (λ (p : Part Segment). Unit {0}) 1 old q x (omega arith) order (λ j d lt. tt) e).user.1 in omega (arith, high, past))
 
+-- parts that have no page are none
+no-part : (parts : List (Part Segment)) → IsInOrder 1 parts → ((q : ℕ) → piece_at parts q ≡ None) → parts ≡ []
+no-part [] order none = refl
+no-part (p ∷ ps) order none =
+    let some = order.0.some in
+    let here = at-here p ps p.first (has-in p p.first (omega arith) (omega (arith, some))) in
+    let y : Spot = (p.piece, p.first - p.first) in
+    absurd (let z : Some y ≡ None = sym (shows (p ∷ ps) p.first (Some p) here) ∙ none p.first in cc)
+
+-- where there is no zero object none goes
+same-unnamed : (F : Flat) → F.zeros ≡ finite.empty → without_unnamed F ≡ F
+same-unnamed F none =
+    let e : finite.retain_keys F.zeros (is_named F) ≡ F.zeros =
+    finite.same_map nat_cmp_total finite.nat_cmp-IsAntisymmetric _ _ (λ z. get-retain_keys F.zeros (is_named F) z ∙ either (is_named F z) (finite.get F.zeros z) (ap (λ (zs : finite.FinMap nat_cmp (List Page)). finite.get zs z) none ∙ finite.get-empty nat_cmp z)) in
+    λ i. record { slots = F.slots; disks = F.disks; files = F.files; zeros = e i; spaces = F.spaces; born = F.born }
+  where
+    either : (b : Bool) (o : Option (List Page)) → o ≡ None → cond b o None ≡ o
+    either true o is = refl
+    either false o is = sym is
+
+-- the cells of a process that goes don't matter
+gone : (F : Flat) (p : ℕ) (s : Space) → F.zeros ≡ finite.empty → without_process (without_unnamed (with_space F p s)) p ≡ without_process F p
+gone F p s none = ap (λ (G : Flat). without_process G p) (same-unnamed (with_space F p s) none) ∙ (λ i. without_unnamed (record F { spaces = remove-inserted F.spaces p s i }))
+
 pub ended : (old new : World) (spaces : Spaces) (p : ℕ) (parts left : List (Part Segment)) → SpaceFits old spaces p parts
-    → ChangesSpace p (record { world = old; spaces = spaces }) (record { world = new; spaces = finite.insert spaces p left }) (λ F. with_space F p (file_space left))
+    → ChangesSpace p (record { world = old; spaces = spaces }) (record { world = new; spaces = finite.insert spaces p left }) (λ F. without_pages F p 1 (0x80000 - 1))
     → ((q : ℕ) → piece_at left q ≡ cond (in_range 1 (0x80000 - 1) q) None (piece_at parts q))
     → ChangesSpace p (record { world = old; spaces = spaces }) (record { world = new; spaces = finite.remove (finite.insert spaces p left) p }) (λ F. without_process F p)
 ended old new spaces p parts left fits done pages =
     let m : Memory = record { world = old; spaces = spaces } in
     let n : Memory = record { world = new; spaces = finite.insert spaces p left } in
-    let here = get-parts (record { world = new; spaces = spaces }) p left in
+    let here = get-insert_here spaces p left in
     let none = all-none parts left (fits.memory.segments.ordered p parts fits.here) pages in
-    let goes = rule-leave n p done.changes.memory done.files (none-loaded n p left done.changes.memory here none) in
-    changes-as p m (without_space n p) (λ F. without_process (with_space F p (file_space left)) p) (λ F. without_process F p)
-    (rule-joined p m n (without_space n p) (λ F. with_space F p (file_space left)) (λ F. without_process F p) done goes)
-    (λ born notes. process-after (flat_memory m born notes) p (file_space left))
+    let empty = no-part left (done.changes.memory.segments.ordered p left here) none in
+    let goes = space_rule.leave n p done.changes.memory done.plain (here ∙ ap (λ (ps : List (Part Segment)). Some ps) empty) in
+    space_rule.same p m (without_space n p) (λ F. without_process (without_pages F p 1 (0x80000 - 1)) p) (λ F. without_process F p)
+    (λ born notes. let F : Flat = flat_memory m born notes in gone F p (without_range (cells_of F p) 1 (0x80000 - 1)) (space_rule.zeros m born notes fits.plain))
+    (space_rule.joined p m n (without_space n p) (λ F. without_pages F p 1 (0x80000 - 1)) (λ F. without_process F p) done goes)
 
 or-false : (b : Bool) → b ≡ (b || false)
 or-false true = refl

@@ -3,7 +3,7 @@ ghost use Rattle.std.specs.Prelude.{◌≡◌, IsSome, IfOk, IsOk};
 ghost use Rattle.std.specs.FinMap as finite;
 ghost use Rattle.flat_model.specs.Processes.{without_process};
 ghost use Rattle.vm_world.specs.MemoryFits.{MemoryFits};
-ghost use Rattle.vm_world.specs.SpaceSteps.{OnlyFiles, ChangesSpace};
+ghost use Rattle.vm_world.specs.PlainSteps.{ShowNoZeros, ChangesSpace};
 ghost use Rattle.vm_world.specs.World.{world_seen};
 ghost use Rattle.seg_vn.specs.Serves.{Serves};
 ghost use Rattle.proc_calls.specs.Ends.{IsServedExit, IsExitDone};
@@ -17,18 +17,23 @@ use vm_world::World;
 /// The page behind the last one of a space.
 const END: u32 = 0x80000;
 
-/// Takes a process away, with all its pieces and their translations.
+/// Takes a process away, with all its pieces, their translations, their private pages, and what is reserved for them.
 fn exit<D: Disk>(world: &mut World<D>, spaces: &mut Spaces, process: u32)
     requires fits { MemoryFits
         (record { world = world_seen world.old; spaces = spaces.old.spaces }) }
-    requires files { OnlyFiles spaces.old.spaces }
+    requires plain { ShowNoZeros spaces.old.spaces }
     requires alive { IsSome (finite.get spaces.old.spaces process) }
     ensures changes { ChangesSpace process
         (record { world = world_seen world.old; spaces = spaces.old.spaces })
         (record { world = world_seen world.new; spaces = spaces.new.spaces })
         (λ F. without_process F process) }
     // What stays.
-    ensures rest { world.new ≡ record world.old { store = world.new.store; hat = world.new.hat } }
+    ensures rest { world.new ≡ record world.old {
+      store = world.new.store;
+      anon = world.new.anon;
+      maps = world.new.maps;
+      hat = world.new.hat;
+    } }
     ensures processes { spaces.new.processes ≡ spaces.old.processes }
 {
     let Some(space) = spaces.get_mut(process) else {
@@ -49,15 +54,15 @@ pub fn attempt<D: Disk>(
     requires served { IsServedExit call.now }
     requires fits { MemoryFits
         (record { world = world_seen world.old; spaces = spaces.old.spaces }) }
-    requires files { OnlyFiles spaces.old.spaces }
+    requires plain { ShowNoZeros spaces.old.spaces }
     requires alive { IsSome (finite.get spaces.old.spaces process) }
     ensures ok { IsOk result }
     ensures done { IfOk result (λ answer. Serves
         (record { world = world_seen world.old; spaces = spaces.old.spaces })
         (record { world = world_seen world.new; spaces = spaces.new.spaces })
         world.old.pending world.new.pending process call.now answer) }
-    ensures plain { IfOk result IsExitDone }
-    ensures files { OnlyFiles spaces.new.spaces }
+    ensures answer { IfOk result IsExitDone }
+    ensures plain { ShowNoZeros spaces.new.spaces }
     // What stays.
     ensures processes { spaces.new.processes ≡ spaces.old.processes }
 {

@@ -1,5 +1,6 @@
 -- WHAT GOES OUT, by the store's call: a frame that is read into, a snapshot, or the page's own frame.
 use Rattle.std.proofs.Common.{◌≡◌, ◌≢◌, ℕ, ◌<◌, true, false, List, [], length, Option, Some, None, refl, sym, ap, ◌∙◌, inl, inr, subst, arith, slice_set, get_or-set_same, get_or-set_other, length-set}
+use Rattle.std.specs.Option.{option_or}
 use Rattle.std.specs.Prelude.{IsTrue, IsSome, unwrap_or}
 use Rattle.std.proofs.lemmas.Bool.{cases_eq}
 use Rattle.core_arena.specs.Bytes.{bytes_at}
@@ -14,7 +15,7 @@ use Rattle.page_store.specs.Parts.{rows_without}
 use Rattle.page_store.specs.Seen.{StoreSeen, IsSoundStore, IsListedFrame, own_frame, residence, residence_in}
 use Rattle.page_store.specs.Steps.{next_frame, next_name, at_frame, home_bytes, held_row, with_read_begun, with_snapshot_sent, with_page_sent, with_push_begun, without_snapshot}
 use Rattle.page_store.specs.Notes.{Notes}
-use Rattle.page_store.specs.Transfers.{BeginsTransfer, CanBegin, LivesAt, after_begin, taken_or, frame_out, frame_shown, is_push}
+use Rattle.page_store.specs.Transfers.{BeginsTransfer, CanBegin, LivesAt, after_begin, frame_out, frame_shown, is_push}
 use Rattle.page_store.specs.Waits.{page_of}
 use Rattle.page_store.specs.declared.plan.Plan.{Plan}
 use Rattle.page_store.specs.declared.plan.Plan.TheVariants.{Read, Push}
@@ -155,9 +156,9 @@ sends-of-read s new f sound next was step laws =
 
 -- The same of a push, whose page has no snapshot away.
 pub sends-of-push : (s new : StoreSeen) (f : FlightSeen) (own : ℕ) → IsSoundStore s → ((k : ℕ) → (row_at s.rows k).keeps ≡ 0) → residence s f.name ≡ Home own → ¬ IsListedFrame s own → (row_at s.rows own).snapshot ≡ None → bay_at s.bays f.number ≡ home f.disk
-    → taken_or (next_frame s) (find s.names f.name) ≡ Some f.frame → new ≡ after_begin (Push f.name) s f.seat f.number → BeginsTransfer s new (Push f.name) f.name f → Sends s new f.seat (note_of f)
+    → option_or (next_frame s) (find s.names f.name) ≡ Some f.frame → new ≡ after_begin (Push f.name) s f.seat f.number → BeginsTransfer s new (Push f.name) f.name f → Sends s new f.seat (note_of f)
 sends-of-push s new f own sound unkept at unlisted single was out step laws =
-    by_next (next_frame s) refl (ap (λ (o : Option ℕ). taken_or (next_frame s) o) (sym found) ∙ out)
+    by_next (next_frame s) refl (ap (λ (o : Option ℕ). option_or (next_frame s) o) (sym found) ∙ out)
   where
     found : find s.names f.name ≡ Some own
     found = (home-is s f.name own at).found
@@ -166,15 +167,15 @@ sends-of-push s new f own sound unkept at unlisted single was out step laws =
     sent = step ∙ ap (λ (o : Option ℕ). at_frame o s (λ k. with_push_begun (without_snapshot s k) k (next_frame s) f.seat f.number)) found
         ∙ ap (λ (o : Option ℕ). with_push_begun (record s { rows = rows_without o s.rows own }) own (next_frame s) f.seat f.number) single
 
-    by_next : (o : Option ℕ) → next_frame s ≡ o → taken_or (next_frame s) (Some own) ≡ Some f.frame → Sends s new f.seat (note_of f)
+    by_next : (o : Option ℕ) → next_frame s ≡ o → option_or (next_frame s) (Some own) ≡ Some f.frame → Sends s new f.seat (note_of f)
     by_next None e q =
-        let same : own ≡ f.frame = let z : Some own ≡ Some f.frame = sym (ap (λ (o : Option ℕ). taken_or o (Some own)) e) ∙ q in cc in
+        let same : own ≡ f.frame = let z : Some own ≡ Some f.frame = sym (ap (λ (o : Option ℕ). option_or o (Some own)) e) ∙ q in cc in
         let is : new ≡ with_page_sent s f.frame f.seat f.number = sent ∙ ap (λ (o : Option ℕ). with_push_begun s own o f.seat f.number) e ∙ ap (λ (k : ℕ). with_page_sent s k f.seat f.number) same in
         subst (λ (x : StoreSeen). Sends s x f.seat (note_of f)) (sym is)
         (sends-own s f sound unkept (subst (λ (k : ℕ). residence s f.name ≡ Home k) same at) (ap (λ (k : ℕ). (row_at s.rows k).snapshot) (sym same) ∙ single) was
         (subst (λ (x : StoreSeen). BeginsTransfer s x (Push f.name) f.name f) is laws))
     by_next (Some frame) e q =
-        let same : frame ≡ f.frame = let z : Some frame ≡ Some f.frame = sym (ap (λ (o : Option ℕ). taken_or o (Some own)) e) ∙ q in cc in
+        let same : frame ≡ f.frame = let z : Some frame ≡ Some f.frame = sym (ap (λ (o : Option ℕ). option_or o (Some own)) e) ∙ q in cc in
         let is : new ≡ with_snapshot_sent s own f.frame f.seat f.number = sent ∙ ap (λ (o : Option ℕ). with_push_begun s own o f.seat f.number) e ∙ ap (λ (k : ℕ). with_snapshot_sent s own k f.seat f.number) same in
         subst (λ (x : StoreSeen). Sends s x f.seat (note_of f)) (sym is)
         (sends-copy s f own sound (e ∙ ap (λ (k : ℕ). Some k) same) at unlisted was (subst (λ (x : StoreSeen). BeginsTransfer s x (Push f.name) f.name f) is laws))
@@ -260,7 +261,7 @@ sends-plan w spaces notes new (Push name) f fit nf can pushed b =
     let laws : BeginsTransfer w.store new (Push f.name) f.name f = subst (λ (n : PageName). BeginsTransfer w.store new (Push n) n f) (sym b.name) b.laws in
     let s = sends-of-push w.store new f can.0.frame fit.frames.sound fit.frames.unkept at (modified-unlisted w spaces can.0.frame fit can.0.modified)
     (unsnapped w notes f.name can.0.frame f.number f.disk (row_at w.store.rows can.0.frame).snapshot fit.frames.sound nf at disk b.was refl) b.was
-    (ap (λ (n : PageName). taken_or (next_frame w.store) (find w.store.names n)) b.name ∙ b.frame) step laws in (
+    (ap (λ (n : PageName). option_or (next_frame w.store) (find w.store.names n)) b.name ∙ b.frame) step laws in (
       s,
       push-note w new f can.0.frame fit.frames.sound s at can.0.modified disk (ap (λ (n : PageName). (world_table w n).valid) b.name ∙ b.valid) (ap (λ (n : PageName). (world_table w n).blank) b.name ∙ pushed)
           (b.bytes ∙ ap (λ (n : PageName). home_bytes w.store (find w.store.names n)) (sym b.name)) laws,

@@ -1,5 +1,6 @@
 -- The translations of a page are dropped before its own frame goes out: what they said, the page says.
 use Rattle.std.proofs.Common.{◌≡◌, ◌≢◌, ℕ, ◌<◌, true, List, length, Option, Some, None, refl, sym, ap, ◌∙◌, ◌⊎◌, inl, inr, subst, get_or-set_same}
+use Rattle.std.specs.Option.{option_or}
 use Rattle.std.specs.Prelude.{◌||◌}
 use Rattle.std.proofs.lemmas.Bool.{eq-eqb}
 use Rattle.page_lock.specs.Rows.{row_at, clear_row, with_bits}
@@ -8,7 +9,6 @@ use Rattle.page_store.specs.Laws.{StaysInPlace}
 use Rattle.page_store.specs.Moves.{is_only}
 use Rattle.page_store.specs.Seen.{StoreSeen, IsListedFrame}
 use Rattle.page_store.specs.Steps.{next_frame}
-use Rattle.page_store.specs.Transfers.{taken_or}
 use Rattle.hat_layer.specs.declared.translation.Translation.{Translation}
 use Rattle.hat_layer.specs.Pool.{Pool, IsSingleValued, bits_of, drop_frame, with_clear_bits, has_bit}
 use Rattle.vm_world.specs.MemoryFits.{MemoryFits}
@@ -39,10 +39,10 @@ listed-unloaded w spaces frame f listed place t is e = (f.translations place t i
 
 -- THE FRAME THAT GOES OUT has none: the next one is listed, and the translations of the page's own were dropped.
 pub sent-unloaded : (w : World) (spaces : Spaces) (places : List (Option Translation)) (own frame : ℕ) → MemoryFits (memory_of w spaces) → places ≡ places_pushed (next_frame w.store) (Some own) w.hat.places
-    → taken_or (next_frame w.store) (Some own) ≡ Some frame → IsUnloaded places frame
+    → option_or (next_frame w.store) (Some own) ≡ Some frame → IsUnloaded places frame
 sent-unloaded w spaces places own frame f is out = subst (λ (ps : List (Option Translation)). IsUnloaded ps frame) (sym is) (by_next (next_frame w.store) refl out)
   where
-    by_next : (o : Option ℕ) → next_frame w.store ≡ o → taken_or o (Some own) ≡ Some frame → IsUnloaded (places_pushed o (Some own) w.hat.places) frame
+    by_next : (o : Option ℕ) → next_frame w.store ≡ o → option_or o (Some own) ≡ Some frame → IsUnloaded (places_pushed o (Some own) w.hat.places) frame
     by_next None next e =
         let same : own ≡ frame = let z : Some own ≡ Some frame = e in cc in
         subst (λ (k : ℕ). IsUnloaded (drop_frame own w.hat.places) k) same (λ place t at. (each-drop_frame (λ x. Unit {0}) own w.hat.places (λ k u x. tt) place t at).1)

@@ -1,5 +1,6 @@
 -- A PAGE IS READY TO BE PUSHED: its translations' bits are in it, and it counts as pushed; what the flight has is said of the world before.
 use Rattle.std.proofs.Common.{◌≡◌, ℕ, ◌<◌, List, length, Option, Some, None, refl, sym, ap, ◌∙◌, subst, arith, inl}
+use Rattle.std.specs.Option.{option_or}
 use Rattle.std.specs.Prelude.{IsSome, IfSome, ◌||◌, ◌^◌, ◌-◌}
 use Rattle.std.proofs.lemmas.List.{length-map}
 use Rattle.core_arena.specs.Bytes.{bytes_at}
@@ -10,7 +11,6 @@ use Rattle.page_store.specs.Bays.{bay_at}
 use Rattle.page_store.specs.Flight.{FlightSeen}
 use Rattle.page_store.specs.Seen.{StoreSeen, residence}
 use Rattle.page_store.specs.Steps.{at_frame, home_bytes, next_frame, next_name}
-use Rattle.page_store.specs.Transfers.{taken_or}
 use Rattle.page_store.specs.Waits.{Waits, holder_in}
 use Rattle.page_store.specs.declared.plan.Plan.TheVariants.{Push}
 use Rattle.page_store.specs.declared.residence.Residence.TheVariants.{Home}
@@ -95,7 +95,7 @@ prepared-flight w mid spaces name seat f fit p b =
         origin = b.begins.origin ∙ ap (λ (s : StoreSeen). s.origin) is;
         outcome = b.begins.outcome;
       };
-      frame = sym (ap (λ (s : StoreSeen). taken_or (next_frame s) (find s.names name)) is) ∙ b.frame;
+      frame = sym (ap (λ (s : StoreSeen). option_or (next_frame s) (find s.names name)) is) ∙ b.frame;
       bytes = b.bytes ∙ ap (λ (s : StoreSeen). home_bytes s (find s.names name)) is;
     }
 
@@ -112,10 +112,10 @@ prepared-pends w mid name pending more now k same before =
 
 -- NO TRANSLATION leads to the frame that goes out
 pub prepared-unloaded : (w mid : World) (spaces : Spaces) (name : PageName) → MemoryFits (memory_of w spaces) → Prepared w mid name → mid.hat.places ≡ places_pushed (next_frame w.store) (find w.store.names name) w.hat.places
-    → (frame : ℕ) → taken_or (next_frame mid.store) (find mid.store.names name) ≡ Some frame → IsUnloaded mid.hat.places frame
+    → (frame : ℕ) → option_or (next_frame mid.store) (find mid.store.names name) ≡ Some frame → IsUnloaded mid.hat.places frame
 prepared-unloaded w mid spaces name f p places frame out =
     sent-unloaded w spaces mid.hat.places p.dirty.frame frame f (places ∙ ap (λ (o : Option ℕ). places_pushed (next_frame w.store) o w.hat.places) (dirty-found w name p.dirty))
-    (sym (ap (λ (s : StoreSeen). taken_or (next_frame s) (find s.names name)) (synced w mid name p) ∙ ap (taken_or (next_frame w.store)) (dirty-found w name p.dirty)) ∙ out)
+    (sym (ap (λ (s : StoreSeen). option_or (next_frame s) (find s.names name)) (synced w mid name p) ∙ ap (option_or (next_frame w.store)) (dirty-found w name p.dirty)) ∙ out)
 
 -- the name that lost its frame, said of the world before
 pub prepared-took : (w mid new : World) (name : PageName) → Prepared w mid name → IfSome (next_name mid.store) (λ n. LosesFrame mid new n) → IfSome (next_name w.store) (λ n. LosesFrame w new n)

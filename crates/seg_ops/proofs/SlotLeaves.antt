@@ -20,7 +20,7 @@ use Rattle.vm_world.specs.TranslationsFit.{MayWriteInPlace}
 use Rattle.vm_world.specs.World.{World, file_blocks, slot_in, slot_name, is_page_name, page_exists, page_table}
 use Rattle.vm_world.proofs.Counting.{adds, adds-own, adds-other, times-put}
 use Rattle.vm_world.proofs.Counts.{held-used, only-place, used-below}
-use Rattle.vm_world.proofs.SpaceSteps.{loaded-at}
+use Rattle.vm_world.proofs.Loaded.{loaded-at}
 use Rattle.seg_ops.specs.Empties.{LeavesSlot}
 use Rattle.seg_ops.specs.Slots.{OwnsAlone}
 use Rattle.seg_ops.proofs.SlotCounts.{places-put}

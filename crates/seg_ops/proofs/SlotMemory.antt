@@ -20,7 +20,6 @@ use Rattle.page_store.specs.Table.{Table}
 use Rattle.page_store.specs.Value.{value, value_in, frame_value, note_of_holder, backing_value}
 use Rattle.page_store.proofs.QueryLemmas.{home-is}
 use Rattle.hat_layer.specs.Pool.{translation_at}
-use Rattle.vm_world.proofs.SpaceSteps.{loaded-at}
 use Rattle.page_store.specs.declared.residence.Residence.TheVariants.{Home, Absent}
 use Rattle.anon_map.specs.Maps.{Map, places_of, holders_of, with_places}
 use Rattle.anon_slots.specs.Slots.{Slots, count_at, is_used}
@@ -37,8 +36,9 @@ use Rattle.vm_world.specs.Segments.{Spot, Spaces, spot_at, own_slot, shown_name,
 use Rattle.vm_world.specs.TranslationsFit.{MayWriteInPlace}
 use Rattle.vm_world.specs.World.{World, slot_name, slot_in, page_exists}
 use Rattle.vm_world.proofs.Counting.{map-within}
-use Rattle.vm_world.proofs.FileMappings.{all-turn}
 use Rattle.vm_world.proofs.FlatWhole.{some-inj}
+use Rattle.vm_world.proofs.Lists.{all-turn}
+use Rattle.vm_world.proofs.Loaded.{loaded-at}
 use Rattle.seg_ops.specs.Slots.{MakesSlot, IsNewZero, OwnsAlone}
 use Rattle.seg_ops.proofs.Fills.{TakesFor, next-listed, named, stays-home, still-listed, modified-elsewhere, elsewhere}
 use Rattle.seg_ops.proofs.SlotPlaces.{slot-here, slot-else, places-set, holders-set, own-set, object-set, StaysShown, stays-shown}

@@ -1,3 +1,5 @@
+pub mod CutSegments
+pub mod LeftSegments
 pub mod SpacesFrom
 pub mod ClearedSpaces
 pub mod Takes

@@ -6,3 +6,4 @@ pub mod Serves
 pub mod Brings
 pub mod Shown
 pub mod AnyPlaces
+pub mod Cuts

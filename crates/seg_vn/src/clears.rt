@@ -1,13 +1,14 @@
 //! Ranges of pages that are taken out of a space.
-ghost use Rattle.std.specs.Prelude.{◌≡◌, ◌≤◌, ◌<◌, ◌-◌, ℕ, None, Some, MatchOption, if◌then◌else◌};
+ghost use Rattle.std.specs.Prelude.{◌≡◌, ◌≤◌, ◌<◌, ◌+◌, ◌-◌, ℕ, None, Some, MatchOption, if◌then◌else◌};
 ghost use Rattle.std.specs.FinMap as finite;
 ghost use Rattle.addr_space.specs.Space.{piece_at, begins, FindsLast};
-ghost use Rattle.flat_model.specs.Access.{with_space};
+ghost use Rattle.anon_map.specs.Maps.{free_numbers};
+ghost use Rattle.flat_model.specs.Mapping.{without_pages};
 ghost use Rattle.flat_model.specs.Space.{in_range};
+ghost use Rattle.vm_world.specs.PlainSteps.{ChangesSpace};
 ghost use Rattle.vm_world.specs.Segments.{Spaces};
-ghost use Rattle.vm_world.specs.SpaceSteps.{ChangesSpace, file_space};
 ghost use Rattle.vm_world.specs.World.{world_seen};
-ghost use Rattle.seg_vn.specs.Clears.{SpaceFits, StartsAt};
+ghost use Rattle.seg_vn.specs.Clears.{SpaceFits, StartsAt, slots_of_range};
 
 use crate::segment::VnSeg;
 use addr_space::Ranges;
@@ -27,8 +28,9 @@ fn last_in(space: &Ranges<VnSeg>, from: u32, end: u32) -> Option<u32>
     Some(first)
 }
 
-/// Takes all pieces of a range of pages out of a process's space, from the back, with their translations. No piece goes
-/// across an end of the range. Takes no memory. Time: the pages that go, and the logarithm of the number of pieces for each piece.
+/// Takes all pieces of a range of pages out of a process's space, from the back, with their translations, their private pages,
+/// and what is reserved for them. No piece goes across an end of the range. Takes no memory. Time: the pages that go, and the
+/// logarithm of the number of pieces for each piece.
 pub fn clear<D: Disk>(
     world: &mut World<D>,
     space: &mut Ranges<VnSeg>,
@@ -41,7 +43,7 @@ pub fn clear<D: Disk>(
     requires high { StartsAt space.old.parts end }
     requires fits { (spaces : Spaces)
         × SpaceFits (world_seen world.old) spaces process space.old.parts }
-    // The pages of the range have no cell, and all others the cell that they had.
+    // The pages of the range have no cell, and all others the piece that they had.
     ensures pages { (q : ℕ) → piece_at space.new.parts q
         ≡ (if in_range from (end - from) q then None else piece_at space.old.parts q) }
     ensures changes { (spaces : Spaces)
@@ -51,17 +53,27 @@ pub fn clear<D: Disk>(
           world = world_seen world.new;
           spaces = finite.insert spaces process space.new.parts;
         })
-        (λ F. with_space F process (file_space space.new.parts)) }
+        (λ F. without_pages F process from (end - from)) }
+    // The slots of its private pages aren't reserved any more.
+    ensures reserved { world.new.anon.reserved
+        + slots_of_range space.old.parts from (end - from) ≡ world.old.anon.reserved }
+    // The numbers that were free are.
+    ensures numbers { free_numbers world.old.maps ≤ free_numbers world.new.maps }
     // What stays.
     ensures spare { space.old.spare ≤ space.new.spare }
-    ensures rest { world.new ≡ record world.old { store = world.new.store; hat = world.new.hat } }
+    ensures rest { world.new ≡ record world.old {
+      store = world.new.store;
+      anon = world.new.anon;
+      maps = world.new.maps;
+      hat = world.new.hat;
+    } }
 {
     let mut top = end;
     while let Some(first) = last_in(space, from, top) {
         let Some(mut segment) = space.remove(first) else {
             unreachable!();
         };
-        segment.unmap(world, process, first);
+        segment.leave(world, process, first);
         top = first;
     }
 }

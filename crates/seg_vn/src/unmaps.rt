@@ -1,17 +1,16 @@
-//! Segments that lose their translations, or are cut in two.
-ghost use Rattle.std.specs.Prelude.{◌≡◌, ◌≤◌, ◌<◌, ◌+◌, ℕ, None, IfOk, IsOk};
+//! Segments that lose their translations.
+ghost use Rattle.std.specs.Prelude.{◌≡◌, ◌≤◌, ◌<◌, ◌+◌, ℕ, None};
 ghost use Rattle.hat_layer.specs.Pool.{translation_at};
 ghost use Rattle.vm_world.specs.MemoryFits.{MemoryFits};
 ghost use Rattle.vm_world.specs.Segments.{Spaces};
-ghost use Rattle.vm_world.specs.SpaceSteps.{AreUnloaded, first_pages, later_pages};
+ghost use Rattle.vm_world.specs.SpaceSteps.{AreUnloaded};
 ghost use Rattle.vm_world.specs.World.{world_seen};
 ghost use Rattle.seg_ops.specs.Steps.{KeepsPages};
 
 use crate::segment::VnSeg;
 use block_device::Disk;
 use seg_ops::drop_translation;
-use std::alloc::AllocError;
-use vm_world::{Segment, World};
+use vm_world::World;
 
 impl VnSeg {
     /// Drops the translations of its pages, which begin with this page of the process. Time: its pages.
@@ -34,27 +33,5 @@ impl VnSeg {
         for page in first..first + self.pages() {
             drop_translation(world, space, page);
         }
-    }
-
-    /// Cuts it in two: its first pages stay, and the result has the others. It has no anon map, so this takes no memory.
-    pub fn cut<D: Disk>(&mut self, _world: &mut World<D>, at: u32) -> Result<VnSeg, AllocError>
-        requires some { 0 < at }
-        requires below { at < self.old.pages }
-        requires own { self.old.own ≡ None }
-        ensures done { IsOk result }
-        ensures upper { IfOk result (λ upper. upper ≡ later_pages at self.old) }
-        ensures lower { self.new ≡ first_pages at self.old }
-        // What stays.
-        ensures world { _world.new ≡ _world.old }
-    {
-        let whole = self.segment;
-        self.segment.pages = at;
-        Ok(VnSeg {
-            segment: Segment {
-                pages: whole.pages - at,
-                index: whole.index + at,
-                ..whole
-            },
-        })
     }
 }

@@ -22,6 +22,8 @@ mod page_lines;
 mod pages;
 mod placing;
 mod playing;
+#[cfg(test)]
+mod random_tests;
 mod reading;
 mod ready;
 mod reporting;

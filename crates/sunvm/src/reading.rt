@@ -14,14 +14,24 @@ use std::alloc::Global;
 use vm_script::{MOST_BYTES, Plan, PlanAct, PlanLine, broken_rule, generate, parse, sound_law};
 use vm_types::{Call, Kind, Object, Place};
 
-// A mapping of a file at an address, shared.
+// A mapping of a file, or a private one of new zero memory.
+fn is_served_object(kind: Kind, object: Object) -> bool
+    ensures { result ≡ asked.is_served_object kind object }
+{
+    match (kind, object) {
+        (_, Object::File(_)) => true,
+        (Kind::Private, Object::NewZero) => true,
+        _ => false,
+    }
+}
+
+// A mapping of a file at an address.
 fn is_served_named(call: &Call) -> bool
     ensures { result ≡ asked.is_served_named call.now }
 {
     match call {
         Call::Map {
             place: Place::At(_),
-            kind: Kind::Shared,
             object: Object::File(_),
             ..
         } => true,
@@ -35,7 +45,12 @@ fn is_served_call(call: &Call) -> bool
     match call {
         Call::Load { .. } => true,
         Call::Store { .. } => true,
-        Call::Map { .. } => is_served_named(call),
+        Call::Map {
+            place: Place::At(_),
+            kind,
+            object,
+            ..
+        } => is_served_object(*kind, *object),
         Call::Exit => true,
         _ => false,
     }

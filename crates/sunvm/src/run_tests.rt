@@ -25,6 +25,19 @@ const TWO: &[u8] =
 const FOUR: &[u8] =
     b"swap 0\ndisk 0 blank 8\ndisk 3 blank 8\nfile d rw 3 1 44\nfile c rw 0 1 43\nfile b rw 3 2 42\nfile a ro 0 1 41\nprocess\nmap 0x2000 4096 rw shared b 0\nstore 0x2000 1 0x62\nend\n";
 
+const BESIDE: &[u8] =
+    b"disk 0 blank 8\nfile a rw 0 2 68656c6c6f\nprocess\nmap 0x2000 4096 rw shared a 0\nmap 0x4000 4096 rw private a 0\nload 0x4000 1\nstore 0x2000 1 0x41\nload 0x4000 1\nstore 0x4001 1 0x42\nstore 0x2000 1 0x43\nload 0x4000 1\nload 0x2001 1\nend\n";
+
+const OWN: &[u8] =
+    b"swap 3\ndisk 0 blank 8\nfile a ro 0 2 68656c6c6f\nprocess\nmap 0x2000 12288 rw private a 0\nstore 0x2000 1 0x4a\nstore 0x2005 1 0x77\nload 0x2000 4\nload 0x2004 2\nstore 0x3000 1 1\nmap 0x6000 4096 r shared a 0\nload 0x6000 1\nend\n";
+
+const ENDS: &[u8] =
+    b"process\nload 0x2002 4\nmap 0x7ffff000 4096 rw private zero 0\nstore 0x7ffffffc 4 0x01020304\nload 0x7ffffffc 4\nload 0x7ffffffe 2\nload 0x7ffffffc 1\nmap 0x7ffff000 8192 rw private zero 0\nmap 0 4096 rw private zero 0\nend\n";
+
+// A private mapping is laid over the middle of another, with no slot to spare.
+const OVER: &[u8] =
+    b"swap 4\nprocess\nmap 0x2000 16384 rw private zero 0\nstore 0x2000 1 1\nstore 0x3000 1 2\nstore 0x5000 1 4\nmap 0x3000 8192 rw private zero 0\nload 0x2000 1\nload 0x3000 1\nload 0x5000 1\nmap 0x7000 4096 rw private zero 0\nmap 0x3000 12288 r private zero 0\nload 0x5000 1\nend\n";
+
 const REPORT: &[u8] =
     b"process 1\n4 map 0x00002000\n5 load 0x65\n6 store ok\n7 exit ok\nfile a 5\n00000000 4a656c6c6f\n";
 
@@ -117,7 +130,7 @@ fn run_case(rt: &impl Wait, alloc: Global, case: &Case) -> Result<Left, AllocErr
     })
 }
 
-const CASES: [Case; 31] = [
+const CASES: [Case; 36] = [
     WHOLE,
     Case {
         name: "a trace",
@@ -135,6 +148,36 @@ const CASES: [Case; 31] = [
         name: "the tail isn't the file's",
         script: b"disk 0 blank 8\nfile a rw 0 2 68656c6c6f\nprocess\nmap 0x2000 4096 rw shared a 0\nstore 0x2005 1 0x77\nload 0x2005 1\nend\n",
         text: b"process 1\n4 map 0x00002000\n5 store ok\n6 load 0x77\n7 exit ok\nfile a 5\n00000000 68656c6c6f\n",
+        ..WHOLE
+    },
+    Case {
+        name: "private beside shared",
+        script: BESIDE,
+        text: b"process 1\n4 map 0x00002000\n5 map 0x00004000\n6 load 0x68\n7 store ok\n8 load 0x41\n9 store ok\n10 store ok\n11 load 0x41\n12 load 0x65\n13 exit ok\nfile a 5\n00000000 43656c6c6f\n",
+        ..WHOLE
+    },
+    Case {
+        name: "private pages of a file that can't be written",
+        script: OWN,
+        text: b"process 1\n5 map 0x00002000\n6 store ok\n7 store ok\n8 load 0x4a656c6c\n9 load 0x6f77\n10 store BUS past\n11 map 0x00006000\n12 load 0x68\n13 exit ok\nfile a 5\n00000000 68656c6c6f\n",
+        ..WHOLE
+    },
+    Case {
+        name: "swap's boundary",
+        script: b"swap 4\nprocess\nmap 0x2000 20480 rw private zero 0\nmap 0x2000 16384 rw private zero 0\nend\n",
+        text: b"process 1\n3 map error 3 NoSwap\n4 map 0x00002000\n5 exit ok\n",
+        ..WHOLE
+    },
+    Case {
+        name: "a private mapping over a private one",
+        script: OVER,
+        text: b"process 1\n3 map 0x00002000\n4 store ok\n5 store ok\n6 store ok\n7 map 0x00003000\n8 load 0x01\n9 load 0x00\n10 load 0x04\n11 map error 3 NoSwap\n12 map 0x00003000\n13 load 0x00\n14 exit ok\n",
+        ..WHOLE
+    },
+    Case {
+        name: "alignment and ends",
+        script: ENDS,
+        text: b"process 1\n2 load BUS align\n3 map 0x7ffff000\n4 store ok\n5 load 0x01020304\n6 load 0x0304\n7 load 0x01\n8 map error 1 Invalid\n9 map error 1 Invalid\n10 exit ok\n",
         ..WHOLE
     },
     Case {
@@ -329,8 +372,8 @@ const CASES: [Case; 31] = [
         ..WHOLE
     },
     Case {
-        name: "a private mapping",
-        script: b"disk 0 blank 8\nfile a rw 0 1 -\nprocess\nmap 0x2000 4096 rw private a 0\nend\n",
+        name: "a shared mapping of new zero memory",
+        script: b"process\nmap 0x2000 4096 rw shared zero 0\nend\n",
         status: 3,
         text: b"script: later\n",
         ..WHOLE
@@ -517,7 +560,7 @@ fn a_source_that_fails_ends_the_run(rt: HostRuntime) -> Result<(), Fail> {
 }
 
 // The outcome of a run over this rack, and what it prints.
-fn run_over<R: Rack>(
+pub(crate) fn run_over<R: Rack>(
     rt: &impl Wait,
     alloc: Global,
     script: &[u8],
@@ -529,6 +572,41 @@ fn run_over<R: Rack>(
     let mut out = MemSink::new(alloc, 65536, 65536, Vec::new(alloc))?;
     let outcome = run(rt, alloc, &words, &mut source, &mut out, rack);
     Ok((outcome, out.into_written()))
+}
+
+// The script that stores into sixteen private pages over six frames and loads them, and its report.
+fn least_frames(alloc: Global) -> Result<(String, String), AllocError> {
+    let head = "frames 6\nswap 16\ndisk 0 blank 2\nprocess\nmap 0x10000 65536 rw private zero 0\n";
+    let mut script = String::from_str(alloc, head)?;
+    let mut report = String::from_str(alloc, "process 1\n5 map 0x00010000\n")?;
+    for k in 0..16_u32 {
+        let line = format!(in alloc; "store 0x{:x} 4 0x{:x}\n", 0x1_0000 + 0x1000 * k, 0x100 + k)?;
+        script.push_str(&line)?;
+        report.push_str(&format!(in alloc; "{} store ok\n", 6 + k)?)?;
+    }
+    for k in 0..16_u32 {
+        script.push_str(&format!(in alloc; "load 0x{:x} 4\n", 0x1_0000 + 0x1000 * k)?)?;
+        report.push_str(&format!(in alloc; "{} load 0x{:08x}\n", 22 + k, 0x100 + k)?)?;
+    }
+    script.push_str("end\n")?;
+    report.push_str("38 exit ok\n")?;
+    Ok((script, report))
+}
+
+#[test]
+fn private_pages_go_out_to_swap_and_come_back(rt: HostRuntime) -> Result<(), Fail> {
+    let alloc = rt.alloc();
+    let (script, report) = least_frames(alloc)?;
+    let mut rack = MemRack::new(alloc, Vec::new(alloc), Vec::new(alloc));
+    let (outcome, text) = run_over(&rt, alloc, script.as_bytes(), &mut rack)?;
+    assert_eq!(rt; outcome.status, 0);
+    assert_eq!(rt; text.as_slice(), report.as_bytes());
+    let (reads, writes) = match &outcome.swap {
+        Some(swap) => (swap.reads(), swap.writes()),
+        None => (0, 0),
+    };
+    assert!(rt; writes >= 10 && reads >= 10);
+    Ok(())
 }
 
 // What a run over this rack prints, and its status.
@@ -726,13 +804,13 @@ fn a_run_is_the_same_over_disks_that_tell_nothing(rt: HostRuntime) -> Result<(),
     Ok(())
 }
 
-// A script with a file of so many bytes, all 0x41.
-fn long_script(alloc: Global, count: usize) -> Result<Vec<u8>, AllocError> {
-    let mut script = Vec::from_slice(alloc, b"disk 0 blank 8\nfile c rw 0 2 ")?;
+// A process begins with a file of so many bytes, all 0x41.
+pub(crate) fn script_of_file(alloc: Global, count: usize) -> Result<String, AllocError> {
+    let mut script = String::from_str(alloc, "disk 0 blank 8\nfile c rw 0 2 ")?;
     for _ in 0..count {
-        script.extend_from_slice(b"41")?;
+        script.push_str("41")?;
     }
-    script.extend_from_slice(b"\nprocess\nend\n")?;
+    script.push_str("\nprocess\n")?;
     Ok(script)
 }
 
@@ -785,14 +863,15 @@ fn a_script_that_is_too_long_or_has_too_many_files_is_told(rt: HostRuntime) -> R
 #[test]
 fn a_file_is_shown_page_by_page(rt: HostRuntime) -> Result<(), Fail> {
     let alloc = rt.alloc();
-    let script = long_script(alloc, 4100)?;
+    let mut script = script_of_file(alloc, 4100)?;
+    script.push_str("end\n")?;
     let first = long_lines(alloc, 128)?;
     let head = "process 1\n4 exit ok\nfile c 4100\n";
     for (call, tail) in [(0, "00001000 41414141\n"), (6, "fault: disk 0 0 1\n")] {
         let mut disks = Vec::new(alloc);
         disks.push([call].to_vec(alloc)?)?;
         let mut rack = MemRack::new(alloc, Vec::new(alloc), disks);
-        let (status, text) = text_over(&rt, rt.alloc(), script.as_slice(), &mut rack)?;
+        let (status, text) = text_over(&rt, rt.alloc(), script.as_bytes(), &mut rack)?;
         let expected = format!(in alloc; "{head}{first}{tail}")?;
         assert_eq!(rt; status, if call == 0 { 0 } else { 7 });
         assert_eq!(rt; text.as_slice(), expected.as_bytes());

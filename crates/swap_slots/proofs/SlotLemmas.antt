@@ -3,7 +3,7 @@ use Rattle.std.proofs.Common.{◌≡◌, ℕ, ◌<◌, Bool, true, false, not, L
 use Rattle.std.specs.List.{position}
 use Rattle.std.proofs.lemmas.Bool.{cases_lt}
 use Rattle.std.proofs.lemmas.List.{get_or_past}
-use Rattle.swap_slots.specs.Bits.{flag, flags, Marks}
+use Rattle.swap_slots.specs.Bits.{is_set, flags, Marks}
 use Rattle.swap_slots.proofs.BitLemmas.{flags_length, flags_at, flags_set, flags_first, flags_none}
 
 pub slot_within : (words : List ℕ) (n slot : ℕ) (value : List Bool) → flags words n ≡ value → slot < length value → slot < n
@@ -16,15 +16,15 @@ used_within words n slot value view used =
     let clash : true ≡ false = sym used ∙ off in cc)
     (cases_lt slot n)
 
-pub used_flag : (held words : List ℕ) (n slot : ℕ) (value : List Bool) → held ≡ words → flags words n ≡ value → slot < n → flag held slot ≡ get_or value slot false
+pub used_flag : (held words : List ℕ) (n slot : ℕ) (value : List Bool) → held ≡ words → flags words n ≡ value → slot < n → is_set held slot ≡ get_or value slot false
 used_flag held words n slot value read view within =
-    ap (λ (l : List ℕ). flag l slot) read ∙ sym (flags_at words n slot false within) ∙ ap (λ (l : List Bool). get_or l slot false) view
+    ap (λ (l : List ℕ). is_set l slot) read ∙ sym (flags_at words n slot false within) ∙ ap (λ (l : List Bool). get_or l slot false) view
 
-pub least_first : (held words : List ℕ) (n slot : ℕ) (value : List Bool) → held ≡ words → flags words n ≡ value → slot < n → flag held slot ≡ false → ((k : ℕ) → k < slot → flag held k ≡ true) → Some slot ≡ position not value
+pub least_first : (held words : List ℕ) (n slot : ℕ) (value : List Bool) → held ≡ words → flags words n ≡ value → slot < n → is_set held slot ≡ false → ((k : ℕ) → k < slot → is_set held k ≡ true) → Some slot ≡ position not value
 least_first held words n slot value read view within clear first =
     flags_first held n slot within clear first ∙ ap (λ (l : List ℕ). position not (flags l n)) read ∙ ap (λ (l : List Bool). position not l) view
 
-pub least_none : (held words : List ℕ) (n : ℕ) (value : List Bool) → held ≡ words → flags words n ≡ value → ((k : ℕ) → k < n → flag held k ≡ true) → None ≡ position not value
+pub least_none : (held words : List ℕ) (n : ℕ) (value : List Bool) → held ≡ words → flags words n ≡ value → ((k : ℕ) → k < n → is_set held k ≡ true) → None ≡ position not value
 least_none held words n value read view all =
     flags_none held n all ∙ ap (λ (l : List ℕ). position not (flags l n)) read ∙ ap (λ (l : List Bool). position not l) view
 

@@ -1,7 +1,7 @@
 //! Bits in words of 64, and an index of the words that are full.
 ghost use Rattle.std.specs.Prelude.{◌≡◌, ◌≢◌, ℕ, ◌+◌, ◌-◌, ◌*◌, ◌/◌, ◌^◌, ◌<◌, ◌≤◌, ◌==◌, Bool, true, false, length, if◌then◌else◌, IfSome, IfNone};
 ghost use Rattle.std.specs.Int.{bit_at};
-ghost use Rattle.swap_slots.specs.Bits.{flag, IsSummary, Marks};
+ghost use Rattle.swap_slots.specs.Bits.{is_set, IsSummary, Marks};
 
 fn with_bit(word: u64, k: u32) -> u64
     requires { k < 64 }
@@ -30,7 +30,7 @@ fn lowest_clear(word: u64) -> usize
 
 pub fn is_set(words: &[u64], place: usize) -> bool
     requires { place < 64 * length words.now }
-    ensures { result ≡ flag words.now place }
+    ensures { result ≡ is_set words.now place }
 {
     (words[place / 64] >> (place % 64)) & 1 == 1
 }
@@ -55,9 +55,9 @@ fn clear_bit(words: &mut [u64], place: usize)
 fn first_clear(words: &[u64]) -> Option<usize>
     requires { length words.now ≤ 2 ^ 32 }
     ensures within { IfSome result (λ place. place < 64 * length words.now) }
-    ensures clear { IfSome result (λ place. flag words.now place ≡ false) }
-    ensures first { IfSome result (λ place. (k : ℕ) → k < place → flag words.now k ≡ true) }
-    ensures none { IfNone result ((k : ℕ) → k < 64 * length words.now → flag words.now k ≡ true) }
+    ensures clear { IfSome result (λ place. is_set words.now place ≡ false) }
+    ensures first { IfSome result (λ place. (k : ℕ) → k < place → is_set words.now k ≡ true) }
+    ensures none { IfNone result ((k : ℕ) → k < 64 * length words.now → is_set words.now k ≡ true) }
 {
     for (i, word) in words.iter().enumerate() {
         if *word != u64::MAX {
@@ -74,9 +74,9 @@ pub fn first_free(words: &[u64], full: &[u64]) -> Option<usize>
     requires summary { IsSummary words.now full.now }
     // The first place whose bit is clear.
     ensures within { IfSome result (λ place. place < 64 * length words.now) }
-    ensures clear { IfSome result (λ place. flag words.now place ≡ false) }
-    ensures first { IfSome result (λ place. (k : ℕ) → k < place → flag words.now k ≡ true) }
-    ensures none { IfNone result ((k : ℕ) → k < 64 * length words.now → flag words.now k ≡ true) }
+    ensures clear { IfSome result (λ place. is_set words.now place ≡ false) }
+    ensures first { IfSome result (λ place. (k : ℕ) → k < place → is_set words.now k ≡ true) }
+    ensures none { IfNone result ((k : ℕ) → k < 64 * length words.now → is_set words.now k ≡ true) }
 {
     let i = first_clear(full)?;
     if i >= words.len() {
@@ -88,7 +88,7 @@ pub fn first_free(words: &[u64], full: &[u64]) -> Option<usize>
 // Sets the bit at a place, in the index too where that fills the word.
 pub fn take(words: &mut [u64], full: &mut [u64], place: usize)
     requires within { place < 64 * length words.old }
-    requires clear { flag words.old place ≡ false }
+    requires clear { is_set words.old place ≡ false }
     requires summary { IsSummary words.old full.old }
     ensures marks { Marks words.old words.new place true }
     ensures summary { IsSummary words.new full.new }

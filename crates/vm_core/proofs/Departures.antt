@@ -48,7 +48,7 @@ kept-left old new spaces entries seats seat f cut k step =
     let disks = disks-kept old.store new.store f.number (home f.disk) (out seat) step.bays.0 refl refl step.bays.1 in
     let frames = step.frames in
     let was = k.frames in
-    record { frames = omega (arith, disks, frames, was); files = k.files; seated = k.seated }
+    record { frames = omega (arith, disks, frames, was); plain = k.plain; seated = k.seated }
 
 -- THE EVENT.
 pub leaving : (s : KernelState) (new : World) (cut : PageName → Bool) (pending seat : ℕ) (p : Plan) (kept : KeptPlan) (f : FlightSeen) → WorldStep s.memory.world new s.memory.spaces (leaves seat (note_of f)) cut → PendsTails s.memory.world cut s.pending pending → IsKeptFor s seat p kept

@@ -37,7 +37,7 @@ kept-still old new spaces entries seats k step =
     let disks = ap (λ (bays : List BaySeen). length (filter is_disk bays)) step.bays in
     let frames = step.frames in
     let was = k.frames in
-    record { frames = omega (arith, disks, frames, was); files = k.files; seated = k.seated }
+    record { frames = omega (arith, disks, frames, was); plain = k.plain; seated = k.seated }
 
 pub hand-event-as : (s t : KernelState) (new : World) (seat : ℕ) (answer : Option Plan) (kept : Option KeptPlan) (pending : ℕ) → s ≡ t → kept ≡ option_map (kept_of_clock seat) answer → pending ≡ s.pending → KeepsPages s.memory.world new s.memory.spaces
     → IfSome answer (CanRunPlan (record s.memory { world = new }) None) → IsEvent seat t None (record (after_hand s new kept) { pending = pending }) None

@@ -176,7 +176,7 @@ kept-ended old new f spaces entries seats k flight is laws =
     let disks = disks-kept old new f.number (out f.seat) (home f.disk) flight.out.bay refl refl (ap (λ (x : StoreSeen). x.bays) is ∙ landed-bays (with_pair_settled old f) f (is_lost f.writes f.outcome (row_at (with_pair_settled old f).rows f.frame).gone)) in
     let frames = laws.touches.frames in
     let was = k.frames in
-    record { frames = omega (arith, disks, frames, was); files = k.files; seated = k.seated }
+    record { frames = omega (arith, disks, frames, was); plain = k.plain; seated = k.seated }
 
 -- THE FLIGHT is one that is out.
 pub note-here : (seats : Seats) (seat : ℕ) (sent : Sent) → seats seat ≡ Some sent → notes_of seats seat ≡ Some sent.note

@@ -1,12 +1,11 @@
 -- A call that is served becomes an event.
-use Rattle.std.proofs.Common.{◌≡◌, ◌≢◌, ℕ, zero, suc, ◌+◌, ◌-◌, ◌<◌, ◌≤◌, ◌==◌, ◌||◌, Bool, true, false, cond, List, [], ◌∷◌, ◌++◌, length, Option, Some, None, refl, sym, ap, ◌∙◌, inl, inr, subst, arith, get_or-set_same, get_or-set_other, length-set}
-use Rattle.std.specs.Prelude.{Result, Ok, Err, IfOk, OnErr, ◌↔◌, ◌⊎◌, filter, is_none, slice_index_or, slice_set, IsTrue, IsFalse, IsSome, IsSomeAnd, MatchOption, MatchBool}
+use Rattle.std.proofs.Common.{◌≡◌, ◌≢◌, ℕ, zero, suc, ◌-◌, ◌<◌, ◌≤◌, ◌==◌, ◌||◌, Bool, true, false, cond, List, [], length, Option, Some, None, refl, sym, ap, ◌∙◌, inl, inr, subst, arith, get_or-set_same, get_or-set_other, length-set}
+use Rattle.std.specs.Prelude.{Result, Ok, Err, IfOk, OnErr, ◌↔◌, filter, slice_index_or, slice_set, IsSome, IsSomeAnd, MatchOption, MatchBool}
 use Rattle.std.proofs.lemmas.Bool.{cases_eq}
 use Rattle.std.proofs.lemmas.Bool.Decides.{eqb_tells}
 use Rattle.core_arena.specs.Bytes.{bytes_at}
-use Rattle.flat_model.specs.Births.{is_birth, is_done, is_fork_of}
+use Rattle.flat_model.specs.Births.{is_birth, is_done}
 use Rattle.flat_model.specs.Flat.{Flat}
-use Rattle.flat_model.specs.History.{is_io}
 use Rattle.flat_model.specs.OpenLaws.{last_entry, IsOpenPart, FollowsOn, MayFollow}
 use Rattle.flat_model.specs.Told.{entries_of}
 use Rattle.page_store.specs.Away.{is_disk}
@@ -24,9 +23,7 @@ use Rattle.vm_types.specs.WellFormed.{IsWellFormed}
 use Rattle.vm_types.specs.declared.call.Call.{Call}
 use Rattle.vm_types.specs.declared.call.Call.TheVariants.{Load, Store, Map, Exit, Fork}
 use Rattle.vm_types.specs.declared.call.Kind.{Kind}
-use Rattle.vm_types.specs.declared.call.Kind.TheVariants.{Shared}
 use Rattle.vm_types.specs.declared.call.Object.{Object}
-use Rattle.vm_types.specs.declared.call.Object.TheVariants as object
 use Rattle.vm_types.specs.declared.call.Place.{Place}
 use Rattle.vm_types.specs.declared.call.Place.TheVariants.{At}
 use Rattle.vm_types.specs.declared.prot.Prot.{Prot}
@@ -34,24 +31,22 @@ use Rattle.vm_types.specs.declared.call.Entry.{Entry}
 use Rattle.vm_types.specs.declared.call.Reply.{Reply}
 use Rattle.vm_types.specs.declared.call.Reply.TheVariants as reply
 use Rattle.vm_world.specs.CallSteps.{StaysAlive}
-use Rattle.vm_world.specs.EntryLaws.{LocksAfter, StartsAfter, MayUseFile}
+use Rattle.vm_world.specs.EntryLaws.{LocksAfter, StartsAfter}
 use Rattle.vm_world.specs.Events.{IsEvent, CanTry}
 use Rattle.vm_world.specs.Failures.{with_entry_made}
 use Rattle.vm_world.specs.FlatMemory.{Memory}
 use Rattle.vm_world.specs.HistoryFits.{CallsFit}
-use Rattle.vm_world.specs.MemoryFits.{MemoryFits}
-use Rattle.vm_world.specs.Segments.{Spaces, Spot, spot_at}
+use Rattle.vm_world.specs.PlainSteps.{ShowNoZeros}
+use Rattle.vm_world.specs.Segments.{Spaces}
 use Rattle.vm_world.specs.Serving.{ServesDone, ServesNeed, ServesBusy}
-use Rattle.vm_world.specs.ServingLaws.{done_entry, after_need, after_wait, IsOfAnother, MayAnswer}
-use Rattle.vm_world.specs.SpaceSteps.{OnlyFiles, IsFileMapping}
+use Rattle.vm_world.specs.ServingLaws.{done_entry, after_need, after_wait, IsOfAnother}
 use Rattle.vm_world.specs.State.{KernelState, Seats, seat_of, room_of}
 use Rattle.vm_world.specs.StateFits.{StateFits}
 use Rattle.vm_world.specs.Wants.{HoldsUp}
 use Rattle.vm_world.specs.World.{World}
 use Rattle.vm_world.proofs.NextParts.{next-file}
 use Rattle.vm_world.proofs.Servings.{serving_law}
-use Rattle.vm_world.proofs.Spots.{spot-part}
-use Rattle.mmap_calls.specs.FileMaps as maps
+use Rattle.mmap_calls.specs.Maps as maps
 use Rattle.proc_calls.specs.Ends as procs
 use Rattle.fault_entry.specs.Accesses.{MayBeAnswered}
 use Rattle.seg_vn.specs.Serves.{Serves, IsPlainReply}
@@ -80,7 +75,7 @@ served-is Exit h = record { file = refl; part = refl; plain = λ child e. let z 
 served-is call h = absurd h
 
 pub map-served : (place : Place) (len : ℕ) (prot : Prot) (kind : Kind) (obj : Object) (offset : ℕ) → IsServed (Map place len prot kind obj offset) → maps.IsServedMap (Map place len prot kind obj offset)
-map-served (At a) len prot Shared (object.File f) offset h = tt
+map-served (At a) len prot kind obj offset h = h
 map-served place len prot kind obj offset h = absurd h
 
 -- No lock of a file is the seat's, before and after such a call.
@@ -215,17 +210,17 @@ pub home-frame : (store : StoreSeen) (spaces : Spaces) (entries : List ℕ) (sea
 home-frame store spaces entries seats notes table k sound fits beside = let few = away_law.disks store notes table sound fits in let enough = k.frames in home-beside store.frames beside (omega (arith, few, enough))
 
 -- WHAT IS KEPT after a call was served.
-kept-moved : (old new : World) (spaces after : Spaces) (entries : List ℕ) (seats : ℕ) → IsSoundKernel old.store spaces entries seats → OnlyFiles after → new.store.bays ≡ old.store.bays → length new.store.frames ≡ length old.store.frames → IsSoundKernel new.store after entries seats
-kept-moved old new spaces after entries seats k files bays frames =
+kept-moved : (old new : World) (spaces after : Spaces) (entries : List ℕ) (seats : ℕ) → IsSoundKernel old.store spaces entries seats → ShowNoZeros after → new.store.bays ≡ old.store.bays → length new.store.frames ≡ length old.store.frames → IsSoundKernel new.store after entries seats
+kept-moved old new spaces after entries seats k plain bays frames =
     let disks = ap (λ (b : List BaySeen). length (filter is_disk b)) bays in
     let was = k.frames in
-    record { frames = omega (arith, disks, frames, was); files = files; seated = k.seated }
+    record { frames = omega (arith, disks, frames, was); plain = plain; seated = k.seated }
 
-pub kept-served : (old new : Memory) (pending more p : ℕ) (call : Call) (a : Attempt) (entries : List ℕ) (seats : ℕ) → IsSoundKernel old.world.store old.spaces entries seats → OnlyFiles new.spaces → Serves old new pending more p call a → IsSoundKernel new.world.store new.spaces entries seats
-kept-served old new pending more p call (Done reply) entries seats k files s =
-    let m = (s.acts 0).machine in kept-moved old.world new.world old.spaces new.spaces entries seats k files (m.bays ∙ s.first.step.bays) (m.frames ∙ s.first.step.frames)
-kept-served old new pending more p call (Need plan) entries seats k files s = kept-moved old.world new.world old.spaces new.spaces entries seats k files s.first.step.bays s.first.step.frames
-kept-served old new pending more p call (Busy h) entries seats k files s = let b = s [] in kept-moved old.world new.world old.spaces new.spaces entries seats k files b.first.step.bays b.first.step.frames
+pub kept-served : (old new : Memory) (pending more p : ℕ) (call : Call) (a : Attempt) (entries : List ℕ) (seats : ℕ) → IsSoundKernel old.world.store old.spaces entries seats → ShowNoZeros new.spaces → Serves old new pending more p call a → IsSoundKernel new.world.store new.spaces entries seats
+kept-served old new pending more p call (Done reply) entries seats k plain s =
+    let m = (s.acts 0).machine in kept-moved old.world new.world old.spaces new.spaces entries seats k plain (m.bays ∙ s.first.step.bays) (m.frames ∙ s.first.step.frames)
+kept-served old new pending more p call (Need plan) entries seats k plain s = kept-moved old.world new.world old.spaces new.spaces entries seats k plain s.first.step.bays s.first.step.frames
+kept-served old new pending more p call (Busy h) entries seats k plain s = let b = s [] in kept-moved old.world new.world old.spaces new.spaces entries seats k plain b.first.step.bays b.first.step.frames
 
 -- A reply of an access is its own.
 plain-own : (r : Reply) → IsPlainReply r → IsOwnReply (Done r)
@@ -266,10 +261,10 @@ pub err-then : {E : Type 0} (P Q : Type 0) (r : Result Attempt E) → (P → Q) 
 err-then P Q (Ok a) f h = h
 err-then P Q (Err e) f h = f h
 
-pub kept-result : {E : Type 0} (old new : Memory) (pending more p : ℕ) (call : Call) (r : Result Attempt E) (entries : List ℕ) (seats : ℕ) → IsSoundKernel old.world.store old.spaces entries seats → OnlyFiles new.spaces → IfOk r (λ a. Serves old new pending more p call a)
+pub kept-result : {E : Type 0} (old new : Memory) (pending more p : ℕ) (call : Call) (r : Result Attempt E) (entries : List ℕ) (seats : ℕ) → IsSoundKernel old.world.store old.spaces entries seats → ShowNoZeros new.spaces → IfOk r (λ a. Serves old new pending more p call a)
     → OnErr r (new ≡ old) → IsSoundKernel new.world.store new.spaces entries seats
-kept-result old new pending more p call (Ok a) entries seats k files serves same = kept-served old new pending more p call a entries seats k files serves
-kept-result old new pending more p call (Err e) entries seats k files serves same = subst (λ (m : Memory). IsSoundKernel m.world.store m.spaces entries seats) (sym same) k
+kept-result old new pending more p call (Ok a) entries seats k plain serves same = kept-served old new pending more p call a entries seats k plain serves
+kept-result old new pending more p call (Err e) entries seats k plain serves same = subst (λ (m : Memory). IsSoundKernel m.world.store m.spaces entries seats) (sym same) k
 
 -- Nothing changed.
 pub same-again : (s t : KernelState) (m : Memory) (pending : ℕ) → s ≡ t → m ≡ s.memory → pending ≡ s.pending → with_memory s m pending ≡ t

@@ -30,7 +30,7 @@ use Rattle.vnode_files.proofs.LayoutLaws.{file_layout_law}
 use Rattle.vm_world.specs.FramesFit.{FilesFit, DisksFit, HasSize}
 use Rattle.vm_world.specs.Opening.{IsIdleStore, IsOpeningMemory, IsOpening}
 use Rattle.vm_world.specs.Segments.{Spaces}
-use Rattle.vm_world.specs.SpaceSteps.{OnlyFiles, IsFileMapping}
+use Rattle.vm_world.specs.PlainSteps.{ShowNoZeros}
 use Rattle.vm_world.specs.State.{KernelState, is_top}
 use Rattle.vm_world.specs.declared.segment.Segment.{Segment}
 use Rattle.vm_world.specs.World.{file_blocks, file_name}
@@ -293,13 +293,13 @@ opens s frames slots seats places disks swap new sound still counted swap_counte
     }
 
 -- nothing is mapped
-pub only-none : (parents : List ℕ) (spaces : Spaces) → ((p : ℕ) → finite.get spaces p ≡ top_space parents p) → OnlyFiles spaces
-only-none parents spaces tops p parts is = by_top (is_top parents p) (sym (tops p) ∙ is)
+pub plain-none : (parents : List ℕ) (spaces : Spaces) → ((p : ℕ) → finite.get spaces p ≡ top_space parents p) → ShowNoZeros spaces
+plain-none parents spaces tops p parts is = by_top (is_top parents p) (sym (tops p) ∙ is)
   where
-    by_top : (b : Bool) → cond b (Some []) None ≡ Some parts → All (λ part. IsFileMapping part.piece) parts
+    by_top : (b : Bool) → cond b (Some []) None ≡ Some parts → All (λ part. part.piece.shown ≡ None) parts
     by_top true e =
         let nil : [] ≡ parts = let z : ◌≡◌ {A = Option (List (Part Segment))} (Some []) (Some parts) = e in cc in
-        subst (λ (ps : List (Part Segment)). All (λ part. IsFileMapping part.piece) ps) nil (All-nil (λ part. IsFileMapping part.piece))
+        subst (λ (ps : List (Part Segment)). All (λ part. part.piece.shown ≡ None) ps) nil (All-nil (λ part. part.piece.shown ≡ None))
     by_top false e = absurd (let z : ◌≡◌ {A = Option (List (Part Segment))} None (Some parts) = e in cc)
 
 -- the numbers of disks, as they are seen
@@ -319,4 +319,4 @@ kept-start store spaces parents entries frames count seats syncs disks swap new 
     let disks_are = count-disks store.bays disks swap new.bays in
     let frames_are = ap (λ (l : List (Option (List ℕ))). length l) new.frames ∙ length-replicate frames (Some zeros) in
     let seats_are = ap (λ (l : List (Option ℕ)). length l) are ∙ length-replicate seats None in
-    record { frames = omega (arith, disks_are, frames_are, enough); files = only-none parents spaces tops; seated = omega (arith, seats_are, few) }
+    record { frames = omega (arith, disks_are, frames_are, enough); plain = plain-none parents spaces tops; seated = omega (arith, seats_are, few) }

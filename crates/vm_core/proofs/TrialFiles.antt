@@ -133,3 +133,14 @@ two-numbers disks d e is = subst (λ (l : List (ℕ × _)). AreNumbers (numbers_
 
 pub is-set : (f : FilesSeen) (disk number : ℕ) → f.disks ≡ trial_disks.disks → disk ≡ number → finite.get trial_disks.disks number ≡ Some 16 → IsSome (finite.get f.disks disk)
 is-set f disk number same is set = subst (λ (o : Option ℕ). IsSome o) (sym (ap (λ (m : finite.FinMap nat_cmp ℕ). finite.get m disk) same ∙ ap (finite.get trial_disks.disks) is ∙ set)) refl
+
+-- no file needs no disk
+pub none-on-disks : (disks : List (ℕ × DiskSeen)) → FilesOnDisks no_files disks
+none-on-disks disks = record {
+  set = λ file lt. absurd (omega (arith, lt));
+  there = λ number blocks at. absurd (let e : ◌≡◌ {A = Option ℕ} None (Some blocks) = sym (finite.get-empty nat_cmp number) ∙ at in cc);
+  lie = All-nil _;
+  apart = λ disk block. omega arith;
+  few = λ disk. omega arith;
+  some = λ file lt. absurd (omega (arith, lt));
+}

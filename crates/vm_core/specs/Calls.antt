@@ -1,11 +1,9 @@
 -- What a call that is tried leaves of the state. Public clauses cite this.
-use Rattle.std.specs.Prelude.{◌≡◌, ◌≢◌, ℕ, Option, Some, None, IsFalse}
+use Rattle.std.specs.Prelude.{◌≡◌, ◌≢◌, ℕ, Some, None, IsFalse}
 use Rattle.page_store.specs.declared.plan.Hold.{Hold}
 use Rattle.page_store.specs.declared.plan.Plan.{Plan}
 use Rattle.vm_types.specs.declared.call.Call.{Call}
 use Rattle.vm_types.specs.declared.call.Call.TheVariants.{Load, Store, Map, Exit}
-use Rattle.vm_types.specs.declared.call.Kind.TheVariants.{Shared}
-use Rattle.vm_types.specs.declared.call.Object.TheVariants as object
 use Rattle.vm_types.specs.declared.call.Place.TheVariants.{At}
 use Rattle.vm_types.specs.declared.call.Reply.{Reply}
 use Rattle.vm_types.specs.declared.call.Reply.TheVariants.{Synced}
@@ -17,14 +15,15 @@ use Rattle.vm_world.specs.Wants.{MayPlan, MayHold}
 use Rattle.vm_world.specs.World.{World}
 use Rattle.seg_vn.specs.declared.attempt.Attempt.{Attempt}
 use Rattle.seg_vn.specs.declared.attempt.Attempt.TheVariants.{Done, Need, Busy}
+use Rattle.mmap_calls.specs.Maps.{IsServedObject}
 use Rattle.vm_core.specs.Flights.{AddsEntry, AddsNoEntry}
 use Rattle.vm_core.specs.State.{with_next_entry}
 
--- The calls that are served so far: loads, stores, the mapping of a file at an address, shared, and the exit.
+-- The calls that are served so far: loads, stores, the mapping at an address of a file, or of private new zero memory, and the exit.
 abbrev pub IsServed : Call → Type 0
 IsServed (Load a n) = Unit {0}
 IsServed (Store a n v) = Unit {0}
-IsServed (Map (At a) len prot Shared (object.File f) offset) = Unit {0}
+IsServed (Map (At a) len prot kind o offset) = IsServedObject kind o
 IsServed Exit = Unit {0}
 IsServed call = ⊥
 

@@ -1,19 +1,16 @@
 -- What the begin and the end of a transfer leave of the state. Public clauses cite this.
 use Rattle.std.specs.Prelude.{◌≡◌, ◌++◌, ◌∷◌, [], ℕ, List, Option, Some, None, IsSome}
-use Rattle.vm_types.specs.declared.call.Call.{Call}
 use Rattle.vm_types.specs.declared.call.Entry.{Entry}
 use Rattle.vm_types.specs.declared.call.Reply.{Reply}
 use Rattle.vm_types.specs.declared.call.Reply.TheVariants.{Io}
 use Rattle.hat_layer.specs.declared.translation.Translation.{Translation}
 use Rattle.page_hash.specs.Names.{find}
-use Rattle.page_store.specs.Bays.{home, bay_at}
 use Rattle.page_store.specs.Flight.{FlightSeen, Progress, fresh, done, failed, IsPerformed, note_of}
 use Rattle.page_store.specs.Steps.{next_frame}
 use Rattle.page_store.specs.declared.plan.Plan.{Plan}
 use Rattle.page_store.specs.declared.plan.Plan.TheVariants as plan
 use Rattle.seg_ops.specs.Flights.{places_pushed}
 use Rattle.vm_world.specs.EntryLaws.{LocksAfter, StartsAfter}
-use Rattle.vm_world.specs.Failures.{io_entry}
 use Rattle.vm_world.specs.State.{KernelState, KeptPlan, Sent, Caller}
 use Rattle.vm_world.specs.Wants.{IsDirtyPage, MayReadIn}
 use Rattle.vm_world.specs.World.{World}

@@ -5,7 +5,7 @@ ghost use Rattle.fault_entry.specs.Accesses.{IsAccess};
 ghost use Rattle.page_store.specs.Notes.{Notes};
 ghost use Rattle.flat_model.specs.Told.{entries_of};
 ghost use Rattle.seg_vn.specs.declared.attempt.Attempt.TheVariants.{Done};
-ghost use Rattle.mmap_calls.specs.FileMaps as maps;
+ghost use Rattle.mmap_calls.specs.Maps as maps;
 ghost use Rattle.proc_calls.specs.Ends as procs;
 ghost use Rattle.vm_types.specs.WellFormed.{IsWellFormed};
 ghost use Rattle.vm_types.specs.declared.call.Reply.{Reply};
@@ -110,7 +110,7 @@ impl<D: Disk> VmState<D> {
         fault_entry::attempt(&mut self.world, &mut self.spaces, process, call)
     }
 
-    // What is answered to a shared Map of a file at an address.
+    // What is answered to a Map at an address.
     fn map(&mut self, process: u32, call: &Call) -> Result<Attempt, AllocError>
         requires formed { IsWellFormed call.now }
         requires served { maps.IsServedMap call.now }

@@ -10,7 +10,7 @@ use super::*;
 use crate::trial::Told::{self, Busy, Done, Landed, Sent, Still};
 use crate::trial::Trial;
 use Act::{Clock, Do, Land, Try};
-use What::{Exit, Load, Map, Store};
+use What::{Exit, Load, Map, Store, Zero};
 use block_device::{Block, MemDisk};
 use page_store::Hold;
 use std::alloc::{AllocError, Global};
@@ -37,6 +37,8 @@ enum What {
     Store(u32, u32),
     /// Maps so many bytes at an address, to be read and, where this says so, written: a file from an offset on.
     Map(u32, u32, bool, u32, u32),
+    /// Maps so many bytes of private zero memory at an address.
+    Zero(u32, u32),
     Exit,
 }
 
@@ -106,6 +108,25 @@ fn started(alloc: Global) -> Result<Trial, Fail> {
     }
 }
 
+/// One process over eight frames and four translations, with one swap slot and no file.
+fn swapping(alloc: Global) -> Result<Trial, Fail> {
+    let setup = Setup {
+        frames: 8,
+        translations: 4,
+        slots: 1,
+        disks: Vec::new(alloc),
+        swap: Some(new_disk(alloc, 0, &[])?),
+        files: Files::new(alloc),
+        parents: [0u32].to_vec(alloc)?,
+        entries: [99u32].to_vec(alloc)?,
+        seats: 2,
+    };
+    match VmState::start(alloc, setup) {
+        Ok(state) => Ok(Trial::new(state)),
+        Err(_) => Err(Fail::new("no memory for the state")),
+    }
+}
+
 fn call_of(what: What) -> Call
     ensures { IsServed result }
 {
@@ -127,6 +148,14 @@ fn call_of(what: What) -> Call
             kind: Kind::Shared,
             object: Object::File(file),
             offset,
+        },
+        What::Zero(addr, length) => Call::Map {
+            place: Place::At(addr),
+            length,
+            prot: Prot::READ | Prot::WRITE,
+            kind: Kind::Private,
+            object: Object::NewZero,
+            offset: 0,
         },
         What::Exit => Call::Exit,
     }
@@ -158,6 +187,8 @@ const NO_OBJECT: Told = Done(Reply::Refused(Errno::NoObject));
 const ACCESS: Told = Done(Reply::Refused(Errno::Access));
 
 const TOO_LARGE: Told = Done(Reply::Refused(Errno::TooLarge));
+
+const NO_SWAP: Told = Done(Reply::Refused(Errno::NoSwap));
 
 const READ_FAILS: Told = Done(Reply::Io {
     disk: 0,
@@ -435,6 +466,44 @@ fn first_other(trial: &mut Trial, acts: &[(Act, Told)]) -> Result<Option<Other>,
     Ok(None)
 }
 
+/// A page is replaced while its push is out: the new page takes its slot, and the old one's push does it no harm.
+fn a_page_goes_during_its_push(trial: &mut Trial) -> Result<Option<Other>, Fail> {
+    first_other(
+        trial,
+        &[
+            (Do(0, Zero(0x2000, 0x2000)), NO_SWAP),
+            (Do(0, Zero(0x2000, 0x1000)), Done(Mapped(0x2000))),
+            (Do(0, Store(0x2000, 0x11)), STORED),
+            (Clock(1, 32), Sent),
+            (Do(0, Zero(0x2000, 0x1000)), Done(Mapped(0x2000))),
+            (Do(0, Load(0x2000)), Done(Word(0))),
+            (Do(0, Store(0x2000, 0x22)), STORED),
+            (Land(1), Landed),
+            (Clock(1, 32), Sent),
+            (Land(1), Landed),
+            (Clock(1, 32), Still),
+            (Do(0, Load(0x2000)), Done(Word(0x22))),
+        ],
+    )
+}
+
+/// A page is stored into while its push is out: it shows the word, and goes out once more.
+fn a_page_is_stored_into_during_its_push(trial: &mut Trial) -> Result<Option<Other>, Fail> {
+    first_other(
+        trial,
+        &[
+            (Do(0, Store(0x2000, 0x11)), STORED),
+            (Clock(1, 32), Sent),
+            (Try(0, Load(0x2000)), Done(Word(0x11))),
+            (Try(0, Store(0x2000, 0x22)), STORED),
+            (Land(1), Landed),
+            (Do(0, Load(0x2000)), Done(Word(0x22))),
+            (Clock(1, 32), Sent),
+            (Land(1), Landed),
+        ],
+    )
+}
+
 #[test]
 fn two_processes_use_files_through_few_frames(rt: HostRuntime) -> Result<(), Fail> {
     let mut trial = started(rt.alloc())?;
@@ -457,5 +526,16 @@ fn two_processes_use_files_through_few_frames(rt: HostRuntime) -> Result<(), Fai
     for (number, disk) in &finished.disks {
         assert_eq!(rt; wrong_block(*number, disk), None, "disk {number}");
     }
+    Ok(())
+}
+
+#[test]
+fn a_private_page_goes_to_swap(rt: HostRuntime) -> Result<(), Fail> {
+    let mut trial = swapping(rt.alloc())?;
+    assert_eq!(rt; a_page_goes_during_its_push(&mut trial)?, None);
+    assert_eq!(rt; a_page_is_stored_into_during_its_push(&mut trial)?, None);
+    let finished = trial.finish()?;
+    assert_eq!(rt; finished.fault, None);
+    assert_eq!(rt; finished.history.entries().len(), 11);
     Ok(())
 }

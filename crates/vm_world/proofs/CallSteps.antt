@@ -36,7 +36,8 @@ use Rattle.vm_world.specs.CallSteps.{ActsOnPages, ActsOnMemory, ChangesMemory, S
 use Rattle.vm_world.specs.Failures.{with_entry_made}
 use Rattle.vm_world.specs.State.{KernelState, Seats, Sent, KeptPlan, notes_of, seat_of, room_of}
 use Rattle.vm_world.specs.StateFits.{StateFits}
-use Rattle.vm_world.proofs.Callers.{caller-kept, caller-longer, same-modes}
+use Rattle.vm_world.proofs.Callers.{caller-kept, caller-longer}
+use Rattle.vm_world.proofs.Changes.{machine-kept, changes-then}
 use Rattle.vm_world.proofs.Entries.{entry-history, entry-faults, entry-calls, entry-rooms, entry-births, entry-part, not-left}
 use Rattle.vm_world.proofs.MayFails.{alive-flat}
 use Rattle.vm_world.proofs.StateSteps.{same-seats, sizes-still}
@@ -97,7 +98,7 @@ process-is (suc q) seat n entries own room = ap suc own
 -- ON PAGES ALONE.
 rule-pages : (old new : World) (spaces : Spaces) (e : Entry) → ActsOnPages old new spaces e → ActsOnMemory (record { world = old; spaces = spaces }) (record { world = new; spaces = spaces }) e
 rule-pages old new spaces e act = record {
-  machine = record { core = act.core; frames = act.frames; slots = ap length act.tables.counts; disks = act.tables.disks; modes = same-modes old new act.tables; bays = act.bays };
+  machine = machine-kept old new act.core act.frames act.tables act.bays;
   others = λ q far. refl;
   memory = act.memory;
   notes = act.notes;
@@ -109,23 +110,8 @@ rule-pages old new spaces e act = record {
 rule-joined : (p : ℕ) (u v w : Memory) (first second : Flat → Flat)
     → ((born : set.FinSet nat_cmp) (notes : Notes) → NotesFit u.world notes → AllTell u.world notes → IsFlat (flat_memory u born notes) → IsFlat (first (flat_memory u born notes)))
     → ChangesMemory p u v (λ F G. G ≡ first F) → ChangesMemory p v w (λ F G. G ≡ second F) → ChangesMemory p u w (λ F G. G ≡ second (first F))
-rule-joined p u v w first second whole a b = record {
-  machine = record {
-    core = b.machine.core ∙ a.machine.core;
-    frames = b.machine.frames ∙ a.machine.frames;
-    slots = b.machine.slots ∙ a.machine.slots;
-    disks = b.machine.disks ∙ a.machine.disks;
-    modes = b.machine.modes ∙ a.machine.modes;
-    bays = b.machine.bays ∙ a.machine.bays;
-  };
-  others = λ q far. b.others q far ∙ a.others q far;
-  memory = b.memory;
-  notes = λ notes nf. b.notes notes (a.notes notes nf);
-  tells = λ notes nf. let one = a.tells notes nf in let two = b.tells notes (a.notes notes nf) in ((λ tell. two.0 (one.0 tell)), (λ tell. one.1 (two.1 tell)));
-  flat = λ born notes nf tell is.
-      let mid : flat_memory v born notes ≡ first (flat_memory u born notes) = a.flat born notes nf tell is in
-      b.flat born notes (a.notes notes nf) ((a.tells notes nf).0 tell) (subst IsFlat (sym mid) (whole born notes nf tell is)) ∙ ap second mid;
-}
+rule-joined p u v w first second whole =
+    changes-then p u v w (λ F G. G ≡ first F) (λ F G. G ≡ second F) (λ F G. G ≡ second (first F)) (λ born notes nf tell is x. subst IsFlat (sym x) (whole born notes nf tell is)) (λ F G H x y. y ∙ ap second x)
 
 -- DONE.
 pub rule-done : (s : KernelState) (new : Memory) (seat : ℕ) (e : Entry) (calls syncs : List (Option ℕ)) → ActsOnMemory s.memory new e → StaysAlive new e.process e.call → MayEnter s seat e → LocksAfter e s.calls calls → StartsAfter e s.syncs syncs → length syncs ≡ length s.syncs

@@ -24,6 +24,7 @@ use Rattle.flat_model.proofs.Ranges.{get-insert_here, get-insert_apart}
 use Rattle.flat_model.proofs.Sums.{total, total-insert}
 use Rattle.flat_model.proofs.WellFormed.{IsPage-zero_page}
 use Rattle.page_hash.specs.declared.PageName.{PageName}
+use Rattle.anon_map.proofs.MapLaws.{with_map_same}
 use Rattle.vm_world.specs.CountsFit.{CountsFit, SegmentFits, ObjectFits, OwnFits, times_had, is_number, slots_for_part}
 use Rattle.vm_world.specs.FlatMemory.{Memory, flat_memory, cell_of, own_page, own_without_slot, zero_maps, zero_pages, pages_from}
 use Rattle.vm_world.specs.MapSteps.{maps_made, maps_held}
@@ -32,10 +33,10 @@ use Rattle.vm_world.specs.Pages.{place_contents, page_value, contents_of}
 use Rattle.vm_world.specs.SegmentSteps.{with_part_come, with_zero_part, with_new_cells, with_new_zero, MayCome, MayMakeZero, IsOwnNew, segment_cell, ChangesSegments}
 use Rattle.vm_world.specs.Segments.{Segment, Spaces, zero_map}
 use Rattle.vm_world.specs.World.{slot_in, slot_name}
-use Rattle.vm_world.proofs.FileMappings.{all-turn}
 use Rattle.vm_world.proofs.GoneParts.{shown-of-zero}
 use Rattle.vm_world.proofs.KeptMaps.{KeepsMaps, same-places, same-there, own-there, shown-there, is-the-number, all-both, all-every, slot-in-same}
-use Rattle.vm_world.proofs.MapChanges.{made, made-else, made-sum, made-holders, held-else, held-places, held-sum, held-holders, with-here, slot-replicate, count-empty}
+use Rattle.vm_world.proofs.Lists.{all-turn}
+use Rattle.vm_world.proofs.MapChanges.{made, made-else, made-sum, made-holders, held-else, held-places, held-sum, held-holders, slot-replicate, count-empty}
 use Rattle.vm_world.proofs.Maps.{get-map_with}
 use Rattle.vm_world.proofs.NewParts.{Comes, part-comes}
 use Rattle.vm_world.proofs.PartSums.{all_parts, part-le, sum-segments}
@@ -219,7 +220,7 @@ module _ (m : Memory) (p : ℕ) (parts : List (Part Segment)) (x : Part Segment)
   own-here : (k : ℕ) → x.piece.own ≡ Some k → anon_map_at now k ≡ Some (fresh_map (replicate x.piece.pages None))
   own-here k its =
       held-else mid x.piece.shown k (λ shown. absurd (let t : IsSome (anon_map_at maps k) = (shown-x k shown).0 in let z : false ≡ true = sym (ap is_some (unused k its).absent) ∙ t in cc))
-      ∙ ap (λ (o : Option ℕ). anon_map_at (maps_made maps o x.piece.pages) k) its ∙ with-here maps k (fresh_map (replicate x.piece.pages None)) (unused k its)
+      ∙ ap (λ (o : Option ℕ). anon_map_at (maps_made maps o x.piece.pages) k) its ∙ with_map_same maps k (fresh_map (replicate x.piece.pages None)) (unused k its)
 
   part-x : SegmentFits files now x
   part-x = record {
@@ -345,7 +346,7 @@ module _ (m : Memory) (p : ℕ) (parts : List (Part Segment)) (x : Part Segment)
   same-made n there = made-else maps_before x.piece.shown x.piece.pages n is-unused there
 
   here-made : anon_map_at with_made number ≡ Some (fresh_map (replicate x.piece.pages None))
-  here-made = ap (λ (o : Option ℕ). anon_map_at (maps_made maps_before o x.piece.pages) number) may.shown ∙ with-here maps_before number (fresh_map (replicate x.piece.pages None)) may.unused
+  here-made = ap (λ (o : Option ℕ). anon_map_at (maps_made maps_before o x.piece.pages) number) may.shown ∙ with_map_same maps_before number (fresh_map (replicate x.piece.pages None)) may.unused
 
   zero-x : zero_map x.piece ≡ Some (z, number)
   zero-x = zero_map-of x.piece z number may.object may.shown

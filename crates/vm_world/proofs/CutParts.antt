@@ -37,8 +37,8 @@ use Rattle.vm_world.specs.Segments.{Segment, Spot, Spaces, spot_at, zero_map, ow
 use Rattle.vm_world.specs.SpaceSteps.{Becomes, first_pages}
 use Rattle.vm_world.specs.World.{slot_in, slot_name}
 use Rattle.vm_world.proofs.ComingParts.{zero-there, zero-pages-of, own-is-unshown}
-use Rattle.vm_world.proofs.FileMappings.{all-turn}
 use Rattle.vm_world.proofs.KeptMaps.{KeepsMaps, Touches, same-places, same-there, kept-fits, kept-cell, others-keep, own-there, shown-there, is-the-number, all-both, all-every, slot-in-same}
+use Rattle.vm_world.proofs.Lists.{all-turn}
 use Rattle.vm_world.proofs.MapChanges.{cut-else, cut-lower, cut-upper, cut-sum, cut-holders, held-else, held-places, held-sum, held-holders}
 use Rattle.vm_world.proofs.PartSums.{all_parts, sum-cut, sum-without_part, sum-insert, sum-segments, part-le}
 use Rattle.vm_world.proofs.Reserves.{total-same}
@@ -190,7 +190,7 @@ module _ (m : Memory) (p page number : ℕ) (parts : List (Part Segment)) (x : P
   shown-x : (n : ℕ) → x.piece.shown ≡ Some n → IsMapThere maps n
   shown-x n its = (shown-there files maps x.piece x.piece.object n fit-x.object its).0
 
-  apart-x : (n : ℕ) → x.piece.shown ≡ Some n → x.piece.own ≢ Some n
+  pub apart-x : (n : ℕ) → x.piece.shown ≡ Some n → x.piece.own ≢ Some n
   apart-x n shown own =
       let a = ap (λ (b : Bool). cond {A = ℕ} b 1 0) (is-the-number n x.piece.own own) in
       let b = ap (λ (b : Bool). cond {A = ℕ} b 1 0) (is-the-number n x.piece.shown shown) in
@@ -198,10 +198,10 @@ module _ (m : Memory) (p page number : ℕ) (parts : List (Part Segment)) (x : P
       let once = (own-x n own).1 in
       omega (arith, a, b, all, once)
 
-  else : (n : ℕ) → IsMapThere maps n → x.piece.own ≢ Some n → anon_map_at mid n ≡ anon_map_at maps n
+  pub else : (n : ℕ) → IsMapThere maps n → x.piece.own ≢ Some n → anon_map_at mid n ≡ anon_map_at maps n
   else n there ne = mid-else maps x.piece.own number cut_to there-own unused n there ne
 
-  there-mid : (n : ℕ) → x.piece.shown ≡ Some n → IsMapThere mid n
+  pub there-mid : (n : ℕ) → x.piece.shown ≡ Some n → IsMapThere mid n
   there-mid n its = same-there maps mid n (else n (shown-x n its) (apart-x n its)) (shown-x n its)
 
   -- the map of a zero object has its places

@@ -32,16 +32,16 @@ use Rattle.vm_world.specs.Pages.{place_contents, page_value, contents_of}
 use Rattle.vm_world.specs.SegmentSteps.{places_left, with_part_gone, MayLeave, ChangesSegments}
 use Rattle.vm_world.specs.Segments.{Segment, Spot, Spaces, spot_at, zero_map}
 use Rattle.vm_world.specs.SpaceSteps.{Becomes}
-use Rattle.vm_world.proofs.FileMappings.{all-turn, all-values, sum-zero}
 use Rattle.vm_world.proofs.FlatSpaces.{Standing, flat-with_space}
 use Rattle.vm_world.proofs.KeptMaps.{KeepsMaps, Touches, same-places, same-holders, same-there, kept-fits, kept-cell, others-keep, own-there, shown-there, shown-counts, number-is, is-the-number, all-both, all-every, slot-in-same}
+use Rattle.vm_world.proofs.Lists.{all-turn, sum-zero}
+use Rattle.vm_world.proofs.Loaded.{loaded-at}
 use Rattle.vm_world.proofs.MapChanges.{released-else, released-held, released-sum, freed-none, freed-length, released-holders, count-empty}
-use Rattle.vm_world.proofs.Maps.{get-map_with}
+use Rattle.vm_world.proofs.Maps.{get-map_with, all-values}
 use Rattle.vm_world.proofs.PartSums.{all_parts, sum-without_part, sum-insert, sum-segments, part-le, segments-all}
 use Rattle.vm_world.proofs.Reserves.{total-same}
 use Rattle.vm_world.proofs.SegmentChange.{counts-change, change-memory, segments-change, spaces-change, shows-kept}
 use Rattle.vm_world.proofs.ShownZeros.{IsShown, shown-by, shown-some, fits-shown, all-spots, zero_map-of}
-use Rattle.vm_world.proofs.SpaceSteps.{loaded-at}
 use Rattle.vm_world.proofs.Spots.{IsSpotOf, spot-part}
 use Rattle.vm_world.proofs.SweptFlat.{space-is, cells-are, cell-is, zero-pages-same, flat-unnamed, cells-stand, stand-without, swept-flat}
 

@@ -21,10 +21,10 @@ use Rattle.vm_world.specs.Segments.{Segment, Spot, Spaces, spot_at}
 use Rattle.vm_world.specs.SpaceSteps.{Becomes, without_space}
 use Rattle.vm_world.proofs.ComingParts.{zero-pages-of}
 use Rattle.vm_world.proofs.FlatSpaces.{flat-without_process}
+use Rattle.vm_world.proofs.Maps.{map-remove}
 use Rattle.vm_world.proofs.PartSums.{sum-remove, sum-segments}
 use Rattle.vm_world.proofs.SegmentChange.{change-memory}
 use Rattle.vm_world.proofs.ShownZeros.{IsShown, shown-by, fits-shown, all-shown, maps-are, zeros-are}
-use Rattle.vm_world.proofs.SpaceSteps.{map-remove}
 
 module _ (m : Memory) (p : ℕ) (fits : MemoryFits m) (is : finite.get m.spaces p ≡ Some []) where
   abbrev after : Spaces

@@ -1,4 +1,6 @@
+pub mod Lists
 pub mod Maps
+pub mod Loaded
 pub mod FilePages
 pub mod Counts
 pub mod PageNames
@@ -18,11 +20,10 @@ pub mod StateSteps
 pub mod NextParts
 pub mod Failures
 pub mod Callers
+pub mod Changes
 pub mod CallSteps
 pub mod Told
 pub mod FlatSpaces
-pub mod FileMappings
-pub mod SpaceSteps
 pub mod Reserves
 pub mod Servings
 pub mod SeatRules
@@ -39,4 +40,6 @@ pub mod NewParts
 pub mod ComingParts
 pub mod CutParts
 pub mod LeftProcesses
+pub mod MoreNumbers
 pub mod SegmentCells
+pub mod PlainSteps

@@ -1,10 +1,11 @@
 -- Anon maps of which one is cut, made, held or released: what becomes of each map, and of the places that hold a slot.
 use Rattle.std.proofs.Common.{◌≡◌, ◌≢◌, ℕ, zero, suc, ◌+◌, ◌-◌, ◌<◌, ◌≤◌, Bool, true, false, cond, List, [], ◌∷◌, ◌++◌, length, Option, Some, None, refl, sym, ap, ◌∙◌, inl, inr, subst, arith, slice_index_or, slice_set, get_or-set_same}
-use Rattle.std.specs.Prelude.{◌==◌, count_by, sum_by, IsSome, is_some, nat_lt, unwrap_or, take, drop, replicate}
-use Rattle.std.proofs.lemmas.Bool.{cases_Bool, cases_eq, eq-eqb, eqb-true, ltb-true, lt-ltb}
-use Rattle.std.proofs.lemmas.List.{get_or-set_other, get_or-append_right}
+use Rattle.std.specs.Prelude.{◌==◌, count_by, sum_by, IsSome, nat_lt, unwrap_or, take, drop, replicate}
+use Rattle.std.proofs.lemmas.Bool.{cases_Bool, cases_eq, eq-eqb, eqb-true, ltb-true}
+use Rattle.std.proofs.lemmas.List.{get_or-set_other}
 use Rattle.std.proofs.lemmas.List.Sums.{sum_by-cons, sum_by-append, sum_by-set}
 use Rattle.anon_map.specs.Maps.{Map, anon_map_at, the_map, places_of, holders_of, IsMapThere, IsUnused, AreEmpty, fresh_map, with_map, with_holders}
+use Rattle.anon_map.proofs.MapLaws.{with_map_same, with_map_other, there_apart}
 use Rattle.vm_world.specs.CountsFit.{places_in, is_number}
 use Rattle.vm_world.specs.MapSteps.{maps_cut, maps_made, maps_held, maps_released, places_released}
 use Rattle.vm_world.proofs.Counting.{places-are}
@@ -18,12 +19,6 @@ there-within (o ∷ os) (suc m) there = let r = there-within os m there in omega
 
 -- AFTER A MAP OF A NUMBER WAS SET, whatever it is
 module _ (maps : List (Option Map)) (n : ℕ) (a : Option Map) (lt : n < length maps) where
-  pub set-here : anon_map_at (slice_set maps n a) n ≡ a
-  set-here = get_or-set_same maps n a None lt
-
-  pub set-else : (k : ℕ) → k ≢ n → anon_map_at (slice_set maps n a) k ≡ anon_map_at maps k
-  set-else k ne = get_or-set_other maps n k a None ne
-
   -- any sum over the places of maps
   pub set-sum : (f : List (Option ℕ) → ℕ) → sum_by (λ (m : Option Map). f (places_in m)) (slice_set maps n a) + f (places_of maps n) ≡ sum_by (λ (m : Option Map). f (places_in m)) maps + f (places_in a)
   set-sum f =
@@ -33,30 +28,6 @@ module _ (maps : List (Option Map)) (n : ℕ) (a : Option Map) (lt : n < length 
 
 -- AFTER A MAP CAME under a number that none has
 module _ (maps : List (Option Map)) (n : ℕ) (a : Map) (unused : IsUnused maps n) where
-  pub with-here : anon_map_at (with_map maps n a) n ≡ Some a
-  with-here = elim (cases_Bool (nat_lt n (length maps))) [
-    | inl t ↦ ap (λ (b : Bool). anon_map_at (cond b (slice_set maps n (Some a)) (maps ++ Some a ∷ [])) n) t ∙ get_or-set_same maps n (Some a) None (ltb-true n (length maps) t)
-    | inr f ↦ ap (λ (b : Bool). anon_map_at (cond b (slice_set maps n (Some a)) (maps ++ Some a ∷ [])) n) f
-        ∙ (let next = unused.next in
-        let end : n ≡ length maps = (let l : n < length maps → ⊥ = λ lt. (let z : false ≡ true = sym f ∙ lt-ltb n (length maps) lt in cc) in elim (cases_eq n (length maps)) [ inl e ↦ e | inr ne ↦ absurd (l (omega (arith, next, ne))) ]) in
-        get_or-append_right maps (Some a ∷ []) (length maps) n None refl (omega (arith, end)) ∙ ap (λ (k : ℕ). slice_index_or (Some a ∷ []) k None) (let z : n - length maps ≡ 0 = omega (arith, end) in z))
-  ]
-
-  pub with-else : (k : ℕ) → k ≢ n → anon_map_at (with_map maps n a) k ≡ anon_map_at maps k
-  with-else k ne = elim (cases_Bool (nat_lt n (length maps))) [
-    | inl t ↦ ap (λ (b : Bool). anon_map_at (cond b (slice_set maps n (Some a)) (maps ++ Some a ∷ [])) k) t ∙ get_or-set_other maps n k (Some a) None ne
-    | inr f ↦ ap (λ (b : Bool). anon_map_at (cond b (slice_set maps n (Some a)) (maps ++ Some a ∷ [])) k) f
-        ∙ (let next = unused.next in
-        let end : n ≡ length maps = (let l : n < length maps → ⊥ = λ lt. (let z : false ≡ true = sym f ∙ lt-ltb n (length maps) lt in cc) in elim (cases_eq n (length maps)) [ inl e ↦ e | inr ne ↦ absurd (l (omega (arith, next, ne))) ]) in
-        appended maps k (λ e. ne (e ∙ sym end)))
-  ]
-    where
-      appended : (xs : List (Option Map)) (k : ℕ) → k ≢ length xs → slice_index_or (xs ++ Some a ∷ []) k None ≡ slice_index_or xs k None
-      appended [] zero ne = absurd (ne refl)
-      appended [] (suc k) ne = refl
-      appended (x ∷ xs) zero ne = refl
-      appended (x ∷ xs) (suc k) ne = appended xs k (λ e. ne (ap suc e))
-
   pub with-sum : (f : List (Option ℕ) → ℕ) → f [] ≡ 0 → sum_by (λ (m : Option Map). f (places_in m)) (with_map maps n a) ≡ sum_by (λ (m : Option Map). f (places_in m)) maps + f a.places
   with-sum f none = elim (cases_Bool (nat_lt n (length maps))) [
     | inl t ↦
@@ -70,9 +41,6 @@ module _ (maps : List (Option Map)) (n : ℕ) (a : Map) (unused : IsUnused maps 
         let one = sum_by-cons (λ (m : Option Map). f (places_in m)) (Some a) [] in
         omega (arith, e, whole, one)
   ]
-
-  pub with-size : n < length (with_map maps n a)
-  with-size = there-within (with_map maps n a) n (subst (λ (o : Option Map). IsSome o) (sym with-here) refl)
 
 pub count-empty : (s : Option ℕ → Bool) (places : List (Option ℕ)) → s None ≡ false → AreEmpty places → count_by s places ≡ 0
 count-empty s [] none empty = refl
@@ -166,10 +134,7 @@ made f (Some n) pages = f (replicate pages None)
 
 pub made-else : (maps : List (Option Map)) (o : Option ℕ) (pages n : ℕ) → ((k : ℕ) → o ≡ Some k → IsUnused maps k) → IsMapThere maps n → anon_map_at (maps_made maps o pages) n ≡ anon_map_at maps n
 made-else maps None pages n unused there = refl
-made-else maps (Some k) pages n unused there = with-else maps k (fresh_map (replicate pages None)) (unused k refl) n (λ e. absurd (
-    let gone = (unused k refl).absent in
-    let t : IsSome (anon_map_at maps k) = subst (λ (j : ℕ). IsMapThere maps j) e there in
-    let z : false ≡ true = sym (ap is_some gone) ∙ t in cc))
+made-else maps (Some k) pages n unused there = with_map_other maps k n (fresh_map (replicate pages None)) (unused k refl) (there_apart maps n k there (unused k refl))
 
 pub made-sum : (f : List (Option ℕ) → ℕ) (maps : List (Option Map)) (o : Option ℕ) (pages : ℕ) → f [] ≡ 0 → ((k : ℕ) → o ≡ Some k → IsUnused maps k)
     → sum_by (λ (m : Option Map). f (places_in m)) (maps_made maps o pages) ≡ sum_by (λ (m : Option Map). f (places_in m)) maps + made f o pages
@@ -180,12 +145,12 @@ pub made-holders : (maps : List (Option Map)) (o : Option ℕ) (pages n : ℕ) �
 made-holders maps None pages n unused = omega arith
 made-holders maps (Some k) pages n unused = elim (cases_eq n k) [
   | inr ne ↦
-      let same = same-holders maps (maps_made maps (Some k) pages) n (with-else maps k (fresh_map (replicate pages None)) (unused k refl) n ne) in
+      let same = same-holders maps (maps_made maps (Some k) pages) n (with_map_other maps k n (fresh_map (replicate pages None)) (unused k refl) ne) in
       let not : cond {A = ℕ} (is_number n (Some k)) 1 0 ≡ 0 = elim (cases_Bool (k == n)) [ inl y ↦ absurd (ne (sym (eqb-true k n y))) | inr f ↦ ap (λ (b : Bool). cond {A = ℕ} b 1 0) f ] in
       omega (arith, same, not)
   | inl e ↦
       let is : cond {A = ℕ} (is_number n (Some k)) 1 0 ≡ 1 = ap (λ (b : Bool). cond {A = ℕ} b 1 0) (eq-eqb k n (sym e)) in
-      let here : holders_of (maps_made maps (Some k) pages) n ≡ 1 = ap (λ (j : ℕ). holders_of (maps_made maps (Some k) pages) j) e ∙ ap (λ (o : Option Map). (unwrap_or o (record { places = []; holders = 0 })).holders) (with-here maps k (fresh_map (replicate pages None)) (unused k refl)) in
+      let here : holders_of (maps_made maps (Some k) pages) n ≡ 1 = ap (λ (j : ℕ). holders_of (maps_made maps (Some k) pages) j) e ∙ ap (λ (o : Option Map). (unwrap_or o (record { places = []; holders = 0 })).holders) (with_map_same maps k (fresh_map (replicate pages None)) (unused k refl)) in
       let was : holders_of maps n ≡ 0 = ap (λ (j : ℕ). holders_of maps j) e ∙ ap (λ (o : Option Map). (unwrap_or o (record { places = []; holders = 0 })).holders) (unused k refl).absent in
       omega (arith, is, here, was)
 ]
@@ -241,10 +206,10 @@ module _ (maps : List (Option Map)) (k number at : ℕ) (there : IsMapThere maps
   with_upper = with_map maps number upper_map
 
   cut-apart : k ≢ number
-  cut-apart e = let t : IsSome (anon_map_at maps number) = subst (λ (j : ℕ). IsMapThere maps j) e there in let z : false ≡ true = sym (ap is_some unused.absent) ∙ t in cc
+  cut-apart = there_apart maps k number there unused
 
   same-upper : anon_map_at with_upper k ≡ anon_map_at maps k
-  same-upper = with-else maps number upper_map unused k cut-apart
+  same-upper = with_map_other maps number k upper_map unused cut-apart
 
   upper-within : k < length with_upper
   upper-within = there-within with_upper k (subst (λ (o : Option Map). IsSome o) (sym same-upper) there)
@@ -252,7 +217,7 @@ module _ (maps : List (Option Map)) (k number at : ℕ) (there : IsMapThere maps
   pub cut-else : (n : ℕ) → IsMapThere maps n → n ≢ k → anon_map_at (maps_cut maps (Some k) number at) n ≡ anon_map_at maps n
   cut-else n is ne =
       get_or-set_other with_upper k n (Some (record (the_map with_upper k) { places = take at (places_of maps k) })) None ne
-      ∙ with-else maps number upper_map unused n (λ e. absurd (let t : IsSome (anon_map_at maps number) = subst (λ (j : ℕ). IsMapThere maps j) e is in let z : false ≡ true = sym (ap is_some unused.absent) ∙ t in cc))
+      ∙ with_map_other maps number n upper_map unused (there_apart maps n number is unused)
 
   pub cut-lower : anon_map_at (maps_cut maps (Some k) number at) k ≡ Some (record (the_map maps k) { places = take at (places_of maps k) })
   cut-lower =
@@ -262,7 +227,7 @@ module _ (maps : List (Option Map)) (k number at : ℕ) (there : IsMapThere maps
   pub cut-upper : anon_map_at (maps_cut maps (Some k) number at) number ≡ Some upper_map
   cut-upper =
       get_or-set_other with_upper k number (Some (record (the_map with_upper k) { places = take at (places_of maps k) })) None (λ e. cut-apart (sym e))
-      ∙ with-here maps number upper_map unused
+      ∙ with_map_same maps number upper_map unused
 
   pub cut-sum : (f : List (Option ℕ) → ℕ) → f [] ≡ 0 → f (take at (places_of maps k)) + f (drop at (places_of maps k)) ≡ f (places_of maps k)
       → sum_by (λ (m : Option Map). f (places_in m)) (maps_cut maps (Some k) number at) ≡ sum_by (λ (m : Option Map). f (places_in m)) maps
@@ -288,7 +253,7 @@ module _ (maps : List (Option Map)) (k number at : ℕ) (there : IsMapThere maps
               omega (arith, not, here, was)
           | inr apart ↦
               let same : holders_of (maps_cut maps (Some k) number at) n ≡ holders_of maps n =
-              same-holders maps (maps_cut maps (Some k) number at) n (get_or-set_other with_upper k n (Some (record (the_map with_upper k) { places = take at (places_of maps k) })) None apart ∙ with-else maps number upper_map unused n ne) in
+              same-holders maps (maps_cut maps (Some k) number at) n (get_or-set_other with_upper k n (Some (record (the_map with_upper k) { places = take at (places_of maps k) })) None apart ∙ with_map_other maps number n upper_map unused ne) in
               omega (arith, not, same)
         ]
   ]

@@ -28,9 +28,9 @@ use Rattle.vm_world.specs.Segments.{Segment, Spot, Spaces, spot_at, zero_map}
 use Rattle.vm_world.specs.SpaceSteps.{Becomes}
 use Rattle.anon_slots.specs.Slots.{count_at}
 use Rattle.vm_world.specs.World.{slot_in}
-use Rattle.vm_world.proofs.FileMappings.{all-turn}
 use Rattle.vm_world.proofs.FlatSpaces.{Standing, flat-with_space}
 use Rattle.vm_world.proofs.KeptMaps.{KeepsMaps, kept-fits, kept-cell, all-both}
+use Rattle.vm_world.proofs.Lists.{all-turn}
 use Rattle.vm_world.proofs.PartSums.{sum-put}
 use Rattle.vm_world.proofs.SegmentChange.{change-memory, segments-change, spaces-change, shows-kept}
 use Rattle.vm_world.proofs.ShownZeros.{IsShown, shown-by, fits-shown, maps-are}

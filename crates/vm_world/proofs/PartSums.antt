@@ -12,7 +12,8 @@ use Rattle.flat_model.proofs.Entries.{find_rest, first_found}
 use Rattle.flat_model.proofs.Ranges.{insert_same}
 use Rattle.flat_model.proofs.Sums.{total, total-insert_over, total-remove}
 use Rattle.vm_world.specs.Segments.{Segment, Spaces, segments_of}
-use Rattle.vm_world.proofs.FileMappings.{all-values, all-map, all-flat_map, all-turn}
+use Rattle.vm_world.proofs.Lists.{all-map, all-flat_map, all-turn}
+use Rattle.vm_world.proofs.Maps.{all-values}
 
 -- SUMS OVER PARTS
 pub sum-put : (g : Part Segment → ℕ) (x : Part Segment) (ps : List (Part Segment)) → sum_by g (put x ps) ≡ g x + sum_by g ps

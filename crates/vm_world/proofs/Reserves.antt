@@ -30,10 +30,9 @@ use Rattle.vm_world.specs.FlatMemory.{Memory, flat_shaped, flat_memory, shape_of
 use Rattle.vm_world.specs.CountsFit.{reserved_pages, slots_for_part}
 use Rattle.vm_world.specs.MemoryFits.{MemoryFits}
 use Rattle.vm_world.specs.Laws.{ReservedLaw}
-use Rattle.vm_world.proofs.FileMappings.{above-changed}
 use Rattle.vm_world.proofs.FilePages.{length-pages_from}
 use Rattle.vm_world.proofs.FlatWhole.{some-inj}
-use Rattle.vm_world.proofs.Maps.{map_with-same, get-map_with, cell-at}
+use Rattle.vm_world.proofs.Maps.{map_with-same, get-map_with, cell-at, above-changed}
 use Rattle.vm_world.proofs.Spaces.{entries-empty}
 
 -- SUMS over the values of finite maps

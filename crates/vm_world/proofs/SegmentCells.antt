@@ -18,8 +18,7 @@ use Rattle.vm_world.specs.MemoryFits.{MemoryFits}
 use Rattle.vm_world.specs.Pages.{contents_of}
 use Rattle.vm_world.specs.SegmentSteps.{SegmentCells}
 use Rattle.vm_world.specs.Segments.{Segment}
-use Rattle.vm_world.proofs.FileMappings.{len-map_with}
-use Rattle.vm_world.proofs.Maps.{get-map_with}
+use Rattle.vm_world.proofs.Maps.{get-map_with, len-map_with}
 use Rattle.vm_world.proofs.Reserves.{reserved-memory}
 use Rattle.vm_world.proofs.ShownZeros.{named-is}
 use Rattle.vm_world.proofs.SweptFlat.{cells-are}

@@ -1,36 +1,24 @@
--- Spaces without segments.
-use Rattle.std.proofs.Common.{◌≡◌, ℕ, Bool, true, false, List, [], ◌∷◌, length, map, Option, Some, None, refl, sym, ap, ◌∙◌, arith, inl, inr}
-use Rattle.std.specs.Prelude.{sum_by, flat_map, filter_map}
-use Rattle.std.specs.List.{list_any}
+-- Spaces without zero objects, and without segments.
+use Rattle.std.proofs.Common.{◌≡◌, ℕ, List, [], ◌∷◌, length, map, Option, Some, None, refl, sym, ap, ◌∙◌, subst, arith}
+use Rattle.std.specs.Prelude.{sum_by, filter_map, option_map, All}
 use Rattle.std.specs.Ordering.{nat_cmp}
 use Rattle.std.specs.Cmp.{nat_cmp_total}
 use Rattle.std.specs.FinMap as finite
-use Rattle.std.proofs.lemmas.Bool.{cases_Bool}
-use Rattle.std.proofs.lemmas.List.Sums.{sum_by-cons}
+use Rattle.std.proofs.lemmas.List.Elements.{All-nil}
+use Rattle.vm_types.specs.declared.call.Object.{Object}
+use Rattle.vm_types.specs.declared.call.Object.TheVariants as object
 use Rattle.addr_space.specs.Space.{Part}
 use Rattle.anon_map.specs.Maps.{Map, places_of}
-use Rattle.flat_model.proofs.Entries.{value_of_any}
 use Rattle.vm_world.specs.Segments.{Segment, Spaces, segments_of, zero_map}
 use Rattle.vm_world.specs.FlatMemory.{zero_maps}
 use Rattle.vm_world.specs.CountsFit.{reserved_pages, slots_for_part}
+use Rattle.vm_world.specs.PlainSteps.{ShowNoZeros}
+use Rattle.vm_world.proofs.Lists.{all-turn, sum-zero, no-lists, no-values}
+use Rattle.vm_world.proofs.Maps.{all-values}
 
 -- each process that is alive has an empty space
 abbrev pub EmptySpaces : Spaces → Type 0
 EmptySpaces spaces = (p : ℕ) (parts : List (Part Segment)) → finite.get spaces p ≡ Some parts → parts ≡ []
-
-abbrev has_some : List (Part Segment) → Bool
-has_some [] = false
-has_some (p ∷ ps) = true
-
--- all these lists of parts are empty
-abbrev AreNone : List (List (Part Segment)) → Type 0
-AreNone vs = list_any has_some vs ≡ false
-
-are-none : (spaces : Spaces) → EmptySpaces spaces → AreNone (finite.values spaces)
-are-none spaces empty = elim (cases_Bool (list_any has_some (finite.values spaces))) [
-  | inl some ↦ absurd (let v = value_of_any has_some spaces some in let z : true ≡ false = sym v.3 ∙ ap has_some (empty v.0 v.1 v.2) in cc)
-  | inr nothing ↦ nothing
-]
 
 -- a map is empty where it has nothing at any key
 pub map-empty : {X : Type 0} (m : finite.FinMap nat_cmp X) → ((q : ℕ) → finite.get m q ≡ None) → m ≡ finite.empty
@@ -43,32 +31,36 @@ entries-empty {X} = no_length (finite.entries finite.empty) (sym (finite.len-ent
     no_length [] e = refl
     no_length (x ∷ es) e = absurd (omega (arith, e))
 
-no-segments : (vs : List (List (Part Segment))) → AreNone vs → flat_map (λ (parts : List (Part Segment)). map (λ (p : Part Segment). p.piece) parts) vs ≡ []
-no-segments [] none = refl
-no-segments ([] ∷ vs) none = no-segments vs none
-no-segments ((p ∷ ps) ∷ vs) none = absurd (let z : true ≡ false = none in cc)
+abbrev pieces : List (Part Segment) → List Segment
+pieces parts = map (λ (p : Part Segment). p.piece) parts
 
-no-zeros : (vs : List (List (Part Segment))) → AreNone vs → flat_map (λ (parts : List (Part Segment)). filter_map (λ (p : Part Segment). zero_map p.piece) parts) vs ≡ []
-no-zeros [] none = refl
-no-zeros ([] ∷ vs) none = no-zeros vs none
-no-zeros ((p ∷ ps) ∷ vs) none = absurd (let z : true ≡ false = none in cc)
+abbrev shown_zeros : List (Part Segment) → List (ℕ × ℕ)
+shown_zeros parts = filter_map (λ (p : Part Segment). zero_map p.piece) parts
 
-no-slots : (vs : List (List (Part Segment))) → AreNone vs → sum_by (λ parts. sum_by slots_for_part parts) vs ≡ 0
-no-slots [] none = refl
-no-slots ([] ∷ vs) none = let e = sum_by-cons (λ parts. sum_by slots_for_part parts) [] vs in let more = no-slots vs none in omega (arith, e, more)
-no-slots ((p ∷ ps) ∷ vs) none = absurd (let z : true ≡ false = none in cc)
+abbrev slots_in : List (Part Segment) → ℕ
+slots_in parts = sum_by slots_for_part parts
 
+-- none shows a zero object
+no-zero : (shown : Option ℕ) (o : Object) → shown ≡ None → (elim o as (λ x. Option (ℕ × ℕ)) [ object.Zero z ↦ option_map (λ (number : ℕ). (z, number)) shown | object.File f ↦ None | object.NewZero ↦ None ]) ≡ None
+no-zero shown (object.Zero z) none = ap (option_map (λ (number : ℕ). (z, number))) none
+no-zero shown (object.File f) none = refl
+no-zero shown object.NewZero none = refl
+
+pub plain-zeros : (spaces : Spaces) → ShowNoZeros spaces → zero_maps spaces ≡ finite.empty
+plain-zeros spaces plain =
+    ap (λ (es : List (ℕ × ℕ)). finite.from_entries es) (no-lists shown_zeros (finite.values spaces) (all-values (λ parts. shown_zeros parts ≡ []) spaces (λ p parts is.
+    no-values (λ (a : Part Segment). zero_map a.piece) parts (all-turn (λ (a : Part Segment). a.piece.shown ≡ None) (λ (a : Part Segment). zero_map a.piece ≡ None) parts (λ a none. no-zero a.piece.shown a.piece.object none) (plain p parts is)))))
+
+-- there is no segment
 pub empty-segments : (spaces : Spaces) → EmptySpaces spaces → segments_of spaces ≡ []
-empty-segments spaces empty = no-segments (finite.values spaces) (are-none spaces empty)
+empty-segments spaces empty = no-lists pieces (finite.values spaces) (all-values (λ parts. pieces parts ≡ []) spaces (λ p parts is. ap pieces (empty p parts is)))
 
 pub empty-zeros : (spaces : Spaces) → EmptySpaces spaces → zero_maps spaces ≡ finite.empty
-empty-zeros spaces empty =
-    ap (λ (es : List (ℕ × ℕ)). finite.from_entries es) (no-zeros (finite.values spaces) (are-none spaces empty))
-    ∙ map-empty (finite.from_entries []) (λ q. finite.get-from_entries nat_cmp_total [] q)
+empty-zeros spaces empty = plain-zeros spaces (λ p parts is. subst (All (λ (a : Part Segment). a.piece.shown ≡ None)) (sym (empty p parts is)) (All-nil (λ (a : Part Segment). a.piece.shown ≡ None)))
 
 pub empty-reserved : (maps : List (Option Map)) (spaces : Spaces) → EmptySpaces spaces → reserved_pages maps spaces ≡ 0
 empty-reserved maps spaces empty =
-    let a = no-slots (finite.values spaces) (are-none spaces empty) in
+    let a = sum-zero slots_in (finite.values spaces) (all-values (λ parts. slots_in parts ≡ 0) spaces (λ p parts is. ap slots_in (empty p parts is))) in
     let b : sum_by (λ number. length (places_of maps number)) (finite.values (zero_maps spaces)) ≡ 0 =
     ap (λ (zs : finite.FinMap nat_cmp ℕ). sum_by (λ number. length (places_of maps number)) (finite.values zs)) (empty-zeros spaces empty)
     ∙ ap (λ (es : List (ℕ × ℕ)). sum_by (λ number. length (places_of maps number)) (map (λ e. e.1) es)) entries-empty in

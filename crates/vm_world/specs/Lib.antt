@@ -29,3 +29,4 @@ pub mod SeatLaws
 pub mod SpaceSteps
 pub mod MapSteps
 pub mod SegmentSteps
+pub mod PlainSteps

@@ -1,5 +1,5 @@
 -- Changes of one process's segments: they are cut, go and come, with their anon maps and what is reserved. Public clauses cite this.
-use Rattle.std.specs.Prelude.{◌≡◌, ◌<◌, ◌≤◌, ◌+◌, ◌-◌, ◌^◌, ℕ, true, false, [], List, Option, Some, None, IsSome, is_some, length, option_map, replicate}
+use Rattle.std.specs.Prelude.{◌≡◌, ◌<◌, ◌≤◌, ◌+◌, ◌-◌, ◌^◌, ◌++◌, ℕ, true, false, [], List, Option, Some, None, IsSome, is_some, length, option_map, replicate}
 use Rattle.std.specs.FinMap as finite
 use Rattle.std.specs.FinSet as set
 use Rattle.std.specs.Ordering.{nat_cmp}
@@ -101,6 +101,10 @@ pub record MayMakeZero (m : Memory) (parts : List (Part Segment)) (x : Part Segm
 abbrev pub with_zero_part : Memory → ℕ → List (Part Segment) → Part Segment → Memory
 with_zero_part m p parts x = with_segments m (maps_made m.world.maps x.piece.shown x.piece.pages) (m.world.anon.reserved + x.pages) p (put x parts)
 
+-- Memory with so many numbers more that name no anon map.
+abbrev pub with_more_numbers : Memory → ℕ → Memory
+with_more_numbers m more = record m { world = record m.world { maps = m.world.maps ++ replicate more None } }
+
 -- The cell at a place of a segment that comes: a private one of new zero memory has a page of zeros of its own.
 abbrev pub segment_cell : Segment → ℕ → Cell
 segment_cell s i = record { prot = s.prot; max = s.max; kind = s.kind; object = s.object; index = s.index + i; own = own_for s.kind s.object }
@@ -117,8 +121,8 @@ abbrev pub ChangesSegments : ℕ → Memory → Memory → (Flat → Flat) → T
 ChangesSegments p old new f = ChangesMemory p old new (Becomes f)
 
 -- A part that is cut in two leaves flat memory as it was. A part goes: then its pages have no cells, and a zero object that no cell names any more is gone.
--- A part comes where no other is: then its pages have its cells. And a process goes that has no part. A step of the world that keeps all pages leaves flat
--- memory as it was, and one change comes after another.
+-- A part comes where no other is: then its pages have its cells. And a process goes that has no part. Numbers that name no anon map, and a step of the
+-- world that keeps all pages, leave flat memory as it was; and one change comes after another.
 pub record SegmentRule : Type 0 where
   pub cut : (m : Memory) (p page number : ℕ) (parts : List (Part Segment)) (x : Part Segment) → MemoryFits m → finite.get m.spaces p ≡ Some parts
       → part_at parts page ≡ Some x → x.first < page → (IsSome x.piece.own → IsUnused m.world.maps number)
@@ -132,6 +136,7 @@ pub record SegmentRule : Type 0 where
       → MayMakeZero m parts x z number
       → ChangesSegments p m (with_zero_part m p parts x) (λ F. with_new_cells (with_new_zero F z x.pages) p x.first x.pages (segment_cell x.piece))
   pub leave : (m : Memory) (p : ℕ) → MemoryFits m → finite.get m.spaces p ≡ Some [] → ChangesSegments p m (without_space m p) (λ F. without_process F p)
+  pub numbers : (m : Memory) (p more : ℕ) → MemoryFits m → ChangesSegments p m (with_more_numbers m more) (λ F. F)
   pub keeps : (p : ℕ) (old new : World) (spaces : Spaces) → MemoryFits (record { world = old; spaces = spaces }) → WorldStep old new spaces stays (λ name. false)
       → ChangesSegments p (record { world = old; spaces = spaces }) (record { world = new; spaces = spaces }) (λ F. F)
   pub joined : (p : ℕ) (u v w : Memory) (first second : Flat → Flat) → ChangesSegments p u v first → ChangesSegments p v w second

@@ -14,7 +14,7 @@ use Rattle.fault_entry.specs.declared.access.Access.TheVariants as access
 use Rattle.fault_entry.proofs.Found.{spot-found, spot-none, found-low}
 use Rattle.fault_entry.proofs.Reached.{align-access, unmapped-access, refused-access, hit-access, loaded-access, past-access, need-access, busy-access}
 use Rattle.fault_entry.proofs.access.reach.Given.{Over}
-use Rattle.fault_entry.proofs.access.reach.Goals.{After-allows, After-fault}
+use Rattle.fault_entry.proofs.access.reach.Goals.{After-may_access, After-fault}
 use Rattle.fault_entry.proofs.access.reach.Goals as goal
 
 pub returns-then-addr-size-ne0-clause-serves : goal.returns-then-addr-size-ne0-clause-serves
@@ -27,33 +27,33 @@ returns-in_default-clause-serves g c = λ spaces fits get.
     (spot-none spaces c.args.process (page c.args.addr) c.args.space.now.parts get c.in_default.ensures.found)
 
 -- the place of the page, and what its protection says
-abbrev spot : (g : Over) (c : After-allows g) → Spot
+abbrev spot : (g : Over) (c : After-may_access g) → Spot
 spot g c = (c.in-Some.segment.now, page c.args.addr - c.in-Some.first)
 
-here : (g : Over) (c : After-allows g) (spaces : Spaces) → finite.get spaces c.args.process ≡ Some c.args.space.now.parts → spot_at spaces c.args.process (page c.args.addr) ≡ Some (spot g c)
+here : (g : Over) (c : After-may_access g) (spaces : Spaces) → finite.get spaces c.args.process ≡ Some c.args.space.now.parts → spot_at spaces c.args.process (page c.args.addr) ≡ Some (spot g c)
 here g c spaces get = spot-found spaces c.args.process (page c.args.addr) c.in-Some.first c.in-Some._pages c.in-Some.segment.now c.args.space.now.parts get c.in-Some.ensures.found
 
-allows : (g : Over) (c : After-allows g) → c.allows.result ≡ may_access c.args.write c.in-Some.segment.now.prot
-allows g c = c.allows.ensures ∙ ap (may_access c.args.write) c.prot.ensures
+allowed : (g : Over) (c : After-may_access g) → c.may_access.result ≡ may_access c.args.write c.in-Some.segment.now.prot
+allowed g c = c.may_access.ensures ∙ ap (may_access c.args.write) c.prot.ensures
 
-pub returns-then-not-allows-clause-serves : goal.returns-then-not-allows-clause-serves
-returns-then-not-allows-clause-serves g c = λ spaces fits get.
-    let at = (goal.at.returns-then-not-allows-clause-serves g c).After-allows in
+pub returns-then-not-may_access-clause-serves : goal.returns-then-not-may_access-clause-serves
+returns-then-not-may_access-clause-serves g c = λ spaces fits get.
+    let at = (goal.at.returns-then-not-may_access-clause-serves g c).After-may_access in
     refused-access (world_seen c.args.world.now) spaces c.args.world.now.pending c.args.process c.args.addr c.args.size c.args.write fits (spot g at) c.if-addr-size-ne0.false
-    (here g at spaces get) (sym (allows g at) ∙ c.if-not-allows.true)
+    (here g at spaces get) (sym (allowed g at) ∙ c.if-not-may_access.true)
 
 pub fault-requires-clause-low : goal.fault-requires-clause-low
 fault-requires-clause-low g c = found-low c.args.space.now.parts (page c.args.addr) (part c.in-Some.first c.in-Some._pages c.in-Some.segment.now) c.in-Some.ensures.found
 
 pub returns-in-Some-note-clause-serves : goal.returns-in-Some-note-clause-serves
 returns-in-Some-note-clause-serves g c = λ spaces fits get.
-    let at = (goal.at.returns-in-Some-note-clause-serves g c).After-allows in
+    let at = (goal.at.returns-in-Some-note-clause-serves g c).After-may_access in
     let old = world_seen c.args.world.now in
     let new = world_seen c.note.new.world in
     let pending : c.note.new.world.pending ≡ c.args.world.now.pending = ap (λ v. v.pending) c.note.ensures.rest in
     subst (λ (k : ℕ). ServesAccess (memory_of old spaces) (memory_of new spaces) c.args.world.now.pending k c.args.process c.args.addr c.args.size c.args.write (access.Reached c.in-Some-note.frame)) (sym pending)
     (hit-access old spaces c.args.world.now.pending c.args.process c.args.addr c.args.size c.args.write fits new (spot g at) c.in-Some-note.frame c.if-addr-size-ne0.false
-    (here g at spaces get) (sym (allows g at) ∙ c.if-not-allows.false) (c.note.ensures.keeps spaces fits) (ap (λ v. v.anon) c.note.ensures.rest) (ap (λ v. v.maps) c.note.ensures.rest) c.in-Some-note.ensures.noted)
+    (here g at spaces get) (sym (allowed g at) ∙ c.if-not-may_access.false) (c.note.ensures.keeps spaces fits) (ap (λ v. v.anon) c.note.ensures.rest) (ap (λ v. v.maps) c.note.ensures.rest) c.in-Some-note.ensures.noted)
 
 pub fault-requires-clause-home : goal.fault-requires-clause-home
 fault-requires-clause-home g c = λ beside.
@@ -62,7 +62,7 @@ fault-requires-clause-home g c = λ beside.
 
 pub fault-requires-clause-fits : goal.fault-requires-clause-fits
 fault-requires-clause-fits g c =
-    let at = (goal.at.fault-requires-clause-fits g c).After-allows in
+    let at = (goal.at.fault-requires-clause-fits g c).After-may_access in
     (c.requires.fits.0, (c.note.ensures.keeps c.requires.fits.0 c.requires.fits.1).memory, here g at c.requires.fits.0 c.requires.fits.2)
 
 -- where no access was noted, what is served from then on is served from the start
@@ -72,7 +72,7 @@ served g c spaces new more answer s = subst (λ v. ServesAccess (memory_of (worl
 
 pub returns-in-Loaded-clause-serves : goal.returns-in-Loaded-clause-serves
 returns-in-Loaded-clause-serves g c = λ spaces fits get.
-    let at = (goal.at.returns-in-Loaded-clause-serves g c).After-allows in
+    let at = (goal.at.returns-in-Loaded-clause-serves g c).After-may_access in
     let still = (c.note.ensures.keeps spaces fits).memory in
     let place = here g at spaces get in
     let old = world_seen c.note.new.world in
@@ -83,31 +83,31 @@ returns-in-Loaded-clause-serves g c = λ spaces fits get.
     served g (goal.at.returns-in-Loaded-clause-serves g c).After-fault spaces new c.noted.new.world.pending (access.Reached c.noted.result)
     (subst (λ (k : ℕ). ServesAccess (memory_of old spaces) (memory_of new spaces) c.note.new.world.pending k c.args.process c.args.addr c.args.size c.args.write (access.Reached c.noted.result)) (sym pending)
     (loaded-access old new spaces c.note.new.world.pending c.fault.new.world.pending c.args.process c.args.addr c.args.size c.args.write (spot g at) c.if-addr-size-ne0.false
-    place (sym (allows g at) ∙ c.if-not-allows.false) mid c.noted.result s (c.noted.ensures.keeps spaces s.acts.memory) (ap (λ v. v.anon) c.noted.ensures.rest) (ap (λ v. v.maps) c.noted.ensures.rest) c.noted.ensures.noted))
+    place (sym (allowed g at) ∙ c.if-not-may_access.false) mid c.noted.result s (c.noted.ensures.keeps spaces s.acts.memory) (ap (λ v. v.anon) c.noted.ensures.rest) (ap (λ v. v.maps) c.noted.ensures.rest) c.noted.ensures.noted))
 
 pub returns-in-Past-clause-serves : goal.returns-in-Past-clause-serves
 returns-in-Past-clause-serves g c = λ spaces fits get.
-    let at = (goal.at.returns-in-Past-clause-serves g c).After-allows in
+    let at = (goal.at.returns-in-Past-clause-serves g c).After-may_access in
     let place = here g at spaces get in
     let new = world_seen c.fault.new.world in
     served g (goal.at.returns-in-Past-clause-serves g c).After-fault spaces new c.fault.new.world.pending (access.Refused signal.Past)
     (past-access (world_seen c.note.new.world) new spaces c.note.new.world.pending c.fault.new.world.pending c.args.process c.args.addr c.args.size c.args.write (spot g at) c.if-addr-size-ne0.false
-    place (sym (allows g at) ∙ c.if-not-allows.false) (c.in-Past.ensures.serves spaces (c.note.ensures.keeps spaces fits).memory place))
+    place (sym (allowed g at) ∙ c.if-not-may_access.false) (c.in-Past.ensures.serves spaces (c.note.ensures.keeps spaces fits).memory place))
 
 pub returns-in-Need-clause-serves : goal.returns-in-Need-clause-serves
 returns-in-Need-clause-serves g c = λ spaces fits get.
-    let at = (goal.at.returns-in-Need-clause-serves g c).After-allows in
+    let at = (goal.at.returns-in-Need-clause-serves g c).After-may_access in
     let place = here g at spaces get in
     let new = world_seen c.fault.new.world in
     served g (goal.at.returns-in-Need-clause-serves g c).After-fault spaces new c.fault.new.world.pending (access.Need c.in-Need.plan)
     (need-access (world_seen c.note.new.world) new spaces c.note.new.world.pending c.fault.new.world.pending c.args.process c.args.addr c.args.size c.args.write (spot g at) c.if-addr-size-ne0.false
-    place (sym (allows g at) ∙ c.if-not-allows.false) c.in-Need.plan (c.in-Need.ensures.serves spaces (c.note.ensures.keeps spaces fits).memory place))
+    place (sym (allowed g at) ∙ c.if-not-may_access.false) c.in-Need.plan (c.in-Need.ensures.serves spaces (c.note.ensures.keeps spaces fits).memory place))
 
 pub returns-in-Busy-clause-serves : goal.returns-in-Busy-clause-serves
 returns-in-Busy-clause-serves g c = λ spaces fits get.
-    let at = (goal.at.returns-in-Busy-clause-serves g c).After-allows in
+    let at = (goal.at.returns-in-Busy-clause-serves g c).After-may_access in
     let place = here g at spaces get in
     let new = world_seen c.fault.new.world in
     served g (goal.at.returns-in-Busy-clause-serves g c).After-fault spaces new c.fault.new.world.pending (access.Busy c.in-Busy.hold)
     (busy-access (world_seen c.note.new.world) new spaces c.note.new.world.pending c.fault.new.world.pending c.args.process c.args.addr c.args.size c.args.write (spot g at) c.if-addr-size-ne0.false
-    place (sym (allows g at) ∙ c.if-not-allows.false) c.in-Busy.hold (c.in-Busy.ensures.serves spaces (c.note.ensures.keeps spaces fits).memory place))
+    place (sym (allowed g at) ∙ c.if-not-may_access.false) c.in-Busy.hold (c.in-Busy.ensures.serves spaces (c.note.ensures.keeps spaces fits).memory place))

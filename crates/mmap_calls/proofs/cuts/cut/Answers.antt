@@ -1,40 +1,42 @@
 use Rattle.std.proofs.Common.{◌≡◌, List, sym, ap, ◌∙◌, subst, arith}
 use Rattle.std.specs.FinMap as finite
-use Rattle.addr_space.specs.Space.{Part, part}
-use Rattle.flat_model.specs.Access.{with_space}
-use Rattle.vm_world.specs.SpaceSteps.{ChangesSpace, file_space, cut_before}
-use Rattle.vm_world.specs.World.{World, world_seen}
+use Rattle.addr_space.specs.Space.{Part, part, piece_at}
+use Rattle.vm_world.specs.PlainSteps.{ShowNoZeros}
+use Rattle.vm_world.specs.SegmentSteps.{ChangesSegments, parts_cut}
+use Rattle.vm_world.specs.World.{world_seen}
 use Rattle.vm_world.specs.declared.segment.Segment.{Segment}
-use Rattle.vm_world.proofs.SpaceSteps.{same-parts, cut-parts, cut-shows}
-use Rattle.seg_vn.specs.Clears.{StartsAt}
-use Rattle.mmap_calls.specs.FileMaps.{cell_of_parts}
-use Rattle.mmap_calls.proofs.CutPlaces.{Across, across, same-piece, cut-is, across-with, starts-cut, starts-kept}
+use Rattle.seg_vn.specs.Clears.{StartsAt, slots_at}
+use Rattle.mmap_calls.specs.Rooms.{HasRoomAt}
+use Rattle.mmap_calls.proofs.CutPlaces.{Across, across, same-piece, cut-part, room-here, cut-is, across-with, plain-cut, starts-cut, starts-kept, slots-kept, room-kept, same-space}
 use Rattle.mmap_calls.proofs.cuts.cut.Goals.{In-Some-find_mut, After-split_at}
 use Rattle.mmap_calls.proofs.cuts.cut.Given.{Over}
 use Rattle.mmap_calls.proofs.cuts.cut.Goals as goal
 
 pub returns-in_default-clause-changes : goal.returns-in_default-clause-changes
-returns-in_default-clause-changes g c = λ spaces fits. same-parts (record { world = world_seen c.args.world.now; spaces = spaces }) c.args.process c.args.space.now.parts fits.memory fits.files fits.here
+returns-in_default-clause-changes g c = λ spaces fits. same-space (world_seen c.args.world.now) spaces c.args.process c.args.space.now.parts fits
 
 pub returns-then-first-page-clause-changes : goal.returns-then-first-page-clause-changes
-returns-then-first-page-clause-changes g c = λ spaces fits. same-parts (record { world = world_seen c.args.world.now; spaces = spaces }) c.args.process c.args.space.now.parts fits.memory fits.files fits.here
+returns-then-first-page-clause-changes g c = λ spaces fits. same-space (world_seen c.args.world.now) spaces c.args.process c.args.space.now.parts fits
 
 -- the part that goes across
-x : (g : Over) (c : In-Some-find_mut g) → Across c.args.page (part c.in-Some.first c.in-Some._pages c.in-Some._segment.now)
-x g c = across (world_seen c.args.world.now) c.requires.fits.0 c.args.process c.args.space.now.parts c.args.page (part c.in-Some.first c.in-Some._pages c.in-Some._segment.now) c.requires.fits.1 c.in-Some.ensures.found c.if-first-page.false
+abbrev the_part : (g : Over) (c : In-Some-find_mut g) → Part Segment
+the_part g c = part c.in-Some.first c.in-Some._pages c.in-Some._segment.now
 
-lent : (g : Over) (c : In-Some-find_mut g) → c.in-Some-find_mut.segment.now ≡ c.in-Some._segment.now
-lent g c = same-piece c.args.space.now.parts c.args.page (part c.in-Some.first c.in-Some._pages c.in-Some._segment.now) c.in-Some-find_mut.segment.now c.in-Some.ensures.found c.in-Some-find_mut.ensures.found
+x : (g : Over) (c : In-Some-find_mut g) → Across c.args.page (the_part g c)
+x g c = across (world_seen c.args.world.now) c.requires.fits.0 c.args.process c.args.space.now.parts c.args.page (the_part g c) c.requires.fits.1 c.in-Some.ensures.found c.if-first-page.false
+
+lent : (g : Over) (c : In-Some-find_mut g) → c.in-Some._segment.now ≡ c.in-Some-find_mut.segment.now
+lent g c = same-piece c.args.space.now.parts c.args.page (the_part g c) c.in-Some-find_mut.segment.now c.in-Some.ensures.found c.in-Some-find_mut.ensures.found
 
 pub overflow_sub-page : goal.overflow_sub-page
 overflow_sub-page g c = let low = (x g (goal.at.overflow_sub-page g c).In-Some-find_mut).low in omega (arith, low)
 
-pub cut-requires-clause-some : goal.cut-requires-clause-some
-cut-requires-clause-some g c = let low = (x g (goal.at.cut-requires-clause-some g c).In-Some-find_mut).low in omega (arith, low)
+pub cut_into-upper-requires-clause-some : goal.cut_into-upper-requires-clause-some
+cut_into-upper-requires-clause-some g c = let low = (x g (goal.at.cut_into-upper-requires-clause-some g c).In-Some-find_mut).low in omega (arith, low)
 
-pub cut-requires-clause-below : goal.cut-requires-clause-below
-cut-requires-clause-below g c =
-    let d = (goal.at.cut-requires-clause-below g c).In-Some-find_mut in
+pub cut_into-upper-requires-clause-below : goal.cut_into-upper-requires-clause-below
+cut_into-upper-requires-clause-below g c =
+    let d = (goal.at.cut_into-upper-requires-clause-below g c).In-Some-find_mut in
     let a = x g d in
     let low = a.low in
     let high = a.high in
@@ -42,42 +44,65 @@ cut-requires-clause-below g c =
     let same = ap (λ (s : Segment). s.pages) (lent g d) in
     omega (arith, low, high, pages, same)
 
-pub cut-requires-clause-own : goal.cut-requires-clause-own
-cut-requires-clause-own g c = let d = (goal.at.cut-requires-clause-own g c).In-Some-find_mut in ap (λ (s : Segment). s.own) (lent g d) ∙ (x g d).own
+pub cut_into-upper-requires-clause-plain : goal.cut_into-upper-requires-clause-plain
+cut_into-upper-requires-clause-plain g c = let d = (goal.at.cut_into-upper-requires-clause-plain g c).In-Some-find_mut in sym (ap (λ (s : Segment). s.shown) (lent g d)) ∙ (x g d).plain
+
+pub cut_into-upper-requires-clause-roomy : goal.cut_into-upper-requires-clause-roomy
+cut_into-upper-requires-clause-roomy g c =
+    let d = (goal.at.cut_into-upper-requires-clause-roomy g c).In-Some-find_mut in
+    room-here _ _ c.args.space.now.parts c.args.page (the_part g d) c.in-Some-find_mut.segment.now c.requires.room c.in-Some.ensures.found (lent g d)
+
+pub cut_into-upper-requires-clause-part : goal.cut_into-upper-requires-clause-part
+cut_into-upper-requires-clause-part g c =
+    let d = (goal.at.cut_into-upper-requires-clause-part g c).In-Some-find_mut in (
+      c.requires.fits.0,
+      c.args.process,
+      c.args.page,
+      cut-part (world_seen c.args.world.now) c.requires.fits.0 c.args.process c.args.space.now.parts c.args.page (the_part g d) c.in-Some-find_mut.segment.now c.requires.fits.1 c.in-Some.ensures.found (x g d).low (lent g d),
+    )
 
 pub split_at-requires-clause-across : goal.split_at-requires-clause-across
 split_at-requires-clause-across g c =
     let d = (goal.at.split_at-requires-clause-across g c).In-Some-find_mut in
-    across-with c.args.space.now.parts c.args.page (part c.in-Some.first c.in-Some._pages c.in-Some._segment.now) c.cut.new.self c.in-Some.ensures.found (x g d).low
+    across-with c.args.space.now.parts c.args.page (the_part g d) c.cut_into-upper.new.self c.in-Some.ensures.found (x g d).low
 
-is : (g : Over) (c : After-split_at g) → c.split_at.new.self.parts ≡ cut_before c.args.page (part c.in-Some.first c.in-Some._pages c.in-Some._segment.now) c.args.space.now.parts
-is g c = cut-is c.split_at.new.self.parts c.args.space.now.parts c.args.page (part c.in-Some.first c.in-Some._pages c.in-Some._segment.now) c.cut.new.self c.in_ok-upper.upper c.in-Some-find_mut.segment.now c.split_at.ensures.parts c.cut.ensures.lower
-    c.in_ok-upper.ensures.upper (same-piece c.args.space.now.parts c.args.page (part c.in-Some.first c.in-Some._pages c.in-Some._segment.now) c.in-Some-find_mut.segment.now c.in-Some.ensures.found c.in-Some-find_mut.ensures.found)
+is : (g : Over) (c : After-split_at g) → c.split_at.new.self.parts ≡ parts_cut c.args.page c.cut_into-upper.ensures.upper.0 (part c.in-Some.first c.in-Some._pages c.in-Some._segment.now) c.args.space.now.parts
+is g c = cut-is c.split_at.new.self.parts c.args.space.now.parts c.args.page c.cut_into-upper.ensures.upper.0 (part c.in-Some.first c.in-Some._pages c.in-Some._segment.now) c.cut_into-upper.new.self c.cut_into-upper.result c.in-Some-find_mut.segment.now c.split_at.ensures.parts c.cut_into-upper.ensures.lower
+    c.cut_into-upper.ensures.upper.1 (same-piece c.args.space.now.parts c.args.page (part c.in-Some.first c.in-Some._pages c.in-Some._segment.now) c.in-Some-find_mut.segment.now c.in-Some.ensures.found c.in-Some-find_mut.ensures.found)
 
 pub returns-clause-starts : goal.returns-clause-starts
 returns-clause-starts g c =
     let d = (goal.at.returns-clause-starts g c).In-Some-find_mut in
     subst (λ (ps : List (Part Segment)). StartsAt ps c.args.page) (sym (is g (goal.at.returns-clause-starts g c).After-split_at))
-    (starts-cut c.args.page c.args.space.now.parts (part c.in-Some.first c.in-Some._pages c.in-Some._segment.now) c.find.ensures.ordered c.in-Some.ensures.found (x g d))
+    (starts-cut c.args.page c.cut_into-upper.ensures.upper.0 c.args.space.now.parts (the_part g d) c.find.ensures.ordered c.in-Some.ensures.found (x g d))
 
 pub returns-clause-kept : goal.returns-clause-kept
 returns-clause-kept g c = λ q start.
     let d = (goal.at.returns-clause-kept g c).In-Some-find_mut in
     subst (λ (ps : List (Part Segment)). StartsAt ps q) (sym (is g (goal.at.returns-clause-kept g c).After-split_at))
-    (starts-kept c.args.page c.args.space.now.parts (part c.in-Some.first c.in-Some._pages c.in-Some._segment.now) c.find.ensures.ordered c.in-Some.ensures.found (x g d) q start)
+    (starts-kept c.args.page c.cut_into-upper.ensures.upper.0 c.args.space.now.parts (the_part g d) c.find.ensures.ordered c.in-Some.ensures.found (x g d) q start)
 
-pub returns-clause-cells : goal.returns-clause-cells
-returns-clause-cells g c = λ q.
-    let d = (goal.at.returns-clause-cells g c).In-Some-find_mut in
-    ap (λ (ps : List (Part Segment)). cell_of_parts ps q) (is g (goal.at.returns-clause-cells g c).After-split_at)
-    ∙ cut-shows c.args.page c.args.space.now.parts (part c.in-Some.first c.in-Some._pages c.in-Some._segment.now) c.find.ensures.ordered c.in-Some.ensures.found (x g d).low q
+pub returns-clause-rooms : goal.returns-clause-rooms
+returns-clause-rooms g c = λ items roomy q le has.
+    let d = (goal.at.returns-clause-rooms g c).In-Some-find_mut in
+    subst (λ (ps : List (Part Segment)). HasRoomAt items roomy ps q) (sym (is g (goal.at.returns-clause-rooms g c).After-split_at))
+    (room-kept c.args.page c.cut_into-upper.ensures.upper.0 c.args.space.now.parts (the_part g d) c.find.ensures.ordered c.in-Some.ensures.found (x g d) items roomy q le has)
+
+pub returns-clause-slots : goal.returns-clause-slots
+returns-clause-slots g c = λ q.
+    let d = (goal.at.returns-clause-slots g c).In-Some-find_mut in
+    ap (λ (ps : List (Part Segment)). slots_at (piece_at ps q)) (is g (goal.at.returns-clause-slots g c).After-split_at)
+    ∙ slots-kept c.args.page c.cut_into-upper.ensures.upper.0 c.args.space.now.parts (the_part g d) c.find.ensures.ordered c.in-Some.ensures.found (x g d) q
 
 pub returns-clause-changes : goal.returns-clause-changes
 returns-clause-changes g c = λ spaces fits.
     let d = (goal.at.returns-clause-changes g c).In-Some-find_mut in
-    let y : Part Segment = part c.in-Some.first c.in-Some._pages c.in-Some._segment.now in
-    let cut = cut-parts (record { world = world_seen c.args.world.now; spaces = spaces }) c.args.process c.args.page c.args.space.now.parts y fits.memory fits.files fits.here c.in-Some.ensures.found (x g d).low in
-    subst (λ (w : World). ChangesSpace c.args.process (record { world = world_seen c.args.world.now; spaces = spaces }) (record { world = w; spaces = finite.insert spaces c.args.process c.split_at.new.self.parts }) (λ F. with_space F c.args.process (file_space c.split_at.new.self.parts)))
-    (ap (λ w. world_seen w) (sym c.cut.ensures.world))
-    (subst (λ (ps : List (Part Segment)). ChangesSpace c.args.process (record { world = world_seen c.args.world.now; spaces = spaces }) (record { world = world_seen c.args.world.now; spaces = finite.insert spaces c.args.process ps }) (λ F. with_space F c.args.process (file_space ps)))
-    (sym (is g (goal.at.returns-clause-changes g c).After-split_at)) cut)
+    let y : Part Segment = the_part g d in
+    let part = cut-part (world_seen c.args.world.now) spaces c.args.process c.args.space.now.parts c.args.page y c.in-Some-find_mut.segment.now fits c.in-Some.ensures.found (x g d).low (lent g d) in
+    let whole = c.cut_into-upper.ensures.changes spaces c.args.process c.args.page part in
+    record {
+      plain = subst (λ (ps : List (Part Segment)). ShowNoZeros (finite.insert spaces c.args.process ps)) (sym (is g (goal.at.returns-clause-changes g c).After-split_at))
+          (plain-cut spaces c.args.process c.args.page c.cut_into-upper.ensures.upper.0 c.args.space.now.parts y fits.plain fits.here c.in-Some.ensures.found (x g d).plain);
+      changes = subst (λ (ps : List (Part Segment)). ChangesSegments c.args.process (record { world = world_seen c.args.world.now; spaces = spaces }) (record { world = world_seen c.cut_into-upper.new.world; spaces = finite.insert spaces c.args.process ps }) (λ F. F))
+          (sym c.split_at.ensures.parts) whole;
+    }

@@ -5,7 +5,7 @@ use Rattle.addr_space.specs.Space.{Part}
 use Rattle.flat_model.proofs.Maps.{on_err_any}
 use Rattle.flat_model.proofs.Ranges.{insert_same, get-insert_here}
 use Rattle.vm_world.specs.Segments.{Spaces}
-use Rattle.vm_world.specs.SpaceSteps.{OnlyFiles}
+use Rattle.vm_world.specs.PlainSteps.{ShowNoZeros}
 use Rattle.vm_world.specs.World.{world_seen}
 use Rattle.vm_world.specs.declared.segment.Segment.{Segment}
 use Rattle.vm_world.specs.declared.world.World.{World}
@@ -13,14 +13,14 @@ use Rattle.mmap_calls.proofs.Replaced.{map-serves}
 use Rattle.mmap_calls.proofs.maps.attempt.Goals as goal
 
 pub map-requires-clause-fits : goal.map-requires-clause-fits
-map-requires-clause-fits g c = (c.args.spaces.now.spaces, record { here = sym c.in-Some.ensures.found; memory = c.requires.fits; files = c.requires.files })
+map-requires-clause-fits g c = (c.args.spaces.now.spaces, record { here = sym c.in-Some.ensures.found; memory = c.requires.fits; plain = c.requires.plain })
 
 same-spaces : (spaces : Spaces) (p : ℕ) (parts new : List (Part Segment)) → finite.get spaces p ≡ Some parts → new ≡ parts → finite.insert spaces p new ≡ spaces
 same-spaces spaces p parts new here same = ap (finite.insert spaces p) same ∙ insert_same spaces p parts here
 
-pub returns-in_err-reply-clause-files : goal.returns-in_err-reply-clause-files
-returns-in_err-reply-clause-files g c =
-    subst OnlyFiles (sym (same-spaces c.args.spaces.now.spaces c.args.process c.in-Some.space.now.parts c.map.new.space.parts (sym c.in-Some.ensures.found) c.in_err-reply.ensures.err.1)) c.requires.files
+pub returns-in_err-reply-clause-plain : goal.returns-in_err-reply-clause-plain
+returns-in_err-reply-clause-plain g c =
+    subst ShowNoZeros (sym (same-spaces c.args.spaces.now.spaces c.args.process c.in-Some.space.now.parts c.map.new.space.parts (sym c.in-Some.ensures.found) c.in_err-reply.ensures.err.1)) c.requires.plain
 
 pub returns-in_err-reply-clause-err : goal.returns-in_err-reply-clause-err
 returns-in_err-reply-clause-err g c =
@@ -30,14 +30,14 @@ returns-in_err-reply-clause-err g c =
 pub returns-clause-done : goal.returns-clause-done
 returns-clause-done g c =
     map-serves (record { world = world_seen c.args.world.now; spaces = c.args.spaces.now.spaces }) (record { world = world_seen c.map.new.world; spaces = finite.insert c.args.spaces.now.spaces c.args.process c.map.new.space.parts })
-    c.args.world.now.pending c.map.new.world.pending c.args.process c.file_map-asked.result c.args.call.now c.in_ok-reply.reply c.file_map-asked.ensures (ap (λ (w : World g.row.D.Denot). w.pending) c.map.ensures.rest) c.requires.fits
-    (c.in_ok-reply.ensures.done c.args.spaces.now.spaces (record { here = sym c.in-Some.ensures.found; memory = c.requires.fits; files = c.requires.files }))
-
-pub returns-clause-files : goal.returns-clause-files
-returns-clause-files g c = (c.in_ok-reply.ensures.done c.args.spaces.now.spaces (record { here = sym c.in-Some.ensures.found; memory = c.requires.fits; files = c.requires.files })).changes.files
+    c.args.world.now.pending c.map.new.world.pending c.args.process c.map_wanted-wanted.result c.args.call.now c.in_ok-reply.reply c.map_wanted-wanted.ensures (ap (λ (w : World g.row.D.Denot). w.pending) c.map.ensures.rest) c.requires.fits
+    (c.in_ok-reply.ensures.done c.args.spaces.now.spaces (record { here = sym c.in-Some.ensures.found; memory = c.requires.fits; plain = c.requires.plain }))
 
 pub returns-clause-plain : goal.returns-clause-plain
-returns-clause-plain g c = (c.in_ok-reply.ensures.done c.args.spaces.now.spaces (record { here = sym c.in-Some.ensures.found; memory = c.requires.fits; files = c.requires.files })).plain
+returns-clause-plain g c = (c.in_ok-reply.ensures.done c.args.spaces.now.spaces (record { here = sym c.in-Some.ensures.found; memory = c.requires.fits; plain = c.requires.plain })).changes.plain
+
+pub returns-clause-answer : goal.returns-clause-answer
+returns-clause-answer g c = (c.in_ok-reply.ensures.done c.args.spaces.now.spaces (record { here = sym c.in-Some.ensures.found; memory = c.requires.fits; plain = c.requires.plain })).plain
 
 pub returns-clause-alive : goal.returns-clause-alive
 returns-clause-alive g c = ap is_some (get-insert_here c.args.spaces.now.spaces c.args.process c.map.new.space.parts)

@@ -12,7 +12,7 @@ returns g c = record {
   ok = refl;
   done = call-serves (record { world = world_seen c.args.world.now; spaces = c.args.spaces.now.spaces }) (record { world = world_seen c.exit.new.world; spaces = c.exit.new.spaces.spaces })
       c.args.world.now.pending c.exit.new.world.pending c.args.process c.args.call.now c.in-Exit.is (ap (λ (w : World g.row.D.Denot). w.pending) c.exit.ensures.rest) c.requires.fits c.exit.ensures.changes;
-  plain = tt;
-  files = c.exit.ensures.changes.files;
+  answer = tt;
+  plain = c.exit.ensures.changes.plain;
   processes = c.exit.ensures.processes;
 }

@@ -1,14 +1,14 @@
-use Rattle.std.proofs.Common.{ℕ, Bool, cond, List, None, refl, sym, ap, ◌∙◌, subst, arith}
+use Rattle.std.proofs.Common.{◌≡◌, ◌-◌, ℕ, Bool, cond, List, None, refl, sym, ap, ◌∙◌, arith}
 use Rattle.std.specs.FinMap as finite
 use Rattle.addr_space.specs.Space.{Part, piece_at}
-use Rattle.addr_space.proofs.PartLists.{pages-step, pages-end}
-use Rattle.flat_model.specs.Access.{with_space}
-use Rattle.vm_world.specs.SpaceSteps.{AreUnloaded, ChangesSpace, file_space}
+use Rattle.addr_space.proofs.PartLists.{pages-end}
+use Rattle.flat_model.proofs.Ranges.{get-insert_here}
 use Rattle.vm_world.specs.World.{world_seen}
 use Rattle.vm_world.specs.declared.segment.Segment.{Segment}
 use Rattle.vm_world.specs.declared.world.World.{World}
-use Rattle.vm_world.proofs.SpaceSteps.{same-parts, get-parts, then-removed}
-use Rattle.seg_vn.proofs.ClearedSpaces.{none-goes, goes, lies, none-out}
+use Rattle.seg_vn.specs.Clears.{slots_of_range}
+use Rattle.seg_vn.proofs.ClearedSpaces.{none-goes, goes, plain-part, part-leaves, none-out, none-left, range-left, part-left, part-reserves, slots-more, next-pages, next-ranges, slots-end}
+use Rattle.seg_vn.proofs.LeftSegments.{pages-are}
 use Rattle.seg_vn.proofs.clears.clear.Goals as goal
 
 pub loop-first-init : goal.loop-first-init
@@ -16,7 +16,9 @@ loop-first-init g c = record {
   low = c.requires.range;
   high = omega arith;
   pages = λ q. sym (ap (λ (b : Bool). cond b None (piece_at c.args.space.now.parts q)) (none-out c.args.end q));
-  changes = λ spaces fits. same-parts (record { world = world_seen c.args.world.now; spaces = spaces }) c.args.process c.args.space.now.parts fits.memory fits.files fits.here;
+  changes = λ spaces fits. none-left (world_seen c.args.world.now) spaces c.args.process c.args.space.now.parts fits c.args.end;
+  reserved = let none = ap (slots_of_range c.args.space.now.parts c.args.end) (let z : c.args.end - c.args.end ≡ 0 = omega arith in z) in omega (arith, none);
+  numbers = omega arith;
   spare = omega arith;
   rest = refl;
 }
@@ -24,43 +26,57 @@ loop-first-init g c = record {
 pub unreachable-requires : goal.unreachable-requires
 unreachable-requires g c = none-goes _ c.remove.result c.in-Some.ensures.1.1 c.remove.ensures.taken c.in_default-remove.is
 
-pub unmap-requires : goal.unmap-requires
-unmap-requires g c =
+pub leave-requires : goal.leave-requires
+leave-requires g c =
     let s = c.requires.fits.0 in
-    let memory = (c.loop-first.invariant.changes s c.requires.fits.1).changes.memory in
-    let gone = goes c.loop-first.space.parts c.in-Some.first c.remove.result c.in-Some-remove.segment c.remove.ensures.taken c.in-Some-remove.is in
+    let now : List (Part Segment) = c.loop-first.space.parts in
+    let k : ℕ = c.in-Some.first in
+    let done = c.loop-first.invariant.changes s c.requires.fits.1 in
+    let gone = goes now k c.remove.result c.in-Some-remove.segment c.remove.ensures.taken c.in-Some-remove.is in
     record {
-      within = (lies (world_seen c.loop-first.world) s c.args.process c.loop-first.space.parts c.in-Some.first c.in-Some-remove.segment gone memory).within;
-      fits = (finite.insert s c.args.process c.loop-first.space.parts, memory);
+      plain = plain-part s c.args.process now k done.plain c.in-Some-remove.segment gone;
+      part = (finite.insert s c.args.process now, part-leaves (world_seen c.loop-first.world) s c.args.process now k c.in-Some-remove.segment gone done.changes.memory);
     }
 
 pub loop-first-preserved : goal.loop-first-preserved
 loop-first-preserved g c =
     let s = c.requires.fits.0 in
     let inv = c.loop-first.invariant in
+    let old : List (Part Segment) = c.args.space.now.parts in
     let now : List (Part Segment) = c.loop-first.space.parts in
+    let p : ℕ = c.args.process in
     let k : ℕ = c.in-Some.first in
-    let memory = (inv.changes s c.requires.fits.1).changes.memory in
-    let order = memory.segments.ordered c.args.process now (get-parts (record { world = world_seen c.loop-first.world; spaces = s }) c.args.process now) in
-    let gone = goes now k c.remove.result c.in-Some-remove.segment c.remove.ensures.taken c.in-Some-remove.is in
-    let lie = lies (world_seen c.loop-first.world) s c.args.process now k c.in-Some-remove.segment gone memory in
+    let top : ℕ = c.loop-first.top in
+    let end : ℕ = c.args.end in
+    let mid = world_seen c.loop-first.world in
+    let new = world_seen c.leave.new.world in
+    let segment : Segment = c.in-Some-remove.segment in
+    let done = inv.changes s c.requires.fits.1 in
+    let memory = done.changes.memory in
+    let order = memory.segments.ordered p now (get-insert_here s p now) in
+    let gone = goes now k c.remove.result segment c.remove.ensures.taken c.in-Some-remove.is in
+    let x = gone.part in
+    let leaves = part-leaves mid s p now k segment gone memory in
     let found = c.in-Some.ensures in
     let below = found.1.0 in
     let high = inv.high in
     record {
       low = found.0;
       high = omega (arith, below, high);
-      pages = λ q. ap (λ (ps : List (Part Segment)). piece_at ps q) c.remove.ensures.parts
-          ∙ pages-step c.args.space.now.parts now c.loop-first.top c.args.end k gone.part order high below inv.pages c.requires.high found.1 gone.is q;
+      pages = λ q. ap (λ (ps : List (Part Segment)). piece_at ps q) c.remove.ensures.parts ∙ next-pages old now top end k x order high below inv.pages c.requires.high found.1 gone.is q;
       changes = λ spaces fits.
-          let done = inv.changes spaces fits in
-          subst (λ (ps : List (Part Segment)). ChangesSpace c.args.process (record { world = world_seen c.args.world.now; spaces = spaces }) (record { world = world_seen c.unmap.new.world; spaces = finite.insert spaces c.args.process ps })
-          (λ F. with_space F c.args.process (file_space ps))) (sym c.remove.ensures.parts)
-          (then-removed c.args.process (record { world = world_seen c.args.world.now; spaces = spaces }) (world_seen c.loop-first.world) (world_seen c.unmap.new.world) now k gone.part done
-          (c.unmap.ensures.keeps (finite.insert spaces c.args.process now) done.changes.memory) gone.is
-          (subst (λ (n : ℕ). AreUnloaded c.unmap.new.world.hat.places c.args.process k n) (sym lie.pages) c.unmap.ensures.unloaded));
+          let before = inv.changes spaces fits in
+          part-left (world_seen c.args.world.now) spaces p old fits mid new now _ top (end - top) k segment.pages k (end - k)
+          (next-ranges old now top end k x order high below inv.pages c.requires.high found.1 gone.is segment.pages (pages-are mid (finite.insert s p now) p k segment leaves)) c.remove.ensures.parts
+          before (c.leave.ensures.changes (finite.insert spaces p now) (part-leaves mid spaces p now k segment gone before.changes.memory));
+      reserved =
+          let a = part-reserves mid new s p now k x memory (c.leave.ensures.changes (finite.insert s p now) leaves).memory done.plain gone.is in
+          let b = slots-more old now top end k x order high below inv.pages c.requires.high found.1 gone.is in
+          let d = inv.reserved in
+          omega (arith, a, b, d);
+      numbers = let a = inv.numbers in let b = c.leave.ensures.numbers in omega (arith, a, b);
       spare = let a = inv.spare in let b = c.remove.ensures.spare in omega (arith, a, b);
-      rest = c.unmap.ensures.rest ∙ ap (λ (w : World g.row.D.Denot). record w { store = c.unmap.new.world.store; hat = c.unmap.new.world.hat }) inv.rest;
+      rest = c.leave.ensures.rest ∙ ap (λ (w : World g.row.D.Denot). record w { store = c.leave.new.world.store; anon = c.leave.new.world.anon; maps = c.leave.new.world.maps; hat = c.leave.new.world.hat }) inv.rest;
     }
 
 pub loop-first-smaller : goal.loop-first-smaller
@@ -70,12 +86,20 @@ pub returns : goal.returns
 returns g c =
     let s = c.requires.fits.0 in
     let inv = c.loop-first.invariant in
+    let old : List (Part Segment) = c.args.space.now.parts in
     let now : List (Part Segment) = c.loop-first.space.parts in
+    let p : ℕ = c.args.process in
+    let from : ℕ = c.args.from in
+    let top : ℕ = c.loop-first.top in
+    let end : ℕ = c.args.end in
     let memory = (inv.changes s c.requires.fits.1).changes.memory in
-    let order = memory.segments.ordered c.args.process now (get-parts (record { world = world_seen c.loop-first.world; spaces = s }) c.args.process now) in
+    let order = memory.segments.ordered p now (get-insert_here s p now) in
+    let ended = pages-end old now from top end order inv.low inv.high inv.pages c.requires.low c.in_default.ensures in
     record {
-      pages = pages-end c.args.space.now.parts now c.args.from c.loop-first.top c.args.end order inv.low inv.high inv.pages c.requires.low c.in_default.ensures;
-      changes = inv.changes;
+      pages = ended;
+      changes = λ spaces fits. range-left (world_seen c.args.world.now) spaces p old fits _ top (end - top) from (end - from) (λ q. sym (inv.pages q) ∙ ended q) (inv.changes spaces fits);
+      reserved = let a = slots-end old now from top end inv.low inv.high inv.pages ended in let b = inv.reserved in omega (arith, a, b);
+      numbers = inv.numbers;
       spare = inv.spare;
       rest = inv.rest;
     }

@@ -31,14 +31,14 @@ loop-at-preserved c =
     let w = look-within i.cells.items i.by_page.heads.items i.by_page.next.items i.by_frame.heads.items i.by_frame.next.items c.args.space c.args.page c.in-Some.place c.loop-at.at c.self.invariant.0 c.loop-at.invariant c.in-Some.is in
     let e = get_or_default i.cells.items c.in-Some.place None c.index.result.now w ∙ sym c.index.ensures in
     look-step i.cells.items i.by_page.next.items c.args.space c.args.page c.in-Some.place c.loop-at.at c.after-at.result c.loop-at.invariant c.in-Some.is c.after-at.ensures
-    (ap (λ (o : Option Translation). holds c.args.space c.args.page o) e ∙ sym c.is_held.ensures ∙ c.if-is_held.false)
+    (ap (λ (o : Option Translation). holds c.args.space c.args.page o) e ∙ sym c.holds.ensures ∙ c.if-holds.false)
 
-pub returns-then-is_held-clause-found : goal.returns-then-is_held-clause-found
-returns-then-is_held-clause-found c =
+pub returns-then-holds-clause-found : goal.returns-then-holds-clause-found
+returns-then-holds-clause-found c =
     let i = c.self.inside in
     let w = look-within i.cells.items i.by_page.heads.items i.by_page.next.items i.by_frame.heads.items i.by_frame.next.items c.args.space c.args.page c.in-Some.place c.loop-at.at c.self.invariant.0 c.loop-at.invariant c.in-Some.is in
     let e = get_or_default i.cells.items c.in-Some.place None c.index.result.now w ∙ sym c.index.ensures in
-    let h : holds c.args.space c.args.page (get_or i.cells.items c.in-Some.place None) ≡ true = ap (λ (o : Option Translation). holds c.args.space c.args.page o) e ∙ sym c.is_held.ensures ∙ c.if-is_held.true in
+    let h : holds c.args.space c.args.page (get_or i.cells.items c.in-Some.place None) ≡ true = ap (λ (o : Option Translation). holds c.args.space c.args.page o) e ∙ sym c.holds.ensures ∙ c.if-holds.true in
     subst (λ (p : List (Option Translation)). FindsPlace p c.args.space c.args.page (Some c.in-Some.place)) (ap (λ (r : Rows). r.places) c.self.view_is)
     (h, λ k g. c.self.invariant.0.distinct k c.in-Some.place c.args.space c.args.page g h)
 
@@ -47,8 +47,8 @@ returns-clause-found c =
     subst (λ (p : List (Option Translation)). FindsPlace p c.args.space c.args.page None) (ap (λ (r : Rows). r.places) c.self.view_is)
     (look-end c.self.inside.cells.items c.self.inside.by_page.next.items c.args.space c.args.page c.loop-at.at c.loop-at.invariant c.in_default.is)
 
-pub returns-then-is_held-clause-distinct : goal.returns-then-is_held-clause-distinct
-returns-then-is_held-clause-distinct c = subst IsSingleValued (ap (λ (r : Rows). r.places) c.self.view_is) c.self.invariant.0.distinct
+pub returns-then-holds-clause-distinct : goal.returns-then-holds-clause-distinct
+returns-then-holds-clause-distinct c = subst IsSingleValued (ap (λ (r : Rows). r.places) c.self.view_is) c.self.invariant.0.distinct
 
 pub returns-clause-distinct : goal.returns-clause-distinct
 returns-clause-distinct c = subst IsSingleValued (ap (λ (r : Rows). r.places) c.self.view_is) c.self.invariant.0.distinct

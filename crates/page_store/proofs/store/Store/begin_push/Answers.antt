@@ -1,4 +1,5 @@
 use Rattle.std.proofs.Common.{◌≡◌, ℕ, ◌<◌, Option, Some, None, List, true, length, refl, sym, ◌∙◌, ap, subst, arith}
+use Rattle.std.specs.Option.{option_or}
 use Rattle.core_arena.specs.Bytes.{bytes_at}
 use Rattle.std.proofs.Math.ListN.{length-set}
 use Rattle.page_hash.specs.Names.{find}
@@ -7,7 +8,7 @@ use Rattle.page_store.specs.Bays.{home, bay_at}
 use Rattle.page_store.specs.Flight.{FlightSeen, fresh}
 use Rattle.page_store.specs.Seen.{StoreSeen, IsSoundStore, IsListedFrame, store_of, residence}
 use Rattle.page_store.specs.Steps.{at_frame, with_push_begun, without_snapshot, next_frame, home_bytes}
-use Rattle.page_store.specs.Transfers.{BeginsTransfer, taken_or}
+use Rattle.page_store.specs.Transfers.{BeginsTransfer}
 use Rattle.page_store.specs.declared.plan.Plan.TheVariants.{Push}
 use Rattle.page_store.proofs.AbortLemmas.{forsakes}
 use Rattle.page_store.proofs.BeginLemmas.{begins-push, pushed-parts, taken-others, out-within}
@@ -52,7 +53,7 @@ flight g c = record {
 -- the frames, the store that the call makes, and its laws
 record Begun (g : Over) (c : After-take g) : Type 0 where
   page : IsIn c.args.self.now c.args.name c.in-Some.own
-  frame : taken_or (next_frame c.args.self.now) (Some c.in-Some.own) ≡ Some c.take_out-frame.result.number
+  frame : option_or (next_frame c.args.self.now) (Some c.in-Some.own) ≡ Some c.take_out-frame.result.number
   bytes : bytes_at c.args.self.now.frames c.in-Some.own ≡ Some c.take_out-frame.result.bytes
   new : store_of c.take_out-frame.new.core c.take_out-frame.new.names c.take_out-frame.new.lists c.take_out-frame.new.locks c.self.inside.clock c.take.new.self c.self.inside.order
       ≡ with_push_begun (without_snapshot c.args.self.now c.in-Some.own) c.in-Some.own (next_frame c.args.self.now) c.args.seat c.args.disk
@@ -62,7 +63,7 @@ is : (g : Over) (c : After-take g) → Begun g c
 is g c =
     let found : find c.args.self.now.names c.args.name ≡ Some c.in-Some.own = ap (λ (x : StoreSeen). find x.names c.args.name) (sym c.self.view_is) ∙ sym c.in-Some.ensures.first in
     let same : c.requires.can.0 ≡ c.in-Some.own = same-frame c.args.self.now c.args.name c.in-Some.own c.requires.can.0 c.requires.can.1 found in
-    let frame : taken_or (next_frame c.args.self.now) (Some c.in-Some.own) ≡ Some c.take_out-frame.result.number = ap (λ (x : StoreSeen). taken_or (next_frame x) (Some c.in-Some.own)) (sym c.self.view_is) ∙ c.take_out-frame.ensures.number in
+    let frame : option_or (next_frame c.args.self.now) (Some c.in-Some.own) ≡ Some c.take_out-frame.result.number = ap (λ (x : StoreSeen). option_or (next_frame x) (Some c.in-Some.own)) (sym c.self.view_is) ∙ c.take_out-frame.ensures.number in
     let bytes : bytes_at c.args.self.now.frames c.in-Some.own ≡ Some c.take_out-frame.result.bytes = ap (λ (x : StoreSeen). bytes_at x.frames c.in-Some.own) (sym c.self.view_is) ∙ c.take_out-frame.ensures.bytes in
     record {
       page = is-in c.args.self.now c.args.name c.in-Some.own c.requires.can.0 c.requires.can.1 found;
@@ -92,7 +93,7 @@ invariant_of-self g c =
 pub returns-clause-frame : goal.returns-clause-frame
 returns-clause-frame g c =
     let i = is g (goal.at.returns-clause-frame g c).After-take in
-    ap (λ (o : Option ℕ). taken_or (next_frame c.args.self.now) o) i.page.found ∙ i.frame
+    ap (λ (o : Option ℕ). option_or (next_frame c.args.self.now) o) i.page.found ∙ i.frame
 
 pub returns-clause-bytes : goal.returns-clause-bytes
 returns-clause-bytes g c = let i = is g (goal.at.returns-clause-bytes g c).After-take in rw (i.page.found, i.bytes) refl

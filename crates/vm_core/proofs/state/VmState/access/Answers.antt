@@ -1,10 +1,9 @@
-use Rattle.std.proofs.Common.{◌≡◌, ℕ, Some, None, sym, subst}
+use Rattle.std.proofs.Common.{sym, subst}
 use Rattle.vm_world.specs.MemoryFits.{MemoryFits}
 use Rattle.vm_world.specs.NotesFit.{NotesFit}
 use Rattle.vm_world.specs.State.{KernelState}
 use Rattle.vm_world.specs.World.{world_table, world_seen}
-use Rattle.vm_world.specs.Segments.{Spaces}
-use Rattle.vm_world.specs.SpaceSteps.{OnlyFiles}
+use Rattle.vm_world.specs.PlainSteps.{ShowNoZeros}
 use Rattle.seg_vn.specs.Serves.{Serves}
 use Rattle.seg_vn.specs.Spaces.{SpacesSeen}
 use Rattle.vm_core.proofs.Served.{home-frame, kept-served, own-reply}
@@ -29,7 +28,7 @@ serves-is g c =
 pub invariant_of-self : goal.invariant_of-self
 invariant_of-self g c =
     kept-served (record { world = world_seen c.self.inside.world; spaces = c.self.inside.spaces.spaces }) (record { world = world_seen c.attempt.new.world; spaces = c.attempt.new.spaces.spaces }) _ _ _ _ _ _ _ c.self.invariant
-    (subst (λ (spaces : SpacesSeen). OnlyFiles spaces.spaces) (sym c.attempt.ensures.spaces) c.self.invariant.files) (serves-is g c)
+    (subst (λ (spaces : SpacesSeen). ShowNoZeros spaces.spaces) (sym c.attempt.ensures.spaces) c.self.invariant.plain) (serves-is g c)
 
 pub returns-clause-serves : goal.returns-clause-serves
 returns-clause-serves g c =

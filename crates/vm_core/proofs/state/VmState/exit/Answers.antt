@@ -12,7 +12,7 @@ attempt-requires-clause-fits g c = subst (λ (s : KernelState). MemoryFits s.mem
 
 pub invariant_of-self : goal.invariant_of-self
 invariant_of-self g c =
-    kept-served (record { world = world_seen c.self.inside.world; spaces = c.self.inside.spaces.spaces }) (record { world = world_seen c.attempt.new.world; spaces = c.attempt.new.spaces.spaces }) _ _ _ _ _ _ _ c.self.invariant c.attempt.ensures.files c.in-Ok.ensures.done
+    kept-served (record { world = world_seen c.self.inside.world; spaces = c.self.inside.spaces.spaces }) (record { world = world_seen c.attempt.new.world; spaces = c.attempt.new.spaces.spaces }) _ _ _ _ _ _ _ c.self.invariant c.attempt.ensures.plain c.in-Ok.ensures.done
 
 pub returns-clause-serves : goal.returns-clause-serves
 returns-clause-serves g c =
@@ -20,4 +20,4 @@ returns-clause-serves g c =
     c.self.view_is c.in-Ok.ensures.done
 
 pub returns-clause-own : goal.returns-clause-own
-returns-clause-own g c = exited-own c.in-Ok.attempt c.in-Ok.ensures.plain
+returns-clause-own g c = exited-own c.in-Ok.attempt c.in-Ok.ensures.answer

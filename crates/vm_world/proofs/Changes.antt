@@ -1,0 +1,53 @@
+-- Changes of memory: one after another, and one that is said by another function.
+use Rattle.std.proofs.Common.{◌≡◌, ℕ, length, ap, ◌∙◌}
+use Rattle.std.specs.Ordering.{nat_cmp}
+use Rattle.std.specs.FinSet as set
+use Rattle.page_store.specs.Notes.{Notes}
+use Rattle.flat_model.specs.Flat.{Flat, IsFlat}
+use Rattle.vm_world.specs.CallSteps.{KeepsMachine, ChangesMemory}
+use Rattle.vm_world.specs.FlatMemory.{Memory, flat_memory}
+use Rattle.vm_world.specs.NotesFit.{NotesFit}
+use Rattle.vm_world.specs.SpaceSteps.{Becomes}
+use Rattle.vm_world.specs.World.{World, core_of, AllTell}
+use Rattle.vm_world.specs.WorldSteps.{KeepsTables}
+use Rattle.vm_world.proofs.Callers.{same-modes}
+
+-- what keeps the tables keeps the machine
+pub machine-kept : (u v : World) → core_of v.store ≡ core_of u.store → length v.store.frames ≡ length u.store.frames → KeepsTables u v → v.store.bays ≡ u.store.bays → KeepsMachine u v
+machine-kept u v core frames tables bays = record { core = core; frames = frames; slots = ap length tables.counts; disks = tables.disks; modes = same-modes u v tables; bays = bays }
+
+-- one change after another, where the first leaves flat memory well formed
+pub changes-then : (p : ℕ) (u v w : Memory) (one two both : Flat → Flat → Type 0)
+    → ((born : set.FinSet nat_cmp) (notes : Notes) → NotesFit u.world notes → AllTell u.world notes → IsFlat (flat_memory u born notes) → one (flat_memory u born notes) (flat_memory v born notes) → IsFlat (flat_memory v born notes))
+    → ((F G H : Flat) → one F G → two G H → both F H) → ChangesMemory p u v one → ChangesMemory p v w two → ChangesMemory p u w both
+changes-then p u v w one two both whole join a b = record {
+  machine = record {
+    core = b.machine.core ∙ a.machine.core;
+    frames = b.machine.frames ∙ a.machine.frames;
+    slots = b.machine.slots ∙ a.machine.slots;
+    disks = b.machine.disks ∙ a.machine.disks;
+    modes = b.machine.modes ∙ a.machine.modes;
+    bays = b.machine.bays ∙ a.machine.bays;
+  };
+  others = λ q far. b.others q far ∙ a.others q far;
+  memory = b.memory;
+  notes = λ notes nf. b.notes notes (a.notes notes nf);
+  tells = λ notes nf. let x = a.tells notes nf in let y = b.tells notes (a.notes notes nf) in ((λ tell. y.0 (x.0 tell)), (λ tell. x.1 (y.1 tell)));
+  flat = λ born notes nf tell is.
+      let x = a.flat born notes nf tell is in
+      join (flat_memory u born notes) (flat_memory v born notes) (flat_memory w born notes) x (b.flat born notes (a.notes notes nf) ((a.tells notes nf).0 tell) (whole born notes nf tell is x));
+}
+
+pub becomes-then : (p : ℕ) (u v w : Memory) (first second : Flat → Flat) → ChangesMemory p u v (Becomes first) → ChangesMemory p v w (Becomes second) → ChangesMemory p u w (Becomes (λ F. second (first F)))
+becomes-then p u v w first second =
+    changes-then p u v w (Becomes first) (Becomes second) (Becomes (λ F. second (first F))) (λ born notes nf tell is x. x.1) (λ F G H x y. (y.0 ∙ ap second x.0, y.1))
+
+pub becomes-same : (p : ℕ) (u v : Memory) (f g : Flat → Flat) → ((born : set.FinSet nat_cmp) (notes : Notes) → f (flat_memory u born notes) ≡ g (flat_memory u born notes)) → ChangesMemory p u v (Becomes f) → ChangesMemory p u v (Becomes g)
+becomes-same p u v f g same c = record {
+  machine = c.machine;
+  others = c.others;
+  memory = c.memory;
+  notes = c.notes;
+  tells = c.tells;
+  flat = λ born notes nf tell is. let x = c.flat born notes nf tell is in (x.0 ∙ same born notes, x.1);
+}
