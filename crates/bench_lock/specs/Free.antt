@@ -1,0 +1,19 @@
+-- A state that keeps no history, and of which any change is allowed. Inside: the crate has no public clause.
+use Rattle.std.specs.Prelude.{ℕ, List, [], Option, None}
+
+abbrev pub seat_itself : ℕ → ℕ
+seat_itself e = e
+
+module _ {S : Type 0} where
+  abbrev pub no_entries : S → List ℕ
+  no_entries s = []
+
+  abbrev pub any_state : S → S → List (Option ℕ) → Type 0
+  any_state opening s notes = Unit {0}
+
+  abbrev pub any_change : ℕ → S → Option ℕ → S → Option ℕ → Type 0
+  any_change k s n t m = Unit {0}
+
+-- Nothing is ever outside the lock.
+abbrev pub no_note : {H : Type 0} → H → Option ℕ
+no_note held = None

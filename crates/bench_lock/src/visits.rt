@@ -1,0 +1,64 @@
+//! A lock of one seat, and its visits.
+ghost use Rattle.std.specs.Prelude.{◌≡◌, false, vec_len};
+ghost use Rattle.kernel_lock.specs.Seats.{AreNew, IsSeatOf, newcomer};
+
+use crate::counted::Counted;
+use kernel_lock::lock::KernelLock;
+use kernel_lock::seat::Seat;
+use std::alloc::Global;
+
+// Goes in, counts, and goes out.
+fn visit<B: Drop>(lock: &KernelLock<Counted<B>>, seat: &mut Seat<Counted<B>>)
+    requires seat { IsSeatOf lock.now seat.old }
+    requires outside { seat.old.inside ≡ false }
+    ensures seat { IsSeatOf lock.now seat.new }
+    ensures outside { seat.new.inside ≡ false }
+    ensures number { seat.new.number ≡ seat.old.number }
+{
+    if let Some(mut state) = lock.try_enter(seat) {
+        state.visits = state.visits.wrapping_add(1);
+        lock.leave(seat, state, &());
+    }
+}
+
+fn visit_times<B: Drop>(lock: &KernelLock<Counted<B>>, seat: &mut Seat<Counted<B>>, times: u64)
+    requires seat { IsSeatOf lock.now seat.old }
+    requires outside { seat.old.inside ≡ false }
+    ensures seat { IsSeatOf lock.now seat.new }
+    ensures outside { seat.new.inside ≡ false }
+    ensures number { seat.new.number ≡ seat.old.number }
+{
+    for _ in 0..times {
+        visit(lock, seat);
+    }
+}
+
+// Takes the one seat off its row.
+fn only_seat<B: Drop>(
+    _lock: &KernelLock<Counted<B>>,
+    mut row: Vec<Seat<Counted<B>>>,
+) -> Seat<Counted<B>>
+    requires one { vec_len row ≡ 1 }
+    requires new { AreNew _lock.now row.items }
+    ensures { result ≡ newcomer _lock.now 0 }
+{
+    let Some(seat) = row.pop() else {
+        unreachable!()
+    };
+    row.destroy_empty();
+    seat
+}
+
+/// Puts a state behind a lock, visits it so many times, and says how many visits it counted. `None` is
+/// want of memory.
+pub fn visit_all<B: Drop>(alloc: Global, state: Counted<B>, times: u64) -> Option<u64> {
+    let Ok((lock, row)) = KernelLock::start(alloc, state, 1) else {
+        return None;
+    };
+    let mut seat = only_seat(&lock, row);
+    visit_times(&lock, &mut seat, times);
+    let mut from = lock.gather_none();
+    lock.gather(&mut from, seat);
+    let state = lock.close_gathered(from);
+    Some(state.visits)
+}
