@@ -195,8 +195,8 @@ impl AnonMaps {
     /// the numbers.
     pub fn reserve(&mut self, numbers: u32) -> Result<(), AllocError>
         ensures free { IfOk result (λ _. numbers ≤ free_numbers self.new) }
-        ensures more { IfOk result
-            (λ _. (more : ℕ) × (self.new ≡ self.old ++ replicate more None)) }
+        ensures new { IfOk result (λ _. self.new
+            ≡ self.old ++ replicate (numbers - free_numbers self.old) None) }
         ensures err { OnErr result (self.new ≡ self.old) }
     {
         let free = self.gone.len();

@@ -44,6 +44,8 @@ fn load<D: Disk>(
         → ServesWord (record { world = world_seen world.old; spaces = spaces })
         (record { world = world_seen world.new; spaces = spaces })
         world.old.pending world.new.pending process (page addr) (Load addr size) result }
+    // What stays.
+    ensures zeros { world.new.zeros ≡ world.old.zeros }
 {
     match reach(world, space, process, addr, size, false) {
         Access::Reached(frame) => Attempt::Done(Reply::Word(read(world, frame, addr, size))),
@@ -77,6 +79,8 @@ fn store<D: Disk>(
         → ServesWord (record { world = world_seen world.old; spaces = spaces })
         (record { world = world_seen world.new; spaces = spaces })
         world.old.pending world.new.pending process (page addr) (Store addr size value) result }
+    // What stays.
+    ensures zeros { world.new.zeros ≡ world.old.zeros }
 {
     match reach(world, space, process, addr, size, true) {
         Access::Reached(frame) => {
@@ -122,6 +126,7 @@ pub fn attempt<D: Disk>(
         (world_seen world.new) process q (is_store call.now) result }
     // What stays.
     ensures spaces { spaces.new ≡ spaces.old }
+    ensures zeros { world.new.zeros ≡ world.old.zeros }
 {
     let Some(space) = spaces.get(process) else {
         unreachable!();

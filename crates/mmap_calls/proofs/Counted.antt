@@ -17,7 +17,7 @@ use Rattle.vm_world.specs.Segments.{Spot}
 use Rattle.vm_world.specs.declared.segment.Segment.{Segment}
 use Rattle.vm_world.proofs.Maps.{get-space_with}
 use Rattle.seg_vn.specs.Clears.{slots_at, slots_of_range}
-use Rattle.mmap_calls.specs.Maps.{mapped_pages}
+use Rattle.mmap_calls.specs.Refusals.{mapped_pages}
 
 -- the sum of what the pages of a range have
 abbrev pub sum_at : (ℕ → ℕ) → ℕ → ℕ → ℕ

@@ -1,5 +1,9 @@
 pub mod Counted
 pub mod Owns
+pub mod Holders
+pub mod Begun
+pub mod ZerosGone
 pub mod MapResults
+pub mod RoomAfter
 pub mod CutPlaces
 pub mod Replaced

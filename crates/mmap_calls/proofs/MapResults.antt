@@ -1,14 +1,13 @@
 -- What a Map comes to in flat memory, by the refusal that is due.
 use Rattle.std.proofs.Common.{◌≡◌, ℕ, zero, suc, ◌+◌, ◌-◌, ◌≤◌, Bool, true, false, cond, not, List, [], ◌∷◌, length, map, Option, Some, None, refl, sym, ap, ◌∙◌, inl, inr, arith}
-use Rattle.std.specs.Prelude.{option_map, is_some, nat_le, nat_lt, IsSome, Result, Ok, Err, slice_get, sum_by}
+use Rattle.std.specs.Prelude.{option_map, is_some, nat_le, nat_lt, IsSome, Result, Ok, Err, slice_get, slice_index_or}
 use Rattle.std.specs.Option.{option_map_or}
 use Rattle.std.specs.FinMap as finite
 use Rattle.std.specs.FinSet as set
 use Rattle.std.specs.Ordering.{nat_cmp}
-use Rattle.std.specs.Cmp.{nat_cmp_total}
 use Rattle.std.proofs.lemmas.Bool.{cases_lt, lt-ltb, le-ltb}
 use Rattle.addr_space.specs.Space.{Part, page_total}
-use Rattle.page_store.specs.Notes.{Notes}
+use Rattle.page_store.specs.Notes.{Notes, no_notes}
 use Rattle.vnode_files.specs.declared.vnode.FileInfo.{FileInfo}
 use Rattle.vnode_files.specs.Vnode.{VnodeSeen}
 use Rattle.vm_types.specs.declared.call.Errno.{Errno}
@@ -19,16 +18,15 @@ use Rattle.vm_types.specs.declared.call.Object.{Object}
 use Rattle.vm_types.specs.declared.call.Object.TheVariants as object
 use Rattle.vm_types.specs.declared.call.Place.TheVariants.{At}
 use Rattle.vm_types.specs.Prot.{is_within}
-use Rattle.flat_model.specs.Flat.{Flat, Space, space_of, reserved, slots_for, private_cells, is_named, without_unnamed}
+use Rattle.flat_model.specs.Flat.{Flat, Space, space_of, reserved, slots_for}
 use Rattle.flat_model.specs.Flat as flat
 use Rattle.flat_model.specs.Mapping.{Request, cells_of, is_valid, is_there, max_of, without_replaced, with_mapping, without_pages, map_result, prot_read, prot_read_write}
 use Rattle.flat_model.specs.Refusals.{◌>>◌, check}
 use Rattle.flat_model.specs.ReserveLaws.{IsPlaced, zero_pages_gone, zero_pages_back}
 use Rattle.flat_model.specs.Space.{without_range}
-use Rattle.flat_model.specs.Words.{Page, page, pages_in}
+use Rattle.flat_model.specs.Words.{page, pages_in}
 use Rattle.flat_model.proofs.Mappings.{cells_of-with_space}
-use Rattle.flat_model.proofs.Ranges.{get-retain_keys}
-use Rattle.flat_model.proofs.Reserve.{reserved-shared_map, reserved-private_map, reserved-unmap}
+use Rattle.flat_model.proofs.Reserve.{reserved-shared_map, reserved-private_map, reserved-new_zero_map, reserved-unmap}
 use Rattle.flat_model.proofs.Sums.{total, total-without_range}
 use Rattle.vm_world.specs.FlatMemory.{Memory, flat_memory, file_with_pages, space_with}
 use Rattle.vm_world.specs.Pages.{contents_of}
@@ -36,13 +34,13 @@ use Rattle.vm_world.specs.declared.segment.Segment.{Segment}
 use Rattle.vm_world.proofs.FilePages.{file-in}
 use Rattle.vm_world.proofs.Maps.{get-map_with}
 use Rattle.vm_world.proofs.PageNames.{info-there}
-use Rattle.vm_world.proofs.PlainSteps.{space_rule}
 use Rattle.vm_world.proofs.SegmentCells.{segment_cells}
-use Rattle.vm_world.proofs.Spaces.{entries-empty}
 use Rattle.seg_vn.specs.Clears.{SpaceFits, slots_of_range}
 use Rattle.mmap_calls.specs.declared.refusals.MapRequest.{MapRequest}
-use Rattle.mmap_calls.specs.Maps.{IsServedObject, is_object_there, map_request, mapped_pages, most_allowed, refusal_of, slots_for_pages}
+use Rattle.mmap_calls.specs.GivenUp.{given_up}
+use Rattle.mmap_calls.specs.Refusals.{IsMapRefusal, is_object_there, map_outcome, map_request, mapped_pages, most_allowed, pages_after, refusal_of, reserved_after, slots_for_pages}
 use Rattle.mmap_calls.proofs.Counted.{left-cells, left-slots}
+use Rattle.mmap_calls.proofs.ZerosGone.{gone-given}
 
 -- the tests of a Map, one after another, and the refusal that they come to
 abbrev tested : {X : Type 0} → Bool → Bool → Bool → Bool → Bool → X → Result X Errno
@@ -119,14 +117,12 @@ module _ (m : Memory) (born : set.FinSet nat_cmp) (notes : Notes) where
   file-seen f = file-in (contents_of m.world notes).file 0 f (map (λ (v : VnodeSeen). v.info) m.world.files.files)
       ∙ (let e : 0 + f ≡ f = omega arith in ap (λ (j : ℕ). option_map (file_with_pages ((contents_of m.world notes).file j)) (slice_get (map (λ (v : VnodeSeen). v.info) m.world.files.files) f)) e)
 
-  pub there-seen : (kind : Kind) (o : Object) → IsServedObject kind o → is_there (flat_memory m born notes) o ≡ is_object_there m.world o
-  there-seen kind (object.File f) served =
+  pub there-seen : (zeros : List (Option ℕ)) (p : ℕ) (parts : List (Part Segment)) → SpaceFits m.world zeros m.spaces p parts → (o : Object) → is_there (flat_memory m born notes) o ≡ is_object_there m.world zeros o
+  there-seen zeros p parts fits (object.File f) =
       some-mapped (λ (file : flat.File). file.pages) (slice_get (flat_memory m born notes).files f) ∙ ap (λ (o : Option flat.File). is_some o) (file-seen f)
       ∙ some-mapped (file_with_pages ((contents_of m.world notes).file f)) (slice_get (map (λ (v : VnodeSeen). v.info) m.world.files.files) f) ∙ seen-info m.world.files.files f
-  there-seen Private object.NewZero served = refl
-  there-seen Shared object.NewZero served = absurd served
-  there-seen Private (object.Zero z) served = absurd served
-  there-seen Shared (object.Zero z) served = absurd served
+  there-seen zeros p parts fits object.NewZero = refl
+  there-seen zeros p parts fits (object.Zero z) = segment_cells.there m born notes z fits.memory ∙ ap (λ (o : Option ℕ). is_some o) (fits.known z)
 
   most-of-file : (f : ℕ) → nat_lt f (length m.world.files.files) ≡ true → max_of (flat_memory m born notes) Shared (object.File f) ≡ most_allowed m.world Shared (object.File f)
   most-of-file f lt = ap (λ (o : Option flat.File). option_map_or (λ (file : flat.File). cond file.writable prot_read_write prot_read) o prot_read_write) (file-seen f)
@@ -137,71 +133,60 @@ module _ (m : Memory) (born : set.FinSet nat_cmp) (notes : Notes) where
       by_info None e = absurd (let z : false ≡ true = sym (ap (λ (o : Option FileInfo). is_some o) e) ∙ seen-info m.world.files.files f ∙ lt in cc)
       by_info (Some info) e = ap (λ (i : FileInfo). cond i.writable prot_read_write prot_read) (sym (info-there m.world.files f info e).1)
 
-  pub most-seen : (kind : Kind) (o : Object) → is_object_there m.world o ≡ true → max_of (flat_memory m born notes) kind o ≡ most_allowed m.world kind o
-  most-seen Shared (object.File f) there = most-of-file f there
-  most-seen Shared (object.Zero z) there = refl
-  most-seen Shared object.NewZero there = refl
-  most-seen Private o there = refl
-
--- where there is no zero object, none is gone and none comes back
-retain-empty : (test : ℕ → Bool) → finite.retain_keys (finite.empty {X = List Page} {R = nat_cmp}) test ≡ finite.empty
-retain-empty test = finite.same_map nat_cmp_total finite.nat_cmp-IsAntisymmetric _ _ (λ q. get-retain_keys finite.empty test q ∙ ap (λ (o : Option (List Page)). cond (test q) o None) (finite.get-empty nat_cmp q) ∙ either (test q) ∙ sym (finite.get-empty nat_cmp q))
-  where
-    either : (b : Bool) → cond {A = Option (List Page)} b None None ≡ None
-    either true = refl
-    either false = refl
-
-pub same-unnamed : (F : Flat) → F.zeros ≡ finite.empty → without_unnamed F ≡ F
-same-unnamed F none =
-    let e : finite.retain_keys F.zeros (is_named F) ≡ F.zeros = ap (λ (zs : finite.FinMap nat_cmp (List Page)). finite.retain_keys zs (is_named F)) none ∙ retain-empty (is_named F) ∙ sym none in
-    λ i. record { slots = F.slots; disks = F.disks; files = F.files; zeros = e i; spaces = F.spaces; born = F.born }
-
-none-gone : (F G : Flat) → F.zeros ≡ finite.empty → zero_pages_gone F G ≡ 0
-none-gone F G none =
-    ap (λ (H : Flat). total length (finite.retain_keys H.zeros (λ z. not (is_named G z)))) (same-unnamed F none)
-    ∙ ap (λ (zs : finite.FinMap nat_cmp (List Page)). total length (finite.retain_keys zs (λ z. not (is_named G z)))) none
-    ∙ ap (total length) (retain-empty (λ z. not (is_named G z))) ∙ ap (λ (es : List (ℕ × List Page)). sum_by length (map (λ (e : ℕ × List Page). e.1) es)) entries-empty
-
-none-back : (F U : Flat) (kind : Kind) (o : Object) → IsServedObject kind o → zero_pages_back F U o ≡ 0
-none-back F U kind (object.File f) served = refl
-none-back F U kind object.NewZero served = refl
-none-back F U Private (object.Zero z) served = absurd served
-none-back F U Shared (object.Zero z) served = absurd served
+  pub most-seen : (zeros : List (Option ℕ)) (kind : Kind) (o : Object) → is_object_there m.world zeros o ≡ true → max_of (flat_memory m born notes) kind o ≡ most_allowed m.world kind o
+  most-seen zeros Shared (object.File f) there = most-of-file f there
+  most-seen zeros Shared (object.Zero z) there = refl
+  most-seen zeros Shared object.NewZero there = refl
+  most-seen zeros Private o there = refl
 
 -- WHAT IS RESERVED with the new mapping
-reserved-with : (F : Flat) (p : ℕ) (r : Request) (first : ℕ) (kind : Kind) → IsSome (space_of F p) → IsPlaced F p r first → F.zeros ≡ finite.empty → r.kind ≡ kind → IsServedObject kind r.object
-    → reserved (with_mapping F p r first) ≡ reserved (without_pages F p first (pages_in r.len)) + slots_for_pages kind (pages_in r.len)
-reserved-with F p r first Private alive placed none is served =
-    let new = reserved-private_map F p r first alive placed is in
-    let back = none-back F (without_pages F p first (pages_in r.len)) Private r.object served in
-    omega (arith, new, back)
-reserved-with F p r first Shared alive placed none is served =
-    let new = reserved-shared_map F p r first alive placed is (λ e. not-new r.object e served) in
-    let back = none-back F (without_pages F p first (pages_in r.len)) Shared r.object served in
-    omega (arith, new, back)
+reserved-with : (F : Flat) (p : ℕ) (r : Request) (first : ℕ) (kind : Kind) → IsSome (space_of F p) → IsPlaced F p r first → r.kind ≡ kind
+    → reserved (with_mapping F p r first) ≡ reserved (without_pages F p first (pages_in r.len)) + slots_for_pages kind r.object (pages_in r.len) + zero_pages_back F (without_pages F p first (pages_in r.len)) r.object
+reserved-with F p r first Private alive placed is = reserved-private_map F p r first alive placed is
+reserved-with F p r first Shared alive placed is = by_object r.object refl
   where
-    not-new : (o : Object) → o ≡ object.NewZero → IsServedObject Shared o → ⊥
-    not-new (object.File f) e served = let z = e in cc
-    not-new (object.Zero z) e served = served
-    not-new object.NewZero e served = served
+    by_object : (o : Object) → r.object ≡ o → reserved (with_mapping F p r first) ≡ reserved (without_pages F p first (pages_in r.len)) + slots_for_pages Shared o (pages_in r.len) + zero_pages_back F (without_pages F p first (pages_in r.len)) o
+    by_object object.NewZero e = let new = reserved-new_zero_map F p r first alive placed is e in omega (arith, new)
+    by_object (object.File f) e =
+        let new = reserved-shared_map F p r first alive placed is (λ n. let z = sym e ∙ n in cc) in
+        let back = ap (zero_pages_back F (without_pages F p first (pages_in r.len))) e in
+        omega (arith, new, back)
+    by_object (object.Zero z) e =
+        let new = reserved-shared_map F p r first alive placed is (λ n. let z = sym e ∙ n in cc) in
+        let back = ap (zero_pages_back F (without_pages F p first (pages_in r.len))) e in
+        omega (arith, new, back)
 
-module _ (m : Memory) (born : set.FinSet nat_cmp) (notes : Notes) (p : ℕ) (parts : List (Part Segment)) (fits : SpaceFits m.world m.spaces p parts) where
+outcome-is : (F : Flat) (p : ℕ) (q : MapRequest) (r : Option Errno) → outcome (page q.addr, with_mapping F p (map_request q) (page q.addr)) r ≡ map_outcome F p q r
+outcome-is F p q None = refl
+outcome-is F p q (Some e) = refl
+
+module _ (m : Memory) (born : set.FinSet nat_cmp) (notes : Notes) (p : ℕ) (parts : List (Part Segment)) (zeros : List (Option ℕ)) (fits : SpaceFits m.world zeros m.spaces p parts) where
   pub alive-here : IsSome (space_of (flat_memory m born notes) p)
   alive-here = ap is_some (get-map_with (space_with (contents_of m.world notes).place) m.spaces p ∙ ap (option_map (space_with (contents_of m.world notes).place)) fits.here)
 
-  -- the slots of the private pages of a range are given up with it
-  pub given-up : (first n : ℕ) → reserved (without_pages (flat_memory m born notes) p first n) + slots_of_range parts first n ≡ m.world.anon.reserved
-  given-up first n =
+  -- the slots of the private pages of a range are given up with it, and those of the zero objects that it alone shows
+  pub given-all : (first n : ℕ) → reserved (without_pages (flat_memory m born notes) p first n) + slots_of_range parts first n + zero_pages_gone (flat_memory m born notes) (without_pages (flat_memory m born notes) p first n) ≡ m.world.anon.reserved
+  given-all first n =
       let F : Flat = flat_memory m born notes in
       let gone = reserved-unmap F p first n alive-here in
-      let none = none-gone F (without_pages F p first n) (space_rule.zeros m born notes fits.plain) in
       let all = segment_cells.reserved m born notes fits.memory in
       let left = left-slots (contents_of m.world notes).place parts first n in
       let halves = total-without_range slots_for (cells_of F p) first n in
       let cells = segment_cells.cells m p parts born notes fits.memory fits.here in
       let out = ap (λ (s : Space). total slots_for (without_range s first n)) cells in
       let whole = ap (λ (s : Space). total slots_for s) cells in
-      omega (arith, gone, none, all, left, halves, out, whole)
+      omega (arith, gone, all, left, halves, out, whole)
+
+  listed-there : (o : Object) → is_object_there m.world zeros o ≡ true → (z : ℕ) → o ≡ object.Zero z → is_some (slice_index_or zeros z None) ≡ true
+  listed-there (object.File f) there z e = absurd (let k = e in cc)
+  listed-there object.NewZero there z e = absurd (let k = e in cc)
+  listed-there (object.Zero y) there z e = let same : y ≡ z = cc in ap (λ (k : ℕ). is_some (slice_index_or zeros k None)) (sym same) ∙ there
+
+  pub given-within : (first n : ℕ) (o : Object) → is_object_there m.world zeros o ≡ true → slots_of_range parts first n + given_up m.world.maps zeros parts first (first + n) o (length zeros) ≤ m.world.anon.reserved
+  given-within first n o there =
+      let all = given-all first n in
+      let gone = gone-given m born notes p parts zeros fits first n o (listed-there o there) in
+      omega (arith, all, gone)
 
   -- what is mapped of a range is no more than all
   pub mapped-within : (first n : ℕ) → mapped_pages parts first n ≤ page_total parts
@@ -221,29 +206,42 @@ module _ (m : Memory) (born : set.FinSet nat_cmp) (notes : Notes) (p : ℕ) (par
       let left = left-cells (contents_of m.world notes).place parts (page a) n in
       omega (arith, count, len, left)
 
-  backed-here : (q : MapRequest) → IsServedObject q.kind q.object → is_valid (map_request q) ≡ true → is_object_there m.world q.object ≡ true
-      → reserved (with_mapping (flat_memory m born notes) p (map_request q) (page q.addr)) ≡ m.world.anon.reserved - slots_of_range parts (page q.addr) (pages_in q.length) + slots_for_pages q.kind (pages_in q.length)
-  backed-here q served valid there =
+  backed-here : (q : MapRequest) → is_valid (map_request q) ≡ true → is_object_there m.world zeros q.object ≡ true → reserved (with_mapping (flat_memory m born notes) p (map_request q) (page q.addr)) ≡ reserved_after m.world zeros parts q
+  backed-here q valid there =
       let F : Flat = flat_memory m born notes in
-      let placed : IsPlaced F p (map_request q) (page q.addr) = record { valid = valid; there = there-seen m born notes q.kind q.object served ∙ there; begin = refl } in
-      let new = reserved-with F p (map_request q) (page q.addr) q.kind alive-here placed (space_rule.zeros m born notes fits.plain) refl served in
-      let gone = given-up (page q.addr) (pages_in q.length) in
-      omega (arith, new, gone)
+      let placed : IsPlaced F p (map_request q) (page q.addr) = record { valid = valid; there = there-seen m born notes zeros p parts fits q.object ∙ there; begin = refl } in
+      let new = reserved-with F p (map_request q) (page q.addr) q.kind alive-here placed refl in
+      let all = given-all (page q.addr) (pages_in q.length) in
+      let gone = gone-given m born notes p parts zeros fits (page q.addr) (pages_in q.length) q.object (listed-there q.object there) in
+      omega (arith, new, all, gone)
 
   -- THE RESULT of a Map: the refusal that is due, or the new mapping.
-  pub results : (q : MapRequest) → IsServedObject q.kind q.object
-      → map_result (flat_memory m born notes) p (map_request q) ≡ outcome (page q.addr, with_mapping (flat_memory m born notes) p (map_request q) (page q.addr)) (refusal_of m.world parts q)
-  results q served =
+  pub results : (q : MapRequest) → map_result (flat_memory m born notes) p (map_request q) ≡ map_outcome (flat_memory m born notes) p q (refusal_of m.world zeros parts q)
+  results q =
       let F : Flat = flat_memory m born notes in
       let new : ℕ × Flat = (page q.addr, with_mapping F p (map_request q) (page q.addr)) in
       let v : Bool = is_valid (map_request q) in
-      let t : Bool = is_object_there m.world q.object in
+      let t : Bool = is_object_there m.world zeros q.object in
       let u : Bool = is_within q.prot (max_of F q.kind q.object) in
-      let l : Bool = nat_le (page_total parts - mapped_pages parts (page q.addr) (pages_in q.length) + pages_in q.length) 65536 in
+      let l : Bool = nat_le (pages_after parts q) 65536 in
       let c : Bool = nat_le (reserved (with_mapping F p (map_request q) (page q.addr))) F.slots in
       map-tested F p q.addr (map_request q) refl
-      ∙ ap (λ (b : Bool). tested v b u (nat_le (finite.len (cells_of (without_replaced F p (At q.addr) (pages_in q.length)) p) + pages_in q.length) 65536) c new) (there-seen m born notes q.kind q.object served)
+      ∙ ap (λ (b : Bool). tested v b u (nat_le (finite.len (cells_of (without_replaced F p (At q.addr) (pages_in q.length)) p) + pages_in q.length) 65536) c new) (there-seen m born notes zeros p parts fits q.object)
       ∙ ap (λ (n : ℕ). tested v t u (nat_le (n + pages_in q.length) 65536) c new) (left-here q.addr (pages_in q.length))
       ∙ tested-is v t u l c new
-      ∙ ap (outcome new) (sym (same-due v t (is_within q.prot (most_allowed m.world q.kind q.object)) u l _ c (λ there. ap (is_within q.prot) (sym (most-seen m born notes q.kind q.object there)))
-      (λ valid there. ap (λ (n : ℕ). nat_le n F.slots) (sym (backed-here q served valid there)))))
+      ∙ ap (outcome new) (sym (same-due v t (is_within q.prot (most_allowed m.world q.kind q.object)) u l _ c (λ there. ap (is_within q.prot) (sym (most-seen m born notes zeros q.kind q.object there)))
+      (λ valid there. ap (λ (n : ℕ). nat_le n F.slots) (sym (backed-here q valid there)))))
+      ∙ outcome-is F p q (refusal_of m.world zeros parts q)
+
+-- THE REFUSAL is the one that is told from pieces and counts
+pub refusal-is : (m : Memory) (p : ℕ) (parts : List (Part Segment)) (zeros : List (Option ℕ)) → SpaceFits m.world zeros m.spaces p parts → (q : MapRequest) → IsMapRefusal m p q (refusal_of m.world zeros parts q)
+refusal-is m p parts zeros fits q born notes = results m born notes p parts zeros fits q
+
+-- and where none is due, each test is passed
+pub passed : (m : Memory) (p : ℕ) (parts : List (Part Segment)) (zeros : List (Option ℕ)) → SpaceFits m.world zeros m.spaces p parts → (q : MapRequest) → IsMapRefusal m p q None
+    → Passes (is_valid (map_request q)) (is_object_there m.world zeros q.object) (is_within q.prot (most_allowed m.world q.kind q.object)) (nat_le (pages_after parts q) 65536) (nat_le (reserved_after m.world zeros parts q) (length m.world.anon.counts))
+passed m p parts zeros fits q none = passes _ _ _ _ _ (by_due (refusal_of m.world zeros parts q) (sym (none set.empty no_notes) ∙ results m set.empty no_notes p parts zeros fits q))
+  where
+    by_due : (r : Option Errno) → map_outcome (flat_memory m set.empty no_notes) p q None ≡ map_outcome (flat_memory m set.empty no_notes) p q r → r ≡ None
+    by_due None e = refl
+    by_due (Some x) e = absurd (let k = e in cc)

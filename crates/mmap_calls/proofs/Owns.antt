@@ -17,9 +17,9 @@ by_kind : (maps : List (Option Map)) (s : Segment) (k : Kind) → OwnFits maps s
 by_kind maps s Shared own = ap (λ (o : Option ℕ). cond {A = ℕ} (is_some o) 1 0) own
 by_kind maps s Private own = ap (λ (o : Option ℕ). cond {A = ℕ} (is_some o) 1 0) own.1
 
-pub slots-here : (w : World) (spaces : Spaces) (p : ℕ) (parts : List (Part Segment)) (page : ℕ) (x : Part Segment) (o : Option ℕ) → SpaceFits w spaces p parts → part_at parts page ≡ Some x → x.piece.own ≡ o
+pub slots-here : (w : World) (zeros : List (Option ℕ)) (spaces : Spaces) (p : ℕ) (parts : List (Part Segment)) (page : ℕ) (x : Part Segment) (o : Option ℕ) → SpaceFits w zeros spaces p parts → part_at parts page ≡ Some x → x.piece.own ≡ o
     → cond {A = ℕ} (is_some o) 1 0 ≡ slots_at (piece_at parts page)
-slots-here w spaces p parts page x o fits found own =
+slots-here w zeros spaces p parts page x o fits found own =
     ap (λ (o : Option ℕ). cond {A = ℕ} (is_some o) 1 0) (sym own)
     ∙ by_kind w.maps x.piece x.piece.kind (all-found (SegmentFits (length w.files.files) w.maps) parts page x (fits.memory.segments.each p parts fits.here) found).own
     ∙ ap slots_at (sym (shows parts page (Some x) found))

@@ -1,14 +1,15 @@
 -- A mapping takes the place of what was mapped in its range.
-use Rattle.std.proofs.Common.{◌≡◌, ℕ, ◌+◌, ◌-◌, ◌*◌, ◌<◌, ◌≤◌, Bool, true, false, cond, List, ◌++◌, length, replicate, Option, Some, None, refl, sym, ap, ◌∙◌, subst, arith}
-use Rattle.std.specs.Prelude.{option_map, nat_le, Ok, Err, ◌&&◌, ◌||◌}
+use Rattle.std.proofs.Common.{◌≡◌, ◌≢◌, ℕ, ◌+◌, ◌-◌, ◌*◌, ◌<◌, ◌≤◌, Bool, true, false, cond, eqb, List, [], ◌∷◌, ◌++◌, length, replicate, Option, Some, None, refl, sym, ap, ◌∙◌, inl, inr, subst, arith}
+use Rattle.std.specs.Prelude.{Result, option_map, is_some, IsSome, nat_lt, ◌&&◌, ◌||◌, slice_index_or, slice_set}
 use Rattle.std.specs.FinMap as finite
 use Rattle.std.specs.FinSet as set
 use Rattle.std.specs.Ordering.{nat_cmp}
-use Rattle.std.proofs.lemmas.Bool.{ltb-true, leb-true}
-use Rattle.addr_space.specs.Space.{Part, part, piece_at, part_at, put, page_total, LiesFrom}
-use Rattle.anon_map.specs.Maps.{Map}
+use Rattle.std.specs.Cmp.{nat_cmp_total}
+use Rattle.std.proofs.lemmas.Bool.{ltb-true, leb-true, cases_eq}
+use Rattle.addr_space.specs.Space.{Part, part, piece_at, part_at, put, LiesFrom}
+use Rattle.anon_map.specs.Maps.{Map, IsMapThere, IsUnused, holders_of, places_of}
 use Rattle.page_store.specs.Notes.{Notes}
-use Rattle.vnode_files.specs.Files.{FilesSeen, vnode_at}
+use Rattle.vnode_files.specs.Files.{FilesSeen}
 use Rattle.vm_types.specs.declared.call.Errno.{Errno}
 use Rattle.vm_types.specs.declared.call.Kind.{Kind}
 use Rattle.vm_types.specs.declared.call.Kind.TheVariants.{Shared, Private}
@@ -19,57 +20,118 @@ use Rattle.vm_types.specs.declared.call.Reply.{Reply}
 use Rattle.vm_types.specs.declared.call.Call.{Call}
 use Rattle.vm_types.specs.declared.call.Reply.TheVariants.{Refused, Mapped}
 use Rattle.vm_types.specs.declared.call.Reply.TheVariants as reply
-use Rattle.vm_types.specs.Prot.{is_within}
 use Rattle.flat_model.specs.Access.{with_space}
 use Rattle.flat_model.specs.Flat.{Flat, without_unnamed}
-use Rattle.flat_model.specs.Mapping.{is_valid, cells_of, object_for, own_for, prot_read, prot_read_write, with_object, without_replaced, without_pages, with_mapping, map_result}
+use Rattle.flat_model.specs.Mapping.{is_valid, cells_of, new_number, object_for, own_for, prot_read_write, with_object, without_pages, with_mapping}
 use Rattle.flat_model.specs.Refusals.{or_refused}
-use Rattle.flat_model.specs.Space.{in_range, with_cells}
+use Rattle.flat_model.specs.Space.{in_range, without_range, with_cells}
 use Rattle.flat_model.specs.Step.{effect, bit, IsDue, after_act}
 use Rattle.flat_model.specs.Words.{page, pages_in}
 use Rattle.flat_model.proofs.Reserve.{some_pages}
-use Rattle.flat_model.proofs.Ranges.{in_range-is, get-insert_here}
-use Rattle.vm_world.specs.CountsFit.{ObjectFits, ShowsZero, slots_for_part}
+use Rattle.flat_model.proofs.Ranges.{in_range-is, get-insert, get-insert_here, get-insert_apart}
+use Rattle.vm_world.specs.CountsFit.{ObjectFits, slots_for_part}
 use Rattle.vm_world.specs.FlatMemory.{Memory, flat_memory, zero_maps}
-use Rattle.vm_world.specs.MapSteps.{maps_made}
+use Rattle.vm_world.specs.MapSteps.{maps_made, maps_held}
 use Rattle.vm_world.specs.MemoryFits.{MemoryFits}
-use Rattle.vm_world.specs.PlainSteps.{ChangesSpace}
 use Rattle.vm_world.specs.Segments.{Spot, Spaces}
-use Rattle.vm_world.specs.SegmentSteps.{IsOwnNew, MayCome, with_new_cells, segment_cell}
+use Rattle.vm_world.specs.SegmentSteps.{ChangesSegments, HasPlace, IsOwnNew, MayCome, MayMakeZero, with_new_cells, with_zero_object, with_part_come, with_zero_part, segment_cell}
 use Rattle.vm_world.specs.Serving.{TakesFrames, ServesDone}
 use Rattle.vm_world.specs.World.{World}
+use Rattle.vm_world.specs.ZeroObjects.{AreSameZeros, KnowsZeros, free_number}
 use Rattle.vm_world.specs.declared.segment.Segment.{Segment}
+use Rattle.vm_world.proofs.ComingParts.{zero-there}
+use Rattle.vm_world.proofs.HeldObjects.{holding_part, with_holder, no-process, holder-fits, holder-knows, held-comes, held-knows}
+use Rattle.vm_world.proofs.KeptMaps.{same-holders, same-places}
+use Rattle.vm_world.proofs.KnownZeros.{known-other, known-unnamed, known-below, known-come, known-made}
+use Rattle.vm_world.proofs.MapChanges.{held-places}
 use Rattle.vm_world.proofs.Maps.{insert-twice}
-use Rattle.vm_world.proofs.PlainSteps.{space_rule}
+use Rattle.vm_world.proofs.MoreNumbers.{past-none}
+use Rattle.vm_world.proofs.SegmentCells.{segment_cells}
+use Rattle.vm_world.proofs.SegmentSteps.{segment_rule}
+use Rattle.vm_world.proofs.Unnamed.{cells-after-pages, object-after-pages}
 use Rattle.seg_ops.proofs.Composed.{keeps-same}
-use Rattle.seg_vn.specs.Clears.{SpaceFits, slots_at, slots_of_range}
+use Rattle.seg_vn.specs.Clears.{SpaceFits, ChangesSpace, GivesBack}
 use Rattle.seg_vn.specs.Serves.{IsPlainReply}
+use Rattle.mmap_calls.specs.declared.maps.Anons.{Anons}
 use Rattle.mmap_calls.specs.declared.refusals.MapRequest.{MapRequest}
-use Rattle.mmap_calls.specs.Maps.{AnswersMap, HasMapping, IsMapRequest, IsServedObject, is_object_there, map_request, map_call, mapped_pages, most_allowed, refusal_of, slots_for_pages}
-use Rattle.mmap_calls.specs.Rooms.{IsOwnMade}
-use Rattle.mmap_calls.proofs.Counted.{slots-sum, sum-alike}
+use Rattle.mmap_calls.specs.Looks.{kind_and_object}
+use Rattle.mmap_calls.specs.Refusals.{AnswersMap, IsMapRequest, IsMapRefusal, is_object_there, map_request, map_call, most_allowed, slots_for_pages}
+use Rattle.mmap_calls.specs.Rooms.{AreMade, HasRoomAt, map_of_object}
 use Rattle.mmap_calls.proofs.CutPlaces.{same-space}
-use Rattle.mmap_calls.proofs.MapResults.{results, outcome, most-seen, same-unnamed, Passes, passes}
+use Rattle.mmap_calls.proofs.MapResults.{most-seen, passed}
+use Rattle.mmap_calls.proofs.RoomAfter.{HoldsFor, IsCleared, ranged, holds-none, holds-object, room-after}
+
+-- one change after another, said by a function that gives the same once the first is done
+pub changes-as : (p : ℕ) (u v w : Memory) (first second both : Flat → Flat) → ChangesSegments p u v first → ChangesSegments p v w second
+    → ((born : set.FinSet nat_cmp) (notes : Notes) → flat_memory v born notes ≡ first (flat_memory u born notes) → second (first (flat_memory u born notes)) ≡ both (flat_memory u born notes)) → ChangesSegments p u w both
+changes-as p u v w first second both one two same =
+    let c = segment_rule.joined p u v w first second one two in
+    record {
+      machine = c.machine;
+      others = c.others;
+      memory = c.memory;
+      notes = c.notes;
+      tells = c.tells;
+      flat = λ born notes nf tell whole. (let a = one.flat born notes nf tell whole in let x = c.flat born notes nf tell whole in (x.0 ∙ same born notes a.0, x.1));
+    }
 
 -- a process whose parts changed is alive with the new ones
-pub fits-after : (p : ℕ) (m : Memory) (w : World) (spaces : Spaces) (parts : List (Part Segment)) (f : Flat → Flat) → ChangesSpace p m (record { world = w; spaces = finite.insert spaces p parts }) f → SpaceFits w (finite.insert spaces p parts) p parts
-fits-after p m w spaces parts f c = record { here = get-insert_here spaces p parts; memory = c.changes.memory; plain = c.plain }
+pub fits-after : (p : ℕ) (m : Memory) (w : World) (spaces : Spaces) (parts : List (Part Segment)) (zeros : List (Option ℕ)) (f : Flat → Flat) → ChangesSpace p m (record { world = w; spaces = finite.insert spaces p parts }) zeros f → SpaceFits w zeros (finite.insert spaces p parts) p parts
+fits-after p m w spaces parts zeros f c = record { here = get-insert_here spaces p parts; memory = c.changes.memory; known = c.known }
 
--- one list of parts after another
-pub then-parts : (p : ℕ) (m : Memory) (mid new : World) (spaces : Spaces) (a b : List (Part Segment)) (f g : Flat → Flat)
-    → ChangesSpace p m (record { world = mid; spaces = finite.insert spaces p a }) f
-    → ChangesSpace p (record { world = mid; spaces = finite.insert spaces p a }) (record { world = new; spaces = finite.insert (finite.insert spaces p a) p b }) g
-    → ChangesSpace p m (record { world = new; spaces = finite.insert spaces p b }) (λ F. g (f F))
-then-parts p m mid new spaces a b f g first second =
-    subst (λ (s : Spaces). ChangesSpace p m (record { world = new; spaces = s }) (λ F. g (f F))) (insert-twice spaces p a b)
-    (space_rule.joined p m (record { world = mid; spaces = finite.insert spaces p a }) (record { world = new; spaces = finite.insert (finite.insert spaces p a) p b }) f g first second)
+-- TO THE CLEARED RANGE: numbers, and two cuts
+pub numbers-after : (m : Memory) (p : ℕ) (parts : List (Part Segment)) (zeros then : List (Option ℕ)) (w : World) (more : ℕ) → SpaceFits m.world zeros m.spaces p parts → w ≡ record m.world { maps = m.world.maps ++ replicate more None } → AreSameZeros zeros then
+    → ChangesSpace p m (record { world = w; spaces = m.spaces }) then (λ F. F)
+numbers-after m p parts zeros then w more fits is same = record {
+  changes = subst (λ (w : World). ChangesSegments p m (record { world = w; spaces = m.spaces }) (λ F. F)) (sym is) (segment_rule.numbers m p more fits.memory);
+  known = known-other zeros then m.spaces same fits.known;
+}
 
--- the new segment, and the world with its map and what is reserved for it
-abbrev pub new_segment : World → MapRequest → Option ℕ → Segment
-new_segment w q own = record { pages = pages_in q.length; prot = q.prot; max = most_allowed w q.kind q.object; kind = q.kind; object = q.object; index = page q.offset; own = own; shown = None }
+-- the parts that take their place fit then
+pub fits-then : (m : Memory) (p : ℕ) (parts new : List (Part Segment)) (zeros then : List (Option ℕ)) (w : World) → SpaceFits m.world zeros m.spaces p parts → ChangesSpace p m (record { world = w; spaces = m.spaces }) then (λ F. F) → new ≡ parts → SpaceFits w then m.spaces p new
+fits-then m p parts new zeros then w fits c is = record { here = fits.here ∙ ap (λ (ps : List (Part Segment)). Some ps) (sym is); memory = c.changes.memory; known = c.known }
 
-abbrev pub with_own : World → MapRequest → Option ℕ → World
-with_own w q own = record w { anon = record w.anon { reserved = w.anon.reserved + slots_for_pages q.kind (pages_in q.length) }; maps = maps_made w.maps own (pages_in q.length) }
+-- and so do those of a further step
+pub fits-step : (p : ℕ) (u v : World) (spaces : Spaces) (a b : List (Part Segment)) (zeros then : List (Option ℕ)) (f : Flat → Flat) → SpaceFits u zeros spaces p a
+    → ((s : Spaces) → SpaceFits u zeros s p a → ChangesSpace p (record { world = u; spaces = s }) (record { world = v; spaces = finite.insert s p b }) then f) → SpaceFits v then (finite.insert spaces p b) p b
+fits-step p u v spaces a b zeros then f fits step = fits-after p (record { world = u; spaces = spaces }) v spaces b then f (step spaces fits)
+
+-- one step after another
+joined : (p : ℕ) (m : Memory) (u v : World) (spaces : Spaces) (a b : List (Part Segment)) (zeros then : List (Option ℕ)) (f : Flat → Flat) → ChangesSpace p m (record { world = u; spaces = finite.insert spaces p a }) zeros (λ F. F)
+    → ChangesSpace p (record { world = u; spaces = finite.insert spaces p a }) (record { world = v; spaces = finite.insert (finite.insert spaces p a) p b }) then f
+    → ChangesSpace p m (record { world = v; spaces = finite.insert spaces p b }) then f
+joined p m u v spaces a b zeros then f first second =
+    subst (λ (s : Spaces). ChangesSpace p m (record { world = v; spaces = s }) then f) (insert-twice spaces p a b)
+    (record { changes = segment_rule.joined p m (record { world = u; spaces = finite.insert spaces p a }) (record { world = v; spaces = finite.insert (finite.insert spaces p a) p b }) (λ F. F) f first.changes second.changes; known = second.known })
+
+pub cuts-done : (m : Memory) (p : ℕ) (u v w : World) (parts taken a b : List (Part Segment)) (zeros then zv zw : List (Option ℕ)) (more : ℕ) → SpaceFits m.world zeros m.spaces p parts
+    → u ≡ record m.world { maps = m.world.maps ++ replicate more None } → AreSameZeros zeros then → taken ≡ parts
+    → ((s : Spaces) → SpaceFits u then s p taken → ChangesSpace p (record { world = u; spaces = s }) (record { world = v; spaces = finite.insert s p a }) zv (λ F. F))
+    → ((s : Spaces) → SpaceFits v zv s p a → ChangesSpace p (record { world = v; spaces = s }) (record { world = w; spaces = finite.insert s p b }) zw (λ F. F))
+    → ChangesSpace p m (record { world = w; spaces = finite.insert m.spaces p b }) zw (λ F. F)
+cuts-done m p u v w parts taken a b zeros then zv zw more fits is alike same first second =
+    let t : Spaces = finite.insert m.spaces p a in
+    let numbers = numbers-after m p parts zeros then u more fits is alike in
+    let begun = fits-then m p parts taken zeros then u fits numbers same in
+    let once = fits-step p u v m.spaces taken a then zv (λ F. F) begun first in
+    let one = segment_rule.joined p m (record { world = u; spaces = m.spaces }) (record { world = v; spaces = t }) (λ F. F) (λ F. F) numbers.changes (first m.spaces begun).changes in
+    joined p m v w m.spaces a b zv zw (λ F. F) (record { changes = one; known = once.known }) (second t once)
+
+-- numbers that name no map hold none
+pub more-holders : (k : ℕ) (maps new : List (Option Map)) (n : ℕ) → new ≡ maps ++ replicate k None → holders_of new n ≡ holders_of maps n
+more-holders k maps new n is = ap (λ (ms : List (Option Map)). holders_of ms n) is ∙ same-holders maps (maps ++ replicate k None) n (past-none maps k n)
+
+pub more-places : (k : ℕ) (maps new : List (Option Map)) (n : ℕ) → new ≡ maps ++ replicate k None → length (places_of new n) ≡ length (places_of maps n)
+more-places k maps new n is = ap (λ (ms : List (Option Map)). length (places_of ms n)) is ∙ ap (λ (ps : List (Option ℕ)). length ps) (same-places maps (maps ++ replicate k None) n (past-none maps k n))
+
+-- room that was taken before is room with more numbers
+pub room-later : (items : List (Option ℕ)) (room more k : ℕ) (maps new : List (Option Map)) (parts now : List (Part Segment)) (at : ℕ) → new ≡ maps ++ replicate k None → now ≡ parts → HasRoomAt items room more maps parts at → HasRoomAt items room more new now at
+room-later items room more k maps new parts now at is same has =
+    subst (λ (ps : List (Part Segment)). HasRoomAt items room more new ps at) (sym same) (record {
+      empty = has.empty;
+      roomy = has.roomy;
+      few = λ x n there shown. (let few = has.few x n there shown in let e = more-holders k maps new n is in omega (arith, few, e));
+    })
 
 -- the range is free once it is cleared
 none-part : (ps : List (Part Segment)) (q : ℕ) → piece_at ps q ≡ None → part_at ps q ≡ None
@@ -82,43 +144,6 @@ none-part ps q is = by_part (part_at ps q) refl is
 pub range-free : (cut left : List (Part Segment)) (first n : ℕ) → ((k : ℕ) → piece_at left k ≡ cond (in_range first n k) None (piece_at cut k)) → (k : ℕ) → first ≤ k → k < first + n → part_at left k ≡ None
 range-free cut left first n clear k low high =
     none-part left k (clear k ∙ ap (λ (b : Bool). cond b None (piece_at cut k)) (in_range-is first n k low high))
-
--- THE FLAT MEMORY with the new cells is that of the mapping
-module _ (m : Memory) (p : ℕ) (q : MapRequest) (own : Option ℕ) (served : IsServedObject q.kind q.object) (there : is_object_there m.world q.object ≡ true) where
-  no-object : (G : Flat) (k : Kind) (o : Object) (n : ℕ) → IsServedObject k o → G ≡ with_object G k o n
-  no-object G Shared (object.File f) n served = refl
-  no-object G Private (object.File f) n served = refl
-  no-object G Private object.NewZero n served = refl
-  no-object G Shared object.NewZero n served = absurd served
-  no-object G Shared (object.Zero z) n served = absurd served
-  no-object G Private (object.Zero z) n served = absurd served
-
-  same-object : (G : Flat) (k : Kind) (o : Object) → IsServedObject k o → o ≡ object_for G k o
-  same-object G Shared (object.File f) served = refl
-  same-object G Private (object.File f) served = refl
-  same-object G Private object.NewZero served = refl
-  same-object G Shared object.NewZero served = absurd served
-  same-object G Shared (object.Zero z) served = absurd served
-  same-object G Private (object.Zero z) served = absurd served
-
-  pub mapped-flat : (born : set.FinSet nat_cmp) (notes : Notes) → (flat_memory m born notes).zeros ≡ finite.empty
-      → with_new_cells (without_pages (flat_memory m born notes) p (page q.addr) (pages_in q.length)) p (page q.addr) (pages_in q.length) (segment_cell (new_segment m.world q own)) ≡ with_mapping (flat_memory m born notes) p (map_request q) (page q.addr)
-  mapped-flat born notes none =
-      let F : Flat = flat_memory m born notes in
-      let first : ℕ = page q.addr in
-      let n : ℕ = pages_in q.length in
-      let G : Flat = without_replaced F p (At q.addr) n in
-      let whole = no-object G q.kind q.object n served in
-      let same = same-object G q.kind q.object served in
-      let most = sym (most-seen m born notes q.kind q.object there) in
-      ap (λ (H : Flat). with_new_cells H p first n (segment_cell (new_segment m.world q own))) (same-unnamed G none)
-      ∙ (λ i. without_unnamed (with_space (whole i) p (with_cells (cells_of G p) first n (λ j. record { prot = q.prot; max = most i; kind = q.kind; object = same i; index = page q.offset + j; own = own_for q.kind q.object }))))
-
--- what a Map that isn't refused asks for passes each test
-pub passed : (w : World) (parts : List (Part Segment)) (q : MapRequest) → refusal_of w parts q ≡ None
-    → Passes (is_valid (map_request q)) (is_object_there w q.object) (is_within q.prot (most_allowed w q.kind q.object)) (nat_le (page_total parts - mapped_pages parts (page q.addr) (pages_in q.length) + pages_in q.length) 65536)
-    (nat_le (w.anon.reserved - slots_of_range parts (page q.addr) (pages_in q.length) + slots_for_pages q.kind (pages_in q.length)) (length w.anon.counts))
-passed w parts q due = passes _ _ _ _ _ due
 
 -- its range lies in the user addresses
 both : (a b : Bool) → (a && b) ≡ true → (a ≡ true) × (b ≡ true)
@@ -134,95 +159,380 @@ placed q s valid =
     let some = some_pages (map_request q) valid in
     record { behind = low; some = some; within = high }
 
--- its segment may come
-object-fits : (w : World) (files : ℕ) (maps : List (Option Map)) (s : Segment) (k : Kind) (o : Object) → files ≡ length w.files.files → IsServedObject k o → is_object_there w o ≡ true → s.kind ≡ k → s.shown ≡ None → ObjectFits files maps s o
-object-fits w files maps s k (object.File f) same served there kind none = (subst (λ (n : ℕ). f < n) (sym same) (ltb-true f (length w.files.files) there), none)
-object-fits w files maps s Private object.NewZero same served there kind none = (kind, none)
-object-fits w files maps s Shared object.NewZero same served there kind none = absurd served
-object-fits w files maps s Private (object.Zero z) same served there kind none = absurd served
-object-fits w files maps s Shared (object.Zero z) same served there kind none = absurd served
+-- the zero object that has a map
+pub named-object : (zeros : List (Option ℕ)) (o : Object) (n : ℕ) → map_of_object zeros o ≡ Some n → (z : ℕ) × (o ≡ object.Zero z) × (slice_index_or zeros z None ≡ Some n)
+named-object zeros (object.Zero z) n is = (z, refl, is)
+named-object zeros (object.File f) n is = absurd (let k : None ≡ Some n = is in cc)
+named-object zeros object.NewZero n is = absurd (let k : None ≡ Some n = is in cc)
 
-shows-none : (zeros : finite.FinMap nat_cmp ℕ) (s : Segment) → s.shown ≡ None → ShowsZero zeros s
-shows-none zeros s none z number is = absurd (by_object s.object (ap (λ (o : Option ℕ). elim s.object as (λ _. Option (ℕ × ℕ)) [ object.Zero z ↦ option_map (λ (number : ℕ). (z, number)) o | object.File f ↦ None | object.NewZero ↦ None ]) (sym none) ∙ is))
-  where
-    by_object : (o : Object) → (elim o as (λ _. Option (ℕ × ℕ)) [ object.Zero z ↦ None | object.File f ↦ None | object.NewZero ↦ None ]) ≡ Some (z, number) → ⊥
-    by_object (object.Zero y) is = let e = is in cc
-    by_object (object.File f) is = let e = is in cc
-    by_object object.NewZero is = let e = is in cc
+-- ALL MAPPINGS but one of shared new zero memory make no object
+abbrev pub IsOld : Kind → Object → Type 0
+IsOld Shared object.NewZero = ⊥
+IsOld k o = Unit {0}
 
-own-new : (maps : List (Option Map)) (s : Segment) (k : Kind) → IsOwnMade maps s.own k → IsOwnNew maps s k
-own-new maps s Shared own = own
-own-new maps s Private own = own
+no-object : (G : Flat) (k : Kind) (o : Object) (n : ℕ) → IsOld k o → G ≡ with_object G k o n
+no-object G Shared (object.File f) n old = refl
+no-object G Shared (object.Zero z) n old = refl
+no-object G Shared object.NewZero n old = absurd old
+no-object G Private o n old = refl
 
-slots-of-kind : (k : Kind) (n : ℕ) → (elim k as (λ _. ℕ) [ Private ↦ n | Shared ↦ 0 ]) ≡ slots_for_pages k n
-slots-of-kind Private n = refl
-slots-of-kind Shared n = refl
+same-object : (G : Flat) (k : Kind) (o : Object) → IsOld k o → o ≡ object_for G k o
+same-object G Shared (object.File f) old = refl
+same-object G Shared (object.Zero z) old = refl
+same-object G Shared object.NewZero old = absurd old
+same-object G Private o old = refl
 
--- THE MAPPING TAKES ITS PLACE once the range is free.
-module _ (m : Memory) (p : ℕ) (parts left : List (Part Segment)) (w : World) (q : MapRequest) (own : Option ℕ) (fits : SpaceFits m.world m.spaces p parts) (asks : IsMapRequest q) (due : refusal_of m.world parts q ≡ None) where
-  abbrev x : Part Segment
-  x = part (page q.addr) (pages_in q.length) (new_segment m.world q own)
+slots-old : (k : Kind) (o : Object) (n : ℕ) → IsOld k o → (elim k as (λ _. ℕ) [ Private ↦ n | Shared ↦ 0 ]) ≡ slots_for_pages k o n
+slots-old Shared (object.File f) n old = refl
+slots-old Shared (object.Zero z) n old = refl
+slots-old Shared object.NewZero n old = absurd old
+slots-old Private o n old = refl
 
-  may-come : w.files ≡ m.world.files → IsOwnMade w.maps own q.kind → w.anon.reserved + slots_for_pages q.kind (pages_in q.length) ≤ length w.anon.counts
-      → ((k : ℕ) → page q.addr ≤ k → k < page q.addr + pages_in q.length → part_at left k ≡ None) → MayCome (record { world = w; spaces = finite.insert m.spaces p left }) left x
-  may-come files made room free =
-      let pass = passed m.world parts q due in
+-- the new segment
+abbrev pub new_piece : World → MapRequest → Anons → Segment
+new_piece w q a = record { pages = pages_in q.length; prot = q.prot; max = most_allowed w q.kind q.object; kind = q.kind; object = a.object; index = page q.offset; own = a.own; shown = a.shown }
+
+abbrev pub new_part : World → MapRequest → Anons → Part Segment
+new_part w q a = part (page q.addr) (pages_in q.length) (new_piece w q a)
+
+-- THE FLAT MEMORY with the new cells is that of the mapping
+module _ (m : Memory) (p : ℕ) (q : MapRequest) (zeros : List (Option ℕ)) (there : is_object_there m.world zeros q.object ≡ true) (born : set.FinSet nat_cmp) (notes : Notes) where
+  abbrev F : Flat
+  F = flat_memory m born notes
+
+  abbrev U : Flat
+  U = with_space F p (without_range (cells_of F p) (page q.addr) (pages_in q.length))
+
+  pub mapped-old : (own shown : Option ℕ) → IsOld q.kind q.object
+      → with_new_cells U p (page q.addr) (pages_in q.length) (segment_cell (new_piece m.world q (record { object = q.object; own = own; shown = shown }))) ≡ with_mapping F p (map_request q) (page q.addr)
+  mapped-old own shown old =
+      let first : ℕ = page q.addr in
+      let n : ℕ = pages_in q.length in
+      let whole = no-object U q.kind q.object n old in
+      let same = same-object U q.kind q.object old in
+      let most = sym (most-seen m born notes zeros q.kind q.object there) in
+      λ i. without_unnamed (with_space (whole i) p (with_cells (cells_of U p) first n (λ j. record { prot = q.prot; max = most i; kind = q.kind; object = same i; index = page q.offset + j; own = own_for q.kind q.object })))
+
+  pub mapped-new : (z : ℕ) (own shown : Option ℕ) → q.kind ≡ Shared → q.object ≡ object.NewZero → z ≡ new_number U
+      → with_new_cells (with_zero_object U z (pages_in q.length)) p (page q.addr) (pages_in q.length) (segment_cell (new_piece m.world q (record { object = object.Zero z; own = own; shown = shown }))) ≡ with_mapping F p (map_request q) (page q.addr)
+  mapped-new z own shown kind new number =
+      let first : ℕ = page q.addr in
+      let n : ℕ = pages_in q.length in
+      (λ i. with_new_cells (with_zero_object U z n) p first n (λ j. record { prot = q.prot; max = most_allowed m.world (kind i) (new i); kind = kind i; object = object.Zero z; index = page q.offset + j; own = own_for (kind i) (object.Zero z) }))
+      ∙ (λ i. with_new_cells (with_zero_object U (number i) n) p first n (λ j. record { prot = q.prot; max = prot_read_write; kind = Shared; object = object.Zero (number i); index = page q.offset + j; own = None }))
+      ∙ sym (λ i. with_mapping F p (record { place = At q.addr; len = q.length; prot = q.prot; kind = kind i; object = new i; offset = q.offset }) first)
+
+-- two processes, one after the other or the other way round
+insert-turned : {X : Type 0} (s : finite.FinMap nat_cmp X) (p g : ℕ) (u v : X) → p ≢ g → finite.insert (finite.insert s p u) g v ≡ finite.insert (finite.insert s g v) p u
+insert-turned s p g u v apart = finite.same_map nat_cmp_total finite.nat_cmp-IsAntisymmetric _ _ (λ q. elim (cases_eq q g) [
+  | inl at ↦
+      ap (finite.get (finite.insert (finite.insert s p u) g v)) at ∙ get-insert_here (finite.insert s p u) g v
+      ∙ sym (ap (finite.get (finite.insert (finite.insert s g v) p u)) at ∙ get-insert_apart (finite.insert s g v) p u g (λ e. apart (sym e)) ∙ get-insert_here s g v)
+  | inr far ↦
+      get-insert_apart (finite.insert s p u) g v q far ∙ get-insert s p u q
+      ∙ sym (get-insert (finite.insert s g v) p u q ∙ ap (cond (eqb q p) (Some u)) (get-insert_apart s g v q far))
+])
+
+-- the range of a Map that isn't refused
+pub within-user : (m : Memory) (p : ℕ) (parts : List (Part Segment)) (zeros : List (Option ℕ)) (q : MapRequest) → SpaceFits m.world zeros m.spaces p parts → IsMapRefusal m p q None → LiesFrom 1 (new_part m.world q (record { object = q.object; own = None; shown = None }))
+within-user m p parts zeros q fits due = placed q (new_piece m.world q (record { object = q.object; own = None; shown = None })) (passed m p parts zeros fits q due).valid
+
+-- Once the pieces are cut, with a holder of the zero object that is named, if one is.
+module _ (m : Memory) (p : ℕ) (cut : List (Part Segment)) (zeros then : List (Option ℕ)) (w : World) (o : Object) (held : Option ℕ) (named : held ≡ map_of_object zeros o) (alike : AreSameZeros zeros then)
+    (cuts : ChangesSpace p m (record { world = w; spaces = finite.insert m.spaces p cut }) then (λ F. F)) where
+  abbrev ready : Memory
+  ready = record { world = w; spaces = finite.insert m.spaces p cut }
+
+  ready-fits : SpaceFits w then ready.spaces p cut
+  ready-fits = fits-after p m w m.spaces cut then (λ F. F) cuts
+
+  module _ (z k : ℕ) (some : held ≡ Some k) (is : slice_index_or zeros z None ≡ Some k) (g : ℕ) (absent : finite.get ready.spaces g ≡ None) where
+    ready-zero : finite.get (zero_maps ready.spaces) z ≡ Some k
+    ready-zero = cuts.known z ∙ alike z ∙ is
+
+    ready-apart : p ≢ g
+    ready-apart same = let e : Some cut ≡ None = sym ready-fits.here ∙ ap (finite.get ready.spaces) same ∙ absent in cc
+
+    ready-held : SpaceFits (record w { maps = maps_held w.maps held }) then (finite.insert ready.spaces g (holding_part z k ∷ [])) p cut
+    ready-held = record {
+      here = get-insert_apart ready.spaces g (holding_part z k ∷ []) p ready-apart ∙ ready-fits.here;
+      memory = subst (λ (h : Option ℕ). MemoryFits (record { world = record w { maps = maps_held w.maps h }; spaces = finite.insert ready.spaces g (holding_part z k ∷ []) })) (sym some) (holder-fits ready g z k cuts.changes.memory absent ready-zero);
+      known = holder-knows ready g z k cuts.changes.memory absent ready-zero then cuts.known;
+    }
+
+  -- there are spaces in which the range may be cleared
+  pub may-clear : (s : Spaces) × SpaceFits (record w { maps = maps_held w.maps held }) then s p cut
+  may-clear = by_held held refl
+    where
+      by_held : (h : Option ℕ) → held ≡ h → (s : Spaces) × SpaceFits (record w { maps = maps_held w.maps held }) then s p cut
+      by_held None e = (ready.spaces, subst (λ (h : Option ℕ). SpaceFits (record w { maps = maps_held w.maps h }) then ready.spaces p cut) (sym e) ready-fits)
+      by_held (Some k) e =
+          let n = named-object zeros o k (sym named ∙ e) in
+          let g = no-process ready.spaces in
+          (finite.insert ready.spaces g.0 (holding_part n.0 k ∷ []), ready-held n.0 k e n.2 g.0 g.1)
+
+-- THE MAPPING TAKES ITS PLACE once its range is cut free and cleared, with a holder of its zero object, if it names one.
+module _ (m : Memory) (p : ℕ) (parts cut left : List (Part Segment)) (zeros then after : List (Option ℕ)) (w x : World) (q : MapRequest) (held : Option ℕ)
+    (fits : SpaceFits m.world zeros m.spaces p parts) (asks : IsMapRequest q) (due : IsMapRefusal m p q None) (named : held ≡ map_of_object zeros q.object) (alike : AreSameZeros zeros then)
+    (cuts : ChangesSpace p m (record { world = w; spaces = finite.insert m.spaces p cut }) then (λ F. F))
+    (looks : (k : ℕ) → option_map kind_and_object (piece_at cut k) ≡ option_map kind_and_object (piece_at parts k))
+    (lengths : (z n : ℕ) → slice_index_or zeros z None ≡ Some n → length (places_of w.maps n) ≡ length (places_of m.world.maps n))
+    (clears : (s : Spaces) → SpaceFits (record w { maps = maps_held w.maps held }) then s p cut
+    → ChangesSpace p (record { world = record w { maps = maps_held w.maps held }; spaces = s }) (record { world = x; spaces = finite.insert s p left }) after (λ F. without_pages F p (page q.addr) (pages_in q.length)))
+    (gives : GivesBack (record w { maps = maps_held w.maps held }) x)
+    (pages : (k : ℕ) → piece_at left k ≡ cond (in_range (page q.addr) (pages_in q.length) k) None (piece_at cut k)) where
+  abbrev first : ℕ
+  first = page q.addr
+
+  abbrev n : ℕ
+  n = pages_in q.length
+
+  abbrev mid : Memory
+  mid = record { world = w; spaces = finite.insert m.spaces p cut }
+
+  mid-fits : SpaceFits w then mid.spaces p cut
+  mid-fits = ready-fits m p cut zeros then w q.object held named alike cuts
+
+  listed-there : (z k : ℕ) → slice_index_or zeros z None ≡ Some k → IsMapThere w.maps k
+  listed-there z k is = zero-there mid cuts.changes.memory z k (cuts.known z ∙ alike z ∙ is)
+
+  cleared-if : (s S : Spaces) → MemoryFits (record { world = x; spaces = s }) → s ≡ finite.insert S p left → IsCleared m (record { world = x; spaces = s }) zeros S p parts left first n
+  cleared-if s S fit is = record {
+    fits = fit;
+    spaces = is;
+    looks = λ k. ap (option_map kind_and_object) (pages k) ∙ ranged kind_and_object (in_range first n k) (piece_at cut k) ∙ ap (cond (in_range first n k) None) (looks k);
+    lengths = λ z k is there. gives.lengths k there ∙ ap (λ (ps : List (Option ℕ)). length ps) (held-places w.maps held k (listed-there z k is)).1 ∙ lengths z k is;
+  }
+
+  free-range : (k : ℕ) → first ≤ k → k < first + n → part_at left k ≡ None
+  free-range = range-free cut left first n pages
+
+  -- where nothing is held
+  module _ (none : held ≡ None) where
+    pub plain-cleared : ChangesSpace p m (record { world = x; spaces = finite.insert m.spaces p left }) after (λ F. without_pages F p first n)
+    plain-cleared = joined p m w x m.spaces cut left then after (λ F. without_pages F p first n) cuts
+        (subst (λ (h : Option ℕ). (s : Spaces) → SpaceFits (record w { maps = maps_held w.maps h }) then s p cut → ChangesSpace p (record { world = record w { maps = maps_held w.maps h }; spaces = s }) (record { world = x; spaces = finite.insert s p left }) after (λ F. without_pages F p first n)) none clears
+        mid.spaces mid-fits)
+
+    plain-room : x.anon.reserved + slots_for_pages q.kind q.object n ≤ length x.anon.counts
+    plain-room =
+        let c = plain-cleared.changes in
+        let room = room-after m (record { world = x; spaces = finite.insert m.spaces p left }) zeros m.spaces p parts left q fits due (holds-none m zeros q.object p parts fits.here) (cleared-if (finite.insert m.spaces p left) m.spaces c.memory refl) in
+        let slots = c.machine.slots in
+        omega (arith, room, slots)
+
+  -- where a zero object is, as if a process that isn't there showed it
+  module _ (z k : ℕ) (some : held ≡ Some k) (is : slice_index_or zeros z None ≡ Some k) (g : ℕ) (absent : finite.get mid.spaces g ≡ None) where
+    mid-zero : finite.get (zero_maps mid.spaces) z ≡ Some k
+    mid-zero = ready-zero m p cut zeros then w q.object held named alike cuts z k some is g absent
+
+    apart : p ≢ g
+    apart = ready-apart m p cut zeros then w q.object held named alike cuts z k some is g absent
+
+    abbrev held_spaces : Spaces
+    held_spaces = finite.insert mid.spaces g (holding_part z k ∷ [])
+
+    held-fits : SpaceFits (record w { maps = maps_held w.maps held }) then held_spaces p cut
+    held-fits = ready-held m p cut zeros then w q.object held named alike cuts z k some is g absent
+
+    held-cleared : ChangesSpace p (with_holder mid g z k) (record { world = x; spaces = finite.insert held_spaces p left }) after (λ F. without_pages F p first n)
+    held-cleared = subst (λ (h : Option ℕ). ChangesSpace p (record { world = record w { maps = maps_held w.maps h }; spaces = held_spaces }) (record { world = x; spaces = finite.insert held_spaces p left }) after (λ F. without_pages F p first n)) some (clears held_spaces held-fits)
+
+    held-room : q.object ≡ object.Zero z → x.anon.reserved + slots_for_pages q.kind q.object n ≤ length x.anon.counts
+    held-room names =
+        let c = held-cleared.changes in
+        let S : Spaces = finite.insert m.spaces g (holding_part z k ∷ []) in
+        let absent-before : finite.get m.spaces g ≡ None = sym (get-insert_apart m.spaces p cut g (λ e. apart (sym e))) ∙ absent in
+        let spaces : finite.insert held_spaces p left ≡ finite.insert S p left = ap (λ (s : Spaces). finite.insert s p left) (insert-turned m.spaces p g cut (holding_part z k ∷ []) apart) ∙ insert-twice S p cut left in
+        let holds = subst (λ (o : Object). HoldsFor m zeros o p parts S) (sym names) (holds-object m zeros p g z k parts fits.here absent-before is) in
+        let room = room-after m (record { world = x; spaces = finite.insert held_spaces p left }) zeros S p parts left q fits due holds (cleared-if (finite.insert held_spaces p left) S c.memory spaces) in
+        let one = c.machine.slots in
+        let slots = cuts.changes.machine.slots in
+        omega (arith, room, one, slots)
+
+  -- there are slots for the mapping
+  pub roomy : x.anon.reserved + slots_for_pages q.kind q.object n ≤ length x.anon.counts
+  roomy = by_held held refl
+    where
+      by_held : (h : Option ℕ) → held ≡ h → x.anon.reserved + slots_for_pages q.kind q.object n ≤ length x.anon.counts
+      by_held None e = plain-room e
+      by_held (Some k) e =
+          let o = named-object zeros q.object k (sym named ∙ e) in
+          let g = no-process mid.spaces in
+          held-room o.0 k e o.2 g.0 g.1 o.1
+
+  -- the place of the new part
+  has-place : (a : Anons) → HasPlace left (new_part m.world q a)
+  has-place a =
+      let pass = passed m p parts zeros fits q due in
       let small = asks.offset in
       let few = asks.length in
-      let slots = slots-of-kind q.kind (pages_in q.length) in
+      record { placed = placed q (new_piece m.world q a) pass.valid; pages = refl; end = omega (arith, small, few); within = pass.within; free = free-range }
+
+  there : is_object_there m.world zeros q.object ≡ true
+  there = (passed m p parts zeros fits q due).there
+
+  -- what is to be shown, for these anon maps
+  abbrev pub Goal : Anons → List (Option Map) → List (Option ℕ) → Type 0
+  Goal a maps now = ChangesSpace p m (record { world = record x { anon = record x.anon { reserved = x.anon.reserved + slots_for_pages q.kind q.object n }; maps = maps }; spaces = finite.insert m.spaces p (put (new_part m.world q a) left) }) now (λ F. with_mapping F p (map_request q) first)
+
+  -- A FILE, or private new zero memory
+  plain : (own : Option ℕ) → held ≡ None → IsOld q.kind q.object → ((z : ℕ) → q.object ≡ object.Zero z → ⊥) → IsOwnNew x.maps (new_piece m.world q (record { object = q.object; own = own; shown = None })) q.kind
+      → ObjectFits (length x.files.files) x.maps (new_piece m.world q (record { object = q.object; own = own; shown = None })) q.object → Goal (record { object = q.object; own = own; shown = None }) (maps_made x.maps own n) after
+  plain own none old unnamed made fit =
+      let a : Anons = record { object = q.object; own = own; shown = None } in
+      let s : Segment = new_piece m.world q a in
+      let y : Part Segment = new_part m.world q a in
+      let l : Memory = record { world = x; spaces = finite.insert m.spaces p left } in
+      let c = plain-cleared none in
+      let slots = slots-old q.kind q.object n old in
+      let here = get-insert_here m.spaces p left in
+      let room = plain-room none in
+      let may : MayCome l left y = record { place = has-place a; object = fit; zero = λ z k is. absurd (unnamed z (zero-named q.object z k is)); own = made; room = omega (arith, slots, room) } in
+      let all = changes-as p m l (with_part_come l p left y) (λ F. without_pages F p first n) (λ F. with_new_cells F p first n (segment_cell s)) (λ F. with_mapping F p (map_request q) first) c.changes (segment_rule.put l p left y c.changes.memory here may)
+      (λ born notes e. cells-after-pages (flat_memory m born notes) p first n (segment_cell s) (λ i z names. absurd (unnamed z (zero-of q.object z names))) ∙ mapped-old m p q zeros there born notes own None old) in
       record {
-        place = record { placed = placed q (new_segment m.world q own) pass.valid; pages = refl; end = omega (arith, small, few); within = pass.within; free = free };
-        object = object-fits m.world (length w.files.files) w.maps x.piece q.kind q.object (ap (λ (f : FilesSeen). length f.files) files) asks.served pass.there refl refl;
-        zero = shows-none (zero_maps (finite.insert m.spaces p left)) x.piece refl;
-        own = own-new w.maps x.piece q.kind made;
-        room = omega (arith, slots, room);
+        changes = subst (λ (t : Spaces). ChangesSegments p m (record { world = record x { anon = record x.anon { reserved = x.anon.reserved + slots_for_pages q.kind q.object n }; maps = maps_made x.maps own n }; spaces = t }) (λ F. with_mapping F p (map_request q) first)) (insert-twice m.spaces p left (put y left))
+            (subst (λ (k : ℕ). ChangesSegments p m (record { world = record x { anon = record x.anon { reserved = x.anon.reserved + k }; maps = maps_made x.maps own n }; spaces = finite.insert (finite.insert m.spaces p left) p (put y left) }) (λ F. with_mapping F p (map_request q) first)) slots all);
+        known = subst (λ (t : Spaces). KnowsZeros after t) (insert-twice m.spaces p left (put y left)) (known-come l p left y after c.changes.memory here may c.known);
+      }
+    where
+      zero-named : (o : Object) (z k : ℕ) → (elim o as (λ _. Option (ℕ × ℕ)) [ object.Zero z ↦ None | object.File f ↦ None | object.NewZero ↦ None ]) ≡ Some (z, k) → o ≡ object.Zero z
+      zero-named (object.Zero y) z k is = absurd (let e : None ≡ Some (z, k) = is in cc)
+      zero-named (object.File f) z k is = absurd (let e : None ≡ Some (z, k) = is in cc)
+      zero-named object.NewZero z k is = absurd (let e : None ≡ Some (z, k) = is in cc)
+
+      zero-of : (o : Object) (z : ℕ) → (elim o as (λ _. Option ℕ) [ object.Zero z ↦ Some z | object.File f ↦ None | object.NewZero ↦ None ]) ≡ Some z → o ≡ object.Zero z
+      zero-of (object.Zero y) z is = let e : Some y ≡ Some z = is in let d : y ≡ z = cc in ap (λ (k : ℕ). object.Zero k) d
+      zero-of (object.File f) z is = absurd (let e : None ≡ Some z = is in cc)
+      zero-of object.NewZero z is = absurd (let e : None ≡ Some z = is in cc)
+
+  -- SHARED NEW ZERO MEMORY
+  new-zero : (z number : ℕ) → held ≡ None → q.kind ≡ Shared → q.object ≡ object.NewZero → free_number after ≡ Some z → IsUnused x.maps number
+      → Goal (record { object = object.Zero z; own = None; shown = Some number }) (maps_made x.maps (Some number) n) (slice_set after z (Some number))
+  new-zero z number none kind new free unused =
+      let a : Anons = record { object = object.Zero z; own = None; shown = Some number } in
+      let s : Segment = new_piece m.world q a in
+      let y : Part Segment = new_part m.world q a in
+      let l : Memory = record { world = x; spaces = finite.insert m.spaces p left } in
+      let c = plain-cleared none in
+      let slots : n ≡ slots_for_pages q.kind q.object n = sym (λ i. slots_for_pages (kind i) (new i) n) in
+      let here = get-insert_here m.spaces p left in
+      let room = plain-room none in
+      let unnamed = known-unnamed after l.spaces z c.known free in
+      let may : MayMakeZero l left y z number = record { place = has-place a; shared = kind; object = refl; own = refl; shown = refl; unnamed = unnamed; unused = unused; room = omega (arith, slots, room) } in
+      let all = changes-as p m l (with_zero_part l p left y) (λ F. without_pages F p first n) (λ F. with_new_cells (with_zero_object F z n) p first n (segment_cell s)) (λ F. with_mapping F p (map_request q) first) c.changes
+      (segment_rule.put_zero l p left y z number c.changes.memory here may)
+      (λ born notes e.
+      object-after-pages (flat_memory m born notes) p first n z n (segment_cell s) (λ i k names. inl (let d : Some z ≡ Some k = names in let f : k ≡ z = cc in f))
+      ∙ mapped-new m p q zeros there born notes z None (Some number) kind new (sym (segment_cells.number l born notes z c.changes.memory unnamed (known-below after l.spaces z c.known free)) ∙ ap new_number e)) in
+      record {
+        changes = subst (λ (t : Spaces). ChangesSegments p m (record { world = record x { anon = record x.anon { reserved = x.anon.reserved + slots_for_pages q.kind q.object n }; maps = maps_made x.maps (Some number) n }; spaces = t }) (λ F. with_mapping F p (map_request q) first))
+            (insert-twice m.spaces p left (put y left))
+            (subst (λ (k : ℕ). ChangesSegments p m (record { world = record x { anon = record x.anon { reserved = x.anon.reserved + k }; maps = maps_made x.maps (Some number) n }; spaces = finite.insert (finite.insert m.spaces p left) p (put y left) }) (λ F. with_mapping F p (map_request q) first)) slots all);
+        known = subst (λ (t : Spaces). KnowsZeros (slice_set after z (Some number)) t) (insert-twice m.spaces p left (put y left)) (known-made l p left y after z number c.changes.memory here may free c.known);
       }
 
-  pub replaced : w.files ≡ m.world.files → IsOwnMade w.maps own q.kind → w.anon.reserved + slots_for_pages q.kind (pages_in q.length) ≤ length w.anon.counts
-      → ((k : ℕ) → page q.addr ≤ k → k < page q.addr + pages_in q.length → part_at left k ≡ None)
-      → ChangesSpace p m (record { world = w; spaces = finite.insert m.spaces p left }) (λ F. without_pages F p (page q.addr) (pages_in q.length))
-      → HasMapping p m (record { world = with_own w q own; spaces = finite.insert m.spaces p (put x left) }) q
-  replaced files made room free done =
-      let pass = passed m.world parts q due in
-      let n : Memory = record { world = w; spaces = finite.insert m.spaces p left } in
-      let after = fits-after p m w m.spaces left (λ F. without_pages F p (page q.addr) (pages_in q.length)) done in
-      let come = space_rule.put n p left x after.memory after.plain after.here (may-come files made room free) refl in
-      let new : World = record w { anon = record w.anon { reserved = w.anon.reserved + slots_for_part x }; maps = maps_made w.maps own (pages_in q.length) } in
-      let all = then-parts p m w new m.spaces left (put x left) (λ F. without_pages F p (page q.addr) (pages_in q.length)) (λ F. with_new_cells F p (page q.addr) (pages_in q.length) (segment_cell x.piece)) done come in
+  -- A ZERO OBJECT BY NUMBER
+  by-number : (z k : ℕ) (own : Option ℕ) → held ≡ Some k → slice_index_or zeros z None ≡ Some k → q.object ≡ object.Zero z → IsOld q.kind q.object → IsOwnNew x.maps (new_piece m.world q (record { object = q.object; own = own; shown = Some k })) q.kind
+      → Goal (record { object = q.object; own = own; shown = Some k }) (maps_made x.maps own n) after
+  by-number z k own some is names old made =
+      let a : Anons = record { object = q.object; own = own; shown = Some k } in
+      let s : Segment = new_piece m.world q a in
+      let y : Part Segment = new_part m.world q a in
+      let g = no-process mid.spaces in
+      let c = held-cleared z k some is g.0 g.1 in
+      let slots = slots-old q.kind q.object n old in
+      let room = held-room z k some is g.0 g.1 names in
+      let enough : x.anon.reserved + slots_for_part y ≤ length x.anon.counts = omega (arith, slots, room) in
+      let alive : IsSome (finite.get mid.spaces p) = ap is_some mid-fits.here in
+      let zero = mid-zero z k some is g.0 g.1 in
+      let comes = held-comes mid p g.0 z k x left y mid-fits.memory alive g.1 zero c.changes (has-place a) names refl made enough in
+      let then : Memory = record { world = record x { anon = record x.anon { reserved = x.anon.reserved + slots_for_part y }; maps = maps_made x.maps own n }; spaces = finite.insert mid.spaces p (put y left) } in
+      let all = changes-as p m mid then (λ F. F) (λ F. with_new_cells (with_space F p (without_range (cells_of F p) first n)) p first n (segment_cell s)) (λ F. with_mapping F p (map_request q) first) cuts.changes comes
+      (λ born notes e. mapped-old m p q zeros there born notes own (Some k) old) in
       record {
-        changes = subst (λ (k : ℕ). ChangesSpace p m (record { world = record w { anon = record w.anon { reserved = w.anon.reserved + k }; maps = maps_made w.maps own (pages_in q.length) }; spaces = finite.insert m.spaces p (put x left) })
-            (λ F. with_mapping F p (map_request q) (page q.addr))) (slots-of-kind q.kind (pages_in q.length))
-            (space_rule.same p m (record { world = new; spaces = finite.insert m.spaces p (put x left) })
-            (λ F. with_new_cells (without_pages F p (page q.addr) (pages_in q.length)) p (page q.addr) (pages_in q.length) (segment_cell x.piece)) (λ F. with_mapping F p (map_request q) (page q.addr))
-            (λ born notes. mapped-flat m p q own asks.served pass.there born notes (space_rule.zeros m born notes fits.plain)) all);
+        changes = subst (λ (t : Spaces). ChangesSegments p m (record { world = record x { anon = record x.anon { reserved = x.anon.reserved + slots_for_pages q.kind q.object n }; maps = maps_made x.maps own n }; spaces = t }) (λ F. with_mapping F p (map_request q) first)) (insert-twice m.spaces p cut (put y left))
+            (subst (λ (j : ℕ). ChangesSegments p m (record { world = record x { anon = record x.anon { reserved = x.anon.reserved + j }; maps = maps_made x.maps own n }; spaces = finite.insert mid.spaces p (put y left) }) (λ F. with_mapping F p (map_request q) first)) slots all);
+        known = subst (λ (t : Spaces). KnowsZeros after t) (insert-twice m.spaces p cut (put y left)) (held-knows mid p g.0 z k x left y mid-fits.memory alive g.1 zero c.changes (has-place a) names refl made enough after c.known);
       }
+
+  abbrev piece_with : Option ℕ → Option ℕ → Segment
+  piece_with own shown = new_piece m.world q (record { object = q.object; own = own; shown = shown })
+
+  -- EACH MAPPING
+  module _ (a : Anons) (maps : List (Option Map)) (now : List (Option ℕ)) (files : x.files ≡ m.world.files) where
+    turned : (own shown : Option ℕ) (maps-then : List (Option Map)) → a ≡ record { object = q.object; own = own; shown = shown } → maps ≡ maps-then → now ≡ after → Goal (record { object = q.object; own = own; shown = shown }) maps-then after → Goal a maps now
+    turned own shown maps-then is same list goal = subst (λ (b : Anons). Goal b maps now) (sym is) (subst (λ (ms : List (Option Map)). Goal (record { object = q.object; own = own; shown = shown }) ms now) (sym same) (subst (Goal (record { object = q.object; own = own; shown = shown }) maps-then) (sym list) goal))
+
+    old-private : (o : Object) → q.kind ≡ Private → IsOld q.kind o
+    old-private o kind = subst (λ (k : Kind). IsOld k o) (sym kind) tt
+
+    file-there : (f : ℕ) → q.object ≡ object.File f → f < length x.files.files
+    file-there f is =
+        let t : nat_lt f (length m.world.files.files) ≡ true = sym (ap (is_object_there m.world zeros) is) ∙ there in
+        subst (λ (s : FilesSeen). f < length s.files) (sym files) (ltb-true f (length m.world.files.files) t)
+
+    zero-listed : (z : ℕ) → q.object ≡ object.Zero z → (k : ℕ) × (slice_index_or zeros z None ≡ Some k)
+    zero-listed z is = by_option (slice_index_or zeros z None) refl (sym (ap (is_object_there m.world zeros) is) ∙ there)
+      where
+        by_option : (o : Option ℕ) → slice_index_or zeros z None ≡ o → is_some o ≡ true → (k : ℕ) × (slice_index_or zeros z None ≡ Some k)
+        by_option None e some = absurd (let k : false ≡ true = some in cc)
+        by_option (Some k) e some = (k, e)
+
+    pub replaced : AreMade x.maps maps after now held n q.kind q.object a → Goal a maps now
+    replaced = by q.kind q.object refl refl
+      where
+        by : (k : Kind) (o : Object) → q.kind ≡ k → q.object ≡ o → AreMade x.maps maps after now held n k o a → Goal a maps now
+        by Private (object.File f) kind is made =
+            let none : held ≡ None = named ∙ ap (map_of_object zeros) is in
+            turned (Some made.0) None (maps_made x.maps (Some made.0) n) (made.2 ∙ (λ i. record { object = sym is i; own = Some made.0; shown = none i })) made.3 made.4
+            (plain (Some made.0) none (old-private q.object kind) (λ z e. absurd (let d : object.File f ≡ object.Zero z = sym is ∙ e in cc)) (subst (IsOwnNew x.maps (piece_with (Some made.0) None)) (sym kind) (made.0, refl, made.1)) (subst (ObjectFits (length x.files.files) x.maps (piece_with (Some made.0) None)) (sym is) (file-there f is, refl)))
+        by Private object.NewZero kind is made =
+            let none : held ≡ None = named ∙ ap (map_of_object zeros) is in
+            turned (Some made.0) None (maps_made x.maps (Some made.0) n) (made.2 ∙ (λ i. record { object = sym is i; own = Some made.0; shown = none i })) made.3 made.4
+            (plain (Some made.0) none (old-private q.object kind) (λ z e. absurd (let d : object.NewZero ≡ object.Zero z = sym is ∙ e in cc)) (subst (IsOwnNew x.maps (piece_with (Some made.0) None)) (sym kind) (made.0, refl, made.1)) (subst (ObjectFits (length x.files.files) x.maps (piece_with (Some made.0) None)) (sym is) (kind, refl)))
+        by Private (object.Zero z) kind is made =
+            let l = zero-listed z is in
+            let some : held ≡ Some l.0 = named ∙ ap (map_of_object zeros) is ∙ l.1 in
+            turned (Some made.0) (Some l.0) (maps_made x.maps (Some made.0) n) (made.2 ∙ (λ i. record { object = sym is i; own = Some made.0; shown = some i })) made.3 made.4
+            (by-number z l.0 (Some made.0) some l.1 is (old-private q.object kind) (subst (IsOwnNew x.maps (piece_with (Some made.0) (Some l.0))) (sym kind) (made.0, refl, made.1)))
+        by Shared (object.File f) kind is made =
+            let none : held ≡ None = named ∙ ap (map_of_object zeros) is in
+            turned None None x.maps (made.0 ∙ (λ i. record { object = sym is i; own = None; shown = none i })) made.1 made.2
+            (plain None none (subst (IsOld q.kind) (sym is) (subst (λ (k : Kind). IsOld k (object.File f)) (sym kind) tt)) (λ z e. absurd (let d : object.File f ≡ object.Zero z = sym is ∙ e in cc)) (subst (IsOwnNew x.maps (piece_with None None)) (sym kind) refl) (subst (ObjectFits (length x.files.files) x.maps (piece_with None None)) (sym is) (file-there f is, refl)))
+        by Shared (object.Zero z) kind is made =
+            let l = zero-listed z is in
+            let some : held ≡ Some l.0 = named ∙ ap (map_of_object zeros) is ∙ l.1 in
+            turned None (Some l.0) x.maps (made.0 ∙ (λ i. record { object = sym is i; own = None; shown = some i })) made.1 made.2
+            (by-number z l.0 None some l.1 is (subst (IsOld q.kind) (sym is) (subst (λ (k : Kind). IsOld k (object.Zero z)) (sym kind) tt)) (subst (IsOwnNew x.maps (piece_with None (Some l.0))) (sym kind) refl))
+        by Shared object.NewZero kind is made =
+            let none : held ≡ None = named ∙ ap (map_of_object zeros) is in
+            subst (λ (b : Anons). Goal b maps now) (sym made.4) (subst (λ (ms : List (Option Map)). Goal (record { object = object.Zero made.1; own = None; shown = Some made.0 }) ms now) (sym made.5) (subst (Goal (record { object = object.Zero made.1; own = None; shown = Some made.0 }) (maps_made x.maps (Some made.0) n)) (sym made.6)
+            (new-zero made.1 made.0 none kind is made.3 made.2)))
 
 -- REFUSED: nothing changes.
-pub refused-answers : (m : Memory) (p : ℕ) (parts : List (Part Segment)) (q : MapRequest) (e : Errno) → SpaceFits m.world m.spaces p parts → IsServedObject q.kind q.object → refusal_of m.world parts q ≡ Some e
+abbrev answered : Flat → Result (ℕ × Flat) Errno → Reply
+answered F r = (or_refused F (λ x. record { reply = Mapped (4096 * x.0); after = x.1 }) r).reply
+
+abbrev left_with : Flat → Result (ℕ × Flat) Errno → Flat
+left_with F r = (or_refused F (λ x. record { reply = Mapped (4096 * x.0); after = x.1 }) r).after
+
+pub refused-answers : (m : Memory) (p : ℕ) (parts : List (Part Segment)) (zeros : List (Option ℕ)) (q : MapRequest) (e : Errno) → SpaceFits m.world zeros m.spaces p parts → IsMapRefusal m p q (Some e)
     → AnswersMap p m (record { world = m.world; spaces = finite.insert m.spaces p parts }) (map_call q) (Refused e)
-refused-answers m p parts q e fits served due =
-    let is : (born : set.FinSet nat_cmp) (notes : Notes) → map_result (flat_memory m born notes) p (map_request q) ≡ Err e = λ born notes. results m born notes p parts fits q served ∙ ap (outcome (page q.addr, with_mapping (flat_memory m born notes) p (map_request q) (page q.addr))) due in
-    record {
-      changes = space_rule.same p m (record { world = m.world; spaces = finite.insert m.spaces p parts }) (λ F. F) (λ F. (effect F p (map_call q)).after)
-          (λ born notes. sym (ap (λ r. (or_refused (flat_memory m born notes) (λ x. record { reply = Mapped (4096 * x.0); after = x.1 }) r).after) (is born notes)))
-          (same-space m.world m.spaces p parts fits);
-      plain = tt;
-      due = λ born notes. ap (λ r. (or_refused (flat_memory m born notes) (λ x. record { reply = Mapped (4096 * x.0); after = x.1 }) r).reply) (is born notes);
-    }
+refused-answers m p parts zeros q e fits due = record {
+  changes = segment_rule.same p m (record { world = m.world; spaces = finite.insert m.spaces p parts }) (λ F. F) (λ F. (effect F p (map_call q)).after) (λ born notes. sym (ap (left_with (flat_memory m born notes)) (due born notes))) (same-space m.world zeros m.spaces p parts fits).changes;
+  plain = tt;
+  due = λ born notes. ap (answered (flat_memory m born notes)) (due born notes);
+}
 
 -- DONE.
-pub done-answers : (m new : Memory) (p : ℕ) (parts : List (Part Segment)) (q : MapRequest) (a : ℕ) → SpaceFits m.world m.spaces p parts → IsServedObject q.kind q.object → refusal_of m.world parts q ≡ None → a ≡ 4096 * page q.addr → HasMapping p m new q
-    → AnswersMap p m new (map_call q) (Mapped a)
-done-answers m new p parts q a fits served due first maps =
-    let is : (born : set.FinSet nat_cmp) (notes : Notes) → map_result (flat_memory m born notes) p (map_request q) ≡ Ok (page q.addr, with_mapping (flat_memory m born notes) p (map_request q) (page q.addr)) =
-    λ born notes. results m born notes p parts fits q served ∙ ap (outcome (page q.addr, with_mapping (flat_memory m born notes) p (map_request q) (page q.addr))) due in
-    record {
-      changes = space_rule.same p m new (λ F. with_mapping F p (map_request q) (page q.addr)) (λ F. (effect F p (map_call q)).after)
-          (λ born notes. sym (ap (λ r. (or_refused (flat_memory m born notes) (λ x. record { reply = Mapped (4096 * x.0); after = x.1 }) r).after) (is born notes)))
-          maps.changes;
-      plain = tt;
-      due = λ born notes. ap (λ r. (or_refused (flat_memory m born notes) (λ x. record { reply = Mapped (4096 * x.0); after = x.1 }) r).reply) (is born notes) ∙ ap (λ (n : ℕ). Mapped n) (sym first);
-    }
+pub done-answers : (m new : Memory) (p : ℕ) (q : MapRequest) (zeros : List (Option ℕ)) (a : ℕ) → IsMapRefusal m p q None → a ≡ 4096 * page q.addr → ChangesSpace p m new zeros (λ F. with_mapping F p (map_request q) (page q.addr)) → AnswersMap p m new (map_call q) (Mapped a)
+done-answers m new p q zeros a due first maps = record {
+  changes = segment_rule.same p m new (λ F. with_mapping F p (map_request q) (page q.addr)) (λ F. (effect F p (map_call q)).after) (λ born notes. sym (ap (left_with (flat_memory m born notes)) (due born notes))) maps.changes;
+  plain = tt;
+  due = λ born notes. ap (answered (flat_memory m born notes)) (due born notes) ∙ ap (λ (n : ℕ). Mapped n) (sym first);
+}
 
 -- what is due of a plain reply
 acts : (F G : Flat) (p : ℕ) (call : Call) (r : Reply) (cleared : ℕ) → IsPlainReply r → (effect F p call).reply ≡ r → G ≡ (effect F p call).after
@@ -256,60 +566,12 @@ map-serves old new pending more p q call r is same fits done =
       mid = old.world;
       first = takes-none old pending fits;
       acts = λ cleared. record {
-        machine = done.changes.changes.machine;
-        others = done.changes.changes.others;
-        memory = done.changes.changes.memory;
-        notes = done.changes.changes.notes;
-        tells = done.changes.changes.tells;
+        machine = done.changes.machine;
+        others = done.changes.others;
+        memory = done.changes.memory;
+        notes = done.changes.notes;
+        tells = done.changes.tells;
         flat = λ born notes nf tell whole.
-            acts (flat_memory old born notes) (flat_memory new born notes) p (map_call q) r cleared done.plain (done.due born notes) (done.changes.changes.flat born notes nf tell whole).0;
+            acts (flat_memory old born notes) (flat_memory new born notes) p (map_call q) r cleared done.plain (done.due born notes) (done.changes.flat born notes nf tell whole).0;
       };
     }))
-
--- TO THE CLEARED RANGE: numbers, two cuts, and what is in the range goes
-pub numbers-after : (m : Memory) (p : ℕ) (parts : List (Part Segment)) (w : World) (more : ℕ) → SpaceFits m.world m.spaces p parts → w ≡ record m.world { maps = m.world.maps ++ replicate more None } → ChangesSpace p m (record { world = w; spaces = m.spaces }) (λ F. F)
-numbers-after m p parts w more fits is = subst (λ (w : World). ChangesSpace p m (record { world = w; spaces = m.spaces }) (λ F. F)) (sym is) (space_rule.numbers m p more fits.memory fits.plain)
-
--- the parts that take their place fit then
-pub fits-then : (m : Memory) (p : ℕ) (parts new : List (Part Segment)) (w : World) → SpaceFits m.world m.spaces p parts → ChangesSpace p m (record { world = w; spaces = m.spaces }) (λ F. F) → new ≡ parts → SpaceFits w m.spaces p new
-fits-then m p parts new w fits c is = record { here = fits.here ∙ ap (λ (ps : List (Part Segment)). Some ps) (sym is); memory = c.changes.memory; plain = c.plain }
-
--- and so do those of a further step
-pub fits-step : (p : ℕ) (u v : World) (spaces : Spaces) (a b : List (Part Segment)) (f : Flat → Flat) → SpaceFits u spaces p a
-    → ((s : Spaces) → SpaceFits u s p a → ChangesSpace p (record { world = u; spaces = s }) (record { world = v; spaces = finite.insert s p b }) f) → SpaceFits v (finite.insert spaces p b) p b
-fits-step p u v spaces a b f fits step = fits-after p (record { world = u; spaces = spaces }) v spaces b f (step spaces fits)
-
-pub cleared : (m : Memory) (p : ℕ) (u v w x : World) (parts taken a b left : List (Part Segment)) (more : ℕ) (f : Flat → Flat) → SpaceFits m.world m.spaces p parts
-    → u ≡ record m.world { maps = m.world.maps ++ replicate more None } → taken ≡ parts
-    → ((s : Spaces) → SpaceFits u s p taken → ChangesSpace p (record { world = u; spaces = s }) (record { world = v; spaces = finite.insert s p a }) (λ F. F))
-    → ((s : Spaces) → SpaceFits v s p a → ChangesSpace p (record { world = v; spaces = s }) (record { world = w; spaces = finite.insert s p b }) (λ F. F))
-    → ((s : Spaces) → SpaceFits w s p b → ChangesSpace p (record { world = w; spaces = s }) (record { world = x; spaces = finite.insert s p left }) f)
-    → ChangesSpace p m (record { world = x; spaces = finite.insert m.spaces p left }) f
-cleared m p u v w x parts taken a b left more f fits is same first second third =
-    let t : Spaces = finite.insert m.spaces p a in
-    let numbers = numbers-after m p parts u more fits is in
-    let begun = fits-then m p parts taken u fits numbers same in
-    let once = fits-step p u v m.spaces taken a (λ F. F) begun first in
-    let twice = fits-step p v w t a b (λ F. F) once second in
-    let one = space_rule.joined p m (record { world = u; spaces = m.spaces }) (record { world = v; spaces = t }) (λ F. F) (λ F. F) numbers (first m.spaces begun) in
-    let two = space_rule.joined p m (record { world = v; spaces = t }) (record { world = w; spaces = finite.insert t p b }) (λ F. F) (λ F. F) one (second t once) in
-    let all = space_rule.joined p m (record { world = w; spaces = finite.insert t p b }) (record { world = x; spaces = finite.insert (finite.insert t p b) p left }) (λ F. F) f two (third (finite.insert t p b) twice) in
-    subst (λ (s : Spaces). ChangesSpace p m (record { world = x; spaces = s }) f) (insert-twice t p b left ∙ insert-twice m.spaces p a left) all
-
--- what may be done with a mapping is told by the files
-pub most-files : (v w : World) (k : Kind) (o : Object) → v.files ≡ w.files → most_allowed v k o ≡ most_allowed w k o
-most-files v w Shared (object.File f) same = ap (λ (files : FilesSeen). cond (vnode_at files f).info.writable prot_read_write prot_read) same
-most-files v w Shared (object.Zero z) same = refl
-most-files v w Shared object.NewZero same = refl
-most-files v w Private o same = refl
-
--- the slots for a mapping that isn't refused, once those of its range are given up
-pub room-then : (w new : World) (parts cut : List (Part Segment)) (q : MapRequest) → refusal_of w parts q ≡ None → ((k : ℕ) → slots_at (piece_at cut k) ≡ slots_at (piece_at parts k))
-    → new.anon.reserved + slots_of_range cut (page q.addr) (pages_in q.length) ≡ w.anon.reserved → length new.anon.counts ≡ length w.anon.counts
-    → new.anon.reserved + slots_for_pages q.kind (pages_in q.length) ≤ length new.anon.counts
-room-then w new parts cut q due same given counts =
-    let first : ℕ = page q.addr in
-    let n : ℕ = pages_in q.length in
-    let room = leb-true (w.anon.reserved - slots_of_range parts first n + slots_for_pages q.kind n) (length w.anon.counts) (passed w parts q due).backed in
-    let slots = slots-sum cut first n ∙ sum-alike (λ k. slots_at (piece_at cut k)) (λ k. slots_at (piece_at parts k)) first n same ∙ sym (slots-sum parts first n) in
-    omega (arith, room, slots, given, counts)

@@ -1,2 +1,5 @@
 pub mod Maps
 pub mod Rooms
+pub mod Looks
+pub mod GivenUp
+pub mod Refusals

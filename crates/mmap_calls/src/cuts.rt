@@ -1,12 +1,12 @@
 //! Pieces that go across an end of a range are cut there.
-ghost use Rattle.std.specs.Prelude.{◌≡◌, ◌≤◌, ◌<◌, ◌+◌, ℕ, List, Option, IfOk, vec_capacity};
+ghost use Rattle.std.specs.Prelude.{◌≡◌, ◌≤◌, ◌<◌, ◌+◌, ◌^◌, ℕ, List, Option, Some, None, IfOk, length, option_map, slice_index_or, vec_capacity};
 ghost use Rattle.std.specs.FinMap as finite;
 ghost use Rattle.addr_space.specs.Space.{piece_at};
-ghost use Rattle.anon_map.specs.Maps.{free_numbers};
-ghost use Rattle.vm_world.specs.PlainSteps.{ChangesSpace};
+ghost use Rattle.anon_map.specs.Maps.{IsMapThere, free_numbers, holders_of, places_of};
 ghost use Rattle.vm_world.specs.Segments.{Spaces};
 ghost use Rattle.vm_world.specs.World.{world_seen};
-ghost use Rattle.seg_vn.specs.Clears.{SpaceFits, StartsAt, slots_at};
+ghost use Rattle.seg_vn.specs.Clears.{ChangesSpace, SpaceFits, StartsAt};
+ghost use Rattle.mmap_calls.specs.Looks.{kind_and_object};
 ghost use Rattle.mmap_calls.specs.Rooms.{HasRoomAt};
 
 use addr_space::Ranges;
@@ -15,19 +15,42 @@ use seg_vn::VnSeg;
 use std::alloc::AllocError;
 use vm_world::World;
 
-/// Room for the later places of the piece that has a page, if it is private, from the page on. The only error is want of memory.
+/// The most holders of a map that may be there before a Map, which adds some: one for each end of its range, and one for its
+/// own piece.
+const MOST_HOLDERS: u32 = u32::MAX - 3;
+
+/// Whether so few hold the map of a zero object, if there is one, that a Map may add its holders. The only error is that there
+/// are more.
+pub(crate) fn check_holders<D: Disk>(world: &World<D>, shown: Option<u32>) -> Result<(), AllocError>
+    requires there { (number : ℕ) → shown ≡ Some number → IsMapThere world.now.maps number }
+    ensures { IfOk result (λ _. (number : ℕ) → shown ≡ Some number
+        → holders_of world.now.maps number + 3 < 2 ^ 32) }
+{
+    if let Some(map) = shown {
+        if world.maps.holders(map) > MOST_HOLDERS {
+            return Err(AllocError);
+        }
+    }
+    Ok(())
+}
+
+/// Room for the later places of the piece that has a page, if it is private, from the page on. The only error is want of memory,
+/// or of numbers of holders.
 pub(crate) fn room_at<D: Disk>(
     world: &World<D>,
     space: &Ranges<VnSeg>,
     page: u32,
 ) -> Result<Vec<Option<u32>>, AllocError>
     requires fits { (spaces : Spaces) × (process : ℕ)
-        × SpaceFits (world_seen world.now) spaces process space.now.parts }
-    ensures { IfOk result
-        (λ room. HasRoomAt room.items (vec_capacity room) space.now.parts page) }
+        × SpaceFits (world_seen world.now) world.now.zeros spaces process space.now.parts }
+    ensures { IfOk result (λ room. HasRoomAt room.items (vec_capacity room) 3
+        world.now.maps space.now.parts page) }
 {
     match space.find(page) {
-        Some((first, _pages, segment)) => segment.room_from(world, page - first),
+        Some((first, _pages, segment)) => {
+            check_holders(world, segment.shown())?;
+            segment.room_from(world, page - first)
+        }
         None => world.maps.room(0),
     }
 }
@@ -43,27 +66,34 @@ pub(crate) fn cut<D: Disk>(
 )
     requires spare { 0 < space.old.spare }
     requires numbers { 0 < free_numbers world.old.maps }
-    requires room { HasRoomAt room.items (vec_capacity room) space.old.parts page }
+    requires room { (more : ℕ) × HasRoomAt room.items (vec_capacity room) (more + 1)
+        world.old.maps space.old.parts page }
     requires fits { (spaces : Spaces)
-        × SpaceFits (world_seen world.old) spaces process space.old.parts }
+        × SpaceFits (world_seen world.old) world.old.zeros spaces process space.old.parts }
     // No piece goes across the begin of the page now, nor any other that none went across.
     ensures starts { StartsAt space.new.parts page }
     ensures kept { (q : ℕ) → StartsAt space.old.parts q → StartsAt space.new.parts q }
     // Room at pages before is enough for what is there now.
-    ensures rooms { (items : List (Option ℕ)) (roomy q : ℕ) → q ≤ page
-        → HasRoomAt items roomy space.old.parts q → HasRoomAt items roomy space.new.parts q }
-    // Each page reserves what it reserved.
-    ensures slots { (q : ℕ) → slots_at (piece_at space.new.parts q)
-        ≡ slots_at (piece_at space.old.parts q) }
+    ensures rooms { (items : List (Option ℕ)) (roomy more q : ℕ) → q ≤ page
+        → HasRoomAt items roomy (more + 1) world.old.maps space.old.parts q
+        → HasRoomAt items roomy more world.new.maps space.new.parts q }
+    // No map has a holder more but that of the zero object which the piece shows.
+    ensures held { (number : ℕ)
+        → holders_of world.new.maps number ≤ holders_of world.old.maps number + 1 }
+    // Each page looks as it did, and the maps of zero objects have as many places.
+    ensures shows { (q : ℕ) → option_map kind_and_object (piece_at space.new.parts q)
+        ≡ option_map kind_and_object (piece_at space.old.parts q) }
+    ensures lengths { (z number : ℕ) → slice_index_or world.old.zeros z None ≡ Some number
+        → length (places_of world.new.maps number) ≡ length (places_of world.old.maps number) }
     // Flat memory is as it was.
     ensures changes { (spaces : Spaces)
-        → SpaceFits (world_seen world.old) spaces process space.old.parts
+        → SpaceFits (world_seen world.old) world.old.zeros spaces process space.old.parts
         → ChangesSpace process (record { world = world_seen world.old; spaces = spaces })
         (record {
           world = world_seen world.new;
           spaces = finite.insert spaces process space.new.parts;
         })
-        (λ F. F) }
+        world.new.zeros (λ F. F) }
     // At most one number and one piece are used.
     ensures spare { space.old.spare ≤ space.new.spare + 1 }
     ensures numbers { free_numbers world.old.maps ≤ free_numbers world.new.maps + 1 }

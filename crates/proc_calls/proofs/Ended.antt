@@ -2,21 +2,16 @@
 use Rattle.std.proofs.Common.{◌≡◌, ℕ, ◌+◌, ◌-◌, ◌≤◌, Bool, true, false, cond, List, [], ◌∷◌, Option, Some, None, refl, sym, ap, ◌∙◌, inl, inr, subst, arith}
 use Rattle.std.specs.Prelude.{All, nat_le, nat_lt, ◌||◌}
 use Rattle.std.specs.FinMap as finite
-use Rattle.std.specs.Ordering.{nat_cmp}
-use Rattle.std.specs.Cmp.{nat_cmp_total}
 use Rattle.std.proofs.lemmas.Bool.{cases_lt, and_from, le-leb, lt-ltb}
 use Rattle.std.proofs.lemmas.List.Elements.{All-nil, All-cons}
 use Rattle.addr_space.specs.Space.{Part, piece_at, IsInOrder}
 use Rattle.addr_space.proofs.PartLemmas.{none-below, at-here, has-in}
 use Rattle.addr_space.proofs.PageLaws.{shows}
-use Rattle.flat_model.specs.Access.{with_space}
-use Rattle.flat_model.specs.Flat.{Space, Flat, is_named, without_unnamed}
-use Rattle.flat_model.specs.Mapping.{cells_of, without_pages}
+use Rattle.flat_model.specs.Mapping.{without_pages}
 use Rattle.flat_model.specs.Processes.{without_process}
-use Rattle.flat_model.specs.Space.{in_range, without_range}
+use Rattle.flat_model.specs.Space.{in_range}
 use Rattle.flat_model.specs.Step.{bit}
-use Rattle.flat_model.specs.Words.{Page}
-use Rattle.flat_model.proofs.Ranges.{get-insert_here, get-retain_keys}
+use Rattle.flat_model.proofs.Ranges.{get-insert_here}
 use Rattle.vm_types.specs.declared.call.Call.{Call}
 use Rattle.vm_types.specs.declared.call.Call.TheVariants.{Load, Store, Map, Unmap, Protect, Sync, Read, Write, Truncate, Fork, Exit}
 use Rattle.vm_types.specs.declared.call.Reply.TheVariants.{Done}
@@ -24,16 +19,17 @@ use Rattle.vm_world.specs.FlatMemory.{Memory, flat_memory}
 use Rattle.vm_world.specs.MemoryFits.{MemoryFits}
 use Rattle.vm_world.specs.Segments.{Spot, Spaces}
 use Rattle.vm_world.specs.Serving.{TakesFrames, ServesDone}
-use Rattle.vm_world.specs.PlainSteps.{ChangesSpace}
+use Rattle.vm_world.specs.SegmentSteps.{ChangesSegments}
 use Rattle.vm_world.specs.SpaceSteps.{without_space}
 use Rattle.vm_world.specs.World.{World}
 use Rattle.vm_world.specs.declared.segment.Segment.{Segment}
-use Rattle.vm_world.proofs.Maps.{remove-inserted}
-use Rattle.vm_world.proofs.PlainSteps.{space_rule}
+use Rattle.vm_world.proofs.KnownZeros.{known-left}
+use Rattle.vm_world.proofs.SegmentSteps.{segment_rule}
 use Rattle.vm_world.proofs.Spots.{spot-in}
+use Rattle.vm_world.proofs.Unnamed.{process-after-pages}
 use Rattle.seg_ops.proofs.Composed.{keeps-same}
 use Rattle.proc_calls.specs.Ends.{IsServedExit}
-use Rattle.seg_vn.specs.Clears.{SpaceFits, StartsAt}
+use Rattle.seg_vn.specs.Clears.{ChangesSpace, SpaceFits, StartsAt}
 
 -- each part begins behind page 0
 each-behind : (low : ℕ) (parts : List (Part Segment)) → 1 ≤ low → IsInOrder low parts → All (λ (p : Part Segment). 1 ≤ p.first) parts
@@ -82,35 +78,22 @@ no-part (p ∷ ps) order none =
     let y : Spot = (p.piece, p.first - p.first) in
     absurd (let z : Some y ≡ None = sym (shows (p ∷ ps) p.first (Some p) here) ∙ none p.first in cc)
 
--- where there is no zero object none goes
-same-unnamed : (F : Flat) → F.zeros ≡ finite.empty → without_unnamed F ≡ F
-same-unnamed F none =
-    let e : finite.retain_keys F.zeros (is_named F) ≡ F.zeros =
-    finite.same_map nat_cmp_total finite.nat_cmp-IsAntisymmetric _ _ (λ z. get-retain_keys F.zeros (is_named F) z ∙ either (is_named F z) (finite.get F.zeros z) (ap (λ (zs : finite.FinMap nat_cmp (List Page)). finite.get zs z) none ∙ finite.get-empty nat_cmp z)) in
-    λ i. record { slots = F.slots; disks = F.disks; files = F.files; zeros = e i; spaces = F.spaces; born = F.born }
-  where
-    either : (b : Bool) (o : Option (List Page)) → o ≡ None → cond b o None ≡ o
-    either true o is = refl
-    either false o is = sym is
-
--- the cells of a process that goes don't matter
-gone : (F : Flat) (p : ℕ) (s : Space) → F.zeros ≡ finite.empty → without_process (without_unnamed (with_space F p s)) p ≡ without_process F p
-gone F p s none = ap (λ (G : Flat). without_process G p) (same-unnamed (with_space F p s) none) ∙ (λ i. without_unnamed (record F { spaces = remove-inserted F.spaces p s i }))
-
-pub ended : (old new : World) (spaces : Spaces) (p : ℕ) (parts left : List (Part Segment)) → SpaceFits old spaces p parts
-    → ChangesSpace p (record { world = old; spaces = spaces }) (record { world = new; spaces = finite.insert spaces p left }) (λ F. without_pages F p 1 (0x80000 - 1))
+pub ended : (old new : World) (zeros after : List (Option ℕ)) (spaces : Spaces) (p : ℕ) (parts left : List (Part Segment)) → SpaceFits old zeros spaces p parts
+    → ChangesSpace p (record { world = old; spaces = spaces }) (record { world = new; spaces = finite.insert spaces p left }) after (λ F. without_pages F p 1 (0x80000 - 1))
     → ((q : ℕ) → piece_at left q ≡ cond (in_range 1 (0x80000 - 1) q) None (piece_at parts q))
-    → ChangesSpace p (record { world = old; spaces = spaces }) (record { world = new; spaces = finite.remove (finite.insert spaces p left) p }) (λ F. without_process F p)
-ended old new spaces p parts left fits done pages =
+    → ChangesSpace p (record { world = old; spaces = spaces }) (record { world = new; spaces = finite.remove (finite.insert spaces p left) p }) after (λ F. without_process F p)
+ended old new zeros after spaces p parts left fits done pages =
     let m : Memory = record { world = old; spaces = spaces } in
     let n : Memory = record { world = new; spaces = finite.insert spaces p left } in
     let here = get-insert_here spaces p left in
     let none = all-none parts left (fits.memory.segments.ordered p parts fits.here) pages in
-    let empty = no-part left (done.changes.memory.segments.ordered p left here) none in
-    let goes = space_rule.leave n p done.changes.memory done.plain (here ∙ ap (λ (ps : List (Part Segment)). Some ps) empty) in
-    space_rule.same p m (without_space n p) (λ F. without_process (without_pages F p 1 (0x80000 - 1)) p) (λ F. without_process F p)
-    (λ born notes. let F : Flat = flat_memory m born notes in gone F p (without_range (cells_of F p) 1 (0x80000 - 1)) (space_rule.zeros m born notes fits.plain))
-    (space_rule.joined p m n (without_space n p) (λ F. without_pages F p 1 (0x80000 - 1)) (λ F. without_process F p) done goes)
+    let empty = here ∙ ap (λ (ps : List (Part Segment)). Some ps) (no-part left (done.changes.memory.segments.ordered p left here) none) in
+    record {
+      changes = segment_rule.same p m (without_space n p) (λ F. without_process (without_pages F p 1 (0x80000 - 1)) p) (λ F. without_process F p)
+          (λ born notes. process-after-pages (flat_memory m born notes) p 1 (0x80000 - 1))
+          (segment_rule.joined p m n (without_space n p) (λ F. without_pages F p 1 (0x80000 - 1)) (λ F. without_process F p) done.changes (segment_rule.leave n p done.changes.memory empty));
+      known = known-left n p after done.changes.memory empty done.known;
+    }
 
 or-false : (b : Bool) → b ≡ (b || false)
 or-false true = refl
@@ -126,17 +109,17 @@ takes-none m pending fits = record {
 }
 
 -- THE CALL IS DONE.
-pub exit-serves : (old new : Memory) (pending p : ℕ) → MemoryFits old → ChangesSpace p old new (λ F. without_process F p) → ServesDone old new pending pending p Exit Done
+pub exit-serves : (old new : Memory) (pending p : ℕ) → MemoryFits old → ChangesSegments p old new (λ F. without_process F p) → ServesDone old new pending pending p Exit Done
 exit-serves old new pending p fits done = record {
   mid = old.world;
   first = takes-none old pending fits;
   acts = λ cleared. record {
-    machine = done.changes.machine;
-    others = done.changes.others;
-    memory = done.changes.memory;
-    notes = done.changes.notes;
-    tells = done.changes.tells;
-    flat = λ born notes nf tell whole. (refl, (done.changes.flat born notes nf tell whole).0);
+    machine = done.machine;
+    others = done.others;
+    memory = done.memory;
+    notes = done.notes;
+    tells = done.tells;
+    flat = λ born notes nf tell whole. (refl, (done.flat born notes nf tell whole).0);
   };
 }
 
@@ -154,6 +137,6 @@ only-exit (Write file offset line rest) served other = served
 only-exit (Truncate file len) served other = served
 only-exit (Fork child) served other = served
 
-pub call-serves : (old new : Memory) (pending more p : ℕ) (call : Call) → call ≡ Exit → more ≡ pending → MemoryFits old → ChangesSpace p old new (λ F. without_process F p) → ServesDone old new pending more p call Done
-call-serves old new pending more p call is same fits done =
-    subst (λ (n : ℕ). ServesDone old new pending n p call Done) (sym same) (subst (λ (x : Call). ServesDone old new pending pending p x Done) (sym is) (exit-serves old new pending p fits done))
+pub call-serves : (old new : Memory) (zeros : List (Option ℕ)) (pending more p : ℕ) (call : Call) → call ≡ Exit → more ≡ pending → MemoryFits old → ChangesSpace p old new zeros (λ F. without_process F p) → ServesDone old new pending more p call Done
+call-serves old new zeros pending more p call is same fits done =
+    subst (λ (n : ℕ). ServesDone old new pending n p call Done) (sym same) (subst (λ (x : Call). ServesDone old new pending pending p x Done) (sym is) (exit-serves old new pending p fits done.changes))

@@ -1,10 +1,12 @@
 //! The end of a process.
-ghost use Rattle.std.specs.Prelude.{◌≡◌, IsSome, IfOk, IsOk};
+ghost use Rattle.std.specs.Prelude.{◌≡◌, ◌≤◌, ℕ, IsSome, IfOk, IsOk};
 ghost use Rattle.std.specs.FinMap as finite;
 ghost use Rattle.flat_model.specs.Processes.{without_process};
 ghost use Rattle.vm_world.specs.MemoryFits.{MemoryFits};
-ghost use Rattle.vm_world.specs.PlainSteps.{ShowNoZeros, ChangesSpace};
 ghost use Rattle.vm_world.specs.World.{world_seen};
+ghost use Rattle.vm_world.specs.ZeroObjects.{KnowsZeros};
+ghost use Rattle.anon_slots.specs.Slots.{count_at};
+ghost use Rattle.seg_vn.specs.Clears.{ChangesSpace};
 ghost use Rattle.seg_vn.specs.Serves.{Serves};
 ghost use Rattle.proc_calls.specs.Ends.{IsServedExit, IsExitDone};
 
@@ -17,22 +19,25 @@ use vm_world::World;
 /// The page behind the last one of a space.
 const END: u32 = 0x80000;
 
-/// Takes a process away, with all its pieces, their translations, their private pages, and what is reserved for them.
+/// Takes a process away, with all its pieces, their translations, their private pages, the zero objects that no other process
+/// maps, and what is reserved for them.
 fn exit<D: Disk>(world: &mut World<D>, spaces: &mut Spaces, process: u32)
     requires fits { MemoryFits
         (record { world = world_seen world.old; spaces = spaces.old.spaces }) }
-    requires plain { ShowNoZeros spaces.old.spaces }
+    requires zeros { KnowsZeros world.old.zeros spaces.old.spaces }
     requires alive { IsSome (finite.get spaces.old.spaces process) }
     ensures changes { ChangesSpace process
         (record { world = world_seen world.old; spaces = spaces.old.spaces })
         (record { world = world_seen world.new; spaces = spaces.new.spaces })
-        (λ F. without_process F process) }
+        world.new.zeros (λ F. without_process F process) }
+    ensures fall { (slot : ℕ) → count_at world.new.anon slot ≤ count_at world.old.anon slot }
     // What stays.
     ensures rest { world.new ≡ record world.old {
       store = world.new.store;
       anon = world.new.anon;
       maps = world.new.maps;
       hat = world.new.hat;
+      zeros = world.new.zeros;
     } }
     ensures processes { spaces.new.processes ≡ spaces.old.processes }
 {
@@ -44,7 +49,7 @@ fn exit<D: Disk>(world: &mut World<D>, spaces: &mut Spaces, process: u32)
 }
 
 /// What a call of a process is answered that ends the process: Done. It takes no memory, and so has no error. Time: the pages
-/// of the process, and the logarithm of the number of its pieces for each piece.
+/// of the process and of the zero objects that go with it, and the logarithm of the number of its pieces for each piece.
 pub fn attempt<D: Disk>(
     world: &mut World<D>,
     spaces: &mut Spaces,
@@ -54,7 +59,7 @@ pub fn attempt<D: Disk>(
     requires served { IsServedExit call.now }
     requires fits { MemoryFits
         (record { world = world_seen world.old; spaces = spaces.old.spaces }) }
-    requires plain { ShowNoZeros spaces.old.spaces }
+    requires zeros { KnowsZeros world.old.zeros spaces.old.spaces }
     requires alive { IsSome (finite.get spaces.old.spaces process) }
     ensures ok { IsOk result }
     ensures done { IfOk result (λ answer. Serves
@@ -62,7 +67,8 @@ pub fn attempt<D: Disk>(
         (record { world = world_seen world.new; spaces = spaces.new.spaces })
         world.old.pending world.new.pending process call.now answer) }
     ensures answer { IfOk result IsExitDone }
-    ensures plain { ShowNoZeros spaces.new.spaces }
+    ensures zeros { KnowsZeros world.new.zeros spaces.new.spaces }
+    ensures fall { (slot : ℕ) → count_at world.new.anon slot ≤ count_at world.old.anon slot }
     // What stays.
     ensures processes { spaces.new.processes ≡ spaces.old.processes }
 {

@@ -34,6 +34,7 @@ pub mod SlotNotes
 pub mod SlotSteps
 pub mod SlotCells
 pub mod SlotFlat
+pub mod SlotObjects
 pub mod SlotOwners
 pub mod FreedFrames
 pub mod SlotLeaves

@@ -20,7 +20,6 @@ use Rattle.page_store.specs.declared.place.Place.{Place}
 use Rattle.page_store.proofs.QueryLemmas.{absent-is}
 use Rattle.anon_map.specs.Maps.{Map}
 use Rattle.anon_slots.specs.Slots.{Slots, count_at}
-use Rattle.hat_layer.specs.Pool.{translation_at}
 use Rattle.hat_layer.specs.declared.translation.Translation.{Translation}
 use Rattle.vm_types.specs.declared.call.Object.{Object}
 use Rattle.vm_types.specs.declared.call.Object.TheVariants as object
@@ -34,16 +33,15 @@ use Rattle.vm_world.specs.World.{World, slot_in, slot_name, is_unpushed, is_page
 use Rattle.vm_world.proofs.Counts.{only-place}
 use Rattle.vm_world.proofs.PageNames.{file-apart}
 use Rattle.seg_ops.specs.Empties.{LeavesSlot, EmptiesPlace}
-use Rattle.seg_ops.specs.Slots.{OwnsAlone}
 use Rattle.seg_ops.proofs.Fills.{Elsewhere, held-by, rewritten-same}
 use Rattle.seg_ops.proofs.GivenUp.{GivesUp}
 use Rattle.seg_ops.proofs.Marks.{cases-name}
-use Rattle.seg_ops.proofs.SlotLeaves.{exists-else, table-left, page-name-left, own-unloaded, left-once, left-shown, left-writable}
+use Rattle.seg_ops.proofs.SlotLeaves.{exists-else, table-left, page-name-left, IsUnloadedPlace, left-once, left-shown, left-writable}
 use Rattle.seg_ops.proofs.SlotMemory.{with_slot, used-lt, segments-set}
-use Rattle.seg_ops.proofs.SlotOwners.{not-shown, object-fits}
+use Rattle.seg_ops.proofs.SlotOwners.{object-fits}
 use Rattle.seg_ops.proofs.StillSteps.{memory_of}
 
-module _ (w : World) (spaces : Spaces) (new : StoreSeen) (anon : Slots) (put : List (Option Map)) (p q m i s : ℕ) (x : Spot) (f : MemoryFits (memory_of w spaces)) (k : LeavesSlot w.anon anon w.maps put m i s) (one : count_at w.anon s ≡ 1) (g : GivesUp w.store new (slot_name s)) (owns : OwnsAlone spaces p q m i x) (unloaded : translation_at w.hat.places p q ≡ None) where
+module _ (w : World) (spaces : Spaces) (new : StoreSeen) (anon : Slots) (put : List (Option Map)) (m i s : ℕ) (f : MemoryFits (memory_of w spaces)) (k : LeavesSlot w.anon anon w.maps put m i s) (one : count_at w.anon s ≡ 1) (g : GivesUp w.store new (slot_name s)) (unloaded : IsUnloadedPlace w.hat.places spaces m i) where
   -- the slot's page doesn't exist any more, and every other page does if it did
   missing : IsFalse (page_exists w.files anon (slot_name s))
   missing = by_exists (page_exists w.files anon (slot_name s)) refl
@@ -92,7 +90,7 @@ module _ (w : World) (spaces : Spaces) (new : StoreSeen) (anon : Slots) (put : L
 
       own_place : (o : Option ℕ) → y.0.own ≡ o → option_and_then (λ number. slot_in w.maps number y.1) o ≡ Some s → ⊥
       own_place None own at_place = let z : None ≡ Some s = at_place in cc
-      own_place (Some number) own at_place = let both = only_here number y.1 at_place in own-unloaded w.hat.places spaces p q m i j t x y owns unloaded is here (own ∙ ap (λ (b : ℕ). Some b) both.0) both.1
+      own_place (Some number) own at_place = let both = only_here number y.1 at_place in unloaded.own j t y is here (own ∙ ap (λ (b : ℕ). Some b) both.0) both.1
 
       page_is : (a : ℕ) → ◌≡◌ {A = Option PageName} (Some (slot_name a)) (Some (slot_name s)) → a ≡ s
       page_is a d = ap (λ (b : Option PageName). (unwrap_or b (slot_name 0)).page) d
@@ -105,7 +103,7 @@ module _ (w : World) (spaces : Spaces) (new : StoreSeen) (anon : Slots) (put : L
           by_slot None a b = let z : None ≡ Some (slot_name s) = b in cc
           by_slot (Some c) a b =
               let both = only_here number (y.0.index + y.1) (a ∙ ap (λ (v : ℕ). Some v) (page_is c b)) in
-              not-shown (memory_of w spaces) p q t.space t.page m x y f owns.here owns.own here (d ∙ ap (λ (v : ℕ). Some v) both.0)
+              unloaded.shown j t y is here (d ∙ ap (λ (v : ℕ). Some v) both.0)
 
       by_object : (ob : Object) → ObjectFits (length w.files.files) w.maps y.0 ob → object_name w.maps y.0.shown (y.0.index + y.1) ob ≡ Some (slot_name s) → ⊥
       by_object (object.File b) fit at_place = file-apart w.files b f.files fit.0 (ap (λ (a : Option PageName). (unwrap_or a (slot_name 0)).object) at_place)
@@ -130,7 +128,7 @@ module _ (w : World) (spaces : Spaces) (new : StoreSeen) (anon : Slots) (put : L
     translations = λ j t is.
         let l = f.translations j t is in
         let far = shown-apart j t is l.spot l.name l.here l.shows in
-        let stays = left-shown w spaces anon put p q m i s x f k owns unloaded j t is l.spot l.name l.here l.shows in
+        let stays = left-shown w spaces anon put m i s k unloaded j t is l.spot l.name l.here l.shows in
         let there = apart t.frame l.name (held-by w.store l.name t.frame l.home) far in
         record {
           spot = l.spot;
@@ -140,7 +138,7 @@ module _ (w : World) (spaces : Spaces) (new : StoreSeen) (anon : Slots) (put : L
           home = g.laws.stay l.name far ∙ l.home;
           unlisted = λ h. l.unlisted (there.listed h);
           allowed = l.allowed;
-          writable = λ h. left-writable w anon put m i s l.spot f.counts k (own-unloaded w.hat.places spaces p q m i j t x l.spot owns unloaded is l.here) stays.own (l.writable h);
+          writable = λ h. left-writable w anon put m i s l.spot f.counts k (unloaded.own j t l.spot is l.here) stays.own (l.writable h);
         };
     unpushed = λ j a h unpushed home.
         let e = held j (slot_name a) h in

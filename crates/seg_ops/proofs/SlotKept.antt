@@ -8,20 +8,18 @@ use Rattle.page_store.specs.Table.{Table}
 use Rattle.page_store.specs.Value.{value, tells}
 use Rattle.anon_map.specs.Maps.{Map}
 use Rattle.anon_slots.specs.Slots.{Slots, count_at}
-use Rattle.hat_layer.specs.Pool.{translation_at}
 use Rattle.vm_world.specs.FramesFit.{DisksFit, HasSize}
 use Rattle.vm_world.specs.MemoryFits.{MemoryFits}
 use Rattle.vm_world.specs.NotesFit.{NotesFit, CleanFit, PushFits}
-use Rattle.vm_world.specs.Segments.{Spot, Spaces}
+use Rattle.vm_world.specs.Segments.{Spaces}
 use Rattle.vm_world.specs.World.{World, slot_name, is_unpushed, page_exists, page_table, world_table}
 use Rattle.seg_ops.specs.Empties.{LeavesSlot, EmptiesPlace}
-use Rattle.seg_ops.specs.Slots.{OwnsAlone}
 use Rattle.seg_ops.proofs.Marks.{cases-name}
-use Rattle.seg_ops.proofs.SlotLeaves.{exists-else, table-left, page-name-left, own-unloaded, left-once, left-shown, left-writable}
+use Rattle.seg_ops.proofs.SlotLeaves.{exists-else, table-left, page-name-left, IsUnloadedPlace, left-once, left-shown, left-writable}
 use Rattle.seg_ops.proofs.SlotMemory.{with_slot, lt-used, segments-set}
 use Rattle.seg_ops.proofs.StillSteps.{memory_of}
 
-module _ (w : World) (spaces : Spaces) (anon : Slots) (put : List (Option Map)) (p q m i s : ℕ) (x : Spot) (f : MemoryFits (memory_of w spaces)) (k : LeavesSlot w.anon anon w.maps put m i s) (more : 1 < count_at w.anon s) (owns : OwnsAlone spaces p q m i x) (unloaded : translation_at w.hat.places p q ≡ None) where
+module _ (w : World) (spaces : Spaces) (anon : Slots) (put : List (Option Map)) (m i s : ℕ) (f : MemoryFits (memory_of w spaces)) (k : LeavesSlot w.anon anon w.maps put m i s) (more : 1 < count_at w.anon s) (unloaded : IsUnloadedPlace w.hat.places spaces m i) where
   -- what existed still exists
   still : (n : PageName) → IsTrue (page_exists w.files w.anon n) → IsTrue (page_exists w.files anon n)
   still n exists = elim (cases-name (slot_name s) n) [
@@ -46,7 +44,7 @@ module _ (w : World) (spaces : Spaces) (anon : Slots) (put : List (Option Map)) 
     pool = f.pool;
     translations = λ j t is.
         let l = f.translations j t is in
-        let stays = left-shown w spaces anon put p q m i s x f k owns unloaded j t is l.spot l.name l.here l.shows in
+        let stays = left-shown w spaces anon put m i s k unloaded j t is l.spot l.name l.here l.shows in
         record {
           spot = l.spot;
           here = l.here;
@@ -55,7 +53,7 @@ module _ (w : World) (spaces : Spaces) (anon : Slots) (put : List (Option Map)) 
           home = l.home;
           unlisted = l.unlisted;
           allowed = l.allowed;
-          writable = λ h. left-writable w anon put m i s l.spot f.counts k (own-unloaded w.hat.places spaces p q m i j t x l.spot owns unloaded is l.here) stays.own (l.writable h);
+          writable = λ h. left-writable w anon put m i s l.spot f.counts k (unloaded.own j t l.spot is l.here) stays.own (l.writable h);
         };
     unpushed = λ j a h unpushed home. f.unpushed j a h (ap (λ swapped. slice_index_or swapped a false) (sym k.swapped) ∙ unpushed) home;
     counts = k.counts;

@@ -21,11 +21,11 @@ use Rattle.vm_world.specs.World.{World, file_blocks, slot_in, slot_name, is_page
 use Rattle.vm_world.proofs.Counting.{adds, adds-own, adds-other, times-put}
 use Rattle.vm_world.proofs.Counts.{held-used, only-place, used-below}
 use Rattle.vm_world.proofs.Loaded.{loaded-at}
-use Rattle.seg_ops.specs.Empties.{LeavesSlot}
+use Rattle.seg_ops.specs.Empties.{LeavesSlot, IsUnloadedZero}
 use Rattle.seg_ops.specs.Slots.{OwnsAlone}
 use Rattle.seg_ops.proofs.SlotCounts.{places-put}
 use Rattle.seg_ops.proofs.SlotMemory.{AreShown, used-lt, lt-used, slot-exists, file-exists}
-use Rattle.seg_ops.proofs.SlotOwners.{not-shown}
+use Rattle.seg_ops.proofs.SlotOwners.{never-own, not-shown}
 use Rattle.seg_ops.proofs.SlotPlaces.{slot-here, slot-else, stays-apart}
 use Rattle.seg_ops.proofs.StillSteps.{memory_of}
 
@@ -96,13 +96,6 @@ module _ (files : FilesSeen) (old new : Slots) (maps put : List (Option Map)) (m
   pub page-name-left : (n : PageName) → is_page_name files new n ≡ is_page_name files old n
   page-name-left n = ap (λ (c : ℕ). cond (n.object == 64) (nat_lt n.page c) (nat_lt n.page (page_count (vnode_at files n.object).info.extents))) k.slots
 
--- the page of the place has no translation
-pub own-unloaded : (places : List (Option Translation)) (spaces : Spaces) (p q m i j : ℕ) (t : Translation) (x y : Spot) → OwnsAlone spaces p q m i x → translation_at places p q ≡ None → slice_index_or places j None ≡ Some t → spot_at spaces t.space t.page ≡ Some y
-    → y.0.own ≡ Some m → y.1 ≡ i → ⊥
-own-unloaded places spaces p q m i j t x y owns unloaded is here own place =
-    let where_is = owns.alone t.space t.page y here own place in
-    loaded-at places j t is (ap (λ (a : ℕ). translation_at places a t.page) where_is.0 ∙ ap (λ (b : ℕ). translation_at places p b) where_is.1 ∙ unloaded)
-
 -- a slot that was counted once where it is held still is
 pub left-once : (old new : Slots) (maps put : List (Option Map)) (m i s number place t : ℕ) → CountsFit old maps → LeavesSlot old new maps put m i s → slot_in put number place ≡ Some t → (slot_in maps number place ≡ Some t → count_at old t ≡ 1) → count_at new t ≡ 1
 left-once old new maps put m i s number place t fit k held was =
@@ -114,10 +107,30 @@ left-once old new maps put m i s number place t fit k held was =
     let one = was there in
     k.others t (λ e. apart (only-place t maps m i number place (sym (fit.counts t) ∙ one) (k.held ∙ ap (λ (a : ℕ). Some a) (sym e)) there)) ∙ one
 
+-- No page that shows what the place holds has a translation.
+pub record IsUnloadedPlace (places : List (Option Translation)) (spaces : Spaces) (m i : ℕ) : Type 0 where
+  pub own : (j : ℕ) (t : Translation) (y : Spot) → slice_index_or places j None ≡ Some t → spot_at spaces t.space t.page ≡ Some y → y.0.own ≡ Some m → y.1 ≡ i → ⊥
+  pub shown : (j : ℕ) (t : Translation) (y : Spot) → slice_index_or places j None ≡ Some t → spot_at spaces t.space t.page ≡ Some y → y.0.shown ≢ Some m
+
+-- the place of one page alone, which has none; and each place of a zero object's map
+pub owned-unloaded : (w : World) (spaces : Spaces) (p q m i : ℕ) (x : Spot) → MemoryFits (memory_of w spaces) → OwnsAlone spaces p q m i x → translation_at w.hat.places p q ≡ None → IsUnloadedPlace w.hat.places spaces m i
+owned-unloaded w spaces p q m i x f owns unloaded = record {
+  own = λ j t y is here own place.
+      let where_is = owns.alone t.space t.page y here own place in
+      loaded-at w.hat.places j t is (ap (λ (a : ℕ). translation_at w.hat.places a t.page) where_is.0 ∙ ap (λ (b : ℕ). translation_at w.hat.places p b) where_is.1 ∙ unloaded);
+  shown = λ j t y is here. not-shown (memory_of w spaces) p q t.space t.page m x y f owns.here owns.own here;
+}
+
+pub zero-unloaded : (w : World) (spaces : Spaces) (z m i : ℕ) → MemoryFits (memory_of w spaces) → IsUnloadedZero w.hat.places spaces z m → IsUnloadedPlace w.hat.places spaces m i
+zero-unloaded w spaces z m i f zero = record {
+  own = λ j t y is here own place. never-own (memory_of w spaces) z m t.space t.page y f zero.zero here own;
+  shown = λ j t y is here shows. loaded-at w.hat.places j t is (zero.unloaded t.space t.page y here shows);
+}
+
 -- EACH TRANSLATION SHOWS what it showed.
-pub left-shown : (w : World) (spaces : Spaces) (anon : Slots) (put : List (Option Map)) (p q m i s : ℕ) (x : Spot) → MemoryFits (memory_of w spaces) → LeavesSlot w.anon anon w.maps put m i s → OwnsAlone spaces p q m i x → translation_at w.hat.places p q ≡ None → AreShown w spaces put
-left-shown w spaces anon put p q m i s x f k owns unloaded = subst (λ (ps : List (Option Map)). AreShown w spaces ps) (sym k.set) (λ j t is y n here shows.
-    stays-apart w.maps m i None y n k.within (own-unloaded w.hat.places spaces p q m i j t x y owns unloaded is here) (not-shown (memory_of w spaces) p q t.space t.page m x y f owns.here owns.own here) shows)
+pub left-shown : (w : World) (spaces : Spaces) (anon : Slots) (put : List (Option Map)) (m i s : ℕ) → LeavesSlot w.anon anon w.maps put m i s → IsUnloadedPlace w.hat.places spaces m i → AreShown w spaces put
+left-shown w spaces anon put m i s k far = subst (λ (ps : List (Option Map)). AreShown w spaces ps) (sym k.set) (λ j t is y n here shows.
+    stays-apart w.maps m i None y n k.within (far.own j t y is here) (far.shown j t y is here) shows)
 
 -- and may be written in place if it might
 pub left-writable : (w : World) (anon : Slots) (put : List (Option Map)) (m i s : ℕ) (y : Spot) → CountsFit w.anon w.maps → LeavesSlot w.anon anon w.maps put m i s → (y.0.own ≡ Some m → y.1 ≡ i → ⊥) → own_slot put y ≡ own_slot w.maps y

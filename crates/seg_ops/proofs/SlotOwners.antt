@@ -1,5 +1,5 @@
 -- WHOSE PLACE IT IS: the own map of a private segment is that of no other segment, and of no zero object.
-use Rattle.std.proofs.Common.{◌≡◌, ◌≢◌, ℕ, ◌+◌, ◌-◌, ◌≤◌, Bool, true, false, cond, List, [], ◌∷◌, ◌++◌, map, Option, Some, None, refl, sym, ap, ◌∙◌, ◌⊎◌, inl, inr, subst, arith}
+use Rattle.std.proofs.Common.{◌≡◌, ◌≢◌, ℕ, ◌+◌, ◌-◌, ◌<◌, ◌≤◌, ◌==◌, Bool, true, false, cond, List, [], ◌∷◌, ◌++◌, map, Option, Some, None, refl, sym, ap, ◌∙◌, ◌⊎◌, inl, inr, subst, arith}
 use Rattle.std.specs.Prelude.{sum_by, flat_map, filter_map, option_and_then, option_map, length}
 use Rattle.std.specs.List.{cons_option}
 use Rattle.std.specs.Ordering.{nat_cmp, is_eq}
@@ -11,9 +11,9 @@ use Rattle.vm_types.specs.declared.call.Object.{Object}
 use Rattle.vm_types.specs.declared.call.Object.TheVariants as object
 use Rattle.vm_types.specs.declared.call.Kind.{Kind}
 use Rattle.vm_types.specs.declared.call.Kind.TheVariants.{Shared, Private}
-use Rattle.addr_space.specs.Space.{Part, has, part_at, piece_at}
+use Rattle.addr_space.specs.Space.{Part, has, begins, part_at, piece_at}
 use Rattle.anon_map.specs.Maps.{Map, holders_of}
-use Rattle.flat_model.proofs.Ranges.{in_range-low}
+use Rattle.flat_model.proofs.Ranges.{in_range-low, in_range-high}
 use Rattle.vm_world.specs.declared.segment.Segment.{Segment}
 use Rattle.vm_world.specs.Segments.{Spot, Spaces, spot_at, zero_map}
 use Rattle.vm_world.specs.FlatMemory.{Memory, zero_maps}
@@ -279,11 +279,74 @@ new-zero m p q n x f is own new r k y there mine place =
     let spot : x ≡ y = let z : Some x ≡ Some y = sym is ∙ ap (λ (j : ℕ). spot_at m.spaces j q) (sym at.0) ∙ ap (spot_at m.spaces r) (sym at.1) ∙ there in cc in
     ap (λ (w : Spot). w.0.object) (sym spot) ∙ new
 
-zero-object : (m : Memory) (z n i : ℕ) → MemoryFits m → finite.get (zero_maps m.spaces) z ≡ Some n → IsNewZero m.spaces n i
-zero-object m z n i f at r k y there mine place =
+pub never-own : (m : Memory) (z n r k : ℕ) (y : Spot) → MemoryFits m → finite.get (zero_maps m.spaces) z ≡ Some n → spot_at m.spaces r k ≡ Some y → y.0.own ≢ Some n
+never-own m z n r k y f at there mine =
     let a = owns-alone m r k y f there (has-own m.world.maps y.0 y.0.kind n mine (own-fits m r k y f there)) in
     let same : n ≡ a.0 = let w : Some n ≡ Some a.0 = sym mine ∙ a.1.own in cc in
-    absurd (a.1.hidden z n at same)
+    a.1.hidden z n at same
+
+-- of one space, the part that shows a map which is had once is the one that has each page which shows it
+begun-counts : (n : ℕ) (parts : List (Part Segment)) (first : ℕ) (a : Part Segment) → begins parts first ≡ Some a → a.piece.shown ≡ Some n → 1 ≤ had n parts
+begun-counts n [] first a is shows = absurd (cc)
+begun-counts n (p ∷ ps) first a is shows =
+    let step = had-step n p ps in
+    elim (test (p.first == first)) [
+      | inl here ↦
+          let same : p ≡ a = let z : Some p ≡ Some a = sym (ap (λ (b : Bool). cond b (Some p) (begins ps first)) here) ∙ is in cc in
+          let one = shown-counts n p.piece (ap (λ (r : Part Segment). r.piece.shown) same ∙ shows) in
+          omega (arith, one, step)
+      | inr past ↦
+          let more = begun-counts n ps first a (sym (ap (λ (b : Bool). cond b (Some p) (begins ps first)) past) ∙ is) shows in
+          omega (arith, more, step)
+    ]
+
+one-part : (n : ℕ) (parts : List (Part Segment)) (first k : ℕ) (a : Part Segment) (y : Spot) → begins parts first ≡ Some a → piece_at parts k ≡ Some y → a.piece.shown ≡ Some n → y.0.shown ≡ Some n → had n parts ≤ 1 → has a k ≡ true
+one-part n [] first k a y is there shows mine le = absurd (cc)
+one-part n (p ∷ ps) first k a y is there shows mine le =
+    let step = had-step n p ps in
+    let rest : has p k ≡ false → piece_at ps k ≡ Some y = λ e. sym (ap (λ (b : Bool). option_map (λ (s : Part Segment). (s.piece, k - s.first)) (cond b (Some p) (part_at ps k))) e) ∙ there in
+    elim (test (p.first == first)) [
+      | inl here ↦
+          let same : p ≡ a = let z : Some p ≡ Some a = sym (ap (λ (b : Bool). cond b (Some p) (begins ps first)) here) ∙ is in cc in
+          elim (test (has p k)) [
+            | inl hk ↦ sym (ap (λ (r : Part Segment). has r k) same) ∙ hk
+            | inr nk ↦ absurd (
+                let one = shown-counts n p.piece (ap (λ (r : Part Segment). r.piece.shown) same ∙ shows) in
+                let more = counted (times_had n) ps k y (rest nk) (shown-counts n y.0 mine) in
+                omega (arith, step, one, more, le))
+          ]
+      | inr past ↦
+          let later : begins ps first ≡ Some a = sym (ap (λ (b : Bool). cond b (Some p) (begins ps first)) past) ∙ is in
+          let more = begun-counts n ps first a later shows in
+          elim (test (has p k)) [
+            | inl hk ↦ absurd (
+                let same : (p.piece, k - p.first) ≡ y = let z : Some (p.piece, k - p.first) ≡ Some y = sym (ap (λ (b : Bool). option_map (λ (s : Part Segment). (s.piece, k - s.first)) (cond b (Some p) (part_at ps k))) hk) ∙ there in cc in
+                let one = shown-counts n p.piece (ap (λ (w : Spot). w.0.shown) same ∙ mine) in
+                omega (arith, step, one, more, le))
+            | inr nk ↦ one-part n ps first k a y later (rest nk) shows mine (omega (arith, step, le))
+          ]
+    ]
+
+-- THE ONE HOLDER of a zero object's map has each page that shows it.
+last-shows : (m : Memory) (p first n : ℕ) (parts : List (Part Segment)) (a : Part Segment) → MemoryFits m → finite.get m.spaces p ≡ Some parts → begins parts first ≡ Some a → a.piece.shown ≡ Some n → holders_of m.world.maps n ≡ 1
+    → (r k : ℕ) (y : Spot) → spot_at m.spaces r k ≡ Some y → y.0.shown ≡ Some n → (r ≡ p) × (a.first ≤ k) × (k < a.first + a.pages)
+last-shows m p first n parts a f at begun shows held r k y there mine =
+    let all : had_in n (finite.entries m.spaces) ≡ 1 = sym (f.segments.holders n) ∙ held in
+    let b = spot-parts m.spaces r k y there in
+    let in_a = sym (finite.get-entries m.spaces p) ∙ at in
+    let in_b = sym (finite.get-entries m.spaces r) ∙ b.1 in
+    elim (cases_eq r p) [
+      | inr ne ↦ absurd (
+          let two = two-spaces n p r (finite.entries m.spaces) parts b.0 (λ e. ne (sym e)) in_a in_b in
+          let one = begun-counts n parts first a begun shows in
+          let more = counted (times_had n) b.0 k y b.2 (shown-counts n y.0 mine) in
+          omega (arith, two, one, more, all))
+      | inl e ↦
+          let same : b.0 ≡ parts = let z : Some b.0 ≡ Some parts = sym b.1 ∙ ap (finite.get m.spaces) e ∙ at in cc in
+          let le = space-counts n p (finite.entries m.spaces) parts in_a in
+          let has_k = one-part n parts first k a y begun (ap (λ (ps : List (Part Segment)). piece_at ps k) (sym same) ∙ b.2) shows mine (omega (arith, le, all)) in
+          (e, in_range-low a.first a.pages k has_k, in_range-high a.first a.pages k has_k)
+    ]
 
 pub places_law : PlacesLaw
 places_law = record {
@@ -292,7 +355,8 @@ places_law = record {
       let same : a.0 ≡ n = let z : Some a.0 ≡ Some n = sym a.1.own ∙ own in cc in
       subst (λ (j : ℕ). OwnsAlone m.spaces p q j x.1 x) same a.1;
   zeros = new-zero;
-  shown = zero-object;
+  shown = λ m z n i f at r k y there mine place. absurd (never-own m z n r k y f at there mine);
+  last = last-shows;
 }
 
 -- NO PAGE SHOWS A MAP that is a page's own.

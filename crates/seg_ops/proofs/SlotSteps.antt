@@ -1,28 +1,33 @@
 -- THE PAGE OF A SLOT IS MADE: what the world is then.
-use Rattle.std.proofs.Common.{◌≡◌, ℕ, true, List, Option, refl, sym, ap, ◌∙◌, arith}
+use Rattle.std.proofs.Common.{◌≡◌, ℕ, Bool, true, List, Option, Some, None, refl, sym, ap, ◌∙◌, arith}
+use Rattle.std.specs.Prelude.{IfSome}
 use Rattle.page_hash.specs.Names.{is_name}
 use Rattle.page_lock.specs.Rows.{row_at}
+use Rattle.page_store.specs.Laws.{FillsPage}
 use Rattle.page_store.specs.Moves.{FillsFrame, after_taking}
 use Rattle.page_store.specs.Notes.{Notes}
-use Rattle.page_store.specs.Seen.{StoreSeen}
-use Rattle.page_store.specs.Steps.{next_name}
+use Rattle.page_store.specs.Seen.{StoreSeen, IsListedFrame, residence}
+use Rattle.page_store.specs.Steps.{next_frame, next_name}
 use Rattle.page_store.specs.StoreFits.{StoreFits}
 use Rattle.page_store.specs.Table.{Table}
 use Rattle.page_store.specs.Value.{value, tells}
 use Rattle.page_store.specs.declared.place.Place.{Place}
+use Rattle.page_store.specs.declared.residence.Residence.TheVariants.{Home}
 use Rattle.page_store.proofs.TableLemmas.{table_law}
 use Rattle.anon_map.specs.Maps.{Map}
-use Rattle.anon_slots.specs.Slots.{Slots}
+use Rattle.anon_slots.specs.Slots.{Slots, count_at}
 use Rattle.flat_model.specs.Words.{Page}
 use Rattle.vm_world.specs.MemoryFits.{MemoryFits}
 use Rattle.vm_world.specs.NotesFit.{NotesFit}
 use Rattle.vm_world.specs.Segments.{Spaces}
+use Rattle.vm_world.specs.StateSteps.{PendsTails}
 use Rattle.vm_world.specs.World.{World, slot_name, page_table, world_table}
 use Rattle.vm_world.proofs.FrameRule.{exists-page}
 use Rattle.vm_world.proofs.PageNames.{slot-page}
-use Rattle.seg_ops.specs.Slots.{MakesSlot, MakesPage}
+use Rattle.seg_ops.specs.Slots.{MakesSlot, MakesHome, MakesPage}
 use Rattle.seg_ops.proofs.Fills.{TakesFor}
 use Rattle.seg_ops.proofs.FillSteps.{next-whole}
+use Rattle.seg_ops.proofs.Pending.{loses, lost-before}
 use Rattle.seg_ops.proofs.SlotMemory.{with_slot, AreShown, free-unnamed, exists-apart, made-memory}
 use Rattle.seg_ops.proofs.SlotNotes.{made-notes}
 use Rattle.seg_ops.proofs.SlotTables.{table-else, table-spot, page-name-made, fits-made}
@@ -58,3 +63,29 @@ made-page w spaces new anon put m i s frame bytes f k t dirty shown fills =
           ∙ ap (λ (p : Place). after_taking (next_name w.store) n p (value w.store notes (page_table w.files anon) n)) place
           ∙ ap (after_taking (next_name w.store) n (world_table w n)) (table_law.same w.store notes (world_table w) (page_table w.files anon) n place ∙ sym (value-is w notes n is));
     }
+
+-- The slot is held, and its page home.
+pub made-home : (old new : World) (pending more slot : ℕ) (modified : Bool) (bytes : Notes → Table → List ℕ) → FillsPage old.store new.store (slot_name slot) modified bytes → count_at old.anon slot ≡ 0 → count_at new.anon slot ≡ 1
+    → PendsTails old (is_name (next_name old.store)) pending more → MakesHome old new pending more slot
+made-home old new pending more slot modified bytes fills free once pends = record {
+  free = free;
+  once = once;
+  home = both (next_frame old.store) fills.home fills.unlisted;
+  took = loses old new fills.sound fills.lost;
+  pends = pends;
+}
+  where
+    both : (o : Option ℕ) → IfSome o (λ frame. residence new.store (slot_name slot) ≡ Home frame) → IfSome o (λ frame. ¬ IsListedFrame new.store frame)
+        → IfSome o (λ frame. (residence new.store (slot_name slot) ≡ Home frame) × (¬ IsListedFrame new.store frame))
+    both None home unlisted = tt
+    both (Some frame) home unlisted = (home, unlisted)
+
+-- The same, where another slot was counted once less before.
+pub home-again : (old new : World) (anon : Slots) (maps : List (Option Map)) (pending more slot : ℕ) → count_at old.anon slot ≡ 0 → MakesHome (record old { anon = anon; maps = maps }) new pending more slot → MakesHome old new pending more slot
+home-again old new anon maps pending more slot free made = record {
+  free = free;
+  once = made.once;
+  home = made.home;
+  took = lost-before (next_name old.store) old (record old { anon = anon; maps = maps }) new refl made.took;
+  pends = record { bits = made.pends.bits; below = made.pends.below };
+}

@@ -1,14 +1,14 @@
 -- THE WORLD OF THE SLOTS' TRIAL fits: idle frames, and two maps that hold one slot, whose page is in swap.
-use Rattle.std.proofs.Common.{◌≡◌, ◌≢◌, ℕ, zero, suc, ◌+◌, ◌-◌, ◌*◌, ◌<◌, Bool, true, false, List, [], ◌∷◌, length, map, replicate, Option, Some, None, refl, sym, ap, ◌∙◌, inl, inr, subst, arith, slice_index, slice_index_or}
-use Rattle.std.specs.Prelude.{All, IsSome, is_some, option_map, sum_by, flat_map, filter_map, option_and_then, slice_get}
+use Rattle.std.proofs.Common.{◌≡◌, ◌≢◌, ℕ, zero, suc, ◌+◌, ◌-◌, ◌*◌, ◌<◌, ◌≤◌, Bool, true, false, List, [], ◌∷◌, length, map, replicate, Option, Some, None, refl, sym, ap, ◌∙◌, inl, inr, subst, arith, slice_index, slice_index_or}
+use Rattle.std.specs.Prelude.{All, is_some, option_map, sum_by, flat_map, filter_map, option_and_then}
 use Rattle.std.specs.Ordering.{nat_cmp}
 use Rattle.std.specs.Cmp.{nat_cmp_total}
 use Rattle.std.specs.FinMap as finite
 use Rattle.std.proofs.lemmas.Bool.{cases_eq}
 use Rattle.std.proofs.lemmas.List.Elements.{All-nil, All-cons}
 use Rattle.std.proofs.lemmas.List.Sums.{sum_by-cons}
-use Rattle.addr_space.specs.Space.{Part, IsInOrder, piece_at}
-use Rattle.anon_map.specs.Maps.{Map, IsUnused, fresh_map, holders_of, places_of, with_map, with_places, anon_map_at}
+use Rattle.addr_space.specs.Space.{Part, IsInOrder, part_at, piece_at, put}
+use Rattle.anon_map.specs.Maps.{Map, IsUnused, holders_of, places_of}
 use Rattle.anon_slots.specs.Slots.{Slots}
 use Rattle.block_device.specs.DiskSeen.{DiskSeen}
 use Rattle.flat_model.proofs.Ranges.{get-insert_here, get-insert_apart}
@@ -31,15 +31,17 @@ use Rattle.vm_world.specs.declared.segment.Segment.{Segment}
 use Rattle.vm_world.specs.CountsFit.{CountsFit, SegmentsFit, SegmentFits, ShowsZero, places_in, times_held, times_had, reserved_pages, slots_for_part}
 use Rattle.vm_world.specs.FlatMemory.{zero_maps}
 use Rattle.vm_world.specs.FramesFit.{FilesFit, DisksFit}
+use Rattle.vm_world.specs.SegmentSteps.{MayMakeZero, ChangesSegments, segment_cell, with_new_cells, with_zero_object, with_zero_part}
 use Rattle.vm_world.specs.Segments.{segments_of, spot_at, zero_map}
-use Rattle.vm_world.specs.World.{World, file_blocks, is_unpushed, slot_name, world_table}
+use Rattle.vm_world.specs.World.{World, file_blocks, is_unpushed, slot_name}
 use Rattle.vm_world.proofs.Counting.{adds, adds-other}
+use Rattle.vm_world.proofs.SegmentSteps.{segment_rule}
 use Rattle.vm_world.proofs.Spaces.{map-empty, entries-empty}
 use Rattle.flat_model.specs.Flat.{Flat}
 use Rattle.vm_world.specs.CallSteps.{ChangesMemory}
-use Rattle.seg_ops.specs.Empties.{OwnsPlaces}
+use Rattle.seg_ops.specs.Empties.{IsUnloadedZero, OwnsPlaces}
 use Rattle.seg_ops.specs.Slots.{OwnsAlone}
-use Rattle.seg_ops.specs.SlotTrials.{holding_segment, holding_page, holding_part, holding_spaces, holding_map, holding_maps, holding_slots, HoldsOne}
+use Rattle.seg_ops.specs.SlotTrials.{holding_segment, holding_page, holding_part, holding_spaces, holding_map, holding_maps, holding_slots, HoldsOne, object_segment, object_part, object_spaces}
 use Rattle.seg_ops.specs.Trials.{IsTrialIn}
 use Rattle.seg_ops.proofs.SlotOwners.{places_law}
 use Rattle.seg_ops.proofs.StillSteps.{memory_of}
@@ -74,6 +76,11 @@ holding-reserved =
     omega (arith, a, b)
 
 -- THE COUNTS
+replicated : {X : Type 0} (n : ℕ) (x : X) (k : ℕ) → slice_index_or (replicate n x) k x ≡ x
+replicated zero x k = refl
+replicated (suc n) x zero = refl
+replicated (suc n) x (suc k) = replicated n x k
+
 holding-counts : (pushed : Bool) (anon : Slots) → HoldsOne pushed anon → CountsFit anon holding_maps
 holding-counts pushed anon h = record {
   sound = h.sound;
@@ -89,12 +96,9 @@ holding-counts pushed anon h = record {
         let d = sum_by-cons (adds s) None [] in
         omega (arith, a, b, c, d)
 
-    count : (s : ℕ) → adds s (Some 0) + adds s (Some 0) ≡ slice_index (2 ∷ 0 ∷ 0 ∷ 0 ∷ []) s
+    count : (s : ℕ) → adds s (Some 0) + adds s (Some 0) ≡ slice_index (2 ∷ replicate 6 0) s
     count zero = refl
-    count (suc zero) = refl
-    count (suc (suc zero)) = refl
-    count (suc (suc (suc zero))) = refl
-    count (suc (suc (suc (suc s)))) = let x = adds-other (suc (suc (suc (suc s)))) 0 (omega arith) in omega (arith, x)
+    count (suc s) = let x = adds-other (suc s) 0 (omega arith) in let y = replicated {X = ℕ} 6 0 s in omega (arith, x, y)
 
 -- THE SEGMENTS
 holding-part_fits : (m : ℕ) → m < 2 → SegmentFits 0 holding_maps (holding_part m)
@@ -131,15 +135,10 @@ counted : {X : Type 0} (n : ℕ) (x : X) → length (replicate n x) ≡ n
 counted zero x = refl
 counted (suc n) x = ap suc (counted n x)
 
-replicated : {X : Type 0} (n : ℕ) (x : X) (k : ℕ) → slice_index_or (replicate n x) k x ≡ x
-replicated zero x k = refl
-replicated (suc n) x zero = refl
-replicated (suc n) x (suc k) = replicated n x k
-
 pub bay-other : (frames : ℕ) (s : StoreSeen) (d : DiskSeen) → IsNew s frames [] (Some d) → (k : ℕ) → k ≢ 8 → bay_at s.bays k ≡ missing
 bay-other frames s d new k ne = new.bays.others k ne (λ i lt e. omega (arith, lt))
 
-swap-disks : (frames : ℕ) (s : StoreSeen) (d : DiskSeen) → IsNew s frames [] (Some d) → d.size ≡ 4 → DisksFit s.bays no_files.disks 4
+swap-disks : (frames : ℕ) (s : StoreSeen) (d : DiskSeen) → IsNew s frames [] (Some d) → d.size ≡ 7 → DisksFit s.bays no_files.disks 7
 swap-disks frames s d new size = record {
   numbers = λ number blocks is. absurd (none number blocks is);
   there = λ number blocks is. absurd (none number blocks is);
@@ -181,7 +180,7 @@ pub record HoldsFresh (frames : ℕ) (pushed : Bool) (w : World) : Type 0 where
   pub store : IsNew w.store frames [] (Some disk)
   pub sound : IsSoundStore w.store
   pub still : (number : ℕ) → IsStill (bay_at w.store.bays number)
-  pub size : disk.size ≡ 4
+  pub size : disk.size ≡ 7
   pub anon : HoldsOne pushed w.anon
   pub maps : w.maps ≡ holding_maps
   pub leads : w.hat.frames ≡ frames
@@ -199,8 +198,8 @@ module _ (frames : ℕ) (pushed : Bool) (w : World) (h : HoldsFresh frames pushe
   unloaded : (k : ℕ) → slice_index_or w.hat.places k None ≡ None
   unloaded k = ap (λ (places : List (Option Translation)). slice_index_or places k None) h.hat ∙ replicated h.places None k
 
-  slots-four : length w.anon.counts ≡ 4
-  slots-four = ap (λ (a : Slots). length a.counts) h.anon.are
+  slots-seven : length w.anon.counts ≡ 7
+  slots-seven = ap (λ (a : Slots). length a.counts) h.anon.are
 
   pub holding-trial : IsTrialIn holding_spaces w
   holding-trial = record {
@@ -212,7 +211,7 @@ module _ (frames : ℕ) (pushed : Bool) (w : World) (h : HoldsFresh frames pushe
         exist = λ k n is. absurd (unnamed k n is);
       };
       files = subst FilesFit (sym h.files) no-files;
-      disks = subst (λ (f : FilesSeen). DisksFit w.store.bays f.disks (length w.anon.counts)) (sym h.files) (subst (λ (c : ℕ). DisksFit w.store.bays no_files.disks c) (sym slots-four) (swap-disks frames w.store h.disk h.store h.size));
+      disks = subst (λ (f : FilesSeen). DisksFit w.store.bays f.disks (length w.anon.counts)) (sym h.files) (subst (λ (c : ℕ). DisksFit w.store.bays no_files.disks c) (sym slots-seven) (swap-disks frames w.store h.disk h.store h.size));
       pool = record {
         leads = h.leads ∙ sym (ap (λ (fs : List (Option (List ℕ))). length fs) h.store.frames ∙ counted frames (Some zeros));
         single = λ i j space page is _. absurd (let z : false ≡ true = sym (ap (pool.holds space page) (unloaded i)) ∙ is in cc);
@@ -281,3 +280,69 @@ pub holding-both : (w : World) (m : ℕ) → pool.translation_at w.hat.places 1 
 holding-both w m a b zero lt = a
 holding-both w m a b (suc zero) lt = b
 holding-both w m a b (suc (suc i)) lt = absurd (omega (arith, lt))
+
+-- THE PROCESS SHOWS AN OBJECT of zeros too.
+abbrev object_parts : List (Part Segment)
+object_parts = put object_part holding_parts
+
+-- its three pages
+object-page : (P : ℕ → Type 0) → P 5 → P 6 → P 7 → (q : ℕ) → 5 ≤ q → q < 5 + 3 → P q
+object-page P a b c q low high = elim (cases_eq q 5) [
+  | inl e ↦ subst P (sym e) a
+  | inr x ↦ elim (cases_eq q 6) [ inl e ↦ subst P (sym e) b | inr y ↦ let e : 7 ≡ q = omega (arith, low, high, x, y) in subst P e c ]
+]
+
+-- the map that comes is the third
+pub object-number : (number : ℕ) → IsUnused holding_maps number → number ≡ 2
+object-number zero unused = absurd (let z : holding_map ≡ None = unused.absent in cc)
+object-number (suc zero) unused = absurd (let z : holding_map ≡ None = unused.absent in cc)
+object-number (suc (suc number)) unused = let next = unused.next in omega (arith, next)
+
+pub object-trial : (w : World) → IsTrialIn holding_spaces w → w.anon ≡ holding_slots true → w.maps ≡ holding_maps → IsTrialIn object_spaces (with_zero_part (memory_of w holding_spaces) 1 holding_parts object_part).world
+object-trial w t slots maps = record { memory = comes.memory; notes = comes.notes no_notes t.notes }
+  where
+    free : (q : ℕ) → 5 ≤ q → q < 5 + 3 → part_at holding_parts q ≡ None
+    free q low high = object-page (λ q. part_at holding_parts q ≡ None) refl refl refl q low high
+
+    size : length (holding_slots true).counts ≡ 7
+    size = refl
+
+    may : MayMakeZero (memory_of w holding_spaces) holding_parts object_part 0 2
+    may = record {
+      place = record { placed = record { behind = omega arith; some = omega arith; within = omega arith }; pages = refl; end = omega arith; within = refl; free = free };
+      shared = refl;
+      object = refl;
+      own = refl;
+      shown = refl;
+      unnamed = ap (λ (zs : finite.FinMap nat_cmp ℕ). finite.get zs 0) holding-zeros ∙ finite.get-empty nat_cmp 0;
+      unused = subst (λ (ms : List (Option Map)). IsUnused ms 2) (sym maps) (record { absent = refl; next = omega arith });
+      room = subst (λ (a : Slots). a.reserved + 3 ≤ length a.counts) (sym slots) (omega (arith, size));
+    }
+
+    comes : ChangesSegments 1 (memory_of w holding_spaces) (with_zero_part (memory_of w holding_spaces) 1 holding_parts object_part) (λ F. with_new_cells (with_zero_object F 0 3) 1 5 3 (segment_cell object_segment))
+    comes = segment_rule.put_zero (memory_of w holding_spaces) 1 holding_parts object_part 0 2 t.memory (get-insert_here (finite.empty {X = List (Part Segment)} {R = nat_cmp}) 1 holding_parts) may
+
+object-entries : finite.entries object_spaces ≡ (1, object_parts) ∷ []
+object-entries = finite.entries-insert nat_cmp_total holding_spaces 1 object_parts ∙ ap (finite.put nat_cmp 1 object_parts) holding-entries
+
+pub object-zero : finite.get (zero_maps object_spaces) 0 ≡ Some 2
+object-zero =
+    ap (λ (es : List (ℕ × List (Part Segment))). finite.get {R = nat_cmp} (finite.from_entries (flat_map (λ (ps : List (Part Segment)). filter_map (λ (x : Part Segment). zero_map x.piece) ps) (map (λ e. e.1) es))) 0) object-entries
+    ∙ finite.get-from_entries nat_cmp_total ((0, 2) ∷ []) 0
+
+-- no page shows it with a translation, where its own three have none
+pub object-unloaded : (w : World) → IsTrialIn object_spaces w → pool.translation_at w.hat.places 1 5 ≡ None → pool.translation_at w.hat.places 1 6 ≡ None → pool.translation_at w.hat.places 1 7 ≡ None → IsUnloadedZero w.hat.places object_spaces 0 2
+object-unloaded w t first second third = record {
+  zero = object-zero;
+  unloaded = λ p q x is shows.
+      let at = places_law.last (memory_of w object_spaces) 1 5 2 object_parts object_part t.memory (get-insert_here holding_spaces 1 object_parts) refl refl held p q x is shows in
+      ap (λ (a : ℕ). pool.translation_at w.hat.places a q) at.0 ∙ object-page (λ k. pool.translation_at w.hat.places 1 k ≡ None) first second third q at.1 at.2;
+}
+  where
+    held : holders_of w.maps 2 ≡ 1
+    held =
+        t.memory.segments.holders 2
+        ∙ ap (λ (es : List (ℕ × List (Part Segment))). sum_by (times_had 2) (flat_map (λ (ps : List (Part Segment)). map (λ (x : Part Segment). x.piece) ps) (map (λ e. e.1) es))) object-entries
+
+pub object-changes : {means : Flat → Flat → Type 0} (p : ℕ) (u v : World) → IsTrialIn object_spaces u → ChangesMemory p (memory_of u object_spaces) (memory_of v object_spaces) means → IsTrialIn object_spaces v
+object-changes p u v t c = record { memory = c.memory; notes = c.notes no_notes t.notes }

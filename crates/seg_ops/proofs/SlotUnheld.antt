@@ -36,7 +36,7 @@ use Rattle.seg_ops.proofs.StillSteps.{memory_of}
 
 module _ (old new : World) (spaces : Spaces) (m i s : ℕ) (k : EmptiesPlace old new spaces m i s) (notes : Notes) (nf : NotesFit old notes) (tell : AllTell old notes) where
   -- what the places hold
-  places-left : PutsHeld (place_contents (page_value old notes) old.maps) (place_contents (page_value new notes) new.maps) m i None
+  pub places-left : PutsHeld (place_contents (page_value old notes) old.maps) (place_contents (page_value new notes) new.maps) m i None
   places-left = record {
     there = ap (λ (ps : List (Option Map)). place_contents (page_value new notes) ps m i) k.slot.set ∙ ap (option_map (λ t. page_value new notes (slot_name t))) (slot-here old.maps m i None k.slot.within);
     others = λ a b apart.
@@ -58,7 +58,7 @@ module _ (old new : World) (spaces : Spaces) (m i s : ℕ) (k : EmptiesPlace old
     spaces = spaces;
   }
 
-  files-left : file_contents (page_value new notes) ≡ file_contents (page_value old notes)
+  pub files-left : file_contents (page_value new notes) ≡ file_contents (page_value old notes)
   files-left = λ j f index. one f index j
     where
       one : (f index : ℕ) → file_contents (page_value new notes) f index ≡ file_contents (page_value old notes) f index

@@ -1,16 +1,20 @@
 -- Places of anon maps that are emptied. Public clauses cite this.
 use Rattle.std.specs.Prelude.{◌≡◌, ◌≢◌, ◌↔◌, ◌<◌, ◌+◌, ℕ, zero, suc, List, length, Option, Some, None, IsTrue, slice_set}
+use Rattle.std.specs.FinMap as finite
 use Rattle.page_hash.specs.declared.PageName.{PageName}
 use Rattle.page_store.specs.Notes.{Notes}
 use Rattle.anon_map.specs.Maps.{Map, places_of, with_places}
 use Rattle.anon_slots.specs.Slots.{Slots, count_at}
+use Rattle.hat_layer.specs.Pool.{translation_at}
 use Rattle.hat_layer.specs.declared.translation.Translation.{Translation}
+use Rattle.vm_world.specs.CallSteps.{KeepsMachine}
 use Rattle.vm_world.specs.CountsFit.{CountsFit}
+use Rattle.vm_world.specs.FlatMemory.{zero_maps}
 use Rattle.vm_world.specs.MemoryFits.{MemoryFits}
 use Rattle.vm_world.specs.NotesFit.{NotesFit}
-use Rattle.vm_world.specs.Pages.{page_value}
+use Rattle.vm_world.specs.Pages.{file_contents, page_value, place_contents}
 use Rattle.vm_world.specs.declared.segment.Segment.{Segment}
-use Rattle.vm_world.specs.Segments.{Spaces, spot_at}
+use Rattle.vm_world.specs.Segments.{Spaces, Spot, spot_at}
 use Rattle.vm_world.specs.SpaceSteps.{AreUnloaded}
 use Rattle.vm_world.specs.World.{World, core_of, slot_name, slot_in, page_exists, AllTell}
 
@@ -42,6 +46,20 @@ pub record EmptiesPlace (old new : World) (spaces : Spaces) (m i s : ℕ) : Type
   pub pages : (notes : Notes) (name : PageName) → NotesFit old notes → AllTell old notes → (name ≡ slot_name s → IsTrue (page_exists new.files new.anon name))
       → page_value new notes name ≡ page_value old notes name
 
+-- Places of a map are emptied, which are told. Files, disks and translations stay, and so do the lengths of the maps; memory and the notes fit as before, and
+-- disks tell where they told; and the pages of files, and what each other place holds, are as they were.
+pub record EmptiesPlaces (old new : World) (spaces : Spaces) (m : ℕ) (emptied : ℕ → Type 0) : Type 0 where
+  pub machine : KeepsMachine old new
+  pub files : new.files ≡ old.files
+  pub lengths : (number : ℕ) → length (places_of new.maps number) ≡ length (places_of old.maps number)
+  pub memory : MemoryFits (record { world = new; spaces = spaces })
+  pub notes : (notes : Notes) → NotesFit old notes → NotesFit new notes
+  pub tells : (notes : Notes) → NotesFit old notes → AllTell old notes ↔ AllTell new notes
+  pub pages : (notes : Notes) (f index : ℕ) → NotesFit old notes → AllTell old notes → file_contents (page_value new notes) f index ≡ file_contents (page_value old notes) f index
+  pub none : (notes : Notes) (i : ℕ) → NotesFit old notes → AllTell old notes → emptied i → place_contents (page_value new notes) new.maps m i ≡ None
+  pub others : (notes : Notes) (number i : ℕ) → NotesFit old notes → AllTell old notes → (number ≡ m → emptied i → ⊥)
+      → place_contents (page_value new notes) new.maps number i ≡ place_contents (page_value old notes) old.maps number i
+
 -- The places with none of the n from a place on holding a slot.
 abbrev pub places_emptied : List (Option ℕ) → ℕ → ℕ → List (Option ℕ)
 places_emptied places from zero = places
@@ -53,3 +71,8 @@ pub record OwnsPlaces (translations : List (Option Translation)) (spaces : Space
   pub own : segment.own ≡ Some m
   pub here : (j : ℕ) → j < n → spot_at spaces p (first + j) ≡ Some (segment, from + j)
   pub unloaded : AreUnloaded translations p first n
+
+-- The map is that of a zero object, and no page that shows it has a translation.
+pub record IsUnloadedZero (translations : List (Option Translation)) (spaces : Spaces) (z m : ℕ) : Type 0 where
+  pub zero : finite.get (zero_maps spaces) z ≡ Some m
+  pub unloaded : (p q : ℕ) (x : Spot) → spot_at spaces p q ≡ Some x → x.0.shown ≡ Some m → translation_at translations p q ≡ None

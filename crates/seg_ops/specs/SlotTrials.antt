@@ -1,10 +1,10 @@
 -- A machine on which slots are tried: process 1 has two private mappings of new zero memory, and a page of each has the same slot. Inside: no public
 -- clause cites this.
-use Rattle.std.specs.Prelude.{◌≡◌, ◌<◌, ◌+◌, ◌*◌, ℕ, Bool, false, List, [], ◌∷◌, length, Option, Some, None}
+use Rattle.std.specs.Prelude.{◌≡◌, ◌<◌, ◌+◌, ◌*◌, ℕ, Bool, false, List, [], ◌∷◌, length, replicate, Option, Some, None}
 use Rattle.std.specs.FinMap as finite
-use Rattle.vm_types.specs.declared.call.Kind.TheVariants.{Private}
+use Rattle.vm_types.specs.declared.call.Kind.TheVariants.{Shared, Private}
 use Rattle.vm_types.specs.declared.call.Object.TheVariants as object
-use Rattle.addr_space.specs.Space.{Part}
+use Rattle.addr_space.specs.Space.{Part, put}
 use Rattle.anon_map.specs.Maps.{Map, IsMapThere, places_of}
 use Rattle.anon_slots.specs.Slots.{Slots, IsSoundAnonSlots}
 use Rattle.hat_layer.specs.Pool.{translation_at}
@@ -27,6 +27,16 @@ holding_part m = record { first = 2 * m + 1; pages = 2; piece = holding_segment 
 abbrev pub holding_spaces : Spaces
 holding_spaces = finite.insert finite.empty 1 (holding_part 0 ∷ holding_part 1 ∷ [])
 
+-- The process with an object of three pages of zeros behind them, which has the third map.
+abbrev pub object_segment : Segment
+object_segment = record { pages = 3; prot = record { 0 = 3 }; max = record { 0 = 3 }; kind = Shared; object = object.Zero 0; index = 0; own = None; shown = Some 2 }
+
+abbrev pub object_part : Part Segment
+object_part = record { first = 5; pages = 3; piece = object_segment }
+
+abbrev pub object_spaces : Spaces
+object_spaces = finite.insert holding_spaces 1 (put object_part (holding_part 0 ∷ holding_part 1 ∷ []))
+
 -- The first place of each map holds slot 0, whose page is in swap.
 abbrev pub holding_map : Option Map
 holding_map = Some (record { places = Some 0 ∷ None ∷ []; holders = 1 })
@@ -36,7 +46,7 @@ holding_maps = holding_map ∷ holding_map ∷ []
 
 -- Whose page was pushed, or wasn't.
 abbrev pub holding_slots : Bool → Slots
-holding_slots pushed = record { counts = 2 ∷ 0 ∷ 0 ∷ 0 ∷ []; swapped = pushed ∷ false ∷ false ∷ false ∷ []; reserved = 4 }
+holding_slots pushed = record { counts = 2 ∷ replicate 6 0; swapped = pushed ∷ replicate 6 false; reserved = 4 }
 
 pub record HoldsOne (pushed : Bool) (slots : Slots) : Type 0 where
   pub are : slots ≡ holding_slots pushed

@@ -1,10 +1,15 @@
 -- Slots that are made for places of anon maps, with their pages. Public clauses cite this.
-use Rattle.std.specs.Prelude.{◌≡◌, ◌≢◌, ◌↔◌, ◌<◌, ◌-◌, ℕ, Bool, false, List, length, Option, Some, None, IsTrue, slice_index_or, slice_set}
+use Rattle.std.specs.Prelude.{◌≡◌, ◌≢◌, ◌↔◌, ◌<◌, ◌≤◌, ◌+◌, ◌-◌, ℕ, Bool, false, List, length, Option, Some, None, IsTrue, IfSome, slice_index_or, slice_set}
 use Rattle.std.specs.FinMap as finite
 use Rattle.std.specs.Option.{option_map_or}
 use Rattle.page_hash.specs.declared.PageName.{PageName}
+use Rattle.page_hash.specs.Names.{is_name}
 use Rattle.page_store.specs.Notes.{Notes}
-use Rattle.anon_map.specs.Maps.{Map, places_of, with_places}
+use Rattle.page_store.specs.Seen.{residence, IsListedFrame}
+use Rattle.page_store.specs.Steps.{next_frame, next_name}
+use Rattle.page_store.specs.declared.residence.Residence.TheVariants.{Home}
+use Rattle.addr_space.specs.Space.{Part, begins}
+use Rattle.anon_map.specs.Maps.{Map, holders_of, places_of, with_places}
 use Rattle.anon_slots.specs.Slots.{Slots, count_at, with_count, with_new_slot}
 use Rattle.flat_model.specs.Access.{with_cell}
 use Rattle.flat_model.specs.Flat.{Flat, cell_at}
@@ -16,7 +21,10 @@ use Rattle.vm_world.specs.MemoryFits.{MemoryFits}
 use Rattle.vm_world.specs.NotesFit.{NotesFit}
 use Rattle.vm_world.specs.Pages.{page_value}
 use Rattle.vm_world.specs.Segments.{Spaces, Spot, spot_at}
+use Rattle.vm_world.specs.Serving.{LosesFrame}
+use Rattle.vm_world.specs.StateSteps.{PendsTails}
 use Rattle.vm_world.specs.World.{World, core_of, slot_name, slot_in, world_table, page_exists, AllTell}
+use Rattle.vm_world.specs.declared.segment.Segment.{Segment}
 use Rattle.vm_world.specs.WorldSteps.{cut_page}
 
 -- A slot that no place held is held by one; each other slot is in use where it was, and one that a single place held still is; the slot was never pushed,
@@ -48,6 +56,15 @@ pub record GivesSlot (old new : Slots) (maps put : List (Option Map)) (m i s : �
   pub alone : count_at new s ≡ 1
   pub counts : new ≡ with_new_slot (anon_left old (slot_in maps m i)) s
   pub set : put ≡ with_places maps m (slice_set (places_of maps m) i (Some s))
+
+-- A slot that no place held is made, and its page is home in the frame that was taken next, on neither list. The name that this frame held lost it, and the
+-- tail of the file whose last page that was is pending.
+pub record MakesHome (old new : World) (pending more slot : ℕ) : Type 0 where
+  pub free : count_at old.anon slot ≡ 0
+  pub once : count_at new.anon slot ≡ 1
+  pub home : IfSome (next_frame old.store) (λ frame. (residence new.store (slot_name slot) ≡ Home frame) × (¬ IsListedFrame new.store frame))
+  pub took : IfSome (next_name old.store) (λ name. LosesFrame old new name)
+  pub pends : PendsTails old (is_name (next_name old.store)) pending more
 
 -- A slot is made for a place, with its page, in a frame that is taken. Files, disks and translations stay; memory and the notes fit as before, and disks
 -- tell where they told; the slot's page has these bytes; and each page that existed keeps its value, but that the names of taken frames may be cut at
@@ -85,10 +102,13 @@ abbrev pub with_own_page : Flat → ℕ → ℕ → Page → Flat
 with_own_page F p q new = option_map_or (λ c. with_cell F p q (record c { own = Some new })) (cell_at F p q) F
 
 -- Where memory fits, the own place of a page is that of this page alone; that of a page of new zero memory is one of new zero memory; and so is each place
--- of a zero object's map, which is no page's own.
+-- of a zero object's map, which is no page's own. Where such a map has one holder, the pages of one part alone show it.
 pub record PlacesLaw : Type 0 where
   pub alone : (m : Memory) (p q number : ℕ) (x : Spot) → MemoryFits m → spot_at m.spaces p q ≡ Some x → x.0.own ≡ Some number
       → OwnsAlone m.spaces p q number x.1 x
   pub zeros : (m : Memory) (p q number : ℕ) (x : Spot) → MemoryFits m → spot_at m.spaces p q ≡ Some x → x.0.own ≡ Some number
       → x.0.object ≡ object.NewZero → IsNewZero m.spaces number x.1
   pub shown : (m : Memory) (z number i : ℕ) → MemoryFits m → finite.get (zero_maps m.spaces) z ≡ Some number → IsNewZero m.spaces number i
+  pub last : (m : Memory) (p first number : ℕ) (parts : List (Part Segment)) (a : Part Segment) → MemoryFits m → finite.get m.spaces p ≡ Some parts
+      → begins parts first ≡ Some a → a.piece.shown ≡ Some number → holders_of m.world.maps number ≡ 1
+      → (r k : ℕ) (y : Spot) → spot_at m.spaces r k ≡ Some y → y.0.shown ≡ Some number → (r ≡ p) × (a.first ≤ k) × (k < a.first + a.pages)

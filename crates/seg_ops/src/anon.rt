@@ -1,21 +1,19 @@
 //! Pages of anonymous memory: a slot is made for an empty place of an anon map, with its page.
-ghost use Rattle.std.specs.Prelude.{◌≡◌, ◌<◌, ℕ, length, true, Some, None, IsSome, IfSome, slice_set};
+ghost use Rattle.std.specs.Prelude.{◌≡◌, ◌<◌, ℕ, length, true, Some, None, IsSome, slice_set};
 ghost use Rattle.core_arena.specs.Bytes.{zeros};
 ghost use Rattle.hat_layer.specs.Pool.{translation_at};
 ghost use Rattle.page_hash.specs.Names.{find, is_name};
 ghost use Rattle.page_store.specs.Seen.{IsListedFrame, residence};
 ghost use Rattle.page_store.specs.Steps.{next_frame, next_name, after_fill, home_bytes};
 ghost use Rattle.anon_map.specs.Maps.{IsMapThere, places_of, with_places};
-ghost use Rattle.anon_slots.specs.Slots.{count_at, with_new_slot};
+ghost use Rattle.anon_slots.specs.Slots.{with_new_slot};
 ghost use Rattle.flat_model.specs.Step.{tails_cleared};
 ghost use Rattle.vm_world.specs.CallSteps.{ChangesMemory};
 ghost use Rattle.vm_world.specs.MemoryFits.{MemoryFits};
 ghost use Rattle.vm_world.specs.Segments.{Spaces, Spot};
-ghost use Rattle.vm_world.specs.Serving.{LosesFrame};
-ghost use Rattle.vm_world.specs.StateSteps.{PendsTails};
 ghost use Rattle.vm_world.specs.World.{world_seen, slot_name, slot_in};
 ghost use Rattle.vm_world.specs.WorldSteps.{tails_lost};
-ghost use Rattle.seg_ops.specs.Slots.{MakesPage, IsNewZero, OwnsAlone, PlacesLaw, with_own_page};
+ghost use Rattle.seg_ops.specs.Slots.{MakesHome, MakesPage, IsNewZero, OwnsAlone, PlacesLaw, with_own_page};
 
 use crate::tails::pend_tail;
 use block_device::Disk;
@@ -31,22 +29,14 @@ pub fn make_zero<D: Disk>(world: &mut World<D>, map: u32, place: u32) -> u32
     requires available { IsSome (next_frame world.old.store) }
     requires fits { (spaces : Spaces)
         × MemoryFits (record { world = world_seen world.old; spaces = spaces }) }
-    // The slot is made for the place, and its page is home, in the frame that was taken.
+    // The slot is made for the place, and its page is home, in the frame that was taken; the tail of the file whose last page
+    // lost the frame is pending.
     ensures anon { world.new.anon ≡ with_new_slot world.old.anon result }
     ensures maps { world.new.maps ≡ with_places world.old.maps map
         (slice_set (places_of world.old.maps map) place (Some result)) }
     ensures store { world.new.store ≡ after_fill world.old.store (slot_name result) zeros true }
-    ensures home { IfSome (next_frame world.old.store)
-        (λ frame. residence world.new.store (slot_name result) ≡ Residence.Home frame) }
-    ensures unlisted { IfSome (next_frame world.old.store)
-        (λ frame. ¬ IsListedFrame world.new.store frame) }
-    ensures free { count_at world.old.anon result ≡ 0 }
-    ensures once { count_at world.new.anon result ≡ 1 }
-    // The tail of the file whose last page lost the frame is pending.
-    ensures pends { PendsTails (world_seen world.old) (is_name (next_name world.old.store))
-        world.old.pending world.new.pending }
-    ensures took { IfSome (next_name world.old.store)
-        (λ name. LosesFrame (world_seen world.old) (world_seen world.new) name) }
+    ensures made { MakesHome (world_seen world.old) (world_seen world.new)
+        world.old.pending world.new.pending result }
     // What stays.
     ensures rest { world.new ≡ record world.old {
       store = world.new.store;
@@ -99,23 +89,15 @@ pub fn make_copy<D: Disk>(world: &mut World<D>, from: PageName, map: u32, place:
     requires available { IsSome (next_frame world.old.store) }
     requires fits { (spaces : Spaces)
         × MemoryFits (record { world = world_seen world.old; spaces = spaces }) }
-    // The slot is made for the place, and its page is home, in the frame that was taken.
+    // The slot is made for the place, and its page is home, in the frame that was taken; the tail of the file whose last page
+    // lost the frame is pending.
     ensures anon { world.new.anon ≡ with_new_slot world.old.anon result }
     ensures maps { world.new.maps ≡ with_places world.old.maps map
         (slice_set (places_of world.old.maps map) place (Some result)) }
     ensures store { world.new.store ≡ after_fill world.old.store (slot_name result)
         (home_bytes world.old.store (find world.old.store.names from)) true }
-    ensures home { IfSome (next_frame world.old.store)
-        (λ frame. residence world.new.store (slot_name result) ≡ Residence.Home frame) }
-    ensures unlisted { IfSome (next_frame world.old.store)
-        (λ frame. ¬ IsListedFrame world.new.store frame) }
-    ensures free { count_at world.old.anon result ≡ 0 }
-    ensures once { count_at world.new.anon result ≡ 1 }
-    // The tail of the file whose last page lost the frame is pending.
-    ensures pends { PendsTails (world_seen world.old) (is_name (next_name world.old.store))
-        world.old.pending world.new.pending }
-    ensures took { IfSome (next_name world.old.store)
-        (λ name. LosesFrame (world_seen world.old) (world_seen world.new) name) }
+    ensures made { MakesHome (world_seen world.old) (world_seen world.new)
+        world.old.pending world.new.pending result }
     // What stays.
     ensures rest { world.new ≡ record world.old {
       store = world.new.store;

@@ -1,5 +1,5 @@
 //! A page of anonymous memory that other places hold too is copied before it is written.
-ghost use Rattle.std.specs.Prelude.{◌≡◌, ◌<◌, ◌-◌, ℕ, length, true, Some, None, IsSome, IsTrue, IfSome, slice_set};
+ghost use Rattle.std.specs.Prelude.{◌≡◌, ◌<◌, ◌-◌, ℕ, length, true, Some, None, IsSome, IsTrue, slice_set};
 ghost use Rattle.core_arena.specs.Bytes.{zeros};
 ghost use Rattle.hat_layer.specs.Pool.{translation_at};
 ghost use Rattle.page_hash.specs.Names.{find, is_name};
@@ -11,11 +11,9 @@ ghost use Rattle.flat_model.specs.Step.{tails_cleared};
 ghost use Rattle.vm_world.specs.CallSteps.{ChangesMemory};
 ghost use Rattle.vm_world.specs.MemoryFits.{MemoryFits};
 ghost use Rattle.vm_world.specs.Segments.{Spaces, Spot};
-ghost use Rattle.vm_world.specs.Serving.{LosesFrame};
-ghost use Rattle.vm_world.specs.StateSteps.{PendsTails};
 ghost use Rattle.vm_world.specs.World.{world_seen, slot_name, slot_in, is_unpushed};
 ghost use Rattle.vm_world.specs.WorldSteps.{tails_lost};
-ghost use Rattle.seg_ops.specs.Slots.{OwnsAlone};
+ghost use Rattle.seg_ops.specs.Slots.{MakesHome, OwnsAlone};
 
 use crate::anon::{make_copy, make_zero};
 use crate::empties::leave_slot;
@@ -38,24 +36,16 @@ pub fn copy_slot<D: Disk>(world: &mut World<D>, map: u32, place: u32, slot: u32)
     requires owned { (spaces : Spaces) × (p : ℕ) × (q : ℕ) × (x : Spot)
         × MemoryFits (record { world = world_seen world.old; spaces = spaces })
         × OwnsAlone spaces p q map place x × (translation_at world.old.hat.places p q ≡ None) }
-    // The old slot is counted once less, the new one is made for the place, and its page is home, in the frame that was taken.
+    // The old slot is counted once less, the new one is made for the place, and its page is home, in the frame that was taken;
+    // the tail of the file whose last page lost the frame is pending.
     ensures anon { world.new.anon ≡ with_new_slot
         (with_count world.old.anon slot (count_at world.old.anon slot - 1)) result }
     ensures maps { world.new.maps ≡ with_places world.old.maps map
         (slice_set (places_of world.old.maps map) place (Some result)) }
     ensures store { world.new.store ≡ after_fill world.old.store (slot_name result)
         (home_bytes world.old.store (find world.old.store.names (slot_name slot))) true }
-    ensures home { IfSome (next_frame world.old.store)
-        (λ frame. residence world.new.store (slot_name result) ≡ Residence.Home frame) }
-    ensures unlisted { IfSome (next_frame world.old.store)
-        (λ frame. ¬ IsListedFrame world.new.store frame) }
-    ensures free { count_at world.old.anon result ≡ 0 }
-    ensures once { count_at world.new.anon result ≡ 1 }
-    // The tail of the file whose last page lost the frame is pending.
-    ensures pends { PendsTails (world_seen world.old) (is_name (next_name world.old.store))
-        world.old.pending world.new.pending }
-    ensures took { IfSome (next_name world.old.store)
-        (λ name. LosesFrame (world_seen world.old) (world_seen world.new) name) }
+    ensures made { MakesHome (world_seen world.old) (world_seen world.new)
+        world.old.pending world.new.pending result }
     // What stays.
     ensures rest { world.new ≡ record world.old {
       store = world.new.store;
@@ -98,23 +88,15 @@ pub fn zero_slot<D: Disk>(world: &mut World<D>, map: u32, place: u32, slot: u32)
     requires owned { (spaces : Spaces) × (p : ℕ) × (q : ℕ) × (x : Spot)
         × MemoryFits (record { world = world_seen world.old; spaces = spaces })
         × OwnsAlone spaces p q map place x × (translation_at world.old.hat.places p q ≡ None) }
-    // The old slot is counted once less, the new one is made for the place, and its page is home, in the frame that was taken.
+    // The old slot is counted once less, the new one is made for the place, and its page is home, in the frame that was taken;
+    // the tail of the file whose last page lost the frame is pending.
     ensures anon { world.new.anon ≡ with_new_slot
         (with_count world.old.anon slot (count_at world.old.anon slot - 1)) result }
     ensures maps { world.new.maps ≡ with_places world.old.maps map
         (slice_set (places_of world.old.maps map) place (Some result)) }
     ensures store { world.new.store ≡ after_fill world.old.store (slot_name result) zeros true }
-    ensures home { IfSome (next_frame world.old.store)
-        (λ frame. residence world.new.store (slot_name result) ≡ Residence.Home frame) }
-    ensures unlisted { IfSome (next_frame world.old.store)
-        (λ frame. ¬ IsListedFrame world.new.store frame) }
-    ensures free { count_at world.old.anon result ≡ 0 }
-    ensures once { count_at world.new.anon result ≡ 1 }
-    // The tail of the file whose last page lost the frame is pending.
-    ensures pends { PendsTails (world_seen world.old) (is_name (next_name world.old.store))
-        world.old.pending world.new.pending }
-    ensures took { IfSome (next_name world.old.store)
-        (λ name. LosesFrame (world_seen world.old) (world_seen world.new) name) }
+    ensures made { MakesHome (world_seen world.old) (world_seen world.new)
+        world.old.pending world.new.pending result }
     // What stays.
     ensures rest { world.new ≡ record world.old {
       store = world.new.store;

@@ -10,7 +10,7 @@ ghost use Rattle.vm_world.specs.CallSteps.{ChangesMemory};
 ghost use Rattle.vm_world.specs.MemoryFits.{MemoryFits};
 ghost use Rattle.vm_world.specs.Segments.{Spaces, Spot};
 ghost use Rattle.vm_world.specs.World.{world_seen, slot_name, slot_in};
-ghost use Rattle.seg_ops.specs.Empties.{EmptiesPlace, LeavesSlot};
+ghost use Rattle.seg_ops.specs.Empties.{EmptiesPlace, IsUnloadedZero, LeavesSlot};
 ghost use Rattle.seg_ops.specs.OwnPages.{OwnPagesLaw, OwnShownLaw, without_own_page};
 ghost use Rattle.seg_ops.specs.Slots.{OwnsAlone};
 
@@ -72,9 +72,9 @@ pub fn leave_slot<D: Disk>(world: &mut World<D>, map: u32, place: u32, slot: u32
     take_out(world, map, place, slot);
 }
 
-/// Empties the one place that holds a slot, a private mapping's, and gives up the slot's page. The slot is free then. The
-/// frame of its page comes free, or does at the end of its flight where the page is moving. The page that the place is
-/// for has no translation. Constant expected time.
+/// Empties the one place that holds a slot, a private mapping's or a zero object's, and gives up the slot's page. The slot
+/// is free then. The frame of its page comes free, or does at the end of its flight where the page is moving. No page
+/// that the place is for has a translation. Constant expected time.
 pub fn drop_slot<D: Disk>(world: &mut World<D>, map: u32, place: u32, slot: u32)
     requires there { IsMapThere world.old.maps map }
     requires within { place < length (places_of world.old.maps map) }
@@ -99,6 +99,10 @@ pub fn drop_slot<D: Disk>(world: &mut World<D>, map: u32, place: u32, slot: u32)
     ensures empties { (spaces : Spaces) (p q : ℕ) (x : Spot)
         → MemoryFits (record { world = world_seen world.old; spaces = spaces })
         → OwnsAlone spaces p q map place x → translation_at world.old.hat.places p q ≡ None
+        → EmptiesPlace (world_seen world.old) (world_seen world.new) spaces map place slot }
+    ensures zeros { (spaces : Spaces) (z : ℕ)
+        → MemoryFits (record { world = world_seen world.old; spaces = spaces })
+        → IsUnloadedZero world.old.hat.places spaces z map
         → EmptiesPlace (world_seen world.old) (world_seen world.new) spaces map place slot }
     // In flat memory the cell of that page loses its own page, and nothing else changes.
     ensures changes { (spaces : Spaces) (p q : ℕ) (x : Spot)

@@ -9,7 +9,7 @@ ghost use Rattle.vm_world.specs.CallSteps.{ChangesMemory};
 ghost use Rattle.vm_world.specs.MemoryFits.{MemoryFits};
 ghost use Rattle.vm_world.specs.Segments.{Spaces, Spot};
 ghost use Rattle.vm_world.specs.World.{world_seen};
-ghost use Rattle.seg_ops.specs.Empties.{OwnsPlaces, places_emptied};
+ghost use Rattle.seg_ops.specs.Empties.{EmptiesPlaces, IsUnloadedZero, OwnsPlaces, places_emptied};
 ghost use Rattle.seg_ops.specs.OwnPages.{without_own_page, without_own_pages};
 ghost use Rattle.seg_ops.specs.Slots.{OwnsAlone};
 
@@ -18,7 +18,7 @@ use block_device::Disk;
 use vm_world::World;
 
 /// Empties a place, whether it holds a slot or not.
-fn empty_place<D: Disk>(world: &mut World<D>, map: u32, place: u32)
+pub(crate) fn empty_place<D: Disk>(world: &mut World<D>, map: u32, place: u32)
     requires there { IsMapThere world.old.maps map }
     requires within { place < length (places_of world.old.maps map) }
     requires fits { (spaces : Spaces)
@@ -45,6 +45,11 @@ fn empty_place<D: Disk>(world: &mut World<D>, map: u32, place: u32)
         → ChangesMemory p (record { world = world_seen world.old; spaces = spaces })
         (record { world = world_seen world.new; spaces = spaces })
         (λ F G. G ≡ without_own_page F p q) }
+    // A zero object's is emptied alone.
+    ensures zeros { (spaces : Spaces) (z : ℕ)
+        → MemoryFits (record { world = world_seen world.old; spaces = spaces })
+        → IsUnloadedZero world.old.hat.places spaces z map
+        → EmptiesPlaces (world_seen world.old) (world_seen world.new) spaces map (λ i. i ≡ place) }
 {
     let Some(slot) = world.maps.get(map, place) else {
         return;

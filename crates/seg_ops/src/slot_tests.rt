@@ -1,11 +1,13 @@
-//! Places that are emptied, and pages that are copied, over a swap disk in memory: two private mappings of a process hold one slot.
-ghost use Rattle.std.specs.Prelude.{◌≡◌, ◌<◌, ℕ, true, false, Some, IfOk, IfSome, IsTrue, IsSome, slice_index_or};
+//! Places that are emptied, and pages that are copied, over a swap disk in memory: two private mappings of a process hold one slot. And an object
+//! of zeros that is dropped.
+ghost use Rattle.std.specs.Prelude.{◌≡◌, ◌<◌, ℕ, true, false, Some, None, IfOk, IfSome, IsTrue, IsSome, slice_index_or};
 ghost use Rattle.anon_slots.specs.Slots.{count_at};
 ghost use Rattle.block_device.specs.MemDiskLook.{look};
 ghost use Rattle.block_device.specs.MemSeen.{disk_of};
+ghost use Rattle.hat_layer.specs.Pool.{translation_at};
 ghost use Rattle.page_store.specs.Steps.{next_frame};
 ghost use Rattle.vm_world.specs.World.{world_seen, slot_in};
-ghost use Rattle.seg_ops.specs.SlotTrials.{HoldsOne, IsHoldingPlace, holding_maps, holding_spaces};
+ghost use Rattle.seg_ops.specs.SlotTrials.{HoldsOne, IsHoldingPlace, holding_maps, holding_slots, holding_spaces, object_spaces};
 ghost use Rattle.seg_ops.specs.Trials.{IsTrialIn, IsTrialOutIn};
 
 use super::*;
@@ -16,7 +18,7 @@ use hat_layer::Hat;
 use page_store::{Flight, PageName, Plan, Residence, SWAP_OBJECT, Store};
 use std::alloc::{AllocError, Global};
 use std::test::Fail;
-use vm_world::World;
+use vm_world::{World, ZeroObjects};
 use vnode_files::Files;
 
 #[derive(Clone, Copy, PartialEq, Eq, Debug)]
@@ -53,24 +55,27 @@ fn page_of_slot(slot: u32) -> PageName
     }
 }
 
-/// A disk of four blocks.
+/// A disk of seven blocks.
 fn swap_disk(alloc: Global) -> Result<MemDisk, AllocError>
-    ensures { IfOk result (λ disk. (disk_of (look disk)).size ≡ 4) }
+    ensures { IfOk result (λ disk. (disk_of (look disk)).size ≡ 7) }
 {
     let blocks = [
         Block::new([0x10; 4096]),
         Block::new([0x11; 4096]),
         Block::new([0x12; 4096]),
         Block::new([0x13; 4096]),
+        Block::new([0x14; 4096]),
+        Block::new([0x15; 4096]),
+        Block::new([0x16; 4096]),
     ];
     Ok(MemDisk::from_blocks(blocks.to_vec(alloc)?, [99u64].to_vec(alloc)?))
 }
 
-/// Four slots, of which two places hold the first, whose page was pushed.
+/// Seven slots, of which two places hold the first, whose page was pushed.
 fn one_slot(alloc: Global) -> Result<AnonSlots, AllocError>
     ensures { IfOk result (HoldsOne true) }
 {
-    let mut anon = AnonSlots::new(alloc, 4)?;
+    let mut anon = AnonSlots::new(alloc, 7)?;
     let Ok(()) = anon.reserve(4) else {
         return Err(AllocError);
     };
@@ -94,7 +99,9 @@ fn both_maps(alloc: Global) -> Result<AnonMaps, AllocError>
 
 /// A world that fits with a process with two private mappings.
 fn new_world(alloc: Global) -> Result<World<MemDisk>, AllocError>
-    ensures { IfOk result (λ world. IsTrialIn holding_spaces (world_seen world)) }
+    ensures fits { IfOk result (λ world. IsTrialIn holding_spaces (world_seen world)) }
+    ensures anon { IfOk result (λ world. world.anon ≡ holding_slots true) }
+    ensures maps { IfOk result (λ world. world.maps ≡ holding_maps) }
 {
     let swap = swap_disk(alloc)?;
     let anon = one_slot(alloc)?;
@@ -110,8 +117,21 @@ fn new_world(alloc: Global) -> Result<World<MemDisk>, AllocError>
         maps,
         hat,
         files: Files::new(alloc),
+        zeros: ZeroObjects::new(alloc),
         pending: 0,
     })
+}
+
+/// The world where the process shows an object of zeros too.
+fn object_world(alloc: Global) -> Result<World<MemDisk>, AllocError>
+    ensures { IfOk result (λ world. IsTrialIn object_spaces (world_seen world)) }
+{
+    let mut world = new_world(alloc)?;
+    let Ok(()) = world.anon.reserve(3) else {
+        return Err(AllocError);
+    };
+    world.maps.make(3)?;
+    Ok(world)
 }
 
 /// Whether it is a place of one of the maps, whose page has no translation.
@@ -236,6 +256,21 @@ fn try_clear(world: &mut World<MemDisk>, map: u32) -> Told
     Told::Yes
 }
 
+fn count(world: &World<MemDisk>, slot: u32) -> Told {
+    if slot >= world.anon.slots() {
+        return Told::No;
+    }
+    Told::Count(world.anon.count(slot))
+}
+
+fn is_home(world: &World<MemDisk>, slot: u32) -> Told {
+    match world.store.resident(page_of_slot(slot)) {
+        Residence::Home(_) => Told::Yes,
+        Residence::Absent => Told::No,
+        Residence::Moving(_) => Told::No,
+    }
+}
+
 fn make(world: &mut World<MemDisk>, act: Act) -> Told
     requires fits { IsTrialIn holding_spaces (world_seen world.old) }
     ensures fits { IsTrialIn holding_spaces (world_seen world.new) }
@@ -245,18 +280,50 @@ fn make(world: &mut World<MemDisk>, act: Act) -> Told
         Act::Copy(map) => try_copy(world, map),
         Act::Empty(map, place) => try_empty(world, map, place),
         Act::Clear(map) => try_clear(world, map),
-        Act::Count(slot) => {
-            if slot >= world.anon.slots() {
-                return Told::No;
-            }
-            Told::Count(world.anon.count(slot))
-        }
-        Act::Home(slot) => match world.store.resident(page_of_slot(slot)) {
-            Residence::Home(_) => Told::Yes,
-            Residence::Absent => Told::No,
-            Residence::Moving(_) => Told::No,
-        },
+        Act::Count(slot) => count(world, slot),
+        Act::Home(slot) => is_home(world, slot),
     }
+}
+
+/// Whether a page of the process has no translation.
+fn is_unloaded(world: &World<MemDisk>, page: u32) -> bool
+    ensures { IsTrue result → translation_at world.now.hat.places 1 page ≡ None }
+{
+    world.hat.find(1, page).is_none()
+}
+
+/// Makes a page of zeros for a place of the object.
+fn try_zero(world: &mut World<MemDisk>, place: u32) -> Told
+    requires fits { IsTrialIn object_spaces (world_seen world.old) }
+    ensures fits { IsTrialIn object_spaces (world_seen world.new) }
+{
+    if !world.maps.is_there(2) || !world.store.available() {
+        return Told::No;
+    }
+    if place >= world.maps.pages(2) {
+        return Told::No;
+    }
+    match world.maps.get(2, place) {
+        Some(_) => Told::No,
+        None => Told::Slot(make_zero(world, 2, place)),
+    }
+}
+
+fn try_drop(world: &mut World<MemDisk>) -> Told
+    requires fits { IsTrialIn object_spaces (world_seen world.old) }
+    ensures fits { IsTrialIn object_spaces (world_seen world.new) }
+{
+    let first = is_unloaded(world, 5);
+    let second = is_unloaded(world, 6);
+    let third = is_unloaded(world, 7);
+    if !first || !second || !third {
+        return Told::No;
+    }
+    if !world.maps.is_there(2) {
+        return Told::No;
+    }
+    drop_object(world, 2);
+    Told::Yes
 }
 
 /// A page that two places hold is left by one of them, and dropped by the other.
@@ -309,5 +376,23 @@ fn pages_are_copied(rt: HostRuntime) -> Result<(), Fail> {
     for &(act, told) in &COPIED {
         assert_eq!(rt; make(&mut world, act), told);
     }
+    Ok(())
+}
+
+/// Two places of the object have slots, whose pages take both frames, and one never had a slot.
+#[test]
+fn an_object_is_dropped(rt: HostRuntime) -> Result<(), Fail> {
+    let mut world = object_world(rt.alloc())?;
+    assert_eq!(rt; try_zero(&mut world, 0), Told::Slot(1));
+    assert_eq!(rt; try_zero(&mut world, 2), Told::Slot(2));
+    assert_eq!(rt; count(&world, 1), Told::Count(1));
+    assert_eq!(rt; is_home(&world, 2), Told::Yes);
+    assert!(rt; !world.store.available());
+    assert_eq!(rt; try_drop(&mut world), Told::Yes);
+    assert_eq!(rt; count(&world, 1), Told::Count(0));
+    assert_eq!(rt; count(&world, 2), Told::Count(0));
+    assert_eq!(rt; is_home(&world, 2), Told::No);
+    assert!(rt; world.store.available());
+    assert_eq!(rt; count(&world, 0), Told::Count(2));
     Ok(())
 }

@@ -15,7 +15,7 @@ use hat_layer::Hat;
 use page_store::{Flight, PageName, Plan, Residence, Store};
 use std::alloc::{AllocError, Global};
 use std::test::Fail;
-use vm_world::World;
+use vm_world::{World, ZeroObjects};
 use vnode_files::{Extent, Extents, FileInfo, FileName, Files};
 
 #[derive(Clone, Copy, PartialEq, Eq, Debug)]
@@ -112,6 +112,7 @@ fn new_world(alloc: Global) -> Result<World<MemDisk>, AllocError>
         maps: AnonMaps::new(alloc),
         hat,
         files,
+        zeros: ZeroObjects::new(alloc),
         pending: 0,
     })
 }

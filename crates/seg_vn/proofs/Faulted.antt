@@ -1,15 +1,14 @@
 -- What faults at places of shared mappings of files come to.
-use Rattle.std.proofs.Common.{◌≡◌, ℕ, ◌<◌, ◌≤◌, ◌+◌, Bool, cond, Option, Some, None, refl, sym, ap, ◌∙◌, subst}
+use Rattle.std.proofs.Common.{◌≡◌, ℕ, Some, None, sym, ap, ◌∙◌, subst}
 use Rattle.page_hash.specs.declared.PageName.{PageName}
 use Rattle.page_store.specs.declared.residence.Residence.{Residence}
 use Rattle.page_store.specs.declared.residence.Residence.TheVariants.{Home, Absent}
 use Rattle.vm_types.specs.declared.call.Call.{Call}
 use Rattle.vm_types.specs.declared.call.Call.TheVariants.{Load, Store, Map, Unmap, Protect, Sync, Read, Write, Truncate, Fork, Exit}
-use Rattle.flat_model.specs.Words.{page, pages_in}
+use Rattle.flat_model.specs.Words.{page}
 use Rattle.vm_world.specs.FlatMemory.{Memory}
-use Rattle.vm_world.specs.Segments.{Spot, Spaces, spot_at, shown_name}
+use Rattle.vm_world.specs.Segments.{Spot, spot_at, shown_name}
 use Rattle.vm_world.specs.Wants.{WantsHome, ShowsPage, accessed_page}
-use Rattle.vm_world.specs.World.{World, file_name}
 use Rattle.vm_world.proofs.FlatWhole.{some-inj}
 
 -- AN ACCESS of a page wants home the page that is shown there, and no other.

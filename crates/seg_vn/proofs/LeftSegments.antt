@@ -1,41 +1,45 @@
--- A segment goes: its translations, then its own pages, then its map and what is reserved for it.
-use Rattle.std.proofs.Common.{◌≡◌, ℕ, zero, suc, ◌+◌, ◌-◌, ◌<◌, ◌≤◌, Bool, true, false, cond, List, [], ◌∷◌, length, Option, Some, None, refl, sym, ap, ◌∙◌, inl, inr, subst, arith, slice_index_or, slice_set, get_or-set_same}
-use Rattle.std.specs.Prelude.{◌==◌, option_and_then}
+-- A segment goes: its translations, then what its own map and that of its zero object hold, then the maps and what is reserved for them.
+use Rattle.std.proofs.Common.{◌≡◌, ℕ, zero, suc, ◌+◌, ◌-◌, ◌<◌, ◌≤◌, List, [], ◌∷◌, length, Option, Some, None, refl, sym, ap, ◌∙◌, inl, inr, subst, arith, slice_index_or, slice_set, get_or-set_same}
+use Rattle.std.specs.Prelude.{option_and_then}
 use Rattle.std.specs.FinMap as finite
-use Rattle.std.proofs.lemmas.Bool.{cases_eq, cases_lt, eq-eqb}
+use Rattle.std.proofs.lemmas.Bool.{cases_eq, cases_lt}
 use Rattle.std.proofs.lemmas.List.{get_or-set_other}
-use Rattle.std.proofs.lemmas.List.Sums.{get_or-le-sum_by}
-use Rattle.addr_space.specs.Space.{Part, piece_at, without_part}
+use Rattle.vm_types.specs.declared.call.Object.TheVariants as object
+use Rattle.addr_space.specs.Space.{Part, begins, piece_at, without_part}
 use Rattle.addr_space.proofs.PartLemmas.{found-in, has-in}
 use Rattle.addr_space.proofs.PartLists.{all-begins, begins-first, begins-found, at-found}
-use Rattle.anon_map.specs.Maps.{Map, IsMapThere, AreEmpty, places_of, holders_of, with_places, with_holders, free_numbers}
-use Rattle.anon_map.proofs.MapLaws.{with_places_free, without_free}
+use Rattle.anon_map.specs.Maps.{Map, anon_map_at, IsMapThere, AreEmpty, places_of, holders_of}
 use Rattle.anon_slots.specs.Slots.{slots_in_use}
 use Rattle.hat_layer.specs.Pool.{Pool}
 use Rattle.flat_model.specs.Flat.{Flat, IsFlat, without_unnamed}
 use Rattle.flat_model.specs.Mapping.{without_pages}
 use Rattle.vm_world.specs.CallSteps.{ChangesMemory}
-use Rattle.vm_world.specs.CountsFit.{SegmentFits, places_in}
-use Rattle.vm_world.specs.FlatMemory.{Memory, flat_memory}
-use Rattle.vm_world.specs.MapSteps.{maps_released, places_released}
+use Rattle.vm_world.specs.CountsFit.{SegmentFits, times_had}
+use Rattle.vm_world.specs.FlatMemory.{Memory, flat_memory, zero_maps}
+use Rattle.vm_world.specs.MapSteps.{maps_released}
 use Rattle.vm_world.specs.MemoryFits.{MemoryFits}
-use Rattle.vm_world.specs.SegmentSteps.{ChangesSegments, MayLeave, with_part_gone, places_left}
+use Rattle.vm_world.specs.SegmentSteps.{ChangesSegments, MayLeave, with_part_gone, maps_left, places_left, with_zero_object}
 use Rattle.vm_world.specs.Segments.{Spaces}
 use Rattle.vm_world.specs.SpaceSteps.{AreUnloaded}
 use Rattle.vm_world.specs.World.{World}
-use Rattle.vm_world.specs.WorldSteps.{stays, WorldStep}
+use Rattle.vm_world.specs.ZeroObjects.{KnowsZeros}
 use Rattle.vm_world.specs.declared.segment.Segment.{Segment}
-use Rattle.vm_world.proofs.Changes.{becomes-same}
-use Rattle.vm_world.proofs.Counting.{places-are}
-use Rattle.vm_world.proofs.KeptMaps.{own-there}
-use Rattle.vm_world.proofs.MapChanges.{there-within}
+use Rattle.vm_world.proofs.ComingParts.{flat-new-zero}
+use Rattle.vm_world.proofs.GoneParts.{mid-there}
+use Rattle.vm_world.proofs.KeptMaps.{own-there, shown-there, same-there, same-holders, same-places, shown-counts}
+use Rattle.vm_world.proofs.KnownZeros.{known-gone, known-last}
+use Rattle.vm_world.proofs.MapChanges.{released-sum, freed-length}
+use Rattle.vm_world.proofs.PartSums.{all_parts, part-le, sum-segments}
 use Rattle.vm_world.proofs.SegmentSteps.{segment_rule}
-use Rattle.seg_ops.specs.Empties.{OwnsPlaces, places_emptied}
+use Rattle.seg_ops.specs.Empties.{OwnsPlaces, IsUnloadedZero, places_emptied}
 use Rattle.seg_ops.specs.OwnPages.{without_own_pages}
+use Rattle.seg_ops.specs.Steps.{KeepsPages}
+use Rattle.seg_ops.proofs.Composed.{keeps-same}
 use Rattle.seg_ops.proofs.OwnPageLaws.{own_pages_law}
-use Rattle.seg_ops.proofs.SlotPlaces.{places-after}
 use Rattle.seg_ops.proofs.SlotRanges.{length-emptied}
 use Rattle.seg_vn.specs.Cuts.{IsPartAt}
+use Rattle.seg_vn.specs.Leaves.{IsUnloadedPart, LosesObject, LosesWithPages}
+use Rattle.seg_vn.proofs.LastObjects.{object-map, object-unloaded, object-goes}
 
 -- places of which all were emptied
 emptied-below : (places : List (Option ℕ)) (n i : ℕ) → n ≤ length places → i < n → slice_index_or (places_emptied places 0 n) i None ≡ None
@@ -53,11 +57,41 @@ past-end [] i le = refl
 past-end (o ∷ os) zero le = absurd (omega (arith, le))
 past-end (o ∷ os) (suc i) le = past-end os i (omega (arith, le))
 
-all-emptied : (places : List (Option ℕ)) (n : ℕ) → length places ≡ n → AreEmpty (places_emptied places 0 n)
+pub all-emptied : (places : List (Option ℕ)) (n : ℕ) → length places ≡ n → AreEmpty (places_emptied places 0 n)
 all-emptied places n size i = elim (cases_lt i n) [
   | inl lt ↦ emptied-below places n i (omega (arith, size)) lt
   | inr le ↦ let more = length-emptied places 0 n in past-end (places_emptied places 0 n) i (omega (arith, le, more, size))
 ]
+
+-- WHAT GOES WITH THE PAGES: nothing, their own pages, or a zero object
+pub loses-none : (p first n : ℕ) (m : Memory) → MemoryFits m → LosesWithPages p first n m m
+loses-none p first n m fits = record { f = λ F. F; changes = segment_rule.keeps p m.world m.world m.spaces fits (keeps-same m.world m.spaces fits); goes = λ born notes. refl }
+
+pub loses-own : (p first n : ℕ) (u v : Memory) → ChangesMemory p u v (λ F G. G ≡ without_own_pages F p first n) → LosesWithPages p first n u v
+loses-own p first n u v done = record {
+  f = λ F. without_own_pages F p first n;
+  changes = record {
+    machine = done.machine;
+    others = done.others;
+    memory = done.memory;
+    notes = done.notes;
+    tells = done.tells;
+    flat = λ born notes nf tell whole.
+        let e = done.flat born notes nf tell whole in
+        (e, subst IsFlat (sym e) (own_pages_law.lost (flat_memory u born notes) p first n whole));
+  };
+  goes = λ born notes. ap without_unnamed (own_pages_law.removed (flat_memory u born notes) p first n);
+}
+
+-- and then the pages
+pub lose-then : (p first n : ℕ) (u v w : Memory) → LosesWithPages p first n u v → ChangesSegments p v w (λ F. without_pages F p first n) → ChangesSegments p u w (λ F. without_pages F p first n)
+lose-then p first n u v w lost gone =
+    segment_rule.same p u w (λ F. without_pages (lost.f F) p first n) (λ F. without_pages F p first n) lost.goes
+    (segment_rule.joined p u v w lost.f (λ F. without_pages F p first n) lost.changes gone)
+
+-- it is such a part wherever memory fits these segments
+abbrev pub still-part : (w new : World) (spaces : Spaces) (p first : ℕ) (s : Segment) → IsPartAt w spaces p first s → MemoryFits (record { world = new; spaces = spaces }) → IsPartAt new spaces p first s
+still-part w new spaces p first s c memory = record { parts = c.parts; part = c.part; memory = memory; here = c.here; starts = c.starts; piece = c.piece }
 
 module _ (w : World) (spaces : Spaces) (p first : ℕ) (s : Segment) (c : IsPartAt w spaces p first s) where
   abbrev m : Memory
@@ -68,6 +102,9 @@ module _ (w : World) (spaces : Spaces) (p first : ℕ) (s : Segment) (c : IsPart
 
   begin : c.part.first ≡ first
   begin = begins-first c.parts first c.part c.starts
+
+  starts-there : begins c.parts c.part.first ≡ Some c.part
+  starts-there = ap (begins c.parts) begin ∙ c.starts
 
   pub pages-are : c.part.pages ≡ s.pages
   pages-are = fit.pages ∙ ap (λ (t : Segment). t.pages) c.piece
@@ -80,12 +117,36 @@ module _ (w : World) (spaces : Spaces) (p first : ℕ) (s : Segment) (c : IsPart
       let n = pages-are in
       omega (arith, within, b, n)
 
-  own-is : (map : ℕ) → s.own ≡ Some map → IsMapThere w.maps map × (holders_of w.maps map ≡ 1) × (length (places_of w.maps map) ≡ s.pages)
+  pub own-is : (map : ℕ) → s.own ≡ Some map → IsMapThere w.maps map × (holders_of w.maps map ≡ 1) × (length (places_of w.maps map) ≡ s.pages)
   own-is map is =
       let o = own-there w.maps c.part.piece c.part.piece.kind map fit.own (ap (λ (t : Segment). t.own) c.piece ∙ is) in
       (o.0, o.1, o.2 ∙ ap (λ (t : Segment). t.pages) c.piece)
 
-  owns-part : AreUnloaded w.hat.places p first s.pages → (map : ℕ) → s.own ≡ Some map → OwnsPlaces w.hat.places spaces p first map 0 s.pages
+  its-shown : (map : ℕ) → s.shown ≡ Some map → c.part.piece.shown ≡ Some map
+  its-shown map is = ap (λ (t : Segment). t.shown) c.piece ∙ is
+
+  its-object : (z : ℕ) → s.object ≡ object.Zero z → c.part.piece.object ≡ object.Zero z
+  its-object z is = ap (λ (t : Segment). t.object) c.piece ∙ is
+
+  -- the map that it shows is there, and the segment is one of its holders
+  pub shown-is : (map : ℕ) → s.shown ≡ Some map → IsMapThere w.maps map × ((z : ℕ) × (s.object ≡ object.Zero z))
+  shown-is map is =
+      let h = shown-there (length w.files.files) w.maps c.part.piece c.part.piece.object map fit.object (its-shown map is) in
+      (h.0, (h.1.0, sym (ap (λ (t : Segment). t.object) c.piece) ∙ h.1.1))
+
+  shown-held : (map : ℕ) → s.shown ≡ Some map → 1 ≤ holders_of w.maps map
+  shown-held map is =
+      let mine = shown-counts map c.part.piece (its-shown map is) in
+      let had = λ (a : Part Segment). times_had map a.piece in
+      let le = all-begins (λ (a : Part Segment). had a ≤ all_parts had spaces) c.parts first c.part (part-le had spaces p c.parts c.here) c.starts in
+      let all = c.memory.segments.holders map in
+      let sum = sum-segments (times_had map) spaces in
+      omega (arith, mine, le, all, sum)
+
+  pub shown-map : (z map : ℕ) → s.object ≡ object.Zero z → s.shown ≡ Some map → finite.get (zero_maps spaces) z ≡ Some map
+  shown-map z map names is = object-map m p first c.parts c.part c.memory c.here c.starts z map (its-object z names) (its-shown map is)
+
+  pub owns-part : AreUnloaded w.hat.places p first s.pages → (map : ℕ) → s.own ≡ Some map → OwnsPlaces w.hat.places spaces p first map 0 s.pages
   owns-part none map is = record {
     segment = s;
     own = is;
@@ -101,158 +162,149 @@ module _ (w : World) (spaces : Spaces) (p first : ℕ) (s : Segment) (c : IsPart
     unloaded = none;
   }
 
-  abbrev after : World
-  after = record w { anon = record w.anon { reserved = w.anon.reserved - places_released w.maps s.own }; maps = maps_released w.maps s.own }
+  its-unloaded : AreUnloaded w.hat.places p first s.pages → AreUnloaded w.hat.places p c.part.first c.part.pages
+  its-unloaded none q low high = let b = begin in let n = pages-are in none q (omega (arith, low, b)) (omega (arith, high, b, n))
 
-  may : AreUnloaded w.hat.places p first s.pages → ((map : ℕ) → s.own ≡ Some map → AreEmpty (places_of w.maps map)) → s.shown ≡ None → MayLeave m p c.part
-  may none empty plain = let b = begin in let n = pages-are in record {
-    unloaded = λ q low high. none q (omega (arith, low, b)) (omega (arith, high, b, n));
-    own = λ map is. empty map (sym (ap (λ (t : Segment). t.own) c.piece) ∙ is);
-    shown = λ map is. absurd (let z : None ≡ Some map = sym (ap (λ (t : Segment). t.shown) c.piece ∙ plain) ∙ is in cc);
-  }
+  -- ITS ZERO OBJECT, where it is the last to show it
+  module _ (z map : ℕ) (names : s.object ≡ object.Zero z) (is : s.shown ≡ Some map) (held : holders_of w.maps map ≡ 1) where
+    pub shown-unloaded : AreUnloaded w.hat.places p first s.pages → IsUnloadedZero w.hat.places spaces z map
+    shown-unloaded none = object-unloaded m p first c.parts c.part c.memory c.here c.starts z map (its-object z names) (its-shown map is) held (its-unloaded none)
 
-  released : (map : ℕ) → s.own ≡ Some map → (maps_released w.maps s.own ≡ slice_set w.maps map None) × (places_released w.maps s.own ≡ s.pages)
-  released map is =
-      let o = own-is map is in
-      let last : (holders_of w.maps map == 1) ≡ true = eq-eqb (holders_of w.maps map) 1 o.1 in (
-        ap (maps_released w.maps) is ∙ ap (λ (b : Bool). cond b (slice_set w.maps map None) (with_holders w.maps map (holders_of w.maps map - 1))) last,
-        ap (places_released w.maps) is ∙ ap (λ (b : Bool). cond b (length (places_of w.maps map)) 0) last ∙ o.2,
-      )
+    pub loses-shown : (size : ℕ) (new : World) → ChangesMemory p m (record { world = new; spaces = spaces }) (λ F G. G ≡ with_zero_object F z size) → LosesWithPages p first s.pages m (record { world = new; spaces = spaces })
+    loses-shown size new done = record {
+      f = λ F. with_zero_object F z size;
+      changes = record {
+        machine = done.machine;
+        others = done.others;
+        memory = done.memory;
+        notes = done.notes;
+        tells = done.tells;
+        flat = λ born notes nf tell whole.
+            let e = done.flat born notes nf tell whole in
+            (e, subst IsFlat (sym e) (flat-new-zero (flat_memory m born notes) z size whole));
+      };
+      goes = λ born notes.
+          subst (λ (k : ℕ). without_pages (with_zero_object (flat_memory m born notes) z size) p k s.pages ≡ without_pages (flat_memory m born notes) p k s.pages) begin
+          (subst (λ (k : ℕ). without_pages (with_zero_object (flat_memory m born notes) z size) p c.part.first k ≡ without_pages (flat_memory m born notes) p c.part.first k) pages-are
+          (object-goes m p first c.parts c.part c.memory c.here c.starts z map (its-object z names) (its-shown map is) held born notes size));
+    }
 
-  -- THE PART GOES
-  part-goes : AreUnloaded w.hat.places p first s.pages → ((map : ℕ) → s.own ≡ Some map → AreEmpty (places_of w.maps map)) → s.shown ≡ None
-      → ChangesSegments p m (record { world = after; spaces = finite.insert spaces p (without_part first c.parts) }) (λ F. without_pages F p first s.pages)
-  part-goes none empty plain =
-      let zero_more : places_left w.maps c.part.piece ≡ places_released w.maps s.own = (λ i. places_released w.maps (c.piece i).own + places_released (maps_released w.maps (c.piece i).own) (c.piece i).shown)
-      ∙ ap (λ (o : Option ℕ). places_released w.maps s.own + places_released (maps_released w.maps s.own) o) plain ∙ omega arith in
-      let same : with_part_gone m p c.parts c.part ≡ record { world = after; spaces = finite.insert spaces p (without_part first c.parts) } =
-      (λ i. record { world = record w { anon = record w.anon { reserved = w.anon.reserved - zero_more i }; maps = maps_released (maps_released w.maps (c.piece i).own) (c.piece i).shown }; spaces = finite.insert spaces p (without_part (begin i) c.parts) })
-      ∙ ap (λ (o : Option ℕ). record { world = record w { anon = record w.anon { reserved = w.anon.reserved - places_released w.maps s.own }; maps = maps_released (maps_released w.maps s.own) o }; spaces = finite.insert spaces p (without_part first c.parts) }) plain in
-      subst (λ (n : Memory). ChangesSegments p m n (λ F. without_pages F p first s.pages)) same
-      (subst (λ (k : ℕ). ChangesSegments p m (with_part_gone m p c.parts c.part) (λ F. without_pages F p k s.pages)) begin
-      (subst (λ (k : ℕ). ChangesSegments p m (with_part_gone m p c.parts c.part) (λ F. without_pages F p c.part.first k)) pages-are
-      (segment_rule.remove m p first c.parts c.part c.memory c.here c.starts (may none empty plain))))
-
-  -- its map's places are no more than the slots that aren't in use, where they are empty
-  release-owes : AreUnloaded w.hat.places p first s.pages → ((map : ℕ) → s.own ≡ Some map → AreEmpty (places_of w.maps map)) → s.shown ≡ None → (map : ℕ) → s.own ≡ Some map
-      → s.pages ≤ w.anon.reserved - slots_in_use w.anon
-  release-owes none empty plain map is =
-      let o = own-is map is in
-      let used = (part-goes none empty plain).memory.counts.sound.used in
-      let left = (released map is).1 in
-      let part = get_or-le-sum_by (λ (a : Option Map). length (places_in a)) w.maps map None (there-within w.maps map o.0) in
-      let are = ap (λ (ps : List (Option ℕ)). length ps) (places-are w.maps map) in
-      let all = c.memory.counts.places in
-      let size = o.2 in
-      omega (arith, used, left, part, are, all, size)
-
--- its own pages go
-own-emptied : (p first n : ℕ) (u v : Memory) → ChangesMemory p u v (λ F G. G ≡ without_own_pages F p first n) → ChangesSegments p u v (λ F. without_own_pages F p first n)
-own-emptied p first n u v done = record {
-  machine = done.machine;
-  others = done.others;
-  memory = done.memory;
-  notes = done.notes;
-  tells = done.tells;
-  flat = λ born notes nf tell whole.
-      let e = done.flat born notes nf tell whole in
-      (e, subst IsFlat (sym e) (own_pages_law.lost (flat_memory u born notes) p first n whole));
+-- IT IS THE PART still, once its translations went, and once something went with its pages
+abbrev pub first-part : (w w1 : World) (spaces : Spaces) (p first : ℕ) (s t : Segment) → IsPartAt w spaces p first s → KeepsPages w w1 spaces → AreUnloaded w1.hat.places p first s.pages → s ≡ t → IsUnloadedPart w1 spaces p first t
+first-part w w1 spaces p first s t c keeps none e = record {
+  part = record { parts = c.parts; part = c.part; memory = keeps.memory; here = c.here; starts = c.starts; piece = c.piece ∙ e };
+  unloaded = subst (λ (u : Segment). AreUnloaded w1.hat.places p first u.pages) e none;
 }
 
--- it is such a part wherever memory fits these segments
-abbrev still-part : (w new : World) (spaces : Spaces) (p first : ℕ) (s : Segment) → IsPartAt w spaces p first s → MemoryFits (record { world = new; spaces = spaces }) → IsPartAt new spaces p first s
-still-part w new spaces p first s c memory = record { parts = c.parts; part = c.part; memory = memory; here = c.here; starts = c.starts; piece = c.piece }
+abbrev pub next-part : (w new : World) (spaces : Spaces) (p first : ℕ) (s : Segment) → IsUnloadedPart w spaces p first s → LosesWithPages p first s.pages (record { world = w; spaces = spaces }) (record { world = new; spaces = spaces }) → new.hat ≡ w.hat
+    → IsUnloadedPart new spaces p first s
+next-part w new spaces p first s u lost hat = record { part = still-part w new spaces p first s u.part lost.changes.memory; unloaded = subst (λ (h : Pool). AreUnloaded h.places p first s.pages) (sym hat) u.unloaded }
 
--- What the places of its map owe before they are emptied; and what is so afterwards: the map may be released, and the segment goes with it.
-pub record PlacesOwe (w : World) (spaces : Spaces) (p first map n : ℕ) : Type 0 where
-  pub there : IsMapThere w.maps map
-  pub size : length (places_of w.maps map) ≡ n
-  pub memory : MemoryFits (record { world = w; spaces = spaces })
-  pub owned : OwnsPlaces w.hat.places spaces p first map 0 n
+-- A PART THAT MAY GO: none of its pages has a translation, and the maps that go with it hold no slot.
+pub record MayGo (w : World) (spaces : Spaces) (p first : ℕ) (s : Segment) : Type 0 where
+  pub part : IsPartAt w spaces p first s
+  pub unloaded : AreUnloaded w.hat.places p first s.pages
+  pub own : (map : ℕ) → s.own ≡ Some map → AreEmpty (places_of w.maps map)
+  pub shown : (map : ℕ) → s.shown ≡ Some map → holders_of w.maps map ≡ 1 → AreEmpty (places_of w.maps map)
 
-pub record Emptied (w w1 w2 : World) (spaces : Spaces) (p first map : ℕ) (s : Segment) (parts : List (Part Segment)) : Type 0 where
-  pub there : IsMapThere w2.maps map
-  pub last : holders_of w2.maps map ≡ 1
-  pub empty : AreEmpty (places_of w2.maps map)
-  pub room : s.pages ≤ w2.anon.reserved - slots_in_use w2.anon
-  pub numbers : free_numbers w1.maps ≤ free_numbers (slice_set w2.maps map None)
-  pub left : (w3 : World) → w3 ≡ record w2 { anon = record w2.anon { reserved = w2.anon.reserved - s.pages }; maps = slice_set w2.maps map None }
-      → ChangesSegments p (record { world = w; spaces = spaces }) (record { world = w3; spaces = finite.insert spaces p (without_part first parts) }) (λ F. without_pages F p first s.pages)
+module _ (w : World) (spaces : Spaces) (p first : ℕ) (s : Segment) (g : MayGo w spaces p first s) where
+  abbrev c : IsPartAt w spaces p first s
+  c = g.part
 
--- ITS TRANSLATIONS went; it has no map, and goes
-module _ (w w1 : World) (spaces : Spaces) (p first : ℕ) (s : Segment) (c : IsPartAt w spaces p first s) (plain : s.shown ≡ None) (step : WorldStep w w1 spaces stays (λ name. false)) (none : AreUnloaded w1.hat.places p first s.pages) where
+  abbrev here : Memory
+  here = record { world = w; spaces = spaces }
+
   abbrev gone : Spaces
   gone = finite.insert spaces p (without_part first c.parts)
 
-  kept : ChangesSegments p (record { world = w; spaces = spaces }) (record { world = w1; spaces = spaces }) (λ F. F)
-  kept = segment_rule.keeps p w w1 spaces c.memory step
+  may : MayLeave here p c.part
+  may = record {
+    unloaded = its-unloaded w spaces p first s c g.unloaded;
+    own = λ map is. g.own map (sym (ap (λ (t : Segment). t.own) c.piece) ∙ is);
+    shown = λ map is. g.shown map (sym (ap (λ (t : Segment). t.shown) c.piece) ∙ is);
+  }
 
-  abbrev part-unloaded : IsPartAt w1 spaces p first s
-  part-unloaded = still-part w w1 spaces p first s c kept.memory
+  abbrev left : List (Option Map)
+  left = maps_released w.maps s.own
 
-  pub left-shared : s.own ≡ None → ChangesSegments p (record { world = w; spaces = spaces }) (record { world = w1; spaces = gone }) (λ F. without_pages F p first s.pages)
-  left-shared own =
-      let goes = part-goes w1 spaces p first s part-unloaded none (λ map is. absurd (let z : None ≡ Some map = sym own ∙ is in cc)) plain in
-      let all : w1.anon.reserved - 0 ≡ w1.anon.reserved = omega arith in
-      let same = ap (λ (o : Option ℕ). record w1 { anon = record w1.anon { reserved = w1.anon.reserved - places_released w1.maps o }; maps = maps_released w1.maps o }) own ∙ ap (λ (r : ℕ). record w1 { anon = record w1.anon { reserved = r } }) all in
-      subst (λ (v : World). ChangesSegments p (record { world = w; spaces = spaces }) (record { world = v; spaces = gone }) (λ F. without_pages F p first s.pages)) same
-      (segment_rule.joined p (record { world = w; spaces = spaces }) (record { world = w1; spaces = spaces }) (record { world = after w1 spaces p first s part-unloaded; spaces = gone }) (λ F. F) (λ F. without_pages F p first s.pages) kept goes)
+  abbrev after : World
+  after = record w { anon = record w.anon { reserved = w.anon.reserved - places_left w.maps s }; maps = maps_left w.maps s }
 
-  pub places-owe : (map n : ℕ) → s.own ≡ Some map → n ≡ s.pages → PlacesOwe w1 spaces p first map n
-  places-owe map n own size =
-      let o = own-is w1 spaces p first s part-unloaded map own in
-      record {
-        there = o.0;
-        size = o.2 ∙ sym size;
-        memory = kept.memory;
-        owned = subst (λ (k : ℕ). OwnsPlaces w1.hat.places spaces p first map 0 k) (sym size) (owns-part w1 spaces p first s part-unloaded none map own);
-      }
+  -- it goes
+  pub part-goes : ChangesSegments p here (record { world = after; spaces = gone }) (λ F. without_pages F p first s.pages)
+  part-goes =
+      let b = begin w spaces p first s c in
+      let same : with_part_gone here p c.parts c.part ≡ record { world = after; spaces = gone } = λ i. record {
+        world = record w { anon = record w.anon { reserved = w.anon.reserved - places_left w.maps (c.piece i) }; maps = maps_left w.maps (c.piece i) };
+        spaces = finite.insert spaces p (without_part (b i) c.parts);
+      } in
+      subst (λ (n : Memory). ChangesSegments p here n (λ F. without_pages F p first s.pages)) same
+      (subst (λ (k : ℕ). ChangesSegments p here (with_part_gone here p c.parts c.part) (λ F. without_pages F p k s.pages)) b
+      (subst (λ (k : ℕ). ChangesSegments p here (with_part_gone here p c.parts c.part) (λ F. without_pages F p c.part.first k)) (pages-are w spaces p first s c)
+      (segment_rule.remove here p first c.parts c.part c.memory c.here c.starts may)))
 
-  -- ITS OWN PAGES went, and it goes with its map
-  module _ (map : ℕ) (own : s.own ≡ Some map) (w2 : World) (n : ℕ) (size : n ≡ s.pages) (maps : w2.maps ≡ with_places w1.maps map (places_emptied (places_of w1.maps map) 0 n)) (hat : w2.hat ≡ w1.hat)
-      (done : ChangesMemory p (record { world = w1; spaces = spaces }) (record { world = w2; spaces = spaces }) (λ F G. G ≡ without_own_pages F p first n)) where
-    abbrev part-emptied : IsPartAt w2 spaces p first s
-    part-emptied = still-part w1 w2 spaces p first s part-unloaded done.memory
+  -- the map that it shows stays when its own goes
+  still-shown : (map : ℕ) → s.shown ≡ Some map → anon_map_at left map ≡ anon_map_at w.maps map
+  still-shown map is = subst (λ (t : Segment). anon_map_at (maps_released w.maps t.own) map ≡ anon_map_at w.maps map) c.piece
+      (mid-there here p c.parts c.part c.memory c.here (starts-there w spaces p first s c) may map (its-shown w spaces p first s c map is))
 
-    unloaded : AreUnloaded w2.hat.places p first s.pages
-    unloaded = subst (λ (h : Pool). AreUnloaded h.places p first s.pages) (sym hat) none
+  pub left-there : (map : ℕ) → s.shown ≡ Some map → IsMapThere left map
+  left-there map is = same-there w.maps left map (still-shown map is) (shown-is w spaces p first s c map is).0
 
-    before : IsMapThere w1.maps map × (holders_of w1.maps map ≡ 1) × (length (places_of w1.maps map) ≡ s.pages)
-    before = own-is w1 spaces p first s part-unloaded map own
+  pub left-empty : (map : ℕ) → s.shown ≡ Some map → holders_of left map ≡ 1 → AreEmpty (places_of left map)
+  left-empty map is one = subst AreEmpty (sym (same-places w.maps left map (still-shown map is))) (g.shown map is (sym (same-holders w.maps left map (still-shown map is)) ∙ one))
 
-    empty : (m : ℕ) → s.own ≡ Some m → AreEmpty (places_of w2.maps m)
-    empty m is =
-        let same : map ≡ m = let z : Some map ≡ Some m = sym own ∙ is in cc in
-        let e : places_of w2.maps map ≡ places_emptied (places_of w1.maps map) 0 n =
-        ap (λ (ms : List (Option Map)). places_of ms map) maps ∙ places-after w1.maps map (places_emptied (places_of w1.maps map) 0 n) (there-within w1.maps map before.0) in
-        subst (λ (k : ℕ). AreEmpty (places_of w2.maps k)) same (subst AreEmpty (sym e) (all-emptied (places_of w1.maps map) n (before.2 ∙ sym size)))
+  -- what is reserved for its maps is more than the slots in use
+  pub left-room : places_left w.maps s ≤ w.anon.reserved - slots_in_use w.anon
+  left-room =
+      let gone = part-goes.memory.counts in
+      let used = gone.sound.used in
+      let total = gone.places in
+      let all = c.memory.counts.places in
+      let one = released-sum (λ (ps : List (Option ℕ)). length ps) w.maps s.own refl (λ map is. (own-is w spaces p first s c map is).0) in
+      let two = released-sum (λ (ps : List (Option ℕ)). length ps) left s.shown refl left-there in
+      let a = freed-length w.maps s.own in
+      let b = freed-length left s.shown in
+      omega (arith, used, total, all, one, two, a, b)
 
-    goes-with : (w3 : World) → w3 ≡ record w2 { anon = record w2.anon { reserved = w2.anon.reserved - s.pages }; maps = slice_set w2.maps map None }
-        → ChangesSegments p (record { world = w; spaces = spaces }) (record { world = w3; spaces = gone }) (λ F. without_pages F p first s.pages)
-    goes-with w3 is =
-        let m0 : Memory = record { world = w; spaces = spaces } in
-        let m1 : Memory = record { world = w1; spaces = spaces } in
-        let m2 : Memory = record { world = w2; spaces = spaces } in
-        let m3 : Memory = record { world = after w2 spaces p first s part-emptied; spaces = gone } in
-        let f : Flat → Flat = λ F. without_pages F p first s.pages in
-        let lost : Flat → Flat = λ F. without_own_pages F p first s.pages in
-        let emptied = subst (λ (k : ℕ). ChangesSegments p m1 m2 (λ F. without_own_pages F p first k)) size (own-emptied p first n m1 m2 done) in
-        let both = becomes-same p m1 m3 (λ F. f (lost F)) f (λ born notes. ap without_unnamed (own_pages_law.removed (flat_memory m1 born notes) p first s.pages))
-        (segment_rule.joined p m1 m2 m3 lost f emptied (part-goes w2 spaces p first s part-emptied unloaded empty plain)) in
-        let r = released w2 spaces p first s part-emptied map own in
-        subst (λ (v : World). ChangesSegments p m0 (record { world = v; spaces = gone }) f) ((λ i. record w2 { anon = record w2.anon { reserved = w2.anon.reserved - r.1 i }; maps = r.0 i }) ∙ sym is)
-        (segment_rule.joined p m0 m1 m3 (λ F. F) f kept both)
+  -- and the list of zero objects is right
+  pub left-known : (zeros new : List (Option ℕ)) → KnowsZeros zeros spaces → LosesObject w.maps s zeros new → KnowsZeros new gone
+  left-known zeros new knows lost =
+      let b = begin w spaces p first s c in
+      let starts = starts-there w spaces p first s c in
+      subst (λ (k : ℕ). KnowsZeros new (finite.insert spaces p (without_part k c.parts))) b (by_shown s.shown refl)
+    where
+      stays : ((map : ℕ) → s.shown ≡ Some map → 1 < holders_of w.maps map) → KnowsZeros new (finite.insert spaces p (without_part c.part.first c.parts))
+      stays more = subst (λ (zs : List (Option ℕ)). KnowsZeros zs (finite.insert spaces p (without_part c.part.first c.parts)))
+          (sym (lost.held (λ z map names is one. (let few = more map is in absurd (omega (arith, few, one))))))
+          (known-gone here p c.parts c.part zeros c.memory c.here (starts-there w spaces p first s c) may (λ map is. more map (sym (ap (λ (t : Segment). t.shown) c.piece) ∙ is)) knows)
 
-    pub emptied : Emptied w w1 w2 spaces p first map s c.parts
-    emptied =
-        let o = own-is w2 spaces p first s part-emptied map own in
-        let same = ap (λ (ms : List (Option Map)). free_numbers ms) maps ∙ with_places_free w1.maps map (places_emptied (places_of w1.maps map) 0 n) before.0 in
-        let more = without_free w2.maps map o.0 in
-        record {
-          there = o.0;
-          last = o.1;
-          empty = empty map own;
-          room = release-owes w2 spaces p first s part-emptied unloaded empty plain map own;
-          numbers = omega (arith, same, more);
-          left = goes-with;
-        }
+      by_shown : (o : Option ℕ) → s.shown ≡ o → KnowsZeros new (finite.insert spaces p (without_part c.part.first c.parts))
+      by_shown None e = stays (λ map is. absurd (let z : None ≡ Some map = sym e ∙ is in cc))
+      by_shown (Some n) e =
+          let o = (shown-is w spaces p first s c n e).1 in
+          elim (cases_eq (holders_of w.maps n) 1) [
+            | inl one ↦ subst (λ (zs : List (Option ℕ)). KnowsZeros zs (finite.insert spaces p (without_part c.part.first c.parts))) (sym (lost.last o.0 n o.1 e one))
+                (known-last here p c.parts c.part zeros o.0 n c.memory c.here (starts-there w spaces p first s c) may (its-object w spaces p first s c o.0 o.1) (its-shown w spaces p first s c n e) one knows)
+            | inr ne ↦ stays (λ map is.
+                let same : n ≡ map = let z : Some n ≡ Some map = sym e ∙ is in cc in
+                let some = shown-held w spaces p first s c n e in
+                subst (λ (j : ℕ). 1 < holders_of w.maps j) same (omega (arith, some, ne)))
+          ]
+
+-- THE WHOLE: its translations went, then what goes with its pages, then it
+pub part-left : (w w1 w2 w3 new : World) (spaces : Spaces) (p first : ℕ) (s t : Segment) → MemoryFits (record { world = w; spaces = spaces }) → KeepsPages w w1 spaces → s ≡ t
+    → LosesWithPages p first t.pages (record { world = w1; spaces = spaces }) (record { world = w2; spaces = spaces }) → LosesWithPages p first t.pages (record { world = w2; spaces = spaces }) (record { world = w3; spaces = spaces })
+    → (g : MayGo w3 spaces p first t) → new ≡ record w3 { anon = record w3.anon { reserved = w3.anon.reserved - places_left w3.maps t }; maps = maps_left w3.maps t }
+    → ChangesSegments p (record { world = w; spaces = spaces }) (record { world = new; spaces = finite.insert spaces p (without_part first g.part.parts) }) (λ F. without_pages F p first s.pages)
+part-left w w1 w2 w3 new spaces p first s t fits keeps e own shown g is =
+    let m0 : Memory = record { world = w; spaces = spaces } in
+    let m1 : Memory = record { world = w1; spaces = spaces } in
+    let m2 : Memory = record { world = w2; spaces = spaces } in
+    let m3 : Memory = record { world = w3; spaces = spaces } in
+    let gone : Spaces = finite.insert spaces p (without_part first g.part.parts) in
+    let m4 : Memory = record { world = record w3 { anon = record w3.anon { reserved = w3.anon.reserved - places_left w3.maps t }; maps = maps_left w3.maps t }; spaces = gone } in
+    let f : Flat → Flat = λ F. without_pages F p first t.pages in
+    subst (λ (u : Segment). ChangesSegments p m0 (record { world = new; spaces = gone }) (λ F. without_pages F p first u.pages)) (sym e)
+    (subst (λ (v : World). ChangesSegments p m0 (record { world = v; spaces = gone }) f) (sym is)
+    (segment_rule.joined p m0 m1 m4 (λ F. F) f (segment_rule.keeps p w w1 spaces fits keeps) (lose-then p first t.pages m1 m2 m4 own (lose-then p first t.pages m2 m3 m4 shown (part-goes w3 spaces p first t g)))))

@@ -1,4 +1,6 @@
 pub mod CutSegments
+pub mod GivenBack
+mod LastObjects
 pub mod LeftSegments
 pub mod SpacesFrom
 pub mod ClearedSpaces

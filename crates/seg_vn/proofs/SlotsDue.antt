@@ -1,11 +1,10 @@
 -- Where accesses make slots, by what their places show.
 use Rattle.std.proofs.Common.{◌≡◌, ℕ, ◌<◌, ◌+◌, ◌-◌, Bool, true, false, cond, List, Option, Some, None, refl, sym, ap, ◌∙◌, inl, inr, subst, arith, slice_set}
-use Rattle.std.specs.Prelude.{◌==◌, IsTrue, not, option_map}
+use Rattle.std.specs.Prelude.{◌==◌, not, option_map}
 use Rattle.std.proofs.lemmas.Bool.Decides.{eqb_tells}
 use Rattle.anon_map.specs.Maps.{Map, places_of, with_places}
 use Rattle.anon_slots.specs.Slots.{Slots, count_at, with_count, with_new_slot}
 use Rattle.page_hash.specs.declared.PageName.{PageName}
-use Rattle.vm_types.specs.Prot.{can_write}
 use Rattle.vm_types.specs.declared.call.Kind.{Kind}
 use Rattle.vm_types.specs.declared.call.Kind.TheVariants.{Shared, Private}
 use Rattle.vm_types.specs.declared.call.Object.TheVariants as object
@@ -15,8 +14,7 @@ use Rattle.vm_world.specs.World.{World, slot_in}
 use Rattle.seg_ops.specs.Slots.{GivesSlot, anon_left}
 use Rattle.seg_ops.specs.declared.plans.Step.TheVariants as step
 use Rattle.seg_vn.specs.AnyPlaces.{ZerosShown}
-use Rattle.seg_vn.specs.Shown.{ZerosPlace}
-use Rattle.seg_ops.specs.SlotsDue.{KeepsSlots, MakesSlotAt, MapPlace, SlotsAfter, holds_alone, makes_own, object_map_place, own_map_place, slot_due, zeros_due}
+use Rattle.seg_ops.specs.SlotsDue.{MakesSlotAt, MapPlace, SlotsAfter, holds_alone, makes_own, object_map_place, own_map_place, slot_due, zeros_due}
 
 -- NONE IS DUE where a page is shown, and may be written in place, if it is to be written.
 pub due-none : (anon : Slots) (maps : List (Option Map)) (x : Spot) (write : Bool) (name : PageName) → shown_name maps x ≡ Some name → (write ≡ true → MayWriteInPlace anon maps x) → slot_due anon maps x write ≡ None

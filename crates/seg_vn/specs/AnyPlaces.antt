@@ -6,18 +6,24 @@ use Rattle.anon_slots.specs.Slots.{count_at}
 use Rattle.page_hash.specs.declared.PageName.{PageName}
 use Rattle.page_store.specs.Notes.{Notes}
 use Rattle.page_store.specs.Seen.{residence}
+use Rattle.page_store.specs.Steps.{next_name}
 use Rattle.page_store.specs.declared.residence.Residence.TheVariants.{Absent}
+use Rattle.hat_layer.specs.Pool.{translation_at}
 use Rattle.flat_model.specs.Flat.{shown}
 use Rattle.flat_model.specs.Words.{Page}
 use Rattle.vm_types.specs.Prot.{can_read, can_write}
 use Rattle.vm_types.specs.declared.call.Kind.TheVariants.{Private}
 use Rattle.vm_types.specs.declared.call.Object.TheVariants as object
+use Rattle.vm_world.specs.CallSteps.{ChangesMemory}
 use Rattle.vm_world.specs.FlatMemory.{cell_of, flat_memory, own_without_slot}
+use Rattle.vm_world.specs.MemoryFits.{MemoryFits}
 use Rattle.vm_world.specs.Pages.{contents_of}
 use Rattle.vm_world.specs.Segments.{Spot, Spaces, spot_at, own_slot, shown_name}
 use Rattle.vm_world.specs.TranslationsFit.{MayWriteInPlace}
 use Rattle.vm_world.specs.Wants.{shows_page}
 use Rattle.vm_world.specs.World.{World, slot_in, is_unpushed, page_exists}
+use Rattle.seg_ops.specs.OwnPages.{with_own_shown}
+use Rattle.seg_ops.specs.Slots.{GivesSlot, MakesHome, OwnsAlone}
 use Rattle.seg_vn.specs.Shown.{ZerosPlace}
 
 -- A place shows this page, which a translation may lead to: a writable one only where the page may be written where it is; and a store's is.
@@ -65,3 +71,14 @@ pub record OwnSpot (spaces : Spaces) (p q m i : ℕ) (x : Spot) : Type 0 where
   pub here : spot_at spaces p q ≡ Some x
   pub own : x.0.own ≡ Some m
   pub place : x.1 ≡ i
+
+-- A place of a private page gets a slot of its own, whose page is home in the frame that was taken, and memory fits as before. Where no name held that frame
+-- and the place shows these bytes, the cell has in flat memory what it shows as its own, and nothing else changes.
+pub record GetsOwn (old new : World) (pending more m i : ℕ) (slot : Option ℕ) (bytes : Page) (s : ℕ) : Type 0 where
+  pub gives : GivesSlot old.anon new.anon old.maps new.maps m i s
+  pub made : MakesHome old new pending more s
+  pub memory : (spaces : Spaces) (p q : ℕ) (x : Spot) → MemoryFits (record { world = old; spaces = spaces }) → OwnsAlone spaces p q m i x → translation_at old.hat.places p q ≡ None
+      → MemoryFits (record { world = new; spaces = spaces })
+  pub changes : (spaces : Spaces) (p q : ℕ) (x : Spot) → MemoryFits (record { world = old; spaces = spaces }) → OwnsAlone spaces p q m i x → translation_at old.hat.places p q ≡ None
+      → next_name old.store ≡ None → CellShows old spaces x slot bytes
+      → ChangesMemory p (record { world = old; spaces = spaces }) (record { world = new; spaces = spaces }) (λ F G. G ≡ with_own_shown F p q)

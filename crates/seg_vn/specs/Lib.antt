@@ -2,6 +2,7 @@ pub mod Segments
 pub mod Spaces
 pub mod Lends
 pub mod Clears
+pub mod Leaves
 pub mod Serves
 pub mod Brings
 pub mod Shown

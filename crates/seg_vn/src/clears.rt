@@ -1,14 +1,13 @@
 //! Ranges of pages that are taken out of a space.
-ghost use Rattle.std.specs.Prelude.{◌≡◌, ◌≤◌, ◌<◌, ◌+◌, ◌-◌, ℕ, None, Some, MatchOption, if◌then◌else◌};
+ghost use Rattle.std.specs.Prelude.{◌≡◌, ◌≤◌, ◌<◌, ◌+◌, ◌-◌, ℕ, None, Some, IsSome, MatchOption, if◌then◌else◌};
 ghost use Rattle.std.specs.FinMap as finite;
 ghost use Rattle.addr_space.specs.Space.{piece_at, begins, FindsLast};
-ghost use Rattle.anon_map.specs.Maps.{free_numbers};
 ghost use Rattle.flat_model.specs.Mapping.{without_pages};
 ghost use Rattle.flat_model.specs.Space.{in_range};
-ghost use Rattle.vm_world.specs.PlainSteps.{ChangesSpace};
 ghost use Rattle.vm_world.specs.Segments.{Spaces};
 ghost use Rattle.vm_world.specs.World.{world_seen};
-ghost use Rattle.seg_vn.specs.Clears.{SpaceFits, StartsAt, slots_of_range};
+ghost use Rattle.vm_world.specs.ZeroObjects.{free_number};
+ghost use Rattle.seg_vn.specs.Clears.{ChangesSpace, GivesBack, SpaceFits, StartsAt};
 
 use crate::segment::VnSeg;
 use addr_space::Ranges;
@@ -29,8 +28,9 @@ fn last_in(space: &Ranges<VnSeg>, from: u32, end: u32) -> Option<u32>
 }
 
 /// Takes all pieces of a range of pages out of a process's space, from the back, with their translations, their private pages,
-/// and what is reserved for them. No piece goes across an end of the range. Takes no memory. Time: the pages that go, and the
-/// logarithm of the number of pieces for each piece.
+/// the zero objects that no other piece shows, and what is reserved for them. No piece goes across an end of the range. Takes
+/// no memory. Time: the pages that go, those of the zero objects that go, and the logarithm of the number of pieces for each
+/// piece.
 pub fn clear<D: Disk>(
     world: &mut World<D>,
     space: &mut Ranges<VnSeg>,
@@ -42,23 +42,20 @@ pub fn clear<D: Disk>(
     requires low { StartsAt space.old.parts from }
     requires high { StartsAt space.old.parts end }
     requires fits { (spaces : Spaces)
-        × SpaceFits (world_seen world.old) spaces process space.old.parts }
+        × SpaceFits (world_seen world.old) world.old.zeros spaces process space.old.parts }
     // The pages of the range have no cell, and all others the piece that they had.
     ensures pages { (q : ℕ) → piece_at space.new.parts q
         ≡ (if in_range from (end - from) q then None else piece_at space.old.parts q) }
     ensures changes { (spaces : Spaces)
-        → SpaceFits (world_seen world.old) spaces process space.old.parts
+        → SpaceFits (world_seen world.old) world.old.zeros spaces process space.old.parts
         → ChangesSpace process (record { world = world_seen world.old; spaces = spaces })
         (record {
           world = world_seen world.new;
           spaces = finite.insert spaces process space.new.parts;
         })
-        (λ F. without_pages F process from (end - from)) }
-    // The slots of its private pages aren't reserved any more.
-    ensures reserved { world.new.anon.reserved
-        + slots_of_range space.old.parts from (end - from) ≡ world.old.anon.reserved }
-    // The numbers that were free are.
-    ensures numbers { free_numbers world.old.maps ≤ free_numbers world.new.maps }
+        world.new.zeros (λ F. without_pages F process from (end - from)) }
+    ensures gives { GivesBack (world_seen world.old) (world_seen world.new) }
+    ensures objects { IsSome (free_number world.old.zeros) → IsSome (free_number world.new.zeros) }
     // What stays.
     ensures spare { space.old.spare ≤ space.new.spare }
     ensures rest { world.new ≡ record world.old {
@@ -66,6 +63,7 @@ pub fn clear<D: Disk>(
       anon = world.new.anon;
       maps = world.new.maps;
       hat = world.new.hat;
+      zeros = world.new.zeros;
     } }
 {
     let mut top = end;

@@ -2,23 +2,20 @@
 ghost use Rattle.std.specs.Prelude.{◌≡◌, ◌≢◌, ◌<◌, ℕ, Option, true, length, Some, None, IsSome, IsTrue, IfSome};
 ghost use Rattle.core_arena.specs.Bytes.{bytes_at, zeros};
 ghost use Rattle.hat_layer.specs.Pool.{translation_at};
-ghost use Rattle.page_hash.specs.Names.{find, is_name};
+ghost use Rattle.page_hash.specs.Names.{find};
 ghost use Rattle.page_hash.specs.declared.PageName.{PageName};
 ghost use Rattle.page_store.specs.Notes.{Notes};
 ghost use Rattle.page_store.specs.Seen.{IsListedFrame, residence};
 ghost use Rattle.page_store.specs.Steps.{next_frame, next_name, home_bytes};
 ghost use Rattle.anon_map.specs.Maps.{IsMapThere, places_of};
 ghost use Rattle.anon_slots.specs.Slots.{count_at};
-ghost use Rattle.vm_world.specs.CallSteps.{ChangesMemory};
 ghost use Rattle.vm_world.specs.MemoryFits.{MemoryFits};
 ghost use Rattle.vm_world.specs.NotesFit.{NotesFit};
 ghost use Rattle.vm_world.specs.Segments.{Spaces, Spot};
 ghost use Rattle.vm_world.specs.Serving.{TakesFrames};
-ghost use Rattle.vm_world.specs.StateSteps.{PendsTails};
 ghost use Rattle.vm_world.specs.World.{world_seen, slot_name, slot_in, is_unpushed, page_exists};
-ghost use Rattle.seg_ops.specs.OwnPages.{with_own_shown};
-ghost use Rattle.seg_ops.specs.Slots.{GivesSlot, OwnsAlone};
-ghost use Rattle.seg_vn.specs.AnyPlaces.{CellShows, CopyPlace, OwnSpot, ShowsZeros};
+ghost use Rattle.seg_ops.specs.Slots.{OwnsAlone};
+ghost use Rattle.seg_vn.specs.AnyPlaces.{CopyPlace, GetsOwn, OwnSpot, ShowsZeros};
 ghost use Rattle.seg_ops.specs.Faults.{ServesFault};
 
 use crate::any_pages::is_blank;
@@ -49,32 +46,16 @@ fn copy_into<D: Disk>(
     requires owned { (spaces : Spaces) × (p : ℕ) × (q : ℕ) × (x : Spot)
         × MemoryFits (record { world = world_seen world.old; spaces = spaces })
         × OwnsAlone spaces p q map place x × (translation_at world.old.hat.places p q ≡ None) }
-    // The place has a slot of its own, whose page is home.
-    ensures gives { GivesSlot world.old.anon world.new.anon
-        world.old.maps world.new.maps map place result }
-    ensures home { IfSome (next_frame world.old.store)
-        (λ frame. residence world.new.store (slot_name result) ≡ Residence.Home frame) }
-    ensures pends { PendsTails (world_seen world.old) (is_name (next_name world.old.store))
-        world.old.pending world.new.pending }
+    ensures own { GetsOwn (world_seen world.old) (world_seen world.new)
+        world.old.pending world.new.pending map place slot
+        (home_bytes world.old.store (find world.old.store.names name)) result }
+    // What stays.
     ensures rest { world.new ≡ record world.old {
       store = world.new.store;
       anon = world.new.anon;
       maps = world.new.maps;
       pending = world.new.pending;
     } }
-    ensures memory { (spaces : Spaces) (p q : ℕ) (x : Spot)
-        → MemoryFits (record { world = world_seen world.old; spaces = spaces })
-        → OwnsAlone spaces p q map place x → translation_at world.old.hat.places p q ≡ None
-        → MemoryFits (record { world = world_seen world.new; spaces = spaces }) }
-    ensures changes { (spaces : Spaces) (p q : ℕ) (x : Spot)
-        → MemoryFits (record { world = world_seen world.old; spaces = spaces })
-        → OwnsAlone spaces p q map place x → translation_at world.old.hat.places p q ≡ None
-        → next_name world.old.store ≡ None
-        → CellShows (world_seen world.old) spaces x slot
-        (home_bytes world.old.store (find world.old.store.names name))
-        → ChangesMemory p (record { world = world_seen world.old; spaces = spaces })
-        (record { world = world_seen world.new; spaces = spaces })
-        (λ F G. G ≡ with_own_shown F p q) }
 {
     match slot {
         None => make_copy(world, name, map, place),
@@ -94,30 +75,15 @@ fn zeros_into<D: Disk>(world: &mut World<D>, map: u32, place: u32, slot: Option<
     requires owned { (spaces : Spaces) × (p : ℕ) × (q : ℕ) × (x : Spot)
         × MemoryFits (record { world = world_seen world.old; spaces = spaces })
         × OwnsAlone spaces p q map place x × (translation_at world.old.hat.places p q ≡ None) }
-    // The place has a slot of its own, whose page is home.
-    ensures gives { GivesSlot world.old.anon world.new.anon
-        world.old.maps world.new.maps map place result }
-    ensures home { IfSome (next_frame world.old.store)
-        (λ frame. residence world.new.store (slot_name result) ≡ Residence.Home frame) }
-    ensures pends { PendsTails (world_seen world.old) (is_name (next_name world.old.store))
-        world.old.pending world.new.pending }
+    ensures own { GetsOwn (world_seen world.old) (world_seen world.new)
+        world.old.pending world.new.pending map place slot zeros result }
+    // What stays.
     ensures rest { world.new ≡ record world.old {
       store = world.new.store;
       anon = world.new.anon;
       maps = world.new.maps;
       pending = world.new.pending;
     } }
-    ensures memory { (spaces : Spaces) (p q : ℕ) (x : Spot)
-        → MemoryFits (record { world = world_seen world.old; spaces = spaces })
-        → OwnsAlone spaces p q map place x → translation_at world.old.hat.places p q ≡ None
-        → MemoryFits (record { world = world_seen world.new; spaces = spaces }) }
-    ensures changes { (spaces : Spaces) (p q : ℕ) (x : Spot)
-        → MemoryFits (record { world = world_seen world.old; spaces = spaces })
-        → OwnsAlone spaces p q map place x → translation_at world.old.hat.places p q ≡ None
-        → next_name world.old.store ≡ None → CellShows (world_seen world.old) spaces x slot zeros
-        → ChangesMemory p (record { world = world_seen world.old; spaces = spaces })
-        (record { world = world_seen world.new; spaces = spaces })
-        (λ F G. G ≡ with_own_shown F p q) }
 {
     match slot {
         None => make_zero(world, map, place),

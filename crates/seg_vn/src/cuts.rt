@@ -1,14 +1,9 @@
 //! Segments that are cut in two.
-ghost use Rattle.std.specs.Prelude.{◌≡◌, ◌≤◌, ◌<◌, ◌-◌, ◌+◌, ◌^◌, ℕ, [], false, length, Some, IsSome, IfOk, OnErr, option_map, vec_capacity};
-ghost use Rattle.std.specs.FinMap as finite;
-ghost use Rattle.addr_space.specs.Space.{cut_at, with_new_piece};
+ghost use Rattle.std.specs.Prelude.{◌≡◌, ◌≢◌, ◌≤◌, ◌<◌, ◌-◌, ◌+◌, ◌^◌, ℕ, [], false, length, Some, IsSome, IfOk, OnErr, option_map, vec_capacity};
 ghost use Rattle.anon_map.specs.Maps.{IsMapThere, IsUnused, places_of, holders_of, free_numbers};
 ghost use Rattle.vm_world.specs.MapSteps.{maps_cut, maps_held};
-ghost use Rattle.vm_world.specs.SegmentSteps.{ChangesSegments, upper_pages};
-ghost use Rattle.vm_world.specs.Segments.{Spaces};
-ghost use Rattle.vm_world.specs.SpaceSteps.{first_pages};
 ghost use Rattle.vm_world.specs.World.{world_seen};
-ghost use Rattle.seg_vn.specs.Cuts.{IsCutPart};
+ghost use Rattle.seg_vn.specs.Cuts.{IsCutInTwo, MayBeCut};
 
 use crate::segment::VnSeg;
 use block_device::Disk;
@@ -37,9 +32,23 @@ fn cut_own<D: Disk>(
     Some(world.maps.cut_into(map, at, room))
 }
 
+// One holder more of the map of a zero object, if there is one.
+#[tactic(auto, using(anon_map::proofs::MapLaws::with_holders_free))]
+fn hold_shown<D: Disk>(world: &mut World<D>, shown: Option<u32>)
+    requires there { (map : ℕ) → shown ≡ Some map → IsMapThere world.old.maps map
+        × (holders_of world.old.maps map < 2 ^ 32 - 1) }
+    ensures held { world.new ≡ record world.old { maps = maps_held world.old.maps shown } }
+    ensures free { free_numbers world.new.maps ≡ free_numbers world.old.maps }
+{
+    if let Some(map) = shown {
+        world.maps.hold(map);
+    }
+}
+
 impl VnSeg {
-    /// Cuts a segment in two that shows no zero object: its first pages stay, and the result has the others, with the later
-    /// places of its own map, if it has one, in room that was taken before. Takes no memory. Time: the places that go over.
+    /// Cuts a segment in two: its first pages stay, and the result has the others, with the later places of its own map, if it
+    /// has one, in room that was taken before. Both show its zero object, if it shows one. Takes no memory. Time: the places
+    /// that go over.
     pub fn cut_into<D: Disk>(
         &mut self,
         world: &mut World<D>,
@@ -48,31 +57,27 @@ impl VnSeg {
     ) -> VnSeg
         requires some { 0 < at }
         requires below { at < self.old.pages }
-        requires plain { self.old.shown ≡ None }
+        requires may { MayBeCut world.old.maps self.old }
         requires free { 0 < free_numbers world.old.maps }
         requires empty { room.items ≡ [] }
         requires roomy { IsSome self.old.own → self.old.pages - at ≤ vec_capacity room }
-        requires part { (spaces : Spaces) × (p : ℕ) × (page : ℕ)
-            × IsCutPart (world_seen world.old) spaces p page at self.old }
-        ensures upper { (number : ℕ) × (result ≡ upper_pages at number self.old) }
-        ensures lower { self.new ≡ first_pages at self.old }
-        // Memory fits with the two parts in the place of the one, and flat memory is as it was.
-        ensures changes { (spaces : Spaces) (p page : ℕ)
-            (c : IsCutPart (world_seen world.old) spaces p page at self.old)
-            → ChangesSegments p (record { world = world_seen world.old; spaces = spaces })
-            (record {
-              world = world_seen world.new;
-              spaces = finite.insert spaces p
-                  (cut_at page result (with_new_piece page self.new c.parts));
-            })
-            (λ F. F) }
-        // At most one number is used.
+        ensures cut { IsCutInTwo (world_seen world.old) (world_seen world.new)
+            self.old self.new result at }
+        // At most one number is used; no map has more than one holder more; and each but its own keeps its places.
         ensures numbers { free_numbers world.old.maps ≤ free_numbers world.new.maps + 1 }
+        ensures unused { (number : ℕ) → result.own ≡ Some number
+            → IsUnused world.old.maps number }
+        ensures held { (number : ℕ)
+            → holders_of world.new.maps number ≤ holders_of world.old.maps number + 1 }
+        ensures lengths { (number : ℕ) → self.old.own ≢ Some number
+            → IsMapThere world.old.maps number → length (places_of world.new.maps number)
+            ≡ length (places_of world.old.maps number) }
         // What stays.
         ensures rest { world.new ≡ record world.old { maps = world.new.maps } }
     {
         let whole = self.segment;
         let own = cut_own(world, whole.own, at, room);
+        hold_shown(world, whole.shown);
         self.segment.pages = at;
         VnSeg {
             segment: Segment {
@@ -101,28 +106,15 @@ impl VnSeg {
         }
     }
 
-    /// Cuts a segment in two that shows no zero object: its first pages stay, and the result has the others, with the later
-    /// places of its own map, if it has one. The only error is want of memory, or of numbers; then nothing changed. Time:
-    /// the places that go over.
+    /// Cuts a segment in two: its first pages stay, and the result has the others, with the later places of its own map, if it
+    /// has one. Both show its zero object, if it shows one. The only error is want of memory, or of numbers; then nothing
+    /// changed. Time: the places that go over.
     pub fn cut<D: Disk>(&mut self, world: &mut World<D>, at: u32) -> Result<VnSeg, AllocError>
         requires some { 0 < at }
         requires below { at < self.old.pages }
-        requires plain { self.old.shown ≡ None }
-        requires part { (spaces : Spaces) × (p : ℕ) × (page : ℕ)
-            × IsCutPart (world_seen world.old) spaces p page at self.old }
-        ensures upper { IfOk result
-            (λ upper. (number : ℕ) × (upper ≡ upper_pages at number self.old)) }
-        ensures lower { IfOk result (λ upper. self.new ≡ first_pages at self.old) }
-        // Memory fits with the two parts in the place of the one, and flat memory is as it was.
-        ensures changes { IfOk result (λ upper. (spaces : Spaces) (p page : ℕ)
-            (c : IsCutPart (world_seen world.old) spaces p page at self.old)
-            → ChangesSegments p (record { world = world_seen world.old; spaces = spaces })
-            (record {
-              world = world_seen world.new;
-              spaces = finite.insert spaces p
-                  (cut_at page upper (with_new_piece page self.new c.parts));
-            })
-            (λ F. F)) }
+        requires may { MayBeCut world.old.maps self.old }
+        ensures cut { IfOk result (λ upper. IsCutInTwo (world_seen world.old)
+            (world_seen world.new) self.old self.new upper at) }
         ensures err { OnErr result ((world.new ≡ world.old) × (self.new ≡ self.old)) }
         // What stays.
         ensures rest { world.new ≡ record world.old { maps = world.new.maps } }

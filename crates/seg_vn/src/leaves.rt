@@ -1,53 +1,128 @@
 //! Segments that go from memory.
-ghost use Rattle.std.specs.Prelude.{◌≡◌, ◌≤◌, ◌-◌, ℕ, None, slice_set};
+ghost use Rattle.std.specs.Prelude.{◌≡◌, ◌≤◌, ◌-◌, ℕ, Some, IsSome};
 ghost use Rattle.std.specs.FinMap as finite;
 ghost use Rattle.addr_space.specs.Space.{without_part};
-ghost use Rattle.anon_map.specs.Maps.{IsMapThere, AreEmpty, places_of, holders_of, free_numbers};
+ghost use Rattle.anon_map.specs.Maps.{IsMapThere, AreEmpty, places_of, holders_of};
 ghost use Rattle.anon_slots.specs.Slots.{slots_in_use};
 ghost use Rattle.flat_model.specs.Mapping.{without_pages};
-ghost use Rattle.vm_world.specs.SegmentSteps.{ChangesSegments};
+ghost use Rattle.vm_world.specs.MapSteps.{maps_released, places_released};
 ghost use Rattle.vm_world.specs.Segments.{Spaces};
 ghost use Rattle.vm_world.specs.World.{world_seen};
+ghost use Rattle.vm_world.specs.ZeroObjects.{KnowsZeros, free_number};
+ghost use Rattle.seg_vn.specs.Clears.{ChangesSpace, GivesBack};
 ghost use Rattle.seg_vn.specs.Cuts.{IsPartAt};
+ghost use Rattle.seg_vn.specs.Leaves.{IsUnloadedPart, LosesObject, LosesWithPages};
 
 use crate::segment::VnSeg;
 use block_device::Disk;
-use seg_ops::drop_places;
-use vm_world::World;
+use seg_ops::{drop_object, drop_places};
+use vm_types::Object;
+use vm_world::{Segment, World};
 
-// Gives up a map that holds no slot, with what is reserved for its places.
-fn give_up<D: Disk>(world: &mut World<D>, map: u32, places: u32)
-    requires there { IsMapThere world.old.maps map }
-    requires last { holders_of world.old.maps map ≡ 1 }
-    requires empty { AreEmpty (places_of world.old.maps map) }
-    requires room { places ≤ world.old.anon.reserved - slots_in_use world.old.anon }
-    ensures { world.new ≡ record world.old {
-      anon = record world.old.anon { reserved = world.old.anon.reserved - places };
-      maps = slice_set world.old.maps map None;
+// Empties the map of a segment's private pages, if it has one.
+fn empty_own<D: Disk>(world: &mut World<D>, segment: Segment, space: u32, first: u32)
+    requires part { (spaces : Spaces)
+        × IsUnloadedPart (world_seen world.old) spaces space first segment }
+    ensures own { (map : ℕ) → segment.own ≡ Some map
+        → AreEmpty (places_of world.new.maps map) }
+    ensures gives { GivesBack (world_seen world.old) (world_seen world.new) }
+    ensures rest { world.new ≡ record world.old {
+      store = world.new.store;
+      anon = world.new.anon;
+      maps = world.new.maps;
+    } }
+    ensures changes { (spaces : Spaces)
+        → IsUnloadedPart (world_seen world.old) spaces space first segment
+        → LosesWithPages space first segment.pages
+        (record { world = world_seen world.old; spaces = spaces })
+        (record { world = world_seen world.new; spaces = spaces }) }
+{
+    if let Some(map) = segment.own {
+        drop_places(world, map, 0, segment.pages);
+    }
+}
+
+// Empties the map of the zero object that a segment shows, if no other segment shows it; then the object's number is free.
+fn empty_shown<D: Disk>(world: &mut World<D>, segment: Segment, space: u32, first: u32)
+    requires part { (spaces : Spaces)
+        × IsUnloadedPart (world_seen world.old) spaces space first segment
+        × KnowsZeros world.old.zeros spaces }
+    ensures shown { (map : ℕ) → segment.shown ≡ Some map → holders_of world.new.maps map ≡ 1
+        → AreEmpty (places_of world.new.maps map) }
+    ensures still { (map : ℕ) → AreEmpty (places_of world.old.maps map)
+        → AreEmpty (places_of world.new.maps map) }
+    ensures list { LosesObject world.new.maps segment world.old.zeros world.new.zeros }
+    ensures objects { IsSome (free_number world.old.zeros) → IsSome (free_number world.new.zeros) }
+    ensures gives { GivesBack (world_seen world.old) (world_seen world.new) }
+    // What stays.
+    ensures rest { world.new ≡ record world.old {
+      store = world.new.store;
+      anon = world.new.anon;
+      maps = world.new.maps;
+      zeros = world.new.zeros;
+    } }
+    ensures changes { (spaces : Spaces)
+        → IsUnloadedPart (world_seen world.old) spaces space first segment
+        → LosesWithPages space first segment.pages
+        (record { world = world_seen world.old; spaces = spaces })
+        (record { world = world_seen world.new; spaces = spaces }) }
+{
+    let Object::Zero(number) = segment.object else {
+        return;
+    };
+    let Some(map) = segment.shown else {
+        return;
+    };
+    if world.maps.holders(map) == 1 {
+        drop_object(world, map);
+        world.zeros.remove(number);
+    }
+}
+
+// Gives up a hold of a map, if there is one. With its last holder the map goes, and what is reserved for its places.
+fn release<D: Disk>(world: &mut World<D>, map: Option<u32>)
+    requires there { (number : ℕ) → map ≡ Some number → IsMapThere world.old.maps number }
+    requires empty { (number : ℕ) → map ≡ Some number → holders_of world.old.maps number ≡ 1
+        → AreEmpty (places_of world.old.maps number) }
+    requires room { places_released world.old.maps map
+        ≤ world.old.anon.reserved - slots_in_use world.old.anon }
+    ensures released { world.new ≡ record world.old {
+      anon = record world.old.anon {
+        reserved = world.old.anon.reserved - places_released world.old.maps map;
+      };
+      maps = maps_released world.old.maps map;
     } }
 {
-    world.maps.release(map);
-    world.anon.unreserve(places);
+    let Some(number) = map else {
+        return;
+    };
+    let places = world.maps.pages(number);
+    if world.maps.release(number) {
+        world.anon.unreserve(places);
+    }
 }
 
 impl VnSeg {
-    /// Takes a segment out of memory that shows no zero object and begins with this page of the process: its translations, its
-    /// private pages with their slots, its own map, and what is reserved for it. Takes no memory. Time: its pages.
+    /// Takes a segment out of memory that begins with this page of the process: its translations, its private pages with
+    /// their slots, its own map, and what is reserved for it; and the zero object that it shows, if no other segment shows it.
+    /// Takes no memory. Time: its pages, and those of the zero object that goes.
     pub fn leave<D: Disk>(&mut self, world: &mut World<D>, space: u32, first: u32)
-        requires plain { self.old.shown ≡ None }
         requires part { (spaces : Spaces)
-            × IsPartAt (world_seen world.old) spaces space first self.old }
+            × IsPartAt (world_seen world.old) spaces space first self.old
+            × KnowsZeros world.old.zeros spaces }
         // Memory fits without the part, and flat memory has none of its cells.
         ensures changes { (spaces : Spaces)
             (c : IsPartAt (world_seen world.old) spaces space first self.old)
-            → ChangesSegments space (record { world = world_seen world.old; spaces = spaces })
+            → KnowsZeros world.old.zeros spaces
+            → ChangesSpace space (record { world = world_seen world.old; spaces = spaces })
             (record {
               world = world_seen world.new;
               spaces = finite.insert spaces space (without_part first c.parts);
             })
-            (λ F. without_pages F space first self.old.pages) }
-        // The numbers that were free are.
-        ensures numbers { free_numbers world.old.maps ≤ free_numbers world.new.maps }
+            world.new.zeros (λ F. without_pages F space first self.old.pages) }
+        ensures gives { GivesBack (world_seen world.old) (world_seen world.new) }
+        ensures objects { IsSome (free_number world.old.zeros)
+            → IsSome (free_number world.new.zeros) }
         // What stays.
         ensures segment { self.new ≡ self.old }
         ensures rest { world.new ≡ record world.old {
@@ -55,13 +130,14 @@ impl VnSeg {
           anon = world.new.anon;
           maps = world.new.maps;
           hat = world.new.hat;
+          zeros = world.new.zeros;
         } }
     {
         self.unmap(world, space, first);
-        let pages = self.pages();
-        if let Some(map) = self.own() {
-            drop_places(world, map, 0, pages);
-            give_up(world, map, pages);
-        }
+        let segment = self.segment;
+        empty_own(world, segment, space, first);
+        empty_shown(world, segment, space, first);
+        release(world, segment.own);
+        release(world, segment.shown);
     }
 }

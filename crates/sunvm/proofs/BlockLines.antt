@@ -8,13 +8,8 @@ use Rattle.std.proofs.lemmas.List.Elements.{All-nil, All-cons, All-head, All-tai
 use Rattle.std.proofs.lemmas.List.Sums.{AllPass-from_list_all, sum_by-cons}
 use Rattle.vm_types.specs.declared.call.Call.{Call}
 use Rattle.vm_types.specs.declared.call.Call.TheVariants as call
-use Rattle.vm_types.specs.declared.call.Kind.{Kind}
-use Rattle.vm_types.specs.declared.call.Kind.TheVariants.{Shared, Private}
-use Rattle.vm_types.specs.declared.call.Object.{Object}
-use Rattle.vm_types.specs.declared.call.Object.TheVariants as object
 use Rattle.vm_types.specs.declared.call.Place.TheVariants.{At, Any}
 use Rattle.vm_types.specs.WellFormed.{IsWellFormed}
-use Rattle.mmap_calls.specs.Maps.{IsServedObject}
 use Rattle.vm_core.specs.Calls.{IsServed}
 use Rattle.vm_script.specs.declared.plan.PlanAct.{PlanAct}
 use Rattle.vm_script.specs.declared.plan.PlanAct.TheVariants as act
@@ -25,23 +20,15 @@ use Rattle.vm_script.specs.PlanSeen.{PlanSeen}
 use Rattle.vm_script.specs.Sound.{IsSoundAct}
 use Rattle.vm_script.specs.Told.{parent_of}
 use Rattle.vm_world.specs.HistoryFits.{is_exit}
-use Rattle.sunvm.specs.Asked.{is_served_object, is_served_call, is_served_named, is_served_act}
+use Rattle.sunvm.specs.Asked.{is_served_call, is_served_named, is_served_act}
 use Rattle.sunvm.specs.Lines.{line_call, line_calls, MayBeMade, AreLines}
 use Rattle.sunvm.specs.Played.{IsPlayable}
 
 -- THE CALL of a line that is served
-served-object : (kind : Kind) (o : Object) → IsTrue (is_served_object kind o) → IsServedObject kind o
-served-object Shared (object.File f) is = tt
-served-object Private (object.File f) is = tt
-served-object Private object.NewZero is = tt
-served-object Shared object.NewZero is = absurd (let z : false ≡ true = is in cc)
-served-object Shared (object.Zero z) is = absurd (let y : false ≡ true = is in cc)
-served-object Private (object.Zero z) is = absurd (let y : false ≡ true = is in cc)
-
 pub served-call : (c : Call) → IsTrue (is_served_call c) → IsServed c
 served-call (call.Load a n) is = tt
 served-call (call.Store a n v) is = tt
-served-call (call.Map (At a) len prot kind o offset) is = served-object kind o is
+served-call (call.Map (At a) len prot kind o offset) is = tt
 served-call (call.Map Any len prot kind o offset) is = absurd (let z : false ≡ true = is in cc)
 served-call (call.Unmap a len) is = absurd (let z : false ≡ true = is in cc)
 served-call (call.Protect a len prot) is = absurd (let z : false ≡ true = is in cc)
@@ -54,10 +41,7 @@ served-call call.Exit is = tt
 
 -- a call that a file's line makes is one of the calls that are served
 pub named-call : (c : Call) → IsTrue (is_served_named c) → IsTrue (is_served_call c) × IsFalse (is_exit c)
-named-call (call.Map (At a) len prot Shared (object.File f) offset) is = (refl, refl)
-named-call (call.Map (At a) len prot Private (object.File f) offset) is = (refl, refl)
-named-call (call.Map (At a) len prot kind object.NewZero offset) is = absurd (let z : false ≡ true = is in cc)
-named-call (call.Map (At a) len prot kind (object.Zero z) offset) is = absurd (let y : false ≡ true = is in cc)
+named-call (call.Map (At a) len prot kind o offset) is = (refl, refl)
 named-call (call.Map Any len prot kind o offset) is = absurd (let z : false ≡ true = is in cc)
 named-call (call.Load a n) is = absurd (let z : false ≡ true = is in cc)
 named-call (call.Store a n v) is = absurd (let z : false ≡ true = is in cc)

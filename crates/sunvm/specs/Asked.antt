@@ -1,12 +1,8 @@
 -- What a run is asked to do, by its words and by the script or the number of a generated one. Public clauses cite this.
-use Rattle.std.specs.Prelude.{ℕ, ◌==◌, ◌&&◌, not, nat_lt, ◌||◌, Bool, true, false, List, length, ◌≡◌, Option, Some, None, IfSome, option_map, Result, Ok, Err, if◌then◌else◌}
+use Rattle.std.specs.Prelude.{ℕ, not, nat_lt, ◌||◌, Bool, true, false, List, length, ◌≡◌, Option, Some, None, IfSome, option_map, Result, Ok, Err, if◌then◌else◌}
 use Rattle.std.specs.List.{list_all}
 use Rattle.vm_types.specs.declared.call.Call.{Call}
 use Rattle.vm_types.specs.declared.call.Call.TheVariants as call
-use Rattle.vm_types.specs.declared.call.Kind.{Kind}
-use Rattle.vm_types.specs.declared.call.Kind.TheVariants.{Private}
-use Rattle.vm_types.specs.declared.call.Object.{Object}
-use Rattle.vm_types.specs.declared.call.Object.TheVariants as object
 use Rattle.vm_types.specs.declared.call.Place.TheVariants.{At}
 use Rattle.block_device.specs.Counts.{HasRisen}
 use Rattle.block_device.specs.RackSeen.{RackSeen}
@@ -40,23 +36,17 @@ pub record Asked : Type 0 where
   pub options : Options
   pub plan : PlanSeen
 
--- The mappings that are served so far: those of files, and private ones of new zero memory.
-abbrev pub is_served_object : Kind → Object → Bool
-is_served_object kind (object.File f) = true
-is_served_object Private object.NewZero = true
-is_served_object kind o = false
-
--- The calls that are served so far: loads, stores, such a mapping at an address, and the exit.
+-- The calls that are served so far: loads, stores, the mapping at an address, and the exit.
 abbrev pub is_served_call : Call → Bool
 is_served_call (call.Load a n) = true
 is_served_call (call.Store a n v) = true
-is_served_call (call.Map (At a) len prot kind o offset) = is_served_object kind o
+is_served_call (call.Map (At a) len prot kind o offset) = true
 is_served_call call.Exit = true
 is_served_call c = false
 
 -- Those of a line that names a file: the mapping alone.
 abbrev pub is_served_named : Call → Bool
-is_served_named (call.Map (At a) len prot kind (object.File f) offset) = true
+is_served_named (call.Map (At a) len prot kind o offset) = true
 is_served_named c = false
 
 abbrev pub is_served_act : PlanAct → Bool

@@ -1,5 +1,5 @@
 -- Disks that are attached, and files that are placed on them, before the processes run. Inside: no clause of `run` cites this.
-use Rattle.std.specs.Prelude.{ℕ, ◌≡◌, ◌≢◌, ◌<◌, ◌≤◌, ◌⊎◌, List, [], ◌∷◌, length, map, All, Ok, Some, None, IfSome, IsSome, Option, option_map, slice_get, vec_capacity}
+use Rattle.std.specs.Prelude.{ℕ, ◌≡◌, ◌≢◌, ◌<◌, ◌≤◌, ◌⊎◌, List, [], ◌∷◌, length, map, All, Ok, Some, IfSome, IsSome, Option, option_map, slice_get, vec_capacity}
 use Rattle.std.specs.FinMap as finite
 use Rattle.block_device.specs.DiskSeen.{DiskSeen}
 use Rattle.block_device.specs.OpenSeen.{OpenFaultSeen}

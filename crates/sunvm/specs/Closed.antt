@@ -4,7 +4,7 @@ use Rattle.block_device.specs.DiskSeen.{DiskSeen}
 use Rattle.flat_model.specs.Flat.{File}
 use Rattle.flat_model.specs.Parts.{file_bytes}
 use Rattle.vnode_files.specs.declared.vnode.FileInfo.{FileInfo}
-use Rattle.volume_format.specs.Table.{TableSeen, with_table_entry, no_entry, entry_at}
+use Rattle.volume_format.specs.Table.{TableSeen, with_table_entry, no_entry}
 use Rattle.volume_format.specs.Rules.{reading}
 use Rattle.volume_format.specs.Writing.{encoding}
 use Rattle.sunvm.specs.Opened.{info_on, stored_bytes}

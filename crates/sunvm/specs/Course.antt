@@ -1,5 +1,5 @@
 -- How far a run has come, between its steps. Inside: no clause of `run` cites this.
-use Rattle.std.specs.Prelude.{ℕ, ◌≡◌, ◌≤◌, ◌<◌, ◌⊎◌, ◌++◌, ◌^◌, Bool, false, true, List, [], length, map, Option, Some, None, Result, Ok, Err, IsTrue, slice_get}
+use Rattle.std.specs.Prelude.{ℕ, ◌≡◌, ◌⊎◌, ◌++◌, Bool, false, true, List, [], length, Option, Some, None, Result, Ok, Err, slice_get}
 use Rattle.vm_types.specs.declared.call.Entry.{Entry}
 use Rattle.block_device.specs.Counts.{HasRisen}
 use Rattle.block_device.specs.DiskSeen.{DiskSeen}

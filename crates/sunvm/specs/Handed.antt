@@ -1,5 +1,5 @@
 -- What a run hands back: its history and its disks by number. Public clauses cite this.
-use Rattle.std.specs.Prelude.{ℕ, ◌≡◌, ◌≤◌, ◌<◌, ◌==◌, ◌⊎◌, Bool, nat_le, nat_lt, count_by, List, [], ◌∷◌, length, map, take, Option, Some, None, Err, IfSome, IsSome, IsSomeAnd, MatchOption, MatchBool, All, zip, slice_get, slice_index_or, option_map, if◌then◌else◌, ◌+◌, is_some}
+use Rattle.std.specs.Prelude.{ℕ, ◌≡◌, ◌≤◌, ◌<◌, ◌==◌, ◌⊎◌, Bool, nat_le, nat_lt, count_by, List, [], length, map, take, Option, Some, None, Err, IfSome, IsSome, IsSomeAnd, MatchOption, MatchBool, All, zip, slice_get, slice_index_or, option_map, if◌then◌else◌, ◌+◌, is_some}
 use Rattle.std.specs.List.{Contains}
 use Rattle.std.specs.Map.{lookup}
 use Rattle.vm_types.specs.declared.call.Entry.{Entry}

@@ -1,5 +1,5 @@
 -- The files as the processes find them, or the set-up rule that keeps them from being opened. Public clauses cite this.
-use Rattle.std.specs.Prelude.{ℕ, ◌==◌, ◌+◌, ◌-◌, ◌&&◌, not, nat_le, nat_lt, Bool, List, [], ◌∷◌, ◌++◌, length, take, map, filter, filter_map, replicate, slice_index_or, unwrap_or, Option, Some, None, option_map, option_and_then, IfSome, Result, Ok, Err, if◌then◌else◌, ◌≡◌, ◌≤◌}
+use Rattle.std.specs.Prelude.{ℕ, ◌==◌, ◌+◌, ◌-◌, nat_le, nat_lt, Bool, List, [], ◌∷◌, ◌++◌, length, take, map, filter, filter_map, replicate, slice_index_or, unwrap_or, Option, Some, None, option_map, option_and_then, IfSome, Result, Ok, Err, if◌then◌else◌, ◌≡◌, ◌≤◌}
 use Rattle.std.specs.List.{concat, find, flat_map, list_all, list_any, range_with_len}
 use Rattle.std.specs.FinMap as finite
 use Rattle.std.specs.Map.{lookup}

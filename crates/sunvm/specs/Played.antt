@@ -1,5 +1,5 @@
 -- A kernel that is started, and what it leaves once its processes ran. Inside: no clause of `run` cites this.
-use Rattle.std.specs.Prelude.{ℕ, ◌≡◌, ◌<◌, ◌≤◌, ◌^◌, ◌⊎◌, List, [], ◌∷◌, false, length, map, All, Some, None, IfNone, IfSome, IsSome, IsTrue, Option, option_map, slice_get, slice_index_or}
+use Rattle.std.specs.Prelude.{ℕ, ◌≡◌, ◌<◌, ◌≤◌, ◌^◌, ◌⊎◌, List, false, length, map, All, Some, None, IfNone, IfSome, Option, option_map, slice_get, slice_index_or}
 use Rattle.vm_types.specs.declared.call.Entry.{Entry}
 use Rattle.vm_types.specs.declared.call.Reply.TheVariants.{Io}
 use Rattle.vm_types.specs.WellFormed.{IsWellFormed}

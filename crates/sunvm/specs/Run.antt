@@ -1,5 +1,5 @@
 -- HOW A RUN ENDED, case by case. Public clauses cite this.
-use Rattle.std.specs.Prelude.{ℕ, ◌≡◌, ◌<◌, ◌+◌, ◌⊎◌, true, List, [], ◌∷◌, ◌++◌, length, slice_get, map, IsSome, Option, Some, None, IfOk, Result, Ok, Err}
+use Rattle.std.specs.Prelude.{ℕ, ◌≡◌, ◌+◌, ◌⊎◌, true, List, [], ◌++◌, length, slice_get, IsSome, Option, Some, None, Ok, Err}
 use Rattle.vm_types.specs.declared.call.Entry.{Entry}
 use Rattle.block_device.specs.Counts.{HasRisen}
 use Rattle.block_device.specs.DiskSeen.{DiskSeen}
@@ -8,7 +8,7 @@ use Rattle.block_device.specs.RackSeen.{RackSeen}
 use Rattle.block_device.specs.StreamSeen.{SinkSeen, SourceSeen}
 use Rattle.block_device.specs.declared.disk_fault.DiskFault.{DiskFault}
 use Rattle.flat_model.specs.Counted.{Counted}
-use Rattle.flat_model.specs.Flat.{File, Flat}
+use Rattle.flat_model.specs.Flat.{Flat}
 use Rattle.flat_model.specs.History.{Legal, replay}
 use Rattle.vnode_files.specs.declared.vnode.FileInfo.{FileInfo}
 use Rattle.vm_report.specs.Faults.{disk_fault_text}
@@ -25,7 +25,7 @@ use Rattle.sunvm.specs.Closed.{StoreFiles, SayTables, infos_in_flat, flat_bytes,
 use Rattle.sunvm.specs.Ending.{status_of, fault_of, last_line_of}
 use Rattle.sunvm.specs.Handed.{End, HaveTold, RackTells, HandsNone, HandsFront, HandsAll, HandsRefused, HasDiskCause, HasOpeningCause, HasLateCause, HasRefusalCause, StopsAttaching, CountsReach, plan_disks, sizes_of, handed_count}
 use Rattle.sunvm.specs.Opened.{ComesTo, OpenedFile, opened_files, infos_of, names_of, numbered_plan, opening_flat}
-use Rattle.sunvm.specs.Texts.{Wrote, WroteAndFront, WroteAndPart, WroteFront, WroteOn, WrotePart, IsPageUnread, file_sections, files_or_none, middle_text, sections_before, trace_front, trace_opening}
+use Rattle.sunvm.specs.Texts.{Wrote, WroteAndFront, WroteAndPart, WroteFront, WroteOn, WrotePart, IsPageUnread, files_or_none, middle_text, sections_before, trace_front, trace_opening}
 
 -- What the outside has seen of a run: the counts of faults of source and rack before and after it, how many disks the rack had attached, and the sink.
 pub record Outside : Type 0 where

@@ -1,5 +1,5 @@
 -- The text that a run prints. Public clauses cite this.
-use Rattle.std.specs.Prelude.{ℕ, ◌≡◌, ◌<◌, ◌+◌, ◌*◌, ◌⊎◌, Bool, List, [], ◌∷◌, ◌++◌, length, map, take, Option, Some, None, if◌then◌else◌}
+use Rattle.std.specs.Prelude.{ℕ, ◌≡◌, ◌<◌, ◌+◌, ◌*◌, ◌⊎◌, List, [], ◌∷◌, ◌++◌, length, map, take, Option, Some, None, if◌then◌else◌}
 use Rattle.vm_types.specs.declared.call.Entry.{Entry}
 use Rattle.block_device.specs.Counts.{HasRisen}
 use Rattle.block_device.specs.StreamSeen.{SinkSeen, text_with_more}

@@ -1,8 +1,8 @@
 -- Tables that are written, and files that are read back. Inside: no clause of `run` cites this.
-use Rattle.std.specs.Prelude.{ℕ, All, ◌≡◌, ◌≢◌, ◌<◌, ◌≤◌, ◌++◌, ◌*◌, List, [], ◌∷◌, length, map, Some, None, IfSome, Option, Result, Ok, Err, slice_get, slice_index_or, take, unwrap_or}
+use Rattle.std.specs.Prelude.{ℕ, All, ◌≡◌, ◌≢◌, ◌<◌, ◌≤◌, ◌++◌, List, [], length, map, Some, None, Result, Ok, Err, slice_get, slice_index_or, unwrap_or}
 use Rattle.std.specs.FinMap as finite
 use Rattle.block_device.specs.Counts.{HasRisen}
-use Rattle.block_device.specs.DiskSeen.{DiskSeen, HasBlocks}
+use Rattle.block_device.specs.DiskSeen.{DiskSeen}
 use Rattle.block_device.specs.StreamSeen.{SinkSeen}
 use Rattle.block_device.specs.declared.disk_fault.DiskFault.{DiskFault}
 use Rattle.vnode_files.specs.Files.{FilesSeen}
@@ -18,7 +18,6 @@ use Rattle.sunvm.specs.declared.closing.TableStop.TheVariants as table
 use Rattle.sunvm.specs.declared.showing.ShowStop.{ShowStop}
 use Rattle.sunvm.specs.declared.showing.ShowStop.TheVariants as show
 use Rattle.sunvm.specs.Closed.{StoresFile, info_at}
-use Rattle.sunvm.specs.Opened.{stored_bytes}
 use Rattle.sunvm.specs.Texts.{Wrote, WroteFront, WrotePart, IsPageUnread, file_sections, sections_before, trace_front}
 
 -- What a fault of a transfer tells: the disk's number, and its counts of faults before and after.

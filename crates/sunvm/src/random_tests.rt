@@ -50,25 +50,27 @@ fn word(chance: &mut Chance) -> (u32, u32) {
 
 // What is mapped, with which rights.
 fn mapped(chance: &mut Chance) -> &'static str {
-    match chance.below(6) {
+    match chance.below(10) {
         0 => "rw shared c",
         1 => "r shared c",
         2 => "rw private c",
         3 => "r private c",
-        _ => "rw private zero",
+        4..=6 => "rw private zero",
+        7 => "r shared zero",
+        _ => "rw shared zero",
     }
 }
 
 fn random_line(alloc: Global, chance: &mut Chance) -> Result<String, AllocError> {
     match chance.below(16) {
-        0 => {
+        0..=1 => {
             let addr = 4096 * (2 + chance.below(10));
             let length = 4096 * (1 + chance.below(3));
-            let offset = 4096 * chance.below(2);
+            let offset = 4096 * (chance.below(4) / 3);
             let what = mapped(chance);
             format!(in alloc; "map {addr} {length} {what} {offset}\n")
         }
-        1..=7 => {
+        2..=7 => {
             let (addr, size) = word(chance);
             format!(in alloc; "store {addr} {size} {}\n", chance.below(256))
         }
@@ -93,7 +95,8 @@ fn random_script(
     script.push_str(&script_of_file(alloc, BYTES.len())?)?;
     script.push_str("map 0x2000 8192 rw shared c 0\n")?;
     script.push_str("map 0x5000 8192 rw private c 0\n")?;
-    script.push_str("map 0x8000 24576 rw private zero 0\n")?;
+    script.push_str("map 0x8000 12288 rw private zero 0\n")?;
+    script.push_str("map 0xb000 12288 rw shared zero 0\n")?;
     for _ in 0..120 {
         script.push_str(&random_line(alloc, chance)?)?;
     }
@@ -166,7 +169,7 @@ fn is_flat(alloc: Global, slots: u32, outcome: &Outcome<MemDisk>) -> Result<bool
     };
     match outcome.history.entries().split_last() {
         Some((exit, entries)) => Ok(
-            entries.len() == 123
+            entries.len() == 124
                 && replays(&mut flat, entries)?
                 && is_file(&mut flat, disk.content())?
                 && acts(&mut flat, exit)?,

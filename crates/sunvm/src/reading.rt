@@ -12,27 +12,15 @@ use crate::options::{Options, read_options};
 use block_device::{ReadFault, Source, read_to_limit};
 use std::alloc::Global;
 use vm_script::{MOST_BYTES, Plan, PlanAct, PlanLine, broken_rule, generate, parse, sound_law};
-use vm_types::{Call, Kind, Object, Place};
+use vm_types::{Call, Place};
 
-// A mapping of a file, or a private one of new zero memory.
-fn is_served_object(kind: Kind, object: Object) -> bool
-    ensures { result ≡ asked.is_served_object kind object }
-{
-    match (kind, object) {
-        (_, Object::File(_)) => true,
-        (Kind::Private, Object::NewZero) => true,
-        _ => false,
-    }
-}
-
-// A mapping of a file at an address.
+// A mapping at an address.
 fn is_served_named(call: &Call) -> bool
     ensures { result ≡ asked.is_served_named call.now }
 {
     match call {
         Call::Map {
             place: Place::At(_),
-            object: Object::File(_),
             ..
         } => true,
         _ => false,
@@ -47,10 +35,8 @@ fn is_served_call(call: &Call) -> bool
         Call::Store { .. } => true,
         Call::Map {
             place: Place::At(_),
-            kind,
-            object,
             ..
-        } => is_served_object(*kind, *object),
+        } => true,
         Call::Exit => true,
         _ => false,
     }

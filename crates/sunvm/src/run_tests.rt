@@ -38,6 +38,14 @@ const ENDS: &[u8] =
 const OVER: &[u8] =
     b"swap 4\nprocess\nmap 0x2000 16384 rw private zero 0\nstore 0x2000 1 1\nstore 0x3000 1 2\nstore 0x5000 1 4\nmap 0x3000 8192 rw private zero 0\nload 0x2000 1\nload 0x3000 1\nload 0x5000 1\nmap 0x7000 4096 rw private zero 0\nmap 0x3000 12288 r private zero 0\nload 0x5000 1\nend\n";
 
+// A file and a second zero object are laid over parts of the first.
+const SHARED: &[u8] =
+    b"disk 0 blank 8\nfile a rw 0 1 68656c6c6f\nprocess\nmap 0x2000 16384 rw shared zero 0\nstore 0x2000 1 1\nstore 0x5000 1 4\nload 0x3000 1\nmap 0x3000 8192 r shared a 0\nload 0x2000 1\nload 0x3000 1\nload 0x4000 1\nload 0x5000 1\nstore 0x3000 1 1\nmap 0x5000 4096 rw shared zero 0\nload 0x5000 1\nload 0x2000 1\nmap 0x2000 4096 rw shared zero 4096\nend\n";
+
+// A zero object of four pages reserves four slots as long as one of them is shown.
+const HELD: &[u8] =
+    b"swap 4\ndisk 0 blank 8\nfile a ro 0 1 68656c6c6f\nprocess\nmap 0x2000 20480 rw shared zero 0\nmap 0x2000 16384 rw shared zero 0\nstore 0x2000 1 1\nmap 0x2000 16384 rw shared zero 0\nload 0x2000 1\nstore 0x5000 1 4\nmap 0x2000 12288 r shared a 0\nmap 0x7000 4096 rw private zero 0\nload 0x5000 1\nmap 0x5000 4096 r shared a 0\nmap 0x7000 16384 rw private zero 0\nload 0x7000 1\nend\n";
+
 const REPORT: &[u8] =
     b"process 1\n4 map 0x00002000\n5 load 0x65\n6 store ok\n7 exit ok\nfile a 5\n00000000 4a656c6c6f\n";
 
@@ -130,7 +138,7 @@ fn run_case(rt: &impl Wait, alloc: Global, case: &Case) -> Result<Left, AllocErr
     })
 }
 
-const CASES: [Case; 36] = [
+const CASES: [Case; 33] = [
     WHOLE,
     Case {
         name: "a trace",
@@ -160,24 +168,6 @@ const CASES: [Case; 36] = [
         name: "private pages of a file that can't be written",
         script: OWN,
         text: b"process 1\n5 map 0x00002000\n6 store ok\n7 store ok\n8 load 0x4a656c6c\n9 load 0x6f77\n10 store BUS past\n11 map 0x00006000\n12 load 0x68\n13 exit ok\nfile a 5\n00000000 68656c6c6f\n",
-        ..WHOLE
-    },
-    Case {
-        name: "swap's boundary",
-        script: b"swap 4\nprocess\nmap 0x2000 20480 rw private zero 0\nmap 0x2000 16384 rw private zero 0\nend\n",
-        text: b"process 1\n3 map error 3 NoSwap\n4 map 0x00002000\n5 exit ok\n",
-        ..WHOLE
-    },
-    Case {
-        name: "a private mapping over a private one",
-        script: OVER,
-        text: b"process 1\n3 map 0x00002000\n4 store ok\n5 store ok\n6 store ok\n7 map 0x00003000\n8 load 0x01\n9 load 0x00\n10 load 0x04\n11 map error 3 NoSwap\n12 map 0x00003000\n13 load 0x00\n14 exit ok\n",
-        ..WHOLE
-    },
-    Case {
-        name: "alignment and ends",
-        script: ENDS,
-        text: b"process 1\n2 load BUS align\n3 map 0x7ffff000\n4 store ok\n5 load 0x01020304\n6 load 0x0304\n7 load 0x01\n8 map error 1 Invalid\n9 map error 1 Invalid\n10 exit ok\n",
         ..WHOLE
     },
     Case {
@@ -372,25 +362,61 @@ const CASES: [Case; 36] = [
         ..WHOLE
     },
     Case {
-        name: "a shared mapping of new zero memory",
-        script: b"process\nmap 0x2000 4096 rw shared zero 0\nend\n",
+        name: "a mapping at the lowest gap",
+        script: b"process\nmap any 4096 rw shared zero 0\nend\n",
         status: 3,
         text: b"script: later\n",
         ..WHOLE
     },
 ];
 
+// Zero memory, over swap.
+const ZERO_CASES: [Case; 5] = [
+    Case {
+        name: "swap's boundary",
+        script: b"swap 4\nprocess\nmap 0x2000 20480 rw private zero 0\nmap 0x2000 16384 rw private zero 0\nend\n",
+        text: b"process 1\n3 map error 3 NoSwap\n4 map 0x00002000\n5 exit ok\n",
+        ..WHOLE
+    },
+    Case {
+        name: "a private mapping over a private one",
+        script: OVER,
+        text: b"process 1\n3 map 0x00002000\n4 store ok\n5 store ok\n6 store ok\n7 map 0x00003000\n8 load 0x01\n9 load 0x00\n10 load 0x04\n11 map error 3 NoSwap\n12 map 0x00003000\n13 load 0x00\n14 exit ok\n",
+        ..WHOLE
+    },
+    Case {
+        name: "alignment and ends",
+        script: ENDS,
+        text: b"process 1\n2 load BUS align\n3 map 0x7ffff000\n4 store ok\n5 load 0x01020304\n6 load 0x0304\n7 load 0x01\n8 map error 1 Invalid\n9 map error 1 Invalid\n10 exit ok\n",
+        ..WHOLE
+    },
+    Case {
+        name: "shared new zero memory",
+        script: SHARED,
+        text: b"process 1\n4 map 0x00002000\n5 store ok\n6 store ok\n7 load 0x00\n8 map 0x00003000\n9 load 0x01\n10 load 0x68\n11 load BUS past\n12 load 0x04\n13 store SEGV prot\n14 map 0x00005000\n15 load 0x00\n16 load 0x01\n17 map error 1 Invalid\n18 exit ok\nfile a 5\n00000000 68656c6c6f\n",
+        ..WHOLE
+    },
+    Case {
+        name: "a zero object's reservation",
+        script: HELD,
+        text: b"process 1\n5 map error 3 NoSwap\n6 map 0x00002000\n7 store ok\n8 map 0x00002000\n9 load 0x00\n10 store ok\n11 map 0x00002000\n12 map error 3 NoSwap\n13 load 0x04\n14 map 0x00005000\n15 map 0x00007000\n16 load 0x00\n17 exit ok\nfile a 5\n00000000 68656c6c6f\n",
+        ..WHOLE
+    },
+];
+
 #[test]
 fn runs_end_as_the_rules_say(rt: HostRuntime) -> Result<(), Fail> {
-    for case in &CASES {
-        let left = run_case(&rt, rt.alloc(), case)?;
-        let name = case.name;
-        assert_eq!(rt;
-            (left.status, left.fault),
-            (case.status, case.fault),
-            "{name}"
-        );
-        assert_eq!(rt; left.text.as_slice(), case.text, "{name}");
+    for cases in [CASES.as_slice(), ZERO_CASES.as_slice()] {
+        for case in cases {
+            let left = run_case(&rt, rt.alloc(), case)?;
+            let name = case.name;
+            assert_eq!(rt;
+                (left.status, left.fault),
+                (case.status, case.fault),
+                "{name}"
+            );
+            assert_eq!(rt; left.text.as_slice(), case.text, "{name}");
+        }
     }
     Ok(())
 }
@@ -574,10 +600,10 @@ pub(crate) fn run_over<R: Rack>(
     Ok((outcome, out.into_written()))
 }
 
-// The script that stores into sixteen private pages over six frames and loads them, and its report.
-fn least_frames(alloc: Global) -> Result<(String, String), AllocError> {
-    let head = "frames 6\nswap 16\ndisk 0 blank 2\nprocess\nmap 0x10000 65536 rw private zero 0\n";
-    let mut script = String::from_str(alloc, head)?;
+// The script that stores into sixteen pages of zero memory over six frames and loads them, and its report.
+fn least_frames(alloc: Global, kind: &str) -> Result<(String, String), AllocError> {
+    let head = "frames 6\nswap 16\ndisk 0 blank 2\nprocess\nmap 0x10000 65536 rw";
+    let mut script = format!(in alloc; "{head} {kind} zero 0\n")?;
     let mut report = String::from_str(alloc, "process 1\n5 map 0x00010000\n")?;
     for k in 0..16_u32 {
         let line = format!(in alloc; "store 0x{:x} 4 0x{:x}\n", 0x1_0000 + 0x1000 * k, 0x100 + k)?;
@@ -594,18 +620,20 @@ fn least_frames(alloc: Global) -> Result<(String, String), AllocError> {
 }
 
 #[test]
-fn private_pages_go_out_to_swap_and_come_back(rt: HostRuntime) -> Result<(), Fail> {
+fn zero_memory_goes_out_to_swap_and_comes_back(rt: HostRuntime) -> Result<(), Fail> {
     let alloc = rt.alloc();
-    let (script, report) = least_frames(alloc)?;
-    let mut rack = MemRack::new(alloc, Vec::new(alloc), Vec::new(alloc));
-    let (outcome, text) = run_over(&rt, alloc, script.as_bytes(), &mut rack)?;
-    assert_eq!(rt; outcome.status, 0);
-    assert_eq!(rt; text.as_slice(), report.as_bytes());
-    let (reads, writes) = match &outcome.swap {
-        Some(swap) => (swap.reads(), swap.writes()),
-        None => (0, 0),
-    };
-    assert!(rt; writes >= 10 && reads >= 10);
+    for kind in ["private", "shared"] {
+        let (script, report) = least_frames(alloc, kind)?;
+        let mut rack = MemRack::new(alloc, Vec::new(alloc), Vec::new(alloc));
+        let (outcome, text) = run_over(&rt, alloc, script.as_bytes(), &mut rack)?;
+        assert_eq!(rt; outcome.status, 0, "{kind}");
+        assert_eq!(rt; text.as_slice(), report.as_bytes(), "{kind}");
+        let (reads, writes) = match &outcome.swap {
+            Some(swap) => (swap.reads(), swap.writes()),
+            None => (0, 0),
+        };
+        assert!(rt; writes >= 10 && reads >= 10, "{kind}");
+    }
     Ok(())
 }
 

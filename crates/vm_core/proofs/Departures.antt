@@ -21,6 +21,7 @@ use Rattle.vm_world.specs.StateSteps.{PendsTails, after_step}
 use Rattle.vm_world.specs.Wants.{MayPlan}
 use Rattle.vm_world.specs.World.{World, world_table}
 use Rattle.vm_world.specs.WorldSteps.{WorldStep, leaves}
+use Rattle.vm_world.specs.ZeroObjects.{KnowsZeros}
 use Rattle.vm_world.proofs.StateSteps.{state_rule}
 use Rattle.vm_core.specs.Flights.{CanLeave, IsKeptFor, sent_with}
 use Rattle.vm_core.specs.State.{IsSoundKernel}
@@ -43,12 +44,12 @@ kept-ready opening s seats seat p kept fit k =
     subst (λ (x : Plan). Waits s.memory.world.store (page_of x) (world_table s.memory.world (page_of x)).disk None) k.same (fit.plans.plan kept k.is).ready
 
 -- WHAT IS KEPT after a flight left.
-pub kept-left : (old new : World) (spaces : Spaces) (entries : List ℕ) (seats seat : ℕ) (f : FlightSeen) (cut : PageName → Bool) → IsSoundKernel old.store spaces entries seats → WorldStep old new spaces (leaves seat (note_of f)) cut → IsSoundKernel new.store spaces entries seats
-kept-left old new spaces entries seats seat f cut k step =
+pub kept-left : (old new : World) (zeros after : List (Option ℕ)) (spaces : Spaces) (entries : List ℕ) (seats seat : ℕ) (f : FlightSeen) (cut : PageName → Bool) → IsSoundKernel old.store zeros spaces entries seats → after ≡ zeros → WorldStep old new spaces (leaves seat (note_of f)) cut → IsSoundKernel new.store after spaces entries seats
+kept-left old new zeros after spaces entries seats seat f cut k same step =
     let disks = disks-kept old.store new.store f.number (home f.disk) (out seat) step.bays.0 refl refl step.bays.1 in
     let frames = step.frames in
     let was = k.frames in
-    record { frames = omega (arith, disks, frames, was); plain = k.plain; seated = k.seated }
+    record { frames = omega (arith, disks, frames, was); known = subst (λ (l : List (Option ℕ)). KnowsZeros l spaces) (sym same) k.known; seated = k.seated }
 
 -- THE EVENT.
 pub leaving : (s : KernelState) (new : World) (cut : PageName → Bool) (pending seat : ℕ) (p : Plan) (kept : KeptPlan) (f : FlightSeen) → WorldStep s.memory.world new s.memory.spaces (leaves seat (note_of f)) cut → PendsTails s.memory.world cut s.pending pending → IsKeptFor s seat p kept

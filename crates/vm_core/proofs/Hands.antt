@@ -1,21 +1,16 @@
 -- A move of a hand, as an event.
-use Rattle.std.proofs.Common.{◌≡◌, ℕ, ◌+◌, ◌≤◌, ◌||◌, Bool, true, false, List, length, Option, Some, None, refl, sym, ap, ◌∙◌, subst, arith}
-use Rattle.std.specs.Prelude.{IfSome, filter, option_map}
+use Rattle.std.proofs.Common.{◌≡◌, ℕ, ◌||◌, Bool, true, false, Option, Some, None, refl, sym, ap, subst}
+use Rattle.std.specs.Prelude.{IfSome, option_map}
 use Rattle.flat_model.specs.Step.{bit}
-use Rattle.page_hash.specs.declared.PageName.{PageName}
-use Rattle.page_store.specs.Away.{is_disk}
-use Rattle.page_store.specs.Bays.{BaySeen}
 use Rattle.page_store.specs.declared.plan.Plan.{Plan}
 use Rattle.seg_ops.specs.Steps.{KeepsPages}
 use Rattle.vm_world.specs.Events.{IsEvent}
 use Rattle.vm_world.specs.Plans.{CanRunPlan}
-use Rattle.vm_world.specs.Segments.{Spaces}
 use Rattle.vm_world.specs.State.{KernelState, KeptPlan, Caller}
 use Rattle.vm_world.specs.StateSteps.{PendsTails}
 use Rattle.vm_world.specs.World.{World}
 use Rattle.vm_world.proofs.StateSteps.{state_rule}
 use Rattle.vm_core.specs.Clock.{after_hand, kept_of_clock}
-use Rattle.vm_core.specs.State.{IsSoundKernel}
 
 no-tails : (w : World) (pending : ℕ) → PendsTails w (λ name. false) pending pending
 no-tails w pending = record { bits = λ g lt. or-false (bit pending g); below = λ h. h }
@@ -30,14 +25,6 @@ pub hand-event : (s : KernelState) (new : World) (seat : ℕ) (answer : Option P
 hand-event s new seat None keeps runs = state_rule.calm s new (λ name. false) s.pending seat None keeps (no-tails s.memory.world s.pending)
 hand-event s new seat (Some p) keeps runs =
     state_rule.plans s new (λ name. false) s.pending (kept_of_clock seat p) keeps (no-tails s.memory.world s.pending) runs (λ of e. absurd (let z : ◌≡◌ {A = Option Caller} None (Some of) = e in cc))
-
--- WHAT IS KEPT after a step that keeps all pages.
-pub kept-still : (old new : World) (spaces : Spaces) (entries : List ℕ) (seats : ℕ) → IsSoundKernel old.store spaces entries seats → KeepsPages old new spaces → IsSoundKernel new.store spaces entries seats
-kept-still old new spaces entries seats k step =
-    let disks = ap (λ (bays : List BaySeen). length (filter is_disk bays)) step.bays in
-    let frames = step.frames in
-    let was = k.frames in
-    record { frames = omega (arith, disks, frames, was); plain = k.plain; seated = k.seated }
 
 pub hand-event-as : (s t : KernelState) (new : World) (seat : ℕ) (answer : Option Plan) (kept : Option KeptPlan) (pending : ℕ) → s ≡ t → kept ≡ option_map (kept_of_clock seat) answer → pending ≡ s.pending → KeepsPages s.memory.world new s.memory.spaces
     → IfSome answer (CanRunPlan (record s.memory { world = new }) None) → IsEvent seat t None (record (after_hand s new kept) { pending = pending }) None

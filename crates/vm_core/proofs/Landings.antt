@@ -42,6 +42,7 @@ use Rattle.vm_world.specs.StateFits.{StateFits, CallerFits}
 use Rattle.vm_world.specs.StateSteps.{after_step, PendsTails, CountsOn, ComesBack}
 use Rattle.vm_world.specs.World.{World, world_table}
 use Rattle.vm_world.specs.WorldSteps.{WorldStep, returns}
+use Rattle.vm_world.specs.ZeroObjects.{KnowsZeros}
 use Rattle.vm_world.proofs.Failures.{failure_rule}
 use Rattle.vm_world.proofs.NextParts.{next-file}
 use Rattle.vm_world.proofs.StateSteps.{state_rule}
@@ -171,12 +172,12 @@ landed-bays s f true = refl
 landed-bays s f false = refl
 
 -- WHAT IS KEPT after a flight came back.
-pub kept-ended : (old new : StoreSeen) (f : FlightSeen) (spaces : Spaces) (entries : List ℕ) (seats : ℕ) → IsSoundKernel old spaces entries seats → IsFlightOf old f → new ≡ after_end old f → EndsTransfer old new f → IsSoundKernel new spaces entries seats
-kept-ended old new f spaces entries seats k flight is laws =
+pub kept-ended : (old new : StoreSeen) (f : FlightSeen) (zeros after : List (Option ℕ)) (spaces : Spaces) (entries : List ℕ) (seats : ℕ) → IsSoundKernel old zeros spaces entries seats → after ≡ zeros → IsFlightOf old f → new ≡ after_end old f → EndsTransfer old new f → IsSoundKernel new after spaces entries seats
+kept-ended old new f zeros after spaces entries seats k same flight is laws =
     let disks = disks-kept old new f.number (out f.seat) (home f.disk) flight.out.bay refl refl (ap (λ (x : StoreSeen). x.bays) is ∙ landed-bays (with_pair_settled old f) f (is_lost f.writes f.outcome (row_at (with_pair_settled old f).rows f.frame).gone)) in
     let frames = laws.touches.frames in
     let was = k.frames in
-    record { frames = omega (arith, disks, frames, was); plain = k.plain; seated = k.seated }
+    record { frames = omega (arith, disks, frames, was); known = subst (λ (l : List (Option ℕ)). KnowsZeros l spaces) (sym same) k.known; seated = k.seated }
 
 -- THE FLIGHT is one that is out.
 pub note-here : (seats : Seats) (seat : ℕ) (sent : Sent) → seats seat ≡ Some sent → notes_of seats seat ≡ Some sent.note

@@ -8,6 +8,7 @@ use Rattle.flat_model.specs.Births.{is_birth, is_done}
 use Rattle.flat_model.specs.Flat.{Flat}
 use Rattle.flat_model.specs.OpenLaws.{last_entry, IsOpenPart, FollowsOn, MayFollow}
 use Rattle.flat_model.specs.Told.{entries_of}
+use Rattle.flat_model.specs.Words.{page}
 use Rattle.page_store.specs.Away.{is_disk}
 use Rattle.page_store.specs.Bays.{BaySeen}
 use Rattle.page_store.specs.Notes.{Notes}
@@ -22,11 +23,6 @@ use Rattle.vm_types.specs.Parts.{part_file, file_of_call}
 use Rattle.vm_types.specs.WellFormed.{IsWellFormed}
 use Rattle.vm_types.specs.declared.call.Call.{Call}
 use Rattle.vm_types.specs.declared.call.Call.TheVariants.{Load, Store, Map, Exit, Fork}
-use Rattle.vm_types.specs.declared.call.Kind.{Kind}
-use Rattle.vm_types.specs.declared.call.Object.{Object}
-use Rattle.vm_types.specs.declared.call.Place.{Place}
-use Rattle.vm_types.specs.declared.call.Place.TheVariants.{At}
-use Rattle.vm_types.specs.declared.prot.Prot.{Prot}
 use Rattle.vm_types.specs.declared.call.Entry.{Entry}
 use Rattle.vm_types.specs.declared.call.Reply.{Reply}
 use Rattle.vm_types.specs.declared.call.Reply.TheVariants as reply
@@ -36,22 +32,22 @@ use Rattle.vm_world.specs.Events.{IsEvent, CanTry}
 use Rattle.vm_world.specs.Failures.{with_entry_made}
 use Rattle.vm_world.specs.FlatMemory.{Memory}
 use Rattle.vm_world.specs.HistoryFits.{CallsFit}
-use Rattle.vm_world.specs.PlainSteps.{ShowNoZeros}
 use Rattle.vm_world.specs.Segments.{Spaces}
 use Rattle.vm_world.specs.Serving.{ServesDone, ServesNeed, ServesBusy}
 use Rattle.vm_world.specs.ServingLaws.{done_entry, after_need, after_wait, IsOfAnother}
 use Rattle.vm_world.specs.State.{KernelState, Seats, seat_of, room_of}
 use Rattle.vm_world.specs.StateFits.{StateFits}
-use Rattle.vm_world.specs.Wants.{HoldsUp}
+use Rattle.vm_world.specs.Wants.{HoldsUp, accessed_page}
 use Rattle.vm_world.specs.World.{World}
+use Rattle.vm_world.specs.ZeroObjects.{KnowsZeros}
 use Rattle.vm_world.proofs.NextParts.{next-file}
 use Rattle.vm_world.proofs.Servings.{serving_law}
 use Rattle.mmap_calls.specs.Maps as maps
 use Rattle.proc_calls.specs.Ends as procs
-use Rattle.fault_entry.specs.Accesses.{MayBeAnswered}
+use Rattle.fault_entry.specs.Accesses.{IsAccess, IsShownWhereDone, MayBeAnswered, SlotsWhereDone, is_store}
 use Rattle.seg_vn.specs.Serves.{Serves, IsPlainReply}
 use Rattle.seg_vn.proofs.HomeFrames.{home-beside}
-use Rattle.vm_core.specs.Calls.{IsServed, IsDone, IsNeeded, IsBusy, IsOwnReply, AnswersCall, with_memory, after_answer}
+use Rattle.vm_core.specs.Calls.{IsServed, IsDone, IsNeeded, IsBusy, IsOwnReply, IsShownAfterCall, SlotsAfterCall, AnswersCall, with_memory, after_answer}
 use Rattle.vm_core.specs.State.{IsSoundKernel}
 use Rattle.seg_vn.specs.declared.attempt.Attempt.{Attempt}
 use Rattle.seg_vn.specs.declared.attempt.Attempt.TheVariants.{Done, Need, Busy}
@@ -73,10 +69,6 @@ served-is (Store a n v) h = record { file = refl; part = refl; plain = λ child 
 served-is (Map place len prot kind obj offset) h = record { file = refl; part = refl; plain = λ child e. let z : Map place len prot kind obj offset ≡ Fork child = e in cc; bears = λ q p cleared r. either (is_done r) }
 served-is Exit h = record { file = refl; part = refl; plain = λ child e. let z : Exit ≡ Fork child = e in cc; bears = λ q p cleared r. either (is_done r) }
 served-is call h = absurd h
-
-pub map-served : (place : Place) (len : ℕ) (prot : Prot) (kind : Kind) (obj : Object) (offset : ℕ) → IsServed (Map place len prot kind obj offset) → maps.IsServedMap (Map place len prot kind obj offset)
-map-served (At a) len prot kind obj offset h = h
-map-served place len prot kind obj offset h = absurd h
 
 -- No lock of a file is the seat's, before and after such a call.
 pub locks-same : (H : List Entry) (calls syncs : List (Option ℕ)) (seat p cleared : ℕ) (call : Call) (reply : Reply) → CallsFit H calls syncs → p ≡ suc seat → MayFollow H (done_entry p call reply cleared) → part_file call ≡ None
@@ -205,22 +197,23 @@ concludes opening s seats m seat p more call (Busy h) fit idle of try formed ser
 }
 
 -- BESIDE ANY FRAME ANOTHER IS HOME, whatever is away.
-pub home-frame : (store : StoreSeen) (spaces : Spaces) (entries : List ℕ) (seats : ℕ) (notes : Notes) (table : Table) → IsSoundKernel store spaces entries seats → IsSoundStore store → StoreFits store notes table
+pub home-frame : (store : StoreSeen) (zeros : List (Option ℕ)) (spaces : Spaces) (entries : List ℕ) (seats : ℕ) (notes : Notes) (table : Table) → IsSoundKernel store zeros spaces entries seats → IsSoundStore store → StoreFits store notes table
     → (beside : ℕ) → (frame : ℕ) × (frame ≢ beside) × IsSome (bytes_at store.frames frame)
-home-frame store spaces entries seats notes table k sound fits beside = let few = away_law.disks store notes table sound fits in let enough = k.frames in home-beside store.frames beside (omega (arith, few, enough))
+home-frame store zeros spaces entries seats notes table k sound fits beside = let few = away_law.disks store notes table sound fits in let enough = k.frames in home-beside store.frames beside (omega (arith, few, enough))
 
 -- WHAT IS KEPT after a call was served.
-kept-moved : (old new : World) (spaces after : Spaces) (entries : List ℕ) (seats : ℕ) → IsSoundKernel old.store spaces entries seats → ShowNoZeros after → new.store.bays ≡ old.store.bays → length new.store.frames ≡ length old.store.frames → IsSoundKernel new.store after entries seats
-kept-moved old new spaces after entries seats k plain bays frames =
+kept-moved : (old new : Memory) (zeros after : List (Option ℕ)) (entries : List ℕ) (seats : ℕ) → IsSoundKernel old.world.store zeros old.spaces entries seats → KnowsZeros after new.spaces → new.world.store.bays ≡ old.world.store.bays → length new.world.store.frames ≡ length old.world.store.frames
+    → IsSoundKernel new.world.store after new.spaces entries seats
+kept-moved old new zeros after entries seats k known bays frames =
     let disks = ap (λ (b : List BaySeen). length (filter is_disk b)) bays in
     let was = k.frames in
-    record { frames = omega (arith, disks, frames, was); plain = plain; seated = k.seated }
+    record { frames = omega (arith, disks, frames, was); known = known; seated = k.seated }
 
-pub kept-served : (old new : Memory) (pending more p : ℕ) (call : Call) (a : Attempt) (entries : List ℕ) (seats : ℕ) → IsSoundKernel old.world.store old.spaces entries seats → ShowNoZeros new.spaces → Serves old new pending more p call a → IsSoundKernel new.world.store new.spaces entries seats
-kept-served old new pending more p call (Done reply) entries seats k plain s =
-    let m = (s.acts 0).machine in kept-moved old.world new.world old.spaces new.spaces entries seats k plain (m.bays ∙ s.first.step.bays) (m.frames ∙ s.first.step.frames)
-kept-served old new pending more p call (Need plan) entries seats k plain s = kept-moved old.world new.world old.spaces new.spaces entries seats k plain s.first.step.bays s.first.step.frames
-kept-served old new pending more p call (Busy h) entries seats k plain s = let b = s [] in kept-moved old.world new.world old.spaces new.spaces entries seats k plain b.first.step.bays b.first.step.frames
+pub kept-served : (old new : Memory) (zeros after : List (Option ℕ)) (pending more p : ℕ) (call : Call) (a : Attempt) (entries : List ℕ) (seats : ℕ) → IsSoundKernel old.world.store zeros old.spaces entries seats → KnowsZeros after new.spaces → Serves old new pending more p call a
+    → IsSoundKernel new.world.store after new.spaces entries seats
+kept-served old new zeros after pending more p call (Done reply) entries seats k known s = let m = (s.acts 0).machine in kept-moved old new zeros after entries seats k known (m.bays ∙ s.first.step.bays) (m.frames ∙ s.first.step.frames)
+kept-served old new zeros after pending more p call (Need plan) entries seats k known s = kept-moved old new zeros after entries seats k known s.first.step.bays s.first.step.frames
+kept-served old new zeros after pending more p call (Busy h) entries seats k known s = let b = s [] in kept-moved old new zeros after entries seats k known b.first.step.bays b.first.step.frames
 
 -- A reply of an access is its own.
 plain-own : (r : Reply) → IsPlainReply r → IsOwnReply (Done r)
@@ -248,23 +241,40 @@ exited-own (Done r) may = plain-own r may
 exited-own (Need plan) may = absurd may
 exited-own (Busy h) may = absurd may
 
+-- THE MECHANISMS. What holds of an access at its page holds after the call.
+pub access-shown : (m : Memory) (p : ℕ) (call : Call) (a : Attempt) → ((q : ℕ) → accessed_page call ≡ Some q → IsShownWhereDone m p q a) → IsShownAfterCall m p call a
+access-shown m p (Load addr n) a shown = shown (page addr) refl
+access-shown m p (Store addr n v) a shown = shown (page addr) refl
+access-shown m p call a shown = tt
+
+pub access-slots : (old : Memory) (new : World) (p : ℕ) (call : Call) (a : Attempt) → IsAccess call → ((q : ℕ) → accessed_page call ≡ Some q → SlotsWhereDone old new p q (is_store call) a) → SlotsAfterCall old new p call a
+access-slots old new p (Load addr n) a access slots = slots (page addr) refl
+access-slots old new p (Store addr n v) a access slots = slots (page addr) refl
+access-slots old new p call a access slots = absurd access
+
+-- What is concluded changes no memory.
+pub concluded-memory : (s : KernelState) (seat p : ℕ) (call : Call) (a : Attempt) → (after_answer s seat p call a).memory ≡ s.memory
+concluded-memory s seat p call (Done reply) = refl
+concluded-memory s seat p call (Need plan) = refl
+concluded-memory s seat p call (Busy h) = refl
+
 -- ANSWERS THAT MAY BE WANT OF MEMORY.
 pub ok-then : {E : Type 0} (P Q : Attempt → Type 0) (r : Result Attempt E) → ((a : Attempt) → P a → Q a) → IfOk r P → IfOk r Q
 ok-then P Q (Ok a) f h = f a h
 ok-then P Q (Err e) f h = h
 
-pub ok-always : {E : Type 0} (X : Type 0) (r : Result Attempt E) → X → IfOk r (λ a. X)
-ok-always X (Ok a) x = x
-ok-always X (Err e) x = tt
+pub ok-always : {E : Type 0} (P : Attempt → Type 0) (r : Result Attempt E) → ((a : Attempt) → P a) → IfOk r P
+ok-always P (Ok a) f = f a
+ok-always P (Err e) f = tt
 
 pub err-then : {E : Type 0} (P Q : Type 0) (r : Result Attempt E) → (P → Q) → OnErr r P → OnErr r Q
 err-then P Q (Ok a) f h = h
 err-then P Q (Err e) f h = f h
 
-pub kept-result : {E : Type 0} (old new : Memory) (pending more p : ℕ) (call : Call) (r : Result Attempt E) (entries : List ℕ) (seats : ℕ) → IsSoundKernel old.world.store old.spaces entries seats → ShowNoZeros new.spaces → IfOk r (λ a. Serves old new pending more p call a)
-    → OnErr r (new ≡ old) → IsSoundKernel new.world.store new.spaces entries seats
-kept-result old new pending more p call (Ok a) entries seats k plain serves same = kept-served old new pending more p call a entries seats k plain serves
-kept-result old new pending more p call (Err e) entries seats k plain serves same = subst (λ (m : Memory). IsSoundKernel m.world.store m.spaces entries seats) (sym same) k
+pub kept-result : {E : Type 0} (old new : Memory) (zeros after : List (Option ℕ)) (pending more p : ℕ) (call : Call) (r : Result Attempt E) (entries : List ℕ) (seats : ℕ) → IsSoundKernel old.world.store zeros old.spaces entries seats → KnowsZeros after new.spaces → IfOk r (λ a. Serves old new pending more p call a)
+    → OnErr r (new ≡ old) → IsSoundKernel new.world.store after new.spaces entries seats
+kept-result old new zeros after pending more p call (Ok a) entries seats k known serves same = kept-served old new zeros after pending more p call a entries seats k known serves
+kept-result old new zeros after pending more p call (Err e) entries seats k known serves same = kept-moved old new zeros after entries seats k known (ap (λ (m : Memory). m.world.store.bays) same) (ap (λ (m : Memory). length m.world.store.frames) same)
 
 -- Nothing changed.
 pub same-again : (s t : KernelState) (m : Memory) (pending : ℕ) → s ≡ t → m ≡ s.memory → pending ≡ s.pending → with_memory s m pending ≡ t

@@ -1,11 +1,11 @@
 -- The state at the start is one at the opening.
 use Rattle.std.proofs.Common.{◌≡◌, ◌≢◌, ℕ, zero, suc, ◌+◌, ◌*◌, ◌<◌, ◌≤◌, ◌==◌, Bool, true, false, cond, List, [], ◌∷◌, length, map, replicate, Option, Some, None, refl, sym, ap, ◌∙◌, inl, inr, subst, arith}
 use Rattle.std.specs.Prelude.{◌⊎◌, All, IsSome, IfSome, MatchOption, filter, is_some, option_map, slice_get, slice_index, slice_index_or, slice_set}
+use Rattle.std.specs.Ordering.{nat_cmp}
 use Rattle.std.specs.FinMap as finite
 use Rattle.std.specs.FinSet as set
 use Rattle.std.proofs.lemmas.Bool.{cases_eq}
 use Rattle.std.proofs.lemmas.List.{length-map, length-replicate}
-use Rattle.std.proofs.lemmas.List.Elements.{All-nil}
 use Rattle.std.proofs.lemmas.Option.{slice_get-map, slice_get_within}
 use Rattle.addr_space.specs.Space.{Part}
 use Rattle.anon_slots.specs.Slots.{Slots, unused_slots, IsSoundAnonSlots}
@@ -30,11 +30,12 @@ use Rattle.vnode_files.proofs.LayoutLaws.{file_layout_law}
 use Rattle.vm_world.specs.FramesFit.{FilesFit, DisksFit, HasSize}
 use Rattle.vm_world.specs.Opening.{IsIdleStore, IsOpeningMemory, IsOpening}
 use Rattle.vm_world.specs.Segments.{Spaces}
-use Rattle.vm_world.specs.PlainSteps.{ShowNoZeros}
 use Rattle.vm_world.specs.State.{KernelState, is_top}
 use Rattle.vm_world.specs.declared.segment.Segment.{Segment}
 use Rattle.vm_world.specs.World.{file_blocks, file_name}
+use Rattle.vm_world.specs.ZeroObjects.{KnowsZeros}
 use Rattle.vm_world.proofs.PageNames.{index-of}
+use Rattle.vm_world.proofs.Spaces.{EmptySpaces, empty-zeros}
 use Rattle.vm_core.specs.Setup.{disk_total, FilesOnDisks, ListsDisk, SwapServes, HaveCounted}
 use Rattle.vm_core.specs.State.{top_space, IsSoundKernel}
 
@@ -292,15 +293,16 @@ opens s frames slots seats places disks swap new sound still counted swap_counte
       plan = plan;
     }
 
--- nothing is mapped
-pub plain-none : (parents : List ℕ) (spaces : Spaces) → ((p : ℕ) → finite.get spaces p ≡ top_space parents p) → ShowNoZeros spaces
-plain-none parents spaces tops p parts is = by_top (is_top parents p) (sym (tops p) ∙ is)
+-- nothing is mapped, so no zero object is there
+all-empty : (parents : List ℕ) (spaces : Spaces) → ((p : ℕ) → finite.get spaces p ≡ top_space parents p) → EmptySpaces spaces
+all-empty parents spaces tops p parts is = by_top (is_top parents p) (sym (tops p) ∙ is)
   where
-    by_top : (b : Bool) → cond b (Some []) None ≡ Some parts → All (λ part. part.piece.shown ≡ None) parts
-    by_top true e =
-        let nil : [] ≡ parts = let z : ◌≡◌ {A = Option (List (Part Segment))} (Some []) (Some parts) = e in cc in
-        subst (λ (ps : List (Part Segment)). All (λ part. part.piece.shown ≡ None) ps) nil (All-nil (λ part. part.piece.shown ≡ None))
+    by_top : (b : Bool) → cond b (Some []) None ≡ Some parts → parts ≡ []
+    by_top true e = cc
     by_top false e = absurd (let z : ◌≡◌ {A = Option (List (Part Segment))} None (Some parts) = e in cc)
+
+known-none : (parents : List ℕ) (spaces : Spaces) → ((p : ℕ) → finite.get spaces p ≡ top_space parents p) → KnowsZeros [] spaces
+known-none parents spaces tops z = ap (λ (zs : finite.FinMap nat_cmp ℕ). finite.get zs z) (empty-zeros spaces (all-empty parents spaces tops)) ∙ finite.get-empty nat_cmp z
 
 -- the numbers of disks, as they are seen
 pub same-numbers : {D : Type 0} (seen : D → DiskSeen) (disks : List (ℕ × D)) → numbers_of (pairs_seen seen disks) ≡ numbers_of disks
@@ -313,10 +315,10 @@ same-total seen disks None = ap (λ (n : ℕ). n + 0) (length-map disks (λ disk
 same-total seen disks (Some d) = ap (λ (n : ℕ). n + 1) (length-map disks (λ disk. (disk.0, seen disk.1)))
 
 -- WHAT IS KEPT of the start.
-pub kept-start : (store : StoreSeen) (spaces : Spaces) (parents entries : List ℕ) (frames count seats : ℕ) (syncs : List (Option ℕ)) (disks : List (ℕ × DiskSeen)) (swap : Option DiskSeen) → IsNew store frames disks swap
-    → ((p : ℕ) → finite.get spaces p ≡ top_space parents p) → disk_total disks swap + 4 ≤ frames → syncs ≡ replicate seats None → length entries ≤ seats → IsSoundKernel store spaces entries (length syncs)
-kept-start store spaces parents entries frames count seats syncs disks swap new tops enough are few =
+pub kept-start : (store : StoreSeen) (objects : List (Option ℕ)) (spaces : Spaces) (parents entries : List ℕ) (frames count seats : ℕ) (syncs : List (Option ℕ)) (disks : List (ℕ × DiskSeen)) (swap : Option DiskSeen) → IsNew store frames disks swap
+    → ((p : ℕ) → finite.get spaces p ≡ top_space parents p) → disk_total disks swap + 4 ≤ frames → syncs ≡ replicate seats None → length entries ≤ seats → objects ≡ [] → IsSoundKernel store objects spaces entries (length syncs)
+kept-start store objects spaces parents entries frames count seats syncs disks swap new tops enough are few nothing =
     let disks_are = count-disks store.bays disks swap new.bays in
     let frames_are = ap (λ (l : List (Option (List ℕ))). length l) new.frames ∙ length-replicate frames (Some zeros) in
     let seats_are = ap (λ (l : List (Option ℕ)). length l) are ∙ length-replicate seats None in
-    record { frames = omega (arith, disks_are, frames_are, enough); plain = plain-none parents spaces tops; seated = omega (arith, seats_are, few) }
+    record { frames = omega (arith, disks_are, frames_are, enough); known = subst (λ (l : List (Option ℕ)). KnowsZeros l spaces) (sym nothing) (known-none parents spaces tops); seated = omega (arith, seats_are, few) }

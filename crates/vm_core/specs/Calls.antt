@@ -1,5 +1,5 @@
 -- What a call that is tried leaves of the state. Public clauses cite this.
-use Rattle.std.specs.Prelude.{◌≡◌, ◌≢◌, ℕ, Some, None, IsFalse}
+use Rattle.std.specs.Prelude.{◌≡◌, ◌≢◌, ◌≤◌, ℕ, true, false, Some, None, IsFalse}
 use Rattle.page_store.specs.declared.plan.Hold.{Hold}
 use Rattle.page_store.specs.declared.plan.Plan.{Plan}
 use Rattle.vm_types.specs.declared.call.Call.{Call}
@@ -7,7 +7,9 @@ use Rattle.vm_types.specs.declared.call.Call.TheVariants.{Load, Store, Map, Exit
 use Rattle.vm_types.specs.declared.call.Place.TheVariants.{At}
 use Rattle.vm_types.specs.declared.call.Reply.{Reply}
 use Rattle.vm_types.specs.declared.call.Reply.TheVariants.{Synced}
+use Rattle.anon_slots.specs.Slots.{count_at}
 use Rattle.flat_model.specs.History.{is_io}
+use Rattle.flat_model.specs.Words.{page}
 use Rattle.vm_world.specs.FlatMemory.{Memory}
 use Rattle.vm_world.specs.Serving.{TakesFrames, KeepsWanted, ModifiesNone}
 use Rattle.vm_world.specs.State.{KernelState}
@@ -15,15 +17,15 @@ use Rattle.vm_world.specs.Wants.{MayPlan, MayHold}
 use Rattle.vm_world.specs.World.{World}
 use Rattle.seg_vn.specs.declared.attempt.Attempt.{Attempt}
 use Rattle.seg_vn.specs.declared.attempt.Attempt.TheVariants.{Done, Need, Busy}
-use Rattle.mmap_calls.specs.Maps.{IsServedObject}
+use Rattle.fault_entry.specs.Accesses.{IsShownWhereDone, SlotsWhereDone}
 use Rattle.vm_core.specs.Flights.{AddsEntry, AddsNoEntry}
 use Rattle.vm_core.specs.State.{with_next_entry}
 
--- The calls that are served so far: loads, stores, the mapping at an address of a file, or of private new zero memory, and the exit.
+-- The calls that are served so far: loads, stores, the mapping at an address, and the exit.
 abbrev pub IsServed : Call → Type 0
 IsServed (Load a n) = Unit {0}
 IsServed (Store a n v) = Unit {0}
-IsServed (Map (At a) len prot kind o offset) = IsServedObject kind o
+IsServed (Map (At a) len prot kind o offset) = Unit {0}
 IsServed Exit = Unit {0}
 IsServed call = ⊥
 
@@ -36,6 +38,19 @@ abbrev pub after_answer : KernelState → ℕ → ℕ → Call → Attempt → K
 after_answer s seat p call (Done reply) = with_next_entry (record s { plan = None }) (record { process = p; call = call; reply = reply; cleared = s.pending })
 after_answer s seat p call (Need plan) = record s { plan = Some (record { seat = seat; plan = plan; of = Some (p, call) }) }
 after_answer s seat p call (Busy hold) = record s { plan = None }
+
+-- WHICH SLOTS ARE MADE. A load that answers a word and a store that is done make a slot exactly where one is due, and where they are answered otherwise every
+-- slot and place is as it was. No other call makes one: no slot is counted more often.
+abbrev pub SlotsAfterCall : Memory → World → ℕ → Call → Attempt → Type 0
+SlotsAfterCall old new p (Load a n) answer = SlotsWhereDone old new p (page a) false answer
+SlotsAfterCall old new p (Store a n v) answer = SlotsWhereDone old new p (page a) true answer
+SlotsAfterCall old new p call answer = (slot : ℕ) → count_at new.anon slot ≤ count_at old.world.anon slot
+
+-- After a load that answers a word, and a store that is done, the page has a translation to the home frame of the page that its place shows.
+abbrev pub IsShownAfterCall : Memory → ℕ → Call → Attempt → Type 0
+IsShownAfterCall m p (Load a n) answer = IsShownWhereDone m p (page a) answer
+IsShownAfterCall m p (Store a n v) answer = IsShownWhereDone m p (page a) answer
+IsShownAfterCall m p call answer = Unit {0}
 
 -- A reply that is neither a device error nor a Sync's.
 abbrev pub IsOwnReply : Attempt → Type 0

@@ -6,9 +6,9 @@ use Rattle.vm_types.specs.declared.call.Entry.{Entry}
 use Rattle.addr_space.specs.Space.{Part}
 use Rattle.page_store.specs.Away.{disk_count}
 use Rattle.page_store.specs.Seen.{StoreSeen}
-use Rattle.vm_world.specs.PlainSteps.{ShowNoZeros}
 use Rattle.vm_world.specs.Segments.{Spaces}
 use Rattle.vm_world.specs.declared.segment.Segment.{Segment}
+use Rattle.vm_world.specs.ZeroObjects.{KnowsZeros}
 use Rattle.vm_world.specs.State.{KernelState, KeptPlan, is_top}
 use Rattle.vm_core.specs.declared.kept.Kept.{Kept}
 
@@ -26,10 +26,10 @@ marked_processes k (false ∷ marks) = marked_processes (suc k) marks
 abbrev pub born_of : List Bool → set.FinSet nat_cmp
 born_of marks = set.from_list (marked_processes 1 marks)
 
--- WHAT IS KEPT. There are four more frames than disks, so that some frame is home whatever is away. No segment shows a zero object. Each process has a seat.
-pub record IsSoundKernel (store : StoreSeen) (spaces : Spaces) (entries : List ℕ) (seats : ℕ) : Type 0 where
+-- WHAT IS KEPT. There are four more frames than disks, so that some frame is home whatever is away. The list of zero objects is right. Each process has a seat.
+pub record IsSoundKernel (store : StoreSeen) (zeros : List (Option ℕ)) (spaces : Spaces) (entries : List ℕ) (seats : ℕ) : Type 0 where
   pub frames : disk_count store + 4 ≤ length store.frames
-  pub plain : ShowNoZeros spaces
+  pub known : KnowsZeros zeros spaces
   pub seated : length entries ≤ seats
 
 -- The space of a process at the start: empty where it has no parent, else none.

@@ -36,6 +36,7 @@ fn leave<D: Disk>(world: &mut World<D>, seat: u32, plan: Plan) -> Flight<D>
         world.old.pending world.new.pending }
     ensures places { world.new.hat.places ≡ places_begun (world_seen world.old) plan }
     // What stays.
+    ensures zeros { world.new.zeros ≡ world.old.zeros }
     ensures step { (spaces : Spaces) (notes : Notes)
         → MemoryFits (record { world = world_seen world.old; spaces = spaces })
         → NotesFit (world_seen world.old) notes

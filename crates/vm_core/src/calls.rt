@@ -3,6 +3,7 @@ ghost use Rattle.std.specs.Prelude.{◌≡◌, ◌<◌, ◌≤◌, ℕ, Some, No
 ghost use Rattle.std.specs.FinMap as finite;
 ghost use Rattle.fault_entry.specs.Accesses.{IsAccess};
 ghost use Rattle.page_store.specs.Notes.{Notes};
+ghost use Rattle.anon_slots.specs.Slots.{count_at};
 ghost use Rattle.flat_model.specs.Told.{entries_of};
 ghost use Rattle.seg_vn.specs.declared.attempt.Attempt.TheVariants.{Done};
 ghost use Rattle.mmap_calls.specs.Maps as maps;
@@ -14,7 +15,7 @@ ghost use Rattle.vm_world.specs.Events.{IsEvent, CanTry};
 ghost use Rattle.vm_world.specs.MemoryFits.{MemoryFits};
 ghost use Rattle.vm_world.specs.NotesFit.{NotesFit};
 ghost use Rattle.vm_world.specs.State.{room_of};
-ghost use Rattle.vm_core.specs.Calls.{IsServed, TakesMemory, AnswersCall, IsOwnReply, with_memory, after_answer};
+ghost use Rattle.vm_core.specs.Calls.{IsServed, TakesMemory, AnswersCall, IsOwnReply, IsShownAfterCall, SlotsAfterCall, with_memory, after_answer};
 ghost use Rattle.vm_core.specs.Fits.{FitsAt};
 ghost use Rattle.seg_vn.specs.Serves.{Serves};
 
@@ -38,6 +39,11 @@ impl<D: Disk> VmState<D> {
         requires may { CanTry self.old seat process call.now }
         ensures answers { IfOk result (λ attempt. AnswersCall self.old self.new seat process
             call.now attempt) }
+        // The mechanisms are real.
+        ensures shown { IfOk result (λ attempt. IsShownAfterCall self.new.memory process
+            call.now attempt) }
+        ensures slots { IfOk result (λ attempt. SlotsAfterCall self.old.memory
+            self.new.memory.world process call.now attempt) }
         ensures event { IsEvent seat self.old None self.new None }
         // Want of memory comes at a mapping call alone, and nothing changed then.
         ensures memory { OnErr result (TakesMemory call.now) }
@@ -79,6 +85,10 @@ impl<D: Disk> VmState<D> {
         requires noted { (notes : Notes) × NotesFit self.old.memory.world notes }
         ensures serves { IfOk result (λ attempt. Serves self.old.memory self.new.memory
             self.old.pending self.new.pending process call.now attempt) }
+        ensures shown { IfOk result (λ attempt. IsShownAfterCall self.new.memory process
+            call.now attempt) }
+        ensures slots { IfOk result (λ attempt. SlotsAfterCall self.old.memory
+            self.new.memory.world process call.now attempt) }
         ensures own { IfOk result IsOwnReply }
         ensures alive { IfOk result (λ attempt. StaysAlive self.new.memory process call.now) }
         // What stays.
@@ -102,6 +112,9 @@ impl<D: Disk> VmState<D> {
         requires noted { (notes : Notes) × NotesFit self.old.memory.world notes }
         ensures serves { Serves self.old.memory self.new.memory
             self.old.pending self.new.pending process call.now result }
+        ensures shown { IsShownAfterCall self.new.memory process call.now result }
+        ensures slots { SlotsAfterCall self.old.memory self.new.memory.world process
+            call.now result }
         ensures own { IsOwnReply result }
         ensures alive { StaysAlive self.new.memory process call.now }
         // What stays.
@@ -118,6 +131,9 @@ impl<D: Disk> VmState<D> {
         requires fits { MemoryFits self.old.memory }
         ensures serves { IfOk result (λ attempt. Serves self.old.memory self.new.memory
             self.old.pending self.new.pending process call.now attempt) }
+        ensures fall { IfOk result (λ attempt. (slot : ℕ)
+            → count_at self.new.memory.world.anon slot
+            ≤ count_at self.old.memory.world.anon slot) }
         ensures own { IfOk result IsOwnReply }
         ensures alive { IfOk result (λ attempt. StaysAlive self.new.memory process call.now) }
         // What stays.
@@ -135,6 +151,8 @@ impl<D: Disk> VmState<D> {
         requires fits { MemoryFits self.old.memory }
         ensures serves { Serves self.old.memory self.new.memory
             self.old.pending self.new.pending process call.now result }
+        ensures fall { (slot : ℕ) → count_at self.new.memory.world.anon slot
+            ≤ count_at self.old.memory.world.anon slot }
         ensures own { IsOwnReply result }
         // What stays.
         ensures rest { self.new ≡ with_memory self.old self.new.memory self.new.pending }

@@ -30,7 +30,7 @@ use hat_layer::Hat;
 use page_store::Store;
 use seg_vn::Spaces;
 use std::alloc::{AllocError, Global};
-use vm_world::World;
+use vm_world::{World, ZeroObjects};
 use vnode_files::Files;
 
 /// What a state takes memory for, its frames aside.
@@ -195,6 +195,7 @@ impl<D: Disk> VmState<D> {
                     maps: AnonMaps::new(alloc),
                     hat: tables.hat,
                     files,
+                    zeros: ZeroObjects::new(alloc),
                     pending: 0,
                 },
                 spaces: tables.spaces,

@@ -79,7 +79,7 @@ impl<D: Disk> Model for VmState<D> {
       entries = s.ledger.entries;
     } };
 
-    ghost invariant = { λ s. IsSoundKernel s.world.store s.spaces.spaces s.ledger.entries (length s.syncs.items) };
+    ghost invariant = { λ s. IsSoundKernel s.world.store s.world.zeros s.spaces.spaces s.ledger.entries (length s.syncs.items) };
 }
 
 impl<D: Disk> VmState<D> {

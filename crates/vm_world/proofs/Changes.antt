@@ -16,19 +16,22 @@ use Rattle.vm_world.proofs.Callers.{same-modes}
 pub machine-kept : (u v : World) → core_of v.store ≡ core_of u.store → length v.store.frames ≡ length u.store.frames → KeepsTables u v → v.store.bays ≡ u.store.bays → KeepsMachine u v
 machine-kept u v core frames tables bays = record { core = core; frames = frames; slots = ap length tables.counts; disks = tables.disks; modes = same-modes u v tables; bays = bays }
 
+pub machine-then : (u v w : World) → KeepsMachine u v → KeepsMachine v w → KeepsMachine u w
+machine-then u v w a b = record {
+  core = b.core ∙ a.core;
+  frames = b.frames ∙ a.frames;
+  slots = b.slots ∙ a.slots;
+  disks = b.disks ∙ a.disks;
+  modes = b.modes ∙ a.modes;
+  bays = b.bays ∙ a.bays;
+}
+
 -- one change after another, where the first leaves flat memory well formed
 pub changes-then : (p : ℕ) (u v w : Memory) (one two both : Flat → Flat → Type 0)
     → ((born : set.FinSet nat_cmp) (notes : Notes) → NotesFit u.world notes → AllTell u.world notes → IsFlat (flat_memory u born notes) → one (flat_memory u born notes) (flat_memory v born notes) → IsFlat (flat_memory v born notes))
     → ((F G H : Flat) → one F G → two G H → both F H) → ChangesMemory p u v one → ChangesMemory p v w two → ChangesMemory p u w both
 changes-then p u v w one two both whole join a b = record {
-  machine = record {
-    core = b.machine.core ∙ a.machine.core;
-    frames = b.machine.frames ∙ a.machine.frames;
-    slots = b.machine.slots ∙ a.machine.slots;
-    disks = b.machine.disks ∙ a.machine.disks;
-    modes = b.machine.modes ∙ a.machine.modes;
-    bays = b.machine.bays ∙ a.machine.bays;
-  };
+  machine = machine-then u.world v.world w.world a.machine b.machine;
   others = λ q far. b.others q far ∙ a.others q far;
   memory = b.memory;
   notes = λ notes nf. b.notes notes (a.notes notes nf);

@@ -13,7 +13,7 @@ use Rattle.vm_types.specs.declared.call.Kind.{Kind}
 use Rattle.vm_types.specs.declared.call.Kind.TheVariants.{Shared, Private}
 use Rattle.vm_types.specs.declared.call.Object.{Object}
 use Rattle.vm_types.specs.declared.call.Object.TheVariants as object
-use Rattle.addr_space.specs.Space.{Part, part_at}
+use Rattle.addr_space.specs.Space.{Part, part_at, put}
 use Rattle.addr_space.proofs.PartLists.{all-found}
 use Rattle.anon_map.specs.Maps.{Map, anon_map_at, IsMapThere, IsUnused, places_of, holders_of, fresh_map}
 use Rattle.page_store.specs.Notes.{Notes}
@@ -30,7 +30,7 @@ use Rattle.vm_world.specs.FlatMemory.{Memory, flat_memory, cell_of, own_page, ow
 use Rattle.vm_world.specs.MapSteps.{maps_made, maps_held}
 use Rattle.vm_world.specs.MemoryFits.{MemoryFits}
 use Rattle.vm_world.specs.Pages.{place_contents, page_value, contents_of}
-use Rattle.vm_world.specs.SegmentSteps.{with_part_come, with_zero_part, with_new_cells, with_new_zero, MayCome, MayMakeZero, IsOwnNew, segment_cell, ChangesSegments}
+use Rattle.vm_world.specs.SegmentSteps.{with_part_come, with_zero_part, with_new_cells, with_zero_object, MayCome, MayMakeZero, IsOwnNew, segment_cell, ChangesSegments}
 use Rattle.vm_world.specs.Segments.{Segment, Spaces, zero_map}
 use Rattle.vm_world.specs.World.{slot_in, slot_name}
 use Rattle.vm_world.proofs.GoneParts.{shown-of-zero}
@@ -38,7 +38,7 @@ use Rattle.vm_world.proofs.KeptMaps.{KeepsMaps, same-places, same-there, own-the
 use Rattle.vm_world.proofs.Lists.{all-turn}
 use Rattle.vm_world.proofs.MapChanges.{made, made-else, made-sum, made-holders, held-else, held-places, held-sum, held-holders, slot-replicate, count-empty}
 use Rattle.vm_world.proofs.Maps.{get-map_with}
-use Rattle.vm_world.proofs.NewParts.{Comes, part-comes}
+use Rattle.vm_world.proofs.NewParts.{Comes, part-comes, zeros-now}
 use Rattle.vm_world.proofs.PartSums.{all_parts, part-le, sum-segments}
 use Rattle.vm_world.proofs.Reserves.{total-same}
 use Rattle.vm_world.proofs.SegmentChange.{counts-change}
@@ -56,19 +56,19 @@ sum-split f g (x ∷ xs) =
     let more = sum-split f g xs in
     omega (arith, a, b, c, more)
 
-abbrev own_had : ℕ → Part Segment → ℕ
+abbrev pub own_had : ℕ → Part Segment → ℕ
 own_had n a = cond (is_number n a.piece.own) 1 0
 
-abbrev shown_had : ℕ → Part Segment → ℕ
+abbrev pub shown_had : ℕ → Part Segment → ℕ
 shown_had n a = cond (is_number n a.piece.shown) 1 0
 
-parts-split : (n : ℕ) (spaces : Spaces) → all_parts (λ (a : Part Segment). times_had n a.piece) spaces ≡ all_parts (own_had n) spaces + all_parts (shown_had n) spaces
+pub parts-split : (n : ℕ) (spaces : Spaces) → all_parts (λ (a : Part Segment). times_had n a.piece) spaces ≡ all_parts (own_had n) spaces + all_parts (shown_had n) spaces
 parts-split n spaces =
     let each : (λ (ps : List (Part Segment)). sum_by (λ (a : Part Segment). times_had n a.piece) ps) ≡ (λ (ps : List (Part Segment)). sum_by (own_had n) ps + sum_by (shown_had n) ps) = λ i ps. sum-split (own_had n) (shown_had n) ps i in
     ap (λ (f : List (Part Segment) → ℕ). sum_by f (finite.values spaces)) each ∙ sum-split (λ (ps : List (Part Segment)). sum_by (own_had n) ps) (λ (ps : List (Part Segment)). sum_by (shown_had n) ps) (finite.values spaces)
 
 module _ (m : Memory) (fits : MemoryFits m) where
-  own-unshown : (q : ℕ) (ps : List (Part Segment)) → finite.get m.spaces q ≡ Some ps → All (λ (a : Part Segment). (z n : ℕ) → a.piece.own ≡ Some n → holders_of m.world.maps n ≡ 1 → finite.get (zero_maps m.spaces) z ≡ Some n → ⊥) ps
+  pub own-unshown : (q : ℕ) (ps : List (Part Segment)) → finite.get m.spaces q ≡ Some ps → All (λ (a : Part Segment). (z n : ℕ) → a.piece.own ≡ Some n → holders_of m.world.maps n ≡ 1 → finite.get (zero_maps m.spaces) z ≡ Some n → ⊥) ps
   own-unshown q ps there = all-every-of ps (λ n. part-le (own_had n) m.spaces q ps there)
     where
       seen : (z n : ℕ) → finite.get (zero_maps m.spaces) z ≡ Some n → 1 ≤ all_parts (shown_had n) m.spaces
@@ -181,7 +181,7 @@ module _ (m : Memory) (p : ℕ) (parts : List (Part Segment)) (x : Part Segment)
       by_kind Shared fit = absurd (let z : None ≡ Some k = sym fit ∙ its in cc)
       by_kind Private fit = (subst (IsUnused maps) (let z : Some fit.0 ≡ Some k = sym fit.1 ∙ its in let e : fit.0 ≡ k = cc in e) fit.2, refl)
 
-  unused : (k : ℕ) → x.piece.own ≡ Some k → IsUnused maps k
+  pub unused : (k : ℕ) → x.piece.own ≡ Some k → IsUnused maps k
   unused k its = (own-x k its).0
 
   shared-x : x.piece.own ≡ None → x.piece.kind ≡ Shared
@@ -296,6 +296,9 @@ module _ (m : Memory) (p : ℕ) (parts : List (Part Segment)) (x : Part Segment)
     reserved = let a = zeros-same in omega (arith, a);
   }
 
+  pub zeros-come : zero_maps (finite.insert m.spaces p (put x parts)) ≡ zs
+  zeros-come = zeros-now m p parts x now more zs fits is comes
+
   pub part-come : ChangesSegments p m (with_part_come m p parts x) (λ F. with_new_cells F p x.first x.pages (segment_cell x.piece))
   part-come = part-comes m p parts x now more zs fits is comes (λ F. F.zeros)
       (λ born notes z n there. zero-pages-of m fits born notes z n there ∙ ap (λ (ps : List Page). Some ps) (sym (zero-pages-same (page_value m.world notes) maps now n (still n (zero-there m fits z n there)).1)))
@@ -306,7 +309,7 @@ module _ (m : Memory) (p : ℕ) (parts : List (Part Segment)) (x : Part Segment)
       (cell-good x.piece)
 
 -- A NEW ZERO OBJECT
-zeros-from : (page : ℕ → Page) (k n : ℕ) → ((i : ℕ) → page i ≡ zero_page) → pages_from page k n ≡ replicate n zero_page
+pub zeros-from : (page : ℕ → Page) (k n : ℕ) → ((i : ℕ) → page i ≡ zero_page) → pages_from page k n ≡ replicate n zero_page
 zeros-from page k zero same = refl
 zeros-from page k (suc n) same = let a = same k in let b = zeros-from page (suc k) n same in λ i. a i ∷ b i
 
@@ -314,7 +317,7 @@ all-zeros : (n : ℕ) → All IsPage (replicate n zero_page)
 all-zeros zero = All-nil IsPage
 all-zeros (suc n) = All-cons IsPage zero_page (replicate n zero_page) IsPage-zero_page (all-zeros n)
 
-flat-new-zero : (F : Flat) (z n : ℕ) → IsFlat F → IsFlat (with_new_zero F z n)
+pub flat-new-zero : (F : Flat) (z n : ℕ) → IsFlat F → IsFlat (with_zero_object F z n)
 flat-new-zero F z n flat = record {
   pages = flat.pages;
   cells = flat.cells;
@@ -424,7 +427,10 @@ module _ (m : Memory) (p : ℕ) (parts : List (Part Segment)) (x : Part Segment)
             omega (arith, a, b, c, d);
       }
 
-  pub zero-part-come : ChangesSegments p m (with_zero_part m p parts x) (λ F. with_new_cells (with_new_zero F z x.pages) p x.first x.pages (segment_cell x.piece))
+  pub zeros-made : zero_maps (finite.insert m.spaces p (put x parts)) ≡ with_number
+  zeros-made = zeros-now m p parts x with_made (m.world.anon.reserved + x.pages) with_number fits is zero-part-comes
+
+  pub zero-part-come : ChangesSegments p m (with_zero_part m p parts x) (λ F. with_new_cells (with_zero_object F z x.pages) p x.first x.pages (segment_cell x.piece))
   zero-part-come = part-comes m p parts x with_made (m.world.anon.reserved + x.pages) with_number fits is zero-part-comes (λ F. finite.insert F.zeros z (replicate x.pages zero_page))
       (λ born notes y n there.
       let F : Flat = flat_memory m born notes in

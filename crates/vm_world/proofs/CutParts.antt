@@ -79,7 +79,7 @@ module _ (maps : List (Option Map)) (o : Option ℕ) (number place : ℕ) (there
   is-unused : (k : ℕ) → o ≡ Some k → IsUnused maps number
   is-unused k is = unused (subst (λ (x : Option ℕ). IsSome x) (sym is) refl)
 
-  mid-else : (n : ℕ) → IsMapThere maps n → o ≢ Some n → anon_map_at (maps_cut maps o number place) n ≡ anon_map_at maps n
+  pub mid-else : (n : ℕ) → IsMapThere maps n → o ≢ Some n → anon_map_at (maps_cut maps o number place) n ≡ anon_map_at maps n
   mid-else n is ne = by_own o refl
     where
       by_own : (c : Option ℕ) → o ≡ c → anon_map_at (maps_cut maps c number place) n ≡ anon_map_at maps n
@@ -99,7 +99,7 @@ module _ (maps : List (Option Map)) (o : Option ℕ) (number place : ℕ) (there
       by_own None e = refl
       by_own (Some k) e = cut-sum maps k number place (there k e) (is-unused k e) f none (parts (places_of maps k))
 
-  mid-holders : (n : ℕ) → holders_of (maps_cut maps o number place) n ≡ holders_of maps n + cond (is_number n (option_map (λ (own : ℕ). number) o)) 1 0
+  pub mid-holders : (n : ℕ) → holders_of (maps_cut maps o number place) n ≡ holders_of maps n + cond (is_number n (option_map (λ (own : ℕ). number) o)) 1 0
   mid-holders n = by_own o refl
     where
       by_own : (c : Option ℕ) → o ≡ c → holders_of (maps_cut maps c number place) n ≡ holders_of maps n + cond (is_number n (option_map (λ (own : ℕ). number) c)) 1 0
@@ -459,7 +459,7 @@ module _ (m : Memory) (p page number : ℕ) (parts : List (Part Segment)) (x : P
       let y = spot-was s.process s.page s.spot s.here in
       fits-shown files m.world.anon maps m.spaces fits.segments z n (record { process = s.process; page = s.page; spot = y.0; here = y.1; shows = sym y.2 ∙ s.shows })
 
-  zeros-now : zero_maps after ≡ zs
+  pub zeros-now : zero_maps after ≡ zs
   zeros-now = maps-are after ordered-after zs within (λ z n there.
       let s = shown-by m.spaces z n fits.segments.ordered there in
       let v = turn-spot s.process s.page s.spot s.here in

@@ -30,7 +30,7 @@ use Rattle.vm_world.specs.MapSteps.{maps_released, places_released}
 use Rattle.vm_world.specs.MemoryFits.{MemoryFits}
 use Rattle.vm_world.specs.Pages.{place_contents, page_value, contents_of}
 use Rattle.vm_world.specs.SegmentSteps.{places_left, with_part_gone, MayLeave, ChangesSegments}
-use Rattle.vm_world.specs.Segments.{Segment, Spot, Spaces, spot_at, zero_map}
+use Rattle.vm_world.specs.Segments.{Segment, Spot, Spaces, segments_of, spot_at, zero_map}
 use Rattle.vm_world.specs.SpaceSteps.{Becomes}
 use Rattle.vm_world.proofs.FlatSpaces.{Standing, flat-with_space}
 use Rattle.vm_world.proofs.KeptMaps.{KeepsMaps, Touches, same-places, same-holders, same-there, kept-fits, kept-cell, others-keep, own-there, shown-there, shown-counts, number-is, is-the-number, all-both, all-every, slot-in-same}
@@ -60,6 +60,12 @@ zero-of-map s object.NewZero z n is = absurd (let k : None ≡ Some (z, n) = is 
 
 pub shown-of-zero : (s : Segment) (z n : ℕ) → zero_map s ≡ Some (z, n) → s.shown ≡ Some n
 shown-of-zero s z n is = zero-of-map s s.object z n is
+
+-- the zero object that a part shows has its map
+pub part-zero : (spaces : Spaces) (p : ℕ) (parts : List (Part Segment)) (x : Part Segment) → All (ShowsZero (zero_maps spaces)) (segments_of spaces) → finite.get spaces p ≡ Some parts → begins parts x.first ≡ Some x
+    → (z n : ℕ) → x.piece.object ≡ object.Zero z → x.piece.shown ≡ Some n → finite.get (zero_maps spaces) z ≡ Some n
+part-zero spaces p parts x each is found z n object shown =
+    all-begins (λ (a : Part Segment). ShowsZero (zero_maps spaces) a.piece) parts x.first x (segments-all (ShowsZero (zero_maps spaces)) spaces p parts each is) found z n (zero_map-of x.piece z n object shown)
 
 module _ (m : Memory) (p : ℕ) (parts : List (Part Segment)) (x : Part Segment) (fits : MemoryFits m) (is : finite.get m.spaces p ≡ Some parts) (found : begins parts x.first ≡ Some x) (may : MayLeave m p x) where
   abbrev maps : List (Option Map)
@@ -113,7 +119,7 @@ module _ (m : Memory) (p : ℕ) (parts : List (Part Segment)) (x : Part Segment)
       let once = (own-x n own).1 in
       omega (arith, two, all, once)
 
-  mid-there : (n : ℕ) → x.piece.shown ≡ Some n → anon_map_at mid n ≡ anon_map_at maps n
+  pub mid-there : (n : ℕ) → x.piece.shown ≡ Some n → anon_map_at mid n ≡ anon_map_at maps n
   mid-there n its = released-else maps x.piece.own n (apart-x n its)
 
   -- THE OTHERS keep their maps
@@ -276,6 +282,42 @@ module _ (m : Memory) (p : ℕ) (parts : List (Part Segment)) (x : Part Segment)
       by_map None e = absurd (by_shown e)
       by_map (Some k) e = e ∙ sym (within z k (shown-by after z k ordered-after e)) ∙ was
 
+  -- which they are
+  pub zeros-same : ((z n : ℕ) → finite.get old_zeros z ≡ Some n → x.piece.shown ≡ Some n → 1 < holders_of maps n) → zero_maps after ≡ old_zeros
+  zeros-same more = finite.same_map nat_cmp_total finite.nat_cmp-IsAntisymmetric (zero_maps after) old_zeros (λ z. by_key z (finite.get old_zeros z) refl)
+    where
+      by_key : (z : ℕ) (o : Option ℕ) → finite.get old_zeros z ≡ o → finite.get (zero_maps after) z ≡ finite.get old_zeros z
+      by_key z (Some n) e = still z n e (more z n e) ∙ sym e
+      by_key z None e = by_map (finite.get (zero_maps after) z) refl
+        where
+          by_map : (o : Option ℕ) → finite.get (zero_maps after) z ≡ o → finite.get (zero_maps after) z ≡ finite.get old_zeros z
+          by_map None d = d ∙ sym e
+          by_map (Some n) d = absurd (let k : None ≡ Some n = sym e ∙ within z n (shown-by after z n ordered-after d) in cc)
+
+  -- the last holder's is gone
+  pub zeros-but-one : (z0 n0 : ℕ) → x.piece.shown ≡ Some n0 → holders_of maps n0 ≡ 1 → finite.get old_zeros z0 ≡ Some n0 → zero_maps after ≡ finite.remove old_zeros z0
+  zeros-but-one z0 n0 its one was = finite.same_map nat_cmp_total finite.nat_cmp-IsAntisymmetric (zero_maps after) (finite.remove old_zeros z0) (λ z. elim (cases_eq z z0) [
+    | inl same ↦ ap (finite.get (zero_maps after)) same ∙ none (finite.get (zero_maps after) z0) refl ∙ sym (get-remove_here old_zeros z0) ∙ ap (finite.get (finite.remove old_zeros z0)) (sym same)
+    | inr ne ↦ by_key z ne (finite.get old_zeros z) refl ∙ sym (get-remove_apart old_zeros z0 z ne)
+  ])
+    where
+      none : (o : Option ℕ) → finite.get (zero_maps after) z0 ≡ o → finite.get (zero_maps after) z0 ≡ None
+      none None e = e
+      none (Some n) e = absurd (
+          let s = shown-by after z0 n ordered-after e in
+          let same : n0 ≡ n = let k : Some n0 ≡ Some n = sym was ∙ within z0 n s in cc in
+          unshown z0 n0 its one (subst (IsShown after z0) (sym same) s))
+
+      by_key : (z : ℕ) → z ≢ z0 → (o : Option ℕ) → finite.get old_zeros z ≡ o → finite.get (zero_maps after) z ≡ finite.get old_zeros z
+      by_key z ne (Some n) e = still z n e (λ its'. absurd (
+          let same : n0 ≡ n = let k : Some n0 ≡ Some n = sym its ∙ its' in cc in
+          ne (fits.segments.apart z z0 n e (was ∙ ap (λ (j : ℕ). Some j) same)))) ∙ sym e
+      by_key z ne None e = by_map (finite.get (zero_maps after) z) refl
+        where
+          by_map : (o : Option ℕ) → finite.get (zero_maps after) z ≡ o → finite.get (zero_maps after) z ≡ finite.get old_zeros z
+          by_map None d = d ∙ sym e
+          by_map (Some n) d = absurd (let k : None ≡ Some n = sym e ∙ within z n (shown-by after z n ordered-after d) in cc)
+
   -- COUNTS of maps and places
   there-own : (n : ℕ) → x.piece.own ≡ Some n → IsMapThere maps n
   there-own n its = (own-x n its).0
@@ -353,62 +395,26 @@ module _ (m : Memory) (p : ℕ) (parts : List (Part Segment)) (x : Part Segment)
       now : total (λ number. length (places_of put number)) (zero_maps after) ≡ total len (zero_maps after)
       now = total-same len (λ number. length (places_of put number)) (zero_maps after) (λ z n there. ap (λ (ps : List (Option ℕ)). length ps) (kept-length z n there))
 
-      all : ((z n : ℕ) → finite.get old_zeros z ≡ Some n → x.piece.shown ≡ Some n → 1 < holders_of maps n) → zero_maps after ≡ old_zeros
-      all more = finite.same_map nat_cmp_total finite.nat_cmp-IsAntisymmetric (zero_maps after) old_zeros (λ z. by_key z (finite.get old_zeros z) refl)
-        where
-          by_key : (z : ℕ) (o : Option ℕ) → finite.get old_zeros z ≡ o → finite.get (zero_maps after) z ≡ finite.get old_zeros z
-          by_key z (Some n) e = still z n e (more z n e) ∙ sym e
-          by_key z None e = by_map (finite.get (zero_maps after) z) refl
-            where
-              by_map : (o : Option ℕ) → finite.get (zero_maps after) z ≡ o → finite.get (zero_maps after) z ≡ finite.get old_zeros z
-              by_map None d = d ∙ sym e
-              by_map (Some n) d = absurd (let k : None ≡ Some n = sym e ∙ within z n (shown-by after z n ordered-after d) in cc)
-
-      -- the last holder's is gone
-      but-one : (z0 n0 : ℕ) → x.piece.shown ≡ Some n0 → holders_of maps n0 ≡ 1 → finite.get old_zeros z0 ≡ Some n0 → zero_maps after ≡ finite.remove old_zeros z0
-      but-one z0 n0 its one was = finite.same_map nat_cmp_total finite.nat_cmp-IsAntisymmetric (zero_maps after) (finite.remove old_zeros z0) (λ z. elim (cases_eq z z0) [
-        | inl same ↦ ap (finite.get (zero_maps after)) same ∙ none (finite.get (zero_maps after) z0) refl ∙ sym (get-remove_here old_zeros z0) ∙ ap (finite.get (finite.remove old_zeros z0)) (sym same)
-        | inr ne ↦ by_key z ne (finite.get old_zeros z) refl ∙ sym (get-remove_apart old_zeros z0 z ne)
-      ])
-        where
-          none : (o : Option ℕ) → finite.get (zero_maps after) z0 ≡ o → finite.get (zero_maps after) z0 ≡ None
-          none None e = e
-          none (Some n) e = absurd (
-              let s = shown-by after z0 n ordered-after e in
-              let same : n0 ≡ n = let k : Some n0 ≡ Some n = sym was ∙ within z0 n s in cc in
-              unshown z0 n0 its one (subst (IsShown after z0) (sym same) s))
-
-          by_key : (z : ℕ) → z ≢ z0 → (o : Option ℕ) → finite.get old_zeros z ≡ o → finite.get (zero_maps after) z ≡ finite.get old_zeros z
-          by_key z ne (Some n) e = still z n e (λ its'. absurd (
-              let same : n0 ≡ n = let k : Some n0 ≡ Some n = sym its ∙ its' in cc in
-              ne (fits.segments.apart z z0 n e (was ∙ ap (λ (j : ℕ). Some j) same)))) ∙ sym e
-          by_key z ne None e = by_map (finite.get (zero_maps after) z) refl
-            where
-              by_map : (o : Option ℕ) → finite.get (zero_maps after) z ≡ o → finite.get (zero_maps after) z ≡ finite.get old_zeros z
-              by_map None d = d ∙ sym e
-              by_map (Some n) d = absurd (let k : None ≡ Some n = sym e ∙ within z n (shown-by after z n ordered-after d) in cc)
-
       by_shown : (o : Option ℕ) → x.piece.shown ≡ o → total (λ number. length (places_of put number)) (zero_maps after) + places_released mid x.piece.shown ≡ total len old_zeros
       by_shown None e =
           let a = now in
-          let b = ap (total len) (all (λ z n was its. absurd (let k : None ≡ Some n = sym e ∙ its in cc))) in
+          let b = ap (total len) (zeros-same (λ z n was its. absurd (let k : None ≡ Some n = sym e ∙ its in cc))) in
           let c = ap (places_released mid) e in
           omega (arith, a, b, c)
       by_shown (Some n0) e =
           let a = now in
           let h = same-holders maps mid n0 (mid-there n0 e) in
           let z0 = (shown-x n0 e).1 in
-          let zero_x : zero_map x.piece ≡ Some (z0.0, n0) = zero_map-of x.piece z0.0 n0 z0.1 e in
-          let was : finite.get old_zeros z0.0 ≡ Some n0 = all-begins (λ (a : Part Segment). ShowsZero old_zeros a.piece) parts x.first x (segments-all (ShowsZero old_zeros) m.spaces p parts fits.segments.zeros is) found z0.0 n0 zero_x in
+          let was : finite.get old_zeros z0.0 ≡ Some n0 = part-zero m.spaces p parts x fits.segments.zeros is found z0.0 n0 z0.1 e in
           elim (cases_eq (holders_of maps n0) 1) [
             | inl one ↦
-                let b = ap (total len) (but-one z0.0 n0 e one was) in
+                let b = ap (total len) (zeros-but-one z0.0 n0 e one was) in
                 let r = total-remove len old_zeros z0.0 n0 (insert_same old_zeros z0.0 n0 was) in
                 let c : places_released mid x.piece.shown ≡ len n0 = ap (places_released mid) e ∙ ap (λ (h : ℕ). cond (h == 1) (length (places_of mid n0)) 0) (h ∙ one) ∙ ap (λ (ps : List (Option ℕ)). length ps) (same-places maps mid n0 (mid-there n0 e)) in
                 omega (arith, a, b, r, c)
             | inr more ↦
                 let some = some-holders n0 e in
-                let b = ap (total len) (all (λ z n was' its. (let same : n0 ≡ n = (let k : Some n0 ≡ Some n = sym e ∙ its in cc) in subst (λ (j : ℕ). 1 < holders_of maps j) same (omega (arith, some, more))))) in
+                let b = ap (total len) (zeros-same (λ z n was' its. (let same : n0 ≡ n = (let k : Some n0 ≡ Some n = sym e ∙ its in cc) in subst (λ (j : ℕ). 1 < holders_of maps j) same (omega (arith, some, more))))) in
                 let c : places_released mid x.piece.shown ≡ 0 = ap (places_released mid) e ∙ ap (λ (b : Bool). cond b (length (places_of mid n0)) 0) (by_test (cases_Bool (holders_of mid n0 == 1)) (λ one. more (sym h ∙ one))) in
                 omega (arith, a, b, c)
           ]

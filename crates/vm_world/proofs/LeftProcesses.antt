@@ -55,7 +55,7 @@ module _ (m : Memory) (p : ℕ) (fits : MemoryFits m) (is : finite.get m.spaces 
   ordered : (q : ℕ) (ps : List (Part Segment)) → finite.get after q ≡ Some ps → IsInOrder 1 ps
   ordered q ps there = fits.segments.ordered q ps (old-get q ps there)
 
-  zeros-now : zero_maps after ≡ zero_maps m.spaces
+  pub zeros-now : zero_maps after ≡ zero_maps m.spaces
   zeros-now = maps-are after ordered (zero_maps m.spaces) within (λ z n there.
       let s = shown-by m.spaces z n fits.segments.ordered there in
       record { process = s.process; page = s.page; spot = s.spot; here = spot-after s.process s.page s.spot s.here; shows = s.shows })

@@ -1,4 +1,5 @@
 pub mod Lists
+pub mod FreeNumbers
 pub mod Maps
 pub mod Loaded
 pub mod FilePages
@@ -40,6 +41,10 @@ pub mod NewParts
 pub mod ComingParts
 pub mod CutParts
 pub mod LeftProcesses
+pub mod ComingProcesses
 pub mod MoreNumbers
 pub mod SegmentCells
-pub mod PlainSteps
+pub mod KnownZeros
+pub mod Unnamed
+pub mod HeldFlat
+pub mod HeldObjects

@@ -1,7 +1,6 @@
 -- What holds of all in a list, and lists that come to nothing.
-use Rattle.std.proofs.Common.{◌≡◌, ℕ, List, [], ◌∷◌, ◌++◌, map, Option, None, refl, ap, ◌∙◌, arith}
-use Rattle.std.specs.Prelude.{sum_by, flat_map, filter_map, All}
-use Rattle.std.specs.List.{cons_option}
+use Rattle.std.proofs.Common.{◌≡◌, ℕ, List, [], ◌∷◌, ◌++◌, map, refl, ap, ◌∙◌, arith}
+use Rattle.std.specs.Prelude.{sum_by, flat_map, All}
 use Rattle.std.proofs.lemmas.List.Elements.{All-nil, All-cons, All-head, All-tail}
 use Rattle.std.proofs.lemmas.List.Sums.{sum_by-cons}
 
@@ -32,7 +31,3 @@ sum-zero f (x ∷ xs) each =
 pub no-lists : {X Y : Type 0} (f : X → List Y) (xs : List X) → All (λ x. f x ≡ []) xs → flat_map f xs ≡ []
 no-lists f [] each = refl
 no-lists f (x ∷ xs) each = ap (λ ys. ys ++ flat_map f xs) (All-head (λ x. f x ≡ []) x xs each) ∙ no-lists f xs (All-tail (λ x. f x ≡ []) x xs each)
-
-pub no-values : {X Y : Type 0} (f : X → Option Y) (xs : List X) → All (λ x. f x ≡ None) xs → filter_map f xs ≡ []
-no-values f [] each = refl
-no-values f (x ∷ xs) each = ap (λ o. cons_option o (filter_map f xs)) (All-head (λ x. f x ≡ None) x xs each) ∙ no-values f xs (All-tail (λ x. f x ≡ None) x xs each)

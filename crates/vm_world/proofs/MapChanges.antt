@@ -2,7 +2,7 @@
 use Rattle.std.proofs.Common.{◌≡◌, ◌≢◌, ℕ, zero, suc, ◌+◌, ◌-◌, ◌<◌, ◌≤◌, Bool, true, false, cond, List, [], ◌∷◌, ◌++◌, length, Option, Some, None, refl, sym, ap, ◌∙◌, inl, inr, subst, arith, slice_index_or, slice_set, get_or-set_same}
 use Rattle.std.specs.Prelude.{◌==◌, count_by, sum_by, IsSome, nat_lt, unwrap_or, take, drop, replicate}
 use Rattle.std.proofs.lemmas.Bool.{cases_Bool, cases_eq, eq-eqb, eqb-true, ltb-true}
-use Rattle.std.proofs.lemmas.List.{get_or-set_other}
+use Rattle.std.proofs.lemmas.List.{get_or-set_other, set-set, set-get_or}
 use Rattle.std.proofs.lemmas.List.Sums.{sum_by-cons, sum_by-append, sum_by-set}
 use Rattle.anon_map.specs.Maps.{Map, anon_map_at, the_map, places_of, holders_of, IsMapThere, IsUnused, AreEmpty, fresh_map, with_map, with_holders}
 use Rattle.anon_map.proofs.MapLaws.{with_map_same, with_map_other, there_apart}
@@ -191,6 +191,27 @@ held-holders maps o n there = elim (cases_Bool (is_number n o)) [
       let b = ap (λ (b : Bool). cond {A = ℕ} b 1 0) f in
       omega (arith, e, b)
 ]
+
+-- and loses it again is as it was
+pub held-released : (maps : List (Option Map)) (n : ℕ) → IsMapThere maps n → 1 ≤ holders_of maps n → maps_released (maps_held maps (Some n)) (Some n) ≡ maps
+held-released maps n there some =
+    let put = maps_held maps (Some n) in
+    let here : anon_map_at put n ≡ Some (record (the_map maps n) { holders = holders_of maps n + 1 }) = held-here maps (Some n) n refl there in
+    let more : holders_of put n ≡ holders_of maps n + 1 = ap (λ (o : Option Map). (unwrap_or o (record { places = []; holders = 0 })).holders) here in
+    let places : places_of put n ≡ places_of maps n = ap (λ (o : Option Map). (unwrap_or o (record { places = []; holders = 0 })).places) here in
+    let back : holders_of put n - 1 ≡ holders_of maps n = omega (arith, more) in
+    let same : record (the_map put n) { holders = holders_of put n - 1 } ≡ the_map maps n = λ i. record { places = places i; holders = back i } in
+    elim (cases_Bool (holders_of put n == 1)) [
+      | inl t ↦ absurd (let e = eqb-true (holders_of put n) 1 t in omega (arith, e, more, some))
+      | inr f ↦
+          ap (λ (b : Bool). cond b (slice_set put n None) (with_holders put n (holders_of put n - 1))) f
+          ∙ ap (λ (x : Map). slice_set put n (Some x)) same ∙ set-set maps n (Some (record (the_map maps n) { holders = holders_of maps n + 1 })) (Some (the_map maps n))
+          ∙ ap (slice_set maps n) (is-some (anon_map_at maps n) there) ∙ set-get_or maps n None
+    ]
+  where
+    is-some : (o : Option Map) → IsSome o → Some (unwrap_or o (record { places = []; holders = 0 })) ≡ o
+    is-some None there = absurd (let z : false ≡ true = there in cc)
+    is-some (Some x) there = refl
 
 pub slot-replicate : (pages i : ℕ) → ◌≡◌ {A = Option ℕ} (slice_index_or (replicate pages None) i None) None
 slot-replicate zero i = refl

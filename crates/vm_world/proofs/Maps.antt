@@ -63,6 +63,13 @@ map-remove f m k = finite.same_map nat_cmp_total finite.nat_cmp-IsAntisymmetric 
   | inr ne ↦ ap (option_map f) (get-remove_apart m k q ne) ∙ sym (get-map_with f m q) ∙ sym (get-remove_apart (map_with f m) k q ne)
 ])
 
+-- and one is put
+pub map-insert : {X Y : Type 0} (f : X → Y) (m : finite.FinMap nat_cmp X) (k : ℕ) (v : X) → map_with f (finite.insert m k v) ≡ finite.insert (map_with f m) k (f v)
+map-insert f m k v = finite.same_map nat_cmp_total finite.nat_cmp-IsAntisymmetric _ _ (λ q. get-map_with f (finite.insert m k v) q ∙ elim (cases_eq q k) [
+  | inl e ↦ ap (λ (j : ℕ). option_map f (finite.get (finite.insert m k v) j)) e ∙ ap (option_map f) (get-insert_here m k v) ∙ sym (get-insert_here (map_with f m) k (f v)) ∙ ap (finite.get (finite.insert (map_with f m) k (f v))) (sym e)
+  | inr ne ↦ ap (option_map f) (get-insert_apart m k v q ne) ∙ sym (get-map_with f m q) ∙ sym (get-insert_apart (map_with f m) k (f v) q ne)
+])
+
 -- what is put under a key last is there
 pub insert-twice : {X : Type 0} (m : finite.FinMap nat_cmp X) (k : ℕ) (v w : X) → finite.insert (finite.insert m k v) k w ≡ finite.insert m k w
 insert-twice m k v w = finite.same_map nat_cmp_total finite.nat_cmp-IsAntisymmetric _ _ (λ q. elim (cases_eq q k) [

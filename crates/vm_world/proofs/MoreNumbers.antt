@@ -23,7 +23,7 @@ use Rattle.vm_world.proofs.SegmentChange.{counts-change, change-memory, shows-ke
 use Rattle.vm_world.proofs.Spots.{IsSpotOf, spot-part}
 
 -- a number that names no map has none, as one past the end
-past-none : (maps : List (Option Map)) (more n : ℕ) → anon_map_at (maps ++ replicate more None) n ≡ anon_map_at maps n
+pub past-none : (maps : List (Option Map)) (more n : ℕ) → anon_map_at (maps ++ replicate more None) n ≡ anon_map_at maps n
 past-none [] zero n = refl
 past-none [] (suc more) zero = refl
 past-none [] (suc more) (suc n) = past-none [] more n

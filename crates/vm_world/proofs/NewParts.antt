@@ -120,7 +120,7 @@ module _ (m : Memory) (p : ℕ) (parts : List (Part Segment)) (x : Part Segment)
       let some = c.place.placed.some in
       ap (option_and_then (λ (ps : List (Part Segment)). piece_at ps x.first)) (get-insert_here m.spaces p new) ∙ come x.first ∙ ap (λ (b : Bool). cond b (Some (x.piece, x.first - x.first)) (piece_at parts x.first)) (has-in x x.first (omega arith) (omega (arith, some)))
 
-  zeros-now : zero_maps after ≡ Z
+  pub zeros-now : zero_maps after ≡ Z
   zeros-now = maps-are after ordered-after Z within (λ z n there. elim (c.from z n there) [
     | inl was ↦ let s = shown-by m.spaces z n fits.segments.ordered was in record { process = s.process; page = s.page; spot = s.spot; here = spot-after s.process s.page s.spot s.here; shows = s.shows }
     | inr its ↦ record { process = p; page = x.first; spot = (x.piece, x.first - x.first); here = first-here; shows = its }

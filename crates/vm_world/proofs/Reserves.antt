@@ -42,7 +42,7 @@ sum-mapped {X} {Y} f g (e ∷ es) =
     sum_by-cons f (g e.1) (map (λ (e : ℕ × Y). e.1) (map (λ (e : ℕ × X). (e.0, g e.1)) es)) ∙ ap (λ (n : ℕ). f (g e.1) + n) (sum-mapped f g es)
     ∙ sym (sum_by-cons (λ x. f (g x)) e.1 (map (λ (e : ℕ × X). e.1) es))
 
-total-empty : {X : Type 0} (f : X → ℕ) → total f (finite.empty {R = nat_cmp}) ≡ 0
+pub total-empty : {X : Type 0} (f : X → ℕ) → total f (finite.empty {R = nat_cmp}) ≡ 0
 total-empty {X} f = ap (λ (es : List (ℕ × X)). sum_by f (map (λ (e : ℕ × X). e.1) es)) entries-empty
 
 total-above : {X : Type 0} (f : X → ℕ) (a : ℕ) (es : List (ℕ × X)) → Above a es → total f (finite.from_entries {R = nat_cmp} es) ≡ sum_by f (map (λ (e : ℕ × X). e.1) es)

@@ -12,7 +12,7 @@ use Rattle.vm_world.specs.SegmentSteps.{MayLeave, with_part_gone, ChangesSegment
 use Rattle.vm_world.specs.Segments.{Segment, Spaces}
 use Rattle.vm_world.specs.World.{World}
 use Rattle.vm_world.specs.WorldSteps.{stays, WorldStep}
-use Rattle.vm_world.proofs.Changes.{machine-kept, becomes-then}
+use Rattle.vm_world.proofs.Changes.{machine-kept, becomes-then, becomes-same}
 use Rattle.vm_world.proofs.ComingParts.{part-come, zero-part-come}
 use Rattle.vm_world.proofs.CutParts.{part-cut}
 use Rattle.vm_world.proofs.FrameRule.{frame_law}
@@ -49,4 +49,5 @@ segment_rule = record {
   numbers = λ m p more fits. more-numbers m more fits p;
   keeps = rule-keeps;
   joined = becomes-then;
+  same = becomes-same;
 }

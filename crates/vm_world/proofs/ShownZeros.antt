@@ -6,7 +6,7 @@ use Rattle.std.specs.Ordering.{nat_cmp, is_eq}
 use Rattle.std.specs.Cmp.{nat_cmp_total, unsigned_tied}
 use Rattle.std.specs.FinMap as finite
 use Rattle.std.specs.FinSet as set
-use Rattle.std.proofs.lemmas.Bool.{cases_Bool, eq-eqb, eqb-true}
+use Rattle.std.proofs.lemmas.Bool.{cases_Bool, eq-eqb, eqb-true, or_right}
 use Rattle.std.proofs.lemmas.Bool.Decides.{eqb_tells}
 use Rattle.std.proofs.lemmas.List.Elements.{All-nil, All-cons}
 use Rattle.vm_types.specs.declared.call.Object.{Object}
@@ -46,16 +46,12 @@ number-is n (Some m) is = ap (λ (k : ℕ). Some k) (eqb-true m n is)
 is-the-number : (n : ℕ) (o : Option ℕ) → o ≡ Some n → is_number n o ≡ true
 is-the-number n o is = ap (is_number n) is ∙ eq-eqb n n refl
 
-or-right : (a b : Bool) → b ≡ true → (a || b) ≡ true
-or-right true b is = refl
-or-right false b is = is
-
 -- the space in which an entry is found
 shown-space : (z n : ℕ) (vs : List (List (Part Segment))) → finite.find nat_cmp z (flat_map zeros_of vs) ≡ Some n → list_any (λ v. is_number n (finite.find nat_cmp z (zeros_of v))) vs ≡ true
 shown-space z n [] is = absurd (let k : None ≡ Some n = is in cc)
 shown-space z n (v ∷ vs) is = elim (found-either z n (zeros_of v) (flat_map zeros_of vs) is) [
   | inl here ↦ ap (λ (b : Bool). b || list_any (λ v. is_number n (finite.find nat_cmp z (zeros_of v))) vs) (is-the-number n (finite.find nat_cmp z (zeros_of v)) here)
-  | inr there ↦ or-right (is_number n (finite.find nat_cmp z (zeros_of v))) (list_any (λ v. is_number n (finite.find nat_cmp z (zeros_of v))) vs) (shown-space z n vs there)
+  | inr there ↦ or_right (is_number n (finite.find nat_cmp z (zeros_of v))) (list_any (λ v. is_number n (finite.find nat_cmp z (zeros_of v))) vs) (shown-space z n vs there)
 ]
 
 -- A part of a space that shows the zero object with this map, at its first page.
@@ -198,7 +194,7 @@ fits-shown files anon maps spaces fit z n s =
     o.fits z n (ap zero_map o.piece ∙ s.shows)
 
 -- and its map is there
-zero-shown : (maps : List (Option Map)) (files : ℕ) (s : Segment) (o : Object) (z : ℕ) → o ≡ object.Zero z → ObjectFits files maps s o → (n : ℕ) × (s.shown ≡ Some n) × IsMapThere maps n
+pub zero-shown : (maps : List (Option Map)) (files : ℕ) (s : Segment) (o : Object) (z : ℕ) → o ≡ object.Zero z → ObjectFits files maps s o → (n : ℕ) × (s.shown ≡ Some n) × IsMapThere maps n
 zero-shown maps files s o z is fit = subst (λ (x : Object). ObjectFits files maps s x) is fit
 
 pub zero_map-of : (s : Segment) (z n : ℕ) → s.object ≡ object.Zero z → s.shown ≡ Some n → zero_map s ≡ Some (z, n)
@@ -206,7 +202,7 @@ zero_map-of s z n is shown =
     ap (λ (o : Object). elim o as (λ x. Option (ℕ × ℕ)) [ object.Zero y ↦ option_map (λ (number : ℕ). (y, number)) s.shown | object.File f ↦ None | object.NewZero ↦ None ]) is
     ∙ ap (option_map (λ (number : ℕ). (z, number))) shown
 
-zero-of-object : (o : Object) (z : ℕ) → (elim o as (λ x. Option ℕ) [ object.Zero y ↦ Some y | object.File f ↦ None | object.NewZero ↦ None ]) ≡ Some z → o ≡ object.Zero z
+pub zero-of-object : (o : Object) (z : ℕ) → (elim o as (λ x. Option ℕ) [ object.Zero y ↦ Some y | object.File f ↦ None | object.NewZero ↦ None ]) ≡ Some z → o ≡ object.Zero z
 zero-of-object (object.Zero y) z is = ap (λ (k : ℕ). object.Zero k) (some-inj y z is)
 zero-of-object (object.File f) z is = absurd (let k : None ≡ Some z = is in cc)
 zero-of-object object.NewZero z is = absurd (let k : None ≡ Some z = is in cc)

@@ -1,19 +1,15 @@
--- Spaces without zero objects, and without segments.
-use Rattle.std.proofs.Common.{◌≡◌, ℕ, List, [], ◌∷◌, length, map, Option, Some, None, refl, sym, ap, ◌∙◌, subst, arith}
-use Rattle.std.specs.Prelude.{sum_by, filter_map, option_map, All}
+-- Spaces without segments.
+use Rattle.std.proofs.Common.{◌≡◌, ℕ, List, [], ◌∷◌, length, map, Option, Some, None, refl, sym, ap, ◌∙◌, arith}
+use Rattle.std.specs.Prelude.{sum_by, filter_map}
 use Rattle.std.specs.Ordering.{nat_cmp}
 use Rattle.std.specs.Cmp.{nat_cmp_total}
 use Rattle.std.specs.FinMap as finite
-use Rattle.std.proofs.lemmas.List.Elements.{All-nil}
-use Rattle.vm_types.specs.declared.call.Object.{Object}
-use Rattle.vm_types.specs.declared.call.Object.TheVariants as object
 use Rattle.addr_space.specs.Space.{Part}
 use Rattle.anon_map.specs.Maps.{Map, places_of}
 use Rattle.vm_world.specs.Segments.{Segment, Spaces, segments_of, zero_map}
 use Rattle.vm_world.specs.FlatMemory.{zero_maps}
 use Rattle.vm_world.specs.CountsFit.{reserved_pages, slots_for_part}
-use Rattle.vm_world.specs.PlainSteps.{ShowNoZeros}
-use Rattle.vm_world.proofs.Lists.{all-turn, sum-zero, no-lists, no-values}
+use Rattle.vm_world.proofs.Lists.{sum-zero, no-lists}
 use Rattle.vm_world.proofs.Maps.{all-values}
 
 -- each process that is alive has an empty space
@@ -40,23 +36,12 @@ shown_zeros parts = filter_map (λ (p : Part Segment). zero_map p.piece) parts
 abbrev slots_in : List (Part Segment) → ℕ
 slots_in parts = sum_by slots_for_part parts
 
--- none shows a zero object
-no-zero : (shown : Option ℕ) (o : Object) → shown ≡ None → (elim o as (λ x. Option (ℕ × ℕ)) [ object.Zero z ↦ option_map (λ (number : ℕ). (z, number)) shown | object.File f ↦ None | object.NewZero ↦ None ]) ≡ None
-no-zero shown (object.Zero z) none = ap (option_map (λ (number : ℕ). (z, number))) none
-no-zero shown (object.File f) none = refl
-no-zero shown object.NewZero none = refl
-
-pub plain-zeros : (spaces : Spaces) → ShowNoZeros spaces → zero_maps spaces ≡ finite.empty
-plain-zeros spaces plain =
-    ap (λ (es : List (ℕ × ℕ)). finite.from_entries es) (no-lists shown_zeros (finite.values spaces) (all-values (λ parts. shown_zeros parts ≡ []) spaces (λ p parts is.
-    no-values (λ (a : Part Segment). zero_map a.piece) parts (all-turn (λ (a : Part Segment). a.piece.shown ≡ None) (λ (a : Part Segment). zero_map a.piece ≡ None) parts (λ a none. no-zero a.piece.shown a.piece.object none) (plain p parts is)))))
-
 -- there is no segment
 pub empty-segments : (spaces : Spaces) → EmptySpaces spaces → segments_of spaces ≡ []
 empty-segments spaces empty = no-lists pieces (finite.values spaces) (all-values (λ parts. pieces parts ≡ []) spaces (λ p parts is. ap pieces (empty p parts is)))
 
 pub empty-zeros : (spaces : Spaces) → EmptySpaces spaces → zero_maps spaces ≡ finite.empty
-empty-zeros spaces empty = plain-zeros spaces (λ p parts is. subst (All (λ (a : Part Segment). a.piece.shown ≡ None)) (sym (empty p parts is)) (All-nil (λ (a : Part Segment). a.piece.shown ≡ None)))
+empty-zeros spaces empty = ap (λ (es : List (ℕ × ℕ)). finite.from_entries es) (no-lists shown_zeros (finite.values spaces) (all-values (λ parts. shown_zeros parts ≡ []) spaces (λ p parts is. ap shown_zeros (empty p parts is))))
 
 pub empty-reserved : (maps : List (Option Map)) (spaces : Spaces) → EmptySpaces spaces → reserved_pages maps spaces ≡ 0
 empty-reserved maps spaces empty =

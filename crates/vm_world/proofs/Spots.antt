@@ -17,11 +17,11 @@ pub record IsSpotOf (P : Part Segment → Type 0) (q : ℕ) (x : Spot) : Type 0 
   pub fits : P part
   pub user : (1 ≤ q) × (q < 0x80000)
 
-both-left : (a b : Bool) → (a && b) ≡ true → a ≡ true
+pub both-left : (a b : Bool) → (a && b) ≡ true → a ≡ true
 both-left true b e = refl
 both-left false b e = absurd (cc)
 
-both-right : (a b : Bool) → (a && b) ≡ true → b ≡ true
+pub both-right : (a b : Bool) → (a && b) ≡ true → b ≡ true
 both-right true b e = e
 both-right false b e = absurd (cc)
 

@@ -29,4 +29,4 @@ pub mod SeatLaws
 pub mod SpaceSteps
 pub mod MapSteps
 pub mod SegmentSteps
-pub mod PlainSteps
+pub mod ZeroObjects

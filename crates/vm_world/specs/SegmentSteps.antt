@@ -109,12 +109,12 @@ with_more_numbers m more = record m { world = record m.world { maps = m.world.ma
 abbrev pub segment_cell : Segment → ℕ → Cell
 segment_cell s i = record { prot = s.prot; max = s.max; kind = s.kind; object = s.object; index = s.index + i; own = own_for s.kind s.object }
 
--- Flat memory with so many cells of a process from a page on, and with a zero object of so many pages before.
+-- Flat memory with so many cells of a process from a page on; and with a zero object of so many pages of zeros.
 abbrev pub with_new_cells : Flat → ℕ → ℕ → ℕ → (ℕ → Cell) → Flat
 with_new_cells F p first n cell = without_unnamed (with_space F p (with_cells (cells_of F p) first n cell))
 
-abbrev pub with_new_zero : Flat → ℕ → ℕ → Flat
-with_new_zero F z n = record F { zeros = finite.insert F.zeros z (replicate n zero_page) }
+abbrev pub with_zero_object : Flat → ℕ → ℕ → Flat
+with_zero_object F z n = record F { zeros = finite.insert F.zeros z (replicate n zero_page) }
 
 -- The segments of one process change, and flat memory becomes this.
 abbrev pub ChangesSegments : ℕ → Memory → Memory → (Flat → Flat) → Type 0
@@ -134,13 +134,16 @@ pub record SegmentRule : Type 0 where
       → ChangesSegments p m (with_part_come m p parts x) (λ F. with_new_cells F p x.first x.pages (segment_cell x.piece))
   pub put_zero : (m : Memory) (p : ℕ) (parts : List (Part Segment)) (x : Part Segment) (z number : ℕ) → MemoryFits m → finite.get m.spaces p ≡ Some parts
       → MayMakeZero m parts x z number
-      → ChangesSegments p m (with_zero_part m p parts x) (λ F. with_new_cells (with_new_zero F z x.pages) p x.first x.pages (segment_cell x.piece))
+      → ChangesSegments p m (with_zero_part m p parts x) (λ F. with_new_cells (with_zero_object F z x.pages) p x.first x.pages (segment_cell x.piece))
   pub leave : (m : Memory) (p : ℕ) → MemoryFits m → finite.get m.spaces p ≡ Some [] → ChangesSegments p m (without_space m p) (λ F. without_process F p)
   pub numbers : (m : Memory) (p more : ℕ) → MemoryFits m → ChangesSegments p m (with_more_numbers m more) (λ F. F)
   pub keeps : (p : ℕ) (old new : World) (spaces : Spaces) → MemoryFits (record { world = old; spaces = spaces }) → WorldStep old new spaces stays (λ name. false)
       → ChangesSegments p (record { world = old; spaces = spaces }) (record { world = new; spaces = spaces }) (λ F. F)
   pub joined : (p : ℕ) (u v w : Memory) (first second : Flat → Flat) → ChangesSegments p u v first → ChangesSegments p v w second
       → ChangesSegments p u w (λ F. second (first F))
+  -- A change that is said by one function of flat memory may be said by another that gives the same.
+  pub same : (p : ℕ) (u v : Memory) (f g : Flat → Flat) → ((born : set.FinSet nat_cmp) (notes : Notes) → f (flat_memory u born notes) ≡ g (flat_memory u born notes))
+      → ChangesSegments p u v f → ChangesSegments p u v g
 
 -- The cells of a process are those of its parts, as many as these have pages. The zero objects that there are, and the number that a new one gets, the least
 -- that is none's, are told by the segments; and what flat memory reserves are the slots that are reserved.

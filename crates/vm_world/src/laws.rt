@@ -9,7 +9,6 @@ ghost use Rattle.vm_world.specs.Opening.{OpeningLaw};
 ghost use Rattle.vm_world.specs.SeatLaws.{SeatLaw};
 ghost use Rattle.vm_world.specs.ServingLaws.{ServingLaw};
 ghost use Rattle.vm_world.specs.SegmentSteps.{SegmentRule, SegmentCells};
-ghost use Rattle.vm_world.specs.PlainSteps.{SpaceRule};
 ghost use Rattle.vm_world.specs.StateSteps.{StateRule};
 
 /// The state at the opening fits its own flat memory.
@@ -71,12 +70,6 @@ pub fn call_law()
 #[tactic(auto, using(crate::proofs::Told::event_law))]
 pub fn event_law()
     ensures { EventLaw }
-{}
-
-/// What a change of the segments of one process does, where no segment shows a zero object.
-#[tactic(auto, using(crate::proofs::PlainSteps::space_rule))]
-pub fn space_law()
-    ensures { SpaceRule }
 {}
 
 /// What a change of the segments of one process does.

@@ -1,4 +1,4 @@
-use Rattle.std.proofs.Common.{ℕ, ◌+◌, List, [], ◌∷◌, ◌++◌, Option, None, sym, ap, ◌∙◌, subst, arith, vec_capacity, replicate, append_assoc}
+use Rattle.std.proofs.Common.{◌≡◌, ℕ, ◌+◌, ◌-◌, List, [], ◌∷◌, ◌++◌, Option, None, sym, ap, ◌∙◌, subst, arith, vec_capacity, replicate, append_assoc}
 use Rattle.std.proofs.lemmas.List.{replicate_more, append-nil}
 use Rattle.anon_map.specs.Maps.{Map, IsSoundAnonMaps, free_numbers}
 use Rattle.anon_map.proofs.KeptLemmas.{kept_room, kept_more, gone_within}
@@ -58,7 +58,11 @@ returns-clause-free c =
     let counted = c.self.invariant.counted in
     omega (arith, e, more, counted, i.more.2, i.count, c.loop-number.auto.number, c.loop-number-test.false, c.in_ok-reserve-2.ensures.len, c.len.ensures, c.len-free.ensures, c.self.inside.gone.ok.0)
 
-pub returns-clause-more : goal.returns-clause-more
-returns-clause-more c =
+pub returns-clause-new : goal.returns-clause-new
+returns-clause-new c =
     let i = c.loop-number.invariant in
-    (i.more.0, i.more.1 ∙ ap (λ (maps : List (Option Map)). maps ++ replicate i.more.0 None) (c.in_ok-reserve-2.ensures.items ∙ c.self.view_is))
+    let counted = c.self.invariant.counted in
+    let view = ap (λ (maps : List (Option Map)). free_numbers maps) c.self.view_is in
+    let more : i.more.0 ≡ c.args.numbers - free_numbers c.args.self.now =
+    omega (arith, counted, view, i.more.2, i.count, c.loop-number.auto.number-end, c.loop-number-test.false, c.in_ok-reserve-2.ensures.len, c.len.ensures, c.len-free.ensures, c.self.inside.gone.ok.0) in
+    i.more.1 ∙ ap (λ (maps : List (Option Map)). maps ++ replicate i.more.0 None) (c.in_ok-reserve-2.ensures.items ∙ c.self.view_is) ∙ ap (λ (k : ℕ). c.args.self.now ++ replicate k None) more

@@ -1,4 +1,4 @@
-use Rattle.std.proofs.Common.{false, refl}
+use Rattle.std.proofs.Common.{false, refl, ap}
 use Rattle.vm_types.specs.declared.call.Call.TheVariants as call
 use Rattle.vm_world.specs.World.{world_seen}
 use Rattle.fault_entry.proofs.Served.{load-reached, load-refused, access-needs, access-busy}
@@ -16,12 +16,14 @@ returns-in-Reached g c = record {
       let s = c.in-Reached.ensures.serves spaces fits get in
       load-reached (world_seen c.args.world.now) (world_seen c.reach.new.world) spaces c.args.world.now.pending c.reach.new.world.pending c.args.process c.args.addr c.args.size c.in-Reached.frame c.read.result s
       (c.read.ensures spaces c.args.process s.acts.memory s.means.noted);
+  zeros = ap (λ w. w.zeros) c.in-Reached.ensures.rest;
 }
 
 pub returns-in-Refused : goal.returns-in-Refused
 returns-in-Refused g c = record {
   serves = λ spaces fits get.
       load-refused (world_seen c.args.world.now) (world_seen c.reach.new.world) spaces c.args.world.now.pending c.reach.new.world.pending c.args.process c.args.addr c.args.size c.in-Refused.signal (c.in-Refused.ensures.serves spaces fits get);
+  zeros = ap (λ w. w.zeros) c.in-Refused.ensures.rest;
 }
 
 pub returns-in-Need : goal.returns-in-Need
@@ -29,6 +31,7 @@ returns-in-Need g c = record {
   serves = λ spaces fits get.
       let s = c.in-Need.ensures.serves spaces fits get in
       access-needs (world_seen c.args.world.now) (world_seen c.reach.new.world) spaces c.args.world.now.pending c.reach.new.world.pending c.args.process c.args.addr c.args.size false (call.Load c.args.addr c.args.size) c.in-Need.plan refl s s.means.1;
+  zeros = ap (λ w. w.zeros) c.in-Need.ensures.rest;
 }
 
 pub returns-in-Busy : goal.returns-in-Busy
@@ -36,4 +39,5 @@ returns-in-Busy g c = record {
   serves = λ spaces fits get.
       let s = c.in-Busy.ensures.serves spaces fits get in
       access-busy (world_seen c.args.world.now) (world_seen c.reach.new.world) spaces c.args.world.now.pending c.reach.new.world.pending c.args.process c.args.addr c.args.size false (call.Load c.args.addr c.args.size) c.in-Busy.hold refl s s.means.1;
+  zeros = ap (λ w. w.zeros) c.in-Busy.ensures.rest;
 }

@@ -1,4 +1,4 @@
-use Rattle.std.proofs.Common.{ℕ, true, refl, sym, ap, subst}
+use Rattle.std.proofs.Common.{ℕ, true, refl, sym, ap, ◌∙◌, subst}
 use Rattle.flat_model.specs.Words.{page}
 use Rattle.vm_types.specs.declared.call.Call.TheVariants as call
 use Rattle.vm_types.specs.declared.call.Reply.TheVariants as reply
@@ -25,12 +25,14 @@ returns-in-Reached g c = record {
       subst (λ (k : ℕ). ServesWord (memory_of old spaces) (memory_of new spaces) c.args.world.now.pending k c.args.process (page c.args.addr) (call.Store c.args.addr c.args.size c.args.value) (attempt.Done reply.Done)) (sym (ap (λ v. v.pending) c.write.ensures.rest))
       (store-reached old mid new spaces c.args.world.now.pending c.reach.new.world.pending c.args.process c.args.addr c.args.size c.in-Reached.frame c.args.value s
       (c.write.ensures.writes spaces c.args.process s.acts.memory s.means.noted) (ap (λ v. v.hat) c.write.ensures.rest) (ap (λ v. v.anon) c.write.ensures.rest) (ap (λ v. v.maps) c.write.ensures.rest));
+  zeros = ap (λ v. v.zeros) c.write.ensures.rest ∙ ap (λ w. w.zeros) c.in-Reached.ensures.rest;
 }
 
 pub returns-in-Refused : goal.returns-in-Refused
 returns-in-Refused g c = record {
   serves = λ spaces fits get.
       store-refused (world_seen c.args.world.now) (world_seen c.reach.new.world) spaces c.args.world.now.pending c.reach.new.world.pending c.args.process c.args.addr c.args.size c.args.value c.in-Refused.signal (c.in-Refused.ensures.serves spaces fits get);
+  zeros = ap (λ w. w.zeros) c.in-Refused.ensures.rest;
 }
 
 pub returns-in-Need : goal.returns-in-Need
@@ -38,6 +40,7 @@ returns-in-Need g c = record {
   serves = λ spaces fits get.
       let s = c.in-Need.ensures.serves spaces fits get in
       access-needs (world_seen c.args.world.now) (world_seen c.reach.new.world) spaces c.args.world.now.pending c.reach.new.world.pending c.args.process c.args.addr c.args.size true (call.Store c.args.addr c.args.size c.args.value) c.in-Need.plan refl s s.means.1;
+  zeros = ap (λ w. w.zeros) c.in-Need.ensures.rest;
 }
 
 pub returns-in-Busy : goal.returns-in-Busy
@@ -45,4 +48,5 @@ returns-in-Busy g c = record {
   serves = λ spaces fits get.
       let s = c.in-Busy.ensures.serves spaces fits get in
       access-busy (world_seen c.args.world.now) (world_seen c.reach.new.world) spaces c.args.world.now.pending c.reach.new.world.pending c.args.process c.args.addr c.args.size true (call.Store c.args.addr c.args.size c.args.value) c.in-Busy.hold refl s s.means.1;
+  zeros = ap (λ w. w.zeros) c.in-Busy.ensures.rest;
 }

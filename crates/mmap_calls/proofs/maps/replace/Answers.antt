@@ -1,111 +1,244 @@
-use Rattle.std.proofs.Common.{◌≡◌, ℕ, ◌+◌, ◌-◌, ◌≤◌, cond, List, length, None, sym, ap, ◌∙◌, subst, arith}
-use Rattle.std.specs.Prelude.{vec_capacity}
+use Rattle.std.proofs.Common.{◌≡◌, ℕ, ◌+◌, ◌-◌, cond, List, length, Option, Some, None, sym, ap, ◌∙◌, subst, arith}
+use Rattle.std.specs.Prelude.{option_map, slice_index_or, vec_capacity, IsSome}
 use Rattle.std.specs.FinMap as finite
 use Rattle.addr_space.specs.Space.{Part, part, piece_at, put}
-use Rattle.flat_model.specs.Mapping.{without_pages}
+use Rattle.anon_map.specs.Maps.{places_of}
+use Rattle.anon_slots.specs.Slots.{Slots, count_at}
+use Rattle.flat_model.specs.Mapping.{with_mapping, without_pages}
 use Rattle.flat_model.specs.Space.{in_range}
 use Rattle.flat_model.specs.Words.{page, pages_in}
 use Rattle.vm_world.specs.FlatMemory.{Memory}
-use Rattle.vm_world.specs.MapSteps.{maps_made}
-use Rattle.vm_world.specs.PlainSteps.{ChangesSpace}
+use Rattle.vm_world.specs.MapSteps.{maps_held}
 use Rattle.vm_world.specs.Segments.{Spaces}
 use Rattle.vm_world.specs.World.{world_seen}
 use Rattle.vm_world.specs.World as worlds
+use Rattle.vm_world.specs.ZeroObjects.{AreSameZeros, free_number}
 use Rattle.vm_world.specs.declared.segment.Segment.{Segment}
 use Rattle.vm_world.specs.declared.world.World.{World}
-use Rattle.seg_vn.specs.Clears.{SpaceFits, slots_at, slots_of_range}
-use Rattle.mmap_calls.specs.Maps.{HasMapping, slots_for_pages}
-use Rattle.mmap_calls.specs.Rooms.{HasRoomAt}
-use Rattle.mmap_calls.proofs.Replaced.{numbers-after, fits-then, fits-step, cleared, most-files, room-then, range-free, new_segment, with_own, replaced}
-use Rattle.mmap_calls.proofs.maps.replace.Goals.{In_ok-begin, After-clear}
+use Rattle.vm_world.proofs.ComingParts.{zero-there}
+use Rattle.seg_vn.specs.Clears.{SpaceFits, ChangesSpace, GivesBack}
+use Rattle.mmap_calls.specs.Looks.{kind_and_object}
+use Rattle.mmap_calls.specs.Refusals.{map_request, slots_for_pages}
+use Rattle.mmap_calls.specs.Rooms.{AreMade, map_of_object}
+use Rattle.mmap_calls.specs.declared.maps.Anons.{Anons}
+use Rattle.mmap_calls.proofs.MapResults.{passed}
+use Rattle.mmap_calls.proofs.Replaced.{fits-step, fits-then, numbers-after, cuts-done, room-later, more-holders, more-places, named-object, may-clear, within-user, roomy, new_part, replaced}
+use Rattle.mmap_calls.proofs.maps.replace.Goals.{In_ok-begin, After-cut-2, After-clear}
 use Rattle.mmap_calls.proofs.maps.replace.Given.{Over}
 use Rattle.mmap_calls.proofs.maps.replace.Goals as goal
 
+pub most_allowed-max-requires : goal.most_allowed-max-requires
+most_allowed-max-requires g c =
+    (passed (record { world = world_seen c.args.world.now; spaces = c.requires.fits.0 }) c.args.process c.args.space.now.parts c.args.world.now.zeros c.requires.fits.1 c.args.map.now (c.requires.due c.requires.fits.0 c.requires.fits.1)).there
+
 -- memory fits where the room is taken
-fits-taken : (g : Over) (c : In_ok-begin g) → SpaceFits (world_seen c.take_rooms.new.world) c.requires.fits.0 c.args.process c.take_rooms.new.space.parts
+fits-taken : (g : Over) (c : In_ok-begin g) → SpaceFits (world_seen c.take_rooms.new.world) c.take_rooms.new.world.zeros c.requires.fits.0 c.args.process c.take_rooms.new.space.parts
 fits-taken g c =
     let m : Memory = record { world = world_seen c.args.world.now; spaces = c.requires.fits.0 } in
     let more = c.in_ok-begin.ensures.more in
-    fits-then m c.args.process c.args.space.now.parts c.take_rooms.new.space.parts (world_seen c.take_rooms.new.world) c.requires.fits.1
-    (numbers-after m c.args.process c.args.space.now.parts (world_seen c.take_rooms.new.world) more.0 c.requires.fits.1 (ap (λ w. world_seen w) more.1)) c.in_ok-begin.ensures.parts
+    fits-then m c.args.process c.args.space.now.parts c.take_rooms.new.space.parts c.args.world.now.zeros c.take_rooms.new.world.zeros (world_seen c.take_rooms.new.world) c.requires.fits.1
+    (numbers-after m c.args.process c.args.space.now.parts c.args.world.now.zeros c.take_rooms.new.world.zeros (world_seen c.take_rooms.new.world) more.0 c.requires.fits.1 (ap (λ w. world_seen w) more.1) c.in_ok-begin.ensures.zeros) c.in_ok-begin.ensures.parts
+
+pub cut-requires-clause-room : goal.cut-requires-clause-room
+cut-requires-clause-room g c =
+    let more = c.in_ok-begin.ensures.more in (
+      2,
+      room-later c.in_ok-begin.field-0.end.items (vec_capacity c.in_ok-begin.field-0.end) 3 more.0 c.args.world.now.maps c.take_rooms.new.world.maps c.args.space.now.parts c.take_rooms.new.space.parts (c.page_of-first.result + c.pages_in-pages.result)
+          (ap (λ (w : World g.row.D.Denot). w.maps) more.1) c.in_ok-begin.ensures.parts c.in_ok-begin.ensures.end,
+    )
 
 pub cut-requires-clause-fits : goal.cut-requires-clause-fits
 cut-requires-clause-fits g c = (c.requires.fits.0, fits-taken g (goal.at.cut-requires-clause-fits g c).In_ok-begin)
 
 pub cut-requires-2-clause-room : goal.cut-requires-2-clause-room
 cut-requires-2-clause-room g c =
-    c.cut.ensures.rooms c.in_ok-begin.field-0.begin.items (vec_capacity c.in_ok-begin.field-0.begin) c.page_of-first.result (omega arith)
-    (subst (λ (ps : List (Part Segment)). HasRoomAt c.in_ok-begin.field-0.begin.items (vec_capacity c.in_ok-begin.field-0.begin) ps c.page_of-first.result) (sym c.in_ok-begin.ensures.parts) c.in_ok-begin.ensures.begin)
+    let more = c.in_ok-begin.ensures.more in (
+      1,
+      c.cut.ensures.rooms c.in_ok-begin.field-0.begin.items (vec_capacity c.in_ok-begin.field-0.begin) 2 c.page_of-first.result (omega arith)
+          (room-later c.in_ok-begin.field-0.begin.items (vec_capacity c.in_ok-begin.field-0.begin) 3 more.0 c.args.world.now.maps c.take_rooms.new.world.maps c.args.space.now.parts c.take_rooms.new.space.parts c.page_of-first.result
+          (ap (λ (w : World g.row.D.Denot). w.maps) more.1) c.in_ok-begin.ensures.parts c.in_ok-begin.ensures.begin),
+    )
 
 pub cut-requires-2-clause-fits : goal.cut-requires-2-clause-fits
 cut-requires-2-clause-fits g c = (
   finite.insert c.requires.fits.0 c.args.process c.cut.new.space.parts,
-  fits-step c.args.process (world_seen c.take_rooms.new.world) (world_seen c.cut.new.world) c.requires.fits.0 c.take_rooms.new.space.parts c.cut.new.space.parts (λ F. F) (fits-taken g (goal.at.cut-requires-2-clause-fits g c).In_ok-begin) c.cut.ensures.changes,
+  fits-step c.args.process (world_seen c.take_rooms.new.world) (world_seen c.cut.new.world) c.requires.fits.0 c.take_rooms.new.space.parts c.cut.new.space.parts c.take_rooms.new.world.zeros c.cut.new.world.zeros (λ F. F) (fits-taken g (goal.at.cut-requires-2-clause-fits g c).In_ok-begin)
+      c.cut.ensures.changes,
 )
+
+-- what holds once the pieces are cut
+cuts : (g : Over) (c : After-cut-2 g) (spaces : Spaces) → SpaceFits (world_seen c.args.world.now) c.args.world.now.zeros spaces c.args.process c.args.space.now.parts
+    → ChangesSpace c.args.process (record { world = world_seen c.args.world.now; spaces = spaces }) (record { world = world_seen c.cut-2.new.world; spaces = finite.insert spaces c.args.process c.cut-2.new.space.parts }) c.cut-2.new.world.zeros (λ F. F)
+cuts g c spaces fits =
+    let more = c.in_ok-begin.ensures.more in
+    cuts-done (record { world = world_seen c.args.world.now; spaces = spaces }) c.args.process (world_seen c.take_rooms.new.world) (world_seen c.cut.new.world) (world_seen c.cut-2.new.world) c.args.space.now.parts c.take_rooms.new.space.parts c.cut.new.space.parts c.cut-2.new.space.parts
+    c.args.world.now.zeros c.take_rooms.new.world.zeros c.cut.new.world.zeros c.cut-2.new.world.zeros more.0 fits (ap (λ w. world_seen w) more.1) c.in_ok-begin.ensures.zeros c.in_ok-begin.ensures.parts c.cut.ensures.changes c.cut-2.ensures.changes
+
+same-list : (g : Over) (c : After-cut-2 g) → c.cut-2.new.world.zeros ≡ c.take_rooms.new.world.zeros
+same-list g c = ap (λ (w : World g.row.D.Denot). w.zeros) c.cut-2.ensures.world ∙ ap (λ (w : World g.row.D.Denot). w.zeros) c.cut.ensures.world
+
+alike : (g : Over) (c : After-cut-2 g) → AreSameZeros c.args.world.now.zeros c.cut-2.new.world.zeros
+alike g c = subst (AreSameZeros c.args.world.now.zeros) (sym (same-list g c)) c.in_ok-begin.ensures.zeros
+
+looks : (g : Over) (c : After-cut-2 g) (k : ℕ) → option_map kind_and_object (piece_at c.cut-2.new.space.parts k) ≡ option_map kind_and_object (piece_at c.args.space.now.parts k)
+looks g c k = c.cut-2.ensures.shows k ∙ c.cut.ensures.shows k ∙ ap (λ (ps : List (Part Segment)). option_map kind_and_object (piece_at ps k)) c.in_ok-begin.ensures.parts
+
+lengths : (g : Over) (c : After-cut-2 g) (z n : ℕ) → slice_index_or c.args.world.now.zeros z None ≡ Some n → length (places_of c.cut-2.new.world.maps n) ≡ length (places_of c.args.world.now.maps n)
+lengths g c z n is =
+    let more = c.in_ok-begin.ensures.more in
+    let taken = c.in_ok-begin.ensures.zeros z ∙ is in
+    c.cut-2.ensures.lengths z n (ap (λ (zs : List (Option ℕ)). slice_index_or zs z None) (ap (λ (w : World g.row.D.Denot). w.zeros) c.cut.ensures.world) ∙ taken) ∙ c.cut.ensures.lengths z n taken
+    ∙ more-places more.0 c.args.world.now.maps c.take_rooms.new.world.maps n (ap (λ (w : World g.row.D.Denot). w.maps) more.1)
+
+pub hold-requires : goal.hold-requires
+hold-requires g c = record {
+  there = λ n is. (
+      let d = (goal.at.hold-requires g c).After-cut-2 in
+      let m : Memory = record { world = world_seen c.args.world.now; spaces = c.requires.fits.0 } in
+      let more = c.in_ok-begin.ensures.more in
+      let named : map_of_object c.args.world.now.zeros c.args.map.now.object ≡ Some n = sym c.map_of_object-held.ensures ∙ is in
+      let o = named-object c.args.world.now.zeros c.args.map.now.object n named in
+      let whole = cuts g d c.requires.fits.0 c.requires.fits.1 in
+      let few = c.in_ok-begin.ensures.few n named in
+      let old = more-holders more.0 c.args.world.now.maps c.take_rooms.new.world.maps n (ap (λ (w : World g.row.D.Denot). w.maps) more.1) in
+      let one = c.cut.ensures.held n in
+      let two = c.cut-2.ensures.held n in
+      (zero-there (record { world = world_seen c.cut-2.new.world; spaces = finite.insert c.requires.fits.0 c.args.process c.cut-2.new.space.parts }) whole.changes.memory o.0 n (whole.known o.0 ∙ alike g d o.0 ∙ o.2), omega (arith, few, old, one, two)));
+}
 
 pub clear-requires-clause-fits : goal.clear-requires-clause-fits
 clear-requires-clause-fits g c =
-    let t : Spaces = finite.insert c.requires.fits.0 c.args.process c.cut.new.space.parts in
-    let once = fits-step c.args.process (world_seen c.take_rooms.new.world) (world_seen c.cut.new.world) c.requires.fits.0 c.take_rooms.new.space.parts c.cut.new.space.parts (λ F. F) (fits-taken g (goal.at.clear-requires-clause-fits g c).In_ok-begin) c.cut.ensures.changes in (
-      finite.insert t c.args.process c.cut-2.new.space.parts,
-      fits-step c.args.process (world_seen c.cut.new.world) (world_seen c.cut-2.new.world) t c.cut.new.space.parts c.cut-2.new.space.parts (λ F. F) once c.cut-2.ensures.changes,
-    )
+    let d = (goal.at.clear-requires-clause-fits g c).After-cut-2 in
+    subst (λ (v : World g.row.D.Denot). (s : Spaces) × SpaceFits (world_seen v) v.zeros s c.args.process c.cut-2.new.space.parts) (sym c.hold.ensures.held)
+    (may-clear (record { world = world_seen c.args.world.now; spaces = c.requires.fits.0 }) c.args.process c.cut-2.new.space.parts c.args.world.now.zeros c.cut-2.new.world.zeros (world_seen c.cut-2.new.world) c.args.map.now.object c.map_of_object-held.result
+    c.map_of_object-held.ensures (alike g d) (cuts g d c.requires.fits.0 c.requires.fits.1))
 
--- what is mapped in the range goes
-gone : (g : Over) (c : After-clear g) (spaces : Spaces) → SpaceFits (world_seen c.args.world.now) spaces c.args.process c.args.space.now.parts
-    → ChangesSpace c.args.process (record { world = world_seen c.args.world.now; spaces = spaces }) (record { world = world_seen c.clear.new.world; spaces = finite.insert spaces c.args.process c.clear.new.space.parts })
-    (λ F. without_pages F c.args.process (page c.args.map.now.addr) (pages_in c.args.map.now.length))
-gone g c spaces fits =
-    let p : ℕ = c.args.process in
-    let m : Memory = record { world = world_seen c.args.world.now; spaces = spaces } in
-    let more = c.in_ok-begin.ensures.more in
+-- the range is cleared
+module _ (g : Over) (c : After-clear g) where
+  abbrev p : ℕ
+  p = c.args.process
+
+  abbrev cut : List (Part Segment)
+  cut = c.cut-2.new.space.parts
+
+  abbrev left : List (Part Segment)
+  left = c.clear.new.space.parts
+
+  abbrev old : worlds.World
+  old = world_seen c.args.world.now
+
+  abbrev w : worlds.World
+  w = world_seen c.cut-2.new.world
+
+  abbrev x : worlds.World
+  x = world_seen c.clear.new.world
+
+  abbrev held : Option ℕ
+  held = c.map_of_object-held.result
+
+  first : c.page_of-first.result ≡ page c.args.map.now.addr
+  first = c.page_of-first.ensures
+
+  many : c.page_of-first.result + c.pages_in-pages.result - c.page_of-first.result ≡ pages_in c.args.map.now.length
+  many = let pages = c.pages_in-pages.ensures.pages in omega (arith, pages)
+
+  clears : (s : Spaces) → SpaceFits (record w { maps = maps_held w.maps held }) c.cut-2.new.world.zeros s p cut
+      → ChangesSpace p (record { world = record w { maps = maps_held w.maps held }; spaces = s }) (record { world = x; spaces = finite.insert s p left }) c.clear.new.world.zeros (λ F. without_pages F p (page c.args.map.now.addr) (pages_in c.args.map.now.length))
+  clears = subst (λ (k : ℕ). (s : Spaces) → SpaceFits (record w { maps = maps_held w.maps held }) c.cut-2.new.world.zeros s p cut
+      → ChangesSpace p (record { world = record w { maps = maps_held w.maps held }; spaces = s }) (record { world = x; spaces = finite.insert s p left }) c.clear.new.world.zeros (λ F. without_pages F p k (pages_in c.args.map.now.length))) first
+      (subst (λ (k : ℕ). (s : Spaces) → SpaceFits (record w { maps = maps_held w.maps held }) c.cut-2.new.world.zeros s p cut
+      → ChangesSpace p (record { world = record w { maps = maps_held w.maps held }; spaces = s }) (record { world = x; spaces = finite.insert s p left }) c.clear.new.world.zeros (λ F. without_pages F p c.page_of-first.result k)) many
+      (subst (λ (v : World g.row.D.Denot). (s : Spaces) → SpaceFits (world_seen v) v.zeros s p cut
+      → ChangesSpace p (record { world = world_seen v; spaces = s }) (record { world = x; spaces = finite.insert s p left }) c.clear.new.world.zeros (λ F. without_pages F p c.page_of-first.result (c.page_of-first.result + c.pages_in-pages.result - c.page_of-first.result))) c.hold.ensures.held
+      c.clear.ensures.changes))
+
+  gives : GivesBack (record w { maps = maps_held w.maps held }) x
+  gives = subst (λ (v : World g.row.D.Denot). GivesBack (world_seen v) x) c.hold.ensures.held c.clear.ensures.gives
+
+  gone : (k : ℕ) → piece_at left k ≡ cond (in_range (page c.args.map.now.addr) (pages_in c.args.map.now.length) k) None (piece_at cut k)
+  gone k = c.clear.ensures.pages k ∙ (λ i. cond (in_range (first i) (many i) k) None (piece_at cut k))
+
+pub make_anons-object-requires-clause-object : goal.make_anons-object-requires-clause-object
+make_anons-object-requires-clause-object g c =
+    c.clear.ensures.objects (subst (λ (zs : List (Option ℕ)). IsSome (free_number zs)) (sym (ap (λ (v : World g.row.D.Denot). v.zeros) c.hold.ensures.held ∙ same-list g (goal.at.make_anons-object-requires-clause-object g c).After-cut-2)) c.in_ok-begin.ensures.object)
+
+pub make_anons-object-requires-clause-numbers : goal.make_anons-object-requires-clause-numbers
+make_anons-object-requires-clause-numbers g c =
+    let taken = c.in_ok-begin.ensures.numbers in
+    let one = c.cut.ensures.numbers in
+    let two = c.cut-2.ensures.numbers in
+    let held = c.hold.ensures.free in
+    let gone = c.clear.ensures.gives.numbers in
+    omega (arith, taken, one, two, held, gone)
+
+pub new-segment-requires-clause-some : goal.new-segment-requires-clause-some
+new-segment-requires-clause-some g c =
+    let lies = within-user (record { world = world_seen c.args.world.now; spaces = c.requires.fits.0 }) c.args.process c.args.space.now.parts c.args.world.now.zeros c.args.map.now c.requires.fits.1 (c.requires.due c.requires.fits.0 c.requires.fits.1) in
+    let some = lies.some in
+    let pages = c.pages_in-pages.ensures.pages in
+    omega (arith, some, pages)
+
+pub insert-requires-clause-low : goal.insert-requires-clause-low
+insert-requires-clause-low g c =
+    let lies = within-user (record { world = world_seen c.args.world.now; spaces = c.requires.fits.0 }) c.args.process c.args.space.now.parts c.args.world.now.zeros c.args.map.now c.requires.fits.1 (c.requires.due c.requires.fits.0 c.requires.fits.1) in
+    let behind = lies.behind in
+    let first = c.page_of-first.ensures in
+    omega (arith, behind, first)
+
+pub insert-requires-clause-high : goal.insert-requires-clause-high
+insert-requires-clause-high g c =
+    let lies = within-user (record { world = world_seen c.args.world.now; spaces = c.requires.fits.0 }) c.args.process c.args.space.now.parts c.args.world.now.zeros c.args.map.now c.requires.fits.1 (c.requires.due c.requires.fits.0 c.requires.fits.1) in
+    let within = lies.within in
     let first = c.page_of-first.ensures in
     let pages = c.pages_in-pages.ensures.pages in
-    let n : c.page_of-first.result + c.pages_in-pages.result - c.page_of-first.result ≡ pages_in c.args.map.now.length = omega (arith, pages) in
-    subst (λ (k : ℕ). ChangesSpace p m (record { world = world_seen c.clear.new.world; spaces = finite.insert spaces p c.clear.new.space.parts }) (λ F. without_pages F p k (pages_in c.args.map.now.length))) first
-    (subst (λ (k : ℕ). ChangesSpace p m (record { world = world_seen c.clear.new.world; spaces = finite.insert spaces p c.clear.new.space.parts }) (λ F. without_pages F p c.page_of-first.result k)) n
-    (cleared m p (world_seen c.take_rooms.new.world) (world_seen c.cut.new.world) (world_seen c.cut-2.new.world) (world_seen c.clear.new.world) c.args.space.now.parts c.take_rooms.new.space.parts c.cut.new.space.parts c.cut-2.new.space.parts c.clear.new.space.parts
-    more.0 (λ F. without_pages F p c.page_of-first.result (c.page_of-first.result + c.pages_in-pages.result - c.page_of-first.result)) fits (ap (λ w. world_seen w) more.1) c.in_ok-begin.ensures.parts c.cut.ensures.changes c.cut-2.ensures.changes c.clear.ensures.changes))
+    omega (arith, within, first, pages)
 
--- there are slots for the new mapping
-roomy : (g : Over) (c : After-clear g) → c.clear.new.world.anon.reserved + slots_for_pages c.args.map.now.kind (pages_in c.args.map.now.length) ≤ length c.clear.new.world.anon.counts
-roomy g c =
-    let first = c.page_of-first.ensures in
-    let pages = c.pages_in-pages.ensures.pages in
-    let n : c.page_of-first.result + c.pages_in-pages.result - c.page_of-first.result ≡ pages_in c.args.map.now.length = omega (arith, pages) in
-    room-then (world_seen c.args.world.now) (world_seen c.clear.new.world) c.args.space.now.parts c.cut-2.new.space.parts c.args.map.now c.requires.due
-    (λ k. c.cut-2.ensures.slots k ∙ c.cut.ensures.slots k ∙ ap (λ (ps : List (Part Segment)). slots_at (piece_at ps k)) c.in_ok-begin.ensures.parts)
-    (sym (λ i. c.clear.new.world.anon.reserved + slots_of_range c.cut-2.new.space.parts (first i) (n i)) ∙ c.clear.ensures.reserved
-    ∙ ap (λ (w : World g.row.D.Denot). w.anon.reserved) (c.cut-2.ensures.world ∙ (λ i. record (c.cut.ensures.world i) { maps = c.cut-2.new.world.maps }) ∙ (λ i. record (c.in_ok-begin.ensures.more.1 i) { maps = c.cut-2.new.world.maps })))
-    (gone g c c.requires.fits.0 c.requires.fits.1).changes.machine.slots
-
-pub make_own-own-requires-clause-room : goal.make_own-own-requires-clause-room
-make_own-own-requires-clause-room g c =
-    let room = roomy g (goal.at.make_own-own-requires-clause-room g c).After-clear in
-    let pages = ap (slots_for_pages c.args.map.now.kind) c.pages_in-pages.ensures.pages in
+pub make_anons-object-requires-clause-room : goal.make_anons-object-requires-clause-room
+make_anons-object-requires-clause-room g c =
+    let d = (goal.at.make_anons-object-requires-clause-room g c).After-cut-2 in
+    let e = (goal.at.make_anons-object-requires-clause-room g c).After-clear in
+    let spaces = c.requires.fits.0 in
+    let fits = c.requires.fits.1 in
+    let room = roomy (record { world = world_seen c.args.world.now; spaces = spaces }) c.args.process c.args.space.now.parts c.cut-2.new.space.parts c.clear.new.space.parts c.args.world.now.zeros c.cut-2.new.world.zeros c.clear.new.world.zeros (world_seen c.cut-2.new.world) (world_seen c.clear.new.world)
+    c.args.map.now c.map_of_object-held.result fits c.requires.request (c.requires.due spaces fits) c.map_of_object-held.ensures (alike g d) (cuts g d spaces fits) (looks g d) (lengths g d) (clears g e) (gives g e) (gone g e) in
+    let pages = ap (slots_for_pages c.args.map.now.kind c.args.map.now.object) c.pages_in-pages.ensures.pages in
     omega (arith, room, pages)
+
+pub returns-clause-fall : goal.returns-clause-fall
+returns-clause-fall g c = λ slot.
+    let d = (goal.at.returns-clause-fall g c).After-cut-2 in
+    let e = (goal.at.returns-clause-fall g c).After-clear in
+    let fall = (gives g e).fall slot in
+    let old : c.cut-2.new.world.anon ≡ c.args.world.now.anon = ap (λ (v : World g.row.D.Denot). v.anon) c.cut-2.ensures.world ∙ ap (λ (v : World g.row.D.Denot). v.anon) c.cut.ensures.world ∙ ap (λ (v : World g.row.D.Denot). v.anon) c.in_ok-begin.ensures.more.1 in
+    let before = ap (λ (a : Slots). count_at a slot) old in
+    let then = ap (λ (v : World g.row.D.Denot). count_at v.anon slot) c.make_anons-object.ensures.rest in
+    omega (arith, fall, before, then)
 
 pub returns-clause-done : goal.returns-clause-done
 returns-clause-done g c = λ spaces fits.
+    let d = (goal.at.returns-clause-done g c).After-cut-2 in
+    let e = (goal.at.returns-clause-done g c).After-clear in
     let p : ℕ = c.args.process in
     let q = c.args.map.now in
+    let a : Anons = c.make_anons-object.result in
     let m : Memory = record { world = world_seen c.args.world.now; spaces = spaces } in
     let left : List (Part Segment) = c.clear.new.space.parts in
     let w : worlds.World = world_seen c.clear.new.world in
-    let first = c.page_of-first.ensures in
+    let now : List (Option ℕ) = c.make_anons-object.new.world.zeros in
+    let start = c.page_of-first.ensures in
     let pages = c.pages_in-pages.ensures.pages in
-    let n : c.page_of-first.result + c.pages_in-pages.result - c.page_of-first.result ≡ pages_in q.length = omega (arith, pages) in
-    let files : c.clear.new.world.files ≡ c.args.world.now.files =
-    ap (λ (w : World g.row.D.Denot). w.files) c.clear.ensures.rest ∙ ap (λ (w : World g.row.D.Denot). w.files) c.cut-2.ensures.world ∙ ap (λ (w : World g.row.D.Denot). w.files) c.cut.ensures.world ∙ ap (λ (w : World g.row.D.Denot). w.files) c.in_ok-begin.ensures.more.1 in
-    let most = c.most_allowed-max.ensures ∙ most-files w m.world q.kind q.object files in
     let index = c.page_of.ensures in
-    let free = range-free c.cut-2.new.space.parts left (page q.addr) (pages_in q.length) (λ k. c.clear.ensures.pages k ∙ (λ i. cond (in_range (first i) (n i) k) None (piece_at c.cut-2.new.space.parts k))) in
-    let come = replaced m p c.args.space.now.parts left w q c.make_own-own.result fits c.requires.request c.requires.due files c.make_own-own.ensures.own (roomy g (goal.at.returns-clause-done g c).After-clear) free
-    (gone g (goal.at.returns-clause-done g c).After-clear spaces fits) in
-    let new : world_seen c.make_own-own.new.world ≡ with_own w q c.make_own-own.result =
-    ap (λ w. world_seen w) c.make_own-own.ensures.new ∙ (λ i. record w { anon = record w.anon { reserved = w.anon.reserved + slots_for_pages q.kind (pages i) }; maps = maps_made w.maps c.make_own-own.result (pages i) }) in
-    let parts : c.insert.new.self.parts ≡ put (part (page q.addr) (pages_in q.length) (new_segment m.world q c.make_own-own.result)) left =
+    let files : c.clear.new.world.files ≡ c.args.world.now.files =
+    ap (λ (v : World g.row.D.Denot). v.files) c.clear.ensures.rest ∙ ap (λ (v : World g.row.D.Denot). v.files) c.hold.ensures.held ∙ ap (λ (v : World g.row.D.Denot). v.files) c.cut-2.ensures.world ∙ ap (λ (v : World g.row.D.Denot). v.files) c.cut.ensures.world ∙ ap (λ (v : World g.row.D.Denot). v.files) c.in_ok-begin.ensures.more.1 in
+    let made : AreMade w.maps c.make_anons-object.new.world.maps c.clear.new.world.zeros now c.map_of_object-held.result (pages_in q.length) q.kind q.object a =
+    subst (λ (k : ℕ). AreMade w.maps c.make_anons-object.new.world.maps c.clear.new.world.zeros now c.map_of_object-held.result k q.kind q.object a) pages c.make_anons-object.ensures.made in
+    let come = replaced m p c.args.space.now.parts c.cut-2.new.space.parts left c.args.world.now.zeros c.cut-2.new.world.zeros c.clear.new.world.zeros (world_seen c.cut-2.new.world) w q c.map_of_object-held.result fits c.requires.request (c.requires.due spaces fits) c.map_of_object-held.ensures
+    (alike g d) (cuts g d spaces fits) (looks g d) (lengths g d) (clears g e) (gives g e) (gone g e) a c.make_anons-object.new.world.maps now files made in
+    let new : world_seen c.make_anons-object.new.world ≡ record w { anon = record w.anon { reserved = w.anon.reserved + slots_for_pages q.kind q.object (pages_in q.length) }; maps = c.make_anons-object.new.world.maps } =
+    ap (λ v. world_seen v) c.make_anons-object.ensures.rest ∙ (λ i. record w { anon = record w.anon { reserved = w.anon.reserved + slots_for_pages q.kind q.object (pages i) }; maps = c.make_anons-object.new.world.maps }) in
+    let parts : c.insert.new.self.parts ≡ put (new_part (world_seen c.args.world.now) q a) left =
     c.insert.ensures.parts ∙ ap (λ (s : Segment). put (part c.page_of-first.result c.pages_in-pages.result s) left) c.new-segment.ensures
-    ∙ (λ i. put (part (first i) (pages i) (record { pages = pages i; prot = q.prot; max = most i; kind = q.kind; object = q.object; index = index i; own = c.make_own-own.result; shown = None })) left) in
-    subst (λ (x : worlds.World). HasMapping p m (record { world = x; spaces = finite.insert spaces p c.insert.new.self.parts }) q) (sym new)
-    (subst (λ (ps : List (Part Segment)). HasMapping p m (record { world = with_own w q c.make_own-own.result; spaces = finite.insert spaces p ps }) q) (sym parts) come)
+    ∙ (λ i. put (part (start i) (pages i) (record { pages = pages i; prot = q.prot; max = c.most_allowed-max.ensures i; kind = q.kind; object = a.object; index = index i; own = a.own; shown = a.shown })) left) in
+    subst (λ (v : worlds.World). ChangesSpace p m (record { world = v; spaces = finite.insert spaces p c.insert.new.self.parts }) now (λ F. with_mapping F p (map_request q) (page q.addr))) (sym new)
+    (subst (λ (ps : List (Part Segment)). ChangesSpace p m (record { world = record w { anon = record w.anon { reserved = w.anon.reserved + slots_for_pages q.kind q.object (pages_in q.length) }; maps = c.make_anons-object.new.world.maps }; spaces = finite.insert spaces p ps }) now (λ F. with_mapping F p (map_request q) (page q.addr)))
+    (sym parts) come)

@@ -1,5 +1,5 @@
 use Rattle.std.proofs.Common.{◌≡◌, ◌-◌, ◌+◌, ap, sym, ◌∙◌, arith}
-use Rattle.mmap_calls.specs.Maps.{mapped_pages}
+use Rattle.mmap_calls.specs.Refusals.{mapped_pages}
 use Rattle.mmap_calls.proofs.Counted.{mapped-few, mapped-next}
 use Rattle.mmap_calls.proofs.refusals.mapped_pages.Goals as goal
 

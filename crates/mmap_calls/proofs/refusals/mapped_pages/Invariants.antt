@@ -1,5 +1,5 @@
 use Rattle.std.proofs.Common.{◌≡◌, ◌-◌}
-use Rattle.mmap_calls.specs.Maps.{mapped_pages}
+use Rattle.mmap_calls.specs.Refusals.{mapped_pages}
 use Rattle.mmap_calls.proofs.refusals.mapped_pages.Given as goal
 
 abbrev pub invariant-loop-page : goal.invariant-loop-page

@@ -1,31 +1,14 @@
-use Rattle.std.proofs.Common.{arith}
-use Rattle.std.specs.FinSet as set
-use Rattle.addr_space.proofs.Totals.{total-within}
-use Rattle.page_store.specs.Notes.{no_notes}
+use Rattle.std.proofs.Common.{Option, sym, subst}
+use Rattle.std.proofs.lemmas.Result.{IfOk-weaker}
+use Rattle.vm_types.specs.declared.call.Errno.{Errno}
 use Rattle.vm_world.specs.FlatMemory.{Memory}
 use Rattle.vm_world.specs.World.{world_seen}
-use Rattle.mmap_calls.proofs.MapResults.{given-up, mapped-within}
+use Rattle.mmap_calls.specs.Refusals.{IsMapRefusal}
+use Rattle.mmap_calls.proofs.MapResults.{refusal-is}
 use Rattle.mmap_calls.proofs.refusals.refusal.Goals as goal
 
-pub overflow_sub-stay : goal.overflow_sub-stay
-overflow_sub-stay g c =
-    let m : Memory = record { world = world_seen c.args.world.now; spaces = c.requires.0 } in
-    let left = mapped-within m set.empty no_notes c.requires.1 c.args.space.now.parts c.requires.2 c.page_of-first.result c.pages_in-pages.result in
-    let total = c.pages.ensures.total in
-    let mapped = c.mapped_pages.ensures in
-    omega (arith, left, total, mapped)
-
-pub overflow_add-stay : goal.overflow_add-stay
-overflow_add-stay g c =
-    let few = total-within 1 c.args.space.now.parts c.pages.ensures.ordered in
-    let total = c.pages.ensures.total in
-    let more = c.pages_in-pages.ensures.few in
-    omega (arith, few, total, more)
-
-pub overflow_sub-kept : goal.overflow_sub-kept
-overflow_sub-kept g c =
-    let m : Memory = record { world = world_seen c.args.world.now; spaces = c.requires.0 } in
-    let gone = given-up m set.empty no_notes c.requires.1 c.args.space.now.parts c.requires.2 c.page_of-first.result c.pages_in-pages.result in
-    let all = c.reserved.ensures.value in
-    let slots = c.slots_of_range.ensures in
-    omega (arith, gone, all, slots)
+pub returns : goal.returns
+returns g c =
+    IfOk-weaker c.told_refusal.result _ _ (λ refused is spaces p fits.
+    let m : Memory = record { world = world_seen c.args.world.now; spaces = spaces } in
+    subst (λ (r : Option Errno). IsMapRefusal m p c.args.map.now r) (sym is) (refusal-is m p c.args.space.now.parts c.args.world.now.zeros fits c.args.map.now)) c.told_refusal.ensures

@@ -1,20 +1,22 @@
 use Rattle.std.proofs.Common.{◌≡◌, ℕ, true, List, Option, Some, sym, ap, subst, slice_set}
 use Rattle.page_hash.specs.Names.{find, is_name}
+use Rattle.page_hash.specs.declared.PageName.{PageName}
 use Rattle.page_lock.specs.Rows.{row_at}
 use Rattle.page_lock.specs.declared.Row.{Row}
 use Rattle.page_store.specs.Steps.{next_frame, next_name, fresh_row, home_bytes}
 use Rattle.page_store.specs.Moves.{FillsFrame}
 use Rattle.page_store.specs.Value.{value}
 use Rattle.anon_map.specs.Maps.{Map, places_of, with_places}
-use Rattle.anon_slots.specs.Slots.{Slots, IsSoundAnonSlots, count_at}
+use Rattle.anon_slots.specs.Slots.{Slots, IsSoundAnonSlots}
+use Rattle.vm_world.specs.StateSteps.{PendsTails}
 use Rattle.vm_world.specs.World.{World, world_seen, slot_name}
 use Rattle.vm_world.proofs.Counting.{room}
-use Rattle.seg_ops.specs.Slots.{MakesSlot, MakesPage}
+use Rattle.seg_ops.specs.Slots.{MakesSlot, MakesHome, MakesPage}
 use Rattle.seg_ops.proofs.FillSteps.{of-next, some-of, takes-page}
 use Rattle.seg_ops.proofs.SlotCounts.{made-slot, least-there}
 use Rattle.seg_ops.proofs.SlotFlat.{changes-owned}
 use Rattle.seg_ops.proofs.SlotMemory.{AreShown, free-absent, copy-shown, next-exists, home-value_bytes}
-use Rattle.seg_ops.proofs.SlotSteps.{made-page}
+use Rattle.seg_ops.proofs.SlotSteps.{made-page, made-home}
 use Rattle.seg_ops.proofs.anon.make_copy.Given.{Over}
 use Rattle.seg_ops.proofs.anon.make_copy.Goals.{After-set, After-pend_tail}
 use Rattle.seg_ops.proofs.anon.make_copy.Goals as goal
@@ -40,9 +42,15 @@ pend_tail-requires-clause-exists g c =
     let w = world_seen c.args.world.now in
     next-exists w c.requires.fits.0 c.make-slot.new.self c.set.new.self c.args.map c.args.place c.make-slot.result c.next_name-lost.result c.requires.fits.1 (slot g (goal.at.pend_tail-requires-clause-exists g c).After-set) c.next_name-lost.ensures
 
-pub returns-clause-once : goal.returns-clause-once
-returns-clause-once g c =
-    subst (λ (a : Slots). count_at a c.make-slot.result ≡ 1) (sym (ap (λ v. v.anon) c.pend_tail.ensures.rest)) (slot g (goal.at.returns-clause-once g c).After-set).alone
+pub returns-clause-made : goal.returns-clause-made
+returns-clause-made g c =
+    let w = world_seen c.args.world.now in
+    let s = c.make-slot.result in
+    let k = slot g (goal.at.returns-clause-made g c).After-set in
+    let pends = subst (λ (o : Option PageName). PendsTails w (is_name o) c.args.world.now.pending c.pend_tail.new.world.pending) c.next_name-lost.ensures
+    (record { bits = c.pend_tail.ensures.pends.bits; below = c.pend_tail.ensures.pends.below }) in
+    subst (λ (v : World). MakesHome w v c.args.world.now.pending c.pend_tail.new.world.pending s) (sym (ap world_seen c.pend_tail.ensures.rest))
+    (made-home w (record w { store = c.copy.new.self; anon = c.make-slot.new.self; maps = c.set.new.self }) c.args.world.now.pending c.pend_tail.new.world.pending s true (λ notes table. value w.store notes table c.args.from) c.copy.ensures.laws c.make-slot.ensures.free k.alone pends)
 
 pub returns-clause-makes : goal.returns-clause-makes
 returns-clause-makes g c = λ spaces p q x fits owns unloaded.

@@ -6,12 +6,14 @@ use Rattle.anon_map.specs.Maps.{places_of, with_places}
 use Rattle.flat_model.specs.Step.{tails_cleared}
 use Rattle.vm_world.specs.CallSteps.{ChangesMemory}
 use Rattle.vm_world.specs.World.{World, world_seen, slot_name}
+use Rattle.vm_world.specs.declared.world.World as rust
 use Rattle.vm_world.specs.WorldSteps.{tails_lost}
-use Rattle.seg_ops.specs.Slots.{with_own_page}
+use Rattle.seg_ops.specs.Slots.{MakesHome, with_own_page}
 use Rattle.seg_ops.proofs.SlotCopies.{changes-again, own-home}
 use Rattle.anon_slots.specs.Slots.{Slots, count_at}
 use Rattle.seg_ops.proofs.SlotCounts.{left-free}
 use Rattle.seg_ops.proofs.SlotPlaces.{place-twice}
+use Rattle.seg_ops.proofs.SlotSteps.{home-again}
 use Rattle.seg_ops.proofs.StillSteps.{memory_of}
 use Rattle.seg_ops.proofs.copies.copy_slot.Goals as goal
 
@@ -44,7 +46,12 @@ returns-clause-changes g c = λ spaces p q x fits owns unloaded.
     (subst (λ (v : World). ChangesMemory p (memory_of mid spaces) (memory_of new spaces) (λ F G. G ≡ tails_cleared (with_own_page F p q (home_bytes v.store (find v.store.names from))) (tails_lost v (is_name (next_name v.store)))))
     (ap world_seen c.leave_slot.ensures.rest) copied)
 
-pub returns-clause-free : goal.returns-clause-free
-returns-clause-free g c =
-    left-free c.args.world.now.anon c.args.slot c.make_copy.result c.requires.shared
-    (sym (ap (λ (a : Slots). count_at a c.make_copy.result) c.leave_slot.ensures.anon) ∙ c.make_copy.ensures.free)
+pub returns-clause-made : goal.returns-clause-made
+returns-clause-made g c =
+    let w = world_seen c.args.world.now in
+    let v = c.leave_slot.new.world in
+    let new = c.make_copy.new.world in
+    let s = c.make_copy.result in
+    home-again w (world_seen new) v.anon v.maps c.args.world.now.pending new.pending s
+    (left-free w.anon c.args.slot s c.requires.shared (sym (ap (λ (a : Slots). count_at a s) c.leave_slot.ensures.anon) ∙ c.make_copy.ensures.made.free))
+    (subst (λ (u : rust.World g.row.D.Denot). MakesHome (world_seen u) (world_seen new) u.pending new.pending s) c.leave_slot.ensures.rest c.make_copy.ensures.made)

@@ -1,22 +1,20 @@
 use Rattle.std.proofs.Common.{◌≡◌, None, Some, sym, ap, ◌∙◌, subst, slice_set}
-use Rattle.std.specs.Prelude.{IfSome}
 use Rattle.hat_layer.specs.Pool.{translation_at}
 use Rattle.core_arena.specs.Bytes.{zeros}
 use Rattle.page_hash.specs.Names.{is_name}
-use Rattle.page_store.specs.Seen.{StoreSeen}
 use Rattle.page_store.specs.Steps.{next_name}
 use Rattle.anon_map.specs.Maps.{places_of, with_places}
 use Rattle.flat_model.specs.Step.{tails_cleared}
 use Rattle.vm_world.specs.CallSteps.{ChangesMemory}
-use Rattle.vm_world.specs.Serving.{LosesFrame}
 use Rattle.vm_world.specs.World.{World, world_seen}
+use Rattle.vm_world.specs.declared.world.World as rust
 use Rattle.vm_world.specs.WorldSteps.{tails_lost}
-use Rattle.seg_ops.specs.Slots.{with_own_page}
-use Rattle.seg_ops.proofs.Pending.{lost-before}
+use Rattle.seg_ops.specs.Slots.{MakesHome, with_own_page}
 use Rattle.seg_ops.proofs.SlotCopies.{changes-again, own-blank}
 use Rattle.anon_slots.specs.Slots.{Slots, count_at}
 use Rattle.seg_ops.proofs.SlotCounts.{left-free}
 use Rattle.seg_ops.proofs.SlotPlaces.{place-twice}
+use Rattle.seg_ops.proofs.SlotSteps.{home-again}
 use Rattle.seg_ops.proofs.StillSteps.{memory_of}
 use Rattle.seg_ops.proofs.copies.zero_slot.Goals as goal
 
@@ -34,14 +32,6 @@ returns-clause-maps g c =
     ∙ ap (λ ps. with_places ps m (slice_set (places_of ps m) i (Some c.make_zero.result))) c.leave_slot.ensures.maps
     ∙ place-twice maps m i None (Some c.make_zero.result) c.requires.within
 
-pub returns-clause-took : goal.returns-clause-took
-returns-clause-took g c =
-    let w = world_seen c.args.world.now in
-    let mid = world_seen c.leave_slot.new.world in
-    let new = world_seen c.make_zero.new.world in
-    let names = ap (λ v. v.store.names) c.leave_slot.ensures.rest in
-    lost-before (next_name w.store) w mid new names (subst (λ (s : StoreSeen). IfSome (next_name s) (λ name. LosesFrame mid new name)) (ap (λ v. v.store) c.leave_slot.ensures.rest) c.make_zero.ensures.took)
-
 pub returns-clause-changes : goal.returns-clause-changes
 returns-clause-changes g c = λ spaces p q x fits owns unloaded.
     let w = world_seen c.args.world.now in
@@ -54,7 +44,12 @@ returns-clause-changes g c = λ spaces p q x fits owns unloaded.
     (c.leave_slot.ensures.changes spaces p q x fits owns unloaded)
     (subst (λ (v : World). ChangesMemory p (memory_of mid spaces) (memory_of new spaces) (λ F G. G ≡ tails_cleared (with_own_page F p q zeros) (tails_lost v (is_name (next_name v.store))))) (ap world_seen c.leave_slot.ensures.rest) made)
 
-pub returns-clause-free : goal.returns-clause-free
-returns-clause-free g c =
-    left-free c.args.world.now.anon c.args.slot c.make_zero.result c.requires.shared
-    (sym (ap (λ (a : Slots). count_at a c.make_zero.result) c.leave_slot.ensures.anon) ∙ c.make_zero.ensures.free)
+pub returns-clause-made : goal.returns-clause-made
+returns-clause-made g c =
+    let w = world_seen c.args.world.now in
+    let v = c.leave_slot.new.world in
+    let new = c.make_zero.new.world in
+    let s = c.make_zero.result in
+    home-again w (world_seen new) v.anon v.maps c.args.world.now.pending new.pending s
+    (left-free w.anon c.args.slot s c.requires.shared (sym (ap (λ (a : Slots). count_at a s) c.leave_slot.ensures.anon) ∙ c.make_zero.ensures.made.free))
+    (subst (λ (u : rust.World g.row.D.Denot). MakesHome (world_seen u) (world_seen new) u.pending new.pending s) c.leave_slot.ensures.rest c.make_zero.ensures.made)

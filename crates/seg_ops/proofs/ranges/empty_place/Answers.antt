@@ -1,6 +1,8 @@
-use Rattle.std.proofs.Common.{None, sym, ◌∙◌}
+use Rattle.std.proofs.Common.{◌≡◌, None, sym, ◌∙◌}
+use Rattle.anon_slots.specs.Slots.{count_at}
 use Rattle.vm_world.specs.World.{world_seen}
 use Rattle.vm_world.proofs.Counts.{held-used, used-below}
+use Rattle.seg_ops.proofs.SlotObjects.{one-emptied, none-emptied}
 use Rattle.seg_ops.proofs.SlotPlaces.{place-same}
 use Rattle.seg_ops.proofs.SlotRanges.{changes-empty}
 use Rattle.seg_ops.proofs.ranges.empty_place.Goals as goal
@@ -13,3 +15,16 @@ returns-in_default-clause-changes g c = λ spaces p q x fits owns unloaded. chan
 
 pub count-requires : goal.count-requires
 count-requires g c = used-below c.args.world.now.anon.counts c.in-Some.slot (held-used c.args.world.now.anon c.args.world.now.maps c.args.map c.args.place c.in-Some.slot c.requires.fits.1.counts (sym c.get.ensures ∙ c.in-Some.is))
+
+pub returns-in_default-clause-zeros : goal.returns-in_default-clause-zeros
+returns-in_default-clause-zeros g c = λ spaces z fits shows. none-emptied (world_seen c.args.world.now) spaces c.args.map c.args.place fits (sym c.get.ensures ∙ c.in_default.is)
+
+pub returns-then-count-eq1-clause-zeros : goal.returns-then-count-eq1-clause-zeros
+returns-then-count-eq1-clause-zeros g c = λ spaces z fits shows.
+    one-emptied (world_seen c.args.world.now) (world_seen c.drop_slot.new.world) spaces c.args.map c.args.place c.in-Some.slot (c.drop_slot.ensures.zeros spaces z fits shows)
+
+-- a slot that a zero object's map holds is held there alone
+pub returns-else-count-eq1-clause-zeros : goal.returns-else-count-eq1-clause-zeros
+returns-else-count-eq1-clause-zeros g c = λ spaces z fits shows.
+    let one : count_at c.args.world.now.anon c.in-Some.slot ≡ 1 = fits.segments.once z c.args.map c.args.place c.in-Some.slot shows.zero (sym c.get.ensures ∙ c.in-Some.is) in
+    absurd (c.if-count-eq1.false (c.count.ensures ∙ one))

@@ -1,4 +1,4 @@
-use Rattle.std.proofs.Common.{◌≡◌, ℕ, List, [], Some, true, subst}
+use Rattle.std.proofs.Common.{ℕ, List, Some, true, subst}
 use Rattle.block_device.specs.MemDiskLook.{look}
 use Rattle.block_device.specs.MemSeen.{disk_of}
 use Rattle.block_device.specs.declared.mem_disk.MemDisk.{MemDisk}
@@ -7,8 +7,8 @@ use Rattle.page_store.specs.New.{IsNew}
 use Rattle.seg_ops.proofs.SlotTrialLemmas.{holding-trial}
 use Rattle.seg_ops.proofs.slot_tests.new_world.Goals as goal
 
-pub returns : goal.returns
-returns c =
+pub returns-clause-fits : goal.returns-clause-fits
+returns-clause-fits c =
     let d = disk_of (look c.in_ok-swap.swap) in
     holding-trial 2 true _ (record {
       disk = d;

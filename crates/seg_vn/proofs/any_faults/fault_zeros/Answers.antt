@@ -2,7 +2,7 @@ use Rattle.std.proofs.Common.{◌≡◌, ℕ, List, Option, None, Some, sym, ap,
 use Rattle.std.specs.Prelude.{IsSome}
 use Rattle.anon_map.specs.Maps.{Map, places_of, with_places}
 use Rattle.page_hash.specs.Names.{is_name}
-use Rattle.page_store.specs.Seen.{residence}
+use Rattle.page_store.specs.Seen.{IsListedFrame, residence}
 use Rattle.page_store.specs.Steps.{next_frame, next_name}
 use Rattle.page_store.specs.declared.residence.Residence.TheVariants.{Home}
 use Rattle.flat_model.specs.Step.{tails_cleared}
@@ -54,8 +54,9 @@ make_zero-slot-requires-clause-fits g c =
 
 pub load_page-requires-clause-home : goal.load_page-requires-clause-home
 load_page-requires-clause-home g c =
-    some-frame (next_frame c.free_next.new.world.store) (λ (frame : ℕ). residence c.make_zero-slot.new.world.store (slot_name c.make_zero-slot.result) ≡ Home frame)
-    (subst (λ (o : Option ℕ). IsSome o) (sym c.free_next.ensures.same) c.in_default.ensures.room) c.make_zero-slot.ensures.home
+    let home = some-frame (next_frame c.free_next.new.world.store) (λ (frame : ℕ). (residence c.make_zero-slot.new.world.store (slot_name c.make_zero-slot.result) ≡ Home frame) × (¬ IsListedFrame c.make_zero-slot.new.world.store frame))
+    (subst (λ (o : Option ℕ). IsSome o) (sym c.free_next.ensures.same) c.in_default.ensures.room) c.make_zero-slot.ensures.made.home in
+    (home.0, home.1.0)
 
 pub load_page-requires-clause-fits : goal.load_page-requires-clause-fits
 load_page-requires-clause-fits g c =
@@ -79,13 +80,13 @@ returns-clause-serves g c = λ spaces x write fits place.
     let makes = c.make_zero-slot.ensures.changes spaces p frees.memory place.zeros.zero in
     let maps = ap (λ v. v.maps) c.free_next.ensures.rest ∙ ap (λ v. v.maps) c.make_room.ensures.rest in
     let set = c.make_zero-slot.ensures.maps ∙ ap (λ (ms : List (Option Map)). with_places ms c.args.map (slice_set (places_of ms c.args.map) c.args.place (Some s))) maps in
-    let may = zeros-may old made spaces p q x c.args.map c.args.place s write c.args.writable fits place set c.make_zero-slot.ensures.once in
+    let may = zeros-may old made spaces p q x c.args.map c.args.place s write c.args.writable fits place set c.make_zero-slot.ensures.made.once in
     let gives : GivesSlot freed.anon made.anon freed.maps made.maps c.args.map c.args.place s =
     gives-new freed.anon made.anon freed.maps made.maps c.args.map c.args.place s (ap (λ (ms : List (Option Map)). slot_in ms c.args.map c.args.place) maps ∙ c.requires.empty)
-    c.make_zero-slot.ensures.free c.make_zero-slot.ensures.once c.make_zero-slot.ensures.anon c.make_zero-slot.ensures.maps in
+    c.make_zero-slot.ensures.made.free c.make_zero-slot.ensures.made.once c.make_zero-slot.ensures.anon c.make_zero-slot.ensures.maps in
     let pends = subst (λ (k : ℕ). PendsTails room cut k c.load_page.new.world.pending) (ap (λ v. v.pending) c.make_room.ensures.rest)
     (subst (λ (k : ℕ). PendsTails room cut c.make_room.new.world.pending k) (sym (ap (λ v. v.pending) c.load_page.ensures.rest))
-    (pends-then room freed cut c.make_room.new.world.pending c.free_next.new.world.pending c.make_zero-slot.new.world.pending c.free_next.ensures.pends c.make_zero-slot.ensures.pends c.free_next.ensures.free (ap (λ v. v.files) c.free_next.ensures.rest))) in
+    (pends-then room freed cut c.make_room.new.world.pending c.free_next.new.world.pending c.make_zero-slot.new.world.pending c.free_next.ensures.pends c.make_zero-slot.ensures.made.pends c.free_next.ensures.free (ap (λ v. v.files) c.free_next.ensures.rest))) in
     serves-made old room freed made new spaces p q x write c.args.writable before c.load_page.new.world.pending c.load_page.ensures.loaded.0 (λ F. tails_cleared F (tails_lost freed (is_name (next_name freed.store))))
     fits keeps c.make_room.ensures.names (ap (λ v. v.files) c.make_room.ensures.rest) frees pends c.free_next.ensures.took makes
     (λ born notes nf tell whole. lost-none (flat_memory (memory_of freed spaces) born notes) freed c.free_next.ensures.free ∙ zeros-kept freed spaces p q x write c.args.writable born notes frees.memory place.here place.lets place.in_place)

@@ -1,4 +1,4 @@
-use Rattle.std.proofs.Common.{◌≡◌, ◌-◌, ℕ, Bool, cond, List, None, refl, sym, ap, ◌∙◌, arith}
+use Rattle.std.proofs.Common.{◌-◌, ℕ, Bool, cond, List, None, refl, sym, ap, ◌∙◌, arith}
 use Rattle.std.specs.FinMap as finite
 use Rattle.addr_space.specs.Space.{Part, piece_at}
 use Rattle.addr_space.proofs.PartLists.{pages-end}
@@ -6,8 +6,8 @@ use Rattle.flat_model.proofs.Ranges.{get-insert_here}
 use Rattle.vm_world.specs.World.{world_seen}
 use Rattle.vm_world.specs.declared.segment.Segment.{Segment}
 use Rattle.vm_world.specs.declared.world.World.{World}
-use Rattle.seg_vn.specs.Clears.{slots_of_range}
-use Rattle.seg_vn.proofs.ClearedSpaces.{none-goes, goes, plain-part, part-leaves, none-out, none-left, range-left, part-left, part-reserves, slots-more, next-pages, next-ranges, slots-end}
+use Rattle.seg_vn.proofs.ClearedSpaces.{none-goes, goes, part-leaves, none-out, none-left, range-left, part-left, next-pages, next-ranges}
+use Rattle.seg_vn.proofs.GivenBack.{gives-none, gives-then}
 use Rattle.seg_vn.proofs.LeftSegments.{pages-are}
 use Rattle.seg_vn.proofs.clears.clear.Goals as goal
 
@@ -16,9 +16,9 @@ loop-first-init g c = record {
   low = c.requires.range;
   high = omega arith;
   pages = λ q. sym (ap (λ (b : Bool). cond b None (piece_at c.args.space.now.parts q)) (none-out c.args.end q));
-  changes = λ spaces fits. none-left (world_seen c.args.world.now) spaces c.args.process c.args.space.now.parts fits c.args.end;
-  reserved = let none = ap (slots_of_range c.args.space.now.parts c.args.end) (let z : c.args.end - c.args.end ≡ 0 = omega arith in z) in omega (arith, none);
-  numbers = omega arith;
+  changes = λ spaces fits. none-left (world_seen c.args.world.now) c.args.world.now.zeros spaces c.args.process c.args.space.now.parts fits c.args.end;
+  gives = gives-none (world_seen c.args.world.now);
+  objects = λ some. some;
   spare = omega arith;
   rest = refl;
 }
@@ -33,10 +33,7 @@ leave-requires g c =
     let k : ℕ = c.in-Some.first in
     let done = c.loop-first.invariant.changes s c.requires.fits.1 in
     let gone = goes now k c.remove.result c.in-Some-remove.segment c.remove.ensures.taken c.in-Some-remove.is in
-    record {
-      plain = plain-part s c.args.process now k done.plain c.in-Some-remove.segment gone;
-      part = (finite.insert s c.args.process now, part-leaves (world_seen c.loop-first.world) s c.args.process now k c.in-Some-remove.segment gone done.changes.memory);
-    }
+    record { part = (finite.insert s c.args.process now, part-leaves (world_seen c.loop-first.world) s c.args.process now k c.in-Some-remove.segment gone done.changes.memory, done.known) }
 
 pub loop-first-preserved : goal.loop-first-preserved
 loop-first-preserved g c =
@@ -66,17 +63,13 @@ loop-first-preserved g c =
       pages = λ q. ap (λ (ps : List (Part Segment)). piece_at ps q) c.remove.ensures.parts ∙ next-pages old now top end k x order high below inv.pages c.requires.high found.1 gone.is q;
       changes = λ spaces fits.
           let before = inv.changes spaces fits in
-          part-left (world_seen c.args.world.now) spaces p old fits mid new now _ top (end - top) k segment.pages k (end - k)
+          part-left (world_seen c.args.world.now) c.args.world.now.zeros spaces p old fits mid new c.loop-first.world.zeros c.leave.new.world.zeros now _ top (end - top) k segment.pages k (end - k)
           (next-ranges old now top end k x order high below inv.pages c.requires.high found.1 gone.is segment.pages (pages-are mid (finite.insert s p now) p k segment leaves)) c.remove.ensures.parts
-          before (c.leave.ensures.changes (finite.insert spaces p now) (part-leaves mid spaces p now k segment gone before.changes.memory));
-      reserved =
-          let a = part-reserves mid new s p now k x memory (c.leave.ensures.changes (finite.insert s p now) leaves).memory done.plain gone.is in
-          let b = slots-more old now top end k x order high below inv.pages c.requires.high found.1 gone.is in
-          let d = inv.reserved in
-          omega (arith, a, b, d);
-      numbers = let a = inv.numbers in let b = c.leave.ensures.numbers in omega (arith, a, b);
+          before (c.leave.ensures.changes (finite.insert spaces p now) (part-leaves mid spaces p now k segment gone before.changes.memory) before.known);
+      gives = gives-then (world_seen c.args.world.now) mid new inv.gives c.leave.ensures.gives;
+      objects = λ some. c.leave.ensures.objects (inv.objects some);
       spare = let a = inv.spare in let b = c.remove.ensures.spare in omega (arith, a, b);
-      rest = c.leave.ensures.rest ∙ ap (λ (w : World g.row.D.Denot). record w { store = c.leave.new.world.store; anon = c.leave.new.world.anon; maps = c.leave.new.world.maps; hat = c.leave.new.world.hat }) inv.rest;
+      rest = c.leave.ensures.rest ∙ ap (λ (w : World g.row.D.Denot). record w { store = c.leave.new.world.store; anon = c.leave.new.world.anon; maps = c.leave.new.world.maps; hat = c.leave.new.world.hat; zeros = c.leave.new.world.zeros }) inv.rest;
     }
 
 pub loop-first-smaller : goal.loop-first-smaller
@@ -97,9 +90,9 @@ returns g c =
     let ended = pages-end old now from top end order inv.low inv.high inv.pages c.requires.low c.in_default.ensures in
     record {
       pages = ended;
-      changes = λ spaces fits. range-left (world_seen c.args.world.now) spaces p old fits _ top (end - top) from (end - from) (λ q. sym (inv.pages q) ∙ ended q) (inv.changes spaces fits);
-      reserved = let a = slots-end old now from top end inv.low inv.high inv.pages ended in let b = inv.reserved in omega (arith, a, b);
-      numbers = inv.numbers;
+      changes = λ spaces fits. range-left (world_seen c.args.world.now) c.args.world.now.zeros spaces p old fits _ c.loop-first.world.zeros top (end - top) from (end - from) (λ q. sym (inv.pages q) ∙ ended q) (inv.changes spaces fits);
+      gives = inv.gives;
+      objects = inv.objects;
       spare = inv.spare;
       rest = inv.rest;
     }

@@ -1,13 +1,13 @@
-use Rattle.std.proofs.Common.{◌≡◌, ◌≤◌, ◌+◌, ◌-◌, ℕ, None, cond}
+use Rattle.std.proofs.Common.{◌≡◌, ◌≤◌, ◌-◌, ℕ, None, cond}
+use Rattle.std.specs.Prelude.{IsSome}
 use Rattle.std.specs.FinMap as finite
 use Rattle.addr_space.specs.Space.{piece_at}
-use Rattle.anon_map.specs.Maps.{free_numbers}
 use Rattle.flat_model.specs.Mapping.{without_pages}
 use Rattle.flat_model.specs.Space.{in_range}
-use Rattle.vm_world.specs.PlainSteps.{ChangesSpace}
 use Rattle.vm_world.specs.Segments.{Spaces}
 use Rattle.vm_world.specs.World.{world_seen}
-use Rattle.seg_vn.specs.Clears.{SpaceFits, slots_of_range}
+use Rattle.vm_world.specs.ZeroObjects.{free_number}
+use Rattle.seg_vn.specs.Clears.{ChangesSpace, GivesBack, SpaceFits}
 use Rattle.seg_vn.proofs.clears.clear.Given as goal
 
 abbrev pub decreases-loop-first : goal.decreases-loop-first
@@ -18,10 +18,10 @@ invariant-loop-first g l = record {
   low : l.fn.from ≤ l.top;
   high : l.top ≤ l.fn.end;
   pages : (q : ℕ) → piece_at l.space.parts q ≡ cond (in_range l.top (l.fn.end - l.top) q) None (piece_at l.fn.space.parts q);
-  changes : (spaces : Spaces) → SpaceFits (world_seen l.fn.world) spaces l.fn.process l.fn.space.parts → ChangesSpace l.fn.process (record { world = world_seen l.fn.world; spaces = spaces })
-      (record { world = world_seen l.world; spaces = finite.insert spaces l.fn.process l.space.parts }) (λ F. without_pages F l.fn.process l.top (l.fn.end - l.top));
-  reserved : l.world.anon.reserved + slots_of_range l.fn.space.parts l.top (l.fn.end - l.top) ≡ l.fn.world.anon.reserved;
-  numbers : free_numbers l.fn.world.maps ≤ free_numbers l.world.maps;
+  changes : (spaces : Spaces) → SpaceFits (world_seen l.fn.world) l.fn.world.zeros spaces l.fn.process l.fn.space.parts → ChangesSpace l.fn.process (record { world = world_seen l.fn.world; spaces = spaces })
+      (record { world = world_seen l.world; spaces = finite.insert spaces l.fn.process l.space.parts }) l.world.zeros (λ F. without_pages F l.fn.process l.top (l.fn.end - l.top));
+  gives : GivesBack (world_seen l.fn.world) (world_seen l.world);
+  objects : IsSome (free_number l.fn.world.zeros) → IsSome (free_number l.world.zeros);
   spare : l.fn.space.spare ≤ l.space.spare;
-  rest : l.world ≡ record l.fn.world { store = l.world.store; anon = l.world.anon; maps = l.world.maps; hat = l.world.hat };
+  rest : l.world ≡ record l.fn.world { store = l.world.store; anon = l.world.anon; maps = l.world.maps; hat = l.world.hat; zeros = l.world.zeros };
 }

@@ -1,7 +1,7 @@
 use Rattle.std.proofs.Common.{◌≡◌, ℕ, List, Option, Some, true, refl, sym, ap, ◌∙◌, subst, slice_set}
 use Rattle.anon_map.specs.Maps.{Map, places_of, with_places}
 use Rattle.page_hash.specs.Names.{find}
-use Rattle.page_store.specs.Seen.{residence}
+use Rattle.page_store.specs.Seen.{IsListedFrame, residence}
 use Rattle.page_store.specs.Steps.{next_frame, home_bytes}
 use Rattle.page_store.specs.declared.residence.Residence.TheVariants.{Home}
 use Rattle.vm_world.specs.Segments.{shown_name}
@@ -71,14 +71,15 @@ copy_into-own-requires-clause-owned g c =
 
 pub load_page-requires-clause-home : goal.load_page-requires-clause-home
 load_page-requires-clause-home g c =
-    some-frame (next_frame c.clear_way.new.world.store) (λ (frame : ℕ). residence c.copy_into-own.new.world.store (slot_name c.copy_into-own.result) ≡ Home frame) c.clear_way.ensures.available c.copy_into-own.ensures.home
+    let home = some-frame (next_frame c.clear_way.new.world.store) (λ (frame : ℕ). (residence c.copy_into-own.new.world.store (slot_name c.copy_into-own.result) ≡ Home frame) × (¬ IsListedFrame c.copy_into-own.new.world.store frame)) c.clear_way.ensures.available c.copy_into-own.ensures.own.made.home in
+    (home.0, home.1.0)
 
 pub load_page-requires-clause-fits : goal.load_page-requires-clause-fits
 load_page-requires-clause-fits g c =
     let o = c.requires.fits in
     let w = world_seen c.args.world.now in
     let room = c.make_room_beside.ensures.keeps o.0 (c.take_back.ensures.keeps o.0 o.2).memory in
-    (o.0, c.copy_into-own.ensures.memory o.0 c.args.space c.args.page o.1 (c.clear_way.ensures.takes o.0 room.memory).step.memory (own-alone w o.0 c.args.space c.args.page c.args.map c.args.place o.1 o.2 o.3) c.clear_way.ensures.gone)
+    (o.0, c.copy_into-own.ensures.own.memory o.0 c.args.space c.args.page o.1 (c.clear_way.ensures.takes o.0 room.memory).step.memory (own-alone w o.0 c.args.space c.args.page c.args.map c.args.place o.1 o.2 o.3) c.clear_way.ensures.gone)
 
 pub returns-clause-serves : goal.returns-clause-serves
 returns-clause-serves g c = λ spaces x fits place.
@@ -107,11 +108,11 @@ returns-clause-serves g c = λ spaces x fits place.
     let first = subst (λ (k : ℕ). TakesFrames (memory_of room spaces) freed k c.clear_way.new.world.pending) before takes in
     let taken = takes-later old room freed spaces c.args.world.now.pending c.clear_way.new.world.pending fits keeps names files' first in
     let all = subst (λ (k : ℕ). TakesFrames (memory_of old spaces) freed c.args.world.now.pending k) (sym (ap (λ v. v.pending) c.load_page.ensures.rest))
-    (takes-more old freed spaces c.args.world.now.pending c.clear_way.new.world.pending c.copy_into-own.new.world.pending taken c.copy_into-own.ensures.pends c.clear_way.ensures.free files) in
+    (takes-more old freed spaces c.args.world.now.pending c.clear_way.new.world.pending c.copy_into-own.new.world.pending taken c.copy_into-own.ensures.own.made.pends c.clear_way.ensures.free files) in
     let home = c.clear_way.ensures.homes name c.args.frame (c.make_room_beside.ensures.stay name ∙ c.take_back.ensures.stay name ∙ c.requires.source) (λ l. c.take_back.ensures.unlisted c.args.frame c.requires.source (c.make_room_beside.ensures.unlisted l)) in
     let shows = cell-shows old freed spaces p q m i x c.args.slot (Some name) place takes.step.memory maps files name (home_bytes freed.store (find freed.store.names name)) refl (home-value freed spaces name c.args.frame takes.step.memory home) in
-    let makes = c.copy_into-own.ensures.changes spaces p q x takes.step.memory (own-alone old spaces p q m i x fits (copy-spot old spaces p q m i x c.args.slot (Some name) place)) c.clear_way.ensures.gone c.clear_way.ensures.free shows in
-    let gives = c.copy_into-own.ensures.gives in
+    let makes = c.copy_into-own.ensures.own.changes spaces p q x takes.step.memory (own-alone old spaces p q m i x fits (copy-spot old spaces p q m i x c.args.slot (Some name) place)) c.clear_way.ensures.gone c.clear_way.ensures.free shows in
+    let gives = c.copy_into-own.ensures.own.gives in
     let set = gives.set ∙ ap (λ (ms : List (Option Map)). with_places ms m (slice_set (places_of ms m) i (Some s))) maps in
     let may = copy-may old made spaces p q m i s x c.args.slot (Some name) place c.requires.within set gives.alone in
     serves-after old freed made new spaces p q x c.args.world.now.pending c.load_page.new.world.pending c.load_page.ensures.loaded.0 all makes (c.load_page.ensures.keeps spaces makes.memory may) c.load_page.ensures.loaded.1

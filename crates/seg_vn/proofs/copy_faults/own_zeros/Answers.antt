@@ -1,6 +1,6 @@
 use Rattle.std.proofs.Common.{◌≡◌, ℕ, List, Option, Some, true, sym, ap, ◌∙◌, subst, slice_set}
 use Rattle.anon_map.specs.Maps.{Map, places_of, with_places}
-use Rattle.page_store.specs.Seen.{residence}
+use Rattle.page_store.specs.Seen.{IsListedFrame, residence}
 use Rattle.page_store.specs.Steps.{next_frame}
 use Rattle.page_store.specs.declared.residence.Residence.TheVariants.{Home}
 use Rattle.vm_world.specs.Segments.{shown_name}
@@ -53,13 +53,14 @@ zeros_into-own-requires-clause-owned g c =
 
 pub load_page-requires-clause-home : goal.load_page-requires-clause-home
 load_page-requires-clause-home g c =
-    some-frame (next_frame c.clear_way.new.world.store) (λ (frame : ℕ). residence c.zeros_into-own.new.world.store (slot_name c.zeros_into-own.result) ≡ Home frame) c.clear_way.ensures.available c.zeros_into-own.ensures.home
+    let home = some-frame (next_frame c.clear_way.new.world.store) (λ (frame : ℕ). (residence c.zeros_into-own.new.world.store (slot_name c.zeros_into-own.result) ≡ Home frame) × (¬ IsListedFrame c.zeros_into-own.new.world.store frame)) c.clear_way.ensures.available c.zeros_into-own.ensures.own.made.home in
+    (home.0, home.1.0)
 
 pub load_page-requires-clause-fits : goal.load_page-requires-clause-fits
 load_page-requires-clause-fits g c =
     let o = c.requires.fits in
     let w = world_seen c.args.world.now in
-    (o.0, c.zeros_into-own.ensures.memory o.0 c.args.space c.args.page o.1 (c.clear_way.ensures.takes o.0 (c.make_room.ensures.keeps o.0 o.2).memory).step.memory (own-alone w o.0 c.args.space c.args.page c.args.map c.args.place o.1 o.2 o.3) c.clear_way.ensures.gone)
+    (o.0, c.zeros_into-own.ensures.own.memory o.0 c.args.space c.args.page o.1 (c.clear_way.ensures.takes o.0 (c.make_room.ensures.keeps o.0 o.2).memory).step.memory (own-alone w o.0 c.args.space c.args.page c.args.map c.args.place o.1 o.2 o.3) c.clear_way.ensures.gone)
 
 pub returns-clause-serves : goal.returns-clause-serves
 returns-clause-serves g c = λ spaces x shown fits place zs.
@@ -81,11 +82,11 @@ returns-clause-serves g c = λ spaces x shown fits place zs.
     let first = subst (λ (k : ℕ). TakesFrames (memory_of room spaces) freed k c.clear_way.new.world.pending) (ap (λ v. v.pending) c.make_room.ensures.rest) takes in
     let taken = takes-later old room freed spaces c.args.world.now.pending c.clear_way.new.world.pending fits keeps c.make_room.ensures.names (ap (λ v. v.files) c.make_room.ensures.rest) first in
     let all = subst (λ (k : ℕ). TakesFrames (memory_of old spaces) freed c.args.world.now.pending k) (sym (ap (λ v. v.pending) c.load_page.ensures.rest))
-    (takes-more old freed spaces c.args.world.now.pending c.clear_way.new.world.pending c.zeros_into-own.new.world.pending taken c.zeros_into-own.ensures.pends c.clear_way.ensures.free files) in
+    (takes-more old freed spaces c.args.world.now.pending c.clear_way.new.world.pending c.zeros_into-own.new.world.pending taken c.zeros_into-own.ensures.own.made.pends c.clear_way.ensures.free files) in
     let still = zeros-stay old freed shown (λ name none. c.clear_way.ensures.absent name (c.make_room.ensures.stay name ∙ none)) files anon zs in
     let shows = zeros-show old freed spaces p q m i x c.args.slot shown place takes.step.memory maps files still in
-    let makes = c.zeros_into-own.ensures.changes spaces p q x takes.step.memory (own-alone old spaces p q m i x fits (copy-spot old spaces p q m i x c.args.slot shown place)) c.clear_way.ensures.gone c.clear_way.ensures.free shows in
-    let gives = c.zeros_into-own.ensures.gives in
+    let makes = c.zeros_into-own.ensures.own.changes spaces p q x takes.step.memory (own-alone old spaces p q m i x fits (copy-spot old spaces p q m i x c.args.slot shown place)) c.clear_way.ensures.gone c.clear_way.ensures.free shows in
+    let gives = c.zeros_into-own.ensures.own.gives in
     let set = gives.set ∙ ap (λ (ms : List (Option Map)). with_places ms m (slice_set (places_of ms m) i (Some s))) maps in
     let may = copy-may old made spaces p q m i s x c.args.slot shown place c.requires.within set gives.alone in
     serves-after old freed made new spaces p q x c.args.world.now.pending c.load_page.new.world.pending c.load_page.ensures.loaded.0 all makes (c.load_page.ensures.keeps spaces makes.memory may) c.load_page.ensures.loaded.1

@@ -1,4 +1,4 @@
-use Rattle.std.proofs.Common.{◌≡◌, ℕ, false, Some, sym, subst}
+use Rattle.std.proofs.Common.{◌≡◌, ℕ, false, Some, sym, ap, subst}
 use Rattle.page_store.specs.Flight.{IsPerformed}
 use Rattle.page_store.specs.Notes.{Note, Notes}
 use Rattle.page_store.specs.Out.{IsFlightOf}
@@ -13,7 +13,7 @@ use Rattle.vm_core.proofs.state.VmState.land.Goals as goal
 
 pub invariant_of-self : goal.invariant_of-self
 invariant_of-self g c =
-    kept-ended _ _ c.args.flight _ _ _ c.self.invariant (subst (λ (s : KernelState). IsFlightOf s.memory.world.store c.args.flight) (sym c.self.view_is) c.requires.out) c.end_flight.ensures.store c.end_flight.ensures.ends
+    kept-ended _ _ c.args.flight c.self.inside.world.zeros c.end_flight.new.world.zeros _ _ _ c.self.invariant (ap (λ w. w.zeros) c.end_flight.ensures.rest) (subst (λ (s : KernelState). IsFlightOf s.memory.world.store c.args.flight) (sym c.self.view_is) c.requires.out) c.end_flight.ensures.store c.end_flight.ensures.ends
 
 pub returns-clause-step : goal.returns-clause-step
 returns-clause-step g c =

@@ -1,9 +1,10 @@
 use Rattle.std.proofs.Common.{◌≡◌, ℕ, ◌≤◌, None, length, sym, ap, subst, ◌∙◌}
 use Rattle.vm_world.specs.Events.{IsEvent}
+use Rattle.vm_world.specs.FlatMemory.{Memory}
 use Rattle.vm_world.specs.State.{KernelState}
 use Rattle.vm_world.proofs.Told.{event_law}
-use Rattle.vm_core.specs.Calls.{after_answer}
-use Rattle.vm_core.proofs.Served.{Concludes, concludes, served-is}
+use Rattle.vm_core.specs.Calls.{IsShownAfterCall, SlotsAfterCall, after_answer}
+use Rattle.vm_core.proofs.Served.{Concludes, concluded-memory, concludes, served-is}
 use Rattle.vm_core.proofs.state.VmState.try_call.Given.{Over}
 use Rattle.vm_core.proofs.state.VmState.try_call.Goals.{After-conclude}
 use Rattle.vm_core.proofs.state.VmState.try_call.Goals as goal
@@ -21,6 +22,17 @@ is g c =
 
 pub returns-clause-answers : goal.returns-clause-answers
 returns-clause-answers g c = (is g c).answers
+
+-- memory is as it was served
+memory-is : (g : Over) (c : After-conclude g) → c.conclude.new.self.memory ≡ c.serve.new.self.memory
+memory-is g c = ap (λ (s : KernelState). s.memory) c.conclude.ensures.new ∙ concluded-memory c.serve.new.self c.args.seat c.args.process c.args.call.now c.in_ok-attempt.attempt
+
+pub returns-clause-shown : goal.returns-clause-shown
+returns-clause-shown g c = subst (λ (m : Memory). IsShownAfterCall m c.args.process c.args.call.now c.in_ok-attempt.attempt) (sym (memory-is g c)) c.in_ok-attempt.ensures.shown
+
+pub returns-clause-slots : goal.returns-clause-slots
+returns-clause-slots g c =
+    subst (λ (m : Memory). SlotsAfterCall c.args.self.now.memory m.world c.args.process c.args.call.now c.in_ok-attempt.attempt) (sym (memory-is g c)) c.in_ok-attempt.ensures.slots
 
 pub returns-clause-event : goal.returns-clause-event
 returns-clause-event g c = (is g c).event

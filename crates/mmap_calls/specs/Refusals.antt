@@ -1,0 +1,101 @@
+-- What a Map at an address asks for, the refusal that is due to it, as it is told from pieces and counts, and what its reply leaves. Inside: no public clause
+-- cites this.
+use Rattle.std.specs.Prelude.{if◌then◌else◌, Bool, Err, List, None, Ok, Option, Result, Some, is_some, length, nat_le, nat_lt, not, slice_index_or, suc, true, zero, ℕ, ◌+◌, ◌-◌, ◌≡◌}
+use Rattle.std.specs.Ordering.{nat_cmp}
+use Rattle.addr_space.specs.Space.{Part, page_total, part_at}
+use Rattle.vnode_files.specs.Files.{vnode_at}
+use Rattle.page_store.specs.Notes.{Notes}
+use Rattle.vm_types.specs.declared.call.Call.{Call}
+use Rattle.vm_types.specs.declared.call.Call.TheVariants.{Map}
+use Rattle.vm_types.specs.declared.call.Errno.{Errno}
+use Rattle.vm_types.specs.declared.call.Kind.{Kind}
+use Rattle.vm_types.specs.declared.call.Kind.TheVariants.{Private, Shared}
+use Rattle.vm_types.specs.declared.call.Object.{Object}
+use Rattle.vm_types.specs.declared.call.Place.TheVariants.{At}
+use Rattle.vm_types.specs.declared.call.Reply.{Reply}
+use Rattle.vm_types.specs.declared.prot.Prot.{Prot}
+use Rattle.vm_types.specs.WellFormed.{IsNumber}
+use Rattle.flat_model.specs.Flat.{Flat}
+use Rattle.flat_model.specs.Mapping.{Request, is_valid, map_result, prot_read, prot_read_write, with_mapping}
+use Rattle.flat_model.specs.Step.{effect}
+use Rattle.flat_model.specs.Words.{page, pages_in}
+use Rattle.vm_world.specs.FlatMemory.{Memory, flat_memory}
+use Rattle.vm_world.specs.SegmentSteps.{ChangesSegments}
+use Rattle.vm_world.specs.World.{World}
+use Rattle.vm_world.specs.declared.segment.Segment.{Segment}
+use Rattle.seg_vn.specs.Serves.{IsPlainReply}
+use Rattle.mmap_calls.specs.declared.refusals.MapRequest.{MapRequest}
+use Rattle.vm_types.specs.Prot.{is_within}
+use Rattle.seg_vn.specs.Clears.{slots_of_range}
+use Rattle.mmap_calls.specs.GivenUp.{given_up}
+use Rattle.std.specs.FinSet as set
+use Rattle.vm_types.specs.declared.call.Errno.TheVariants as errno
+use Rattle.vm_types.specs.declared.call.Object.TheVariants as object
+
+-- What such a Map asks for, and its call.
+abbrev pub map_request : MapRequest → Request
+map_request m = record { place = At m.addr; len = m.length; prot = m.prot; kind = m.kind; object = m.object; offset = m.offset }
+
+abbrev pub map_call : MapRequest → Call
+map_call m = Map (At m.addr) m.length m.prot m.kind m.object m.offset
+
+-- Its numbers are below 2^32.
+pub record IsMapRequest (m : MapRequest) : Type 0 where
+  pub addr : IsNumber m.addr
+  pub length : IsNumber m.length
+  pub offset : IsNumber m.offset
+
+-- How many of so many pages from the first are mapped.
+abbrev pub mapped_pages : List (Part Segment) → ℕ → ℕ → ℕ
+mapped_pages parts first zero = 0
+mapped_pages parts first (suc n) = mapped_pages parts first n + (if is_some (part_at parts (first + n)) then 1 else 0)
+
+-- The object is there: such a file, or a zero object that is listed; new zero memory always is.
+abbrev pub is_object_there : World → List (Option ℕ) → Object → Bool
+is_object_there w zeros (object.File f) = nat_lt f (length w.files.files)
+is_object_there w zeros (object.Zero z) = is_some (slice_index_or zeros z None)
+is_object_there w zeros object.NewZero = true
+
+-- The most that may be done with a mapping: a shared one of a file that can't be written may only be read.
+abbrev pub most_allowed : World → Kind → Object → Prot
+most_allowed w Shared (object.File f) = if (vnode_at w.files f).info.writable then prot_read_write else prot_read
+most_allowed w kind o = prot_read_write
+
+-- How many slots a mapping of so many pages reserves: one for each page that is private, or of a new zero object.
+abbrev pub slots_for_pages : Kind → Object → ℕ → ℕ
+slots_for_pages Private o n = n
+slots_for_pages Shared object.NewZero n = n
+slots_for_pages Shared o n = 0
+
+-- What a Map comes to in flat memory: this refusal, or its first page and the new mapping.
+abbrev pub map_outcome : Flat → ℕ → MapRequest → Option Errno → Result (ℕ × Flat) Errno
+map_outcome F p m None = Ok (page m.addr, with_mapping F p (map_request m) (page m.addr))
+map_outcome F p m (Some e) = Err e
+
+-- THE REFUSAL that is due to a Map, if one is, whatever is outside.
+abbrev pub IsMapRefusal : Memory → ℕ → MapRequest → Option Errno → Type 0
+IsMapRefusal memory p m refused = (born : set.FinSet nat_cmp) (notes : Notes) → map_result (flat_memory memory born notes) p (map_request m) ≡ map_outcome (flat_memory memory born notes) p m refused
+
+-- A call is done with this plain reply: what it does is due in flat memory.
+pub record AnswersMap (p : ℕ) (old new : Memory) (call : Call) (r : Reply) : Type 0 where
+  pub changes : ChangesSegments p old new (λ F. (effect F p call).after)
+  pub plain : IsPlainReply r
+  pub due : (born : set.FinSet nat_cmp) (notes : Notes) → (effect (flat_memory old born notes) p call).reply ≡ r
+
+-- How many pages are mapped with the new mapping, in the place of what its range has.
+abbrev pub pages_after : List (Part Segment) → MapRequest → ℕ
+pages_after parts m = page_total parts - mapped_pages parts (page m.addr) (pages_in m.length) + pages_in m.length
+
+-- How many slots are reserved with it: those of its range, and of the zero objects that its range alone shows, are given up.
+abbrev pub reserved_after : World → List (Option ℕ) → List (Part Segment) → MapRequest → ℕ
+reserved_after w zeros parts m =
+    w.anon.reserved - slots_of_range parts (page m.addr) (pages_in m.length) - given_up w.maps zeros parts (page m.addr) (page m.addr + pages_in m.length) m.object (length zeros) + slots_for_pages m.kind m.object (pages_in m.length)
+
+abbrev pub refusal_of : World → List (Option ℕ) → List (Part Segment) → MapRequest → Option Errno
+refusal_of w zeros parts m =
+    if not (is_valid (map_request m)) then Some errno.Invalid
+    else if not (is_object_there w zeros m.object) then Some errno.NoObject
+    else if not (is_within m.prot (most_allowed w m.kind m.object)) then Some errno.Access
+    else if not (nat_le (pages_after parts m) 65536) then Some errno.TooLarge
+    else if not (nat_le (reserved_after w zeros parts m) (length w.anon.counts)) then Some errno.NoSwap
+    else None

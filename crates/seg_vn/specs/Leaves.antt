@@ -1,0 +1,32 @@
+-- Segments that are emptied before they go. Inside: no public clause cites this.
+use Rattle.std.specs.Prelude.{◌≡◌, ◌≢◌, ℕ, List, Option, Some, None, slice_set}
+use Rattle.std.specs.FinSet as set
+use Rattle.std.specs.Ordering.{nat_cmp}
+use Rattle.vm_types.specs.declared.call.Object.TheVariants as object
+use Rattle.anon_map.specs.Maps.{Map, holders_of}
+use Rattle.page_store.specs.Notes.{Notes}
+use Rattle.flat_model.specs.Flat.{Flat}
+use Rattle.flat_model.specs.Mapping.{without_pages}
+use Rattle.vm_world.specs.FlatMemory.{Memory, flat_memory}
+use Rattle.vm_world.specs.SegmentSteps.{ChangesSegments}
+use Rattle.vm_world.specs.Segments.{Spaces}
+use Rattle.vm_world.specs.SpaceSteps.{AreUnloaded}
+use Rattle.vm_world.specs.World.{World}
+use Rattle.vm_world.specs.declared.segment.Segment.{Segment}
+use Rattle.seg_vn.specs.Cuts.{IsPartAt}
+
+-- The segment is the part of a process that begins with a page, and none of its pages has a translation.
+pub record IsUnloadedPart (w : World) (spaces : Spaces) (p first : ℕ) (s : Segment) : Type 0 where
+  pub part : IsPartAt w spaces p first s
+  pub unloaded : AreUnloaded w.hat.places p first s.pages
+
+-- Flat memory changes in what goes with the cells of these pages alone.
+pub record LosesWithPages (p first n : ℕ) (old new : Memory) : Type 0 where
+  pub f : Flat → Flat
+  pub changes : ChangesSegments p old new f
+  pub goes : (born : set.FinSet nat_cmp) (notes : Notes) → without_pages (f (flat_memory old born notes)) p first n ≡ without_pages (flat_memory old born notes) p first n
+
+-- The zero object that the segment shows is out of the list where its map has one holder, and else the list stays.
+pub record LosesObject (maps : List (Option Map)) (s : Segment) (old new : List (Option ℕ)) : Type 0 where
+  pub last : (z map : ℕ) → s.object ≡ object.Zero z → s.shown ≡ Some map → holders_of maps map ≡ 1 → new ≡ slice_set old z None
+  pub held : ((z map : ℕ) → s.object ≡ object.Zero z → s.shown ≡ Some map → holders_of maps map ≢ 1) → new ≡ old
