@@ -44,7 +44,7 @@ FindsHolder ss page (Some i) = IsHolder page ss i × (i < length ss)
 
 -- the span that begins with the page: the first that isn't below it, if that one begins there
 abbrev pub FindsFirst : List Span → ℕ → Option ℕ → Type 0
-FindsFirst ss page None = (s : Span) → count_below page ss < length ss → s ≡ slice_index_or ss (count_below page ss) s → s.first ≢ page
+FindsFirst ss page None = (d : Span) → count_below page ss < length ss → (slice_index_or ss (count_below page ss) d).first ≢ page
 FindsFirst ss page (Some i) = (i ≡ count_below page ss) × (i < length ss) × ((s : Span) → s ≡ slice_index_or ss i s → s.first ≡ page)
 
 -- the spans lie one behind the other

@@ -47,9 +47,9 @@ impl<T> Model for Ranges<T> {
 }
 
 // How many spans at the front begin below the bound.
-fn count_from(spans: &[Span], bound: u64) -> usize
-    requires { SpansRise 1 spans.now }
-    ensures { result ≡ count_below bound spans.now }
+fn count_from(spans: &Vec<Span>, bound: u64) -> usize
+    requires { SpansRise 1 spans.now.items }
+    ensures { result ≡ count_below bound spans.now.items }
 {
     spans.partition_point(|span| u64::from(span.first) < bound)
 }
@@ -259,8 +259,9 @@ impl<T> Ranges<T> {
     {
         let place = place_from(&self.spans, page)?;
         let span = self.spans.remove(place);
+        let piece = self.pieces.remove(place);
         self.total -= span.pages;
-        Some(self.pieces.remove(place))
+        Some(piece)
     }
 
     /// How many pages the pieces have. Constant time.

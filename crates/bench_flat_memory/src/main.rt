@@ -58,7 +58,7 @@ fn map_pages(state: &mut FlatState, pages: u32) -> Result<bool, AllocError>
 }
 
 // The address of a word of one of so many pages: each number goes far from the one before.
-fn word_at(number: u32, pages: u32) -> u32
+fn address_at(number: u32, pages: u32) -> u32
     requires { pages ≤ 65536 }
 {
     let words = pages as u64 * 1024;
@@ -75,7 +75,7 @@ fn step_over(state: &mut FlatState, pairs: u32, pages: u32) -> Result<u64, Alloc
 {
     let mut count: u64 = 0;
     for number in 0..pairs {
-        let addr = word_at(number, pages);
+        let addr = address_at(number, pages);
         let store = Call::Store {
             addr,
             size: 4,

@@ -1,8 +1,6 @@
 pub mod BytesLemmas
-mod Crosses
 mod OriginLemmas
 mod PageLemmas
-mod Sharing
-mod Shown
+mod Stretches
 mod Vecs
 mod Walks

@@ -1,19 +1,25 @@
--- The pages that a core keeps, where they lie, and what is seen of them.
-use Rattle.std.proofs.Common.{◌≡◌, ℕ, ◌+◌, ◌*◌, ◌<◌, List, Option, Some, None, zero, suc, false, true, [], ◌∷◌, ◌++◌, arith, sym, ◌∙◌, ap, subst, slice_index_or, slice_set, length, replicate, IsSome, is_some, get_or, refl, length-append, length-set, ◌-◌, take, drop}
+-- The pages that a core keeps, where they lie, and what is seen of them; with the names that the answers cite.
 use Rattle.std.proofs.Math.Seq.{take-append_seam}
-use Rattle.std.proofs.lemmas.List.{map-set, map-append, replicate-append-replicate, length-replicate, drop_at}
-use Rattle.std.specs.Option.{option_map}
-use denote.RawPtr.{Ptr, InBlock, block_ptr, null_ptr, ◌+ₚ◌}
-use Rattle.core_arena.specs.Bytes.{bytes_at, zeros, all_bytes, slice_after_write}
+use Rattle.std.proofs.lemmas.List.{map-append, replicate-append-replicate, drop_at}
+use denote.RawPtr.{block_ptr, null_ptr}
 use Rattle.core_arena.specs.Ownership.{Extent}
-use Rattle.core_arena.specs.Pages.{pages_seen, IsSoundCore}
-use Rattle.core_arena.specs.Rows.{IsPageAt, AreInPlace, InRow, row_bytes}
-use Rattle.core_arena.specs.declared.region.Stretch.{Stretch}
+pub use Rattle.std.proofs.Common.{◌≡◌, ℕ, ◌+◌, ◌-◌, ◌*◌, ◌^◌, ◌<◌, List, Option, Some, None, zero, suc, false, true}
+pub use Rattle.std.proofs.Common.{[], ◌∷◌, ◌++◌, arith, sym, ◌∙◌, ap, subst, refl, slice_index_or, slice_set, length}
+pub use Rattle.std.proofs.Common.{replicate, IsSome, is_some, length-append, length-set, take, drop}
+pub use Rattle.std.proofs.lemmas.List.{length-replicate, length-map, map-set}
+pub use Rattle.std.specs.Option.{option_map}
+pub use denote.RawPtr.{Ptr, InBlock, ◌+ₚ◌}
+pub use Rattle.core_arena.specs.Bytes.{bytes_at, zeros, all_bytes, slice_after_write}
+pub use Rattle.core_arena.specs.Origin.{origin_of}
+pub use Rattle.core_arena.specs.Pages.{pages_seen, IsSoundCore}
+pub use Rattle.core_arena.specs.Rows.{IsPageAt, AreInPlace, InRow, row_bytes}
+pub use Rattle.core_arena.specs.Seen.{CoreSeen, FrameSeen}
+pub use Rattle.core_arena.specs.declared.region.Stretch.{Stretch}
 
 abbrev Place : Type 0
 Place = Option Stretch
 
-abbrev bytes_of : Place → Option (List ℕ)
+abbrev pub bytes_of : Place → Option (List ℕ)
 bytes_of = option_map (λ (page : Stretch). page.bytes)
 
 -- addresses
@@ -32,25 +38,14 @@ moved-twice null_ptr n m k e = refl
 moved-on : (p : Ptr) (i : ℕ) → (p +ₚ 4096) +ₚ i * 4096 ≡ p +ₚ suc i * 4096
 moved-on p i = moved-twice p 4096 (i * 4096) (suc i * 4096) (omega arith)
 
--- what is seen of a changed page
-pub seen-set : (pages : List Place) (i : ℕ) (place : Place) → pages_seen (slice_set pages i place) ≡ slice_set (pages_seen pages) i (bytes_of place)
-seen-set pages i place = map-set bytes_of pages i place
-
--- what is seen of a page
-pub seen-at : (pages : List Place) (i : ℕ) (d : Place) → i < length pages → bytes_at (pages_seen pages) i ≡ bytes_of (get_or pages i d)
-seen-at [] i d lt = absurd (omega arith)
-seen-at (x ∷ more) zero d lt = refl
-seen-at (x ∷ more) (suc i) d lt = seen-at more i d (omega arith)
-
--- a frame that is home has a place
-pub home-within : (pages : List Place) (i : ℕ) → IsSome (bytes_at (pages_seen pages) i) → i < length pages
-home-within [] i h = let z : false ≡ true = h in cc
-home-within (x ∷ more) zero h = omega arith
-home-within (x ∷ more) (suc i) h = let r = home-within more i h in omega arith
-
--- the page of a place, as bytes
-pub page-seen : (pages : List Place) (i : ℕ) (page : Stretch) (d : Place) → i < length pages → slice_index_or pages i d ≡ Some page → bytes_at (pages_seen pages) i ≡ Some page.bytes
-page-seen pages i page d lt e = seen-at pages i d lt ∙ ap bytes_of e
+-- a frame that is home has a place, and its page lies there
+found : (p : Ptr) (pages : List Place) (i : ℕ) (page : Stretch) (d : Place) → AreInPlace p pages → IsSome (bytes_at (pages_seen pages) i) → slice_index_or pages i d ≡ Some page
+    → (i < length pages) × IsPageAt (p +ₚ i * 4096) (Some page) × (bytes_at (pages_seen pages) i ≡ Some page.bytes)
+found p [] i page d are home e = let z : false ≡ true = home in absurd (cc)
+found p (x ∷ more) zero page d are home e = (omega arith, subst (λ (q : Ptr). IsPageAt q (Some page)) (sym (moved-none p)) (subst (IsPageAt p) e are.0), ap bytes_of e)
+found p (x ∷ more) (suc i) page d are home e =
+    let r = found (p +ₚ 4096) more i page d are.1 home e in
+    (let lt = r.0 in omega (arith, lt), subst (λ (q : Ptr). IsPageAt q (Some page)) (moved-on p i) r.1, r.2)
 
 -- one more page of zeros
 pub zeros-more : (pages : List Place) (n : ℕ) (page : Stretch) → pages_seen pages ≡ replicate n (Some zeros) → page.bytes ≡ zeros → pages_seen (pages ++ Some page ∷ []) ≡ replicate (n + 1) (Some zeros)
@@ -60,12 +55,7 @@ zeros-more pages n page so_far zero_page =
     ∙ ap (λ (bytes : List ℕ). replicate n (Some zeros) ++ Some bytes ∷ []) zero_page
     ∙ replicate-append-replicate n 1 (Some zeros)
 
--- pages in their places: one looked up, changed, added at the end, taken off there
-pub in_place-at : (p : Ptr) (pages : List Place) (i : ℕ) (page : Stretch) (d : Place) → AreInPlace p pages → i < length pages → slice_index_or pages i d ≡ Some page → IsPageAt (p +ₚ i * 4096) (Some page)
-in_place-at p [] i page d are lt e = absurd (omega arith)
-in_place-at p (x ∷ more) zero page d are lt e = subst (λ (q : Ptr). IsPageAt q (Some page)) (sym (moved-none p)) (subst (IsPageAt p) e are.0)
-in_place-at p (x ∷ more) (suc i) page d are lt e = subst (λ (q : Ptr). IsPageAt q (Some page)) (moved-on p i) (in_place-at (p +ₚ 4096) more i page d are.1 (omega arith) e)
-
+-- pages in their places: one changed, added at the end, taken off there
 pub in_place-set : (p : Ptr) (pages : List Place) (i : ℕ) (place : Place) → AreInPlace p pages → IsPageAt (p +ₚ i * 4096) place → AreInPlace p (slice_set pages i place)
 in_place-set p [] i place are at = tt
 in_place-set p (x ∷ more) zero place are at = (subst (λ (q : Ptr). IsPageAt q place) (moved-none p) at, are.1)
@@ -82,11 +72,6 @@ in_place-pop p (x ∷ more) place are =
     ((are.0, rest.0), subst (λ (q : Ptr). IsPageAt q place) (moved-on p (length more)) rest.1)
 
 -- all pages are there
-pub record IsAllHome (p : Ptr) (pages : List Place) : Type 0 where
-  pub row : InRow p pages
-  pub bytes : all_bytes (pages_seen pages) ≡ Some (row_bytes pages)
-  pub size : length (row_bytes pages) ≡ length pages * 4096
-
 still-none : (page : List ℕ) (rest : Option (List ℕ)) → is_some rest ≡ false → is_some (option_map (λ (l : List ℕ). page ++ l) rest) ≡ false
 still-none page None h = refl
 still-none page (Some l) h = h
@@ -95,16 +80,14 @@ rest-home : (page : List ℕ) (rest : Option (List ℕ)) → IsSome (option_map 
 rest-home page None h = h
 rest-home page (Some l) h = refl
 
-pub all-home : (p : Ptr) (pages : List Place) → AreInPlace p pages → IsSome (all_bytes (pages_seen pages)) → IsAllHome p pages
-all-home p [] are home = record { row = tt; bytes = refl; size = refl }
+pub all-home : (p : Ptr) (pages : List Place) → AreInPlace p pages → IsSome (all_bytes (pages_seen pages))
+    → InRow p pages × (all_bytes (pages_seen pages) ≡ Some (row_bytes pages)) × (length (row_bytes pages) ≡ length pages * 4096)
+all-home p [] are home = (tt, refl, refl)
 all-home p (None ∷ more) are home = let z : false ≡ true = home in absurd (cc)
 all-home p (Some page ∷ more) are home =
     let rest = all-home (p +ₚ 4096) more are.1 (rest-home page.bytes (all_bytes (pages_seen more)) home) in
-    record {
-      row = (are.0.0, are.0.1, rest.row);
-      bytes = ap (option_map (λ (l : List ℕ). page.bytes ++ l)) rest.bytes;
-      size = omega (arith, length-append page.bytes (row_bytes more), are.0.1, rest.size);
-    }
+    let size = rest.2 in
+    ((are.0.0, are.0.1, rest.0), ap (option_map (λ (l : List ℕ). page.bytes ++ l)) rest.1, omega (arith, length-append page.bytes (row_bytes more), are.0.1, size))
 
 pub all-there : (pages : List Place) → ((i : ℕ) → i < length pages → is_some (slice_index_or pages i None) ≡ true) → all_bytes (pages_seen pages) ≡ Some (row_bytes pages)
 all-there [] home = refl
@@ -129,10 +112,9 @@ pub record IsHomePage (base : Ptr) (frames : ℕ) (pages : List Place) (i : ℕ)
 pub home-page : (base : Ptr) (frames : ℕ) (pages : List Place) (rest : Option Extent) (i : ℕ) (page : Stretch) (d : Place)
     → IsSoundCore base frames pages rest → IsSome (bytes_at (pages_seen pages) i) → slice_index_or pages i d ≡ Some page → IsHomePage base frames pages i page
 home-page base frames pages rest i page d sound home is =
-    let lt : i < length pages = home-within pages i home in
-    let here = in_place-at base pages i page d sound.in_place lt is in
-    let within : i < frames = subst (λ (n : ℕ). i < n) sound.places lt in
-    record { within = within; at = here.0; size = here.1; placed = sound.placed (omega arith); seen = page-seen pages i page d lt is }
+    let f = found base pages i page d sound.in_place home is in
+    let within : i < frames = subst (λ (n : ℕ). i < n) sound.places f.0 in
+    record { within = within; at = f.1.0; size = f.1.1; placed = sound.placed (omega (arith, within)); seen = f.2 }
 
 -- a core with a place changed
 pub sound-set : (base : Ptr) (frames : ℕ) (pages : List Place) (rest : Option Extent) (i : ℕ) (place : Place)
@@ -148,7 +130,7 @@ sound-set base frames pages rest i place sound at = record {
 pub seen-overwritten : (pages : List Place) (i : ℕ) (page : Stretch) (w : List ℕ) → bytes_at (pages_seen pages) i ≡ Some page.bytes
     → pages_seen (slice_set pages i (Some (record { at = page.at; bytes = slice_after_write page.bytes w }))) ≡ slice_set (pages_seen pages) i (option_map (λ (bytes : List ℕ). slice_after_write bytes w) (bytes_at (pages_seen pages) i))
 seen-overwritten pages i page w at =
-    seen-set pages i (Some (record { at = page.at; bytes = slice_after_write page.bytes w }))
+    map-set bytes_of pages i (Some (record { at = page.at; bytes = slice_after_write page.bytes w }))
     ∙ ap (λ (o : Option (List ℕ)). slice_set (pages_seen pages) i (option_map (λ (bytes : List ℕ). slice_after_write bytes w) o)) (sym at)
 
 -- the last page is taken off

@@ -1,29 +1,18 @@
 -- A `Vec` of bytes is its elements and the way back. Assumes `Logic`.
-use Rattle.std.proofs.Common.{◌≡◌, ℕ, ◌<◌, ◌+◌, List, [], ◌∷◌, length, true, refl, sym, arith, Vec}
+use Rattle.core_arena.proofs.Walks.{◌≡◌, ℕ, ◌<◌, ◌+◌, List, [], ◌∷◌, length, refl, sym, arith, full_share, ent}
+use Rattle.core_arena.proofs.Walks.{sep, never, id⊢, fsep, ‵, ◌$◌, ◌∵◌, !, qed, use1, drop, move, frame, fsplit}
+use Rattle.core_arena.proofs.Walks.{fjoin, feq_l, feq_i, rewrite, done, Val, u8, Ptr, block_ptr, in_a_block}
+use Rattle.core_arena.proofs.Walks.{plainly, one, one_made, RattleType, Ghosts, Ura, Logic, sem, Vec, cells}
+use Rattle.core_arena.proofs.Walks.{mem, bytes, with_items_is, feq, fall, fwand, emp, each, assume, show, Array}
+use Rattle.core_arena.proofs.Walks.{part_at, null_ptr, lies_at, in_block, bytes_apart, bytes_whole, with_items}
+use Rattle.core_arena.proofs.Walks.{vec_owns_bytes, stretch_owns}
+use Rattle.std.proofs.Common.{true}
 use Rattle.std.proofs.lemmas.Bool.{ne_eqb, not_from_false}
-use Rattle.std.proofs.lemmas.List.{with_items_is}
-use seplogic.Ra.Ura.{Ura}
-use mir.Val.{Val}
-use base.Fraction.{full_share}
-use base.Logic.{ent, sep, wand, never, id⊢, emp, mono_r}
-use denote.Memory.{part_at, mem}
-use types.SemTy.{cells}
-use base.Fml.{fsep, feq, fall, fwand}
-use types.Logic.{Logic, sem}
-use types.Kit.{‵, ◌$◌, ◌∵◌, !, qed, use1, drop, move, frame, each, assume, show, fsplit, fjoin, feq_l, feq_i, rewrite, done}
-use denote.RattleType.{RattleType}
-use denote.Builtin.{u8}
-use denote.Array.{Array}
-use denote.RawPtr.{Ptr, block_ptr, null_ptr, lies_at, in_block, in_a_block}
-use denote.RawPtr.Bytes.{bytes, bytes_apart, bytes_whole}
-use Rattle.std.specs.declared.alloc.Allocator.{Ghosts}
+use base.Logic.{wand, mono_r}
 use Rattle.std.specs.Allocator.{block_with_items}
-use Rattle.std.specs.Vec.{with_items}
 use Rattle.std_alloc.specs.Vec.Ownership.{owns_if, has_block}
 use Rattle.std_alloc.specs.contracts.vec.Vec as V
-use Rattle.core_arena.specs.Ownership.{vec_owns_bytes, stretch_owns}
 use Rattle.core_arena.specs.contracts.region.Shell as Shell
-use Rattle.core_arena.proofs.Walks.{plainly, one, one_made}
 
 module _ (P : RattleType) (g : Ghosts P.Denot) {M : Type 1} {𝓤 : Ura M} (𝓛 : Logic 𝓤) (v : Vec ℕ P.Denot) (u : Val) where
   pub carve : 0 < v.len → ent 𝓤 (sem 𝓛 ((V.the_row u8 P g).own_val v (u ∷ []))) (sep 𝓤 (sem 𝓛 (vec_owns_bytes v.ptr v.items)) (sem 𝓛 (Shell.the_own P g (record { at = v.ptr; len = v.len }) (one u ∷ []))))

@@ -28,7 +28,7 @@ use Rattle.flat_model.specs.Flat.{Cell, File, Flat, Space, space_of, cell_at, ze
 use Rattle.flat_model.specs.Refusals.{◌>>◌, check, Effect, or_signal, or_refused, done_effect}
 use Rattle.flat_model.specs.Access.{access_target, with_change_at, file_with_page, with_page, with_space, with_cell, with_page_stored}
 use Rattle.flat_model.specs.Space.{in_range, without_range, with_cells, with_prot, with_prots}
-use Rattle.flat_model.specs.Mapping.{Request, cells_of, is_range, without_replaced, first_page, new_number, new_cell, with_object, map_result, without_pages, valid_range, is_allowed}
+use Rattle.flat_model.specs.Mapping.{Request, cells_of, is_range, without_replaced, first_page, new_number, new_cell, with_object, map_result, without_pages, valid_range, may_have}
 use Rattle.flat_model.specs.Parts.{read_line, without_tail, longer_file, shorter_file, file_of_length, with_part, with_file_at, existing_file, room_for}
 use Rattle.flat_model.specs.Processes.{with_child, without_process}
 use Rattle.flat_model.specs.Step.{effect, after_act, step, bit, files_cleared, tails_cleared, without_start, IsUnborn, IsDue, IsStep}
@@ -38,7 +38,7 @@ use Rattle.flat_model.proofs.Bytes.{slice_get-with_change_at, slice_get-changed_
 use Rattle.flat_model.proofs.Ranges.{get-insert_here, get-insert_apart, get-remove_apart, get-without_range, get-with_cells, get-with_prots, in_range-low, in_range-high}
 use Rattle.flat_model.proofs.Stores.{is_met, ChangesOneCell-with_cell}
 use Rattle.flat_model.proofs.Named.{named_zeros-from_cell, new_number-new, get-without_unnamed}
-use Rattle.flat_model.proofs.Mappings.{is_mapped, get-cells_of, spaces-with_object}
+use Rattle.flat_model.proofs.Mappings.{mapped-map_result, get-cells_of, spaces-with_object}
 use Rattle.flat_model.proofs.Gap.{gap-free}
 use Rattle.flat_model.proofs.Rooms.{has_room}
 
@@ -381,7 +381,7 @@ kept_put F D p place n first cell same is = kept_space D p (with_cells (cells_of
 
 kept_mapped : (F : Flat) (p : ℕ) (r : Request) (first : ℕ) (G : Flat) → map_result F p r ≡ Ok (first, G) → Kept F G p nobody (takes (Map r.place r.len r.prot r.kind r.object r.offset))
 kept_mapped F p r first G is =
-    let m = is_mapped F p r first G is in
+    let m = mapped-map_result F p r first G is in
     let n = pages_in r.len in
     let C = without_replaced F p r.place n in
     let D = with_object C r.kind r.object n in
@@ -440,7 +440,7 @@ kept_outcome F p (Map place len prot kind object offset) unborn =
     by_refusal (KeptBy F p (Map place len prot kind object offset)) F (λ m. record { reply = reply.Mapped (4096 * m.0); after = m.1 }) (map_result F p r) (λ e. all_kept F p (takes (Map place len prot kind object offset))) (λ m is. kept_mapped F p r m.0 m.1 is)
 kept_outcome F p (Unmap a len) unborn = by_refusal (KeptBy F p (Unmap a len)) F (λ x. done_effect (without_pages F p (page a) (pages_in len))) (check (is_range a len) errno.Invalid) (λ e. all_kept F p (takes (Unmap a len))) (λ x is. kept_unmapped F p (page a) (pages_in len))
 kept_outcome F p (Protect a len prot) unborn =
-    by_refusal (KeptBy F p (Protect a len prot)) F (λ x. done_effect (with_space F p (with_prots (cells_of F p) (page a) (pages_in len) prot))) (valid_range F p a len >> check (is_allowed (cells_of F p) (page a) (pages_in len) prot) errno.Access) (λ e. all_kept F p (takes (Protect a len prot)))
+    by_refusal (KeptBy F p (Protect a len prot)) F (λ x. done_effect (with_space F p (with_prots (cells_of F p) (page a) (pages_in len) prot))) (valid_range F p a len >> check (may_have (cells_of F p) (page a) (pages_in len) prot) errno.Access) (λ e. all_kept F p (takes (Protect a len prot)))
     (λ x is. kept_protected F p (page a) (pages_in len) prot (takes (Protect a len prot)))
 kept_outcome F p (Sync a len) unborn = by_refusal (KeptBy F p (Sync a len)) F (λ x. record { reply = reply.Synced 0; after = F }) (valid_range F p a len) (λ e. all_kept F p (takes (Sync a len))) (λ x is. all_kept F p (takes (Sync a len)))
 kept_outcome F p (Read file offset len) unborn = by_refusal (KeptBy F p (Read file offset len)) F (λ x. record { reply = reply.Bytes (read_line x offset len); after = F }) (existing_file F file) (λ e. all_kept F p (takes (Read file offset len))) (λ x is. all_kept F p (takes (Read file offset len)))

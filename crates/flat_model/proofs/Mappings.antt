@@ -47,9 +47,9 @@ pair_ok {A} {B} x c y d is =
 abbrev Answer : Type 0
 Answer = Result (ℕ × Flat) Errno
 
-pub is_mapped : (F : Flat) (p : ℕ) (r : Request) (first : ℕ) (G : Flat) → map_result F p r ≡ Ok (first, G) → Mapped F p r first G
+pub mapped-map_result : (F : Flat) (p : ℕ) (r : Request) (first : ℕ) (G : Flat) → map_result F p r ≡ Ok (first, G) → Mapped F p r first G
 unfolding map_result
-is_mapped F p r first G is =
+mapped-map_result F p r first G is =
     let n = pages_in r.len in
     let space = cells_of (without_replaced F p r.place n) p in
     let last : ℕ → Answer = λ x. check (nat_le (reserved (with_mapping F p r x)) F.slots) errno.NoSwap >> Ok (x, with_mapping F p r x) in
@@ -125,7 +125,7 @@ placed_any F p Any n first is any = is
 
 pub maps_range : (F : Flat) (p : ℕ) (r : Request) (first : ℕ) (G : Flat) → map_result F p r ≡ Ok (first, G) → MapsRange F p r first G
 maps_range F p r first G is =
-    let m = is_mapped F p r first G is in
+    let m = mapped-map_result F p r first G is in
     let n = pages_in r.len in
     let cell = new_cell F (without_replaced F p r.place n) r in
     record {

@@ -14,7 +14,7 @@ use Rattle.flat_model.specs.Flat.{Cell, Flat, cell_at}
 use Rattle.flat_model.specs.Refusals.{◌>>◌, check, or_refused, done_effect}
 use Rattle.flat_model.specs.Access.{with_space}
 use Rattle.flat_model.specs.Space.{with_prot, with_prots}
-use Rattle.flat_model.specs.Mapping.{cells_of, is_mapped, is_allowed, valid_range, protect}
+use Rattle.flat_model.specs.Mapping.{cells_of, are_mapped, may_have, valid_range, protect}
 use Rattle.flat_model.specs.ProtectLaws.{ProtectsRange, EachPage, Protects}
 use Rattle.flat_model.proofs.Ranges.{get-insert_here, get-insert_apart, get-with_prots, all_pages-at, at-all_pages}
 use Rattle.flat_model.proofs.Mappings.{get-cells_of}
@@ -25,9 +25,9 @@ checks_pass true true e f = (λ is. (refl, refl), λ both. refl)
 checks_pass true false e f = (λ is. absurd cc, λ both. absurd (let no_b = both.1 in cc))
 checks_pass false b e f = (λ is. absurd cc, λ both. absurd (let no_a = both.0 in cc))
 
-spoken_by : (F : Flat) (p a len : ℕ) → IsOk (valid_range F p a len) ↔ ((is_range a len ≡ true) × (is_mapped (cells_of F p) (page a) (pages_in len) ≡ true))
+spoken_by : (F : Flat) (p a len : ℕ) → IsOk (valid_range F p a len) ↔ ((is_range a len ≡ true) × (are_mapped (cells_of F p) (page a) (pages_in len) ≡ true))
 unfolding valid_range
-spoken_by F p a len = checks_pass (is_range a len) (is_mapped (cells_of F p) (page a) (pages_in len)) errno.Invalid errno.NotMapped
+spoken_by F p a len = checks_pass (is_range a len) (are_mapped (cells_of F p) (page a) (pages_in len)) errno.Invalid errno.NotMapped
 
 pub valid_range-is : (F : Flat) (p a len : ℕ) → IsOk (valid_range F p a len) ↔ (IsTrue (is_range a len) × EachPage a len (λ q. IsSome (cell_at F p q)))
 valid_range-is F p a len = (
@@ -56,7 +56,7 @@ within_some (Some c) prot is = (refl, is)
 pub protect-done : (F : Flat) (p a len : ℕ) (prot : Prot) → ((protect F p a len prot).reply ≡ reply.Done) ↔ (IsTrue (is_range a len) × EachPage a len (λ q. IsSomeAnd (cell_at F p q) (λ c. IsTrue (is_within prot c.max))))
 protect-done F p a len prot =
     let G = with_space F p (with_prots (cells_of F p) (page a) (pages_in len) prot) in
-    let allowed = is_allowed (cells_of F p) (page a) (pages_in len) prot in
+    let allowed = may_have (cells_of F p) (page a) (pages_in len) prot in
     let test = λ (q : ℕ). option_map_or (λ c. is_within prot c.max) (map.get (cells_of F p) q) true in (
       λ is.
           let r = done_after F (λ _. G) (valid_range F p a len >> check allowed errno.Access) is in
@@ -82,7 +82,7 @@ protects_range F p first n prot = record {
 pub protect-changes : (F : Flat) (p a len : ℕ) (prot : Prot) → (protect F p a len prot).reply ≡ reply.Done → ProtectsRange F p (page a) (pages_in len) prot (protect F p a len prot).after
 protect-changes F p a len prot is =
     let G = with_space F p (with_prots (cells_of F p) (page a) (pages_in len) prot) in
-    let r = done_after F (λ _. G) (valid_range F p a len >> check (is_allowed (cells_of F p) (page a) (pages_in len) prot) errno.Access) is in
+    let r = done_after F (λ _. G) (valid_range F p a len >> check (may_have (cells_of F p) (page a) (pages_in len) prot) errno.Access) is in
     subst (λ (H : Flat). ProtectsRange F p (page a) (pages_in len) prot H) (sym r.2) (protects_range F p (page a) (pages_in len) prot)
 
 pub protects_law : Protects

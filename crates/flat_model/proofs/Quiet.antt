@@ -14,7 +14,7 @@ use Rattle.flat_model.specs.Words.{page, pages_in, word_at, with_bytes, word_byt
 use Rattle.flat_model.specs.Flat.{Flat, reserved, private_cells}
 use Rattle.flat_model.specs.Access.{access_target, with_page_stored, with_space}
 use Rattle.flat_model.specs.Space.{with_prots}
-use Rattle.flat_model.specs.Mapping.{map_result, without_pages, is_range, valid_range, is_allowed, cells_of}
+use Rattle.flat_model.specs.Mapping.{map_result, without_pages, is_range, valid_range, may_have, cells_of}
 use Rattle.flat_model.specs.Parts.{existing_file, read_line, room_for, with_file_at, with_part, file_of_length}
 use Rattle.flat_model.specs.Processes.{with_child}
 use Rattle.flat_model.specs.Refusals.{◌>>◌, check, Effect, or_signal, or_refused, done_effect}
@@ -39,7 +39,7 @@ effect-quiet F p (Load a n) is = quiet_signal F (λ m. record { reply = reply.Wo
 effect-quiet F p (Store a n v) is = quiet_signal F (λ m. done_effect (with_page_stored F p (page a) m.0 (with_bytes m.1 (a % 4096) (word_bytes n v)))) (access_target F p can_write a n) (λ x h. h) is
 effect-quiet F p (Map place len prot kind object offset) is = quiet_refused F (λ m. record { reply = reply.Mapped (4096 * m.0); after = m.1 }) (map_result F p (record { place = place; len = len; prot = prot; kind = kind; object = object; offset = offset })) (λ x h. h) is
 effect-quiet F p (Unmap a len) is = quiet_refused F (λ x. done_effect (without_pages F p (page a) (pages_in len))) (check (is_range a len) errno.Invalid) (λ x h. h) is
-effect-quiet F p (Protect a len prot) is = quiet_refused F (λ x. done_effect (with_space F p (with_prots (cells_of F p) (page a) (pages_in len) prot))) (valid_range F p a len >> check (is_allowed (cells_of F p) (page a) (pages_in len) prot) errno.Access) (λ x h. h) is
+effect-quiet F p (Protect a len prot) is = quiet_refused F (λ x. done_effect (with_space F p (with_prots (cells_of F p) (page a) (pages_in len) prot))) (valid_range F p a len >> check (may_have (cells_of F p) (page a) (pages_in len) prot) errno.Access) (λ x h. h) is
 effect-quiet F p (Sync a len) is = quiet_refused F (λ x. record { reply = reply.Synced 0; after = F }) (valid_range F p a len) (λ x h. h) is
 effect-quiet F p (Read file offset len) is = quiet_refused F (λ x. record { reply = reply.Bytes (read_line x offset len); after = F }) (existing_file F file) (λ x h. h) is
 effect-quiet F p (Write file offset line rest) is = quiet_refused F (λ x. done_effect (with_file_at F file (with_part offset line x))) (room_for F file (offset + length line)) (λ x h. h) is

@@ -27,7 +27,7 @@ use Rattle.flat_model.specs.Opening.{flat_at_opening}
 use Rattle.flat_model.specs.Refusals.{◌>>◌, check, Effect, or_signal, or_refused, done_effect}
 use Rattle.flat_model.specs.Access.{access_target, with_page, with_space, with_cell, with_page_stored}
 use Rattle.flat_model.specs.Space.{without_range, with_prots}
-use Rattle.flat_model.specs.Mapping.{Request, cells_of, is_there, without_replaced, new_number, new_cell, object_for, with_object, map_result, without_pages, valid_range, is_allowed}
+use Rattle.flat_model.specs.Mapping.{Request, cells_of, is_there, without_replaced, new_number, new_cell, object_for, with_object, map_result, without_pages, valid_range, may_have}
 use Rattle.flat_model.specs.Parts.{read_line, with_part, file_of_length, with_file_at, existing_file, room_for}
 use Rattle.flat_model.specs.Processes.{with_child, without_process}
 use Rattle.flat_model.specs.Step.{effect, after_act, step, bit, tails_cleared, IsUnborn, IsStep}
@@ -41,7 +41,7 @@ use Rattle.flat_model.proofs.Named.{named_zeros-from_cell, named_zeros-to_cell, 
 use Rattle.flat_model.proofs.Entries.{Above, Above-entries, find_rest, find_below, first_found}
 use Rattle.flat_model.proofs.Sums.{total}
 use Rattle.std.proofs.lemmas.List.Sums.{sum_by-cons}
-use Rattle.flat_model.proofs.Mappings.{is_mapped}
+use Rattle.flat_model.proofs.Mappings.{mapped-map_result}
 use Rattle.flat_model.proofs.Reserve.{unswept, put_in, names_from, names_before, names_before_exit, forked_names, spaces_put_in, named_by_spaces, zeros_cleared, reserved-unmap, reserved-fork, reserved-exit}
 use Rattle.flat_model.proofs.ReserveKept.{named-alike, alike_cell, alike_prots, reserved-others}
 use Rattle.flat_model.proofs.Frames.{StepFrame-step, child_none}
@@ -97,7 +97,7 @@ named_there F C Private (object.Zero y) n z same there is = let here : y ≡ z =
 
 mapped_alone : (F : Flat) (p : ℕ) (r : Request) (first : ℕ) (G : Flat) → NamedAlone F → IsSome (space_of F p) → map_result F p r ≡ Ok (first, G) → NamedAlone G
 mapped_alone F p r first G alone alive is =
-    let m = is_mapped F p r first G is in
+    let m = mapped-map_result F p r first G is in
     let n = pages_in r.len in
     let C = without_replaced F p r.place n in
     let cell = new_cell F C r in
@@ -145,7 +145,7 @@ effect_alone F p (Map place len prot kind object offset) alone alive unborn =
     by_refusal NamedAlone F (λ m. record { reply = reply.Mapped (4096 * m.0); after = m.1 }) (map_result F p r) alone (λ m is. mapped_alone F p r m.0 m.1 alone alive is)
 effect_alone F p (Unmap a len) alone alive unborn = by_refusal NamedAlone F (λ x. done_effect (without_pages F p (page a) (pages_in len))) (check (is_range a len) errno.Invalid) alone (λ x is. unmapped_alone F p (page a) (pages_in len) alone alive)
 effect_alone F p (Protect a len prot) alone alive unborn =
-    by_refusal NamedAlone F (λ x. done_effect (with_space F p (with_prots (cells_of F p) (page a) (pages_in len) prot))) (valid_range F p a len >> check (is_allowed (cells_of F p) (page a) (pages_in len) prot) errno.Access) alone
+    by_refusal NamedAlone F (λ x. done_effect (with_space F p (with_prots (cells_of F p) (page a) (pages_in len) prot))) (valid_range F p a len >> check (may_have (cells_of F p) (page a) (pages_in len) prot) errno.Access) alone
     (λ x is z. alone z ∙ sym (named-alike F p (with_prots (cells_of F p) (page a) (pages_in len) prot) (alike_prots F p (page a) (pages_in len) prot) z))
 effect_alone F p (Sync a len) alone alive unborn = by_refusal NamedAlone F (λ x. record { reply = reply.Synced 0; after = F }) (valid_range F p a len) alone (λ x is. alone)
 effect_alone F p (Read file offset len) alone alive unborn = by_refusal NamedAlone F (λ x. record { reply = reply.Bytes (read_line x offset len); after = F }) (existing_file F file) alone (λ x is. alone)
@@ -164,7 +164,7 @@ kept_backed F p call backed alive keeps = let same = reserved-others F p call al
 effect_backed : (F : Flat) (p : ℕ) (call : Call) → AreBorn F → reserved F ≤ F.slots → IsSome (space_of F p) → IsUnborn F call → reserved (effect F p call).after ≤ F.slots
 effect_backed F p (Map place len prot kind object offset) born backed alive unborn =
     let r : Request = record { place = place; len = len; prot = prot; kind = kind; object = object; offset = offset } in
-    by_refusal (λ G. reserved G ≤ F.slots) F (λ m. record { reply = reply.Mapped (4096 * m.0); after = m.1 }) (map_result F p r) backed (λ m is. leb-true (reserved m.1) F.slots (is_mapped F p r m.0 m.1 is).backed)
+    by_refusal (λ G. reserved G ≤ F.slots) F (λ m. record { reply = reply.Mapped (4096 * m.0); after = m.1 }) (map_result F p r) backed (λ m is. leb-true (reserved m.1) F.slots (mapped-map_result F p r m.0 m.1 is).backed)
 effect_backed F p (Unmap a len) born backed alive unborn = by_refusal (λ G. reserved G ≤ F.slots) F (λ x. done_effect (without_pages F p (page a) (pages_in len))) (check (is_range a len) errno.Invalid) backed (λ x is. let sum = reserved-unmap F p (page a) (pages_in len) alive in omega (arith, sum, backed))
 effect_backed F p (Fork child) born backed alive unborn =
     by_refusal (λ G. reserved G ≤ F.slots) F (λ x. done_effect (with_child F p child)) (check (nat_le (reserved F + private_cells (cells_of F p)) F.slots) errno.NoSwap) backed

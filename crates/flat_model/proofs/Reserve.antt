@@ -26,7 +26,7 @@ use Rattle.flat_model.proofs.Ranges.{get-insert, get-insert_here, get-insert_apa
 use Rattle.flat_model.proofs.Sums.{total, total-insert, total-insert_over, total-remove, total-retain_keys, total-without_range, total-with_cells, sum_to, sum_to-same}
 use Rattle.flat_model.proofs.Gap.{gap-free}
 use Rattle.flat_model.proofs.Named.{named_zeros-from_cell, named_zeros-to_cell, new_number-new}
-use Rattle.flat_model.proofs.Mappings.{is_mapped, get-cells_of, spaces-with_mapping, cells_of-with_space}
+use Rattle.flat_model.proofs.Mappings.{mapped-map_result, get-cells_of, spaces-with_mapping, cells_of-with_space}
 
 same_maps : {X : Type 0} (m n : map.FinMap nat_cmp X) → ((q : ℕ) → map.get m q ≡ map.get n q) → m ≡ n
 same_maps m n alike = map.same_map nat_cmp_total map.nat_cmp-IsAntisymmetric m n alike
@@ -447,4 +447,4 @@ reserved-exit F p alive =
     omega arith
 
 pub placed-map_result : (F : Flat) (p : ℕ) (r : Request) (first : ℕ) (G : Flat) → map_result F p r ≡ Ok (first, G) → IsPlaced F p r first × (G ≡ with_mapping F p r first)
-placed-map_result F p r first G is = let m = is_mapped F p r first G is in (record { valid = m.valid; there = m.there; begin = m.first_is }, m.after)
+placed-map_result F p r first G is = let m = mapped-map_result F p r first G is in (record { valid = m.valid; there = m.there; begin = m.first_is }, m.after)

@@ -23,7 +23,7 @@ use Rattle.flat_model.specs.Flat.{Cell, Flat, Space, space_of, cell_at, zero_of,
 use Rattle.flat_model.specs.Refusals.{◌>>◌, check, Effect, or_signal, or_refused, done_effect}
 use Rattle.flat_model.specs.Access.{access_target, with_page, with_space, with_cell, with_page_stored}
 use Rattle.flat_model.specs.Space.{in_range, with_prots}
-use Rattle.flat_model.specs.Mapping.{cells_of, valid_range, is_allowed}
+use Rattle.flat_model.specs.Mapping.{cells_of, valid_range, may_have}
 use Rattle.flat_model.specs.Parts.{read_line, file_of_length, with_part, with_file_at, existing_file, room_for}
 use Rattle.flat_model.specs.Step.{effect}
 use Rattle.flat_model.specs.ReserveLaws.{KeepsReservation, Reservation}
@@ -220,7 +220,7 @@ reserved-others F p (Store a n v) alive keeps = by_signal (λ G. reserved G ≡ 
 reserved-others F p (Map place len prot kind object offset) alive keeps = absurd keeps
 reserved-others F p (Unmap a len) alive keeps = absurd keeps
 reserved-others F p (Protect a len prot) alive keeps =
-    by_refusal (λ G. reserved G ≡ reserved F) F (λ x. done_effect (with_space F p (with_prots (cells_of F p) (page a) (pages_in len) prot))) (valid_range F p a len >> check (is_allowed (cells_of F p) (page a) (pages_in len) prot) errno.Access) refl (λ x is. reserved-with_prots F p (page a) (pages_in len) prot alive)
+    by_refusal (λ G. reserved G ≡ reserved F) F (λ x. done_effect (with_space F p (with_prots (cells_of F p) (page a) (pages_in len) prot))) (valid_range F p a len >> check (may_have (cells_of F p) (page a) (pages_in len) prot) errno.Access) refl (λ x is. reserved-with_prots F p (page a) (pages_in len) prot alive)
 reserved-others F p (Sync a len) alive keeps = by_refusal (λ G. reserved G ≡ reserved F) F (λ x. record { reply = reply.Synced 0; after = F }) (valid_range F p a len) refl (λ x is. refl)
 reserved-others F p (Read file offset len) alive keeps = by_refusal (λ G. reserved G ≡ reserved F) F (λ x. record { reply = reply.Bytes (read_line x offset len); after = F }) (existing_file F file) refl (λ x is. refl)
 reserved-others F p (Write file offset line rest) alive keeps = by_refusal (λ G. reserved G ≡ reserved F) F (λ x. done_effect (with_file_at F file (with_part offset line x))) (room_for F file (offset + length line)) refl (λ x is. refl)

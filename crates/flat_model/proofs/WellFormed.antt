@@ -32,7 +32,7 @@ use Rattle.flat_model.specs.Flat.{Cell, File, Flat, Space, IsCell, IsFile, IsFla
 use Rattle.flat_model.specs.Refusals.{◌>>◌, check, Effect, or_signal, or_refused, done_effect}
 use Rattle.flat_model.specs.Access.{access_target, with_change_at, file_with_page, with_page, with_space, with_cell, with_page_stored}
 use Rattle.flat_model.specs.Space.{end_page, in_range, without_range, with_cells, with_prot, with_prots}
-use Rattle.flat_model.specs.Mapping.{Request, cells_of, is_range, is_place, without_replaced, first_page, new_number, object_for, own_for, new_cell, with_object, map_result, without_pages, valid_range, is_allowed}
+use Rattle.flat_model.specs.Mapping.{Request, cells_of, is_range, is_place, without_replaced, first_page, new_number, object_for, own_for, new_cell, with_object, map_result, without_pages, valid_range, may_have}
 use Rattle.flat_model.specs.Parts.{pages_of_bytes, pages_with_bytes, read_line, without_tail, longer_file, shorter_file, file_of_length, with_part, with_file_at, existing_file, room_for}
 use Rattle.flat_model.specs.Processes.{with_child, without_process}
 use Rattle.flat_model.specs.Step.{effect, after_act, step, bit, files_cleared, tails_cleared, IsStep}
@@ -40,7 +40,7 @@ use Rattle.flat_model.specs.History.{replay, Steps}
 use Rattle.flat_model.specs.FlatLaws.{StaysFlat}
 use Rattle.flat_model.proofs.Ranges.{get-insert_here, get-insert_apart, get-remove_here, get-remove_apart, get-retain_keys, get-with_cells, get-without_range, get-with_prots, in_range-low, in_range-high}
 use Rattle.flat_model.proofs.Stores.{is_met, IsPage-shown}
-use Rattle.flat_model.proofs.Mappings.{is_mapped, get-cells_of}
+use Rattle.flat_model.proofs.Mappings.{mapped-map_result, get-cells_of}
 use Rattle.flat_model.proofs.Gap.{lowest_gap-fits}
 use Rattle.flat_model.proofs.FileBytes.{Whole, Whole-pages, Whole-pages_with_bytes, length-pages_with_bytes, length-with_bytes, longer, count-with_part, of_length}
 use Rattle.flat_model.proofs.Rooms.{has_room}
@@ -393,7 +393,7 @@ IsFlat-with_object G Private o n p flat alive = (flat, alive)
 
 IsFlat-map_result : (F : Flat) (p : ℕ) (r : Request) (first : ℕ) (G : Flat) → IsFlat F → IsSome (space_of F p) → map_result F p r ≡ Ok (first, G) → IsFlat G
 IsFlat-map_result F p r first G flat alive is =
-    let m = is_mapped F p r first G is in
+    let m = mapped-map_result F p r first G is in
     let n = pages_in r.len in
     let C = without_replaced F p r.place n in
     let range = range_of F p r.place r.len first flat (both_true _ _ (both_true _ _ m.valid).0).0 m.first_is in
@@ -447,7 +447,7 @@ IsFlat-effect F p (Map place len prot kind object offset) flat alive well =
     by_refusal IsFlat F (λ m. record { reply = reply.Mapped (4096 * m.0); after = m.1 }) (map_result F p r) flat (λ m is. IsFlat-map_result F p r m.0 m.1 flat alive is)
 IsFlat-effect F p (Unmap a len) flat alive well = by_refusal IsFlat F (λ x. done_effect (without_pages F p (page a) (pages_in len))) (check (is_range a len) errno.Invalid) flat (λ x is. IsFlat-without_pages F p (page a) (pages_in len) flat alive)
 IsFlat-effect F p (Protect a len prot) flat alive well =
-    by_refusal IsFlat F (λ x. done_effect (with_space F p (with_prots (cells_of F p) (page a) (pages_in len) prot))) (valid_range F p a len >> check (is_allowed (cells_of F p) (page a) (pages_in len) prot) errno.Access) flat
+    by_refusal IsFlat F (λ x. done_effect (with_space F p (with_prots (cells_of F p) (page a) (pages_in len) prot))) (valid_range F p a len >> check (may_have (cells_of F p) (page a) (pages_in len) prot) errno.Access) flat
     (λ x is. IsFlat-with_space F p (with_prots (cells_of F p) (page a) (pages_in len) prot) flat alive (with_prots_stand (cells_of F p) (page a) (pages_in len) prot (cells_stand F p flat)))
 IsFlat-effect F p (Sync a len) flat alive well = by_refusal IsFlat F (λ x. record { reply = reply.Synced 0; after = F }) (valid_range F p a len) flat (λ x is. flat)
 IsFlat-effect F p (Read file offset len) flat alive well = by_refusal IsFlat F (λ x. record { reply = reply.Bytes (read_line x offset len); after = F }) (existing_file F file) flat (λ x is. flat)

@@ -1,4 +1,4 @@
--- What the parts of the plain form stand for. Inside: no public clause cites this but for `flat_cell`.
+-- What the parts of the plain form stand for. Inside: no public clause cites this but for `extents_of`.
 use Rattle.std.specs.Prelude.{ℕ, ◌==◌, ◌+◌, ◌-◌, ◌*◌, ◌++◌, take, replicate, nat_lt, if◌then◌else◌, length, slice_set, Bool, false, List, map, option_map, Some, None, Vec}
 use Rattle.vm_types.specs.declared.prot.Prot.{Prot}
 use Rattle.vm_types.specs.declared.call.Object.{Object}

@@ -8,7 +8,7 @@ use Rattle.vm_types.specs.declared.call.Reply.{Reply}
 use Rattle.vm_types.specs.declared.call.Reply.TheVariants as reply
 use Rattle.flat_model.specs.Words.{page, pages_in}
 use Rattle.flat_model.specs.Refusals.{◌>>◌, check}
-use Rattle.flat_model.specs.Mapping.{cells_of, is_allowed, valid_range}
+use Rattle.flat_model.specs.Mapping.{cells_of, may_have, valid_range}
 use Rattle.flat_model.specs.Step.{bit, without_start, IsUnborn}
 use Rattle.std.specs.FinMap as finite
 use Rattle.std.specs.FinSet as set
@@ -58,4 +58,4 @@ pub record MayStep (F : Flat) (e : Entry) : Type 0 where
 
 -- A Protect that isn't refused, or the first refusal that is due.
 abbrev pub protect_result : Flat → ℕ → ℕ → ℕ → Prot → Result (Unit {0}) Errno
-protect_result F p a len prot = valid_range F p a len >> check (is_allowed (cells_of F p) (page a) (pages_in len) prot) errno.Access
+protect_result F p a len prot = valid_range F p a len >> check (may_have (cells_of F p) (page a) (pages_in len) prot) errno.Access

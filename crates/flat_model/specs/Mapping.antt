@@ -142,23 +142,23 @@ abbrev pub unmap : Flat → ℕ → ℕ → ℕ → Effect
 unmap F p a len = or_refused F (λ _. done_effect (without_pages F p (page a) (pages_in len))) (check (is_range a len) errno.Invalid)
 
 -- Each page of the range has a cell.
-abbrev pub is_mapped : Space → ℕ → ℕ → Bool
-is_mapped space first n = all_pages (λ q. is_some (map.get space q)) first n
+abbrev pub are_mapped : Space → ℕ → ℕ → Bool
+are_mapped space first n = all_pages (λ q. is_some (map.get space q)) first n
 
 -- The range may be spoken of: it is valid, and each page of it has a cell.
 unfoldable pub valid_range : Flat → ℕ → ℕ → ℕ → Result (Unit {0}) Errno
 valid_range F p a len = do
   check (is_range a len) errno.Invalid
-  check (is_mapped (cells_of F p) (page a) (pages_in len)) errno.NotMapped
+  check (are_mapped (cells_of F p) (page a) (pages_in len)) errno.NotMapped
 
 -- Each cell of the range may have the protection.
-abbrev pub is_allowed : Space → ℕ → ℕ → Prot → Bool
-is_allowed space first n prot = all_pages (λ q. option_map_or (λ c. is_within prot c.max) (map.get space q) true) first n
+abbrev pub may_have : Space → ℕ → ℕ → Prot → Bool
+may_have space first n prot = all_pages (λ q. option_map_or (λ c. is_within prot c.max) (map.get space q) true) first n
 
 -- A Protect is refused where the range may not be spoken of, and Access where some cell may not have the protection. Else it changes the protections of the range.
 abbrev pub protect : Flat → ℕ → ℕ → ℕ → Prot → Effect
 protect F p a len prot = or_refused F (λ _. done_effect (with_space F p (with_prots (cells_of F p) (page a) (pages_in len) prot)))
-    (valid_range F p a len >> check (is_allowed (cells_of F p) (page a) (pages_in len) prot) errno.Access)
+    (valid_range F p a len >> check (may_have (cells_of F p) (page a) (pages_in len) prot) errno.Access)
 
 -- A Sync changes nothing. Its reply says where in the history it began, which flat memory doesn't know: here the number is 0.
 abbrev pub sync : Flat → ℕ → ℕ → ℕ → Effect

@@ -1,4 +1,4 @@
--- The spaces of all processes with one cell changed. Inside: no public clause cites this.
+-- The spaces of all processes with one cell changed. Public clauses cite this.
 use Rattle.std.specs.Prelude.{ℕ, unwrap_or}
 use Rattle.std.specs.Ordering.{nat_cmp}
 use Rattle.std.specs.FinMap as map

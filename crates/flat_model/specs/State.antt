@@ -1,4 +1,4 @@
--- What an access is allowed by. Public clauses cite this.
+-- What an access is allowed by. Inside: no public clause cites this.
 use Rattle.std.specs.Prelude.{Bool}
 use Rattle.vm_types.specs.declared.prot.Prot.{Prot}
 use Rattle.vm_types.specs.Prot.{can_read, can_write}

@@ -8,7 +8,7 @@ ghost use Rattle.flat_model.specs.Flat.{slots_for, private_cells};
 ghost use Rattle.std.specs.Option.{option_map_or};
 ghost use Rattle.vm_types.specs.Prot.{is_within};
 ghost use Rattle.flat_model.specs.Space.{in_range, without_range, with_cells, with_prots, lowest_gap_from, lowest_gap};
-ghost use Rattle.flat_model.specs.Mapping.{is_mapped, is_allowed};
+ghost use Rattle.flat_model.specs.Mapping.{are_mapped, may_have};
 ghost use Rattle.flat_model.specs.Cells.{flat_cell, names, is_zero, without_own, with_index, cell_with_prot};
 
 use std::alloc::{AllocError, Global};
@@ -119,8 +119,7 @@ impl Cells {
     pub fn take_out(&mut self, first: u32, count: u32)
         ensures { self.new ≡ without_range self.old first count }
     {
-        self.cells
-            .retain(|page, _| !is_in_range(first, count, *page));
+        self.cells.retain(|page, _| !in_range(first, count, *page));
     }
 
     /// Puts so many cells at the pages from the first on, of which each shows the page behind the one before.
@@ -157,7 +156,7 @@ impl Cells {
     /// Whether each of so many pages from the first has a cell.
     pub fn are_mapped(&self, first: u32, count: u32) -> bool
         requires { first + count < 2 ^ 32 }
-        ensures { result ≡ is_mapped self.now first count }
+        ensures { result ≡ are_mapped self.now first count }
     {
         for i in 0..count {
             if !self.has(first + i) {
@@ -170,7 +169,7 @@ impl Cells {
     /// Whether each cell at so many pages from the first may have the protection.
     pub fn may_have(&self, first: u32, count: u32, prot: Prot) -> bool
         requires { first + count < 2 ^ 32 }
-        ensures { result ≡ is_allowed self.now first count prot }
+        ensures { result ≡ may_have self.now first count prot }
     {
         for i in 0..count {
             if !self.lets(first + i, prot) {
@@ -227,7 +226,7 @@ fn give(cell: &mut CellState, prot: Prot)
 }
 
 // Whether the page is one of so many from the first.
-fn is_in_range(first: u32, count: u32, page: u32) -> bool
+fn in_range(first: u32, count: u32, page: u32) -> bool
     ensures { result ≡ in_range first count page }
 {
     first <= page && (page as u64) < first as u64 + count as u64

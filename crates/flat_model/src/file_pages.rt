@@ -11,7 +11,7 @@ use std::alloc::{AllocError, Global};
 use vm_types::{Line, line_rest};
 
 /// How many pages a length takes.
-pub(crate) fn page_count(len: u64) -> u64
+pub(crate) fn pages_in(len: u64) -> u64
     ensures count { result ≡ pages_in len }
     ensures few { result ≤ len }
 {
@@ -84,7 +84,7 @@ pub(crate) fn lengthen(
         OnOk result (pages_in_vec pages.new ≡ pages_with_bytes grown len (replicate (end - len) 0)) }
     ensures err { OnErr result (pages_in_vec pages.new ≡ pages_in_vec pages.old) }
 {
-    let missing = page_count(end).saturating_sub(pages.len() as u64);
+    let missing = pages_in(end).saturating_sub(pages.len() as u64);
     let mut more = zero_pages(alloc, missing)?;
     pages.append(&mut more)?;
     clear(pages, len, end.saturating_sub(len).min(tail_of(len)));
@@ -129,7 +129,7 @@ pub(crate) fn pages_from(alloc: Global, bytes: &[u8]) -> Result<Vec<Vec<u8>>, Al
         IfOk result (λ pages. pages_in_vec pages ≡ pages_of_bytes count whole) }
 {
     let mut pages = Vec::new(alloc);
-    for i in 0..page_count(bytes.len() as u64) {
+    for i in 0..pages_in(bytes.len() as u64) {
         pages.push(page_from(alloc, bytes, 4096 * i as usize)?)?;
     }
     Ok(pages)
@@ -144,7 +144,7 @@ fn shorten(pages: &mut Vec<Vec<u8>>, new: u64)
         let tail = replicate (page_size * length kept - new) 0 in
         pages_in_vec pages.new ≡ pages_with_bytes kept new tail }
 {
-    pages.truncate(page_count(new) as usize);
+    pages.truncate(pages_in(new) as usize);
     clear_tail(pages, new);
 }
 

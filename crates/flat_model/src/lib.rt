@@ -40,4 +40,4 @@ pub use laws::{
 pub use mapping_laws::{cleared_tails_law, protects_law, stays_reached_law};
 pub use page_laws::{grown_pages_law, lines_in_pages_law, one_cache_law, shared_store_law};
 pub use step_laws::{births_law, steps_keep_law};
-pub use words::{put_word, word_in};
+pub use words::{word_at, word_put};

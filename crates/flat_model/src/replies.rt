@@ -24,7 +24,7 @@ fn value_of(bytes: &[u8]) -> u32
 }
 
 /// The word of 1, 2 or 4 bytes at an address, of the bytes that there are.
-pub(crate) fn word_of(page: &[u8], addr: u32, size: u32) -> u32
+pub(crate) fn word_at(page: &[u8], addr: u32, size: u32) -> u32
     requires { IsWordSize size }
     ensures { result ≡ word_at page.now addr size }
 {

@@ -198,7 +198,7 @@ impl Spaces {
         ensures { IfOk result (λ number. number ≡ new_number_in self.now) }
     {
         for number in 0..u32::MAX {
-            if !self.names(number) {
+            if !self.is_named_in(number) {
                 return Ok(number);
             }
         }
@@ -206,7 +206,7 @@ impl Spaces {
     }
 
     /// Whether some cell of some process names the zero object. Looks at each cell.
-    pub fn names(&self, zero: u32) -> bool
+    pub fn is_named_in(&self, zero: u32) -> bool
         ensures { result ≡ is_named_in self.now zero }
     {
         any_space_names(&self.spaces, zero)

@@ -48,7 +48,7 @@ pub enum Access {
 }
 
 // Whether a cell with this protection lets the access.
-fn is_allowed(access: Access, prot: Prot) -> bool
+fn is_allowed_by(access: Access, prot: Prot) -> bool
     ensures { result ≡ is_allowed_by access prot }
 {
     match access {
@@ -132,7 +132,7 @@ impl FlatParts {
         let Some(cell) = self.cell(process, addr / 4096) else {
             return Err(Signal::NoMap);
         };
-        if !is_allowed(access, cell.prot) {
+        if !is_allowed_by(access, cell.prot) {
             return Err(Signal::Prot);
         }
         let Some(page) = self.page_shown(cell) else {

@@ -17,7 +17,7 @@ ghost use Rattle.flat_model.specs.FlatState.{with_root, with_process, with_one_m
 use crate::cells::{CellState, Cells, without_own};
 use crate::files::{FileState, set_file_page};
 use crate::pages::{set_zero_page, with_word};
-use crate::replies::word_of;
+use crate::replies::word_at;
 use crate::state::{Access, FlatParts};
 use crate::zeros::keep_named;
 use std::alloc::AllocError;
@@ -100,7 +100,7 @@ impl FlatParts {
         ensures { result ≡ (load self.now process addr size).reply }
     {
         match self.access_target(process, Access::Load, addr, size) {
-            Ok((_, page)) => Reply::Word(word_of(page, addr, size)),
+            Ok((_, page)) => Reply::Word(word_at(page, addr, size)),
             Err(signal) => Reply::Signal(signal),
         }
     }

@@ -7,7 +7,7 @@ ghost use Rattle.flat_model.specs.Flat.{IsFlat};
 ghost use Rattle.flat_model.specs.Cells.{flat_file};
 ghost use Rattle.flat_model.specs.Parts.{writable_file, growth_in, room_for, write_part, truncate};
 
-use crate::file_pages::page_count;
+use crate::file_pages::pages_in;
 use crate::files::FileState;
 use crate::growth::{extents_beside, growth};
 use crate::state::FlatParts;
@@ -72,7 +72,7 @@ impl FlatParts {
             Ok(file) => file,
             Err(errno) => return Ok(Err(errno)),
         };
-        match self.growth(number, file, page_count(end))? {
+        match self.growth(number, file, pages_in(end))? {
             Some(extents) => Ok(Ok(extents)),
             None => Ok(Err(Errno::TooBig)),
         }

@@ -5,7 +5,7 @@ ghost use Rattle.flat_model.specs.Flat.{space_of};
 ghost use Rattle.flat_model.specs.Access.{with_space};
 ghost use Rattle.flat_model.specs.Space.{with_prots};
 ghost use Rattle.flat_model.specs.Words.{page, pages_in};
-ghost use Rattle.flat_model.specs.Mapping.{cells_of, is_mapped, is_allowed, valid_range};
+ghost use Rattle.flat_model.specs.Mapping.{cells_of, are_mapped, may_have, valid_range};
 ghost use Rattle.flat_model.specs.FlatState.{protect_result};
 
 use crate::spaces::Spaces;
@@ -62,7 +62,7 @@ fn are_mapped(spaces: &Spaces, process: u32, first: u32, count: u32) -> bool
     requires alive { IsSome (finite.get spaces.now process) }
     requires pages { first + count < 2 ^ 32 }
     ensures { let cells = unwrap_or (finite.get spaces.now process) finite.empty in
-        result ≡ is_mapped cells first count }
+        result ≡ are_mapped cells first count }
 {
     match spaces.get(process) {
         Some(cells) => cells.are_mapped(first, count),
@@ -75,7 +75,7 @@ fn may_have(spaces: &Spaces, process: u32, first: u32, count: u32, prot: Prot) -
     requires alive { IsSome (finite.get spaces.now process) }
     requires pages { first + count < 2 ^ 32 }
     ensures { let cells = unwrap_or (finite.get spaces.now process) finite.empty in
-        result ≡ is_allowed cells first count prot }
+        result ≡ may_have cells first count prot }
 {
     match spaces.get(process) {
         Some(cells) => cells.may_have(first, count, prot),

@@ -6,7 +6,7 @@ ghost use Rattle.flat_model.specs.Words.{word_at, word_put};
 use vm_types::{word_bytes, word_value};
 
 /// The word of 1, 2 or 4 bytes at an address that is a multiple of its size, in the page that the address lies in.
-pub fn word_in(page: &[u8], addr: u32, size: u32) -> u32
+pub fn word_at(page: &[u8], addr: u32, size: u32) -> u32
     requires size { IsWordSize size }
     requires aligned { addr % size ≡ 0 }
     requires whole { length page.now ≡ 4096 }
@@ -17,7 +17,7 @@ pub fn word_in(page: &[u8], addr: u32, size: u32) -> u32
 }
 
 /// Puts a word of 1, 2 or 4 bytes at an address that is a multiple of its size, into the page that the address lies in.
-pub fn put_word(page: &mut [u8], addr: u32, size: u32, value: u32)
+pub fn word_put(page: &mut [u8], addr: u32, size: u32, value: u32)
     requires size { IsWordSize size }
     requires fits { FitsWord size value }
     requires aligned { addr % size ≡ 0 }

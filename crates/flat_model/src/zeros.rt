@@ -17,7 +17,7 @@ pub(crate) fn keep_named(zeros: &mut BTreeMap<u32, Vec<Vec<u8>>>, spaces: &Space
     ensures { let kept = finite.retain_keys (zeros_in zeros.old) (is_named_in spaces.now) in
         zeros_in zeros.new ≡ kept }
 {
-    zeros.retain(|zero, _| spaces.names(*zero));
+    zeros.retain(|zero, _| spaces.is_named_in(*zero));
 }
 
 /// A page of zeros.
@@ -103,7 +103,7 @@ pub(crate) fn named_slots_left(
 {
     let mut left = slots;
     for (zero, pages) in zeros.iter() {
-        if spaces.names(*zero) {
+        if spaces.is_named_in(*zero) {
             left = less(left, pages.len())?;
         }
     }

@@ -1,17 +1,19 @@
 -- The translations of a frame, dropped or cleared one by one.
 use Rattle.std.proofs.Common.{◌≡◌, ◌≢◌, ℕ, ◌<◌, inl, inr, Bool, true, false, cond, Option, Some, None, List, [], ◌∷◌, refl, sym, ◌∙◌, ap, subst, length, get_or, set, arith, zero, suc}
 use Rattle.std.specs.Prelude.{map, ◌==◌, ◌||◌, ◌&&◌, option_map}
-use Rattle.std.specs.List.{list_any, count_by}
+use Rattle.std.specs.List.{list_any, count_by, IsDistinct}
 use Rattle.std.proofs.Math.Bool.{or-false}
 use Rattle.std.proofs.lemmas.List.{get_or-set_same, get_or-set_other}
 use Rattle.std.proofs.lemmas.List.Sums.{sum_by-set}
 use Rattle.std.proofs.lemmas.Bool.{cases_eq, and_right, eqb-true, eq-eqb, ne_eqb, cases_Bool, or_from}
 use Rattle.hat_layer.specs.declared.translation.Translation.{Translation}
-use Rattle.hat_layer.specs.Chains.{is_among, is_owner, IsLinked}
+use Rattle.hash_chains.specs.Order.{is_among, is_owner, chain_at, first_in, after_in, rest_from, HaveOwners}
+use Rattle.hash_chains.proofs.WalkLaws.{IsOn, walk-start, rest-first, walk-step}
+use Rattle.hash_chains.proofs.OwnerLaws.{owned-on}
 use Rattle.hat_layer.specs.Pool.{frame_of, leads, with_clear_bits, has_bit, drop_frame, change_frame}
 use Rattle.hat_layer.specs.Table.{LeadsToFrame}
-use Rattle.hat_layer.proofs.ChainLemmas.{Walk, step, walk-ends, own-walk, owned}
-use Rattle.hat_layer.proofs.TableLemmas.{map-at, some-within}
+use Rattle.hash_chains.proofs.OwnerLaws.{some-within}
+use Rattle.std.proofs.Math.ListN.{get_or-map}
 
 pub map-fixed : (G : Option Translation → Option Translation) (places : List (Option Translation)) → ((k : ℕ) → G (get_or places k None) ≡ get_or places k None) → map G places ≡ places
 map-fixed G [] h = refl
@@ -110,54 +112,43 @@ module _ (places : List (Option Translation)) (frame : ℕ) (clear : (k : ℕ) �
   clear-has bit off k = unset bit off (get_or places k None) (clear k)
 
 -- a walk over the chain of a frame: what it has passed is clear
-pub record Clears (places : List (Option Translation)) (next : List (Option ℕ)) (frame : ℕ) (at : Option ℕ) : Type 0 where
-  pub walk : Walk next at
-  pub leads : (k : ℕ) → is_among k walk.rest ≡ true → frame_of (get_or places k None) ≡ Some frame
-  pub past : (k : ℕ) → frame_of (get_or places k None) ≡ Some frame → is_among k walk.rest ≡ false → get_or places k None ≡ option_map with_clear_bits (get_or places k None)
+pub record Clears (places : List (Option Translation)) (chain : List ℕ) (frame : ℕ) (at : Option ℕ) : Type 0 where
+  pub on : IsOn chain at
+  pub fits : (k : ℕ) → is_among k chain ≡ is_owner frame (frame_of (get_or places k None))
+  pub past : (k : ℕ) → frame_of (get_or places k None) ≡ Some frame → is_among k (rest_from at chain) ≡ false → get_or places k None ≡ option_map with_clear_bits (get_or places k None)
 
-pub clears-start : (places : List (Option Translation)) (heads next : List (Option ℕ)) (frame : ℕ) (at : Option ℕ) → IsLinked heads next (map frame_of places) → frame < length heads → at ≡ get_or heads frame None → Clears places next frame at
-clears-start places heads next frame at linked lt e =
-    let o = linked.own frame lt in
-    subst (λ (a : Option ℕ). Clears places next frame a) (sym e) (record {
-      walk = own-walk next (map frame_of places) frame (get_or heads frame None) o;
-      leads = λ k h. sym (map-at frame_of refl places k) ∙ owned frame (get_or (map frame_of places) k None) (sym (o.owns k) ∙ h);
-      past = λ k is off. let z : false ≡ true = sym off ∙ o.owns k ∙ ap (is_owner frame) (map-at frame_of refl places k ∙ is) ∙ eq-eqb frame frame refl in cc;
-    })
+pub clears-start : (places : List (Option Translation)) (order : List (List ℕ)) (frame : ℕ) → HaveOwners order (map frame_of places) → Clears places (chain_at order frame) frame (first_in (chain_at order frame))
+clears-start places order frame h = record {
+  on = walk-start (chain_at order frame);
+  fits = λ k. h frame k ∙ ap (is_owner frame) (get_or-map frame_of places k None);
+  past = λ k is off. let z : false ≡ true = sym off ∙ ap (is_among k) (rest-first (chain_at order frame)) ∙ owned-on order (map frame_of places) h frame k (get_or-map frame_of places k None ∙ is) in cc;
+}
 
 -- the translation that the walk has reached
-pub reached : (places : List (Option Translation)) (next : List (Option ℕ)) (frame place : ℕ) (at : Option ℕ) → Clears places next frame at → at ≡ Some place → (t : Translation) × (get_or places place None ≡ Some t) × (t.frame ≡ frame)
-reached places next frame place at c is =
-    let s = step next at (get_or next place None) place c.walk is refl in
-    go (get_or places place None) refl (c.leads place (ap (is_among place) s.is ∙ ap (λ (b : Bool). b || is_among place s.more) (eq-eqb place place refl)))
+pub reached : (places : List (Option Translation)) (chain : List ℕ) (frame place : ℕ) → Clears places chain frame (Some place) → (t : Translation) × (get_or places place None ≡ Some t) × (t.frame ≡ frame)
+reached places chain frame place c = go (get_or places place None) refl (sym (c.fits place) ∙ c.on)
   where
-    go : (o : Option Translation) → get_or places place None ≡ o → frame_of (get_or places place None) ≡ Some frame → (t : Translation) × (get_or places place None ≡ Some t) × (t.frame ≡ frame)
-    go None e h = let z : None ≡ Some frame = sym (ap frame_of e) ∙ h in cc
-    go (Some t) e h = (t, e, let z : Some t.frame ≡ Some frame = sym (ap frame_of e) ∙ h in cc)
+    go : (o : Option Translation) → get_or places place None ≡ o → is_owner frame (frame_of (get_or places place None)) ≡ true → (t : Translation) × (get_or places place None ≡ Some t) × (t.frame ≡ frame)
+    go None e h = let z : false ≡ true = sym (ap (λ (o : Option Translation). is_owner frame (frame_of o)) e) ∙ h in cc
+    go (Some t) e h = (t, e, eqb-true t.frame frame (sym (ap (λ (o : Option Translation). is_owner frame (frame_of o)) e) ∙ h))
 
-pub clears-step : (places : List (Option Translation)) (next : List (Option ℕ)) (frame place : ℕ) (old : Translation) (at after : Option ℕ) → Clears places next frame at → at ≡ Some place → after ≡ get_or next place None → get_or places place None ≡ Some old → old.frame ≡ frame → Clears (set places place (Some (with_clear_bits old))) next frame after
-clears-step places next frame place old at after c is e held of =
-    let s = step next at after place c.walk is e in
+pub clears-step : (places : List (Option Translation)) (chain : List ℕ) (frame place : ℕ) (old : Translation) → Clears places chain frame (Some place) → IsDistinct (λ (x y : ℕ). x == y) chain → get_or places place None ≡ Some old → old.frame ≡ frame → Clears (set places place (Some (with_clear_bits old))) chain frame (after_in place chain)
+clears-step places chain frame place old c d held of =
+    let s = walk-step chain place d c.on in
     record {
-      walk = record { rest = s.more; linked = s.linked; short = s.short };
-      leads = λ k h. elim (cases_eq k place) [
-        | inl q ↦ ap frame_of (here k q) ∙ ap (λ (f : ℕ). Some f) of
-        | inr ne ↦ ap frame_of (there k ne) ∙ c.leads k (ap (is_among k) s.is ∙ ap (λ (b : Bool). (k == place) || b) h ∙ right (k == place))
-      ];
+      on = s.on;
+      fits = λ k. c.fits k ∙ ap (is_owner frame) (elim (cases_eq k place) [
+        | inl q ↦ ap frame_of (ap (λ (k : ℕ). get_or places k None) q ∙ held) ∙ sym (ap frame_of (here k q))
+        | inr ne ↦ sym (ap frame_of (there k ne))
+      ]);
       past = λ k f off. elim (cases_eq k place) [
         | inl q ↦ here k q ∙ sym (ap (option_map with_clear_bits) (here k q))
-        | inr ne ↦ there k ne ∙ c.past k (ap frame_of (sym (there k ne)) ∙ f) (ap (is_among k) s.is ∙ or_from (k == place) (is_among k s.more) (ne_eqb k place ne) off) ∙ ap (option_map with_clear_bits) (sym (there k ne))
+        | inr ne ↦ there k ne ∙ c.past k (ap frame_of (sym (there k ne)) ∙ f) (ap (is_among k) s.is ∙ or_from (k == place) (is_among k (rest_from (after_in place chain) chain)) (ne_eqb k place ne) off) ∙ ap (option_map with_clear_bits) (sym (there k ne))
       ];
     }
   where
-    right : (b : Bool) → (b || true) ≡ true
-    right true = refl
-    right false = refl
-
     here : (k : ℕ) → k ≡ place → get_or (set places place (Some (with_clear_bits old))) k None ≡ Some (with_clear_bits old)
     here k q = subst (λ (k : ℕ). get_or (set places place (Some (with_clear_bits old))) k None ≡ Some (with_clear_bits old)) (sym q) (get_or-set_same places place (Some (with_clear_bits old)) None (some-within places place old held))
 
     there : (k : ℕ) → k ≢ place → get_or (set places place (Some (with_clear_bits old))) k None ≡ get_or places k None
     there k ne = get_or-set_other places place k (Some (with_clear_bits old)) None ne
-
-pub all-clear : (places : List (Option Translation)) (next : List (Option ℕ)) (frame : ℕ) (at : Option ℕ) → Clears places next frame at → at ≡ None → (k : ℕ) → frame_of (get_or places k None) ≡ Some frame → get_or places k None ≡ option_map with_clear_bits (get_or places k None)
-all-clear places next frame at c is k e = c.past k e (ap (is_among k) (walk-ends next at c.walk.rest c.walk.linked is))

@@ -12,7 +12,8 @@ use Rattle.std.proofs.lemmas.Bool.{cases_eq, cases_lt, and_from, eqb-true, eq-eq
 use Rattle.hat_layer.specs.declared.translation.Translation.{Translation}
 use Rattle.hat_layer.specs.Pool.{Pool, IsSingleValued, fresh_translation, holds, is_of, translation_at, dropped_by_load, hand_after}
 use Rattle.hat_layer.specs.Table.{FindsHeld}
-use Rattle.hat_layer.proofs.TableLemmas.{some-within}
+use Rattle.hash_chains.proofs.LinkLemmas.{at-replicate}
+use Rattle.hash_chains.proofs.OwnerLaws.{some-within}
 use Rattle.hat_layer.proofs.FrameLemmas.{map-fixed, map-one}
 use Rattle.hat_layer.specs.Free.{IsSoundHat, TakesPlace, countdown}
 
@@ -60,63 +61,38 @@ full-false (Some t ∷ os) zero lt e = let z : Some t ≡ None = e in cc
 full-false (Some t ∷ os) (suc k) lt e = full-false os k (omega arith) e
 
 module _ (places : List (Option Translation)) (room hand : ℕ) where
+  -- a place gets a translation, and is off the stack
+  hat-filled : (free free' : List ℕ) (hand' place : ℕ) (new : Translation) → IsSoundHat places free room hand → place < length places → hand' < length places → length free' ≤ length free → ((i : ℕ) → i < length free' → get_or free' i 0 ≡ get_or free i 0) → ((i : ℕ) → i < length free' → get_or free i 0 ≡ place → ⊥) → ((k : ℕ) → Contains free k → (k ≡ place → ⊥) → Contains free' k) → IsSoundHat (set places place (Some new)) free' room hand'
+  hat-filled free free' hand' place new h lt in_ shorter same off kept = let n = length-set places place (let x : Option Translation = Some new in x) in record {
+    hand_in = omega arith;
+    few = let a = h.few in omega arith;
+    room_for_all = let a = h.room_for_all in omega arith;
+    within = λ i l. let a = h.within i (omega arith) in let e = same i l in omega arith;
+    empty = λ i l. ap (λ (k : ℕ). get_or (set places place (Some new)) k None) (same i l) ∙ get_or-set_other places place (get_or free i 0) (Some new) None (off i l) ∙ h.empty i (omega arith);
+    all = λ k l e. elim (cases_eq k place) [
+      | inl q ↦ let z : Some new ≡ None = sym (get_or-set_same places place (Some new) None lt) ∙ subst (λ (k : ℕ). get_or (set places place (Some new)) k None ≡ None) q e in cc
+      | inr ne ↦ kept k (h.all k (omega arith) (sym (get_or-set_other places place k (Some new) None ne) ∙ e)) ne
+    ];
+    apart = λ i j l lj q. h.apart i j l (omega arith) (sym (same i (omega arith)) ∙ q ∙ same j lj);
+  }
+
   -- a place that has a translation gets another
   pub hat-some : (free : List ℕ) (place : ℕ) (old new : Translation) → IsSoundHat places free room hand → get_or places place None ≡ Some old → IsSoundHat (set places place (Some new)) free room hand
-  hat-some free place old new h is =
-      let n = length-set places place (let x : Option Translation = Some new in x) in
-      let lt = some-within places place old is in
-      record {
-        hand_in = let a = h.hand_in in omega arith;
-        few = let a = h.few in omega arith;
-        room_for_all = let a = h.room_for_all in omega arith;
-        within = λ i l. let a = h.within i l in omega arith;
-        empty = λ i l. get_or-set_other places place (get_or free i 0) (Some new) None (λ q. let z : None ≡ Some old = sym (h.empty i l) ∙ subst (λ (k : ℕ). get_or places k None ≡ Some old) (sym q) is in cc) ∙ h.empty i l;
-        all = λ k l e. elim (cases_eq k place) [
-          | inl q ↦ let z : Some new ≡ None = sym (get_or-set_same places place (Some new) None lt) ∙ subst (λ (k : ℕ). get_or (set places place (Some new)) k None ≡ None) q e in cc
-          | inr ne ↦ h.all k (omega arith) (sym (get_or-set_other places place k (Some new) None ne) ∙ e)
-        ];
-        apart = h.apart;
-      }
+  hat-some free place old new h is = hat-filled free free hand place new h (some-within places place old is) h.hand_in (omega arith) (λ i l. refl)
+      (λ i l q. let z : None ≡ Some old = sym (h.empty i l) ∙ subst (λ (k : ℕ). get_or places k None ≡ Some old) (sym q) is in cc) (λ k c ne. c)
 
   -- a place off the stack gets a translation
   pub hat-popped : (free : List ℕ) (place : ℕ) (new : Translation) → IsSoundHat places (free ++ place ∷ []) room hand → IsSoundHat (set places place (Some new)) free room hand
   hat-popped free place new h =
-      let n = length-set places place (let x : Option Translation = Some new in x) in
       let m = length-append free (place ∷ []) in
       let last : length free < length (free ++ place ∷ []) = omega arith in
-      let lt : place < length places = subst (λ (k : ℕ). k < length places) (get_or_push free place 0 (length free) refl) (h.within (length free) last) in
-      record {
-        hand_in = let a = h.hand_in in omega arith;
-        few = let a = h.few in omega arith;
-        room_for_all = let a = h.room_for_all in omega arith;
-        within = λ i l. let a = subst (λ (k : ℕ). k < length places) (get_or_append_left free (place ∷ []) 0 i l) (h.within i (omega arith)) in omega arith;
-        empty = λ i l.
-            let e = subst (λ (k : ℕ). get_or places k None ≡ None) (get_or_append_left free (place ∷ []) 0 i l) (h.empty i (omega arith)) in
-            get_or-set_other places place (get_or free i 0) (Some new) None (λ q. h.apart i (length free) l last (get_or_append_left free (place ∷ []) 0 i l ∙ q ∙ sym (get_or_push free place 0 (length free) refl))) ∙ e;
-        all = λ k l e. elim (cases_eq k place) [
-          | inl q ↦ let z : Some new ≡ None = sym (get_or-set_same places place (Some new) None lt) ∙ subst (λ (k : ℕ). get_or (set places place (Some new)) k None ≡ None) q e in cc
-          | inr ne ↦ elim (Contains-push_cases free place k (h.all k (omega arith) (sym (get_or-set_other places place k (Some new) None ne) ∙ e))) [ inl on ↦ on | inr q ↦ absurd (ne (sym q)) ]
-        ];
-        apart = λ i j l lj q. h.apart i j l (omega arith) (get_or_append_left free (place ∷ []) 0 i (omega arith) ∙ q ∙ sym (get_or_append_left free (place ∷ []) 0 j lj));
-      }
+      hat-filled (free ++ place ∷ []) free hand place new h (subst (λ (k : ℕ). k < length places) (get_or_push free place 0 (length free) refl) (h.within (length free) last)) h.hand_in (omega arith) (λ i l. sym (get_or_append_left free (place ∷ []) 0 i l))
+      (λ i l q. h.apart i (length free) l last (q ∙ sym (get_or_push free place 0 (length free) refl)))
+      (λ k c ne. elim (Contains-push_cases free place k c) [ inl on ↦ on | inr q ↦ absurd (ne (sym q)) ])
 
   -- the place at the hand of a full pool gets a translation
   pub hat-turned : (hand' : ℕ) (new : Translation) → IsSoundHat places [] room hand → hand' < length places → IsSoundHat (set places hand (Some new)) [] room hand'
-  hat-turned hand' new h in_ =
-      let n = length-set places hand (let x : Option Translation = Some new in x) in
-      let lt = h.hand_in in
-      record {
-        hand_in = omega arith;
-        few = let a = h.few in omega arith;
-        room_for_all = let a = h.room_for_all in omega arith;
-        within = λ i l. absurd (omega arith);
-        empty = λ i l. absurd (omega arith);
-        all = λ k l e. elim (cases_eq k hand) [
-          | inl q ↦ let z : Some new ≡ None = sym (get_or-set_same places hand (Some new) None lt) ∙ subst (λ (k : ℕ). get_or (set places hand (Some new)) k None ≡ None) q e in cc
-          | inr ne ↦ h.all k (omega arith) (sym (get_or-set_other places hand k (Some new) None ne) ∙ e)
-        ];
-        apart = λ i j l lj. absurd (omega arith);
-      }
+  hat-turned hand' new h in_ = hat-filled [] [] hand' hand new h h.hand_in in_ (omega arith) (λ i l. refl) (λ i l q. absurd (omega arith)) (λ k c ne. c)
 
   -- a place is emptied, and goes onto the stack
   pub hat-pushed : (free : List ℕ) (room' place : ℕ) (old : Translation) → IsSoundHat places free room hand → get_or places place None ≡ Some old → room ≤ room' → IsSoundHat (set places place None) (free ++ place ∷ []) room' hand
@@ -245,11 +221,6 @@ countdown-at zero i lt = absurd (omega arith)
 countdown-at (suc n) zero lt = omega arith
 countdown-at (suc n) (suc i) lt = let a = countdown-at n i (omega arith) in omega arith
 
-empty-at : (n i : ℕ) → get_or (replicate n (let z : Option Translation = None in z)) i None ≡ None
-empty-at zero i = refl
-empty-at (suc n) zero = refl
-empty-at (suc n) (suc i) = empty-at n i
-
 pub hat-new : (pool room : ℕ) → 0 < pool → pool < 2 ^ 32 → pool ≤ room → IsSoundHat (replicate pool None) (countdown pool) room 0
 hat-new pool room some few all =
     let n = length-replicate pool (let z : Option Translation = None in z) in
@@ -259,13 +230,10 @@ hat-new pool room some few all =
       few = omega arith;
       room_for_all = omega arith;
       within = λ i l. let a = countdown-at pool i (omega arith) in omega arith;
-      empty = λ i l. empty-at pool (get_or (countdown pool) i 0);
+      empty = λ i l. at-replicate pool (get_or (countdown pool) i 0) None;
       all = λ k l e. let a = countdown-at pool (pool - (k + 1)) (omega arith) in subst (λ (j : ℕ). Contains (countdown pool) j) (omega arith) (Contains-get_or (countdown pool) (pool - (k + 1)) 0 (omega arith));
       apart = λ i j l lj q. let a = countdown-at pool i (omega arith) in let b = countdown-at pool j (omega arith) in omega arith;
     }
-
-pub places-new : (pool : ℕ) (places : List (Option Translation)) → places ≡ replicate pool None → length places ≡ pool
-places-new pool places e = ap length e ∙ length-replicate pool (let z : Option Translation = None in z)
 
 pub hat-made : (pool room : ℕ) (places : List (Option Translation)) (free : List ℕ) → places ≡ replicate pool None → free ≡ countdown pool → 0 < pool → pool < 2 ^ 32 → pool ≤ room → IsSoundHat places free room 0
 hat-made pool room places free p f some few all =

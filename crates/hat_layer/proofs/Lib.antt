@@ -1,4 +1,3 @@
-pub mod ChainLemmas
 pub mod FrameLemmas
 pub mod HatLemmas
 pub mod MapLaws

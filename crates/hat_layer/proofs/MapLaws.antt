@@ -1,12 +1,12 @@
 -- The map from (space, page) once the places were changed one by one.
-use Rattle.std.proofs.Common.{◌≡◌, ℕ, inl, inr, ◌⊎◌, Bool, true, false, cond, Option, Some, None, List, [], ◌∷◌, refl, sym, ◌∙◌, ap, get_or, arith, zero, suc}
+use Rattle.std.proofs.Common.{◌≡◌, ℕ, inl, inr, ◌⊎◌, ◌↔◌, Bool, true, false, cond, Option, Some, None, List, [], ◌∷◌, refl, sym, ◌∙◌, ap, get_or, arith, zero, suc}
 use Rattle.std.specs.Prelude.{map, option_and_then, option_map, find, ◌==◌}
 use Rattle.std.specs.List.{list_any}
 use Rattle.std.proofs.lemmas.Bool.{cases_Bool, and_parts, and_from, eqb-true, eq-eqb, or_cases, or_right}
 use Rattle.std.proofs.lemmas.List.Folds.{list_any_at}
 use Rattle.hat_layer.specs.declared.translation.Translation.{Translation}
 use Rattle.hat_layer.specs.Pool.{holds, is_of, translation_at, leads, IsSingleValued, change_page, drop_page, change_lead, drop_lead, change_at, drop_at, change_frame, drop_frame, has_bit, lets_access, after_access, IsNoted, SomeHas}
-use Rattle.hat_layer.proofs.TableLemmas.{some-within}
+use Rattle.hash_chains.proofs.OwnerLaws.{some-within}
 use Rattle.hat_layer.proofs.HatLemmas.{at-held}
 
 Cell : Type 0
@@ -92,7 +92,7 @@ found-at (o ∷ os) s p t e = elim (cases_Bool (holds s p o)) [
   | inr h ↦ let r = found-at os s p t (sym (at-next o os s p h) ∙ e) in (suc r.0, r.1)
 ]
 
-pub some-has : (bit : Translation → Bool) (places : List (Option Translation)) (frame : ℕ) → IsSingleValued places → list_any (has_bit bit frame) places ≡ true → SomeHas bit places frame
+some-has : (bit : Translation → Bool) (places : List (Option Translation)) (frame : ℕ) → IsSingleValued places → list_any (has_bit bit frame) places ≡ true → SomeHas bit places frame
 some-has bit places frame d h = go (get_or places k None) refl (found-any bit places frame h).1
   where
     k : ℕ
@@ -113,8 +113,11 @@ some-has bit places frame d h = go (get_or places k None) refl (found-any bit pl
           set = ab.1;
         }
 
-pub has-some : (bit : Translation → Bool) (places : List (Option Translation)) (frame : ℕ) → SomeHas bit places frame → list_any (has_bit bit frame) places ≡ true
+has-some : (bit : Translation → Bool) (places : List (Option Translation)) (frame : ℕ) → SomeHas bit places frame → list_any (has_bit bit frame) places ≡ true
 has-some bit places frame h =
     let k = found-at places h.space h.page h.entry h.there in
     list_any_at (has_bit bit frame) places k.0 None (some-within places k.0 h.entry k.1)
     (ap (has_bit bit frame) k.1 ∙ and_from (h.entry.frame == frame) (bit h.entry) (eq-eqb h.entry.frame frame h.leads_there) h.set)
+
+pub bit-tells : (bit : Translation → Bool) (places : List (Option Translation)) (frame : ℕ) (b : Bool) → IsSingleValued places → b ≡ list_any (has_bit bit frame) places → (b ≡ true) ↔ SomeHas bit places frame
+bit-tells bit places frame b d e = (λ h. some-has bit places frame d (sym e ∙ h), λ h. e ∙ has-some bit places frame h)

@@ -1,4 +1,3 @@
-pub mod Chains
 pub mod Pool
 pub mod Table
 pub mod Free

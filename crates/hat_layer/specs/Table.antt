@@ -1,7 +1,8 @@
 -- The pool with its two indexes. Inside: no public clause cites this.
-use Rattle.std.specs.Prelude.{◌≡◌, ◌≢◌, ℕ, ◌+◌, ◌*◌, ◌/◌, ◌%◌, ◌^◌, ◌<◌, true, false, List, Option, Some, None, map, length, slice_index_or}
+use Rattle.std.specs.Prelude.{◌≡◌, ◌≢◌, ℕ, ◌<◌, true, false, List, Option, Some, None, map, length, slice_index_or}
 use Rattle.hat_layer.specs.declared.translation.Translation.{Translation}
-use Rattle.hat_layer.specs.Chains.{IsLinked}
+use Rattle.hash_chains.specs.Order.{ChainOrder, HaveOwners}
+use Rattle.hash_chains.specs.Slots.{pair_slot}
 use Rattle.hat_layer.specs.Pool.{holds, is_of, frame_of, IsSingleValued}
 
 -- the places, and the number of frames
@@ -9,13 +10,9 @@ pub record Rows : Type 0 where
   pub places : List (Option Translation)
   pub frames : ℕ
 
--- the slot of a page: space and page as one number, times the golden ratio's fraction; its high half as a share of the slots
-unfoldable pub page_slot : ℕ → ℕ → ℕ → ℕ
-page_slot slots space page = (space * 2 ^ 32 + page) * 0x9E37_79B9_7F4A_7C15 % 2 ^ 64 / 2 ^ 32 * slots / 2 ^ 32
-
 abbrev pub slot_at : ℕ → Option Translation → Option ℕ
 slot_at slots None = None
-slot_at slots (Some t) = Some (page_slot slots t.space t.page)
+slot_at slots (Some t) = Some (pair_slot slots t.space t.page)
 
 -- a place that leads to the frame, and its translation
 abbrev pub LeadsToFrame : List (Option Translation) → ℕ → Option (ℕ × Translation) → Type 0
@@ -40,9 +37,12 @@ pub record SameName (old new : Translation) : Type 0 where
   pub page : new.page ≡ old.page
   pub frame : new.frame ≡ old.frame
 
--- the indexes fit the places: one chain for each slot, one for each frame
-pub record IsSoundTable (places : List (Option Translation)) (slots after_in_slot heads after_in_frame : List (Option ℕ)) : Type 0 where
-  pub some : 0 < length slots
-  pub pages : IsLinked slots after_in_slot (map (slot_at (length slots)) places)
-  pub frames : IsLinked heads after_in_frame (map frame_of places)
+-- the indexes fit the places: a chain for each slot, one for each frame
+pub record IsSoundTable (places : List (Option Translation)) (slots : ℕ) (by_page by_frame : ChainOrder) : Type 0 where
+  pub some : 0 < slots
+  pub slots_are : length by_page.order ≡ slots
+  pub page_size : by_page.size ≡ length places
+  pub frame_size : by_frame.size ≡ length places
+  pub pages : HaveOwners by_page.order (map (slot_at slots) places)
+  pub frames : HaveOwners by_frame.order (map frame_of places)
   pub distinct : IsSingleValued places

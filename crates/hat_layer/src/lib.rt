@@ -1,7 +1,6 @@
 //! The translations of all address spaces, in a pool of a fixed size.
 #![tactic(auto)]
 
-mod chains;
 mod hat;
 mod table;
 #[cfg(test)]

@@ -1,16 +1,13 @@
 //! A pool of translations that are found by page and by frame.
 ghost use Rattle.std.specs.Prelude.{◌≡◌, ℕ, ◌<◌, ◌≤◌, length, replicate, true, false, Option, Some, None, IfOk, slice_set, slice_index_or, option_map, map, is_some};
 ghost use Rattle.hat_layer.specs.Pool.{holds, frame_of, IsSingleValued, bits_of, change_frame, with_clear_bits};
-ghost use Rattle.hat_layer.specs.Chains.{IsLinked};
-ghost use Rattle.hat_layer.specs.Table.{page_slot, FindsPlace, FindsHeld, SameName, LeadsToFrame};
+ghost use Rattle.hash_chains.specs.Order.{HaveOwners};
+ghost use Rattle.hat_layer.specs.Table.{FindsPlace, FindsHeld, SameName, LeadsToFrame};
 
-use crate::chains::Chains;
 use crate::translation::Translation;
+use hash_chains::{Chains, slot_of_pair};
 use std::alloc::{AllocError, Global};
 use std::marker::Model;
-
-/// The fraction of the golden ratio in 64 bits: its multiples by consecutive numbers lie far apart.
-const GOLDEN_FRACTION: u64 = 0x9E37_79B9_7F4A_7C15;
 
 /// Places with translations, each on the chain of its page's slot and on that of its frame.
 #[derive(Drop)]
@@ -22,26 +19,14 @@ pub struct Table {
 }
 
 impl Model for Table {
-    ghost use Rattle.std.specs.Prelude.{◌≡◌, length};
+    ghost use Rattle.std.specs.Prelude.{length};
     ghost use Rattle.hat_layer.specs.Table.{Rows, IsSoundTable};
 
     ghost Value = { Rows };
 
-    ghost view = { λ t. record { places = t.cells.items; frames = length t.by_frame.heads.items } };
+    ghost view = { λ t. record { places = t.cells.items; frames = length t.by_frame.order } };
 
-    ghost invariant = { λ t. IsSoundTable t.cells.items t.by_page.heads.items t.by_page.next.items
-        t.by_frame.heads.items t.by_frame.next.items × (length t.by_page.heads.items ≡ t.slots) };
-}
-
-// The slot of a page: consecutive pages lie far apart, and so do equal pages of several spaces.
-fn slot_in(space: u32, page: u32, slots: u32) -> u32
-    requires { 0 < slots }
-    ensures slot { result ≡ page_slot slots space page }
-    ensures within { result < slots }
-{
-    let number = space as u64 * 0x1_0000_0000 + page as u64;
-    let mixed = number.wrapping_mul(GOLDEN_FRACTION) >> 32;
-    ((mixed * slots as u64) >> 32) as u32
+    ghost invariant = { λ t. IsSoundTable t.cells.items t.slots t.by_page t.by_frame };
 }
 
 // A translation with clear bits.
@@ -85,7 +70,7 @@ impl Table {
         ensures found { FindsPlace self.now.places space page result }
         ensures distinct { IsSingleValued self.now.places }
     {
-        let slot = slot_in(space, page, self.slots);
+        let slot = slot_of_pair(space, page, self.slots);
         let mut at = self.by_page.first(slot);
         while let Some(place) = at {
             if holds(self.cells[place as usize], space, page) {
@@ -149,7 +134,7 @@ impl Table {
     {
         self.cells[place as usize] = Some(new);
         self.by_page
-            .link(place, slot_in(new.space, new.page, self.slots));
+            .link(place, slot_of_pair(new.space, new.page, self.slots));
         self.by_frame.link(place, new.frame);
     }
 
@@ -162,7 +147,7 @@ impl Table {
     {
         self.cells[place as usize] = None;
         self.by_page
-            .unlink(place, slot_in(old.space, old.page, self.slots));
+            .unlink(place, slot_of_pair(old.space, old.page, self.slots));
         self.by_frame.unlink(place, old.frame);
     }
 
@@ -206,9 +191,8 @@ fn held_at(cells: &[Option<Translation>], place: u32) -> Translation
 
 // Clears the bits of the translations of a frame one by one.
 fn clear_all(cells: &mut Vec<Option<Translation>>, by_frame: &Chains, frame: u32) -> (bool, bool)
-    requires linked { IsLinked by_frame.now.heads.items by_frame.now.next.items
-        (map frame_of cells.old.items) }
-    requires frame { frame < length by_frame.now.heads.items }
+    requires owners { HaveOwners by_frame.now.order (map frame_of cells.old.items) }
+    requires frame { frame < length by_frame.now.order }
     ensures bits { result ≡ bits_of frame cells.old.items }
     ensures places { cells.new.items ≡ change_frame frame with_clear_bits cells.old.items }
 {

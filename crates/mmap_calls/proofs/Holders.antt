@@ -2,7 +2,7 @@
 use Rattle.std.proofs.Common.{◌≡◌, ◌≢◌, ◌⊎◌, not, ℕ, ◌+◌, ◌-◌, ◌<◌, ◌≤◌, Bool, true, false, cond, List, [], ◌∷◌, length, Option, Some, None, refl, sym, ap, ◌∙◌, inl, inr, arith}
 use Rattle.std.specs.Prelude.{option_and_then, nat_le, nat_lt, sum_by, All}
 use Rattle.std.specs.FinMap as finite
-use Rattle.std.proofs.lemmas.Bool.{cases_Bool, cases_eq, cases_lt, eq-eqb, and_from, and_parts, leb-true, le-leb, lt-leb, le-ltb, and_left, and_right}
+use Rattle.std.proofs.lemmas.Bool.{cases_Bool, cases_eq, cases_lt, eq-eqb, and_from, and_parts, leb-true, le-leb, lt-leb, le-ltb, and_left, and_right, not-true}
 use Rattle.std.proofs.lemmas.List.Elements.{All-head, All-tail}
 use Rattle.std.proofs.lemmas.List.Sums.{sum_by-cons}
 use Rattle.vm_types.specs.declared.call.Object.{Object}
@@ -225,15 +225,11 @@ module _ (m : Memory) (fits : MemoryFits m) (p : ℕ) (parts : List (Part Segmen
   pub outside-none : (IsShownOutside m.spaces p first n z number → ⊥) → shown_within parts first (first + n) z ≡ holders_of m.world.maps number
   outside-none none =
       let mine = none-beside z number (lies_within first (first + n)) (λ k. not (in_range first n k)) (miss-range first n) 1 parts (fits.segments.ordered p parts here) (all-fit p parts here)
-      (λ k x at shows out. none (record { process = p; page = k; spot = x; here = ap (option_and_then (λ (ps : List (Part Segment)). piece_at ps k)) here ∙ at; shows = shows; outside = λ same. turned (in_range first n k) out })) in
+      (λ k x at shows out. none (record { process = p; page = k; spot = x; here = ap (option_and_then (λ (ps : List (Part Segment)). piece_at ps k)) here ∙ at; shows = shows; outside = λ same. not-true (in_range first n k) out })) in
       let others = none-in-all (shown_had number) (finite.remove m.spaces p) (λ q ps there. other q ps there (cases_eq q p)) in
       let c = counted in
       omega (arith, mine, others, c)
     where
-      turned : (b : Bool) → not b ≡ true → b ≡ false
-      turned true e = absurd (let k : false ≡ true = e in cc)
-      turned false e = refl
-
       other : (q : ℕ) (ps : List (Part Segment)) → finite.get (finite.remove m.spaces p) q ≡ Some ps → (q ≡ p) ⊎ (q ≢ p) → sum_by (shown_had number) ps ≡ 0
       other q ps there (inl same) = absurd (let k : None ≡ Some ps = sym (get-remove_here m.spaces p) ∙ ap (finite.get (finite.remove m.spaces p)) (sym same) ∙ there in cc)
       other q ps there (inr apart) =

@@ -52,6 +52,7 @@ use Rattle.vm_world.proofs.Unnamed.{cells-after-pages, object-after-pages}
 use Rattle.seg_ops.proofs.Composed.{keeps-same}
 use Rattle.seg_vn.specs.Clears.{SpaceFits, ChangesSpace, GivesBack}
 use Rattle.seg_vn.specs.Serves.{IsPlainReply}
+use Rattle.seg_vn.proofs.ClearedSpaces.{cut-map}
 use Rattle.mmap_calls.specs.declared.maps.Anons.{Anons}
 use Rattle.mmap_calls.specs.declared.refusals.MapRequest.{MapRequest}
 use Rattle.mmap_calls.specs.Looks.{kind_and_object}
@@ -59,7 +60,7 @@ use Rattle.mmap_calls.specs.Refusals.{AnswersMap, IsMapRequest, IsMapRefusal, is
 use Rattle.mmap_calls.specs.Rooms.{AreMade, HasRoomAt, map_of_object}
 use Rattle.mmap_calls.proofs.CutPlaces.{same-space}
 use Rattle.mmap_calls.proofs.MapResults.{most-seen, passed}
-use Rattle.mmap_calls.proofs.RoomAfter.{HoldsFor, IsCleared, ranged, holds-none, holds-object, room-after}
+use Rattle.mmap_calls.proofs.RoomAfter.{HoldsFor, IsCleared, holds-none, holds-object, room-after}
 
 -- one change after another, said by a function that gives the same once the first is done
 pub changes-as : (p : ℕ) (u v w : Memory) (first second both : Flat → Flat) → ChangesSegments p u v first → ChangesSegments p v w second
@@ -300,7 +301,7 @@ module _ (m : Memory) (p : ℕ) (parts cut left : List (Part Segment)) (zeros th
   cleared-if s S fit is = record {
     fits = fit;
     spaces = is;
-    looks = λ k. ap (option_map kind_and_object) (pages k) ∙ ranged kind_and_object (in_range first n k) (piece_at cut k) ∙ ap (cond (in_range first n k) None) (looks k);
+    looks = λ k. ap (option_map kind_and_object) (pages k) ∙ cut-map kind_and_object (in_range first n k) (piece_at cut k) ∙ ap (cond (in_range first n k) None) (looks k);
     lengths = λ z k is there. gives.lengths k there ∙ ap (λ (ps : List (Option ℕ)). length ps) (held-places w.maps held k (listed-there z k is)).1 ∙ lengths z k is;
   }
 

@@ -29,6 +29,7 @@ use Rattle.vm_world.proofs.PartSums.{all_parts, sum-insert}
 use Rattle.vm_world.proofs.Reserves.{private-parts, total-map_with}
 use Rattle.vm_world.proofs.ShownZeros.{IsShown, fits-shown, shown-by}
 use Rattle.seg_vn.specs.Clears.{SpaceFits, slots_of_range}
+use Rattle.seg_vn.proofs.ClearedSpaces.{cut-map}
 use Rattle.mmap_calls.specs.declared.refusals.MapRequest.{MapRequest}
 use Rattle.mmap_calls.specs.GivenUp.{is_zero_object, given_up, pages_given, shown_within}
 use Rattle.mmap_calls.specs.Looks.{kind_and_object}
@@ -96,10 +97,6 @@ looked-slots : (held : ℕ → ℕ → Option Page) (o : Option Spot) → option
 looked-slots held None = refl
 looked-slots held (Some x) = refl
 
-pub ranged : {X Y : Type 0} (f : X → Y) (b : Bool) (o : Option X) → option_map f (cond b None o) ≡ cond b None (option_map f o)
-ranged f true o = refl
-ranged f false o = refl
-
 module _ (m n : Memory) (zeros : List (Option ℕ)) (o : Object) (S : Spaces) (p : ℕ) (parts left : List (Part Segment)) (first pages : ℕ) (fits : SpaceFits m.world zeros m.spaces p parts) (holds : HoldsFor m zeros o p parts S) (cleared : IsCleared m n zeros S p parts left first pages) where
   left-here : finite.get n.spaces p ≡ Some left
   left-here = ap (λ (s : Spaces). finite.get s p) cleared.spaces ∙ get-insert_here S p left
@@ -120,8 +117,8 @@ module _ (m n : Memory) (zeros : List (Option ℕ)) (o : Object) (S : Spaces) (p
       alike : (held : ℕ → ℕ → Option Page) → map_with slots_for (space_with held left) ≡ map_with slots_for (without_range (space_with held parts) first pages)
       alike held = finite.same_map nat_cmp_total finite.nat_cmp-IsAntisymmetric _ _ (λ q.
           get-map_with slots_for (space_with held left) q ∙ ap (option_map slots_for) (get-space_with held left q) ∙ looked-slots held (piece_at left q) ∙ ap (option_map slots_of) (cleared.looks q)
-          ∙ ranged slots_of (in_range first pages q) (option_map kind_and_object (piece_at parts q)) ∙ ap (λ (x : Option ℕ). cond (in_range first pages q) None x) (sym (looked-slots held (piece_at parts q)) ∙ ap (option_map slots_for) (sym (get-space_with held parts q)))
-          ∙ sym (ranged slots_for (in_range first pages q) (finite.get (space_with held parts) q)) ∙ ap (option_map slots_for) (sym (get-without_range (space_with held parts) first pages q)) ∙ sym (get-map_with slots_for (without_range (space_with held parts) first pages) q))
+          ∙ cut-map slots_of (in_range first pages q) (option_map kind_and_object (piece_at parts q)) ∙ ap (λ (x : Option ℕ). cond (in_range first pages q) None x) (sym (looked-slots held (piece_at parts q)) ∙ ap (option_map slots_for) (sym (get-space_with held parts q)))
+          ∙ sym (cut-map slots_for (in_range first pages q) (finite.get (space_with held parts) q)) ∙ ap (option_map slots_for) (sym (get-without_range (space_with held parts) first pages q)) ∙ sym (get-map_with slots_for (without_range (space_with held parts) first pages) q))
 
   -- ZERO OBJECTS: each that is left is the one that is mapped, or is shown outside of the range
   abbrev Stays : ℕ → ℕ → Type 0

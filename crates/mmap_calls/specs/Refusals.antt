@@ -91,6 +91,7 @@ abbrev pub reserved_after : World → List (Option ℕ) → List (Part Segment) 
 reserved_after w zeros parts m =
     w.anon.reserved - slots_of_range parts (page m.addr) (pages_in m.length) - given_up w.maps zeros parts (page m.addr) (page m.addr + pages_in m.length) m.object (length zeros) + slots_for_pages m.kind m.object (pages_in m.length)
 
+-- The refusal that is due to a Map, told from pieces and counts: the first whose test fails, in this order.
 abbrev pub refusal_of : World → List (Option ℕ) → List (Part Segment) → MapRequest → Option Errno
 refusal_of w zeros parts m =
     if not (is_valid (map_request m)) then Some errno.Invalid

@@ -3,7 +3,8 @@ use Rattle.std.proofs.Common.{◌≡◌, ℕ, ◌+◌, ◌-◌, ◌*◌, ◌%◌
 use Rattle.std.proofs.Math.Nat.{mod-eq_of_lt, mod-eq-sub-mod}
 use Rattle.std.proofs.lemmas.Bool.{cases_lt}
 use Rattle.page_clock.specs.Seen.{ClockSeen}
-use Rattle.page_clock.specs.Clock.{next_clock, fresh_clock, clock_after}
+use Rattle.page_clock.specs.Clock.{next_clock, next_pick, fresh_clock, clock_after}
+use Rattle.page_clock.specs.declared.Pick.TheVariants.{Front, Back}
 
 -- after an even number of steps the front hand is next
 pub after-even : (F D m : ℕ) → m < F → clock_after (2 * m) (fresh_clock F D) ≡ record { frames = F; distance = D; front = m; back_next = false }
@@ -22,13 +23,19 @@ after-odd F D m lt =
     ap (λ (k : ℕ). clock_after k (fresh_clock F D)) one ∙ ap next_clock (after-even F D m lt)
 
 -- a number is even or odd
-pub even-or-odd : (n : ℕ) → (m : ℕ) × ((n ≡ 2 * m) ⊎ (n ≡ 2 * m + 1))
+even-or-odd : (n : ℕ) → (m : ℕ) × ((n ≡ 2 * m) ⊎ (n ≡ 2 * m + 1))
 even-or-odd zero = (0, inl refl)
-even-or-odd (suc n) =
+even-or-odd (suc n) = let half = even-or-odd n in elim half.1 [ inl e ↦ (half.0, inr (omega arith)) | inr e ↦ (half.0 + 1, inl (omega arith)) ]
+
+-- the pick of each step of the first round
+pub first-round : (F D n : ℕ) → n < 2 * F → (m : ℕ) × (m < F)
+    × (((n ≡ 2 * m) × (next_pick (clock_after n (fresh_clock F D)) ≡ Front m)) ⊎ ((n ≡ 2 * m + 1) × (next_pick (clock_after n (fresh_clock F D)) ≡ Back ((m + F - D) % F))))
+first-round F D n within =
     let half = even-or-odd n in
+    let pick = λ (k : ℕ). next_pick (clock_after k (fresh_clock F D)) in
     elim half.1 [
-      | inl e ↦ (half.0, inr (omega arith))
-      | inr e ↦ (half.0 + 1, inl (omega arith))
+      | inl e ↦ let lt : half.0 < F = omega arith in (half.0, lt, inl (e, ap pick e ∙ ap next_pick (after-even F D half.0 lt)))
+      | inr e ↦ let lt : half.0 < F = omega arith in (half.0, lt, inr (e, ap pick e ∙ ap next_pick (after-odd F D half.0 lt)))
     ]
 
 -- where the back hand is, for a front hand at m

@@ -1,6 +1,2 @@
-pub mod InsertLemmas
+pub mod IndexLemmas
 pub mod NameLaws
-pub mod NewLemmas
-pub mod RemoveLemmas
-pub mod WalkLemmas
-pub mod Walks

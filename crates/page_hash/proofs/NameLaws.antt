@@ -5,9 +5,10 @@ use Rattle.std.specs.Prelude.{IfSome}
 use Rattle.std.proofs.lemmas.Grind.{common_steps}
 use Rattle.std.proofs.lemmas.List.{get_or-set_same, get_or-set_other}
 use Rattle.std.proofs.lemmas.Bool.{cases_eq}
+use Rattle.hash_chains.proofs.OwnerLaws.{some-within}
 use Rattle.page_hash.specs.declared.PageName.{PageName}
 use Rattle.page_hash.specs.Names.{is_name, find, name_at, AreDistinct}
-use Rattle.page_hash.specs.Chains.{Finds}
+use Rattle.page_hash.specs.Index.{Finds}
 
 chosen : {X : Type 0} (b : Bool) (x y z : X) → cond b x y ≡ z → ((b ≡ true) × (x ≡ z)) ⊎ ((b ≡ false) × (y ≡ z))
 chosen true x y z h = inl (refl, h)
@@ -131,17 +132,12 @@ find-entered_other names n f m lt d absent empty ne =
     (λ k h. at_changed names f (Some n) k m lt (λ e. let z : n ≡ m = cc in ne (sym z)) h)
 
 -- a frame that held a name is emptied
-held_within : (names : List (Option PageName)) (f : ℕ) (n : PageName) → name_at names f ≡ Some n → f < length names
-held_within [] f n h = cc
-held_within (x ∷ xs) zero n h = omega arith
-held_within (x ∷ xs) (suc f) n h = let r = held_within xs f n h in omega arith
-
 pub emptied-distinct : (names : List (Option PageName)) (f : ℕ) → f < length names → AreDistinct names → AreDistinct (set names f None)
 emptied-distinct names f lt d i j m a b = d i j m (at_changed names f None i m lt (λ e. cc) a) (at_changed names f None j m lt (λ e. cc) b)
 
 pub find-emptied : (names : List (Option PageName)) (n : PageName) (f : ℕ) → AreDistinct names → name_at names f ≡ Some n → find (set names f None) n ≡ None
 find-emptied names n f d h =
-    let lt : f < length names = held_within names f n h in
+    let lt : f < length names = some-within names f n h in
     find-absent (set names f None) n (λ k a.
     let old : name_at names k ≡ Some n = at_changed names f None k n lt (λ e. cc) a in
     let q : k ≡ f = d k f n old h in
@@ -151,7 +147,7 @@ find-emptied names n f d h =
 
 pub find-emptied_other : (names : List (Option PageName)) (n : PageName) (f : ℕ) (m : PageName) → AreDistinct names → name_at names f ≡ Some n → (m ≡ n → ⊥) → find (set names f None) m ≡ find names m
 find-emptied_other names n f m d h ne =
-    let lt : f < length names = held_within names f n h in
+    let lt : f < length names = some-within names f n h in
     find-same names (set names f None) m (emptied-distinct names f lt d)
     (λ k e. at_kept names f None k m (λ a. let z : Some n ≡ Some m = sym h ∙ a in let y : n ≡ m = cc in ne (sym y)) e)
     (λ k e. at_changed names f None k m lt (λ a. cc) e)

@@ -1,3 +1,2 @@
-pub mod Chains
+pub mod Index
 pub mod Names
-pub mod Slots

@@ -4,14 +4,14 @@
 //! name. Each call but `new` takes constant expected time and no memory.
 #![tactic(auto)]
 
-mod chains;
 #[cfg(test)]
 mod tests;
 
 ghost use Rattle.std.specs.Prelude.{◌≡◌, ◌≢◌, ℕ, ◌+◌, ◌<◌, ◌≤◌, ◌↔◌, List, length, replicate, Option, Some, None, IfOk, IfSome, slice_set};
-ghost use Rattle.page_hash.specs.Names.{name_at, find, without_name, AreDistinct};
+ghost use Rattle.page_hash.specs.Names.{name_at, is_name, find, without_name, AreDistinct};
+ghost use Rattle.page_hash.specs.Index.{Finds};
 
-use chains::Chains;
+use hash_chains::{Chains, slot_of_pair};
 use std::alloc::{AllocError, Global};
 use std::marker::Model;
 
@@ -28,7 +28,9 @@ pub struct PageName {
 /// The names that frames hold, by frame.
 #[derive(Drop)]
 pub struct PageHash {
+    names: Vec<Option<PageName>>,
     chains: Chains,
+    slots: u32,
 }
 
 impl Model for PageHash {
@@ -37,11 +39,20 @@ impl Model for PageHash {
 
     ghost Value = { List (Option PageName) };
 
-    ghost use Rattle.page_hash.specs.Chains.{IsSoundPageHash};
+    ghost use Rattle.page_hash.specs.Index.{IsSoundPageHash};
 
-    ghost view = { λ h. h.chains.names.items };
+    ghost view = { λ h. h.names.items };
 
-    ghost invariant = { λ h. IsSoundPageHash h.chains.heads.items h.chains.next.items h.chains.names.items };
+    ghost invariant = { λ h. IsSoundPageHash h.names.items h.slots h.chains };
+}
+
+fn is_name(held: Option<PageName>, name: PageName) -> bool
+    ensures { result ≡ is_name held name }
+{
+    match held {
+        Some(held) => held.object == name.object && held.page == name.page,
+        None => false,
+    }
 }
 
 impl PageHash {
@@ -50,8 +61,11 @@ impl PageHash {
         ensures empty { IfOk result (λ hash. hash ≡ replicate frames None) }
         ensures one_to_one { IfOk result AreDistinct }
     {
+        let slots = if frames == 0 { 1 } else { frames };
         Ok(PageHash {
-            chains: Chains::new(alloc, frames)?,
+            names: vec![in alloc; None; frames as usize]?,
+            chains: Chains::new(alloc, slots, frames)?,
+            slots,
         })
     }
 
@@ -61,7 +75,23 @@ impl PageHash {
         ensures holds { (frame : ℕ) → (result ≡ Some frame) ↔ (name_at self.now frame ≡ Some name) }
         ensures one_to_one { AreDistinct self.now }
     {
-        self.chains.find(name)
+        self.holder(name)
+    }
+
+    // The frame that holds a name, in constant expected time.
+    fn holder(&self, name: PageName) -> Option<u32>
+        ensures found { Finds self.now name result }
+        ensures one_to_one { AreDistinct self.now }
+    {
+        let slot = slot_of_pair(name.object, name.page, self.slots);
+        let mut at = self.chains.first(slot);
+        while let Some(frame) = at {
+            if is_name(self.names[frame as usize], name) {
+                return Some(frame);
+            }
+            at = self.chains.after(frame);
+        }
+        None
     }
 
     /// The name that a frame holds, if it holds one.
@@ -71,7 +101,8 @@ impl PageHash {
         ensures leads_here { IfSome result (λ name. find self.now name ≡ Some frame) }
         ensures one_to_one { AreDistinct self.now }
     {
-        self.chains.names[frame as usize]
+        let place = frame as usize;
+        self.names[place]
     }
 
     /// Gives a name that no frame holds to a frame that holds none.
@@ -86,7 +117,9 @@ impl PageHash {
             ≡ find self.old other }
         ensures one_to_one { AreDistinct self.new }
     {
-        self.chains.insert(name, frame);
+        self.names[frame as usize] = Some(name);
+        self.chains
+            .link(frame, slot_of_pair(name.object, name.page, self.slots));
     }
 
     /// Takes a name from the frame that holds it, and gives that frame.
@@ -98,8 +131,10 @@ impl PageHash {
             ≡ find self.old other }
         ensures one_to_one { AreDistinct self.new }
     {
-        let frame = self.chains.find(name)?;
-        self.chains.take_out(name, frame);
+        let frame = self.holder(name)?;
+        self.names[frame as usize] = None;
+        self.chains
+            .unlink(frame, slot_of_pair(name.object, name.page, self.slots));
         Some(frame)
     }
 }

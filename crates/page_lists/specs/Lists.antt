@@ -1,6 +1,6 @@
 -- Two queues as the free list and the cache list. Inside: no public clause cites this.
-use Rattle.std.specs.Prelude.{◌≡◌, ℕ}
-use Rattle.page_lists.specs.ListsSeen.{ListsSeen, Has}
+use Rattle.std.specs.Prelude.{◌≡◌}
+use Rattle.page_lists.specs.ListsSeen.{ListsSeen, AreApart}
 use Rattle.page_lists.specs.Ring.{QueueSeen, IsQueue}
 
 abbrev pub lists_of : QueueSeen → QueueSeen → ListsSeen
@@ -11,4 +11,4 @@ pub record AreSoundLists (free_queue cached_queue : QueueSeen) : Type 0 where
   pub free : IsQueue free_queue
   pub cached : IsQueue cached_queue
   pub frames : cached_queue.frames ≡ free_queue.frames
-  pub one_list : (frame : ℕ) → Has free_queue.order frame → ¬ Has cached_queue.order frame
+  pub apart : AreApart (lists_of free_queue cached_queue)

@@ -1,5 +1,5 @@
 -- The free list and the cache list of so many frames. Public clauses cite this.
-use Rattle.std.specs.Prelude.{◌≡◌, ◌<◌, ◌==◌, ◌⊎◌, ℕ, List, [], ◌∷◌, if◌then◌else◌, Option, Some, None}
+use Rattle.std.specs.Prelude.{◌<◌, ◌==◌, ◌⊎◌, ℕ, List, [], ◌∷◌, if◌then◌else◌, Option, Some, None, Contains}
 
 -- frames on each list, first to last
 pub record ListsSeen : Type 0 where
@@ -7,15 +7,10 @@ pub record ListsSeen : Type 0 where
   pub free : List ℕ
   pub cached : List ℕ
 
--- a list has a frame
-abbrev pub Has : List ℕ → ℕ → Type 0
-Has [] frame = ⊥
-Has (x ∷ xs) frame = (x ≡ frame) ⊎ Has xs frame
-
 -- a list has no frame twice
 abbrev pub IsOnce : List ℕ → Type 0
 IsOnce [] = Unit {0}
-IsOnce (x ∷ xs) = (¬ Has xs x) × IsOnce xs
+IsOnce (x ∷ xs) = (¬ Contains xs x) × IsOnce xs
 
 -- a list with a frame taken off
 abbrev pub without_frame : List ℕ → ℕ → List ℕ
@@ -30,12 +25,12 @@ first_of (frame ∷ more) cached = Some frame
 
 -- a frame is on one of the lists
 abbrev pub IsListed : ListsSeen → ℕ → Type 0
-IsListed lists frame = Has lists.free frame ⊎ Has lists.cached frame
+IsListed lists frame = Contains lists.free frame ⊎ Contains lists.cached frame
 
 -- no frame is twice on a list or on both, and each is one of the frames
 pub record AreApart (lists : ListsSeen) : Type 0 where
   pub once_free : IsOnce lists.free
   pub once_cached : IsOnce lists.cached
-  pub one_list : (frame : ℕ) → Has lists.free frame → ¬ Has lists.cached frame
-  pub below_free : (frame : ℕ) → Has lists.free frame → frame < lists.frames
-  pub below_cached : (frame : ℕ) → Has lists.cached frame → frame < lists.frames
+  pub one_list : (frame : ℕ) → Contains lists.free frame → ¬ Contains lists.cached frame
+  pub below_free : (frame : ℕ) → Contains lists.free frame → frame < lists.frames
+  pub below_cached : (frame : ℕ) → Contains lists.cached frame → frame < lists.frames

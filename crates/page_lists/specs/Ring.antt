@@ -1,6 +1,6 @@
 -- A queue of frames as a ring of links: each frame's next and previous one, and the ends. Inside: no public clause cites this.
-use Rattle.std.specs.Prelude.{◌≡◌, ℕ, ◌<◌, ◌↔◌, Bool, true, false, zero, suc, List, [], ◌∷◌, Option, Some, None, slice_index_or, length}
-use Rattle.page_lists.specs.ListsSeen.{Has, IsOnce}
+use Rattle.std.specs.Prelude.{◌≡◌, ℕ, ◌<◌, ◌↔◌, Bool, true, false, zero, suc, List, [], ◌∷◌, Option, Some, None, slice_index_or, length, Contains}
+use Rattle.page_lists.specs.ListsSeen.{IsOnce}
 
 -- what a queue is seen as: for so many frames, those on it, first to last
 pub record QueueSeen : Type 0 where
@@ -33,10 +33,10 @@ pub record IsSoundQueue (first last : Option ℕ) (next previous : List (Option 
   pub listed_length : length listed ≡ length next
   pub chain : Chain (follow first next) (follow last previous) None order
   pub once : IsOnce order
-  pub below : (frame : ℕ) → Has order frame → frame < length next
-  pub marked : (frame : ℕ) → (slice_index_or listed frame false ≡ true) ↔ Has order frame
+  pub below : (frame : ℕ) → Contains order frame → frame < length next
+  pub marked : (frame : ℕ) → (slice_index_or listed frame false ≡ true) ↔ Contains order frame
 
 -- no frame twice, and each one of the frames
 pub record IsQueue (queue : QueueSeen) : Type 0 where
   pub once : IsOnce queue.order
-  pub below : (frame : ℕ) → Has queue.order frame → frame < queue.frames
+  pub below : (frame : ℕ) → Contains queue.order frame → frame < queue.frames

@@ -6,9 +6,9 @@
 
 mod queue;
 
-ghost use Rattle.std.specs.Prelude.{◌≡◌, ◌≢◌, ℕ, ◌<◌, ◌⊎◌, ◌↔◌, ◌++◌, ◌∷◌, [], List, Option, IsTrue, IsNone, IfOk};
+ghost use Rattle.std.specs.Prelude.{◌≡◌, ◌≢◌, ℕ, ◌<◌, ◌⊎◌, ◌↔◌, ◌++◌, ◌∷◌, [], List, Option, IsTrue, IsNone, IfOk, Contains};
 ghost use Rattle.std.specs.List.{range_with_len};
-ghost use Rattle.page_lists.specs.ListsSeen.{ListsSeen, Has, IsListed, AreApart, first_of, without_frame};
+ghost use Rattle.page_lists.specs.ListsSeen.{ListsSeen, IsListed, AreApart, first_of, without_frame};
 ghost use Rattle.page_lists.specs.Takes.{TakesFirst};
 
 use queue::FrameQueue;
@@ -111,9 +111,9 @@ impl PageLists {
     /// Takes a frame off the cache list, for the page that it holds; false where it isn't there.
     pub fn reclaim(&mut self, frame: u32) -> bool
         requires { frame < self.old.frames }
-        ensures cached { IsTrue result ↔ Has self.old.cached frame }
+        ensures cached { IsTrue result ↔ Contains self.old.cached frame }
         ensures new { self.new ≡ record self.old { cached = without_frame self.old.cached frame } }
-        ensures otherwise_same { ¬ Has self.old.cached frame → self.new ≡ self.old }
+        ensures otherwise_same { ¬ Contains self.old.cached frame → self.new ≡ self.old }
         ensures apart { AreApart self.new }
     {
         self.cached.remove(frame)

@@ -1,8 +1,8 @@
 //! A queue of frames, from which any frame is taken at once: a doubly linked list by number of frame.
 
-ghost use Rattle.std.specs.Prelude.{◌≡◌, ◌≢◌, ℕ, ◌<◌, ◌↔◌, ◌++◌, ◌∷◌, [], List, length, Option, Some, None, IsTrue, IfOk};
+ghost use Rattle.std.specs.Prelude.{◌≡◌, ◌≢◌, ℕ, ◌<◌, ◌↔◌, ◌++◌, ◌∷◌, [], List, length, Option, Some, None, IsTrue, IfOk, Contains};
 ghost use Rattle.std.specs.Option.{ForSome};
-ghost use Rattle.page_lists.specs.ListsSeen.{Has, first_of, without_frame};
+ghost use Rattle.page_lists.specs.ListsSeen.{first_of, without_frame};
 ghost use Rattle.page_lists.specs.Ring.{QueueSeen, IsQueue, follow};
 
 use std::alloc::{AllocError, Global};
@@ -61,7 +61,7 @@ impl FrameQueue {
     /// Whether a frame is on the queue.
     pub fn contains(&self, frame: u32) -> bool
         requires { frame < self.now.frames }
-        ensures { IsTrue result ↔ Has self.now.order frame }
+        ensures { IsTrue result ↔ Contains self.now.order frame }
     {
         self.listed[frame as usize]
     }
@@ -83,7 +83,7 @@ impl FrameQueue {
     /// Puts a frame that isn't on the queue at its end.
     pub fn push_back(&mut self, frame: u32)
         requires within { frame < self.old.frames }
-        requires absent { ¬ Has self.old.order frame }
+        requires absent { ¬ Contains self.old.order frame }
         ensures new { self.new ≡ record self.old { order = self.old.order ++ frame ∷ [] } }
         ensures queue { IsQueue self.new }
     {
@@ -98,7 +98,7 @@ impl FrameQueue {
     /// Takes a frame off the queue, wherever it is; false where it isn't there.
     pub fn remove(&mut self, frame: u32) -> bool
         requires { frame < self.old.frames }
-        ensures removed { IsTrue result ↔ Has self.old.order frame }
+        ensures removed { IsTrue result ↔ Contains self.old.order frame }
         ensures new { self.new ≡ record self.old { order = without_frame self.old.order frame } }
         ensures queue { IsQueue self.new }
     {

@@ -1,17 +1,18 @@
 -- A name is given up.
 use Rattle.std.proofs.Common.{◌≡◌, ◌≢◌, ℕ, ◌<◌, Bool, true, false, cond, inl, inr, List, [], ◌∷◌, ◌++◌, Option, Some, None, IsSome, refl, sym, ◌∙◌, ap, subst, arith, length, set, is_some}
-use Rattle.std.specs.Prelude.{◌&&◌, ◌||◌, ◌==◌, ◌↔◌, is_none}
+use Rattle.std.specs.Prelude.{◌&&◌, ◌||◌, ◌==◌, ◌↔◌, is_none, Contains}
 use Rattle.std.proofs.lemmas.Bool.{cases_eq}
 use Rattle.std.proofs.lemmas.List.{get_or-set_same, get_or-set_other}
 use Rattle.std.proofs.Math.ListN.{length-set}
+use Rattle.std.proofs.lemmas.List.Elements.{Contains-append_left, Contains-push, Contains-push_cases}
 use Rattle.core_arena.specs.Bytes.{bytes_at}
 use Rattle.core_arena.specs.Seen.{CoreSeen}
 use Rattle.page_clock.specs.Seen.{ClockSeen}
 use Rattle.page_hash.specs.Names.{find, name_at, AreDistinct}
 use Rattle.page_hash.specs.declared.PageName.{PageName}
 use Rattle.page_hash.proofs.NameLaws.{find-at, find-emptied, emptied-distinct}
-use Rattle.page_lists.specs.ListsSeen.{ListsSeen, Has, AreApart, without_frame}
-use Rattle.page_lists.proofs.ListLemmas.{has-more, more-has, once-more, has-without_frame, without_frame-has, once-without_frame}
+use Rattle.page_lists.specs.ListsSeen.{ListsSeen, AreApart, without_frame}
+use Rattle.page_lists.proofs.ListLemmas.{once-more, Contains-from_without_frame, Contains-without_frame, once-without_frame}
 use Rattle.page_lock.specs.Rows.{row_at, clear_row}
 use Rattle.page_lock.specs.declared.Row.{Row}
 use Rattle.page_store.specs.Bays.{BaySeen}
@@ -29,7 +30,7 @@ use Rattle.page_store.proofs.Agree.{SameOut, same-out, same-row, Calm, own-far, 
 use Rattle.page_store.proofs.Elsewhere.{Elsewhere, OneFrame, SoundAt, one-elsewhere, same-elsewhere, elsewhere-then, only-none, sound-one, touches, touches-one, paired-one, value-elsewhere}
 use Rattle.page_store.proofs.FrameLaws.{some-or-none, some-not, eq-same, eq-is, eq-far, false-left, false-right, agrees-at, home-unheld, home-ungone, home-source, away-snapshot, away-held, named-unsourced}
 use Rattle.page_store.proofs.Links.{either, or-both, family-own, family-copy, sound-parted, same-parted, elsewhere-parted, parted-own, parted-own-row}
-use Rattle.page_store.proofs.QueryLemmas.{found-within}
+use Rattle.page_store.proofs.QueryLemmas.{IsIn, bytes-within, found-within}
 use Rattle.page_store.proofs.RowSteps.{residence-rows, values-rows, calm-rows}
 
 -- what is known of a store whose page of a frame lost its snapshot
@@ -70,6 +71,10 @@ forsakes_so s own (Some copy) sound e =
 pub forsakes : (s : StoreSeen) (own : ℕ) → IsSoundStore s → Forsakes s (without_snapshot s own) own
 forsakes s own sound = forsakes_so s own (row_at s.rows own).snapshot sound refl
 
+pub forsaken-unheld : (s : StoreSeen) (page : PageName) (own : ℕ) → IsSoundStore s → IsIn s page own → (row_at (without_snapshot s own).rows own).holder ≡ None
+forsaken-unheld s page own sound i =
+    home-unheld (bytes_at s.frames own) (name_at s.names own) (row_at (without_snapshot s own).rows own) ((forsakes s own sound).sound.each own (bytes-within s.frames own i.bytes i.there)) (subst (λ (b : Option (List ℕ)). IsSome b) (sym i.there) refl)
+
 -- a page that has no snapshot away is given up
 module _ (s : StoreSeen) (page : PageName) (f : ℕ) (sound : IsSoundStore s) (found : find s.names page ≡ Some f) (single : (row_at s.rows f).snapshot ≡ None) where
   within : f < length s.frames
@@ -103,7 +108,7 @@ module _ (s : StoreSeen) (page : PageName) (f : ℕ) (sound : IsSoundStore s) (f
   none_after : (b : Option (List ℕ)) → name_at (with_page_given_up s f b).names f ≡ None
   none_after b = ap (λ (l : List (Option PageName)). name_at l f) (names_given b) ∙ unnamed_after
 
-  not_free : Has s.free f → ⊥
+  not_free : Contains s.free f → ⊥
   not_free h = let z : None ≡ Some page = sym (sound.unnamed f h) ∙ held in cc
 
   gone_row : row_at (set s.rows f (record (row_at s.rows f) { gone = true })) f ≡ record (row_at s.rows f) { gone = true }
@@ -126,20 +131,20 @@ module _ (s : StoreSeen) (page : PageName) (f : ℕ) (sound : IsSoundStore s) (f
     bytes = λ k ne. refl;
     names = λ k ne. get_or-set_other s.names f k None None ne;
     rows = λ k ne. get_or-set_other s.rows f k clear_row clear_row ne;
-    free = λ k ne. (λ h. elim (has-more s.free f k h) [ inl a ↦ a | inr b ↦ absurd (ne (sym b)) ], λ h. more-has s.free f k (inl h));
-    cached = λ k ne. (λ h. (has-without_frame s.cached f k h).0, λ h. without_frame-has s.cached f k h ne);
+    free = λ k ne. (λ h. elim (Contains-push_cases s.free f k h) [ inl a ↦ a | inr b ↦ absurd (ne (sym b)) ], λ h. Contains-append_left s.free (f ∷ []) k h);
+    cached = λ k ne. (λ h. (Contains-from_without_frame s.cached f k h).0, λ h. Contains-without_frame s.cached f k h ne);
   }
 
   lists_given : AreApart (record { frames = length s.frames; free = s.free ++ f ∷ []; cached = without_frame s.cached f })
   lists_given = record {
     once_free = once-more s.free f sound.lists.once_free not_free;
     once_cached = once-without_frame s.cached f sound.lists.once_cached;
-    one_list = λ k a b. elim (has-more s.free f k a) [
-      | inl h ↦ sound.lists.one_list k h (has-without_frame s.cached f k b).0
-      | inr e ↦ (has-without_frame s.cached f k b).1 (sym e)
+    one_list = λ k a b. elim (Contains-push_cases s.free f k a) [
+      | inl h ↦ sound.lists.one_list k h (Contains-from_without_frame s.cached f k b).0
+      | inr e ↦ (Contains-from_without_frame s.cached f k b).1 (sym e)
     ];
-    below_free = λ k a. elim (has-more s.free f k a) [ inl h ↦ sound.lists.below_free k h | inr e ↦ subst (λ (j : ℕ). j < length s.frames) e within ];
-    below_cached = λ k b. sound.lists.below_cached k (has-without_frame s.cached f k b).0;
+    below_free = λ k a. elim (Contains-push_cases s.free f k a) [ inl h ↦ sound.lists.below_free k h | inr e ↦ subst (λ (j : ℕ). j < length s.frames) e within ];
+    below_cached = λ k b. sound.lists.below_cached k (Contains-from_without_frame s.cached f k b).0;
   }
 
   agrees_gone : bytes_at s.frames f ≡ None → FrameAgrees (bytes_at s.frames f) None (record (row_at s.rows f) { gone = true })
@@ -192,7 +197,7 @@ module _ (s : StoreSeen) (page : PageName) (f : ℕ) (sound : IsSoundStore s) (f
             (subst (λ (r : Row). FrameAgrees (bytes_at s.frames f) None r) (sym free_row) (agrees_free bytes e));
         listed = λ l. subst (λ (b : Option (List ℕ)). IsSome b) (sym e) refl;
         unnamed = λ h. unnamed_after;
-        spare = λ there n. more-has s.free f f (inr refl);
+        spare = λ there n. Contains-push s.free f;
       })
 
   no_after : (b : Option (List ℕ)) (n : PageName) → name_at (with_page_given_up s f b).names f ≡ Some n → ⊥

@@ -1,11 +1,10 @@
 -- Notes and tables that agree with a store, once the store or the notes changed.
 use Rattle.std.proofs.Common.{◌≡◌, ◌≢◌, ℕ, Bool, true, false, cond, ◌⊎◌, inl, inr, List, Option, Some, None, IsSome, refl, sym, ◌∙◌, ap, subst, is_some}
-use Rattle.std.specs.Prelude.{unwrap_or}
+use Rattle.std.specs.Prelude.{unwrap_or, Contains}
 use Rattle.std.proofs.lemmas.Bool.{cases_eq}
 use Rattle.core_arena.specs.Bytes.{bytes_at, zeros}
 use Rattle.page_hash.specs.Names.{name_at}
 use Rattle.page_hash.specs.declared.PageName.{PageName}
-use Rattle.page_lists.specs.ListsSeen.{Has}
 use Rattle.page_lock.specs.Rows.{row_at}
 use Rattle.page_lock.specs.declared.Row.{Row}
 use Rattle.page_store.specs.Bays.{BaySeen, missing, home, out, bay_at, block_of}
@@ -114,7 +113,7 @@ module _ (old new : StoreSeen) (notes : Notes) (table : Table) (calm : Calm old 
   pub clean-calm : (k : ℕ) (n : PageName) → IsClean old notes table k n → bytes_at new.frames k ≡ bytes_at old.frames k → IsClean new notes table k n
   clean-calm k n was bytes = clean-same old new notes notes table k n was alike-calm bytes (backing_value-calm (table n)) (λ t x h w q. (h, gone-stays (calm.rows x.frame)))
 
-  pub fits-calm : ((k : ℕ) (n : PageName) → Has new.cached k → name_at new.names k ≡ Some n → IsClean new notes table k n) → StoreFits old notes table → StoreFits new notes table
+  pub fits-calm : ((k : ℕ) (n : PageName) → Contains new.cached k → name_at new.names k ≡ Some n → IsClean new notes table k n) → StoreFits old notes table → StoreFits new notes table
   fits-calm clean fits = record {
     apart = fits.apart;
     each_note = λ t n h.
@@ -164,8 +163,8 @@ pub record Leaves (old new : StoreSeen) (notes : Notes) (table : Table) (seat : 
   pub names : (k : ℕ) → k ≢ note.frame → name_at new.names k ≡ name_at old.names k
   pub single : (row_at old.rows note.frame).snapshot ≡ None
   pub mine : NoteAgrees new table seat note
-  pub cached : (k : ℕ) → Has new.cached k → Has old.cached k × (k ≢ note.frame)
-  pub unwritten : note.writes ≡ true → (k : ℕ) → Has new.cached k → name_at new.names k ≡ Some note.name → ⊥
+  pub cached : (k : ℕ) → Contains new.cached k → Contains old.cached k × (k ≢ note.frame)
+  pub unwritten : note.writes ≡ true → (k : ℕ) → Contains new.cached k → name_at new.names k ≡ Some note.name → ⊥
 
 module _ (old new : StoreSeen) (notes : Notes) (table : Table) (seat : ℕ) (note : Note) (can : Leaves old new notes table seat note) where
   -- a seat that has something out is not this one, and its frame and its disk are others
@@ -240,7 +239,7 @@ module _ (old new : StoreSeen) (notes : Notes) (table : Table) (seat : ℕ) (not
     | inr ne ↦ let n = can.fits.each_bay number t (sym (can.bays number ne) ∙ h) in (n.0, old_note t n.0 n.1, n.2)
   ]
 
-  each_cached : (k : ℕ) (n : PageName) → Has new.cached k → name_at new.names k ≡ Some n → IsClean new (with_note notes seat (Some note)) table k n
+  each_cached : (k : ℕ) (n : PageName) → Contains new.cached k → name_at new.names k ≡ Some n → IsClean new (with_note notes seat (Some note)) table k n
   each_cached k n h e =
       let far : k ≢ note.frame = (can.cached k h).1 in
       let was = can.fits.each_cached k n (can.cached k h).0 (sym (can.names k far) ∙ e) in

@@ -1,7 +1,7 @@
 -- A frame and a disk go out.
 use Rattle.std.proofs.Common.{◌≡◌, ◌≢◌, ℕ, ◌<◌, Bool, true, false, cond, ◌⊎◌, inl, inr, List, [], ◌∷◌, Option, Some, None, IsTrue, IsSome, refl, sym, ◌∙◌, ap, subst, arith, length, set, is_some}
 use Rattle.std.specs.Option.{option_or}
-use Rattle.std.specs.Prelude.{◌&&◌, ◌||◌, ◌==◌, is_none}
+use Rattle.std.specs.Prelude.{◌&&◌, ◌||◌, ◌==◌, is_none, Contains}
 use Rattle.std.proofs.lemmas.Bool.{cases_eq, cases_Bool}
 use Rattle.std.proofs.lemmas.List.{get_or-set_same, get_or-set_other}
 use Rattle.std.proofs.Math.ListN.{length-set}
@@ -12,7 +12,7 @@ use Rattle.page_clock.specs.Seen.{ClockSeen}
 use Rattle.page_hash.specs.Names.{find, name_at, is_name, AreDistinct}
 use Rattle.page_hash.specs.declared.PageName.{PageName}
 use Rattle.page_hash.proofs.NameLaws.{find-at, find-none, find-some, find-entered, entered-distinct, emptied-distinct, find-emptied_other, find-same}
-use Rattle.page_lists.specs.ListsSeen.{ListsSeen, Has, AreApart, first_of}
+use Rattle.page_lists.specs.ListsSeen.{ListsSeen, AreApart, first_of}
 use Rattle.page_lock.specs.Rows.{row_at, clear_row}
 use Rattle.page_lock.specs.declared.Row.{Row}
 use Rattle.page_store.specs.Bays.{BaySeen, missing, home, out, bay_at}
@@ -168,7 +168,7 @@ module _ (s : StoreSeen) (f : FlightSeen) (sound : IsSoundStore s) (next : next_
         whole = whole_f;
         bytes = size_f;
       };
-      cached = λ k h. let far : k ≢ f.frame = λ (q : k ≡ f.frame). taken-cached s f.frame sound next (subst (λ (j : ℕ). Has (rest_cached s.free s.cached) j) q h) in ((one_fetched.cached k far).0 h, far);
+      cached = λ k h. let far : k ≢ f.frame = λ (q : k ≡ f.frame). taken-cached s f.frame sound next (subst (λ (j : ℕ). Contains (rest_cached s.free s.cached) j) q h) in ((one_fetched.cached k far).0 h, far);
       unwritten = λ w. absurd (let z : true ≡ false = sym w ∙ reads in cc);
     }
 
@@ -329,8 +329,8 @@ module _ (s : StoreSeen) (f : FlightSeen) (sound : IsSoundStore s) (next : next_
       whole = sound.whole f.number f.disk there;
       bytes = (sound.each f.frame frame_within).size f.bytes bytes;
     };
-    cached = λ k h. (h, λ q. unlisted (inr (subst (λ (j : ℕ). Has s.cached j) q h)));
-    unwritten = λ w k h e. unlisted (inr (subst (λ (j : ℕ). Has s.cached j) (sound.distinct k f.frame f.name e held_name) h));
+    cached = λ k h. (h, λ q. unlisted (inr (subst (λ (j : ℕ). Contains s.cached j) q h)));
+    unwritten = λ w k h e. unlisted (inr (subst (λ (j : ℕ). Contains s.cached j) (sound.distinct k f.frame f.name e held_name) h));
   }
 
   value_sent : (notes : Notes) (table : Table) (fits : StoreFits s notes table) (idle : notes f.seat ≡ None) (lives : LivesAt (Push f.name) table f.number f.block f.valid) (n : PageName)
@@ -593,8 +593,8 @@ module _ (s : StoreSeen) (f : FlightSeen) (own : ℕ) (sound : IsSoundStore s) (
       whole = sound.whole f.number f.disk there;
       bytes = (sound.each own own_in).size f.bytes bytes;
     };
-    cached = λ k h. let far : k ≢ f.frame = λ (q : k ≡ f.frame). taken-cached s f.frame sound next (subst (λ (j : ℕ). Has (rest_cached s.free s.cached) j) q h) in ((rest-cached s.free s.cached f.frame next k far).0 h, far);
-    unwritten = λ w k h e. own_unlisted (inr (subst (λ (j : ℕ). Has (rest_cached s.free s.cached) j) (distinct_copied k own f.name e own_named) h));
+    cached = λ k h. let far : k ≢ f.frame = λ (q : k ≡ f.frame). taken-cached s f.frame sound next (subst (λ (j : ℕ). Contains (rest_cached s.free s.cached) j) q h) in ((rest-cached s.free s.cached f.frame next k far).0 h, far);
+    unwritten = λ w k h e. own_unlisted (inr (subst (λ (j : ℕ). Contains (rest_cached s.free s.cached) j) (distinct_copied k own f.name e own_named) h));
   }
 
   far_name_own : (n : PageName) → n ≢ f.name → name_at s.names own ≡ Some n → ⊥

@@ -1,13 +1,13 @@
 -- Stores that agree outside a set of frames.
 use Rattle.std.proofs.Common.{◌≡◌, ◌≢◌, ℕ, ◌<◌, Bool, true, false, inl, inr, List, Option, Some, None, refl, sym, ◌∙◌, ap, subst, length, IsSome, is_some}
-use Rattle.std.specs.Prelude.{◌↔◌, ◌==◌, ◌^◌}
+use Rattle.std.specs.Prelude.{◌↔◌, ◌==◌, ◌^◌, Contains}
 use Rattle.std.proofs.lemmas.Bool.{cases_eq, cases_Bool}
 use Rattle.block_device.specs.DiskSeen.{DiskSeen, HasBlocks}
 use Rattle.core_arena.specs.Bytes.{bytes_at}
 use Rattle.page_hash.specs.Names.{find, name_at, AreDistinct}
 use Rattle.page_hash.specs.declared.PageName.{PageName}
 use Rattle.page_hash.proofs.NameLaws.{find-at, find-same}
-use Rattle.page_lists.specs.ListsSeen.{Has, AreApart}
+use Rattle.page_lists.specs.ListsSeen.{AreApart}
 use Rattle.page_lock.specs.Rows.{row_at}
 use Rattle.page_lock.specs.declared.Row.{Row}
 use Rattle.page_store.specs.Bays.{home, bay_at}
@@ -25,8 +25,8 @@ pub record Elsewhere (old new : StoreSeen) (touched : ℕ → Bool) : Type 0 whe
   pub bytes : (k : ℕ) → touched k ≡ false → bytes_at new.frames k ≡ bytes_at old.frames k
   pub names : (k : ℕ) → touched k ≡ false → name_at new.names k ≡ name_at old.names k
   pub rows : (k : ℕ) → touched k ≡ false → row_at new.rows k ≡ row_at old.rows k
-  pub free : (k : ℕ) → touched k ≡ false → Has new.free k ↔ Has old.free k
-  pub cached : (k : ℕ) → touched k ≡ false → Has new.cached k ↔ Has old.cached k
+  pub free : (k : ℕ) → touched k ≡ false → Contains new.free k ↔ Contains old.free k
+  pub cached : (k : ℕ) → touched k ≡ false → Contains new.cached k ↔ Contains old.cached k
 
 -- every frame but one is as it was
 pub record OneFrame (old new : StoreSeen) (f : ℕ) : Type 0 where
@@ -34,8 +34,8 @@ pub record OneFrame (old new : StoreSeen) (f : ℕ) : Type 0 where
   pub bytes : (k : ℕ) → k ≢ f → bytes_at new.frames k ≡ bytes_at old.frames k
   pub names : (k : ℕ) → k ≢ f → name_at new.names k ≡ name_at old.names k
   pub rows : (k : ℕ) → k ≢ f → row_at new.rows k ≡ row_at old.rows k
-  pub free : (k : ℕ) → k ≢ f → Has new.free k ↔ Has old.free k
-  pub cached : (k : ℕ) → k ≢ f → Has new.cached k ↔ Has old.cached k
+  pub free : (k : ℕ) → k ≢ f → Contains new.free k ↔ Contains old.free k
+  pub cached : (k : ℕ) → k ≢ f → Contains new.cached k ↔ Contains old.cached k
 
 pub one-elsewhere : (old new : StoreSeen) (f : ℕ) → OneFrame old new f → Elsewhere old new (is_only (Some f))
 one-elsewhere old new f e = record {
@@ -149,8 +149,8 @@ module _ (old new : StoreSeen) (touched : ℕ → Bool) (distinct' : AreDistinct
 pub record SoundAt (s : StoreSeen) (k : ℕ) : Type 0 where
   pub agrees : FrameAgrees (bytes_at s.frames k) (name_at s.names k) (row_at s.rows k)
   pub listed : IsListedFrame s k → IsSome (bytes_at s.frames k)
-  pub unnamed : Has s.free k → name_at s.names k ≡ None
-  pub spare : IsSome (bytes_at s.frames k) → name_at s.names k ≡ None → Has s.free k
+  pub unnamed : Contains s.free k → name_at s.names k ≡ None
+  pub spare : IsSome (bytes_at s.frames k) → name_at s.names k ≡ None → Contains s.free k
 
 -- what holds of the parts of a store beside its frames
 pub record SoundParts (old new : StoreSeen) : Type 0 where

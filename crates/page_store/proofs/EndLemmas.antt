@@ -1,17 +1,18 @@
 -- A flight that comes back.
 use Rattle.std.proofs.Common.{◌≡◌, ◌≢◌, ℕ, ◌<◌, ◌≤◌, Bool, true, false, cond, ◌⊎◌, inl, inr, List, [], ◌∷◌, ◌++◌, Option, Some, None, IsTrue, IsSome, refl, sym, ◌∙◌, ap, subst, arith, length, set, is_some}
-use Rattle.std.specs.Prelude.{◌&&◌, ◌||◌, ◌==◌, ◌-◌, is_none, take, replicate, slice_index_or}
+use Rattle.std.specs.Prelude.{◌&&◌, ◌||◌, ◌==◌, ◌-◌, is_none, take, replicate, slice_index_or, Contains}
 use Rattle.std.proofs.lemmas.Bool.{cases_eq, cases_Bool}
 use Rattle.std.proofs.lemmas.List.{take-append-le, take-take}
 use Rattle.std.proofs.lemmas.List.{get_or-set_same, get_or-set_other}
 use Rattle.std.proofs.Math.ListN.{length-set, length-take}
+use Rattle.std.proofs.lemmas.List.Elements.{Contains-append_left, Contains-push, Contains-push_cases}
 use Rattle.block_device.specs.DiskSeen.{DiskSeen, HasBlocks, with_block}
 use Rattle.core_arena.specs.Bytes.{bytes_at, zeros}
 use Rattle.page_hash.specs.Names.{find, name_at, AreDistinct}
 use Rattle.page_hash.specs.declared.PageName.{PageName}
 use Rattle.page_hash.proofs.NameLaws.{find-some, find-emptied, emptied-distinct}
-use Rattle.page_lists.specs.ListsSeen.{Has, AreApart}
-use Rattle.page_lists.proofs.ListLemmas.{has-more, more-has, once-more}
+use Rattle.page_lists.specs.ListsSeen.{AreApart}
+use Rattle.page_lists.proofs.ListLemmas.{once-more}
 use Rattle.page_lock.specs.Rows.{row_at, clear_row}
 use Rattle.page_lock.specs.declared.Row.{Row}
 use Rattle.page_store.specs.Bays.{BaySeen, missing, home, out, bay_at, block_of}
@@ -121,7 +122,7 @@ module _ (s : StoreSeen) (f : FlightSeen) (sound : IsSoundStore s) (held : (row_
     bytes = λ k ne. get_or-set_other s.frames f.frame k (Some f.bytes) None ne;
     names = λ k ne. get_or-set_other s.names f.frame k None None ne;
     rows = λ k ne. get_or-set_other s.rows f.frame k clear_row clear_row ne;
-    free = λ k ne. (λ h. elim (has-more s.free f.frame k h) [ inl a ↦ a | inr b ↦ absurd (ne (sym b)) ], λ h. more-has s.free f.frame k (inl h));
+    free = λ k ne. (λ h. elim (Contains-push_cases s.free f.frame k h) [ inl a ↦ a | inr b ↦ absurd (ne (sym b)) ], λ h. Contains-append_left s.free (f.frame ∷ []) k h);
     cached = λ k ne. (λ h. h, λ h. h);
   }
 
@@ -135,11 +136,11 @@ module _ (s : StoreSeen) (f : FlightSeen) (sound : IsSoundStore s) (held : (row_
       record {
         once_free = once-more s.free f.frame sound.lists.once_free (λ h. landed-unlisted (inl h));
         once_cached = sound.lists.once_cached;
-        one_list = λ k a b. elim (has-more s.free f.frame k a) [
+        one_list = λ k a b. elim (Contains-push_cases s.free f.frame k a) [
           | inl h ↦ sound.lists.one_list k h b
-          | inr e ↦ landed-unlisted (inr (subst (λ (j : ℕ). Has s.cached j) (sym e) b))
+          | inr e ↦ landed-unlisted (inr (subst (λ (j : ℕ). Contains s.cached j) (sym e) b))
         ];
-        below_free = λ k a. elim (has-more s.free f.frame k a) [
+        below_free = λ k a. elim (Contains-push_cases s.free f.frame k a) [
           | inl h ↦ let r = sound.lists.below_free k h in omega (arith, long, r)
           | inr e ↦ let r = landed-within in omega (arith, long, r, e)
         ];
@@ -199,7 +200,7 @@ module _ (s : StoreSeen) (f : FlightSeen) (sound : IsSoundStore s) (held : (row_
             (subst (λ (r : Row). FrameAgrees (Some f.bytes) None r) (sym free_row) agrees_free));
         listed = λ l. subst (λ (o : Option (List ℕ)). IsSome o) (sym bytes_now) refl;
         unnamed = λ h. unnamed_now;
-        spare = λ h n. more-has s.free f.frame f.frame (inr refl);
+        spare = λ h n. Contains-push s.free f.frame;
       })
 
   pub disk-landed : (lost : Bool) → bay_at (with_flight_landed s f lost).bays f.number ≡ home f.disk
@@ -236,8 +237,8 @@ module _ (s : StoreSeen) (f : FlightSeen) (sound : IsSoundStore s) (held : (row_
   pub absent-landed : (name : PageName) → name_at s.names f.frame ≡ Some name → residence (with_flight_landed s f true) name ≡ Absent
   absent-landed name h = ap (λ (o : Option ℕ). residence_in o (with_flight_landed s f true)) (find-emptied s.names name f.frame sound.distinct h)
 
-  pub free-landed : Has (with_flight_landed s f true).free f.frame
-  free-landed = more-has s.free f.frame f.frame (inr refl)
+  pub free-landed : Contains (with_flight_landed s f true).free f.frame
+  free-landed = Contains-push s.free f.frame
 
   after_landed : (lost : Bool) (n : PageName) → (name_at s.names f.frame ≡ Some n → ⊥) → name_at (with_flight_landed s f lost).names f.frame ≡ Some n → ⊥
   after_landed false n before h = before h
@@ -260,7 +261,7 @@ module _ (s : StoreSeen) (f : FlightSeen) (sound : IsSoundStore s) (held : (row_
       one = one-landed lost;
       here = here-landed lost;
       holder = holder_landed lost;
-      cached = λ k h. subst (λ (l : List ℕ). Has l k) (cached_landed lost) h;
+      cached = λ k h. subst (λ (l : List ℕ). Contains l k) (cached_landed lost) h;
       distinct = distinct-landed lost;
     }
 
@@ -443,7 +444,7 @@ module _ (s : StoreSeen) (f : FlightSeen) (sound : IsSoundStore s) (is : IsFligh
   absent_here true e g = absent-landed s f sound is.out.holder is.out.bay unsourced whole size f.name (page_here g)
   absent_here false e g = let z : false ≡ true = e in absurd (cc)
 
-  free_here : (lost : Bool) → lost ≡ true → Has (with_flight_landed s f lost).free f.frame
+  free_here : (lost : Bool) → lost ≡ true → Contains (with_flight_landed s f lost).free f.frame
   free_here true e = free-landed s f sound is.out.holder is.out.bay unsourced whole size
   free_here false e = let z : false ≡ true = e in absurd (cc)
 
@@ -539,7 +540,7 @@ module _ (s : StoreSeen) (f : FlightSeen) (own : ℕ) (sound : IsSoundStore s) (
     unlisted = λ l.
         let l_own : IsListedFrame (with_flight_landed mid f true) own = subst (λ (k : ℕ). IsListedFrame (with_flight_landed mid f true) k) own_is l in
         sound.paired.unlisted own f.frame (sound.paired.snapshot own f.frame source) (elim l_own [
-          | inl a ↦ elim (has-more s.free f.frame own a) [ inl b ↦ inl b | inr q ↦ absurd (apart (sym q)) ]
+          | inl a ↦ elim (Contains-push_cases s.free f.frame own a) [ inl b ↦ inl b | inr q ↦ absurd (apart (sym q)) ]
           | inr b ↦ inr b
         ]);
   }

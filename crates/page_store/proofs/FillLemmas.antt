@@ -1,6 +1,6 @@
 -- A frame is taken for a name that gets new bytes.
 use Rattle.std.proofs.Common.{◌≡◌, ◌≢◌, ℕ, ◌<◌, Bool, true, false, inl, inr, List, Option, Some, None, IsTrue, IsSome, refl, sym, ◌∙◌, ap, subst, arith, length, set, is_some}
-use Rattle.std.specs.Prelude.{is_none, cond, IfSome}
+use Rattle.std.specs.Prelude.{is_none, cond, IfSome, Contains}
 use Rattle.std.proofs.lemmas.Bool.{cases_Bool, cases_eq}
 use Rattle.std.proofs.lemmas.List.{get_or-set_same, get_or-set_other}
 use Rattle.std.proofs.Math.ListN.{length-set}
@@ -8,7 +8,7 @@ use Rattle.core_arena.specs.Bytes.{bytes_at}
 use Rattle.page_hash.specs.Names.{find, name_at, is_name, AreDistinct}
 use Rattle.page_hash.specs.declared.PageName.{PageName}
 use Rattle.page_hash.proofs.NameLaws.{find-at, find-some, find-none, find-absent, find-entered, entered-distinct, is_name-true, is_name-same}
-use Rattle.page_lists.specs.ListsSeen.{Has, AreApart}
+use Rattle.page_lists.specs.ListsSeen.{AreApart}
 use Rattle.page_lock.specs.Rows.{row_at, clear_row}
 use Rattle.page_lock.specs.declared.Row.{Row}
 use Rattle.page_store.specs.Bytes.{clip}
@@ -60,10 +60,10 @@ module _ (s : StoreSeen) (frame : ℕ) (sound : IsSoundStore s) (next : next_fra
   pub taken-ungone : (row_at s.rows frame).gone ≡ false
   taken-ungone = home-ungone (bytes_at s.frames frame) (name_at s.names frame) (row_at s.rows frame) (sound.each frame taken-within) taken-home
 
-  pub taken-free : Has (rest_free s.free) frame → ⊥
+  pub taken-free : Contains (rest_free s.free) frame → ⊥
   taken-free = gone-free s.free s.cached frame next sound.lists.once_free
 
-  pub taken-cached : Has (rest_cached s.free s.cached) frame → ⊥
+  pub taken-cached : Contains (rest_cached s.free s.cached) frame → ⊥
   taken-cached = gone-cached s.free s.cached frame next sound.lists.once_cached sound.lists.one_list
 
   pub taken-away : (k : ℕ) → bytes_at s.frames k ≡ None → k ≢ frame
@@ -88,7 +88,7 @@ module _ (s : StoreSeen) (frame : ℕ) (sound : IsSoundStore s) (next : next_fra
       found : find s.names n ≡ Some frame
       found = find-some s.names n frame sound.distinct h
 
-      was_cached : Has s.cached frame
+      was_cached : Contains s.cached frame
       was_cached = elim (first-listed s.free s.cached frame next) [
         | inl f ↦ absurd (let z : None ≡ Some n = sym (sound.unnamed frame f) ∙ h in cc)
         | inr c ↦ c
@@ -226,7 +226,7 @@ module _ (s : StoreSeen) (frame : ℕ) (page : PageName) (bytes : List ℕ) (mod
     values = λ notes table fits. record {
       fits = fits-calm s (with_frame_filled s frame page bytes modified) notes table calm_filled
           (λ k n h e.
-          let far : k ≢ frame = λ (q : k ≡ frame). taken-cached s frame sound next (subst (λ (j : ℕ). Has (rest_cached s.free s.cached) j) q h) in
+          let far : k ≢ frame = λ (q : k ≡ frame). taken-cached s frame sound next (subst (λ (j : ℕ). Contains (rest_cached s.free s.cached) j) q h) in
           clean-calm s (with_frame_filled s frame page bytes modified) notes table calm_filled k n
           (fits.each_cached k n ((one_filled.cached k far).0 h) (sym (one_filled.names k far) ∙ e)) (one_filled.bytes k far)) fits;
       alike = λ number. refl;

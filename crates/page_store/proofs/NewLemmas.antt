@@ -1,6 +1,6 @@
 -- A new store.
 use Rattle.std.proofs.Common.{◌≡◌, ◌≢◌, ℕ, ◌+◌, ◌<◌, ◌≤◌, ◌⊎◌, inl, inr, List, [], ◌∷◌, Option, Some, None, zero, suc, refl, sym, ◌∙◌, ap, subst, arith, length, get_or, set, replicate, IsSome}
-use Rattle.std.specs.Prelude.{slice_index, ◌^◌, ◌/◌, option_map}
+use Rattle.std.specs.Prelude.{slice_index, ◌^◌, ◌/◌, option_map, Contains}
 use Rattle.std.specs.List.{range_with_len}
 use Rattle.std.proofs.lemmas.List.{get_or-set_same, get_or-set_other, length-replicate}
 use Rattle.std.proofs.lemmas.Bool.{cases_eq}
@@ -9,7 +9,8 @@ use Rattle.core_arena.specs.Bytes.{zeros}
 use Rattle.page_clock.specs.Clock.{fresh_clock}
 use Rattle.page_hash.specs.Names.{name_at, AreDistinct}
 use Rattle.page_hash.specs.declared.PageName.{PageName}
-use Rattle.page_lists.specs.ListsSeen.{Has, AreApart}
+use Rattle.page_lists.specs.ListsSeen.{AreApart}
+use Rattle.page_lists.proofs.ListLemmas.{Contains-none, Contains-first, Contains-rest}
 use Rattle.page_lock.specs.Rows.{row_at, clear_row}
 use Rattle.page_lock.specs.declared.Row.{Row}
 use Rattle.page_store.specs.Bays.{BaySeen, missing, home, bay_at, bay_of, bays_with, pairs_seen, numbers_of, AreNumbers}
@@ -128,11 +129,11 @@ none-named zero k = refl
 none-named (suc n) zero = refl
 none-named (suc n) (suc k) = none-named n k
 
-in-range : (a n k : ℕ) → a ≤ k → k < a + n → Has (range_with_len a n) k
+in-range : (a n k : ℕ) → a ≤ k → k < a + n → Contains (range_with_len a n) k
 in-range a zero k low high = absurd (omega (arith, low, high))
 in-range a (suc n) k low high = elim (cases_eq a k) [
-  | inl e ↦ inl e
-  | inr ne ↦ inr (in-range (a + 1) n k (omega (arith, low, ne)) (omega (arith, high)))
+  | inl e ↦ Contains-first a k (range_with_len (a + 1) n) e
+  | inr ne ↦ Contains-rest a k (range_with_len (a + 1) n) (in-range (a + 1) n k (omega (arith, low, ne)) (omega (arith, high)))
 ]
 
 new-frame : FrameAgrees (Some zeros) None clear_row
@@ -184,7 +185,7 @@ sound-new origin n bays order few nine whole is distinct apart =
           rw (at-replicate n k (Some zeros) None within, none-named n k, at-replicate n k clear_row clear_row within) new-frame;
       listed = λ k l. elim l [
         | inl a ↦ subst (λ (o : Option (List ℕ)). IsSome o) (sym (at-replicate n k (Some zeros) None (apart.below_free k a))) refl
-        | inr b ↦ absurd b
+        | inr b ↦ absurd (Contains-none k b)
       ];
       unnamed = λ k a. none-named n k;
       spare = λ k b e. let within = some-within (replicate n (Some zeros)) k b in in-range 0 n k (omega arith) (omega (arith, within, long));

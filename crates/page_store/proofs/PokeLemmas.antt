@@ -1,6 +1,6 @@
 -- A piece written over a page that is home.
 use Rattle.std.proofs.Common.{◌≡◌, ◌≢◌, ℕ, ◌+◌, ◌<◌, ◌≤◌, Bool, true, false, inl, inr, List, [], Option, Some, None, IsSome, refl, sym, ◌∙◌, ap, subst, arith, length, set, is_some}
-use Rattle.std.specs.Prelude.{unwrap_or, cond, is_none, ◌&&◌}
+use Rattle.std.specs.Prelude.{unwrap_or, cond, is_none, ◌&&◌, Contains}
 use Rattle.std.proofs.lemmas.Bool.{cases_eq}
 use Rattle.std.proofs.lemmas.Grind.{common_steps}
 use Rattle.std.proofs.lemmas.List.{get_or-set_same, get_or-set_other}
@@ -9,7 +9,7 @@ use Rattle.core_arena.specs.Bytes.{bytes_at, bytes_with_piece}
 use Rattle.page_hash.specs.Names.{find, name_at}
 use Rattle.page_hash.specs.declared.PageName.{PageName}
 use Rattle.page_hash.proofs.NameLaws.{find-at}
-use Rattle.page_lists.specs.ListsSeen.{AreApart, Has}
+use Rattle.page_lists.specs.ListsSeen.{AreApart}
 use Rattle.page_lock.specs.Rows.{row_at, clear_row, with_bits}
 use Rattle.page_lock.specs.declared.Row.{Row}
 use Rattle.page_store.specs.StoreFits.{StoreFits, IsClean}
@@ -162,7 +162,7 @@ module _ (s : StoreSeen) (page : PageName) (frame at : ℕ) (from : List ℕ) (m
     others = λ notes table fits. record {
       fits = fits-calm s (with_piece s frame at from mark) notes table calm_poked
           (λ k n h e.
-          let far : k ≢ frame = λ (q : k ≡ frame). unlisted (inr (subst (λ (j : ℕ). Has s.cached j) q h)) in
+          let far : k ≢ frame = λ (q : k ≡ frame). unlisted (inr (subst (λ (j : ℕ). Contains s.cached j) q h)) in
           clean-calm s (with_piece s frame at from mark) notes table calm_poked k n (fits.each_cached k n h e) (get_or-set_other s.frames frame k (Some (piece_over s frame at from)) None far)) fits;
       alike = λ number. refl;
       values = λ m ne t. others_poked notes table m ne;

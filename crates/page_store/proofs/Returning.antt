@@ -1,5 +1,5 @@
 -- A frame and a disk that come back.
-use Rattle.std.proofs.Common.{◌≡◌, ◌≢◌, ℕ, Bool, true, false, cond, ◌⊎◌, inl, inr, List, [], Option, Some, None, IsTrue, refl, sym, ◌∙◌, ap, subst, is_some}
+use Rattle.std.proofs.Common.{◌≡◌, ◌≢◌, ℕ, Bool, true, false, cond, ◌⊎◌, inl, inr, List, [], Option, Some, None, IsTrue, refl, sym, ◌∙◌, ap, subst, is_some, Contains}
 use Rattle.std.proofs.lemmas.List.{get_or-set_other}
 use Rattle.std.proofs.lemmas.Bool.{cases_eq, cases_Bool}
 use Rattle.block_device.specs.DiskSeen.{with_block}
@@ -7,7 +7,6 @@ use Rattle.core_arena.specs.Bytes.{bytes_at, zeros}
 use Rattle.page_hash.specs.Names.{find, name_at, AreDistinct}
 use Rattle.page_hash.specs.declared.PageName.{PageName}
 use Rattle.page_hash.proofs.NameLaws.{find-at}
-use Rattle.page_lists.specs.ListsSeen.{Has}
 use Rattle.page_lock.specs.Rows.{row_at}
 use Rattle.page_lock.specs.declared.Row.{Row}
 use Rattle.page_store.specs.Bays.{BaySeen, missing, home, out, bay_at, block_of}
@@ -56,7 +55,7 @@ pub record Returns (old new : StoreSeen) (notes : Notes) (table : Table) (f : Fl
   pub one : OneFrame old new f.frame
   pub here : bytes_at new.frames f.frame ≡ Some f.bytes
   pub holder : (row_at new.rows f.frame).holder ≡ None
-  pub cached : (k : ℕ) → Has new.cached k → Has old.cached k
+  pub cached : (k : ℕ) → Contains new.cached k → Contains old.cached k
   pub distinct : AreDistinct new.names
 
 module _ (old new : StoreSeen) (notes : Notes) (table : Table) (f : FlightSeen) (note : Note) (can : Returns old new notes table f note) where
@@ -193,7 +192,7 @@ module _ (old new : StoreSeen) (notes : Notes) (table : Table) (f : FlightSeen) 
         (n.0, with_note-other notes f.seat t None (other_bay number t ne a) ∙ n.1, n.2)
   ]
 
-  each_cached : (k : ℕ) (n : PageName) → Has new.cached k → name_at new.names k ≡ Some n → IsClean new (with_note notes f.seat None) table k n
+  each_cached : (k : ℕ) (n : PageName) → Contains new.cached k → name_at new.names k ≡ Some n → IsClean new (with_note notes f.seat None) table k n
   each_cached k n h e =
       let there = can.sound.listed k (inr (can.cached k h)) in
       let far : k ≢ f.frame = λ (q : k ≡ f.frame). some-not (bytes_at old.frames k) there (ap (bytes_at old.frames) q ∙ frame_away) in

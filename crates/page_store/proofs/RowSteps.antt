@@ -1,17 +1,18 @@
 -- Rows, lists and the clock change; no page moves.
 use Rattle.std.proofs.Common.{◌≡◌, ◌≢◌, ℕ, ◌<◌, Bool, true, false, ◌⊎◌, inl, inr, List, [], ◌∷◌, ◌++◌, Option, Some, None, IsSome, refl, sym, ◌∙◌, ap, subst, arith, length, set, is_some}
-use Rattle.std.specs.Prelude.{◌+◌, ◌%◌, ◌&&◌, ◌||◌, ◌==◌, cond, is_none}
+use Rattle.std.specs.Prelude.{◌+◌, ◌%◌, ◌&&◌, ◌||◌, ◌==◌, cond, is_none, Contains}
 use Rattle.std.proofs.lemmas.List.{get_or-set_same, get_or-set_other}
 use Rattle.std.proofs.Math.ListN.{length-set}
 use Rattle.std.proofs.lemmas.Bool.{cases_eq}
+use Rattle.std.proofs.lemmas.List.Elements.{Contains-append_left, Contains-push_cases}
 use Rattle.core_arena.specs.Bytes.{bytes_at}
 use Rattle.page_clock.specs.Clock.{next_clock}
 use Rattle.page_clock.specs.Seen.{ClockSeen}
 use Rattle.page_hash.specs.Names.{find, name_at}
 use Rattle.page_hash.specs.declared.PageName.{PageName}
 use Rattle.page_hash.proofs.NameLaws.{find-at}
-use Rattle.page_lists.specs.ListsSeen.{Has, AreApart, without_frame}
-use Rattle.page_lists.proofs.ListLemmas.{has-more, more-has, once-more, has-without_frame, without_frame-has, once-without_frame}
+use Rattle.page_lists.specs.ListsSeen.{AreApart, without_frame}
+use Rattle.page_lists.proofs.ListLemmas.{once-more, Contains-from_without_frame, Contains-without_frame, once-without_frame}
 use Rattle.page_lock.specs.Rows.{row_at, clear_row}
 use Rattle.page_lock.specs.declared.Row.{Row}
 use Rattle.page_store.specs.StoreFits.{StoreFits, IsClean}
@@ -49,7 +50,7 @@ module _ (s : StoreSeen) (rows : List Row) (free cached : List ℕ) (clock : Clo
   calm-rows = record { origin = refl; bays = refl; rows = same; away = λ k h. h; names = λ k h g. refl }
 
   -- every name keeps its value, where the pages on the cache list are clean
-  pub values-rows : (notes : Notes) (table : Table) → StoreFits s notes table → ((k : ℕ) (n : PageName) → Has cached k → name_at s.names k ≡ Some n → IsClean s notes table k n)
+  pub values-rows : (notes : Notes) (table : Table) → StoreFits s notes table → ((k : ℕ) (n : PageName) → Contains cached k → name_at s.names k ≡ Some n → IsClean s notes table k n)
       → KeepsValues s notes (rows_after s rows free cached clock) notes table
   values-rows notes table fits clean = record {
     fits = fits-calm s (rows_after s rows free cached clock) notes table calm-rows
@@ -179,16 +180,16 @@ module _ (s : StoreSeen) (f : ℕ) (sound : IsSoundStore s) (lt : f < length s.f
     names = λ k ne. refl;
     rows = λ k ne. refl;
     free = λ k ne. (λ h. h, λ h. h);
-    cached = λ k ne. (λ h. elim (has-more s.cached f k h) [ inl a ↦ a | inr e ↦ absurd (ne (sym e)) ], λ h. more-has s.cached f k (inl h));
+    cached = λ k ne. (λ h. elim (Contains-push_cases s.cached f k h) [ inl a ↦ a | inr e ↦ absurd (ne (sym e)) ], λ h. Contains-append_left s.cached (f ∷ []) k h);
   }
 
   lists_cached : AreApart (record { frames = length s.frames; free = s.free; cached = s.cached ++ f ∷ [] })
   lists_cached = record {
     once_free = sound.lists.once_free;
     once_cached = once-more s.cached f sound.lists.once_cached (λ h. unlisted (inr h));
-    one_list = λ k a b. elim (has-more s.cached f k b) [ inl c ↦ sound.lists.one_list k a c | inr e ↦ unlisted (inl (subst (λ (j : ℕ). Has s.free j) (sym e) a)) ];
+    one_list = λ k a b. elim (Contains-push_cases s.cached f k b) [ inl c ↦ sound.lists.one_list k a c | inr e ↦ unlisted (inl (subst (λ (j : ℕ). Contains s.free j) (sym e) a)) ];
     below_free = sound.lists.below_free;
-    below_cached = λ k b. elim (has-more s.cached f k b) [ inl c ↦ sound.lists.below_cached k c | inr e ↦ subst (λ (j : ℕ). j < length s.frames) e lt ];
+    below_cached = λ k b. elim (Contains-push_cases s.cached f k b) [ inl c ↦ sound.lists.below_cached k c | inr e ↦ subst (λ (j : ℕ). j < length s.frames) e lt ];
   }
 
   paired_cached : ArePaired (record s { cached = s.cached ++ f ∷ [] })
@@ -198,7 +199,7 @@ module _ (s : StoreSeen) (f : ℕ) (sound : IsSoundStore s) (lt : f < length s.f
         sound.paired.named own copy h,
         λ l. elim l [
           | inl a ↦ sound.paired.unlisted own copy h (inl a)
-          | inr b ↦ elim (has-more s.cached f own b) [
+          | inr b ↦ elim (Contains-push_cases s.cached f own b) [
             | inl c ↦ sound.paired.unlisted own copy h (inr c)
             | inr e ↦ let z : None ≡ Some copy = sym unsent ∙ ap (λ (j : ℕ). (row_at s.rows j).snapshot) e ∙ h in cc
           ]
@@ -214,7 +215,7 @@ module _ (s : StoreSeen) (f : ℕ) (sound : IsSoundStore s) (lt : f < length s.f
     residence = residence-rows s s.rows s.free (s.cached ++ f ∷ []) s.clock (λ k. same-out (row_at s.rows k));
     outside = outside-calm s (record s { cached = s.cached ++ f ∷ [] }) (calm-rows s s.rows s.free (s.cached ++ f ∷ []) s.clock (λ k. same-out (row_at s.rows k))) sound;
     values = λ notes table fits clean. values-rows s s.rows s.free (s.cached ++ f ∷ []) s.clock (λ k. same-out (row_at s.rows k)) notes table fits
-        (λ k n h e. elim (has-more s.cached f k h) [
+        (λ k n h e. elim (Contains-push_cases s.cached f k h) [
           | inl a ↦ fits.each_cached k n a e
           | inr q ↦ subst (λ (j : ℕ). IsClean s notes table j n) q (clean n (subst (λ (j : ℕ). name_at s.names j ≡ Some n) (sym q) e))
         ]);
@@ -229,26 +230,26 @@ module _ (s : StoreSeen) (f : ℕ) (sound : IsSoundStore s) (lt : f < length s.f
     names = λ k ne. refl;
     rows = λ k ne. refl;
     free = λ k ne. (λ h. h, λ h. h);
-    cached = λ k ne. (λ h. (has-without_frame s.cached f k h).0, λ h. without_frame-has s.cached f k h ne);
+    cached = λ k ne. (λ h. (Contains-from_without_frame s.cached f k h).0, λ h. Contains-without_frame s.cached f k h ne);
   }
 
   lists_reclaimed : AreApart (record { frames = length s.frames; free = s.free; cached = without_frame s.cached f })
   lists_reclaimed = record {
     once_free = sound.lists.once_free;
     once_cached = once-without_frame s.cached f sound.lists.once_cached;
-    one_list = λ k a b. sound.lists.one_list k a (has-without_frame s.cached f k b).0;
+    one_list = λ k a b. sound.lists.one_list k a (Contains-from_without_frame s.cached f k b).0;
     below_free = sound.lists.below_free;
-    below_cached = λ k b. sound.lists.below_cached k (has-without_frame s.cached f k b).0;
+    below_cached = λ k b. sound.lists.below_cached k (Contains-from_without_frame s.cached f k b).0;
   }
 
   listed_before : (k : ℕ) → IsListedFrame (record s { cached = without_frame s.cached f }) k → IsListedFrame s k
-  listed_before k l = elim l [ inl a ↦ inl a | inr b ↦ inr (has-without_frame s.cached f k b).0 ]
+  listed_before k l = elim l [ inl a ↦ inl a | inr b ↦ inr (Contains-from_without_frame s.cached f k b).0 ]
 
   -- a frame that holds a name is on no list then
   pub unlisted-reclaimed : (n : PageName) → find s.names n ≡ Some f → IsListedFrame (record s { cached = without_frame s.cached f }) f → ⊥
   unlisted-reclaimed n found l = elim l [
     | inl a ↦ let z : None ≡ Some n = sym (sound.unnamed f a) ∙ find-at s.names n f found in cc
-    | inr b ↦ (has-without_frame s.cached f f b).1 refl
+    | inr b ↦ (Contains-from_without_frame s.cached f f b).1 refl
   ]
 
   pub stays-reclaimed : StaysInPlace s (record s { cached = without_frame s.cached f }) (is_only (Some f))
@@ -270,5 +271,5 @@ module _ (s : StoreSeen) (f : ℕ) (sound : IsSoundStore s) (lt : f < length s.f
     touches = touches-one s (record s { cached = without_frame s.cached f }) f sound.distinct one_reclaimed;
     residence = residence-rows s s.rows s.free (without_frame s.cached f) s.clock (λ k. same-out (row_at s.rows k));
     outside = outside-calm s (record s { cached = without_frame s.cached f }) (calm-rows s s.rows s.free (without_frame s.cached f) s.clock (λ k. same-out (row_at s.rows k))) sound;
-    values = λ notes table fits. values-rows s s.rows s.free (without_frame s.cached f) s.clock (λ k. same-out (row_at s.rows k)) notes table fits (λ k n h e. fits.each_cached k n (has-without_frame s.cached f k h).0 e);
+    values = λ notes table fits. values-rows s s.rows s.free (without_frame s.cached f) s.clock (λ k. same-out (row_at s.rows k)) notes table fits (λ k n h e. fits.each_cached k n (Contains-from_without_frame s.cached f k h).0 e);
   }

@@ -1,10 +1,10 @@
 -- A new store: its disks are home, and it agrees with no notes.
 use Rattle.std.proofs.Common.{◌≡◌, ◌≢◌, ℕ, ◌<◌, ◌⊎◌, inl, inr, List, [], ◌∷◌, Option, Some, None, zero, suc, replicate, refl, sym, ◌∙◌, ap, subst, arith, length}
-use Rattle.std.specs.Prelude.{slice_index, slice_index_or}
+use Rattle.std.specs.Prelude.{slice_index, slice_index_or, Contains}
 use Rattle.std.proofs.lemmas.Bool.{cases_eq}
+use Rattle.page_lists.proofs.ListLemmas.{Contains-none}
 use Rattle.block_device.specs.DiskSeen.{DiskSeen}
 use Rattle.page_store.specs.Bays.{BaySeen, home, bay_at, bay_of, numbers_of, IsStill, no_disk}
-use Rattle.page_lists.specs.ListsSeen.{Has}
 use Rattle.page_lock.specs.Rows.{row_at, clear_row}
 use Rattle.page_lock.specs.declared.Row.{Row}
 use Rattle.page_store.specs.StoreFits.{StoreFits}
@@ -59,5 +59,5 @@ new-fits s count disks swap new table apart = record {
       let a : (row_at s.rows k).holder ≡ None = ap (λ (rows : List Row). (row_at rows k).holder) new.rows ∙ ap (λ (r : Row). r.holder) (clear_at count k) in
       absurd (let z : None ≡ Some t = sym a ∙ h in cc);
   each_bay = λ number t h. absurd (subst (λ (b : BaySeen). IsStill b) h (new-still s count disks swap new number));
-  each_cached = λ k n h m. absurd (subst (λ (l : List ℕ). Has l k) new.cached h);
+  each_cached = λ k n h m. absurd (Contains-none k (subst (λ (l : List ℕ). Contains l k) new.cached h));
 }

@@ -1,34 +1,35 @@
 -- The first of the lists is taken.
 use Rattle.std.proofs.Common.{◌≡◌, ◌≢◌, ℕ, ◌⊎◌, inl, inr, List, [], ◌∷◌, Some, sym, ◌∙◌, subst}
-use Rattle.std.specs.Prelude.{◌↔◌}
-use Rattle.page_lists.specs.ListsSeen.{Has, IsOnce, AreApart, first_of}
+use Rattle.std.specs.Prelude.{◌↔◌, Contains}
+use Rattle.page_lists.specs.ListsSeen.{IsOnce, AreApart, first_of}
+use Rattle.page_lists.proofs.ListLemmas.{Contains-none, Contains-first, Contains-rest, Contains-cases}
 use Rattle.page_store.specs.Steps.{rest_free, rest_cached}
 
 -- the frame that is taken was on one of the lists
-pub first-listed : (free cached : List ℕ) (f : ℕ) → first_of free cached ≡ Some f → Has free f ⊎ Has cached f
+pub first-listed : (free cached : List ℕ) (f : ℕ) → first_of free cached ≡ Some f → Contains free f ⊎ Contains cached f
 first-listed [] [] f h = absurd (cc)
-first-listed [] (x ∷ xs) f h = inr (inl (cc))
-first-listed (x ∷ xs) cached f h = inl (inl (cc))
+first-listed [] (x ∷ xs) f h = inr (Contains-first x f xs (cc))
+first-listed (x ∷ xs) cached f h = inl (Contains-first x f xs (cc))
 
 -- every other frame is on the lists as before
-pub rest-free : (free cached : List ℕ) (f : ℕ) → first_of free cached ≡ Some f → (k : ℕ) → k ≢ f → Has (rest_free free) k ↔ Has free k
+pub rest-free : (free cached : List ℕ) (f : ℕ) → first_of free cached ≡ Some f → (k : ℕ) → k ≢ f → Contains (rest_free free) k ↔ Contains free k
 rest-free [] cached f h k ne = (λ a. a, λ a. a)
-rest-free (x ∷ xs) cached f h k ne = let q : x ≡ f = cc in (λ a. inr a, λ a. elim a [ inl e ↦ absurd (ne (sym e ∙ q)) | inr b ↦ b ])
+rest-free (x ∷ xs) cached f h k ne = let q : x ≡ f = cc in (λ a. Contains-rest x k xs a, λ a. elim (Contains-cases x k xs a) [ inl e ↦ absurd (ne (sym e ∙ q)) | inr b ↦ b ])
 
-pub rest-cached : (free cached : List ℕ) (f : ℕ) → first_of free cached ≡ Some f → (k : ℕ) → k ≢ f → Has (rest_cached free cached) k ↔ Has cached k
+pub rest-cached : (free cached : List ℕ) (f : ℕ) → first_of free cached ≡ Some f → (k : ℕ) → k ≢ f → Contains (rest_cached free cached) k ↔ Contains cached k
 rest-cached [] [] f h k ne = (λ a. a, λ a. a)
-rest-cached [] (x ∷ xs) f h k ne = let q : x ≡ f = cc in (λ a. inr a, λ a. elim a [ inl e ↦ absurd (ne (sym e ∙ q)) | inr b ↦ b ])
+rest-cached [] (x ∷ xs) f h k ne = let q : x ≡ f = cc in (λ a. Contains-rest x k xs a, λ a. elim (Contains-cases x k xs a) [ inl e ↦ absurd (ne (sym e ∙ q)) | inr b ↦ b ])
 rest-cached (x ∷ xs) cached f h k ne = (λ a. a, λ a. a)
 
 -- the frame that is taken is on neither
-pub gone-free : (free cached : List ℕ) (f : ℕ) → first_of free cached ≡ Some f → IsOnce free → Has (rest_free free) f → ⊥
-gone-free [] cached f h once a = a
-gone-free (x ∷ xs) cached f h once a = let q : x ≡ f = cc in once.0 (subst (λ (k : ℕ). Has xs k) (sym q) a)
+pub gone-free : (free cached : List ℕ) (f : ℕ) → first_of free cached ≡ Some f → IsOnce free → Contains (rest_free free) f → ⊥
+gone-free [] cached f h once a = Contains-none f a
+gone-free (x ∷ xs) cached f h once a = let q : x ≡ f = cc in once.0 (subst (λ (k : ℕ). Contains xs k) (sym q) a)
 
-pub gone-cached : (free cached : List ℕ) (f : ℕ) → first_of free cached ≡ Some f → IsOnce cached → ((k : ℕ) → Has free k → Has cached k → ⊥) → Has (rest_cached free cached) f → ⊥
-gone-cached [] [] f h once apart a = a
-gone-cached [] (x ∷ xs) f h once apart a = let q : x ≡ f = cc in once.0 (subst (λ (k : ℕ). Has xs k) (sym q) a)
-gone-cached (x ∷ xs) cached f h once apart a = let q : x ≡ f = cc in apart f (inl q) a
+pub gone-cached : (free cached : List ℕ) (f : ℕ) → first_of free cached ≡ Some f → IsOnce cached → ((k : ℕ) → Contains free k → Contains cached k → ⊥) → Contains (rest_cached free cached) f → ⊥
+gone-cached [] [] f h once apart a = Contains-none f a
+gone-cached [] (x ∷ xs) f h once apart a = let q : x ≡ f = cc in once.0 (subst (λ (k : ℕ). Contains xs k) (sym q) a)
+gone-cached (x ∷ xs) cached f h once apart a = let q : x ≡ f = cc in apart f (Contains-first x f xs q) a
 
 -- and the lists are apart as before
 once_free : (free : List ℕ) → IsOnce free → IsOnce (rest_free free)
@@ -40,13 +41,13 @@ once_cached [] [] o = tt
 once_cached [] (x ∷ xs) o = o.1
 once_cached (x ∷ xs) cached o = o
 
-has_free : (free : List ℕ) (k : ℕ) → Has (rest_free free) k → Has free k
+has_free : (free : List ℕ) (k : ℕ) → Contains (rest_free free) k → Contains free k
 has_free [] k h = h
-has_free (x ∷ xs) k h = inr h
+has_free (x ∷ xs) k h = Contains-rest x k xs h
 
-has_cached : (free cached : List ℕ) (k : ℕ) → Has (rest_cached free cached) k → Has cached k
+has_cached : (free cached : List ℕ) (k : ℕ) → Contains (rest_cached free cached) k → Contains cached k
 has_cached [] [] k h = h
-has_cached [] (x ∷ xs) k h = inr h
+has_cached [] (x ∷ xs) k h = Contains-rest x k xs h
 has_cached (x ∷ xs) cached k h = h
 
 pub rest-apart : (frames : ℕ) (free cached : List ℕ) → AreApart (record { frames = frames; free = free; cached = cached }) → AreApart (record { frames = frames; free = rest_free free; cached = rest_cached free cached })

@@ -1,9 +1,8 @@
 -- What calls do to the values of names, and what they leave as it was. Public clauses cite this.
-use Rattle.std.specs.Prelude.{◌≡◌, ◌≢◌, ◌⊎◌, ◌↔◌, ◌==◌, ◌||◌, ℕ, Bool, true, false, if◌then◌else◌, List, Option, Some, None, IsTrue, length}
+use Rattle.std.specs.Prelude.{◌≡◌, ◌≢◌, ◌⊎◌, ◌↔◌, ◌==◌, ◌||◌, ℕ, Bool, true, false, if◌then◌else◌, List, Option, Some, None, IsTrue, length, Contains}
 use Rattle.core_arena.specs.Bytes.{bytes_at}
 use Rattle.page_hash.specs.Names.{name_at, is_name}
 use Rattle.page_hash.specs.declared.PageName.{PageName}
-use Rattle.page_lists.specs.ListsSeen.{Has}
 use Rattle.page_lock.specs.Rows.{row_at}
 use Rattle.page_store.specs.Bytes.{clip}
 use Rattle.page_store.specs.StoreFits.{StoreFits}
@@ -84,7 +83,7 @@ pub record Touches (old new : StoreSeen) (touched : ℕ → Bool) : Type 0 where
   pub bytes : (k : ℕ) → touched k ≡ false → bytes_at new.frames k ≡ bytes_at old.frames k
   pub names : (k : ℕ) → touched k ≡ false → name_at new.names k ≡ name_at old.names k
   pub rows : (k : ℕ) → touched k ≡ false → row_at new.rows k ≡ row_at old.rows k
-  pub free : (k : ℕ) → touched k ≡ false → Has new.free k ↔ Has old.free k
-  pub cached : (k : ℕ) → touched k ≡ false → Has new.cached k ↔ Has old.cached k
+  pub free : (k : ℕ) → touched k ≡ false → Contains new.free k ↔ Contains old.free k
+  pub cached : (k : ℕ) → touched k ≡ false → Contains new.cached k ↔ Contains old.cached k
   pub residence : (n : PageName) → ((k : ℕ) → touched k ≡ true → name_at old.names k ≢ Some n)
       → ((k : ℕ) → touched k ≡ true → name_at new.names k ≢ Some n) → residence new n ≡ residence old n

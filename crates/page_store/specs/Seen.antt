@@ -1,12 +1,12 @@
 -- What callers see of a store, and what holds of every store. Public clauses cite this.
-use Rattle.std.specs.Prelude.{◌≡◌, ◌≢◌, ℕ, ◌<◌, ◌^◌, ◌⊎◌, ◌&&◌, ◌||◌, true, List, Option, Some, None, IsSome, length, is_some, is_none, slice_index, unwrap_or}
+use Rattle.std.specs.Prelude.{◌≡◌, ◌≢◌, ℕ, ◌<◌, ◌^◌, ◌⊎◌, ◌&&◌, ◌||◌, true, List, Option, Some, None, IsSome, length, is_some, is_none, slice_index, unwrap_or, Contains}
 use Rattle.block_device.specs.DiskSeen.{DiskSeen, HasBlocks}
 use Rattle.core_arena.specs.Bytes.{bytes_at}
 use Rattle.core_arena.specs.Seen.{CoreSeen}
 use Rattle.page_clock.specs.Seen.{ClockSeen}
 use Rattle.page_hash.specs.Names.{find, name_at, AreDistinct}
 use Rattle.page_hash.specs.declared.PageName.{PageName}
-use Rattle.page_lists.specs.ListsSeen.{ListsSeen, Has, AreApart}
+use Rattle.page_lists.specs.ListsSeen.{ListsSeen, AreApart}
 use Rattle.page_lock.specs.Rows.{row_at}
 use Rattle.page_lock.specs.declared.Row.{Row}
 use Rattle.page_store.specs.Bays.{BaySeen, missing, home, bay_at, AreNumbers}
@@ -47,7 +47,7 @@ lists_seen s = record { frames = length s.frames; free = s.free; cached = s.cach
 
 -- a frame is on the free list or on the cache list
 abbrev pub IsListedFrame : StoreSeen → ℕ → Type 0
-IsListedFrame s frame = Has s.free frame ⊎ Has s.cached frame
+IsListedFrame s frame = Contains s.free frame ⊎ Contains s.cached frame
 
 -- the page that a frame has, which is away, was given up meanwhile
 abbrev pub IsGone : StoreSeen → ℕ → Type 0
@@ -94,8 +94,8 @@ pub record IsSoundStore (s : StoreSeen) : Type 0 where
   pub each : (k : ℕ) → k < length s.frames → FrameAgrees (bytes_at s.frames k) (name_at s.names k) (row_at s.rows k)
   pub paired : ArePaired s
   pub listed : (k : ℕ) → IsListedFrame s k → IsSome (bytes_at s.frames k)
-  pub unnamed : (k : ℕ) → Has s.free k → name_at s.names k ≡ None
-  pub spare : (k : ℕ) → IsSome (bytes_at s.frames k) → name_at s.names k ≡ None → Has s.free k
+  pub unnamed : (k : ℕ) → Contains s.free k → name_at s.names k ≡ None
+  pub spare : (k : ℕ) → IsSome (bytes_at s.frames k) → name_at s.names k ≡ None → Contains s.free k
   pub whole : (number : ℕ) (d : DiskSeen) → bay_at s.bays number ≡ home d → HasBlocks d.content d.size
 
 -- where a name is: with a home frame, with the seat that has its frame, or nowhere

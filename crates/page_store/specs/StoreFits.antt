@@ -1,10 +1,9 @@
 -- When the notes and the table agree with a store. Public clauses cite this.
-use Rattle.std.specs.Prelude.{◌≡◌, ℕ, true, false, List, Some, None, IsTrue, length}
+use Rattle.std.specs.Prelude.{◌≡◌, ℕ, true, false, List, Some, None, IsTrue, length, Contains}
 use Rattle.block_device.specs.DiskSeen.{HasBlocks}
 use Rattle.core_arena.specs.Bytes.{bytes_at}
 use Rattle.page_hash.specs.Names.{name_at}
 use Rattle.page_hash.specs.declared.PageName.{PageName}
-use Rattle.page_lists.specs.ListsSeen.{Has}
 use Rattle.page_lock.specs.Rows.{row_at}
 use Rattle.page_store.specs.Bays.{out, bay_at}
 use Rattle.page_store.specs.Bytes.{clip}
@@ -45,5 +44,5 @@ pub record StoreFits (s : StoreSeen) (notes : Notes) (table : Table) : Type 0 wh
       → (note : Note) × (notes seat ≡ Some note) × (note.frame ≡ frame)
   pub each_bay : (number seat : ℕ) → bay_at s.bays number ≡ out seat
       → (note : Note) × (notes seat ≡ Some note) × (note.number ≡ number)
-  pub each_cached : (frame : ℕ) (n : PageName) → Has s.cached frame → name_at s.names frame ≡ Some n
+  pub each_cached : (frame : ℕ) (n : PageName) → Contains s.cached frame → name_at s.names frame ≡ Some n
       → IsClean s notes table frame n

@@ -1,8 +1,7 @@
 -- What stays where the table of places changes. Public clauses cite this.
-use Rattle.std.specs.Prelude.{◌≡◌, ℕ, true, false, Some}
+use Rattle.std.specs.Prelude.{◌≡◌, ℕ, true, false, Some, Contains}
 use Rattle.page_hash.specs.Names.{name_at}
 use Rattle.page_hash.specs.declared.PageName.{PageName}
-use Rattle.page_lists.specs.ListsSeen.{Has}
 use Rattle.page_lock.specs.Rows.{row_at}
 use Rattle.page_store.specs.StoreFits.{StoreFits, IsClean}
 use Rattle.page_store.specs.Notes.{Note, Notes}
@@ -24,7 +23,7 @@ pub record HasNotePlace (s : StoreSeen) (table : Table) (note : Note) : Type 0 w
 pub record MayReplaceTable (s : StoreSeen) (notes : Notes) (table : Table) : Type 0 where
   pub apart : IsApart table
   pub each_note : (seat : ℕ) (note : Note) → notes seat ≡ Some note → HasNotePlace s table note
-  pub cached : (frame : ℕ) (n : PageName) → Has s.cached frame → name_at s.names frame ≡ Some n → IsClean s notes table frame n
+  pub cached : (frame : ℕ) (n : PageName) → Contains s.cached frame → name_at s.names frame ≡ Some n → IsClean s notes table frame n
 
 -- Such a table agrees with the store and the notes; and a name keeps its value where its place is the same, where a home
 -- frame holds it, and where a note writes it and its frame still holds it. A page is clean for both where its place is the same.

@@ -1,11 +1,10 @@
 -- When a transfer can begin, and what its begin and its end do beside their exact new stores. Public clauses cite this.
-use Rattle.std.specs.Prelude.{◌≡◌, ◌≢◌, ◌⊎◌, ◌||◌, ℕ, Bool, true, false, if◌then◌else◌, Option, Some, None, IsSome, IsTrue, is_some, length}
+use Rattle.std.specs.Prelude.{◌≡◌, ◌≢◌, ◌⊎◌, ◌||◌, ℕ, Bool, true, false, if◌then◌else◌, Option, Some, None, IsSome, IsTrue, is_some, length, Contains}
 use Rattle.std.specs.Option.{option_or}
 use Rattle.block_device.specs.DiskSeen.{DiskSeen, HasBlocks}
 use Rattle.core_arena.specs.Bytes.{bytes_at}
 use Rattle.page_hash.specs.Names.{find, name_at}
 use Rattle.page_hash.specs.declared.PageName.{PageName}
-use Rattle.page_lists.specs.ListsSeen.{Has}
 use Rattle.page_lock.specs.Rows.{row_at}
 use Rattle.page_store.specs.Bays.{home, out, bay_at}
 use Rattle.page_store.specs.StoreFits.{StoreFits, IsClean}
@@ -120,7 +119,7 @@ pub record EndsTransfer (old new : StoreSeen) (f : FlightSeen) : Type 0 where
   pub success : (row_at old.rows f.frame).gone ≡ false → f.outcome ≡ done → ComesHome old new f (was_rewritten old f.frame)
   pub failed_write : (row_at old.rows f.frame).gone ≡ false → f.outcome ≡ failed → f.writes ≡ true → ComesHome old new f true
   pub failed_read : (row_at old.rows f.frame).gone ≡ false → f.outcome ≡ failed → f.writes ≡ false → residence new f.name ≡ at.Absent
-  pub free : (IsGone old f.frame ⊎ (IsSome (row_at old.rows f.frame).source ⊎ ((f.outcome ≡ failed) × (f.writes ≡ false)))) → Has new.free f.frame
+  pub free : (IsGone old f.frame ⊎ (IsSome (row_at old.rows f.frame).source ⊎ ((f.outcome ≡ failed) × (f.writes ≡ false)))) → Contains new.free f.frame
   pub stay : (n : PageName) → ((row_at old.rows f.frame).gone ≡ false → n ≢ f.name) → residence new n ≡ residence old n
   pub bytes : (row_at old.rows f.frame).source ≡ None → bytes_at new.frames (own_frame old f.frame) ≡ Some f.bytes
   pub values : (notes : Notes) (note : Note) (table : Table) → StoreFits old notes table → notes f.seat ≡ Some note → IsPerformed note f

@@ -1,6 +1,5 @@
 //! Transfers end.
-ghost use Rattle.std.specs.Prelude.{◌≡◌, ◌≢◌, ◌⊎◌, ◌||◌, ℕ, ◌<◌, true, false, if◌then◌else◌, ◌++◌, ◌∷◌, [], length, Some, None, IsSome, slice_set};
-ghost use Rattle.page_lists.specs.ListsSeen.{Has};
+ghost use Rattle.std.specs.Prelude.{◌≡◌, ◌≢◌, ◌⊎◌, ◌||◌, ℕ, ◌<◌, true, false, if◌then◌else◌, ◌++◌, ◌∷◌, [], length, Some, None, IsSome, slice_set, Contains};
 ghost use Rattle.page_lock.specs.Rows.{row_at, clear_row};
 ghost use Rattle.page_store.specs.Flight.{fresh};
 ghost use Rattle.page_store.specs.Out.{IsFlightOf};
@@ -105,7 +104,7 @@ fn land(
     requires within { frame < length locks.old }
     requires listed { frame < lists.old.frames }
     requires held { IsSome (row_at locks.old frame).holder }
-    requires unlisted { Has lists.old.free frame ⊎ Has lists.old.cached frame → ⊥ }
+    requires unlisted { Contains lists.old.free frame ⊎ Contains lists.old.cached frame → ⊥ }
     // A lost page leaves its frame free, without a name.
     ensures names { names.new ≡ if lost then slice_set names.old frame None else names.old }
     ensures locks { locks.new ≡ slice_set locks.old frame

@@ -1,8 +1,8 @@
 //! What is done to pages while they are at home.
-ghost use Rattle.std.specs.Prelude.{◌≡◌, ℕ, ◌+◌, ◌<◌, ◌≤◌, ◌==◌, ◌++◌, ◌∷◌, [], ◌↔◌, true, false, if◌then◌else◌, List, length, Some, None, IsSome, IsTrue, IfSome, is_some, slice_set};
+ghost use Rattle.std.specs.Prelude.{◌≡◌, ℕ, ◌+◌, ◌<◌, ◌≤◌, ◌==◌, ◌++◌, ◌∷◌, [], ◌↔◌, true, false, if◌then◌else◌, List, length, Some, None, IsSome, IsTrue, IfSome, is_some, slice_set, Contains};
 ghost use Rattle.core_arena.specs.Bytes.{bytes_at, zeros};
 ghost use Rattle.page_hash.specs.Names.{find};
-ghost use Rattle.page_lists.specs.ListsSeen.{Has, without_frame};
+ghost use Rattle.page_lists.specs.ListsSeen.{without_frame};
 ghost use Rattle.page_lock.specs.Rows.{row_at, clear_row, with_bits};
 ghost use Rattle.page_store.specs.Laws.{StaysInPlace, Releases, Pokes, FillsPage, Aborts};
 ghost use Rattle.page_store.specs.Moves.{is_only};
@@ -106,7 +106,7 @@ impl<D: Disk> Store<D> {
     /// Takes a page's frame back from the cache list; false where it isn't there.
     pub fn reclaim(&mut self, name: PageName) -> bool
         ensures cached { IsTrue result ↔ ((frame : ℕ) × (find self.old.names name ≡ Some frame)
-            × Has self.old.cached frame) }
+            × Contains self.old.cached frame) }
         ensures new { self.new ≡ after_reclaim self.old name }
         ensures unlisted { IfSome (find self.old.names name)
             (λ frame. ¬ IsListedFrame self.new frame) }
@@ -152,7 +152,7 @@ fn give_up(core: &Core, lists: &mut PageLists, locks: &mut PageLocks, frame: u32
     requires listed { frame < lists.old.frames }
     requires locked { frame < length locks.old }
     requires held { bytes_at core.now.frames frame ≡ None → IsSome (row_at locks.old frame).holder }
-    requires used { Has lists.old.free frame → ⊥ }
+    requires used { Contains lists.old.free frame → ⊥ }
     // A frame at home is free, one that is away has a page that is gone.
     ensures lists { lists.new ≡ (if is_some
         (bytes_at core.now.frames frame) then record lists.old {

@@ -1,12 +1,13 @@
 -- A page that isn't modified loses its translations and goes on the cache list.
 use Rattle.std.proofs.Common.{◌≡◌, ℕ, zero, suc, ◌<◌, Bool, true, false, List, [], ◌∷◌, ◌++◌, length, Option, Some, None, refl, sym, ap, ◌∙◌, ◌⊎◌, inl, inr, subst, arith}
-use Rattle.std.specs.Prelude.{IsSome, is_some, is_none, ◌||◌, ◌&&◌, unwrap_or}
+use Rattle.std.specs.Prelude.{IsSome, is_some, is_none, ◌||◌, ◌&&◌, unwrap_or, Contains}
 use Rattle.std.proofs.lemmas.Bool.{cases_Bool}
+use Rattle.std.proofs.lemmas.List.Elements.{Contains-push_cases}
 use Rattle.core_arena.specs.Bytes.{bytes_at}
 use Rattle.page_hash.specs.Names.{name_at}
 use Rattle.page_hash.specs.declared.PageName.{PageName}
-use Rattle.page_lists.specs.ListsSeen.{Has, first_of}
-use Rattle.page_lists.proofs.ListLemmas.{has-more}
+use Rattle.page_lists.specs.ListsSeen.{first_of}
+use Rattle.page_lists.proofs.ListLemmas.{Contains-none}
 use Rattle.page_lock.specs.Rows.{row_at}
 use Rattle.page_lock.specs.declared.Row.{Row}
 use Rattle.page_store.specs.Laws.{Releases}
@@ -115,7 +116,7 @@ evict-keeps w spaces new hat frame f clear unwritten there places frames single 
     let row : (k : ℕ) → row_at new.rows k ≡ row_at w.store.rows k = λ k. ap (λ (x : StoreSeen). row_at x.rows k) step in
     let listed : (k : ℕ) → IsListedFrame new k → IsListedFrame w.store k ⊎ (k ≡ frame) = λ k l. elim (subst (λ (x : StoreSeen). IsListedFrame x k) step l) [
       | inl free ↦ inl (inl free)
-      | inr cached ↦ elim (has-more w.store.cached frame k cached) [ inl a ↦ inl (inr a) | inr b ↦ inr (sym b) ]
+      | inr cached ↦ elim (Contains-push_cases w.store.cached frame k cached) [ inl a ↦ inl (inr a) | inr b ↦ inr (sym b) ]
     ] in
     let written : (k : ℕ) → HasWritten w.hat.places k → HasWritten hat.places k = λ k x. subst (λ (ps : List (Option Translation)). HasWritten ps k) (sym places) (written-drop w.hat.places frame k unwritten x) in
     step-keeps w spaces new hat f (record {
@@ -145,12 +146,12 @@ some-room (x ∷ xs) cached frame = refl
 no-room : (s : StoreSeen) → next_frame s ≡ None → (k : ℕ) → ¬ IsListedFrame s k
 no-room s none k l = elim l [ inl h ↦ by_free s.free s.cached none h | inr h ↦ by_cached s.free s.cached none h ]
   where
-    by_free : (free cached : List ℕ) → first_of free cached ≡ None → Has free k → ⊥
-    by_free [] cached e h = h
+    by_free : (free cached : List ℕ) → first_of free cached ≡ None → Contains free k → ⊥
+    by_free [] cached e h = Contains-none k h
     by_free (x ∷ xs) cached e h = absurd (cc)
 
-    by_cached : (free cached : List ℕ) → first_of free cached ≡ None → Has cached k → ⊥
-    by_cached [] [] e h = h
+    by_cached : (free cached : List ℕ) → first_of free cached ≡ None → Contains cached k → ⊥
+    by_cached [] [] e h = Contains-none k h
     by_cached [] (x ∷ xs) e h = absurd (cc)
     by_cached (x ∷ xs) cached e h = absurd (cc)
 

@@ -1,13 +1,14 @@
 -- A frame that is taken for a page of zeros: memory and the notes fit, and the name that the frame held is cut at its valid bytes.
-use Rattle.std.proofs.Common.{◌≡◌, ◌≢◌, ℕ, zero, suc, ◌-◌, ◌≤◌, Bool, true, false, cond, List, [], ◌∷◌, ◌++◌, length, take, replicate, Option, Some, None, refl, sym, ap, ◌∙◌, ◌⊎◌, inl, inr, subst, arith, slice_index_or}
+use Rattle.std.proofs.Common.{◌≡◌, ◌≢◌, ℕ, zero, suc, ◌-◌, ◌≤◌, Bool, true, false, cond, List, [], ◌∷◌, ◌++◌, length, take, replicate, Option, Some, None, refl, sym, ap, ◌∙◌, ◌⊎◌, inl, inr, subst, arith, slice_index_or, Contains}
 use Rattle.std.specs.Prelude.{IsTrue, IsSome, not, unwrap_or}
-use Rattle.std.proofs.lemmas.Bool.{cases_eq, cases_Bool}
+use Rattle.std.proofs.lemmas.Bool.{cases_eq, cases_Bool, not-true}
 use Rattle.std.proofs.lemmas.Bool.Decides.{eqb_tells}
 use Rattle.core_arena.specs.Bytes.{bytes_at, zeros}
 use Rattle.page_hash.specs.Names.{name_at, find}
 use Rattle.page_hash.specs.declared.PageName.{PageName}
 use Rattle.page_hash.proofs.NameLaws.{find-at, find-none}
-use Rattle.page_lists.specs.ListsSeen.{Has, first_of}
+use Rattle.page_lists.specs.ListsSeen.{first_of}
+use Rattle.page_lists.proofs.ListLemmas.{Contains-first}
 use Rattle.page_lock.specs.Rows.{row_at}
 use Rattle.page_lock.specs.declared.Row.{Row}
 use Rattle.page_store.specs.Bays.{BaySeen, block_of}
@@ -52,10 +53,10 @@ pub record TakesFor (old new : StoreSeen) (name : PageName) (frame : ℕ) : Type
 pub next-listed : (s : StoreSeen) (frame : ℕ) → next_frame s ≡ Some frame → IsListedFrame s frame
 next-listed s frame e = by_lists s.free s.cached e
   where
-    by_lists : (free cached : List ℕ) → first_of free cached ≡ Some frame → Has free frame ⊎ Has cached frame
+    by_lists : (free cached : List ℕ) → first_of free cached ≡ Some frame → Contains free frame ⊎ Contains cached frame
     by_lists [] [] e = absurd (cc)
-    by_lists [] (x ∷ xs) e = inr (inl (let z : Some x ≡ Some frame = e in cc))
-    by_lists (x ∷ xs) cached e = inl (inl (let z : Some x ≡ Some frame = e in cc))
+    by_lists [] (x ∷ xs) e = inr (Contains-first x frame xs (let z : Some x ≡ Some frame = e in cc))
+    by_lists (x ∷ xs) cached e = inl (Contains-first x frame xs (let z : Some x ≡ Some frame = e in cc))
 
 pub held-by : (s : StoreSeen) (n : PageName) (frame : ℕ) → residence s n ≡ Home frame → name_at s.names frame ≡ Some n
 held-by s n frame home = find-at s.names n frame (home-is s n frame home).found
@@ -164,10 +165,6 @@ blank-is w n fit is = elim (page-cases w.files w.anon n is) [
   | inr f ↦ ap (λ (p : Place). p.blank) (file-place w.files w.anon n.object n.page f.1 f.2)
 ]
 
-not-true : (b : Bool) → not b ≡ true → b ≡ false
-not-true true h = absurd (let z : false ≡ true = h in cc)
-not-true false h = refl
-
 -- a note is none of the taken frame's, nor of its own page's
 pub note-apart : (w : World) (spaces : Spaces) (new : StoreSeen) (name : PageName) (frame seat : ℕ) (notes : Notes) (note : Note) → MemoryFits (memory_of w spaces) → TakesFor w.store new name frame → StoreFits w.store notes (world_table w) → notes seat ≡ Some note → note.frame ≢ frame
 note-apart w spaces new name frame seat notes note f k fits is e =
@@ -225,7 +222,7 @@ pub was-taken : (w : World) (spaces : Spaces) (frame seat : ℕ) (notes : Notes)
     → IsTrue (is_unpushed w.files w.anon note.name) × (note.name.object ≢ 64)
 was-taken w spaces frame seat notes note f listed nf is writes home =
     let name_is = held-by w.store note.name frame home in
-    let cached : Has w.store.cached frame = elim listed [ inl h ↦ absurd (let z : Some note.name ≡ None = sym name_is ∙ f.frames.sound.unnamed frame h in cc) | inr h ↦ h ] in
+    let cached : Contains w.store.cached frame = elim listed [ inl h ↦ absurd (let z : Some note.name ≡ None = sym name_is ∙ f.frames.sound.unnamed frame h in cc) | inr h ↦ h ] in
     let blank = ((nf.stored.each_cached frame note.name cached name_is).unwritten seat note is writes refl).1 in
     let real = exists-page w note.name f.files (f.frames.exist frame note.name name_is) in
     let unpushed : is_unpushed w.files w.anon note.name ≡ true = sym (blank-is w note.name f.files real) ∙ blank in (

@@ -1,13 +1,14 @@
 -- THE NEXT FRAME IS FREED: its page is given up, and has the value that its disk has, or zeros where it is blank.
 use Rattle.std.proofs.Common.{◌≡◌, ◌≢◌, ℕ, ◌<◌, ◌==◌, ◌||◌, Bool, true, false, List, [], ◌∷◌, ◌++◌, length, Option, Some, None, refl, sym, ap, ◌∙◌, inl, inr, subst, slice_set, get_or-set_same, arith}
-use Rattle.std.specs.Prelude.{IsTrue, IsSome, IfSome, MatchOption, unwrap_or}
+use Rattle.std.specs.Prelude.{IsTrue, IsSome, IfSome, MatchOption, unwrap_or, Contains}
 use Rattle.std.proofs.lemmas.Bool.{cases_eq, cases_Bool}
 use Rattle.std.proofs.lemmas.Bool.Decides.{eqb_tells}
 use Rattle.core_arena.specs.Bytes.{bytes_at}
 use Rattle.page_hash.specs.Names.{name_at, find, is_name}
 use Rattle.page_hash.specs.declared.PageName.{PageName}
 use Rattle.page_hash.proofs.NameLaws.{find-some, is_name-true, is_name-same}
-use Rattle.page_lists.specs.ListsSeen.{Has, first_of, without_frame}
+use Rattle.page_lists.specs.ListsSeen.{first_of, without_frame}
+use Rattle.page_lists.proofs.ListLemmas.{Contains-first}
 use Rattle.page_lock.specs.Rows.{row_at, clear_row}
 use Rattle.page_lock.specs.declared.Row.{Row}
 use Rattle.page_store.specs.Bays.{BaySeen}
@@ -243,7 +244,7 @@ frees-step w spaces new n frame f k =
         → page_value (with_tables w new w.hat) notes n ≡ cut_page (is_name (next_name w.store) n) (world_table w n).valid (page_value w notes n)
     own_page notes nf tell is taken =
         let listed = next-listed w.store frame k.next in
-        let cached : Has w.store.cached frame = elim listed [ inl h ↦ absurd (let z : Some n ≡ None = sym k.named ∙ f.frames.sound.unnamed frame h in cc) | inr h ↦ h ] in
+        let cached : Contains w.store.cached frame = elim listed [ inl h ↦ absurd (let z : Some n ≡ None = sym k.named ∙ f.frames.sound.unnamed frame h in cc) | inr h ↦ h ] in
         let clean : IsClean w.store notes (world_table w) frame n = nf.stored.each_cached frame n cached k.named in
         let v = home-value w.store notes (world_table w) n frame (bytes_at w.store.frames frame) (find-some w.store.names n frame f.frames.sound.distinct k.named) refl (f.frames.sound.listed frame listed) in
         value-is (with_tables w new w.hat) notes n is
@@ -261,7 +262,7 @@ frees-first w spaces new n frame f k = ap next_frame k.done ∙ by_free w.store.
     by_free [] e = refl
     by_free (x ∷ xs) e = absurd (
         let first : x ≡ frame = let z : Some x ≡ Some frame = sym (ap (λ (l : List ℕ). first_of l w.store.cached) e) ∙ k.next in cc in
-        let free : Has w.store.free frame = subst (λ (l : List ℕ). Has l frame) (sym e) (inl first) in
+        let free : Contains w.store.free frame = subst (λ (l : List ℕ). Contains l frame) (sym e) (Contains-first x frame xs first) in
         let z : Some n ≡ None = sym k.named ∙ f.frames.sound.unnamed frame free in cc)
 
 -- WHAT HOLDS OF THE WORLD once the next frame was freed, where it held a page.

@@ -1,6 +1,6 @@
 -- THE WORLD OF THE SLOTS' TRIAL fits: idle frames, and two maps that hold one slot, whose page is in swap.
 use Rattle.std.proofs.Common.{◌≡◌, ◌≢◌, ℕ, zero, suc, ◌+◌, ◌-◌, ◌*◌, ◌<◌, ◌≤◌, Bool, true, false, List, [], ◌∷◌, length, map, replicate, Option, Some, None, refl, sym, ap, ◌∙◌, inl, inr, subst, arith, slice_index, slice_index_or}
-use Rattle.std.specs.Prelude.{All, is_some, option_map, sum_by, flat_map, filter_map, option_and_then}
+use Rattle.std.specs.Prelude.{All, is_some, option_map, sum_by, flat_map, filter_map, option_and_then, Contains}
 use Rattle.std.specs.Ordering.{nat_cmp}
 use Rattle.std.specs.Cmp.{nat_cmp_total}
 use Rattle.std.specs.FinMap as finite
@@ -16,7 +16,7 @@ use Rattle.hat_layer.specs.Pool as pool
 use Rattle.hat_layer.specs.declared.translation.Translation.{Translation}
 use Rattle.page_hash.specs.Names.{name_at}
 use Rattle.page_hash.specs.declared.PageName.{PageName}
-use Rattle.page_lists.specs.ListsSeen.{Has}
+use Rattle.page_lists.proofs.ListLemmas.{Contains-none}
 use Rattle.page_lock.specs.Rows.{row_at, clear_row}
 use Rattle.page_lock.specs.declared.Row.{Row}
 use Rattle.page_store.specs.Bays.{BaySeen, missing, home, out, bay_at, IsStill}
@@ -227,7 +227,7 @@ module _ (frames : ℕ) (pushed : Bool) (w : World) (h : HoldsFresh frames pushe
         each_note = λ seat note is. absurd (cc);
         each_frame = λ k seat is. absurd (let z : None ≡ Some seat = sym (ap (λ (r : Row). r.holder) (clear k)) ∙ is in cc);
         each_bay = λ number seat is. absurd (still-not number seat is);
-        each_cached = λ k n on is. absurd (subst (λ (l : List ℕ). Has l k) h.store.cached on);
+        each_cached = λ k n on is. absurd (Contains-none k (subst (λ (l : List ℕ). Contains l k) h.store.cached on));
       };
       clean = λ k n is _. absurd (unnamed k n is);
       pushes = λ seat note is _ _. absurd (cc);

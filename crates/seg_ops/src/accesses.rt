@@ -10,7 +10,7 @@ ghost use Rattle.vm_world.specs.World.{world_seen};
 ghost use Rattle.seg_ops.specs.Steps.{KeepsPages, ReadsWord, WritesWord};
 
 use block_device::Disk;
-use flat_model::word_in;
+use flat_model::word_at;
 use vm_types::word_bytes;
 use vm_world::World;
 
@@ -45,7 +45,7 @@ pub fn read<D: Disk>(world: &World<D>, frame: u32, addr: u32, size: u32) -> u32
         → IsNoted world.now.hat.places space (page addr) frame false
         → ReadsWord (world_seen world.now) spaces space addr size result }
 {
-    word_in(world.store.frame_bytes(frame), addr, size)
+    word_at(world.store.frame_bytes(frame), addr, size)
 }
 
 /// Puts a word at an address of a store that was noted, into the frame that the store goes to: so the page is modified

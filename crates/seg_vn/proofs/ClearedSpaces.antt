@@ -60,7 +60,7 @@ none-out k q = elim (cases_lt q k) [
   | inr past ↦ and_right (nat_le k q) (nat_lt q (k + (k - k))) (le-ltb q (k + (k - k)) (omega (arith, past)))
 ]
 
-cut-map : {X Y : Type 0} (f : X → Y) (b : Bool) (o : Option X) → option_map f (cond b None o) ≡ cond b None (option_map f o)
+pub cut-map : {X Y : Type 0} (f : X → Y) (b : Bool) (o : Option X) → option_map f (cond b None o) ≡ cond b None (option_map f o)
 cut-map f true o = refl
 cut-map f false o = refl
 

@@ -1,4 +1,4 @@
--- Segments as a driver keeps them. Public clauses cite this.
+-- Segments as a driver keeps them. Inside: no public clause cites this, only a model's invariant and the codes.
 use Rattle.std.specs.Prelude.{ℕ, ◌+◌, ◌<◌, ◌^◌, Option, refl}
 use Rattle.std.specs.Coded.{Coded, code_by, coded×, coded_ℕ, coded_option}
 use Rattle.vm_types.specs.declared.prot.Prot.{Prot}

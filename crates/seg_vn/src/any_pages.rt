@@ -16,7 +16,7 @@ use seg_ops::{Step, ask, fetch, fill_page, make_room};
 use vm_world::World;
 
 /// Whether a page was never pushed.
-pub(crate) fn is_blank<D: Disk>(world: &World<D>, name: PageName) -> bool
+pub(crate) fn is_unpushed<D: Disk>(world: &World<D>, name: PageName) -> bool
     requires exists { IsTrue (page_exists world.now.files world.now.anon name) }
     requires fits { (spaces : Spaces)
         × MemoryFits (record { world = world_seen world.now; spaces = spaces }) }
@@ -79,7 +79,7 @@ pub(crate) fn bring_page<D: Disk>(world: &mut World<D>, name: PageName) -> Step
         Residence::Home(_) => Step::Loaded,
         Residence::Moving(seat) => Step::Busy(Hold::Page(seat)),
         Residence::Absent => {
-            if is_blank(world, name) {
+            if is_unpushed(world, name) {
                 bring_zeros(world, name)
             } else {
                 fetch(world, name)

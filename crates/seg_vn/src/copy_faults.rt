@@ -18,7 +18,7 @@ ghost use Rattle.seg_ops.specs.Slots.{OwnsAlone};
 ghost use Rattle.seg_vn.specs.AnyPlaces.{CopyPlace, GetsOwn, OwnSpot, ShowsZeros};
 ghost use Rattle.seg_ops.specs.Faults.{ServesFault};
 
-use crate::any_pages::is_blank;
+use crate::any_pages::is_unpushed;
 use crate::segment::load_page;
 use block_device::Disk;
 use page_store::{Hold, PageName, Plan, Residence, SWAP_OBJECT};
@@ -256,7 +256,7 @@ pub(crate) fn fault_copy<D: Disk>(
         Residence::Home(frame) => copy_page(world, space, page, name, frame, map, place, slot),
         Residence::Moving(seat) => Step::Busy(Hold::Page(seat)),
         Residence::Absent => {
-            if is_blank(world, name) {
+            if is_unpushed(world, name) {
                 own_zeros(world, space, page, map, place, slot)
             } else {
                 fetch(world, name)

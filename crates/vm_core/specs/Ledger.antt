@@ -1,4 +1,4 @@
--- The history, with the most entries that each process may make. Public clauses don't cite this.
+-- The history, with the most entries that each process may make. Inside: no public clause cites this.
 use Rattle.std.specs.Prelude.{◌≡◌, ◌≤◌, ◌+◌, ℕ, List, length, sum_by}
 use Rattle.vm_types.specs.declared.call.Entry.{Entry}
 use Rattle.flat_model.specs.Told.{entries_of}

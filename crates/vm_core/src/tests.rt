@@ -220,8 +220,8 @@ fn a_read_fails(trial: &mut Trial) -> Result<Option<Other>, Fail> {
     )
 }
 
-/// A turn of the hands is F0 B3 F1 B4 F2 B5 F3 B0 F4 B1 F5 B2, front and back. The page is in frame 1, as the frame of the failed read is free last: the
-/// tenth move pushes what was stored into it.
+/// A round of the hands is F0 B3 F1 B4 F2 B5 F3 B0 F4 B1 F5 B2, front and back. The page is in frame 1, as the frame of the
+/// failed read is free last: the tenth move pushes what was stored into it.
 fn hands_push(trial: &mut Trial) -> Result<Option<Other>, Fail> {
     first_other(
         trial,
@@ -237,7 +237,7 @@ fn hands_push(trial: &mut Trial) -> Result<Option<Other>, Fail> {
             (Clock(1, 5), Still),
             (Try(0, Load(0x1_0000)), Done(Word(1))),
             (Clock(1, 7), Still),
-            // Its next push fails, and is made again a turn later.
+            // Its next push fails, and is made again a round later.
             (Clock(1, 11), Still),
             (Clock(1, 1), Sent),
             (Land(1), Landed),

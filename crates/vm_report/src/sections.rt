@@ -185,7 +185,7 @@ fn is_forked(process: u32, history: &[Entry]) -> bool
 }
 
 // Whether a process was born: it is a top process, or its fork was done.
-fn is_born(parents: &[u32], process: u32, forked: bool) -> bool
+fn is_born_by(parents: &[u32], process: u32, forked: bool) -> bool
     ensures { result ≡ is_born_by parents.now process forked }
 {
     if process == 0 {
@@ -273,7 +273,7 @@ pub fn process_section(
         ≡ out.old.items ++ report.process_section plan.now process history.now) }
 {
     let alloc = *out.allocator();
-    let born = is_born(plan.parents(), process, is_forked(process, history));
+    let born = is_born_by(plan.parents(), process, is_forked(process, history));
     let lines = lines_of(alloc, plan.lines(), process)?;
     let entries = entries_of_process(alloc, history, process)?;
     push_section(out, process, born, &lines, &entries)
@@ -296,7 +296,7 @@ pub fn process_sections(plan: &Plan, history: &[Entry], out: &mut Vec<u8>) -> Re
     let mut process = 1;
     while process as usize <= count {
         let i = process as usize;
-        let born = is_born(plan.parents(), process, births[i]);
+        let born = is_born_by(plan.parents(), process, births[i]);
         push_section(out, process, born, lines[i].members(), entries[i].members())?;
         process += 1;
     }

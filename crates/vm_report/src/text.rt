@@ -54,7 +54,7 @@ pub fn push_argument(out: &mut Vec<u8>, number: u32) -> Result<(), AllocError>
     push_number(out, number)
 }
 
-fn digit_of(value: u8) -> u8
+fn hex_digit(value: u8) -> u8
     requires { value < 16 }
     ensures { result ≡ hex_digit value }
 {
@@ -65,7 +65,7 @@ fn digit_of(value: u8) -> u8
 pub fn digits_of_byte(b: u8) -> [u8; 2]
     ensures { result ≡ byte_text b }
 {
-    [digit_of(b / 16), digit_of(b % 16)]
+    [hex_digit(b / 16), hex_digit(b % 16)]
 }
 
 // The digits of at most 32 bytes, with zeros behind them.
@@ -76,8 +76,8 @@ fn digits_of(bytes: &[u8]) -> [u8; 64]
     let mut digits = [0; 64];
     for i in 0..bytes.len() {
         let b = bytes[i];
-        digits[2 * i] = digit_of(b / 16);
-        digits[2 * i + 1] = digit_of(b % 16);
+        digits[2 * i] = hex_digit(b / 16);
+        digits[2 * i + 1] = hex_digit(b % 16);
     }
     digits
 }

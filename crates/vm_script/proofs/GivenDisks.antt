@@ -8,7 +8,7 @@ use Rattle.vm_script.specs.declared.plan.SetupAct.{SetupAct}
 use Rattle.vm_script.specs.declared.plan.SetupAct.TheVariants as given
 use Rattle.vm_script.specs.declared.plan.SetupLine.{SetupLine}
 use Rattle.vm_script.specs.Rules.{gives_disk, is_right_disk, gives_again, has_wrong_disk, lacks_disk}
-use Rattle.vm_script.specs.GivenDisks.{lacks_of}
+use Rattle.vm_script.specs.GivenDisks.{lacks_given_disk}
 
 pub eight : (P : ℕ → Bool) (b0 b1 b2 b3 b4 b5 b6 b7 : Bool) → b0 ≡ P 0 → b1 ≡ P 1 → b2 ≡ P 2 → b3 ≡ P 3 → b4 ≡ P 4 → b5 ≡ P 5 → b6 ≡ P 6 → b7 ≡ P 7
     → (d : ℕ) → d < 8 → slice_index_or (b0 ∷ b1 ∷ b2 ∷ b3 ∷ b4 ∷ b5 ∷ b6 ∷ b7 ∷ []) d false ≡ P d
@@ -55,7 +55,7 @@ low : (d : ℕ) → nat_lt 7 d ≡ false → d < 8
 low d non = grind (rules, tests, arith, nat_tests, non)
 
 lacks_same : (setup : List SetupLine) (disks : List Bool) → ((d : ℕ) → d < 8 → slice_index_or disks d false ≡ list_any (λ l. gives_disk d l.act) setup) → has_wrong_disk setup ≡ false
-    → (a : SetupAct) → lacks_of disks a ≡ lacks_disk setup a
+    → (a : SetupAct) → lacks_given_disk disks a ≡ lacks_disk setup a
 lacks_same setup disks is right (given.Frames n) = refl
 lacks_same setup disks is right (given.Swap n) = refl
 lacks_same setup disks is right (given.Translations n) = refl
@@ -72,5 +72,5 @@ any_same p q same [] = refl
 any_same p q same (x ∷ xs) = ap₂ (λ a b. a || b) (same x) (any_same p q same xs)
 
 pub lack_same : (setup : List SetupLine) (disks : List Bool) → ((d : ℕ) → d < 8 → slice_index_or disks d false ≡ list_any (λ l. gives_disk d l.act) setup) → has_wrong_disk setup ≡ false
-    → list_any (λ l. lacks_of disks l.act) setup ≡ list_any (λ l. lacks_disk setup l.act) setup
-lack_same setup disks is right = any_same (λ l. lacks_of disks l.act) (λ l. lacks_disk setup l.act) (λ l. lacks_same setup disks is right l.act) setup
+    → list_any (λ l. lacks_given_disk disks l.act) setup ≡ list_any (λ l. lacks_disk setup l.act) setup
+lack_same setup disks is right = any_same (λ l. lacks_given_disk disks l.act) (λ l. lacks_disk setup l.act) (λ l. lacks_same setup disks is right l.act) setup

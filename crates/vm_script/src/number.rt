@@ -22,13 +22,13 @@ fn decimal(digits: &[u8]) -> Option<u32>
     u32::try_from(value).ok()
 }
 
-fn is_hexadecimal(b: u8) -> bool
+fn is_hex_digit(b: u8) -> bool
     ensures { result ≡ is_hex_digit b }
 {
     (b'0' <= b && b <= b'9') || (b'A' <= b && b <= b'F') || (b'a' <= b && b <= b'f')
 }
 
-fn value_of_digit(b: u8) -> u8
+fn digit_value(b: u8) -> u8
     requires { IsTrue (is_hex_digit b) }
     ensures value { result ≡ digit_value b }
     ensures small { result < 16 }
@@ -51,10 +51,10 @@ fn hexadecimal(digits: &[u8]) -> Option<u32>
     }
     let mut value = 0;
     for b in digits {
-        if !is_hexadecimal(*b) {
+        if !is_hex_digit(*b) {
             return None;
         }
-        value = 16 * value + u64::from(value_of_digit(*b));
+        value = 16 * value + u64::from(digit_value(*b));
     }
     u32::try_from(value).ok()
 }
@@ -86,7 +86,7 @@ pub fn is_file_name(field: &[u8]) -> bool
 fn are_hexadecimal(field: &[u8]) -> bool
     ensures { result ≡ list_all is_hex_digit field.now }
 {
-    field.iter().all(|b| is_hexadecimal(*b))
+    field.iter().all(|b| is_hex_digit(*b))
 }
 
 // The bytes of pairs of hexadecimal digits.
@@ -97,7 +97,7 @@ fn bytes_of_pairs(alloc: Global, digits: &[u8]) -> Result<Vec<u8>, AllocError>
     let mut bytes = Vec::with_capacity(alloc, digits.len() / 2)?;
     let mut left = digits;
     while let [high, low, rest @ ..] = left {
-        bytes.push(16 * value_of_digit(*high) + value_of_digit(*low))?;
+        bytes.push(16 * digit_value(*high) + digit_value(*low))?;
         left = rest;
     }
     Ok(bytes)

@@ -32,7 +32,7 @@ impl Model for Growing {
 }
 
 // The parent of a block, or 0.
-fn parent_of(parents: &[u32], p: u32) -> u32
+fn enclosing_block(parents: &[u32], p: u32) -> u32
     ensures { result ≡ enclosing_block parents.now p }
 {
     if p == 0 {
@@ -44,19 +44,19 @@ fn parent_of(parents: &[u32], p: u32) -> u32
     }
 }
 
-fn is_frames(act: &SetupAct) -> bool
+fn gives_frames(act: &SetupAct) -> bool
     ensures { result ≡ gives_frames act.now }
 {
     matches!(act, SetupAct::Frames(_))
 }
 
-fn is_swap(act: &SetupAct) -> bool
+fn gives_swap(act: &SetupAct) -> bool
     ensures { result ≡ gives_swap act.now }
 {
     matches!(act, SetupAct::Swap(_))
 }
 
-fn is_translations(act: &SetupAct) -> bool
+fn gives_translations(act: &SetupAct) -> bool
     ensures { result ≡ gives_translations act.now }
 {
     matches!(act, SetupAct::Translations(_))
@@ -119,9 +119,9 @@ impl Growing {
     fn add_setup(&mut self, line: u32, act: SetupAct) -> Result<(), AllocError>
         ensures new { OnOk result (self.new ≡ with_statement self.old line (Statement.Setup act)) }
     {
-        let frames = either(self.frames, is_frames(&act));
-        let swap = either(self.swap, is_swap(&act));
-        let translations = either(self.translations, is_translations(&act));
+        let frames = either(self.frames, gives_frames(&act));
+        let swap = either(self.swap, gives_swap(&act));
+        let translations = either(self.translations, gives_translations(&act));
         self.setup.push(SetupLine { line, act })?;
         self.frames = frames;
         self.swap = swap;
@@ -153,7 +153,7 @@ impl Growing {
         ensures new { OnOk result (self.new ≡ with_statement self.old line Statement.End) }
     {
         self.add_line(line, PlanAct::Call(Call::Exit))?;
-        self.inside = parent_of(&self.parents, self.inside);
+        self.inside = enclosing_block(&self.parents, self.inside);
         Ok(())
     }
 

@@ -2,7 +2,7 @@
 ghost use Rattle.std.specs.Prelude.{ℕ, ◌≡◌, ◌<◌, ◌≤◌, ◌==◌, ◌*◌, not, false, count_by, slice_index_or, nat_lt};
 ghost use Rattle.std.specs.List.{list_any};
 ghost use Rattle.vm_script.specs.Rules as rules;
-ghost use Rattle.vm_script.specs.GivenDisks.{lacks_of};
+ghost use Rattle.vm_script.specs.GivenDisks.{lacks_given_disk};
 
 use crate::counts::needs_too_many;
 use crate::plan::{Plan, SetupAct, SetupLine};
@@ -139,8 +139,8 @@ fn given_disks(setup: &[SetupLine]) -> [bool; 8]
     ]
 }
 
-fn lacks_disk(given: &[bool; 8], act: &SetupAct) -> bool
-    ensures { result ≡ lacks_of given.now act.now }
+fn lacks_given_disk(given: &[bool; 8], act: &SetupAct) -> bool
+    ensures { result ≡ lacks_given_disk given.now act.now }
 {
     match act {
         SetupAct::File { disk, .. } => *disk > 7 || !given[*disk as usize],
@@ -149,9 +149,9 @@ fn lacks_disk(given: &[bool; 8], act: &SetupAct) -> bool
 }
 
 fn lack_disks(given: &[bool; 8], setup: &[SetupLine]) -> bool
-    ensures { result ≡ list_any (λ l. lacks_of given.now l.act) setup.now }
+    ensures { result ≡ list_any (λ l. lacks_given_disk given.now l.act) setup.now }
 {
-    setup.iter().any(|l| lacks_disk(given, &l.act))
+    setup.iter().any(|l| lacks_given_disk(given, &l.act))
 }
 
 fn lacks_a_disk(setup: &[SetupLine]) -> bool

@@ -21,6 +21,7 @@ use Rattle.block_device.specs.DiskSeen.{DiskSeen, IsBlock, AreBlocks, HasBlocks}
 use Rattle.core_arena.specs.Bytes.{bytes_at}
 use Rattle.page_hash.specs.Names.{name_at}
 use Rattle.page_hash.specs.declared.PageName.{PageName}
+use Rattle.page_lists.proofs.ListLemmas.{Contains-none}
 use Rattle.page_lock.specs.Rows.{row_at}
 use Rattle.page_store.specs.Bays.{BaySeen, missing, home, out, bay_at}
 use Rattle.page_store.specs.Layout.{AreDisjoint, KeepsPage, FileBlocks}
@@ -168,7 +169,7 @@ module _ (page : Page) (whole : IsPage page) where
   ]
 
   unlisted : (k : ℕ) → ¬ IsListedFrame (busy_store page) k
-  unlisted k l = elim l [ inl a ↦ a | inr b ↦ b ]
+  unlisted k l = elim l [ inl a ↦ Contains-none k a | inr b ↦ Contains-none k b ]
 
   -- no disk of a file is there
   few-bays : (number : ℕ) → number < 8 → bay_at (busy_store page).bays number ≡ missing
@@ -186,7 +187,7 @@ module _ (page : Page) (whole : IsPage page) where
       | inl x ↦ elim (names-below j n b) [ inl y ↦ x.0 ∙ sym y.0 | inr y ↦ absurd (let z : ◌≡◌ {A = ℕ} 2 1 = ap (λ (n : PageName). n.page) (sym x.1 ∙ y.1) in omega (arith, z)) ]
       | inr x ↦ elim (names-below j n b) [ inl y ↦ absurd (let z : ◌≡◌ {A = ℕ} 1 2 = ap (λ (n : PageName). n.page) (sym x.1 ∙ y.1) in omega (arith, z)) | inr y ↦ x.0 ∙ sym y.0 ]
     ];
-    lists = record { once_free = tt; once_cached = tt; one_list = λ f a b. absurd a; below_free = λ f a. absurd a; below_cached = λ f a. absurd a };
+    lists = record { once_free = tt; once_cached = tt; one_list = λ f a b. absurd (Contains-none f a); below_free = λ f a. absurd (Contains-none f a); below_cached = λ f a. absurd (Contains-none f a) };
     each = agrees;
     paired = record {
       source = λ own copy is. absurd (no-snapshot own copy is);
@@ -196,7 +197,7 @@ module _ (page : Page) (whole : IsPage page) where
       unlisted = λ own copy is. absurd (no-snapshot own copy is);
     };
     listed = λ k l. absurd (unlisted k l);
-    unnamed = λ k l. absurd l;
+    unnamed = λ k l. absurd (Contains-none k l);
     spare = λ k there none. absurd (spare k there none);
     whole = λ number d is. absurd (no-home number d is);
   }
@@ -346,7 +347,7 @@ module _ (page : Page) (whole : IsPage page) where
       | inl m ↦ absurd (let z : missing ≡ out seat = sym m ∙ is in cc)
       | inr o ↦ (busy_note page, ap (notes_of (busy_seats page)) (let z : out 1 ≡ out seat = sym o.1 ∙ is in let e : 1 ≡ seat = cc in sym e), sym o.0)
     ];
-    each_cached = λ frame n on _. absurd on;
+    each_cached = λ frame n on _. absurd (Contains-none frame on);
   }
 
   busy-fits-notes : NotesFit (busy_memory page).world (notes_of (busy_seats page))

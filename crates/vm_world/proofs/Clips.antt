@@ -6,7 +6,6 @@ use Rattle.page_store.specs.Bytes.{clip}
 use Rattle.flat_model.specs.Words.{Page}
 use Rattle.flat_model.specs.LineLaws.{page_front}
 use Rattle.vm_world.specs.WorldSteps.{cut_page}
-use Rattle.vm_world.proofs.StoredPages.{length-clip}
 
 -- a page all of whose bytes are valid stays
 pub clip-whole : (bytes : List ℕ) → length bytes ≡ 4096 → clip 4096 bytes ≡ bytes
@@ -22,10 +21,6 @@ pub cut-twice : (a b : Bool) (valid : ℕ) (page : Page) → valid ≤ 4096 → 
 cut-twice true true valid page low whole = clip-twice valid page low (whole refl)
 cut-twice true false valid page low whole = refl
 cut-twice false b valid page low whole = refl
-
-pub length-cut : (a : Bool) (valid : ℕ) (page : Page) → valid ≤ 4096 → length page ≡ 4096 → length (cut_page a valid page) ≡ 4096
-length-cut true valid page low whole = length-clip valid page low whole
-length-cut false valid page low whole = whole
 
 -- a page that is whole once it was cut was whole
 pub whole-before : (a : Bool) (valid : ℕ) (page : Page) → (a ≡ true → length page ≡ 4096) → length (cut_page a valid page) ≡ 4096 → length page ≡ 4096

@@ -18,9 +18,6 @@ adds s o = cond (is_number s o) 1 0
 adds-one : (s : ℕ) (o : Option ℕ) → o ≡ Some s → adds s o ≡ 1
 adds-one s o is = ap (adds s) is ∙ ap (λ (b : Bool). cond {A = ℕ} b 1 0) (held-is s)
 
-adds-none : (s : ℕ) (o : Option ℕ) → o ≡ None → adds s o ≡ 0
-adds-none s o is = ap (adds s) is
-
 count-step : (s : ℕ) (o : Option ℕ) (os : List (Option ℕ)) → count_by (is_number s) (o ∷ os) ≡ adds s o + count_by (is_number s) os
 count-step s o os = sum_by-cons (adds s) o os
 

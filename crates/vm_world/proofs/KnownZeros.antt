@@ -40,11 +40,6 @@ known-unnamed zeros spaces z knows free = knows z ∙ (free-least zeros z free).
 pub known-below : (zeros : List (Option ℕ)) (spaces : Spaces) (z : ℕ) → KnowsZeros zeros spaces → free_number zeros ≡ Some z → (y : ℕ) → y < z → IsSome (finite.get (zero_maps spaces) y)
 known-below zeros spaces z knows free y lt = ap is_some (knows y) ∙ (free-least zeros z free).1 y lt
 
--- the zero object that a part shows is in the list
-pub known-shown : (m : Memory) (p : ℕ) (parts : List (Part Segment)) (x : Part Segment) (zeros : List (Option ℕ)) (z n : ℕ) → MemoryFits m → finite.get m.spaces p ≡ Some parts → begins parts x.first ≡ Some x
-    → x.piece.object ≡ object.Zero z → x.piece.shown ≡ Some n → KnowsZeros zeros m.spaces → slice_index_or zeros z None ≡ Some n
-known-shown m p parts x zeros z n fits is found object shown knows = sym (knows z) ∙ part-zero m.spaces p parts x fits.segments.zeros is found z n object shown
-
 -- A PART IS CUT
 pub known-cut : (m : Memory) (p page number : ℕ) (parts : List (Part Segment)) (x : Part Segment) (zeros : List (Option ℕ)) → MemoryFits m → finite.get m.spaces p ≡ Some parts → part_at parts page ≡ Some x → x.first < page
     → (IsSome x.piece.own → IsUnused m.world.maps number) → KnowsZeros zeros m.spaces → KnowsZeros zeros (with_part_cut m p page number parts x).spaces

@@ -1,15 +1,15 @@
 -- The state at the opening fits.
 use Rattle.std.proofs.Common.{◌≡◌, ℕ, zero, suc, ◌-◌, ◌*◌, ◌<◌, ◌≤◌, ◌^◌, min, Bool, true, false, cond, List, [], ◌∷◌, ◌++◌, length, map, replicate, Option, Some, None, refl, sym, ap, ◌∙◌, inl, inr, subst, arith}
-use Rattle.std.specs.Prelude.{option_map, slice_index_or, slice_index, unwrap_or, is_some, if◌then◌else◌, All, IsSome, IsTrue, IsFalse, sum_by, ◌||◌}
+use Rattle.std.specs.Prelude.{option_map, slice_index_or, slice_index, unwrap_or, is_some, if◌then◌else◌, All, IsSome, IsTrue, IsFalse, sum_by, ◌||◌, Contains}
 use Rattle.std.specs.Ordering.{nat_cmp}
 use Rattle.std.specs.FinMap as finite
 use Rattle.std.specs.FinSet as set
 use Rattle.std.proofs.lemmas.List.Elements.{All-nil}
 use Rattle.std.proofs.lemmas.Nat.{pow_pos}
+use Rattle.page_lists.proofs.ListLemmas.{Contains-none}
 use Rattle.block_device.specs.DiskSeen.{DiskSeen, IsBlock, AreBlocks, HasBlocks}
 use Rattle.page_hash.specs.Names.{name_at, find}
 use Rattle.page_hash.specs.declared.PageName.{PageName}
-use Rattle.page_lists.specs.ListsSeen.{Has}
 use Rattle.page_lock.specs.declared.Row.{Row}
 use Rattle.page_store.specs.Bays.{BaySeen, missing, home, out, bay_at}
 use Rattle.page_store.specs.Notes.{no_notes}
@@ -64,7 +64,7 @@ module _ (m : Memory) (parents : List ℕ) (o : IsOpeningMemory m parents) where
     each_note = λ seat note is. absurd (cc);
     each_frame = λ frame seat is. absurd (let z : None ≡ Some seat = sym (ap (λ (r : Row). r.holder) (o.store.clear frame)) ∙ is in cc);
     each_bay = λ number seat is. absurd (o.store.still number seat is);
-    each_cached = λ frame n on is. absurd (subst (λ (l : List ℕ). Has l frame) o.store.uncached on);
+    each_cached = λ frame n on is. absurd (Contains-none frame (subst (λ (l : List ℕ). Contains l frame) o.store.uncached on));
   }
 
   empty-spaces : EmptySpaces m.spaces

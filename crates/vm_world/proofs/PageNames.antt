@@ -1,5 +1,5 @@
 -- Names of pages: those of files and of slots, and where they live.
-use Rattle.std.proofs.Common.{◌≡◌, ◌≢◌, ℕ, ◌<◌, ◌==◌, Bool, true, false, cond, List, length, map, Option, Some, None, refl, sym, ap, ◌∙◌, ◌⊎◌, inl, inr, subst, arith, zero, suc, [], ◌∷◌}
+use Rattle.std.proofs.Common.{◌≡◌, ◌≢◌, ℕ, ◌<◌, ◌==◌, Bool, false, cond, List, length, map, Option, Some, None, refl, sym, ap, ◌∙◌, ◌⊎◌, inl, inr, subst, arith, zero, suc, [], ◌∷◌}
 use Rattle.std.specs.Prelude.{slice_get, slice_index_or, nat_lt, option_map, IsTrue, All}
 use Rattle.std.proofs.lemmas.Bool.{ltb-true, lt-ltb}
 use Rattle.std.proofs.lemmas.Bool.Decides.{eqb_tells}
@@ -21,9 +21,6 @@ use Rattle.vm_world.specs.FramesFit.{FilesFit}
 -- the test of a name that isn't a slot's
 pub not-slot : (o : ℕ) → o ≢ 64 → (o == 64) ≡ false
 not-slot o far = elim (eqb_tells o 64) [ inl same ↦ absurd (far same.1) | inr apart ↦ apart.0 ]
-
-pub is-slot : (o : ℕ) → o ≡ 64 → (o == 64) ≡ true
-is-slot o e = elim (eqb_tells o 64) [ inl same ↦ same.0 | inr apart ↦ absurd (apart.1 e) ]
 
 -- the element at a place, by either way to it
 pub index-of : {A : Type 0} (xs : List A) (i : ℕ) (d v : A) → slice_get xs i ≡ Some v → slice_index_or xs i d ≡ v

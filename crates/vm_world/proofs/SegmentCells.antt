@@ -1,23 +1,21 @@
 -- The cells of a process, and which zero objects there are, told by the segments.
-use Rattle.std.proofs.Common.{◌≡◌, ℕ, ◌<◌, Bool, true, false, List, length, Option, Some, None, refl, sym, ap, ◌∙◌, ◌⊎◌, inl, inr, arith}
-use Rattle.std.specs.Prelude.{option_map, is_some, IsSome, IsTrue, IsFalse}
+use Rattle.std.proofs.Common.{◌≡◌, ℕ, ◌<◌, true, false, length, Option, Some, None, refl, sym, ap, ◌∙◌, inl, inr, arith}
+use Rattle.std.specs.Prelude.{option_map, is_some, IsSome}
 use Rattle.std.specs.Ordering.{nat_cmp}
 use Rattle.std.specs.FinMap as finite
 use Rattle.std.specs.FinSet as set
 use Rattle.std.proofs.lemmas.Bool.{cases_eq, cases_lt}
-use Rattle.addr_space.specs.Space.{Part, page_total}
 use Rattle.addr_space.specs.Pages.{pages_of_parts}
 use Rattle.addr_space.proofs.Totals.{len-pages_of_parts}
 use Rattle.anon_map.specs.Maps.{places_of}
 use Rattle.page_store.specs.Notes.{Notes}
 use Rattle.flat_model.specs.Flat.{Space, Flat, is_named}
-use Rattle.flat_model.specs.Mapping.{cells_of, new_number}
+use Rattle.flat_model.specs.Mapping.{new_number}
 use Rattle.flat_model.proofs.Named.{new_number-new, new_number-least}
 use Rattle.vm_world.specs.FlatMemory.{Memory, flat_memory, cell_of, zero_maps, zero_pages}
 use Rattle.vm_world.specs.MemoryFits.{MemoryFits}
 use Rattle.vm_world.specs.Pages.{contents_of}
 use Rattle.vm_world.specs.SegmentSteps.{SegmentCells}
-use Rattle.vm_world.specs.Segments.{Segment}
 use Rattle.vm_world.proofs.Maps.{get-map_with, len-map_with}
 use Rattle.vm_world.proofs.Reserves.{reserved-memory}
 use Rattle.vm_world.proofs.ShownZeros.{named-is}

@@ -7,6 +7,10 @@ use Rattle.addr_space.proofs.ranges.count_from.Goals as goal
 
 pub returns : goal.returns
 returns c =
-    let point = IsPartitionPoint-from_clause (λ (s : Span). nat_lt s.first c.args.bound) c.args.spans.now c.partition_point.result c.partition_point.ensures.partitioned (rises 1 c.args.bound c.args.spans.now c.requires) (λ a r q k. search rules) in
-    count-is c.args.bound c.args.spans.now c.partition_point.result c.partition_point.ensures.bound
-    (λ k d lt. point.0 k d (omega arith) lt) (λ d lt. point.1 c.partition_point.result d (omega arith) lt)
+    let ss = c.deref.result.now in
+    let place = c.partition_point.result in
+    let order = rises 1 c.args.bound ss (rw (← c.deref.ensures.value) at c.requires) in
+    let point = IsPartitionPoint-from_clause (λ (s : Span). nat_lt s.first c.args.bound) ss place
+    c.partition_point.ensures.partitioned order (λ a r q k. search rules) in
+    rw (← c.deref.ensures.value) (count-is c.args.bound ss place c.partition_point.ensures.bound
+    (λ k d lt. point.0 k d (omega arith) lt) (λ d lt. point.1 place d (omega arith) lt))

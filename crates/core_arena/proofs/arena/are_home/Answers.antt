@@ -1,13 +1,6 @@
-use Rattle.std.proofs.Common.{None, is_some, arith, sym, ap, ◌∙◌, below_more}
+use Rattle.core_arena.proofs.PageLemmas.{None, is_some, arith, sym, ap, ◌∙◌, none-away, all-there}
 use Rattle.std.proofs.lemmas.List.{get_or_default}
-use Rattle.core_arena.proofs.PageLemmas.{none-away, all-there}
 use Rattle.core_arena.proofs.arena.are_home.Goals as goal
-
-pub loop-page-preserved : goal.loop-page-preserved
-loop-page-preserved c =
-    let pages = c.args.pages.now in
-    below_more _ _ c.loop-page.invariant
-    (ap is_some (get_or_default pages c.loop-page.page-index None c.page-item.result c.loop-page-test.true ∙ sym c.page-item.is) ∙ c.if-is_none.ensures)
 
 pub returns-then-is_none : goal.returns-then-is_none
 returns-then-is_none c =

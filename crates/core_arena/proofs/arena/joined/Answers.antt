@@ -1,5 +1,4 @@
-use Rattle.std.proofs.Common.{length, arith, ap, ◌∙◌, length-append}
-use Rattle.core_arena.proofs.PageLemmas.{IsTakenOff, taken-off}
+use Rattle.core_arena.proofs.PageLemmas.{length, arith, ap, ◌∙◌, length-append, IsTakenOff, taken-off}
 use Rattle.core_arena.proofs.arena.joined.Goals as goal
 use Rattle.core_arena.proofs.arena.joined.Goals.{In_ok-page}
 

@@ -9,7 +9,7 @@ use Rattle.flat_model.proofs.file_pages.lengthen.Goals.{In_ok-append}
 grown : (c : In_ok-append) → map items_of c.append.new.self.items ≡ map items_of c.args.pages.now.items ++ replicate (pages_in c.args.end - length (map items_of c.args.pages.now.items)) zero_page
 grown c =
     let ps = c.args.pages.now.items in
-    let count : c.saturating_sub-missing.result ≡ pages_in c.args.end - length (map items_of ps) = omega (arith, c.saturating_sub-missing.ensures, c.page_count.ensures.count, c.len.ensures, length-items ps, c.args.pages.now.ok.0) in
+    let count : c.saturating_sub-missing.result ≡ pages_in c.args.end - length (map items_of ps) = omega (arith, c.saturating_sub-missing.ensures, c.pages_in.ensures.count, c.len.ensures, length-items ps, c.args.pages.now.ok.0) in
     ap (map items_of) c.in_ok-append.ensures.items ∙ map-append items_of ps c.in_ok-more.more.items
     ∙ ap (λ (more : List Page). map items_of ps ++ more) (c.in_ok-more.ensures ∙ ap (λ (k : ℕ). replicate k zero_page) count)
 

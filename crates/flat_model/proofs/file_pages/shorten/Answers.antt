@@ -9,7 +9,7 @@ use Rattle.flat_model.proofs.file_pages.shorten.Goals as goal
 use Rattle.flat_model.proofs.file_pages.shorten.Goals.{After-truncate}
 
 kept : (c : After-truncate) → map items_of c.truncate.new.self.items ≡ take (pages_in c.args.new) (map items_of c.args.pages.now.items)
-kept c = truncated-items c.args.pages.now.items c.truncate.new.self.items (pages_in c.args.new) (c.truncate.ensures.items ∙ ap (λ (n : ℕ). take n c.args.pages.now.items) c.page_count.ensures.count)
+kept c = truncated-items c.args.pages.now.items c.truncate.new.self.items (pages_in c.args.new) (c.truncate.ensures.items ∙ ap (λ (n : ℕ). take n c.args.pages.now.items) c.pages_in.ensures.count)
 
 pub clear_tail-requires : goal.clear_tail-requires
 clear_tail-requires c =

@@ -1,8 +1,8 @@
-use Rattle.std.proofs.Common.{◌≡◌, ℕ, ◌+◌, ◌-◌, ◌*◌, ◌%◌, ◌<◌, inl, inr, arith, sym, ◌∙◌, ap, subst}
-use Rattle.page_clock.specs.Clock.{next_pick, place_of, fresh_clock, clock_after}
+use Rattle.std.proofs.Common.{◌≡◌, ℕ, ◌+◌, ◌-◌, ◌*◌, ◌%◌, ◌<◌, inl, inr, sym, ◌∙◌, ap, subst}
+use Rattle.page_clock.specs.Clock.{next_pick, place_of}
 use Rattle.page_clock.specs.declared.Pick.{Pick}
 use Rattle.page_clock.specs.declared.Pick.TheVariants.{Front, Back}
-use Rattle.page_clock.proofs.ClockLemmas.{after-even, after-odd, even-or-odd, ahead-below, ahead-back, back-ahead, IsAhead}
+use Rattle.page_clock.proofs.ClockLemmas.{after-even, after-odd, first-round, ahead-below, ahead-back, back-ahead, IsAhead}
 use Rattle.page_clock.proofs.Clock.turn_of.Goals as goal
 
 front_within : (c : goal.In-Front) → c.in-Front.frame < c.args.frames
@@ -20,22 +20,14 @@ returns-in-Front-clause-comes c =
 
 pub returns-in-Front-clause-once : goal.returns-in-Front-clause-once
 returns-in-Front-clause-once c number within at =
-    let half = even-or-odd number in
-    let F = c.args.frames in
-    let D = c.args.distance in
-    elim half.1 [
+    let r = first-round c.args.frames c.args.distance number within in
+    elim r.2 [
       | inl e ↦
-          let m = half.0 in
-          let lt : m < F = omega arith in
-          let picks : Front m ≡ Front c.in-Front.frame =
-          sym (ap next_pick (ap (λ (k : ℕ). clock_after k (fresh_clock F D)) e ∙ after-even F D m lt)) ∙ at ∙ c.in-Front.is in
-          let same : m ≡ c.in-Front.frame = cc in
-          e ∙ ap (λ (k : ℕ). 2 * k) same
+          let picks : Front r.0 ≡ Front c.in-Front.frame = sym e.1 ∙ at ∙ c.in-Front.is in
+          let same : r.0 ≡ c.in-Front.frame = cc in
+          e.0 ∙ ap (λ (k : ℕ). 2 * k) same
       | inr e ↦
-          let m = half.0 in
-          let lt : m < F = omega arith in
-          let picks : Back ((m + F - D) % F) ≡ Front c.in-Front.frame =
-          sym (ap next_pick (ap (λ (k : ℕ). clock_after k (fresh_clock F D)) e ∙ after-odd F D m lt)) ∙ at ∙ c.in-Front.is in
+          let picks : Back ((r.0 + c.args.frames - c.args.distance) % c.args.frames) ≡ Front c.in-Front.frame = sym e.1 ∙ at ∙ c.in-Front.is in
           absurd (cc)
     ]
 
@@ -51,23 +43,14 @@ returns-in-Back-clause-comes c =
 
 pub returns-in-Back-clause-once : goal.returns-in-Back-clause-once
 returns-in-Back-clause-once c number within at =
-    let half = even-or-odd number in
     let F = c.args.frames in
     let D = c.args.distance in
-    elim half.1 [
-      | inl e ↦
-          let m = half.0 in
-          let lt : m < F = omega arith in
-          let picks : Front m ≡ Back c.in-Back.frame =
-          sym (ap next_pick (ap (λ (k : ℕ). clock_after k (fresh_clock F D)) e ∙ after-even F D m lt)) ∙ at ∙ c.in-Back.is in
-          absurd (cc)
+    let r = first-round F D number within in
+    elim r.2 [
+      | inl e ↦ let picks : Front r.0 ≡ Back c.in-Back.frame = sym e.1 ∙ at ∙ c.in-Back.is in absurd (cc)
       | inr e ↦
-          let m = half.0 in
-          let lt : m < F = omega arith in
-          let picks : Back ((m + F - D) % F) ≡ Back c.in-Back.frame =
-          sym (ap next_pick (ap (λ (k : ℕ). clock_after k (fresh_clock F D)) e ∙ after-odd F D m lt)) ∙ at ∙ c.in-Back.is in
-          let place : (m + F - D) % F ≡ c.in-Back.frame = cc in
-          let same : m ≡ c.place_ahead.result =
-          back-ahead F D c.in-Back.frame c.place_ahead.result m c.requires.within (back_within c) lt (is_ahead c) place in
-          e ∙ ap (λ (k : ℕ). 2 * k + 1) same
+          let picks : Back ((r.0 + F - D) % F) ≡ Back c.in-Back.frame = sym e.1 ∙ at ∙ c.in-Back.is in
+          let place : (r.0 + F - D) % F ≡ c.in-Back.frame = cc in
+          let same = back-ahead F D c.in-Back.frame c.place_ahead.result r.0 c.requires.within (back_within c) r.1 (is_ahead c) place in
+          e.0 ∙ ap (λ (k : ℕ). 2 * k + 1) same
     ]

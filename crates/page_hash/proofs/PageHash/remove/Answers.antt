@@ -1,33 +1,40 @@
-use Rattle.std.proofs.Common.{rules, ◌≡◌, List, Option, Some, None, sym, ◌∙◌, ap}
+use Rattle.std.proofs.Common.{rules, ◌≡◌, List, Option, Some, None, set, sym, ◌∙◌, ap}
 use Rattle.page_hash.specs.declared.PageName.{PageName}
 use Rattle.page_hash.specs.Names.{find, name_at}
+use Rattle.page_hash.specs.Index.{IsSoundPageHash}
 use Rattle.page_hash.proofs.NameLaws.{finds-find, find-emptied, find-emptied_other}
+use Rattle.page_hash.proofs.IndexLemmas.{sound-removed, on-slot}
+use Rattle.page_hash.proofs.PageHash.remove.Goals.{After-unlink}
 use Rattle.page_hash.proofs.PageHash.remove.Goals as goal
 
 pub returns-in_err-frame-clause-frame : goal.returns-in_err-frame-clause-frame
 returns-in_err-frame-clause-frame c =
-    let was : c.find.result ≡ None = c.in_err-frame.was in
     let none : c.from_residual.result ≡ None = search rules in
-    none ∙ sym was ∙ finds-find c.self.inside.chains.names.items c.args.name c.find.result c.self.invariant.distinct c.find.ensures ∙ ap (λ (l : List (Option PageName)). find l c.args.name) c.self.view_is
+    none ∙ finds-find c.args.self.now c.args.name None c.in_err-frame.ensures.one_to_one c.in_err-frame.ensures.found
 
 pub returns-in_err-frame-clause-gone : goal.returns-in_err-frame-clause-gone
-returns-in_err-frame-clause-gone c =
-    let was : c.find.result ≡ None = c.in_err-frame.was in
-    sym (ap (λ (l : List (Option PageName)). find l c.args.name) c.self.view_is) ∙ sym (finds-find c.self.inside.chains.names.items c.args.name c.find.result c.self.invariant.distinct c.find.ensures) ∙ was
+returns-in_err-frame-clause-gone c = sym (finds-find c.args.self.now c.args.name None c.in_err-frame.ensures.one_to_one c.in_err-frame.ensures.found)
 
 pub returns-clause-frame : goal.returns-clause-frame
-returns-clause-frame c =
-    let was : c.find.result ≡ Some c.in_ok-frame.frame = c.in_ok-frame.was in
-    sym was ∙ finds-find c.self.inside.chains.names.items c.args.name c.find.result c.self.invariant.distinct c.find.ensures ∙ ap (λ (l : List (Option PageName)). find l c.args.name) c.self.view_is
+returns-clause-frame c = finds-find c.args.self.now c.args.name (Some c.in_ok-frame.frame) c.in_ok-frame.ensures.one_to_one c.in_ok-frame.ensures.found
+
+pub unlink-requires : goal.unlink-requires
+unlink-requires c = rw c.slot_of_pair.ensures.slot (on-slot c.self.inside.names.items c.self.inside.slots c.self.inside.chains c.self.invariant c.args.name c.in_ok-frame.frame (ap (λ (l : List (Option PageName)). name_at l c.in_ok-frame.frame) c.self.view_is ∙ c.in_ok-frame.ensures.found))
+
+removed : (c : After-unlink) → IsSoundPageHash (set c.self.inside.names.items c.in_ok-frame.frame None) c.self.inside.slots c.unlink.new.self
+removed c = sound-removed c.self.inside.names.items c.self.inside.slots c.self.inside.chains c.self.invariant c.args.name c.in_ok-frame.frame c.unlink.new.self
+    (ap (λ (l : List (Option PageName)). name_at l c.in_ok-frame.frame) c.self.view_is ∙ c.in_ok-frame.ensures.found) (rw (sym c.slot_of_pair.ensures.slot) c.unlink.ensures.order) c.unlink.ensures.size
+
+pub invariant_of-self : goal.invariant_of-self
+invariant_of-self c = removed (goal.at.invariant_of-self c).After-unlink
+
+pub returns-clause-one_to_one : goal.returns-clause-one_to_one
+returns-clause-one_to_one c = (removed (goal.at.returns-clause-one_to_one c).After-unlink).distinct
 
 pub returns-clause-gone : goal.returns-clause-gone
-returns-clause-gone c =
-    let held : name_at c.self.inside.chains.names.items c.in_ok-frame.frame ≡ Some c.args.name = c.in_ok-frame.ensures in
-    ap (λ (l : List (Option PageName)). find l c.args.name) c.take_out.ensures.names ∙ find-emptied c.self.inside.chains.names.items c.args.name c.in_ok-frame.frame c.self.invariant.distinct held
+returns-clause-gone c = find-emptied c.self.inside.names.items c.args.name c.in_ok-frame.frame c.self.invariant.distinct (ap (λ (l : List (Option PageName)). name_at l c.in_ok-frame.frame) c.self.view_is ∙ c.in_ok-frame.ensures.found)
 
 pub returns-clause-others : goal.returns-clause-others
 returns-clause-others c = λ other ne.
-    let held : name_at c.self.inside.chains.names.items c.in_ok-frame.frame ≡ Some c.args.name = c.in_ok-frame.ensures in
-    ap (λ (l : List (Option PageName)). find l other) c.take_out.ensures.names
-    ∙ find-emptied_other c.self.inside.chains.names.items c.args.name c.in_ok-frame.frame other c.self.invariant.distinct held ne
+    find-emptied_other c.self.inside.names.items c.args.name c.in_ok-frame.frame other c.self.invariant.distinct (ap (λ (l : List (Option PageName)). name_at l c.in_ok-frame.frame) c.self.view_is ∙ c.in_ok-frame.ensures.found) ne
     ∙ ap (λ (l : List (Option PageName)). find l other) c.self.view_is

@@ -1,8 +1,8 @@
-use Rattle.page_lists.proofs.ListsLemmas.{lists-apart, lists-freed, not-cached}
+use Rattle.page_lists.proofs.ListsLemmas.{lists-freed}
 use Rattle.page_lists.proofs.PageLists.free.Goals as goal
 
 pub invariant_of-self : goal.invariant_of-self
-invariant_of-self c = lists-freed c.self.inside.free c.self.inside.cached c.push_back.new.self c.args.frame c.self.invariant c.push_back.ensures.new c.push_back.ensures.queue (not-cached c.self.inside.free c.self.inside.cached c.args.self.now c.args.frame c.self.view_is c.requires.unlisted)
+invariant_of-self c = lists-freed c.self.invariant c.self.view_is c.requires.unlisted c.push_back.ensures.new c.push_back.ensures.queue
 
 pub returns-clause-apart : goal.returns-clause-apart
-returns-clause-apart c = lists-apart c.push_back.new.self c.self.inside.cached (lists-freed c.self.inside.free c.self.inside.cached c.push_back.new.self c.args.frame c.self.invariant c.push_back.ensures.new c.push_back.ensures.queue (not-cached c.self.inside.free c.self.inside.cached c.args.self.now c.args.frame c.self.view_is c.requires.unlisted))
+returns-clause-apart c = (lists-freed c.self.invariant c.self.view_is c.requires.unlisted c.push_back.ensures.new c.push_back.ensures.queue).apart

@@ -1,7 +1,8 @@
 use Rattle.std.proofs.Common.{◌≡◌, ◌≢◌, ℕ, sym, ap, ◌∙◌, subst}
+use Rattle.std.specs.Prelude.{IfSome}
 use Rattle.core_arena.specs.Bytes.{zeros}
 use Rattle.page_hash.specs.Names.{is_name}
-use Rattle.page_store.specs.Seen.{StoreSeen}
+use Rattle.page_store.specs.Seen.{StoreSeen, IsListedFrame}
 use Rattle.page_store.specs.Steps.{next_frame, next_name, after_fill}
 use Rattle.vm_world.specs.World.{World, world_seen, file_name}
 use Rattle.vm_world.specs.WorldSteps.{WorldStep, stays}
@@ -35,6 +36,10 @@ is g c =
 
 pub returns-clause-store : goal.returns-clause-store
 returns-clause-store g c = (is g (goal.at.returns-clause-store g c).After-pend_tail).store ∙ c.fill_zero.ensures.new
+
+pub returns-clause-unlisted : goal.returns-clause-unlisted
+returns-clause-unlisted g c =
+    subst (λ (s : StoreSeen). IfSome (next_frame c.args.world.now.store) (λ frame. ¬ IsListedFrame s frame)) (sym (is g (goal.at.returns-clause-unlisted g c).After-pend_tail).store) c.fill_zero.ensures.laws.unlisted
 
 pub returns-clause-took : goal.returns-clause-took
 returns-clause-took g c =

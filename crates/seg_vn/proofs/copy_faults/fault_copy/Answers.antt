@@ -18,12 +18,12 @@ own_zeros-requires-clause-home g c = let h = c.requires.home 0 in (h.0, h.2)
 pub fetch-requires-clause-home : goal.fetch-requires-clause-home
 fetch-requires-clause-home g c = let h = c.requires.home 0 in (h.0, h.2)
 
-pub returns-then-is_blank-clause-serves : goal.returns-then-is_blank-clause-serves
-returns-then-is_blank-clause-serves g c = λ spaces x fits place.
-    c.own_zeros.ensures.serves spaces x (Some c.args.name) fits place (sym c.resident.ensures.residence ∙ c.in-Absent.is, sym c.is_blank.ensures ∙ c.if-is_blank.true, c.requires.exists)
+pub returns-then-is_unpushed-clause-serves : goal.returns-then-is_unpushed-clause-serves
+returns-then-is_unpushed-clause-serves g c = λ spaces x fits place.
+    c.own_zeros.ensures.serves spaces x (Some c.args.name) fits place (sym c.resident.ensures.residence ∙ c.in-Absent.is, sym c.is_unpushed.ensures ∙ c.if-is_unpushed.true, c.requires.exists)
 
-pub returns-else-is_blank-clause-serves : goal.returns-else-is_blank-clause-serves
-returns-else-is_blank-clause-serves g c = λ spaces x fits place.
+pub returns-else-is_unpushed-clause-serves : goal.returns-else-is_unpushed-clause-serves
+returns-else-is_unpushed-clause-serves g c = λ spaces x fits place.
     let old = world_seen c.args.world.now in
     let mid = world_seen c.fetch.new.world in
     let p = c.args.space in

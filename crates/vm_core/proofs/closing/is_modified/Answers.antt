@@ -1,4 +1,5 @@
-use Rattle.std.proofs.Common.{sym, ap, ◌∙◌}
+use Rattle.std.proofs.Common.{sym, ap, ◌∙◌, inl}
+use Rattle.std.proofs.lemmas.Bool.{OnTrue_from}
 use Rattle.vm_world.specs.World.{world_seen}
 use Rattle.vm_core.proofs.Pushes.{pushes-refl, calm-pushes, skips-page, listed-clear, clear-of, gathers-page}
 use Rattle.vm_core.proofs.closing.is_modified.Goals as goal
@@ -17,6 +18,13 @@ returns-then-listed-clause-stored g c =
     (clear-of (world_seen c.args.world.now) c.args.name c.in-Home.frame (sym c.resident.ensures.residence ∙ c.in-Home.is)
     (listed-clear (world_seen c.args.world.now) c.requires.fits.0 c.in-Home.frame c.requires.fits.1 (c.listed.ensures.0 c.if-listed.true)))
     (λ n is. is.0)
+
+pub returns-clause-dirty : goal.returns-clause-dirty
+returns-clause-dirty g c = OnTrue_from c.gather_modified.result _ (λ is. record {
+  frame = c.in-Home.frame;
+  home = c.gather_modified.ensures.stay c.args.name ∙ sym c.resident.ensures.residence ∙ c.in-Home.is;
+  modified = inl (sym c.gather_modified.ensures.modified ∙ is);
+})
 
 pub returns-clause-stored : goal.returns-clause-stored
 returns-clause-stored g c =

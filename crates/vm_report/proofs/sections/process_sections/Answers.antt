@@ -20,10 +20,10 @@ lines_are c =
     c.members.ensures c.index-in-loop-process.ensures (omega (arith, c.in_ok-lines.ensures.count))
     (c.in_ok-lines.ensures.each c.loop-process.process (omega arith) ∙ ap (λ (ls : List PlanLine). own_lines (record c.args.plan.now { lines = ls }) c.loop-process.process) c.lines.ensures)
 
-born : (c : After-members-in-loop-process) → c.is_born-born.result ≡ is_born c.args.plan.now c.args.history.now c.loop-process.process
+born : (c : After-members-in-loop-process) → c.is_born_by-born.result ≡ is_born c.args.plan.now c.args.history.now c.loop-process.process
 born c =
     let flag = get_or_read c.in_ok-births.births.items c.loop-process.process c.index.result.now (omega (arith, c.in_ok-births.ensures.count)) c.index.ensures false in
-    c.is_born-born.ensures
+    c.is_born_by-born.ensures
     ∙ (ap (λ (ps : List _). is_born_by ps c.loop-process.process c.index.result.now) c.parents.ensures
     ∙ born_is c.args.plan.now c.loop-process.process c.args.history.now c.index.result.now (flag ∙ c.in_ok-births.ensures.each c.loop-process.process (omega arith)))
 
@@ -43,7 +43,7 @@ loop-process-preserved c =
     let all = length c.parents-count.result.now in
     record {
       so_far = sections_more c.args.plan.now c.args.history.now c.loop-process.out.items c.push_section.new.out.items _ _ (all + 1 - c.loop-process.process) (all + 1 - (c.loop-process.process + 1)) c.loop-process.process (omega arith)
-          (section_is c.args.plan.now c.loop-process.process c.args.history.now c.is_born-born.result _ _ (born place) (lines_are place) (entries_are place))
+          (section_is c.args.plan.now c.loop-process.process c.args.history.now c.is_born_by-born.result _ _ (born place) (lines_are place) (entries_are place))
           c.in_ok-push_section.ensures c.loop-process.invariant.so_far;
       from = omega arith;
       to = omega arith;

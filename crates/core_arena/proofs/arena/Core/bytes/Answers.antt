@@ -1,7 +1,4 @@
-use Rattle.std.proofs.Common.{IsSome, length, sym, ap, ◌∙◌, subst, ◌*◌}
-use denote.RawPtr.{InBlock}
-use Rattle.core_arena.specs.Seen.{CoreSeen}
-use Rattle.core_arena.specs.Bytes.{bytes_at}
+use Rattle.core_arena.proofs.PageLemmas.{IsSome, length, sym, ap, ◌∙◌, subst, ◌*◌, InBlock, CoreSeen, bytes_at}
 use Rattle.core_arena.proofs.PageLemmas.{IsHomePage, home-page, placed-on}
 use Rattle.core_arena.proofs.arena.Core.bytes.Goals as goal
 use Rattle.core_arena.proofs.arena.Core.bytes.Goals.{After-at}

@@ -1,11 +1,9 @@
-use Rattle.std.proofs.Common.{◌*◌, List, ℕ, Some, IsSome, sym, ◌∙◌, ap, subst, refl, slice_set, length}
+use Rattle.core_arena.proofs.PageLemmas.{◌*◌, List, ℕ, Some, IsSome, sym, ◌∙◌, ap, subst, refl, slice_set}
+use Rattle.core_arena.proofs.PageLemmas.{length, option_map, InBlock, origin_of, CoreSeen, bytes_at}
+use Rattle.core_arena.proofs.PageLemmas.{slice_after_write, IsHomePage, home-page, placed-on, sound-set}
+use Rattle.core_arena.proofs.PageLemmas.{seen-overwritten}
 use Rattle.std.specs.List.{length_refill}
-use Rattle.std.specs.Option.{option_map, option_copied_mut}
-use denote.RawPtr.{InBlock}
-use Rattle.core_arena.specs.Origin.{origin_of}
-use Rattle.core_arena.specs.Seen.{CoreSeen}
-use Rattle.core_arena.specs.Bytes.{bytes_at, slice_after_write}
-use Rattle.core_arena.proofs.PageLemmas.{IsHomePage, home-page, placed-on, sound-set, seen-overwritten}
+use Rattle.std.specs.Option.{option_copied_mut}
 use Rattle.core_arena.proofs.arena.Core.bytes_mut.Goals as goal
 use Rattle.core_arena.proofs.arena.Core.bytes_mut.Goals.{In-Some}
 

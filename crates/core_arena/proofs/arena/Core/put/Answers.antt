@@ -1,12 +1,7 @@
-use Rattle.std.proofs.Common.{◌≡◌, ◌*◌, ℕ, Some, length, arith, sym, ◌∙◌, ap, slice_set}
-use Rattle.std.proofs.lemmas.List.{length-map}
-use Rattle.std.specs.Option.{option_map}
-use denote.RawPtr.{Ptr, ◌+ₚ◌}
-use Rattle.core_arena.specs.Origin.{origin_of}
-use Rattle.core_arena.specs.Seen.{CoreSeen, FrameSeen}
-use Rattle.core_arena.specs.declared.region.Stretch.{Stretch}
+use Rattle.core_arena.proofs.PageLemmas.{◌≡◌, ◌*◌, ℕ, Some, length, arith, sym, ◌∙◌, ap, slice_set, length-map}
+use Rattle.core_arena.proofs.PageLemmas.{option_map, Ptr, ◌+ₚ◌, origin_of, CoreSeen, FrameSeen, Stretch}
+use Rattle.core_arena.proofs.PageLemmas.{map-set, bytes_of, sound-set}
 use Rattle.core_arena.proofs.OriginLemmas.{origin-parts}
-use Rattle.core_arena.proofs.PageLemmas.{seen-set, sound-set}
 use Rattle.core_arena.proofs.arena.Core.put.Goals as goal
 
 -- the frame is of this core
@@ -33,6 +28,6 @@ returns-clause-within c =
 
 pub returns-clause-new : goal.returns-clause-new
 returns-clause-new c =
-    rw (seen-set c.self.inside.pages.items c.f.inside.number (Some c.f.inside.page))
+    rw (map-set bytes_of c.self.inside.pages.items c.f.inside.number (Some c.f.inside.page))
     (ap (λ (k : CoreSeen). record k { frames = slice_set k.frames c.f.inside.number (Some c.f.inside.page.bytes) }) c.self.view_is
     ∙ ap (λ (f : FrameSeen). record c.args.self.now { frames = slice_set c.args.self.now.frames f.number (Some f.bytes) }) c.f.view_is)

@@ -1,9 +1,5 @@
-use Rattle.std.proofs.Common.{None, IsSome, sym, ap, ◌∙◌, subst, slice_set, ◌*◌}
-use denote.RawPtr.{◌+ₚ◌}
-use Rattle.core_arena.specs.Seen.{CoreSeen}
-use Rattle.core_arena.specs.Bytes.{bytes_at}
-use Rattle.core_arena.specs.Rows.{IsPageAt}
-use Rattle.core_arena.proofs.PageLemmas.{IsHomePage, home-page, seen-set, sound-set}
+use Rattle.core_arena.proofs.PageLemmas.{None, IsSome, sym, ap, ◌∙◌, subst, slice_set, ◌*◌, ◌+ₚ◌, CoreSeen}
+use Rattle.core_arena.proofs.PageLemmas.{bytes_at, IsPageAt, IsHomePage, home-page, map-set, bytes_of, sound-set}
 use Rattle.core_arena.proofs.arena.Core.take.Goals as goal
 use Rattle.core_arena.proofs.arena.Core.take.Goals.{In-Some}
 
@@ -22,5 +18,5 @@ invariant_of-self c =
 
 pub returns-clause-new : goal.returns-clause-new
 returns-clause-new c =
-    rw (c.take.ensures.after, seen-set c.self.inside.pages.items c.args.i None)
+    rw (c.take.ensures.after, map-set bytes_of c.self.inside.pages.items c.args.i None)
     (ap (λ (k : CoreSeen). record k { frames = slice_set k.frames c.args.i None }) c.self.view_is)

@@ -1,100 +1,43 @@
 -- `bytes` shows what a `&` to a stretch holds. Assumes `Logic`.
-use Rattle.std.proofs.Common.{◌≡◌, ◌^◌, ◌*◌, List, [], ◌∷◌, ◌++◌, length, refl, sym, ap, ◌∙◌, arith, lit<}
-use seplogic.Ra.Ura.{Ura}
-use mir.Syntax.{Fn, seq, assign, place, rv_opd, copy, return}
-use mir.Val.{Val, vptr}
-use base.Logic.{SProp, ent}
-use prog.Memory.{Memory}
-use prog.Routine.{Routine}
-use prog.Wp.{Calls, Loops, WpFn, Tables}
-use contract.Monad.{Fun, fact}
-use contract.Running.{tables, tables_of}
-use sound.WpLaws.{WpFn-mono}
-use types.Logic.{Logic}
-use types.Kit.{‵, raw, ◌⊛◌, prop, ◌$◌, ◌∵◌, !, qed, move, drop, split, fsplit, fjoin, feq_l, feq_i, regoal, rewrite, suffices, done, at_ret, flt_i}
-use types.Part.{agg}
-use types.Run.{enter, returns, of_opd, and_then, no_more, first, blocks, exec}
-use types.ByLocal.{alloc_all, pass_all, free_all, look_at, get, sets, sets_last, env}
-use denote.Exit.{yes}
-use denote.RattleType.{owns}
-use denote.Builtin.{RefOf, RawPtr}
-use denote.Signature.{plain, types_at}
-use denote.Steps.{nothing, heard}
-use denote.Triple.Clauses.{Clauses, Ended, closing}
-use denote.Triple.Entry.{alive}
-use denote.Triple.Spec.{Meets, triple_of}
-use denote.Triple.Table.{entered}
-use denote.Triple.Walked.{says, Stays, stay_dropped, walk_of, ends_at, walk_Meets, Goes-dropped}
-use Rattle.core_arena.specs.contracts.region.Stretch as Stretch
-use denote.Opens.{unhide, hide}
-use denote.RawPtr.{block_ptr, block_of, count_of, ptr_val, InBlock, at_block}
-use denote.Slice.{slice_val}
-use Rattle.core_arena.specs.Ownership.{stretch_lent}
-use Rattle.core_arena.proofs.Walks.{big_lit}
-use Rattle.core_arena.specs.contracts.region.Stretch.bytes as F
-use Rattle.core_arena.specs.contracts.region.Stretch.bytes.Key.{name as #self}
-use Rattle.core_arena.proofs.region.Stretch.bytes.Statement as stated
+use Rattle.core_arena.proofs.Walks.{◌≡◌, ◌*◌, ◌^◌, List, [], ◌∷◌, length, arith, lit<, refl, sym, ap, proved}
+use Rattle.core_arena.proofs.Walks.{Goes-dropped, ftrue, flft, fact, tables, ‵, raw, prop, ◌⊛◌, ◌$◌, ◌∵◌, ! }
+use Rattle.core_arena.proofs.Walks.{qed, move, drop, split3, fsplit, fjoin, feq_i, flt_i, regoal, rewrite}
+use Rattle.core_arena.proofs.Walks.{suffices, done, at_ret, agg, enter, returns, of_opd, and_then, no_more}
+use Rattle.core_arena.proofs.Walks.{first, blocks, exec, alloc_all, pass_all, free_all, look_at, get, sets}
+use Rattle.core_arena.proofs.Walks.{sets_last, env, Val, vptr, seq, assign, place, rv_opd, copy, return, RawPtr}
+use Rattle.core_arena.proofs.Walks.{yes, plain, nothing, heard, Stays, says, stay_dropped, walk_of, ends_at}
+use Rattle.core_arena.proofs.Walks.{Ptr, block_ptr, rawptr_vals, rawptr_Tells, named, big_lit, WpFn, unhide}
+use Rattle.core_arena.proofs.Walks.{hide, block_of, count_of, InBlock, at_block, slice_val, stretch_lent}
+use Rattle.core_arena.proofs.Walks.{Stretch}
+use denote.Builtin.{RefOf}
+use denote.Ref.{ShrRef, shr_vals, shr_Tells}
+use Rattle.core_arena.specs.contracts.region.Stretch.bytes as f
+use Rattle.core_arena.proofs.region.Stretch.bytes.Statement.{statement}
 use Rattle.core_arena.proofs.region.Stretch.bytes.Code as code
 
-abbrev function : Fn
-function = code.function
+abbrev stayed : Stays f.ended.signature.params f.ended.kept
+stayed = (stay_dropped _ yes, (stay_dropped _ yes, tt))
 
-abbrev ended : Ended
-ended = F.ended
-
-abbrev stayed : Stays ended.signature.params ended.kept
-stayed = (stay_dropped (RefOf (0 ∷ []) tt (plain (λ _. Stretch.the_row)) (λ _. tt)) yes, (stay_dropped (plain (λ _. RawPtr)) yes, tt))
-
-module _ {M : Type 1} {𝓤 : Ura M} (𝓛 : Logic 𝓤) (at_mem : Memory → SProp 𝓤) (run : Routine → Fun 𝓤) where
-  open 𝓛 use {H}
-
-  abbrev held : Clauses 𝓤 ended
-  held = F.clauses 𝓛 at_mem run
-
-  module _ (C : Calls 𝓤 H) (Λ : Loops 𝓤 H) (z : (walk_of 𝓛 ended stayed held).Ghost) where
-    abbrev Post : Val → SProp 𝓤
-    Post = (walk_of 𝓛 ended stayed held).post z
-
-    abbrev toks : SProp 𝓤
-    toks = alive 𝓛 ended.signature z.0.0 z.0.1
-
-    walks : ent 𝓤 ((walk_of 𝓛 ended stayed held).pre z) (WpFn 𝓤 H C Λ function ((walk_of 𝓛 ended stayed held).args z) Post)
-    walks =
-        let a = z.0.3 in
-        let vss = z.0.4 in
-        let s = a.0.now in
-        let p = a.1.0 in
-        let b = block_of p in
-        let o = count_of p in
-        let Asked = (p ≡ s.at) × InBlock p × (length s.bytes ≡ 4096) in
-        qed 𝓛 ((raw toks ⊛ ‵ (owns (types_at ended.signature.params z.0.0) a vss)) ∷ raw (fact 𝓤 Asked) ∷ []) ∵
-        move ! (1 ∷ []) $ heard ! Asked (λ asked. split ! $ move ! (1 ∷ []) $
-        let at : p ≡ block_ptr b o = at_block p asked.1 in
-        fsplit ! $ fsplit ! $ feq_l ! (λ is₀. unhide ! $ fsplit ! $ drop ! $
-        rewrite ! 0 (λ q. ‵ (stretch_lent q s.bytes z.0.0.0)) (sym asked.0) refl $ move ! (1 ∷ []) $
-        fsplit ! $ feq_l ! (λ is₁. drop ! $
-        -- [what is shared; the tokens]
-        regoal ! (λ (us : List Val). prop (WpFn 𝓤 H C Λ function (us ++ (vss.1.0 ++ [])) Post)) is₀ refl $
-        regoal ! (λ (us : List Val). prop (WpFn 𝓤 H C Λ function ((vptr a.0.ref_ptr.0 a.0.ref_ptr.1 ∷ []) ++ (us ++ [])) Post)) (is₁ ∙ ap (λ r. ptr_val r ∷ []) at) refl $
-        enter ! C Λ function (vptr a.0.ref_ptr.0 a.0.ref_ptr.1 ∷ vptr b o ∷ []) Post $ alloc_all ! (λ l. pass_all ! refl ((tt, tt), ((tt, tt), tt)) $
-        first ! $ blocks ! $
-        sets_last ! (agg ! (and_then ! (get ! refl) (and_then ! (big_lit ! (record { fits = lit< tt })) (no_more !)))) refl (tt, (tt, (record { fits = lit< tt }, tt))) $
-        exec ! C Λ (env function.locals l) (seq (assign (place 0 []) (rv_opd (copy (place 3 [])))) return) (at_ret (env function.locals l) Post) $
-        sets ! (of_opd ! (get ! refl)) refl (tt, (tt, (record { fits = lit< tt }, tt))) $ hide ! $
-        flt_i ! (length s.bytes * 1) (2 ^ 63) (omega (arith, asked.2)) $ flt_i ! (length s.bytes) (2 ^ 64) (omega (arith, asked.2)) $ fjoin ! $
-        feq_i ! (List Val) (slice_val (b, o) 4096 ∷ []) (slice_val (b, o) (length s.bytes) ∷ []) (ap (λ k. slice_val (b, o) k ∷ []) (sym asked.2)) $ fjoin ! $ fjoin ! $
-        returns ! (look_at ! 0 refl) $ free_all ! refl $
-        suffices ! _ (ends_at 𝓛 ended stayed held z (slice_val (b, o) 4096) (record { ref_ptr = (b, o); now = s.bytes }) (tt, (tt, tt)) (tt, (tt, tt))) $ says ! refl $
-        nothing ! $ nothing ! $ fjoin ! $ nothing ! $ fjoin ! $ move ! (2 ∷ 0 ∷ 1 ∷ []) $ done !))))
-
-  meets : (𝓣 : Tables 𝓤 H) → Meets 𝓛 ended.signature (WpFn 𝓤 H 𝓣.C 𝓣.Λ function) (closing 𝓛 ended held)
-  meets 𝓣 =
-      walk_Meets 𝓛 ended stayed (Goes-dropped 𝓛 1 (RefOf (0 ∷ []) tt (plain (λ _. Stretch.the_row)) (λ _. tt)) yes (λ κs x f. refl), (Goes-dropped 𝓛 1 (plain (λ _. RawPtr)) yes (λ κs x f. refl), tt)) held
-      (WpFn 𝓤 H 𝓣.C 𝓣.Λ function) (WpFn-mono 𝓤 H 𝓛.laws 𝓣 function) (walks 𝓣.C 𝓣.Λ)
-
-pub bytes_spec : {M : Type 1} → stated.statement M
-unfolding tables_of
+pub bytes_spec : {M : Type 1} → statement M
 bytes_spec 𝓤 𝓛 𝓜 𝓡 wired =
-    let 𝓣 : Tables 𝓤 𝓛.H = tables_of 𝓤 𝓛.H 𝓜 (tables 𝓤 𝓛.H 𝓜 𝓡 𝓡.env) in
-    entered 𝓤 𝓛.H (triple_of 𝓛 ended.signature (closing 𝓛 ended (held 𝓛 𝓜.mem 𝓡.returns))) 𝓣.C 𝓣.Λ #self function
-    (code.unfolded 𝓤 𝓛.H 𝓜 𝓡 wired) (meets 𝓛 𝓜.mem 𝓡.returns 𝓣)
+    let c = f.clauses 𝓛 𝓜.mem 𝓡.returns in let W = walk_of 𝓛 f.ended stayed c in let 𝓣 = tables 𝓤 𝓛.H 𝓜 𝓡 𝓡.env in
+    proved 𝓛 f.ended stayed c 𝓜 𝓡 (Goes-dropped 𝓛 1 (RefOf (0 ∷ []) tt (plain (λ _. Stretch)) (λ _. tt)) yes (λ κs x w. refl), (Goes-dropped 𝓛 1 (plain (λ _. RawPtr)) yes (λ κs x w. refl), tt))
+    f.Key.name code.function (code.unfolded 𝓤 𝓛.H 𝓜 𝓡 wired)
+    (λ κs. (shr_vals, (rawptr_vals, tt))) (λ κs. (shr_Tells (named 0) κs.0 Stretch, (rawptr_Tells, tt))) (λ κs qs bounds a _ are.
+    let s = a.0.now in let p = a.1.0 in let b = block_of p in let o = count_of p in
+    let y : Ptr → W.Ghost = λ p. ((κs, qs, bounds, (a.0, (p, tt)), (shr_vals a.0, (rawptr_vals p, tt))), tt) in
+    qed 𝓛 (((‵ (flft κs.0 qs.0) ⊛ ‵ ftrue) ⊛ ‵ ((ShrRef (named 0) κs.0 Stretch).own_val a.0 (shr_vals a.0)) ⊛ ‵ (RawPtr.own_val p (rawptr_vals p)) ⊛ ‵ ftrue) ∷ raw (fact 𝓤 ((p ≡ s.at) × InBlock p × (length s.bytes ≡ 4096))) ∷ []) ∵
+    move ! (1 ∷ []) $ heard ! _ (λ asked. let at : p ≡ block_ptr b o = at_block p asked.1 in
+    regoal ! (λ q. prop (WpFn 𝓤 𝓛.H 𝓣.C 𝓣.Λ code.function (vptr a.0.ref_ptr.0 a.0.ref_ptr.1 ∷ rawptr_vals q) (W.post (y q)))) at refl $
+    split3 ! $ move ! (2 ∷ []) $ drop ! $ move ! (1 ∷ []) $ fsplit ! $ drop ! $ unhide ! $ fsplit ! $ drop ! $
+    rewrite ! 0 (λ q. ‵ (stretch_lent q s.bytes κs.0)) (sym asked.0) refl $
+    -- [what is shared; the tokens]
+    enter ! _ _ _ _ _ $ alloc_all ! (λ l. pass_all ! refl ((tt, tt), ((tt, tt), tt)) $
+    first ! $ blocks ! $ sets_last ! (agg ! (and_then ! (get ! refl) (and_then ! (big_lit ! (record { fits = lit< tt })) (no_more !)))) refl (tt, (tt, (record { fits = lit< tt }, tt))) $
+    exec ! 𝓣.C 𝓣.Λ (env code.function.locals l) (seq (assign (place 0 []) (rv_opd (copy (place 3 [])))) return) (at_ret _ (W.post (y (block_ptr b o)))) $
+    sets ! (of_opd ! (get ! refl)) refl (tt, (tt, (record { fits = lit< tt }, tt))) $ hide ! $
+    flt_i ! (length s.bytes * 1) (2 ^ 63) (omega (arith, asked.2)) $ flt_i ! (length s.bytes) (2 ^ 64) (omega (arith, asked.2)) $ fjoin ! $
+    feq_i ! (List Val) (slice_val (b, o) 4096 ∷ []) (slice_val (b, o) (length s.bytes) ∷ []) (ap (λ k. slice_val (b, o) k ∷ []) (sym asked.2)) $ fjoin ! $ fjoin ! $
+    returns ! (look_at ! 0 refl) $ free_all ! refl $
+    suffices ! _ (ends_at 𝓛 f.ended stayed c (y (block_ptr b o)) (slice_val (b, o) 4096) (record { ref_ptr = (b, o); now = s.bytes }) (tt, (tt, tt)) (tt, (tt, tt))) $ says ! refl $
+    nothing ! $ nothing ! $ fjoin ! $ nothing ! $ fjoin ! $ move ! (2 ∷ 0 ∷ 1 ∷ []) $ done !)))

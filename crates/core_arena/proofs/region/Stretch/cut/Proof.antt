@@ -1,103 +1,32 @@
 -- `cut` parts the bytes. Assumes `Logic`.
-use Rattle.std.proofs.Common.{ℕ, ◌+◌, ◌≤◌, List, [], ◌∷◌, ◌++◌, length, refl, sym, take, take-append-drop, length-take-le}
-use seplogic.Ra.Ura.{Ura}
-use mir.Syntax.{Fn, w64}
-use mir.Val.{Val, vint}
-use base.Logic.{SProp, ent, never, id⊢}
-use prog.Memory.{Memory}
-use prog.Routine.{Routine}
-use prog.Wp.{Calls, Loops, WpFn, Tables}
-use contract.Monad.{Fun, fact}
-use contract.Running.{tables, tables_of}
-use sound.WpLaws.{WpFn-mono}
-use types.Logic.{Logic}
-use types.Kit.{‵, raw, ◌⊛◌, prop, ◌$◌, ◌∵◌, !, qed, move, drop, use1, split, fsplit, fjoin, feq_l, regoal, rewrite, suffices, done, flt_l}
-use types.Part.{agg}
-use types.Run.{enter, returns, and_then, no_more}
-use types.ByLocal.{alloc_all, pass_all, free_all, look_at, get, sets}
-use denote.Exit.{yes}
-use denote.RattleType.{owns}
-use denote.Builtin.{usize}
-use denote.Signature.{plain, types_at}
-use denote.Steps.{nothing, heard}
-use denote.Triple.Clauses.{Clauses, Ended, closing}
-use denote.Triple.Entry.{alive}
-use denote.Triple.Spec.{Meets, triple_of}
-use denote.Triple.Table.{entered}
-use denote.Triple.Walked.{says, Stays, stay_dropped, walk_of, ends_at, walk_Meets}
-use Rattle.std.proofs.alloc.Calls.{Goes-blank}
-use Rattle.core_arena.proofs.Walks.{none, two, none_made, two_made, none_had}
-use Rattle.core_arena.specs.contracts.region.Stretch as Stretch
-use lib.ListN.{drop as drop_l}
-use denote.RawPtr.{◌+ₚ◌}
-use denote.RawPtr.{in_a_block}
-use denote.RawPtr.Bytes.{bytes, bytes_cut}
-use base.Fraction.{full_share}
-use Rattle.core_arena.specs.Ownership.{stretch_owns}
-use Rattle.core_arena.specs.contracts.region.Stretch.cut as F
-use Rattle.core_arena.specs.contracts.region.Stretch.cut.Key.{name as #self}
-use Rattle.core_arena.proofs.region.Stretch.cut.Statement as stated
+use Rattle.core_arena.proofs.Walks.{◌≤◌, [], ◌∷◌, length, take, drop_l, refl, ◌+ₚ◌, proved, Goes-blank, ftrue}
+use Rattle.core_arena.proofs.Walks.{fact, w64, ‵, raw, ◌⊛◌, ◌$◌, ◌∵◌, !, qed, move, keep, use1, split3, fjoin}
+use Rattle.core_arena.proofs.Walks.{suffices, done, agg, enter, returns, and_then, no_more, alloc_all, pass_all}
+use Rattle.core_arena.proofs.Walks.{free_all, look_at, get, sets, usize, yes, uint_vals, uint_Tells, plain}
+use Rattle.core_arena.proofs.Walks.{nothing, heard, Stays, says, stay_dropped, walk_of, ends_at, none, two}
+use Rattle.core_arena.proofs.Walks.{Stretch, lowers}
+use Rattle.core_arena.proofs.Stretches.{bare, Pair, parted}
+use Rattle.core_arena.specs.contracts.region.Stretch.cut as f
+use Rattle.core_arena.proofs.region.Stretch.cut.Statement.{statement}
 use Rattle.core_arena.proofs.region.Stretch.cut.Code as code
 
-abbrev function : Fn
-function = code.function
+abbrev stayed : Stays f.ended.signature.params f.ended.kept
+stayed = (stay_dropped _ yes, (stay_dropped _ yes, tt))
 
-abbrev ended : Ended
-ended = F.ended
-
-abbrev stayed : Stays ended.signature.params ended.kept
-stayed = (stay_dropped (plain (λ _. Stretch.the_row)) yes, (stay_dropped (plain (λ _. usize)) yes, tt))
-
-module _ {M : Type 1} {𝓤 : Ura M} (𝓛 : Logic 𝓤) (at_mem : Memory → SProp 𝓤) (run : Routine → Fun 𝓤) where
-  open 𝓛 use {H}
-
-  abbrev held : Clauses 𝓤 ended
-  held = F.clauses 𝓛 at_mem run
-
-  module _ (C : Calls 𝓤 H) (Λ : Loops 𝓤 H) (z : (walk_of 𝓛 ended stayed held).Ghost) where
-    abbrev Post : Val → SProp 𝓤
-    Post = (walk_of 𝓛 ended stayed held).post z
-
-    abbrev toks : SProp 𝓤
-    toks = alive 𝓛 ended.signature z.0.0 z.0.1
-
-    walks : ent 𝓤 ((walk_of 𝓛 ended stayed held).pre z) (WpFn 𝓤 H C Λ function ((walk_of 𝓛 ended stayed held).args z) Post)
-    walks =
-        let a = z.0.3 in
-        let vss = z.0.4 in
-        let s = a.0 in
-        let n = a.1.0 in
-        let front : (Stretch.the_row).Denot = record { at = s.at; bytes = take n s.bytes } in
-        let back : (Stretch.the_row).Denot = record { at = s.at +ₚ n; bytes = drop_l n s.bytes } in
-        let Asked = n ≤ length s.bytes in
-        qed 𝓛 ((raw toks ⊛ ‵ (owns (types_at ended.signature.params z.0.0) a vss)) ∷ raw (fact 𝓤 Asked) ∷ []) ∵
-        move ! (1 ∷ []) $ heard ! Asked (λ asked. split ! $ move ! (1 ∷ []) $
-        fsplit ! $ fsplit ! $ none_had ! vss.0 (λ is₀. move ! (1 ∷ []) $ fsplit ! $ fsplit ! $ feq_l ! (λ is₁. flt_l ! (λ fits. drop ! $
-        regoal ! (λ (us : List Val). prop (WpFn 𝓤 H C Λ function (us ++ (vss.1.0 ++ [])) Post)) is₀ refl $
-        regoal ! (λ (us : List Val). prop (WpFn 𝓤 H C Λ function ((none ∷ []) ++ (us ++ [])) Post)) is₁ refl $
-        enter ! C Λ function (none ∷ vint w64 n ∷ []) Post $ alloc_all ! (λ l. pass_all ! refl ((tt, tt), ((tt, record { fits = fits }), tt)) $
-        sets ! (agg ! (no_more !)) refl (tt, tt) $
-        sets ! (agg ! (no_more !)) refl (tt, tt) $
-        sets ! (agg ! (and_then ! (get ! refl) (and_then ! (get ! refl) (no_more !)))) refl (tt, (tt, (tt, tt))) $
-        in_a_block ! s.at (λ p. stretch_owns p s.bytes) (id⊢ 𝓤 (never 𝓤)) (λ b o e.
-        rewrite ! 0 (λ (l : List ℕ). ‵ (bytes full_share l b o)) (sym (take-append-drop n s.bytes)) refl $
-        use1 𝓛 (‵ (bytes full_share (take n s.bytes) b o) ⊛ ‵ (bytes full_share (drop_l n s.bytes) b (o + length (take n s.bytes)))) (bytes_cut 𝓛 full_share (take n s.bytes) (drop_l n s.bytes) b o) $ split ! $
-        rewrite ! 1 (λ (k : ℕ). ‵ (bytes full_share (drop_l n s.bytes) b (o + k))) (length-take-le n s.bytes asked) refl $
-        rewrite ! 0 (λ p. ‵ (stretch_owns p (take n s.bytes))) (sym e) refl $
-        rewrite ! 1 (λ p. ‵ (stretch_owns (p +ₚ n) (drop_l n s.bytes))) (sym e) refl $
-        none_made ! $ fjoin ! $ move ! (1 ∷ []) $ none_made ! $ fjoin ! $ move ! (1 ∷ 0 ∷ []) $ two_made ! Stretch.the_row Stretch.the_row front back none none $
-        returns ! (look_at ! 0 refl) $ free_all ! refl $
-        suffices ! _ (ends_at 𝓛 ended stayed held z (two none none) (front, back) (tt, (tt, tt)) (tt, (tt, tt))) $ says ! (refl, refl, refl, refl) $
-        nothing ! $ nothing ! $ fjoin ! $ nothing ! $ fjoin ! $ move ! (2 ∷ 0 ∷ 1 ∷ []) $ done !))))))
-
-  meets : (𝓣 : Tables 𝓤 H) → Meets 𝓛 ended.signature (WpFn 𝓤 H 𝓣.C 𝓣.Λ function) (closing 𝓛 ended held)
-  meets 𝓣 =
-      walk_Meets 𝓛 ended stayed (Goes-blank 𝓛 0 (plain (λ _. Stretch.the_row)) yes (λ κs x f. tt), (Goes-blank 𝓛 0 (plain (λ _. usize)) yes (λ κs x f. tt), tt)) held
-      (WpFn 𝓤 H 𝓣.C 𝓣.Λ function) (WpFn-mono 𝓤 H 𝓛.laws 𝓣 function) (walks 𝓣.C 𝓣.Λ)
-
-pub cut_spec : {M : Type 1} → stated.statement M
-unfolding tables_of
+pub cut_spec : {M : Type 1} → statement M
 cut_spec 𝓤 𝓛 𝓜 𝓡 wired =
-    let 𝓣 : Tables 𝓤 𝓛.H = tables_of 𝓤 𝓛.H 𝓜 (tables 𝓤 𝓛.H 𝓜 𝓡 𝓡.env) in
-    entered 𝓤 𝓛.H (triple_of 𝓛 ended.signature (closing 𝓛 ended (held 𝓛 𝓜.mem 𝓡.returns))) 𝓣.C 𝓣.Λ #self function
-    (code.unfolded 𝓤 𝓛.H 𝓜 𝓡 wired) (meets 𝓛 𝓜.mem 𝓡.returns 𝓣)
+    let c = f.clauses 𝓛 𝓜.mem 𝓡.returns in let S = Stretch in
+    proved 𝓛 f.ended stayed c 𝓜 𝓡 (Goes-blank 𝓛 0 (plain (λ _. S)) yes (λ κs x w. tt), (Goes-blank 𝓛 0 (plain (λ _. usize)) yes (λ κs x w. tt), tt))
+    f.Key.name code.function (code.unfolded 𝓤 𝓛.H 𝓜 𝓡 wired)
+    (λ κs. (bare, (uint_vals w64, tt))) (λ κs. (lowers.val_is, (uint_Tells w64, tt))) (λ κs qs bounds a _ are.
+    let s = a.0 in let n = a.1.0 in
+    let pair : Pair.Denot = (record { at = s.at; bytes = take n s.bytes }, record { at = s.at +ₚ n; bytes = drop_l n s.bytes }) in
+    let y : (walk_of 𝓛 f.ended stayed c).Ghost = ((κs, qs, bounds, a, (bare s, (uint_vals w64 n, tt))), tt) in
+    qed 𝓛 ((‵ ftrue ⊛ ‵ (S.own_val s (bare s)) ⊛ ‵ (usize.own_val n (uint_vals w64 n)) ⊛ ‵ ftrue) ∷ raw (fact 𝓤 (n ≤ length s.bytes)) ∷ []) ∵
+    move ! (1 ∷ []) $ heard ! _ (λ asked. split3 ! $ keep ! (1 ∷ []) $ use1 𝓛 (‵ (Pair.own_val pair (two none none ∷ []))) (parted 𝓛 s n asked) $
+    enter ! _ _ _ _ _ $ alloc_all ! (λ l. pass_all ! refl ((tt, tt), ((tt, record { fits = are.1.0.1 }), tt)) $
+    sets ! (agg ! (no_more !)) refl (tt, tt) $ sets ! (agg ! (no_more !)) refl (tt, tt) $
+    sets ! (agg ! (and_then ! (get ! refl) (and_then ! (get ! refl) (no_more !)))) refl (tt, (tt, (tt, tt))) $
+    returns ! (look_at ! 0 refl) $ free_all ! refl $
+    suffices ! _ (ends_at 𝓛 f.ended stayed c y (two none none) pair (tt, (tt, tt)) (tt, (tt, tt))) $ says ! (refl, refl, refl, refl) $
+    nothing ! $ nothing ! $ fjoin ! $ nothing ! $ fjoin ! $ nothing ! $ done !)))

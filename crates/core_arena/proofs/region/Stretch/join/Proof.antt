@@ -1,97 +1,28 @@
 -- `join` puts the bytes of both side by side. Assumes `Logic`.
-use Rattle.std.proofs.Common.{◌≡◌, List, [], ◌∷◌, ◌++◌, length, refl, sym, ap, ◌∙◌}
-use seplogic.Ra.Ura.{Ura}
-use mir.Syntax.{Fn}
-use mir.Val.{Val}
-use base.Logic.{SProp, ent, never, id⊢}
-use prog.Memory.{Memory}
-use prog.Routine.{Routine}
-use prog.Wp.{Calls, Loops, WpFn, Tables}
-use contract.Monad.{Fun, fact}
-use contract.Running.{tables, tables_of}
-use sound.WpLaws.{WpFn-mono}
-use types.Logic.{Logic}
-use types.Kit.{‵, raw, ◌⊛◌, prop, ◌$◌, ◌∵◌, !, qed, move, drop, use2, split, fsplit, fjoin, regoal, rewrite, suffices, done}
-use types.Part.{agg}
-use types.Run.{enter, returns, no_more}
-use types.ByLocal.{alloc_all, pass_all, free_all, look_at, sets}
-use denote.Exit.{yes}
-use denote.RattleType.{owns}
-use denote.Signature.{plain, types_at}
-use denote.Steps.{nothing, heard}
-use denote.Triple.Clauses.{Clauses, Ended, closing}
-use denote.Triple.Entry.{alive}
-use denote.Triple.Spec.{Meets, triple_of}
-use denote.Triple.Table.{entered}
-use denote.Triple.Walked.{says, Stays, stay_dropped, walk_of, ends_at, walk_Meets}
-use Rattle.std.proofs.alloc.Calls.{Goes-blank}
-use Rattle.core_arena.proofs.Walks.{none, none_made, none_had}
-use Rattle.core_arena.specs.contracts.region.Stretch as Stretch
-use denote.RawPtr.{◌+ₚ◌}
-use denote.RawPtr.{in_a_block}
-use denote.RawPtr.Bytes.{bytes, bytes_glue}
-use base.Fraction.{full_share}
-use Rattle.core_arena.specs.Ownership.{stretch_owns}
-use Rattle.core_arena.specs.contracts.region.Stretch.join as F
-use Rattle.core_arena.specs.contracts.region.Stretch.join.Key.{name as #self}
-use Rattle.core_arena.proofs.region.Stretch.join.Statement as stated
+use Rattle.core_arena.proofs.Walks.{◌≡◌, [], ◌∷◌, ◌++◌, length, refl, ◌+ₚ◌, proved, Goes-blank, ftrue, fact, ‵}
+use Rattle.core_arena.proofs.Walks.{raw, ◌⊛◌, ◌$◌, ◌∵◌, !, qed, move, keep, use2, split, split3, fjoin}
+use Rattle.core_arena.proofs.Walks.{suffices, done, agg, enter, returns, no_more, alloc_all, pass_all, free_all}
+use Rattle.core_arena.proofs.Walks.{look_at, sets, yes, plain, nothing, heard, Stays, says, stay_dropped}
+use Rattle.core_arena.proofs.Walks.{walk_of, ends_at, none, Stretch, lowers}
+use Rattle.core_arena.proofs.Stretches.{bare, joined}
+use Rattle.core_arena.specs.contracts.region.Stretch.join as f
+use Rattle.core_arena.proofs.region.Stretch.join.Statement.{statement}
 use Rattle.core_arena.proofs.region.Stretch.join.Code as code
 
-abbrev function : Fn
-function = code.function
+abbrev stayed : Stays f.ended.signature.params f.ended.kept
+stayed = (stay_dropped _ yes, (stay_dropped _ yes, tt))
 
-abbrev ended : Ended
-ended = F.ended
-
-abbrev stayed : Stays ended.signature.params ended.kept
-stayed = (stay_dropped (plain (λ _. Stretch.the_row)) yes, (stay_dropped (plain (λ _. Stretch.the_row)) yes, tt))
-
-module _ {M : Type 1} {𝓤 : Ura M} (𝓛 : Logic 𝓤) (at_mem : Memory → SProp 𝓤) (run : Routine → Fun 𝓤) where
-  open 𝓛 use {H}
-
-  abbrev held : Clauses 𝓤 ended
-  held = F.clauses 𝓛 at_mem run
-
-  module _ (C : Calls 𝓤 H) (Λ : Loops 𝓤 H) (z : (walk_of 𝓛 ended stayed held).Ghost) where
-    abbrev Post : Val → SProp 𝓤
-    Post = (walk_of 𝓛 ended stayed held).post z
-
-    abbrev toks : SProp 𝓤
-    toks = alive 𝓛 ended.signature z.0.0 z.0.1
-
-    walks : ent 𝓤 ((walk_of 𝓛 ended stayed held).pre z) (WpFn 𝓤 H C Λ function ((walk_of 𝓛 ended stayed held).args z) Post)
-    walks =
-        let a = z.0.3 in
-        let vss = z.0.4 in
-        let s = a.0 in
-        let t = a.1.0 in
-        let r : (Stretch.the_row).Denot = record { at = s.at; bytes = s.bytes ++ t.bytes } in
-        let Asked = t.at ≡ s.at +ₚ length s.bytes in
-        qed 𝓛 ((raw toks ⊛ ‵ (owns (types_at ended.signature.params z.0.0) a vss)) ∷ raw (fact 𝓤 Asked) ∷ []) ∵
-        move ! (1 ∷ []) $ heard ! Asked (λ asked. split ! $ move ! (1 ∷ []) $
-        fsplit ! $ fsplit ! $ none_had ! vss.0 (λ is₀. move ! (1 ∷ []) $ fsplit ! $ fsplit ! $ none_had ! vss.1.0 (λ is₁. move ! (1 ∷ []) $ drop ! $
-        -- [the bytes behind; the bytes in front; the tokens]
-        regoal ! (λ (us : List Val). prop (WpFn 𝓤 H C Λ function (us ++ (vss.1.0 ++ [])) Post)) is₀ refl $
-        regoal ! (λ (us : List Val). prop (WpFn 𝓤 H C Λ function ((none ∷ []) ++ (us ++ [])) Post)) is₁ refl $
-        enter ! C Λ function (none ∷ none ∷ []) Post $ alloc_all ! (λ l. pass_all ! refl ((tt, tt), ((tt, tt), tt)) $
-        sets ! (agg ! (no_more !)) refl (tt, tt) $
-        move ! (1 ∷ []) $ in_a_block ! s.at (λ p. stretch_owns p s.bytes) (id⊢ 𝓤 (never 𝓤)) (λ b o e.
-        rewrite ! 1 (λ p. ‵ (stretch_owns p t.bytes)) (asked ∙ ap (λ p. p +ₚ length s.bytes) e) refl $
-        use2 𝓛 (‵ (bytes full_share (s.bytes ++ t.bytes) b o)) (bytes_glue 𝓛 full_share s.bytes t.bytes b o) $
-        rewrite ! 0 (λ p. ‵ (stretch_owns p (s.bytes ++ t.bytes))) (sym e) refl $
-        none_made ! $ fjoin ! $
-        returns ! (look_at ! 0 refl) $ free_all ! refl $
-        suffices ! _ (ends_at 𝓛 ended stayed held z none r (tt, (tt, tt)) (tt, (tt, tt))) $ says ! (refl, refl) $
-        nothing ! $ nothing ! $ fjoin ! $ nothing ! $ fjoin ! $ move ! (2 ∷ 0 ∷ 1 ∷ []) $ done !)))))
-
-  meets : (𝓣 : Tables 𝓤 H) → Meets 𝓛 ended.signature (WpFn 𝓤 H 𝓣.C 𝓣.Λ function) (closing 𝓛 ended held)
-  meets 𝓣 =
-      walk_Meets 𝓛 ended stayed (Goes-blank 𝓛 0 (plain (λ _. Stretch.the_row)) yes (λ κs x f. tt), (Goes-blank 𝓛 0 (plain (λ _. Stretch.the_row)) yes (λ κs x f. tt), tt)) held
-      (WpFn 𝓤 H 𝓣.C 𝓣.Λ function) (WpFn-mono 𝓤 H 𝓛.laws 𝓣 function) (walks 𝓣.C 𝓣.Λ)
-
-pub join_spec : {M : Type 1} → stated.statement M
-unfolding tables_of
+pub join_spec : {M : Type 1} → statement M
 join_spec 𝓤 𝓛 𝓜 𝓡 wired =
-    let 𝓣 : Tables 𝓤 𝓛.H = tables_of 𝓤 𝓛.H 𝓜 (tables 𝓤 𝓛.H 𝓜 𝓡 𝓡.env) in
-    entered 𝓤 𝓛.H (triple_of 𝓛 ended.signature (closing 𝓛 ended (held 𝓛 𝓜.mem 𝓡.returns))) 𝓣.C 𝓣.Λ #self function
-    (code.unfolded 𝓤 𝓛.H 𝓜 𝓡 wired) (meets 𝓛 𝓜.mem 𝓡.returns 𝓣)
+    let c = f.clauses 𝓛 𝓜.mem 𝓡.returns in let S = Stretch in let gone = Goes-blank 𝓛 0 (plain (λ _. S)) yes (λ κs x w. tt) in
+    proved 𝓛 f.ended stayed c 𝓜 𝓡 (gone, (gone, tt)) f.Key.name code.function (code.unfolded 𝓤 𝓛.H 𝓜 𝓡 wired)
+    (λ κs. (bare, (bare, tt))) (λ κs. (lowers.val_is, (lowers.val_is, tt))) (λ κs qs bounds a _ are.
+    let s = a.0 in let t = a.1.0 in let both : S.Denot = record { at = s.at; bytes = s.bytes ++ t.bytes } in
+    let y : (walk_of 𝓛 f.ended stayed c).Ghost = ((κs, qs, bounds, a, (bare s, (bare t, tt))), tt) in
+    qed 𝓛 ((‵ ftrue ⊛ ‵ (S.own_val s (bare s)) ⊛ ‵ (S.own_val t (bare t)) ⊛ ‵ ftrue) ∷ raw (fact 𝓤 (t.at ≡ s.at +ₚ length s.bytes)) ∷ []) ∵
+    move ! (1 ∷ []) $ heard ! _ (λ asked. split3 ! $ move ! (2 ∷ []) $ split ! $ move ! (3 ∷ 0 ∷ []) $
+    use2 𝓛 (‵ (S.own_val both (bare both))) (joined 𝓛 s t asked) $ keep ! (0 ∷ []) $
+    enter ! _ _ _ _ _ $ alloc_all ! (λ l. pass_all ! refl ((tt, tt), ((tt, tt), tt)) $
+    sets ! (agg ! (no_more !)) refl (tt, tt) $ returns ! (look_at ! 0 refl) $ free_all ! refl $
+    suffices ! _ (ends_at 𝓛 f.ended stayed c y none both (tt, (tt, tt)) (tt, (tt, tt))) $ says ! (refl, refl) $
+    nothing ! $ nothing ! $ fjoin ! $ nothing ! $ fjoin ! $ nothing ! $ done !)))

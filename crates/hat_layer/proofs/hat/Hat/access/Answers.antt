@@ -1,7 +1,7 @@
-use Rattle.std.proofs.Common.{◌≡◌, Bool, true, cond, Option, Some, None, List, sym, ◌∙◌, ap, subst, set, refl}
+use Rattle.std.proofs.Common.{◌≡◌, Bool, cond, Option, Some, None, List, sym, ◌∙◌, ap, subst, set, refl}
 use Rattle.std.specs.Prelude.{option_map}
 use Rattle.hat_layer.specs.declared.translation.Translation.{Translation}
-use Rattle.hat_layer.specs.Pool.{Pool, lets_access, frame_let, frame_for, after_access, change_at, translation_at, IsSingleValued}
+use Rattle.hat_layer.specs.Pool.{Pool, frame_let, frame_for, after_access, change_at, translation_at, IsSingleValued}
 use Rattle.hat_layer.proofs.HatLemmas.{at-none, at-held, changes-held}
 use Rattle.hat_layer.proofs.MapLaws.{at-change_at, noted-access}
 use Rattle.hat_layer.proofs.hat.Hat.access.Goals.{After-lets_access}

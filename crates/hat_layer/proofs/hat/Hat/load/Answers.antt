@@ -5,9 +5,6 @@ use Rattle.hat_layer.specs.Pool.{Pool, holds, translation_at, dropped_by_load}
 use Rattle.hat_layer.proofs.HatLemmas.{load-own, load-kept, load-gone}
 use Rattle.hat_layer.proofs.hat.Hat.load.Goals as goal
 
-pub replace-requires-clause-apart : goal.replace-requires-clause-apart
-replace-requires-clause-apart c = λ k ne. c.choose-place.ensures.alone k ne
-
 pub returns-clause-loaded : goal.returns-clause-loaded
 returns-clause-loaded c =
     ap (λ (p : List (Option Translation)). translation_at p c.args.space c.args.page) c.replace.ensures.places

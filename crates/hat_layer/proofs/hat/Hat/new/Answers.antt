@@ -1,8 +1,9 @@
-use Rattle.std.proofs.Common.{sym, subst, arith}
+use Rattle.std.proofs.Common.{None, sym, ◌∙◌, ap, length, subst, arith}
 use Rattle.std.specs.Prelude.{vec_capacity}
+use Rattle.std.proofs.lemmas.List.{length-replicate}
 use Rattle.hat_layer.specs.Pool.{IsSingleValued}
 use Rattle.hat_layer.proofs.TableLemmas.{distinct-none}
-use Rattle.hat_layer.proofs.HatLemmas.{hat-made, places-new}
+use Rattle.hat_layer.proofs.HatLemmas.{hat-made}
 use Rattle.hat_layer.proofs.hat.Hat.new.Goals as goal
 
 pub invariant_of-result : goal.invariant_of-result
@@ -10,7 +11,7 @@ invariant_of-result c =
     let a = c.in_ok-table.ensures in
     let b = c.in_ok-free.ensures in (
       hat-made c.args.pool (vec_capacity c.in_ok-free.free) c.in_ok-table.table.places c.in_ok-free.free.items a.places b.all c.requires (let r = c.ranges.pool in omega arith) b.room,
-      sym (places-new c.args.pool c.in_ok-table.table.places a.places),
+      sym (ap length a.places ∙ length-replicate c.args.pool None),
     )
 
 pub returns-clause-distinct : goal.returns-clause-distinct

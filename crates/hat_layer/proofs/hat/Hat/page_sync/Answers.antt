@@ -1,7 +1,7 @@
-use Rattle.std.proofs.Common.{Option, List, Bool, refl, sym, ◌∙◌, ap, subst}
+use Rattle.std.proofs.Common.{Option, List, Bool, refl, ◌∙◌, ap, subst}
 use Rattle.hat_layer.specs.declared.translation.Translation.{Translation}
 use Rattle.hat_layer.specs.Pool.{Pool, translation_at, IsSingleValued, bits_of, change_frame, with_clear_bits}
-use Rattle.hat_layer.proofs.MapLaws.{at-change_frame, some-has, has-some}
+use Rattle.hat_layer.proofs.MapLaws.{at-change_frame, bit-tells}
 use Rattle.hat_layer.proofs.hat.Hat.page_sync.Goals as goal
 
 pub returns-clause-map : goal.returns-clause-map
@@ -9,11 +9,9 @@ returns-clause-map c = λ s p. ap (λ (l : List (Option Translation)). translati
     ∙ at-change_frame with_clear_bits c.args.self.now.places c.args.frame s p (λ t. refl) (subst IsSingleValued (ap (λ (p : Pool). p.places) c.self.view_is) c.clear_bits.ensures.was)
 
 pub returns-clause-referenced : goal.returns-clause-referenced
-returns-clause-referenced c =
-    let b = ap (λ (r : Bool × Bool). r.0) (c.clear_bits.ensures.bits ∙ ap (λ (l : List (Option Translation)). bits_of c.args.frame l) (ap (λ (p : Pool). p.places) c.self.view_is)) in
-    (λ h. some-has (λ t. t.referenced) c.args.self.now.places c.args.frame (subst IsSingleValued (ap (λ (p : Pool). p.places) c.self.view_is) c.clear_bits.ensures.was) (sym b ∙ h), λ h. b ∙ has-some (λ t. t.referenced) c.args.self.now.places c.args.frame h)
+returns-clause-referenced c = bit-tells (λ t. t.referenced) c.args.self.now.places c.args.frame _ (subst (λ (p : Pool). IsSingleValued p.places) c.self.view_is c.clear_bits.ensures.was)
+    (ap (λ (r : Bool × Bool). r.0) (c.clear_bits.ensures.bits ∙ ap (λ (p : Pool). bits_of c.args.frame p.places) c.self.view_is))
 
 pub returns-clause-modified : goal.returns-clause-modified
-returns-clause-modified c =
-    let b = ap (λ (r : Bool × Bool). r.1) (c.clear_bits.ensures.bits ∙ ap (λ (l : List (Option Translation)). bits_of c.args.frame l) (ap (λ (p : Pool). p.places) c.self.view_is)) in
-    (λ h. some-has (λ t. t.modified) c.args.self.now.places c.args.frame (subst IsSingleValued (ap (λ (p : Pool). p.places) c.self.view_is) c.clear_bits.ensures.was) (sym b ∙ h), λ h. b ∙ has-some (λ t. t.modified) c.args.self.now.places c.args.frame h)
+returns-clause-modified c = bit-tells (λ t. t.modified) c.args.self.now.places c.args.frame _ (subst (λ (p : Pool). IsSingleValued p.places) c.self.view_is c.clear_bits.ensures.was)
+    (ap (λ (r : Bool × Bool). r.1) (c.clear_bits.ensures.bits ∙ ap (λ (p : Pool). bits_of c.args.frame p.places) c.self.view_is))

@@ -25,6 +25,3 @@ returns-in-Some-clause-map c = λ s p. ap (λ (l : List (Option Translation)). t
 pub returns-in_default-clause-map : goal.returns-in_default-clause-map
 returns-in_default-clause-map c = λ s p. ap (λ (l : List (Option Translation)). translation_at l s p) (returns-in_default-clause-places c)
     ∙ at-change_at without_write c.args.self.now.places c.args.space c.args.page s p (λ t. refl) (subst IsSingleValued (ap (λ (p : Pool). p.places) c.self.view_is) c.in_default.ensures.distinct)
-
-pub returns-in_default-clause-distinct : goal.returns-in_default-clause-distinct
-returns-in_default-clause-distinct c = subst IsSingleValued (ap (λ (p : Pool). p.places) c.self.view_is) c.in_default.ensures.distinct

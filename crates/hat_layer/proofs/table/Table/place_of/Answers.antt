@@ -1,54 +1,43 @@
-use Rattle.std.proofs.Common.{◌≡◌, Option, Some, None, List, refl, sym, ◌∙◌, ap, subst, arith, get_or, true}
+use Rattle.std.proofs.Common.{◌≡◌, ◌<◌, ℕ, Option, Some, None, length, sym, ◌∙◌, ap, subst, get_or, true}
 use Rattle.std.proofs.lemmas.List.{get_or_default}
+use Rattle.hash_chains.specs.Order.{chain_at}
+use Rattle.hash_chains.proofs.WalkLaws.{Hunts, hunt-start, hunt-step, walk-falls}
 use Rattle.hat_layer.specs.declared.translation.Translation.{Translation}
-use Rattle.hat_layer.specs.Pool.{holds, IsSingleValued}
-use Rattle.hat_layer.specs.Table.{Rows, page_slot, FindsPlace}
-use Rattle.hat_layer.proofs.ChainLemmas.{step}
-use Rattle.hat_layer.proofs.TableLemmas.{look-start, look-step, look-end, look-within}
+use Rattle.hat_layer.specs.Pool.{holds}
+use Rattle.hat_layer.specs.Table.{Rows, FindsPlace}
+use Rattle.hat_layer.proofs.TableLemmas.{slot-within}
+use Rattle.hat_layer.proofs.table.Table.place_of.Goals.{In-Some, After-holds}
 use Rattle.hat_layer.proofs.table.Table.place_of.Goals as goal
 
 pub loop-at-init : goal.loop-at-init
-loop-at-init c =
-    let i = c.self.inside in let t = c.self.invariant in
-    look-start i.cells.items i.by_page.heads.items i.by_page.next.items i.by_frame.heads.items i.by_frame.next.items c.slot_in-slot.result c.args.space c.args.page c.first-at.result t.0
-    (c.slot_in-slot.ensures.slot ∙ ap (λ n. page_slot n c.args.space c.args.page) (sym t.1)) (let w = c.slot_in-slot.ensures.within in let n = t.1 in omega arith) c.first-at.ensures
+loop-at-init c = rw c.first-at.ensures.first (hunt-start (chain_at c.self.inside.by_page.order c.slot_of_pair-slot.result) (λ k. holds c.args.space c.args.page (get_or c.self.inside.cells.items k None)))
 
-pub index-requires : goal.index-requires
-index-requires c =
-    let i = c.self.inside in
-    let w = look-within i.cells.items i.by_page.heads.items i.by_page.next.items i.by_frame.heads.items i.by_frame.next.items c.args.space c.args.page c.in-Some.place c.loop-at.at c.self.invariant.0 c.loop-at.invariant c.in-Some.is in
-    let k = i.cells.ok.0 in omega arith
+-- the place that the walk is at
+at : (c : In-Some) → Hunts (chain_at c.self.inside.by_page.order c.slot_of_pair-slot.result) (λ k. holds c.args.space c.args.page (get_or c.self.inside.cells.items k None)) (Some c.in-Some.place)
+at c = subst (λ (a : Option ℕ). Hunts (chain_at c.self.inside.by_page.order c.slot_of_pair-slot.result) (λ k. holds c.args.space c.args.page (get_or c.self.inside.cells.items k None)) a) c.in-Some.is c.loop-at.invariant
+
+within : (c : In-Some) → c.in-Some.place < length c.self.inside.cells.items
+within c = let i = c.self.inside in slot-within i.cells.items i.slots i.by_page i.by_frame c.slot_of_pair-slot.result c.in-Some.place c.self.invariant (at c).on
 
 pub after-at-requires : goal.after-at-requires
-after-at-requires c = (step c.self.inside.by_page.next.items c.loop-at.at (get_or c.self.inside.by_page.next.items c.in-Some.place None) c.in-Some.place c.loop-at.invariant.walk c.in-Some.is refl).within
+after-at-requires c = (c.slot_of_pair-slot.result, (at (goal.at.after-at-requires c).In-Some).on)
 
 pub loop-at-smaller : goal.loop-at-smaller
-loop-at-smaller c = (step c.self.inside.by_page.next.items c.loop-at.at c.after-at.result c.in-Some.place c.loop-at.invariant.walk c.in-Some.is c.after-at.ensures).falls
+loop-at-smaller c =
+    let s = at (goal.at.loop-at-smaller c).In-Some in
+    rw (c.after-at.ensures.after c.slot_of_pair-slot.result s.on) (rw c.in-Some.is (walk-falls (chain_at c.self.inside.by_page.order c.slot_of_pair-slot.result) c.in-Some.place (c.first-at.ensures.apart.once c.slot_of_pair-slot.result) s.on))
 
 pub loop-at-preserved : goal.loop-at-preserved
 loop-at-preserved c =
-    let i = c.self.inside in
-    let w = look-within i.cells.items i.by_page.heads.items i.by_page.next.items i.by_frame.heads.items i.by_frame.next.items c.args.space c.args.page c.in-Some.place c.loop-at.at c.self.invariant.0 c.loop-at.invariant c.in-Some.is in
-    let e = get_or_default i.cells.items c.in-Some.place None c.index.result.now w ∙ sym c.index.ensures in
-    look-step i.cells.items i.by_page.next.items c.args.space c.args.page c.in-Some.place c.loop-at.at c.after-at.result c.loop-at.invariant c.in-Some.is c.after-at.ensures
-    (ap (λ (o : Option Translation). holds c.args.space c.args.page o) e ∙ sym c.holds.ensures ∙ c.if-holds.false)
+    let s = at (goal.at.loop-at-preserved c).In-Some in
+    let e = get_or_default c.self.inside.cells.items c.in-Some.place None c.index.result.now (within (goal.at.loop-at-preserved c).In-Some) ∙ sym c.index.ensures in
+    rw (c.after-at.ensures.after c.slot_of_pair-slot.result s.on) (hunt-step (chain_at c.self.inside.by_page.order c.slot_of_pair-slot.result) (λ k. holds c.args.space c.args.page (get_or c.self.inside.cells.items k None)) c.in-Some.place (c.first-at.ensures.apart.once c.slot_of_pair-slot.result) s
+    (ap (λ (o : Option Translation). holds c.args.space c.args.page o) e ∙ sym c.holds.ensures ∙ c.if-holds.false))
 
 pub returns-then-holds-clause-found : goal.returns-then-holds-clause-found
 returns-then-holds-clause-found c =
     let i = c.self.inside in
-    let w = look-within i.cells.items i.by_page.heads.items i.by_page.next.items i.by_frame.heads.items i.by_frame.next.items c.args.space c.args.page c.in-Some.place c.loop-at.at c.self.invariant.0 c.loop-at.invariant c.in-Some.is in
-    let e = get_or_default i.cells.items c.in-Some.place None c.index.result.now w ∙ sym c.index.ensures in
+    let e = get_or_default i.cells.items c.in-Some.place None c.index.result.now (within (goal.at.returns-then-holds-clause-found c).In-Some) ∙ sym c.index.ensures in
     let h : holds c.args.space c.args.page (get_or i.cells.items c.in-Some.place None) ≡ true = ap (λ (o : Option Translation). holds c.args.space c.args.page o) e ∙ sym c.holds.ensures ∙ c.if-holds.true in
-    subst (λ (p : List (Option Translation)). FindsPlace p c.args.space c.args.page (Some c.in-Some.place)) (ap (λ (r : Rows). r.places) c.self.view_is)
-    (h, λ k g. c.self.invariant.0.distinct k c.in-Some.place c.args.space c.args.page g h)
-
-pub returns-clause-found : goal.returns-clause-found
-returns-clause-found c =
-    subst (λ (p : List (Option Translation)). FindsPlace p c.args.space c.args.page None) (ap (λ (r : Rows). r.places) c.self.view_is)
-    (look-end c.self.inside.cells.items c.self.inside.by_page.next.items c.args.space c.args.page c.loop-at.at c.loop-at.invariant c.in_default.is)
-
-pub returns-then-holds-clause-distinct : goal.returns-then-holds-clause-distinct
-returns-then-holds-clause-distinct c = subst IsSingleValued (ap (λ (r : Rows). r.places) c.self.view_is) c.self.invariant.0.distinct
-
-pub returns-clause-distinct : goal.returns-clause-distinct
-returns-clause-distinct c = subst IsSingleValued (ap (λ (r : Rows). r.places) c.self.view_is) c.self.invariant.0.distinct
+    subst (λ (r : Rows). FindsPlace r.places c.args.space c.args.page (Some c.in-Some.place)) c.self.view_is
+    (h, λ k g. c.self.invariant.distinct k c.in-Some.place c.args.space c.args.page g h)

@@ -5,10 +5,8 @@ use Rattle.page_lists.proofs.queue.FrameQueue.first.Goals as goal
 use Rattle.page_lists.proofs.queue.FrameQueue.first.Goals.{After-result-1}
 
 by-case : (c : After-result-1) (o : Option ℕ) → c.self.inside.first ≡ o → o ≡ first_of c.args.self.now.order []
-by-case c None e =
-    sym (ap (λ (l : List ℕ). first_of l []) (no-first c.self.inside.first c.self.inside.last c.self.inside.next.items c.self.inside.previous.items c.self.inside.listed.items c.args.self.now c.self.invariant c.self.view_is e))
-by-case c (Some f) e =
-    sym (ap (λ (l : List ℕ). first_of l []) (first-ahead c.self.inside.first c.self.inside.last c.self.inside.next.items c.self.inside.previous.items c.self.inside.listed.items c.args.self.now f c.self.invariant c.self.view_is e))
+by-case c None e = sym (ap (λ (l : List ℕ). first_of l []) (no-first c.self.invariant c.self.view_is e))
+by-case c (Some f) e = sym (ap (λ (l : List ℕ). first_of l []) (first-ahead c.self.invariant c.self.view_is f e))
 
 pub returns : goal.returns
 returns c = by-case c c.self.inside.first refl

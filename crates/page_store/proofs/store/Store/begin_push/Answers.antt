@@ -4,13 +4,15 @@ use Rattle.core_arena.specs.Bytes.{bytes_at}
 use Rattle.std.proofs.Math.ListN.{length-set}
 use Rattle.page_hash.specs.Names.{find}
 use Rattle.page_lock.specs.declared.Row.{Row}
+use Rattle.page_lock.specs.Rows.{row_at}
 use Rattle.page_store.specs.Bays.{home, bay_at}
+use Rattle.page_store.specs.Parts.{rows_forsaken}
 use Rattle.page_store.specs.Flight.{FlightSeen, fresh}
 use Rattle.page_store.specs.Seen.{StoreSeen, IsSoundStore, IsListedFrame, store_of, residence}
 use Rattle.page_store.specs.Steps.{at_frame, with_push_begun, without_snapshot, next_frame, home_bytes}
 use Rattle.page_store.specs.Transfers.{BeginsTransfer}
 use Rattle.page_store.specs.declared.plan.Plan.TheVariants.{Push}
-use Rattle.page_store.proofs.AbortLemmas.{forsakes}
+use Rattle.page_store.proofs.AbortLemmas.{forsakes, forsaken-unheld}
 use Rattle.page_store.proofs.BeginLemmas.{begins-push, pushed-parts, taken-others, out-within}
 use Rattle.page_store.proofs.FrameLaws.{copy-apart, source-within}
 use Rattle.page_store.proofs.QueryLemmas.{IsIn, is-in, same-frame, bytes-within}
@@ -32,6 +34,13 @@ take_out-frame-requires-clause-others g c = λ at e.
     let t = taken-others s c.in-Some.own at c.self.invariant.sound unlisted e in
     let long : length c.forsake.new.locks ≡ length c.self.inside.locks = ap (λ (l : List Row). length l) c.forsake.ensures ∙ (forsakes s c.in-Some.own c.self.invariant.sound).length in
     (t.0, t.1, t.2, subst (λ (n : ℕ). at < n) (sym long) t.3)
+
+pub take_out-frame-requires-clause-unheld : goal.take_out-frame-requires-clause-unheld
+take_out-frame-requires-clause-unheld g c =
+    let found : find c.args.self.now.names c.args.name ≡ Some c.in-Some.own = ap (λ (x : StoreSeen). find x.names c.args.name) (sym c.self.view_is) ∙ sym c.in-Some.ensures.first in
+    let page = is-in c.args.self.now c.args.name c.in-Some.own c.requires.can.0 c.requires.can.1 found in
+    rw c.forsake.ensures (subst (λ (x : StoreSeen). (row_at (rows_forsaken x.rows c.in-Some.own) c.in-Some.own).holder ≡ None) (sym c.self.view_is)
+    (forsaken-unheld c.args.self.now c.args.name c.in-Some.own (subst IsSoundStore c.self.view_is c.self.invariant.sound) page))
 
 -- the flight
 abbrev flight : (g : Over) → After-take g → FlightSeen

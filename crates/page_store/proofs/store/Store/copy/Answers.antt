@@ -6,7 +6,7 @@ use Rattle.page_store.specs.Laws.{FillsPage}
 use Rattle.page_store.specs.Seen.{StoreSeen, IsSoundStore, IsListedFrame, store_of, residence}
 use Rattle.page_store.specs.Steps.{next_frame, at_frame, with_frame_filled, home_bytes}
 use Rattle.page_store.specs.Value.{value}
-use Rattle.page_store.proofs.FillLemmas.{fills-frame, taken-within, home-size, home-value, fills-far}
+use Rattle.page_store.proofs.FillLemmas.{fills-frame, taken-home, taken-name, taken-row, taken-within, home-size, home-value, fills-far}
 use Rattle.page_store.proofs.QueryLemmas.{IsIn, is-in, absent-is}
 use Rattle.page_store.proofs.store.Store.copy.Given.{Over}
 use Rattle.page_store.proofs.store.Store.copy.Goals.{After-copy_frame}
@@ -14,6 +14,15 @@ use Rattle.page_store.proofs.store.Store.copy.Goals as goal
 
 pub rename-requires-clause-absent : goal.rename-requires-clause-absent
 rename-requires-clause-absent g c = absent-is _ c.args.to c.self.invariant.sound (ap (λ (x : StoreSeen). residence x c.args.to) c.self.view_is ∙ c.requires.absent)
+
+pub rename-requires-clause-within : goal.rename-requires-clause-within
+rename-requires-clause-within g c = taken-name _ _ c.self.invariant.sound c.take_frame-frame.ensures.frame
+
+pub reset-requires : goal.reset-requires
+reset-requires g c = taken-row _ _ c.self.invariant.sound c.take_frame-frame.ensures.frame
+
+pub copy_frame-requires-clause-to : goal.copy_frame-requires-clause-to
+copy_frame-requires-clause-to g c = taken-home _ _ c.self.invariant.sound c.take_frame-frame.ensures.frame
 
 -- the frame that is taken, the store that the call makes, and its laws
 record Filled (g : Over) (c : After-copy_frame g) : Type 0 where

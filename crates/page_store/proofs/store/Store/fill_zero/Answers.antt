@@ -5,7 +5,7 @@ use Rattle.page_hash.specs.Names.{find}
 use Rattle.page_store.specs.Laws.{FillsPage}
 use Rattle.page_store.specs.Seen.{StoreSeen, IsSoundStore, IsListedFrame, store_of, residence}
 use Rattle.page_store.specs.Steps.{next_frame, at_frame, with_frame_filled, home_bytes}
-use Rattle.page_store.proofs.FillLemmas.{fills-frame, taken-within}
+use Rattle.page_store.proofs.FillLemmas.{fills-frame, taken-name, taken-row, taken-within}
 use Rattle.page_store.proofs.QueryLemmas.{absent-is}
 use Rattle.page_store.proofs.store.Store.fill_zero.Given.{Over}
 use Rattle.page_store.proofs.store.Store.fill_zero.Goals.{After-zero_frame}
@@ -13,6 +13,12 @@ use Rattle.page_store.proofs.store.Store.fill_zero.Goals as goal
 
 pub rename-requires-clause-absent : goal.rename-requires-clause-absent
 rename-requires-clause-absent g c = absent-is _ c.args.name c.self.invariant.sound (ap (λ (x : StoreSeen). residence x c.args.name) c.self.view_is ∙ c.requires.absent)
+
+pub rename-requires-clause-within : goal.rename-requires-clause-within
+rename-requires-clause-within g c = taken-name _ _ c.self.invariant.sound c.take_frame-frame.ensures.frame
+
+pub reset-requires : goal.reset-requires
+reset-requires g c = taken-row _ _ c.self.invariant.sound c.take_frame-frame.ensures.frame
 
 -- the frame that is taken, the store that the call makes, and its laws
 record Filled (g : Over) (c : After-zero_frame g) : Type 0 where
