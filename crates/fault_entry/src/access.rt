@@ -63,6 +63,7 @@ fn noted<D: Disk>(world: &mut World<D>, space: u32, page: u32, write: bool) -> u
 
 /// Sees that the page of an address has a translation that lets the access, which is noted, or says what is due. A hit is
 /// one look for the segment and one for the translation.
+#[inline(always)]
 pub(crate) fn reach<D: Disk>(
     world: &mut World<D>,
     space: &Ranges<VnSeg>,

@@ -93,8 +93,8 @@ fn store<D: Disk>(
     }
 }
 
-/// What is answered to a load or a store of a process that is alive. Takes no memory and makes no disk call. A hit takes constant expected time beside the look for the segment, which takes the
-/// logarithm of their number.
+/// What is answered to a load or a store of a process that is alive. Takes no memory and makes no disk call. A hit takes
+/// constant expected time beside the look for the segment, which takes the logarithm of their number.
 pub fn attempt<D: Disk>(
     world: &mut World<D>,
     spaces: &mut Spaces,

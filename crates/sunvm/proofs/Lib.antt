@@ -65,3 +65,4 @@ pub mod StartRules
 pub mod Starts
 pub mod DisksTell
 pub mod Asking
+pub mod BlankDiskLemmas

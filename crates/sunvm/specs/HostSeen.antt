@@ -1,9 +1,8 @@
 -- What contracts see of the program's rack and its disks. Inside: no clause of `run` cites this.
 use Rattle.std.specs.Prelude.{ℕ}
 use Rattle.block_device.specs.DiskSeen.{DiskSeen, HasBlocks}
-use Rattle.block_device.specs.MemDiskLook.{look, look_has_blocks}
-use Rattle.block_device.specs.MemSeen.{disk_of}
 use Rattle.disk_file.specs.FileDiskSeen.{file_disk_as_disk}
+use Rattle.sunvm.specs.BlankDisks.{blank_disk_seen, blank_disk_has_blocks}
 use Rattle.sunvm.specs.declared.host_disk.HostDisk.{HostDisk}
 use Rattle.sunvm.specs.declared.host_disk.HostDisk.TheVariants.{Blank, Path}
 
@@ -14,10 +13,10 @@ pub record HostRackSeen : Type 0 where
 
 -- A disk in memory tells its content, and one over a file doesn't.
 abbrev pub host_disk_seen : HostDisk → DiskSeen
-host_disk_seen (Blank disk) = disk_of (look disk)
+host_disk_seen (Blank disk) = blank_disk_seen disk
 host_disk_seen (Path disk) = file_disk_as_disk disk
 
 -- What it tells is blocks of 4096 bytes.
 pub host_disk_has_blocks : (d : HostDisk) → HasBlocks (host_disk_seen d).content (host_disk_seen d).size
-host_disk_has_blocks (Blank disk) = look_has_blocks disk
+host_disk_has_blocks (Blank disk) = blank_disk_has_blocks disk
 host_disk_has_blocks (Path disk) = tt

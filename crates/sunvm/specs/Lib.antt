@@ -14,6 +14,7 @@ pub mod Showing
 pub mod DiskTables
 pub mod Course
 pub mod Reading
+pub mod BlankDisks
 pub mod HostSeen
 pub mod Lines
 pub mod Placing

@@ -99,7 +99,7 @@ fn tell_fault<K: Sink>(
     }
 }
 
-fn ending_of(stop: ShowStop<DiskFault>) -> Ending
+fn showing_stop(stop: ShowStop<DiskFault>) -> Ending
     ensures { result ≡ showing_stop stop }
 {
     match stop {
@@ -139,7 +139,7 @@ fn show_report<D: Disk, K: Sink>(
     }
     match show_files(alloc, Heading::Report, files, disks, out) {
         Ok(()) => Ending::Whole,
-        Err(stop) => ending_of(stop),
+        Err(stop) => showing_stop(stop),
     }
 }
 

@@ -1,12 +1,13 @@
 //! A disk of the program.
-use block_device::{Disk, Failed, MemDisk};
+use crate::blank_disk::BlankDisk;
+use block_device::{Disk, Failed};
 use disk_file::FileDisk;
 use std::fs::File;
 
 /// A disk in memory, which is lost as the program ends, or one over a file.
 #[derive(Drop)]
 pub enum HostDisk {
-    Blank(MemDisk),
+    Blank(BlankDisk),
     Path(FileDisk<File>),
 }
 

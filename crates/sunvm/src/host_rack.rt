@@ -2,8 +2,9 @@
 ghost use Rattle.std.specs.Prelude.{◌≡◌};
 ghost use Rattle.sunvm.specs.HostSeen.{HostRackSeen};
 
+use crate::blank_disk::BlankDisk;
 use crate::host_disk::HostDisk;
-use block_device::{MemDisk, Rack, RackFault, Spec};
+use block_device::{Rack, RackFault, Spec};
 use std::alloc::Global;
 use std::fs::File;
 use std::marker::Model;
@@ -59,7 +60,7 @@ impl<R: Files<File = File>> Rack for HostRack<'_, R> {
         };
         match spec {
             Spec::Blank { blocks, .. } => {
-                match MemDisk::new(self.alloc, *blocks, Vec::new(self.alloc)) {
+                match BlankDisk::new(self.alloc, *blocks) {
                     Ok(disk) => {
                         self.attached = attached;
                         Ok(HostDisk::Blank(disk))

@@ -2,6 +2,7 @@
 #![tactic(auto)]
 
 mod attaching;
+mod blank_disk;
 mod closing;
 mod concluding;
 mod disk_tables;

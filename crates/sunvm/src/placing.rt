@@ -31,7 +31,7 @@ pub struct Placed<D: Disk> {
 
 impl PlaceStop {
     // How the run ends then.
-    fn ending(self) -> Ending
+    fn ending_of(self) -> Ending
         ensures { result ≡ ending_of self }
     {
         match self {
@@ -150,6 +150,6 @@ pub fn place<D: Disk>(
     let mut attached = attached;
     match number_files(alloc, plan, &attached.tables, &mut attached.disks) {
         Ok(files) => Ok(Placed { attached, files }),
-        Err(how) => Err(stop(how.ending(), attached)),
+        Err(how) => Err(stop(how.ending_of(), attached)),
     }
 }

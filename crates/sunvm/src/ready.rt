@@ -49,7 +49,7 @@ fn bare_stop<D: Disk>(alloc: Global, ending: Ending) -> Stop<D>
     }
 }
 
-fn ending_of(stop: ShowStop<OpenFault>) -> Ending
+fn opening_stop(stop: ShowStop<OpenFault>) -> Ending
     ensures { result ≡ opening_stop stop }
 {
     match stop {
@@ -94,7 +94,7 @@ fn traced<D: Disk, K: Sink>(
     let disks = placed.attached.disks.as_mut_slice();
     match trace_opening(alloc, plan, &placed.files, disks, out) {
         Ok(()) => Ok(()),
-        Err(stop) => Err(ending_of(stop)),
+        Err(stop) => Err(opening_stop(stop)),
     }
 }
 

@@ -9,6 +9,7 @@ use vm_types::Call;
 pub const MOST_ENTRIES: u32 = 1_048_576;
 
 // The aligned lines of 64 bytes that so many bytes from an offset on touch, up to 2^32.
+#[inline(never)]
 fn line_count(offset: u32, bytes: u64) -> u32
     ensures { result ≡ lines_of_bytes offset bytes }
 {
@@ -17,6 +18,8 @@ fn line_count(offset: u32, bytes: u64) -> u32
     ((end + 63) / 64 - begin / 64) as u32
 }
 
+// Each line of a plan comes here twice.
+#[inline(always)]
 fn call_parts(call: &Call) -> u32
     ensures { result ≡ parts_of_call call.now }
 {
@@ -33,6 +36,7 @@ fn call_parts(call: &Call) -> u32
 }
 
 /// How many entries the line may make: one for each part of a read or a write, none for a wait.
+#[inline(always)]
 pub fn parts(line: &PlanLine) -> u32
     ensures { result ≡ parts_of_act line.now.act }
 {

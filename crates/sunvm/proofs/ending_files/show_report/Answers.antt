@@ -36,7 +36,7 @@ returns-in-Err-show_files-clause-ends g c =
     let disks = pairs_seen g.D.Disk.seen c.args.disks.now in
     let new = pairs_seen g.D.Disk.seen c.show_files.new.disks in
     subst (λ (x : Ending). ShowEnds c.args.options.now c.args.plan.now c.args.history.now (infos_made c.args.files.now) (g.K.Sink.seen c.args.out.now)
-    (g.K.Sink.seen c.show_files.new.out) disks new x) (sym c.ending_of.ensures)
+    (g.K.Sink.seen c.show_files.new.out) disks new x) (sym c.showing_stop.ensures)
     (files-stopped c.args.options.now c.args.plan.now c.args.history.now (infos_made c.args.files.now) s.0 (g.K.Sink.seen c.args.out.now)
     (g.K.Sink.seen c.write_middle.new.out) (g.K.Sink.seen c.show_files.new.out) disks new s.1 none c.write_middle.ensures.later c.in_default.ensures.ok
     c.in-Err-show_files.stop s.2)

@@ -104,7 +104,7 @@ returns-in-Err-clause-err g c = λ holds count a.
     let same : length new ≡ length c.args.attached.disks.items = remain.count ∙ ap (λ (ds : List (NumberedDisk _)). length ds) c.deref_mut.ensures.value in
     let written : (with_items c.args.attached.disks new).items ≡ new = items-written c.args.attached.disks new same in
     let stopped = subst (λ (xs : List TableSeen). PlaceStopped seen (placing_read seen old xs plan.setup) old new c.in-Err.how) c.deref.ensures.value c.in-Err.ensures.stop in
-    stops-early seen plan holds old new ts c.args.attached.swap count c.in-Err.how c.stop.result (c.stop.ensures.ending ∙ c.ending.ensures) c.stop.ensures.entries c.stop.ensures.counts
+    stops-early seen plan holds old new ts c.args.attached.swap count c.in-Err.how c.stop.result (c.stop.ensures.ending ∙ c.ending_of.ensures) c.stop.ensures.entries c.stop.ensures.counts
     (c.stop.ensures.disks ∙ ap (map (λ (d : NumberedDisk _). d.disk)) written) c.stop.ensures.swap (all-blocks seen old (λ d. g.met.D.Disk.has_blocks d.disk)) m a.swap a.blank remain stopped
 
 pub returns-in-Ok-clause-kept : goal.returns-in-Ok-clause-kept

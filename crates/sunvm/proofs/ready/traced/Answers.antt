@@ -42,9 +42,9 @@ returns-in-Err-clause-shows g c = λ holds files p.
     let new = map (numbered_seen g.D.Disk.seen) c.trace_opening.new.disks in (
       s.0,
       read-bytes c.args.plan.now holds files a c.args.placed.now.files p s.0 (subst (λ (l : List (ℕ × DiskSeen)). AreFilesBytes infos l s.0) was s.1),
-      subst (λ (l : List (NumberedDisk g.row.D.Denot)). TraceStops c.args.options.now c.args.plan.now files s.0 k0 k1 a.disks (map (numbered_seen g.D.Disk.seen) l) c.ending_of.result)
+      subst (λ (l : List (NumberedDisk g.row.D.Denot)). TraceStops c.args.options.now c.args.plan.now files s.0 k0 k1 a.disks (map (numbered_seen g.D.Disk.seen) l) c.opening_stop.result)
           (written-back c.args.placed.now.attached.disks.len c.trace_opening.new.disks c.args.placed.now.attached.disks.items (search rules) (search rules))
-          (subst (TraceStops c.args.options.now c.args.plan.now files s.0 k0 k1 a.disks new) (sym c.ending_of.ensures)
+          (subst (TraceStops c.args.options.now c.args.plan.now files s.0 k0 k1 a.disks new) (sym c.opening_stop.ensures)
           (traced-part c.args.plan.now holds files a c.args.placed.now.files p c.args.options.now c.if-not-options.false s.0 k0 k1 new c.in-Err.stop
           (subst (λ (l : List (ℕ × DiskSeen)). TraceShows c.args.plan.now infos s.0 k0 k1 l new (Err c.in-Err.stop)) was s.2))),
     )
