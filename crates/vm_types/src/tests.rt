@@ -74,14 +74,8 @@ fn a_write_goes_on_with_what_fits_its_line(rt: HostRuntime) {
             "at {offset}"
         );
     }
-    assert_eq!(rt;
-        first_part_of_write(3, 60, &bytes),
-        write(60, &bytes[..4], 122)
-    );
-    assert_eq!(rt;
-        first_part_of_write(3, 64, &bytes[..5]),
-        write(64, &bytes[..5], 0)
-    );
+    assert_eq!(rt; first_write(3, 60, &bytes), write(60, &bytes[..4], 122));
+    assert_eq!(rt; first_write(3, 64, &bytes[..5]), write(64, &bytes[..5], 0));
 }
 
 #[test]
@@ -209,7 +203,7 @@ fn the_words_pages_and_protections(rt: HostRuntime) {
     }
     assert!(rt; Line::new(&[]).is_empty());
     let both = Prot::READ | Prot::WRITE;
-    assert!(rt; both.can_read() && both.can_write() && both.is_known());
+    assert!(rt; both.can_read() && both.can_write() && both.is_prot());
     assert!(rt; Prot::READ.is_within(both) && !both.is_within(Prot::READ));
 }
 

@@ -73,7 +73,7 @@ impl Call {
             } => {
                 is_place(place)
                     && is_number(length)
-                    && prot.is_known()
+                    && prot.is_prot()
                     && is_object(object)
                     && is_number(offset)
             }
@@ -81,7 +81,7 @@ impl Call {
                 is_number(addr) && is_number(length)
             }
             Call::Protect { addr, length, prot } => {
-                is_number(addr) && is_number(length) && prot.is_known()
+                is_number(addr) && is_number(length) && prot.is_prot()
             }
             Call::Read {
                 file,
