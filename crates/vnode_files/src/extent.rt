@@ -73,7 +73,7 @@ impl Extents {
     }
 
     // Cuts the extents back to so many, the last of them to so many pages.
-    pub(crate) fn cut_back(&mut self, count: usize, pages: u32)
+    pub(crate) fn cut_extents(&mut self, count: usize, pages: u32)
         requires { count ≤ length self.old }
         ensures { self.new ≡ cut_extents self.old count pages }
     {

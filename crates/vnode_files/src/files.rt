@@ -141,7 +141,7 @@ impl Files {
         requires { file < length self.now.files }
         ensures { result ≡ page_count (vnode_at self.now file).info.extents }
     {
-        self.vnodes[file as usize].kept()
+        self.vnodes[file as usize].page_count()
     }
 
     /// The block of a page that a file keeps, in the logarithm of the number of its extents.
@@ -197,7 +197,7 @@ impl Files {
         ensures grows { OnTrue result (GrowsFile self.old self.new file pages) }
         ensures layout { KeepsLayout self.old self.new }
     {
-        let before = self.vnodes[file as usize].savepoint();
+        let before = self.vnodes[file as usize].savepoint_of();
         while self.kept(file) < pages {
             if !self.take_block(file) {
                 self.vnodes[file as usize].cut_back(before);

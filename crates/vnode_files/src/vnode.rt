@@ -97,7 +97,7 @@ impl Vnode {
     }
 
     // The pages that the file keeps.
-    pub(crate) fn kept(&self) -> u32
+    pub(crate) fn page_count(&self) -> u32
         ensures { result ≡ page_count self.now.seen.info.extents }
     {
         self.blanks.len() as u32
@@ -199,7 +199,7 @@ impl Vnode {
               (self.old.seen.info.extents ++ record { start = block; pages = 1 } ∷ []);
         } }
     {
-        let end = self.kept() + 1;
+        let end = self.page_count() + 1;
         self.info.extents.push(Extent {
             start: block,
             pages: 1,
@@ -209,7 +209,7 @@ impl Vnode {
     }
 
     // Where the file stands.
-    pub(crate) fn savepoint(&self) -> Savepoint
+    pub(crate) fn savepoint_of(&self) -> Savepoint
         ensures savepoint { result ≡ savepoint_of self.now.seen }
         ensures sound { IsSoundVnode self.now.seen }
     {
@@ -220,7 +220,7 @@ impl Vnode {
         Savepoint {
             extents: self.info.extents.list().len(),
             last,
-            pages: self.kept(),
+            pages: self.page_count(),
         }
     }
 
@@ -231,7 +231,7 @@ impl Vnode {
         requires sound { IsSoundVnode (cut_vnode self.old.seen to) }
         ensures { self.new ≡ record self.old { seen = cut_vnode self.old.seen to } }
     {
-        self.info.extents.cut_back(to.extents, to.last);
+        self.info.extents.cut_extents(to.extents, to.last);
         cut_ends(&mut self.ends, to.extents, to.pages);
         self.blanks.truncate(to.pages as usize);
     }

@@ -25,13 +25,13 @@ loop-before-init c =
     omega (arith, subst (λ (s : FilesSeen). c.args.file < length s.files) (sym c.self.view_is) c.requires, length-map c.self.inside.vnodes.items (λ (v : RoomyVnode). v.seen)) in
     let at : vnode_at c.args.self.now c.args.file ≡ c.index.result.now.seen =
     ap (λ (s : FilesSeen). vnode_at s c.args.file) (sym c.self.view_is) ∙ seen-at c.self.inside.vnodes.items c.args.file c.index.result.now no_vnode within c.index.ensures in
-    growing-first c.args.self.now c.args.file c.args.pages c.savepoint-before.result c.requires
-    (subst IsSoundVnode (sym at) c.savepoint-before.ensures.sound) (c.savepoint-before.ensures.savepoint ∙ ap savepoint_of (sym at))
+    growing-first c.args.self.now c.args.file c.args.pages c.savepoint_of-before.result c.requires
+    (subst IsSoundVnode (sym at) c.savepoint_of-before.ensures.sound) (c.savepoint_of-before.ensures.savepoint ∙ ap savepoint_of (sym at))
 
 -- a turn that took a block
-step : (c : Else-not-take_block) → Steps c.args.self.now c.loop-before.self c.take_block.new.self c.args.file c.args.pages c.savepoint-before.result
+step : (c : Else-not-take_block) → Steps c.args.self.now c.loop-before.self c.take_block.new.self c.args.file c.args.pages c.savepoint_of-before.result
 step c =
-    growing-next c.args.self.now c.loop-before.self c.take_block.new.self c.args.file c.args.pages c.savepoint-before.result c.requires c.loop-before.invariant
+    growing-next c.args.self.now c.loop-before.self c.take_block.new.self c.args.file c.args.pages c.savepoint_of-before.result c.requires c.loop-before.invariant
     (subst (λ (n : ℕ). n < c.args.pages) c.kept.ensures c.loop-before-test.true) (sym c.take_block.ensures.answer ∙ c.if-not-take_block.false) c.take_block.ensures.new
 
 pub loop-before-preserved : goal.loop-before-preserved
@@ -52,21 +52,21 @@ stays c = c.take_block.ensures.new ∙ ap (with_growth c.loop-before.self c.args
 
 none : (c : Then-not-take_block) → growth_of c.args.self.now c.args.file c.args.pages ≡ None
 none c =
-    growing-none c.args.self.now c.loop-before.self c.args.file c.args.pages c.savepoint-before.result c.requires c.loop-before.invariant
+    growing-none c.args.self.now c.loop-before.self c.args.file c.args.pages c.savepoint_of-before.result c.requires c.loop-before.invariant
     (subst (λ (n : ℕ). n < c.args.pages) c.kept.ensures c.loop-before-test.true) (sym c.take_block.ensures.answer ∙ c.if-not-take_block.true)
 
-growing : (c : Then-not-take_block) → IsGrowing c.args.self.now c.take_block.new.self c.args.file c.args.pages c.savepoint-before.result
-growing c = subst (λ (s : FilesSeen). IsGrowing c.args.self.now s c.args.file c.args.pages c.savepoint-before.result) (sym (stays c)) c.loop-before.invariant
+growing : (c : Then-not-take_block) → IsGrowing c.args.self.now c.take_block.new.self c.args.file c.args.pages c.savepoint_of-before.result
+growing c = subst (λ (s : FilesSeen). IsGrowing c.args.self.now s c.args.file c.args.pages c.savepoint_of-before.result) (sym (stays c)) c.loop-before.invariant
 
-back : (c : Then-not-take_block) → CanGoBack c.args.self.now c.take_block.new.self c.args.file c.savepoint-before.result
-back c = growing-back c.args.self.now c.take_block.new.self c.args.file c.args.pages c.savepoint-before.result c.requires (growing c)
+back : (c : Then-not-take_block) → CanGoBack c.args.self.now c.take_block.new.self c.args.file c.savepoint_of-before.result
+back c = growing-back c.args.self.now c.take_block.new.self c.args.file c.args.pages c.savepoint_of-before.result c.requires (growing c)
 
 within : (c : Then-not-take_block) → c.args.file < length c.self-in-loop-before.inside.vnodes.items
 within c =
     omega (
       arith,
       subst (λ (s : FilesSeen). c.args.file < length s.files) (sym c.self-in-loop-before.view_is)
-          (growing-there c.args.self.now c.take_block.new.self c.args.file c.args.pages c.savepoint-before.result c.requires (growing c)),
+          (growing-there c.args.self.now c.take_block.new.self c.args.file c.args.pages c.savepoint_of-before.result c.requires (growing c)),
       length-map c.self-in-loop-before.inside.vnodes.items (λ (v : RoomyVnode). v.seen),
     )
 
@@ -79,17 +79,17 @@ at c low =
 pub cut_back-requires-clause-extents : goal.cut_back-requires-clause-extents
 cut_back-requires-clause-extents c =
     let d = (goal.at.cut_back-requires-clause-extents c).Then-not-take_block in
-    subst (λ (v : VnodeSeen). c.savepoint-before.result.extents ≤ length v.info.extents) (at (goal.at.cut_back-requires-clause-extents c).After-index_mut (within d)) (back d).extents
+    subst (λ (v : VnodeSeen). c.savepoint_of-before.result.extents ≤ length v.info.extents) (at (goal.at.cut_back-requires-clause-extents c).After-index_mut (within d)) (back d).extents
 
 pub cut_back-requires-clause-pages : goal.cut_back-requires-clause-pages
 cut_back-requires-clause-pages c =
     let d = (goal.at.cut_back-requires-clause-pages c).Then-not-take_block in
-    subst (λ (v : VnodeSeen). c.savepoint-before.result.pages ≡ page_count (cut_vnode v c.savepoint-before.result).info.extents) (at (goal.at.cut_back-requires-clause-pages c).After-index_mut (within d)) (back d).pages
+    subst (λ (v : VnodeSeen). c.savepoint_of-before.result.pages ≡ page_count (cut_vnode v c.savepoint_of-before.result).info.extents) (at (goal.at.cut_back-requires-clause-pages c).After-index_mut (within d)) (back d).pages
 
 pub cut_back-requires-clause-sound : goal.cut_back-requires-clause-sound
 cut_back-requires-clause-sound c =
     let d = (goal.at.cut_back-requires-clause-sound c).Then-not-take_block in
-    subst (λ (v : VnodeSeen). IsSoundVnode (cut_vnode v c.savepoint-before.result)) (at (goal.at.cut_back-requires-clause-sound c).After-index_mut (within d)) (back d).sound
+    subst (λ (v : VnodeSeen). IsSoundVnode (cut_vnode v c.savepoint_of-before.result)) (at (goal.at.cut_back-requires-clause-sound c).After-index_mut (within d)) (back d).sound
 
 pub invariant_of-self : goal.invariant_of-self
 invariant_of-self c =
@@ -98,9 +98,9 @@ invariant_of-self c =
     let vnodes : List RoomyVnode = c.self-in-loop-before.inside.vnodes.items in
     let disks : finmap.FinMap nat_cmp ℕ = finmap.from_entries c.self-in-loop-before.inside.disks.items in
     let there = at (goal.at.invariant_of-self c).After-index_mut (within d) in
-    let y : RoomyVnode = record x { seen = cut_vnode x.seen c.savepoint-before.result } in
-    let cut : cut_vnode x.seen c.savepoint-before.result ≡ vnode_at c.args.self.now c.args.file =
-    ap (λ (v : VnodeSeen). cut_vnode v c.savepoint-before.result) (sym there) ∙ (back d).cut in
+    let y : RoomyVnode = record x { seen = cut_vnode x.seen c.savepoint_of-before.result } in
+    let cut : cut_vnode x.seen c.savepoint_of-before.result ≡ vnode_at c.args.self.now c.args.file =
+    ap (λ (v : VnodeSeen). cut_vnode v c.savepoint_of-before.result) (sym there) ∙ (back d).cut in
     let more : page_blocks x.seen.info.extents ≡ page_blocks y.seen.info.extents ++ (back d).first.0 =
     ap (λ (v : VnodeSeen). page_blocks v.info.extents) (sym there) ∙ (back d).first.1
     ∙ ap (λ (v : VnodeSeen). page_blocks v.info.extents ++ (back d).first.0) (sym cut) in
@@ -114,10 +114,10 @@ pub returns-then-not-take_block-clause-new : goal.returns-then-not-take_block-cl
 returns-then-not-take_block-clause-new c =
     let d = (goal.at.returns-then-not-take_block-clause-new c).Then-not-take_block in
     let disks : finmap.FinMap nat_cmp ℕ = finmap.from_entries c.self-in-loop-before.inside.disks.items in
-    let set = seen-set c.self-in-loop-before.inside.vnodes.items c.args.file c.index_mut.result.now c.cut_back.new.self (λ v. cut_vnode v c.savepoint-before.result) (within d) c.index_mut.ensures.value
+    let set = seen-set c.self-in-loop-before.inside.vnodes.items c.args.file c.index_mut.result.now c.cut_back.new.self (λ v. cut_vnode v c.savepoint_of-before.result) (within d) c.index_mut.ensures.value
     (ap (λ (v : RoomyVnode). v.seen) c.cut_back.ensures) in
     ap (λ (fs : List VnodeSeen). let s : FilesSeen = record { disks = disks; files = fs } in s) set
-    ∙ ap (λ (s : FilesSeen). with_vnode s c.args.file (cut_vnode (vnode_at s c.args.file) c.savepoint-before.result)) c.self-in-loop-before.view_is
+    ∙ ap (λ (s : FilesSeen). with_vnode s c.args.file (cut_vnode (vnode_at s c.args.file) c.savepoint_of-before.result)) c.self-in-loop-before.view_is
     ∙ ap (λ (v : VnodeSeen). with_vnode c.take_block.new.self c.args.file v) (back d).cut ∙ (back d).back
     ∙ sym (ap (with_growth c.args.self.now c.args.file) (none d))
 
@@ -132,11 +132,11 @@ returns-then-not-take_block-clause-layout c =
 pub returns-clause-grows : goal.returns-clause-grows
 returns-clause-grows c =
     let enough : c.args.pages ≤ page_count (own_extents c.loop-before.self c.args.file) = subst (λ (n : ℕ). c.args.pages ≤ n) c.kept.ensures c.loop-before-test.false in
-    let some = growing-some c.args.self.now c.loop-before.self c.args.file c.args.pages c.savepoint-before.result c.requires c.loop-before.invariant enough in
+    let some = growing-some c.args.self.now c.loop-before.self c.args.file c.args.pages c.savepoint_of-before.result c.requires c.loop-before.invariant enough in
     subst (λ (s : FilesSeen). GrowsFile c.args.self.now s c.args.file c.args.pages) (sym some.2) (grows c.args.self.now c.args.file c.args.pages some.0 c.requires some.1)
 
 pub returns-clause-layout : goal.returns-clause-layout
 returns-clause-layout c =
     let enough : c.args.pages ≤ page_count (own_extents c.loop-before.self c.args.file) = subst (λ (n : ℕ). c.args.pages ≤ n) c.kept.ensures c.loop-before-test.false in
-    let some = growing-some c.args.self.now c.loop-before.self c.args.file c.args.pages c.savepoint-before.result c.requires c.loop-before.invariant enough in
+    let some = growing-some c.args.self.now c.loop-before.self c.args.file c.args.pages c.savepoint_of-before.result c.requires c.loop-before.invariant enough in
     subst (KeepsLayout c.args.self.now) (sym some.2) (keeps-growth c.args.self.now c.args.file c.args.pages (Some some.0) c.requires some.1)

@@ -20,4 +20,4 @@ invariant_of-self c =
     subst (λ (w : RoomyVnode). c.args.to.pages ≡ page_count (cut_vnode w.seen c.args.to).info.extents) (sym c.self.view_is) c.requires.pages in
     let sound : IsSoundVnode (cut_vnode v c.args.to) = subst (λ (w : RoomyVnode). IsSoundVnode (cut_vnode w.seen c.args.to)) (sym c.self.view_is) c.requires.sound in
     let cut = HasPageEnds-cut v c.self.inside.ends.items c.self.inside.ends.cap c.args.to c.self.invariant within pages sound in
-    rw (c.cut_back.ensures, c.truncate.ensures.items, c.cut_ends.ensures.items, c.cut_ends.ensures.room) cut
+    rw (c.cut_extents.ensures, c.truncate.ensures.items, c.cut_ends.ensures.items, c.cut_ends.ensures.room) cut

@@ -17,4 +17,4 @@ invariant_of-self c =
     let v : VnodeSeen = record { info = c.self.inside.info; blanks = c.self.inside.blanks.items } in
     let few : page_count c.self.inside.info.extents + 1 < 2 ^ 32 = subst (λ (w : RoomyVnode). page_count w.seen.info.extents + 1 < 2 ^ 32) (sym c.self.view_is) c.requires.pages in
     let pushed = HasPageEnds-pushed v c.self.inside.ends.items c.self.inside.ends.cap c.args.block c.self.invariant c.ranges.block.fits few in
-    rw (c.push.ensures, c.push_reserved-2.ensures.items, c.push_reserved.ensures.items, c.push_reserved.ensures.capacity, c.kept-end.ensures, ← c.self.view_is) pushed
+    rw (c.push.ensures, c.push_reserved-2.ensures.items, c.push_reserved.ensures.items, c.push_reserved.ensures.capacity, c.page_count-end.ensures, ← c.self.view_is) pushed
