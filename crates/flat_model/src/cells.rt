@@ -102,7 +102,7 @@ impl Cells {
     }
 
     /// Whether some cell names the zero object. Looks at each cell.
-    pub fn names(&self, zero: u32) -> bool
+    pub fn any_names(&self, zero: u32) -> bool
         ensures { result ≡ list_any (names zero) (map.values self.now) }
     {
         any_names(&self.cells, zero)

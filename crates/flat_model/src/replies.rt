@@ -8,7 +8,7 @@ ghost use Rattle.flat_model.specs.FlatState.{IsDueReply};
 use vm_types::{Errno, Line, Reply, Signal};
 
 // The value of at most 4 bytes, the highest first.
-fn value_of(bytes: &[u8]) -> u32
+fn word_value(bytes: &[u8]) -> u32
     requires { length bytes.now ≤ 4 }
     ensures { result ≡ word_value bytes.now }
 {
@@ -30,7 +30,7 @@ pub(crate) fn word_at(page: &[u8], addr: u32, size: u32) -> u32
 {
     let at = ((addr % 4096) as usize).min(page.len());
     let rest = &page[at..];
-    value_of(&rest[..(size as usize).min(rest.len())])
+    word_value(&rest[..(size as usize).min(rest.len())])
 }
 
 fn is_done(reply: &Reply) -> bool

@@ -11,7 +11,7 @@ ghost use Rattle.flat_model.specs.Spaces.{cell_in, with_cell_in, is_named_in};
 ghost use Rattle.flat_model.specs.Mapped.{new_number_in, slots_left};
 
 use crate::cells::{CellState, Cells};
-use crate::zeros::less;
+use crate::zeros::slots_left;
 use std::alloc::{AllocError, Global};
 use std::collections::BTreeMap;
 use std::marker::Model;
@@ -190,7 +190,7 @@ impl Spaces {
     pub(crate) fn slots_left(&self, slots: u32) -> Option<u32>
         ensures { result ≡ slots_left slots (sum_by private_cells (map.values self.now)) }
     {
-        slots_left(&self.spaces, slots)
+        cell_slots_left(&self.spaces, slots)
     }
 
     /// The least number that no cell names. Err where no number below 2^32 - 1 is left.
@@ -219,17 +219,17 @@ fn any_space_names(spaces: &BTreeMap<u32, Cells>, zero: u32) -> bool
         result ≡ list_any (λ space. list_any (names zero) (map.values space)) all }
     ensures ordered { IsOrdered nat_cmp spaces.now }
 {
-    spaces.values().any(|cells| cells.names(zero))
+    spaces.values().any(|cells| cells.any_names(zero))
 }
 
 // So many slots without one for each private cell of some value of the tree, where there are enough.
-fn slots_left(spaces: &BTreeMap<u32, Cells>, slots: u32) -> Option<u32>
+fn cell_slots_left(spaces: &BTreeMap<u32, Cells>, slots: u32) -> Option<u32>
     ensures left { result ≡ slots_left slots (sum_by private_cells (values spaces.now)) }
     ensures ordered { IsOrdered nat_cmp spaces.now }
 {
     let mut left = slots;
     for cells in spaces.values() {
-        left = less(left, cells.private_cells())?;
+        left = slots_left(left, cells.private_cells())?;
     }
     Some(left)
 }

@@ -9,7 +9,7 @@ ghost use Rattle.flat_model.specs.Processes.{with_child};
 
 use crate::spaces::Spaces;
 use crate::state::FlatParts;
-use crate::zeros::{less, named_slots_left};
+use crate::zeros::{named_slots_left, slots_left};
 use std::alloc::AllocError;
 
 impl FlatParts {
@@ -28,7 +28,7 @@ impl FlatParts {
             result ≡ nat_le needed self.now.slots }
     {
         match self.slots_left() {
-            Some(left) => less(left, private_cells(&self.spaces, process)).is_some(),
+            Some(left) => slots_left(left, private_cells(&self.spaces, process)).is_some(),
             None => false,
         }
     }

@@ -14,7 +14,7 @@ use crate::cells::{CellState, Cells};
 use crate::map_call::MapCall;
 use crate::spaces::Spaces;
 use crate::state::FlatParts;
-use crate::zeros::{keep_named, slots_left, with_new_zeros, zero_page};
+use crate::zeros::{keep_named, object_slots_left, with_new_zeros, zero_page};
 use bitflags::Flags;
 use std::alloc::{AllocError, Global};
 use std::collections::BTreeMap;
@@ -181,7 +181,7 @@ impl Mapping {
         ensures { result ≡ nat_le (reserved_by self.now.spaces (zeros_in self.now.zeros)) slots }
     {
         match self.spaces.slots_left(slots) {
-            Some(left) => slots_left(&self.zeros, left).is_some(),
+            Some(left) => object_slots_left(&self.zeros, left).is_some(),
             None => false,
         }
     }

@@ -69,7 +69,7 @@ pub(crate) fn with_new_zeros(
 }
 
 /// So many slots without some, where there are enough.
-pub(crate) fn less(slots: u32, count: usize) -> Option<u32>
+pub(crate) fn slots_left(slots: u32, count: usize) -> Option<u32>
     ensures { result ≡ slots_left slots count }
 {
     if count <= slots as usize {
@@ -80,13 +80,13 @@ pub(crate) fn less(slots: u32, count: usize) -> Option<u32>
 }
 
 /// So many slots without one for each page of the zero objects, where there are enough.
-pub(crate) fn slots_left(zeros: &BTreeMap<u32, Vec<Vec<u8>>>, slots: u32) -> Option<u32>
+pub(crate) fn object_slots_left(zeros: &BTreeMap<u32, Vec<Vec<u8>>>, slots: u32) -> Option<u32>
     ensures left { result ≡ slots_left slots (sum_by (λ v. length v.items) (values zeros.now)) }
     ensures ordered { IsOrdered nat_cmp zeros.now }
 {
     let mut left = slots;
     for pages in zeros.values() {
-        left = less(left, pages.len())?;
+        left = slots_left(left, pages.len())?;
     }
     Some(left)
 }
@@ -104,7 +104,7 @@ pub(crate) fn named_slots_left(
     let mut left = slots;
     for (zero, pages) in zeros.iter() {
         if spaces.is_named_in(*zero) {
-            left = less(left, pages.len())?;
+            left = slots_left(left, pages.len())?;
         }
     }
     Some(left)

@@ -8,4 +8,4 @@ use Rattle.flat_model.proofs.spaces.Spaces.slots_left.Goals as goal
 
 pub returns : goal.returns
 returns c =
-    c.slots_left.ensures.left ∙ ap (λ vs. slots_left c.args.slots (sum_by private_cells vs)) (sym (values_plain c.self.inside.spaces.entries c.slots_left.ensures.ordered) ∙ ap map.values c.self.view_is)
+    c.cell_slots_left.ensures.left ∙ ap (λ vs. slots_left c.args.slots (sum_by private_cells vs)) (sym (values_plain c.self.inside.spaces.entries c.cell_slots_left.ensures.ordered) ∙ ap map.values c.self.view_is)

@@ -1,7 +1,7 @@
 use Rattle.std.specs.Prelude.{◌≡◌, sum_by, length}
 use Rattle.std.specs.BTreeMap.{values}
 use Rattle.flat_model.specs.Mapped.{slots_left}
-use Rattle.flat_model.proofs.zeros.slots_left.Given as goal
+use Rattle.flat_model.proofs.zeros.object_slots_left.Given as goal
 
 -- what is left after the zero objects so far, less the others, is what is left after all
 abbrev pub invariant-loop-pages : goal.invariant-loop-pages

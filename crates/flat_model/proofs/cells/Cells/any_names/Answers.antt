@@ -4,7 +4,7 @@ use Rattle.std.specs.Map.{values_of}
 use Rattle.std.specs.FinMap as map
 use Rattle.flat_model.specs.Cells.{flat_cell, names}
 use Rattle.flat_model.proofs.Trees.{values_mapped, any_map}
-use Rattle.flat_model.proofs.cells.Cells.names.Goals as goal
+use Rattle.flat_model.proofs.cells.Cells.any_names.Goals as goal
 
 pub returns : goal.returns
 returns c =

@@ -2,7 +2,7 @@ use Rattle.std.specs.Prelude.{◌≡◌, sum_by}
 use Rattle.std.specs.BTreeMap.{values}
 use Rattle.flat_model.specs.Flat.{private_cells}
 use Rattle.flat_model.specs.Mapped.{slots_left}
-use Rattle.flat_model.proofs.spaces.slots_left.Given as goal
+use Rattle.flat_model.proofs.spaces.cell_slots_left.Given as goal
 
 -- what is left after the spaces so far, less the others, is what is left after all
 abbrev pub invariant-loop-cells : goal.invariant-loop-cells
