@@ -17,7 +17,7 @@ use Rattle.flat_model.specs.Flat.{Cell, Flat, Space, space_of, without_unnamed, 
 use Rattle.flat_model.specs.Refusals.{◌>>=◌, ◌>>◌, check}
 use Rattle.flat_model.specs.Access.{with_space}
 use Rattle.flat_model.specs.Space.{with_cells, without_range}
-use Rattle.flat_model.specs.Spaces.{is_named_in}
+use Rattle.flat_model.specs.Spaces.{names_zero}
 use Rattle.flat_model.specs.Cells.{with_index}
 use Rattle.flat_model.specs.Mapping.{Request, cells_of, is_valid, is_there, max_of, own_for, without_replaced, first_page, object_for, new_cell, with_object, with_mapping, map_result}
 use Rattle.flat_model.specs.Mapped.{request_check, range_start, made_in, object_with, with_new_zeros, with_parts, first_cell, reserved_by}
@@ -65,7 +65,7 @@ abbrev pub spaces_with : Flat → Spaces → ℕ → Request → ℕ → Spaces
 spaces_with F S p r first = map.insert S p (with_cells (unwrap_or (map.get S p) map.empty) first (pages_in r.len) (λ i. with_index (first_cell F r (made_in S r.kind r.object)) i))
 
 abbrev pub zeros_with : Flat → Spaces → ℕ → Request → ℕ → Zeros
-zeros_with F S p r first = map.retain_keys (with_new_zeros F.zeros (made_in S r.kind r.object) (pages_in r.len)) (is_named_in (spaces_with F S p r first))
+zeros_with F S p r first = map.retain_keys (with_new_zeros F.zeros (made_in S r.kind r.object) (pages_in r.len)) (names_zero (spaces_with F S p r first))
 
 cell_by : Flat → Request → Object → ℕ → Cell
 cell_by F r o i = record { prot = r.prot; max = max_of F r.kind r.object; kind = r.kind; object = o; index = r.offset / 4096 + i; own = own_for r.kind r.object }
@@ -142,7 +142,7 @@ mapped_done F p r first ok is enough = mapped_last F p r first ok is ∙ ap (λ 
 -- the parts of a mapping, put together
 pub assembled : (F : Flat) (p : ℕ) (r : Request) (first : ℕ) (C : Spaces) (made : Option ℕ) (cell : Cell) (zeros : Zeros) (n : ℕ) (new : Spaces) (kept : Zeros)
     → C ≡ (without_replaced F p r.place (pages_in r.len)).spaces → made ≡ made_in C r.kind r.object → cell ≡ first_cell F r made → n ≡ pages_in r.len → zeros ≡ with_new_zeros F.zeros made n
-    → new ≡ map.insert C p (with_cells (unwrap_or (map.get C p) map.empty) first n (λ i. with_index cell i)) → kept ≡ map.retain_keys zeros (is_named_in new) → with_parts F new kept ≡ with_mapping F p r first
+    → new ≡ map.insert C p (with_cells (unwrap_or (map.get C p) map.empty) first n (λ i. with_index cell i)) → kept ≡ map.retain_keys zeros (names_zero new) → with_parts F new kept ≡ with_mapping F p r first
 assembled F p r first C made cell zeros n new kept cleared made_is cell_is count zeros_are new_is kept_is =
     let S = (without_replaced F p r.place (pages_in r.len)).spaces in
     let number : made ≡ made_in S r.kind r.object = made_is ∙ ap (λ (s : Spaces). made_in s r.kind r.object) cleared in
@@ -153,6 +153,6 @@ assembled F p r first C made cell zeros n new kept cleared made_is cell_is count
     ∙ ap (λ (x : Cell). map.insert S p (with_cells (unwrap_or (map.get S p) map.empty) first (pages_in r.len) (λ i. with_index x i))) first_is in
     let all : zeros ≡ with_new_zeros F.zeros (made_in S r.kind r.object) (pages_in r.len) = zeros_are ∙ ap (λ (m : Option ℕ). with_new_zeros F.zeros m n) number ∙ ap (λ (k : ℕ). with_new_zeros F.zeros (made_in S r.kind r.object) k) count in
     let stay : kept ≡ zeros_with F S p r first =
-    kept_is ∙ ap (λ (z : Zeros). map.retain_keys z (is_named_in new)) all
-    ∙ ap (λ (s : Spaces). map.retain_keys (with_new_zeros F.zeros (made_in S r.kind r.object) (pages_in r.len)) (is_named_in s)) spaces in
+    kept_is ∙ ap (λ (z : Zeros). map.retain_keys z (names_zero new)) all
+    ∙ ap (λ (s : Spaces). map.retain_keys (with_new_zeros F.zeros (made_in S r.kind r.object) (pages_in r.len)) (names_zero s)) spaces in
     ap (λ (s : Spaces). with_parts F s kept) spaces ∙ ap (λ (z : Zeros). with_parts F (spaces_with F S p r first) z) stay ∙ sym (mapped_at_is F p r first)

@@ -280,13 +280,13 @@ slots_of_kind : (k : Kind) → (k ≡ Private → (elim k as (λ x. ℕ) [ Priva
 slots_of_kind Shared = (λ is. absurd cc, λ is. refl)
 slots_of_kind Private = (λ is. refl, λ is. absurd cc)
 
-names_zero : (C : Flat) (k : Kind) (o : Object) (z : ℕ) → o ≡ object.Zero z → (elim (object_for C k o) as (λ x. Option ℕ) [ object.Zero y ↦ Some y | object.File f ↦ None | object.NewZero ↦ None ]) ≡ Some z
-names_zero C Shared (object.Zero y) z is = let same : y ≡ z = cc in ap (λ k. Some k) same
-names_zero C Shared (object.File f) z is = absurd cc
-names_zero C Shared object.NewZero z is = absurd cc
-names_zero C Private (object.Zero y) z is = let same : y ≡ z = cc in ap (λ k. Some k) same
-names_zero C Private (object.File f) z is = absurd cc
-names_zero C Private object.NewZero z is = absurd cc
+object_for-zero : (C : Flat) (k : Kind) (o : Object) (z : ℕ) → o ≡ object.Zero z → (elim (object_for C k o) as (λ x. Option ℕ) [ object.Zero y ↦ Some y | object.File f ↦ None | object.NewZero ↦ None ]) ≡ Some z
+object_for-zero C Shared (object.Zero y) z is = let same : y ≡ z = cc in ap (λ k. Some k) same
+object_for-zero C Shared (object.File f) z is = absurd cc
+object_for-zero C Shared object.NewZero z is = absurd cc
+object_for-zero C Private (object.Zero y) z is = let same : y ≡ z = cc in ap (λ k. Some k) same
+object_for-zero C Private (object.File f) z is = absurd cc
+object_for-zero C Private object.NewZero z is = absurd cc
 
 pub zero_there : (F : Flat) (z : ℕ) → is_there F (object.Zero z) ≡ true → (pages : List Page) × (map.get F.zeros z ≡ Some pages)
 zero_there F z is = by_zero (map.get F.zeros z) is
@@ -317,7 +317,7 @@ reserved_plain F p r first alive spot never = by_object r.object refl
     by_name z false is names =
         let C = without_replaced F p r.place (pages_in r.len) in
         let pages = zero_there F z (ap (is_there F) (sym is) ∙ spot.there) in
-        reserved_name_back F p r first z pages.0 alive spot.valid spot.begin zeros_are pages.1 names (λ i. names_zero C r.kind r.object z is)
+        reserved_name_back F p r first z pages.0 alive spot.valid spot.begin zeros_are pages.1 names (λ i. object_for-zero C r.kind r.object z is)
         ∙ ap (λ (o : Option (List Page)). sum + length (unwrap_or o [])) (sym pages.1)
 
     by_object : (o : Object) → r.object ≡ o → reserved (with_mapping F p r first) ≡ sum + zero_pages_back F (without_pages F p first (pages_in r.len)) o

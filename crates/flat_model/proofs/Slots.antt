@@ -14,7 +14,7 @@ use Rattle.flat_model.specs.Cells.{pages_in_vec}
 use Rattle.flat_model.proofs.Trees.{each, values_mapped, mapped_filter, sum_map, length_map}
 use Rattle.flat_model.specs.Mapping.{new_number}
 use Rattle.flat_model.specs.Mapped.{slots_left, new_number_in}
-use Rattle.flat_model.specs.Spaces.{is_named_in}
+use Rattle.flat_model.specs.Spaces.{names_zero}
 use Rattle.flat_model.proofs.Named.{new_number-new, new_number-least}
 
 not_le : (a b : ℕ) → b < a → nat_le a b ≡ false
@@ -87,7 +87,7 @@ least_unnamed F z new below =
     omega (arith, not_above, not_below)
 
 -- a number that isn't named, all below which are
-pub new_number_is : (spaces : finite.FinMap nat_cmp Space) (z : ℕ) → is_named_in spaces z ≡ false → ((k : ℕ) → k < z → is_named_in spaces k ≡ true) → z ≡ new_number_in spaces
+pub new_number_is : (spaces : finite.FinMap nat_cmp Space) (z : ℕ) → names_zero spaces z ≡ false → ((k : ℕ) → k < z → names_zero spaces k ≡ true) → z ≡ new_number_in spaces
 unfolding flat_of_spaces
 new_number_is spaces z new below = least_unnamed (flat_of_spaces spaces) z new below
 
@@ -107,29 +107,29 @@ zero_sum es sorted = ap (sum_by length) (values_mapped pages_in_vec es sorted) �
 
 -- the pages of an entry of the zero objects, if some cell names it
 abbrev pub named_size : finite.FinMap nat_cmp Space → ℕ × Vec (Vec ℕ Global) Global → ℕ
-named_size spaces e = if is_named_in spaces e.0 then length e.1.items else 0
+named_size spaces e = if names_zero spaces e.0 then length e.1.items else 0
 
 -- a tree's entries that are named are the pages of its finite map whose keys are
-pub named_sum : (spaces : finite.FinMap nat_cmp Space) (es : List (ℕ × Vec (Vec ℕ Global) Global)) → IsStrictlySortedBy nat_cmp (keys_of es) → sum_by (named_size spaces) es ≡ sum_by length (finite.values (finite.retain_keys (finite.from_entries {R = nat_cmp} (each pages_in_vec es)) (is_named_in spaces)))
+pub named_sum : (spaces : finite.FinMap nat_cmp Space) (es : List (ℕ × Vec (Vec ℕ Global) Global)) → IsStrictlySortedBy nat_cmp (keys_of es) → sum_by (named_size spaces) es ≡ sum_by length (finite.values (finite.retain_keys (finite.from_entries {R = nat_cmp} (each pages_in_vec es)) (names_zero spaces)))
 named_sum spaces es sorted =
-    let kept = filter (λ e. is_named_in spaces e.0) es in
-    let keys = subst (IsStrictlySortedBy nat_cmp) (sym (keys_kept es)) (IsStrictlySortedBy-filter nat_cmp (is_named_in spaces) (keys_of es) sorted) in
-    sizes es ∙ sym (zero_sum kept keys) ∙ ap (λ m. sum_by length (finite.values m)) (mapped_filter pages_in_vec (is_named_in spaces) es)
+    let kept = filter (λ e. names_zero spaces e.0) es in
+    let keys = subst (IsStrictlySortedBy nat_cmp) (sym (keys_kept es)) (IsStrictlySortedBy-filter nat_cmp (names_zero spaces) (keys_of es) sorted) in
+    sizes es ∙ sym (zero_sum kept keys) ∙ ap (λ m. sum_by length (finite.values m)) (mapped_filter pages_in_vec (names_zero spaces) es)
   where
     keys_one : (b : Bool) (e : ℕ × Vec (Vec ℕ Global) Global) (fs : List (ℕ × Vec (Vec ℕ Global) Global)) → keys_of (cond b (e ∷ fs) fs) ≡ cond b (e.0 ∷ keys_of fs) (keys_of fs)
     keys_one true e fs = refl
     keys_one false e fs = refl
 
-    keys_kept : (fs : List (ℕ × Vec (Vec ℕ Global) Global)) → keys_of (filter (λ e. is_named_in spaces e.0) fs) ≡ filter (is_named_in spaces) (keys_of fs)
+    keys_kept : (fs : List (ℕ × Vec (Vec ℕ Global) Global)) → keys_of (filter (λ e. names_zero spaces e.0) fs) ≡ filter (names_zero spaces) (keys_of fs)
     keys_kept [] = refl
-    keys_kept (e ∷ fs) = keys_one (is_named_in spaces e.0) e (filter (λ d. is_named_in spaces d.0) fs) ∙ ap (λ ks. cond (is_named_in spaces e.0) (e.0 ∷ ks) ks) (keys_kept fs)
+    keys_kept (e ∷ fs) = keys_one (names_zero spaces e.0) e (filter (λ d. names_zero spaces d.0) fs) ∙ ap (λ ks. cond (names_zero spaces e.0) (e.0 ∷ ks) ks) (keys_kept fs)
 
     one : (b : Bool) (e : ℕ × Vec (Vec ℕ Global) Global) (fs : List (ℕ × Vec (Vec ℕ Global) Global)) → sum_by (λ (v : Vec (Vec ℕ Global) Global). length v.items) (values_of (cond b (e ∷ fs) fs)) ≡ (if b then length e.1.items else 0) + sum_by (λ v. length v.items) (values_of fs)
     one true e fs = sum_by-cons (λ v. length v.items) e.1 (values_of fs)
     one false e fs = omega arith
 
-    sizes : (fs : List (ℕ × Vec (Vec ℕ Global) Global)) → sum_by (named_size spaces) fs ≡ sum_by (λ v. length v.items) (values_of (filter (λ e. is_named_in spaces e.0) fs))
+    sizes : (fs : List (ℕ × Vec (Vec ℕ Global) Global)) → sum_by (named_size spaces) fs ≡ sum_by (λ v. length v.items) (values_of (filter (λ e. names_zero spaces e.0) fs))
     sizes [] = refl
     sizes (e ∷ fs) =
         sum_by-cons (named_size spaces) e fs ∙ ap (λ n. named_size spaces e + n) (sizes fs)
-        ∙ sym (one (is_named_in spaces e.0) e (filter (λ d. is_named_in spaces d.0) fs))
+        ∙ sym (one (names_zero spaces e.0) e (filter (λ d. names_zero spaces d.0) fs))

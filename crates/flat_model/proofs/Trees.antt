@@ -23,7 +23,7 @@ use Rattle.vm_types.specs.declared.call.Object.TheVariants as object
 use Rattle.flat_model.specs.Words.{Page}
 use Rattle.flat_model.specs.Flat.{File, Space, Flat, zero_of}
 use Rattle.flat_model.specs.Cells.{is_zero, names}
-use Rattle.flat_model.specs.Spaces.{is_named_in}
+use Rattle.flat_model.specs.Spaces.{names_zero}
 use Rattle.flat_model.proofs.Named.{is_named-spaces}
 use Rattle.flat_model.proofs.Maps.{get_mapped, get_at}
 use Rattle.flat_model.proofs.Ranges.{get-retain_keys}
@@ -138,7 +138,7 @@ flat_with : finite.FinMap nat_cmp Space → Flat
 flat_with spaces = record { slots = 0; disks = finite.empty; files = []; zeros = finite.empty; spaces = spaces; born = finite.empty }
 
 -- some cell names the zero object, space by space
-pub named_in_is : (spaces : finite.FinMap nat_cmp Space) (z : ℕ) → is_named_in spaces z ≡ list_any (λ space. list_any (names z) (finite.values space)) (finite.values spaces)
+pub named_in_is : (spaces : finite.FinMap nat_cmp Space) (z : ℕ) → names_zero spaces z ≡ list_any (λ space. list_any (names z) (finite.values space)) (finite.values spaces)
 unfolding flat_with
 named_in_is spaces z = is_named-spaces (flat_with spaces) z
     ∙ any_alike (λ space. list_any (λ c. option_map_or (λ y. z == y) (zero_of c) false) (finite.values space)) (λ space. list_any (names z) (finite.values space)) (finite.values spaces)

@@ -77,8 +77,8 @@ abbrev pub named_zeros_in : map.FinMap nat_cmp Space → List ℕ
 named_zeros_in spaces = flat_map (λ space. filter_map zero_of (map.values space)) (map.values spaces)
 
 -- Some cell of these spaces names the zero object.
-abbrev pub is_named_in : map.FinMap nat_cmp Space → ℕ → Bool
-is_named_in spaces z = list_any (λ y. z == y) (named_zeros_in spaces)
+abbrev pub names_zero : map.FinMap nat_cmp Space → ℕ → Bool
+names_zero spaces z = list_any (λ y. z == y) (named_zeros_in spaces)
 
 -- The numbers of the zero objects that cells name.
 abbrev pub named_zeros : Flat → List ℕ
@@ -86,7 +86,7 @@ named_zeros F = named_zeros_in F.spaces
 
 -- Some cell of some process names the zero object.
 abbrev pub is_named : Flat → ℕ → Bool
-is_named F z = is_named_in F.spaces z
+is_named F z = names_zero F.spaces z
 
 -- A zero object that no cell names is gone.
 abbrev pub without_unnamed : Flat → Flat

@@ -2,7 +2,7 @@
 use Rattle.std.specs.Prelude.{ℕ, unwrap_or}
 use Rattle.std.specs.Ordering.{nat_cmp}
 use Rattle.std.specs.FinMap as map
-pub use Rattle.flat_model.specs.Flat.{cell_in, is_named_in}
+pub use Rattle.flat_model.specs.Flat.{cell_in, names_zero}
 use Rattle.flat_model.specs.Flat.{Cell, Space}
 
 -- The spaces with a cell at a page of a process.

@@ -7,7 +7,7 @@ ghost use Rattle.std.specs.FinMap as map;
 ghost use Rattle.flat_model.specs.Flat.{private_cells};
 ghost use Rattle.flat_model.specs.Cells.{flat_cell, names, with_index};
 ghost use Rattle.flat_model.specs.Space.{without_range, with_cells, with_prots};
-ghost use Rattle.flat_model.specs.Spaces.{cell_in, with_cell_in, is_named_in};
+ghost use Rattle.flat_model.specs.Spaces.{cell_in, with_cell_in, names_zero};
 ghost use Rattle.flat_model.specs.Mapped.{new_number_in, slots_left};
 
 use crate::cells::{CellState, Cells};
@@ -198,7 +198,7 @@ impl Spaces {
         ensures { IfOk result (λ number. number ≡ new_number_in self.now) }
     {
         for number in 0..u32::MAX {
-            if !self.is_named_in(number) {
+            if !self.names_zero(number) {
                 return Ok(number);
             }
         }
@@ -206,8 +206,8 @@ impl Spaces {
     }
 
     /// Whether some cell of some process names the zero object. Looks at each cell.
-    pub fn is_named_in(&self, zero: u32) -> bool
-        ensures { result ≡ is_named_in self.now zero }
+    pub fn names_zero(&self, zero: u32) -> bool
+        ensures { result ≡ names_zero self.now zero }
     {
         any_space_names(&self.spaces, zero)
     }

@@ -6,7 +6,7 @@ ghost use Rattle.std.specs.FinMap as finite;
 ghost use Rattle.flat_model.specs.Words.{zero_page};
 ghost use Rattle.flat_model.specs.Cells.{zeros_in};
 ghost use Rattle.flat_model.specs.Mapped.{with_new_zeros, slots_left};
-ghost use Rattle.flat_model.specs.Spaces.{is_named_in};
+ghost use Rattle.flat_model.specs.Spaces.{names_zero};
 
 use crate::spaces::Spaces;
 use std::alloc::{AllocError, Global};
@@ -14,10 +14,10 @@ use std::collections::BTreeMap;
 
 /// The zero objects that no cell names go. Takes no memory.
 pub(crate) fn keep_named(zeros: &mut BTreeMap<u32, Vec<Vec<u8>>>, spaces: &Spaces)
-    ensures { let kept = finite.retain_keys (zeros_in zeros.old) (is_named_in spaces.now) in
+    ensures { let kept = finite.retain_keys (zeros_in zeros.old) (names_zero spaces.now) in
         zeros_in zeros.new ≡ kept }
 {
-    zeros.retain(|zero, _| spaces.is_named_in(*zero));
+    zeros.retain(|zero, _| spaces.names_zero(*zero));
 }
 
 /// A page of zeros.
@@ -98,12 +98,12 @@ pub(crate) fn named_slots_left(
     spaces: &Spaces,
     slots: u32,
 ) -> Option<u32>
-    ensures { let kept = finite.retain_keys (zeros_in zeros.now) (is_named_in spaces.now) in
+    ensures { let kept = finite.retain_keys (zeros_in zeros.now) (names_zero spaces.now) in
         result ≡ slots_left slots (sum_by length (finite.values kept)) }
 {
     let mut left = slots;
     for (zero, pages) in zeros.iter() {
-        if spaces.is_named_in(*zero) {
+        if spaces.names_zero(*zero) {
             left = slots_left(left, pages.len())?;
         }
     }

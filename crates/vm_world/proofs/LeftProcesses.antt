@@ -8,7 +8,7 @@ use Rattle.std.proofs.lemmas.Bool.{cases_eq}
 use Rattle.addr_space.specs.Space.{Part, piece_at, IsInOrder}
 use Rattle.anon_map.specs.Maps.{places_of}
 use Rattle.page_store.specs.Notes.{Notes}
-use Rattle.flat_model.specs.Flat.{Space, Flat, IsFlat, is_named_in}
+use Rattle.flat_model.specs.Flat.{Space, Flat, IsFlat, names_zero}
 use Rattle.flat_model.specs.Processes.{without_process}
 use Rattle.flat_model.proofs.Ranges.{get-remove_here, get-remove_apart}
 use Rattle.flat_model.proofs.Sums.{total}
@@ -87,7 +87,7 @@ module _ (m : Memory) (p : ℕ) (fits : MemoryFits m) (is : finite.get m.spaces 
       let s : (flat_memory n born notes).spaces ≡ finite.remove F.spaces p = map-remove (space_with (contents_of m.world notes).place) m.spaces p in
       let z : (flat_memory n born notes).zeros ≡ (without_process F p).zeros =
       zeros-are n born (contents_of n.world notes) segments F.zeros (λ z k there. zero-pages-of m fits born notes z k (ap (λ (zs : finite.FinMap nat_cmp ℕ). finite.get zs z) (sym zeros-now) ∙ there))
-      ∙ ap (λ (t : finite.FinMap nat_cmp Space). finite.retain_keys F.zeros (is_named_in t)) s in
+      ∙ ap (λ (t : finite.FinMap nat_cmp Space). finite.retain_keys F.zeros (names_zero t)) s in
       let e : flat_memory n born notes ≡ without_process F p = λ i. record { slots = F.slots; disks = F.disks; files = F.files; zeros = z i; spaces = s i; born = born } in
       (e, subst IsFlat (sym e) (flat-without_process F p whole))
 

@@ -9,7 +9,7 @@ use Rattle.anon_map.specs.Maps.{Map, places_of}
 use Rattle.page_hash.specs.declared.PageName.{PageName}
 use Rattle.page_store.specs.Notes.{Notes}
 use Rattle.flat_model.specs.Access.{with_space}
-use Rattle.flat_model.specs.Flat.{Cell, Space, Flat, IsFlat, space_of, is_named, is_named_in, without_unnamed}
+use Rattle.flat_model.specs.Flat.{Cell, Space, Flat, IsFlat, space_of, is_named, names_zero, without_unnamed}
 use Rattle.flat_model.specs.Mapping.{cells_of}
 use Rattle.flat_model.specs.Space.{in_range, without_range}
 use Rattle.flat_model.specs.Words.{Page, zero_page}
@@ -79,5 +79,5 @@ swept-flat m put r p new born notes Z S fit spaces pages =
     let F : Flat = flat_memory m born notes in
     let n : Memory = with_segments m put r p new in
     let G : Flat = flat_memory n born notes in
-    let z : G.zeros ≡ finite.retain_keys Z (is_named_in (finite.insert F.spaces p S)) = zeros-are n born (contents_of n.world notes) fit Z pages ∙ ap (λ (s : finite.FinMap nat_cmp Space). finite.retain_keys Z (is_named_in s)) spaces in
+    let z : G.zeros ≡ finite.retain_keys Z (names_zero (finite.insert F.spaces p S)) = zeros-are n born (contents_of n.world notes) fit Z pages ∙ ap (λ (s : finite.FinMap nat_cmp Space). finite.retain_keys Z (names_zero s)) spaces in
     λ i. record { slots = F.slots; disks = F.disks; files = F.files; zeros = z i; spaces = spaces i; born = born }

@@ -5,7 +5,7 @@ use Rattle.std.specs.Ordering.{nat_cmp}
 use Rattle.std.specs.Cmp.{nat_cmp_total}
 use Rattle.std.specs.FinMap as finite
 use Rattle.flat_model.specs.Access.{with_space}
-use Rattle.flat_model.specs.Flat.{Cell, Flat, Space, space_of, zero_of, is_named, is_named_in, without_unnamed}
+use Rattle.flat_model.specs.Flat.{Cell, Flat, Space, space_of, zero_of, is_named, names_zero, without_unnamed}
 use Rattle.flat_model.specs.Mapping.{cells_of, without_pages}
 use Rattle.flat_model.specs.Processes.{without_process}
 use Rattle.flat_model.specs.Space.{in_range, without_range, with_cells}
@@ -26,12 +26,12 @@ kept-alike m n t same = finite.same_map nat_cmp_total finite.nat_cmp-IsAntisymme
     by_test false x y same = refl
 
 -- zero objects that agree where they are named
-swept-alike : (F : Flat) (T : finite.FinMap nat_cmp Space) (A B : finite.FinMap nat_cmp (List Page)) → ((z : ℕ) → is_named_in T z ≡ true → finite.get A z ≡ finite.get B z)
+swept-alike : (F : Flat) (T : finite.FinMap nat_cmp Space) (A B : finite.FinMap nat_cmp (List Page)) → ((z : ℕ) → names_zero T z ≡ true → finite.get A z ≡ finite.get B z)
     → without_unnamed (record F { zeros = A; spaces = T }) ≡ without_unnamed (record F { zeros = B; spaces = T })
-swept-alike F T A B same = ap (λ (zs : finite.FinMap nat_cmp (List Page)). record F { zeros = zs; spaces = T }) (kept-alike A B (is_named_in T) same)
+swept-alike F T A B same = ap (λ (zs : finite.FinMap nat_cmp (List Page)). record F { zeros = zs; spaces = T }) (kept-alike A B (names_zero T) same)
 
 -- OBJECTS THAT GO EARLIER, where the later spaces name none that isn't named
-pub swept-spaces : (F : Flat) (T : finite.FinMap nat_cmp Space) → ((z : ℕ) → is_named_in T z ≡ true → is_named F z ≡ true) → without_unnamed (record (without_unnamed F) { spaces = T }) ≡ without_unnamed (record F { spaces = T })
+pub swept-spaces : (F : Flat) (T : finite.FinMap nat_cmp Space) → ((z : ℕ) → names_zero T z ≡ true → is_named F z ≡ true) → without_unnamed (record (without_unnamed F) { spaces = T }) ≡ without_unnamed (record F { spaces = T })
 swept-spaces F T still = swept-alike F T (finite.retain_keys F.zeros (is_named F)) F.zeros (λ z is. get-retain_keys F.zeros (is_named F) z ∙ ap (λ (b : Bool). cond b (finite.get F.zeros z) None) (still z is))
 
 -- a zero object that none names may as well not be there

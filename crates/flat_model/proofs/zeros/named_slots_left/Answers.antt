@@ -10,7 +10,7 @@ returns-in_err-left c =
     let spaces = c.args.spaces.now in
     let pages = c.in-Some.pages.now in
     let x : ℕ × Vec (Vec ℕ Global) Global = (c.in-Some.zero.now, pages) in
-    let named : named_size spaces x ≡ length pages.items = ap (λ (b : Bool). cond b (length pages.items) 0) (sym c.is_named_in.ensures ∙ c.if-is_named_in.true) in
+    let named : named_size spaces x ≡ length pages.items = ap (λ (b : Bool). cond b (length pages.items) 0) (sym c.names_zero.ensures ∙ c.if-names_zero.true) in
     let size : length pages.items ≡ c.len.result = search rules in
     let none = ap (slots_left c.loop-zero.left) (named ∙ size) ∙ sym c.slots_left.ensures ∙ c.in_err-left.was in
     c.from_residual.ensures ∙ left_nothing (named_size spaces) c.loop-zero.left c.loop-zero.zero-iterator c.next.new.self x _ c.in-Some.ensures.steps none c.loop-zero.invariant.2

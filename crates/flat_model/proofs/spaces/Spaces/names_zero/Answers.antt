@@ -3,7 +3,7 @@ use Rattle.std.specs.List.{list_any}
 use Rattle.std.specs.FinMap as map
 use Rattle.flat_model.specs.Cells.{names}
 use Rattle.flat_model.proofs.Trees.{values_plain, named_in_is}
-use Rattle.flat_model.proofs.spaces.Spaces.is_named_in.Goals as goal
+use Rattle.flat_model.proofs.spaces.Spaces.names_zero.Goals as goal
 
 pub returns : goal.returns
 returns c =
