@@ -8,7 +8,7 @@ use Rattle.std.specs.FinMap as finite
 use Rattle.std.proofs.lemmas.Bool.{eqb-true, eq-eqb, cases_eq}
 use Rattle.flat_model.specs.Flat.{Cell, Space, Flat, space_of, cell_at, zero_of, named_zeros, is_named, without_unnamed}
 use Rattle.flat_model.specs.Mapping.{least_from, set_of, new_number}
-use Rattle.flat_model.specs.NamedLaws.{IsNamed, ZeroObjects}
+use Rattle.flat_model.specs.NamedLaws.{IsNamed, NamedZeros}
 use Rattle.flat_model.proofs.Ranges.{get-retain_keys, get-insert}
 use Rattle.flat_model.proofs.Entries.{Above, Above-entries, find_rest, find_below, first_found, any_value, value_of_any}
 
@@ -127,5 +127,5 @@ new_number-new F = sym (found_number (named_zeros F) (new_number F)) ∙ (least_
 pub new_number-least : (F : Flat) (z : ℕ) → z < new_number F → IsTrue (is_named F z)
 new_number-least F z lt = sym (found_number (named_zeros F) z) ∙ (least_is 0 (entries_in (named_zeros F)) (Above-entries (set_of (named_zeros F)))).each z (omega arith) lt
 
-pub zero_objects_law : ZeroObjects
-zero_objects_law = record { from_cell = named_zeros-from_cell; to_cell = named_zeros-to_cell; stays = get-without_unnamed; new = new_number-new; least = new_number-least }
+pub named_zeros_law : NamedZeros
+named_zeros_law = record { from_cell = named_zeros-from_cell; to_cell = named_zeros-to_cell; stays = get-without_unnamed; new = new_number-new; least = new_number-least }

@@ -13,7 +13,7 @@ pub record IsNamed (F : Flat) (z : ℕ) : Type 0 where
   pub names : zero_of cell ≡ Some z
 
 -- The named zero objects are those that some cell names; they alone stay, as they were; and a new one has the least number that isn't named.
-pub record ZeroObjects : Type 0 where
+pub record NamedZeros : Type 0 where
   pub from_cell : (F : Flat) (p q z : ℕ) (c : Cell) → cell_at F p q ≡ Some c → zero_of c ≡ Some z → IsTrue (is_named F z)
   pub to_cell : (F : Flat) (z : ℕ) → IsTrue (is_named F z) → IsNamed F z
   pub stays : (F : Flat) (z : ℕ) → map.get (without_unnamed F).zeros z ≡ (if is_named F z then map.get F.zeros z else None)

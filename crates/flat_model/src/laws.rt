@@ -1,7 +1,7 @@
 //! The laws of the definitions. Each function does nothing: its contract is the law.
 ghost use Rattle.flat_model.specs.MapLaws.{MapThenUnmap};
 ghost use Rattle.flat_model.specs.ReserveLaws.{Reservation};
-ghost use Rattle.flat_model.specs.NamedLaws.{ZeroObjects};
+ghost use Rattle.flat_model.specs.NamedLaws.{NamedZeros};
 ghost use Rattle.flat_model.specs.PartLaws.{FileBytes};
 ghost use Rattle.flat_model.specs.SpaceLaws.{LowestGap, RangesOfCells};
 ghost use Rattle.flat_model.specs.FlatLaws.{StaysFlat};
@@ -57,9 +57,9 @@ pub fn map_then_unmap_law()
 {}
 
 /// Which zero objects cells name, which stay, and the number of a new one.
-#[tactic(auto, using(crate::proofs::Named::zero_objects_law))]
-pub fn zero_objects_law()
-    ensures { ZeroObjects }
+#[tactic(auto, using(crate::proofs::Named::named_zeros_law))]
+pub fn named_zeros_law()
+    ensures { NamedZeros }
 {}
 
 /// What is reserved after each call.

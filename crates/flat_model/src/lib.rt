@@ -34,8 +34,8 @@ pub use history_laws::{
     counted_histories_law, joined_histories_law, open_calls_law, spellings_law, sync_starts_law,
 };
 pub use laws::{
-    file_bytes_law, fork_law, lowest_gap_law, map_then_unmap_law, one_more_law, private_store_law,
-    quiet_law, ranges_law, reservation_law, stays_flat_law, store_then_load_law, zero_objects_law,
+    file_bytes_law, fork_law, lowest_gap_law, map_then_unmap_law, named_zeros_law, one_more_law,
+    private_store_law, quiet_law, ranges_law, reservation_law, stays_flat_law, store_then_load_law,
 };
 pub use mapping_laws::{cleared_tails_law, protects_law, stays_reached_law};
 pub use page_laws::{grown_pages_law, lines_in_pages_law, one_cache_law, shared_store_law};
