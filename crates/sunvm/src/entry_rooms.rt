@@ -1,7 +1,7 @@
 //! How many entries each process may make.
 ghost use Rattle.std.specs.Prelude.{ℕ, ◌≡◌, ◌<◌, ◌≤◌, ◌+◌, ◌-◌, ◌^◌, length, slice_index, slice_set, IfOk};
 ghost use Rattle.vm_script.specs.Blocks.{Nests};
-ghost use Rattle.vm_script.specs.Counts.{parts as parts_of_act, entry_count};
+ghost use Rattle.vm_script.specs.Counts.{parts, entry_count};
 ghost use Rattle.sunvm.specs.Played.{HasRoomForPlan};
 
 use std::alloc::{AllocError, Global};
@@ -12,9 +12,9 @@ fn add_line(rooms: &mut Vec<u32>, line: &PlanLine)
     requires first { 1 ≤ line.now.process }
     requires last { line.now.process ≤ length rooms.old.items }
     requires fits { slice_index rooms.old.items (line.now.process - 1)
-        + parts_of_act line.now.act < 2 ^ 32 }
+        + parts line.now.act < 2 ^ 32 }
     ensures { rooms.new.items ≡ slice_set rooms.old.items (line.now.process - 1)
-        (slice_index rooms.old.items (line.now.process - 1) + parts_of_act line.now.act) }
+        (slice_index rooms.old.items (line.now.process - 1) + parts line.now.act) }
 {
     let place = line.process as usize - 1;
     rooms[place] += parts(line);

@@ -1,6 +1,6 @@
 //! How many entries a plan may need.
 ghost use Rattle.std.specs.Prelude.{◌≡◌, nat_lt};
-ghost use Rattle.vm_script.specs.Counts.{line_count as lines_of_bytes, call_parts as parts_of_call, parts as parts_of_act, entry_count};
+ghost use Rattle.vm_script.specs.Counts.{line_count, call_parts, parts, entry_count};
 
 use crate::plan::{PlanAct, PlanLine};
 use vm_types::Call;
@@ -11,7 +11,7 @@ pub const MOST_ENTRIES: u32 = 1_048_576;
 // The aligned lines of 64 bytes that so many bytes from an offset on touch, up to 2^32.
 #[inline(never)]
 fn line_count(offset: u32, bytes: u64) -> u32
-    ensures { result ≡ lines_of_bytes offset bytes }
+    ensures { result ≡ line_count offset bytes }
 {
     let begin = u64::from(offset);
     let end = begin + bytes.min(4_294_967_296 - begin);
@@ -21,7 +21,7 @@ fn line_count(offset: u32, bytes: u64) -> u32
 // Each line of a plan comes here twice.
 #[inline(always)]
 fn call_parts(call: &Call) -> u32
-    ensures { result ≡ parts_of_call call.now }
+    ensures { result ≡ call_parts call.now }
 {
     match call {
         Call::Read { offset, length, .. } => line_count(*offset, u64::from(*length)),
@@ -38,7 +38,7 @@ fn call_parts(call: &Call) -> u32
 /// How many entries the line may make: one for each part of a read or a write, none for a wait.
 #[inline(always)]
 pub fn parts(line: &PlanLine) -> u32
-    ensures { result ≡ parts_of_act line.now.act }
+    ensures { result ≡ parts line.now.act }
 {
     match &line.act {
         PlanAct::Call(call) => call_parts(call),

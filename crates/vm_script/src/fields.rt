@@ -6,7 +6,7 @@ ghost use Rattle.vm_script.specs.Statements as statements;
 
 use crate::byte_text::ByteText;
 use crate::fault::{ReadError, ScriptKind};
-use crate::number::{bytes_of, is_file_name, number_of};
+use crate::number::{bytes_of, is_file_name, number_of_field};
 use bitflags::Flags;
 use std::alloc::Global;
 use vm_types::{Kind, Place, Prot};
@@ -24,7 +24,7 @@ pub fn need(kind: ScriptKind, holds: bool) -> Result<(), ReadError>
 pub fn number(field: &[u8]) -> Result<u32, ReadError>
     ensures { IsReadAs (λ n. n) result (statements.number field.now) }
 {
-    match number_of(field) {
+    match number_of_field(field) {
         Some(n) => Ok(n),
         None => Err(ReadError::Fault(ScriptKind::Number)),
     }

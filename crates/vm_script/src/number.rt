@@ -61,7 +61,7 @@ fn hexadecimal(digits: &[u8]) -> Option<u32>
 
 /// A number: decimal digits, or `0x` and hexadecimal digits.
 #[tactic(auto, unfolding(crate::specs::Fields::number_of_field))]
-pub fn number_of(field: &[u8]) -> Option<u32>
+pub fn number_of_field(field: &[u8]) -> Option<u32>
     ensures { result ≡ number_of_field field.now }
 {
     match field {

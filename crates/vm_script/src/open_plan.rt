@@ -93,7 +93,7 @@ impl Growing {
     }
 
     /// Where the next line stands.
-    pub fn spot(&self) -> Spot
+    pub fn spot_of(&self) -> Spot
         ensures { result ≡ spot_of self.now }
     {
         Spot {

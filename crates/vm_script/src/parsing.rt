@@ -52,7 +52,7 @@ fn exact_line<'a>(
     ensures err { IfErr result (λ e. FailsLine line growing.old text.now e) }
 {
     let split = split_line(text);
-    let spot = growing.spot();
+    let spot = growing.spot_of();
     let statement = statement_of(alloc, spot, split.plain, split.fields.as_slice())?;
     growing.add(line + 1, statement)?;
     Ok(split.rest)
