@@ -8,7 +8,7 @@ use Rattle.vm_script.specs.Reading.{IsReadAs}
 use Rattle.std.proofs.lemmas.Bool.{false≢true}
 use Rattle.vm_script.specs.declared.statement.Statement.{Statement}
 use Rattle.vm_script.specs.declared.statement.Statement.TheVariants as says
-use Rattle.vm_script.specs.declared.statement.Spot.{Spot}
+use Rattle.vm_script.specs.declared.statement.LineSpot.{LineSpot}
 use Rattle.vm_script.specs.Lines.{is_plain, fields, lines}
 use Rattle.vm_script.specs.Cursor.{first_line, after_line}
 use Rattle.vm_script.specs.Statements.{statement, word_statement, block_statement, setup_statement, load_line, store_line, map_line, unmap_line, protect_line, sync_line, read_call_line, write_line, truncate_line, disk, file}
@@ -29,7 +29,7 @@ line_shorter [] some = absurd (omega (arith, some))
 line_shorter (b ∷ xs) some = let le = line_le xs in grind (rules, tests, arith, le)
 
 -- no line of the grammar has more than seven fields
-pub statement_eight : (spot : Spot) (plain : Bool) (fs : List (List ℕ)) → statement spot plain (take 8 fs) ≡ statement spot plain fs
+pub statement_eight : (spot : LineSpot) (plain : Bool) (fs : List (List ℕ)) → statement spot plain (take 8 fs) ≡ statement spot plain fs
 unfolding statement word_statement block_statement setup_statement load_line store_line map_line unmap_line protect_line sync_line read_call_line write_line truncate_line disk file
 statement_eight spot plain [] = refl
 statement_eight spot plain (a ∷ []) = refl

@@ -18,7 +18,7 @@ use Rattle.vm_script.specs.declared.plan.PlanAct.{PlanAct}
 use Rattle.vm_script.specs.declared.plan.PlanAct.TheVariants as act
 use Rattle.vm_script.specs.declared.statement.Statement.{Statement}
 use Rattle.vm_script.specs.declared.statement.Statement.TheVariants as says
-use Rattle.vm_script.specs.declared.statement.Spot.{Spot}
+use Rattle.vm_script.specs.declared.statement.LineSpot.{LineSpot}
 use Rattle.vm_script.specs.Fields.{is_word, digits_at, number_of_field, is_file_name, is_hex_digit, is_digit, digit_value, value_of_digits, hex_bytes, bytes_of_field}
 use Rattle.vm_script.specs.Reading.{◌>>=◌, ◌>>◌, or_fault, need}
 use Rattle.vm_script.specs.Statements.{number, name, bytes, size, prot, kind, place, load_line, store_line, map_object, map_of, map_line, unmap_line, protect_of, protect_line, sync_line, read_of, read_call_line, write_of, write_line, truncate_line, lone_word, own, amount, path, disk_setup, disk, content, mode, file_setup, file, setup_statement, block_statement, word_statement, statement, is_comment}
@@ -236,17 +236,17 @@ abbrev pub OwnIs : Statement → Type 0
 OwnIs (says.Own a) = IsPlanAct a
 OwnIs s = Unit {0}
 
-abbrev pub IsPlaced : Spot → Statement → Type 0
+abbrev pub IsPlaced : LineSpot → Statement → Type 0
 IsPlaced spot s = (may_stand spot s ≡ true) × OwnIs s
 
-own_is : (spot : Spot) (r : Result PlanAct ScriptKind) → spot.inside ≡ true → IfOk r IsPlanAct → IfOk (own r) (IsPlaced spot)
+own_is : (spot : LineSpot) (r : Result PlanAct ScriptKind) → spot.inside ≡ true → IfOk r IsPlanAct → IfOk (own r) (IsPlaced spot)
 own_is spot r inside is = bind r _ (IsPlaced spot) (λ a e. (inside, if_ok r IsPlanAct a is e))
 
 alone_is : {A : Type 0} (x : A) (args : List (List ℕ)) (P : A → Type 0) → P x → IfOk (lone_word x args) P
 alone_is x [] P h = h
 alone_is x (a ∷ more) P h = tt
 
-disk_stands : (spot : Spot) (args : List (List ℕ)) → spot.opening ≡ true → IfOk (disk args) (λ a. setup_may_stand spot a ≡ true)
+disk_stands : (spot : LineSpot) (args : List (List ℕ)) → spot.opening ≡ true → IfOk (disk args) (λ a. setup_may_stand spot a ≡ true)
 unfolding disk disk_setup
 disk_stands spot [] ok = tt
 disk_stands spot (d ∷ []) ok = tt
@@ -256,7 +256,7 @@ disk_stands spot (d ∷ f ∷ x ∷ []) ok =
     bind (number d) _ P (λ n e. choice (is_word f (codes "blank")) _ _ P (λ _. bind (number x) _ P (λ m k. ok)) (λ _. choice (is_word f (codes "path")) _ _ P (λ _. bind (path x) _ P (λ m k. ok)) (λ _. tt)))
 disk_stands spot (d ∷ f ∷ x ∷ b ∷ more) ok = tt
 
-file_stands : (spot : Spot) (args : List (List ℕ)) → spot.opening ≡ true → IfOk (file args) (λ a. setup_may_stand spot a ≡ true)
+file_stands : (spot : LineSpot) (args : List (List ℕ)) → spot.opening ≡ true → IfOk (file args) (λ a. setup_may_stand spot a ≡ true)
 unfolding file file_setup
 file_stands spot [] ok = tt
 file_stands spot (n ∷ []) ok = tt
@@ -268,7 +268,7 @@ file_stands spot (n ∷ m ∷ d ∷ p ∷ x ∷ []) ok =
     bind (name n) _ P (λ a ea. bind (mode m) _ P (λ b eb. bind (number d) _ P (λ c ec. bind (number p) _ P (λ e ee. bind (content x) _ P (λ f ef. ok)))))
 file_stands spot (n ∷ m ∷ d ∷ p ∷ x ∷ b ∷ more) ok = tt
 
-setup_is : (spot : Spot) (word : List ℕ) (args : List (List ℕ)) → IfOk (setup_statement spot word args) (IsPlaced spot)
+setup_is : (spot : LineSpot) (word : List ℕ) (args : List (List ℕ)) → IfOk (setup_statement spot word args) (IsPlaced spot)
 unfolding setup_statement
 setup_is spot word args =
     choice (is_word word (codes "frames")) _ _ (IsPlaced spot) (λ _. needed fault.Place (spot.opening && not spot.frames) _ (IsPlaced spot) (λ ok. bind (amount args) _ (IsPlaced spot) (λ n e. (ok, tt))))
@@ -277,13 +277,13 @@ setup_is spot word args =
     (λ _. choice (is_word word (codes "disk")) _ _ (IsPlaced spot) (λ _. needed fault.Place spot.opening _ (IsPlaced spot) (λ ok. bind (disk args) _ (IsPlaced spot) (λ a e. (disk_may spot a args ok e, tt))))
     (λ _. choice (is_word word (codes "file")) _ _ (IsPlaced spot) (λ _. needed fault.Place spot.opening _ (IsPlaced spot) (λ ok. bind (file args) _ (IsPlaced spot) (λ a e. (file_may spot a args ok e, tt)))) (λ _. tt)))))
   where
-    disk_may : (spot : Spot) (a : SetupAct) (args : List (List ℕ)) → spot.opening ≡ true → disk args ≡ Ok a → setup_may_stand spot a ≡ true
+    disk_may : (spot : LineSpot) (a : SetupAct) (args : List (List ℕ)) → spot.opening ≡ true → disk args ≡ Ok a → setup_may_stand spot a ≡ true
     disk_may spot a args ok e = if_ok (disk args) (λ a. setup_may_stand spot a ≡ true) a (disk_stands spot args ok) e
 
-    file_may : (spot : Spot) (a : SetupAct) (args : List (List ℕ)) → spot.opening ≡ true → file args ≡ Ok a → setup_may_stand spot a ≡ true
+    file_may : (spot : LineSpot) (a : SetupAct) (args : List (List ℕ)) → spot.opening ≡ true → file args ≡ Ok a → setup_may_stand spot a ≡ true
     file_may spot a args ok e = if_ok (file args) (λ a. setup_may_stand spot a ≡ true) a (file_stands spot args ok) e
 
-block_is : (spot : Spot) (word : List ℕ) (args : List (List ℕ)) → IfOk (block_statement spot word args) (IsPlaced spot)
+block_is : (spot : LineSpot) (word : List ℕ) (args : List (List ℕ)) → IfOk (block_statement spot word args) (IsPlaced spot)
 unfolding block_statement
 block_is spot word args =
     choice (is_word word (codes "wait")) _ _ (IsPlaced spot) (λ _. needed fault.Place spot.inside _ (IsPlaced spot) (λ ok. own_is spot (lone_word act.Wait args) ok (alone_is act.Wait args IsPlanAct tt)))
@@ -292,7 +292,7 @@ block_is spot word args =
     (λ _. choice (is_word word (codes "end")) _ _ (IsPlaced spot) (λ _. needed fault.Place spot.inside _ (IsPlaced spot) (λ ok. alone_is says.End args (IsPlaced spot) (ok, tt)))
     (λ _. setup_is spot word args))))
 
-word_is : (spot : Spot) (word : List ℕ) (args : List (List ℕ)) → IfOk (word_statement spot word args) (IsPlaced spot)
+word_is : (spot : LineSpot) (word : List ℕ) (args : List (List ℕ)) → IfOk (word_statement spot word args) (IsPlaced spot)
 unfolding word_statement
 word_is spot word args =
     choice (is_word word (codes "load")) _ _ (IsPlaced spot) (λ _. needed fault.Place spot.inside _ (IsPlaced spot) (λ ok. own_is spot (load_line args) ok (load_is args)))
@@ -306,10 +306,10 @@ word_is spot word args =
     (λ _. choice (is_word word (codes "truncate")) _ _ (IsPlaced spot) (λ _. needed fault.Place spot.inside _ (IsPlaced spot) (λ ok. own_is spot (truncate_line args) ok (truncate_is args)))
     (λ _. block_is spot word args)))))))))
 
-pub statement_is : (spot : Spot) (plain : Bool) (fs : List (List ℕ)) → IfOk (statement spot plain fs) (IsPlaced spot)
+pub statement_is : (spot : LineSpot) (plain : Bool) (fs : List (List ℕ)) → IfOk (statement spot plain fs) (IsPlaced spot)
 unfolding statement
 statement_is spot plain [] = (refl, tt)
 statement_is spot plain (word ∷ args) = choice (is_comment word) _ _ (IsPlaced spot) (λ _. (refl, tt)) (λ _. needed fault.Byte plain _ (IsPlaced spot) (λ _. word_is spot word args))
 
-pub placed : (spot : Spot) (plain : Bool) (fs : List (List ℕ)) (s : Statement) → statement spot plain fs ≡ Ok s → IsPlaced spot s
+pub placed : (spot : LineSpot) (plain : Bool) (fs : List (List ℕ)) (s : Statement) → statement spot plain fs ≡ Ok s → IsPlaced spot s
 placed spot plain fs s e = if_ok (statement spot plain fs) (IsPlaced spot) s (statement_is spot plain fs) e

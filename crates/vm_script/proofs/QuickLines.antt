@@ -11,7 +11,7 @@ use Rattle.vm_types.specs.declared.call.Call.TheVariants as call
 use Rattle.vm_types.specs.Words.{IsWordSize}
 use Rattle.vm_script.specs.declared.plan.PlanAct.TheVariants as act
 use Rattle.vm_script.specs.declared.statement.Statement.TheVariants as says
-use Rattle.vm_script.specs.declared.statement.Spot.{Spot}
+use Rattle.vm_script.specs.declared.statement.LineSpot.{LineSpot}
 use Rattle.vm_script.specs.Lines.{is_graphic, is_plain, isnt_empty, fields, lines}
 use Rattle.vm_script.specs.Fields.{is_digit, is_hex_digit, digit_value, value_of_digits, digits_at, number_of_field}
 use Rattle.vm_script.specs.Statements.{statement, word_statement, load_line, store_line, size}
@@ -115,12 +115,12 @@ size_of w n is sized = ⊎_elim (λ e. at n 1 e is) (λ h. ⊎_elim (λ e. at2 n
     at4 : (n : ℕ) → n ≡ 4 → number_of_field w ≡ Some n → size w ≡ Ok n
     at4 n e is = subst (λ m. number_of_field w ≡ Some m → size w ≡ Ok m) (sym e) (λ h. rw h refl) is
 
-load_said : (spot : Spot) (a s : List ℕ) (addr n : ℕ) → spot.inside ≡ true → number_of_field a ≡ Some addr → number_of_field s ≡ Some n → IsWordSize n
+load_said : (spot : LineSpot) (a s : List ℕ) (addr n : ℕ) → spot.inside ≡ true → number_of_field a ≡ Some addr → number_of_field s ≡ Some n → IsWordSize n
     → statement spot true (codes "load" ∷ a ∷ s ∷ []) ≡ Ok (says.Own (act.Call (call.Load addr n)))
 unfolding statement word_statement load_line
 load_said spot a s addr n inside h k sized = rw (inside, h, size_of s n k sized) refl
 
-store_said : (spot : Spot) (a s v : List ℕ) (addr n value : ℕ) → spot.inside ≡ true → number_of_field a ≡ Some addr → number_of_field s ≡ Some n → IsWordSize n → number_of_field v ≡ Some value → nat_lt value (2 ^ (8 * n)) ≡ true
+store_said : (spot : LineSpot) (a s v : List ℕ) (addr n value : ℕ) → spot.inside ≡ true → number_of_field a ≡ Some addr → number_of_field s ≡ Some n → IsWordSize n → number_of_field v ≡ Some value → nat_lt value (2 ^ (8 * n)) ≡ true
     → statement spot true (codes "store" ∷ a ∷ s ∷ v ∷ []) ≡ Ok (says.Own (act.Call (call.Store addr n value)))
 unfolding statement word_statement store_line
 store_said spot a s v addr n value inside h k sized l fits = rw (inside, h, size_of s n k sized, l, fits) refl

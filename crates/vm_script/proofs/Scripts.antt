@@ -21,7 +21,7 @@ use Rattle.vm_script.specs.declared.plan.SetupAct.TheVariants as given
 use Rattle.vm_script.specs.declared.plan.PlanAct.TheVariants as act
 use Rattle.vm_script.specs.declared.statement.Statement.{Statement}
 use Rattle.vm_script.specs.declared.statement.Statement.TheVariants as says
-use Rattle.vm_script.specs.declared.statement.Spot.{Spot}
+use Rattle.vm_script.specs.declared.statement.LineSpot.{LineSpot}
 use Rattle.vm_script.specs.Fields.{is_word, is_file_name}
 use Rattle.vm_script.specs.Lines.{is_plain, fields, lines}
 use Rattle.vm_script.specs.Plans.{OpenPlan, empty_plan, plan_seen, with_statement, spot_of, plan_from, plan_of}
@@ -146,7 +146,7 @@ unfolding file file_setup
 file_back n w d p text is h k short all = rw (name_back n is, mode_back w, number_text d h, number_text p k, content_back text short all) refl
 
 -- the words of the lines
-call_back : (spot : Spot) (c : Call) → spot.inside ≡ true → IsPlainCall c → statement spot true (call_fields (codes "zero") c) ≡ Ok (says.Own (act.Call c))
+call_back : (spot : LineSpot) (c : Call) → spot.inside ≡ true → IsPlainCall c → statement spot true (call_fields (codes "zero") c) ≡ Ok (says.Own (act.Call c))
 unfolding statement word_statement
 call_back spot (call.Load a n) inside h = rw (inside, load_back a n h.0 h.1) refl
 call_back spot (call.Store a n v) inside h = rw (inside, store_back a n v h.0 h.1 h.2 h.3) refl
@@ -162,7 +162,7 @@ call_back spot (call.Truncate file len) inside h = absurd h
 call_back spot (call.Fork c) inside h = absurd h
 call_back spot call.Exit inside h = absurd h
 
-named_back : (spot : Spot) (n : List ℕ) (c : Call) → spot.inside ≡ true → is_file_name n ≡ true → IsNamedCall c → statement spot true (call_fields n c) ≡ Ok (says.Own (act.Named n c))
+named_back : (spot : LineSpot) (n : List ℕ) (c : Call) → spot.inside ≡ true → is_file_name n ≡ true → IsNamedCall c → statement spot true (call_fields n c) ≡ Ok (says.Own (act.Named n c))
 unfolding statement word_statement
 named_back spot n (call.Load a k) inside is h = absurd h
 named_back spot n (call.Store a k v) inside is h = absurd h
@@ -179,7 +179,7 @@ named_back spot n (call.Truncate file len) inside is h = rw (inside, truncate_ba
 named_back spot n (call.Fork c) inside is h = absurd h
 named_back spot n call.Exit inside is h = absurd h
 
-setup_back : (spot : Spot) (a : SetupAct) → setup_may_stand spot a ≡ true → IsSetupAct a → statement spot true (setup_fields a) ≡ Ok (says.Setup a)
+setup_back : (spot : LineSpot) (a : SetupAct) → setup_may_stand spot a ≡ true → IsSetupAct a → statement spot true (setup_fields a) ≡ Ok (says.Setup a)
 unfolding statement word_statement block_statement setup_statement
 setup_back spot (given.Frames n) may h = rw (may, number_text n h) refl
 setup_back spot (given.Swap n) may h = rw (may, number_text n h) refl
@@ -188,7 +188,7 @@ setup_back spot (given.Blank d n) may h = rw (may, blank_back d n h.0 h.1) refl
 setup_back spot (given.Path d p) may h = rw (may, path_back d p h.0 h.2) refl
 setup_back spot (given.File n w d p text) may h = rw (may, file_back n w d p text h.0 h.1 h.2 h.3 h.4) refl
 
-statement_back : (spot : Spot) (s : Statement) → may_stand spot s ≡ true → IsStatement s → statement spot true (statement_fields s) ≡ Ok s
+statement_back : (spot : LineSpot) (s : Statement) → may_stand spot s ≡ true → IsStatement s → statement spot true (statement_fields s) ≡ Ok s
 unfolding statement word_statement block_statement
 statement_back spot says.Nothing may h = refl
 statement_back spot (says.Setup a) may h = setup_back spot a may h

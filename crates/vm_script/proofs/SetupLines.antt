@@ -16,7 +16,7 @@ use Rattle.vm_script.specs.declared.plan.PlanAct.{PlanAct}
 use Rattle.vm_script.specs.declared.plan.PlanAct.TheVariants as act
 use Rattle.vm_script.specs.declared.statement.Statement.{Statement}
 use Rattle.vm_script.specs.declared.statement.Statement.TheVariants as says
-use Rattle.vm_script.specs.declared.statement.Spot.{Spot}
+use Rattle.vm_script.specs.declared.statement.LineSpot.{LineSpot}
 use Rattle.vm_script.specs.Fields.{is_word}
 use Rattle.vm_script.specs.Lines.{is_plain, is_graphic, is_space, isnt_empty, fields, lines}
 use Rattle.vm_script.specs.PlanSeen.{PlanSeen}
@@ -138,7 +138,7 @@ amount_is [] n e = absurd (cc e)
 amount_is (a ∷ []) n e = number_is a n e
 amount_is (a ∷ b ∷ args) n e = absurd (cc e)
 
-setup_is : (spot : Spot) (word : List ℕ) (args : List (List ℕ)) → AreWords args → IfOk (setup_statement spot word args) SetupIs
+setup_is : (spot : LineSpot) (word : List ℕ) (args : List (List ℕ)) → AreWords args → IfOk (setup_statement spot word args) SetupIs
 unfolding setup_statement
 setup_is spot word args w =
     choice (is_word word (codes "frames")) _ _ SetupIs (λ _. needed fault.Place (spot.opening && not spot.frames) _ SetupIs (λ _. bind (amount args) _ SetupIs (λ n e. amount_is args n e)))
@@ -151,7 +151,7 @@ alone_is : {A : Type 0} (x : A) (args : List (List ℕ)) (P : A → Type 0) → 
 alone_is x [] P h = h
 alone_is x (a ∷ args) P h = tt
 
-block_is : (spot : Spot) (word : List ℕ) (args : List (List ℕ)) → AreWords args → IfOk (block_statement spot word args) SetupIs
+block_is : (spot : LineSpot) (word : List ℕ) (args : List (List ℕ)) → AreWords args → IfOk (block_statement spot word args) SetupIs
 unfolding block_statement
 block_is spot word args w =
     choice (is_word word (codes "wait")) _ _ SetupIs (λ _. needed fault.Place spot.inside _ SetupIs (λ _. bind (lone_word act.Wait args) _ SetupIs (λ a e. tt)))
@@ -160,10 +160,10 @@ block_is spot word args w =
     (λ _. choice (is_word word (codes "end")) _ _ SetupIs (λ _. needed fault.Place spot.inside _ SetupIs (λ _. alone_is says.End args SetupIs tt))
     (λ _. setup_is spot word args w))))
 
-own_is : (spot : Spot) (r : Result PlanAct ScriptKind) → IfOk (need fault.Place spot.inside >> own r) SetupIs
+own_is : (spot : LineSpot) (r : Result PlanAct ScriptKind) → IfOk (need fault.Place spot.inside >> own r) SetupIs
 own_is spot r = needed fault.Place spot.inside (own r) SetupIs (λ _. bind r (λ a. Ok (says.Own a)) SetupIs (λ a e. tt))
 
-word_is : (spot : Spot) (word : List ℕ) (args : List (List ℕ)) → AreWords args → IfOk (word_statement spot word args) SetupIs
+word_is : (spot : LineSpot) (word : List ℕ) (args : List (List ℕ)) → AreWords args → IfOk (word_statement spot word args) SetupIs
 unfolding word_statement
 word_is spot word args w =
     choice (is_word word (codes "load")) _ _ SetupIs (λ _. own_is spot (load_line args))
@@ -177,13 +177,13 @@ word_is spot word args w =
     (λ _. choice (is_word word (codes "truncate")) _ _ SetupIs (λ _. own_is spot (truncate_line args))
     (λ _. block_is spot word args w)))))))))
 
-statement_is : (spot : Spot) (plain : Bool) (fs : List (List ℕ)) → (plain ≡ true → AreWords fs) → IfOk (statement spot plain fs) SetupIs
+statement_is : (spot : LineSpot) (plain : Bool) (fs : List (List ℕ)) → (plain ≡ true → AreWords fs) → IfOk (statement spot plain fs) SetupIs
 unfolding statement
 statement_is spot plain [] w = tt
 statement_is spot plain (word ∷ args) w =
     choice (is_comment word) _ _ SetupIs (λ _. tt) (λ _. needed fault.Byte plain _ SetupIs (λ is. word_is spot word args (later_fields (w is))))
 
-said : (spot : Spot) (line : List ℕ) (s : Statement) → statement spot (list_all is_plain line) (fields line) ≡ Ok s → SetupIs s
+said : (spot : LineSpot) (line : List ℕ) (s : Statement) → statement spot (list_all is_plain line) (fields line) ≡ Ok s → SetupIs s
 said spot line s e = if_ok (statement spot (list_all is_plain line) (fields line)) SetupIs s (statement_is spot (list_all is_plain line) (fields line) (field_words line)) e
 
 -- The set-up lines of a plan that grows.

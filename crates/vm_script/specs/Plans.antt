@@ -12,7 +12,7 @@ use Rattle.vm_script.specs.declared.plan.PlanAct.{PlanAct}
 use Rattle.vm_script.specs.declared.plan.PlanAct.TheVariants as act
 use Rattle.vm_script.specs.declared.statement.Statement.{Statement}
 use Rattle.vm_script.specs.declared.statement.Statement.TheVariants as says
-use Rattle.vm_script.specs.declared.statement.Spot.{Spot}
+use Rattle.vm_script.specs.declared.statement.LineSpot.{LineSpot}
 use Rattle.vm_script.specs.PlanSeen.{PlanSeen}
 use Rattle.vm_script.specs.Lines.{is_plain, fields, lines}
 use Rattle.vm_script.specs.Statements.{statement}
@@ -75,7 +75,7 @@ abbrev pub has_setup : (SetupAct → Bool) → List SetupLine → Bool
 has_setup gives setup = list_any (λ l. gives l.act) setup
 
 -- Where the next line stands.
-abbrev pub spot_of : OpenPlan → Spot
+abbrev pub spot_of : OpenPlan → LineSpot
 spot_of g = record {
   inside = not (g.inside == 0);
   opening = length g.parents == 0;

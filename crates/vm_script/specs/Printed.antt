@@ -17,7 +17,7 @@ use Rattle.vm_script.specs.declared.plan.PlanAct.{PlanAct}
 use Rattle.vm_script.specs.declared.plan.PlanAct.TheVariants as act
 use Rattle.vm_script.specs.declared.statement.Statement.{Statement}
 use Rattle.vm_script.specs.declared.statement.Statement.TheVariants as says
-use Rattle.vm_script.specs.declared.statement.Spot.{Spot}
+use Rattle.vm_script.specs.declared.statement.LineSpot.{LineSpot}
 use Rattle.vm_script.specs.Fields.{is_file_name}
 use Rattle.vm_script.specs.Lines.{is_graphic}
 use Rattle.vm_script.specs.Statements.{unknown_file}
@@ -123,14 +123,14 @@ IsStatement (says.Own a) = IsPlanAct a
 IsStatement s = Unit {0}
 
 -- A set-up line may stand before the first block, the first three at most once.
-abbrev pub setup_may_stand : Spot → SetupAct → Bool
+abbrev pub setup_may_stand : LineSpot → SetupAct → Bool
 setup_may_stand spot (given.Frames n) = spot.opening && not spot.frames
 setup_may_stand spot (given.Swap n) = spot.opening && not spot.swap
 setup_may_stand spot (given.Translations n) = spot.opening && not spot.translations
 setup_may_stand spot a = spot.opening
 
 -- A line that says this may stand there.
-abbrev pub may_stand : Spot → Statement → Bool
+abbrev pub may_stand : LineSpot → Statement → Bool
 may_stand spot says.Nothing = true
 may_stand spot (says.Setup a) = setup_may_stand spot a
 may_stand spot says.Process = not spot.inside

@@ -4,7 +4,7 @@ use Rattle.std.specs.List.{list_all}
 use Rattle.vm_types.specs.declared.call.Call.{Call}
 use Rattle.vm_script.specs.declared.plan.PlanAct.TheVariants as act
 use Rattle.vm_script.specs.declared.statement.Statement.TheVariants as says
-use Rattle.vm_script.specs.declared.statement.Spot.{Spot}
+use Rattle.vm_script.specs.declared.statement.LineSpot.{LineSpot}
 use Rattle.vm_script.specs.Lines.{is_graphic, isnt_empty}
 use Rattle.vm_script.specs.Fields.{digits_at, number_of_field}
 use Rattle.vm_script.specs.Statements.{statement}
@@ -35,4 +35,4 @@ pub record BeginsWithCall (text : List ℕ) (c : Call) (rest : List ℕ) : Type 
   pub fs : List (List ℕ)
   pub is : text ≡ line_of_fields fs ++ 10 ∷ rest
   pub words : AreWords fs
-  pub makes : (spot : Spot) → spot.inside ≡ true → statement spot true fs ≡ Ok (says.Own (act.Call c))
+  pub makes : (spot : LineSpot) → spot.inside ≡ true → statement spot true fs ≡ Ok (says.Own (act.Call c))

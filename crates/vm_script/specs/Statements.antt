@@ -15,7 +15,7 @@ use Rattle.vm_script.specs.declared.plan.PlanAct.{PlanAct}
 use Rattle.vm_script.specs.declared.plan.PlanAct.TheVariants as act
 use Rattle.vm_script.specs.declared.statement.Statement.{Statement}
 use Rattle.vm_script.specs.declared.statement.Statement.TheVariants as says
-use Rattle.vm_script.specs.declared.statement.Spot.{Spot}
+use Rattle.vm_script.specs.declared.statement.LineSpot.{LineSpot}
 use Rattle.vm_script.specs.Fields.{is_word, number_of_field, is_file_name, bytes_of_field}
 use Rattle.vm_script.specs.Reading.{◌>>=◌, ◌>>◌, or_fault, need}
 
@@ -217,7 +217,7 @@ setup r = r >>= λ a. Ok (says.Setup a)
 
 -- What a set-up line of this word says: it stands before the first block, and `frames`, `swap` and `translations` come
 -- at most once.
-unfoldable pub setup_statement : Spot → List ℕ → List (List ℕ) → Result Statement ScriptKind
+unfoldable pub setup_statement : LineSpot → List ℕ → List (List ℕ) → Result Statement ScriptKind
 setup_statement spot word args =
     if is_word word (codes "frames") then (need fault.Place (spot.opening && not spot.frames) >> (amount args >>= λ n. Ok (says.Setup (given.Frames n))))
     else if is_word word (codes "swap") then (need fault.Place (spot.opening && not spot.swap) >> (amount args >>= λ n. Ok (says.Setup (given.Swap n))))
@@ -227,7 +227,7 @@ setup_statement spot word args =
     else Err fault.Word
 
 -- What a line of this word says that begins a block, ends it or waits for children.
-unfoldable pub block_statement : Spot → List ℕ → List (List ℕ) → Result Statement ScriptKind
+unfoldable pub block_statement : LineSpot → List ℕ → List (List ℕ) → Result Statement ScriptKind
 block_statement spot word args =
     if is_word word (codes "wait") then (need fault.Place spot.inside >> own (lone_word act.Wait args))
     else if is_word word (codes "process") then (need fault.Place (not spot.inside) >> lone_word says.Process args)
@@ -236,7 +236,7 @@ block_statement spot word args =
     else setup_statement spot word args
 
 -- What a line of this word says: first the word, then the place, then the number of fields, then the fields from the left.
-unfoldable pub word_statement : Spot → List ℕ → List (List ℕ) → Result Statement ScriptKind
+unfoldable pub word_statement : LineSpot → List ℕ → List (List ℕ) → Result Statement ScriptKind
 word_statement spot word args =
     if is_word word (codes "load") then (need fault.Place spot.inside >> own (load_line args))
     else if is_word word (codes "store") then (need fault.Place spot.inside >> own (store_line args))
@@ -255,6 +255,6 @@ is_comment (b ∷ bytes) = b == 35
 
 -- What a line says, by whether its bytes are from 0x20 to 0x7e and by its fields. A line without fields, or whose first
 -- field begins with #, says nothing, whatever its bytes are.
-unfoldable pub statement : Spot → Bool → List (List ℕ) → Result Statement ScriptKind
+unfoldable pub statement : LineSpot → Bool → List (List ℕ) → Result Statement ScriptKind
 statement spot plain [] = Ok says.Nothing
 statement spot plain (word ∷ args) = if is_comment word then Ok says.Nothing else (need fault.Byte plain >> word_statement spot word args)

@@ -3,7 +3,7 @@ ghost use Rattle.std.specs.Prelude.{◌≡◌, ◌+◌, ◌<◌, ◌^◌, ◌||�
 ghost use Rattle.vm_script.specs.Plans.{enclosing_block, with_line, with_new_block, with_statement, spot_of, empty_plan, plan_seen, gives_frames, gives_swap, gives_translations};
 
 use crate::plan::{Plan, PlanAct, PlanLine, SetupAct, SetupLine};
-use crate::statement::{Spot, Statement};
+use crate::statement::{LineSpot, Statement};
 use std::alloc::{AllocError, Global};
 use std::marker::Model;
 use vm_types::Call;
@@ -93,10 +93,10 @@ impl Growing {
     }
 
     /// Where the next line stands.
-    pub fn spot_of(&self) -> Spot
+    pub fn spot_of(&self) -> LineSpot
         ensures { result ≡ spot_of self.now }
     {
-        Spot {
+        LineSpot {
             inside: self.inside != 0,
             opening: self.parents.is_empty(),
             frames: self.frames,

@@ -6,7 +6,7 @@ ghost use Rattle.vm_script.specs.Statements as statements;
 use crate::fault::{ReadError, ScriptKind};
 use crate::fields::{content, mode, name, need, number, path};
 use crate::plan::SetupAct;
-use crate::statement::{Spot, Statement};
+use crate::statement::{LineSpot, Statement};
 use std::alloc::Global;
 
 fn amount(args: &[&[u8]]) -> Result<u32, ReadError>
@@ -83,7 +83,7 @@ fn file(alloc: Global, args: &[&[u8]]) -> Result<SetupAct, ReadError>
 #[tactic(auto, unfolding(crate::specs::Statements::setup_statement))]
 pub fn setup_statement(
     alloc: Global,
-    spot: Spot,
+    spot: LineSpot,
     word: &[u8],
     args: &[&[u8]],
 ) -> Result<Statement, ReadError>

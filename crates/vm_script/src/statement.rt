@@ -4,7 +4,7 @@ use crate::plan::{PlanAct, SetupAct};
 /// Where a line stands: inside a block, before the first block, and behind a line `frames`, `swap`
 /// or `translations`.
 #[derive(Clone, Copy)]
-pub struct Spot {
+pub struct LineSpot {
     pub inside: bool,
     pub opening: bool,
     pub frames: bool,

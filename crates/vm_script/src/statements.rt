@@ -8,7 +8,7 @@ use crate::fault::{ReadError, ScriptKind};
 use crate::fields::need;
 use crate::plan::PlanAct;
 use crate::setup_lines::setup_statement;
-use crate::statement::{Spot, Statement};
+use crate::statement::{LineSpot, Statement};
 use std::alloc::Global;
 
 // A line of one word alone.
@@ -26,7 +26,7 @@ fn alone(args: &[&[u8]]) -> Result<(), ReadError>
 #[tactic(auto, unfolding(crate::specs::Statements::block_statement))]
 fn block_statement(
     alloc: Global,
-    spot: Spot,
+    spot: LineSpot,
     word: &[u8],
     args: &[&[u8]],
 ) -> Result<Statement, ReadError>
@@ -60,7 +60,7 @@ fn block_statement(
 #[tactic(auto, unfolding(crate::specs::Statements::word_statement))]
 fn word_statement(
     alloc: Global,
-    spot: Spot,
+    spot: LineSpot,
     word: &[u8],
     args: &[&[u8]],
 ) -> Result<Statement, ReadError>
@@ -110,7 +110,7 @@ fn word_statement(
 #[tactic(auto, unfolding(crate::specs::Statements::statement))]
 pub fn statement_of(
     alloc: Global,
-    spot: Spot,
+    spot: LineSpot,
     plain: bool,
     fields: &[&[u8]],
 ) -> Result<Statement, ReadError>
