@@ -100,7 +100,7 @@ fn bytes_done(call: &Call, reply: &Reply) -> u64
     }
 }
 
-fn count_written(entries: &[&Entry]) -> u64
+fn bytes_written(entries: &[&Entry]) -> u64
     requires few { length entries.now < 2 ^ 32 }
     ensures { result ≡ results.bytes_written (map (λ e. e.now) entries.now) }
 {
@@ -129,7 +129,7 @@ pub fn push_line_result(out: &mut Vec<u8>, entries: &[&Entry]) -> Result<(), All
             push_failure(out, entries)
         }
         Call::Write { .. } => {
-            push_decimal(out, count_written(entries))?;
+            push_decimal(out, bytes_written(entries))?;
             push_failure(out, entries)
         }
         _ => push_result(out, &first.call, &first.reply),

@@ -5,7 +5,7 @@ ghost use Rattle.vm_types.specs.Words.{IsWordSize, word_bytes};
 ghost use Rattle.vm_script.specs.Texts.{hex_text};
 ghost use Rattle.vm_report.specs.Texts.{word_text};
 
-use crate::text::{digits_of_byte, digits_of_number, digits_of_two, push_number, push_text};
+use crate::text::{byte_text, digits_of_number, digits_of_two, push_number, push_text};
 use std::alloc::AllocError;
 
 // Adds the digits of a word's bytes and a line feed.
@@ -16,7 +16,7 @@ fn end_with_word(out: &mut Vec<u8>, size: u32, value: u32) -> Result<(), AllocEr
 {
     match size {
         1 => {
-            let [a, b] = digits_of_byte((value % 256) as u8);
+            let [a, b] = byte_text((value % 256) as u8);
             push_text(out, &[a, b, b'\n'])
         }
         2 => {

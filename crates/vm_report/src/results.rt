@@ -28,7 +28,7 @@ pub fn word_of_call(call: &Call) -> &'static [u8]
     }
 }
 
-fn size_of_word(call: &Call) -> u32
+fn word_size(call: &Call) -> u32
     requires { IsWellFormed call.now }
     ensures size { result ≡ word_size call.now }
     ensures word { IsWordSize result }
@@ -96,7 +96,7 @@ pub fn push_result(out: &mut Vec<u8>, call: &Call, reply: &Reply) -> Result<(), 
     ensures { OnOk result (out.new.items ≡ out.old.items ++ result_text call.now reply.now) }
 {
     match reply {
-        Reply::Word(value) => push_word(out, size_of_word(call), *value),
+        Reply::Word(value) => push_word(out, word_size(call), *value),
         Reply::Done => push_done(out, call),
         Reply::Synced(_) => push_text(out, b"ok"),
         Reply::Mapped(addr) => push_word(out, 4, *addr),

@@ -62,7 +62,7 @@ fn hex_digit(value: u8) -> u8
 }
 
 /// The two digits of a byte.
-pub fn digits_of_byte(b: u8) -> [u8; 2]
+pub fn byte_text(b: u8) -> [u8; 2]
     ensures { result ≡ byte_text b }
 {
     [hex_digit(b / 16), hex_digit(b % 16)]
@@ -120,8 +120,8 @@ fn bytes_of_number(number: u32) -> [u8; 4]
 pub fn digits_of_two(number: u32) -> [u8; 4]
     ensures { result ≡ hex_text (word_bytes 2 number) }
 {
-    let [a, b] = digits_of_byte((number / 256 % 256) as u8);
-    let [c, d] = digits_of_byte((number % 256) as u8);
+    let [a, b] = byte_text((number / 256 % 256) as u8);
+    let [c, d] = byte_text((number % 256) as u8);
     [a, b, c, d]
 }
 
@@ -130,10 +130,10 @@ pub fn digits_of_number(number: u32) -> [u8; 8]
     ensures { result ≡ hex_text (word_bytes 4 number) }
 {
     let [first, second, third, fourth] = bytes_of_number(number);
-    let [a, b] = digits_of_byte(first);
-    let [c, d] = digits_of_byte(second);
-    let [e, f] = digits_of_byte(third);
-    let [g, h] = digits_of_byte(fourth);
+    let [a, b] = byte_text(first);
+    let [c, d] = byte_text(second);
+    let [e, f] = byte_text(third);
+    let [g, h] = byte_text(fourth);
     [a, b, c, d, e, f, g, h]
 }
 
@@ -173,7 +173,7 @@ fn push_word_hex(out: &mut Vec<u8>, size: u32, value: u32) -> Result<(), AllocEr
     ensures { OnOk result (out.new.items ≡ out.old.items ++ hex_text (word_bytes size value)) }
 {
     match size {
-        1 => push_text(out, &digits_of_byte((value % 256) as u8)),
+        1 => push_text(out, &byte_text((value % 256) as u8)),
         2 => push_text(out, &digits_of_two(value)),
         _ => push_number_hex(out, value),
     }

@@ -1,6 +1,6 @@
 use Rattle.std.proofs.Common.{◌≡◌, ◌≤◌, ◌+◌, ◌*◌, length, map}
 use Rattle.vm_report.specs.Results.{bytes_written}
-use Rattle.vm_report.proofs.line_results.count_written.Given as goal
+use Rattle.vm_report.proofs.line_results.bytes_written.Given as goal
 
 abbrev pub invariant-loop-left : goal.invariant-loop-left
 invariant-loop-left l = record {
