@@ -39,7 +39,7 @@ impl Failing {
     }
 
     // Scans the list of failing calls.
-    pub(crate) fn lists_next(&self) -> bool
+    pub(crate) fn is_next_listed(&self) -> bool
         ensures { result ≡ is_next_listed self.now }
     {
         self.fail_at.contains(&one_more(self.calls))

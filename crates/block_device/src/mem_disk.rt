@@ -103,7 +103,7 @@ impl Disk for MemDisk {
         ensures fails { IsErr result ↔ IsTrue (is_next_listed (look self.old).calls) }
         ensures kept { OnErr result (into.new ≡ into.old) }
     {
-        let fails = self.calls.lists_next();
+        let fails = self.calls.is_next_listed();
         self.calls.count(fails);
         self.reads = one_more(self.reads);
         if fails {
@@ -122,7 +122,7 @@ impl Disk for MemDisk {
         ensures new { look self.new ≡ after_write (look self.old) (is_err result) block from.now }
         ensures fails { IsErr result ↔ IsTrue (is_next_listed (look self.old).calls) }
     {
-        let fails = self.calls.lists_next();
+        let fails = self.calls.is_next_listed();
         self.calls.count(fails);
         self.writes = one_more(self.writes);
         if fails {

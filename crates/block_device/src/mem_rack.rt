@@ -158,7 +158,7 @@ impl Rack for MemRack {
             ↔ IsTrue (is_spec_refused self.old spec.now) }
         ensures disk { IfOk result (λ disk. look disk ≡ disk_for self.old spec.now) }
     {
-        let fails = self.calls.lists_next() || self.lacks(spec) || self.attached == u64::MAX;
+        let fails = self.calls.is_next_listed() || self.lacks(spec) || self.attached == u64::MAX;
         self.calls.count(fails);
         if fails {
             return Err(RackFault::Failed);

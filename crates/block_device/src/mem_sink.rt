@@ -103,7 +103,7 @@ impl Sink for MemSink {
         ensures fails { IsErr result ↔ IsTrue (is_next_refused self.old (length from.now)) }
         ensures count { IfOk result (λ count. count ≡ taken_count self.old (length from.now)) }
     {
-        let fails = self.calls.lists_next() || self.is_full_for(from.len());
+        let fails = self.calls.is_next_listed() || self.is_full_for(from.len());
         self.calls.count(fails);
         if fails {
             return Err(Failed);

@@ -91,7 +91,7 @@ impl Source for MemSource {
             into.new ≡ take count self.old.rest ++ drop count into.old) }
         ensures kept { OnErr result (into.new ≡ into.old) }
     {
-        let fails = self.calls.lists_next();
+        let fails = self.calls.is_next_listed();
         self.calls.count(fails);
         if fails {
             return Err(Failed);
