@@ -2,7 +2,7 @@
 use Rattle.std.proofs.Math.Seq.{take-append_seam}
 use Rattle.std.proofs.lemmas.List.{map-append, replicate-append-replicate, drop_at}
 use denote.RawPtr.{block_ptr, null_ptr}
-use Rattle.core_arena.specs.Ownership.{Extent}
+use Rattle.core_arena.specs.Ownership.{VecBytes}
 pub use Rattle.std.proofs.Common.{◌≡◌, ℕ, ◌+◌, ◌-◌, ◌*◌, ◌^◌, ◌<◌, List, Option, Some, None, zero, suc, false, true}
 pub use Rattle.std.proofs.Common.{[], ◌∷◌, ◌++◌, arith, sym, ◌∙◌, ap, subst, refl, slice_index_or, slice_set, length}
 pub use Rattle.std.proofs.Common.{replicate, IsSome, is_some, length-append, length-set, take, drop}
@@ -109,7 +109,7 @@ pub record IsHomePage (base : Ptr) (frames : ℕ) (pages : List Place) (i : ℕ)
   pub placed : InBlock base
   pub seen : bytes_at (pages_seen pages) i ≡ Some page.bytes
 
-pub home-page : (base : Ptr) (frames : ℕ) (pages : List Place) (rest : Option Extent) (i : ℕ) (page : Stretch) (d : Place)
+pub home-page : (base : Ptr) (frames : ℕ) (pages : List Place) (rest : Option VecBytes) (i : ℕ) (page : Stretch) (d : Place)
     → IsSoundCore base frames pages rest → IsSome (bytes_at (pages_seen pages) i) → slice_index_or pages i d ≡ Some page → IsHomePage base frames pages i page
 home-page base frames pages rest i page d sound home is =
     let f = found base pages i page d sound.in_place home is in
@@ -117,7 +117,7 @@ home-page base frames pages rest i page d sound home is =
     record { within = within; at = f.1.0; size = f.1.1; placed = sound.placed (omega (arith, within)); seen = f.2 }
 
 -- a core with a place changed
-pub sound-set : (base : Ptr) (frames : ℕ) (pages : List Place) (rest : Option Extent) (i : ℕ) (place : Place)
+pub sound-set : (base : Ptr) (frames : ℕ) (pages : List Place) (rest : Option VecBytes) (i : ℕ) (place : Place)
     → IsSoundCore base frames pages rest → IsPageAt (base +ₚ i * 4096) place → IsSoundCore base frames (slice_set pages i place) rest
 sound-set base frames pages rest i place sound at = record {
   places = length-set pages i place ∙ sound.places;

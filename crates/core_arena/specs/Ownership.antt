@@ -10,13 +10,13 @@ use denote.RawPtr.Bytes.{bytes}
 use denote.Slice.{elements_shared}
 
 -- where a vector's bytes begin, and how many there are
-pub record Extent : Type 0 where
+pub record VecBytes : Type 0 where
   pub at : Ptr
   pub len : ℕ
 
 -- it is stored as the pair of its fields
-abbrev pub extent_code : Coded Extent
-extent_code = code_by (Ptr × ℕ) (coded× coded_ptr coded_ℕ) (λ e. (e.at, e.len)) (λ p. record { at = p.0; len = p.1 }) (λ _. refl)
+abbrev pub vec_bytes_code : Coded VecBytes
+vec_bytes_code = code_by (Ptr × ℕ) (coded× coded_ptr coded_ℕ) (λ e. (e.at, e.len)) (λ p. record { at = p.0; len = p.1 }) (λ _. refl)
 
 -- the bytes xs lie at p, as a vector has them
 abbrev pub vec_owns_bytes : Ptr → List ℕ → Fml

@@ -2,7 +2,7 @@
 use Rattle.std.specs.Prelude.{◌≡◌, ℕ, ◌*◌, ◌<◌, List, Option, MatchOption, map, length}
 use Rattle.std.specs.Option.{option_map}
 use denote.RawPtr.{Ptr, InBlock, ◌+ₚ◌}
-use Rattle.core_arena.specs.Ownership.{Extent}
+use Rattle.core_arena.specs.Ownership.{VecBytes}
 use Rattle.core_arena.specs.Rows.{AreInPlace}
 use Rattle.core_arena.specs.declared.region.Stretch.{Stretch}
 
@@ -11,7 +11,7 @@ abbrev pub pages_seen : List (Option Stretch) → List (Option (List ℕ))
 pages_seen pages = map (option_map (λ (page : Stretch). page.bytes)) pages
 
 -- a core of so many frames at base: each page that is home is whole and lies at its place, and the shell is that of the region
-pub record IsSoundCore (base : Ptr) (frames : ℕ) (pages : List (Option Stretch)) (rest : Option Extent) : Type 0 where
+pub record IsSoundCore (base : Ptr) (frames : ℕ) (pages : List (Option Stretch)) (rest : Option VecBytes) : Type 0 where
   pub places : length pages ≡ frames
   pub in_place : AreInPlace base pages
   pub placed : 0 < frames → InBlock base

@@ -6,7 +6,7 @@ ghost use Rattle.std.specs.Borrow.{sem};
 ghost use Rattle.std.specs.Vec.{with_items};
 ghost use base.Fml.{ftrue, fex, fall, fwand, fsep, feq};
 ghost use denote.RawPtr.{Ptr, InBlock, ◌+ₚ◌};
-ghost use Rattle.core_arena.specs.Ownership.{Extent, extent_code, stretch_owns, stretch_lent, vec_owns_bytes};
+ghost use Rattle.core_arena.specs.Ownership.{VecBytes, vec_bytes_code, stretch_owns, stretch_lent, vec_owns_bytes};
 
 use crate::FRAME_BYTES;
 use std::alloc::Allocator;
@@ -57,9 +57,9 @@ pub struct Shell<A: Allocator> {
 }
 
 impl<A: Allocator> Owns for Shell<A> {
-    ghost Value = { Extent };
+    ghost Value = { VecBytes };
 
-    ghost coded = { extent_code };
+    ghost coded = { vec_bytes_code };
 
     ghost shr_at = { λ _ _ _. ftrue };
 }
