@@ -18,10 +18,10 @@ without_frame [] frame = []
 without_frame (x ∷ xs) frame = if x == frame then without_frame xs frame else x ∷ without_frame xs frame
 
 -- the frame that is taken next: the first free one, or with no free frame the first cached one
-abbrev pub first_of : List ℕ → List ℕ → Option ℕ
-first_of [] [] = None
-first_of [] (frame ∷ more) = Some frame
-first_of (frame ∷ more) cached = Some frame
+abbrev pub first_listed : List ℕ → List ℕ → Option ℕ
+first_listed [] [] = None
+first_listed [] (frame ∷ more) = Some frame
+first_listed (frame ∷ more) cached = Some frame
 
 -- a frame is on one of the lists
 abbrev pub IsListed : ListsSeen → ℕ → Type 0

@@ -8,7 +8,7 @@ mod queue;
 
 ghost use Rattle.std.specs.Prelude.{◌≡◌, ◌≢◌, ℕ, ◌<◌, ◌⊎◌, ◌↔◌, ◌++◌, ◌∷◌, [], List, Option, IsTrue, IsNone, IfOk, Contains};
 ghost use Rattle.std.specs.List.{range_with_len};
-ghost use Rattle.page_lists.specs.ListsSeen.{ListsSeen, IsListed, AreApart, first_of, without_frame};
+ghost use Rattle.page_lists.specs.ListsSeen.{ListsSeen, IsListed, AreApart, first_listed, without_frame};
 ghost use Rattle.page_lists.specs.Takes.{TakesFirst};
 
 use queue::FrameQueue;
@@ -78,8 +78,8 @@ impl PageLists {
     }
 
     /// The frame that is taken next: the first free one, or where none is free the first cached one.
-    pub fn next(&self) -> Option<u32>
-        ensures next { result ≡ first_of self.now.free self.now.cached }
+    pub fn first_listed(&self) -> Option<u32>
+        ensures next { result ≡ first_listed self.now.free self.now.cached }
         ensures apart { AreApart self.now }
     {
         match self.free.first() {
@@ -152,7 +152,7 @@ mod tests {
     #[test]
     fn frames_go_round(rt: HostRuntime) -> Result<(), Fail> {
         let mut lists = PageLists::new(rt.alloc(), 3)?;
-        assert_eq!(rt; lists.next(), Some(0));
+        assert_eq!(rt; lists.first_listed(), Some(0));
         for frame in 0..3 {
             assert!(rt; lists.listed(frame));
         }
@@ -160,7 +160,7 @@ mod tests {
         assert_eq!(rt; lists.take(), taken(1, false));
         assert_eq!(rt; lists.take(), taken(2, false));
         assert!(rt; !lists.is_available());
-        assert_eq!(rt; lists.next(), None);
+        assert_eq!(rt; lists.first_listed(), None);
         assert!(rt; !lists.listed(1));
         lists.cache(1);
         assert!(rt; !lists.listed(0));

@@ -2,7 +2,7 @@
 
 ghost use Rattle.std.specs.Prelude.{◌≡◌, ◌≢◌, ℕ, ◌<◌, ◌↔◌, ◌++◌, ◌∷◌, [], List, length, Option, Some, None, IsTrue, IfOk, Contains};
 ghost use Rattle.std.specs.Option.{ForSome};
-ghost use Rattle.page_lists.specs.ListsSeen.{first_of, without_frame};
+ghost use Rattle.page_lists.specs.ListsSeen.{first_listed, without_frame};
 ghost use Rattle.page_lists.specs.Ring.{QueueSeen, IsQueue, follow};
 
 use std::alloc::{AllocError, Global};
@@ -75,7 +75,7 @@ impl FrameQueue {
 
     /// The first frame; None where there is none.
     pub fn first(&self) -> Option<u32>
-        ensures { result ≡ first_of self.now.order [] }
+        ensures { result ≡ first_listed self.now.order [] }
     {
         self.first
     }

@@ -12,7 +12,7 @@ use Rattle.page_clock.specs.Seen.{ClockSeen}
 use Rattle.page_hash.specs.Names.{find, name_at, is_name, AreDistinct}
 use Rattle.page_hash.specs.declared.PageName.{PageName}
 use Rattle.page_hash.proofs.NameLaws.{find-at, find-none, find-some, find-entered, entered-distinct, emptied-distinct, find-emptied_other, find-same}
-use Rattle.page_lists.specs.ListsSeen.{ListsSeen, AreApart, first_of}
+use Rattle.page_lists.specs.ListsSeen.{ListsSeen, AreApart, first_listed}
 use Rattle.page_lock.specs.Rows.{row_at, clear_row}
 use Rattle.page_lock.specs.declared.Row.{Row}
 use Rattle.page_store.specs.Bays.{BaySeen, missing, home, out, bay_at}
@@ -729,13 +729,13 @@ module _ (s : StoreSeen) (f : FlightSeen) (own : ℕ) (sound : IsSoundStore s) (
       (begins-copied (without_snapshot s own) f own mid.sound (e ∙ ap (λ (k : ℕ). Some k) same) found unlisted mid.single there writes origin bytes))
 
 -- what the parts make of the store
-rest_none : (free cached : List ℕ) → first_of free cached ≡ None → (rest_free free ≡ free) × (rest_cached free cached ≡ cached)
+rest_none : (free cached : List ℕ) → first_listed free cached ≡ None → (rest_free free ≡ free) × (rest_cached free cached ≡ cached)
 rest_none [] [] h = (refl, refl)
 rest_none [] (x ∷ xs) h = absurd (cc)
 rest_none (x ∷ xs) cached h = absurd (cc)
 
 pushed_so : (core : CoreSeen) (names : List (Option PageName)) (lists : ListsSeen) (rows : List Row) (clock : ClockSeen) (bays : List BaySeen) (order : List ℕ) (own frame seat number : ℕ) (next : Option ℕ)
-    → first_of lists.free lists.cached ≡ next → option_or next (Some own) ≡ Some frame
+    → first_listed lists.free lists.cached ≡ next → option_or next (Some own) ≡ Some frame
     → store_of (record core { frames = set core.frames frame None }) (names_taken next names) (record lists { free = rest_free lists.free; cached = rest_cached lists.free lists.cached }) (rows_pushed next rows own seat) clock (set bays number (out seat)) order
     ≡ with_push_begun (store_of core names lists rows clock bays order) own next seat number
 pushed_so core names lists rows clock bays order own frame seat number None e q =
@@ -749,13 +749,13 @@ pushed_so core names lists rows clock bays order own frame seat number (Some tak
     ap (λ (k : ℕ). store_of (record core { frames = set core.frames k None }) (set names taken None) (record lists { free = rest_free lists.free; cached = rest_cached lists.free lists.cached }) (rows_paired rows own taken seat) clock (set bays number (out seat)) order) (sym same)
 
 pub pushed-parts : (core core' : CoreSeen) (names names' : List (Option PageName)) (lists lists' : ListsSeen) (rows mid rows' : List Row) (clock : ClockSeen) (bays bays' : List BaySeen) (order : List ℕ) (own frame seat number : ℕ)
-    → option_or (first_of lists.free lists.cached) (Some own) ≡ Some frame
+    → option_or (first_listed lists.free lists.cached) (Some own) ≡ Some frame
     → mid ≡ rows_forsaken rows own
-    → core' ≡ record core { frames = set core.frames frame None } → names' ≡ names_taken (first_of lists.free lists.cached) names
-    → lists' ≡ record lists { free = rest_free lists.free; cached = rest_cached lists.free lists.cached } → rows' ≡ rows_pushed (first_of lists.free lists.cached) mid own seat → bays' ≡ set bays number (out seat)
-    → store_of core' names' lists' rows' clock bays' order ≡ with_push_begun (without_snapshot (store_of core names lists rows clock bays order) own) own (first_of lists.free lists.cached) seat number
+    → core' ≡ record core { frames = set core.frames frame None } → names' ≡ names_taken (first_listed lists.free lists.cached) names
+    → lists' ≡ record lists { free = rest_free lists.free; cached = rest_cached lists.free lists.cached } → rows' ≡ rows_pushed (first_listed lists.free lists.cached) mid own seat → bays' ≡ set bays number (out seat)
+    → store_of core' names' lists' rows' clock bays' order ≡ with_push_begun (without_snapshot (store_of core names lists rows clock bays order) own) own (first_listed lists.free lists.cached) seat number
 pushed-parts core core' names names' lists lists' rows mid rows' clock bays bays' order own frame seat number q m a b c d e =
-    rw (a, b, c, d, e, m) (pushed_so core names lists (rows_forsaken rows own) clock bays order own frame seat number (first_of lists.free lists.cached) refl q)
+    rw (a, b, c, d, e, m) (pushed_so core names lists (rows_forsaken rows own) clock bays order own frame seat number (first_listed lists.free lists.cached) refl q)
 
 -- the frame that is taken next is another one than that of a page on no list, and both are there
 pub taken-others : (s : StoreSeen) (own at : ℕ) → IsSoundStore s → (IsListedFrame s own → ⊥) → next_frame s ≡ Some at → (IsSome (bytes_at s.frames at)) × (own ≢ at) × (at < length s.names) × (at < length s.rows)

@@ -12,7 +12,7 @@ use Rattle.page_store.specs.Notes.{Notes}
 use Rattle.page_store.specs.Seen.{StoreSeen, IsSoundStore, residence, residence_in, residence_of}
 use Rattle.page_store.specs.Table.{Table}
 use Rattle.page_store.specs.Value.{value}
-use Rattle.page_lists.specs.ListsSeen.{first_of}
+use Rattle.page_lists.specs.ListsSeen.{first_listed}
 use Rattle.page_store.specs.Waits.{IsVictim, ChoosesPage}
 use Rattle.page_store.specs.declared.residence.Residence.TheVariants.{Home, Absent}
 
@@ -103,12 +103,12 @@ pub residence-home : (s : StoreSeen) (page : PageName) (frame : ℕ) → AreDist
 residence-home s page frame distinct h there = rw (find-some s.names page frame distinct h) (some_home (bytes_at s.frames frame) (row_at s.rows frame).holder frame there)
 
 -- a frame can be had exactly where one of the lists has one
-pub available-forth : (free cached : List ℕ) → (free ≢ []) ⊎ (cached ≢ []) → IsSome (first_of free cached)
+pub available-forth : (free cached : List ℕ) → (free ≢ []) ⊎ (cached ≢ []) → IsSome (first_listed free cached)
 available-forth [] [] h = elim h [ inl a ↦ absurd (a refl) | inr b ↦ absurd (b refl) ]
 available-forth [] (x ∷ xs) h = refl
 available-forth (x ∷ xs) cached h = refl
 
-pub available-back : (free cached : List ℕ) → IsSome (first_of free cached) → (free ≢ []) ⊎ (cached ≢ [])
+pub available-back : (free cached : List ℕ) → IsSome (first_listed free cached) → (free ≢ []) ⊎ (cached ≢ [])
 available-back [] [] h = let z : false ≡ true = h in cc
 available-back [] (x ∷ xs) h = inr (λ q. cc)
 available-back (x ∷ xs) cached h = inl (λ q. cc)

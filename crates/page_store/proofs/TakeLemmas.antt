@@ -1,32 +1,32 @@
 -- The first of the lists is taken.
 use Rattle.std.proofs.Common.{◌≡◌, ◌≢◌, ℕ, ◌⊎◌, inl, inr, List, [], ◌∷◌, Some, sym, ◌∙◌, subst}
 use Rattle.std.specs.Prelude.{◌↔◌, Contains}
-use Rattle.page_lists.specs.ListsSeen.{IsOnce, AreApart, first_of}
+use Rattle.page_lists.specs.ListsSeen.{IsOnce, AreApart, first_listed}
 use Rattle.page_lists.proofs.ListLemmas.{Contains-none, Contains-first, Contains-rest, Contains-cases}
 use Rattle.page_store.specs.Steps.{rest_free, rest_cached}
 
 -- the frame that is taken was on one of the lists
-pub first-listed : (free cached : List ℕ) (f : ℕ) → first_of free cached ≡ Some f → Contains free f ⊎ Contains cached f
+pub first-listed : (free cached : List ℕ) (f : ℕ) → first_listed free cached ≡ Some f → Contains free f ⊎ Contains cached f
 first-listed [] [] f h = absurd (cc)
 first-listed [] (x ∷ xs) f h = inr (Contains-first x f xs (cc))
 first-listed (x ∷ xs) cached f h = inl (Contains-first x f xs (cc))
 
 -- every other frame is on the lists as before
-pub rest-free : (free cached : List ℕ) (f : ℕ) → first_of free cached ≡ Some f → (k : ℕ) → k ≢ f → Contains (rest_free free) k ↔ Contains free k
+pub rest-free : (free cached : List ℕ) (f : ℕ) → first_listed free cached ≡ Some f → (k : ℕ) → k ≢ f → Contains (rest_free free) k ↔ Contains free k
 rest-free [] cached f h k ne = (λ a. a, λ a. a)
 rest-free (x ∷ xs) cached f h k ne = let q : x ≡ f = cc in (λ a. Contains-rest x k xs a, λ a. elim (Contains-cases x k xs a) [ inl e ↦ absurd (ne (sym e ∙ q)) | inr b ↦ b ])
 
-pub rest-cached : (free cached : List ℕ) (f : ℕ) → first_of free cached ≡ Some f → (k : ℕ) → k ≢ f → Contains (rest_cached free cached) k ↔ Contains cached k
+pub rest-cached : (free cached : List ℕ) (f : ℕ) → first_listed free cached ≡ Some f → (k : ℕ) → k ≢ f → Contains (rest_cached free cached) k ↔ Contains cached k
 rest-cached [] [] f h k ne = (λ a. a, λ a. a)
 rest-cached [] (x ∷ xs) f h k ne = let q : x ≡ f = cc in (λ a. Contains-rest x k xs a, λ a. elim (Contains-cases x k xs a) [ inl e ↦ absurd (ne (sym e ∙ q)) | inr b ↦ b ])
 rest-cached (x ∷ xs) cached f h k ne = (λ a. a, λ a. a)
 
 -- the frame that is taken is on neither
-pub gone-free : (free cached : List ℕ) (f : ℕ) → first_of free cached ≡ Some f → IsOnce free → Contains (rest_free free) f → ⊥
+pub gone-free : (free cached : List ℕ) (f : ℕ) → first_listed free cached ≡ Some f → IsOnce free → Contains (rest_free free) f → ⊥
 gone-free [] cached f h once a = Contains-none f a
 gone-free (x ∷ xs) cached f h once a = let q : x ≡ f = cc in once.0 (subst (λ (k : ℕ). Contains xs k) (sym q) a)
 
-pub gone-cached : (free cached : List ℕ) (f : ℕ) → first_of free cached ≡ Some f → IsOnce cached → ((k : ℕ) → Contains free k → Contains cached k → ⊥) → Contains (rest_cached free cached) f → ⊥
+pub gone-cached : (free cached : List ℕ) (f : ℕ) → first_listed free cached ≡ Some f → IsOnce cached → ((k : ℕ) → Contains free k → Contains cached k → ⊥) → Contains (rest_cached free cached) f → ⊥
 gone-cached [] [] f h once apart a = Contains-none f a
 gone-cached [] (x ∷ xs) f h once apart a = let q : x ≡ f = cc in once.0 (subst (λ (k : ℕ). Contains xs k) (sym q) a)
 gone-cached (x ∷ xs) cached f h once apart a = let q : x ≡ f = cc in apart f (Contains-first x f xs q) a

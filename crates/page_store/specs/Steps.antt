@@ -3,7 +3,7 @@ use Rattle.std.specs.Prelude.{ℕ, ◌++◌, ◌||◌, [], ◌∷◌, Bool, true
 use Rattle.core_arena.specs.Bytes.{bytes_at, bytes_with_piece}
 use Rattle.page_hash.specs.Names.{name_at, find}
 use Rattle.page_hash.specs.declared.PageName.{PageName}
-use Rattle.page_lists.specs.ListsSeen.{first_of, without_frame}
+use Rattle.page_lists.specs.ListsSeen.{first_listed, without_frame}
 use Rattle.page_lock.specs.Rows.{row_at, clear_row, with_bits}
 use Rattle.page_lock.specs.declared.Row.{Row}
 use Rattle.page_store.specs.Bays.{home, out}
@@ -13,7 +13,7 @@ use Rattle.page_store.specs.Seen.{StoreSeen}
 
 -- the frame that is taken next
 abbrev pub next_frame : StoreSeen → Option ℕ
-next_frame s = first_of s.free s.cached
+next_frame s = first_listed s.free s.cached
 
 -- what a frame holds, if there is a frame
 abbrev pub name_in : List (Option PageName) → Option ℕ → Option PageName

@@ -2,7 +2,7 @@
 ghost use Rattle.std.specs.Prelude.{◌≡◌, ◌≢◌, ℕ, ◌<◌, true, false, length, Some, None, IsSome, slice_set};
 ghost use Rattle.core_arena.specs.Bytes.{bytes_at, zeros};
 ghost use Rattle.page_hash.specs.Names.{find, AreDistinct};
-ghost use Rattle.page_lists.specs.ListsSeen.{AreApart, first_of};
+ghost use Rattle.page_lists.specs.ListsSeen.{AreApart, first_listed};
 ghost use Rattle.page_lock.specs.Rows.{row_at, clear_row};
 ghost use Rattle.page_store.specs.Parts.{rows_paired, rows_parted, rows_forsaken};
 ghost use Rattle.page_store.specs.Steps.{rest_free, rest_cached, fresh_row, held_row};
@@ -14,8 +14,8 @@ use page_lock::{PageLocks, Row};
 
 /// Takes the first free frame, or where none is free the first cached one.
 pub(crate) fn take_frame(lists: &mut PageLists) -> u32
-    requires { IsSome (first_of lists.old.free lists.old.cached) }
-    ensures frame { first_of lists.old.free lists.old.cached ≡ Some result }
+    requires { IsSome (first_listed lists.old.free lists.old.cached) }
+    ensures frame { first_listed lists.old.free lists.old.cached ≡ Some result }
     ensures rest { lists.new ≡ record lists.old
         { free = rest_free lists.old.free; cached = rest_cached lists.old.free lists.old.cached } }
     ensures apart { AreApart lists.new }

@@ -86,7 +86,7 @@ impl<D: Disk> Store<D> {
         ensures next { result ≡ next_frame self.now }
         ensures within { IfSome result (λ frame. frame < length self.now.frames) }
     {
-        self.lists.next()
+        self.lists.first_listed()
     }
 
     /// The name that this frame holds, if it holds one: whoever takes the frame takes it from this page. Constant time.

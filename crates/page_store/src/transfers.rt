@@ -5,7 +5,7 @@ ghost use Rattle.block_device.specs.DiskSeen.{DiskSeen};
 ghost use Rattle.core_arena.specs.Bytes.{bytes_at};
 ghost use Rattle.page_hash.specs.Names.{find};
 ghost use Rattle.page_hash.specs.declared.PageName.{PageName};
-ghost use Rattle.page_lists.specs.ListsSeen.{first_of};
+ghost use Rattle.page_lists.specs.ListsSeen.{first_listed};
 ghost use Rattle.page_lock.specs.Rows.{row_at};
 ghost use Rattle.page_store.specs.Bays.{bay_at, home};
 ghost use Rattle.page_store.specs.Flight.{Begins};
@@ -159,25 +159,26 @@ fn take_out(
     requires home { IsSome (bytes_at core.old.frames own) }
     requires unheld { (row_at locks.old own).holder ≡ None }
     requires within { own < length locks.old }
-    requires others { (at : ℕ) → first_of lists.old.free lists.old.cached ≡ Some at
+    requires others { (at : ℕ) → first_listed lists.old.free lists.old.cached ≡ Some at
         → IsSome (bytes_at core.old.frames at) × (own ≢ at) × (at < length names.old)
         × (at < length locks.old) }
     ensures origin { result.origin ≡ core.old.origin }
-    ensures number { option_or (first_of lists.old.free lists.old.cached) (Some own)
+    ensures number { option_or (first_listed lists.old.free lists.old.cached) (Some own)
         ≡ Some result.number }
     ensures bytes { bytes_at core.old.frames own ≡ Some result.bytes }
     ensures core { core.new ≡ record core.old
         { frames = slice_set core.old.frames result.number None } }
     // The name that the taken frame held is gone, and the snapshot is paired with its page.
-    ensures names { names.new ≡ names_taken (first_of lists.old.free lists.old.cached) names.old }
+    ensures names { names.new
+        ≡ names_taken (first_listed lists.old.free lists.old.cached) names.old }
     ensures lists { lists.new ≡ record lists.old {
       free = rest_free lists.old.free;
       cached = rest_cached lists.old.free lists.old.cached;
     } }
     ensures locks { locks.new ≡ rows_pushed
-        (first_of lists.old.free lists.old.cached) locks.old own seat }
+        (first_listed lists.old.free lists.old.cached) locks.old own seat }
 {
-    match lists.next() {
+    match lists.first_listed() {
         None => {
             locks.lock(own, seat);
             core.take(own)

@@ -6,7 +6,7 @@ use Rattle.std.proofs.lemmas.List.Elements.{Contains-push_cases}
 use Rattle.core_arena.specs.Bytes.{bytes_at}
 use Rattle.page_hash.specs.Names.{name_at}
 use Rattle.page_hash.specs.declared.PageName.{PageName}
-use Rattle.page_lists.specs.ListsSeen.{first_of}
+use Rattle.page_lists.specs.ListsSeen.{first_listed}
 use Rattle.page_lists.proofs.ListLemmas.{Contains-none}
 use Rattle.page_lock.specs.Rows.{row_at}
 use Rattle.page_lock.specs.declared.Row.{Row}
@@ -138,7 +138,7 @@ evict-keeps w spaces new hat frame f clear unwritten there places frames single 
     (λ notes nf. laws.values notes (world_table w) nf.stored (λ n name. clean-page w notes frame n nf (not-modified w.store w.hat.places frame clear unwritten) name there))
 
 -- a frame can be had after one was put on the cache list
-pub some-room : (free cached : List ℕ) (frame : ℕ) → IsSome (first_of free (cached ++ frame ∷ []))
+pub some-room : (free cached : List ℕ) (frame : ℕ) → IsSome (first_listed free (cached ++ frame ∷ []))
 some-room [] [] frame = refl
 some-room [] (x ∷ xs) frame = refl
 some-room (x ∷ xs) cached frame = refl
@@ -146,11 +146,11 @@ some-room (x ∷ xs) cached frame = refl
 no-room : (s : StoreSeen) → next_frame s ≡ None → (k : ℕ) → ¬ IsListedFrame s k
 no-room s none k l = elim l [ inl h ↦ by_free s.free s.cached none h | inr h ↦ by_cached s.free s.cached none h ]
   where
-    by_free : (free cached : List ℕ) → first_of free cached ≡ None → Contains free k → ⊥
+    by_free : (free cached : List ℕ) → first_listed free cached ≡ None → Contains free k → ⊥
     by_free [] cached e h = Contains-none k h
     by_free (x ∷ xs) cached e h = absurd (cc)
 
-    by_cached : (free cached : List ℕ) → first_of free cached ≡ None → Contains cached k → ⊥
+    by_cached : (free cached : List ℕ) → first_listed free cached ≡ None → Contains cached k → ⊥
     by_cached [] [] e h = Contains-none k h
     by_cached [] (x ∷ xs) e h = absurd (cc)
     by_cached (x ∷ xs) cached e h = absurd (cc)

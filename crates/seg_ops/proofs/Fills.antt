@@ -7,7 +7,7 @@ use Rattle.core_arena.specs.Bytes.{bytes_at, zeros}
 use Rattle.page_hash.specs.Names.{name_at, find}
 use Rattle.page_hash.specs.declared.PageName.{PageName}
 use Rattle.page_hash.proofs.NameLaws.{find-at, find-none}
-use Rattle.page_lists.specs.ListsSeen.{first_of}
+use Rattle.page_lists.specs.ListsSeen.{first_listed}
 use Rattle.page_lists.proofs.ListLemmas.{Contains-first}
 use Rattle.page_lock.specs.Rows.{row_at}
 use Rattle.page_lock.specs.declared.Row.{Row}
@@ -53,7 +53,7 @@ pub record TakesFor (old new : StoreSeen) (name : PageName) (frame : ℕ) : Type
 pub next-listed : (s : StoreSeen) (frame : ℕ) → next_frame s ≡ Some frame → IsListedFrame s frame
 next-listed s frame e = by_lists s.free s.cached e
   where
-    by_lists : (free cached : List ℕ) → first_of free cached ≡ Some frame → Contains free frame ⊎ Contains cached frame
+    by_lists : (free cached : List ℕ) → first_listed free cached ≡ Some frame → Contains free frame ⊎ Contains cached frame
     by_lists [] [] e = absurd (cc)
     by_lists [] (x ∷ xs) e = inr (Contains-first x frame xs (let z : Some x ≡ Some frame = e in cc))
     by_lists (x ∷ xs) cached e = inl (Contains-first x frame xs (let z : Some x ≡ Some frame = e in cc))

@@ -7,7 +7,7 @@ use Rattle.core_arena.specs.Bytes.{bytes_at}
 use Rattle.page_hash.specs.Names.{name_at, find, is_name}
 use Rattle.page_hash.specs.declared.PageName.{PageName}
 use Rattle.page_hash.proofs.NameLaws.{find-some, is_name-true, is_name-same}
-use Rattle.page_lists.specs.ListsSeen.{first_of, without_frame}
+use Rattle.page_lists.specs.ListsSeen.{first_listed, without_frame}
 use Rattle.page_lists.proofs.ListLemmas.{Contains-first}
 use Rattle.page_lock.specs.Rows.{row_at, clear_row}
 use Rattle.page_lock.specs.declared.Row.{Row}
@@ -258,10 +258,10 @@ frees-step w spaces new n frame f k =
 pub frees-first : (w : World) (spaces : Spaces) (new : StoreSeen) (n : PageName) (frame : ℕ) → MemoryFits (memory_of w spaces) → Frees w.store new n frame → next_frame new ≡ Some frame
 frees-first w spaces new n frame f k = ap next_frame k.done ∙ by_free w.store.free refl
   where
-    by_free : (xs : List ℕ) → w.store.free ≡ xs → first_of (xs ++ frame ∷ []) (without_frame w.store.cached frame) ≡ Some frame
+    by_free : (xs : List ℕ) → w.store.free ≡ xs → first_listed (xs ++ frame ∷ []) (without_frame w.store.cached frame) ≡ Some frame
     by_free [] e = refl
     by_free (x ∷ xs) e = absurd (
-        let first : x ≡ frame = let z : Some x ≡ Some frame = sym (ap (λ (l : List ℕ). first_of l w.store.cached) e) ∙ k.next in cc in
+        let first : x ≡ frame = let z : Some x ≡ Some frame = sym (ap (λ (l : List ℕ). first_listed l w.store.cached) e) ∙ k.next in cc in
         let free : Contains w.store.free frame = subst (λ (l : List ℕ). Contains l frame) (sym e) (Contains-first x frame xs first) in
         let z : Some n ≡ None = sym k.named ∙ f.frames.sound.unnamed frame free in cc)
 

@@ -6,4 +6,4 @@ use Rattle.std.proofs.Common.{subst}
 use Rattle.page_store.proofs.store.Store.next_frame.Goals as goal
 
 pub returns-clause-within : goal.returns-clause-within
-returns-clause-within g c = next-within c.args.self.now _ (subst IsSoundStore c.self.view_is c.self.invariant.sound) (c.next.ensures.next ∙ ap next_frame c.self.view_is)
+returns-clause-within g c = next-within c.args.self.now _ (subst IsSoundStore c.self.view_is c.self.invariant.sound) (c.first_listed.ensures.next ∙ ap next_frame c.self.view_is)
