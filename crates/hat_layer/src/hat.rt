@@ -239,7 +239,7 @@ impl Hat {
 
     /// Notes an access, and answers the frame that it goes to: where the page has a translation that
     /// lets it, for a store a writable one. None exactly otherwise. Constant expected time: one look.
-    pub fn access(&mut self, space: u32, page: u32, write: bool) -> Option<u32>
+    pub fn frame_for(&mut self, space: u32, page: u32, write: bool) -> Option<u32>
         ensures frame { result ≡ frame_for self.old.places space page write }
         // It is noted, ..
         ensures places { IfSome result (λ _frame. self.new.places
@@ -275,7 +275,7 @@ impl Hat {
         ensures frames { self.new.frames ≡ self.old.frames }
         ensures distinct { IsSingleValued self.new.places }
     {
-        let _frame = self.access(space, page, write);
+        let _frame = self.frame_for(space, page, write);
     }
 
     /// Drops a page's translation, and tells it. None exactly where it isn't loaded.

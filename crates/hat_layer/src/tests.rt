@@ -95,12 +95,12 @@ fn an_access_is_let_or_nothing_is_noted(rt: HostRuntime) -> Result<(), Fail> {
     let mut hat = Hat::new(rt.alloc(), 4, 4)?;
     loads(&rt, &mut hat, (1, 7), 0, true, None);
     loads(&rt, &mut hat, (1, 8), 2, false, None);
-    assert_eq!(rt; hat.access(1, 9, false), None);
-    assert_eq!(rt; hat.access(1, 8, true), None);
+    assert_eq!(rt; hat.frame_for(1, 9, false), None);
+    assert_eq!(rt; hat.frame_for(1, 8, true), None);
     assert_eq!(rt; hat.page_sync(2), (false, false));
-    assert_eq!(rt; hat.access(1, 8, false), Some(2));
+    assert_eq!(rt; hat.frame_for(1, 8, false), Some(2));
     assert_eq!(rt; hat.page_sync(2), (true, false));
-    assert_eq!(rt; hat.access(1, 7, true), Some(0));
+    assert_eq!(rt; hat.frame_for(1, 7, true), Some(0));
     assert_eq!(rt; hat.page_sync(0), (true, true));
     Ok(())
 }

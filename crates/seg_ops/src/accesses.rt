@@ -30,7 +30,7 @@ pub fn note<D: Disk>(world: &mut World<D>, space: u32, page: u32, write: bool) -
         → MemoryFits (record { world = world_seen world.old; spaces = spaces })
         → KeepsPages (world_seen world.old) (world_seen world.new) spaces }
 {
-    world.hat.access(space, page, write)
+    world.hat.frame_for(space, page, write)
 }
 
 /// The word at an address of a load that was noted, in the frame that the load goes to. Constant expected time.

@@ -4,8 +4,8 @@ use Rattle.hat_layer.specs.declared.translation.Translation.{Translation}
 use Rattle.hat_layer.specs.Pool.{Pool, frame_let, frame_for, after_access, change_at, translation_at, IsSingleValued}
 use Rattle.hat_layer.proofs.HatLemmas.{at-none, at-held, changes-held}
 use Rattle.hat_layer.proofs.MapLaws.{at-change_at, noted-access}
-use Rattle.hat_layer.proofs.hat.Hat.access.Goals.{After-lets_access}
-use Rattle.hat_layer.proofs.hat.Hat.access.Goals as goal
+use Rattle.hat_layer.proofs.hat.Hat.frame_for.Goals.{After-lets_access}
+use Rattle.hat_layer.proofs.hat.Hat.frame_for.Goals as goal
 
 pub returns-in_err-place-clause-frame : goal.returns-in_err-place-clause-frame
 returns-in_err-place-clause-frame c =
