@@ -3,7 +3,7 @@ ghost use Rattle.std.specs.Prelude.{◌≡◌, ◌≢◌, ◌↔◌, ℕ, ◌+�
 ghost use Rattle.hat_layer.specs.Pool.{Pool, IsSingleValued, IsNoted, SomeHas, is_of, holds, frame_of, frame_for, translation_at, told_of, fresh_translation, lets_access, after_access, without_write, with_clear_bits, change_page, drop_page, change_lead, drop_lead, change_at, drop_at, change_frame, drop_frame, bits_of, dropped_by_load, hand_after};
 ghost use Rattle.hat_layer.specs.Free.{IsSoundHat, TakesPlace, countdown};
 
-use crate::table::Table;
+use crate::table::TranslationTable;
 use crate::translation::{Dropped, Translation};
 use std::alloc::{AllocError, Global};
 use std::marker::Model;
@@ -15,7 +15,7 @@ use std::marker::Model;
 /// frames. No call but `new` takes memory.
 #[derive(Drop)]
 pub struct Hat {
-    table: Table,
+    table: TranslationTable,
     free: Vec<u32>,
     hand: u32,
     pool: u32,
@@ -37,7 +37,7 @@ impl Model for Hat {
 // The place that a load takes: that of the same page, else a free one, else the one at the hand,
 // which moves on.
 fn choose(
-    table: &Table,
+    table: &TranslationTable,
     free: &mut Vec<u32>,
     hand: &mut u32,
     pool: u32,
@@ -75,7 +75,7 @@ fn turn(hand: &mut u32, pool: u32) -> u32
 }
 
 // Puts a translation into a place, whatever the place has, and answers what it had.
-fn replace(table: &mut Table, place: u32, new: Translation) -> Option<Translation>
+fn replace(table: &mut TranslationTable, place: u32, new: Translation) -> Option<Translation>
     requires place { place < length table.old.places }
     requires frame { new.frame < table.old.frames }
     requires apart { (k : ℕ) → k ≢ place
@@ -100,7 +100,13 @@ fn replace(table: &mut Table, place: u32, new: Translation) -> Option<Translatio
 }
 
 // Takes the translation out of a place, which is free then.
-fn release(table: &mut Table, free: &mut Vec<u32>, hand: u32, place: u32, old: Translation)
+fn release(
+    table: &mut TranslationTable,
+    free: &mut Vec<u32>,
+    hand: u32,
+    place: u32,
+    old: Translation,
+)
     requires fits { IsSoundHat table.old.places free.old.items (vec_capacity free.old) hand }
     requires old { slice_index_or table.old.places place None ≡ Some old }
     // What it leaves.
@@ -172,7 +178,7 @@ impl Hat {
         ensures frames { IfOk result (λ h. h.frames ≡ frames) }
         ensures distinct { IfOk result (λ h. IsSingleValued h.places) }
     {
-        let table = Table::new(alloc, pool, frames)?;
+        let table = TranslationTable::new(alloc, pool, frames)?;
         let free = all_free(alloc, pool)?;
         Ok(Hat {
             table,
@@ -351,7 +357,12 @@ impl Hat {
 }
 
 // Drops the translations of a frame one by one.
-fn unload_all(table: &mut Table, free: &mut Vec<u32>, hand: u32, frame: u32) -> (bool, bool)
+fn unload_all(
+    table: &mut TranslationTable,
+    free: &mut Vec<u32>,
+    hand: u32,
+    frame: u32,
+) -> (bool, bool)
     requires fits { IsSoundHat table.old.places free.old.items (vec_capacity free.old) hand }
     requires frame { frame < table.old.frames }
     ensures fits { IsSoundHat table.new.places free.new.items (vec_capacity free.new) hand }

@@ -11,14 +11,14 @@ use std::marker::Model;
 
 /// Places with translations, each on the chain of its page's slot and on that of its frame.
 #[derive(Drop)]
-pub struct Table {
+pub struct TranslationTable {
     cells: Vec<Option<Translation>>,
     by_page: Chains,
     by_frame: Chains,
     slots: u32,
 }
 
-impl Model for Table {
+impl Model for TranslationTable {
     ghost use Rattle.std.specs.Prelude.{length};
     ghost use Rattle.hat_layer.specs.Table.{Rows, IsSoundTable};
 
@@ -50,14 +50,14 @@ fn holds(cell: Option<Translation>, space: u32, page: u32) -> bool
     }
 }
 
-impl Table {
+impl TranslationTable {
     /// That many empty places, for translations to frames below this number.
-    pub fn new(alloc: Global, places: u32, frames: u32) -> Result<Table, AllocError>
+    pub fn new(alloc: Global, places: u32, frames: u32) -> Result<TranslationTable, AllocError>
         requires { 0 < places }
         ensures places { IfOk result (λ t. t.places ≡ replicate places None) }
         ensures frames { IfOk result (λ t. t.frames ≡ frames) }
     {
-        Ok(Table {
+        Ok(TranslationTable {
             cells: vec![in alloc; None; places as usize]?,
             by_page: Chains::new(alloc, places, places)?,
             by_frame: Chains::new(alloc, frames, places)?,

@@ -1,7 +1,7 @@
 use Rattle.std.proofs.Common.{rules, ◌≡◌, None}
 use Rattle.std.specs.Prelude.{replicate}
 use Rattle.hat_layer.proofs.TableLemmas.{new-table}
-use Rattle.hat_layer.proofs.table.Table.new.Goals as goal
+use Rattle.hat_layer.proofs.table.TranslationTable.new.Goals as goal
 
 pub invariant_of-result : goal.invariant_of-result
 invariant_of-result c =

@@ -1,5 +1,5 @@
 use Rattle.hat_layer.proofs.TableLemmas.{clear-table}
-use Rattle.hat_layer.proofs.table.Table.clear_bits.Goals as goal
+use Rattle.hat_layer.proofs.table.TranslationTable.clear_bits.Goals as goal
 
 pub invariant_of-self : goal.invariant_of-self
 invariant_of-self c =

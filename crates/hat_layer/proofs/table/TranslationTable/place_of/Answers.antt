@@ -6,8 +6,8 @@ use Rattle.hat_layer.specs.declared.translation.Translation.{Translation}
 use Rattle.hat_layer.specs.Pool.{holds}
 use Rattle.hat_layer.specs.Table.{Rows, FindsPlace}
 use Rattle.hat_layer.proofs.TableLemmas.{slot-within}
-use Rattle.hat_layer.proofs.table.Table.place_of.Goals.{In-Some, After-holds}
-use Rattle.hat_layer.proofs.table.Table.place_of.Goals as goal
+use Rattle.hat_layer.proofs.table.TranslationTable.place_of.Goals.{In-Some, After-holds}
+use Rattle.hat_layer.proofs.table.TranslationTable.place_of.Goals as goal
 
 pub loop-at-init : goal.loop-at-init
 loop-at-init c = rw c.first-at.ensures.first (hunt-start (chain_at c.self.inside.by_page.order c.slot_of_pair-slot.result) (λ k. holds c.args.space c.args.page (get_or c.self.inside.cells.items k None)))

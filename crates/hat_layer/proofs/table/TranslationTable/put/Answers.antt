@@ -2,8 +2,8 @@ use Rattle.std.proofs.Common.{◌<◌, Some, None, sym, ◌∙◌, ap, subst, se
 use Rattle.hat_layer.specs.Pool.{holds}
 use Rattle.hat_layer.specs.Table.{Rows, IsSoundTable}
 use Rattle.hat_layer.proofs.TableLemmas.{put-table}
-use Rattle.hat_layer.proofs.table.Table.put.Goals.{After-link-2}
-use Rattle.hat_layer.proofs.table.Table.put.Goals as goal
+use Rattle.hat_layer.proofs.table.TranslationTable.put.Goals.{After-link-2}
+use Rattle.hat_layer.proofs.table.TranslationTable.put.Goals as goal
 
 put : (c : After-link-2) → IsSoundTable (set c.self.inside.cells.items c.args.place (Some c.args.new)) c.self.inside.slots c.link.new.self c.link-2.new.self
 put c =

@@ -3,7 +3,7 @@ use Rattle.std.specs.Prelude.{option_map}
 use Rattle.hat_layer.specs.declared.translation.Translation.{Translation}
 use Rattle.hat_layer.specs.Table.{Rows, LeadsToFrame}
 use Rattle.hat_layer.proofs.TableLemmas.{leads-none, leads-some, leads-within}
-use Rattle.hat_layer.proofs.table.Table.first.Goals as goal
+use Rattle.hat_layer.proofs.table.TranslationTable.first.Goals as goal
 
 pub returns-in_err-place-clause-leads : goal.returns-in_err-place-clause-leads
 returns-in_err-place-clause-leads c =

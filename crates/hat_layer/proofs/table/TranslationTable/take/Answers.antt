@@ -1,8 +1,8 @@
 use Rattle.std.proofs.Common.{None, ◌∙◌, ap, set, get_or}
 use Rattle.hat_layer.specs.Table.{Rows, IsSoundTable}
 use Rattle.hat_layer.proofs.TableLemmas.{take-table}
-use Rattle.hat_layer.proofs.table.Table.take.Goals.{After-unlink-2}
-use Rattle.hat_layer.proofs.table.Table.take.Goals as goal
+use Rattle.hat_layer.proofs.table.TranslationTable.take.Goals.{After-unlink-2}
+use Rattle.hat_layer.proofs.table.TranslationTable.take.Goals as goal
 
 taken : (c : After-unlink-2) → IsSoundTable (set c.self.inside.cells.items c.args.place None) c.self.inside.slots c.unlink.new.self c.unlink-2.new.self
 taken c =
