@@ -47,7 +47,7 @@ impl<T> Model for Ranges<T> {
 }
 
 // How many spans at the front begin below the bound.
-fn count_from(spans: &Vec<Span>, bound: u64) -> usize
+fn count_below(spans: &Vec<Span>, bound: u64) -> usize
     requires { SpansRise 1 spans.now.items }
     ensures { result ≡ count_below bound spans.now.items }
 {
@@ -59,7 +59,7 @@ fn place_of(spans: &Vec<Span>, page: u32) -> Option<usize>
     requires { SpansRise 1 spans.now.items }
     ensures { FindsHolder spans.now.items page result }
 {
-    let place = count_from(spans, u64::from(page) + 1).checked_sub(1)?;
+    let place = count_below(spans, u64::from(page) + 1).checked_sub(1)?;
     let span = spans[place];
     if page - span.first < span.pages {
         Some(place)
@@ -73,7 +73,7 @@ fn place_from(spans: &Vec<Span>, page: u32) -> Option<usize>
     requires { SpansRise 1 spans.now.items }
     ensures { FindsFirst spans.now.items page result }
 {
-    let place = count_from(spans, u64::from(page));
+    let place = count_below(spans, u64::from(page));
     if place < spans.len() && spans[place].first == page {
         Some(place)
     } else {
@@ -82,7 +82,7 @@ fn place_from(spans: &Vec<Span>, page: u32) -> Option<usize>
 }
 
 // The room for so many pages behind the last piece, which ends before `low`.
-fn room_from(low: u32, pages: u32) -> Option<u32>
+fn gap_in_spans(low: u32, pages: u32) -> Option<u32>
     requires { low ≤ 0x80000 }
     ensures { result ≡ gap_in_spans low pages [] }
 {
@@ -168,7 +168,7 @@ impl<T> Ranges<T> {
         ensures first { result ≡ next_first self.now.parts page }
         ensures least { FindsNext self.now.parts page result }
     {
-        let place = count_from(&self.spans, u64::from(page));
+        let place = count_below(&self.spans, u64::from(page));
         if place < self.spans.len() {
             Some(self.spans[place].first)
         } else {
@@ -183,7 +183,7 @@ impl<T> Ranges<T> {
     pub fn last(&self, page: u32) -> Option<u32>
         ensures { FindsLast self.now.parts page result }
     {
-        let place = count_from(&self.spans, u64::from(page)).checked_sub(1)?;
+        let place = count_below(&self.spans, u64::from(page)).checked_sub(1)?;
         Some(self.spans[place].first)
     }
 
@@ -203,7 +203,7 @@ impl<T> Ranges<T> {
         ensures ordered { IsInOrder 1 self.new.parts }
         ensures spare { self.new.spare + 1 ≡ self.old.spare }
     {
-        let place = count_from(&self.spans, u64::from(page));
+        let place = count_below(&self.spans, u64::from(page));
         insert_within(&mut self.spans, place, Span { first: page, pages });
         insert_within(&mut self.pieces, place, piece);
         self.total += pages;
@@ -285,6 +285,6 @@ impl<T> Ranges<T> {
             }
             low = span.first + span.pages;
         }
-        room_from(low, pages)
+        gap_in_spans(low, pages)
     }
 }

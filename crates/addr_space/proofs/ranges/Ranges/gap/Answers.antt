@@ -25,6 +25,6 @@ returns-then-pages-span g c =
 pub returns : goal.returns
 returns g c =
     let past = drop_all c.loop-span.span-index c.deref-span-items.result.now c.loop-span-test.false in
-    let found : gap_in_spans 1 c.args.pages c.self.inside.spans.items ≡ c.room_from.result =
+    let found : gap_in_spans 1 c.args.pages c.self.inside.spans.items ≡ c.gap_in_spans.result =
     grind (arith, past) in
     rw (← c.self.view_is) (rw found at (gap-found c.self.invariant.sound c.args.pages))

@@ -5,8 +5,8 @@ use Rattle.addr_space.proofs.PartLemmas.{at-put, ordered-put}
 use Rattle.addr_space.proofs.Totals.{total-put, total-within}
 use Rattle.addr_space.proofs.ranges.Ranges.insert.Goals as goal
 
-pub count_from-place-requires : goal.count_from-place-requires
-count_from-place-requires g c = rising c.self.invariant.sound
+pub count_below-place-requires : goal.count_below-place-requires
+count_below-place-requires g c = rising c.self.invariant.sound
 
 pub insert_within-requires-clause-within : goal.insert_within-requires-clause-within
 insert_within-requires-clause-within g c = grind (arith, count-within c.args.page c.self.inside.spans.items)

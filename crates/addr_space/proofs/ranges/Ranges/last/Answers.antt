@@ -2,8 +2,8 @@ use Rattle.std.proofs.Common.{arith}
 use Rattle.addr_space.proofs.SpanLemmas.{rising, last-none, last-some, count-within}
 use Rattle.addr_space.proofs.ranges.Ranges.last.Goals as goal
 
-pub count_from-requires : goal.count_from-requires
-count_from-requires g c = rising c.self.invariant.sound
+pub count_below-requires : goal.count_below-requires
+count_below-requires g c = rising c.self.invariant.sound
 
 pub returns-in_err-place : goal.returns-in_err-place
 returns-in_err-place g c =

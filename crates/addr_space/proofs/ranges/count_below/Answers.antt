@@ -3,7 +3,7 @@ use Rattle.std.specs.Prelude.{nat_lt}
 use Rattle.std.proofs.lemmas.List.Sorted.{IsPartitionPoint-from_clause}
 use Rattle.addr_space.specs.declared.ranges.Span.{Span}
 use Rattle.addr_space.proofs.SpanLemmas.{count-is, rises}
-use Rattle.addr_space.proofs.ranges.count_from.Goals as goal
+use Rattle.addr_space.proofs.ranges.count_below.Goals as goal
 
 pub returns : goal.returns
 returns c =
