@@ -48,7 +48,7 @@ impl ZeroObjects {
         ensures same { AreSameZeros self.old self.new }
         ensures err { OnErr result (self.new ≡ self.old) }
     {
-        if self.free().is_some() {
+        if self.free_number().is_some() {
             return Ok(());
         }
         if self.maps.len() > u32::MAX as usize {
@@ -64,7 +64,7 @@ impl ZeroObjects {
         ensures number { free_number self.old ≡ Some result }
         ensures new { self.new ≡ slice_set self.old result (Some map) }
     {
-        let Some(number) = self.free() else {
+        let Some(number) = self.free_number() else {
             unreachable!();
         };
         self.maps[number as usize] = Some(map);
@@ -89,7 +89,7 @@ impl ZeroObjects {
     }
 
     // The least number that is free.
-    fn free(&self) -> Option<u32>
+    fn free_number(&self) -> Option<u32>
         ensures { result ≡ free_number self.now }
     {
         for number in 0..self.maps.len() {
