@@ -16,7 +16,7 @@ ghost use Rattle.fault_entry.specs.Reaching.{may_access, ServesAccess};
 use addr_space::Ranges;
 use block_device::Disk;
 use page_store::{Hold, Plan};
-use seg_ops::{Step, note};
+use seg_ops::{Step, frame_for};
 use seg_vn::VnSeg;
 use vm_types::{Prot, Signal};
 use vm_world::World;
@@ -55,7 +55,7 @@ fn noted<D: Disk>(world: &mut World<D>, space: u32, page: u32, write: bool) -> u
         → MemoryFits (record { world = world_seen world.old; spaces = spaces })
         → KeepsPages (world_seen world.old) (world_seen world.new) spaces }
 {
-    let Some(frame) = note(world, space, page, write) else {
+    let Some(frame) = frame_for(world, space, page, write) else {
         unreachable!();
     };
     frame
@@ -104,7 +104,7 @@ pub(crate) fn reach<D: Disk>(
     if !may_access(segment.prot(), write) {
         return Access::Refused(Signal::Prot);
     }
-    if let Some(frame) = note(world, process, page, write) {
+    if let Some(frame) = frame_for(world, process, page, write) {
         return Access::Reached(frame);
     }
     match segment.fault(world, process, first, page, write) {

@@ -16,7 +16,7 @@ use vm_world::World;
 
 /// Notes an access to a page, and answers the frame that it goes to: where the page has a translation that lets it. None
 /// exactly otherwise. Constant expected time: one look for the translation.
-pub fn note<D: Disk>(world: &mut World<D>, space: u32, page: u32, write: bool) -> Option<u32>
+pub fn frame_for<D: Disk>(world: &mut World<D>, space: u32, page: u32, write: bool) -> Option<u32>
     ensures frame { result ≡ frame_for world.old.hat.places space page write }
     // The translation stays, and says that it was used, and written by a store; ..
     ensures places { IfSome result (λ _frame. world.new.hat.places

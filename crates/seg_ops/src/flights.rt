@@ -155,7 +155,7 @@ fn page_of(plan: Plan) -> PageName
 }
 
 /// Where a page that its file keeps lives.
-fn place_in_file(files: &Files, file: u32, page: u32) -> Place
+fn page_place(files: &Files, file: u32, page: u32) -> Place
     requires file { file < length files.now.files }
     requires page { page < page_count (vnode_at files.now file).info.extents }
     ensures { result ≡ page_place (file_blocks (vnode_at files.now file)) page
@@ -172,7 +172,7 @@ fn place_in_file(files: &Files, file: u32, page: u32) -> Place
 }
 
 /// Where a page that exists lives.
-fn place_of<D: Disk>(world: &World<D>, name: PageName) -> Place
+fn world_table<D: Disk>(world: &World<D>, name: PageName) -> Place
     requires exists { IsTrue (page_exists world.now.files world.now.anon name) }
     requires fits { (spaces : Spaces)
         × MemoryFits (record { world = world_seen world.now; spaces = spaces }) }
@@ -182,7 +182,7 @@ fn place_of<D: Disk>(world: &World<D>, name: PageName) -> Place
     ensures valid { result.valid ≤ 4096 }
 {
     if name.object != SWAP_OBJECT {
-        return place_in_file(&world.files, name.object, name.page);
+        return page_place(&world.files, name.object, name.page);
     }
     Place {
         disk: SWAP_DISK,
@@ -220,7 +220,7 @@ fn send<D: Disk>(world: &mut World<D>, seat: u32, plan: Plan) -> Flight<D>
         → WorldStep (world_seen world.old) (world_seen world.new) spaces
         (leaves seat (note_of result)) (is_name (next_name world.old.store)) }
 {
-    let place = place_of(world, page_of(plan));
+    let place = world_table(world, page_of(plan));
     let lost = world.store.next_name();
     let flight = world
         .store

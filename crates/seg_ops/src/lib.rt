@@ -19,7 +19,7 @@ mod rooms;
 mod tables;
 mod tails;
 
-pub use accesses::{note, read, write};
+pub use accesses::{frame_for, read, write};
 pub use anon::{make_copy, make_zero, places_law};
 pub use blank::{fill, fill_page};
 pub use copies::{copy_slot, zero_slot};

@@ -179,7 +179,7 @@ fn try_get(world: &mut World<MemDisk>, addr: u32) -> Told
     if addr % 4 != 0 {
         return Told::No;
     }
-    match note(world, 1, addr / 4096, false) {
+    match frame_for(world, 1, addr / 4096, false) {
         Some(frame) => Told::Word(read(world, frame, addr, 4)),
         None => Told::No,
     }
@@ -192,7 +192,7 @@ fn try_put(world: &mut World<MemDisk>, addr: u32, value: u32) -> Told
     if addr % 4 != 0 {
         return Told::No;
     }
-    match note(world, 1, addr / 4096, true) {
+    match frame_for(world, 1, addr / 4096, true) {
         Some(frame) => {
             write(world, frame, addr, 4, value);
             Told::Yes

@@ -45,44 +45,44 @@ returns-then-not-may_access-clause-serves g c = λ spaces fits get.
 pub fault-requires-clause-low : goal.fault-requires-clause-low
 fault-requires-clause-low g c = found-low c.args.space.now.parts (page c.args.addr) (part c.in-Some.first c.in-Some._pages c.in-Some.segment.now) c.in-Some.ensures.found
 
-pub returns-in-Some-note-clause-serves : goal.returns-in-Some-note-clause-serves
-returns-in-Some-note-clause-serves g c = λ spaces fits get.
-    let at = (goal.at.returns-in-Some-note-clause-serves g c).After-may_access in
+pub returns-in-Some-frame_for-clause-serves : goal.returns-in-Some-frame_for-clause-serves
+returns-in-Some-frame_for-clause-serves g c = λ spaces fits get.
+    let at = (goal.at.returns-in-Some-frame_for-clause-serves g c).After-may_access in
     let old = world_seen c.args.world.now in
-    let new = world_seen c.note.new.world in
-    let pending : c.note.new.world.pending ≡ c.args.world.now.pending = ap (λ v. v.pending) c.note.ensures.rest in
-    subst (λ (k : ℕ). ServesAccess (memory_of old spaces) (memory_of new spaces) c.args.world.now.pending k c.args.process c.args.addr c.args.size c.args.write (access.Reached c.in-Some-note.frame)) (sym pending)
-    (hit-access old spaces c.args.world.now.pending c.args.process c.args.addr c.args.size c.args.write fits new (spot g at) c.in-Some-note.frame c.if-addr-size-ne0.false
-    (here g at spaces get) (sym (allowed g at) ∙ c.if-not-may_access.false) (c.note.ensures.keeps spaces fits) (ap (λ v. v.anon) c.note.ensures.rest) (ap (λ v. v.maps) c.note.ensures.rest) c.in-Some-note.ensures.noted)
+    let new = world_seen c.frame_for.new.world in
+    let pending : c.frame_for.new.world.pending ≡ c.args.world.now.pending = ap (λ v. v.pending) c.frame_for.ensures.rest in
+    subst (λ (k : ℕ). ServesAccess (memory_of old spaces) (memory_of new spaces) c.args.world.now.pending k c.args.process c.args.addr c.args.size c.args.write (access.Reached c.in-Some-frame_for.frame)) (sym pending)
+    (hit-access old spaces c.args.world.now.pending c.args.process c.args.addr c.args.size c.args.write fits new (spot g at) c.in-Some-frame_for.frame c.if-addr-size-ne0.false
+    (here g at spaces get) (sym (allowed g at) ∙ c.if-not-may_access.false) (c.frame_for.ensures.keeps spaces fits) (ap (λ v. v.anon) c.frame_for.ensures.rest) (ap (λ v. v.maps) c.frame_for.ensures.rest) c.in-Some-frame_for.ensures.noted)
 
 pub fault-requires-clause-home : goal.fault-requires-clause-home
 fault-requires-clause-home g c = λ beside.
     let h = c.requires.home beside in
-    (h.0, h.1, subst (λ (frames : List (Option (List ℕ))). IsSome (bytes_at frames h.0)) (sym (ap (λ v. v.store.frames) c.note.ensures.rest)) h.2)
+    (h.0, h.1, subst (λ (frames : List (Option (List ℕ))). IsSome (bytes_at frames h.0)) (sym (ap (λ v. v.store.frames) c.frame_for.ensures.rest)) h.2)
 
 pub fault-requires-clause-fits : goal.fault-requires-clause-fits
 fault-requires-clause-fits g c =
     let at = (goal.at.fault-requires-clause-fits g c).After-may_access in
-    (c.requires.fits.0, (c.note.ensures.keeps c.requires.fits.0 c.requires.fits.1).memory, here g at c.requires.fits.0 c.requires.fits.2)
+    (c.requires.fits.0, (c.frame_for.ensures.keeps c.requires.fits.0 c.requires.fits.1).memory, here g at c.requires.fits.0 c.requires.fits.2)
 
 -- where no access was noted, what is served from then on is served from the start
-served : (g : Over) (c : After-fault g) (spaces : Spaces) (new : World) (more : ℕ) (answer : Access) → ServesAccess (memory_of (world_seen c.note.new.world) spaces) (memory_of new spaces) c.note.new.world.pending more c.args.process c.args.addr c.args.size c.args.write answer
+served : (g : Over) (c : After-fault g) (spaces : Spaces) (new : World) (more : ℕ) (answer : Access) → ServesAccess (memory_of (world_seen c.frame_for.new.world) spaces) (memory_of new spaces) c.frame_for.new.world.pending more c.args.process c.args.addr c.args.size c.args.write answer
     → ServesAccess (memory_of (world_seen c.args.world.now) spaces) (memory_of new spaces) c.args.world.now.pending more c.args.process c.args.addr c.args.size c.args.write answer
-served g c spaces new more answer s = subst (λ v. ServesAccess (memory_of (world_seen v) spaces) (memory_of new spaces) v.pending more c.args.process c.args.addr c.args.size c.args.write answer) c.in_default-note.ensures.none s
+served g c spaces new more answer s = subst (λ v. ServesAccess (memory_of (world_seen v) spaces) (memory_of new spaces) v.pending more c.args.process c.args.addr c.args.size c.args.write answer) c.in_default-frame_for.ensures.none s
 
 pub returns-in-Loaded-clause-serves : goal.returns-in-Loaded-clause-serves
 returns-in-Loaded-clause-serves g c = λ spaces fits get.
     let at = (goal.at.returns-in-Loaded-clause-serves g c).After-may_access in
-    let still = (c.note.ensures.keeps spaces fits).memory in
+    let still = (c.frame_for.ensures.keeps spaces fits).memory in
     let place = here g at spaces get in
-    let old = world_seen c.note.new.world in
+    let old = world_seen c.frame_for.new.world in
     let mid = world_seen c.fault.new.world in
     let new = world_seen c.noted.new.world in
     let s = c.in-Loaded.ensures.serves spaces still place in
     let pending : c.noted.new.world.pending ≡ c.fault.new.world.pending = ap (λ v. v.pending) c.noted.ensures.rest in
     served g (goal.at.returns-in-Loaded-clause-serves g c).After-fault spaces new c.noted.new.world.pending (access.Reached c.noted.result)
-    (subst (λ (k : ℕ). ServesAccess (memory_of old spaces) (memory_of new spaces) c.note.new.world.pending k c.args.process c.args.addr c.args.size c.args.write (access.Reached c.noted.result)) (sym pending)
-    (loaded-access old new spaces c.note.new.world.pending c.fault.new.world.pending c.args.process c.args.addr c.args.size c.args.write (spot g at) c.if-addr-size-ne0.false
+    (subst (λ (k : ℕ). ServesAccess (memory_of old spaces) (memory_of new spaces) c.frame_for.new.world.pending k c.args.process c.args.addr c.args.size c.args.write (access.Reached c.noted.result)) (sym pending)
+    (loaded-access old new spaces c.frame_for.new.world.pending c.fault.new.world.pending c.args.process c.args.addr c.args.size c.args.write (spot g at) c.if-addr-size-ne0.false
     place (sym (allowed g at) ∙ c.if-not-may_access.false) mid c.noted.result s (c.noted.ensures.keeps spaces s.acts.memory) (ap (λ v. v.anon) c.noted.ensures.rest) (ap (λ v. v.maps) c.noted.ensures.rest) c.noted.ensures.noted))
 
 pub returns-in-Past-clause-serves : goal.returns-in-Past-clause-serves
@@ -91,8 +91,8 @@ returns-in-Past-clause-serves g c = λ spaces fits get.
     let place = here g at spaces get in
     let new = world_seen c.fault.new.world in
     served g (goal.at.returns-in-Past-clause-serves g c).After-fault spaces new c.fault.new.world.pending (access.Refused signal.Past)
-    (past-access (world_seen c.note.new.world) new spaces c.note.new.world.pending c.fault.new.world.pending c.args.process c.args.addr c.args.size c.args.write (spot g at) c.if-addr-size-ne0.false
-    place (sym (allowed g at) ∙ c.if-not-may_access.false) (c.in-Past.ensures.serves spaces (c.note.ensures.keeps spaces fits).memory place))
+    (past-access (world_seen c.frame_for.new.world) new spaces c.frame_for.new.world.pending c.fault.new.world.pending c.args.process c.args.addr c.args.size c.args.write (spot g at) c.if-addr-size-ne0.false
+    place (sym (allowed g at) ∙ c.if-not-may_access.false) (c.in-Past.ensures.serves spaces (c.frame_for.ensures.keeps spaces fits).memory place))
 
 pub returns-in-Need-clause-serves : goal.returns-in-Need-clause-serves
 returns-in-Need-clause-serves g c = λ spaces fits get.
@@ -100,8 +100,8 @@ returns-in-Need-clause-serves g c = λ spaces fits get.
     let place = here g at spaces get in
     let new = world_seen c.fault.new.world in
     served g (goal.at.returns-in-Need-clause-serves g c).After-fault spaces new c.fault.new.world.pending (access.Need c.in-Need.plan)
-    (need-access (world_seen c.note.new.world) new spaces c.note.new.world.pending c.fault.new.world.pending c.args.process c.args.addr c.args.size c.args.write (spot g at) c.if-addr-size-ne0.false
-    place (sym (allowed g at) ∙ c.if-not-may_access.false) c.in-Need.plan (c.in-Need.ensures.serves spaces (c.note.ensures.keeps spaces fits).memory place))
+    (need-access (world_seen c.frame_for.new.world) new spaces c.frame_for.new.world.pending c.fault.new.world.pending c.args.process c.args.addr c.args.size c.args.write (spot g at) c.if-addr-size-ne0.false
+    place (sym (allowed g at) ∙ c.if-not-may_access.false) c.in-Need.plan (c.in-Need.ensures.serves spaces (c.frame_for.ensures.keeps spaces fits).memory place))
 
 pub returns-in-Busy-clause-serves : goal.returns-in-Busy-clause-serves
 returns-in-Busy-clause-serves g c = λ spaces fits get.
@@ -109,5 +109,5 @@ returns-in-Busy-clause-serves g c = λ spaces fits get.
     let place = here g at spaces get in
     let new = world_seen c.fault.new.world in
     served g (goal.at.returns-in-Busy-clause-serves g c).After-fault spaces new c.fault.new.world.pending (access.Busy c.in-Busy.hold)
-    (busy-access (world_seen c.note.new.world) new spaces c.note.new.world.pending c.fault.new.world.pending c.args.process c.args.addr c.args.size c.args.write (spot g at) c.if-addr-size-ne0.false
-    place (sym (allowed g at) ∙ c.if-not-may_access.false) c.in-Busy.hold (c.in-Busy.ensures.serves spaces (c.note.ensures.keeps spaces fits).memory place))
+    (busy-access (world_seen c.frame_for.new.world) new spaces c.frame_for.new.world.pending c.fault.new.world.pending c.args.process c.args.addr c.args.size c.args.write (spot g at) c.if-addr-size-ne0.false
+    place (sym (allowed g at) ∙ c.if-not-may_access.false) c.in-Busy.hold (c.in-Busy.ensures.serves spaces (c.frame_for.ensures.keeps spaces fits).memory place))

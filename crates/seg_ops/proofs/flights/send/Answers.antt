@@ -17,13 +17,13 @@ use Rattle.seg_ops.proofs.flights.send.Given.{Over}
 use Rattle.seg_ops.proofs.flights.send.Goals.{After-pend_tail}
 use Rattle.seg_ops.proofs.flights.send.Goals as goal
 
-pub place_of-place-requires-clause-exists : goal.place_of-place-requires-clause-exists
-place_of-place-requires-clause-exists g c =
+pub world_table-place-requires-clause-exists : goal.world_table-place-requires-clause-exists
+world_table-place-requires-clause-exists g c =
     subst (λ (n : PageName). IsTrue (page_exists c.args.world.now.files c.args.world.now.anon n)) (sym c.page_of.ensures) (can-exist (world_seen c.args.world.now) c.requires.fits.0 c.args.plan c.requires.fits.1 c.requires.can)
 
 pub begin-flight-requires-clause-ready : goal.begin-flight-requires-clause-ready
 begin-flight-requires-clause-ready g c =
-    let is = c.place_of-place.ensures.place ∙ ap (world_table (world_seen c.args.world.now)) c.page_of.ensures in
+    let is = c.world_table-place.ensures.place ∙ ap (world_table (world_seen c.args.world.now)) c.page_of.ensures in
     subst (λ (n : ℕ). Waits c.args.world.now.store (page_of c.args.plan) n None) (sym (ap (λ (p : Place). p.disk) is)) c.requires.ready
 
 pub begin-flight-requires-clause-can : goal.begin-flight-requires-clause-can
@@ -35,14 +35,14 @@ pend_tail-requires-clause-exists g c = next-there (world_seen c.args.world.now) 
 -- What went out.
 record Out (g : Over) (c : After-pend_tail g) : Type 0 where
   pub store : c.pend_tail.new.world.store ≡ c.begin-flight.new.self
-  pub place : c.place_of-place.result ≡ world_table (world_seen c.args.world.now) (page_of c.args.plan)
+  pub place : c.world_table-place.result ≡ world_table (world_seen c.args.world.now) (page_of c.args.plan)
   pub begun : Begun (world_seen c.args.world.now) c.begin-flight.new.self c.args.plan c.begin-flight.result
 
 is : (g : Over) (c : After-pend_tail g) → Out g c
 is g c =
     let w = world_seen c.args.world.now in
     let f : FlightSeen = c.begin-flight.result in
-    let place = c.place_of-place.ensures.place ∙ ap (world_table w) c.page_of.ensures in
+    let place = c.world_table-place.ensures.place ∙ ap (world_table w) c.page_of.ensures in
     let b = c.begin-flight.ensures.flight in
     record {
       store = ap (λ v. v.store) c.pend_tail.ensures.rest;
@@ -56,7 +56,7 @@ is g c =
         valid = ap (λ (p : Place). p.valid) (sym place) ∙ sym b.valid;
         frame = c.begin-flight.ensures.frame;
         bytes = c.begin-flight.ensures.bytes;
-        step = c.begin-flight.ensures.new ∙ ap (λ (n : ℕ). after_begin c.args.plan w.store n c.place_of-place.result.disk) (sym b.seat) ∙ ap (λ (n : ℕ). after_begin c.args.plan w.store f.seat n) (sym b.number);
+        step = c.begin-flight.ensures.new ∙ ap (λ (n : ℕ). after_begin c.args.plan w.store n c.world_table-place.result.disk) (sym b.seat) ∙ ap (λ (n : ℕ). after_begin c.args.plan w.store f.seat n) (sym b.number);
         laws = c.begin-flight.ensures.laws;
       };
     }

@@ -5,7 +5,7 @@ use Rattle.seg_ops.proofs.TrialLemmas.{trial-step}
 use Rattle.seg_ops.proofs.tests.try_get.Goals as goal
 
 pub read-requires-clause-fits : goal.read-requires-clause-fits
-read-requires-clause-fits c = (trial_spaces, (c.note.ensures.keeps trial_spaces c.requires.fits.memory).memory)
+read-requires-clause-fits c = (trial_spaces, (c.frame_for.ensures.keeps trial_spaces c.requires.fits.memory).memory)
 
 pub returns-in-Some : goal.returns-in-Some
-returns-in-Some c = record { fits = trial-step (world_seen c.args.world.now) (world_seen c.note.new.world) (λ name. false) c.requires.fits (c.note.ensures.keeps trial_spaces c.requires.fits.memory) }
+returns-in-Some c = record { fits = trial-step (world_seen c.args.world.now) (world_seen c.frame_for.new.world) (λ name. false) c.requires.fits (c.frame_for.ensures.keeps trial_spaces c.requires.fits.memory) }

@@ -1,6 +1,6 @@
 use Rattle.vm_world.specs.World.{world_seen}
 use Rattle.seg_ops.proofs.Hits.{note-keeps}
-use Rattle.seg_ops.proofs.accesses.note.Goals as goal
+use Rattle.seg_ops.proofs.accesses.frame_for.Goals as goal
 
 pub returns-clause-keeps : goal.returns-clause-keeps
 returns-clause-keeps g c = λ spaces fits.
