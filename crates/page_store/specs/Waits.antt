@@ -14,9 +14,9 @@ use Rattle.page_store.specs.declared.plan.Plan.TheVariants.{Read, Push}
 use Rattle.page_store.specs.declared.residence.Residence.TheVariants as at
 
 -- the page of a plan
-abbrev pub page_of : Plan → PageName
-page_of (Read name) = name
-page_of (Push name) = name
+abbrev pub plan_page : Plan → PageName
+plan_page (Read name) = name
+plan_page (Push name) = name
 
 -- the seat that holds the lock of a name's frame
 abbrev pub holder_in : Option ℕ → StoreSeen → Option ℕ

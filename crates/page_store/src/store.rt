@@ -14,7 +14,7 @@ ghost use Rattle.page_store.specs.Seen.{residence, IsListedFrame, IsSoundStore};
 ghost use Rattle.page_store.specs.Steps.{next_frame, next_name, with_row};
 ghost use Rattle.page_store.specs.Table.{Table};
 ghost use Rattle.page_store.specs.Value.{value};
-ghost use Rattle.page_store.specs.Waits.{Waits, page_of, ChoosesPage, IsVictim};
+ghost use Rattle.page_store.specs.Waits.{Waits, plan_page, ChoosesPage, IsVictim};
 
 use crate::bays::Bays;
 use crate::order::Order;
@@ -230,7 +230,7 @@ impl<D: Disk> Store<D> {
     /// What a plan waits for, if it does: the seat that holds the page's lock, or the seat that has the disk.
     pub fn ready(&self, plan: &Plan, disk: u32) -> Option<Hold>
         requires { bay_at self.now.bays disk ≢ missing }
-        ensures { Waits self.now (page_of plan.now) disk result }
+        ensures { Waits self.now (plan_page plan.now) disk result }
     {
         let name = match *plan {
             Plan::Read(name) => name,

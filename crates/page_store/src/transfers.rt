@@ -12,7 +12,7 @@ ghost use Rattle.page_store.specs.Flight.{Begins};
 ghost use Rattle.page_store.specs.Parts.{rows_pushed, names_taken};
 ghost use Rattle.page_store.specs.Steps.{rest_free, rest_cached, home_bytes};
 ghost use Rattle.page_store.specs.Transfers.{CanBegin, BeginsTransfer, after_begin, frame_out, frame_shown, is_push};
-ghost use Rattle.page_store.specs.Waits.{Waits, page_of};
+ghost use Rattle.page_store.specs.Waits.{Waits, plan_page};
 
 use crate::flight::{Flight, Stage};
 use crate::frames::{forget, forsake, pair, rename, reserve, take_frame};
@@ -32,19 +32,19 @@ impl<D: Disk> Store<D> {
     /// A push takes a frame for a snapshot of the page, exactly where one is available; the page stays where it is, and
     /// modified. Where none is, the page's own frame goes out.
     pub fn begin(&mut self, seat: u32, plan: Plan, disk: u32, block: u32, valid: u32) -> Flight<D>
-        requires ready { Waits self.old (page_of plan) disk None }
+        requires ready { Waits self.old (plan_page plan) disk None }
         requires block { (d : DiskSeen) → bay_at self.old.bays disk ≡ home d → block < d.size }
         requires valid { valid ≤ 4096 }
         requires can { CanBegin plan self.old }
         // The flight, and the store without what went out with it.
         ensures flight { Begins result seat disk (bay_at self.old.bays disk) (is_push plan)
-            (page_of plan)
+            (plan_page plan)
             block valid self.old.origin }
         ensures frame { frame_out plan self.old ≡ Some result.frame }
         ensures bytes { result.bytes ≡ home_bytes self.old (frame_shown plan self.old) }
         ensures new { self.new ≡ after_begin plan self.old seat disk }
         // What that does.
-        ensures laws { BeginsTransfer self.old self.new plan (page_of plan) result }
+        ensures laws { BeginsTransfer self.old self.new plan (plan_page plan) result }
     {
         match plan {
             Plan::Read(name) => self.begin_read(seat, name, disk, block, valid),

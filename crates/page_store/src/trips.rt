@@ -16,7 +16,7 @@ ghost use Rattle.page_store.specs.Out.{IsFlightOf};
 ghost use Rattle.page_store.specs.Transfers.{CanBegin, LivesAt};
 ghost use Rattle.page_store.specs.Trips.{HasDisk, StayThere};
 ghost use Rattle.page_store.specs.Value.{tells, value};
-ghost use Rattle.page_store.specs.Waits.{Waits, page_of};
+ghost use Rattle.page_store.specs.Waits.{Waits, plan_page};
 ghost use Rattle.page_store.specs.declared.plan.Hold.{Hold};
 ghost use Rattle.page_store.specs.declared.plan.Plan.{Plan};
 ghost use Rattle.page_store.specs.declared.residence.Residence.{Residence};
@@ -117,7 +117,7 @@ pub(crate) fn transfer_while<D: Disk>(
     place: Place,
     meanwhile: Meanwhile,
 ) -> bool
-    requires ready { Waits store.old (page_of plan) place.disk None }
+    requires ready { Waits store.old (plan_page plan) place.disk None }
     requires there { HasDisk (bay_at store.old.bays place.disk) place.block }
     requires valid { place.valid ≤ 4096 }
     requires can { CanBegin plan store.old }

@@ -16,7 +16,7 @@ use Rattle.page_store.specs.Seen.{StoreSeen, IsSoundStore, IsListedFrame, own_fr
 use Rattle.page_store.specs.Steps.{next_frame, next_name, at_frame, home_bytes, held_row, with_read_begun, with_snapshot_sent, with_page_sent, with_push_begun, without_snapshot}
 use Rattle.page_store.specs.Notes.{Notes}
 use Rattle.page_store.specs.Transfers.{BeginsTransfer, CanBegin, LivesAt, after_begin, frame_out, frame_shown, is_push}
-use Rattle.page_store.specs.Waits.{page_of}
+use Rattle.page_store.specs.Waits.{plan_page}
 use Rattle.page_store.specs.declared.plan.Plan.{Plan}
 use Rattle.page_store.specs.declared.plan.Plan.TheVariants.{Read, Push}
 use Rattle.page_store.specs.declared.residence.Residence.TheVariants.{Home}
@@ -223,32 +223,32 @@ pub can-begin : (w : World) (spaces : Spaces) (plan : Plan) → MemoryFits (memo
 can-begin w spaces (Read name) f can = (can.1, ap (λ (o : Option ℕ). residence_in o w.store) can.0.absent)
 can-begin w spaces (Push name) f can = (can.0.frame, can.0.home, modified-unlisted w spaces can.0.frame f can.0.modified)
 
-pub can-exist : (w : World) (spaces : Spaces) (plan : Plan) → MemoryFits (memory_of w spaces) → CanSend w plan → IsTrue (page_exists w.files w.anon (page_of plan))
+pub can-exist : (w : World) (spaces : Spaces) (plan : Plan) → MemoryFits (memory_of w spaces) → CanSend w plan → IsTrue (page_exists w.files w.anon (plan_page plan))
 can-exist w spaces (Read name) f can = can.0.exists
 can-exist w spaces (Push name) f can = dirty-exists w spaces name f can.0
 
-can-blank : (w : World) (spaces : Spaces) (plan : Plan) → MemoryFits (memory_of w spaces) → CanSend w plan → (world_table w (page_of plan)).blank ≡ false
-can-blank w spaces plan f can = blank-is w (page_of plan) f.files (exists-page w (page_of plan) f.files (can-exist w spaces plan f can)) ∙ by_plan plan can
+can-blank : (w : World) (spaces : Spaces) (plan : Plan) → MemoryFits (memory_of w spaces) → CanSend w plan → (world_table w (plan_page plan)).blank ≡ false
+can-blank w spaces plan f can = blank-is w (plan_page plan) f.files (exists-page w (plan_page plan) f.files (can-exist w spaces plan f can)) ∙ by_plan plan can
   where
-    by_plan : (p : Plan) → CanSend w p → is_unpushed w.files w.anon (page_of p) ≡ false
+    by_plan : (p : Plan) → CanSend w p → is_unpushed w.files w.anon (plan_page p) ≡ false
     by_plan (Read name) can = can.0.pushed
     by_plan (Push name) can = can.1
 
 -- What the store's call of a plan gives.
 pub record Begun (w : World) (new : StoreSeen) (plan : Plan) (f : FlightSeen) : Type 0 where
-  pub name : f.name ≡ page_of plan
+  pub name : f.name ≡ plan_page plan
   pub writes : f.writes ≡ is_push plan
   pub was : bay_at w.store.bays f.number ≡ home f.disk
-  pub disk : (world_table w (page_of plan)).disk ≡ f.number
-  pub block : (world_table w (page_of plan)).block ≡ f.block
-  pub valid : (world_table w (page_of plan)).valid ≡ f.valid
+  pub disk : (world_table w (plan_page plan)).disk ≡ f.number
+  pub block : (world_table w (plan_page plan)).block ≡ f.block
+  pub valid : (world_table w (plan_page plan)).valid ≡ f.valid
   pub frame : frame_out plan w.store ≡ Some f.frame
   pub bytes : f.bytes ≡ home_bytes w.store (frame_shown plan w.store)
   pub step : new ≡ after_begin plan w.store f.seat f.number
-  pub laws : BeginsTransfer w.store new plan (page_of plan) f
+  pub laws : BeginsTransfer w.store new plan (plan_page plan) f
 
 -- THE FLIGHT OF A PLAN goes out.
-sends-plan : (w : World) (spaces : Spaces) (notes : Notes) (new : StoreSeen) (plan : Plan) (f : FlightSeen) → MemoryFits (memory_of w spaces) → NotesFit w notes → CanSend w plan → (world_table w (page_of plan)).blank ≡ false → Begun w new plan f
+sends-plan : (w : World) (spaces : Spaces) (notes : Notes) (new : StoreSeen) (plan : Plan) (f : FlightSeen) → MemoryFits (memory_of w spaces) → NotesFit w notes → CanSend w plan → (world_table w (plan_page plan)).blank ≡ false → Begun w new plan f
     → Sends w.store new f.seat (note_of f) × SendsNote w new f.seat (note_of f)
 sends-plan w spaces notes new (Read name) f fit nf can pushed b = (
   sends-of-read w.store new f fit.frames.sound b.frame b.was (subst (λ (n : PageName). new ≡ after_begin (Read n) w.store f.seat f.number) (sym b.name) b.step) (subst (λ (n : PageName). BeginsTransfer w.store new (Read n) n f) (sym b.name) b.laws),
@@ -268,7 +268,7 @@ sends-plan w spaces notes new (Push name) f fit nf can pushed b =
     )
 
 -- the table has the plan's page where the flight goes
-lives-there : (w : World) (new : StoreSeen) (plan : Plan) (f : FlightSeen) → (world_table w (page_of plan)).blank ≡ false → Begun w new plan f → LivesAt plan (world_table w) f.number f.block f.valid
+lives-there : (w : World) (new : StoreSeen) (plan : Plan) (f : FlightSeen) → (world_table w (plan_page plan)).blank ≡ false → Begun w new plan f → LivesAt plan (world_table w) f.number f.block f.valid
 lives-there w new (Read name) f pushed b = λ i. record { disk = b.disk i; block = b.block i; valid = b.valid i; blank = pushed i }
 lives-there w new (Push name) f pushed b = (b.disk, b.block)
 

@@ -7,7 +7,7 @@ use Rattle.page_store.specs.Flight.{FlightSeen, Begins}
 use Rattle.page_store.specs.Seen.{StoreSeen}
 use Rattle.page_store.specs.Steps.{at_frame, home_bytes, next_frame}
 use Rattle.page_store.specs.Transfers.{is_push, frame_out, frame_shown}
-use Rattle.page_store.specs.Waits.{page_of}
+use Rattle.page_store.specs.Waits.{plan_page}
 use Rattle.page_store.specs.declared.plan.Plan.{Plan}
 use Rattle.page_store.specs.declared.plan.Plan.TheVariants.{Read, Push}
 use Rattle.hat_layer.specs.Pool.{bits_of, change_frame, drop_frame, with_clear_bits}
@@ -27,8 +27,8 @@ IsUnloaded places frame = (place : ℕ) (t : Translation) → slice_index_or pla
 
 -- The flight that a plan begins for a seat: between the page and its place, with its disk, and with the frame and the bytes that the store sends.
 pub record BeginsFor (w : World) (seat : ℕ) (plan : Plan) (f : FlightSeen) : Type 0 where
-  pub begins : Begins f seat (world_table w (page_of plan)).disk (bay_at w.store.bays (world_table w (page_of plan)).disk) (is_push plan) (page_of plan)
-      (world_table w (page_of plan)).block (world_table w (page_of plan)).valid w.store.origin
+  pub begins : Begins f seat (world_table w (plan_page plan)).disk (bay_at w.store.bays (world_table w (plan_page plan)).disk) (is_push plan) (plan_page plan)
+      (world_table w (plan_page plan)).block (world_table w (plan_page plan)).valid w.store.origin
   pub frame : frame_out plan w.store ≡ Some f.frame
   pub bytes : f.bytes ≡ home_bytes w.store (frame_shown plan w.store)
 

@@ -3,7 +3,7 @@ use Rattle.std.specs.Prelude.{◌≡◌, ℕ, false, List, Option, Some, None, I
 use Rattle.page_hash.specs.declared.PageName.{PageName}
 use Rattle.page_store.specs.Steps.{next_frame}
 use Rattle.page_store.specs.Transfers.{is_push}
-use Rattle.page_store.specs.Waits.{Waits, page_of}
+use Rattle.page_store.specs.Waits.{Waits, plan_page}
 use Rattle.page_store.specs.declared.plan.Plan.{Plan}
 use Rattle.vm_world.specs.FlatMemory.{Memory}
 use Rattle.vm_world.specs.State.{Caller}
@@ -14,15 +14,15 @@ use Rattle.seg_ops.specs.declared.plans.Step.TheVariants.{Loaded, Past, Need, Bu
 
 -- The plan is answered exactly where its disk is home and nobody holds its page's lock; else the seat that has the one or the other.
 abbrev pub IsAsked : World → Plan → Step → Type 0
-IsAsked w plan (Need p) = (p ≡ plan) × Waits w.store (page_of plan) (world_table w (page_of plan)).disk None
-IsAsked w plan (Busy h) = Waits w.store (page_of plan) (world_table w (page_of plan)).disk (Some h)
+IsAsked w plan (Need p) = (p ≡ plan) × Waits w.store (plan_page plan) (world_table w (plan_page plan)).disk None
+IsAsked w plan (Busy h) = Waits w.store (plan_page plan) (world_table w (plan_page plan)).disk (Some h)
 IsAsked w plan Loaded = ⊥
 IsAsked w plan Past = ⊥
 
 -- A plan that can begin: its disk is home and nobody holds its page's lock, a frame is there for a page that is read in, and it may be answered to any
 -- call that wants the page home.
 pub record NeedsPlan (m : Memory) (name : PageName) (plan : Plan) : Type 0 where
-  pub ready : Waits m.world.store (page_of plan) (world_table m.world (page_of plan)).disk None
+  pub ready : Waits m.world.store (plan_page plan) (world_table m.world (plan_page plan)).disk None
   pub frame : is_push plan ≡ false → IsSome (next_frame m.world.store)
   pub may : (of : Caller) → WantsHome m of.0 of.1 name → MayPlan m (Some of) plan
 

@@ -10,7 +10,7 @@ ghost use Rattle.page_store.specs.Notes.{Notes};
 ghost use Rattle.page_store.specs.Seen.{IsListedFrame, residence};
 ghost use Rattle.page_store.specs.Steps.{next_frame, next_name};
 ghost use Rattle.page_store.specs.Transfers.{BeginsTransfer, after_begin, frame_out};
-ghost use Rattle.page_store.specs.Waits.{Waits, page_of};
+ghost use Rattle.page_store.specs.Waits.{Waits, plan_page};
 ghost use Rattle.vnode_files.specs.Files.{vnode_at};
 ghost use Rattle.vnode_files.specs.Grow.{page_count};
 ghost use Rattle.vnode_files.specs.Vnode.{block_at, is_blank};
@@ -145,8 +145,8 @@ fn prepare_push<D: Disk>(world: &mut World<D>, name: PageName)
 }
 
 /// The page of a plan.
-fn page_of(plan: Plan) -> PageName
-    ensures { result ≡ page_of plan }
+fn plan_page(plan: Plan) -> PageName
+    ensures { result ≡ plan_page plan }
 {
     match plan {
         Plan::Read(name) => name,
@@ -195,8 +195,8 @@ fn world_table<D: Disk>(world: &World<D>, name: PageName) -> Place
 /// A frame and the disk of a plan's page go out with a flight, for this seat.
 fn send<D: Disk>(world: &mut World<D>, seat: u32, plan: Plan) -> Flight<D>
     requires can { CanSend (world_seen world.old) plan }
-    requires ready { Waits world.old.store (page_of plan)
-        (world_table (world_seen world.old) (page_of plan)).disk None }
+    requires ready { Waits world.old.store (plan_page plan)
+        (world_table (world_seen world.old) (plan_page plan)).disk None }
     requires unloaded { (frame : ℕ) → frame_out plan world.old.store ≡ Some frame
         → IsUnloaded world.old.hat.places frame }
     requires fits { (spaces : Spaces)
@@ -204,8 +204,8 @@ fn send<D: Disk>(world: &mut World<D>, seat: u32, plan: Plan) -> Flight<D>
     // The flight, and the store without what went out with it.
     ensures flight { BeginsFor (world_seen world.old) seat plan result }
     ensures store { world.new.store ≡ after_begin plan world.old.store seat
-        (world_table (world_seen world.old) (page_of plan)).disk }
-    ensures begins { BeginsTransfer world.old.store world.new.store plan (page_of plan) result }
+        (world_table (world_seen world.old) (plan_page plan)).disk }
+    ensures begins { BeginsTransfer world.old.store world.new.store plan (plan_page plan) result }
     // What the taken frame held.
     ensures pends { PendsTails (world_seen world.old) (is_name (next_name world.old.store))
         world.old.pending world.new.pending }
@@ -220,7 +220,7 @@ fn send<D: Disk>(world: &mut World<D>, seat: u32, plan: Plan) -> Flight<D>
         → WorldStep (world_seen world.old) (world_seen world.new) spaces
         (leaves seat (note_of result)) (is_name (next_name world.old.store)) }
 {
-    let place = world_table(world, page_of(plan));
+    let place = world_table(world, plan_page(plan));
     let lost = world.store.next_name();
     let flight = world
         .store

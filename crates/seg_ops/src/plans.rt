@@ -5,7 +5,7 @@ ghost use Rattle.page_store.specs.Bays.{bay_at, missing};
 ghost use Rattle.page_store.specs.Laws.{SameResidence};
 ghost use Rattle.page_store.specs.Notes.{Notes};
 ghost use Rattle.page_store.specs.Seen.{residence};
-ghost use Rattle.page_store.specs.Waits.{page_of};
+ghost use Rattle.page_store.specs.Waits.{plan_page};
 ghost use Rattle.page_store.specs.declared.residence.Residence.TheVariants.{Absent};
 ghost use Rattle.vm_world.specs.MemoryFits.{MemoryFits};
 ghost use Rattle.vm_world.specs.NotesFit.{NotesFit};
@@ -51,7 +51,7 @@ fn disk_of<D: Disk>(world: &World<D>, name: PageName) -> u32
 pub fn ask<D: Disk>(world: &World<D>, plan: Plan) -> Step
     requires fits { (spaces : Spaces)
         × MemoryFits (record { world = world_seen world.now; spaces = spaces }) }
-    requires exists { IsTrue (page_exists world.now.files world.now.anon (page_of plan)) }
+    requires exists { IsTrue (page_exists world.now.files world.now.anon (plan_page plan)) }
     ensures { IsAsked (world_seen world.now) plan result }
 {
     let name = match plan {

@@ -9,7 +9,7 @@ use Rattle.page_store.specs.Flight.{FlightSeen, note_of}
 use Rattle.page_store.specs.Seen.{StoreSeen}
 use Rattle.page_store.specs.Steps.{next_frame, next_name}
 use Rattle.page_store.specs.Transfers.{is_push}
-use Rattle.page_store.specs.Waits.{Waits, page_of}
+use Rattle.page_store.specs.Waits.{Waits, plan_page}
 use Rattle.page_store.specs.declared.plan.Plan.{Plan}
 use Rattle.page_store.specs.declared.plan.Plan.TheVariants as plan
 use Rattle.vm_world.specs.Events.{IsEvent}
@@ -39,9 +39,9 @@ kept-leaves opening s seats seat p kept fit k =
     let f = fit.plans.plan kept k.is in
     subst (λ (x : Plan). CanLeave s.memory.world x) k.same (can-leave s.memory kept.of kept.plan f.may f.frame)
 
-pub kept-ready : (opening : Flat) (s : KernelState) (seats : Seats) (seat : ℕ) (p : Plan) (kept : KeptPlan) → StateFits opening s seats → IsKeptFor s seat p kept → Waits s.memory.world.store (page_of p) (world_table s.memory.world (page_of p)).disk None
+pub kept-ready : (opening : Flat) (s : KernelState) (seats : Seats) (seat : ℕ) (p : Plan) (kept : KeptPlan) → StateFits opening s seats → IsKeptFor s seat p kept → Waits s.memory.world.store (plan_page p) (world_table s.memory.world (plan_page p)).disk None
 kept-ready opening s seats seat p kept fit k =
-    subst (λ (x : Plan). Waits s.memory.world.store (page_of x) (world_table s.memory.world (page_of x)).disk None) k.same (fit.plans.plan kept k.is).ready
+    subst (λ (x : Plan). Waits s.memory.world.store (plan_page x) (world_table s.memory.world (plan_page x)).disk None) k.same (fit.plans.plan kept k.is).ready
 
 -- WHAT IS KEPT after a flight left.
 pub kept-left : (old new : World) (zeros after : List (Option ℕ)) (spaces : Spaces) (entries : List ℕ) (seats seat : ℕ) (f : FlightSeen) (cut : PageName → Bool) → IsSoundKernel old.store zeros spaces entries seats → after ≡ zeros → WorldStep old new spaces (leaves seat (note_of f)) cut → IsSoundKernel new.store after spaces entries seats

@@ -4,7 +4,7 @@ ghost use Rattle.page_hash.specs.Names.{is_name};
 ghost use Rattle.page_store.specs.Flight.{note_of};
 ghost use Rattle.page_store.specs.Notes.{Notes};
 ghost use Rattle.page_store.specs.Steps.{next_name};
-ghost use Rattle.page_store.specs.Waits.{Waits, page_of};
+ghost use Rattle.page_store.specs.Waits.{Waits, plan_page};
 ghost use Rattle.seg_ops.specs.Flights.{BeginsFor};
 ghost use Rattle.vm_world.specs.Events.{IsEvent};
 ghost use Rattle.vm_world.specs.MemoryFits.{MemoryFits};
@@ -26,8 +26,8 @@ use vm_world::World;
 /// Begins the transfer of a plan that can run.
 fn leave<D: Disk>(world: &mut World<D>, seat: u32, plan: Plan) -> Flight<D>
     requires can { CanLeave (world_seen world.old) plan }
-    requires ready { Waits world.old.store (page_of plan)
-        (world_table (world_seen world.old) (page_of plan)).disk None }
+    requires ready { Waits world.old.store (plan_page plan)
+        (world_table (world_seen world.old) (plan_page plan)).disk None }
     requires fits { (spaces : Spaces)
         × MemoryFits (record { world = world_seen world.old; spaces = spaces }) }
     // The flight, the tails that it makes pending, and the translations.

@@ -6,7 +6,7 @@ use Rattle.vm_types.specs.declared.call.Call.{Call}
 use Rattle.page_store.specs.Notes.{Notes}
 use Rattle.page_store.specs.Steps.{next_frame}
 use Rattle.page_store.specs.Transfers.{is_push}
-use Rattle.page_store.specs.Waits.{Waits, page_of}
+use Rattle.page_store.specs.Waits.{Waits, plan_page}
 use Rattle.page_store.specs.declared.plan.Plan.{Plan}
 use Rattle.flat_model.specs.Step.{MayFail}
 use Rattle.vm_world.specs.FlatMemory.{Memory, flat_memory}
@@ -17,7 +17,7 @@ use Rattle.vm_world.specs.World.{world_table}
 -- A plan may be answered to the call, or to the clock, and can run: its disk is home, its page isn't locked, and a frame is there for a page that is read.
 pub record CanRunPlan (m : Memory) (of : Option Caller) (plan : Plan) : Type 0 where
   pub may : MayPlan m of plan
-  pub ready : Waits m.world.store (page_of plan) (world_table m.world (page_of plan)).disk None
+  pub ready : Waits m.world.store (plan_page plan) (world_table m.world (plan_page plan)).disk None
   pub frame : is_push plan ≡ false → IsSome (next_frame m.world.store)
 
 -- In flat memory the call may meet a device error, whatever the seats have outside.

@@ -4,7 +4,7 @@ use Rattle.vm_types.specs.declared.call.Entry.{Entry}
 use Rattle.vm_types.specs.declared.call.Reply.{Reply}
 use Rattle.page_store.specs.Steps.{next_frame}
 use Rattle.page_store.specs.Transfers.{is_push}
-use Rattle.page_store.specs.Waits.{Waits, page_of}
+use Rattle.page_store.specs.Waits.{Waits, plan_page}
 use Rattle.flat_model.specs.Flat.{Flat, space_of}
 use Rattle.flat_model.specs.OpenLaws.{MayFollow}
 use Rattle.flat_model.specs.Step.{MayFail}
@@ -30,7 +30,7 @@ pub record CallerFits (now : Flat) (H : List Entry) (entries : List ℕ) (seat :
 -- nothing outside.
 pub record PlanFits (s : KernelState) (seats : Seats) (kept : KeptPlan) : Type 0 where
   pub may : MayPlan s.memory kept.of kept.plan
-  pub ready : Waits s.memory.world.store (page_of kept.plan) (world_table s.memory.world (page_of kept.plan)).disk None
+  pub ready : Waits s.memory.world.store (plan_page kept.plan) (world_table s.memory.world (plan_page kept.plan)).disk None
   pub frame : is_push kept.plan ≡ false → IsSome (next_frame s.memory.world.store)
   pub idle : seats kept.seat ≡ None
 

@@ -12,7 +12,7 @@ use Rattle.page_hash.specs.declared.PageName.{PageName}
 use Rattle.page_store.specs.Bays.{out, bay_at}
 use Rattle.page_store.specs.Seen.{residence}
 use Rattle.page_store.specs.Steps.{next_frame}
-use Rattle.page_store.specs.Waits.{page_of}
+use Rattle.page_store.specs.Waits.{plan_page}
 use Rattle.page_store.specs.declared.plan.Hold.{Hold}
 use Rattle.page_store.specs.declared.plan.Hold.TheVariants as hold
 use Rattle.page_store.specs.declared.plan.Plan.{Plan}
@@ -135,7 +135,7 @@ seat_in h = elim h [ hold.Page t ↦ t | hold.Disk t ↦ t | hold.File t ↦ t ]
 -- of the call's file between two parts.
 abbrev pub HoldsUp : Memory → List (Option ℕ) → ℕ → Call → Hold → Type 0
 HoldsUp m calls p call (hold.Page t) = (name : PageName) × (WantsHome m p call name ⊎ WantsClean m p call name) × (residence m.world.store name ≡ Moving t)
-HoldsUp m calls p call (hold.Disk t) = (plan : Plan) × MayPlan m (Some (p, call)) plan × (bay_at m.world.store.bays (world_table m.world (page_of plan)).disk ≡ out t)
+HoldsUp m calls p call (hold.Disk t) = (plan : Plan) × MayPlan m (Some (p, call)) plan × (bay_at m.world.store.bays (world_table m.world (plan_page plan)).disk ≡ out t)
 HoldsUp m calls p call (hold.File t) = (f : ℕ) × (file_of_call call ≡ Some f) × (slice_index_or calls f None ≡ Some t)
 
 -- What may be waited for: another seat, for such a cause.

@@ -7,7 +7,7 @@ use Rattle.page_store.specs.Flight.{FlightSeen, Begins, note_of}
 use Rattle.page_store.specs.Seen.{StoreSeen}
 use Rattle.page_store.specs.Steps.{next_name}
 use Rattle.page_store.specs.Transfers.{BeginsTransfer, after_begin, is_push}
-use Rattle.page_store.specs.Waits.{Waits, page_of}
+use Rattle.page_store.specs.Waits.{Waits, plan_page}
 use Rattle.page_store.specs.declared.place.Place.{Place}
 use Rattle.vm_world.specs.World.{World, world_seen, world_table, page_exists}
 use Rattle.vm_world.specs.WorldSteps.{WorldStep, leaves}
@@ -19,12 +19,12 @@ use Rattle.seg_ops.proofs.flights.send.Goals as goal
 
 pub world_table-place-requires-clause-exists : goal.world_table-place-requires-clause-exists
 world_table-place-requires-clause-exists g c =
-    subst (λ (n : PageName). IsTrue (page_exists c.args.world.now.files c.args.world.now.anon n)) (sym c.page_of.ensures) (can-exist (world_seen c.args.world.now) c.requires.fits.0 c.args.plan c.requires.fits.1 c.requires.can)
+    subst (λ (n : PageName). IsTrue (page_exists c.args.world.now.files c.args.world.now.anon n)) (sym c.plan_page.ensures) (can-exist (world_seen c.args.world.now) c.requires.fits.0 c.args.plan c.requires.fits.1 c.requires.can)
 
 pub begin-flight-requires-clause-ready : goal.begin-flight-requires-clause-ready
 begin-flight-requires-clause-ready g c =
-    let is = c.world_table-place.ensures.place ∙ ap (world_table (world_seen c.args.world.now)) c.page_of.ensures in
-    subst (λ (n : ℕ). Waits c.args.world.now.store (page_of c.args.plan) n None) (sym (ap (λ (p : Place). p.disk) is)) c.requires.ready
+    let is = c.world_table-place.ensures.place ∙ ap (world_table (world_seen c.args.world.now)) c.plan_page.ensures in
+    subst (λ (n : ℕ). Waits c.args.world.now.store (plan_page c.args.plan) n None) (sym (ap (λ (p : Place). p.disk) is)) c.requires.ready
 
 pub begin-flight-requires-clause-can : goal.begin-flight-requires-clause-can
 begin-flight-requires-clause-can g c = can-begin (world_seen c.args.world.now) c.requires.fits.0 c.args.plan c.requires.fits.1 c.requires.can
@@ -35,14 +35,14 @@ pend_tail-requires-clause-exists g c = next-there (world_seen c.args.world.now) 
 -- What went out.
 record Out (g : Over) (c : After-pend_tail g) : Type 0 where
   pub store : c.pend_tail.new.world.store ≡ c.begin-flight.new.self
-  pub place : c.world_table-place.result ≡ world_table (world_seen c.args.world.now) (page_of c.args.plan)
+  pub place : c.world_table-place.result ≡ world_table (world_seen c.args.world.now) (plan_page c.args.plan)
   pub begun : Begun (world_seen c.args.world.now) c.begin-flight.new.self c.args.plan c.begin-flight.result
 
 is : (g : Over) (c : After-pend_tail g) → Out g c
 is g c =
     let w = world_seen c.args.world.now in
     let f : FlightSeen = c.begin-flight.result in
-    let place = c.world_table-place.ensures.place ∙ ap (world_table w) c.page_of.ensures in
+    let place = c.world_table-place.ensures.place ∙ ap (world_table w) c.plan_page.ensures in
     let b = c.begin-flight.ensures.flight in
     record {
       store = ap (λ v. v.store) c.pend_tail.ensures.rest;
@@ -66,7 +66,7 @@ returns-clause-flight g c =
     let w = world_seen c.args.world.now in
     let i = is g (goal.at.returns-clause-flight g c).After-pend_tail in
     record {
-      begins = subst (λ (p : Place). Begins c.begin-flight.result c.args.seat p.disk (bay_at w.store.bays p.disk) (is_push c.args.plan) (page_of c.args.plan) p.block p.valid w.store.origin) i.place c.begin-flight.ensures.flight;
+      begins = subst (λ (p : Place). Begins c.begin-flight.result c.args.seat p.disk (bay_at w.store.bays p.disk) (is_push c.args.plan) (plan_page c.args.plan) p.block p.valid w.store.origin) i.place c.begin-flight.ensures.flight;
       frame = c.begin-flight.ensures.frame;
       bytes = c.begin-flight.ensures.bytes;
     }
@@ -79,12 +79,12 @@ returns-clause-store g c =
 pub returns-clause-begins : goal.returns-clause-begins
 returns-clause-begins g c =
     let i = is g (goal.at.returns-clause-begins g c).After-pend_tail in
-    subst (λ (s : StoreSeen). BeginsTransfer c.args.world.now.store s c.args.plan (page_of c.args.plan) c.begin-flight.result) (sym i.store) i.begun.laws
+    subst (λ (s : StoreSeen). BeginsTransfer c.args.world.now.store s c.args.plan (plan_page c.args.plan) c.begin-flight.result) (sym i.store) i.begun.laws
 
 pub returns-clause-took : goal.returns-clause-took
 returns-clause-took g c =
     let i = is g (goal.at.returns-clause-took g c).After-pend_tail in
-    let laws = subst (λ (s : StoreSeen). BeginsTransfer c.args.world.now.store s c.args.plan (page_of c.args.plan) c.begin-flight.result) (sym i.store) i.begun.laws in
+    let laws = subst (λ (s : StoreSeen). BeginsTransfer c.args.world.now.store s c.args.plan (plan_page c.args.plan) c.begin-flight.result) (sym i.store) i.begun.laws in
     loses (world_seen c.args.world.now) (world_seen c.pend_tail.new.world) laws.sound laws.lost
 
 pub returns-clause-step : goal.returns-clause-step
