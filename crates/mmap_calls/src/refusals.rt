@@ -111,16 +111,16 @@ pub(crate) fn most_allowed<D: Disk>(world: &World<D>, kind: Kind, object: Object
     match (kind, object) {
         (Kind::Shared, Object::File(file)) => {
             if world.files.info(file).writable {
-                read_and_write()
+                prot_read_write()
             } else {
                 Prot::READ
             }
         }
-        _ => read_and_write(),
+        _ => prot_read_write(),
     }
 }
 
-fn read_and_write() -> Prot
+fn prot_read_write() -> Prot
     ensures { result ≡ prot_read_write }
 {
     Prot::READ.union(Prot::WRITE)
