@@ -12,7 +12,7 @@ use std::test::Fail;
 use vm_types::{Call, Reply};
 
 /// What a seat has outside: its transfer, and the process and call that it is for.
-type Trip = (Flight<MemDisk>, Option<(u32, Call)>);
+type SentFlight = (Flight<MemDisk>, Option<(u32, Call)>);
 
 /// What is told of an act.
 #[derive(Clone, Copy, PartialEq, Eq, Debug)]
@@ -31,7 +31,7 @@ pub(crate) enum Told {
 #[derive(Drop)]
 pub(crate) struct Trial {
     state: VmState<MemDisk>,
-    trips: [Option<Trip>; 2],
+    trips: [Option<SentFlight>; 2],
 }
 
 impl Model for Trial {
@@ -48,7 +48,7 @@ impl Model for Trial {
 /// Begins the transfer of the plan that is kept.
 fn send(
     state: &mut VmState<MemDisk>,
-    trips: &mut [Option<Trip>; 2],
+    trips: &mut [Option<SentFlight>; 2],
     seat: u32,
     plan: Plan,
     of: Option<(u32, Call)>,
@@ -66,13 +66,13 @@ fn send(
     trips[seat as usize] = Some((flight, of));
 }
 
-fn is_idle(trips: &[Option<Trip>; 2], seat: u32) -> bool
+fn is_idle(trips: &[Option<SentFlight>; 2], seat: u32) -> bool
     ensures { IsTrue result → (seat < 2) × (slice_index_or trips.now seat None ≡ None) }
 {
     seat < 2 && trips[seat as usize].is_none()
 }
 
-fn are_idle(trips: &[Option<Trip>; 2]) -> bool
+fn are_idle(trips: &[Option<SentFlight>; 2]) -> bool
     ensures { IsTrue result → (slice_index_or trips.now 0 None ≡ None)
         × (slice_index_or trips.now 1 None ≡ None) }
 {
@@ -80,7 +80,7 @@ fn are_idle(trips: &[Option<Trip>; 2]) -> bool
 }
 
 /// What a seat has outside, taken out.
-fn take(trips: &mut [Option<Trip>; 2], seat: u32) -> Option<Trip>
+fn take(trips: &mut [Option<SentFlight>; 2], seat: u32) -> Option<SentFlight>
     requires { seat < 2 }
     ensures trip { result ≡ slice_index_or trips.old seat None }
     ensures new { trips.new ≡ slice_set trips.old seat None }
