@@ -12,7 +12,7 @@ use Rattle.atomic_table.specs.Table.{State, keeps, takes, gives, rest, step, ste
 use Rattle.atomic_table.proofs.Lists.{set_else}
 use Rattle.std.proofs.Common.{eq-eqb, ne_eqb}
 use Rattle.kernel_lock.specs.declared.board.View.{View}
-use Rattle.kernel_lock.specs.declared.board.Part.{Part}
+use Rattle.kernel_lock.specs.declared.board.SeatPart.{SeatPart}
 use Rattle.kernel_lock.specs.Laws.{Keeps, Grows}
 use Rattle.kernel_lock.specs.Rule.{Lock, Knows, HasPart, Each, goes_in, with_refused_try, writes, goes_out, known_of, TakesTurn, MakesKnown, ReleasesTurn}
 use Rattle.kernel_lock.specs.Seats.{IsEntered, entries_by}
@@ -186,7 +186,7 @@ module _ {S E N : Type 0} (seat_of : E → ℕ) (history : S → List E) (fits :
               begun_olds = each_imp _ _ begin v.olds k.begun_olds;
               mine = λ _. (set_at r.notes v.number v.note m mine.0, refl, mine.2);
               told = λ _. refl;
-              theirs = subst (Each (λ (p : Part E N). HasPart seat_of history t (set r.notes v.number m) r.owner id p.number p.note p.own × IsPrefix p.seen (history t))) (sym alone) tt;
+              theirs = subst (Each (λ (p : SeatPart E N). HasPart seat_of history t (set r.notes v.number m) r.owner id p.number p.note p.own × IsPrefix p.seen (history t))) (sym alone) tt;
               fresh = λ d. absurd (cc (d, dealt));
               within = λ _. (within.0, within.1, within.2, refl);
             }
@@ -199,7 +199,7 @@ module _ {S E N : Type 0} (seat_of : E → ℕ) (history : S → List E) (fits :
               begun_olds = each_imp _ _ begin u.olds o.begun_olds;
               mine = λ z. other u.number u.note u.own (o.mine z);
               told = o.told;
-              theirs = each_imp _ _ (λ (p : Part E N) z. (other p.number p.note p.own z.0, begin p.seen z.1)) u.others o.theirs;
+              theirs = each_imp _ _ (λ (p : SeatPart E N) z. (other p.number p.note p.own z.0, begin p.seen z.1)) u.others o.theirs;
               fresh = λ d i lo hi. other i None [] (o.fresh d i lo (subst (λ z. i < z) (length-set r.notes v.number m) hi));
               within = λ z. let in' = o.within z in absurd (ne (sym in'.2 ∙ within.2));
             }));

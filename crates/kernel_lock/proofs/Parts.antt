@@ -10,7 +10,7 @@ use lib.Seq.{set-get_or}
 use Rattle.atomic_table.specs.Table.{State, keeps, step, Allows, Enters, Splits, Joins, Final, Seen, opening as table_opening}
 use Rattle.atomic_table.proofs.Lists.{at_set, set_again, set_else, at_longer}
 use Rattle.kernel_lock.specs.declared.board.View.{View}
-use Rattle.kernel_lock.specs.declared.board.Part.{Part}
+use Rattle.kernel_lock.specs.declared.board.SeatPart.{SeatPart}
 use Rattle.kernel_lock.specs.Rule.{Lock, Knows, HasPart, Each, courier, blank_view, dealer_at, dealt_seat, longer_list, longer_seen, with_known_seat, gatherer_of, SitsDown, LooksAtLength}
 use Rattle.kernel_lock.specs.Seats.{entries_by, HasAll, IsClosed}
 use Rattle.kernel_lock.proofs.Begun.{each_imp, each_at, set_at, each_set, longer_is, longer_begun, at_append, at_below, own_between}
@@ -141,7 +141,7 @@ module _ {S E N : Type 0} (seat_of : E → ℕ) (history : S → List E) (fits :
         begun_olds = q.begun_olds;
         mine = λ z. stays u.number u.note u.own (q.mine z);
         told = q.told;
-        theirs = each_imp _ _ (λ (p : Part E N) z. (stays p.number p.note p.own z.0, z.1)) u.others q.theirs;
+        theirs = each_imp _ _ (λ (p : SeatPart E N) z. (stays p.number p.note p.own z.0, z.1)) u.others q.theirs;
         fresh = λ e i lo hi. stays i None [] (q.fresh e i lo hi);
         within = q.within;
       })
@@ -185,7 +185,7 @@ module _ {S E N : Type 0} (seat_of : E → ℕ) (history : S → List E) (fits :
         begun_olds = k.begun_olds;
         mine = λ z. absurd (cc (z, unseated));
         told = λ z. absurd (cc (z, unseated));
-        theirs = (((part.0, part.1, here w.number refl), o.begun), each_imp _ _ (λ (p : Part E N) z. (mine p.number p.note p.own z.0, z.1)) v.others k.theirs);
+        theirs = (((part.0, part.1, here w.number refl), o.begun), each_imp _ _ (λ (p : SeatPart E N) z. (mine p.number p.note p.own z.0, z.1)) v.others k.theirs);
         fresh = λ z. absurd (cc (z, dealt));
         within = λ z. absurd (cc (z, out));
       })
@@ -199,7 +199,7 @@ module _ {S E N : Type 0} (seat_of : E → ℕ) (history : S → List E) (fits :
         begun_olds = q.begun_olds;
         mine = λ z. stays u.number u.note u.own (q.mine z);
         told = q.told;
-        theirs = each_imp _ _ (λ (p : Part E N) z. (stays p.number p.note p.own z.0, z.1)) u.others q.theirs;
+        theirs = each_imp _ _ (λ (p : SeatPart E N) z. (stays p.number p.note p.own z.0, z.1)) u.others q.theirs;
         fresh = λ e i lo hi. stays i None [] (q.fresh e i lo hi);
         within = q.within;
       })
@@ -219,11 +219,11 @@ module _ {S E N : Type 0} (seat_of : E → ℕ) (history : S → List E) (fits :
   )
 
   -- with all seats gathered nobody is inside, and the state that lies in the slot fits all notes
-  pub closes : (id : ℕ) (ps : List (Part E N)) (ws : List ℕ) (xs : List (Option S)) → Final (Seen Rule id (gatherer_of ps)) ws xs → HasAll seats ps
+  pub closes : (id : ℕ) (ps : List (SeatPart E N)) (ws : List ℕ) (xs : List (Option S)) → Final (Seen Rule id (gatherer_of ps)) ws xs → HasAll seats ps
       → (t : S) × (get_elem? xs 0 ≡ some (Some t)) × IsClosed seat_of history fits opening seats ps t
   closes id ps ws xs (s, (r, at), words, wide, lies) all =
       let k = r.each id (gatherer_of ps) at in
-      let P : Part E N → Type 0 = λ p. HasPart seat_of history r.core r.notes r.owner id p.number p.note p.own × IsPrefix p.seen (history r.core) in
+      let P : SeatPart E N → Type 0 = λ p. HasPart seat_of history r.core r.notes r.owner id p.number p.note p.own × IsPrefix p.seen (history r.core) in
       let free : turn s ≡ 0 = dite (ℕ_discrete (turn s) 0) (λ e. e) (λ busy.
       let (u, is, inside) = r.held busy in
       let q = r.each r.holder u is in

@@ -3,7 +3,7 @@ use Rattle.std.proofs.Common.{◌≡◌, ℕ, zero, suc, ◌+◌, List, [], ◌�
 use Rattle.std.specs.List.{All}
 use mathlib.Core.Option.{some, some-injective}
 use lib.ListN.{get_elem?}
-use Rattle.kernel_lock.specs.declared.board.Part.{Part}
+use Rattle.kernel_lock.specs.declared.board.SeatPart.{SeatPart}
 use Rattle.kernel_lock.specs.Seats.{HasAll}
 use Rattle.kernel_lock.specs.Tally.{sum_out, worth}
 
@@ -37,12 +37,12 @@ out_three (n ∷ ns) x y z long a b c =
     let e : sum_out (n ∷ ns) ≡ worth n + sum_out ns = refl in omega (arith, p, rest, e)
 
 module _ {E N : Type 0} where
-  pub has_two : (p q : Part E N) (n : ℕ) → n ≡ 2 → p.number ≡ 0 → q.number ≡ 1 → HasAll n (p ∷ q ∷ [])
+  pub has_two : (p q : SeatPart E N) (n : ℕ) → n ≡ 2 → p.number ≡ 0 → q.number ≡ 1 → HasAll n (p ∷ q ∷ [])
   has_two p q n two a b zero lt = (0, p, refl, a)
   has_two p q n two a b (suc zero) lt = (1, q, refl, b)
   has_two p q n two a b (suc (suc k)) lt = absurd (omega (arith, lt, two))
 
-  pub has_three : (p q r : Part E N) (n : ℕ) → n ≡ 3 → p.number ≡ 0 → q.number ≡ 1 → r.number ≡ 2 → HasAll n (p ∷ q ∷ r ∷ [])
+  pub has_three : (p q r : SeatPart E N) (n : ℕ) → n ≡ 3 → p.number ≡ 0 → q.number ≡ 1 → r.number ≡ 2 → HasAll n (p ∷ q ∷ r ∷ [])
   has_three p q r n three a b c zero lt = (0, p, refl, a)
   has_three p q r n three a b c (suc zero) lt = (1, q, refl, b)
   has_three p q r n three a b c (suc (suc zero)) lt = (2, r, refl, c)

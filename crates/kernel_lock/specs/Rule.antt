@@ -7,7 +7,7 @@ use Rattle.atomic_table.specs.Table.{State, Me, Step}
 use Rattle.atomic_table.specs.declared.shared.Seat.{Seat}
 use Rattle.atomic_table.specs.Seated.{TableId}
 use Rattle.kernel_lock.specs.declared.board.View.{View}
-use Rattle.kernel_lock.specs.declared.board.Part.{Part}
+use Rattle.kernel_lock.specs.declared.board.SeatPart.{SeatPart}
 use Rattle.kernel_lock.specs.Seats.{SeatView, entries_by, empties, IsEntered}
 
 -- Each element has the property.
@@ -47,7 +47,7 @@ module _ {S E N : Type 0} where
   abbrev pub longer_seen : View S E N → View S E N → View S E N
   longer_seen v w = record v { seen = longer_list v.seen w.seen; olds = v.seen ∷ w.seen ∷ v.olds }
 
-  abbrev pub known_of : View S E N → Part E N
+  abbrev pub known_of : View S E N → SeatPart E N
   known_of v = record { number = v.number; note = v.note; own = v.own; seen = v.seen }
 
   -- Whoever closes keeps what is known of the seat that it takes in.
@@ -55,7 +55,7 @@ module _ {S E N : Type 0} where
   with_known_seat v w = record v { others = known_of w ∷ v.others }
 
   -- Whoever closes knows nothing besides.
-  abbrev pub gatherer_of : List (Part E N) → View S E N
+  abbrev pub gatherer_of : List (SeatPart E N) → View S E N
   gatherer_of ps = record blank_view { others = ps }
 
   abbrev pub goes_in : View S E N → S → View S E N
@@ -99,7 +99,7 @@ module _ {S E N : Type 0} (seat_of : E → ℕ) (history : S → List E) where
     pub begun_olds : Each (λ h. IsPrefix h (history core)) v.olds
     pub mine : v.seated ≡ true → HasPart core notes owner j v.number v.note v.own
     pub told : v.seated ≡ true → entries_by seat_of v.number v.seen ≡ v.own
-    pub theirs : Each (λ (p : Part E N). HasPart core notes owner j p.number p.note p.own × IsPrefix p.seen (history core)) v.others
+    pub theirs : Each (λ (p : SeatPart E N). HasPart core notes owner j p.number p.note p.own × IsPrefix p.seen (history core)) v.others
     pub fresh : v.deals ≡ true → (k : ℕ) → v.number ≤ k → k < length notes → HasPart core notes owner j k None []
     pub within : v.inside ≡ true → (v.seated ≡ true) × (turn ≡ v.number + 1) × (holder ≡ j) × (v.state ≡ Some core)
 

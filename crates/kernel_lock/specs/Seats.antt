@@ -5,7 +5,7 @@ use mathlib.Core.Option.{some}
 use mathlib.Core.List.{IsPrefix}
 use lib.ListN.{get_elem?}
 use Rattle.atomic_table.specs.Seated.{TableId}
-use Rattle.kernel_lock.specs.declared.board.Part.{Part}
+use Rattle.kernel_lock.specs.declared.board.SeatPart.{SeatPart}
 
 -- A lock: which one it is, how many seats it has, and the state that it was started with.
 pub record LockView (S : Type 0) : Type 0 where
@@ -33,7 +33,7 @@ pub record SeatView (S E N : Type 0) : Type 0 where
 -- What whoever closes has taken in: of which lock, and what is known of each seat.
 pub record GatheredView (E N : Type 0) : Type 0 where
   pub lock : TableId
-  pub parts : List (Part E N)
+  pub parts : List (SeatPart E N)
 
 -- The entries of one seat, in their order.
 abbrev pub entries_by : {E : Type 0} → (E → ℕ) → ℕ → List E → List E
@@ -46,8 +46,8 @@ empties (Some _) (Some _) = false
 empties None _ = false
 
 -- Each seat's number is that of one of the parts.
-abbrev pub HasAll : {E N : Type 0} → ℕ → List (Part E N) → Type 0
-HasAll {E} {N} seats ps = (k : ℕ) → k < seats → (i : ℕ) × (p : Part E N) × (get_elem? ps i ≡ some p) × (p.number ≡ k)
+abbrev pub HasAll : {E N : Type 0} → ℕ → List (SeatPart E N) → Type 0
+HasAll {E} {N} seats ps = (k : ℕ) → k < seats → (i : ℕ) × (p : SeatPart E N) × (get_elem? ps i ≡ some p) × (p.number ≡ k)
 
 module _ {S E N : Type 0} where
   -- The seat is one of this lock's. Each seat of a lock has the lock's opening.
@@ -55,7 +55,7 @@ module _ {S E N : Type 0} where
   IsSeatOf l v = (v.lock ≡ l.lock) × (v.opening ≡ Some l.opening) × (v.seats ≡ l.seats)
 
   -- What is known of the seat.
-  abbrev pub part_of : SeatView S E N → Part E N
+  abbrev pub part_of : SeatView S E N → SeatPart E N
   part_of v = record { number = v.number; note = v.note; own = v.own; seen = v.seen }
 
   -- A seat that has been nowhere.
@@ -93,20 +93,20 @@ module _ {S E N : Type 0} (seat_of : E → ℕ) (history : S → List E) where
   }
 
   -- The state holds to what is known of a seat: its note is the seat's, the history begins with what the seat has seen, and it has of the seat's entries just those that the seat made.
-  abbrev pub HoldsTo : List (Option N) → S → Part E N → Type 0
+  abbrev pub HoldsTo : List (Option N) → S → SeatPart E N → Type 0
   HoldsTo notes s p = (get_elem? notes p.number ≡ some p.note) × IsPrefix p.seen (history s) × (entries_by seat_of p.number (history s) ≡ p.own)
 
 module _ {S E N : Type 0} (seat_of : E → ℕ) (history : S → List E) (fits : S → S → List (Option N) → Type 0) where
   -- The state fits the opening and the notes of all seats, and holds to what is known of one seat.
-  pub record IsEntered (opening : S) (seats : ℕ) (p : Part E N) (s : S) : Type 0 where
+  pub record IsEntered (opening : S) (seats : ℕ) (p : SeatPart E N) (s : S) : Type 0 where
     pub notes : List (Option N)
     pub fitting : fits opening s notes
     pub whole : length notes ≡ seats
     pub holds : HoldsTo seat_of history notes s p
 
   -- The state fits the opening and the notes of all seats, and holds to what is known of each seat.
-  pub record IsClosed (opening : S) (seats : ℕ) (ps : List (Part E N)) (s : S) : Type 0 where
+  pub record IsClosed (opening : S) (seats : ℕ) (ps : List (SeatPart E N)) (s : S) : Type 0 where
     pub notes : List (Option N)
     pub fitting : fits opening s notes
     pub whole : length notes ≡ seats
-    pub holds : (i : ℕ) (p : Part E N) → get_elem? ps i ≡ some p → HoldsTo seat_of history notes s p
+    pub holds : (i : ℕ) (p : SeatPart E N) → get_elem? ps i ≡ some p → HoldsTo seat_of history notes s p

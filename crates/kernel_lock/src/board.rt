@@ -19,7 +19,7 @@ impl<S> Drop for About<S> {
 }
 
 /// What is known of one seat: its number, its note, the entries that it made, and the history that it has seen.
-pub struct Part<E, N> {
+pub struct SeatPart<E, N> {
     pub number: u64,
     pub note: Option<N>,
     pub own: LinkedList<E>,
@@ -40,7 +40,7 @@ pub struct View<S, E, N> {
     pub number: u64,
     pub note: Option<N>,
     pub own: LinkedList<E>,
-    pub others: LinkedList<Part<E, N>>,
+    pub others: LinkedList<SeatPart<E, N>>,
     pub seen: LinkedList<E>,
     pub olds: LinkedList<LinkedList<E>>,
     pub refused: u64,
