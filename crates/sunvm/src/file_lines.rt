@@ -4,7 +4,7 @@ ghost use Rattle.vnode_files.specs.Files.{block_count};
 ghost use Rattle.sunvm.specs.Opened.{OpenedFile, with_line_file, with_line_files};
 ghost use Rattle.sunvm.specs.Placing.{HasOpened, IsPlaceable, LieRight, Placing};
 
-use crate::free_places::{extents_of, least_place};
+use crate::free_places::{extents_of, place_for};
 use crate::table_files::PlaceStop;
 use std::alloc::Global;
 use vm_script::{SetupAct, SetupLine};
@@ -38,7 +38,7 @@ fn add_line(alloc: Global, act: &SetupAct, files: &mut Files) -> Result<(), Plac
     }
     let used = extents_of(alloc, files, *disk)?;
     let blocks = files.disk_blocks(*disk).unwrap_or(0);
-    let Some(start) = least_place(&used, blocks, *pages) else {
+    let Some(start) = place_for(&used, blocks, *pages) else {
         return Err(PlaceStop::Rule(12));
     };
     let extent = Extent {

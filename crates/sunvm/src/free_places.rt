@@ -23,7 +23,7 @@ fn is_any_in_way(extents: &[Extent], start: u64, end: u64) -> bool
 }
 
 // Whether so many blocks from a block on lie on the disk and in no extent.
-fn is_clear(extents: &[Extent], blocks: u32, start: u32, pages: u32) -> bool
+fn is_free_run(extents: &[Extent], blocks: u32, start: u32, pages: u32) -> bool
     requires { 1 ≤ pages }
     ensures { result ≡ is_free_run blocks extents.now pages start }
 {
@@ -34,7 +34,7 @@ fn is_clear(extents: &[Extent], blocks: u32, start: u32, pages: u32) -> bool
 /// The least block from block 1 on from which so many blocks are free, where the extents of the disk's files don't fill a table.
 ///
 /// For each block of the disk it looks at each extent.
-pub(crate) fn least_place(extents: &[Extent], blocks: u32, pages: u32) -> Option<u32>
+pub(crate) fn place_for(extents: &[Extent], blocks: u32, pages: u32) -> Option<u32>
     requires { 1 ≤ pages }
     ensures { result ≡ place_for blocks extents.now pages }
 {
@@ -42,7 +42,7 @@ pub(crate) fn least_place(extents: &[Extent], blocks: u32, pages: u32) -> Option
         return None;
     }
     for start in 1..blocks {
-        if is_clear(extents, blocks, start, pages) {
+        if is_free_run(extents, blocks, start, pages) {
             return Some(start);
         }
     }

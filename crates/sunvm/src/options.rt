@@ -37,7 +37,7 @@ fn command<'a>(alloc: Global) -> Result<Command<'a>, AllocError>
 }
 
 // What was found in the words.
-fn options_found(matches: &ArgMatches<'_>) -> Options
+fn options_in(matches: &ArgMatches<'_>) -> Options
     ensures { result ≡ options_in (rows_of (found_of matches.now)) }
 {
     Options {
@@ -56,7 +56,7 @@ pub fn read_options(alloc: Global, words: &[String]) -> Result<Option<Options>, 
         → takes sunvm_command (map string_bytes words.now) ≡ false) }
 {
     match command(alloc)?.try_get_matches_from(words) {
-        Ok(matches) => Ok(Some(options_found(&matches))),
+        Ok(matches) => Ok(Some(options_in(&matches))),
         Err(error) => match error.kind() {
             ErrorKind::OutOfMemory => Err(AllocError),
             _ => Ok(None),

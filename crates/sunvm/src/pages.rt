@@ -37,7 +37,7 @@ fn write_pages<D: Disk>(disk: &mut Unopened<D>, start: u32, bytes: &[u8]) -> Res
 }
 
 // The first block of a file.
-fn first_block(info: &FileInfo) -> u32
+fn front_block(info: &FileInfo) -> u32
     ensures { result ≡ front_block info.now.extents }
 {
     match info.extents.list().first() {
@@ -55,7 +55,7 @@ fn write_on<D: Disk>(disk: &mut Unopened<D>, info: &FileInfo, bytes: &[u8]) -> R
     ensures fault { IfErr result (IsFaultOne D.seen disk.new) }
 {
     if info.disk == disk.number() {
-        return write_pages(disk, first_block(info), bytes);
+        return write_pages(disk, front_block(info), bytes);
     }
     Ok(())
 }

@@ -12,7 +12,7 @@ use Rattle.sunvm.specs.Opened.{OpenedFile, new_file, place_for, with_line_file, 
 use Rattle.sunvm.specs.Placing.{HasOpened, HaveSetDisks, IsPlaceable, Gave}
 use Rattle.sunvm.proofs.FileLineLemmas.{line-old, line-new, place-found, place-set, beside-found, opened-push}
 use Rattle.sunvm.proofs.file_lines.add_line.Goals as goal
-use Rattle.sunvm.proofs.file_lines.add_line.Goals.{After-is_some, After-least_place, After-add}
+use Rattle.sunvm.proofs.file_lines.add_line.Goals.{After-is_some, After-place_for, After-add}
 
 few : (c : After-is_some) → length c.args.files.now.files < 64
 few c = omega (arith, c.if-count-ge64.false, c.count.ensures.count)
@@ -30,26 +30,26 @@ returns-then-is_some-clause-placed c =
     c.number.result (few d) (numbered d) (sym c.is_some.ensures ∙ c.if-is_some.true)
 
 -- what the line gives where its name is new
-given : (c : After-least_place) → (before : List OpenedFile) → HasOpened c.args.files.now before
+given : (c : After-place_for) → (before : List OpenedFile) → HasOpened c.args.files.now before
     → with_line_file (block_count c.args.files.now.disks) before c.args.act.now
-    ≡ with_placed before (new_file c.in-File.name c.in-File.writable c.in-File.disk c.in-File.pages c.in-File.bytes) c.least_place.result
+    ≡ with_placed before (new_file c.in-File.name c.in-File.writable c.in-File.disk c.in-File.pages c.in-File.bytes) c.place_for.result
 given c before opened =
-    let d = (goal.at.After-least_place c).After-is_some in
+    let d = (goal.at.After-place_for c).After-is_some in
     ap (with_line_file (block_count c.args.files.now.disks) before) c.in-File.is
     ∙ line-new (block_count c.args.files.now.disks) c.args.files.now before opened c.in-File.name c.in-File.writable c.in-File.disk c.in-File.pages c.in-File.bytes
-    c.number.result c.deref.result.now c.unwrap_or-blocks.result c.least_place.result (few d) (numbered d) (sym c.is_some.ensures ∙ c.if-is_some.false)
-    (c.deref.ensures.value ∙ c.in_ok-used.ensures) (c.unwrap_or-blocks.ensures ∙ ap (λ (o : Option ℕ). unwrap_or o 0) c.disk_blocks.ensures) c.least_place.ensures
+    c.number.result c.deref.result.now c.unwrap_or-blocks.result c.place_for.result (few d) (numbered d) (sym c.is_some.ensures ∙ c.if-is_some.false)
+    (c.deref.ensures.value ∙ c.in_ok-used.ensures) (c.unwrap_or-blocks.ensures ∙ ap (λ (o : Option ℕ). unwrap_or o 0) c.disk_blocks.ensures) c.place_for.ensures
 
-pub returns-in_default-least_place-clause-placed : goal.returns-in_default-least_place-clause-placed
-returns-in_default-least_place-clause-placed c =
-    let d = (goal.at.returns-in_default-least_place-clause-placed c).After-least_place in
-    λ before opened. given d before opened ∙ ap (with_placed before (new_file c.in-File.name c.in-File.writable c.in-File.disk c.in-File.pages c.in-File.bytes)) c.in_default-least_place.is
+pub returns-in_default-place_for-clause-placed : goal.returns-in_default-place_for-clause-placed
+returns-in_default-place_for-clause-placed c =
+    let d = (goal.at.returns-in_default-place_for-clause-placed c).After-place_for in
+    λ before opened. given d before opened ∙ ap (with_placed before (new_file c.in-File.name c.in-File.writable c.in-File.disk c.in-File.pages c.in-File.bytes)) c.in_default-place_for.is
 
 pub add-requires-clause-blocks : goal.add-requires-clause-blocks
 add-requires-clause-blocks c =
     let law = subst IsPlaceable c.in-File.is c.requires.placeable in
     let e : Extent = record { start = c.in-Some.start; pages = c.in-File.pages } in
-    let f = place-found c.unwrap_or-blocks.result c.deref.result.now c.in-File.pages c.in-Some.start law.2 (sym c.least_place.ensures ∙ c.in-Some.is) in
+    let f = place-found c.unwrap_or-blocks.result c.deref.result.now c.in-File.pages c.in-Some.start law.2 (sym c.place_for.ensures ∙ c.in-Some.is) in
     let end : extent_end e ≤ 2 ^ 32 = omega (arith, f.within) in
     subst (λ (es : List Extent). All (λ (x : Extent). extent_end x ≤ 2 ^ 32) es) (sym c.in_ok-new.ensures)
     (All-cons (λ (x : Extent). extent_end x ≤ 2 ^ 32) e [] end (All-nil (λ (x : Extent). extent_end x ≤ 2 ^ 32)))
@@ -60,7 +60,7 @@ added c = record { name = c.new-name.result; disk = c.in-File.disk; extents = c.
 
 pub returns-clause-placed : goal.returns-clause-placed
 returns-clause-placed c =
-    let d = (goal.at.returns-clause-placed c).After-least_place in
+    let d = (goal.at.returns-clause-placed c).After-place_for in
     λ before opened.
     let file = new_file c.in-File.name c.in-File.writable c.in-File.disk c.in-File.pages c.in-File.bytes in
     let name : c.new-name.result ≡ c.in-File.name = c.new-name.ensures ∙ c.bytes.ensures in
@@ -82,7 +82,7 @@ returns-clause-lie c =
     let size : c.unwrap_or-blocks.result ≡ block_count old.disks c.in-File.disk = c.unwrap_or-blocks.ensures ∙ ap (λ (o : Option ℕ). unwrap_or o 0) c.disk_blocks.ensures in
     let uses : c.deref.result.now ≡ extents_on c.in-File.disk old.files = c.deref.ensures.value ∙ c.in_ok-used.ensures in
     let found : place_for c.unwrap_or-blocks.result (extents_on c.in-File.disk old.files) c.in-File.pages ≡ Some c.in-Some.start =
-    ap (λ (es : List Extent). place_for c.unwrap_or-blocks.result es c.in-File.pages) (sym uses) ∙ sym c.least_place.ensures ∙ c.in-Some.is in
+    ap (λ (es : List Extent). place_for c.unwrap_or-blocks.result es c.in-File.pages) (sym uses) ∙ sym c.place_for.ensures ∙ c.in-Some.is in
     let beside = beside-found old info c.unwrap_or-blocks.result c.in-File.pages c.in-Some.start c.in_ok-new.ensures c.requires.lie.apart law.2 size found in
     let keeps = c.in_ok-add.ensures.layout beside in
     let f = place-found c.unwrap_or-blocks.result (extents_on c.in-File.disk old.files) c.in-File.pages c.in-Some.start law.2 found in

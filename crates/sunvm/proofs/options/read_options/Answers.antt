@@ -11,8 +11,8 @@ use Rattle.sunvm.proofs.options.read_options.Goals as goal
 pub returns-in-Ok-clause-means : goal.returns-in-Ok-clause-means
 returns-in-Ok-clause-means c =
     let words = map (string_bytes {Z = Global}) c.args.words.now in
-    words_taken (app_of c.in_ok-command.field-0) words (rows_of (found_of c.in-Ok.matches)) c.options_found.result c.in_ok-command.ensures
-    (λ s. (c.in-Ok.ensures.matches s).0) c.in-Ok.ensures.kinds c.options_found.ensures
+    words_taken (app_of c.in_ok-command.field-0) words (rows_of (found_of c.in-Ok.matches)) c.options_in.result c.in_ok-command.ensures
+    (λ s. (c.in-Ok.ensures.matches s).0) c.in-Ok.ensures.kinds c.options_in.ensures
 
 pub returns : goal.returns
 returns c =

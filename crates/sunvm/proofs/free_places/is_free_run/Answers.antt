@@ -4,7 +4,7 @@ use Rattle.std.proofs.Common.{ap, ◌∙◌, sym, inl, inr}
 use Rattle.std.proofs.lemmas.Bool.{cases_Bool, lt-leb}
 use Rattle.volume_format.specs.Place.{is_in_way}
 use Rattle.sunvm.proofs.ClearLemmas.{clear-run, blocked-run, past-run}
-use Rattle.sunvm.proofs.free_places.is_clear.Goals as goal
+use Rattle.sunvm.proofs.free_places.is_free_run.Goals as goal
 
 pub returns-then-end-blocks : goal.returns-then-end-blocks
 returns-then-end-blocks c =

@@ -5,7 +5,7 @@ use Rattle.clap.specs.Matches.{found_of}
 use Rattle.clap.specs.Walk.{rows_of}
 use Rattle.sunvm.specs.Options.{flag_of_word, number_of_word}
 use Rattle.sunvm.proofs.WordValues.{flag_found, number_found, same_options}
-use Rattle.sunvm.proofs.options.options_found.Goals as goal
+use Rattle.sunvm.proofs.options.options_in.Goals as goal
 
 pub returns : goal.returns
 returns c =

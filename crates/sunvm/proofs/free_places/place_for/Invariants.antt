@@ -1,7 +1,7 @@
 use Rattle.std.specs.Prelude.{◌≡◌, ◌-◌}
 use Rattle.std.specs.List.{find, range_with_len}
 use Rattle.sunvm.specs.Opened.{is_free_run}
-use Rattle.sunvm.proofs.free_places.least_place.Given as goal
+use Rattle.sunvm.proofs.free_places.place_for.Given as goal
 
 -- it is among the blocks that are left
 abbrev pub invariant-loop-start : goal.invariant-loop-start
