@@ -1,7 +1,7 @@
 //! Pages, lines and addresses.
 ghost use Rattle.std.specs.Prelude.{◌≡◌, ◌≤◌, ◌+◌, ◌↔◌, IsTrue};
 ghost use Rattle.std.specs.Bool.{OnTrue};
-ghost use Rattle.vm_types.specs.Pages.{end_page, page, pages_in, bytes_before, IsUserAddress, IsUserPage, is_range, line_rest as rest_of_line};
+ghost use Rattle.vm_types.specs.Pages.{end_page, page, pages_in, bytes_before, IsUserAddress, IsUserPage, is_range, line_rest};
 
 /// The bytes of a page.
 pub const PAGE_SIZE: u32 = 4096;
@@ -68,7 +68,7 @@ pub fn is_user_address(addr: u32) -> bool
 
 /// How many bytes there are from this offset to the end of its line: 1 to 64.
 pub fn line_rest(offset: u32) -> u32
-    ensures rest { result ≡ rest_of_line offset }
+    ensures rest { result ≡ line_rest offset }
     ensures some { 1 ≤ result }
     ensures one_line { result ≤ LINE_SIZE }
 {
