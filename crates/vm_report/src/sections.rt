@@ -3,7 +3,7 @@ ghost use Rattle.std.specs.Prelude.{◌≡◌, ◌≤◌, ◌<◌, ◌^◌, ◌+
 ghost use Rattle.std.specs.List.{list_any};
 ghost use Rattle.vm_types.specs.WellFormed.{IsWellFormed};
 ghost use Rattle.flat_model.specs.Told.{entries_of};
-ghost use Rattle.vm_script.specs.Told.{is_birth as births};
+ghost use Rattle.vm_script.specs.Told.{is_birth};
 ghost use Rattle.vm_report.specs.Groups.{is_born_by};
 ghost use Rattle.vm_report.specs.Report as report;
 
@@ -170,7 +170,7 @@ fn push_section(
 }
 
 fn is_birth(process: u32, entry: &Entry) -> bool
-    ensures { result ≡ births process entry.now }
+    ensures { result ≡ is_birth process entry.now }
 {
     match (&entry.call, &entry.reply) {
         (Call::Fork { child }, Reply::Done) => *child == process,
@@ -179,7 +179,7 @@ fn is_birth(process: u32, entry: &Entry) -> bool
 }
 
 fn is_forked(process: u32, history: &[Entry]) -> bool
-    ensures { result ≡ list_any (births process) history.now }
+    ensures { result ≡ list_any (is_birth process) history.now }
 {
     history.iter().any(|e| is_birth(process, e))
 }
