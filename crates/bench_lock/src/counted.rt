@@ -29,19 +29,19 @@ impl Large {
 
 /// A count, and what moves with it.
 #[derive(Drop)]
-pub struct Counted<B> {
+pub struct VisitCount<B> {
     pub visits: u64,
     pub bulk: B,
 }
 
-impl<B> Counted<B> {
-    pub fn of(bulk: B) -> Counted<B> {
-        Counted { visits: 0, bulk }
+impl<B> VisitCount<B> {
+    pub fn of(bulk: B) -> VisitCount<B> {
+        VisitCount { visits: 0, bulk }
     }
 }
 
 /// The state keeps no history, and any change of it is allowed.
-impl<B> Guarded for Counted<B> {
+impl<B> Guarded for VisitCount<B> {
     ghost use Rattle.bench_lock.specs.Free.{seat_itself, no_entries, no_note, any_state, any_change};
     ghost use Rattle.std.specs.Prelude.{◌≡◌, []};
     ghost use Rattle.std.proofs.Common.{refl};

@@ -7,7 +7,7 @@
 mod counted;
 mod visits;
 
-use counted::{Counted, Large, Small};
+use counted::{Large, Small, VisitCount};
 use std::alloc::Global;
 use std::boxed::Box;
 use std::{env, io};
@@ -23,11 +23,11 @@ fn number_in(word: Option<String>, default: u64) -> u64 {
 // Visits a lock round a state so many times. `None` is want of memory.
 fn run(alloc: Global, what: u64, times: u64) -> Option<u64> {
     match what {
-        0 => visit_all(alloc, Counted::of(Small::new()), times),
-        1 => visit_all(alloc, Counted::of(Large::new()), times),
+        0 => visit_all(alloc, VisitCount::of(Small::new()), times),
+        1 => visit_all(alloc, VisitCount::of(Large::new()), times),
         _ => {
             let bulk = Box::new(alloc, Large::new()).ok()?;
-            visit_all(alloc, Counted::of(bulk), times)
+            visit_all(alloc, VisitCount::of(bulk), times)
         }
     }
 }

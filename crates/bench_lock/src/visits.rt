@@ -2,13 +2,13 @@
 ghost use Rattle.std.specs.Prelude.{◌≡◌, false, vec_len};
 ghost use Rattle.kernel_lock.specs.Seats.{AreNew, IsSeatOf, newcomer};
 
-use crate::counted::Counted;
+use crate::counted::VisitCount;
 use kernel_lock::lock::KernelLock;
 use kernel_lock::seat::Seat;
 use std::alloc::Global;
 
 // Goes in, counts, and goes out.
-fn visit<B: Drop>(lock: &KernelLock<Counted<B>>, seat: &mut Seat<Counted<B>>)
+fn visit<B: Drop>(lock: &KernelLock<VisitCount<B>>, seat: &mut Seat<VisitCount<B>>)
     requires seat { IsSeatOf lock.now seat.old }
     requires outside { seat.old.inside ≡ false }
     ensures seat { IsSeatOf lock.now seat.new }
@@ -21,7 +21,11 @@ fn visit<B: Drop>(lock: &KernelLock<Counted<B>>, seat: &mut Seat<Counted<B>>)
     }
 }
 
-fn visit_times<B: Drop>(lock: &KernelLock<Counted<B>>, seat: &mut Seat<Counted<B>>, times: u64)
+fn visit_times<B: Drop>(
+    lock: &KernelLock<VisitCount<B>>,
+    seat: &mut Seat<VisitCount<B>>,
+    times: u64,
+)
     requires seat { IsSeatOf lock.now seat.old }
     requires outside { seat.old.inside ≡ false }
     ensures seat { IsSeatOf lock.now seat.new }
@@ -35,9 +39,9 @@ fn visit_times<B: Drop>(lock: &KernelLock<Counted<B>>, seat: &mut Seat<Counted<B
 
 // Takes the one seat off its row.
 fn only_seat<B: Drop>(
-    _lock: &KernelLock<Counted<B>>,
-    mut row: Vec<Seat<Counted<B>>>,
-) -> Seat<Counted<B>>
+    _lock: &KernelLock<VisitCount<B>>,
+    mut row: Vec<Seat<VisitCount<B>>>,
+) -> Seat<VisitCount<B>>
     requires one { vec_len row ≡ 1 }
     requires new { AreNew _lock.now row.items }
     ensures { result ≡ newcomer _lock.now 0 }
@@ -51,7 +55,7 @@ fn only_seat<B: Drop>(
 
 /// Puts a state behind a lock, visits it so many times, and says how many visits it counted. `None` is
 /// want of memory.
-pub fn visit_all<B: Drop>(alloc: Global, state: Counted<B>, times: u64) -> Option<u64> {
+pub fn visit_all<B: Drop>(alloc: Global, state: VisitCount<B>, times: u64) -> Option<u64> {
     let Ok((lock, row)) = KernelLock::start(alloc, state, 1) else {
         return None;
     };

@@ -33,7 +33,7 @@ use Rattle.seg_vn.proofs.AnyPlaces.{kept-own, kept-shared}
 use Rattle.seg_vn.proofs.SlotsDue.{due-none, made-still, slots-kept}
 use Rattle.seg_vn.proofs.Takes.{takes-none}
 use Rattle.fault_entry.specs.Reaching.{may_access, ReachesPage, ServesAccess, after_reach}
-use Rattle.fault_entry.specs.declared.access.Access.TheVariants as access
+use Rattle.fault_entry.specs.declared.access.AccessStep.TheVariants as access
 use Rattle.fault_entry.proofs.Targets.{unaligned, unmapped, refused, past, may-reach}
 use Rattle.fault_entry.proofs.Words.{name, place-shows, place-writable}
 

@@ -40,14 +40,14 @@ use Rattle.seg_ops.specs.SlotsDue.{MapPlace, MakesSlotAt, slot_due}
 use Rattle.seg_vn.proofs.SlotsDue.{made-still}
 use Rattle.fault_entry.specs.Accesses.{IsShown, ServesWord}
 use Rattle.fault_entry.specs.Reaching.{ServesAccess, after_reach}
-use Rattle.fault_entry.specs.declared.access.Access.{Access}
-use Rattle.fault_entry.specs.declared.access.Access.TheVariants as access
+use Rattle.fault_entry.specs.declared.access.AccessStep.{AccessStep}
+use Rattle.fault_entry.specs.declared.access.AccessStep.TheVariants as access
 use Rattle.fault_entry.proofs.Joined.{acts-after, store-same}
 use Rattle.fault_entry.proofs.Targets.{there}
 use Rattle.fault_entry.proofs.Words.{load-signals, store-signals, load-acts, store-acts}
 
 -- what the change before it was leaves flat memory well formed
-reach-whole : (answer : Access) (write : Bool) (F : Flat) (p q : ℕ) → IsFlat F → IsFlat (after_reach answer write F p q)
+reach-whole : (answer : AccessStep) (write : Bool) (F : Flat) (p q : ℕ) → IsFlat F → IsFlat (after_reach answer write F p q)
 reach-whole (access.Reached frame) true F p q flat = own_shown_law.whole F p q flat
 reach-whole (access.Reached frame) false F p q flat = flat
 reach-whole (access.Refused s) write F p q flat = flat
@@ -55,7 +55,7 @@ reach-whole (access.Need plan) write F p q flat = flat
 reach-whole (access.Busy h) write F p q flat = flat
 
 -- frames are taken, a page may be made, and then pages change
-done-serves : (old new : World) (made : World) (spaces : Spaces) (pending more p a n : ℕ) (write : Bool) (answer : Access) (c : Call) (r : Reply) → (s : ServesAccess (memory_of old spaces) (memory_of made spaces) pending more p a n write answer)
+done-serves : (old new : World) (made : World) (spaces : Spaces) (pending more p a n : ℕ) (write : Bool) (answer : AccessStep) (c : Call) (r : Reply) → (s : ServesAccess (memory_of old spaces) (memory_of made spaces) pending more p a n write answer)
     → ((cleared : ℕ) (born : set.FinSet nat_cmp) (notes : Notes) → IsDue (after_reach answer write (flat_memory (memory_of s.mid spaces) born notes) p (page a)) (record { process = p; call = c; reply = r; cleared = cleared })
     → IsDue (flat_memory (memory_of s.mid spaces) born notes) (record { process = p; call = c; reply = r; cleared = cleared })
     × (after_act (after_reach answer write (flat_memory (memory_of s.mid spaces) born notes) p (page a)) (record { process = p; call = c; reply = r; cleared = cleared }) ≡ after_act (flat_memory (memory_of s.mid spaces) born notes) (record { process = p; call = c; reply = r; cleared = cleared })))

@@ -23,7 +23,7 @@ use vm_world::World;
 
 /// What an access comes to before its word is moved.
 #[derive(Clone, Copy, PartialEq, Eq, Debug)]
-pub(crate) enum Access {
+pub(crate) enum AccessStep {
     /// It goes to this frame: the page has a translation that lets it, in which it was noted.
     Reached(u32),
     /// This signal is due.
@@ -71,7 +71,7 @@ pub(crate) fn reach<D: Disk>(
     addr: u32,
     size: u32,
     write: bool,
-) -> Access
+) -> AccessStep
     requires size { IsWordSize size }
     requires home { (beside : ℕ) → (frame : ℕ) × (frame ≢ beside)
         × IsSome (bytes_at world.old.store.frames frame) }
@@ -95,22 +95,22 @@ pub(crate) fn reach<D: Disk>(
     } }
 {
     if addr % size != 0 {
-        return Access::Refused(Signal::Align);
+        return AccessStep::Refused(Signal::Align);
     }
     let page = addr / 4096;
     let Some((first, _pages, segment)) = space.find(page) else {
-        return Access::Refused(Signal::NoMap);
+        return AccessStep::Refused(Signal::NoMap);
     };
     if !may_access(segment.prot(), write) {
-        return Access::Refused(Signal::Prot);
+        return AccessStep::Refused(Signal::Prot);
     }
     if let Some(frame) = frame_for(world, process, page, write) {
-        return Access::Reached(frame);
+        return AccessStep::Reached(frame);
     }
     match segment.fault(world, process, first, page, write) {
-        Step::Loaded => Access::Reached(noted(world, process, page, write)),
-        Step::Past => Access::Refused(Signal::Past),
-        Step::Need(plan) => Access::Need(plan),
-        Step::Busy(hold) => Access::Busy(hold),
+        Step::Loaded => AccessStep::Reached(noted(world, process, page, write)),
+        Step::Past => AccessStep::Refused(Signal::Past),
+        Step::Need(plan) => AccessStep::Need(plan),
+        Step::Busy(hold) => AccessStep::Busy(hold),
     }
 }

@@ -14,7 +14,7 @@ ghost use Rattle.vm_world.specs.World.{world_seen};
 ghost use Rattle.seg_vn.specs.Serves.{Serves};
 ghost use Rattle.fault_entry.specs.Accesses.{IsAccess, ServesWord, MayBeAnswered, IsShownWhereDone, SlotsWhereDone, is_store};
 
-use crate::access::{Access, reach};
+use crate::access::{AccessStep, reach};
 use addr_space::Ranges;
 use block_device::Disk;
 use seg_ops::{read, write};
@@ -48,10 +48,10 @@ fn load<D: Disk>(
     ensures zeros { world.new.zeros ≡ world.old.zeros }
 {
     match reach(world, space, process, addr, size, false) {
-        Access::Reached(frame) => Attempt::Done(Reply::Word(read(world, frame, addr, size))),
-        Access::Refused(signal) => Attempt::Done(Reply::Signal(signal)),
-        Access::Need(plan) => Attempt::Need(plan),
-        Access::Busy(hold) => Attempt::Busy(hold),
+        AccessStep::Reached(frame) => Attempt::Done(Reply::Word(read(world, frame, addr, size))),
+        AccessStep::Refused(signal) => Attempt::Done(Reply::Signal(signal)),
+        AccessStep::Need(plan) => Attempt::Need(plan),
+        AccessStep::Busy(hold) => Attempt::Busy(hold),
     }
 }
 
@@ -83,13 +83,13 @@ fn store<D: Disk>(
     ensures zeros { world.new.zeros ≡ world.old.zeros }
 {
     match reach(world, space, process, addr, size, true) {
-        Access::Reached(frame) => {
+        AccessStep::Reached(frame) => {
             write(world, frame, addr, size, value);
             Attempt::Done(Reply::Done)
         }
-        Access::Refused(signal) => Attempt::Done(Reply::Signal(signal)),
-        Access::Need(plan) => Attempt::Need(plan),
-        Access::Busy(hold) => Attempt::Busy(hold),
+        AccessStep::Refused(signal) => Attempt::Done(Reply::Signal(signal)),
+        AccessStep::Need(plan) => Attempt::Need(plan),
+        AccessStep::Busy(hold) => Attempt::Busy(hold),
     }
 }
 

@@ -64,4 +64,4 @@ impl<S: Guarded> TableRule<Option<S>, View<S, S::Entry, S::Note>, About<S>> for 
 }
 
 /// A seat of the table.
-pub type Place<S, E, N> = atomic_table::Seat<Option<S>, View<S, E, N>>;
+pub type TableSeat<S, E, N> = atomic_table::Seat<Option<S>, View<S, E, N>>;

@@ -4,7 +4,7 @@ ghost use Rattle.std.specs.List.{All};
 ghost use Rattle.kernel_lock.specs.Rule.{gatherer_of};
 ghost use Rattle.kernel_lock.specs.Seats.{IsSeatOf, HasAll, IsClosed, part_of};
 
-use crate::board::Place;
+use crate::board::TableSeat;
 use crate::guarded::Guarded;
 use crate::lock::KernelLock;
 use crate::plays::{Gather, Sit};
@@ -15,7 +15,7 @@ use std::marker::Model;
 ///
 /// Contracts see it as the record `GatheredView`.
 pub struct GatheredAt<S, E, N> {
-    place: Place<S, E, N>,
+    place: TableSeat<S, E, N>,
 }
 
 impl<S, E, N> Model for GatheredAt<S, E, N> {
@@ -38,7 +38,7 @@ impl<S, E, N> Drop for GatheredAt<S, E, N> {
 }
 
 impl<S, E, N> GatheredAt<S, E, N> {
-    fn into_place(self) -> Place<S, E, N>
+    fn into_place(self) -> TableSeat<S, E, N>
         ensures lock { result.table_id ≡ self.lock }
         ensures parts { result.me ≡ (gatherer_of self.parts, []) }
     {

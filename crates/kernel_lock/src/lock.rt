@@ -5,9 +5,9 @@ ghost use Rattle.kernel_lock.specs.Rule.{writes};
 ghost use Rattle.kernel_lock.specs.Seats.{IsSeatOf, part_of, after_enter, after_refusal, HasTried, after_leave, entries_by, IsEntered};
 
 use crate::bell::Bell;
-use crate::board::{About, LockRule, Place, View};
+use crate::board::{About, LockRule, TableSeat, View};
 use crate::guarded::Guarded;
-use crate::plays::{Cut, Glue, Look, Record, Release, Said, Take};
+use crate::plays::{Cut, Glue, Look, MakeKnown, Release, Said, Take};
 use crate::seat::Seat;
 use atomic_table::Table;
 use std::alloc::Global;
@@ -87,7 +87,7 @@ impl<S: Guarded> KernelLock<S> {
 
     fn write_down<W: Said<S, S::Note>>(
         &self,
-        place: &mut Place<S, S::Entry, S::Note>,
+        place: &mut TableSeat<S, S::Entry, S::Note>,
         state: &S,
         held: &S::Held,
     )
@@ -107,7 +107,7 @@ impl<S: Guarded> KernelLock<S> {
     {
         self.table
             .shared
-            .store::<Record<S, W>>(place, 1, state.length());
+            .store::<MakeKnown<S, W>>(place, 1, state.length());
     }
 
     /// Gives the state back, changed by a move that the guarded state allows, and goes outside with what `held` means as the seat's note.

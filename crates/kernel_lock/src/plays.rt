@@ -30,11 +30,12 @@ impl<S: Guarded> Play<Option<S>, View<S, S::Entry, S::Note>> for Take<S> {
 }
 
 /// The holder makes its new state and note known. Here one event takes effect.
-pub(crate) struct Record<S, W> {
+pub(crate) struct MakeKnown<S, W> {
     marker: PhantomData<(S, W)>,
 }
 
-impl<S: Guarded, W: Said<S, S::Note>> Play<Option<S>, View<S, S::Entry, S::Note>> for Record<S, W> {
+impl<S: Guarded, W: Said<S, S::Note>> Play<Option<S>, View<S, S::Entry, S::Note>>
+    for MakeKnown<S, W> {
     ghost then = { MakesKnown S.seat_of S.history W.state W.note };
 }
 

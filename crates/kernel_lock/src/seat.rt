@@ -2,7 +2,7 @@
 ghost use Rattle.std.specs.Prelude.{◌≡◌};
 ghost use Rattle.kernel_lock.specs.Rule.{seat_view, IsPlain};
 
-use crate::board::Place;
+use crate::board::TableSeat;
 use crate::guarded::Guarded;
 use std::marker::Model;
 
@@ -10,7 +10,7 @@ use std::marker::Model;
 ///
 /// Contracts see it as the record `SeatView`.
 pub struct SeatAt<S, E, N> {
-    pub(crate) place: Place<S, E, N>,
+    pub(crate) place: TableSeat<S, E, N>,
     pub(crate) number: u32,
 }
 
@@ -40,7 +40,7 @@ impl<S, E, N> SeatAt<S, E, N> {
         self.number
     }
 
-    pub(crate) fn into_place(self) -> Place<S, E, N>
+    pub(crate) fn into_place(self) -> TableSeat<S, E, N>
         ensures view { seat_view result.table_id result.me.0 ≡ self }
         ensures plain { IsPlain result self.number }
     {

@@ -4,7 +4,7 @@ ghost use Rattle.kernel_lock.specs.Rule.{dealer_at};
 ghost use Rattle.kernel_lock.specs.Seats.{AreNew, newcomer};
 
 use crate::bell::Bell;
-use crate::board::{About, LockRule, Place, View};
+use crate::board::{About, LockRule, TableSeat, View};
 use crate::guarded::Guarded;
 use crate::lock::KernelLock;
 use crate::plays::Deal;
@@ -49,7 +49,7 @@ fn out_of<S>(mut slots: Vec<Option<S>>) -> S
 
 fn deal<S: Guarded>(
     board: &Board<S>,
-    dealer: &mut Place<S, S::Entry, S::Note>,
+    dealer: &mut TableSeat<S, S::Entry, S::Note>,
     number: u32,
 ) -> Seat<S>
     requires board { (dealer.old.table_id ≡ board.now.table_id) × (board.now.table_id.words ≡ 2) }
@@ -72,7 +72,7 @@ fn deal<S: Guarded>(
 
 fn deal_all<S: Guarded>(
     board: &Board<S>,
-    dealer: &mut Place<S, S::Entry, S::Note>,
+    dealer: &mut TableSeat<S, S::Entry, S::Note>,
     seats: u32,
     row: &mut Vec<Seat<S>>,
 )

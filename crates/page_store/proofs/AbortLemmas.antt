@@ -23,7 +23,7 @@ use Rattle.page_store.specs.Notes.{Notes}
 use Rattle.page_store.specs.Parts.{rows_without, rows_forsaken}
 use Rattle.page_store.specs.Seen.{StoreSeen, IsSoundStore, FrameAgrees, IsListedFrame, store_of, own_frame, residence, residence_in}
 use Rattle.page_store.specs.Steps.{with_page_given_up, without_snapshot, with_pair_parted}
-use Rattle.page_store.specs.Table.{Table}
+use Rattle.page_store.specs.Table.{PlaceTable}
 use Rattle.page_store.specs.Value.{value, tells}
 use Rattle.page_store.specs.declared.residence.Residence.TheVariants.{Absent}
 use Rattle.page_store.proofs.Agree.{SameOut, same-out, same-row, Calm, own-far, clean-calm, alike-calm, fits-calm, backing_value-calm, outside-calm, outside-then}
@@ -40,7 +40,7 @@ pub record Forsakes (s new : StoreSeen) (own : ℕ) : Type 0 where
   pub single : (row_at new.rows own).snapshot ≡ None
   pub modified : (row_at new.rows own).modified ≡ (row_at s.rows own).modified
   pub elsewhere : Elsewhere s new (family s own)
-  pub values : (notes : Notes) (table : Table) → StoreFits s notes table → KeepsValues s notes new notes table
+  pub values : (notes : Notes) (table : PlaceTable) → StoreFits s notes table → KeepsValues s notes new notes table
   pub length : length new.rows ≡ length s.rows
 
 forsakes_so : (s : StoreSeen) (own : ℕ) (o : Option ℕ) → IsSoundStore s → (row_at s.rows own).snapshot ≡ o → Forsakes s (record s { rows = rows_without o s.rows own }) own
@@ -249,7 +249,7 @@ module _ (s : StoreSeen) (page : PageName) (f : ℕ) (sound : IsSoundStore s) (f
   }
 
   -- the laws of a page that is given up
-  pub others-given : (b : Option (List ℕ)) → bytes_at s.frames f ≡ b → (notes : Notes) (table : Table) → StoreFits s notes table → KeepsOtherValues s notes (with_page_given_up s f b) notes table page
+  pub others-given : (b : Option (List ℕ)) → bytes_at s.frames f ≡ b → (notes : Notes) (table : PlaceTable) → StoreFits s notes table → KeepsOtherValues s notes (with_page_given_up s f b) notes table page
   others-given b e notes table fits = record {
     fits = fits-calm s (with_page_given_up s f b) notes table (calm_given b e)
         (λ k n h m.

@@ -14,7 +14,7 @@ use Rattle.page_store.specs.Laws.{SameFlights}
 use Rattle.page_store.specs.Moves.{SameDisksTell}
 use Rattle.page_store.specs.Notes.{Note, Notes, with_note}
 use Rattle.page_store.specs.Seen.{StoreSeen, IsSoundStore, IsGone, own_frame}
-use Rattle.page_store.specs.Table.{Table}
+use Rattle.page_store.specs.Table.{PlaceTable}
 use Rattle.page_store.specs.Value.{content_in_note, content_in_bay, content_of, backing_value, tells}
 use Rattle.page_store.specs.declared.place.Place.{Place}
 use Rattle.page_store.proofs.FrameLaws.{some-or-none, some-not, agrees-at, held-away}
@@ -65,7 +65,7 @@ own-far s k f sound ne single q = elim (some-or-none (row_at s.rows k).source) [
 ]
 
 -- a note that agrees with a store agrees with one that has its disk and its frame as before
-pub note-same : (old new : StoreSeen) (table : Table) (t : ℕ) (n : Note) → NoteAgrees old table t n → new.origin ≡ old.origin → bay_at new.bays n.number ≡ bay_at old.bays n.number
+pub note-same : (old new : StoreSeen) (table : PlaceTable) (t : ℕ) (n : Note) → NoteAgrees old table t n → new.origin ≡ old.origin → bay_at new.bays n.number ≡ bay_at old.bays n.number
     → SameOut (row_at old.rows n.frame) (row_at new.rows n.frame) → bytes_at new.frames n.frame ≡ None
     → ((row_at new.rows n.frame).gone ≡ false → name_at new.names (own_frame old n.frame) ≡ name_at old.names (own_frame old n.frame)) → NoteAgrees new table t n
 note-same old new table t n was origin bay row away names = record {
@@ -87,7 +87,7 @@ note-same old new table t n was origin bay row away names = record {
 }
 
 -- a page that is clean stays clean with its bytes, its block and the notes that write it
-pub clean-same : (old new : StoreSeen) (before after : Notes) (table : Table) (k : ℕ) (n : PageName) → IsClean old before table k n
+pub clean-same : (old new : StoreSeen) (before after : Notes) (table : PlaceTable) (k : ℕ) (n : PageName) → IsClean old before table k n
     → SameDisksTell old before new after → bytes_at new.frames k ≡ bytes_at old.frames k → backing_value new after (table n) ≡ backing_value old before (table n)
     → ((t : ℕ) (x : Note) → after t ≡ Some x → x.writes ≡ true → x.name ≡ n → (before t ≡ Some x) × (IsGone old x.frame → IsGone new x.frame)) → IsClean new after table k n
 clean-same old new before after table k n was alike bytes same notes = record {
@@ -103,7 +103,7 @@ pub record Calm (old new : StoreSeen) : Type 0 where
   pub away : (k : ℕ) → bytes_at old.frames k ≡ None → bytes_at new.frames k ≡ None
   pub names : (k : ℕ) → bytes_at old.frames k ≡ None → (row_at new.rows k).gone ≡ false → name_at new.names (own_frame old k) ≡ name_at old.names (own_frame old k)
 
-module _ (old new : StoreSeen) (notes : Notes) (table : Table) (calm : Calm old new) where
+module _ (old new : StoreSeen) (notes : Notes) (table : PlaceTable) (calm : Calm old new) where
   pub backing_value-calm : (place : Place) → backing_value new notes place ≡ backing_value old notes place
   backing_value-calm place = ap (λ (b : List BaySeen). backing_value (record old { bays = b }) notes place) calm.bays
 
@@ -148,7 +148,7 @@ pub outside-then : (a b c : StoreSeen) → SameFlights a b → SameFlights b c �
 outside-then a b c x y = record { bays = y.bays ∙ x.bays; flights = λ f is. y.flights f (x.flights f is) }
 
 -- a frame and a disk leave with a seat, as its note says
-pub record Leaves (old new : StoreSeen) (notes : Notes) (table : Table) (seat : ℕ) (note : Note) : Type 0 where
+pub record Leaves (old new : StoreSeen) (notes : Notes) (table : PlaceTable) (seat : ℕ) (note : Note) : Type 0 where
   pub sound : IsSoundStore old
   pub fits : StoreFits old notes table
   pub idle : notes seat ≡ None
@@ -166,7 +166,7 @@ pub record Leaves (old new : StoreSeen) (notes : Notes) (table : Table) (seat : 
   pub cached : (k : ℕ) → Contains new.cached k → Contains old.cached k × (k ≢ note.frame)
   pub unwritten : note.writes ≡ true → (k : ℕ) → Contains new.cached k → name_at new.names k ≡ Some note.name → ⊥
 
-module _ (old new : StoreSeen) (notes : Notes) (table : Table) (seat : ℕ) (note : Note) (can : Leaves old new notes table seat note) where
+module _ (old new : StoreSeen) (notes : Notes) (table : PlaceTable) (seat : ℕ) (note : Note) (can : Leaves old new notes table seat note) where
   -- a seat that has something out is not this one, and its frame and its disk are others
   busy : (t : ℕ) (n : Note) → notes t ≡ Some n → t ≢ seat
   busy t n h q = let a : notes seat ≡ Some n = subst (λ (x : ℕ). notes x ≡ Some n) q h in let b = can.idle in cc

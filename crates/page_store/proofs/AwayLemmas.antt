@@ -8,7 +8,7 @@ use Rattle.page_store.specs.Bays.{BaySeen, missing, home, out, bay_at}
 use Rattle.page_store.specs.StoreFits.{StoreFits, NoteAgrees}
 use Rattle.page_store.specs.Notes.{Note, Notes}
 use Rattle.page_store.specs.Seen.{StoreSeen, IsSoundStore}
-use Rattle.page_store.specs.Table.{Table}
+use Rattle.page_store.specs.Table.{PlaceTable}
 
 -- one disk less is out
 one_less : (bays : List BaySeen) (m : ℕ) → is_disk_out (bay_at bays m) ≡ true → suc (length (filter is_disk_out (slice_set bays m missing))) ≡ length (filter is_disk_out bays)
@@ -64,7 +64,7 @@ number_of_frame : StoreSeen → Notes → ℕ → ℕ
 number_of_frame s notes i = number_with notes (row_at s.rows i).holder
 
 -- the note of a frame that is away
-record HasNote (s : StoreSeen) (notes : Notes) (table : Table) (i : ℕ) : Type 0 where
+record HasNote (s : StoreSeen) (notes : Notes) (table : PlaceTable) (i : ℕ) : Type 0 where
   seat : ℕ
   note : Note
   is : notes seat ≡ Some note
@@ -76,7 +76,7 @@ held_by : (holder : Option ℕ) → true ≡ is_some holder → (seat : ℕ) × 
 held_by None h = absurd (let z : true ≡ false = h in cc)
 held_by (Some seat) h = (seat, refl)
 
-note_at : (s : StoreSeen) (notes : Notes) (table : Table) → IsSoundStore s → StoreFits s notes table → (i : ℕ) → IsAway s.frames i → HasNote s notes table i
+note_at : (s : StoreSeen) (notes : Notes) (table : PlaceTable) → IsSoundStore s → StoreFits s notes table → (i : ℕ) → IsAway s.frames i → HasNote s notes table i
 unfolding number_of_frame number_with number_of_note
 note_at s notes table sound fits i a =
     let holder = held_by (row_at s.rows i).holder (ap is_none (sym a.gone) ∙ (sound.each i a.low).away) in
@@ -90,7 +90,7 @@ note_at s notes table sound fits i a =
       number = ap (number_with notes) holder.1 ∙ ap number_of_note found.1;
     }
 
-pub away-out : (s : StoreSeen) (notes : Notes) (table : Table) → IsSoundStore s → StoreFits s notes table → length (filter is_none s.frames) ≤ length (filter is_disk_out s.bays)
+pub away-out : (s : StoreSeen) (notes : Notes) (table : PlaceTable) → IsSoundStore s → StoreFits s notes table → length (filter is_none s.frames) ≤ length (filter is_disk_out s.bays)
 away-out s notes table sound fits = no_more s.frames s.bays (number_of_frame s notes)
     (λ i a. let h = note_at s notes table sound fits i a in ap is_disk_out (ap (bay_at s.bays) h.number ∙ h.agrees.out.bay))
     (λ i j a b e.

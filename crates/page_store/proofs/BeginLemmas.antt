@@ -25,7 +25,7 @@ use Rattle.page_store.specs.Out.{HasOut, IsFlightOf}
 use Rattle.page_store.specs.Seen.{StoreSeen, IsSoundStore, FrameAgrees, ArePaired, IsListedFrame, store_of, own_frame, residence, residence_in}
 use Rattle.page_store.specs.Parts.{rows_paired, rows_forsaken, rows_pushed, names_taken}
 use Rattle.page_store.specs.Steps.{with_read_begun, with_page_sent, with_snapshot_sent, with_push_begun, without_snapshot, held_row, next_frame, next_name, name_in, rest_free, rest_cached}
-use Rattle.page_store.specs.Table.{Table}
+use Rattle.page_store.specs.Table.{PlaceTable}
 use Rattle.page_store.specs.Transfers.{BeginsTransfer, LivesAt, is_rewritten_in, is_touched_by, residence_begun}
 use Rattle.page_store.specs.Value.{value, value_in, backing_value, tells}
 use Rattle.page_store.specs.declared.place.Place.{Place}
@@ -141,7 +141,7 @@ module _ (s : StoreSeen) (f : FlightSeen) (sound : IsSoundStore s) (next : next_
   lost_fetched : (n : PageName) → name_at s.names f.frame ≡ Some n → find (set s.names f.frame (Some f.name)) n ≡ None
   lost_fetched n h = taken-lost s f.frame sound next (Some f.name) n (λ q. let z : Some f.name ≡ Some n = q in before_far n h (let w : f.name ≡ n = cc in sym w)) h
 
-  module _ (notes : Notes) (table : Table) (fits : StoreFits s notes table) (idle : notes f.seat ≡ None) (lives : table f.name ≡ record { disk = f.number; block = f.block; valid = f.valid; blank = false }) where
+  module _ (notes : Notes) (table : PlaceTable) (fits : StoreFits s notes table) (idle : notes f.seat ≡ None) (lives : table f.name ≡ record { disk = f.number; block = f.block; valid = f.valid; blank = false }) where
     leaves_fetched : Leaves s (with_read_begun s f.frame f.name f.seat f.number) notes table f.seat (note_of f)
     leaves_fetched = record {
       sound = sound;
@@ -303,7 +303,7 @@ module _ (s : StoreSeen) (f : FlightSeen) (sound : IsSoundStore s) (next : next_
     read = λ w. source_sent;
   }
 
-  leaves_sent : (notes : Notes) (table : Table) → StoreFits s notes table → notes f.seat ≡ None → LivesAt (Push f.name) table f.number f.block f.valid → Leaves s (with_page_sent s f.frame f.seat f.number) notes table f.seat (note_of f)
+  leaves_sent : (notes : Notes) (table : PlaceTable) → StoreFits s notes table → notes f.seat ≡ None → LivesAt (Push f.name) table f.number f.block f.valid → Leaves s (with_page_sent s f.frame f.seat f.number) notes table f.seat (note_of f)
   leaves_sent notes table fits idle lives = record {
     sound = sound;
     fits = fits;
@@ -333,7 +333,7 @@ module _ (s : StoreSeen) (f : FlightSeen) (sound : IsSoundStore s) (next : next_
     unwritten = λ w k h e. unlisted (inr (subst (λ (j : ℕ). Contains s.cached j) (sound.distinct k f.frame f.name e held_name) h));
   }
 
-  value_sent : (notes : Notes) (table : Table) (fits : StoreFits s notes table) (idle : notes f.seat ≡ None) (lives : LivesAt (Push f.name) table f.number f.block f.valid) (n : PageName)
+  value_sent : (notes : Notes) (table : PlaceTable) (fits : StoreFits s notes table) (idle : notes f.seat ≡ None) (lives : LivesAt (Push f.name) table f.number f.block f.valid) (n : PageName)
       → value (with_page_sent s f.frame f.seat f.number) (with_note notes f.seat (Some (note_of f))) table n ≡ value s notes table n
   value_sent notes table fits idle lives n = elim (holds-or-not (name_at s.names f.frame) n) [
     | inl h ↦
@@ -564,7 +564,7 @@ module _ (s : StoreSeen) (f : FlightSeen) (own : ℕ) (sound : IsSoundStore s) (
     read = λ w. absurd (let z : true ≡ false = sym writes ∙ w in cc);
   }
 
-  leaves_copied : (notes : Notes) (table : Table) → StoreFits s notes table → notes f.seat ≡ None → LivesAt (Push f.name) table f.number f.block f.valid → Leaves s (with_snapshot_sent s own f.frame f.seat f.number) notes table f.seat (note_of f)
+  leaves_copied : (notes : Notes) (table : PlaceTable) → StoreFits s notes table → notes f.seat ≡ None → LivesAt (Push f.name) table f.number f.block f.valid → Leaves s (with_snapshot_sent s own f.frame f.seat f.number) notes table f.seat (note_of f)
   leaves_copied notes table fits idle lives = record {
     sound = sound;
     fits = fits;
@@ -612,7 +612,7 @@ module _ (s : StoreSeen) (f : FlightSeen) (own : ℕ) (sound : IsSoundStore s) (
     | inr e ↦ let z : None ≡ Some n = sym name_copied ∙ ap (name_at (set s.names f.frame None)) (sym e) ∙ h in cc
   ]
 
-  value_copied : (notes : Notes) (table : Table) (fits : StoreFits s notes table) (idle : notes f.seat ≡ None) (lives : LivesAt (Push f.name) table f.number f.block f.valid) (n : PageName) → IsTrue (tells s notes (table n).disk)
+  value_copied : (notes : Notes) (table : PlaceTable) (fits : StoreFits s notes table) (idle : notes f.seat ≡ None) (lives : LivesAt (Push f.name) table f.number f.block f.valid) (n : PageName) → IsTrue (tells s notes (table n).disk)
       → value (with_snapshot_sent s own f.frame f.seat f.number) (with_note notes f.seat (Some (note_of f))) table n ≡ after_taking (next_name s) n (table n) (value s notes table n)
   value_copied notes table fits idle lives n t =
       let same = backing_value-left s (with_snapshot_sent s own f.frame f.seat f.number) notes table f.seat (note_of f) (leaves_copied notes table fits idle lives) (table n) in

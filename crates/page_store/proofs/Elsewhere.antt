@@ -14,7 +14,7 @@ use Rattle.page_store.specs.Bays.{home, bay_at}
 use Rattle.page_store.specs.Moves.{Touches, is_only}
 use Rattle.page_store.specs.Notes.{Note, Notes}
 use Rattle.page_store.specs.Seen.{StoreSeen, IsSoundStore, IsOrder, FrameAgrees, ArePaired, IsListedFrame, lists_seen, residence_in, residence_of}
-use Rattle.page_store.specs.Table.{Table}
+use Rattle.page_store.specs.Table.{PlaceTable}
 use Rattle.page_store.specs.Value.{value, value_in, backing_value, note_of_holder, frame_value}
 use Rattle.page_store.specs.declared.place.Place.{Place}
 use Rattle.page_store.proofs.FrameLaws.{eq-not, eq-is}
@@ -139,7 +139,7 @@ module _ (old new : StoreSeen) (touched : ℕ → Bool) (distinct' : AreDistinct
       value_in-same before after place g far same (λ t held. notes g t far held)
 
   -- a name that these frames hold neither before nor after keeps its value
-  pub value-elsewhere : (before after : Notes) (table : Table) (n : PageName) → ((j : ℕ) → touched j ≡ true → name_at old.names j ≡ Some n → ⊥) → ((j : ℕ) → touched j ≡ true → name_at new.names j ≡ Some n → ⊥)
+  pub value-elsewhere : (before after : Notes) (table : PlaceTable) (n : PageName) → ((j : ℕ) → touched j ≡ true → name_at old.names j ≡ Some n → ⊥) → ((j : ℕ) → touched j ≡ true → name_at new.names j ≡ Some n → ⊥)
       → backing_value new after (table n) ≡ backing_value old before (table n) → ((g t : ℕ) → touched g ≡ false → (row_at old.rows g).holder ≡ Some t → after t ≡ before t)
       → value new after table n ≡ value old before table n
   value-elsewhere before after table n was now same notes =

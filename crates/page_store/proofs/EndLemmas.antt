@@ -25,7 +25,7 @@ use Rattle.page_store.specs.Out.{IsFlightOf}
 use Rattle.page_store.specs.Parts.{rows_settled}
 use Rattle.page_store.specs.Seen.{StoreSeen, IsSoundStore, FrameAgrees, IsListedFrame, IsGone, own_frame, residence, residence_in}
 use Rattle.page_store.specs.Steps.{with_flight_landed, landed_row, with_pair_parted, after_end, is_lost, is_dirty}
-use Rattle.page_store.specs.Table.{Table}
+use Rattle.page_store.specs.Table.{PlaceTable}
 use Rattle.page_store.specs.Transfers.{EndsTransfer, EndsValues, ComesHome, was_rewritten, is_rewritten_in}
 use Rattle.page_store.specs.Value.{value, value_in, backing_value, tells, content_of, content_in_bay}
 use Rattle.page_store.specs.declared.place.Place.{Place}
@@ -247,7 +247,7 @@ module _ (s : StoreSeen) (f : FlightSeen) (sound : IsSoundStore s) (held : (row_
   pub stay-landed : (lost : Bool) (n : PageName) → (name_at s.names f.frame ≡ Some n → ⊥) → residence (with_flight_landed s f lost) n ≡ residence s n
   stay-landed lost n before = (touches-one s (with_flight_landed s f lost) f.frame (distinct-landed lost) (one-landed lost)).residence n (only-none s.names f.frame n before) (only-none (with_flight_landed s f lost).names f.frame n (after_landed lost n before))
 
-  module _ (notes : Notes) (table : Table) (note : Note) (fits : StoreFits s notes table) (mine : notes f.seat ≡ Some note) (performed : IsPerformed note f) where
+  module _ (notes : Notes) (table : PlaceTable) (note : Note) (fits : StoreFits s notes table) (mine : notes f.seat ≡ Some note) (performed : IsPerformed note f) where
     pub returns-landed : (lost : Bool) → Returns s (with_flight_landed s f lost) notes table f note
     returns-landed lost = record {
       sound = sound;
@@ -399,7 +399,7 @@ done_block note f performed whole size ended t = elim (cases_Bool note.writes) [
 ]
 
 -- the page of a transfer that didn't fail is clean in a home frame that has the flight's bytes
-module _ (s new : StoreSeen) (notes : Notes) (table later : Table) (f : FlightSeen) (note : Note) (k : ℕ) (fits : StoreFits s notes table) (mine : notes f.seat ≡ Some note) (performed : IsPerformed note f) (ended : f.outcome ≡ done)
+module _ (s new : StoreSeen) (notes : Notes) (table later : PlaceTable) (f : FlightSeen) (note : Note) (k : ℕ) (fits : StoreFits s notes table) (mine : notes f.seat ≡ Some note) (performed : IsPerformed note f) (ended : f.outcome ≡ done)
     (disk : bay_at new.bays f.number ≡ home f.disk) (here : bytes_at new.frames k ≡ Some f.bytes) (place : later note.name ≡ record { disk = note.number; block = note.block; valid = note.valid; blank = false }) where
   content_now : content_of new (with_note notes f.seat None) (later note.name).disk ≡ f.disk.content
   content_now = ap (content_of new (with_note notes f.seat None)) (ap (λ (p : Place). p.disk) place ∙ sym performed.number) ∙ ap (λ (b : BaySeen). content_in_bay b (with_note notes f.seat None)) disk
@@ -555,7 +555,7 @@ module _ (s : StoreSeen) (f : FlightSeen) (own : ℕ) (sound : IsSoundStore s) (
   home_before : (row_at s.rows f.frame).gone ≡ false → residence s f.name ≡ Home own
   home_before g = residence-home s f.name own sound.distinct (own_name g) own_home
 
-  ends_values : (notes : Notes) (note : Note) (table : Table) → StoreFits s notes table → notes f.seat ≡ Some note → IsPerformed note f → EndsValues s notes (with_flight_landed mid f true) (with_note notes f.seat None) table note
+  ends_values : (notes : Notes) (note : Note) (table : PlaceTable) → StoreFits s notes table → notes f.seat ≡ Some note → IsPerformed note f → EndsValues s notes (with_flight_landed mid f true) (with_note notes f.seat None) table note
   ends_values notes note table fits mine performed =
       let first = values-rows s mid.rows s.free s.cached s.clock (same-parted s own f.frame bit sound source) notes table fits fits.each_cached in
       let calm = calm-rows s mid.rows s.free s.cached s.clock (same-parted s own f.frame bit sound source) in

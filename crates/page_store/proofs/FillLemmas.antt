@@ -18,7 +18,7 @@ use Rattle.page_store.specs.Moves.{FillsFrame, Touches, after_taking, is_only}
 use Rattle.page_store.specs.Notes.{Notes}
 use Rattle.page_store.specs.Seen.{StoreSeen, IsSoundStore, FrameAgrees, IsListedFrame, own_frame, residence, residence_in}
 use Rattle.page_store.specs.Steps.{next_frame, next_name, name_in, with_frame_filled, fresh_row, rest_free, rest_cached}
-use Rattle.page_store.specs.Table.{Table}
+use Rattle.page_store.specs.Table.{PlaceTable}
 use Rattle.page_store.specs.Value.{value, backing_value, tells}
 use Rattle.page_store.specs.declared.residence.Residence.TheVariants.{Home, Absent}
 use Rattle.page_store.proofs.Agree.{SameOut, same-row, Calm, own-far, clean-calm, fits-calm, outside-calm}
@@ -31,7 +31,7 @@ use Rattle.page_store.proofs.TakeLemmas.{first-listed, rest-free, rest-cached, g
 pub home-size : (s : StoreSeen) (page : PageName) (frame : ℕ) → IsSoundStore s → (is : IsIn s page frame) → length is.bytes ≡ 4096
 home-size s page frame sound is = (sound.each frame (bytes-within s.frames frame is.bytes is.there)).size is.bytes is.there
 
-pub home-value : (s : StoreSeen) (page : PageName) (frame : ℕ) (is : IsIn s page frame) (notes : Notes) (table : Table) → value s notes table page ≡ is.bytes
+pub home-value : (s : StoreSeen) (page : PageName) (frame : ℕ) (is : IsIn s page frame) (notes : Notes) (table : PlaceTable) → value s notes table page ≡ is.bytes
 home-value s page frame is notes table = rw (is.found, is.there) refl
 
 -- what is known of the frame that is taken next
@@ -82,7 +82,7 @@ module _ (s : StoreSeen) (frame : ℕ) (sound : IsSoundStore s) (next : next_fra
       ne (sym (get_or-set_same s.names frame held None taken-name) ∙ ap (name_at (set s.names frame held)) (sym q) ∙ m))
 
   -- the value of the name that the frame had is what is stored, cut
-  pub taken-value : (notes : Notes) (table : Table) (n : PageName) → StoreFits s notes table → name_at s.names frame ≡ Some n → IsTrue (tells s notes (table n).disk) → backing_value s notes (table n) ≡ clip (table n).valid (value s notes table n)
+  pub taken-value : (notes : Notes) (table : PlaceTable) (n : PageName) → StoreFits s notes table → name_at s.names frame ≡ Some n → IsTrue (tells s notes (table n).disk) → backing_value s notes (table n) ≡ clip (table n).valid (value s notes table n)
   taken-value notes table n fits h t = by_bytes (bytes_at s.frames frame) refl
     where
       found : find s.names n ≡ Some frame
@@ -194,7 +194,7 @@ module _ (s : StoreSeen) (frame : ℕ) (page : PageName) (bytes : List ℕ) (mod
     names = λ k h g. one_filled.names (own_frame s k) (own-far s k frame sound (taken-away s frame sound next k h) (taken-snapshot s frame sound next));
   }
 
-  other_filled : (notes : Notes) (table : Table) (n : PageName) → StoreFits s notes table → n ≢ page → IsTrue (tells s notes (table n).disk)
+  other_filled : (notes : Notes) (table : PlaceTable) (n : PageName) → StoreFits s notes table → n ≢ page → IsTrue (tells s notes (table n).disk)
       → value (with_frame_filled s frame page bytes modified) notes table n ≡ after_taking (next_name s) n (table n) (value s notes table n)
   other_filled notes table n fits ne t = elim (cases_Bool (is_name (name_at s.names frame) n)) [
     | inl own ↦
@@ -207,7 +207,7 @@ module _ (s : StoreSeen) (frame : ℕ) (page : PageName) (bytes : List ℕ) (mod
         ∙ sym (ap (λ (b : Bool). cond b (clip (table n).valid (value s notes table n)) (value s notes table n)) (next-other s frame sound next n before))
   ]
 
-  pub fills-frame : (given : Notes → Table → List ℕ) → ((notes : Notes) (table : Table) → given notes table ≡ bytes) → FillsPage s (with_frame_filled s frame page bytes modified) page modified given
+  pub fills-frame : (given : Notes → PlaceTable → List ℕ) → ((notes : Notes) (table : PlaceTable) → given notes table ≡ bytes) → FillsPage s (with_frame_filled s frame page bytes modified) page modified given
   fills-frame given is = record {
     sound = sound_filled;
     touches = subst (λ (o : Option ℕ). Touches s (with_frame_filled s frame page bytes modified) (is_only o)) (sym next) (touches-one s (with_frame_filled s frame page bytes modified) frame distinct_after one_filled);
@@ -236,7 +236,7 @@ module _ (s : StoreSeen) (frame : ℕ) (page : PageName) (bytes : List ℕ) (mod
   }
 
 -- a page that is home, in a frame on no list, stays when a frame is taken for another name
-pub fills-far : (old new : StoreSeen) (name : PageName) (modified : Bool) (given : Notes → Table → List ℕ) (from : PageName) (k : ℕ) → FillsPage old new name modified given → IsSoundStore old → (frame : ℕ) → next_frame old ≡ Some frame
+pub fills-far : (old new : StoreSeen) (name : PageName) (modified : Bool) (given : Notes → PlaceTable → List ℕ) (from : PageName) (k : ℕ) → FillsPage old new name modified given → IsSoundStore old → (frame : ℕ) → next_frame old ≡ Some frame
     → residence old name ≡ Absent → residence old from ≡ Home k → (IsListedFrame old k → ⊥) → residence new from ≡ residence old from
 fills-far old new name modified given from k laws sound frame next absent home_k unlisted =
     let is = home-is old from k home_k in

@@ -18,7 +18,7 @@ use Rattle.page_store.specs.Moves.{KeepsOtherValues, Touches, is_only}
 use Rattle.page_store.specs.Notes.{Notes}
 use Rattle.page_store.specs.Seen.{StoreSeen, IsSoundStore, FrameAgrees, IsListedFrame, residence, residence_in, residence_of}
 use Rattle.page_store.specs.Steps.{with_piece}
-use Rattle.page_store.specs.Table.{Table}
+use Rattle.page_store.specs.Table.{PlaceTable}
 use Rattle.page_store.specs.Value.{value}
 use Rattle.page_store.proofs.Agree.{SameOut, same-out, same-row, Calm, clean-calm, fits-calm, outside-calm}
 use Rattle.page_store.proofs.Elsewhere.{OneFrame, one-elsewhere, only-none, sound-one, touches-one, paired-links, value-elsewhere}
@@ -146,7 +146,7 @@ module _ (s : StoreSeen) (page : PageName) (frame at : ℕ) (from : List ℕ) (m
     names = λ k h g. refl;
   }
 
-  others_poked : (notes : Notes) (table : Table) (m : PageName) → m ≢ page → value (with_piece s frame at from mark) notes table m ≡ value s notes table m
+  others_poked : (notes : Notes) (table : PlaceTable) (m : PageName) → m ≢ page → value (with_piece s frame at from mark) notes table m ≡ value s notes table m
   others_poked notes table m ne =
       let no : name_at s.names frame ≡ Some m → ⊥ = λ (h : name_at s.names frame ≡ Some m). let b : Some page ≡ Some m = sym (find-at s.names page frame is.found) ∙ h in ne (let w : page ≡ m = cc in sym w) in
       value-elsewhere s (with_piece s frame at from mark) (is_only (Some frame)) sound.distinct (one-elsewhere s (with_piece s frame at from mark) frame one_poked) notes notes table m

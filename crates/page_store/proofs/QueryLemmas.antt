@@ -10,7 +10,7 @@ use Rattle.page_lock.specs.Rows.{row_at}
 use Rattle.page_lock.specs.declared.Row.{Row}
 use Rattle.page_store.specs.Notes.{Notes}
 use Rattle.page_store.specs.Seen.{StoreSeen, IsSoundStore, residence, residence_in, residence_of}
-use Rattle.page_store.specs.Table.{Table}
+use Rattle.page_store.specs.Table.{PlaceTable}
 use Rattle.page_store.specs.Value.{value}
 use Rattle.page_lists.specs.ListsSeen.{first_listed}
 use Rattle.page_store.specs.Waits.{IsVictim, ChoosesPage}
@@ -78,7 +78,7 @@ home-some s page frame r = subst (λ (b : Option (List ℕ)). IsSome b) (sym (ho
 pub home-row : (s : StoreSeen) (page : PageName) (frame : ℕ) → IsSoundStore s → residence s page ≡ Home frame → frame < length s.rows
 home-row s page frame sound r = found-row s page frame sound (home-is s page frame r).found
 
-pub value-home : (s : StoreSeen) (notes : Notes) (table : Table) (page : PageName) (frame : ℕ) (bytes : List ℕ) → residence s page ≡ Home frame → bytes_at s.frames frame ≡ Some bytes → bytes ≡ value s notes table page
+pub value-home : (s : StoreSeen) (notes : Notes) (table : PlaceTable) (page : PageName) (frame : ℕ) (bytes : List ℕ) → residence s page ≡ Home frame → bytes_at s.frames frame ≡ Some bytes → bytes ≡ value s notes table page
 value-home s notes table page frame bytes r there = rw ((home-is s page frame r).found, there) refl
 
 some_home : (b : Option (List ℕ)) (h : Option ℕ) (frame : ℕ) → IsSome b → residence_of b h frame ≡ Home frame

@@ -16,7 +16,7 @@ use Rattle.page_store.specs.Flight.{FlightSeen, Progress, fresh, done, failed, I
 use Rattle.page_store.specs.Moves.{SameDisksTell, is_only}
 use Rattle.page_store.specs.Notes.{Note, Notes, with_note}
 use Rattle.page_store.specs.Seen.{StoreSeen, IsSoundStore, own_frame, residence}
-use Rattle.page_store.specs.Table.{Table}
+use Rattle.page_store.specs.Table.{PlaceTable}
 use Rattle.page_store.specs.Transfers.{EndsValues}
 use Rattle.page_store.specs.Value.{value, value_in, content_in_note, content_in_bay, content_of, backing_value, tells}
 use Rattle.page_store.specs.declared.place.Place.{Place}
@@ -43,7 +43,7 @@ one_block note f done h = (clip note.valid note.bytes, h)
 one_block note f failed h = (h.0, h.2)
 
 -- a flight that was performed comes back, as its seat's note says
-pub record Returns (old new : StoreSeen) (notes : Notes) (table : Table) (f : FlightSeen) (note : Note) : Type 0 where
+pub record Returns (old new : StoreSeen) (notes : Notes) (table : PlaceTable) (f : FlightSeen) (note : Note) : Type 0 where
   pub sound : IsSoundStore old
   pub fits : StoreFits old notes table
   pub mine : notes f.seat ≡ Some note
@@ -58,7 +58,7 @@ pub record Returns (old new : StoreSeen) (notes : Notes) (table : Table) (f : Fl
   pub cached : (k : ℕ) → Contains new.cached k → Contains old.cached k
   pub distinct : AreDistinct new.names
 
-module _ (old new : StoreSeen) (notes : Notes) (table : Table) (f : FlightSeen) (note : Note) (can : Returns old new notes table f note) where
+module _ (old new : StoreSeen) (notes : Notes) (table : PlaceTable) (f : FlightSeen) (note : Note) (can : Returns old new notes table f note) where
   pub mine_out : NoteAgrees old table f.seat note
   mine_out = can.fits.each_note f.seat note can.mine
 

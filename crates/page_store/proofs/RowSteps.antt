@@ -21,7 +21,7 @@ use Rattle.page_store.specs.Moves.{KeepsValues, Touches, is_only}
 use Rattle.page_store.specs.Notes.{Notes}
 use Rattle.page_store.specs.Seen.{StoreSeen, IsSoundStore, FrameAgrees, ArePaired, IsListedFrame, residence_in, residence_of}
 use Rattle.page_store.specs.Steps.{with_row, with_pair_parted, without_snapshot}
-use Rattle.page_store.specs.Table.{Table}
+use Rattle.page_store.specs.Table.{PlaceTable}
 use Rattle.page_store.specs.Value.{value_in, backing_value, note_of_holder, frame_value}
 use Rattle.page_store.specs.declared.place.Place.{Place}
 use Rattle.page_store.proofs.Agree.{SameOut, same-out, Calm, clean-calm, fits-calm, outside-calm}
@@ -50,7 +50,7 @@ module _ (s : StoreSeen) (rows : List Row) (free cached : List ℕ) (clock : Clo
   calm-rows = record { origin = refl; bays = refl; rows = same; away = λ k h. h; names = λ k h g. refl }
 
   -- every name keeps its value, where the pages on the cache list are clean
-  pub values-rows : (notes : Notes) (table : Table) → StoreFits s notes table → ((k : ℕ) (n : PageName) → Contains cached k → name_at s.names k ≡ Some n → IsClean s notes table k n)
+  pub values-rows : (notes : Notes) (table : PlaceTable) → StoreFits s notes table → ((k : ℕ) (n : PageName) → Contains cached k → name_at s.names k ≡ Some n → IsClean s notes table k n)
       → KeepsValues s notes (rows_after s rows free cached clock) notes table
   values-rows notes table fits clean = record {
     fits = fits-calm s (rows_after s rows free cached clock) notes table calm-rows

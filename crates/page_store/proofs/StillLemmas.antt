@@ -11,7 +11,7 @@ use Rattle.page_store.specs.StoreFits.{StoreFits}
 use Rattle.page_store.specs.New.{IsNew}
 use Rattle.page_store.specs.Notes.{no_notes}
 use Rattle.page_store.specs.Seen.{StoreSeen}
-use Rattle.page_store.specs.Table.{Table, IsApart}
+use Rattle.page_store.specs.Table.{PlaceTable, IsApart}
 
 none_more : (disk : ℕ × DiskSeen) (more : List (ℕ × DiskSeen)) (k : ℕ) → disk.0 ≢ k → ((i : ℕ) → i < length more → slice_index (numbers_of more) i ≢ k) → (i : ℕ) → i < length (disk ∷ more) → slice_index (numbers_of (disk ∷ more)) i ≢ k
 none_more disk more k ne none zero lt = ne
@@ -51,7 +51,7 @@ clear_at (suc count) zero = refl
 clear_at (suc count) (suc k) = clear_at count k
 
 -- nothing is out of a new store, and no page is on its cache list
-pub new-fits : (s : StoreSeen) (count : ℕ) (disks : List (ℕ × DiskSeen)) (swap : Option DiskSeen) → IsNew s count disks swap → (table : Table) → IsApart table → StoreFits s no_notes table
+pub new-fits : (s : StoreSeen) (count : ℕ) (disks : List (ℕ × DiskSeen)) (swap : Option DiskSeen) → IsNew s count disks swap → (table : PlaceTable) → IsApart table → StoreFits s no_notes table
 new-fits s count disks swap new table apart = record {
   apart = apart;
   each_note = λ t note h. absurd (cc);

@@ -17,7 +17,7 @@ use Rattle.page_store.specs.New.{IsNew}
 use Rattle.page_store.specs.Notes.{Note, Notes, with_note}
 use Rattle.page_store.specs.Seen.{StoreSeen, residence}
 use Rattle.page_store.specs.Steps.{next_name}
-use Rattle.page_store.specs.Table.{Table}
+use Rattle.page_store.specs.Table.{PlaceTable}
 use Rattle.page_store.specs.Transfers.{BeginsTransfer, EndsValues, LivesAt}
 use Rattle.page_store.specs.Trips.{HasDisk, StayThere, AreReady}
 use Rattle.page_store.specs.Value.{value}
@@ -36,13 +36,13 @@ with_note-back : (notes : Notes) (seat : ℕ) (x : Option Note) → notes seat �
 with_note-back notes seat x idle = fun_ext (back_at notes seat x idle)
 
 -- the table has a plan's page where the flight has it
-pub lives-there : (plan : Plan) (table : Table) (f : FlightSeen) (disk block valid : ℕ) → f.number ≡ disk → f.block ≡ block → f.valid ≡ valid → LivesAt plan table disk block valid → LivesAt plan table f.number f.block f.valid
+pub lives-there : (plan : Plan) (table : PlaceTable) (f : FlightSeen) (disk block valid : ℕ) → f.number ≡ disk → f.block ≡ block → f.valid ≡ valid → LivesAt plan table disk block valid → LivesAt plan table f.number f.block f.valid
 lives-there plan table f disk block valid a b c h = rw (a, b, c) h
 
 -- a transfer that a seat begins, performs and ends leaves the seat's note empty, and every value but a tail
-pub trip-takes : (a b c : StoreSeen) (notes : Notes) (table : Table) (f g : FlightSeen) → notes f.seat ≡ None → IsPerformed (note_of f) g → (row_at b.rows f.frame).gone ≡ false
+pub trip-takes : (a b c : StoreSeen) (notes : Notes) (table : PlaceTable) (f g : FlightSeen) → notes f.seat ≡ None → IsPerformed (note_of f) g → (row_at b.rows f.frame).gone ≡ false
     → TakesFrame a notes b (with_note notes f.seat (Some (note_of f))) table
-    → ((notes' : Notes) (note : Note) (table' : Table) → StoreFits b notes' table' → notes' g.seat ≡ Some note → IsPerformed note g → EndsValues b notes' c (with_note notes' g.seat None) table' note)
+    → ((notes' : Notes) (note : Note) (table' : PlaceTable) → StoreFits b notes' table' → notes' g.seat ≡ Some note → IsPerformed note g → EndsValues b notes' c (with_note notes' g.seat None) table' note)
     → TakesFrame a notes c notes table
 trip-takes a b c notes table f g idle performed ungone forth back =
     let mid : Notes = with_note notes f.seat (Some (note_of f)) in
@@ -67,7 +67,7 @@ cut_or_same true place old new h = inr h
 cut_or_same false place old new h = inl h
 
 -- a frame that was taken keeps the values, or cuts one
-pub takes-keeps : (a c : StoreSeen) (before after : Notes) (table : Table) → TakesFrame a before c after table → KeepsButTails a before c after table
+pub takes-keeps : (a c : StoreSeen) (before after : Notes) (table : PlaceTable) → TakesFrame a before c after table → KeepsButTails a before c after table
 takes-keeps a c before after table t = record {
   fits = t.fits;
   alike = t.alike;
@@ -75,7 +75,7 @@ takes-keeps a c before after table t = record {
 }
 
 -- a store that is as it was keeps the values
-pub same-keeps : (a : StoreSeen) (notes : Notes) (table : Table) → StoreFits a notes table → KeepsButTails a notes a notes table
+pub same-keeps : (a : StoreSeen) (notes : Notes) (table : PlaceTable) → StoreFits a notes table → KeepsButTails a notes a notes table
 same-keeps a notes table fits = record { fits = fits; alike = λ k. refl; values = λ n h. inl refl }
 
 there_again : (was now : BaySeen) (before after : DiskSeen) (block : ℕ) → was ≡ home before → now ≡ home after → after.size ≡ before.size → HasDisk was block → HasDisk now block

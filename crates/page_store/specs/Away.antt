@@ -4,7 +4,7 @@ use Rattle.page_store.specs.Bays.{BaySeen, missing, home, out}
 use Rattle.page_store.specs.StoreFits.{StoreFits}
 use Rattle.page_store.specs.Notes.{Notes}
 use Rattle.page_store.specs.Seen.{StoreSeen, IsSoundStore}
-use Rattle.page_store.specs.Table.{Table}
+use Rattle.page_store.specs.Table.{PlaceTable}
 
 -- The disk is out with a seat.
 abbrev pub is_disk_out : BaySeen → Bool
@@ -29,5 +29,5 @@ disk_count s = length (filter is_disk s.bays)
 
 -- At most one frame is away for each disk that is out, and so at most one for each disk.
 pub record AwayLaw : Type 0 where
-  pub out : (s : StoreSeen) (notes : Notes) (table : Table) → IsSoundStore s → StoreFits s notes table → frames_away s ≤ disks_out s
-  pub disks : (s : StoreSeen) (notes : Notes) (table : Table) → IsSoundStore s → StoreFits s notes table → frames_away s ≤ disk_count s
+  pub out : (s : StoreSeen) (notes : Notes) (table : PlaceTable) → IsSoundStore s → StoreFits s notes table → frames_away s ≤ disks_out s
+  pub disks : (s : StoreSeen) (notes : Notes) (table : PlaceTable) → IsSoundStore s → StoreFits s notes table → frames_away s ≤ disk_count s

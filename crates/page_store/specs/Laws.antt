@@ -11,7 +11,7 @@ use Rattle.page_store.specs.Notes.{Notes}
 use Rattle.page_store.specs.Out.{IsFlightOf}
 use Rattle.page_store.specs.Seen.{StoreSeen, IsSoundStore, IsListedFrame, residence}
 use Rattle.page_store.specs.Steps.{next_frame, next_name, fresh_row}
-use Rattle.page_store.specs.Table.{Table}
+use Rattle.page_store.specs.Table.{PlaceTable}
 use Rattle.page_store.specs.Value.{value}
 use Rattle.page_store.specs.declared.residence.Residence.TheVariants as at
 
@@ -30,7 +30,7 @@ pub record StaysInPlace (old new : StoreSeen) (touched : ℕ → Bool) : Type 0 
   pub touches : Touches old new touched
   pub residence : SameResidence old new
   pub outside : SameFlights old new
-  pub values : (notes : Notes) (table : Table) → StoreFits old notes table → KeepsValues old notes new notes table
+  pub values : (notes : Notes) (table : PlaceTable) → StoreFits old notes table → KeepsValues old notes new notes table
 
 -- A frame goes on the cache list: no value changes where its page is clean.
 pub record Releases (old new : StoreSeen) (frame : ℕ) : Type 0 where
@@ -38,7 +38,7 @@ pub record Releases (old new : StoreSeen) (frame : ℕ) : Type 0 where
   pub touches : Touches old new (is_only (Some frame))
   pub residence : SameResidence old new
   pub outside : SameFlights old new
-  pub values : (notes : Notes) (table : Table) → StoreFits old notes table
+  pub values : (notes : Notes) (table : PlaceTable) → StoreFits old notes table
       → ((n : PageName) → name_at old.names frame ≡ Some n → IsClean old notes table frame n)
       → KeepsValues old notes new notes table
 
@@ -48,11 +48,11 @@ pub record Pokes (old new : StoreSeen) (name : PageName) (at : ℕ) (piece : Lis
   pub touches : Touches old new (is_only (find old.names name))
   pub residence : SameResidence old new
   pub outside : SameFlights old new
-  pub value : (notes : Notes) (table : Table) → value new notes table name ≡ bytes_with_piece (value old notes table name) at piece
-  pub others : (notes : Notes) (table : Table) → StoreFits old notes table → KeepsOtherValues old notes new notes table name
+  pub value : (notes : Notes) (table : PlaceTable) → value new notes table name ≡ bytes_with_piece (value old notes table name) at piece
+  pub others : (notes : Notes) (table : PlaceTable) → StoreFits old notes table → KeepsOtherValues old notes new notes table name
 
 -- The next frame is taken for a name, which is home there with these bytes; the name that the frame held is absent.
-pub record FillsPage (old new : StoreSeen) (name : PageName) (modified : Bool) (bytes : Notes → Table → List ℕ) : Type 0 where
+pub record FillsPage (old new : StoreSeen) (name : PageName) (modified : Bool) (bytes : Notes → PlaceTable → List ℕ) : Type 0 where
   pub sound : IsSoundStore new
   pub touches : Touches old new (is_only (next_frame old))
   pub home : IfSome (next_frame old) (λ frame. residence new name ≡ at.Home frame)
@@ -61,7 +61,7 @@ pub record FillsPage (old new : StoreSeen) (name : PageName) (modified : Bool) (
   pub outside : SameFlights old new
   pub lost : (n : PageName) → next_name old ≡ Some n → residence new n ≡ at.Absent
   pub stay : (n : PageName) → n ≢ name → next_name old ≢ Some n → residence new n ≡ residence old n
-  pub values : (notes : Notes) (table : Table) → StoreFits old notes table
+  pub values : (notes : Notes) (table : PlaceTable) → StoreFits old notes table
       → FillsFrame old notes new notes table name (bytes notes table)
 
 -- A name is given up: no frame holds it, and no other page moves.
@@ -71,4 +71,4 @@ pub record Aborts (old new : StoreSeen) (name : PageName) : Type 0 where
   pub outside : SameFlights old new
   pub absent : residence new name ≡ at.Absent
   pub stay : (n : PageName) → n ≢ name → residence new n ≡ residence old n
-  pub others : (notes : Notes) (table : Table) → StoreFits old notes table → KeepsOtherValues old notes new notes table name
+  pub others : (notes : Notes) (table : PlaceTable) → StoreFits old notes table → KeepsOtherValues old notes new notes table name

@@ -2,7 +2,7 @@
 use Rattle.std.specs.Prelude.{◌≡◌, ℕ, ◌+◌, ◌-◌, ◌*◌, ◌<◌, ◌≤◌, ◌==◌, ◌&&◌, min, Bool, false, if◌then◌else◌, nat_lt, List, length, slice_get, Option, Some, option_map, option_and_then, unwrap_or}
 use Rattle.page_hash.specs.declared.PageName.{PageName}
 use Rattle.page_store.specs.declared.place.Place.{Place}
-use Rattle.page_store.specs.Table.{Table, IsApart}
+use Rattle.page_store.specs.Table.{PlaceTable, IsApart}
 
 -- A file on its disk: its length in bytes, and the block of each page that it keeps, in the order of its pages.
 pub record FileBlocks : Type 0 where
@@ -43,7 +43,7 @@ abbrev pub is_slot : ℕ → PageName → Bool
 is_slot slots name = (name.object == 64) && nat_lt name.page slots
 
 -- Pages of files are in their blocks, slots on the swap disk, and every other name has a place of its own.
-abbrev pub table_of : List FileBlocks → ℕ → (PageName → Bool) → Table
+abbrev pub table_of : List FileBlocks → ℕ → (PageName → Bool) → PlaceTable
 table_of files slots blank name =
     unwrap_or (file_page_place files name (blank name)) (if is_slot slots name then slot_place name.page (blank name) else own_place name)
 

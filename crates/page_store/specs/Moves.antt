@@ -9,7 +9,7 @@ use Rattle.page_store.specs.StoreFits.{StoreFits}
 use Rattle.page_store.specs.Notes.{Note, Notes}
 use Rattle.page_store.specs.Seen.{StoreSeen, residence}
 use Rattle.page_store.specs.Steps.{next_name}
-use Rattle.page_store.specs.Table.{Table}
+use Rattle.page_store.specs.Table.{PlaceTable}
 use Rattle.page_store.specs.Value.{value, tells}
 use Rattle.page_store.specs.declared.place.Place.{Place}
 use Rattle.page_store.specs.declared.residence.Residence.TheVariants as at
@@ -23,14 +23,14 @@ abbrev pub after_taking : Option PageName → PageName → Place → List ℕ �
 after_taking taken n place bytes = if is_name taken n then clip place.valid bytes else bytes
 
 -- Every name keeps its value.
-pub record KeepsValues (old : StoreSeen) (before : Notes) (new : StoreSeen) (after : Notes) (table : Table) : Type 0 where
+pub record KeepsValues (old : StoreSeen) (before : Notes) (new : StoreSeen) (after : Notes) (table : PlaceTable) : Type 0 where
   pub fits : StoreFits new after table
   pub alike : SameDisksTell old before new after
   pub values : (n : PageName) → IsTrue (tells old before (table n).disk)
       → value new after table n ≡ value old before table n
 
 -- Every name keeps its value, but for that of one name.
-pub record KeepsOtherValues (old : StoreSeen) (before : Notes) (new : StoreSeen) (after : Notes) (table : Table) (name : PageName) : Type 0 where
+pub record KeepsOtherValues (old : StoreSeen) (before : Notes) (new : StoreSeen) (after : Notes) (table : PlaceTable) (name : PageName) : Type 0 where
   pub fits : StoreFits new after table
   pub alike : SameDisksTell old before new after
   pub values : (n : PageName) → n ≢ name → IsTrue (tells old before (table n).disk)
@@ -38,14 +38,14 @@ pub record KeepsOtherValues (old : StoreSeen) (before : Notes) (new : StoreSeen)
 
 -- A frame is taken for another use, where one is available: every name keeps its value, but that the name which the frame
 -- held is cut at its valid bytes.
-pub record TakesFrame (old : StoreSeen) (before : Notes) (new : StoreSeen) (after : Notes) (table : Table) : Type 0 where
+pub record TakesFrame (old : StoreSeen) (before : Notes) (new : StoreSeen) (after : Notes) (table : PlaceTable) : Type 0 where
   pub fits : StoreFits new after table
   pub alike : SameDisksTell old before new after
   pub values : (n : PageName) → IsTrue (tells old before (table n).disk)
       → value new after table n ≡ after_taking (next_name old) n (table n) (value old before table n)
 
 -- A frame is taken for a name that gets new bytes: that name has these, and the others are as when a frame is taken.
-pub record FillsFrame (old : StoreSeen) (before : Notes) (new : StoreSeen) (after : Notes) (table : Table) (name : PageName) (bytes : List ℕ) : Type 0 where
+pub record FillsFrame (old : StoreSeen) (before : Notes) (new : StoreSeen) (after : Notes) (table : PlaceTable) (name : PageName) (bytes : List ℕ) : Type 0 where
   pub fits : StoreFits new after table
   pub alike : SameDisksTell old before new after
   pub filled : value new after table name ≡ bytes
@@ -57,7 +57,7 @@ abbrev pub SameOrCut : Place → List ℕ → List ℕ → Type 0
 SameOrCut place old new = (new ≡ old) ⊎ (new ≡ clip place.valid old)
 
 -- Any number of calls that keep values: each name has its value, or that cut at its valid bytes.
-pub record KeepsButTails (old : StoreSeen) (before : Notes) (new : StoreSeen) (after : Notes) (table : Table) : Type 0 where
+pub record KeepsButTails (old : StoreSeen) (before : Notes) (new : StoreSeen) (after : Notes) (table : PlaceTable) : Type 0 where
   pub fits : StoreFits new after table
   pub alike : SameDisksTell old before new after
   pub values : (n : PageName) → IsTrue (tells old before (table n).disk)

@@ -9,13 +9,13 @@ use Rattle.page_store.specs.Bays.{out, bay_at}
 use Rattle.page_store.specs.Bytes.{clip}
 use Rattle.page_store.specs.Notes.{Note, Notes}
 use Rattle.page_store.specs.Seen.{StoreSeen, IsGone}
-use Rattle.page_store.specs.Table.{Table, IsApart}
+use Rattle.page_store.specs.Table.{PlaceTable, IsApart}
 use Rattle.page_store.specs.Out.{HasOut}
 use Rattle.page_store.specs.Value.{backing_value, tells}
 
 -- A seat's note says what is out with it: its disk, whole where it tells, and its frame with 4096 bytes. The name lives in
 -- the note's block, and a page that is read in and isn't gone has the note's valid bytes and isn't blank.
-pub record NoteAgrees (s : StoreSeen) (table : Table) (seat : ℕ) (note : Note) : Type 0 where
+pub record NoteAgrees (s : StoreSeen) (table : PlaceTable) (seat : ℕ) (note : Note) : Type 0 where
   pub mine : note.seat ≡ seat
   pub origin : note.origin ≡ s.origin
   pub out : HasOut s seat note.number note.frame note.writes note.name
@@ -29,7 +29,7 @@ pub record NoteAgrees (s : StoreSeen) (table : Table) (seat : ℕ) (note : Note)
 
 -- A page that may lose its frame: where the disk tells, the frame has the value that the page would have without it, bytes
 -- past the valid ones aside; and a note that writes this name writes a page that is gone, and the name is blank.
-pub record IsClean (s : StoreSeen) (notes : Notes) (table : Table) (frame : ℕ) (n : PageName) : Type 0 where
+pub record IsClean (s : StoreSeen) (notes : Notes) (table : PlaceTable) (frame : ℕ) (n : PageName) : Type 0 where
   pub same : IsTrue (tells s notes (table n).disk) → (bytes : List ℕ) → bytes_at s.frames frame ≡ Some bytes
       → clip (table n).valid bytes ≡ backing_value s notes (table n)
   pub unwritten : (seat : ℕ) (note : Note) → notes seat ≡ Some note → note.writes ≡ true → note.name ≡ n
@@ -37,7 +37,7 @@ pub record IsClean (s : StoreSeen) (notes : Notes) (table : Table) (frame : ℕ)
 
 -- The store's share of what a machine keeps true: no two names share a block; the notes say what is out, and nothing else
 -- is; and the pages on the cache list may lose their frames.
-pub record StoreFits (s : StoreSeen) (notes : Notes) (table : Table) : Type 0 where
+pub record StoreFits (s : StoreSeen) (notes : Notes) (table : PlaceTable) : Type 0 where
   pub apart : IsApart table
   pub each_note : (seat : ℕ) (note : Note) → notes seat ≡ Some note → NoteAgrees s table seat note
   pub each_frame : (frame seat : ℕ) → (row_at s.rows frame).holder ≡ Some seat

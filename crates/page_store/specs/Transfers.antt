@@ -14,7 +14,7 @@ use Rattle.page_store.specs.Notes.{Note, Notes, with_note}
 use Rattle.page_store.specs.Out.{IsFlightOf, DisksElsewhere}
 use Rattle.page_store.specs.Seen.{StoreSeen, IsSoundStore, IsListedFrame, IsGone, own_frame, residence}
 use Rattle.page_store.specs.Steps.{next_frame, next_name, with_read_begun, with_push_begun, without_snapshot, at_frame, is_dirty}
-use Rattle.page_store.specs.Table.{Table}
+use Rattle.page_store.specs.Table.{PlaceTable}
 use Rattle.page_store.specs.Value.{value, backing_value, tells}
 use Rattle.page_store.specs.declared.plan.Plan.{Plan}
 use Rattle.page_store.specs.declared.plan.Plan.TheVariants.{Read, Push}
@@ -59,7 +59,7 @@ is_touched_by (Read name) s k = is_only (next_frame s) k
 is_touched_by (Push name) s k = is_only (next_frame s) k || family_of s (find s.names name) k
 
 -- The table has a plan's page in this block of this disk, and a page that is read is not blank and has so many valid bytes.
-abbrev pub LivesAt : Plan → Table → ℕ → ℕ → ℕ → Type 0
+abbrev pub LivesAt : Plan → PlaceTable → ℕ → ℕ → ℕ → Type 0
 LivesAt (Read name) table disk block valid = table name ≡ record { disk = disk; block = block; valid = valid; blank = false }
 LivesAt (Push name) table disk block valid = ((table name).disk ≡ disk) × ((table name).block ≡ block)
 
@@ -87,7 +87,7 @@ pub record BeginsTransfer (old new : StoreSeen) (plan : Plan) (name : PageName) 
   pub stay : (n : PageName) → n ≢ name → next_name old ≢ Some n → residence new n ≡ residence old n
   pub whole : HasBlocks f.disk.content f.disk.size
   pub size : length f.bytes ≡ 4096
-  pub values : (notes : Notes) (table : Table) → StoreFits old notes table → notes f.seat ≡ None
+  pub values : (notes : Notes) (table : PlaceTable) → StoreFits old notes table → notes f.seat ≡ None
       → LivesAt plan table f.number f.block f.valid
       → TakesFrame old notes new (with_note notes f.seat (Some (note_of f))) table
 
@@ -99,7 +99,7 @@ pub record ComesHome (old new : StoreSeen) (f : FlightSeen) (modified : Bool) : 
 
 -- A write comes back: every name keeps its value, but for the written name where its page is gone and no home frame holds
 -- the name. A read keeps the value of every name whose disk tells.
-pub record EndsValues (old : StoreSeen) (before : Notes) (new : StoreSeen) (after : Notes) (table : Table) (note : Note) : Type 0 where
+pub record EndsValues (old : StoreSeen) (before : Notes) (new : StoreSeen) (after : Notes) (table : PlaceTable) (note : Note) : Type 0 where
   pub fits : StoreFits new after table
   pub alike : SameDisksTell old before new after
   pub values : (n : PageName) → (note.writes ≡ false → IsTrue (tells old before (table n).disk))
@@ -122,9 +122,9 @@ pub record EndsTransfer (old new : StoreSeen) (f : FlightSeen) : Type 0 where
   pub free : (IsGone old f.frame ⊎ (IsSome (row_at old.rows f.frame).source ⊎ ((f.outcome ≡ failed) × (f.writes ≡ false)))) → Contains new.free f.frame
   pub stay : (n : PageName) → ((row_at old.rows f.frame).gone ≡ false → n ≢ f.name) → residence new n ≡ residence old n
   pub bytes : (row_at old.rows f.frame).source ≡ None → bytes_at new.frames (own_frame old f.frame) ≡ Some f.bytes
-  pub values : (notes : Notes) (note : Note) (table : Table) → StoreFits old notes table → notes f.seat ≡ Some note → IsPerformed note f
+  pub values : (notes : Notes) (note : Note) (table : PlaceTable) → StoreFits old notes table → notes f.seat ≡ Some note → IsPerformed note f
       → EndsValues old notes new (with_note notes f.seat None) table note
-  pub clean : (notes : Notes) (note : Note) (table later : Table) → StoreFits old notes table → notes f.seat ≡ Some note → IsPerformed note f
+  pub clean : (notes : Notes) (note : Note) (table later : PlaceTable) → StoreFits old notes table → notes f.seat ≡ Some note → IsPerformed note f
       → (row_at old.rows f.frame).gone ≡ false → f.outcome ≡ done → bytes_at new.frames (own_frame old f.frame) ≡ Some f.bytes
       → later note.name ≡ record { disk = note.number; block = note.block; valid = note.valid; blank = false }
       → IsClean new (with_note notes f.seat None) later (own_frame old f.frame) note.name

@@ -8,7 +8,7 @@ use Rattle.page_store.specs.Bays.{BaySeen, missing, home, out, bay_at, block_of}
 use Rattle.page_store.specs.Bytes.{clip}
 use Rattle.page_store.specs.Notes.{Note, Notes}
 use Rattle.page_store.specs.Seen.{StoreSeen}
-use Rattle.page_store.specs.Table.{Table}
+use Rattle.page_store.specs.Table.{PlaceTable}
 use Rattle.page_store.specs.declared.place.Place.{Place}
 
 -- the content of a disk as its note has it
@@ -53,5 +53,5 @@ value_in (Some frame) s notes place = frame_value (bytes_at s.frames frame) (not
 
 -- The value of a name: the bytes of the home frame that holds it; else those of the note that writes it; else what its
 -- disk has, or zeros where it is blank.
-abbrev pub value : StoreSeen → Notes → Table → PageName → List ℕ
+abbrev pub value : StoreSeen → Notes → PlaceTable → PageName → List ℕ
 value s notes table name = value_in (find s.names name) s notes (table name)

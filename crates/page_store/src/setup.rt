@@ -10,7 +10,7 @@ ghost use Rattle.page_store.specs.StoreFits.{StoreFits};
 ghost use Rattle.page_store.specs.New.{IsNew};
 ghost use Rattle.page_store.specs.Notes.{no_notes};
 ghost use Rattle.page_store.specs.Seen.{IsSoundStore};
-ghost use Rattle.page_store.specs.Table.{Table, IsApart};
+ghost use Rattle.page_store.specs.Table.{PlaceTable, IsApart};
 
 use crate::bays::Bays;
 use crate::order::Order;
@@ -98,7 +98,7 @@ impl<D: Disk> Store<D> {
             (option_map D.seen swap)) }
         ensures sound { IfOk result IsSoundStore }
         ensures still { IfOk result (λ store. (number : ℕ) → IsStill (bay_at store.bays number)) }
-        ensures fits { IfOk result (λ store. (table : Table) → IsApart table
+        ensures fits { IfOk result (λ store. (table : PlaceTable) → IsApart table
             → StoreFits store no_notes table) }
         ensures given { IfErr result (λ given. (given.0 ≡ disks) × (given.1 ≡ swap)) }
     {

@@ -12,7 +12,7 @@ ghost use Rattle.page_store.specs.Moves.{is_only};
 ghost use Rattle.page_store.specs.Notes.{Notes};
 ghost use Rattle.page_store.specs.Seen.{residence, IsListedFrame, IsSoundStore};
 ghost use Rattle.page_store.specs.Steps.{next_frame, next_name, with_row};
-ghost use Rattle.page_store.specs.Table.{Table};
+ghost use Rattle.page_store.specs.Table.{PlaceTable};
 ghost use Rattle.page_store.specs.Value.{value};
 ghost use Rattle.page_store.specs.Waits.{Waits, plan_page, ChoosesPage, IsVictim};
 
@@ -110,7 +110,7 @@ impl<D: Disk> Store<D> {
     pub fn bytes(&self, name: PageName) -> &[u8]
         requires { (frame : ℕ) × (residence self.now name ≡ Residence.Home frame) }
         ensures size { length result.now ≡ 4096 }
-        ensures value { (notes : Notes) (table : Table)
+        ensures value { (notes : Notes) (table : PlaceTable)
             → result.now ≡ value self.now notes table name }
     {
         match self.names.find(name) {
@@ -124,7 +124,7 @@ impl<D: Disk> Store<D> {
         requires home { (name : PageName) × (residence self.now name ≡ Residence.Home frame) }
         ensures size { length result.now ≡ 4096 }
         ensures value { (name : PageName) → residence self.now name ≡ Residence.Home frame
-            → (notes : Notes) (table : Table) → result.now ≡ value self.now notes table name }
+            → (notes : Notes) (table : PlaceTable) → result.now ≡ value self.now notes table name }
     {
         self.core.bytes(frame)
     }

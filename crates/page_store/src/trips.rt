@@ -11,7 +11,7 @@ ghost use Rattle.page_store.specs.Moves.{KeepsButTails, TakesFrame};
 ghost use Rattle.page_store.specs.Notes.{Notes};
 ghost use Rattle.page_store.specs.Seen.{residence};
 ghost use Rattle.page_store.specs.Steps.{next_frame, next_name};
-ghost use Rattle.page_store.specs.Table.{Table};
+ghost use Rattle.page_store.specs.Table.{PlaceTable};
 ghost use Rattle.page_store.specs.Out.{IsFlightOf};
 ghost use Rattle.page_store.specs.Transfers.{CanBegin, LivesAt};
 ghost use Rattle.page_store.specs.Trips.{HasDisk, StayThere};
@@ -45,7 +45,7 @@ fn read_in<D: Disk>(
     requires can { CanBegin (Plan.Read name) store.old }
     // The page is home, or the disk's count of faults rose.
     ensures home { OnOk result ((frame : ℕ) × (residence store.new name ≡ Residence.Home frame)) }
-    ensures takes { (notes : Notes) (table : Table) → StoreFits store.old notes table
+    ensures takes { (notes : Notes) (table : PlaceTable) → StoreFits store.old notes table
         → notes seat ≡ None → LivesAt (Plan.Read name) table place.disk place.block place.valid
         → TakesFrame store.old notes store.new notes table }
     ensures other { is_name (next_name store.old) name ≡ false }
@@ -80,7 +80,7 @@ pub(crate) fn push_out<D: Disk>(
     // The page is home, and modified where the disk failed.
     ensures page { (frame : ℕ) × (residence store.new name ≡ Residence.Home frame)
         × ((row_at store.new.rows frame).modified ≡ is_err result) }
-    ensures takes { (notes : Notes) (table : Table) → StoreFits store.old notes table
+    ensures takes { (notes : Notes) (table : PlaceTable) → StoreFits store.old notes table
         → notes seat ≡ None → LivesAt (Plan.Push name) table place.disk place.block place.valid
         → TakesFrame store.old notes store.new notes table }
     ensures fault { IfErr result (λ fault. HasRisen fault.before fault.after) }
@@ -191,7 +191,7 @@ pub(crate) fn load_byte<D: Disk>(
     requires valid { place.valid ≤ 4096 }
     requires at { at < 4096 }
     // The byte is the value's, where one is told.
-    ensures value { IfOk result (λ found. IfSome found (λ byte. (notes : Notes) (table : Table)
+    ensures value { IfOk result (λ found. IfSome found (λ byte. (notes : Notes) (table : PlaceTable)
         → StoreFits store.old notes table → notes seat ≡ None
         → LivesAt (Plan.Read name) table place.disk place.block place.valid
         → IsTrue (tells store.old notes place.disk)
@@ -200,7 +200,7 @@ pub(crate) fn load_byte<D: Disk>(
         → ((t : ℕ) × (residence store.old name ≡ Residence.Moving t))
         ⊎ ((next_frame store.old ≡ None) ⊎ ((h : Hold)
         × Waits store.old name place.disk (Some h))) }
-    ensures keeps { (notes : Notes) (table : Table) → StoreFits store.old notes table
+    ensures keeps { (notes : Notes) (table : PlaceTable) → StoreFits store.old notes table
         → notes seat ≡ None → LivesAt (Plan.Read name) table place.disk place.block place.valid
         → KeepsButTails store.old notes store.new notes table }
     ensures fault { IfErr result (λ fault. HasRisen fault.before fault.after) }

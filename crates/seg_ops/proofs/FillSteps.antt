@@ -15,7 +15,7 @@ use Rattle.page_store.specs.Notes.{Notes}
 use Rattle.page_store.specs.Seen.{StoreSeen, IsListedFrame, residence}
 use Rattle.page_store.specs.Steps.{next_frame, next_name, name_in, after_fill, at_frame, with_frame_filled, fresh_row}
 use Rattle.page_store.specs.StoreFits.{StoreFits}
-use Rattle.page_store.specs.Table.{Table}
+use Rattle.page_store.specs.Table.{PlaceTable}
 use Rattle.page_store.specs.Value.{value, value_in, frame_value, note_of_holder, backing_value, content_of}
 use Rattle.page_store.specs.declared.residence.Residence.TheVariants.{Home, Absent}
 use Rattle.page_store.proofs.QueryLemmas.{absent-is, some-within}
@@ -39,7 +39,7 @@ some-of None h = absurd (let z : false ≡ true = h in cc)
 some-of (Some x) h = (x, refl)
 
 -- the store's call, as it is used here
-pub takes-page : (w : World) (spaces : Spaces) (new : StoreSeen) (name : PageName) (frame : ℕ) (page : List ℕ) (modified : Bool) (given : Notes → Table → List ℕ) → MemoryFits (memory_of w spaces) → next_frame w.store ≡ Some frame → residence w.store name ≡ Absent
+pub takes-page : (w : World) (spaces : Spaces) (new : StoreSeen) (name : PageName) (frame : ℕ) (page : List ℕ) (modified : Bool) (given : Notes → PlaceTable → List ℕ) → MemoryFits (memory_of w spaces) → next_frame w.store ≡ Some frame → residence w.store name ≡ Absent
     → new ≡ after_fill w.store name page modified → FillsPage w.store new name modified given → TakesFor w.store new name frame
 takes-page w spaces new name frame page modified given f next absent step laws =
     let lt : frame < length w.store.frames = some-within w.store.frames frame (f.frames.sound.listed frame (next-listed w.store frame next)) in
@@ -63,7 +63,7 @@ pub record TakesZeros (w : World) (new : StoreSeen) (name : PageName) (frame : �
   pub takes : TakesFor w.store new name frame
   pub swap : name.object ≡ 64 → takes.modified ≡ true
   pub zeroed : bytes_at new.frames frame ≡ Some zeros
-  pub values : (notes : Notes) (table : Table) → StoreFits w.store notes table → FillsFrame w.store notes new notes table name zeros
+  pub values : (notes : Notes) (table : PlaceTable) → StoreFits w.store notes table → FillsFrame w.store notes new notes table name zeros
 
 pub takes-for : (w : World) (spaces : Spaces) (new : StoreSeen) (name : PageName) (frame : ℕ) → MemoryFits (memory_of w spaces) → next_frame w.store ≡ Some frame → residence w.store name ≡ Absent
     → new ≡ after_fill w.store name zeros (name.object == 64) → FillsPage w.store new name (name.object == 64) (λ notes table. zeros) → TakesZeros w new name frame
@@ -79,10 +79,10 @@ takes-for w spaces new name frame f next absent step laws =
     }
 
 -- the value of a blank page that no frame holds
-pub absent-zeros : (s : StoreSeen) (notes : Notes) (table : Table) (n : PageName) → find s.names n ≡ None → (table n).blank ≡ true → value s notes table n ≡ zeros
+pub absent-zeros : (s : StoreSeen) (notes : Notes) (table : PlaceTable) (n : PageName) → find s.names n ≡ None → (table n).blank ≡ true → value s notes table n ≡ zeros
 absent-zeros s notes table n none blank = ap (λ (o : Option ℕ). value_in o s notes (table n)) none ∙ ap (λ (b : Bool). cond b zeros (clip (table n).valid (block_of (content_of s notes (table n).disk) (table n).block))) blank
 
-pub home-value : (s : StoreSeen) (notes : Notes) (table : Table) (n : PageName) (frame : ℕ) (b : Option (List ℕ)) → find s.names n ≡ Some frame → bytes_at s.frames frame ≡ b → IsSome b → (bytes : List ℕ) × (b ≡ Some bytes) × (value s notes table n ≡ bytes)
+pub home-value : (s : StoreSeen) (notes : Notes) (table : PlaceTable) (n : PageName) (frame : ℕ) (b : Option (List ℕ)) → find s.names n ≡ Some frame → bytes_at s.frames frame ≡ b → IsSome b → (bytes : List ℕ) × (b ≡ Some bytes) × (value s notes table n ≡ bytes)
 home-value s notes table n frame None at is there = absurd (let z : false ≡ true = there in cc)
 home-value s notes table n frame (Some bytes) at is there = (bytes, refl, ap (λ (o : Option ℕ). value_in o s notes (table n)) at ∙ ap (λ (x : Option (List ℕ)). frame_value x (note_of_holder (row_at s.rows frame).holder notes) (backing_value s notes (table n))) is)
 

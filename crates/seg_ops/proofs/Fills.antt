@@ -19,7 +19,7 @@ use Rattle.page_store.specs.Notes.{Note, Notes}
 use Rattle.page_store.specs.Seen.{StoreSeen, IsSoundStore, IsListedFrame, own_frame, residence}
 use Rattle.page_store.specs.Steps.{next_frame, name_in, fresh_row}
 use Rattle.page_store.specs.StoreFits.{StoreFits, IsClean}
-use Rattle.page_store.specs.Table.{Table}
+use Rattle.page_store.specs.Table.{PlaceTable}
 use Rattle.page_store.specs.Transfers.{is_rewritten_in}
 use Rattle.page_store.specs.Value.{backing_value, tells, content_of}
 use Rattle.page_store.specs.declared.place.Place.{Place}
@@ -40,7 +40,7 @@ use Rattle.seg_ops.proofs.StillSteps.{with_tables, memory_of}
 pub record TakesFor (old new : StoreSeen) (name : PageName) (frame : ℕ) : Type 0 where
   pub page : List ℕ
   pub modified : Bool
-  pub given : Notes → Table → List ℕ
+  pub given : Notes → PlaceTable → List ℕ
   pub next : next_frame old ≡ Some frame
   pub core : core_of new ≡ core_of old
   pub absent : residence old name ≡ Absent

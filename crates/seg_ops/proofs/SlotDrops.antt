@@ -13,7 +13,7 @@ use Rattle.page_store.specs.Bays.{BaySeen}
 use Rattle.page_store.specs.Notes.{Note, Notes}
 use Rattle.page_store.specs.Seen.{StoreSeen, IsListedFrame, IsGone, own_frame}
 use Rattle.page_store.specs.StoreFits.{StoreFits}
-use Rattle.page_store.specs.Table.{Table}
+use Rattle.page_store.specs.Table.{PlaceTable}
 use Rattle.page_store.specs.Transfers.{is_rewritten_in}
 use Rattle.page_store.specs.Value.{value, backing_value, tells}
 use Rattle.page_store.specs.declared.place.Place.{Place}
@@ -207,9 +207,9 @@ module _ (w : World) (spaces : Spaces) (new : StoreSeen) (anon : Slots) (put : L
 
   dropped-notes : (notes : Notes) → NotesFit w notes → NotesFit (with_slot w new anon put) notes
   dropped-notes notes nf = record {
-    stored = subst (λ (t : Table). StoreFits new notes t) (sym table) (g.laws.others notes (world_table w) nf.stored).fits;
-    clean = subst (λ (t : Table). CleanFit new w.hat.places t notes) (sym table) (clean-fits notes nf);
-    pushes = λ seat note is writes stands. subst (λ (t : Table). PushFits new w.hat.places t note) (sym table) (elim (cases_Bool (row_at w.store.rows note.frame).gone) [
+    stored = subst (λ (t : PlaceTable). StoreFits new notes t) (sym table) (g.laws.others notes (world_table w) nf.stored).fits;
+    clean = subst (λ (t : PlaceTable). CleanFit new w.hat.places t notes) (sym table) (clean-fits notes nf);
+    pushes = λ seat note is writes stands. subst (λ (t : PlaceTable). PushFits new w.hat.places t note) (sym table) (elim (cases_Bool (row_at w.store.rows note.frame).gone) [
       | inl gone ↦ absurd (stands (gone-still notes seat note nf is gone))
       | inr there ↦ push notes seat note nf is stands there (nf.pushes seat note is writes (λ gone. stands (gone-still notes seat note nf is gone)))
     ]);
@@ -235,8 +235,8 @@ module _ (w : World) (spaces : Spaces) (new : StoreSeen) (anon : Slots) (put : L
     memory = dropped-memory;
     notes = dropped-notes;
     tells = λ notes nf. (
-      (λ tell n real. ap (λ (t : Table). tells new notes (t n).disk) table ∙ tells-same notes (world_table w n).disk ∙ tell n (sym (page-same n) ∙ real)),
-      (λ tell n real. sym (tells-same notes (world_table w n).disk) ∙ sym (ap (λ (t : Table). tells new notes (t n).disk) table) ∙ tell n (page-same n ∙ real)),
+      (λ tell n real. ap (λ (t : PlaceTable). tells new notes (t n).disk) table ∙ tells-same notes (world_table w n).disk ∙ tell n (sym (page-same n) ∙ real)),
+      (λ tell n real. sym (tells-same notes (world_table w n).disk) ∙ sym (ap (λ (t : PlaceTable). tells new notes (t n).disk) table) ∙ tell n (page-same n ∙ real)),
     );
     pages = λ notes n nf tell exists.
         let far : n ≢ slot_name s = λ e. let z : true ≡ false = sym (exists e) ∙ ap (page_exists w.files anon) e ∙ missing in cc in

@@ -4,7 +4,7 @@ use Rattle.std.specs.Prelude.{IsTrue, IsFalse, true, false}
 use Rattle.page_hash.specs.declared.PageName.{PageName}
 use Rattle.page_store.specs.Notes.{Notes}
 use Rattle.page_store.specs.StoreFits.{StoreFits}
-use Rattle.page_store.specs.Table.{Table}
+use Rattle.page_store.specs.Table.{PlaceTable}
 use Rattle.page_store.specs.Value.{value, tells}
 use Rattle.anon_map.specs.Maps.{Map}
 use Rattle.anon_slots.specs.Slots.{Slots, count_at}
@@ -62,9 +62,9 @@ module _ (w : World) (spaces : Spaces) (anon : Slots) (put : List (Option Map)) 
 
   kept-notes : (notes : Notes) → NotesFit w notes → NotesFit (with_slot w w.store anon put) notes
   kept-notes notes nf = record {
-    stored = subst (λ (t : Table). StoreFits w.store notes t) (sym table) nf.stored;
-    clean = subst (λ (t : Table). CleanFit w.store w.hat.places t notes) (sym table) nf.clean;
-    pushes = λ seat note is writes there. subst (λ (t : Table). PushFits w.store w.hat.places t note) (sym table) (nf.pushes seat note is writes there);
+    stored = subst (λ (t : PlaceTable). StoreFits w.store notes t) (sym table) nf.stored;
+    clean = subst (λ (t : PlaceTable). CleanFit w.store w.hat.places t notes) (sym table) nf.clean;
+    pushes = λ seat note is writes there. subst (λ (t : PlaceTable). PushFits w.store w.hat.places t note) (sym table) (nf.pushes seat note is writes there);
     gone = λ seat note is writes gone. elim (nf.gone seat note is writes gone) [
       | inl a ↦ inl (ap (λ swapped. is_unpushed w.files (record anon { swapped = swapped }) note.name) k.swapped ∙ a.0, a.1)
       | inr b ↦ inr (elim b [ inl c ↦ inl (missing note.name c) | inr d ↦ inr d ])
@@ -84,8 +84,8 @@ module _ (w : World) (spaces : Spaces) (anon : Slots) (put : List (Option Map)) 
     memory = kept-memory;
     notes = kept-notes;
     tells = λ notes nf. (
-      (λ tell n real. ap (λ (t : Table). tells w.store notes (t n).disk) table ∙ tell n (sym (page-name-left w.files w.anon anon w.maps put m i s k n) ∙ real)),
-      (λ tell n real. sym (ap (λ (t : Table). tells w.store notes (t n).disk) table) ∙ tell n (page-name-left w.files w.anon anon w.maps put m i s k n ∙ real)),
+      (λ tell n real. ap (λ (t : PlaceTable). tells w.store notes (t n).disk) table ∙ tell n (sym (page-name-left w.files w.anon anon w.maps put m i s k n) ∙ real)),
+      (λ tell n real. sym (ap (λ (t : PlaceTable). tells w.store notes (t n).disk) table) ∙ tell n (page-name-left w.files w.anon anon w.maps put m i s k n ∙ real)),
     );
     pages = λ notes n nf tell exists. λ j. cond (page-name-left w.files w.anon anon w.maps put m i s k n j) (value w.store notes (table j) n) [];
   }

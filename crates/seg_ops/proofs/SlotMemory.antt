@@ -16,7 +16,7 @@ use Rattle.page_store.specs.Bays.{BaySeen}
 use Rattle.page_store.specs.Seen.{StoreSeen, IsListedFrame, residence, residence_in}
 use Rattle.page_store.specs.Steps.{next_frame, next_name, name_in, home_bytes}
 use Rattle.page_store.specs.Notes.{Notes}
-use Rattle.page_store.specs.Table.{Table}
+use Rattle.page_store.specs.Table.{PlaceTable}
 use Rattle.page_store.specs.Value.{value, value_in, frame_value, note_of_holder, backing_value}
 use Rattle.page_store.proofs.QueryLemmas.{home-is}
 use Rattle.hat_layer.specs.Pool.{translation_at}
@@ -231,7 +231,7 @@ copy-shown w spaces p q m i s x lt empty owns unloaded k t is y n here shows =
     loaded-at w.hat.places k t is (ap (λ (a : ℕ). translation_at w.hat.places a t.page) where_is.0 ∙ ap (λ (b : ℕ). translation_at w.hat.places p b) where_is.1 ∙ unloaded)) shows
 
 -- the value of a page that is home
-pub home-value_bytes : (s : StoreSeen) (notes : Notes) (table : Table) (n : PageName) (frame : ℕ) → residence s n ≡ Home frame → value s notes table n ≡ home_bytes s (find s.names n)
+pub home-value_bytes : (s : StoreSeen) (notes : Notes) (table : PlaceTable) (n : PageName) (frame : ℕ) → residence s n ≡ Home frame → value s notes table n ≡ home_bytes s (find s.names n)
 home-value_bytes s notes table n frame home =
     let i = home-is s n frame home in
     ap (λ (o : Option ℕ). value_in o s notes (table n)) i.found ∙ ap (λ (b : Option (List ℕ)). frame_value b (note_of_holder (row_at s.rows frame).holder notes) (backing_value s notes (table n))) i.there

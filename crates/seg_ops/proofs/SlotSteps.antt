@@ -9,7 +9,7 @@ use Rattle.page_store.specs.Notes.{Notes}
 use Rattle.page_store.specs.Seen.{StoreSeen, IsListedFrame, residence}
 use Rattle.page_store.specs.Steps.{next_frame, next_name}
 use Rattle.page_store.specs.StoreFits.{StoreFits}
-use Rattle.page_store.specs.Table.{Table}
+use Rattle.page_store.specs.Table.{PlaceTable}
 use Rattle.page_store.specs.Value.{value, tells}
 use Rattle.page_store.specs.declared.place.Place.{Place}
 use Rattle.page_store.specs.declared.residence.Residence.TheVariants.{Home}
@@ -34,7 +34,7 @@ use Rattle.seg_ops.proofs.SlotTables.{table-else, table-spot, page-name-made, fi
 use Rattle.seg_ops.proofs.StillSteps.{memory_of, value-is}
 
 pub made-page : (w : World) (spaces : Spaces) (new : StoreSeen) (anon : Slots) (put : List (Option Map)) (m i s frame : ℕ) (bytes : Page) → MemoryFits (memory_of w spaces) → MakesSlot w.anon anon w.maps put m i s → TakesFor w.store new (slot_name s) frame → (row_at new.rows frame).modified ≡ true → AreShown w spaces put
-    → ((notes : Notes) (table : Table) → StoreFits w.store notes table → FillsFrame w.store notes new notes table (slot_name s) bytes) → MakesPage w (with_slot w new anon put) spaces (is_name (next_name w.store)) m i s bytes
+    → ((notes : Notes) (table : PlaceTable) → StoreFits w.store notes table → FillsFrame w.store notes new notes table (slot_name s) bytes) → MakesPage w (with_slot w new anon put) spaces (is_name (next_name w.store)) m i s bytes
 made-page w spaces new anon put m i s frame bytes f k t dirty shown fills =
     let unnamed = free-unnamed w s f.frames k.free in
     let filled : (notes : Notes) → NotesFit w notes → FillsFrame w.store notes new notes (page_table w.files anon) (slot_name s) bytes =
@@ -65,7 +65,7 @@ made-page w spaces new anon put m i s frame bytes f k t dirty shown fills =
     }
 
 -- The slot is held, and its page home.
-pub made-home : (old new : World) (pending more slot : ℕ) (modified : Bool) (bytes : Notes → Table → List ℕ) → FillsPage old.store new.store (slot_name slot) modified bytes → count_at old.anon slot ≡ 0 → count_at new.anon slot ≡ 1
+pub made-home : (old new : World) (pending more slot : ℕ) (modified : Bool) (bytes : Notes → PlaceTable → List ℕ) → FillsPage old.store new.store (slot_name slot) modified bytes → count_at old.anon slot ≡ 0 → count_at new.anon slot ≡ 1
     → PendsTails old (is_name (next_name old.store)) pending more → MakesHome old new pending more slot
 made-home old new pending more slot modified bytes fills free once pends = record {
   free = free;

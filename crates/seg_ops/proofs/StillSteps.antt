@@ -12,7 +12,7 @@ use Rattle.page_store.specs.Moves.{KeepsValues, SameDisksTell}
 use Rattle.page_store.specs.Notes.{Note, Notes}
 use Rattle.page_store.specs.Seen.{StoreSeen, IsSoundStore, IsListedFrame, own_frame}
 use Rattle.page_store.specs.StoreFits.{StoreFits}
-use Rattle.page_store.specs.Table.{Table}
+use Rattle.page_store.specs.Table.{PlaceTable}
 use Rattle.page_store.specs.Transfers.{is_rewritten_in}
 use Rattle.page_store.specs.Value.{value, backing_value, tells}
 use Rattle.page_store.specs.declared.place.Place.{Place}
@@ -114,7 +114,7 @@ backing_value-kept old new notes place bays = ap (λ (b : List BaySeen). backing
 tells-kept : (old new : StoreSeen) (notes : Notes) (disk : ℕ) → new.bays ≡ old.bays → tells new notes disk ≡ tells old notes disk
 tells-kept old new notes disk bays = ap (λ (b : List BaySeen). tells (record old { bays = b }) notes disk) bays
 
-clean-kept : (old new : StoreSeen) (before after : List (Option Translation)) (notes : Notes) (table : Table) → KeepsFrames old new before after → CleanFit old before table notes → CleanFit new after table notes
+clean-kept : (old new : StoreSeen) (before after : List (Option Translation)) (notes : Notes) (table : PlaceTable) → KeepsFrames old new before after → CleanFit old before table notes → CleanFit new after table notes
 clean-kept old new before after notes table k clean j n name there = elim (k.bytes j) [
   | inr w ↦ inl (inr w)
   | inl same ↦ elim (clean j n (ap (λ ns. name_at ns j) (sym k.names) ∙ name) (subst (λ (b : Option (List ℕ)). IsSome b) same there)) [
@@ -231,7 +231,7 @@ keeps-store store before after files anon f kept = record {
   bytes = λ k. inl refl;
 }
 
-pub values-same : (store : StoreSeen) (notes : Notes) (table : Table) → StoreFits store notes table → KeepsValues store notes store notes table
+pub values-same : (store : StoreSeen) (notes : Notes) (table : PlaceTable) → StoreFits store notes table → KeepsValues store notes store notes table
 values-same store notes table fits = record { fits = fits; alike = λ n. refl; values = λ n tell. refl }
 
 -- A FRAME THAT A TRANSLATION LEADS TO is one of the frames, and holds the name that the translation's place shows.

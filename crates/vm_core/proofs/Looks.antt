@@ -18,7 +18,7 @@ use Rattle.page_store.specs.Moves.{is_only}
 use Rattle.page_store.specs.Notes.{Notes}
 use Rattle.page_store.specs.Seen.{StoreSeen, IsSoundStore, IsListedFrame, residence, residence_in, residence_of}
 use Rattle.page_store.specs.Steps.{with_row, next_frame}
-use Rattle.page_store.specs.Table.{Table}
+use Rattle.page_store.specs.Table.{PlaceTable}
 use Rattle.page_store.specs.Transfers.{is_push}
 use Rattle.page_store.specs.Waits.{Waits, holder_of, holder_in}
 use Rattle.page_store.specs.declared.plan.Hold.{Hold}
@@ -187,7 +187,7 @@ looks-modified w u spaces frame name asked fits lt g free idle dirty found table
       unlocked = free;
       unreferenced = not-referenced w u frame g idle;
       modified = g.modified.0 (inl dirty);
-      disk = (d.0, ap (λ (b : List BaySeen). bay_at b (world_table w name).disk) (sym bays) ∙ ap (λ (t : Table). bay_at u.store.bays (t name).disk) (sym table) ∙ d.1);
+      disk = (d.0, ap (λ (b : List BaySeen). bay_at b (world_table w name).disk) (sym bays) ∙ ap (λ (t : PlaceTable). bay_at u.store.bays (t name).disk) (sym table) ∙ d.1);
     }
 
     unheld : holder_of u.store name ≡ None
@@ -195,7 +195,7 @@ looks-modified w u spaces frame name asked fits lt g free idle dirty found table
 
     refused : (h : Hold) → Waits u.store name (world_table u name).disk (Some h) → (d : DiskSeen) → bay_at w.store.bays (world_table w name).disk ≡ home d → ⊥
     refused (hold.Page t) waits d at = let z : ◌≡◌ {A = Option ℕ} None (Some t) = sym unheld ∙ waits in cc
-    refused (hold.Disk t) waits d at = let z : home d ≡ out t = sym at ∙ ap (λ (b : List BaySeen). bay_at b (world_table w name).disk) (sym bays) ∙ ap (λ (x : Table). bay_at u.store.bays (x name).disk) (sym table) ∙ waits in cc
+    refused (hold.Disk t) waits d at = let z : home d ≡ out t = sym at ∙ ap (λ (b : List BaySeen). bay_at b (world_table w name).disk) (sym bays) ∙ ap (λ (x : PlaceTable). bay_at u.store.bays (x name).disk) (sym table) ∙ waits in cc
     refused (hold.File t) waits d at = waits
 
     none : (p : Plan) → ((d : DiskSeen) → bay_at w.store.bays (world_table w name).disk ≡ home d → ⊥) → IsPushOf w frame p → ⊥

@@ -16,7 +16,7 @@ use Rattle.page_store.specs.Notes.{Note, Notes, no_notes}
 use Rattle.page_store.specs.Seen.{StoreSeen, IsSoundStore, IsListedFrame, residence}
 use Rattle.page_store.specs.Steps.{home_bytes}
 use Rattle.page_store.specs.Value.{value, value_in, backing_value, tells, content_of, content_in_bay, frame_value, note_of_holder}
-use Rattle.page_store.specs.Table.{Table}
+use Rattle.page_store.specs.Table.{PlaceTable}
 use Rattle.page_store.specs.declared.place.Place.{Place}
 use Rattle.page_store.specs.declared.residence.Residence.TheVariants.{Home}
 use Rattle.page_store.proofs.QueryLemmas.{home-is, found-within, residence-home}
@@ -160,7 +160,7 @@ module _ (w : World) (name : PageName) (fit : FilesFit w.files) (p : IsFilePage 
       ∙ ap (λ (o : Option (List (List ℕ))). cond (is_blank (vnode_at w.files name.object) name.page) zeros (clip (bytes_of_page w.files name) (block_of o (block_of_page w.files name.object name.page)))) (content-in (bay_at w.store.bays (disk_of_file w.files name.object)))
 
 -- the page of a home frame has its bytes
-pub value-home : (s : StoreSeen) (notes : Notes) (table : Table) (name : PageName) (frame : ℕ) → residence s name ≡ Home frame → value s notes table name ≡ home_bytes s (find s.names name)
+pub value-home : (s : StoreSeen) (notes : Notes) (table : PlaceTable) (name : PageName) (frame : ℕ) → residence s name ≡ Home frame → value s notes table name ≡ home_bytes s (find s.names name)
 value-home s notes table name frame here =
     let at = home-is s name frame here in
     ap (λ (o : Option ℕ). value_in o s notes (table name)) at.found ∙ ap (λ (o : Option (List ℕ)). frame_value o (note_of_holder (row_at s.rows frame).holder notes) (backing_value s notes (table name))) at.there

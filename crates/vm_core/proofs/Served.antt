@@ -14,7 +14,7 @@ use Rattle.page_store.specs.Bays.{BaySeen}
 use Rattle.page_store.specs.Notes.{Notes}
 use Rattle.page_store.specs.Seen.{StoreSeen, IsSoundStore}
 use Rattle.page_store.specs.StoreFits.{StoreFits}
-use Rattle.page_store.specs.Table.{Table}
+use Rattle.page_store.specs.Table.{PlaceTable}
 use Rattle.page_store.specs.declared.plan.Hold.{Hold}
 use Rattle.page_store.specs.declared.plan.Hold.TheVariants as hold
 use Rattle.page_store.specs.declared.plan.Plan.{Plan}
@@ -197,7 +197,7 @@ concludes opening s seats m seat p more call (Busy h) fit idle of try formed ser
 }
 
 -- BESIDE ANY FRAME ANOTHER IS HOME, whatever is away.
-pub home-frame : (store : StoreSeen) (zeros : List (Option ℕ)) (spaces : Spaces) (entries : List ℕ) (seats : ℕ) (notes : Notes) (table : Table) → IsSoundKernel store zeros spaces entries seats → IsSoundStore store → StoreFits store notes table
+pub home-frame : (store : StoreSeen) (zeros : List (Option ℕ)) (spaces : Spaces) (entries : List ℕ) (seats : ℕ) (notes : Notes) (table : PlaceTable) → IsSoundKernel store zeros spaces entries seats → IsSoundStore store → StoreFits store notes table
     → (beside : ℕ) → (frame : ℕ) × (frame ≢ beside) × IsSome (bytes_at store.frames frame)
 home-frame store zeros spaces entries seats notes table k sound fits beside = let few = away_law.disks store notes table sound fits in let enough = k.frames in home-beside store.frames beside (omega (arith, few, enough))
 

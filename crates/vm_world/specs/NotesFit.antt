@@ -6,7 +6,7 @@ use Rattle.page_hash.specs.declared.PageName.{PageName}
 use Rattle.page_store.specs.Notes.{Note, Notes}
 use Rattle.page_store.specs.Seen.{StoreSeen, IsGone, own_frame, residence}
 use Rattle.page_store.specs.StoreFits.{StoreFits, IsClean}
-use Rattle.page_store.specs.Table.{Table}
+use Rattle.page_store.specs.Table.{PlaceTable}
 use Rattle.page_store.specs.Transfers.{was_rewritten}
 use Rattle.page_store.specs.declared.residence.Residence.TheVariants.{Home}
 use Rattle.anon_slots.specs.Slots.{Slots}
@@ -17,7 +17,7 @@ use Rattle.vm_world.specs.TranslationsFit.{HasWritten, IsModified}
 use Rattle.vm_world.specs.World.{World, world_table, is_unpushed, page_exists}
 
 -- Each page that is home is modified, or clean: where its disk tells, it has the value that it would have without its frame, and no note writes it.
-abbrev pub CleanFit : StoreSeen → List (Option Translation) → Table → Notes → Type 0
+abbrev pub CleanFit : StoreSeen → List (Option Translation) → PlaceTable → Notes → Type 0
 CleanFit store places table notes =
     (frame : ℕ) (name : PageName) → name_at store.names frame ≡ Some name → IsSome (bytes_at store.frames frame)
     → IsModified store places frame ⊎ IsClean store notes table frame name
@@ -27,13 +27,13 @@ abbrev pub WasRewritten : StoreSeen → List (Option Translation) → ℕ → Ty
 WasRewritten store places frame = IsTrue (was_rewritten store frame) ⊎ HasWritten places (own_frame store frame)
 
 -- The page of a push has as many valid bytes as the note says, and where it is home, as beside a snapshot, the note's bytes.
-pub record IsAsSent (store : StoreSeen) (table : Table) (note : Note) : Type 0 where
+pub record IsAsSent (store : StoreSeen) (table : PlaceTable) (note : Note) : Type 0 where
   pub valid : (table note.name).valid ≡ note.valid
   pub bytes : (bytes : List ℕ) → bytes_at store.frames (own_frame store note.frame) ≡ Some bytes → bytes ≡ note.bytes
 
 -- A page that is being pushed counts as pushed: a file's page stops being blank, and a slot is marked, as its first push begins (where that fails, the
 -- page is home and modified again). And the page was written since, or is as it was sent.
-pub record PushFits (store : StoreSeen) (places : List (Option Translation)) (table : Table) (note : Note) : Type 0 where
+pub record PushFits (store : StoreSeen) (places : List (Option Translation)) (table : PlaceTable) (note : Note) : Type 0 where
   pub pushed : IsFalse (table note.name).blank
   pub same : WasRewritten store places note.frame ⊎ IsAsSent store table note
 

@@ -4,7 +4,7 @@ use Rattle.page_hash.specs.declared.PageName.{PageName}
 use Rattle.page_store.specs.Layout.{FileBlocks, table_of}
 use Rattle.page_store.specs.Notes.{Notes}
 use Rattle.page_store.specs.Seen.{StoreSeen}
-use Rattle.page_store.specs.Table.{Table}
+use Rattle.page_store.specs.Table.{PlaceTable}
 use Rattle.page_store.specs.Value.{tells}
 use Rattle.anon_slots.specs.Slots.{Slots, count_at, is_used}
 use Rattle.anon_map.specs.Maps.{Map, places_of}
@@ -57,10 +57,10 @@ is_unpushed files anon name =
     if name.object == 64 then not (slice_index_or anon.swapped name.page false) else is_blank (vnode_at files name.object) name.page
 
 -- Where each page lives.
-abbrev pub page_table : FilesSeen → Slots → Table
+abbrev pub page_table : FilesSeen → Slots → PlaceTable
 page_table files anon = table_of (map file_blocks files.files) (length anon.counts) (is_unpushed files anon)
 
-abbrev pub world_table : World → Table
+abbrev pub world_table : World → PlaceTable
 world_table w = page_table w.files w.anon
 
 -- The name is that of a page which a file keeps, or of a slot.

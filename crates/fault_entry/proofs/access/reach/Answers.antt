@@ -9,8 +9,8 @@ use Rattle.vm_world.specs.Segments.{Spot, Spaces, spot_at}
 use Rattle.vm_world.specs.World.{World, world_seen}
 use Rattle.seg_ops.proofs.StillSteps.{memory_of}
 use Rattle.fault_entry.specs.Reaching.{may_access, ServesAccess}
-use Rattle.fault_entry.specs.declared.access.Access.{Access}
-use Rattle.fault_entry.specs.declared.access.Access.TheVariants as access
+use Rattle.fault_entry.specs.declared.access.AccessStep.{AccessStep}
+use Rattle.fault_entry.specs.declared.access.AccessStep.TheVariants as access
 use Rattle.fault_entry.proofs.Found.{spot-found, spot-none, found-low}
 use Rattle.fault_entry.proofs.Reached.{align-access, unmapped-access, refused-access, hit-access, loaded-access, past-access, need-access, busy-access}
 use Rattle.fault_entry.proofs.access.reach.Given.{Over}
@@ -66,7 +66,7 @@ fault-requires-clause-fits g c =
     (c.requires.fits.0, (c.frame_for.ensures.keeps c.requires.fits.0 c.requires.fits.1).memory, here g at c.requires.fits.0 c.requires.fits.2)
 
 -- where no access was noted, what is served from then on is served from the start
-served : (g : Over) (c : After-fault g) (spaces : Spaces) (new : World) (more : ℕ) (answer : Access) → ServesAccess (memory_of (world_seen c.frame_for.new.world) spaces) (memory_of new spaces) c.frame_for.new.world.pending more c.args.process c.args.addr c.args.size c.args.write answer
+served : (g : Over) (c : After-fault g) (spaces : Spaces) (new : World) (more : ℕ) (answer : AccessStep) → ServesAccess (memory_of (world_seen c.frame_for.new.world) spaces) (memory_of new spaces) c.frame_for.new.world.pending more c.args.process c.args.addr c.args.size c.args.write answer
     → ServesAccess (memory_of (world_seen c.args.world.now) spaces) (memory_of new spaces) c.args.world.now.pending more c.args.process c.args.addr c.args.size c.args.write answer
 served g c spaces new more answer s = subst (λ v. ServesAccess (memory_of (world_seen v) spaces) (memory_of new spaces) v.pending more c.args.process c.args.addr c.args.size c.args.write answer) c.in_default-frame_for.ensures.none s
 

@@ -10,7 +10,7 @@ use Rattle.page_store.specs.Notes.{Notes}
 use Rattle.page_store.specs.Out.{DisksElsewhere}
 use Rattle.page_store.specs.Seen.{StoreSeen, residence, own_frame}
 use Rattle.page_store.specs.Steps.{next_name}
-use Rattle.page_store.specs.Table.{Table}
+use Rattle.page_store.specs.Table.{PlaceTable}
 use Rattle.page_store.specs.Transfers.{LivesAt, was_rewritten}
 use Rattle.page_store.specs.Trips.{StayThere}
 use Rattle.page_store.specs.declared.plan.Plan.TheVariants.{Read, Push}
@@ -22,7 +22,7 @@ use Rattle.page_store.proofs.trips.push_out.Goals as goal
 
 -- what the three calls make of the store
 record Went (g : Over) (c : After-end g) : Type 0 where
-  takes : (notes : Notes) (table : Table) → StoreFits c.args.store.now notes table → notes c.args.seat ≡ None → LivesAt (Push c.args.name) table c.args.place.disk c.args.place.block c.args.place.valid → TakesFrame c.args.store.now notes c.end.new.self notes table
+  takes : (notes : Notes) (table : PlaceTable) → StoreFits c.args.store.now notes table → notes c.args.seat ≡ None → LivesAt (Push c.args.name) table c.args.place.disk c.args.place.block c.args.place.valid → TakesFrame c.args.store.now notes c.end.new.self notes table
   there : StayThere c.args.store.now.bays c.end.new.self.bays
   ungone : (row_at c.begin-flight.new.self.rows c.perform-result.new.self.frame).gone ≡ false
   name : c.perform-result.new.self.name ≡ c.args.name
