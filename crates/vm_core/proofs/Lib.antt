@@ -12,5 +12,3 @@ pub mod Served
 pub mod Uses
 pub mod Looks
 pub mod Hands
-pub mod TrialLemmas
-pub mod TrialFiles

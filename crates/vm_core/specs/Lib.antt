@@ -8,4 +8,3 @@ pub mod Fits
 pub mod Clock
 pub mod Flights
 pub mod Calls
-pub mod Trials

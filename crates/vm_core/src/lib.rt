@@ -15,10 +15,6 @@ mod ledger;
 mod setup;
 mod start;
 mod state;
-#[cfg(test)]
-mod tests;
-#[cfg(test)]
-mod trial;
 
 pub use finish::Finished;
 pub use history::KernelHistory;

@@ -1,7 +1,7 @@
 use Rattle.std.proofs.Common.{◌+◌, add-one, ap, arith}
 use Rattle.vm_world.specs.State.{seat_of}
-use Rattle.vm_core.proofs.TrialLemmas.{trial-at, trial-answered, served-bears}
-use Rattle.vm_core.proofs.trial.Trial.try_call.Goals as goal
+use Rattle.vm_trials.proofs.TrialLemmas.{trial-at, trial-answered, served-bears}
+use Rattle.vm_trials.proofs.trial.Trial.try_call.Goals as goal
 
 pub try_call-requires-clause-fits : goal.try_call-requires-clause-fits
 try_call-requires-clause-fits c = trial-at c.self.inside.state c.self.inside.trips c.args.seat c.self.invariant (c.is_idle.ensures c.if-not-is_idle.false).1

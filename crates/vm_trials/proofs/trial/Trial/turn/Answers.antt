@@ -1,7 +1,7 @@
 use Rattle.std.proofs.Common.{ap}
 use Rattle.vm_world.specs.State.{KernelState}
-use Rattle.vm_core.proofs.TrialLemmas.{trial-at, trial-same}
-use Rattle.vm_core.proofs.trial.Trial.turn.Goals as goal
+use Rattle.vm_trials.proofs.TrialLemmas.{trial-at, trial-same}
+use Rattle.vm_trials.proofs.trial.Trial.turn.Goals as goal
 
 pub clock-requires : goal.clock-requires
 clock-requires c = record { fits = trial-at c.self.inside.state c.self.inside.trips c.args.seat c.self.invariant (c.is_idle.ensures c.if-not-is_idle.false).1 }

@@ -1,7 +1,7 @@
 use Rattle.std.proofs.Common.{ap, refl}
 use Rattle.vm_world.specs.State.{KernelState, KeptPlan}
-use Rattle.vm_core.proofs.TrialLemmas.{trial-at, trial-sent}
-use Rattle.vm_core.proofs.trial.send.Goals as goal
+use Rattle.vm_trials.proofs.TrialLemmas.{trial-at, trial-sent}
+use Rattle.vm_trials.proofs.trial.send.Goals as goal
 
 pub begin-flight-requires-clause-fits : goal.begin-flight-requires-clause-fits
 begin-flight-requires-clause-fits c = trial-at c.args.state.now c.args.trips.now c.args.seat c.requires.trial c.requires.idle

@@ -2,9 +2,9 @@ use Rattle.std.proofs.Common.{Option, Some, sym, refl, subst, ◌∙◌}
 use Rattle.vm_world.specs.State.{Sent, Caller}
 use Rattle.vm_core.specs.Fits.{FitsAt}
 use Rattle.vm_core.specs.Flights.{IsBack, EndsWith}
-use Rattle.vm_core.specs.Trials.{trip_sent, IsTrialState}
-use Rattle.vm_core.proofs.TrialLemmas.{trial-back, trial-landed}
-use Rattle.vm_core.proofs.trial.Trial.land.Goals as goal
+use Rattle.vm_trials.specs.Trials.{trip_sent, IsTrialState}
+use Rattle.vm_trials.proofs.TrialLemmas.{trial-back, trial-landed}
+use Rattle.vm_trials.proofs.trial.Trial.land.Goals as goal
 
 pub perform-requires : goal.perform-requires
 perform-requires c = (c.self.invariant.each c.args.seat _ (sym c.take.ensures.trip ∙ c.in-Some.is)).fresh

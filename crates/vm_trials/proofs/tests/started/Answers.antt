@@ -5,9 +5,9 @@ use Rattle.block_device.specs.declared.mem_disk.MemDisk.{MemDisk}
 use Rattle.page_store.specs.Bays.{pairs_seen}
 use Rattle.vnode_files.specs.Files.{FilesSeen}
 use Rattle.vm_core.specs.Setup.{FilesOnDisks}
-use Rattle.vm_core.proofs.TrialFiles.{on-disks}
-use Rattle.vm_core.proofs.TrialLemmas.{trial-starts}
-use Rattle.vm_core.proofs.tests.started.Goals as goal
+use Rattle.vm_trials.proofs.TrialFiles.{on-disks}
+use Rattle.vm_trials.proofs.TrialLemmas.{trial-starts}
+use Rattle.vm_trials.proofs.tests.started.Goals as goal
 
 pub start-requires-clause-files : goal.start-requires-clause-files
 start-requires-clause-files c =

@@ -24,7 +24,7 @@ use Rattle.vm_core.specs.Calls.{IsServed, AnswersCall}
 use Rattle.vm_core.specs.Finish.{FitsStill}
 use Rattle.vm_core.specs.Fits.{FitsAt}
 use Rattle.vm_core.specs.Flights.{EndsWith, IsBack, sent_with}
-use Rattle.vm_core.specs.Trials.{TripSeen, trip_sent, seats_with, IsTrip, IsTrialState, IsOfServed}
+use Rattle.vm_trials.specs.Trials.{TripSeen, trip_sent, seats_with, IsTrip, IsTrialState, IsOfServed}
 
 -- NO CALL IS BETWEEN TWO PARTS
 served-ends : (call : Call) (reply : Reply) → IsServed call → IsTrue (ends_call call reply)

@@ -1,8 +1,8 @@
 use Rattle.std.proofs.Common.{ap, ◌∙◌}
 use Rattle.vnode_files.specs.Files.{FilesSeen, with_disk}
 use Rattle.vnode_files.specs.declared.vnode.FileInfo.{FileInfo}
-use Rattle.vm_core.proofs.TrialFiles.{is-set, first-set, second-set}
-use Rattle.vm_core.proofs.tests.new_files.Goals as goal
+use Rattle.vm_trials.proofs.TrialFiles.{is-set, first-set, second-set}
+use Rattle.vm_trials.proofs.tests.new_files.Goals as goal
 
 pub add-requires-clause-disk : goal.add-requires-clause-disk
 add-requires-clause-disk c =

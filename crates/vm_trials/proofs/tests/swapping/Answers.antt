@@ -4,9 +4,9 @@ use Rattle.block_device.specs.MemSeen.{disk_of}
 use Rattle.page_store.specs.Bays.{pairs_seen}
 use Rattle.vnode_files.specs.Files.{FilesSeen}
 use Rattle.vm_core.specs.Setup.{FilesOnDisks}
-use Rattle.vm_core.proofs.TrialFiles.{none-on-disks}
-use Rattle.vm_core.proofs.TrialLemmas.{trial-starts}
-use Rattle.vm_core.proofs.tests.swapping.Goals as goal
+use Rattle.vm_trials.proofs.TrialFiles.{none-on-disks}
+use Rattle.vm_trials.proofs.TrialLemmas.{trial-starts}
+use Rattle.vm_trials.proofs.tests.swapping.Goals as goal
 
 pub start-requires-clause-files : goal.start-requires-clause-files
 start-requires-clause-files c =

@@ -17,7 +17,7 @@ use Rattle.vnode_files.specs.Layout.{LieOnDisk, LieOnDisks, NoneMeet}
 use Rattle.page_store.specs.Bays.{AreNumbers, numbers_of, pairs_seen}
 use Rattle.flat_model.proofs.Ranges.{get-insert_here, get-insert_apart}
 use Rattle.vm_core.specs.Setup.{FilesOnDisks, ListsDisk}
-use Rattle.vm_core.specs.Trials.{trial_file, trial_files, trial_disks}
+use Rattle.vm_trials.specs.Trials.{trial_file, trial_files, trial_disks}
 
 abbrev none : finite.FinMap nat_cmp ℕ
 none = no_files.disks

@@ -1,14 +1,14 @@
 //! A state with what two seats have outside it, for tests: calls are tried, transfers begin and end, and hands move.
 ghost use Rattle.std.specs.Prelude.{◌≡◌, ◌<◌, ◌∷◌, [], ℕ, Some, None, IsTrue, option_map, slice_index_or, slice_set};
 ghost use Rattle.vm_core.specs.Calls.{IsServed};
-ghost use Rattle.vm_core.specs.Trials.{IsTrialState, IsOfServed};
+ghost use Rattle.vm_trials.specs.Trials.{IsTrialState, IsOfServed};
 
-use crate::{Attempt, Finished, VmState};
 use block_device::MemDisk;
 use page_store::{Flight, Hold, Plan};
 use std::marker::Model;
 use std::mem;
 use std::test::Fail;
+use vm_core::{Attempt, Finished, VmState};
 use vm_types::{Call, Reply};
 
 /// What a seat has outside: its transfer, and the process and call that it is for.
@@ -36,7 +36,7 @@ pub(crate) struct Trial {
 
 impl Model for Trial {
     ghost use Rattle.std.specs.Prelude.{ℕ};
-    ghost use Rattle.vm_core.specs.Trials.{IsTrialState};
+    ghost use Rattle.vm_trials.specs.Trials.{IsTrialState};
 
     ghost Value = { ℕ };
 

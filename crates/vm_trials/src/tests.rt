@@ -4,9 +4,8 @@ ghost use Rattle.std.specs.Prelude.{◌≡◌, ◌<◌, ℕ, List, true, false, 
 ghost use Rattle.block_device.specs.MemDiskLook.{look};
 ghost use Rattle.block_device.specs.MemSeen.{disk_of};
 ghost use Rattle.vm_core.specs.Calls.{IsServed};
-ghost use Rattle.vm_core.specs.Trials.{trial_file, trial_files};
+ghost use Rattle.vm_trials.specs.Trials.{trial_file, trial_files};
 
-use super::*;
 use crate::trial::Told::{self, Busy, Done, Landed, Sent, Still};
 use crate::trial::Trial;
 use Act::{Clock, Do, Land, Try};
@@ -15,6 +14,7 @@ use block_device::{Block, MemDisk};
 use page_store::Hold;
 use std::alloc::{AllocError, Global};
 use std::test::Fail;
+use vm_core::{Setup, VmState};
 use vm_types::Reply::{Mapped, Word};
 use vm_types::{Call, Errno, Kind, Object, Place, Prot, Reply, Signal};
 use vnode_files::{Extent, Extents, FileInfo, FileName, Files};
