@@ -120,15 +120,17 @@ def turn():
 
 
 def layers():
-    p = Picture('layers.svg', 'The layers', 820, 640)
+    p = Picture('layers.svg', 'The layers', 820, 760)
     rows = [
         (30, [('sunvm', 'run, main')]),
         (110, [('vm_script', 'plans'), ('vm_report', 'texts'), ('volume_format', 'block 0'), ('kernel_lock', 'one state, one history')]),
-        (220, [('vm_core', 'events'), ('fault_entry', 'loads, stores'), ('mmap_calls', 'mappings'), ('proc_calls', 'exit'), ('seg_vn', 'segments')]),
-        (300, [('vm_world', 'what the state means'), ('seg_ops', 'small steps'), ('page_store', 'pages by name')]),
-        (380, [('core_arena', 'frames'), ('page_hash', 'names'), ('page_lists', 'free, cached'), ('page_lock', 'holders, bits'), ('page_clock', 'two hands')]),
-        (460, [('anon_slots', 'counts'), ('anon_map', 'arrays'), ('hat_layer', 'translations'), ('addr_space', 'pieces'), ('vnode_files', 'extents')]),
-        (550, [('block_device', 'disks, streams'), ('disk_file', 'a real disk'), ('swap_slots', 'least free'), ('flat_model', 'what it all means'), ('vm_types', 'calls, replies')]),
+        (220, [('vm_core', 'events')]),
+        (296, [('fault_entry', 'loads, stores'), ('mmap_calls', 'mappings'), ('proc_calls', 'exit')]),
+        (372, [('seg_vn', 'segments'), ('seg_ops', 'small steps'), ('vm_world', 'what the state means')]),
+        (448, [('page_store', 'pages by name'), ('anon_slots', 'counts'), ('anon_map', 'arrays'), ('hat_layer', 'translations'), ('addr_space', 'pieces')]),
+        (524, [('core_arena', 'frames'), ('page_hash', 'names'), ('page_lists', 'free, cached'), ('page_lock', 'holders, bits'), ('page_clock', 'two hands')]),
+        (600, [('disk_file', 'a real disk'), ('block_device', 'disks, streams'), ('hash_chains', 'chains of places'), ('swap_slots', 'least free')]),
+        (676, [('flat_model', 'what it all means'), ('vnode_files', 'extents'), ('vm_types', 'calls, replies')]),
     ]
     for y, crates in rows:
         w = min(150, (790 - 10 * (len(crates) - 1)) / len(crates))
