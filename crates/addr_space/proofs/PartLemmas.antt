@@ -1,7 +1,7 @@
 -- What each change of the parts leaves at a page.
 use Rattle.std.proofs.Common.{◌≡◌, ℕ, ◌+◌, ◌-◌, ◌<◌, ◌≤◌, true, false, cond, Some, None, List, [], ◌∷◌, refl, arith}
 use Rattle.std.proofs.lemmas.Bool.Decides.{nat_tests}
-use Rattle.addr_space.specs.Space.{Part, has, piece_at, part_at, begins, put, cut_at, without_part, upper_part, IsInOrder, LiesFrom}
+use Rattle.addr_space.specs.Space.{Part, has, piece_at, part_at, begins, with_new_part, cut_at, without_part, upper_part, IsInOrder, LiesFrom}
 
 module _ {T : Type 0} where
   pub has-in : (p : Part T) (q : ℕ) → p.first ≤ q → q < p.first + p.pages → has p q ≡ true
@@ -37,18 +37,18 @@ module _ {T : Type 0} where
 
   part_at-put : (x : Part T) (ps : List (Part T)) (q : ℕ)
       → ((r : ℕ) → x.first ≤ r → r < x.first + x.pages → part_at ps r ≡ None)
-      → part_at (put x ps) q ≡ cond (has x q) (Some x) (part_at ps q)
+      → part_at (with_new_part x ps) q ≡ cond (has x q) (Some x) (part_at ps q)
   part_at-put x [] q free = refl
   part_at-put x (p ∷ ps) q free =
       grind (arith, nat_tests, part_at-put x ps q (λ r a b. free-tail p ps r (free r a b)), free q)
 
   pub at-put : (x : Part T) (ps : List (Part T))
       → ((r : ℕ) → x.first ≤ r → r < x.first + x.pages → part_at ps r ≡ None)
-      → (q : ℕ) → piece_at (put x ps) q ≡ cond (has x q) (Some (x.piece, q - x.first)) (piece_at ps q)
+      → (q : ℕ) → piece_at (with_new_part x ps) q ≡ cond (has x q) (Some (x.piece, q - x.first)) (piece_at ps q)
   at-put x ps free q = grind (arith, part_at-put x ps q free)
 
   pub ordered-put : (low : ℕ) (x : Part T) (ps : List (Part T)) → IsInOrder low ps → LiesFrom low x
-      → ((r : ℕ) → x.first ≤ r → r < x.first + x.pages → part_at ps r ≡ None) → IsInOrder low (put x ps)
+      → ((r : ℕ) → x.first ≤ r → r < x.first + x.pages → part_at ps r ≡ None) → IsInOrder low (with_new_part x ps)
   ordered-put low x [] o placed free = (placed, tt)
   ordered-put low x (p ∷ ps) o placed free =
       let more = ordered-put (p.first + p.pages) x ps o.1 in

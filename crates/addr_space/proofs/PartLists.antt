@@ -3,12 +3,12 @@ use Rattle.std.proofs.Common.{◌≡◌, ℕ, ◌+◌, ◌-◌, ◌<◌, ◌≤�
 use Rattle.std.specs.Prelude.{nat_lt, nat_le, ◌&&◌, All}
 use Rattle.std.proofs.lemmas.Bool.Decides.{nat_tests}
 use Rattle.std.proofs.lemmas.List.Elements.{All-cons, All-head, All-tail}
-use Rattle.addr_space.specs.Space.{Part, part, has, piece_at, part_at, begins, put, cut_at, without_part, with_new_piece, upper_part, IsInOrder, FindsLast}
+use Rattle.addr_space.specs.Space.{Part, part, has, piece_at, part_at, begins, with_new_part, cut_at, without_part, with_new_piece, upper_part, IsInOrder, FindsLast}
 use Rattle.addr_space.proofs.PartLemmas.{at-without_part, found-in, at-cut}
 use Rattle.addr_space.proofs.PageLaws.{at-with_new_piece, ordered-written}
 
 module _ {T : Type 0} where
-  pub all-put : (P : Part T → Type 0) (x : Part T) (ps : List (Part T)) → P x → All P ps → All P (put x ps)
+  pub all-put : (P : Part T → Type 0) (x : Part T) (ps : List (Part T)) → P x → All P ps → All P (with_new_part x ps)
   all-put P x [] new each = All-cons P x [] new each
   all-put P x (p ∷ ps) new each =
       grind (arith, All-cons P, All-head P p ps each, All-tail P p ps each, all-put P x ps)

@@ -4,7 +4,7 @@ use Rattle.std.specs.Prelude.{option_map, nat_lt, insert, remove, slice_get, ◌
 use Rattle.std.proofs.lemmas.Bool.Decides.{nat_tests}
 use Rattle.std.proofs.lemmas.Option.{slice_get_cases, slice_get_read}
 use Rattle.addr_space.specs.declared.ranges.Span.{Span}
-use Rattle.addr_space.specs.Space.{Part, part, part_at, begins, next_first, put, cut_at, without_part, with_new_piece, IsInOrder, LiesFrom, IsGap, FindsGap, FindsNext, FindsLast, page_total}
+use Rattle.addr_space.specs.Space.{Part, part, part_at, begins, next_first, with_new_part, cut_at, without_part, with_new_piece, IsInOrder, LiesFrom, IsGap, FindsGap, FindsNext, FindsLast, page_total}
 use Rattle.addr_space.specs.Inside.{span_parts, count_below, IsHolder, NoneHolds, SpansRise, gap_in_spans, IsSoundRanges, IsCountedRanges}
 use Rattle.addr_space.proofs.PartLemmas.{none-below}
 
@@ -114,7 +114,7 @@ module _ {T : Type 0} where
   pub put-at : (ss : List Span) (xs : List T) (first pages : ℕ) (x : T) → length ss ≡ length xs →
       span_parts (insert ss (count_below first ss) (record { first = first; pages = pages }))
       (insert xs (count_below first ss) x)
-      ≡ put (part first pages x) (span_parts ss xs)
+      ≡ with_new_part (part first pages x) (span_parts ss xs)
   put-at [] [] first pages x n = refl
   put-at [] (y ∷ xs) first pages x n = absurd (omega arith)
   put-at (s ∷ ss) [] first pages x n = absurd (omega arith)

@@ -6,7 +6,7 @@ use Rattle.std.specs.FinMap as map
 use Rattle.std.specs.Cmp.{nat_cmp_total}
 use Rattle.std.proofs.lemmas.Bool.Decides.{nat_tests}
 use Rattle.std.proofs.lemmas.List.Sums.{sum_by-cons}
-use Rattle.addr_space.specs.Space.{Part, begins, put, cut_at, without_part, with_new_piece, page_total, IsInOrder}
+use Rattle.addr_space.specs.Space.{Part, begins, with_new_part, cut_at, without_part, with_new_piece, page_total, IsInOrder}
 use Rattle.addr_space.specs.Pages.{with_pages, pages_of_parts}
 use Rattle.addr_space.proofs.PartLemmas.{none-below}
 use Rattle.addr_space.proofs.PageLaws.{get-with_pages, get-pages_of_parts}
@@ -15,10 +15,10 @@ module _ {T : Type 0} where
   total-cons : (p : Part T) (ps : List (Part T)) → page_total (p ∷ ps) ≡ p.pages + page_total ps
   total-cons p ps = sum_by-cons (λ (p : Part T). p.pages) p ps
 
-  pub total-put : (x : Part T) (ps : List (Part T)) → page_total (put x ps) ≡ x.pages + page_total ps
+  pub total-put : (x : Part T) (ps : List (Part T)) → page_total (with_new_part x ps) ≡ x.pages + page_total ps
   total-put x [] = total-cons x []
   total-put x (p ∷ ps) =
-      grind (arith, total-cons p (put x ps), total-cons p ps, total-cons x (p ∷ ps), total-put x ps)
+      grind (arith, total-cons p (with_new_part x ps), total-cons p ps, total-cons x (p ∷ ps), total-put x ps)
 
   pub total-cut : (page : ℕ) (u : T) (ps : List (Part T)) → page_total (cut_at page u ps) ≡ page_total ps
   total-cut page u [] = refl

@@ -65,9 +65,9 @@ module _ {T : Type 0} where
   IsInOrder low (p ∷ ps) = LiesFrom low p × IsInOrder (p.first + p.pages) ps
 
   -- the parts with one more, behind those that begin below it
-  abbrev pub put : Part T → List (Part T) → List (Part T)
-  put new [] = new ∷ []
-  put new (p ∷ ps) = if nat_lt p.first new.first then p ∷ put new ps else new ∷ p ∷ ps
+  abbrev pub with_new_part : Part T → List (Part T) → List (Part T)
+  with_new_part new [] = new ∷ []
+  with_new_part new (p ∷ ps) = if nat_lt p.first new.first then p ∷ with_new_part new ps else new ∷ p ∷ ps
 
   -- what a part keeps below the page, and what the upper piece has from there on
   abbrev pub lower_part : ℕ → Part T → Part T

@@ -1,7 +1,7 @@
 //! Pieces by page, in two vectors of one length: where each piece lies, and the piece.
 ghost use Rattle.std.specs.Prelude.{◌≡◌, ℕ, ◌+◌, ◌-◌, ◌<◌, ◌≤◌, ◌&&◌, nat_le, if◌then◌else◌, [], length, Option, Some, None, MatchOption, IfSome, IsSome, IsSomeAnd, OnOk, option_map, insert, remove, vec_len, vec_capacity};
 ghost use Rattle.std.specs.Borrow.{sem};
-ghost use Rattle.addr_space.specs.Space.{part, has, piece_at, part_at, begins, next_first, put, cut_at, without_part, upper_part, IsInOrder, FindsGap, FindsNext, FindsLast, with_new_piece, page_total};
+ghost use Rattle.addr_space.specs.Space.{part, has, piece_at, part_at, begins, next_first, with_new_part, cut_at, without_part, upper_part, IsInOrder, FindsGap, FindsNext, FindsLast, with_new_piece, page_total};
 ghost use Rattle.addr_space.specs.Inside.{count_below, SpansRise, FindsHolder, FindsFirst, gap_in_spans};
 
 use std::alloc::{AllocError, Global};
@@ -197,7 +197,7 @@ impl<T> Ranges<T> {
         requires absent { (q : ℕ) → page ≤ q → q < page + pages → part_at self.old.parts q ≡ None }
         requires room { 0 < self.old.spare }
         // What it leaves.
-        ensures parts { self.new.parts ≡ put (part page pages piece) self.old.parts }
+        ensures parts { self.new.parts ≡ with_new_part (part page pages piece) self.old.parts }
         ensures pages { (q : ℕ) → piece_at self.new.parts q
             ≡ (if has (part page pages piece) q then Some (piece, q - page) else piece_at self.old.parts q) }
         ensures ordered { IsInOrder 1 self.new.parts }

@@ -4,7 +4,7 @@
 
 ghost use Rattle.std.specs.Prelude.{◌≡◌, ◌+◌, ◌-◌, ◌^◌, ◌<◌, ◌≤◌, ◌==◌, ◌↔◌, List, length, position, Some, IsTrue, IsErr, IfOk, OnOk, OnErr, slice_set, slice_index_or, true, false};
 ghost use Rattle.std.specs.Bool.{OnTrue, OnFalse};
-ghost use Rattle.anon_slots.specs.Slots.{Slots, unused_slots, slots_in_use, count_at, IsHeldSlot, IsSoundAnonSlots, with_count, with_new_slot};
+ghost use Rattle.anon_slots.specs.Slots.{AnonSlotsSeen, unused_slots, slots_in_use, count_at, IsHeldSlot, IsSoundAnonSlots, with_count, with_new_slot};
 
 #[cfg(test)]
 mod tests;
@@ -31,9 +31,9 @@ pub struct AnonSlots {
 }
 
 impl Model for AnonSlots {
-    ghost use Rattle.anon_slots.specs.Slots.{Slots, IsKeptAnonSlots};
+    ghost use Rattle.anon_slots.specs.Slots.{AnonSlotsSeen, IsKeptAnonSlots};
 
-    ghost Value = { Slots };
+    ghost Value = { AnonSlotsSeen };
 
     ghost view = { λ s. record {
       counts = s.counts.items;

@@ -8,11 +8,11 @@ module _ {S : Type 0} where
   abbrev pub no_entries : S → List ℕ
   no_entries s = []
 
-  abbrev pub any_state : S → S → List (Option ℕ) → Type 0
-  any_state opening s notes = Unit {0}
+  abbrev pub AnyState : S → S → List (Option ℕ) → Type 0
+  AnyState opening s notes = Unit {0}
 
-  abbrev pub any_change : ℕ → S → Option ℕ → S → Option ℕ → Type 0
-  any_change k s n t m = Unit {0}
+  abbrev pub AnyChange : ℕ → S → Option ℕ → S → Option ℕ → Type 0
+  AnyChange k s n t m = Unit {0}
 
 -- Nothing is ever outside the lock.
 abbrev pub no_note : {H : Type 0} → H → Option ℕ

@@ -42,7 +42,7 @@ impl<B> VisitCount<B> {
 
 /// The state keeps no history, and any change of it is allowed.
 impl<B> Guarded for VisitCount<B> {
-    ghost use Rattle.bench_lock.specs.Free.{seat_itself, no_entries, no_note, any_state, any_change};
+    ghost use Rattle.bench_lock.specs.Free.{seat_itself, no_entries, no_note, AnyState, AnyChange};
     ghost use Rattle.std.specs.Prelude.{◌≡◌, []};
     ghost use Rattle.std.proofs.Common.{refl};
     ghost use Rattle.std.proofs.lemmas.List.Elements.{All-nil};
@@ -59,9 +59,9 @@ impl<B> Guarded for VisitCount<B> {
 
     ghost note_of = { no_note };
 
-    ghost fits = { any_state };
+    ghost fits = { AnyState };
 
-    ghost moves = { any_change };
+    ghost moves = { AnyChange };
 
     fn length(&self) -> u64 {
         0

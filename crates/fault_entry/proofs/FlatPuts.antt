@@ -17,7 +17,7 @@ use Rattle.addr_space.specs.Space.{Part}
 use Rattle.page_hash.specs.declared.PageName.{PageName}
 use Rattle.page_store.specs.Notes.{Notes}
 use Rattle.anon_map.specs.Maps.{Map, places_of}
-use Rattle.anon_slots.specs.Slots.{Slots, count_at}
+use Rattle.anon_slots.specs.Slots.{AnonSlotsSeen, count_at}
 use Rattle.flat_model.specs.Words.{Page, pages_in, zero_page}
 use Rattle.flat_model.specs.Flat.{Cell, Flat}
 use Rattle.flat_model.specs.Access.{with_page, with_cell, with_page_stored, file_with_page, with_change_at}
@@ -126,7 +126,7 @@ files-same old new s others = λ j g k. at g k j
       | inr apart ↦ ap (cond (g == 64) []) (others (file_name g k) (λ e. apart.1 (ap (λ (n : PageName). n.object) e)))
     ]
 
-puts-held : (old new : PageName → Page) (anon : Slots) (maps : List (Option Map)) (m i s : ℕ) (bytes : Page) → CountsFit anon maps → slot_in maps m i ≡ Some s → count_at anon s ≡ 1 → new (slot_name s) ≡ bytes
+puts-held : (old new : PageName → Page) (anon : AnonSlotsSeen) (maps : List (Option Map)) (m i s : ℕ) (bytes : Page) → CountsFit anon maps → slot_in maps m i ≡ Some s → count_at anon s ≡ 1 → new (slot_name s) ≡ bytes
     → ((n : PageName) → n ≢ slot_name s → new n ≡ old n) → PutsHeld (place_contents old maps) (place_contents new maps) m i (Some bytes)
 puts-held old new anon maps m i s bytes fit held one is others = record {
   there = ap (option_map (λ t. new (slot_name t))) held ∙ ap (λ (b : Page). Some b) is;

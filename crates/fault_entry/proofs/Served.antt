@@ -4,9 +4,9 @@ use Rattle.std.specs.FinSet as set
 use Rattle.std.specs.Ordering.{nat_cmp}
 use Rattle.std.proofs.lemmas.Bool.{eq-eqb}
 use Rattle.anon_map.specs.Maps.{Map}
-use Rattle.anon_slots.specs.Slots.{Slots}
+use Rattle.anon_slots.specs.Slots.{AnonSlotsSeen}
 use Rattle.hat_layer.specs.declared.translation.Translation.{Translation}
-use Rattle.hat_layer.specs.Pool.{Pool, translation_at}
+use Rattle.hat_layer.specs.Pool.{HatSeen, translation_at}
 use Rattle.page_store.specs.Notes.{Notes}
 use Rattle.page_store.specs.declared.plan.Plan.{Plan}
 use Rattle.page_store.specs.declared.plan.Hold.{Hold}
@@ -85,7 +85,7 @@ store-reached old mid new spaces pending more p a n frame v s writes hat anon ma
       (there s.mid spaces born notes p a n can_write s.means.spot s.means.here) s.means.allowed due)
       (λ cleared. store-acts mid new spaces p a n frame v cleared s.acts.memory s.means writes);
   due = tt;
-  shown = shown-there new spaces p (page a) s.means.noted.entry writes.2.memory (ap (λ (h : Pool). translation_at h.places p (page a)) hat ∙ s.means.noted.there);
+  shown = shown-there new spaces p (page a) s.means.noted.entry writes.2.memory (ap (λ (h : HatSeen). translation_at h.places p (page a)) hat ∙ s.means.noted.there);
   slots = λ x here. made-still old mid new (slot_due old.anon old.maps x true) anon maps (s.slots x here);
 }
 

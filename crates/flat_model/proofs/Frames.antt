@@ -27,11 +27,11 @@ use Rattle.flat_model.specs.Words.{Page, zero_page, page, pages_in, word_at, wor
 use Rattle.flat_model.specs.Flat.{Cell, File, Flat, Space, space_of, cell_at, zero_of, is_named, without_unnamed, reserved, private_cells}
 use Rattle.flat_model.specs.Refusals.{◌>>◌, check, Effect, or_signal, or_refused, done_effect}
 use Rattle.flat_model.specs.Access.{access_target, with_change_at, file_with_page, with_page, with_space, with_cell, with_page_stored}
-use Rattle.flat_model.specs.Space.{in_range, without_range, with_cells, with_prot, with_prots}
+use Rattle.flat_model.specs.Space.{is_in_range, without_range, with_cells, with_prot, with_prots}
 use Rattle.flat_model.specs.Mapping.{Request, cells_of, is_range, without_replaced, first_page, new_number, new_cell, with_object, map_result, without_pages, valid_range, may_have}
 use Rattle.flat_model.specs.Parts.{read_line, without_tail, longer_file, shorter_file, file_of_length, with_part, with_file_at, existing_file, room_for}
 use Rattle.flat_model.specs.Processes.{with_child, without_process}
-use Rattle.flat_model.specs.Step.{effect, after_act, step, bit, files_cleared, tails_cleared, without_start, IsUnborn, IsDue, IsStep}
+use Rattle.flat_model.specs.Step.{effect, after_act, step, is_bit_set, files_cleared, tails_cleared, without_start, IsUnborn, IsDue, IsStep}
 use Rattle.flat_model.specs.Births.{is_done, is_fork_of, is_birth, AreBorn}
 use Rattle.flat_model.specs.FrameLaws.{takes, MapsSame, KeepsMode, StepFrame, StepsKeep}
 use Rattle.flat_model.proofs.Bytes.{slice_get-with_change_at, slice_get-changed_apart, slice_get-slice_set}
@@ -224,13 +224,13 @@ kept_space F p s gone stay =
       ];
     }
 
-kept_unmapped : (F : Flat) (p first n : ℕ) → Kept F (without_pages F p first n) p nobody (in_range first n)
-kept_unmapped F p first n = kept_swept F (with_space F p (without_range (cells_of F p) first n)) p nobody (in_range first n)
-    (kept_space F p (without_range (cells_of F p) first n) (in_range first n) (λ q c at stays.
+kept_unmapped : (F : Flat) (p first n : ℕ) → Kept F (without_pages F p first n) p nobody (is_in_range first n)
+kept_unmapped F p first n = kept_swept F (with_space F p (without_range (cells_of F p) first n)) p nobody (is_in_range first n)
+    (kept_space F p (without_range (cells_of F p) first n) (is_in_range first n) (λ q c at stays.
     there (map.get (without_range (cells_of F p) first n) q) c (MapsSame c) (get-without_range (cells_of F p) first n q ∙ ap (λ b. cond b None (map.get (cells_of F p) q)) stays ∙ sym (get-cells_of F p q) ∙ at) (same_mapping c)))
 
 maps_prot : (first n q : ℕ) (prot : Prot) (c : Cell) → MapsSame c (with_prot first n prot q c)
-maps_prot first n q prot c = elim (in_range first n q) as (λ b. MapsSame c (if b then record c { prot = prot } else c)) [ true ↦ record { max = refl; kind = refl; object = refl; index = refl } | false ↦ same_mapping c ]
+maps_prot first n q prot c = elim (is_in_range first n q) as (λ b. MapsSame c (if b then record c { prot = prot } else c)) [ true ↦ record { max = refl; kind = refl; object = refl; index = refl } | false ↦ same_mapping c ]
 
 kept_protected : (F : Flat) (p first n : ℕ) (prot : Prot) (gone : ℕ → Bool) → Kept F (with_space F p (with_prots (cells_of F p) first n prot)) p nobody gone
 kept_protected F p first n prot gone = kept_space F p (with_prots (cells_of F p) first n prot) gone (λ q c at stays.
@@ -327,7 +327,7 @@ kept_then F G H p births gone one two = record {
 -- A MAP
 -- the pages whose cells a Map takes away
 abbrev taken_by : Place → ℕ → ℕ → Bool
-taken_by (At a) n q = in_range (page a) n q
+taken_by (At a) n q = is_in_range (page a) n q
 taken_by Any n q = false
 
 takes_map : (r : Request) (q : ℕ) → takes (Map r.place r.len r.prot r.kind r.object r.offset) q ≡ taken_by r.place (pages_in r.len) q
@@ -338,7 +338,7 @@ takes_map r q = by_place r.place
     by_place Any = refl
 
 kept_cleared : (F : Flat) (p : ℕ) (place : Place) (n : ℕ) → Kept F (without_replaced F p place n) p nobody (taken_by place n)
-kept_cleared F p (At a) n = kept_space F p (without_range (cells_of F p) (page a) n) (in_range (page a) n) (λ q c at stays.
+kept_cleared F p (At a) n = kept_space F p (without_range (cells_of F p) (page a) n) (is_in_range (page a) n) (λ q c at stays.
     there (map.get (without_range (cells_of F p) (page a) n) q) c (MapsSame c) (get-without_range (cells_of F p) (page a) n q ∙ ap (λ b. cond b None (map.get (cells_of F p) q)) stays ∙ sym (get-cells_of F p q) ∙ at) (same_mapping c))
 kept_cleared F p Any n = all_kept F p (taken_by Any n)
 
@@ -366,9 +366,9 @@ kept_object C Shared (object.Zero z) p n gone = all_kept C p gone
 kept_object C Private o p n gone = all_kept C p gone
 
 -- a cell that a Map doesn't take away isn't in its range
-outside : (F : Flat) (p : ℕ) (place : Place) (n first q : ℕ) (c : Cell) → first_page (cells_of (without_replaced F p place n) p) place n ≡ Some first → map.get (cells_of (without_replaced F p place n) p) q ≡ Some c → taken_by place n q ≡ false → in_range first n q ≡ false
-outside F p (At a) n first q c is at stays = let here : page a ≡ first = cc in ap (λ k. in_range k n q) (sym here) ∙ stays
-outside F p Any n first q c is at stays = elim (in_range first n q) as (λ b. in_range first n q ≡ b → b ≡ false) [
+outside : (F : Flat) (p : ℕ) (place : Place) (n first q : ℕ) (c : Cell) → first_page (cells_of (without_replaced F p place n) p) place n ≡ Some first → map.get (cells_of (without_replaced F p place n) p) q ≡ Some c → taken_by place n q ≡ false → is_in_range first n q ≡ false
+outside F p (At a) n first q c is at stays = let here : page a ≡ first = cc in ap (λ k. is_in_range k n q) (sym here) ∙ stays
+outside F p Any n first q c is at stays = elim (is_in_range first n q) as (λ b. is_in_range first n q ≡ b → b ≡ false) [
   | true ↦ λ inside. absurd (let free = gap-free (cells_of F p) n first is q (in_range-low first n q inside) (in_range-high first n q inside) in let both : None ≡ Some c = sym free ∙ at in cc)
   | false ↦ λ out. refl
 ] refl
@@ -492,11 +492,11 @@ kept_acted G p call cleared r born unborn due =
 
 kept_step : (F : Flat) (e : Entry) → AreBorn F → IsStep F e → Kept F (step F e) e.process (λ x. is_birth x e) (takes e.call)
 kept_step F e born is =
-    let G = tails_cleared F (bit e.cleared) in
-    kept_then F G (step F e) e.process (λ x. is_birth x e) (takes e.call) (kept_tails F (bit e.cleared) e.process (takes e.call))
+    let G = tails_cleared F (is_bit_set e.cleared) in
+    kept_then F G (step F e) e.process (λ x. is_birth x e) (takes e.call) (kept_tails F (is_bit_set e.cleared) e.process (takes e.call))
     (kept_acted G e.process e.call e.cleared e.reply born (unborn_in e.call is.unborn) is.due)
   where
-    unborn_in : (call : Call) → IsUnborn F call → IsUnborn (tails_cleared F (bit e.cleared)) call
+    unborn_in : (call : Call) → IsUnborn F call → IsUnborn (tails_cleared F (is_bit_set e.cleared)) call
     unborn_in (Fork child) h = h
     unborn_in c h = tt
 

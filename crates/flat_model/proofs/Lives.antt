@@ -10,7 +10,7 @@ use Rattle.vm_types.specs.declared.call.Entry.{Entry}
 use Rattle.vm_types.specs.declared.call.Reply.{Reply}
 use Rattle.vm_types.specs.declared.call.Reply.TheVariants as reply
 use Rattle.flat_model.specs.Flat.{Flat, space_of}
-use Rattle.flat_model.specs.Step.{IsUnborn, IsDue, IsStep, after_act, step, bit, tails_cleared}
+use Rattle.flat_model.specs.Step.{IsUnborn, IsDue, IsStep, after_act, step, is_bit_set, tails_cleared}
 use Rattle.flat_model.specs.History.{replay, Steps}
 use Rattle.flat_model.specs.Births.{is_birth, AreBorn, Births}
 use Rattle.flat_model.proofs.Ranges.{get-remove_here}
@@ -82,7 +82,7 @@ exit_acted G p Exit cleared r is due = get-remove_here G.spaces p
 exit_acted G p call cleared r is due = absurd cc
 
 pub exited-step : (F : Flat) (e : Entry) → IsStep F e → e.call ≡ Exit → space_of (step F e) e.process ≡ None
-exited-step F e is exit = exit_acted (tails_cleared F (bit e.cleared)) e.process e.call e.cleared e.reply exit is.due
+exited-step F e is exit = exit_acted (tails_cleared F (is_bit_set e.cleared)) e.process e.call e.cleared e.reply exit is.due
 
 pub no_more : (F : Flat) (H K : List Entry) (e : Entry) → AreBorn F → Steps F (H ++ e ∷ K) → e.call ≡ Exit → All (λ d. d.process ≡ e.process → ⊥) K
 no_more F H K e born steps exit =

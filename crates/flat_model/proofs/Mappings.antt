@@ -16,7 +16,7 @@ use Rattle.flat_model.specs.Words.{page, pages_in}
 use Rattle.flat_model.specs.Flat.{Cell, Flat, Space, space_of, cell_at, reserved}
 use Rattle.flat_model.specs.Refusals.{◌>>=◌, ◌>>◌, check}
 use Rattle.flat_model.specs.Access.{with_space}
-use Rattle.flat_model.specs.Space.{in_range, without_range, with_cells, lowest_gap}
+use Rattle.flat_model.specs.Space.{is_in_range, without_range, with_cells, lowest_gap}
 use Rattle.flat_model.specs.Mapping.{Request, cells_of, is_valid, is_there, max_of, without_replaced, first_page, new_cell, with_object, with_mapping, map_result}
 use Rattle.flat_model.specs.MapLaws.{MapsRange, MapThenUnmap}
 use Rattle.flat_model.proofs.Ranges.{get-insert_here, get-insert_apart, get-with_cells, with_cells-without_range, without_range-with_cells}
@@ -131,7 +131,7 @@ maps_range F p r first G is =
     record {
       at_place = λ a at. placed_at F p r.place n first a m.first_is at;
       lowest = λ any. placed_any F p r.place n first m.first_is any;
-      cells = λ q. get-cells_of G p q ∙ ap (λ s. map.get s q) (cells_of-map_result F p r first G m) ∙ get-with_cells (cells_of F p) first n cell q ∙ ap (cond (in_range first n q) (Some (cell (q - first)))) (sym (get-cells_of F p q));
+      cells = λ q. get-cells_of G p q ∙ ap (λ s. map.get s q) (cells_of-map_result F p r first G m) ∙ get-with_cells (cells_of F p) first n cell q ∙ ap (cond (is_in_range first n q) (Some (cell (q - first)))) (sym (get-cells_of F p q));
       others = λ x apart. ap (λ H. space_of H x) m.after ∙ ap (λ spaces. map.get spaces x) (spaces-with_mapping F p r first) ∙ get-insert_apart (without_replaced F p r.place n).spaces p (with_cells (cells_of (without_replaced F p r.place n) p) first n cell) x apart ∙ cleared_others F p r.place n x apart;
       backed = leb-true (reserved G) F.slots m.backed;
       unmapped_again = cells_of-with_space G p (without_range (cells_of G p) first n) ∙ ap (λ s. without_range s first n) (cells_of-map_result F p r first G m) ∙ without_range-with_cells (cells_of F p) first n cell;

@@ -5,7 +5,7 @@ use Rattle.std.specs.FinMap as finite
 use Rattle.std.proofs.lemmas.Bool.Decides.{nat_tests}
 use Rattle.vm_types.specs.declared.prot.Prot.{Prot}
 use Rattle.flat_model.specs.Flat.{Cell, Space}
-use Rattle.flat_model.specs.Space.{in_range, all_pages, with_prot, with_prots}
+use Rattle.flat_model.specs.Space.{is_in_range, all_pages, with_prot, with_prots}
 use Rattle.flat_model.specs.Cells.{cell_with_prot}
 use Rattle.flat_model.proofs.Ranges.{same_space, get-insert, get-with_prots, all_pages-at}
 
@@ -22,7 +22,7 @@ all_next test first n all passes =
     let at : n + 1 ≡ suc n = omega arith in
     ap (λ (k : ℕ). all_pages test first k) at ∙ rw (all, passes) refl
 
-range_next : (first i q : ℕ) → in_range first (i + 1) q ≡ (in_range (first + i) 1 q || in_range first i q)
+range_next : (first i q : ℕ) → is_in_range first (i + 1) q ≡ (is_in_range (first + i) 1 q || is_in_range first i q)
 range_next first i q = grind (arith, nat_tests)
 
 prot_next : (a b d : Bool) (prot : Prot) (o : Option Cell) → d ≡ (a || b) → option_map (λ c. cond a (cell_with_prot c prot) c) (option_map (λ c. cond b (cell_with_prot c prot) c) o) ≡ option_map (λ c. cond d (cell_with_prot c prot) c) o
@@ -36,16 +36,16 @@ prot_next false false d prot (Some c) is = ap (λ t. Some (cond t (cell_with_pro
 pub with_prots_next : (s : Space) (first i : ℕ) (prot : Prot) → with_prots (with_prots s first i prot) (first + i) 1 prot ≡ with_prots s first (i + 1) prot
 with_prots_next s first i prot = same_space _ _ (λ q.
     get-with_prots (with_prots s first i prot) (first + i) 1 prot q ∙ ap (option_map (with_prot (first + i) 1 prot q)) (get-with_prots s first i prot q)
-    ∙ prot_next (in_range (first + i) 1 q) (in_range first i q) (in_range first (i + 1) q) prot (finite.get s q) (range_next first i q)
+    ∙ prot_next (is_in_range (first + i) 1 q) (is_in_range first i q) (is_in_range first (i + 1) q) prot (finite.get s q) (range_next first i q)
     ∙ sym (get-with_prots s first (i + 1) prot q))
 
-no_prots : (first q : ℕ) (prot : Prot) (o : Option Cell) → in_range first 0 q ≡ false → option_map (with_prot first 0 prot q) o ≡ o
+no_prots : (first q : ℕ) (prot : Prot) (o : Option Cell) → is_in_range first 0 q ≡ false → option_map (with_prot first 0 prot q) o ≡ o
 no_prots first q prot None is = refl
 no_prots first q prot (Some c) is = ap (λ t. Some (cond t (cell_with_prot c prot) c)) is
 
 -- no cell has another protection yet
 pub with_prots_none : (s : Space) (first : ℕ) (prot : Prot) → s ≡ with_prots s first 0 prot
-with_prots_none s first prot = same_space _ _ (λ q. sym (get-with_prots s first 0 prot q ∙ no_prots first q prot (finite.get s q) (let out : in_range first 0 q ≡ false = grind (arith, nat_tests) in out)))
+with_prots_none s first prot = same_space _ _ (λ q. sym (get-with_prots s first 0 prot q ∙ no_prots first q prot (finite.get s q) (let out : is_in_range first 0 q ≡ false = grind (arith, nat_tests) in out)))
 
 absent : (page q : ℕ) (prot : Prot) (b : Bool) (o : Option Cell) → (b ≡ true → o ≡ None) → option_map (λ c. cond b (cell_with_prot c prot) c) o ≡ o
 absent page q prot true None is = refl
@@ -53,12 +53,12 @@ absent page q prot true (Some c) is = absurd (let both : Some c ≡ None = is re
 absent page q prot false None is = refl
 absent page q prot false (Some c) is = refl
 
-here_is : (page q : ℕ) → in_range page 1 q ≡ true → q ≡ page
+here_is : (page q : ℕ) → is_in_range page 1 q ≡ true → q ≡ page
 here_is page q is = grind (arith, nat_tests)
 
 -- a page without a cell gets none
 pub prot_absent : (s : Space) (page : ℕ) (prot : Prot) → is_some (finite.get s page) ≡ false → s ≡ with_prots s page 1 prot
-prot_absent s page prot none = same_space _ _ (λ q. sym (get-with_prots s page 1 prot q ∙ absent page q prot (in_range page 1 q) (finite.get s q) (λ here. ap (finite.get s) (here_is page q here) ∙ nothing (finite.get s page) none)))
+prot_absent s page prot none = same_space _ _ (λ q. sym (get-with_prots s page 1 prot q ∙ absent page q prot (is_in_range page 1 q) (finite.get s q) (λ here. ap (finite.get s) (here_is page q here) ∙ nothing (finite.get s page) none)))
   where
     nothing : (o : Option Cell) → is_some o ≡ false → o ≡ None
     nothing None is = refl
@@ -73,7 +73,7 @@ there false (Some x) c prot is = refl
 pub prot_there : (s : Space) (page : ℕ) (c : Cell) (prot : Prot) → finite.get s page ≡ Some c → finite.insert s page (cell_with_prot c prot) ≡ with_prots s page 1 prot
 prot_there s page c prot at = same_space _ _ (λ q.
     get-insert s page (cell_with_prot c prot) q ∙ ap (λ b. cond b (Some (cell_with_prot c prot)) (finite.get s q)) (same_page page q)
-    ∙ there (in_range page 1 q) (finite.get s q) c prot (λ here. ap (finite.get s) (here_is page q here) ∙ at) ∙ sym (get-with_prots s page 1 prot q))
+    ∙ there (is_in_range page 1 q) (finite.get s q) c prot (λ here. ap (finite.get s) (here_is page q here) ∙ at) ∙ sym (get-with_prots s page 1 prot q))
   where
-    same_page : (k q : ℕ) → (q == k) ≡ in_range k 1 q
+    same_page : (k q : ℕ) → (q == k) ≡ is_in_range k 1 q
     same_page k q = grind (arith, nat_tests)

@@ -18,7 +18,7 @@ use Rattle.flat_model.specs.Mapping.{map_result, without_pages, is_range, valid_
 use Rattle.flat_model.specs.Parts.{existing_file, read_line, room_for, with_file_at, with_part, file_of_length}
 use Rattle.flat_model.specs.Processes.{with_child}
 use Rattle.flat_model.specs.Refusals.{◌>>◌, check, Effect, or_signal, or_refused, done_effect}
-use Rattle.flat_model.specs.Step.{effect, after_act, step, bit, tails_cleared, IsStep, IsDue}
+use Rattle.flat_model.specs.Step.{effect, after_act, step, is_bit_set, tails_cleared, IsStep, IsDue}
 use Rattle.flat_model.specs.HistoryLaws.{IsNoAction, Quiet}
 
 -- what acts never answers so
@@ -54,8 +54,8 @@ quiet_acted F p call cleared (reply.Signal s) due none = effect-quiet F p call (
 quiet_acted F p call cleared (reply.Refused e) due none = effect-quiet F p call (subst IsNoAction (sym due) tt)
 quiet_acted F p call cleared r due none = absurd none
 
-pub step-quiet : (F : Flat) (e : Entry) → IsStep F e → IsNoAction e.reply → step F e ≡ tails_cleared F (bit e.cleared)
-step-quiet F e is none = quiet_acted (tails_cleared F (bit e.cleared)) e.process e.call e.cleared e.reply is.due none
+pub step-quiet : (F : Flat) (e : Entry) → IsStep F e → IsNoAction e.reply → step F e ≡ tails_cleared F (is_bit_set e.cleared)
+step-quiet F e is none = quiet_acted (tails_cleared F (is_bit_set e.cleared)) e.process e.call e.cleared e.reply is.due none
 
 pub quiet_law : Quiet
 quiet_law = record { unchanged = step-quiet }

@@ -8,7 +8,7 @@ use Rattle.std.proofs.lemmas.Bool.{cases_eq, eqb-true, eq-eqb, le-leb, lt-ltb}
 use Rattle.std.proofs.lemmas.Bool.Decides.{nat_tests}
 use Rattle.vm_types.specs.declared.prot.Prot.{Prot}
 use Rattle.flat_model.specs.Flat.{Cell, Space}
-use Rattle.flat_model.specs.Space.{in_range, all_pages, without_range, with_cells, with_prot, with_prots}
+use Rattle.flat_model.specs.Space.{is_in_range, all_pages, without_range, with_cells, with_prot, with_prots}
 use Rattle.flat_model.specs.SpaceLaws.{RangesOfCells}
 
 -- what is found by equal keys in both is the same map
@@ -48,7 +48,7 @@ insert_same m k v is = finite.same_map nat_cmp_total finite.nat_cmp-IsAntisymmet
     get-insert m k v q ∙ same_value (eqb q k) (Some v) (finite.get m q) (λ tied. ap (finite.get m) (eqb-true q k tied) ∙ is))
 
 -- the cells after a range was put in
-pub get-with_cells : (s : Space) (first n : ℕ) (cell : ℕ → Cell) (q : ℕ) → finite.get (with_cells s first n cell) q ≡ cond (in_range first n q) (Some (cell (q - first))) (finite.get s q)
+pub get-with_cells : (s : Space) (first n : ℕ) (cell : ℕ → Cell) (q : ℕ) → finite.get (with_cells s first n cell) q ≡ cond (is_in_range first n q) (Some (cell (q - first))) (finite.get s q)
 get-with_cells s first zero cell q = grind (arith, rules)
 get-with_cells s first (suc n) cell q =
     rw (finite.get-insert nat_cmp_total, get-with_cells s first n cell q, unsigned_tied)
@@ -62,18 +62,18 @@ turned true x = refl
 turned false x = refl
 
 -- the cells after a range was taken out
-pub get-without_range : (s : Space) (first n q : ℕ) → finite.get (without_range s first n) q ≡ cond (in_range first n q) None (finite.get s q)
-get-without_range s first n q = get-retain_keys s (λ x. not (in_range first n x)) q ∙ turned (in_range first n q) (finite.get s q)
+pub get-without_range : (s : Space) (first n q : ℕ) → finite.get (without_range s first n) q ≡ cond (is_in_range first n q) None (finite.get s q)
+get-without_range s first n q = get-retain_keys s (λ x. not (is_in_range first n x)) q ∙ turned (is_in_range first n q) (finite.get s q)
 
 shadowed : {A : Type 0} (b : Bool) (x y z : Option A) → cond b x (cond b y z) ≡ cond b x z
 shadowed true x y z = refl
 shadowed false x y z = refl
 
 -- the cells after a range was replaced
-pub get-replaced : (s : Space) (first n : ℕ) (cell : ℕ → Cell) (q : ℕ) → finite.get (with_cells (without_range s first n) first n cell) q ≡ cond (in_range first n q) (Some (cell (q - first))) (finite.get s q)
+pub get-replaced : (s : Space) (first n : ℕ) (cell : ℕ → Cell) (q : ℕ) → finite.get (with_cells (without_range s first n) first n cell) q ≡ cond (is_in_range first n q) (Some (cell (q - first))) (finite.get s q)
 get-replaced s first n cell q =
-    get-with_cells (without_range s first n) first n cell q ∙ ap (cond (in_range first n q) (Some (cell (q - first)))) (get-without_range s first n q)
-    ∙ shadowed (in_range first n q) (Some (cell (q - first))) None (finite.get s q)
+    get-with_cells (without_range s first n) first n cell q ∙ ap (cond (is_in_range first n q) (Some (cell (q - first)))) (get-without_range s first n q)
+    ∙ shadowed (is_in_range first n q) (Some (cell (q - first))) None (finite.get s q)
 
 -- new cells hide those that were taken out
 pub with_cells-without_range : (s : Space) (first n : ℕ) (cell : ℕ → Cell) → with_cells (without_range s first n) first n cell ≡ with_cells s first n cell
@@ -82,16 +82,16 @@ with_cells-without_range s first n cell = same_space _ _ (λ q. get-replaced s f
 -- new cells that are taken out leave what was beside them
 pub without_range-with_cells : (s : Space) (first n : ℕ) (cell : ℕ → Cell) → without_range (with_cells s first n cell) first n ≡ without_range s first n
 without_range-with_cells s first n cell = same_space _ _ (λ q.
-    get-without_range (with_cells s first n cell) first n q ∙ ap (cond (in_range first n q) None) (get-with_cells s first n cell q)
-    ∙ shadowed (in_range first n q) None (Some (cell (q - first))) (finite.get s q) ∙ sym (get-without_range s first n q))
+    get-without_range (with_cells s first n cell) first n q ∙ ap (cond (is_in_range first n q) None) (get-with_cells s first n cell q)
+    ∙ shadowed (is_in_range first n q) None (Some (cell (q - first))) (finite.get s q) ∙ sym (get-without_range s first n q))
 
 absent : (b : Bool) (x : Option Cell) → (b ≡ true → x ≡ None) → cond b None x ≡ x
 absent true x h = sym (h refl)
 absent false x h = refl
 
 -- to take nothing out changes nothing
-pub without_range-free : (s : Space) (first n : ℕ) → ((q : ℕ) → in_range first n q ≡ true → finite.get s q ≡ None) → without_range s first n ≡ s
-without_range-free s first n free = same_space _ _ (λ q. get-without_range s first n q ∙ absent (in_range first n q) (finite.get s q) (free q))
+pub without_range-free : (s : Space) (first n : ℕ) → ((q : ℕ) → is_in_range first n q ≡ true → finite.get s q ≡ None) → without_range s first n ≡ s
+without_range-free s first n free = same_space _ _ (λ q. get-without_range s first n q ∙ absent (is_in_range first n q) (finite.get s q) (free q))
 
 map_cond : {X : Type 0} (b : Bool) (x : X) (y : X) (r s : Option X) → (b ≡ true → x ≡ y) → r ≡ s → cond b (Some x) r ≡ cond b (Some y) s
 map_cond true x y r s h e = ap (λ z. Some z) (h refl)
@@ -115,13 +115,13 @@ get-with_prots s first n prot q =
     ∙ ap (option_map (with_prot first n prot q)) (sym (finite.get-entries s q))
 
 -- a page of the range, by numbers
-pub in_range-is : (first n q : ℕ) → first ≤ q → q < first + n → in_range first n q ≡ true
+pub in_range-is : (first n q : ℕ) → first ≤ q → q < first + n → is_in_range first n q ≡ true
 in_range-is first n q low high = grind (arith, nat_tests)
 
-pub in_range-low : (first n q : ℕ) → in_range first n q ≡ true → first ≤ q
+pub in_range-low : (first n q : ℕ) → is_in_range first n q ≡ true → first ≤ q
 in_range-low first n q is = grind (arith, nat_tests)
 
-pub in_range-high : (first n q : ℕ) → in_range first n q ≡ true → q < first + n
+pub in_range-high : (first n q : ℕ) → is_in_range first n q ≡ true → q < first + n
 in_range-high first n q is = grind (arith, nat_tests)
 
 both_true : (a b : Bool) → (a && b) ≡ true → (a ≡ true) × (b ≡ true)

@@ -30,7 +30,7 @@ use Rattle.flat_model.specs.Space.{without_range, with_prots}
 use Rattle.flat_model.specs.Mapping.{Request, cells_of, is_there, without_replaced, new_number, new_cell, object_for, with_object, map_result, without_pages, valid_range, may_have}
 use Rattle.flat_model.specs.Parts.{read_line, with_part, file_of_length, with_file_at, existing_file, room_for}
 use Rattle.flat_model.specs.Processes.{with_child, without_process}
-use Rattle.flat_model.specs.Step.{effect, after_act, step, bit, tails_cleared, IsUnborn, IsStep}
+use Rattle.flat_model.specs.Step.{effect, after_act, step, is_bit_set, tails_cleared, IsUnborn, IsStep}
 use Rattle.flat_model.specs.History.{replay, Steps}
 use Rattle.flat_model.specs.Births.{AreBorn}
 use Rattle.flat_model.specs.ReserveLaws.{KeepsReservation}
@@ -188,7 +188,7 @@ after_holds G p call cleared r old new = new
 
 pub IsReached-step : (F : Flat) (e : Entry) → IsReached F → IsStep F e → IsReached (step F e)
 IsReached-step F e reached is =
-    let G = tails_cleared F (bit e.cleared) in
+    let G = tails_cleared F (is_bit_set e.cleared) in
     let unborn = unborn_in e.call is.unborn in
     let old : Holds G G.slots = (reached.zeros, reached.backed) in
     let new : Holds (effect G e.process e.call).after G.slots = (effect_alone G e.process e.call reached.zeros is.alive (child_none G e.call reached.born unborn), effect_backed G e.process e.call reached.born reached.backed is.alive unborn) in
@@ -196,7 +196,7 @@ IsReached-step F e reached is =
     let slots = (StepFrame-step F e reached.born is).slots in
     record { born = AreBorn-step F e reached.born is; zeros = both.0; backed = subst (λ (n : ℕ). reserved (step F e) ≤ n) (sym slots) both.1 }
   where
-    unborn_in : (call : Call) → IsUnborn F call → IsUnborn (tails_cleared F (bit e.cleared)) call
+    unborn_in : (call : Call) → IsUnborn F call → IsUnborn (tails_cleared F (is_bit_set e.cleared)) call
     unborn_in (Fork child) h = h
     unborn_in c h = tt
 

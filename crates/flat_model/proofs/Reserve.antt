@@ -17,7 +17,7 @@ use Rattle.vm_types.specs.declared.call.Place.TheVariants.{At, Any}
 use Rattle.flat_model.specs.Words.{Page, page, pages_in, zero_page}
 use Rattle.flat_model.specs.Flat.{Cell, Flat, Space, space_of, cell_at, zero_of, is_named, without_unnamed, slots_for, private_cells, reserved}
 use Rattle.flat_model.specs.Access.{with_space}
-use Rattle.flat_model.specs.Space.{in_range, without_range, with_cells}
+use Rattle.flat_model.specs.Space.{is_in_range, without_range, with_cells}
 use Rattle.flat_model.specs.Mapping.{Request, cells_of, is_valid, is_place, is_there, without_replaced, first_page, new_number, new_cell, object_for, with_object, with_mapping, map_result, without_pages}
 use Rattle.flat_model.specs.Processes.{with_child, without_process}
 use Rattle.flat_model.specs.Births.{AreBorn}
@@ -85,7 +85,7 @@ names_from F p first n z s cell P is new old =
     elim (cases_eq m.process p) [
       | inl here ↦
           let at : map.get (with_cells s first n cell) m.page ≡ Some m.cell = sym (cell_at-here F p m.page (with_cells s first n cell)) ∙ ap (λ x. cell_at (with_space F p (with_cells s first n cell)) x m.page) (sym here) ∙ m.stands in
-          elim (in_range first n m.page) as (λ b. in_range first n m.page ≡ b → P) [
+          elim (is_in_range first n m.page) as (λ b. is_in_range first n m.page ≡ b → P) [
             | true ↦ λ inside.
                 let same : cell (m.page - first) ≡ m.cell = let both : Some (cell (m.page - first)) ≡ Some m.cell = sym (ap (λ b. cond b (Some (cell (m.page - first))) (map.get s m.page)) inside) ∙ sym (get-with_cells s first n cell m.page) ∙ at in cc in
                 new (m.page - first) (ap zero_of same ∙ m.names)
@@ -107,7 +107,7 @@ names_stay F p first n z s cell is =
     elim (cases_eq m.process p) [
       | inl here ↦
           let at : map.get (without_range s first n) m.page ≡ Some m.cell = sym (cell_at-here F p m.page (without_range s first n)) ∙ ap (λ x. cell_at (with_space F p (without_range s first n)) x m.page) (sym here) ∙ m.stands in
-          let stays = get-with_cells s first n cell m.page ∙ hidden (in_range first n m.page) (map.get s m.page) (Some m.cell) (Some (cell (m.page - first))) (sym (get-without_range s first n m.page) ∙ at) refl in
+          let stays = get-with_cells s first n cell m.page ∙ hidden (is_in_range first n m.page) (map.get s m.page) (Some m.cell) (Some (cell (m.page - first))) (sym (get-without_range s first n m.page) ∙ at) refl in
           named_zeros-from_cell (with_space F p (with_cells s first n cell)) p m.page z m.cell (cell_at-here F p m.page (with_cells s first n cell) ∙ stays) m.names
       | inr apart ↦ named_zeros-from_cell (with_space F p (with_cells s first n cell)) m.process m.page z m.cell (cell_at-other F p m.process m.page (with_cells s first n cell) apart ∙ sym (cell_at-other F p m.process m.page (without_range s first n) apart) ∙ m.stands) m.names
     ]
@@ -383,7 +383,7 @@ names_before F p first n z alive is =
     elim (cases_eq m.process p) [
       | inl here ↦
           let at : map.get (without_range (cells_of F p) first n) m.page ≡ Some m.cell = sym (cell_at-here F p m.page (without_range (cells_of F p) first n)) ∙ ap (λ x. cell_at (with_space F p (without_range (cells_of F p) first n)) x m.page) (sym here) ∙ m.stands in
-          let old : map.get (cells_of F p) m.page ≡ Some m.cell = shown_through (in_range first n m.page) (map.get (cells_of F p) m.page) m.cell (sym (get-without_range (cells_of F p) first n m.page) ∙ at) in
+          let old : map.get (cells_of F p) m.page ≡ Some m.cell = shown_through (is_in_range first n m.page) (map.get (cells_of F p) m.page) m.cell (sym (get-without_range (cells_of F p) first n m.page) ∙ at) in
           named_zeros-from_cell F p m.page z m.cell (get-cells_of F p m.page ∙ old) m.names
       | inr apart ↦ named_zeros-from_cell F m.process m.page z m.cell (sym (cell_at-other F p m.process m.page (without_range (cells_of F p) first n) apart) ∙ m.stands) m.names
     ]

@@ -22,7 +22,7 @@ use Rattle.flat_model.specs.Words.{Page, page, pages_in, word_at, word_put}
 use Rattle.flat_model.specs.Flat.{Cell, Flat, Space, space_of, cell_at, zero_of, is_named, slots_for, private_cells, reserved}
 use Rattle.flat_model.specs.Refusals.{◌>>◌, check, Effect, or_signal, or_refused, done_effect}
 use Rattle.flat_model.specs.Access.{access_target, with_page, with_space, with_cell, with_page_stored}
-use Rattle.flat_model.specs.Space.{in_range, with_prots}
+use Rattle.flat_model.specs.Space.{is_in_range, with_prots}
 use Rattle.flat_model.specs.Mapping.{cells_of, valid_range, may_have}
 use Rattle.flat_model.specs.Parts.{read_line, file_of_length, with_part, with_file_at, existing_file, room_for}
 use Rattle.flat_model.specs.Step.{effect}
@@ -198,8 +198,8 @@ kept_object false prot (Some c) = refl
 
 pub alike_prots : (F : Flat) (p first n : ℕ) (prot : Prot) → Alike (with_prots (cells_of F p) first n prot) (cells_of F p)
 alike_prots F p first n prot = (
-  λ q. ap (option_map (λ c. c.kind)) (get-with_prots (cells_of F p) first n prot q) ∙ kept_kind (in_range first n q) prot (finite.get (cells_of F p) q),
-  λ q. ap (option_map (λ c. c.object)) (get-with_prots (cells_of F p) first n prot q) ∙ kept_object (in_range first n q) prot (finite.get (cells_of F p) q),
+  λ q. ap (option_map (λ c. c.kind)) (get-with_prots (cells_of F p) first n prot q) ∙ kept_kind (is_in_range first n q) prot (finite.get (cells_of F p) q),
+  λ q. ap (option_map (λ c. c.object)) (get-with_prots (cells_of F p) first n prot q) ∙ kept_object (is_in_range first n q) prot (finite.get (cells_of F p) q),
 )
 
 pub reserved-with_prots : (F : Flat) (p first n : ℕ) (prot : Prot) → IsSome (space_of F p) → reserved (with_space F p (with_prots (cells_of F p) first n prot)) ≡ reserved F

@@ -11,8 +11,8 @@ use Rattle.flat_model.specs.Access.{with_change_at}
 use Rattle.flat_model.specs.Parts.{without_tail}
 use Rattle.vm_types.specs.declared.call.Reply.{Reply}
 use Rattle.vm_types.specs.declared.call.Reply.TheVariants as reply
-use Rattle.flat_model.specs.Step.{bit, files_cleared, tails_cleared, effect, MayFail, without_start, IsDue, IsUnborn, IsStep, step}
-use Rattle.flat_model.specs.FlatState.{MayStep, bit_from, IsDueReply}
+use Rattle.flat_model.specs.Step.{is_bit_set, files_cleared, tails_cleared, effect, MayFail, without_start, IsDue, IsUnborn, IsStep, step}
+use Rattle.flat_model.specs.FlatState.{MayStep, is_bit_set_from, IsDueReply}
 use Rattle.flat_model.proofs.WellFormed.{IsFlat-step}
 
 not_le : (a b : ℕ) → b < a → nat_le a b ≡ false
@@ -53,11 +53,11 @@ pub tails_one : (F : Flat) (t : ℕ → Bool) (n : ℕ) → t n ≡ false → ((
 tails_one F t n here below = ap (λ fs. record F { files = fs }) (cleared_one t F.files n here below)
 
 -- no bit of 0 is set
-bit-none : (f : ℕ) → bit 0 f ≡ false
+bit-none : (f : ℕ) → is_bit_set 0 f ≡ false
 bit-none zero = refl
 bit-none (suc f) = bit-none f
 
-pub bit_from-none : (n f : ℕ) → bit_from n 0 f ≡ false
+pub bit_from-none : (n f : ℕ) → is_bit_set_from n 0 f ≡ false
 bit_from-none n f = rw (bit-none (f - n)) (and_false (nat_le n f))
   where
     and_false : (b : Bool) → (b && false) ≡ false
@@ -65,11 +65,11 @@ bit_from-none n f = rw (bit-none (f - n)) (and_false (nat_le n f))
     and_false false = refl
 
 -- the bits from 0 on are all
-pub bit_from-all : (mask f : ℕ) → bit_from 0 mask f ≡ bit mask f
+pub bit_from-all : (mask f : ℕ) → is_bit_set_from 0 mask f ≡ is_bit_set mask f
 bit_from-all mask f = let same : f - 0 ≡ f = omega arith in rw (le-leb 0 f (omega arith), same) refl
 
 -- the bits from n on are bit n and those behind it
-pub bit_from-next : (n mask f : ℕ) → bit_from n mask f ≡ (((f == n) && (mask % 2 == 1)) || bit_from (n + 1) (mask / 2) f)
+pub bit_from-next : (n mask f : ℕ) → is_bit_set_from n mask f ≡ (((f == n) && (mask % 2 == 1)) || is_bit_set_from (n + 1) (mask / 2) f)
 bit_from-next n mask f = elim (cases_lt f n) [
   | inl below ↦ rw (not_le n f below, not_le (n + 1) f (omega arith), not_eq f n (omega arith)) refl
   | inr above ↦ elim (cases_eq f n) [
@@ -83,7 +83,7 @@ bit_from-next n mask f = elim (cases_lt f n) [
     or_false false = refl
 
 -- an entry that may be a step is one where its reply is due
-pub step_is : (F : Flat) (e : Entry) → MayStep F e → (IsDue (tails_cleared F (bit e.cleared)) e ↔ IsStep F e)
+pub step_is : (F : Flat) (e : Entry) → MayStep F e → (IsDue (tails_cleared F (is_bit_set e.cleared)) e ↔ IsStep F e)
 step_is F e may = (λ due. record { files = may.files; alive = may.alive; unborn = may.unborn; due = due }, λ h. h.due)
 
 -- what an answer says, said of what is alike
@@ -117,33 +117,33 @@ pub decided : (b : Bool) (A B : Type 0) → IsTrue b ↔ A → A ↔ B → IsTru
 decided b A B h same = (λ t. same.0 (h.0 t), λ x. h.1 (same.1 x))
 
 -- one file's tail becomes zeros, and then those of the files behind it whose bits are set
-pub bits_next : (F : Flat) (n mask : ℕ) → mask % 2 ≡ 1 → tails_cleared (record F { files = with_change_at without_tail F.files n }) (bit_from (n + 1) (mask / 2)) ≡ tails_cleared F (bit_from n mask)
+pub bits_next : (F : Flat) (n mask : ℕ) → mask % 2 ≡ 1 → tails_cleared (record F { files = with_change_at without_tail F.files n }) (is_bit_set_from (n + 1) (mask / 2)) ≡ tails_cleared F (is_bit_set_from n mask)
 bits_next F n mask odd =
-    tails_one F (bit_from (n + 1) (mask / 2)) n (behind n (omega arith)) (λ f lt. behind f (omega arith))
-    ∙ tails_alike F (λ f. (f == n) || bit_from (n + 1) (mask / 2) f) (bit_from n mask) (λ f. sym (bit_from-next n mask f ∙ ap (λ b. b || bit_from (n + 1) (mask / 2) f) (ap (λ b. (f == n) && b) (eq-eqb (mask % 2) 1 odd) ∙ and_true (f == n))))
+    tails_one F (is_bit_set_from (n + 1) (mask / 2)) n (behind n (omega arith)) (λ f lt. behind f (omega arith))
+    ∙ tails_alike F (λ f. (f == n) || is_bit_set_from (n + 1) (mask / 2) f) (is_bit_set_from n mask) (λ f. sym (bit_from-next n mask f ∙ ap (λ b. b || is_bit_set_from (n + 1) (mask / 2) f) (ap (λ b. (f == n) && b) (eq-eqb (mask % 2) 1 odd) ∙ and_true (f == n))))
   where
-    behind : (f : ℕ) → f < n + 1 → bit_from (n + 1) (mask / 2) f ≡ false
-    behind f lt = ap (λ b. b && bit (mask / 2) (f - (n + 1))) (not_le (n + 1) f lt)
+    behind : (f : ℕ) → f < n + 1 → is_bit_set_from (n + 1) (mask / 2) f ≡ false
+    behind f lt = ap (λ b. b && is_bit_set (mask / 2) (f - (n + 1))) (not_le (n + 1) f lt)
 
     and_true : (b : Bool) → (b && true) ≡ b
     and_true true = refl
     and_true false = refl
 
 -- no bit from n on where the first isn't set, but those behind it
-pub bits_skip : (F : Flat) (n mask : ℕ) → mask % 2 ≡ 0 → tails_cleared F (bit_from (n + 1) (mask / 2)) ≡ tails_cleared F (bit_from n mask)
-bits_skip F n mask even = tails_alike F (bit_from (n + 1) (mask / 2)) (bit_from n mask) (λ f. sym (bit_from-next n mask f ∙ ap (λ b. b || bit_from (n + 1) (mask / 2) f) (ap (λ b. (f == n) && b) (not_eq (mask % 2) 1 (omega arith)) ∙ and_false (f == n))))
+pub bits_skip : (F : Flat) (n mask : ℕ) → mask % 2 ≡ 0 → tails_cleared F (is_bit_set_from (n + 1) (mask / 2)) ≡ tails_cleared F (is_bit_set_from n mask)
+bits_skip F n mask even = tails_alike F (is_bit_set_from (n + 1) (mask / 2)) (is_bit_set_from n mask) (λ f. sym (bit_from-next n mask f ∙ ap (λ b. b || is_bit_set_from (n + 1) (mask / 2) f) (ap (λ b. (f == n) && b) (not_eq (mask % 2) 1 (omega arith)) ∙ and_false (f == n))))
   where
     and_false : (b : Bool) → (b && false) ≡ false
     and_false true = refl
     and_false false = refl
 
 -- no bit at all
-pub bits_none : (F : Flat) (n : ℕ) → F ≡ tails_cleared F (bit_from n 0)
-bits_none F n = sym (ap (λ fs. record F { files = fs }) (cleared_none (bit_from n 0) F.files (bit_from-none n)))
+pub bits_none : (F : Flat) (n : ℕ) → F ≡ tails_cleared F (is_bit_set_from n 0)
+bits_none F n = sym (ap (λ fs. record F { files = fs }) (cleared_none (is_bit_set_from n 0) F.files (bit_from-none n)))
 
 -- the bits from 0 on
-pub bits_all : (F : Flat) (mask : ℕ) → tails_cleared F (bit_from 0 mask) ≡ tails_cleared F (bit mask)
-bits_all F mask = tails_alike F (bit_from 0 mask) (bit mask) (bit_from-all mask)
+pub bits_all : (F : Flat) (mask : ℕ) → tails_cleared F (is_bit_set_from 0 mask) ≡ tails_cleared F (is_bit_set mask)
+bits_all F mask = tails_alike F (is_bit_set_from 0 mask) (is_bit_set mask) (bit_from-all mask)
 
 -- what a step that may not be one leaves is well formed
 pub step_flat : {E : Type 0} (F G : Flat) (e : Entry) (r : Result Bool E) → IsFlat F → IsWellFormed e.call → IfOk r (λ is. IsTrue is ↔ IsStep F e) → IfOk r (λ is. IsTrue is → G ≡ step F e) → IfOk r (λ is. IsFalse is → G ≡ F) → OnErr r (G ≡ F) → IsFlat G

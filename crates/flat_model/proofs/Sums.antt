@@ -8,7 +8,7 @@ use Rattle.std.specs.FinMap.Entries.{put, by_order, where_key, is_sorted-where_k
 use Rattle.std.proofs.lemmas.Bool.Decides.{nat_tests}
 use Rattle.std.proofs.lemmas.List.Sums.{sum_by-cons}
 use Rattle.flat_model.specs.Flat.{Cell, Space}
-use Rattle.flat_model.specs.Space.{in_range, without_range, with_cells}
+use Rattle.flat_model.specs.Space.{is_in_range, without_range, with_cells}
 use Rattle.flat_model.proofs.Ranges.{get-insert, get-remove_here, get-with_cells}
 
 -- the sum over a map's values
@@ -83,8 +83,8 @@ pub total-retain_keys : {X : Type 0} (f : X → ℕ) (m : finite.FinMap nat_cmp 
 total-retain_keys f m p = rw (entries-retain_keys m p, entries-retain_keys m (λ k. not (p k))) (sum_parts f p (finite.entries m))
 
 -- a range that is taken out takes its cells' shares with it
-pub total-without_range : (f : Cell → ℕ) (s : Space) (first n : ℕ) → total f (finite.retain_keys s (in_range first n)) + total f (without_range s first n) ≡ total f s
-total-without_range f s first n = total-retain_keys f s (in_range first n)
+pub total-without_range : (f : Cell → ℕ) (s : Space) (first n : ℕ) → total f (finite.retain_keys s (is_in_range first n)) + total f (without_range s first n) ≡ total f s
+total-without_range f s first n = total-retain_keys f s (is_in_range first n)
 
 -- what f gives at 0 to n - 1, in all
 abbrev pub sum_to : (ℕ → ℕ) → ℕ → ℕ
@@ -95,7 +95,7 @@ sum_to f (suc n) = f n + sum_to f n
 pub total-with_cells : (f : Cell → ℕ) (s : Space) (first n : ℕ) (cell : ℕ → Cell) → ((q : ℕ) → first ≤ q → q < first + n → finite.get s q ≡ None) → total f (with_cells s first n cell) ≡ sum_to (λ i. f (cell i)) n + total f s
 total-with_cells f s first zero cell free = omega arith
 total-with_cells f s first (suc n) cell free =
-    let past : in_range first n (first + n) ≡ false = grind (arith, nat_tests) in
+    let past : is_in_range first n (first + n) ≡ false = grind (arith, nat_tests) in
     let none : finite.get (with_cells s first n cell) (first + n) ≡ None = get-with_cells s first n cell (first + n) ∙ ap (λ b. cond b (Some (cell (first + n - first))) (finite.get s (first + n))) past ∙ free (first + n) (omega arith) (omega arith) in
     omega (arith, total-insert f (with_cells s first n cell) (first + n) (cell n) none, total-with_cells f s first n cell (λ q low high. free q low (omega arith)))
 

@@ -31,11 +31,11 @@ use Rattle.flat_model.specs.Words.{Page, IsPage, zero_page, page, pages_in, word
 use Rattle.flat_model.specs.Flat.{Cell, File, Flat, Space, IsCell, IsFile, IsFlat, space_of, cell_at, without_unnamed, is_named, reserved, private_cells}
 use Rattle.flat_model.specs.Refusals.{◌>>◌, check, Effect, or_signal, or_refused, done_effect}
 use Rattle.flat_model.specs.Access.{access_target, with_change_at, file_with_page, with_page, with_space, with_cell, with_page_stored}
-use Rattle.flat_model.specs.Space.{end_page, in_range, without_range, with_cells, with_prot, with_prots}
+use Rattle.flat_model.specs.Space.{end_page, is_in_range, without_range, with_cells, with_prot, with_prots}
 use Rattle.flat_model.specs.Mapping.{Request, cells_of, is_range, is_place, without_replaced, first_page, new_number, object_for, own_for, new_cell, with_object, map_result, without_pages, valid_range, may_have}
 use Rattle.flat_model.specs.Parts.{pages_of_bytes, pages_with_bytes, read_line, without_tail, longer_file, shorter_file, file_of_length, with_part, with_file_at, existing_file, room_for}
 use Rattle.flat_model.specs.Processes.{with_child, without_process}
-use Rattle.flat_model.specs.Step.{effect, after_act, step, bit, files_cleared, tails_cleared, IsStep}
+use Rattle.flat_model.specs.Step.{effect, after_act, step, is_bit_set, files_cleared, tails_cleared, IsStep}
 use Rattle.flat_model.specs.History.{replay, Steps}
 use Rattle.flat_model.specs.FlatLaws.{StaysFlat}
 use Rattle.flat_model.proofs.Ranges.{get-insert_here, get-insert_apart, get-remove_here, get-remove_apart, get-retain_keys, get-with_cells, get-without_range, get-with_prots, in_range-low, in_range-high}
@@ -300,13 +300,13 @@ flat_store F p a n v flat alive size =
     (IsPage-word_put m.1 a n v (IsPage-shown F m.0 m.1 flat (flat.cells p (page a) m.0 met_it.cell) met_it.shows) (word_fits a n size (eqb-true (a % n) 0 met_it.aligned))))
 
 without_stand : (s : Space) (first n : ℕ) → Standing s → Standing (without_range s first n)
-without_stand s first n stand q c at = stand q c (left_one (in_range first n q) (map.get s q) c (sym (get-without_range s first n q) ∙ at))
+without_stand s first n stand q c at = stand q c (left_one (is_in_range first n q) (map.get s q) c (sym (get-without_range s first n q) ∙ at))
 
 IsFlat-without_pages : (F : Flat) (p first n : ℕ) → IsFlat F → IsSome (space_of F p) → IsFlat (without_pages F p first n)
 IsFlat-without_pages F p first n flat alive = IsFlat-without_unnamed (with_space F p (without_range (cells_of F p) first n)) (IsFlat-with_space F p (without_range (cells_of F p) first n) flat alive (without_stand (cells_of F p) first n (cells_stand F p flat)))
 
 IsCell-with_prot : (first n q : ℕ) (prot : Prot) (c : Cell) → IsCell c → IsCell (with_prot first n prot q c)
-IsCell-with_prot first n q prot c is = elim (in_range first n q) as (λ b. IsCell (if b then record c { prot = prot } else c)) [ true ↦ record { page = is.page; shared = is.shared; zero = is.zero } | false ↦ is ]
+IsCell-with_prot first n q prot c is = elim (is_in_range first n q) as (λ b. IsCell (if b then record c { prot = prot } else c)) [ true ↦ record { page = is.page; shared = is.shared; zero = is.zero } | false ↦ is ]
 
 mapped_one : (f : Cell → Cell) (o : Option Cell) (c : Cell) → option_map f o ≡ Some c → (d : Cell) × (o ≡ Some d) × (f d ≡ c)
 mapped_one f None c is = absurd cc
@@ -372,7 +372,7 @@ IsCell-new_cell : (F G : Flat) (r : Request) (i : ℕ) → IsCell (new_cell F G 
 IsCell-new_cell F G r i = record { page = own_page r.kind r.object; shared = own_shared r.kind r.object; zero = own_zero G r.kind r.object }
 
 with_cells_stand : (s : Space) (first n : ℕ) (cell : ℕ → Cell) → Standing s → (1 ≤ first) → (first + n ≤ end_page) → ((i : ℕ) → IsCell (cell i)) → Standing (with_cells s first n cell)
-with_cells_stand s first n cell stand low high each q c at = elim (in_range first n q) as (λ b. in_range first n q ≡ b → Stands q c) [
+with_cells_stand s first n cell stand low high each q c at = elim (is_in_range first n q) as (λ b. is_in_range first n q ≡ b → Stands q c) [
   | true ↦ λ inside.
       let same : cell (q - first) ≡ c = let both : Some (cell (q - first)) ≡ Some c = sym (ap (λ b. cond b (Some (cell (q - first))) (map.get s q)) inside) ∙ sym (get-with_cells s first n cell q) ∙ at in cc in
       let from = in_range-low first n q inside in
@@ -466,8 +466,8 @@ flat_acted F p call cleared r flat new = new
 
 pub IsFlat-step : (F : Flat) (e : Entry) → IsFlat F → IsWellFormed e.call → IsStep F e → IsFlat (step F e)
 IsFlat-step F e flat well is =
-    let G = tails_cleared F (bit e.cleared) in
-    let good = IsFlat-tails_cleared F (bit e.cleared) flat in
+    let G = tails_cleared F (is_bit_set e.cleared) in
+    let good = IsFlat-tails_cleared F (is_bit_set e.cleared) flat in
     flat_acted G e.process e.call e.cleared e.reply good (IsFlat-effect G e.process e.call good is.alive well)
 
 each_replay : (F : Flat) (H : List Entry) → IsFlat F → Each (λ e. IsWellFormed e.call) H → Steps F H → IsFlat (replay F H)

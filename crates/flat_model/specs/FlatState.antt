@@ -9,7 +9,7 @@ use Rattle.vm_types.specs.declared.call.Reply.TheVariants as reply
 use Rattle.flat_model.specs.Words.{page, pages_in}
 use Rattle.flat_model.specs.Refusals.{◌>>◌, check}
 use Rattle.flat_model.specs.Mapping.{cells_of, may_have, valid_range}
-use Rattle.flat_model.specs.Step.{bit, without_start, IsUnborn}
+use Rattle.flat_model.specs.Step.{is_bit_set, without_start, IsUnborn}
 use Rattle.std.specs.FinMap as finite
 use Rattle.std.specs.FinSet as set
 use Rattle.flat_model.specs.declared.state.FlatParts.TheInside.{Inside}
@@ -47,8 +47,8 @@ abbrev pub with_blocks : Flat → ℕ → ℕ → Flat
 with_blocks F number blocks = record F { disks = finite.insert F.disks number blocks }
 
 -- Bit f - n of a mask, for numbers f from n on.
-abbrev pub bit_from : ℕ → ℕ → ℕ → Bool
-bit_from n mask f = nat_le n f && bit mask (f - n)
+abbrev pub is_bit_set_from : ℕ → ℕ → ℕ → Bool
+is_bit_set_from n mask f = nat_le n f && is_bit_set mask (f - n)
 
 -- The entry is a step if its reply is due once its tails are zeros: each bit that is set names a file, the process is alive, and a child is new.
 pub record MayStep (F : Flat) (e : Entry) : Type 0 where

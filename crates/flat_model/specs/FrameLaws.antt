@@ -8,14 +8,14 @@ use Rattle.vm_types.specs.declared.call.Place.TheVariants.{At}
 use Rattle.vm_types.specs.declared.call.Entry.{Entry}
 use Rattle.flat_model.specs.Words.{Page, page, pages_in}
 use Rattle.flat_model.specs.Flat.{Cell, File, Flat, space_of, cell_at, zero_of}
-use Rattle.flat_model.specs.Space.{in_range}
+use Rattle.flat_model.specs.Space.{is_in_range}
 use Rattle.flat_model.specs.Step.{IsStep, step}
 use Rattle.flat_model.specs.Births.{is_birth, AreBorn}
 
 -- The call takes its process's cell at a page away, if it is done: a Map at an address and an Unmap those of their range, an Exit all.
 abbrev pub takes : Call → ℕ → Bool
-takes (Map (At a) len prot kind object offset) q = in_range (page a) (pages_in len) q
-takes (Unmap a len) q = in_range (page a) (pages_in len) q
+takes (Map (At a) len prot kind object offset) q = is_in_range (page a) (pages_in len) q
+takes (Unmap a len) q = is_in_range (page a) (pages_in len) q
 takes Exit q = true
 takes call q = false
 

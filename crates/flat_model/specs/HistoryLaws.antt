@@ -6,7 +6,7 @@ use Rattle.vm_types.specs.declared.call.Reply.{Reply}
 use Rattle.vm_types.specs.declared.call.Reply.TheVariants as reply
 use Rattle.vm_types.specs.Parts.{file_of_call, ends_call}
 use Rattle.flat_model.specs.Flat.{Flat}
-use Rattle.flat_model.specs.Step.{IsStep, step, bit, tails_cleared}
+use Rattle.flat_model.specs.Step.{IsStep, step, is_bit_set, tails_cleared}
 use Rattle.flat_model.specs.History.{replay, Legal, IsSyncStart, is_of_file, is_aside, IsNextOwn}
 
 -- The reply says that the call wasn't done: a signal, a refusal, or a transfer that failed.
@@ -18,7 +18,7 @@ IsNoAction r = ⊥
 
 -- A step whose call wasn't done changes nothing but the tails that it names.
 pub record Quiet : Type 0 where
-  pub unchanged : (F : Flat) (e : Entry) → IsStep F e → IsNoAction e.reply → step F e ≡ tails_cleared F (bit e.cleared)
+  pub unchanged : (F : Flat) (e : Entry) → IsStep F e → IsNoAction e.reply → step F e ≡ tails_cleared F (is_bit_set e.cleared)
 
 -- The process whose call of a file is between two parts, if there is one, after an entry more.
 abbrev pub open_after : ℕ → Option ℕ → Entry → Option ℕ

@@ -9,7 +9,7 @@ use Rattle.vm_types.specs.declared.call.Object.{Object}
 use Rattle.vm_types.specs.declared.call.Object.TheVariants.{NewZero, Zero}
 use Rattle.flat_model.specs.Words.{pages_in}
 use Rattle.flat_model.specs.Flat.{Flat, space_of, private_cells, is_named, without_unnamed, reserved}
-use Rattle.flat_model.specs.Space.{in_range}
+use Rattle.flat_model.specs.Space.{is_in_range}
 use Rattle.flat_model.specs.Mapping.{Request, cells_of, is_valid, is_there, without_replaced, first_page, with_mapping, map_result, without_pages}
 use Rattle.flat_model.specs.Processes.{with_child, without_process}
 use Rattle.flat_model.specs.Step.{effect, tails_cleared}
@@ -23,7 +23,7 @@ pub record IsPlaced (F : Flat) (p : ℕ) (r : Request) (first : ℕ) : Type 0 wh
 
 -- How many private cells p has at n pages.
 abbrev pub private_cells_at : Flat → ℕ → ℕ → ℕ → ℕ
-private_cells_at F p first n = private_cells (map.retain_keys (cells_of F p) (in_range first n))
+private_cells_at F p first n = private_cells (map.retain_keys (cells_of F p) (is_in_range first n))
 
 -- What the zero objects reserve that cells of F name and no cell of G.
 abbrev pub zero_pages_gone : Flat → Flat → ℕ

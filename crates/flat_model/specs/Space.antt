@@ -6,8 +6,8 @@ use Rattle.vm_types.specs.declared.prot.Prot.{Prot}
 use Rattle.flat_model.specs.Flat.{Cell, Space}
 
 -- The page is one of the n pages from the first.
-abbrev pub in_range : ℕ → ℕ → ℕ → Bool
-in_range first n q = nat_le first q && nat_lt q (first + n)
+abbrev pub is_in_range : ℕ → ℕ → ℕ → Bool
+is_in_range first n q = nat_le first q && nat_lt q (first + n)
 
 -- Each of the n pages from the first passes the test.
 abbrev pub all_pages : (ℕ → Bool) → ℕ → ℕ → Bool
@@ -16,7 +16,7 @@ all_pages test first (suc n) = all_pages test first n && test (first + n)
 
 -- The space without the cells of n pages from the first.
 abbrev pub without_range : Space → ℕ → ℕ → Space
-without_range space first n = finite.retain_keys space (λ q. not (in_range first n q))
+without_range space first n = finite.retain_keys space (λ q. not (is_in_range first n q))
 
 -- The space with n new cells from the first page on, the i-th being cell i.
 abbrev pub with_cells : Space → ℕ → ℕ → (ℕ → Cell) → Space
@@ -25,7 +25,7 @@ with_cells space first (suc n) cell = finite.insert (with_cells space first n ce
 
 -- The cell with a protection, if its page is one of the n from the first.
 abbrev pub with_prot : ℕ → ℕ → Prot → ℕ → Cell → Cell
-with_prot first n prot q c = if in_range first n q then record c { prot = prot } else c
+with_prot first n prot q c = if is_in_range first n q then record c { prot = prot } else c
 
 -- The space whose cells at n pages from the first have this protection.
 abbrev pub with_prots : Space → ℕ → ℕ → Prot → Space

@@ -3,7 +3,7 @@ use Rattle.std.specs.Prelude.{ℕ, ◌≡◌, ◌+◌, ◌-◌, ◌<◌, ◌≤�
 use Rattle.std.specs.FinMap as map
 use Rattle.vm_types.specs.Pages.{IsUserPage}
 use Rattle.flat_model.specs.Flat.{Cell, Space}
-use Rattle.flat_model.specs.Space.{end_page, in_range, without_range, with_cells, lowest_gap}
+use Rattle.flat_model.specs.Space.{end_page, is_in_range, without_range, with_cells, lowest_gap}
 
 -- The space has cells in the user addresses alone.
 abbrev pub IsUser : Space → Type 0
@@ -22,6 +22,6 @@ pub record LowestGap : Type 0 where
 
 -- New cells stand at the pages of their range, and each other page has the cell that it had; a range that is taken out has no cells, and each other page the cell that it had; and to take new cells out again is to take their range out.
 pub record RangesOfCells : Type 0 where
-  pub put_in : (s : Space) (first n : ℕ) (cell : ℕ → Cell) (q : ℕ) → map.get (with_cells s first n cell) q ≡ (if in_range first n q then Some (cell (q - first)) else map.get s q)
-  pub taken_out : (s : Space) (first n q : ℕ) → map.get (without_range s first n) q ≡ (if in_range first n q then None else map.get s q)
+  pub put_in : (s : Space) (first n : ℕ) (cell : ℕ → Cell) (q : ℕ) → map.get (with_cells s first n cell) q ≡ (if is_in_range first n q then Some (cell (q - first)) else map.get s q)
+  pub taken_out : (s : Space) (first n q : ℕ) → map.get (without_range s first n) q ≡ (if is_in_range first n q then None else map.get s q)
   pub put_and_taken : (s : Space) (first n : ℕ) (cell : ℕ → Cell) → without_range (with_cells s first n cell) first n ≡ without_range s first n

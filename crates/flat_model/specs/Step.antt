@@ -31,9 +31,9 @@ effect F p (Fork child) = fork F p child
 effect F p Exit = exit F p
 
 -- Bit f of a mask. Bit 0 is set where the mask is odd.
-abbrev pub bit : ℕ → ℕ → Bool
-bit mask zero = mask % 2 == 1
-bit mask (suc f) = bit (mask / 2) f
+abbrev pub is_bit_set : ℕ → ℕ → Bool
+is_bit_set mask zero = mask % 2 == 1
+is_bit_set mask (suc f) = is_bit_set (mask / 2) f
 
 -- The files, those whose number passes the test with zeros in their tails.
 abbrev pub files_cleared : (ℕ → Bool) → List File → List File
@@ -83,7 +83,7 @@ after_act F e = elim e.reply [ reply.Io disk before after ↦ F | r ↦ (effect 
 
 -- Flat memory after an entry: first tails become zeros, then the call acts.
 abbrev pub step : Flat → Entry → Flat
-step F e = after_act (tails_cleared F (bit e.cleared)) e
+step F e = after_act (tails_cleared F (is_bit_set e.cleared)) e
 
 -- The child of a Fork was never alive before.
 abbrev pub IsUnborn : Flat → Call → Type 0
@@ -95,4 +95,4 @@ pub record IsStep (F : Flat) (e : Entry) : Type 0 where
   pub files : e.cleared < 2 ^ length F.files
   pub alive : IsSome (space_of F e.process)
   pub unborn : IsUnborn F e.call
-  pub due : IsDue (tails_cleared F (bit e.cleared)) e
+  pub due : IsDue (tails_cleared F (is_bit_set e.cleared)) e

@@ -7,7 +7,7 @@ ghost use Rattle.std.specs.Ordering.{nat_cmp};
 ghost use Rattle.flat_model.specs.Flat.{slots_for, private_cells};
 ghost use Rattle.std.specs.Option.{option_map_or};
 ghost use Rattle.vm_types.specs.Prot.{is_within};
-ghost use Rattle.flat_model.specs.Space.{in_range, without_range, with_cells, with_prots, lowest_gap_from, lowest_gap};
+ghost use Rattle.flat_model.specs.Space.{is_in_range, without_range, with_cells, with_prots, lowest_gap_from, lowest_gap};
 ghost use Rattle.flat_model.specs.Mapping.{are_mapped, may_have};
 ghost use Rattle.flat_model.specs.Cells.{flat_cell, names, is_zero, without_own, with_index, cell_with_prot};
 
@@ -119,7 +119,8 @@ impl Cells {
     pub fn take_out(&mut self, first: u32, count: u32)
         ensures { self.new ≡ without_range self.old first count }
     {
-        self.cells.retain(|page, _| !in_range(first, count, *page));
+        self.cells
+            .retain(|page, _| !is_in_range(first, count, *page));
     }
 
     /// Puts so many cells at the pages from the first on, of which each shows the page behind the one before.
@@ -226,8 +227,8 @@ fn give(cell: &mut CellState, prot: Prot)
 }
 
 // Whether the page is one of so many from the first.
-fn in_range(first: u32, count: u32, page: u32) -> bool
-    ensures { result ≡ in_range first count page }
+fn is_in_range(first: u32, count: u32, page: u32) -> bool
+    ensures { result ≡ is_in_range first count page }
 {
     first <= page && (page as u64) < first as u64 + count as u64
 }

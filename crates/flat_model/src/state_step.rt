@@ -8,7 +8,7 @@ ghost use Rattle.vm_types.specs.WellFormed.{IsWellFormed};
 ghost use Rattle.flat_model.specs.Flat.{IsFlat, space_of};
 ghost use Rattle.flat_model.specs.Mapped.{call_of};
 ghost use Rattle.flat_model.specs.Step.{IsDue, IsUnborn, after_act, tails_cleared, IsStep, step};
-ghost use Rattle.flat_model.specs.FlatState.{MayStep, bit_from};
+ghost use Rattle.flat_model.specs.FlatState.{MayStep, is_bit_set_from};
 
 use crate::files::{clear_tail_of, put_last_page};
 use crate::map_call::MapCall;
@@ -342,9 +342,9 @@ impl FlatParts {
         requires form { IsWellFormed entry.now.call }
         requires fits { number + mask < 2 ^ 64 }
         // Whether the reply is due, and flat memory then.
-        ensures exact { let cleared = tails_cleared self.old (bit_from number mask) in
+        ensures exact { let cleared = tails_cleared self.old (is_bit_set_from number mask) in
             IfOk result (λ due. IsTrue due ↔ IsDue cleared entry.now) }
-        ensures next { let cleared = tails_cleared self.old (bit_from number mask) in
+        ensures next { let cleared = tails_cleared self.old (is_bit_set_from number mask) in
             IfOk result (λ due. IsTrue due → self.new ≡ after_act cleared entry.now) }
         ensures stays { IfOk result (λ due. IsFalse due → self.new ≡ self.old) }
         ensures err { OnErr result (self.new ≡ self.old) }

@@ -8,7 +8,7 @@ use Rattle.std.proofs.lemmas.Map.Views.{any-filter_same}
 use Rattle.std.proofs.Math.ListN.{length-set}
 use Rattle.std.proofs.lemmas.Bool.{cases_eq, cases_Bool, or_parts, or_from, or_cases, or_right, eqb-true, eqb-false, eq-eqb, ne_eqb}
 use Rattle.hash_chains.specs.Order.{chain_at, is_among, first_in, after_in, without_place}
-use Rattle.hash_chains.specs.Links.{places_from, order_of, LeadsOver, IsLinked, before_in, heads_led, from_led, next_led}
+use Rattle.hash_chains.specs.Links.{places_from, order_of, LeadsOver, AreSoundChains, before_in, heads_led, start_led, next_led}
 
 pub at-replicate : {X : Type 0} (n i : ℕ) (d : X) → get_or (replicate n d) i d ≡ d
 at-replicate zero i d = refl
@@ -50,13 +50,13 @@ order-is next (h ∷ hs) (x ∷ xs) n l d =
     ∙ ap (λ (o : List (List ℕ)). x ∷ o) (order-is next hs xs (omega arith) (λ c. l (suc c)) (λ c. d (suc c)))
 
 -- the links tell the order
-pub linked-is : (heads next : List (Option ℕ)) (order : List (List ℕ)) → IsLinked heads next order → order_of heads next ≡ order
+pub linked-is : (heads next : List (Option ℕ)) (order : List (List ℕ)) → AreSoundChains heads next order → order_of heads next ≡ order
 linked-is heads next order l = order-is next heads order l.lengths l.leads l.apart.once
 
-pub linked-own : (heads next : List (Option ℕ)) (order : List (List ℕ)) → IsLinked heads next order → IsLinked heads next (order_of heads next)
-linked-own heads next order l = subst (IsLinked heads next) (sym (linked-is heads next order l)) l
+pub linked-own : (heads next : List (Option ℕ)) (order : List (List ℕ)) → AreSoundChains heads next order → AreSoundChains heads next (order_of heads next)
+linked-own heads next order l = subst (AreSoundChains heads next) (sym (linked-is heads next order l)) l
 
-pub linked-none : (chains places : ℕ) → IsLinked (replicate chains None) (replicate places None) (replicate chains [])
+pub linked-none : (chains places : ℕ) → AreSoundChains (replicate chains None) (replicate places None) (replicate chains [])
 unfolding IsDistinct
 linked-none chains places = record {
   lengths = length-replicate chains [] ∙ sym (length-replicate chains None);
@@ -177,7 +177,7 @@ some-before x place (y ∷ ys) on b = elim (cases_Bool (y == place)) [
 ]
 
 -- the chain that a place is taken off
-led-past : (next : List (Option ℕ)) (place : ℕ) (from before : Option ℕ) (xs : List ℕ) → LeadsOver next from xs → IsDistinct (λ (x y : ℕ). x == y) xs → is_among place xs ≡ true → before_in None place xs ≡ before → LeadsOver (next_led before next (get_or next place None)) (from_led before from (get_or next place None)) (without_place place xs)
+led-past : (next : List (Option ℕ)) (place : ℕ) (from before : Option ℕ) (xs : List ℕ) → LeadsOver next from xs → IsDistinct (λ (x y : ℕ). x == y) xs → is_among place xs ≡ true → before_in None place xs ≡ before → LeadsOver (next_led before next (get_or next place None)) (start_led before from (get_or next place None)) (without_place place xs)
 unfolding IsDistinct
 led-past next place from before [] c d on b = let z : false ≡ true = on in cc
 led-past next place from before (x ∷ xs) c d on b = elim (cases_Bool (x == place)) [
@@ -189,14 +189,14 @@ led-past next place from before (x ∷ xs) c d on b = elim (cases_Bool (x == pla
   | inr f ↦
       let b' = sym (ap (λ (b : Bool). cond b None (before_in (Some x) place xs)) f) ∙ b in
       let on' = among-tail place x xs f on in
-      subst (λ (l : List ℕ). LeadsOver (next_led before next (get_or next place None)) (from_led before from (get_or next place None)) l) (sym (ap (λ (b : Bool). cond (not b) (x ∷ without_place place xs) (without_place place xs)) f)) (go before b' on')
+      subst (λ (l : List ℕ). LeadsOver (next_led before next (get_or next place None)) (start_led before from (get_or next place None)) l) (sym (ap (λ (b : Bool). cond (not b) (x ∷ without_place place xs) (without_place place xs)) f)) (go before b' on')
 ]
   where
-    go : (before : Option ℕ) → before_in (Some x) place xs ≡ before → is_among place xs ≡ true → LeadsOver (next_led before next (get_or next place None)) (from_led before from (get_or next place None)) (x ∷ without_place place xs)
+    go : (before : Option ℕ) → before_in (Some x) place xs ≡ before → is_among place xs ≡ true → LeadsOver (next_led before next (get_or next place None)) (start_led before from (get_or next place None)) (x ∷ without_place place xs)
     go None b on = absurd (some-before x place xs on b)
     go (Some p) b on = past next place p x xs from c d on b
 
-module _ (heads next : List (Option ℕ)) (order : List (List ℕ)) (place chain : ℕ) (l : IsLinked heads next order) where
+module _ (heads next : List (Option ℕ)) (order : List (List ℕ)) (place chain : ℕ) (l : AreSoundChains heads next order) where
   -- a place comes onto a chain
   module _ (in_heads : chain < length order) (lt : place < length next) (off : (c : ℕ) → is_among place (chain_at order c) ≡ false) where
     from-in : (c k : ℕ) → is_among k (chain_at (set order chain (place ∷ chain_at order chain)) c) ≡ true → ((k ≡ place) × (c ≡ chain)) ⊎ (is_among k (chain_at order c) ≡ true)
@@ -214,7 +214,7 @@ module _ (heads next : List (Option ℕ)) (order : List (List ℕ)) (place chain
     one-in c d k (inr a) (inl b) = let z : false ≡ true = sym (off c) ∙ ap (λ (k : ℕ). is_among k (chain_at order c)) (sym b.0) ∙ a in cc
     one-in c d k (inr a) (inr b) = l.apart.one c d k a b
 
-    pub linked-in : IsLinked (set heads chain (Some place)) (set next place (get_or heads chain None)) (set order chain (place ∷ chain_at order chain))
+    pub linked-in : AreSoundChains (set heads chain (Some place)) (set next place (get_or heads chain None)) (set order chain (place ∷ chain_at order chain))
     unfolding IsDistinct
     linked-in =
         let n = length-set next place (get_or heads chain None) in
@@ -258,7 +258,7 @@ module _ (heads next : List (Option ℕ)) (order : List (List ℕ)) (place chain
       | inr ne ↦ rw (get_or-set_other order chain c (without_place place (chain_at order chain)) [] ne) (rw (there before ne) (kept before b ne))
     ]
       where
-        here : (before : Option ℕ) → get_or (heads_led before heads chain (get_or next place None)) chain None ≡ from_led before (get_or heads chain None) (get_or next place None)
+        here : (before : Option ℕ) → get_or (heads_led before heads chain (get_or next place None)) chain None ≡ start_led before (get_or heads chain None) (get_or next place None)
         here None = get_or-set_same heads chain (get_or next place None) None (let a = l.lengths in let b = in_order in omega arith)
         here (Some p) = refl
 
@@ -273,7 +273,7 @@ module _ (heads next : List (Option ℕ)) (order : List (List ℕ)) (place chain
           | inr f ↦ f
         ]) (l.leads c)
 
-    pub linked-out : IsLinked (heads_led (before_in None place (chain_at order chain)) heads chain (get_or next place None)) (next_led (before_in None place (chain_at order chain)) next (get_or next place None)) (set order chain (without_place place (chain_at order chain)))
+    pub linked-out : AreSoundChains (heads_led (before_in None place (chain_at order chain)) heads chain (get_or next place None)) (next_led (before_in None place (chain_at order chain)) next (get_or next place None)) (set order chain (without_place place (chain_at order chain)))
     linked-out = record {
       lengths = length-set order chain (without_place place (chain_at order chain)) ∙ l.lengths ∙ sym (heads-length (before_in None place (chain_at order chain)));
       leads = leads-out (before_in None place (chain_at order chain)) refl;

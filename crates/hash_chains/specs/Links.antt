@@ -17,7 +17,7 @@ LeadsOver next from [] = from ≡ None
 LeadsOver next from (p ∷ ps) = (from ≡ Some p) × (p < length next) × LeadsOver next (slice_index_or next p None) ps
 
 -- the links lead over these chains
-pub record IsLinked (heads next : List (Option ℕ)) (order : List (List ℕ)) : Type 0 where
+pub record AreSoundChains (heads next : List (Option ℕ)) (order : List (List ℕ)) : Type 0 where
   pub lengths : length order ≡ length heads
   pub leads : (chain : ℕ) → LeadsOver next (slice_index_or heads chain None) (chain_at order chain)
   pub apart : AreSeparate order
@@ -32,9 +32,9 @@ abbrev pub heads_led : Option ℕ → List (Option ℕ) → ℕ → Option ℕ �
 heads_led None heads chain to = slice_set heads chain to
 heads_led (Some p) heads chain to = heads
 
-abbrev pub from_led : Option ℕ → Option ℕ → Option ℕ → Option ℕ
-from_led None from to = to
-from_led (Some p) from to = from
+abbrev pub start_led : Option ℕ → Option ℕ → Option ℕ → Option ℕ
+start_led None from to = to
+start_led (Some p) from to = from
 
 abbrev pub next_led : Option ℕ → List (Option ℕ) → Option ℕ → List (Option ℕ)
 next_led None next to = next

@@ -3,7 +3,7 @@ use Rattle.std.specs.Prelude.{◌≡◌, ℕ, ◌==◌, not, [], ◌∷◌, Bool
 use Rattle.std.specs.List.{list_any, filter, IsDistinct}
 
 -- the places of each chain, from the first on, and how many places there are
-pub record ChainOrder : Type 0 where
+pub record ChainsSeen : Type 0 where
   pub order : List (List ℕ)
   pub size : ℕ
 

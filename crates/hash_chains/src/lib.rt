@@ -24,14 +24,14 @@ pub struct Chains {
 
 impl Model for Chains {
     ghost use Rattle.std.specs.Prelude.{length};
-    ghost use Rattle.hash_chains.specs.Order.{ChainOrder};
-    ghost use Rattle.hash_chains.specs.Links.{order_of, IsLinked};
+    ghost use Rattle.hash_chains.specs.Order.{ChainsSeen};
+    ghost use Rattle.hash_chains.specs.Links.{order_of, AreSoundChains};
 
-    ghost Value = { ChainOrder };
+    ghost Value = { ChainsSeen };
 
     ghost view = { λ c. record { order = order_of c.heads.items c.next.items; size = length c.next.items } };
 
-    ghost invariant = { λ c. IsLinked c.heads.items c.next.items (order_of c.heads.items c.next.items) };
+    ghost invariant = { λ c. AreSoundChains c.heads.items c.next.items (order_of c.heads.items c.next.items) };
 }
 
 impl Chains {

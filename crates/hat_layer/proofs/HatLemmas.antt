@@ -10,7 +10,7 @@ use Rattle.std.proofs.lemmas.Map.Keys.{IsDistinct-from_apart}
 use Rattle.std.proofs.Math.ListN.{length-set}
 use Rattle.std.proofs.lemmas.Bool.{cases_eq, cases_lt, and_from, eqb-true, eq-eqb, ne_eqb, cases_Bool, or_cases}
 use Rattle.hat_layer.specs.declared.translation.Translation.{Translation}
-use Rattle.hat_layer.specs.Pool.{Pool, IsSingleValued, fresh_translation, holds, is_of, translation_at, dropped_by_load, hand_after}
+use Rattle.hat_layer.specs.Pool.{HatSeen, IsSingleValued, fresh_translation, holds, is_of, translation_at, dropped_by_load, hand_after}
 use Rattle.hat_layer.specs.Table.{FindsHeld}
 use Rattle.hash_chains.proofs.LinkLemmas.{at-replicate}
 use Rattle.hash_chains.proofs.OwnerLaws.{some-within}
@@ -159,13 +159,13 @@ hat-room places free room hand place old h is =
     two (suc i) (suc j) d l lj = ne_eqb (get_or free i d) (get_or free j d) (λ q. h.apart i j (omega arith) (omega arith) (sym (get_or_default free i d 0 (omega arith)) ∙ q ∙ get_or_default free j d 0 (omega arith)))
 
 -- what a load takes
-due-of : (pool : Pool) (space page : ℕ) (a : Option Translation) (f : Bool) → translation_at pool.places space page ≡ a → list_all (λ (o : Option Translation). is_some o) pool.places ≡ f → dropped_by_load pool space page ≡ cond (is_some a) a (cond f (get_or pool.places pool.hand None) None)
+due-of : (pool : HatSeen) (space page : ℕ) (a : Option Translation) (f : Bool) → translation_at pool.places space page ≡ a → list_all (λ (o : Option Translation). is_some o) pool.places ≡ f → dropped_by_load pool space page ≡ cond (is_some a) a (cond f (get_or pool.places pool.hand None) None)
 due-of pool space page a f e g = ap (λ (a : Option Translation). cond (is_some a) a (cond (list_all (λ (o : Option Translation). is_some o) pool.places) (get_or pool.places pool.hand None) None)) e ∙ ap (λ (f : Bool). cond (is_some a) a (cond f (get_or pool.places pool.hand None) None)) g
 
-hand-of : (pool : Pool) (space page : ℕ) (a : Option Translation) (f : Bool) → translation_at pool.places space page ≡ a → list_all (λ (o : Option Translation). is_some o) pool.places ≡ f → hand_after pool space page ≡ cond (is_some a) pool.hand (cond f (cond (pool.hand + 1 == length pool.places) 0 (pool.hand + 1)) pool.hand)
+hand-of : (pool : HatSeen) (space page : ℕ) (a : Option Translation) (f : Bool) → translation_at pool.places space page ≡ a → list_all (λ (o : Option Translation). is_some o) pool.places ≡ f → hand_after pool space page ≡ cond (is_some a) pool.hand (cond f (cond (pool.hand + 1 == length pool.places) 0 (pool.hand + 1)) pool.hand)
 hand-of pool space page a f e g = ap (λ (a : Option Translation). cond (is_some a) pool.hand (cond (list_all (λ (o : Option Translation). is_some o) pool.places) (cond (pool.hand + 1 == length pool.places) 0 (pool.hand + 1)) pool.hand)) e ∙ ap (λ (f : Bool). cond (is_some a) pool.hand (cond f (cond (pool.hand + 1 == length pool.places) 0 (pool.hand + 1)) pool.hand)) g
 
-pub choose-held : (pool : Pool) (free : List ℕ) (room space page : ℕ) (r : ℕ × Translation) → IsSoundHat pool.places free room pool.hand → IsSingleValued pool.places → FindsHeld pool.places space page (Some r) → TakesPlace pool free room pool.hand space page r.0
+pub choose-held : (pool : HatSeen) (free : List ℕ) (room space page : ℕ) (r : ℕ × Translation) → IsSoundHat pool.places free room pool.hand → IsSingleValued pool.places → FindsHeld pool.places space page (Some r) → TakesPlace pool free room pool.hand space page r.0
 choose-held pool free room space page r h d f =
     let a = at-held pool.places space page r.0 r.1 f.0 f.1 f.2 in
     record {
@@ -177,7 +177,7 @@ choose-held pool free room space page r h d f =
       fits = λ new. hat-some pool.places room pool.hand free r.0 r.1 new h f.0;
     }
 
-pub choose-free : (pool : Pool) (free : List ℕ) (room space page place : ℕ) → IsSoundHat pool.places (free ++ place ∷ []) room pool.hand → IsSingleValued pool.places → FindsHeld pool.places space page None → TakesPlace pool free room pool.hand space page place
+pub choose-free : (pool : HatSeen) (free : List ℕ) (room space page place : ℕ) → IsSoundHat pool.places (free ++ place ∷ []) room pool.hand → IsSingleValued pool.places → FindsHeld pool.places space page None → TakesPlace pool free room pool.hand space page place
 choose-free pool free room space page place h d f =
     let a = at-none pool.places space page f in
     let m = length-append free (place ∷ []) in
@@ -194,7 +194,7 @@ choose-free pool free room space page place h d f =
       fits = λ new. hat-popped pool.places room pool.hand free place new h;
     }
 
-pub choose-hand : (pool : Pool) (room hand' space page : ℕ) → IsSoundHat pool.places [] room pool.hand → IsSingleValued pool.places → FindsHeld pool.places space page None → hand' ≡ cond (pool.hand + 1 == length pool.places) 0 (pool.hand + 1) → TakesPlace pool [] room hand' space page pool.hand
+pub choose-hand : (pool : HatSeen) (room hand' space page : ℕ) → IsSoundHat pool.places [] room pool.hand → IsSingleValued pool.places → FindsHeld pool.places space page None → hand' ≡ cond (pool.hand + 1 == length pool.places) 0 (pool.hand + 1) → TakesPlace pool [] room hand' space page pool.hand
 choose-hand pool room hand' space page h d f e =
     let a = at-none pool.places space page f in
     let lt = h.hand_in in
@@ -244,7 +244,7 @@ falls-one zero lt = absurd (omega arith)
 falls-one (suc n) lt = let e : suc n - 1 ≡ n = omega arith in ap (λ (k : ℕ). k ∷ countdown k) e
 
 -- what a load leaves at its own page, and at all others
-module _ (pool : Pool) (free' : List ℕ) (room hand' space page place : ℕ) (c : TakesPlace pool free' room hand' space page place) (frame : ℕ) (writable : Bool) where
+module _ (pool : HatSeen) (free' : List ℕ) (room hand' space page place : ℕ) (c : TakesPlace pool free' room hand' space page place) (frame : ℕ) (writable : Bool) where
   own : is_of space page (fresh_translation space page frame writable) ≡ true
   own = and_from (space == space) (page == page) (eq-eqb space space refl) (eq-eqb page page refl)
 

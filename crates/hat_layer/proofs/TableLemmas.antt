@@ -6,7 +6,7 @@ use Rattle.std.proofs.Math.Seq.{map-set_same}
 use Rattle.std.proofs.Math.ListN.{length-set, get_or-map}
 use Rattle.std.proofs.lemmas.Bool.{cases_eq, cases_lt, and_parts, and_from, eqb-true, eq-eqb}
 use Rattle.hat_layer.specs.declared.translation.Translation.{Translation}
-use Rattle.hash_chains.specs.Order.{ChainOrder, HaveOwners, chain_at, owner_at, is_among, first_in, without_place}
+use Rattle.hash_chains.specs.Order.{ChainsSeen, HaveOwners, chain_at, owner_at, is_among, first_in, without_place}
 use Rattle.hash_chains.specs.Slots.{pair_slot}
 use Rattle.hash_chains.proofs.LinkLemmas.{at-replicate}
 use Rattle.hash_chains.proofs.WalkLaws.{IsOn, walk-start, first-none}
@@ -96,7 +96,7 @@ distinct-change places place old new d is same = distinct-set places place (Some
 pub distinct-none : (n : ℕ) → IsSingleValued (replicate n None)
 distinct-none n i j space page a b = let z : false ≡ true = sym (ap (λ (o : Option Translation). holds space page o) (at-replicate n i None)) ∙ a in cc
 
-pub new-table : (places : List (Option Translation)) (pages frames : ChainOrder) (n m : ℕ) → places ≡ replicate n None → pages.order ≡ replicate n [] → pages.size ≡ n → frames.order ≡ replicate m [] → frames.size ≡ n → 0 < n → IsSoundTable places n pages frames
+pub new-table : (places : List (Option Translation)) (pages frames : ChainsSeen) (n m : ℕ) → places ≡ replicate n None → pages.order ≡ replicate n [] → pages.size ≡ n → frames.order ≡ replicate m [] → frames.size ≡ n → 0 < n → IsSoundTable places n pages frames
 new-table places pages frames n m e po ps fo fs some = rw e (record {
   some = some;
   slots_are = ap (λ (o : List (List ℕ)). length o) po ∙ length-replicate n [];
@@ -107,13 +107,13 @@ new-table places pages frames n m e po ps fo fs some = rw e (record {
   distinct = distinct-none n;
 })
 
-module _ (places : List (Option Translation)) (slots : ℕ) (pages frames : ChainOrder) (t : IsSoundTable places slots pages frames) (place slot : ℕ) where
+module _ (places : List (Option Translation)) (slots : ℕ) (pages frames : ChainsSeen) (t : IsSoundTable places slots pages frames) (place slot : ℕ) where
   -- an empty place is on no chain
   pub put-off : get_or places place None ≡ None → ((c : ℕ) → is_among place (chain_at pages.order c) ≡ false) × ((c : ℕ) → is_among place (chain_at frames.order c) ≡ false)
   put-off empty = (free-off pages.order (map (slot_at slots) places) t.pages place (get_or-map (slot_at slots) places place None ∙ ap (slot_at slots) empty), free-off frames.order (map frame_of places) t.frames place (get_or-map frame_of places place None ∙ ap frame_of empty))
 
   -- a translation comes into an empty place
-  pub put-table : (new : Translation) (pages' frames' : ChainOrder) → place < length places → get_or places place None ≡ None → ((k : ℕ) → holds new.space new.page (get_or places k None) ≡ false) →
+  pub put-table : (new : Translation) (pages' frames' : ChainsSeen) → place < length places → get_or places place None ≡ None → ((k : ℕ) → holds new.space new.page (get_or places k None) ≡ false) →
       slot ≡ pair_slot slots new.space new.page → slot < slots → new.frame < length frames.order →
       pages'.order ≡ set pages.order slot (place ∷ chain_at pages.order slot) → pages'.size ≡ pages.size → frames'.order ≡ set frames.order new.frame (place ∷ chain_at frames.order new.frame) → frames'.size ≡ frames.size → IsSoundTable (set places place (Some new)) slots pages' frames'
   put-table new pages' frames' lt empty absent s in_s in_f po ps fo fs = let n = length-set places place (let x : Option Translation = Some new in x) in record {
@@ -141,7 +141,7 @@ module _ (places : List (Option Translation)) (slots : ℕ) (pages frames : Chai
     frame-has = owned-on frames.order (map frame_of places) t.frames old.frame place on-frame
 
     -- the translation goes out of its place
-    pub take-table : (pages' frames' : ChainOrder) → pages'.order ≡ set pages.order slot (without_place place (chain_at pages.order slot)) → pages'.size ≡ pages.size → frames'.order ≡ set frames.order old.frame (without_place place (chain_at frames.order old.frame)) → frames'.size ≡ frames.size → IsSoundTable (set places place None) slots pages' frames'
+    pub take-table : (pages' frames' : ChainsSeen) → pages'.order ≡ set pages.order slot (without_place place (chain_at pages.order slot)) → pages'.size ≡ pages.size → frames'.order ≡ set frames.order old.frame (without_place place (chain_at frames.order old.frame)) → frames'.size ≡ frames.size → IsSoundTable (set places place None) slots pages' frames'
     take-table pages' frames' po ps fo fs = let lt = some-within places place old is in let n = length-set places place (let x : Option Translation = None in x) in record {
       some = t.some;
       slots_are = ap (λ (o : List (List ℕ)). length o) po ∙ length-set pages.order slot (without_place place (chain_at pages.order slot)) ∙ t.slots_are;
@@ -165,7 +165,7 @@ module _ (places : List (Option Translation)) (slots : ℕ) (pages frames : Chai
   }
 
 -- a place on the chain of a page's slot is one of the pool
-pub slot-within : (places : List (Option Translation)) (slots : ℕ) (pages frames : ChainOrder) (slot place : ℕ) → IsSoundTable places slots pages frames → is_among place (chain_at pages.order slot) ≡ true → place < length places
+pub slot-within : (places : List (Option Translation)) (slots : ℕ) (pages frames : ChainsSeen) (slot place : ℕ) → IsSoundTable places slots pages frames → is_among place (chain_at pages.order slot) ≡ true → place < length places
 slot-within places slots pages frames slot place t on = go (get_or places place None) refl
   where
     go : (o : Option Translation) → get_or places place None ≡ o → place < length places
@@ -173,7 +173,7 @@ slot-within places slots pages frames slot place t on = go (get_or places place 
     go (Some h) e = some-within places place h e
 
 -- a page's place is on the chain of its slot
-pub slot-on : (places : List (Option Translation)) (slots : ℕ) (pages frames : ChainOrder) (slot space page k : ℕ) → IsSoundTable places slots pages frames → slot ≡ pair_slot slots space page → holds space page (get_or places k None) ≡ true → is_among k (chain_at pages.order slot) ≡ true
+pub slot-on : (places : List (Option Translation)) (slots : ℕ) (pages frames : ChainsSeen) (slot space page k : ℕ) → IsSoundTable places slots pages frames → slot ≡ pair_slot slots space page → holds space page (get_or places k None) ≡ true → is_among k (chain_at pages.order slot) ≡ true
 slot-on places slots pages frames slot space page k t s h = owned-on pages.order (map (slot_at slots) places) t.pages slot k (get_or-map (slot_at slots) places k None ∙ slot-held slots space page (get_or places k None) h ∙ ap (λ (n : ℕ). Some n) (sym s))
 
 -- the bits of a frame's translations are cleared
@@ -185,7 +185,7 @@ cleared-same : {X : Type 0} (f : Option Translation → X) → ((t : Translation
 cleared-same f same frame None = refl
 cleared-same f same frame (Some t) = elim (t.frame == frame) as (λ b. f (cond b (option_map with_clear_bits (Some t)) (Some t)) ≡ f (Some t)) [ true ↦ same t | false ↦ refl ]
 
-pub clear-table : (places : List (Option Translation)) (slots : ℕ) (pages frames : ChainOrder) → IsSoundTable places slots pages frames → (frame : ℕ) (places' : List (Option Translation)) → places' ≡ change_frame frame with_clear_bits places → IsSoundTable places' slots pages frames
+pub clear-table : (places : List (Option Translation)) (slots : ℕ) (pages frames : ChainsSeen) → IsSoundTable places slots pages frames → (frame : ℕ) (places' : List (Option Translation)) → places' ≡ change_frame frame with_clear_bits places → IsSoundTable places' slots pages frames
 clear-table places slots pages frames t frame places' e = rw e (let n = length-map places (change_lead frame with_clear_bits) in record {
   some = t.some;
   slots_are = t.slots_are;

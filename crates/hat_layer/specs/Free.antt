@@ -1,7 +1,7 @@
 -- The free places of a pool, and the hand that steals. Inside: no public clause cites this.
 use Rattle.std.specs.Prelude.{zero, suc, ◌≡◌, ◌≢◌, ℕ, ◌<◌, ◌≤◌, ◌^◌, ◌∷◌, [], List, Option, Some, None, false, length, slice_index_or, slice_index, slice_set, Contains}
 use Rattle.hat_layer.specs.declared.translation.Translation.{Translation}
-use Rattle.hat_layer.specs.Pool.{Pool, IsSingleValued, holds, dropped_by_load, hand_after}
+use Rattle.hat_layer.specs.Pool.{HatSeen, IsSingleValued, holds, dropped_by_load, hand_after}
 
 -- the stack has the empty places, each once; the hand is at a place
 pub record IsSoundHat (places : List (Option Translation)) (free : List ℕ) (room hand : ℕ) : Type 0 where
@@ -14,7 +14,7 @@ pub record IsSoundHat (places : List (Option Translation)) (free : List ℕ) (ro
   pub apart : (i j : ℕ) → i < j → j < length free → slice_index free i ≢ slice_index free j
 
 -- which place a load takes, and what stands once it has
-pub record TakesPlace (pool : Pool) (free' : List ℕ) (room hand' space page place : ℕ) : Type 0 where
+pub record TakesPlace (pool : HatSeen) (free' : List ℕ) (room hand' space page place : ℕ) : Type 0 where
   pub within : place < length pool.places
   pub gives : slice_index_or pool.places place None ≡ dropped_by_load pool space page
   pub distinct : IsSingleValued pool.places

@@ -5,7 +5,7 @@ use Rattle.hat_layer.specs.declared.translation.Translation.{Translation}
 use Rattle.hat_layer.specs.declared.translation.Dropped.{Dropped}
 
 -- the places of the pool, the place that is stolen next, and the number of frames
-pub record Pool : Type 0 where
+pub record HatSeen : Type 0 where
   pub places : List (Option Translation)
   pub hand : ℕ
   pub frames : ℕ
@@ -104,14 +104,14 @@ abbrev pub is_full : List (Option Translation) → Bool
 is_full places = list_all (λ o. is_some o) places
 
 -- the translation that gives way to a load: that of the same page, else in a full pool the one that the hand is at
-abbrev pub dropped_by_load : Pool → ℕ → ℕ → Option Translation
+abbrev pub dropped_by_load : HatSeen → ℕ → ℕ → Option Translation
 dropped_by_load pool space page =
     if is_some (translation_at pool.places space page) then translation_at pool.places space page
     else if is_full pool.places then slice_index_or pool.places pool.hand None
     else None
 
 -- the hand moves on where a full pool steals, from the last place to place 0
-abbrev pub hand_after : Pool → ℕ → ℕ → ℕ
+abbrev pub hand_after : HatSeen → ℕ → ℕ → ℕ
 hand_after pool space page =
     if is_some (translation_at pool.places space page) then pool.hand
     else if is_full pool.places then (if pool.hand + 1 == length pool.places then 0 else pool.hand + 1)

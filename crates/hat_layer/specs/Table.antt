@@ -1,7 +1,7 @@
 -- The pool with its two indexes. Inside: no public clause cites this.
 use Rattle.std.specs.Prelude.{◌≡◌, ◌≢◌, ℕ, ◌<◌, true, false, List, Option, Some, None, map, length, slice_index_or}
 use Rattle.hat_layer.specs.declared.translation.Translation.{Translation}
-use Rattle.hash_chains.specs.Order.{ChainOrder, HaveOwners}
+use Rattle.hash_chains.specs.Order.{ChainsSeen, HaveOwners}
 use Rattle.hash_chains.specs.Slots.{pair_slot}
 use Rattle.hat_layer.specs.Pool.{holds, is_of, frame_of, IsSingleValued}
 
@@ -38,7 +38,7 @@ pub record SameName (old new : Translation) : Type 0 where
   pub frame : new.frame ≡ old.frame
 
 -- the indexes fit the places: a chain for each slot, one for each frame
-pub record IsSoundTable (places : List (Option Translation)) (slots : ℕ) (by_page by_frame : ChainOrder) : Type 0 where
+pub record IsSoundTable (places : List (Option Translation)) (slots : ℕ) (by_page by_frame : ChainsSeen) : Type 0 where
   pub some : 0 < slots
   pub slots_are : length by_page.order ≡ slots
   pub page_size : by_page.size ≡ length places

@@ -1,6 +1,6 @@
 //! The translations of all spaces: a map that only forgets.
 ghost use Rattle.std.specs.Prelude.{◌≡◌, ◌≢◌, ◌↔◌, ℕ, ◌+◌, ◌<◌, ◌≤◌, ◌==◌, ◌&&◌, ◌^◌, [], ◌∷◌, ◌++◌, length, replicate, true, false, Option, Some, None, IfOk, IsTrue, IsSomeAnd, IfSome, IfNone, slice_set, slice_index_or, if◌then◌else◌, option_map, vec_len, vec_capacity};
-ghost use Rattle.hat_layer.specs.Pool.{Pool, IsSingleValued, IsNoted, SomeHas, is_of, holds, frame_of, frame_for, translation_at, told_of, fresh_translation, lets_access, after_access, without_write, with_clear_bits, change_page, drop_page, change_lead, drop_lead, change_at, drop_at, change_frame, drop_frame, bits_of, dropped_by_load, hand_after};
+ghost use Rattle.hat_layer.specs.Pool.{HatSeen, IsSingleValued, IsNoted, SomeHas, is_of, holds, frame_of, frame_for, translation_at, told_of, fresh_translation, lets_access, after_access, without_write, with_clear_bits, change_page, drop_page, change_lead, drop_lead, change_at, drop_at, change_frame, drop_frame, bits_of, dropped_by_load, hand_after};
 ghost use Rattle.hat_layer.specs.Free.{IsSoundHat, TakesPlace, countdown};
 
 use crate::table::TranslationTable;
@@ -23,10 +23,10 @@ pub struct Hat {
 
 impl Model for Hat {
     ghost use Rattle.std.specs.Prelude.{◌≡◌, length, vec_capacity};
-    ghost use Rattle.hat_layer.specs.Pool.{Pool};
+    ghost use Rattle.hat_layer.specs.Pool.{HatSeen};
     ghost use Rattle.hat_layer.specs.Free.{IsSoundHat};
 
-    ghost Value = { Pool };
+    ghost Value = { HatSeen };
 
     ghost view = { λ h. record { places = h.table.places; hand = h.hand; frames = h.table.frames } };
 

@@ -14,7 +14,7 @@ use Rattle.std.proofs.Common.{eq-eqb, ne_eqb}
 use Rattle.kernel_lock.specs.declared.board.View.{View}
 use Rattle.kernel_lock.specs.declared.board.SeatPart.{SeatPart}
 use Rattle.kernel_lock.specs.Laws.{Keeps, Grows}
-use Rattle.kernel_lock.specs.Rule.{Lock, Knows, HasPart, Each, goes_in, with_refused_try, writes, goes_out, known_of, TakesTurn, MakesKnown, ReleasesTurn}
+use Rattle.kernel_lock.specs.Rule.{Lock, Knows, HasPart, Each, view_inside, with_refused_try, view_made_known, view_outside, known_of, TakesTurn, MakesKnown, ReleasesTurn}
 use Rattle.kernel_lock.specs.Seats.{IsEntered, entries_by}
 use Rattle.kernel_lock.proofs.Begun.{prefix_self, prefix_more, each_imp, unchanged_by, set_at, each_set, set_only, at_below}
 
@@ -33,7 +33,7 @@ module _ {S E N : Type 0} (seat_of : E → ℕ) (history : S → List E) (fits :
 
   -- the taker holds the turn, and its view names the state
   taken : (s : St) (r : Rule s) (id : ℕ) (v : V) → get_elem? s.views id ≡ some v → v.seated ≡ true → turn s ≡ 0
-      → Rule (stepped s 0 (v.number + 1) id [] (goes_in v r.core) (takes 0 (Some r.core)))
+      → Rule (stepped s 0 (v.number + 1) id [] (view_inside v r.core) (takes 0 (Some r.core)))
   taken s r id v at seated free =
       let k = r.each id v at in
       let two = r.two in
@@ -49,8 +49,8 @@ module _ {S E N : Type 0} (seat_of : E → ℕ) (history : S → List E) (fits :
         sized = r.sized;
         counted = get_or-set_other s.words 0 1 (v.number + 1) 0 (λ e. omega (arith, e)) ∙ r.counted;
         home = λ z. absurd (omega (arith, z, now));
-        held = λ _. (goes_in v r.core, set_at s.views id v (goes_in v r.core) at, refl);
-        each = each_set (Knows seat_of history opening seats r.core r.notes r.owner (get_or (set s.words 0 (v.number + 1)) 0 0) id) s.views id (goes_in v r.core)
+        held = λ _. (view_inside v r.core, set_at s.views id v (view_inside v r.core) at, refl);
+        each = each_set (Knows seat_of history opening seats r.core r.notes r.owner (get_or (set s.words 0 (v.number + 1)) 0 0) id) s.views id (view_inside v r.core)
             record { opened = k.opened; begun = k.begun; begun_olds = k.begun_olds; mine = k.mine; told = k.told; theirs = k.theirs; fresh = k.fresh; within = λ _. (seated, now, refl, refl) }
             (λ j u ne e. let o = r.each j u e in record {
               opened = o.opened;
@@ -122,10 +122,10 @@ module _ {S E N : Type 0} (seat_of : E → ℕ) (history : S → List E) (fits :
       go : Allows Rule slots id (v, []) 0 (λ r. either (eqb r 0) (n + 1) r) (TakesTurn seat_of history fits (step slots 0 0 (n + 1) none) (v, []))
       go s r wide at bound = dite (ℕ_discrete (turn s) 0)
           (λ free. let new : either (eqb (turn s) 0) (n + 1) (turn s) ≡ v.number + 1 = rw (eq-eqb (turn s) 0 free) (ap (λ z. z + 1) (sym named)) in (
-            goes_in v r.core,
+            view_inside v r.core,
             takes 0 (Some r.core),
             ap (λ hs. get_elem? hs 0) (r.home free),
-            subst (λ z. Rule (stepped s 0 z id [] (goes_in v r.core) (takes 0 (Some r.core)))) (sym new) (taken s r id v at seated free),
+            subst (λ z. Rule (stepped s 0 z id [] (view_inside v r.core) (takes 0 (Some r.core)))) (sym new) (taken s r id v at seated free),
             ((λ _. (r.core, refl, promised s r id v at seated)), (λ ne. absurd (ne free))),
           ))
           (λ busy. let same : either (eqb (turn s) 0) (n + 1) (turn s) ≡ turn s = rw (ne_eqb (turn s) 0 busy) refl in (
@@ -153,7 +153,7 @@ module _ {S E N : Type 0} (seat_of : E → ℕ) (history : S → List E) (fits :
   -- the holder makes its move known: from here on the state is t
   moved : (s : State (Option S) V2) (r : Lock seat_of history fits opening seats s) (id n : ℕ) (v : V2) (cs : List (ℕ × Option S)) (t : S) (m : Option N) → get_elem? s.views id ≡ some v → v.inside ≡ true
       → v.others ≡ [] → v.deals ≡ false → ((b : S) × (v.state ≡ Some b) × moves v.number b v.note t m) → n ≡ length (history t)
-      → Lock seat_of history fits opening seats (stepped s 1 n id cs (writes seat_of history v t m) keeps)
+      → Lock seat_of history fits opening seats (stepped s 1 n id cs (view_made_known seat_of history v t m) keeps)
   moved s r id n v cs t m at inside alone dealt move long =
       let k = r.each id v at in
       let within = k.within inside in
@@ -162,7 +162,7 @@ module _ {S E N : Type 0} (seat_of : E → ℕ) (history : S → List E) (fits :
       let went : moves v.number r.core v.note t m = subst (λ b. moves v.number b v.note t m) same move.2 in
       let grown = more opening r.core t r.notes v.number v.note m r.fitting mine.0 went in
       let two = r.two in
-      let w : V2 = writes seat_of history v t m in
+      let w : V2 = view_made_known seat_of history v t m in
       let first : get_or (set s.words 1 n) 0 0 ≡ get_or s.words 0 0 = get_or-set_other s.words 1 0 n 0 (λ e. omega (arith, e)) in
       let begin : (xs : List E) → IsPrefix xs (history r.core) → IsPrefix xs (history t) = λ xs p. subst (IsPrefix xs) (sym grown.1) (prefix_more xs (history r.core) grown.0 p) in
       let stays = part_stays r.core t r.notes r.owner v.number m grown.0 grown.1 grown.2 in
@@ -209,11 +209,11 @@ module _ {S E N : Type 0} (seat_of : E → ℕ) (history : S → List E) (fits :
       → ((b : S) × (v.state ≡ Some b) × moves v.number b v.note t m) → n ≡ length (history t) → said ≡ Some t → note ≡ m
       → Allows (Lock seat_of history fits opening seats) slots id (v, cs) 1 (λ _. n) (λ _. MakesKnown seat_of history said note (step slots 1 n 0 none) (v, cs) n)
   writes_down slots id n v cs said told t m inside alone dealt move long is noted s r wide at bound = (
-    writes seat_of history v t m,
+    view_made_known seat_of history v t m,
     keeps,
     tt,
     moved s r id n v cs t m at inside alone dealt move long,
-    λ u e. let same : u ≡ t = cc (e, is) in λ i. (writes seat_of history v (sym same i) (sym noted i), cs),
+    λ u e. let same : u ≡ t = cc (e, is) in λ i. (view_made_known seat_of history v (sym same i) (sym noted i), cs),
   )
 
 module _ {S E N : Type 0} (seat_of : E → ℕ) (history : S → List E) (fits : S → S → List (Option N) → Type 0) (opening : S) (seats : ℕ) where
@@ -222,7 +222,7 @@ module _ {S E N : Type 0} (seat_of : E → ℕ) (history : S → List E) (fits :
 
   -- the holder gives the state back
   gave : (s : State (Option S) V3) (r : Lock seat_of history fits opening seats s) (id : ℕ) (v : V3) (t : S) → get_elem? s.views id ≡ some v → v.inside ≡ true → v.state ≡ Some t
-      → Lock seat_of history fits opening seats (stepped s 0 0 id ((0, Some t) ∷ []) (goes_out v) gives)
+      → Lock seat_of history fits opening seats (stepped s 0 0 id ((0, Some t) ∷ []) (view_outside v) gives)
   gave s r id v t at inside kept =
       let k = r.each id v at in
       let within = k.within inside in
@@ -241,7 +241,7 @@ module _ {S E N : Type 0} (seat_of : E → ℕ) (history : S → List E) (fits :
         counted = get_or-set_other s.words 0 1 0 0 (λ e. omega (arith, e)) ∙ r.counted;
         home = λ _. set_only s.homes (some (Some t)) r.one ∙ ap (λ z. some (Some z) ∷ []) same;
         held = λ ne. absurd (ne now);
-        each = each_set (Knows seat_of history opening seats r.core r.notes r.owner (get_or (set s.words 0 0) 0 0) r.holder) s.views id (goes_out v)
+        each = each_set (Knows seat_of history opening seats r.core r.notes r.owner (get_or (set s.words 0 0) 0 0) r.holder) s.views id (view_outside v)
             record { opened = k.opened; begun = k.begun; begun_olds = k.begun_olds; mine = k.mine; told = k.told; theirs = k.theirs; fresh = k.fresh; within = λ e. absurd (cc e) }
             (λ j u ne e. let o = r.each j u e in record {
               opened = o.opened;
@@ -258,7 +258,7 @@ module _ {S E N : Type 0} (seat_of : E → ℕ) (history : S → List E) (fits :
   pub gives_back : (slots id : ℕ) (v : V3) (cs : List (ℕ × Option S)) (t : S) → v.inside ≡ true → v.state ≡ Some t → cs ≡ (0, Some t) ∷ []
       → Allows (Lock seat_of history fits opening seats) slots id (v, cs) 0 (λ _. 0) (λ _. ReleasesTurn (step slots 0 0 0 none) (v, cs) 0)
   gives_back slots id v cs t inside kept has = subst (λ c. Allows (Lock seat_of history fits opening seats) slots id (v, c) 0 (λ _. 0) (λ _. ReleasesTurn (step slots 0 0 0 none) (v, c) 0)) (sym has)
-      (λ s r wide at bound. (goes_out v, gives, tt, gave s r id v t at inside kept, refl))
+      (λ s r wide at bound. (view_outside v, gives, tt, gave s r id v t at inside kept, refl))
 
 -- the one slot that is held
 pub one_hand : {A : Type 0} (l : List (ℕ × A)) (x : ℕ × A) → l ≡ x ∷ [] → l ≡ x ∷ rest l

@@ -58,14 +58,14 @@ module _ {S E N : Type 0} where
   abbrev pub gatherer_of : List (SeatPart E N) → View S E N
   gatherer_of ps = record blank_view { others = ps }
 
-  abbrev pub goes_in : View S E N → S → View S E N
-  goes_in v s = record v { inside = true; state = Some s }
+  abbrev pub view_inside : View S E N → S → View S E N
+  view_inside v s = record v { inside = true; state = Some s }
 
   abbrev pub with_refused_try : View S E N → ℕ → View S E N
   with_refused_try v k = record v { refused = v.refused + 1; refused_by = Some k }
 
-  abbrev pub goes_out : View S E N → View S E N
-  goes_out v = record v { inside = false }
+  abbrev pub view_outside : View S E N → View S E N
+  view_outside v = record v { inside = false }
 
   -- A seat of the lock as contracts see it.
   abbrev pub seat_view : TableId → View S E N → SeatView S E N
@@ -77,8 +77,8 @@ module _ {S E N : Type 0} where
 
 module _ {S E N : Type 0} (seat_of : E → ℕ) (history : S → List E) where
   -- The view after the state t and the note n are made known. The seat is still inside.
-  abbrev pub writes : View S E N → S → Option N → View S E N
-  writes v t n = record v {
+  abbrev pub view_made_known : View S E N → S → Option N → View S E N
+  view_made_known v t n = record v {
     state = Some t;
     note = n;
     own = entries_by seat_of v.number (history t);
@@ -122,17 +122,17 @@ module _ {S E N : Type 0} (seat_of : E → ℕ) (history : S → List E) (fits :
   -- Taking the turn: where nobody had it, the seat is inside, has the slot with the state in it, and the state is as is promised to whoever enters. Otherwise the turn word named another seat, and one more try is refused.
   abbrev pub TakesTurn : Step (Option S) → Me (Option S) (View S E N) → ℕ → Me (Option S) (View S E N) → Type 0
   TakesTurn st m r m' =
-      (r ≡ 0 → (s : S) × (m' ≡ (goes_in m.0 s, (0, Some s) ∷ [])) × ((o : S) → m.0.opening ≡ Some o → IsEntered seat_of history fits o m.0.seats (known_of m.0) s))
+      (r ≡ 0 → (s : S) × (m' ≡ (view_inside m.0 s, (0, Some s) ∷ [])) × ((o : S) → m.0.opening ≡ Some o → IsEntered seat_of history fits o m.0.seats (known_of m.0) s))
       × (r ≢ 0 → (k : ℕ) × (r ≡ k + 1) × (k ≢ m.0.number) × ((o : S) → m.0.opening ≡ Some o → k < m.0.seats) × (m' ≡ (with_refused_try m.0 k, [])))
 
 module _ {S E N : Type 0} where
   -- Making known: the view has the state and the note that are said.
   abbrev pub MakesKnown : (E → ℕ) → (S → List E) → Option S → Option N → Step (Option S) → Me (Option S) (View S E N) → ℕ → Me (Option S) (View S E N) → Type 0
-  MakesKnown seat_of history said n st m r m' = (t : S) → said ≡ Some t → m' ≡ (writes seat_of history m.0 t n, m.1)
+  MakesKnown seat_of history said n st m r m' = (t : S) → said ≡ Some t → m' ≡ (view_made_known seat_of history m.0 t n, m.1)
 
   -- Releasing: the seat is outside and has no slot.
   abbrev pub ReleasesTurn : Step (Option S) → Me (Option S) (View S E N) → ℕ → Me (Option S) (View S E N) → Type 0
-  ReleasesTurn st m r m' = m' ≡ (goes_out m.0, [])
+  ReleasesTurn st m r m' = m' ≡ (view_outside m.0, [])
 
   -- Looking: a history as long as the word says begins with what the seat had seen and with each old one that a join left it. What it has seen has of its entries just those that it made.
   abbrev pub LooksAtLength : (E → ℕ) → Step (Option S) → Me (Option S) (View S E N) → ℕ → Me (Option S) (View S E N) → Type 0

@@ -1,7 +1,7 @@
 //! The lock: taking the turn, leaving a new state, and telling another seat.
 ghost use Rattle.std.specs.Prelude.{◌≡◌, ◌≢◌, ◌<◌, ℕ, true, false, [], Option, Some, IfSome, IfNone};
 ghost use mathlib.Core.List.{IsPrefix};
-ghost use Rattle.kernel_lock.specs.Rule.{writes};
+ghost use Rattle.kernel_lock.specs.Rule.{view_made_known};
 ghost use Rattle.kernel_lock.specs.Seats.{IsSeatOf, part_of, after_enter, after_refusal, HasTried, after_leave, entries_by, IsEntered};
 
 use crate::bell::Bell;
@@ -100,7 +100,7 @@ impl<S: Guarded> KernelLock<S> {
         //
         ensures lock { (place.new.table_id ≡ place.old.table_id) × (place.new.id ≡ place.old.id) }
         ensures written { place.new.me ≡ (
-          writes S.seat_of S.history place.old.me.0 state.now
+          view_made_known S.seat_of S.history place.old.me.0 state.now
               (S.note_of held.now),
           place.old.me.1,
         ) }

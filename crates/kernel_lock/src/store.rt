@@ -39,9 +39,9 @@ impl<D: Disk> Model for Store<D> {
 }
 
 impl<D: Disk> Guarded for Store<D> {
+    ghost use Rattle.kernel_lock.specs.Tally.{seat_named};
     ghost use Rattle.kernel_lock.specs.Store.{
-      seat_named,
-      entries,
+      store_entries,
       note_of_disk,
       FitsStore,
       MovesStore,
@@ -57,7 +57,7 @@ impl<D: Disk> Guarded for Store<D> {
 
     ghost seat_of = { seat_named };
 
-    ghost history = { entries };
+    ghost history = { store_entries };
 
     ghost note_of = { note_of_disk D.count };
 

@@ -8,7 +8,7 @@ use Rattle.vm_types.specs.declared.call.Kind.TheVariants.{Shared, Private}
 use Rattle.addr_space.specs.Space.{Part, piece_at, part_at}
 use Rattle.addr_space.proofs.PageLaws.{shows}
 use Rattle.flat_model.specs.Flat.{Cell, Space, slots_for}
-use Rattle.flat_model.specs.Space.{in_range, without_range}
+use Rattle.flat_model.specs.Space.{is_in_range, without_range}
 use Rattle.flat_model.specs.Words.{Page}
 use Rattle.flat_model.proofs.Ranges.{same_space, get-without_range, get-remove_here, get-remove_apart, in_range-is, in_range-low, in_range-high, insert_same}
 use Rattle.flat_model.proofs.Sums.{total, total-remove}
@@ -95,10 +95,10 @@ range-next s first n = same_space _ _ (λ q. get-without_range s first (suc n) q
       ∙ sym (get-remove_apart (without_range s first n) (first + n) q ne)
 ])
   where
-    same-range : (first n q : ℕ) → (q ≡ first + n → ⊥) → in_range first (suc n) q ≡ in_range first n q
-    same-range first n q ne = either (in_range first n q) (in_range first (suc n) q) refl refl
+    same-range : (first n q : ℕ) → (q ≡ first + n → ⊥) → is_in_range first (suc n) q ≡ is_in_range first n q
+    same-range first n q ne = either (is_in_range first n q) (is_in_range first (suc n) q) refl refl
       where
-        either : (a b : Bool) → in_range first n q ≡ a → in_range first (suc n) q ≡ b → b ≡ a
+        either : (a b : Bool) → is_in_range first n q ≡ a → is_in_range first (suc n) q ≡ b → b ≡ a
         either true true x y = refl
         either false false x y = refl
         either true false x y = let low = in_range-low first n q x in let high = in_range-high first n q x in sym (sym (in_range-is first (suc n) q low (omega arith)) ∙ y)
@@ -108,20 +108,20 @@ range-next s first n = same_space _ _ (λ q. get-without_range s first (suc n) q
             sym (in_range-is first n q low (omega (arith, ne))) ∙ x
 
 outside : (s : Space) (first n : ℕ) → finite.get (without_range s first n) (first + n) ≡ finite.get s (first + n)
-outside s first n = get-without_range s first n (first + n) ∙ by_test (in_range first n (first + n)) refl
+outside s first n = get-without_range s first n (first + n) ∙ by_test (is_in_range first n (first + n)) refl
   where
-    by_test : (b : Bool) → in_range first n (first + n) ≡ b → cond b None (finite.get s (first + n)) ≡ finite.get s (first + n)
+    by_test : (b : Bool) → is_in_range first n (first + n) ≡ b → cond b None (finite.get s (first + n)) ≡ finite.get s (first + n)
     by_test false is = refl
     by_test true is = absurd (let high = in_range-high first n (first + n) is in omega arith)
 
 -- WHAT IS LEFT of a space without a range, and what its pages have, is all
 left-total : (f : Cell → ℕ) (s : Space) (first n : ℕ) → total f (without_range s first n) + sum_at (λ q. at_cell f (finite.get s q)) first n ≡ total f s
 left-total f s first zero =
-    let same : without_range s first zero ≡ s = same_space _ _ (λ q. get-without_range s first zero q ∙ none q (in_range first zero q) refl) in
+    let same : without_range s first zero ≡ s = same_space _ _ (λ q. get-without_range s first zero q ∙ none q (is_in_range first zero q) refl) in
     let e = ap (total f) same in
     omega (arith, e)
   where
-    none : (q : ℕ) (b : Bool) → in_range first zero q ≡ b → cond b None (finite.get s q) ≡ finite.get s q
+    none : (q : ℕ) (b : Bool) → is_in_range first zero q ≡ b → cond b None (finite.get s q) ≡ finite.get s q
     none q false is = refl
     none q true is = absurd (let low = in_range-low first zero q is in let high = in_range-high first zero q is in omega arith)
 left-total f s first (suc n) =

@@ -11,7 +11,7 @@ use Rattle.addr_space.specs.Space.{Part, IsInOrder, has, piece_at, part_at}
 use Rattle.addr_space.proofs.PageLaws.{shows}
 use Rattle.addr_space.proofs.PartLemmas.{has-in, has-within, at-here, at-next, none-below}
 use Rattle.anon_map.specs.Maps.{Map, holders_of}
-use Rattle.flat_model.specs.Space.{in_range}
+use Rattle.flat_model.specs.Space.{is_in_range}
 use Rattle.flat_model.proofs.Ranges.{in_range-is, get-remove_here, get-remove_apart}
 use Rattle.flat_model.proofs.Reserve.{same_tests}
 use Rattle.vm_world.specs.CountsFit.{SegmentFits, ShowsZero, ObjectFits, is_number, times_had}
@@ -37,7 +37,7 @@ pub record IsShownOutside (spaces : Spaces) (p first n z number : ℕ) : Type 0 
   pub spot : Spot
   pub here : spot_at spaces process page ≡ Some spot
   pub shows : zero_map spot.0 ≡ Some (z, number)
-  pub outside : process ≡ p → in_range first n page ≡ false
+  pub outside : process ≡ p → is_in_range first n page ≡ false
 
 -- no parts add up to anything
 none-in-all : (g : Part Segment → ℕ) (spaces : Spaces) → ((q : ℕ) (ps : List (Part Segment)) → finite.get spaces q ≡ Some ps → sum_by g ps ≡ 0) → all_parts g spaces ≡ 0
@@ -113,7 +113,7 @@ none-beside z number t out miss low (a ∷ ps) order all none =
         absurd (none m.page (a.piece, m.page - a.first) (shows (a ∷ ps) m.page (Some a) (at-here a ps m.page (has-in a m.page m.low m.high))) (fit.map (number-is number a.piece.shown d)) m.past)
 
 -- a part that doesn't lie in a range has a page outside
-miss-range : (first n : ℕ) (a : Part Segment) → 0 < a.pages → lies_within first (first + n) a ≡ false → Page a (λ k. not (in_range first n k))
+miss-range : (first n : ℕ) (a : Part Segment) → 0 < a.pages → lies_within first (first + n) a ≡ false → Page a (λ k. not (is_in_range first n k))
 miss-range first n a some apart = elim (cases_lt a.first first) [
   | inl before ↦ record { page = a.first; low = omega arith; high = omega (arith, some); past = ap not (and_left (nat_le first a.first) (nat_lt a.first (first + n)) (lt-leb first a.first before)) }
   | inr inside ↦ elim (cases_lt (first + n) (a.first + a.pages)) [
@@ -131,7 +131,7 @@ miss-range first n a some apart = elim (cases_lt a.first first) [
 ]
 
 -- a part of a page outside doesn't lie in the range
-outside-part : (first n q : ℕ) (a : Part Segment) → a.first ≤ q → q < a.first + a.pages → in_range first n q ≡ false → lies_within first (first + n) a ≡ false
+outside-part : (first n q : ℕ) (a : Part Segment) → a.first ≤ q → q < a.first + a.pages → is_in_range first n q ≡ false → lies_within first (first + n) a ≡ false
 outside-part first n q a low high out = elim (cases_Bool (lies_within first (first + n) a)) [
   | inr f ↦ f
   | inl t ↦ absurd (
@@ -224,8 +224,8 @@ module _ (m : Memory) (fits : MemoryFits m) (p : ℕ) (parts : List (Part Segmen
   -- ONE THAT ISN'T has no more
   pub outside-none : (IsShownOutside m.spaces p first n z number → ⊥) → shown_within parts first (first + n) z ≡ holders_of m.world.maps number
   outside-none none =
-      let mine = none-beside z number (lies_within first (first + n)) (λ k. not (in_range first n k)) (miss-range first n) 1 parts (fits.segments.ordered p parts here) (all-fit p parts here)
-      (λ k x at shows out. none (record { process = p; page = k; spot = x; here = ap (option_and_then (λ (ps : List (Part Segment)). piece_at ps k)) here ∙ at; shows = shows; outside = λ same. not-true (in_range first n k) out })) in
+      let mine = none-beside z number (lies_within first (first + n)) (λ k. not (is_in_range first n k)) (miss-range first n) 1 parts (fits.segments.ordered p parts here) (all-fit p parts here)
+      (λ k x at shows out. none (record { process = p; page = k; spot = x; here = ap (option_and_then (λ (ps : List (Part Segment)). piece_at ps k)) here ∙ at; shows = shows; outside = λ same. not-true (is_in_range first n k) out })) in
       let others = none-in-all (shown_had number) (finite.remove m.spaces p) (λ q ps there. other q ps there (cases_eq q p)) in
       let c = counted in
       omega (arith, mine, others, c)

@@ -6,7 +6,7 @@ use Rattle.std.specs.FinSet as set
 use Rattle.std.specs.Ordering.{nat_cmp}
 use Rattle.std.specs.Cmp.{nat_cmp_total}
 use Rattle.std.proofs.lemmas.Bool.{ltb-true, leb-true, cases_eq}
-use Rattle.addr_space.specs.Space.{Part, part, piece_at, part_at, put, LiesFrom}
+use Rattle.addr_space.specs.Space.{Part, part, piece_at, part_at, with_new_part, LiesFrom}
 use Rattle.anon_map.specs.Maps.{Map, IsMapThere, IsUnused, holders_of, places_of}
 use Rattle.page_store.specs.Notes.{Notes}
 use Rattle.vnode_files.specs.Files.{FilesSeen}
@@ -24,8 +24,8 @@ use Rattle.flat_model.specs.Access.{with_space}
 use Rattle.flat_model.specs.Flat.{Flat, without_unnamed}
 use Rattle.flat_model.specs.Mapping.{is_valid, cells_of, new_number, object_for, own_for, prot_read_write, with_object, without_pages, with_mapping}
 use Rattle.flat_model.specs.Refusals.{or_refused}
-use Rattle.flat_model.specs.Space.{in_range, without_range, with_cells}
-use Rattle.flat_model.specs.Step.{effect, bit, IsDue, after_act}
+use Rattle.flat_model.specs.Space.{is_in_range, without_range, with_cells}
+use Rattle.flat_model.specs.Step.{effect, is_bit_set, IsDue, after_act}
 use Rattle.flat_model.specs.Words.{page, pages_in}
 use Rattle.flat_model.proofs.Reserve.{some_pages}
 use Rattle.flat_model.proofs.Ranges.{in_range-is, get-insert, get-insert_here, get-insert_apart}
@@ -142,7 +142,7 @@ none-part ps q is = by_part (part_at ps q) refl is
     by_part None e is = e
     by_part (Some p) e is = absurd (let y : Spot = (p.piece, q - p.first) in let z : Some y ≡ None = is in cc)
 
-pub range-free : (cut left : List (Part Segment)) (first n : ℕ) → ((k : ℕ) → piece_at left k ≡ cond (in_range first n k) None (piece_at cut k)) → (k : ℕ) → first ≤ k → k < first + n → part_at left k ≡ None
+pub range-free : (cut left : List (Part Segment)) (first n : ℕ) → ((k : ℕ) → piece_at left k ≡ cond (is_in_range first n k) None (piece_at cut k)) → (k : ℕ) → first ≤ k → k < first + n → part_at left k ≡ None
 range-free cut left first n clear k low high =
     none-part left k (clear k ∙ ap (λ (b : Bool). cond b None (piece_at cut k)) (in_range-is first n k low high))
 
@@ -281,7 +281,7 @@ module _ (m : Memory) (p : ℕ) (parts cut left : List (Part Segment)) (zeros th
     (clears : (s : Spaces) → SpaceFits (record w { maps = maps_held w.maps held }) then s p cut
     → ChangesSpace p (record { world = record w { maps = maps_held w.maps held }; spaces = s }) (record { world = x; spaces = finite.insert s p left }) after (λ F. without_pages F p (page q.addr) (pages_in q.length)))
     (gives : GivesBack (record w { maps = maps_held w.maps held }) x)
-    (pages : (k : ℕ) → piece_at left k ≡ cond (in_range (page q.addr) (pages_in q.length) k) None (piece_at cut k)) where
+    (pages : (k : ℕ) → piece_at left k ≡ cond (is_in_range (page q.addr) (pages_in q.length) k) None (piece_at cut k)) where
   abbrev first : ℕ
   first = page q.addr
 
@@ -301,7 +301,7 @@ module _ (m : Memory) (p : ℕ) (parts cut left : List (Part Segment)) (zeros th
   cleared-if s S fit is = record {
     fits = fit;
     spaces = is;
-    looks = λ k. ap (option_map kind_and_object) (pages k) ∙ cut-map kind_and_object (in_range first n k) (piece_at cut k) ∙ ap (cond (in_range first n k) None) (looks k);
+    looks = λ k. ap (option_map kind_and_object) (pages k) ∙ cut-map kind_and_object (is_in_range first n k) (piece_at cut k) ∙ ap (cond (is_in_range first n k) None) (looks k);
     lengths = λ z k is there. gives.lengths k there ∙ ap (λ (ps : List (Option ℕ)). length ps) (held-places w.maps held k (listed-there z k is)).1 ∙ lengths z k is;
   }
 
@@ -375,7 +375,7 @@ module _ (m : Memory) (p : ℕ) (parts cut left : List (Part Segment)) (zeros th
 
   -- what is to be shown, for these anon maps
   abbrev pub Goal : Anons → List (Option Map) → List (Option ℕ) → Type 0
-  Goal a maps now = ChangesSpace p m (record { world = record x { anon = record x.anon { reserved = x.anon.reserved + slots_for_pages q.kind q.object n }; maps = maps }; spaces = finite.insert m.spaces p (put (new_part m.world q a) left) }) now (λ F. with_mapping F p (map_request q) first)
+  Goal a maps now = ChangesSpace p m (record { world = record x { anon = record x.anon { reserved = x.anon.reserved + slots_for_pages q.kind q.object n }; maps = maps }; spaces = finite.insert m.spaces p (with_new_part (new_part m.world q a) left) }) now (λ F. with_mapping F p (map_request q) first)
 
   -- A FILE, or private new zero memory
   plain : (own : Option ℕ) → held ≡ None → IsOld q.kind q.object → ((z : ℕ) → q.object ≡ object.Zero z → ⊥) → IsOwnNew x.maps (new_piece m.world q (record { object = q.object; own = own; shown = None })) q.kind
@@ -393,9 +393,9 @@ module _ (m : Memory) (p : ℕ) (parts cut left : List (Part Segment)) (zeros th
       let all = changes-as p m l (with_part_come l p left y) (λ F. without_pages F p first n) (λ F. with_new_cells F p first n (segment_cell s)) (λ F. with_mapping F p (map_request q) first) c.changes (segment_rule.put l p left y c.changes.memory here may)
       (λ born notes e. cells-after-pages (flat_memory m born notes) p first n (segment_cell s) (λ i z names. absurd (unnamed z (zero-of q.object z names))) ∙ mapped-old m p q zeros there born notes own None old) in
       record {
-        changes = subst (λ (t : Spaces). ChangesSegments p m (record { world = record x { anon = record x.anon { reserved = x.anon.reserved + slots_for_pages q.kind q.object n }; maps = maps_made x.maps own n }; spaces = t }) (λ F. with_mapping F p (map_request q) first)) (insert-twice m.spaces p left (put y left))
-            (subst (λ (k : ℕ). ChangesSegments p m (record { world = record x { anon = record x.anon { reserved = x.anon.reserved + k }; maps = maps_made x.maps own n }; spaces = finite.insert (finite.insert m.spaces p left) p (put y left) }) (λ F. with_mapping F p (map_request q) first)) slots all);
-        known = subst (λ (t : Spaces). KnowsZeros after t) (insert-twice m.spaces p left (put y left)) (known-come l p left y after c.changes.memory here may c.known);
+        changes = subst (λ (t : Spaces). ChangesSegments p m (record { world = record x { anon = record x.anon { reserved = x.anon.reserved + slots_for_pages q.kind q.object n }; maps = maps_made x.maps own n }; spaces = t }) (λ F. with_mapping F p (map_request q) first)) (insert-twice m.spaces p left (with_new_part y left))
+            (subst (λ (k : ℕ). ChangesSegments p m (record { world = record x { anon = record x.anon { reserved = x.anon.reserved + k }; maps = maps_made x.maps own n }; spaces = finite.insert (finite.insert m.spaces p left) p (with_new_part y left) }) (λ F. with_mapping F p (map_request q) first)) slots all);
+        known = subst (λ (t : Spaces). KnowsZeros after t) (insert-twice m.spaces p left (with_new_part y left)) (known-come l p left y after c.changes.memory here may c.known);
       }
     where
       zero-named : (o : Object) (z k : ℕ) → (elim o as (λ _. Option (ℕ × ℕ)) [ object.Zero z ↦ None | object.File f ↦ None | object.NewZero ↦ None ]) ≡ Some (z, k) → o ≡ object.Zero z
@@ -429,9 +429,9 @@ module _ (m : Memory) (p : ℕ) (parts cut left : List (Part Segment)) (zeros th
       ∙ mapped-new m p q zeros there born notes z None (Some number) kind new (sym (segment_cells.number l born notes z c.changes.memory unnamed (known-below after l.spaces z c.known free)) ∙ ap new_number e)) in
       record {
         changes = subst (λ (t : Spaces). ChangesSegments p m (record { world = record x { anon = record x.anon { reserved = x.anon.reserved + slots_for_pages q.kind q.object n }; maps = maps_made x.maps (Some number) n }; spaces = t }) (λ F. with_mapping F p (map_request q) first))
-            (insert-twice m.spaces p left (put y left))
-            (subst (λ (k : ℕ). ChangesSegments p m (record { world = record x { anon = record x.anon { reserved = x.anon.reserved + k }; maps = maps_made x.maps (Some number) n }; spaces = finite.insert (finite.insert m.spaces p left) p (put y left) }) (λ F. with_mapping F p (map_request q) first)) slots all);
-        known = subst (λ (t : Spaces). KnowsZeros (slice_set after z (Some number)) t) (insert-twice m.spaces p left (put y left)) (known-made l p left y after z number c.changes.memory here may free c.known);
+            (insert-twice m.spaces p left (with_new_part y left))
+            (subst (λ (k : ℕ). ChangesSegments p m (record { world = record x { anon = record x.anon { reserved = x.anon.reserved + k }; maps = maps_made x.maps (Some number) n }; spaces = finite.insert (finite.insert m.spaces p left) p (with_new_part y left) }) (λ F. with_mapping F p (map_request q) first)) slots all);
+        known = subst (λ (t : Spaces). KnowsZeros (slice_set after z (Some number)) t) (insert-twice m.spaces p left (with_new_part y left)) (known-made l p left y after z number c.changes.memory here may free c.known);
       }
 
   -- A ZERO OBJECT BY NUMBER
@@ -449,13 +449,13 @@ module _ (m : Memory) (p : ℕ) (parts cut left : List (Part Segment)) (zeros th
       let alive : IsSome (finite.get mid.spaces p) = ap is_some mid-fits.here in
       let zero = mid-zero z k some is g.0 g.1 in
       let comes = held-comes mid p g.0 z k x left y mid-fits.memory alive g.1 zero c.changes (has-place a) names refl made enough in
-      let then : Memory = record { world = record x { anon = record x.anon { reserved = x.anon.reserved + slots_for_part y }; maps = maps_made x.maps own n }; spaces = finite.insert mid.spaces p (put y left) } in
+      let then : Memory = record { world = record x { anon = record x.anon { reserved = x.anon.reserved + slots_for_part y }; maps = maps_made x.maps own n }; spaces = finite.insert mid.spaces p (with_new_part y left) } in
       let all = changes-as p m mid then (λ F. F) (λ F. with_new_cells (with_space F p (without_range (cells_of F p) first n)) p first n (segment_cell s)) (λ F. with_mapping F p (map_request q) first) cuts.changes comes
       (λ born notes e. mapped-old m p q zeros there born notes own (Some k) old) in
       record {
-        changes = subst (λ (t : Spaces). ChangesSegments p m (record { world = record x { anon = record x.anon { reserved = x.anon.reserved + slots_for_pages q.kind q.object n }; maps = maps_made x.maps own n }; spaces = t }) (λ F. with_mapping F p (map_request q) first)) (insert-twice m.spaces p cut (put y left))
-            (subst (λ (j : ℕ). ChangesSegments p m (record { world = record x { anon = record x.anon { reserved = x.anon.reserved + j }; maps = maps_made x.maps own n }; spaces = finite.insert mid.spaces p (put y left) }) (λ F. with_mapping F p (map_request q) first)) slots all);
-        known = subst (λ (t : Spaces). KnowsZeros after t) (insert-twice m.spaces p cut (put y left)) (held-knows mid p g.0 z k x left y mid-fits.memory alive g.1 zero c.changes (has-place a) names refl made enough after c.known);
+        changes = subst (λ (t : Spaces). ChangesSegments p m (record { world = record x { anon = record x.anon { reserved = x.anon.reserved + slots_for_pages q.kind q.object n }; maps = maps_made x.maps own n }; spaces = t }) (λ F. with_mapping F p (map_request q) first)) (insert-twice m.spaces p cut (with_new_part y left))
+            (subst (λ (j : ℕ). ChangesSegments p m (record { world = record x { anon = record x.anon { reserved = x.anon.reserved + j }; maps = maps_made x.maps own n }; spaces = finite.insert mid.spaces p (with_new_part y left) }) (λ F. with_mapping F p (map_request q) first)) slots all);
+        known = subst (λ (t : Spaces). KnowsZeros after t) (insert-twice m.spaces p cut (with_new_part y left)) (held-knows mid p g.0 z k x left y mid-fits.memory alive g.1 zero c.changes (has-place a) names refl made enough after c.known);
       }
 
   abbrev piece_with : Option ℕ → Option ℕ → Segment
@@ -556,7 +556,7 @@ takes-none : (m : Memory) (pending : ℕ) → MemoryFits m → TakesFrames m m.w
 takes-none m pending fits = record {
   cut = λ name. false;
   step = keeps-same m.world m.spaces fits;
-  pends = record { bits = λ f lt. or-false (bit pending f); below = λ lt. lt };
+  pends = record { bits = λ f lt. or-false (is_bit_set pending f); below = λ lt. lt };
   took = λ name is. absurd (let z : false ≡ true = is in cc);
 }
 

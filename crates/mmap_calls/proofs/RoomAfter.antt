@@ -12,7 +12,7 @@ use Rattle.vm_types.specs.declared.call.Kind.TheVariants.{Shared, Private}
 use Rattle.vm_types.specs.declared.call.Object.{Object}
 use Rattle.vm_types.specs.declared.call.Object.TheVariants as object
 use Rattle.flat_model.specs.Flat.{slots_for}
-use Rattle.flat_model.specs.Space.{in_range, without_range}
+use Rattle.flat_model.specs.Space.{is_in_range, without_range}
 use Rattle.flat_model.specs.Words.{Page, page, pages_in}
 use Rattle.flat_model.proofs.Ranges.{get-insert_here, get-insert_apart, get-without_range}
 use Rattle.flat_model.proofs.Sums.{total, total-insert, sum_to}
@@ -53,7 +53,7 @@ pub record HoldsFor (m : Memory) (zeros : List (Option ℕ)) (o : Object) (p : �
 pub record IsCleared (m n : Memory) (zeros : List (Option ℕ)) (S : Spaces) (p : ℕ) (parts left : List (Part Segment)) (first pages : ℕ) : Type 0 where
   pub fits : MemoryFits n
   pub spaces : n.spaces ≡ finite.insert S p left
-  pub looks : (q : ℕ) → option_map kind_and_object (piece_at left q) ≡ cond (in_range first pages q) None (option_map kind_and_object (piece_at parts q))
+  pub looks : (q : ℕ) → option_map kind_and_object (piece_at left q) ≡ cond (is_in_range first pages q) None (option_map kind_and_object (piece_at parts q))
   pub lengths : (z number : ℕ) → slice_index_or zeros z None ≡ Some number → IsMapThere n.world.maps number → length (places_of n.world.maps number) ≡ length (places_of m.world.maps number)
 
 -- memory itself, where nothing is held
@@ -117,8 +117,8 @@ module _ (m n : Memory) (zeros : List (Option ℕ)) (o : Object) (S : Spaces) (p
       alike : (held : ℕ → ℕ → Option Page) → map_with slots_for (space_with held left) ≡ map_with slots_for (without_range (space_with held parts) first pages)
       alike held = finite.same_map nat_cmp_total finite.nat_cmp-IsAntisymmetric _ _ (λ q.
           get-map_with slots_for (space_with held left) q ∙ ap (option_map slots_for) (get-space_with held left q) ∙ looked-slots held (piece_at left q) ∙ ap (option_map slots_of) (cleared.looks q)
-          ∙ cut-map slots_of (in_range first pages q) (option_map kind_and_object (piece_at parts q)) ∙ ap (λ (x : Option ℕ). cond (in_range first pages q) None x) (sym (looked-slots held (piece_at parts q)) ∙ ap (option_map slots_for) (sym (get-space_with held parts q)))
-          ∙ sym (cut-map slots_for (in_range first pages q) (finite.get (space_with held parts) q)) ∙ ap (option_map slots_for) (sym (get-without_range (space_with held parts) first pages q)) ∙ sym (get-map_with slots_for (without_range (space_with held parts) first pages) q))
+          ∙ cut-map slots_of (is_in_range first pages q) (option_map kind_and_object (piece_at parts q)) ∙ ap (λ (x : Option ℕ). cond (is_in_range first pages q) None x) (sym (looked-slots held (piece_at parts q)) ∙ ap (option_map slots_for) (sym (get-space_with held parts q)))
+          ∙ sym (cut-map slots_for (is_in_range first pages q) (finite.get (space_with held parts) q)) ∙ ap (option_map slots_for) (sym (get-without_range (space_with held parts) first pages q)) ∙ sym (get-map_with slots_for (without_range (space_with held parts) first pages) q))
 
   -- ZERO OBJECTS: each that is left is the one that is mapped, or is shown outside of the range
   abbrev Stays : ℕ → ℕ → Type 0
@@ -143,7 +143,7 @@ module _ (m n : Memory) (zeros : List (Option ℕ)) (o : Object) (S : Spaces) (p
       by_process : (s.process ≡ p) ⊎ (s.process ≢ p) → Stays z number
       by_process (inl same) =
           let in_left : piece_at left s.page ≡ Some s.spot = sym (ap (option_and_then (λ (ps : List (Part Segment)). piece_at ps s.page)) (ap (finite.get (finite.insert S p left)) same ∙ get-insert_here S p left)) ∙ at in
-          let r = some-look (piece_at parts s.page) (in_range first pages s.page) (kind_and_object s.spot) (sym (cleared.looks s.page) ∙ ap (option_map kind_and_object) in_left) in
+          let r = some-look (piece_at parts s.page) (is_in_range first pages s.page) (kind_and_object s.spot) (sym (cleared.looks s.page) ∙ ap (option_map kind_and_object) in_left) in
           let out : IsShownOutside m.spaces p first pages z number = record {
             process = p;
             page = s.page;

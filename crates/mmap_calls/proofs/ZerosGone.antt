@@ -17,7 +17,7 @@ use Rattle.flat_model.specs.Flat.{Cell, Flat, cell_at, zero_of, is_named, withou
 use Rattle.flat_model.specs.Mapping.{cells_of, without_pages}
 use Rattle.flat_model.specs.NamedLaws.{IsNamed}
 use Rattle.flat_model.specs.ReserveLaws.{zero_pages_gone, zero_pages_back}
-use Rattle.flat_model.specs.Space.{in_range, without_range}
+use Rattle.flat_model.specs.Space.{is_in_range, without_range}
 use Rattle.flat_model.specs.Words.{Page, zero_page}
 use Rattle.flat_model.proofs.Mappings.{get-cells_of}
 use Rattle.flat_model.proofs.Named.{named_zeros-from_cell, named_zeros-to_cell}
@@ -128,7 +128,7 @@ module _ (m : Memory) (born : set.FinSet nat_cmp) (notes : Notes) (p : ℕ) (par
   outside-range true o c is = absurd (let k : None ≡ Some c = is in cc)
   outside-range false o c is = (refl, is)
 
-  spot-shows : (z number r q : ℕ) (c : Cell) → slice_index_or zeros z None ≡ Some number → cell_at F r q ≡ Some c → zero_of c ≡ Some z → (r ≡ p → in_range first n q ≡ false) → IsShownOutside m.spaces p first n z number
+  spot-shows : (z number r q : ℕ) (c : Cell) → slice_index_or zeros z None ≡ Some number → cell_at F r q ≡ Some c → zero_of c ≡ Some z → (r ≡ p → is_in_range first n q ≡ false) → IsShownOutside m.spaces p first n z number
   spot-shows z number r q c is at names outside = by_spot (spot_at m.spaces r q) refl (sym (cell-at place m.spaces r q) ∙ at)
     where
       by_spot : (o : Option Spot) → spot_at m.spaces r q ≡ o → option_map (cell_of place) o ≡ Some c → IsShownOutside m.spaces p first n z number
@@ -149,7 +149,7 @@ module _ (m : Memory) (born : set.FinSet nat_cmp) (notes : Notes) (p : ℕ) (par
       elim (cases_eq c.process p) [
         | inl same ↦
             let at = sym (cell_at-here F p c.page (without_range (cells_of F p) first n)) ∙ ap (λ (r : ℕ). cell_at W r c.page) (sym same) ∙ c.stands in
-            let out = outside-range (in_range first n c.page) (finite.get (cells_of F p) c.page) c.cell (sym (get-without_range (cells_of F p) first n c.page) ∙ at) in
+            let out = outside-range (is_in_range first n c.page) (finite.get (cells_of F p) c.page) c.cell (sym (get-without_range (cells_of F p) first n c.page) ∙ at) in
             spot-shows z number p c.page c.cell is (get-cells_of F p c.page ∙ out.1) c.names (λ _. out.0)
         | inr apart ↦ spot-shows z number c.process c.page c.cell is (sym (cell_at-other F p c.process c.page (without_range (cells_of F p) first n) apart) ∙ c.stands) c.names (λ same. absurd (apart same))
       ]

@@ -9,8 +9,8 @@ use Rattle.addr_space.proofs.PartLemmas.{none-below, at-here, has-in}
 use Rattle.addr_space.proofs.PageLaws.{shows}
 use Rattle.flat_model.specs.Mapping.{without_pages}
 use Rattle.flat_model.specs.Processes.{without_process}
-use Rattle.flat_model.specs.Space.{in_range}
-use Rattle.flat_model.specs.Step.{bit}
+use Rattle.flat_model.specs.Space.{is_in_range}
+use Rattle.flat_model.specs.Step.{is_bit_set}
 use Rattle.flat_model.proofs.Ranges.{get-insert_here}
 use Rattle.vm_types.specs.declared.call.Call.{Call}
 use Rattle.vm_types.specs.declared.call.Call.TheVariants.{Load, Store, Map, Unmap, Protect, Sync, Read, Write, Truncate, Fork, Exit}
@@ -52,12 +52,12 @@ starts-end parts order x is =
     absurd (let high = s.user.1 in omega (arith, high))
 
 -- THE END: what is left of a cleared space is nothing, and the process goes
-all-none : (old new : List (Part Segment)) → IsInOrder 1 old → ((q : ℕ) → piece_at new q ≡ cond (in_range 1 (0x80000 - 1) q) None (piece_at old q)) → (q : ℕ) → piece_at new q ≡ None
+all-none : (old new : List (Part Segment)) → IsInOrder 1 old → ((q : ℕ) → piece_at new q ≡ cond (is_in_range 1 (0x80000 - 1) q) None (piece_at old q)) → (q : ℕ) → piece_at new q ≡ None
 all-none old new order pages q = pages q ∙ elim (cases_lt q 1) [
-  | inl low ↦ ap (λ (o : Option Spot). cond (in_range 1 (0x80000 - 1) q) None o) (shows old q None (none-below 1 old q order low)) ∙ either (in_range 1 (0x80000 - 1) q)
+  | inl low ↦ ap (λ (o : Option Spot). cond (is_in_range 1 (0x80000 - 1) q) None o) (shows old q None (none-below 1 old q order low)) ∙ either (is_in_range 1 (0x80000 - 1) q)
   | inr from ↦ elim (cases_lt q 0x80000) [
     | inl below ↦ ap (λ (b : Bool). cond b None (piece_at old q)) (and_from (nat_le 1 q) (nat_lt q (1 + (0x80000 - 1))) (le-leb 1 q from) (lt-ltb q (1 + (0x80000 - 1)) (omega (arith, below))))
-    | inr past ↦ ap (λ (o : Option Spot). cond (in_range 1 (0x80000 - 1) q) None o) (beyond (piece_at old q) refl past) ∙ either (in_range 1 (0x80000 - 1) q)
+    | inr past ↦ ap (λ (o : Option Spot). cond (is_in_range 1 (0x80000 - 1) q) None o) (beyond (piece_at old q) refl past) ∙ either (is_in_range 1 (0x80000 - 1) q)
   ]
 ]
   where
@@ -80,7 +80,7 @@ no-part (p ∷ ps) order none =
 
 pub ended : (old new : World) (zeros after : List (Option ℕ)) (spaces : Spaces) (p : ℕ) (parts left : List (Part Segment)) → SpaceFits old zeros spaces p parts
     → ChangesSpace p (record { world = old; spaces = spaces }) (record { world = new; spaces = finite.insert spaces p left }) after (λ F. without_pages F p 1 (0x80000 - 1))
-    → ((q : ℕ) → piece_at left q ≡ cond (in_range 1 (0x80000 - 1) q) None (piece_at parts q))
+    → ((q : ℕ) → piece_at left q ≡ cond (is_in_range 1 (0x80000 - 1) q) None (piece_at parts q))
     → ChangesSpace p (record { world = old; spaces = spaces }) (record { world = new; spaces = finite.remove (finite.insert spaces p left) p }) after (λ F. without_process F p)
 ended old new zeros after spaces p parts left fits done pages =
     let m : Memory = record { world = old; spaces = spaces } in
@@ -104,7 +104,7 @@ pub takes-none : (m : Memory) (pending : ℕ) → MemoryFits m → TakesFrames m
 takes-none m pending fits = record {
   cut = λ name. false;
   step = keeps-same m.world m.spaces fits;
-  pends = record { bits = λ f lt. or-false (bit pending f); below = λ lt. lt };
+  pends = record { bits = λ f lt. or-false (is_bit_set pending f); below = λ lt. lt };
   took = λ name is. absurd (let z : false ≡ true = is in cc);
 }
 

@@ -18,7 +18,7 @@ use Rattle.page_store.specs.StoreFits.{IsClean}
 use Rattle.page_store.specs.Waits.{IsVictim}
 use Rattle.page_store.proofs.QueryLemmas.{some-within}
 use Rattle.hat_layer.specs.declared.translation.Translation.{Translation}
-use Rattle.hat_layer.specs.Pool.{Pool, IsSingleValued, drop_frame}
+use Rattle.hat_layer.specs.Pool.{HatSeen, IsSingleValued, drop_frame}
 use Rattle.vm_world.specs.MemoryFits.{MemoryFits}
 use Rattle.vm_world.specs.NotesFit.{NotesFit}
 use Rattle.vm_world.specs.Segments.{Spaces}
@@ -109,7 +109,7 @@ pub unlocked : (w : World) (spaces : Spaces) (frame : ℕ) → MemoryFits (memor
 unlocked w spaces frame f there = unlocked-of (bytes_at w.store.frames frame) (row_at w.store.rows frame).holder (f.frames.sound.each frame (some-within w.store.frames frame there)).away there
 
 -- RELEASE: the frame's translations are gone, and it is on the cache list.
-pub evict-keeps : (w : World) (spaces : Spaces) (new : StoreSeen) (hat : Pool) (frame : ℕ) → MemoryFits (memory_of w spaces) → (row_at w.store.rows frame).modified ≡ false → IsUnwritten w.hat.places frame → IsSome (bytes_at w.store.frames frame)
+pub evict-keeps : (w : World) (spaces : Spaces) (new : StoreSeen) (hat : HatSeen) (frame : ℕ) → MemoryFits (memory_of w spaces) → (row_at w.store.rows frame).modified ≡ false → IsUnwritten w.hat.places frame → IsSome (bytes_at w.store.frames frame)
     → hat.places ≡ drop_frame frame w.hat.places → hat.frames ≡ w.hat.frames → IsSingleValued hat.places → new ≡ record w.store { cached = w.store.cached ++ frame ∷ [] } → Releases w.store new frame
     → KeepsPages w (with_tables w new hat) spaces
 evict-keeps w spaces new hat frame f clear unwritten there places frames single step laws =

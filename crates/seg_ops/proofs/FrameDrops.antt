@@ -10,7 +10,7 @@ use Rattle.page_store.specs.Moves.{is_only}
 use Rattle.page_store.specs.Seen.{StoreSeen, IsListedFrame}
 use Rattle.page_store.specs.Steps.{next_frame}
 use Rattle.hat_layer.specs.declared.translation.Translation.{Translation}
-use Rattle.hat_layer.specs.Pool.{Pool, IsSingleValued, bits_of, drop_frame, with_clear_bits, has_bit}
+use Rattle.hat_layer.specs.Pool.{HatSeen, IsSingleValued, bits_of, drop_frame, with_clear_bits, has_bit}
 use Rattle.vm_world.specs.MemoryFits.{MemoryFits}
 use Rattle.vm_world.specs.Segments.{Spaces}
 use Rattle.vm_world.specs.TranslationsFit.{TranslationFits, TranslationsFit, HasWritten, IsModified}
@@ -23,7 +23,7 @@ use Rattle.seg_ops.proofs.StillSteps.{with_tables, memory_of}
 use Rattle.seg_ops.proofs.Syncs.{gather-keeps}
 
 -- DROPPED, with their bits in the page.
-pub unload-keeps : (w : World) (spaces : Spaces) (new : StoreSeen) (hat : Pool) (frame : ℕ) → MemoryFits (memory_of w spaces) → frame < length w.store.frames → ¬ IsListedFrame w.store frame
+pub unload-keeps : (w : World) (spaces : Spaces) (new : StoreSeen) (hat : HatSeen) (frame : ℕ) → MemoryFits (memory_of w spaces) → frame < length w.store.frames → ¬ IsListedFrame w.store frame
     → hat.places ≡ drop_frame frame w.hat.places → hat.frames ≡ w.hat.frames → IsSingleValued hat.places
     → new ≡ with_bits_gathered w.store frame (bits_of frame w.hat.places) → StaysInPlace w.store new (is_only (Some frame))
     → KeepsPages w (with_tables w new hat) spaces

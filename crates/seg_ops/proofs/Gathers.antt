@@ -7,7 +7,7 @@ use Rattle.page_store.specs.Laws.{StaysInPlace}
 use Rattle.page_store.specs.Moves.{is_only}
 use Rattle.page_store.specs.Seen.{StoreSeen, IsListedFrame}
 use Rattle.hat_layer.specs.declared.translation.Translation.{Translation}
-use Rattle.anon_slots.specs.Slots.{Slots}
+use Rattle.anon_slots.specs.Slots.{AnonSlotsSeen}
 use Rattle.vnode_files.specs.Files.{FilesSeen}
 use Rattle.vm_world.specs.FramesFit.{FramesFit}
 use Rattle.vm_world.specs.TranslationsFit.{HasWritten}
@@ -51,7 +51,7 @@ row-told s frame told lt h =
     (ap (λ (r : Row). r.modified) is ∙ m, ap (λ (r : Row). r.rewritten) is ∙ or-right (row_at s.rows frame).rewritten ((row_at s.rows frame).modified || told.1) m)
 
 -- BITS OF A FRAME ON NO LIST are gathered, and what the translations no longer say was told.
-pub keeps-gathered : (s : StoreSeen) (files : FilesSeen) (anon : Slots) (before after : List (Option Translation)) (frame : ℕ) (told : Bool × Bool) → FramesFit s files anon → frame < length s.frames → ¬ IsListedFrame s frame
+pub keeps-gathered : (s : StoreSeen) (files : FilesSeen) (anon : AnonSlotsSeen) (before after : List (Option Translation)) (frame : ℕ) (told : Bool × Bool) → FramesFit s files anon → frame < length s.frames → ¬ IsListedFrame s frame
     → StaysInPlace s (with_bits_gathered s frame told) (is_only (Some frame))
     → ((k : ℕ) → HasWritten before k → ((frame ≡ k) × (told.1 ≡ true)) ⊎ HasWritten after k)
     → KeepsFrames s (with_bits_gathered s frame told) before after

@@ -16,7 +16,7 @@ use Rattle.page_store.specs.Value.{value}
 use Rattle.page_store.specs.declared.residence.Residence.TheVariants.{Home}
 use Rattle.page_store.proofs.QueryLemmas.{home-is}
 use Rattle.hat_layer.specs.declared.translation.Translation.{Translation}
-use Rattle.hat_layer.specs.Pool.{Pool, IsNoted, IsSingleValued, translation_at, change_at, after_access}
+use Rattle.hat_layer.specs.Pool.{HatSeen, IsNoted, IsSingleValued, translation_at, change_at, after_access}
 use Rattle.flat_model.specs.Words.{page, word_at, word_bytes}
 use Rattle.vm_world.specs.MemoryFits.{MemoryFits}
 use Rattle.vm_world.specs.Segments.{Spaces, spot_at}
@@ -67,7 +67,7 @@ fits-access : (w : World) (store : StoreSeen) (spaces : Spaces) (write : Bool) (
 fits-access w store spaces write t l = record { spot = l.spot; here = l.here; name = l.name; shows = l.shows; home = l.home; unlisted = l.unlisted; allowed = l.allowed; writable = l.writable }
 
 -- AN ACCESS is noted.
-touch-keeps : (w : World) (spaces : Spaces) (hat : Pool) (space q : ℕ) (write : Bool) → MemoryFits (memory_of w spaces) → hat.places ≡ change_at space q (after_access write) w.hat.places → hat.frames ≡ w.hat.frames → IsSingleValued hat.places
+touch-keeps : (w : World) (spaces : Spaces) (hat : HatSeen) (space q : ℕ) (write : Bool) → MemoryFits (memory_of w spaces) → hat.places ≡ change_at space q (after_access write) w.hat.places → hat.frames ≡ w.hat.frames → IsSingleValued hat.places
     → KeepsPages w (with_tables w w.store hat) spaces
 touch-keeps w spaces hat space q write f places frames single =
     step-keeps w spaces w.store hat f
@@ -77,9 +77,9 @@ touch-keeps w spaces hat space q write f places frames single =
     (each-change_at (TranslationFits w.store w.anon w.maps spaces) space q (after_access write) w.hat.places (λ t l. fits-access w w.store spaces write t l) f.translations))
     (λ notes nf. values-same w.store notes (world_table w) nf.stored)
 
-pub note-keeps : (w : World) (spaces : Spaces) (hat : Pool) (space q : ℕ) (write : Bool) (o : Option ℕ) → MemoryFits (memory_of w spaces) → IfSome o (λ frame. hat.places ≡ change_at space q (after_access write) w.hat.places) → IfNone o (hat ≡ w.hat)
+pub note-keeps : (w : World) (spaces : Spaces) (hat : HatSeen) (space q : ℕ) (write : Bool) (o : Option ℕ) → MemoryFits (memory_of w spaces) → IfSome o (λ frame. hat.places ≡ change_at space q (after_access write) w.hat.places) → IfNone o (hat ≡ w.hat)
     → hat.frames ≡ w.hat.frames → IsSingleValued hat.places → KeepsPages w (with_tables w w.store hat) spaces
-note-keeps w spaces hat space q write None f noted none frames single = subst (λ (h : Pool). KeepsPages w (with_tables w w.store h) spaces) (sym none) (keeps-same w spaces f)
+note-keeps w spaces hat space q write None f noted none frames single = subst (λ (h : HatSeen). KeepsPages w (with_tables w w.store h) spaces) (sym none) (keeps-same w spaces f)
 note-keeps w spaces hat space q write (Some frame) f noted none frames single = touch-keeps w spaces hat space q write f noted frames single
 
 -- A WORD IS READ.

@@ -6,7 +6,7 @@ use Rattle.page_store.specs.Moves.{is_only}
 use Rattle.page_store.specs.Seen.{StoreSeen, IsListedFrame}
 use Rattle.hat_layer.specs.declared.translation.Translation.{Translation}
 use Rattle.hat_layer.specs.declared.translation.Dropped.{Dropped}
-use Rattle.hat_layer.specs.Pool.{Pool, IsSingleValued, told_of}
+use Rattle.hat_layer.specs.Pool.{HatSeen, IsSingleValued, told_of}
 use Rattle.vm_world.specs.MemoryFits.{MemoryFits}
 use Rattle.vm_world.specs.Segments.{Spaces}
 use Rattle.vm_world.specs.TranslationsFit.{TranslationFits, TranslationsFit, HasWritten}
@@ -33,7 +33,7 @@ dropped-within w spaces place was o f is e = subst (λ (x : Option Dropped). IfS
     by_was None at = tt
     by_was (Some t) at = fits-within w.store w.anon w.maps spaces t f.frames.sound (f.translations place t at)
 
-install-none : (w : World) (spaces : Spaces) (hat : Pool) (place : ℕ) (loaded : Translation) → MemoryFits (memory_of w spaces) → TranslationFits w.store w.anon w.maps spaces loaded
+install-none : (w : World) (spaces : Spaces) (hat : HatSeen) (place : ℕ) (loaded : Translation) → MemoryFits (memory_of w spaces) → TranslationFits w.store w.anon w.maps spaces loaded
     → slice_index_or w.hat.places place None ≡ None → hat.places ≡ slice_set w.hat.places place (Some loaded) → hat.frames ≡ w.hat.frames → IsSingleValued hat.places → KeepsPages w (with_tables w w.store hat) spaces
 install-none w spaces hat place loaded f leads was places frames single =
     step-keeps w spaces w.store hat f
@@ -45,7 +45,7 @@ install-none w spaces hat place loaded f leads was places frames single =
     (subst (λ (ps : List (Option Translation)). TranslationsFit w.store w.anon w.maps spaces ps) (sym places) (each-set (TranslationFits w.store w.anon w.maps spaces) w.hat.places place loaded leads f.translations))
     (λ notes nf. values-same w.store notes (world_table w) nf.stored)
 
-install-some : (w : World) (spaces : Spaces) (hat : Pool) (place : ℕ) (loaded t : Translation) → MemoryFits (memory_of w spaces) → TranslationFits w.store w.anon w.maps spaces loaded
+install-some : (w : World) (spaces : Spaces) (hat : HatSeen) (place : ℕ) (loaded t : Translation) → MemoryFits (memory_of w spaces) → TranslationFits w.store w.anon w.maps spaces loaded
     → slice_index_or w.hat.places place None ≡ Some t → hat.places ≡ slice_set w.hat.places place (Some loaded) → hat.frames ≡ w.hat.frames → IsSingleValued hat.places
     → StaysInPlace w.store (with_bits_gathered w.store t.frame (t.referenced, t.modified)) (is_only (Some t.frame))
     → KeepsPages w (with_tables w (with_bits_gathered w.store t.frame (t.referenced, t.modified)) hat) spaces
@@ -66,7 +66,7 @@ install-some w spaces hat place loaded t f leads was places frames single laws =
     (λ notes nf. laws.values notes (world_table w) nf.stored)
 
 -- WHAT GIVES WAY TO A TRANSLATION has its bits gathered.
-pub install-keeps : (w : World) (spaces : Spaces) (new : StoreSeen) (hat : Pool) (place : ℕ) (loaded : Translation) (was : Option Translation) → MemoryFits (memory_of w spaces) → TranslationFits w.store w.anon w.maps spaces loaded
+pub install-keeps : (w : World) (spaces : Spaces) (new : StoreSeen) (hat : HatSeen) (place : ℕ) (loaded : Translation) (was : Option Translation) → MemoryFits (memory_of w spaces) → TranslationFits w.store w.anon w.maps spaces loaded
     → slice_index_or w.hat.places place None ≡ was → hat.places ≡ slice_set w.hat.places place (Some loaded) → hat.frames ≡ w.hat.frames → IsSingleValued hat.places
     → new ≡ with_dropped_gathered w.store (option_map told_of was) → IfSome (option_map told_of was) (λ d. StaysInPlace w.store new (is_only (Some d.frame)))
     → KeepsPages w (with_tables w new hat) spaces

@@ -17,7 +17,7 @@ use Rattle.page_store.specs.Value.{value, tells}
 use Rattle.page_store.specs.declared.place.Place.{Place}
 use Rattle.page_store.specs.declared.residence.Residence.TheVariants.{Home}
 use Rattle.page_store.proofs.TableLemmas.{table_law}
-use Rattle.anon_slots.specs.Slots.{Slots, IsSoundAnonSlots, count_at}
+use Rattle.anon_slots.specs.Slots.{AnonSlotsSeen, IsSoundAnonSlots, count_at}
 use Rattle.vnode_files.specs.declared.vnode.FileInfo.{FileInfo}
 use Rattle.vnode_files.specs.Files.{FilesSeen, vnode_at, block_count}
 use Rattle.vnode_files.specs.Vnode.{VnodeSeen, page_blocks, IsSoundVnode}
@@ -36,11 +36,11 @@ use Rattle.seg_ops.specs.Steps.{KeepsPages}
 use Rattle.seg_ops.proofs.StillSteps.{memory_of, value-is}
 use Rattle.seg_ops.proofs.Fills.{held-by}
 
-abbrev pub with_marks : World → FilesSeen → Slots → World
+abbrev pub with_marks : World → FilesSeen → AnonSlotsSeen → World
 with_marks w files anon = record w { files = files; anon = anon }
 
 -- What changes where a page is marked: whether it counts as pushed, and nothing else.
-pub record Marks (w : World) (files : FilesSeen) (anon : Slots) (name : PageName) : Type 0 where
+pub record Marks (w : World) (files : FilesSeen) (anon : AnonSlotsSeen) (name : PageName) : Type 0 where
   pub disks : files.disks ≡ w.files.disks
   pub infos : map (λ (v : VnodeSeen). v.info) files.files ≡ map (λ (v : VnodeSeen). v.info) w.files.files
   pub bits : (f : ℕ) → length (vnode_at files f).blanks ≡ length (vnode_at w.files f).blanks
@@ -87,29 +87,29 @@ map-blocks xs ys e = sym (through xs) ∙ ap (λ (infos : List FileInfo). map bl
     through (z ∷ zs) = ap (λ (more : List FileBlocks). file_blocks z ∷ more) (through zs)
 
 -- the table with one mark more: the same at any other name, and the same but for "blank" at each
-table-by : (w : World) (files : FilesSeen) (anon : Slots) (name : PageName) (k : Marks w files anon name) (n : PageName)
+table-by : (w : World) (files : FilesSeen) (anon : AnonSlotsSeen) (name : PageName) (k : Marks w files anon name) (n : PageName)
     → page_table files anon n ≡ table_of (map file_blocks w.files.files) (length w.anon.counts) (is_unpushed files anon) n
 table-by w files anon name k n =
     ap (λ (bs : List FileBlocks). table_of bs (length anon.counts) (is_unpushed files anon) n) (map-blocks files.files w.files.files k.infos)
     ∙ ap (λ (c : List ℕ). table_of (map file_blocks w.files.files) (length c) (is_unpushed files anon) n) k.counts
 
-pub table-other : (w : World) (files : FilesSeen) (anon : Slots) (name : PageName) (k : Marks w files anon name) (n : PageName) → n ≢ name → page_table files anon n ≡ world_table w n
+pub table-other : (w : World) (files : FilesSeen) (anon : AnonSlotsSeen) (name : PageName) (k : Marks w files anon name) (n : PageName) → n ≢ name → page_table files anon n ≡ world_table w n
 table-other w files anon name k n ne =
     table-by w files anon name k n
     ∙ ap (λ (b : Bool). unwrap_or (file_page_place (map file_blocks w.files.files) n b) (cond (is_slot (length w.anon.counts) n) (slot_place n.page b) (own_place n))) (k.others n ne)
 
-pub table-spot : (w : World) (files : FilesSeen) (anon : Slots) (name : PageName) (k : Marks w files anon name) (n : PageName) → SameSpot (page_table files anon n) (world_table w n)
+pub table-spot : (w : World) (files : FilesSeen) (anon : AnonSlotsSeen) (name : PageName) (k : Marks w files anon name) (n : PageName) → SameSpot (page_table files anon n) (world_table w n)
 table-spot w files anon name k n =
     subst (λ (p : Place). SameSpot p (world_table w n)) (sym (table-by w files anon name k n))
     (file-spot n (is_unpushed files anon n) (is_unpushed w.files w.anon n) (slice_get (map file_blocks w.files.files) n.object)
     (cond (is_slot (length w.anon.counts) n) (slot_place n.page (is_unpushed files anon n)) (own_place n)) (cond (is_slot (length w.anon.counts) n) (slot_place n.page (is_unpushed w.files w.anon n)) (own_place n))
     (slot-spot n (is_unpushed files anon n) (is_unpushed w.files w.anon n) (is_slot (length w.anon.counts) n)))
 
-keeps-tables : (w : World) (files : FilesSeen) (anon : Slots) (name : PageName) → Marks w files anon name → KeepsTables w (with_marks w files anon)
+keeps-tables : (w : World) (files : FilesSeen) (anon : AnonSlotsSeen) (name : PageName) → Marks w files anon name → KeepsTables w (with_marks w files anon)
 keeps-tables w files anon name k = record { maps = refl; counts = k.counts; reserved = k.reserved; disks = k.disks; infos = k.infos }
 
 -- the marked page isn't blank, and none becomes blank
-pub marked-blank : (w : World) (files : FilesSeen) (anon : Slots) (name : PageName) (k : Marks w files anon name) → (page_table files anon name).blank ≡ false
+pub marked-blank : (w : World) (files : FilesSeen) (anon : AnonSlotsSeen) (name : PageName) (k : Marks w files anon name) → (page_table files anon name).blank ≡ false
 marked-blank w files anon name k =
     ap (λ (p : Place). p.blank) (table-by w files anon name k name)
     ∙ ap (λ (b : Bool). (unwrap_or (file_page_place (map file_blocks w.files.files) name b) (cond (is_slot (length w.anon.counts) name) (slot_place name.page b) (own_place name))).blank) k.marked
@@ -127,13 +127,13 @@ marked-blank w files anon name k =
     unblank None = rest (is_slot (length w.anon.counts) name)
     unblank (Some file) = in_file file (slice_get file.blocks name.page)
 
-never-blank : (w : World) (files : FilesSeen) (anon : Slots) (name : PageName) (k : Marks w files anon name) (n : PageName) → (world_table w n).blank ≡ false → (page_table files anon n).blank ≡ false
+never-blank : (w : World) (files : FilesSeen) (anon : AnonSlotsSeen) (name : PageName) (k : Marks w files anon name) (n : PageName) → (world_table w n).blank ≡ false → (page_table files anon n).blank ≡ false
 never-blank w files anon name k n old = elim (cases-name name n) [
   | inr ne ↦ ap (λ (p : Place). p.blank) (table-other w files anon name k n ne) ∙ old
   | inl e ↦ subst (λ (m : PageName). (page_table files anon m).blank ≡ false) (sym e) (marked-blank w files anon name k)
 ]
 
-files-kept : (w : World) (files : FilesSeen) (anon : Slots) (name : PageName) → Marks w files anon name → FilesFit w.files → FilesFit files
+files-kept : (w : World) (files : FilesSeen) (anon : AnonSlotsSeen) (name : PageName) → Marks w files anon name → FilesFit w.files → FilesFit files
 files-kept w files anon name k f =
     let blocks = map-blocks files.files w.files.files k.infos in
     let count : length files.files ≡ length w.files.files = sym (length-map files.files (λ (v : VnodeSeen). v.info)) ∙ ap length k.infos ∙ length-map w.files.files (λ (v : VnodeSeen). v.info) in
@@ -154,7 +154,7 @@ files-kept w files anon name k f =
       some = λ x lt. subst (λ (i : FileInfo). 1 ≤ length i.extents) (sym (info x)) (f.some x (subst (λ (n : ℕ). x < n) count lt));
     }
 
-counts-kept : (w : World) (files : FilesSeen) (anon : Slots) (name : PageName) → Marks w files anon name → CountsFit w.anon w.maps → CountsFit anon w.maps
+counts-kept : (w : World) (files : FilesSeen) (anon : AnonSlotsSeen) (name : PageName) → Marks w files anon name → CountsFit w.anon w.maps → CountsFit anon w.maps
 counts-kept w files anon name k f = record {
   sound = subst (λ (cs : List ℕ). IsSoundAnonSlots (record anon { counts = cs })) (sym k.counts)
       (subst (λ (r : ℕ). IsSoundAnonSlots (record anon { counts = w.anon.counts; reserved = r })) (sym k.reserved)
@@ -163,7 +163,7 @@ counts-kept w files anon name k f = record {
   places = f.places ∙ sym k.reserved;
 }
 
-segments-kept : (w : World) (files : FilesSeen) (anon : Slots) (name : PageName) (spaces : Spaces) → Marks w files anon name → SegmentsFit (length w.files.files) w.anon w.maps spaces → SegmentsFit (length files.files) anon w.maps spaces
+segments-kept : (w : World) (files : FilesSeen) (anon : AnonSlotsSeen) (name : PageName) (spaces : Spaces) → Marks w files anon name → SegmentsFit (length w.files.files) w.anon w.maps spaces → SegmentsFit (length files.files) anon w.maps spaces
 segments-kept w files anon name spaces k f =
     let count : length files.files ≡ length w.files.files = sym (length-map files.files (λ (v : VnodeSeen). v.info)) ∙ ap length k.infos ∙ length-map w.files.files (λ (v : VnodeSeen). v.info) in
     subst (λ (n : ℕ). SegmentsFit n anon w.maps spaces) (sym count)
@@ -175,7 +175,7 @@ same-not true false e = absurd (let z : false ≡ true = e in cc)
 same-not false true e = absurd (let z : true ≡ false = e in cc)
 same-not false false e = refl
 
-pub marks-memory : (w : World) (files : FilesSeen) (anon : Slots) (name : PageName) (spaces : Spaces) → MemoryFits (memory_of w spaces) → Marks w files anon name → MemoryFits (memory_of (with_marks w files anon) spaces)
+pub marks-memory : (w : World) (files : FilesSeen) (anon : AnonSlotsSeen) (name : PageName) (spaces : Spaces) → MemoryFits (memory_of w spaces) → Marks w files anon name → MemoryFits (memory_of (with_marks w files anon) spaces)
 marks-memory w files anon name spaces f k = record {
   frames = record {
     sound = f.frames.sound;
@@ -224,7 +224,7 @@ modified-unlisted w spaces frame f m = λ listed. elim m [
 pub home-modified : (w : World) (spaces : Spaces) (name : PageName) (d : IsDirtyPage w name) → MemoryFits (memory_of w spaces) → IsHomeModified w name d.frame
 home-modified w spaces name d f = record { home = d.home; unlisted = modified-unlisted w spaces d.frame f d.modified; modified = d.modified }
 
-may-replace : (w : World) (files : FilesSeen) (anon : Slots) (name : PageName) (frame : ℕ) (notes : Notes) → IsSoundStore w.store → Marks w files anon name → IsHomeModified w name frame → StoreFits w.store notes (world_table w) → MayReplaceTable w.store notes (page_table files anon)
+may-replace : (w : World) (files : FilesSeen) (anon : AnonSlotsSeen) (name : PageName) (frame : ℕ) (notes : Notes) → IsSoundStore w.store → Marks w files anon name → IsHomeModified w name frame → StoreFits w.store notes (world_table w) → MayReplaceTable w.store notes (page_table files anon)
 may-replace w files anon name frame notes sound k home fits = record {
   apart = λ m n disk block.
       let a = table-spot w files anon name k m in
@@ -243,7 +243,7 @@ may-replace w files anon name frame notes sound k home fits = record {
       table_law.clean w.store notes (world_table w) (page_table files anon) j n (table-other w files anon name k n ne) (fits.each_cached j n cached held);
 }
 
-pub marks-notes : (w : World) (files : FilesSeen) (anon : Slots) (name : PageName) (frame : ℕ) (notes : Notes) → IsSoundStore w.store → Marks w files anon name → IsHomeModified w name frame → NotesFit w notes → NotesFit (with_marks w files anon) notes
+pub marks-notes : (w : World) (files : FilesSeen) (anon : AnonSlotsSeen) (name : PageName) (frame : ℕ) (notes : Notes) → IsSoundStore w.store → Marks w files anon name → IsHomeModified w name frame → NotesFit w notes → NotesFit (with_marks w files anon) notes
 marks-notes w files anon name frame notes sound k home nf = record {
   stored = table_law.fits w.store notes (world_table w) (page_table files anon) nf.stored (may-replace w files anon name frame notes sound k home nf.stored);
   clean = λ j n held there. elim (cases-name name n) [
@@ -274,7 +274,7 @@ marks-notes w files anon name frame notes sound k home nf = record {
 }
 
 -- THE MARK changes no page.
-pub marks-step : (w : World) (files : FilesSeen) (anon : Slots) (name : PageName) (frame : ℕ) (spaces : Spaces) → MemoryFits (memory_of w spaces) → Marks w files anon name → IsHomeModified w name frame → KeepsPages w (with_marks w files anon) spaces
+pub marks-step : (w : World) (files : FilesSeen) (anon : AnonSlotsSeen) (name : PageName) (frame : ℕ) (spaces : Spaces) → MemoryFits (memory_of w spaces) → Marks w files anon name → IsHomeModified w name frame → KeepsPages w (with_marks w files anon) spaces
 marks-step w files anon name frame spaces f k home =
     let tables = keeps-tables w files anon name k in
     let new = with_marks w files anon in

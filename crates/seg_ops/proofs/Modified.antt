@@ -8,7 +8,7 @@ use Rattle.page_lock.specs.declared.Row.{Row}
 use Rattle.page_store.specs.Laws.{SameResidence}
 use Rattle.page_store.specs.Seen.{StoreSeen}
 use Rattle.hat_layer.specs.declared.translation.Translation.{Translation}
-use Rattle.hat_layer.specs.Pool.{Pool, leads, has_bit, bits_of, change_lead, drop_lead, change_frame, drop_frame, with_clear_bits}
+use Rattle.hat_layer.specs.Pool.{HatSeen, leads, has_bit, bits_of, change_lead, drop_lead, change_frame, drop_frame, with_clear_bits}
 use Rattle.vm_world.specs.Serving.{ModifiesNone}
 use Rattle.vm_world.specs.TranslationsFit.{HasWritten, IsModified}
 use Rattle.vm_world.specs.World.{World}
@@ -68,7 +68,7 @@ row-was s frame told k h = elim (row-gathered s frame told k) [
 ]
 
 -- THE STEPS: bits of a frame are gathered, and its translations dropped; nothing; and one step after another.
-pub sync-modifies : (w : World) (new : StoreSeen) (hat : Pool) (frame : ℕ) → hat.places ≡ change_frame frame with_clear_bits w.hat.places → new ≡ with_bits_gathered w.store frame (bits_of frame w.hat.places) → SameResidence w.store new
+pub sync-modifies : (w : World) (new : StoreSeen) (hat : HatSeen) (frame : ℕ) → hat.places ≡ change_frame frame with_clear_bits w.hat.places → new ≡ with_bits_gathered w.store frame (bits_of frame w.hat.places) → SameResidence w.store new
     → ModifiesNone w (with_tables w new hat)
 sync-modifies w new hat frame places is stay = λ name k home m. (
   sym (stay name) ∙ home,
@@ -81,7 +81,7 @@ sync-modifies w new hat frame places is stay = λ name k home m. (
   ],
 )
 
-pub evict-modifies : (w : World) (new : StoreSeen) (hat : Pool) (frame : ℕ) (cached : List ℕ) → hat.places ≡ drop_frame frame w.hat.places → new ≡ record w.store { cached = cached } → SameResidence w.store new
+pub evict-modifies : (w : World) (new : StoreSeen) (hat : HatSeen) (frame : ℕ) (cached : List ℕ) → hat.places ≡ drop_frame frame w.hat.places → new ≡ record w.store { cached = cached } → SameResidence w.store new
     → ModifiesNone w (with_tables w new hat)
 evict-modifies w new hat frame cached places is stay = λ name k home m. (
   sym (stay name) ∙ home,

@@ -15,7 +15,7 @@ use Rattle.std.proofs.lemmas.Option.{slice_get-map, slice_get-get_or}
 use Rattle.flat_model.specs.Access.{with_cell, with_space}
 use Rattle.flat_model.specs.Flat.{Cell, Space, Flat, IsFile, IsFlat, cell_at}
 use Rattle.flat_model.specs.Mapping.{cells_of}
-use Rattle.flat_model.specs.Space.{in_range, without_range}
+use Rattle.flat_model.specs.Space.{is_in_range, without_range}
 use Rattle.flat_model.specs.Words.{Page, IsPage, pages_in}
 use Rattle.flat_model.proofs.Ranges.{get-insert_here, get-insert_apart, get-without_range, in_range-is, in_range-low, in_range-high}
 use Rattle.vm_types.specs.declared.call.Kind.TheVariants.{Shared, Private}
@@ -26,7 +26,7 @@ use Rattle.vm_world.specs.World.{file_name}
 use Rattle.vm_world.proofs.FilePages.{page-in, file-in}
 use Rattle.vm_world.proofs.FlatWhole.{some-inj}
 use Rattle.vm_world.proofs.PageNames.{not-slot, all-get, file-apart}
-use Rattle.seg_ops.specs.OwnPages.{own_unheld, without_own_pages, OwnPagesLaw}
+use Rattle.seg_ops.specs.OwnPages.{own_at_empty_place, without_own_pages, OwnPagesLaw}
 use Rattle.seg_ops.specs.Slots.{with_own_page}
 use Rattle.seg_ops.proofs.OwnPages.{flat-cell, flat-unheld_all}
 
@@ -45,11 +45,11 @@ record LosesRange (F G : Flat) (p first n : ℕ) : Type 0 where
   pub spaces : finite.FinMap nat_cmp Space
   pub same : G ≡ record F { spaces = spaces }
   pub others : (r : ℕ) → r ≢ p → finite.get spaces r ≡ finite.get F.spaces r
-  pub cells : (q : ℕ) → in_range first n q ≡ false → finite.get (unwrap_or (finite.get spaces p) finite.empty) q ≡ finite.get (cells_of F p) q
+  pub cells : (q : ℕ) → is_in_range first n q ≡ false → finite.get (unwrap_or (finite.get spaces p) finite.empty) q ≡ finite.get (cells_of F p) q
 
-range-grows : (first n q : ℕ) → in_range first (suc n) q ≡ false → (in_range first n q ≡ false) × (q ≢ first + n)
+range-grows : (first n q : ℕ) → is_in_range first (suc n) q ≡ false → (is_in_range first n q ≡ false) × (q ≢ first + n)
 range-grows first n q out = (
-  elim (cases_Bool (in_range first n q)) [
+  elim (cases_Bool (is_in_range first n q)) [
     | inr o ↦ o
     | inl i ↦ absurd (let low = in_range-low first n q i in let high = in_range-high first n q i in let z : true ≡ false = sym (in_range-is first (suc n) q low (omega (arith, high))) ∙ out in cc)
   ],
@@ -61,10 +61,10 @@ loses-range F p first zero = record { spaces = F.spaces; same = refl; others = �
 loses-range F p first (suc n) = by_cell (loses-range F p first n) (cell_at (without_own_pages F p first n) p (first + n)) refl
   where
     by_cell : LosesRange F (without_own_pages F p first n) p first n → (o : Option Cell) → cell_at (without_own_pages F p first n) p (first + n) ≡ o
-        → LosesRange F (option_map_or (λ c. with_cell (without_own_pages F p first n) p (first + n) (record c { own = own_unheld c })) o (without_own_pages F p first n)) p first (suc n)
+        → LosesRange F (option_map_or (λ c. with_cell (without_own_pages F p first n) p (first + n) (record c { own = own_at_empty_place c })) o (without_own_pages F p first n)) p first (suc n)
     by_cell l None e = record { spaces = l.spaces; same = l.same; others = l.others; cells = λ q out. l.cells q (range-grows first n q out).0 }
     by_cell l (Some c) e =
-        let d : Cell = record c { own = own_unheld c } in
+        let d : Cell = record c { own = own_at_empty_place c } in
         let t : Space = finite.insert (unwrap_or (finite.get l.spaces p) finite.empty) (first + n) d in
         record {
           spaces = finite.insert l.spaces p t;
@@ -81,7 +81,7 @@ law-removed F p first n =
     let l = loses-range F p first n in
     let s : Space = unwrap_or (finite.get l.spaces p) finite.empty in
     let cells : without_range s first n ≡ without_range (cells_of F p) first n =
-    finite.same_map nat_cmp_total finite.nat_cmp-IsAntisymmetric _ _ (λ q. get-without_range s first n q ∙ by_range q (in_range first n q) refl ∙ sym (get-without_range (cells_of F p) first n q)) in
+    finite.same_map nat_cmp_total finite.nat_cmp-IsAntisymmetric _ _ (λ q. get-without_range s first n q ∙ by_range q (is_in_range first n q) refl ∙ sym (get-without_range (cells_of F p) first n q)) in
     let spaces : finite.insert l.spaces p (without_range s first n) ≡ finite.insert F.spaces p (without_range (cells_of F p) first n) =
     finite.same_map nat_cmp_total finite.nat_cmp-IsAntisymmetric _ _ (λ r. elim (cases_eq r p) [
       | inl e ↦
@@ -91,9 +91,9 @@ law-removed F p first n =
     ]) in
     ap (λ (G : Flat). with_space G p (without_range (cells_of G p) first n)) l.same ∙ ap (λ x. record F { spaces = x }) spaces
   where
-    by_range : (q : ℕ) (b : Bool) → in_range first n q ≡ b → cond (in_range first n q) None (finite.get (unwrap_or (finite.get (loses-range F p first n).spaces p) finite.empty) q) ≡ cond (in_range first n q) None (finite.get (cells_of F p) q)
+    by_range : (q : ℕ) (b : Bool) → is_in_range first n q ≡ b → cond (is_in_range first n q) None (finite.get (unwrap_or (finite.get (loses-range F p first n).spaces p) finite.empty) q) ≡ cond (is_in_range first n q) None (finite.get (cells_of F p) q)
     by_range q true e = ap (λ (b : Bool). cond b None (finite.get (unwrap_or (finite.get (loses-range F p first n).spaces p) finite.empty) q)) e ∙ sym (ap (λ (b : Bool). cond b None (finite.get (cells_of F p) q)) e)
-    by_range q false e = ap (cond (in_range first n q) None) ((loses-range F p first n).cells q e)
+    by_range q false e = ap (cond (is_in_range first n q) None) ((loses-range F p first n).cells q e)
 
 -- A PAGE THAT A FILE HAS is one.
 law-page : (m : Memory) (born : set.FinSet nat_cmp) (notes : Notes) (f index : ℕ) → MemoryFits m → IsFlat (flat_memory m born notes) → f < length m.world.files.files → index < pages_in (vnode_at m.world.files f).info.length

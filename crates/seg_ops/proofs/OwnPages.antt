@@ -19,11 +19,11 @@ use Rattle.flat_model.proofs.WellFormed.{IsPage-zero_page}
 use Rattle.vm_world.specs.FlatMemory.{own_without_slot}
 use Rattle.vm_world.proofs.FlatSpaces.{flat-with_space}
 use Rattle.vm_world.proofs.FlatWhole.{some-inj}
-use Rattle.seg_ops.specs.OwnPages.{own_unheld, without_own_page, without_own_pages}
+use Rattle.seg_ops.specs.OwnPages.{own_at_empty_place, without_own_page, without_own_pages}
 use Rattle.seg_ops.specs.Slots.{with_own_page}
 
 -- a cell without its own page is well formed
-cell-unheld : (c : Cell) → IsCell c → IsCell (record c { own = own_unheld c })
+cell-unheld : (c : Cell) → IsCell c → IsCell (record c { own = own_at_empty_place c })
 cell-unheld c is = record {
   page = λ own e. by_kind c.kind own e;
   shared = λ kind. ap (λ (k : Kind). elim k as (λ (a : Kind). Option Page) [ Private ↦ own_without_slot c.object | Shared ↦ None ]) kind;
@@ -64,9 +64,9 @@ flat-cell F p q old new flat is whole =
 pub flat-unheld : (F : Flat) (p q : ℕ) → IsFlat F → IsFlat (without_own_page F p q)
 flat-unheld F p q flat = by_cell (cell_at F p q) refl
   where
-    by_cell : (o : Option Cell) → cell_at F p q ≡ o → IsFlat (option_map_or (λ c. with_cell F p q (record c { own = own_unheld c })) o F)
+    by_cell : (o : Option Cell) → cell_at F p q ≡ o → IsFlat (option_map_or (λ c. with_cell F p q (record c { own = own_at_empty_place c })) o F)
     by_cell None e = flat
-    by_cell (Some c) e = flat-cell F p q c (record c { own = own_unheld c }) flat e (cell-unheld c (flat.cells p q c e))
+    by_cell (Some c) e = flat-cell F p q c (record c { own = own_at_empty_place c }) flat e (cell-unheld c (flat.cells p q c e))
 
 pub flat-unheld_all : (F : Flat) (p first n : ℕ) → IsFlat F → IsFlat (without_own_pages F p first n)
 flat-unheld_all F p first zero flat = flat
@@ -104,8 +104,8 @@ cell-here F p q c =
 -- THE PAGE THAT A CELL HAD, given back.
 pub own-back : (F : Flat) (p q : ℕ) (c : Cell) (own : Page) → cell_at F p q ≡ Some c → c.own ≡ Some own → with_own_page (without_own_page F p q) p q own ≡ F
 own-back F p q c own is had =
-    let bare : Cell = record c { own = own_unheld c } in
-    ap (λ (G : Flat). with_own_page G p q own) (ap (λ (o : Option Cell). option_map_or (λ d. with_cell F p q (record d { own = own_unheld d })) o F) is)
+    let bare : Cell = record c { own = own_at_empty_place c } in
+    ap (λ (G : Flat). with_own_page G p q own) (ap (λ (o : Option Cell). option_map_or (λ d. with_cell F p q (record d { own = own_at_empty_place d })) o F) is)
     ∙ ap (λ (o : Option Cell). option_map_or (λ d. with_cell (with_cell F p q bare) p q (record d { own = Some own })) o (with_cell F p q bare)) (cell-here F p q bare)
     ∙ cell-twice F p q bare (record c { own = Some own })
     ∙ ap (λ (o : Option Page). with_cell F p q (record c { own = o })) (sym had)

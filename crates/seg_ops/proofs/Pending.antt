@@ -7,7 +7,7 @@ use Rattle.std.proofs.Math.Bool.{or-false, or-true}
 use Rattle.std.proofs.lemmas.Bool.Decides.{eqb_tells}
 use Rattle.std.proofs.lemmas.Nat.{one_shl, or_lt, pow_below}
 use Rattle.std.proofs.lemmas.Nat.Bits.{bit_at_lowest, bit_at-suc, bit_at_set_same, bit_at_set_other}
-use Rattle.flat_model.specs.Step.{bit}
+use Rattle.flat_model.specs.Step.{is_bit_set}
 use Rattle.page_hash.specs.Names.{name_at}
 use Rattle.page_hash.specs.declared.PageName.{PageName}
 use Rattle.page_hash.proofs.NameLaws.{find-none}
@@ -22,19 +22,19 @@ use Rattle.vm_world.specs.World.{World, page_exists}
 use Rattle.seg_ops.proofs.StillSteps.{memory_of}
 
 -- a bit, by either way to it
-pub bit-is : (n f : ℕ) → bit n f ≡ (bit_at n f == 1)
+pub bit-is : (n f : ℕ) → is_bit_set n f ≡ (bit_at n f == 1)
 bit-is n zero = ap (λ (k : ℕ). k == 1) (sym (bit_at_lowest n))
 bit-is n (suc f) = bit-is (n / 2) f ∙ ap (λ (k : ℕ). k == 1) (sym (bit_at-suc n f))
 
 -- one bit is set, and the others stay
-pub bit-with : (word file f : ℕ) → file < 64 → bit (bit_or word (1 * 2 ^ file % 2 ^ 64)) f ≡ (bit word f || (f == file))
+pub bit-with : (word file f : ℕ) → file < 64 → is_bit_set (bit_or word (1 * 2 ^ file % 2 ^ 64)) f ≡ (is_bit_set word f || (f == file))
 bit-with word file f lt = elim (eqb_tells f file) [
   | inl same ↦
       bit-is (bit_or word (1 * 2 ^ file % 2 ^ 64)) f ∙ ap (λ (k : ℕ). bit_at (bit_or word (1 * 2 ^ file % 2 ^ 64)) k == 1) same.1
-      ∙ ap (λ (k : ℕ). k == 1) (bit_at_set_same w64 word file lt) ∙ sym (ap (λ (b : Bool). bit word f || b) same.0 ∙ or-true (bit word f))
+      ∙ ap (λ (k : ℕ). k == 1) (bit_at_set_same w64 word file lt) ∙ sym (ap (λ (b : Bool). is_bit_set word f || b) same.0 ∙ or-true (is_bit_set word f))
   | inr other ↦
       bit-is (bit_or word (1 * 2 ^ file % 2 ^ 64)) f ∙ ap (λ (k : ℕ). k == 1) (bit_at_set_other w64 word file lt f other.1)
-      ∙ sym (bit-is word f) ∙ sym (ap (λ (b : Bool). bit word f || b) other.0 ∙ or-false (bit word f))
+      ∙ sym (bit-is word f) ∙ sym (ap (λ (b : Bool). is_bit_set word f || b) other.0 ∙ or-false (is_bit_set word f))
 ]
 
 -- no bit is set from a number on, past which the new one isn't

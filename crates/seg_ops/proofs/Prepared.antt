@@ -15,10 +15,10 @@ use Rattle.page_store.specs.Waits.{Waits, holder_in}
 use Rattle.page_store.specs.declared.plan.Plan.TheVariants.{Push}
 use Rattle.page_store.specs.declared.residence.Residence.TheVariants.{Home}
 use Rattle.page_store.proofs.QueryLemmas.{home-is, found-within, residence-home}
-use Rattle.anon_slots.specs.Slots.{Slots}
+use Rattle.anon_slots.specs.Slots.{AnonSlotsSeen}
 use Rattle.hat_layer.specs.declared.translation.Translation.{Translation}
 use Rattle.hat_layer.specs.Pool.{bits_of}
-use Rattle.flat_model.specs.Step.{bit}
+use Rattle.flat_model.specs.Step.{is_bit_set}
 use Rattle.flat_model.specs.Words.{pages_in}
 use Rattle.vnode_files.specs.declared.vnode.FileInfo.{FileInfo}
 use Rattle.vnode_files.specs.Files.{FilesSeen}
@@ -65,7 +65,7 @@ synced w mid name p = p.store ∙ ap (λ (o : Option ℕ). at_frame o w.store (�
 -- the page's place, but that it isn't blank
 pub same-spot : (w mid : World) (spaces : Spaces) (name : PageName) → MemoryFits (memory_of w spaces) → Prepared w mid name → SameSpot (world_table mid name) (world_table w name)
 same-spot w mid spaces name f p =
-    subst (λ (a : Slots). SameSpot (page_table mid.files a name) (world_table w name)) (sym p.anon)
+    subst (λ (a : AnonSlotsSeen). SameSpot (page_table mid.files a name) (world_table w name)) (sym p.anon)
     (subst (λ (fs : FilesSeen). SameSpot (page_table fs (slots_pushed w.anon name) name) (world_table w name)) (sym p.files)
     (table-spot w (files_pushed w.files name) (slots_pushed w.anon name) name (marks-pushed w spaces name f (dirty-exists w spaces name f p.dirty)) name))
 
@@ -106,7 +106,7 @@ prepared-pends w mid name pending more now k same before =
     (subst (λ (o : Option PageName). PendsTails mid (is_name o) now more) (ap next_name (synced w mid name k)) before) in
     let count : length mid.files.files ≡ length w.files.files = sym (length-map mid.files.files (λ (v : VnodeSeen). v.info)) ∙ ap length k.tables.infos ∙ length-map w.files.files (λ (v : VnodeSeen). v.info) in
     record {
-      bits = λ f lt. p.bits f (subst (λ (n : ℕ). f < n) (sym count) lt) ∙ ap (λ (i : FileInfo). bit pending f || is_name (next_name w.store) (file_name f (pages_in i.length - 1))) (info-same w mid f k.tables);
+      bits = λ f lt. p.bits f (subst (λ (n : ℕ). f < n) (sym count) lt) ∙ ap (λ (i : FileInfo). is_bit_set pending f || is_name (next_name w.store) (file_name f (pages_in i.length - 1))) (info-same w mid f k.tables);
       below = λ few. subst (λ (n : ℕ). more < 2 ^ n) count (p.below (subst (λ (n : ℕ). pending < 2 ^ n) (sym count) few));
     }
 

@@ -4,7 +4,7 @@ use Rattle.std.specs.Prelude.{IsTrue, not}
 use Rattle.std.proofs.lemmas.Bool.{eq-eqb}
 use Rattle.std.proofs.lemmas.Bool.Decides.{eqb_tells}
 use Rattle.page_hash.specs.declared.PageName.{PageName}
-use Rattle.anon_slots.specs.Slots.{Slots}
+use Rattle.anon_slots.specs.Slots.{AnonSlotsSeen}
 use Rattle.vnode_files.specs.declared.vnode.FileInfo.{FileInfo}
 use Rattle.vnode_files.specs.Files.{FilesSeen, vnode_at, with_vnode}
 use Rattle.vnode_files.specs.Vnode.{VnodeSeen, no_vnode, with_blank, is_blank}
@@ -20,7 +20,7 @@ use Rattle.seg_ops.proofs.Marks.{Marks}
 use Rattle.seg_ops.proofs.Places.{index-set}
 use Rattle.seg_ops.proofs.StillSteps.{memory_of}
 
-abbrev pub slot-marked : Slots → ℕ → Slots
+abbrev pub slot-marked : AnonSlotsSeen → ℕ → AnonSlotsSeen
 slot-marked anon slot = record anon { swapped = slice_set anon.swapped slot true }
 
 abbrev pub file-marked : FilesSeen → ℕ → ℕ → FilesSeen

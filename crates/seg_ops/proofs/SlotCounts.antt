@@ -6,7 +6,7 @@ use Rattle.std.proofs.lemmas.List.{get_or-set_other, length-set}
 use Rattle.std.proofs.lemmas.List.Quantifiers.{position-Some}
 use Rattle.std.proofs.lemmas.List.Sums.{sum_by-set}
 use Rattle.anon_map.specs.Maps.{Map, the_map, places_of, with_places}
-use Rattle.anon_slots.specs.Slots.{Slots, count_at, IsSoundAnonSlots, with_count, with_new_slot}
+use Rattle.anon_slots.specs.Slots.{AnonSlotsSeen, count_at, IsSoundAnonSlots, with_count, with_new_slot}
 use Rattle.vm_world.specs.World.{slot_in}
 use Rattle.vm_world.specs.CountsFit.{places_in, times_held, CountsFit}
 use Rattle.vm_world.proofs.Counts.{used-below}
@@ -21,7 +21,7 @@ places-put maps m i o lt =
     let same : length (places_in (slice_index_or maps m None)) ≡ length (places_of maps m) = ap (λ (ps : List (Option ℕ)). length ps) (places-are maps m) in
     omega (arith, whole, size, same)
 
-pub made-slot : (anon : Slots) (maps : List (Option Map)) (m i s : ℕ) → CountsFit anon maps → count_at anon s ≡ 0 → s < length anon.counts → IsSoundAnonSlots (with_new_slot anon s) → i < length (places_of maps m) → slot_in maps m i ≡ None
+pub made-slot : (anon : AnonSlotsSeen) (maps : List (Option Map)) (m i s : ℕ) → CountsFit anon maps → count_at anon s ≡ 0 → s < length anon.counts → IsSoundAnonSlots (with_new_slot anon s) → i < length (places_of maps m) → slot_in maps m i ≡ None
     → MakesSlot anon (with_new_slot anon s) maps (with_places maps m (slice_set (places_of maps m) i (Some s))) m i s
 made-slot anon maps m i s fit free there sound lt empty =
     let one : count_at (with_new_slot anon s) s ≡ 1 = get_or-set_same anon.counts s 1 0 there in
@@ -65,7 +65,7 @@ pub least-there : (counts : List ℕ) (s : ℕ) → position (λ (c : ℕ). c ==
 least-there counts s is = (position-Some (λ (c : ℕ). c == 0) counts s 0 is).0
 
 -- a slot that is free once another is counted once less, which some place holds still, was free before
-pub left-free : (anon : Slots) (s t : ℕ) → 1 < count_at anon s → count_at (with_count anon s (count_at anon s - 1)) t ≡ 0 → count_at anon t ≡ 0
+pub left-free : (anon : AnonSlotsSeen) (s t : ℕ) → 1 < count_at anon s → count_at (with_count anon s (count_at anon s - 1)) t ≡ 0 → count_at anon t ≡ 0
 left-free anon s t many none = elim (cases_eq t s) [
   | inl e ↦
       let there : s < length anon.counts = used-below anon.counts s (omega (arith, many)) in

@@ -19,7 +19,7 @@ use Rattle.page_store.specs.Value.{value, backing_value, tells}
 use Rattle.page_store.specs.declared.place.Place.{Place}
 use Rattle.page_store.proofs.QueryLemmas.{absent-is}
 use Rattle.anon_map.specs.Maps.{Map}
-use Rattle.anon_slots.specs.Slots.{Slots, count_at}
+use Rattle.anon_slots.specs.Slots.{AnonSlotsSeen, count_at}
 use Rattle.hat_layer.specs.declared.translation.Translation.{Translation}
 use Rattle.vm_types.specs.declared.call.Object.{Object}
 use Rattle.vm_types.specs.declared.call.Object.TheVariants as object
@@ -41,7 +41,7 @@ use Rattle.seg_ops.proofs.SlotMemory.{with_slot, used-lt, segments-set}
 use Rattle.seg_ops.proofs.SlotOwners.{object-fits}
 use Rattle.seg_ops.proofs.StillSteps.{memory_of}
 
-module _ (w : World) (spaces : Spaces) (new : StoreSeen) (anon : Slots) (put : List (Option Map)) (m i s : ℕ) (f : MemoryFits (memory_of w spaces)) (k : LeavesSlot w.anon anon w.maps put m i s) (one : count_at w.anon s ≡ 1) (g : GivesUp w.store new (slot_name s)) (unloaded : IsUnloadedPlace w.hat.places spaces m i) where
+module _ (w : World) (spaces : Spaces) (new : StoreSeen) (anon : AnonSlotsSeen) (put : List (Option Map)) (m i s : ℕ) (f : MemoryFits (memory_of w spaces)) (k : LeavesSlot w.anon anon w.maps put m i s) (one : count_at w.anon s ≡ 1) (g : GivesUp w.store new (slot_name s)) (unloaded : IsUnloadedPlace w.hat.places spaces m i) where
   -- the slot's page doesn't exist any more, and every other page does if it did
   missing : IsFalse (page_exists w.files anon (slot_name s))
   missing = by_exists (page_exists w.files anon (slot_name s)) refl

@@ -7,7 +7,7 @@ use Rattle.page_store.specs.StoreFits.{StoreFits}
 use Rattle.page_store.specs.Table.{PlaceTable}
 use Rattle.page_store.specs.Value.{value, tells}
 use Rattle.anon_map.specs.Maps.{Map}
-use Rattle.anon_slots.specs.Slots.{Slots, count_at}
+use Rattle.anon_slots.specs.Slots.{AnonSlotsSeen, count_at}
 use Rattle.vm_world.specs.FramesFit.{DisksFit, HasSize}
 use Rattle.vm_world.specs.MemoryFits.{MemoryFits}
 use Rattle.vm_world.specs.NotesFit.{NotesFit, CleanFit, PushFits}
@@ -19,7 +19,7 @@ use Rattle.seg_ops.proofs.SlotLeaves.{exists-else, table-left, page-name-left, I
 use Rattle.seg_ops.proofs.SlotMemory.{with_slot, lt-used, segments-set}
 use Rattle.seg_ops.proofs.StillSteps.{memory_of}
 
-module _ (w : World) (spaces : Spaces) (anon : Slots) (put : List (Option Map)) (m i s : ℕ) (f : MemoryFits (memory_of w spaces)) (k : LeavesSlot w.anon anon w.maps put m i s) (more : 1 < count_at w.anon s) (unloaded : IsUnloadedPlace w.hat.places spaces m i) where
+module _ (w : World) (spaces : Spaces) (anon : AnonSlotsSeen) (put : List (Option Map)) (m i s : ℕ) (f : MemoryFits (memory_of w spaces)) (k : LeavesSlot w.anon anon w.maps put m i s) (more : 1 < count_at w.anon s) (unloaded : IsUnloadedPlace w.hat.places spaces m i) where
   -- what existed still exists
   still : (n : PageName) → IsTrue (page_exists w.files w.anon n) → IsTrue (page_exists w.files anon n)
   still n exists = elim (cases-name (slot_name s) n) [

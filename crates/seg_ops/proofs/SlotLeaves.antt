@@ -7,7 +7,7 @@ use Rattle.std.proofs.lemmas.List.{get_or-set_other, length-set}
 use Rattle.page_hash.specs.declared.PageName.{PageName}
 use Rattle.page_store.specs.Layout.{table_of}
 use Rattle.anon_map.specs.Maps.{Map, places_of, with_places}
-use Rattle.anon_slots.specs.Slots.{Slots, count_at, is_used, IsSoundAnonSlots, with_count}
+use Rattle.anon_slots.specs.Slots.{AnonSlotsSeen, count_at, is_used, IsSoundAnonSlots, with_count}
 use Rattle.hat_layer.specs.Pool.{translation_at}
 use Rattle.hat_layer.specs.declared.translation.Translation.{Translation}
 use Rattle.vnode_files.specs.Files.{FilesSeen, vnode_at}
@@ -29,10 +29,10 @@ use Rattle.seg_ops.proofs.SlotOwners.{never-own, not-shown}
 use Rattle.seg_ops.proofs.SlotPlaces.{slot-here, slot-else, stays-apart}
 use Rattle.seg_ops.proofs.StillSteps.{memory_of}
 
-pub left-slot : (anon : Slots) (maps : List (Option Map)) (m i s : ℕ) → CountsFit anon maps → IsSoundAnonSlots (with_count anon s (count_at anon s - 1)) → i < length (places_of maps m) → slot_in maps m i ≡ Some s
+pub left-slot : (anon : AnonSlotsSeen) (maps : List (Option Map)) (m i s : ℕ) → CountsFit anon maps → IsSoundAnonSlots (with_count anon s (count_at anon s - 1)) → i < length (places_of maps m) → slot_in maps m i ≡ Some s
     → LeavesSlot anon (with_count anon s (count_at anon s - 1)) maps (with_places maps m (slice_set (places_of maps m) i None)) m i s
 left-slot anon maps m i s fit sound lt holds =
-    let new : Slots = with_count anon s (count_at anon s - 1) in
+    let new : AnonSlotsSeen = with_count anon s (count_at anon s - 1) in
     let some = held-used anon maps m i s fit holds in
     let within : s < length anon.counts = used-below anon.counts s some in
     let less : count_at new s ≡ count_at anon s - 1 = get_or-set_same anon.counts s (count_at anon s - 1) 0 within in
@@ -68,7 +68,7 @@ left-slot anon maps m i s fit sound lt holds =
       };
     }
 
-module _ (files : FilesSeen) (old new : Slots) (maps put : List (Option Map)) (m i s : ℕ) (k : LeavesSlot old new maps put m i s) where
+module _ (files : FilesSeen) (old new : AnonSlotsSeen) (maps put : List (Option Map)) (m i s : ℕ) (k : LeavesSlot old new maps put m i s) where
   -- what exists then existed before
   pub existed : (n : PageName) → IsTrue (page_exists files new n) → IsTrue (page_exists files old n)
   existed n exists = elim (eqb_tells n.object 64) [
@@ -97,7 +97,7 @@ module _ (files : FilesSeen) (old new : Slots) (maps put : List (Option Map)) (m
   page-name-left n = ap (λ (c : ℕ). cond (n.object == 64) (nat_lt n.page c) (nat_lt n.page (page_count (vnode_at files n.object).info.extents))) k.slots
 
 -- a slot that was counted once where it is held still is
-pub left-once : (old new : Slots) (maps put : List (Option Map)) (m i s number place t : ℕ) → CountsFit old maps → LeavesSlot old new maps put m i s → slot_in put number place ≡ Some t → (slot_in maps number place ≡ Some t → count_at old t ≡ 1) → count_at new t ≡ 1
+pub left-once : (old new : AnonSlotsSeen) (maps put : List (Option Map)) (m i s number place t : ℕ) → CountsFit old maps → LeavesSlot old new maps put m i s → slot_in put number place ≡ Some t → (slot_in maps number place ≡ Some t → count_at old t ≡ 1) → count_at new t ≡ 1
 left-once old new maps put m i s number place t fit k held was =
     let empty : List (Option Map) = with_places maps m (slice_set (places_of maps m) i None) in
     let set : slot_in put number place ≡ slot_in empty number place = ap (λ (ps : List (Option Map)). slot_in ps number place) k.set in
@@ -128,12 +128,12 @@ zero-unloaded w spaces z m i f zero = record {
 }
 
 -- EACH TRANSLATION SHOWS what it showed.
-pub left-shown : (w : World) (spaces : Spaces) (anon : Slots) (put : List (Option Map)) (m i s : ℕ) → LeavesSlot w.anon anon w.maps put m i s → IsUnloadedPlace w.hat.places spaces m i → AreShown w spaces put
+pub left-shown : (w : World) (spaces : Spaces) (anon : AnonSlotsSeen) (put : List (Option Map)) (m i s : ℕ) → LeavesSlot w.anon anon w.maps put m i s → IsUnloadedPlace w.hat.places spaces m i → AreShown w spaces put
 left-shown w spaces anon put m i s k far = subst (λ (ps : List (Option Map)). AreShown w spaces ps) (sym k.set) (λ j t is y n here shows.
     stays-apart w.maps m i None y n k.within (far.own j t y is here) (far.shown j t y is here) shows)
 
 -- and may be written in place if it might
-pub left-writable : (w : World) (anon : Slots) (put : List (Option Map)) (m i s : ℕ) (y : Spot) → CountsFit w.anon w.maps → LeavesSlot w.anon anon w.maps put m i s → (y.0.own ≡ Some m → y.1 ≡ i → ⊥) → own_slot put y ≡ own_slot w.maps y
+pub left-writable : (w : World) (anon : AnonSlotsSeen) (put : List (Option Map)) (m i s : ℕ) (y : Spot) → CountsFit w.anon w.maps → LeavesSlot w.anon anon w.maps put m i s → (y.0.own ≡ Some m → y.1 ≡ i → ⊥) → own_slot put y ≡ own_slot w.maps y
     → MayWriteInPlace w.anon w.maps y → MayWriteInPlace anon put y
 left-writable w anon put m i s y fit k apart own r = record {
   prot = r.prot;

@@ -22,7 +22,7 @@ use Rattle.page_store.proofs.QueryLemmas.{home-is}
 use Rattle.hat_layer.specs.Pool.{translation_at}
 use Rattle.page_store.specs.declared.residence.Residence.TheVariants.{Home, Absent}
 use Rattle.anon_map.specs.Maps.{Map, places_of, holders_of, with_places}
-use Rattle.anon_slots.specs.Slots.{Slots, count_at, is_used}
+use Rattle.anon_slots.specs.Slots.{AnonSlotsSeen, count_at, is_used}
 use Rattle.hat_layer.specs.declared.translation.Translation.{Translation}
 use Rattle.vm_types.specs.declared.call.Object.{Object}
 use Rattle.vnode_files.specs.Files.{FilesSeen, vnode_at}
@@ -46,7 +46,7 @@ use Rattle.seg_ops.proofs.SlotTables.{IsUnnamed}
 use Rattle.seg_ops.proofs.StillSteps.{memory_of}
 
 -- the world once the slot was made, with its page
-abbrev pub with_slot : World → StoreSeen → Slots → List (Option Map) → World
+abbrev pub with_slot : World → StoreSeen → AnonSlotsSeen → List (Option Map) → World
 with_slot w store anon maps = record w { store = store; anon = anon; maps = maps }
 
 -- each translation shows what it showed
@@ -65,22 +65,22 @@ not-used zero h = refl
 not-used (suc c) h = absurd (let z : true ≡ false = sym (lt-used (suc c) (omega arith)) ∙ h in cc)
 
 -- the page of a slot exists where the slot is in use
-pub slot-exists : (files : FilesSeen) (anon : Slots) (n : PageName) → (n.object == 64) ≡ true → page_exists files anon n ≡ is_used (count_at anon n.page)
+pub slot-exists : (files : FilesSeen) (anon : AnonSlotsSeen) (n : PageName) → (n.object == 64) ≡ true → page_exists files anon n ≡ is_used (count_at anon n.page)
 slot-exists files anon n is = ap (λ (b : Bool). cond b (is_used (count_at anon n.page)) (nat_lt n.page (pages_in (vnode_at files n.object).info.length))) is
 
-pub file-exists : (files : FilesSeen) (old new : Slots) (n : PageName) → (n.object == 64) ≡ false → page_exists files new n ≡ page_exists files old n
+pub file-exists : (files : FilesSeen) (old new : AnonSlotsSeen) (n : PageName) → (n.object == 64) ≡ false → page_exists files new n ≡ page_exists files old n
 file-exists files old new n is =
     ap (λ (b : Bool). cond b (is_used (count_at new n.page)) (nat_lt n.page (pages_in (vnode_at files n.object).info.length))) is
     ∙ sym (ap (λ (b : Bool). cond b (is_used (count_at old n.page)) (nat_lt n.page (pages_in (vnode_at files n.object).info.length))) is)
 
 -- what exists is not the slot's page, and goes on to exist
-pub exists-apart : (files : FilesSeen) (old new : Slots) (maps put : List (Option Map)) (m i s : ℕ) (n : PageName) → MakesSlot old new maps put m i s → IsTrue (page_exists files old n) → n ≢ slot_name s
+pub exists-apart : (files : FilesSeen) (old new : AnonSlotsSeen) (maps put : List (Option Map)) (m i s : ℕ) (n : PageName) → MakesSlot old new maps put m i s → IsTrue (page_exists files old n) → n ≢ slot_name s
 exists-apart files old new maps put m i s n k exists e =
     let used = used-lt (count_at old s) (sym (ap (λ (x : PageName). page_exists files old x) e) ∙ exists) in
     let none = k.free in
     omega (arith, used, none)
 
-pub exists-made : (files : FilesSeen) (old new : Slots) (maps put : List (Option Map)) (m i s : ℕ) (n : PageName) → MakesSlot old new maps put m i s → IsTrue (page_exists files old n) → IsTrue (page_exists files new n)
+pub exists-made : (files : FilesSeen) (old new : AnonSlotsSeen) (maps put : List (Option Map)) (m i s : ℕ) (n : PageName) → MakesSlot old new maps put m i s → IsTrue (page_exists files old n) → IsTrue (page_exists files new n)
 exists-made files old new maps put m i s n k exists = elim (eqb_tells n.object 64) [
   | inr x ↦ file-exists files old new n x.0 ∙ exists
   | inl y ↦
@@ -90,7 +90,7 @@ exists-made files old new maps put m i s n k exists = elim (eqb_tells n.object 6
 ]
 
 -- what doesn't exist goes on not to, but for the slot's page
-pub missing-made : (files : FilesSeen) (old new : Slots) (maps put : List (Option Map)) (m i s : ℕ) (n : PageName) → MakesSlot old new maps put m i s → n ≢ slot_name s → IsFalse (page_exists files old n) → IsFalse (page_exists files new n)
+pub missing-made : (files : FilesSeen) (old new : AnonSlotsSeen) (maps put : List (Option Map)) (m i s : ℕ) (n : PageName) → MakesSlot old new maps put m i s → n ≢ slot_name s → IsFalse (page_exists files old n) → IsFalse (page_exists files new n)
 missing-made files old new maps put m i s n k ne missing = elim (eqb_tells n.object 64) [
   | inr x ↦ file-exists files old new n x.0 ∙ missing
   | inl y ↦
@@ -99,7 +99,7 @@ missing-made files old new maps put m i s n k ne missing = elim (eqb_tells n.obj
       slot-exists files new n y.0 ∙ ap is_used (k.unused n.page apart none)
 ]
 
-slot-made : (files : FilesSeen) (old new : Slots) (maps put : List (Option Map)) (m i s : ℕ) → MakesSlot old new maps put m i s → IsTrue (page_exists files new (slot_name s))
+slot-made : (files : FilesSeen) (old new : AnonSlotsSeen) (maps put : List (Option Map)) (m i s : ℕ) → MakesSlot old new maps put m i s → IsTrue (page_exists files new (slot_name s))
 slot-made files old new maps put m i s k = let one = k.alone in lt-used (count_at new s) (omega (arith, one))
 
 -- no frame has a slot that nobody holds
@@ -113,7 +113,7 @@ free-absent w s f none = ap (λ (o : Option ℕ). residence_in o w.store) (find-
 pub lengths-set : (maps put : List (Option Map)) (m i : ℕ) (o : Option ℕ) → i < length (places_of maps m) → put ≡ with_places maps m (slice_set (places_of maps m) i o) → ◌≡◌ {A = ℕ → ℕ} (λ j. length (places_of put j)) (λ j. length (places_of maps j))
 lengths-set maps put m i o lt set = λ a j. (ap (λ (ps : List (Option Map)). length (places_of ps j)) set ∙ places-set maps m j (slice_set (places_of maps m) i o) (map-within maps m i lt) (length-set (places_of maps m) i o)) a
 
-pub segments-set : (w : World) (spaces : Spaces) (anon : Slots) (put : List (Option Map)) (m i : ℕ) (o : Option ℕ) → MemoryFits (memory_of w spaces) → i < length (places_of w.maps m) → put ≡ with_places w.maps m (slice_set (places_of w.maps m) i o) → anon.reserved ≡ w.anon.reserved
+pub segments-set : (w : World) (spaces : Spaces) (anon : AnonSlotsSeen) (put : List (Option Map)) (m i : ℕ) (o : Option ℕ) → MemoryFits (memory_of w spaces) → i < length (places_of w.maps m) → put ≡ with_places w.maps m (slice_set (places_of w.maps m) i o) → anon.reserved ≡ w.anon.reserved
     → ((number place slot : ℕ) → slot_in put number place ≡ Some slot → (slot_in w.maps number place ≡ Some slot → count_at w.anon slot ≡ 1) → count_at anon slot ≡ 1)
     → SegmentsFit (length w.files.files) anon put spaces
 segments-set w spaces anon put m i o f within set reserved counts =
@@ -137,7 +137,7 @@ segments-set w spaces anon put m i o f within set reserved counts =
     }
 
 -- a slot that was counted once where it is held still is
-made-once : (old new : Slots) (maps put : List (Option Map)) (m i s number place t : ℕ) → MakesSlot old new maps put m i s → slot_in put number place ≡ Some t → (slot_in maps number place ≡ Some t → count_at old t ≡ 1) → count_at new t ≡ 1
+made-once : (old new : AnonSlotsSeen) (maps put : List (Option Map)) (m i s number place t : ℕ) → MakesSlot old new maps put m i s → slot_in put number place ≡ Some t → (slot_in maps number place ≡ Some t → count_at old t ≡ 1) → count_at new t ≡ 1
 made-once old new maps put m i s number place t k held was = elim (cases_eq t s) [
   | inl e ↦ ap (count_at new) e ∙ k.alone
   | inr ne ↦
@@ -147,7 +147,7 @@ made-once old new maps put m i s number place t k held was = elim (cases_eq t s)
 ]
 
 -- MEMORY FITS.
-pub made-memory : (w : World) (spaces : Spaces) (new : StoreSeen) (anon : Slots) (put : List (Option Map)) (m i s frame : ℕ) → MemoryFits (memory_of w spaces) → MakesSlot w.anon anon w.maps put m i s → TakesFor w.store new (slot_name s) frame → (row_at new.rows frame).modified ≡ true → AreShown w spaces put
+pub made-memory : (w : World) (spaces : Spaces) (new : StoreSeen) (anon : AnonSlotsSeen) (put : List (Option Map)) (m i s frame : ℕ) → MemoryFits (memory_of w spaces) → MakesSlot w.anon anon w.maps put m i s → TakesFor w.store new (slot_name s) frame → (row_at new.rows frame).modified ≡ true → AreShown w spaces put
     → MemoryFits (memory_of (with_slot w new anon put) spaces)
 made-memory w spaces new anon put m i s frame f k t dirty shown =
     let listed = next-listed w.store frame t.next in
@@ -212,7 +212,7 @@ zero-shown w spaces m i s lt empty new_zero k t is x n here shows = stays-shown 
     let z : None ≡ Some n = sym none ∙ shows in cc) shows
 
 -- the page that loses the next frame exists, also once the slot was made
-pub next-exists : (w : World) (spaces : Spaces) (anon : Slots) (put : List (Option Map)) (m i s : ℕ) (lost : Option PageName) → MemoryFits (memory_of w spaces) → MakesSlot w.anon anon w.maps put m i s → lost ≡ next_name w.store → IfSome lost (λ name. IsTrue (page_exists w.files anon name))
+pub next-exists : (w : World) (spaces : Spaces) (anon : AnonSlotsSeen) (put : List (Option Map)) (m i s : ℕ) (lost : Option PageName) → MemoryFits (memory_of w spaces) → MakesSlot w.anon anon w.maps put m i s → lost ≡ next_name w.store → IfSome lost (λ name. IsTrue (page_exists w.files anon name))
 next-exists w spaces anon put m i s lost f k is = subst (λ (o : Option PageName). IfSome o (λ name. IsTrue (page_exists w.files anon name))) (sym is) (by_frame (next_frame w.store))
   where
     by_name : (frame : ℕ) (o : Option PageName) → name_at w.store.names frame ≡ o → IfSome o (λ name. IsTrue (page_exists w.files anon name))

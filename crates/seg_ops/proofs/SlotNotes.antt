@@ -14,7 +14,7 @@ use Rattle.page_store.specs.Value.{backing_value, tells}
 use Rattle.page_store.specs.declared.place.Place.{Place}
 use Rattle.page_store.specs.declared.residence.Residence.TheVariants.{Home}
 use Rattle.anon_map.specs.Maps.{Map}
-use Rattle.anon_slots.specs.Slots.{Slots}
+use Rattle.anon_slots.specs.Slots.{AnonSlotsSeen}
 use Rattle.vm_world.specs.FramesFit.{HasSize}
 use Rattle.vm_world.specs.MemoryFits.{MemoryFits}
 use Rattle.vm_world.specs.NotesFit.{NotesFit}
@@ -27,7 +27,7 @@ use Rattle.seg_ops.proofs.SlotMemory.{with_slot, free-unnamed, missing-made}
 use Rattle.seg_ops.proofs.SlotTables.{IsUnnamed, unpushed-else, table-else}
 use Rattle.seg_ops.proofs.StillSteps.{memory_of}
 
-pub made-notes : (w : World) (spaces : Spaces) (new : StoreSeen) (anon : Slots) (put : List (Option Map)) (m i s frame : ℕ) (notes : Notes) → MemoryFits (memory_of w spaces) → MakesSlot w.anon anon w.maps put m i s → TakesFor w.store new (slot_name s) frame → (row_at new.rows frame).modified ≡ true
+pub made-notes : (w : World) (spaces : Spaces) (new : StoreSeen) (anon : AnonSlotsSeen) (put : List (Option Map)) (m i s frame : ℕ) (notes : Notes) → MemoryFits (memory_of w spaces) → MakesSlot w.anon anon w.maps put m i s → TakesFor w.store new (slot_name s) frame → (row_at new.rows frame).modified ≡ true
     → StoreFits new notes (page_table w.files anon) → NotesFit w notes → NotesFit (with_slot w new anon put) notes
 made-notes w spaces new anon put m i s frame notes f k t dirty fits nf = record {
   stored = fits;

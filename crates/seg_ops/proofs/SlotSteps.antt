@@ -15,7 +15,7 @@ use Rattle.page_store.specs.declared.place.Place.{Place}
 use Rattle.page_store.specs.declared.residence.Residence.TheVariants.{Home}
 use Rattle.page_store.proofs.TableLemmas.{table_law}
 use Rattle.anon_map.specs.Maps.{Map}
-use Rattle.anon_slots.specs.Slots.{Slots, count_at}
+use Rattle.anon_slots.specs.Slots.{AnonSlotsSeen, count_at}
 use Rattle.flat_model.specs.Words.{Page}
 use Rattle.vm_world.specs.MemoryFits.{MemoryFits}
 use Rattle.vm_world.specs.NotesFit.{NotesFit}
@@ -33,7 +33,7 @@ use Rattle.seg_ops.proofs.SlotNotes.{made-notes}
 use Rattle.seg_ops.proofs.SlotTables.{table-else, table-spot, page-name-made, fits-made}
 use Rattle.seg_ops.proofs.StillSteps.{memory_of, value-is}
 
-pub made-page : (w : World) (spaces : Spaces) (new : StoreSeen) (anon : Slots) (put : List (Option Map)) (m i s frame : ℕ) (bytes : Page) → MemoryFits (memory_of w spaces) → MakesSlot w.anon anon w.maps put m i s → TakesFor w.store new (slot_name s) frame → (row_at new.rows frame).modified ≡ true → AreShown w spaces put
+pub made-page : (w : World) (spaces : Spaces) (new : StoreSeen) (anon : AnonSlotsSeen) (put : List (Option Map)) (m i s frame : ℕ) (bytes : Page) → MemoryFits (memory_of w spaces) → MakesSlot w.anon anon w.maps put m i s → TakesFor w.store new (slot_name s) frame → (row_at new.rows frame).modified ≡ true → AreShown w spaces put
     → ((notes : Notes) (table : PlaceTable) → StoreFits w.store notes table → FillsFrame w.store notes new notes table (slot_name s) bytes) → MakesPage w (with_slot w new anon put) spaces (is_name (next_name w.store)) m i s bytes
 made-page w spaces new anon put m i s frame bytes f k t dirty shown fills =
     let unnamed = free-unnamed w s f.frames k.free in
@@ -81,7 +81,7 @@ made-home old new pending more slot modified bytes fills free once pends = recor
     both (Some frame) home unlisted = (home, unlisted)
 
 -- The same, where another slot was counted once less before.
-pub home-again : (old new : World) (anon : Slots) (maps : List (Option Map)) (pending more slot : ℕ) → count_at old.anon slot ≡ 0 → MakesHome (record old { anon = anon; maps = maps }) new pending more slot → MakesHome old new pending more slot
+pub home-again : (old new : World) (anon : AnonSlotsSeen) (maps : List (Option Map)) (pending more slot : ℕ) → count_at old.anon slot ≡ 0 → MakesHome (record old { anon = anon; maps = maps }) new pending more slot → MakesHome old new pending more slot
 home-again old new anon maps pending more slot free made = record {
   free = free;
   once = made.once;

@@ -11,7 +11,7 @@ use Rattle.page_store.specs.StoreFits.{StoreFits}
 use Rattle.page_store.specs.declared.place.Place.{Place}
 use Rattle.page_store.proofs.TableLemmas.{table_law}
 use Rattle.anon_map.specs.Maps.{Map}
-use Rattle.anon_slots.specs.Slots.{Slots}
+use Rattle.anon_slots.specs.Slots.{AnonSlotsSeen}
 use Rattle.vnode_files.specs.Files.{vnode_at}
 use Rattle.vnode_files.specs.Vnode.{is_blank}
 use Rattle.vnode_files.specs.Grow.{page_count}
@@ -26,7 +26,7 @@ abbrev pub IsUnnamed : StoreSeen → PageName → Type 0
 IsUnnamed s name = (k : ℕ) → name_at s.names k ≢ Some name
 
 -- every other page was pushed if it was
-pub unpushed-else : (w : World) (anon : Slots) (put : List (Option Map)) (m i s : ℕ) (n : PageName) → MakesSlot w.anon anon w.maps put m i s → n ≢ slot_name s → is_unpushed w.files anon n ≡ is_unpushed w.files w.anon n
+pub unpushed-else : (w : World) (anon : AnonSlotsSeen) (put : List (Option Map)) (m i s : ℕ) (n : PageName) → MakesSlot w.anon anon w.maps put m i s → n ≢ slot_name s → is_unpushed w.files anon n ≡ is_unpushed w.files w.anon n
 unpushed-else w anon put m i s n k ne = elim (eqb_tells n.object 64) [
   | inr x ↦ ap (λ (c : Bool). cond c (not (slice_index_or anon.swapped n.page false)) (is_blank (vnode_at w.files n.object) n.page)) x.0 ∙ sym (ap (λ (c : Bool). cond c (not (slice_index_or w.anon.swapped n.page false)) (is_blank (vnode_at w.files n.object) n.page)) x.0)
   | inl y ↦
@@ -34,17 +34,17 @@ unpushed-else w anon put m i s n k ne = elim (eqb_tells n.object 64) [
       ap (λ (c : Bool). cond (n.object == 64) (not c) (is_blank (vnode_at w.files n.object) n.page)) (k.swapped n.page apart)
 ]
 
-table-by : (w : World) (anon : Slots) (put : List (Option Map)) (m i s : ℕ) (n : PageName) → MakesSlot w.anon anon w.maps put m i s
+table-by : (w : World) (anon : AnonSlotsSeen) (put : List (Option Map)) (m i s : ℕ) (n : PageName) → MakesSlot w.anon anon w.maps put m i s
     → page_table w.files anon n ≡ table_of (map file_blocks w.files.files) (length w.anon.counts) (is_unpushed w.files anon) n
 table-by w anon put m i s n k = ap (λ (c : ℕ). table_of (map file_blocks w.files.files) c (is_unpushed w.files anon) n) k.slots
 
-pub table-else : (w : World) (anon : Slots) (put : List (Option Map)) (m i s : ℕ) (n : PageName) → MakesSlot w.anon anon w.maps put m i s → n ≢ slot_name s → page_table w.files anon n ≡ world_table w n
+pub table-else : (w : World) (anon : AnonSlotsSeen) (put : List (Option Map)) (m i s : ℕ) (n : PageName) → MakesSlot w.anon anon w.maps put m i s → n ≢ slot_name s → page_table w.files anon n ≡ world_table w n
 table-else w anon put m i s n k ne =
     table-by w anon put m i s n k
     ∙ ap (λ (b : Bool). unwrap_or (file_page_place (map file_blocks w.files.files) n b) (cond (is_slot (length w.anon.counts) n) (slot_place n.page b) (own_place n))) (unpushed-else w anon put m i s n k ne)
 
 -- where each page lives stays
-pub table-spot : (w : World) (anon : Slots) (put : List (Option Map)) (m i s : ℕ) (n : PageName) → FilesFit w.files → MakesSlot w.anon anon w.maps put m i s → SameSpot (page_table w.files anon n) (world_table w n)
+pub table-spot : (w : World) (anon : AnonSlotsSeen) (put : List (Option Map)) (m i s : ℕ) (n : PageName) → FilesFit w.files → MakesSlot w.anon anon w.maps put m i s → SameSpot (page_table w.files anon n) (world_table w n)
 table-spot w anon put m i s n fit k = elim (cases-name (slot_name s) n) [
   | inr ne ↦ let e = table-else w anon put m i s n k ne in record { disk = ap (λ (p : Place). p.disk) e; block = ap (λ (p : Place). p.block) e; valid = ap (λ (p : Place). p.valid) e }
   | inl is ↦
@@ -54,11 +54,11 @@ table-spot w anon put m i s n fit k = elim (cases-name (slot_name s) n) [
 ]
 
 -- which names are of pages stays
-pub page-name-made : (w : World) (anon : Slots) (put : List (Option Map)) (m i s : ℕ) (n : PageName) → MakesSlot w.anon anon w.maps put m i s → is_page_name w.files anon n ≡ is_page_name w.files w.anon n
+pub page-name-made : (w : World) (anon : AnonSlotsSeen) (put : List (Option Map)) (m i s : ℕ) (n : PageName) → MakesSlot w.anon anon w.maps put m i s → is_page_name w.files anon n ≡ is_page_name w.files w.anon n
 page-name-made w anon put m i s n k = ap (λ (c : ℕ). cond (n.object == 64) (nat_lt n.page c) (nat_lt n.page (page_count (vnode_at w.files n.object).info.extents))) k.slots
 
 -- THE NOTES FIT the new table, where no frame has the slot's page: a page that is read and isn't gone has its frame.
-pub fits-made : (w : World) (anon : Slots) (put : List (Option Map)) (m i s : ℕ) (notes : Notes) → FilesFit w.files → MakesSlot w.anon anon w.maps put m i s → IsUnnamed w.store (slot_name s) → StoreFits w.store notes (world_table w) → StoreFits w.store notes (page_table w.files anon)
+pub fits-made : (w : World) (anon : AnonSlotsSeen) (put : List (Option Map)) (m i s : ℕ) (notes : Notes) → FilesFit w.files → MakesSlot w.anon anon w.maps put m i s → IsUnnamed w.store (slot_name s) → StoreFits w.store notes (world_table w) → StoreFits w.store notes (page_table w.files anon)
 fits-made w anon put m i s notes fit k unnamed f =
     let spot : (n : PageName) → SameSpot (page_table w.files anon n) (world_table w n) = λ n. table-spot w anon put m i s n fit k in
     table_law.fits w.store notes (world_table w) (page_table w.files anon) f (record {

@@ -7,9 +7,9 @@ use Rattle.std.specs.FinMap as finite
 use Rattle.std.proofs.lemmas.Bool.{cases_eq}
 use Rattle.std.proofs.lemmas.List.Elements.{All-nil, All-cons}
 use Rattle.std.proofs.lemmas.List.Sums.{sum_by-cons}
-use Rattle.addr_space.specs.Space.{Part, IsInOrder, part_at, piece_at, put}
+use Rattle.addr_space.specs.Space.{Part, IsInOrder, part_at, piece_at, with_new_part}
 use Rattle.anon_map.specs.Maps.{Map, IsUnused, holders_of, places_of}
-use Rattle.anon_slots.specs.Slots.{Slots}
+use Rattle.anon_slots.specs.Slots.{AnonSlotsSeen}
 use Rattle.block_device.specs.DiskSeen.{DiskSeen}
 use Rattle.flat_model.proofs.Ranges.{get-insert_here, get-insert_apart}
 use Rattle.hat_layer.specs.Pool as pool
@@ -81,11 +81,11 @@ replicated zero x k = refl
 replicated (suc n) x zero = refl
 replicated (suc n) x (suc k) = replicated n x k
 
-holding-counts : (pushed : Bool) (anon : Slots) → HoldsOne pushed anon → CountsFit anon holding_maps
+holding-counts : (pushed : Bool) (anon : AnonSlotsSeen) → HoldsOne pushed anon → CountsFit anon holding_maps
 holding-counts pushed anon h = record {
   sound = h.sound;
-  counts = λ s. ap (λ (a : Slots). slice_index a.counts s) h.are ∙ sym (times s ∙ count s);
-  places = sym (ap (λ (a : Slots). a.reserved) h.are);
+  counts = λ s. ap (λ (a : AnonSlotsSeen). slice_index a.counts s) h.are ∙ sym (times s ∙ count s);
+  places = sym (ap (λ (a : AnonSlotsSeen). a.reserved) h.are);
 }
   where
     times : (s : ℕ) → times_held holding_maps s ≡ adds s (Some 0) + adds s (Some 0)
@@ -106,7 +106,7 @@ holding-part_fits zero lt = record { pages = refl; end = omega arith; within = r
 holding-part_fits (suc zero) lt = record { pages = refl; end = omega arith; within = refl; object = (refl, refl); own = (1, refl, refl, refl, refl) }
 holding-part_fits (suc (suc m)) lt = absurd (omega (arith, lt))
 
-holding-fit : (pushed : Bool) (anon : Slots) → HoldsOne pushed anon → SegmentsFit 0 anon holding_maps holding_spaces
+holding-fit : (pushed : Bool) (anon : AnonSlotsSeen) → HoldsOne pushed anon → SegmentsFit 0 anon holding_maps holding_spaces
 holding-fit pushed anon h = record {
   ordered = λ p parts is. subst (λ (ps : List (Part Segment)). IsInOrder 1 ps) (holding-get p parts is).1
       (record { behind = omega arith; some = omega arith; within = omega arith }, (record { behind = omega arith; some = omega arith; within = omega arith }, tt));
@@ -117,7 +117,7 @@ holding-fit pushed anon h = record {
       (All-cons (ShowsZero (zero_maps holding_spaces)) (holding_segment 0) (holding_segment 1 ∷ []) (λ z number is. absurd (cc)) (All-cons (ShowsZero (zero_maps holding_spaces)) (holding_segment 1) [] (λ z number is. absurd (cc)) (All-nil (ShowsZero (zero_maps holding_spaces)))));
   apart = λ y z number is _. absurd (let e : None ≡ Some number = sym (finite.get-empty nat_cmp y) ∙ sym (ap (λ (zs : finite.FinMap nat_cmp ℕ). finite.get zs y) holding-zeros) ∙ is in cc);
   once = λ y number place slot is _. absurd (let e : None ≡ Some number = sym (finite.get-empty nat_cmp y) ∙ sym (ap (λ (zs : finite.FinMap nat_cmp ℕ). finite.get zs y) holding-zeros) ∙ is in cc);
-  reserved = holding-reserved ∙ sym (ap (λ (a : Slots). a.reserved) h.are);
+  reserved = holding-reserved ∙ sym (ap (λ (a : AnonSlotsSeen). a.reserved) h.are);
 }
   where
     holders : (number : ℕ) → holders_of holding_maps number ≡ sum_by (times_had number) (holding_segment 0 ∷ holding_segment 1 ∷ [])
@@ -199,7 +199,7 @@ module _ (frames : ℕ) (pushed : Bool) (w : World) (h : HoldsFresh frames pushe
   unloaded k = ap (λ (places : List (Option Translation)). slice_index_or places k None) h.hat ∙ replicated h.places None k
 
   slots-seven : length w.anon.counts ≡ 7
-  slots-seven = ap (λ (a : Slots). length a.counts) h.anon.are
+  slots-seven = ap (λ (a : AnonSlotsSeen). length a.counts) h.anon.are
 
   pub holding-trial : IsTrialIn holding_spaces w
   holding-trial = record {
@@ -283,7 +283,7 @@ holding-both w m a b (suc (suc i)) lt = absurd (omega (arith, lt))
 
 -- THE PROCESS SHOWS AN OBJECT of zeros too.
 abbrev object_parts : List (Part Segment)
-object_parts = put object_part holding_parts
+object_parts = with_new_part object_part holding_parts
 
 -- its three pages
 object-page : (P : ℕ → Type 0) → P 5 → P 6 → P 7 → (q : ℕ) → 5 ≤ q → q < 5 + 3 → P q
@@ -316,7 +316,7 @@ object-trial w t slots maps = record { memory = comes.memory; notes = comes.note
       shown = refl;
       unnamed = ap (λ (zs : finite.FinMap nat_cmp ℕ). finite.get zs 0) holding-zeros ∙ finite.get-empty nat_cmp 0;
       unused = subst (λ (ms : List (Option Map)). IsUnused ms 2) (sym maps) (record { absent = refl; next = omega arith });
-      room = subst (λ (a : Slots). a.reserved + 3 ≤ length a.counts) (sym slots) (omega (arith, size));
+      room = subst (λ (a : AnonSlotsSeen). a.reserved + 3 ≤ length a.counts) (sym slots) (omega (arith, size));
     }
 
     comes : ChangesSegments 1 (memory_of w holding_spaces) (with_zero_part (memory_of w holding_spaces) 1 holding_parts object_part) (λ F. with_new_cells (with_zero_object F 0 3) 1 5 3 (segment_cell object_segment))

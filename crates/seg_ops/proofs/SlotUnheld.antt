@@ -26,7 +26,7 @@ use Rattle.vm_world.specs.World.{World, file_name, slot_name, slot_in, AllTell}
 use Rattle.vm_world.proofs.Counts.{held-used}
 use Rattle.vm_world.proofs.Maps.{cell-at}
 use Rattle.seg_ops.specs.Empties.{EmptiesPlace}
-use Rattle.seg_ops.specs.OwnPages.{own_unheld, without_own_page}
+use Rattle.seg_ops.specs.OwnPages.{own_at_empty_place, without_own_page}
 use Rattle.seg_ops.specs.Slots.{OwnsAlone}
 use Rattle.seg_ops.proofs.SlotCells.{PutsHeld, flat-owned}
 use Rattle.seg_ops.proofs.SlotMemory.{lengths-set, lt-used}
@@ -81,7 +81,7 @@ pub unheld-is : (old : World) (spaces : Spaces) (notes : Notes) (born : set.FinS
 unheld-is old spaces notes born p q x here private =
     let F : Flat = flat_memory (memory_of old spaces) born notes in
     let c : Cell = cell_of (contents_of old notes).place x in
-    ap (λ (o : Option Cell). option_map_or (λ c. with_cell F p q (record c { own = own_unheld c })) o F) (cell-at (contents_of old notes).place spaces p q ∙ ap (option_map (cell_of (contents_of old notes).place)) here)
+    ap (λ (o : Option Cell). option_map_or (λ c. with_cell F p q (record c { own = own_at_empty_place c })) o F) (cell-at (contents_of old notes).place spaces p q ∙ ap (option_map (cell_of (contents_of old notes).place)) here)
     ∙ ap (λ (kind : Kind). with_cell F p q (record c { own = elim kind as (λ (a : Kind). Option Page) [ Private ↦ own_without_slot x.0.object | Shared ↦ None ] })) private
 
 -- A CHANGE OF MEMORY, of the process whose page it is.

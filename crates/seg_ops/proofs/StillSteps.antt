@@ -18,11 +18,11 @@ use Rattle.page_store.specs.Value.{value, backing_value, tells}
 use Rattle.page_store.specs.declared.place.Place.{Place}
 use Rattle.page_hash.proofs.NameLaws.{find-at}
 use Rattle.page_store.proofs.QueryLemmas.{home-is, found-within}
-use Rattle.anon_slots.specs.Slots.{Slots}
+use Rattle.anon_slots.specs.Slots.{AnonSlotsSeen}
 use Rattle.anon_map.specs.Maps.{Map}
 use Rattle.vnode_files.specs.Files.{FilesSeen}
 use Rattle.hat_layer.specs.declared.translation.Translation.{Translation}
-use Rattle.hat_layer.specs.Pool.{Pool, IsSingleValued}
+use Rattle.hat_layer.specs.Pool.{HatSeen, IsSingleValued}
 use Rattle.vm_world.specs.FlatMemory.{Memory}
 use Rattle.vm_world.specs.FramesFit.{FramesFit, DisksFit}
 use Rattle.vm_world.specs.MemoryFits.{MemoryFits}
@@ -35,7 +35,7 @@ use Rattle.vm_world.proofs.FrameRule.{exists-page}
 use Rattle.seg_ops.specs.Steps.{KeepsPages}
 
 -- the world with another store and other translations
-abbrev pub with_tables : World → StoreSeen → Pool → World
+abbrev pub with_tables : World → StoreSeen → HatSeen → World
 with_tables w store hat = record w { store = store; hat = hat }
 
 abbrev pub memory_of : World → Spaces → Memory
@@ -66,7 +66,7 @@ pub record KeepsFrames (old new : StoreSeen) (before after : List (Option Transl
   pub written : (k : ℕ) → HasWritten before k → ((row_at new.rows k).rewritten ≡ true) ⊎ HasWritten after k
   pub bytes : (k : ℕ) → (bytes_at new.frames k ≡ bytes_at old.frames k) ⊎ HasWritten after k
 
-frames-kept : (old new : StoreSeen) (before after : List (Option Translation)) (files : FilesSeen) (anon : Slots) → KeepsFrames old new before after → FramesFit old files anon → FramesFit new files anon
+frames-kept : (old new : StoreSeen) (before after : List (Option Translation)) (files : FilesSeen) (anon : AnonSlotsSeen) → KeepsFrames old new before after → FramesFit old files anon → FramesFit new files anon
 frames-kept old new before after files anon k f = record {
   sound = k.sound;
   unkept = λ j. (k.rows j).keeps ∙ f.unkept j;
@@ -75,7 +75,7 @@ frames-kept old new before after files anon k f = record {
 }
 
 -- a translation that fits still does where its frame is on no list
-pub translation-kept : (old new : StoreSeen) (anon : Slots) (maps : List (Option Map)) (spaces : Spaces) (t : Translation) → SameResidence old new → (IsListedFrame new t.frame → IsListedFrame old t.frame)
+pub translation-kept : (old new : StoreSeen) (anon : AnonSlotsSeen) (maps : List (Option Map)) (spaces : Spaces) (t : Translation) → SameResidence old new → (IsListedFrame new t.frame → IsListedFrame old t.frame)
     → TranslationFits old anon maps spaces t → TranslationFits new anon maps spaces t
 translation-kept old new anon maps spaces t stay listed l = record {
   spot = l.spot;
@@ -88,14 +88,14 @@ translation-kept old new anon maps spaces t stay listed l = record {
   writable = l.writable;
 }
 
-unpushed-kept : (old new : StoreSeen) (before after : List (Option Translation)) (anon : Slots) → KeepsFrames old new before after → UnpushedFit old anon before → UnpushedFit new anon after
+unpushed-kept : (old new : StoreSeen) (before after : List (Option Translation)) (anon : AnonSlotsSeen) → KeepsFrames old new before after → UnpushedFit old anon before → UnpushedFit new anon after
 unpushed-kept old new before after anon k fit j slot name unpushed there = elim (k.bytes j) [
   | inr w ↦ inr w
   | inl same ↦ k.modified j (fit j slot (ap (λ ns. name_at ns j) (sym k.names) ∙ name) unpushed (subst (λ (b : Option (List ℕ)). IsSome b) same there))
 ]
 
 -- memory after the store and the translations changed: slots, maps, files and segments are as they were
-pub memory-kept : (w : World) (spaces : Spaces) (new : StoreSeen) (hat : Pool) → MemoryFits (memory_of w spaces) → KeepsFrames w.store new w.hat.places hat.places → hat.frames ≡ w.hat.frames → IsSingleValued hat.places
+pub memory-kept : (w : World) (spaces : Spaces) (new : StoreSeen) (hat : HatSeen) → MemoryFits (memory_of w spaces) → KeepsFrames w.store new w.hat.places hat.places → hat.frames ≡ w.hat.frames → IsSingleValued hat.places
     → TranslationsFit new w.anon w.maps spaces hat.places → MemoryFits (memory_of (with_tables w new hat) spaces)
 memory-kept w spaces new hat f k frames single translations = record {
   frames = frames-kept w.store new w.hat.places hat.places w.files w.anon k f.frames;
@@ -127,7 +127,7 @@ clean-kept old new before after notes table k clean j n name there = elim (k.byt
 ]
 
 -- a translation leads to a frame that is home
-pub written-home : (store : StoreSeen) (anon : Slots) (maps : List (Option Map)) (spaces : Spaces) (places : List (Option Translation)) (k : ℕ) → TranslationsFit store anon maps spaces places → HasWritten places k → IsSome (bytes_at store.frames k)
+pub written-home : (store : StoreSeen) (anon : AnonSlotsSeen) (maps : List (Option Map)) (spaces : Spaces) (places : List (Option Translation)) (k : ℕ) → TranslationsFit store anon maps spaces places → HasWritten places k → IsSome (bytes_at store.frames k)
 written-home store anon maps spaces places k fit x =
     let l = fit x.place x.translation x.there in
     let at = home-is store l.name x.translation.frame l.home in
@@ -146,7 +146,7 @@ own-rewritten : (new : StoreSeen) (frame : ℕ) (o : Option ℕ) → (o ≡ None
 own-rewritten new frame None some h = absurd (some refl)
 own-rewritten new frame (Some own) some h = h
 
-push-kept : (w : World) (spaces : Spaces) (new : StoreSeen) (hat : Pool) (notes : Notes) (note : Note) → MemoryFits (memory_of w spaces) → KeepsFrames w.store new w.hat.places hat.places → bytes_at w.store.frames note.frame ≡ None
+push-kept : (w : World) (spaces : Spaces) (new : StoreSeen) (hat : HatSeen) (notes : Notes) (note : Note) → MemoryFits (memory_of w spaces) → KeepsFrames w.store new w.hat.places hat.places → bytes_at w.store.frames note.frame ≡ None
     → PushFits w.store w.hat.places (world_table w) note → PushFits new hat.places (world_table w) note
 push-kept w spaces new hat notes note f k away p = record { pushed = p.pushed; same = elim p.same [ inl r ↦ inl (again r) | inr s ↦ as-sent s ] }
   where
@@ -182,7 +182,7 @@ gone-kept w new n stay g = elim g [
 ]
 
 -- the notes after the store and the translations changed
-pub notes-kept : (w : World) (spaces : Spaces) (new : StoreSeen) (hat : Pool) (notes : Notes) → MemoryFits (memory_of w spaces) → KeepsFrames w.store new w.hat.places hat.places → StoreFits new notes (world_table w)
+pub notes-kept : (w : World) (spaces : Spaces) (new : StoreSeen) (hat : HatSeen) (notes : Notes) → MemoryFits (memory_of w spaces) → KeepsFrames w.store new w.hat.places hat.places → StoreFits new notes (world_table w)
     → NotesFit w notes → NotesFit (with_tables w new hat) notes
 notes-kept w spaces new hat notes f k fits nf = record {
   stored = fits;
@@ -193,7 +193,7 @@ notes-kept w spaces new hat notes f k fits nf = record {
 }
 
 -- disks tell where they did
-pub tell-kept : (w : World) (new : StoreSeen) (hat : Pool) (notes : Notes) → SameDisksTell w.store notes new notes → AllTell w notes ↔ AllTell (with_tables w new hat) notes
+pub tell-kept : (w : World) (new : StoreSeen) (hat : HatSeen) (notes : Notes) → SameDisksTell w.store notes new notes → AllTell w notes ↔ AllTell (with_tables w new hat) notes
 tell-kept w new hat notes alike = ((λ tell name is. alike (world_table w name).disk ∙ tell name is), (λ tell name is. sym (alike (world_table w name).disk) ∙ tell name is))
 
 -- the value of a page that is one
@@ -201,7 +201,7 @@ pub value-is : (w : World) (notes : Notes) (name : PageName) → IsTrue (is_page
 value-is w notes name is = ap (λ (b : Bool). cond b (value w.store notes (world_table w) name) []) is
 
 -- A STEP THAT KEEPS ALL VALUES keeps the world fit.
-pub step-keeps : (w : World) (spaces : Spaces) (new : StoreSeen) (hat : Pool) → MemoryFits (memory_of w spaces) → KeepsFrames w.store new w.hat.places hat.places → hat.frames ≡ w.hat.frames → IsSingleValued hat.places
+pub step-keeps : (w : World) (spaces : Spaces) (new : StoreSeen) (hat : HatSeen) → MemoryFits (memory_of w spaces) → KeepsFrames w.store new w.hat.places hat.places → hat.frames ≡ w.hat.frames → IsSingleValued hat.places
     → TranslationsFit new w.anon w.maps spaces hat.places → ((notes : Notes) → NotesFit w notes → KeepsValues w.store notes new notes (world_table w)) → KeepsPages w (with_tables w new hat) spaces
 step-keeps w spaces new hat f k frames single translations values = record {
   tables = record { maps = refl; counts = refl; reserved = refl; disks = refl; infos = refl };
@@ -216,7 +216,7 @@ step-keeps w spaces new hat f k frames single translations values = record {
 }
 
 -- THE STORE STAYS as it is, and what a translation said, one says.
-pub keeps-store : (store : StoreSeen) (before after : List (Option Translation)) (files : FilesSeen) (anon : Slots) → FramesFit store files anon → ((k : ℕ) → HasWritten before k → HasWritten after k) → KeepsFrames store store before after
+pub keeps-store : (store : StoreSeen) (before after : List (Option Translation)) (files : FilesSeen) (anon : AnonSlotsSeen) → FramesFit store files anon → ((k : ℕ) → HasWritten before k → HasWritten after k) → KeepsFrames store store before after
 keeps-store store before after files anon f kept = record {
   sound = f.sound;
   core = refl;
@@ -235,8 +235,8 @@ pub values-same : (store : StoreSeen) (notes : Notes) (table : PlaceTable) → S
 values-same store notes table fits = record { fits = fits; alike = λ n. refl; values = λ n tell. refl }
 
 -- A FRAME THAT A TRANSLATION LEADS TO is one of the frames, and holds the name that the translation's place shows.
-pub fits-held : (store : StoreSeen) (anon : Slots) (maps : List (Option Map)) (spaces : Spaces) (t : Translation) (l : TranslationFits store anon maps spaces t) → name_at store.names t.frame ≡ Some l.name
+pub fits-held : (store : StoreSeen) (anon : AnonSlotsSeen) (maps : List (Option Map)) (spaces : Spaces) (t : Translation) (l : TranslationFits store anon maps spaces t) → name_at store.names t.frame ≡ Some l.name
 fits-held store anon maps spaces t l = find-at store.names l.name t.frame (home-is store l.name t.frame l.home).found
 
-pub fits-within : (store : StoreSeen) (anon : Slots) (maps : List (Option Map)) (spaces : Spaces) (t : Translation) → IsSoundStore store → TranslationFits store anon maps spaces t → t.frame < length store.frames
+pub fits-within : (store : StoreSeen) (anon : AnonSlotsSeen) (maps : List (Option Map)) (spaces : Spaces) (t : Translation) → IsSoundStore store → TranslationFits store anon maps spaces t → t.frame < length store.frames
 fits-within store anon maps spaces t sound l = found-within store l.name t.frame sound (home-is store l.name t.frame l.home).found

@@ -6,7 +6,7 @@ use Rattle.page_store.specs.Laws.{StaysInPlace}
 use Rattle.page_store.specs.Moves.{is_only}
 use Rattle.page_store.specs.Seen.{StoreSeen, IsListedFrame}
 use Rattle.hat_layer.specs.declared.translation.Translation.{Translation}
-use Rattle.hat_layer.specs.Pool.{Pool, IsSingleValued, leads, with_clear_bits, change_lead, change_frame, bits_of}
+use Rattle.hat_layer.specs.Pool.{HatSeen, IsSingleValued, leads, with_clear_bits, change_lead, change_frame, bits_of}
 use Rattle.vm_world.specs.MemoryFits.{MemoryFits}
 use Rattle.vm_world.specs.Segments.{Spaces}
 use Rattle.vm_world.specs.TranslationsFit.{TranslationFits, TranslationsFit, HasWritten}
@@ -35,7 +35,7 @@ sync-unwritten places frame k t is to = elim (was-cleared frame (slice_index_or 
 ]
 
 -- BITS ARE GATHERED from translations that stay, or that are dropped: what they said, they say still or the page does.
-pub gather-keeps : (w : World) (spaces : Spaces) (new : StoreSeen) (hat : Pool) (frame : ℕ) → MemoryFits (memory_of w spaces) → frame < length w.store.frames → ¬ IsListedFrame w.store frame
+pub gather-keeps : (w : World) (spaces : Spaces) (new : StoreSeen) (hat : HatSeen) (frame : ℕ) → MemoryFits (memory_of w spaces) → frame < length w.store.frames → ¬ IsListedFrame w.store frame
     → hat.frames ≡ w.hat.frames → IsSingleValued hat.places → new ≡ with_bits_gathered w.store frame (bits_of frame w.hat.places) → StaysInPlace w.store new (is_only (Some frame))
     → ((k : ℕ) → HasWritten w.hat.places k → ((frame ≡ k) × ((bits_of frame w.hat.places).1 ≡ true)) ⊎ HasWritten hat.places k)
     → ((store : StoreSeen) → TranslationsFit store w.anon w.maps spaces w.hat.places → TranslationsFit store w.anon w.maps spaces hat.places)
@@ -49,7 +49,7 @@ gather-keeps w spaces new hat frame f lt unlisted frames single is laws told fit
     (fit done (λ i t at. translation-kept w.store done w.anon w.maps spaces t calm.residence (λ h. h) (f.translations i t at)))
     (λ notes nf. calm.values notes (world_table w) nf.stored))
 
-pub sync-keeps : (w : World) (spaces : Spaces) (new : StoreSeen) (hat : Pool) (frame : ℕ) → MemoryFits (memory_of w spaces) → frame < length w.store.frames → ¬ IsListedFrame w.store frame
+pub sync-keeps : (w : World) (spaces : Spaces) (new : StoreSeen) (hat : HatSeen) (frame : ℕ) → MemoryFits (memory_of w spaces) → frame < length w.store.frames → ¬ IsListedFrame w.store frame
     → hat.places ≡ change_frame frame with_clear_bits w.hat.places → hat.frames ≡ w.hat.frames → IsSingleValued hat.places
     → new ≡ with_bits_gathered w.store frame (bits_of frame w.hat.places) → StaysInPlace w.store new (is_only (Some frame))
     → KeepsPages w (with_tables w new hat) spaces

@@ -11,7 +11,7 @@ use Rattle.std.proofs.lemmas.List.Elements.{All-nil, All-cons}
 use Rattle.std.proofs.lemmas.List.Sums.{sum_by-cons, count_by-le-length}
 use Rattle.addr_space.specs.Space.{Part, IsInOrder, piece_at}
 use Rattle.anon_map.specs.Maps.{Map, places_of}
-use Rattle.anon_slots.specs.Slots.{Slots, IsSoundAnonSlots, unused_slots}
+use Rattle.anon_slots.specs.Slots.{AnonSlotsSeen, IsSoundAnonSlots, unused_slots}
 use Rattle.block_device.specs.DiskSeen.{DiskSeen}
 use Rattle.flat_model.proofs.Ranges.{get-insert_here, get-insert_apart}
 use Rattle.hat_layer.specs.declared.translation.Translation.{Translation}
@@ -277,7 +277,7 @@ trial-fits w f = record {
     unpushed = o.memory.unpushed;
     counts = o.memory.counts;
     segments = subst (λ (n : ℕ). SegmentsFit n w.anon w.maps trial_spaces) (sym f.one)
-        (subst (λ (a : Slots). SegmentsFit 1 a w.maps trial_spaces) (sym f.anon) (subst (λ (m : List (Option Map)). SegmentsFit 1 (unused_slots 0) m trial_spaces) (sym f.maps) trial-segments-fit));
+        (subst (λ (a : AnonSlotsSeen). SegmentsFit 1 a w.maps trial_spaces) (sym f.anon) (subst (λ (m : List (Option Map)). SegmentsFit 1 (unused_slots 0) m trial_spaces) (sym f.maps) trial-segments-fit));
   };
   notes = o.notes;
 }
@@ -286,7 +286,7 @@ trial-fits w f = record {
     s = record { memory = record { world = w; spaces = finite.empty }; born = set.empty; history = []; pending = 0; calls = []; syncs = []; plan = None; parents = []; entries = [] }
 
     none : length w.anon.counts ≡ 0
-    none = ap (λ (a : Slots). length a.counts) f.anon
+    none = ap (λ (a : AnonSlotsSeen). length a.counts) f.anon
 
     o : StateFits (flat_memory s.memory s.born no_notes) s no_seats
     o = opening_law.fits s (record {

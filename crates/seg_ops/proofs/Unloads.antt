@@ -7,7 +7,7 @@ use Rattle.page_store.specs.Moves.{is_only}
 use Rattle.page_store.specs.Seen.{StoreSeen, IsListedFrame}
 use Rattle.hat_layer.specs.declared.translation.Translation.{Translation}
 use Rattle.hat_layer.specs.declared.translation.Dropped.{Dropped}
-use Rattle.hat_layer.specs.Pool.{Pool, IsSingleValued, translation_at, holds, told_of, drop_page, drop_at}
+use Rattle.hat_layer.specs.Pool.{HatSeen, IsSingleValued, translation_at, holds, told_of, drop_page, drop_at}
 use Rattle.vm_world.specs.MemoryFits.{MemoryFits}
 use Rattle.vm_world.specs.Segments.{Spaces}
 use Rattle.vm_world.specs.TranslationsFit.{TranslationFits, TranslationsFit, HasWritten}
@@ -67,7 +67,7 @@ unloaded-within w spaces space page o f e = subst (λ (x : Option Dropped). IfSo
     by_was None is = tt
     by_was (Some t) is = let s = stands-at w.hat.places space page t is in fits-within w.store w.anon w.maps spaces t f.frames.sound (f.translations s.place t s.there)
 
-drop-none : (w : World) (spaces : Spaces) (hat : Pool) (space page : ℕ) → MemoryFits (memory_of w spaces) → translation_at w.hat.places space page ≡ None → hat.places ≡ drop_at space page w.hat.places → hat.frames ≡ w.hat.frames → IsSingleValued hat.places
+drop-none : (w : World) (spaces : Spaces) (hat : HatSeen) (space page : ℕ) → MemoryFits (memory_of w spaces) → translation_at w.hat.places space page ≡ None → hat.places ≡ drop_at space page w.hat.places → hat.frames ≡ w.hat.frames → IsSingleValued hat.places
     → KeepsPages w (with_tables w w.store hat) spaces
 drop-none w spaces hat space page f was places frames single =
     step-keeps w spaces w.store hat f
@@ -82,7 +82,7 @@ drop-none w spaces hat space page f was places frames single =
     not-there : (t : Translation) (place : ℕ) → slice_index_or w.hat.places place None ≡ Some t → holds space page (Some t) ≡ true → ⊥
     not-there t place there own = loaded-at w.hat.places place t there (let e = held-is t space page own in (λ i. translation_at w.hat.places (e.0 i) (e.1 i)) ∙ was)
 
-drop-some : (w : World) (spaces : Spaces) (hat : Pool) (space page : ℕ) (t : Translation) → MemoryFits (memory_of w spaces) → translation_at w.hat.places space page ≡ Some t → hat.places ≡ drop_at space page w.hat.places → hat.frames ≡ w.hat.frames → IsSingleValued hat.places
+drop-some : (w : World) (spaces : Spaces) (hat : HatSeen) (space page : ℕ) (t : Translation) → MemoryFits (memory_of w spaces) → translation_at w.hat.places space page ≡ Some t → hat.places ≡ drop_at space page w.hat.places → hat.frames ≡ w.hat.frames → IsSingleValued hat.places
     → StaysInPlace w.store (with_bits_gathered w.store t.frame (t.referenced, t.modified)) (is_only (Some t.frame))
     → KeepsPages w (with_tables w (with_bits_gathered w.store t.frame (t.referenced, t.modified)) hat) spaces
 drop-some w spaces hat space page t f was places frames single laws =
@@ -102,7 +102,7 @@ drop-some w spaces hat space page t f was places frames single laws =
     (λ notes nf. laws.values notes (world_table w) nf.stored)
 
 -- A TRANSLATION IS DROPPED.
-pub drop-keeps : (w : World) (spaces : Spaces) (new : StoreSeen) (hat : Pool) (space page : ℕ) (was : Option Translation) → MemoryFits (memory_of w spaces) → translation_at w.hat.places space page ≡ was → hat.places ≡ drop_at space page w.hat.places
+pub drop-keeps : (w : World) (spaces : Spaces) (new : StoreSeen) (hat : HatSeen) (space page : ℕ) (was : Option Translation) → MemoryFits (memory_of w spaces) → translation_at w.hat.places space page ≡ was → hat.places ≡ drop_at space page w.hat.places
     → hat.frames ≡ w.hat.frames → IsSingleValued hat.places
     → new ≡ with_dropped_gathered w.store (option_map told_of was) → IfSome (option_map told_of was) (λ d. StaysInPlace w.store new (is_only (Some d.frame)))
     → KeepsPages w (with_tables w new hat) spaces

@@ -4,7 +4,7 @@ use Rattle.std.specs.FinMap as finite
 use Rattle.page_hash.specs.declared.PageName.{PageName}
 use Rattle.page_store.specs.Notes.{Notes}
 use Rattle.anon_map.specs.Maps.{Map, places_of, with_places}
-use Rattle.anon_slots.specs.Slots.{Slots, count_at}
+use Rattle.anon_slots.specs.Slots.{AnonSlotsSeen, count_at}
 use Rattle.hat_layer.specs.Pool.{translation_at}
 use Rattle.hat_layer.specs.declared.translation.Translation.{Translation}
 use Rattle.vm_world.specs.CallSteps.{KeepsMachine}
@@ -20,7 +20,7 @@ use Rattle.vm_world.specs.World.{World, core_of, slot_name, slot_in, page_exists
 
 -- A place is emptied: its slot is counted once less, and each other slot as before; no page was pushed; nothing is reserved or given up; and the counts fit
 -- the maps.
-pub record LeavesSlot (old new : Slots) (maps put : List (Option Map)) (m i s : ℕ) : Type 0 where
+pub record LeavesSlot (old new : AnonSlotsSeen) (maps put : List (Option Map)) (m i s : ℕ) : Type 0 where
   pub within : i < length (places_of maps m)
   pub set : put ≡ with_places maps m (slice_set (places_of maps m) i None)
   pub held : slot_in maps m i ≡ Some s

@@ -1,12 +1,12 @@
 -- The first push of a page: from its begin on the page counts as pushed. Public clauses cite this.
 use Rattle.std.specs.Prelude.{◌==◌, true, false, if◌then◌else◌, slice_set}
 use Rattle.page_hash.specs.declared.PageName.{PageName}
-use Rattle.anon_slots.specs.Slots.{Slots}
+use Rattle.anon_slots.specs.Slots.{AnonSlotsSeen}
 use Rattle.vnode_files.specs.Files.{FilesSeen, vnode_at, with_vnode}
 use Rattle.vnode_files.specs.Vnode.{with_blank}
 
 -- The slots, of which one page more was pushed, where the name is a slot's.
-abbrev pub slots_pushed : Slots → PageName → Slots
+abbrev pub slots_pushed : AnonSlotsSeen → PageName → AnonSlotsSeen
 slots_pushed anon name = if name.object == 64 then record anon { swapped = slice_set anon.swapped name.page true } else anon
 
 -- The files, of which one page more isn't blank, where the name is that of a file's page.

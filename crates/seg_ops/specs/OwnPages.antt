@@ -19,12 +19,12 @@ use Rattle.vm_world.specs.World.{file_name}
 use Rattle.seg_ops.specs.Slots.{with_own_page}
 
 -- What a cell has as its own where its place holds no slot: a private one of new zero memory has zeros, and any other nothing.
-abbrev pub own_unheld : Cell → Option Page
-own_unheld c = elim c.kind [ Private ↦ own_without_slot c.object | Shared ↦ None ]
+abbrev pub own_at_empty_place : Cell → Option Page
+own_at_empty_place c = elim c.kind [ Private ↦ own_without_slot c.object | Shared ↦ None ]
 
 -- Flat memory where the cell at a page of a process has lost its own page.
 abbrev pub without_own_page : Flat → ℕ → ℕ → Flat
-without_own_page F p q = option_map_or (λ c. with_cell F p q (record c { own = own_unheld c })) (cell_at F p q) F
+without_own_page F p q = option_map_or (λ c. with_cell F p q (record c { own = own_at_empty_place c })) (cell_at F p q) F
 
 -- Flat memory where the cells at n pages of a process, from the first on, have lost their own pages.
 abbrev pub without_own_pages : Flat → ℕ → ℕ → ℕ → Flat

@@ -4,9 +4,9 @@ use Rattle.std.specs.Prelude.{◌≡◌, ◌<◌, ◌+◌, ◌*◌, ℕ, Bool, f
 use Rattle.std.specs.FinMap as finite
 use Rattle.vm_types.specs.declared.call.Kind.TheVariants.{Shared, Private}
 use Rattle.vm_types.specs.declared.call.Object.TheVariants as object
-use Rattle.addr_space.specs.Space.{Part, put}
+use Rattle.addr_space.specs.Space.{Part, with_new_part}
 use Rattle.anon_map.specs.Maps.{Map, IsMapThere, places_of}
-use Rattle.anon_slots.specs.Slots.{Slots, IsSoundAnonSlots}
+use Rattle.anon_slots.specs.Slots.{AnonSlotsSeen, IsSoundAnonSlots}
 use Rattle.hat_layer.specs.Pool.{translation_at}
 use Rattle.vm_world.specs.declared.segment.Segment.{Segment}
 use Rattle.vm_world.specs.Segments.{Spaces}
@@ -35,7 +35,7 @@ abbrev pub object_part : Part Segment
 object_part = record { first = 5; pages = 3; piece = object_segment }
 
 abbrev pub object_spaces : Spaces
-object_spaces = finite.insert holding_spaces 1 (put object_part (holding_part 0 ∷ holding_part 1 ∷ []))
+object_spaces = finite.insert holding_spaces 1 (with_new_part object_part (holding_part 0 ∷ holding_part 1 ∷ []))
 
 -- The first place of each map holds slot 0, whose page is in swap.
 abbrev pub holding_map : Option Map
@@ -45,10 +45,10 @@ abbrev pub holding_maps : List (Option Map)
 holding_maps = holding_map ∷ holding_map ∷ []
 
 -- Whose page was pushed, or wasn't.
-abbrev pub holding_slots : Bool → Slots
+abbrev pub holding_slots : Bool → AnonSlotsSeen
 holding_slots pushed = record { counts = 2 ∷ replicate 6 0; swapped = pushed ∷ replicate 6 false; reserved = 4 }
 
-pub record HoldsOne (pushed : Bool) (slots : Slots) : Type 0 where
+pub record HoldsOne (pushed : Bool) (slots : AnonSlotsSeen) : Type 0 where
   pub are : slots ≡ holding_slots pushed
   pub sound : IsSoundAnonSlots slots
 

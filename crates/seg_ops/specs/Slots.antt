@@ -10,7 +10,7 @@ use Rattle.page_store.specs.Steps.{next_frame, next_name}
 use Rattle.page_store.specs.declared.residence.Residence.TheVariants.{Home}
 use Rattle.addr_space.specs.Space.{Part, begins}
 use Rattle.anon_map.specs.Maps.{Map, holders_of, places_of, with_places}
-use Rattle.anon_slots.specs.Slots.{Slots, count_at, with_count, with_new_slot}
+use Rattle.anon_slots.specs.Slots.{AnonSlotsSeen, count_at, with_count, with_new_slot}
 use Rattle.flat_model.specs.Access.{with_cell}
 use Rattle.flat_model.specs.Flat.{Flat, cell_at}
 use Rattle.flat_model.specs.Words.{Page}
@@ -29,7 +29,7 @@ use Rattle.vm_world.specs.WorldSteps.{cut_page}
 
 -- A slot that no place held is held by one; each other slot is in use where it was, and one that a single place held still is; the slot was never pushed,
 -- and each other was where it was; nothing is reserved or given up; and the counts fit the maps.
-pub record MakesSlot (old new : Slots) (maps put : List (Option Map)) (m i s : ℕ) : Type 0 where
+pub record MakesSlot (old new : AnonSlotsSeen) (maps put : List (Option Map)) (m i s : ℕ) : Type 0 where
   pub within : i < length (places_of maps m)
   pub set : put ≡ with_places maps m (slice_set (places_of maps m) i (Some s))
   pub there : s < length old.counts
@@ -45,13 +45,13 @@ pub record MakesSlot (old new : Slots) (maps put : List (Option Map)) (m i s : �
   pub counts : CountsFit new put
 
 -- The slots once the slot that a place held, if it held one, is counted once less.
-abbrev pub anon_left : Slots → Option ℕ → Slots
+abbrev pub anon_left : AnonSlotsSeen → Option ℕ → AnonSlotsSeen
 anon_left anon None = anon
 anon_left anon (Some s) = with_count anon s (count_at anon s - 1)
 
 -- A place gets a slot that no place held: it is counted there alone, and was never pushed; the slot that the place held before, if it held one, is counted
 -- once less; and every other slot and every other place is as it was.
-pub record GivesSlot (old new : Slots) (maps put : List (Option Map)) (m i s : ℕ) : Type 0 where
+pub record GivesSlot (old new : AnonSlotsSeen) (maps put : List (Option Map)) (m i s : ℕ) : Type 0 where
   pub free : count_at old s ≡ 0
   pub alone : count_at new s ≡ 1
   pub counts : new ≡ with_new_slot (anon_left old (slot_in maps m i)) s

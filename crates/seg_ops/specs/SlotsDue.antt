@@ -2,7 +2,7 @@
 use Rattle.std.specs.Prelude.{◌≡◌, ℕ, ◌+◌, ◌==◌, ◌&&◌, Bool, true, false, not, List, Option, Some, None, if◌then◌else◌, option_map}
 use Rattle.page_hash.specs.declared.PageName.{PageName}
 use Rattle.anon_map.specs.Maps.{Map}
-use Rattle.anon_slots.specs.Slots.{Slots, count_at}
+use Rattle.anon_slots.specs.Slots.{AnonSlotsSeen, count_at}
 use Rattle.vm_types.specs.declared.call.Kind.{Kind}
 use Rattle.vm_types.specs.declared.call.Kind.TheVariants.{Shared, Private}
 use Rattle.vm_types.specs.declared.call.Object.{Object}
@@ -18,12 +18,12 @@ abbrev pub MapPlace : Type 0
 MapPlace = ℕ × ℕ
 
 -- The place holds a slot that no other place holds.
-abbrev pub holds_alone : Slots → Option ℕ → Bool
+abbrev pub holds_alone : AnonSlotsSeen → Option ℕ → Bool
 holds_alone anon None = false
 holds_alone anon (Some slot) = count_at anon slot == 1
 
 -- A store to a page whose own place holds this makes a slot there: if the page is private, and that is no slot, or one that other places hold too.
-abbrev pub makes_own : Slots → Option ℕ → Kind → Bool
+abbrev pub makes_own : AnonSlotsSeen → Option ℕ → Kind → Bool
 makes_own anon held Shared = false
 makes_own anon held Private = not (holds_alone anon held)
 
@@ -44,7 +44,7 @@ zeros_due x (Some name) = None
 
 -- WHERE AN ACCESS MAKES A SLOT, if it makes one, of a page that isn't past its object's end: a store that mayn't write the page in place, for the page's own
 -- place, if it is private; and any other access that meets zeros which have no slot, for the zero object's place, or for that of new zero memory.
-abbrev pub slot_due : Slots → List (Option Map) → Spot → Bool → Option MapPlace
+abbrev pub slot_due : AnonSlotsSeen → List (Option Map) → Spot → Bool → Option MapPlace
 slot_due anon maps x write = if write && makes_own anon (own_slot maps x) x.0.kind then own_map_place x else zeros_due x (shown_name maps x)
 
 -- Every slot and every place is as it was.

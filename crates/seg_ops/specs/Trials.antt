@@ -10,7 +10,7 @@ use Rattle.page_store.specs.Out.{IsFlightOf}
 use Rattle.vnode_files.specs.declared.vnode.FileInfo.{FileInfo}
 use Rattle.vnode_files.specs.Files.{FilesSeen, vnode_at}
 use Rattle.vnode_files.specs.Grow.{page_count}
-use Rattle.anon_slots.specs.Slots.{Slots}
+use Rattle.anon_slots.specs.Slots.{AnonSlotsSeen}
 use Rattle.vm_world.specs.MemoryFits.{MemoryFits}
 use Rattle.vm_world.specs.NotesFit.{NotesFit}
 use Rattle.vm_world.specs.declared.segment.Segment.{Segment}
@@ -43,7 +43,7 @@ abbrev pub IsTrial : World → Type 0
 IsTrial w = IsTrialIn trial_spaces w
 
 -- The page is one of file 0.
-pub record IsTrialPage (files : FilesSeen) (anon : Slots) (page : ℕ) : Type 0 where
+pub record IsTrialPage (files : FilesSeen) (anon : AnonSlotsSeen) (page : ℕ) : Type 0 where
   pub file : 0 < length files.files
   pub kept : page < page_count (vnode_at files 0).info.extents
   pub exists : IsTrue (page_exists files anon (file_name 0 page))

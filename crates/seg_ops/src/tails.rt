@@ -1,6 +1,6 @@
 //! Tails of files that become zeros, since the page that has the tail lost its frame.
 ghost use Rattle.std.specs.Prelude.{◌≡◌, ◌<◌, ◌≤◌, ◌^◌, ◌==◌, ◌||◌, ℕ, length, IsTrue, IfSome};
-ghost use Rattle.flat_model.specs.Step.{bit};
+ghost use Rattle.flat_model.specs.Step.{is_bit_set};
 ghost use Rattle.page_hash.specs.Names.{is_name};
 ghost use Rattle.vm_world.specs.StateSteps.{PendsTails};
 ghost use Rattle.vm_world.specs.World.{world_seen, page_exists};
@@ -13,7 +13,7 @@ use vm_world::World;
 /// A set of files, as bits, with one file more.
 fn with_file(files: u64, file: u32) -> u64
     requires { file < 64 }
-    ensures bits { (f : ℕ) → bit result f ≡ (bit files f || (f == file)) }
+    ensures bits { (f : ℕ) → is_bit_set result f ≡ (is_bit_set files f || (f == file)) }
     ensures below { (n : ℕ) → file < n → files < 2 ^ n → result < 2 ^ n }
 {
     files | (1 << file)

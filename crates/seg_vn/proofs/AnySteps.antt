@@ -6,7 +6,7 @@ use Rattle.std.specs.FinSet as set
 use Rattle.std.specs.Ordering.{nat_cmp}
 use Rattle.anon_map.specs.Maps.{places_of, with_places}
 use Rattle.anon_map.specs.Maps as maps_of
-use Rattle.anon_slots.specs.Slots.{Slots, count_at}
+use Rattle.anon_slots.specs.Slots.{AnonSlotsSeen, count_at}
 use Rattle.page_hash.specs.Names.{is_name}
 use Rattle.page_hash.specs.declared.PageName.{PageName}
 use Rattle.page_store.specs.Notes.{Notes}
@@ -26,7 +26,7 @@ use Rattle.vm_types.specs.declared.call.Object.{Object}
 use Rattle.vm_types.specs.declared.call.Object.TheVariants as object
 use Rattle.vnode_files.specs.Files.{FilesSeen, vnode_at}
 use Rattle.flat_model.specs.Flat.{Flat}
-use Rattle.flat_model.specs.Step.{bit}
+use Rattle.flat_model.specs.Step.{is_bit_set}
 use Rattle.flat_model.specs.Words.{page, pages_in}
 use Rattle.vm_world.specs.FlatMemory.{Memory, flat_memory}
 use Rattle.vm_world.specs.MemoryFits.{MemoryFits}
@@ -76,7 +76,7 @@ there-still old new spaces p q x here some maps files = record { here = here; so
 
 pub in-place-still : (old new : World) (x : Spot) → new.maps ≡ old.maps → new.anon ≡ old.anon → MayWriteInPlace old.anon old.maps x → MayWriteInPlace new.anon new.maps x
 in-place-still old new x maps anon m =
-    subst (λ (a : Slots). MayWriteInPlace a new.maps x) (sym anon) (subst (λ (ms : List (Option maps_of.Map)). MayWriteInPlace old.anon ms x) (sym maps) m)
+    subst (λ (a : AnonSlotsSeen). MayWriteInPlace a new.maps x) (sym anon) (subst (λ (ms : List (Option maps_of.Map)). MayWriteInPlace old.anon ms x) (sym maps) m)
 
 pub shows-object : (w : World) (x : Spot) → IsTrue (object_has w x.0.shown (x.0.index + x.1) x.0.object) → IsTrue (shows_page w x)
 shows-object w x has = ap (λ (b : Bool). is_some (own_slot w.maps x) || b) has ∙ or-true (is_some (own_slot w.maps x))
@@ -249,8 +249,8 @@ pub pends-then : (u v : World) (cut : PageName → Bool) (a b c : ℕ) → Pends
 pends-then u v cut a b c first second none files = record {
   bits = λ f lt.
       second.bits f (subst (λ (fs : FilesSeen). f < length fs.files) (sym files) lt)
-      ∙ ap (λ (o : Option PageName). bit b f || tails_lost v (is_name o) f) none
-      ∙ or-false (bit b f) ∙ first.bits f lt;
+      ∙ ap (λ (o : Option PageName). is_bit_set b f || tails_lost v (is_name o) f) none
+      ∙ or-false (is_bit_set b f) ∙ first.bits f lt;
   below = λ low. subst (λ (fs : FilesSeen). c < 2 ^ length fs.files) files (second.below (subst (λ (fs : FilesSeen). b < 2 ^ length fs.files) (sym files) (first.below low)));
 }
 

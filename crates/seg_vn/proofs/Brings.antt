@@ -6,7 +6,7 @@ use Rattle.page_hash.specs.declared.PageName.{PageName}
 use Rattle.page_store.specs.Seen.{residence}
 use Rattle.page_store.specs.declared.plan.Hold.TheVariants as hold
 use Rattle.page_store.specs.declared.residence.Residence.TheVariants.{Home, Moving, Absent}
-use Rattle.anon_slots.specs.Slots.{Slots, is_used, count_at}
+use Rattle.anon_slots.specs.Slots.{AnonSlotsSeen, is_used, count_at}
 use Rattle.vnode_files.specs.Files.{FilesSeen, vnode_at}
 use Rattle.vnode_files.specs.Vnode.{is_blank}
 use Rattle.flat_model.specs.Words.{pages_in}
@@ -26,12 +26,12 @@ use Rattle.seg_vn.specs.Brings.{IsBrought, BringsPage}
 use Rattle.seg_vn.proofs.Takes.{takes-none}
 
 -- a page below a file's length exists
-pub below-exists : (files : FilesSeen) (anon : Slots) (f i : ℕ) → FilesFit files → f < length files.files → i < pages_in (vnode_at files f).info.length → IsTrue (page_exists files anon (file_name f i))
+pub below-exists : (files : FilesSeen) (anon : AnonSlotsSeen) (f i : ℕ) → FilesFit files → f < length files.files → i < pages_in (vnode_at files f).info.length → IsTrue (page_exists files anon (file_name f i))
 below-exists files anon f i fit lt below =
     ap (λ (b : Bool). cond b (is_used (count_at anon i)) (nat_lt i (pages_in (vnode_at files f).info.length))) (not-slot f (file-apart files f fit lt)) ∙ lt-ltb i (pages_in (vnode_at files f).info.length) below
 
 -- whether it was pushed, the file says
-pub blank-file : (files : FilesSeen) (anon : Slots) (f i : ℕ) → FilesFit files → f < length files.files → is_unpushed files anon (file_name f i) ≡ is_blank (vnode_at files f) i
+pub blank-file : (files : FilesSeen) (anon : AnonSlotsSeen) (f i : ℕ) → FilesFit files → f < length files.files → is_unpushed files anon (file_name f i) ≡ is_blank (vnode_at files f) i
 blank-file files anon f i fit lt = ap (λ (b : Bool). cond b (not (slice_index_or anon.swapped i false)) (is_blank (vnode_at files f) i)) (not-slot f (file-apart files f fit lt))
 
 -- THE ANSWERS: it is home, or moving; it is fetched; and a frame was taken for it.

@@ -12,7 +12,7 @@ use Rattle.page_store.specs.Notes.{Notes}
 use Rattle.flat_model.specs.Access.{with_space}
 use Rattle.flat_model.specs.Flat.{Cell, Flat, Space, without_unnamed}
 use Rattle.flat_model.specs.Mapping.{cells_of, without_pages}
-use Rattle.flat_model.specs.Space.{in_range, without_range}
+use Rattle.flat_model.specs.Space.{is_in_range, without_range}
 use Rattle.flat_model.specs.Words.{Page}
 use Rattle.flat_model.proofs.Ranges.{same_space, get-insert_here, get-without_range, insert_same}
 use Rattle.flat_model.proofs.Reserve.{put_back}
@@ -54,7 +54,7 @@ abbrev pub part-leaves : (w : World) (spaces : Spaces) (p : ℕ) (parts : List (
 part-leaves w spaces p parts k s g fits = record { parts = parts; part = g.part; memory = fits; here = get-insert_here spaces p parts; starts = g.is; piece = g.piece }
 
 -- no page is in an empty range
-pub none-out : (k q : ℕ) → in_range k (k - k) q ≡ false
+pub none-out : (k q : ℕ) → is_in_range k (k - k) q ≡ false
 none-out k q = elim (cases_lt q k) [
   | inl before ↦ and_left (nat_le k q) (nat_lt q (k + (k - k))) (lt-leb k q before)
   | inr past ↦ and_right (nat_le k q) (nat_lt q (k + (k - k))) (le-ltb q (k + (k - k)) (omega (arith, past)))
@@ -80,8 +80,8 @@ module _ (w : World) (zeros : List (Option ℕ)) (spaces : Spaces) (p : ℕ) (ol
     cell x = cell_of (place_contents (page_value w notes) w.maps) x
 
     -- the cells outside a range are those of the pieces there
-    cut : (a n q : ℕ) → cond (in_range a n q) None (finite.get C q) ≡ option_map cell (cond (in_range a n q) None (piece_at old q))
-    cut a n q = ap (cond (in_range a n q) None) (cell-is m p old born notes q fits.here) ∙ sym (cut-map cell (in_range a n q) (piece_at old q))
+    cut : (a n q : ℕ) → cond (is_in_range a n q) None (finite.get C q) ≡ option_map cell (cond (is_in_range a n q) None (piece_at old q))
+    cut a n q = ap (cond (is_in_range a n q) None) (cell-is m p old born notes q fits.here) ∙ sym (cut-map cell (is_in_range a n q) (piece_at old q))
 
     none-flat : (k : ℕ) → F ≡ without_pages F p k (k - k)
     none-flat k =
@@ -91,14 +91,14 @@ module _ (w : World) (zeros : List (Option ℕ)) (spaces : Spaces) (p : ℕ) (ol
         (sym (zeros-are m born (contents_of w notes) fits.memory.segments F.zeros (λ z n there. zero-pages-of m fits.memory born notes z n there))) in
         sym (ap (λ (S : Space). without_unnamed (with_space F p S)) same ∙ ap without_unnamed back ∙ named)
 
-    range-flat : (a n b k : ℕ) → ((q : ℕ) → cond (in_range a n q) None (piece_at old q) ≡ cond (in_range b k q) None (piece_at old q)) → without_pages F p a n ≡ without_pages F p b k
+    range-flat : (a n b k : ℕ) → ((q : ℕ) → cond (is_in_range a n q) None (piece_at old q) ≡ cond (is_in_range b k q) None (piece_at old q)) → without_pages F p a n ≡ without_pages F p b k
     range-flat a n b k same = ap (λ (S : Space). without_unnamed (with_space F p S))
         (same_space _ _ (λ q. get-without_range C a n q ∙ cut a n q ∙ ap (option_map cell) (same q) ∙ sym (cut b k q) ∙ sym (get-without_range C b k q)))
 
-    both-flat : (a n b k c l : ℕ) → ((q : ℕ) → cond (in_range b k q) None (cond (in_range a n q) None (piece_at old q)) ≡ cond (in_range c l q) None (piece_at old q))
+    both-flat : (a n b k c l : ℕ) → ((q : ℕ) → cond (is_in_range b k q) None (cond (is_in_range a n q) None (piece_at old q)) ≡ cond (is_in_range c l q) None (piece_at old q))
         → without_pages (without_pages F p a n) p b k ≡ without_pages F p c l
     both-flat a n b k c l same = pages-joined F p a n b k c l (λ q.
-        ap (cond (in_range b k q) None) (cut a n q) ∙ sym (cut-map cell (in_range b k q) (cond (in_range a n q) None (piece_at old q))) ∙ ap (option_map cell) (same q) ∙ sym (cut c l q))
+        ap (cond (is_in_range b k q) None) (cut a n q) ∙ sym (cut-map cell (is_in_range b k q) (cond (is_in_range a n q) None (piece_at old q))) ∙ ap (option_map cell) (same q) ∙ sym (cut c l q))
 
   pub none-left : (k : ℕ) → ChangesSpace p m (record { world = w; spaces = finite.insert spaces p old }) zeros (λ F. without_pages F p k (k - k))
   none-left k = subst (λ (s : Spaces). ChangesSpace p m (record { world = w; spaces = s }) zeros (λ F. without_pages F p k (k - k))) (sym (insert_same spaces p old fits.here)) (record {
@@ -106,14 +106,14 @@ module _ (w : World) (zeros : List (Option ℕ)) (spaces : Spaces) (p : ℕ) (ol
     known = fits.known;
   })
 
-  pub range-left : (new : Memory) (list : List (Option ℕ)) (a n b k : ℕ) → ((q : ℕ) → cond (in_range a n q) None (piece_at old q) ≡ cond (in_range b k q) None (piece_at old q)) → ChangesSpace p m new list (λ F. without_pages F p a n)
+  pub range-left : (new : Memory) (list : List (Option ℕ)) (a n b k : ℕ) → ((q : ℕ) → cond (is_in_range a n q) None (piece_at old q) ≡ cond (is_in_range b k q) None (piece_at old q)) → ChangesSpace p m new list (λ F. without_pages F p a n)
       → ChangesSpace p m new list (λ F. without_pages F p b k)
   range-left new list a n b k same done = record {
     changes = segment_rule.same p m new (λ F. without_pages F p a n) (λ F. without_pages F p b k) (λ born notes. range-flat born notes a n b k same) done.changes;
     known = done.known;
   }
 
-  pub part-left : (mid new : World) (one two : List (Option ℕ)) (now next : List (Part Segment)) (a n b k c l : ℕ) → ((q : ℕ) → cond (in_range b k q) None (cond (in_range a n q) None (piece_at old q)) ≡ cond (in_range c l q) None (piece_at old q)) → next ≡ without_part b now
+  pub part-left : (mid new : World) (one two : List (Option ℕ)) (now next : List (Part Segment)) (a n b k c l : ℕ) → ((q : ℕ) → cond (is_in_range b k q) None (cond (is_in_range a n q) None (piece_at old q)) ≡ cond (is_in_range c l q) None (piece_at old q)) → next ≡ without_part b now
       → ChangesSpace p m (record { world = mid; spaces = finite.insert spaces p now }) one (λ F. without_pages F p a n)
       → ChangesSpace p (record { world = mid; spaces = finite.insert spaces p now }) (record { world = new; spaces = finite.insert (finite.insert spaces p now) p (without_part b now) }) two (λ F. without_pages F p b k)
       → ChangesSpace p m (record { world = new; spaces = finite.insert spaces p next }) two (λ F. without_pages F p c l)
@@ -127,13 +127,13 @@ module _ (w : World) (zeros : List (Option ℕ)) (spaces : Spaces) (p : ℕ) (ol
       })
 
 -- THE LAST PART of a range goes, behind which the range has no piece any more.
-module _ (old now : List (Part Segment)) (top end k : ℕ) (x : Part Segment) (order : IsInOrder 1 now) (le : top ≤ end) (lt : k < top) (pages : (q : ℕ) → piece_at now q ≡ cond (in_range top (end - top) q) None (piece_at old q))
+module _ (old now : List (Part Segment)) (top end k : ℕ) (x : Part Segment) (order : IsInOrder 1 now) (le : top ≤ end) (lt : k < top) (pages : (q : ℕ) → piece_at now q ≡ cond (is_in_range top (end - top) q) None (piece_at old q))
     (edge : StartsAt old end) (last : FindsLast now top (Some k)) (is : begins now k ≡ Some x) where
   first : x.first ≡ k
   first = begins-first now k x is
 
-  pub next-pages : (q : ℕ) → piece_at (without_part k now) q ≡ cond (in_range k (end - k) q) None (piece_at old q)
+  pub next-pages : (q : ℕ) → piece_at (without_part k now) q ≡ cond (is_in_range k (end - k) q) None (piece_at old q)
   next-pages q = pages-step old now top end k x order le lt pages edge last is q
 
-  pub next-ranges : (n : ℕ) → x.pages ≡ n → (q : ℕ) → cond (in_range k n q) None (cond (in_range top (end - top) q) None (piece_at old q)) ≡ cond (in_range k (end - k) q) None (piece_at old q)
-  next-ranges n size q = ap (cond (in_range k n q) None) (sym (pages q)) ∙ (λ i. cond (in_range (sym first i) (sym size i) q) None (piece_at now q)) ∙ sym (at-without_part 1 k now x order is q) ∙ next-pages q
+  pub next-ranges : (n : ℕ) → x.pages ≡ n → (q : ℕ) → cond (is_in_range k n q) None (cond (is_in_range top (end - top) q) None (piece_at old q)) ≡ cond (is_in_range k (end - k) q) None (piece_at old q)
+  next-ranges n size q = ap (cond (is_in_range k n q) None) (sym (pages q)) ∙ (λ i. cond (is_in_range (sym first i) (sym size i) q) None (piece_at now q)) ∙ sym (at-without_part 1 k now x order is q) ∙ next-pages q

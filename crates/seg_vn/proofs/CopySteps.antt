@@ -7,7 +7,7 @@ use Rattle.std.specs.Ordering.{nat_cmp}
 use Rattle.std.proofs.lemmas.Bool.{ltb-true}
 use Rattle.core_arena.specs.Bytes.{zeros}
 use Rattle.anon_map.specs.Maps.{Map, places_of, with_places}
-use Rattle.anon_slots.specs.Slots.{Slots, count_at}
+use Rattle.anon_slots.specs.Slots.{AnonSlotsSeen, count_at}
 use Rattle.page_hash.specs.Names.{find, is_name}
 use Rattle.page_hash.specs.declared.PageName.{PageName}
 use Rattle.page_store.specs.Notes.{Notes}
@@ -142,7 +142,7 @@ copy-makes w v spaces p q m i x slot shown call fits c maps anon acc =
     (λ s is one.
     let held : slot ≡ Some s = sym (held-there w.maps x m i slot c.own c.place c.holds) ∙ ap (λ (ms : List (Option Map)). own_slot ms x) (sym maps) ∙ is in
     let more = c.shared s held in
-    let same = ap (λ (a : Slots). count_at a s) anon in
+    let same = ap (λ (a : AnonSlotsSeen). count_at a s) anon in
     omega (arith, more, same, one)) acc
 
 -- and the page that is shown, which no frame holds, isn't home
@@ -258,8 +258,8 @@ pub zeros-stay : (w v : World) (shown : Option PageName) → ((name : PageName) 
 zeros-stay w v None stay files anon zs = zs
 zeros-stay w v (Some name) stay files anon zs = (
   stay name zs.0,
-  ap (λ (fs : FilesSeen). is_unpushed fs v.anon name) files ∙ ap (λ (a : Slots). is_unpushed w.files a name) anon ∙ zs.1,
-  ap (λ (fs : FilesSeen). page_exists fs v.anon name) files ∙ ap (λ (a : Slots). page_exists w.files a name) anon ∙ zs.2,
+  ap (λ (fs : FilesSeen). is_unpushed fs v.anon name) files ∙ ap (λ (a : AnonSlotsSeen). is_unpushed w.files a name) anon ∙ zs.1,
+  ap (λ (fs : FilesSeen). page_exists fs v.anon name) files ∙ ap (λ (a : AnonSlotsSeen). page_exists w.files a name) anon ∙ zs.2,
 )
 
 -- THE PAGE THAT IS SHOWN has to be waited for, or to be read in.

@@ -4,8 +4,8 @@ use Rattle.std.specs.Prelude.{◌==◌, is_some, unwrap_or, replicate}
 use Rattle.std.proofs.lemmas.Bool.{cases_Bool, cases_eq, eqb-true}
 use Rattle.anon_map.specs.Maps.{Map, anon_map_at, IsMapThere, AreEmpty, places_of, holders_of, with_places, with_holders, free_numbers}
 use Rattle.anon_map.proofs.MapLaws.{with_places_free, with_places_same, with_places_other, with_holders_free, with_holders_same, without_free}
-use Rattle.anon_slots.specs.Slots.{Slots, count_at}
-use Rattle.hat_layer.specs.Pool.{Pool, translation_at}
+use Rattle.anon_slots.specs.Slots.{AnonSlotsSeen, count_at}
+use Rattle.hat_layer.specs.Pool.{HatSeen, translation_at}
 use Rattle.vm_world.specs.MapSteps.{maps_released}
 use Rattle.vm_world.specs.World.{World}
 use Rattle.vm_world.proofs.KeptMaps.{same-places, same-there}
@@ -28,7 +28,7 @@ gives-then u v w a b = record {
 -- by translations that go
 pub unloaded-given : (u v : World) → v.anon ≡ u.anon → v.maps ≡ u.maps → ((p q : ℕ) → translation_at u.hat.places p q ≡ None → translation_at v.hat.places p q ≡ None) → GivesBack u v
 unloaded-given u v anon maps none = record {
-  fall = λ slot. let e = ap (λ (a : Slots). count_at a slot) anon in omega (arith, e);
+  fall = λ slot. let e = ap (λ (a : AnonSlotsSeen). count_at a slot) anon in omega (arith, e);
   none = none;
   there = λ n. subst (λ (ms : List (Option Map)). IsMapThere ms n) maps;
   lengths = λ n is. ap (λ (ms : List (Option Map)). length (places_of ms n)) maps;
@@ -46,7 +46,7 @@ module _ (u v : World) (n : ℕ) (ps : List (Option ℕ)) (is : IsMapThere u.map
   pub places-given : ((slot : ℕ) → count_at v.anon slot ≤ count_at u.anon slot) → v.hat ≡ u.hat → GivesBack u v
   places-given fall hat = record {
     fall = fall;
-    none = λ p q none. ap (λ (h : Pool). translation_at h.places p q) hat ∙ none;
+    none = λ p q none. ap (λ (h : HatSeen). translation_at h.places p q) hat ∙ none;
     there = λ k there. elim (cases_eq k n) [
       | inl e ↦ subst (IsMapThere u.maps) (sym e) is
       | inr ne ↦ same-there v.maps u.maps k (sym (apart k ne)) there

@@ -14,7 +14,7 @@ use Rattle.page_store.specs.Notes.{Notes}
 use Rattle.flat_model.specs.Access.{with_space}
 use Rattle.flat_model.specs.Flat.{Cell, Flat, Space, cell_at, is_named, zero_of}
 use Rattle.flat_model.specs.Mapping.{cells_of, without_pages}
-use Rattle.flat_model.specs.Space.{in_range, without_range}
+use Rattle.flat_model.specs.Space.{is_in_range, without_range}
 use Rattle.flat_model.proofs.Named.{named_zeros-to_cell}
 use Rattle.flat_model.proofs.Ranges.{get-insert_here, get-insert_apart, get-without_range, in_range-is}
 use Rattle.vm_world.specs.CountsFit.{SegmentFits, ObjectFits}
@@ -34,21 +34,21 @@ use Rattle.seg_ops.specs.Empties.{IsUnloadedZero}
 use Rattle.seg_ops.proofs.SlotOwners.{places_law}
 
 -- a cell outside the pages that go was one before, elsewhere or outside them
-was-cell : (F : Flat) (p first n r k : ℕ) (d : Cell) → cell_at (with_space F p (without_range (cells_of F p) first n)) r k ≡ Some d → (cell_at F r k ≡ Some d) × (r ≡ p → in_range first n k ≡ false)
+was-cell : (F : Flat) (p first n r k : ℕ) (d : Cell) → cell_at (with_space F p (without_range (cells_of F p) first n)) r k ≡ Some d → (cell_at F r k ≡ Some d) × (r ≡ p → is_in_range first n k ≡ false)
 was-cell F p first n r k d is =
     let C : Space = without_range (cells_of F p) first n in
     elim (cases_eq r p) [
       | inr ne ↦ (sym (ap (option_and_then (λ (s : Space). finite.get s k)) (get-insert_apart F.spaces p C r ne)) ∙ is, λ e. absurd (ne e))
       | inl e ↦
           let here : finite.get C k ≡ Some d = sym (ap (λ (j : ℕ). option_and_then (λ (s : Space). finite.get s k) (finite.get (finite.insert F.spaces p C) j)) e ∙ ap (option_and_then (λ (s : Space). finite.get s k)) (get-insert_here F.spaces p C)) ∙ is in
-          by_range e (in_range first n k) refl (sym (get-without_range (cells_of F p) first n k) ∙ here)
+          by_range e (is_in_range first n k) refl (sym (get-without_range (cells_of F p) first n k) ∙ here)
     ]
   where
     of_space : (o : Option Space) → finite.get (unwrap_or o finite.empty) k ≡ Some d → option_and_then (λ (s : Space). finite.get s k) o ≡ Some d
     of_space None is = absurd (let z : None ≡ Some d = sym (finite.get-empty nat_cmp k) ∙ is in cc)
     of_space (Some s) is = is
 
-    by_range : r ≡ p → (b : Bool) → in_range first n k ≡ b → cond b None (finite.get (cells_of F p) k) ≡ Some d → (cell_at F r k ≡ Some d) × (r ≡ p → in_range first n k ≡ false)
+    by_range : r ≡ p → (b : Bool) → is_in_range first n k ≡ b → cond b None (finite.get (cells_of F p) k) ≡ Some d → (cell_at F r k ≡ Some d) × (r ≡ p → is_in_range first n k ≡ false)
     by_range e true t is = absurd (let z : None ≡ Some d = is in cc)
     by_range e false t is = (ap (λ (j : ℕ). cell_at F j k) e ∙ of_space (finite.get F.spaces p) is, λ same. t)
 

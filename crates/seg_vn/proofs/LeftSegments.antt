@@ -10,7 +10,7 @@ use Rattle.addr_space.proofs.PartLemmas.{found-in, has-in}
 use Rattle.addr_space.proofs.PartLists.{all-begins, begins-first, begins-found, at-found}
 use Rattle.anon_map.specs.Maps.{Map, anon_map_at, IsMapThere, AreEmpty, places_of, holders_of}
 use Rattle.anon_slots.specs.Slots.{slots_in_use}
-use Rattle.hat_layer.specs.Pool.{Pool}
+use Rattle.hat_layer.specs.Pool.{HatSeen}
 use Rattle.flat_model.specs.Flat.{Flat, IsFlat, without_unnamed}
 use Rattle.flat_model.specs.Mapping.{without_pages}
 use Rattle.vm_world.specs.CallSteps.{ChangesMemory}
@@ -198,7 +198,7 @@ first-part w w1 spaces p first s t c keeps none e = record {
 
 abbrev pub next-part : (w new : World) (spaces : Spaces) (p first : ℕ) (s : Segment) → IsUnloadedPart w spaces p first s → LosesWithPages p first s.pages (record { world = w; spaces = spaces }) (record { world = new; spaces = spaces }) → new.hat ≡ w.hat
     → IsUnloadedPart new spaces p first s
-next-part w new spaces p first s u lost hat = record { part = still-part w new spaces p first s u.part lost.changes.memory; unloaded = subst (λ (h : Pool). AreUnloaded h.places p first s.pages) (sym hat) u.unloaded }
+next-part w new spaces p first s u lost hat = record { part = still-part w new spaces p first s u.part lost.changes.memory; unloaded = subst (λ (h : HatSeen). AreUnloaded h.places p first s.pages) (sym hat) u.unloaded }
 
 -- A PART THAT MAY GO: none of its pages has a translation, and the maps that go with it hold no slot.
 pub record MayGo (w : World) (spaces : Spaces) (p first : ℕ) (s : Segment) : Type 0 where

@@ -3,7 +3,7 @@ use Rattle.std.proofs.Common.{◌≡◌, ℕ, ◌<◌, ◌+◌, ◌-◌, Bool, t
 use Rattle.std.specs.Prelude.{◌==◌, not, option_map}
 use Rattle.std.proofs.lemmas.Bool.Decides.{eqb_tells}
 use Rattle.anon_map.specs.Maps.{Map, places_of, with_places}
-use Rattle.anon_slots.specs.Slots.{Slots, count_at, with_count, with_new_slot}
+use Rattle.anon_slots.specs.Slots.{AnonSlotsSeen, count_at, with_count, with_new_slot}
 use Rattle.page_hash.specs.declared.PageName.{PageName}
 use Rattle.vm_types.specs.declared.call.Kind.{Kind}
 use Rattle.vm_types.specs.declared.call.Kind.TheVariants.{Shared, Private}
@@ -17,7 +17,7 @@ use Rattle.seg_vn.specs.AnyPlaces.{ZerosShown}
 use Rattle.seg_ops.specs.SlotsDue.{MakesSlotAt, MapPlace, SlotsAfter, holds_alone, makes_own, object_map_place, own_map_place, slot_due, zeros_due}
 
 -- NONE IS DUE where a page is shown, and may be written in place, if it is to be written.
-pub due-none : (anon : Slots) (maps : List (Option Map)) (x : Spot) (write : Bool) (name : PageName) → shown_name maps x ≡ Some name → (write ≡ true → MayWriteInPlace anon maps x) → slot_due anon maps x write ≡ None
+pub due-none : (anon : AnonSlotsSeen) (maps : List (Option Map)) (x : Spot) (write : Bool) (name : PageName) → shown_name maps x ≡ Some name → (write ≡ true → MayWriteInPlace anon maps x) → slot_due anon maps x write ≡ None
 due-none anon maps x false name shows may = ap (zeros_due x) shows
 due-none anon maps x true name shows may =
     ap (λ (b : Bool). cond b (own_map_place x) (zeros_due x (shown_name maps x))) (by_kind x.0.kind refl) ∙ ap (zeros_due x) shows
@@ -62,7 +62,7 @@ module _ (w : World) (spaces : Spaces) (p q m i : ℕ) (x : Spot) (write writabl
   due-zeros = by-write write (λ writes. (z.in_place (z.lets writes)).1)
 
 -- ONE IS DUE FOR A STORE to a private page whose own place holds no slot alone.
-pub due-own : (anon : Slots) (maps : List (Option Map)) (x : Spot) (m i : ℕ) (slot : Option ℕ) → x.0.kind ≡ Private → x.0.own ≡ Some m → x.1 ≡ i → own_slot maps x ≡ slot
+pub due-own : (anon : AnonSlotsSeen) (maps : List (Option Map)) (x : Spot) (m i : ℕ) (slot : Option ℕ) → x.0.kind ≡ Private → x.0.own ≡ Some m → x.1 ≡ i → own_slot maps x ≡ slot
     → ((s : ℕ) → slot ≡ Some s → 1 < count_at anon s) → slot_due anon maps x true ≡ Some (m, i)
 due-own anon maps x m i slot kind own place holds shared =
     ap (λ (k : Kind). cond (makes_own anon (own_slot maps x) k) (own_map_place x) (zeros_due x (shown_name maps x))) kind
@@ -81,11 +81,11 @@ due-own anon maps x m i slot kind own place holds shared =
     by_slot (Some s) many = more (count_at anon s) (many s refl)
 
 -- A PLACE GETS A SLOT: an empty one, or one that held another.
-pub gives-new : (old new : Slots) (maps put : List (Option Map)) (m i s : ℕ) → slot_in maps m i ≡ None → count_at old s ≡ 0 → count_at new s ≡ 1 → new ≡ with_new_slot old s
+pub gives-new : (old new : AnonSlotsSeen) (maps put : List (Option Map)) (m i s : ℕ) → slot_in maps m i ≡ None → count_at old s ≡ 0 → count_at new s ≡ 1 → new ≡ with_new_slot old s
     → put ≡ with_places maps m (slice_set (places_of maps m) i (Some s)) → GivesSlot old new maps put m i s
 gives-new old new maps put m i s empty free alone counts set = record { free = free; alone = alone; counts = counts ∙ ap (λ (o : Option ℕ). with_new_slot (anon_left old o) s) (sym empty); set = set }
 
-pub gives-other : (old new : Slots) (maps put : List (Option Map)) (m i held s : ℕ) → slot_in maps m i ≡ Some held → count_at old s ≡ 0 → count_at new s ≡ 1
+pub gives-other : (old new : AnonSlotsSeen) (maps put : List (Option Map)) (m i held s : ℕ) → slot_in maps m i ≡ Some held → count_at old s ≡ 0 → count_at new s ≡ 1
     → new ≡ with_new_slot (with_count old held (count_at old held - 1)) s → put ≡ with_places maps m (slice_set (places_of maps m) i (Some s)) → GivesSlot old new maps put m i s
 gives-other old new maps put m i held s holds free alone counts set = record { free = free; alone = alone; counts = counts ∙ ap (λ (o : Option ℕ). with_new_slot (anon_left old o) s) (sym holds); set = set }
 
@@ -98,8 +98,8 @@ pub slots-made : (old freed made new : World) (x : Spot) (write : Bool) (m i s :
     → freed.anon ≡ old.anon → freed.maps ≡ old.maps → new.anon ≡ made.anon → new.maps ≡ made.maps → SlotsAfter old new x write step.Loaded
 slots-made old freed made new x write m i s due gives anon maps anon' maps' = subst (λ (o : Option MapPlace). MakesSlotAt old new o) (sym due) (
   s,
-  subst (λ (a : Slots). GivesSlot a new.anon old.maps new.maps m i s) anon
-      (subst (λ (a : Slots). GivesSlot freed.anon a old.maps new.maps m i s) (sym anon')
+  subst (λ (a : AnonSlotsSeen). GivesSlot a new.anon old.maps new.maps m i s) anon
+      (subst (λ (a : AnonSlotsSeen). GivesSlot freed.anon a old.maps new.maps m i s) (sym anon')
       (subst (λ (ms : List (Option Map)). GivesSlot freed.anon made.anon ms new.maps m i s) maps
       (subst (λ (ms : List (Option Map)). GivesSlot freed.anon made.anon freed.maps ms m i s) (sym maps') gives))),
 )
@@ -109,6 +109,6 @@ pub made-still : (old mid new : World) (o : Option MapPlace) → new.anon ≡ mi
 made-still old mid new None anon maps k = record { counts = anon ∙ k.counts; places = maps ∙ k.places }
 made-still old mid new (Some place) anon maps k = (
   k.0,
-  subst (λ (a : Slots). GivesSlot old.anon a old.maps new.maps place.0 place.1 k.0) (sym anon)
+  subst (λ (a : AnonSlotsSeen). GivesSlot old.anon a old.maps new.maps place.0 place.1 k.0) (sym anon)
       (subst (λ (ms : List (Option Map)). GivesSlot old.anon mid.anon old.maps ms place.0 place.1 k.0) (sym maps) k.1),
 )

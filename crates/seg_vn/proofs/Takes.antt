@@ -6,7 +6,7 @@ use Rattle.page_hash.specs.declared.PageName.{PageName}
 use Rattle.page_hash.proofs.NameLaws.{is_name-true}
 use Rattle.page_store.specs.Steps.{next_name}
 use Rattle.vnode_files.specs.Files.{FilesSeen, vnode_at}
-use Rattle.flat_model.specs.Step.{bit}
+use Rattle.flat_model.specs.Step.{is_bit_set}
 use Rattle.flat_model.specs.Words.{pages_in}
 use Rattle.vm_world.specs.MemoryFits.{MemoryFits}
 use Rattle.vm_world.specs.Segments.{Spaces}
@@ -27,14 +27,14 @@ pub takes-none : (old new : World) (spaces : Spaces) (pending : ℕ) → KeepsPa
 takes-none old new spaces pending keeps = record {
   cut = λ name. false;
   step = keeps;
-  pends = record { bits = λ f lt. sym (or-false (bit pending f)); below = λ below. below };
+  pends = record { bits = λ f lt. sym (or-false (is_bit_set pending f)); below = λ below. below };
   took = λ name cut. absurd (let z : false ≡ true = cut in cc);
 }
 
 -- the tails that are pending, by the files' lengths alone
 pub pends-files : (u v : World) (cut : PageName → Bool) (pending more : ℕ) → v.files ≡ u.files → PendsTails v cut pending more → PendsTails u cut pending more
 pends-files u v cut pending more files t = record {
-  bits = λ f lt. subst (λ (fs : FilesSeen). bit more f ≡ (bit pending f || cut (file_name f (pages_in (vnode_at fs f).info.length - 1)))) files (t.bits f (subst (λ (fs : FilesSeen). f < length fs.files) (sym files) lt));
+  bits = λ f lt. subst (λ (fs : FilesSeen). is_bit_set more f ≡ (is_bit_set pending f || cut (file_name f (pages_in (vnode_at fs f).info.length - 1)))) files (t.bits f (subst (λ (fs : FilesSeen). f < length fs.files) (sym files) lt));
   below = λ low. subst (λ (fs : FilesSeen). more < 2 ^ length fs.files) files (t.below (subst (λ (fs : FilesSeen). pending < 2 ^ length fs.files) (sym files) low));
 }
 
@@ -54,7 +54,7 @@ pub takes-then : (old mid new : World) (spaces : Spaces) (pending more : ℕ) �
 takes-then old mid new spaces pending more f t second names = record {
   cut = λ name. t.cut name || false;
   step = frame_law.joined old mid new spaces stays t.cut (λ name. false) f t.step second;
-  pends = record { bits = λ f lt. t.pends.bits f lt ∙ ap (λ (b : Bool). bit pending f || b) (sym (or-false (tails_lost old t.cut f))); below = t.pends.below };
+  pends = record { bits = λ f lt. t.pends.bits f lt ∙ ap (λ (b : Bool). is_bit_set pending f || b) (sym (or-false (tails_lost old t.cut f))); below = t.pends.below };
   took = λ name cut.
       let l = t.took name (sym (or-false (t.cut name)) ∙ cut) in
       record { frame = l.frame; held = l.held; taken = λ is. l.taken (ap (λ (ns : List (Option PageName)). name_at ns l.frame) (sym names) ∙ is) };

@@ -3,7 +3,7 @@ ghost use Rattle.std.specs.Prelude.{◌≡◌, ◌≤◌, ◌<◌, ◌+◌, ◌-
 ghost use Rattle.std.specs.FinMap as finite;
 ghost use Rattle.addr_space.specs.Space.{piece_at, begins, FindsLast};
 ghost use Rattle.flat_model.specs.Mapping.{without_pages};
-ghost use Rattle.flat_model.specs.Space.{in_range};
+ghost use Rattle.flat_model.specs.Space.{is_in_range};
 ghost use Rattle.vm_world.specs.Segments.{Spaces};
 ghost use Rattle.vm_world.specs.World.{world_seen};
 ghost use Rattle.vm_world.specs.ZeroObjects.{free_number};
@@ -45,7 +45,7 @@ pub fn clear<D: Disk>(
         × SpaceFits (world_seen world.old) world.old.zeros spaces process space.old.parts }
     // The pages of the range have no cell, and all others the piece that they had.
     ensures pages { (q : ℕ) → piece_at space.new.parts q
-        ≡ (if in_range from (end - from) q then None else piece_at space.old.parts q) }
+        ≡ (if is_in_range from (end - from) q then None else piece_at space.old.parts q) }
     ensures changes { (spaces : Spaces)
         → SpaceFits (world_seen world.old) world.old.zeros spaces process space.old.parts
         → ChangesSpace process (record { world = world_seen world.old; spaces = spaces })

@@ -23,7 +23,7 @@ use Rattle.volume_format.specs.Table.{no_entry}
 use Rattle.flat_model.specs.Flat.{File, Flat, IsFile, IsFlat}
 use Rattle.flat_model.specs.History.{replay}
 use Rattle.flat_model.specs.Parts.{file_bytes, without_tail}
-use Rattle.flat_model.specs.Step.{bit, files_cleared}
+use Rattle.flat_model.specs.Step.{is_bit_set, files_cleared}
 use Rattle.flat_model.specs.Words.{Page, IsPage, pages_in}
 use Rattle.flat_model.proofs.FileBytes.{file_bytes-without_tail}
 use Rattle.flat_model.proofs.WellFormed.{IsFlat-tails_cleared}
@@ -140,7 +140,7 @@ module _ (F : Flat) (s t : KernelState) (l : LeftSeen) (event : IsEvent 0 s None
   page-whole : HaveTold (bare_disks l.disks) l.swap → (k j : ℕ) → k < length l.files.files → j < pages_in (info_of k).length → length (page_of k j) ≡ 4096
   page-whole told k j lt below =
       let fits = history-left F s t l event before c told in
-      let flat : IsFlat (flat_memory t.memory t.born no_notes) = subst IsFlat (sym fits.shows) (IsFlat-tails_cleared (replay F t.history) (bit t.pending) fits.whole) in
+      let flat : IsFlat (flat_memory t.memory t.born no_notes) = subst IsFlat (sym fits.shows) (IsFlat-tails_cleared (replay F t.history) (is_bit_set t.pending) fits.whole) in
       let d : File = file_with_pages (page_of k) (info_of k) in
       let count : length (flat_memory t.memory t.born no_notes).files ≡ length l.files.files =
       length-files in
@@ -209,7 +209,7 @@ module _ (F : Flat) (s t : KernelState) (l : LeftSeen) (event : IsEvent 0 s None
           let d : File = record { len = 0; disk = 0; extents = []; writable = false; pages = [] } in
           sym (ap file_bytes (file-now k d lt))
           ∙ ap (λ (G : Flat). file_bytes (slice_index_or G.files k d)) fits.shows
-          ∙ bytes-cleared (bit t.pending) (replay F t.history).files k d fits.whole.files
+          ∙ bytes-cleared (is_bit_set t.pending) (replay F t.history).files k d fits.whole.files
           ∙ ap (λ (H : List Entry). flat_bytes (replay F H).files k) (sym c.entries)
 
       by_fault : (o : Option DiskFault) → IfNone o (AllTell t.memory.world no_notes → HoldAllFiles t.memory.world l.disks)

@@ -15,7 +15,7 @@ use Rattle.flat_model.specs.Flat.{File, Flat}
 use Rattle.flat_model.specs.History.{Legal, Steps, replay}
 use Rattle.flat_model.specs.Opening.{flat_at_opening}
 use Rattle.flat_model.specs.Parts.{without_tail}
-use Rattle.flat_model.specs.Step.{bit, files_cleared, step}
+use Rattle.flat_model.specs.Step.{is_bit_set, files_cleared, step}
 use Rattle.flat_model.specs.Words.{Page}
 use Rattle.flat_model.proofs.Frames.{StepFrame-step}
 use Rattle.flat_model.proofs.Lives.{AreBorn-step}
@@ -105,7 +105,7 @@ module _ (F : Flat) (s t : KernelState) (l : LeftSeen) (event : IsEvent 0 s None
       ∙ sym (in-flat page 0 made)
       ∙ sym (ap (λ (ns : List (List ℕ)). infos_in_flat ns (files_with_pages page 0 made)) (names-by l.files.files ∙ ap (map (λ (i : FileInfo). i.name)) c.files.infos))
       ∙ ap (λ (G : Flat). infos_in_flat names G.files) fits.shows
-      ∙ infos-cleared (bit t.pending) names (replay F t.history).files
+      ∙ infos-cleared (is_bit_set t.pending) names (replay F t.history).files
       ∙ ap (λ (H : List Entry). infos_in_flat names (replay F H).files) (sym c.entries)
 
   -- THE DISKS TOLD AT THE START where they tell at the end: else any flat memory would do for the start, and those of one number of slots end with it.

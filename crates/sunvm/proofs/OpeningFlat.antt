@@ -12,7 +12,7 @@ use Rattle.std.proofs.lemmas.List.{length-map, get_or-map}
 use Rattle.std.proofs.lemmas.List.FromFn.{get_or-map-range_with_len}
 use Rattle.addr_space.specs.Space.{Part}
 use Rattle.addr_space.specs.Pages.{pages_of_parts}
-use Rattle.anon_slots.specs.Slots.{Slots}
+use Rattle.anon_slots.specs.Slots.{AnonSlotsSeen}
 use Rattle.block_device.specs.DiskSeen.{DiskSeen, HasBlocks}
 use Rattle.flat_model.specs.Flat.{Cell, File, Flat, Space}
 use Rattle.flat_model.specs.Parts.{pages_of_bytes}

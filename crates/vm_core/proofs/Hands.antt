@@ -1,7 +1,7 @@
 -- A move of a hand, as an event.
 use Rattle.std.proofs.Common.{◌≡◌, ℕ, ◌||◌, Bool, true, false, Option, Some, None, refl, sym, ap, subst}
 use Rattle.std.specs.Prelude.{IfSome, option_map}
-use Rattle.flat_model.specs.Step.{bit}
+use Rattle.flat_model.specs.Step.{is_bit_set}
 use Rattle.page_store.specs.declared.plan.Plan.{Plan}
 use Rattle.seg_ops.specs.Steps.{KeepsPages}
 use Rattle.vm_world.specs.Events.{IsEvent}
@@ -13,7 +13,7 @@ use Rattle.vm_world.proofs.StateSteps.{state_rule}
 use Rattle.vm_core.specs.Clock.{after_hand, kept_of_clock}
 
 no-tails : (w : World) (pending : ℕ) → PendsTails w (λ name. false) pending pending
-no-tails w pending = record { bits = λ g lt. or-false (bit pending g); below = λ h. h }
+no-tails w pending = record { bits = λ g lt. or-false (is_bit_set pending g); below = λ h. h }
   where
     or-false : (b : Bool) → b ≡ (b || false)
     or-false true = refl

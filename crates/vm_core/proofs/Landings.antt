@@ -9,7 +9,7 @@ use Rattle.flat_model.specs.Births.{is_birth}
 use Rattle.flat_model.specs.Counted.{top_count}
 use Rattle.flat_model.specs.Flat.{Flat}
 use Rattle.flat_model.specs.OpenLaws.{last_entry, IsOpenPart, FollowsOn, MayFollow}
-use Rattle.flat_model.specs.Step.{bit}
+use Rattle.flat_model.specs.Step.{is_bit_set}
 use Rattle.flat_model.specs.SyncLaws.{is_in_life}
 use Rattle.flat_model.specs.Told.{entries_of}
 use Rattle.page_hash.specs.Names.{name_at}
@@ -211,7 +211,7 @@ module _ (s : KernelState) (new : World) (seat : ℕ) (f : FlightSeen)
       (step (notes_of seats) sent.note fit.memory fit.notes (subst (λ (k : ℕ). notes_of seats k ≡ Some sent.note) (sym own) (note-here seats seat sent is)) p)
 
   pends : PendsTails s.memory.world (λ name. false) s.pending s.pending
-  pends = record { bits = λ g lt. or-false (bit s.pending g); below = λ h. h }
+  pends = record { bits = λ g lt. or-false (is_bit_set s.pending g); below = λ h. h }
     where
       or-false : (b : Bool) → b ≡ (b || false)
       or-false true = refl

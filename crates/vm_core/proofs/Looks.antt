@@ -4,7 +4,7 @@ use Rattle.std.specs.Prelude.{◌↔◌, ◌⊎◌, is_none, is_some, slice_inde
 use Rattle.std.proofs.lemmas.Bool.{cases_eq, eq-eqb, eqb-true}
 use Rattle.block_device.specs.DiskSeen.{DiskSeen}
 use Rattle.core_arena.specs.Bytes.{bytes_at}
-use Rattle.hat_layer.specs.Pool.{Pool, frame_of, leads, drop_lead, drop_frame}
+use Rattle.hat_layer.specs.Pool.{HatSeen, frame_of, leads, drop_lead, drop_frame}
 use Rattle.hat_layer.specs.declared.translation.Translation.{Translation}
 use Rattle.page_clock.specs.Clock.{next_clock}
 use Rattle.page_hash.specs.Names.{name_at, find}

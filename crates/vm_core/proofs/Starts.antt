@@ -8,7 +8,7 @@ use Rattle.std.proofs.lemmas.Bool.{cases_eq}
 use Rattle.std.proofs.lemmas.List.{length-map, length-replicate}
 use Rattle.std.proofs.lemmas.Option.{slice_get-map, slice_get_within}
 use Rattle.addr_space.specs.Space.{Part}
-use Rattle.anon_slots.specs.Slots.{Slots, unused_slots, IsSoundAnonSlots}
+use Rattle.anon_slots.specs.Slots.{AnonSlotsSeen, unused_slots, IsSoundAnonSlots}
 use Rattle.block_device.specs.DiskSeen.{DiskSeen}
 use Rattle.core_arena.specs.Bytes.{zeros}
 use Rattle.flat_model.specs.Counted.{top_count}
@@ -265,7 +265,7 @@ pub opens : (s : KernelState) (frames slots seats places : ℕ) (disks : List (�
     → ((p : ℕ) → finite.get s.memory.spaces p ≡ top_space s.parents p) → ((p : ℕ) → set.contains s.born p ≡ is_top s.parents p) → s.history ≡ [] → s.pending ≡ 0 → ((f : ℕ) → slice_index_or s.calls f None ≡ None)
     → s.syncs ≡ replicate seats None → s.plan ≡ None → IsOpening s
 opens s frames slots seats places disks swap new sound still counted swap_counted anon slots_sound maps hat_frames hat files disks_fit spaces born history pending calls syncs plan =
-    let count : length s.memory.world.anon.counts ≡ slots = ap (λ (x : Slots). length x.counts) anon ∙ length-replicate slots 0 in
+    let count : length s.memory.world.anon.counts ≡ slots = ap (λ (x : AnonSlotsSeen). length x.counts) anon ∙ length-replicate slots 0 in
     record {
       memory = record {
         store = record {

@@ -3,7 +3,7 @@ use Rattle.std.proofs.Common.{◌≡◌, ◌≢◌, ℕ, zero, suc, ◌<◌, ◌
 use Rattle.std.specs.Prelude.{◌↔◌, ◌⊎◌, slice_index_or, slice_set, option_map, IsSome}
 use Rattle.std.specs.List.{list_any}
 use Rattle.std.proofs.lemmas.Bool.{cases_eq, eq-eqb, eqb-true}
-use Rattle.hat_layer.specs.Pool.{Pool, frame_of, leads, has_bit, bits_of, change_lead, change_frame, with_clear_bits}
+use Rattle.hat_layer.specs.Pool.{HatSeen, frame_of, leads, has_bit, bits_of, change_lead, change_frame, with_clear_bits}
 use Rattle.hat_layer.specs.declared.translation.Translation.{Translation}
 use Rattle.page_lock.specs.Rows.{row_at, clear_row, with_bits}
 use Rattle.page_lock.specs.declared.Row.{Row}
@@ -122,7 +122,7 @@ touches-then u v w frame a b = record {
 }
 
 -- THE BITS ARE GATHERED.
-module _ (w : World) (new : StoreSeen) (hat : Pool) (frame : ℕ) (lt : frame < length w.store.rows) (is : new ≡ with_bits_gathered w.store frame (bits_of frame w.hat.places)) (places : hat.places ≡ change_frame frame with_clear_bits w.hat.places) where
+module _ (w : World) (new : StoreSeen) (hat : HatSeen) (frame : ℕ) (lt : frame < length w.store.rows) (is : new ≡ with_bits_gathered w.store frame (bits_of frame w.hat.places)) (places : hat.places ≡ change_frame frame with_clear_bits w.hat.places) where
   abbrev told : Bool × Bool
   told = bits_of frame w.hat.places
 
@@ -208,7 +208,7 @@ front-clears w u v frame lt g rest store =
       others = λ k ne. ap (λ (s : StoreSeen). row_at s.rows k) store ∙ get_or-set_other u.store.rows frame k now clear_row ne;
       places = λ place. subst (λ (ps : List (Option Translation)). KeepsButBits (slice_index_or u.hat.places place None) (slice_index_or ps place None)) (sym places) (keeps-same (slice_index_or u.hat.places place None));
       leads = λ place ne. ap (λ (ps : List (Option Translation)). slice_index_or ps place None) places;
-      tables = rest ∙ ap (λ (h : Pool). record u { store = v.store; hat = h }) (sym (ap (λ (x : World). x.hat) rest));
+      tables = rest ∙ ap (λ (h : HatSeen). record u { store = v.store; hat = h }) (sym (ap (λ (x : World). x.hat) rest));
     } in
     record {
       touches = touches-then w u v frame g.touches step;

@@ -8,9 +8,9 @@ use mathlib.Core.Logic.{inl, inr}
 use Rattle.std.specs.Prelude.{◌⊎◌, ◌≡◌}
 use Rattle.addr_space.specs.Space.{part_code}
 use Rattle.anon_map.specs.Maps.{Map}
-use Rattle.anon_slots.specs.Slots.{Slots}
+use Rattle.anon_slots.specs.Slots.{AnonSlotsSeen}
 use Rattle.block_device.specs.DiskSeen.{DiskSeen}
-use Rattle.hat_layer.specs.Pool.{Pool}
+use Rattle.hat_layer.specs.Pool.{HatSeen}
 use Rattle.hat_layer.specs.declared.translation.Translation.{Translation}
 use Rattle.hat_layer.specs.contracts.translation.Translation as translation
 use Rattle.page_clock.specs.Seen.{ClockSeen}
@@ -80,7 +80,7 @@ store_code =
     (λ s. ((s.origin, (s.frames, (s.names, s.rows))), (s.free, (s.cached, (s.bays, (s.order, s.clock))))))
     (λ p. record { origin = p.0.0; frames = p.0.1.0; names = p.0.1.1.0; rows = p.0.1.1.1; free = p.1.0; cached = p.1.1.0; bays = p.1.1.1.0; order = p.1.1.1.1.0; clock = p.1.1.1.1.1 }) (λ _. refl)
 
-abbrev pub slots_code : Coded Slots
+abbrev pub slots_code : Coded AnonSlotsSeen
 slots_code =
     code_by (List ℕ × (List Bool × ℕ)) (coded× (coded_list coded_ℕ) (coded× (coded_list coded_bool) coded_ℕ))
     (λ s. (s.counts, (s.swapped, s.reserved))) (λ p. record { counts = p.0; swapped = p.1.0; reserved = p.1.1 }) (λ _. refl)
@@ -89,14 +89,14 @@ abbrev pub map_code : Coded Map
 map_code =
     code_by (List (Option ℕ) × ℕ) (coded× (coded_list (coded_option coded_ℕ)) coded_ℕ) (λ m. (m.places, m.holders)) (λ p. record { places = p.0; holders = p.1 }) (λ _. refl)
 
-abbrev pub pool_code : Coded Pool
+abbrev pub pool_code : Coded HatSeen
 pool_code =
     code_by (List (Option Translation) × (ℕ × ℕ)) (coded× (coded_list (coded_option translation.the_row.coded)) (coded× coded_ℕ coded_ℕ))
     (λ h. (h.places, (h.hand, h.frames))) (λ p. record { places = p.0; hand = p.1.0; frames = p.1.1 }) (λ _. refl)
 
 abbrev pub world_code : Coded World
 world_code =
-    code_by (StoreSeen × (Slots × (List (Option Map) × (Pool × FilesSeen)))) (coded× store_code (coded× slots_code (coded× (coded_list (coded_option map_code)) (coded× pool_code files_code))))
+    code_by (StoreSeen × (AnonSlotsSeen × (List (Option Map) × (HatSeen × FilesSeen)))) (coded× store_code (coded× slots_code (coded× (coded_list (coded_option map_code)) (coded× pool_code files_code))))
     (λ w. (w.store, (w.anon, (w.maps, (w.hat, w.files))))) (λ p. record { store = p.0; anon = p.1.0; maps = p.1.1.0; hat = p.1.1.1.0; files = p.1.1.1.1 }) (λ _. refl)
 
 abbrev pub memory_code : Coded Memory

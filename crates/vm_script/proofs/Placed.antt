@@ -21,7 +21,7 @@ use Rattle.vm_script.specs.declared.statement.Statement.TheVariants as says
 use Rattle.vm_script.specs.declared.statement.LineSpot.{LineSpot}
 use Rattle.vm_script.specs.Fields.{is_word, digits_at, number_of_field, is_file_name, is_hex_digit, is_digit, digit_value, value_of_digits, hex_bytes, bytes_of_field}
 use Rattle.vm_script.specs.Reading.{◌>>=◌, ◌>>◌, or_fault, need}
-use Rattle.vm_script.specs.Statements.{number, name, bytes, size, prot, kind, place, load_line, store_line, map_object, map_of, map_line, unmap_line, protect_of, protect_line, sync_line, read_of, read_call_line, write_of, write_line, truncate_line, lone_word, own, amount, path, disk_setup, disk, content, mode, file_setup, file, setup_statement, block_statement, word_statement, statement, is_comment}
+use Rattle.vm_script.specs.Statements.{number, name, bytes, size, prot, kind, place, load_line, store_line, map_object, map_of, map_line, unmap_line, protect_of, protect_line, sync_line, read_of, read_call_line, write_of, write_line, truncate_line, lone_word, own_statement, amount, path, disk_setup, disk, content, mode, file_setup, file, setup_statement, block_statement, word_statement, statement, is_comment}
 use Rattle.vm_script.specs.Printed.{IsPlanAct, IsContent, AreBytes, may_stand, setup_may_stand}
 
 pub bind : {A B : Type 0} (r : Result A ScriptKind) (f : A → Result B ScriptKind) (P : B → Type 0) → ((x : A) → r ≡ Ok x → IfOk (f x) P) → IfOk (r >>= f) P
@@ -239,7 +239,7 @@ OwnIs s = Unit {0}
 abbrev pub IsPlaced : LineSpot → Statement → Type 0
 IsPlaced spot s = (may_stand spot s ≡ true) × OwnIs s
 
-own_is : (spot : LineSpot) (r : Result PlanAct ScriptKind) → spot.inside ≡ true → IfOk r IsPlanAct → IfOk (own r) (IsPlaced spot)
+own_is : (spot : LineSpot) (r : Result PlanAct ScriptKind) → spot.inside ≡ true → IfOk r IsPlanAct → IfOk (own_statement r) (IsPlaced spot)
 own_is spot r inside is = bind r _ (IsPlaced spot) (λ a e. (inside, if_ok r IsPlanAct a is e))
 
 alone_is : {A : Type 0} (x : A) (args : List (List ℕ)) (P : A → Type 0) → P x → IfOk (lone_word x args) P

@@ -25,7 +25,7 @@ use Rattle.vm_script.specs.Printed.{IsSetupAct, AreBytes}
 use Rattle.vm_script.specs.Quick.{AreWords, none, more}
 use Rattle.vm_script.specs.Reading.{◌>>◌, need}
 use Rattle.vm_script.specs.Sound.{IsSoundSetup}
-use Rattle.vm_script.specs.Statements.{number, name, bytes, amount, path, disk_setup, disk, content, mode, file_setup, file, own, lone_word, load_line, store_line, map_line, unmap_line, protect_line, sync_line, read_call_line, write_line, truncate_line, setup_statement, block_statement, word_statement, statement, is_comment}
+use Rattle.vm_script.specs.Statements.{number, name, bytes, amount, path, disk_setup, disk, content, mode, file_setup, file, own_statement, lone_word, load_line, store_line, map_line, unmap_line, protect_line, sync_line, read_call_line, write_line, truncate_line, setup_statement, block_statement, word_statement, statement, is_comment}
 use Rattle.vm_script.proofs.Placed.{bind, choice, needed, number_is, name_is, bytes_is, if_ok}
 
 -- A plain line's fields are words.
@@ -160,8 +160,8 @@ block_is spot word args w =
     (λ _. choice (is_word word (codes "end")) _ _ SetupIs (λ _. needed fault.Place spot.inside _ SetupIs (λ _. alone_is says.End args SetupIs tt))
     (λ _. setup_is spot word args w))))
 
-own_is : (spot : LineSpot) (r : Result PlanAct ScriptKind) → IfOk (need fault.Place spot.inside >> own r) SetupIs
-own_is spot r = needed fault.Place spot.inside (own r) SetupIs (λ _. bind r (λ a. Ok (says.Own a)) SetupIs (λ a e. tt))
+own_is : (spot : LineSpot) (r : Result PlanAct ScriptKind) → IfOk (need fault.Place spot.inside >> own_statement r) SetupIs
+own_is spot r = needed fault.Place spot.inside (own_statement r) SetupIs (λ _. bind r (λ a. Ok (says.Own a)) SetupIs (λ a e. tt))
 
 word_is : (spot : LineSpot) (word : List ℕ) (args : List (List ℕ)) → AreWords args → IfOk (word_statement spot word args) SetupIs
 unfolding word_statement

@@ -209,8 +209,8 @@ unfoldable pub file : List (List ℕ) → Result SetupAct ScriptKind
 file (n ∷ m ∷ d ∷ p ∷ b ∷ []) = file_setup n m d p b
 file args = Err fault.Count
 
-abbrev pub own : Result PlanAct ScriptKind → Result Statement ScriptKind
-own r = r >>= λ a. Ok (says.Own a)
+abbrev pub own_statement : Result PlanAct ScriptKind → Result Statement ScriptKind
+own_statement r = r >>= λ a. Ok (says.Own a)
 
 abbrev pub setup : Result SetupAct ScriptKind → Result Statement ScriptKind
 setup r = r >>= λ a. Ok (says.Setup a)
@@ -229,7 +229,7 @@ setup_statement spot word args =
 -- What a line of this word says that begins a block, ends it or waits for children.
 unfoldable pub block_statement : LineSpot → List ℕ → List (List ℕ) → Result Statement ScriptKind
 block_statement spot word args =
-    if is_word word (codes "wait") then (need fault.Place spot.inside >> own (lone_word act.Wait args))
+    if is_word word (codes "wait") then (need fault.Place spot.inside >> own_statement (lone_word act.Wait args))
     else if is_word word (codes "process") then (need fault.Place (not spot.inside) >> lone_word says.Process args)
     else if is_word word (codes "fork") then (need fault.Place spot.inside >> lone_word says.Fork args)
     else if is_word word (codes "end") then (need fault.Place spot.inside >> lone_word says.End args)
@@ -238,15 +238,15 @@ block_statement spot word args =
 -- What a line of this word says: first the word, then the place, then the number of fields, then the fields from the left.
 unfoldable pub word_statement : LineSpot → List ℕ → List (List ℕ) → Result Statement ScriptKind
 word_statement spot word args =
-    if is_word word (codes "load") then (need fault.Place spot.inside >> own (load_line args))
-    else if is_word word (codes "store") then (need fault.Place spot.inside >> own (store_line args))
-    else if is_word word (codes "map") then (need fault.Place spot.inside >> own (map_line args))
-    else if is_word word (codes "unmap") then (need fault.Place spot.inside >> own (unmap_line args))
-    else if is_word word (codes "protect") then (need fault.Place spot.inside >> own (protect_line args))
-    else if is_word word (codes "sync") then (need fault.Place spot.inside >> own (sync_line args))
-    else if is_word word (codes "read") then (need fault.Place spot.inside >> own (read_call_line args))
-    else if is_word word (codes "write") then (need fault.Place spot.inside >> own (write_line args))
-    else if is_word word (codes "truncate") then (need fault.Place spot.inside >> own (truncate_line args))
+    if is_word word (codes "load") then (need fault.Place spot.inside >> own_statement (load_line args))
+    else if is_word word (codes "store") then (need fault.Place spot.inside >> own_statement (store_line args))
+    else if is_word word (codes "map") then (need fault.Place spot.inside >> own_statement (map_line args))
+    else if is_word word (codes "unmap") then (need fault.Place spot.inside >> own_statement (unmap_line args))
+    else if is_word word (codes "protect") then (need fault.Place spot.inside >> own_statement (protect_line args))
+    else if is_word word (codes "sync") then (need fault.Place spot.inside >> own_statement (sync_line args))
+    else if is_word word (codes "read") then (need fault.Place spot.inside >> own_statement (read_call_line args))
+    else if is_word word (codes "write") then (need fault.Place spot.inside >> own_statement (write_line args))
+    else if is_word word (codes "truncate") then (need fault.Place spot.inside >> own_statement (truncate_line args))
     else block_statement spot word args
 
 abbrev pub is_comment : List ℕ → Bool

@@ -21,7 +21,7 @@ use Rattle.flat_model.specs.CountLaws.{IsNextCount}
 use Rattle.flat_model.specs.OpenLaws.{MayFollow}
 use Rattle.flat_model.specs.Flat.{Flat, IsFlat, space_of}
 use Rattle.flat_model.specs.History.{replay, IsSyncStart, IsStart, is_io}
-use Rattle.flat_model.specs.Step.{bit, IsUnborn}
+use Rattle.flat_model.specs.Step.{is_bit_set, IsUnborn}
 use Rattle.flat_model.specs.Told.{entries_of}
 use Rattle.flat_model.proofs.WellFormed.{IsFlat-tails_cleared}
 use Rattle.vm_world.specs.NotesFit.{NotesFit}
@@ -162,7 +162,7 @@ rule-done s new seat e calls syncs act keeps may locks starts count = record {
           replays = λ tell.
               let old = (act.tells (notes_of seats) fit.notes).1 tell in
               let h = fit.replays old in
-              let whole : IsFlat now = subst IsFlat (sym h.shows) (IsFlat-tails_cleared (replay opening s.history) (bit s.pending) h.whole) in
+              let whole : IsFlat now = subst IsFlat (sym h.shows) (IsFlat-tails_cleared (replay opening s.history) (is_bit_set s.pending) h.whole) in
               let acts = act.flat s.born (notes_of seats) fit.notes old whole in
               let alive : IsSome (space_of now e.process) = (alive-flat (shape_of s.memory) s.born (contents_of s.memory.world (notes_of seats)) e.process).1 may.try.alive in
               subst (λ (F : Flat). HistoryFits opening (s.history ++ e ∷ []) 0 F) (sym acts.1)

@@ -13,7 +13,7 @@ use Rattle.vm_types.specs.declared.call.Kind.{Kind}
 use Rattle.vm_types.specs.declared.call.Kind.TheVariants.{Shared, Private}
 use Rattle.vm_types.specs.declared.call.Object.{Object}
 use Rattle.vm_types.specs.declared.call.Object.TheVariants as object
-use Rattle.addr_space.specs.Space.{Part, part_at, put}
+use Rattle.addr_space.specs.Space.{Part, part_at, with_new_part}
 use Rattle.addr_space.proofs.PartLists.{all-found}
 use Rattle.anon_map.specs.Maps.{Map, anon_map_at, IsMapThere, IsUnused, places_of, holders_of, fresh_map}
 use Rattle.page_store.specs.Notes.{Notes}
@@ -296,7 +296,7 @@ module _ (m : Memory) (p : ℕ) (parts : List (Part Segment)) (x : Part Segment)
     reserved = let a = zeros-same in omega (arith, a);
   }
 
-  pub zeros-come : zero_maps (finite.insert m.spaces p (put x parts)) ≡ zs
+  pub zeros-come : zero_maps (finite.insert m.spaces p (with_new_part x parts)) ≡ zs
   zeros-come = zeros-now m p parts x now more zs fits is comes
 
   pub part-come : ChangesSegments p m (with_part_come m p parts x) (λ F. with_new_cells F p x.first x.pages (segment_cell x.piece))
@@ -427,7 +427,7 @@ module _ (m : Memory) (p : ℕ) (parts : List (Part Segment)) (x : Part Segment)
             omega (arith, a, b, c, d);
       }
 
-  pub zeros-made : zero_maps (finite.insert m.spaces p (put x parts)) ≡ with_number
+  pub zeros-made : zero_maps (finite.insert m.spaces p (with_new_part x parts)) ≡ with_number
   zeros-made = zeros-now m p parts x with_made (m.world.anon.reserved + x.pages) with_number fits is zero-part-comes
 
   pub zero-part-come : ChangesSegments p m (with_zero_part m p parts x) (λ F. with_new_cells (with_zero_object F z x.pages) p x.first x.pages (segment_cell x.piece))

@@ -5,7 +5,7 @@ use Rattle.std.proofs.lemmas.Bool.{eq-eqb}
 use Rattle.std.proofs.lemmas.Bool.Decides.{eqb_tells}
 use Rattle.std.proofs.lemmas.List.Sums.{sum_by-cons, sum_by-set}
 use Rattle.anon_map.specs.Maps.{Map, the_map, places_of, with_places}
-use Rattle.anon_slots.specs.Slots.{Slots, count_at, is_used, slots_in_use}
+use Rattle.anon_slots.specs.Slots.{AnonSlotsSeen, count_at, is_used, slots_in_use}
 use Rattle.vm_world.specs.World.{slot_in}
 use Rattle.vm_world.specs.Laws.{CountsLaw}
 use Rattle.vm_world.proofs.Counts.{held-used, only-place, no-place}
@@ -163,7 +163,7 @@ used-le (suc x ∷ cs) =
     at_most_one false = omega arith
 
 -- No more slots are in use than there are places.
-pub used-within : (anon : Slots) (maps : List (Option Map)) → ((slot : ℕ) → count_at anon slot ≡ times_held maps slot) → slots_in_use anon ≤ sum_by (λ m. length (places_in m)) maps
+pub used-within : (anon : AnonSlotsSeen) (maps : List (Option Map)) → ((slot : ℕ) → count_at anon slot ≡ times_held maps slot) → slots_in_use anon ≤ sum_by (λ m. length (places_in m)) maps
 used-within anon maps counts =
     let used = used-le anon.counts in
     let held = sums-same (count_at anon) (times_held maps) (length anon.counts) counts in
@@ -172,7 +172,7 @@ used-within anon maps counts =
     omega (arith, used, held, places, most)
 
 -- ROOM. While a place is empty, fewer slots are in use than are reserved.
-pub room : (anon : Slots) (maps : List (Option Map)) (m i : ℕ) → CountsFit anon maps → i < length (places_of maps m) → slot_in maps m i ≡ None → slots_in_use anon < anon.reserved
+pub room : (anon : AnonSlotsSeen) (maps : List (Option Map)) (m i : ℕ) → CountsFit anon maps → i < length (places_of maps m) → slot_in maps m i ≡ None → slots_in_use anon < anon.reserved
 room anon maps m i fit lt empty =
     let used = used-le anon.counts in
     let held = sums-same (count_at anon) (times_held maps) (length anon.counts) fit.counts in

@@ -4,7 +4,7 @@ use Rattle.std.specs.Prelude.{count_by, slice_index}
 use Rattle.std.proofs.lemmas.Bool.{cases_eq, eq-eqb}
 use Rattle.std.proofs.lemmas.List.Sums.{sum_by-cons}
 use Rattle.anon_map.specs.Maps.{Map, places_of}
-use Rattle.anon_slots.specs.Slots.{Slots, count_at}
+use Rattle.anon_slots.specs.Slots.{AnonSlotsSeen, count_at}
 use Rattle.vm_world.specs.World.{slot_in}
 use Rattle.vm_world.specs.CountsFit.{CountsFit, is_number, places_in, times_held}
 
@@ -91,7 +91,7 @@ pub no-place : (s : ℕ) (maps : List (Option Map)) (m i : ℕ) → times_held m
 no-place s maps m i none is = let one = held-once s maps m i is in omega (arith, one, none)
 
 -- A SLOT THAT A PLACE HOLDS IS IN USE.
-pub held-used : (anon : Slots) (maps : List (Option Map)) (m i s : ℕ) → CountsFit anon maps → slot_in maps m i ≡ Some s → 0 < count_at anon s
+pub held-used : (anon : AnonSlotsSeen) (maps : List (Option Map)) (m i s : ℕ) → CountsFit anon maps → slot_in maps m i ≡ Some s → 0 < count_at anon s
 held-used anon maps m i s fit is = let times = held-once s maps m i is in let e = fit.counts s in omega (arith, e, times)
 
 pub used-below : (counts : List ℕ) (s : ℕ) → 0 < slice_index counts s → s < length counts

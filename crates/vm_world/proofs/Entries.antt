@@ -22,7 +22,7 @@ use Rattle.flat_model.specs.Flat.{Flat, File, IsFlat, space_of}
 use Rattle.flat_model.specs.History.{replay, KeepsParts, IsSyncStart, IsNextOwn, is_of_file, is_aside}
 use Rattle.flat_model.specs.HistoryLaws.{IsNextPart, open_call}
 use Rattle.flat_model.specs.OpenLaws.{MayFollow, IsOpenPart, last_entry}
-use Rattle.flat_model.specs.Step.{bit, tails_cleared, files_cleared, after_act, IsDue, IsUnborn, IsStep}
+use Rattle.flat_model.specs.Step.{is_bit_set, tails_cleared, files_cleared, after_act, IsDue, IsUnborn, IsStep}
 use Rattle.flat_model.specs.SyncLaws.{first_start}
 use Rattle.flat_model.specs.Told.{entries_of}
 use Rattle.flat_model.proofs.ClearedTails.{cleared_tails_law}
@@ -48,7 +48,7 @@ pub entry-step : (opening : Flat) (H : List Entry) (pending : ℕ) (now : Flat) 
     → IsSyncStart H (length H) e → IsNextPart H e → HistoryFits opening (H ++ e ∷ []) 0 (after_act now e)
 entry-step opening H pending now e fit cleared good alive unborn due sync part =
     let F : Flat = replay opening H in
-    let is : now ≡ tails_cleared F (bit e.cleared) = fit.shows ∙ ap (λ (n : ℕ). tails_cleared F (bit n)) (sym cleared) in
+    let is : now ≡ tails_cleared F (is_bit_set e.cleared) = fit.shows ∙ ap (λ (n : ℕ). tails_cleared F (is_bit_set n)) (sym cleared) in
     let bits = fit.bits in
     let is_step : IsStep F e = record {
       files = omega (arith, bits, cleared);
@@ -74,20 +74,20 @@ entry-step opening H pending now e fit cleared good alive unborn due sync part =
 pub entry-history : (opening : Flat) (H : List Entry) (pending : ℕ) (now : Flat) (e : Entry) → HistoryFits opening H pending now → e.cleared ≡ pending → IsWellFormed e.call → IsSome (space_of now e.process) → IsUnborn now e.call → IsDue now e
     → IsSyncStart H (length H) e → IsNextPart H e → HistoryFits opening (H ++ e ∷ []) 0 (after_act now e)
 entry-history opening H pending now e fit cleared formed alive unborn due sync part =
-    let is : now ≡ tails_cleared (replay opening H) (bit e.cleared) = fit.shows ∙ ap (λ (n : ℕ). tails_cleared (replay opening H) (bit n)) (sym cleared) in
+    let is : now ≡ tails_cleared (replay opening H) (is_bit_set e.cleared) = fit.shows ∙ ap (λ (n : ℕ). tails_cleared (replay opening H) (is_bit_set n)) (sym cleared) in
     entry-step opening H pending now e fit cleared (λ st. subst (λ (G : Flat). IsFlat (after_act G e)) (sym is) (stays_flat_law.after_step (replay opening H) e fit.whole formed st)) alive unborn due sync part
 
 -- more tails, while no entry is made
-pub entry-tails : (opening : Flat) (H : List Entry) (pending more : ℕ) (now : Flat) (lost : ℕ → Bool) → HistoryFits opening H pending now → ((f : ℕ) → f < length now.files → bit more f ≡ (bit pending f || lost f)) → more < 2 ^ length now.files
+pub entry-tails : (opening : Flat) (H : List Entry) (pending more : ℕ) (now : Flat) (lost : ℕ → Bool) → HistoryFits opening H pending now → ((f : ℕ) → f < length now.files → is_bit_set more f ≡ (is_bit_set pending f || lost f)) → more < 2 ^ length now.files
     → HistoryFits opening H more (tails_cleared now lost)
 entry-tails opening H pending more now lost fit bits below =
     let F : Flat = replay opening H in
-    let count : length now.files ≡ length F.files = ap (λ (G : Flat). length G.files) fit.shows ∙ length-cleared (bit pending) F.files in
+    let count : length now.files ≡ length F.files = ap (λ (G : Flat). length G.files) fit.shows ∙ length-cleared (is_bit_set pending) F.files in
     record {
       legal = fit.legal;
       whole = fit.whole;
-      shows = ap (λ (G : Flat). tails_cleared G lost) fit.shows ∙ cleared_tails_law.twice F (bit pending) lost fit.whole.files
-          ∙ cleared_tails_law.alike F (λ f. bit pending f || lost f) (bit more) (λ f lt. sym (bits f (omega (arith, lt, count))));
+      shows = ap (λ (G : Flat). tails_cleared G lost) fit.shows ∙ cleared_tails_law.twice F (is_bit_set pending) lost fit.whole.files
+          ∙ cleared_tails_law.alike F (λ f. is_bit_set pending f || lost f) (is_bit_set more) (λ f lt. sym (bits f (omega (arith, lt, count))));
       bits = subst (λ (n : ℕ). more < 2 ^ n) count below;
     }
 

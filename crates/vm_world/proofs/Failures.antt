@@ -21,12 +21,12 @@ use Rattle.flat_model.specs.Counted.{top_count, IsCountedRise}
 use Rattle.flat_model.specs.Flat.{Flat, IsFlat}
 use Rattle.flat_model.specs.History.{replay}
 use Rattle.flat_model.specs.OpenLaws.{MayFollow, FollowsOn, IsOpenPart, last_entry}
-use Rattle.flat_model.specs.Step.{bit, IsUnborn, MayFail}
+use Rattle.flat_model.specs.Step.{is_bit_set, IsUnborn, MayFail}
 use Rattle.flat_model.specs.Told.{entries_of}
 use Rattle.flat_model.proofs.WellFormed.{IsFlat-tails_cleared}
 use Rattle.vm_world.specs.World.{World}
 use Rattle.vm_world.specs.FlatMemory.{flat_memory}
-use Rattle.vm_world.specs.DiskPlaces.{HasCounted, faults_in, seen_noted}
+use Rattle.vm_world.specs.DiskPlaces.{HasCounted, faults_in, seen_of_note}
 use Rattle.vm_world.specs.EntryLaws.{LocksAfter, StartsAfter, MayUseFile}
 use Rattle.vm_world.specs.Events.{IsEvent}
 use Rattle.vm_world.specs.Failures.{io_entry, with_entry_made, FailureRule}
@@ -89,7 +89,7 @@ io-fits opening s seats seat p call disk before after calls syncs fit idle own c
       notes = fit.notes;
       replays = λ tell.
           let h = fit.replays tell in
-          entry-step opening s.history s.pending now (io_entry p call disk before after s.pending) h refl (λ _. subst IsFlat (sym h.shows) (IsFlat-tails_cleared (replay opening s.history) (bit s.pending) h.whole)) caller.alive (no-fork now p call caller.fails) caller.fails tt
+          entry-step opening s.history s.pending now (io_entry p call disk before after s.pending) h refl (λ _. subst IsFlat (sym h.shows) (IsFlat-tails_cleared (replay opening s.history) (is_bit_set s.pending) h.whole)) caller.alive (no-fork now p call caller.fails) caller.fails tt
           (entry-part s.history s.calls s.syncs s.parents s.entries (io_entry p call disk before after s.pending) seat fit.calls fit.rooms h.legal.parts (process-is p seat own caller.room) (may-use follows));
       faults = entry-faults s.history s.memory.world.store.bays (notes_of seats) (io_entry p call disk before after s.pending) fit.faults (risen, low)
           (λ d b a is.
@@ -147,7 +147,7 @@ rule-fails s new cut pending seat p call sent d calls syncs step tails for_call 
     record {
       fits = λ opening seats is fit.
           let noted : notes_of seats seat ≡ Some sent.note = ap (option_map (λ (x : Sent). x.note)) is in
-          let old_count : faults_in (bay_at s.memory.world.store.bays sent.note.number) (notes_of seats) ≡ Some sent.note.disk.faults = ap (λ b. faults_in b (notes_of seats)) step.bays.0 ∙ ap (seen_noted (λ disk. disk.faults)) noted in
+          let old_count : faults_in (bay_at s.memory.world.store.bays sent.note.number) (notes_of seats) ≡ Some sent.note.disk.faults = ap (λ b. faults_in b (notes_of seats)) step.bays.0 ∙ ap (seen_of_note (λ disk. disk.faults)) noted in
           let most = fit.faults.most sent.note.number sent.note.disk.faults old_count in
           io-fits opening (after_step s new pending) (with_sent seats seat None) seat p call sent.note.number sent.note.disk.faults d.faults calls syncs (event.fits opening seats is fit) (this-seat seats seat None) own
           (caller-step s new (returns seat sent.note) cut pending step tails (notes_of seats) (notes_of (with_sent seats seat None)) seat (p, call) (fit.plans.sent seat sent (p, call) is for_call))

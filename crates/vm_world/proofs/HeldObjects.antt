@@ -11,7 +11,7 @@ use Rattle.vm_types.specs.declared.call.Kind.TheVariants.{Shared}
 use Rattle.vm_types.specs.declared.call.Object.{Object}
 use Rattle.vm_types.specs.declared.call.Object.TheVariants as object
 use Rattle.vm_types.specs.Prot.{can_read, can_write}
-use Rattle.addr_space.specs.Space.{Part, part, piece_at, put}
+use Rattle.addr_space.specs.Space.{Part, part, piece_at, with_new_part}
 use Rattle.anon_map.specs.Maps.{Map, IsMapThere, anon_map_at, places_of, holders_of}
 use Rattle.hat_layer.specs.Pool as pool
 use Rattle.hat_layer.specs.declared.translation.Translation.{Translation}
@@ -212,7 +212,7 @@ module _ (m : Memory) (p g z number : ℕ) (w : World) (left : List (Part Segmen
       omega (arith, a, b, c, some)
 
   next-hold : finite.get next.spaces g ≡ Some hold
-  next-hold = get-insert_apart mid.spaces p (put x left) g apart ∙ mid-hold
+  next-hold = get-insert_apart mid.spaces p (with_new_part x left) g apart ∙ mid-hold
 
   -- and no translation leads to it
   unloaded : (q : ℕ) → 1 ≤ q → q < 2 → pool.translation_at next.world.hat.places g q ≡ None
@@ -256,7 +256,7 @@ module _ (m : Memory) (p g z number : ℕ) (w : World) (left : List (Part Segmen
 
   -- what is left is memory with the part that came
   abbrev after : Memory
-  after = record { world = record w { anon = record w.anon { reserved = w.anon.reserved + slots_for_part x }; maps = made }; spaces = finite.insert m.spaces p (put x left) }
+  after = record { world = record w { anon = record w.anon { reserved = w.anon.reserved + slots_for_part x }; maps = made }; spaces = finite.insert m.spaces p (with_new_part x left) }
 
   end-maps : end.world.maps ≡ made
   end-maps = ap (λ (maps : List (Option Map)). maps_released maps (Some number)) next-maps ∙ held-released made number made-there made-some
@@ -272,10 +272,10 @@ module _ (m : Memory) (p g z number : ℕ) (w : World) (left : List (Part Segmen
 
   end-spaces : end.spaces ≡ after.spaces
   end-spaces = finite.same_map nat_cmp_total finite.nat_cmp-IsAntisymmetric end.spaces after.spaces (λ q. elim (cases_eq q g) [
-    | inl e ↦ ap (finite.get end.spaces) e ∙ get-remove_here alone.spaces g ∙ sym none ∙ sym (get-insert_apart m.spaces p (put x left) g apart) ∙ ap (finite.get after.spaces) (sym e)
+    | inl e ↦ ap (finite.get end.spaces) e ∙ get-remove_here alone.spaces g ∙ sym none ∙ sym (get-insert_apart m.spaces p (with_new_part x left) g apart) ∙ ap (finite.get after.spaces) (sym e)
     | inr ne ↦ get-remove_apart alone.spaces g q ne ∙ get-insert_apart next.spaces g [] q ne ∙ elim (cases_eq q p) [
-      | inl e ↦ ap (finite.get next.spaces) e ∙ get-insert_here mid.spaces p (put x left) ∙ sym (get-insert_here m.spaces p (put x left)) ∙ ap (finite.get after.spaces) (sym e)
-      | inr far ↦ get-insert_apart mid.spaces p (put x left) q far ∙ get-insert_apart held p left q far ∙ get-insert_apart m.spaces g hold q ne ∙ sym (get-insert_apart m.spaces p (put x left) q far)
+      | inl e ↦ ap (finite.get next.spaces) e ∙ get-insert_here mid.spaces p (with_new_part x left) ∙ sym (get-insert_here m.spaces p (with_new_part x left)) ∙ ap (finite.get after.spaces) (sym e)
+      | inr far ↦ get-insert_apart mid.spaces p (with_new_part x left) q far ∙ get-insert_apart held p left q far ∙ get-insert_apart m.spaces g hold q ne ∙ sym (get-insert_apart m.spaces p (with_new_part x left) q far)
     ]
   ])
 
@@ -380,7 +380,7 @@ module _ (m : Memory) (p g z number : ℕ) (w : World) (left : List (Part Segmen
   pub held-comes : ChangesSegments p m after (λ F. with_new_cells (with_space F p (without_range (cells_of F p) x.first x.pages)) p x.first x.pages (segment_cell x.piece))
   held-comes = record {
     machine = subst (λ (n : Memory). KeepsMachine m.world n.world) end-is moves.machine;
-    others = λ q far. get-insert_apart m.spaces p (put x left) q far;
+    others = λ q far. get-insert_apart m.spaces p (with_new_part x left) q far;
     memory = subst MemoryFits end-is ends.memory;
     notes = subst (λ (n : Memory). (notes : Notes) → NotesFit m.world notes → NotesFit n.world notes) end-is moves.notes;
     tells = subst (λ (n : Memory). (notes : Notes) → NotesFit m.world notes → AllTell m.world notes ↔ AllTell n.world notes) end-is moves.tells;

@@ -6,7 +6,7 @@ use Rattle.std.specs.FinMap as finite
 use Rattle.std.specs.FinSet as set
 use Rattle.std.proofs.lemmas.Bool.{cases_Bool, cases_eq}
 use Rattle.vm_types.specs.Pages.{IsUserPage}
-use Rattle.addr_space.specs.Space.{Part, IsInOrder, piece_at, has, put}
+use Rattle.addr_space.specs.Space.{Part, IsInOrder, piece_at, has, with_new_part}
 use Rattle.addr_space.proofs.PartLemmas.{has-in, has-within, at-put, ordered-put}
 use Rattle.addr_space.proofs.PartLists.{all-put}
 use Rattle.anon_map.specs.Maps.{Map, places_of, holders_of}
@@ -14,7 +14,7 @@ use Rattle.page_store.specs.Notes.{Notes}
 use Rattle.flat_model.specs.Access.{with_space}
 use Rattle.flat_model.specs.Flat.{Cell, Space, Flat, IsCell, IsFlat}
 use Rattle.flat_model.specs.Mapping.{cells_of}
-use Rattle.flat_model.specs.Space.{in_range, with_cells}
+use Rattle.flat_model.specs.Space.{is_in_range, with_cells}
 use Rattle.flat_model.specs.Words.{Page}
 use Rattle.flat_model.proofs.Ranges.{get-insert_here, get-insert_apart, get-with_cells, in_range-low, in_range-high}
 use Rattle.flat_model.proofs.Sums.{total}
@@ -61,7 +61,7 @@ module _ (m : Memory) (p : ℕ) (parts : List (Part Segment)) (x : Part Segment)
   maps = m.world.maps
 
   abbrev new : List (Part Segment)
-  new = put x parts
+  new = with_new_part x parts
 
   abbrev after : Spaces
   after = finite.insert m.spaces p new
@@ -161,7 +161,7 @@ module _ (m : Memory) (p : ℕ) (parts : List (Part Segment)) (x : Part Segment)
       (spaces-change m now r p new S born notes fits.segments.ordered (λ q ps ne there. c.keeps q ps there) cells)
       (λ z n there. have born notes z n (ap (λ (zs : finite.FinMap nat_cmp ℕ). finite.get zs z) (sym zeros-now) ∙ there)) in
       let old : Standing (cells_of F p) = subst (λ (t : Space). Standing t) (sym (cells-are m p parts born notes is)) (cells-stand F p _ whole s) in
-      let stand : Standing S = λ q d there. by_range q d (cases_Bool (in_range x.first x.pages q)) (sym (get-with_cells (cells_of F p) x.first x.pages (segment_cell x.piece) q) ∙ there) (old q d) in
+      let stand : Standing S = λ q d there. by_range q d (cases_Bool (is_in_range x.first x.pages q)) (sym (get-with_cells (cells_of F p) x.first x.pages (segment_cell x.piece) q) ∙ there) (old q d) in
       (e, subst IsFlat (sym e) (flat-unnamed (with_space G p S) (flat-with_space G p S (fine F whole) (ap is_some s) stand)))
     where
       turn : (page : PageName → Page) (q : ℕ) (b : Bool) (o : Option Spot) → piece_at parts q ≡ o → cell_of (place_contents page now) (x.piece, q - x.first) ≡ segment_cell x.piece (q - x.first)
@@ -170,7 +170,7 @@ module _ (m : Memory) (p : ℕ) (parts : List (Part Segment)) (x : Part Segment)
       turn page q false None e cell = refl
       turn page q false (Some y) e cell = ap (λ (d : Cell). Some d) (kept-cell page maps now y (spot-keeps p q y (ap (option_and_then (λ (ps : List (Part Segment)). piece_at ps q)) is ∙ e)))
 
-      by_range : {o : Option Cell} (q : ℕ) (d : Cell) → (in_range x.first x.pages q ≡ true) ⊎ (in_range x.first x.pages q ≡ false) → cond (in_range x.first x.pages q) (Some (segment_cell x.piece (q - x.first))) o ≡ Some d → (o ≡ Some d → IsUserPage q × IsCell d) → IsUserPage q × IsCell d
+      by_range : {o : Option Cell} (q : ℕ) (d : Cell) → (is_in_range x.first x.pages q ≡ true) ⊎ (is_in_range x.first x.pages q ≡ false) → cond (is_in_range x.first x.pages q) (Some (segment_cell x.piece (q - x.first))) o ≡ Some d → (o ≡ Some d → IsUserPage q × IsCell d) → IsUserPage q × IsCell d
       by_range {o} q d (inl t) e old =
           let low = in_range-low x.first x.pages q t in
           let high = in_range-high x.first x.pages q t in

@@ -17,7 +17,7 @@ use Rattle.page_store.specs.StoreFits.{StoreFits}
 use Rattle.page_store.specs.Value.{value, backing_value, value_in, content_in_bay, content_of}
 use Rattle.page_store.specs.declared.place.Place.{Place}
 use Rattle.page_store.proofs.LayoutLemmas.{layout_law}
-use Rattle.anon_slots.specs.Slots.{Slots, count_at}
+use Rattle.anon_slots.specs.Slots.{AnonSlotsSeen, count_at}
 use Rattle.anon_map.specs.Maps.{Map, holders_of}
 use Rattle.page_store.specs.Layout.{slot_place}
 use Rattle.vnode_files.specs.Vnode.{VnodeSeen}
@@ -27,7 +27,7 @@ use Rattle.vnode_files.specs.Files.{vnode_at, block_count}
 use Rattle.vnode_files.specs.Vnode.{page_blocks}
 use Rattle.flat_model.specs.Words.{IsPage}
 use Rattle.flat_model.specs.Flat.{Flat, IsFlat}
-use Rattle.flat_model.specs.Step.{bit, tails_cleared}
+use Rattle.flat_model.specs.Step.{is_bit_set, tails_cleared}
 use Rattle.flat_model.proofs.ClearedTails.{cleared_tails_law}
 use Rattle.vm_world.specs.World.{file_blocks, slot_name, is_unpushed, world_table, AllTell}
 use Rattle.vm_world.specs.Segments.{Segment}
@@ -82,7 +82,7 @@ module _ (m : Memory) (parents : List ℕ) (o : IsOpeningMemory m parents) where
     zeros = subst (λ (ss : List Segment). All (ShowsZero (zero_maps m.spaces)) ss) (sym (empty-segments m.spaces empty-spaces)) (All-nil (ShowsZero (zero_maps m.spaces)));
     apart = λ y z number is _. absurd (let e : None ≡ Some number = sym (finite.get-empty nat_cmp y) ∙ sym (ap (λ (zs : finite.FinMap nat_cmp ℕ). finite.get zs y) (empty-zeros m.spaces empty-spaces)) ∙ is in cc);
     once = λ y number place slot is _. absurd (let e : None ≡ Some number = sym (finite.get-empty nat_cmp y) ∙ sym (ap (λ (zs : finite.FinMap nat_cmp ℕ). finite.get zs y) (empty-zeros m.spaces empty-spaces)) ∙ is in cc);
-    reserved = empty-reserved m.world.maps m.spaces empty-spaces ∙ sym (ap (λ (a : Slots). a.reserved) o.anon);
+    reserved = empty-reserved m.world.maps m.spaces empty-spaces ∙ sym (ap (λ (a : AnonSlotsSeen). a.reserved) o.anon);
   }
     where
       no_holders : (number : ℕ) → holders_of [] number ≡ 0
@@ -91,8 +91,8 @@ module _ (m : Memory) (parents : List ℕ) (o : IsOpeningMemory m parents) where
   opening-counts : CountsFit m.world.anon m.world.maps
   opening-counts = record {
     sound = o.slots;
-    counts = λ slot. ap (λ (a : Slots). count_at a slot) o.anon ∙ zero-at (length m.world.anon.counts) slot ∙ sym (ap (λ (ms : List (Option Map)). times_held ms slot) o.maps);
-    places = ap (λ (ms : List (Option Map)). sum_by (λ x. length (places_in x)) ms) o.maps ∙ sym (ap (λ (a : Slots). a.reserved) o.anon);
+    counts = λ slot. ap (λ (a : AnonSlotsSeen). count_at a slot) o.anon ∙ zero-at (length m.world.anon.counts) slot ∙ sym (ap (λ (ms : List (Option Map)). times_held ms slot) o.maps);
+    places = ap (λ (ms : List (Option Map)). sum_by (λ x. length (places_in x)) ms) o.maps ∙ sym (ap (λ (a : AnonSlotsSeen). a.reserved) o.anon);
   }
 
   no-holds : (place space page : ℕ) → holds space page (slice_index_or m.world.hat.places place None) ≡ false
@@ -170,7 +170,7 @@ module _ (m : Memory) (parents : List ℕ) (o : IsOpeningMemory m parents) where
           by_count None e set below = absurd (omega (arith, below))
           by_count (Some blocks) e set below = let size = (o.disks.sizes number d at).file blocks e in omega (arith, size, below)
 
-bit-zero : (f : ℕ) → bit 0 f ≡ false
+bit-zero : (f : ℕ) → is_bit_set 0 f ≡ false
 bit-zero zero = refl
 bit-zero (suc f) = bit-zero f
 
@@ -178,8 +178,8 @@ pub above-zero : (n : ℕ) → 0 < 2 ^ n
 above-zero n = pow_pos n
 
 -- no tail is pending where the mask is 0
-pub none-pending : (F : Flat) → tails_cleared F (bit 0) ≡ F
-none-pending F = cleared_tails_law.alike F (bit 0) (λ f. false) (λ f lt. bit-zero f) ∙ cleared_tails_law.none F
+pub none-pending : (F : Flat) → tails_cleared F (is_bit_set 0) ≡ F
+none-pending F = cleared_tails_law.alike F (is_bit_set 0) (λ f. false) (λ f lt. bit-zero f) ∙ cleared_tails_law.none F
 
 pub opening-history : (F : Flat) (H : List Entry) (pending : ℕ) → IsFlat F → H ≡ [] → pending ≡ 0 → HistoryFits F H pending F
 opening-history F H pending whole empty none = subst (λ (h : List Entry). HistoryFits F h pending F) (sym empty) (subst (λ (n : ℕ). HistoryFits F [] n F) (sym none) (record {

@@ -8,7 +8,7 @@ use Rattle.std.proofs.lemmas.Option.{slice_get_cases, slice_get-map, slice_get_w
 use Rattle.page_hash.specs.declared.PageName.{PageName}
 use Rattle.page_store.specs.Layout.{KeepsPage, page_place, slot_place}
 use Rattle.page_store.proofs.LayoutLemmas.{layout_law}
-use Rattle.anon_slots.specs.Slots.{Slots}
+use Rattle.anon_slots.specs.Slots.{AnonSlotsSeen}
 use Rattle.vnode_files.specs.declared.vnode.FileInfo.{FileInfo}
 use Rattle.vnode_files.specs.Files.{FilesSeen, vnode_at}
 use Rattle.vnode_files.specs.Grow.{page_count}
@@ -70,7 +70,7 @@ keeps-page files f i lt below = record {
 }
 
 -- a name that is a page's: a slot's, or that of a page which a file keeps
-pub page-cases : (files : FilesSeen) (anon : Slots) (name : PageName) → IsTrue (is_page_name files anon name)
+pub page-cases : (files : FilesSeen) (anon : AnonSlotsSeen) (name : PageName) → IsTrue (is_page_name files anon name)
     → ((name.object ≡ 64) × (name.page < length anon.counts)) ⊎ ((name.object ≢ 64) × (name.object < length files.files) × (name.page < page_count (vnode_at files name.object).info.extents))
 page-cases files anon name is = elim (eqb_tells name.object 64) [
   | inl same ↦ inl (same.1, ltb-true name.page (length anon.counts) (sym (ap (λ (b : Bool). cond b (nat_lt name.page (length anon.counts)) (nat_lt name.page (page_count (vnode_at files name.object).info.extents))) same.0) ∙ is))
@@ -85,10 +85,10 @@ page-cases files anon name is = elim (eqb_tells name.object 64) [
     there (suc f) i (x ∷ xs) lt = let more = there f i xs lt in omega (arith, more)
 
 -- a page of a file that it keeps, and a slot, are pages
-pub file-page : (files : FilesSeen) (anon : Slots) (f i : ℕ) → f ≢ 64 → i < page_count (vnode_at files f).info.extents → IsTrue (is_page_name files anon (file_name f i))
+pub file-page : (files : FilesSeen) (anon : AnonSlotsSeen) (f i : ℕ) → f ≢ 64 → i < page_count (vnode_at files f).info.extents → IsTrue (is_page_name files anon (file_name f i))
 file-page files anon f i far below = ap (λ (b : Bool). cond b (nat_lt i (length anon.counts)) (nat_lt i (page_count (vnode_at files f).info.extents))) (not-slot f far) ∙ lt-ltb i (page_count (vnode_at files f).info.extents) below
 
-pub slot-page : (files : FilesSeen) (anon : Slots) (s : ℕ) → s < length anon.counts → IsTrue (is_page_name files anon (slot_name s))
+pub slot-page : (files : FilesSeen) (anon : AnonSlotsSeen) (s : ℕ) → s < length anon.counts → IsTrue (is_page_name files anon (slot_name s))
 slot-page files anon s below = lt-ltb s (length anon.counts) below
 
 -- a page below a file's length is one that the file keeps
@@ -96,10 +96,10 @@ pub below-kept : (v : VnodeSeen) (i : ℕ) → IsSoundVnode v → i < pages_in v
 below-kept v i sound lt = let within = sound.within in omega (arith, within, lt)
 
 -- WHERE A PAGE LIVES. A kept page of a file in its block, a slot on the swap disk.
-pub file-place : (files : FilesSeen) (anon : Slots) (f i : ℕ) → f < length files.files → i < page_count (vnode_at files f).info.extents
+pub file-place : (files : FilesSeen) (anon : AnonSlotsSeen) (f i : ℕ) → f < length files.files → i < page_count (vnode_at files f).info.extents
     → page_table files anon (file_name f i) ≡ page_place (file_blocks (vnode_at files f)) i (is_unpushed files anon (file_name f i)) (slice_index_or (page_blocks (vnode_at files f).info.extents) i 0)
 file-place files anon f i lt below =
     (layout_law.table (map file_blocks files.files) (length anon.counts) (is_unpushed files anon)).page (file_name f i) (file_blocks (vnode_at files f)) (slice_index_or (page_blocks (vnode_at files f).info.extents) i 0) (keeps-page files f i lt below)
 
-pub slot-place : (files : FilesSeen) (anon : Slots) (s : ℕ) → FilesFit files → s < length anon.counts → page_table files anon (slot_name s) ≡ slot_place s (is_unpushed files anon (slot_name s))
+pub slot-place : (files : FilesSeen) (anon : AnonSlotsSeen) (s : ℕ) → FilesFit files → s < length anon.counts → page_table files anon (slot_name s) ≡ slot_place s (is_unpushed files anon (slot_name s))
 slot-place files anon s fit below = (layout_law.table (map file_blocks files.files) (length anon.counts) (is_unpushed files anon)).slot fit.disjoint.few s below

@@ -6,7 +6,7 @@ use Rattle.std.specs.FinMap as finite
 use Rattle.std.proofs.lemmas.Bool.{cases_Bool, cases_eq}
 use Rattle.std.proofs.lemmas.List.Elements.{All-nil, All-cons, All-head, All-tail}
 use Rattle.std.proofs.lemmas.List.Sums.{sum_by-cons, sum_by-append}
-use Rattle.addr_space.specs.Space.{Part, part, has, part_at, begins, put, cut_at, without_part, with_new_piece, lower_part, upper_part}
+use Rattle.addr_space.specs.Space.{Part, part, has, part_at, begins, with_new_part, cut_at, without_part, with_new_piece, lower_part, upper_part}
 use Rattle.addr_space.proofs.PartLemmas.{at-here, at-next}
 use Rattle.flat_model.proofs.Entries.{find_rest, first_found}
 use Rattle.flat_model.proofs.Ranges.{insert_same}
@@ -16,16 +16,16 @@ use Rattle.vm_world.proofs.Lists.{all-map, all-flat_map, all-turn}
 use Rattle.vm_world.proofs.Maps.{all-values}
 
 -- SUMS OVER PARTS
-pub sum-put : (g : Part Segment → ℕ) (x : Part Segment) (ps : List (Part Segment)) → sum_by g (put x ps) ≡ g x + sum_by g ps
+pub sum-put : (g : Part Segment → ℕ) (x : Part Segment) (ps : List (Part Segment)) → sum_by g (with_new_part x ps) ≡ g x + sum_by g ps
 sum-put g x [] = sum_by-cons g x []
 sum-put g x (p ∷ ps) = elim (cases_Bool (nat_lt p.first x.first)) [
   | inl t ↦
-      let e = ap (λ (b : Bool). sum_by g (cond b (p ∷ put x ps) (x ∷ p ∷ ps))) t in
-      let a = sum_by-cons g p (put x ps) in
+      let e = ap (λ (b : Bool). sum_by g (cond b (p ∷ with_new_part x ps) (x ∷ p ∷ ps))) t in
+      let a = sum_by-cons g p (with_new_part x ps) in
       let b = sum_by-cons g p ps in
       let more = sum-put g x ps in
       omega (arith, e, a, b, more)
-  | inr f ↦ ap (λ (b : Bool). sum_by g (cond b (p ∷ put x ps) (x ∷ p ∷ ps))) f ∙ sum_by-cons g x (p ∷ ps)
+  | inr f ↦ ap (λ (b : Bool). sum_by g (cond b (p ∷ with_new_part x ps) (x ∷ p ∷ ps))) f ∙ sum_by-cons g x (p ∷ ps)
 ]
 
 pub sum-without_part : (g : Part Segment → ℕ) (ps : List (Part Segment)) (page : ℕ) (x : Part Segment) → begins ps page ≡ Some x → g x + sum_by g (without_part page ps) ≡ sum_by g ps

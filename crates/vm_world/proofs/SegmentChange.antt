@@ -12,7 +12,7 @@ use Rattle.addr_space.specs.Space.{Part, IsInOrder, piece_at}
 use Rattle.addr_space.specs.Pages.{pages_of_parts}
 use Rattle.addr_space.proofs.PageLaws.{get-pages_of_parts}
 use Rattle.anon_map.specs.Maps.{Map, places_of, holders_of}
-use Rattle.anon_slots.specs.Slots.{Slots, count_at}
+use Rattle.anon_slots.specs.Slots.{AnonSlotsSeen, count_at}
 use Rattle.hat_layer.specs.declared.translation.Translation.{Translation}
 use Rattle.page_store.specs.Notes.{Notes}
 use Rattle.page_store.specs.Seen.{StoreSeen}
@@ -36,7 +36,7 @@ use Rattle.vm_world.proofs.ShownZeros.{IsShown, all-shown, apart-maps}
 use Rattle.vm_world.proofs.Spots.{spot-in}
 
 -- THE COUNTS fit other maps that hold each slot as often
-pub counts-change : (anon : Slots) (maps put : List (Option Map)) (r : ℕ) → CountsFit anon maps → ((slot : ℕ) → times_held put slot ≡ times_held maps slot) → sum_by (λ m. length (places_in m)) put ≡ r → r ≤ length anon.counts
+pub counts-change : (anon : AnonSlotsSeen) (maps put : List (Option Map)) (r : ℕ) → CountsFit anon maps → ((slot : ℕ) → times_held put slot ≡ times_held maps slot) → sum_by (λ m. length (places_in m)) put ≡ r → r ≤ length anon.counts
     → CountsFit (record anon { reserved = r }) put
 counts-change anon maps put r fit same places most =
     let counts : (slot : ℕ) → count_at anon slot ≡ times_held put slot = λ slot. fit.counts slot ∙ sym (same slot) in
@@ -54,7 +54,7 @@ pub record ShowsAs (maps put : List (Option Map)) (x y : Spot) : Type 0 where
   pub own : own_slot put y ≡ own_slot maps x
   pub name : shown_name put y ≡ shown_name maps x
 
-translation-moves : (store : StoreSeen) (anon : Slots) (r : ℕ) (maps put : List (Option Map)) (old new : Spaces) (t : Translation) (l : TranslationFits store anon maps old t) (y : Spot)
+translation-moves : (store : StoreSeen) (anon : AnonSlotsSeen) (r : ℕ) (maps put : List (Option Map)) (old new : Spaces) (t : Translation) (l : TranslationFits store anon maps old t) (y : Spot)
     → spot_at new t.space t.page ≡ Some y → ShowsAs maps put l.spot y → TranslationFits store (record anon { reserved = r }) put new t
 translation-moves store anon r maps put old new t l y here s = record {
   spot = y;
@@ -101,7 +101,7 @@ change-memory m put r spaces p f fits others counts segments moves flat = record
 }
 
 -- SEGMENTS FIT where the parts of one process are others: what is owed is sums over these, and which zero objects are shown.
-pub segments-change : (files : ℕ) (anon : Slots) (maps put : List (Option Map)) (r : ℕ) (spaces : Spaces) (p : ℕ) (old new : List (Part Segment)) (Z : finite.FinMap nat_cmp ℕ) → SegmentsFit files anon maps spaces → finite.get spaces p ≡ Some old
+pub segments-change : (files : ℕ) (anon : AnonSlotsSeen) (maps put : List (Option Map)) (r : ℕ) (spaces : Spaces) (p : ℕ) (old new : List (Part Segment)) (Z : finite.FinMap nat_cmp ℕ) → SegmentsFit files anon maps spaces → finite.get spaces p ≡ Some old
     → IsInOrder 1 new → All (SegmentFits files put) new
     → ((q : ℕ) (ps : List (Part Segment)) → q ≢ p → finite.get spaces q ≡ Some ps → All (SegmentFits files put) ps)
     → ((n : ℕ) → holders_of put n + sum_by (λ (a : Part Segment). times_had n a.piece) old ≡ sum_by (λ (a : Part Segment). times_had n a.piece) new + holders_of maps n)

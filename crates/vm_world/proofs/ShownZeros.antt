@@ -14,7 +14,7 @@ use Rattle.vm_types.specs.declared.call.Object.TheVariants as object
 use Rattle.addr_space.specs.Space.{Part, IsInOrder, piece_at, part_at, has}
 use Rattle.addr_space.proofs.PartLemmas.{has-in, has-past, has-within, none-below}
 use Rattle.anon_map.specs.Maps.{Map, IsMapThere}
-use Rattle.anon_slots.specs.Slots.{Slots}
+use Rattle.anon_slots.specs.Slots.{AnonSlotsSeen}
 use Rattle.flat_model.specs.Words.{Page}
 use Rattle.flat_model.specs.Flat.{Cell, Flat, zero_of, is_named}
 use Rattle.flat_model.proofs.Entries.{value_of_any, any_value}
@@ -187,7 +187,7 @@ module _ (spaces : Spaces) (ordered : AreOrdered spaces) (Z : finite.FinMap nat_
           by_map (Some n) d = absurd (let k : None ≡ Some n = sym e ∙ within-maps z n d in cc)
 
 -- WHERE SEGMENTS FIT, each zero object that is shown has its map
-pub fits-shown : (files : ℕ) (anon : Slots) (maps : List (Option Map)) (spaces : Spaces) → SegmentsFit files anon maps spaces → (z n : ℕ) → IsShown spaces z n → finite.get (zero_maps spaces) z ≡ Some n
+pub fits-shown : (files : ℕ) (anon : AnonSlotsSeen) (maps : List (Option Map)) (spaces : Spaces) → SegmentsFit files anon maps spaces → (z n : ℕ) → IsShown spaces z n → finite.get (zero_maps spaces) z ≡ Some n
 fits-shown files anon maps spaces fit z n s =
     let P = λ (a : Part Segment). ShowsZero (zero_maps spaces) a.piece in
     let o : IsSpotOf P s.page s.spot = spot-part P spaces s.process s.page s.spot fit.ordered (λ q ps is. segments-all (ShowsZero (zero_maps spaces)) spaces q ps fit.zeros is) s.here in

@@ -14,11 +14,11 @@ use Rattle.vnode_files.specs.Vnode.{VnodeSeen}
 use Rattle.flat_model.specs.Counted.{top_count}
 use Rattle.flat_model.specs.Flat.{Flat, IsFlat}
 use Rattle.flat_model.specs.History.{replay}
-use Rattle.flat_model.specs.Step.{bit}
+use Rattle.flat_model.specs.Step.{is_bit_set}
 use Rattle.vm_world.specs.World.{World, AllTell}
 use Rattle.vm_world.specs.Pages.{contents_of}
 use Rattle.vm_world.specs.FlatMemory.{flat_memory, shape_of}
-use Rattle.vm_world.specs.DiskPlaces.{HasCounted, KeepSizes, faults_in, seen_in, seen_noted}
+use Rattle.vm_world.specs.DiskPlaces.{HasCounted, KeepSizes, faults_in, seen_in, seen_of_note}
 use Rattle.vm_world.specs.HistoryFits.{HistoryFits, FaultsFit}
 use Rattle.vm_world.specs.MemoryFits.{MemoryFits}
 use Rattle.vm_world.specs.NotesFit.{NotesFit}
@@ -90,7 +90,7 @@ module _ (s : KernelState) (new : World) (trip : Trip) (cut : PageName → Bool)
   -- the history leaves as many files as there are
   files : (opening : Flat) (notes : Notes) → HistoryFits opening s.history s.pending (flat_memory s.memory s.born notes) → length (flat_memory s.memory s.born notes).files ≡ length s.memory.world.files.files
       → length (replay opening s.history).files ≡ length s.memory.world.files.files
-  files opening notes h count = sym (length-cleared (bit s.pending) (replay opening s.history).files) ∙ sym (ap (λ (F : Flat). length F.files) h.shows) ∙ count
+  files opening notes h count = sym (length-cleared (is_bit_set s.pending) (replay opening s.history).files) ∙ sym (ap (λ (F : Flat). length F.files) h.shows) ∙ count
 
   history-kept : (opening : Flat) (notes : Notes) → MemoryFits s.memory → HasTrip trip notes → NotesFit s.memory.world notes
       → (AllTell s.memory.world notes → HistoryFits opening s.history s.pending (flat_memory s.memory s.born notes))
@@ -98,7 +98,7 @@ module _ (s : KernelState) (new : World) (trip : Trip) (cut : PageName → Bool)
   history-kept opening notes fits has nf replays tell =
       let old = (step.tells notes has nf).1 tell in
       let h = replays old in
-      let whole : IsFlat (flat_memory s.memory s.born notes) = subst IsFlat (sym h.shows) (IsFlat-tails_cleared (replay opening s.history) (bit s.pending) h.whole) in
+      let whole : IsFlat (flat_memory s.memory s.born notes) = subst IsFlat (sym h.shows) (IsFlat-tails_cleared (replay opening s.history) (is_bit_set s.pending) h.whole) in
       let count : length (flat_memory s.memory s.born notes).files ≡ length s.memory.world.files.files = length-files_with_pages (contents_of s.memory.world notes).file 0 (shape_of s.memory).files ∙ length-map s.memory.world.files.files (λ (v : VnodeSeen). v.info) in
       subst (λ (F : Flat). HistoryFits opening s.history pending F)
       (sym (frame-flat s.memory.world new s.memory.spaces trip cut s.born notes fits step has nf old whole))
@@ -199,7 +199,7 @@ module _ (seen : DiskSeen → ℕ) (bays new : List BaySeen) (notes : Notes) (se
   other-bay : (k : ℕ) (b : BaySeen) → bay_at bays k ≡ b → seen_in seen b (with_note notes seat (Some note)) ≡ seen_in seen b notes
   other-bay k missing e = refl
   other-bay k (home d) e = refl
-  other-bay k (out t) e = ap (seen_noted seen) (elim (eqb_tells t seat) [
+  other-bay k (out t) e = ap (seen_of_note seen) (elim (eqb_tells t seat) [
     | inl y ↦ absurd (let z : IsSome (notes t) = noted k t e in let z' : ◌≡◌ {A = Bool} false true = sym (ap is_some (ap notes y.1 ∙ idle)) ∙ z in cc)
     | inr n ↦ ap (λ (b : Bool). cond b (Some note) (notes t)) n.0
   ])
@@ -208,7 +208,7 @@ module _ (seen : DiskSeen → ℕ) (bays new : List BaySeen) (notes : Notes) (se
   seen-leaves disk = ap (λ (b : List BaySeen). seen_in seen (bay_at b disk) (with_note notes seat (Some note))) set ∙ elim (cases_eq disk note.number) [
     | inl e ↦
         subst (λ (k : ℕ). seen_in seen (bay_at (slice_set bays note.number (out seat)) k) (with_note notes seat (Some note)) ≡ seen_in seen (bay_at bays k) notes) (sym e)
-        (ap (λ (b : BaySeen). seen_in seen b (with_note notes seat (Some note))) (get_or-set_same bays note.number (out seat) missing (home-below bays note.number note.disk was)) ∙ ap (seen_noted seen) (this-note (Some note)) ∙ sym (ap (λ (b : BaySeen). seen_in seen b notes) was))
+        (ap (λ (b : BaySeen). seen_in seen b (with_note notes seat (Some note))) (get_or-set_same bays note.number (out seat) missing (home-below bays note.number note.disk was)) ∙ ap (seen_of_note seen) (this-note (Some note)) ∙ sym (ap (λ (b : BaySeen). seen_in seen b notes) was))
     | inr ne ↦ ap (λ (b : BaySeen). seen_in seen b (with_note notes seat (Some note))) (get_or-set_other bays note.number disk (out seat) missing ne) ∙ other-bay disk (bay_at bays disk) refl
   ]
 
@@ -258,7 +258,7 @@ rule-begins s new cut pending seat sent kept step tails plan mine of_is = record
 module _ (seen : DiskSeen → ℕ) (bays new : List BaySeen) (notes : Notes) (seat : ℕ) (note : Note) (d : DiskSeen) (noted : notes seat ≡ Some note) (one : (k : ℕ) → bay_at bays k ≡ out seat → k ≡ note.number)
     (was : bay_at bays note.number ≡ out seat) (set : new ≡ slice_set bays note.number (home d)) where
   seen-noted : (disk : ℕ) → disk ≡ note.number → seen_in seen (bay_at bays disk) notes ≡ Some (seen note.disk)
-  seen-noted disk here = ap (λ (k : ℕ). seen_in seen (bay_at bays k) notes) here ∙ ap (λ (b : BaySeen). seen_in seen b notes) was ∙ ap (seen_noted seen) noted
+  seen-noted disk here = ap (λ (k : ℕ). seen_in seen (bay_at bays k) notes) here ∙ ap (λ (b : BaySeen). seen_in seen b notes) was ∙ ap (seen_of_note seen) noted
 
   seen-back : (disk : ℕ) → disk ≡ note.number → seen_in seen (bay_at new disk) (with_note notes seat None) ≡ Some (seen d)
   seen-back disk here =
@@ -268,7 +268,7 @@ module _ (seen : DiskSeen → ℕ) (bays new : List BaySeen) (notes : Notes) (se
   apart-bay : (k : ℕ) (b : BaySeen) → k ≢ note.number → bay_at bays k ≡ b → seen_in seen b (with_note notes seat None) ≡ seen_in seen b notes
   apart-bay k missing ne e = refl
   apart-bay k (home x) ne e = refl
-  apart-bay k (out t) ne e = ap (seen_noted seen) (elim (eqb_tells t seat) [
+  apart-bay k (out t) ne e = ap (seen_of_note seen) (elim (eqb_tells t seat) [
     | inl y ↦ absurd (ne (one k (e ∙ ap out y.1)))
     | inr n ↦ ap (λ (b : Bool). cond b None (notes t)) n.0
   ])

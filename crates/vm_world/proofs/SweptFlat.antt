@@ -11,7 +11,7 @@ use Rattle.page_store.specs.Notes.{Notes}
 use Rattle.flat_model.specs.Access.{with_space}
 use Rattle.flat_model.specs.Flat.{Cell, Space, Flat, IsFlat, space_of, is_named, names_zero, without_unnamed}
 use Rattle.flat_model.specs.Mapping.{cells_of}
-use Rattle.flat_model.specs.Space.{in_range, without_range}
+use Rattle.flat_model.specs.Space.{is_in_range, without_range}
 use Rattle.flat_model.specs.Words.{Page, zero_page}
 use Rattle.flat_model.proofs.Ranges.{get-retain_keys, get-without_range}
 use Rattle.vm_world.specs.CountsFit.{SegmentsFit}
@@ -63,7 +63,7 @@ cells-stand F p s flat is q c here =
     (flat.pages p q c e, flat.cells p q c e)
 
 pub stand-without : (s : Space) (first n : ℕ) → Standing s → Standing (without_range s first n)
-stand-without s first n stand q c is = stand q c (out (in_range first n q) (finite.get s q) (sym (get-without_range s first n q) ∙ is))
+stand-without s first n stand q c is = stand q c (out (is_in_range first n q) (finite.get s q) (sym (get-without_range s first n q) ∙ is))
   where
     out : (b : Bool) (o : Option Cell) → cond b None o ≡ Some c → o ≡ Some c
     out true o e = absurd (let z : None ≡ Some c = e in cc)

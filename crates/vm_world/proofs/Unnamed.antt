@@ -8,7 +8,7 @@ use Rattle.flat_model.specs.Access.{with_space}
 use Rattle.flat_model.specs.Flat.{Cell, Flat, Space, space_of, zero_of, is_named, names_zero, without_unnamed}
 use Rattle.flat_model.specs.Mapping.{cells_of, without_pages}
 use Rattle.flat_model.specs.Processes.{without_process}
-use Rattle.flat_model.specs.Space.{in_range, without_range, with_cells}
+use Rattle.flat_model.specs.Space.{is_in_range, without_range, with_cells}
 use Rattle.flat_model.specs.Words.{Page, zero_page}
 use Rattle.flat_model.proofs.Mappings.{cells_of-with_space}
 use Rattle.flat_model.proofs.Ranges.{same_space, get-insert, get-insert_here, get-insert_apart, get-retain_keys, get-without_range}
@@ -61,12 +61,12 @@ pages-after-pages F p a n b k =
     ∙ ap (λ (t : finite.FinMap nat_cmp Space). without_unnamed (record F { spaces = t })) (insert-twice F.spaces p A (without_range A b k))
 
 -- ranges that make up another
-pub pages-joined : (F : Flat) (p a n b k c l : ℕ) → ((q : ℕ) → cond (in_range b k q) None (cond (in_range a n q) None (finite.get (cells_of F p) q)) ≡ cond (in_range c l q) None (finite.get (cells_of F p) q))
+pub pages-joined : (F : Flat) (p a n b k c l : ℕ) → ((q : ℕ) → cond (is_in_range b k q) None (cond (is_in_range a n q) None (finite.get (cells_of F p) q)) ≡ cond (is_in_range c l q) None (finite.get (cells_of F p) q))
     → without_pages (without_pages F p a n) p b k ≡ without_pages F p c l
 pages-joined F p a n b k c l same =
     let S : Space = cells_of F p in
     pages-after-pages F p a n b k ∙ ap (λ (s : Space). without_unnamed (with_space F p s)) (same_space (without_range (without_range S a n) b k) (without_range S c l) (λ q.
-    get-without_range (without_range S a n) b k q ∙ ap (cond (in_range b k q) None) (get-without_range S a n q) ∙ same q ∙ sym (get-without_range S c l q)))
+    get-without_range (without_range S a n) b k q ∙ ap (cond (is_in_range b k q) None) (get-without_range S a n q) ∙ same q ∙ sym (get-without_range S c l q)))
 
 -- and before the zero object that only they named
 pub pages-of-zero : (F : Flat) (p first n z k : ℕ) → is_named (with_space F p (without_range (cells_of F p) first n)) z ≡ false → without_pages (with_zero_object F z k) p first n ≡ without_pages F p first n

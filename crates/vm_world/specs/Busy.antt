@@ -6,9 +6,9 @@ use Rattle.vm_types.specs.declared.call.Kind.TheVariants.{Private}
 use Rattle.vm_types.specs.declared.call.Object.TheVariants as object
 use Rattle.addr_space.specs.Space.{Part}
 use Rattle.anon_map.specs.Maps.{Map}
-use Rattle.anon_slots.specs.Slots.{Slots}
+use Rattle.anon_slots.specs.Slots.{AnonSlotsSeen}
 use Rattle.block_device.specs.DiskSeen.{DiskSeen}
-use Rattle.hat_layer.specs.Pool.{Pool}
+use Rattle.hat_layer.specs.Pool.{HatSeen}
 use Rattle.page_clock.specs.Clock.{fresh_clock}
 use Rattle.page_lock.specs.Rows.{clear_row}
 use Rattle.page_store.specs.Bays.{missing, out}
@@ -36,7 +36,7 @@ busy_spaces = finite.insert finite.empty 1 (busy_part ∷ [])
 abbrev pub busy_maps : List (Option Map)
 busy_maps = Some (record { places = Some 0 ∷ Some 1 ∷ Some 2 ∷ []; holders = 1 }) ∷ []
 
-abbrev pub busy_slots : Slots
+abbrev pub busy_slots : AnonSlotsSeen
 busy_slots = record { counts = 1 ∷ 1 ∷ 1 ∷ []; swapped = true ∷ true ∷ false ∷ []; reserved = 3 }
 
 -- Two frames: the third page is home in frame 0, and the second is away in frame 1 with seat 1, and so is the swap disk.
@@ -54,7 +54,7 @@ busy_store page = record {
 }
 
 -- The third page has a translation, through which it was written.
-abbrev pub busy_hat : Pool
+abbrev pub busy_hat : HatSeen
 busy_hat = record { places = Some (record { space = 1; page = 3; frame = 0; writable = true; referenced = true; modified = true }) ∷ []; hand = 0; frames = 2 }
 
 abbrev pub busy_memory : Page → Memory

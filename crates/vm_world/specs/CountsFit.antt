@@ -8,7 +8,7 @@ use Rattle.vm_types.specs.declared.call.Object.{Object}
 use Rattle.vm_types.specs.declared.call.Object.TheVariants as object
 use Rattle.vm_types.specs.Prot.{is_within}
 use Rattle.addr_space.specs.Space.{Part, IsInOrder}
-use Rattle.anon_slots.specs.Slots.{Slots, IsSoundAnonSlots, count_at}
+use Rattle.anon_slots.specs.Slots.{AnonSlotsSeen, IsSoundAnonSlots, count_at}
 use Rattle.anon_map.specs.Maps.{Map, IsMapThere, places_of, holders_of}
 use Rattle.vm_world.specs.Segments.{Segment, Spaces, segments_of, zero_map}
 use Rattle.vm_world.specs.FlatMemory.{zero_maps}
@@ -30,7 +30,7 @@ times_held maps slot = sum_by (λ m. count_by (is_number slot) (places_in m)) ma
 
 -- A slot's count is the number of places that hold it; the slots in use are reserved, and no more are reserved than there are; and as many are reserved
 -- as the maps have places.
-pub record CountsFit (anon : Slots) (maps : List (Option Map)) : Type 0 where
+pub record CountsFit (anon : AnonSlotsSeen) (maps : List (Option Map)) : Type 0 where
   pub sound : IsSoundAnonSlots anon
   pub counts : (slot : ℕ) → count_at anon slot ≡ times_held maps slot
   pub places : sum_by (λ m. length (places_in m)) maps ≡ anon.reserved
@@ -73,7 +73,7 @@ ShowsZero zeros s = (z number : ℕ) → zero_map s ≡ Some (z, number) → fin
 
 -- The parts of each space lie in order, and each segment fits; a map has a holder for each time that a segment has it; a zero object has one map, and
 -- a map at most one zero object; no other place holds a slot that a zero object's map holds; and what is reserved is what the segments reserve.
-pub record SegmentsFit (files : ℕ) (anon : Slots) (maps : List (Option Map)) (spaces : Spaces) : Type 0 where
+pub record SegmentsFit (files : ℕ) (anon : AnonSlotsSeen) (maps : List (Option Map)) (spaces : Spaces) : Type 0 where
   pub ordered : (p : ℕ) (parts : List (Part Segment)) → finite.get spaces p ≡ Some parts → IsInOrder 1 parts
   pub each : (p : ℕ) (parts : List (Part Segment)) → finite.get spaces p ≡ Some parts → All (SegmentFits files maps) parts
   pub holders : (number : ℕ) → holders_of maps number ≡ sum_by (times_had number) (segments_of spaces)

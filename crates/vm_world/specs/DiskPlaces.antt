@@ -5,15 +5,15 @@ use Rattle.page_store.specs.Bays.{BaySeen, missing, home, out, bay_at}
 use Rattle.page_store.specs.Notes.{Note, Notes}
 
 -- What is seen of the disk that a note has.
-abbrev pub seen_noted : (DiskSeen → ℕ) → Option Note → Option ℕ
-seen_noted seen None = None
-seen_noted seen (Some note) = Some (seen note.disk)
+abbrev pub seen_of_note : (DiskSeen → ℕ) → Option Note → Option ℕ
+seen_of_note seen None = None
+seen_of_note seen (Some note) = Some (seen note.disk)
 
 -- What is seen of a disk, at home or in a note.
 abbrev pub seen_in : (DiskSeen → ℕ) → BaySeen → Notes → Option ℕ
 seen_in seen missing notes = None
 seen_in seen (home disk) notes = Some (seen disk)
-seen_in seen (out seat) notes = seen_noted seen (notes seat)
+seen_in seen (out seat) notes = seen_of_note seen (notes seat)
 
 -- Its count of faults.
 abbrev pub faults_in : BaySeen → Notes → Option ℕ

@@ -16,7 +16,7 @@ use Rattle.flat_model.specs.Flat.{Flat, space_of}
 use Rattle.flat_model.specs.History.{KeepsParts, IsSyncStart, is_io}
 use Rattle.flat_model.specs.HistoryLaws.{IsNextPart}
 use Rattle.flat_model.specs.OpenLaws.{MayFollow, IsOpenPart}
-use Rattle.flat_model.specs.Step.{bit, tails_cleared, after_act, IsDue, IsUnborn}
+use Rattle.flat_model.specs.Step.{is_bit_set, tails_cleared, after_act, IsDue, IsUnborn}
 use Rattle.flat_model.specs.SyncLaws.{is_in_life}
 use Rattle.flat_model.specs.Told.{entries_of}
 use Rattle.vm_world.specs.DiskPlaces.{HasCounted}
@@ -45,7 +45,7 @@ pub record EntryLaw : Type 0 where
       → e.cleared ≡ pending → IsWellFormed e.call → IsSome (space_of now e.process) → IsUnborn now e.call → IsDue now e → IsSyncStart H (length H) e → IsNextPart H e
       → HistoryFits opening (H ++ e ∷ []) 0 (after_act now e)
   pub tails : (opening : Flat) (H : List Entry) (pending more : ℕ) (now : Flat) (lost : ℕ → Bool) → HistoryFits opening H pending now
-      → ((f : ℕ) → f < length now.files → bit more f ≡ (bit pending f || lost f)) → more < 2 ^ length now.files
+      → ((f : ℕ) → f < length now.files → is_bit_set more f ≡ (is_bit_set pending f || lost f)) → more < 2 ^ length now.files
       → HistoryFits opening H more (tails_cleared now lost)
   pub faults : (H : List Entry) (bays : List BaySeen) (notes : Notes) (e : Entry) → FaultsFit H bays notes → IsNextCount H e
       → ((disk before after : ℕ) → e.reply ≡ Io disk before after → HasCounted bays notes disk after)

@@ -9,14 +9,14 @@ use Rattle.page_lock.specs.Rows.{row_at}
 use Rattle.page_store.specs.Bays.{BaySeen, missing, home, bay_at}
 use Rattle.page_store.specs.Layout.{FileBlocks, KeepsPage, AreDisjoint}
 use Rattle.page_store.specs.Seen.{StoreSeen, IsSoundStore, IsListedFrame}
-use Rattle.anon_slots.specs.Slots.{Slots}
+use Rattle.anon_slots.specs.Slots.{AnonSlotsSeen}
 use Rattle.vnode_files.specs.Files.{FilesSeen, vnode_at, block_count}
 use Rattle.vnode_files.specs.Layout.{LieOnDisks, NoFilesMeet, HaveFewExtents}
 use Rattle.vnode_files.specs.Vnode.{IsSoundVnode}
 use Rattle.vm_world.specs.World.{file_blocks, page_exists}
 
 -- The frame tables agree; no frame is kept; a page on the cache list isn't modified; and each name that a frame holds is that of a page which exists.
-pub record FramesFit (store : StoreSeen) (files : FilesSeen) (anon : Slots) : Type 0 where
+pub record FramesFit (store : StoreSeen) (files : FilesSeen) (anon : AnonSlotsSeen) : Type 0 where
   pub sound : IsSoundStore store
   pub unkept : (frame : ℕ) → (row_at store.rows frame).keeps ≡ 0
   pub unmodified : (frame : ℕ) → IsListedFrame store frame → (row_at store.rows frame).modified ≡ false

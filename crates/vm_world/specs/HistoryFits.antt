@@ -11,7 +11,7 @@ use Rattle.vm_types.specs.declared.call.Reply.TheVariants.{Io}
 use Rattle.page_store.specs.Bays.{BaySeen, bay_at}
 use Rattle.page_store.specs.Notes.{Notes}
 use Rattle.flat_model.specs.Flat.{Flat, IsFlat}
-use Rattle.flat_model.specs.Step.{bit, tails_cleared}
+use Rattle.flat_model.specs.Step.{is_bit_set, tails_cleared}
 use Rattle.flat_model.specs.History.{replay, Legal, IsStart}
 use Rattle.flat_model.specs.Births.{is_birth}
 use Rattle.flat_model.specs.Counted.{Counted, top_count}
@@ -30,7 +30,7 @@ is_exit call = false
 pub record HistoryFits (opening : Flat) (H : List Entry) (pending : ℕ) (now : Flat) : Type 0 where
   pub legal : Legal opening H
   pub whole : IsFlat (replay opening H)
-  pub shows : now ≡ tails_cleared (replay opening H) (bit pending)
+  pub shows : now ≡ tails_cleared (replay opening H) (is_bit_set pending)
   pub bits : pending < 2 ^ length (replay opening H).files
 
 -- The device errors name faults that were counted, each of a disk that is there, whose count isn't below the one that was told; and no count is past the

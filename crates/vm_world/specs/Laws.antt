@@ -2,7 +2,7 @@
 use Rattle.std.specs.Prelude.{◌≡◌, ◌≢◌, ◌||◌, ◌<◌, ◌≤◌, ◌+◌, ℕ, Bool, false, List, length, Option, Some, None, slice_set, if◌then◌else◌}
 use Rattle.addr_space.specs.Space.{Part, IsInOrder}
 use Rattle.anon_map.specs.Maps.{Map, places_of, with_places}
-use Rattle.anon_slots.specs.Slots.{Slots, count_at, slots_in_use}
+use Rattle.anon_slots.specs.Slots.{AnonSlotsSeen, count_at, slots_in_use}
 use Rattle.std.specs.FinMap as finite
 use Rattle.std.specs.FinSet as set
 use Rattle.std.specs.Ordering.{nat_cmp}
@@ -44,9 +44,9 @@ pub record ReservedLaw : Type 0 where
 -- A slot that a place holds is in use; one that is counted once stands at one place; one that isn't in use stands nowhere. Where a place is empty, a slot
 -- is left of the reserved ones. And a place that is set takes one from the count of the slot that it held, and adds one to that of the slot that it holds.
 pub record CountsLaw : Type 0 where
-  pub used : (anon : Slots) (maps : List (Option Map)) (m i slot : ℕ) → CountsFit anon maps → slot_in maps m i ≡ Some slot → 0 < count_at anon slot
-  pub once : (anon : Slots) (maps : List (Option Map)) (m i n k slot : ℕ) → CountsFit anon maps → count_at anon slot ≡ 1 → slot_in maps m i ≡ Some slot → slot_in maps n k ≡ Some slot → (n ≡ m) × (k ≡ i)
-  pub nowhere : (anon : Slots) (maps : List (Option Map)) (m i slot : ℕ) → CountsFit anon maps → count_at anon slot ≡ 0 → slot_in maps m i ≢ Some slot
-  pub room : (anon : Slots) (maps : List (Option Map)) (m i : ℕ) → CountsFit anon maps → i < length (places_of maps m) → slot_in maps m i ≡ None → slots_in_use anon < anon.reserved
+  pub used : (anon : AnonSlotsSeen) (maps : List (Option Map)) (m i slot : ℕ) → CountsFit anon maps → slot_in maps m i ≡ Some slot → 0 < count_at anon slot
+  pub once : (anon : AnonSlotsSeen) (maps : List (Option Map)) (m i n k slot : ℕ) → CountsFit anon maps → count_at anon slot ≡ 1 → slot_in maps m i ≡ Some slot → slot_in maps n k ≡ Some slot → (n ≡ m) × (k ≡ i)
+  pub nowhere : (anon : AnonSlotsSeen) (maps : List (Option Map)) (m i slot : ℕ) → CountsFit anon maps → count_at anon slot ≡ 0 → slot_in maps m i ≢ Some slot
+  pub room : (anon : AnonSlotsSeen) (maps : List (Option Map)) (m i : ℕ) → CountsFit anon maps → i < length (places_of maps m) → slot_in maps m i ≡ None → slots_in_use anon < anon.reserved
   pub put : (maps : List (Option Map)) (m i slot : ℕ) (o : Option ℕ) → i < length (places_of maps m)
       → times_held (with_places maps m (slice_set (places_of maps m) i o)) slot + (if is_number slot (slot_in maps m i) then 1 else 0) ≡ times_held maps slot + (if is_number slot o then 1 else 0)

@@ -9,7 +9,7 @@ use Rattle.page_store.specs.StoreFits.{StoreFits, IsClean}
 use Rattle.page_store.specs.Table.{PlaceTable}
 use Rattle.page_store.specs.Transfers.{was_rewritten}
 use Rattle.page_store.specs.declared.residence.Residence.TheVariants.{Home}
-use Rattle.anon_slots.specs.Slots.{Slots}
+use Rattle.anon_slots.specs.Slots.{AnonSlotsSeen}
 use Rattle.hat_layer.specs.declared.translation.Translation.{Translation}
 use Rattle.vnode_files.specs.Files.{FilesSeen}
 use Rattle.vm_world.specs.FramesFit.{HasSize}
@@ -38,7 +38,7 @@ pub record PushFits (store : StoreSeen) (places : List (Option Translation)) (ta
   pub same : WasRewritten store places note.frame ⊎ IsAsSent store table note
 
 -- A push of a page that is gone does no harm: the page is a blank one of a file, or doesn't exist, or is home anew.
-abbrev pub MayWriteGone : StoreSeen → FilesSeen → Slots → PageName → Type 0
+abbrev pub MayWriteGone : StoreSeen → FilesSeen → AnonSlotsSeen → PageName → Type 0
 MayWriteGone store files anon name =
     (IsTrue (is_unpushed files anon name) × (name.object ≢ 64))
     ⊎ (IsFalse (page_exists files anon name) ⊎ ((frame : ℕ) × (residence store name ≡ Home frame)))

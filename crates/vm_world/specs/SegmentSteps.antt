@@ -7,7 +7,7 @@ use Rattle.vm_types.specs.Prot.{is_within}
 use Rattle.vm_types.specs.declared.call.Kind.{Kind}
 use Rattle.vm_types.specs.declared.call.Kind.TheVariants.{Shared, Private}
 use Rattle.vm_types.specs.declared.call.Object.TheVariants as object
-use Rattle.addr_space.specs.Space.{Part, LiesFrom, part_at, begins, put, cut_at, without_part, with_new_piece, page_total}
+use Rattle.addr_space.specs.Space.{Part, LiesFrom, part_at, begins, with_new_part, cut_at, without_part, with_new_piece, page_total}
 use Rattle.anon_map.specs.Maps.{Map, IsUnused, AreEmpty, places_of, holders_of}
 use Rattle.page_store.specs.Notes.{Notes}
 use Rattle.flat_model.specs.Access.{with_space}
@@ -85,7 +85,7 @@ pub record MayCome (m : Memory) (parts : List (Part Segment)) (x : Part Segment)
 
 abbrev pub with_part_come : Memory → ℕ → List (Part Segment) → Part Segment → Memory
 with_part_come m p parts x =
-    with_segments m (maps_held (maps_made m.world.maps x.piece.own x.piece.pages) x.piece.shown) (m.world.anon.reserved + slots_for_part x) p (put x parts)
+    with_segments m (maps_held (maps_made m.world.maps x.piece.own x.piece.pages) x.piece.shown) (m.world.anon.reserved + slots_for_part x) p (with_new_part x parts)
 
 -- A part may come with a new zero object: this number names no object and this map is new, and there are slots for its pages.
 pub record MayMakeZero (m : Memory) (parts : List (Part Segment)) (x : Part Segment) (z number : ℕ) : Type 0 where
@@ -99,7 +99,7 @@ pub record MayMakeZero (m : Memory) (parts : List (Part Segment)) (x : Part Segm
   pub room : m.world.anon.reserved + x.pages ≤ length m.world.anon.counts
 
 abbrev pub with_zero_part : Memory → ℕ → List (Part Segment) → Part Segment → Memory
-with_zero_part m p parts x = with_segments m (maps_made m.world.maps x.piece.shown x.piece.pages) (m.world.anon.reserved + x.pages) p (put x parts)
+with_zero_part m p parts x = with_segments m (maps_made m.world.maps x.piece.shown x.piece.pages) (m.world.anon.reserved + x.pages) p (with_new_part x parts)
 
 -- Memory with so many numbers more that name no anon map.
 abbrev pub with_more_numbers : Memory → ℕ → Memory

@@ -5,7 +5,7 @@ use Rattle.page_hash.specs.declared.PageName.{PageName}
 use Rattle.page_store.specs.Bays.{home, bay_at}
 use Rattle.page_store.specs.Notes.{Note}
 use Rattle.flat_model.specs.Counted.{top_count}
-use Rattle.flat_model.specs.Step.{bit}
+use Rattle.flat_model.specs.Step.{is_bit_set}
 use Rattle.vm_world.specs.Events.{IsEvent, CanTry}
 use Rattle.vm_world.specs.Plans.{CanRunPlan, MayMeetFault}
 use Rattle.vm_world.specs.State.{KernelState, KeptPlan, Caller, Sent}
@@ -18,7 +18,7 @@ after_step s new pending = record s { memory = record s.memory { world = new }; 
 
 -- The tails that were pending are, and those of the files whose last page the step took. Where no bit named a file past the last, none does.
 pub record PendsTails (old : World) (cut : PageName → Bool) (pending more : ℕ) : Type 0 where
-  pub bits : (f : ℕ) → f < length old.files.files → bit more f ≡ (bit pending f || tails_lost old cut f)
+  pub bits : (f : ℕ) → f < length old.files.files → is_bit_set more f ≡ (is_bit_set pending f || tails_lost old cut f)
   pub below : pending < 2 ^ length old.files.files → more < 2 ^ length old.files.files
 
 -- A disk that comes back has its size, and counted no fewer faults than as it went, and not past the end of counts.

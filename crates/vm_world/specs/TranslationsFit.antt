@@ -8,21 +8,21 @@ use Rattle.page_hash.specs.declared.PageName.{PageName}
 use Rattle.page_lock.specs.Rows.{row_at}
 use Rattle.page_store.specs.Seen.{StoreSeen, IsListedFrame, residence}
 use Rattle.page_store.specs.declared.residence.Residence.TheVariants.{Home}
-use Rattle.anon_slots.specs.Slots.{Slots, count_at}
+use Rattle.anon_slots.specs.Slots.{AnonSlotsSeen, count_at}
 use Rattle.anon_map.specs.Maps.{Map}
-use Rattle.hat_layer.specs.Pool.{Pool, IsSingleValued}
+use Rattle.hat_layer.specs.Pool.{HatSeen, IsSingleValued}
 use Rattle.hat_layer.specs.declared.translation.Translation.{Translation}
 use Rattle.vm_world.specs.Segments.{Spot, Spaces, spot_at, own_slot, shown_name}
 use Rattle.vm_world.specs.World.{slot_name}
 
 -- A page may be written where it is: its protection lets it, and a private page has a slot of its own that no other place holds.
-pub record MayWriteInPlace (anon : Slots) (maps : List (Option Map)) (x : Spot) : Type 0 where
+pub record MayWriteInPlace (anon : AnonSlotsSeen) (maps : List (Option Map)) (x : Spot) : Type 0 where
   pub prot : IsTrue (can_write x.0.prot)
   pub alone : x.0.kind ≡ Private → (slot : ℕ) × (own_slot maps x ≡ Some slot) × (count_at anon slot ≡ 1)
 
 -- A translation leads to the home frame of the page that its place shows, on neither list. It stands for a page that may be read or written, and is
 -- writable only where the page may be written where it is.
-pub record TranslationFits (store : StoreSeen) (anon : Slots) (maps : List (Option Map)) (spaces : Spaces) (t : Translation) : Type 0 where
+pub record TranslationFits (store : StoreSeen) (anon : AnonSlotsSeen) (maps : List (Option Map)) (spaces : Spaces) (t : Translation) : Type 0 where
   pub spot : Spot
   pub here : spot_at spaces t.space t.page ≡ Some spot
   pub name : PageName
@@ -33,12 +33,12 @@ pub record TranslationFits (store : StoreSeen) (anon : Slots) (maps : List (Opti
   pub writable : t.writable ≡ true → MayWriteInPlace anon maps spot
 
 -- Each translation of the pool fits.
-abbrev pub TranslationsFit : StoreSeen → Slots → List (Option Map) → Spaces → List (Option Translation) → Type 0
+abbrev pub TranslationsFit : StoreSeen → AnonSlotsSeen → List (Option Map) → Spaces → List (Option Translation) → Type 0
 TranslationsFit store anon maps spaces places =
     (place : ℕ) (t : Translation) → slice_index_or places place None ≡ Some t → TranslationFits store anon maps spaces t
 
 -- The pool is one of so many frames, and no page has two translations.
-pub record PoolFits (frames : ℕ) (hat : Pool) : Type 0 where
+pub record PoolFits (frames : ℕ) (hat : HatSeen) : Type 0 where
   pub leads : hat.frames ≡ frames
   pub single : IsSingleValued hat.places
 
@@ -55,7 +55,7 @@ abbrev pub IsModified : StoreSeen → List (Option Translation) → ℕ → Type
 IsModified store places frame = ((row_at store.rows frame).modified ≡ true) ⊎ HasWritten places frame
 
 -- The page of a slot that was never pushed is modified where it is home.
-abbrev pub UnpushedFit : StoreSeen → Slots → List (Option Translation) → Type 0
+abbrev pub UnpushedFit : StoreSeen → AnonSlotsSeen → List (Option Translation) → Type 0
 UnpushedFit store anon places =
     (frame slot : ℕ) → name_at store.names frame ≡ Some (slot_name slot) → slice_index_or anon.swapped slot false ≡ false
     → IsSome (bytes_at store.frames frame) → IsModified store places frame

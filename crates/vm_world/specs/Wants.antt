@@ -22,7 +22,7 @@ use Rattle.anon_slots.specs.Slots.{count_at}
 use Rattle.anon_map.specs.Maps.{places_of}
 use Rattle.vnode_files.specs.Files.{FilesSeen, vnode_at, growth_of}
 use Rattle.flat_model.specs.Words.{page, pages_in, page_size}
-use Rattle.flat_model.specs.Space.{in_range}
+use Rattle.flat_model.specs.Space.{is_in_range}
 use Rattle.vm_world.specs.FlatMemory.{Memory}
 use Rattle.vm_world.specs.Segments.{Spot, spot_at, own_slot, shown_name}
 use Rattle.vm_world.specs.State.{Caller, seat_of}
@@ -85,7 +85,7 @@ WantsHome m p call name = ⊥
 -- The pages that a call wants clean: those of files that a shared segment shows in a Sync's range.
 abbrev pub WantsClean : Memory → ℕ → Call → PageName → Type 0
 WantsClean m p (Sync a len) name =
-    (q : ℕ) × (x : Spot) × (in_range (page a) (pages_in len) q ≡ true) × ShowsPage m p q x × (x.0.kind ≡ Shared) × (shown_name m.world.maps x ≡ Some name) × (name.object ≢ 64)
+    (q : ℕ) × (x : Spot) × (is_in_range (page a) (pages_in len) q ≡ true) × ShowsPage m p q x × (x.0.kind ≡ Shared) × (shown_name m.world.maps x ≡ Some name) × (name.object ≢ 64)
 WantsClean m p call name = ⊥
 
 -- An access makes a slot for a page of zeros that has none yet; a store does so too for a private page that isn't its own alone.

@@ -6,9 +6,9 @@ use Rattle.page_store.specs.Notes.{Notes}
 use Rattle.page_store.specs.Seen.{StoreSeen}
 use Rattle.page_store.specs.Table.{PlaceTable}
 use Rattle.page_store.specs.Value.{tells}
-use Rattle.anon_slots.specs.Slots.{Slots, count_at, is_used}
+use Rattle.anon_slots.specs.Slots.{AnonSlotsSeen, count_at, is_used}
 use Rattle.anon_map.specs.Maps.{Map, places_of}
-use Rattle.hat_layer.specs.Pool.{Pool}
+use Rattle.hat_layer.specs.Pool.{HatSeen}
 use Rattle.vnode_files.specs.Files.{FilesSeen, vnode_at}
 use Rattle.vnode_files.specs.Grow.{page_count}
 use Rattle.vnode_files.specs.Vnode.{VnodeSeen, page_blocks, is_blank}
@@ -18,9 +18,9 @@ use Rattle.vm_world.specs.declared.world.World as rust
 -- The page store, the swap slots, the anon maps, the translations and the files.
 pub record World : Type 0 where
   pub store : StoreSeen
-  pub anon : Slots
+  pub anon : AnonSlotsSeen
   pub maps : List (Option Map)
-  pub hat : Pool
+  pub hat : HatSeen
   pub files : FilesSeen
 
 -- The world of that struct.
@@ -52,25 +52,25 @@ abbrev pub file_blocks : VnodeSeen → FileBlocks
 file_blocks v = record { disk = v.info.disk; length = v.info.length; blocks = page_blocks v.info.extents }
 
 -- The page was never pushed: a blank page of a file, or a slot of which no page was pushed. Such a page is zeros, whatever its block holds.
-abbrev pub is_unpushed : FilesSeen → Slots → PageName → Bool
+abbrev pub is_unpushed : FilesSeen → AnonSlotsSeen → PageName → Bool
 is_unpushed files anon name =
     if name.object == 64 then not (slice_index_or anon.swapped name.page false) else is_blank (vnode_at files name.object) name.page
 
 -- Where each page lives.
-abbrev pub page_table : FilesSeen → Slots → PlaceTable
+abbrev pub page_table : FilesSeen → AnonSlotsSeen → PlaceTable
 page_table files anon = table_of (map file_blocks files.files) (length anon.counts) (is_unpushed files anon)
 
 abbrev pub world_table : World → PlaceTable
 world_table w = page_table w.files w.anon
 
 -- The name is that of a page which a file keeps, or of a slot.
-abbrev pub is_page_name : FilesSeen → Slots → PageName → Bool
+abbrev pub is_page_name : FilesSeen → AnonSlotsSeen → PageName → Bool
 is_page_name files anon name =
     if name.object == 64 then nat_lt name.page (length anon.counts)
     else nat_lt name.page (page_count (vnode_at files name.object).info.extents)
 
 -- The page exists: it lies below its file's length, or some map place holds its slot.
-abbrev pub page_exists : FilesSeen → Slots → PageName → Bool
+abbrev pub page_exists : FilesSeen → AnonSlotsSeen → PageName → Bool
 page_exists files anon name =
     if name.object == 64 then is_used (count_at anon name.page)
     else nat_lt name.page (pages_in (vnode_at files name.object).info.length)

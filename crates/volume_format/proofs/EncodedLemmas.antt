@@ -12,7 +12,7 @@ use Rattle.vnode_files.specs.Grow.{extent_end}
 use Rattle.volume_format.specs.Table.{TableSeen, all_extents, entry_at, no_entry}
 use Rattle.volume_format.specs.Layout.{number_at, name_field, length_of_file, mode_of_file, first_extent, extents_number, table_extent, version, file_count, extent_count, entry_start, extent_start}
 use Rattle.volume_format.specs.Rules.{is_on_disk}
-use Rattle.volume_format.specs.Writing.{zero_filled, number_bytes, extent_bytes, entry_bytes, entries_bytes, extents_bytes, extents_up_to, header_bytes, encoding}
+use Rattle.volume_format.specs.Writing.{padded_field, number_bytes, extent_bytes, entry_bytes, entries_bytes, extents_bytes, extents_up_to, header_bytes, encoding}
 use Rattle.volume_format.specs.Volume.{extent_at, IsVolumeTable}
 use Rattle.volume_format.proofs.SliceLemmas.{slice-front, slice-last, slice-slice}
 use Rattle.volume_format.proofs.WritingLemmas.{length-number_bytes, length-zero_filled, length-extent_bytes, length-flat_map-same, length-header_bytes}
@@ -67,24 +67,24 @@ sizes t h =
 pub in-header : (t : TableSeen) (part : List ℕ) (at end : ℕ) → at ≤ end → end ≤ 32 → slice_range (header_bytes t) at end ≡ part → slice_range (encoding t) at end ≡ part
 unfolding encoding
 in-header t part at end order within e =
-    in-front (header_bytes t) (zero_filled 2048 (entries_bytes t.entries) ++ zero_filled 2016 (extents_bytes t.entries)) part at end order (omega (arith, length-header_bytes t)) e
+    in-front (header_bytes t) (padded_field 2048 (entries_bytes t.entries) ++ padded_field 2016 (extents_bytes t.entries)) part at end order (omega (arith, length-header_bytes t)) e
 
 pub in-entries : (t : TableSeen) → Sizes t → (from to : ℕ) → from ≤ to → to ≤ 2048
-    → slice_range (encoding t) (32 + from) (32 + to) ≡ slice_range (zero_filled 2048 (entries_bytes t.entries)) from to
+    → slice_range (encoding t) (32 + from) (32 + to) ≡ slice_range (padded_field 2048 (entries_bytes t.entries)) from to
 unfolding encoding
 in-entries t s from to order within =
-    let entries = zero_filled 2048 (entries_bytes t.entries) in
-    let extents = zero_filled 2016 (extents_bytes t.entries) in
+    let entries = padded_field 2048 (entries_bytes t.entries) in
+    let extents = padded_field 2016 (extents_bytes t.entries) in
     let size = length-zero_filled 2048 (entries_bytes t.entries) (omega (arith, s.entries, s.files)) in
     slice-behind (header_bytes t) (entries ++ extents) 32 from to (length-header_bytes t)
     ∙ slice-front entries extents from to order (omega (arith, size))
 
-pub in-extents : (t : TableSeen) → Sizes t → (from to : ℕ) → slice_range (encoding t) (2080 + from) (2080 + to) ≡ slice_range (zero_filled 2016 (extents_bytes t.entries)) from to
+pub in-extents : (t : TableSeen) → Sizes t → (from to : ℕ) → slice_range (encoding t) (2080 + from) (2080 + to) ≡ slice_range (padded_field 2016 (extents_bytes t.entries)) from to
 unfolding encoding
 in-extents t s from to =
     let header = header_bytes t in
-    let entries = zero_filled 2048 (entries_bytes t.entries) in
-    let extents = zero_filled 2016 (extents_bytes t.entries) in
+    let entries = padded_field 2048 (entries_bytes t.entries) in
+    let extents = padded_field 2016 (extents_bytes t.entries) in
     let size = length-zero_filled 2048 (entries_bytes t.entries) (omega (arith, s.entries, s.files)) in
     let upper : length (header ++ entries) ≡ 2080 = omega (arith, length-append header entries, length-header_bytes t, size) in
     ap (λ (xs : List ℕ). slice_range xs (2080 + from) (2080 + to)) (sym (append_assoc header entries extents))
@@ -205,7 +205,7 @@ pub record Fields (t : TableSeen) (block : List ℕ) : Type 0 where
   pub files : file_count block ≡ length t.entries
   pub extents : extent_count block ≡ length (all_extents t.entries)
   pub zeros : slice_range block 24 32 ≡ replicate 8 0
-  pub name : (i : ℕ) → i < length t.entries → name_field block i ≡ zero_filled 16 (entry_at t.entries i).name
+  pub name : (i : ℕ) → i < length t.entries → name_field block i ≡ padded_field 16 (entry_at t.entries i).name
   pub size : (i : ℕ) → i < length t.entries → length_of_file block i ≡ (entry_at t.entries i).length
   pub first : (i : ℕ) → i < length t.entries → first_extent block i ≡ extents_up_to t.entries i
   pub count : (i : ℕ) → i < length t.entries → extents_number block i ≡ length (entry_at t.entries i).extents
@@ -225,11 +225,11 @@ up-to-within entries i there = length-flat_map-take (λ (f : FileInfo). f.extent
 pub on-disk-all : (t : TableSeen) → IsVolumeTable t → (j : ℕ) → j < length (all_extents t.entries) → OnDisk t.blocks (extent_at (all_extents t.entries) j)
 on-disk-all t h = each-of-all (OnDisk t.blocks) t.entries (λ i there j within. on_disk-from t.blocks (extent_at (entry_at t.entries i).extents j) ((h.files i there).places j within))
 
-field-name : (t : TableSeen) → Sizes t → (i : ℕ) → i < length t.entries → name_field (encoding t) i ≡ zero_filled 16 (entry_at t.entries i).name
+field-name : (t : TableSeen) → Sizes t → (i : ℕ) → i < length t.entries → name_field (encoding t) i ≡ padded_field 16 (entry_at t.entries i).name
 field-name t s i there =
     let start : 32 + 32 * i ≡ 32 + 32 * i + 0 = omega arith in
     ap (λ (n : ℕ). slice_range (encoding t) n (32 + 32 * i + 16)) start
-    ∙ entry-field t s i there 0 16 (zero_filled 16 (entry_at t.entries i).name) (omega arith) (omega arith) (s.entry i there).name
+    ∙ entry-field t s i there 0 16 (padded_field 16 (entry_at t.entries i).name) (omega arith) (omega arith) (s.entry i there).name
 
 field-extent : (t : TableSeen) → Sizes t → IsVolumeTable t → (j : ℕ) → j < length (all_extents t.entries) → table_extent (encoding t) j ≡ extent_at (all_extents t.entries) j
 field-extent t s h j there =
@@ -267,8 +267,8 @@ fields t h =
 pub length-encoding : (t : TableSeen) → Sizes t → length (encoding t) ≡ 4096
 unfolding encoding
 length-encoding t s =
-    let entries = zero_filled 2048 (entries_bytes t.entries) in
-    let extents = zero_filled 2016 (extents_bytes t.entries) in
+    let entries = padded_field 2048 (entries_bytes t.entries) in
+    let extents = padded_field 2016 (extents_bytes t.entries) in
     omega (
       arith,
       length-append (header_bytes t) (entries ++ extents),

@@ -10,7 +10,7 @@ use Rattle.std.proofs.lemmas.List.{take_all, drop_at, drop-drop, append-nil}
 use Rattle.std.proofs.lemmas.List.Concat.{flat_map-append}
 use Rattle.vnode_files.specs.declared.vnode.FileInfo.{FileInfo}
 use Rattle.volume_format.specs.Layout.{number_at}
-use Rattle.volume_format.specs.Writing.{zero_filled, number_bytes, file_entry_bytes}
+use Rattle.volume_format.specs.Writing.{padded_field, number_bytes, file_entry_bytes}
 use Rattle.volume_format.proofs.RangeLemmas.{range-more}
 use Rattle.volume_format.proofs.SliceLemmas.{slice-front, slice-last}
 use Rattle.volume_format.proofs.WritingLemmas.{length-number_bytes, length-zero_filled}
@@ -33,7 +33,7 @@ number-read block at n fits e = ap (from_be_bytes w32) e ∙ from_be_bytes-to_be
 
 -- The parts of an entry, and of an extent.
 pub record EntryParts (f : FileInfo) (first : ℕ) : Type 0 where
-  pub name : slice_range (file_entry_bytes f first) 0 16 ≡ zero_filled 16 f.name
+  pub name : slice_range (file_entry_bytes f first) 0 16 ≡ padded_field 16 f.name
   pub size : slice_range (file_entry_bytes f first) 16 20 ≡ number_bytes f.length
   pub place : slice_range (file_entry_bytes f first) 20 24 ≡ number_bytes first
   pub count : slice_range (file_entry_bytes f first) 24 28 ≡ number_bytes (length f.extents)
@@ -43,7 +43,7 @@ pub record EntryParts (f : FileInfo) (first : ℕ) : Type 0 where
 pub entry-parts : (f : FileInfo) (first : ℕ) → length f.name ≤ 16 → EntryParts f first
 unfolding file_entry_bytes
 entry-parts f first short =
-    let name = zero_filled 16 f.name in
+    let name = padded_field 16 f.name in
     let size = number_bytes f.length in
     let place = number_bytes first in
     let count = number_bytes (length f.extents) in

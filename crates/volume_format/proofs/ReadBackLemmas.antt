@@ -14,7 +14,7 @@ use Rattle.vnode_files.specs.Grow.{extent_end, page_count}
 use Rattle.volume_format.specs.Table.{TableSeen, all_extents, entry_at, no_entry, front_block}
 use Rattle.volume_format.specs.Layout.{number_at, are_same, are_zeros, has_magic, version, file_count, entry_start, extent_start, name_field, text_before_zero, name_of_file, length_of_file, mode_of_file, extent_count, table_extent, own_extent, first_extent, extents_number, extents_of_file, file_in, table_in}
 use Rattle.volume_format.specs.Rules.{test, first_failed, is_table_name_byte, is_name_field, is_on_disk, do_meet, header_tests, header_tests_1, header_tests_2, name_tests, extents_before, extents_test, extent_tests, order_test_2, new_name_test, last_tests_2, entry_tests_2, end_tests_2, file_tests_1, file_tests_2, tests, reading}
-use Rattle.volume_format.specs.Writing.{zero_filled, entries_bytes, extents_bytes, extents_up_to, encoding}
+use Rattle.volume_format.specs.Writing.{padded_field, entries_bytes, extents_bytes, extents_up_to, encoding}
 use Rattle.volume_format.specs.Volume.{extent_at, IsVolumeName, IsVolumeTable}
 use Rattle.volume_format.proofs.TestLemmas.{passes-test, passes-append, passes-each}
 use Rattle.volume_format.proofs.PassedLemmas.{extents_before-more}
@@ -45,7 +45,7 @@ unfolding is_table_name_byte
 not-zero zero h = absurd cc
 not-zero (suc b) h = not_from_false (eqb (suc b) 0) (ne_eqb (suc b) 0 (λ e. omega (arith, e)))
 
-pub name-read : (name : List ℕ) → IsVolumeName name → text_before_zero (zero_filled 16 name) ≡ name
+pub name-read : (name : List ℕ) → IsVolumeName name → text_before_zero (padded_field 16 name) ≡ name
 name-read name h =
     let p = λ (b : ℕ). not (eqb b 0) in
     let zeros : List ℕ = replicate (16 - length name) 0 in
@@ -57,7 +57,7 @@ name-read name h =
     (λ more. ap (λ b. not (eqb b 0)) (get_or-append_right name zeros (length name) (length name) 0 refl (omega arith) ∙ get_or-replicate (16 - length name) (length name - length name) 0 0 (omega (arith, size, many)))) in
     ap (λ n. take n (name ++ zeros)) count ∙ take_at name zeros (length name) refl
 
-pub name-field : (name : List ℕ) → IsVolumeName name → is_name_field (zero_filled 16 name) ≡ true
+pub name-field : (name : List ℕ) → IsVolumeName name → is_name_field (padded_field 16 name) ≡ true
 name-field name h =
     let zeros : List ℕ = replicate (16 - length name) 0 in
     let read = name-read name h in

@@ -15,7 +15,7 @@ use Rattle.vnode_files.specs.declared.vnode.FileInfo.{FileInfo}
 use Rattle.volume_format.specs.Table.{all_extents, entry_at, no_entry}
 use Rattle.volume_format.specs.Layout.{number_at, are_same, are_zeros, version, file_count, name_field, text_before_zero, name_of_file, length_of_file, mode_of_file, extent_count, table_extent, own_extent, first_extent, extents_number, extents_of_file, file_in, table_in}
 use Rattle.volume_format.specs.Rules.{first_failed, is_table_name_byte, is_name_field, name_tests, extents_before, tests}
-use Rattle.volume_format.specs.Writing.{zero_filled, number_bytes, extent_bytes, file_entry_bytes, entry_bytes, entries_bytes, extents_bytes, extents_up_to, header_bytes, encoding}
+use Rattle.volume_format.specs.Writing.{padded_field, number_bytes, extent_bytes, file_entry_bytes, entry_bytes, entries_bytes, extents_bytes, extents_up_to, header_bytes, encoding}
 use Rattle.volume_format.proofs.RangeLemmas.{range-more, range-join}
 use Rattle.volume_format.proofs.TestLemmas.{passed-two}
 use Rattle.volume_format.proofs.PassedLemmas.{Header, Files2, tests-passed, extents_before-more, length-all_extents, lengths-2}
@@ -47,7 +47,7 @@ pub same-bytes : (xs ys : List ℕ) → are_same xs ys ≡ true → xs ≡ ys
 same-bytes xs ys h = (compares_Decides are_same are_same-is xs ys).0 h
 
 -- A field that is a name is the name with zeros behind it.
-pub name-spelled : (field : List ℕ) → length field ≡ 16 → is_name_field field ≡ true → zero_filled 16 (text_before_zero field) ≡ field
+pub name-spelled : (field : List ℕ) → length field ≡ 16 → is_name_field field ≡ true → padded_field 16 (text_before_zero field) ≡ field
 name-spelled field size h =
     let name = text_before_zero field in
     let count = prefix_len (λ b. not (eqb b 0)) field in
@@ -91,14 +91,14 @@ unfolding file_entry_bytes
 entry-spelled block h i there ne named =
     let at = 32 + 32 * i in
     let tests = passed-two 6 7 (is_name_field (name_field block i)) (leb (mode_of_file block i) 1) named in
-    let name : zero_filled 16 (name_of_file block i) ≡ slice_range block at (at + 16) =
+    let name : padded_field 16 (name_of_file block i) ≡ slice_range block at (at + 16) =
     name-spelled (name_field block i) (length-slice block at (at + 16) (omega arith) (omega (arith, h.whole)) ∙ omega arith) tests.0 in
     let size : number_bytes (length_of_file block i) ≡ slice_range block (at + 16) (at + 16 + 4) = number-spelled block h (at + 16) (omega arith) in
     let first : number_bytes (first_extent block i) ≡ slice_range block (at + 20) (at + 20 + 4) = number-spelled block h (at + 20) (omega arith) in
     let count : number_bytes (length (extents_of_file block i)) ≡ slice_range block (at + 24) (at + 24 + 4) = ap number_bytes (length-extents_of_file block i ne) ∙ number-spelled block h (at + 24) (omega arith) in
     let mode : number_bytes (if mode_of_file block i == 1 then 1 else 0) ≡ slice_range block (at + 28) (at + 28 + 4) =
     ap number_bytes (mode-spelled (mode_of_file block i) (leb-true (mode_of_file block i) 1 tests.1)) ∙ number-spelled block h (at + 28) (omega arith) in
-    five-parts block at (zero_filled 16 (name_of_file block i)) (number_bytes (length_of_file block i)) (number_bytes (first_extent block i)) (number_bytes (length (extents_of_file block i))) (number_bytes (if mode_of_file block i == 1 then 1 else 0)) name size first count mode
+    five-parts block at (padded_field 16 (name_of_file block i)) (number_bytes (length_of_file block i)) (number_bytes (first_extent block i)) (number_bytes (length (extents_of_file block i))) (number_bytes (if mode_of_file block i == 1 then 1 else 0)) name size first count mode
 
 -- The extents of the files, each of which has the next ones of the table, are those of the table.
 pub extents-joined : (block : List ℕ) (n : ℕ) → version block ≢ 1 → ((k : ℕ) → k < n → first_extent block k ≡ extents_before block k)
@@ -128,7 +128,7 @@ extents-joined block (suc n) ne next =
 
 -- Bytes with zeros behind them, where zeros stand there.
 filled-spelled : (xs : List ℕ) (at mid end size : ℕ) (bytes : List ℕ) → at ≤ mid → mid ≤ end → end ≤ length xs → size ≡ end - at
-    → bytes ≡ slice_range xs at mid → are_zeros (slice_range xs mid end) ≡ true → zero_filled size bytes ≡ slice_range xs at end
+    → bytes ≡ slice_range xs at mid → are_zeros (slice_range xs mid end) ≡ true → padded_field size bytes ≡ slice_range xs at end
 filled-spelled xs at mid end size bytes one two within e spelled zeros =
     let long : length bytes ≡ mid - at = ap length spelled ∙ length-slice xs at mid one (omega arith) in
     let rest : replicate (size - length bytes) 0 ≡ slice_range xs mid end =
@@ -174,7 +174,7 @@ entry-at-spelled block size s i there =
     ∙ ap (file_entry_bytes (file_in block i)) first
     ∙ entry-spelled block s.bytes i (omega (arith, s.header.count)) s.ne e.name
 
-entries-spelled : (block : List ℕ) (size : ℕ) → Second block size → zero_filled 2048 (entries_bytes (entries_of block)) ≡ slice_range block 32 2080
+entries-spelled : (block : List ℕ) (size : ℕ) → Second block size → padded_field 2048 (entries_bytes (entries_of block)) ≡ slice_range block 32 2080
 entries-spelled block size s =
     let n = file_count block in
     let parts : entries_bytes (entries_of block) ≡ slice_range block 32 (32 + 32 * n) =
@@ -193,7 +193,7 @@ extent-spelled block h j there =
     let pages : number_bytes (number_at block (at + 4)) ≡ slice_range block (at + 4) (at + 8) = number-spelled block h (at + 4) (omega arith) ∙ ap (slice_range block (at + 4)) (add-four at) in
     parts-joined block at (at + 4) (at + 8) (number_bytes (number_at block at)) (number_bytes (number_at block (at + 4))) (omega arith) (omega arith) (number-spelled block h at (omega arith)) pages
 
-extents-spelled : (block : List ℕ) (size : ℕ) → Second block size → zero_filled 2016 (extents_bytes (entries_of block)) ≡ slice_range block 2080 4096
+extents-spelled : (block : List ℕ) (size : ℕ) → Second block size → padded_field 2016 (extents_bytes (entries_of block)) ≡ slice_range block 2080 4096
 extents-spelled block size s =
     let m = extent_count block in
     let parts : extents_bytes (entries_of block) ≡ slice_range block 2080 (2080 + 8 * m) =
@@ -225,7 +225,7 @@ block-spelled block blocks h two passed =
     let p = tests-passed block blocks passed in
     let ne : version block ≢ 1 = λ e. absurd (omega (arith, e, two)) in
     let s : Second block blocks = record { bytes = h; ne = ne; two = two; header = p.header; files = p.second ne } in
-    let lower : zero_filled 2048 (entries_bytes (entries_of block)) ++ zero_filled 2016 (extents_bytes (entries_of block)) ≡ slice_range block 32 4096 =
-    parts-joined block 32 2080 4096 (zero_filled 2048 (entries_bytes (entries_of block))) (zero_filled 2016 (extents_bytes (entries_of block))) (omega arith) (omega arith) (entries-spelled block blocks s) (extents-spelled block blocks s) in
-    parts-joined block 0 32 4096 (header_bytes (table_in block blocks)) (zero_filled 2048 (entries_bytes (entries_of block)) ++ zero_filled 2016 (extents_bytes (entries_of block))) (omega arith) (omega arith) (header-spelled block blocks s) lower
+    let lower : padded_field 2048 (entries_bytes (entries_of block)) ++ padded_field 2016 (extents_bytes (entries_of block)) ≡ slice_range block 32 4096 =
+    parts-joined block 32 2080 4096 (padded_field 2048 (entries_bytes (entries_of block))) (padded_field 2016 (extents_bytes (entries_of block))) (omega arith) (omega arith) (entries-spelled block blocks s) (extents-spelled block blocks s) in
+    parts-joined block 0 32 4096 (header_bytes (table_in block blocks)) (padded_field 2048 (entries_bytes (entries_of block)) ++ padded_field 2016 (extents_bytes (entries_of block))) (omega arith) (omega arith) (header-spelled block blocks s) lower
     ∙ take_all 4096 block (omega (arith, h.whole))

@@ -5,7 +5,7 @@ use Rattle.std.specs.Prelude.{codes}
 use Rattle.std.specs.List.{flat_map}
 use Rattle.vnode_files.specs.declared.extent.Extent.{Extent}
 use Rattle.volume_format.specs.Table.{TableSeen, all_extents}
-use Rattle.volume_format.specs.Writing.{zero_filled, number_bytes, extent_bytes, header_bytes, with_block_bytes}
+use Rattle.volume_format.specs.Writing.{padded_field, number_bytes, extent_bytes, header_bytes, with_block_bytes}
 
 -- Bytes written behind a front of that length.
 pub with_block_bytes-front : (front rest bytes : List ℕ) (at : ℕ) → length front ≡ at → with_block_bytes (front ++ rest) at bytes ≡ front ++ (bytes ++ drop (length bytes) rest)
@@ -56,7 +56,7 @@ pub length-number_bytes : (n : ℕ) → length (number_bytes n) ≡ 4
 unfolding number_bytes
 length-number_bytes n = refl
 
-pub length-zero_filled : (size : ℕ) (bytes : List ℕ) → length bytes ≤ size → length (zero_filled size bytes) ≡ size
+pub length-zero_filled : (size : ℕ) (bytes : List ℕ) → length bytes ≤ size → length (padded_field size bytes) ≡ size
 length-zero_filled size bytes within = omega (arith, length-append bytes (replicate (size - length bytes) 0), length-replicate {A = ℕ} (size - length bytes) 0)
 
 pub length-extent_bytes : (e : Extent) → length (extent_bytes e) ≡ 8
@@ -72,15 +72,15 @@ length-flat_map-same f size each (x ∷ xs) =
 
 -- A header, entries behind it, and extents in their part, written over zeros.
 pub written-whole : (header entries extents : List ℕ) → length header ≡ 32 → length entries ≤ 2048 → length extents ≤ 2016
-    → with_block_bytes (with_block_bytes (with_block_bytes (replicate 4096 0) 0 header) 32 entries) 2080 extents ≡ header ++ (zero_filled 2048 entries ++ zero_filled 2016 extents)
+    → with_block_bytes (with_block_bytes (with_block_bytes (replicate 4096 0) 0 header) 32 entries) 2080 extents ≡ header ++ (padded_field 2048 entries ++ padded_field 2016 extents)
 written-whole header entries extents head short few =
     let zeros : List ℕ = replicate 4096 0 in
     let none = length-replicate {A = ℕ} 4096 0 in
     let size : length (header ++ entries) ≡ 32 + length entries = omega (arith, length-append header entries) in
     let rest : drop (32 + length entries) zeros ≡ replicate (2048 - length entries) 0 ++ replicate 2016 0 =
     drop-replicate (32 + length entries) 4096 0 ∙ ap (λ (n : ℕ). replicate n 0) (omega arith) ∙ sym (replicate-append-replicate (2048 - length entries) 2016 0) in
-    let front = header ++ zero_filled 2048 entries in
-    let front-size : length front ≡ 2080 = omega (arith, length-append header (zero_filled 2048 entries), length-zero_filled 2048 entries short) in
+    let front = header ++ padded_field 2048 entries in
+    let front-size : length front ≡ 2080 = omega (arith, length-append header (padded_field 2048 entries), length-zero_filled 2048 entries short) in
     let upper : with_block_bytes (with_block_bytes zeros 0 header) 32 entries ≡ front ++ replicate 2016 0 =
     with_block_bytes-then zeros header entries 0 32 (omega arith) (omega arith)
     ∙ with_block_bytes-parts zeros (header ++ entries) 0 (32 + length entries) (omega arith)
@@ -90,7 +90,7 @@ written-whole header entries extents head short few =
     ap (λ (b : List ℕ). with_block_bytes b 2080 extents) upper
     ∙ with_block_bytes-front front (replicate 2016 0) extents 2080 front-size
     ∙ ap (λ (xs : List ℕ). front ++ (extents ++ xs)) (drop-replicate (length extents) 2016 0)
-    ∙ append_assoc header (zero_filled 2048 entries) (zero_filled 2016 extents)
+    ∙ append_assoc header (padded_field 2048 entries) (padded_field 2016 extents)
 
 pub length-header_bytes : (t : TableSeen) → length (header_bytes t) ≡ 32
 unfolding header_bytes

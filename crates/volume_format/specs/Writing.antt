@@ -7,8 +7,8 @@ use Rattle.vnode_files.specs.declared.vnode.FileInfo.{FileInfo}
 use Rattle.volume_format.specs.Table.{TableSeen, all_extents, entry_at}
 
 -- Bytes with zeros behind them, so many in all.
-abbrev pub zero_filled : ℕ → List ℕ → List ℕ
-zero_filled size bytes = bytes ++ replicate (size - length bytes) 0
+abbrev pub padded_field : ℕ → List ℕ → List ℕ
+padded_field size bytes = bytes ++ replicate (size - length bytes) 0
 
 -- A number in four bytes, the most significant first.
 unfoldable pub number_bytes : ℕ → List ℕ
@@ -24,7 +24,7 @@ extents_up_to entries i = length (all_extents (take i entries))
 -- The entry of file i: its name, its length, its first extent and how many it has, and its mode.
 unfoldable pub file_entry_bytes : FileInfo → ℕ → List ℕ
 file_entry_bytes e first =
-    zero_filled 16 e.name ++ number_bytes e.length ++ number_bytes first ++ number_bytes (length e.extents)
+    padded_field 16 e.name ++ number_bytes e.length ++ number_bytes first ++ number_bytes (length e.extents)
     ++ number_bytes (if e.writable then 1 else 0)
 
 abbrev pub entry_bytes : List FileInfo → ℕ → List ℕ
@@ -43,7 +43,7 @@ header_bytes t =
 
 -- The one spelling of a table: the header, room for 64 entries, and room for 252 extents.
 unfoldable pub encoding : TableSeen → List ℕ
-encoding t = header_bytes t ++ (zero_filled 2048 (entries_bytes t.entries) ++ zero_filled 2016 (extents_bytes t.entries))
+encoding t = header_bytes t ++ (padded_field 2048 (entries_bytes t.entries) ++ padded_field 2016 (extents_bytes t.entries))
 
 -- A block with these bytes from a place on.
 unfoldable pub with_block_bytes : List ℕ → ℕ → List ℕ → List ℕ

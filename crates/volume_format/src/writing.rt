@@ -4,7 +4,7 @@ ghost use Rattle.std.specs.List.{flat_map};
 ghost use Rattle.volume_format.specs.Table.{all_extents};
 ghost use Rattle.volume_format.specs.Rules.{reading};
 ghost use Rattle.volume_format.specs.Volume.{IsVolumeTable};
-ghost use Rattle.volume_format.specs.Writing.{zero_filled, number_bytes, extent_bytes, file_entry_bytes, entries_bytes, extents_bytes, header_bytes, encoding, with_block_bytes};
+ghost use Rattle.volume_format.specs.Writing.{padded_field, number_bytes, extent_bytes, file_entry_bytes, entries_bytes, extents_bytes, header_bytes, encoding, with_block_bytes};
 
 use crate::table::Table;
 use vnode_files::{Extent, FileInfo, FileName};
@@ -48,7 +48,7 @@ fn put_number(n: u32, into: &mut [u8], at: usize)
 
 // A name with zeros behind it.
 fn name_field(name: &FileName) -> [u8; 16]
-    ensures field { result ≡ zero_filled 16 name.now }
+    ensures field { result ≡ padded_field 16 name.now }
     ensures short { length name.now ≤ 16 }
 {
     let bytes = name.bytes();

@@ -1,11 +1,11 @@
 use Rattle.std.proofs.Common.{rules, ◌≡◌, [], None}
 use Rattle.std.specs.Prelude.{replicate}
-use Rattle.hash_chains.specs.Links.{IsLinked}
+use Rattle.hash_chains.specs.Links.{AreSoundChains}
 use Rattle.hash_chains.proofs.LinkLemmas.{linked-none, linked-is, linked-own}
 use Rattle.hash_chains.proofs.Chains.new.Goals.{In_ok-vec-2}
 use Rattle.hash_chains.proofs.Chains.new.Goals as goal
 
-made : (c : In_ok-vec-2) → IsLinked c.in_ok-vec.field-0.items c.in_ok-vec-2.field-0.items (replicate c.args.chains [])
+made : (c : In_ok-vec-2) → AreSoundChains c.in_ok-vec.field-0.items c.in_ok-vec-2.field-0.items (replicate c.args.chains [])
 made c =
     let h : c.in_ok-vec.field-0.items ≡ replicate c.args.chains None = search rules in
     let n : c.in_ok-vec-2.field-0.items ≡ replicate c.args.places None = search rules in

@@ -1,11 +1,11 @@
 use Rattle.std.proofs.Common.{◌≡◌, ℕ, ◌+◌, ◌-◌, cond, List, length, Option, Some, None, sym, ap, ◌∙◌, subst, arith}
 use Rattle.std.specs.Prelude.{option_map, slice_index_or, vec_capacity, IsSome}
 use Rattle.std.specs.FinMap as finite
-use Rattle.addr_space.specs.Space.{Part, part, piece_at, put}
+use Rattle.addr_space.specs.Space.{Part, part, piece_at, with_new_part}
 use Rattle.anon_map.specs.Maps.{places_of}
-use Rattle.anon_slots.specs.Slots.{Slots, count_at}
+use Rattle.anon_slots.specs.Slots.{AnonSlotsSeen, count_at}
 use Rattle.flat_model.specs.Mapping.{with_mapping, without_pages}
-use Rattle.flat_model.specs.Space.{in_range}
+use Rattle.flat_model.specs.Space.{is_in_range}
 use Rattle.flat_model.specs.Words.{page, pages_in}
 use Rattle.vm_world.specs.FlatMemory.{Memory}
 use Rattle.vm_world.specs.MapSteps.{maps_held}
@@ -155,8 +155,8 @@ module _ (g : Over) (c : After-clear g) where
   gives : GivesBack (record w { maps = maps_held w.maps held }) x
   gives = subst (λ (v : World g.row.D.Denot). GivesBack (world_seen v) x) c.hold.ensures.held c.clear.ensures.gives
 
-  gone : (k : ℕ) → piece_at left k ≡ cond (in_range (page c.args.map.now.addr) (pages_in c.args.map.now.length) k) None (piece_at cut k)
-  gone k = c.clear.ensures.pages k ∙ (λ i. cond (in_range (first i) (many i) k) None (piece_at cut k))
+  gone : (k : ℕ) → piece_at left k ≡ cond (is_in_range (page c.args.map.now.addr) (pages_in c.args.map.now.length) k) None (piece_at cut k)
+  gone k = c.clear.ensures.pages k ∙ (λ i. cond (is_in_range (first i) (many i) k) None (piece_at cut k))
 
 pub make_anons-object-requires-clause-object : goal.make_anons-object-requires-clause-object
 make_anons-object-requires-clause-object g c =
@@ -210,7 +210,7 @@ returns-clause-fall g c = λ slot.
     let e = (goal.at.returns-clause-fall g c).After-clear in
     let fall = (gives g e).fall slot in
     let old : c.cut-2.new.world.anon ≡ c.args.world.now.anon = ap (λ (v : World g.row.D.Denot). v.anon) c.cut-2.ensures.world ∙ ap (λ (v : World g.row.D.Denot). v.anon) c.cut.ensures.world ∙ ap (λ (v : World g.row.D.Denot). v.anon) c.in_ok-begin.ensures.more.1 in
-    let before = ap (λ (a : Slots). count_at a slot) old in
+    let before = ap (λ (a : AnonSlotsSeen). count_at a slot) old in
     let then = ap (λ (v : World g.row.D.Denot). count_at v.anon slot) c.make_anons-object.ensures.rest in
     omega (arith, fall, before, then)
 
@@ -236,9 +236,9 @@ returns-clause-done g c = λ spaces fits.
     (alike g d) (cuts g d spaces fits) (looks g d) (lengths g d) (clears g e) (gives g e) (gone g e) a c.make_anons-object.new.world.maps now files made in
     let new : world_seen c.make_anons-object.new.world ≡ record w { anon = record w.anon { reserved = w.anon.reserved + slots_for_pages q.kind q.object (pages_in q.length) }; maps = c.make_anons-object.new.world.maps } =
     ap (λ v. world_seen v) c.make_anons-object.ensures.rest ∙ (λ i. record w { anon = record w.anon { reserved = w.anon.reserved + slots_for_pages q.kind q.object (pages i) }; maps = c.make_anons-object.new.world.maps }) in
-    let parts : c.insert.new.self.parts ≡ put (new_part (world_seen c.args.world.now) q a) left =
-    c.insert.ensures.parts ∙ ap (λ (s : Segment). put (part c.page_of-first.result c.pages_in-pages.result s) left) c.new-segment.ensures
-    ∙ (λ i. put (part (start i) (pages i) (record { pages = pages i; prot = q.prot; max = c.most_allowed-max.ensures i; kind = q.kind; object = a.object; index = index i; own = a.own; shown = a.shown })) left) in
+    let parts : c.insert.new.self.parts ≡ with_new_part (new_part (world_seen c.args.world.now) q a) left =
+    c.insert.ensures.parts ∙ ap (λ (s : Segment). with_new_part (part c.page_of-first.result c.pages_in-pages.result s) left) c.new-segment.ensures
+    ∙ (λ i. with_new_part (part (start i) (pages i) (record { pages = pages i; prot = q.prot; max = c.most_allowed-max.ensures i; kind = q.kind; object = a.object; index = index i; own = a.own; shown = a.shown })) left) in
     subst (λ (v : worlds.World). ChangesSpace p m (record { world = v; spaces = finite.insert spaces p c.insert.new.self.parts }) now (λ F. with_mapping F p (map_request q) (page q.addr))) (sym new)
     (subst (λ (ps : List (Part Segment)). ChangesSpace p m (record { world = record w { anon = record w.anon { reserved = w.anon.reserved + slots_for_pages q.kind q.object (pages_in q.length) }; maps = c.make_anons-object.new.world.maps }; spaces = finite.insert spaces p ps }) now (λ F. with_mapping F p (map_request q) (page q.addr)))
     (sym parts) come)

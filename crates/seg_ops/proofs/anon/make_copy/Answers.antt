@@ -7,7 +7,7 @@ use Rattle.page_store.specs.Steps.{next_frame, next_name, fresh_row, home_bytes}
 use Rattle.page_store.specs.Moves.{FillsFrame}
 use Rattle.page_store.specs.Value.{value}
 use Rattle.anon_map.specs.Maps.{Map, places_of, with_places}
-use Rattle.anon_slots.specs.Slots.{Slots, IsSoundAnonSlots}
+use Rattle.anon_slots.specs.Slots.{AnonSlotsSeen, IsSoundAnonSlots}
 use Rattle.vm_world.specs.StateSteps.{PendsTails}
 use Rattle.vm_world.specs.World.{World, world_seen, slot_name}
 use Rattle.vm_world.proofs.Counting.{room}
@@ -34,7 +34,7 @@ slot g c =
     let s = c.make-slot.result in
     let sound = subst IsSoundAnonSlots c.make-slot.ensures.new c.make-slot.ensures.sound in
     subst (λ (ps : List (Option Map)). MakesSlot w.anon c.make-slot.new.self w.maps ps c.args.map c.args.place s) (sym c.set.ensures)
-    (subst (λ (a : Slots). MakesSlot w.anon a w.maps (with_places w.maps c.args.map (slice_set (places_of w.maps c.args.map) c.args.place (Some s))) c.args.map c.args.place s) (sym c.make-slot.ensures.new)
+    (subst (λ (a : AnonSlotsSeen). MakesSlot w.anon a w.maps (with_places w.maps c.args.map (slice_set (places_of w.maps c.args.map) c.args.place (Some s))) c.args.map c.args.place s) (sym c.make-slot.ensures.new)
     (made-slot w.anon w.maps c.args.map c.args.place s c.requires.fits.1.counts c.make-slot.ensures.free (least-there w.anon.counts s c.make-slot.ensures.least) sound c.requires.within c.requires.empty))
 
 pub pend_tail-requires-clause-exists : goal.pend_tail-requires-clause-exists

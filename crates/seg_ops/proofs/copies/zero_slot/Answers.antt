@@ -11,7 +11,7 @@ use Rattle.vm_world.specs.declared.world.World as rust
 use Rattle.vm_world.specs.WorldSteps.{tails_lost}
 use Rattle.seg_ops.specs.Slots.{MakesHome, with_own_page}
 use Rattle.seg_ops.proofs.SlotCopies.{changes-again, own-blank}
-use Rattle.anon_slots.specs.Slots.{Slots, count_at}
+use Rattle.anon_slots.specs.Slots.{AnonSlotsSeen, count_at}
 use Rattle.seg_ops.proofs.SlotCounts.{left-free}
 use Rattle.seg_ops.proofs.SlotPlaces.{place-twice}
 use Rattle.seg_ops.proofs.SlotSteps.{home-again}
@@ -51,5 +51,5 @@ returns-clause-made g c =
     let new = c.make_zero.new.world in
     let s = c.make_zero.result in
     home-again w (world_seen new) v.anon v.maps c.args.world.now.pending new.pending s
-    (left-free w.anon c.args.slot s c.requires.shared (sym (ap (λ (a : Slots). count_at a s) c.leave_slot.ensures.anon) ∙ c.make_zero.ensures.made.free))
+    (left-free w.anon c.args.slot s c.requires.shared (sym (ap (λ (a : AnonSlotsSeen). count_at a s) c.leave_slot.ensures.anon) ∙ c.make_zero.ensures.made.free))
     (subst (λ (u : rust.World g.row.D.Denot). MakesHome (world_seen u) (world_seen new) u.pending new.pending s) c.leave_slot.ensures.rest c.make_zero.ensures.made)

@@ -1,6 +1,6 @@
 use Rattle.std.proofs.Common.{List, Option, None, sym, subst, slice_set}
 use Rattle.anon_map.specs.Maps.{Map, places_of, with_places}
-use Rattle.anon_slots.specs.Slots.{Slots, IsSoundAnonSlots}
+use Rattle.anon_slots.specs.Slots.{AnonSlotsSeen, IsSoundAnonSlots}
 use Rattle.vm_world.specs.World.{world_seen}
 use Rattle.vm_world.proofs.Counts.{held-used}
 use Rattle.seg_ops.specs.Empties.{LeavesSlot}
@@ -16,5 +16,5 @@ returns-clause-leaves g c =
     let s = c.args.slot in
     let sound = subst IsSoundAnonSlots c.drop_one.ensures.new c.drop_one.ensures.sound in
     subst (λ (ps : List (Option Map)). LeavesSlot w.anon c.drop_one.new.self w.maps ps c.args.map c.args.place s) (sym c.set.ensures)
-    (subst (λ (a : Slots). LeavesSlot w.anon a w.maps (with_places w.maps c.args.map (slice_set (places_of w.maps c.args.map) c.args.place None)) c.args.map c.args.place s) (sym c.drop_one.ensures.new)
+    (subst (λ (a : AnonSlotsSeen). LeavesSlot w.anon a w.maps (with_places w.maps c.args.map (slice_set (places_of w.maps c.args.map) c.args.place None)) c.args.map c.args.place s) (sym c.drop_one.ensures.new)
     (left-slot w.anon w.maps c.args.map c.args.place s c.requires.fits.1.counts sound c.requires.within c.requires.holds))

@@ -1,6 +1,6 @@
 use Rattle.std.proofs.Common.{sym, ap, subst}
 use Rattle.vnode_files.specs.Files.{FilesSeen}
-use Rattle.anon_slots.specs.Slots.{Slots}
+use Rattle.anon_slots.specs.Slots.{AnonSlotsSeen}
 use Rattle.vm_world.specs.Segments.{Spaces}
 use Rattle.vm_world.specs.MemoryFits.{MemoryFits}
 use Rattle.vm_world.specs.World.{World, world_seen}
@@ -22,7 +22,7 @@ marks : (g : Over) (c : After-set_pushed g) (spaces : Spaces) → MemoryFits (me
 marks g c spaces fits =
     let w = world_seen c.args.world.now in
     subst (λ (fs : FilesSeen). Marks w fs c.set_pushed.new.world.anon c.args.name) (sym c.set_pushed.ensures.files)
-    (subst (λ (a : Slots). Marks w (files_pushed w.files c.args.name) a c.args.name) (sym c.set_pushed.ensures.anon)
+    (subst (λ (a : AnonSlotsSeen). Marks w (files_pushed w.files c.args.name) a c.args.name) (sym c.set_pushed.ensures.anon)
     (marks-pushed w spaces c.args.name fits (dirty-exists w spaces c.args.name fits c.requires.dirty)))
 
 pub returns-clause-pushed : goal.returns-clause-pushed

@@ -3,7 +3,7 @@ use Rattle.std.specs.Prelude.{IsSome}
 use Rattle.std.specs.FinMap as finite
 use Rattle.addr_space.specs.Space.{piece_at}
 use Rattle.flat_model.specs.Mapping.{without_pages}
-use Rattle.flat_model.specs.Space.{in_range}
+use Rattle.flat_model.specs.Space.{is_in_range}
 use Rattle.vm_world.specs.Segments.{Spaces}
 use Rattle.vm_world.specs.World.{world_seen}
 use Rattle.vm_world.specs.ZeroObjects.{free_number}
@@ -17,7 +17,7 @@ abbrev pub invariant-loop-first : goal.invariant-loop-first
 invariant-loop-first g l = record {
   low : l.fn.from ≤ l.top;
   high : l.top ≤ l.fn.end;
-  pages : (q : ℕ) → piece_at l.space.parts q ≡ cond (in_range l.top (l.fn.end - l.top) q) None (piece_at l.fn.space.parts q);
+  pages : (q : ℕ) → piece_at l.space.parts q ≡ cond (is_in_range l.top (l.fn.end - l.top) q) None (piece_at l.fn.space.parts q);
   changes : (spaces : Spaces) → SpaceFits (world_seen l.fn.world) l.fn.world.zeros spaces l.fn.process l.fn.space.parts → ChangesSpace l.fn.process (record { world = world_seen l.fn.world; spaces = spaces })
       (record { world = world_seen l.world; spaces = finite.insert spaces l.fn.process l.space.parts }) l.world.zeros (λ F. without_pages F l.fn.process l.top (l.fn.end - l.top));
   gives : GivesBack (world_seen l.fn.world) (world_seen l.world);

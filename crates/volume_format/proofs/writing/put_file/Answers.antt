@@ -2,7 +2,7 @@ use Rattle.std.proofs.Common.{◌≡◌, ◌≤◌, ◌+◌, ◌++◌, ℕ, List
 use Rattle.std.specs.Prelude.{Bool, true, false, if◌then◌else◌}
 use Rattle.vnode_files.specs.declared.extent.Extent.{Extent}
 use mir.Val.{bool_byte}
-use Rattle.volume_format.specs.Writing.{zero_filled, number_bytes, file_entry_bytes, with_block_bytes}
+use Rattle.volume_format.specs.Writing.{padded_field, number_bytes, file_entry_bytes, with_block_bytes}
 use Rattle.volume_format.proofs.WritingLemmas.{written-then, length-number_bytes, length-zero_filled}
 use Rattle.volume_format.proofs.writing.put_file.Goals as goal
 
@@ -16,7 +16,7 @@ returns-clause-new c =
     let f = c.args.file.now in
     let block = c.args.into.now in
     let at = c.args.at in
-    let name = zero_filled 16 f.name in
+    let name = padded_field 16 f.name in
     let number = number_bytes f.length in
     let first = number_bytes c.args.first in
     let count = number_bytes (length f.extents) in
@@ -39,7 +39,7 @@ pub returns-clause-size : goal.returns-clause-size
 unfolding file_entry_bytes
 returns-clause-size c =
     let f = c.args.file.now in
-    let name = zero_filled 16 f.name in
+    let name = padded_field 16 f.name in
     let number = number_bytes f.length in
     let first = number_bytes c.args.first in
     let count = number_bytes (length f.extents) in

@@ -5,7 +5,7 @@ use Rattle.flat_model.specs.Access.{with_change_at}
 use Rattle.flat_model.specs.Parts.{without_tail}
 use Rattle.flat_model.specs.Cells.{flat_file}
 use Rattle.flat_model.specs.Step.{IsDue, IsUnborn, after_act, tails_cleared}
-use Rattle.flat_model.specs.FlatState.{flat_of, bit_from}
+use Rattle.flat_model.specs.FlatState.{flat_of, is_bit_set_from}
 use Rattle.flat_model.proofs.Cuts.{with_files}
 use Rattle.flat_model.proofs.Steps.{bits_none, bits_skip, bits_next, unborn_over, due_along, exact_of, next_of, exact_at, next_at, if_ok_err}
 use Rattle.flat_model.proofs.WellFormed.{IsFlat-tail_cleared}
@@ -13,8 +13,8 @@ use Rattle.flat_model.proofs.state.FlatParts.+act_cleared.Goals as goal
 use Rattle.flat_model.proofs.state.FlatParts.+act_cleared.Goals.{After-act, After-act_cleared, After-act_cleared-acts, in-Ok-true, in_default, in_default-2}
 
 -- no tail becomes zeros
-none : (t : ℕ) (c : After-act t) → c.args.self.now ≡ tails_cleared c.args.self.now (bit_from c.args.number c.args.mask)
-none t c = bits_none c.args.self.now c.args.number ∙ ap (λ (m : ℕ). tails_cleared c.args.self.now (bit_from c.args.number m)) (sym c.if-mask-eq0.true)
+none : (t : ℕ) (c : After-act t) → c.args.self.now ≡ tails_cleared c.args.self.now (is_bit_set_from c.args.number c.args.mask)
+none t c = bits_none c.args.self.now c.args.number ∙ ap (λ (m : ℕ). tails_cleared c.args.self.now (is_bit_set_from c.args.number m)) (sym c.if-mask-eq0.true)
 
 pub returns-then-mask-eq0-clause-exact : goal.returns-then-mask-eq0-clause-exact
 returns-then-mask-eq0-clause-exact t c =
@@ -26,7 +26,7 @@ pub returns-then-mask-eq0-clause-next : goal.returns-then-mask-eq0-clause-next
 returns-then-mask-eq0-clause-next t c = next_of _ _ _ c.act.result c.act.ensures.next (ap (λ (G : Flat). after_act G c.args.entry.now) (none t (goal.at.returns-then-mask-eq0-clause-next t c).After-act))
 
 -- the bit of the file isn't set
-skip : (t : ℕ) (c : After-act_cleared t) → tails_cleared c.args.self.now (bit_from (c.args.number + 1) (c.args.mask / 2)) ≡ tails_cleared c.args.self.now (bit_from c.args.number c.args.mask)
+skip : (t : ℕ) (c : After-act_cleared t) → tails_cleared c.args.self.now (is_bit_set_from (c.args.number + 1) (c.args.mask / 2)) ≡ tails_cleared c.args.self.now (is_bit_set_from c.args.number c.args.mask)
 skip t c = bits_skip c.args.self.now c.args.number c.args.mask c.if-mask-eq0-2.true
 
 pub returns-then-mask-eq0-2-clause-exact : goal.returns-then-mask-eq0-2-clause-exact
@@ -56,12 +56,12 @@ act_cleared-acts-requires t c =
     (omega arith, (flat, (alive, (unborn, (c.requires.form, omega arith)))))
 
 -- the file's tail became zeros, and then those of the files behind it
-clears : (t : ℕ) (c : After-act_cleared-acts t) → tails_cleared (with_files (flat_of c.self.inside) (map flat_file c.clear_tail_of.new.files.items)) (bit_from (c.args.number + 1) (c.args.mask / 2)) ≡ tails_cleared c.args.self.now (bit_from c.args.number c.args.mask)
+clears : (t : ℕ) (c : After-act_cleared-acts t) → tails_cleared (with_files (flat_of c.self.inside) (map flat_file c.clear_tail_of.new.files.items)) (is_bit_set_from (c.args.number + 1) (c.args.mask / 2)) ≡ tails_cleared c.args.self.now (is_bit_set_from c.args.number c.args.mask)
 clears t c =
     let F = c.args.self.now in
     let odd : c.args.mask % 2 ≡ 1 = let not = c.if-mask-eq0-2.false in omega arith in
     let same = ap (with_files (flat_of c.self.inside)) c.in_ok-last_page.ensures.ok ∙ ap (λ (G : Flat). with_zeros G c.args.number) c.self.view_is in
-    ap (λ (G : Flat). tails_cleared G (bit_from (c.args.number + 1) (c.args.mask / 2))) same ∙ bits_next F c.args.number c.args.mask odd
+    ap (λ (G : Flat). tails_cleared G (is_bit_set_from (c.args.number + 1) (c.args.mask / 2))) same ∙ bits_next F c.args.number c.args.mask odd
 
 pub returns-then-not-matches-clause-exact : goal.returns-then-not-matches-clause-exact
 returns-then-not-matches-clause-exact t c =

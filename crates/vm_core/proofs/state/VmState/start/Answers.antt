@@ -2,7 +2,7 @@ use Rattle.std.proofs.Common.{◌≡◌, ℕ, Bool, ◌+◌, ◌≤◌, ◌==◌
 use Rattle.std.proofs.lemmas.List.{length-replicate}
 use Rattle.std.specs.Prelude.{option_map, slice_index_or}
 use Rattle.std.specs.FinSet as set
-use Rattle.anon_slots.specs.Slots.{Slots}
+use Rattle.anon_slots.specs.Slots.{AnonSlotsSeen}
 use Rattle.page_store.specs.Bays.{pairs_seen, AreNumbers}
 use Rattle.vm_world.proofs.Openings.{opening_law}
 use Rattle.vm_core.specs.Setup.{HaveCounted, FilesOnDisks, disk_total}
@@ -46,7 +46,7 @@ returns-in-Ok-new-clause-made g c =
     record {
       frames = ap (λ (l : List (Option (List ℕ))). length l) new.frames ∙ length-replicate setup.frames _;
       translations = ap (λ (l : List _). length l) t.places ∙ length-replicate setup.translations None;
-      slots = ap (λ (s : Slots). length s.counts) t.anon ∙ length-replicate setup.slots 0;
+      slots = ap (λ (s : AnonSlotsSeen). length s.counts) t.anon ∙ length-replicate setup.slots 0;
       disks = new.bays;
       order = new.order ∙ same-numbers g.D.Disk.seen setup.disks.items;
       files = refl;
