@@ -13,13 +13,15 @@ ghost use Rattle.vm_world.specs.Wants.{accessed_page};
 ghost use Rattle.vm_world.specs.World.{world_seen};
 ghost use Rattle.seg_vn.specs.Serves.{Serves};
 ghost use Rattle.fault_entry.specs.Accesses.{IsAccess, ServesWord, MayBeAnswered, IsShownWhereDone, SlotsWhereDone, is_store};
+ghost use Rattle.fault_entry.specs.Answers.{attempt_of};
 
 use crate::access::{AccessStep, reach};
+use crate::answers::Answer;
 use addr_space::Ranges;
 use block_device::Disk;
 use seg_ops::{read, write};
-use seg_vn::{Attempt, Spaces, VnSeg};
-use vm_types::{Call, Reply};
+use seg_vn::{Spaces, VnSeg};
+use vm_types::Call;
 use vm_world::World;
 
 /// A load by a process from its space.
@@ -29,7 +31,7 @@ fn load<D: Disk>(
     process: u32,
     addr: u32,
     size: u32,
-) -> Attempt
+) -> Answer
     requires size { IsWordSize size }
     requires home { (beside : ℕ) → (frame : ℕ) × (frame ≢ beside)
         × IsSome (bytes_at world.old.store.frames frame) }
@@ -43,15 +45,16 @@ fn load<D: Disk>(
         → finite.get spaces process ≡ Some space.now.parts
         → ServesWord (record { world = world_seen world.old; spaces = spaces })
         (record { world = world_seen world.new; spaces = spaces })
-        world.old.pending world.new.pending process (page addr) (Load addr size) result }
+        world.old.pending world.new.pending process (page addr) (Load addr size)
+        (attempt_of result) }
     // What stays.
     ensures zeros { world.new.zeros ≡ world.old.zeros }
 {
     match reach(world, space, process, addr, size, false) {
-        AccessStep::Reached(frame) => Attempt::Done(Reply::Word(read(world, frame, addr, size))),
-        AccessStep::Refused(signal) => Attempt::Done(Reply::Signal(signal)),
-        AccessStep::Need(plan) => Attempt::Need(plan),
-        AccessStep::Busy(hold) => Attempt::Busy(hold),
+        AccessStep::Reached(frame) => Answer::Word(read(world, frame, addr, size)),
+        AccessStep::Refused(signal) => Answer::Signal(signal),
+        AccessStep::Need(plan) => Answer::Need(plan),
+        AccessStep::Busy(hold) => Answer::Busy(hold),
     }
 }
 
@@ -63,7 +66,7 @@ fn store<D: Disk>(
     addr: u32,
     size: u32,
     value: u32,
-) -> Attempt
+) -> Answer
     requires size { IsWordSize size }
     requires word { FitsWord size value }
     requires home { (beside : ℕ) → (frame : ℕ) × (frame ≢ beside)
@@ -78,29 +81,30 @@ fn store<D: Disk>(
         → finite.get spaces process ≡ Some space.now.parts
         → ServesWord (record { world = world_seen world.old; spaces = spaces })
         (record { world = world_seen world.new; spaces = spaces })
-        world.old.pending world.new.pending process (page addr) (Store addr size value) result }
+        world.old.pending world.new.pending process (page addr) (Store addr size value)
+        (attempt_of result) }
     // What stays.
     ensures zeros { world.new.zeros ≡ world.old.zeros }
 {
     match reach(world, space, process, addr, size, true) {
         AccessStep::Reached(frame) => {
             write(world, frame, addr, size, value);
-            Attempt::Done(Reply::Done)
+            Answer::Stored
         }
-        AccessStep::Refused(signal) => Attempt::Done(Reply::Signal(signal)),
-        AccessStep::Need(plan) => Attempt::Need(plan),
-        AccessStep::Busy(hold) => Attempt::Busy(hold),
+        AccessStep::Refused(signal) => Answer::Signal(signal),
+        AccessStep::Need(plan) => Answer::Need(plan),
+        AccessStep::Busy(hold) => Answer::Busy(hold),
     }
 }
 
 /// What is answered to a load or a store of a process that is alive. Takes no memory and makes no disk call. A hit takes
 /// constant expected time beside the look for the segment, which takes the logarithm of their number.
-pub fn attempt<D: Disk>(
+pub fn answer<D: Disk>(
     world: &mut World<D>,
     spaces: &mut Spaces,
     process: u32,
     call: &Call,
-) -> Attempt
+) -> Answer
     requires access { IsAccess call.now }
     requires alive { IsSome (finite.get spaces.old.spaces process) }
     requires home { (beside : ℕ) → (frame : ℕ) × (frame ≢ beside)
@@ -112,18 +116,20 @@ pub fn attempt<D: Disk>(
     ensures serves { Serves
         (record { world = world_seen world.old; spaces = spaces.old.spaces })
         (record { world = world_seen world.new; spaces = spaces.old.spaces })
-        world.old.pending world.new.pending process call.now result }
+        world.old.pending world.new.pending process call.now (attempt_of result) }
     // .. its reply is plain, and it needs or waits only where the protection lets it; and after a word was moved the
     // page has its translation.
     ensures due { MayBeAnswered
         (record { world = world_seen world.new; spaces = spaces.old.spaces })
-        process call.now result }
+        process call.now (attempt_of result) }
     ensures shown { (q : ℕ) → accessed_page call.now ≡ Some q → IsShownWhereDone
-        (record { world = world_seen world.new; spaces = spaces.old.spaces }) process q result }
+        (record { world = world_seen world.new; spaces = spaces.old.spaces }) process q
+        (attempt_of result) }
     // Then a slot was made for the page exactly where one was due, and else none.
     ensures slots { (q : ℕ) → accessed_page call.now ≡ Some q → SlotsWhereDone
         (record { world = world_seen world.old; spaces = spaces.old.spaces })
-        (world_seen world.new) process q (is_store call.now) result }
+        (world_seen world.new) process q (is_store call.now)
+        (attempt_of result) }
     // What stays.
     ensures spaces { spaces.new ≡ spaces.old }
     ensures zeros { world.new.zeros ≡ world.old.zeros }

@@ -2,6 +2,8 @@
 #![tactic(auto)]
 
 mod access;
+mod answers;
 mod entry;
 
-pub use entry::attempt;
+pub use answers::Answer;
+pub use entry::answer;

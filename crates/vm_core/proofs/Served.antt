@@ -47,7 +47,8 @@ use Rattle.proc_calls.specs.Ends as procs
 use Rattle.fault_entry.specs.Accesses.{IsAccess, IsShownWhereDone, MayBeAnswered, SlotsWhereDone, is_store}
 use Rattle.seg_vn.specs.Serves.{Serves, IsPlainReply}
 use Rattle.seg_vn.proofs.HomeFrames.{home-beside}
-use Rattle.vm_core.specs.Calls.{IsServed, IsDone, IsNeeded, IsBusy, IsOwnReply, IsShownAfterCall, SlotsAfterCall, AnswersCall, with_memory, after_answer}
+use Rattle.vm_core.specs.Calls.{IsServed, IsMapOrExit, IsDone, IsNeeded, IsBusy, IsOwnReply, IsShownAfterCall, SlotsAfterCall, AnswersCall, with_memory, after_answer}
+use Rattle.vm_core.specs.Fits.{FitsAt}
 use Rattle.vm_core.specs.State.{IsSoundKernel}
 use Rattle.seg_vn.specs.declared.attempt.Attempt.{Attempt}
 use Rattle.seg_vn.specs.declared.attempt.Attempt.TheVariants.{Done, Need, Busy}
@@ -69,6 +70,12 @@ served-is (Store a n v) h = record { file = refl; part = refl; plain = λ child 
 served-is (Map place len prot kind obj offset) h = record { file = refl; part = refl; plain = λ child e. let z : Map place len prot kind obj offset ≡ Fork child = e in cc; bears = λ q p cleared r. either (is_done r) }
 served-is Exit h = record { file = refl; part = refl; plain = λ child e. let z : Exit ≡ Fork child = e in cc; bears = λ q p cleared r. either (is_done r) }
 served-is call h = absurd h
+
+-- What is served and is no access is a mapping or the exit.
+pub no-access : (call : Call) → IsServed call → ((a n : ℕ) → call ≢ Load a n) → ((a n v : ℕ) → call ≢ Store a n v) → IsMapOrExit call
+no-access (Load a n) h load store = absurd (load a n refl)
+no-access (Store a n v) h load store = absurd (store a n v refl)
+no-access call h load store = h
 
 -- No lock of a file is the seat's, before and after such a call.
 pub locks-same : (H : List Entry) (calls syncs : List (Option ℕ)) (seat p cleared : ℕ) (call : Call) (reply : Reply) → CallsFit H calls syncs → p ≡ suc seat → MayFollow H (done_entry p call reply cleared) → part_file call ≡ None
@@ -257,6 +264,36 @@ pub concluded-memory : (s : KernelState) (seat p : ℕ) (call : Call) (a : Attem
 concluded-memory s seat p call (Done reply) = refl
 concluded-memory s seat p call (Need plan) = refl
 concluded-memory s seat p call (Busy h) = refl
+
+-- WHAT A CALL WAS SERVED, before it is concluded.
+pub record WasServed (s mid : KernelState) (p : ℕ) (call : Call) (a : Attempt) : Type 0 where
+  pub serves : Serves s.memory mid.memory s.pending mid.pending p call a
+  pub shown : IsShownAfterCall mid.memory p call a
+  pub slots : SlotsAfterCall s.memory mid.memory.world p call a
+  pub own : IsOwnReply a
+  pub alive : StaysAlive mid.memory p call
+  pub rest : mid ≡ with_memory s mid.memory mid.pending
+
+-- What a call that was tried comes to.
+pub record Tries (s t : KernelState) (seat p : ℕ) (call : Call) (a : Attempt) : Type 0 where
+  pub answers : AnswersCall s t seat p call a
+  pub shown : IsShownAfterCall t.memory p call a
+  pub slots : SlotsAfterCall s.memory t.memory.world p call a
+  pub event : IsEvent seat s None t None
+
+pub tries : (seat p : ℕ) (s mid t : KernelState) (call : Call) (a : Attempt) → FitsAt s seat None → IsServed call → CanTry s seat p call → IsWellFormed call → WasServed s mid p call a → t ≡ after_answer mid seat p call a
+    → ((reply : Reply) → a ≡ Done reply → p ≤ length mid.syncs) → Tries s t seat p call a
+tries seat p s mid t call a fits served may formed w new seated =
+    let of = served-is call served in
+    let memory : t.memory ≡ mid.memory = ap (λ (x : KernelState). x.memory) new ∙ concluded-memory mid seat p call a in
+    let c = subst (λ (x : KernelState). Concludes s x seat p call a) (sym (new ∙ ap (λ (x : KernelState). after_answer x seat p call a) w.rest))
+    (concludes fits.0 s fits.1 mid.memory seat p mid.pending call a fits.2 fits.3 of may formed w.serves w.alive w.own (λ reply done. subst (λ (x : KernelState). p ≤ length x.syncs) w.rest (seated reply done))) in
+    record {
+      answers = c.answers;
+      shown = subst (λ (m : Memory). IsShownAfterCall m p call a) (sym memory) w.shown;
+      slots = subst (λ (m : Memory). SlotsAfterCall s.memory m.world p call a) (sym memory) w.slots;
+      event = c.event;
+    }
 
 -- ANSWERS THAT MAY BE WANT OF MEMORY.
 pub ok-then : {E : Type 0} (P Q : Attempt → Type 0) (r : Result Attempt E) → ((a : Attempt) → P a → Q a) → IfOk r P → IfOk r Q

@@ -29,6 +29,12 @@ IsServed (Map (At a) len prot kind o offset) = Unit {0}
 IsServed Exit = Unit {0}
 IsServed call = ⊥
 
+-- Of these, the mapping at an address and the exit.
+abbrev pub IsMapOrExit : Call → Type 0
+IsMapOrExit (Map (At a) len prot kind o offset) = Unit {0}
+IsMapOrExit Exit = Unit {0}
+IsMapOrExit call = ⊥
+
 -- The state with other memory, and these tails pending.
 abbrev pub with_memory : KernelState → Memory → ℕ → KernelState
 with_memory s m pending = record s { memory = m; pending = pending }

@@ -2,6 +2,7 @@
 ghost use Rattle.std.specs.Prelude.{◌≡◌, ◌<◌, ◌≤◌, ℕ, Some, None, length, IfOk, OnErr, IsSome};
 ghost use Rattle.std.specs.FinMap as finite;
 ghost use Rattle.fault_entry.specs.Accesses.{IsAccess};
+ghost use Rattle.fault_entry.specs.Answers.{attempt_of};
 ghost use Rattle.page_store.specs.Notes.{Notes};
 ghost use Rattle.anon_slots.specs.Slots.{count_at};
 ghost use Rattle.flat_model.specs.Told.{entries_of};
@@ -9,22 +10,23 @@ ghost use Rattle.seg_vn.specs.declared.attempt.Attempt.TheVariants.{Done};
 ghost use Rattle.mmap_calls.specs.Maps as maps;
 ghost use Rattle.proc_calls.specs.Ends as procs;
 ghost use Rattle.vm_types.specs.WellFormed.{IsWellFormed};
-ghost use Rattle.vm_types.specs.declared.call.Reply.{Reply};
+ghost use Rattle.vm_types.specs.declared.call.Reply as replies;
 ghost use Rattle.vm_world.specs.CallSteps.{StaysAlive};
 ghost use Rattle.vm_world.specs.Events.{IsEvent, CanTry};
 ghost use Rattle.vm_world.specs.MemoryFits.{MemoryFits};
 ghost use Rattle.vm_world.specs.NotesFit.{NotesFit};
 ghost use Rattle.vm_world.specs.State.{room_of};
-ghost use Rattle.vm_core.specs.Calls.{IsServed, TakesMemory, AnswersCall, IsOwnReply, IsShownAfterCall, SlotsAfterCall, with_memory, after_answer};
+ghost use Rattle.vm_core.specs.Calls.{IsServed, IsMapOrExit, TakesMemory, AnswersCall, IsOwnReply, IsShownAfterCall, SlotsAfterCall, with_memory, after_answer};
 ghost use Rattle.vm_core.specs.Fits.{FitsAt};
 ghost use Rattle.seg_vn.specs.Serves.{Serves};
 
 use crate::kept::{Kept, forget};
 use crate::state::VmState;
 use block_device::Disk;
+use fault_entry::Answer;
 use seg_vn::Attempt;
 use std::alloc::AllocError;
-use vm_types::Call;
+use vm_types::{Call, Reply};
 
 impl<D: Disk> VmState<D> {
     /// Tries a call of a process at its seat.
@@ -49,21 +51,46 @@ impl<D: Disk> VmState<D> {
         ensures memory { OnErr result (TakesMemory call.now) }
         ensures err { OnErr result (self.new ≡ self.old) }
     {
+        if let Call::Load { .. } | Call::Store { .. } = *call {
+            let answer = self.access(process, call);
+            return Ok(self.settle(seat, process, call, answer));
+        }
         let attempt = self.serve(process, call)?;
-        self.conclude(seat, process, call, &attempt);
-        Ok(attempt)
+        Ok(self.conclude(seat, process, call, attempt))
     }
 
-    // The entry of a call that is done is made; or the plan is kept that it needs.
-    fn conclude(&mut self, seat: u32, process: u32, call: &Call, attempt: &Attempt)
+    // A load or a store is concluded with what is answered to it. A hit has arms of its own: its attempt is known there, so that none
+    // is moved but into the entry and the result.
+    fn settle(&mut self, seat: u32, process: u32, call: &Call, answer: Answer) -> Attempt
         requires { length (entries_of self.old.history process)
             < room_of self.old.entries process }
-        ensures new { self.new ≡ after_answer self.old seat process call.now attempt.now }
-        ensures seated { (reply : Reply) → attempt.now ≡ Done reply
+        ensures same { result ≡ attempt_of answer }
+        ensures new { self.new ≡ after_answer self.old seat process call.now result }
+        ensures seated { (reply : replies.Reply) → result ≡ Done reply
+            → process ≤ length self.old.syncs }
+    {
+        match answer {
+            Answer::Word(word) => {
+                self.conclude(seat, process, call, Attempt::Done(Reply::Word(word)))
+            }
+            Answer::Stored => self.conclude(seat, process, call, Attempt::Done(Reply::Done)),
+            _ => self.conclude(seat, process, call, answer.into_attempt()),
+        }
+    }
+
+    // The entry of a call that is done is made; or the plan is kept that it needs. Inline, so that an attempt that is known where it is
+    // concluded isn't made first.
+    #[inline(always)]
+    fn conclude(&mut self, seat: u32, process: u32, call: &Call, attempt: Attempt) -> Attempt
+        requires { length (entries_of self.old.history process)
+            < room_of self.old.entries process }
+        ensures same { result ≡ attempt }
+        ensures new { self.new ≡ after_answer self.old seat process call.now result }
+        ensures seated { (reply : replies.Reply) → result ≡ Done reply
             → process ≤ length self.old.syncs }
     {
         forget(&mut self.plan);
-        match attempt {
+        match &attempt {
             Attempt::Done(reply) => self.add(process, call, reply),
             Attempt::Need(plan) => {
                 self.plan = Some(Kept {
@@ -74,15 +101,15 @@ impl<D: Disk> VmState<D> {
             }
             Attempt::Busy(_) => {}
         }
+        attempt
     }
 
-    // What is answered to a call of a process that is alive, before its entry is made.
+    // What is answered to a Map at an address or an Exit, before its entry is made.
     fn serve(&mut self, process: u32, call: &Call) -> Result<Attempt, AllocError>
         requires formed { IsWellFormed call.now }
-        requires served { IsServed call.now }
+        requires served { IsMapOrExit call.now }
         requires alive { IsSome (finite.get self.old.memory.spaces process) }
         requires fits { MemoryFits self.old.memory }
-        requires noted { (notes : Notes) × NotesFit self.old.memory.world notes }
         ensures serves { IfOk result (λ attempt. Serves self.old.memory self.new.memory
             self.old.pending self.new.pending process call.now attempt) }
         ensures shown { IfOk result (λ attempt. IsShownAfterCall self.new.memory process
@@ -97,7 +124,6 @@ impl<D: Disk> VmState<D> {
         ensures err { OnErr result (self.new ≡ self.old) }
     {
         match *call {
-            Call::Load { .. } | Call::Store { .. } => Ok(self.access(process, call)),
             Call::Map { .. } => self.map(process, call),
             Call::Exit => Ok(self.exit(process, call)),
             _ => unreachable!(),
@@ -105,22 +131,22 @@ impl<D: Disk> VmState<D> {
     }
 
     // What is answered to a load or a store.
-    fn access(&mut self, process: u32, call: &Call) -> Attempt
+    fn access(&mut self, process: u32, call: &Call) -> Answer
         requires access { IsAccess call.now }
         requires alive { IsSome (finite.get self.old.memory.spaces process) }
         requires fits { MemoryFits self.old.memory }
         requires noted { (notes : Notes) × NotesFit self.old.memory.world notes }
         ensures serves { Serves self.old.memory self.new.memory
-            self.old.pending self.new.pending process call.now result }
-        ensures shown { IsShownAfterCall self.new.memory process call.now result }
+            self.old.pending self.new.pending process call.now (attempt_of result) }
+        ensures shown { IsShownAfterCall self.new.memory process call.now (attempt_of result) }
         ensures slots { SlotsAfterCall self.old.memory self.new.memory.world process
-            call.now result }
-        ensures own { IsOwnReply result }
+            call.now (attempt_of result) }
+        ensures own { IsOwnReply (attempt_of result) }
         ensures alive { StaysAlive self.new.memory process call.now }
         // What stays.
         ensures rest { self.new ≡ with_memory self.old self.new.memory self.new.pending }
     {
-        fault_entry::attempt(&mut self.world, &mut self.spaces, process, call)
+        fault_entry::answer(&mut self.world, &mut self.spaces, process, call)
     }
 
     // What is answered to a Map at an address.

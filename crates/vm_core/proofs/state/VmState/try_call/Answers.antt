@@ -1,41 +1,40 @@
-use Rattle.std.proofs.Common.{◌≡◌, ℕ, ◌≤◌, None, length, sym, ap, subst, ◌∙◌}
+use Rattle.std.proofs.Common.{None, sym, subst}
 use Rattle.vm_world.specs.Events.{IsEvent}
-use Rattle.vm_world.specs.FlatMemory.{Memory}
 use Rattle.vm_world.specs.State.{KernelState}
 use Rattle.vm_world.proofs.Told.{event_law}
-use Rattle.vm_core.specs.Calls.{IsShownAfterCall, SlotsAfterCall, after_answer}
-use Rattle.vm_core.proofs.Served.{Concludes, concluded-memory, concludes, served-is}
+use Rattle.seg_vn.specs.declared.attempt.Attempt.{Attempt}
+use Rattle.vm_core.proofs.Served.{Tries, WasServed, no-access, tries}
 use Rattle.vm_core.proofs.state.VmState.try_call.Given.{Over}
-use Rattle.vm_core.proofs.state.VmState.try_call.Goals.{After-conclude}
+use Rattle.vm_core.proofs.state.VmState.try_call.Goals.{After-conclude, After-settle}
 use Rattle.vm_core.proofs.state.VmState.try_call.Goals as goal
 
--- What was concluded.
-is : (g : Over) (c : After-conclude g) → Concludes c.args.self.now c.conclude.new.self c.args.seat c.args.process c.args.call.now c.in_ok-attempt.attempt
-is g c =
-    let b = c.requires.fits in
-    let s = c.args.self.now in
+-- A load or a store.
+accessed : (g : Over) (c : After-settle g) → Tries c.args.self.now c.settle.new.self c.args.seat c.args.process c.args.call.now c.settle.result
+accessed g c =
+    let e = c.access-answer.ensures in
+    tries c.args.seat c.args.process c.args.self.now c.access-answer.new.self c.settle.new.self c.args.call.now c.settle.result c.requires.fits c.requires.served c.requires.may c.requires.formed
+    (subst (λ (a : Attempt). WasServed c.args.self.now c.access-answer.new.self c.args.process c.args.call.now a) (sym c.settle.ensures.same)
+    (record { serves = e.serves; shown = e.shown; slots = e.slots; own = e.own; alive = e.alive; rest = e.rest })) c.settle.ensures.new c.settle.ensures.seated
+
+pub returns-in-Load-clause-answers : goal.returns-in-Load-clause-answers
+returns-in-Load-clause-answers g c = (accessed g c).answers
+
+pub returns-in-Load-clause-event : goal.returns-in-Load-clause-event
+returns-in-Load-clause-event g c = (accessed g c).event
+
+-- A mapping or an exit.
+pub serve-requires-clause-served : goal.serve-requires-clause-served
+serve-requires-clause-served g c = no-access c.args.call.now c.requires.served c.in_default.not-Load c.in_default.not-Store
+
+served : (g : Over) (c : After-conclude g) → Tries c.args.self.now c.conclude.new.self c.args.seat c.args.process c.args.call.now c.conclude.result
+served g c =
     let e = c.in_ok-attempt.ensures in
-    subst (λ (t : KernelState). Concludes s t c.args.seat c.args.process c.args.call.now c.in_ok-attempt.attempt)
-    (sym (c.conclude.ensures.new ∙ ap (λ (x : KernelState). after_answer x c.args.seat c.args.process c.args.call.now c.in_ok-attempt.attempt) e.rest))
-    (concludes b.0 s b.1 c.serve.new.self.memory c.args.seat c.args.process c.serve.new.self.pending c.args.call.now c.in_ok-attempt.attempt b.2 b.3 (served-is c.args.call.now c.requires.served) c.requires.may c.requires.formed e.serves e.alive e.own
-    (λ reply done. subst (λ (x : KernelState). c.args.process ≤ length x.syncs) e.rest (c.conclude.ensures.seated reply done)))
+    tries c.args.seat c.args.process c.args.self.now c.serve.new.self c.conclude.new.self c.args.call.now c.conclude.result c.requires.fits c.requires.served c.requires.may c.requires.formed
+    (subst (λ (a : Attempt). WasServed c.args.self.now c.serve.new.self c.args.process c.args.call.now a) (sym c.conclude.ensures.same)
+    (record { serves = e.serves; shown = e.shown; slots = e.slots; own = e.own; alive = e.alive; rest = e.rest })) c.conclude.ensures.new c.conclude.ensures.seated
 
-pub returns-clause-answers : goal.returns-clause-answers
-returns-clause-answers g c = (is g c).answers
-
--- memory is as it was served
-memory-is : (g : Over) (c : After-conclude g) → c.conclude.new.self.memory ≡ c.serve.new.self.memory
-memory-is g c = ap (λ (s : KernelState). s.memory) c.conclude.ensures.new ∙ concluded-memory c.serve.new.self c.args.seat c.args.process c.args.call.now c.in_ok-attempt.attempt
-
-pub returns-clause-shown : goal.returns-clause-shown
-returns-clause-shown g c = subst (λ (m : Memory). IsShownAfterCall m c.args.process c.args.call.now c.in_ok-attempt.attempt) (sym (memory-is g c)) c.in_ok-attempt.ensures.shown
-
-pub returns-clause-slots : goal.returns-clause-slots
-returns-clause-slots g c =
-    subst (λ (m : Memory). SlotsAfterCall c.args.self.now.memory m.world c.args.process c.args.call.now c.in_ok-attempt.attempt) (sym (memory-is g c)) c.in_ok-attempt.ensures.slots
-
-pub returns-clause-event : goal.returns-clause-event
-returns-clause-event g c = (is g c).event
+pub returns : goal.returns
+returns g c = let t = served g c in record { answers = t.answers; shown = t.shown; slots = t.slots; event = t.event; memory = tt; err = tt }
 
 pub returns-in_err-attempt-clause-event : goal.returns-in_err-attempt-clause-event
 returns-in_err-attempt-clause-event g c =

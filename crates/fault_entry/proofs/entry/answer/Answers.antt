@@ -1,5 +1,5 @@
 use Rattle.std.proofs.Common.{sym}
-use Rattle.fault_entry.proofs.entry.attempt.Goals as goal
+use Rattle.fault_entry.proofs.entry.answer.Goals as goal
 
 pub load-requires-clause-fits : goal.load-requires-clause-fits
 load-requires-clause-fits g c = (c.args.spaces.now.spaces, c.requires.fits, sym c.in-Some.ensures)
