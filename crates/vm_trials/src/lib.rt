@@ -5,3 +5,5 @@
 mod tests;
 #[cfg(test)]
 mod trial;
+#[cfg(test)]
+mod zero_object_tests;

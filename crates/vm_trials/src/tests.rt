@@ -1,6 +1,6 @@
 //! Two processes over two disks in memory, of which one fails twice: their calls, transfers and turns of the clock, act by act, and the close. What is told
 //! of each act is worked out by hand.
-ghost use Rattle.std.specs.Prelude.{◌≡◌, ◌<◌, ℕ, List, true, false, IfOk};
+ghost use Rattle.std.specs.Prelude.{◌≡◌, ◌<◌, ◌≤◌, ℕ, List, true, false, IfOk};
 ghost use Rattle.block_device.specs.MemDiskLook.{look};
 ghost use Rattle.block_device.specs.MemSeen.{disk_of};
 ghost use Rattle.vm_core.specs.Calls.{IsServed};
@@ -10,16 +10,16 @@ use crate::trial::Told::{self, Busy, Done, Landed, Sent, Still};
 use crate::trial::Trial;
 use Act::{Clock, Do, Land, Try};
 use What::{Exit, Load, Map, Store, Zero};
-use block_device::{Block, MemDisk};
+use block_device::{Block, DiskFault, MemDisk};
 use page_store::Hold;
 use std::alloc::{AllocError, Global};
 use std::test::Fail;
-use vm_core::{Setup, VmState};
+use vm_core::{Finished, Setup, VmState};
 use vm_types::Reply::{Mapped, Word};
 use vm_types::{Call, Errno, Kind, Object, Place, Prot, Reply, Signal};
 use vnode_files::{Extent, Extents, FileInfo, FileName, Files};
 
-#[derive(Clone, Copy, PartialEq, Eq, Debug)]
+#[derive(Clone, Copy, Debug)]
 enum Act {
     /// A seat makes a call.
     Do(u32, What),
@@ -31,7 +31,7 @@ enum Act {
     Clock(u32, u32),
 }
 
-#[derive(Clone, Copy, PartialEq, Eq, Debug)]
+#[derive(Clone, Copy, Debug)]
 enum What {
     Load(u32),
     Store(u32, u32),
@@ -108,17 +108,21 @@ fn started(alloc: Global) -> Result<Trial, Fail> {
     }
 }
 
-/// One process over eight frames and four translations, with one swap slot and no file.
-fn swapping(alloc: Global) -> Result<Trial, Fail> {
+/// Two processes over so many frames and four translations, with so many swap slots and no file.
+pub(crate) fn swapping(alloc: Global, frames: u32, slots: u32) -> Result<Trial, Fail>
+    requires frames { 5 ≤ frames }
+    requires some { 0 < slots }
+    requires slots { slots ≤ 16 }
+{
     let setup = Setup {
-        frames: 8,
+        frames,
         translations: 4,
-        slots: 1,
+        slots,
         disks: Vec::new(alloc),
         swap: Some(new_disk(alloc, 0, &[])?),
         files: Files::new(alloc),
-        parents: [0u32].to_vec(alloc)?,
-        entries: [99u32].to_vec(alloc)?,
+        parents: [0u32, 0].to_vec(alloc)?,
+        entries: [99u32, 99].to_vec(alloc)?,
         seats: 2,
     };
     match VmState::start(alloc, setup) {
@@ -170,25 +174,25 @@ fn make(trial: &mut Trial, act: Act) -> Result<Told, Fail> {
     }
 }
 
-const STORED: Told = Done(Reply::Done);
+pub(crate) const STORED: Told = Done(Reply::Done);
 
 const NO_MAP: Told = Done(Reply::Signal(Signal::NoMap));
 
 const ALIGN: Told = Done(Reply::Signal(Signal::Align));
 
-const PAST: Told = Done(Reply::Signal(Signal::Past));
+pub(crate) const PAST: Told = Done(Reply::Signal(Signal::Past));
 
 const PROT: Told = Done(Reply::Signal(Signal::Prot));
 
 const INVALID: Told = Done(Reply::Refused(Errno::Invalid));
 
-const NO_OBJECT: Told = Done(Reply::Refused(Errno::NoObject));
+pub(crate) const NO_OBJECT: Told = Done(Reply::Refused(Errno::NoObject));
 
 const ACCESS: Told = Done(Reply::Refused(Errno::Access));
 
 const TOO_LARGE: Told = Done(Reply::Refused(Errno::TooLarge));
 
-const NO_SWAP: Told = Done(Reply::Refused(Errno::NoSwap));
+pub(crate) const NO_SWAP: Told = Done(Reply::Refused(Errno::NoSwap));
 
 const READ_FAILS: Told = Done(Reply::Io {
     disk: 0,
@@ -196,12 +200,9 @@ const READ_FAILS: Told = Done(Reply::Io {
     after: 1,
 });
 
-/// The first act of which something else is told, with its place and what is told.
-type Other = (usize, Act, Told);
-
 /// One process, whose first read fails. Page k of the first file is full of bytes k + 1, page k of the second of 0x11 + k.
-fn a_read_fails(trial: &mut Trial) -> Result<Option<Other>, Fail> {
-    first_other(
+fn a_read_fails(trial: &mut Trial) -> Result<(), Fail> {
+    make_all(
         trial,
         &[
             (Do(0, Load(0x1_0000)), NO_MAP),
@@ -222,8 +223,8 @@ fn a_read_fails(trial: &mut Trial) -> Result<Option<Other>, Fail> {
 
 /// A round of the hands is F0 B3 F1 B4 F2 B5 F3 B0 F4 B1 F5 B2, front and back. The page is in frame 1, as the frame of the
 /// failed read is free last: the tenth move pushes what was stored into it.
-fn hands_push(trial: &mut Trial) -> Result<Option<Other>, Fail> {
-    first_other(
+fn hands_push(trial: &mut Trial) -> Result<(), Fail> {
+    make_all(
         trial,
         &[
             (Do(0, Store(0x1_0000, 5)), STORED),
@@ -250,8 +251,8 @@ fn hands_push(trial: &mut Trial) -> Result<Option<Other>, Fail> {
 }
 
 /// Two seats want one page, and one disk.
-fn seats_want_one_page(trial: &mut Trial) -> Result<Option<Other>, Fail> {
-    first_other(
+fn seats_want_one_page(trial: &mut Trial) -> Result<(), Fail> {
+    make_all(
         trial,
         &[
             (Do(1, Map(0x2000, 0x8000, true, 0, 0)), Done(Mapped(0x2000))),
@@ -267,8 +268,8 @@ fn seats_want_one_page(trial: &mut Trial) -> Result<Option<Other>, Fail> {
 }
 
 /// Six pages through four translations: each is found with no transfer.
-fn translations_are_few(trial: &mut Trial) -> Result<Option<Other>, Fail> {
-    first_other(
+fn translations_are_few(trial: &mut Trial) -> Result<(), Fail> {
+    make_all(
         trial,
         &[
             (Do(0, Load(0x1_2000)), Done(Word(0x0303_0303))),
@@ -287,8 +288,8 @@ fn translations_are_few(trial: &mut Trial) -> Result<Option<Other>, Fail> {
 
 /// Pages 1 to 5 are in frames 5, 0, 2, 3 and 4. The hands make F5 B2 F0 B3 F1 B4 F2, then B5 F3 B0: page 1 is used in between, and page 2 isn't, so that
 /// it loses its frame to the next page; the others stay.
-fn hands_pass(trial: &mut Trial) -> Result<Option<Other>, Fail> {
-    first_other(
+fn hands_pass(trial: &mut Trial) -> Result<(), Fail> {
+    make_all(
         trial,
         &[
             (Clock(1, 7), Still),
@@ -309,8 +310,8 @@ fn hands_pass(trial: &mut Trial) -> Result<Option<Other>, Fail> {
 }
 
 /// A page is read while frames of its file are taken for the other file.
-fn frames_are_taken_during_a_read(trial: &mut Trial) -> Result<Option<Other>, Fail> {
-    first_other(
+fn frames_are_taken_during_a_read(trial: &mut Trial) -> Result<(), Fail> {
+    make_all(
         trial,
         &[
             (
@@ -329,8 +330,8 @@ fn frames_are_taken_during_a_read(trial: &mut Trial) -> Result<Option<Other>, Fa
 }
 
 /// More pages than frames, and than translations.
-fn frames_are_few(trial: &mut Trial) -> Result<Option<Other>, Fail> {
-    first_other(
+fn frames_are_few(trial: &mut Trial) -> Result<(), Fail> {
+    make_all(
         trial,
         &[
             (Do(0, Store(0x1_1000, 2)), STORED),
@@ -355,8 +356,8 @@ fn frames_are_few(trial: &mut Trial) -> Result<Option<Other>, Fail> {
 }
 
 /// What one process stored the other sees.
-fn stores_are_seen(trial: &mut Trial) -> Result<Option<Other>, Fail> {
-    first_other(
+fn stores_are_seen(trial: &mut Trial) -> Result<(), Fail> {
+    make_all(
         trial,
         &[
             (Do(1, Load(0x2000)), Done(Word(1))),
@@ -372,8 +373,8 @@ fn stores_are_seen(trial: &mut Trial) -> Result<Option<Other>, Fail> {
 }
 
 /// Mappings in the place of others, whose ends they cut.
-fn mappings_are_replaced(trial: &mut Trial) -> Result<Option<Other>, Fail> {
-    first_other(
+fn mappings_are_replaced(trial: &mut Trial) -> Result<(), Fail> {
+    make_all(
         trial,
         &[
             (Do(0, Load(0x1_2000)), Done(Word(3))),
@@ -400,8 +401,8 @@ fn mappings_are_replaced(trial: &mut Trial) -> Result<Option<Other>, Fail> {
 }
 
 /// Refusals, each before those that come later.
-fn maps_are_refused(trial: &mut Trial) -> Result<Option<Other>, Fail> {
-    first_other(
+fn maps_are_refused(trial: &mut Trial) -> Result<(), Fail> {
+    make_all(
         trial,
         &[
             (Do(0, Map(0x1_1001, 0x1000, true, 7, 0)), INVALID),
@@ -414,8 +415,8 @@ fn maps_are_refused(trial: &mut Trial) -> Result<Option<Other>, Fail> {
 }
 
 /// A process ends with pages modified.
-fn processes_end(trial: &mut Trial) -> Result<Option<Other>, Fail> {
-    first_other(
+fn processes_end(trial: &mut Trial) -> Result<(), Fail> {
+    make_all(
         trial,
         &[
             (Do(1, Store(0x7000, 16)), STORED),
@@ -456,19 +457,20 @@ fn wrong_block(number: u32, disk: &MemDisk) -> Option<u8> {
     None
 }
 
-fn first_other(trial: &mut Trial, acts: &[(Act, Told)]) -> Result<Option<Other>, Fail> {
+/// Makes the acts. It fails at the first of which something else is told.
+fn make_all(trial: &mut Trial, acts: &[(Act, Told)]) -> Result<(), Fail> {
     for (place, &(act, told)) in acts.iter().enumerate() {
         let made = make(trial, act)?;
         if made != told {
-            return Ok(Some((place, act, made)));
+            return Err(Fail::new(format_args!("{place}: {act:?} is told {made:?}")));
         }
     }
-    Ok(None)
+    Ok(())
 }
 
 /// A page is replaced while its push is out: the new page takes its slot, and the old one's push does it no harm.
-fn a_page_goes_during_its_push(trial: &mut Trial) -> Result<Option<Other>, Fail> {
-    first_other(
+fn a_page_goes_during_its_push(trial: &mut Trial) -> Result<(), Fail> {
+    make_all(
         trial,
         &[
             (Do(0, Zero(0x2000, 0x2000)), NO_SWAP),
@@ -488,8 +490,8 @@ fn a_page_goes_during_its_push(trial: &mut Trial) -> Result<Option<Other>, Fail>
 }
 
 /// A page is stored into while its push is out: it shows the word, and goes out once more.
-fn a_page_is_stored_into_during_its_push(trial: &mut Trial) -> Result<Option<Other>, Fail> {
-    first_other(
+fn a_page_is_stored_into_during_its_push(trial: &mut Trial) -> Result<(), Fail> {
+    make_all(
         trial,
         &[
             (Do(0, Store(0x2000, 0x11)), STORED),
@@ -504,38 +506,85 @@ fn a_page_is_stored_into_during_its_push(trial: &mut Trial) -> Result<Option<Oth
     )
 }
 
+fn use_files(trial: &mut Trial) -> Result<(), Fail> {
+    a_read_fails(trial)?;
+    hands_push(trial)?;
+    seats_want_one_page(trial)?;
+    translations_are_few(trial)?;
+    hands_pass(trial)?;
+    frames_are_taken_during_a_read(trial)?;
+    frames_are_few(trial)?;
+    stores_are_seen(trial)?;
+    mappings_are_replaced(trial)?;
+    maps_are_refused(trial)?;
+    processes_end(trial)
+}
+
+/// The first disk with a wrong block, and that block.
+fn wrong_disk(disks: &[(u32, MemDisk)]) -> Option<(u32, u8)> {
+    for (number, disk) in disks {
+        if let Some(block) = wrong_block(*number, disk) {
+            return Some((*number, block));
+        }
+    }
+    None
+}
+
+/// What is looked at of a kernel that was closed.
+#[derive(Clone, Copy, PartialEq, Eq, Debug)]
+struct Outcome {
+    fault: Option<DiskFault>,
+    entries: usize,
+    /// How many faults disks 0 and 1 had counted.
+    faults: (Option<u64>, Option<u64>),
+    wrong: Option<(u32, u8)>,
+}
+
+fn look_at(finished: &Finished<MemDisk>) -> Outcome {
+    let history = &finished.history;
+    Outcome {
+        fault: finished.fault,
+        entries: history.entries().len(),
+        faults: (history.faults(0), history.faults(1)),
+        wrong: wrong_disk(finished.disks.as_slice()),
+    }
+}
+
+// The owner of a state calls little and compares nothing: each further step beside an owned state is long to prove.
+fn used_and_closed(alloc: Global) -> Result<Outcome, Fail> {
+    let mut trial = started(alloc)?;
+    use_files(&mut trial)?;
+    let finished = trial.finish()?;
+    Ok(look_at(&finished))
+}
+
 #[test]
 fn two_processes_use_files_through_few_frames(rt: HostRuntime) -> Result<(), Fail> {
-    let mut trial = started(rt.alloc())?;
-    assert_eq!(rt; a_read_fails(&mut trial)?, None);
-    assert_eq!(rt; hands_push(&mut trial)?, None);
-    assert_eq!(rt; seats_want_one_page(&mut trial)?, None);
-    assert_eq!(rt; translations_are_few(&mut trial)?, None);
-    assert_eq!(rt; hands_pass(&mut trial)?, None);
-    assert_eq!(rt; frames_are_taken_during_a_read(&mut trial)?, None);
-    assert_eq!(rt; frames_are_few(&mut trial)?, None);
-    assert_eq!(rt; stores_are_seen(&mut trial)?, None);
-    assert_eq!(rt; mappings_are_replaced(&mut trial)?, None);
-    assert_eq!(rt; maps_are_refused(&mut trial)?, None);
-    assert_eq!(rt; processes_end(&mut trial)?, None);
-    let finished = trial.finish()?;
-    let history = &finished.history;
-    assert_eq!(rt; finished.fault, None);
-    assert_eq!(rt; history.entries().len(), 86);
-    assert_eq!(rt; (history.faults(0), history.faults(1)), (Some(2), Some(0)));
-    for (number, disk) in &finished.disks {
-        assert_eq!(rt; wrong_block(*number, disk), None, "disk {number}");
-    }
+    let due = Outcome {
+        fault: None,
+        entries: 86,
+        faults: (Some(2), Some(0)),
+        wrong: None,
+    };
+    assert_eq!(rt; used_and_closed(rt.alloc())?, due);
     Ok(())
+}
+
+fn push_a_private_page(trial: &mut Trial) -> Result<(), Fail> {
+    a_page_goes_during_its_push(trial)?;
+    a_page_is_stored_into_during_its_push(trial)
+}
+
+/// The transfer that failed at the close, and how many entries the history has.
+fn pushed_and_closed(alloc: Global) -> Result<(Option<DiskFault>, usize), Fail> {
+    let mut trial = swapping(alloc, 8, 1)?;
+    push_a_private_page(&mut trial)?;
+    let finished = trial.finish()?;
+    Ok((finished.fault, finished.history.entries().len()))
 }
 
 #[test]
 fn a_private_page_goes_to_swap(rt: HostRuntime) -> Result<(), Fail> {
-    let mut trial = swapping(rt.alloc())?;
-    assert_eq!(rt; a_page_goes_during_its_push(&mut trial)?, None);
-    assert_eq!(rt; a_page_is_stored_into_during_its_push(&mut trial)?, None);
-    let finished = trial.finish()?;
-    assert_eq!(rt; finished.fault, None);
-    assert_eq!(rt; finished.history.entries().len(), 11);
+    assert_eq!(rt; pushed_and_closed(rt.alloc())?, (None, 11));
     Ok(())
 }
