@@ -550,7 +550,7 @@ fn look_at(finished: &Finished<MemDisk>) -> Outcome {
     }
 }
 
-// The owner of a state calls little and compares nothing: each further step beside an owned state is long to prove.
+// The owner of a state calls little and compares nothing: a step more beside an owned state is long to prove.
 fn used_and_closed(alloc: Global) -> Result<Outcome, Fail> {
     let mut trial = started(alloc)?;
     use_files(&mut trial)?;

@@ -174,7 +174,6 @@ fn share_zero_objects(trial: &mut Trial) -> Result<(), Fail> {
     it_is_gone(trial)
 }
 
-// The owner of the state calls little and compares nothing: each further step beside an owned state is long to prove.
 /// The transfer that failed at the close, and how many entries the history has.
 fn shared_and_closed(alloc: Global) -> Result<(Option<DiskFault>, usize), Fail> {
     let mut trial = swapping(alloc, 6, 8)?;
