@@ -7,7 +7,7 @@
 ghost use Rattle.std.specs.Prelude.{◌≤◌};
 
 use bitflags::Flags;
-use flat_model::FlatState;
+use flat_state::FlatState;
 use std::alloc::{AllocError, Global};
 use std::{env, io};
 use vm_types::{Call, Entry, Kind, Object, Place, Prot, Reply};

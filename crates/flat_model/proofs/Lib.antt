@@ -13,17 +13,8 @@ pub mod Reserve
 pub mod Maps
 pub mod FileBytes
 pub mod Rooms
-pub mod FilePages
-pub mod FileSteps
 pub mod WellFormed
 pub mod Opened
-pub mod Trees
-pub mod Steps
-pub mod Cuts
-pub mod Slots
-pub mod Assembled
-pub mod Protects
-pub mod Growths
 pub mod Replays
 pub mod Starts
 pub mod Counts

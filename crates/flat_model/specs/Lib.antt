@@ -37,9 +37,3 @@ pub mod ReachedLaws
 pub mod TailLaws
 pub mod GrownLaws
 pub mod ProtectLaws
--- The plain form that steps over entries, `FlatState`.
-pub mod FlatCode
-pub mod Cells
-pub mod State
-pub mod FlatState
-pub mod Mapped

@@ -1,35 +1,15 @@
 //! Flat memory: what the kernel's calls do, without frames, disks or translations.
 #![tactic(auto)]
 
-mod cells;
-mod file_pages;
-mod files;
-mod flat_state;
-mod growth;
 mod history_laws;
 mod laws;
-mod map_call;
 mod mapping_laws;
 mod page_laws;
-mod pages;
-mod replies;
-mod spaces;
-mod state;
-mod state_calls;
-mod state_fork;
-mod state_map;
-mod state_parts;
-mod state_ranges;
-mod state_step;
-#[cfg(test)]
-mod state_tests;
 mod step_laws;
 #[cfg(test)]
 mod tests;
 mod words;
-mod zeros;
 
-pub use flat_state::FlatState;
 pub use history_laws::{
     counted_histories_law, joined_histories_law, open_calls_law, spellings_law, sync_starts_law,
 };

@@ -4,7 +4,7 @@ ghost use Rattle.std.specs.Prelude.{◌≡◌, ◌<◌, ◌≤◌, length};
 use crate::outcome::Outcome;
 use crate::run_tests::{run_over, script_of_file};
 use block_device::{Block, MemDisk, MemRack};
-use flat_model::FlatState;
+use flat_state::FlatState;
 use std::alloc::{AllocError, Global};
 use std::test::Fail;
 use vm_types::{Call, Entry, Line, Reply};

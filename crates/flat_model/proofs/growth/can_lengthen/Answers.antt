@@ -1,9 +1,0 @@
-use Rattle.std.proofs.Common.{◌∙◌, ap, ◌++◌}
-use Rattle.vnode_files.specs.Grow.{is_free}
-use Rattle.flat_model.proofs.Growths.{can-last}
-use Rattle.flat_model.proofs.growth.can_lengthen.Goals as goal
-
-pub returns-in-Some-clause-exact : goal.returns-in-Some-clause-exact
-returns-in-Some-clause-exact c =
-    c.is_free.ensures ∙ ap (is_free c.args.blocks (c.args.others.now ++ c.args.own.now)) c.extent_end.ensures
-    ∙ can-last c.args.blocks c.args.others.now c.args.own.now c.in-Some.last.now c.in-Some.ensures.value

@@ -1,7 +1,0 @@
-use Rattle.std.specs.Prelude.{◌≡◌, ◌-◌, take}
-use Rattle.vnode_files.specs.Grow.{page_count}
-use Rattle.flat_model.proofs.growth.missing.Given as goal
-
--- so many pages less those of the extents so far
-abbrev pub invariant-loop-extent : goal.invariant-loop-extent
-invariant-loop-extent l = l.left ≡ l.pages - page_count (take l.extent-index l.extents)

@@ -1,0 +1,11 @@
+pub mod Maps
+pub mod Trees
+pub mod FilePages
+pub mod FileSteps
+pub mod Added
+pub mod Steps
+pub mod Cuts
+pub mod Slots
+pub mod Assembled
+pub mod Protects
+pub mod Growths

@@ -1,0 +1,20 @@
+use Rattle.std.proofs.Common.{◌∙◌, ap, sym}
+use Rattle.std.specs.Prelude.{is_some, unwrap_or}
+use Rattle.std.specs.FinMap as map
+use Rattle.flat_model.specs.Space.{without_range}
+use Rattle.flat_state.proofs.Maps.{get_at, insert_at}
+use Rattle.flat_state.proofs.spaces.Spaces.take_out.Goals as goal
+
+pub returns-in_default : goal.returns-in_default
+returns-in_default c =
+    let none = ap (λ m. map.get m c.args.process) (sym c.self.view_is) ∙ get_at c.self.inside.spaces.entries c.args.process ∙ sym c.in_default.ensures.value in
+    absurd (let e = sym (ap is_some none) ∙ c.requires in cc)
+
+pub returns : goal.returns
+returns c =
+    let updates = (c.get_mut.follows.holds c.take_out.new.self).3 (sym (ap is_some c.in-Some.ensures.value)) in
+    let whole = insert_at c.self.inside.spaces.entries (c.get_mut.follows.lender c.take_out.new.self).entries c.args.process c.take_out.new.self updates.0 in
+    let here = ap (λ m. map.get m c.args.process) (sym c.self.view_is) ∙ get_at c.self.inside.spaces.entries c.args.process ∙ sym c.in-Some.ensures.value in
+    whole ∙ ap (map.insert (map.from_entries c.self.inside.spaces.entries) c.args.process) c.take_out.ensures
+    ∙ ap (λ m. map.insert m c.args.process (without_range c.in-Some.space.now c.args.first c.args.count)) c.self.view_is
+    ∙ ap (λ o. map.insert c.args.self.now c.args.process (without_range (unwrap_or o map.empty) c.args.first c.args.count)) (sym here)

@@ -1,0 +1,22 @@
+use Rattle.std.proofs.Common.{◌≡◌, ◌∙◌, true, ap, sym, subst, refl, Ok, ℕ, ◌+◌, length}
+use Rattle.std.specs.Prelude.{IsTrue}
+use Rattle.std.specs.Result.{result_map_both}
+use Rattle.vm_types.specs.declared.call.Call.{Call}
+use Rattle.vm_types.specs.declared.call.Reply.TheVariants as reply
+use Rattle.flat_model.specs.Parts.{room_for, with_file_at, with_part}
+use Rattle.flat_model.specs.Step.{effect, MayFail}
+use Rattle.flat_state.proofs.FileSteps.{extents_got, room-writable, room-done}
+use Rattle.flat_state.proofs.Steps.{due_by}
+use Rattle.flat_state.proofs.state.FlatParts.act_write.Goals as goal
+
+pub returns-else-not-is_io-clause-exact : goal.returns-else-not-is_io-clause-exact
+returns-else-not-is_io-clause-exact c =
+    let F = c.args.self.now in
+    let e = c.args.entry.now in
+    let n = c.args.file in
+    let end = c.args.offset + length c.args.line.now in
+    let room : extents_got (room_for F n end) ≡ Ok c.in-Ok.extents.items =
+    ap (λ (k : ℕ). extents_got (room_for F n (c.args.offset + k))) (sym c.len.ensures.len) ∙ sym c.in_ok-extents.ensures ∙ ap (result_map_both (λ v. v.items) (λ x. x)) c.in-Ok.is in
+    let may = subst (MayFail F e.process) (sym c.requires.call) (room-writable F n end c.in-Ok.extents.items room) in
+    let is_done = ap (λ (x : Call). (effect F e.process x).reply) c.requires.call ∙ room-done F n end c.in-Ok.extents.items (λ f. with_file_at F n (with_part c.args.offset c.args.line.now f)) room in
+    (λ t. (due_by F e (IsTrue true) reply.Done (λ t'. may, λ h. refl) is_done).0 (c.is_due-2.ensures.0 c.if-not-is_due.false), λ h. refl)
