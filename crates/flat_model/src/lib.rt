@@ -6,8 +6,6 @@ mod laws;
 mod mapping_laws;
 mod page_laws;
 mod step_laws;
-#[cfg(test)]
-mod tests;
 mod words;
 
 pub use history_laws::{

@@ -17,10 +17,6 @@ mod state_map;
 mod state_parts;
 mod state_ranges;
 mod state_step;
-#[cfg(test)]
-mod state_tests;
-#[cfg(test)]
-mod tests;
 mod zeros;
 
 pub use flat_state::FlatState;

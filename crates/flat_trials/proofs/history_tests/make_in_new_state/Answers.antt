@@ -5,7 +5,7 @@ use Rattle.std.specs.FinMap as finite
 use Rattle.std.specs.FinSet as set
 use Rattle.flat_model.specs.Flat.{Flat}
 use Rattle.flat_model.proofs.Ranges.{get-insert_here}
-use Rattle.flat_state.proofs.state_tests.opened_with.Goals as goal
+use Rattle.flat_trials.proofs.history_tests.make_in_new_state.Goals as goal
 
 pub disk-requires : goal.disk-requires
 disk-requires c = record { new = ap (λ (F : Flat). finite.contains_key F.disks 0) c.new-state.ensures ∙ ap is_some (finite.get-empty nat_cmp 0) }

@@ -1,5 +1,5 @@
 //! Words at their places, with values by hand.
-use crate::words::{word_at, word_put};
+use flat_model::{word_at, word_put};
 use std::prelude::HostRuntime;
 use std::test::Fail;
 
