@@ -1,5 +1,5 @@
 -- A frame and a disk go out.
-use Rattle.std.proofs.Common.{◌≡◌, ◌≢◌, ℕ, ◌<◌, Bool, true, false, cond, ◌⊎◌, inl, inr, List, [], ◌∷◌, Option, Some, None, IsTrue, IsSome, refl, sym, ◌∙◌, ap, subst, arith, length, set, is_some}
+use Rattle.std.proofs.Common.{unwrap_or, ◌≡◌, ◌≢◌, ℕ, ◌<◌, Bool, true, false, cond, ◌⊎◌, inl, inr, List, [], ◌∷◌, Option, Some, None, IsTrue, IsSome, refl, sym, ◌∙◌, ap, subst, arith, length, set, is_some}
 use Rattle.std.specs.Option.{option_or}
 use Rattle.std.specs.Prelude.{◌&&◌, ◌||◌, ◌==◌, is_none, Contains}
 use Rattle.std.proofs.lemmas.Bool.{cases_eq, cases_Bool}
@@ -214,6 +214,7 @@ module _ (s : StoreSeen) (f : FlightSeen) (sound : IsSoundStore s) (next : next_
     modified = λ own e. absurd (let z : None ≡ Some own = sym absent ∙ e in cc);
     ungone = ap (λ (r : Row). r.gone) row_now;
     unwritten = ap (λ (o : Option ℕ). is_rewritten_in o (with_read_begun s f.frame f.name f.seat f.number)) source_now;
+    own = λ own e. absurd (let z : None ≡ Some own = sym absent ∙ e in cc);
     unlisted = λ l. elim l [ inl a ↦ taken-free s f.frame sound next a | inr b ↦ taken-cached s f.frame sound next b ];
     lost = λ n h. ap (λ (o : Option ℕ). residence_in o (with_read_begun s f.frame f.name f.seat f.number)) (lost_fetched n (sym (next-is s f.frame sound next) ∙ h));
     stay = λ n ne other. (touches-one s (with_read_begun s f.frame f.name f.seat f.number) f.frame distinct_now one_fetched).residence n
@@ -364,6 +365,7 @@ module _ (s : StoreSeen) (f : FlightSeen) (sound : IsSoundStore s) (next : next_
         subst (λ (j : ℕ). (row_at (set s.rows f.frame (held_row (row_at s.rows f.frame) f.seat)) j).modified ≡ (row_at s.rows j).modified) q (ap (λ (r : Row). r.modified) row_sent);
     ungone = ap (λ (r : Row). r.gone) row_sent ∙ own_gone;
     unwritten = ap (λ (o : Option ℕ). is_rewritten_in o (with_page_sent s f.frame f.seat f.number)) source_sent;
+    own = λ own e. own-self (with_page_sent s f.frame f.seat f.number) f.frame source_sent ∙ (let z : Some f.frame ≡ Some own = sym found ∙ e in cc);
     unlisted = unlisted;
     lost = λ n h. absurd (let z : None ≡ Some n = sym none_next ∙ h in cc);
     stay = λ n ne other. (touches-one s (with_page_sent s f.frame f.seat f.number) f.frame sound.distinct one_sent).residence n (only-none s.names f.frame n (far_name n ne)) (only-none s.names f.frame n (far_name n ne));
@@ -649,6 +651,7 @@ module _ (s : StoreSeen) (f : FlightSeen) (own : ℕ) (sound : IsSoundStore s) (
         subst (λ (j : ℕ). (row_at (rows_paired s.rows own f.frame f.seat) j).modified ≡ (row_at s.rows j).modified) q (ap (λ (r : Row). r.modified) at_own);
     ungone = ap (λ (r : Row). r.gone) at_copy;
     unwritten = ap (λ (o : Option ℕ). is_rewritten_in o (with_snapshot_sent s own f.frame f.seat f.number)) source_copied ∙ ap (λ (r : Row). r.rewritten) at_own;
+    own = λ k e. ap (λ (o : Option ℕ). unwrap_or o f.frame) source_copied ∙ (let z : Some own ≡ Some k = sym found ∙ e in cc);
     unlisted = copy_unlisted;
     lost = λ n h. ap (λ (o : Option ℕ). residence_in o (with_snapshot_sent s own f.frame f.seat f.number)) (taken-lost s f.frame sound next None n (λ q. cc) (sym (next-is s f.frame sound next) ∙ h));
     stay = λ n ne other. (touches s (with_snapshot_sent s own f.frame f.seat f.number) (either own f.frame) distinct_copied elsewhere_copied).residence n
@@ -698,6 +701,7 @@ module _ (s : StoreSeen) (f : FlightSeen) (own : ℕ) (sound : IsSoundStore s) (
             b.modified k e ∙ subst (λ (j : ℕ). (row_at (without_snapshot s own).rows j).modified ≡ (row_at s.rows j).modified) q mid.modified;
         ungone = b.ungone;
         unwritten = b.unwritten;
+        own = b.own;
         unlisted = b.unlisted;
         lost = b.lost;
         stay = λ n ne other. b.stay n ne other ∙ same n;

@@ -82,6 +82,7 @@ pub record BeginsTransfer (old new : StoreSeen) (plan : Plan) (name : PageName) 
   pub modified : (own : ℕ) → find old.names name ≡ Some own → (row_at new.rows own).modified ≡ (row_at old.rows own).modified
   pub ungone : (row_at new.rows f.frame).gone ≡ false
   pub unwritten : was_rewritten new f.frame ≡ false
+  pub own : (own : ℕ) → find old.names name ≡ Some own → own_frame new f.frame ≡ own
   pub unlisted : ¬ IsListedFrame new f.frame
   pub lost : (n : PageName) → next_name old ≡ Some n → residence new n ≡ at.Absent
   pub stay : (n : PageName) → n ≢ name → next_name old ≢ Some n → residence new n ≡ residence old n
