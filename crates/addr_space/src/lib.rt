@@ -3,8 +3,6 @@
 
 mod laws;
 mod ranges;
-#[cfg(test)]
-mod tests;
 
 pub use laws::pages_law;
 pub use ranges::Ranges;

@@ -6,8 +6,6 @@ ghost use Rattle.std.specs.Bool.{OnTrue, OnFalse};
 ghost use Rattle.anon_map.specs.Maps.{Map, anon_map_at, places_of, holders_of, IsMapThere, IsUnused, AllThere, AreEmpty, fresh_map, with_map, with_places, with_holders, free_numbers};
 
 mod map;
-#[cfg(test)]
-mod tests;
 
 use map::AnonMap;
 use std::alloc::{AllocError, Global};

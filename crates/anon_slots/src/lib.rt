@@ -6,9 +6,6 @@ ghost use Rattle.std.specs.Prelude.{◌≡◌, ◌+◌, ◌-◌, ◌^◌, ◌<�
 ghost use Rattle.std.specs.Bool.{OnTrue, OnFalse};
 ghost use Rattle.anon_slots.specs.Slots.{AnonSlotsSeen, unused_slots, slots_in_use, count_at, IsHeldSlot, IsSoundAnonSlots, with_count, with_new_slot};
 
-#[cfg(test)]
-mod tests;
-
 use std::alloc::{AllocError, Global};
 use std::marker::Model;
 use swap_slots::SwapSlots;

@@ -16,8 +16,6 @@ mod path_text;
 mod rack;
 mod reading;
 mod stream;
-#[cfg(test)]
-mod tests;
 mod unopened;
 mod untold;
 

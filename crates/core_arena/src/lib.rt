@@ -10,9 +10,6 @@ pub use crate::arena::Core;
 pub use crate::frame::Frame;
 use std::alloc::AllocError;
 
-#[cfg(test)]
-mod tests;
-
 /// Want of memory.
 pub type OutOfMemory = AllocError;
 

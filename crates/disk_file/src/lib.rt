@@ -3,8 +3,6 @@
 
 mod file_disk;
 mod opening;
-#[cfg(test)]
-mod tests;
 
 pub use file_disk::FileDisk;
 pub use opening::open;

@@ -4,8 +4,6 @@
 #![tactic(auto)]
 
 mod slots;
-#[cfg(test)]
-mod tests;
 
 ghost use Rattle.std.specs.Prelude.{◌≡◌, ℕ, ◌<◌, ◌∷◌, [], length, replicate, true, false, Option, Some, None, IfOk, IfSome, slice_set, slice_index_or, vec_len};
 ghost use Rattle.hash_chains.specs.Order.{AreSeparate, chain_at, is_among, first_in, after_in, without_place};

@@ -3,8 +3,6 @@
 
 mod hat;
 mod table;
-#[cfg(test)]
-mod tests;
 mod translation;
 
 pub use hat::Hat;

@@ -1,8 +1,6 @@
 //! One state, one history, and the seats that change it in turn.
 #![tactic(auto)]
 
-#[cfg(test)]
-mod adders;
 mod bell;
 mod board;
 pub mod closing;
@@ -11,9 +9,3 @@ pub mod lock;
 mod plays;
 pub mod seat;
 mod starting;
-#[cfg(test)]
-mod store;
-#[cfg(test)]
-mod tally;
-#[cfg(test)]
-mod tests;

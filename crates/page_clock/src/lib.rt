@@ -9,9 +9,6 @@ ghost use Rattle.page_clock.specs.Clock.{next_pick, next_clock, place_of, fresh_
 
 use std::marker::Model;
 
-#[cfg(test)]
-mod tests;
-
 /// Which hand is at which frame.
 #[derive(Clone, Copy, PartialEq, Debug)]
 pub enum Pick {

@@ -4,9 +4,6 @@
 //! name. Each call but `new` takes constant expected time and no memory.
 #![tactic(auto)]
 
-#[cfg(test)]
-mod tests;
-
 ghost use Rattle.std.specs.Prelude.{◌≡◌, ◌≢◌, ℕ, ◌+◌, ◌<◌, ◌≤◌, ◌↔◌, List, length, replicate, Option, Some, None, IfOk, IfSome, slice_set};
 ghost use Rattle.page_hash.specs.Names.{name_at, is_name, find, without_name, AreDistinct};
 ghost use Rattle.page_hash.specs.Index.{Finds};

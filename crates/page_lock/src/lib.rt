@@ -7,9 +7,6 @@ ghost use Rattle.page_lock.specs.Rows.{row_at, clear_row, with_bits};
 use std::alloc::{AllocError, Global};
 use std::marker::Model;
 
-#[cfg(test)]
-mod tests;
-
 /// Want of memory.
 pub type OutOfMemory = AllocError;
 

@@ -20,4 +20,3 @@ pub mod StillLemmas
 pub mod TableLemmas
 pub mod TakeLemmas
 pub mod TransferLemmas
-pub mod TripLemmas

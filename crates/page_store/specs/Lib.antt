@@ -16,6 +16,5 @@ pub mod StoreFits
 pub mod Table
 pub mod TableLaws
 pub mod Transfers
-pub mod Trips
 pub mod Value
 pub mod Waits

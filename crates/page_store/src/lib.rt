@@ -23,10 +23,3 @@ pub use place::{PAGE_BYTES, Place, SWAP_DISK, SWAP_OBJECT, layout_law};
 pub use plan::{Hold, Plan};
 pub use residence::Residence;
 pub use store::Store;
-
-#[cfg(test)]
-mod page_tests;
-#[cfg(test)]
-mod transfer_tests;
-#[cfg(test)]
-mod trips;

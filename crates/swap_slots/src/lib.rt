@@ -5,8 +5,6 @@ ghost use Rattle.std.specs.Prelude.{◌≡◌, ◌<◌, Bool, List, length, repl
 ghost use Rattle.swap_slots.specs.Slots.{IsInUse};
 
 mod bits;
-#[cfg(test)]
-mod tests;
 
 use std::alloc::{AllocError, Global};
 use std::marker::Model;

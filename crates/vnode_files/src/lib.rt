@@ -13,6 +13,3 @@ pub use files::Files;
 pub use laws::{file_layout_law, growth_law};
 pub use name::FileName;
 pub use vnode::FileInfo;
-
-#[cfg(test)]
-mod tests;
