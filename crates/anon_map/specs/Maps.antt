@@ -1,5 +1,6 @@
 -- Anon maps by number. Public clauses cite this.
-use Rattle.std.specs.Prelude.{◌≡◌, ℕ, ◌<◌, ◌≤◌, ◌^◌, List, [], ◌∷◌, ◌++◌, length, Option, Some, None, IsSome, is_none, count_by, slice_index, slice_index_or, slice_set, unwrap_or, nat_lt, if◌then◌else◌}
+use Rattle.std.specs.Prelude.{◌≡◌, ℕ, ◌<◌, ◌≤◌, ◌^◌, List, [], ◌∷◌, ◌++◌, length, Option, Some, None, IsSome, is_none, count_by, slice_index, slice_index_or}
+use Rattle.std.specs.Prelude.{slice_set, unwrap_or, nat_lt, if◌then◌else◌}
 
 -- the optional slots of a map, and how many hold it
 pub record Map : Type 0 where

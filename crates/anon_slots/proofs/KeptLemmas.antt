@@ -1,5 +1,6 @@
 -- What is kept agrees again after each change of a count.
-use Rattle.std.proofs.Common.{zero, suc, ltb, ◌≡◌, ℕ, ◌+◌, ◌-◌, ◌<◌, ◌^◌, ◌==◌, Bool, true, false, not, cond, List, [], ◌∷◌, length, map, get_or, set, replicate, Some, None, refl, sym, ◌∙◌, ap, subst, arith, ⊎_elim, length-set}
+use Rattle.std.proofs.Common.{zero, suc, ltb, ◌≡◌, ℕ, ◌+◌, ◌-◌, ◌<◌, ◌^◌, ◌==◌, Bool, true, false, not, cond, List, [], ◌∷◌, length, map, get_or, set}
+use Rattle.std.proofs.Common.{replicate, Some, None, refl, sym, ◌∙◌, ap, subst, arith, ⊎_elim, length-set}
 use Rattle.std.specs.Option.{IsSome, is_some}
 use Rattle.std.specs.List.{position, position_or_len, count_by}
 use Rattle.std.proofs.lemmas.Bool.{cases_Bool, eqb-true, ne_eqb, cases_lt, cond-true, lt-ltb}
@@ -34,7 +35,8 @@ kept_none n fits = record {
   fits = omega (arith, length-replicate {A = ℕ} n 0);
 }
 
-pub kept_count : (area : List Bool) (counts : List ℕ) (swapped : List Bool) (reserved in_use slot count : ℕ) → IsKeptAnonSlots area counts swapped reserved in_use → 0 < get_or counts slot 0 → 0 < count → IsKeptAnonSlots area (set counts slot count) swapped reserved in_use
+pub kept_count : (area : List Bool) (counts : List ℕ) (swapped : List Bool) (reserved in_use slot count : ℕ)
+    → IsKeptAnonSlots area counts swapped reserved in_use → 0 < get_or counts slot 0 → 0 < count → IsKeptAnonSlots area (set counts slot count) swapped reserved in_use
 kept_count area counts swapped reserved in_use slot count kept used some =
     let within : slot < length counts = within_from counts slot used in
     let before : is_used (get_or counts slot 0) ≡ true = used_from (get_or counts slot 0) used in
@@ -50,7 +52,8 @@ kept_count area counts swapped reserved in_use slot count kept used some =
       fits = omega (arith, kept.fits, length-set counts slot count);
     }
 
-pub kept_dropped : (area : List Bool) (counts : List ℕ) (swapped : List Bool) (reserved in_use slot : ℕ) → IsKeptAnonSlots area counts swapped reserved in_use → 0 < get_or counts slot 0 → IsKeptAnonSlots (set area slot false) (set counts slot 0) swapped reserved (in_use - 1)
+pub kept_dropped : (area : List Bool) (counts : List ℕ) (swapped : List Bool) (reserved in_use slot : ℕ) → IsKeptAnonSlots area counts swapped reserved in_use
+    → 0 < get_or counts slot 0 → IsKeptAnonSlots (set area slot false) (set counts slot 0) swapped reserved (in_use - 1)
 kept_dropped area counts swapped reserved in_use slot kept used =
     let within : slot < length counts = within_from counts slot used in
     let before : weight (get_or counts slot 0) ≡ 1 = ap (λ (b : Bool). cond b 1 0) (used_from (get_or counts slot 0) used) in
@@ -63,7 +66,9 @@ kept_dropped area counts swapped reserved in_use slot kept used =
       fits = omega (arith, kept.fits, length-set counts slot 0);
     }
 
-pub kept_made : (area : List Bool) (counts : List ℕ) (swapped : List Bool) (reserved in_use slot count : ℕ) (mark : Bool) → IsKeptAnonSlots area counts swapped reserved in_use → slot < length counts → get_or counts slot 0 ≡ 0 → in_use < reserved → 0 < count → IsKeptAnonSlots (set area slot true) (set counts slot count) (set swapped slot mark) reserved (in_use + 1)
+pub kept_made : (area : List Bool) (counts : List ℕ) (swapped : List Bool) (reserved in_use slot count : ℕ) (mark : Bool)
+    → IsKeptAnonSlots area counts swapped reserved in_use → slot < length counts → get_or counts slot 0 ≡ 0 → in_use < reserved → 0 < count
+    → IsKeptAnonSlots (set area slot true) (set counts slot count) (set swapped slot mark) reserved (in_use + 1)
 kept_made area counts swapped reserved in_use slot count mark kept within unused room some =
     let before : weight (get_or counts slot 0) ≡ 0 = ap weight unused in
     let after : weight count ≡ 1 = ap (λ (b : Bool). cond b 1 0) (used_from count some) in
@@ -97,7 +102,8 @@ pub area_first : (area : List Bool) (counts : List ℕ) → area ≡ map is_used
 area_first area counts marked = ap (λ (l : List Bool). position not l) marked ∙ first_unused counts
 
 -- where fewer are in use than there are, one isn't
-unused_step : (count first more : ℕ) (counts : List ℕ) → weight count + more < suc (length counts) → (more < length counts → first < length counts) → cond (not (count == 0)) (1 + first) 0 < suc (length counts)
+unused_step : (count first more : ℕ) (counts : List ℕ) → weight count + more < suc (length counts) → (more < length counts → first < length counts)
+    → cond (not (count == 0)) (1 + first) 0 < suc (length counts)
 unused_step count first more counts few rest =
     ⊎_elim
     (λ zero_count. rw zero_count (omega arith))
@@ -117,15 +123,6 @@ pub unused_at : (counts : List ℕ) (slot : ℕ) → position (λ count. count =
 unused_at counts slot first =
     let at = position-Some (λ count. count == 0) counts slot 0 first in
     (at.0, eqb-true (get_or counts slot 0) 0 at.1)
-
--- what a caller sees of what is kept
-pub seen_sound : (area : List Bool) (counts : List ℕ) (swapped : List Bool) (reserved in_use : ℕ) → IsKeptAnonSlots area counts swapped reserved in_use → IsSoundAnonSlots (record { counts = counts; swapped = swapped; reserved = reserved })
-seen_sound area counts swapped reserved in_use kept = record {
-  lengths = kept.lengths;
-  used = omega (arith, kept.counted, kept.used);
-  reserved = kept.within;
-  fits = kept.fits;
-}
 
 pub used_made : (counts : List ℕ) (slot : ℕ) → slot < length counts → get_or counts slot 0 ≡ 0 → count_by is_used (set counts slot 1) ≡ count_by is_used counts + 1
 used_made counts slot within unused =

@@ -21,7 +21,8 @@ torn_fits old new o n at =
           let same : get_or (torn_block old new) at 0 ≡ get_or new at 0 = get_or_append_left (take 2048 new) (drop 2048 old) 0 at inside ∙ get_or-take 2048 new at 0 below in
           omega (arith, same, n.1 at)
       | inr above ↦
-          let same : get_or (torn_block old new) at 0 ≡ get_or old (2048 + (at - 2048)) 0 = get_or-append_right (take 2048 new) (drop 2048 old) 2048 at 0 (half_length new n.0) above ∙ get_or-drop 2048 old (at - 2048) 0 in
+          let same : get_or (torn_block old new) at 0 ≡ get_or old (2048 + (at - 2048)) 0 = get_or-append_right (take 2048 new) (drop 2048 old) 2048 at 0
+          (half_length new n.0) above ∙ get_or-drop 2048 old (at - 2048) 0 in
           omega (arith, same, o.1 (2048 + (at - 2048)))
     ]
 
@@ -52,7 +53,9 @@ abbrev pub disk_with : List (List ℕ) → CallsSeen → ℕ → ℕ → MemDisk
 disk_with blocks calls reads writes = record { blocks = blocks; calls = calls; reads = reads; writes = writes }
 
 -- What was written and counted is what `after_write` says.
-pub written_as : (d : MemDiskSeen) (failed fails : Bool) (at : ℕ) (from put : List ℕ) (blocks : List (List ℕ)) (calls : CallsSeen) (writes : ℕ) → blocks ≡ set d.blocks at put → put ≡ (if failed then torn_block (get_or d.blocks at []) from else from) → calls ≡ after_call d.calls fails → fails ≡ failed → writes ≡ one_more d.writes → disk_with blocks calls d.reads writes ≡ after_write d failed at from
+pub written_as : (d : MemDiskSeen) (failed fails : Bool) (at : ℕ) (from put : List ℕ) (blocks : List (List ℕ)) (calls : CallsSeen) (writes : ℕ)
+    → blocks ≡ set d.blocks at put → put ≡ (if failed then torn_block (get_or d.blocks at []) from else from) → calls ≡ after_call d.calls fails
+    → fails ≡ failed → writes ≡ one_more d.writes → disk_with blocks calls d.reads writes ≡ after_write d failed at from
 written_as d failed fails at from put blocks calls writes b p c f w =
     ap (λ (all : List (List ℕ)). disk_with all calls d.reads writes) (b ∙ ap (set d.blocks at) p)
     ∙ ap (λ (c : CallsSeen). disk_with (set d.blocks at (if failed then torn_block (get_or d.blocks at []) from else from)) c d.reads writes) (c ∙ ap (after_call d.calls) f)

@@ -10,22 +10,6 @@ pub came_on : (x y z : Option (List ℕ)) (a b : List ℕ) → Came x a y → Ca
 came_on x y None a b one two = one ∙ ap (option_map (λ rest. a ++ rest)) two
 came_on x y (Some z) a b one two = one ∙ ap (option_map (λ rest. a ++ rest)) two ∙ ap (λ t. Some t) (sym (append_assoc a b z))
 
--- Nothing was taken.
-pub came_none : (x y : Option (List ℕ)) → y ≡ x → Came x [] y
-came_none x None same = sym same
-came_none x (Some y) same = sym same
-
--- What came into the front of a buffer came into the buffer.
-pub gives_front : (old new : SourceSeen) (part more : List ℕ) (count : ℕ) → 0 < length part → Gives old new part count → Gives old new (part ++ more) count
-gives_front old new part more count some g =
-    let fits : count ≤ length (part ++ more) = omega (arith, g.fits, length-append part more) in
-    let P : List ℕ → Type 0 = λ bytes. Came old.rest bytes new.rest in
-    record {
-      fits = fits;
-      came = subst P (sym (take-append-le count part more g.fits)) g.came;
-      end = λ _ none. g.end some none;
-    }
-
 pub text_with_more-text_with_more : (text : Option (List ℕ)) (a b : List ℕ) → text_with_more (text_with_more text a) b ≡ text_with_more text (a ++ b)
 text_with_more-text_with_more None a b = refl
 text_with_more-text_with_more (Some t) a b = ap (λ x. Some x) (append_assoc t a b)

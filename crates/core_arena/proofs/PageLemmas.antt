@@ -48,7 +48,8 @@ found p (x ∷ more) (suc i) page d are home e =
     (let lt = r.0 in omega (arith, lt), subst (λ (q : Ptr). IsPageAt q (Some page)) (moved-on p i) r.1, r.2)
 
 -- one more page of zeros
-pub zeros-more : (pages : List Place) (n : ℕ) (page : Stretch) → pages_seen pages ≡ replicate n (Some zeros) → page.bytes ≡ zeros → pages_seen (pages ++ Some page ∷ []) ≡ replicate (n + 1) (Some zeros)
+pub zeros-more : (pages : List Place) (n : ℕ) (page : Stretch) → pages_seen pages ≡ replicate n (Some zeros) → page.bytes ≡ zeros
+    → pages_seen (pages ++ Some page ∷ []) ≡ replicate (n + 1) (Some zeros)
 zeros-more pages n page so_far zero_page =
     map-append bytes_of pages (Some page ∷ [])
     ∙ ap (λ (seen : List (Option (List ℕ))). seen ++ Some page.bytes ∷ []) so_far
@@ -128,7 +129,8 @@ sound-set base frames pages rest i place sound at = record {
 
 -- what is seen once the bytes of a page were lent and written
 pub seen-overwritten : (pages : List Place) (i : ℕ) (page : Stretch) (w : List ℕ) → bytes_at (pages_seen pages) i ≡ Some page.bytes
-    → pages_seen (slice_set pages i (Some (record { at = page.at; bytes = slice_after_write page.bytes w }))) ≡ slice_set (pages_seen pages) i (option_map (λ (bytes : List ℕ). slice_after_write bytes w) (bytes_at (pages_seen pages) i))
+    → pages_seen (slice_set pages i (Some (record { at = page.at; bytes = slice_after_write page.bytes w }))) ≡ slice_set (pages_seen pages) i
+    (option_map (λ (bytes : List ℕ). slice_after_write bytes w) (bytes_at (pages_seen pages) i))
 seen-overwritten pages i page w at =
     map-set bytes_of pages i (Some (record { at = page.at; bytes = slice_after_write page.bytes w }))
     ∙ ap (λ (o : Option (List ℕ)). slice_set (pages_seen pages) i (option_map (λ (bytes : List ℕ). slice_after_write bytes w) o)) (sym at)

@@ -15,7 +15,8 @@ use Rattle.std_alloc.specs.contracts.vec.Vec as V
 use Rattle.core_arena.specs.contracts.region.Shell as Shell
 
 module _ (P : RattleType) (g : Ghosts P.Denot) {M : Type 1} {𝓤 : Ura M} (𝓛 : Logic 𝓤) (v : Vec ℕ P.Denot) (u : Val) where
-  pub carve : 0 < v.len → ent 𝓤 (sem 𝓛 ((V.the_row u8 P g).own_val v (u ∷ []))) (sep 𝓤 (sem 𝓛 (vec_owns_bytes v.ptr v.items)) (sem 𝓛 (Shell.the_own P g (record { at = v.ptr; len = v.len }) (one u ∷ []))))
+  pub carve : 0 < v.len → ent 𝓤 (sem 𝓛 ((V.the_row u8 P g).own_val v (u ∷ [])))
+      (sep 𝓤 (sem 𝓛 (vec_owns_bytes v.ptr v.items)) (sem 𝓛 (Shell.the_own P g (record { at = v.ptr; len = v.len }) (one u ∷ []))))
   carve some =
       let live : has_block v.cap ≡ true = not_from_false _ (ne_eqb v.cap 0 (λ e. omega (arith, v.ok.1))) in
       let t = g.dealloc_token v.alloc in
@@ -27,7 +28,8 @@ module _ (P : RattleType) (g : Ghosts P.Denot) {M : Type 1} {𝓤 : Ura M} (𝓛
       rewrite ! 0 (λ y. ‵ (owns_if y (Blk (block_ptr b o) v.items))) live refl $ rewrite ! 0 (λ p. ‵ (Blk p v.items)) (sym at) refl $ fsplit ! $
       rewrite ! 0 (λ n. ‵ (lies_at (Array u8 n) full_share v.ptr v.items)) v.ok.0 refl $ frame ! $
       -- [the spare room and the right to free; the bound; the fields]
-      show ! (λ i. sem 𝓛 (fsep (feq ℕ i.vec.len v.len) (fall (List ℕ) (λ ys. fwand (Given ys) ((plainly (V.the_row u8 P g ∷ [])).own_val (with_items i.vec ys, tt) (one u ∷ [])))))) (record { vec = v }) $
+      show ! (λ i. sem 𝓛 (fsep (feq ℕ i.vec.len v.len) (fall (List ℕ)
+      (λ ys. fwand (Given ys) ((plainly (V.the_row u8 P g ∷ [])).own_val (with_items i.vec ys, tt) (one u ∷ [])))))) (record { vec = v }) $
       feq_i ! ℕ v.len v.len refl $ frame ! $ each ! (λ ys. wand 𝓤 (sem 𝓛 (Given ys)) (sem 𝓛 (Whole ys))) (λ ys. assume ! (‵ (Given ys)) $ fsplit ! $ feq_l ! (λ long.
       rewrite ! 0 (λ n. ‵ (lies_at (Array u8 n) full_share v.ptr ys)) long refl $ fjoin ! $
       rewrite ! 0 (λ xs. ‵ (Blk v.ptr xs)) (sym (with_items_is v ys long)) refl $

@@ -39,9 +39,11 @@ places-are next n None (x ∷ xs) c le = let z : None ≡ Some x = c.0 in cc
 places-are next zero (Some p) (x ∷ xs) c le = absurd (omega arith)
 places-are next (suc n) (Some p) (x ∷ xs) c le =
     let q : x ≡ p = (let z : Some p ≡ Some x = c.0 in cc) in
-    ap (λ (k : ℕ). k ∷ places_from next n (get_or next p None)) (sym q) ∙ ap (λ (l : List ℕ). x ∷ l) (places-are next n (get_or next p None) xs (subst (λ (k : ℕ). LeadsOver next (get_or next k None) xs) q c.2) (omega arith))
+    ap (λ (k : ℕ). k ∷ places_from next n (get_or next p None)) (sym q)
+    ∙ ap (λ (l : List ℕ). x ∷ l) (places-are next n (get_or next p None) xs (subst (λ (k : ℕ). LeadsOver next (get_or next k None) xs) q c.2) (omega arith))
 
-order-is : (next : List (Option ℕ)) (heads : List (Option ℕ)) (order : List (List ℕ)) → length order ≡ length heads → ((c : ℕ) → LeadsOver next (get_or heads c None) (chain_at order c)) → ((c : ℕ) → IsDistinct (λ (x y : ℕ). x == y) (chain_at order c)) → order_of heads next ≡ order
+order-is : (next : List (Option ℕ)) (heads : List (Option ℕ)) (order : List (List ℕ)) → length order ≡ length heads
+    → ((c : ℕ) → LeadsOver next (get_or heads c None) (chain_at order c)) → ((c : ℕ) → IsDistinct (λ (x y : ℕ). x == y) (chain_at order c)) → order_of heads next ≡ order
 order-is next [] [] n l d = refl
 order-is next [] (x ∷ xs) n l d = absurd (omega arith)
 order-is next (h ∷ hs) [] n l d = absurd (omega arith)
@@ -75,7 +77,8 @@ chain-kept next k to from (p ∷ ps) off c =
     let n = length-set next k to in (
       c.0,
       (let lt = c.1 in omega arith),
-      subst (λ (o : Option ℕ). LeadsOver (set next k to) o ps) (sym (get_or-set_other next k p to None (λ q. eqb-false k p parts.0 (sym q)))) (chain-kept next k to (get_or next p None) ps parts.1 c.2),
+      subst (λ (o : Option ℕ). LeadsOver (set next k to) o ps) (sym (get_or-set_other next k p to None (λ q. eqb-false k p parts.0 (sym q))))
+          (chain-kept next k to (get_or next p None) ps parts.1 c.2),
     )
 
 pub differs-all : (p : ℕ) (xs : List ℕ) → is_among p xs ≡ false → AllByRecursion (λ y. (p == y) ≡ false) xs
@@ -104,14 +107,19 @@ without-off : (place : ℕ) (xs : List ℕ) → is_among place xs ≡ false → 
 without-off place [] off = refl
 without-off place (x ∷ xs) off =
     let parts = or_parts (place == x) (is_among place xs) off in
-    ap (λ (b : Bool). cond (not b) (x ∷ without_place place xs) (without_place place xs)) (ne_eqb x place (λ q. eqb-false place x parts.0 (sym q))) ∙ ap (λ (l : List ℕ). x ∷ l) (without-off place xs parts.1)
+    ap (λ (b : Bool). cond (not b) (x ∷ without_place place xs) (without_place place xs)) (ne_eqb x place (λ q. eqb-false place x parts.0 (sym q)))
+    ∙ ap (λ (l : List ℕ). x ∷ l) (without-off place xs parts.1)
 
 distinct-without : (place : ℕ) (xs : List ℕ) → IsDistinct (λ (x y : ℕ). x == y) xs → IsDistinct (λ (x y : ℕ). x == y) (without_place place xs)
 unfolding IsDistinct
 distinct-without place [] d = tt
 distinct-without place (x ∷ xs) d = elim (x == place) as (λ b. IsDistinct (λ (x y : ℕ). x == y) (cond (not b) (x ∷ without_place place xs) (without_place place xs))) [
   | true ↦ distinct-without place xs d.1
-  | false ↦ (differs-all x (without_place place xs) (elim (cases_Bool (is_among x (without_place place xs))) [ inl t ↦ (let z : true ≡ false = sym (still-among x place xs t) ∙ all-differs x xs d.0 in cc) | inr f ↦ f ]), distinct-without place xs d.1)
+  | false ↦ (
+    differs-all x (without_place place xs) (elim
+        (cases_Bool (is_among x (without_place place xs))) [ inl t ↦ (let z : true ≡ false = sym (still-among x place xs t) ∙ all-differs x xs d.0 in cc) | inr f ↦ f ]),
+    distinct-without place xs d.1,
+  )
 ]
 
 before-among : (before : Option ℕ) (place : ℕ) (xs : List ℕ) (p : ℕ) → before_in before place xs ≡ Some p → (before ≡ Some p) ⊎ (is_among p xs ≡ true)
@@ -136,7 +144,8 @@ after-is next from (x ∷ xs) p c h = elim (cases_Bool (x == p)) [
 ]
 
 -- where the link to a place leads past it, the chain goes on without the place
-past : (next : List (Option ℕ)) (place p x : ℕ) (xs : List ℕ) (from : Option ℕ) → LeadsOver next from (x ∷ xs) → IsDistinct (λ (x y : ℕ). x == y) (x ∷ xs) → is_among place xs ≡ true → before_in (Some x) place xs ≡ Some p → LeadsOver (set next p (get_or next place None)) from (x ∷ without_place place xs)
+past : (next : List (Option ℕ)) (place p x : ℕ) (xs : List ℕ) (from : Option ℕ) → LeadsOver next from (x ∷ xs) → IsDistinct (λ (x y : ℕ). x == y) (x ∷ xs)
+    → is_among place xs ≡ true → before_in (Some x) place xs ≡ Some p → LeadsOver (set next p (get_or next place None)) from (x ∷ without_place place xs)
 unfolding IsDistinct
 past next place p x [] from c d on b = let z : false ≡ true = on in cc
 past next place p x (y ∷ ys) from c d on b =
@@ -146,7 +155,8 @@ past next place p x (y ∷ ys) from c d on b =
       | inl t ↦
           let q : x ≡ p = (let z : Some x ≡ Some p = sym (ap (λ (b : Bool). cond b (Some x) (before_in (Some y) place ys)) t) ∙ b in cc) in
           let e = eqb-true y place t in
-          let rest : without_place place (y ∷ ys) ≡ ys = ap (λ (b : Bool). cond (not b) (y ∷ without_place place ys) (without_place place ys)) t ∙ without-off place ys (subst (λ (k : ℕ). is_among k ys ≡ false) e (all-differs y ys d.1.0)) in (
+          let rest : without_place place (y ∷ ys) ≡ ys = ap (λ (b : Bool). cond (not b) (y ∷ without_place place ys) (without_place place ys)) t
+          ∙ without-off place ys (subst (λ (k : ℕ). is_among k ys ≡ false) e (all-differs y ys d.1.0)) in (
             c.0,
             (let lt = c.1 in omega arith),
             subst (λ (l : List ℕ). LeadsOver (set next p (get_or next place None)) (get_or (set next p (get_or next place None)) x None) l) (sym rest)
@@ -160,8 +170,10 @@ past next place p x (y ∷ ys) from c d on b =
           let on' = among-tail place y ys f on in (
             c.0,
             (let lt = c.1 in omega arith),
-            subst (λ (l : List ℕ). LeadsOver (set next p (get_or next place None)) (get_or (set next p (get_or next place None)) x None) l) (sym (ap (λ (b : Bool). cond (not b) (y ∷ without_place place ys) (without_place place ys)) f))
-                (subst (λ (o : Option ℕ). LeadsOver (set next p (get_or next place None)) o (y ∷ without_place place ys)) (sym (get_or-set_other next p x (get_or next place None) None ne)) (past next place p y ys (get_or next x None) c.2 d.1 on' b')),
+            subst (λ (l : List ℕ). LeadsOver (set next p (get_or next place None)) (get_or (set next p (get_or next place None)) x None) l)
+                (sym (ap (λ (b : Bool). cond (not b) (y ∷ without_place place ys) (without_place place ys)) f))
+                (subst (λ (o : Option ℕ). LeadsOver (set next p (get_or next place None)) o (y ∷ without_place place ys))
+                (sym (get_or-set_other next p x (get_or next place None) None ne)) (past next place p y ys (get_or next x None) c.2 d.1 on' b')),
           )
     ]
   where
@@ -177,22 +189,26 @@ some-before x place (y ∷ ys) on b = elim (cases_Bool (y == place)) [
 ]
 
 -- the chain that a place is taken off
-led-past : (next : List (Option ℕ)) (place : ℕ) (from before : Option ℕ) (xs : List ℕ) → LeadsOver next from xs → IsDistinct (λ (x y : ℕ). x == y) xs → is_among place xs ≡ true → before_in None place xs ≡ before → LeadsOver (next_led before next (get_or next place None)) (start_led before from (get_or next place None)) (without_place place xs)
+led-past : (next : List (Option ℕ)) (place : ℕ) (from before : Option ℕ) (xs : List ℕ) → LeadsOver next from xs → IsDistinct (λ (x y : ℕ). x == y) xs
+    → is_among place xs ≡ true → before_in None place xs ≡ before → LeadsOver (next_led before next (get_or next place None)) (start_led before from (get_or next place None)) (without_place place xs)
 unfolding IsDistinct
 led-past next place from before [] c d on b = let z : false ≡ true = on in cc
 led-past next place from before (x ∷ xs) c d on b = elim (cases_Bool (x == place)) [
   | inl t ↦
       let e = eqb-true x place t in
       rw (sym (sym (ap (λ (b : Bool). cond b None (before_in (Some x) place xs)) t) ∙ b)) (
-      subst (λ (l : List ℕ). LeadsOver next (get_or next place None) l) (sym (ap (λ (b : Bool). cond (not b) (x ∷ without_place place xs) (without_place place xs)) t ∙ without-off place xs (subst (λ (k : ℕ). is_among k xs ≡ false) e (all-differs x xs d.0))))
+      subst (λ (l : List ℕ). LeadsOver next (get_or next place None) l)
+      (sym (ap (λ (b : Bool). cond (not b) (x ∷ without_place place xs) (without_place place xs)) t ∙ without-off place xs (subst (λ (k : ℕ). is_among k xs ≡ false) e (all-differs x xs d.0))))
       (subst (λ (k : ℕ). LeadsOver next (get_or next k None) xs) e c.2))
   | inr f ↦
       let b' = sym (ap (λ (b : Bool). cond b None (before_in (Some x) place xs)) f) ∙ b in
       let on' = among-tail place x xs f on in
-      subst (λ (l : List ℕ). LeadsOver (next_led before next (get_or next place None)) (start_led before from (get_or next place None)) l) (sym (ap (λ (b : Bool). cond (not b) (x ∷ without_place place xs) (without_place place xs)) f)) (go before b' on')
+      subst (λ (l : List ℕ). LeadsOver (next_led before next (get_or next place None)) (start_led before from (get_or next place None)) l)
+      (sym (ap (λ (b : Bool). cond (not b) (x ∷ without_place place xs) (without_place place xs)) f)) (go before b' on')
 ]
   where
-    go : (before : Option ℕ) → before_in (Some x) place xs ≡ before → is_among place xs ≡ true → LeadsOver (next_led before next (get_or next place None)) (start_led before from (get_or next place None)) (x ∷ without_place place xs)
+    go : (before : Option ℕ) → before_in (Some x) place xs ≡ before → is_among place xs ≡ true
+        → LeadsOver (next_led before next (get_or next place None)) (start_led before from (get_or next place None)) (x ∷ without_place place xs)
     go None b on = absurd (some-before x place xs on b)
     go (Some p) b on = past next place p x xs from c d on b
 
@@ -201,10 +217,12 @@ module _ (heads next : List (Option ℕ)) (order : List (List ℕ)) (place chain
   module _ (in_heads : chain < length order) (lt : place < length next) (off : (c : ℕ) → is_among place (chain_at order c) ≡ false) where
     from-in : (c k : ℕ) → is_among k (chain_at (set order chain (place ∷ chain_at order chain)) c) ≡ true → ((k ≡ place) × (c ≡ chain)) ⊎ (is_among k (chain_at order c) ≡ true)
     from-in c k h = elim (cases_eq c chain) [
-      | inl q ↦ elim (or_cases (k == place) (is_among k (chain_at order chain)) (ap (is_among k) (sym (get_or-set_same order chain (place ∷ chain_at order chain) [] in_heads)) ∙ subst (λ (c : ℕ). is_among k (chain_at (set order chain (place ∷ chain_at order chain)) c) ≡ true) q h)) [
-        | inl t ↦ inl (eqb-true k place t, q)
-        | inr t ↦ inr (ap (λ (c : ℕ). is_among k (chain_at order c)) q ∙ t)
-      ]
+      | inl q ↦ elim (or_cases (k == place) (is_among k (chain_at order chain))
+          (ap (is_among k) (sym (get_or-set_same order chain (place ∷ chain_at order chain) [] in_heads))
+          ∙ subst (λ (c : ℕ). is_among k (chain_at (set order chain (place ∷ chain_at order chain)) c) ≡ true) q h)) [
+            | inl t ↦ inl (eqb-true k place t, q)
+            | inr t ↦ inr (ap (λ (c : ℕ). is_among k (chain_at order c)) q ∙ t)
+          ]
       | inr ne ↦ inr (ap (is_among k) (sym (get_or-set_other order chain c (place ∷ chain_at order chain) [] ne)) ∙ h)
     ]
 
@@ -225,9 +243,11 @@ module _ (heads next : List (Option ℕ)) (order : List (List ℕ)) (place chain
             | inl q ↦ rw q (rw (get_or-set_same order chain (place ∷ chain_at order chain) [] in_heads) (
               get_or-set_same heads chain (Some place) None in_,
               (omega arith),
-              rw (get_or-set_same next place (get_or heads chain None) None lt) (chain-kept next place (get_or heads chain None) (get_or heads chain None) (chain_at order chain) (off chain) (l.leads chain)),
+              rw (get_or-set_same next place (get_or heads chain None) None lt)
+                  (chain-kept next place (get_or heads chain None) (get_or heads chain None) (chain_at order chain) (off chain) (l.leads chain)),
             ))
-            | inr ne ↦ rw (get_or-set_other order chain c (place ∷ chain_at order chain) [] ne) (rw (get_or-set_other heads chain c (Some place) None ne) (chain-kept next place (get_or heads chain None) (get_or heads c None) (chain_at order c) (off c) (l.leads c)))
+            | inr ne ↦ rw (get_or-set_other order chain c (place ∷ chain_at order chain) [] ne)
+                (rw (get_or-set_other heads chain c (Some place) None ne) (chain-kept next place (get_or heads chain None) (get_or heads c None) (chain_at order c) (off c) (l.leads c)))
           ];
           apart = record {
             once = λ c. elim (cases_eq c chain) [
@@ -245,16 +265,21 @@ module _ (heads next : List (Option ℕ)) (order : List (List ℕ)) (place chain
 
     from-out : (c k : ℕ) → is_among k (chain_at (set order chain (without_place place (chain_at order chain))) c) ≡ true → is_among k (chain_at order c) ≡ true
     from-out c k h = elim (cases_eq c chain) [
-      | inl q ↦ rw q (still-among k place (chain_at order chain) (ap (is_among k) (sym (get_or-set_same order chain (without_place place (chain_at order chain)) [] in_order)) ∙ subst (λ (c : ℕ). is_among k (chain_at (set order chain (without_place place (chain_at order chain))) c) ≡ true) q h))
+      | inl q ↦ rw q (still-among k place (chain_at order chain) (ap (is_among k)
+          (sym (get_or-set_same order chain (without_place place (chain_at order chain)) [] in_order))
+          ∙ subst (λ (c : ℕ). is_among k (chain_at (set order chain (without_place place (chain_at order chain))) c) ≡ true) q h))
       | inr ne ↦ ap (is_among k) (sym (get_or-set_other order chain c (without_place place (chain_at order chain)) [] ne)) ∙ h
     ]
 
     pub before-on : (p : ℕ) → before_in None place (chain_at order chain) ≡ Some p → is_among p (chain_at order chain) ≡ true
     before-on p b = elim (before-among None place (chain_at order chain) p b) [ inl q ↦ (let z : None ≡ Some p = q in cc) | inr h ↦ h ]
 
-    leads-out : (before : Option ℕ) → before_in None place (chain_at order chain) ≡ before → (c : ℕ) → LeadsOver (next_led before next (get_or next place None)) (get_or (heads_led before heads chain (get_or next place None)) c None) (chain_at (set order chain (without_place place (chain_at order chain))) c)
+    leads-out : (before : Option ℕ) → before_in None place (chain_at order chain) ≡ before → (c : ℕ)
+        → LeadsOver (next_led before next (get_or next place None)) (get_or (heads_led before heads chain (get_or next place None)) c None)
+        (chain_at (set order chain (without_place place (chain_at order chain))) c)
     leads-out before b c = elim (cases_eq c chain) [
-      | inl q ↦ rw q (rw (get_or-set_same order chain (without_place place (chain_at order chain)) [] in_order) (rw (here before) (led-past next place (get_or heads chain None) before (chain_at order chain) (l.leads chain) (l.apart.once chain) on b)))
+      | inl q ↦ rw q (rw (get_or-set_same order chain (without_place place (chain_at order chain)) [] in_order)
+          (rw (here before) (led-past next place (get_or heads chain None) before (chain_at order chain) (l.leads chain) (l.apart.once chain) on b)))
       | inr ne ↦ rw (get_or-set_other order chain c (without_place place (chain_at order chain)) [] ne) (rw (there before ne) (kept before b ne))
     ]
       where
@@ -266,14 +291,16 @@ module _ (heads next : List (Option ℕ)) (order : List (List ℕ)) (place chain
         there None ne = get_or-set_other heads chain c (get_or next place None) None ne
         there (Some p) ne = refl
 
-        kept : (before : Option ℕ) → before_in None place (chain_at order chain) ≡ before → c ≢ chain → LeadsOver (next_led before next (get_or next place None)) (get_or heads c None) (chain_at order c)
+        kept : (before : Option ℕ) → before_in None place (chain_at order chain) ≡ before → c ≢ chain
+            → LeadsOver (next_led before next (get_or next place None)) (get_or heads c None) (chain_at order c)
         kept None b ne = l.leads c
         kept (Some p) b ne = chain-kept next p (get_or next place None) (get_or heads c None) (chain_at order c) (elim (cases_Bool (is_among p (chain_at order c))) [
           | inl t ↦ absurd (ne (l.apart.one c chain p t (before-on p b)))
           | inr f ↦ f
         ]) (l.leads c)
 
-    pub linked-out : AreSoundChains (heads_led (before_in None place (chain_at order chain)) heads chain (get_or next place None)) (next_led (before_in None place (chain_at order chain)) next (get_or next place None)) (set order chain (without_place place (chain_at order chain)))
+    pub linked-out : AreSoundChains (heads_led (before_in None place (chain_at order chain)) heads chain (get_or next place None))
+        (next_led (before_in None place (chain_at order chain)) next (get_or next place None)) (set order chain (without_place place (chain_at order chain)))
     linked-out = record {
       lengths = length-set order chain (without_place place (chain_at order chain)) ∙ l.lengths ∙ sym (heads-length (before_in None place (chain_at order chain)));
       leads = leads-out (before_in None place (chain_at order chain)) refl;
@@ -289,7 +316,3 @@ module _ (heads next : List (Option ℕ)) (order : List (List ℕ)) (place chain
         heads-length : (before : Option ℕ) → length (heads_led before heads chain (get_or next place None)) ≡ length heads
         heads-length None = length-set heads chain (get_or next place None)
         heads-length (Some p) = refl
-
-pub next-length : (before : Option ℕ) (next : List (Option ℕ)) (to : Option ℕ) → length (next_led before next to) ≡ length next
-next-length None next to = refl
-next-length (Some p) next to = length-set next p to

@@ -31,7 +31,8 @@ module _ (order : List (List ℕ)) (owners : List (Option ℕ)) (h : HaveOwners 
   pub free-off : (place : ℕ) → owner_at owners place ≡ None → (chain : ℕ) → is_among place (chain_at order chain) ≡ false
   free-off place is chain = h chain place ∙ ap (is_owner chain) is
 
-  pub owners-linked : (place chain : ℕ) → chain < length order → place < length owners → owner_at owners place ≡ None → HaveOwners (set order chain (place ∷ chain_at order chain)) (set owners place (Some chain))
+  pub owners-linked : (place chain : ℕ) → chain < length order → place < length owners → owner_at owners place ≡ None
+      → HaveOwners (set order chain (place ∷ chain_at order chain)) (set owners place (Some chain))
   owners-linked place chain in_order within free c k = elim (cases_eq c chain) [
     | inl q ↦ rw q (rw (get_or-set_same order chain (place ∷ chain_at order chain) [] in_order) (elim (cases_eq k place) [
       | inl r ↦ rw r (rw (get_or-set_same owners place (Some chain) None within) (ap (λ (b : Bool). b || is_among k (chain_at order chain)) (eq-eqb place place refl) ∙ sym (eq-eqb chain chain refl)))
@@ -43,12 +44,14 @@ module _ (order : List (List ℕ)) (owners : List (Option ℕ)) (h : HaveOwners 
     ])
   ]
 
-  pub owners-unlinked : (place chain : ℕ) → place < length owners → owner_at owners place ≡ Some chain → HaveOwners (set order chain (without_place place (chain_at order chain))) (set owners place None)
+  pub owners-unlinked : (place chain : ℕ) → place < length owners → owner_at owners place ≡ Some chain
+      → HaveOwners (set order chain (without_place place (chain_at order chain))) (set owners place None)
   owners-unlinked place chain within is c k = elim (cases_eq c chain) [
-    | inl q ↦ rw q (rw (get_or-set_same order chain (without_place place (chain_at order chain)) [] (in-range order chain place (owned-on chain place is))) (rw (among-without k place (chain_at order chain)) (elim (cases_eq k place) [
-      | inl r ↦ rw r (rw (get_or-set_same owners place None None within) (ap (λ (b : Bool). not b && is_among place (chain_at order chain)) (eq-eqb place place refl)))
-      | inr nr ↦ rw (get_or-set_other owners place k None None nr) (ap (λ (b : Bool). not b && is_among k (chain_at order chain)) (ne_eqb k place nr) ∙ h chain k)
-    ])))
+    | inl q ↦ rw q (rw (get_or-set_same order chain (without_place place (chain_at order chain)) [] (in-range order chain place (owned-on chain place is)))
+        (rw (among-without k place (chain_at order chain)) (elim (cases_eq k place) [
+          | inl r ↦ rw r (rw (get_or-set_same owners place None None within) (ap (λ (b : Bool). not b && is_among place (chain_at order chain)) (eq-eqb place place refl)))
+          | inr nr ↦ rw (get_or-set_other owners place k None None nr) (ap (λ (b : Bool). not b && is_among k (chain_at order chain)) (ne_eqb k place nr) ∙ h chain k)
+        ])))
     | inr ne ↦ rw (get_or-set_other order chain c (without_place place (chain_at order chain)) [] ne) (elim (cases_eq k place) [
       | inl r ↦ rw r (rw (get_or-set_same owners place None None within) (h c place ∙ ap (is_owner c) is ∙ ne_eqb chain c (λ q. ne (sym q))))
       | inr nr ↦ rw (get_or-set_other owners place k None None nr) (h c k)

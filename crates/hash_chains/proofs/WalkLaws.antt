@@ -37,11 +37,13 @@ unfolding IsDistinct
 walk-step [] p d h = let z : false ≡ true = h in cc
 walk-step (x ∷ xs) p d h = elim (cases_Bool (x == p)) [
   | inl t ↦ let e = ap (λ (b : Bool). cond b (first_in xs) (after_in p xs)) t in record {
-    is = ap (λ (b : Bool). cond b (x ∷ xs) (rest_from (Some p) xs)) t ∙ ap (λ (k : ℕ). k ∷ xs) (eqb-true x p t) ∙ ap (λ (l : List ℕ). p ∷ l) (sym (ap (λ (a : Option ℕ). rest_from a (x ∷ xs)) e ∙ skipped x xs (first_in xs) (all-differs x xs d.0) (walk-start xs) ∙ rest-first xs));
+    is = ap (λ (b : Bool). cond b (x ∷ xs) (rest_from (Some p) xs)) t ∙ ap (λ (k : ℕ). k ∷ xs) (eqb-true x p t)
+        ∙ ap (λ (l : List ℕ). p ∷ l) (sym (ap (λ (a : Option ℕ). rest_from a (x ∷ xs)) e ∙ skipped x xs (first_in xs) (all-differs x xs d.0) (walk-start xs) ∙ rest-first xs));
     on = rw e (behind x xs (first_in xs) (walk-start xs));
   }
   | inr f ↦ let e = ap (λ (b : Bool). cond b (first_in xs) (after_in p xs)) f in let s = walk-step xs p d.1 (among-tail p x xs f h) in record {
-    is = ap (λ (b : Bool). cond b (x ∷ xs) (rest_from (Some p) xs)) f ∙ s.is ∙ ap (λ (l : List ℕ). p ∷ l) (sym (ap (λ (a : Option ℕ). rest_from a (x ∷ xs)) e ∙ skipped x xs (after_in p xs) (all-differs x xs d.0) s.on));
+    is = ap (λ (b : Bool). cond b (x ∷ xs) (rest_from (Some p) xs)) f ∙ s.is
+        ∙ ap (λ (l : List ℕ). p ∷ l) (sym (ap (λ (a : Option ℕ). rest_from a (x ∷ xs)) e ∙ skipped x xs (after_in p xs) (all-differs x xs d.0) s.on));
     on = rw e (behind x xs (after_in p xs) s.on);
   }
 ]
@@ -86,9 +88,11 @@ pub seek-start : (xs : List ℕ) (place : ℕ) → is_among place xs ≡ true �
 seek-start xs place h = record { on = walk-start xs; has = ap (is_among place) (rest-first xs) ∙ h; same = ap (before_in None place) (rest-first xs) }
 
 pub seek-found : (xs : List ℕ) (place : ℕ) (before : Option ℕ) → IsDistinct (λ (x y : ℕ). x == y) xs → Seeks xs place before (Some place) → before ≡ before_in None place xs
-seek-found xs place before d s = sym (ap (before_in before place) (walk-step xs place d s.on).is ∙ ap (λ (b : Bool). cond b before (before_in (Some place) place (rest_from (after_in place xs) xs))) (eq-eqb place place refl)) ∙ s.same
+seek-found xs place before d s = sym (ap (before_in before place) (walk-step xs place d s.on).is ∙ ap
+    (λ (b : Bool). cond b before (before_in (Some place) place (rest_from (after_in place xs) xs))) (eq-eqb place place refl)) ∙ s.same
 
-pub seek-step : (xs : List ℕ) (place other : ℕ) (before : Option ℕ) → IsDistinct (λ (x y : ℕ). x == y) xs → (other ≡ place → ⊥) → Seeks xs place before (Some other) → Seeks xs place (Some other) (after_in other xs)
+pub seek-step : (xs : List ℕ) (place other : ℕ) (before : Option ℕ) → IsDistinct (λ (x y : ℕ). x == y) xs → (other ≡ place → ⊥)
+    → Seeks xs place before (Some other) → Seeks xs place (Some other) (after_in other xs)
 seek-step xs place other before d ne s =
     let t = walk-step xs other d s.on in
     let differs = ne_eqb other place ne in

@@ -5,7 +5,8 @@ use Rattle.std.specs.List.{list_any}
 use Rattle.std.proofs.lemmas.Bool.{cases_Bool, and_parts, and_from, eqb-true, eq-eqb, or_cases, or_right}
 use Rattle.std.proofs.lemmas.List.Folds.{list_any_at}
 use Rattle.hat_layer.specs.declared.translation.Translation.{Translation}
-use Rattle.hat_layer.specs.Pool.{holds, is_of, translation_at, leads, IsSingleValued, change_page, drop_page, change_lead, drop_lead, change_at, drop_at, change_frame, drop_frame, has_bit, lets_access, after_access, IsNoted, SomeHas}
+use Rattle.hat_layer.specs.Pool.{holds, is_of, translation_at, leads, IsSingleValued, change_page, drop_page, change_lead, drop_lead, change_at, drop_at}
+use Rattle.hat_layer.specs.Pool.{change_frame, drop_frame, has_bit, lets_access, after_access, IsNoted, SomeHas}
 use Rattle.hash_chains.proofs.OwnerLaws.{some-within}
 use Rattle.hat_layer.proofs.HatLemmas.{at-held}
 
@@ -25,12 +26,14 @@ Stays G s p = (o : Option Translation) → (G o ≡ None) ⊎ (holds s p (G o) �
 missed : (G : Option Translation → Option Translation) (s p : ℕ) → Stays G s p → (o : Option Translation) → holds s p o ≡ false → holds s p (G o) ≡ false
 missed G s p stays o h = elim (stays o) [ inl none ↦ ap (λ (o : Option Translation). holds s p o) none | inr same ↦ same ∙ h ]
 
-none-mapped : (G : Option Translation → Option Translation) (os : List (Option Translation)) (s p : ℕ) → Stays G s p → ((k : ℕ) → holds s p (get_or os k None) ≡ false) → translation_at (map G os) s p ≡ None
+none-mapped : (G : Option Translation → Option Translation) (os : List (Option Translation)) (s p : ℕ) → Stays G s p
+    → ((k : ℕ) → holds s p (get_or os k None) ≡ false) → translation_at (map G os) s p ≡ None
 none-mapped G [] s p stays h = refl
 none-mapped G (o ∷ os) s p stays h = at-next (G o) (map G os) s p (missed G s p stays o (h zero)) ∙ none-mapped G os s p stays (λ k. h (suc k))
 
 -- what each place becomes, the entry of each page becomes
-pub at-mapped : (G : Option Translation → Option Translation) (places : List (Option Translation)) (s p : ℕ) → G None ≡ None → Stays G s p → IsSingleValued places → translation_at (map G places) s p ≡ G (translation_at places s p)
+pub at-mapped : (G : Option Translation → Option Translation) (places : List (Option Translation)) (s p : ℕ) → G None ≡ None → Stays G s p
+    → IsSingleValued places → translation_at (map G places) s p ≡ G (translation_at places s p)
 at-mapped G [] s p none stays d = sym none
 at-mapped G (o ∷ os) s p none stays d = elim (cases_Bool (holds s p o)) [
   | inl h ↦
@@ -43,13 +46,15 @@ at-mapped G (o ∷ os) s p none stays d = elim (cases_Bool (holds s p o)) [
         | inl empty ↦ at-next (G o) (map G os) s p (ap (λ (o : Option Translation). holds s p o) empty) ∙ none-mapped G os s p stays others ∙ sym (old ∙ empty)
         | inr same ↦ at-here (G o) (map G os) s p (same ∙ h) ∙ sym old
       ]
-  | inr h ↦ at-next (G o) (map G os) s p (missed G s p stays o h) ∙ at-mapped G os s p none stays (λ i j space page a b. let z : suc i ≡ suc j = d (suc i) (suc j) space page a b in omega arith) ∙ sym (ap G (at-next o os s p h))
+  | inr h ↦ at-next (G o) (map G os) s p (missed G s p stays o h) ∙ at-mapped G os s p none stays
+      (λ i j space page a b. let z : suc i ≡ suc j = d (suc i) (suc j) space page a b in omega arith) ∙ sym (ap G (at-next o os s p h))
 ]
 
 dropped-stays : (test : Option Translation → Bool) (s p : ℕ) → Stays (λ (o : Option Translation). cond (test o) None o) s p
 dropped-stays test s p o = elim (test o) as (λ b. (cond b None o ≡ None) ⊎ (holds s p (cond b None o) ≡ holds s p o)) [ true ↦ inl refl | false ↦ inr refl ]
 
-changed-stays : (test : Option Translation → Bool) (change : Translation → Translation) (s p : ℕ) → ((t : Translation) → is_of s p (change t) ≡ is_of s p t) → Stays (λ (o : Option Translation). cond (test o) (option_map change o) o) s p
+changed-stays : (test : Option Translation → Bool) (change : Translation → Translation) (s p : ℕ) → ((t : Translation) → is_of s p (change t) ≡ is_of s p t)
+    → Stays (λ (o : Option Translation). cond (test o) (option_map change o) o) s p
 changed-stays test change s p same None = inl (elim (test None) as (λ b. cond b (option_map change None) None ≡ None) [ true ↦ refl | false ↦ refl ])
 changed-stays test change s p same (Some t) = inr (elim (test (Some t)) as (λ b. holds s p (cond b (option_map change (Some t)) (Some t)) ≡ holds s p (Some t)) [ true ↦ same t | false ↦ refl ])
 
@@ -59,14 +64,19 @@ at-drop_frame places frame s p d = at-mapped (λ (o : Option Translation). drop_
 pub at-drop_at : (places : List (Option Translation)) (space page s p : ℕ) → IsSingleValued places → translation_at (drop_at space page places) s p ≡ drop_page space page (translation_at places s p)
 at-drop_at places space page s p d = at-mapped (λ (o : Option Translation). drop_page space page o) places s p refl (dropped-stays (λ (o : Option Translation). holds space page o) s p) d
 
-pub at-change_frame : (change : Translation → Translation) (places : List (Option Translation)) (frame s p : ℕ) → ((t : Translation) → is_of s p (change t) ≡ is_of s p t) → IsSingleValued places → translation_at (change_frame frame change places) s p ≡ change_lead frame change (translation_at places s p)
+pub at-change_frame : (change : Translation → Translation) (places : List (Option Translation)) (frame s p : ℕ)
+    → ((t : Translation) → is_of s p (change t) ≡ is_of s p t) → IsSingleValued places → translation_at (change_frame frame change places) s p ≡ change_lead frame change (translation_at places s p)
 at-change_frame change places frame s p same d = at-mapped (λ (o : Option Translation). change_lead frame change o) places s p refl (changed-stays (leads frame) change s p same) d
 
-pub at-change_at : (change : Translation → Translation) (places : List (Option Translation)) (space page s p : ℕ) → ((t : Translation) → is_of s p (change t) ≡ is_of s p t) → IsSingleValued places → translation_at (change_at space page change places) s p ≡ change_page space page change (translation_at places s p)
-at-change_at change places space page s p same d = at-mapped (λ (o : Option Translation). change_page space page change o) places s p refl (changed-stays (λ (o : Option Translation). holds space page o) change s p same) d
+pub at-change_at : (change : Translation → Translation) (places : List (Option Translation)) (space page s p : ℕ)
+    → ((t : Translation) → is_of s p (change t) ≡ is_of s p t) → IsSingleValued places
+    → translation_at (change_at space page change places) s p ≡ change_page space page change (translation_at places s p)
+at-change_at change places space page s p same d = at-mapped (λ (o : Option Translation). change_page space page change o) places s p refl
+    (changed-stays (λ (o : Option Translation). holds space page o) change s p same) d
 
 -- the entry of the page whose access was noted
-pub noted-access : (places after : List (Option Translation)) (space page : ℕ) (write : Bool) (t : Translation) → translation_at places space page ≡ Some t → is_of space page t ≡ true → lets_access write t ≡ true
+pub noted-access : (places after : List (Option Translation)) (space page : ℕ) (write : Bool) (t : Translation) → translation_at places space page ≡ Some t
+    → is_of space page t ≡ true → lets_access write t ≡ true
     → translation_at after space page ≡ change_page space page (after_access write) (translation_at places space page) → IsNoted after space page t.frame write
 noted-access places after space page write t is own lets changed = record {
   entry = after_access write t;
@@ -119,5 +129,6 @@ has-some bit places frame h =
     list_any_at (has_bit bit frame) places k.0 None (some-within places k.0 h.entry k.1)
     (ap (has_bit bit frame) k.1 ∙ and_from (h.entry.frame == frame) (bit h.entry) (eq-eqb h.entry.frame frame h.leads_there) h.set)
 
-pub bit-tells : (bit : Translation → Bool) (places : List (Option Translation)) (frame : ℕ) (b : Bool) → IsSingleValued places → b ≡ list_any (has_bit bit frame) places → (b ≡ true) ↔ SomeHas bit places frame
+pub bit-tells : (bit : Translation → Bool) (places : List (Option Translation)) (frame : ℕ) (b : Bool) → IsSingleValued places
+    → b ≡ list_any (has_bit bit frame) places → (b ≡ true) ↔ SomeHas bit places frame
 bit-tells bit places frame b d e = (λ h. some-has bit places frame d (sym e ∙ h), λ h. e ∙ has-some bit places frame h)

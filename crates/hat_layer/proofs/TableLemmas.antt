@@ -24,21 +24,14 @@ module _ (places : List (Option Translation)) (order : List (List ℕ)) (frame :
   leads-none e = λ k h. let z : true ≡ false = sym (owned-on order (map frame_of places) fits frame k (get_or-map frame_of places k None ∙ h)) ∙ first-none (chain_at order frame) e k in cc
 
   owns : (p : ℕ) → first_in (chain_at order frame) ≡ Some p → (t : Translation) × (get_or places p None ≡ Some t) × (t.frame ≡ frame)
-  owns p e = frame-is (get_or places p None) frame (sym (get_or-map frame_of places p None) ∙ owner-is order (map frame_of places) fits frame p (subst (IsOn (chain_at order frame)) e (walk-start (chain_at order frame))))
+  owns p e = frame-is (get_or places p None) frame (sym (get_or-map frame_of places p None) ∙ owner-is order (map frame_of places) fits frame p
+      (subst (IsOn (chain_at order frame)) e (walk-start (chain_at order frame))))
 
   pub leads-some : (p : ℕ) → first_in (chain_at order frame) ≡ Some p → LeadsToFrame places frame (option_map (λ (t : Translation). (p, t)) (get_or places p None))
   leads-some p e = let f = owns p e in subst (λ (o : Option Translation). LeadsToFrame places frame (option_map (λ (t : Translation). (p, t)) o)) (sym f.1) (f.1, f.2)
 
   pub leads-within : (p : ℕ) → first_in (chain_at order frame) ≡ Some p → p < length places
   leads-within p e = let f = owns p e in some-within places p f.0 f.1
-
-pub held-of : (places : List (Option Translation)) (space page p : ℕ) (r : Option (ℕ × Translation)) → FindsPlace places space page (Some p) → r ≡ option_map (λ (t : Translation). (p, t)) (get_or places p None) → FindsHeld places space page r
-held-of places space page p r h is = go (get_or places p None) refl
-  where
-    go : (o : Option Translation) → get_or places p None ≡ o → FindsHeld places space page r
-    go None e = let z : false ≡ true = sym (ap (λ (o : Option Translation). holds space page o) e) ∙ h.0 in cc
-    go (Some t) e = subst (λ (r : Option (ℕ × Translation)). FindsHeld places space page r) (sym (is ∙ ap (λ (o : Option Translation). option_map (λ (t : Translation). (p, t)) o) e))
-        (e, sym (ap (λ (o : Option Translation). holds space page o) e) ∙ h.0, h.1)
 
 pub record OfPage (space page : ℕ) (t : Translation) : Type 0 where
   pub space_is : t.space ≡ space
@@ -50,15 +43,12 @@ of-page space page t h = let ab = and_parts (t.space == space) (t.page == page) 
 pub is-of : (space page : ℕ) (t : Translation) → t.space ≡ space → t.page ≡ page → is_of space page t ≡ true
 is-of space page t a b = and_from (t.space == space) (t.page == page) (eq-eqb t.space space a) (eq-eqb t.page page b)
 
--- a place that holds a page is on the page's slot
-pub slot-held : (slots space page : ℕ) (o : Option Translation) → holds space page o ≡ true → slot_at slots o ≡ Some (pair_slot slots space page)
-slot-held slots space page None h = let z : false ≡ true = h in cc
-slot-held slots space page (Some t) h =
-    let e = of-page space page t h in
-    ap (λ (s : ℕ). Some (pair_slot slots s t.page)) e.space_is ∙ ap (λ (p : ℕ). Some (pair_slot slots space p)) e.page_is
-
 pub held-within : (places : List (Option Translation)) (k space page : ℕ) → holds space page (get_or places k None) ≡ true → k < length places
-held-within places k space page h = elim (cases_lt k (length places)) [ inl lt ↦ lt | inr ge ↦ (let z : false ≡ true = sym (ap (λ (o : Option Translation). holds space page o) (get_or_past places k None ge)) ∙ h in cc) ]
+held-within places k space page h = elim (cases_lt k (length places)) [
+  | inl lt ↦ lt
+  | inr ge ↦
+      (let z : false ≡ true = sym (ap (λ (o : Option Translation). holds space page o) (get_or_past places k None ge)) ∙ h in cc)
+]
 
 pub distinct-set : (places : List (Option Translation)) (place : ℕ) (new : Option Translation) → place < length places → IsSingleValued places →
     ((k space page : ℕ) → k ≢ place → holds space page new ≡ true → holds space page (get_or places k None) ≡ true → ⊥) → IsSingleValued (set places place new)
@@ -79,24 +69,29 @@ distinct-set places place new lt d apart i j space page a b = elim (cases_eq i p
   ]
 ]
 
-pub distinct-put : (places : List (Option Translation)) (place : ℕ) (new : Translation) → place < length places → IsSingleValued places → ((k : ℕ) → holds new.space new.page (get_or places k None) ≡ false) → IsSingleValued (set places place (Some new))
+pub distinct-put : (places : List (Option Translation)) (place : ℕ) (new : Translation) → place < length places → IsSingleValued places
+    → ((k : ℕ) → holds new.space new.page (get_or places k None) ≡ false) → IsSingleValued (set places place (Some new))
 distinct-put places place new lt d absent = distinct-set places place (Some new) lt d (λ k space page ne h g.
     let e = of-page space page new h in
-    let z : true ≡ false = sym (subst (λ (s : ℕ). holds s new.page (get_or places k None) ≡ true) (sym e.space_is) (subst (λ (p : ℕ). holds space p (get_or places k None) ≡ true) (sym e.page_is) g)) ∙ absent k in cc)
+    let z : true ≡ false = sym (subst (λ (s : ℕ). holds s new.page (get_or places k None) ≡ true) (sym e.space_is)
+    (subst (λ (p : ℕ). holds space p (get_or places k None) ≡ true) (sym e.page_is) g)) ∙ absent k in cc)
 
 pub distinct-take : (places : List (Option Translation)) (place : ℕ) → place < length places → IsSingleValued places → IsSingleValued (set places place None)
 distinct-take places place lt d = distinct-set places place None lt d (λ k space page ne h g. let z : false ≡ true = h in cc)
 
-pub distinct-change : (places : List (Option Translation)) (place : ℕ) (old new : Translation) → IsSingleValued places → get_or places place None ≡ Some old → SameName old new → IsSingleValued (set places place (Some new))
+pub distinct-change : (places : List (Option Translation)) (place : ℕ) (old new : Translation) → IsSingleValued places → get_or places place None ≡ Some old
+    → SameName old new → IsSingleValued (set places place (Some new))
 distinct-change places place old new d is same = distinct-set places place (Some new) (some-within places place old is) d (λ k space page ne h g.
     let e = of-page space page new h in
-    let was : holds space page (get_or places place None) ≡ true = ap (λ (o : Option Translation). holds space page o) is ∙ is-of space page old (sym same.space ∙ e.space_is) (sym same.page ∙ e.page_is) in
+    let was : holds space page (get_or places place None) ≡ true = ap (λ (o : Option Translation). holds space page o) is
+    ∙ is-of space page old (sym same.space ∙ e.space_is) (sym same.page ∙ e.page_is) in
     ne (d k place space page g was))
 
 pub distinct-none : (n : ℕ) → IsSingleValued (replicate n None)
 distinct-none n i j space page a b = let z : false ≡ true = sym (ap (λ (o : Option Translation). holds space page o) (at-replicate n i None)) ∙ a in cc
 
-pub new-table : (places : List (Option Translation)) (pages frames : ChainsSeen) (n m : ℕ) → places ≡ replicate n None → pages.order ≡ replicate n [] → pages.size ≡ n → frames.order ≡ replicate m [] → frames.size ≡ n → 0 < n → IsSoundTable places n pages frames
+pub new-table : (places : List (Option Translation)) (pages frames : ChainsSeen) (n m : ℕ) → places ≡ replicate n None → pages.order ≡ replicate n []
+    → pages.size ≡ n → frames.order ≡ replicate m [] → frames.size ≡ n → 0 < n → IsSoundTable places n pages frames
 new-table places pages frames n m e po ps fo fs some = rw e (record {
   some = some;
   slots_are = ap (λ (o : List (List ℕ)). length o) po ∙ length-replicate n [];
@@ -110,20 +105,28 @@ new-table places pages frames n m e po ps fo fs some = rw e (record {
 module _ (places : List (Option Translation)) (slots : ℕ) (pages frames : ChainsSeen) (t : IsSoundTable places slots pages frames) (place slot : ℕ) where
   -- an empty place is on no chain
   pub put-off : get_or places place None ≡ None → ((c : ℕ) → is_among place (chain_at pages.order c) ≡ false) × ((c : ℕ) → is_among place (chain_at frames.order c) ≡ false)
-  put-off empty = (free-off pages.order (map (slot_at slots) places) t.pages place (get_or-map (slot_at slots) places place None ∙ ap (slot_at slots) empty), free-off frames.order (map frame_of places) t.frames place (get_or-map frame_of places place None ∙ ap frame_of empty))
+  put-off empty = (
+    free-off pages.order (map (slot_at slots) places) t.pages place
+        (get_or-map (slot_at slots) places place None ∙ ap (slot_at slots) empty),
+    free-off frames.order (map frame_of places) t.frames place (get_or-map frame_of places place None ∙ ap frame_of empty),
+  )
 
   -- a translation comes into an empty place
   pub put-table : (new : Translation) (pages' frames' : ChainsSeen) → place < length places → get_or places place None ≡ None → ((k : ℕ) → holds new.space new.page (get_or places k None) ≡ false) →
       slot ≡ pair_slot slots new.space new.page → slot < slots → new.frame < length frames.order →
-      pages'.order ≡ set pages.order slot (place ∷ chain_at pages.order slot) → pages'.size ≡ pages.size → frames'.order ≡ set frames.order new.frame (place ∷ chain_at frames.order new.frame) → frames'.size ≡ frames.size → IsSoundTable (set places place (Some new)) slots pages' frames'
+      pages'.order ≡ set pages.order slot (place ∷ chain_at pages.order slot) → pages'.size ≡ pages.size
+      → frames'.order ≡ set frames.order new.frame (place ∷ chain_at frames.order new.frame) → frames'.size ≡ frames.size → IsSoundTable (set places place (Some new)) slots pages' frames'
   put-table new pages' frames' lt empty absent s in_s in_f po ps fo fs = let n = length-set places place (let x : Option Translation = Some new in x) in record {
     some = t.some;
     slots_are = ap (λ (o : List (List ℕ)). length o) po ∙ length-set pages.order slot (place ∷ chain_at pages.order slot) ∙ t.slots_are;
     page_size = ps ∙ t.page_size ∙ sym n;
     frame_size = fs ∙ t.frame_size ∙ sym n;
-    pages = rw po (rw (map-set (slot_at slots) places place (Some new)) (subst (λ (k : ℕ). HaveOwners (set pages.order slot (place ∷ chain_at pages.order slot)) (set (map (slot_at slots) places) place (Some k))) s
-        (owners-linked pages.order (map (slot_at slots) places) t.pages place slot (let a = t.slots_are in omega arith) (let b = length-map places (slot_at slots) in omega arith) (get_or-map (slot_at slots) places place None ∙ ap (slot_at slots) empty))));
-    frames = rw fo (rw (map-set frame_of places place (Some new)) (owners-linked frames.order (map frame_of places) t.frames place new.frame in_f (let b = length-map places frame_of in omega arith) (get_or-map frame_of places place None ∙ ap frame_of empty)));
+    pages = rw po (rw (map-set (slot_at slots) places place (Some new))
+        (subst (λ (k : ℕ). HaveOwners (set pages.order slot (place ∷ chain_at pages.order slot)) (set (map (slot_at slots) places) place (Some k))) s
+        (owners-linked pages.order (map (slot_at slots) places) t.pages place slot (let a = t.slots_are in omega arith)
+        (let b = length-map places (slot_at slots) in omega arith) (get_or-map (slot_at slots) places place None ∙ ap (slot_at slots) empty))));
+    frames = rw fo (rw (map-set frame_of places place (Some new)) (owners-linked frames.order (map frame_of places) t.frames place new.frame in_f
+        (let b = length-map places frame_of in omega arith) (get_or-map frame_of places place None ∙ ap frame_of empty)));
     distinct = distinct-put places place new lt t.distinct absent;
   }
 
@@ -141,14 +144,18 @@ module _ (places : List (Option Translation)) (slots : ℕ) (pages frames : Chai
     frame-has = owned-on frames.order (map frame_of places) t.frames old.frame place on-frame
 
     -- the translation goes out of its place
-    pub take-table : (pages' frames' : ChainsSeen) → pages'.order ≡ set pages.order slot (without_place place (chain_at pages.order slot)) → pages'.size ≡ pages.size → frames'.order ≡ set frames.order old.frame (without_place place (chain_at frames.order old.frame)) → frames'.size ≡ frames.size → IsSoundTable (set places place None) slots pages' frames'
+    pub take-table : (pages' frames' : ChainsSeen) → pages'.order ≡ set pages.order slot (without_place place (chain_at pages.order slot))
+        → pages'.size ≡ pages.size → frames'.order ≡ set frames.order old.frame (without_place place (chain_at frames.order old.frame))
+        → frames'.size ≡ frames.size → IsSoundTable (set places place None) slots pages' frames'
     take-table pages' frames' po ps fo fs = let lt = some-within places place old is in let n = length-set places place (let x : Option Translation = None in x) in record {
       some = t.some;
       slots_are = ap (λ (o : List (List ℕ)). length o) po ∙ length-set pages.order slot (without_place place (chain_at pages.order slot)) ∙ t.slots_are;
       page_size = ps ∙ t.page_size ∙ sym n;
       frame_size = fs ∙ t.frame_size ∙ sym n;
-      pages = rw po (rw (map-set (slot_at slots) places place None) (owners-unlinked pages.order (map (slot_at slots) places) t.pages place slot (let b = length-map places (slot_at slots) in omega arith) on-slot));
-      frames = rw fo (rw (map-set frame_of places place None) (owners-unlinked frames.order (map frame_of places) t.frames place old.frame (let b = length-map places frame_of in omega arith) on-frame));
+      pages = rw po (rw (map-set (slot_at slots) places place None) (owners-unlinked pages.order (map (slot_at slots) places) t.pages place slot
+          (let b = length-map places (slot_at slots) in omega arith) on-slot));
+      frames = rw fo (rw (map-set frame_of places place None) (owners-unlinked frames.order (map frame_of places) t.frames place old.frame
+          (let b = length-map places frame_of in omega arith) on-frame));
       distinct = distinct-take places place lt t.distinct;
     }
 
@@ -159,33 +166,34 @@ module _ (places : List (Option Translation)) (slots : ℕ) (pages frames : Chai
     slots_are = t.slots_are;
     page_size = t.page_size ∙ sym n;
     frame_size = t.frame_size ∙ sym n;
-    pages = rw (map-set_same (slot_at slots) places place (Some new) None (ap (λ (s : ℕ). Some (pair_slot slots s new.page)) same.space ∙ ap (λ (p : ℕ). Some (pair_slot slots old.space p)) same.page ∙ sym (ap (slot_at slots) is))) t.pages;
+    pages = rw (map-set_same (slot_at slots) places place (Some new) None
+        (ap (λ (s : ℕ). Some (pair_slot slots s new.page)) same.space ∙ ap (λ (p : ℕ). Some (pair_slot slots old.space p)) same.page ∙ sym (ap (slot_at slots) is))) t.pages;
     frames = rw (map-set_same frame_of places place (Some new) None (ap (λ (f : ℕ). Some f) same.frame ∙ sym (ap frame_of is))) t.frames;
     distinct = distinct-change places place old new t.distinct is same;
   }
 
 -- a place on the chain of a page's slot is one of the pool
-pub slot-within : (places : List (Option Translation)) (slots : ℕ) (pages frames : ChainsSeen) (slot place : ℕ) → IsSoundTable places slots pages frames → is_among place (chain_at pages.order slot) ≡ true → place < length places
+pub slot-within : (places : List (Option Translation)) (slots : ℕ) (pages frames : ChainsSeen) (slot place : ℕ) → IsSoundTable places slots pages frames
+    → is_among place (chain_at pages.order slot) ≡ true → place < length places
 slot-within places slots pages frames slot place t on = go (get_or places place None) refl
   where
     go : (o : Option Translation) → get_or places place None ≡ o → place < length places
     go None e = let z : None ≡ Some slot = sym (get_or-map (slot_at slots) places place None ∙ ap (slot_at slots) e) ∙ owner-is pages.order (map (slot_at slots) places) t.pages slot place on in cc
     go (Some h) e = some-within places place h e
 
--- a page's place is on the chain of its slot
-pub slot-on : (places : List (Option Translation)) (slots : ℕ) (pages frames : ChainsSeen) (slot space page k : ℕ) → IsSoundTable places slots pages frames → slot ≡ pair_slot slots space page → holds space page (get_or places k None) ≡ true → is_among k (chain_at pages.order slot) ≡ true
-slot-on places slots pages frames slot space page k t s h = owned-on pages.order (map (slot_at slots) places) t.pages slot k (get_or-map (slot_at slots) places k None ∙ slot-held slots space page (get_or places k None) h ∙ ap (λ (n : ℕ). Some n) (sym s))
-
 -- the bits of a frame's translations are cleared
-mapped : (f : Option Translation → Option ℕ) (G : Option Translation → Option Translation) → ((o : Option Translation) → f (G o) ≡ f o) → (places : List (Option Translation)) → map f (map G places) ≡ map f places
+mapped : (f : Option Translation → Option ℕ) (G : Option Translation → Option Translation) → ((o : Option Translation) → f (G o) ≡ f o)
+    → (places : List (Option Translation)) → map f (map G places) ≡ map f places
 mapped f G same [] = refl
 mapped f G same (o ∷ os) = ap (λ (x : Option ℕ). x ∷ map f (map G os)) (same o) ∙ ap (λ (l : List (Option ℕ)). f o ∷ l) (mapped f G same os)
 
-cleared-same : {X : Type 0} (f : Option Translation → X) → ((t : Translation) → f (Some (with_clear_bits t)) ≡ f (Some t)) → (frame : ℕ) (o : Option Translation) → f (change_lead frame with_clear_bits o) ≡ f o
+cleared-same : {X : Type 0} (f : Option Translation → X) → ((t : Translation) → f (Some (with_clear_bits t)) ≡ f (Some t))
+    → (frame : ℕ) (o : Option Translation) → f (change_lead frame with_clear_bits o) ≡ f o
 cleared-same f same frame None = refl
 cleared-same f same frame (Some t) = elim (t.frame == frame) as (λ b. f (cond b (option_map with_clear_bits (Some t)) (Some t)) ≡ f (Some t)) [ true ↦ same t | false ↦ refl ]
 
-pub clear-table : (places : List (Option Translation)) (slots : ℕ) (pages frames : ChainsSeen) → IsSoundTable places slots pages frames → (frame : ℕ) (places' : List (Option Translation)) → places' ≡ change_frame frame with_clear_bits places → IsSoundTable places' slots pages frames
+pub clear-table : (places : List (Option Translation)) (slots : ℕ) (pages frames : ChainsSeen) → IsSoundTable places slots pages frames
+    → (frame : ℕ) (places' : List (Option Translation)) → places' ≡ change_frame frame with_clear_bits places → IsSoundTable places' slots pages frames
 clear-table places slots pages frames t frame places' e = rw e (let n = length-map places (change_lead frame with_clear_bits) in record {
   some = t.some;
   slots_are = t.slots_are;
@@ -197,4 +205,5 @@ clear-table places slots pages frames t frame places' e = rw e (let n = length-m
 })
   where
     same : (i space page : ℕ) → holds space page (get_or (change_frame frame with_clear_bits places) i None) ≡ holds space page (get_or places i None)
-    same i space page = ap (λ (o : Option Translation). holds space page o) (get_or-map (change_lead frame with_clear_bits) places i None) ∙ cleared-same (λ (o : Option Translation). holds space page o) (λ t. refl) frame (get_or places i None)
+    same i space page = ap (λ (o : Option Translation). holds space page o) (get_or-map (change_lead frame with_clear_bits) places i None)
+        ∙ cleared-same (λ (o : Option Translation). holds space page o) (λ t. refl) frame (get_or places i None)

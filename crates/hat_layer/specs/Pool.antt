@@ -1,5 +1,6 @@
 -- What a contract sees of the pool of translations. Public clauses cite this.
-use Rattle.std.specs.Prelude.{◌≡◌, ℕ, ◌+◌, ◌==◌, ◌&&◌, ◌||◌, not, Bool, true, false, IsTrue, List, Option, Some, None, if◌then◌else◌, map, find, length, option_map, option_and_then, is_some, slice_index_or}
+use Rattle.std.specs.Prelude.{◌≡◌, ℕ, ◌+◌, ◌==◌, ◌&&◌, ◌||◌, not, Bool, true, false, IsTrue, List, Option, Some, None, if◌then◌else◌, map, find, length}
+use Rattle.std.specs.Prelude.{option_map, option_and_then, is_some, slice_index_or}
 use Rattle.std.specs.List.{list_any, list_all}
 use Rattle.hat_layer.specs.declared.translation.Translation.{Translation}
 use Rattle.hat_layer.specs.declared.translation.Dropped.{Dropped}

@@ -1,5 +1,6 @@
 -- Beginnings of a list, and the entries of one seat.
-use Rattle.std.proofs.Common.{◌≡◌, ◌≢◌, ℕ, zero, suc, ◌+◌, ◌<◌, ◌≤◌, Bool, true, false, List, [], ◌∷◌, ◌++◌, length, map, refl, ap, sym, ◌∙◌, subst, arith, append_assoc, length-append, ne_eqb, eqb, set, ⊎_elim, ◌⊎◌, inl, inr, ltb, if◌then◌else◌}
+use Rattle.std.proofs.Common.{◌≡◌, ◌≢◌, ℕ, zero, suc, ◌+◌, ◌<◌, ◌≤◌, Bool, true, false, List, [], ◌∷◌, ◌++◌, length, map, refl, ap, sym, ◌∙◌, subst, arith}
+use Rattle.std.proofs.Common.{append_assoc, length-append, ne_eqb, eqb, set, ⊎_elim, ◌⊎◌, inl, inr, ltb, if◌then◌else◌}
 use Rattle.std.specs.List.{All}
 use Rattle.std.proofs.lemmas.List.{append-nil, get_or_push, get_or_append_left, map-append}
 use Rattle.std.proofs.Common.{get_or}
@@ -121,7 +122,8 @@ nothing_left xs (y ∷ ys) bs e =
     let m : length (xs ++ y ∷ ys) ≡ length xs + length (y ∷ ys) = length-append xs (y ∷ ys) in
     let k : length (y ∷ ys) ≡ length ys + 1 = omega arith in absurd (omega (arith, n, m, k))
 
-pub own_between : {E : Type 0} (seat_of : E → ℕ) (k : ℕ) (xs ys zs own : List E) → IsPrefix xs ys → IsPrefix ys zs → entries_by seat_of k xs ≡ own → entries_by seat_of k zs ≡ own → entries_by seat_of k ys ≡ own
+pub own_between : {E : Type 0} (seat_of : E → ℕ) (k : ℕ) (xs ys zs own : List E) → IsPrefix xs ys → IsPrefix ys zs → entries_by seat_of k xs ≡ own
+    → entries_by seat_of k zs ≡ own → entries_by seat_of k ys ≡ own
 own_between {E} seat_of k xs ys zs own p q at_first at_last =
     let F : List E → List E = entries_by seat_of k in
     let mid : F ys ≡ F xs ++ F p.0 = ap F (sym p.1) ∙ filter-append (λ e. eqb (seat_of e) k) xs p.0 in

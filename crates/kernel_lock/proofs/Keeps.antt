@@ -1,5 +1,6 @@
 -- Each step keeps the rule of the lock.
-use Rattle.std.proofs.Common.{◌≡◌, ◌≢◌, ℕ, ◌+◌, ◌<◌, true, false, eqb, List, [], ◌∷◌, ◌++◌, length, get_or, set, refl, ap, sym, ◌∙◌, subst, arith, length-set, get_or-set_other, get_or-set_same, Option, Some, None}
+use Rattle.std.proofs.Common.{◌≡◌, ◌≢◌, ℕ, ◌+◌, ◌<◌, true, false, eqb, List, [], ◌∷◌, ◌++◌, length, get_or, set, refl, ap, sym, ◌∙◌, subst, arith, length-set}
+use Rattle.std.proofs.Common.{get_or-set_other, get_or-set_same, Option, Some, None}
 use Rattle.std.specs.List.{All}
 use mathlib.Core.Logic.{dite}
 use mathlib.Core.Option.{none, some, some-injective}
@@ -117,7 +118,8 @@ module _ {S E N : Type 0} (seat_of : E → ℕ) (history : S → List E) (fits :
 
   pub takes_turn : (slots id n : ℕ) (v : V) (cs : List (ℕ × Option S)) → v.inside ≡ false → v.seated ≡ true → v.number ≡ n → cs ≡ []
       → Allows Rule slots id (v, cs) 0 (λ r. either (eqb r 0) (n + 1) r) (TakesTurn seat_of history fits (step slots 0 0 (n + 1) none) (v, cs))
-  takes_turn slots id n v cs out seated named empty = subst (λ c. Allows Rule slots id (v, c) 0 (λ r. either (eqb r 0) (n + 1) r) (TakesTurn seat_of history fits (step slots 0 0 (n + 1) none) (v, c))) (sym empty) go
+  takes_turn slots id n v cs out seated named empty = subst (λ c. Allows Rule slots id (v, c) 0 (λ r. either (eqb r 0) (n + 1) r)
+      (TakesTurn seat_of history fits (step slots 0 0 (n + 1) none) (v, c))) (sym empty) go
     where
       go : Allows Rule slots id (v, []) 0 (λ r. either (eqb r 0) (n + 1) r) (TakesTurn seat_of history fits (step slots 0 0 (n + 1) none) (v, []))
       go s r wide at bound = dite (ℕ_discrete (turn s) 0)
@@ -151,7 +153,8 @@ module _ {S E N : Type 0} (seat_of : E → ℕ) (history : S → List E) (fits :
   )
 
   -- the holder makes its move known: from here on the state is t
-  moved : (s : State (Option S) V2) (r : Lock seat_of history fits opening seats s) (id n : ℕ) (v : V2) (cs : List (ℕ × Option S)) (t : S) (m : Option N) → get_elem? s.views id ≡ some v → v.inside ≡ true
+  moved : (s : State (Option S) V2) (r : Lock seat_of history fits opening seats s) (id n : ℕ) (v : V2) (cs : List (ℕ × Option S)) (t : S) (m : Option N)
+      → get_elem? s.views id ≡ some v → v.inside ≡ true
       → v.others ≡ [] → v.deals ≡ false → ((b : S) × (v.state ≡ Some b) × moves v.number b v.note t m) → n ≡ length (history t)
       → Lock seat_of history fits opening seats (stepped s 1 n id cs (view_made_known seat_of history v t m) keeps)
   moved s r id n v cs t m at inside alone dealt move long =

@@ -1,5 +1,6 @@
 -- Loads, splits and joins keep the rule of the lock.
-use Rattle.std.proofs.Common.{◌≡◌, ◌≢◌, ℕ, zero, suc, ◌+◌, ◌<◌, true, false, eqb, List, [], ◌∷◌, ◌++◌, length, get_or, set, refl, ap, sym, ◌∙◌, subst, arith, length-set, ⊎_elim, Option, Some, None, le_refl, if◌then◌else◌, eq-eqb, ne_eqb, replicate}
+use Rattle.std.proofs.Common.{◌≡◌, ◌≢◌, ℕ, zero, suc, ◌+◌, ◌<◌, true, false, eqb, List, [], ◌∷◌, ◌++◌, length, get_or, set, refl, ap, sym, ◌∙◌, subst, arith}
+use Rattle.std.proofs.Common.{length-set, ⊎_elim, Option, Some, None, le_refl, if◌then◌else◌, eq-eqb, ne_eqb, replicate}
 use Rattle.std.proofs.lemmas.List.{length-replicate}
 use mathlib.Core.Logic.{dite}
 use mathlib.Core.Option.{none, some, some-injective, some-ne-none}
@@ -52,7 +53,8 @@ module _ {S E N : Type 0} (seat_of : E → ℕ) (history : S → List E) (fits :
   -- the holder is inside still, where a view that changes stays as much inside as it was
   held_set : (s : St) (holder : ℕ) (vs : List V) (id : ℕ) (v w : V) → get_elem? vs id ≡ some v → w.inside ≡ v.inside → Held s holder vs → Held s holder (set vs id w)
   held_set s holder vs id v w at same held busy = let (u, is, inside) = held busy in dite (ℕ_discrete holder id)
-      (λ e. let vu : v ≡ u = some-injective v u (sym at ∙ (sym (ap (get_elem? vs) e) ∙ is)) in (w, subst (λ h. get_elem? (set vs id w) h ≡ some w) (sym e) (set_at vs id v w at), cc (same, inside, vu)))
+      (λ e. let vu : v ≡ u = some-injective v u (sym at ∙ (sym (ap (get_elem? vs) e) ∙ is)) in
+      (w, subst (λ h. get_elem? (set vs id w) h ≡ some w) (sym e) (set_at vs id v w at), cc (same, inside, vu)))
       (λ ne. (u, set_else vs id holder w ne ∙ is, inside))
 
   pub looks : (slots id : ℕ) (v : V) (cs : List (ℕ × Option S)) → Allows Rule slots id (v, cs) 1 (λ n. n) (LooksAtLength seat_of (step slots 1 0 0 none) (v, cs))
@@ -93,14 +95,25 @@ module _ {S E N : Type 0} (seat_of : E → ℕ) (history : S → List E) (fits :
       revised s r (set (set s.views id b) other blank_view) r.owner
       (held_set s r.holder (set s.views id b) other w blank_view there (sym out) (held_set s r.holder s.views id v b at refl r.held))
       (each_set K (set s.views id b) other blank_view
-      record { opened = λ x e. absurd (cc e); begun = (history r.core, refl); begun_olds = tt; mine = λ z. absurd (cc z); told = λ z. absurd (cc z); theirs = tt; fresh = λ z. absurd (cc z); within = λ z. absurd (cc z) }
+      record {
+        opened = λ x e. absurd (cc e);
+        begun = (history r.core, refl);
+        begun_olds = tt;
+        mine = λ z. absurd (cc z);
+        told = λ z. absurd
+            (cc z);
+        theirs = tt;
+        fresh = λ z. absurd (cc z);
+        within = λ z. absurd (cc z);
+      }
       (λ j u ne e. each_set K s.views id b
       record {
         opened = k.opened;
         begun = whole;
         begun_olds = (k.begun, (o.begun, k.begun_olds));
         mine = k.mine;
-        told = λ z. own_between seat_of v.number v.seen (longer_list v.seen w.seen) (history r.core) v.own (longer_begun v.seen w.seen (history r.core) k.begun o.begun).0 whole (k.told z) (k.mine z).1;
+        told = λ z. own_between seat_of v.number v.seen (longer_list v.seen w.seen) (history r.core) v.own
+            (longer_begun v.seen w.seen (history r.core) k.begun o.begun).0 whole (k.told z) (k.mine z).1;
         theirs = k.theirs;
         fresh = k.fresh;
         within = k.within;
@@ -160,7 +173,8 @@ module _ {S E N : Type 0} (seat_of : E → ℕ) (history : S → List E) (fits :
       (at_append (set s.views id w) (d) u j e))
 
   -- whoever closes takes in a seat with its number
-  pub joins_part : (id : ℕ) (v : V) (other : ℕ) (w : V) → v.inside ≡ false → v.seated ≡ false → v.deals ≡ false → w.inside ≡ false → w.seated ≡ true → Joins Rule id v other w (with_known_seat v w) blank_view
+  pub joins_part : (id : ℕ) (v : V) (other : ℕ) (w : V) → v.inside ≡ false → v.seated ≡ false → v.deals ≡ false → w.inside ≡ false → w.seated ≡ true
+      → Joins Rule id v other w (with_known_seat v w) blank_view
   joins_part id v other w out unseated dealt out' seated s r at apart there =
       let k = r.each id v at in
       let b : V = with_known_seat v w in
@@ -177,7 +191,17 @@ module _ {S E N : Type 0} (seat_of : E → ℕ) (history : S → List E) (fits :
       revised s r (set (set s.views id b) other blank_view) owner
       (held_set s r.holder (set s.views id b) other w blank_view there (sym out') (held_set s r.holder s.views id v b at refl r.held))
       (each_set K (set s.views id b) other blank_view
-      record { opened = λ x e. absurd (cc e); begun = (history r.core, refl); begun_olds = tt; mine = λ z. absurd (cc z); told = λ z. absurd (cc z); theirs = tt; fresh = λ z. absurd (cc z); within = λ z. absurd (cc z) }
+      record {
+        opened = λ x e. absurd (cc e);
+        begun = (history r.core, refl);
+        begun_olds = tt;
+        mine = λ z. absurd (cc z);
+        told = λ z. absurd
+            (cc z);
+        theirs = tt;
+        fresh = λ z. absurd (cc z);
+        within = λ z. absurd (cc z);
+      }
       (λ j u ne e. ⊎_elim
       (λ (t : (j ≡ id) × (b ≡ u)). subst (λ (x : ℕ × V). K x.0 x.1) (λ i. (sym t.0 i, t.1 i)) record {
         opened = k.opened;
@@ -213,7 +237,17 @@ module _ {S E N : Type 0} (seat_of : E → ℕ) (history : S → List E) (fits :
         (λ busy. let (u, is, inside) = r.held busy in (u, at_longer s.views (blank_view ∷ []) r.holder u is, inside))
         (λ j u e. ⊎_elim (r.each j u)
         (λ (t : (j ≡ length s.views) × (blank_view ≡ u)). subst (Knows seat_of history opening seats r.core r.notes r.owner (turn s) r.holder j) t.1
-        record { opened = λ x e. absurd (cc e); begun = (history r.core, refl); begun_olds = tt; mine = λ z. absurd (cc z); told = λ z. absurd (cc z); theirs = tt; fresh = λ z. absurd (cc z); within = λ z. absurd (cc z) })
+        record {
+          opened = λ x e. absurd (cc e);
+          begun = (history r.core, refl);
+          begun_olds = tt;
+          mine = λ z. absurd (cc z);
+          told = λ z. absurd
+              (cc z);
+          theirs = tt;
+          fresh = λ z. absurd (cc z);
+          within = λ z. absurd (cc z);
+        })
         (at_append s.views blank_view u j e)),
     refl,
   )

@@ -10,4 +10,5 @@ module _ {S E N : Type 0} (seat_of : E → ℕ) (history : S → List E) (fits :
 
   -- Where a state fits and one seat moves, the new history is the old one and then entries of that seat alone.
   abbrev pub Grows : Type 0
-  Grows = (opening s t : S) (notes : List (Option N)) (k : ℕ) (n m : Option N) → fits opening s notes → get_elem? notes k ≡ some n → moves k s n t m → (added : List E) × (history t ≡ history s ++ added) × All (λ e. seat_of e ≡ k) added
+  Grows = (opening s t : S) (notes : List (Option N)) (k : ℕ) (n m : Option N) → fits opening s notes → get_elem? notes k ≡ some n → moves k s n t m
+      → (added : List E) × (history t ≡ history s ++ added) × All (λ e. seat_of e ≡ k) added

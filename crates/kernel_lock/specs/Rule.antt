@@ -27,19 +27,91 @@ hand false = []
 module _ {S E N : Type 0} where
   -- The dealer has nothing but the numbers from n on.
   abbrev pub dealer_at : S → ℕ → ℕ → View S E N
-  dealer_at o seats n = record { opening = Some o; seats = seats; state = None; inside = false; seated = false; deals = true; number = n; note = None; own = []; others = []; seen = []; olds = []; refused = 0; refused_by = None; leaves = 0; emptied = 0; last_emptied = None }
+  dealer_at o seats n = record {
+    opening = Some o;
+    seats = seats;
+    state = None;
+    inside = false;
+    seated = false;
+    deals = true;
+    number = n;
+    note = None;
+    own = [];
+    others = [];
+    seen = [];
+    olds = [];
+    refused = 0;
+    refused_by = None;
+    leaves = 0;
+    emptied = 0;
+    last_emptied = None;
+  }
 
   -- A view that knows nothing, and that of a seat which is spent.
   abbrev pub blank_view : View S E N
-  blank_view = record { opening = None; seats = 0; state = None; inside = false; seated = false; deals = false; number = 0; note = None; own = []; others = []; seen = []; olds = []; refused = 0; refused_by = None; leaves = 0; emptied = 0; last_emptied = None }
+  blank_view = record {
+    opening = None;
+    seats = 0;
+    state = None;
+    inside = false;
+    seated = false;
+    deals = false;
+    number = 0;
+    note = None;
+    own = [];
+    others = [];
+    seen = [];
+    olds = [];
+    refused = 0;
+    refused_by = None;
+    leaves = 0;
+    emptied = 0;
+    last_emptied = None;
+  }
 
   -- A courier has a copy of what a seat has seen.
   abbrev pub courier : View S E N → View S E N
-  courier v = record { opening = v.opening; seats = v.seats; state = None; inside = false; seated = false; deals = false; number = 0; note = None; own = []; others = []; seen = v.seen; olds = []; refused = 0; refused_by = None; leaves = 0; emptied = 0; last_emptied = None }
+  courier v = record {
+    opening = v.opening;
+    seats = v.seats;
+    state = None;
+    inside = false;
+    seated = false;
+    deals = false;
+    number = 0;
+    note = None;
+    own = [];
+    others = [];
+    seen = v.seen;
+    olds = [];
+    refused = 0;
+    refused_by = None;
+    leaves = 0;
+    emptied = 0;
+    last_emptied = None;
+  }
 
   -- A new seat with the dealer's next number.
   abbrev pub dealt_seat : View S E N → View S E N
-  dealt_seat v = record { opening = v.opening; seats = v.seats; state = None; inside = false; seated = true; deals = false; number = v.number; note = None; own = []; others = []; seen = []; olds = []; refused = 0; refused_by = None; leaves = 0; emptied = 0; last_emptied = None }
+  dealt_seat v = record {
+    opening = v.opening;
+    seats = v.seats;
+    state = None;
+    inside = false;
+    seated = true;
+    deals = false;
+    number = v.number;
+    note = None;
+    own = [];
+    others = [];
+    seen = [];
+    olds = [];
+    refused = 0;
+    refused_by = None;
+    leaves = 0;
+    emptied = 0;
+    last_emptied = None;
+  }
 
   abbrev pub dealer_after : View S E N → View S E N
   dealer_after v = record v { number = v.number + 1 }
@@ -69,7 +141,22 @@ module _ {S E N : Type 0} where
 
   -- A seat of the lock as contracts see it.
   abbrev pub seat_view : TableId → View S E N → SeatView S E N
-  seat_view l v = record { lock = l; opening = v.opening; seats = v.seats; number = v.number; inside = v.inside; state = v.state; note = v.note; own = v.own; seen = v.seen; refused = v.refused; refused_by = v.refused_by; leaves = v.leaves; emptied = v.emptied; last_emptied = v.last_emptied }
+  seat_view l v = record {
+    lock = l;
+    opening = v.opening;
+    seats = v.seats;
+    number = v.number;
+    inside = v.inside;
+    state = v.state;
+    note = v.note;
+    own = v.own;
+    seen = v.seen;
+    refused = v.refused;
+    refused_by = v.refused_by;
+    leaves = v.leaves;
+    emptied = v.emptied;
+    last_emptied = v.last_emptied;
+  }
 
   -- A seat of the table is a seat of the lock with this number.
   abbrev pub IsPlain : Seat (Option S) (View S E N) → ℕ → Type 0
@@ -104,7 +191,8 @@ module _ {S E N : Type 0} (seat_of : E → ℕ) (history : S → List E) where
     pub within : v.inside ≡ true → (v.seated ≡ true) × (turn ≡ v.number + 1) × (holder ≡ j) × (v.state ≡ Some core)
 
 module _ {S E N : Type 0} (seat_of : E → ℕ) (history : S → List E) (fits : S → S → List (Option N) → Type 0) where
-  -- There is one state, which fits the opening and the notes of all seats. Word 0 is 0 while the state lies in the slot, and else names the seat that has the turn, plus 1. Word 1 is the length of the history.
+  -- There is one state, which fits the opening and the notes of all seats. Word 0 is 0 while the state lies in the slot, and else names the seat that has the
+  -- turn, plus 1. Word 1 is the length of the history.
   pub record Lock (opening : S) (seats : ℕ) (s : State (Option S) (View S E N)) : Type 0 where
     pub core : S
     pub notes : List (Option N)
@@ -119,7 +207,8 @@ module _ {S E N : Type 0} (seat_of : E → ℕ) (history : S → List E) (fits :
     pub held : slice_index s.words 0 ≢ 0 → (v : View S E N) × (get_elem? s.views holder ≡ some v) × (v.inside ≡ true)
     pub each : (j : ℕ) (v : View S E N) → get_elem? s.views j ≡ some v → Knows seat_of history opening seats core notes owner (slice_index s.words 0) holder j v
 
-  -- Taking the turn: where nobody had it, the seat is inside, has the slot with the state in it, and the state is as is promised to whoever enters. Otherwise the turn word named another seat, and one more try is refused.
+  -- Taking the turn: where nobody had it, the seat is inside, has the slot with the state in it, and the state is as is promised to whoever enters. Otherwise
+  -- the turn word named another seat, and one more try is refused.
   abbrev pub TakesTurn : Step (Option S) → Me (Option S) (View S E N) → ℕ → Me (Option S) (View S E N) → Type 0
   TakesTurn st m r m' =
       (r ≡ 0 → (s : S) × (m' ≡ (view_inside m.0 s, (0, Some s) ∷ [])) × ((o : S) → m.0.opening ≡ Some o → IsEntered seat_of history fits o m.0.seats (known_of m.0) s))
@@ -136,7 +225,8 @@ module _ {S E N : Type 0} where
 
   -- Looking: a history as long as the word says begins with what the seat had seen and with each old one that a join left it. What it has seen has of its entries just those that it made.
   abbrev pub LooksAtLength : (E → ℕ) → Step (Option S) → Me (Option S) (View S E N) → ℕ → Me (Option S) (View S E N) → Type 0
-  LooksAtLength seat_of st m r m' = (h : List E) × (length h ≡ r) × IsPrefix m.0.seen h × Each (λ o. IsPrefix o h) m.0.olds × (m' ≡ (record m.0 { olds = [] }, m.1)) × (m.0.seated ≡ true → entries_by seat_of m.0.number m.0.seen ≡ m.0.own)
+  LooksAtLength seat_of st m r m' = (h : List E) × (length h ≡ r) × IsPrefix m.0.seen h × Each (λ o. IsPrefix o h) m.0.olds
+      × (m' ≡ (record m.0 { olds = [] }, m.1)) × (m.0.seated ≡ true → entries_by seat_of m.0.number m.0.seen ≡ m.0.own)
 
   -- Sitting down: a new seat that knows nothing.
   abbrev pub SitsDown : Step (Option S) → Me (Option S) (View S E N) → ℕ → Me (Option S) (View S E N) → Type 0

@@ -13,7 +13,9 @@ pub record LockView (S : Type 0) : Type 0 where
   pub seats : ℕ
   pub opening : S
 
--- A seat: the lock that it is of, with that lock's opening and number of seats; its number; whether it is inside; the state that it entered with, while it is inside, and else the one that it left last; its note; the entries that it made; the history that it has seen; how many of its tries were refused, and which seat had the turn at the last of these; how many times it left, how many of these leaves emptied its note, and the note that the last such leave emptied.
+-- A seat: the lock that it is of, with that lock's opening and number of seats; its number; whether it is inside; the state that it entered with, while it is
+-- inside, and else the one that it left last; its note; the entries that it made; the history that it has seen; how many of its tries were refused, and which
+-- seat had the turn at the last of these; how many times it left, how many of these leaves emptied its note, and the note that the last such leave emptied.
 pub record SeatView (S E N : Type 0) : Type 0 where
   pub lock : TableId
   pub opening : Option S
@@ -60,7 +62,22 @@ module _ {S E N : Type 0} where
 
   -- A seat that has been nowhere.
   abbrev pub newcomer : LockView S → ℕ → SeatView S E N
-  newcomer l k = record { lock = l.lock; opening = Some l.opening; seats = l.seats; number = k; inside = false; state = None; note = None; own = []; seen = []; refused = 0; refused_by = None; leaves = 0; emptied = 0; last_emptied = None }
+  newcomer l k = record {
+    lock = l.lock;
+    opening = Some l.opening;
+    seats = l.seats;
+    number = k;
+    inside = false;
+    state = None;
+    note = None;
+    own = [];
+    seen = [];
+    refused = 0;
+    refused_by = None;
+    leaves = 0;
+    emptied = 0;
+    last_emptied = None;
+  }
 
   -- The seats of a row have been nowhere, and stand in the order of their numbers.
   abbrev pub AreNew : LockView S → List (SeatView S E N) → Type 0

@@ -12,7 +12,8 @@ use Rattle.page_hash.specs.Names.{name_at, find}
 use Rattle.page_hash.specs.Index.{slot_of, IsSoundPageHash}
 use Rattle.page_hash.proofs.NameLaws.{entered-distinct, emptied-distinct}
 
-pub sound-new : (names : List (Option PageName)) (slots frames : ℕ) (chains : ChainsSeen) → names ≡ replicate frames None → chains.order ≡ replicate slots [] → chains.size ≡ frames → 0 < slots → IsSoundPageHash names slots chains
+pub sound-new : (names : List (Option PageName)) (slots frames : ℕ) (chains : ChainsSeen) → names ≡ replicate frames None → chains.order ≡ replicate slots []
+    → chains.size ≡ frames → 0 < slots → IsSoundPageHash names slots chains
 sound-new names slots frames chains e order size some = rw e (record {
   some = some;
   slots_are = ap (λ (o : List (List ℕ)). length o) order ∙ length-replicate slots [];
@@ -33,22 +34,30 @@ module _ (names : List (Option PageName)) (slots : ℕ) (chains : ChainsSeen) (h
   off-all e = free-off chains.order (map (slot_of slots) names) h.owners frame (owner None e)
 
   pub frame-within : (slot : ℕ) → is_among frame (chain_at chains.order slot) ≡ true → frame < length names
-  frame-within slot on = let n = length-map names (slot_of slots) in let w = some-within (map (slot_of slots) names) frame slot (owner-is chains.order (map (slot_of slots) names) h.owners slot frame on) in omega arith
+  frame-within slot on = let n = length-map names (slot_of slots) in let w = some-within (map (slot_of slots) names) frame slot
+      (owner-is chains.order (map (slot_of slots) names) h.owners slot frame on) in omega arith
 
-  pub sound-entered : (chains' : ChainsSeen) → frame < length names → name_at names frame ≡ None → find names name ≡ None → chains'.order ≡ set chains.order (pair_slot slots name.object name.page) (frame ∷ chain_at chains.order (pair_slot slots name.object name.page)) → chains'.size ≡ chains.size → pair_slot slots name.object name.page < slots → IsSoundPageHash (set names frame (Some name)) slots chains'
+  pub sound-entered : (chains' : ChainsSeen) → frame < length names → name_at names frame ≡ None → find names name ≡ None
+      → chains'.order ≡ set chains.order (pair_slot slots name.object name.page) (frame ∷ chain_at chains.order (pair_slot slots name.object name.page))
+      → chains'.size ≡ chains.size → pair_slot slots name.object name.page < slots → IsSoundPageHash (set names frame (Some name)) slots chains'
   sound-entered chains' lt empty absent order size in_slots = record {
     some = h.some;
     slots_are = ap (λ (o : List (List ℕ)). length o) order ∙ length-set chains.order (pair_slot slots name.object name.page) _ ∙ h.slots_are;
     size = size ∙ h.size ∙ sym (length-set names frame (Some name));
-    owners = rw order (rw (map-set (slot_of slots) names frame (Some name)) (owners-linked chains.order (map (slot_of slots) names) h.owners frame (pair_slot slots name.object name.page) (let a = h.slots_are in omega arith) (let n = length-map names (slot_of slots) in omega arith) (owner None empty)));
+    owners = rw order (rw (map-set (slot_of slots) names frame (Some name))
+        (owners-linked chains.order (map (slot_of slots) names) h.owners frame (pair_slot slots name.object name.page) (let a = h.slots_are in omega arith)
+        (let n = length-map names (slot_of slots) in omega arith) (owner None empty)));
     distinct = entered-distinct names name frame lt h.distinct absent;
   }
 
-  pub sound-removed : (chains' : ChainsSeen) → name_at names frame ≡ Some name → chains'.order ≡ set chains.order (pair_slot slots name.object name.page) (without_place frame (chain_at chains.order (pair_slot slots name.object name.page))) → chains'.size ≡ chains.size → IsSoundPageHash (set names frame None) slots chains'
+  pub sound-removed : (chains' : ChainsSeen) → name_at names frame ≡ Some name
+      → chains'.order ≡ set chains.order (pair_slot slots name.object name.page)
+      (without_place frame (chain_at chains.order (pair_slot slots name.object name.page))) → chains'.size ≡ chains.size → IsSoundPageHash (set names frame None) slots chains'
   sound-removed chains' held order size = let lt = some-within names frame name held in record {
     some = h.some;
     slots_are = ap (λ (o : List (List ℕ)). length o) order ∙ length-set chains.order (pair_slot slots name.object name.page) _ ∙ h.slots_are;
     size = size ∙ h.size ∙ sym (length-set names frame None);
-    owners = rw order (rw (map-set (slot_of slots) names frame None) (owners-unlinked chains.order (map (slot_of slots) names) h.owners frame (pair_slot slots name.object name.page) (let n = length-map names (slot_of slots) in omega arith) (owner (Some name) held)));
+    owners = rw order (rw (map-set (slot_of slots) names frame None) (owners-unlinked chains.order (map (slot_of slots) names) h.owners frame
+        (pair_slot slots name.object name.page) (let n = length-map names (slot_of slots) in omega arith) (owner (Some name) held)));
     distinct = emptied-distinct names frame lt h.distinct;
   }

@@ -14,7 +14,7 @@ chosen : {X : Type 0} (b : Bool) (x y z : X) → cond b x y ≡ z → ((b ≡ tr
 chosen true x y z h = inl (refl, h)
 chosen false x y z h = inr (refl, h)
 
-same_fields : (m n : PageName) → m.object ≡ n.object → m.page ≡ n.page → m ≡ n
+pub same_fields : (m n : PageName) → m.object ≡ n.object → m.page ≡ n.page → m ≡ n
 same_fields m n a b = ap (λ (x : ℕ). record { object = x; page = m.page }) a ∙ ap (λ (x : ℕ). record { object = n.object; page = x }) b
 
 -- what the test says
@@ -74,16 +74,14 @@ none_so names n absent (Some f) e = absurd (absent f (find-at names n f e))
 pub find-absent : (names : List (Option PageName)) (n : PageName) → ((f : ℕ) → name_at names f ≡ Some n → ⊥) → find names n ≡ None
 find-absent names n absent = none_so names n absent (find names n) refl
 
--- found exactly where it is held
-pub find_iff : (names : List (Option PageName)) (n : PageName) (f : ℕ) → AreDistinct names → (find names n ≡ Some f) ↔ (name_at names f ≡ Some n)
-find_iff names n f d = (find-at names n f, find-some names n f d)
-
-same_so : (names more : List (Option PageName)) (n : PageName) → AreDistinct more → ((f : ℕ) → name_at names f ≡ Some n → name_at more f ≡ Some n) → ((f : ℕ) → name_at more f ≡ Some n → name_at names f ≡ Some n) → (o : Option ℕ) → find names n ≡ o → find more n ≡ o
+same_so : (names more : List (Option PageName)) (n : PageName) → AreDistinct more → ((f : ℕ) → name_at names f ≡ Some n → name_at more f ≡ Some n)
+    → ((f : ℕ) → name_at more f ≡ Some n → name_at names f ≡ Some n) → (o : Option ℕ) → find names n ≡ o → find more n ≡ o
 same_so names more n d forth back None e = find-absent more n (λ f h. find-none names n f e (back f h))
 same_so names more n d forth back (Some f) e = find-some more n f d (forth f (find-at names n f e))
 
 -- where the same frames hold a name, the same is found
-pub find-same : (names more : List (Option PageName)) (n : PageName) → AreDistinct more → ((f : ℕ) → name_at names f ≡ Some n → name_at more f ≡ Some n) → ((f : ℕ) → name_at more f ≡ Some n → name_at names f ≡ Some n) → find more n ≡ find names n
+pub find-same : (names more : List (Option PageName)) (n : PageName) → AreDistinct more → ((f : ℕ) → name_at names f ≡ Some n → name_at more f ≡ Some n)
+    → ((f : ℕ) → name_at more f ≡ Some n → name_at names f ≡ Some n) → find more n ≡ find names n
 find-same names more n d forth back = same_so names more n d forth back (find names n) refl
 
 -- one frame holds another name, or none
@@ -125,7 +123,8 @@ entered-distinct names n f lt d absent i j m a b =
 pub find-entered : (names : List (Option PageName)) (n : PageName) (f : ℕ) → f < length names → AreDistinct names → find names n ≡ None → find (set names f (Some n)) n ≡ Some f
 find-entered names n f lt d absent = find-some (set names f (Some n)) n f (entered-distinct names n f lt d absent) (get_or-set_same names f (Some n) None lt)
 
-pub find-entered_other : (names : List (Option PageName)) (n : PageName) (f : ℕ) (m : PageName) → f < length names → AreDistinct names → find names n ≡ None → name_at names f ≡ None → (m ≡ n → ⊥) → find (set names f (Some n)) m ≡ find names m
+pub find-entered_other : (names : List (Option PageName)) (n : PageName) (f : ℕ) (m : PageName) → f < length names → AreDistinct names → find names n ≡ None
+    → name_at names f ≡ None → (m ≡ n → ⊥) → find (set names f (Some n)) m ≡ find names m
 find-entered_other names n f m lt d absent empty ne =
     find-same names (set names f (Some n)) m (entered-distinct names n f lt d absent)
     (λ k h. at_kept names f (Some n) k m (λ e. let z : None ≡ Some m = sym empty ∙ e in cc) h)

@@ -61,9 +61,15 @@ module _ (forth back : Option ℕ → Option ℕ) where
 -- the steps once links lead elsewhere
 module _ (forth back forth_new back_new : Option ℕ → Option ℕ) where
   -- where the steps along it are the same, a chain is kept
-  chain-kept : (from : Option ℕ) (xs : List ℕ) → Chain forth back from xs → forth_new from ≡ forth from → ((g : ℕ) → Contains xs g → forth_new (Some g) ≡ forth (Some g)) → ((g : ℕ) → Contains xs g → back_new (Some g) ≡ back (Some g)) → back_new None ≡ back None → Chain forth_new back_new from xs
+  chain-kept : (from : Option ℕ) (xs : List ℕ) → Chain forth back from xs → forth_new from ≡ forth from
+      → ((g : ℕ) → Contains xs g → forth_new (Some g) ≡ forth (Some g)) → ((g : ℕ) → Contains xs g → back_new (Some g) ≡ back (Some g)) → back_new None ≡ back None → Chain forth_new back_new from xs
   chain-kept from [] c p q r e = (p ∙ c.0, e ∙ c.1)
-  chain-kept from (x ∷ xs) c p q r e = (p ∙ c.0, r x (Contains-first x x xs refl) ∙ c.1, chain-kept (Some x) xs c.2 (q x (Contains-first x x xs refl)) (λ g h. q g (Contains-rest x g xs h)) (λ g h. r g (Contains-rest x g xs h)) e)
+  chain-kept from (x ∷ xs) c p q r e = (
+    p ∙ c.0,
+    r x (Contains-first x x xs refl) ∙ c.1,
+    chain-kept (Some x) xs c.2 (q x (Contains-first x x xs refl))
+        (λ g h. q g (Contains-rest x g xs h)) (λ g h. r g (Contains-rest x g xs h)) e,
+  )
 
   -- a frame goes to the end
   pub chain-appended : (from : Option ℕ) (xs : List ℕ) (y : ℕ) → Chain forth back from xs → (Contains xs y → ⊥) → (from ≡ Some y → ⊥) →
@@ -112,7 +118,8 @@ module _ (forth back forth_new back_new : Option ℕ → Option ℕ) where
         (ap back_new (sym ahead) ∙ before ∙ here) (λ q ne. still q (λ r. ne (r ∙ ahead))))
     | inr ne ↦
         let inside : Contains xs y = elim (Contains-cases x y xs h) [ inl e ↦ absurd (ne e) | inr i ↦ i ] in
-        let not_before : from ≢ back (Some y) = λ (q : from ≡ back (Some y)). let z : Some x ≡ Some y = sym c.0 ∙ ap forth q ∙ forth-back forth back from (x ∷ xs) y c h in let e : x ≡ y = cc in ne e in
+        let not_before : from ≢ back (Some y) = λ (q : from ≡ back (Some y)). let z : Some x ≡ Some y = sym c.0 ∙ ap forth q
+        ∙ forth-back forth back from (x ∷ xs) y c h in let e : x ≡ y = cc in ne e in
         let not_after : Some x ≢ forth (Some y) = λ (q : Some x ≡ forth (Some y)). out y (Contains-rest x y xs inside) (sym c.1 ∙ ap back q ∙ back-forth forth back from (x ∷ xs) y c h) in
         subst (λ (l : List ℕ). Chain forth_new back_new from l) (sym (without_frame-other x xs y ne)) (
           kept from not_before ∙ c.0,
@@ -122,7 +129,8 @@ module _ (forth back forth_new back_new : Option ℕ → Option ℕ) where
   ]
 
 -- a walk along the links gives the chain
-pub walk-chain : (first : Option ℕ) (next : List (Option ℕ)) (back : Option ℕ → Option ℕ) (from : Option ℕ) (xs : List ℕ) (n : ℕ) → Chain (follow first next) back from xs → length xs ≤ n → walk next n (follow first next from) ≡ xs
+pub walk-chain : (first : Option ℕ) (next : List (Option ℕ)) (back : Option ℕ → Option ℕ) (from : Option ℕ) (xs : List ℕ) (n : ℕ)
+    → Chain (follow first next) back from xs → length xs ≤ n → walk next n (follow first next from) ≡ xs
 walk-chain first next back from [] zero c le = refl
 walk-chain first next back from [] (suc n) c le = ap (λ (o : Option ℕ). walk next (suc n) o) c.0
 walk-chain first next back from (x ∷ xs) zero c le = absurd (omega arith)

@@ -53,7 +53,8 @@ pub Contains-without_frame : (xs : List ℕ) (f g : ℕ) → Contains xs g → g
 Contains-without_frame [] f g h ne = absurd (Contains-none g h)
 Contains-without_frame (x ∷ xs) f g h ne = elim (cases_eq x f) [
   | inl e ↦ subst (λ (l : List ℕ). Contains l g) (sym (without_frame-same x xs f e)) (elim (Contains-cases x g xs h) [ inl q ↦ absurd (ne (sym q ∙ e)) | inr i ↦ Contains-without_frame xs f g i ne ])
-  | inr apart ↦ subst (λ (l : List ℕ). Contains l g) (sym (without_frame-other x xs f apart)) (elim (Contains-cases x g xs h) [ inl q ↦ Contains-first x g (without_frame xs f) q | inr i ↦ Contains-rest x g (without_frame xs f) (Contains-without_frame xs f g i ne) ])
+  | inr apart ↦ subst (λ (l : List ℕ). Contains l g) (sym (without_frame-other x xs f apart))
+      (elim (Contains-cases x g xs h) [ inl q ↦ Contains-first x g (without_frame xs f) q | inr i ↦ Contains-rest x g (without_frame xs f) (Contains-without_frame xs f g i ne) ])
 ]
 
 pub once-without_frame : (xs : List ℕ) (f : ℕ) → IsOnce xs → IsOnce (without_frame xs f)
@@ -81,7 +82,8 @@ pub once-short : (n : ℕ) (xs : List ℕ) → IsOnce xs → ((g : ℕ) → Cont
 once-short zero [] o low = omega arith
 once-short zero (x ∷ xs) o low = absurd (let a = low x (Contains-first x x xs refl) in omega arith)
 once-short (suc n) xs o low =
-    let rest : length (without_frame xs n) ≤ n = once-short n (without_frame xs n) (once-without_frame xs n o) (λ g h. let r = Contains-from_without_frame xs n g h in let a : g < suc n = low g r.0 in let b : g ≢ n = r.1 in omega arith) in
+    let rest : length (without_frame xs n) ≤ n = once-short n (without_frame xs n) (once-without_frame xs n o)
+    (λ g h. let r = Contains-from_without_frame xs n g h in let a : g < suc n = low g r.0 in let b : g ≢ n = r.1 in omega arith) in
     let more : length xs ≤ length (without_frame xs n) + 1 = length-without_frame xs n o in
     omega arith
 

@@ -1,5 +1,6 @@
 -- What a queue's links and marks say, as frames come and go.
-use Rattle.std.proofs.Common.{◌≡◌, ◌≢◌, ℕ, ◌<◌, ◌↔◌, inl, inr, Bool, true, false, Option, Some, None, List, [], ◌∷◌, ◌++◌, length, zero, suc, refl, sym, ◌∙◌, ap, subst, arith, get_or, set, replicate, Contains}
+use Rattle.std.proofs.Common.{◌≡◌, ◌≢◌, ℕ, ◌<◌, ◌↔◌, inl, inr, Bool, true, false, Option, Some, None, List, [], ◌∷◌, ◌++◌, length, zero, suc, refl, sym, ◌∙◌}
+use Rattle.std.proofs.Common.{ap, subst, arith, get_or, set, replicate, Contains}
 use Rattle.std.proofs.lemmas.List.{get_or-set_same, get_or-set_other, get_or_default, length-replicate}
 use Rattle.std.proofs.lemmas.List.Elements.{Contains-append_left, Contains-push, Contains-push_cases}
 use Rattle.std.proofs.Math.ListN.{length-set}
@@ -32,7 +33,8 @@ pub record Holds (first last : Option ℕ) (next previous : List (Option ℕ)) (
   pub seen : queue_of first next ≡ record { frames = frames; order = xs }
   pub queue : IsQueue (queue_of first next)
 
-pub ring-holds : (first last : Option ℕ) (next previous : List (Option ℕ)) (listed : List Bool) (frames : ℕ) (xs : List ℕ) → IsSoundQueue first last next previous listed xs → length next ≡ frames → Holds first last next previous listed frames xs
+pub ring-holds : (first last : Option ℕ) (next previous : List (Option ℕ)) (listed : List Bool) (frames : ℕ) (xs : List ℕ)
+    → IsSoundQueue first last next previous listed xs → length next ≡ frames → Holds first last next previous listed frames xs
 ring-holds first last next previous listed frames xs ring n =
     let w = ring-walk first last next previous listed xs ring in
     record {
@@ -51,7 +53,8 @@ all_same (suc n) zero d = refl
 all_same (suc n) (suc k) d = all_same n k d
 
 -- no frame yet
-pub ring-none : (next previous : List (Option ℕ)) (listed : List Bool) (frames : ℕ) → next ≡ replicate frames None → previous ≡ replicate frames None → listed ≡ replicate frames false → IsSoundQueue None None next previous listed []
+pub ring-none : (next previous : List (Option ℕ)) (listed : List Bool) (frames : ℕ) → next ≡ replicate frames None → previous ≡ replicate frames None
+    → listed ≡ replicate frames false → IsSoundQueue None None next previous listed []
 ring-none next previous listed frames en ep el =
     let n : length next ≡ frames = ap (λ (l : List (Option ℕ)). length l) en ∙ length-replicate frames None in
     let p : length previous ≡ frames = ap (λ (l : List (Option ℕ)). length l) ep ∙ length-replicate frames None in
@@ -94,7 +97,8 @@ module _ {first last : Option ℕ} {next previous : List (Option ℕ)} {listed :
       record {
         previous_length = p ∙ sym n;
         listed_length = m ∙ sym n;
-        chain = chain-appended (follow first next) (follow last previous) (follow first_new (set next_new frame None)) (follow (Some frame) (set previous frame last)) None xs frame ring.chain absent (λ z. cc)
+        chain = chain-appended (follow first next) (follow last previous) (follow first_new (set next_new frame None))
+            (follow (Some frame) (set previous frame last)) None xs frame ring.chain absent (λ z. cc)
             (get_or-set_same next_new frame None None in_new)
             (follow_other first_new next_new frame None last last_not ∙ into)
             (λ q ne apart. follow_other first_new next_new frame None q apart ∙ kept q ne)
@@ -104,7 +108,10 @@ module _ {first last : Option ℕ} {next previous : List (Option ℕ)} {listed :
         once = once-more xs frame ring.once absent;
         below = λ g h. subst (λ (k : ℕ). g < k) (sym n) (elim (Contains-push_cases xs frame g h) [ inl i ↦ ring.below g i | inr e ↦ subst (λ (k : ℕ). k < length next) e lt ]);
         marked = λ g. elim (cases_eq g frame) [
-          | inl e ↦ ((λ h. subst (λ (k : ℕ). Contains (xs ++ frame ∷ []) k) (sym e) (Contains-push xs frame)), (λ h. subst (λ (k : ℕ). get_or (set listed frame true) k false ≡ true) (sym e) (get_or-set_same listed frame true false in_listed)))
+          | inl e ↦ (
+            (λ h. subst (λ (k : ℕ). Contains (xs ++ frame ∷ []) k) (sym e) (Contains-push xs frame)),
+            (λ h. subst (λ (k : ℕ). get_or (set listed frame true) k false ≡ true) (sym e) (get_or-set_same listed frame true false in_listed)),
+          )
           | inr ne ↦
               let same : get_or (set listed frame true) g false ≡ get_or listed g false = get_or-set_other listed frame g true false ne in (
                 (λ h. Contains-append_left xs (frame ∷ []) g ((ring.marked g).0 (sym same ∙ h))),
@@ -125,12 +132,14 @@ module _ {first last : Option ℕ} {next previous : List (Option ℕ)} {listed :
       record {
         previous_length = p ∙ ring.previous_length ∙ sym n;
         listed_length = m ∙ sym n;
-        chain = chain-removed (follow first next) (follow last previous) (follow first_new next_new) (follow last_new previous_new) None xs frame ring.chain ring.once h (λ g i z. cc) into kept before still;
+        chain = chain-removed (follow first next) (follow last previous) (follow first_new next_new)
+            (follow last_new previous_new) None xs frame ring.chain ring.once h (λ g i z. cc) into kept before still;
         once = once-without_frame xs frame ring.once;
         below = λ g i. subst (λ (k : ℕ). g < k) (sym n) (let r = Contains-from_without_frame xs frame g i in ring.below g r.0);
         marked = λ g. elim (cases_eq g frame) [
           | inl e ↦
-              let off : get_or (set listed frame false) g false ≡ false = subst (λ (k : ℕ). get_or (set listed frame false) k false ≡ false) (sym e) (get_or-set_same listed frame false false in_listed) in
+              let off : get_or (set listed frame false) g false ≡ false = subst (λ (k : ℕ). get_or (set listed frame false) k false ≡ false) (sym e)
+              (get_or-set_same listed frame false false in_listed) in
               ((λ t. let z : false ≡ true = sym off ∙ t in cc), (λ i. let r = Contains-from_without_frame xs frame g i in absurd (r.1 e)))
           | inr ne ↦
               let same : get_or (set listed frame false) g false ≡ get_or listed g false = get_or-set_other listed frame g false false ne in
@@ -145,7 +154,8 @@ pub record Linked (next previous : List (Option ℕ)) (now : QueueSeen) (frame :
   pub after_is : after ≡ get_or next frame None
 
 -- a queue, as it is seen
-module _ {first last : Option ℕ} {next previous : List (Option ℕ)} {listed : List Bool} {now : QueueSeen} (sound : IsSoundQueue first last next previous listed (queue_of first next).order) (seen : queue_of first next ≡ now) where
+module _ {first last : Option ℕ} {next previous : List (Option ℕ)} {listed : List Bool} {now : QueueSeen}
+    (sound : IsSoundQueue first last next previous listed (queue_of first next).order) (seen : queue_of first next ≡ now) where
   frames_seen : length next ≡ now.frames
   frames_seen = ap (λ (q : QueueSeen). q.frames) seen
 
@@ -187,7 +197,8 @@ module _ {first last : Option ℕ} {next previous : List (Option ℕ)} {listed :
       let m : mark ≡ get_or listed frame false = e ∙ get_or_default listed frame mark false in_listed in
       ((λ t. (ring_seen.marked frame).0 (sym m ∙ t)), (λ h. m ∙ (ring_seen.marked frame).1 h))
 
-  pub linked : {frame : ℕ} {mark : Bool} {before after : Option ℕ} → frame < now.frames → mark ≡ get_or listed frame mark → mark ≡ true → before ≡ get_or previous frame before → after ≡ get_or next frame after → Linked next previous now frame before after
+  pub linked : {frame : ℕ} {mark : Bool} {before after : Option ℕ} → frame < now.frames → mark ≡ get_or listed frame mark → mark ≡ true
+      → before ≡ get_or previous frame before → after ≡ get_or next frame after → Linked next previous now frame before after
   linked {frame} {mark} {before} {after} lt e t b a =
       let n = frames_seen in
       let p = sound.previous_length in
@@ -219,7 +230,8 @@ module _ {first last : Option ℕ} {next previous : List (Option ℕ)} {listed :
 pub none-off : (now : QueueSeen) (frame : ℕ) → (Contains now.order frame → ⊥) → now ≡ record { frames = now.frames; order = without_frame now.order frame }
 none-off now frame absent = seen_as now.frames now.frames now.order (without_frame now.order frame) refl (sym (without_frame-absent now.order frame absent))
 
-pub first-off : (now new : QueueSeen) (frame f : ℕ) → now.order ≡ frame ∷ without_frame now.order frame → new ≡ record { frames = now.frames; order = without_frame now.order frame } → frame ≡ f → now ≡ record { frames = new.frames; order = f ∷ new.order }
+pub first-off : (now new : QueueSeen) (frame f : ℕ) → now.order ≡ frame ∷ without_frame now.order frame
+    → new ≡ record { frames = now.frames; order = without_frame now.order frame } → frame ≡ f → now ≡ record { frames = new.frames; order = f ∷ new.order }
 first-off now new frame f ahead e q =
     seen_as now.frames new.frames now.order (f ∷ new.order) (sym (ap (λ (x : QueueSeen). x.frames) e))
     (ahead ∙ ap (λ (k : ℕ). k ∷ without_frame now.order frame) q ∙ ap (λ (l : List ℕ). f ∷ l) (sym (ap (λ (x : QueueSeen). x.order) e)))

@@ -28,7 +28,8 @@ use Rattle.page_store.specs.Value.{value, tells}
 use Rattle.page_store.specs.declared.residence.Residence.TheVariants.{Absent}
 use Rattle.page_store.proofs.Agree.{SameOut, same-out, same-row, Calm, own-far, clean-calm, alike-calm, fits-calm, backing_value-calm, outside-calm, outside-then}
 use Rattle.page_store.proofs.Elsewhere.{Elsewhere, OneFrame, SoundAt, one-elsewhere, same-elsewhere, elsewhere-then, only-none, sound-one, touches, touches-one, paired-one, value-elsewhere}
-use Rattle.page_store.proofs.FrameLaws.{some-or-none, some-not, eq-same, eq-is, eq-far, false-left, false-right, agrees-at, home-unheld, home-ungone, home-source, away-snapshot, away-held, named-unsourced}
+use Rattle.page_store.proofs.FrameLaws.{some-or-none, some-not, eq-same, eq-is, eq-far, false-left, false-right, agrees-at, home-unheld, home-ungone}
+use Rattle.page_store.proofs.FrameLaws.{home-source, away-snapshot, away-held, named-unsourced}
 use Rattle.page_store.proofs.Links.{either, or-both, family-own, family-copy, sound-parted, same-parted, elsewhere-parted, parted-own, parted-own-row}
 use Rattle.page_store.proofs.QueryLemmas.{IsIn, bytes-within, found-within}
 use Rattle.page_store.proofs.RowSteps.{residence-rows, values-rows, calm-rows}
@@ -60,10 +61,16 @@ forsakes_so s own (Some copy) sound e =
       rows = same-parted s own copy (row_at s.rows own).modified sound source;
       single = ap (λ (r : Row). r.snapshot) (parted-own-row s own copy (row_at s.rows own).modified sound source);
       modified = ap (λ (r : Row). r.modified) (parted-own-row s own copy (row_at s.rows own).modified sound source);
-      elsewhere = elsewhere-then s (with_pair_parted s own copy (row_at s.rows own).modified) (with_pair_parted s own copy (row_at s.rows own).modified) (either own copy) (either own copy) (family s own)
-          (λ k h. (or-both (k == own) (k == copy) (eq-far k own (family-own s own k h)) (family-copy s own copy k e h), or-both (k == own) (k == copy) (eq-far k own (family-own s own k h)) (family-copy s own copy k e h)))
+      elsewhere = elsewhere-then s (with_pair_parted s own copy (row_at s.rows own).modified) (with_pair_parted s own copy (row_at s.rows own).modified)
+          (either own copy) (either own copy) (family s own)
+          (λ k h. (
+            or-both (k == own) (k == copy) (eq-far k own (family-own s own k h)) (family-copy s own copy k e h),
+            or-both (k == own) (k == copy)
+                (eq-far k own (family-own s own k h)) (family-copy s own copy k e h),
+          ))
           (elsewhere-parted s own copy (row_at s.rows own).modified sound source) (same-elsewhere (with_pair_parted s own copy (row_at s.rows own).modified) (either own copy));
-      values = λ notes table fits. values-rows s (rows_without (Some copy) s.rows own) s.free s.cached s.clock (same-parted s own copy (row_at s.rows own).modified sound source) notes table fits fits.each_cached;
+      values = λ notes table fits. values-rows s (rows_without (Some copy) s.rows own) s.free s.cached s.clock
+          (same-parted s own copy (row_at s.rows own).modified sound source) notes table fits fits.each_cached;
       length = length-set (set s.rows copy (record (row_at s.rows copy) { source = None; gone = true })) own (record (row_at s.rows own) { snapshot = None; modified = (row_at s.rows own).modified })
           ∙ length-set s.rows copy (record (row_at s.rows copy) { source = None; gone = true });
     }
@@ -73,7 +80,8 @@ forsakes s own sound = forsakes_so s own (row_at s.rows own).snapshot sound refl
 
 pub forsaken-unheld : (s : StoreSeen) (page : PageName) (own : ℕ) → IsSoundStore s → IsIn s page own → (row_at (without_snapshot s own).rows own).holder ≡ None
 forsaken-unheld s page own sound i =
-    home-unheld (bytes_at s.frames own) (name_at s.names own) (row_at (without_snapshot s own).rows own) ((forsakes s own sound).sound.each own (bytes-within s.frames own i.bytes i.there)) (subst (λ (b : Option (List ℕ)). IsSome b) (sym i.there) refl)
+    home-unheld (bytes_at s.frames own) (name_at s.names own) (row_at (without_snapshot s own).rows own)
+    ((forsakes s own sound).sound.each own (bytes-within s.frames own i.bytes i.there)) (subst (λ (b : Option (List ℕ)). IsSome b) (sym i.there) refl)
 
 -- a page that has no snapshot away is given up
 module _ (s : StoreSeen) (page : PageName) (f : ℕ) (sound : IsSoundStore s) (found : find s.names page ≡ Some f) (single : (row_at s.rows f).snapshot ≡ None) where
@@ -170,7 +178,8 @@ module _ (s : StoreSeen) (page : PageName) (f : ℕ) (sound : IsSoundStore s) (f
         order = sound.order;
         distinct = distinct_after;
         lists = sound.lists;
-        paired = paired-one s (with_page_given_up s f None) f (one_given None) sound.paired single unsourced (ap (λ (r : Row). r.snapshot) gone_row ∙ single) (ap (λ (r : Row). r.source) gone_row ∙ unsourced);
+        paired = paired-one s (with_page_given_up s f None) f (one_given None) sound.paired single unsourced (ap (λ (r : Row). r.snapshot) gone_row ∙ single)
+            (ap (λ (r : Row). r.source) gone_row ∙ unsourced);
         whole = sound.whole;
       })
       (record {
@@ -189,7 +198,8 @@ module _ (s : StoreSeen) (page : PageName) (f : ℕ) (sound : IsSoundStore s) (f
         order = sound.order;
         distinct = distinct_after;
         lists = lists_given;
-        paired = paired-one s (with_page_given_up s f (Some bytes)) f (one_given (Some bytes)) sound.paired single unsourced (ap (λ (r : Row). r.snapshot) free_row) (ap (λ (r : Row). r.source) free_row);
+        paired = paired-one s (with_page_given_up s f (Some bytes)) f (one_given (Some bytes)) sound.paired single unsourced
+            (ap (λ (r : Row). r.snapshot) free_row) (ap (λ (r : Row). r.source) free_row);
         whole = sound.whole;
       })
       (record {
@@ -212,7 +222,11 @@ module _ (s : StoreSeen) (page : PageName) (f : ℕ) (sound : IsSoundStore s) (f
       let there : IsSome (bytes_at s.frames f) = subst (λ (b : Option (List ℕ)). IsSome b) (sym e) refl in
       let was = sound.each f within in
       subst (λ (r : Row). SameOut (row_at s.rows f) r) (sym free_row)
-      (record { holder = sym (home-unheld (bytes_at s.frames f) (name_at s.names f) (row_at s.rows f) was there); page = inl (sym (home-ungone (bytes_at s.frames f) (name_at s.names f) (row_at s.rows f) was there), sym unsourced) })
+      (record {
+        holder = sym (home-unheld (bytes_at s.frames f) (name_at s.names f) (row_at s.rows f) was there);
+        page = inl
+            (sym (home-ungone (bytes_at s.frames f) (name_at s.names f) (row_at s.rows f) was there), sym unsourced);
+      })
 
   frames_given : (b : Option (List ℕ)) → (with_page_given_up s f b).frames ≡ s.frames
   frames_given None = refl
@@ -249,15 +263,18 @@ module _ (s : StoreSeen) (page : PageName) (f : ℕ) (sound : IsSoundStore s) (f
   }
 
   -- the laws of a page that is given up
-  pub others-given : (b : Option (List ℕ)) → bytes_at s.frames f ≡ b → (notes : Notes) (table : PlaceTable) → StoreFits s notes table → KeepsOtherValues s notes (with_page_given_up s f b) notes table page
+  pub others-given : (b : Option (List ℕ)) → bytes_at s.frames f ≡ b → (notes : Notes) (table : PlaceTable) → StoreFits s notes table
+      → KeepsOtherValues s notes (with_page_given_up s f b) notes table page
   others-given b e notes table fits = record {
     fits = fits-calm s (with_page_given_up s f b) notes table (calm_given b e)
         (λ k n h m.
         let far : k ≢ f = λ (q : k ≡ f). no_after b n (ap (name_at (with_page_given_up s f b).names) (sym q) ∙ m) in
-        clean-calm s (with_page_given_up s f b) notes table (calm_given b e) k n (fits.each_cached k n (((one_given b).cached k far).0 h) (sym ((one_given b).names k far) ∙ m)) ((one_given b).bytes k far)) fits;
+        clean-calm s (with_page_given_up s f b) notes table (calm_given b e) k n
+        (fits.each_cached k n (((one_given b).cached k far).0 h) (sym ((one_given b).names k far) ∙ m)) ((one_given b).bytes k far)) fits;
     alike = alike-calm s (with_page_given_up s f b) notes table (calm_given b e);
     values = λ n ne t. value-elsewhere s (with_page_given_up s f b) (is_only (Some f)) (distinct_given b) (one-elsewhere s (with_page_given_up s f b) f (one_given b)) notes notes table n
-        (only-none s.names f n (no_before n ne)) (only-none (with_page_given_up s f b).names f n (no_after b n)) (backing_value-calm s (with_page_given_up s f b) notes table (calm_given b e) (table n)) (λ g t far h. refl);
+        (only-none s.names f n (no_before n ne)) (only-none (with_page_given_up s f b).names f n (no_after b n))
+        (backing_value-calm s (with_page_given_up s f b) notes table (calm_given b e) (table n)) (λ g t far h. refl);
   }
 
   pub outside-given : (b : Option (List ℕ)) → bytes_at s.frames f ≡ b → SameFlights s (with_page_given_up s f b)
@@ -273,7 +290,8 @@ module _ (s : StoreSeen) (page : PageName) (f : ℕ) (sound : IsSoundStore s) (f
   distinct-given b = distinct_given b
 
   pub stay-given : (b : Option (List ℕ)) (n : PageName) → n ≢ page → residence (with_page_given_up s f b) n ≡ residence s n
-  stay-given b n ne = (touches-one s (with_page_given_up s f b) f (distinct_given b) (one_given b)).residence n (only-none s.names f n (no_before n ne)) (only-none (with_page_given_up s f b).names f n (no_after b n))
+  stay-given b n ne = (touches-one s (with_page_given_up s f b) f (distinct_given b) (one_given b)).residence n (only-none s.names f n (no_before n ne))
+      (only-none (with_page_given_up s f b).names f n (no_after b n))
 
   pub absent-given : (b : Option (List ℕ)) → residence (with_page_given_up s f b) page ≡ Absent
   absent-given b = ap (λ (o : Option ℕ). residence_in o (with_page_given_up s f b)) (ap (λ (l : List (Option PageName)). find l page) (names_given b) ∙ find-emptied s.names page f sound.distinct held)
@@ -288,8 +306,11 @@ aborts-frame s page f sound found =
       touches = subst (λ (o : Option ℕ). Touches s (with_page_given_up (without_snapshot s f) f b) (family_of s o)) (sym found)
           (touches s (with_page_given_up (without_snapshot s f) f b) (family s f) (distinct-given (without_snapshot s f) page f mid.sound found mid.single b)
           (elsewhere-then s (without_snapshot s f) (with_page_given_up (without_snapshot s f) f b) (family s f) (is_only (Some f)) (family s f)
-          (λ k h. (h, eq-far k f (family-own s f k h))) mid.elsewhere (one-elsewhere (without_snapshot s f) (with_page_given_up (without_snapshot s f) f b) f (one-given (without_snapshot s f) page f mid.sound found mid.single b))));
-      outside = outside-then s (without_snapshot s f) (with_page_given_up (without_snapshot s f) f b) (outside-calm s (without_snapshot s f) (calm-rows s (without_snapshot s f).rows s.free s.cached s.clock mid.rows) sound) (outside-given (without_snapshot s f) page f mid.sound found mid.single b refl);
+          (λ k h. (h, eq-far k f (family-own s f k h))) mid.elsewhere
+          (one-elsewhere (without_snapshot s f) (with_page_given_up (without_snapshot s f) f b) f (one-given (without_snapshot s f) page f mid.sound found mid.single b))));
+      outside = outside-then s (without_snapshot s f) (with_page_given_up (without_snapshot s f) f b)
+          (outside-calm s (without_snapshot s f) (calm-rows s (without_snapshot s f).rows s.free s.cached s.clock mid.rows) sound)
+          (outside-given (without_snapshot s f) page f mid.sound found mid.single b refl);
       absent = absent-given (without_snapshot s f) page f mid.sound found mid.single b;
       stay = λ n ne. stay-given (without_snapshot s f) page f mid.sound found mid.single b n ne ∙ residence-rows s (without_snapshot s f).rows s.free s.cached s.clock mid.rows n;
       others = λ notes table fits.
@@ -311,7 +332,8 @@ aborts-none s page sound absent = record {
 
 -- what the parts make of the store
 made_so : (core : CoreSeen) (names : List (Option PageName)) (lists : ListsSeen) (rows : List Row) (clock : ClockSeen) (bays : List BaySeen) (order : List ℕ) (f : ℕ) (b : Option (List ℕ))
-    → store_of core (set names f None) (cond (is_some b) (record lists { cached = without_frame lists.cached f; free = lists.free ++ f ∷ [] }) lists) (cond (is_some b) (set rows f clear_row) (set rows f (record (row_at rows f) { gone = true }))) clock bays order ≡ with_page_given_up (store_of core names lists rows clock bays order) f b
+    → store_of core (set names f None) (cond (is_some b) (record lists { cached = without_frame lists.cached f; free = lists.free ++ f ∷ [] }) lists)
+    (cond (is_some b) (set rows f clear_row) (set rows f (record (row_at rows f) { gone = true }))) clock bays order ≡ with_page_given_up (store_of core names lists rows clock bays order) f b
 made_so core names lists rows clock bays order f None = refl
 made_so core names lists rows clock bays order f (Some bytes) = refl
 
@@ -323,7 +345,8 @@ pub made-given : (core : CoreSeen) (names names' : List (Option PageName)) (list
 made-given core names names' lists lists' rows mid rows' clock bays order f a m b c =
     ap (λ (l : List (Option PageName)). store_of core l lists' rows' clock bays order) a
     ∙ ap (λ (l : ListsSeen). store_of core (set names f None) l rows' clock bays order) b
-    ∙ ap (λ (r : List Row). store_of core (set names f None) (cond (is_some (bytes_at core.frames f)) (record lists { cached = without_frame lists.cached f; free = lists.free ++ f ∷ [] }) lists) r clock bays order) c
+    ∙ ap (λ (r : List Row). store_of core (set names f None) (cond (is_some (bytes_at core.frames f))
+    (record lists { cached = without_frame lists.cached f; free = lists.free ++ f ∷ [] }) lists) r clock bays order) c
     ∙ made_so core names lists mid clock bays order f (bytes_at core.frames f)
     ∙ ap (λ (r : List Row). with_page_given_up (store_of core names lists r clock bays order) f (bytes_at core.frames f)) m
 
@@ -331,5 +354,6 @@ frames_so : (lists : ListsSeen) (f : ℕ) (b : Bool) → (cond b (record lists {
 frames_so lists f true = refl
 frames_so lists f false = refl
 
-pub frames-given : (lists lists' : ListsSeen) (f : ℕ) (b : Bool) → lists' ≡ cond b (record lists { cached = without_frame lists.cached f; free = lists.free ++ f ∷ [] }) lists → lists'.frames ≡ lists.frames
+pub frames-given : (lists lists' : ListsSeen) (f : ℕ) (b : Bool) → lists' ≡ cond b
+    (record lists { cached = without_frame lists.cached f; free = lists.free ++ f ∷ [] }) lists → lists'.frames ≡ lists.frames
 frames-given lists lists' f b e = ap (λ (l : ListsSeen). l.frames) e ∙ frames_so lists f b

@@ -1,5 +1,6 @@
 -- A frame and a disk go out.
-use Rattle.std.proofs.Common.{unwrap_or, ◌≡◌, ◌≢◌, ℕ, ◌<◌, Bool, true, false, cond, ◌⊎◌, inl, inr, List, [], ◌∷◌, Option, Some, None, IsTrue, IsSome, refl, sym, ◌∙◌, ap, subst, arith, length, set, is_some}
+use Rattle.std.proofs.Common.{unwrap_or, ◌≡◌, ◌≢◌, ℕ, ◌<◌, Bool, true, false, cond, ◌⊎◌, inl, inr, List, [], ◌∷◌, Option, Some, None, IsTrue, IsSome, refl, sym}
+use Rattle.std.proofs.Common.{◌∙◌, ap, subst, arith, length, set, is_some}
 use Rattle.std.specs.Option.{option_or}
 use Rattle.std.specs.Prelude.{◌&&◌, ◌||◌, ◌==◌, is_none, Contains}
 use Rattle.std.proofs.lemmas.Bool.{cases_eq, cases_Bool}
@@ -35,8 +36,10 @@ use Rattle.page_store.specs.declared.residence.Residence.{Residence}
 use Rattle.page_store.specs.declared.residence.Residence.TheVariants.{Home, Moving, Absent}
 use Rattle.page_store.proofs.Agree.{Leaves, SameOut, same-row, own-self, own-other, backing_value-left, alike-left, notes-left, fits-left}
 use Rattle.page_store.proofs.AbortLemmas.{Forsakes, forsakes}
-use Rattle.page_store.proofs.Elsewhere.{Elsewhere, OneFrame, SoundAt, one-elsewhere, one-within, of-touches, elsewhere-then, same-elsewhere, only-none, sound-one, sound-elsewhere, touches, touches-one, paired-one, value-elsewhere}
-use Rattle.page_store.proofs.FillLemmas.{taken-home, taken-within, taken-name, taken-row, taken-snapshot, taken-source, taken-free, taken-cached, taken-lost, taken-value, next-is, next-own, next-other}
+use Rattle.page_store.proofs.Elsewhere.{Elsewhere, OneFrame, SoundAt, one-elsewhere, one-within, of-touches, elsewhere-then, same-elsewhere, only-none}
+use Rattle.page_store.proofs.Elsewhere.{sound-one, sound-elsewhere, touches, touches-one, paired-one, value-elsewhere}
+use Rattle.page_store.proofs.FillLemmas.{taken-home, taken-within, taken-name, taken-row, taken-snapshot, taken-source, taken-free, taken-cached, taken-lost}
+use Rattle.page_store.proofs.FillLemmas.{taken-value, next-is, next-own, next-other}
 use Rattle.page_store.proofs.FrameLaws.{some-not, eq-far, false-left, false-right, named-ungone, named-unsourced}
 use Rattle.page_store.proofs.Links.{either, cases-either, either-is, either-not, or-both, family-own, family-of-own, two-own, two-copy, two-else, two-length}
 use Rattle.page_store.proofs.QueryLemmas.{bytes-within}
@@ -103,13 +106,16 @@ module _ (s : StoreSeen) (f : FlightSeen) (sound : IsSoundStore s) (next : next_
         bays = length-set s.bays f.number (out f.seat);
         order = order-set s.bays s.order f.number (out f.seat) bay_within (λ q. let z : home f.disk ≡ missing = sym there ∙ q in cc) (λ q. cc) sound.order;
         distinct = distinct_now;
-        lists = subst (λ (n : ℕ). AreApart (record { frames = n; free = rest_free s.free; cached = rest_cached s.free s.cached })) (sym (length-set s.frames f.frame None)) (rest-apart (length s.frames) s.free s.cached sound.lists);
-        paired = paired-one s (with_read_begun s f.frame f.name f.seat f.number) f.frame one_fetched sound.paired (taken-snapshot s f.frame sound next) (taken-source s f.frame sound next) (ap (λ (r : Row). r.snapshot) row_now) (ap (λ (r : Row). r.source) row_now);
+        lists = subst (λ (n : ℕ). AreApart (record { frames = n; free = rest_free s.free; cached = rest_cached s.free s.cached }))
+            (sym (length-set s.frames f.frame None)) (rest-apart (length s.frames) s.free s.cached sound.lists);
+        paired = paired-one s (with_read_begun s f.frame f.name f.seat f.number) f.frame one_fetched sound.paired (taken-snapshot s f.frame sound next)
+            (taken-source s f.frame sound next) (ap (λ (r : Row). r.snapshot) row_now) (ap (λ (r : Row). r.source) row_now);
         whole = whole-out s.bays f.number f.seat bay_within sound.whole;
       })
       (record {
         agrees = subst (λ (b : Option (List ℕ)). FrameAgrees b (name_at (set s.names f.frame (Some f.name)) f.frame) (row_at (set s.rows f.frame (held_row clear_row f.seat)) f.frame)) (sym away_now)
-            (subst (λ (n : Option PageName). FrameAgrees None n (row_at (set s.rows f.frame (held_row clear_row f.seat)) f.frame)) (sym name_now) (subst (λ (r : Row). FrameAgrees None (Some f.name) r) (sym row_now) agrees_fetched));
+            (subst (λ (n : Option PageName). FrameAgrees None n (row_at (set s.rows f.frame (held_row clear_row f.seat)) f.frame)) (sym name_now)
+            (subst (λ (r : Row). FrameAgrees None (Some f.name) r) (sym row_now) agrees_fetched));
         listed = λ l. elim l [ inl a ↦ absurd (taken-free s f.frame sound next a) | inr b ↦ absurd (taken-cached s f.frame sound next b) ];
         unnamed = λ h. absurd (taken-free s f.frame sound next h);
         spare = λ t n. absurd (some-not (bytes_at (set s.frames f.frame None) f.frame) t away_now);
@@ -141,7 +147,8 @@ module _ (s : StoreSeen) (f : FlightSeen) (sound : IsSoundStore s) (next : next_
   lost_fetched : (n : PageName) → name_at s.names f.frame ≡ Some n → find (set s.names f.frame (Some f.name)) n ≡ None
   lost_fetched n h = taken-lost s f.frame sound next (Some f.name) n (λ q. let z : Some f.name ≡ Some n = q in before_far n h (let w : f.name ≡ n = cc in sym w)) h
 
-  module _ (notes : Notes) (table : PlaceTable) (fits : StoreFits s notes table) (idle : notes f.seat ≡ None) (lives : table f.name ≡ record { disk = f.number; block = f.block; valid = f.valid; blank = false }) where
+  module _ (notes : Notes) (table : PlaceTable) (fits : StoreFits s notes table) (idle : notes f.seat ≡ None)
+      (lives : table f.name ≡ record { disk = f.number; block = f.block; valid = f.valid; blank = false }) where
     leaves_fetched : Leaves s (with_read_begun s f.frame f.name f.seat f.number) notes table f.seat (note_of f)
     leaves_fetched = record {
       sound = sound;
@@ -168,7 +175,8 @@ module _ (s : StoreSeen) (f : FlightSeen) (sound : IsSoundStore s) (next : next_
         whole = whole_f;
         bytes = size_f;
       };
-      cached = λ k h. let far : k ≢ f.frame = λ (q : k ≡ f.frame). taken-cached s f.frame sound next (subst (λ (j : ℕ). Contains (rest_cached s.free s.cached) j) q h) in ((one_fetched.cached k far).0 h, far);
+      cached = λ k h. let far : k ≢ f.frame = λ (q : k ≡ f.frame). taken-cached s f.frame sound next
+          (subst (λ (j : ℕ). Contains (rest_cached s.free s.cached) j) q h) in ((one_fetched.cached k far).0 h, far);
       unwritten = λ w. absurd (let z : true ≡ false = sym w ∙ reads in cc);
     }
 
@@ -182,15 +190,19 @@ module _ (s : StoreSeen) (f : FlightSeen) (sound : IsSoundStore s) (next : next_
     own_before : value s notes table f.name ≡ backing_value s notes (table f.name)
     own_before = ap (λ (o : Option ℕ). value_in o s notes (table f.name)) absent
 
-    value_fetched : (n : PageName) → IsTrue (tells s notes (table n).disk) → value (with_read_begun s f.frame f.name f.seat f.number) (with_note notes f.seat (Some (note_of f))) table n ≡ after_taking (next_name s) n (table n) (value s notes table n)
+    value_fetched : (n : PageName) → IsTrue (tells s notes (table n).disk)
+        → value (with_read_begun s f.frame f.name f.seat f.number) (with_note notes f.seat (Some (note_of f))) table n ≡ after_taking (next_name s) n (table n) (value s notes table n)
     value_fetched n t = elim (is-or-not n f.name) [
-      | inl e ↦ subst (λ (m : PageName). value (with_read_begun s f.frame f.name f.seat f.number) (with_note notes f.seat (Some (note_of f))) table m ≡ after_taking (next_name s) m (table m) (value s notes table m)) (sym e)
-          (ap (λ (o : Option ℕ). value_in o (with_read_begun s f.frame f.name f.seat f.number) (with_note notes f.seat (Some (note_of f))) (table f.name)) found_now ∙ value_own (table f.name) ∙ sym own_before
+      | inl e ↦ subst (λ (m : PageName). value (with_read_begun s f.frame f.name f.seat f.number)
+          (with_note notes f.seat (Some (note_of f))) table m ≡ after_taking (next_name s) m (table m) (value s notes table m)) (sym e)
+          (ap (λ (o : Option ℕ). value_in o (with_read_begun s f.frame f.name f.seat f.number) (with_note notes f.seat (Some (note_of f)))
+          (table f.name)) found_now ∙ value_own (table f.name) ∙ sym own_before
           ∙ uncut (is_name (next_name s) f.name) (table f.name) (value s notes table f.name) (next-other s f.frame sound next f.name (find-none s.names f.name f.frame absent)))
       | inr ne ↦ elim (holds-or-not (name_at s.names f.frame) n) [
         | inl h ↦ rw (lost_fetched n h, next-own s f.frame sound next n h) (stored_now (table n) ∙ taken-value s f.frame sound next notes table n fits h t)
         | inr before ↦
-            value-elsewhere s (with_read_begun s f.frame f.name f.seat f.number) (is_only (Some f.frame)) distinct_now (one-elsewhere s (with_read_begun s f.frame f.name f.seat f.number) f.frame one_fetched) notes (with_note notes f.seat (Some (note_of f))) table n
+            value-elsewhere s (with_read_begun s f.frame f.name f.seat f.number) (is_only (Some f.frame)) distinct_now
+            (one-elsewhere s (with_read_begun s f.frame f.name f.seat f.number) f.frame one_fetched) notes (with_note notes f.seat (Some (note_of f))) table n
             (only-none s.names f.frame n before) (only-none (set s.names f.frame (Some f.name)) f.frame n (after_far n ne)) (stored_now (table n))
             (λ g u far h. notes-left s (with_read_begun s f.frame f.name f.seat f.number) notes table f.seat (note_of f) leaves_fetched g u h)
             ∙ uncut (is_name (next_name s) n) (table n) (value s notes table n) (next-other s f.frame sound next n before)
@@ -209,7 +221,8 @@ module _ (s : StoreSeen) (f : FlightSeen) (sound : IsSoundStore s) (next : next_
     sound = sound_fetched;
     out = record { origin = origin; out = out_fetched };
     disks = λ k ne. get_or-set_other s.bays f.number k (out f.seat) missing ne;
-    touches = subst (λ (o : Option ℕ). Touches s (with_read_begun s f.frame f.name f.seat f.number) (is_only o)) (sym next) (touches-one s (with_read_begun s f.frame f.name f.seat f.number) f.frame distinct_now one_fetched);
+    touches = subst (λ (o : Option ℕ). Touches s (with_read_begun s f.frame f.name f.seat f.number) (is_only o)) (sym next)
+        (touches-one s (with_read_begun s f.frame f.name f.seat f.number) f.frame distinct_now one_fetched);
     page = rw (found_now, away_now, row_now) refl;
     modified = λ own e. absurd (let z : None ≡ Some own = sym absent ∙ e in cc);
     ungone = ap (λ (r : Row). r.gone) row_now;
@@ -225,7 +238,8 @@ module _ (s : StoreSeen) (f : FlightSeen) (sound : IsSoundStore s) (next : next_
   }
 
 -- a page whose frame goes out itself
-module _ (s : StoreSeen) (f : FlightSeen) (sound : IsSoundStore s) (next : next_frame s ≡ None) (found : find s.names f.name ≡ Some f.frame) (unlisted : IsListedFrame s f.frame → ⊥) (single : (row_at s.rows f.frame).snapshot ≡ None)
+module _ (s : StoreSeen) (f : FlightSeen) (sound : IsSoundStore s) (next : next_frame s ≡ None) (found : find s.names f.name ≡ Some f.frame)
+    (unlisted : IsListedFrame s f.frame → ⊥) (single : (row_at s.rows f.frame).snapshot ≡ None)
     (there : bay_at s.bays f.number ≡ home f.disk) (writes : f.writes ≡ true) (origin : f.origin ≡ s.origin) (bytes : bytes_at s.frames f.frame ≡ Some f.bytes) where
   frame_within : f.frame < length s.frames
   frame_within = bytes-within s.frames f.frame f.bytes bytes
@@ -282,7 +296,8 @@ module _ (s : StoreSeen) (f : FlightSeen) (sound : IsSoundStore s) (next : next_
         order = order-set s.bays s.order f.number (out f.seat) bay_in (λ q. let z : home f.disk ≡ missing = sym there ∙ q in cc) (λ q. cc) sound.order;
         distinct = sound.distinct;
         lists = subst (λ (n : ℕ). AreApart (record { frames = n; free = s.free; cached = s.cached })) (sym (length-set s.frames f.frame None)) sound.lists;
-        paired = paired-one s (with_page_sent s f.frame f.seat f.number) f.frame one_sent sound.paired single own_source (ap (λ (r : Row). r.snapshot) row_sent ∙ single) (ap (λ (r : Row). r.source) row_sent ∙ own_source);
+        paired = paired-one s (with_page_sent s f.frame f.seat f.number) f.frame one_sent sound.paired single own_source
+            (ap (λ (r : Row). r.snapshot) row_sent ∙ single) (ap (λ (r : Row). r.source) row_sent ∙ own_source);
         whole = whole-out s.bays f.number f.seat bay_in sound.whole;
       })
       (record {
@@ -304,7 +319,8 @@ module _ (s : StoreSeen) (f : FlightSeen) (sound : IsSoundStore s) (next : next_
     read = λ w. source_sent;
   }
 
-  leaves_sent : (notes : Notes) (table : PlaceTable) → StoreFits s notes table → notes f.seat ≡ None → LivesAt (Push f.name) table f.number f.block f.valid → Leaves s (with_page_sent s f.frame f.seat f.number) notes table f.seat (note_of f)
+  leaves_sent : (notes : Notes) (table : PlaceTable) → StoreFits s notes table → notes f.seat ≡ None → LivesAt (Push f.name) table f.number f.block f.valid
+      → Leaves s (with_page_sent s f.frame f.seat f.number) notes table f.seat (note_of f)
   leaves_sent notes table fits idle lives = record {
     sound = sound;
     fits = fits;
@@ -339,9 +355,12 @@ module _ (s : StoreSeen) (f : FlightSeen) (sound : IsSoundStore s) (next : next_
   value_sent notes table fits idle lives n = elim (holds-or-not (name_at s.names f.frame) n) [
     | inl h ↦
         let found_n : find s.names n ≡ Some f.frame = find-some s.names n f.frame sound.distinct h in
-        rw (found_n, gone_away, row_sent, with_note-same notes f.seat (Some (note_of f)), bytes) (ap (λ (b : Bool). cond b f.bytes (backing_value (with_page_sent s f.frame f.seat f.number) (with_note notes f.seat (Some (note_of f))) (table n))) writes)
-    | inr before ↦ value-elsewhere s (with_page_sent s f.frame f.seat f.number) (is_only (Some f.frame)) sound.distinct (one-elsewhere s (with_page_sent s f.frame f.seat f.number) f.frame one_sent) notes (with_note notes f.seat (Some (note_of f))) table n
-        (only-none s.names f.frame n before) (only-none s.names f.frame n before) (backing_value-left s (with_page_sent s f.frame f.seat f.number) notes table f.seat (note_of f) (leaves_sent notes table fits idle lives) (table n))
+        rw (found_n, gone_away, row_sent, with_note-same notes f.seat (Some (note_of f)), bytes)
+        (ap (λ (b : Bool). cond b f.bytes (backing_value (with_page_sent s f.frame f.seat f.number) (with_note notes f.seat (Some (note_of f))) (table n))) writes)
+    | inr before ↦ value-elsewhere s (with_page_sent s f.frame f.seat f.number) (is_only (Some f.frame)) sound.distinct
+        (one-elsewhere s (with_page_sent s f.frame f.seat f.number) f.frame one_sent) notes (with_note notes f.seat (Some (note_of f))) table n
+        (only-none s.names f.frame n before) (only-none s.names f.frame n before)
+        (backing_value-left s (with_page_sent s f.frame f.seat f.number) notes table f.seat (note_of f) (leaves_sent notes table fits idle lives) (table n))
         (λ g u far h. notes-left s (with_page_sent s f.frame f.seat f.number) notes table f.seat (note_of f) (leaves_sent notes table fits idle lives) g u h)
   ]
 
@@ -368,7 +387,8 @@ module _ (s : StoreSeen) (f : FlightSeen) (sound : IsSoundStore s) (next : next_
     own = λ own e. own-self (with_page_sent s f.frame f.seat f.number) f.frame source_sent ∙ (let z : Some f.frame ≡ Some own = sym found ∙ e in cc);
     unlisted = unlisted;
     lost = λ n h. absurd (let z : None ≡ Some n = sym none_next ∙ h in cc);
-    stay = λ n ne other. (touches-one s (with_page_sent s f.frame f.seat f.number) f.frame sound.distinct one_sent).residence n (only-none s.names f.frame n (far_name n ne)) (only-none s.names f.frame n (far_name n ne));
+    stay = λ n ne other. (touches-one s (with_page_sent s f.frame f.seat f.number) f.frame sound.distinct one_sent).residence n
+        (only-none s.names f.frame n (far_name n ne)) (only-none s.names f.frame n (far_name n ne));
     whole = sound.whole f.number f.disk there;
     size = (sound.each f.frame frame_within).size f.bytes bytes;
     values = λ notes table fits idle lives. record {
@@ -379,7 +399,8 @@ module _ (s : StoreSeen) (f : FlightSeen) (sound : IsSoundStore s) (next : next_
   }
 
 -- a frame is taken as a snapshot of a page, which stays where it is
-module _ (s : StoreSeen) (f : FlightSeen) (own : ℕ) (sound : IsSoundStore s) (next : next_frame s ≡ Some f.frame) (found : find s.names f.name ≡ Some own) (unlisted : IsListedFrame s own → ⊥) (single : (row_at s.rows own).snapshot ≡ None)
+module _ (s : StoreSeen) (f : FlightSeen) (own : ℕ) (sound : IsSoundStore s) (next : next_frame s ≡ Some f.frame) (found : find s.names f.name ≡ Some own)
+    (unlisted : IsListedFrame s own → ⊥) (single : (row_at s.rows own).snapshot ≡ None)
     (there : bay_at s.bays f.number ≡ home f.disk) (writes : f.writes ≡ true) (origin : f.origin ≡ s.origin) (bytes : bytes_at s.frames own ≡ Some f.bytes) where
   copy_apart : own ≢ f.frame
   copy_apart q = unlisted (subst (λ (k : ℕ). IsListedFrame s k) (sym q) (first-listed s.free s.cached f.frame next))
@@ -397,13 +418,16 @@ module _ (s : StoreSeen) (f : FlightSeen) (own : ℕ) (sound : IsSoundStore s) (
   own_name = find-at s.names f.name own found
 
   at_own : row_at (rows_paired s.rows own f.frame f.seat) own ≡ record (row_at s.rows own) { snapshot = Some f.frame; rewritten = false }
-  at_own = two-own s.rows own f.frame (record (row_at s.rows own) { snapshot = Some f.frame; rewritten = false }) (record clear_row { holder = Some f.seat; source = Some own }) copy_apart own_row_in (taken-row s f.frame sound next)
+  at_own = two-own s.rows own f.frame (record (row_at s.rows own) { snapshot = Some f.frame; rewritten = false })
+      (record clear_row { holder = Some f.seat; source = Some own }) copy_apart own_row_in (taken-row s f.frame sound next)
 
   at_copy : row_at (rows_paired s.rows own f.frame f.seat) f.frame ≡ record clear_row { holder = Some f.seat; source = Some own }
-  at_copy = two-copy s.rows own f.frame (record (row_at s.rows own) { snapshot = Some f.frame; rewritten = false }) (record clear_row { holder = Some f.seat; source = Some own }) copy_apart own_row_in (taken-row s f.frame sound next)
+  at_copy = two-copy s.rows own f.frame (record (row_at s.rows own) { snapshot = Some f.frame; rewritten = false })
+      (record clear_row { holder = Some f.seat; source = Some own }) copy_apart own_row_in (taken-row s f.frame sound next)
 
   at_else : (k : ℕ) → k ≢ own → k ≢ f.frame → row_at (rows_paired s.rows own f.frame f.seat) k ≡ row_at s.rows k
-  at_else k ne far = two-else s.rows own f.frame (record (row_at s.rows own) { snapshot = Some f.frame; rewritten = false }) (record clear_row { holder = Some f.seat; source = Some own }) copy_apart own_row_in (taken-row s f.frame sound next) k ne far
+  at_else k ne far = two-else s.rows own f.frame (record (row_at s.rows own) { snapshot = Some f.frame; rewritten = false })
+      (record clear_row { holder = Some f.seat; source = Some own }) copy_apart own_row_in (taken-row s f.frame sound next) k ne far
 
   away_copied : bytes_at (set s.frames f.frame None) f.frame ≡ None
   away_copied = get_or-set_same s.frames f.frame None None (taken-within s f.frame sound next)
@@ -520,7 +544,9 @@ module _ (s : StoreSeen) (f : FlightSeen) (own : ℕ) (sound : IsSoundStore s) (
 
   agrees_own : FrameAgrees (Some f.bytes) (Some f.name) (record (row_at s.rows own) { snapshot = Some f.frame; rewritten = false })
   agrees_own =
-      let was : FrameAgrees (Some f.bytes) (Some f.name) (row_at s.rows own) = subst (λ (b : Option (List ℕ)). FrameAgrees b (Some f.name) (row_at s.rows own)) bytes (subst (λ (n : Option PageName). FrameAgrees (bytes_at s.frames own) n (row_at s.rows own)) own_name (sound.each own own_in)) in
+      let was : FrameAgrees (Some f.bytes) (Some f.name) (row_at s.rows own) = subst
+      (λ (b : Option (List ℕ)). FrameAgrees b (Some f.name) (row_at s.rows own)) bytes
+      (subst (λ (n : Option PageName). FrameAgrees (bytes_at s.frames own) n (row_at s.rows own)) own_name (sound.each own own_in)) in
       record { size = was.size; away = was.away; unnamed = was.unnamed; torn = was.torn }
 
   agrees_copy : FrameAgrees None None (record clear_row { holder = Some f.seat; source = Some own })
@@ -530,12 +556,14 @@ module _ (s : StoreSeen) (f : FlightSeen) (own : ℕ) (sound : IsSoundStore s) (
   sound_copied = sound-elsewhere s (with_snapshot_sent s own f.frame f.seat f.number) (either own f.frame) elsewhere_copied sound
       (record {
         names = length-set s.names f.frame None;
-        rows = two-length s.rows own f.frame (record (row_at s.rows own) { snapshot = Some f.frame; rewritten = false }) (record clear_row { holder = Some f.seat; source = Some own }) copy_apart own_row_in (taken-row s f.frame sound next);
+        rows = two-length s.rows own f.frame (record (row_at s.rows own) { snapshot = Some f.frame; rewritten = false })
+            (record clear_row { holder = Some f.seat; source = Some own }) copy_apart own_row_in (taken-row s f.frame sound next);
         clock = refl;
         bays = length-set s.bays f.number (out f.seat);
         order = order-set s.bays s.order f.number (out f.seat) bay_in_copied (λ q. let z : home f.disk ≡ missing = sym there ∙ q in cc) (λ q. cc) sound.order;
         distinct = distinct_copied;
-        lists = subst (λ (n : ℕ). AreApart (record { frames = n; free = rest_free s.free; cached = rest_cached s.free s.cached })) (sym (length-set s.frames f.frame None)) (rest-apart (length s.frames) s.free s.cached sound.lists);
+        lists = subst (λ (n : ℕ). AreApart (record { frames = n; free = rest_free s.free; cached = rest_cached s.free s.cached }))
+            (sym (length-set s.frames f.frame None)) (rest-apart (length s.frames) s.free s.cached sound.lists);
         paired = paired_copied;
         whole = whole-out s.bays f.number f.seat bay_in_copied sound.whole;
       })
@@ -566,7 +594,8 @@ module _ (s : StoreSeen) (f : FlightSeen) (own : ℕ) (sound : IsSoundStore s) (
     read = λ w. absurd (let z : true ≡ false = sym writes ∙ w in cc);
   }
 
-  leaves_copied : (notes : Notes) (table : PlaceTable) → StoreFits s notes table → notes f.seat ≡ None → LivesAt (Push f.name) table f.number f.block f.valid → Leaves s (with_snapshot_sent s own f.frame f.seat f.number) notes table f.seat (note_of f)
+  leaves_copied : (notes : Notes) (table : PlaceTable) → StoreFits s notes table → notes f.seat ≡ None → LivesAt (Push f.name) table f.number f.block f.valid
+      → Leaves s (with_snapshot_sent s own f.frame f.seat f.number) notes table f.seat (note_of f)
   leaves_copied notes table fits idle lives = record {
     sound = sound;
     fits = fits;
@@ -579,7 +608,8 @@ module _ (s : StoreSeen) (f : FlightSeen) (own : ℕ) (sound : IsSoundStore s) (
     bytes = bytes_copied;
     holder = ap (λ (r : Row). r.holder) at_copy;
     rows = λ k ne. elim (cases_eq k own) [
-      | inl e ↦ subst (λ (j : ℕ). SameOut (row_at s.rows j) (row_at (rows_paired s.rows own f.frame f.seat) j)) (sym e) (subst (λ (r : Row). SameOut (row_at s.rows own) r) (sym at_own) (record { holder = refl; page = inl (refl, refl) }))
+      | inl e ↦ subst (λ (j : ℕ). SameOut (row_at s.rows j) (row_at (rows_paired s.rows own f.frame f.seat) j)) (sym e)
+          (subst (λ (r : Row). SameOut (row_at s.rows own) r) (sym at_own) (record { holder = refl; page = inl (refl, refl) }))
       | inr far ↦ same-row (row_at s.rows k) (row_at (rows_paired s.rows own f.frame f.seat) k) (at_else k far ne)
     ];
     names = names_copied;
@@ -595,7 +625,8 @@ module _ (s : StoreSeen) (f : FlightSeen) (own : ℕ) (sound : IsSoundStore s) (
       whole = sound.whole f.number f.disk there;
       bytes = (sound.each own own_in).size f.bytes bytes;
     };
-    cached = λ k h. let far : k ≢ f.frame = λ (q : k ≡ f.frame). taken-cached s f.frame sound next (subst (λ (j : ℕ). Contains (rest_cached s.free s.cached) j) q h) in ((rest-cached s.free s.cached f.frame next k far).0 h, far);
+    cached = λ k h. let far : k ≢ f.frame = λ (q : k ≡ f.frame). taken-cached s f.frame sound next
+        (subst (λ (j : ℕ). Contains (rest_cached s.free s.cached) j) q h) in ((rest-cached s.free s.cached f.frame next k far).0 h, far);
     unwritten = λ w k h e. own_unlisted (inr (subst (λ (j : ℕ). Contains (rest_cached s.free s.cached) j) (distinct_copied k own f.name e own_named) h));
   }
 
@@ -614,7 +645,8 @@ module _ (s : StoreSeen) (f : FlightSeen) (own : ℕ) (sound : IsSoundStore s) (
     | inr e ↦ let z : None ≡ Some n = sym name_copied ∙ ap (name_at (set s.names f.frame None)) (sym e) ∙ h in cc
   ]
 
-  value_copied : (notes : Notes) (table : PlaceTable) (fits : StoreFits s notes table) (idle : notes f.seat ≡ None) (lives : LivesAt (Push f.name) table f.number f.block f.valid) (n : PageName) → IsTrue (tells s notes (table n).disk)
+  value_copied : (notes : Notes) (table : PlaceTable) (fits : StoreFits s notes table) (idle : notes f.seat ≡ None)
+      (lives : LivesAt (Push f.name) table f.number f.block f.valid) (n : PageName) → IsTrue (tells s notes (table n).disk)
       → value (with_snapshot_sent s own f.frame f.seat f.number) (with_note notes f.seat (Some (note_of f))) table n ≡ after_taking (next_name s) n (table n) (value s notes table n)
   value_copied notes table fits idle lives n t =
       let same = backing_value-left s (with_snapshot_sent s own f.frame f.seat f.number) notes table f.seat (note_of f) (leaves_copied notes table fits idle lives) (table n) in
@@ -624,9 +656,12 @@ module _ (s : StoreSeen) (f : FlightSeen) (own : ℕ) (sound : IsSoundStore s) (
           | inl e ↦
               let now : value (with_snapshot_sent s own f.frame f.seat f.number) (with_note notes f.seat (Some (note_of f))) table f.name ≡ f.bytes = rw (found_copied, own_bytes) refl in
               let was : value s notes table f.name ≡ f.bytes = rw (found, bytes) refl in
-              ap (λ (m : PageName). value (with_snapshot_sent s own f.frame f.seat f.number) (with_note notes f.seat (Some (note_of f))) table m) e ∙ now ∙ sym was ∙ sym (ap (λ (m : PageName). value s notes table m) e)
-          | inr ne ↦ value-elsewhere s (with_snapshot_sent s own f.frame f.seat f.number) (either own f.frame) distinct_copied elsewhere_copied notes (with_note notes f.seat (Some (note_of f))) table n
-              (neither_before n ne before) (neither_after n ne) same (λ g u far h. notes-left s (with_snapshot_sent s own f.frame f.seat f.number) notes table f.seat (note_of f) (leaves_copied notes table fits idle lives) g u h)
+              ap (λ (m : PageName). value (with_snapshot_sent s own f.frame f.seat f.number) (with_note notes f.seat (Some (note_of f))) table m) e ∙ now
+              ∙ sym was ∙ sym (ap (λ (m : PageName). value s notes table m) e)
+          | inr ne ↦ value-elsewhere s (with_snapshot_sent s own f.frame f.seat f.number) (either own f.frame) distinct_copied elsewhere_copied notes
+              (with_note notes f.seat (Some (note_of f))) table n
+              (neither_before n ne before) (neither_after n ne) same (λ g u far h. notes-left s
+              (with_snapshot_sent s own f.frame f.seat f.number) notes table f.seat (note_of f) (leaves_copied notes table fits idle lives) g u h)
         ] ∙ uncut (is_name (next_name s) n) (table n) (value s notes table n) (next-other s f.frame sound next n before)
       ]
 
@@ -641,7 +676,9 @@ module _ (s : StoreSeen) (f : FlightSeen) (own : ℕ) (sound : IsSoundStore s) (
     out = record { origin = origin; out = out_copied };
     disks = λ k ne. get_or-set_other s.bays f.number k (out f.seat) missing ne;
     touches = touches s (with_snapshot_sent s own f.frame f.seat f.number) (is_touched_by (Push f.name) s) distinct_copied
-        (elsewhere-then s (with_snapshot_sent s own f.frame f.seat f.number) (with_snapshot_sent s own f.frame f.seat f.number) (either own f.frame) (either own f.frame) (is_touched_by (Push f.name) s) (λ k h. (in_both k h, in_both k h)) elsewhere_copied (same-elsewhere (with_snapshot_sent s own f.frame f.seat f.number) (either own f.frame)));
+        (elsewhere-then s (with_snapshot_sent s own f.frame f.seat f.number) (with_snapshot_sent s own f.frame f.seat f.number) (either own f.frame)
+        (either own f.frame) (is_touched_by (Push f.name) s) (λ k h. (in_both k h, in_both k h)) elsewhere_copied
+        (same-elsewhere (with_snapshot_sent s own f.frame f.seat f.number) (either own f.frame)));
     page =
         let now : residence (with_snapshot_sent s own f.frame f.seat f.number) f.name ≡ Home own = rw (found_copied, own_bytes) refl in
         let was : residence s f.name ≡ Home own = rw (found, bytes) refl in
@@ -669,7 +706,8 @@ module _ (s : StoreSeen) (f : FlightSeen) (own : ℕ) (sound : IsSoundStore s) (
 module _ (s : StoreSeen) (f : FlightSeen) (own : ℕ) (sound : IsSoundStore s) (found : find s.names f.name ≡ Some own) (unlisted : IsListedFrame s own → ⊥)
     (there : bay_at s.bays f.number ≡ home f.disk) (writes : f.writes ≡ true) (origin : f.origin ≡ s.origin) (bytes : bytes_at s.frames own ≡ Some f.bytes) where
   mid_source : (row_at (without_snapshot s own).rows own).source ≡ None
-  mid_source = named-unsourced (bytes_at s.frames own) (name_at s.names own) (row_at (without_snapshot s own).rows own) ((forsakes s own sound).sound.each own (bytes-within s.frames own f.bytes bytes)) f.name (find-at s.names f.name own found)
+  mid_source = named-unsourced (bytes_at s.frames own) (name_at s.names own) (row_at (without_snapshot s own).rows own)
+      ((forsakes s own sound).sound.each own (bytes-within s.frames own f.bytes bytes)) f.name (find-at s.names f.name own found)
 
   mid_family : (k : ℕ) → k ≢ own → family (without_snapshot s own) own k ≡ false
   mid_family k ne = or-both (k == own) (is_only (row_at (without_snapshot s own).rows own).snapshot k || is_only (row_at (without_snapshot s own).rows own).source k) (eq-far k own ne)
@@ -693,7 +731,8 @@ module _ (s : StoreSeen) (f : FlightSeen) (own : ℕ) (sound : IsSoundStore s) (
         out = b.out;
         disks = b.disks;
         touches = touches s new (is_touched_by (Push f.name) s) b.sound.distinct
-            (elsewhere-then s (without_snapshot s own) new (family s own) (is_touched_by (Push f.name) (without_snapshot s own)) (is_touched_by (Push f.name) s) (λ k h. (family_push k h, touched_mid k h))
+            (elsewhere-then s (without_snapshot s own) new (family s own) (is_touched_by (Push f.name) (without_snapshot s own))
+            (is_touched_by (Push f.name) s) (λ k h. (family_push k h, touched_mid k h))
             mid.elsewhere (of-touches (without_snapshot s own) new (is_touched_by (Push f.name) (without_snapshot s own)) b.touches));
         page = b.page ∙ ap (λ (r : Residence). cond (is_some (next_frame s)) r (Moving f.seat)) (same f.name);
         modified = λ k e.
@@ -717,7 +756,8 @@ module _ (s : StoreSeen) (f : FlightSeen) (own : ℕ) (sound : IsSoundStore s) (
             };
       }
 
-  pub begins-push : (next : Option ℕ) → next_frame s ≡ next → option_or next (Some own) ≡ Some f.frame → BeginsTransfer s (with_push_begun (without_snapshot s own) own next f.seat f.number) (Push f.name) f.name f
+  pub begins-push : (next : Option ℕ) → next_frame s ≡ next → option_or next (Some own) ≡ Some f.frame
+      → BeginsTransfer s (with_push_begun (without_snapshot s own) own next f.seat f.number) (Push f.name) f.name f
   begins-push None e q =
       let mid = forsakes s own sound in
       let same : own ≡ f.frame = let z : Some own ≡ Some f.frame = q in cc in
@@ -738,31 +778,41 @@ rest_none [] [] h = (refl, refl)
 rest_none [] (x ∷ xs) h = absurd (cc)
 rest_none (x ∷ xs) cached h = absurd (cc)
 
-pushed_so : (core : CoreSeen) (names : List (Option PageName)) (lists : ListsSeen) (rows : List Row) (clock : ClockSeen) (bays : List BaySeen) (order : List ℕ) (own frame seat number : ℕ) (next : Option ℕ)
+pushed_so : (core : CoreSeen) (names : List (Option PageName)) (lists : ListsSeen) (rows : List Row) (clock : ClockSeen) (bays : List BaySeen) (order : List ℕ)
+    (own frame seat number : ℕ) (next : Option ℕ)
     → first_listed lists.free lists.cached ≡ next → option_or next (Some own) ≡ Some frame
-    → store_of (record core { frames = set core.frames frame None }) (names_taken next names) (record lists { free = rest_free lists.free; cached = rest_cached lists.free lists.cached }) (rows_pushed next rows own seat) clock (set bays number (out seat)) order
+    → store_of (record core { frames = set core.frames frame None }) (names_taken next names)
+    (record lists { free = rest_free lists.free; cached = rest_cached lists.free lists.cached }) (rows_pushed next rows own seat) clock (set bays number (out seat)) order
     ≡ with_push_begun (store_of core names lists rows clock bays order) own next seat number
 pushed_so core names lists rows clock bays order own frame seat number None e q =
     let same : own ≡ frame = let z : Some own ≡ Some frame = q in cc in
     let r = rest_none lists.free lists.cached e in
-    ap (λ (l : List ℕ). store_of (record core { frames = set core.frames frame None }) names (record lists { free = l; cached = rest_cached lists.free lists.cached }) (set rows own (record (row_at rows own) { holder = Some seat })) clock (set bays number (out seat)) order) r.0
-    ∙ ap (λ (l : List ℕ). store_of (record core { frames = set core.frames frame None }) names (record lists { cached = l }) (set rows own (record (row_at rows own) { holder = Some seat })) clock (set bays number (out seat)) order) r.1
-    ∙ ap (λ (k : ℕ). store_of (record core { frames = set core.frames k None }) names lists (set rows own (record (row_at rows own) { holder = Some seat })) clock (set bays number (out seat)) order) (sym same)
+    ap (λ (l : List ℕ). store_of (record core { frames = set core.frames frame None }) names
+    (record lists { free = l; cached = rest_cached lists.free lists.cached }) (set rows own (record (row_at rows own) { holder = Some seat })) clock (set bays number (out seat)) order) r.0
+    ∙ ap (λ (l : List ℕ). store_of (record core { frames = set core.frames frame None }) names (record lists { cached = l })
+    (set rows own (record (row_at rows own) { holder = Some seat })) clock (set bays number (out seat)) order) r.1
+    ∙ ap (λ (k : ℕ). store_of (record core { frames = set core.frames k None }) names lists
+    (set rows own (record (row_at rows own) { holder = Some seat })) clock (set bays number (out seat)) order) (sym same)
 pushed_so core names lists rows clock bays order own frame seat number (Some taken) e q =
     let same : taken ≡ frame = let z : Some taken ≡ Some frame = q in cc in
-    ap (λ (k : ℕ). store_of (record core { frames = set core.frames k None }) (set names taken None) (record lists { free = rest_free lists.free; cached = rest_cached lists.free lists.cached }) (rows_paired rows own taken seat) clock (set bays number (out seat)) order) (sym same)
+    ap (λ (k : ℕ). store_of (record core { frames = set core.frames k None }) (set names taken None)
+    (record lists { free = rest_free lists.free; cached = rest_cached lists.free lists.cached }) (rows_paired rows own taken seat) clock (set bays number (out seat)) order) (sym same)
 
-pub pushed-parts : (core core' : CoreSeen) (names names' : List (Option PageName)) (lists lists' : ListsSeen) (rows mid rows' : List Row) (clock : ClockSeen) (bays bays' : List BaySeen) (order : List ℕ) (own frame seat number : ℕ)
+pub pushed-parts : (core core' : CoreSeen) (names names' : List (Option PageName)) (lists lists' : ListsSeen) (rows mid rows' : List Row) (clock : ClockSeen)
+    (bays bays' : List BaySeen) (order : List ℕ) (own frame seat number : ℕ)
     → option_or (first_listed lists.free lists.cached) (Some own) ≡ Some frame
     → mid ≡ rows_forsaken rows own
     → core' ≡ record core { frames = set core.frames frame None } → names' ≡ names_taken (first_listed lists.free lists.cached) names
-    → lists' ≡ record lists { free = rest_free lists.free; cached = rest_cached lists.free lists.cached } → rows' ≡ rows_pushed (first_listed lists.free lists.cached) mid own seat → bays' ≡ set bays number (out seat)
-    → store_of core' names' lists' rows' clock bays' order ≡ with_push_begun (without_snapshot (store_of core names lists rows clock bays order) own) own (first_listed lists.free lists.cached) seat number
+    → lists' ≡ record lists { free = rest_free lists.free; cached = rest_cached lists.free lists.cached }
+    → rows' ≡ rows_pushed (first_listed lists.free lists.cached) mid own seat → bays' ≡ set bays number (out seat)
+    → store_of core' names' lists' rows' clock bays' order ≡ with_push_begun (without_snapshot (store_of core names lists rows clock bays order) own) own
+    (first_listed lists.free lists.cached) seat number
 pushed-parts core core' names names' lists lists' rows mid rows' clock bays bays' order own frame seat number q m a b c d e =
     rw (a, b, c, d, e, m) (pushed_so core names lists (rows_forsaken rows own) clock bays order own frame seat number (first_listed lists.free lists.cached) refl q)
 
 -- the frame that is taken next is another one than that of a page on no list, and both are there
-pub taken-others : (s : StoreSeen) (own at : ℕ) → IsSoundStore s → (IsListedFrame s own → ⊥) → next_frame s ≡ Some at → (IsSome (bytes_at s.frames at)) × (own ≢ at) × (at < length s.names) × (at < length s.rows)
+pub taken-others : (s : StoreSeen) (own at : ℕ) → IsSoundStore s → (IsListedFrame s own → ⊥) → next_frame s ≡ Some at
+    → (IsSome (bytes_at s.frames at)) × (own ≢ at) × (at < length s.names) × (at < length s.rows)
 taken-others s own at sound unlisted next =
     (taken-home s at sound next, (λ q. unlisted (subst (λ (k : ℕ). IsListedFrame s k) (sym q) (first-listed s.free s.cached at next))), taken-name s at sound next, taken-row s at sound next)
 

@@ -95,7 +95,8 @@ only-none names f n differs j t h = differs (subst (λ (k : ℕ). name_at names 
 
 module _ (old new : StoreSeen) (touched : ℕ → Bool) (distinct' : AreDistinct new.names) (e : Elsewhere old new touched) where
   -- a name that these frames hold neither before nor after is found where it was
-  pub found-same : (n : PageName) → ((j : ℕ) → touched j ≡ true → name_at old.names j ≡ Some n → ⊥) → ((j : ℕ) → touched j ≡ true → name_at new.names j ≡ Some n → ⊥) → find new.names n ≡ find old.names n
+  pub found-same : (n : PageName) → ((j : ℕ) → touched j ≡ true → name_at old.names j ≡ Some n → ⊥)
+      → ((j : ℕ) → touched j ≡ true → name_at new.names j ≡ Some n → ⊥) → find new.names n ≡ find old.names n
   found-same n before after = find-same old.names new.names n distinct'
       (λ k h. e.names k (untouched old.names touched k n before h) ∙ h)
       (λ k h. sym (e.names k (untouched new.names touched k n after h)) ∙ h)
@@ -139,7 +140,8 @@ module _ (old new : StoreSeen) (touched : ℕ → Bool) (distinct' : AreDistinct
       value_in-same before after place g far same (λ t held. notes g t far held)
 
   -- a name that these frames hold neither before nor after keeps its value
-  pub value-elsewhere : (before after : Notes) (table : PlaceTable) (n : PageName) → ((j : ℕ) → touched j ≡ true → name_at old.names j ≡ Some n → ⊥) → ((j : ℕ) → touched j ≡ true → name_at new.names j ≡ Some n → ⊥)
+  pub value-elsewhere : (before after : Notes) (table : PlaceTable) (n : PageName) → ((j : ℕ) → touched j ≡ true → name_at old.names j ≡ Some n → ⊥)
+      → ((j : ℕ) → touched j ≡ true → name_at new.names j ≡ Some n → ⊥)
       → backing_value new after (table n) ≡ backing_value old before (table n) → ((g t : ℕ) → touched g ≡ false → (row_at old.rows g).holder ≡ Some t → after t ≡ before t)
       → value new after table n ≡ value old before table n
   value-elsewhere before after table n was now same notes =

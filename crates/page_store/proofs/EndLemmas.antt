@@ -1,5 +1,6 @@
 -- A flight that comes back.
-use Rattle.std.proofs.Common.{◌≡◌, ◌≢◌, ℕ, ◌<◌, ◌≤◌, Bool, true, false, cond, ◌⊎◌, inl, inr, List, [], ◌∷◌, ◌++◌, Option, Some, None, IsTrue, IsSome, refl, sym, ◌∙◌, ap, subst, arith, length, set, is_some}
+use Rattle.std.proofs.Common.{◌≡◌, ◌≢◌, ℕ, ◌<◌, ◌≤◌, Bool, true, false, cond, ◌⊎◌, inl, inr, List, [], ◌∷◌, ◌++◌, Option, Some, None, IsTrue, IsSome, refl, sym}
+use Rattle.std.proofs.Common.{◌∙◌, ap, subst, arith, length, set, is_some}
 use Rattle.std.specs.Prelude.{◌&&◌, ◌||◌, ◌==◌, ◌-◌, is_none, take, replicate, slice_index_or, Contains}
 use Rattle.std.proofs.lemmas.Bool.{cases_eq, cases_Bool}
 use Rattle.std.proofs.lemmas.List.{take-append-le, take-take}
@@ -46,7 +47,8 @@ clip-twice valid bytes within =
     ap (λ (l : List ℕ). l ++ replicate (4096 - valid) 0) (take-append-le valid (take valid bytes) (replicate (4096 - valid) 0) long ∙ take-take valid valid bytes (omega arith))
 
 -- the disks that are home are whole once one more came home
-whole-back : (bays : List BaySeen) (number : ℕ) (disk : DiskSeen) → number < length bays → ((k : ℕ) (d : DiskSeen) → bay_at bays k ≡ home d → HasBlocks d.content d.size) → HasBlocks disk.content disk.size
+whole-back : (bays : List BaySeen) (number : ℕ) (disk : DiskSeen) → number < length bays
+    → ((k : ℕ) (d : DiskSeen) → bay_at bays k ≡ home d → HasBlocks d.content d.size) → HasBlocks disk.content disk.size
     → (k : ℕ) (d : DiskSeen) → bay_at (set bays number (home disk)) k ≡ home d → HasBlocks d.content d.size
 whole-back bays number disk lt was now k d h = elim (cases_eq k number) [
   | inl e ↦
@@ -73,7 +75,8 @@ named_so h None gone o seat u a b c =
     let z : true ≡ false = sym left ∙ u ∙ right in absurd (cc)
 
 -- a frame that a seat holds comes back with a disk that the seat has; its page is its own, or gone
-module _ (s : StoreSeen) (f : FlightSeen) (sound : IsSoundStore s) (held : (row_at s.rows f.frame).holder ≡ Some f.seat) (gone : bay_at s.bays f.number ≡ out f.seat) (unsourced : (row_at s.rows f.frame).source ≡ None)
+module _ (s : StoreSeen) (f : FlightSeen) (sound : IsSoundStore s) (held : (row_at s.rows f.frame).holder ≡ Some f.seat)
+    (gone : bay_at s.bays f.number ≡ out f.seat) (unsourced : (row_at s.rows f.frame).source ≡ None)
     (whole : HasBlocks f.disk.content f.disk.size) (size : length f.bytes ≡ 4096) where
   row_in : f.frame < length s.rows
   row_in = held-within s.rows f.frame f.seat held
@@ -149,7 +152,8 @@ module _ (s : StoreSeen) (f : FlightSeen) (sound : IsSoundStore s) (held : (row_
 
   -- the page is there where it isn't gone
   pub landed-named : (row_at s.rows f.frame).gone ≡ false → IsSome (name_at s.names f.frame)
-  landed-named ungone = named_so (row_at s.rows f.frame).holder (name_at s.names f.frame) (row_at s.rows f.frame).gone (row_at s.rows f.frame).source f.seat (sound.each f.frame landed-within).unnamed held ungone unsourced
+  landed-named ungone = named_so (row_at s.rows f.frame).holder (name_at s.names f.frame) (row_at s.rows f.frame).gone (row_at s.rows f.frame).source f.seat
+      (sound.each f.frame landed-within).unnamed held ungone unsourced
 
   agrees_kept : FrameAgrees (Some f.bytes) (name_at s.names f.frame) (landed_row (row_at s.rows f.frame) (is_dirty f.outcome))
   agrees_kept = record {
@@ -172,11 +176,13 @@ module _ (s : StoreSeen) (f : FlightSeen) (sound : IsSoundStore s) (held : (row_
         order = order-set s.bays s.order f.number (home f.disk) bay_in (λ q. let z : out f.seat ≡ missing = sym gone ∙ q in cc) (λ q. cc) sound.order;
         distinct = sound.distinct;
         lists = subst (λ (n : ℕ). AreApart (record { frames = n; free = s.free; cached = s.cached })) (sym (length-set s.frames f.frame (Some f.bytes))) sound.lists;
-        paired = paired-one s (with_flight_landed s f false) f.frame (one-landed false) sound.paired unlinked unsourced (ap (λ (r : Row). r.snapshot) kept_row ∙ unlinked) (ap (λ (r : Row). r.source) kept_row ∙ unsourced);
+        paired = paired-one s (with_flight_landed s f false) f.frame (one-landed false) sound.paired unlinked unsourced
+            (ap (λ (r : Row). r.snapshot) kept_row ∙ unlinked) (ap (λ (r : Row). r.source) kept_row ∙ unsourced);
         whole = whole-back s.bays f.number f.disk bay_in sound.whole whole;
       })
       (record {
-        agrees = subst (λ (b : Option (List ℕ)). FrameAgrees b (name_at s.names f.frame) (row_at (set s.rows f.frame (landed_row (row_at s.rows f.frame) (is_dirty f.outcome))) f.frame)) (sym bytes_now)
+        agrees = subst (λ (b : Option (List ℕ)). FrameAgrees b (name_at s.names f.frame)
+            (row_at (set s.rows f.frame (landed_row (row_at s.rows f.frame) (is_dirty f.outcome))) f.frame)) (sym bytes_now)
             (subst (λ (r : Row). FrameAgrees (Some f.bytes) (name_at s.names f.frame) r) (sym kept_row) agrees_kept);
         listed = λ l. absurd (landed-unlisted l);
         unnamed = λ h. absurd (landed-unlisted (inl h));
@@ -245,7 +251,8 @@ module _ (s : StoreSeen) (f : FlightSeen) (sound : IsSoundStore s) (held : (row_
   after_landed true n before h = let z : None ≡ Some n = sym unnamed_now ∙ h in cc
 
   pub stay-landed : (lost : Bool) (n : PageName) → (name_at s.names f.frame ≡ Some n → ⊥) → residence (with_flight_landed s f lost) n ≡ residence s n
-  stay-landed lost n before = (touches-one s (with_flight_landed s f lost) f.frame (distinct-landed lost) (one-landed lost)).residence n (only-none s.names f.frame n before) (only-none (with_flight_landed s f lost).names f.frame n (after_landed lost n before))
+  stay-landed lost n before = (touches-one s (with_flight_landed s f lost) f.frame (distinct-landed lost) (one-landed lost)).residence n
+      (only-none s.names f.frame n before) (only-none (with_flight_landed s f lost).names f.frame n (after_landed lost n before))
 
   module _ (notes : Notes) (table : PlaceTable) (note : Note) (fits : StoreFits s notes table) (mine : notes f.seat ≡ Some note) (performed : IsPerformed note f) where
     pub returns-landed : (lost : Bool) → Returns s (with_flight_landed s f lost) notes table f note
@@ -295,7 +302,8 @@ module _ (s : StoreSeen) (f : FlightSeen) (sound : IsSoundStore s) (held : (row_
         let number : (table n).disk ≡ f.number = ap (λ (x : PageName). (table x).disk) e ∙ out_note.disk ∙ sym performed.number in
         let old : content_of s notes f.number ≡ note.disk.content = content-old s (with_flight_landed s f false) notes table f note (returns-landed false) in
         let told : is_some note.disk.content ≡ true = sym (ap (λ (c : Option (List (List ℕ))). is_some c) (ap (content_of s notes) number ∙ old)) ∙ t in
-        let b : f.bytes ≡ clip note.valid (block_of note.disk.content note.block) = told_bytes note.disk.content note.block note.valid f.bytes told (was_read note f f.outcome ended (performed.read reads)) in
+        let b : f.bytes ≡ clip note.valid (block_of note.disk.content note.block) = told_bytes note.disk.content note.block note.valid f.bytes told
+        (was_read note f f.outcome ended (performed.read reads)) in
         let blank : (table n).blank ≡ false = ap (λ (x : PageName). (table x).blank) e ∙ at.1 in
         let valid : (table n).valid ≡ note.valid = ap (λ (x : PageName). (table x).valid) e ∙ at.0 in
         let block : (table n).block ≡ note.block = ap (λ (x : PageName). (table x).block) e ∙ out_note.block in
@@ -325,10 +333,6 @@ module _ (s : StoreSeen) (f : FlightSeen) (sound : IsSoundStore s) (held : (row_
         → EndsValues s notes (with_flight_landed s f lost) (with_note notes f.seat None) table note
     ends-landed false well reads = ends-back s (with_flight_landed s f false) notes table f note (returns-landed false) (own_kept (well refl)) (after_landed false)
     ends-landed true well reads = ends-back s (with_flight_landed s f true) notes table f note (returns-landed true) (own_lost (reads refl)) (after_landed true)
-
--- what is lost
-lost_gone : (writes : Bool) (o : Progress) → is_lost writes o true ≡ true
-lost_gone writes o = refl
 
 kept_done : (writes : Bool) (o : Progress) (gone : Bool) → gone ≡ false → o ≡ done → is_lost writes o gone ≡ false
 kept_done true o false g e = refl
@@ -386,21 +390,25 @@ done_block note f performed whole size ended t = elim (cases_Bool note.writes) [
   | inl w ↦
       let c = written_done note f f.outcome ended (performed.written w) in
       let told = still_told note.disk.content note.block (clip note.valid note.bytes) (sym (ap (λ (x : Option (List (List ℕ))). is_some x) c) ∙ t) in
-      let b : block_of f.disk.content note.block ≡ clip note.valid note.bytes = ap (λ (x : Option (List (List ℕ))). block_of x note.block) c ∙ with_same note.disk.content note.block note.disk.size (clip note.valid note.bytes) whole performed.within told in
+      let b : block_of f.disk.content note.block ≡ clip note.valid note.bytes = ap (λ (x : Option (List (List ℕ))). block_of x note.block) c
+      ∙ with_same note.disk.content note.block note.disk.size (clip note.valid note.bytes) whole performed.within told in
       let v = performed.valid_within in
       ap (clip note.valid) (performed.kept w) ∙ sym (ap (clip note.valid) b ∙ clip-twice note.valid note.bytes (omega arith))
   | inr r ↦
       let c = performed.unchanged r in
       let told : is_some note.disk.content ≡ true = sym (ap (λ (x : Option (List (List ℕ))). is_some x) c) ∙ t in
-      let b : f.bytes ≡ clip note.valid (block_of note.disk.content note.block) = told_bytes note.disk.content note.block note.valid f.bytes told (was_read note f f.outcome ended (performed.read r)) in
+      let b : f.bytes ≡ clip note.valid (block_of note.disk.content note.block) = told_bytes note.disk.content note.block note.valid f.bytes told
+      (was_read note f f.outcome ended (performed.read r)) in
       let l = block_size note.disk.content note.block note.disk.size whole performed.within told in
       let v = performed.valid_within in
       ap (clip note.valid) b ∙ clip-twice note.valid (block_of note.disk.content note.block) (omega arith) ∙ sym (ap (λ (x : Option (List (List ℕ))). clip note.valid (block_of x note.block)) c)
 ]
 
 -- the page of a transfer that didn't fail is clean in a home frame that has the flight's bytes
-module _ (s new : StoreSeen) (notes : Notes) (table later : PlaceTable) (f : FlightSeen) (note : Note) (k : ℕ) (fits : StoreFits s notes table) (mine : notes f.seat ≡ Some note) (performed : IsPerformed note f) (ended : f.outcome ≡ done)
-    (disk : bay_at new.bays f.number ≡ home f.disk) (here : bytes_at new.frames k ≡ Some f.bytes) (place : later note.name ≡ record { disk = note.number; block = note.block; valid = note.valid; blank = false }) where
+module _ (s new : StoreSeen) (notes : Notes) (table later : PlaceTable) (f : FlightSeen) (note : Note) (k : ℕ) (fits : StoreFits s notes table)
+    (mine : notes f.seat ≡ Some note) (performed : IsPerformed note f) (ended : f.outcome ≡ done)
+    (disk : bay_at new.bays f.number ≡ home f.disk) (here : bytes_at new.frames k ≡ Some f.bytes)
+    (place : later note.name ≡ record { disk = note.number; block = note.block; valid = note.valid; blank = false }) where
   content_now : content_of new (with_note notes f.seat None) (later note.name).disk ≡ f.disk.content
   content_now = ap (content_of new (with_note notes f.seat None)) (ap (λ (p : Place). p.disk) place ∙ sym performed.number) ∙ ap (λ (b : BaySeen). content_in_bay b (with_note notes f.seat None)) disk
 
@@ -426,7 +434,8 @@ module _ (s new : StoreSeen) (notes : Notes) (table later : PlaceTable) (f : Fli
       }
 
 -- a frame that is its page's own comes back
-module _ (s : StoreSeen) (f : FlightSeen) (sound : IsSoundStore s) (is : IsFlightOf s f) (started : f.outcome ≢ fresh) (whole : HasBlocks f.disk.content f.disk.size) (size : length f.bytes ≡ 4096) (unsourced : (row_at s.rows f.frame).source ≡ None) where
+module _ (s : StoreSeen) (f : FlightSeen) (sound : IsSoundStore s) (is : IsFlightOf s f) (started : f.outcome ≢ fresh)
+    (whole : HasBlocks f.disk.content f.disk.size) (size : length f.bytes ≡ 4096) (unsourced : (row_at s.rows f.frame).source ≡ None) where
   page_here : (row_at s.rows f.frame).gone ≡ false → name_at s.names f.frame ≡ Some f.name
   page_here g = ap (name_at s.names) (sym (own-self s f.frame unsourced)) ∙ is.out.page g
 
@@ -450,13 +459,15 @@ module _ (s : StoreSeen) (f : FlightSeen) (sound : IsSoundStore s) (is : IsFligh
 
   not_named : (n : PageName) → ((row_at s.rows f.frame).gone ≡ false → n ≢ f.name) → name_at s.names f.frame ≡ Some n → ⊥
   not_named n ne h = elim (cases_Bool (row_at s.rows f.frame).gone) [
-    | inl g ↦ let z : None ≡ Some n = sym (gone-unnamed (bytes_at s.frames f.frame) (name_at s.names f.frame) (row_at s.rows f.frame) (sound.each f.frame (landed-within s f sound is.out.holder is.out.bay unsourced whole size)) g).1 ∙ h in cc
+    | inl g ↦ let z : None ≡ Some n = sym (gone-unnamed (bytes_at s.frames f.frame) (name_at s.names f.frame) (row_at s.rows f.frame)
+        (sound.each f.frame (landed-within s f sound is.out.holder is.out.bay unsourced whole size)) g).1 ∙ h in cc
     | inr g ↦ ne g (let z : Some n ≡ Some f.name = sym h ∙ page_here g in cc)
   ]
 
   pub ends-own : EndsTransfer s (with_flight_landed s f (is_lost f.writes f.outcome (row_at s.rows f.frame).gone)) f
   ends-own = record {
-    sound = sound-landed s f sound is.out.holder is.out.bay unsourced whole size (is_lost f.writes f.outcome (row_at s.rows f.frame).gone) (λ e. (kept_so f.writes f.outcome (row_at s.rows f.frame).gone e).0);
+    sound = sound-landed s f sound is.out.holder is.out.bay unsourced whole size (is_lost f.writes f.outcome (row_at s.rows f.frame).gone)
+        (λ e. (kept_so f.writes f.outcome (row_at s.rows f.frame).gone e).0);
     disk = disk-landed s f sound is.out.holder is.out.bay unsourced whole size (is_lost f.writes f.outcome (row_at s.rows f.frame).gone);
     disks = disks-landed s f sound is.out.holder is.out.bay unsourced whole size (is_lost f.writes f.outcome (row_at s.rows f.frame).gone);
     touches = touches s (with_flight_landed s f (is_lost f.writes f.outcome (row_at s.rows f.frame).gone)) (family s f.frame)
@@ -490,7 +501,8 @@ module _ (s : StoreSeen) (f : FlightSeen) (sound : IsSoundStore s) (is : IsFligh
   }
 
 -- a snapshot comes back: first it parts from its page
-module _ (s : StoreSeen) (f : FlightSeen) (own : ℕ) (sound : IsSoundStore s) (is : IsFlightOf s f) (started : f.outcome ≢ fresh) (whole : HasBlocks f.disk.content f.disk.size) (size : length f.bytes ≡ 4096) (source : (row_at s.rows f.frame).source ≡ Some own) where
+module _ (s : StoreSeen) (f : FlightSeen) (own : ℕ) (sound : IsSoundStore s) (is : IsFlightOf s f) (started : f.outcome ≢ fresh)
+    (whole : HasBlocks f.disk.content f.disk.size) (size : length f.bytes ≡ 4096) (source : (row_at s.rows f.frame).source ≡ Some own) where
   abbrev bit : Bool
   bit = is_dirty f.outcome || (row_at s.rows own).rewritten
 
@@ -535,7 +547,8 @@ module _ (s : StoreSeen) (f : FlightSeen) (own : ℕ) (sound : IsSoundStore s) (
 
   comes : (modified : Bool) → (is_dirty f.outcome || (row_at s.rows own).rewritten) ≡ modified → (row_at s.rows f.frame).gone ≡ false → ComesHome s (with_flight_landed mid f true) f modified
   comes modified e g = record {
-    home = residence-home (with_flight_landed mid f true) f.name own distinct_mid (one_mid.names own apart ∙ own_name g) (subst (λ (b : Option (List ℕ)). IsSome b) (sym (one_mid.bytes own apart)) own_home) ∙ ap (λ (k : ℕ). Home k) (sym own_is);
+    home = residence-home (with_flight_landed mid f true) f.name own distinct_mid (one_mid.names own apart ∙ own_name g)
+        (subst (λ (b : Option (List ℕ)). IsSome b) (sym (one_mid.bytes own apart)) own_home) ∙ ap (λ (k : ℕ). Home k) (sym own_is);
     bit = ap (λ (k : ℕ). (row_at (with_flight_landed mid f true).rows k).modified) own_is ∙ ap (λ (r : Row). r.modified) (one_mid.rows own apart ∙ parted-own-row s own f.frame bit sound source) ∙ e;
     unlisted = λ l.
         let l_own : IsListedFrame (with_flight_landed mid f true) own = subst (λ (k : ℕ). IsListedFrame (with_flight_landed mid f true) k) own_is l in
@@ -555,11 +568,13 @@ module _ (s : StoreSeen) (f : FlightSeen) (own : ℕ) (sound : IsSoundStore s) (
   home_before : (row_at s.rows f.frame).gone ≡ false → residence s f.name ≡ Home own
   home_before g = residence-home s f.name own sound.distinct (own_name g) own_home
 
-  ends_values : (notes : Notes) (note : Note) (table : PlaceTable) → StoreFits s notes table → notes f.seat ≡ Some note → IsPerformed note f → EndsValues s notes (with_flight_landed mid f true) (with_note notes f.seat None) table note
+  ends_values : (notes : Notes) (note : Note) (table : PlaceTable) → StoreFits s notes table → notes f.seat ≡ Some note → IsPerformed note f
+      → EndsValues s notes (with_flight_landed mid f true) (with_note notes f.seat None) table note
   ends_values notes note table fits mine performed =
       let first = values-rows s mid.rows s.free s.cached s.clock (same-parted s own f.frame bit sound source) notes table fits fits.each_cached in
       let calm = calm-rows s mid.rows s.free s.cached s.clock (same-parted s own f.frame bit sound source) in
-      let second = ends-landed mid f mid_sound mid_holder is.out.bay mid_source whole size notes table note first.fits mine performed true (λ e. let z : true ≡ false = e in absurd (cc)) (λ e g. let z : true ≡ false = sym mid_gone ∙ g in absurd (cc)) in
+      let second = ends-landed mid f mid_sound mid_holder is.out.bay mid_source whole size notes table note first.fits mine performed true
+      (λ e. let z : true ≡ false = e in absurd (cc)) (λ e g. let z : true ≡ false = sym mid_gone ∙ g in absurd (cc)) in
       record {
         fits = second.fits;
         alike = λ number. second.alike number ∙ first.alike number;
@@ -595,19 +610,23 @@ module _ (s : StoreSeen) (f : FlightSeen) (own : ℕ) (sound : IsSoundStore s) (
     bytes = λ e. absurd (let z : None ≡ Some own = sym e ∙ source in cc);
     values = ends_values;
     clean = λ notes note table later fits mine performed g e here place.
-        clean-ended s (with_flight_landed mid f true) notes table later f note (own_frame s f.frame) fits mine performed e (disk-landed mid f mid_sound mid_holder is.out.bay mid_source whole size true) here place;
+        clean-ended s (with_flight_landed mid f true) notes table later f note (own_frame s f.frame) fits mine performed e
+        (disk-landed mid f mid_sound mid_holder is.out.bay mid_source whole size true) here place;
   }
 
   pub ends-copy : EndsTransfer s (with_flight_landed mid f (is_lost f.writes f.outcome (row_at mid.rows f.frame).gone)) f
   ends-copy = subst (λ (b : Bool). EndsTransfer s (with_flight_landed mid f b) f) (sym (ap (is_lost f.writes f.outcome) mid_gone)) ends_copy
 
 -- a flight comes back, as a snapshot or not
-ends_by : (s : StoreSeen) (f : FlightSeen) (o : Option ℕ) → IsSoundStore s → IsFlightOf s f → f.outcome ≢ fresh → HasBlocks f.disk.content f.disk.size → length f.bytes ≡ 4096 → (row_at s.rows f.frame).source ≡ o
-    → EndsTransfer s (with_flight_landed (record s { rows = rows_settled o s.rows f.frame (is_dirty f.outcome) }) f (is_lost f.writes f.outcome (row_at (rows_settled o s.rows f.frame (is_dirty f.outcome)) f.frame).gone)) f
+ends_by : (s : StoreSeen) (f : FlightSeen) (o : Option ℕ) → IsSoundStore s → IsFlightOf s f → f.outcome ≢ fresh → HasBlocks f.disk.content f.disk.size
+    → length f.bytes ≡ 4096 → (row_at s.rows f.frame).source ≡ o
+    → EndsTransfer s (with_flight_landed (record s { rows = rows_settled o s.rows f.frame (is_dirty f.outcome) }) f
+    (is_lost f.writes f.outcome (row_at (rows_settled o s.rows f.frame (is_dirty f.outcome)) f.frame).gone)) f
 ends_by s f None sound is started whole size e = ends-own s f sound is started whole size e
 ends_by s f (Some own) sound is started whole size e = ends-copy s f own sound is started whole size e
 
-pub ends-flight : (s : StoreSeen) (f : FlightSeen) → IsSoundStore s → IsFlightOf s f → f.outcome ≢ fresh → HasBlocks f.disk.content f.disk.size → length f.bytes ≡ 4096 → EndsTransfer s (after_end s f) f
+pub ends-flight : (s : StoreSeen) (f : FlightSeen) → IsSoundStore s → IsFlightOf s f → f.outcome ≢ fresh → HasBlocks f.disk.content f.disk.size
+    → length f.bytes ≡ 4096 → EndsTransfer s (after_end s f) f
 ends-flight s f sound is started whole size = ends_by s f (row_at s.rows f.frame).source sound is started whole size refl
 
 -- what the parts make of the store
@@ -622,7 +641,8 @@ landed_is : (s : StoreSeen) (f : FlightSeen) (lost : Bool) →
 landed_is s f true = refl
 landed_is s f false = refl
 
-pub ended-parts : (s : StoreSeen) (f : FlightSeen) (rows : List Row) (at : ℕ) (lost dirty : Bool) → at ≡ f.frame → rows ≡ rows_settled (row_at s.rows f.frame).source s.rows f.frame (is_dirty f.outcome) → dirty ≡ is_dirty f.outcome
+pub ended-parts : (s : StoreSeen) (f : FlightSeen) (rows : List Row) (at : ℕ) (lost dirty : Bool) → at ≡ f.frame
+    → rows ≡ rows_settled (row_at s.rows f.frame).source s.rows f.frame (is_dirty f.outcome) → dirty ≡ is_dirty f.outcome
     → lost ≡ is_lost f.writes f.outcome (row_at rows f.frame).gone →
     (record s {
       frames = set s.frames f.frame (Some f.bytes);
@@ -631,15 +651,19 @@ pub ended-parts : (s : StoreSeen) (f : FlightSeen) (rows : List Row) (at : ℕ) 
       free = cond lost (s.free ++ at ∷ []) s.free;
       bays = set s.bays f.number (home f.disk);
     }) ≡ after_end s f
-ended-parts s f rows at lost dirty a m d l = rw (a, l, d, m) (landed_is (record s { rows = rows_settled (row_at s.rows f.frame).source s.rows f.frame (is_dirty f.outcome) }) f (is_lost f.writes f.outcome (row_at (rows_settled (row_at s.rows f.frame).source s.rows f.frame (is_dirty f.outcome)) f.frame).gone))
+ended-parts s f rows at lost dirty a m d l = rw (a, l, d, m) (landed_is
+    (record s { rows = rows_settled (row_at s.rows f.frame).source s.rows f.frame (is_dirty f.outcome) }) f
+    (is_lost f.writes f.outcome (row_at (rows_settled (row_at s.rows f.frame).source s.rows f.frame (is_dirty f.outcome)) f.frame).gone))
 
 -- the rows once a snapshot parted from its page: as many, and the frame is still held
 settled_length : (rows : List Row) (frame : ℕ) (dirty : Bool) (o : Option ℕ) → length (rows_settled o rows frame dirty) ≡ length rows
 settled_length rows frame dirty None = refl
-settled_length rows frame dirty (Some own) = length-set (set rows frame (record (row_at rows frame) { source = None; gone = true })) own (record (row_at rows own) { snapshot = None; modified = dirty || (row_at rows own).rewritten })
+settled_length rows frame dirty (Some own) = length-set (set rows frame (record (row_at rows frame) { source = None; gone = true })) own
+    (record (row_at rows own) { snapshot = None; modified = dirty || (row_at rows own).rewritten })
     ∙ length-set rows frame (record (row_at rows frame) { source = None; gone = true })
 
-settled_holder : (s : StoreSeen) (frame : ℕ) (dirty : Bool) (o : Option ℕ) → IsSoundStore s → (row_at s.rows frame).source ≡ o → (row_at (rows_settled o s.rows frame dirty) frame).holder ≡ (row_at s.rows frame).holder
+settled_holder : (s : StoreSeen) (frame : ℕ) (dirty : Bool) (o : Option ℕ) → IsSoundStore s → (row_at s.rows frame).source ≡ o
+    → (row_at (rows_settled o s.rows frame dirty) frame).holder ≡ (row_at s.rows frame).holder
 settled_holder s frame dirty None sound e = refl
 settled_holder s frame dirty (Some own) sound e = ap (λ (r : Row). r.holder) (parted-copy-row s own frame (dirty || (row_at s.rows own).rewritten) sound e)
 

@@ -82,7 +82,8 @@ module _ (s : StoreSeen) (frame : ℕ) (sound : IsSoundStore s) (next : next_fra
       ne (sym (get_or-set_same s.names frame held None taken-name) ∙ ap (name_at (set s.names frame held)) (sym q) ∙ m))
 
   -- the value of the name that the frame had is what is stored, cut
-  pub taken-value : (notes : Notes) (table : PlaceTable) (n : PageName) → StoreFits s notes table → name_at s.names frame ≡ Some n → IsTrue (tells s notes (table n).disk) → backing_value s notes (table n) ≡ clip (table n).valid (value s notes table n)
+  pub taken-value : (notes : Notes) (table : PlaceTable) (n : PageName) → StoreFits s notes table → name_at s.names frame ≡ Some n
+      → IsTrue (tells s notes (table n).disk) → backing_value s notes (table n) ≡ clip (table n).valid (value s notes table n)
   taken-value notes table n fits h t = by_bytes (bytes_at s.frames frame) refl
     where
       found : find s.names n ≡ Some frame
@@ -114,7 +115,8 @@ pub next-within : (s : StoreSeen) (o : Option ℕ) → IsSoundStore s → o ≡ 
 next-within s None sound e = tt
 next-within s (Some f) sound e = taken-within s f sound (sym e)
 
-module _ (s : StoreSeen) (frame : ℕ) (page : PageName) (bytes : List ℕ) (modified : Bool) (sound : IsSoundStore s) (next : next_frame s ≡ Some frame) (absent : find s.names page ≡ None) (size : length bytes ≡ 4096) where
+module _ (s : StoreSeen) (frame : ℕ) (page : PageName) (bytes : List ℕ) (modified : Bool) (sound : IsSoundStore s) (next : next_frame s ≡ Some frame)
+    (absent : find s.names page ≡ None) (size : length bytes ≡ 4096) where
   bytes_there : bytes_at (set s.frames frame (Some bytes)) frame ≡ Some bytes
   bytes_there = get_or-set_same s.frames frame (Some bytes) None (taken-within s frame sound next)
 
@@ -157,7 +159,8 @@ module _ (s : StoreSeen) (frame : ℕ) (page : PageName) (bytes : List ℕ) (mod
         bays = refl;
         order = sound.order;
         distinct = distinct_after;
-        lists = subst (λ (n : ℕ). AreApart (record { frames = n; free = rest_free s.free; cached = rest_cached s.free s.cached })) (sym (length-set s.frames frame (Some bytes))) (rest-apart (length s.frames) s.free s.cached sound.lists);
+        lists = subst (λ (n : ℕ). AreApart (record { frames = n; free = rest_free s.free; cached = rest_cached s.free s.cached }))
+            (sym (length-set s.frames frame (Some bytes))) (rest-apart (length s.frames) s.free s.cached sound.lists);
         paired = paired-one s (with_frame_filled s frame page bytes modified) frame one_filled sound.paired (taken-snapshot s frame sound next) (taken-source s frame sound next)
             (ap (λ (r : Row). r.snapshot) row_there) (ap (λ (r : Row). r.source) row_there);
         whole = sound.whole;
@@ -199,18 +202,26 @@ module _ (s : StoreSeen) (frame : ℕ) (page : PageName) (bytes : List ℕ) (mod
   other_filled notes table n fits ne t = elim (cases_Bool (is_name (name_at s.names frame) n)) [
     | inl own ↦
         let h : name_at s.names frame ≡ Some n = is_name-true (name_at s.names frame) n own in
-        rw (taken-lost s frame sound next (Some page) n (λ q. let z : Some page ≡ Some n = q in ne (let w : page ≡ n = cc in sym w)) h, next-own s frame sound next n h) (taken-value s frame sound next notes table n fits h t)
+        rw (
+          taken-lost s frame sound next (Some page) n (λ q. let z : Some page ≡ Some n = q in ne
+              (let w : page ≡ n = cc in sym w)) h,
+          next-own s frame sound next n h,
+        ) (taken-value s frame sound next notes table n fits h t)
     | inr other ↦
-        let before : name_at s.names frame ≡ Some n → ⊥ = λ (h : name_at s.names frame ≡ Some n). let z : true ≡ false = sym (is_name-same n) ∙ sym (ap (λ (o : Option PageName). is_name o n) h) ∙ other in cc in
-        value-elsewhere s (with_frame_filled s frame page bytes modified) (is_only (Some frame)) distinct_after (one-elsewhere s (with_frame_filled s frame page bytes modified) frame one_filled) notes notes table n
+        let before : name_at s.names frame ≡ Some n → ⊥ = λ (h : name_at s.names frame ≡ Some n). let z : true ≡ false = sym (is_name-same n)
+        ∙ sym (ap (λ (o : Option PageName). is_name o n) h) ∙ other in cc in
+        value-elsewhere s (with_frame_filled s frame page bytes modified) (is_only (Some frame)) distinct_after
+        (one-elsewhere s (with_frame_filled s frame page bytes modified) frame one_filled) notes notes table n
         (only-none s.names frame n before) (only-none (set s.names frame (Some page)) frame n (not_after n ne)) refl (λ g t far h. refl)
         ∙ sym (ap (λ (b : Bool). cond b (clip (table n).valid (value s notes table n)) (value s notes table n)) (next-other s frame sound next n before))
   ]
 
-  pub fills-frame : (given : Notes → PlaceTable → List ℕ) → ((notes : Notes) (table : PlaceTable) → given notes table ≡ bytes) → FillsPage s (with_frame_filled s frame page bytes modified) page modified given
+  pub fills-frame : (given : Notes → PlaceTable → List ℕ) → ((notes : Notes) (table : PlaceTable) → given notes table ≡ bytes)
+      → FillsPage s (with_frame_filled s frame page bytes modified) page modified given
   fills-frame given is = record {
     sound = sound_filled;
-    touches = subst (λ (o : Option ℕ). Touches s (with_frame_filled s frame page bytes modified) (is_only o)) (sym next) (touches-one s (with_frame_filled s frame page bytes modified) frame distinct_after one_filled);
+    touches = subst (λ (o : Option ℕ). Touches s (with_frame_filled s frame page bytes modified) (is_only o)) (sym next)
+        (touches-one s (with_frame_filled s frame page bytes modified) frame distinct_after one_filled);
     home = subst (λ (o : Option ℕ). IfSome o (λ (f : ℕ). residence (with_frame_filled s frame page bytes modified) page ≡ Home f)) (sym next) (rw (found_after, bytes_there) refl);
     unlisted = subst (λ (o : Option ℕ). IfSome o (λ (f : ℕ). ¬ IsListedFrame (with_frame_filled s frame page bytes modified) f)) (sym next)
         (λ l. elim l [ inl a ↦ taken-free s frame sound next a | inr b ↦ taken-cached s frame sound next b ]);
@@ -236,7 +247,8 @@ module _ (s : StoreSeen) (frame : ℕ) (page : PageName) (bytes : List ℕ) (mod
   }
 
 -- a page that is home, in a frame on no list, stays when a frame is taken for another name
-pub fills-far : (old new : StoreSeen) (name : PageName) (modified : Bool) (given : Notes → PlaceTable → List ℕ) (from : PageName) (k : ℕ) → FillsPage old new name modified given → IsSoundStore old → (frame : ℕ) → next_frame old ≡ Some frame
+pub fills-far : (old new : StoreSeen) (name : PageName) (modified : Bool) (given : Notes → PlaceTable → List ℕ) (from : PageName) (k : ℕ)
+    → FillsPage old new name modified given → IsSoundStore old → (frame : ℕ) → next_frame old ≡ Some frame
     → residence old name ≡ Absent → residence old from ≡ Home k → (IsListedFrame old k → ⊥) → residence new from ≡ residence old from
 fills-far old new name modified given from k laws sound frame next absent home_k unlisted =
     let is = home-is old from k home_k in

@@ -1,7 +1,7 @@
 -- What a frame's name, row and bytes say of each other, and numbers in sets.
 use Rattle.std.proofs.Common.{◌≡◌, ◌≢◌, ℕ, zero, suc, ◌<◌, Bool, true, false, ◌⊎◌, inl, inr, List, [], ◌∷◌, Option, Some, None, refl, sym, ◌∙◌, ap, subst, arith, length, IsSome, is_some}
 use Rattle.std.specs.Prelude.{◌&&◌, ◌||◌, ◌==◌, is_none}
-use Rattle.std.proofs.lemmas.Bool.{cases_Bool}
+use Rattle.std.proofs.lemmas.Bool.{cases_Bool, or_left, or_parts, or_right}
 use Rattle.std.proofs.lemmas.Bool.Decides.{nat_tests}
 use Rattle.core_arena.specs.Bytes.{bytes_at}
 use Rattle.page_hash.specs.Names.{name_at}
@@ -66,10 +66,6 @@ named_so : (a : Bool) (n : Option PageName) (name : PageName) → n ≡ Some nam
 named_so true n name e = ap (λ (y : Option PageName). is_none y) e
 named_so false n name e = refl
 
-or_false : (a b : Bool) → (a || b) ≡ false → (a ≡ false) × (b ≡ false)
-or_false false b h = (refl, h)
-or_false true b h = let z : true ≡ false = h in absurd (cc)
-
 pub unset : (o : Option ℕ) → is_some o ≡ false → o ≡ None
 unset None h = refl
 unset (Some x) h = let z : true ≡ false = h in absurd (cc)
@@ -78,14 +74,6 @@ unnamed_so : (h : Option ℕ) (n : Option PageName) (gone : Bool) (o : Option �
 unnamed_so (Some t) None gone o u e = (refl, refl)
 unnamed_so (Some t) (Some n) gone o u e = let z : false ≡ true = u ∙ e in absurd (cc)
 unnamed_so None n gone o u e = let z : false ≡ true = u ∙ e in absurd (cc)
-
-or_right : (a b : Bool) → b ≡ true → (a || b) ≡ true
-or_right true b h = refl
-or_right false b h = h
-
-or_left : (a b : Bool) → a ≡ true → (a || b) ≡ true
-or_left true b h = refl
-or_left false b h = let z : false ≡ true = h in absurd (cc)
 
 module _ (b : Option (List ℕ)) (n : Option PageName) (row : Row) (is : FrameAgrees b n row) where
   -- the frame is home: nobody holds it, and it has no page that is gone, and none that it is a snapshot of
@@ -103,10 +91,10 @@ module _ (b : Option (List ℕ)) (n : Option PageName) (row : Row) (is : FrameAg
   named_links name e = sym is.unnamed ∙ named_so (is_some row.holder) n name e
 
   pub named-ungone : (name : PageName) → n ≡ Some name → row.gone ≡ false
-  named-ungone name e = (or_false row.gone (is_some row.source) (named_links name e)).0
+  named-ungone name e = (or_parts row.gone (is_some row.source) (named_links name e)).0
 
   pub named-unsourced : (name : PageName) → n ≡ Some name → row.source ≡ None
-  named-unsourced name e = unset row.source (or_false row.gone (is_some row.source) (named_links name e)).1
+  named-unsourced name e = unset row.source (or_parts row.gone (is_some row.source) (named_links name e)).1
 
   pub held-away : (t : ℕ) → row.holder ≡ Some t → b ≡ None
   held-away t e = held_away b row.holder t is.away e

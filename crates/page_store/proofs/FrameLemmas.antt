@@ -29,7 +29,8 @@ pub row-landed : (old mid new : List Row) (k : ℕ) (referenced dirty : Bool) �
     → referenced ≡ (row_at mid k).referenced → new ≡ set mid k (with_bits (row_at mid k) referenced dirty)
     → new ≡ set old k (landed_row (row_at old k) dirty)
 row-landed old mid new k referenced dirty lt m r n =
-    let row : row_at mid k ≡ record (row_at old k) { holder = None; gone = false } = ap (λ (l : List Row). row_at l k) m ∙ get_or-set_same old k (record (row_at old k) { holder = None; gone = false }) clear_row lt in
+    let row : row_at mid k ≡ record (row_at old k) { holder = None; gone = false } = ap (λ (l : List Row). row_at l k) m
+    ∙ get_or-set_same old k (record (row_at old k) { holder = None; gone = false }) clear_row lt in
     n
     ∙ ap (λ (x : Row). set mid k (with_bits x referenced dirty)) row
     ∙ ap (λ (b : Bool). set mid k (with_bits (record (row_at old k) { holder = None; gone = false }) b dirty)) (r ∙ ap (λ (x : Row). x.referenced) row)

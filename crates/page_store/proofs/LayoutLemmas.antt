@@ -5,11 +5,9 @@ use Rattle.std.proofs.lemmas.Option.{slice_get_cases}
 use Rattle.std.proofs.lemmas.Bool.{cases_Bool}
 use Rattle.std.proofs.lemmas.Bool.Decides.{nat_tests}
 use Rattle.page_hash.specs.declared.PageName.{PageName}
+use Rattle.page_hash.proofs.NameLaws.{same_fields}
 use Rattle.page_store.specs.declared.place.Place.{Place}
 use Rattle.page_store.specs.Layout.{FileBlocks, KeepsPage, AreDisjoint, page_place, slot_place, own_place, file_page_place, is_slot, table_of, TableOfFiles, LayoutLaw}
-
-same_name : (m n : PageName) → m.object ≡ n.object → m.page ≡ n.page → m ≡ n
-same_name m n a b = ap (λ (x : ℕ). record { object = x; page = m.page }) a ∙ ap (λ (x : ℕ). record { object = n.object; page = x }) b
 
 slot_of_test : (slots : ℕ) (n : PageName) → is_slot slots n ≡ true → n.object ≡ 64
 slot_of_test slots n h = grind (arith, nat_tests)
@@ -70,7 +68,7 @@ module _ (files : List FileBlocks) (slots : ℕ) (blank : PageName → Bool) whe
   meet d m n p q (inr (inl (swap, same))) (inl (g, c, l, equal)) disk block =
       let on : 8 ≡ g.disk = sym (ap (λ (x : Place). x.disk) same) ∙ disk ∙ ap (λ (x : Place). x.disk) equal in absurd (omega (arith, on, d.disks n g c l))
   meet d m n p q (inr (inl (swap, same))) (inr (inl (too, equal))) disk block =
-      same_name m n (swap ∙ sym too) (sym (ap (λ (x : Place). x.block) same) ∙ block ∙ ap (λ (x : Place). x.block) equal)
+      same_fields m n (swap ∙ sym too) (sym (ap (λ (x : Place). x.block) same) ∙ block ∙ ap (λ (x : Place). x.block) equal)
   meet d m n p q (inr (inl (swap, same))) (inr (inr equal)) disk block =
       let on : 8 ≡ n.object + 9 = sym (ap (λ (x : Place). x.disk) same) ∙ disk ∙ ap (λ (x : Place). x.disk) equal in absurd (omega (arith, on))
   meet d m n p q (inr (inr same)) (inl (g, c, l, equal)) disk block =
@@ -80,7 +78,7 @@ module _ (files : List FileBlocks) (slots : ℕ) (blank : PageName → Bool) whe
   meet d m n p q (inr (inr same)) (inr (inr equal)) disk block =
       let on : m.object + 9 ≡ n.object + 9 = sym (ap (λ (x : Place). x.disk) same) ∙ disk ∙ ap (λ (x : Place). x.disk) equal in
       let object : m.object ≡ n.object = omega (arith, on) in
-      same_name m n object (sym (ap (λ (x : Place). x.block) same) ∙ block ∙ ap (λ (x : Place). x.block) equal)
+      same_fields m n object (sym (ap (λ (x : Place). x.block) same) ∙ block ∙ ap (λ (x : Place). x.block) equal)
 
   slot-place : length files ≤ 64 → (slot : ℕ) → slot < slots
       → table_of files slots blank (record { object = 64; page = slot }) ≡ slot_place slot (blank (record { object = 64; page = slot }))

@@ -15,7 +15,8 @@ use Rattle.page_store.specs.Seen.{StoreSeen, IsSoundStore, FrameAgrees, ArePaire
 use Rattle.page_store.specs.Steps.{with_pair_parted, without_snapshot}
 use Rattle.page_store.proofs.Agree.{SameOut, same-out}
 use Rattle.page_store.proofs.Elsewhere.{Elsewhere, SoundAt, SoundParts, sound-elsewhere, same-elsewhere}
-use Rattle.page_store.proofs.FrameLaws.{some-or-none, eq-same, eq-is, eq-far, eq-not, false-left, false-right, agrees-at, home-source, away-snapshot, copy-held, copy-away, copy-apart, snapshot-within, source-within}
+use Rattle.page_store.proofs.FrameLaws.{some-or-none, eq-same, eq-is, eq-far, eq-not, false-left, false-right, agrees-at, home-source, away-snapshot, copy-held}
+use Rattle.page_store.proofs.FrameLaws.{copy-away, copy-apart, snapshot-within, source-within}
 
 -- this frame or that one
 abbrev pub either : ℕ → ℕ → ℕ → Bool
@@ -45,12 +46,14 @@ either-not f g k h = (eq-not k f (false-left (k == f) (k == g) h), eq-not k g (f
 
 -- what a family has
 pub family-own : (s : StoreSeen) (own k : ℕ) → family s own k ≡ false → k ≢ own
-family-own s own k h e = let z : true ≡ false = sym (eq-same own) ∙ ap (λ (j : ℕ). j == own) (sym e) ∙ false-left (k == own) (is_only (row_at s.rows own).snapshot k || is_only (row_at s.rows own).source k) h in cc
+family-own s own k h e = let z : true ≡ false = sym (eq-same own) ∙ ap (λ (j : ℕ). j == own) (sym e)
+    ∙ false-left (k == own) (is_only (row_at s.rows own).snapshot k || is_only (row_at s.rows own).source k) h in cc
 
 pub family-copy : (s : StoreSeen) (own copy k : ℕ) → (row_at s.rows own).snapshot ≡ Some copy → family s own k ≡ false → (k == copy) ≡ false
 family-copy s own copy k e h =
     ap (λ (o : Option ℕ). is_only o k) (sym e)
-    ∙ false-left (is_only (row_at s.rows own).snapshot k) (is_only (row_at s.rows own).source k) (false-right (k == own) (is_only (row_at s.rows own).snapshot k || is_only (row_at s.rows own).source k) h)
+    ∙ false-left (is_only (row_at s.rows own).snapshot k) (is_only (row_at s.rows own).source k)
+    (false-right (k == own) (is_only (row_at s.rows own).snapshot k || is_only (row_at s.rows own).source k) h)
 
 pub or-both : (a b : Bool) → a ≡ false → b ≡ false → (a || b) ≡ false
 or-both false b h g = g
@@ -93,13 +96,16 @@ module _ (s : StoreSeen) (own copy : ℕ) (modified : Bool) (sound : IsSoundStor
   parted-copy = source-within s.rows copy own source
 
   at_own : row_at (rows_parted s.rows own copy modified) own ≡ record (row_at s.rows own) { snapshot = None; modified = modified }
-  at_own = two-own s.rows own copy (record (row_at s.rows own) { snapshot = None; modified = modified }) (record (row_at s.rows copy) { source = None; gone = true }) parted-apart parted-own parted-copy
+  at_own = two-own s.rows own copy (record (row_at s.rows own) { snapshot = None; modified = modified })
+      (record (row_at s.rows copy) { source = None; gone = true }) parted-apart parted-own parted-copy
 
   at_copy : row_at (rows_parted s.rows own copy modified) copy ≡ record (row_at s.rows copy) { source = None; gone = true }
-  at_copy = two-copy s.rows own copy (record (row_at s.rows own) { snapshot = None; modified = modified }) (record (row_at s.rows copy) { source = None; gone = true }) parted-apart parted-own parted-copy
+  at_copy = two-copy s.rows own copy (record (row_at s.rows own) { snapshot = None; modified = modified })
+      (record (row_at s.rows copy) { source = None; gone = true }) parted-apart parted-own parted-copy
 
   at_else : (k : ℕ) → k ≢ own → k ≢ copy → row_at (rows_parted s.rows own copy modified) k ≡ row_at s.rows k
-  at_else k ne far = two-else s.rows own copy (record (row_at s.rows own) { snapshot = None; modified = modified }) (record (row_at s.rows copy) { source = None; gone = true }) parted-apart parted-own parted-copy k ne far
+  at_else k ne far = two-else s.rows own copy (record (row_at s.rows own) { snapshot = None; modified = modified })
+      (record (row_at s.rows copy) { source = None; gone = true }) parted-apart parted-own parted-copy k ne far
 
   pub parted-own-row : row_at (rows_parted s.rows own copy modified) own ≡ record (row_at s.rows own) { snapshot = None; modified = modified }
   parted-own-row = at_own
@@ -109,9 +115,11 @@ module _ (s : StoreSeen) (own copy : ℕ) (modified : Bool) (sound : IsSoundStor
 
   pub same-parted : (k : ℕ) → SameOut (row_at s.rows k) (row_at (rows_parted s.rows own copy modified) k)
   same-parted k = elim (cases-either k own copy) [
-    | inl e ↦ subst (λ (j : ℕ). SameOut (row_at s.rows j) (row_at (rows_parted s.rows own copy modified) j)) (sym e) (subst (λ (r : Row). SameOut (row_at s.rows own) r) (sym at_own) (record { holder = refl; page = inl (refl, refl) }))
+    | inl e ↦ subst (λ (j : ℕ). SameOut (row_at s.rows j) (row_at (rows_parted s.rows own copy modified) j)) (sym e)
+        (subst (λ (r : Row). SameOut (row_at s.rows own) r) (sym at_own) (record { holder = refl; page = inl (refl, refl) }))
     | inr r ↦ elim r [
-      | inl e ↦ subst (λ (j : ℕ). SameOut (row_at s.rows j) (row_at (rows_parted s.rows own copy modified) j)) (sym e) (subst (λ (r : Row). SameOut (row_at s.rows copy) r) (sym at_copy) (record { holder = refl; page = inr (refl, refl) }))
+      | inl e ↦ subst (λ (j : ℕ). SameOut (row_at s.rows j) (row_at (rows_parted s.rows own copy modified) j)) (sym e)
+          (subst (λ (r : Row). SameOut (row_at s.rows copy) r) (sym at_copy) (record { holder = refl; page = inr (refl, refl) }))
       | inr far ↦ subst (λ (r : Row). SameOut (row_at s.rows k) r) (sym (at_else k far.0 far.1)) (same-out (row_at s.rows k))
     ]
   ]
@@ -141,7 +149,11 @@ module _ (s : StoreSeen) (own copy : ℕ) (modified : Bool) (sound : IsSoundStor
   -- so is a snapshot that is left
   still_copy : (k x : ℕ) → (row_at (rows_parted s.rows own copy modified) k).source ≡ Some x → (k ≢ copy) × ((row_at s.rows k).source ≡ Some x)
   still_copy k x h = elim (cases-either k own copy) [
-    | inl e ↦ ((λ q. parted-apart (sym e ∙ q)), ap (λ (j : ℕ). (row_at s.rows j).source) e ∙ sym (ap (λ (r : Row). r.source) at_own) ∙ ap (λ (j : ℕ). (row_at (rows_parted s.rows own copy modified) j).source) (sym e) ∙ h)
+    | inl e ↦ (
+      (λ q. parted-apart (sym e ∙ q)),
+      ap (λ (j : ℕ). (row_at s.rows j).source) e ∙ sym (ap (λ (r : Row). r.source) at_own)
+          ∙ ap (λ (j : ℕ). (row_at (rows_parted s.rows own copy modified) j).source) (sym e) ∙ h,
+    )
     | inr r ↦ elim r [
       | inl e ↦ absurd (let z : None ≡ Some x = sym (ap (λ (r : Row). r.source) at_copy) ∙ ap (λ (j : ℕ). (row_at (rows_parted s.rows own copy modified) j).source) (sym e) ∙ h in cc)
       | inr far ↦ (far.1, ap (λ (r : Row). r.source) (sym (at_else k far.0 far.1)) ∙ h)
@@ -164,7 +176,8 @@ module _ (s : StoreSeen) (own copy : ℕ) (modified : Bool) (sound : IsSoundStor
         let p = still_copy x k h in
         let snap : (row_at s.rows k).snapshot ≡ Some x = sound.paired.snapshot k x p.1 in
         let not_own : k ≢ own = λ (q : k ≡ own). let z : Some copy ≡ Some x = sym snapshot_is ∙ ap (λ (j : ℕ). (row_at s.rows j).snapshot) (sym q) ∙ snap in p.0 (cc) in
-        let not_copy : k ≢ copy = λ (q : k ≡ copy). let z : None ≡ Some x = sym (away-snapshot s sound copy (copy-away s sound own copy source)) ∙ ap (λ (j : ℕ). (row_at s.rows j).snapshot) (sym q) ∙ snap in cc in
+        let not_copy : k ≢ copy = λ (q : k ≡ copy). let z : None ≡ Some x = sym (away-snapshot s sound copy (copy-away s sound own copy source))
+        ∙ ap (λ (j : ℕ). (row_at s.rows j).snapshot) (sym q) ∙ snap in cc in
         ap (λ (r : Row). r.snapshot) (at_else k not_own not_copy) ∙ snap;
     home = λ k x h. sound.paired.home k x (still_paired k x h).2;
     named = λ k x h. sound.paired.named k x (still_paired k x h).2;
@@ -189,7 +202,8 @@ module _ (s : StoreSeen) (own copy : ℕ) (modified : Bool) (sound : IsSoundStor
   sound-parted = sound-elsewhere s (with_pair_parted s own copy modified) (either own copy) elsewhere-parted sound
       (record {
         names = refl;
-        rows = two-length s.rows own copy (record (row_at s.rows own) { snapshot = None; modified = modified }) (record (row_at s.rows copy) { source = None; gone = true }) parted-apart parted-own parted-copy;
+        rows = two-length s.rows own copy (record (row_at s.rows own) { snapshot = None; modified = modified })
+            (record (row_at s.rows copy) { source = None; gone = true }) parted-apart parted-own parted-copy;
         clock = refl;
         bays = refl;
         order = sound.order;

@@ -43,7 +43,8 @@ placed-other [] bays k h = refl
 placed-other (x ∷ xs) bays k h =
     get_or-set_other (bays_with xs bays) x.0 k (home x.1) missing (λ q. h 0 (omega arith) (sym q)) ∙ placed-other xs bays k (λ i lt. h (suc i) (omega (arith, lt)))
 
-pub placed-there : (xs : List (ℕ × DiskSeen)) (bays : List BaySeen) (i : ℕ) (d : ℕ × DiskSeen) → length bays ≡ 9 → AreNumbers (numbers_of xs) → i < length xs → bay_at (bays_with xs bays) (get_or xs i d).0 ≡ home (get_or xs i d).1
+pub placed-there : (xs : List (ℕ × DiskSeen)) (bays : List BaySeen) (i : ℕ) (d : ℕ × DiskSeen) → length bays ≡ 9 → AreNumbers (numbers_of xs) → i < length xs
+    → bay_at (bays_with xs bays) (get_or xs i d).0 ≡ home (get_or xs i d).1
 placed-there [] bays i d nine are lt = absurd (omega (arith, lt))
 placed-there (x ∷ xs) bays zero d nine are lt =
     let low : x.0 < 8 = are.below 0 (omega arith) in
@@ -62,7 +63,8 @@ none-missing (suc n) zero = refl
 none-missing (suc n) (suc k) = none-missing n k
 
 -- a bay with another disk that is whole
-pub whole-set : (bays : List BaySeen) (number : ℕ) (bay : BaySeen) → ((d : DiskSeen) → bay ≡ home d → HasBlocks d.content d.size) → ((k : ℕ) (d : DiskSeen) → bay_at bays k ≡ home d → HasBlocks d.content d.size)
+pub whole-set : (bays : List BaySeen) (number : ℕ) (bay : BaySeen) → ((d : DiskSeen) → bay ≡ home d → HasBlocks d.content d.size)
+    → ((k : ℕ) (d : DiskSeen) → bay_at bays k ≡ home d → HasBlocks d.content d.size)
     → (k : ℕ) (d : DiskSeen) → bay_at (set bays number bay) k ≡ home d → HasBlocks d.content d.size
 whole-set [] number bay now was k d h = was k d h
 whole-set (b ∷ more) zero bay now was zero d h = now d h
@@ -70,7 +72,8 @@ whole-set (b ∷ more) zero bay now was (suc k) d h = was (suc k) d h
 whole-set (b ∷ more) (suc number) bay now was zero d h = was 0 d h
 whole-set (b ∷ more) (suc number) bay now was (suc k) d h = whole-set more number bay now (λ j e q. was (suc j) e q) k d h
 
-pub whole-seen : {D : Type 0} (seen : D → DiskSeen) → ((d : D) → HasBlocks (seen d).content (seen d).size) → (swap : Option D) (d : DiskSeen) → option_map seen swap ≡ Some d → HasBlocks d.content d.size
+pub whole-seen : {D : Type 0} (seen : D → DiskSeen) → ((d : D) → HasBlocks (seen d).content (seen d).size) → (swap : Option D) (d : DiskSeen)
+    → option_map seen swap ≡ Some d → HasBlocks d.content d.size
 whole-seen seen law None d h = absurd (cc)
 whole-seen seen law (Some x) d h = let z : seen x ≡ d = cc in subst (λ (y : DiskSeen). HasBlocks y.content y.size) z (law x)
 
@@ -99,7 +102,8 @@ module _ (disks : List (ℕ × DiskSeen)) (swap : Option DiskSeen) (are : AreNum
 
   pub are-home : AreHome (set (bays_with disks (replicate 9 missing)) 8 (bay_of swap)) disks swap
   are-home = record {
-    each = λ i d lt. get_or-set_other (bays_with disks (replicate 9 missing)) 8 (get_or disks i d).0 (bay_of swap) missing (let l = low i d lt in omega (arith, l)) ∙ placed-there disks (replicate 9 missing) i d refl are lt;
+    each = λ i d lt. get_or-set_other (bays_with disks (replicate 9 missing)) 8 (get_or disks i d).0 (bay_of swap) missing
+        (let l = low i d lt in omega (arith, l)) ∙ placed-there disks (replicate 9 missing) i d refl are lt;
     swap = let long = length-placed disks (replicate 9 missing) in get_or-set_same (bays_with disks (replicate 9 missing)) 8 (bay_of swap) missing (omega (arith, long));
     others = λ k ne h. get_or-set_other (bays_with disks (replicate 9 missing)) 8 k (bay_of swap) missing ne ∙ placed-other disks (replicate 9 missing) k h ∙ none-missing 9 k;
   }
@@ -139,7 +143,7 @@ in-range a (suc n) k low high = elim (cases_eq a k) [
 new-frame : FrameAgrees (Some zeros) None clear_row
 new-frame = record { size = λ b e. let q : zeros ≡ b = cc in ap (λ (l : List ℕ). length l) (sym q) ∙ length-replicate {A = ℕ} 4096 0; away = refl; unnamed = refl; torn = λ g. refl }
 
-clear_at : (n k : ℕ) → row_at (replicate n clear_row) k ≡ clear_row
+pub clear_at : (n k : ℕ) → row_at (replicate n clear_row) k ≡ clear_row
 clear_at zero k = refl
 clear_at (suc n) zero = refl
 clear_at (suc n) (suc k) = clear_at n k
@@ -147,7 +151,8 @@ clear_at (suc n) (suc k) = clear_at n k
 unpaired : (s : StoreSeen) (n : ℕ) → s.rows ≡ replicate n clear_row → ArePaired s
 unpaired s n rows =
     let row : (k : ℕ) → row_at s.rows k ≡ clear_row = λ (k : ℕ). ap (λ (l : List Row). row_at l k) rows ∙ clear_at n k in
-    let single : (k x : ℕ) → (row_at s.rows k).snapshot ≡ Some x → ⊥ = λ (k x : ℕ) (h : (row_at s.rows k).snapshot ≡ Some x). let z : None ≡ Some x = sym (ap (λ (r : Row). r.snapshot) (row k)) ∙ h in cc in
+    let single : (k x : ℕ) → (row_at s.rows k).snapshot ≡ Some x → ⊥ = λ (k x : ℕ) (h : (row_at s.rows k).snapshot ≡ Some x). let z : None ≡ Some x = sym
+    (ap (λ (r : Row). r.snapshot) (row k)) ∙ h in cc in
     record {
       source = λ k x h. absurd (single k x h);
       snapshot = λ k x h. absurd (let z : None ≡ Some k = sym (ap (λ (r : Row). r.source) (row x)) ∙ h in cc);
@@ -157,13 +162,18 @@ unpaired s n rows =
     }
 
 -- disks that are put into their bays are whole where they are whole
-pub whole-placed : {D : Type 0} (seen : D → DiskSeen) → ((d : D) → HasBlocks (seen d).content (seen d).size) → (xs : List (ℕ × D)) (bays : List BaySeen) → ((k : ℕ) (d : DiskSeen) → bay_at bays k ≡ home d → HasBlocks d.content d.size)
+pub whole-placed : {D : Type 0} (seen : D → DiskSeen) → ((d : D) → HasBlocks (seen d).content (seen d).size) → (xs : List (ℕ × D)) (bays : List BaySeen)
+    → ((k : ℕ) (d : DiskSeen) → bay_at bays k ≡ home d → HasBlocks d.content d.size)
     → (k : ℕ) (d : DiskSeen) → bay_at (bays_with (pairs_seen seen xs) bays) k ≡ home d → HasBlocks d.content d.size
 whole-placed seen law [] bays was k d h = was k d h
-whole-placed seen law (x ∷ xs) bays was k d h = whole-set (bays_with (pairs_seen seen xs) bays) x.0 (home (seen x.1)) (λ e q. let z : seen x.1 ≡ e = cc in subst (λ (y : DiskSeen). HasBlocks y.content y.size) z (law x.1)) (whole-placed seen law xs bays was) k d h
+whole-placed seen law (x ∷ xs) bays was k d h = whole-set (bays_with (pairs_seen seen xs) bays) x.0 (home (seen x.1))
+    (λ e q. let z : seen x.1 ≡ e = cc in subst (λ (y : DiskSeen). HasBlocks y.content y.size) z (law x.1)) (whole-placed seen law xs bays was) k d h
 
-pub sound-new : (origin n : ℕ) (bays : List BaySeen) (order : List ℕ) → n < 2 ^ 32 → length bays ≡ 9 → ((k : ℕ) (d : DiskSeen) → bay_at bays k ≡ home d → HasBlocks d.content d.size) → IsOrder bays order → AreDistinct (replicate n None) → AreApart (record { frames = n; free = range_with_len 0 n; cached = [] })
-    → IsSoundStore (store_of (record { origin = origin; frames = replicate n (Some zeros) }) (replicate n None) (record { frames = n; free = range_with_len 0 n; cached = [] }) (replicate n clear_row) (fresh_clock n (n / 2)) bays order)
+pub sound-new : (origin n : ℕ) (bays : List BaySeen) (order : List ℕ) → n < 2 ^ 32 → length bays ≡ 9
+    → ((k : ℕ) (d : DiskSeen) → bay_at bays k ≡ home d → HasBlocks d.content d.size) → IsOrder bays order → AreDistinct (replicate n None)
+    → AreApart (record { frames = n; free = range_with_len 0 n; cached = [] })
+    → IsSoundStore (store_of (record { origin = origin; frames = replicate n (Some zeros) }) (replicate n None)
+    (record { frames = n; free = range_with_len 0 n; cached = [] }) (replicate n clear_row) (fresh_clock n (n / 2)) bays order)
 sound-new origin n bays order few nine whole is distinct apart =
     let long : length (replicate n (Some zeros)) ≡ n = length-replicate n (Some zeros) in
     let none : Option PageName = None in
@@ -177,7 +187,8 @@ sound-new origin n bays order few nine whole is distinct apart =
       bays = nine;
       order = is;
       distinct = distinct;
-      paired = unpaired (store_of (record { origin = origin; frames = replicate n (Some zeros) }) (replicate n None) (record { frames = n; free = range_with_len 0 n; cached = [] }) (replicate n clear_row) (fresh_clock n (n / 2)) bays order) n refl;
+      paired = unpaired (store_of (record { origin = origin; frames = replicate n (Some zeros) }) (replicate n None)
+          (record { frames = n; free = range_with_len 0 n; cached = [] }) (replicate n clear_row) (fresh_clock n (n / 2)) bays order) n refl;
       whole = whole;
       lists = subst (λ (k : ℕ). AreApart (record { frames = k; free = range_with_len 0 n; cached = [] })) (sym long) apart;
       each = λ k lt.

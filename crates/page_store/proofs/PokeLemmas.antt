@@ -33,7 +33,8 @@ marked_other : (rows : List Row) (frame k : ℕ) (mark : Bool) → k ≢ frame �
 marked_other rows frame k true ne = get_or-set_other rows frame k (with_bits (row_at rows frame) (row_at rows frame).referenced true) clear_row ne
 marked_other rows frame k false ne = refl
 
-marked_field : {X : Type 0} (field : Row → X) → ((r : Row) → field (with_bits r r.referenced true) ≡ field r) → (rows : List Row) (frame : ℕ) (mark : Bool) → frame < length rows → field (row_at (marked rows frame mark) frame) ≡ field (row_at rows frame)
+marked_field : {X : Type 0} (field : Row → X) → ((r : Row) → field (with_bits r r.referenced true) ≡ field r) → (rows : List Row) (frame : ℕ) (mark : Bool)
+    → frame < length rows → field (row_at (marked rows frame mark) frame) ≡ field (row_at rows frame)
 marked_field field keeps rows frame true lt = ap field (get_or-set_same rows frame (with_bits (row_at rows frame) (row_at rows frame).referenced true) clear_row lt) ∙ keeps (row_at rows frame)
 marked_field field keeps rows frame false lt = refl
 
@@ -48,7 +49,8 @@ piece_over s frame at from = bytes_with_piece (unwrap_or (bytes_at s.frames fram
 spliced_length : (bytes : List ℕ) (at : ℕ) (from : List ℕ) → length bytes ≡ 4096 → at + length from ≤ 4096 → length (bytes_with_piece bytes at from) ≡ 4096
 spliced_length bytes at from size small = grind (arith, common_steps)
 
-module _ (s : StoreSeen) (page : PageName) (frame at : ℕ) (from : List ℕ) (mark : Bool) (sound : IsSoundStore s) (is : IsIn s page frame) (unlisted : IsListedFrame s frame → ⊥) (small : at + length from ≤ 4096) where
+module _ (s : StoreSeen) (page : PageName) (frame at : ℕ) (from : List ℕ) (mark : Bool) (sound : IsSoundStore s) (is : IsIn s page frame)
+    (unlisted : IsListedFrame s frame → ⊥) (small : at + length from ≤ 4096) where
   frame_within : frame < length s.frames
   frame_within = bytes-within s.frames frame is.bytes is.there
 
@@ -148,7 +150,8 @@ module _ (s : StoreSeen) (page : PageName) (frame at : ℕ) (from : List ℕ) (m
 
   others_poked : (notes : Notes) (table : PlaceTable) (m : PageName) → m ≢ page → value (with_piece s frame at from mark) notes table m ≡ value s notes table m
   others_poked notes table m ne =
-      let no : name_at s.names frame ≡ Some m → ⊥ = λ (h : name_at s.names frame ≡ Some m). let b : Some page ≡ Some m = sym (find-at s.names page frame is.found) ∙ h in ne (let w : page ≡ m = cc in sym w) in
+      let no : name_at s.names frame ≡ Some m → ⊥ = λ (h : name_at s.names frame ≡ Some m). let b : Some page ≡ Some m = sym
+      (find-at s.names page frame is.found) ∙ h in ne (let w : page ≡ m = cc in sym w) in
       value-elsewhere s (with_piece s frame at from mark) (is_only (Some frame)) sound.distinct (one-elsewhere s (with_piece s frame at from mark) frame one_poked) notes notes table m
       (only-none s.names frame m no) (only-none s.names frame m no) refl (λ g t far h. refl)
 

@@ -49,7 +49,8 @@ pub record IsIn (s : StoreSeen) (page : PageName) (frame : ℕ) : Type 0 where
   pub bytes : List ℕ
   pub there : bytes_at s.frames frame ≡ Some bytes
 
-in_frame : (s : StoreSeen) (page : PageName) (frame g : ℕ) (b : Option (List ℕ)) (h : Option ℕ) → find s.names page ≡ Some g → bytes_at s.frames g ≡ b → residence_of b h g ≡ Home frame → IsIn s page frame
+in_frame : (s : StoreSeen) (page : PageName) (frame g : ℕ) (b : Option (List ℕ)) (h : Option ℕ) → find s.names page ≡ Some g → bytes_at s.frames g ≡ b
+    → residence_of b h g ≡ Home frame → IsIn s page frame
 in_frame s page frame g (Some bytes) h e f r = let q : g ≡ frame = cc in record { found = e ∙ ap (λ (k : ℕ). Some k) q; bytes = bytes; there = subst (λ (k : ℕ). bytes_at s.frames k ≡ Some bytes) q f }
 in_frame s page frame g None None e f r = absurd (cc)
 in_frame s page frame g None (Some t) e f r = absurd (cc)
@@ -78,7 +79,8 @@ home-some s page frame r = subst (λ (b : Option (List ℕ)). IsSome b) (sym (ho
 pub home-row : (s : StoreSeen) (page : PageName) (frame : ℕ) → IsSoundStore s → residence s page ≡ Home frame → frame < length s.rows
 home-row s page frame sound r = found-row s page frame sound (home-is s page frame r).found
 
-pub value-home : (s : StoreSeen) (notes : Notes) (table : PlaceTable) (page : PageName) (frame : ℕ) (bytes : List ℕ) → residence s page ≡ Home frame → bytes_at s.frames frame ≡ Some bytes → bytes ≡ value s notes table page
+pub value-home : (s : StoreSeen) (notes : Notes) (table : PlaceTable) (page : PageName) (frame : ℕ) (bytes : List ℕ) → residence s page ≡ Home frame
+    → bytes_at s.frames frame ≡ Some bytes → bytes ≡ value s notes table page
 value-home s notes table page frame bytes r there = rw ((home-is s page frame r).found, there) refl
 
 some_home : (b : Option (List ℕ)) (h : Option ℕ) (frame : ℕ) → IsSome b → residence_of b h frame ≡ Home frame
@@ -101,31 +103,3 @@ absent-is s page sound r = absent_at s page (find s.names page) sound refl r
 -- a page whose frame is home is there
 pub residence-home : (s : StoreSeen) (page : PageName) (frame : ℕ) → AreDistinct s.names → name_at s.names frame ≡ Some page → IsSome (bytes_at s.frames frame) → residence s page ≡ Home frame
 residence-home s page frame distinct h there = rw (find-some s.names page frame distinct h) (some_home (bytes_at s.frames frame) (row_at s.rows frame).holder frame there)
-
--- a frame can be had exactly where one of the lists has one
-pub available-forth : (free cached : List ℕ) → (free ≢ []) ⊎ (cached ≢ []) → IsSome (first_listed free cached)
-available-forth [] [] h = elim h [ inl a ↦ absurd (a refl) | inr b ↦ absurd (b refl) ]
-available-forth [] (x ∷ xs) h = refl
-available-forth (x ∷ xs) cached h = refl
-
-pub available-back : (free cached : List ℕ) → IsSome (first_listed free cached) → (free ≢ []) ⊎ (cached ≢ [])
-available-back [] [] h = let z : false ≡ true = h in cc
-available-back [] (x ∷ xs) h = inr (λ q. cc)
-available-back (x ∷ xs) cached h = inl (λ q. cc)
-
--- a frame that can be pushed out holds a name
-pub victim-named : (s : StoreSeen) (frame : ℕ) (o : Option PageName) → IsSoundStore s → IsVictim s frame → name_at s.names frame ≡ o → o ≡ None → ⊥
-victim-named s frame o sound v e n = v.unlisted (inl (sound.spare frame v.here (e ∙ n)))
-
-pub victim-chosen : (s : StoreSeen) (frame : ℕ) (o : Option PageName) → IsSoundStore s → IsVictim s frame → name_at s.names frame ≡ o → IfSome o (λ (n : PageName). ChoosesPage s (Some n))
-victim-chosen s frame None sound v e = absurd (victim-named s frame None sound v e refl)
-victim-chosen s frame (Some n) sound v e = (frame, residence-home s n frame sound.distinct e v.here, v)
-
-pub none-chosen : (s : StoreSeen) (hand count : ℕ) → count ≡ length s.frames
-    → ((frame : ℕ) → hand ≤ frame → frame < count → IsVictim s frame → ⊥) → ((frame : ℕ) → 0 ≤ frame → frame < hand → IsVictim s frame → ⊥) → ChoosesPage s None
-none-chosen s hand count e high low frame v =
-    let within : frame < length s.frames = some-within s.frames frame v.here in
-    elim (cases_lt frame hand) [
-      | inl lt ↦ low frame (omega arith) lt v
-      | inr ge ↦ high frame ge (omega (arith, within, e)) v
-    ]

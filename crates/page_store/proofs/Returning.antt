@@ -140,14 +140,16 @@ module _ (old new : StoreSeen) (notes : Notes) (table : PlaceTable) (f : FlightS
     | inr ne ↦ ap (λ (c : Option (List (List ℕ))). block_of c block) (content_other disk ne)
   ]
 
-  stored_back : (place : Place) → (place.blank ≡ false → place.disk ≡ f.number → note.writes ≡ true → place.block ≢ note.block) → backing_value new (with_note notes f.seat None) place ≡ backing_value old notes place
+  stored_back : (place : Place) → (place.blank ≡ false → place.disk ≡ f.number → note.writes ≡ true → place.block ≢ note.block)
+      → backing_value new (with_note notes f.seat None) place ≡ backing_value old notes place
   stored_back place far = elim (cases_Bool place.blank) [
     | inl b ↦ rw b refl
     | inr w ↦ ap (λ (x : List ℕ). cond place.blank zeros (clip place.valid x)) (block_same place.disk place.block (far w))
   ]
 
   -- what is stored of a name that the flight didn't write, or that is blank, is as it was
-  pub backing_value-back : (m : PageName) → ((table m).blank ≡ false → note.writes ≡ true → m ≢ note.name) → backing_value new (with_note notes f.seat None) (table m) ≡ backing_value old notes (table m)
+  pub backing_value-back : (m : PageName) → ((table m).blank ≡ false → note.writes ≡ true → m ≢ note.name)
+      → backing_value new (with_note notes f.seat None) (table m) ≡ backing_value old notes (table m)
   backing_value-back m ne = stored_back (table m) (λ u d w b. ne u w (can.fits.apart m note.name (d ∙ can.performed.number ∙ sym mine_out.disk) (b ∙ sym mine_out.block)))
 
   other_seat : (t : ℕ) (n : Note) → with_note notes f.seat None t ≡ Some n → (t ≢ f.seat) × (notes t ≡ Some n)
@@ -171,7 +173,8 @@ module _ (old new : StoreSeen) (notes : Notes) (table : PlaceTable) (f : FlightS
       let o = other_seat t n h in
       let was = can.fits.each_note t n o.1 in
       let apart = other_frame t n o.0 o.1 in
-      note-same old new table t n was can.origin (can.bays n.number (other_number t n o.0 o.1)) (same-row (row_at old.rows n.frame) (row_at new.rows n.frame) (can.one.rows n.frame apart)) (can.one.bytes n.frame apart ∙ was.away)
+      note-same old new table t n was can.origin (can.bays n.number (other_number t n o.0 o.1))
+      (same-row (row_at old.rows n.frame) (row_at new.rows n.frame) (can.one.rows n.frame apart)) (can.one.bytes n.frame apart ∙ was.away)
       (λ g. can.one.names (own_frame old n.frame) (own-far old n.frame f.frame can.sound apart (away-snapshot old can.sound f.frame frame_away)))
 
   each_frame : (k t : ℕ) → (row_at new.rows k).holder ≡ Some t → (n : Note) × (with_note notes f.seat None t ≡ Some n) × (n.frame ≡ k)
@@ -214,12 +217,14 @@ module _ (old new : StoreSeen) (notes : Notes) (table : PlaceTable) (f : FlightS
       let far : g ≢ f.frame = λ (q : g ≡ f.frame). let a : Some bytes ≡ None = sym there ∙ ap (bytes_at old.frames) q ∙ frame_away in cc in
       rw (can.one.bytes g far ∙ there, there) refl
 
-  value_far : (n : PageName) (o : Option ℕ) → find old.names n ≡ o → (name_at old.names f.frame ≡ Some n → ⊥) → backing_value new (with_note notes f.seat None) (table n) ≡ backing_value old notes (table n)
+  value_far : (n : PageName) (o : Option ℕ) → find old.names n ≡ o → (name_at old.names f.frame ≡ Some n → ⊥)
+      → backing_value new (with_note notes f.seat None) (table n) ≡ backing_value old notes (table n)
       → value_in o new (with_note notes f.seat None) (table n) ≡ value_in o old notes (table n)
   value_far n None e before same = same
   value_far n (Some g) e before same =
       let far : g ≢ f.frame = λ (q : g ≡ f.frame). before (ap (name_at old.names) (sym q) ∙ find-at old.names n g e) in
-      value_in-same old new (is_only (Some f.frame)) can.distinct (one-elsewhere old new f.frame can.one) notes (with_note notes f.seat None) (table n) g (eq-far g f.frame far) same (λ t h. notes-back g t far h)
+      value_in-same old new (is_only (Some f.frame)) can.distinct (one-elsewhere old new f.frame can.one) notes (with_note notes f.seat None) (table n) g
+      (eq-far g f.frame far) same (λ t h. notes-back g t far h)
 
   -- the page that the flight wrote, and whose frame it isn't, is at home
   value_written : (n : PageName) → n ≡ note.name → (name_at old.names f.frame ≡ Some n → ⊥) → ((row_at old.rows note.frame).gone ≡ false) ⊎ ((frame : ℕ) × (residence old n ≡ Home frame))
@@ -234,7 +239,8 @@ module _ (old new : StoreSeen) (notes : Notes) (table : PlaceTable) (f : FlightS
   ]
 
   -- every name keeps its value, where the name that the frame held does
-  pub ends-back : ((n : PageName) → name_at old.names f.frame ≡ Some n → (note.writes ≡ false → IsTrue (tells old notes (table n).disk)) → value new (with_note notes f.seat None) table n ≡ value old notes table n)
+  pub ends-back : ((n : PageName) → name_at old.names f.frame ≡ Some n → (note.writes ≡ false → IsTrue (tells old notes (table n).disk))
+      → value new (with_note notes f.seat None) table n ≡ value old notes table n)
       → ((n : PageName) → (name_at old.names f.frame ≡ Some n → ⊥) → name_at new.names f.frame ≡ Some n → ⊥) → EndsValues old notes new (with_note notes f.seat None) table note
   ends-back own after = record {
     fits = fits-back;

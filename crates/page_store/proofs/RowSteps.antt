@@ -26,7 +26,8 @@ use Rattle.page_store.specs.Value.{value_in, backing_value, note_of_holder, fram
 use Rattle.page_store.specs.declared.place.Place.{Place}
 use Rattle.page_store.proofs.Agree.{SameOut, same-out, Calm, clean-calm, fits-calm, outside-calm}
 use Rattle.page_store.proofs.Elsewhere.{Elsewhere, OneFrame, SoundAt, SoundParts, one-elsewhere, same-elsewhere, sound-one, sound-elsewhere, touches, touches-one, paired-links}
-use Rattle.page_store.proofs.FrameLaws.{some-or-none, eq-is, false-left, false-right, eq-not, agrees-at, home-source, away-snapshot, listed-snapshot, copy-held, copy-away, copy-apart, home-unheld, snapshot-within, source-within}
+use Rattle.page_store.proofs.FrameLaws.{some-or-none, eq-is, false-left, false-right, eq-not, agrees-at, home-source, away-snapshot, listed-snapshot, copy-held}
+use Rattle.page_store.proofs.FrameLaws.{copy-away, copy-apart, home-unheld, snapshot-within, source-within}
 use Rattle.page_store.proofs.QueryLemmas.{some-within}
 
 -- the store with other rows, lists and another clock
@@ -60,7 +61,8 @@ module _ (s : StoreSeen) (rows : List Row) (free cached : List ℕ) (clock : Clo
   }
 
 -- a field of a row that changes alone, and that keeps the field
-set_field : {X : Type 0} (field : Row → X) (rows : List Row) (f : ℕ) (row : Row) → f < length rows → field row ≡ field (row_at rows f) → (k : ℕ) → field (row_at (set rows f row) k) ≡ field (row_at rows k)
+set_field : {X : Type 0} (field : Row → X) (rows : List Row) (f : ℕ) (row : Row) → f < length rows → field row ≡ field (row_at rows f) → (k : ℕ)
+    → field (row_at (set rows f row) k) ≡ field (row_at rows k)
 set_field field rows f row lt e k = elim (cases_eq k f) [
   | inl q ↦ subst (λ (j : ℕ). field (row_at (set rows f row) j) ≡ field (row_at rows j)) (sym q) (ap field (get_or-set_same rows f row clear_row lt) ∙ e)
   | inr ne ↦ ap field (get_or-set_other rows f k row clear_row ne)
@@ -165,7 +167,8 @@ stays-still s touched sound = record {
 }
 
 -- a frame goes on the cache list
-module _ (s : StoreSeen) (f : ℕ) (sound : IsSoundStore s) (lt : f < length s.frames) (unlisted : IsListedFrame s f → ⊥) (unlocked : (row_at s.rows f).holder ≡ None) (unsent : (row_at s.rows f).snapshot ≡ None) where
+module _ (s : StoreSeen) (f : ℕ) (sound : IsSoundStore s) (lt : f < length s.frames) (unlisted : IsListedFrame s f → ⊥)
+    (unlocked : (row_at s.rows f).holder ≡ None) (unsent : (row_at s.rows f).snapshot ≡ None) where
   there : IsSome (bytes_at s.frames f)
   there = home_so (bytes_at s.frames f) ((sound.each f lt).away ∙ ap (λ (h : Option ℕ). is_some h) unlocked)
     where
@@ -271,5 +274,6 @@ module _ (s : StoreSeen) (f : ℕ) (sound : IsSoundStore s) (lt : f < length s.f
     touches = touches-one s (record s { cached = without_frame s.cached f }) f sound.distinct one_reclaimed;
     residence = residence-rows s s.rows s.free (without_frame s.cached f) s.clock (λ k. same-out (row_at s.rows k));
     outside = outside-calm s (record s { cached = without_frame s.cached f }) (calm-rows s s.rows s.free (without_frame s.cached f) s.clock (λ k. same-out (row_at s.rows k))) sound;
-    values = λ notes table fits. values-rows s s.rows s.free (without_frame s.cached f) s.clock (λ k. same-out (row_at s.rows k)) notes table fits (λ k n h e. fits.each_cached k n (Contains-from_without_frame s.cached f k h).0 e);
+    values = λ notes table fits. values-rows s s.rows s.free (without_frame s.cached f) s.clock (λ k. same-out (row_at s.rows k)) notes table fits
+        (λ k n h e. fits.each_cached k n (Contains-from_without_frame s.cached f k h).0 e);
   }

@@ -12,13 +12,16 @@ use Rattle.page_store.specs.New.{IsNew}
 use Rattle.page_store.specs.Notes.{no_notes}
 use Rattle.page_store.specs.Seen.{StoreSeen}
 use Rattle.page_store.specs.Table.{PlaceTable, IsApart}
+use Rattle.page_store.proofs.NewLemmas.{clear_at}
 
-none_more : (disk : ℕ × DiskSeen) (more : List (ℕ × DiskSeen)) (k : ℕ) → disk.0 ≢ k → ((i : ℕ) → i < length more → slice_index (numbers_of more) i ≢ k) → (i : ℕ) → i < length (disk ∷ more) → slice_index (numbers_of (disk ∷ more)) i ≢ k
+none_more : (disk : ℕ × DiskSeen) (more : List (ℕ × DiskSeen)) (k : ℕ) → disk.0 ≢ k → ((i : ℕ) → i < length more → slice_index (numbers_of more) i ≢ k)
+    → (i : ℕ) → i < length (disk ∷ more) → slice_index (numbers_of (disk ∷ more)) i ≢ k
 none_more disk more k ne none zero lt = ne
 none_more disk more k ne none (suc i) lt = none i (omega (arith, lt))
 
 -- a number is that of one of the disks, or of none
-among : (disks : List (ℕ × DiskSeen)) (k : ℕ) → ((i : ℕ) × (i < length disks) × ((d : ℕ × DiskSeen) → (slice_index_or disks i d).0 ≡ k)) ⊎ ((i : ℕ) → i < length disks → slice_index (numbers_of disks) i ≢ k)
+among : (disks : List (ℕ × DiskSeen)) (k : ℕ) → ((i : ℕ) × (i < length disks) × ((d : ℕ × DiskSeen) → (slice_index_or disks i d).0 ≡ k)) ⊎ ((i : ℕ)
+    → i < length disks → slice_index (numbers_of disks) i ≢ k)
 among [] k = inr (λ i lt. absurd (omega (arith, lt)))
 among (disk ∷ more) k = elim (cases_eq disk.0 k) [
   | inl q ↦ inl (0, (omega arith), λ d. q)
@@ -44,11 +47,6 @@ new-still s count disks swap new number = elim (cases_eq number 8) [
     | inr none ↦ subst (λ (b : BaySeen). IsStill b) (sym (new.bays.others number ne none)) tt
   ]
 ]
-
-clear_at : (count k : ℕ) → row_at (replicate count clear_row) k ≡ clear_row
-clear_at zero k = refl
-clear_at (suc count) zero = refl
-clear_at (suc count) (suc k) = clear_at count k
 
 -- nothing is out of a new store, and no page is on its cache list
 pub new-fits : (s : StoreSeen) (count : ℕ) (disks : List (ℕ × DiskSeen)) (swap : Option DiskSeen) → IsNew s count disks swap → (table : PlaceTable) → IsApart table → StoreFits s no_notes table

@@ -42,7 +42,8 @@ fits-table s notes old new fits may = record {
 pub value-same : (s : StoreSeen) (notes : Notes) (old new : PlaceTable) (n : PageName) → new n ≡ old n → value s notes new n ≡ value s notes old n
 value-same s notes old new n is = ap (λ (p : Place). value_in (find s.names n) s notes p) is
 
-value_home : (s : StoreSeen) (notes : Notes) (frame : ℕ) (bytes : List ℕ) (p q : Place) (o : Option ℕ) → o ≡ Some frame → bytes_at s.frames frame ≡ Some bytes → value_in o s notes p ≡ value_in o s notes q
+value_home : (s : StoreSeen) (notes : Notes) (frame : ℕ) (bytes : List ℕ) (p q : Place) (o : Option ℕ) → o ≡ Some frame → bytes_at s.frames frame ≡ Some bytes
+    → value_in o s notes p ≡ value_in o s notes q
 value_home s notes frame bytes p q o found there =
     let at : (r : Place) → value_in o s notes r ≡ bytes = λ r.
     ap (λ (x : Option ℕ). value_in x s notes r) found ∙ ap (λ (b : Option (List ℕ)). frame_value b (note_of_holder (row_at s.rows frame).holder notes) (backing_value s notes r)) there in
@@ -52,7 +53,8 @@ pub value-home : (s : StoreSeen) (notes : Notes) (old new : PlaceTable) (n : Pag
 value-home s notes old new n frame r = let i = home-is s n frame r in value_home s notes frame i.bytes (new n) (old n) (find s.names n) i.found i.there
 
 -- the note's bytes are the value of a page that a note writes
-held_note : (b : Option (List ℕ)) (h : Option ℕ) (frame seat : ℕ) (notes : Notes) (note : Note) (x y : List ℕ) → residence_of b h frame ≡ Moving seat → notes seat ≡ Some note → note.writes ≡ true → frame_value b (note_of_holder h notes) x ≡ frame_value b (note_of_holder h notes) y
+held_note : (b : Option (List ℕ)) (h : Option ℕ) (frame seat : ℕ) (notes : Notes) (note : Note) (x y : List ℕ) → residence_of b h frame ≡ Moving seat
+    → notes seat ≡ Some note → note.writes ≡ true → frame_value b (note_of_holder h notes) x ≡ frame_value b (note_of_holder h notes) y
 held_note (Some bytes) h frame seat notes note x y r is w = refl
 held_note None None frame seat notes note x y r is w = absurd (cc)
 held_note None (Some t) frame seat notes note x y r is w =
@@ -61,11 +63,14 @@ held_note None (Some t) frame seat notes note x y r is w =
     let gives : (z : List ℕ) → frame_value None (notes t) z ≡ note.bytes = λ z. ap (λ (o : Option Note). frame_value None o z) at ∙ ap (λ (b : Bool). cond b note.bytes z) w in
     gives x ∙ sym (gives y)
 
-value_written : (s : StoreSeen) (notes : Notes) (seat : ℕ) (note : Note) (p q : Place) (o : Option ℕ) → residence_in o s ≡ Moving seat → notes seat ≡ Some note → note.writes ≡ true → value_in o s notes p ≡ value_in o s notes q
+value_written : (s : StoreSeen) (notes : Notes) (seat : ℕ) (note : Note) (p q : Place) (o : Option ℕ) → residence_in o s ≡ Moving seat → notes seat ≡ Some note
+    → note.writes ≡ true → value_in o s notes p ≡ value_in o s notes q
 value_written s notes seat note p q None r is w = absurd (cc)
-value_written s notes seat note p q (Some frame) r is w = held_note (bytes_at s.frames frame) (row_at s.rows frame).holder frame seat notes note (backing_value s notes p) (backing_value s notes q) r is w
+value_written s notes seat note p q (Some frame) r is w = held_note (bytes_at s.frames frame) (row_at s.rows frame).holder frame seat notes note
+    (backing_value s notes p) (backing_value s notes q) r is w
 
-pub value-written : (s : StoreSeen) (notes : Notes) (old new : PlaceTable) (n : PageName) (seat : ℕ) (note : Note) → residence s n ≡ Moving seat → notes seat ≡ Some note → note.writes ≡ true → value s notes new n ≡ value s notes old n
+pub value-written : (s : StoreSeen) (notes : Notes) (old new : PlaceTable) (n : PageName) (seat : ℕ) (note : Note) → residence s n ≡ Moving seat
+    → notes seat ≡ Some note → note.writes ≡ true → value s notes new n ≡ value s notes old n
 value-written s notes old new n seat note r is w = value_written s notes seat note (new n) (old n) (find s.names n) r is w
 
 pub clean-same : (s : StoreSeen) (notes : Notes) (old new : PlaceTable) (frame : ℕ) (n : PageName) → new n ≡ old n → IsClean s notes old frame n → IsClean s notes new frame n

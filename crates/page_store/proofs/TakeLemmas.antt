@@ -50,7 +50,8 @@ has_cached [] [] k h = h
 has_cached [] (x ∷ xs) k h = Contains-rest x k xs h
 has_cached (x ∷ xs) cached k h = h
 
-pub rest-apart : (frames : ℕ) (free cached : List ℕ) → AreApart (record { frames = frames; free = free; cached = cached }) → AreApart (record { frames = frames; free = rest_free free; cached = rest_cached free cached })
+pub rest-apart : (frames : ℕ) (free cached : List ℕ) → AreApart (record { frames = frames; free = free; cached = cached })
+    → AreApart (record { frames = frames; free = rest_free free; cached = rest_cached free cached })
 rest-apart frames free cached apart = record {
   once_free = once_free free apart.once_free;
   once_cached = once_cached free cached apart.once_cached;

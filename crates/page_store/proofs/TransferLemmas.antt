@@ -44,10 +44,6 @@ order-set bays order k b lt here there was = record {
   ];
 }
 
--- names that are the same by frame are found alike
-pub found-alike : (names more : List (Option PageName)) (n : PageName) → AreDistinct more → ((k : ℕ) → name_at more k ≡ name_at names k) → find more n ≡ find names n
-found-alike names more n distinct same = find-same names more n distinct (λ k h. same k ∙ h) (λ k h. sym (same k) ∙ h)
-
 -- a name is this one or another
 pub is-or-not : (m n : PageName) → (m ≡ n) ⊎ (m ≢ n)
 is-or-not m n = elim (cases_Bool (is_name (Some m) n)) [

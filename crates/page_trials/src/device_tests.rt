@@ -282,12 +282,11 @@ fn a_text_is_written_to_a_sink_piece_by_piece(rt: HostRuntime) -> Result<(), Fai
     Ok(())
 }
 
-/// What became of an attaching that failed: the fault's disk and counts, or None for want of memory.
-fn refused(rack: &mut MemRack, spec: &Spec) -> Option<Option<(u32, Option<(u64, u64)>)>> {
-    match Unopened::attach(rack, spec) {
-        Ok(_) => None,
-        Err(AttachFault::Failed(fault)) => Some(Some((fault.disk(), fault.counts()))),
-        Err(AttachFault::Memory) => Some(None),
+/// The disk and the counts of the fault of an attaching that fails.
+fn refused(rack: &mut MemRack, spec: &Spec) -> Option<(u32, Option<(u64, u64)>)> {
+    match Unopened::attach(rack, spec).err() {
+        Some(AttachFault::Failed(fault)) => Some((fault.disk(), fault.counts())),
+        _ => None,
     }
 }
 
@@ -323,7 +322,7 @@ fn opens_at_the_second_call(rack: &mut MemRack) -> Result<(), Fail> {
         number: 0,
         blocks: 4,
     };
-    if refused(rack, &blank) != Some(Some((0, None))) {
+    if refused(rack, &blank) != Some((0, None)) {
         return Err(Fail::new("the first attaching fails"));
     }
     is_opened(rack, &blank)

@@ -1,5 +1,6 @@
 -- Bits in words of 64: what a scan finds, and what a write leaves.
-use Rattle.std.proofs.Common.{◌≡◌, ◌≢◌, ℕ, ◌+◌, ◌*◌, ◌/◌, ◌%◌, ◌<◌, ◌≤◌, Bool, true, false, eqb, not, List, length, get_or, set, replicate, Some, None, refl, sym, ◌∙◌, ap, subst, arith, ⊎_elim, length-set, get_or-set_same, get_or-set_other}
+use Rattle.std.proofs.Common.{◌≡◌, ◌≢◌, ℕ, ◌+◌, ◌*◌, ◌/◌, ◌%◌, ◌<◌, ◌≤◌, Bool, true, false, eqb, not, List, length, get_or, set, replicate, Some, None, refl}
+use Rattle.std.proofs.Common.{sym, ◌∙◌, ap, subst, arith, ⊎_elim, length-set, get_or-set_same, get_or-set_other}
 use Rattle.std.specs.Int.{bit_at}
 use Rattle.std.specs.List.{position, position_or_len}
 use Rattle.std.proofs.lemmas.Bool.{eqb-true, eqb-false, eq-eqb, ne_eqb, cases_eq, cases_lt, cond-true, cond-false, lt-ltb, le-ltb}
@@ -45,14 +46,8 @@ full_below words full i summary within all k lt =
     let below : k / 64 < i = omega arith in
     full_flag words k (eqb-true _ 18446744073709551615 (sym (summary.marks (k / 64) (omega arith)) ∙ all (k / 64) below))
 
-pub lowest_clear_flag : (words : List ℕ) (i t : ℕ) → t < 64 → bit_at (get_or words i 0) t ≡ 0 → is_set words (i * 64 + t) ≡ false
-lowest_clear_flag words i t within clear =
-    ne_eqb (bit_at (get_or words ((i * 64 + t) / 64) 0) ((i * 64 + t) % 64)) 1
-    (λ one. let w = div-mul-add i 64 t within in let b = mod-mul-add i 64 t within in
-    let same : bit_at (get_or words ((i * 64 + t) / 64) 0) ((i * 64 + t) % 64) ≡ bit_at (get_or words i 0) t = ap (λ (n : ℕ). bit_at (get_or words n 0) ((i * 64 + t) % 64)) w ∙ ap (λ (n : ℕ). bit_at (get_or words i 0) n) b in
-    omega arith)
-
-pub flags_below_lowest : (words : List ℕ) (i t : ℕ) → t < 64 → ((j : ℕ) → j < t → bit_at (get_or words i 0) j ≡ 1) → ((k : ℕ) → k < 64 * i → is_set words k ≡ true) → (k : ℕ) → k < i * 64 + t → is_set words k ≡ true
+pub flags_below_lowest : (words : List ℕ) (i t : ℕ) → t < 64 → ((j : ℕ) → j < t → bit_at (get_or words i 0) j ≡ 1)
+    → ((k : ℕ) → k < 64 * i → is_set words k ≡ true) → (k : ℕ) → k < i * 64 + t → is_set words k ≡ true
 flags_below_lowest words i t within first below k lt =
     ⊎_elim (below k)
     (λ high. let w : k / 64 ≡ i = word_of k i high (omega arith) in
@@ -61,7 +56,9 @@ flags_below_lowest words i t within first below k lt =
     (cases_lt k (64 * i))
 
 -- a write in a word's bits, and in its index
-pub summary_kept : (words new full marked : List ℕ) (place : ℕ) (value : Bool) → IsSummary words full → Marks words new place value → (eqb (get_or new (place / 64) 0) 18446744073709551615 ≡ is_set marked (place / 64)) → length marked ≡ length full → ((k : ℕ) → k ≢ place / 64 → is_set marked k ≡ is_set full k) → IsSummary new marked
+pub summary_kept : (words new full marked : List ℕ) (place : ℕ) (value : Bool) → IsSummary words full → Marks words new place value
+    → (eqb (get_or new (place / 64) 0) 18446744073709551615 ≡ is_set marked (place / 64)) → length marked ≡ length full
+    → ((k : ℕ) → k ≢ place / 64 → is_set marked k ≡ is_set full k) → IsSummary new marked
 summary_kept words new full marked place value summary marks here same others = record {
   covered = omega (arith, summary.covered, marks.lengths);
   marks = λ w within. ⊎_elim
@@ -128,10 +125,3 @@ flags_zero count n =
     same_lists _ _ (flags_length _ n ∙ sym (length-replicate n false))
     (λ k d lt. let short : k < n = omega (arith, flags_length (zeros count) n) in
     flags_at _ n k d short ∙ zero_flag count k ∙ sym (get_or-replicate n k false d short))
-
--- the index of words of zeros is of zeros
-pub summary_zero : (count marks : ℕ) → count ≤ 64 * marks → IsSummary (zeros count) (zeros marks)
-summary_zero count marks covered = record {
-  covered = omega (arith, length-replicate {A = ℕ} count 0, length-replicate {A = ℕ} marks 0);
-  marks = λ w _. zero_flag marks w ∙ sym (ne_eqb (get_or (zeros count) w 0) 18446744073709551615 (λ full. omega (arith, zero_word count w)));
-}

@@ -20,7 +20,8 @@ pub used_flag : (held words : List ℕ) (n slot : ℕ) (value : List Bool) → h
 used_flag held words n slot value read view within =
     ap (λ (l : List ℕ). is_set l slot) read ∙ sym (flags_at words n slot false within) ∙ ap (λ (l : List Bool). get_or l slot false) view
 
-pub least_first : (held words : List ℕ) (n slot : ℕ) (value : List Bool) → held ≡ words → flags words n ≡ value → slot < n → is_set held slot ≡ false → ((k : ℕ) → k < slot → is_set held k ≡ true) → Some slot ≡ position not value
+pub least_first : (held words : List ℕ) (n slot : ℕ) (value : List Bool) → held ≡ words → flags words n ≡ value → slot < n → is_set held slot ≡ false
+    → ((k : ℕ) → k < slot → is_set held k ≡ true) → Some slot ≡ position not value
 least_first held words n slot value read view within clear first =
     flags_first held n slot within clear first ∙ ap (λ (l : List ℕ). position not (flags l n)) read ∙ ap (λ (l : List Bool). position not l) view
 
@@ -28,7 +29,8 @@ pub least_none : (held words : List ℕ) (n : ℕ) (value : List Bool) → held 
 least_none held words n value read view all =
     flags_none held n all ∙ ap (λ (l : List ℕ). position not (flags l n)) read ∙ ap (λ (l : List Bool). position not l) view
 
-pub written : (held words new kept : List ℕ) (n place : ℕ) (set_to : Bool) (value : List Bool) → kept ≡ new → held ≡ words → flags words n ≡ value → Marks held new place set_to → place < n → flags kept n ≡ set value place set_to
+pub written : (held words new kept : List ℕ) (n place : ℕ) (set_to : Bool) (value : List Bool) → kept ≡ new → held ≡ words → flags words n ≡ value
+    → Marks held new place set_to → place < n → flags kept n ≡ set value place set_to
 written held words new kept n place set_to value stored read view marks within =
     ap (λ (l : List ℕ). flags l n) stored
     ∙ flags_set held new n place set_to marks within

@@ -36,10 +36,6 @@ length-longer [] = refl
 length-longer (e ∷ []) = refl
 length-longer (e ∷ f ∷ es) = ap suc (length-longer (f ∷ es))
 
--- the last extent by its place
-pub last_or-some : (x : Extent) (xs : List Extent) → last_or (Some x) xs ≡ last_or None (x ∷ xs)
-last_or-some x xs = refl
-
 pub last-at : (xs : List Extent) (k : ℕ) (d : Extent) → suc k ≡ length xs → last_or None xs ≡ Some (slice_index_or xs k d)
 last-at [] k d h = absurd (omega arith)
 last-at (e ∷ []) zero d h = refl
@@ -71,7 +67,8 @@ page_ends-last b [] k h = absurd (omega arith)
 page_ends-last b (e ∷ []) zero h = omega (arith, page_count-cons e [])
 page_ends-last b (e ∷ []) (suc k) h = absurd (omega arith)
 page_ends-last b (e ∷ f ∷ es) zero h = absurd (omega arith)
-page_ends-last b (e ∷ f ∷ es) (suc k) h = let more : slice_index_or (page_ends (b + e.pages) (f ∷ es)) k 0 ≡ b + e.pages + page_count (f ∷ es) = page_ends-last (b + e.pages) (f ∷ es) k (omega arith) in
+page_ends-last b (e ∷ f ∷ es) (suc k) h = let more : slice_index_or (page_ends (b + e.pages) (f ∷ es)) k 0 ≡ b + e.pages + page_count (f ∷ es) = page_ends-last
+    (b + e.pages) (f ∷ es) k (omega arith) in
     let all : b + e.pages + page_count (f ∷ es) ≡ b + page_count (e ∷ f ∷ es) = omega (arith, page_count-cons e (f ∷ es)) in more ∙ all
 
 -- the ends of extents that are cut back: the last is the number of their pages
@@ -79,13 +76,8 @@ pub page_ends-cut : (b : ℕ) (xs : List Extent) (k pages n : ℕ) (d : Extent) 
     → slice_set (take (suc k) (page_ends b xs)) k n ≡ page_ends b (slice_set (take (suc k) xs) k (record (slice_index_or xs k d) { pages = pages }))
 page_ends-cut b [] k pages n d h e = absurd (omega arith)
 page_ends-cut b (x ∷ xs) zero pages n d h e = let same : n ≡ b + pages = e ∙ omega (arith, page_count-cons (record x { pages = pages }) []) in ap (λ m. m ∷ []) same
-page_ends-cut b (x ∷ xs) (suc k) pages n d h e = ap (λ (ys : List ℕ). (b + x.pages) ∷ ys) (page_ends-cut (b + x.pages) xs k pages n d (omega arith) (e ∙ omega (arith, page_count-cons x (slice_set (take (suc k) xs) k (record (slice_index_or xs k d) { pages = pages })))))
-
--- each prefix of the extents has at most their pages
-pub page_count-take : (xs : List Extent) (k : ℕ) (d : Extent) → k < length xs → page_count (take k xs) + (slice_index_or xs k d).pages ≤ page_count xs
-page_count-take [] k d h = absurd (omega arith)
-page_count-take (x ∷ xs) zero d h = omega (arith, page_count-cons x xs)
-page_count-take (x ∷ xs) (suc k) d h = let more = page_count-take xs k d (omega arith) in omega (arith, page_count-cons x xs, page_count-cons x (take k xs))
+page_ends-cut b (x ∷ xs) (suc k) pages n d h e = ap (λ (ys : List ℕ). (b + x.pages) ∷ ys)
+    (page_ends-cut (b + x.pages) xs k pages n d (omega arith) (e ∙ omega (arith, page_count-cons x (slice_set (take (suc k) xs) k (record (slice_index_or xs k d) { pages = pages })))))
 
 -- one extent more
 pub page_ends-more : (xs : List Extent) (i : ℕ) (d : Extent) → i < length xs

@@ -1,5 +1,6 @@
 -- The files as a whole: what a look-up finds, and that they stay sound.
-use Rattle.std.specs.Prelude.{ℕ, ◌≡◌, ◌≢◌, ◌<◌, ◌≤◌, ◌+◌, ◌==◌, Bool, true, false, nat_le, nat_lt, List, [], ◌∷◌, ◌++◌, length, drop, slice_index_or, slice_set, remove, Option, Some, None, All, IsSome, IsSomeAnd, option_map, unwrap_or}
+use Rattle.std.specs.Prelude.{ℕ, ◌≡◌, ◌≢◌, ◌<◌, ◌≤◌, ◌+◌, ◌==◌, Bool, true, false, nat_le, nat_lt, List, [], ◌∷◌, ◌++◌, length, drop, slice_index_or, slice_set}
+use Rattle.std.specs.Prelude.{remove, Option, Some, None, All, IsSome, IsSomeAnd, option_map, unwrap_or}
 use Rattle.std.specs.Option.{option_map_or}
 use Rattle.std.specs.List.{last_or, list_any}
 use Rattle.std.specs.Ordering.{nat_cmp, eq_by_cmp}
@@ -30,7 +31,8 @@ pub key-other : (a b : ℕ) → (a ≡ b → ⊥) → eq_by_cmp nat_cmp b a ≡ 
 key-other a b e = grind (arith, nat_tests)
 
 -- a look-up that passes a disk with another number, and one that has come to it
-pub find-passed : (disk : ℕ) (es : List (ℕ × ℕ)) (i : ℕ) → i < length es → ((slice_index_or es i (0, 0)).0 ≡ disk → ⊥) → finmap.find nat_cmp disk (drop (i + 1) es) ≡ finmap.find nat_cmp disk (drop i es)
+pub find-passed : (disk : ℕ) (es : List (ℕ × ℕ)) (i : ℕ) → i < length es → ((slice_index_or es i (0, 0)).0 ≡ disk → ⊥)
+    → finmap.find nat_cmp disk (drop (i + 1) es) ≡ finmap.find nat_cmp disk (drop i es)
 find-passed disk es i h other =
     sym (ap (finmap.find nat_cmp disk) (drop_more es i (0, 0) h)
     ∙ ap (λ (b : Bool). cond b (Some (slice_index_or es i (0, 0)).1) (finmap.find nat_cmp disk (drop (i + 1) es))) (key-other (slice_index_or es i (0, 0)).0 disk other))
@@ -106,7 +108,8 @@ module _ (s : FilesSeen) (file disk blocks : ℕ) (h : file < length s.files) (o
       is_free-same blocks (extents_on disk s.files) (other_extents s file ++ own_extents s file) (extent_end e) (same-blocks (extent_end e))
       ∙ ap (λ (n : ℕ). is_free n (other_extents s file ++ own_extents s file) (extent_end e)) count in
       is ∙ ap (λ (b : Bool). cond b (Some (extent_end e)) None) free
-      ∙ sym (ap (λ (o : Option Extent). cond (option_map_or (λ last. is_free (its_blocks s file) (other_extents s file ++ own_extents s file) (extent_end last)) o false) (option_map extent_end o) None) last)
+      ∙ sym (ap (λ (o : Option Extent). cond (option_map_or
+      (λ last. is_free (its_blocks s file) (other_extents s file ++ own_extents s file) (extent_end last)) o false) (option_map extent_end o) None) last)
 
   pub new_block-full : (full : Bool) → full ≡ nat_le 252 (length (extents_on disk s.files)) → full ≡ true → new_block s file ≡ None
   new_block-full full is true_ =

@@ -1,5 +1,6 @@
 -- A growth under way: some blocks are taken, and it can still be undone.
-use Rattle.std.specs.Prelude.{ℕ, zero, suc, ◌≡◌, ◌<◌, ◌≤◌, ◌+◌, ◌-◌, Bool, true, false, nat_lt, List, [], ◌∷◌, ◌++◌, length, take, drop, replicate, remove, slice_index_or, slice_set, Option, Some, None, is_some, option_map, option_and_then}
+use Rattle.std.specs.Prelude.{ℕ, zero, suc, ◌≡◌, ◌<◌, ◌≤◌, ◌+◌, ◌-◌, Bool, true, false, nat_lt, List, [], ◌∷◌, ◌++◌, length, take, drop, replicate, remove}
+use Rattle.std.specs.Prelude.{slice_index_or, slice_set, Option, Some, None, is_some, option_map, option_and_then}
 use Rattle.std.specs.Option.{option_map_or}
 use Rattle.std.specs.List.{last_or}
 use Rattle.std.proofs.Common.{ap, ◌∙◌, sym, arith, refl, subst, cond, length-append}
@@ -12,6 +13,7 @@ use Rattle.vnode_files.specs.Vnode.{VnodeSeen, IsSoundVnode, page_blocks, with_e
 use Rattle.vnode_files.specs.Files.{FilesSeen, vnode_at, with_vnode, with_growth, growth_of, extents_on, block_count}
 use Rattle.vnode_files.specs.Room.{savepoint_of, cut_vnode, cut_extents}
 use Rattle.vnode_files.specs.Step.{own_extents, other_extents, its_blocks, next_extents}
+use Rattle.vnode_files.proofs.SeenLemmas.{none-from}
 use Rattle.vnode_files.proofs.ExtentLemmas.{length-longer, last-at}
 use Rattle.vnode_files.proofs.BlockLemmas.{length-page_blocks, page_blocks-longer, page_blocks-pushed}
 
@@ -22,7 +24,8 @@ pub record IsNext (own next : List Extent) : Type 0 where
   pub cut : (count last : ℕ) → count ≤ length own → cut_extents next count last ≡ cut_extents own count last
 
 cut-longer_at : (xs : List Extent) (k last : ℕ) (d : Extent) → k < length xs
-    → slice_set (take (suc k) (with_longer_last xs)) k (record (slice_index_or (with_longer_last xs) k d) { pages = last }) ≡ slice_set (take (suc k) xs) k (record (slice_index_or xs k d) { pages = last })
+    → slice_set (take (suc k) (with_longer_last xs)) k (record (slice_index_or (with_longer_last xs) k d) { pages = last }) ≡ slice_set (take (suc k) xs) k
+    (record (slice_index_or xs k d) { pages = last })
 cut-longer_at [] k last d h = absurd (omega arith)
 cut-longer_at (e ∷ []) zero last d h = refl
 cut-longer_at (e ∷ []) (suc k) last d h = absurd (omega arith)
@@ -36,12 +39,14 @@ cut-append_at (e ∷ es) ys zero last d h = refl
 cut-append_at (e ∷ es) ys (suc k) last d h = ap (λ (zs : List Extent). e ∷ zs) (cut-append_at es ys k last d (omega arith))
 
 cut_by : (xs ys : List Extent) → ((k last : ℕ) → k < length xs
-    → slice_set (take (suc k) ys) k (record (slice_index_or ys k (record { start = 0; pages = 0 })) { pages = last }) ≡ slice_set (take (suc k) xs) k (record (slice_index_or xs k (record { start = 0; pages = 0 })) { pages = last }))
+    → slice_set (take (suc k) ys) k (record (slice_index_or ys k (record { start = 0; pages = 0 })) { pages = last }) ≡ slice_set (take (suc k) xs) k
+    (record (slice_index_or xs k (record { start = 0; pages = 0 })) { pages = last }))
     → (count last : ℕ) → count ≤ length xs → cut_extents ys count last ≡ cut_extents xs count last
 cut_by xs ys at zero last h = refl
 cut_by xs ys at (suc k) last h =
     let same : k ≡ suc k - 1 = omega arith in
-    let P : ℕ → Type 0 = λ j. slice_set (take (suc k) ys) j (record (slice_index_or ys j (record { start = 0; pages = 0 })) { pages = last }) ≡ slice_set (take (suc k) xs) j (record (slice_index_or xs j (record { start = 0; pages = 0 })) { pages = last }) in
+    let P : ℕ → Type 0 = λ j. slice_set (take (suc k) ys) j (record (slice_index_or ys j (record { start = 0; pages = 0 })) { pages = last }) ≡ slice_set
+    (take (suc k) xs) j (record (slice_index_or xs j (record { start = 0; pages = 0 })) { pages = last }) in
     subst P same (at k last (omega arith))
 
 next-longer_is : (own : List Extent) (e : Extent) → last_or None own ≡ Some e → IsNext own (with_longer_last own)
@@ -69,7 +74,8 @@ lengthened_is blocks others own (Some e) last can = next-longer_is own e last
 
 new_is : (blocks : ℕ) (others own next : List Extent) → with_new_last blocks others own ≡ Some next → IsNext own next
 new_is blocks others own next is =
-    elim (nat_lt (length others + length own) 252) as (λ c. cond c (option_map (λ block. own ++ record { start = block; pages = 1 } ∷ []) (least_free blocks (others ++ own))) None ≡ Some next → IsNext own next) [
+    elim (nat_lt (length others + length own) 252) as (λ c. cond c
+    (option_map (λ block. own ++ record { start = block; pages = 1 } ∷ []) (least_free blocks (others ++ own))) None ≡ Some next → IsNext own next) [
       | true ↦ λ s. next-new_is own (least_free blocks (others ++ own)) next s
       | false ↦ λ s. cc
     ] is
@@ -212,7 +218,8 @@ grows-none old file pages before own g more is =
     ∙ ap (option_and_then (with_next_blocks (its_blocks old file) (other_extents old file) (pages - page_count own - 1))) is
 
 -- the file is brought back to where it stood
-pub grows-back : (old : FilesSeen) (file pages : ℕ) (before : Savepoint) (own : List Extent) → GrowsTo old file pages before own → cut_vnode (with_extents (vnode_at old file) own) before ≡ vnode_at old file
+pub grows-back : (old : FilesSeen) (file pages : ℕ) (before : Savepoint) (own : List Extent) → GrowsTo old file pages before own
+    → cut_vnode (with_extents (vnode_at old file) own) before ≡ vnode_at old file
 grows-back old file pages before own g =
     let v = vnode_at old file in
     let pages_ : before.pages ≡ length v.blanks = ap (λ (s : Savepoint). s.pages) g.stood ∙ sym g.sound.bits in
@@ -226,11 +233,8 @@ some_of : {X : Type 0} (o : Option X) → is_some o ≡ true → (x : X) × (o �
 some_of None is = cc
 some_of (Some x) is = (x, refl)
 
-pub none-of : {X : Type 0} (o : Option X) → is_some o ≡ false → o ≡ None
-none-of None is = refl
-none-of (Some x) is = cc
-
-pub growing-first : (old : FilesSeen) (file pages : ℕ) (before : Savepoint) → file < length old.files → IsSoundVnode (vnode_at old file) → before ≡ savepoint_of (vnode_at old file) → IsGrowing old old file pages before
+pub growing-first : (old : FilesSeen) (file pages : ℕ) (before : Savepoint) → file < length old.files → IsSoundVnode (vnode_at old file)
+    → before ≡ savepoint_of (vnode_at old file) → IsGrowing old old file pages before
 growing-first old file pages before h sound stood =
     (own_extents old file, sym (state-same old file h), subst (λ (b : Savepoint). GrowsTo old file pages b (own_extents old file)) (sym stood) (grows-first old file pages sound))
 
@@ -261,21 +265,13 @@ growing-next old mid new file pages before h g more some is =
       count = ap page_count (own-state old new file next h here) ∙ count ∙ ap (λ (es : List Extent). page_count es + 1) (sym same);
     }
 
-pub growing-last : (old mid : FilesSeen) (file pages : ℕ) (before : Savepoint) → file < length old.files → IsGrowing old mid file pages before → pages ≤ page_count (own_extents mid file)
-    → (mid ≡ with_growth old file (growth_of old file pages)) × (is_some (growth_of old file pages) ≡ true)
-growing-last old mid file pages before h g enough =
-    let own = g.0 in
-    let same : own_extents mid file ≡ own = own-state old mid file own h g.1 in
-    let there : growth_of old file pages ≡ Some own = grows-last old file pages before own g.2 (subst (λ (es : List Extent). pages ≤ page_count es) same enough) in
-    (g.1 ∙ sym (ap (with_growth old file) there), ap is_some there)
-
 pub growing-none : (old mid : FilesSeen) (file pages : ℕ) (before : Savepoint) → file < length old.files → IsGrowing old mid file pages before → page_count (own_extents mid file) < pages
     → is_some (next_extents mid file) ≡ false → growth_of old file pages ≡ None
 growing-none old mid file pages before h g more none =
     let own = g.0 in
     let same : own_extents mid file ≡ own = own-state old mid file own h g.1 in
     grows-none old file pages before own g.2 (subst (λ (es : List Extent). page_count es < pages) same more)
-    (sym (next-state old file h own) ∙ ap (λ (s : FilesSeen). next_extents s file) (sym g.1) ∙ none-of (next_extents mid file) none)
+    (sym (next-state old file h own) ∙ ap (λ (s : FilesSeen). next_extents s file) (sym g.1) ∙ none-from (next_extents mid file) none)
 
 -- what brings the file back
 pub record CanGoBack (old mid : FilesSeen) (file : ℕ) (before : Savepoint) : Type 0 where

@@ -1,5 +1,6 @@
 -- What a growth takes: free blocks that differ; and what that keeps apart.
-use Rattle.std.specs.Prelude.{ℕ, zero, suc, ◌≡◌, ◌≢◌, ◌<◌, ◌≤◌, ◌+◌, ◌-◌, ◌||◌, ◌&&◌, not, Bool, true, false, nat_lt, List, [], ◌∷◌, ◌++◌, length, map, count_by, slice_index_or, Option, Some, None, All, option_map, option_and_then}
+use Rattle.std.specs.Prelude.{ℕ, zero, suc, ◌≡◌, ◌≢◌, ◌<◌, ◌≤◌, ◌+◌, ◌-◌, ◌||◌, ◌&&◌, not, Bool, true, false, nat_lt, List, [], ◌∷◌, ◌++◌, length, map}
+use Rattle.std.specs.Prelude.{count_by, slice_index_or, Option, Some, None, All, option_map, option_and_then}
 use Rattle.std.specs.Option.{option_map_or}
 use Rattle.std.specs.List.{find, list_any, last_or, range_with_len}
 use Rattle.std.proofs.Common.{ap, ◌∙◌, sym, arith, refl, cond, subst, eqb, length-append}
@@ -83,7 +84,8 @@ gaps-pushed [] b other h = h
 gaps-pushed (e ∷ []) b other h = (other e refl, h)
 gaps-pushed (e ∷ f ∷ es) b other h = (h.0, gaps-pushed (f ∷ es) b other h.1)
 
-pushed_lies : (blocks : ℕ) (own : List Extent) (b : ℕ) → 1 ≤ b → b < blocks → ((e : Extent) → last_or None own ≡ Some e → extent_end e ≢ b) → LieOnDisk blocks own → LieOnDisk blocks (own ++ record { start = b; pages = 1 } ∷ [])
+pushed_lies : (blocks : ℕ) (own : List Extent) (b : ℕ) → 1 ≤ b → b < blocks → ((e : Extent) → last_or None own ≡ Some e → extent_end e ≢ b)
+    → LieOnDisk blocks own → LieOnDisk blocks (own ++ record { start = b; pages = 1 } ∷ [])
 pushed_lies blocks own b first low other h = record {
   some = All-push (λ x. 1 ≤ x.pages) own (record { start = b; pages = 1 }) h.some (omega arith);
   within = All-push (λ x. (1 ≤ x.start) × (extent_end x ≤ blocks)) own (record { start = b; pages = 1 }) h.within (first, omega arith);
@@ -100,7 +102,8 @@ range-from p a (suc n) b found =
     ] found
 
 -- the block after the last extent isn't free, so it isn't the one that is taken
-not_after : (blocks : ℕ) (others own : List Extent) (b : ℕ) → can_lengthen blocks others own ≡ false → is_free blocks (others ++ own) b ≡ true → (e : Extent) → last_or None own ≡ Some e → extent_end e ≢ b
+not_after : (blocks : ℕ) (others own : List Extent) (b : ℕ) → can_lengthen blocks others own ≡ false → is_free blocks (others ++ own) b ≡ true → (e : Extent)
+    → last_or None own ≡ Some e → extent_end e ≢ b
 not_after blocks others own b cannot free e last same =
     let bad : is_free blocks (others ++ own) (extent_end e) ≡ false =
     sym (ap (λ (o : Option Extent). option_map_or (λ x. is_free blocks (others ++ own) (extent_end x)) o false) last) ∙ cannot in
@@ -127,23 +130,28 @@ pushed_adds blocks others own next (Some b) cannot few found is =
 
 next_adds : (blocks : ℕ) (others own next : List Extent) → with_next_block blocks others own ≡ Some next → AddsOne blocks others own next
 next_adds blocks others own next is =
-    elim (can_lengthen blocks others own) as (λ c. can_lengthen blocks others own ≡ c → cond c (Some (with_longer_last own)) (with_new_last blocks others own) ≡ Some next → AddsOne blocks others own next) [
+    elim (can_lengthen blocks others own) as (λ c. can_lengthen blocks others own ≡ c → cond c (Some (with_longer_last own))
+    (with_new_last blocks others own) ≡ Some next → AddsOne blocks others own next) [
       | true ↦ λ can s. let same : with_longer_last own ≡ next = cc in subst (AddsOne blocks others own) same (longer_adds blocks others own (last_or None own) refl can)
-      | false ↦ λ can s. elim (nat_lt (length others + length own) 252) as (λ c. nat_lt (length others + length own) 252 ≡ c → cond c (option_map (λ block. own ++ record { start = block; pages = 1 } ∷ []) (least_free blocks (others ++ own))) None ≡ Some next → AddsOne blocks others own next) [
-        | true ↦ λ few t. pushed_adds blocks others own next (least_free blocks (others ++ own)) can (grind (arith, nat_tests, few)) refl t
-        | false ↦ λ few t. cc
-      ] refl s
+      | false ↦ λ can s. elim (nat_lt (length others + length own) 252) as
+          (λ c. nat_lt (length others + length own) 252 ≡ c → cond c
+          (option_map (λ block. own ++ record { start = block; pages = 1 } ∷ []) (least_free blocks (others ++ own))) None ≡ Some next → AddsOne blocks others own next) [
+            | true ↦ λ few t. pushed_adds blocks others own next (least_free blocks (others ++ own)) can (grind (arith, nat_tests, few)) refl t
+            | false ↦ λ few t. cc
+          ] refl s
     ] refl is
 
 -- what one block more adds to the blocks of the extents
-any-more : (blocks : ℕ) (others own mid : List Extent) (one : AddsOne blocks others own mid) (c : ℕ) → list_any (has_block c) (others ++ mid) ≡ (list_any (has_block c) (others ++ own) || eqb c one.block)
+any-more : (blocks : ℕ) (others own mid : List Extent) (one : AddsOne blocks others own mid) (c : ℕ)
+    → list_any (has_block c) (others ++ mid) ≡ (list_any (has_block c) (others ++ own) || eqb c one.block)
 any-more blocks others own mid one c =
     let inside : list_any (has_block c) mid ≡ (list_any (has_block c) own || (eqb c one.block || false)) =
     sym (any-page_blocks c mid) ∙ ap (list_any (eqb c)) one.places ∙ list_any-append (eqb c) (page_blocks own) (one.block ∷ [])
     ∙ ap (λ (t : Bool). t || (eqb c one.block || false)) (any-page_blocks c own) in
     list_any-append (has_block c) others mid ∙ ap (λ (t : Bool). list_any (has_block c) others || t) inside ∙ grind (arith, list_any-append (has_block c) others own)
 
-count-more : (blocks : ℕ) (others own mid : List Extent) (one : AddsOne blocks others own mid) (c : ℕ) → count_by (has_block c) (others ++ mid) ≡ count_by (has_block c) (others ++ own) + cond (eqb c one.block) 1 0
+count-more : (blocks : ℕ) (others own mid : List Extent) (one : AddsOne blocks others own mid) (c : ℕ)
+    → count_by (has_block c) (others ++ mid) ≡ count_by (has_block c) (others ++ own) + cond (eqb c one.block) 1 0
 count-more blocks others own mid one c =
     let inside : count_by (has_block c) mid ≡ count_by (has_block c) own + count_by (eqb c) (one.block ∷ []) =
     sym (count-page_blocks c mid) ∙ ap (count_by (eqb c)) one.places ∙ count-append (eqb c) (page_blocks own) (one.block ∷ [])
@@ -190,7 +198,8 @@ kept own next added is page h =
     ap (λ (bs : List ℕ). slice_index_or bs page 0) is ∙ get_or_append_left (page_blocks own) added 0 page (omega (arith, length-page_blocks own))
 
 -- blocks one after another
-gives : (blocks : ℕ) (others : List Extent) (k pages : ℕ) (own next : List Extent) → k ≡ pages - page_count own → with_next_blocks blocks others k own ≡ Some next → GrowthGives blocks others own pages next
+gives : (blocks : ℕ) (others : List Extent) (k pages : ℕ) (own next : List Extent) → k ≡ pages - page_count own
+    → with_next_blocks blocks others k own ≡ Some next → GrowthGives blocks others own pages next
 gives blocks others zero pages own next many is =
     let same : own ≡ next = cc in
     subst (GrowthGives blocks others own pages) same (record {
@@ -209,7 +218,8 @@ gives blocks others zero pages own next many is =
       few = λ h. h;
     })
 gives blocks others (suc k) pages own next many is =
-    elim (with_next_block blocks others own) as (λ o. with_next_block blocks others own ≡ o → option_and_then (with_next_blocks blocks others k) o ≡ Some next → GrowthGives blocks others own pages next) [
+    elim (with_next_block blocks others own) as (λ o. with_next_block blocks others own ≡ o → option_and_then (with_next_blocks blocks others k) o ≡ Some next
+    → GrowthGives blocks others own pages next) [
       | None ↦ λ at rest. cc
       | Some mid ↦ λ at rest.
           let one = next_adds blocks others own mid at in
@@ -217,7 +227,8 @@ gives blocks others (suc k) pages own next many is =
           let longer : page_count mid ≡ page_count own + 1 = omega (arith, length-page_blocks own, length-page_blocks mid, length-append (page_blocks own) (one.block ∷ [])) in
           let more = gives blocks others k pages mid next (omega arith) rest in
           let was : All (λ c. WasFree blocks (others ++ own) one.block c) more.takes.added =
-          All-weaker (λ c. is_free blocks (others ++ mid) c ≡ true) (λ c. WasFree blocks (others ++ own) one.block c) (λ c h. was_free blocks others own mid one c h) more.takes.added more.takes.free in
+          All-weaker (λ c. is_free blocks (others ++ mid) c ≡ true) (λ c. WasFree blocks (others ++ own) one.block c)
+          (λ c h. was_free blocks others own mid one c h) more.takes.added more.takes.free in
           let places : page_blocks next ≡ page_blocks own ++ (one.block ∷ more.takes.added) =
           more.takes.places ∙ ap (λ (bs : List ℕ). bs ++ more.takes.added) one.places ∙ append_assoc (page_blocks own) (one.block ∷ []) more.takes.added in
           let starts_of : List Extent → List ℕ = λ (es : List Extent). map (λ (e : Extent). e.start) es in

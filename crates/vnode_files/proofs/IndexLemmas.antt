@@ -73,7 +73,8 @@ cut_page_ends xs (suc k) last pages h e =
     let P : ℕ → Type 0 = λ j. pages ≡ page_count (slice_set (take (suc k) xs) j (record (slice_index_or xs j none) { pages = last })) in
     let Q : ℕ → Type 0 = λ j. slice_set (take (suc k) (page_ends 0 xs)) j pages ≡ page_ends 0 (slice_set (take (suc k) xs) j (record (slice_index_or xs j none) { pages = last })) in
     let same : suc k - 1 ≡ k = omega arith in
-    subst Q (sym same) (page_ends-cut 0 xs k last pages none (omega arith) (subst P same e ∙ sym (zero-add (page_count (slice_set (take (suc k) xs) k (record (slice_index_or xs k none) { pages = last }))))))
+    subst Q (sym same) (page_ends-cut 0 xs k last pages none (omega arith)
+    (subst P same e ∙ sym (zero-add (page_count (slice_set (take (suc k) xs) k (record (slice_index_or xs k none) { pages = last }))))))
 
 pub HasPageEnds-cut : (v : VnodeSeen) (ends : List ℕ) (capacity : ℕ) (to : Savepoint) → HasPageEnds v ends capacity → to.extents ≤ length v.info.extents
     → to.pages ≡ page_count (cut_vnode v to).info.extents → IsSoundVnode (cut_vnode v to)

@@ -1,5 +1,6 @@
 -- What a layout says of pages, and which calls keep it.
-use Rattle.std.specs.Prelude.{ℕ, zero, suc, ◌≡◌, ◌≢◌, ◌<◌, ◌≤◌, ◌+◌, ◌-◌, ◌==◌, ◌||◌, Bool, true, false, List, [], ◌∷◌, ◌++◌, length, map, replicate, count_by, sum_by, slice_index_or, slice_set, remove, Option, Some, None, All, unwrap_or}
+use Rattle.std.specs.Prelude.{ℕ, zero, suc, ◌≡◌, ◌≢◌, ◌<◌, ◌≤◌, ◌+◌, ◌-◌, ◌==◌, ◌||◌, Bool, true, false, List, [], ◌∷◌, ◌++◌, length, map, replicate, count_by}
+use Rattle.std.specs.Prelude.{sum_by, slice_index_or, slice_set, remove, Option, Some, None, All, unwrap_or}
 use Rattle.std.specs.List.{list_any}
 use Rattle.std.specs.FinMap as finmap
 use Rattle.std.proofs.Common.{ap, ◌∙◌, sym, arith, refl, cond, subst, inl, inr, eqb, length-append}
@@ -15,7 +16,8 @@ use Rattle.vnode_files.specs.Grow.{has_block, is_free, extent_end, page_count}
 use Rattle.vnode_files.specs.Vnode.{VnodeSeen, no_vnode, page_blocks, block_at, with_extents, fresh_vnode}
 use Rattle.vnode_files.specs.Files.{FilesSeen, vnode_at, with_vnode, with_next_file, with_disk, with_growth, growth_of, block_count, extents_on}
 use Rattle.vnode_files.specs.Step.{own_extents, other_extents, its_blocks}
-use Rattle.vnode_files.specs.Layout.{NoneMeet, LieOnDisk, LieOnDisks, NoFilesMeet, KeepsLayout, HasPlaceBeside, HaveOwnBlocks, HaveBlocksOnDisk, FileLayoutLaw, GrowthGives, GrowsFile, disk_of_file, block_of_page}
+use Rattle.vnode_files.specs.Layout.{NoneMeet, LieOnDisk, LieOnDisks, NoFilesMeet, KeepsLayout, HasPlaceBeside, HaveOwnBlocks, HaveBlocksOnDisk, FileLayoutLaw}
+use Rattle.vnode_files.specs.Layout.{GrowthGives, GrowsFile, disk_of_file, block_of_page}
 use Rattle.vnode_files.proofs.BlockLemmas.{any-page_blocks, length-page_blocks, has_block-bounds}
 use Rattle.vnode_files.proofs.FilesLemmas.{key-other}
 use Rattle.vnode_files.proofs.ListLemmas.{extents_on-append, extents_on-one, extents_on-other, any-others, is_free-same}
@@ -108,7 +110,8 @@ extents_on-set disk (x ∷ xs) (suc i) v d h at same =
     ∙ ap (λ (es : List Extent). extents_on disk (x ∷ []) ++ es) (extents_on-set disk xs i v d (omega arith) at same)
     ∙ sym (extents_on-append disk (x ∷ []) xs)
 
-pub keeps-same : (s : FilesSeen) (file : ℕ) (v : VnodeSeen) → file < length s.files → v.info.disk ≡ (vnode_at s file).info.disk → v.info.extents ≡ (vnode_at s file).info.extents → KeepsLayout s (with_vnode s file v)
+pub keeps-same : (s : FilesSeen) (file : ℕ) (v : VnodeSeen) → file < length s.files → v.info.disk ≡ (vnode_at s file).info.disk
+    → v.info.extents ≡ (vnode_at s file).info.extents → KeepsLayout s (with_vnode s file v)
 keeps-same s file v h at same =
     let files : (disk : ℕ) → extents_on disk (slice_set s.files file v) ≡ extents_on disk s.files = λ disk. extents_on-set disk s.files file v no_vnode h at same in
     record {
@@ -136,7 +139,8 @@ keeps-disk s disk blocks none = record {
 }
 
 -- a file more
-extents_on-next : (disk : ℕ) (xs : List VnodeSeen) (v : VnodeSeen) (P : List Extent → Type 0) → P (extents_on disk xs) → P (extents_on v.info.disk xs ++ v.info.extents) → P (extents_on disk (xs ++ v ∷ []))
+extents_on-next : (disk : ℕ) (xs : List VnodeSeen) (v : VnodeSeen) (P : List Extent → Type 0) → P (extents_on disk xs)
+    → P (extents_on v.info.disk xs ++ v.info.extents) → P (extents_on disk (xs ++ v ∷ []))
 extents_on-next disk xs v P others both =
     elim (cases_eq v.info.disk disk) [
       | inl same ↦
@@ -217,7 +221,8 @@ pub none_meet-others : (s : FilesSeen) (file : ℕ) → file < length s.files �
 none_meet-others s file h apart b =
     let v = vnode_at s file in
     let rest = sum-remove (count_by (has_block b)) refl (count-append (has_block b)) v.info.disk s.files file v no_vnode h in
-    let mine : part_of (count_by (has_block b)) v.info.disk v ≡ count_by (has_block b) v.info.extents = ap (λ (t : Bool). cond t (count_by (has_block b) v.info.extents) 0) (eq-eqb v.info.disk v.info.disk refl) in
+    let mine : part_of (count_by (has_block b)) v.info.disk v ≡ count_by (has_block b) v.info.extents = ap
+    (λ (t : Bool). cond t (count_by (has_block b) v.info.extents) 0) (eq-eqb v.info.disk v.info.disk refl) in
     let few = apart v.info.disk b in
     omega (arith, count-append (has_block b) (other_extents s file) v.info.extents)
 

@@ -1,5 +1,6 @@
 -- Counts of the extents that have a block, and the blocks of pages.
-use Rattle.std.specs.Prelude.{ℕ, zero, suc, ◌≡◌, ◌<◌, ◌≤◌, ◌+◌, ◌==◌, ◌||◌, ◌&&◌, Bool, true, false, nat_lt, nat_le, List, [], ◌∷◌, ◌++◌, length, count_by, sum_by, slice_index_or, filter, slice_set, remove, AllPairs}
+use Rattle.std.specs.Prelude.{ℕ, zero, suc, ◌≡◌, ◌<◌, ◌≤◌, ◌+◌, ◌==◌, ◌||◌, ◌&&◌, Bool, true, false, nat_lt, nat_le, List, [], ◌∷◌, ◌++◌, length, count_by}
+use Rattle.std.specs.Prelude.{sum_by, slice_index_or, filter, slice_set, remove, AllPairs}
 use Rattle.std.specs.List.{list_any, range_with_len, flat_map}
 use Rattle.std.proofs.Common.{ap, ◌∙◌, sym, arith, refl, cond, eqb}
 use Rattle.std.proofs.lemmas.Bool.Decides.{nat_tests}
@@ -28,16 +29,6 @@ count-none {X} p (x ∷ xs) none =
 count-first : {X : Type 0} (p : X → Bool) (x : X) (xs : List X) → p x ≡ true → count_by p (x ∷ xs) ≡ 1 + count_by p xs
 count-first p x xs is = count-cons p x xs ∙ ap (λ (t : Bool). cond t 1 0 + count_by p xs) is
 
-count-any : {X : Type 0} (p : X → Bool) (xs : List X) → list_any p xs ≡ true → 1 ≤ count_by p xs
-count-any p [] is = cc
-count-any {X} p (x ∷ xs) is =
-    elim (p x) as (λ t. p x ≡ t → 1 ≤ count_by p (x ∷ xs)) [
-      | true ↦ λ first. let e : count_by p (x ∷ xs) ≡ 1 + count_by p xs = count-first p x xs first in omega arith
-      | false ↦ λ first.
-          let more = count-any p xs (sym (ap (λ (t : Bool). t || list_any p xs) first) ∙ is) in
-          omega (arith, count-cons p x xs)
-    ] refl
-
 absent : (t : Bool) → (t ≡ true → ⊥) → t ≡ false
 absent t never = elim t as (λ s. t ≡ s → s ≡ false) [ true ↦ λ is. absurd (never is) | false ↦ λ is. refl ] refl
 
@@ -46,18 +37,6 @@ pub count-some : {X : Type 0} (p : X → Bool) (xs : List X) (i : ℕ) (d : X) �
 count-some p [] i d h is = absurd (omega arith)
 count-some p (x ∷ xs) zero d h is = let e : count_by p (x ∷ xs) ≡ 1 + count_by p xs = count-first p x xs is in omega arith
 count-some p (x ∷ xs) (suc i) d h is = let more = count-some p xs i d (omega arith) is in omega (arith, count-cons p x xs)
-
--- what one of two lists has the other hasn't, where none meet
-pub none_meet-free : (others own : List Extent) → NoneMeet (others ++ own) → (b : ℕ) → list_any (has_block b) own ≡ true → list_any (has_block b) others ≡ false
-none_meet-free others own apart b has =
-    elim (list_any (has_block b) others) as (λ t. list_any (has_block b) others ≡ t → t ≡ false) [
-      | true ↦ λ is.
-          let first = count-any (has_block b) others is in
-          let second = count-any (has_block b) own has in
-          let few = apart b in
-          absurd (omega (arith, count-append (has_block b) others own))
-      | false ↦ λ is. refl
-    ] refl
 
 -- extents of which no two have a block in common
 pub none_meet-pairs : (xs : List Extent) → AllPairs (λ e f. (b : ℕ) → has_block b e ≡ true → has_block b f ≡ true → ⊥) xs → NoneMeet xs

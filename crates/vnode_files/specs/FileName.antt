@@ -25,15 +25,3 @@ name_fields-name_bytes n h =
     let bytes : take n.len n.bytes ++ replicate (16 - length (take n.len n.bytes)) 0 ≡ n.bytes =
     ap (λ m. take n.len n.bytes ++ replicate (16 - m) 0) len ∙ ap (λ (z : List ℕ). take n.len n.bytes ++ z) (sym h.zeros) ∙ take-append-drop n.len n.bytes in
     λ i. record { len = len i; bytes = bytes i }
-
--- a list of 1 to 16 bytes, written over 16 zeros
-abbrev pub name_over_zeros : List ℕ → Inside
-name_over_zeros xs = record { len = length xs; bytes = xs ++ drop (length xs) (replicate 16 0) }
-
-pub name_over_zeros-IsName : (xs : List ℕ) → 1 ≤ length xs → length xs ≤ 16 → IsName (name_over_zeros xs)
-name_over_zeros-IsName xs some short = record {
-  whole = let zs : List ℕ = replicate 16 0 in omega (arith, length-append xs (drop (length xs) zs), length-drop (length xs) zs, length-replicate {A = ℕ} 16 0);
-  some = some;
-  short = short;
-  zeros = drop-append_seam xs (drop (length xs) (replicate 16 0)) ∙ drop-replicate (length xs) 16 0;
-}

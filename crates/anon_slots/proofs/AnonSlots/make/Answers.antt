@@ -7,7 +7,8 @@ use Rattle.anon_slots.proofs.AnonSlots.make.Goals as goal
 pub unwrap-slot-requires : goal.unwrap-slot-requires
 unwrap-slot-requires c =
     subst (λ (o : Option ℕ). IsSome o) (sym (c.alloc.ensures.least ∙ area_first c.self.inside.area c.self.inside.counts.items c.self.invariant.marked))
-    (has_unused c.self.inside.counts.items (omega (arith, c.self.invariant.counted, c.self.invariant.within, c.requires, ap slots_in_use c.self.view_is, ap (λ (s : AnonSlotsSeen). s.reserved) c.self.view_is)))
+    (has_unused c.self.inside.counts.items (omega
+    (arith, c.self.invariant.counted, c.self.invariant.within, c.requires, ap slots_in_use c.self.view_is, ap (λ (s : AnonSlotsSeen). s.reserved) c.self.view_is)))
 
 pub returns-clause-least : goal.returns-clause-least
 returns-clause-least c =

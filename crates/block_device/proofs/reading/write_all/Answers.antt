@@ -10,6 +10,7 @@ loop-done-preserved g c =
     let done = c.loop-done.done in
     record {
       within = omega (arith, put.fits, length-drop done all, ap length (tail-is all done));
-      text = front_goes_on _ _ _ all done c.in_ok-done.field-0 c.loop-done.invariant.text (put.text ∙ ap (λ piece. text_with_more (g.K.Sink.seen c.loop-done.sink).written (take c.in_ok-done.field-0 piece)) (tail-is all done));
+      text = front_goes_on _ _ _ all done c.in_ok-done.field-0 c.loop-done.invariant.text
+          (put.text ∙ ap (λ piece. text_with_more (g.K.Sink.seen c.loop-done.sink).written (take c.in_ok-done.field-0 piece)) (tail-is all done));
       later = omega (arith, c.loop-done.invariant.later, c.in_ok-done.ensures.cause.later);
     }

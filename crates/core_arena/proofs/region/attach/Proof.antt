@@ -24,7 +24,8 @@ attach_spec 𝓤 𝓛 𝓜 𝓡 wired A L g d dd met md =
     proved_at 𝓛 En stayed c 𝓜 𝓡 (Goes-blank 𝓛 1 (plain (λ _. Stretch)) yes (λ κs x w. tt), (Goes-blank 𝓛 1 (plain (λ _. S)) no (λ κs x w. tt), tt))
     (f.Key.name (of_one A d dd)) fn (code.unfolded 𝓤 𝓛.H 𝓜 𝓡 wired (A, tt) d dd) (λ z _.
     let κs = z.0.0 in let a = z.0.3 in let vss = z.0.4 in let Post = (walk_of 𝓛 En stayed c).post z in let xs = a.0.bytes in let e = a.1.0 in
-    qed 𝓛 (((‵ (flft κs.0 z.0.1.0) ⊛ ‵ ftrue) ⊛ ‵ (Stretch.own_val a.0 vss.0) ⊛ ‵ (S.own_val e vss.1.0) ⊛ ‵ ftrue) ∷ (raw (fact 𝓤 (κs.0 ⊑ A.lives)) ⊛ raw (fact 𝓤 ((a.0.at ≡ e.at) × (length xs ≡ e.len)))) ∷ []) ∵
+    qed 𝓛 (((‵ (flft κs.0 z.0.1.0) ⊛ ‵ ftrue) ⊛ ‵ (Stretch.own_val a.0 vss.0) ⊛ ‵ (S.own_val e vss.1.0) ⊛ ‵ ftrue) ∷
+    (raw (fact 𝓤 (κs.0 ⊑ A.lives)) ⊛ raw (fact 𝓤 ((a.0.at ≡ e.at) × (length xs ≡ e.len)))) ∷ []) ∵
     move ! (1 ∷ []) $ split ! $ drop ! $ heard ! ((a.0.at ≡ e.at) × (length xs ≡ e.len)) (λ asked. split3 ! $ move ! (2 ∷ []) $ split ! $ move ! (1 ∷ []) $ drop ! $
     move ! (2 ∷ []) $ fsplit ! $ none_had ! vss.0 (λ is₀. move ! (1 ∷ []) $ fsplit ! $ fpick ! (λ typed. drop ! $ fpick ! (λ v. fsplit ! $ feq_l ! (λ len.
     let Given = λ (ys : List ℕ). fsep (feq ℕ (length ys) e.len) (vec_owns_bytes e.at ys) in

@@ -26,7 +26,8 @@ abbrev Place : RattleType
 Place = option.the_row Row
 
 module _ {M : Type 1} {𝓤 : Ura M} (𝓛 : Logic 𝓤) (κ : Lft) where
-  side_by_side : (xs ys : List ℕ) (b o at : ℕ) → at ≡ o + length xs → ent 𝓤 (sep 𝓤 (sem 𝓛 (elements_shared u8 xs b o κ)) (sem 𝓛 (elements_shared u8 ys b at κ))) (sem 𝓛 (elements_shared u8 (xs ++ ys) b o κ))
+  side_by_side : (xs ys : List ℕ) (b o at : ℕ) → at ≡ o + length xs → ent 𝓤
+      (sep 𝓤 (sem 𝓛 (elements_shared u8 xs b o κ)) (sem 𝓛 (elements_shared u8 ys b at κ))) (sem 𝓛 (elements_shared u8 (xs ++ ys) b o κ))
   side_by_side [] ys b o at e =
       let same : at ≡ o = omega (arith, e) in
       qed 𝓛 (‵ (elements_shared u8 [] b o κ) ∷ ‵ (elements_shared u8 ys b at κ) ∷ []) ∵ drop ! $ rewrite ! 0 (λ (k : ℕ). ‵ (elements_shared u8 ys b k κ)) same refl $ done !
@@ -61,7 +62,8 @@ whole_spec 𝓤 𝓛 𝓜 𝓡 wired =
     (λ κs. (shr_slice_vals, (rawptr_vals, (uint_vals w64, tt)))) (λ κs. (shr_slice_Tells (named 0) κs.0 Place, (rawptr_Tells, (uint_Tells w64, tt)))) (λ κs qs bounds a _ are.
     let pages = a.0.now in let p = a.1.0 in let n = a.1.1.0 in let b = block_of p in let o = count_of p in let xs = row_bytes pages in
     let y : Ptr → W.Ghost = λ p. ((κs, qs, bounds, (a.0, (p, (n, tt))), (shr_slice_vals a.0, (rawptr_vals p, (uint_vals w64 n, tt)))), tt) in
-    qed 𝓛 (((‵ (flft κs.0 qs.0) ⊛ ‵ ftrue) ⊛ ‵ ((ShrSlice (named 0) κs.0 Place).own_val a.0 (shr_slice_vals a.0)) ⊛ ‵ (RawPtr.own_val p (rawptr_vals p)) ⊛ ‵ (usize.own_val n (uint_vals w64 n)) ⊛ ‵ ftrue)
+    qed 𝓛 (((‵ (flft κs.0 qs.0) ⊛ ‵ ftrue) ⊛ ‵ ((ShrSlice (named 0) κs.0 Place).own_val a.0 (shr_slice_vals a.0)) ⊛ ‵ (RawPtr.own_val p (rawptr_vals p)) ⊛ ‵
+    (usize.own_val n (uint_vals w64 n)) ⊛ ‵ ftrue)
     ∷ raw (fact 𝓤 (InRow p pages × InBlock p × (length xs ≡ n) × (n < 2 ^ 63))) ∷ []) ∵
     move ! (1 ∷ []) $ heard ! _ (λ asked. let at : p ≡ block_ptr b o = at_block p asked.1 in
     regoal ! (λ q. prop (WpFn 𝓤 𝓛.H 𝓣.C 𝓣.Λ code.function (slice_val a.0.ref_ptr (length pages) ∷ (rawptr_vals q ++ uint_vals w64 n)) (W.post (y q)))) at refl $

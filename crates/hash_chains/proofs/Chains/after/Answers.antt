@@ -8,7 +8,8 @@ use Rattle.hash_chains.proofs.Chains.after.Goals as goal
 pub index-requires : goal.index-requires
 index-requires c =
     let l = subst (λ (r : ChainsSeen). AreSoundChains c.self.inside.heads.items c.self.inside.next.items r.order) c.self.view_is c.self.invariant in
-    let lt = among-within c.self.inside.next.items (get_or c.self.inside.heads.items c.requires.0 None) (chain_at c.args.self.now.order c.requires.0) c.args.place (l.leads c.requires.0) c.requires.1 in
+    let lt = among-within c.self.inside.next.items (get_or c.self.inside.heads.items c.requires.0 None)
+    (chain_at c.args.self.now.order c.requires.0) c.args.place (l.leads c.requires.0) c.requires.1 in
     let k = c.self.inside.next.ok.0 in omega arith
 
 pub returns-clause-after : goal.returns-clause-after

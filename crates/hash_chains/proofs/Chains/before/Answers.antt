@@ -16,7 +16,9 @@ at : (c : In-Some) → Seeks (chain_at c.args.self.now.order c.args.chain) c.arg
 at c = subst (λ (a : Option ℕ). Seeks (chain_at c.args.self.now.order c.args.chain) c.args.place c.loop-at.before a) c.in-Some.is c.loop-at.invariant
 
 pub returns-then-other-place : goal.returns-then-other-place
-returns-then-other-place c = seek-found (chain_at c.args.self.now.order c.args.chain) c.args.place c.loop-at.before (c.first-at.ensures.apart.once c.args.chain) (subst (λ (p : ℕ). Seeks (chain_at c.args.self.now.order c.args.chain) c.args.place c.loop-at.before (Some p)) c.if-other-place.true (at (goal.at.returns-then-other-place c).In-Some))
+returns-then-other-place c = seek-found (chain_at c.args.self.now.order c.args.chain) c.args.place c.loop-at.before
+    (c.first-at.ensures.apart.once c.args.chain) (subst
+    (λ (p : ℕ). Seeks (chain_at c.args.self.now.order c.args.chain) c.args.place c.loop-at.before (Some p)) c.if-other-place.true (at (goal.at.returns-then-other-place c).In-Some))
 
 pub after-at-requires : goal.after-at-requires
 after-at-requires c = (c.args.chain, (at (goal.at.after-at-requires c).In-Some).on)
@@ -29,7 +31,8 @@ loop-at-smaller c =
 pub loop-at-preserved : goal.loop-at-preserved
 loop-at-preserved c =
     let s = at (goal.at.loop-at-preserved c).In-Some in
-    rw (c.after-at.ensures.after c.args.chain s.on) (seek-step (chain_at c.args.self.now.order c.args.chain) c.args.place c.in-Some.other c.loop-at.before (c.first-at.ensures.apart.once c.args.chain) c.if-other-place.false s)
+    rw (c.after-at.ensures.after c.args.chain s.on) (seek-step (chain_at c.args.self.now.order c.args.chain) c.args.place c.in-Some.other c.loop-at.before
+    (c.first-at.ensures.apart.once c.args.chain) c.if-other-place.false s)
 
 pub returns : goal.returns
 returns c = let s = subst (λ (a : Option ℕ). Seeks (chain_at c.args.self.now.order c.args.chain) c.args.place c.loop-at.before a) c.in_default.is c.loop-at.invariant in absurd (let z = s.has in cc)

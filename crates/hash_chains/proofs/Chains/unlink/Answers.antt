@@ -20,14 +20,21 @@ lead-requires-clause-before c = go c.before-before.result c.before-before.ensure
     go None e = tt
     go (Some p) e =
         let l = subst (λ (r : ChainsSeen). AreSoundChains c.self.inside.heads.items c.self.inside.next.items r.order) c.self.view_is c.self.invariant in
-        let lt = among-within c.self.inside.next.items (get_or c.self.inside.heads.items c.args.chain None) (chain_at c.args.self.now.order c.args.chain) p (l.leads c.args.chain) (before-on c.self.inside.heads.items c.self.inside.next.items c.args.self.now.order c.args.place c.args.chain l c.requires p (sym e)) in
+        let lt = among-within c.self.inside.next.items (get_or c.self.inside.heads.items c.args.chain None) (chain_at c.args.self.now.order c.args.chain) p
+        (l.leads c.args.chain) (before-on c.self.inside.heads.items c.self.inside.next.items c.args.self.now.order c.args.place c.args.chain l c.requires p (sym e)) in
         let k = c.self.inside.next.ok.0 in omega arith
 
-linked : (c : After-lead) → AreSoundChains c.lead.new.heads.items c.lead.new.next.items (set c.args.self.now.order c.args.chain (without_place c.args.place (chain_at c.args.self.now.order c.args.chain)))
+linked : (c : After-lead) → AreSoundChains c.lead.new.heads.items c.lead.new.next.items
+    (set c.args.self.now.order c.args.chain (without_place c.args.place (chain_at c.args.self.now.order c.args.chain)))
 linked c = let l = subst (λ (r : ChainsSeen). AreSoundChains c.self.inside.heads.items c.self.inside.next.items r.order) c.self.view_is c.self.invariant in
     rw c.lead.ensures.heads (rw c.lead.ensures.next (rw c.before-before.ensures (
-    subst (λ (o : Option ℕ). AreSoundChains (heads_led (before_in None c.args.place (chain_at c.args.self.now.order c.args.chain)) c.self.inside.heads.items c.args.chain o) (next_led (before_in None c.args.place (chain_at c.args.self.now.order c.args.chain)) c.self.inside.next.items o) (set c.args.self.now.order c.args.chain (without_place c.args.place (chain_at c.args.self.now.order c.args.chain))))
-    (get_or_default c.self.inside.next.items c.args.place None c.index-after.result.now (among-within c.self.inside.next.items (get_or c.self.inside.heads.items c.args.chain None) (chain_at c.args.self.now.order c.args.chain) c.args.place (l.leads c.args.chain) c.requires) ∙ sym c.index-after.ensures)
+    subst (λ (o : Option ℕ). AreSoundChains (heads_led
+    (before_in None c.args.place (chain_at c.args.self.now.order c.args.chain)) c.self.inside.heads.items c.args.chain o)
+    (next_led (before_in None c.args.place (chain_at c.args.self.now.order c.args.chain)) c.self.inside.next.items o)
+    (set c.args.self.now.order c.args.chain (without_place c.args.place (chain_at c.args.self.now.order c.args.chain))))
+    (get_or_default c.self.inside.next.items c.args.place None c.index-after.result.now
+    (among-within c.self.inside.next.items (get_or c.self.inside.heads.items c.args.chain None) (chain_at c.args.self.now.order c.args.chain) c.args.place
+    (l.leads c.args.chain) c.requires) ∙ sym c.index-after.ensures)
     (linked-out c.self.inside.heads.items c.self.inside.next.items c.args.self.now.order c.args.place c.args.chain l c.requires))))
 
 pub invariant_of-self : goal.invariant_of-self

@@ -12,6 +12,7 @@ push_reserved-requires c =
 
 pub returns-clause-fits : goal.returns-clause-fits
 returns-clause-fits c =
-    let s = hat-pushed c.args.table.now.places (vec_capacity c.args.free.now) c.args.hand c.args.free.now.items (vec_capacity c.push_reserved.new.self) c.args.place c.args.old c.requires.fits c.requires.old (let k = c.push_reserved.ensures.capacity in omega arith) in
+    let s = hat-pushed c.args.table.now.places (vec_capacity c.args.free.now) c.args.hand c.args.free.now.items
+    (vec_capacity c.push_reserved.new.self) c.args.place c.args.old c.requires.fits c.requires.old (let k = c.push_reserved.ensures.capacity in omega arith) in
     subst (λ (p : List (Option Translation)). IsSoundHat p c.push_reserved.new.self.items (vec_capacity c.push_reserved.new.self) c.args.hand) (sym c.take.ensures.places)
     (subst (λ (f : List ℕ). IsSoundHat (set c.args.table.now.places c.args.place None) f (vec_capacity c.push_reserved.new.self) c.args.hand) (sym c.push_reserved.ensures.items) s)

@@ -5,4 +5,5 @@ use Rattle.hat_layer.proofs.hat.replace.Goals as goal
 
 pub returns-in-Some-clause-places : goal.returns-in-Some-clause-places
 returns-in-Some-clause-places c =
-    c.put-in-Some.ensures.places ∙ ap (λ (p : List (Option Translation)). set p c.args.place (Some c.args.new)) c.take.ensures.places ∙ set-set c.args.table.now.places c.args.place None (Some c.args.new)
+    c.put-in-Some.ensures.places ∙ ap (λ (p : List (Option Translation)). set p c.args.place (Some c.args.new)) c.take.ensures.places
+    ∙ set-set c.args.table.now.places c.args.place None (Some c.args.new)

@@ -11,7 +11,8 @@ use Rattle.hat_layer.proofs.hat.unload_all.Goals as goal
 pub loop-at-smaller : goal.loop-at-smaller
 loop-at-smaller c =
     let l = subst (λ (a : Option (ℕ × Translation)). LeadsToFrame c.loop-at.table.places c.args.frame a) c.in-Some.is c.loop-at.invariant.leads_to in
-    subst (λ (p : List (Option Translation)). count_by (leads c.args.frame) p < count_by (leads c.args.frame) c.loop-at.table.places) (sym c.release.ensures.places) (fewer c.loop-at.table.places c.args.frame c.in-Some.place c.in-Some.old l.0 l.1)
+    subst (λ (p : List (Option Translation)). count_by (leads c.args.frame) p < count_by (leads c.args.frame) c.loop-at.table.places)
+    (sym c.release.ensures.places) (fewer c.loop-at.table.places c.args.frame c.in-Some.place c.in-Some.old l.0 l.1)
 
 pub loop-at-preserved : goal.loop-at-preserved
 loop-at-preserved c =
@@ -25,8 +26,11 @@ loop-at-preserved c =
       distinct = c.release.ensures.distinct;
       leads_to = c.first-at-in-Some.ensures.leads;
       rest = ap (λ (p : List (Option Translation)). drop_frame c.args.frame p) p ∙ drop-step c.loop-at.table.places c.args.frame c.in-Some.place c.in-Some.old l.0 l.1 ∙ i.rest;
-      bits_r = ap (λ (p : List (Option Translation)). (c.loop-at.referenced || c.in-Some.old.referenced) || list_any (has_bit (λ t. t.referenced) c.args.frame) p) p ∙ bit-step (λ t. t.referenced) c.loop-at.table.places c.args.frame c.in-Some.place c.in-Some.old None c.loop-at.referenced l.0 l.1 refl ∙ i.bits_r;
-      bits_m = ap (λ (p : List (Option Translation)). (c.loop-at.modified || c.in-Some.old.modified) || list_any (has_bit (λ t. t.modified) c.args.frame) p) p ∙ bit-step (λ t. t.modified) c.loop-at.table.places c.args.frame c.in-Some.place c.in-Some.old None c.loop-at.modified l.0 l.1 refl ∙ i.bits_m;
+      bits_r = ap (λ (p : List (Option Translation)). (c.loop-at.referenced || c.in-Some.old.referenced) || list_any
+          (has_bit (λ t. t.referenced) c.args.frame) p) p ∙ bit-step
+          (λ t. t.referenced) c.loop-at.table.places c.args.frame c.in-Some.place c.in-Some.old None c.loop-at.referenced l.0 l.1 refl ∙ i.bits_r;
+      bits_m = ap (λ (p : List (Option Translation)). (c.loop-at.modified || c.in-Some.old.modified) || list_any (has_bit (λ t. t.modified) c.args.frame) p) p
+          ∙ bit-step (λ t. t.modified) c.loop-at.table.places c.args.frame c.in-Some.place c.in-Some.old None c.loop-at.modified l.0 l.1 refl ∙ i.bits_m;
     }
 
 pub returns-clause-bits : goal.returns-clause-bits

@@ -38,17 +38,22 @@ loop-at-preserved c =
     let i = c.loop-at.invariant in
     let s = at (goal.at.loop-at-preserved c).In-Some in
     let r = held (goal.at.loop-at-preserved c).In-Some in
-    let e : get_or c.loop-at.cells.items c.in-Some.place None ≡ Some c.held_at-old.result = ap (λ (l : List (Option Translation)). get_or l c.in-Some.place None) (sym c.deref.ensures.value) ∙ c.held_at-old.ensures in
-    let f : c.held_at-old.result.frame ≡ c.args.frame = (let z : Some r.0 ≡ Some c.held_at-old.result = sym r.1 ∙ e in let y : r.0 ≡ c.held_at-old.result = cc in ap (λ (t : Translation). t.frame) (sym y) ∙ r.2) in
+    let e : get_or c.loop-at.cells.items c.in-Some.place None ≡ Some c.held_at-old.result = ap
+    (λ (l : List (Option Translation)). get_or l c.in-Some.place None) (sym c.deref.ensures.value) ∙ c.held_at-old.ensures in
+    let f : c.held_at-old.result.frame ≡ c.args.frame = (let z : Some r.0 ≡ Some c.held_at-old.result = sym r.1 ∙ e in
+    let y : r.0 ≡ c.held_at-old.result = cc in ap (λ (t : Translation). t.frame) (sym y) ∙ r.2) in
     rw (c.after-at.ensures.after c.args.frame s.on) (rw c.with_clear_bits.ensures (record {
       clears = clears-step c.loop-at.cells.items (chain_at c.args.by_frame.now.order c.args.frame) c.args.frame c.in-Some.place c.held_at-old.result s (c.first-at.ensures.apart.once c.args.frame) e f;
       rest = clear-step c.loop-at.cells.items c.args.frame c.in-Some.place c.held_at-old.result e f ∙ i.rest;
-      bits_r = bit-step (λ t. t.referenced) c.loop-at.cells.items c.args.frame c.in-Some.place c.held_at-old.result (Some (with_clear_bits c.held_at-old.result)) c.loop-at.referenced e f (and_right (c.held_at-old.result.frame == c.args.frame) false refl) ∙ i.bits_r;
-      bits_m = bit-step (λ t. t.modified) c.loop-at.cells.items c.args.frame c.in-Some.place c.held_at-old.result (Some (with_clear_bits c.held_at-old.result)) c.loop-at.modified e f (and_right (c.held_at-old.result.frame == c.args.frame) false refl) ∙ i.bits_m;
+      bits_r = bit-step (λ t. t.referenced) c.loop-at.cells.items c.args.frame c.in-Some.place c.held_at-old.result
+          (Some (with_clear_bits c.held_at-old.result)) c.loop-at.referenced e f (and_right (c.held_at-old.result.frame == c.args.frame) false refl) ∙ i.bits_r;
+      bits_m = bit-step (λ t. t.modified) c.loop-at.cells.items c.args.frame c.in-Some.place c.held_at-old.result
+          (Some (with_clear_bits c.held_at-old.result)) c.loop-at.modified e f (and_right (c.held_at-old.result.frame == c.args.frame) false refl) ∙ i.bits_m;
     }))
 
 -- where the walk has ended all are clear
-clear : (c : In_default) → (k : ℕ) → frame_of (get_or c.loop-at.cells.items k None) ≡ Some c.args.frame → get_or c.loop-at.cells.items k None ≡ option_map with_clear_bits (get_or c.loop-at.cells.items k None)
+clear : (c : In_default) → (k : ℕ) → frame_of (get_or c.loop-at.cells.items k None) ≡ Some c.args.frame
+    → get_or c.loop-at.cells.items k None ≡ option_map with_clear_bits (get_or c.loop-at.cells.items k None)
 clear c k e = (subst (λ (a : Option ℕ). Clears c.loop-at.cells.items (chain_at c.args.by_frame.now.order c.args.frame) c.args.frame a) c.in_default.is c.loop-at.invariant.clears).past k e refl
 
 pub returns-clause-bits : goal.returns-clause-bits

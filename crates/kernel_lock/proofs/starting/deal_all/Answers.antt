@@ -12,7 +12,8 @@ loop-number-preserved g c =
       search rules,
       dealt.board ∙ was.2,
       dealt.dealer,
-      pushed_each (λ k it. it ≡ newcomer (record { lock = board.table_id; seats = board.key.seats; opening = board.key.opening.value }) k) c.loop-number.row.items c.push.new.self.items c.deal-seat.result c.loop-number.number
+      pushed_each (λ k it. it ≡ newcomer
+          (record { lock = board.table_id; seats = board.key.seats; opening = board.key.opening.value }) k) c.loop-number.row.items c.push.new.self.items c.deal-seat.result c.loop-number.number
           c.in-Ok.ensures.items (search rules) was.4 dealt.seat,
     )
 

@@ -32,5 +32,6 @@ pub returns-clause-others : goal.returns-clause-others
 returns-clause-others c = λ other ne.
     let n = ap (λ (l : List (Option PageName)). length l) c.self.view_is in
     let p = c.requires.within in
-    find-entered_other c.self.inside.names.items c.args.name c.args.frame other (omega arith) c.self.invariant.distinct (ap (λ (l : List (Option PageName)). find l c.args.name) c.self.view_is ∙ c.requires.absent) (ap (λ (l : List (Option PageName)). name_at l c.args.frame) c.self.view_is ∙ c.requires.empty) ne
+    find-entered_other c.self.inside.names.items c.args.name c.args.frame other (omega arith) c.self.invariant.distinct
+    (ap (λ (l : List (Option PageName)). find l c.args.name) c.self.view_is ∙ c.requires.absent) (ap (λ (l : List (Option PageName)). name_at l c.args.frame) c.self.view_is ∙ c.requires.empty) ne
     ∙ ap (λ (l : List (Option PageName)). find l other) c.self.view_is

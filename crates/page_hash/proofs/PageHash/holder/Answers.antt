@@ -15,7 +15,8 @@ loop-at-init c = rw c.first-at.ensures.first (hunt-start (chain_at c.self.inside
 
 -- the frame that the walk is at
 at : (c : In-Some) → Hunts (chain_at c.self.inside.chains.order c.slot_of_pair-slot.result) (λ k. is_name (name_at c.self.inside.names.items k) c.args.name) (Some c.in-Some.frame)
-at c = subst (λ (a : Option ℕ). Hunts (chain_at c.self.inside.chains.order c.slot_of_pair-slot.result) (λ k. is_name (name_at c.self.inside.names.items k) c.args.name) a) c.in-Some.is c.loop-at.invariant
+at c = subst (λ (a : Option ℕ). Hunts (chain_at c.self.inside.chains.order c.slot_of_pair-slot.result)
+    (λ k. is_name (name_at c.self.inside.names.items k) c.args.name) a) c.in-Some.is c.loop-at.invariant
 
 within : (c : In-Some) → c.in-Some.frame < length c.self.inside.names.items
 within c = frame-within c.self.inside.names.items c.self.inside.slots c.self.inside.chains c.self.invariant c.args.name c.in-Some.frame c.slot_of_pair-slot.result (at c).on
@@ -29,13 +30,15 @@ after-at-requires c = (c.slot_of_pair-slot.result, (at (goal.at.after-at-require
 pub loop-at-smaller : goal.loop-at-smaller
 loop-at-smaller c =
     let s = at (goal.at.loop-at-smaller c).In-Some in
-    rw (c.after-at.ensures.after c.slot_of_pair-slot.result s.on) (rw c.in-Some.is (walk-falls (chain_at c.self.inside.chains.order c.slot_of_pair-slot.result) c.in-Some.frame (c.first-at.ensures.apart.once c.slot_of_pair-slot.result) s.on))
+    rw (c.after-at.ensures.after c.slot_of_pair-slot.result s.on) (rw c.in-Some.is
+    (walk-falls (chain_at c.self.inside.chains.order c.slot_of_pair-slot.result) c.in-Some.frame (c.first-at.ensures.apart.once c.slot_of_pair-slot.result) s.on))
 
 pub loop-at-preserved : goal.loop-at-preserved
 loop-at-preserved c =
     let s = at (goal.at.loop-at-preserved c).In-Some in
     let e = get_or_default c.self.inside.names.items c.in-Some.frame None c.index.result.now (within (goal.at.loop-at-preserved c).In-Some) ∙ sym c.index.ensures in
-    rw (c.after-at.ensures.after c.slot_of_pair-slot.result s.on) (hunt-step (chain_at c.self.inside.chains.order c.slot_of_pair-slot.result) (λ k. is_name (name_at c.self.inside.names.items k) c.args.name) c.in-Some.frame (c.first-at.ensures.apart.once c.slot_of_pair-slot.result) s
+    rw (c.after-at.ensures.after c.slot_of_pair-slot.result s.on) (hunt-step (chain_at c.self.inside.chains.order c.slot_of_pair-slot.result)
+    (λ k. is_name (name_at c.self.inside.names.items k) c.args.name) c.in-Some.frame (c.first-at.ensures.apart.once c.slot_of_pair-slot.result) s
     (ap (λ (o : Option PageName). is_name o c.args.name) e ∙ sym c.is_name.ensures ∙ c.if-is_name.false))
 
 pub returns-then-is_name-clause-found : goal.returns-then-is_name-clause-found
@@ -45,6 +48,9 @@ returns-then-is_name-clause-found c =
 
 pub returns-clause-found : goal.returns-clause-found
 returns-clause-found c = subst (λ (l : List (Option PageName)). Finds l c.args.name None) c.self.view_is (λ k held.
-    let h = subst (λ (a : Option ℕ). Hunts (chain_at c.self.inside.chains.order c.slot_of_pair-slot.result) (λ k. is_name (name_at c.self.inside.names.items k) c.args.name) a) c.in_default.is c.loop-at.invariant in
-    let on : is_among k (chain_at c.self.inside.chains.order c.slot_of_pair-slot.result) ≡ true = rw c.slot_of_pair-slot.ensures.slot (on-slot c.self.inside.names.items c.self.inside.slots c.self.inside.chains c.self.invariant c.args.name k held) in
-    let z : true ≡ false = sym (ap (λ (o : Option PageName). is_name o c.args.name) held ∙ is_name-same c.args.name) ∙ hunt-end (chain_at c.self.inside.chains.order c.slot_of_pair-slot.result) (λ k. is_name (name_at c.self.inside.names.items k) c.args.name) h k (λ t. on) in cc)
+    let h = subst (λ (a : Option ℕ). Hunts (chain_at c.self.inside.chains.order c.slot_of_pair-slot.result)
+    (λ k. is_name (name_at c.self.inside.names.items k) c.args.name) a) c.in_default.is c.loop-at.invariant in
+    let on : is_among k (chain_at c.self.inside.chains.order c.slot_of_pair-slot.result) ≡ true = rw c.slot_of_pair-slot.ensures.slot
+    (on-slot c.self.inside.names.items c.self.inside.slots c.self.inside.chains c.self.invariant c.args.name k held) in
+    let z : true ≡ false = sym (ap (λ (o : Option PageName). is_name o c.args.name) held ∙ is_name-same c.args.name)
+    ∙ hunt-end (chain_at c.self.inside.chains.order c.slot_of_pair-slot.result) (λ k. is_name (name_at c.self.inside.names.items k) c.args.name) h k (λ t. on) in cc)

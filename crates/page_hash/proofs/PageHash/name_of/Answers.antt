@@ -11,4 +11,5 @@ returns-clause-leads_here c =
     let n = ap (λ (l : List (Option PageName)). length l) c.self.view_is in
     let lt = c.requires in
     subst (λ (l : List (Option PageName)). IfSome c.index.result.now (λ (name : PageName). find l name ≡ Some c.args.frame)) c.self.view_is
-    (find-read c.self.inside.names.items c.args.frame c.index.result.now c.self.invariant.distinct (get_or_default c.self.inside.names.items c.args.frame None c.index.result.now (omega arith) ∙ sym c.index.ensures))
+    (find-read c.self.inside.names.items c.args.frame c.index.result.now c.self.invariant.distinct
+    (get_or_default c.self.inside.names.items c.args.frame None c.index.result.now (omega arith) ∙ sym c.index.ensures))

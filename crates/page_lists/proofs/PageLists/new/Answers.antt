@@ -17,7 +17,8 @@ loop-frame-preserved c = record {
 whole : (c : After-loop-frame) → AreSoundLists c.loop-frame.free c.in_ok-cached.cached
 whole c =
     let all : c.loop-frame.frame ≡ c.args.frames = omega arith in
-    lists-new c.loop-frame.free c.in_ok-cached.cached c.args.frames (c.loop-frame.invariant.free ∙ ap (λ (n : ℕ). record { frames = c.args.frames; order = range_with_len 0 n }) all) c.loop-frame.invariant.cached
+    lists-new c.loop-frame.free c.in_ok-cached.cached c.args.frames (c.loop-frame.invariant.free ∙ ap
+    (λ (n : ℕ). record { frames = c.args.frames; order = range_with_len 0 n }) all) c.loop-frame.invariant.cached
 
 pub invariant_of-result : goal.invariant_of-result
 invariant_of-result c = whole (goal.at.invariant_of-result c).After-loop-frame

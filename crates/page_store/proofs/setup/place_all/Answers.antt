@@ -18,7 +18,8 @@ pub loop-number-preserved : goal.loop-number-preserved
 loop-number-preserved g c = record {
   all = ap (bays_with (pairs_seen g.D.Disk.seen c.pop.new.self.items)) c.put.ensures
       ∙ sym (placed-append (pairs_seen g.D.Disk.seen c.pop.new.self.items) (c.in-Some.number, g.D.Disk.seen c.in-Some.disk) c.loop-number.bays)
-      ∙ ap (λ (l : List (ℕ × DiskSeen)). bays_with l c.loop-number.bays) (sym (ap (pairs_seen g.D.Disk.seen) c.in-Some.ensures.items ∙ pairs-append g.D.Disk.seen c.pop.new.self.items (c.in-Some.number, c.in-Some.disk)))
+      ∙ ap (λ (l : List (ℕ × DiskSeen)). bays_with l c.loop-number.bays)
+      (sym (ap (pairs_seen g.D.Disk.seen) c.in-Some.ensures.items ∙ pairs-append g.D.Disk.seen c.pop.new.self.items (c.in-Some.number, c.in-Some.disk)))
       ∙ c.loop-number.invariant.all;
   nine = ap (λ (l : List BaySeen). length l) c.put.ensures ∙ length-set c.loop-number.bays c.in-Some.number (home (g.D.Disk.seen c.in-Some.disk)) ∙ c.loop-number.invariant.nine;
   below = (below-front c.pop.new.self.items (c.in-Some.number, c.in-Some.disk) (subst (λ l. AreBelow l) c.in-Some.ensures.items c.loop-number.invariant.below)).0;

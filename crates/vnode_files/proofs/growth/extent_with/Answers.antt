@@ -13,7 +13,8 @@ use Rattle.vnode_files.proofs.growth.extent_with.Goals.{After-is_some}
 -- what the file of this turn has
 here : (c : After-is_some) → find (has_block c.args.block) (extents_on c.args.disk (slice_index_or (seen_of c.args.vnodes.now) c.loop-vnode.vnode-index no_vnode ∷ [])) ≡ c.extent_on-extent.result
 here c =
-    ap (λ (v : VnodeSeen). find (has_block c.args.block) (extents_on c.args.disk (v ∷ []))) (seen-at c.args.vnodes.now c.loop-vnode.vnode-index c.vnode-item.result no_vnode c.loop-vnode-test.true c.vnode-item.is)
+    ap (λ (v : VnodeSeen). find (has_block c.args.block) (extents_on c.args.disk (v ∷ [])))
+    (seen-at c.args.vnodes.now c.loop-vnode.vnode-index c.vnode-item.result no_vnode c.loop-vnode-test.true c.vnode-item.is)
     ∙ sym c.extent_on-extent.ensures
 
 within : (c : After-is_some) → c.loop-vnode.vnode-index < length (seen_of c.args.vnodes.now)

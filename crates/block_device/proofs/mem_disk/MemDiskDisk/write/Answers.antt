@@ -11,14 +11,18 @@ returns-then-fails-clause-writes c = record {
   spoiled = spoils c.args.self.now.blocks.items c.args.block c.write_half.new.self;
   size = size_kept c.args.self.now.blocks.items c.args.block c.write_half.new.self;
   calls = calls_risen c.args.self.now.calls c.count.new.self c.is_next_listed-fails.result c.count.ensures;
-  cause = record { later = faults_later c.args.self.now.calls c.count.new.self c.is_next_listed-fails.result c.count.ensures c.if-fails.true; failed = faults_risen c.args.self.now.calls c.count.new.self c.is_next_listed-fails.result c.count.ensures c.if-fails.true };
+  cause = record {
+    later = faults_later c.args.self.now.calls c.count.new.self c.is_next_listed-fails.result c.count.ensures c.if-fails.true;
+    failed = faults_risen c.args.self.now.calls c.count.new.self c.is_next_listed-fails.result c.count.ensures c.if-fails.true;
+  };
 }
 
 pub returns-then-fails-clause-new : goal.returns-then-fails-clause-new
 returns-then-fails-clause-new c =
     written_as (look c.args.self.now) true c.is_next_listed-fails.result c.args.block c.args.from.now c.write_half.new.self.bytes _ c.count.new.self c.one_more-self.result
     (blocks_seen-set c.args.self.now.blocks.items c.args.block c.write_half.new.self c.write_half.new.self.bytes refl)
-    (c.write_half.ensures ∙ ap (λ (old : List ℕ). torn_block old c.args.from.now) (bytes_at c.args.self.now.blocks.items c.args.block c.index_mut.result.now c.requires.block c.index_mut.ensures.value))
+    (c.write_half.ensures ∙ ap (λ (old : List ℕ). torn_block old c.args.from.now)
+    (bytes_at c.args.self.now.blocks.items c.args.block c.index_mut.result.now c.requires.block c.index_mut.ensures.value))
     c.count.ensures c.if-fails.true c.one_more-self.ensures
 
 pub returns-clause-writes : goal.returns-clause-writes

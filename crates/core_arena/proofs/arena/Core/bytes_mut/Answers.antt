@@ -22,7 +22,8 @@ pub invariant_of-self-lent : goal.invariant_of-self-lent
 invariant_of-self-lent c = λ w.
     let h = home ((goal.at.invariant_of-self-lent c).In-Some) in
     let page = c.in-Some.page.now in
-    sound-set c.self.inside.region.base c.self.inside.region.frames c.self.inside.pages.items c.self.inside.shell c.args.i (Some (record { at = page.at; bytes = slice_after_write page.bytes w })) c.self.invariant
+    sound-set c.self.inside.region.base c.self.inside.region.frames c.self.inside.pages.items c.self.inside.shell c.args.i
+    (Some (record { at = page.at; bytes = slice_after_write page.bytes w })) c.self.invariant
     (h.at, sym (length_refill (length page.bytes) page.bytes w refl) ∙ h.size)
 
 pub returns : goal.returns
@@ -31,7 +32,8 @@ returns c =
       (
         refl,
         λ w.
-            ap (λ frames. record { origin = origin_of c.self.inside.region.base c.self.inside.region.frames; frames = frames }) (seen-overwritten c.self.inside.pages.items c.args.i c.in-Some.page.now w h.seen)
+            ap (λ frames. record { origin = origin_of c.self.inside.region.base c.self.inside.region.frames; frames = frames })
+            (seen-overwritten c.self.inside.pages.items c.args.i c.in-Some.page.now w h.seen)
             ∙ ap (λ (k : CoreSeen). record k { frames = slice_set k.frames c.args.i (option_map (λ (bytes : List ℕ). slice_after_write bytes w) (bytes_at k.frames c.args.i)) }) c.self.view_is,
       ),
       record {

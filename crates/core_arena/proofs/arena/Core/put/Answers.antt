@@ -10,18 +10,21 @@ same b b' n n' f k from is to = origin-parts b b' n n' (from ∙ is ∙ sym to)
 
 pub index_mut-requires : goal.index_mut-requires
 index_mut-requires c =
-    let s = same c.f.inside.region.base c.self.inside.region.base c.f.inside.region.frames c.self.inside.region.frames c.args.f c.args.self.now (ap (λ (f : FrameSeen). f.origin) c.f.view_is) c.requires (ap (λ (k : CoreSeen). k.origin) c.self.view_is) in
+    let s = same c.f.inside.region.base c.self.inside.region.base c.f.inside.region.frames c.self.inside.region.frames c.args.f c.args.self.now
+    (ap (λ (f : FrameSeen). f.origin) c.f.view_is) c.requires (ap (λ (k : CoreSeen). k.origin) c.self.view_is) in
     omega (arith, c.f.invariant.within, s.1, c.self.invariant.places, c.self.inside.pages.ok.0)
 
 pub invariant_of-self : goal.invariant_of-self
 invariant_of-self c =
-    let s = same c.f.inside.region.base c.self.inside.region.base c.f.inside.region.frames c.self.inside.region.frames c.args.f c.args.self.now (ap (λ (f : FrameSeen). f.origin) c.f.view_is) c.requires (ap (λ (k : CoreSeen). k.origin) c.self.view_is) in
+    let s = same c.f.inside.region.base c.self.inside.region.base c.f.inside.region.frames c.self.inside.region.frames c.args.f c.args.self.now
+    (ap (λ (f : FrameSeen). f.origin) c.f.view_is) c.requires (ap (λ (k : CoreSeen). k.origin) c.self.view_is) in
     sound-set c.self.inside.region.base c.self.inside.region.frames c.self.inside.pages.items c.self.inside.shell c.f.inside.number (Some c.f.inside.page) c.self.invariant
     (c.f.invariant.at ∙ ap (λ (p : Ptr). p +ₚ c.f.inside.number * 4096) s.0, c.f.invariant.size)
 
 pub returns-clause-within : goal.returns-clause-within
 returns-clause-within c =
-    let s = same c.f.inside.region.base c.self.inside.region.base c.f.inside.region.frames c.self.inside.region.frames c.args.f c.args.self.now (ap (λ (f : FrameSeen). f.origin) c.f.view_is) c.requires (ap (λ (k : CoreSeen). k.origin) c.self.view_is) in
+    let s = same c.f.inside.region.base c.self.inside.region.base c.f.inside.region.frames c.self.inside.region.frames c.args.f c.args.self.now
+    (ap (λ (f : FrameSeen). f.origin) c.f.view_is) c.requires (ap (λ (k : CoreSeen). k.origin) c.self.view_is) in
     let number = ap (λ (f : FrameSeen). f.number) c.f.view_is in
     let places = sym (length-map c.self.inside.pages.items (option_map (λ (page : Stretch). page.bytes))) ∙ ap (λ (k : CoreSeen). length k.frames) c.self.view_is in
     omega (arith, c.f.invariant.within, s.1, c.self.invariant.places, number, places)

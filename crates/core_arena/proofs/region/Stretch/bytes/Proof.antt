@@ -26,7 +26,8 @@ bytes_spec 𝓤 𝓛 𝓜 𝓡 wired =
     (λ κs. (shr_vals, (rawptr_vals, tt))) (λ κs. (shr_Tells (named 0) κs.0 Stretch, (rawptr_Tells, tt))) (λ κs qs bounds a _ are.
     let s = a.0.now in let p = a.1.0 in let b = block_of p in let o = count_of p in
     let y : Ptr → W.Ghost = λ p. ((κs, qs, bounds, (a.0, (p, tt)), (shr_vals a.0, (rawptr_vals p, tt))), tt) in
-    qed 𝓛 (((‵ (flft κs.0 qs.0) ⊛ ‵ ftrue) ⊛ ‵ ((ShrRef (named 0) κs.0 Stretch).own_val a.0 (shr_vals a.0)) ⊛ ‵ (RawPtr.own_val p (rawptr_vals p)) ⊛ ‵ ftrue) ∷ raw (fact 𝓤 ((p ≡ s.at) × InBlock p × (length s.bytes ≡ 4096))) ∷ []) ∵
+    qed 𝓛 (((‵ (flft κs.0 qs.0) ⊛ ‵ ftrue) ⊛ ‵ ((ShrRef (named 0) κs.0 Stretch).own_val a.0 (shr_vals a.0)) ⊛ ‵
+    (RawPtr.own_val p (rawptr_vals p)) ⊛ ‵ ftrue) ∷ raw (fact 𝓤 ((p ≡ s.at) × InBlock p × (length s.bytes ≡ 4096))) ∷ []) ∵
     move ! (1 ∷ []) $ heard ! _ (λ asked. let at : p ≡ block_ptr b o = at_block p asked.1 in
     regoal ! (λ q. prop (WpFn 𝓤 𝓛.H 𝓣.C 𝓣.Λ code.function (vptr a.0.ref_ptr.0 a.0.ref_ptr.1 ∷ rawptr_vals q) (W.post (y q)))) at refl $
     split3 ! $ move ! (2 ∷ []) $ drop ! $ move ! (1 ∷ []) $ fsplit ! $ drop ! $ unhide ! $ fsplit ! $ drop ! $

@@ -55,7 +55,8 @@ bytes_mut_spec 𝓤 𝓛 𝓜 𝓡 wired =
     let κ = κs.0 in let q = qs.0 in let s = a.0.now in let p = a.1.0 in let b = block_of p in let o = count_of p in let xs = s.bytes in
     let rb = a.0.ref_ptr.0 in let ro = a.0.ref_ptr.1 in let γ = a.0.ghost_name in
     let y : Ptr → W.Ghost = λ p. ((κs, qs, bounds, (a.0, (p, tt)), (mut_vals a.0, (rawptr_vals p, tt))), tt) in
-    qed 𝓛 (((‵ (flft κ q) ⊛ ‵ ftrue) ⊛ ‵ ((MutRef (named 0) κ S).own_val a.0 (mut_vals a.0)) ⊛ ‵ (RawPtr.own_val p (rawptr_vals p)) ⊛ ‵ ftrue) ∷ raw (fact 𝓤 ((p ≡ s.at) × InBlock p × (length xs ≡ 4096))) ∷ []) ∵
+    qed 𝓛 (((‵ (flft κ q) ⊛ ‵ ftrue) ⊛ ‵ ((MutRef (named 0) κ S).own_val a.0 (mut_vals a.0)) ⊛ ‵ (RawPtr.own_val p (rawptr_vals p)) ⊛ ‵ ftrue) ∷ raw
+    (fact 𝓤 ((p ≡ s.at) × InBlock p × (length xs ≡ 4096))) ∷ []) ∵
     move ! (1 ∷ []) $ heard ! _ (λ asked. let at : p ≡ block_ptr b o = at_block p asked.1 in let here : s.at ≡ block_ptr b o = sym asked.0 ∙ at in
     regoal ! (λ q. prop (WpFn 𝓤 𝓛.H 𝓣.C 𝓣.Λ code.function (vptr rb ro ∷ rawptr_vals q) (W.post (y q)))) at refl $
     split3 ! $ split ! $ move ! (2 ∷ 0 ∷ []) $ fsplit3 ! $ keep ! (1 ∷ 2 ∷ 3 ∷ []) $

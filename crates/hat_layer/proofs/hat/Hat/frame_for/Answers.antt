@@ -16,7 +16,8 @@ returns-in_err-place-clause-frame c =
 found : (c : After-lets_access) → translation_at c.args.self.now.places c.args.space c.args.page ≡ Some c.in_ok-place.old
 found c =
     let h = c.in_ok-place.ensures.found in
-    ap (λ (p : HatSeen). translation_at p.places c.args.space c.args.page) (sym c.self.view_is) ∙ at-held c.self.inside.table.places c.args.space c.args.page c.in_ok-place.place c.in_ok-place.old h.0 h.1 h.2
+    ap (λ (p : HatSeen). translation_at p.places c.args.space c.args.page) (sym c.self.view_is)
+    ∙ at-held c.self.inside.table.places c.args.space c.args.page c.in_ok-place.place c.in_ok-place.old h.0 h.1 h.2
 
 -- the frame, by whether it lets the access
 frame : (c : After-lets_access) (b : Bool) → c.lets_access.result ≡ b → frame_for c.args.self.now.places c.args.space c.args.page c.args.write ≡ cond b (Some c.in_ok-place.old.frame) None
@@ -33,11 +34,13 @@ returns-clause-places c =
     let v = ap (λ (p : HatSeen). p.places) c.self.view_is in
     let h = c.in_ok-place.ensures.found in
     c.change.ensures.places ∙ ap (λ (t : Translation). set c.self.inside.table.places c.in_ok-place.place (Some t)) c.after_access.ensures
-    ∙ sym (ap (λ (p : List (Option Translation)). change_at c.args.space c.args.page (after_access c.args.write) p) (sym v) ∙ changes-held (option_map (after_access c.args.write)) c.self.inside.table.places c.args.space c.args.page c.in_ok-place.place c.in_ok-place.old h.0 h.1 h.2)
+    ∙ sym (ap (λ (p : List (Option Translation)). change_at c.args.space c.args.page (after_access c.args.write) p) (sym v)
+    ∙ changes-held (option_map (after_access c.args.write)) c.self.inside.table.places c.args.space c.args.page c.in_ok-place.place c.in_ok-place.old h.0 h.1 h.2)
 
 pub returns-clause-map : goal.returns-clause-map
 returns-clause-map c = λ s p. ap (λ (l : List (Option Translation)). translation_at l s p) (returns-clause-places c)
-    ∙ at-change_at (after_access c.args.write) c.args.self.now.places c.args.space c.args.page s p (λ t. refl) (subst IsSingleValued (ap (λ (p : HatSeen). p.places) c.self.view_is) c.in_ok-place.ensures.distinct)
+    ∙ at-change_at (after_access c.args.write) c.args.self.now.places c.args.space c.args.page s p (λ t. refl)
+    (subst IsSingleValued (ap (λ (p : HatSeen). p.places) c.self.view_is) c.in_ok-place.ensures.distinct)
 
 pub returns-clause-noted : goal.returns-clause-noted
 returns-clause-noted c =

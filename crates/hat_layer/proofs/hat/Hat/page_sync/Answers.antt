@@ -5,7 +5,8 @@ use Rattle.hat_layer.proofs.MapLaws.{at-change_frame, bit-tells}
 use Rattle.hat_layer.proofs.hat.Hat.page_sync.Goals as goal
 
 pub returns-clause-map : goal.returns-clause-map
-returns-clause-map c = λ s p. ap (λ (l : List (Option Translation)). translation_at l s p) (c.clear_bits.ensures.places ∙ ap (λ (l : List (Option Translation)). change_frame c.args.frame with_clear_bits l) (ap (λ (p : HatSeen). p.places) c.self.view_is))
+returns-clause-map c = λ s p. ap (λ (l : List (Option Translation)). translation_at l s p)
+    (c.clear_bits.ensures.places ∙ ap (λ (l : List (Option Translation)). change_frame c.args.frame with_clear_bits l) (ap (λ (p : HatSeen). p.places) c.self.view_is))
     ∙ at-change_frame with_clear_bits c.args.self.now.places c.args.frame s p (λ t. refl) (subst IsSingleValued (ap (λ (p : HatSeen). p.places) c.self.view_is) c.clear_bits.ensures.was)
 
 pub returns-clause-referenced : goal.returns-clause-referenced

@@ -5,7 +5,8 @@ use Rattle.hat_layer.proofs.MapLaws.{at-drop_frame, bit-tells}
 use Rattle.hat_layer.proofs.hat.Hat.page_unload.Goals as goal
 
 pub returns-clause-map : goal.returns-clause-map
-returns-clause-map c = λ s p. ap (λ (l : List (Option Translation)). translation_at l s p) (c.unload_all.ensures.places ∙ ap (λ (l : List (Option Translation)). drop_frame c.args.frame l) (ap (λ (p : HatSeen). p.places) c.self.view_is))
+returns-clause-map c = λ s p. ap (λ (l : List (Option Translation)). translation_at l s p)
+    (c.unload_all.ensures.places ∙ ap (λ (l : List (Option Translation)). drop_frame c.args.frame l) (ap (λ (p : HatSeen). p.places) c.self.view_is))
     ∙ at-drop_frame c.args.self.now.places c.args.frame s p (subst IsSingleValued (ap (λ (p : HatSeen). p.places) c.self.view_is) c.unload_all.ensures.was)
 
 pub returns-clause-referenced : goal.returns-clause-referenced

@@ -9,24 +9,30 @@ use Rattle.hat_layer.proofs.hat.Hat.unload.Goals as goal
 pub returns-in_err-place-clause-told : goal.returns-in_err-place-clause-told
 returns-in_err-place-clause-told c =
     let v = ap (λ (p : HatSeen). p.places) c.self.view_is in
-    c.from_residual.ensures ∙ sym (ap (λ (o : Option Translation). option_map told_of o) (ap (λ (p : List (Option Translation)). translation_at p c.args.space c.args.page) (sym v) ∙ at-none c.self.inside.table.places c.args.space c.args.page c.in_err-place.ensures.found))
+    c.from_residual.ensures ∙ sym
+    (ap (λ (o : Option Translation). option_map told_of o) (ap (λ (p : List (Option Translation)). translation_at p c.args.space c.args.page) (sym v)
+    ∙ at-none c.self.inside.table.places c.args.space c.args.page c.in_err-place.ensures.found))
 
 pub returns-in_err-place-clause-places : goal.returns-in_err-place-clause-places
 returns-in_err-place-clause-places c =
     let v = ap (λ (p : HatSeen). p.places) c.self.view_is in
-    sym (ap (λ (p : List (Option Translation)). drop_at c.args.space c.args.page p) (sym v) ∙ changes-none (λ o. None) c.self.inside.table.places c.args.space c.args.page c.in_err-place.ensures.found ∙ v)
+    sym (ap (λ (p : List (Option Translation)). drop_at c.args.space c.args.page p) (sym v)
+    ∙ changes-none (λ o. None) c.self.inside.table.places c.args.space c.args.page c.in_err-place.ensures.found ∙ v)
 
 pub returns-clause-told : goal.returns-clause-told
 returns-clause-told c =
     let v = ap (λ (p : HatSeen). p.places) c.self.view_is in
     let h = c.in_ok-place.ensures.found in
-    ap (λ (d : _). Some d) c.told_of.ensures ∙ sym (ap (λ (o : Option Translation). option_map told_of o) (ap (λ (p : List (Option Translation)). translation_at p c.args.space c.args.page) (sym v) ∙ at-held c.self.inside.table.places c.args.space c.args.page c.in_ok-place.place c.in_ok-place.old h.0 h.1 h.2))
+    ap (λ (d : _). Some d) c.told_of.ensures ∙ sym
+    (ap (λ (o : Option Translation). option_map told_of o) (ap (λ (p : List (Option Translation)). translation_at p c.args.space c.args.page) (sym v)
+    ∙ at-held c.self.inside.table.places c.args.space c.args.page c.in_ok-place.place c.in_ok-place.old h.0 h.1 h.2))
 
 pub returns-clause-places : goal.returns-clause-places
 returns-clause-places c =
     let v = ap (λ (p : HatSeen). p.places) c.self.view_is in
     let h = c.in_ok-place.ensures.found in
-    c.release.ensures.places ∙ sym (ap (λ (p : List (Option Translation)). drop_at c.args.space c.args.page p) (sym v) ∙ changes-held (λ o. None) c.self.inside.table.places c.args.space c.args.page c.in_ok-place.place c.in_ok-place.old h.0 h.1 h.2)
+    c.release.ensures.places ∙ sym (ap (λ (p : List (Option Translation)). drop_at c.args.space c.args.page p) (sym v)
+    ∙ changes-held (λ o. None) c.self.inside.table.places c.args.space c.args.page c.in_ok-place.place c.in_ok-place.old h.0 h.1 h.2)
 
 pub returns-in_err-place-clause-map : goal.returns-in_err-place-clause-map
 returns-in_err-place-clause-map c = λ s p. ap (λ (l : List (Option Translation)). translation_at l s p) (returns-in_err-place-clause-places c)

@@ -9,5 +9,6 @@ close_gathered-requires-clause-all g c = subst (HasAll c.args.self.seats) (sym (
 pub returns-clause-empty : goal.returns-clause-empty
 returns-clause-empty g c none =
     let G = g.S.Guarded in
-    let closed = subst (λ ps. IsClosed G.seat_of G.history G.fits c.args.self.opening c.args.self.seats ps c.close_gathered.result) (ap (λ z. z.parts) c.gather_all-from.ensures) c.close_gathered.ensures.closed in
+    let closed = subst (λ ps. IsClosed G.seat_of G.history G.fits c.args.self.opening c.args.self.seats ps c.close_gathered.result)
+    (ap (λ z. z.parts) c.gather_all-from.ensures) c.close_gathered.ensures.closed in
     closed_empty G.seat_of G.history G.fits c.args.self.opening c.args.self.seats (map part_of c.args.seats.items) c.close_gathered.result closed c.requires.all (seats_none c.args.seats.items none)

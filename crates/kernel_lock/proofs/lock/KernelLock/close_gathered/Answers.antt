@@ -16,7 +16,8 @@ unreachable-requires g c =
     let at = ap (λ m. m.0) c.into_place.ensures.parts in
     let all = subst (λ n. HasAll n c.args.from.parts) (sym (c.self.invariant.2 ∙ ap (λ v. v.seats) c.self.view_is)) c.requires.all in
     let ends = closes G.seat_of G.history G.fits key.opening.value key.seats place.id c.args.from.parts _ _
-    (subst (λ v. Final (Seen (Lock G.seat_of G.history G.fits key.opening.value key.seats) place.id v) (slots_items c.close_with-closed.result.words) (slots_items c.close_with-closed.result.slots)) at c.close_with-closed.ensures.values.2)
+    (subst (λ v. Final (Seen (Lock G.seat_of G.history G.fits key.opening.value key.seats) place.id v) (slots_items c.close_with-closed.result.words)
+    (slots_items c.close_with-closed.result.slots)) at c.close_with-closed.ensures.values.2)
     all in
     c.in_default.not-Some ends.0 (some-injective _ _ (sym c.take-slot.ensures.value ∙ ends.1))
 
@@ -29,7 +30,8 @@ returns-clause-closed g c =
     let many : key.seats ≡ c.args.self.seats = c.self.invariant.2 ∙ ap (λ v. v.seats) c.self.view_is in
     let all = subst (λ n. HasAll n c.args.from.parts) (sym many) c.requires.all in
     let ends = closes G.seat_of G.history G.fits key.opening.value key.seats place.id c.args.from.parts _ _
-    (subst (λ v. Final (Seen (Lock G.seat_of G.history G.fits key.opening.value key.seats) place.id v) (slots_items c.close_with-closed.result.words) (slots_items c.close_with-closed.result.slots)) at c.close_with-closed.ensures.values.2)
+    (subst (λ v. Final (Seen (Lock G.seat_of G.history G.fits key.opening.value key.seats) place.id v) (slots_items c.close_with-closed.result.words)
+    (slots_items c.close_with-closed.result.slots)) at c.close_with-closed.ensures.values.2)
     all in
     let found : Some c.in-Some.state ≡ Some ends.0 = sym c.in-Some.is ∙ some-injective _ _ (sym c.take-slot.ensures.value ∙ ends.1) in
     let same : c.in-Some.state ≡ ends.0 = cc found in

@@ -25,13 +25,15 @@ load-requires g c =
 pub returns-clause-met : goal.returns-clause-met
 returns-clause-met g c =
     let saw = c.load.ensures.2 in
-    let both = meets c.to.inside.place.me.0 c.split_seat-courier.result.me.0 c.join_seat.new.seat.me.0 c.load.new.seat.me.0 _ saw.0 (ap (λ m. m.0) c.join_seat.ensures.2) (ap (λ m. m.0.seen) c.split_seat-courier.ensures.4) saw.3 (ap (λ m. m.0.seen) saw.4) in
+    let both = meets c.to.inside.place.me.0 c.split_seat-courier.result.me.0 c.join_seat.new.seat.me.0 c.load.new.seat.me.0 _ saw.0
+    (ap (λ m. m.0) c.join_seat.ensures.2) (ap (λ m. m.0.seen) c.split_seat-courier.ensures.4) saw.3 (ap (λ m. m.0.seen) saw.4) in
     subst (λ z. IsPrefix z c.load.new.seat.me.0.seen) (ap (λ v. v.seen) c.from.view_is) both.1
 
 pub returns-clause-kept : goal.returns-clause-kept
 returns-clause-kept g c =
     let saw = c.load.ensures.2 in
-    let both = meets c.to.inside.place.me.0 c.split_seat-courier.result.me.0 c.join_seat.new.seat.me.0 c.load.new.seat.me.0 _ saw.0 (ap (λ m. m.0) c.join_seat.ensures.2) (ap (λ m. m.0.seen) c.split_seat-courier.ensures.4) saw.3 (ap (λ m. m.0.seen) saw.4) in
+    let both = meets c.to.inside.place.me.0 c.split_seat-courier.result.me.0 c.join_seat.new.seat.me.0 c.load.new.seat.me.0 _ saw.0
+    (ap (λ m. m.0) c.join_seat.ensures.2) (ap (λ m. m.0.seen) c.split_seat-courier.ensures.4) saw.3 (ap (λ m. m.0.seen) saw.4) in
     subst (λ z. IsPrefix z c.load.new.seat.me.0.seen) (ap (λ v. v.seen) c.to.view_is) both.0
 
 pub returns-clause-own : goal.returns-clause-own

@@ -7,4 +7,5 @@ invariant_of-result c =
     let next : c.in_ok-vec.field-0.items ≡ replicate c.args.frames None = search rules in
     let previous : c.in_ok-vec-2.field-0.items ≡ replicate c.args.frames None = search rules in
     let listed : c.in_ok-vec-3.field-0.items ≡ replicate c.args.frames false = search rules in
-    (ring-holds None None c.in_ok-vec.field-0.items c.in_ok-vec-2.field-0.items c.in_ok-vec-3.field-0.items (length c.in_ok-vec.field-0.items) [] (ring-none c.in_ok-vec.field-0.items c.in_ok-vec-2.field-0.items c.in_ok-vec-3.field-0.items c.args.frames next previous listed) refl).ring
+    (ring-holds None None c.in_ok-vec.field-0.items c.in_ok-vec-2.field-0.items c.in_ok-vec-3.field-0.items (length c.in_ok-vec.field-0.items) []
+    (ring-none c.in_ok-vec.field-0.items c.in_ok-vec-2.field-0.items c.in_ok-vec-3.field-0.items c.args.frames next previous listed) refl).ring

@@ -26,5 +26,6 @@ loop-number-preserved g c =
         count = rw (w.room-is, w.push_reserved.ensures.len) (ap (λ (k : ℕ). k + 1) c.loop-number.invariant.count);
         space = rw (w.room-is, w.push_reserved.ensures.capacity) c.loop-number.invariant.space;
       }
-      | in_default w ↦ absurd (let z : home (disk_in (bay_at c.args.bays.now (slice_index c.args.self i))) ≡ missing = sym was ∙ ap (bay_at c.loop-number.bays) (sym same) ∙ w.in_default.ensures.disk in cc)
+      | in_default w ↦ absurd (let z : home (disk_in (bay_at c.args.bays.now (slice_index c.args.self i))) ≡ missing = sym was ∙ ap (bay_at c.loop-number.bays)
+          (sym same) ∙ w.in_default.ensures.disk in cc)
     ]

@@ -30,7 +30,8 @@ is g c =
     let found : find c.args.self.now.names c.args.name ≡ Some c.in-Some.frame = ap (λ (x : StoreSeen). find x.names c.args.name) (sym c.self.view_is) ∙ sym c.in-Some.ensures.frame in
     record {
       found = found;
-      new = made-given c.self.inside.core c.self.inside.names c.remove.new.self c.self.inside.lists c.give_up.new.lists c.self.inside.locks c.forsake.new.locks c.give_up.new.locks c.self.inside.clock c.self.inside.bays c.self.inside.order c.in-Some.frame
+      new = made-given c.self.inside.core c.self.inside.names c.remove.new.self c.self.inside.lists c.give_up.new.lists c.self.inside.locks c.forsake.new.locks
+          c.give_up.new.locks c.self.inside.clock c.self.inside.bays c.self.inside.order c.in-Some.frame
           c.in-Some.ensures.new c.forsake.ensures c.give_up.ensures.lists c.give_up.ensures.locks
           ∙ ap (λ (x : StoreSeen). with_page_given_up (without_snapshot x c.in-Some.frame) c.in-Some.frame (bytes_at x.frames c.in-Some.frame)) c.self.view_is;
       laws = aborts-frame c.args.self.now c.args.name c.in-Some.frame (subst IsSoundStore c.self.view_is c.self.invariant.sound) found;

@@ -30,7 +30,8 @@ take_out-frame-requires-clause-others g c = λ at e.
     let s : StoreSeen = store_of c.self.inside.core c.self.inside.names c.self.inside.lists c.self.inside.locks c.self.inside.clock c.self.inside.bays c.self.inside.order in
     let found : find c.args.self.now.names c.args.name ≡ Some c.in-Some.own = ap (λ (x : StoreSeen). find x.names c.args.name) (sym c.self.view_is) ∙ sym c.in-Some.ensures.first in
     let same : c.requires.can.0 ≡ c.in-Some.own = same-frame c.args.self.now c.args.name c.in-Some.own c.requires.can.0 c.requires.can.1 found in
-    let unlisted : ¬ IsListedFrame s c.in-Some.own = subst (λ (x : StoreSeen). ¬ IsListedFrame x c.in-Some.own) (sym c.self.view_is) (subst (λ (k : ℕ). ¬ IsListedFrame c.args.self.now k) same c.requires.can.2) in
+    let unlisted : ¬ IsListedFrame s c.in-Some.own = subst (λ (x : StoreSeen). ¬ IsListedFrame x c.in-Some.own) (sym c.self.view_is)
+    (subst (λ (k : ℕ). ¬ IsListedFrame c.args.self.now k) same c.requires.can.2) in
     let t = taken-others s c.in-Some.own at c.self.invariant.sound unlisted e in
     let long : length c.forsake.new.locks ≡ length c.self.inside.locks = ap (λ (l : List Row). length l) c.forsake.ensures ∙ (forsakes s c.in-Some.own c.self.invariant.sound).length in
     (t.0, t.1, t.2, subst (λ (n : ℕ). at < n) (sym long) t.3)
@@ -66,31 +67,39 @@ record Begun (g : Over) (c : After-take g) : Type 0 where
   bytes : bytes_at c.args.self.now.frames c.in-Some.own ≡ Some c.take_out-frame.result.bytes
   new : store_of c.take_out-frame.new.core c.take_out-frame.new.names c.take_out-frame.new.lists c.take_out-frame.new.locks c.self.inside.clock c.take.new.self c.self.inside.order
       ≡ with_push_begun (without_snapshot c.args.self.now c.in-Some.own) c.in-Some.own (next_frame c.args.self.now) c.args.seat c.args.disk
-  laws : BeginsTransfer c.args.self.now (with_push_begun (without_snapshot c.args.self.now c.in-Some.own) c.in-Some.own (next_frame c.args.self.now) c.args.seat c.args.disk) (Push c.args.name) c.args.name (flight g c)
+  laws : BeginsTransfer c.args.self.now (with_push_begun (without_snapshot c.args.self.now c.in-Some.own) c.in-Some.own
+      (next_frame c.args.self.now) c.args.seat c.args.disk) (Push c.args.name) c.args.name (flight g c)
 
 is : (g : Over) (c : After-take g) → Begun g c
 is g c =
     let found : find c.args.self.now.names c.args.name ≡ Some c.in-Some.own = ap (λ (x : StoreSeen). find x.names c.args.name) (sym c.self.view_is) ∙ sym c.in-Some.ensures.first in
     let same : c.requires.can.0 ≡ c.in-Some.own = same-frame c.args.self.now c.args.name c.in-Some.own c.requires.can.0 c.requires.can.1 found in
-    let frame : option_or (next_frame c.args.self.now) (Some c.in-Some.own) ≡ Some c.take_out-frame.result.number = ap (λ (x : StoreSeen). option_or (next_frame x) (Some c.in-Some.own)) (sym c.self.view_is) ∙ c.take_out-frame.ensures.number in
-    let bytes : bytes_at c.args.self.now.frames c.in-Some.own ≡ Some c.take_out-frame.result.bytes = ap (λ (x : StoreSeen). bytes_at x.frames c.in-Some.own) (sym c.self.view_is) ∙ c.take_out-frame.ensures.bytes in
+    let frame : option_or (next_frame c.args.self.now) (Some c.in-Some.own) ≡ Some c.take_out-frame.result.number = ap
+    (λ (x : StoreSeen). option_or (next_frame x) (Some c.in-Some.own)) (sym c.self.view_is) ∙ c.take_out-frame.ensures.number in
+    let bytes : bytes_at c.args.self.now.frames c.in-Some.own ≡ Some c.take_out-frame.result.bytes = ap (λ (x : StoreSeen). bytes_at x.frames c.in-Some.own)
+    (sym c.self.view_is) ∙ c.take_out-frame.ensures.bytes in
     record {
       page = is-in c.args.self.now c.args.name c.in-Some.own c.requires.can.0 c.requires.can.1 found;
       frame = frame;
       bytes = bytes;
-      new = pushed-parts c.self.inside.core c.take_out-frame.new.core c.self.inside.names c.take_out-frame.new.names c.self.inside.lists c.take_out-frame.new.lists c.self.inside.locks c.forsake.new.locks c.take_out-frame.new.locks c.self.inside.clock
-          c.self.inside.bays c.take.new.self c.self.inside.order c.in-Some.own c.take_out-frame.result.number c.args.seat c.args.disk c.take_out-frame.ensures.number c.forsake.ensures c.take_out-frame.ensures.core c.take_out-frame.ensures.names
+      new = pushed-parts c.self.inside.core c.take_out-frame.new.core c.self.inside.names c.take_out-frame.new.names c.self.inside.lists
+          c.take_out-frame.new.lists c.self.inside.locks c.forsake.new.locks c.take_out-frame.new.locks c.self.inside.clock
+          c.self.inside.bays c.take.new.self c.self.inside.order c.in-Some.own c.take_out-frame.result.number c.args.seat c.args.disk
+          c.take_out-frame.ensures.number c.forsake.ensures c.take_out-frame.ensures.core c.take_out-frame.ensures.names
           c.take_out-frame.ensures.lists c.take_out-frame.ensures.locks c.take.ensures.new
           ∙ ap (λ (x : StoreSeen). with_push_begun (without_snapshot x c.in-Some.own) c.in-Some.own (next_frame x) c.args.seat c.args.disk) c.self.view_is;
-      laws = begins-push c.args.self.now (flight g c) c.in-Some.own (subst IsSoundStore c.self.view_is c.self.invariant.sound) found (subst (λ (k : ℕ). ¬ IsListedFrame c.args.self.now k) same c.requires.can.2)
-          (ap (λ (x : StoreSeen). bay_at x.bays c.args.disk) (sym c.self.view_is) ∙ c.take.ensures.disk) refl (c.take_out-frame.ensures.origin ∙ ap (λ (x : StoreSeen). x.origin) c.self.view_is) bytes (next_frame c.args.self.now) refl frame;
+      laws = begins-push c.args.self.now (flight g c) c.in-Some.own (subst IsSoundStore c.self.view_is c.self.invariant.sound) found
+          (subst (λ (k : ℕ). ¬ IsListedFrame c.args.self.now k) same c.requires.can.2)
+          (ap (λ (x : StoreSeen). bay_at x.bays c.args.disk) (sym c.self.view_is) ∙ c.take.ensures.disk) refl
+          (c.take_out-frame.ensures.origin ∙ ap (λ (x : StoreSeen). x.origin) c.self.view_is) bytes (next_frame c.args.self.now) refl frame;
     }
 
 pub invariant_of-self : goal.invariant_of-self
 invariant_of-self g c =
     let i = is g (goal.at.invariant_of-self g c).After-take in
     let count : length c.args.self.now.frames ≡ c.self.inside.frames = sym (ap (λ (x : StoreSeen). length x.frames) c.self.view_is) ∙ c.self.invariant.counted in
-    let taken : c.take_out-frame.result.number < length c.args.self.now.frames = out-within c.args.self.now c.in-Some.own c.take_out-frame.result.number (next_frame c.args.self.now) (subst IsSoundStore c.self.view_is c.self.invariant.sound) refl i.frame (bytes-within c.args.self.now.frames c.in-Some.own i.page.bytes i.page.there) in
+    let taken : c.take_out-frame.result.number < length c.args.self.now.frames = out-within c.args.self.now c.in-Some.own c.take_out-frame.result.number
+    (next_frame c.args.self.now) (subst IsSoundStore c.self.view_is c.self.invariant.sound) refl i.frame (bytes-within c.args.self.now.frames c.in-Some.own i.page.bytes i.page.there) in
     let n = c.number-self-inside.ensures in
     record {
       sound = subst IsSoundStore (sym i.new) i.laws.sound;
@@ -110,7 +119,8 @@ returns-clause-bytes g c = let i = is g (goal.at.returns-clause-bytes g c).After
 pub returns-clause-new : goal.returns-clause-new
 returns-clause-new g c =
     let i = is g (goal.at.returns-clause-new g c).After-take in
-    i.new ∙ sym (ap (λ (o : Option ℕ). at_frame o c.args.self.now (λ own. with_push_begun (without_snapshot c.args.self.now own) own (next_frame c.args.self.now) c.args.seat c.args.disk)) i.page.found)
+    i.new ∙ sym (ap (λ (o : Option ℕ). at_frame o c.args.self.now (λ own. with_push_begun (without_snapshot c.args.self.now own) own
+    (next_frame c.args.self.now) c.args.seat c.args.disk)) i.page.found)
 
 pub returns-clause-laws : goal.returns-clause-laws
 returns-clause-laws g c =

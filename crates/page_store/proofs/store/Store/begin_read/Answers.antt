@@ -39,20 +39,25 @@ flight g c = record {
 record Begun (g : Over) (c : After-take g) : Type 0 where
   next : next_frame c.args.self.now ≡ Some c.take-frame.result.number
   bytes : bytes_at c.args.self.now.frames c.take-frame.result.number ≡ Some c.take-frame.result.bytes
-  new : store_of c.take-frame.new.self c.rename.new.names c.take_frame-at.new.lists c.reserve.new.locks c.self.inside.clock c.take.new.self c.self.inside.order ≡ with_read_begun c.args.self.now c.take-frame.result.number c.args.name c.args.seat c.args.disk
+  new : store_of c.take-frame.new.self c.rename.new.names c.take_frame-at.new.lists c.reserve.new.locks c.self.inside.clock c.take.new.self
+      c.self.inside.order ≡ with_read_begun c.args.self.now c.take-frame.result.number c.args.name c.args.seat c.args.disk
   laws : BeginsTransfer c.args.self.now (with_read_begun c.args.self.now c.take-frame.result.number c.args.name c.args.seat c.args.disk) (Read c.args.name) c.args.name (flight g c)
 
 is : (g : Over) (c : After-take g) → Begun g c
 is g c =
     let n : c.take-frame.result.number ≡ c.take_frame-at.result = c.take-frame.ensures.number in
-    let next : next_frame c.args.self.now ≡ Some c.take-frame.result.number = ap (λ (x : StoreSeen). next_frame x) (sym c.self.view_is) ∙ c.take_frame-at.ensures.frame ∙ ap (λ (k : ℕ). Some k) (sym n) in
-    let bytes : bytes_at c.args.self.now.frames c.take-frame.result.number ≡ Some c.take-frame.result.bytes = ap (λ (x : StoreSeen). bytes_at x.frames c.take-frame.result.number) (sym c.self.view_is) ∙ rw n c.take-frame.ensures.bytes in
+    let next : next_frame c.args.self.now ≡ Some c.take-frame.result.number = ap (λ (x : StoreSeen). next_frame x) (sym c.self.view_is)
+    ∙ c.take_frame-at.ensures.frame ∙ ap (λ (k : ℕ). Some k) (sym n) in
+    let bytes : bytes_at c.args.self.now.frames c.take-frame.result.number ≡ Some c.take-frame.result.bytes = ap
+    (λ (x : StoreSeen). bytes_at x.frames c.take-frame.result.number) (sym c.self.view_is) ∙ rw n c.take-frame.ensures.bytes in
     let sound : IsSoundStore c.args.self.now = subst IsSoundStore c.self.view_is c.self.invariant.sound in
     record {
       next = next;
       bytes = bytes;
-      new = rw (n, c.take-frame.ensures.new, c.take_frame-at.ensures.rest, c.rename.ensures.new, c.reserve.ensures, c.take.ensures.new) (ap (λ (x : StoreSeen). with_read_begun x c.take_frame-at.result c.args.name c.args.seat c.args.disk) c.self.view_is);
-      laws = begins-read c.args.self.now (flight g c) sound next (absent-is c.args.self.now c.args.name sound c.requires.can.1) (ap (λ (x : StoreSeen). bay_at x.bays c.args.disk) (sym c.self.view_is) ∙ c.take.ensures.disk) refl
+      new = rw (n, c.take-frame.ensures.new, c.take_frame-at.ensures.rest, c.rename.ensures.new, c.reserve.ensures, c.take.ensures.new)
+          (ap (λ (x : StoreSeen). with_read_begun x c.take_frame-at.result c.args.name c.args.seat c.args.disk) c.self.view_is);
+      laws = begins-read c.args.self.now (flight g c) sound next (absent-is c.args.self.now c.args.name sound c.requires.can.1)
+          (ap (λ (x : StoreSeen). bay_at x.bays c.args.disk) (sym c.self.view_is) ∙ c.take.ensures.disk) refl
           (c.take-frame.ensures.origin ∙ ap (λ (x : StoreSeen). x.origin) c.self.view_is) bytes;
     }
 
@@ -60,7 +65,8 @@ pub invariant_of-self : goal.invariant_of-self
 invariant_of-self g c =
     let i = is g (goal.at.invariant_of-self g c).After-take in
     let count : length c.args.self.now.frames ≡ c.self.inside.frames = sym (ap (λ (x : StoreSeen). length x.frames) c.self.view_is) ∙ c.self.invariant.counted in
-    let taken : c.take-frame.result.number < length c.args.self.now.frames = taken-within c.args.self.now c.take-frame.result.number (subst IsSoundStore c.self.view_is c.self.invariant.sound) i.next in
+    let taken : c.take-frame.result.number < length c.args.self.now.frames = taken-within c.args.self.now c.take-frame.result.number
+    (subst IsSoundStore c.self.view_is c.self.invariant.sound) i.next in
     let n : c.take-frame.result.number ≡ c.take_frame-at.result = c.take-frame.ensures.number in
     record {
       sound = subst IsSoundStore (sym i.new) i.laws.sound;

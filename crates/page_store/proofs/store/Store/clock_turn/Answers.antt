@@ -10,10 +10,13 @@ use Rattle.page_store.proofs.store.Store.clock_turn.Goals.{After-step}
 use Rattle.page_store.proofs.store.Store.clock_turn.Goals as goal
 
 -- the store that the call makes, and its laws
-made : (g : Over) (c : After-step g) → store_of c.self.inside.core c.self.inside.names c.self.inside.lists c.self.inside.locks c.step.new.self c.self.inside.bays c.self.inside.order ≡ record c.args.self.now { clock = next_clock c.args.self.now.clock }
+made : (g : Over) (c : After-step g)
+    → store_of c.self.inside.core c.self.inside.names c.self.inside.lists c.self.inside.locks c.step.new.self c.self.inside.bays c.self.inside.order ≡ record
+    c.args.self.now { clock = next_clock c.args.self.now.clock }
 made g c = rw c.step.ensures.new (ap (λ (x : StoreSeen). record x { clock = next_clock x.clock }) c.self.view_is)
 
-laws : (g : Over) (c : After-step g) → StaysInPlace c.args.self.now (store_of c.self.inside.core c.self.inside.names c.self.inside.lists c.self.inside.locks c.step.new.self c.self.inside.bays c.self.inside.order) (is_only None)
+laws : (g : Over) (c : After-step g) → StaysInPlace c.args.self.now
+    (store_of c.self.inside.core c.self.inside.names c.self.inside.lists c.self.inside.locks c.step.new.self c.self.inside.bays c.self.inside.order) (is_only None)
 laws g c = subst (λ (x : StoreSeen). StaysInPlace c.args.self.now x (is_only None)) (sym (made g c))
     (stays-clock c.args.self.now (next_clock c.args.self.now.clock) (subst IsSoundStore c.self.view_is c.self.invariant.sound) (next_clock-frames c.args.self.now.clock))
 

@@ -29,7 +29,8 @@ record Filled (g : Over) (c : After-copy_frame g) : Type 0 where
   sound : IsSoundStore c.args.self.now
   next : next_frame c.args.self.now ≡ Some c.take_frame-frame.result
   page : IsIn c.args.self.now c.args.from c.in-Some.source
-  new : store_of c.copy_frame.new.core c.rename.new.names c.take_frame-frame.new.lists c.reset.new.locks c.self.inside.clock c.self.inside.bays c.self.inside.order ≡ with_frame_filled c.args.self.now c.take_frame-frame.result c.args.to page.bytes true
+  new : store_of c.copy_frame.new.core c.rename.new.names c.take_frame-frame.new.lists c.reset.new.locks c.self.inside.clock c.self.inside.bays
+      c.self.inside.order ≡ with_frame_filled c.args.self.now c.take_frame-frame.result c.args.to page.bytes true
   laws : FillsPage c.args.self.now (with_frame_filled c.args.self.now c.take_frame-frame.result c.args.to page.bytes true) c.args.to true (λ notes table. value c.args.self.now notes table c.args.from)
 
 is : (g : Over) (c : After-copy_frame g) → Filled g c
@@ -44,7 +45,8 @@ is g c =
       sound = sound;
       next = next;
       page = page;
-      new = rw (c.take_frame-frame.ensures.rest, c.rename.ensures.new, c.reset.ensures, c.copy_frame.ensures, there) (ap (λ (x : StoreSeen). with_frame_filled x c.take_frame-frame.result c.args.to page.bytes true) c.self.view_is);
+      new = rw (c.take_frame-frame.ensures.rest, c.rename.ensures.new, c.reset.ensures, c.copy_frame.ensures, there)
+          (ap (λ (x : StoreSeen). with_frame_filled x c.take_frame-frame.result c.args.to page.bytes true) c.self.view_is);
       laws = fills-frame c.args.self.now c.take_frame-frame.result c.args.to page.bytes true sound next absent (home-size c.args.self.now c.args.from c.in-Some.source sound page)
           (λ notes table. value c.args.self.now notes table c.args.from) (λ notes table. home-value c.args.self.now c.args.from c.in-Some.source page notes table);
     }
@@ -64,7 +66,8 @@ invariant_of-self g c =
 pub returns-clause-new : goal.returns-clause-new
 returns-clause-new g c =
     let i = is g (goal.at.returns-clause-new g c).After-copy_frame in
-    i.new ∙ sym (ap (λ (b : List ℕ). with_frame_filled c.args.self.now c.take_frame-frame.result c.args.to b true) (rw (i.page.found, i.page.there) refl)) ∙ sym (ap (λ (o : Option ℕ). at_frame o c.args.self.now (λ f. with_frame_filled c.args.self.now f c.args.to (home_bytes c.args.self.now (find c.args.self.now.names c.args.from)) true)) i.next)
+    i.new ∙ sym (ap (λ (b : List ℕ). with_frame_filled c.args.self.now c.take_frame-frame.result c.args.to b true) (rw (i.page.found, i.page.there) refl))
+    ∙ sym (ap (λ (o : Option ℕ). at_frame o c.args.self.now (λ f. with_frame_filled c.args.self.now f c.args.to (home_bytes c.args.self.now (find c.args.self.now.names c.args.from)) true)) i.next)
 
 pub returns-clause-laws : goal.returns-clause-laws
 returns-clause-laws g c =

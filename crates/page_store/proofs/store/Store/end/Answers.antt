@@ -39,9 +39,11 @@ out_of : (g : Over) (c : After-put g) → IsFlightOf c.args.self.now (flight_put
 out_of g c = subst (λ (f : FlightSeen). IsFlightOf c.args.self.now f) (sym c.flight.view_is) c.requires.out
 
 held : (g : Over) (c : After-put g) → (row_at c.self.inside.locks c.number-at.result).holder ≡ Some c.flight.inside.seat
-held g c = ap (λ (k : ℕ). (row_at c.self.inside.locks k).holder) c.number-at.ensures ∙ ap (λ (x : StoreSeen). (row_at x.rows c.flight.inside.frame.number).holder) c.self.view_is ∙ (out_of g c).out.holder
+held g c = ap (λ (k : ℕ). (row_at c.self.inside.locks k).holder) c.number-at.ensures
+    ∙ ap (λ (x : StoreSeen). (row_at x.rows c.flight.inside.frame.number).holder) c.self.view_is ∙ (out_of g c).out.holder
 
-back : (g : Over) (c : After-put g) (dirty : Bool) → Back (store_of c.self.inside.core c.self.inside.names c.self.inside.lists c.self.inside.locks c.self.inside.clock c.self.inside.bays c.self.inside.order) c.number-at.result dirty
+back : (g : Over) (c : After-put g) (dirty : Bool) → Back
+    (store_of c.self.inside.core c.self.inside.names c.self.inside.lists c.self.inside.locks c.self.inside.clock c.self.inside.bays c.self.inside.order) c.number-at.result dirty
 back g c dirty = back-at _ c.number-at.result c.flight.inside.seat dirty c.self.invariant.sound (held g c)
 
 pub put-requires-2 : goal.put-requires-2
@@ -79,7 +81,8 @@ land-requires-clause-listed g c =
 pub land-requires-clause-held : goal.land-requires-clause-held
 land-requires-clause-held g c =
     let place = (goal.at.land-requires-clause-held g c).After-put in
-    let h : (row_at c.settle.new.locks c.number-at.result).holder ≡ Some c.flight.inside.seat = ap (λ (l : List Row). (row_at l c.number-at.result).holder) c.settle.ensures ∙ (back g place c.is_dirty.result).holder ∙ held g place in
+    let h : (row_at c.settle.new.locks c.number-at.result).holder ≡ Some c.flight.inside.seat = ap
+    (λ (l : List Row). (row_at l c.number-at.result).holder) c.settle.ensures ∙ (back g place c.is_dirty.result).holder ∙ held g place in
     subst (λ (o : Option ℕ). IsSome o) (sym h) refl
 
 pub land-requires-clause-unlisted : goal.land-requires-clause-unlisted
@@ -108,13 +111,16 @@ record Ended (g : Over) (c : After-land g) : Type 0 where
 
 is : (g : Over) (c : After-land g) → Ended g c
 is g c =
-    let mid : c.settle.new.locks ≡ rows_settled (row_at c.self.inside.locks c.flight.inside.frame.number).source c.self.inside.locks c.flight.inside.frame.number (is_dirty (outcome_at c.flight.inside.stage)) =
+    let mid : c.settle.new.locks ≡ rows_settled
+    (row_at c.self.inside.locks c.flight.inside.frame.number).source c.self.inside.locks c.flight.inside.frame.number (is_dirty (outcome_at c.flight.inside.stage)) =
     c.settle.ensures ∙ ap (λ (k : ℕ). rows_settled (row_at c.self.inside.locks k).source c.self.inside.locks k c.is_dirty.result) c.number-at.ensures
     ∙ ap (λ (b : Bool). rows_settled (row_at c.self.inside.locks c.flight.inside.frame.number).source c.self.inside.locks c.flight.inside.frame.number b) c.is_dirty.ensures in
     let lost : c.is_lost-lost.result ≡ is_lost c.flight.inside.writes (outcome_at c.flight.inside.stage) (row_at c.settle.new.locks c.flight.inside.frame.number).gone =
     c.is_lost-lost.ensures ∙ ap (λ (r : Row). is_lost c.flight.inside.writes (outcome_at c.flight.inside.stage) r.gone) (c.row.ensures ∙ ap (row_at c.settle.new.locks) c.number-at.ensures) in
     record {
-      new = rw (c.put.ensures.new, c.land.ensures.names, c.land.ensures.locks, c.land.ensures.lists, c.put-2.ensures) (ended-parts (store_of c.self.inside.core c.self.inside.names c.self.inside.lists c.self.inside.locks c.self.inside.clock c.self.inside.bays c.self.inside.order) (flight g c) c.settle.new.locks c.number-at.result c.is_lost-lost.result c.is_dirty-2.result c.number-at.ensures mid c.is_dirty-2.ensures lost)
+      new = rw (c.put.ensures.new, c.land.ensures.names, c.land.ensures.locks, c.land.ensures.lists, c.put-2.ensures)
+          (ended-parts (store_of c.self.inside.core c.self.inside.names c.self.inside.lists c.self.inside.locks c.self.inside.clock c.self.inside.bays
+          c.self.inside.order) (flight g c) c.settle.new.locks c.number-at.result c.is_lost-lost.result c.is_dirty-2.result c.number-at.ensures mid c.is_dirty-2.ensures lost)
           ∙ ap (λ (x : StoreSeen). after_end x (flight g c)) c.self.view_is ∙ ap (after_end c.args.self.now) c.flight.view_is;
       laws = ends-flight c.args.self.now c.args.flight (subst IsSoundStore c.self.view_is c.self.invariant.sound) c.requires.out c.requires.performed
           (subst (λ (f : FlightSeen). HasBlocks f.disk.content f.disk.size) c.flight.view_is (g.met.D.Disk.has_blocks c.flight.inside.disk))

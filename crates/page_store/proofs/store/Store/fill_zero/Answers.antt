@@ -24,8 +24,10 @@ reset-requires g c = taken-row _ _ c.self.invariant.sound c.take_frame-frame.ens
 record Filled (g : Over) (c : After-zero_frame g) : Type 0 where
   sound : IsSoundStore c.args.self.now
   next : next_frame c.args.self.now ≡ Some c.take_frame-frame.result
-  new : store_of c.zero_frame.new.core c.rename.new.names c.take_frame-frame.new.lists c.reset.new.locks c.self.inside.clock c.self.inside.bays c.self.inside.order ≡ with_frame_filled c.args.self.now c.take_frame-frame.result c.args.name zeros (c.args.name.object == 64)
-  laws : FillsPage c.args.self.now (with_frame_filled c.args.self.now c.take_frame-frame.result c.args.name zeros (c.args.name.object == 64)) c.args.name (c.args.name.object == 64) (λ notes table. zeros)
+  new : store_of c.zero_frame.new.core c.rename.new.names c.take_frame-frame.new.lists c.reset.new.locks c.self.inside.clock c.self.inside.bays
+      c.self.inside.order ≡ with_frame_filled c.args.self.now c.take_frame-frame.result c.args.name zeros (c.args.name.object == 64)
+  laws : FillsPage c.args.self.now (with_frame_filled c.args.self.now c.take_frame-frame.result c.args.name zeros (c.args.name.object == 64)) c.args.name
+      (c.args.name.object == 64) (λ notes table. zeros)
 
 is : (g : Over) (c : After-zero_frame g) → Filled g c
 is g c =
@@ -35,7 +37,8 @@ is g c =
     record {
       sound = sound;
       next = next;
-      new = rw (c.take_frame-frame.ensures.rest, c.rename.ensures.new, c.reset.ensures, c.zero_frame.ensures) (ap (λ (x : StoreSeen). with_frame_filled x c.take_frame-frame.result c.args.name zeros (c.args.name.object == 64)) c.self.view_is);
+      new = rw (c.take_frame-frame.ensures.rest, c.rename.ensures.new, c.reset.ensures, c.zero_frame.ensures)
+          (ap (λ (x : StoreSeen). with_frame_filled x c.take_frame-frame.result c.args.name zeros (c.args.name.object == 64)) c.self.view_is);
       laws = fills-frame c.args.self.now c.take_frame-frame.result c.args.name zeros (c.args.name.object == 64) sound next absent refl (λ notes table. zeros) (λ notes table. refl);
     }
 

@@ -20,7 +20,8 @@ pub collect-requires-clause-there : goal.collect-requires-clause-there
 collect-requires-clause-there g c = λ i lt.
     let n : ℕ = slice_index c.self.inside.order i in
     let low = c.self.invariant.sound.order.numbers.below i lt in
-    let same : bay_at c.remove-swap.new.self n ≡ bay_at c.self.inside.bays n = ap (λ (l : List BaySeen). bay_at l n) c.remove-swap.ensures.new ∙ get_or-set_other c.self.inside.bays 8 n missing missing (omega (arith, low)) in
+    let same : bay_at c.remove-swap.new.self n ≡ bay_at c.self.inside.bays n = ap (λ (l : List BaySeen). bay_at l n) c.remove-swap.ensures.new
+    ∙ get_or-set_other c.self.inside.bays 8 n missing missing (omega (arith, low)) in
     let still : IsStill (bay_at c.self.inside.bays n) = subst (λ (l : List BaySeen). IsStill (bay_at l n)) (sym (ap (λ (x : StoreSeen). x.bays) c.self.view_is)) (c.requires n) in
     same ∙ still-home (bay_at c.self.inside.bays n) still (c.self.invariant.sound.order.there i lt) ∙ ap (λ (b : BaySeen). home (disk_in b)) (sym same)
 

@@ -24,7 +24,8 @@ place_swap-requires-clause-empty g c =
     let pairs : List (ℕ × DiskSeen) = pairs_seen g.D.Disk.seen c.args.disks.items in
     let is : c.place_all.new.bays ≡ bays_with pairs (replicate 9 missing) = c.place_all.ensures ∙ ap (bays_with pairs) c.in-Ok.ensures.bays in
     let numbers : AreNumbers (numbers_of pairs) = subst AreNumbers (sym (numbers-seen g.D.Disk.seen c.args.disks.items)) c.requires.numbers in
-    ap (λ (l : List BaySeen). bay_at l 8) is ∙ placed-other pairs (replicate 9 missing) 8 (λ i lt q. let z = length-numbers pairs in let l = numbers.below i (omega (arith, lt, z)) in omega (arith, l, q)) ∙ none-missing 9 8
+    ap (λ (l : List BaySeen). bay_at l 8) is ∙ placed-other pairs (replicate 9 missing) 8 (λ i lt q. let z = length-numbers pairs in
+    let l = numbers.below i (omega (arith, lt, z)) in omega (arith, l, q)) ∙ none-missing 9 8
 
 pub invariant_of-result : goal.invariant_of-result
 invariant_of-result g c =
@@ -34,13 +35,15 @@ invariant_of-result g c =
     let bays_is : c.place_swap.new.bays ≡ set (bays_with pairs (replicate 9 missing)) 8 (bay_of swap) = c.place_swap.ensures ∙ ap (λ (l : List BaySeen). set l 8 (bay_of swap)) is in
     let numbers : AreNumbers (numbers_of pairs) = subst AreNumbers (sym (numbers-seen g.D.Disk.seen c.args.disks.items)) c.requires.numbers in
     let order_is : c.in-Ok.parts.order ≡ numbers_of pairs = c.in-Ok.ensures.order ∙ ap numbers_of c.as_slice.ensures.value ∙ sym (numbers-seen g.D.Disk.seen c.args.disks.items) in
-    let nine : length (set (bays_with pairs (replicate 9 missing)) 8 (bay_of swap)) ≡ 9 = length-set (bays_with pairs (replicate 9 missing)) 8 (bay_of swap) ∙ length-placed pairs (replicate 9 missing) in
+    let nine : length (set (bays_with pairs (replicate 9 missing)) 8 (bay_of swap)) ≡ 9 = length-set (bays_with pairs (replicate 9 missing)) 8 (bay_of swap)
+    ∙ length-placed pairs (replicate 9 missing) in
     let law = g.met.D.Disk.has_blocks in
     let whole = whole-set (bays_with pairs (replicate 9 missing)) 8 (bay_of swap) (whole-swap swap (λ d e. whole-seen g.D.Disk.seen law c.args.swap d e))
     (whole-placed g.D.Disk.seen law c.args.disks.items (replicate 9 missing) (λ k d h. absurd (let z : missing ≡ home d = sym (none-missing 9 k) ∙ h in cc))) in
     record {
       sound = rw (c.in-Ok.ensures.core, c.in-Ok.ensures.names, c.in-Ok.ensures.lists, c.in-Ok.ensures.locks, c.new.ensures, bays_is, order_is)
-          (sound-new c.in-Ok.parts.core.origin c.args.frames (set (bays_with pairs (replicate 9 missing)) 8 (bay_of swap)) (numbers_of pairs) c.ranges.frames.fits nine whole (order-there pairs swap numbers)
+          (sound-new c.in-Ok.parts.core.origin c.args.frames (set (bays_with pairs (replicate 9 missing)) 8 (bay_of swap))
+          (numbers_of pairs) c.ranges.frames.fits nine whole (order-there pairs swap numbers)
           (subst AreDistinct c.in-Ok.ensures.names c.in-Ok.ensures.distinct) (subst AreApart c.in-Ok.ensures.lists c.in-Ok.ensures.apart));
       counted = rw c.in-Ok.ensures.core (length-replicate c.args.frames (Some zeros));
       listed = ap (λ (l : ListsSeen). l.frames) c.in-Ok.ensures.lists;

@@ -8,8 +8,11 @@ use Rattle.page_store.proofs.store.Store.poke.Goals as goal
 
 pub poke_frame-requires-clause-home : goal.poke_frame-requires-clause-home
 poke_frame-requires-clause-home g c =
-    let found : find c.args.self.now.names c.args.name ≡ Some c.in-Some.frame = ap (λ (x : StoreSeen). find x.names c.args.name) (sym c.self.view_is) ∙ sym c.in-Some.ensures.first in
-    (c.args.name, subst (λ (k : ℕ). residence c.args.self.now c.args.name ≡ Home k) (same-frame c.args.self.now c.args.name c.in-Some.frame c.requires.home.0 c.requires.home.1 found) c.requires.home.1)
+    let found : find c.args.self.now.names c.args.name ≡ Some c.in-Some.frame = ap (λ (x : StoreSeen). find x.names c.args.name) (sym c.self.view_is) ∙ sym c.in-Some.ensures.first in (
+      c.args.name,
+      subst (λ (k : ℕ). residence c.args.self.now c.args.name ≡ Home k)
+          (same-frame c.args.self.now c.args.name c.in-Some.frame c.requires.home.0 c.requires.home.1 found) c.requires.home.1,
+    )
 
 pub poke_frame-requires-clause-unlisted : goal.poke_frame-requires-clause-unlisted
 poke_frame-requires-clause-unlisted g c =
@@ -24,4 +27,5 @@ returns-clause-new g c =
 pub returns-clause-laws : goal.returns-clause-laws
 returns-clause-laws g c =
     let found : find c.args.self.now.names c.args.name ≡ Some c.in-Some.frame = ap (λ (x : StoreSeen). find x.names c.args.name) (sym c.self.view_is) ∙ sym c.in-Some.ensures.first in
-    c.poke_frame.ensures.laws c.args.name (subst (λ (k : ℕ). residence c.args.self.now c.args.name ≡ Home k) (same-frame c.args.self.now c.args.name c.in-Some.frame c.requires.home.0 c.requires.home.1 found) c.requires.home.1)
+    c.poke_frame.ensures.laws c.args.name (subst (λ (k : ℕ). residence c.args.self.now c.args.name ≡ Home k)
+    (same-frame c.args.self.now c.args.name c.in-Some.frame c.requires.home.0 c.requires.home.1 found) c.requires.home.1)

@@ -21,8 +21,10 @@ mark_if-requires g c = subst (λ (x : StoreSeen). c.args.frame < length x.rows) 
 
 -- the store that the call makes, and its laws
 record Poked (g : Over) (c : After-mark_if g) : Type 0 where
-  new : store_of c.write.new.self c.self.inside.names c.self.inside.lists c.mark_if.new.locks c.self.inside.clock c.self.inside.bays c.self.inside.order ≡ with_piece c.args.self.now c.args.frame c.args.at c.args.from.now c.args.mark
-  laws : (name : PageName) → residence c.args.self.now name ≡ Home c.args.frame → Pokes c.args.self.now (with_piece c.args.self.now c.args.frame c.args.at c.args.from.now c.args.mark) name c.args.at c.args.from.now
+  new : store_of c.write.new.self c.self.inside.names c.self.inside.lists c.mark_if.new.locks c.self.inside.clock c.self.inside.bays
+      c.self.inside.order ≡ with_piece c.args.self.now c.args.frame c.args.at c.args.from.now c.args.mark
+  laws : (name : PageName) → residence c.args.self.now name ≡ Home c.args.frame
+      → Pokes c.args.self.now (with_piece c.args.self.now c.args.frame c.args.at c.args.from.now c.args.mark) name c.args.at c.args.from.now
 
 is : (g : Over) (c : After-mark_if g) → Poked g c
 is g c = record {

@@ -4,4 +4,6 @@ use Rattle.page_store.proofs.QueryLemmas.{found-row}
 use Rattle.page_store.proofs.store.Store.ready.Goals as goal
 
 pub holder-requires : goal.holder-requires
-holder-requires g c = found-row (store_of c.self.inside.core c.self.inside.names c.self.inside.lists c.self.inside.locks c.self.inside.clock c.self.inside.bays c.self.inside.order) _ c.in-Some.frame c.self.invariant.sound (sym c.in-Some.ensures.first)
+holder-requires g c = found-row
+    (store_of c.self.inside.core c.self.inside.names c.self.inside.lists c.self.inside.locks c.self.inside.clock c.self.inside.bays c.self.inside.order) _
+    c.in-Some.frame c.self.invariant.sound (sym c.in-Some.ensures.first)

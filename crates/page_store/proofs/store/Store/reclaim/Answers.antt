@@ -23,7 +23,8 @@ reclaim-requires g c =
 -- the frame of the name, the store that the call makes, and its laws
 record Reclaimed (g : Over) (c : After-reclaim g) : Type 0 where
   found : find c.args.self.now.names c.args.name ≡ Some c.in-Some.frame
-  new : store_of c.self.inside.core c.self.inside.names c.reclaim.new.self c.self.inside.locks c.self.inside.clock c.self.inside.bays c.self.inside.order ≡ record c.args.self.now { cached = without_frame c.args.self.now.cached c.in-Some.frame }
+  new : store_of c.self.inside.core c.self.inside.names c.reclaim.new.self c.self.inside.locks c.self.inside.clock c.self.inside.bays
+      c.self.inside.order ≡ record c.args.self.now { cached = without_frame c.args.self.now.cached c.in-Some.frame }
   laws : StaysInPlace c.args.self.now (record c.args.self.now { cached = without_frame c.args.self.now.cached c.in-Some.frame }) (is_only (Some c.in-Some.frame))
   unlisted : IsListedFrame (record c.args.self.now { cached = without_frame c.args.self.now.cached c.in-Some.frame }) c.in-Some.frame → ⊥
 
@@ -62,4 +63,6 @@ returns-clause-unlisted g c =
 pub returns-clause-laws : goal.returns-clause-laws
 returns-clause-laws g c =
     let i = is g (goal.at.returns-clause-laws g c).After-reclaim in
-    subst (λ (o : Option ℕ). StaysInPlace c.args.self.now (store_of c.self.inside.core c.self.inside.names c.reclaim.new.self c.self.inside.locks c.self.inside.clock c.self.inside.bays c.self.inside.order) (is_only o)) (sym i.found) (subst (λ (x : StoreSeen). StaysInPlace c.args.self.now x (is_only (Some c.in-Some.frame))) (sym i.new) i.laws)
+    subst (λ (o : Option ℕ). StaysInPlace c.args.self.now
+    (store_of c.self.inside.core c.self.inside.names c.reclaim.new.self c.self.inside.locks c.self.inside.clock c.self.inside.bays c.self.inside.order)
+    (is_only o)) (sym i.found) (subst (λ (x : StoreSeen). StaysInPlace c.args.self.now x (is_only (Some c.in-Some.frame))) (sym i.new) i.laws)

@@ -13,12 +13,16 @@ pub set_bits-requires : goal.set_bits-requires
 set_bits-requires g c = let a = c.self.invariant.sound.rows in let b = ap (λ (x : StoreSeen). length x.frames) c.self.view_is in let d = c.requires in omega arith
 
 -- the store that the call makes, and its laws
-made : (g : Over) (c : After-set_bits g) → store_of c.self.inside.core c.self.inside.names c.self.inside.lists c.set_bits.new.self c.self.inside.clock c.self.inside.bays c.self.inside.order ≡ with_row c.args.self.now c.args.frame (with_bits (row_at c.args.self.now.rows c.args.frame) c.args.referenced c.args.modified)
+made : (g : Over) (c : After-set_bits g)
+    → store_of c.self.inside.core c.self.inside.names c.self.inside.lists c.set_bits.new.self c.self.inside.clock c.self.inside.bays
+    c.self.inside.order ≡ with_row c.args.self.now c.args.frame (with_bits (row_at c.args.self.now.rows c.args.frame) c.args.referenced c.args.modified)
 made g c = rw c.set_bits.ensures (ap (λ (x : StoreSeen). with_row x c.args.frame (with_bits (row_at x.rows c.args.frame) c.args.referenced c.args.modified)) c.self.view_is)
 
-laws : (g : Over) (c : After-set_bits g) → StaysInPlace c.args.self.now (store_of c.self.inside.core c.self.inside.names c.self.inside.lists c.set_bits.new.self c.self.inside.clock c.self.inside.bays c.self.inside.order) (is_only (Some c.args.frame))
+laws : (g : Over) (c : After-set_bits g) → StaysInPlace c.args.self.now
+    (store_of c.self.inside.core c.self.inside.names c.self.inside.lists c.set_bits.new.self c.self.inside.clock c.self.inside.bays c.self.inside.order) (is_only (Some c.args.frame))
 laws g c = subst (λ (x : StoreSeen). StaysInPlace c.args.self.now x (is_only (Some c.args.frame))) (sym (made g c))
-    (stays-row c.args.self.now c.args.frame (with_bits (row_at c.args.self.now.rows c.args.frame) c.args.referenced c.args.modified) (subst IsSoundStore c.self.view_is c.self.invariant.sound) c.requires refl refl refl refl)
+    (stays-row c.args.self.now c.args.frame (with_bits (row_at c.args.self.now.rows c.args.frame) c.args.referenced c.args.modified)
+    (subst IsSoundStore c.self.view_is c.self.invariant.sound) c.requires refl refl refl refl)
 
 pub invariant_of-self : goal.invariant_of-self
 invariant_of-self g c = record {

@@ -14,12 +14,17 @@ pub unkeep-requires-clause-frame : goal.unkeep-requires-clause-frame
 unkeep-requires-clause-frame g c = let a = c.self.invariant.sound.rows in let b = ap (λ (x : StoreSeen). length x.frames) c.self.view_is in let d = c.requires.frame in omega arith
 
 -- the store that the call makes, and its laws
-made : (g : Over) (c : After-unkeep g) → store_of c.self.inside.core c.self.inside.names c.self.inside.lists c.unkeep.new.self c.self.inside.clock c.self.inside.bays c.self.inside.order ≡ with_row c.args.self.now c.args.frame (record (row_at c.args.self.now.rows c.args.frame) { keeps = (row_at c.args.self.now.rows c.args.frame).keeps - 1 })
+made : (g : Over) (c : After-unkeep g)
+    → store_of c.self.inside.core c.self.inside.names c.self.inside.lists c.unkeep.new.self c.self.inside.clock c.self.inside.bays
+    c.self.inside.order ≡ with_row c.args.self.now c.args.frame (record (row_at c.args.self.now.rows c.args.frame) { keeps = (row_at c.args.self.now.rows c.args.frame).keeps - 1 })
 made g c = rw c.unkeep.ensures (ap (λ (x : StoreSeen). with_row x c.args.frame (record (row_at x.rows c.args.frame) { keeps = (row_at x.rows c.args.frame).keeps - 1 })) c.self.view_is)
 
-laws : (g : Over) (c : After-unkeep g) → StaysInPlace c.args.self.now (store_of c.self.inside.core c.self.inside.names c.self.inside.lists c.unkeep.new.self c.self.inside.clock c.self.inside.bays c.self.inside.order) (is_only (Some c.args.frame))
+laws : (g : Over) (c : After-unkeep g) → StaysInPlace c.args.self.now
+    (store_of c.self.inside.core c.self.inside.names c.self.inside.lists c.unkeep.new.self c.self.inside.clock c.self.inside.bays c.self.inside.order) (is_only (Some c.args.frame))
 laws g c = subst (λ (x : StoreSeen). StaysInPlace c.args.self.now x (is_only (Some c.args.frame))) (sym (made g c))
-    (stays-row c.args.self.now c.args.frame (record (row_at c.args.self.now.rows c.args.frame) { keeps = (row_at c.args.self.now.rows c.args.frame).keeps - 1 }) (subst IsSoundStore c.self.view_is c.self.invariant.sound) c.requires.frame refl refl refl refl)
+    (stays-row c.args.self.now c.args.frame (record
+    (row_at c.args.self.now.rows c.args.frame) { keeps = (row_at c.args.self.now.rows c.args.frame).keeps - 1 })
+    (subst IsSoundStore c.self.view_is c.self.invariant.sound) c.requires.frame refl refl refl refl)
 
 pub invariant_of-self : goal.invariant_of-self
 invariant_of-self g c = record {

@@ -6,14 +6,14 @@ use Rattle.std.proofs.lemmas.List.{length-map}
 use Rattle.vnode_files.specs.Vnode.{VnodeSeen, no_vnode}
 use Rattle.vnode_files.specs.Files.{FilesSeen, vnode_at, with_vnode, with_growth}
 use Rattle.vnode_files.specs.Room.{RoomyVnode}
-use Rattle.vnode_files.proofs.SeenLemmas.{seen-at, seen-set}
+use Rattle.vnode_files.proofs.SeenLemmas.{none-from, seen-at, seen-set}
 use Rattle.vnode_files.specs.Grow.{page_count}
 use Rattle.vnode_files.specs.Vnode.{page_blocks, IsSoundVnode}
 use Rattle.vnode_files.specs.Files.{growth_of, block_count}
 use Rattle.vnode_files.specs.Step.{own_extents, next_extents}
 use Rattle.vnode_files.specs.Room.{savepoint_of, cut_vnode, IsRoomy, IsSoundFiles}
 use Rattle.vnode_files.proofs.RoomLemmas.{IsRoomy-front, IsSoundFiles-set}
-use Rattle.vnode_files.proofs.GrowLemmas.{growing-first, growing-next, growing-none, growing-some, growing-back, growing-there, none-of, IsGrowing, Steps, CanGoBack}
+use Rattle.vnode_files.proofs.GrowLemmas.{growing-first, growing-next, growing-none, growing-some, growing-back, growing-there, IsGrowing, Steps, CanGoBack}
 use Rattle.vnode_files.specs.Layout.{KeepsLayout, GrowsFile}
 use Rattle.vnode_files.proofs.LayoutLaws.{grows, keeps-growth}
 use Rattle.vnode_files.proofs.files.Files.grow.Goals as goal
@@ -45,7 +45,7 @@ loop-before-smaller c =
 
 -- a turn that found no block
 nothing : (c : Then-not-take_block) → next_extents c.loop-before.self c.args.file ≡ None
-nothing c = none-of (next_extents c.loop-before.self c.args.file) (sym c.take_block.ensures.answer ∙ c.if-not-take_block.true)
+nothing c = none-from (next_extents c.loop-before.self c.args.file) (sym c.take_block.ensures.answer ∙ c.if-not-take_block.true)
 
 stays : (c : Then-not-take_block) → c.take_block.new.self ≡ c.loop-before.self
 stays c = c.take_block.ensures.new ∙ ap (with_growth c.loop-before.self c.args.file) (nothing c)
@@ -84,7 +84,8 @@ cut_back-requires-clause-extents c =
 pub cut_back-requires-clause-pages : goal.cut_back-requires-clause-pages
 cut_back-requires-clause-pages c =
     let d = (goal.at.cut_back-requires-clause-pages c).Then-not-take_block in
-    subst (λ (v : VnodeSeen). c.savepoint_of-before.result.pages ≡ page_count (cut_vnode v c.savepoint_of-before.result).info.extents) (at (goal.at.cut_back-requires-clause-pages c).After-index_mut (within d)) (back d).pages
+    subst (λ (v : VnodeSeen). c.savepoint_of-before.result.pages ≡ page_count (cut_vnode v c.savepoint_of-before.result).info.extents)
+    (at (goal.at.cut_back-requires-clause-pages c).After-index_mut (within d)) (back d).pages
 
 pub cut_back-requires-clause-sound : goal.cut_back-requires-clause-sound
 cut_back-requires-clause-sound c =
@@ -114,7 +115,8 @@ pub returns-then-not-take_block-clause-new : goal.returns-then-not-take_block-cl
 returns-then-not-take_block-clause-new c =
     let d = (goal.at.returns-then-not-take_block-clause-new c).Then-not-take_block in
     let disks : finmap.FinMap nat_cmp ℕ = finmap.from_entries c.self-in-loop-before.inside.disks.items in
-    let set = seen-set c.self-in-loop-before.inside.vnodes.items c.args.file c.index_mut.result.now c.cut_back.new.self (λ v. cut_vnode v c.savepoint_of-before.result) (within d) c.index_mut.ensures.value
+    let set = seen-set c.self-in-loop-before.inside.vnodes.items c.args.file c.index_mut.result.now c.cut_back.new.self
+    (λ v. cut_vnode v c.savepoint_of-before.result) (within d) c.index_mut.ensures.value
     (ap (λ (v : RoomyVnode). v.seen) c.cut_back.ensures) in
     ap (λ (fs : List VnodeSeen). let s : FilesSeen = record { disks = disks; files = fs } in s) set
     ∙ ap (λ (s : FilesSeen). with_vnode s c.args.file (cut_vnode (vnode_at s c.args.file) c.savepoint_of-before.result)) c.self-in-loop-before.view_is

@@ -14,7 +14,8 @@ pub returns-clause-new : goal.returns-clause-new
 returns-clause-new c =
     let within : c.args.file < length c.self.inside.vnodes.items =
     omega (arith, subst (λ (s : FilesSeen). c.args.file < length s.files) (sym c.self.view_is) c.requires.file, length-map c.self.inside.vnodes.items (λ (v : RoomyVnode). v.seen)) in
-    let set = seen-set c.self.inside.vnodes.items c.args.file c.index_mut.result.now c.set_blank.new.self (λ v. with_blank v c.args.page c.args.blank) within c.index_mut.ensures.value (ap (λ (v : RoomyVnode). v.seen) c.set_blank.ensures) in
+    let set = seen-set c.self.inside.vnodes.items c.args.file c.index_mut.result.now c.set_blank.new.self
+    (λ v. with_blank v c.args.page c.args.blank) within c.index_mut.ensures.value (ap (λ (v : RoomyVnode). v.seen) c.set_blank.ensures) in
     ap (λ (fs : List VnodeSeen). let s : FilesSeen = record { disks = finmap.from_entries c.self.inside.disks.items; files = fs } in s) set
     ∙ ap (λ (s : FilesSeen). let v = vnode_at s c.args.file in with_vnode s c.args.file (with_blank v c.args.page c.args.blank)) c.self.view_is
 

@@ -18,7 +18,8 @@ abbrev disks_of : List (ℕ × ℕ) → finmap.FinMap nat_cmp ℕ
 disks_of es = finmap.from_entries es
 
 at_end : (c : After-index_mut) → Taking (disks_of c.self.inside.disks.items) c.self.inside.vnodes.items c.args.file c.index_mut.result.now
-    (record c.index_mut.result.now { seen = with_extents c.index_mut.result.now.seen (with_longer_last c.index_mut.result.now.seen.info.extents) }) (next_extents (files_of (disks_of c.self.inside.disks.items) c.self.inside.vnodes.items) c.args.file)
+    (record c.index_mut.result.now { seen = with_extents c.index_mut.result.now.seen (with_longer_last c.index_mut.result.now.seen.info.extents) })
+    (next_extents (files_of (disks_of c.self.inside.disks.items) c.self.inside.vnodes.items) c.args.file)
 at_end c =
     let within : c.args.file < length c.self.inside.vnodes.items =
     omega (arith, subst (λ (s : FilesSeen). c.args.file < length s.files) (sym c.self.view_is) c.requires.file, length-map c.self.inside.vnodes.items (λ (v : RoomyVnode). v.seen)) in
@@ -26,12 +27,16 @@ at_end c =
     (ap (λ (s : FilesSeen). end_block s c.args.file) c.self.view_is ∙ sym c.end_block.ensures ∙ c.in-Some.is)
 
 at_new : (c : After-index_mut-in-Some-new_block) → Taking (disks_of c.self.inside.disks.items) c.self.inside.vnodes.items c.args.file c.index_mut-in-Some-new_block.result.now
-    (record c.index_mut-in-Some-new_block.result.now { seen = with_extents c.index_mut-in-Some-new_block.result.now.seen (c.index_mut-in-Some-new_block.result.now.seen.info.extents ++ record { start = c.in-Some-new_block.block; pages = 1 } ∷ []) })
+    (record c.index_mut-in-Some-new_block.result.now {
+      seen = with_extents c.index_mut-in-Some-new_block.result.now.seen
+          (c.index_mut-in-Some-new_block.result.now.seen.info.extents ++ record { start = c.in-Some-new_block.block; pages = 1 } ∷ []);
+    })
     (next_extents (files_of (disks_of c.self.inside.disks.items) c.self.inside.vnodes.items) c.args.file)
 at_new c =
     let within : c.args.file < length c.self.inside.vnodes.items =
     omega (arith, subst (λ (s : FilesSeen). c.args.file < length s.files) (sym c.self.view_is) c.requires.file, length-map c.self.inside.vnodes.items (λ (v : RoomyVnode). v.seen)) in
-    taking-new (disks_of c.self.inside.disks.items) c.self.inside.vnodes.items c.args.file c.index_mut-in-Some-new_block.result.now c.self.invariant within c.index_mut-in-Some-new_block.ensures.value c.in-Some-new_block.block
+    taking-new (disks_of c.self.inside.disks.items) c.self.inside.vnodes.items c.args.file c.index_mut-in-Some-new_block.result.now c.self.invariant within
+    c.index_mut-in-Some-new_block.ensures.value c.in-Some-new_block.block
     (ap (λ (s : FilesSeen). end_block s c.args.file) c.self.view_is ∙ sym c.end_block.ensures ∙ c.in_default.is)
     (ap (λ (s : FilesSeen). new_block s c.args.file) c.self.view_is ∙ sym c.new_block.ensures ∙ c.in-Some-new_block.is)
 

@@ -13,7 +13,8 @@ use Rattle.vnode_files.proofs.vnode.Vnode.block.Goals as goal
 use Rattle.vnode_files.proofs.vnode.Vnode.block.Goals.{After-partition_point-place, After-list, After-index}
 
 -- the search parts the page ends
-point : (c : After-partition_point-place) → IsPartitionPoint (λ y. nat_le y c.args.page ≡ true) (λ y. nat_le y c.args.page ≡ false) (page_ends 0 c.self.inside.info.extents) c.partition_point-place.result
+point : (c : After-partition_point-place) → IsPartitionPoint (λ y. nat_le y c.args.page ≡ true) (λ y. nat_le y c.args.page ≡ false)
+    (page_ends 0 c.self.inside.info.extents) c.partition_point-place.result
 point c =
     let e : c.deref.result.now ≡ page_ends 0 c.self.inside.info.extents = c.deref.ensures.value ∙ c.self.invariant.indexed in
     let P : List ℕ → Type 0 = λ xs. IsPartitionPoint (λ y. nat_le y c.args.page ≡ true) (λ y. nat_le y c.args.page ≡ false) xs c.partition_point-place.result in
@@ -49,7 +50,8 @@ index-requires c =
 -- the end that is read
 end : (c : After-index) → c.partition_point-place.result < length c.list.result.now → c.index.result.now ≡ slice_index_or (page_ends 0 c.list.result.now) c.partition_point-place.result 0
 end c within =
-    let low : c.partition_point-place.result < length c.self.inside.ends.items = omega (arith, ap length c.list.ensures, ap length c.self.invariant.indexed, length-page_ends 0 c.self.inside.info.extents) in
+    let low : c.partition_point-place.result < length c.self.inside.ends.items = omega
+    (arith, ap length c.list.ensures, ap length c.self.invariant.indexed, length-page_ends 0 c.self.inside.info.extents) in
     get_or_read c.self.inside.ends.items c.partition_point-place.result c.index.result.now low c.index.ensures 0
     ∙ ap (λ (ns : List ℕ). slice_index_or ns c.partition_point-place.result 0) (c.self.invariant.indexed ∙ ap (page_ends 0) (sym c.list.ensures))
 
