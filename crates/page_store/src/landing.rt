@@ -52,7 +52,20 @@ impl<D: Disk> Store<D> {
             lost,
             is_dirty(stage),
         );
+        self.hand = next_hand(self.hand, at, is_dirty(stage), self.frames);
     }
+}
+
+// The frame behind which the next search for a victim begins: the one that it was, but where a transfer failed the one that
+// it had. So a page that was pushed is found next, and one block that can't be written doesn't fail each access that wants a
+// frame.
+fn next_hand(hand: u32, at: u32, failed: bool, frames: u32) -> u32
+    requires hand { hand < frames }
+    requires at { at < frames }
+    ensures next { result ≡ if failed then at else hand }
+    ensures within { result < frames }
+{
+    if failed { at } else { hand }
 }
 
 // A snapshot that comes back parts from its page, which is modified where the transfer failed or it was written meanwhile.

@@ -244,10 +244,17 @@ impl<D: Disk> Store<D> {
         self.bays.holder(disk).map(Hold::Disk)
     }
 
+    /// How many frames there are.
+    pub fn frame_count(&self) -> u32
+        ensures { result ≡ length self.now.frames }
+    {
+        self.frames
+    }
+
     /// A page whose frame can be had once the page was pushed or released; None where there is none.
     ///
-    /// It looks at the frames in order, from the one behind the last frame that was taken on, so that successive searches
-    /// go round the frames.
+    /// It looks at the frames in order, from the one behind the hand, so that successive searches go round the frames. The
+    /// hand goes to a frame that gets another page, to one that is passed over, and to one whose transfer failed.
     pub fn victim(&self) -> Option<PageName>
         ensures { ChoosesPage self.now result }
     {
@@ -256,6 +263,14 @@ impl<D: Disk> Store<D> {
             Some(name) => Some(name),
             None => self.victim_in(0, next),
         }
+    }
+
+    /// The next search for a victim begins behind this frame.
+    pub fn pass_over(&mut self, frame: u32)
+        requires { frame < length self.old.frames }
+        ensures { self.new ≡ self.old }
+    {
+        self.hand = frame;
     }
 
     fn victim_in(&self, from: u32, to: u32) -> Option<PageName>

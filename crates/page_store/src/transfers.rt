@@ -87,7 +87,6 @@ impl<D: Disk> Store<D> {
                     own,
                     seat,
                 );
-                self.hand = frame.number();
                 Flight {
                     seat,
                     number: disk,

@@ -97,15 +97,11 @@ is g c =
 pub invariant_of-self : goal.invariant_of-self
 invariant_of-self g c =
     let i = is g (goal.at.invariant_of-self g c).After-take in
-    let count : length c.args.self.now.frames ≡ c.self.inside.frames = sym (ap (λ (x : StoreSeen). length x.frames) c.self.view_is) ∙ c.self.invariant.counted in
-    let taken : c.take_out-frame.result.number < length c.args.self.now.frames = out-within c.args.self.now c.in-Some.own c.take_out-frame.result.number
-    (next_frame c.args.self.now) (subst IsSoundStore c.self.view_is c.self.invariant.sound) refl i.frame (bytes-within c.args.self.now.frames c.in-Some.own i.page.bytes i.page.there) in
-    let n = c.number-self-inside.ensures in
     record {
       sound = subst IsSoundStore (sym i.new) i.laws.sound;
       counted = rw c.take_out-frame.ensures.core (length-set c.self.inside.core.frames c.take_out-frame.result.number None ∙ c.self.invariant.counted);
       listed = rw c.take_out-frame.ensures.lists c.self.invariant.listed;
-      pointer = omega arith;
+      pointer = c.self.invariant.pointer;
     }
 
 pub returns-clause-frame : goal.returns-clause-frame

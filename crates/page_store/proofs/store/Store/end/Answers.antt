@@ -134,7 +134,7 @@ invariant_of-self g c =
       sound = subst IsSoundStore (sym i.new) i.laws.sound;
       counted = rw c.put.ensures.new (length-set c.self.inside.core.frames c.flight.inside.frame.number _ ∙ c.self.invariant.counted);
       listed = ap (λ (l : ListsSeen). l.frames) c.land.ensures.lists ∙ c.self.invariant.listed;
-      pointer = c.self.invariant.pointer;
+      pointer = c.next_hand-self-inside.ensures.within;
     }
 
 pub returns-clause-new : goal.returns-clause-new
