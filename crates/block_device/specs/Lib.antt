@@ -1,6 +1,7 @@
 pub mod Counts
 pub mod DiskSeen
 pub mod Faults
+pub mod Joins
 pub mod MemDiskLook
 pub mod MemRackSeen
 pub mod MemSeen

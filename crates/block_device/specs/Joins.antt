@@ -1,0 +1,10 @@
+-- What is seen of a disk that stands for two disks. Public clauses cite this.
+use Rattle.std.specs.Prelude.{ℕ, ◌+◌, ◌-◌, ◌^◌, min, List, Option, option_map, option_and_then}
+
+-- The sum of two counts; it stops at 2^64 - 1.
+abbrev pub count_sum : ℕ → ℕ → ℕ
+count_sum one other = min (one + other) (2 ^ 64 - 1)
+
+-- the content that two contents make together, told where both are told
+abbrev pub content_of_both : (List (List ℕ) → List (List ℕ) → List (List ℕ)) → Option (List (List ℕ)) → Option (List (List ℕ)) → Option (List (List ℕ))
+content_of_both make one other = option_and_then (λ blocks. option_map (make blocks) other) one
