@@ -1,0 +1,4 @@
+pub mod BitSeen
+pub mod MirrorBlocks
+pub mod MirrorLook
+pub mod MirrorSeen

@@ -1,0 +1,3 @@
+pub mod StripeBlocks
+pub mod StripeLook
+pub mod StripeSeen
