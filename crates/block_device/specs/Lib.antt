@@ -7,5 +7,6 @@ pub mod MemRackSeen
 pub mod MemSeen
 pub mod OpenSeen
 pub mod Opening
+pub mod Pairs
 pub mod RackSeen
 pub mod StreamSeen

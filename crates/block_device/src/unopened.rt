@@ -1,9 +1,11 @@
 //! Disks before the machine runs.
-ghost use Rattle.std.specs.Prelude.{◌≡◌, ◌<◌, length, IfErr};
+ghost use Rattle.std.specs.Prelude.{◌≡◌, ◌<◌, length, option_map, IfOk, IfErr};
 ghost use Rattle.block_device.specs.DiskSeen.{Reads, Writes};
 ghost use Rattle.block_device.specs.Opening.{Opens, IsDiskFault};
+ghost use Rattle.block_device.specs.Pairs.{CanPair};
 
-use crate::{Disk, NumberedDisk, OpenFault, Rack, RackFault, Spec};
+use crate::{Disk, NumberedDisk, OpenFault, Pairing, Rack, RackFault, Spec};
+use std::alloc::Global;
 use std::marker::Model;
 use thiserror::Error;
 
@@ -44,6 +46,15 @@ impl<D: Disk> Unopened<D> {
             }),
             Err(RackFault::Failed) => Err(AttachFault::Failed(OpenFault::of_rack(number))),
             Err(RackFault::Memory) => Err(AttachFault::Memory),
+        }
+    }
+
+    // The disk under a number.
+    fn of(number: u32, disk: D) -> Unopened<D>
+        ensures { result ≡ record { number = number; disk = disk } }
+    {
+        Unopened {
+            disk: NumberedDisk { number, disk },
         }
     }
 
@@ -89,6 +100,34 @@ impl<D: Disk> Unopened<D> {
         match self.disk.write(block, from) {
             Ok(()) => Ok(()),
             Err(fault) => Err(OpenFault::of_disk(fault)),
+        }
+    }
+
+    /// The disk that stands for this one, or for this one and another: mirrored or striped. It has this one's
+    /// number. The error is want of memory, and gives the disks back.
+    pub fn pair<P: Pairing<D>>(
+        self,
+        alloc: Global,
+        other: Option<Unopened<D>>,
+        mirror: bool,
+    ) -> Result<Unopened<P>, (Unopened<D>, Option<Unopened<D>>)>
+        requires { CanPair D.seen self.disk (option_map (λ d. d.disk) other) mirror }
+        ensures pair { IfOk result (λ pair.
+            P.pairs self.disk (option_map (λ d. d.disk) other) mirror pair.disk) }
+        ensures number { IfOk result (λ pair. pair.number ≡ self.number) }
+        ensures back { IfErr result (λ disks. disks ≡ (self, other)) }
+    {
+        let NumberedDisk { number, disk } = self.disk;
+        let (second, other) = match other {
+            Some(other) => (other.disk.number, Some(other.disk.disk)),
+            None => (number, None),
+        };
+        match P::pair(alloc, disk, other, mirror) {
+            Ok(disk) => Ok(Unopened::of(number, disk)),
+            Err((disk, other)) => Err((
+                Unopened::of(number, disk),
+                other.map(|disk| Unopened::of(second, disk)),
+            )),
         }
     }
 
