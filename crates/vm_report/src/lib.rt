@@ -11,8 +11,6 @@ mod quick;
 mod results;
 mod sections;
 mod summaries;
-#[cfg(test)]
-mod tests;
 mod text;
 mod traces;
 mod well_formed;

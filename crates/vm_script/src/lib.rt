@@ -19,8 +19,6 @@ mod setup_lines;
 mod splitting;
 mod statement;
 mod statements;
-#[cfg(test)]
-mod tests;
 
 pub use byte_text::ByteText;
 pub use counts::{MOST_ENTRIES, parts};

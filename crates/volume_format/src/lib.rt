@@ -11,6 +11,3 @@ pub use reading::decode;
 pub use rules::BadVolume;
 pub use table::Table;
 pub use writing::encode;
-
-#[cfg(test)]
-mod tests;

@@ -1,11 +1,11 @@
 //! The worked scripts' histories, by hand, give their reports letter by letter.
-use crate::{
+use std::alloc::{AllocError, Global};
+use std::test::Fail;
+use vm_report::{
     are_well_formed, disk_fault, file_heading, file_lines, process_section, process_sections,
     rack_fault, script_fault, setup_fault, summary, trace_entries, trace_file, trace_opening,
     volume_fault,
 };
-use std::alloc::{AllocError, Global};
-use std::test::Fail;
 use vm_script::{ScriptFault, ScriptKind, parse};
 use vm_types::{Call, Entry, Errno, Kind, Line, Object, Place, Prot, Reply, Signal};
 
@@ -91,18 +91,36 @@ fn exit(process: u32) -> Entry {
     entry(process, Call::Exit, Reply::Done)
 }
 
-// The sections of a script's processes, over this history.
-fn report(alloc: Global, script: &str, history: &[Entry]) -> Result<Vec<u8>, AllocError> {
-    let mut out = Vec::new(alloc);
+// Writes the sections of a script's processes, over this history.
+fn put_report(
+    alloc: Global,
+    script: &str,
+    history: &[Entry],
+    out: &mut Vec<u8>,
+) -> Result<(), AllocError> {
     if !are_well_formed(history) || history.len() > 1_048_576 {
-        return Ok(out);
+        return Ok(());
     }
     if let Ok(plan) = parse(alloc, script.as_bytes())? {
         if plan.parents().len() < 1000 {
-            process_sections(&plan, history, &mut out)?;
+            process_sections(&plan, history, out)?;
         }
     }
-    Ok(out)
+    Ok(())
+}
+
+// The report of a script over this history is this text.
+fn is_reported(alloc: Global, script: &str, history: &[Entry], text: &str) -> Result<(), Fail> {
+    let mut out = Vec::new(alloc);
+    put_report(alloc, script, history, &mut out)?;
+    is_text(&out, text)
+}
+
+fn is_text(out: &[u8], text: &str) -> Result<(), Fail> {
+    if out != text.as_bytes() {
+        return Err(Fail::new("the text is another"));
+    }
+    Ok(())
 }
 
 #[test]
@@ -122,11 +140,7 @@ fn copy_on_write_on_both_sides(rt: HostRuntime) -> Result<(), Fail> {
     ];
     let text =
         "process 1\n2 map 0x00002000\n3 store ok\n4 fork 2\n8 store ok\n9 load 0x33\n10 exit ok\nprocess 2\n5 store ok\n6 load 0x22\n7 exit ok\n";
-    assert_eq!(rt;
-        report(rt.alloc(), script, &history)?.as_slice(),
-        text.as_bytes()
-    );
-    Ok(())
+    is_reported(rt.alloc(), script, &history, text)
 }
 
 #[test]
@@ -150,15 +164,11 @@ fn reserved_and_not_used(rt: HostRuntime) -> Result<(), Fail> {
     ];
     let text =
         "process 1\n3 map 0x00002000\n4 fork error 3 NoSwap\n6 unmap ok\n7 fork 3\n9 exit ok\nprocess 2 not born\nprocess 3\n8 exit ok\n";
-    assert_eq!(rt;
-        report(rt.alloc(), script, &history)?.as_slice(),
-        text.as_bytes()
-    );
-    Ok(())
+    is_reported(rt.alloc(), script, &history, text)
 }
 
 #[test]
-fn growth_with_its_files(rt: HostRuntime) -> Result<(), Fail> {
+fn growth(rt: HostRuntime) -> Result<(), Fail> {
     let script =
         "process\nload 0x3000 1\nwrite a 4096 5a\nload 0x3000 1\nread b 0 16\nwait\nwrite a 4090 03030303030303\nread a 60 8\nend";
     let history = [
@@ -181,16 +191,27 @@ fn growth_with_its_files(rt: HostRuntime) -> Result<(), Fail> {
         ),
         exit(1),
     ];
-    let mut out = report(rt.alloc(), script, &history)?;
-    let mut bytes = vec![in rt.alloc(); 0; 4097]?;
+    let text =
+        "process 1\n2 load BUS past\n3 write 1\n4 load 0x5a\n5 read 9 68656c6c6f00000058\n7 write 6 error 8 TooBig\n8 read 4 61626364 error io 0 0 1\n9 exit ok\n";
+    is_reported(rt.alloc(), script, &history, text)
+}
+
+// Writes a file of 4097 bytes, of which two aren't zeros.
+fn put_file(alloc: Global, out: &mut Vec<u8>) -> Result<(), AllocError> {
+    let mut bytes = vec![in alloc; 0; 4097]?;
     bytes[4] = b'o';
     bytes[4096] = 0x5a;
-    file_heading(b"a", 4097, &mut out)?;
-    file_lines(0, &bytes, &mut out)?;
+    file_heading(b"a", 4097, out)?;
+    file_lines(0, &bytes, out)
+}
+
+#[test]
+fn a_file_with_its_lines(rt: HostRuntime) -> Result<(), Fail> {
+    let mut out = Vec::new(rt.alloc());
+    put_file(rt.alloc(), &mut out)?;
     let text =
-        "process 1\n2 load BUS past\n3 write 1\n4 load 0x5a\n5 read 9 68656c6c6f00000058\n7 write 6 error 8 TooBig\n8 read 4 61626364 error io 0 0 1\n9 exit ok\nfile a 4097\n00000000 000000006f000000000000000000000000000000000000000000000000000000\n00001000 5a\n";
-    assert_eq!(rt; out.as_slice(), text.as_bytes());
-    Ok(())
+        "file a 4097\n00000000 000000006f000000000000000000000000000000000000000000000000000000\n00001000 5a\n";
+    is_text(&out, text)
 }
 
 #[test]
@@ -224,11 +245,7 @@ fn refusals(rt: HostRuntime) -> Result<(), Fail> {
     ];
     let text =
         "process 1\n2 map error 5 TooLarge\n3 map 0x00001000\n4 map error 4 NoRoom\n5 write 0 error 7 ReadOnly\n6 map error 2 Access\n7 read 0 error 9 NoObject\n8 unmap error 1 Invalid\n9 sync error 6 NotMapped\n10 exit ok\n";
-    assert_eq!(rt;
-        report(rt.alloc(), script, &history)?.as_slice(),
-        text.as_bytes()
-    );
-    Ok(())
+    is_reported(rt.alloc(), script, &history, text)
 }
 
 #[test]
@@ -253,52 +270,66 @@ fn words_of_each_size(rt: HostRuntime) -> Result<(), Fail> {
     ];
     let text =
         "process 1\n2 load 0x68\n3 load 0x6865\n4 load 0x68656c0a\n5 store SEGV prot\n6 load SEGV nomap\n7 exit ok\n";
-    assert_eq!(rt;
-        report(rt.alloc(), script, &history)?.as_slice(),
-        text.as_bytes()
-    );
-    Ok(())
+    is_reported(rt.alloc(), script, &history, text)
+}
+
+// Writes a trace with its opening, and a summary.
+fn put_trace(history: &[Entry], out: &mut Vec<u8>) -> Result<(), AllocError> {
+    trace_opening(64, &[(0, 8)], &[0, 1], out)?;
+    trace_file(0, b"a", true, 0, 5, &[(1, 2), (5, 1)], out)?;
+    file_lines(0, b"hello", out)?;
+    if are_well_formed(history) {
+        trace_entries(history, out)?;
+    }
+    summary(3, history, out)
 }
 
 #[test]
 fn a_trace_and_a_summary(rt: HostRuntime) -> Result<(), Fail> {
     let mut out = Vec::new(rt.alloc());
-    trace_opening(64, &[(0, 8)], &[0, 1], &mut out)?;
-    trace_file(0, b"a", true, 0, 5, &[(1, 2), (5, 1)], &mut out)?;
-    file_lines(0, b"hello", &mut out)?;
     let history = [load(1, 0x2001, Reply::Word(0x65)), store(1, 0x4a), exit(1)];
-    if are_well_formed(&history) {
-        trace_entries(&history, &mut out)?;
-    }
-    summary(3, &history, &mut out)?;
+    put_trace(&history, &mut out)?;
     let text =
         "trace swap 64\ndisk 0 8\nroot 1\nfile 0 a rw 0 5 1+2,5+1\n00000000 68656c6c6f\nentries 3\n1 0000000000000000 load 0x00002001 1 = 0x65\n1 0000000000000000 store 0x00002000 1 0x4a = ok\n1 0000000000000000 exit = ok\nmake 3 entries 3 signals 0 refusals 0 sum 101\n";
-    assert_eq!(rt; out.as_slice(), text.as_bytes());
+    is_text(&out, text)
+}
+
+// Writes a line for each kind of fault.
+fn put_faults(out: &mut Vec<u8>) -> Result<(), AllocError> {
+    let fault = ScriptFault {
+        line: 7,
+        kind: ScriptKind::Word,
+    };
+    script_fault(&fault, out)?;
+    setup_fault(1, out)?;
+    volume_fault(0, 8, out)?;
+    disk_fault(0, 0, 1, out)?;
+    rack_fault(2, out)
+}
+
+#[test]
+fn faults(rt: HostRuntime) -> Result<(), Fail> {
+    let mut out = Vec::new(rt.alloc());
+    put_faults(&mut out)?;
+    let text =
+        "script: line 7: word\nsetup: rule 1\nsetup: rule 9 disk 0 volume 8\nfault: disk 0 0 1\nfault: rack 2\n";
+    is_text(&out, text)
+}
+
+// Writes the section of process 2 alone.
+fn put_section(alloc: Global, out: &mut Vec<u8>) -> Result<(), AllocError> {
+    let history = [exit(2), exit(1)];
+    if let Ok(plan) = parse(alloc, b"process\nend\nprocess\nend")? {
+        if are_well_formed(&history) {
+            process_section(&plan, 2, &history, out)?;
+        }
+    }
     Ok(())
 }
 
 #[test]
-fn faults_and_one_section(rt: HostRuntime) -> Result<(), Fail> {
+fn one_section(rt: HostRuntime) -> Result<(), Fail> {
     let mut out = Vec::new(rt.alloc());
-    script_fault(
-        &ScriptFault {
-            line: 7,
-            kind: ScriptKind::Word,
-        },
-        &mut out,
-    )?;
-    setup_fault(1, &mut out)?;
-    volume_fault(0, 8, &mut out)?;
-    disk_fault(0, 0, 1, &mut out)?;
-    rack_fault(2, &mut out)?;
-    if let Ok(plan) = parse(rt.alloc(), b"process\nend\nprocess\nend")? {
-        let history = [exit(2), exit(1)];
-        if are_well_formed(&history) {
-            process_section(&plan, 2, &history, &mut out)?;
-        }
-    }
-    let text =
-        "script: line 7: word\nsetup: rule 1\nsetup: rule 9 disk 0 volume 8\nfault: disk 0 0 1\nfault: rack 2\nprocess 2\n4 exit ok\n";
-    assert_eq!(rt; out.as_slice(), text.as_bytes());
-    Ok(())
+    put_section(rt.alloc(), &mut out)?;
+    is_text(&out, "process 2\n4 exit ok\n")
 }

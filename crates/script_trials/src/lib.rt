@@ -1,0 +1,13 @@
+//! Trials of scripts, of every printed text and of tables of files, with values worked out by hand. There is nothing here but tests.
+#![tactic(auto)]
+
+#[cfg(test)]
+mod fault_tests;
+#[cfg(test)]
+mod generated_tests;
+#[cfg(test)]
+mod plan_tests;
+#[cfg(test)]
+mod report_tests;
+#[cfg(test)]
+mod volume_tests;
