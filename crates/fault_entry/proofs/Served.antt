@@ -1,5 +1,5 @@
 -- What is answered to a load or a store, by what it reaches.
-use Rattle.std.proofs.Common.{◌≡◌, ℕ, ◌%◌, Bool, true, false, List, Option, Some, None, refl, sym, ap, ◌∙◌, subst}
+use Rattle.std.proofs.Common.{◌≡◌, ℕ, ◌%◌, Bool, true, false, List, Option, Some, None, Result, Ok, Err, refl, sym, ap, ◌∙◌, subst}
 use Rattle.std.specs.FinSet as set
 use Rattle.std.specs.Ordering.{nat_cmp}
 use Rattle.std.proofs.lemmas.Bool.{eq-eqb}
@@ -39,7 +39,10 @@ use Rattle.seg_ops.specs.Faults.{Accesses}
 use Rattle.seg_ops.specs.SlotsDue.{MapPlace, MakesSlotAt, slot_due}
 use Rattle.seg_vn.proofs.SlotsDue.{made-still}
 use Rattle.fault_entry.specs.Accesses.{IsShown, ServesWord}
-use Rattle.fault_entry.specs.Reaching.{ServesAccess, after_reach}
+use Rattle.fault_entry.specs.Answers.{attempt_wanting}
+use Rattle.fault_entry.specs.Reaching.{ServesAccess, after_reach, MayReach}
+use Rattle.vm_world.specs.declared.wants.Wants.{Wants}
+use Rattle.vm_world.specs.declared.wants.Wants.TheVariants as wants
 use Rattle.fault_entry.specs.declared.access.AccessStep.{AccessStep}
 use Rattle.fault_entry.specs.declared.access.AccessStep.TheVariants as access
 use Rattle.fault_entry.proofs.Joined.{acts-after, store-same}
@@ -47,15 +50,15 @@ use Rattle.fault_entry.proofs.Targets.{there}
 use Rattle.fault_entry.proofs.Words.{load-signals, store-signals, load-acts, store-acts}
 
 -- what the change before it was leaves flat memory well formed
-reach-whole : (answer : AccessStep) (write : Bool) (F : Flat) (p q : ℕ) → IsFlat F → IsFlat (after_reach answer write F p q)
-reach-whole (access.Reached frame) true F p q flat = own_shown_law.whole F p q flat
-reach-whole (access.Reached frame) false F p q flat = flat
-reach-whole (access.Refused s) write F p q flat = flat
-reach-whole (access.Need plan) write F p q flat = flat
-reach-whole (access.Busy h) write F p q flat = flat
+reach-whole : (answer : Result AccessStep Wants) (write : Bool) (F : Flat) (p q : ℕ) → IsFlat F → IsFlat (after_reach answer write F p q)
+reach-whole (Ok (access.Reached frame)) true F p q flat = own_shown_law.whole F p q flat
+reach-whole (Ok (access.Reached frame)) false F p q flat = flat
+reach-whole (Ok (access.Refused s)) write F p q flat = flat
+reach-whole (Err (wants.Transfer plan)) write F p q flat = flat
+reach-whole (Err (wants.Seat h)) write F p q flat = flat
 
 -- frames are taken, a page may be made, and then pages change
-done-serves : (old new : World) (made : World) (spaces : Spaces) (pending more p a n : ℕ) (write : Bool) (answer : AccessStep) (c : Call) (r : Reply) → (s : ServesAccess (memory_of old spaces) (memory_of made spaces) pending more p a n write answer)
+done-serves : (old new : World) (made : World) (spaces : Spaces) (pending more p a n : ℕ) (write : Bool) (answer : Result AccessStep Wants) (c : Call) (r : Reply) → (s : ServesAccess (memory_of old spaces) (memory_of made spaces) pending more p a n write answer)
     → ((cleared : ℕ) (born : set.FinSet nat_cmp) (notes : Notes) → IsDue (after_reach answer write (flat_memory (memory_of s.mid spaces) born notes) p (page a)) (record { process = p; call = c; reply = r; cleared = cleared })
     → IsDue (flat_memory (memory_of s.mid spaces) born notes) (record { process = p; call = c; reply = r; cleared = cleared })
     × (after_act (after_reach answer write (flat_memory (memory_of s.mid spaces) born notes) p (page a)) (record { process = p; call = c; reply = r; cleared = cleared }) ≡ after_act (flat_memory (memory_of s.mid spaces) born notes) (record { process = p; call = c; reply = r; cleared = cleared })))
@@ -77,10 +80,10 @@ shown-there w spaces p q t f there =
     record { translation = t; loaded = there; spot = h.shows.spot; here = h.shows.here; name = h.name; shows = h.shows.shows; home = h.home }
 
 -- A WORD is put.
-pub store-reached : (old mid new : World) (spaces : Spaces) (pending more p a n frame v : ℕ) → ServesAccess (memory_of old spaces) (memory_of mid spaces) pending more p a n true (access.Reached frame) → WritesWord mid new spaces p a n v → new.hat ≡ mid.hat
+pub store-reached : (old mid new : World) (spaces : Spaces) (pending more p a n frame v : ℕ) → ServesAccess (memory_of old spaces) (memory_of mid spaces) pending more p a n true (Ok (access.Reached frame)) → WritesWord mid new spaces p a n v → new.hat ≡ mid.hat
     → new.anon ≡ mid.anon → new.maps ≡ mid.maps → ServesWord (memory_of old spaces) (memory_of new spaces) pending more p (page a) (call.Store a n v) (attempt.Done reply.Done)
 store-reached old mid new spaces pending more p a n frame v s writes hat anon maps = record {
-  serves = done-serves old new mid spaces pending more p a n true (access.Reached frame) (call.Store a n v) reply.Done s
+  serves = done-serves old new mid spaces pending more p a n true (Ok (access.Reached frame)) (call.Store a n v) reply.Done s
       (λ cleared born notes due. store-same (flat_memory (memory_of s.mid spaces) born notes) p a n v cleared (cell_of (contents_of s.mid notes).place s.means.spot) (eq-eqb (a % n) 0 s.means.aligned)
       (there s.mid spaces born notes p a n can_write s.means.spot s.means.here) s.means.allowed due)
       (λ cleared. store-acts mid new spaces p a n frame v cleared s.acts.memory s.means writes);
@@ -91,38 +94,38 @@ store-reached old mid new spaces pending more p a n frame v s writes hat anon ma
 
 module _ (old new : World) (spaces : Spaces) (pending more p a n : ℕ) where
   -- A WORD is read.
-  pub load-reached : (frame word : ℕ) → ServesAccess (memory_of old spaces) (memory_of new spaces) pending more p a n false (access.Reached frame) → ReadsWord new spaces p a n word
+  pub load-reached : (frame word : ℕ) → ServesAccess (memory_of old spaces) (memory_of new spaces) pending more p a n false (Ok (access.Reached frame)) → ReadsWord new spaces p a n word
       → ServesWord (memory_of old spaces) (memory_of new spaces) pending more p (page a) (call.Load a n) (attempt.Done (reply.Word word))
   load-reached frame word s reads =
       let f = s.acts.memory in
       record {
-        serves = done-serves old new new spaces pending more p a n false (access.Reached frame) (call.Load a n) (reply.Word word) s (λ cleared born notes due. (due, refl)) (λ cleared. load-acts new spaces p a n frame word cleared f s.means reads);
+        serves = done-serves old new new spaces pending more p a n false (Ok (access.Reached frame)) (call.Load a n) (reply.Word word) s (λ cleared born notes due. (due, refl)) (λ cleared. load-acts new spaces p a n frame word cleared f s.means reads);
         due = tt;
         shown = shown-there new spaces p (page a) s.means.noted.entry f s.means.noted.there;
         slots = s.slots;
       }
 
   -- A SIGNAL is due.
-  pub load-refused : (s : Signal) → ServesAccess (memory_of old spaces) (memory_of new spaces) pending more p a n false (access.Refused s)
+  pub load-refused : (s : Signal) → ServesAccess (memory_of old spaces) (memory_of new spaces) pending more p a n false (Ok (access.Refused s))
       → ServesWord (memory_of old spaces) (memory_of new spaces) pending more p (page a) (call.Load a n) (attempt.Done (reply.Signal s))
   load-refused s r = record {
-    serves = done-serves old new new spaces pending more p a n false (access.Refused s) (call.Load a n) (reply.Signal s) r (λ cleared born notes due. (due, refl)) (λ cleared. load-signals new spaces p a n cleared s r.acts.memory r.means);
+    serves = done-serves old new new spaces pending more p a n false (Ok (access.Refused s)) (call.Load a n) (reply.Signal s) r (λ cleared born notes due. (due, refl)) (λ cleared. load-signals new spaces p a n cleared s r.acts.memory r.means);
     due = tt;
     shown = tt;
     slots = r.slots;
   }
 
-  pub store-refused : (v : ℕ) (s : Signal) → ServesAccess (memory_of old spaces) (memory_of new spaces) pending more p a n true (access.Refused s)
+  pub store-refused : (v : ℕ) (s : Signal) → ServesAccess (memory_of old spaces) (memory_of new spaces) pending more p a n true (Ok (access.Refused s))
       → ServesWord (memory_of old spaces) (memory_of new spaces) pending more p (page a) (call.Store a n v) (attempt.Done (reply.Signal s))
   store-refused v s r = record {
-    serves = done-serves old new new spaces pending more p a n true (access.Refused s) (call.Store a n v) (reply.Signal s) r (λ cleared born notes due. (due, refl)) (λ cleared. store-signals new spaces p a n v cleared s r.acts.memory r.means);
+    serves = done-serves old new new spaces pending more p a n true (Ok (access.Refused s)) (call.Store a n v) (reply.Signal s) r (λ cleared born notes due. (due, refl)) (λ cleared. store-signals new spaces p a n v cleared s r.acts.memory r.means);
     due = tt;
     shown = tt;
     slots = r.slots;
   }
 
   -- IT WAITS.
-  pub access-needs : (write : Bool) (c : Call) (plan : Plan) → Accesses write (page a) c → ServesAccess (memory_of old spaces) (memory_of new spaces) pending more p a n write (access.Need plan) → MayMeetFault (memory_of new spaces) p c
+  pub access-needs : (write : Bool) (c : Call) (plan : Plan) → Accesses write (page a) c → ServesAccess (memory_of old spaces) (memory_of new spaces) pending more p a n write (Err (wants.Transfer plan)) → MayMeetFault (memory_of new spaces) p c
       → ServesWord (memory_of old spaces) (memory_of new spaces) pending more p (page a) c (attempt.Need plan)
   access-needs write c plan at s fault =
       let needs = s.means.0 in
@@ -133,7 +136,7 @@ module _ (old new : World) (spaces : Spaces) (pending more p a n : ℕ) where
         slots = s.slots;
       }
 
-  pub access-busy : (write : Bool) (c : Call) (h : Hold) → Accesses write (page a) c → ServesAccess (memory_of old spaces) (memory_of new spaces) pending more p a n write (access.Busy h) → MayMeetFault (memory_of new spaces) p c
+  pub access-busy : (write : Bool) (c : Call) (h : Hold) → Accesses write (page a) c → ServesAccess (memory_of old spaces) (memory_of new spaces) pending more p a n write (Err (wants.Seat h)) → MayMeetFault (memory_of new spaces) p c
       → ServesWord (memory_of old spaces) (memory_of new spaces) pending more p (page a) c (attempt.Busy h)
   access-busy write c h at s fault = record {
     serves = λ calls. record { first = subst (λ (w : World). TakesFrames (memory_of old spaces) w pending more) (sym s.ends) s.first; spaces = refl; holds = s.means.0 calls c at };
@@ -141,3 +144,8 @@ module _ (old new : World) (spaces : Spaces) (pending more p a n : ℕ) where
     shown = tt;
     slots = s.slots;
   }
+
+  pub access-waits : (write : Bool) (c : Call) (want : Wants) → Accesses write (page a) c → (MayReach (memory_of new spaces) p a n write → MayMeetFault (memory_of new spaces) p c)
+      → ServesAccess (memory_of old spaces) (memory_of new spaces) pending more p a n write (Err want) → ServesWord (memory_of old spaces) (memory_of new spaces) pending more p (page a) c (attempt_wanting want)
+  access-waits write c (wants.Transfer plan) at may s = access-needs write c plan at s (may s.means.1)
+  access-waits write c (wants.Seat h) at may s = access-busy write c h at s (may s.means.1)

@@ -1,5 +1,5 @@
 -- What an access comes to before its word is moved. Inside: no public clause cites this.
-use Rattle.std.specs.Prelude.{◌≡◌, ℕ, ◌%◌, Bool, true, List, Option, Some, Err, if◌then◌else◌}
+use Rattle.std.specs.Prelude.{◌≡◌, ℕ, ◌%◌, Bool, true, List, Option, Some, Result, Ok, Err, if◌then◌else◌}
 use Rattle.std.specs.FinSet as set
 use Rattle.std.specs.Ordering.{nat_cmp}
 use Rattle.hat_layer.specs.Pool.{IsNoted}
@@ -21,7 +21,9 @@ use Rattle.seg_ops.specs.OwnPages.{with_own_shown}
 use Rattle.seg_ops.specs.Faults.{Accesses, NeedsTransfer}
 use Rattle.seg_ops.specs.SlotsDue.{KeepsSlots, MakesSlotAt, slot_due}
 use Rattle.fault_entry.specs.declared.access.AccessStep.{AccessStep}
-use Rattle.fault_entry.specs.declared.access.AccessStep.TheVariants.{Reached, Refused, Need, Busy}
+use Rattle.fault_entry.specs.declared.access.AccessStep.TheVariants.{Reached, Refused}
+use Rattle.vm_world.specs.declared.wants.Wants.{Wants}
+use Rattle.vm_world.specs.declared.wants.Wants.TheVariants.{Transfer, Seat}
 
 -- A protection lets a store, or a load.
 abbrev pub may_access : Bool → Prot → Bool
@@ -39,30 +41,30 @@ pub record ReachesPage (m : Memory) (p a n frame : ℕ) (write : Bool) : Type 0 
 abbrev pub MayReach : Memory → ℕ → ℕ → ℕ → Bool → Type 0
 MayReach m p a n write = (born : set.FinSet nat_cmp) (notes : Notes) → IsPastAtMost (access_target (flat_memory m born notes) p (may_access write) a n)
 
-abbrev pub AccessMeans : Memory → Memory → ℕ → ℕ → ℕ → Bool → AccessStep → Type 0
-AccessMeans old new p a n write (Reached frame) = ReachesPage new p a n frame write
-AccessMeans old new p a n write (Refused s) = (born : set.FinSet nat_cmp) (notes : Notes) → access_target (flat_memory new born notes) p (may_access write) a n ≡ Err s
-AccessMeans old new p a n write (Need plan) = NeedsTransfer old new p (page a) write plan × MayReach new p a n write
-AccessMeans old new p a n write (Busy h) =
+abbrev pub AccessMeans : Memory → Memory → ℕ → ℕ → ℕ → Bool → Result AccessStep Wants → Type 0
+AccessMeans old new p a n write (Ok (Reached frame)) = ReachesPage new p a n frame write
+AccessMeans old new p a n write (Ok (Refused s)) = (born : set.FinSet nat_cmp) (notes : Notes) → access_target (flat_memory new born notes) p (may_access write) a n ≡ Err s
+AccessMeans old new p a n write (Err (Transfer plan)) = NeedsTransfer old new p (page a) write plan × MayReach new p a n write
+AccessMeans old new p a n write (Err (Seat h)) =
     ((calls : List (Option ℕ)) (call : Call) → Accesses write (page a) call → HoldsUp new calls p call h) × MayReach new p a n write
 
 -- Flat memory as the access goes to its frame: a store to a private page finds that page its own.
-abbrev pub after_reach : AccessStep → Bool → Flat → ℕ → ℕ → Flat
-after_reach (Reached frame) true F p q = with_own_shown F p q
+abbrev pub after_reach : Result AccessStep Wants → Bool → Flat → ℕ → ℕ → Flat
+after_reach (Ok (Reached frame)) true F p q = with_own_shown F p q
 after_reach answer write F p q = F
 
 -- Nothing follows what took frames, unless the access goes to a frame.
-abbrev pub EndsReach : AccessStep → World → World → Type 0
-EndsReach (Reached frame) mid new = Unit {0}
+abbrev pub EndsReach : Result AccessStep Wants → World → World → Type 0
+EndsReach (Ok (Reached frame)) mid new = Unit {0}
 EndsReach answer mid new = new ≡ mid
 
 -- A slot was made exactly where one is due, as the access goes to its frame.
-abbrev pub ReachSlots : Memory → World → ℕ → ℕ → Bool → AccessStep → Type 0
-ReachSlots old new p q write (Reached frame) = (x : Spot) → spot_at old.spaces p q ≡ Some x → MakesSlotAt old.world new (slot_due old.world.anon old.world.maps x write)
+abbrev pub ReachSlots : Memory → World → ℕ → ℕ → Bool → Result AccessStep Wants → Type 0
+ReachSlots old new p q write (Ok (Reached frame)) = (x : Spot) → spot_at old.spaces p q ≡ Some x → MakesSlotAt old.world new (slot_due old.world.anon old.world.maps x write)
 ReachSlots old new p q write answer = KeepsSlots old.world new
 
 -- Frames may be taken for other pages, then a page may be made, with its slot, and the access comes to this.
-pub record ServesAccess (old new : Memory) (pending more p a n : ℕ) (write : Bool) (answer : AccessStep) : Type 0 where
+pub record ServesAccess (old new : Memory) (pending more p a n : ℕ) (write : Bool) (answer : Result AccessStep Wants) : Type 0 where
   pub mid : World
   pub first : TakesFrames old mid pending more
   pub acts : ChangesMemory p (record old { world = mid }) new (λ F G. G ≡ after_reach answer write F p (page a))

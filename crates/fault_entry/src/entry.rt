@@ -1,15 +1,12 @@
 //! Loads and stores.
-ghost use Rattle.std.specs.Prelude.{◌≡◌, ◌≢◌, ℕ, Some, IsSome};
+ghost use Rattle.std.specs.Prelude.{◌≡◌, ℕ, Some, IsSome};
 ghost use Rattle.std.specs.FinMap as finite;
-ghost use Rattle.core_arena.specs.Bytes.{bytes_at};
 ghost use Rattle.flat_model.specs.Words.{page};
-ghost use Rattle.page_store.specs.Notes.{Notes};
 ghost use Rattle.vm_types.specs.Words.{IsWordSize, FitsWord};
 ghost use Rattle.vm_types.specs.declared.call.Call.TheVariants.{Load, Store};
-ghost use Rattle.vm_world.specs.MemoryFits.{MemoryFits};
-ghost use Rattle.vm_world.specs.NotesFit.{NotesFit};
 ghost use Rattle.vm_world.specs.Segments as segments;
 ghost use Rattle.vm_world.specs.Wants.{accessed_page};
+ghost use Rattle.vm_world.specs.Words.{memory, Fits, IsKnown, TwoAreHome};
 ghost use Rattle.vm_world.specs.World.{world_seen};
 ghost use Rattle.seg_vn.specs.Serves.{Serves};
 ghost use Rattle.fault_entry.specs.Accesses.{IsAccess, ServesWord, MayBeAnswered, IsShownWhereDone, SlotsWhereDone, is_store};
@@ -33,28 +30,22 @@ fn load<D: Disk>(
     size: u32,
 ) -> Answer
     requires size { IsWordSize size }
-    requires home { (beside : ℕ) → (frame : ℕ) × (frame ≢ beside)
-        × IsSome (bytes_at world.old.store.frames frame) }
-    requires fits { (spaces : segments.Spaces)
-        × MemoryFits (record { world = world_seen world.old; spaces = spaces })
+    requires home { TwoAreHome world.old.store }
+    requires fits { (spaces : segments.Spaces) × Fits world.old spaces
         × (finite.get spaces process ≡ Some space.now.parts) }
-    requires noted { (notes : Notes) × NotesFit (world_seen world.old) notes }
+    requires noted { IsKnown world.old }
     // What is answered.
-    ensures serves { (spaces : segments.Spaces)
-        → MemoryFits (record { world = world_seen world.old; spaces = spaces })
+    ensures serves { (spaces : segments.Spaces) → Fits world.old spaces
         → finite.get spaces process ≡ Some space.now.parts
-        → ServesWord (record { world = world_seen world.old; spaces = spaces })
-        (record { world = world_seen world.new; spaces = spaces })
-        world.old.pending world.new.pending process (page addr) (Load addr size)
-        (attempt_of result) }
+        → ServesWord (memory world.old spaces) (memory world.new spaces) world.old.pending
+        world.new.pending process (page addr) (Load addr size) (attempt_of result) }
     // What stays.
     ensures zeros { world.new.zeros ≡ world.old.zeros }
 {
     match reach(world, space, process, addr, size, false) {
-        AccessStep::Reached(frame) => Answer::Word(read(world, frame, addr, size)),
-        AccessStep::Refused(signal) => Answer::Signal(signal),
-        AccessStep::Need(plan) => Answer::Need(plan),
-        AccessStep::Busy(hold) => Answer::Busy(hold),
+        Ok(AccessStep::Reached(frame)) => Answer::Word(read(world, frame, addr, size)),
+        Ok(AccessStep::Refused(signal)) => Answer::Signal(signal),
+        Err(wants) => Answer::wanting(wants),
     }
 }
 
@@ -69,31 +60,25 @@ fn store<D: Disk>(
 ) -> Answer
     requires size { IsWordSize size }
     requires word { FitsWord size value }
-    requires home { (beside : ℕ) → (frame : ℕ) × (frame ≢ beside)
-        × IsSome (bytes_at world.old.store.frames frame) }
-    requires fits { (spaces : segments.Spaces)
-        × MemoryFits (record { world = world_seen world.old; spaces = spaces })
+    requires home { TwoAreHome world.old.store }
+    requires fits { (spaces : segments.Spaces) × Fits world.old spaces
         × (finite.get spaces process ≡ Some space.now.parts) }
-    requires noted { (notes : Notes) × NotesFit (world_seen world.old) notes }
+    requires noted { IsKnown world.old }
     // What is answered.
-    ensures serves { (spaces : segments.Spaces)
-        → MemoryFits (record { world = world_seen world.old; spaces = spaces })
+    ensures serves { (spaces : segments.Spaces) → Fits world.old spaces
         → finite.get spaces process ≡ Some space.now.parts
-        → ServesWord (record { world = world_seen world.old; spaces = spaces })
-        (record { world = world_seen world.new; spaces = spaces })
-        world.old.pending world.new.pending process (page addr) (Store addr size value)
-        (attempt_of result) }
+        → ServesWord (memory world.old spaces) (memory world.new spaces) world.old.pending
+        world.new.pending process (page addr) (Store addr size value) (attempt_of result) }
     // What stays.
     ensures zeros { world.new.zeros ≡ world.old.zeros }
 {
     match reach(world, space, process, addr, size, true) {
-        AccessStep::Reached(frame) => {
+        Ok(AccessStep::Reached(frame)) => {
             write(world, frame, addr, size, value);
             Answer::Stored
         }
-        AccessStep::Refused(signal) => Answer::Signal(signal),
-        AccessStep::Need(plan) => Answer::Need(plan),
-        AccessStep::Busy(hold) => Answer::Busy(hold),
+        Ok(AccessStep::Refused(signal)) => Answer::Signal(signal),
+        Err(wants) => Answer::wanting(wants),
     }
 }
 
@@ -107,29 +92,24 @@ pub fn answer<D: Disk>(
 ) -> Answer
     requires access { IsAccess call.now }
     requires alive { IsSome (finite.get spaces.old.spaces process) }
-    requires home { (beside : ℕ) → (frame : ℕ) × (frame ≢ beside)
-        × IsSome (bytes_at world.old.store.frames frame) }
-    requires fits { MemoryFits
-        (record { world = world_seen world.old; spaces = spaces.old.spaces }) }
-    requires noted { (notes : Notes) × NotesFit (world_seen world.old) notes }
+    requires home { TwoAreHome world.old.store }
+    requires fits { Fits world.old spaces.old.spaces }
+    requires noted { IsKnown world.old }
     // It is done, needs a transfer first, or has to wait; ..
-    ensures serves { Serves
-        (record { world = world_seen world.old; spaces = spaces.old.spaces })
-        (record { world = world_seen world.new; spaces = spaces.old.spaces })
-        world.old.pending world.new.pending process call.now (attempt_of result) }
+    ensures serves { Serves (memory world.old spaces.old.spaces)
+        (memory world.new spaces.old.spaces) world.old.pending world.new.pending process
+        call.now (attempt_of result) }
     // .. its reply is plain, and it needs or waits only where the protection lets it; and after a word was moved the
     // page has its translation.
-    ensures due { MayBeAnswered
-        (record { world = world_seen world.new; spaces = spaces.old.spaces })
-        process call.now (attempt_of result) }
-    ensures shown { (q : ℕ) → accessed_page call.now ≡ Some q → IsShownWhereDone
-        (record { world = world_seen world.new; spaces = spaces.old.spaces }) process q
+    ensures due { MayBeAnswered (memory world.new spaces.old.spaces) process call.now
+        (attempt_of result) }
+    ensures shown { (q : ℕ) → accessed_page call.now ≡ Some q
+        → IsShownWhereDone (memory world.new spaces.old.spaces) process q
         (attempt_of result) }
     // Then a slot was made for the page exactly where one was due, and else none.
-    ensures slots { (q : ℕ) → accessed_page call.now ≡ Some q → SlotsWhereDone
-        (record { world = world_seen world.old; spaces = spaces.old.spaces })
-        (world_seen world.new) process q (is_store call.now)
-        (attempt_of result) }
+    ensures slots { (q : ℕ) → accessed_page call.now ≡ Some q
+        → SlotsWhereDone (memory world.old spaces.old.spaces) (world_seen world.new) process
+        q (is_store call.now) (attempt_of result) }
     // What stays.
     ensures spaces { spaces.new ≡ spaces.old }
     ensures zeros { world.new.zeros ≡ world.old.zeros }

@@ -4,6 +4,7 @@ ghost use Rattle.std.specs.FinMap as finite;
 ghost use Rattle.addr_space.specs.Space.{piece_at};
 ghost use Rattle.anon_map.specs.Maps.{IsMapThere, free_numbers, holders_of, places_of};
 ghost use Rattle.vm_world.specs.Segments.{Spaces};
+ghost use Rattle.vm_world.specs.Words.{memory, OnlyMaps};
 ghost use Rattle.vm_world.specs.World.{world_seen};
 ghost use Rattle.seg_vn.specs.Clears.{ChangesSpace, SpaceFits, StartsAt};
 ghost use Rattle.mmap_calls.specs.Looks.{kind_and_object};
@@ -88,17 +89,14 @@ pub(crate) fn cut<D: Disk>(
     // Flat memory is as it was.
     ensures changes { (spaces : Spaces)
         → SpaceFits (world_seen world.old) world.old.zeros spaces process space.old.parts
-        → ChangesSpace process (record { world = world_seen world.old; spaces = spaces })
-        (record {
-          world = world_seen world.new;
-          spaces = finite.insert spaces process space.new.parts;
-        })
-        world.new.zeros (λ F. F) }
+        → ChangesSpace process (memory world.old spaces)
+        (memory world.new (finite.insert spaces process space.new.parts)) world.new.zeros
+        (λ F. F) }
     // At most one number and one piece are used.
     ensures spare { space.old.spare ≤ space.new.spare + 1 }
     ensures numbers { free_numbers world.old.maps ≤ free_numbers world.new.maps + 1 }
     // What stays.
-    ensures world { world.new ≡ record world.old { maps = world.new.maps } }
+    ensures world { OnlyMaps world.old world.new }
 {
     let Some((first, _pages, _segment)) = space.find(page) else {
         return;

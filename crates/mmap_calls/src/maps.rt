@@ -7,8 +7,8 @@ ghost use Rattle.flat_model.specs.Mapping.{with_mapping};
 ghost use Rattle.flat_model.specs.Words.{page};
 ghost use Rattle.vm_types.specs.WellFormed.{IsWellFormed};
 ghost use Rattle.vm_world.specs.MapSteps.{maps_made, maps_held};
-ghost use Rattle.vm_world.specs.MemoryFits.{MemoryFits};
 ghost use Rattle.vm_world.specs.Segments as segments;
+ghost use Rattle.vm_world.specs.Words.{memory, Fits, SameFilesAndTails};
 ghost use Rattle.vm_world.specs.World.{world_seen};
 ghost use Rattle.vm_world.specs.ZeroObjects.{AreSameZeros, KnowsZeros, free_number};
 ghost use Rattle.seg_vn.specs.Clears.{ChangesSpace, SpaceFits};
@@ -190,16 +190,11 @@ fn replace<D: Disk>(
         × SpaceFits (world_seen world.old) world.old.zeros spaces process space.old.parts }
     requires due { (spaces : segments.Spaces)
         → SpaceFits (world_seen world.old) world.old.zeros spaces process space.old.parts
-        → IsMapRefusal (record { world = world_seen world.old; spaces = spaces })
-        process map.now None }
+        → IsMapRefusal (memory world.old spaces) process map.now None }
     ensures done { IfOk result (λ _. (spaces : segments.Spaces)
         → SpaceFits (world_seen world.old) world.old.zeros spaces process space.old.parts
-        → ChangesSpace process (record { world = world_seen world.old; spaces = spaces })
-        (record {
-          world = world_seen world.new;
-          spaces = finite.insert spaces process space.new.parts;
-        })
-        world.new.zeros
+        → ChangesSpace process (memory world.old spaces)
+        (memory world.new (finite.insert spaces process space.new.parts)) world.new.zeros
         (λ F. with_mapping F process (map_request map.now) (page map.now.addr))) }
     ensures fall { IfOk result (λ _. (slot : ℕ)
         → count_at world.new.anon slot ≤ count_at world.old.anon slot) }
@@ -208,13 +203,7 @@ fn replace<D: Disk>(
         × (world.new ≡ record world.old { zeros = world.new.zeros })
         × (space.new.parts ≡ space.old.parts)) }
     // What stays.
-    ensures rest { world.new ≡ record world.old {
-      store = world.new.store;
-      anon = world.new.anon;
-      maps = world.new.maps;
-      hat = world.new.hat;
-      zeros = world.new.zeros;
-    } }
+    ensures rest { SameFilesAndTails world.old world.new }
 {
     let first = page_of(map.addr);
     let pages = pages_in(map.length);
@@ -277,13 +266,9 @@ fn map<D: Disk>(
         × SpaceFits (world_seen world.old) world.old.zeros spaces process space.old.parts }
     ensures done { IfOk result (λ reply. (spaces : segments.Spaces)
         → SpaceFits (world_seen world.old) world.old.zeros spaces process space.old.parts
-        → AnswersMap process (record { world = world_seen world.old; spaces = spaces })
-        (record {
-          world = world_seen world.new;
-          spaces = finite.insert spaces process space.new.parts;
-        })
-        (map_call map.now) reply
-        × KnowsZeros world.new.zeros (finite.insert spaces process space.new.parts)) }
+        → AnswersMap process (memory world.old spaces)
+        (memory world.new (finite.insert spaces process space.new.parts)) (map_call map.now)
+        reply × KnowsZeros world.new.zeros (finite.insert spaces process space.new.parts)) }
     ensures fall { IfOk result (λ _. (slot : ℕ)
         → count_at world.new.anon slot ≤ count_at world.old.anon slot) }
     // Where memory is wanting nothing changed, but that a number of a zero object may be free.
@@ -291,13 +276,7 @@ fn map<D: Disk>(
         × (world.new ≡ record world.old { zeros = world.new.zeros })
         × (space.new.parts ≡ space.old.parts)) }
     // What stays.
-    ensures rest { world.new ≡ record world.old {
-      store = world.new.store;
-      anon = world.new.anon;
-      maps = world.new.maps;
-      hat = world.new.hat;
-      zeros = world.new.zeros;
-    } }
+    ensures rest { SameFilesAndTails world.old world.new }
 {
     if let Some(errno) = refusal(world, space, map)? {
         return Ok(Reply::Refused(errno));
@@ -320,14 +299,12 @@ pub fn attempt<D: Disk>(
 ) -> Result<Attempt, AllocError>
     requires formed { IsWellFormed call.now }
     requires served { IsServedMap call.now }
-    requires fits { MemoryFits
-        (record { world = world_seen world.old; spaces = spaces.old.spaces }) }
+    requires fits { Fits world.old spaces.old.spaces }
     requires zeros { KnowsZeros world.old.zeros spaces.old.spaces }
     requires alive { IsSome (finite.get spaces.old.spaces process) }
-    ensures done { IfOk result (λ answer. Serves
-        (record { world = world_seen world.old; spaces = spaces.old.spaces })
-        (record { world = world_seen world.new; spaces = spaces.new.spaces })
-        world.old.pending world.new.pending process call.now answer) }
+    ensures done { IfOk result (λ answer. Serves (memory world.old spaces.old.spaces)
+        (memory world.new spaces.new.spaces) world.old.pending world.new.pending process
+        call.now answer) }
     ensures answer { IfOk result IsMapDone }
     ensures fall { IfOk result (λ answer. (slot : ℕ)
         → count_at world.new.anon slot ≤ count_at world.old.anon slot) }

@@ -2,6 +2,7 @@
 ghost use Rattle.std.specs.Prelude.{◌≡◌, ◌+◌, ◌≤◌, ◌^◌, ℕ, List, Option, None, length, is_some, slice_index, slice_index_or, IsTrue, IfOk, if◌then◌else◌};
 ghost use Rattle.addr_space.specs.Space.{Part, part_at, piece_at};
 ghost use Rattle.flat_model.specs.Mapping.{is_valid, prot_read_write};
+ghost use Rattle.vm_world.specs.Words.{memory};
 ghost use Rattle.vm_world.specs.World as worlds;
 ghost use Rattle.vm_world.specs.World.{world_seen};
 ghost use Rattle.seg_vn.specs.Clears.{SpaceFits, slots_at, slots_of_range};
@@ -271,8 +272,7 @@ pub(crate) fn refusal<D: Disk>(
         × SpaceFits (world_seen world.now) world.now.zeros spaces process space.now.parts }
     ensures { IfOk result (λ refused. (spaces : Spaces) (process : ℕ)
         → SpaceFits (world_seen world.now) world.now.zeros spaces process space.now.parts
-        → IsMapRefusal (record { world = world_seen world.now; spaces = spaces }) process map.now
-        refused) }
+        → IsMapRefusal (memory world.now spaces) process map.now refused) }
 {
     told_refusal(world, space, map)
 }

@@ -2,8 +2,7 @@
 ghost use Rattle.std.specs.Prelude.{◌≡◌, ◌≤◌, ℕ, IsSome, IfOk, IsOk};
 ghost use Rattle.std.specs.FinMap as finite;
 ghost use Rattle.flat_model.specs.Processes.{without_process};
-ghost use Rattle.vm_world.specs.MemoryFits.{MemoryFits};
-ghost use Rattle.vm_world.specs.World.{world_seen};
+ghost use Rattle.vm_world.specs.Words.{memory, Fits, SameFilesAndTails};
 ghost use Rattle.vm_world.specs.ZeroObjects.{KnowsZeros};
 ghost use Rattle.anon_slots.specs.Slots.{count_at};
 ghost use Rattle.seg_vn.specs.Clears.{ChangesSpace};
@@ -22,23 +21,15 @@ const END: u32 = 0x80000;
 /// Takes a process away, with all its pieces, their translations, their private pages, the zero objects that no other process
 /// maps, and what is reserved for them.
 fn exit<D: Disk>(world: &mut World<D>, spaces: &mut Spaces, process: u32)
-    requires fits { MemoryFits
-        (record { world = world_seen world.old; spaces = spaces.old.spaces }) }
+    requires fits { Fits world.old spaces.old.spaces }
     requires zeros { KnowsZeros world.old.zeros spaces.old.spaces }
     requires alive { IsSome (finite.get spaces.old.spaces process) }
-    ensures changes { ChangesSpace process
-        (record { world = world_seen world.old; spaces = spaces.old.spaces })
-        (record { world = world_seen world.new; spaces = spaces.new.spaces })
-        world.new.zeros (λ F. without_process F process) }
+    ensures changes { ChangesSpace process (memory world.old spaces.old.spaces)
+        (memory world.new spaces.new.spaces) world.new.zeros
+        (λ F. without_process F process) }
     ensures fall { (slot : ℕ) → count_at world.new.anon slot ≤ count_at world.old.anon slot }
     // What stays.
-    ensures rest { world.new ≡ record world.old {
-      store = world.new.store;
-      anon = world.new.anon;
-      maps = world.new.maps;
-      hat = world.new.hat;
-      zeros = world.new.zeros;
-    } }
+    ensures rest { SameFilesAndTails world.old world.new }
     ensures processes { spaces.new.processes ≡ spaces.old.processes }
 {
     let Some(space) = spaces.get_mut(process) else {
@@ -57,15 +48,13 @@ pub fn attempt<D: Disk>(
     call: &Call,
 ) -> Result<Attempt, AllocError>
     requires served { IsServedExit call.now }
-    requires fits { MemoryFits
-        (record { world = world_seen world.old; spaces = spaces.old.spaces }) }
+    requires fits { Fits world.old spaces.old.spaces }
     requires zeros { KnowsZeros world.old.zeros spaces.old.spaces }
     requires alive { IsSome (finite.get spaces.old.spaces process) }
     ensures ok { IsOk result }
-    ensures done { IfOk result (λ answer. Serves
-        (record { world = world_seen world.old; spaces = spaces.old.spaces })
-        (record { world = world_seen world.new; spaces = spaces.new.spaces })
-        world.old.pending world.new.pending process call.now answer) }
+    ensures done { IfOk result (λ answer. Serves (memory world.old spaces.old.spaces)
+        (memory world.new spaces.new.spaces) world.old.pending world.new.pending process
+        call.now answer) }
     ensures answer { IfOk result IsExitDone }
     ensures zeros { KnowsZeros world.new.zeros spaces.new.spaces }
     ensures fall { (slot : ℕ) → count_at world.new.anon slot ≤ count_at world.old.anon slot }

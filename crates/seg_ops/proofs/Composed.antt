@@ -6,7 +6,7 @@ use Rattle.vm_world.specs.Segments.{Spaces}
 use Rattle.vm_world.specs.World.{World}
 use Rattle.vm_world.specs.WorldSteps.{stays}
 use Rattle.vm_world.proofs.FrameRule.{frame_law}
-use Rattle.seg_ops.specs.Steps.{KeepsPages}
+use Rattle.vm_world.specs.Words.{KeepsPages}
 use Rattle.seg_ops.proofs.StillSteps.{memory_of}
 
 pub keeps-then : (u v w : World) (spaces : Spaces) → MemoryFits (memory_of u spaces) → KeepsPages u v spaces → KeepsPages v w spaces → KeepsPages u w spaces

@@ -21,8 +21,8 @@ use Rattle.vm_world.specs.Wants.{IsDirtyPage}
 use Rattle.vm_world.specs.World.{World, world_table, slot_name, is_unpushed, page_exists}
 use Rattle.vm_world.proofs.PageNames.{page-cases, file-place, slot-place}
 use Rattle.vm_world.proofs.FrameRule.{exists-page}
-use Rattle.seg_ops.specs.declared.plans.Step.{Step}
-use Rattle.seg_ops.specs.declared.plans.Step.TheVariants as step
+use Rattle.vm_world.specs.declared.wants.Wants.{Wants}
+use Rattle.vm_world.specs.declared.wants.Wants.TheVariants as wants
 use Rattle.seg_ops.specs.Plans.{IsAsked, NeedsPlan, FetchesPage}
 use Rattle.seg_ops.proofs.StillSteps.{memory_of}
 use Rattle.seg_ops.proofs.Evictions.{unlocked}
@@ -73,31 +73,27 @@ pub dirty-exists : (w : World) (spaces : Spaces) (name : PageName) → MemoryFit
 dirty-exists w spaces name f d = f.frames.exist d.frame name (find-at w.store.names name d.frame (home-is w.store name d.frame d.home).found)
 
 -- TO BE READ IN, where a frame can be had.
-pub reads-page : (w : World) (spaces : Spaces) (name : PageName) (answer : Step) → MemoryFits (memory_of w spaces) → residence w.store name ≡ Absent → IsTrue (page_exists w.files w.anon name) → IsFalse (is_unpushed w.files w.anon name)
+pub reads-page : (w : World) (spaces : Spaces) (name : PageName) (answer : Wants) → MemoryFits (memory_of w spaces) → residence w.store name ≡ Absent → IsTrue (page_exists w.files w.anon name) → IsFalse (is_unpushed w.files w.anon name)
     → IsSome (next_frame w.store) → IsAsked w (plan.Read name) answer → FetchesPage (memory_of w spaces) name answer
-reads-page w spaces name step.Loaded f absent exists pushed room asked = asked
-reads-page w spaces name step.Past f absent exists pushed room asked = asked
-reads-page w spaces name (step.Need p) f absent exists pushed room asked = subst (λ (q : Plan). NeedsPlan (memory_of w spaces) name q) (sym asked.0) (record {
+reads-page w spaces name (wants.Transfer p) f absent exists pushed room asked = subst (λ (q : Plan). NeedsPlan (memory_of w spaces) name q) (sym asked.0) (record {
   ready = asked.1;
   frame = λ read. room;
   may = λ of wants. (wants, record { exists = exists; absent = absent-is w.store name f.frames.sound absent; pushed = pushed });
 })
-reads-page w spaces name (step.Busy (hold.Page seat)) f absent exists pushed room asked = absurd (absent-free w spaces name seat f absent asked)
-reads-page w spaces name (step.Busy (hold.Disk seat)) f absent exists pushed room asked = λ calls of wants.
+reads-page w spaces name (wants.Seat (hold.Page seat)) f absent exists pushed room asked = absurd (absent-free w spaces name seat f absent asked)
+reads-page w spaces name (wants.Seat (hold.Disk seat)) f absent exists pushed room asked = λ calls of wants.
     (plan.Read name, (wants, record { exists = exists; absent = absent-is w.store name f.frames.sound absent; pushed = pushed }), asked)
-reads-page w spaces name (step.Busy (hold.File seat)) f absent exists pushed room asked = absurd asked
+reads-page w spaces name (wants.Seat (hold.File seat)) f absent exists pushed room asked = absurd asked
 
 -- A PUSH of a modified page, where no frame can be had.
-pub pushes-page : (w : World) (spaces : Spaces) (name page : PageName) (answer : Step) → MemoryFits (memory_of w spaces) → residence w.store name ≡ Absent → next_frame w.store ≡ None → IsDirtyPage w page
+pub pushes-page : (w : World) (spaces : Spaces) (name page : PageName) (answer : Wants) → MemoryFits (memory_of w spaces) → residence w.store name ≡ Absent → next_frame w.store ≡ None → IsDirtyPage w page
     → IsAsked w (plan.Push page) answer → FetchesPage (memory_of w spaces) name answer
-pushes-page w spaces name page step.Loaded f absent none dirty asked = asked
-pushes-page w spaces name page step.Past f absent none dirty asked = asked
-pushes-page w spaces name page (step.Need p) f absent none dirty asked = subst (λ (q : Plan). NeedsPlan (memory_of w spaces) name q) (sym asked.0) (record {
+pushes-page w spaces name page (wants.Transfer p) f absent none dirty asked = subst (λ (q : Plan). NeedsPlan (memory_of w spaces) name q) (sym asked.0) (record {
   ready = asked.1;
   frame = λ read. absurd (let z : true ≡ false = read in cc);
   may = λ of wants. (dirty, inr (inl (name, wants, absent-is w.store name f.frames.sound absent), none));
 })
-pushes-page w spaces name page (step.Busy (hold.Page seat)) f absent none dirty asked = absurd (home-free w spaces page dirty.frame seat f dirty.home asked)
-pushes-page w spaces name page (step.Busy (hold.Disk seat)) f absent none dirty asked = λ calls of wants.
+pushes-page w spaces name page (wants.Seat (hold.Page seat)) f absent none dirty asked = absurd (home-free w spaces page dirty.frame seat f dirty.home asked)
+pushes-page w spaces name page (wants.Seat (hold.Disk seat)) f absent none dirty asked = λ calls of wants.
     (plan.Push page, (dirty, inr (inl (name, wants, absent-is w.store name f.frames.sound absent), none)), asked)
-pushes-page w spaces name page (step.Busy (hold.File seat)) f absent none dirty asked = absurd asked
+pushes-page w spaces name page (wants.Seat (hold.File seat)) f absent none dirty asked = absurd asked

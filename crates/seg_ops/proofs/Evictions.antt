@@ -24,7 +24,8 @@ use Rattle.vm_world.specs.NotesFit.{NotesFit}
 use Rattle.vm_world.specs.Segments.{Spaces}
 use Rattle.vm_world.specs.TranslationsFit.{TranslationFits, TranslationsFit, HasWritten, IsModified}
 use Rattle.vm_world.specs.World.{World, core_of, world_table}
-use Rattle.seg_ops.specs.Steps.{KeepsPages, IsUnwritten}
+use Rattle.vm_world.specs.Words.{KeepsPages}
+use Rattle.seg_ops.specs.Steps.{IsUnwritten}
 use Rattle.seg_ops.proofs.Places.{each-drop_frame, written-drop}
 use Rattle.seg_ops.proofs.StillSteps.{with_tables, memory_of, same-row, translation-kept, step-keeps}
 

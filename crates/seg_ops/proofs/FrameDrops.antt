@@ -16,7 +16,8 @@ use Rattle.vm_world.specs.Segments.{Spaces}
 use Rattle.vm_world.specs.TranslationsFit.{TranslationFits, TranslationsFit, HasWritten, IsModified}
 use Rattle.vm_world.specs.World.{World}
 use Rattle.seg_ops.specs.Flights.{IsUnloaded, places_pushed}
-use Rattle.seg_ops.specs.Steps.{KeepsPages, with_bits_gathered}
+use Rattle.vm_world.specs.Words.{KeepsPages}
+use Rattle.seg_ops.specs.Steps.{with_bits_gathered}
 use Rattle.seg_ops.proofs.Fills.{next-listed}
 use Rattle.seg_ops.proofs.Places.{any-place, each-drop_frame, each-change_frame, written-gone, or-left, or-right}
 use Rattle.seg_ops.proofs.StillSteps.{with_tables, memory_of}

@@ -23,7 +23,8 @@ use Rattle.vm_world.specs.Segments.{Spaces, spot_at}
 use Rattle.vm_world.specs.TranslationsFit.{TranslationFits, TranslationsFit, HasWritten}
 use Rattle.vm_world.specs.World.{World, core_of, world_table}
 use Rattle.vm_world.proofs.FrameRule.{exists-page}
-use Rattle.seg_ops.specs.Steps.{KeepsPages, ShowsName, ReadsWord, WritesWord}
+use Rattle.vm_world.specs.Words.{KeepsPages}
+use Rattle.seg_ops.specs.Steps.{ShowsName, ReadsWord, WritesWord}
 use Rattle.seg_ops.proofs.Composed.{keeps-same}
 use Rattle.seg_ops.proofs.Places.{stands-at, each-change_at, written-access}
 use Rattle.seg_ops.proofs.StillSteps.{KeepsFrames, with_tables, memory_of, same-row, translation-kept, memory-kept, notes-kept, tell-kept, value-is, step-keeps, keeps-store, values-same, fits-held, fits-within}

@@ -32,7 +32,7 @@ use Rattle.vm_world.specs.Wants.{IsDirtyPage}
 use Rattle.vm_world.specs.WorldSteps.{KeepsTables}
 use Rattle.vm_world.proofs.FrameRule.{name-same, exists-same, exists-page, info-same}
 use Rattle.vm_world.proofs.LieAlike.{lie-alike}
-use Rattle.seg_ops.specs.Steps.{KeepsPages}
+use Rattle.vm_world.specs.Words.{KeepsPages}
 use Rattle.seg_ops.proofs.StillSteps.{memory_of, value-is}
 use Rattle.seg_ops.proofs.Fills.{held-by}
 

@@ -20,7 +20,8 @@ use Rattle.vm_world.specs.Segments.{Spaces}
 use Rattle.vm_world.specs.Serving.{ModifiesNone}
 use Rattle.vm_world.specs.TranslationsFit.{TranslationFits}
 use Rattle.vm_world.specs.World.{World, core_of, world_table}
-use Rattle.seg_ops.specs.Steps.{KeepsPages, MayShow}
+use Rattle.vm_world.specs.Words.{KeepsPages}
+use Rattle.seg_ops.specs.Steps.{MayShow}
 use Rattle.seg_ops.proofs.StillSteps.{with_tables, memory_of, same-row, translation-kept, step-keeps}
 
 -- what a reclaim leaves as it was

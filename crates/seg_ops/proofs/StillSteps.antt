@@ -32,7 +32,7 @@ use Rattle.vm_world.specs.Segments.{Spaces}
 use Rattle.vm_world.specs.TranslationsFit.{TranslationFits, TranslationsFit, UnpushedFit, HasWritten, IsModified}
 use Rattle.vm_world.specs.World.{World, core_of, world_table, is_page_name, AllTell}
 use Rattle.vm_world.proofs.FrameRule.{exists-page}
-use Rattle.seg_ops.specs.Steps.{KeepsPages}
+use Rattle.vm_world.specs.Words.{KeepsPages}
 
 -- the world with another store and other translations
 abbrev pub with_tables : World → StoreSeen → HatSeen → World

@@ -11,7 +11,8 @@ use Rattle.vm_world.specs.MemoryFits.{MemoryFits}
 use Rattle.vm_world.specs.Segments.{Spaces}
 use Rattle.vm_world.specs.TranslationsFit.{TranslationFits, TranslationsFit, HasWritten}
 use Rattle.vm_world.specs.World.{World, world_table}
-use Rattle.seg_ops.specs.Steps.{KeepsPages, IsUnwritten, with_bits_gathered}
+use Rattle.vm_world.specs.Words.{KeepsPages}
+use Rattle.seg_ops.specs.Steps.{IsUnwritten, with_bits_gathered}
 use Rattle.seg_ops.proofs.Places.{index-map, each-change_frame, written-clear}
 use Rattle.seg_ops.proofs.StillSteps.{with_tables, memory_of, translation-kept, step-keeps}
 use Rattle.seg_ops.proofs.Gathers.{keeps-gathered}

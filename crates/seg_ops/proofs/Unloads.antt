@@ -12,7 +12,8 @@ use Rattle.vm_world.specs.MemoryFits.{MemoryFits}
 use Rattle.vm_world.specs.Segments.{Spaces}
 use Rattle.vm_world.specs.TranslationsFit.{TranslationFits, TranslationsFit, HasWritten}
 use Rattle.vm_world.specs.World.{World, world_table}
-use Rattle.seg_ops.specs.Steps.{KeepsPages, with_bits_gathered, with_dropped_gathered}
+use Rattle.vm_world.specs.Words.{KeepsPages}
+use Rattle.seg_ops.specs.Steps.{with_bits_gathered, with_dropped_gathered}
 use Rattle.seg_ops.proofs.Places.{Each, index-map, stands-at}
 use Rattle.seg_ops.proofs.StillSteps.{KeepsFrames, with_tables, memory_of, translation-kept, step-keeps, keeps-store, values-same, fits-within}
 use Rattle.seg_ops.proofs.Gathers.{keeps-gathered}

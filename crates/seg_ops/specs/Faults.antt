@@ -1,5 +1,5 @@
 -- What faults come to. Public clauses cite this.
-use Rattle.std.specs.Prelude.{◌≡◌, ℕ, Bool, true, false, List, Option, Some, IsFalse}
+use Rattle.std.specs.Prelude.{◌≡◌, ℕ, Bool, true, false, List, Option, Some, Result, Ok, Err, IsFalse}
 use Rattle.hat_layer.specs.Pool.{translation_at}
 use Rattle.hat_layer.specs.declared.translation.Translation.{Translation}
 use Rattle.page_store.specs.declared.plan.Plan.{Plan}
@@ -15,10 +15,14 @@ use Rattle.vm_world.specs.Plans.{CanRunPlan}
 use Rattle.vm_world.specs.Segments.{Spot, Spaces, spot_at}
 use Rattle.vm_world.specs.Serving.{TakesFrames, KeepsWanted, ModifiesNone}
 use Rattle.vm_world.specs.Wants.{accessed_page, shows_page, HoldsUp}
+use Rattle.vm_world.specs.Words.{memory}
 use Rattle.vm_world.specs.World.{World}
+use Rattle.vm_world.specs.declared.world.World as rust
 use Rattle.seg_ops.specs.OwnPages.{with_own_shown}
-use Rattle.seg_ops.specs.declared.plans.Step.{Step}
-use Rattle.seg_ops.specs.declared.plans.Step.TheVariants.{Loaded, Past, Need, Busy}
+use Rattle.seg_ops.specs.declared.plans.Fault.{Fault}
+use Rattle.seg_ops.specs.declared.plans.Fault.TheVariants.{Loaded, Past}
+use Rattle.vm_world.specs.declared.wants.Wants.{Wants}
+use Rattle.vm_world.specs.declared.wants.Wants.TheVariants.{Transfer, Seat}
 use Rattle.seg_ops.specs.SlotsDue.{SlotsAfter}
 
 -- The page has a translation that lets the access.
@@ -40,28 +44,32 @@ pub record NeedsTransfer (old new : Memory) (p q : ℕ) (write : Bool) (plan : P
   pub modified : ModifiesNone old.world new.world
 
 -- What a fault at a place of any mapping comes to.
-abbrev pub FaultMeans : Memory → Memory → ℕ → ℕ → Spot → Bool → Step → Type 0
-FaultMeans old new p q x write Loaded = LetsAccess new.world p q write
-FaultMeans old new p q x write Past = IsFalse (shows_page new.world x)
-FaultMeans old new p q x write (Need plan) = NeedsTransfer old new p q write plan
-FaultMeans old new p q x write (Busy h) = (calls : List (Option ℕ)) (call : Call) → Accesses write q call → HoldsUp new calls p call h
+abbrev pub FaultMeans : Memory → Memory → ℕ → ℕ → Spot → Bool → Result Fault Wants → Type 0
+FaultMeans old new p q x write (Ok Loaded) = LetsAccess new.world p q write
+FaultMeans old new p q x write (Ok Past) = IsFalse (shows_page new.world x)
+FaultMeans old new p q x write (Err (Transfer plan)) = NeedsTransfer old new p q write plan
+FaultMeans old new p q x write (Err (Seat h)) = (calls : List (Option ℕ)) (call : Call) → Accesses write q call → HoldsUp new calls p call h
 
 -- Flat memory after a fault: for a store a private cell gets the page that it shows as its own.
-abbrev pub after_fault : Step → Bool → Flat → ℕ → ℕ → Flat
-after_fault Loaded true F p q = with_own_shown F p q
+abbrev pub after_fault : Result Fault Wants → Bool → Flat → ℕ → ℕ → Flat
+after_fault (Ok Loaded) true F p q = with_own_shown F p q
 after_fault answer write F p q = F
 
 -- Nothing follows what took frames, unless the page is loaded.
-abbrev pub EndsThere : Step → World → World → Type 0
-EndsThere Loaded mid new = Unit {0}
+abbrev pub EndsThere : Result Fault Wants → World → World → Type 0
+EndsThere (Ok Loaded) mid new = Unit {0}
 EndsThere answer mid new = new ≡ mid
 
 -- A fault takes frames for other pages, with the tails that are pending before and after; then, if the page is loaded, flat memory is so; a slot was made
 -- exactly where one was due; and it comes to this.
-pub record ServesFault (old new : Memory) (pending more p q : ℕ) (x : Spot) (write : Bool) (answer : Step) : Type 0 where
+pub record ServesFault (old new : Memory) (pending more p q : ℕ) (x : Spot) (write : Bool) (answer : Result Fault Wants) : Type 0 where
   pub mid : World
   pub first : TakesFrames old mid pending more
   pub acts : ChangesMemory p (record old { world = mid }) new (λ F G. G ≡ after_fault answer write F p q)
   pub ends : EndsThere answer mid new.world
   pub slots : SlotsAfter old.world new.world x write answer
   pub means : FaultMeans old new p q x write answer
+
+-- The same of the world before and after.
+abbrev pub FaultServed : {D : Type 0} → rust.World D → rust.World D → Spaces → ℕ → ℕ → Spot → Bool → Result Fault Wants → Type 0
+FaultServed old new spaces p q x write answer = ServesFault (memory old spaces) (memory new spaces) old.pending new.pending p q x write answer

@@ -9,15 +9,13 @@ use Rattle.vm_world.specs.FlatMemory.{Memory}
 use Rattle.vm_world.specs.State.{Caller}
 use Rattle.vm_world.specs.Wants.{WantsHome, MayPlan, HoldsUp}
 use Rattle.vm_world.specs.World.{World, world_table}
-use Rattle.seg_ops.specs.declared.plans.Step.{Step}
-use Rattle.seg_ops.specs.declared.plans.Step.TheVariants.{Loaded, Past, Need, Busy}
+use Rattle.vm_world.specs.declared.wants.Wants.{Wants}
+use Rattle.vm_world.specs.declared.wants.Wants.TheVariants.{Transfer, Seat}
 
 -- The plan is answered exactly where its disk is home and nobody holds its page's lock; else the seat that has the one or the other.
-abbrev pub IsAsked : World → Plan → Step → Type 0
-IsAsked w plan (Need p) = (p ≡ plan) × Waits w.store (plan_page plan) (world_table w (plan_page plan)).disk None
-IsAsked w plan (Busy h) = Waits w.store (plan_page plan) (world_table w (plan_page plan)).disk (Some h)
-IsAsked w plan Loaded = ⊥
-IsAsked w plan Past = ⊥
+abbrev pub IsAsked : World → Plan → Wants → Type 0
+IsAsked w plan (Transfer p) = (p ≡ plan) × Waits w.store (plan_page plan) (world_table w (plan_page plan)).disk None
+IsAsked w plan (Seat h) = Waits w.store (plan_page plan) (world_table w (plan_page plan)).disk (Some h)
 
 -- A plan that can begin: its disk is home and nobody holds its page's lock, a frame is there for a page that is read in, and it may be answered to any
 -- call that wants the page home.
@@ -27,8 +25,6 @@ pub record NeedsPlan (m : Memory) (name : PageName) (plan : Plan) : Type 0 where
   pub may : (of : Caller) → WantsHome m of.0 of.1 name → MayPlan m (Some of) plan
 
 -- What is answered to a call that wants the page home: such a plan, or a hold that it has to wait for.
-abbrev pub FetchesPage : Memory → PageName → Step → Type 0
-FetchesPage m name (Need plan) = NeedsPlan m name plan
-FetchesPage m name (Busy h) = (calls : List (Option ℕ)) (of : Caller) → WantsHome m of.0 of.1 name → HoldsUp m calls of.0 of.1 h
-FetchesPage m name Loaded = ⊥
-FetchesPage m name Past = ⊥
+abbrev pub FetchesPage : Memory → PageName → Wants → Type 0
+FetchesPage m name (Transfer plan) = NeedsPlan m name plan
+FetchesPage m name (Seat h) = (calls : List (Option ℕ)) (of : Caller) → WantsHome m of.0 of.1 name → HoldsUp m calls of.0 of.1 h

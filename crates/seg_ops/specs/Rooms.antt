@@ -1,11 +1,33 @@
--- Room that is made beside a page. Inside: no public clause cites this.
-use Rattle.std.specs.Prelude.{◌≡◌, ◌≢◌, ℕ, Option, Some, None}
+-- Room that is made for another page. Public clauses cite this.
+use Rattle.std.specs.Prelude.{◌≡◌, ◌≢◌, ℕ, Option, Some, None, IsSome}
 use Rattle.page_hash.specs.declared.PageName.{PageName}
+use Rattle.page_store.specs.Laws.{SameResidence}
 use Rattle.page_store.specs.Seen.{StoreSeen, residence}
+use Rattle.page_store.specs.Steps.{next_frame}
 use Rattle.page_store.specs.Waits.{IsVictim}
 use Rattle.page_store.specs.declared.residence.Residence.TheVariants.{Home}
+use Rattle.vm_world.specs.Serving.{ModifiesNone}
+use Rattle.vm_world.specs.Wants.{IsDirtyPage}
+use Rattle.vm_world.specs.Words.{OnlyStoreAndHat, KeepsEveryPage}
+use Rattle.vm_world.specs.World.{world_seen}
+use Rattle.vm_world.specs.declared.world.World as rust
 
 -- The page that is chosen is in a frame that can be had, another than this; and none is chosen exactly where there is no other.
 abbrev pub ChoosesBeside : StoreSeen → ℕ → Option PageName → Type 0
 ChoosesBeside s beside None = (frame : ℕ) → frame ≢ beside → IsVictim s frame → ⊥
 ChoosesBeside s beside (Some page) = (frame : ℕ) × (frame ≢ beside) × (residence s page ≡ Home frame) × IsVictim s frame
+
+-- ROOM IS MADE: bits are gathered, translations dropped and frames listed, and nothing else. Every page stays where it is and what it is, in the frame
+-- that it has, and none becomes modified.
+pub record MakesRoom {D : Type 0} (old new : rust.World D) : Type 0 where
+  pub rest : OnlyStoreAndHat old new
+  pub stay : SameResidence old.store new.store
+  pub names : new.store.names ≡ old.store.names
+  pub frames : new.store.frames ≡ old.store.frames
+  pub modified : ModifiesNone (world_seen old) (world_seen new)
+  pub keeps : KeepsEveryPage old new
+
+-- A frame can be taken; or none can, and this page, which is modified, is to be pushed first.
+abbrev pub HasRoomUnless : {D : Type 0} → rust.World D → Option PageName → Type 0
+HasRoomUnless w None = IsSome (next_frame w.store)
+HasRoomUnless w (Some name) = (next_frame w.store ≡ None) × IsDirtyPage (world_seen w) name

@@ -15,11 +15,7 @@ use Rattle.vm_world.specs.Segments.{Spot, Spaces, spot_at, shown_name}
 use Rattle.vm_types.specs.Prot.{can_read, can_write}
 use Rattle.vm_world.specs.TranslationsFit.{MayWriteInPlace}
 use Rattle.vm_world.specs.World.{World, core_of, is_page_name, AllTell}
-use Rattle.vm_world.specs.WorldSteps.{WorldStep, KeepsTables, stays}
-
--- A step that changes no page.
-abbrev pub KeepsPages : World → World → Spaces → Type 0
-KeepsPages old new spaces = WorldStep old new spaces stays (λ name. false)
+use Rattle.vm_world.specs.WorldSteps.{KeepsTables}
 
 -- the store once bits that were told of a frame's translations, referenced and modified, were gathered into its page
 abbrev pub with_bits_gathered : StoreSeen → ℕ → Bool × Bool → StoreSeen

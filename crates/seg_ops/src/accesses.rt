@@ -4,10 +4,10 @@ ghost use Rattle.flat_model.specs.Words.{page};
 ghost use Rattle.hat_layer.specs.Pool.{IsNoted, frame_for, after_access, change_at};
 ghost use Rattle.page_store.specs.Laws.{SameResidence};
 ghost use Rattle.vm_types.specs.Words.{IsWordSize, FitsWord};
-ghost use Rattle.vm_world.specs.MemoryFits.{MemoryFits};
 ghost use Rattle.vm_world.specs.Segments.{Spaces};
+ghost use Rattle.vm_world.specs.Words.{Fits, IsFit, KeepsEveryPage, OnlyStore, OnlyHat};
 ghost use Rattle.vm_world.specs.World.{world_seen};
-ghost use Rattle.seg_ops.specs.Steps.{KeepsPages, ReadsWord, WritesWord};
+ghost use Rattle.seg_ops.specs.Steps.{ReadsWord, WritesWord};
 
 use block_device::Disk;
 use flat_model::word_at;
@@ -25,10 +25,8 @@ pub fn frame_for<D: Disk>(world: &mut World<D>, space: u32, page: u32, write: bo
     // .. or nothing changes.
     ensures none { IfNone result (world.new ≡ world.old) }
     // What stays.
-    ensures rest { world.new ≡ record world.old { hat = world.new.hat } }
-    ensures keeps { (spaces : Spaces)
-        → MemoryFits (record { world = world_seen world.old; spaces = spaces })
-        → KeepsPages (world_seen world.old) (world_seen world.new) spaces }
+    ensures rest { OnlyHat world.old world.new }
+    ensures keeps { KeepsEveryPage world.old world.new }
 {
     world.hat.frame_for(space, page, write)
 }
@@ -38,10 +36,8 @@ pub fn read<D: Disk>(world: &World<D>, frame: u32, addr: u32, size: u32) -> u32
     requires size { IsWordSize size }
     requires aligned { addr % size ≡ 0 }
     requires noted { (space : ℕ) × IsNoted world.now.hat.places space (page addr) frame false }
-    requires fits { (spaces : Spaces)
-        × MemoryFits (record { world = world_seen world.now; spaces = spaces }) }
-    ensures { (spaces : Spaces) (space : ℕ)
-        → MemoryFits (record { world = world_seen world.now; spaces = spaces })
+    requires fits { IsFit world.now }
+    ensures { (spaces : Spaces) (space : ℕ) → Fits world.now spaces
         → IsNoted world.now.hat.places space (page addr) frame false
         → ReadsWord (world_seen world.now) spaces space addr size result }
 {
@@ -55,14 +51,13 @@ pub fn write<D: Disk>(world: &mut World<D>, frame: u32, addr: u32, size: u32, va
     requires word { FitsWord size value }
     requires aligned { addr % size ≡ 0 }
     requires noted { (space : ℕ) × IsNoted world.old.hat.places space (page addr) frame true }
-    requires fits { (spaces : Spaces)
-        × MemoryFits (record { world = world_seen world.old; spaces = spaces }) }
-    ensures writes { (spaces : Spaces) (space : ℕ)
-        → MemoryFits (record { world = world_seen world.old; spaces = spaces })
+    requires fits { IsFit world.old }
+    ensures writes { (spaces : Spaces) (space : ℕ) → Fits world.old spaces
         → IsNoted world.old.hat.places space (page addr) frame true
-        → WritesWord (world_seen world.old) (world_seen world.new) spaces space addr size value }
+        → WritesWord (world_seen world.old) (world_seen world.new) spaces space addr size
+        value }
     // What stays.
-    ensures rest { world.new ≡ record world.old { store = world.new.store } }
+    ensures rest { OnlyStore world.old world.new }
     ensures stay { SameResidence world.old.store world.new.store }
 {
     let word = word_bytes(size, value);

@@ -9,8 +9,8 @@ ghost use Rattle.anon_map.specs.Maps.{IsMapThere, places_of, with_places};
 ghost use Rattle.anon_slots.specs.Slots.{with_new_slot};
 ghost use Rattle.flat_model.specs.Step.{tails_cleared};
 ghost use Rattle.vm_world.specs.CallSteps.{ChangesMemory};
-ghost use Rattle.vm_world.specs.MemoryFits.{MemoryFits};
 ghost use Rattle.vm_world.specs.Segments.{Spaces, Spot};
+ghost use Rattle.vm_world.specs.Words.{memory, Fits, IsFit, SameFilesAndHat};
 ghost use Rattle.vm_world.specs.World.{world_seen, slot_name, slot_in};
 ghost use Rattle.vm_world.specs.WorldSteps.{tails_lost};
 ghost use Rattle.seg_ops.specs.Slots.{MakesHome, MakesPage, IsNewZero, OwnsAlone, PlacesLaw, with_own_page};
@@ -27,8 +27,7 @@ pub fn make_zero<D: Disk>(world: &mut World<D>, map: u32, place: u32) -> u32
     requires within { place < length (places_of world.old.maps map) }
     requires empty { slot_in world.old.maps map place ≡ None }
     requires available { IsSome (next_frame world.old.store) }
-    requires fits { (spaces : Spaces)
-        × MemoryFits (record { world = world_seen world.old; spaces = spaces }) }
+    requires fits { IsFit world.old }
     // The slot is made for the place, and its page is home, in the frame that was taken; the tail of the file whose last page
     // lost the frame is pending.
     ensures anon { world.new.anon ≡ with_new_slot world.old.anon result }
@@ -38,32 +37,21 @@ pub fn make_zero<D: Disk>(world: &mut World<D>, map: u32, place: u32) -> u32
     ensures made { MakesHome (world_seen world.old) (world_seen world.new)
         world.old.pending world.new.pending result }
     // What stays.
-    ensures rest { world.new ≡ record world.old {
-      store = world.new.store;
-      anon = world.new.anon;
-      maps = world.new.maps;
-      pending = world.new.pending;
-    } }
-    ensures makes { (spaces : Spaces)
-        → MemoryFits (record { world = world_seen world.old; spaces = spaces })
-        → IsNewZero spaces map place
+    ensures rest { SameFilesAndHat world.old world.new }
+    ensures makes { (spaces : Spaces) → Fits world.old spaces → IsNewZero spaces map place
         → MakesPage (world_seen world.old) (world_seen world.new) spaces
         (is_name (next_name world.old.store)) map place result zeros }
     // Flat memory loses that tail, and nothing else changes: the place showed zeros before.
-    ensures changes { (spaces : Spaces) (p : ℕ)
-        → MemoryFits (record { world = world_seen world.old; spaces = spaces })
+    ensures changes { (spaces : Spaces) (p : ℕ) → Fits world.old spaces
         → IsNewZero spaces map place
-        → ChangesMemory p (record { world = world_seen world.old; spaces = spaces })
-        (record { world = world_seen world.new; spaces = spaces })
-        (λ F G. G ≡ tails_cleared F
+        → ChangesMemory p (memory world.old spaces) (memory world.new spaces) (λ F G. G ≡
+        tails_cleared F
         (tails_lost (world_seen world.old) (is_name (next_name world.old.store)))) }
     // Where the place is a private page's, without a translation, that gets a page of zeros of its own.
-    ensures owned { (spaces : Spaces) (p q : ℕ) (x : Spot)
-        → MemoryFits (record { world = world_seen world.old; spaces = spaces })
+    ensures owned { (spaces : Spaces) (p q : ℕ) (x : Spot) → Fits world.old spaces
         → OwnsAlone spaces p q map place x → translation_at world.old.hat.places p q ≡ None
-        → ChangesMemory p (record { world = world_seen world.old; spaces = spaces })
-        (record { world = world_seen world.new; spaces = spaces })
-        (λ F G. G ≡ tails_cleared (with_own_page F p q zeros)
+        → ChangesMemory p (memory world.old spaces) (memory world.new spaces) (λ F G. G ≡
+        tails_cleared (with_own_page F p q zeros)
         (tails_lost (world_seen world.old) (is_name (next_name world.old.store)))) }
 {
     let lost = world.store.next_name();
@@ -87,8 +75,7 @@ pub fn make_copy<D: Disk>(world: &mut World<D>, from: PageName, map: u32, place:
     requires source { (frame : ℕ) × (residence world.old.store from ≡ Residence.Home frame)
         × (¬ IsListedFrame world.old.store frame) }
     requires available { IsSome (next_frame world.old.store) }
-    requires fits { (spaces : Spaces)
-        × MemoryFits (record { world = world_seen world.old; spaces = spaces }) }
+    requires fits { IsFit world.old }
     // The slot is made for the place, and its page is home, in the frame that was taken; the tail of the file whose last page
     // lost the frame is pending.
     ensures anon { world.new.anon ≡ with_new_slot world.old.anon result }
@@ -99,25 +86,17 @@ pub fn make_copy<D: Disk>(world: &mut World<D>, from: PageName, map: u32, place:
     ensures made { MakesHome (world_seen world.old) (world_seen world.new)
         world.old.pending world.new.pending result }
     // What stays.
-    ensures rest { world.new ≡ record world.old {
-      store = world.new.store;
-      anon = world.new.anon;
-      maps = world.new.maps;
-      pending = world.new.pending;
-    } }
-    ensures makes { (spaces : Spaces) (p q : ℕ) (x : Spot)
-        → MemoryFits (record { world = world_seen world.old; spaces = spaces })
+    ensures rest { SameFilesAndHat world.old world.new }
+    ensures makes { (spaces : Spaces) (p q : ℕ) (x : Spot) → Fits world.old spaces
         → OwnsAlone spaces p q map place x → translation_at world.old.hat.places p q ≡ None
         → MakesPage (world_seen world.old) (world_seen world.new) spaces
         (is_name (next_name world.old.store)) map place result
         (home_bytes world.old.store (find world.old.store.names from)) }
     // In flat memory the cell of that page gets a page of its own, and the tail is lost.
-    ensures changes { (spaces : Spaces) (p q : ℕ) (x : Spot)
-        → MemoryFits (record { world = world_seen world.old; spaces = spaces })
+    ensures changes { (spaces : Spaces) (p q : ℕ) (x : Spot) → Fits world.old spaces
         → OwnsAlone spaces p q map place x → translation_at world.old.hat.places p q ≡ None
-        → ChangesMemory p (record { world = world_seen world.old; spaces = spaces })
-        (record { world = world_seen world.new; spaces = spaces })
-        (λ F G. G ≡ tails_cleared (with_own_page F p q
+        → ChangesMemory p (memory world.old spaces) (memory world.new spaces) (λ F G. G ≡
+        tails_cleared (with_own_page F p q
         (home_bytes world.old.store (find world.old.store.names from)))
         (tails_lost (world_seen world.old) (is_name (next_name world.old.store)))) }
 {

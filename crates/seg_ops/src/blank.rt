@@ -1,13 +1,13 @@
 //! A page that was never pushed: a frame of zeros.
-ghost use Rattle.std.specs.Prelude.{◌≡◌, ◌<◌, ◌==◌, ℕ, length, false, IsSome, IsTrue, IfSome};
+ghost use Rattle.std.specs.Prelude.{◌≡◌, ◌<◌, ◌==◌, length, false, IsSome, IsTrue, IfSome};
 ghost use Rattle.core_arena.specs.Bytes.{zeros};
 ghost use Rattle.page_hash.specs.Names.{is_name};
 ghost use Rattle.page_store.specs.Seen.{IsListedFrame, residence};
 ghost use Rattle.page_store.specs.Steps.{next_frame, next_name, after_fill};
-ghost use Rattle.vm_world.specs.MemoryFits.{MemoryFits};
 ghost use Rattle.vm_world.specs.Segments.{Spaces};
 ghost use Rattle.vm_world.specs.Serving.{LosesFrame};
 ghost use Rattle.vm_world.specs.StateSteps.{PendsTails};
+ghost use Rattle.vm_world.specs.Words.{Fits, IsFit, OnlyStoreAndTails};
 ghost use Rattle.vm_world.specs.World.{world_seen, file_name, is_unpushed, page_exists};
 ghost use Rattle.vm_world.specs.WorldSteps.{WorldStep, stays};
 
@@ -22,8 +22,7 @@ pub fn fill_page<D: Disk>(world: &mut World<D>, name: PageName)
     requires blank { IsTrue (is_unpushed world.old.files world.old.anon name) }
     requires absent { residence world.old.store name ≡ Residence.Absent }
     requires available { IsSome (next_frame world.old.store) }
-    requires fits { (spaces : Spaces)
-        × MemoryFits (record { world = world_seen world.old; spaces = spaces }) }
+    requires fits { IsFit world.old }
     // The page is home, in the frame that was taken.
     ensures store { world.new.store ≡ after_fill world.old.store name zeros (name.object == 64) }
     ensures home { IfSome (next_frame world.old.store)
@@ -36,10 +35,8 @@ pub fn fill_page<D: Disk>(world: &mut World<D>, name: PageName)
     ensures took { IfSome (next_name world.old.store)
         (λ name. LosesFrame (world_seen world.old) (world_seen world.new) name) }
     // What stays.
-    ensures rest { world.new
-        ≡ record world.old { store = world.new.store; pending = world.new.pending } }
-    ensures step { (spaces : Spaces)
-        → MemoryFits (record { world = world_seen world.old; spaces = spaces })
+    ensures rest { OnlyStoreAndTails world.old world.new }
+    ensures step { (spaces : Spaces) → Fits world.old spaces
         → WorldStep (world_seen world.old) (world_seen world.new) spaces stays
         (is_name (next_name world.old.store)) }
 {
@@ -55,8 +52,7 @@ pub fn fill<D: Disk>(world: &mut World<D>, file: u32, page: u32)
     requires blank { IsTrue (is_unpushed world.old.files world.old.anon (file_name file page)) }
     requires absent { residence world.old.store (file_name file page) ≡ Residence.Absent }
     requires available { IsSome (next_frame world.old.store) }
-    requires fits { (spaces : Spaces)
-        × MemoryFits (record { world = world_seen world.old; spaces = spaces }) }
+    requires fits { IsFit world.old }
     // The page is home, in the frame that was taken.
     ensures store { world.new.store ≡ after_fill world.old.store (file_name file page) zeros false }
     ensures home { IfSome (next_frame world.old.store)
@@ -69,10 +65,8 @@ pub fn fill<D: Disk>(world: &mut World<D>, file: u32, page: u32)
     ensures took { IfSome (next_name world.old.store)
         (λ name. LosesFrame (world_seen world.old) (world_seen world.new) name) }
     // What stays.
-    ensures rest { world.new
-        ≡ record world.old { store = world.new.store; pending = world.new.pending } }
-    ensures step { (spaces : Spaces)
-        → MemoryFits (record { world = world_seen world.old; spaces = spaces })
+    ensures rest { OnlyStoreAndTails world.old world.new }
+    ensures step { (spaces : Spaces) → Fits world.old spaces
         → WorldStep (world_seen world.old) (world_seen world.new) spaces stays
         (is_name (next_name world.old.store)) }
 {

@@ -9,8 +9,8 @@ ghost use Rattle.anon_map.specs.Maps.{IsMapThere, places_of, with_places};
 ghost use Rattle.anon_slots.specs.Slots.{count_at, with_count, with_new_slot};
 ghost use Rattle.flat_model.specs.Step.{tails_cleared};
 ghost use Rattle.vm_world.specs.CallSteps.{ChangesMemory};
-ghost use Rattle.vm_world.specs.MemoryFits.{MemoryFits};
 ghost use Rattle.vm_world.specs.Segments.{Spaces, Spot};
+ghost use Rattle.vm_world.specs.Words.{memory, Fits, SameFilesAndHat};
 ghost use Rattle.vm_world.specs.World.{world_seen, slot_name, slot_in, is_unpushed};
 ghost use Rattle.vm_world.specs.WorldSteps.{tails_lost};
 ghost use Rattle.seg_ops.specs.Slots.{MakesHome, OwnsAlone};
@@ -34,8 +34,8 @@ pub fn copy_slot<D: Disk>(world: &mut World<D>, map: u32, place: u32, slot: u32)
         × (¬ IsListedFrame world.old.store frame) }
     requires available { IsSome (next_frame world.old.store) }
     requires owned { (spaces : Spaces) × (p : ℕ) × (q : ℕ) × (x : Spot)
-        × MemoryFits (record { world = world_seen world.old; spaces = spaces })
-        × OwnsAlone spaces p q map place x × (translation_at world.old.hat.places p q ≡ None) }
+        × Fits world.old spaces × OwnsAlone spaces p q map place x
+        × (translation_at world.old.hat.places p q ≡ None) }
     // The old slot is counted once less, the new one is made for the place, and its page is home, in the frame that was taken;
     // the tail of the file whose last page lost the frame is pending.
     ensures anon { world.new.anon ≡ with_new_slot
@@ -47,19 +47,12 @@ pub fn copy_slot<D: Disk>(world: &mut World<D>, map: u32, place: u32, slot: u32)
     ensures made { MakesHome (world_seen world.old) (world_seen world.new)
         world.old.pending world.new.pending result }
     // What stays.
-    ensures rest { world.new ≡ record world.old {
-      store = world.new.store;
-      anon = world.new.anon;
-      maps = world.new.maps;
-      pending = world.new.pending;
-    } }
+    ensures rest { SameFilesAndHat world.old world.new }
     // Flat memory loses that tail, and nothing else changes.
-    ensures changes { (spaces : Spaces) (p q : ℕ) (x : Spot)
-        → MemoryFits (record { world = world_seen world.old; spaces = spaces })
+    ensures changes { (spaces : Spaces) (p q : ℕ) (x : Spot) → Fits world.old spaces
         → OwnsAlone spaces p q map place x → translation_at world.old.hat.places p q ≡ None
-        → ChangesMemory p (record { world = world_seen world.old; spaces = spaces })
-        (record { world = world_seen world.new; spaces = spaces })
-        (λ F G. G ≡ tails_cleared F
+        → ChangesMemory p (memory world.old spaces) (memory world.new spaces) (λ F G. G ≡
+        tails_cleared F
         (tails_lost (world_seen world.old) (is_name (next_name world.old.store)))) }
 {
     leave_slot(world, map, place, slot);
@@ -86,8 +79,8 @@ pub fn zero_slot<D: Disk>(world: &mut World<D>, map: u32, place: u32, slot: u32)
     requires blank { IsTrue (is_unpushed world.old.files world.old.anon (slot_name slot)) }
     requires available { IsSome (next_frame world.old.store) }
     requires owned { (spaces : Spaces) × (p : ℕ) × (q : ℕ) × (x : Spot)
-        × MemoryFits (record { world = world_seen world.old; spaces = spaces })
-        × OwnsAlone spaces p q map place x × (translation_at world.old.hat.places p q ≡ None) }
+        × Fits world.old spaces × OwnsAlone spaces p q map place x
+        × (translation_at world.old.hat.places p q ≡ None) }
     // The old slot is counted once less, the new one is made for the place, and its page is home, in the frame that was taken;
     // the tail of the file whose last page lost the frame is pending.
     ensures anon { world.new.anon ≡ with_new_slot
@@ -98,19 +91,12 @@ pub fn zero_slot<D: Disk>(world: &mut World<D>, map: u32, place: u32, slot: u32)
     ensures made { MakesHome (world_seen world.old) (world_seen world.new)
         world.old.pending world.new.pending result }
     // What stays.
-    ensures rest { world.new ≡ record world.old {
-      store = world.new.store;
-      anon = world.new.anon;
-      maps = world.new.maps;
-      pending = world.new.pending;
-    } }
+    ensures rest { SameFilesAndHat world.old world.new }
     // Flat memory loses that tail, and nothing else changes.
-    ensures changes { (spaces : Spaces) (p q : ℕ) (x : Spot)
-        → MemoryFits (record { world = world_seen world.old; spaces = spaces })
+    ensures changes { (spaces : Spaces) (p q : ℕ) (x : Spot) → Fits world.old spaces
         → OwnsAlone spaces p q map place x → translation_at world.old.hat.places p q ≡ None
-        → ChangesMemory p (record { world = world_seen world.old; spaces = spaces })
-        (record { world = world_seen world.new; spaces = spaces })
-        (λ F G. G ≡ tails_cleared F
+        → ChangesMemory p (memory world.old spaces) (memory world.new spaces) (λ F G. G ≡
+        tails_cleared F
         (tails_lost (world_seen world.old) (is_name (next_name world.old.store)))) }
 {
     leave_slot(world, map, place, slot);

@@ -2,10 +2,8 @@
 ghost use Rattle.std.specs.Prelude.{◌≡◌, ℕ, None, option_map};
 ghost use Rattle.hat_layer.specs.Pool.{translation_at, told_of, drop_page, drop_at};
 ghost use Rattle.page_store.specs.Laws.{SameResidence};
-ghost use Rattle.vm_world.specs.MemoryFits.{MemoryFits};
-ghost use Rattle.vm_world.specs.Segments.{Spaces};
-ghost use Rattle.vm_world.specs.World.{world_seen};
-ghost use Rattle.seg_ops.specs.Steps.{KeepsPages, with_dropped_gathered};
+ghost use Rattle.seg_ops.specs.Steps.{with_dropped_gathered};
+ghost use Rattle.vm_world.specs.Words.{IsFit, KeepsEveryPage, OnlyStoreAndHat};
 
 use crate::tables::gather;
 use block_device::Disk;
@@ -13,8 +11,7 @@ use vm_world::World;
 
 /// Drops the translation of a page, where it has one, and gathers its bits into its page. Constant expected time.
 pub fn drop_translation<D: Disk>(world: &mut World<D>, space: u32, page: u32)
-    requires fits { (spaces : Spaces)
-        × MemoryFits (record { world = world_seen world.old; spaces = spaces }) }
+    requires fits { IsFit world.old }
     // The page has no translation, and what its translation said is told to its page.
     ensures gone { translation_at world.new.hat.places space page ≡ None }
     ensures map { (s p : ℕ) → translation_at world.new.hat.places s p
@@ -23,11 +20,9 @@ pub fn drop_translation<D: Disk>(world: &mut World<D>, space: u32, page: u32)
     ensures store { world.new.store ≡ with_dropped_gathered world.old.store
         (option_map told_of (translation_at world.old.hat.places space page)) }
     // What stays.
-    ensures rest { world.new ≡ record world.old { store = world.new.store; hat = world.new.hat } }
+    ensures rest { OnlyStoreAndHat world.old world.new }
     ensures stay { SameResidence world.old.store world.new.store }
-    ensures keeps { (spaces : Spaces)
-        → MemoryFits (record { world = world_seen world.old; spaces = spaces })
-        → KeepsPages (world_seen world.old) (world_seen world.new) spaces }
+    ensures keeps { KeepsEveryPage world.old world.new }
 {
     let dropped = world.hat.unload(space, page);
     gather(&mut world.store, dropped);

@@ -7,8 +7,8 @@ ghost use Rattle.page_store.specs.Steps.{after_abort};
 ghost use Rattle.anon_map.specs.Maps.{IsMapThere, places_of, with_places};
 ghost use Rattle.anon_slots.specs.Slots.{count_at, with_count};
 ghost use Rattle.vm_world.specs.CallSteps.{ChangesMemory};
-ghost use Rattle.vm_world.specs.MemoryFits.{MemoryFits};
 ghost use Rattle.vm_world.specs.Segments.{Spaces, Spot};
+ghost use Rattle.vm_world.specs.Words.{memory, Fits, IsFit, OnlySlotsAndMaps, OnlyAnonymous};
 ghost use Rattle.vm_world.specs.World.{world_seen, slot_name, slot_in};
 ghost use Rattle.seg_ops.specs.Empties.{EmptiesPlace, IsUnloadedZero, LeavesSlot};
 ghost use Rattle.seg_ops.specs.OwnPages.{OwnPagesLaw, OwnShownLaw, without_own_page};
@@ -23,8 +23,7 @@ fn take_out<D: Disk>(world: &mut World<D>, map: u32, place: u32, slot: u32)
     requires there { IsMapThere world.old.maps map }
     requires within { place < length (places_of world.old.maps map) }
     requires holds { slot_in world.old.maps map place ≡ Some slot }
-    requires fits { (spaces : Spaces)
-        × MemoryFits (record { world = world_seen world.old; spaces = spaces }) }
+    requires fits { IsFit world.old }
     // The slot is counted once less, and the place is empty.
     ensures anon { world.new.anon
         ≡ with_count world.old.anon slot (count_at world.old.anon slot - 1) }
@@ -33,8 +32,7 @@ fn take_out<D: Disk>(world: &mut World<D>, map: u32, place: u32, slot: u32)
     ensures leaves { LeavesSlot world.old.anon world.new.anon world.old.maps
         world.new.maps map place slot }
     // What stays.
-    ensures rest { world.new
-        ≡ record world.old { anon = world.new.anon; maps = world.new.maps } }
+    ensures rest { OnlySlotsAndMaps world.old world.new }
 {
     world.anon.drop_one(slot);
     world.maps.set(map, place, None);
@@ -47,26 +45,21 @@ pub fn leave_slot<D: Disk>(world: &mut World<D>, map: u32, place: u32, slot: u32
     requires within { place < length (places_of world.old.maps map) }
     requires holds { slot_in world.old.maps map place ≡ Some slot }
     requires shared { 1 < count_at world.old.anon slot }
-    requires fits { (spaces : Spaces)
-        × MemoryFits (record { world = world_seen world.old; spaces = spaces }) }
+    requires fits { IsFit world.old }
     // The slot is counted once less, and the place is empty.
     ensures anon { world.new.anon
         ≡ with_count world.old.anon slot (count_at world.old.anon slot - 1) }
     ensures maps { world.new.maps ≡ with_places world.old.maps map
         (slice_set (places_of world.old.maps map) place None) }
     // What stays.
-    ensures rest { world.new
-        ≡ record world.old { anon = world.new.anon; maps = world.new.maps } }
-    ensures empties { (spaces : Spaces) (p q : ℕ) (x : Spot)
-        → MemoryFits (record { world = world_seen world.old; spaces = spaces })
+    ensures rest { OnlySlotsAndMaps world.old world.new }
+    ensures empties { (spaces : Spaces) (p q : ℕ) (x : Spot) → Fits world.old spaces
         → OwnsAlone spaces p q map place x → translation_at world.old.hat.places p q ≡ None
         → EmptiesPlace (world_seen world.old) (world_seen world.new) spaces map place slot }
     // In flat memory the cell of that page loses its own page, and nothing else changes.
-    ensures changes { (spaces : Spaces) (p q : ℕ) (x : Spot)
-        → MemoryFits (record { world = world_seen world.old; spaces = spaces })
+    ensures changes { (spaces : Spaces) (p q : ℕ) (x : Spot) → Fits world.old spaces
         → OwnsAlone spaces p q map place x → translation_at world.old.hat.places p q ≡ None
-        → ChangesMemory p (record { world = world_seen world.old; spaces = spaces })
-        (record { world = world_seen world.new; spaces = spaces })
+        → ChangesMemory p (memory world.old spaces) (memory world.new spaces)
         (λ F G. G ≡ without_own_page F p q) }
 {
     take_out(world, map, place, slot);
@@ -80,8 +73,7 @@ pub fn drop_slot<D: Disk>(world: &mut World<D>, map: u32, place: u32, slot: u32)
     requires within { place < length (places_of world.old.maps map) }
     requires holds { slot_in world.old.maps map place ≡ Some slot }
     requires alone { count_at world.old.anon slot ≡ 1 }
-    requires fits { (spaces : Spaces)
-        × MemoryFits (record { world = world_seen world.old; spaces = spaces }) }
+    requires fits { IsFit world.old }
     // The slot is free, the place is empty, and no frame has the slot's page.
     ensures anon { world.new.anon ≡ with_count world.old.anon slot 0 }
     ensures maps { world.new.maps ≡ with_places world.old.maps map
@@ -91,25 +83,17 @@ pub fn drop_slot<D: Disk>(world: &mut World<D>, map: u32, place: u32, slot: u32)
     // What stays.
     ensures stay { (name : PageName) → name ≢ slot_name slot
         → residence world.new.store name ≡ residence world.old.store name }
-    ensures rest { world.new ≡ record world.old {
-      store = world.new.store;
-      anon = world.new.anon;
-      maps = world.new.maps;
-    } }
-    ensures empties { (spaces : Spaces) (p q : ℕ) (x : Spot)
-        → MemoryFits (record { world = world_seen world.old; spaces = spaces })
+    ensures rest { OnlyAnonymous world.old world.new }
+    ensures empties { (spaces : Spaces) (p q : ℕ) (x : Spot) → Fits world.old spaces
         → OwnsAlone spaces p q map place x → translation_at world.old.hat.places p q ≡ None
         → EmptiesPlace (world_seen world.old) (world_seen world.new) spaces map place slot }
-    ensures zeros { (spaces : Spaces) (z : ℕ)
-        → MemoryFits (record { world = world_seen world.old; spaces = spaces })
+    ensures zeros { (spaces : Spaces) (z : ℕ) → Fits world.old spaces
         → IsUnloadedZero world.old.hat.places spaces z map
         → EmptiesPlace (world_seen world.old) (world_seen world.new) spaces map place slot }
     // In flat memory the cell of that page loses its own page, and nothing else changes.
-    ensures changes { (spaces : Spaces) (p q : ℕ) (x : Spot)
-        → MemoryFits (record { world = world_seen world.old; spaces = spaces })
+    ensures changes { (spaces : Spaces) (p q : ℕ) (x : Spot) → Fits world.old spaces
         → OwnsAlone spaces p q map place x → translation_at world.old.hat.places p q ≡ None
-        → ChangesMemory p (record { world = world_seen world.old; spaces = spaces })
-        (record { world = world_seen world.new; spaces = spaces })
+        → ChangesMemory p (memory world.old spaces) (memory world.new spaces)
         (λ F G. G ≡ without_own_page F p q) }
 {
     take_out(world, map, place, slot);

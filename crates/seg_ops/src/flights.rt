@@ -14,17 +14,17 @@ ghost use Rattle.page_store.specs.Waits.{Waits, plan_page};
 ghost use Rattle.vnode_files.specs.Files.{vnode_at};
 ghost use Rattle.vnode_files.specs.Grow.{page_count};
 ghost use Rattle.vnode_files.specs.Vnode.{block_at, is_blank};
-ghost use Rattle.vm_world.specs.MemoryFits.{MemoryFits};
 ghost use Rattle.vm_world.specs.NotesFit.{NotesFit};
 ghost use Rattle.vm_world.specs.Segments.{Spaces};
 ghost use Rattle.vm_world.specs.Serving.{LosesFrame};
 ghost use Rattle.vm_world.specs.StateSteps.{PendsTails};
 ghost use Rattle.vm_world.specs.Wants.{IsDirtyPage, MayReadIn};
+ghost use Rattle.vm_world.specs.Words.{Fits, IsFit, KeepsEveryPage, OnlyStoreAndHat, OnlyStoreAndTails, OnlySlotsAndFiles};
 ghost use Rattle.vm_world.specs.World.{world_seen, world_table, file_blocks, is_unpushed, page_exists};
 ghost use Rattle.vm_world.specs.WorldSteps.{WorldStep, leaves};
 ghost use Rattle.seg_ops.specs.Flights.{CanSend, IsUnloaded, BeginsFor, store_synced, places_pushed};
 ghost use Rattle.seg_ops.specs.Marks.{files_pushed, slots_pushed};
-ghost use Rattle.seg_ops.specs.Steps.{KeepsPages, with_bits_gathered};
+ghost use Rattle.seg_ops.specs.Steps.{with_bits_gathered};
 
 use crate::rooms::sync;
 use crate::tables::add_bits;
@@ -38,13 +38,11 @@ use vnode_files::Files;
 /// Marks a page as pushed: its slot is marked, or it stops being blank in its file.
 fn set_pushed<D: Disk>(world: &mut World<D>, name: PageName)
     requires exists { IsTrue (page_exists world.old.files world.old.anon name) }
-    requires fits { (spaces : Spaces)
-        × MemoryFits (record { world = world_seen world.old; spaces = spaces }) }
+    requires fits { IsFit world.old }
     ensures files { world.new.files ≡ files_pushed world.old.files name }
     ensures anon { world.new.anon ≡ slots_pushed world.old.anon name }
     // What stays.
-    ensures rest { world.new
-        ≡ record world.old { anon = world.new.anon; files = world.new.files } }
+    ensures rest { OnlySlotsAndFiles world.old world.new }
 {
     if name.object == SWAP_OBJECT {
         world.anon.set_swapped(name.page);
@@ -56,17 +54,13 @@ fn set_pushed<D: Disk>(world: &mut World<D>, name: PageName)
 /// Lets a page that is home and modified count as pushed, before its push begins. No page changes. Constant time.
 pub fn mark_pushed<D: Disk>(world: &mut World<D>, name: PageName)
     requires dirty { IsDirtyPage (world_seen world.old) name }
-    requires fits { (spaces : Spaces)
-        × MemoryFits (record { world = world_seen world.old; spaces = spaces }) }
+    requires fits { IsFit world.old }
     ensures files { world.new.files ≡ files_pushed world.old.files name }
     ensures anon { world.new.anon ≡ slots_pushed world.old.anon name }
     ensures pushed { IsFalse (is_unpushed world.new.files world.new.anon name) }
     // What stays.
-    ensures rest { world.new
-        ≡ record world.old { anon = world.new.anon; files = world.new.files } }
-    ensures keeps { (spaces : Spaces)
-        → MemoryFits (record { world = world_seen world.old; spaces = spaces })
-        → KeepsPages (world_seen world.old) (world_seen world.new) spaces }
+    ensures rest { OnlySlotsAndFiles world.old world.new }
+    ensures keeps { KeepsEveryPage world.old world.new }
 {
     set_pushed(world, name);
 }
@@ -75,16 +69,13 @@ pub fn mark_pushed<D: Disk>(world: &mut World<D>, name: PageName)
 fn unload<D: Disk>(world: &mut World<D>, frame: u32)
     requires frame { frame < length world.old.store.frames }
     requires unlisted { ¬ IsListedFrame world.old.store frame }
-    requires fits { (spaces : Spaces)
-        × MemoryFits (record { world = world_seen world.old; spaces = spaces }) }
+    requires fits { IsFit world.old }
     ensures store { world.new.store
         ≡ with_bits_gathered world.old.store frame (bits_of frame world.old.hat.places) }
     ensures places { world.new.hat.places ≡ drop_frame frame world.old.hat.places }
     // What stays.
-    ensures rest { world.new ≡ record world.old { store = world.new.store; hat = world.new.hat } }
-    ensures keeps { (spaces : Spaces)
-        → MemoryFits (record { world = world_seen world.old; spaces = spaces })
-        → KeepsPages (world_seen world.old) (world_seen world.new) spaces }
+    ensures rest { OnlyStoreAndHat world.old world.new }
+    ensures keeps { KeepsEveryPage world.old world.new }
 {
     let told = world.hat.page_unload(frame);
     add_bits(&mut world.store, frame, told);
@@ -95,17 +86,14 @@ fn unload<D: Disk>(world: &mut World<D>, frame: u32)
 fn gather_for_push<D: Disk>(world: &mut World<D>, frame: u32)
     requires frame { frame < length world.old.store.frames }
     requires unlisted { ¬ IsListedFrame world.old.store frame }
-    requires fits { (spaces : Spaces)
-        × MemoryFits (record { world = world_seen world.old; spaces = spaces }) }
+    requires fits { IsFit world.old }
     ensures store { world.new.store
         ≡ with_bits_gathered world.old.store frame (bits_of frame world.old.hat.places) }
     ensures places { world.new.hat.places
         ≡ places_pushed (next_frame world.old.store) (Some frame) world.old.hat.places }
     // What stays.
-    ensures rest { world.new ≡ record world.old { store = world.new.store; hat = world.new.hat } }
-    ensures keeps { (spaces : Spaces)
-        → MemoryFits (record { world = world_seen world.old; spaces = spaces })
-        → KeepsPages (world_seen world.old) (world_seen world.new) spaces }
+    ensures rest { OnlyStoreAndHat world.old world.new }
+    ensures keeps { KeepsEveryPage world.old world.new }
 {
     if world.store.available() {
         sync(world, frame);
@@ -118,8 +106,7 @@ fn gather_for_push<D: Disk>(world: &mut World<D>, frame: u32)
 /// go out, and the page counts as pushed.
 fn prepare_push<D: Disk>(world: &mut World<D>, name: PageName)
     requires dirty { IsDirtyPage (world_seen world.old) name }
-    requires fits { (spaces : Spaces)
-        × MemoryFits (record { world = world_seen world.old; spaces = spaces }) }
+    requires fits { IsFit world.old }
     ensures store { world.new.store ≡ store_synced (world_seen world.old) name }
     ensures places { world.new.hat.places ≡ places_pushed (next_frame world.old.store)
         (find world.old.store.names name) world.old.hat.places }
@@ -133,9 +120,7 @@ fn prepare_push<D: Disk>(world: &mut World<D>, name: PageName)
       hat = world.new.hat;
       files = world.new.files;
     } }
-    ensures keeps { (spaces : Spaces)
-        → MemoryFits (record { world = world_seen world.old; spaces = spaces })
-        → KeepsPages (world_seen world.old) (world_seen world.new) spaces }
+    ensures keeps { KeepsEveryPage world.old world.new }
 {
     let Residence::Home(frame) = world.store.resident(name) else {
         unreachable!();
@@ -174,8 +159,7 @@ fn page_place(files: &Files, file: u32, page: u32) -> Place
 /// Where a page that exists lives.
 fn world_table<D: Disk>(world: &World<D>, name: PageName) -> Place
     requires exists { IsTrue (page_exists world.now.files world.now.anon name) }
-    requires fits { (spaces : Spaces)
-        × MemoryFits (record { world = world_seen world.now; spaces = spaces }) }
+    requires fits { IsFit world.now }
     ensures place { result ≡ world_table (world_seen world.now) name }
     ensures within { (d : DiskSeen) → bay_at world.now.store.bays result.disk ≡ home d
         → result.block < d.size }
@@ -199,8 +183,7 @@ fn send<D: Disk>(world: &mut World<D>, seat: u32, plan: Plan) -> Flight<D>
         (world_table (world_seen world.old) (plan_page plan)).disk None }
     requires unloaded { (frame : ℕ) → frame_out plan world.old.store ≡ Some frame
         → IsUnloaded world.old.hat.places frame }
-    requires fits { (spaces : Spaces)
-        × MemoryFits (record { world = world_seen world.old; spaces = spaces }) }
+    requires fits { IsFit world.old }
     // The flight, and the store without what went out with it.
     ensures flight { BeginsFor (world_seen world.old) seat plan result }
     ensures store { world.new.store ≡ after_begin plan world.old.store seat
@@ -212,10 +195,8 @@ fn send<D: Disk>(world: &mut World<D>, seat: u32, plan: Plan) -> Flight<D>
     ensures took { IfSome (next_name world.old.store)
         (λ name. LosesFrame (world_seen world.old) (world_seen world.new) name) }
     // What stays.
-    ensures rest { world.new
-        ≡ record world.old { store = world.new.store; pending = world.new.pending } }
-    ensures step { (spaces : Spaces) (notes : Notes)
-        → MemoryFits (record { world = world_seen world.old; spaces = spaces })
+    ensures rest { OnlyStoreAndTails world.old world.new }
+    ensures step { (spaces : Spaces) (notes : Notes) → Fits world.old spaces
         → NotesFit (world_seen world.old) notes
         → WorldStep (world_seen world.old) (world_seen world.new) spaces
         (leaves seat (note_of result)) (is_name (next_name world.old.store)) }
@@ -237,8 +218,7 @@ pub fn begin_push<D: Disk>(world: &mut World<D>, seat: u32, name: PageName) -> F
     requires dirty { IsDirtyPage (world_seen world.old) name }
     requires ready { Waits world.old.store name
         (world_table (world_seen world.old) name).disk None }
-    requires fits { (spaces : Spaces)
-        × MemoryFits (record { world = world_seen world.old; spaces = spaces }) }
+    requires fits { IsFit world.old }
     // The flight, and the store without what went out with it.
     ensures flight { BeginsFor (world_seen world.old) seat (Plan.Push name) result }
     ensures store { world.new.store ≡ after_begin (Plan.Push name)
@@ -265,8 +245,7 @@ pub fn begin_push<D: Disk>(world: &mut World<D>, seat: u32, name: PageName) -> F
       files = world.new.files;
       pending = world.new.pending;
     } }
-    ensures step { (spaces : Spaces) (notes : Notes)
-        → MemoryFits (record { world = world_seen world.old; spaces = spaces })
+    ensures step { (spaces : Spaces) (notes : Notes) → Fits world.old spaces
         → NotesFit (world_seen world.old) notes
         → WorldStep (world_seen world.old) (world_seen world.new) spaces
         (leaves seat (note_of result)) (is_name (next_name world.old.store)) }
@@ -282,8 +261,7 @@ pub fn begin_read<D: Disk>(world: &mut World<D>, seat: u32, name: PageName) -> F
     requires available { IsSome (next_frame world.old.store) }
     requires ready { Waits world.old.store name
         (world_table (world_seen world.old) name).disk None }
-    requires fits { (spaces : Spaces)
-        × MemoryFits (record { world = world_seen world.old; spaces = spaces }) }
+    requires fits { IsFit world.old }
     // The flight, and the store without what went out with it.
     ensures flight { BeginsFor (world_seen world.old) seat (Plan.Read name) result }
     ensures store { world.new.store ≡ after_begin (Plan.Read name) world.old.store seat
@@ -296,10 +274,8 @@ pub fn begin_read<D: Disk>(world: &mut World<D>, seat: u32, name: PageName) -> F
     ensures took { IfSome (next_name world.old.store)
         (λ lost. LosesFrame (world_seen world.old) (world_seen world.new) lost) }
     // What stays.
-    ensures rest { world.new
-        ≡ record world.old { store = world.new.store; pending = world.new.pending } }
-    ensures step { (spaces : Spaces) (notes : Notes)
-        → MemoryFits (record { world = world_seen world.old; spaces = spaces })
+    ensures rest { OnlyStoreAndTails world.old world.new }
+    ensures step { (spaces : Spaces) (notes : Notes) → Fits world.old spaces
         → NotesFit (world_seen world.old) notes
         → WorldStep (world_seen world.old) (world_seen world.new) spaces
         (leaves seat (note_of result)) (is_name (next_name world.old.store)) }

@@ -5,10 +5,10 @@ ghost use Rattle.page_hash.specs.declared.PageName.{PageName};
 ghost use Rattle.page_store.specs.Laws.{Aborts};
 ghost use Rattle.page_store.specs.Seen.{IsListedFrame, residence};
 ghost use Rattle.page_store.specs.Steps.{next_frame, next_name, after_abort};
-ghost use Rattle.vm_world.specs.MemoryFits.{MemoryFits};
 ghost use Rattle.vm_world.specs.Segments.{Spaces};
 ghost use Rattle.vm_world.specs.Serving.{LosesFrame};
 ghost use Rattle.vm_world.specs.StateSteps.{PendsTails};
+ghost use Rattle.vm_world.specs.Words.{Fits, IsFit, OnlyStoreAndTails};
 ghost use Rattle.vm_world.specs.World.{world_seen};
 ghost use Rattle.vm_world.specs.WorldSteps.{WorldStep, stays};
 
@@ -30,8 +30,7 @@ fn give_up<D: Disk>(store: &mut Store<D>, name: Option<PageName>)
 
 /// Frees the frame that is taken next, where that still holds a page, which is cut at its valid bytes. Constant expected time.
 pub fn free_next<D: Disk>(world: &mut World<D>)
-    requires fits { (spaces : Spaces)
-        × MemoryFits (record { world = world_seen world.old; spaces = spaces }) }
+    requires fits { IsFit world.old }
     // The same frame is taken next, and holds no page.
     ensures store { MatchOption (next_name world.old.store) (world.new.store ≡ world.old.store)
         (λ name. world.new.store ≡ after_abort world.old.store name) }
@@ -52,10 +51,8 @@ pub fn free_next<D: Disk>(world: &mut World<D>)
         → residence world.new.store page ≡ Residence.Absent }
     ensures lists { (frame : ℕ) → IsListedFrame world.new.store frame
         → IsListedFrame world.old.store frame }
-    ensures rest { world.new
-        ≡ record world.old { store = world.new.store; pending = world.new.pending } }
-    ensures step { (spaces : Spaces)
-        → MemoryFits (record { world = world_seen world.old; spaces = spaces })
+    ensures rest { OnlyStoreAndTails world.old world.new }
+    ensures step { (spaces : Spaces) → Fits world.old spaces
         → WorldStep (world_seen world.old) (world_seen world.new) spaces stays
         (is_name (next_name world.old.store)) }
 {

@@ -5,12 +5,12 @@ ghost use Rattle.page_hash.specs.declared.PageName.{PageName};
 ghost use Rattle.page_store.specs.Laws.{SameResidence};
 ghost use Rattle.page_store.specs.Seen.{IsListedFrame, residence};
 ghost use Rattle.page_store.specs.Steps.{after_reclaim};
-ghost use Rattle.vm_world.specs.MemoryFits.{MemoryFits};
 ghost use Rattle.vm_world.specs.Segments.{Spaces};
 ghost use Rattle.vm_world.specs.Serving.{ModifiesNone};
 ghost use Rattle.vm_world.specs.TranslationsFit.{TranslationFits};
+ghost use Rattle.vm_world.specs.Words.{Fits, IsFit, KeepsPages, KeepsEveryPage, OnlyStore, OnlyStoreAndHat};
 ghost use Rattle.vm_world.specs.World.{world_seen};
-ghost use Rattle.seg_ops.specs.Steps.{KeepsPages, MayShow, with_dropped_gathered};
+ghost use Rattle.seg_ops.specs.Steps.{MayShow, with_dropped_gathered};
 
 use crate::tables::gather;
 use block_device::Disk;
@@ -20,8 +20,7 @@ use vm_world::World;
 /// Loads a translation, and gathers the bits of the one that had to give way into its page. Constant expected time.
 pub fn install<D: Disk>(world: &mut World<D>, space: u32, page: u32, frame: u32, writable: bool)
     requires frame { frame < length world.old.store.frames }
-    requires fits { (spaces : Spaces)
-        × MemoryFits (record { world = world_seen world.old; spaces = spaces }) }
+    requires fits { IsFit world.old }
     // The page has its translation, and what gave way is told to its page.
     ensures loaded { translation_at world.new.hat.places space page
         ≡ Some (fresh_translation space page frame writable) }
@@ -31,10 +30,9 @@ pub fn install<D: Disk>(world: &mut World<D>, space: u32, page: u32, frame: u32,
     ensures kept { (s p : ℕ) → is_of s p (fresh_translation space page frame writable) ≡ false
         → holds s p (dropped_by_load world.old.hat space page) ≡ false
         → translation_at world.new.hat.places s p ≡ translation_at world.old.hat.places s p }
-    ensures rest { world.new ≡ record world.old { store = world.new.store; hat = world.new.hat } }
+    ensures rest { OnlyStoreAndHat world.old world.new }
     ensures stay { SameResidence world.old.store world.new.store }
-    ensures keeps { (spaces : Spaces)
-        → MemoryFits (record { world = world_seen world.old; spaces = spaces })
+    ensures keeps { (spaces : Spaces) → Fits world.old spaces
         → TranslationFits world.old.store world.old.anon world.old.maps spaces
         (fresh_translation space page frame writable)
         → KeepsPages (world_seen world.old) (world_seen world.new) spaces }
@@ -53,8 +51,7 @@ pub fn show<D: Disk>(
     writable: bool,
 )
     requires home { residence world.old.store name ≡ Residence.Home frame }
-    requires fits { (spaces : Spaces)
-        × MemoryFits (record { world = world_seen world.old; spaces = spaces }) }
+    requires fits { IsFit world.old }
     // The page has its translation, and what gave way is told to its page.
     ensures loaded { translation_at world.new.hat.places space page
         ≡ Some (fresh_translation space page frame writable) }
@@ -65,10 +62,9 @@ pub fn show<D: Disk>(
     ensures kept { (s p : ℕ) → is_of s p (fresh_translation space page frame writable) ≡ false
         → holds s p (dropped_by_load world.old.hat space page) ≡ false
         → translation_at world.new.hat.places s p ≡ translation_at world.old.hat.places s p }
-    ensures rest { world.new ≡ record world.old { store = world.new.store; hat = world.new.hat } }
+    ensures rest { OnlyStoreAndHat world.old world.new }
     ensures stay { SameResidence world.old.store world.new.store }
-    ensures keeps { (spaces : Spaces)
-        → MemoryFits (record { world = world_seen world.old; spaces = spaces })
+    ensures keeps { (spaces : Spaces) → Fits world.old spaces
         → MayShow (world_seen world.old) spaces space page name writable
         → KeepsPages (world_seen world.old) (world_seen world.new) spaces }
 {
@@ -80,20 +76,17 @@ pub fn show<D: Disk>(
 /// Constant expected time.
 pub fn take_back<D: Disk>(world: &mut World<D>, page: PageName)
     requires home { (frame : ℕ) × (residence world.old.store page ≡ Residence.Home frame) }
-    requires fits { (spaces : Spaces)
-        × MemoryFits (record { world = world_seen world.old; spaces = spaces }) }
+    requires fits { IsFit world.old }
     ensures store { world.new.store ≡ after_reclaim world.old.store page }
     ensures unlisted { (frame : ℕ) → residence world.old.store page ≡ Residence.Home frame
         → ¬ IsListedFrame world.new.store frame }
     // What stays.
-    ensures rest { world.new ≡ record world.old { store = world.new.store } }
+    ensures rest { OnlyStore world.old world.new }
     ensures stay { SameResidence world.old.store world.new.store }
     ensures frames { world.new.store.frames ≡ world.old.store.frames }
     ensures names { world.new.store.names ≡ world.old.store.names }
     ensures modified { ModifiesNone (world_seen world.old) (world_seen world.new) }
-    ensures keeps { (spaces : Spaces)
-        → MemoryFits (record { world = world_seen world.old; spaces = spaces })
-        → KeepsPages (world_seen world.old) (world_seen world.new) spaces }
+    ensures keeps { KeepsEveryPage world.old world.new }
 {
     world.store.reclaim(page);
 }

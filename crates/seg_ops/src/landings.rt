@@ -6,9 +6,9 @@ ghost use Rattle.page_store.specs.Notes.{Note, Notes};
 ghost use Rattle.page_store.specs.Out.{IsFlightOf};
 ghost use Rattle.page_store.specs.Steps.{after_end};
 ghost use Rattle.page_store.specs.Transfers.{EndsTransfer};
-ghost use Rattle.vm_world.specs.MemoryFits.{MemoryFits};
 ghost use Rattle.vm_world.specs.NotesFit.{NotesFit};
 ghost use Rattle.vm_world.specs.Segments.{Spaces};
+ghost use Rattle.vm_world.specs.Words.{Fits, OnlyStore};
 ghost use Rattle.vm_world.specs.World.{world_seen};
 ghost use Rattle.vm_world.specs.WorldSteps.{WorldStep, returns};
 
@@ -27,10 +27,9 @@ pub fn end_flight<D: Disk>(world: &mut World<D>, flight: Flight<D>)
     ensures store { world.new.store ≡ after_end world.old.store flight }
     ensures ends { EndsTransfer world.old.store world.new.store flight }
     // What stays.
-    ensures rest { world.new ≡ record world.old { store = world.new.store } }
+    ensures rest { OnlyStore world.old world.new }
     // For the seat's own note: no page changes, and the seat has nothing outside then.
-    ensures step { (spaces : Spaces) (notes : Notes) (note : Note)
-        → MemoryFits (record { world = world_seen world.old; spaces = spaces })
+    ensures step { (spaces : Spaces) (notes : Notes) (note : Note) → Fits world.old spaces
         → NotesFit (world_seen world.old) notes → notes flight.seat ≡ Some note
         → IsPerformed note flight
         → WorldStep (world_seen world.old) (world_seen world.new) spaces

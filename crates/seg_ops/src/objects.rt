@@ -1,14 +1,13 @@
 //! Zero objects that nothing shows any more.
-ghost use Rattle.std.specs.Prelude.{◌≡◌, ◌<◌, ◌≤◌, ℕ, length, replicate, Some, None};
+ghost use Rattle.std.specs.Prelude.{◌≡◌, ◌<◌, ◌≤◌, ℕ, length, replicate, None};
 ghost use Rattle.page_hash.specs.declared.PageName.{PageName};
 ghost use Rattle.page_store.specs.Seen.{residence};
 ghost use Rattle.anon_map.specs.Maps.{IsMapThere, places_of, with_places};
 ghost use Rattle.anon_slots.specs.Slots.{count_at};
 ghost use Rattle.vm_world.specs.CallSteps.{ChangesMemory};
-ghost use Rattle.vm_world.specs.MemoryFits.{MemoryFits};
 ghost use Rattle.vm_world.specs.SegmentSteps.{with_zero_object};
 ghost use Rattle.vm_world.specs.Segments.{Spaces};
-ghost use Rattle.vm_world.specs.World.{world_seen};
+ghost use Rattle.vm_world.specs.Words.{memory, Fits, OnlyAnonymous};
 ghost use Rattle.seg_ops.specs.Empties.{IsUnloadedZero};
 
 use crate::ranges::empty_place;
@@ -19,8 +18,7 @@ use vm_world::World;
 /// its flight where its page is moving. No page that shows the object has a translation. Time: the map's places.
 pub fn drop_object<D: Disk>(world: &mut World<D>, map: u32)
     requires there { IsMapThere world.old.maps map }
-    requires shown { (spaces : Spaces) × (z : ℕ)
-        × MemoryFits (record { world = world_seen world.old; spaces = spaces })
+    requires shown { (spaces : Spaces) × (z : ℕ) × Fits world.old spaces
         × IsUnloadedZero world.old.hat.places spaces z map }
     // The places are empty, and nothing is reserved or given up.
     ensures maps { world.new.maps ≡ with_places world.old.maps map
@@ -32,17 +30,11 @@ pub fn drop_object<D: Disk>(world: &mut World<D>, map: u32)
     ensures stay { (name : PageName)
         → (name.object ≡ 64 → 0 < count_at world.new.anon name.page)
         → residence world.new.store name ≡ residence world.old.store name }
-    ensures rest { world.new ≡ record world.old {
-      store = world.new.store;
-      anon = world.new.anon;
-      maps = world.new.maps;
-    } }
+    ensures rest { OnlyAnonymous world.old world.new }
     // In flat memory the zero object is zeros, and nothing else changes.
-    ensures changes { (spaces : Spaces) (p z : ℕ)
-        → MemoryFits (record { world = world_seen world.old; spaces = spaces })
+    ensures changes { (spaces : Spaces) (p z : ℕ) → Fits world.old spaces
         → IsUnloadedZero world.old.hat.places spaces z map
-        → ChangesMemory p (record { world = world_seen world.old; spaces = spaces })
-        (record { world = world_seen world.new; spaces = spaces })
+        → ChangesMemory p (memory world.old spaces) (memory world.new spaces)
         (λ F G. G ≡ with_zero_object F z (length (places_of world.old.maps map))) }
 {
     for place in 0..world.maps.pages(map) {

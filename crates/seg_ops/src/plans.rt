@@ -1,42 +1,32 @@
 //! What a page that isn't home needs: a transfer, or somebody who is waited for.
-ghost use Rattle.std.specs.Prelude.{◌≡◌, ◌≢◌, ℕ, length, None, IsSome, IsTrue, IsFalse};
-ghost use Rattle.core_arena.specs.Bytes.{bytes_at};
+ghost use Rattle.std.specs.Prelude.{◌≡◌, ◌≢◌, IsTrue, IsFalse};
 ghost use Rattle.page_store.specs.Bays.{bay_at, missing};
-ghost use Rattle.page_store.specs.Laws.{SameResidence};
-ghost use Rattle.page_store.specs.Notes.{Notes};
 ghost use Rattle.page_store.specs.Seen.{residence};
 ghost use Rattle.page_store.specs.Waits.{plan_page};
 ghost use Rattle.page_store.specs.declared.residence.Residence.TheVariants.{Absent};
-ghost use Rattle.vm_world.specs.MemoryFits.{MemoryFits};
-ghost use Rattle.vm_world.specs.NotesFit.{NotesFit};
 ghost use Rattle.vm_world.specs.Segments.{Spaces};
-ghost use Rattle.vm_world.specs.Serving.{ModifiesNone};
+ghost use Rattle.vm_world.specs.Words.{memory, Fits, IsFit, IsKnown, OneIsHome};
 ghost use Rattle.vm_world.specs.World.{world_seen, world_table, is_unpushed, page_exists};
 ghost use Rattle.seg_ops.specs.Plans.{IsAsked, FetchesPage};
-ghost use Rattle.seg_ops.specs.Steps.{KeepsPages};
+ghost use Rattle.seg_ops.specs.Rooms.{MakesRoom};
 
 use crate::rooms::make_room;
 use block_device::Disk;
-use page_store::{Hold, PageName, Plan, SWAP_DISK, SWAP_OBJECT};
-use vm_world::World;
+use page_store::{PageName, Plan, SWAP_DISK, SWAP_OBJECT};
+use vm_world::{Wants, World};
 
-/// What an access to a page of a segment comes to.
+/// What a fault comes to, where nothing must come first.
 #[derive(Clone, Copy, PartialEq, Eq, Debug)]
-pub enum Step {
+pub enum Fault {
     /// The page has its translation.
     Loaded,
     /// The page is past the end of its object.
     Past,
-    /// This transfer is needed first, and can begin.
-    Need(Plan),
-    /// It has to wait for this.
-    Busy(Hold),
 }
 
 /// The disk that a page lives on.
 fn disk_of<D: Disk>(world: &World<D>, name: PageName) -> u32
-    requires fits { (spaces : Spaces)
-        × MemoryFits (record { world = world_seen world.now; spaces = spaces }) }
+    requires fits { IsFit world.now }
     requires exists { IsTrue (page_exists world.now.files world.now.anon name) }
     ensures disk { result ≡ (world_table (world_seen world.now) name).disk }
     ensures there { bay_at world.now.store.bays result ≢ missing }
@@ -48,9 +38,8 @@ fn disk_of<D: Disk>(world: &World<D>, name: PageName) -> u32
 }
 
 /// A transfer that can begin, or what it waits for: the seat that holds the page's lock, or that has the disk.
-pub fn ask<D: Disk>(world: &World<D>, plan: Plan) -> Step
-    requires fits { (spaces : Spaces)
-        × MemoryFits (record { world = world_seen world.now; spaces = spaces }) }
+pub fn ask<D: Disk>(world: &World<D>, plan: Plan) -> Wants
+    requires fits { IsFit world.now }
     requires exists { IsTrue (page_exists world.now.files world.now.anon (plan_page plan)) }
     ensures { IsAsked (world_seen world.now) plan result }
 {
@@ -60,32 +49,25 @@ pub fn ask<D: Disk>(world: &World<D>, plan: Plan) -> Step
     };
     let disk = disk_of(world, name);
     match world.store.ready(&plan, disk) {
-        None => Step::Need(plan),
-        Some(hold) => Step::Busy(hold),
+        None => Wants::Transfer(plan),
+        Some(hold) => Wants::Seat(hold),
     }
 }
 
 /// What a page needs that no frame holds and that isn't blank: to be read in, where a frame can be had, else that a
 /// modified page is pushed.
-pub fn fetch<D: Disk>(world: &mut World<D>, name: PageName) -> Step
-    requires home { (frame : ℕ) × IsSome (bytes_at world.old.store.frames frame) }
+pub fn fetch<D: Disk>(world: &mut World<D>, name: PageName) -> Wants
+    requires home { OneIsHome world.old.store }
     requires absent { residence world.old.store name ≡ Absent }
     requires exists { IsTrue (page_exists world.old.files world.old.anon name) }
     requires pushed { IsFalse (is_unpushed world.old.files world.old.anon name) }
-    requires fits { (spaces : Spaces)
-        × MemoryFits (record { world = world_seen world.old; spaces = spaces }) }
-    requires noted { (notes : Notes) × NotesFit (world_seen world.old) notes }
+    requires fits { IsFit world.old }
+    requires noted { IsKnown world.old }
     // What it answers to a call that wants the page home.
-    ensures fetches { (spaces : Spaces)
-        → MemoryFits (record { world = world_seen world.old; spaces = spaces })
-        → FetchesPage (record { world = world_seen world.new; spaces = spaces }) name result }
+    ensures fetches { (spaces : Spaces) → Fits world.old spaces
+        → FetchesPage (memory world.new spaces) name result }
     // What stays.
-    ensures rest { world.new ≡ record world.old { store = world.new.store; hat = world.new.hat } }
-    ensures stay { SameResidence world.old.store world.new.store }
-    ensures modified { ModifiesNone (world_seen world.old) (world_seen world.new) }
-    ensures keeps { (spaces : Spaces)
-        → MemoryFits (record { world = world_seen world.old; spaces = spaces })
-        → KeepsPages (world_seen world.old) (world_seen world.new) spaces }
+    ensures makes { MakesRoom world.old world.new }
 {
     match make_room(world) {
         None => ask(world, Plan::Read(name)),

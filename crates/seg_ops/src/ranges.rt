@@ -6,8 +6,8 @@ ghost use Rattle.page_store.specs.Seen.{residence};
 ghost use Rattle.anon_map.specs.Maps.{IsMapThere, places_of, with_places};
 ghost use Rattle.anon_slots.specs.Slots.{count_at};
 ghost use Rattle.vm_world.specs.CallSteps.{ChangesMemory};
-ghost use Rattle.vm_world.specs.MemoryFits.{MemoryFits};
 ghost use Rattle.vm_world.specs.Segments.{Spaces, Spot};
+ghost use Rattle.vm_world.specs.Words.{memory, Fits, IsFit, OnlyAnonymous};
 ghost use Rattle.vm_world.specs.World.{world_seen};
 ghost use Rattle.seg_ops.specs.Empties.{EmptiesPlaces, IsUnloadedZero, OwnsPlaces, places_emptied};
 ghost use Rattle.seg_ops.specs.OwnPages.{without_own_page, without_own_pages};
@@ -21,8 +21,7 @@ use vm_world::World;
 pub(crate) fn empty_place<D: Disk>(world: &mut World<D>, map: u32, place: u32)
     requires there { IsMapThere world.old.maps map }
     requires within { place < length (places_of world.old.maps map) }
-    requires fits { (spaces : Spaces)
-        × MemoryFits (record { world = world_seen world.old; spaces = spaces }) }
+    requires fits { IsFit world.old }
     // The place is empty, and nothing is reserved or given up.
     ensures maps { world.new.maps ≡ with_places world.old.maps map
         (slice_set (places_of world.old.maps map) place None) }
@@ -33,23 +32,17 @@ pub(crate) fn empty_place<D: Disk>(world: &mut World<D>, map: u32, place: u32)
     ensures stay { (name : PageName)
         → (name.object ≡ 64 → 0 < count_at world.new.anon name.page)
         → residence world.new.store name ≡ residence world.old.store name }
-    ensures rest { world.new ≡ record world.old {
-      store = world.new.store;
-      anon = world.new.anon;
-      maps = world.new.maps;
-    } }
+    ensures rest { OnlyAnonymous world.old world.new }
     // In flat memory the cell of its page loses its own page, and nothing else changes.
-    ensures changes { (spaces : Spaces) (p q : ℕ) (x : Spot)
-        → MemoryFits (record { world = world_seen world.old; spaces = spaces })
+    ensures changes { (spaces : Spaces) (p q : ℕ) (x : Spot) → Fits world.old spaces
         → OwnsAlone spaces p q map place x → translation_at world.old.hat.places p q ≡ None
-        → ChangesMemory p (record { world = world_seen world.old; spaces = spaces })
-        (record { world = world_seen world.new; spaces = spaces })
+        → ChangesMemory p (memory world.old spaces) (memory world.new spaces)
         (λ F G. G ≡ without_own_page F p q) }
     // A zero object's is emptied alone.
-    ensures zeros { (spaces : Spaces) (z : ℕ)
-        → MemoryFits (record { world = world_seen world.old; spaces = spaces })
+    ensures zeros { (spaces : Spaces) (z : ℕ) → Fits world.old spaces
         → IsUnloadedZero world.old.hat.places spaces z map
-        → EmptiesPlaces (world_seen world.old) (world_seen world.new) spaces map (λ i. i ≡ place) }
+        → EmptiesPlaces (world_seen world.old) (world_seen world.new) spaces map
+        (λ i. i ≡ place) }
 {
     let Some(slot) = world.maps.get(map, place) else {
         return;
@@ -67,8 +60,7 @@ pub fn drop_places<D: Disk>(world: &mut World<D>, map: u32, from: u32, end: u32)
     requires there { IsMapThere world.old.maps map }
     requires range { from ≤ end }
     requires within { end ≤ length (places_of world.old.maps map) }
-    requires owned { (spaces : Spaces) × (p : ℕ) × (first : ℕ)
-        × MemoryFits (record { world = world_seen world.old; spaces = spaces })
+    requires owned { (spaces : Spaces) × (p : ℕ) × (first : ℕ) × Fits world.old spaces
         × OwnsPlaces world.old.hat.places spaces p first map from (end - from) }
     // The places are empty, and nothing is reserved or given up.
     ensures maps { world.new.maps ≡ with_places world.old.maps map
@@ -80,17 +72,11 @@ pub fn drop_places<D: Disk>(world: &mut World<D>, map: u32, from: u32, end: u32)
     ensures stay { (name : PageName)
         → (name.object ≡ 64 → 0 < count_at world.new.anon name.page)
         → residence world.new.store name ≡ residence world.old.store name }
-    ensures rest { world.new ≡ record world.old {
-      store = world.new.store;
-      anon = world.new.anon;
-      maps = world.new.maps;
-    } }
+    ensures rest { OnlyAnonymous world.old world.new }
     // In flat memory the cells of their pages lose their own pages, and nothing else changes.
-    ensures changes { (spaces : Spaces) (p first : ℕ)
-        → MemoryFits (record { world = world_seen world.old; spaces = spaces })
+    ensures changes { (spaces : Spaces) (p first : ℕ) → Fits world.old spaces
         → OwnsPlaces world.old.hat.places spaces p first map from (end - from)
-        → ChangesMemory p (record { world = world_seen world.old; spaces = spaces })
-        (record { world = world_seen world.new; spaces = spaces })
+        → ChangesMemory p (memory world.old spaces) (memory world.new spaces)
         (λ F G. G ≡ without_own_pages F p first (end - from)) }
 {
     for place in from..end {

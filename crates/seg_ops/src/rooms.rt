@@ -1,20 +1,13 @@
 //! Room for another page: a victim's bits are gathered, and it is released where it is clean.
-ghost use Rattle.std.specs.Prelude.{◌≡◌, ◌≢◌, ℕ, ◌<◌, ◌++◌, ◌∷◌, [], length, false, Some, None, IsSome, IfSome, MatchOption};
+ghost use Rattle.std.specs.Prelude.{◌≡◌, ◌≢◌, ℕ, ◌<◌, ◌++◌, ◌∷◌, [], length, false, None, IsSome, IfSome};
 ghost use Rattle.core_arena.specs.Bytes.{bytes_at};
 ghost use Rattle.hat_layer.specs.Pool.{bits_of, change_frame, drop_frame, with_clear_bits};
 ghost use Rattle.page_lock.specs.Rows.{row_at};
-ghost use Rattle.page_store.specs.Laws.{SameResidence};
-ghost use Rattle.page_store.specs.Notes.{Notes};
 ghost use Rattle.page_store.specs.Seen.{IsListedFrame, residence};
 ghost use Rattle.page_store.specs.Steps.{next_frame};
-ghost use Rattle.vm_world.specs.MemoryFits.{MemoryFits};
-ghost use Rattle.vm_world.specs.NotesFit.{NotesFit};
-ghost use Rattle.vm_world.specs.Segments.{Spaces};
-ghost use Rattle.vm_world.specs.Serving.{ModifiesNone};
-ghost use Rattle.vm_world.specs.Wants.{IsDirtyPage};
-ghost use Rattle.vm_world.specs.World.{world_seen};
-ghost use Rattle.seg_ops.specs.Rooms.{ChoosesBeside};
-ghost use Rattle.seg_ops.specs.Steps.{KeepsPages, IsUnwritten, with_bits_gathered};
+ghost use Rattle.seg_ops.specs.Rooms.{ChoosesBeside, HasRoomUnless, MakesRoom};
+ghost use Rattle.seg_ops.specs.Steps.{IsUnwritten, with_bits_gathered};
+ghost use Rattle.vm_world.specs.Words.{IsFit, IsKnown, OneIsHome, OneIsHomeBeside};
 
 use crate::tables::add_bits;
 use block_device::Disk;
@@ -25,8 +18,7 @@ use vm_world::World;
 pub fn sync<D: Disk>(world: &mut World<D>, frame: u32)
     requires frame { frame < length world.old.store.frames }
     requires unlisted { ¬ IsListedFrame world.old.store frame }
-    requires fits { (spaces : Spaces)
-        × MemoryFits (record { world = world_seen world.old; spaces = spaces }) }
+    requires fits { IsFit world.old }
     // The bits are in the page.
     ensures store { world.new.store
         ≡ with_bits_gathered world.old.store frame (bits_of frame world.old.hat.places) }
@@ -34,12 +26,7 @@ pub fn sync<D: Disk>(world: &mut World<D>, frame: u32)
         ≡ change_frame frame with_clear_bits world.old.hat.places }
     ensures unwritten { IsUnwritten world.new.hat.places frame }
     // What stays.
-    ensures rest { world.new ≡ record world.old { store = world.new.store; hat = world.new.hat } }
-    ensures stay { SameResidence world.old.store world.new.store }
-    ensures modified { ModifiesNone (world_seen world.old) (world_seen world.new) }
-    ensures keeps { (spaces : Spaces)
-        → MemoryFits (record { world = world_seen world.old; spaces = spaces })
-        → KeepsPages (world_seen world.old) (world_seen world.new) spaces }
+    ensures makes { MakesRoom world.old world.new }
 {
     let told = world.hat.page_sync(frame);
     add_bits(&mut world.store, frame, told);
@@ -51,21 +38,15 @@ pub fn evict<D: Disk>(world: &mut World<D>, frame: u32)
     requires unlisted { ¬ IsListedFrame world.old.store frame }
     requires clean { (row_at world.old.store.rows frame).modified ≡ false }
     requires unwritten { IsUnwritten world.old.hat.places frame }
-    requires fits { (spaces : Spaces)
-        × MemoryFits (record { world = world_seen world.old; spaces = spaces }) }
-    requires noted { (notes : Notes) × NotesFit (world_seen world.old) notes }
+    requires fits { IsFit world.old }
+    requires noted { IsKnown world.old }
     // The frame can be taken.
     ensures store { world.new.store
         ≡ record world.old.store { cached = world.old.store.cached ++ frame ∷ [] } }
     ensures places { world.new.hat.places ≡ drop_frame frame world.old.hat.places }
     ensures room { IsSome (next_frame world.new.store) }
     // What stays.
-    ensures rest { world.new ≡ record world.old { store = world.new.store; hat = world.new.hat } }
-    ensures stay { SameResidence world.old.store world.new.store }
-    ensures modified { ModifiesNone (world_seen world.old) (world_seen world.new) }
-    ensures keeps { (spaces : Spaces)
-        → MemoryFits (record { world = world_seen world.old; spaces = spaces })
-        → KeepsPages (world_seen world.old) (world_seen world.new) spaces }
+    ensures makes { MakesRoom world.old world.new }
 {
     world.hat.page_unload(frame);
     world.store.release(frame);
@@ -76,23 +57,14 @@ fn try_page<D: Disk>(world: &mut World<D>, page: PageName) -> Option<PageName>
     requires victim { (frame : ℕ) × (residence world.old.store page ≡ Residence.Home frame)
         × (¬ IsListedFrame world.old.store frame) }
     requires none { next_frame world.old.store ≡ None }
-    requires fits { (spaces : Spaces)
-        × MemoryFits (record { world = world_seen world.old; spaces = spaces }) }
-    requires noted { (notes : Notes) × NotesFit (world_seen world.old) notes }
-    ensures room { MatchOption result (IsSome (next_frame world.new.store))
-        (λ name. (next_frame world.new.store ≡ None) × IsDirtyPage (world_seen world.new) name) }
+    requires fits { IsFit world.old }
+    requires noted { IsKnown world.old }
+    ensures room { HasRoomUnless world.new result }
     ensures pushed { IfSome result (λ name. name ≡ page) }
     // What stays.
-    ensures rest { world.new ≡ record world.old { store = world.new.store; hat = world.new.hat } }
-    ensures stay { SameResidence world.old.store world.new.store }
-    ensures names { world.new.store.names ≡ world.old.store.names }
-    ensures frames { world.new.store.frames ≡ world.old.store.frames }
     ensures lists { (frame : ℕ) → residence world.old.store page ≢ Residence.Home frame
         → IsListedFrame world.new.store frame → IsListedFrame world.old.store frame }
-    ensures modified { ModifiesNone (world_seen world.old) (world_seen world.new) }
-    ensures keeps { (spaces : Spaces)
-        → MemoryFits (record { world = world_seen world.old; spaces = spaces })
-        → KeepsPages (world_seen world.old) (world_seen world.new) spaces }
+    ensures makes { MakesRoom world.old world.new }
 {
     let Residence::Home(frame) = world.store.resident(page) else {
         unreachable!();
@@ -108,22 +80,13 @@ fn try_page<D: Disk>(world: &mut World<D>, page: PageName) -> Option<PageName>
 
 /// A page loses its frame: None where it was clean, else a modified page, which is to be pushed first.
 fn try_victim<D: Disk>(world: &mut World<D>) -> Option<PageName>
-    requires home { (frame : ℕ) × IsSome (bytes_at world.old.store.frames frame) }
+    requires home { OneIsHome world.old.store }
     requires none { next_frame world.old.store ≡ None }
-    requires fits { (spaces : Spaces)
-        × MemoryFits (record { world = world_seen world.old; spaces = spaces }) }
-    requires noted { (notes : Notes) × NotesFit (world_seen world.old) notes }
-    ensures room { MatchOption result (IsSome (next_frame world.new.store))
-        (λ name. (next_frame world.new.store ≡ None) × IsDirtyPage (world_seen world.new) name) }
+    requires fits { IsFit world.old }
+    requires noted { IsKnown world.old }
+    ensures room { HasRoomUnless world.new result }
     // What stays.
-    ensures rest { world.new ≡ record world.old { store = world.new.store; hat = world.new.hat } }
-    ensures stay { SameResidence world.old.store world.new.store }
-    ensures names { world.new.store.names ≡ world.old.store.names }
-    ensures frames { world.new.store.frames ≡ world.old.store.frames }
-    ensures modified { ModifiesNone (world_seen world.old) (world_seen world.new) }
-    ensures keeps { (spaces : Spaces)
-        → MemoryFits (record { world = world_seen world.old; spaces = spaces })
-        → KeepsPages (world_seen world.old) (world_seen world.new) spaces }
+    ensures makes { MakesRoom world.old world.new }
 {
     let Some(name) = world.store.victim() else {
         unreachable!();
@@ -149,23 +112,14 @@ fn victim_beside<D: Disk>(store: &mut Store<D>, frame: u32) -> Option<PageName>
 /// which is to be pushed first. Neither is the page in that frame. Time: the frames.
 pub fn make_room_beside<D: Disk>(world: &mut World<D>, frame: u32) -> Option<PageName>
     requires frame { frame < length world.old.store.frames }
-    requires home { (other : ℕ) × (other ≢ frame) × IsSome (bytes_at world.old.store.frames other) }
-    requires fits { (spaces : Spaces)
-        × MemoryFits (record { world = world_seen world.old; spaces = spaces }) }
-    requires noted { (notes : Notes) × NotesFit (world_seen world.old) notes }
-    ensures room { MatchOption result (IsSome (next_frame world.new.store))
-        (λ name. (next_frame world.new.store ≡ None) × IsDirtyPage (world_seen world.new) name) }
+    requires home { OneIsHomeBeside world.old.store frame }
+    requires fits { IsFit world.old }
+    requires noted { IsKnown world.old }
+    ensures room { HasRoomUnless world.new result }
     ensures pushed { IfSome result (λ name. residence world.old.store name ≢ Residence.Home frame) }
     ensures unlisted { IsListedFrame world.new.store frame → IsListedFrame world.old.store frame }
     // What stays.
-    ensures rest { world.new ≡ record world.old { store = world.new.store; hat = world.new.hat } }
-    ensures stay { SameResidence world.old.store world.new.store }
-    ensures names { world.new.store.names ≡ world.old.store.names }
-    ensures frames { world.new.store.frames ≡ world.old.store.frames }
-    ensures modified { ModifiesNone (world_seen world.old) (world_seen world.new) }
-    ensures keeps { (spaces : Spaces)
-        → MemoryFits (record { world = world_seen world.old; spaces = spaces })
-        → KeepsPages (world_seen world.old) (world_seen world.new) spaces }
+    ensures makes { MakesRoom world.old world.new }
 {
     if world.store.available() {
         return None;
@@ -178,21 +132,12 @@ pub fn make_room_beside<D: Disk>(world: &mut World<D>, frame: u32) -> Option<Pag
 
 /// Makes room for another page: None where a frame can be taken then, else a modified page, which is to be pushed first.
 pub fn make_room<D: Disk>(world: &mut World<D>) -> Option<PageName>
-    requires home { (frame : ℕ) × IsSome (bytes_at world.old.store.frames frame) }
-    requires fits { (spaces : Spaces)
-        × MemoryFits (record { world = world_seen world.old; spaces = spaces }) }
-    requires noted { (notes : Notes) × NotesFit (world_seen world.old) notes }
-    ensures room { MatchOption result (IsSome (next_frame world.new.store))
-        (λ name. (next_frame world.new.store ≡ None) × IsDirtyPage (world_seen world.new) name) }
+    requires home { OneIsHome world.old.store }
+    requires fits { IsFit world.old }
+    requires noted { IsKnown world.old }
+    ensures room { HasRoomUnless world.new result }
     // What stays.
-    ensures rest { world.new ≡ record world.old { store = world.new.store; hat = world.new.hat } }
-    ensures stay { SameResidence world.old.store world.new.store }
-    ensures names { world.new.store.names ≡ world.old.store.names }
-    ensures frames { world.new.store.frames ≡ world.old.store.frames }
-    ensures modified { ModifiesNone (world_seen world.old) (world_seen world.new) }
-    ensures keeps { (spaces : Spaces)
-        → MemoryFits (record { world = world_seen world.old; spaces = spaces })
-        → KeepsPages (world_seen world.old) (world_seen world.new) spaces }
+    ensures makes { MakesRoom world.old world.new }
 {
     if world.store.available() {
         return None;

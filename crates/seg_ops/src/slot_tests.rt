@@ -18,7 +18,7 @@ use hat_layer::Hat;
 use page_store::{Flight, PageName, Plan, Residence, SWAP_OBJECT, Store};
 use std::alloc::{AllocError, Global};
 use std::test::Fail;
-use vm_world::{World, ZeroObjects};
+use vm_world::{Wants, World, ZeroObjects};
 use vnode_files::Files;
 
 #[derive(Clone, Copy, PartialEq, Eq, Debug)]
@@ -168,13 +168,11 @@ fn read_in(world: &mut World<MemDisk>, slot: u32) -> Told
     let name = page_of_slot(slot);
     match world.store.resident(name) {
         Residence::Absent => match ask(world, Plan::Read(name)) {
-            Step::Need(_) => {
+            Wants::Transfer(_) => {
                 let flight = begin_read(world, 1, name);
                 fly(world, flight)
             }
-            Step::Loaded => Told::No,
-            Step::Past => Told::No,
-            Step::Busy(_) => Told::No,
+            Wants::Seat(_) => Told::No,
         },
         Residence::Home(_) => Told::No,
         Residence::Moving(_) => Told::No,

@@ -15,7 +15,7 @@ use hat_layer::Hat;
 use page_store::{Flight, PageName, Plan, Residence, Store};
 use std::alloc::{AllocError, Global};
 use std::test::Fail;
-use vm_world::{World, ZeroObjects};
+use vm_world::{Wants, World, ZeroObjects};
 use vnode_files::{Extent, Extents, FileInfo, FileName, Files};
 
 #[derive(Clone, Copy, PartialEq, Eq, Debug)]
@@ -48,7 +48,7 @@ enum Told {
     Word(u32),
     /// This page has to be pushed first.
     Dirty(PageName),
-    Step(Step),
+    Wants(Wants),
 }
 
 const FIRST: PageName = PageName { object: 0, page: 0 };
@@ -223,7 +223,7 @@ fn try_fetch(world: &mut World<MemDisk>, page: u32, home: u32) -> Told
         return Told::No;
     }
     match world.store.resident(name) {
-        Residence::Absent => Told::Step(fetch(world, name)),
+        Residence::Absent => Told::Wants(fetch(world, name)),
         Residence::Home(_) => Told::No,
         Residence::Moving(_) => Told::No,
     }
@@ -252,13 +252,11 @@ fn try_read(world: &mut World<MemDisk>, page: u32) -> Told
     }
     match world.store.resident(name) {
         Residence::Absent => match ask(world, Plan::Read(name)) {
-            Step::Need(_) => {
+            Wants::Transfer(_) => {
                 let flight = begin_read(world, 1, name);
                 fly(world, flight)
             }
-            Step::Loaded => Told::No,
-            Step::Past => Told::No,
-            Step::Busy(_) => Told::No,
+            Wants::Seat(_) => Told::No,
         },
         Residence::Home(_) => Told::No,
         Residence::Moving(_) => Told::No,
@@ -277,13 +275,11 @@ fn push_gathered(world: &mut World<MemDisk>, page: u32, frame: u32) -> Told
         return Told::No;
     }
     match ask(world, Plan::Push(name)) {
-        Step::Need(_) => {
+        Wants::Transfer(_) => {
             let flight = begin_push(world, 1, name);
             fly(world, flight)
         }
-        Step::Loaded => Told::No,
-        Step::Past => Told::No,
-        Step::Busy(_) => Told::No,
+        Wants::Seat(_) => Told::No,
     }
 }
 
@@ -328,7 +324,10 @@ const ACTS: [(Act, Told); 43] = [
     (Act::Get(0x1000), Told::No),
     (Act::Show(0), Told::Yes),
     (Act::Get(0x1000), Told::Word(0)),
-    (Act::Fetch(2, 0), Told::Step(Step::Need(Plan::Read(LAST)))),
+    (
+        Act::Fetch(2, 0),
+        Told::Wants(Wants::Transfer(Plan::Read(LAST))),
+    ),
     (Act::Put(0x1004, 5), Told::Yes),
     // A frame is free: the page is pushed from a snapshot, and stays home with its translation.
     (Act::Push(0), Told::Yes),
@@ -341,13 +340,19 @@ const ACTS: [(Act, Told); 43] = [
     // No frame is free: page 0, which isn't modified, loses its own and its translation.
     (Act::Room(0), Told::Yes),
     (Act::Get(0x1000), Told::No),
-    (Act::Fetch(2, 0), Told::Step(Step::Need(Plan::Read(LAST)))),
+    (
+        Act::Fetch(2, 0),
+        Told::Wants(Wants::Transfer(Plan::Read(LAST))),
+    ),
     // It is taken off the cache list.
     (Act::Show(0), Told::Yes),
     (Act::Get(0x1004), Told::Word(5)),
     (Act::Put(0x1ffc, 7), Told::Yes),
     (Act::Room(0), Told::Dirty(FIRST)),
-    (Act::Fetch(2, 0), Told::Step(Step::Need(Plan::Push(FIRST)))),
+    (
+        Act::Fetch(2, 0),
+        Told::Wants(Wants::Transfer(Plan::Push(FIRST))),
+    ),
     // Its own frame goes out, without its translation; after the failure it is modified again.
     (Act::Push(0), Told::Failed),
     (Act::Get(0x1ffc), Told::No),
@@ -364,7 +369,10 @@ const ACTS: [(Act, Told); 43] = [
     (Act::Show(2), Told::Yes),
     (Act::Get(0x3000), Told::Word(0x1313_1313)),
     // Page 1 was pushed, and gives way.
-    (Act::Fetch(0, 2), Told::Step(Step::Need(Plan::Read(FIRST)))),
+    (
+        Act::Fetch(0, 2),
+        Told::Wants(Wants::Transfer(Plan::Read(FIRST))),
+    ),
     (Act::Read(0), Told::Yes),
     (Act::Show(1), Told::No),
     // Page 0 has what was put before it was pushed.
@@ -372,7 +380,10 @@ const ACTS: [(Act, Told); 43] = [
     (Act::Get(0x1004), Told::Word(5)),
     (Act::Get(0x1ffc), Told::Word(7)),
     (Act::Put(0x3000, 9), Told::Yes),
-    (Act::Fetch(1, 0), Told::Step(Step::Need(Plan::Push(LAST)))),
+    (
+        Act::Fetch(1, 0),
+        Told::Wants(Wants::Transfer(Plan::Push(LAST))),
+    ),
 ];
 
 #[test]

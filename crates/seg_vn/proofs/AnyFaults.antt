@@ -1,5 +1,5 @@
 -- What faults at places of any mapping come to, by the steps that they take.
-use Rattle.std.proofs.Common.{◌≡◌, ℕ, Bool, true, false, List, [], ◌∷◌, length, Option, Some, None, refl, ap, ◌∙◌}
+use Rattle.std.proofs.Common.{◌≡◌, ℕ, Bool, true, false, List, [], ◌∷◌, length, Option, Some, None, refl, ap, ◌∙◌, Result, Ok, Err}
 use Rattle.std.specs.Prelude.{IfSome}
 use Rattle.std.specs.Ordering.{nat_cmp}
 use Rattle.std.specs.FinSet as set
@@ -25,9 +25,11 @@ use Rattle.vm_world.specs.WorldSteps.{WorldStep, stays, tails_lost}
 use Rattle.vm_world.proofs.Callers.{same-modes}
 use Rattle.vm_world.proofs.CallSteps.{call_rule}
 use Rattle.vm_world.proofs.FrameRule.{frame_law}
-use Rattle.seg_ops.specs.declared.plans.Step.{Step}
-use Rattle.seg_ops.specs.declared.plans.Step.TheVariants as step
-use Rattle.seg_ops.specs.Steps.{KeepsPages}
+use Rattle.seg_ops.specs.declared.plans.Fault.{Fault}
+use Rattle.seg_ops.specs.declared.plans.Fault.TheVariants as fault
+use Rattle.vm_world.specs.declared.wants.Wants.{Wants}
+use Rattle.vm_world.specs.declared.wants.Wants.TheVariants as wants
+use Rattle.vm_world.specs.Words.{KeepsPages}
 use Rattle.seg_ops.proofs.OwnShown.{own_shown_law}
 use Rattle.seg_ops.proofs.StillSteps.{memory_of}
 use Rattle.seg_ops.specs.Faults.{Accesses, FaultMeans, EndsThere, ServesFault, after_fault}
@@ -95,12 +97,12 @@ pub lost-none : (F : Flat) (w : World) → next_name w.store ≡ None → tails_
 lost-none F w free = ap (λ (o : Option PageName). tails_cleared F (tails_lost w (is_name o))) free ∙ no-tails F
 
 -- flat memory stays well formed over a fault
-pub fault-whole : (answer : Step) (write : Bool) (F : Flat) (p q : ℕ) → IsFlat F → IsFlat (after_fault answer write F p q)
-fault-whole step.Loaded true F p q flat = own_shown_law.whole F p q flat
-fault-whole step.Loaded false F p q flat = flat
-fault-whole step.Past write F p q flat = flat
-fault-whole (step.Need x) write F p q flat = flat
-fault-whole (step.Busy h) write F p q flat = flat
+pub fault-whole : (answer : Result Fault Wants) (write : Bool) (F : Flat) (p q : ℕ) → IsFlat F → IsFlat (after_fault answer write F p q)
+fault-whole (Ok fault.Loaded) true F p q flat = own_shown_law.whole F p q flat
+fault-whole (Ok fault.Loaded) false F p q flat = flat
+fault-whole (Ok fault.Past) write F p q flat = flat
+fault-whole (Err (wants.Transfer x)) write F p q flat = flat
+fault-whole (Err (wants.Seat h)) write F p q flat = flat
 
 -- A PAGE IS MADE: first steps that keep all pages; then the next frame is freed, the page is made there, and its translation is loaded.
 pub serves-made : (old before freed made new : World) (spaces : Spaces) (p q : ℕ) (x : Spot) (write writable : Bool) (pending more frame : ℕ) (f : Flat → Flat)
@@ -108,15 +110,15 @@ pub serves-made : (old before freed made new : World) (spaces : Spaces) (p q : �
     → WorldStep before freed spaces stays (is_name (next_name before.store)) → PendsTails before (is_name (next_name before.store)) pending more → IfSome (next_name before.store) (λ (n : PageName). LosesFrame before freed n)
     → ChangesMemory p (memory_of freed spaces) (memory_of made spaces) (λ F G. G ≡ f F)
     → ((born : set.FinSet nat_cmp) (notes : Notes) → NotesFit freed notes → AllTell freed notes → IsFlat (flat_memory (memory_of freed spaces) born notes)
-    → f (flat_memory (memory_of freed spaces) born notes) ≡ after_fault step.Loaded write (flat_memory (memory_of freed spaces) born notes) p q)
-    → KeepsPages made new spaces → translation_at new.hat.places p q ≡ Some (fresh_translation p q frame writable) → (write ≡ true → writable ≡ true) → SlotsAfter old new x write step.Loaded
-    → ServesFault (memory_of old spaces) (memory_of new spaces) pending more p q x write step.Loaded
+    → f (flat_memory (memory_of freed spaces) born notes) ≡ after_fault (Ok fault.Loaded) write (flat_memory (memory_of freed spaces) born notes) p q)
+    → KeepsPages made new spaces → translation_at new.hat.places p q ≡ Some (fresh_translation p q frame writable) → (write ≡ true → writable ≡ true) → SlotsAfter old new x write (Ok fault.Loaded)
+    → ServesFault (memory_of old spaces) (memory_of new spaces) pending more p q x write (Ok fault.Loaded)
 serves-made old before freed made new spaces p q x write writable pending more frame f fits keeps names files frees pends took makes same shows loaded lets slots = record {
   mid = freed;
   first = takes-later old before freed spaces pending more fits keeps names files (takes-next before freed spaces pending more frees pends took);
-  acts = call_rule.joined p (memory_of freed spaces) (memory_of made spaces) (memory_of new spaces) (λ F. after_fault step.Loaded write F p q) (λ F. F)
-      (λ born notes nf tell whole. fault-whole step.Loaded write (flat_memory (memory_of freed spaces) born notes) p q whole)
-      (changes-as p (memory_of freed spaces) (memory_of made spaces) f (λ F. after_fault step.Loaded write F p q) same makes)
+  acts = call_rule.joined p (memory_of freed spaces) (memory_of made spaces) (memory_of new spaces) (λ F. after_fault (Ok fault.Loaded) write F p q) (λ F. F)
+      (λ born notes nf tell whole. fault-whole (Ok fault.Loaded) write (flat_memory (memory_of freed spaces) born notes) p q whole)
+      (changes-as p (memory_of freed spaces) (memory_of made spaces) f (λ F. after_fault (Ok fault.Loaded) write F p q) same makes)
       (changes-kept p made new spaces makes.memory shows);
   ends = tt;
   slots = slots;
@@ -124,14 +126,14 @@ serves-made old before freed made new spaces p q x write writable pending more f
 }
 
 -- where nothing follows
-ends-there : (answer : Step) (w : World) → EndsThere answer w w
-ends-there step.Loaded w = tt
-ends-there step.Past w = refl
-ends-there (step.Need plan) w = refl
-ends-there (step.Busy h) w = refl
+ends-there : (answer : Result Fault Wants) (w : World) → EndsThere answer w w
+ends-there (Ok fault.Loaded) w = tt
+ends-there (Ok fault.Past) w = refl
+ends-there (Err (wants.Transfer plan)) w = refl
+ends-there (Err (wants.Seat h)) w = refl
 
 -- NOTHING IS MADE: frames may be taken, and flat memory is as it was.
-pub serves-kept : (old new : World) (spaces : Spaces) (p q : ℕ) (x : Spot) (write : Bool) (pending more : ℕ) (answer : Step) → TakesFrames (memory_of old spaces) new pending more
+pub serves-kept : (old new : World) (spaces : Spaces) (p q : ℕ) (x : Spot) (write : Bool) (pending more : ℕ) (answer : Result Fault Wants) → TakesFrames (memory_of old spaces) new pending more
     → ((born : set.FinSet nat_cmp) (notes : Notes) → flat_memory (memory_of new spaces) born notes ≡ after_fault answer write (flat_memory (memory_of new spaces) born notes) p q)
     → SlotsAfter old new x write answer → FaultMeans (memory_of old spaces) (memory_of new spaces) p q x write answer → ServesFault (memory_of old spaces) (memory_of new spaces) pending more p q x write answer
 serves-kept old new spaces p q x write pending more answer first same slots means = record {

@@ -1,5 +1,5 @@
 -- What faults come to at places of any mapping: where a page is shown where it is, and where zeros are made.
-use Rattle.std.proofs.Common.{◌≡◌, ◌≢◌, ℕ, ◌<◌, ◌+◌, Bool, true, false, cond, List, length, Option, Some, None, refl, sym, ap, ◌∙◌, inl, inr, subst, slice_set}
+use Rattle.std.proofs.Common.{◌≡◌, ◌≢◌, ℕ, ◌<◌, ◌+◌, Bool, true, false, cond, List, length, Option, Some, None, refl, sym, ap, ◌∙◌, inl, inr, subst, slice_set, Result, Ok, Err}
 use Rattle.std.specs.Prelude.{IsTrue, IsFalse, ◌||◌, ◌^◌, is_some, nat_lt, option_map, option_and_then}
 use Rattle.std.specs.Option.{option_or, option_map_or}
 use Rattle.std.specs.FinSet as set
@@ -40,9 +40,12 @@ use Rattle.vm_world.specs.WorldSteps.{tails_lost}
 use Rattle.vm_world.proofs.FlatWhole.{some-inj}
 use Rattle.seg_ops.specs.OwnPages.{with_own_shown}
 use Rattle.seg_ops.specs.Plans.{IsAsked}
-use Rattle.seg_ops.specs.declared.plans.Step.{Step}
-use Rattle.seg_ops.specs.declared.plans.Step.TheVariants as step
-use Rattle.seg_ops.specs.Steps.{KeepsPages, MayShow}
+use Rattle.seg_ops.specs.declared.plans.Fault.{Fault}
+use Rattle.seg_ops.specs.declared.plans.Fault.TheVariants as fault
+use Rattle.vm_world.specs.declared.wants.Wants.{Wants}
+use Rattle.vm_world.specs.declared.wants.Wants.TheVariants as wants
+use Rattle.vm_world.specs.Words.{KeepsPages}
+use Rattle.seg_ops.specs.Steps.{MayShow}
 use Rattle.seg_ops.proofs.Composed.{keeps-same}
 use Rattle.seg_ops.proofs.Disks.{home-free}
 use Rattle.seg_ops.proofs.SlotOwners.{not-shown}
@@ -87,7 +90,7 @@ shows-object w x has = ap (λ (b : Bool). is_some (own_slot w.maps x) || b) has 
 
 -- A PAGE THAT IS SHOWN WHERE IT IS.
 kept-in-place : (w : World) (spaces : Spaces) (p q : ℕ) (x : Spot) (write writable : Bool) (born : set.FinSet nat_cmp) (notes : Notes) → MemoryFits (memory_of w spaces) → spot_at spaces p q ≡ Some x
-    → (write ≡ true → writable ≡ true) → (writable ≡ true → MayWriteInPlace w.anon w.maps x) → flat_memory (memory_of w spaces) born notes ≡ after_fault step.Loaded write (flat_memory (memory_of w spaces) born notes) p q
+    → (write ≡ true → writable ≡ true) → (writable ≡ true → MayWriteInPlace w.anon w.maps x) → flat_memory (memory_of w spaces) born notes ≡ after_fault (Ok fault.Loaded) write (flat_memory (memory_of w spaces) born notes) p q
 kept-in-place w spaces p q x false writable born notes fits here lets in_place = refl
 kept-in-place w spaces p q x true writable born notes fits here lets in_place = by_kind x.0.kind refl
   where
@@ -106,10 +109,10 @@ module _ (old mid : World) (spaces : Spaces) (p q : ℕ) (x : Spot) (write writa
     in_place = λ writes. in-place-still old mid x maps anon (place.in_place writes);
   }
 
-  pub page-loaded : (new : World) (frame : ℕ) → BringsPage (memory_of old spaces) (memory_of mid spaces) pending more name step.Loaded → KeepsPages mid new spaces → new.store.names ≡ mid.store.names → new.maps ≡ mid.maps → new.anon ≡ mid.anon
-      → translation_at new.hat.places p q ≡ Some (fresh_translation p q frame writable) → ServesFault (memory_of old spaces) (memory_of new spaces) pending more p q x write step.Loaded
+  pub page-loaded : (new : World) (frame : ℕ) → BringsPage (memory_of old spaces) (memory_of mid spaces) pending more name (Ok tt) → KeepsPages mid new spaces → new.store.names ≡ mid.store.names → new.maps ≡ mid.maps → new.anon ≡ mid.anon
+      → translation_at new.hat.places p q ≡ Some (fresh_translation p q frame writable) → ServesFault (memory_of old spaces) (memory_of new spaces) pending more p q x write (Ok fault.Loaded)
   page-loaded new frame b keeps names maps' anon' loaded =
-      serves-kept old new spaces p q x write pending more step.Loaded (takes-then old mid new spaces pending more fits b.first keeps names)
+      serves-kept old new spaces p q x write pending more (Ok fault.Loaded) (takes-then old mid new spaces pending more fits b.first keeps names)
       (λ born notes. kept-in-place new spaces p q x write writable born notes keeps.memory place.here place.lets (λ writes. in-place-still old new x (maps' ∙ maps) (anon' ∙ anon) (place.in_place writes)))
       (slots-kept old new x write (due-none old.anon old.maps x write name place.shows (λ writes. place.in_place (place.lets writes))) (anon' ∙ anon) (maps' ∙ maps))
       (record { translation = fresh_translation p q frame writable; loaded = loaded; writable = place.lets })
@@ -117,8 +120,8 @@ module _ (old mid : World) (spaces : Spaces) (p q : ℕ) (x : Spot) (write writa
   shows-there : shown_name mid.maps x ≡ Some name
   shows-there = ap (λ (ms : List (Option maps_of.Map)). shown_name ms x) maps ∙ place.shows
 
-  pub page-needs : (plan : Plan) → BringsPage (memory_of old spaces) (memory_of mid spaces) pending more name (step.Need plan) → ServesFault (memory_of old spaces) (memory_of mid spaces) pending more p q x write (step.Need plan)
-  page-needs plan b = serves-kept old mid spaces p q x write pending more (step.Need plan) b.first (λ born notes. refl) (record { counts = anon; places = maps }) (record {
+  pub page-needs : (plan : Plan) → BringsPage (memory_of old spaces) (memory_of mid spaces) pending more name (Err (wants.Transfer plan)) → ServesFault (memory_of old spaces) (memory_of mid spaces) pending more p q x write (Err (wants.Transfer plan))
+  page-needs plan b = serves-kept old mid spaces p q x write pending more (Err (wants.Transfer plan)) b.first (λ born notes. refl) (record { counts = anon; places = maps }) (record {
     runs = λ call acc. record {
       may = b.means.0.may (p, call) (access-wants (memory_of mid spaces) p q x call name (accessed write q call acc) (there-still old mid spaces p q x place.here place.some maps files) shows-there);
       ready = b.means.0.ready;
@@ -129,17 +132,19 @@ module _ (old mid : World) (spaces : Spaces) (p q : ℕ) (x : Spot) (write writa
     modified = b.means.2;
   })
 
-  pub page-busy : (h : Hold) → BringsPage (memory_of old spaces) (memory_of mid spaces) pending more name (step.Busy h) → ServesFault (memory_of old spaces) (memory_of mid spaces) pending more p q x write (step.Busy h)
-  page-busy h b = serves-kept old mid spaces p q x write pending more (step.Busy h) b.first (λ born notes. refl) (record { counts = anon; places = maps })
+  pub page-busy : (h : Hold) → BringsPage (memory_of old spaces) (memory_of mid spaces) pending more name (Err (wants.Seat h)) → ServesFault (memory_of old spaces) (memory_of mid spaces) pending more p q x write (Err (wants.Seat h))
+  page-busy h b = serves-kept old mid spaces p q x write pending more (Err (wants.Seat h)) b.first (λ born notes. refl) (record { counts = anon; places = maps })
       (λ calls call acc. b.means calls (p, call) (access-wants (memory_of mid spaces) p q x call name (accessed write q call acc) (there-still old mid spaces p q x place.here place.some maps files) shows-there))
 
+  pub page-waits : (want : Wants) → BringsPage (memory_of old spaces) (memory_of mid spaces) pending more name (Err want) → ServesFault (memory_of old spaces) (memory_of mid spaces) pending more p q x write (Err want)
+  page-waits (wants.Transfer plan) b = page-needs plan b
+  page-waits (wants.Seat h) b = page-busy h b
+
 -- A FRAME IS WANTED for a page that is made, and none can be had.
-pub pushes-made : (old w : World) (spaces : Spaces) (p q : ℕ) (x : Spot) (write : Bool) (victim : PageName) (answer : Step) → MemoryFits (memory_of w spaces) → ShowsPage (memory_of w spaces) p q x
+pub pushes-made : (old w : World) (spaces : Spaces) (p q : ℕ) (x : Spot) (write : Bool) (victim : PageName) (answer : Wants) → MemoryFits (memory_of w spaces) → ShowsPage (memory_of w spaces) p q x
     → ((call : Call) → Accesses write q call → MakesSlotFor w x call) → ((call : Call) → Accesses write q call → KeepsWanted (memory_of old spaces) (memory_of w spaces) p call) → ModifiesNone old w
-    → next_frame w.store ≡ None → IsDirtyPage w victim → IsAsked w (plan.Push victim) answer → FaultMeans (memory_of old spaces) (memory_of w spaces) p q x write answer
-pushes-made old w spaces p q x write victim step.Loaded f there makes wanted modified none dirty asked = absurd asked
-pushes-made old w spaces p q x write victim step.Past f there makes wanted modified none dirty asked = absurd asked
-pushes-made old w spaces p q x write victim (step.Need a) f there makes wanted modified none dirty asked = subst (λ (b : Plan). NeedsTransfer (memory_of old spaces) (memory_of w spaces) p q write b) (sym asked.0) (record {
+    → next_frame w.store ≡ None → IsDirtyPage w victim → IsAsked w (plan.Push victim) answer → FaultMeans (memory_of old spaces) (memory_of w spaces) p q x write (Err answer)
+pushes-made old w spaces p q x write victim (wants.Transfer a) f there makes wanted modified none dirty asked = subst (λ (b : Plan). NeedsTransfer (memory_of old spaces) (memory_of w spaces) p q write b) (sym asked.0) (record {
   runs = λ call acc. record {
     may = (dirty, inr (inr (q, x, accessed write q call acc, there, makes call acc), none));
     ready = asked.1;
@@ -148,30 +153,26 @@ pushes-made old w spaces p q x write victim (step.Need a) f there makes wanted m
   wanted = wanted;
   modified = modified;
 })
-pushes-made old w spaces p q x write victim (step.Busy (hold.Page seat)) f there makes wanted modified none dirty asked = absurd (home-free w spaces victim dirty.frame seat f dirty.home asked)
-pushes-made old w spaces p q x write victim (step.Busy (hold.Disk seat)) f there makes wanted modified none dirty asked = λ calls call acc.
+pushes-made old w spaces p q x write victim (wants.Seat (hold.Page seat)) f there makes wanted modified none dirty asked = absurd (home-free w spaces victim dirty.frame seat f dirty.home asked)
+pushes-made old w spaces p q x write victim (wants.Seat (hold.Disk seat)) f there makes wanted modified none dirty asked = λ calls call acc.
     (plan.Push victim, (dirty, inr (inr (q, x, accessed write q call acc, there, makes call acc), none)), asked)
-pushes-made old w spaces p q x write victim (step.Busy (hold.File seat)) f there makes wanted modified none dirty asked = absurd asked
+pushes-made old w spaces p q x write victim (wants.Seat (hold.File seat)) f there makes wanted modified none dirty asked = absurd asked
 
 -- what is answered then leaves flat memory
-asked-keeps : (w : World) (victim : PageName) (answer : Step) (write : Bool) (F : Flat) (p q : ℕ) → IsAsked w (plan.Push victim) answer → F ≡ after_fault answer write F p q
-asked-keeps w victim step.Loaded write F p q asked = absurd asked
-asked-keeps w victim step.Past write F p q asked = absurd asked
-asked-keeps w victim (step.Need a) write F p q asked = refl
-asked-keeps w victim (step.Busy h) write F p q asked = refl
+asked-keeps : (w : World) (victim : PageName) (answer : Wants) (write : Bool) (F : Flat) (p q : ℕ) → IsAsked w (plan.Push victim) answer → F ≡ after_fault (Err answer) write F p q
+asked-keeps w victim (wants.Transfer a) write F p q asked = refl
+asked-keeps w victim (wants.Seat h) write F p q asked = refl
 
 -- .. and slots
-asked-slots : (old w : World) (x : Spot) (victim : PageName) (answer : Step) (write : Bool) → IsAsked w (plan.Push victim) answer → KeepsSlots old w → SlotsAfter old w x write answer
-asked-slots old w x victim step.Loaded write asked kept = absurd asked
-asked-slots old w x victim step.Past write asked kept = absurd asked
-asked-slots old w x victim (step.Need a) write asked kept = kept
-asked-slots old w x victim (step.Busy h) write asked kept = kept
+asked-slots : (old w : World) (x : Spot) (victim : PageName) (answer : Wants) (write : Bool) → IsAsked w (plan.Push victim) answer → KeepsSlots old w → SlotsAfter old w x write (Err answer)
+asked-slots old w x victim (wants.Transfer a) write asked kept = kept
+asked-slots old w x victim (wants.Seat h) write asked kept = kept
 
-pub made-asks : (old w : World) (spaces : Spaces) (p q : ℕ) (x : Spot) (write : Bool) (pending more : ℕ) (victim : PageName) (answer : Step) → TakesFrames (memory_of old spaces) w pending more → KeepsSlots old w → ShowsPage (memory_of w spaces) p q x
+pub made-asks : (old w : World) (spaces : Spaces) (p q : ℕ) (x : Spot) (write : Bool) (pending more : ℕ) (victim : PageName) (answer : Wants) → TakesFrames (memory_of old spaces) w pending more → KeepsSlots old w → ShowsPage (memory_of w spaces) p q x
     → ((call : Call) → Accesses write q call → MakesSlotFor w x call) → ((call : Call) → Accesses write q call → KeepsWanted (memory_of old spaces) (memory_of w spaces) p call) → ModifiesNone old w
-    → next_frame w.store ≡ None → IsDirtyPage w victim → IsAsked w (plan.Push victim) answer → ServesFault (memory_of old spaces) (memory_of w spaces) pending more p q x write answer
+    → next_frame w.store ≡ None → IsDirtyPage w victim → IsAsked w (plan.Push victim) answer → ServesFault (memory_of old spaces) (memory_of w spaces) pending more p q x write (Err answer)
 made-asks old w spaces p q x write pending more victim answer first kept there makes wanted modified none dirty asked =
-    serves-kept old w spaces p q x write pending more answer first (λ born notes. asked-keeps w victim answer write (flat_memory (memory_of w spaces) born notes) p q asked) (asked-slots old w x victim answer write asked kept)
+    serves-kept old w spaces p q x write pending more (Err answer) first (λ born notes. asked-keeps w victim answer write (flat_memory (memory_of w spaces) born notes) p q asked) (asked-slots old w x victim answer write asked kept)
     (pushes-made old w spaces p q x write victim answer first.step.memory there makes wanted modified none dirty asked)
 
 -- ZEROS: no page is shown, and an access makes one.
@@ -302,7 +303,7 @@ zeros-may w made spaces p q x m i s write writable fits z set once = record {
 -- and flat memory stays, whether the page is shared or new zero memory
 pub zeros-kept : (w : World) (spaces : Spaces) (p q : ℕ) (x : Spot) (write writable : Bool) (born : set.FinSet nat_cmp) (notes : Notes) → MemoryFits (memory_of w spaces) → spot_at spaces p q ≡ Some x
     → (write ≡ true → writable ≡ true) → (writable ≡ true → IsTrue (can_write x.0.prot) × (x.0.kind ≡ Private → x.0.object ≡ object.NewZero))
-    → flat_memory (memory_of w spaces) born notes ≡ after_fault step.Loaded write (flat_memory (memory_of w spaces) born notes) p q
+    → flat_memory (memory_of w spaces) born notes ≡ after_fault (Ok fault.Loaded) write (flat_memory (memory_of w spaces) born notes) p q
 zeros-kept w spaces p q x false writable born notes fits here lets in_place = refl
 zeros-kept w spaces p q x true writable born notes fits here lets in_place = by_kind x.0.kind refl
   where
@@ -334,6 +335,6 @@ shared-in-place w spaces p q x fits here own writes = record {
 
 -- nothing is shown past the object's end
 pub past-serves : (w : World) (spaces : Spaces) (p q : ℕ) (x : Spot) (write : Bool) (pending : ℕ) → MemoryFits (memory_of w spaces) → own_slot w.maps x ≡ None → IsFalse (object_has w x.0.shown (x.0.index + x.1) x.0.object)
-    → ServesFault (memory_of w spaces) (memory_of w spaces) pending pending p q x write step.Past
-past-serves w spaces p q x write pending fits bare past = serves-kept w w spaces p q x write pending pending step.Past (takes-none w w spaces pending (keeps-same w spaces fits)) (λ born notes. refl) (record { counts = refl; places = refl })
+    → ServesFault (memory_of w spaces) (memory_of w spaces) pending pending p q x write (Ok fault.Past)
+past-serves w spaces p q x write pending fits bare past = serves-kept w w spaces p q x write pending pending (Ok fault.Past) (takes-none w w spaces pending (keeps-same w spaces fits)) (λ born notes. refl) (record { counts = refl; places = refl })
     (ap (λ (o : Option ℕ). is_some o || object_has w x.0.shown (x.0.index + x.1) x.0.object) bare ∙ past)

@@ -1,5 +1,5 @@
 -- Pages of files that come home.
-use Rattle.std.proofs.Common.{◌≡◌, ℕ, ◌<◌, Bool, true, false, cond, length, Option, Some, None, ap, ◌∙◌, inl}
+use Rattle.std.proofs.Common.{◌≡◌, ℕ, ◌<◌, Bool, true, false, cond, length, Option, Some, None, ap, ◌∙◌, inl, Result, Ok, Err}
 use Rattle.std.specs.Prelude.{IsTrue, IsSome, IfSome, nat_lt, not, slice_index_or}
 use Rattle.std.proofs.lemmas.Bool.{lt-ltb}
 use Rattle.page_hash.specs.declared.PageName.{PageName}
@@ -16,10 +16,10 @@ use Rattle.vm_world.specs.Segments.{Spaces}
 use Rattle.vm_world.specs.Serving.{TakesFrames, ModifiesNone}
 use Rattle.vm_world.specs.World.{World, file_name, is_unpushed, page_exists}
 use Rattle.vm_world.proofs.PageNames.{file-apart, not-slot}
-use Rattle.seg_ops.specs.declared.plans.Step.{Step}
-use Rattle.seg_ops.specs.declared.plans.Step.TheVariants as step
+use Rattle.vm_world.specs.declared.wants.Wants.{Wants}
+use Rattle.vm_world.specs.declared.wants.Wants.TheVariants as wants
 use Rattle.seg_ops.specs.Plans.{FetchesPage}
-use Rattle.seg_ops.specs.Steps.{KeepsPages}
+use Rattle.vm_world.specs.Words.{KeepsPages}
 use Rattle.seg_ops.proofs.Composed.{keeps-same}
 use Rattle.seg_ops.proofs.StillSteps.{memory_of}
 use Rattle.seg_vn.specs.Brings.{IsBrought, BringsPage}
@@ -36,21 +36,19 @@ blank-file files anon f i fit lt = ap (λ (b : Bool). cond b (not (slice_index_o
 
 -- THE ANSWERS: it is home, or moving; it is fetched; and a frame was taken for it.
 pub home-brings : (w : World) (spaces : Spaces) (pending : ℕ) (name : PageName) (frame : ℕ) → MemoryFits (memory_of w spaces) → residence w.store name ≡ Home frame
-    → BringsPage (memory_of w spaces) (memory_of w spaces) pending pending name step.Loaded
+    → BringsPage (memory_of w spaces) (memory_of w spaces) pending pending name (Ok tt)
 home-brings w spaces pending name frame f home = record { first = takes-none w w spaces pending (keeps-same w spaces f); means = (frame, home) }
 
 pub moving-brings : (w : World) (spaces : Spaces) (pending : ℕ) (name : PageName) (seat : ℕ) → MemoryFits (memory_of w spaces) → residence w.store name ≡ Moving seat
-    → BringsPage (memory_of w spaces) (memory_of w spaces) pending pending name (step.Busy (hold.Page seat))
+    → BringsPage (memory_of w spaces) (memory_of w spaces) pending pending name (Err (wants.Seat (hold.Page seat)))
 moving-brings w spaces pending name seat f away = record { first = takes-none w w spaces pending (keeps-same w spaces f); means = λ calls of wants. (name, inl wants, away) }
 
-fetched : (old new : World) (spaces : Spaces) (name : PageName) (answer : Step) → residence old.store name ≡ Absent → ModifiesNone old new → FetchesPage (memory_of new spaces) name answer → IsBrought (memory_of old spaces) (memory_of new spaces) name answer
-fetched old new spaces name step.Loaded absent modified f = absurd f
-fetched old new spaces name step.Past absent modified f = f
-fetched old new spaces name (step.Need plan) absent modified f = (f, absent, modified)
-fetched old new spaces name (step.Busy h) absent modified f = f
+fetched : (old new : World) (spaces : Spaces) (name : PageName) (answer : Wants) → residence old.store name ≡ Absent → ModifiesNone old new → FetchesPage (memory_of new spaces) name answer → IsBrought (memory_of old spaces) (memory_of new spaces) name (Err answer)
+fetched old new spaces name (wants.Transfer plan) absent modified f = (f, absent, modified)
+fetched old new spaces name (wants.Seat h) absent modified f = f
 
-pub fetch-brings : (old new : World) (spaces : Spaces) (pending : ℕ) (name : PageName) (answer : Step) → KeepsPages old new spaces → residence old.store name ≡ Absent → ModifiesNone old new → FetchesPage (memory_of new spaces) name answer
-    → BringsPage (memory_of old spaces) (memory_of new spaces) pending pending name answer
+pub fetch-brings : (old new : World) (spaces : Spaces) (pending : ℕ) (name : PageName) (answer : Wants) → KeepsPages old new spaces → residence old.store name ≡ Absent → ModifiesNone old new → FetchesPage (memory_of new spaces) name answer
+    → BringsPage (memory_of old spaces) (memory_of new spaces) pending pending name (Err answer)
 fetch-brings old new spaces pending name answer keeps absent modified f =
     record { first = takes-none old new spaces pending keeps; means = fetched old new spaces name answer absent modified f }
 
@@ -59,5 +57,5 @@ some-frame None P some is = absurd (let z : false ≡ true = some in cc)
 some-frame (Some frame) P some is = (frame, is)
 
 pub fill-brings : (old new : World) (spaces : Spaces) (pending more : ℕ) (name : PageName) (o : Option ℕ) → TakesFrames (memory_of old spaces) new pending more → IsSome o → IfSome o (λ (frame : ℕ). residence new.store name ≡ Home frame)
-    → BringsPage (memory_of old spaces) (memory_of new spaces) pending more name step.Loaded
+    → BringsPage (memory_of old spaces) (memory_of new spaces) pending more name (Ok tt)
 fill-brings old new spaces pending more name o first some home = record { first = first; means = some-frame o (λ (frame : ℕ). residence new.store name ≡ Home frame) some home }

@@ -1,5 +1,5 @@
 -- Stores to private pages that aren't their cell's alone, by the steps that they take.
-use Rattle.std.proofs.Common.{◌≡◌, ℕ, ◌<◌, ◌+◌, Bool, true, false, List, length, Option, Some, None, refl, sym, ap, ◌∙◌, inl, subst, arith, slice_set}
+use Rattle.std.proofs.Common.{◌≡◌, ℕ, ◌<◌, ◌+◌, Bool, true, false, List, length, Option, Some, None, refl, sym, ap, ◌∙◌, inl, subst, arith, slice_set, Result, Ok, Err}
 use Rattle.std.specs.Prelude.{IsTrue, ◌||◌, is_some, nat_lt, option_map, option_and_then, unwrap_or}
 use Rattle.std.specs.Option.{option_or, option_map_or}
 use Rattle.std.specs.FinSet as set
@@ -41,9 +41,12 @@ use Rattle.vm_world.proofs.StoredPages.{zeros-are}
 use Rattle.seg_ops.specs.OwnPages.{with_own_shown}
 use Rattle.seg_ops.specs.Slots.{OwnsAlone}
 use Rattle.seg_ops.specs.Plans.{FetchesPage}
-use Rattle.seg_ops.specs.declared.plans.Step.{Step}
-use Rattle.seg_ops.specs.declared.plans.Step.TheVariants as step
-use Rattle.seg_ops.specs.Steps.{KeepsPages, MayShow, with_dropped_gathered}
+use Rattle.seg_ops.specs.declared.plans.Fault.{Fault}
+use Rattle.seg_ops.specs.declared.plans.Fault.TheVariants as fault
+use Rattle.vm_world.specs.declared.wants.Wants.{Wants}
+use Rattle.vm_world.specs.declared.wants.Wants.TheVariants as wants
+use Rattle.vm_world.specs.Words.{KeepsPages}
+use Rattle.seg_ops.specs.Steps.{MayShow, with_dropped_gathered}
 use Rattle.seg_ops.proofs.Composed.{keeps-same}
 use Rattle.seg_ops.proofs.Fills.{blank-is, held-by}
 use Rattle.seg_ops.proofs.FillSteps.{absent-zeros}
@@ -96,8 +99,8 @@ takes-more old freed spaces a b c t second none files = record { cut = t.cut; st
 
 -- THE CELL GOT ITS PAGE, and the translation of that is loaded.
 pub serves-after : (old freed made new : World) (spaces : Spaces) (p q : ℕ) (x : Spot) (pending more frame : ℕ) → TakesFrames (memory_of old spaces) freed pending more
-    → ChangesMemory p (memory_of freed spaces) (memory_of made spaces) (λ F G. G ≡ with_own_shown F p q) → KeepsPages made new spaces → translation_at new.hat.places p q ≡ Some (fresh_translation p q frame true) → SlotsAfter old new x true step.Loaded
-    → ServesFault (memory_of old spaces) (memory_of new spaces) pending more p q x true step.Loaded
+    → ChangesMemory p (memory_of freed spaces) (memory_of made spaces) (λ F G. G ≡ with_own_shown F p q) → KeepsPages made new spaces → translation_at new.hat.places p q ≡ Some (fresh_translation p q frame true) → SlotsAfter old new x true (Ok fault.Loaded)
+    → ServesFault (memory_of old spaces) (memory_of new spaces) pending more p q x true (Ok fault.Loaded)
 serves-after old freed made new spaces p q x pending more frame first makes shows loaded slots = record {
   mid = freed;
   first = first;
@@ -264,22 +267,20 @@ zeros-stay w v (Some name) stay files anon zs = (
 
 -- THE PAGE THAT IS SHOWN has to be waited for, or to be read in.
 pub away-serves : (w : World) (spaces : Spaces) (p q : ℕ) (x : Spot) (write : Bool) (pending seat : ℕ) (name : PageName) → MemoryFits (memory_of w spaces) → spot_at spaces p q ≡ Some x → IsTrue (shows_page w x) → shown_name w.maps x ≡ Some name
-    → residence w.store name ≡ Moving seat → ServesFault (memory_of w spaces) (memory_of w spaces) pending pending p q x write (step.Busy (hold.Page seat))
+    → residence w.store name ≡ Moving seat → ServesFault (memory_of w spaces) (memory_of w spaces) pending pending p q x write (Err (wants.Seat (hold.Page seat)))
 away-serves w spaces p q x write pending seat name fits here some shows away =
-    serves-kept w w spaces p q x write pending pending (step.Busy (hold.Page seat)) (takes-none w w spaces pending (keeps-same w spaces fits)) (λ born notes. refl) (record { counts = refl; places = refl })
+    serves-kept w w spaces p q x write pending pending (Err (wants.Seat (hold.Page seat))) (takes-none w w spaces pending (keeps-same w spaces fits)) (λ born notes. refl) (record { counts = refl; places = refl })
     (λ calls call acc. (name, inl (access-wants (memory_of w spaces) p q x call name (accessed write q call acc) (record { here = here; some = some }) shows), away))
 
-pub fetch-serves : (old mid : World) (spaces : Spaces) (p q : ℕ) (x : Spot) (write : Bool) (pending : ℕ) (name : PageName) (answer : Step) → KeepsPages old mid spaces → KeepsSlots old mid → residence old.store name ≡ Absent → ModifiesNone old mid
-    → ShowsPage (memory_of mid spaces) p q x → shown_name mid.maps x ≡ Some name → FetchesPage (memory_of mid spaces) name answer → ServesFault (memory_of old spaces) (memory_of mid spaces) pending pending p q x write answer
-fetch-serves old mid spaces p q x write pending name step.Loaded keeps kept absent modified there shows f = absurd f
-fetch-serves old mid spaces p q x write pending name step.Past keeps kept absent modified there shows f = absurd f
-fetch-serves old mid spaces p q x write pending name (step.Need plan) keeps kept absent modified there shows f =
-    serves-kept old mid spaces p q x write pending pending (step.Need plan) (takes-none old mid spaces pending keeps) (λ born notes. refl) kept (record {
+pub fetch-serves : (old mid : World) (spaces : Spaces) (p q : ℕ) (x : Spot) (write : Bool) (pending : ℕ) (name : PageName) (answer : Wants) → KeepsPages old mid spaces → KeepsSlots old mid → residence old.store name ≡ Absent → ModifiesNone old mid
+    → ShowsPage (memory_of mid spaces) p q x → shown_name mid.maps x ≡ Some name → FetchesPage (memory_of mid spaces) name answer → ServesFault (memory_of old spaces) (memory_of mid spaces) pending pending p q x write (Err answer)
+fetch-serves old mid spaces p q x write pending name (wants.Transfer plan) keeps kept absent modified there shows f =
+    serves-kept old mid spaces p q x write pending pending (Err (wants.Transfer plan)) (takes-none old mid spaces pending keeps) (λ born notes. refl) kept (record {
       runs = λ call acc. record { may = f.may (p, call) (access-wants (memory_of mid spaces) p q x call name (accessed write q call acc) there shows); ready = f.ready; frame = f.frame };
       wanted = λ call acc other frame wants home. absurd (absent-home (residence old.store name) frame absent
           (ap (residence old.store) (sym (wanted-name (memory_of mid spaces) p q x call name other (accessed write q call acc) there.here shows wants)) ∙ home));
       modified = modified;
     })
-fetch-serves old mid spaces p q x write pending name (step.Busy h) keeps kept absent modified there shows f =
-    serves-kept old mid spaces p q x write pending pending (step.Busy h) (takes-none old mid spaces pending keeps) (λ born notes. refl) kept
+fetch-serves old mid spaces p q x write pending name (wants.Seat h) keeps kept absent modified there shows f =
+    serves-kept old mid spaces p q x write pending pending (Err (wants.Seat h)) (takes-none old mid spaces pending keeps) (λ born notes. refl) kept
     (λ calls call acc. f calls (p, call) (access-wants (memory_of mid spaces) p q x call name (accessed write q call acc) there shows))

@@ -33,7 +33,7 @@ use Rattle.vm_world.proofs.PartSums.{all_parts, part-le, sum-segments}
 use Rattle.vm_world.proofs.SegmentSteps.{segment_rule}
 use Rattle.seg_ops.specs.Empties.{OwnsPlaces, IsUnloadedZero, places_emptied}
 use Rattle.seg_ops.specs.OwnPages.{without_own_pages}
-use Rattle.seg_ops.specs.Steps.{KeepsPages}
+use Rattle.vm_world.specs.Words.{KeepsPages}
 use Rattle.seg_ops.proofs.Composed.{keeps-same}
 use Rattle.seg_ops.proofs.OwnPageLaws.{own_pages_law}
 use Rattle.seg_ops.proofs.SlotRanges.{length-emptied}

@@ -1,5 +1,5 @@
 -- Where accesses make slots, by what their places show.
-use Rattle.std.proofs.Common.{◌≡◌, ℕ, ◌<◌, ◌+◌, ◌-◌, Bool, true, false, cond, List, Option, Some, None, refl, sym, ap, ◌∙◌, inl, inr, subst, arith, slice_set}
+use Rattle.std.proofs.Common.{◌≡◌, ℕ, ◌<◌, ◌+◌, ◌-◌, Bool, true, false, cond, List, Option, Some, None, refl, sym, ap, ◌∙◌, inl, inr, subst, arith, slice_set, Result, Ok, Err}
 use Rattle.std.specs.Prelude.{◌==◌, not, option_map}
 use Rattle.std.proofs.lemmas.Bool.Decides.{eqb_tells}
 use Rattle.anon_map.specs.Maps.{Map, places_of, with_places}
@@ -12,7 +12,8 @@ use Rattle.vm_world.specs.Segments.{Spot, Spaces, own_slot, shown_name}
 use Rattle.vm_world.specs.TranslationsFit.{MayWriteInPlace}
 use Rattle.vm_world.specs.World.{World, slot_in}
 use Rattle.seg_ops.specs.Slots.{GivesSlot, anon_left}
-use Rattle.seg_ops.specs.declared.plans.Step.TheVariants as step
+use Rattle.seg_ops.specs.declared.plans.Fault.TheVariants as fault
+use Rattle.vm_world.specs.declared.wants.Wants.TheVariants as wants
 use Rattle.seg_vn.specs.AnyPlaces.{ZerosShown}
 use Rattle.seg_ops.specs.SlotsDue.{MakesSlotAt, MapPlace, SlotsAfter, holds_alone, makes_own, object_map_place, own_map_place, slot_due, zeros_due}
 
@@ -90,12 +91,12 @@ pub gives-other : (old new : AnonSlotsSeen) (maps put : List (Option Map)) (m i 
 gives-other old new maps put m i held s holds free alone counts set = record { free = free; alone = alone; counts = counts ∙ ap (λ (o : Option ℕ). with_new_slot (anon_left old o) s) (sym holds); set = set }
 
 -- WHAT A FAULT LEAVES OF SLOTS: nothing changed, ..
-pub slots-kept : (old new : World) (x : Spot) (write : Bool) → slot_due old.anon old.maps x write ≡ None → new.anon ≡ old.anon → new.maps ≡ old.maps → SlotsAfter old new x write step.Loaded
+pub slots-kept : (old new : World) (x : Spot) (write : Bool) → slot_due old.anon old.maps x write ≡ None → new.anon ≡ old.anon → new.maps ≡ old.maps → SlotsAfter old new x write (Ok fault.Loaded)
 slots-kept old new x write none anon maps = subst (λ (o : Option MapPlace). MakesSlotAt old new o) (sym none) (record { counts = anon; places = maps })
 
 -- .. or a slot was made, once steps that change none were taken, and before such steps.
 pub slots-made : (old freed made new : World) (x : Spot) (write : Bool) (m i s : ℕ) → slot_due old.anon old.maps x write ≡ Some (m, i) → GivesSlot freed.anon made.anon freed.maps made.maps m i s
-    → freed.anon ≡ old.anon → freed.maps ≡ old.maps → new.anon ≡ made.anon → new.maps ≡ made.maps → SlotsAfter old new x write step.Loaded
+    → freed.anon ≡ old.anon → freed.maps ≡ old.maps → new.anon ≡ made.anon → new.maps ≡ made.maps → SlotsAfter old new x write (Ok fault.Loaded)
 slots-made old freed made new x write m i s due gives anon maps anon' maps' = subst (λ (o : Option MapPlace). MakesSlotAt old new o) (sym due) (
   s,
   subst (λ (a : AnonSlotsSeen). GivesSlot a new.anon old.maps new.maps m i s) anon

@@ -15,7 +15,7 @@ use Rattle.vm_world.specs.StateSteps.{PendsTails}
 use Rattle.vm_world.specs.World.{World, file_name}
 use Rattle.vm_world.specs.WorldSteps.{WorldStep, stays, tails_lost}
 use Rattle.vm_world.proofs.FrameRule.{frame_law}
-use Rattle.seg_ops.specs.Steps.{KeepsPages}
+use Rattle.vm_world.specs.Words.{KeepsPages}
 use Rattle.seg_ops.proofs.StillSteps.{memory_of}
 
 pub or-false : (b : Bool) → (b || false) ≡ b

@@ -1,13 +1,10 @@
 //! Faults of segments of any mapping.
-ghost use Rattle.std.specs.Prelude.{◌≡◌, ◌≢◌, ◌≤◌, ◌<◌, ◌-◌, ℕ, None, Some, IsSome, IsTrue, if◌then◌else◌};
-ghost use Rattle.core_arena.specs.Bytes.{bytes_at};
-ghost use Rattle.page_store.specs.Notes.{Notes};
+ghost use Rattle.std.specs.Prelude.{◌≡◌, ◌≤◌, ◌<◌, ◌-◌, None, Some, IsTrue, if◌then◌else◌};
 ghost use Rattle.vm_types.specs.Prot.{can_read, can_write};
-ghost use Rattle.vm_world.specs.MemoryFits.{MemoryFits};
-ghost use Rattle.vm_world.specs.NotesFit.{NotesFit};
 ghost use Rattle.vm_world.specs.Segments.{Spaces, spot_at, own_slot};
+ghost use Rattle.vm_world.specs.Words.{Fits, IsKnown, TwoAreHome, SameFiles};
 ghost use Rattle.vm_world.specs.World.{world_seen};
-ghost use Rattle.seg_ops.specs.Faults.{ServesFault};
+ghost use Rattle.seg_ops.specs.Faults.{FaultServed};
 ghost use Rattle.seg_vn.specs.Shown.{ZerosPlace};
 
 use crate::any_faults::{fault_page, fault_zeros};
@@ -16,9 +13,9 @@ use crate::segment::VnSeg;
 use crate::shown::Shown;
 use block_device::Disk;
 use page_store::{PageName, SWAP_OBJECT};
-use seg_ops::Step;
+use seg_ops::Fault;
 use vm_types::Kind;
-use vm_world::World;
+use vm_world::{Wants, World};
 
 impl VnSeg {
     /// A fault at a place that has a slot of its own.
@@ -30,30 +27,19 @@ impl VnSeg {
         at: u32,
         slot: u32,
         write: bool,
-    ) -> Step
+    ) -> Result<Fault, Wants>
         requires allowed { IsTrue
             (if write then can_write self.now.prot else can_read self.now.prot) }
         requires own { own_slot world.old.maps (self.now, at) ≡ Some slot }
-        requires home { (beside : ℕ) → (frame : ℕ) × (frame ≢ beside)
-            × IsSome (bytes_at world.old.store.frames frame) }
-        requires fits { (spaces : Spaces)
-            × MemoryFits (record { world = world_seen world.old; spaces = spaces })
+        requires home { TwoAreHome world.old.store }
+        requires fits { (spaces : Spaces) × Fits world.old spaces
             × (spot_at spaces space page ≡ Some (self.now, at)) }
-        requires noted { (notes : Notes) × NotesFit (world_seen world.old) notes }
-        ensures serves { (spaces : Spaces)
-            → MemoryFits (record { world = world_seen world.old; spaces = spaces })
+        requires noted { IsKnown world.old }
+        ensures serves { (spaces : Spaces) → Fits world.old spaces
             → spot_at spaces space page ≡ Some (self.now, at)
-            → ServesFault (record { world = world_seen world.old; spaces = spaces })
-            (record { world = world_seen world.new; spaces = spaces })
-            world.old.pending world.new.pending space page (self.now, at) write result }
+            → FaultServed world.old world.new spaces space page (self.now, at) write result }
         // What stays.
-        ensures rest { world.new ≡ record world.old {
-          store = world.new.store;
-          anon = world.new.anon;
-          maps = world.new.maps;
-          hat = world.new.hat;
-          pending = world.new.pending;
-        } }
+        ensures rest { SameFiles world.old world.new }
     {
         let object = SWAP_OBJECT;
         let name = PageName { object, page: slot };
@@ -79,32 +65,21 @@ impl VnSeg {
         map: u32,
         place: u32,
         write: bool,
-    ) -> Step
+    ) -> Result<Fault, Wants>
         requires allowed { IsTrue
             (if write then can_write self.now.prot else can_read self.now.prot) }
         requires bare { own_slot world.old.maps (self.now, at) ≡ None }
-        requires home { (beside : ℕ) → (frame : ℕ) × (frame ≢ beside)
-            × IsSome (bytes_at world.old.store.frames frame) }
-        requires fits { (spaces : Spaces)
-            × MemoryFits (record { world = world_seen world.old; spaces = spaces })
+        requires home { TwoAreHome world.old.store }
+        requires fits { (spaces : Spaces) × Fits world.old spaces
             × (spot_at spaces space page ≡ Some (self.now, at))
             × ZerosPlace (world_seen world.old) spaces (self.now, at) map place }
-        requires noted { (notes : Notes) × NotesFit (world_seen world.old) notes }
-        ensures serves { (spaces : Spaces)
-            → MemoryFits (record { world = world_seen world.old; spaces = spaces })
+        requires noted { IsKnown world.old }
+        ensures serves { (spaces : Spaces) → Fits world.old spaces
             → spot_at spaces space page ≡ Some (self.now, at)
             → ZerosPlace (world_seen world.old) spaces (self.now, at) map place
-            → ServesFault (record { world = world_seen world.old; spaces = spaces })
-            (record { world = world_seen world.new; spaces = spaces })
-            world.old.pending world.new.pending space page (self.now, at) write result }
+            → FaultServed world.old world.new spaces space page (self.now, at) write result }
         // What stays.
-        ensures rest { world.new ≡ record world.old {
-          store = world.new.store;
-          anon = world.new.anon;
-          maps = world.new.maps;
-          hat = world.new.hat;
-          pending = world.new.pending;
-        } }
+        ensures rest { SameFiles world.old world.new }
     {
         let writable = self.prot().can_write();
         let Some(own) = self.own() else {
@@ -127,34 +102,23 @@ impl VnSeg {
         page: u32,
         at: u32,
         write: bool,
-    ) -> Step
+    ) -> Result<Fault, Wants>
         requires allowed { IsTrue
             (if write then can_write self.now.prot else can_read self.now.prot) }
         requires bare { own_slot world.old.maps (self.now, at) ≡ None }
-        requires home { (beside : ℕ) → (frame : ℕ) × (frame ≢ beside)
-            × IsSome (bytes_at world.old.store.frames frame) }
-        requires fits { (spaces : Spaces)
-            × MemoryFits (record { world = world_seen world.old; spaces = spaces })
+        requires home { TwoAreHome world.old.store }
+        requires fits { (spaces : Spaces) × Fits world.old spaces
             × (spot_at spaces space page ≡ Some (self.now, at)) }
-        requires noted { (notes : Notes) × NotesFit (world_seen world.old) notes }
-        ensures serves { (spaces : Spaces)
-            → MemoryFits (record { world = world_seen world.old; spaces = spaces })
+        requires noted { IsKnown world.old }
+        ensures serves { (spaces : Spaces) → Fits world.old spaces
             → spot_at spaces space page ≡ Some (self.now, at)
-            → ServesFault (record { world = world_seen world.old; spaces = spaces })
-            (record { world = world_seen world.new; spaces = spaces })
-            world.old.pending world.new.pending space page (self.now, at) write result }
+            → FaultServed world.old world.new spaces space page (self.now, at) write result }
         // What stays.
-        ensures rest { world.new ≡ record world.old {
-          store = world.new.store;
-          anon = world.new.anon;
-          maps = world.new.maps;
-          hat = world.new.hat;
-          pending = world.new.pending;
-        } }
+        ensures rest { SameFiles world.old world.new }
     {
         let writable = self.prot().can_write();
         match self.object_page(world, at) {
-            Shown::Past => Step::Past,
+            Shown::Past => Ok(Fault::Past),
             Shown::Page(name) => match self.own() {
                 None => fault_page(world, space, page, name, writable),
                 Some(map) => {
@@ -179,31 +143,20 @@ impl VnSeg {
         first: u32,
         page: u32,
         write: bool,
-    ) -> Step
+    ) -> Result<Fault, Wants>
         requires low { first ≤ page }
         requires allowed { IsTrue
             (if write then can_write self.now.prot else can_read self.now.prot) }
-        requires home { (beside : ℕ) → (frame : ℕ) × (frame ≢ beside)
-            × IsSome (bytes_at world.old.store.frames frame) }
-        requires fits { (spaces : Spaces)
-            × MemoryFits (record { world = world_seen world.old; spaces = spaces })
+        requires home { TwoAreHome world.old.store }
+        requires fits { (spaces : Spaces) × Fits world.old spaces
             × (spot_at spaces space page ≡ Some (self.now, page - first)) }
-        requires noted { (notes : Notes) × NotesFit (world_seen world.old) notes }
-        ensures serves { (spaces : Spaces)
-            → MemoryFits (record { world = world_seen world.old; spaces = spaces })
+        requires noted { IsKnown world.old }
+        ensures serves { (spaces : Spaces) → Fits world.old spaces
             → spot_at spaces space page ≡ Some (self.now, page - first)
-            → ServesFault (record { world = world_seen world.old; spaces = spaces })
-            (record { world = world_seen world.new; spaces = spaces })
-            world.old.pending world.new.pending
-            space page (self.now, page - first) write result }
+            → FaultServed world.old world.new spaces space page (self.now, page - first)
+            write result }
         // What stays.
-        ensures rest { world.new ≡ record world.old {
-          store = world.new.store;
-          anon = world.new.anon;
-          maps = world.new.maps;
-          hat = world.new.hat;
-          pending = world.new.pending;
-        } }
+        ensures rest { SameFiles world.old world.new }
     {
         let at = page - first;
         match self.own_slot(world, at) {

@@ -1,10 +1,11 @@
 //! Ranges of pages that are taken out of a space.
-ghost use Rattle.std.specs.Prelude.{◌≡◌, ◌≤◌, ◌<◌, ◌+◌, ◌-◌, ℕ, None, Some, IsSome, MatchOption, if◌then◌else◌};
+ghost use Rattle.std.specs.Prelude.{◌≡◌, ◌≤◌, ◌<◌, ◌-◌, ℕ, None, Some, IsSome, MatchOption, if◌then◌else◌};
 ghost use Rattle.std.specs.FinMap as finite;
 ghost use Rattle.addr_space.specs.Space.{piece_at, begins, FindsLast};
 ghost use Rattle.flat_model.specs.Mapping.{without_pages};
 ghost use Rattle.flat_model.specs.Space.{is_in_range};
 ghost use Rattle.vm_world.specs.Segments.{Spaces};
+ghost use Rattle.vm_world.specs.Words.{memory, SameFilesAndTails};
 ghost use Rattle.vm_world.specs.World.{world_seen};
 ghost use Rattle.vm_world.specs.ZeroObjects.{free_number};
 ghost use Rattle.seg_vn.specs.Clears.{ChangesSpace, GivesBack, SpaceFits, StartsAt};
@@ -48,23 +49,14 @@ pub fn clear<D: Disk>(
         ≡ (if is_in_range from (end - from) q then None else piece_at space.old.parts q) }
     ensures changes { (spaces : Spaces)
         → SpaceFits (world_seen world.old) world.old.zeros spaces process space.old.parts
-        → ChangesSpace process (record { world = world_seen world.old; spaces = spaces })
-        (record {
-          world = world_seen world.new;
-          spaces = finite.insert spaces process space.new.parts;
-        })
-        world.new.zeros (λ F. without_pages F process from (end - from)) }
+        → ChangesSpace process (memory world.old spaces)
+        (memory world.new (finite.insert spaces process space.new.parts)) world.new.zeros
+        (λ F. without_pages F process from (end - from)) }
     ensures gives { GivesBack (world_seen world.old) (world_seen world.new) }
     ensures objects { IsSome (free_number world.old.zeros) → IsSome (free_number world.new.zeros) }
     // What stays.
     ensures spare { space.old.spare ≤ space.new.spare }
-    ensures rest { world.new ≡ record world.old {
-      store = world.new.store;
-      anon = world.new.anon;
-      maps = world.new.maps;
-      hat = world.new.hat;
-      zeros = world.new.zeros;
-    } }
+    ensures rest { SameFilesAndTails world.old world.new }
 {
     let mut top = end;
     while let Some(first) = last_in(space, from, top) {

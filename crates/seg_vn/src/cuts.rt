@@ -1,7 +1,8 @@
 //! Segments that are cut in two.
-ghost use Rattle.std.specs.Prelude.{◌≡◌, ◌≢◌, ◌≤◌, ◌<◌, ◌-◌, ◌+◌, ◌^◌, ℕ, [], false, length, Some, IsSome, IfOk, OnErr, option_map, vec_capacity};
+ghost use Rattle.std.specs.Prelude.{◌≡◌, ◌≢◌, ◌≤◌, ◌<◌, ◌-◌, ◌+◌, ◌^◌, ℕ, [], length, Some, IsSome, IfOk, OnErr, option_map, vec_capacity};
 ghost use Rattle.anon_map.specs.Maps.{IsMapThere, IsUnused, places_of, holders_of, free_numbers};
 ghost use Rattle.vm_world.specs.MapSteps.{maps_cut, maps_held};
+ghost use Rattle.vm_world.specs.Words.{OnlyMaps};
 ghost use Rattle.vm_world.specs.World.{world_seen};
 ghost use Rattle.seg_vn.specs.Cuts.{IsCutInTwo, MayBeCut};
 
@@ -73,7 +74,7 @@ impl VnSeg {
             → IsMapThere world.old.maps number → length (places_of world.new.maps number)
             ≡ length (places_of world.old.maps number) }
         // What stays.
-        ensures rest { world.new ≡ record world.old { maps = world.new.maps } }
+        ensures rest { OnlyMaps world.old world.new }
     {
         let whole = self.segment;
         let own = cut_own(world, whole.own, at, room);
@@ -117,7 +118,7 @@ impl VnSeg {
             (world_seen world.new) self.old self.new upper at) }
         ensures err { OnErr result ((world.new ≡ world.old) × (self.new ≡ self.old)) }
         // What stays.
-        ensures rest { world.new ≡ record world.old { maps = world.new.maps } }
+        ensures rest { OnlyMaps world.old world.new }
     {
         let room = self.room_from(world, at)?;
         world.maps.reserve(1)?;

@@ -7,6 +7,7 @@ ghost use Rattle.anon_slots.specs.Slots.{slots_in_use};
 ghost use Rattle.flat_model.specs.Mapping.{without_pages};
 ghost use Rattle.vm_world.specs.MapSteps.{maps_released, places_released};
 ghost use Rattle.vm_world.specs.Segments.{Spaces};
+ghost use Rattle.vm_world.specs.Words.{memory, OnlyAnonymous, SameFilesAndTails};
 ghost use Rattle.vm_world.specs.World.{world_seen};
 ghost use Rattle.vm_world.specs.ZeroObjects.{KnowsZeros, free_number};
 ghost use Rattle.seg_vn.specs.Clears.{ChangesSpace, GivesBack};
@@ -26,16 +27,11 @@ fn empty_own<D: Disk>(world: &mut World<D>, segment: Segment, space: u32, first:
     ensures own { (map : ℕ) → segment.own ≡ Some map
         → AreEmpty (places_of world.new.maps map) }
     ensures gives { GivesBack (world_seen world.old) (world_seen world.new) }
-    ensures rest { world.new ≡ record world.old {
-      store = world.new.store;
-      anon = world.new.anon;
-      maps = world.new.maps;
-    } }
+    ensures rest { OnlyAnonymous world.old world.new }
     ensures changes { (spaces : Spaces)
         → IsUnloadedPart (world_seen world.old) spaces space first segment
-        → LosesWithPages space first segment.pages
-        (record { world = world_seen world.old; spaces = spaces })
-        (record { world = world_seen world.new; spaces = spaces }) }
+        → LosesWithPages space first segment.pages (memory world.old spaces)
+        (memory world.new spaces) }
 {
     if let Some(map) = segment.own {
         drop_places(world, map, 0, segment.pages);
@@ -63,9 +59,8 @@ fn empty_shown<D: Disk>(world: &mut World<D>, segment: Segment, space: u32, firs
     } }
     ensures changes { (spaces : Spaces)
         → IsUnloadedPart (world_seen world.old) spaces space first segment
-        → LosesWithPages space first segment.pages
-        (record { world = world_seen world.old; spaces = spaces })
-        (record { world = world_seen world.new; spaces = spaces }) }
+        → LosesWithPages space first segment.pages (memory world.old spaces)
+        (memory world.new spaces) }
 {
     let Object::Zero(number) = segment.object else {
         return;
@@ -114,24 +109,15 @@ impl VnSeg {
         ensures changes { (spaces : Spaces)
             (c : IsPartAt (world_seen world.old) spaces space first self.old)
             → KnowsZeros world.old.zeros spaces
-            → ChangesSpace space (record { world = world_seen world.old; spaces = spaces })
-            (record {
-              world = world_seen world.new;
-              spaces = finite.insert spaces space (without_part first c.parts);
-            })
+            → ChangesSpace space (memory world.old spaces)
+            (memory world.new (finite.insert spaces space (without_part first c.parts)))
             world.new.zeros (λ F. without_pages F space first self.old.pages) }
         ensures gives { GivesBack (world_seen world.old) (world_seen world.new) }
         ensures objects { IsSome (free_number world.old.zeros)
             → IsSome (free_number world.new.zeros) }
         // What stays.
         ensures segment { self.new ≡ self.old }
-        ensures rest { world.new ≡ record world.old {
-          store = world.new.store;
-          anon = world.new.anon;
-          maps = world.new.maps;
-          hat = world.new.hat;
-          zeros = world.new.zeros;
-        } }
+        ensures rest { SameFilesAndTails world.old world.new }
     {
         self.unmap(world, space, first);
         let segment = self.segment;

@@ -8,7 +8,6 @@ mod attempt;
 mod clears;
 mod copy_faults;
 mod cuts;
-mod driver;
 mod leaves;
 mod segment;
 mod shown;

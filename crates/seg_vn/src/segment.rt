@@ -1,20 +1,17 @@
 //! Segments.
-ghost use Rattle.std.specs.Prelude.{◌≡◌, ℕ, ◌+◌, ◌-◌, ◌<◌, ◌≤◌, ◌^◌, Some, IsSome, IsTrue, if◌then◌else◌};
-ghost use Rattle.core_arena.specs.Bytes.{bytes_at};
+ghost use Rattle.std.specs.Prelude.{◌≡◌, ℕ, ◌+◌, ◌-◌, ◌<◌, ◌^◌, Some};
 ghost use Rattle.hat_layer.specs.Pool.{translation_at, fresh_translation};
 ghost use Rattle.page_hash.specs.declared.PageName.{PageName};
-ghost use Rattle.page_store.specs.Notes.{Notes};
 ghost use Rattle.page_store.specs.Seen.{residence};
 ghost use Rattle.vm_types.specs.Prot.{can_read, can_write, is_within};
-ghost use Rattle.vm_world.specs.MemoryFits.{MemoryFits};
-ghost use Rattle.vm_world.specs.NotesFit.{NotesFit};
 ghost use Rattle.vm_world.specs.Segments.{Spaces};
+ghost use Rattle.vm_world.specs.Words.{Fits, IsFit, KeepsPages, OnlyStoreAndHat};
 ghost use Rattle.vm_world.specs.World.{world_seen};
-ghost use Rattle.seg_ops.specs.Steps.{KeepsPages, MayShow};
+ghost use Rattle.seg_ops.specs.Steps.{MayShow};
 
 use block_device::Disk;
 use page_store::{PageName, Residence};
-use seg_ops::{Step, show};
+use seg_ops::show;
 use std::marker::Model;
 use vm_types::{Kind, Object, Prot, pages_in};
 use vm_world::{Segment, World};
@@ -47,17 +44,15 @@ pub(crate) fn load_page<D: Disk>(
     writable: bool,
 )
     requires home { (frame : ℕ) × (residence world.old.store name ≡ Residence.Home frame) }
-    requires fits { (spaces : Spaces)
-        × MemoryFits (record { world = world_seen world.old; spaces = spaces }) }
+    requires fits { IsFit world.old }
     ensures loaded { (frame : ℕ) × (translation_at world.new.hat.places space page
         ≡ Some (fresh_translation space page frame writable)) }
-    ensures keeps { (spaces : Spaces)
-        → MemoryFits (record { world = world_seen world.old; spaces = spaces })
+    ensures keeps { (spaces : Spaces) → Fits world.old spaces
         → MayShow (world_seen world.old) spaces space page name writable
         → KeepsPages (world_seen world.old) (world_seen world.new) spaces }
     // What stays.
     ensures names { world.new.store.names ≡ world.old.store.names }
-    ensures rest { world.new ≡ record world.old { store = world.new.store; hat = world.new.hat } }
+    ensures rest { OnlyStoreAndHat world.old world.new }
 {
     let Residence::Home(frame) = world.store.resident(name) else {
         unreachable!();

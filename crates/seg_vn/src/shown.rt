@@ -1,7 +1,7 @@
 //! What the object of a segment shows at a place.
 ghost use Rattle.std.specs.Prelude.{◌≡◌, ◌<◌, ℕ, Some, None};
-ghost use Rattle.vm_world.specs.MemoryFits.{MemoryFits};
 ghost use Rattle.vm_world.specs.Segments.{Spaces, spot_at, own_slot};
+ghost use Rattle.vm_world.specs.Words.{Fits};
 ghost use Rattle.vm_world.specs.World.{world_seen};
 ghost use Rattle.seg_vn.specs.Shown.{ObjectShows};
 
@@ -25,8 +25,7 @@ pub(crate) enum Shown {
 impl VnSeg {
     /// The slot of a place's own.
     pub(crate) fn own_slot<D: Disk>(&self, world: &World<D>, at: u32) -> Option<u32>
-        requires fits { (spaces : Spaces) × (p : ℕ) × (q : ℕ)
-            × MemoryFits (record { world = world_seen world.now; spaces = spaces })
+        requires fits { (spaces : Spaces) × (p : ℕ) × (q : ℕ) × Fits world.now spaces
             × (spot_at spaces p q ≡ Some (self.now, at)) }
         ensures { result ≡ own_slot world.now.maps (self.now, at) }
     {
@@ -40,11 +39,9 @@ impl VnSeg {
     pub(crate) fn object_page<D: Disk>(&self, world: &World<D>, at: u32) -> Shown
         requires within { at < self.now.pages }
         requires empty { own_slot world.now.maps (self.now, at) ≡ None }
-        requires fits { (spaces : Spaces) × (p : ℕ) × (q : ℕ)
-            × MemoryFits (record { world = world_seen world.now; spaces = spaces })
+        requires fits { (spaces : Spaces) × (p : ℕ) × (q : ℕ) × Fits world.now spaces
             × (spot_at spaces p q ≡ Some (self.now, at)) }
-        ensures shows { (spaces : Spaces) (p q : ℕ)
-            → MemoryFits (record { world = world_seen world.now; spaces = spaces })
+        ensures shows { (spaces : Spaces) (p q : ℕ) → Fits world.now spaces
             → spot_at spaces p q ≡ Some (self.now, at)
             → ObjectShows (world_seen world.now) spaces (self.now, at) result }
     {

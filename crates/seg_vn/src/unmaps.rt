@@ -1,11 +1,8 @@
 //! Segments that lose their translations.
 ghost use Rattle.std.specs.Prelude.{◌≡◌, ◌≤◌, ◌<◌, ◌+◌, ℕ, None};
 ghost use Rattle.hat_layer.specs.Pool.{translation_at};
-ghost use Rattle.vm_world.specs.MemoryFits.{MemoryFits};
-ghost use Rattle.vm_world.specs.Segments.{Spaces};
 ghost use Rattle.vm_world.specs.SpaceSteps.{AreUnloaded};
-ghost use Rattle.vm_world.specs.World.{world_seen};
-ghost use Rattle.seg_ops.specs.Steps.{KeepsPages};
+ghost use Rattle.vm_world.specs.Words.{IsFit, KeepsEveryPage, OnlyStoreAndHat};
 
 use crate::segment::VnSeg;
 use block_device::Disk;
@@ -16,19 +13,15 @@ impl VnSeg {
     /// Drops the translations of its pages, which begin with this page of the process. Time: its pages.
     pub fn unmap<D: Disk>(&mut self, world: &mut World<D>, space: u32, first: u32)
         requires within { first + self.old.pages ≤ 0x80000 }
-        requires fits { (spaces : Spaces)
-            × MemoryFits (record { world = world_seen world.old; spaces = spaces }) }
+        requires fits { IsFit world.old }
         // None of its pages has a translation, nor has any page that had none.
         ensures unloaded { AreUnloaded world.new.hat.places space first self.old.pages }
         ensures none { (s q : ℕ) → translation_at world.old.hat.places s q ≡ None
             → translation_at world.new.hat.places s q ≡ None }
         // What stays.
         ensures segment { self.new ≡ self.old }
-        ensures rest { world.new
-            ≡ record world.old { store = world.new.store; hat = world.new.hat } }
-        ensures keeps { (spaces : Spaces)
-            → MemoryFits (record { world = world_seen world.old; spaces = spaces })
-            → KeepsPages (world_seen world.old) (world_seen world.new) spaces }
+        ensures rest { OnlyStoreAndHat world.old world.new }
+        ensures keeps { KeepsEveryPage world.old world.new }
     {
         for page in first..first + self.pages() {
             drop_translation(world, space, page);

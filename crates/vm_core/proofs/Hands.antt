@@ -3,7 +3,7 @@ use Rattle.std.proofs.Common.{◌≡◌, ℕ, ◌||◌, Bool, true, false, Optio
 use Rattle.std.specs.Prelude.{IfSome, option_map}
 use Rattle.flat_model.specs.Step.{is_bit_set}
 use Rattle.page_store.specs.declared.plan.Plan.{Plan}
-use Rattle.seg_ops.specs.Steps.{KeepsPages}
+use Rattle.vm_world.specs.Words.{KeepsPages}
 use Rattle.vm_world.specs.Events.{IsEvent}
 use Rattle.vm_world.specs.Plans.{CanRunPlan}
 use Rattle.vm_world.specs.State.{KernelState, KeptPlan, Caller}

@@ -28,9 +28,9 @@ use Rattle.page_store.specs.declared.plan.Plan.TheVariants as plan
 use Rattle.page_store.specs.declared.residence.Residence.TheVariants.{Home}
 use Rattle.page_store.proofs.QueryLemmas.{home-is, found-within}
 use Rattle.seg_ops.specs.Plans.{IsAsked}
-use Rattle.seg_ops.specs.Steps.{KeepsPages}
-use Rattle.seg_ops.specs.declared.plans.Step.{Step}
-use Rattle.seg_ops.specs.declared.plans.Step.TheVariants.{Loaded, Past, Need, Busy}
+use Rattle.vm_world.specs.Words.{KeepsPages}
+use Rattle.vm_world.specs.declared.wants.Wants.{Wants}
+use Rattle.vm_world.specs.declared.wants.Wants.TheVariants.{Transfer, Seat}
 use Rattle.seg_ops.proofs.Places.{index-map, index-set, or-left}
 use Rattle.seg_ops.proofs.StillSteps.{with_tables, memory_of, KeepsRow, same-row, step-keeps, translation-kept}
 use Rattle.vm_world.specs.MemoryFits.{MemoryFits}
@@ -165,14 +165,14 @@ home-again s n frame found there = ap (λ (o : Option ℕ). residence_in o s) fo
     by_bytes None h = absurd (let z : false ≡ true = h in cc)
 
 -- THE PAGE IS TO BE PUSHED, where its disk is home.
-pub looks-modified : (w u : World) (spaces : Spaces) (frame : ℕ) (name : PageName) (asked : Step) → MemoryFits (memory_of w spaces) → frame < length w.store.frames → GathersUse w u frame → (row_at w.store.rows frame).holder ≡ None
+pub looks-modified : (w u : World) (spaces : Spaces) (frame : ℕ) (name : PageName) (asked : Wants) → MemoryFits (memory_of w spaces) → frame < length w.store.frames → GathersUse w u frame → (row_at w.store.rows frame).holder ≡ None
     → (row_at u.store.rows frame).referenced ≡ false → (row_at u.store.rows frame).modified ≡ true → find w.store.names name ≡ Some frame → world_table u ≡ world_table w → u.store.bays ≡ w.store.bays → u.store.names ≡ w.store.names
     → IsAsked u (plan.Push name) asked → BackLooks w u frame (plan_in asked)
 looks-modified w u spaces frame name asked fits lt g free idle dirty found table bays names is = record {
   touches = g.touches;
   released = λ x. absurd (x.unmodified (g.modified.0 (inl dirty)));
   left = λ n. record { cached = g.cached; modified = g.modified; referenced = g.referenced; loaded = g.loaded };
-  push = by_step asked is;
+  push = by_wants asked is;
 }
   where
     here : residence w.store name ≡ Home frame
@@ -209,23 +209,19 @@ looks-modified w u spaces frame name asked fits lt g free idle dirty found table
     )
     some q (plan.Read n) e d = ((λ h. absurd (let z : ◌≡◌ {A = Option Plan} (Some (plan.Push name)) (Some (plan.Read n)) = ap (λ (x : Plan). Some x) (sym e) ∙ h in cc)), (λ x. absurd x))
 
-    by_step : (a : Step) → IsAsked u (plan.Push name) a → (p : Plan) → (plan_in a ≡ Some p) ↔ IsPushOf w frame p
-    by_step (Need q) h p = some q p h.0 h.1.0
-    by_step (Busy x) h p = ((λ e. absurd (let z : ◌≡◌ {A = Option Plan} None (Some p) = e in cc)), (λ q. absurd (none p (refused x h) q)))
-    by_step Loaded h p = absurd h
-    by_step Past h p = absurd h
+    by_wants : (a : Wants) → IsAsked u (plan.Push name) a → (p : Plan) → (plan_in a ≡ Some p) ↔ IsPushOf w frame p
+    by_wants (Transfer q) h p = some q p h.0 h.1.0
+    by_wants (Seat x) h p = ((λ e. absurd (let z : ◌≡◌ {A = Option Plan} None (Some p) = e in cc)), (λ q. absurd (none p (refused x h) q)))
 
 -- what is answered can run
-pub looks-runs : (u : World) (spaces : Spaces) (frame : ℕ) (name : PageName) (asked : Step) → residence u.store name ≡ Home frame → (row_at u.store.rows frame).modified ≡ true → IsAsked u (plan.Push name) asked
+pub looks-runs : (u : World) (spaces : Spaces) (frame : ℕ) (name : PageName) (asked : Wants) → residence u.store name ≡ Home frame → (row_at u.store.rows frame).modified ≡ true → IsAsked u (plan.Push name) asked
     → IfSome (plan_in asked) (CanRunPlan (memory_of u spaces) None)
-looks-runs u spaces frame name (Need q) here dirty h = subst (λ (p : Plan). CanRunPlan (memory_of u spaces) None p) (sym h.0) (record {
+looks-runs u spaces frame name (Transfer q) here dirty h = subst (λ (p : Plan). CanRunPlan (memory_of u spaces) None p) (sym h.0) (record {
   may = record { frame = frame; home = here; modified = inl dirty };
   ready = h.1;
   frame = λ e. absurd (let z : true ≡ false = e in cc);
 })
-looks-runs u spaces frame name (Busy x) here dirty h = tt
-looks-runs u spaces frame name Loaded here dirty h = absurd h
-looks-runs u spaces frame name Past here dirty h = absurd h
+looks-runs u spaces frame name (Seat x) here dirty h = tt
 
 -- STEPS OF THE WORLD. The hands move on.
 pub hand-keeps : (w : World) (spaces : Spaces) (new : StoreSeen) → MemoryFits (memory_of w spaces) → new ≡ record w.store { clock = next_clock w.store.clock } → StaysInPlace w.store new (is_only None) → KeepsPages w (with_tables w new w.hat) spaces

@@ -37,7 +37,8 @@ use Rattle.vm_world.specs.WorldSteps.{KeepsTables}
 use Rattle.vm_world.proofs.Clips.{clip-twice}
 use Rattle.vm_world.proofs.FrameRule.{memory_of}
 use Rattle.vm_world.proofs.PageNames.{not-slot, file-apart, file-page, file-place}
-use Rattle.seg_ops.specs.Steps.{KeepsPages, IsUnwritten}
+use Rattle.vm_world.specs.Words.{KeepsPages}
+use Rattle.seg_ops.specs.Steps.{IsUnwritten}
 use Rattle.seg_ops.proofs.Evictions.{clean-page, not-modified}
 use Rattle.seg_ops.proofs.StillSteps.{value-is}
 use Rattle.vm_core.specs.Finish.{IsFilePage, bytes_of_page, KeepRecords}

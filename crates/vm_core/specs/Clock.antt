@@ -15,8 +15,8 @@ use Rattle.page_store.specs.Seen.{StoreSeen, IsListedFrame, residence}
 use Rattle.page_store.specs.declared.plan.Plan.{Plan}
 use Rattle.page_store.specs.declared.plan.Plan.TheVariants as plan
 use Rattle.page_store.specs.declared.residence.Residence.TheVariants.{Home}
-use Rattle.seg_ops.specs.declared.plans.Step.{Step}
-use Rattle.seg_ops.specs.declared.plans.Step.TheVariants.{Loaded, Past, Need, Busy}
+use Rattle.vm_world.specs.declared.wants.Wants.{Wants}
+use Rattle.vm_world.specs.declared.wants.Wants.TheVariants.{Transfer, Seat}
 use Rattle.vm_world.specs.State.{KernelState, KeptPlan}
 use Rattle.vm_world.specs.TranslationsFit.{IsModified}
 use Rattle.vm_world.specs.World.{World, world_table}
@@ -145,9 +145,7 @@ after_hand s new plan = record s { memory = record s.memory { world = new }; pla
 abbrev pub kept_of_clock : ℕ → Plan → KeptPlan
 kept_of_clock seat p = record { seat = seat; plan = p; of = None }
 
--- The plan of what a transfer comes to, where it can begin.
-abbrev pub plan_in : Step → Option Plan
-plan_in (Need p) = Some p
-plan_in (Busy h) = None
-plan_in Loaded = None
-plan_in Past = None
+-- The plan that is wanted, where it can begin.
+abbrev pub plan_in : Wants → Option Plan
+plan_in (Transfer p) = Some p
+plan_in (Seat h) = None

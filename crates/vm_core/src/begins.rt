@@ -1,5 +1,5 @@
 //! Transfers that begin.
-ghost use Rattle.std.specs.Prelude.{◌≡◌, ℕ, Some, None};
+ghost use Rattle.std.specs.Prelude.{◌≡◌, Some, None};
 ghost use Rattle.page_hash.specs.Names.{is_name};
 ghost use Rattle.page_store.specs.Flight.{note_of};
 ghost use Rattle.page_store.specs.Notes.{Notes};
@@ -7,11 +7,11 @@ ghost use Rattle.page_store.specs.Steps.{next_name};
 ghost use Rattle.page_store.specs.Waits.{Waits, plan_page};
 ghost use Rattle.seg_ops.specs.Flights.{BeginsFor};
 ghost use Rattle.vm_world.specs.Events.{IsEvent};
-ghost use Rattle.vm_world.specs.MemoryFits.{MemoryFits};
 ghost use Rattle.vm_world.specs.NotesFit.{NotesFit};
 ghost use Rattle.vm_world.specs.Segments.{Spaces};
 ghost use Rattle.vm_world.specs.State.{KeptPlan};
 ghost use Rattle.vm_world.specs.StateSteps.{PendsTails, after_step};
+ghost use Rattle.vm_world.specs.Words.{Fits, IsFit};
 ghost use Rattle.vm_world.specs.World.{world_seen, world_table};
 ghost use Rattle.vm_world.specs.WorldSteps.{WorldStep, leaves};
 ghost use Rattle.vm_core.specs.Fits.{FitsAt};
@@ -28,8 +28,7 @@ fn leave<D: Disk>(world: &mut World<D>, seat: u32, plan: Plan) -> Flight<D>
     requires can { CanLeave (world_seen world.old) plan }
     requires ready { Waits world.old.store (plan_page plan)
         (world_table (world_seen world.old) (plan_page plan)).disk None }
-    requires fits { (spaces : Spaces)
-        × MemoryFits (record { world = world_seen world.old; spaces = spaces }) }
+    requires fits { IsFit world.old }
     // The flight, the tails that it makes pending, and the translations.
     ensures flight { BeginsFor (world_seen world.old) seat plan result }
     ensures pends { PendsTails (world_seen world.old) (is_name (next_name world.old.store))
@@ -37,8 +36,7 @@ fn leave<D: Disk>(world: &mut World<D>, seat: u32, plan: Plan) -> Flight<D>
     ensures places { world.new.hat.places ≡ places_begun (world_seen world.old) plan }
     // What stays.
     ensures zeros { world.new.zeros ≡ world.old.zeros }
-    ensures step { (spaces : Spaces) (notes : Notes)
-        → MemoryFits (record { world = world_seen world.old; spaces = spaces })
+    ensures step { (spaces : Spaces) (notes : Notes) → Fits world.old spaces
         → NotesFit (world_seen world.old) notes
         → WorldStep (world_seen world.old) (world_seen world.new) spaces
         (leaves seat (note_of result)) (is_name (next_name world.old.store)) }

@@ -1,12 +1,9 @@
 //! The two hands of the clock.
-ghost use Rattle.std.specs.Prelude.{◌≡◌, ◌<◌, ℕ, None, length, option_map, IfSome};
-ghost use Rattle.page_store.specs.Notes.{Notes};
-ghost use Rattle.seg_ops.specs.Steps.{KeepsPages};
+ghost use Rattle.std.specs.Prelude.{◌≡◌, ◌<◌, None, length, option_map, IfSome};
 ghost use Rattle.vm_world.specs.Events.{IsEvent};
-ghost use Rattle.vm_world.specs.MemoryFits.{MemoryFits};
-ghost use Rattle.vm_world.specs.NotesFit.{NotesFit};
 ghost use Rattle.vm_world.specs.Plans.{CanRunPlan};
 ghost use Rattle.vm_world.specs.Segments.{Spaces};
+ghost use Rattle.vm_world.specs.Words.{memory, Fits, IsFit, IsKnown, KeepsEveryPage, OnlyStoreAndHat};
 ghost use Rattle.vm_world.specs.World.{world_seen};
 ghost use Rattle.vm_core.specs.Clock.{ClockMoves, GathersUse, FrontClears, BackLooks, after_hand, kept_of_clock, plan_in};
 ghost use Rattle.vm_core.specs.State.{kept_seen};
@@ -16,19 +13,16 @@ use crate::kept::{Kept, forget};
 use crate::state::VmState;
 use block_device::Disk;
 use page_store::{Pick, Plan};
-use seg_ops::{Step, ask, evict, sync};
-use vm_world::World;
+use seg_ops::{ask, evict, sync};
+use vm_world::{Wants, World};
 
 /// What the translations of a frame say of its use, its row says then.
 fn gather_use<D: Disk>(world: &mut World<D>, frame: u32)
     requires frame { frame < length world.old.store.frames }
-    requires fits { (spaces : Spaces)
-        × MemoryFits (record { world = world_seen world.old; spaces = spaces }) }
+    requires fits { IsFit world.old }
     ensures gathers { GathersUse (world_seen world.old) (world_seen world.new) frame }
-    ensures rest { world.new ≡ record world.old { store = world.new.store; hat = world.new.hat } }
-    ensures keeps { (spaces : Spaces)
-        → MemoryFits (record { world = world_seen world.old; spaces = spaces })
-        → KeepsPages (world_seen world.old) (world_seen world.new) spaces }
+    ensures rest { OnlyStoreAndHat world.old world.new }
+    ensures keeps { KeepsEveryPage world.old world.new }
 {
     if !world.store.listed(frame) {
         sync(world, frame);
@@ -38,13 +32,10 @@ fn gather_use<D: Disk>(world: &mut World<D>, frame: u32)
 /// The front hand: a page isn't referenced any more.
 fn clear_use<D: Disk>(world: &mut World<D>, frame: u32)
     requires frame { frame < length world.old.store.frames }
-    requires fits { (spaces : Spaces)
-        × MemoryFits (record { world = world_seen world.old; spaces = spaces }) }
+    requires fits { IsFit world.old }
     ensures clears { FrontClears (world_seen world.old) (world_seen world.new) frame }
-    ensures rest { world.new ≡ record world.old { store = world.new.store; hat = world.new.hat } }
-    ensures keeps { (spaces : Spaces)
-        → MemoryFits (record { world = world_seen world.old; spaces = spaces })
-        → KeepsPages (world_seen world.old) (world_seen world.new) spaces }
+    ensures rest { OnlyStoreAndHat world.old world.new }
+    ensures keeps { KeepsEveryPage world.old world.new }
 {
     gather_use(world, frame);
     let (_referenced, modified) = world.store.bits(frame);
@@ -54,19 +45,15 @@ fn clear_use<D: Disk>(world: &mut World<D>, frame: u32)
 /// The back hand: a page that wasn't used is released, and one that is to be pushed is answered.
 fn look<D: Disk>(world: &mut World<D>, frame: u32) -> Option<Plan>
     requires frame { frame < length world.old.store.frames }
-    requires fits { (spaces : Spaces)
-        × MemoryFits (record { world = world_seen world.old; spaces = spaces }) }
-    requires noted { (notes : Notes) × NotesFit (world_seen world.old) notes }
+    requires fits { IsFit world.old }
+    requires noted { IsKnown world.old }
     // What the hand does, and a push that can run.
     ensures looks { BackLooks (world_seen world.old) (world_seen world.new) frame result }
-    ensures runs { (spaces : Spaces)
-        → MemoryFits (record { world = world_seen world.old; spaces = spaces })
-        → IfSome result (CanRunPlan (record { world = world_seen world.new; spaces = spaces }) None) }
+    ensures runs { (spaces : Spaces) → Fits world.old spaces
+        → IfSome result (CanRunPlan (memory world.new spaces) None) }
     // What stays.
-    ensures rest { world.new ≡ record world.old { store = world.new.store; hat = world.new.hat } }
-    ensures keeps { (spaces : Spaces)
-        → MemoryFits (record { world = world_seen world.old; spaces = spaces })
-        → KeepsPages (world_seen world.old) (world_seen world.new) spaces }
+    ensures rest { OnlyStoreAndHat world.old world.new }
+    ensures keeps { KeepsEveryPage world.old world.new }
 {
     if world.store.holder(frame).is_some() || world.store.listed(frame) {
         return None;
@@ -86,31 +73,27 @@ fn look<D: Disk>(world: &mut World<D>, frame: u32) -> Option<Plan>
     plan_in(ask(world, Plan::Push(name)))
 }
 
-/// The plan that is answered, where it can begin.
-fn plan_in(step: Step) -> Option<Plan>
-    ensures { result ≡ plan_in step }
+/// The plan that is wanted, where it can begin.
+fn plan_in(wants: Wants) -> Option<Plan>
+    ensures { result ≡ plan_in wants }
 {
-    match step {
-        Step::Need(plan) => Some(plan),
-        Step::Loaded | Step::Past | Step::Busy(_) => None,
+    match wants {
+        Wants::Transfer(plan) => Some(plan),
+        Wants::Seat(_) => None,
     }
 }
 
 /// The hand whose turn it is moves.
 fn turn_hand<D: Disk>(world: &mut World<D>) -> Option<Plan>
-    requires fits { (spaces : Spaces)
-        × MemoryFits (record { world = world_seen world.old; spaces = spaces }) }
-    requires noted { (notes : Notes) × NotesFit (world_seen world.old) notes }
+    requires fits { IsFit world.old }
+    requires noted { IsKnown world.old }
     // What the hand does, and a push that can run.
     ensures moves { ClockMoves (world_seen world.old) (world_seen world.new) result }
-    ensures runs { (spaces : Spaces)
-        → MemoryFits (record { world = world_seen world.old; spaces = spaces })
-        → IfSome result (CanRunPlan (record { world = world_seen world.new; spaces = spaces }) None) }
+    ensures runs { (spaces : Spaces) → Fits world.old spaces
+        → IfSome result (CanRunPlan (memory world.new spaces) None) }
     // What stays.
-    ensures rest { world.new ≡ record world.old { store = world.new.store; hat = world.new.hat } }
-    ensures keeps { (spaces : Spaces)
-        → MemoryFits (record { world = world_seen world.old; spaces = spaces })
-        → KeepsPages (world_seen world.old) (world_seen world.new) spaces }
+    ensures rest { OnlyStoreAndHat world.old world.new }
+    ensures keeps { KeepsEveryPage world.old world.new }
 {
     match world.store.clock_turn() {
         Pick::Front(frame) => {

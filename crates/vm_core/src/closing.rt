@@ -6,13 +6,13 @@ ghost use Rattle.page_lock.specs.Rows.{row_at};
 ghost use Rattle.page_store.specs.Laws.{SameResidence};
 ghost use Rattle.page_store.specs.Notes.{no_notes};
 ghost use Rattle.page_store.specs.Seen.{IsListedFrame};
-ghost use Rattle.seg_ops.specs.Steps.{KeepsPages, IsUnwritten};
+ghost use Rattle.seg_ops.specs.Steps.{IsUnwritten};
 ghost use Rattle.vm_core.specs.Closing.{PushesPages, StoresPages, IsFaultOfBays};
 ghost use Rattle.vm_core.specs.Finish.{IsFilePage};
-ghost use Rattle.vm_world.specs.MemoryFits.{MemoryFits};
 ghost use Rattle.vm_world.specs.NotesFit.{NotesFit};
 ghost use Rattle.vm_world.specs.Segments.{Spaces};
 ghost use Rattle.vm_world.specs.Wants.{IsDirtyPage};
+ghost use Rattle.vm_world.specs.Words.{Fits, IsFit, KeepsEveryPage, OnlyStoreAndHat};
 ghost use Rattle.vm_world.specs.World.{world_seen};
 
 use block_device::{Disk, DiskFault};
@@ -25,16 +25,13 @@ use vm_world::World;
 fn gather_modified<D: Disk>(world: &mut World<D>, frame: u32) -> bool
     requires frame { frame < length world.old.store.frames }
     requires unlisted { ¬ IsListedFrame world.old.store frame }
-    requires fits { (spaces : Spaces)
-        × MemoryFits (record { world = world_seen world.old; spaces = spaces }) }
+    requires fits { IsFit world.old }
     ensures modified { result ≡ (row_at world.new.store.rows frame).modified }
     ensures unwritten { IsUnwritten world.new.hat.places frame }
     // What stays.
-    ensures rest { world.new ≡ record world.old { store = world.new.store; hat = world.new.hat } }
+    ensures rest { OnlyStoreAndHat world.old world.new }
     ensures stay { SameResidence world.old.store world.new.store }
-    ensures keeps { (spaces : Spaces)
-        → MemoryFits (record { world = world_seen world.old; spaces = spaces })
-        → KeepsPages (world_seen world.old) (world_seen world.new) spaces }
+    ensures keeps { KeepsEveryPage world.old world.new }
 {
     sync(world, frame);
     let (_referenced, modified) = world.store.bits(frame);
@@ -44,15 +41,13 @@ fn gather_modified<D: Disk>(world: &mut World<D>, frame: u32) -> bool
 /// Whether a page of a file is home and modified: its row says so, or one of its translations.
 fn is_modified<D: Disk>(world: &mut World<D>, name: PageName) -> bool
     requires page { IsFilePage world.old.files name }
-    requires fits { (spaces : Spaces)
-        × MemoryFits (record { world = world_seen world.old; spaces = spaces }) }
+    requires fits { IsFit world.old }
     requires noted { NotesFit (world_seen world.old) no_notes }
     ensures dirty { OnTrue result (IsDirtyPage (world_seen world.new) name) }
     ensures stored { StoresPages (world_seen world.old) (world_seen world.new)
         (λ other. (other ≡ name) × (result ≡ false)) }
     // What stays.
-    ensures pushes { (spaces : Spaces)
-        → MemoryFits (record { world = world_seen world.old; spaces = spaces })
+    ensures pushes { (spaces : Spaces) → Fits world.old spaces
         → PushesPages (world_seen world.old) (world_seen world.new) spaces }
 {
     let Residence::Home(frame) = world.store.resident(name) else {
@@ -68,15 +63,13 @@ fn is_modified<D: Disk>(world: &mut World<D>, name: PageName) -> bool
 fn push_page<D: Disk>(world: &mut World<D>, name: PageName) -> Result<(), DiskFault>
     requires page { IsFilePage world.old.files name }
     requires dirty { IsDirtyPage (world_seen world.old) name }
-    requires fits { (spaces : Spaces)
-        × MemoryFits (record { world = world_seen world.old; spaces = spaces }) }
+    requires fits { IsFit world.old }
     requires noted { NotesFit (world_seen world.old) no_notes }
     ensures stored { OnOk result (StoresPages (world_seen world.old) (world_seen world.new)
         (λ other. other ≡ name)) }
     ensures fault { IfErr result (IsFaultOfBays world.old.store.bays world.new.store.bays) }
     // What stays.
-    ensures pushes { (spaces : Spaces)
-        → MemoryFits (record { world = world_seen world.old; spaces = spaces })
+    ensures pushes { (spaces : Spaces) → Fits world.old spaces
         → PushesPages (world_seen world.old) (world_seen world.new) spaces }
 {
     let mut flight = begin_push(world, 0, name);
@@ -96,15 +89,13 @@ fn push_page<D: Disk>(world: &mut World<D>, name: PageName) -> Result<(), DiskFa
 /// Pushes a page of a file where it is home and modified.
 fn push_if_modified<D: Disk>(world: &mut World<D>, name: PageName) -> Result<(), DiskFault>
     requires page { IsFilePage world.old.files name }
-    requires fits { (spaces : Spaces)
-        × MemoryFits (record { world = world_seen world.old; spaces = spaces }) }
+    requires fits { IsFit world.old }
     requires noted { NotesFit (world_seen world.old) no_notes }
     ensures stored { OnOk result (StoresPages (world_seen world.old) (world_seen world.new)
         (λ other. other ≡ name)) }
     ensures fault { IfErr result (IsFaultOfBays world.old.store.bays world.new.store.bays) }
     // What stays.
-    ensures pushes { (spaces : Spaces)
-        → MemoryFits (record { world = world_seen world.old; spaces = spaces })
+    ensures pushes { (spaces : Spaces) → Fits world.old spaces
         → PushesPages (world_seen world.old) (world_seen world.new) spaces }
 {
     if is_modified(world, name) {
@@ -117,15 +108,13 @@ fn push_if_modified<D: Disk>(world: &mut World<D>, name: PageName) -> Result<(),
 /// Pushes each modified page of a file, in rising order, and stops at the first failure.
 fn push_file<D: Disk>(world: &mut World<D>, file: u32) -> Result<(), DiskFault>
     requires file { file < length world.old.files.files }
-    requires fits { (spaces : Spaces)
-        × MemoryFits (record { world = world_seen world.old; spaces = spaces }) }
+    requires fits { IsFit world.old }
     requires noted { NotesFit (world_seen world.old) no_notes }
     ensures stored { OnOk result (StoresPages (world_seen world.old) (world_seen world.new)
         (λ other. other.object ≡ file)) }
     ensures fault { IfErr result (IsFaultOfBays world.old.store.bays world.new.store.bays) }
     // What stays.
-    ensures pushes { (spaces : Spaces)
-        → MemoryFits (record { world = world_seen world.old; spaces = spaces })
+    ensures pushes { (spaces : Spaces) → Fits world.old spaces
         → PushesPages (world_seen world.old) (world_seen world.new) spaces }
 {
     for page in 0..pages_in(world.files.info(file).length) {
@@ -137,15 +126,13 @@ fn push_file<D: Disk>(world: &mut World<D>, file: u32) -> Result<(), DiskFault>
 /// Pushes each modified page of each file once, in rising order of file and page, and stops at the first failure. Takes no
 /// memory.
 pub(crate) fn push_files<D: Disk>(world: &mut World<D>) -> Result<(), DiskFault>
-    requires fits { (spaces : Spaces)
-        × MemoryFits (record { world = world_seen world.old; spaces = spaces }) }
+    requires fits { IsFit world.old }
     requires noted { NotesFit (world_seen world.old) no_notes }
     ensures stored { OnOk result (StoresPages (world_seen world.old) (world_seen world.new)
         (λ other. Unit {0})) }
     ensures fault { IfErr result (IsFaultOfBays world.old.store.bays world.new.store.bays) }
     // What stays.
-    ensures pushes { (spaces : Spaces)
-        → MemoryFits (record { world = world_seen world.old; spaces = spaces })
+    ensures pushes { (spaces : Spaces) → Fits world.old spaces
         → PushesPages (world_seen world.old) (world_seen world.new) spaces }
 {
     for file in 0..world.files.count() {

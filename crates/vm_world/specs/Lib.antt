@@ -30,3 +30,4 @@ pub mod SpaceSteps
 pub mod MapSteps
 pub mod SegmentSteps
 pub mod ZeroObjects
+pub mod Words

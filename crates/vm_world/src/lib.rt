@@ -5,6 +5,7 @@ mod laws;
 mod segment;
 #[cfg(test)]
 mod tests;
+mod wants;
 mod world;
 mod zeros;
 
@@ -13,5 +14,6 @@ pub use laws::{
     reserved_law, seat_law, segment_cells_law, segment_law, serving_law, state_law,
 };
 pub use segment::Segment;
+pub use wants::Wants;
 pub use world::World;
 pub use zeros::ZeroObjects;

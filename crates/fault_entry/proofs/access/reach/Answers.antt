@@ -1,4 +1,4 @@
-use Rattle.std.proofs.Common.{◌≡◌, ℕ, ◌-◌, List, Option, Some, sym, ap, ◌∙◌, subst}
+use Rattle.std.proofs.Common.{◌≡◌, ℕ, ◌-◌, List, Option, Some, Result, Ok, Err, sym, ap, ◌∙◌, subst}
 use Rattle.std.specs.Prelude.{IsSome}
 use Rattle.core_arena.specs.Bytes.{bytes_at}
 use Rattle.std.specs.FinMap as finite
@@ -9,10 +9,14 @@ use Rattle.vm_world.specs.Segments.{Spot, Spaces, spot_at}
 use Rattle.vm_world.specs.World.{World, world_seen}
 use Rattle.seg_ops.proofs.StillSteps.{memory_of}
 use Rattle.fault_entry.specs.Reaching.{may_access, ServesAccess}
+use Rattle.std.proofs.lemmas.Result.{err_from_is_err_and}
+use Rattle.seg_ops.specs.declared.plans.Fault.{Fault}
+use Rattle.vm_world.specs.declared.wants.Wants.{Wants}
+use Rattle.seg_ops.specs.Faults.{ServesFault}
 use Rattle.fault_entry.specs.declared.access.AccessStep.{AccessStep}
 use Rattle.fault_entry.specs.declared.access.AccessStep.TheVariants as access
 use Rattle.fault_entry.proofs.Found.{spot-found, spot-none, found-low}
-use Rattle.fault_entry.proofs.Reached.{align-access, unmapped-access, refused-access, hit-access, loaded-access, past-access, need-access, busy-access}
+use Rattle.fault_entry.proofs.Reached.{align-access, unmapped-access, refused-access, hit-access, loaded-access, past-access, wants-access}
 use Rattle.fault_entry.proofs.access.reach.Given.{Over}
 use Rattle.fault_entry.proofs.access.reach.Goals.{After-may_access, After-fault}
 use Rattle.fault_entry.proofs.access.reach.Goals as goal
@@ -51,7 +55,7 @@ returns-in-Some-frame_for-clause-serves g c = λ spaces fits get.
     let old = world_seen c.args.world.now in
     let new = world_seen c.frame_for.new.world in
     let pending : c.frame_for.new.world.pending ≡ c.args.world.now.pending = ap (λ v. v.pending) c.frame_for.ensures.rest in
-    subst (λ (k : ℕ). ServesAccess (memory_of old spaces) (memory_of new spaces) c.args.world.now.pending k c.args.process c.args.addr c.args.size c.args.write (access.Reached c.in-Some-frame_for.frame)) (sym pending)
+    subst (λ (k : ℕ). ServesAccess (memory_of old spaces) (memory_of new spaces) c.args.world.now.pending k c.args.process c.args.addr c.args.size c.args.write (Ok (access.Reached c.in-Some-frame_for.frame))) (sym pending)
     (hit-access old spaces c.args.world.now.pending c.args.process c.args.addr c.args.size c.args.write fits new (spot g at) c.in-Some-frame_for.frame c.if-addr-size-ne0.false
     (here g at spaces get) (sym (allowed g at) ∙ c.if-not-may_access.false) (c.frame_for.ensures.keeps spaces fits) (ap (λ v. v.anon) c.frame_for.ensures.rest) (ap (λ v. v.maps) c.frame_for.ensures.rest) c.in-Some-frame_for.ensures.noted)
 
@@ -66,7 +70,7 @@ fault-requires-clause-fits g c =
     (c.requires.fits.0, (c.frame_for.ensures.keeps c.requires.fits.0 c.requires.fits.1).memory, here g at c.requires.fits.0 c.requires.fits.2)
 
 -- where no access was noted, what is served from then on is served from the start
-served : (g : Over) (c : After-fault g) (spaces : Spaces) (new : World) (more : ℕ) (answer : AccessStep) → ServesAccess (memory_of (world_seen c.frame_for.new.world) spaces) (memory_of new spaces) c.frame_for.new.world.pending more c.args.process c.args.addr c.args.size c.args.write answer
+served : (g : Over) (c : After-fault g) (spaces : Spaces) (new : World) (more : ℕ) (answer : Result AccessStep Wants) → ServesAccess (memory_of (world_seen c.frame_for.new.world) spaces) (memory_of new spaces) c.frame_for.new.world.pending more c.args.process c.args.addr c.args.size c.args.write answer
     → ServesAccess (memory_of (world_seen c.args.world.now) spaces) (memory_of new spaces) c.args.world.now.pending more c.args.process c.args.addr c.args.size c.args.write answer
 served g c spaces new more answer s = subst (λ v. ServesAccess (memory_of (world_seen v) spaces) (memory_of new spaces) v.pending more c.args.process c.args.addr c.args.size c.args.write answer) c.in_default-frame_for.ensures.none s
 
@@ -78,10 +82,10 @@ returns-in-Loaded-clause-serves g c = λ spaces fits get.
     let old = world_seen c.frame_for.new.world in
     let mid = world_seen c.fault.new.world in
     let new = world_seen c.noted.new.world in
-    let s = c.in-Loaded.ensures.serves spaces still place in
+    let s = subst (λ (a : Fault). ServesFault (memory_of old spaces) (memory_of mid spaces) c.frame_for.new.world.pending c.fault.new.world.pending c.args.process (page c.args.addr) (spot g at) c.args.write (Ok a)) c.in-Loaded.is (c.in_ok-fault.ensures.serves spaces still place) in
     let pending : c.noted.new.world.pending ≡ c.fault.new.world.pending = ap (λ v. v.pending) c.noted.ensures.rest in
-    served g (goal.at.returns-in-Loaded-clause-serves g c).After-fault spaces new c.noted.new.world.pending (access.Reached c.noted.result)
-    (subst (λ (k : ℕ). ServesAccess (memory_of old spaces) (memory_of new spaces) c.frame_for.new.world.pending k c.args.process c.args.addr c.args.size c.args.write (access.Reached c.noted.result)) (sym pending)
+    served g (goal.at.returns-in-Loaded-clause-serves g c).After-fault spaces new c.noted.new.world.pending (Ok (access.Reached c.noted.result))
+    (subst (λ (k : ℕ). ServesAccess (memory_of old spaces) (memory_of new spaces) c.frame_for.new.world.pending k c.args.process c.args.addr c.args.size c.args.write (Ok (access.Reached c.noted.result))) (sym pending)
     (loaded-access old new spaces c.frame_for.new.world.pending c.fault.new.world.pending c.args.process c.args.addr c.args.size c.args.write (spot g at) c.if-addr-size-ne0.false
     place (sym (allowed g at) ∙ c.if-not-may_access.false) mid c.noted.result s (c.noted.ensures.keeps spaces s.acts.memory) (ap (λ v. v.anon) c.noted.ensures.rest) (ap (λ v. v.maps) c.noted.ensures.rest) c.noted.ensures.noted))
 
@@ -90,24 +94,17 @@ returns-in-Past-clause-serves g c = λ spaces fits get.
     let at = (goal.at.returns-in-Past-clause-serves g c).After-may_access in
     let place = here g at spaces get in
     let new = world_seen c.fault.new.world in
-    served g (goal.at.returns-in-Past-clause-serves g c).After-fault spaces new c.fault.new.world.pending (access.Refused signal.Past)
+    served g (goal.at.returns-in-Past-clause-serves g c).After-fault spaces new c.fault.new.world.pending (Ok (access.Refused signal.Past))
     (past-access (world_seen c.frame_for.new.world) new spaces c.frame_for.new.world.pending c.fault.new.world.pending c.args.process c.args.addr c.args.size c.args.write (spot g at) c.if-addr-size-ne0.false
-    place (sym (allowed g at) ∙ c.if-not-may_access.false) (c.in-Past.ensures.serves spaces (c.frame_for.ensures.keeps spaces fits).memory place))
+    place (sym (allowed g at) ∙ c.if-not-may_access.false) (subst (λ (a : Fault). ServesFault (memory_of (world_seen c.frame_for.new.world) spaces) (memory_of new spaces) c.frame_for.new.world.pending c.fault.new.world.pending c.args.process (page c.args.addr) (spot g at) c.args.write (Ok a)) c.in-Past.is (c.in_ok-fault.ensures.serves spaces (c.frame_for.ensures.keeps spaces fits).memory place)))
 
-pub returns-in-Need-clause-serves : goal.returns-in-Need-clause-serves
-returns-in-Need-clause-serves g c = λ spaces fits get.
-    let at = (goal.at.returns-in-Need-clause-serves g c).After-may_access in
+pub returns-in_err-fault-clause-serves : goal.returns-in_err-fault-clause-serves
+returns-in_err-fault-clause-serves g c = λ spaces fits get.
+    let at = (goal.at.returns-in_err-fault-clause-serves g c).After-may_access in
     let place = here g at spaces get in
     let new = world_seen c.fault.new.world in
-    served g (goal.at.returns-in-Need-clause-serves g c).After-fault spaces new c.fault.new.world.pending (access.Need c.in-Need.plan)
-    (need-access (world_seen c.frame_for.new.world) new spaces c.frame_for.new.world.pending c.fault.new.world.pending c.args.process c.args.addr c.args.size c.args.write (spot g at) c.if-addr-size-ne0.false
-    place (sym (allowed g at) ∙ c.if-not-may_access.false) c.in-Need.plan (c.in-Need.ensures.serves spaces (c.frame_for.ensures.keeps spaces fits).memory place))
-
-pub returns-in-Busy-clause-serves : goal.returns-in-Busy-clause-serves
-returns-in-Busy-clause-serves g c = λ spaces fits get.
-    let at = (goal.at.returns-in-Busy-clause-serves g c).After-may_access in
-    let place = here g at spaces get in
-    let new = world_seen c.fault.new.world in
-    served g (goal.at.returns-in-Busy-clause-serves g c).After-fault spaces new c.fault.new.world.pending (access.Busy c.in-Busy.hold)
-    (busy-access (world_seen c.frame_for.new.world) new spaces c.frame_for.new.world.pending c.fault.new.world.pending c.args.process c.args.addr c.args.size c.args.write (spot g at) c.if-addr-size-ne0.false
-    place (sym (allowed g at) ∙ c.if-not-may_access.false) c.in-Busy.hold (c.in-Busy.ensures.serves spaces (c.frame_for.ensures.keeps spaces fits).memory place))
+    let is = err_from_is_err_and c.from_residual.result c.from_residual.ensures.1 in
+    let wanted = served g (goal.at.returns-in_err-fault-clause-serves g c).After-fault spaces new c.fault.new.world.pending (Err c.in_err-fault.field-0.0)
+    (wants-access (world_seen c.frame_for.new.world) new spaces c.frame_for.new.world.pending c.fault.new.world.pending c.args.process c.args.addr c.args.size c.args.write (spot g at) c.if-addr-size-ne0.false
+    place (sym (allowed g at) ∙ c.if-not-may_access.false) c.in_err-fault.field-0.0 (c.in_err-fault.ensures.serves spaces (c.frame_for.ensures.keeps spaces fits).memory place)) in
+    rw (is.1, is.2) wanted

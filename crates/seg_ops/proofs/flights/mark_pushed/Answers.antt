@@ -5,7 +5,7 @@ use Rattle.vm_world.specs.Segments.{Spaces}
 use Rattle.vm_world.specs.MemoryFits.{MemoryFits}
 use Rattle.vm_world.specs.World.{World, world_seen}
 use Rattle.seg_ops.specs.Marks.{files_pushed}
-use Rattle.seg_ops.specs.Steps.{KeepsPages}
+use Rattle.vm_world.specs.Words.{KeepsPages}
 use Rattle.seg_ops.proofs.Disks.{dirty-exists}
 use Rattle.seg_ops.proofs.Marks.{Marks, marks-step, home-modified}
 use Rattle.seg_ops.proofs.Pushed.{marks-pushed}

@@ -2,8 +2,9 @@ use Rattle.std.proofs.Common.{◌≡◌, sym, ap, ◌∙◌, subst}
 use Rattle.page_store.specs.Seen.{StoreSeen, IsListedFrame, residence}
 use Rattle.page_store.specs.declared.residence.Residence.TheVariants.{Home}
 use Rattle.vm_world.specs.MemoryFits.{MemoryFits}
-use Rattle.vm_world.specs.Serving.{ModifiesNone}
 use Rattle.vm_world.specs.World.{world_seen}
+use Rattle.seg_ops.specs.Rooms.{MakesRoom}
+use Rattle.seg_ops.proofs.RoomMade.{room-same}
 use Rattle.seg_ops.proofs.StillSteps.{memory_of}
 use Rattle.seg_ops.proofs.rooms.make_room_beside.Goals as goal
 
@@ -18,5 +19,8 @@ returns-clause-unlisted g c = λ l.
     let other = λ (home : residence c.victim_beside.new.store c.in-Some.name ≡ Home c.args.frame). chosen.1 (let z : Home chosen.0 ≡ Home c.args.frame = sym chosen.2 ∙ ap (λ (s : StoreSeen). residence s c.in-Some.name) (sym same) ∙ home in cc) in
     subst (λ (s : StoreSeen). IsListedFrame s c.args.frame) same (c.try_page.ensures.lists c.args.frame other l)
 
-pub returns-clause-modified : goal.returns-clause-modified
-returns-clause-modified g c = subst (λ (s : StoreSeen). ModifiesNone (record (world_seen c.args.world.now) { store = s }) (world_seen c.try_page.new.world)) c.victim_beside.ensures.same c.try_page.ensures.modified
+pub returns-then-available-clause-makes : goal.returns-then-available-clause-makes
+returns-then-available-clause-makes g c = room-same c.args.world.now
+
+pub returns-clause-makes : goal.returns-clause-makes
+returns-clause-makes g c = subst (λ (s : StoreSeen). MakesRoom (record c.args.world.now { store = s }) c.try_page.new.world) c.victim_beside.ensures.same c.try_page.ensures.makes

@@ -1,34 +1,33 @@
 use Rattle.std.proofs.Common.{ℕ, sym, ap, subst}
+use Rattle.std.proofs.lemmas.Result.{err_from_is_err_and}
+use Rattle.std.specs.Prelude.{Ok}
 use Rattle.vm_world.specs.World.{world_seen}
-use Rattle.seg_ops.specs.declared.plans.Step.TheVariants as step
+use Rattle.seg_ops.specs.declared.plans.Fault.TheVariants as fault
 use Rattle.seg_ops.proofs.StillSteps.{memory_of}
 use Rattle.seg_ops.specs.Faults.{ServesFault}
-use Rattle.seg_vn.proofs.AnySteps.{may-show, page-loaded, page-needs, page-busy}
+use Rattle.seg_vn.proofs.AnySteps.{may-show, page-loaded, page-waits}
 use Rattle.seg_vn.proofs.any_faults.fault_page.Goals as goal
 
 pub load_page-requires-clause-fits : goal.load_page-requires-clause-fits
-load_page-requires-clause-fits g c = (c.requires.fits.0, (c.in-Loaded.ensures.brings c.requires.fits.0 c.requires.fits.1).first.step.memory)
+load_page-requires-clause-fits g c = (c.requires.fits.0, (c.in_ok-bring_page.ensures.brings c.requires.fits.0 c.requires.fits.1).first.step.memory)
 
-pub returns-in-Loaded-clause-serves : goal.returns-in-Loaded-clause-serves
-returns-in-Loaded-clause-serves g c = λ spaces x write fits place.
+pub returns-clause-serves : goal.returns-clause-serves
+returns-clause-serves g c = λ spaces x write fits place.
     let old = world_seen c.args.world.now in
     let mid = world_seen c.bring_page.new.world in
     let new = world_seen c.load_page.new.world in
     let maps = ap (λ v. v.maps) c.bring_page.ensures.rest in
     let anon = ap (λ v. v.anon) c.bring_page.ensures.rest in
     let files = ap (λ v. v.files) c.bring_page.ensures.rest in
-    let brings = c.in-Loaded.ensures.brings spaces fits in
+    let brings = c.in_ok-bring_page.ensures.brings spaces fits in
     let may = may-show old mid spaces c.args.space c.args.page x write c.args.writable c.args.world.now.pending c.bring_page.new.world.pending c.args.name fits place maps anon files in
-    subst (λ (k : ℕ). ServesFault (memory_of old spaces) (memory_of new spaces) c.args.world.now.pending k c.args.space c.args.page x write step.Loaded) (sym (ap (λ v. v.pending) c.load_page.ensures.rest))
+    subst (λ (k : ℕ). ServesFault (memory_of old spaces) (memory_of new spaces) c.args.world.now.pending k c.args.space c.args.page x write (Ok fault.Loaded)) (sym (ap (λ v. v.pending) c.load_page.ensures.rest))
     (page-loaded old mid spaces c.args.space c.args.page x write c.args.writable c.args.world.now.pending c.bring_page.new.world.pending c.args.name fits place maps anon files new c.load_page.ensures.loaded.0
     brings (c.load_page.ensures.keeps spaces brings.first.step.memory may) c.load_page.ensures.names (ap (λ v. v.maps) c.load_page.ensures.rest) (ap (λ v. v.anon) c.load_page.ensures.rest) c.load_page.ensures.loaded.1)
 
-pub returns-in-Need-clause-serves : goal.returns-in-Need-clause-serves
-returns-in-Need-clause-serves g c = λ spaces x write fits place.
-    page-needs (world_seen c.args.world.now) (world_seen c.bring_page.new.world) spaces c.args.space c.args.page x write c.args.writable c.args.world.now.pending c.bring_page.new.world.pending c.args.name fits place
-    (ap (λ v. v.maps) c.bring_page.ensures.rest) (ap (λ v. v.anon) c.bring_page.ensures.rest) (ap (λ v. v.files) c.bring_page.ensures.rest) c.in-Need.plan (c.in-Need.ensures.brings spaces fits)
-
-pub returns-in-Busy-clause-serves : goal.returns-in-Busy-clause-serves
-returns-in-Busy-clause-serves g c = λ spaces x write fits place.
-    page-busy (world_seen c.args.world.now) (world_seen c.bring_page.new.world) spaces c.args.space c.args.page x write c.args.writable c.args.world.now.pending c.bring_page.new.world.pending c.args.name fits place
-    (ap (λ v. v.maps) c.bring_page.ensures.rest) (ap (λ v. v.anon) c.bring_page.ensures.rest) (ap (λ v. v.files) c.bring_page.ensures.rest) c.in-Busy.hold (c.in-Busy.ensures.brings spaces fits)
+pub returns-in_err-bring_page-clause-serves : goal.returns-in_err-bring_page-clause-serves
+returns-in_err-bring_page-clause-serves g c = λ spaces x write fits place.
+    let wanted = page-waits (world_seen c.args.world.now) (world_seen c.bring_page.new.world) spaces c.args.space c.args.page x write c.args.writable c.args.world.now.pending c.bring_page.new.world.pending c.args.name fits place
+    (ap (λ v. v.maps) c.bring_page.ensures.rest) (ap (λ v. v.anon) c.bring_page.ensures.rest) (ap (λ v. v.files) c.bring_page.ensures.rest) c.in_err-bring_page.field-0.0 (c.in_err-bring_page.ensures.brings spaces fits) in
+    let is = err_from_is_err_and c.from_residual.result c.from_residual.ensures.1 in
+    rw (is.1, is.2) wanted

@@ -3,7 +3,7 @@ use Rattle.hat_layer.specs.Pool.{translation_at}
 use Rattle.vm_world.specs.MemoryFits.{MemoryFits}
 use Rattle.vm_world.specs.Segments.{Spaces}
 use Rattle.vm_world.specs.World.{world_seen}
-use Rattle.seg_ops.specs.Steps.{KeepsPages}
+use Rattle.vm_world.specs.Words.{KeepsPages}
 use Rattle.seg_vn.proofs.segment.VnSeg.unmap.Given as goal
 
 abbrev pub invariant-loop-page : goal.invariant-loop-page
