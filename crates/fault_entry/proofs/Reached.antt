@@ -1,9 +1,11 @@
 -- What an access comes to before its word is moved, case by case.
-use Rattle.std.proofs.Common.{◌≡◌, ℕ, ◌%◌, Bool, true, false, cond, Option, Some, None, Result, Ok, Err, refl, sym, ap, ◌∙◌, subst}
+use Rattle.std.proofs.Common.{◌≡◌, ℕ, ◌%◌, Bool, true, false, cond, List, Option, Some, None, Result, Ok, Err, refl, sym, ap, ◌∙◌, subst}
 use Rattle.std.specs.Prelude.{not, ◌||◌}
 use Rattle.std.specs.FinSet as set
 use Rattle.std.specs.Ordering.{nat_cmp}
-use Rattle.hat_layer.specs.Pool.{IsNoted, frame_let, frame_for}
+use Rattle.hat_layer.specs.Pool.{IsNoted, frame_let, frame_for, change_at, after_access}
+use Rattle.page_store.specs.Seen.{StoreSeen}
+use Rattle.vm_world.specs.Wants.{shows_page}
 use Rattle.page_store.specs.Notes.{Notes}
 use Rattle.page_store.specs.declared.plan.Plan.{Plan}
 use Rattle.page_store.specs.declared.plan.Hold.{Hold}
@@ -33,11 +35,13 @@ use Rattle.seg_ops.specs.SlotsDue.{MakesSlotAt, slot_due}
 use Rattle.seg_vn.proofs.AnyFaults.{changes-as, changes-kept, fault-whole}
 use Rattle.seg_vn.proofs.AnyPlaces.{kept-own, kept-shared}
 use Rattle.seg_vn.proofs.SlotsDue.{due-none, made-still, slots-kept}
+use Rattle.seg_vn.proofs.AnySteps.{shows-same}
+use Rattle.seg_vn.proofs.Replacements.{none-replaced, replaced-then}
 use Rattle.seg_vn.proofs.Takes.{takes-none}
-use Rattle.fault_entry.specs.Reaching.{may_access, ReachesPage, ServesAccess, after_reach}
+use Rattle.fault_entry.specs.Reaching.{may_access, ReachesPage, ServesAccess, IsSignalDue, after_reach, error_in}
 use Rattle.fault_entry.specs.declared.access.AccessStep.TheVariants as access
-use Rattle.fault_entry.proofs.Targets.{unaligned, unmapped, refused, past, may-reach}
-use Rattle.fault_entry.proofs.Words.{name, place-shows, place-writable}
+use Rattle.fault_entry.proofs.Targets.{unaligned, unmapped, refused, past, may-reach, none-due}
+use Rattle.fault_entry.proofs.Words.{name, place-shows, place-there, place-writable}
 
 -- an access that the translation lets goes to a frame
 lets : (b write : Bool) → (write ≡ true → b ≡ true) → (b || not write) ≡ true
@@ -72,7 +76,7 @@ module _ (w : World) (spaces : Spaces) (pending p a n : ℕ) (write : Bool) (f :
 
   signal-serves : (s : Signal) → ((born : set.FinSet nat_cmp) (notes : Notes) → access_target (flat_memory (memory_of w spaces) born notes) p (may_access write) a n ≡ Err s)
       → ServesAccess (memory_of w spaces) (memory_of w spaces) pending pending p a n write (Ok (access.Refused s))
-  signal-serves s means = record { mid = w; first = takes-none w w spaces pending (keeps-same w spaces f); acts = same-machine; ends = refl; slots = record { counts = refl; places = refl }; means = means }
+  signal-serves s means = record { mid = w; first = takes-none w w spaces pending (keeps-same w spaces f); acts = same-machine; ends = refl; slots = record { counts = refl; places = refl }; due = λ born notes. ap error_in (means born notes); replaced = none-replaced w w; hit = tt; means = means }
 
   pub align-access : ¬ (a % n ≡ 0) → ServesAccess (memory_of w spaces) (memory_of w spaces) pending pending p a n write (Ok (access.Refused signal.Align))
   align-access odd = signal-serves signal.Align (λ born notes. unaligned w spaces born notes p a n (may_access write) odd)
@@ -84,9 +88,11 @@ module _ (w : World) (spaces : Spaces) (pending p a n : ℕ) (write : Bool) (f :
   refused-access x even here none = signal-serves signal.Prot (λ born notes. refused w spaces born notes p a n (may_access write) x even here none)
 
   -- A HIT makes no slot: its page is shown, and written in place.
-  pub hit-access : (new : World) (x : Spot) (frame : ℕ) → a % n ≡ 0 → spot_at spaces p (page a) ≡ Some x → may_access write x.0.prot ≡ true → KeepsPages w new spaces → new.anon ≡ w.anon → new.maps ≡ w.maps
-      → IsNoted new.hat.places p (page a) frame write → ServesAccess (memory_of w spaces) (memory_of new spaces) pending pending p a n write (Ok (access.Reached frame))
-  hit-access new x frame even here allowed keeps anon maps noted =
+  pub hit-access : (new : World) (x : Spot) (frame : ℕ) → a % n ≡ 0 → spot_at spaces p (page a) ≡ Some x → may_access write x.0.prot ≡ true → KeepsPages w new spaces → new ≡ record w { hat = new.hat }
+      → new.hat.places ≡ change_at p (page a) (after_access write) w.hat.places → IsNoted new.hat.places p (page a) frame write → ServesAccess (memory_of w spaces) (memory_of new spaces) pending pending p a n write (Ok (access.Reached frame))
+  hit-access new x frame even here allowed keeps only places noted =
+      let anon = ap (λ (v : World). v.anon) only in
+      let maps = ap (λ (v : World). v.maps) only in
       let r : ReachesPage (memory_of new spaces) p a n frame write = record { aligned = even; spot = x; here = here; allowed = allowed; noted = noted } in
       let due : slot_due new.anon new.maps x write ≡ None =
       due-none new.anon new.maps x write (name new spaces p a n frame write keeps.memory r) (place-shows new spaces p a n frame write keeps.memory r) (λ is. place-writable new spaces p a n frame write keeps.memory r is) in
@@ -100,14 +106,35 @@ module _ (w : World) (spaces : Spaces) (pending p a n : ℕ) (write : Bool) (f :
             (changes-kept p new new spaces keeps.memory (keeps-same new spaces keeps.memory));
         ends = tt;
         slots = λ y there. slots-kept w new y write (subst (λ (z : Spot). slot_due w.anon w.maps z write ≡ None) (some-inj x y (sym here ∙ there)) still) anon maps;
+        due = λ born notes. none-due w spaces born notes p a n (may_access write) x even f here allowed
+            (sym (shows-same w new x maps (ap (λ (v : World). v.files) only)) ∙ place-there new spaces p a n frame write keeps.memory r);
+        replaced = none-replaced w new;
+        hit = λ lets_it. record {
+          store = ap (λ (v : World). v.store) only ∙ ap (λ (fs : List (Option (List ℕ))). record w.store { frames = fs }) (sym (ap (λ (v : World). v.store.frames) only));
+          places = places;
+          rest = only ∙ ap (λ (st : StoreSeen). record w { store = st; hat = new.hat }) (sym (ap (λ (v : World). v.store) only));
+        };
         means = r;
       }
 
 -- A FAULT, by what it comes to.
-module _ (old new : World) (spaces : Spaces) (pending more p a n : ℕ) (write : Bool) (x : Spot) (even : a % n ≡ 0) (here : spot_at spaces p (page a) ≡ Some x) (allowed : may_access write x.0.prot ≡ true) where
+module _ (old new : World) (spaces : Spaces) (pending more p a n : ℕ) (write : Bool) (x : Spot) (even : a % n ≡ 0) (here : spot_at spaces p (page a) ≡ Some x) (allowed : may_access write x.0.prot ≡ true)
+    (fits : MemoryFits (memory_of old spaces)) where
+  there-is : (b : Bool) → false ≡ not b → b ≡ true
+  there-is true is = refl
+  there-is false is = absurd (let z : false ≡ true = is in cc)
+
+  is-past : (b : Bool) → true ≡ not b → b ≡ false
+  is-past true is = absurd (let z : true ≡ false = is in cc)
+  is-past false is = refl
+
+  not-due : false ≡ not (shows_page old x) → IsSignalDue (memory_of old spaces) p a n write None
+  not-due past born notes = none-due old spaces born notes p a n (may_access write) x even fits here allowed (there-is (shows_page old x) past)
+
   pub loaded-access : (mid : World) (frame : ℕ) → ServesFault (memory_of old spaces) (memory_of mid spaces) pending more p (page a) x write (Ok fault.Loaded) → KeepsPages mid new spaces
-      → new.anon ≡ mid.anon → new.maps ≡ mid.maps → IsNoted new.hat.places p (page a) frame write → ServesAccess (memory_of old spaces) (memory_of new spaces) pending more p a n write (Ok (access.Reached frame))
-  loaded-access mid frame s keeps anon maps noted = record {
+      → new.anon ≡ mid.anon → new.maps ≡ mid.maps → new.store.names ≡ mid.store.names → (LetsAccess old p (page a) write → ⊥) → IsNoted new.hat.places p (page a) frame write
+      → ServesAccess (memory_of old spaces) (memory_of new spaces) pending more p a n write (Ok (access.Reached frame))
+  loaded-access mid frame s keeps anon maps names miss noted = record {
     mid = s.mid;
     first = s.first;
     acts = changes-as p (memory_of s.mid spaces) (memory_of new spaces) (λ F. after_fault (Ok fault.Loaded) write F p (page a)) (λ F. after_reach (Ok (access.Reached frame)) write F p (page a))
@@ -116,6 +143,9 @@ module _ (old new : World) (spaces : Spaces) (pending more p a n : ℕ) (write :
         (λ born notes nf tell whole. fault-whole (Ok fault.Loaded) write (flat_memory (memory_of s.mid spaces) born notes) p (page a) whole) s.acts (changes-kept p mid new spaces s.acts.memory keeps));
     ends = tt;
     slots = λ y there. subst (λ (z : Spot). MakesSlotAt old new (slot_due old.anon old.maps z write)) (some-inj x y (sym here ∙ there)) (made-still old mid new (slot_due old.anon old.maps x write) anon maps s.slots);
+    due = not-due s.past;
+    replaced = replaced-then old mid new s.first.cut names s.replaced;
+    hit = λ lets_it. absurd (miss lets_it);
     means = record { aligned = even; spot = x; here = here; allowed = allowed; noted = noted };
   }
 
@@ -126,6 +156,9 @@ module _ (old new : World) (spaces : Spaces) (pending more p a n : ℕ) (write :
     acts = s.acts;
     ends = s.ends;
     slots = s.slots;
+    due = λ born notes. ap error_in (past old spaces born notes p a n (may_access write) x even fits here allowed (is-past (shows_page old x) s.past));
+    replaced = s.replaced;
+    hit = tt;
     means = λ born notes. past new spaces born notes p a n (may_access write) x even s.acts.memory here allowed s.means;
   }
 
@@ -136,6 +169,9 @@ module _ (old new : World) (spaces : Spaces) (pending more p a n : ℕ) (write :
     acts = s.acts;
     ends = s.ends;
     slots = s.slots;
+    due = not-due s.past;
+    replaced = s.replaced;
+    hit = tt;
     means = (s.means, λ born notes. may-reach new spaces born notes p a n (may_access write) x even here allowed);
   }
   wants-access (wants.Seat h) s = record {
@@ -144,5 +180,8 @@ module _ (old new : World) (spaces : Spaces) (pending more p a n : ℕ) (write :
     acts = s.acts;
     ends = s.ends;
     slots = s.slots;
-    means = (s.means, λ born notes. may-reach new spaces born notes p a n (may_access write) x even here allowed);
+    due = not-due s.past;
+    replaced = s.replaced;
+    hit = tt;
+    means = (s.means.0, s.means.1, λ born notes. may-reach new spaces born notes p a n (may_access write) x even here allowed);
   }

@@ -1,5 +1,5 @@
 -- What is answered to a load or a store, by what it reaches.
-use Rattle.std.proofs.Common.{◌≡◌, ℕ, ◌%◌, Bool, true, false, List, Option, Some, None, Result, Ok, Err, refl, sym, ap, ◌∙◌, subst}
+use Rattle.std.proofs.Common.{◌≡◌, ◌≢◌, ℕ, ◌%◌, Bool, true, false, List, Option, Some, None, Result, Ok, Err, refl, sym, ap, ◌∙◌, subst, option_map}
 use Rattle.std.specs.FinSet as set
 use Rattle.std.specs.Ordering.{nat_cmp}
 use Rattle.std.proofs.lemmas.Bool.{eq-eqb}
@@ -16,15 +16,17 @@ use Rattle.vm_types.specs.declared.call.Entry.{Entry}
 use Rattle.vm_types.specs.declared.call.Reply.{Reply}
 use Rattle.vm_types.specs.declared.call.Reply.TheVariants as reply
 use Rattle.vm_types.specs.declared.call.Signal.{Signal}
-use Rattle.vm_types.specs.Prot.{can_write}
-use Rattle.flat_model.specs.Flat.{Flat, IsFlat}
+use Rattle.vm_types.specs.Prot.{can_read, can_write}
+use Rattle.flat_model.specs.Access.{access_target, load, store, with_page_stored}
+use Rattle.flat_model.specs.Flat.{Cell, Flat, IsFlat}
+use Rattle.flat_model.specs.Refusals.{or_signal, done_effect}
 use Rattle.flat_model.specs.Step.{IsDue, after_act}
-use Rattle.flat_model.specs.Words.{page}
+use Rattle.flat_model.specs.Words.{Page, page, word_at, word_put}
 use Rattle.vm_world.specs.CallSteps.{ActsOnPages}
-use Rattle.vm_world.specs.FlatMemory.{cell_of, flat_memory}
+use Rattle.vm_world.specs.FlatMemory.{Memory, cell_of, flat_memory}
 use Rattle.vm_world.specs.MemoryFits.{MemoryFits}
 use Rattle.vm_world.specs.Pages.{contents_of}
-use Rattle.vm_world.specs.Plans.{MayMeetFault}
+use Rattle.vm_world.specs.Plans.{MayMeetFault, IsRefusal, refusal_in}
 use Rattle.vm_world.specs.Segments.{Spaces}
 use Rattle.vm_world.specs.Serving.{TakesFrames, ServesDone}
 use Rattle.vm_world.specs.World.{World}
@@ -37,10 +39,13 @@ use Rattle.seg_ops.proofs.StillSteps.{memory_of}
 use Rattle.seg_vn.specs.declared.attempt.Attempt.TheVariants as attempt
 use Rattle.seg_ops.specs.Faults.{Accesses}
 use Rattle.seg_ops.specs.SlotsDue.{MapPlace, MakesSlotAt, slot_due}
+use Rattle.seg_vn.proofs.Replacements.{replaced-then}
 use Rattle.seg_vn.proofs.SlotsDue.{made-still}
-use Rattle.fault_entry.specs.Accesses.{IsShown, ServesWord}
+use Rattle.seg_vn.proofs.Takes.{takes-there}
+use Rattle.page_store.specs.Seen.{StoreSeen}
+use Rattle.fault_entry.specs.Accesses.{IsShown, IsHit, ServesWord}
 use Rattle.fault_entry.specs.Answers.{attempt_wanting}
-use Rattle.fault_entry.specs.Reaching.{ServesAccess, after_reach, MayReach}
+use Rattle.fault_entry.specs.Reaching.{ServesAccess, IsSignalDue, after_reach, error_in, MayReach}
 use Rattle.vm_world.specs.declared.wants.Wants.{Wants}
 use Rattle.vm_world.specs.declared.wants.Wants.TheVariants as wants
 use Rattle.fault_entry.specs.declared.access.AccessStep.{AccessStep}
@@ -57,13 +62,35 @@ reach-whole (Ok (access.Refused s)) write F p q flat = flat
 reach-whole (Err (wants.Transfer plan)) write F p q flat = flat
 reach-whole (Err (wants.Seat h)) write F p q flat = flat
 
+-- THE REFUSAL of a load and of a store is the signal that is due.
+load-due : (F : Flat) (p a n : ℕ) → refusal_in (load F p a n).reply ≡ option_map reply.Signal (error_in (access_target F p can_read a n))
+load-due F p a n = by_target (access_target F p can_read a n)
+  where
+    by_target : (o : Result (Cell × Page) Signal) → refusal_in (or_signal F (λ m. record { reply = reply.Word (word_at m.1 a n); after = F }) o).reply ≡ option_map reply.Signal (error_in o)
+    by_target (Ok m) = refl
+    by_target (Err s) = refl
+
+store-due : (F : Flat) (p a n v : ℕ) → refusal_in (store F p a n v).reply ≡ option_map reply.Signal (error_in (access_target F p can_write a n))
+store-due F p a n v = by_target (access_target F p can_write a n)
+  where
+    by_target : (o : Result (Cell × Page) Signal) → refusal_in (or_signal F (λ m. done_effect (with_page_stored F p (page a) m.0 (word_put m.1 a n v))) o).reply ≡ option_map reply.Signal (error_in o)
+    by_target (Ok m) = refl
+    by_target (Err s) = refl
+
+pub load-refusal : (m : Memory) (p a n : ℕ) (s : Option Signal) → IsSignalDue m p a n false s → IsRefusal m p (call.Load a n) (option_map reply.Signal s)
+load-refusal m p a n s due born notes = load-due (flat_memory m born notes) p a n ∙ ap (option_map reply.Signal) (due born notes)
+
+pub store-refusal : (m : Memory) (p a n v : ℕ) (s : Option Signal) → IsSignalDue m p a n true s → IsRefusal m p (call.Store a n v) (option_map reply.Signal s)
+store-refusal m p a n v s due born notes = store-due (flat_memory m born notes) p a n v ∙ ap (option_map reply.Signal) (due born notes)
+
 -- frames are taken, a page may be made, and then pages change
 done-serves : (old new : World) (made : World) (spaces : Spaces) (pending more p a n : ℕ) (write : Bool) (answer : Result AccessStep Wants) (c : Call) (r : Reply) → (s : ServesAccess (memory_of old spaces) (memory_of made spaces) pending more p a n write answer)
     → ((cleared : ℕ) (born : set.FinSet nat_cmp) (notes : Notes) → IsDue (after_reach answer write (flat_memory (memory_of s.mid spaces) born notes) p (page a)) (record { process = p; call = c; reply = r; cleared = cleared })
     → IsDue (flat_memory (memory_of s.mid spaces) born notes) (record { process = p; call = c; reply = r; cleared = cleared })
     × (after_act (after_reach answer write (flat_memory (memory_of s.mid spaces) born notes) p (page a)) (record { process = p; call = c; reply = r; cleared = cleared }) ≡ after_act (flat_memory (memory_of s.mid spaces) born notes) (record { process = p; call = c; reply = r; cleared = cleared })))
-    → ((cleared : ℕ) → ActsOnPages made new spaces (record { process = p; call = c; reply = r; cleared = cleared })) → ServesDone (memory_of old spaces) (memory_of new spaces) pending more p c r
-done-serves old new made spaces pending more p a n write answer c r s same acts = record {
+    → ((cleared : ℕ) → ActsOnPages made new spaces (record { process = p; call = c; reply = r; cleared = cleared })) → new.store.names ≡ made.store.names → IsRefusal (memory_of old spaces) p c (refusal_in r) → ((from : ℕ) → r ≢ reply.Synced from)
+    → ServesDone (memory_of old spaces) (memory_of new spaces) pending more p c r
+done-serves old new made spaces pending more p a n write answer c r s same acts names refusal plain = record {
   mid = s.mid;
   first = s.first;
   acts = λ cleared.
@@ -71,7 +98,14 @@ done-serves old new made spaces pending more p a n write answer c r s same acts 
       acts-after (memory_of s.mid spaces) (memory_of made spaces) (memory_of new spaces) e (λ F. after_reach answer write F p (page a))
       (λ born notes nf tell whole. reach-whole answer write (flat_memory (memory_of s.mid spaces) born notes) p (page a) whole) (same cleared) s.acts
       (call_rule.pages made new spaces e (acts cleared));
+  replaced = replaced-then old made new s.first.cut names s.replaced;
+  refusal = refusal;
+  clean = λ from name is wants. absurd (plain from is);
 }
+
+-- what was reached, by another name
+pub step-is : (old new : Memory) (pending more p a n : ℕ) (write : Bool) (s t : AccessStep) → s ≡ t → ServesAccess old new pending more p a n write (Ok s) → ServesAccess old new pending more p a n write (Ok t)
+step-is old new pending more p a n write s t is serves = subst (λ (x : AccessStep). ServesAccess old new pending more p a n write (Ok x)) is serves
 
 -- A TRANSLATION leads to the page that its place shows.
 shown-there : (w : World) (spaces : Spaces) (p q : ℕ) (t : Translation) → MemoryFits (memory_of w spaces) → translation_at w.hat.places p q ≡ Some t → IsShown (memory_of w spaces) p q
@@ -79,17 +113,26 @@ shown-there w spaces p q t f there =
     let h = hits w spaces p q t f there in
     record { translation = t; loaded = there; spot = h.shows.spot; here = h.shows.here; name = h.name; shows = h.shows.shows; home = h.home }
 
+-- A hit, and then bytes of frames change.
+hit-then : (old mid new : World) (p q : ℕ) (write : Bool) → new.store ≡ record mid.store { frames = new.store.frames } → new.hat ≡ mid.hat → new ≡ record mid { store = new.store } → IsHit old mid p q write → IsHit old new p q write
+hit-then old mid new p q write store hat only h = record {
+  store = store ∙ ap (λ (st : StoreSeen). record st { frames = new.store.frames }) h.store;
+  places = ap (λ (x : HatSeen). x.places) hat ∙ h.places;
+  rest = only ∙ ap (λ (w : World). record w { store = new.store }) h.rest ∙ ap (λ (x : HatSeen). record old { store = new.store; hat = x }) (sym hat);
+}
+
 -- A WORD is put.
 pub store-reached : (old mid new : World) (spaces : Spaces) (pending more p a n frame v : ℕ) → ServesAccess (memory_of old spaces) (memory_of mid spaces) pending more p a n true (Ok (access.Reached frame)) → WritesWord mid new spaces p a n v → new.hat ≡ mid.hat
-    → new.anon ≡ mid.anon → new.maps ≡ mid.maps → ServesWord (memory_of old spaces) (memory_of new spaces) pending more p (page a) (call.Store a n v) (attempt.Done reply.Done)
-store-reached old mid new spaces pending more p a n frame v s writes hat anon maps = record {
-  serves = done-serves old new mid spaces pending more p a n true (Ok (access.Reached frame)) (call.Store a n v) reply.Done s
+    → new.anon ≡ mid.anon → new.maps ≡ mid.maps → new.store ≡ record mid.store { frames = new.store.frames } → new ≡ record mid { store = new.store } → ServesWord (memory_of old spaces) (memory_of new spaces) pending more p (page a) (call.Store a n v) (attempt.Done reply.Done)
+store-reached old mid new spaces pending more p a n frame v s writes hat anon maps store only = record {
+  serves = λ calls. done-serves old new mid spaces pending more p a n true (Ok (access.Reached frame)) (call.Store a n v) reply.Done s
       (λ cleared born notes due. store-same (flat_memory (memory_of s.mid spaces) born notes) p a n v cleared (cell_of (contents_of s.mid notes).place s.means.spot) (eq-eqb (a % n) 0 s.means.aligned)
       (there s.mid spaces born notes p a n can_write s.means.spot s.means.here) s.means.allowed due)
-      (λ cleared. store-acts mid new spaces p a n frame v cleared s.acts.memory s.means writes);
+      (λ cleared. store-acts mid new spaces p a n frame v cleared s.acts.memory s.means writes) (ap (λ (st : StoreSeen). st.names) store) (store-refusal (memory_of old spaces) p a n v None s.due) (λ from is. let z : reply.Done ≡ reply.Synced from = is in cc);
   due = tt;
   shown = shown-there new spaces p (page a) s.means.noted.entry writes.2.memory (ap (λ (h : HatSeen). translation_at h.places p (page a)) hat ∙ s.means.noted.there);
   slots = λ x here. made-still old mid new (slot_due old.anon old.maps x true) anon maps (s.slots x here);
+  hit = λ lets. hit-then old mid new p (page a) true store hat only (s.hit lets);
 }
 
 module _ (old new : World) (spaces : Spaces) (pending more p a n : ℕ) where
@@ -99,53 +142,58 @@ module _ (old new : World) (spaces : Spaces) (pending more p a n : ℕ) where
   load-reached frame word s reads =
       let f = s.acts.memory in
       record {
-        serves = done-serves old new new spaces pending more p a n false (Ok (access.Reached frame)) (call.Load a n) (reply.Word word) s (λ cleared born notes due. (due, refl)) (λ cleared. load-acts new spaces p a n frame word cleared f s.means reads);
+        serves = λ calls. done-serves old new new spaces pending more p a n false (Ok (access.Reached frame)) (call.Load a n) (reply.Word word) s (λ cleared born notes due. (due, refl)) (λ cleared. load-acts new spaces p a n frame word cleared f s.means reads) refl (load-refusal (memory_of old spaces) p a n None s.due) (λ from is. let z : reply.Word word ≡ reply.Synced from = is in cc);
         due = tt;
         shown = shown-there new spaces p (page a) s.means.noted.entry f s.means.noted.there;
         slots = s.slots;
+        hit = s.hit;
       }
 
   -- A SIGNAL is due.
   pub load-refused : (s : Signal) → ServesAccess (memory_of old spaces) (memory_of new spaces) pending more p a n false (Ok (access.Refused s))
       → ServesWord (memory_of old spaces) (memory_of new spaces) pending more p (page a) (call.Load a n) (attempt.Done (reply.Signal s))
   load-refused s r = record {
-    serves = done-serves old new new spaces pending more p a n false (Ok (access.Refused s)) (call.Load a n) (reply.Signal s) r (λ cleared born notes due. (due, refl)) (λ cleared. load-signals new spaces p a n cleared s r.acts.memory r.means);
+    serves = λ calls. done-serves old new new spaces pending more p a n false (Ok (access.Refused s)) (call.Load a n) (reply.Signal s) r (λ cleared born notes due. (due, refl)) (λ cleared. load-signals new spaces p a n cleared s r.acts.memory r.means) refl (load-refusal (memory_of old spaces) p a n (Some s) r.due) (λ from is. let z : reply.Signal s ≡ reply.Synced from = is in cc);
     due = tt;
     shown = tt;
     slots = r.slots;
+    hit = tt;
   }
 
   pub store-refused : (v : ℕ) (s : Signal) → ServesAccess (memory_of old spaces) (memory_of new spaces) pending more p a n true (Ok (access.Refused s))
       → ServesWord (memory_of old spaces) (memory_of new spaces) pending more p (page a) (call.Store a n v) (attempt.Done (reply.Signal s))
   store-refused v s r = record {
-    serves = done-serves old new new spaces pending more p a n true (Ok (access.Refused s)) (call.Store a n v) (reply.Signal s) r (λ cleared born notes due. (due, refl)) (λ cleared. store-signals new spaces p a n v cleared s r.acts.memory r.means);
+    serves = λ calls. done-serves old new new spaces pending more p a n true (Ok (access.Refused s)) (call.Store a n v) (reply.Signal s) r (λ cleared born notes due. (due, refl)) (λ cleared. store-signals new spaces p a n v cleared s r.acts.memory r.means) refl (store-refusal (memory_of old spaces) p a n v (Some s) r.due) (λ from is. let z : reply.Signal s ≡ reply.Synced from = is in cc);
     due = tt;
     shown = tt;
     slots = r.slots;
+    hit = tt;
   }
 
   -- IT WAITS.
-  pub access-needs : (write : Bool) (c : Call) (plan : Plan) → Accesses write (page a) c → ServesAccess (memory_of old spaces) (memory_of new spaces) pending more p a n write (Err (wants.Transfer plan)) → MayMeetFault (memory_of new spaces) p c
+  pub access-needs : (write : Bool) (c : Call) (plan : Plan) → Accesses write (page a) c → (IsSignalDue (memory_of old spaces) p a n write None → IsRefusal (memory_of old spaces) p c None) → ServesAccess (memory_of old spaces) (memory_of new spaces) pending more p a n write (Err (wants.Transfer plan)) → MayMeetFault (memory_of new spaces) p c
       → ServesWord (memory_of old spaces) (memory_of new spaces) pending more p (page a) c (attempt.Need plan)
-  access-needs write c plan at s fault =
+  access-needs write c plan at refusal s fault =
       let needs = s.means.0 in
       record {
-        serves = record { first = subst (λ (w : World). TakesFrames (memory_of old spaces) w pending more) (sym s.ends) s.first; spaces = refl; runs = needs.runs c at; fault = fault; wanted = needs.wanted c at; modified = needs.modified };
+        serves = λ calls. record { first = takes-there (memory_of old spaces) s.mid new pending more s.ends s.first; replaced = s.replaced; spaces = refl; runs = needs.runs c at; fault = fault; refusal = refusal s.due; wanted = needs.wanted c at; modified = needs.modified };
         due = fault;
         shown = tt;
         slots = s.slots;
+        hit = tt;
       }
 
-  pub access-busy : (write : Bool) (c : Call) (h : Hold) → Accesses write (page a) c → ServesAccess (memory_of old spaces) (memory_of new spaces) pending more p a n write (Err (wants.Seat h)) → MayMeetFault (memory_of new spaces) p c
+  pub access-busy : (write : Bool) (c : Call) (h : Hold) → Accesses write (page a) c → (IsSignalDue (memory_of old spaces) p a n write None → IsRefusal (memory_of old spaces) p c None) → ServesAccess (memory_of old spaces) (memory_of new spaces) pending more p a n write (Err (wants.Seat h)) → MayMeetFault (memory_of new spaces) p c
       → ServesWord (memory_of old spaces) (memory_of new spaces) pending more p (page a) c (attempt.Busy h)
-  access-busy write c h at s fault = record {
-    serves = λ calls. record { first = subst (λ (w : World). TakesFrames (memory_of old spaces) w pending more) (sym s.ends) s.first; spaces = refl; holds = s.means.0 calls c at };
+  access-busy write c h at refusal s fault = record {
+    serves = λ calls. record { first = takes-there (memory_of old spaces) s.mid new pending more s.ends s.first; replaced = s.replaced; spaces = refl; holds = s.means.0 calls c at; refusal = λ no_file. refusal s.due; modified = s.means.1 };
     due = fault;
     shown = tt;
     slots = s.slots;
+    hit = tt;
   }
 
-  pub access-waits : (write : Bool) (c : Call) (want : Wants) → Accesses write (page a) c → (MayReach (memory_of new spaces) p a n write → MayMeetFault (memory_of new spaces) p c)
+  pub access-waits : (write : Bool) (c : Call) (want : Wants) → Accesses write (page a) c → (IsSignalDue (memory_of old spaces) p a n write None → IsRefusal (memory_of old spaces) p c None) → (MayReach (memory_of new spaces) p a n write → MayMeetFault (memory_of new spaces) p c)
       → ServesAccess (memory_of old spaces) (memory_of new spaces) pending more p a n write (Err want) → ServesWord (memory_of old spaces) (memory_of new spaces) pending more p (page a) c (attempt_wanting want)
-  access-waits write c (wants.Transfer plan) at may s = access-needs write c plan at s (may s.means.1)
-  access-waits write c (wants.Seat h) at may s = access-busy write c h at s (may s.means.1)
+  access-waits write c (wants.Transfer plan) at refusal may s = access-needs write c plan at refusal s (may s.means.1)
+  access-waits write c (wants.Seat h) at refusal may s = access-busy write c h at refusal s (may s.means.2)

@@ -1,6 +1,6 @@
 -- What an access reaches in flat memory: the signals in their order, and the page.
 use Rattle.std.proofs.Common.{◌≡◌, ℕ, ◌%◌, ◌==◌, Bool, true, false, Option, Some, None, Ok, Err, refl, ap, ◌∙◌}
-use Rattle.std.specs.Prelude.{IsFalse, option_map, ok_or}
+use Rattle.std.specs.Prelude.{IsFalse, IsTrue, IsSome, option_map, ok_or}
 use Rattle.std.specs.FinSet as set
 use Rattle.std.specs.Ordering.{nat_cmp}
 use Rattle.std.proofs.lemmas.Bool.{eq-eqb, ne_eqb}
@@ -21,6 +21,8 @@ use Rattle.seg_ops.proofs.StillSteps.{memory_of}
 use Rattle.vm_world.specs.Wants.{shows_page}
 use Rattle.vm_world.proofs.Maps.{cell-at}
 use Rattle.seg_vn.proofs.PlacesShown.{shown-past}
+use Rattle.seg_vn.proofs.ShownSome.{shown-some}
+use Rattle.fault_entry.specs.Reaching.{error_in}
 
 target-unaligned : (F : Flat) (p : ℕ) (may : Prot → Bool) (a n : ℕ) → (a % n == 0) ≡ false → access_target F p may a n ≡ Err signal.Align
 unfolding access_target
@@ -46,6 +48,14 @@ target-may : (F : Flat) (p : ℕ) (may : Prot → Bool) (a n : ℕ) (c : Cell) �
 unfolding access_target
 target-may F p may a n c even some allowed = rw (even, some, allowed) (past-at-most (shown F c) c)
 
+met : (o : Option Page) (c : Cell) → IsSome o → error_in {A = Cell × Page} (ok_or o signal.Past >>= λ bytes. Ok (c, bytes)) ≡ None
+met None c is = absurd (let z : false ≡ true = is in cc)
+met (Some bytes) c is = refl
+
+target-met : (F : Flat) (p : ℕ) (may : Prot → Bool) (a n : ℕ) (c : Cell) → (a % n == 0) ≡ true → cell_at F p (page a) ≡ Some c → may c.prot ≡ true → IsSome (shown F c) → error_in (access_target F p may a n) ≡ None
+unfolding access_target
+target-met F p may a n c even some allowed shows = rw (even, some, allowed) (met (shown F c) c shows)
+
 -- THE SAME at a page of a process.
 module _ (w : World) (spaces : Spaces) (born : set.FinSet nat_cmp) (notes : Notes) (p a n : ℕ) (may : Prot → Bool) where
   pub unaligned : ¬ (a % n ≡ 0) → access_target (flat_memory (memory_of w spaces) born notes) p may a n ≡ Err signal.Align
@@ -68,3 +78,9 @@ module _ (w : World) (spaces : Spaces) (born : set.FinSet nat_cmp) (notes : Note
 
   pub may-reach : (x : Spot) → a % n ≡ 0 → spot_at spaces p (page a) ≡ Some x → may x.0.prot ≡ true → IsPastAtMost (access_target (flat_memory (memory_of w spaces) born notes) p may a n)
   may-reach x even here allowed = target-may (flat_memory (memory_of w spaces) born notes) p may a n (cell_of (contents_of w notes).place x) (eq-eqb (a % n) 0 even) (there x here) allowed
+
+  -- NO SIGNAL IS DUE where the page isn't past the end.
+  pub none-due : (x : Spot) → a % n ≡ 0 → MemoryFits (memory_of w spaces) → spot_at spaces p (page a) ≡ Some x → may x.0.prot ≡ true → IsTrue (shows_page w x)
+      → error_in (access_target (flat_memory (memory_of w spaces) born notes) p may a n) ≡ None
+  none-due x even f here allowed there_is = target-met (flat_memory (memory_of w spaces) born notes) p may a n (cell_of (contents_of w notes).place x) (eq-eqb (a % n) 0 even) (there x here) allowed
+      (shown-some w spaces p (page a) x f here born notes there_is)

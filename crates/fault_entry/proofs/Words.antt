@@ -102,7 +102,7 @@ module _ (w : World) (spaces : Spaces) (p a n frame : ℕ) (write : Bool) (f : M
       let h = hits w spaces p (page a) r.noted.entry f r.noted.there in
       ap (shown_name w.maps) (some-inj x h.shows.spot (sym r.here ∙ h.shows.here)) ∙ h.shows.shows
 
-  place-there : IsTrue (shows_page w x)
+  pub place-there : IsTrue (shows_page w x)
   place-there =
       let h = hits w spaces p (page a) r.noted.entry f r.noted.there in
       page-there w spaces p (page a) x f r.here name place-shows (f.frames.exist r.noted.entry.frame name h.held)

@@ -1,6 +1,6 @@
 -- What holds of loads and stores beside what is answered to them. Public clauses cite this.
-use Rattle.std.specs.Prelude.{◌≡◌, ℕ, Bool, true, false, Some}
-use Rattle.hat_layer.specs.Pool.{translation_at}
+use Rattle.std.specs.Prelude.{◌≡◌, ℕ, Bool, true, false, List, Option, Some}
+use Rattle.hat_layer.specs.Pool.{translation_at, change_at, after_access}
 use Rattle.hat_layer.specs.declared.translation.Translation.{Translation}
 use Rattle.page_hash.specs.declared.PageName.{PageName}
 use Rattle.page_store.specs.Seen.{residence}
@@ -16,6 +16,7 @@ use Rattle.vm_world.specs.World.{World}
 use Rattle.seg_vn.specs.declared.attempt.Attempt.{Attempt}
 use Rattle.seg_vn.specs.declared.attempt.Attempt.TheVariants.{Done, Need, Busy}
 use Rattle.seg_vn.specs.Serves.{Serves, IsPlainReply}
+use Rattle.seg_ops.specs.Faults.{LetsAccess}
 use Rattle.seg_ops.specs.SlotsDue.{KeepsSlots, MakesSlotAt, slot_due}
 
 -- A load or a store, well formed.
@@ -51,15 +52,29 @@ IsShownWhereDone m p q (Done (reply.Word word)) = IsShown m p q
 IsShownWhereDone m p q (Done reply.Done) = IsShown m p q
 IsShownWhereDone m p q answer = Unit {0}
 
+-- A HIT: all that changed are the bytes of frames, and the bits of the page's own translation, which say that it was used, and of a store that it was
+-- written. Names, rows and lists are as they were, and so is each other translation.
+pub record IsHit (old new : World) (p q : ℕ) (write : Bool) : Type 0 where
+  pub store : new.store ≡ record old.store { frames = new.store.frames }
+  pub places : new.hat.places ≡ change_at p q (after_access write) old.hat.places
+  pub rest : new ≡ record old { store = new.store; hat = new.hat }
+
+-- A load that answers a word and a store that is done are hits where the page had a translation that lets them.
+abbrev pub IsHitWhereDone : World → World → ℕ → ℕ → Bool → Attempt → Type 0
+IsHitWhereDone old new p q write (Done (reply.Word word)) = LetsAccess old p q write → IsHit old new p q write
+IsHitWhereDone old new p q write (Done reply.Done) = LetsAccess old p q write → IsHit old new p q write
+IsHitWhereDone old new p q write answer = Unit {0}
+
 -- What is done has a plain reply; and a transfer is needed, or somebody waited for, only where neither Align, NoMap nor Prot is due.
 abbrev pub MayBeAnswered : Memory → ℕ → Call → Attempt → Type 0
 MayBeAnswered m p call (Done reply) = IsPlainReply reply
 MayBeAnswered m p call (Need plan) = MayMeetFault m p call
 MayBeAnswered m p call (Busy h) = MayMeetFault m p call
 
--- The four of an access of a page.
+-- All of these, of an access of a page.
 pub record ServesWord (old new : Memory) (pending more p q : ℕ) (call : Call) (answer : Attempt) : Type 0 where
-  pub serves : Serves old new pending more p call answer
+  pub serves : (calls : List (Option ℕ)) → Serves old new pending more calls p call answer
   pub due : MayBeAnswered new p call answer
   pub shown : IsShownWhereDone new p q answer
   pub slots : SlotsWhereDone old new.world p q (is_store call) answer
+  pub hit : IsHitWhereDone old.world new.world p q (is_store call) answer

@@ -1,10 +1,11 @@
 -- What an access comes to before its word is moved. Inside: no public clause cites this.
-use Rattle.std.specs.Prelude.{◌≡◌, ℕ, ◌%◌, Bool, true, List, Option, Some, Result, Ok, Err, if◌then◌else◌}
+use Rattle.std.specs.Prelude.{◌≡◌, ℕ, ◌%◌, Bool, true, List, Option, Some, None, Result, Ok, Err, if◌then◌else◌}
 use Rattle.std.specs.FinSet as set
 use Rattle.std.specs.Ordering.{nat_cmp}
 use Rattle.hat_layer.specs.Pool.{IsNoted}
 use Rattle.page_store.specs.Notes.{Notes}
 use Rattle.vm_types.specs.declared.call.Call.{Call}
+use Rattle.vm_types.specs.declared.call.Signal.{Signal}
 use Rattle.vm_types.specs.declared.prot.Prot.{Prot}
 use Rattle.vm_types.specs.Prot.{can_read, can_write}
 use Rattle.flat_model.specs.Access.{access_target}
@@ -14,12 +15,13 @@ use Rattle.flat_model.specs.Words.{page}
 use Rattle.vm_world.specs.CallSteps.{ChangesMemory}
 use Rattle.vm_world.specs.FlatMemory.{Memory, flat_memory}
 use Rattle.vm_world.specs.Segments.{Spot, spot_at}
-use Rattle.vm_world.specs.Serving.{TakesFrames}
+use Rattle.vm_world.specs.Serving.{TakesFrames, AreReplaced, ModifiesNone}
 use Rattle.vm_world.specs.Wants.{HoldsUp}
 use Rattle.vm_world.specs.World.{World}
 use Rattle.seg_ops.specs.OwnPages.{with_own_shown}
-use Rattle.seg_ops.specs.Faults.{Accesses, NeedsTransfer}
+use Rattle.seg_ops.specs.Faults.{Accesses, LetsAccess, NeedsTransfer}
 use Rattle.seg_ops.specs.SlotsDue.{KeepsSlots, MakesSlotAt, slot_due}
+use Rattle.fault_entry.specs.Accesses.{IsHit}
 use Rattle.fault_entry.specs.declared.access.AccessStep.{AccessStep}
 use Rattle.fault_entry.specs.declared.access.AccessStep.TheVariants.{Reached, Refused}
 use Rattle.vm_world.specs.declared.wants.Wants.{Wants}
@@ -46,7 +48,7 @@ AccessMeans old new p a n write (Ok (Reached frame)) = ReachesPage new p a n fra
 AccessMeans old new p a n write (Ok (Refused s)) = (born : set.FinSet nat_cmp) (notes : Notes) → access_target (flat_memory new born notes) p (may_access write) a n ≡ Err s
 AccessMeans old new p a n write (Err (Transfer plan)) = NeedsTransfer old new p (page a) write plan × MayReach new p a n write
 AccessMeans old new p a n write (Err (Seat h)) =
-    ((calls : List (Option ℕ)) (call : Call) → Accesses write (page a) call → HoldsUp new calls p call h) × MayReach new p a n write
+    ((calls : List (Option ℕ)) (call : Call) → Accesses write (page a) call → HoldsUp new calls p call h) × ModifiesNone old.world new.world × MayReach new p a n write
 
 -- Flat memory as the access goes to its frame: a store to a private page finds that page its own.
 abbrev pub after_reach : Result AccessStep Wants → Bool → Flat → ℕ → ℕ → Flat
@@ -63,6 +65,24 @@ abbrev pub ReachSlots : Memory → World → ℕ → ℕ → Bool → Result Acc
 ReachSlots old new p q write (Ok (Reached frame)) = (x : Spot) → spot_at old.spaces p q ≡ Some x → MakesSlotAt old.world new (slot_due old.world.anon old.world.maps x write)
 ReachSlots old new p q write answer = KeepsSlots old.world new
 
+-- The signal that an access comes to, if it comes to one.
+abbrev pub signal_in : Result AccessStep Wants → Option Signal
+signal_in (Ok (Refused s)) = Some s
+signal_in answer = None
+
+abbrev pub error_in : {A E : Type 0} → Result A E → Option E
+error_in (Ok x) = None
+error_in (Err e) = Some e
+
+-- THE SIGNAL THAT IS DUE to an access in flat memory, or that none is, whatever is outside.
+abbrev pub IsSignalDue : Memory → ℕ → ℕ → ℕ → Bool → Option Signal → Type 0
+IsSignalDue m p a n write s = (born : set.FinSet nat_cmp) (notes : Notes) → error_in (access_target (flat_memory m born notes) p (may_access write) a n) ≡ s
+
+-- Where the page had a translation that lets the access, the access is a hit.
+abbrev pub HitsReach : World → World → ℕ → ℕ → Bool → Result AccessStep Wants → Type 0
+HitsReach old new p q write (Ok (Reached frame)) = LetsAccess old p q write → IsHit old new p q write
+HitsReach old new p q write answer = Unit {0}
+
 -- Frames may be taken for other pages, then a page may be made, with its slot, and the access comes to this.
 pub record ServesAccess (old new : Memory) (pending more p a n : ℕ) (write : Bool) (answer : Result AccessStep Wants) : Type 0 where
   pub mid : World
@@ -70,4 +90,7 @@ pub record ServesAccess (old new : Memory) (pending more p a n : ℕ) (write : B
   pub acts : ChangesMemory p (record old { world = mid }) new (λ F G. G ≡ after_reach answer write F p (page a))
   pub ends : EndsReach answer mid new.world
   pub slots : ReachSlots old new.world p (page a) write answer
+  pub due : IsSignalDue old p a n write (signal_in answer)
+  pub replaced : AreReplaced old.world new.world first.cut
+  pub hit : HitsReach old.world new.world p (page a) write answer
   pub means : AccessMeans old new p a n write answer

@@ -1,5 +1,5 @@
 //! Loads and stores.
-ghost use Rattle.std.specs.Prelude.{◌≡◌, ℕ, Some, IsSome};
+ghost use Rattle.std.specs.Prelude.{◌≡◌, ℕ, List, Option, Some, IsSome};
 ghost use Rattle.std.specs.FinMap as finite;
 ghost use Rattle.flat_model.specs.Words.{page};
 ghost use Rattle.vm_types.specs.Words.{IsWordSize, FitsWord};
@@ -9,7 +9,7 @@ ghost use Rattle.vm_world.specs.Wants.{accessed_page};
 ghost use Rattle.vm_world.specs.Words.{memory, Fits, IsKnown, TwoAreHome};
 ghost use Rattle.vm_world.specs.World.{world_seen};
 ghost use Rattle.seg_vn.specs.Serves.{Serves};
-ghost use Rattle.fault_entry.specs.Accesses.{IsAccess, ServesWord, MayBeAnswered, IsShownWhereDone, SlotsWhereDone, is_store};
+ghost use Rattle.fault_entry.specs.Accesses.{IsAccess, ServesWord, MayBeAnswered, IsShownWhereDone, IsHitWhereDone, SlotsWhereDone, is_store};
 ghost use Rattle.fault_entry.specs.Answers.{attempt_of};
 
 use crate::access::{AccessStep, reach};
@@ -96,8 +96,8 @@ pub fn answer<D: Disk>(
     requires fits { Fits world.old spaces.old.spaces }
     requires noted { IsKnown world.old }
     // It is done, needs a transfer first, or has to wait; ..
-    ensures serves { Serves (memory world.old spaces.old.spaces)
-        (memory world.new spaces.old.spaces) world.old.pending world.new.pending process
+    ensures serves { (calls : List (Option ℕ)) → Serves (memory world.old spaces.old.spaces)
+        (memory world.new spaces.old.spaces) world.old.pending world.new.pending calls process
         call.now (attempt_of result) }
     // .. its reply is plain, and it needs or waits only where the protection lets it; and after a word was moved the
     // page has its translation.
@@ -109,6 +109,10 @@ pub fn answer<D: Disk>(
     // Then a slot was made for the page exactly where one was due, and else none.
     ensures slots { (q : ℕ) → accessed_page call.now ≡ Some q
         → SlotsWhereDone (memory world.old spaces.old.spaces) (world_seen world.new) process
+        q (is_store call.now) (attempt_of result) }
+    // Where the page had its translation nothing else changed.
+    ensures hit { (q : ℕ) → accessed_page call.now ≡ Some q
+        → IsHitWhereDone (world_seen world.old) (world_seen world.new) process
         q (is_store call.now) (attempt_of result) }
     // What stays.
     ensures spaces { spaces.new ≡ spaces.old }

@@ -35,6 +35,7 @@ use Rattle.vm_world.specs.MapSteps.{maps_made, maps_held}
 use Rattle.vm_world.specs.MemoryFits.{MemoryFits}
 use Rattle.vm_world.specs.Segments.{Spot, Spaces}
 use Rattle.vm_world.specs.SegmentSteps.{ChangesSegments, HasPlace, IsOwnNew, MayCome, MayMakeZero, with_new_cells, with_zero_object, with_part_come, with_zero_part, segment_cell}
+use Rattle.vm_world.specs.Plans.{refusal_in}
 use Rattle.vm_world.specs.Serving.{TakesFrames, ServesDone}
 use Rattle.vm_world.specs.World.{World}
 use Rattle.vm_world.specs.ZeroObjects.{AreSameZeros, KnowsZeros, free_number}
@@ -552,7 +553,7 @@ or-false true = refl
 or-false false = refl
 
 -- no frame is taken
-takes-none : (m : Memory) (pending : ℕ) → MemoryFits m → TakesFrames m m.world pending pending
+abbrev takes-none : (m : Memory) (pending : ℕ) → MemoryFits m → TakesFrames m m.world pending pending
 takes-none m pending fits = record {
   cut = λ name. false;
   step = keeps-same m.world m.spaces fits;
@@ -575,4 +576,7 @@ map-serves old new pending more p q call r is same fits done =
         flat = λ born notes nf tell whole.
             acts (flat_memory old born notes) (flat_memory new born notes) p (map_call q) r cleared done.plain (done.due born notes) (done.changes.flat born notes nf tell whole).0;
       };
+      replaced = λ name is. absurd (let z : false ≡ true = is in cc);
+      refusal = λ born notes. ap refusal_in (done.due born notes);
+      clean = λ from name is wants. absurd wants;
     }))

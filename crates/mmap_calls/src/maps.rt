@@ -1,5 +1,5 @@
 //! Map.
-ghost use Rattle.std.specs.Prelude.{◌≡◌, ◌<◌, ◌≤◌, ◌+◌, ◌-◌, ◌^◌, ◌++◌, ℕ, length, replicate, IfOk, OnErr, IsSome, Some, None, vec_capacity};
+ghost use Rattle.std.specs.Prelude.{◌≡◌, ◌<◌, ◌≤◌, ◌+◌, ◌-◌, ◌^◌, ◌++◌, ℕ, length, replicate, IfOk, OnErr, IsSome, Some, None, vec_capacity, List, Option};
 ghost use Rattle.std.specs.FinMap as finite;
 ghost use Rattle.anon_map.specs.Maps.{IsMapThere, IsUnused, free_numbers, holders_of};
 ghost use Rattle.anon_slots.specs.Slots.{count_at};
@@ -302,9 +302,9 @@ pub fn attempt<D: Disk>(
     requires fits { Fits world.old spaces.old.spaces }
     requires zeros { KnowsZeros world.old.zeros spaces.old.spaces }
     requires alive { IsSome (finite.get spaces.old.spaces process) }
-    ensures done { IfOk result (λ answer. Serves (memory world.old spaces.old.spaces)
-        (memory world.new spaces.new.spaces) world.old.pending world.new.pending process
-        call.now answer) }
+    ensures done { IfOk result (λ answer. (calls : List (Option ℕ)) → Serves
+        (memory world.old spaces.old.spaces) (memory world.new spaces.new.spaces)
+        world.old.pending world.new.pending calls process call.now answer) }
     ensures answer { IfOk result IsMapDone }
     ensures fall { IfOk result (λ answer. (slot : ℕ)
         → count_at world.new.anon slot ≤ count_at world.old.anon slot) }

@@ -100,7 +100,7 @@ or-false true = refl
 or-false false = refl
 
 -- no frame is taken
-pub takes-none : (m : Memory) (pending : ℕ) → MemoryFits m → TakesFrames m m.world pending pending
+abbrev takes-none : (m : Memory) (pending : ℕ) → MemoryFits m → TakesFrames m m.world pending pending
 takes-none m pending fits = record {
   cut = λ name. false;
   step = keeps-same m.world m.spaces fits;
@@ -121,6 +121,9 @@ exit-serves old new pending p fits done = record {
     tells = done.tells;
     flat = λ born notes nf tell whole. (refl, (done.flat born notes nf tell whole).0);
   };
+  replaced = λ name is. absurd (let z : false ≡ true = is in cc);
+  refusal = λ born notes. refl;
+  clean = λ from name is wants. absurd wants;
 }
 
 -- an Exit alone is served

@@ -1,5 +1,5 @@
 //! The end of a process.
-ghost use Rattle.std.specs.Prelude.{◌≡◌, ◌≤◌, ℕ, IsSome, IfOk, IsOk};
+ghost use Rattle.std.specs.Prelude.{◌≡◌, ◌≤◌, ℕ, IsSome, IfOk, IsOk, List, Option};
 ghost use Rattle.std.specs.FinMap as finite;
 ghost use Rattle.flat_model.specs.Processes.{without_process};
 ghost use Rattle.vm_world.specs.Words.{memory, Fits, SameFilesAndTails};
@@ -52,9 +52,9 @@ pub fn attempt<D: Disk>(
     requires zeros { KnowsZeros world.old.zeros spaces.old.spaces }
     requires alive { IsSome (finite.get spaces.old.spaces process) }
     ensures ok { IsOk result }
-    ensures done { IfOk result (λ answer. Serves (memory world.old spaces.old.spaces)
-        (memory world.new spaces.new.spaces) world.old.pending world.new.pending process
-        call.now answer) }
+    ensures done { IfOk result (λ answer. (calls : List (Option ℕ)) → Serves
+        (memory world.old spaces.old.spaces) (memory world.new spaces.new.spaces)
+        world.old.pending world.new.pending calls process call.now answer) }
     ensures answer { IfOk result IsExitDone }
     ensures zeros { KnowsZeros world.new.zeros spaces.new.spaces }
     ensures fall { (slot : ℕ) → count_at world.new.anon slot ≤ count_at world.old.anon slot }

@@ -65,6 +65,10 @@ disks-land old new f disks slots c size fit = subst (λ (b : List BaySeen). Disk
     | inl same ↦ λ e. fit.there number blocks is (sym same ∙ e)
     | inr at ↦ λ e. let z : home f.disk ≡ missing = sym at.1 ∙ e in cc
   ];
+  set = λ number low there. fit.set number low (λ e. elim (index-set old.bays f.number (home f.disk) number missing) [
+    | inl same ↦ there (same ∙ e)
+    | inr at ↦ let z : out f.seat ≡ missing = sym c.out.out.bay ∙ ap (bay_at old.bays) (sym at.0) ∙ e in cc
+  ]);
   swap = λ some. elim (index-set old.bays f.number (home f.disk) 8 missing) [
     | inl same ↦ λ e. fit.swap some (sym same ∙ e)
     | inr at ↦ λ e. let z : home f.disk ≡ missing = sym at.1 ∙ e in cc

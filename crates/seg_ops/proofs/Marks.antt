@@ -140,6 +140,7 @@ files-kept w files anon name k f =
     let info : (x : ℕ) → (vnode_at files x).info ≡ (vnode_at w.files x).info = λ x. info-same w (with_marks w files anon) x (keeps-tables w files anon name k) in
     let alike = lie-alike w.files files k.disks k.infos in
     record {
+      small = λ number blocks is. f.small number blocks (ap (λ (d : finite.FinMap nat_cmp ℕ). finite.get d number) (sym k.disks) ∙ is);
       each = λ x lt.
           let s = f.each x (subst (λ (n : ℕ). x < n) count lt) in
           subst (λ (v : VnodeSeen). IsSoundVnode v) (λ i. record { info = sym (info x) i; blanks = (vnode_at files x).blanks })

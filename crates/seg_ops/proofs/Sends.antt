@@ -73,6 +73,10 @@ disks-stay old new seat note disks slots s f = subst (λ (b : List BaySeen). Dis
     | inl same ↦ λ e. f.there number blocks is (sym same ∙ e)
     | inr at ↦ λ e. let z : out seat ≡ missing = sym at.1 ∙ e in cc
   ];
+  set = λ number low there. f.set number low (λ e. elim (index-set old.bays note.number (out seat) number missing) [
+    | inl same ↦ there (same ∙ e)
+    | inr at ↦ let z : home note.disk ≡ missing = sym s.was ∙ ap (bay_at old.bays) (sym at.0) ∙ e in cc
+  ]);
   swap = λ some. elim (index-set old.bays note.number (out seat) 8 missing) [
     | inl same ↦ λ e. f.swap some (sym same ∙ e)
     | inr at ↦ λ e. let z : out seat ≡ missing = sym at.1 ∙ e in cc

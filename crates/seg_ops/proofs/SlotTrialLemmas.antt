@@ -142,6 +142,7 @@ swap-disks : (frames : ℕ) (s : StoreSeen) (d : DiskSeen) → IsNew s frames []
 swap-disks frames s d new size = record {
   numbers = λ number blocks is. absurd (none number blocks is);
   there = λ number blocks is. absurd (none number blocks is);
+  set = λ number low there. absurd (there (bay-other frames s d new number (omega (arith, low))));
   swap = λ some e. let z : home d ≡ missing = sym new.bays.swap ∙ e in cc;
   unused = λ zeroed. absurd (omega (arith, zeroed));
   sizes = λ number x is. record {
@@ -160,6 +161,7 @@ swap-disks frames s d new size = record {
 
 no-files : FilesFit no_files
 no-files = record {
+  small = λ number blocks is. absurd (let z : None ≡ Some blocks = sym (finite.get-empty nat_cmp number) ∙ is in cc);
   each = λ f lt. absurd (omega (arith, lt));
   disjoint = record { few = omega arith; disks = λ n f b k. absurd (none n f b k); apart = λ m n f g b k l _. absurd (none m f b k) };
   set = λ f lt. absurd (omega (arith, lt));

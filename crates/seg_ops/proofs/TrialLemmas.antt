@@ -1,6 +1,6 @@
 -- THE WORLD OF THE TRIALS fits: idle frames, no slot, map or translation, and a file of three pages, which one process shows.
 use Rattle.std.proofs.Common.{◌≡◌, ◌≢◌, ℕ, zero, suc, ◌+◌, ◌<◌, ◌≤◌, ◌==◌, Bool, true, false, cond, List, [], ◌∷◌, ◌++◌, length, map, Option, Some, None, refl, sym, ap, ◌∙◌, inl, inr, subst, arith}
-use Rattle.std.specs.Prelude.{All, IsSome, slice_get, slice_index_or, sum_by, flat_map, filter_map, option_and_then, replicate, slice_index, unwrap_or, if◌then◌else◌}
+use Rattle.std.specs.Prelude.{All, IsSome, is_some, slice_get, slice_index_or, sum_by, flat_map, filter_map, option_and_then, replicate, slice_index, unwrap_or, if◌then◌else◌}
 use Rattle.std.specs.Ordering.{nat_cmp}
 use Rattle.std.specs.Cmp.{nat_cmp_total}
 use Rattle.std.specs.FinMap as finite
@@ -172,6 +172,7 @@ module _ (v : VnodeSeen) (file : IsTrialFile v.info) (sound : IsSoundVnode v) wh
 
   pub trial-files : FilesFit (trial_files v)
   trial-files = record {
+    small = λ number blocks is. let e = (one-disk number blocks is).1 in omega (arith, e);
     each = λ f lt. subst (λ (i : ℕ). IsSoundVnode (vnode_at (trial_files v) i)) (sym (only f lt)) sound;
     disjoint = record {
       few = omega arith;
@@ -240,6 +241,10 @@ module _ (s : StoreSeen) (d : DiskSeen) (new : IsNew s 2 ((0, d) ∷ []) None) w
   trial-disks size = record {
     numbers = λ number blocks is. let e = (one-disk number blocks is).0 in omega (arith, e);
     there = λ number blocks is e. let z : home d ≡ missing = sym bay-zero ∙ ap (bay_at s.bays) (sym (one-disk number blocks is).0) ∙ e in cc;
+    set = λ number low there. elim (cases_eq number 0) [
+      | inl e ↦ ap is_some (ap (finite.get (finite.insert (finite.empty {X = ℕ} {R = nat_cmp}) 0 4)) e ∙ get-insert_here (finite.empty {X = ℕ} {R = nat_cmp}) 0 4)
+      | inr ne ↦ absurd (there (bay-other number ne))
+    ];
     swap = λ some. absurd (omega (arith, some));
     unused = λ none. new.bays.swap;
     sizes = λ number x is.

@@ -1,5 +1,5 @@
 -- What faults come to. Public clauses cite this.
-use Rattle.std.specs.Prelude.{◌≡◌, ℕ, Bool, true, false, List, Option, Some, Result, Ok, Err, IsFalse}
+use Rattle.std.specs.Prelude.{◌≡◌, ℕ, Bool, true, false, not, List, Option, Some, Result, Ok, Err, IsFalse}
 use Rattle.hat_layer.specs.Pool.{translation_at}
 use Rattle.hat_layer.specs.declared.translation.Translation.{Translation}
 use Rattle.page_store.specs.declared.plan.Plan.{Plan}
@@ -13,7 +13,7 @@ use Rattle.vm_world.specs.CallSteps.{ChangesMemory}
 use Rattle.vm_world.specs.FlatMemory.{Memory}
 use Rattle.vm_world.specs.Plans.{CanRunPlan}
 use Rattle.vm_world.specs.Segments.{Spot, Spaces, spot_at}
-use Rattle.vm_world.specs.Serving.{TakesFrames, KeepsWanted, ModifiesNone}
+use Rattle.vm_world.specs.Serving.{TakesFrames, AreReplaced, KeepsWanted, ModifiesNone}
 use Rattle.vm_world.specs.Wants.{accessed_page, shows_page, HoldsUp}
 use Rattle.vm_world.specs.Words.{memory}
 use Rattle.vm_world.specs.World.{World}
@@ -48,7 +48,8 @@ abbrev pub FaultMeans : Memory → Memory → ℕ → ℕ → Spot → Bool → 
 FaultMeans old new p q x write (Ok Loaded) = LetsAccess new.world p q write
 FaultMeans old new p q x write (Ok Past) = IsFalse (shows_page new.world x)
 FaultMeans old new p q x write (Err (Transfer plan)) = NeedsTransfer old new p q write plan
-FaultMeans old new p q x write (Err (Seat h)) = (calls : List (Option ℕ)) (call : Call) → Accesses write q call → HoldsUp new calls p call h
+FaultMeans old new p q x write (Err (Seat h)) =
+    ((calls : List (Option ℕ)) (call : Call) → Accesses write q call → HoldsUp new calls p call h) × ModifiesNone old.world new.world
 
 -- Flat memory after a fault: for a store a private cell gets the page that it shows as its own.
 abbrev pub after_fault : Result Fault Wants → Bool → Flat → ℕ → ℕ → Flat
@@ -60,14 +61,20 @@ abbrev pub EndsThere : Result Fault Wants → World → World → Type 0
 EndsThere (Ok Loaded) mid new = Unit {0}
 EndsThere answer mid new = new ≡ mid
 
--- A fault takes frames for other pages, with the tails that are pending before and after; then, if the page is loaded, flat memory is so; a slot was made
--- exactly where one was due; and it comes to this.
+abbrev pub is_past : Result Fault Wants → Bool
+is_past (Ok Past) = true
+is_past answer = false
+
+-- A fault takes frames for other pages, with the tails that are pending before and after, and the frames hold other pages then; if the page is loaded, flat
+-- memory is so; a slot was made exactly where one was due; it comes to Past exactly where the place is past its object's end; and it comes to this.
 pub record ServesFault (old new : Memory) (pending more p q : ℕ) (x : Spot) (write : Bool) (answer : Result Fault Wants) : Type 0 where
   pub mid : World
   pub first : TakesFrames old mid pending more
   pub acts : ChangesMemory p (record old { world = mid }) new (λ F G. G ≡ after_fault answer write F p q)
   pub ends : EndsThere answer mid new.world
   pub slots : SlotsAfter old.world new.world x write answer
+  pub past : is_past answer ≡ not (shows_page old.world x)
+  pub replaced : AreReplaced old.world new.world first.cut
   pub means : FaultMeans old new p q x write answer
 
 -- The same of the world before and after.

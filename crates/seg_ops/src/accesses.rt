@@ -56,7 +56,9 @@ pub fn write<D: Disk>(world: &mut World<D>, frame: u32, addr: u32, size: u32, va
         → IsNoted world.old.hat.places space (page addr) frame true
         → WritesWord (world_seen world.old) (world_seen world.new) spaces space addr size
         value }
-    // What stays.
+    // What stays: all but bytes of frames.
+    ensures store { world.new.store
+        ≡ record world.old.store { frames = world.new.store.frames } }
     ensures rest { OnlyStore world.old world.new }
     ensures stay { SameResidence world.old.store world.new.store }
 {

@@ -1,5 +1,5 @@
 -- What faults come to at places of any mapping: where a page is shown where it is, and where zeros are made.
-use Rattle.std.proofs.Common.{◌≡◌, ◌≢◌, ℕ, ◌<◌, ◌+◌, Bool, true, false, cond, List, length, Option, Some, None, refl, sym, ap, ◌∙◌, inl, inr, subst, slice_set, Result, Ok, Err}
+use Rattle.std.proofs.Common.{◌≡◌, ◌≢◌, ℕ, ◌<◌, ◌+◌, Bool, true, false, cond, List, length, Option, Some, None, refl, sym, ap, ◌∙◌, inl, inr, subst, slice_set, Result, Ok, Err, not}
 use Rattle.std.specs.Prelude.{IsTrue, IsFalse, ◌||◌, ◌^◌, is_some, nat_lt, option_map, option_and_then}
 use Rattle.std.specs.Option.{option_or, option_map_or}
 use Rattle.std.specs.FinSet as set
@@ -31,7 +31,7 @@ use Rattle.flat_model.specs.Words.{page, pages_in}
 use Rattle.vm_world.specs.FlatMemory.{Memory, flat_memory}
 use Rattle.vm_world.specs.MemoryFits.{MemoryFits}
 use Rattle.vm_world.specs.Segments.{Spot, Spaces, spot_at, own_slot, shown_name, object_name}
-use Rattle.vm_world.specs.Serving.{TakesFrames, KeepsWanted, ModifiesNone}
+use Rattle.vm_world.specs.Serving.{TakesFrames, KeepsWanted, ModifiesNone, AreReplaced}
 use Rattle.vm_world.specs.StateSteps.{PendsTails}
 use Rattle.vm_world.specs.TranslationsFit.{MayWriteInPlace}
 use Rattle.vm_world.specs.Wants.{IsDirtyPage, MakesSlotFor, ShowsPage, WantsHome, accessed_page, object_has, shows_page}
@@ -62,6 +62,7 @@ use Rattle.seg_vn.proofs.Faulted.{access-wants, wanted-name, absent-home}
 use Rattle.seg_vn.proofs.FilePlaces.{either-allowed}
 use Rattle.seg_vn.proofs.SlotsDue.{due-none, slots-kept}
 use Rattle.seg_vn.proofs.Takes.{or-false, takes-none, takes-then}
+use Rattle.seg_vn.proofs.Replacements.{none-replaced, replaced-beside, replaced-then}
 
 -- what a place shows, by the maps and the files alone
 has-same : (old new : World) (shown : Option ℕ) (i : ℕ) (o : Object) → new.maps ≡ old.maps → new.files ≡ old.files → object_has new shown i o ≡ object_has old shown i o
@@ -113,6 +114,7 @@ module _ (old mid : World) (spaces : Spaces) (p q : ℕ) (x : Spot) (write writa
       → translation_at new.hat.places p q ≡ Some (fresh_translation p q frame writable) → ServesFault (memory_of old spaces) (memory_of new spaces) pending more p q x write (Ok fault.Loaded)
   page-loaded new frame b keeps names maps' anon' loaded =
       serves-kept old new spaces p q x write pending more (Ok fault.Loaded) (takes-then old mid new spaces pending more fits b.first keeps names)
+      (replaced-beside old new b.first.cut (replaced-then old mid new b.first.cut names b.replaced)) (sym (ap not place.some))
       (λ born notes. kept-in-place new spaces p q x write writable born notes keeps.memory place.here place.lets (λ writes. in-place-still old new x (maps' ∙ maps) (anon' ∙ anon) (place.in_place writes)))
       (slots-kept old new x write (due-none old.anon old.maps x write name place.shows (λ writes. place.in_place (place.lets writes))) (anon' ∙ anon) (maps' ∙ maps))
       (record { translation = fresh_translation p q frame writable; loaded = loaded; writable = place.lets })
@@ -121,7 +123,7 @@ module _ (old mid : World) (spaces : Spaces) (p q : ℕ) (x : Spot) (write writa
   shows-there = ap (λ (ms : List (Option maps_of.Map)). shown_name ms x) maps ∙ place.shows
 
   pub page-needs : (plan : Plan) → BringsPage (memory_of old spaces) (memory_of mid spaces) pending more name (Err (wants.Transfer plan)) → ServesFault (memory_of old spaces) (memory_of mid spaces) pending more p q x write (Err (wants.Transfer plan))
-  page-needs plan b = serves-kept old mid spaces p q x write pending more (Err (wants.Transfer plan)) b.first (λ born notes. refl) (record { counts = anon; places = maps }) (record {
+  page-needs plan b = serves-kept old mid spaces p q x write pending more (Err (wants.Transfer plan)) b.first b.replaced (sym (ap not place.some)) (λ born notes. refl) (record { counts = anon; places = maps }) (record {
     runs = λ call acc. record {
       may = b.means.0.may (p, call) (access-wants (memory_of mid spaces) p q x call name (accessed write q call acc) (there-still old mid spaces p q x place.here place.some maps files) shows-there);
       ready = b.means.0.ready;
@@ -133,8 +135,8 @@ module _ (old mid : World) (spaces : Spaces) (p q : ℕ) (x : Spot) (write writa
   })
 
   pub page-busy : (h : Hold) → BringsPage (memory_of old spaces) (memory_of mid spaces) pending more name (Err (wants.Seat h)) → ServesFault (memory_of old spaces) (memory_of mid spaces) pending more p q x write (Err (wants.Seat h))
-  page-busy h b = serves-kept old mid spaces p q x write pending more (Err (wants.Seat h)) b.first (λ born notes. refl) (record { counts = anon; places = maps })
-      (λ calls call acc. b.means calls (p, call) (access-wants (memory_of mid spaces) p q x call name (accessed write q call acc) (there-still old mid spaces p q x place.here place.some maps files) shows-there))
+  page-busy h b = serves-kept old mid spaces p q x write pending more (Err (wants.Seat h)) b.first b.replaced (sym (ap not place.some)) (λ born notes. refl) (record { counts = anon; places = maps })
+      (λ calls call acc. b.means.0 calls (p, call) (access-wants (memory_of mid spaces) p q x call name (accessed write q call acc) (there-still old mid spaces p q x place.here place.some maps files) shows-there), b.means.1)
 
   pub page-waits : (want : Wants) → BringsPage (memory_of old spaces) (memory_of mid spaces) pending more name (Err want) → ServesFault (memory_of old spaces) (memory_of mid spaces) pending more p q x write (Err want)
   page-waits (wants.Transfer plan) b = page-needs plan b
@@ -154,8 +156,8 @@ pushes-made old w spaces p q x write victim (wants.Transfer a) f there makes wan
   modified = modified;
 })
 pushes-made old w spaces p q x write victim (wants.Seat (hold.Page seat)) f there makes wanted modified none dirty asked = absurd (home-free w spaces victim dirty.frame seat f dirty.home asked)
-pushes-made old w spaces p q x write victim (wants.Seat (hold.Disk seat)) f there makes wanted modified none dirty asked = λ calls call acc.
-    (plan.Push victim, (dirty, inr (inr (q, x, accessed write q call acc, there, makes call acc), none)), asked)
+pushes-made old w spaces p q x write victim (wants.Seat (hold.Disk seat)) f there makes wanted modified none dirty asked = (λ calls call acc.
+    (plan.Push victim, (dirty, inr (inr (q, x, accessed write q call acc, there, makes call acc), none)), asked), modified)
 pushes-made old w spaces p q x write victim (wants.Seat (hold.File seat)) f there makes wanted modified none dirty asked = absurd asked
 
 -- what is answered then leaves flat memory
@@ -168,11 +170,11 @@ asked-slots : (old w : World) (x : Spot) (victim : PageName) (answer : Wants) (w
 asked-slots old w x victim (wants.Transfer a) write asked kept = kept
 asked-slots old w x victim (wants.Seat h) write asked kept = kept
 
-pub made-asks : (old w : World) (spaces : Spaces) (p q : ℕ) (x : Spot) (write : Bool) (pending more : ℕ) (victim : PageName) (answer : Wants) → TakesFrames (memory_of old spaces) w pending more → KeepsSlots old w → ShowsPage (memory_of w spaces) p q x
+pub made-asks : (old w : World) (spaces : Spaces) (p q : ℕ) (x : Spot) (write : Bool) (pending more : ℕ) (victim : PageName) (answer : Wants) (first : TakesFrames (memory_of old spaces) w pending more) → AreReplaced old w first.cut → IsTrue (shows_page old x) → KeepsSlots old w → ShowsPage (memory_of w spaces) p q x
     → ((call : Call) → Accesses write q call → MakesSlotFor w x call) → ((call : Call) → Accesses write q call → KeepsWanted (memory_of old spaces) (memory_of w spaces) p call) → ModifiesNone old w
     → next_frame w.store ≡ None → IsDirtyPage w victim → IsAsked w (plan.Push victim) answer → ServesFault (memory_of old spaces) (memory_of w spaces) pending more p q x write (Err answer)
-made-asks old w spaces p q x write pending more victim answer first kept there makes wanted modified none dirty asked =
-    serves-kept old w spaces p q x write pending more (Err answer) first (λ born notes. asked-keeps w victim answer write (flat_memory (memory_of w spaces) born notes) p q asked) (asked-slots old w x victim answer write asked kept)
+made-asks old w spaces p q x write pending more victim answer first replaced some kept there makes wanted modified none dirty asked =
+    serves-kept old w spaces p q x write pending more (Err answer) first replaced (sym (ap not some)) (λ born notes. asked-keeps w victim answer write (flat_memory (memory_of w spaces) born notes) p q asked) (asked-slots old w x victim answer write asked kept)
     (pushes-made old w spaces p q x write victim answer first.step.memory there makes wanted modified none dirty asked)
 
 -- ZEROS: no page is shown, and an access makes one.
@@ -336,5 +338,5 @@ shared-in-place w spaces p q x fits here own writes = record {
 -- nothing is shown past the object's end
 pub past-serves : (w : World) (spaces : Spaces) (p q : ℕ) (x : Spot) (write : Bool) (pending : ℕ) → MemoryFits (memory_of w spaces) → own_slot w.maps x ≡ None → IsFalse (object_has w x.0.shown (x.0.index + x.1) x.0.object)
     → ServesFault (memory_of w spaces) (memory_of w spaces) pending pending p q x write (Ok fault.Past)
-past-serves w spaces p q x write pending fits bare past = serves-kept w w spaces p q x write pending pending (Ok fault.Past) (takes-none w w spaces pending (keeps-same w spaces fits)) (λ born notes. refl) (record { counts = refl; places = refl })
+past-serves w spaces p q x write pending fits bare past = serves-kept w w spaces p q x write pending pending (Ok fault.Past) (takes-none w w spaces pending (keeps-same w spaces fits)) (none-replaced w w) (sym (ap not (ap (λ (o : Option ℕ). is_some o || object_has w x.0.shown (x.0.index + x.1) x.0.object) bare ∙ past))) (λ born notes. refl) (record { counts = refl; places = refl })
     (ap (λ (o : Option ℕ). is_some o || object_has w x.0.shown (x.0.index + x.1) x.0.object) bare ∙ past)

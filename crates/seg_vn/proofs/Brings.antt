@@ -13,7 +13,7 @@ use Rattle.flat_model.specs.Words.{pages_in}
 use Rattle.vm_world.specs.FramesFit.{FilesFit}
 use Rattle.vm_world.specs.MemoryFits.{MemoryFits}
 use Rattle.vm_world.specs.Segments.{Spaces}
-use Rattle.vm_world.specs.Serving.{TakesFrames, ModifiesNone}
+use Rattle.vm_world.specs.Serving.{TakesFrames, ModifiesNone, AreReplaced}
 use Rattle.vm_world.specs.World.{World, file_name, is_unpushed, page_exists}
 use Rattle.vm_world.proofs.PageNames.{file-apart, not-slot}
 use Rattle.vm_world.specs.declared.wants.Wants.{Wants}
@@ -24,6 +24,7 @@ use Rattle.seg_ops.proofs.Composed.{keeps-same}
 use Rattle.seg_ops.proofs.StillSteps.{memory_of}
 use Rattle.seg_vn.specs.Brings.{IsBrought, BringsPage}
 use Rattle.seg_vn.proofs.Takes.{takes-none}
+use Rattle.seg_vn.proofs.Replacements.{none-replaced}
 
 -- a page below a file's length exists
 pub below-exists : (files : FilesSeen) (anon : AnonSlotsSeen) (f i : ℕ) → FilesFit files → f < length files.files → i < pages_in (vnode_at files f).info.length → IsTrue (page_exists files anon (file_name f i))
@@ -37,25 +38,25 @@ blank-file files anon f i fit lt = ap (λ (b : Bool). cond b (not (slice_index_o
 -- THE ANSWERS: it is home, or moving; it is fetched; and a frame was taken for it.
 pub home-brings : (w : World) (spaces : Spaces) (pending : ℕ) (name : PageName) (frame : ℕ) → MemoryFits (memory_of w spaces) → residence w.store name ≡ Home frame
     → BringsPage (memory_of w spaces) (memory_of w spaces) pending pending name (Ok tt)
-home-brings w spaces pending name frame f home = record { first = takes-none w w spaces pending (keeps-same w spaces f); means = (frame, home) }
+home-brings w spaces pending name frame f home = record { first = takes-none w w spaces pending (keeps-same w spaces f); replaced = none-replaced w w; means = (frame, home) }
 
 pub moving-brings : (w : World) (spaces : Spaces) (pending : ℕ) (name : PageName) (seat : ℕ) → MemoryFits (memory_of w spaces) → residence w.store name ≡ Moving seat
     → BringsPage (memory_of w spaces) (memory_of w spaces) pending pending name (Err (wants.Seat (hold.Page seat)))
-moving-brings w spaces pending name seat f away = record { first = takes-none w w spaces pending (keeps-same w spaces f); means = λ calls of wants. (name, inl wants, away) }
+moving-brings w spaces pending name seat f away = record { first = takes-none w w spaces pending (keeps-same w spaces f); replaced = none-replaced w w; means = (λ calls of wants. (name, inl wants, away), λ n frame home is. (home, is)) }
 
 fetched : (old new : World) (spaces : Spaces) (name : PageName) (answer : Wants) → residence old.store name ≡ Absent → ModifiesNone old new → FetchesPage (memory_of new spaces) name answer → IsBrought (memory_of old spaces) (memory_of new spaces) name (Err answer)
 fetched old new spaces name (wants.Transfer plan) absent modified f = (f, absent, modified)
-fetched old new spaces name (wants.Seat h) absent modified f = f
+fetched old new spaces name (wants.Seat h) absent modified f = (f, modified)
 
 pub fetch-brings : (old new : World) (spaces : Spaces) (pending : ℕ) (name : PageName) (answer : Wants) → KeepsPages old new spaces → residence old.store name ≡ Absent → ModifiesNone old new → FetchesPage (memory_of new spaces) name answer
     → BringsPage (memory_of old spaces) (memory_of new spaces) pending pending name (Err answer)
 fetch-brings old new spaces pending name answer keeps absent modified f =
-    record { first = takes-none old new spaces pending keeps; means = fetched old new spaces name answer absent modified f }
+    record { first = takes-none old new spaces pending keeps; replaced = none-replaced old new; means = fetched old new spaces name answer absent modified f }
 
 pub some-frame : (o : Option ℕ) (P : ℕ → Type 0) → IsSome o → IfSome o P → (frame : ℕ) × P frame
 some-frame None P some is = absurd (let z : false ≡ true = some in cc)
 some-frame (Some frame) P some is = (frame, is)
 
-pub fill-brings : (old new : World) (spaces : Spaces) (pending more : ℕ) (name : PageName) (o : Option ℕ) → TakesFrames (memory_of old spaces) new pending more → IsSome o → IfSome o (λ (frame : ℕ). residence new.store name ≡ Home frame)
+pub fill-brings : (old new : World) (spaces : Spaces) (pending more : ℕ) (name : PageName) (o : Option ℕ) (first : TakesFrames (memory_of old spaces) new pending more) → AreReplaced old new first.cut → IsSome o → IfSome o (λ (frame : ℕ). residence new.store name ≡ Home frame)
     → BringsPage (memory_of old spaces) (memory_of new spaces) pending more name (Ok tt)
-fill-brings old new spaces pending more name o first some home = record { first = first; means = some-frame o (λ (frame : ℕ). residence new.store name ≡ Home frame) some home }
+fill-brings old new spaces pending more name o first replaced some home = record { first = first; replaced = replaced; means = some-frame o (λ (frame : ℕ). residence new.store name ≡ Home frame) some home }

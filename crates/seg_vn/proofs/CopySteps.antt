@@ -1,5 +1,5 @@
 -- Stores to private pages that aren't their cell's alone, by the steps that they take.
-use Rattle.std.proofs.Common.{◌≡◌, ℕ, ◌<◌, ◌+◌, Bool, true, false, List, length, Option, Some, None, refl, sym, ap, ◌∙◌, inl, subst, arith, slice_set, Result, Ok, Err}
+use Rattle.std.proofs.Common.{◌≡◌, ℕ, ◌<◌, ◌+◌, Bool, true, false, List, length, Option, Some, None, refl, sym, ap, ◌∙◌, inl, subst, arith, slice_set, Result, Ok, Err, not}
 use Rattle.std.specs.Prelude.{IsTrue, ◌||◌, is_some, nat_lt, option_map, option_and_then, unwrap_or}
 use Rattle.std.specs.Option.{option_or, option_map_or}
 use Rattle.std.specs.FinSet as set
@@ -30,7 +30,7 @@ use Rattle.vm_world.specs.FlatMemory.{cell_of, flat_memory, own_without_slot}
 use Rattle.vm_world.specs.MemoryFits.{MemoryFits}
 use Rattle.vm_world.specs.Pages.{page_value, contents_of}
 use Rattle.vm_world.specs.Segments.{Spot, Spaces, spot_at, own_slot, shown_name, object_name}
-use Rattle.vm_world.specs.Serving.{TakesFrames, KeepsWanted, ModifiesNone}
+use Rattle.vm_world.specs.Serving.{TakesFrames, KeepsWanted, ModifiesNone, AreReplaced}
 use Rattle.vm_world.specs.StateSteps.{PendsTails}
 use Rattle.vm_world.specs.Wants.{MakesSlotFor, ShowsPage, accessed_page, object_has, shows_page}
 use Rattle.vm_world.specs.World.{World, slot_in, slot_name, file_name, is_unpushed, page_exists, world_table}
@@ -63,6 +63,7 @@ use Rattle.seg_vn.proofs.AnySteps.{makes-copy, own-gets, own-shown, pends-then, 
 use Rattle.seg_vn.proofs.Faulted.{access-wants, wanted-name, absent-home}
 use Rattle.seg_vn.proofs.SlotsDue.{due-own}
 use Rattle.seg_vn.proofs.Takes.{takes-none}
+use Rattle.seg_vn.proofs.Replacements.{none-replaced}
 
 -- bits that are gathered leave the lists and the names
 pub gathered-next : (s new : StoreSeen) (o : Option Dropped) → new ≡ with_dropped_gathered s o → next_frame new ≡ next_frame s
@@ -94,20 +95,22 @@ pub copy-spot : (w : World) (spaces : Spaces) (p q m i : ℕ) (x : Spot) (slot :
 copy-spot w spaces p q m i x slot shown c = record { here = c.here; own = c.own; place = c.place }
 
 -- frames that are taken, where the last held no page
-pub takes-more : (old freed : World) (spaces : Spaces) (a b c : ℕ) → TakesFrames (memory_of old spaces) freed a b → PendsTails freed (is_name (next_name freed.store)) b c → next_name freed.store ≡ None → freed.files ≡ old.files → TakesFrames (memory_of old spaces) freed a c
+abbrev pub takes-more : (old freed : World) (spaces : Spaces) (a b c : ℕ) → TakesFrames (memory_of old spaces) freed a b → PendsTails freed (is_name (next_name freed.store)) b c → next_name freed.store ≡ None → freed.files ≡ old.files → TakesFrames (memory_of old spaces) freed a c
 takes-more old freed spaces a b c t second none files = record { cut = t.cut; step = t.step; pends = pends-then old freed t.cut a b c t.pends second none files; took = t.took }
 
 -- THE CELL GOT ITS PAGE, and the translation of that is loaded.
-pub serves-after : (old freed made new : World) (spaces : Spaces) (p q : ℕ) (x : Spot) (pending more frame : ℕ) → TakesFrames (memory_of old spaces) freed pending more
+pub serves-after : (old freed made new : World) (spaces : Spaces) (p q : ℕ) (x : Spot) (pending more frame : ℕ) (first : TakesFrames (memory_of old spaces) freed pending more) → AreReplaced old new first.cut → IsTrue (shows_page old x)
     → ChangesMemory p (memory_of freed spaces) (memory_of made spaces) (λ F G. G ≡ with_own_shown F p q) → KeepsPages made new spaces → translation_at new.hat.places p q ≡ Some (fresh_translation p q frame true) → SlotsAfter old new x true (Ok fault.Loaded)
     → ServesFault (memory_of old spaces) (memory_of new spaces) pending more p q x true (Ok fault.Loaded)
-serves-after old freed made new spaces p q x pending more frame first makes shows loaded slots = record {
+serves-after old freed made new spaces p q x pending more frame first replaced some makes shows loaded slots = record {
   mid = freed;
   first = first;
   acts = call_rule.joined p (memory_of freed spaces) (memory_of made spaces) (memory_of new spaces) (λ F. with_own_shown F p q) (λ F. F)
       (λ born notes nf tell whole. own_shown_law.whole (flat_memory (memory_of freed spaces) born notes) p q whole) makes (changes-kept p made new spaces makes.memory shows);
   ends = tt;
   slots = slots;
+  past = sym (ap not some);
+  replaced = replaced;
   means = record { translation = fresh_translation p q frame true; loaded = loaded; writable = λ is. refl };
 }
 
@@ -269,18 +272,18 @@ zeros-stay w v (Some name) stay files anon zs = (
 pub away-serves : (w : World) (spaces : Spaces) (p q : ℕ) (x : Spot) (write : Bool) (pending seat : ℕ) (name : PageName) → MemoryFits (memory_of w spaces) → spot_at spaces p q ≡ Some x → IsTrue (shows_page w x) → shown_name w.maps x ≡ Some name
     → residence w.store name ≡ Moving seat → ServesFault (memory_of w spaces) (memory_of w spaces) pending pending p q x write (Err (wants.Seat (hold.Page seat)))
 away-serves w spaces p q x write pending seat name fits here some shows away =
-    serves-kept w w spaces p q x write pending pending (Err (wants.Seat (hold.Page seat))) (takes-none w w spaces pending (keeps-same w spaces fits)) (λ born notes. refl) (record { counts = refl; places = refl })
-    (λ calls call acc. (name, inl (access-wants (memory_of w spaces) p q x call name (accessed write q call acc) (record { here = here; some = some }) shows), away))
+    serves-kept w w spaces p q x write pending pending (Err (wants.Seat (hold.Page seat))) (takes-none w w spaces pending (keeps-same w spaces fits)) (none-replaced w w) (sym (ap not some)) (λ born notes. refl) (record { counts = refl; places = refl })
+    (λ calls call acc. (name, inl (access-wants (memory_of w spaces) p q x call name (accessed write q call acc) (record { here = here; some = some }) shows), away), λ n frame home is. (home, is))
 
-pub fetch-serves : (old mid : World) (spaces : Spaces) (p q : ℕ) (x : Spot) (write : Bool) (pending : ℕ) (name : PageName) (answer : Wants) → KeepsPages old mid spaces → KeepsSlots old mid → residence old.store name ≡ Absent → ModifiesNone old mid
+pub fetch-serves : (old mid : World) (spaces : Spaces) (p q : ℕ) (x : Spot) (write : Bool) (pending : ℕ) (name : PageName) (answer : Wants) → IsTrue (shows_page old x) → KeepsPages old mid spaces → KeepsSlots old mid → residence old.store name ≡ Absent → ModifiesNone old mid
     → ShowsPage (memory_of mid spaces) p q x → shown_name mid.maps x ≡ Some name → FetchesPage (memory_of mid spaces) name answer → ServesFault (memory_of old spaces) (memory_of mid spaces) pending pending p q x write (Err answer)
-fetch-serves old mid spaces p q x write pending name (wants.Transfer plan) keeps kept absent modified there shows f =
-    serves-kept old mid spaces p q x write pending pending (Err (wants.Transfer plan)) (takes-none old mid spaces pending keeps) (λ born notes. refl) kept (record {
+fetch-serves old mid spaces p q x write pending name (wants.Transfer plan) some keeps kept absent modified there shows f =
+    serves-kept old mid spaces p q x write pending pending (Err (wants.Transfer plan)) (takes-none old mid spaces pending keeps) (none-replaced old mid) (sym (ap not some)) (λ born notes. refl) kept (record {
       runs = λ call acc. record { may = f.may (p, call) (access-wants (memory_of mid spaces) p q x call name (accessed write q call acc) there shows); ready = f.ready; frame = f.frame };
       wanted = λ call acc other frame wants home. absurd (absent-home (residence old.store name) frame absent
           (ap (residence old.store) (sym (wanted-name (memory_of mid spaces) p q x call name other (accessed write q call acc) there.here shows wants)) ∙ home));
       modified = modified;
     })
-fetch-serves old mid spaces p q x write pending name (wants.Seat h) keeps kept absent modified there shows f =
-    serves-kept old mid spaces p q x write pending pending (Err (wants.Seat h)) (takes-none old mid spaces pending keeps) (λ born notes. refl) kept
-    (λ calls call acc. f calls (p, call) (access-wants (memory_of mid spaces) p q x call name (accessed write q call acc) there shows))
+fetch-serves old mid spaces p q x write pending name (wants.Seat h) some keeps kept absent modified there shows f =
+    serves-kept old mid spaces p q x write pending pending (Err (wants.Seat h)) (takes-none old mid spaces pending keeps) (none-replaced old mid) (sym (ap not some)) (λ born notes. refl) kept
+    (λ calls call acc. f calls (p, call) (access-wants (memory_of mid spaces) p q x call name (accessed write q call acc) there shows), modified)

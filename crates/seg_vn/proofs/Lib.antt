@@ -5,14 +5,16 @@ pub mod LeftSegments
 pub mod SpacesFrom
 pub mod ClearedSpaces
 pub mod Takes
+pub mod Replacements
 pub mod Brings
 pub mod FilePlaces
 pub mod Faulted
 pub mod SlotsDue
 pub mod AnyFaults
 pub mod AnyPlaces
-mod AnySteps
+pub mod AnySteps
 mod Copies
 mod CopySteps
 pub mod PlacesShown
+pub mod ShownSome
 pub mod HomeFrames

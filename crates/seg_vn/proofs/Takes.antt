@@ -8,6 +8,7 @@ use Rattle.page_store.specs.Steps.{next_name}
 use Rattle.vnode_files.specs.Files.{FilesSeen, vnode_at}
 use Rattle.flat_model.specs.Step.{is_bit_set}
 use Rattle.flat_model.specs.Words.{pages_in}
+use Rattle.vm_world.specs.FlatMemory.{Memory}
 use Rattle.vm_world.specs.MemoryFits.{MemoryFits}
 use Rattle.vm_world.specs.Segments.{Spaces}
 use Rattle.vm_world.specs.Serving.{TakesFrames, LosesFrame}
@@ -23,12 +24,21 @@ or-false true = refl
 or-false false = refl
 
 -- NO FRAME is taken.
-pub takes-none : (old new : World) (spaces : Spaces) (pending : ℕ) → KeepsPages old new spaces → TakesFrames (memory_of old spaces) new pending pending
+abbrev pub takes-none : (old new : World) (spaces : Spaces) (pending : ℕ) → KeepsPages old new spaces → TakesFrames (memory_of old spaces) new pending pending
 takes-none old new spaces pending keeps = record {
   cut = λ name. false;
   step = keeps;
   pends = record { bits = λ f lt. sym (or-false (is_bit_set pending f)); below = λ below. below };
   took = λ name cut. absurd (let z : false ≡ true = cut in cc);
+}
+
+-- the same, with other numbers for the tails that are pending
+abbrev pub takes-as : (old : Memory) (new : World) (a b c d : ℕ) → b ≡ a → d ≡ c → TakesFrames old new a c → TakesFrames old new b d
+takes-as old new a b c d first last t = record {
+  cut = t.cut;
+  step = t.step;
+  pends = subst (λ (k : ℕ). PendsTails old.world t.cut k d) (sym first) (subst (λ (k : ℕ). PendsTails old.world t.cut a k) (sym last) t.pends);
+  took = t.took;
 }
 
 -- the tails that are pending, by the files' lengths alone
@@ -39,7 +49,7 @@ pends-files u v cut pending more files t = record {
 }
 
 -- FRAMES ARE TAKEN after a step that keeps all pages, names and files.
-pub takes-later : (old mid new : World) (spaces : Spaces) (pending more : ℕ) → MemoryFits (memory_of old spaces) → KeepsPages old mid spaces → mid.store.names ≡ old.store.names → mid.files ≡ old.files
+abbrev pub takes-later : (old mid new : World) (spaces : Spaces) (pending more : ℕ) → MemoryFits (memory_of old spaces) → KeepsPages old mid spaces → mid.store.names ≡ old.store.names → mid.files ≡ old.files
     → TakesFrames (memory_of mid spaces) new pending more → TakesFrames (memory_of old spaces) new pending more
 takes-later old mid new spaces pending more f first names files t = record {
   cut = t.cut;
@@ -49,7 +59,7 @@ takes-later old mid new spaces pending more f first names files t = record {
 }
 
 -- FRAMES ARE TAKEN before a step that keeps all pages and names.
-pub takes-then : (old mid new : World) (spaces : Spaces) (pending more : ℕ) → MemoryFits (memory_of old spaces) → TakesFrames (memory_of old spaces) mid pending more → KeepsPages mid new spaces → new.store.names ≡ mid.store.names
+abbrev pub takes-then : (old mid new : World) (spaces : Spaces) (pending more : ℕ) → MemoryFits (memory_of old spaces) → TakesFrames (memory_of old spaces) mid pending more → KeepsPages mid new spaces → new.store.names ≡ mid.store.names
     → TakesFrames (memory_of old spaces) new pending more
 takes-then old mid new spaces pending more f t second names = record {
   cut = λ name. t.cut name || false;
@@ -60,16 +70,25 @@ takes-then old mid new spaces pending more f t second names = record {
       record { frame = l.frame; held = l.held; taken = λ is. l.taken (ap (λ (ns : List (Option PageName)). name_at ns l.frame) (sym names) ∙ is) };
 }
 
-lost-name : (old new : World) (o : Option PageName) (name : PageName) → IfSome o (λ (n : PageName). LosesFrame old new n) → is_name o name ≡ true → LosesFrame old new name
+pub lost-name : (old new : World) (o : Option PageName) (name : PageName) → IfSome o (λ (n : PageName). LosesFrame old new n) → is_name o name ≡ true → LosesFrame old new name
 lost-name old new None name took is = absurd (let z : false ≡ true = is in cc)
 lost-name old new (Some n) name took is = subst (LosesFrame old new) (let z : Some n ≡ Some name = is_name-true (Some n) name is in cc) took
 
 -- THE NEXT FRAME is taken.
-pub takes-next : (old new : World) (spaces : Spaces) (pending more : ℕ) → WorldStep old new spaces stays (is_name (next_name old.store)) → PendsTails old (is_name (next_name old.store)) pending more
+abbrev pub takes-next : (old new : World) (spaces : Spaces) (pending more : ℕ) → WorldStep old new spaces stays (is_name (next_name old.store)) → PendsTails old (is_name (next_name old.store)) pending more
     → IfSome (next_name old.store) (λ (n : PageName). LosesFrame old new n) → TakesFrames (memory_of old spaces) new pending more
 takes-next old new spaces pending more step pends took = record {
   cut = is_name (next_name old.store);
   step = step;
   pends = pends;
   took = λ name cut. lost-name old new (next_name old.store) name took cut;
+}
+
+-- the same, to a world that is the same
+abbrev pub takes-there : (old : Memory) (mid new : World) (pending more : ℕ) → new ≡ mid → TakesFrames old mid pending more → TakesFrames old new pending more
+takes-there old mid new pending more same t = record {
+  cut = t.cut;
+  step = subst (λ (w : World). WorldStep old.world w old.spaces stays t.cut) (sym same) t.step;
+  pends = t.pends;
+  took = λ name is. subst (λ (w : World). LosesFrame old.world w name) (sym same) (t.took name is);
 }

@@ -6,7 +6,7 @@ use Rattle.anon_slots.specs.Slots.{count_at}
 use Rattle.page_hash.specs.declared.PageName.{PageName}
 use Rattle.page_store.specs.Notes.{Notes}
 use Rattle.page_store.specs.Seen.{residence}
-use Rattle.page_store.specs.Steps.{next_name}
+use Rattle.page_store.specs.Steps.{next_name, next_frame}
 use Rattle.page_store.specs.declared.residence.Residence.TheVariants.{Absent}
 use Rattle.hat_layer.specs.Pool.{translation_at}
 use Rattle.flat_model.specs.Flat.{shown}
@@ -15,7 +15,7 @@ use Rattle.vm_types.specs.Prot.{can_read, can_write}
 use Rattle.vm_types.specs.declared.call.Kind.TheVariants.{Private}
 use Rattle.vm_types.specs.declared.call.Object.TheVariants as object
 use Rattle.vm_world.specs.CallSteps.{ChangesMemory}
-use Rattle.vm_world.specs.FlatMemory.{cell_of, flat_memory, own_without_slot}
+use Rattle.vm_world.specs.FlatMemory.{cell_of, flat_memory, own_without_slot, Memory}
 use Rattle.vm_world.specs.MemoryFits.{MemoryFits}
 use Rattle.vm_world.specs.Pages.{contents_of}
 use Rattle.vm_world.specs.Segments.{Spot, Spaces, spot_at, own_slot, shown_name}
@@ -25,6 +25,8 @@ use Rattle.vm_world.specs.World.{World, slot_in, is_unpushed, page_exists}
 use Rattle.seg_ops.specs.OwnPages.{with_own_shown}
 use Rattle.seg_ops.specs.Slots.{GivesSlot, MakesHome, OwnsAlone}
 use Rattle.seg_vn.specs.Shown.{ZerosPlace}
+use Rattle.vm_world.specs.Serving.{TakesFrames}
+use Rattle.page_hash.specs.Names.{name_at}
 
 -- A place shows this page, which a translation may lead to: a writable one only where the page may be written where it is; and a store's is.
 pub record PagePlace (w : World) (spaces : Spaces) (p q : ℕ) (x : Spot) (name : PageName) (write writable : Bool) : Type 0 where
@@ -65,6 +67,11 @@ CellShows w spaces x slot bytes = slot ≡ None → (born : set.FinSet nat_cmp) 
 abbrev pub ShowsZeros : World → Option PageName → Type 0
 ShowsZeros w None = Unit {0}
 ShowsZeros w (Some name) = (residence w.store name ≡ Absent) × IsTrue (is_unpushed w.files w.anon name) × IsTrue (page_exists w.files w.anon name)
+
+-- Frames are taken for other pages: the one that is taken next, where it holds a page.
+pub record TakesNext (old : Memory) (new : World) (pending more : ℕ) : Type 0 where
+  pub takes : TakesFrames old new pending more
+  pub next : (name : PageName) → IsTrue (takes.cut name) → (frame : ℕ) × (next_frame new.store ≡ Some frame) × (name_at old.world.store.names frame ≡ Some name)
 
 -- The place is a private page's own.
 pub record OwnSpot (spaces : Spaces) (p q m i : ℕ) (x : Spot) : Type 0 where

@@ -5,7 +5,7 @@ use Rattle.page_store.specs.Seen.{residence}
 use Rattle.page_store.specs.declared.residence.Residence.TheVariants.{Home, Absent}
 use Rattle.vm_world.specs.FlatMemory.{Memory}
 use Rattle.vm_world.specs.Segments.{Spaces}
-use Rattle.vm_world.specs.Serving.{TakesFrames, ModifiesNone}
+use Rattle.vm_world.specs.Serving.{AreReplaced, TakesFrames, ModifiesNone}
 use Rattle.vm_world.specs.Words.{memory}
 use Rattle.vm_world.specs.declared.world.World as rust
 use Rattle.seg_ops.specs.Plans.{NeedsPlan, FetchesPage}
@@ -16,10 +16,11 @@ use Rattle.vm_world.specs.declared.wants.Wants.TheVariants.{Transfer, Seat}
 abbrev pub IsBrought : Memory → Memory → PageName → Result Unit Wants → Type 0
 IsBrought old new name (Ok done) = (frame : ℕ) × (residence new.world.store name ≡ Home frame)
 IsBrought old new name (Err (Transfer plan)) = NeedsPlan new name plan × (residence old.world.store name ≡ Absent) × ModifiesNone old.world new.world
-IsBrought old new name (Err (Seat h)) = FetchesPage new name (Seat h)
+IsBrought old new name (Err (Seat h)) = FetchesPage new name (Seat h) × ModifiesNone old.world new.world
 
 pub record BringsPage (old new : Memory) (pending more : ℕ) (name : PageName) (answer : Result Unit Wants) : Type 0 where
   pub first : TakesFrames old new.world pending more
+  pub replaced : AreReplaced old.world new.world first.cut
   pub means : IsBrought old new name answer
 
 -- The same of the world before and after.

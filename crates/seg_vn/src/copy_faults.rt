@@ -9,11 +9,10 @@ ghost use Rattle.page_store.specs.Steps.{next_frame, next_name, home_bytes};
 ghost use Rattle.anon_map.specs.Maps.{IsMapThere, places_of};
 ghost use Rattle.anon_slots.specs.Slots.{count_at};
 ghost use Rattle.vm_world.specs.Segments.{Spaces, Spot};
-ghost use Rattle.vm_world.specs.Serving.{TakesFrames};
 ghost use Rattle.vm_world.specs.Words.{memory, Fits, IsFit, IsKnown, OneIsHome, OneIsHomeBeside, TwoAreHome, OnlyFrames, SameFiles, SameFilesAndHat};
 ghost use Rattle.vm_world.specs.World.{world_seen, slot_name, slot_in, is_unpushed, page_exists};
 ghost use Rattle.seg_ops.specs.Slots.{OwnsAlone};
-ghost use Rattle.seg_vn.specs.AnyPlaces.{CopyPlace, GetsOwn, OwnSpot, ShowsZeros};
+ghost use Rattle.seg_vn.specs.AnyPlaces.{CopyPlace, GetsOwn, OwnSpot, ShowsZeros, TakesNext};
 ghost use Rattle.seg_ops.specs.Faults.{FaultServed};
 
 use crate::any_pages::is_unpushed;
@@ -87,7 +86,7 @@ fn clear_way<D: Disk>(world: &mut World<D>, space: u32, page: u32)
     ensures available { IsSome (next_frame world.new.store) }
     ensures free { next_name world.new.store ≡ None }
     ensures takes { (spaces : Spaces) → Fits world.old spaces
-        → TakesFrames (memory world.old spaces) (world_seen world.new) world.old.pending
+        → TakesNext (memory world.old spaces) (world_seen world.new) world.old.pending
         world.new.pending }
     // What stays.
     ensures homes { (page : PageName) (frame : ℕ)

@@ -1,5 +1,5 @@
 -- A move of a hand, as an event.
-use Rattle.std.proofs.Common.{◌≡◌, ℕ, ◌||◌, Bool, true, false, Option, Some, None, refl, sym, ap, subst}
+use Rattle.std.proofs.Common.{◌≡◌, ◌<◌, ℕ, length, ◌||◌, Bool, true, false, Option, Some, None, refl, sym, ap, subst}
 use Rattle.std.specs.Prelude.{IfSome, option_map}
 use Rattle.flat_model.specs.Step.{is_bit_set}
 use Rattle.page_store.specs.declared.plan.Plan.{Plan}
@@ -20,15 +20,15 @@ no-tails w pending = record { bits = λ g lt. or-false (is_bit_set pending g); b
     or-false false = refl
 
 -- THE EVENT.
-pub hand-event : (s : KernelState) (new : World) (seat : ℕ) (answer : Option Plan) → KeepsPages s.memory.world new s.memory.spaces → IfSome answer (CanRunPlan (record s.memory { world = new }) None)
+pub hand-event : (s : KernelState) (new : World) (seat : ℕ) (answer : Option Plan) → seat < length s.syncs → KeepsPages s.memory.world new s.memory.spaces → IfSome answer (CanRunPlan (record s.memory { world = new }) None)
     → IsEvent seat s None (after_hand s new (option_map (kept_of_clock seat) answer)) None
-hand-event s new seat None keeps runs = state_rule.calm s new (λ name. false) s.pending seat None keeps (no-tails s.memory.world s.pending)
-hand-event s new seat (Some p) keeps runs =
-    state_rule.plans s new (λ name. false) s.pending (kept_of_clock seat p) keeps (no-tails s.memory.world s.pending) runs (λ of e. absurd (let z : ◌≡◌ {A = Option Caller} None (Some of) = e in cc))
+hand-event s new seat None seated keeps runs = state_rule.calm s new (λ name. false) s.pending seat None keeps (no-tails s.memory.world s.pending)
+hand-event s new seat (Some p) seated keeps runs =
+    state_rule.plans s new (λ name. false) s.pending (kept_of_clock seat p) keeps (no-tails s.memory.world s.pending) runs seated (λ of e. absurd (let z : ◌≡◌ {A = Option Caller} None (Some of) = e in cc))
 
-pub hand-event-as : (s t : KernelState) (new : World) (seat : ℕ) (answer : Option Plan) (kept : Option KeptPlan) (pending : ℕ) → s ≡ t → kept ≡ option_map (kept_of_clock seat) answer → pending ≡ s.pending → KeepsPages s.memory.world new s.memory.spaces
+pub hand-event-as : (s t : KernelState) (new : World) (seat : ℕ) (answer : Option Plan) (kept : Option KeptPlan) (pending : ℕ) → s ≡ t → seat < length t.syncs → kept ≡ option_map (kept_of_clock seat) answer → pending ≡ s.pending → KeepsPages s.memory.world new s.memory.spaces
     → IfSome answer (CanRunPlan (record s.memory { world = new }) None) → IsEvent seat t None (record (after_hand s new kept) { pending = pending }) None
-hand-event-as s t new seat answer kept pending same is tails keeps runs =
+hand-event-as s t new seat answer kept pending same seated is tails keeps runs =
     subst (λ (x : KernelState). IsEvent seat x None (record (after_hand s new kept) { pending = pending }) None) same
     (subst (λ (k : Option KeptPlan). IsEvent seat s None (record (after_hand s new k) { pending = pending }) None) (sym is)
-    (subst (λ (n : ℕ). IsEvent seat s None (record (after_hand s new (option_map (kept_of_clock seat) answer)) { pending = n }) None) (sym tails) (hand-event s new seat answer keeps runs)))
+    (subst (λ (n : ℕ). IsEvent seat s None (record (after_hand s new (option_map (kept_of_clock seat) answer)) { pending = n }) None) (sym tails) (hand-event s new seat answer (subst (λ (x : KernelState). seat < length x.syncs) (sym same) seated) keeps runs)))

@@ -217,21 +217,12 @@ module _ (s : KernelState) (new : World) (seat : ℕ) (f : FlightSeen)
       or-false true = refl
       or-false false = refl
 
-  same-home : (d : DiskSeen) → home f.disk ≡ home d → f.disk ≡ d
-  same-home d e = cc
-
-  back : (sent : Sent) → IsPerformed sent.note f → bay_at new.store.bays sent.note.number ≡ home f.disk
-  back sent p = ap (bay_at new.store.bays) (sym p.number) ∙ disk
-
-  on : (sent : Sent) → IsPerformed sent.note f → CountsOn sent.note.disk f.disk
-  on sent p = record { size = p.size; later = p.later; most = top }
-
-  comes : (sent : Sent) → IsPerformed sent.note f → ComesBack sent.note new
-  comes sent p d at = subst (λ (x : DiskSeen). CountsOn sent.note.disk x) (same-home d (sym (back sent p) ∙ at)) (on sent p)
+  comes : (sent : Sent) → IsPerformed sent.note f → ComesBack sent.note f new
+  comes sent p = record { performed = p; disk = ap (bay_at new.store.bays) (sym p.number) ∙ disk; most = top }
 
   -- without an entry
   quiet-at : (opening : Flat) (seats : Seats) (sent : Sent) → StateFits opening s seats → seats seat ≡ Some sent → IsPerformed sent.note f → IsEvent seat s (Some sent) (after_step s new s.pending) None
-  quiet-at opening seats sent fit is p = state_rule.ends s new (λ name. false) s.pending seat sent (world-step opening seats sent fit is p) pends (comes sent p)
+  quiet-at opening seats sent fit is p = state_rule.ends s new (λ name. false) s.pending seat sent f (world-step opening seats sent fit is p) pends (comes sent p)
 
   pub quiet-end : (opening : Flat) (seats : Seats) (mine : Sent) → StateFits opening s seats → seats seat ≡ Some mine → IsPerformed mine.note f
       → (sent : Sent) → IsPerformed sent.note f → IsEvent seat s (Some sent) (after_step s new s.pending) None
@@ -247,11 +238,7 @@ module _ (s : KernelState) (new : World) (seat : ℕ) (f : FlightSeen)
       → LocksAfter (io_entry q call f.number f.before f.disk.faults s.pending) s.calls calls → StartsAfter (io_entry q call f.number f.before f.disk.faults s.pending) s.syncs syncs → length syncs ≡ length s.syncs
       → IsEvent seat s (Some sent) (with_entry_made (after_step s new s.pending) (io_entry q call f.number f.before f.disk.faults s.pending) calls syncs) None
   failed-at opening seats sent q call calls syncs fit is p for_call bad locks starts count =
-      let same : io_entry q call f.number f.before f.disk.faults s.pending ≡ io_entry q call sent.note.number sent.note.disk.faults f.disk.faults s.pending =
-      ap (λ (k : ℕ). io_entry q call k f.before f.disk.faults s.pending) p.number ∙ ap (λ (k : ℕ). io_entry q call sent.note.number k f.disk.faults s.pending) p.before in
-      subst (λ (e : Entry). IsEvent seat s (Some sent) (with_entry_made (after_step s new s.pending) e calls syncs) None) (sym same)
-      (failure_rule.fails s new (λ name. false) s.pending seat q call sent f.disk calls syncs (world-step opening seats sent fit is p) pends for_call (fit.plans.sent seat sent (q, call) is for_call).own (back sent p) (on sent p) (p.risen bad)
-      (subst (λ (e : Entry). LocksAfter e s.calls calls) same locks) (subst (λ (e : Entry). StartsAfter e s.syncs syncs) same starts) count)
+      failure_rule.fails s new (λ name. false) s.pending seat q call sent f calls syncs (world-step opening seats sent fit is p) pends for_call (fit.plans.sent seat sent (q, call) is for_call).own (comes sent p) bad locks starts count
 
   pub failed-end : (opening : Flat) (seats : Seats) (own : Sent) (q : ℕ) (call : Call) (calls syncs : List (Option ℕ)) → StateFits opening s seats → seats seat ≡ Some own → IsBack own f (Some (q, call)) → f.outcome ≡ failed
       → LocksAfter (io_entry q call f.number f.before f.disk.faults s.pending) s.calls calls → StartsAfter (io_entry q call f.number f.before f.disk.faults s.pending) s.syncs syncs → length syncs ≡ length s.syncs

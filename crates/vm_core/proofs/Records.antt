@@ -74,6 +74,7 @@ files-fit-kept F G k sound fit =
     let same = blocks-same F G k in
     let alike = lie-alike F G k.disks k.infos in
     record {
+      small = λ number blocks is. fit.small number blocks (ap (λ (m : finite.FinMap _ ℕ). finite.get m number) (sym k.disks) ∙ is);
       each = sound;
       disjoint = subst AreDisjoint (sym same) fit.disjoint;
       set = λ f lt. let count = count-kept F G k in

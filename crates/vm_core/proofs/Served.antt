@@ -1,11 +1,13 @@
 -- A call that is served becomes an event.
-use Rattle.std.proofs.Common.{◌≡◌, ◌≢◌, ℕ, zero, suc, ◌-◌, ◌<◌, ◌≤◌, ◌==◌, ◌||◌, Bool, true, false, cond, List, [], length, Option, Some, None, refl, sym, ap, ◌∙◌, inl, inr, subst, arith, get_or-set_same, get_or-set_other, length-set}
+use Rattle.std.proofs.Common.{◌≡◌, ◌≢◌, ℕ, zero, suc, ◌-◌, ◌<◌, ◌≤◌, ◌==◌, ◌||◌, Bool, true, false, cond, List, [], length, Option, Some, None, refl, sym, ap, ◌∙◌, inl, inr, ◌⊎◌, subst, arith, get_or-set_same, get_or-set_other, length-set}
 use Rattle.std.specs.Prelude.{Result, Ok, Err, IfOk, OnErr, ◌↔◌, filter, slice_index_or, slice_set, IsSome, IsSomeAnd, MatchOption, MatchBool}
 use Rattle.std.proofs.lemmas.Bool.{cases_eq}
+use Rattle.std.proofs.lemmas.List.{get_or_past}
 use Rattle.std.proofs.lemmas.Bool.Decides.{eqb_tells}
 use Rattle.core_arena.specs.Bytes.{bytes_at}
 use Rattle.flat_model.specs.Births.{is_birth, is_done}
 use Rattle.flat_model.specs.Flat.{Flat}
+use Rattle.flat_model.specs.History.{IsStart}
 use Rattle.flat_model.specs.OpenLaws.{last_entry, IsOpenPart, FollowsOn, MayFollow}
 use Rattle.flat_model.specs.Told.{entries_of}
 use Rattle.flat_model.specs.Words.{page}
@@ -22,13 +24,14 @@ use Rattle.page_store.proofs.AwayLemmas.{away_law}
 use Rattle.vm_types.specs.Parts.{part_file, file_of_call}
 use Rattle.vm_types.specs.WellFormed.{IsWellFormed}
 use Rattle.vm_types.specs.declared.call.Call.{Call}
-use Rattle.vm_types.specs.declared.call.Call.TheVariants.{Load, Store, Map, Exit, Fork}
+use Rattle.vm_types.specs.declared.call.Call.TheVariants.{Load, Store, Map, Sync, Exit, Fork}
 use Rattle.vm_types.specs.declared.call.Entry.{Entry}
 use Rattle.vm_types.specs.declared.call.Reply.{Reply}
 use Rattle.vm_types.specs.declared.call.Reply.TheVariants as reply
+use Rattle.vm_types.specs.declared.call.Reply.TheVariants.{Synced}
 use Rattle.vm_world.specs.CallSteps.{StaysAlive}
 use Rattle.vm_world.specs.EntryLaws.{LocksAfter, StartsAfter}
-use Rattle.vm_world.specs.Events.{IsEvent, CanTry}
+use Rattle.vm_world.specs.Events.{IsEvent, CanTry, MayBear}
 use Rattle.vm_world.specs.Failures.{with_entry_made}
 use Rattle.vm_world.specs.FlatMemory.{Memory}
 use Rattle.vm_world.specs.HistoryFits.{CallsFit}
@@ -37,17 +40,20 @@ use Rattle.vm_world.specs.Serving.{ServesDone, ServesNeed, ServesBusy}
 use Rattle.vm_world.specs.ServingLaws.{done_entry, after_need, after_wait, IsOfAnother}
 use Rattle.vm_world.specs.State.{KernelState, Seats, seat_of, room_of}
 use Rattle.vm_world.specs.StateFits.{StateFits}
+use Rattle.vm_world.specs.SyncSteps.{start_of, starts_begun, with_call_begun}
 use Rattle.vm_world.specs.Wants.{HoldsUp, accessed_page}
 use Rattle.vm_world.specs.World.{World}
 use Rattle.vm_world.specs.ZeroObjects.{KnowsZeros}
 use Rattle.vm_world.proofs.NextParts.{next-file}
+use Rattle.vm_world.proofs.KeptStarts.{start_rule}
 use Rattle.vm_world.proofs.Servings.{serving_law}
+use Rattle.vm_world.proofs.Told.{event_law}
 use Rattle.mmap_calls.specs.Maps as maps
 use Rattle.proc_calls.specs.Ends as procs
-use Rattle.fault_entry.specs.Accesses.{IsAccess, IsShownWhereDone, MayBeAnswered, SlotsWhereDone, is_store}
+use Rattle.fault_entry.specs.Accesses.{IsAccess, IsHitWhereDone, IsShownWhereDone, MayBeAnswered, SlotsWhereDone, is_store}
 use Rattle.seg_vn.specs.Serves.{Serves, IsPlainReply}
 use Rattle.seg_vn.proofs.HomeFrames.{home-beside}
-use Rattle.vm_core.specs.Calls.{IsServed, IsMapOrExit, IsDone, IsNeeded, IsBusy, IsOwnReply, IsShownAfterCall, SlotsAfterCall, AnswersCall, with_memory, after_answer}
+use Rattle.vm_core.specs.Calls.{IsServed, IsMapOrExit, IsDone, IsNeeded, IsBusy, IsOwnReply, IsShownAfterCall, SlotsAfterCall, IsHitAfterCall, AnswersCall, with_memory, after_answer}
 use Rattle.vm_core.specs.Fits.{FitsAt}
 use Rattle.vm_core.specs.State.{IsSoundKernel}
 use Rattle.seg_vn.specs.declared.attempt.Attempt.{Attempt}
@@ -114,49 +120,90 @@ seat-is s seat p call try = by_process p try.own try.room
     by_process zero own room = absurd (let z : length (entries_of s.history 0) < 0 = room in omega (arith, z))
     by_process (suc q) own room = ap suc own
 
+-- THE SEAT of a process that may make an entry is one of the seats.
+pub seat-below : (entries : List ℕ) (p seat n seats : ℕ) → n < room_of entries p → seat_of p ≡ seat → length entries ≤ seats → seat < seats
+seat-below entries zero seat n seats room own le = absurd (let z : n < 0 = room in omega (arith, z))
+seat-below entries (suc q) seat n seats room own le = elim (split q (length entries)) [
+  | inl lt ↦ let mine : q ≡ seat = own in omega (arith, lt, le, mine)
+  | inr past ↦ absurd (let none = get_or_past entries q 0 past in omega (arith, room, none))
+]
+  where
+    split : (a b : ℕ) → (a < b) ⊎ (b ≤ a)
+    split a b = grind arith
+
+-- A CALL HAS BEGUN: it may be tried still.
+bears-begun : (s : KernelState) (seat p : ℕ) (call : Call) → MayBear s p call → MayBear (with_call_begun s seat call) p call
+bears-begun s seat p (Fork child) bears = bears
+bears-begun s seat p call bears = search
+
+try-begun : (s : KernelState) (seat p : ℕ) (call : Call) → CanTry s seat p call → CanTry (with_call_begun s seat call) seat p call
+try-begun s seat p call try = record { own = try.own; alive = try.alive; room = try.room; follows = try.follows; bears = bears-begun s seat p call try.bears }
+
+count-begun : (call : Call) (seat start : ℕ) (syncs : List (Option ℕ)) → length (starts_begun call seat start syncs) ≡ length syncs
+count-begun (Sync a len) seat start syncs = length-set syncs seat (Some start)
+count-begun call seat start syncs = refl
+
 -- DONE.
-module _ (opening : Flat) (s : KernelState) (seats : Seats) (fit : StateFits opening s seats) (m : Memory) (seat p more : ℕ) (call : Call) (of : IsOfNoFile call) (try : CanTry s seat p call) where
+module _ (opening : Flat) (s : KernelState) (seats : Seats) (fit : StateFits opening s seats) (m : Memory) (seat p more : ℕ) (call : Call) (of : IsOfNoFile call) (try : CanTry s seat p call) (lt : seat < length s.syncs) where
   abbrev pub made : Reply → KernelState
   made reply = with_entry_made (record s { memory = m }) (done_entry p call reply more) s.calls (slice_set s.syncs seat None)
 
+  p-is : p ≡ suc seat
+  p-is = seat-is s seat p call try
+
   locks : (reply : Reply) → LocksAfter (done_entry p call reply more) s.calls s.calls
-  locks reply = locks-same s.history s.calls s.syncs seat p more call reply fit.calls (seat-is s seat p call try) (try.follows reply more) of.part
+  locks reply = locks-same s.history s.calls s.syncs seat p more call reply fit.calls p-is (try.follows reply more) of.part
 
-  starts : (reply : Reply) → seat < length s.syncs → StartsAfter (done_entry p call reply more) s.syncs (slice_set s.syncs seat None)
-  starts reply lt = starts-dropped s.syncs seat (done_entry p call reply more) (seat-is s seat p call try) lt (λ q. of.bears q p more reply)
+  starts : (reply : Reply) → StartsAfter (done_entry p call reply more) s.syncs (slice_set s.syncs seat None)
+  starts reply = starts-dropped s.syncs seat (done_entry p call reply more) p-is lt (λ q. of.bears q p more reply)
 
-  pub done-event : (reply : Reply) → IsWellFormed call → ServesDone s.memory m s.pending more p call reply → StaysAlive m p call → IsOwnReply (Done reply) → seat < length s.syncs → IsEvent seat s None (made reply) None
-  done-event reply formed serves alive own lt = serving_law.done s m seat p more call reply s.calls (slice_set s.syncs seat None) try serves alive (record {
+  -- a Sync began where it says
+  began : (reply : Reply) (from : ℕ) → IsOwnReply s p (Done reply) → reply ≡ Synced from → IsStart s.history (length s.history) p from
+  began reply from own is =
+      subst (λ (k : ℕ). IsStart s.history (length s.history) p k) (sym (own.1 from is ∙ ap (start_of s) try.own))
+      (subst (λ (k : ℕ). IsStart s.history (length s.history) k (start_of s seat)) (sym p-is) (start_rule.began opening s seats seat fit))
+
+  pub done-event : (reply : Reply) → IsWellFormed call → ServesDone s.memory m s.pending more p call reply → StaysAlive m p call → IsOwnReply s p (Done reply) → IsEvent seat s None (made reply) None
+  done-event reply formed serves alive own = serving_law.done s m seat p more call reply s.calls (slice_set s.syncs seat None) try serves alive (record {
     formed = formed;
     plain = of.plain;
     own = own.0;
-    sync = λ b is. absurd (own.1 b is);
+    sync = λ from is. began reply from own is;
     file = λ f t is. absurd (let z : ◌≡◌ {A = Option ℕ} None (Some f) = sym of.file ∙ is in cc);
-  }) (locks reply) (starts reply lt) (length-set s.syncs seat None)
+  }) (locks reply) (starts reply) (length-set s.syncs seat None)
 
-  pub done-answer : (reply : Reply) → ServesDone s.memory m s.pending more p call reply → IsOwnReply (Done reply) → seat < length s.syncs → IsDone s (made reply) p call reply
-  done-answer reply serves own lt = record {
+  pub done-answer : (reply : Reply) → ServesDone s.memory m s.pending more p call reply → IsOwnReply s p (Done reply) → IsDone s (made reply) p call reply
+  done-answer reply serves own = record {
     mid = serves.mid;
     cleared = more;
-    takes = serves.first;
-    adds = record { history = refl; pending = refl; locks = locks reply; starts = starts reply lt };
+    adds = record { history = refl; pending = refl; locks = locks reply; starts = starts reply };
     no_error = own.0;
+    refusal = serves.refusal;
+    start = own.1;
+    clean = serves.clean;
+    takes = serves.first;
+    replaced = serves.replaced;
+    bays = (serves.acts more).machine.bays ∙ serves.first.step.bays;
     plan = refl;
   }
 
-  -- A TRANSFER IS NEEDED.
-  pub need-event : (plan : Plan) → ServesNeed s.memory m s.pending more p call plan → IsEvent seat s None (after_need s m more seat p call plan) None
-  need-event plan serves = serving_law.need s m seat p more call plan try serves
+  -- the call has begun
+  begun-event : IsEvent seat s None (with_call_begun s seat call) None
+  begun-event = start_rule.begins s seat None call lt
 
-  pub need-answer : (plan : Plan) → ServesNeed s.memory m s.pending more p call plan → IsNeeded s (after_need s m more seat p call plan) seat p call plan
+  -- A TRANSFER IS NEEDED.
+  pub need-event : (plan : Plan) → ServesNeed s.memory m s.pending more p call plan → IsEvent seat s None (after_need (with_call_begun s seat call) m more seat p call plan) None
+  need-event plan serves =
+      event_law.joined seat s (with_call_begun s seat call) (after_need (with_call_begun s seat call) m more seat p call plan) None None None begun-event
+      (serving_law.need (with_call_begun s seat call) m seat p more call plan (try-begun s seat p call try) (let count = count-begun call seat (start_of s seat) s.syncs in omega (arith, lt, count)) serves)
+
+  pub need-answer : (plan : Plan) → ServesNeed s.memory m s.pending more p call plan → IsNeeded s (after_need (with_call_begun s seat call) m more seat p call plan) seat p call plan
   need-answer plan serves = record {
     kept = refl;
     may = serves.runs.may;
+    refusal = serves.refusal;
     wanted = serves.wanted;
-    modified = serves.modified;
-    takes = serves.first;
-    spaces = serves.spaces;
-    none = record { history = refl; calls = refl; syncs = refl };
+    began = record { takes = serves.first; replaced = serves.replaced; modified = serves.modified; spaces = serves.spaces; none = record { history = refl; calls = refl }; starts = refl };
   }
 
   -- SOMEBODY IS WAITED FOR.
@@ -165,16 +212,17 @@ module _ (opening : Flat) (s : KernelState) (seats : Seats) (fit : StateFits ope
   no-file (hold.Disk t) cause = tt
   no-file (hold.File t) cause = absurd (let z : ◌≡◌ {A = Option ℕ} None (Some cause.0) = sym of.file ∙ cause.1 in cc)
 
-  pub wait-event : (h : Hold) → ServesBusy s.memory m s.pending more s.calls p call h → IsEvent seat s None (after_wait s m more) None
-  wait-event h serves = serving_law.busy s m seat p more call h serves
+  pub wait-event : (h : Hold) → ServesBusy s.memory m s.pending more s.calls p call h → IsEvent seat s None (after_wait (with_call_begun s seat call) m more) None
+  wait-event h serves =
+      event_law.joined seat s (with_call_begun s seat call) (after_wait (with_call_begun s seat call) m more) None None None begun-event
+      (serving_law.busy (with_call_begun s seat call) m seat p more call h serves)
 
-  pub wait-answer : (h : Hold) → seats seat ≡ None → ServesBusy s.memory m s.pending more s.calls p call h → IsBusy s (after_wait s m more) p call h
+  pub wait-answer : (h : Hold) → seats seat ≡ None → ServesBusy s.memory m s.pending more s.calls p call h → IsBusy s (after_wait (with_call_begun s seat call) m more) seat p call h
   wait-answer h idle serves = record {
     holds = serving_law.another opening s seats m seat p more call h fit idle try serves (no-file h serves.holds);
+    refusal = serves.refusal;
     plan = refl;
-    takes = serves.first;
-    spaces = serves.spaces;
-    none = record { history = refl; calls = refl; syncs = refl };
+    began = record { takes = serves.first; replaced = serves.replaced; modified = serves.modified; spaces = serves.spaces; none = record { history = refl; calls = refl }; starts = refl };
   }
 
 -- WHAT IS CONCLUDED of an answer, and that it is an event.
@@ -183,25 +231,25 @@ pub record Concludes (s t : KernelState) (seat p : ℕ) (call : Call) (a : Attem
   pub event : IsEvent seat s None t None
 
 pub concludes : (opening : Flat) (s : KernelState) (seats : Seats) (m : Memory) (seat p more : ℕ) (call : Call) (a : Attempt) → StateFits opening s seats → seats seat ≡ None → IsOfNoFile call → CanTry s seat p call → IsWellFormed call
-    → Serves s.memory m s.pending more p call a → StaysAlive m p call → IsOwnReply a → ((reply : Reply) → a ≡ Done reply → p ≤ length s.syncs) → Concludes s (after_answer (with_memory s m more) seat p call a) seat p call a
-concludes opening s seats m seat p more call (Done reply) fit idle of try formed serves alive own seated =
+    → Serves s.memory m s.pending more s.calls p call a → StaysAlive m p call → IsOwnReply s p a → seat < length s.syncs → Concludes s (after_answer (with_memory s m more) seat p call a) seat p call a
+concludes opening s seats m seat p more call (Done reply) fit idle of try formed serves alive own lt =
     let p_is = seat-is s seat p call try in
-    let low = seated reply refl in
-    let lt : seat < length s.syncs = omega (arith, p_is, low) in
     let place : p - 1 ≡ seat = omega (arith, p_is) in
     let same : after_answer (with_memory s m more) seat p call (Done reply) ≡ with_entry_made (record s { memory = m }) (done_entry p call reply more) s.calls (slice_set s.syncs seat None) = ap (λ (k : ℕ). with_entry_made (record s { memory = m }) (done_entry p call reply more) s.calls (slice_set s.syncs k None)) place in
     subst (λ (t : KernelState). Concludes s t seat p call (Done reply)) (sym same) (record {
-      answers = done-answer opening s seats fit m seat p more call of try reply serves own lt;
-      event = done-event opening s seats fit m seat p more call of try reply formed serves alive own lt;
+      answers = done-answer opening s seats fit m seat p more call of try lt reply serves own;
+      event = done-event opening s seats fit m seat p more call of try lt reply formed serves alive own;
     })
-concludes opening s seats m seat p more call (Need plan) fit idle of try formed serves alive own seated = record {
-  answers = need-answer opening s seats fit m seat p more call of try plan serves;
-  event = need-event opening s seats fit m seat p more call of try plan serves;
-}
-concludes opening s seats m seat p more call (Busy h) fit idle of try formed serves alive own seated = record {
-  answers = wait-answer opening s seats fit m seat p more call of try h idle (serves s.calls);
-  event = wait-event opening s seats fit m seat p more call of try h (serves s.calls);
-}
+concludes opening s seats m seat p more call (Need plan) fit idle of try formed serves alive own lt =
+    record {
+      answers = need-answer opening s seats fit m seat p more call of try lt plan serves;
+      event = need-event opening s seats fit m seat p more call of try lt plan serves;
+    }
+concludes opening s seats m seat p more call (Busy h) fit idle of try formed serves alive own lt =
+    record {
+      answers = wait-answer opening s seats fit m seat p more call of try lt h idle serves;
+      event = wait-event opening s seats fit m seat p more call of try lt h serves;
+    }
 
 -- BESIDE ANY FRAME ANOTHER IS HOME, whatever is away.
 pub home-frame : (store : StoreSeen) (zeros : List (Option ℕ)) (spaces : Spaces) (entries : List ℕ) (seats : ℕ) (notes : Notes) (table : PlaceTable) → IsSoundKernel store zeros spaces entries seats → IsSoundStore store → StoreFits store notes table
@@ -216,37 +264,37 @@ kept-moved old new zeros after entries seats k known bays frames =
     let was = k.frames in
     record { frames = omega (arith, disks, frames, was); known = known; seated = k.seated }
 
-pub kept-served : (old new : Memory) (zeros after : List (Option ℕ)) (pending more p : ℕ) (call : Call) (a : Attempt) (entries : List ℕ) (seats : ℕ) → IsSoundKernel old.world.store zeros old.spaces entries seats → KnowsZeros after new.spaces → Serves old new pending more p call a
+pub kept-served : (old new : Memory) (zeros after : List (Option ℕ)) (pending more : ℕ) (calls : List (Option ℕ)) (p : ℕ) (call : Call) (a : Attempt) (entries : List ℕ) (seats : ℕ) → IsSoundKernel old.world.store zeros old.spaces entries seats → KnowsZeros after new.spaces → Serves old new pending more calls p call a
     → IsSoundKernel new.world.store after new.spaces entries seats
-kept-served old new zeros after pending more p call (Done reply) entries seats k known s = let m = (s.acts 0).machine in kept-moved old new zeros after entries seats k known (m.bays ∙ s.first.step.bays) (m.frames ∙ s.first.step.frames)
-kept-served old new zeros after pending more p call (Need plan) entries seats k known s = kept-moved old new zeros after entries seats k known s.first.step.bays s.first.step.frames
-kept-served old new zeros after pending more p call (Busy h) entries seats k known s = let b = s [] in kept-moved old new zeros after entries seats k known b.first.step.bays b.first.step.frames
+kept-served old new zeros after pending more calls p call (Done reply) entries seats k known s = let m = (s.acts 0).machine in kept-moved old new zeros after entries seats k known (m.bays ∙ s.first.step.bays) (m.frames ∙ s.first.step.frames)
+kept-served old new zeros after pending more calls p call (Need plan) entries seats k known s = kept-moved old new zeros after entries seats k known s.first.step.bays s.first.step.frames
+kept-served old new zeros after pending more calls p call (Busy h) entries seats k known s = kept-moved old new zeros after entries seats k known s.first.step.bays s.first.step.frames
 
 -- A reply of an access is its own.
-plain-own : (r : Reply) → IsPlainReply r → IsOwnReply (Done r)
-plain-own (reply.Io disk before after) h = absurd h
-plain-own (reply.Synced from) h = absurd h
-plain-own reply.Done h = (refl, λ b e. let z : reply.Done ≡ reply.Synced b = e in cc)
-plain-own (reply.Word n) h = (refl, λ b e. let z : reply.Word n ≡ reply.Synced b = e in cc)
-plain-own (reply.Mapped n) h = (refl, λ b e. let z : reply.Mapped n ≡ reply.Synced b = e in cc)
-plain-own (reply.Bytes l) h = (refl, λ b e. let z : reply.Bytes l ≡ reply.Synced b = e in cc)
-plain-own (reply.Signal x) h = (refl, λ b e. let z : reply.Signal x ≡ reply.Synced b = e in cc)
-plain-own (reply.Refused x) h = (refl, λ b e. let z : reply.Refused x ≡ reply.Synced b = e in cc)
+plain-own : (s : KernelState) (p : ℕ) (r : Reply) → IsPlainReply r → IsOwnReply s p (Done r)
+plain-own s p (reply.Io disk before after) h = absurd h
+plain-own s p (reply.Synced from) h = absurd h
+plain-own s p reply.Done h = (refl, λ b e. absurd (let z : reply.Done ≡ reply.Synced b = e in cc))
+plain-own s p (reply.Word n) h = (refl, λ b e. absurd (let z : reply.Word n ≡ reply.Synced b = e in cc))
+plain-own s p (reply.Mapped n) h = (refl, λ b e. absurd (let z : reply.Mapped n ≡ reply.Synced b = e in cc))
+plain-own s p (reply.Bytes l) h = (refl, λ b e. absurd (let z : reply.Bytes l ≡ reply.Synced b = e in cc))
+plain-own s p (reply.Signal x) h = (refl, λ b e. absurd (let z : reply.Signal x ≡ reply.Synced b = e in cc))
+plain-own s p (reply.Refused x) h = (refl, λ b e. absurd (let z : reply.Refused x ≡ reply.Synced b = e in cc))
 
-pub own-reply : (m : Memory) (p : ℕ) (call : Call) (a : Attempt) → MayBeAnswered m p call a → IsOwnReply a
-own-reply m p call (Done r) may = plain-own r may
-own-reply m p call (Need plan) may = tt
-own-reply m p call (Busy h) may = tt
+pub own-reply : (s : KernelState) (m : Memory) (p : ℕ) (call : Call) (a : Attempt) → MayBeAnswered m p call a → IsOwnReply s p a
+own-reply s m p call (Done r) may = plain-own s p r may
+own-reply s m p call (Need plan) may = tt
+own-reply s m p call (Busy h) may = tt
 
-pub mapped-own : (a : Attempt) → maps.IsMapDone a → IsOwnReply a
-mapped-own (Done r) may = plain-own r may
-mapped-own (Need plan) may = absurd may
-mapped-own (Busy h) may = absurd may
+pub mapped-own : (s : KernelState) (p : ℕ) (a : Attempt) → maps.IsMapDone a → IsOwnReply s p a
+mapped-own s p (Done r) may = plain-own s p r may
+mapped-own s p (Need plan) may = absurd may
+mapped-own s p (Busy h) may = absurd may
 
-pub exited-own : (a : Attempt) → procs.IsExitDone a → IsOwnReply a
-exited-own (Done r) may = plain-own r may
-exited-own (Need plan) may = absurd may
-exited-own (Busy h) may = absurd may
+pub exited-own : (s : KernelState) (p : ℕ) (a : Attempt) → procs.IsExitDone a → IsOwnReply s p a
+exited-own s p (Done r) may = plain-own s p r may
+exited-own s p (Need plan) may = absurd may
+exited-own s p (Busy h) may = absurd may
 
 -- THE MECHANISMS. What holds of an access at its page holds after the call.
 pub access-shown : (m : Memory) (p : ℕ) (call : Call) (a : Attempt) → ((q : ℕ) → accessed_page call ≡ Some q → IsShownWhereDone m p q a) → IsShownAfterCall m p call a
@@ -259,6 +307,11 @@ access-slots old new p (Load addr n) a access slots = slots (page addr) refl
 access-slots old new p (Store addr n v) a access slots = slots (page addr) refl
 access-slots old new p call a access slots = absurd access
 
+pub access-hit : (old : Memory) (new : World) (p : ℕ) (call : Call) (a : Attempt) → IsAccess call → ((q : ℕ) → accessed_page call ≡ Some q → IsHitWhereDone old.world new p q (is_store call) a) → IsHitAfterCall old new p call a
+access-hit old new p (Load addr n) a access hit = hit (page addr) refl
+access-hit old new p (Store addr n v) a access hit = hit (page addr) refl
+access-hit old new p call a access hit = absurd access
+
 -- What is concluded changes no memory.
 pub concluded-memory : (s : KernelState) (seat p : ℕ) (call : Call) (a : Attempt) → (after_answer s seat p call a).memory ≡ s.memory
 concluded-memory s seat p call (Done reply) = refl
@@ -267,10 +320,11 @@ concluded-memory s seat p call (Busy h) = refl
 
 -- WHAT A CALL WAS SERVED, before it is concluded.
 pub record WasServed (s mid : KernelState) (p : ℕ) (call : Call) (a : Attempt) : Type 0 where
-  pub serves : Serves s.memory mid.memory s.pending mid.pending p call a
+  pub serves : Serves s.memory mid.memory s.pending mid.pending s.calls p call a
   pub shown : IsShownAfterCall mid.memory p call a
   pub slots : SlotsAfterCall s.memory mid.memory.world p call a
-  pub own : IsOwnReply a
+  pub hit : IsHitAfterCall s.memory mid.memory.world p call a
+  pub own : IsOwnReply s p a
   pub alive : StaysAlive mid.memory p call
   pub rest : mid ≡ with_memory s mid.memory mid.pending
 
@@ -279,19 +333,21 @@ pub record Tries (s t : KernelState) (seat p : ℕ) (call : Call) (a : Attempt) 
   pub answers : AnswersCall s t seat p call a
   pub shown : IsShownAfterCall t.memory p call a
   pub slots : SlotsAfterCall s.memory t.memory.world p call a
+  pub hit : IsHitAfterCall s.memory t.memory.world p call a
   pub event : IsEvent seat s None t None
 
 pub tries : (seat p : ℕ) (s mid t : KernelState) (call : Call) (a : Attempt) → FitsAt s seat None → IsServed call → CanTry s seat p call → IsWellFormed call → WasServed s mid p call a → t ≡ after_answer mid seat p call a
-    → ((reply : Reply) → a ≡ Done reply → p ≤ length mid.syncs) → Tries s t seat p call a
+    → seat < length mid.syncs → Tries s t seat p call a
 tries seat p s mid t call a fits served may formed w new seated =
     let of = served-is call served in
     let memory : t.memory ≡ mid.memory = ap (λ (x : KernelState). x.memory) new ∙ concluded-memory mid seat p call a in
     let c = subst (λ (x : KernelState). Concludes s x seat p call a) (sym (new ∙ ap (λ (x : KernelState). after_answer x seat p call a) w.rest))
-    (concludes fits.0 s fits.1 mid.memory seat p mid.pending call a fits.2 fits.3 of may formed w.serves w.alive w.own (λ reply done. subst (λ (x : KernelState). p ≤ length x.syncs) w.rest (seated reply done))) in
+    (concludes fits.0 s fits.1 mid.memory seat p mid.pending call a fits.2 fits.3 of may formed w.serves w.alive w.own (subst (λ (x : KernelState). seat < length x.syncs) w.rest seated)) in
     record {
       answers = c.answers;
       shown = subst (λ (m : Memory). IsShownAfterCall m p call a) (sym memory) w.shown;
       slots = subst (λ (m : Memory). SlotsAfterCall s.memory m.world p call a) (sym memory) w.slots;
+      hit = subst (λ (m : Memory). IsHitAfterCall s.memory m.world p call a) (sym memory) w.hit;
       event = c.event;
     }
 
@@ -308,10 +364,10 @@ pub err-then : {E : Type 0} (P Q : Type 0) (r : Result Attempt E) → (P → Q) 
 err-then P Q (Ok a) f h = h
 err-then P Q (Err e) f h = f h
 
-pub kept-result : {E : Type 0} (old new : Memory) (zeros after : List (Option ℕ)) (pending more p : ℕ) (call : Call) (r : Result Attempt E) (entries : List ℕ) (seats : ℕ) → IsSoundKernel old.world.store zeros old.spaces entries seats → KnowsZeros after new.spaces → IfOk r (λ a. Serves old new pending more p call a)
+pub kept-result : {E : Type 0} (old new : Memory) (zeros after : List (Option ℕ)) (pending more : ℕ) (calls : List (Option ℕ)) (p : ℕ) (call : Call) (r : Result Attempt E) (entries : List ℕ) (seats : ℕ) → IsSoundKernel old.world.store zeros old.spaces entries seats → KnowsZeros after new.spaces → IfOk r (λ a. Serves old new pending more calls p call a)
     → OnErr r (new ≡ old) → IsSoundKernel new.world.store after new.spaces entries seats
-kept-result old new zeros after pending more p call (Ok a) entries seats k known serves same = kept-served old new zeros after pending more p call a entries seats k known serves
-kept-result old new zeros after pending more p call (Err e) entries seats k known serves same = kept-moved old new zeros after entries seats k known (ap (λ (m : Memory). m.world.store.bays) same) (ap (λ (m : Memory). length m.world.store.frames) same)
+kept-result old new zeros after pending more calls p call (Ok a) entries seats k known serves same = kept-served old new zeros after pending more calls p call a entries seats k known serves
+kept-result old new zeros after pending more calls p call (Err e) entries seats k known serves same = kept-moved old new zeros after entries seats k known (ap (λ (m : Memory). m.world.store.bays) same) (ap (λ (m : Memory). length m.world.store.frames) same)
 
 -- Nothing changed.
 pub same-again : (s t : KernelState) (m : Memory) (pending : ℕ) → s ≡ t → m ≡ s.memory → pending ≡ s.pending → with_memory s m pending ≡ t

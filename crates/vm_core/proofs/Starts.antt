@@ -17,7 +17,7 @@ use Rattle.page_hash.specs.declared.PageName.{PageName}
 use Rattle.page_lock.specs.Rows.{row_at, clear_row}
 use Rattle.page_lock.specs.declared.Row.{Row}
 use Rattle.page_store.specs.Away.{is_disk, disk_count}
-use Rattle.page_store.specs.Bays.{BaySeen, missing, home, out, bay_at, bay_of, numbers_of, pairs_seen, AreNumbers, IsStill}
+use Rattle.page_store.specs.Bays.{BaySeen, missing, home, out, bay_at, bay_of, numbers_of, pairs_seen, AreNumbers, IsStill, no_disk}
 use Rattle.page_store.specs.Layout.{FileBlocks, KeepsPage, AreDisjoint}
 use Rattle.page_store.specs.New.{IsNew, AreHome}
 use Rattle.page_store.specs.Seen.{StoreSeen, IsSoundStore}
@@ -204,6 +204,7 @@ below-eight disks number blocks numbers d =
 -- THE FILES FIT.
 pub files-fit : (files : FilesSeen) (disks : List (ℕ × DiskSeen)) → AreNumbers (numbers_of disks) → FilesOnDisks files disks → length files.files ≤ 64 → ((f : ℕ) → f < length files.files → IsSoundVnode (vnode_at files f)) → FilesFit files
 files-fit files disks numbers f few sound = record {
+  small = f.small;
   each = sound;
   disjoint = record {
     few = let count = length-map files.files file_blocks in omega (arith, few, count);
@@ -230,11 +231,21 @@ files-fit files disks numbers f few sound = record {
   some = f.some;
 }
 
+-- what a list has at a place
+get-within : {X : Type 0} (xs : List X) (i : ℕ) (d : X) → i < length xs → slice_get xs i ≡ Some (slice_index_or xs i d)
+get-within [] i d lt = absurd (omega (arith, lt))
+get-within (x ∷ xs) zero d lt = refl
+get-within (x ∷ xs) (suc i) d lt = get-within xs i d (omega (arith, lt))
+
 -- THE DISKS FIT.
 pub disks-fit : (bays : List BaySeen) (files : FilesSeen) (disks : List (ℕ × DiskSeen)) (swap : Option DiskSeen) (slots : ℕ) → AreHome bays disks swap → AreNumbers (numbers_of disks) → FilesOnDisks files disks → SwapServes slots swap → DisksFit bays files.disks slots
 disks-fit bays files disks swap slots h numbers f serves = record {
   numbers = λ number blocks is. below-eight disks number blocks numbers (f.there number blocks is);
   there = λ number blocks is none. let d = f.there number blocks is in let z : missing ≡ home d.disk = sym none ∙ disk-home bays disks swap d.place number d.disk h d.there in cc;
+  set = λ number low there. elim (find-number disks number) [
+    | inl p ↦ f.all p.place number (slice_index_or disks p.place (number, no_disk)).1 (listed p.place number p.within p.is)
+    | inr none ↦ absurd (there (h.others number (omega (arith, low)) none))
+  ];
   swap = λ some none. by_swap swap serves (sym h.swap ∙ none) some;
   unused = λ none. h.swap ∙ no_swap swap serves none;
   sizes = λ number d at. record {
@@ -245,6 +256,12 @@ disks-fit bays files disks swap slots h numbers f serves = record {
   where
     one : (x y : DiskSeen) → home x ≡ home y → x ≡ y
     one x y e = cc
+
+    -- the disk at a place of the list
+    listed : (place number : ℕ) → place < length disks → slice_index (numbers_of disks) place ≡ number → slice_get disks place ≡ Some (number, (slice_index_or disks place (number, no_disk)).1)
+    listed place number within is =
+        let at : (slice_index_or disks place (number, no_disk)).0 ≡ number = sym (number-at disks place (number, no_disk) within) ∙ is in
+        get-within disks place (number, no_disk) within ∙ ap (λ (n : ℕ). Some (n, (slice_index_or disks place (number, no_disk)).1)) at
 
     by_swap : (o : Option DiskSeen) → SwapServes slots o → bay_of o ≡ missing → 0 < slots → ⊥
     by_swap None none e some = omega (arith, none, some)

@@ -1,23 +1,28 @@
 -- What a call that is tried leaves of the state. Public clauses cite this.
-use Rattle.std.specs.Prelude.{◌≡◌, ◌≢◌, ◌≤◌, ℕ, true, false, Some, None, IsFalse}
+use Rattle.std.specs.Prelude.{◌≡◌, ◌≤◌, ◌+◌, ℕ, true, false, Some, None, IsFalse}
+use Rattle.page_hash.specs.declared.PageName.{PageName}
 use Rattle.page_store.specs.declared.plan.Hold.{Hold}
 use Rattle.page_store.specs.declared.plan.Plan.{Plan}
 use Rattle.vm_types.specs.declared.call.Call.{Call}
-use Rattle.vm_types.specs.declared.call.Call.TheVariants.{Load, Store, Map, Exit}
+use Rattle.vm_types.specs.declared.call.Call.TheVariants.{Load, Store, Map, Unmap, Protect, Fork, Exit}
 use Rattle.vm_types.specs.declared.call.Place.TheVariants.{At}
 use Rattle.vm_types.specs.declared.call.Reply.{Reply}
+use Rattle.vm_types.specs.declared.call.Reply.TheVariants as reply
 use Rattle.vm_types.specs.declared.call.Reply.TheVariants.{Synced}
 use Rattle.anon_slots.specs.Slots.{count_at}
 use Rattle.flat_model.specs.History.{is_io}
 use Rattle.flat_model.specs.Words.{page}
 use Rattle.vm_world.specs.FlatMemory.{Memory}
-use Rattle.vm_world.specs.Serving.{TakesFrames, KeepsWanted, ModifiesNone}
-use Rattle.vm_world.specs.State.{KernelState}
-use Rattle.vm_world.specs.Wants.{MayPlan, MayHold}
+use Rattle.vm_world.specs.ForkSteps.{times_owned}
+use Rattle.vm_world.specs.Plans.{IsRefusal, refusal_in}
+use Rattle.vm_world.specs.Serving.{TakesFrames, AreReplaced, KeepsWanted, ModifiesNone, IsNoFile}
+use Rattle.vm_world.specs.State.{KernelState, seat_of}
+use Rattle.vm_world.specs.SyncSteps.{start_of, with_call_begun}
+use Rattle.vm_world.specs.Wants.{MayPlan, MayHold, WantsClean, IsCleanPage}
 use Rattle.vm_world.specs.World.{World}
 use Rattle.seg_vn.specs.declared.attempt.Attempt.{Attempt}
 use Rattle.seg_vn.specs.declared.attempt.Attempt.TheVariants.{Done, Need, Busy}
-use Rattle.fault_entry.specs.Accesses.{IsShownWhereDone, SlotsWhereDone}
+use Rattle.fault_entry.specs.Accesses.{IsShownWhereDone, IsHitWhereDone, SlotsWhereDone}
 use Rattle.vm_core.specs.Flights.{AddsEntry, AddsNoEntry}
 use Rattle.vm_core.specs.State.{with_next_entry}
 
@@ -39,18 +44,31 @@ IsMapOrExit call = ⊥
 abbrev pub with_memory : KernelState → Memory → ℕ → KernelState
 with_memory s m pending = record s { memory = m; pending = pending }
 
--- The state once an answer was concluded: with its entry; or with the plan kept that it needs; or with none.
+-- The state once an answer was concluded: with its entry; or with the plan kept that it needs; or with none. A Sync that isn't answered yet has its start kept.
 abbrev pub after_answer : KernelState → ℕ → ℕ → Call → Attempt → KernelState
 after_answer s seat p call (Done reply) = with_next_entry (record s { plan = None }) (record { process = p; call = call; reply = reply; cleared = s.pending })
-after_answer s seat p call (Need plan) = record s { plan = Some (record { seat = seat; plan = plan; of = Some (p, call) }) }
-after_answer s seat p call (Busy hold) = record s { plan = None }
+after_answer s seat p call (Need plan) = record (with_call_begun s seat call) { plan = Some (record { seat = seat; plan = plan; of = Some (p, call) }) }
+after_answer s seat p call (Busy h) = record (with_call_begun s seat call) { plan = None }
+
+-- A Fork that is done makes no slot: each is counted once more for each place of the parent's own maps that holds it. One that is refused counts none.
+abbrev pub SlotsAfterFork : Memory → World → ℕ → Attempt → Type 0
+SlotsAfterFork old new p (Done reply.Done) = (slot : ℕ) → count_at new.anon slot ≡ count_at old.world.anon slot + times_owned old p slot
+SlotsAfterFork old new p answer = (slot : ℕ) → count_at new.anon slot ≡ count_at old.world.anon slot
 
 -- WHICH SLOTS ARE MADE. A load that answers a word and a store that is done make a slot exactly where one is due, and where they are answered otherwise every
--- slot and place is as it was. No other call makes one: no slot is counted more often.
+-- slot and place is as it was. No other call makes one: a Fork counts those of its parent more often, and the others count none more often.
 abbrev pub SlotsAfterCall : Memory → World → ℕ → Call → Attempt → Type 0
 SlotsAfterCall old new p (Load a n) answer = SlotsWhereDone old new p (page a) false answer
 SlotsAfterCall old new p (Store a n v) answer = SlotsWhereDone old new p (page a) true answer
+SlotsAfterCall old new p (Fork child) answer = SlotsAfterFork old new p answer
 SlotsAfterCall old new p call answer = (slot : ℕ) → count_at new.anon slot ≤ count_at old.world.anon slot
+
+-- A load that answers a word and a store that is done, whose page had a translation that lets them, leave all but that translation's bits, and the bytes of
+-- frames.
+abbrev pub IsHitAfterCall : Memory → World → ℕ → Call → Attempt → Type 0
+IsHitAfterCall old new p (Load a n) answer = IsHitWhereDone old.world new p (page a) false answer
+IsHitAfterCall old new p (Store a n v) answer = IsHitWhereDone old.world new p (page a) true answer
+IsHitAfterCall old new p call answer = Unit {0}
 
 -- After a load that answers a word, and a store that is done, the page has a translation to the home frame of the page that its place shows.
 abbrev pub IsShownAfterCall : Memory → ℕ → Call → Attempt → Type 0
@@ -58,47 +76,63 @@ IsShownAfterCall m p (Load a n) answer = IsShownWhereDone m p (page a) answer
 IsShownAfterCall m p (Store a n v) answer = IsShownWhereDone m p (page a) answer
 IsShownAfterCall m p call answer = Unit {0}
 
--- A reply that is neither a device error nor a Sync's.
-abbrev pub IsOwnReply : Attempt → Type 0
-IsOwnReply (Done reply) = IsFalse (is_io reply) × ((b : ℕ) → reply ≢ Synced b)
-IsOwnReply attempt = Unit {0}
+-- A reply to a process that is no device error, and where it is a Sync's, says where the Sync of its seat began.
+abbrev pub IsOwnReply : KernelState → ℕ → Attempt → Type 0
+IsOwnReply s p (Done reply) = IsFalse (is_io reply) × ((from : ℕ) → reply ≡ Synced from → from ≡ start_of s (seat_of p))
+IsOwnReply s p attempt = Unit {0}
 
--- Of these a Map alone takes memory.
+-- The calls that take memory: those that change what is mapped.
 abbrev pub TakesMemory : Call → Type 0
 TakesMemory (Map place len prot kind object offset) = Unit {0}
+TakesMemory (Unmap a len) = Unit {0}
+TakesMemory (Protect a len prot) = Unit {0}
+TakesMemory (Fork child) = Unit {0}
 TakesMemory call = ⊥
 
--- The call is done: exactly one entry is added, which is no device error. It takes the tails that were pending, and those of names that lost their frame
--- before the call acted.
+-- The call is done: exactly one entry is added, which is no device error. Its signal or errno, or that it has none, is what was due in flat memory of the
+-- state, over any disks; and a Sync says where it began, and leaves each page that it wants clean so. The entry takes the tails that were pending, and those
+-- of pages that were replaced before the call acted. No disk is called.
 pub record IsDone (old new : KernelState) (p : ℕ) (call : Call) (reply : Reply) : Type 0 where
   pub mid : World
   pub cleared : ℕ
-  pub takes : TakesFrames old.memory mid old.pending cleared
   pub adds : AddsEntry old new (record { process = p; call = call; reply = reply; cleared = cleared })
   pub no_error : IsFalse (is_io reply)
+  pub refusal : IsRefusal old.memory p call (refusal_in reply)
+  pub start : (from : ℕ) → reply ≡ Synced from → from ≡ start_of old (seat_of p)
+  pub clean : (from : ℕ) (name : PageName) → reply ≡ Synced from → WantsClean new.memory p call name → IsCleanPage new.memory.world name
+  pub takes : TakesFrames old.memory mid old.pending cleared
+  pub replaced : AreReplaced old.memory.world new.memory.world takes.cut
+  pub bays : new.memory.world.store.bays ≡ old.memory.world.store.bays
   pub plan : new.plan ≡ None
 
--- A transfer is needed: the plan is kept for this seat, process and call. Pages that it wants home and that were home are where they were, on neither
--- list, and no page is modified that wasn't. Tails became pending of names that lost their frame alone.
+-- Frames may have been taken for other pages, and nothing else happened: no page is modified that wasn't; tails became pending of pages that were replaced;
+-- no entry was added; and where the call is a Sync, its start is kept.
+pub record HasBegun (old new : KernelState) (seat : ℕ) (call : Call) : Type 0 where
+  pub takes : TakesFrames old.memory new.memory.world old.pending new.pending
+  pub replaced : AreReplaced old.memory.world new.memory.world takes.cut
+  pub modified : ModifiesNone old.memory.world new.memory.world
+  pub spaces : new.memory.spaces ≡ old.memory.spaces
+  pub none : AddsNoEntry old new
+  pub starts : new.syncs ≡ (with_call_begun old seat call).syncs
+
+-- A transfer is needed, and no signal or errno was due: the plan is kept for this seat, process and call. Pages that it wants home and that were home are where
+-- they were, on neither list.
 pub record IsNeeded (old new : KernelState) (seat p : ℕ) (call : Call) (plan : Plan) : Type 0 where
   pub kept : new.plan ≡ Some (record { seat = seat; plan = plan; of = Some (p, call) })
   pub may : MayPlan new.memory (Some (p, call)) plan
+  pub refusal : IsRefusal old.memory p call None
   pub wanted : KeepsWanted old.memory new.memory p call
-  pub modified : ModifiesNone old.memory.world new.memory.world
-  pub takes : TakesFrames old.memory new.memory.world old.pending new.pending
-  pub spaces : new.memory.spaces ≡ old.memory.spaces
-  pub none : AddsNoEntry old new
+  pub began : HasBegun old new seat call
 
--- The call has to wait for another seat.
-pub record IsBusy (old new : KernelState) (p : ℕ) (call : Call) (hold : Hold) : Type 0 where
-  pub holds : MayHold new.memory new.calls p call hold
+-- The call has to wait for another seat, and no signal or errno was due, but that a file's call alone is waited for before it is known whether one is.
+pub record IsBusy (old new : KernelState) (seat p : ℕ) (call : Call) (h : Hold) : Type 0 where
+  pub holds : MayHold new.memory new.calls p call h
+  pub refusal : IsNoFile h → IsRefusal old.memory p call None
   pub plan : new.plan ≡ None
-  pub takes : TakesFrames old.memory new.memory.world old.pending new.pending
-  pub spaces : new.memory.spaces ≡ old.memory.spaces
-  pub none : AddsNoEntry old new
+  pub began : HasBegun old new seat call
 
 -- WHAT IS ANSWERED to a call of a process at its seat.
 abbrev pub AnswersCall : KernelState → KernelState → ℕ → ℕ → Call → Attempt → Type 0
 AnswersCall old new seat p call (Done reply) = IsDone old new p call reply
 AnswersCall old new seat p call (Need plan) = IsNeeded old new seat p call plan
-AnswersCall old new seat p call (Busy hold) = IsBusy old new p call hold
+AnswersCall old new seat p call (Busy h) = IsBusy old new seat p call h

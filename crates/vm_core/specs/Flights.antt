@@ -9,7 +9,8 @@ use Rattle.page_store.specs.Flight.{FlightSeen, Progress, fresh, done, failed, I
 use Rattle.page_store.specs.Steps.{next_frame}
 use Rattle.page_store.specs.declared.plan.Plan.{Plan}
 use Rattle.page_store.specs.declared.plan.Plan.TheVariants as plan
-use Rattle.seg_ops.specs.Flights.{places_pushed}
+use Rattle.page_store.specs.Seen.{StoreSeen}
+use Rattle.seg_ops.specs.Flights.{places_pushed, store_synced}
 use Rattle.vm_world.specs.EntryLaws.{LocksAfter, StartsAfter}
 use Rattle.vm_world.specs.State.{KernelState, KeptPlan, Sent, Caller}
 use Rattle.vm_world.specs.Wants.{IsDirtyPage, MayReadIn}
@@ -25,6 +26,11 @@ CanLeave w (plan.Push name) = IsDirtyPage w name
 abbrev pub places_begun : World → Plan → List (Option Translation)
 places_begun w (plan.Read name) = w.hat.places
 places_begun w (plan.Push name) = places_pushed (next_frame w.store) (find w.store.names name) w.hat.places
+
+-- The store as a transfer leaves it: a page that is pushed has its translations' bits then.
+abbrev pub store_ready : World → Plan → StoreSeen
+store_ready w (plan.Read name) = w.store
+store_ready w (plan.Push name) = store_synced w name
 
 -- The plan is the one that is kept, for this seat.
 pub record IsKeptFor (s : KernelState) (seat : ℕ) (p : Plan) (kept : KeptPlan) : Type 0 where
@@ -49,11 +55,16 @@ pub record AddsEntry (old new : KernelState) (e : Entry) : Type 0 where
   pub locks : LocksAfter e old.calls new.calls
   pub starts : StartsAfter e old.syncs new.syncs
 
--- No entry is added, and no call of a file or Sync began or ended.
+-- No entry is added, and no call of a file began or ended.
 pub record AddsNoEntry (old new : KernelState) : Type 0 where
   pub history : new.history ≡ old.history
   pub calls : new.calls ≡ old.calls
+
+-- Nor did a Sync begin or end, and no tail became pending.
+pub record EndsQuietly (old new : KernelState) : Type 0 where
+  pub none : AddsNoEntry old new
   pub syncs : new.syncs ≡ old.syncs
+  pub pending : new.pending ≡ old.pending
 
 -- The device error of a transfer that failed, with the counts round that transfer.
 abbrev pub error_at_end : FlightSeen → Progress → Option Reply
@@ -69,5 +80,5 @@ answer_at_end f (Some of) = error_at_end f f.outcome
 -- The entry that an answer adds, for this process and call.
 abbrev pub EndsWith : KernelState → KernelState → Option Caller → Option Reply → Type 0
 EndsWith old new (Some of) (Some reply) = AddsEntry old new (record { process = of.0; call = of.1; reply = reply; cleared = old.pending })
-EndsWith old new of None = AddsNoEntry old new × (new.pending ≡ old.pending)
+EndsWith old new of None = EndsQuietly old new
 EndsWith old new None (Some reply) = ⊥

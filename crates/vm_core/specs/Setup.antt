@@ -1,8 +1,9 @@
 -- What a state may be started with, and what it has then. Public clauses cite this.
-use Rattle.std.specs.Prelude.{◌≡◌, ◌<◌, ◌≤◌, ◌+◌, ℕ, List, Option, None, Some, MatchOption, IsSome, length, option_map, is_some, if◌then◌else◌, slice_get, All}
+use Rattle.std.specs.Prelude.{◌≡◌, ◌<◌, ◌≤◌, ◌+◌, ◌^◌, ◌/◌, ℕ, List, Option, None, Some, MatchOption, IsSome, length, option_map, is_some, if◌then◌else◌, slice_get, All}
 use Rattle.std.specs.FinMap as finite
 use Rattle.block_device.specs.DiskSeen.{DiskSeen}
 use Rattle.flat_model.specs.Counted.{top_count}
+use Rattle.page_clock.specs.Clock.{fresh_clock}
 use Rattle.page_store.specs.Bays.{AreNumbers, numbers_of, pairs_seen}
 use Rattle.page_store.specs.New.{AreHome}
 use Rattle.vnode_files.specs.Files.{FilesSeen, vnode_at}
@@ -21,11 +22,13 @@ pub record ListsDisk (disks : List (ℕ × DiskSeen)) (number blocks : ℕ) : Ty
   pub there : slice_get disks place ≡ Some (number, disk)
   pub size : disk.size ≡ blocks
 
--- Each file's disk was set, the disks that were set are there with these blocks, and the files lie on them, past block 0, where no two meet, with an
--- extent each at least, and at most as many on each disk as its table has room for.
+-- The disks that were set are these, each with its blocks, fewer than 2^20; each file's disk is one of them; and the files lie on them, past block 0, where
+-- no two meet, with an extent each at least, and at most as many on each disk as its table has room for.
 pub record FilesOnDisks (files : FilesSeen) (disks : List (ℕ × DiskSeen)) : Type 0 where
   pub set : (file : ℕ) → file < length files.files → IsSome (finite.get files.disks (vnode_at files file).info.disk)
   pub there : (number blocks : ℕ) → finite.get files.disks number ≡ Some blocks → ListsDisk disks number blocks
+  pub all : (place number : ℕ) (disk : DiskSeen) → slice_get disks place ≡ Some (number, disk) → IsSome (finite.get files.disks number)
+  pub small : (number blocks : ℕ) → finite.get files.disks number ≡ Some blocks → blocks < 2 ^ 20
   pub lie : LieOnDisks files
   pub apart : NoFilesMeet files
   pub few : HaveFewExtents files
@@ -35,9 +38,11 @@ pub record FilesOnDisks (files : FilesSeen) (disks : List (ℕ × DiskSeen)) : T
 abbrev pub SwapServes : ℕ → Option DiskSeen → Type 0
 SwapServes slots swap = MatchOption swap (slots ≡ 0) (λ disk. (0 < slots) × (slots ≤ disk.size))
 
--- The state has what the setup names: frames, translations, slots, disks, files, seats, and of each process its parent and its entries.
+-- The state has what the setup names: frames, with the hands of the clock half of them apart, translations, slots, disks, files, seats, and of each process
+-- its parent and its entries.
 pub record IsMadeOf {D : Type 0} (seen : D → DiskSeen) (s : KernelState) (setup : Setup D) : Type 0 where
   pub frames : length s.memory.world.store.frames ≡ setup.frames
+  pub clock : s.memory.world.store.clock ≡ fresh_clock setup.frames (setup.frames / 2)
   pub translations : length s.memory.world.hat.places ≡ setup.translations
   pub slots : length s.memory.world.anon.counts ≡ setup.slots
   pub disks : AreHome s.memory.world.store.bays (pairs_seen seen setup.disks.items) (option_map seen setup.swap)

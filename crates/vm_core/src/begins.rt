@@ -4,6 +4,7 @@ ghost use Rattle.page_hash.specs.Names.{is_name};
 ghost use Rattle.page_store.specs.Flight.{note_of};
 ghost use Rattle.page_store.specs.Notes.{Notes};
 ghost use Rattle.page_store.specs.Steps.{next_name};
+ghost use Rattle.page_store.specs.Transfers.{BeginsTransfer};
 ghost use Rattle.page_store.specs.Waits.{Waits, plan_page};
 ghost use Rattle.seg_ops.specs.Flights.{BeginsFor};
 ghost use Rattle.vm_world.specs.Events.{IsEvent};
@@ -15,7 +16,7 @@ ghost use Rattle.vm_world.specs.Words.{Fits, IsFit};
 ghost use Rattle.vm_world.specs.World.{world_seen, world_table};
 ghost use Rattle.vm_world.specs.WorldSteps.{WorldStep, leaves};
 ghost use Rattle.vm_core.specs.Fits.{FitsAt};
-ghost use Rattle.vm_core.specs.Flights.{CanLeave, IsKeptFor, places_begun, sent_with};
+ghost use Rattle.vm_core.specs.Flights.{CanLeave, IsKeptFor, places_begun, sent_with, store_ready};
 
 use crate::state::VmState;
 use block_device::Disk;
@@ -34,6 +35,9 @@ fn leave<D: Disk>(world: &mut World<D>, seat: u32, plan: Plan) -> Flight<D>
     ensures pends { PendsTails (world_seen world.old) (is_name (next_name world.old.store))
         world.old.pending world.new.pending }
     ensures places { world.new.hat.places ≡ places_begun (world_seen world.old) plan }
+    // What the store does.
+    ensures begins { BeginsTransfer (store_ready (world_seen world.old) plan) world.new.store
+        plan (plan_page plan) result }
     // What stays.
     ensures zeros { world.new.zeros ≡ world.old.zeros }
     ensures step { (spaces : Spaces) (notes : Notes) → Fits world.old spaces
@@ -64,6 +68,9 @@ impl<D: Disk> VmState<D> {
         // No translation goes but those of a page that is pushed.
         ensures places { self.new.memory.world.hat.places
             ≡ places_begun self.old.memory.world plan }
+        // What the store does: no other disk moves, and where each page is then.
+        ensures begins { BeginsTransfer (store_ready self.old.memory.world plan)
+            self.new.memory.world.store plan (plan_page plan) result }
         // What stays: all but the world. No plan is kept.
         ensures rest { self.new ≡ after_step self.old self.new.memory.world self.new.pending }
     {

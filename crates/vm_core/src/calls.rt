@@ -6,17 +6,15 @@ ghost use Rattle.fault_entry.specs.Answers.{attempt_of};
 ghost use Rattle.page_store.specs.Notes.{Notes};
 ghost use Rattle.anon_slots.specs.Slots.{count_at};
 ghost use Rattle.flat_model.specs.Told.{entries_of};
-ghost use Rattle.seg_vn.specs.declared.attempt.Attempt.TheVariants.{Done};
 ghost use Rattle.mmap_calls.specs.Maps as maps;
 ghost use Rattle.proc_calls.specs.Ends as procs;
 ghost use Rattle.vm_types.specs.WellFormed.{IsWellFormed};
-ghost use Rattle.vm_types.specs.declared.call.Reply as replies;
 ghost use Rattle.vm_world.specs.CallSteps.{StaysAlive};
 ghost use Rattle.vm_world.specs.Events.{IsEvent, CanTry};
 ghost use Rattle.vm_world.specs.MemoryFits.{MemoryFits};
 ghost use Rattle.vm_world.specs.NotesFit.{NotesFit};
-ghost use Rattle.vm_world.specs.State.{room_of};
-ghost use Rattle.vm_core.specs.Calls.{IsServed, IsMapOrExit, TakesMemory, AnswersCall, IsOwnReply, IsShownAfterCall, SlotsAfterCall, with_memory, after_answer};
+ghost use Rattle.vm_world.specs.State.{room_of, seat_of};
+ghost use Rattle.vm_core.specs.Calls.{IsServed, IsMapOrExit, TakesMemory, AnswersCall, IsOwnReply, IsShownAfterCall, SlotsAfterCall, IsHitAfterCall, with_memory, after_answer};
 ghost use Rattle.vm_core.specs.Fits.{FitsAt};
 ghost use Rattle.seg_vn.specs.Serves.{Serves};
 
@@ -46,6 +44,8 @@ impl<D: Disk> VmState<D> {
             call.now attempt) }
         ensures slots { IfOk result (λ attempt. SlotsAfterCall self.old.memory
             self.new.memory.world process call.now attempt) }
+        ensures hit { IfOk result (λ attempt. IsHitAfterCall self.old.memory
+            self.new.memory.world process call.now attempt) }
         ensures event { IsEvent seat self.old None self.new None }
         // Want of memory comes at a mapping call alone, and nothing changed then.
         ensures memory { OnErr result (TakesMemory call.now) }
@@ -62,12 +62,12 @@ impl<D: Disk> VmState<D> {
     // A load or a store is concluded with what is answered to it. A hit has arms of its own: its attempt is known there, so that none
     // is moved but into the entry and the result.
     fn settle(&mut self, seat: u32, process: u32, call: &Call, answer: Answer) -> Attempt
-        requires { length (entries_of self.old.history process)
+        requires room { length (entries_of self.old.history process)
             < room_of self.old.entries process }
+        requires own { seat_of process ≡ seat }
         ensures same { result ≡ attempt_of answer }
         ensures new { self.new ≡ after_answer self.old seat process call.now result }
-        ensures seated { (reply : replies.Reply) → result ≡ Done reply
-            → process ≤ length self.old.syncs }
+        ensures seated { seat < length self.old.syncs }
     {
         match answer {
             Answer::Word(word) => {
@@ -78,28 +78,30 @@ impl<D: Disk> VmState<D> {
         }
     }
 
-    // The entry of a call that is done is made; or the plan is kept that it needs. Inline, so that an attempt that is known where it is
+    // The entry of a call that is done is made; or the plan is kept that it needs, and where a Sync began. Inline, so that an attempt that is known where it is
     // concluded isn't made first.
     #[inline(always)]
     fn conclude(&mut self, seat: u32, process: u32, call: &Call, attempt: Attempt) -> Attempt
-        requires { length (entries_of self.old.history process)
+        requires room { length (entries_of self.old.history process)
             < room_of self.old.entries process }
+        requires own { seat_of process ≡ seat }
         ensures same { result ≡ attempt }
         ensures new { self.new ≡ after_answer self.old seat process call.now result }
-        ensures seated { (reply : replies.Reply) → result ≡ Done reply
-            → process ≤ length self.old.syncs }
+        ensures seated { seat < length self.old.syncs }
     {
+        self.seated(seat, process);
         forget(&mut self.plan);
         match &attempt {
             Attempt::Done(reply) => self.add(process, call, reply),
             Attempt::Need(plan) => {
+                self.begin_call(seat, call);
                 self.plan = Some(Kept {
                     seat,
                     plan: *plan,
                     of: Some((process, *call)),
                 });
             }
-            Attempt::Busy(_) => {}
+            Attempt::Busy(_) => self.begin_call(seat, call),
         }
         attempt
     }
@@ -111,12 +113,14 @@ impl<D: Disk> VmState<D> {
         requires alive { IsSome (finite.get self.old.memory.spaces process) }
         requires fits { MemoryFits self.old.memory }
         ensures serves { IfOk result (λ attempt. Serves self.old.memory self.new.memory
-            self.old.pending self.new.pending process call.now attempt) }
+            self.old.pending self.new.pending self.old.calls process call.now attempt) }
         ensures shown { IfOk result (λ attempt. IsShownAfterCall self.new.memory process
             call.now attempt) }
         ensures slots { IfOk result (λ attempt. SlotsAfterCall self.old.memory
             self.new.memory.world process call.now attempt) }
-        ensures own { IfOk result IsOwnReply }
+        ensures hit { IfOk result (λ attempt. IsHitAfterCall self.old.memory
+            self.new.memory.world process call.now attempt) }
+        ensures own { IfOk result (IsOwnReply self.old process) }
         ensures alive { IfOk result (λ attempt. StaysAlive self.new.memory process call.now) }
         // What stays.
         ensures rest { self.new ≡ with_memory self.old self.new.memory self.new.pending }
@@ -137,11 +141,13 @@ impl<D: Disk> VmState<D> {
         requires fits { MemoryFits self.old.memory }
         requires noted { (notes : Notes) × NotesFit self.old.memory.world notes }
         ensures serves { Serves self.old.memory self.new.memory
-            self.old.pending self.new.pending process call.now (attempt_of result) }
+            self.old.pending self.new.pending self.old.calls process call.now (attempt_of result) }
         ensures shown { IsShownAfterCall self.new.memory process call.now (attempt_of result) }
         ensures slots { SlotsAfterCall self.old.memory self.new.memory.world process
             call.now (attempt_of result) }
-        ensures own { IsOwnReply (attempt_of result) }
+        ensures hit { IsHitAfterCall self.old.memory self.new.memory.world process
+            call.now (attempt_of result) }
+        ensures own { IsOwnReply self.old process (attempt_of result) }
         ensures alive { StaysAlive self.new.memory process call.now }
         // What stays.
         ensures rest { self.new ≡ with_memory self.old self.new.memory self.new.pending }
@@ -156,11 +162,11 @@ impl<D: Disk> VmState<D> {
         requires alive { IsSome (finite.get self.old.memory.spaces process) }
         requires fits { MemoryFits self.old.memory }
         ensures serves { IfOk result (λ attempt. Serves self.old.memory self.new.memory
-            self.old.pending self.new.pending process call.now attempt) }
+            self.old.pending self.new.pending self.old.calls process call.now attempt) }
         ensures fall { IfOk result (λ attempt. (slot : ℕ)
             → count_at self.new.memory.world.anon slot
             ≤ count_at self.old.memory.world.anon slot) }
-        ensures own { IfOk result IsOwnReply }
+        ensures own { IfOk result (IsOwnReply self.old process) }
         ensures alive { IfOk result (λ attempt. StaysAlive self.new.memory process call.now) }
         // What stays.
         ensures rest { self.new ≡ with_memory self.old self.new.memory self.new.pending }
@@ -176,10 +182,10 @@ impl<D: Disk> VmState<D> {
         requires alive { IsSome (finite.get self.old.memory.spaces process) }
         requires fits { MemoryFits self.old.memory }
         ensures serves { Serves self.old.memory self.new.memory
-            self.old.pending self.new.pending process call.now result }
+            self.old.pending self.new.pending self.old.calls process call.now result }
         ensures fall { (slot : ℕ) → count_at self.new.memory.world.anon slot
             ≤ count_at self.old.memory.world.anon slot }
-        ensures own { IsOwnReply result }
+        ensures own { IsOwnReply self.old process result }
         // What stays.
         ensures rest { self.new ≡ with_memory self.old self.new.memory self.new.pending }
     {

@@ -127,6 +127,7 @@ impl<D: Disk> VmState<D> {
     /// Takes no memory, and makes no disk call. Time: the page's translations.
     pub fn clock(&mut self, seat: u32) -> Option<Plan>
         requires fits { FitsAt self.old seat None }
+        requires seat { seat < length self.old.syncs }
         ensures moves { ClockMoves self.old.memory.world self.new.memory.world result }
         ensures event { IsEvent seat self.old None self.new None }
         // What stays: all but the world and the plan that is kept.

@@ -1,8 +1,9 @@
 //! The state, and what it tells.
-ghost use Rattle.std.specs.Prelude.{◌≡◌, ◌↔◌, ◌+◌, ◌<◌, ◌≤◌, ℕ, length, option_map, IsSome, IsTrue};
+ghost use Rattle.std.specs.Prelude.{◌≡◌, ◌↔◌, ◌+◌, ◌<◌, ◌≤◌, ℕ, length, option_map, IsSome, IsTrue, Some};
 ghost use Rattle.std.specs.FinMap as finite;
 ghost use Rattle.flat_model.specs.Told.{entries_of};
-ghost use Rattle.vm_world.specs.State.{room_of};
+ghost use Rattle.vm_world.specs.State.{room_of, seat_of};
+ghost use Rattle.vm_world.specs.SyncSteps.{with_call_begun};
 ghost use Rattle.vm_types.specs.Parts.{part_file};
 ghost use Rattle.vm_core.specs.State.{kept_seen, with_next_entry, without_seat, calls_without};
 
@@ -114,6 +115,29 @@ impl<D: Disk> VmState<D> {
         self.ledger.push(process, call, reply, self.world.pending);
         self.world.pending = 0;
         self.syncs[process as usize - 1] = None;
+    }
+
+    // The seat of a process that may make an entry is one of the seats.
+    #[inline(always)]
+    pub(crate) fn seated(&self, seat: u32, process: u32)
+        requires room { length (entries_of self.now.history process)
+            < room_of self.now.entries process }
+        requires own { seat_of process ≡ seat }
+        ensures { seat < length self.now.syncs }
+    {
+        let _ = (seat, process, self.syncs.len());
+    }
+
+    // Where the call is a Sync, the seat keeps where it began.
+    pub(crate) fn begin_call(&mut self, seat: u32, call: &Call)
+        requires { seat < length self.old.syncs }
+        ensures { self.new ≡ with_call_begun self.old seat call.now }
+    {
+        if let Call::Sync { .. } = *call {
+            let now = self.ledger.history().len() as u64;
+            let start = self.syncs[seat as usize].unwrap_or(now);
+            self.syncs[seat as usize] = Some(start);
+        }
     }
 
     // Where this call is a part of a file whose call is the seat's, that call of the file is over.

@@ -1,6 +1,6 @@
 -- THE FILES OF THE TRIALS lie on their two disks.
 use Rattle.std.proofs.Common.{◌≡◌, ℕ, zero, suc, ◌<◌, ◌≤◌, ◌==◌, Bool, true, false, List, [], ◌∷◌, length, Option, Some, None, refl, sym, ap, ◌∙◌, subst, arith}
-use Rattle.std.specs.Prelude.{IsSome, slice_index, unwrap_or, count_by, if◌then◌else◌}
+use Rattle.std.specs.Prelude.{IsSome, is_some, slice_get, slice_index, unwrap_or, count_by, if◌then◌else◌}
 use Rattle.std.specs.Ordering.{nat_cmp}
 use Rattle.std.specs.FinMap as finite
 use Rattle.std.specs.List.{flat_map}
@@ -104,12 +104,19 @@ module _ (a b : List ℕ) where
   on-disks seen disks d e is first second = subst (λ (l : List (ℕ × _)). FilesOnDisks files (pairs_seen seen l)) (sym is) (record {
     set = set;
     there = λ number blocks at. let s = set-disks number blocks at in lists number blocks s.0 s.1;
+    all = each-set;
+    small = λ number blocks at. let few = (set-disks number blocks at).1 in omega (arith, few);
     lie = lie;
     apart = apart;
     few = few-extents;
     some = some-extent;
   })
     where
+      each-set : (place number : ℕ) (disk : DiskSeen) → slice_get ((0, seen d) ∷ (1, seen e) ∷ []) place ≡ Some (number, disk) → IsSome (finite.get trial_disks.disks number)
+      each-set zero number disk at = subst (λ (n : ℕ). IsSome (finite.get trial_disks.disks n)) (let z : Some (0, seen d) ≡ Some (number, disk) = at in cc) (ap is_some first-set)
+      each-set (suc zero) number disk at = subst (λ (n : ℕ). IsSome (finite.get trial_disks.disks n)) (let z : Some (1, seen e) ≡ Some (number, disk) = at in cc) (ap is_some second-set)
+      each-set (suc (suc k)) number disk at = absurd (let z : ◌≡◌ {A = Option (ℕ × DiskSeen)} None (Some (number, disk)) = at in cc)
+
       lists : (number blocks : ℕ) → number < 2 → 16 ≡ blocks → ListsDisk (pairs_seen seen ((0, d) ∷ (1, e) ∷ [])) number blocks
       lists zero blocks lt is = record { place = 0; disk = seen d; there = refl; size = first ∙ is }
       lists (suc zero) blocks lt is = record { place = 1; disk = seen e; there = refl; size = second ∙ is }
@@ -135,10 +142,12 @@ pub is-set : (f : FilesSeen) (disk number : ℕ) → f.disks ≡ trial_disks.dis
 is-set f disk number same is set = subst (λ (o : Option ℕ). IsSome o) (sym (ap (λ (m : finite.FinMap nat_cmp ℕ). finite.get m disk) same ∙ ap (finite.get trial_disks.disks) is ∙ set)) refl
 
 -- no file needs no disk
-pub none-on-disks : (disks : List (ℕ × DiskSeen)) → FilesOnDisks no_files disks
-none-on-disks disks = record {
+pub none-on-disks : FilesOnDisks no_files []
+none-on-disks = record {
   set = λ file lt. absurd (omega (arith, lt));
   there = λ number blocks at. absurd (let e : ◌≡◌ {A = Option ℕ} None (Some blocks) = sym (finite.get-empty nat_cmp number) ∙ at in cc);
+  all = λ place number disk at. absurd (let e : ◌≡◌ {A = Option (ℕ × DiskSeen)} None (Some (number, disk)) = at in cc);
+  small = λ number blocks at. absurd (let e : ◌≡◌ {A = Option ℕ} None (Some blocks) = sym (finite.get-empty nat_cmp number) ∙ at in cc);
   lie = All-nil _;
   apart = λ disk block. omega arith;
   few = λ disk. omega arith;

@@ -17,7 +17,7 @@ use Rattle.seg_vn.specs.declared.attempt.Attempt.TheVariants.{Done, Need, Busy}
 use Rattle.vm_world.specs.Events.{IsEvent, MayBear}
 use Rattle.vm_world.specs.Opening.{no_seats}
 use Rattle.vm_world.specs.StateFits.{StateFits}
-use Rattle.vm_world.specs.State.{KernelState, Seats, Sent, Caller, KeptPlan, with_sent, seats_of}
+use Rattle.vm_world.specs.State.{KernelState, Fixed, Seats, Sent, Caller, KeptPlan, with_sent, seats_of}
 use Rattle.vm_world.proofs.StateSteps.{same-seats}
 use Rattle.vm_world.proofs.Told.{event_law}
 use Rattle.vm_core.specs.Calls.{IsServed, AnswersCall}
@@ -54,13 +54,13 @@ follows-next H e follows ends d = subst (λ (o : Option Entry). MatchOption o (U
 
 answered-follows : (s t : KernelState) (seat p : ℕ) (call : Call) (a : Attempt) → AnyFollows s.history → IsServed call → AnswersCall s t seat p call a → AnyFollows t.history
 answered-follows s t seat p call (Done reply) follows served answers = subst AnyFollows (sym answers.adds.history) (follows-next s.history _ follows (served-ends call reply served))
-answered-follows s t seat p call (Need plan) follows served answers = subst AnyFollows (sym answers.none.history) follows
-answered-follows s t seat p call (Busy hold) follows served answers = subst AnyFollows (sym answers.none.history) follows
+answered-follows s t seat p call (Need plan) follows served answers = subst AnyFollows (sym answers.began.none.history) follows
+answered-follows s t seat p call (Busy hold) follows served answers = subst AnyFollows (sym answers.began.none.history) follows
 
 ended-follows : (u t : KernelState) (of : Option Caller) (answer : Option Reply) → AnyFollows u.history → IsOfServed of → EndsWith u t of answer → AnyFollows t.history
 ended-follows u t (Some of) (Some reply) follows served ends = subst AnyFollows (sym ends.history) (follows-next u.history _ follows (served-ends of.1 reply served))
-ended-follows u t (Some of) None follows served ends = subst AnyFollows (sym ends.0.history) follows
-ended-follows u t None None follows served ends = subst AnyFollows (sym ends.0.history) follows
+ended-follows u t (Some of) None follows served ends = subst AnyFollows (sym ends.none.history) follows
+ended-follows u t None None follows served ends = subst AnyFollows (sym ends.none.history) follows
 ended-follows u t None (Some reply) follows served ends = absurd ends
 
 -- WHAT THE SEATS HAVE OUTSIDE
@@ -89,6 +89,7 @@ trial-event s t trips seat trial idle event follows = record {
   fits = subst (λ (x : Seats). StateFits trial.opening t x) (same-seats (seats_with trips) seat None (seat-with trips seat None idle)) (event.fits trial.opening (seats_with trips) (seat-with trips seat None idle) trial.fits);
   follows = follows;
   seats = trial.seats;
+  seated = ap (λ (x : Fixed). x.seats) event.fixed ∙ trial.seated;
   each = trial.each;
 }
 
@@ -109,6 +110,7 @@ trial-sent s u trips seat kept f trial lt idle event same new served =
       fits = subst (λ (x : Seats). StateFits trial.opening u x) (seats-set trips seat (Some (f, kept.of)) within) (event.fits trial.opening (seats_with trips) (seat-with trips seat None idle) trial.fits);
       follows = subst AnyFollows (sym same) trial.follows;
       seats = length-set trips seat _ ∙ trial.seats;
+      seated = ap (λ (x : Fixed). x.seats) event.fixed ∙ trial.seated;
       each = each-set trips seat (Some (f, kept.of)) within trial.each (λ t is. subst (λ (o : Option TripSeen). IfSome o IsTrip) is (record { fresh = new; served = served }));
     }
 
@@ -126,6 +128,7 @@ trial-landed s t trips seat f of answer trial lt is event ends =
       fits = subst (λ (x : Seats). StateFits trial.opening t x) (seats-set trips seat None within) (event.fits trial.opening (seats_with trips) (seat-with trips seat _ is) trial.fits);
       follows = ended-follows s t of answer trial.follows (trial.each seat _ is).served ends;
       seats = length-set trips seat None ∙ trial.seats;
+      seated = ap (λ (x : Fixed). x.seats) event.fixed ∙ trial.seated;
       each = each-set trips seat None within trial.each (λ t no. absurd (cc));
     }
 
@@ -148,12 +151,13 @@ both [] k two first second = refl
 both (a ∷ []) k two first second = absurd (omega (arith, two))
 both (a ∷ b ∷ c ∷ l) k two first second = absurd (omega (arith, two))
 
-pub trial-starts : (s : KernelState) (opening : _) → StateFits opening s no_seats → s.history ≡ [] → IsTrialState s (None ∷ None ∷ [])
-trial-starts s opening fits none = record {
+pub trial-starts : (s : KernelState) (opening : _) → StateFits opening s no_seats → s.history ≡ [] → length s.syncs ≡ 2 → IsTrialState s (None ∷ None ∷ [])
+trial-starts s opening fits none seated = record {
   opening = opening;
   fits = subst (λ (x : Seats). StateFits opening s x) (λ i k. nothing k i) fits;
   follows = λ e. subst (λ (H : List Entry). MayFollow H e) (sym none) tt;
   seats = refl;
+  seated = seated;
   each = λ k t is. absurd (let e = sym (idle k) ∙ is in cc);
 }
 

@@ -238,6 +238,7 @@ module _ (page : Page) (whole : IsPage page) where
       ];
     };
     files = record {
+      small = λ number blocks is. absurd (no-disk number blocks is);
       each = λ f lt. absurd (omega (arith, lt));
       disjoint = disjoint;
       set = λ f lt. absurd (omega (arith, lt));
@@ -251,6 +252,7 @@ module _ (page : Page) (whole : IsPage page) where
     disks = record {
       numbers = λ number blocks is. absurd (no-disk number blocks is);
       there = λ number blocks is. absurd (no-disk number blocks is);
+      set = λ number low there. absurd (there (few-bays number low));
       swap = λ lt m. (let z : out 1 ≡ missing = m in cc);
       unused = λ none. absurd (omega (arith, none));
       sizes = λ number d is. absurd (no-home number d is);

@@ -91,7 +91,7 @@ no-count H e plain = by_reply e.reply plain
 not-io : (r : Reply) (d b a : ℕ) → is_io r ≡ false → r ≡ Io d b a → ⊥
 not-io r d b a plain is = let z : false ≡ true = sym plain ∙ ap is_io is in cc
 
-process-is : (p seat : ℕ) (n : ℕ) (entries : List ℕ) → seat_of p ≡ seat → n < room_of entries p → p ≡ suc seat
+pub process-is : (p seat : ℕ) (n : ℕ) (entries : List ℕ) → seat_of p ≡ seat → n < room_of entries p → p ≡ suc seat
 process-is zero seat n entries own room = absurd (omega (arith, room))
 process-is (suc q) seat n entries own room = ap suc own
 

@@ -200,13 +200,13 @@ module _ (m : Memory) (p : ℕ) (parts : List (Part Segment)) (x : Part Segment)
   there-mid : (n : ℕ) → x.piece.shown ≡ Some n → IsMapThere mid n
   there-mid n its = same-there maps mid n (same-mid n (shown-x n its).0) (shown-x n its).0
 
-  still : (n : ℕ) → IsMapThere maps n → IsMapThere now n × (places_of now n ≡ places_of maps n)
+  pub still : (n : ℕ) → IsMapThere maps n → IsMapThere now n × (places_of now n ≡ places_of maps n)
   still n there =
       let same = same-mid n there in
       let h = held-places mid x.piece.shown n (same-there maps mid n same there) in
       (h.0, h.1 ∙ same-places maps mid n same)
 
-  keeps : (q : ℕ) (ps : List (Part Segment)) → finite.get m.spaces q ≡ Some ps → All (λ (a : Part Segment). KeepsMaps maps now a.piece) ps
+  pub keeps : (q : ℕ) (ps : List (Part Segment)) → finite.get m.spaces q ≡ Some ps → All (λ (a : Part Segment). KeepsMaps maps now a.piece) ps
   keeps q ps there = all-turn (λ (a : Part Segment). SegmentFits files maps a × ((z n : ℕ) → a.piece.own ≡ Some n → holders_of maps n ≡ 1 → finite.get zs z ≡ Some n → ⊥)) (λ (a : Part Segment). KeepsMaps maps now a.piece) ps
       (λ a both. record {
         own = λ n its.
@@ -217,7 +217,7 @@ module _ (m : Memory) (p : ℕ) (parts : List (Part Segment)) (x : Part Segment)
       (all-both (SegmentFits files maps) (λ (a : Part Segment). (z n : ℕ) → a.piece.own ≡ Some n → holders_of maps n ≡ 1 → finite.get zs z ≡ Some n → ⊥) ps (fits.segments.each q ps there) (own-unshown m fits q ps there))
 
   -- the own map that comes
-  own-here : (k : ℕ) → x.piece.own ≡ Some k → anon_map_at now k ≡ Some (fresh_map (replicate x.piece.pages None))
+  pub own-here : (k : ℕ) → x.piece.own ≡ Some k → anon_map_at now k ≡ Some (fresh_map (replicate x.piece.pages None))
   own-here k its =
       held-else mid x.piece.shown k (λ shown. absurd (let t : IsSome (anon_map_at maps k) = (shown-x k shown).0 in let z : false ≡ true = sym (ap is_some (unused k its).absent) ∙ t in cc))
       ∙ ap (λ (o : Option ℕ). anon_map_at (maps_made maps o x.piece.pages) k) its ∙ with_map_same maps k (fresh_map (replicate x.piece.pages None)) (unused k its)
@@ -278,7 +278,7 @@ module _ (m : Memory) (p : ℕ) (parts : List (Part Segment)) (x : Part Segment)
   zeros-same : total (λ number. length (places_of now number)) zs ≡ total (λ number. length (places_of maps number)) zs
   zeros-same = total-same (λ number. length (places_of maps number)) (λ number. length (places_of now number)) zs (λ z n there. ap (λ (ps : List (Option ℕ)). length ps) (still n (zero-there m fits z n there)).1)
 
-  comes : Comes m p parts x now more zs
+  pub comes : Comes m p parts x now more zs
   comes = record {
     place = may.place;
     keeps = keeps;

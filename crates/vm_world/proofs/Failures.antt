@@ -6,7 +6,6 @@ use Rattle.std.proofs.lemmas.Bool.{cases_eq}
 use Rattle.std.proofs.lemmas.Bool.Decides.{eqb_tells}
 use Rattle.std.proofs.lemmas.List.Elements.{All-nil, All-cons}
 use Rattle.block_device.specs.Counts.{HasRisen}
-use Rattle.block_device.specs.DiskSeen.{DiskSeen}
 use Rattle.vm_types.specs.declared.call.Call.{Call}
 use Rattle.vm_types.specs.declared.call.Call.TheVariants.{Fork}
 use Rattle.vm_types.specs.declared.call.Entry.{Entry}
@@ -15,7 +14,8 @@ use Rattle.vm_types.specs.declared.call.Reply.TheVariants as reply
 use Rattle.vm_types.specs.declared.call.Reply.TheVariants.{Io}
 use Rattle.vm_types.specs.Parts.{is_part}
 use Rattle.page_hash.specs.declared.PageName.{PageName}
-use Rattle.page_store.specs.Bays.{home, bay_at}
+use Rattle.page_store.specs.Bays.{bay_at}
+use Rattle.page_store.specs.Flight.{FlightSeen, failed}
 use Rattle.flat_model.specs.CountLaws.{count_after, last_count}
 use Rattle.flat_model.specs.Counted.{top_count, IsCountedRise}
 use Rattle.flat_model.specs.Flat.{Flat, IsFlat}
@@ -32,7 +32,7 @@ use Rattle.vm_world.specs.Events.{IsEvent}
 use Rattle.vm_world.specs.Failures.{io_entry, with_entry_made, FailureRule}
 use Rattle.vm_world.specs.State.{KernelState, Seats, Sent, KeptPlan, notes_of, with_sent, fixed_of, seat_of, room_of}
 use Rattle.vm_world.specs.StateFits.{StateFits, CallerFits}
-use Rattle.vm_world.specs.StateSteps.{after_step, PendsTails, CountsOn, ComesBack}
+use Rattle.vm_world.specs.StateSteps.{after_step, PendsTails, ComesBack}
 use Rattle.vm_world.specs.WorldSteps.{returns, WorldStep}
 use Rattle.vm_world.proofs.Entries.{entry-step, entry-faults, entry-calls, entry-rooms, entry-births, entry-part, not-left}
 use Rattle.vm_world.proofs.Callers.{caller-longer}
@@ -137,35 +137,35 @@ io-fits opening s seats seat p call disk before after calls syncs fit idle own c
         by_last (Some d) is next = follows-part f d (io_entry p call disk before after s.pending) is next
 
 -- A FLIGHT THAT FAILED COMES BACK.
-rule-fails : (s : KernelState) (new : World) (cut : PageName → Bool) (pending seat p : ℕ) (call : Call) (sent : Sent) (d : DiskSeen) (calls syncs : List (Option ℕ)) → WorldStep s.memory.world new s.memory.spaces (returns seat sent.note) cut → PendsTails s.memory.world cut s.pending pending
-    → sent.of ≡ Some (p, call) → seat_of p ≡ seat → bay_at new.store.bays sent.note.number ≡ home d → CountsOn sent.note.disk d → HasRisen sent.note.disk.faults d.faults
-    → LocksAfter (io_entry p call sent.note.number sent.note.disk.faults d.faults pending) s.calls calls → StartsAfter (io_entry p call sent.note.number sent.note.disk.faults d.faults pending) s.syncs syncs → length syncs ≡ length s.syncs
-    → IsEvent seat s (Some sent) (with_entry_made (after_step s new pending) (io_entry p call sent.note.number sent.note.disk.faults d.faults pending) calls syncs) None
-rule-fails s new cut pending seat p call sent d calls syncs step tails for_call own back on risen locks starts count =
-    let counts : ComesBack sent.note new = λ x at. subst (λ (y : DiskSeen). CountsOn sent.note.disk y) (home-inj d x (sym back ∙ at)) on in
-    let event = rule-ends s new cut pending seat sent step tails counts in
+rule-fails : (s : KernelState) (new : World) (cut : PageName → Bool) (pending seat p : ℕ) (call : Call) (sent : Sent) (f : FlightSeen) (calls syncs : List (Option ℕ)) → WorldStep s.memory.world new s.memory.spaces (returns seat sent.note) cut → PendsTails s.memory.world cut s.pending pending
+    → sent.of ≡ Some (p, call) → seat_of p ≡ seat → ComesBack sent.note f new → f.outcome ≡ failed
+    → LocksAfter (io_entry p call f.number f.before f.disk.faults pending) s.calls calls → StartsAfter (io_entry p call f.number f.before f.disk.faults pending) s.syncs syncs → length syncs ≡ length s.syncs
+    → IsEvent seat s (Some sent) (with_entry_made (after_step s new pending) (io_entry p call f.number f.before f.disk.faults pending) calls syncs) None
+rule-fails s new cut pending seat p call sent f calls syncs step tails for_call own comes did locks starts count =
+    let event = rule-ends s new cut pending seat sent f step tails comes in
+    let number = comes.performed.number in
+    let before = comes.performed.before in
     record {
       fits = λ opening seats is fit.
           let noted : notes_of seats seat ≡ Some sent.note = ap (option_map (λ (x : Sent). x.note)) is in
           let old_count : faults_in (bay_at s.memory.world.store.bays sent.note.number) (notes_of seats) ≡ Some sent.note.disk.faults = ap (λ b. faults_in b (notes_of seats)) step.bays.0 ∙ ap (seen_of_note (λ disk. disk.faults)) noted in
           let most = fit.faults.most sent.note.number sent.note.disk.faults old_count in
-          io-fits opening (after_step s new pending) (with_sent seats seat None) seat p call sent.note.number sent.note.disk.faults d.faults calls syncs (event.fits opening seats is fit) (this-seat seats seat None) own
+          io-fits opening (after_step s new pending) (with_sent seats seat None) seat p call f.number f.before f.disk.faults calls syncs (event.fits opening seats is fit) (this-seat seats seat None) own
           (caller-step s new (returns seat sent.note) cut pending step tails (notes_of seats) (notes_of (with_sent seats seat None)) seat (p, call) (fit.plans.sent seat sent (p, call) is for_call))
-          (rise sent.note.disk.faults d.faults risen most on.most)
+          (subst (λ (n : ℕ). IsCountedRise n f.disk.faults) (sym before) (rise sent.note.disk.faults f.disk.faults (comes.performed.risen did) most comes.most))
+          (subst (λ (k : ℕ). last_count k s.history ≤ f.before) (sym number) (subst (λ (n : ℕ). last_count sent.note.number s.history ≤ n) (sym before)
           (last-below sent.note.number sent.note.disk.faults 0 s.history (λ k x b a at io.
           let r = fit.faults.reached k x sent.note.number b a at io in
           let enough = r.enough in
           let same : r.count ≡ sent.note.disk.faults = some-inj r.count sent.note.disk.faults (sym r.there ∙ old_count) in
-          omega (arith, enough, same)) (omega arith))
-          (record { count = d.faults; there = ap (λ b. faults_in b (notes_of (with_sent seats seat None))) back; enough = omega arith })
+          omega (arith, enough, same)) (omega arith))))
+          (subst (λ (k : ℕ). HasCounted new.store.bays (notes_of (with_sent seats seat None)) k f.disk.faults) (sym number)
+          (record { count = f.disk.faults; there = ap (λ b. faults_in b (notes_of (with_sent seats seat None))) comes.disk; enough = omega arith }))
           locks starts;
       fixed = ap (λ (n : ℕ). record (fixed_of (after_step s new pending)) { seats = n }) count ∙ event.fixed;
       sizes = event.sizes;
-      grown = (io_entry p call sent.note.number sent.note.disk.faults d.faults pending ∷ [], refl, All-cons (λ (x : Entry). seat_of x.process ≡ seat) (io_entry p call sent.note.number sent.note.disk.faults d.faults pending) [] own (All-nil (λ (x : Entry). seat_of x.process ≡ seat)));
+      grown = (io_entry p call f.number f.before f.disk.faults pending ∷ [], refl, All-cons (λ (x : Entry). seat_of x.process ≡ seat) (io_entry p call f.number f.before f.disk.faults pending) [] own (All-nil (λ (x : Entry). seat_of x.process ≡ seat)));
     }
-  where
-    home-inj : (x y : DiskSeen) → home x ≡ home y → x ≡ y
-    home-inj x y is = cc
 
 pub failure_rule : FailureRule
 failure_rule = record { fails = rule-fails }

@@ -16,7 +16,7 @@ use Rattle.vm_world.specs.SpaceSteps.{without_space}
 use Rattle.vm_world.specs.ZeroObjects.{AreSameZeros, KnowsZeros, free_number}
 use Rattle.vm_world.proofs.ComingParts.{zeros-come, zeros-made}
 use Rattle.vm_world.proofs.CutParts as cuts
-use Rattle.vm_world.proofs.FreeNumbers.{free-within, free-least}
+use Rattle.zero_objects.proofs.FreeNumbers.{free-within, free-least}
 use Rattle.vm_world.proofs.GoneParts.{part-zero, zeros-same, zeros-but-one}
 use Rattle.vm_world.proofs.LeftProcesses as left
 

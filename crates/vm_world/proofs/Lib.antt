@@ -1,5 +1,4 @@
 pub mod Lists
-pub mod FreeNumbers
 pub mod Maps
 pub mod Loaded
 pub mod FilePages
@@ -48,3 +47,14 @@ pub mod KnownZeros
 pub mod Unnamed
 pub mod HeldFlat
 pub mod HeldObjects
+pub mod SharedPlaces
+pub mod CopiedFlat
+pub mod CopiedParts
+pub mod ForkedFlat
+pub mod ForkEvents
+pub mod KeptStarts
+pub mod ProtectedParts
+pub mod LowestGaps
+pub mod FileSteps
+pub mod FileCalls
+pub mod FileLocks

@@ -53,14 +53,14 @@ past-spot true (Some x) may h h' sh sh' is = by_may (may x.0.prot) (sh (cell_of 
 abbrev pub is_writable : FileInfo → Bool
 is_writable info = info.writable
 
-abbrev writable_in : Option File → Result File Errno
+abbrev pub writable_in : Option File → Result File Errno
 writable_in o = ok_or o errno.NoObject >>= λ file. check file.writable errno.ReadOnly >> Ok file
 
-writable-in : (F : Flat) (f : ℕ) → writable_file F f ≡ writable_in (slice_get F.files f)
+pub writable-in : (F : Flat) (f : ℕ) → writable_file F f ≡ writable_in (slice_get F.files f)
 unfolding writable_file
 writable-in F f = refl
 
-abbrev kept_file : File → Result File Errno
+abbrev pub kept_file : File → Result File Errno
 kept_file x = Ok x
 
 by_writable : (b : Bool) (x y : File) → IsOk (check b errno.ReadOnly >> kept_file x) → IsOk (check b errno.ReadOnly >> kept_file y)

@@ -88,7 +88,7 @@ module _ (m : Memory) (p : ℕ) (parts : List (Part Segment)) (x : Part Segment)
     | inr f ↦ f
   ]
 
-  spot-after : (q k : ℕ) (y : Spot) → spot_at m.spaces q k ≡ Some y → spot_at after q k ≡ Some y
+  pub spot-after : (q k : ℕ) (y : Spot) → spot_at m.spaces q k ≡ Some y → spot_at after q k ≡ Some y
   spot-after q k y there = elim (cases_eq q p) [
     | inl same ↦
         let a : piece_at parts k ≡ Some y = sym (ap (option_and_then (λ (ps : List (Part Segment)). piece_at ps k)) is) ∙ ap (λ (j : ℕ). spot_at m.spaces j k) (sym same) ∙ there in
@@ -97,7 +97,7 @@ module _ (m : Memory) (p : ℕ) (parts : List (Part Segment)) (x : Part Segment)
   ]
 
   -- and each page shows what it showed, or the part that comes
-  spot-before : (q k : ℕ) (y : Spot) → spot_at after q k ≡ Some y → (spot_at m.spaces q k ≡ Some y) ⊎ (x.piece ≡ y.0)
+  pub spot-before : (q k : ℕ) (y : Spot) → spot_at after q k ≡ Some y → (spot_at m.spaces q k ≡ Some y) ⊎ (x.piece ≡ y.0)
   spot-before q k y there = elim (cases_eq q p) [
     | inl same ↦
         let a : piece_at new k ≡ Some y = sym (ap (option_and_then (λ (ps : List (Part Segment)). piece_at ps k)) (get-insert_here m.spaces p new)) ∙ ap (λ (j : ℕ). spot_at after j k) (sym same) ∙ there in
@@ -138,7 +138,7 @@ module _ (m : Memory) (p : ℕ) (parts : List (Part Segment)) (x : Part Segment)
       (λ z n place slot there held. c.once z n place slot (ap (λ (t : finite.FinMap nat_cmp ℕ). finite.get t z) (sym zeros-now) ∙ there) held)
       (let a = c.reserved in let b = sum-put slots_for_part x parts in let d = ap (total (λ number. length (places_of now number))) zeros-now in omega (arith, a, b, d))
 
-  spot-keeps : (q k : ℕ) (y : Spot) → spot_at m.spaces q k ≡ Some y → KeepsMaps maps now y.0
+  pub spot-keeps : (q k : ℕ) (y : Spot) → spot_at m.spaces q k ≡ Some y → KeepsMaps maps now y.0
   spot-keeps q k y there =
       let s : IsSpotOf (λ (a : Part Segment). KeepsMaps maps now a.piece) k y = spot-part (λ (a : Part Segment). KeepsMaps maps now a.piece) m.spaces q k y fits.segments.ordered c.keeps there in
       subst (KeepsMaps maps now) s.piece s.fits

@@ -1,5 +1,5 @@
 -- A call that is served is an event.
-use Rattle.std.proofs.Common.{◌≡◌, ◌≢◌, ℕ, true, false, List, length, Option, Some, None, refl, sym, ap, ◌∙◌, subst}
+use Rattle.std.proofs.Common.{◌≡◌, ◌≢◌, ◌<◌, ℕ, true, false, List, length, Option, Some, None, refl, sym, ap, ◌∙◌, subst}
 use Rattle.std.specs.Prelude.{IsSome, is_some}
 use Rattle.vm_types.specs.declared.call.Call.{Call}
 use Rattle.vm_types.specs.declared.call.Call.TheVariants.{Fork}
@@ -53,11 +53,11 @@ serves-done s new seat p more call reply calls syncs try serves stays may locks 
     }) locks starts count)
 
 -- A TRANSFER is needed first.
-serves-need : (s : KernelState) (new : Memory) (seat p more : ℕ) (call : Call) (plan : Plan) → CanTry s seat p call → ServesNeed s.memory new s.pending more p call plan → IsEvent seat s None (after_need s new more seat p call plan) None
-serves-need s new seat p more call plan try serves =
+serves-need : (s : KernelState) (new : Memory) (seat p more : ℕ) (call : Call) (plan : Plan) → CanTry s seat p call → seat < length s.syncs → ServesNeed s.memory new s.pending more p call plan → IsEvent seat s None (after_need s new more seat p call plan) None
+serves-need s new seat p more call plan try seated serves =
     let same = same-memory s.memory new serves.spaces in
     subst (λ (m : Memory). IsEvent seat s None (after_need s m more seat p call plan) None) same
-    (rule-plans s new.world serves.first.cut more (record { seat = seat; plan = plan; of = Some (p, call) }) serves.first.step serves.first.pends (subst (λ (m : Memory). CanRunPlan m (Some (p, call)) plan) (sym same) serves.runs)
+    (rule-plans s new.world serves.first.cut more (record { seat = seat; plan = plan; of = Some (p, call) }) serves.first.step serves.first.pends (subst (λ (m : Memory). CanRunPlan m (Some (p, call)) plan) (sym same) serves.runs) seated
     (λ of is. subst (λ (c : Caller). CanTry s seat c.0 c.1 × MayMeetFault (record s.memory { world = new.world }) c.0 c.1) (some-inj (p, call) of is) (try, subst (λ (m : Memory). MayMeetFault m p call) (sym same) serves.fault)))
 
 -- THE CALL HAS TO WAIT.

@@ -9,6 +9,7 @@ use Rattle.vm_types.specs.declared.call.Entry.{Entry}
 use Rattle.block_device.specs.DiskSeen.{DiskSeen}
 use Rattle.page_hash.specs.declared.PageName.{PageName}
 use Rattle.page_store.specs.Bays.{BaySeen, missing, home, out, bay_at}
+use Rattle.page_store.specs.Flight.{FlightSeen}
 use Rattle.page_store.specs.Notes.{Note, Notes, with_note}
 use Rattle.vnode_files.specs.Vnode.{VnodeSeen}
 use Rattle.flat_model.specs.Counted.{top_count}
@@ -26,7 +27,7 @@ use Rattle.vm_world.specs.Plans.{CanRunPlan, MayMeetFault}
 use Rattle.vm_world.specs.State.{KernelState, Seats, Sent, Caller, KeptPlan, notes_of, with_sent, fixed_of, seat_of}
 use Rattle.vm_world.specs.StateFits.{StateFits, CallerFits, PlanFits}
 use Rattle.vm_world.specs.Events.{IsEvent, CanTry}
-use Rattle.vm_world.specs.StateSteps.{after_step, PendsTails, CountsOn, ComesBack, StateRule}
+use Rattle.vm_world.specs.StateSteps.{after_step, PendsTails, ComesBack, StateRule}
 use Rattle.vm_world.specs.WorldSteps.{Trip, stays, leaves, returns, HasTrip, notes_after, WorldStep, tails_lost}
 use Rattle.flat_model.proofs.WellFormed.{IsFlat-tails_cleared}
 use Rattle.vm_world.proofs.Entries.{entry-tails, length-cleared}
@@ -143,9 +144,9 @@ rule-calm s new cut pending seat sent step tails = record {
 }
 
 -- A PLAN IS KEPT.
-pub rule-plans : (s : KernelState) (new : World) (cut : PageName → Bool) (pending : ℕ) (kept : KeptPlan) → WorldStep s.memory.world new s.memory.spaces stays cut → PendsTails s.memory.world cut s.pending pending → CanRunPlan (record s.memory { world = new }) kept.of kept.plan
+pub rule-plans : (s : KernelState) (new : World) (cut : PageName → Bool) (pending : ℕ) (kept : KeptPlan) → WorldStep s.memory.world new s.memory.spaces stays cut → PendsTails s.memory.world cut s.pending pending → CanRunPlan (record s.memory { world = new }) kept.of kept.plan → kept.seat < length s.syncs
     → ((of : Caller) → kept.of ≡ Some of → CanTry s kept.seat of.0 of.1 × MayMeetFault (record s.memory { world = new }) of.0 of.1) → IsEvent kept.seat s None (record (after_step s new pending) { plan = Some kept }) None
-rule-plans s new cut pending kept step tails runs may = record {
+rule-plans s new cut pending kept step tails runs seated may = record {
   fits = λ opening seats is fit. subst (λ (x : Seats). StateFits opening (record (after_step s new pending) { plan = Some kept }) x) (sym (same-seats seats kept.seat None is)) (state opening seats is fit);
   fixed = fixed-same s new stays cut pending step tails;
   sizes = λ opening seats is fit. sizes-still s (record (after_step s new pending) { plan = Some kept }) kept.seat None step.bays seats is;
@@ -173,7 +174,7 @@ rule-plans s new cut pending kept step tails runs may = record {
           rooms = calm.rooms;
           births = calm.births;
           plans = record {
-            plan = λ k at. subst (λ (x : KeptPlan). PlanFits (record (after_step s new pending) { plan = Some kept }) seats x) (some-inj kept k at) (record { may = runs.may; ready = runs.ready; frame = runs.frame; idle = is });
+            plan = λ k at. subst (λ (x : KeptPlan). PlanFits (record (after_step s new pending) { plan = Some kept }) seats x) (some-inj kept k at) (record { may = runs.may; ready = runs.ready; frame = runs.frame; seated = seated; idle = is });
             planned = λ k of at for_call. subst (λ (x : KeptPlan). CallerFits (flat_memory (record s.memory { world = new }) s.born (notes_of seats)) s.history s.entries x.seat of) (some-inj kept k at)
                 (caller (notes_of seats) of (ap (λ (x : KeptPlan). x.of) (some-inj kept k at) ∙ for_call));
             sent = calm.plans.sent;
@@ -313,12 +314,12 @@ faults-return H bays new notes seat note d noted one was set more top f = record
     same = seen-apart (λ disk. disk.faults) bays new notes seat note d noted one was set
 
 -- A FLIGHT COMES BACK.
-pub rule-ends : (s : KernelState) (new : World) (cut : PageName → Bool) (pending seat : ℕ) (sent : Sent) → WorldStep s.memory.world new s.memory.spaces (returns seat sent.note) cut → PendsTails s.memory.world cut s.pending pending → ComesBack sent.note new → IsEvent seat s (Some sent) (after_step s new pending) None
-rule-ends s new cut pending seat sent step tails comes = record {
+pub rule-ends : (s : KernelState) (new : World) (cut : PageName → Bool) (pending seat : ℕ) (sent : Sent) (f : FlightSeen) → WorldStep s.memory.world new s.memory.spaces (returns seat sent.note) cut → PendsTails s.memory.world cut s.pending pending → ComesBack sent.note f new → IsEvent seat s (Some sent) (after_step s new pending) None
+rule-ends s new cut pending seat sent f step tails comes = record {
   fits = λ opening seats is fit.
       let noted : notes_of seats seat ≡ Some sent.note = ap (option_map (λ (x : Sent). x.note)) is in
       event-state s new (returns seat sent.note) cut pending step tails opening seats (with_sent seats seat None) (notes-with seats seat None) noted
-      (faults-return s.history s.memory.world.store.bays new.store.bays (notes_of seats) seat sent.note step.bays.1.0 noted (λ k at. one-disk opening seats fit noted k at) step.bays.0 step.bays.1.1 on.later on.most fit.faults)
+      (faults-return s.history s.memory.world.store.bays new.store.bays (notes_of seats) seat sent.note step.bays.1.0 noted (λ k at. one-disk opening seats fit noted k at) step.bays.0 step.bays.1.1 later most fit.faults)
       (λ k x of at for_call. elim (cases_eq k seat) [
         | inl e ↦ absurd (let z : ◌≡◌ {A = Option Sent} None (Some x) = sym (this-seat seats seat None) ∙ ap (with_sent seats seat None) (sym e) ∙ at in cc)
         | inr ne ↦ fit.plans.sent k x of (sym (other-seat seats seat k None ne) ∙ at) for_call
@@ -327,13 +328,27 @@ rule-ends s new cut pending seat sent step tails comes = record {
   sizes = λ opening seats is fit number.
       let noted : notes_of seats seat ≡ Some sent.note = ap (option_map (λ (x : Sent). x.note)) is in
       ap (λ (n : Notes). seen_in (λ disk. disk.size) (bay_at new.store.bays number) n) (notes-with seats seat None)
-      ∙ seen-returns (λ disk. disk.size) s.memory.world.store.bays new.store.bays (notes_of seats) seat sent.note step.bays.1.0 noted (λ k at. one-disk opening seats fit noted k at) step.bays.0 step.bays.1.1 on.size number;
+      ∙ seen-returns (λ disk. disk.size) s.memory.world.store.bays new.store.bays (notes_of seats) seat sent.note step.bays.1.0 noted (λ k at. one-disk opening seats fit noted k at) step.bays.0 step.bays.1.1 size number;
   grown = no-entries s.history seat;
 }
   where
-    on : CountsOn sent.note.disk step.bays.1.0
-    on = comes step.bays.1.0 (ap (λ (b : List BaySeen). bay_at b sent.note.number) step.bays.1.1
-        ∙ get_or-set_same s.memory.world.store.bays sent.note.number (home step.bays.1.0) missing (out-below s.memory.world.store.bays sent.note.number seat step.bays.0))
+    home-inj : (x y : DiskSeen) → home x ≡ home y → x ≡ y
+    home-inj x y is = cc
+
+    -- the disk that comes home is the flight's
+    same : step.bays.1.0 ≡ f.disk
+    same = home-inj step.bays.1.0 f.disk (
+        sym (get_or-set_same s.memory.world.store.bays sent.note.number (home step.bays.1.0) missing (out-below s.memory.world.store.bays sent.note.number seat step.bays.0))
+        ∙ sym (ap (λ (b : List BaySeen). bay_at b sent.note.number) step.bays.1.1) ∙ comes.disk)
+
+    later : sent.note.disk.faults ≤ step.bays.1.0.faults
+    later = subst (λ (d : DiskSeen). sent.note.disk.faults ≤ d.faults) (sym same) comes.performed.later
+
+    most : step.bays.1.0.faults ≤ top_count
+    most = subst (λ (d : DiskSeen). d.faults ≤ top_count) (sym same) comes.most
+
+    size : step.bays.1.0.size ≡ sent.note.disk.size
+    size = ap (λ (d : DiskSeen). d.size) same ∙ comes.performed.size
 
     one-disk : (opening : Flat) (seats : Seats) → StateFits opening s seats → notes_of seats seat ≡ Some sent.note → (k : ℕ) → bay_at s.memory.world.store.bays k ≡ out seat → k ≡ sent.note.number
     one-disk opening seats fit noted k at =

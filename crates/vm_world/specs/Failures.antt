@@ -1,16 +1,14 @@
 -- A flight that failed comes back, with its entry. Public clauses cite this.
 use Rattle.std.specs.Prelude.{◌≡◌, ◌++◌, ℕ, [], ◌∷◌, List, length, Option, Some, None, Bool}
-use Rattle.block_device.specs.Counts.{HasRisen}
-use Rattle.block_device.specs.DiskSeen.{DiskSeen}
 use Rattle.vm_types.specs.declared.call.Call.{Call}
 use Rattle.vm_types.specs.declared.call.Entry.{Entry}
 use Rattle.vm_types.specs.declared.call.Reply.TheVariants.{Io}
 use Rattle.page_hash.specs.declared.PageName.{PageName}
-use Rattle.page_store.specs.Bays.{home, bay_at}
+use Rattle.page_store.specs.Flight.{FlightSeen, failed}
 use Rattle.vm_world.specs.EntryLaws.{LocksAfter, StartsAfter}
 use Rattle.vm_world.specs.Events.{IsEvent}
 use Rattle.vm_world.specs.State.{KernelState, Sent, seat_of}
-use Rattle.vm_world.specs.StateSteps.{after_step, PendsTails, CountsOn}
+use Rattle.vm_world.specs.StateSteps.{after_step, PendsTails, ComesBack}
 use Rattle.vm_world.specs.World.{World}
 use Rattle.vm_world.specs.WorldSteps.{returns, WorldStep}
 
@@ -22,13 +20,13 @@ io_entry p call disk before after cleared = record { process = p; call = call; r
 abbrev pub with_entry_made : KernelState → Entry → List (Option ℕ) → List (Option ℕ) → KernelState
 with_entry_made s e calls syncs = record s { history = s.history ++ e ∷ []; pending = 0; calls = calls; syncs = syncs; plan = None }
 
--- A flight comes back in a step of the world, and its disk counted a fault: with the entry of that error, for the process and call that the flight was for,
--- it is an event of its seat.
+-- A flight that failed comes back in a step of the world: with the entry of that error, which has the flight's own counts, for the process and call that
+-- the flight was for, it is an event of its seat.
 pub record FailureRule : Type 0 where
-  pub fails : (s : KernelState) (new : World) (cut : PageName → Bool) (pending seat p : ℕ) (call : Call) (sent : Sent) (d : DiskSeen) (calls syncs : List (Option ℕ))
+  pub fails : (s : KernelState) (new : World) (cut : PageName → Bool) (pending seat p : ℕ) (call : Call) (sent : Sent) (f : FlightSeen) (calls syncs : List (Option ℕ))
       → WorldStep s.memory.world new s.memory.spaces (returns seat sent.note) cut → PendsTails s.memory.world cut s.pending pending
       → sent.of ≡ Some (p, call) → seat_of p ≡ seat
-      → bay_at new.store.bays sent.note.number ≡ home d → CountsOn sent.note.disk d → HasRisen sent.note.disk.faults d.faults
-      → LocksAfter (io_entry p call sent.note.number sent.note.disk.faults d.faults pending) s.calls calls
-      → StartsAfter (io_entry p call sent.note.number sent.note.disk.faults d.faults pending) s.syncs syncs → length syncs ≡ length s.syncs
-      → IsEvent seat s (Some sent) (with_entry_made (after_step s new pending) (io_entry p call sent.note.number sent.note.disk.faults d.faults pending) calls syncs) None
+      → ComesBack sent.note f new → f.outcome ≡ failed
+      → LocksAfter (io_entry p call f.number f.before f.disk.faults pending) s.calls calls
+      → StartsAfter (io_entry p call f.number f.before f.disk.faults pending) s.syncs syncs → length syncs ≡ length s.syncs
+      → IsEvent seat s (Some sent) (with_entry_made (after_step s new pending) (io_entry p call f.number f.before f.disk.faults pending) calls syncs) None

@@ -29,5 +29,12 @@ pub mod SeatLaws
 pub mod SpaceSteps
 pub mod MapSteps
 pub mod SegmentSteps
+pub mod ForkSteps
+pub mod SyncSteps
+pub mod ProtectSteps
+pub mod GapSteps
+pub mod FileSteps
+pub mod FileLocks
+pub mod FileCalls
 pub mod ZeroObjects
 pub mod Words

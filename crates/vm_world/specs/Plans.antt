@@ -1,14 +1,16 @@
--- When a plan that is answered can run, and which calls may meet a device error. Public clauses cite this.
-use Rattle.std.specs.Prelude.{◌≡◌, ℕ, false, Option, None, IsSome}
+-- When a plan that is answered can run; which calls may meet a device error, and which signal or errno is due to a call. Public clauses cite this.
+use Rattle.std.specs.Prelude.{◌≡◌, ℕ, false, Option, Some, None, IsSome}
 use Rattle.std.specs.FinSet as set
 use Rattle.std.specs.Ordering.{nat_cmp}
 use Rattle.vm_types.specs.declared.call.Call.{Call}
+use Rattle.vm_types.specs.declared.call.Reply.{Reply}
+use Rattle.vm_types.specs.declared.call.Reply.TheVariants as reply
 use Rattle.page_store.specs.Notes.{Notes}
 use Rattle.page_store.specs.Steps.{next_frame}
 use Rattle.page_store.specs.Transfers.{is_push}
 use Rattle.page_store.specs.Waits.{Waits, plan_page}
 use Rattle.page_store.specs.declared.plan.Plan.{Plan}
-use Rattle.flat_model.specs.Step.{MayFail}
+use Rattle.flat_model.specs.Step.{MayFail, effect}
 use Rattle.vm_world.specs.FlatMemory.{Memory, flat_memory}
 use Rattle.vm_world.specs.State.{Caller}
 use Rattle.vm_world.specs.Wants.{MayPlan}
@@ -23,3 +25,13 @@ pub record CanRunPlan (m : Memory) (of : Option Caller) (plan : Plan) : Type 0 w
 -- In flat memory the call may meet a device error, whatever the seats have outside.
 abbrev pub MayMeetFault : Memory → ℕ → Call → Type 0
 MayMeetFault m p call = (born : set.FinSet nat_cmp) (notes : Notes) → MayFail (flat_memory m born notes) p call
+
+-- A reply that is a signal or an errno; none for any other.
+abbrev pub refusal_in : Reply → Option Reply
+refusal_in (reply.Signal s) = Some (reply.Signal s)
+refusal_in (reply.Refused e) = Some (reply.Refused e)
+refusal_in r = None
+
+-- THE REFUSAL THAT IS DUE to a call in flat memory, a signal or an errno, or that none is; whatever the seats have outside, and whether disks tell or not.
+abbrev pub IsRefusal : Memory → ℕ → Call → Option Reply → Type 0
+IsRefusal m p call refusal = (born : set.FinSet nat_cmp) (notes : Notes) → refusal_in (effect (flat_memory m born notes) p call).reply ≡ refusal

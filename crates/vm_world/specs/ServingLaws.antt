@@ -1,5 +1,5 @@
 -- A call that is served is an event. Public clauses cite this.
-use Rattle.std.specs.Prelude.{◌≡◌, ◌≢◌, ℕ, List, length, Option, Some, None, IsFalse}
+use Rattle.std.specs.Prelude.{◌≡◌, ◌≢◌, ◌<◌, ℕ, List, length, Option, Some, None, IsFalse}
 use Rattle.vm_types.specs.declared.call.Call.{Call}
 use Rattle.vm_types.specs.declared.call.Call.TheVariants.{Fork}
 use Rattle.vm_types.specs.declared.call.Entry.{Entry}
@@ -54,7 +54,7 @@ pub record ServingLaw : Type 0 where
       → ServesDone s.memory new s.pending more p call reply → StaysAlive new p call → MayAnswer s seat p call reply
       → LocksAfter (done_entry p call reply more) s.calls calls → StartsAfter (done_entry p call reply more) s.syncs syncs → length syncs ≡ length s.syncs
       → IsEvent seat s None (with_entry_made (record s { memory = new }) (done_entry p call reply more) calls syncs) None
-  pub need : (s : KernelState) (new : Memory) (seat p more : ℕ) (call : Call) (plan : Plan) → CanTry s seat p call
+  pub need : (s : KernelState) (new : Memory) (seat p more : ℕ) (call : Call) (plan : Plan) → CanTry s seat p call → seat < length s.syncs
       → ServesNeed s.memory new s.pending more p call plan → IsEvent seat s None (after_need s new more seat p call plan) None
   pub busy : (s : KernelState) (new : Memory) (seat p more : ℕ) (call : Call) (hold : Hold)
       → ServesBusy s.memory new s.pending more s.calls p call hold → IsEvent seat s None (after_wait s new more) None

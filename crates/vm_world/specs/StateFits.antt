@@ -26,12 +26,13 @@ pub record CallerFits (now : Flat) (H : List Entry) (entries : List ℕ) (seat :
   pub fails : MayFail now of.0 of.1
   pub follows : (reply : Reply) (cleared : ℕ) → MayFollow H (record { process = of.0; call = of.1; reply = reply; cleared = cleared })
 
--- A kept plan is one that may be answered; its disk is home and its page isn't locked; a frame is there for a page that is read; and its seat has
--- nothing outside.
+-- A kept plan is one that may be answered; its disk is home and its page isn't locked; a frame is there for a page that is read; and its seat is one of
+-- the seats, and has nothing outside.
 pub record PlanFits (s : KernelState) (seats : Seats) (kept : KeptPlan) : Type 0 where
   pub may : MayPlan s.memory kept.of kept.plan
   pub ready : Waits s.memory.world.store (plan_page kept.plan) (world_table s.memory.world (plan_page kept.plan)).disk None
   pub frame : is_push kept.plan ≡ false → IsSome (next_frame s.memory.world.store)
+  pub seated : kept.seat < length s.syncs
   pub idle : seats kept.seat ≡ None
 
 -- The kept plan fits, and so does each process and call that it or a transfer is for.

@@ -1,8 +1,8 @@
 -- Events that are steps of the world, without an entry. Public clauses cite this.
 use Rattle.std.specs.Prelude.{◌≡◌, ◌<◌, ◌≤◌, ◌^◌, ◌||◌, ℕ, Bool, length, Option, Some, None}
-use Rattle.block_device.specs.DiskSeen.{DiskSeen}
 use Rattle.page_hash.specs.declared.PageName.{PageName}
 use Rattle.page_store.specs.Bays.{home, bay_at}
+use Rattle.page_store.specs.Flight.{FlightSeen, IsPerformed}
 use Rattle.page_store.specs.Notes.{Note}
 use Rattle.flat_model.specs.Counted.{top_count}
 use Rattle.flat_model.specs.Step.{is_bit_set}
@@ -21,15 +21,11 @@ pub record PendsTails (old : World) (cut : PageName → Bool) (pending more : �
   pub bits : (f : ℕ) → f < length old.files.files → is_bit_set more f ≡ (is_bit_set pending f || tails_lost old cut f)
   pub below : pending < 2 ^ length old.files.files → more < 2 ^ length old.files.files
 
--- A disk that comes back has its size, and counted no fewer faults than as it went, and not past the end of counts.
-pub record CountsOn (old new : DiskSeen) : Type 0 where
-  pub size : new.size ≡ old.size
-  pub later : old.faults ≤ new.faults
-  pub most : new.faults ≤ top_count
-
--- So does the disk that a note has, where it comes home.
-abbrev pub ComesBack : Note → World → Type 0
-ComesBack note new = (d : DiskSeen) → bay_at new.store.bays note.number ≡ home d → CountsOn note.disk d
+-- A flight comes back: what it did since it went, with its counts, none of which is past the end of counts; and its disk is home.
+pub record ComesBack (note : Note) (f : FlightSeen) (new : World) : Type 0 where
+  pub performed : IsPerformed note f
+  pub disk : bay_at new.store.bays note.number ≡ home f.disk
+  pub most : f.disk.faults ≤ top_count
 
 -- A step of the world is an event of any seat, where nothing leaves or comes back, also where a plan is kept then that may be answered and can run; of
 -- the seat that takes a flight out, where its plan was kept for the process and call that the flight is for; and of the seat whose flight comes back.
@@ -39,13 +35,13 @@ pub record StateRule : Type 0 where
       → IsEvent seat s sent (after_step s new pending) sent
   pub plans : (s : KernelState) (new : World) (cut : PageName → Bool) (pending : ℕ) (kept : KeptPlan)
       → WorldStep s.memory.world new s.memory.spaces stays cut → PendsTails s.memory.world cut s.pending pending
-      → CanRunPlan (record s.memory { world = new }) kept.of kept.plan
+      → CanRunPlan (record s.memory { world = new }) kept.of kept.plan → kept.seat < length s.syncs
       → ((of : Caller) → kept.of ≡ Some of → CanTry s kept.seat of.0 of.1 × MayMeetFault (record s.memory { world = new }) of.0 of.1)
       → IsEvent kept.seat s None (record (after_step s new pending) { plan = Some kept }) None
   pub begins : (s : KernelState) (new : World) (cut : PageName → Bool) (pending seat : ℕ) (sent : Sent) (kept : KeptPlan)
       → WorldStep s.memory.world new s.memory.spaces (leaves seat sent.note) cut → PendsTails s.memory.world cut s.pending pending
       → s.plan ≡ Some kept → kept.seat ≡ seat → kept.of ≡ sent.of
       → IsEvent seat s None (after_step s new pending) (Some sent)
-  pub ends : (s : KernelState) (new : World) (cut : PageName → Bool) (pending seat : ℕ) (sent : Sent)
-      → WorldStep s.memory.world new s.memory.spaces (returns seat sent.note) cut → PendsTails s.memory.world cut s.pending pending → ComesBack sent.note new
+  pub ends : (s : KernelState) (new : World) (cut : PageName → Bool) (pending seat : ℕ) (sent : Sent) (f : FlightSeen)
+      → WorldStep s.memory.world new s.memory.spaces (returns seat sent.note) cut → PendsTails s.memory.world cut s.pending pending → ComesBack sent.note f new
       → IsEvent seat s (Some sent) (after_step s new pending) None

@@ -113,6 +113,11 @@ pub record IsDirtyPage (w : World) (name : PageName) : Type 0 where
   pub home : residence w.store name ≡ Home frame
   pub modified : IsModified w.store w.hat.places frame
 
+-- The page is clean: it isn't modified where it is home, and isn't moving.
+pub record IsCleanPage (w : World) (name : PageName) : Type 0 where
+  pub unmodified : (frame : ℕ) → residence w.store name ≡ Home frame → ¬ IsModified w.store w.hat.places frame
+  pub still : (seat : ℕ) → residence w.store name ≢ Moving seat
+
 -- A page that is read in: it exists, no frame holds it, and it isn't blank.
 pub record MayReadIn (w : World) (name : PageName) : Type 0 where
   pub exists : IsTrue (page_exists w.files w.anon name)

@@ -4,12 +4,19 @@ ghost use Rattle.vm_world.specs.CallSteps.{CallRule};
 ghost use Rattle.vm_world.specs.EntryLaws.{EntryLaw};
 ghost use Rattle.vm_world.specs.EventLaws.{EventLaw};
 ghost use Rattle.vm_world.specs.Failures.{FailureRule};
+ghost use Rattle.vm_world.specs.FileCalls.{FileCallsLaw};
+ghost use Rattle.vm_world.specs.FileLocks.{FileLocksLaw};
+ghost use Rattle.vm_world.specs.FileSteps.{FileRule};
+ghost use Rattle.vm_world.specs.ForkSteps.{ForkRule};
+ghost use Rattle.vm_world.specs.GapSteps.{GapRule};
 ghost use Rattle.vm_world.specs.Laws.{FrameRule, CountsLaw, ReservedLaw};
 ghost use Rattle.vm_world.specs.Opening.{OpeningLaw};
+ghost use Rattle.vm_world.specs.ProtectSteps.{ProtectRule};
 ghost use Rattle.vm_world.specs.SeatLaws.{SeatLaw};
 ghost use Rattle.vm_world.specs.ServingLaws.{ServingLaw};
 ghost use Rattle.vm_world.specs.SegmentSteps.{SegmentRule, SegmentCells};
 ghost use Rattle.vm_world.specs.StateSteps.{StateRule};
+ghost use Rattle.vm_world.specs.SyncSteps.{StartRule};
 
 /// The state at the opening fits its own flat memory.
 #[tactic(auto, using(crate::proofs::Openings::opening_law))]
@@ -94,4 +101,46 @@ pub fn serving_law()
 #[tactic(auto, using(crate::proofs::SeatRules::seat_law))]
 pub fn seat_law()
     ensures { SeatLaw }
+{}
+
+/// What a process that comes with a copy of another's segments does, and that a Fork is an event.
+#[tactic(auto, using(crate::proofs::ForkEvents::fork_rule))]
+pub fn fork_law()
+    ensures { ForkRule }
+{}
+
+/// What a change of a part's protection does.
+#[tactic(auto, using(crate::proofs::ProtectedParts::protect_rule))]
+pub fn protect_law()
+    ensures { ProtectRule }
+{}
+
+/// The lowest gap between a process's cells, told by its parts.
+#[tactic(auto, using(crate::proofs::LowestGaps::gap_rule))]
+pub fn gap_law()
+    ensures { GapRule }
+{}
+
+/// That a Sync has begun is an event; where it began; and what a clean page is not written by.
+#[tactic(auto, using(crate::proofs::KeptStarts::start_rule))]
+pub fn start_law()
+    ensures { StartRule }
+{}
+
+/// What a change of one file does, and one such change after another.
+#[tactic(auto, using(crate::proofs::FileSteps::file_rule))]
+pub fn file_law()
+    ensures { FileRule }
+{}
+
+/// Calls on files, told by the files' records, and what those that are done do.
+#[tactic(auto, using(crate::proofs::FileCalls::file_calls_law))]
+pub fn file_calls_law()
+    ensures { FileCallsLaw }
+{}
+
+/// Whose call of a file is between two parts, after a call that was done.
+#[tactic(auto, using(crate::proofs::FileLocks::file_locks_law))]
+pub fn file_locks_law()
+    ensures { FileLocksLaw }
 {}

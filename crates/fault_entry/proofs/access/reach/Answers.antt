@@ -12,11 +12,12 @@ use Rattle.fault_entry.specs.Reaching.{may_access, ServesAccess}
 use Rattle.std.proofs.lemmas.Result.{err_from_is_err_and}
 use Rattle.seg_ops.specs.declared.plans.Fault.{Fault}
 use Rattle.vm_world.specs.declared.wants.Wants.{Wants}
-use Rattle.seg_ops.specs.Faults.{ServesFault}
+use Rattle.hat_layer.specs.Pool.{frame_for}
+use Rattle.seg_ops.specs.Faults.{ServesFault, LetsAccess}
 use Rattle.fault_entry.specs.declared.access.AccessStep.{AccessStep}
 use Rattle.fault_entry.specs.declared.access.AccessStep.TheVariants as access
 use Rattle.fault_entry.proofs.Found.{spot-found, spot-none, found-low}
-use Rattle.fault_entry.proofs.Reached.{align-access, unmapped-access, refused-access, hit-access, loaded-access, past-access, wants-access}
+use Rattle.fault_entry.proofs.Reached.{goes-there, align-access, unmapped-access, refused-access, hit-access, loaded-access, past-access, wants-access}
 use Rattle.fault_entry.proofs.access.reach.Given.{Over}
 use Rattle.fault_entry.proofs.access.reach.Goals.{After-may_access, After-fault}
 use Rattle.fault_entry.proofs.access.reach.Goals as goal
@@ -57,7 +58,7 @@ returns-in-Some-frame_for-clause-serves g c = λ spaces fits get.
     let pending : c.frame_for.new.world.pending ≡ c.args.world.now.pending = ap (λ v. v.pending) c.frame_for.ensures.rest in
     subst (λ (k : ℕ). ServesAccess (memory_of old spaces) (memory_of new spaces) c.args.world.now.pending k c.args.process c.args.addr c.args.size c.args.write (Ok (access.Reached c.in-Some-frame_for.frame))) (sym pending)
     (hit-access old spaces c.args.world.now.pending c.args.process c.args.addr c.args.size c.args.write fits new (spot g at) c.in-Some-frame_for.frame c.if-addr-size-ne0.false
-    (here g at spaces get) (sym (allowed g at) ∙ c.if-not-may_access.false) (c.frame_for.ensures.keeps spaces fits) (ap (λ v. v.anon) c.frame_for.ensures.rest) (ap (λ v. v.maps) c.frame_for.ensures.rest) c.in-Some-frame_for.ensures.noted)
+    (here g at spaces get) (sym (allowed g at) ∙ c.if-not-may_access.false) (c.frame_for.ensures.keeps spaces fits) (ap world_seen c.frame_for.ensures.rest) c.in-Some-frame_for.ensures.places c.in-Some-frame_for.ensures.noted)
 
 pub fault-requires-clause-home : goal.fault-requires-clause-home
 fault-requires-clause-home g c = λ beside.
@@ -74,6 +75,12 @@ served : (g : Over) (c : After-fault g) (spaces : Spaces) (new : World) (more : 
     → ServesAccess (memory_of (world_seen c.args.world.now) spaces) (memory_of new spaces) c.args.world.now.pending more c.args.process c.args.addr c.args.size c.args.write answer
 served g c spaces new more answer s = subst (λ v. ServesAccess (memory_of (world_seen v) spaces) (memory_of new spaces) v.pending more c.args.process c.args.addr c.args.size c.args.write answer) c.in_default-frame_for.ensures.none s
 
+-- the page had no translation that lets the access
+missed : (g : Over) (c : After-fault g) → LetsAccess (world_seen c.frame_for.new.world) c.args.process (page c.args.addr) c.args.write → ⊥
+missed g c lets =
+    goes-there (world_seen c.frame_for.new.world) c.args.process (page c.args.addr) c.args.write c.frame_for.result lets
+    (subst (λ v. c.frame_for.result ≡ frame_for v.hat.places c.args.process (page c.args.addr) c.args.write) (sym c.in_default-frame_for.ensures.none) c.frame_for.ensures.frame) c.in_default-frame_for.is
+
 pub returns-in-Loaded-clause-serves : goal.returns-in-Loaded-clause-serves
 returns-in-Loaded-clause-serves g c = λ spaces fits get.
     let at = (goal.at.returns-in-Loaded-clause-serves g c).After-may_access in
@@ -87,7 +94,8 @@ returns-in-Loaded-clause-serves g c = λ spaces fits get.
     served g (goal.at.returns-in-Loaded-clause-serves g c).After-fault spaces new c.noted.new.world.pending (Ok (access.Reached c.noted.result))
     (subst (λ (k : ℕ). ServesAccess (memory_of old spaces) (memory_of new spaces) c.frame_for.new.world.pending k c.args.process c.args.addr c.args.size c.args.write (Ok (access.Reached c.noted.result))) (sym pending)
     (loaded-access old new spaces c.frame_for.new.world.pending c.fault.new.world.pending c.args.process c.args.addr c.args.size c.args.write (spot g at) c.if-addr-size-ne0.false
-    place (sym (allowed g at) ∙ c.if-not-may_access.false) mid c.noted.result s (c.noted.ensures.keeps spaces s.acts.memory) (ap (λ v. v.anon) c.noted.ensures.rest) (ap (λ v. v.maps) c.noted.ensures.rest) c.noted.ensures.noted))
+    place (sym (allowed g at) ∙ c.if-not-may_access.false) still mid c.noted.result s (c.noted.ensures.keeps spaces s.acts.memory) (ap (λ v. v.anon) c.noted.ensures.rest) (ap (λ v. v.maps) c.noted.ensures.rest)
+    (ap (λ v. v.store.names) c.noted.ensures.rest) (missed g (goal.at.returns-in-Loaded-clause-serves g c).After-fault) c.noted.ensures.noted))
 
 pub returns-in-Past-clause-serves : goal.returns-in-Past-clause-serves
 returns-in-Past-clause-serves g c = λ spaces fits get.
@@ -96,7 +104,7 @@ returns-in-Past-clause-serves g c = λ spaces fits get.
     let new = world_seen c.fault.new.world in
     served g (goal.at.returns-in-Past-clause-serves g c).After-fault spaces new c.fault.new.world.pending (Ok (access.Refused signal.Past))
     (past-access (world_seen c.frame_for.new.world) new spaces c.frame_for.new.world.pending c.fault.new.world.pending c.args.process c.args.addr c.args.size c.args.write (spot g at) c.if-addr-size-ne0.false
-    place (sym (allowed g at) ∙ c.if-not-may_access.false) (subst (λ (a : Fault). ServesFault (memory_of (world_seen c.frame_for.new.world) spaces) (memory_of new spaces) c.frame_for.new.world.pending c.fault.new.world.pending c.args.process (page c.args.addr) (spot g at) c.args.write (Ok a)) c.in-Past.is (c.in_ok-fault.ensures.serves spaces (c.frame_for.ensures.keeps spaces fits).memory place)))
+    place (sym (allowed g at) ∙ c.if-not-may_access.false) (c.frame_for.ensures.keeps spaces fits).memory (subst (λ (a : Fault). ServesFault (memory_of (world_seen c.frame_for.new.world) spaces) (memory_of new spaces) c.frame_for.new.world.pending c.fault.new.world.pending c.args.process (page c.args.addr) (spot g at) c.args.write (Ok a)) c.in-Past.is (c.in_ok-fault.ensures.serves spaces (c.frame_for.ensures.keeps spaces fits).memory place)))
 
 pub returns-in_err-fault-clause-serves : goal.returns-in_err-fault-clause-serves
 returns-in_err-fault-clause-serves g c = λ spaces fits get.
@@ -106,5 +114,5 @@ returns-in_err-fault-clause-serves g c = λ spaces fits get.
     let is = err_from_is_err_and c.from_residual.result c.from_residual.ensures.1 in
     let wanted = served g (goal.at.returns-in_err-fault-clause-serves g c).After-fault spaces new c.fault.new.world.pending (Err c.in_err-fault.field-0.0)
     (wants-access (world_seen c.frame_for.new.world) new spaces c.frame_for.new.world.pending c.fault.new.world.pending c.args.process c.args.addr c.args.size c.args.write (spot g at) c.if-addr-size-ne0.false
-    place (sym (allowed g at) ∙ c.if-not-may_access.false) c.in_err-fault.field-0.0 (c.in_err-fault.ensures.serves spaces (c.frame_for.ensures.keeps spaces fits).memory place)) in
+    place (sym (allowed g at) ∙ c.if-not-may_access.false) (c.frame_for.ensures.keeps spaces fits).memory c.in_err-fault.field-0.0 (c.in_err-fault.ensures.serves spaces (c.frame_for.ensures.keeps spaces fits).memory place)) in
     rw (is.1, is.2) wanted

@@ -30,7 +30,7 @@ returns-in_err-reply-clause-err g c =
     (c.in_err-reply.ensures.err.1, same-spaces c.args.spaces.now.spaces c.args.process c.in-Some.space.now.parts c.map.new.space.parts (sym c.in-Some.ensures.found) c.in_err-reply.ensures.err.2)
 
 pub returns-clause-done : goal.returns-clause-done
-returns-clause-done g c =
+returns-clause-done g c = λ calls.
     map-serves (record { world = world_seen c.args.world.now; spaces = c.args.spaces.now.spaces }) (record { world = world_seen c.map.new.world; spaces = finite.insert c.args.spaces.now.spaces c.args.process c.map.new.space.parts })
     c.args.world.now.pending c.map.new.world.pending c.args.process c.map_wanted-wanted.result c.args.call.now c.in_ok-reply.reply c.map_wanted-wanted.ensures (ap (λ (w : World g.row.D.Denot). w.pending) c.map.ensures.rest) c.requires.fits
     (c.in_ok-reply.ensures.done c.args.spaces.now.spaces (record { here = sym c.in-Some.ensures.found; memory = c.requires.fits; known = c.requires.zeros })).0

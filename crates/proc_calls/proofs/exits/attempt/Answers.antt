@@ -10,7 +10,7 @@ unreachable-requires g c = only-exit c.args.call.now c.requires.served c.in_defa
 pub returns : goal.returns
 returns g c = record {
   ok = refl;
-  done = call-serves (record { world = world_seen c.args.world.now; spaces = c.args.spaces.now.spaces }) (record { world = world_seen c.exit.new.world; spaces = c.exit.new.spaces.spaces }) c.exit.new.world.zeros
+  done = λ calls. call-serves (record { world = world_seen c.args.world.now; spaces = c.args.spaces.now.spaces }) (record { world = world_seen c.exit.new.world; spaces = c.exit.new.spaces.spaces }) c.exit.new.world.zeros
       c.args.world.now.pending c.exit.new.world.pending c.args.process c.args.call.now c.in-Exit.is (ap (λ (w : World g.row.D.Denot). w.pending) c.exit.ensures.rest) c.requires.fits c.exit.ensures.changes;
   answer = tt;
   zeros = c.exit.ensures.changes.known;

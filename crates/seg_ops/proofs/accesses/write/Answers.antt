@@ -1,4 +1,4 @@
-use Rattle.std.proofs.Common.{◌≡◌, ℕ, ◌%◌, List, true, false, sym, ap, ◌∙◌, subst}
+use Rattle.std.proofs.Common.{◌≡◌, ℕ, ◌%◌, List, Option, true, false, sym, ap, ◌∙◌, subst}
 use Rattle.flat_model.specs.Words.{page, word_bytes}
 use Rattle.page_store.specs.Laws.{Pokes}
 use Rattle.page_store.specs.Steps.{with_piece}
@@ -35,3 +35,8 @@ returns-clause-writes g c = λ spaces space fits noted.
     write-word w spaces new space c.args.addr c.args.size c.args.value noted.entry h fits wrote
     (c.poke_frame.ensures.new ∙ ap (λ (b : List ℕ). with_piece w.store c.args.frame at b false) from ∙ ap (λ (f : ℕ). with_piece w.store f at (word_bytes c.args.size c.args.value) false) (sym noted.leads_there))
     (subst (λ (b : List ℕ). Pokes w.store new h.name at b) from (c.poke_frame.ensures.laws h.name (noted-home w spaces space (page c.args.addr) c.args.frame true fits noted)))
+
+pub returns-clause-store : goal.returns-clause-store
+returns-clause-store g c =
+    let e = c.poke_frame.ensures.new in
+    e ∙ ap (λ (frames : List (Option (List ℕ))). record c.args.world.now.store { frames = frames }) (sym (ap (λ s. s.frames) e))

@@ -1,13 +1,15 @@
-use Rattle.std.proofs.Common.{ℕ, Option, sym, ap, ◌∙◌, subst}
+use Rattle.std.proofs.Common.{ℕ, Option, sym, ap, ◌∙◌, subst, List}
 use Rattle.std.specs.Prelude.{IsSome, option_map}
 use Rattle.hat_layer.specs.Pool.{translation_at, told_of}
-use Rattle.page_hash.specs.Names.{is_name}
+use Rattle.page_hash.specs.Names.{is_name, name_at}
 use Rattle.page_store.specs.Steps.{next_name}
 use Rattle.vm_world.specs.StateSteps.{PendsTails}
 use Rattle.vm_world.specs.World.{world_seen}
 use Rattle.seg_vn.proofs.CopySteps.{gathered-next, gathered-listed, gathered-same}
 use Rattle.seg_vn.proofs.Takes.{takes-later, takes-next}
 use Rattle.seg_vn.proofs.copy_faults.clear_way.Goals as goal
+use Rattle.seg_vn.proofs.Replacements.{cut-frame}
+use Rattle.page_hash.specs.declared.PageName.{PageName}
 
 pub free_next-requires : goal.free_next-requires
 free_next-requires g c = record { fits = (c.requires.fits.0, (c.drop_translation.ensures.keeps c.requires.fits.0 c.requires.fits.1).memory) }
@@ -39,6 +41,11 @@ returns-clause-takes g c = λ spaces fits.
     let new = world_seen c.free_next.new.world in
     let keeps = c.drop_translation.ensures.keeps spaces fits in
     let pends = subst (λ (k : ℕ). PendsTails mid (is_name (next_name mid.store)) k c.free_next.new.world.pending) (ap (λ v. v.pending) c.drop_translation.ensures.rest) c.free_next.ensures.pends in
-    takes-later old mid new spaces c.args.world.now.pending c.free_next.new.world.pending fits keeps
-    (gathered-same old.store mid.store (option_map told_of (translation_at c.args.world.now.hat.places c.args.space c.args.page)) c.drop_translation.ensures.store) (ap (λ v. v.files) c.drop_translation.ensures.rest)
-    (takes-next mid new spaces c.args.world.now.pending c.free_next.new.world.pending (c.free_next.ensures.step spaces keeps.memory) pends c.free_next.ensures.took)
+    let names = gathered-same old.store mid.store (option_map told_of (translation_at c.args.world.now.hat.places c.args.space c.args.page)) c.drop_translation.ensures.store in
+    record {
+      takes = takes-later old mid new spaces c.args.world.now.pending c.free_next.new.world.pending fits keeps names (ap (λ v. v.files) c.drop_translation.ensures.rest)
+          (takes-next mid new spaces c.args.world.now.pending c.free_next.new.world.pending (c.free_next.ensures.step spaces keeps.memory) pends c.free_next.ensures.took);
+      next = λ name cut.
+          let h = cut-frame mid.store name cut in
+          (h.0, c.free_next.ensures.same ∙ h.1, ap (λ (ns : List (Option PageName)). name_at ns h.0) (sym names) ∙ h.2);
+    }

@@ -6,7 +6,7 @@ use Rattle.anon_map.specs.Maps.{AreEmpty, IsMapThere, holders_of, places_of}
 use Rattle.vm_world.specs.World.{world_seen}
 use Rattle.vm_world.specs.ZeroObjects.{free_number}
 use Rattle.vm_world.specs.declared.world.World.{World}
-use Rattle.vm_world.proofs.FreeNumbers.{free-cleared}
+use Rattle.zero_objects.proofs.FreeNumbers.{free-cleared}
 use Rattle.vm_world.proofs.KnownZeros.{known-within}
 use Rattle.seg_vn.proofs.GivenBack.{gives-none, places-given, places-empty, same-held, empty-here, none-empty}
 use Rattle.seg_vn.proofs.LeftSegments.{shown-is, shown-map, shown-unloaded, loses-shown, loses-none}

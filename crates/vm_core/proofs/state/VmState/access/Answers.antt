@@ -1,4 +1,4 @@
-use Rattle.std.proofs.Common.{ℕ, List, Option, sym, subst}
+use Rattle.std.proofs.Common.{ℕ, List, [], Option, sym, subst}
 use Rattle.fault_entry.specs.Answers.{attempt_of}
 use Rattle.vm_world.specs.MemoryFits.{MemoryFits}
 use Rattle.vm_world.specs.NotesFit.{NotesFit}
@@ -7,8 +7,8 @@ use Rattle.vm_world.specs.World.{world_table, world_seen}
 use Rattle.vm_world.specs.ZeroObjects.{KnowsZeros}
 use Rattle.seg_vn.specs.Serves.{Serves}
 use Rattle.seg_vn.specs.Spaces.{SpacesSeen}
-use Rattle.vm_core.specs.Calls.{IsShownAfterCall, SlotsAfterCall}
-use Rattle.vm_core.proofs.Served.{access-shown, access-slots, home-frame, kept-served, own-reply}
+use Rattle.vm_core.specs.Calls.{IsShownAfterCall, SlotsAfterCall, IsHitAfterCall}
+use Rattle.vm_core.proofs.Served.{access-hit, access-shown, access-slots, home-frame, kept-served, own-reply}
 use Rattle.vm_core.proofs.state.VmState.access.Given.{Over}
 use Rattle.vm_core.proofs.state.VmState.access.Goals.{After-answer}
 use Rattle.vm_core.proofs.state.VmState.access.Goals as goal
@@ -21,24 +21,24 @@ answer-requires-clause-home g c =
     (subst (λ (s : KernelState). NotesFit s.memory.world n.0) (sym c.self.view_is) n.1).stored
 
 -- what is answered, over the state as it was
-serves-is : (g : Over) (c : After-answer g) → Serves (record { world = world_seen c.self.inside.world; spaces = c.self.inside.spaces.spaces }) (record { world = world_seen c.answer.new.world; spaces = c.answer.new.spaces.spaces })
-    c.self.inside.world.pending c.answer.new.world.pending c.args.process c.args.call.now (attempt_of c.answer.result)
-serves-is g c =
+serves-is : (g : Over) (c : After-answer g) (calls : List (Option ℕ)) → Serves (record { world = world_seen c.self.inside.world; spaces = c.self.inside.spaces.spaces }) (record { world = world_seen c.answer.new.world; spaces = c.answer.new.spaces.spaces })
+    c.self.inside.world.pending c.answer.new.world.pending calls c.args.process c.args.call.now (attempt_of c.answer.result)
+serves-is g c calls =
     subst (λ (spaces : SpacesSeen). Serves (record { world = world_seen c.self.inside.world; spaces = c.self.inside.spaces.spaces }) (record { world = world_seen c.answer.new.world; spaces = spaces.spaces })
-    c.self.inside.world.pending c.answer.new.world.pending c.args.process c.args.call.now (attempt_of c.answer.result)) (sym c.answer.ensures.spaces) c.answer.ensures.serves
+    c.self.inside.world.pending c.answer.new.world.pending calls c.args.process c.args.call.now (attempt_of c.answer.result)) (sym c.answer.ensures.spaces) (c.answer.ensures.serves calls)
 
 pub invariant_of-self : goal.invariant_of-self
 invariant_of-self g c =
-    kept-served (record { world = world_seen c.self.inside.world; spaces = c.self.inside.spaces.spaces }) (record { world = world_seen c.answer.new.world; spaces = c.answer.new.spaces.spaces }) c.self.inside.world.zeros c.answer.new.world.zeros _ _ _ _ _ _ _ c.self.invariant
-    (subst (λ (spaces : SpacesSeen). KnowsZeros c.answer.new.world.zeros spaces.spaces) (sym c.answer.ensures.spaces) (subst (λ (zeros : List (Option ℕ)). KnowsZeros zeros c.self.inside.spaces.spaces) (sym c.answer.ensures.zeros) c.self.invariant.known)) (serves-is g c)
+    kept-served (record { world = world_seen c.self.inside.world; spaces = c.self.inside.spaces.spaces }) (record { world = world_seen c.answer.new.world; spaces = c.answer.new.spaces.spaces }) c.self.inside.world.zeros c.answer.new.world.zeros _ _ [] _ _ _ _ _ c.self.invariant
+    (subst (λ (spaces : SpacesSeen). KnowsZeros c.answer.new.world.zeros spaces.spaces) (sym c.answer.ensures.spaces) (subst (λ (zeros : List (Option ℕ)). KnowsZeros zeros c.self.inside.spaces.spaces) (sym c.answer.ensures.zeros) c.self.invariant.known)) (serves-is g c [])
 
 pub returns-clause-serves : goal.returns-clause-serves
 returns-clause-serves g c =
-    subst (λ (s : KernelState). Serves s.memory (record { world = world_seen c.answer.new.world; spaces = c.answer.new.spaces.spaces }) s.pending c.answer.new.world.pending c.args.process c.args.call.now (attempt_of c.answer.result))
-    c.self.view_is (serves-is g c)
+    subst (λ (s : KernelState). Serves s.memory (record { world = world_seen c.answer.new.world; spaces = c.answer.new.spaces.spaces }) s.pending c.answer.new.world.pending s.calls c.args.process c.args.call.now (attempt_of c.answer.result))
+    c.self.view_is (serves-is g c c.self.inside.calls)
 
 pub returns-clause-own : goal.returns-clause-own
-returns-clause-own g c = own-reply (record { world = world_seen c.answer.new.world; spaces = c.self.inside.spaces.spaces }) c.args.process c.args.call.now (attempt_of c.answer.result) c.answer.ensures.due
+returns-clause-own g c = own-reply c.args.self.now (record { world = world_seen c.answer.new.world; spaces = c.self.inside.spaces.spaces }) c.args.process c.args.call.now (attempt_of c.answer.result) c.answer.ensures.due
 
 pub returns-clause-shown : goal.returns-clause-shown
 returns-clause-shown g c =
@@ -49,3 +49,8 @@ pub returns-clause-slots : goal.returns-clause-slots
 returns-clause-slots g c =
     subst (λ (s : KernelState). SlotsAfterCall s.memory (world_seen c.answer.new.world) c.args.process c.args.call.now (attempt_of c.answer.result)) c.self.view_is
     (access-slots (record { world = world_seen c.self.inside.world; spaces = c.self.inside.spaces.spaces }) (world_seen c.answer.new.world) c.args.process c.args.call.now (attempt_of c.answer.result) c.requires.access c.answer.ensures.slots)
+
+pub returns-clause-hit : goal.returns-clause-hit
+returns-clause-hit g c =
+    subst (λ (s : KernelState). IsHitAfterCall s.memory (world_seen c.answer.new.world) c.args.process c.args.call.now (attempt_of c.answer.result)) c.self.view_is
+    (access-hit (record { world = world_seen c.self.inside.world; spaces = c.self.inside.spaces.spaces }) (world_seen c.answer.new.world) c.args.process c.args.call.now (attempt_of c.answer.result) c.requires.access c.answer.ensures.hit)

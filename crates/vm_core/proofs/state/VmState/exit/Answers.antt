@@ -1,4 +1,4 @@
-use Rattle.std.proofs.Common.{◌≡◌, ◌≤◌, ℕ, sym, subst}
+use Rattle.std.proofs.Common.{◌≡◌, ◌≤◌, ℕ, [], sym, subst}
 use Rattle.anon_slots.specs.Slots.{count_at}
 use Rattle.vm_world.specs.FlatMemory.{Memory}
 use Rattle.seg_vn.specs.Serves.{Serves}
@@ -13,15 +13,15 @@ attempt-requires-clause-fits g c = subst (λ (s : KernelState). MemoryFits s.mem
 
 pub invariant_of-self : goal.invariant_of-self
 invariant_of-self g c =
-    kept-served (record { world = world_seen c.self.inside.world; spaces = c.self.inside.spaces.spaces }) (record { world = world_seen c.attempt.new.world; spaces = c.attempt.new.spaces.spaces }) c.self.inside.world.zeros c.attempt.new.world.zeros _ _ _ _ _ _ _ c.self.invariant c.attempt.ensures.zeros c.in-Ok.ensures.done
+    kept-served (record { world = world_seen c.self.inside.world; spaces = c.self.inside.spaces.spaces }) (record { world = world_seen c.attempt.new.world; spaces = c.attempt.new.spaces.spaces }) c.self.inside.world.zeros c.attempt.new.world.zeros _ _ [] _ _ _ _ _ c.self.invariant c.attempt.ensures.zeros (c.in-Ok.ensures.done [])
 
 pub returns-clause-serves : goal.returns-clause-serves
 returns-clause-serves g c =
-    subst (λ (s : KernelState). Serves s.memory (record { world = world_seen c.attempt.new.world; spaces = c.attempt.new.spaces.spaces }) s.pending c.attempt.new.world.pending c.args.process c.args.call.now c.in-Ok.attempt)
-    c.self.view_is c.in-Ok.ensures.done
+    subst (λ (s : KernelState). Serves s.memory (record { world = world_seen c.attempt.new.world; spaces = c.attempt.new.spaces.spaces }) s.pending c.attempt.new.world.pending s.calls c.args.process c.args.call.now c.in-Ok.attempt)
+    c.self.view_is (c.in-Ok.ensures.done c.self.inside.calls)
 
 pub returns-clause-own : goal.returns-clause-own
-returns-clause-own g c = exited-own c.in-Ok.attempt c.in-Ok.ensures.answer
+returns-clause-own g c = exited-own c.args.self.now c.args.process c.in-Ok.attempt c.in-Ok.ensures.answer
 
 pub returns-clause-fall : goal.returns-clause-fall
 returns-clause-fall g c slot = subst (λ (s : KernelState). count_at c.attempt.new.world.anon slot ≤ count_at s.memory.world.anon slot) c.self.view_is (c.attempt.ensures.fall slot)

@@ -1,4 +1,4 @@
-use Rattle.std.proofs.Common.{◌≡◌, ◌≤◌, ℕ, sym, ap, subst, ◌∙◌}
+use Rattle.std.proofs.Common.{◌≡◌, ◌≤◌, ℕ, [], sym, ap, subst, ◌∙◌}
 use Rattle.std.specs.Prelude.{IfOk, OnErr, IsFalse, IsSome}
 use Rattle.std.specs.FinMap as finite
 use Rattle.anon_slots.specs.Slots.{count_at}
@@ -27,19 +27,19 @@ after g c = record { world = world_seen c.attempt.new.world; spaces = c.attempt.
 
 pub invariant_of-self : goal.invariant_of-self
 invariant_of-self g c =
-    kept-result (before g c) (after g c) c.self.inside.world.zeros c.attempt.new.world.zeros c.self.inside.world.pending c.attempt.new.world.pending c.args.process c.args.call.now c.attempt.result _ _ c.self.invariant c.attempt.ensures.zeros c.attempt.ensures.done
+    kept-result (before g c) (after g c) c.self.inside.world.zeros c.attempt.new.world.zeros c.self.inside.world.pending c.attempt.new.world.pending [] c.args.process c.args.call.now c.attempt.result _ _ c.self.invariant c.attempt.ensures.zeros (ok-then _ _ c.attempt.result (λ a serves. serves []) c.attempt.ensures.done)
     (err-then _ _ c.attempt.result (λ e. ap (λ w. record { world = world_seen w; spaces = c.attempt.new.spaces.spaces }) e.0 ∙ ap (λ (x : Spaces). record { world = world_seen c.self.inside.world; spaces = x }) e.1) c.attempt.ensures.err)
 
 pub returns-clause-serves : goal.returns-clause-serves
 returns-clause-serves g c =
-    subst (λ (s : KernelState). IfOk c.attempt.result (λ a. Serves s.memory (after g c) s.pending c.attempt.new.world.pending c.args.process c.args.call.now a)) c.self.view_is c.attempt.ensures.done
+    subst (λ (s : KernelState). IfOk c.attempt.result (λ a. Serves s.memory (after g c) s.pending c.attempt.new.world.pending s.calls c.args.process c.args.call.now a)) c.self.view_is (ok-then _ _ c.attempt.result (λ a serves. serves c.self.inside.calls) c.attempt.ensures.done)
 
 pub returns-clause-fall : goal.returns-clause-fall
 returns-clause-fall g c =
     subst (λ (s : KernelState). IfOk c.attempt.result (λ a. (slot : ℕ) → count_at c.attempt.new.world.anon slot ≤ count_at s.memory.world.anon slot)) c.self.view_is c.attempt.ensures.fall
 
 pub returns-clause-own : goal.returns-clause-own
-returns-clause-own g c = ok-then IsMapDone IsOwnReply c.attempt.result mapped-own c.attempt.ensures.answer
+returns-clause-own g c = ok-then IsMapDone (IsOwnReply c.args.self.now c.args.process) c.attempt.result (mapped-own c.args.self.now c.args.process) c.attempt.ensures.answer
 
 pub returns-clause-alive : goal.returns-clause-alive
 returns-clause-alive g c = ok-always (λ a. StaysAlive (after g c) c.args.process c.args.call.now) c.attempt.result (λ a other. c.attempt.ensures.alive)

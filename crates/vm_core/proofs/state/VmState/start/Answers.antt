@@ -45,6 +45,7 @@ returns-in-Ok-new-clause-made g c =
     let new = c.in-Ok-new.ensures.store in
     record {
       frames = ap (λ (l : List (Option (List ℕ))). length l) new.frames ∙ length-replicate setup.frames _;
+      clock = new.clock;
       translations = ap (λ (l : List _). length l) t.places ∙ length-replicate setup.translations None;
       slots = ap (λ (s : AnonSlotsSeen). length s.counts) t.anon ∙ length-replicate setup.slots 0;
       disks = new.bays;

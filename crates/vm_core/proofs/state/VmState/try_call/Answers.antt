@@ -14,7 +14,7 @@ accessed g c =
     let e = c.access-answer.ensures in
     tries c.args.seat c.args.process c.args.self.now c.access-answer.new.self c.settle.new.self c.args.call.now c.settle.result c.requires.fits c.requires.served c.requires.may c.requires.formed
     (subst (λ (a : Attempt). WasServed c.args.self.now c.access-answer.new.self c.args.process c.args.call.now a) (sym c.settle.ensures.same)
-    (record { serves = e.serves; shown = e.shown; slots = e.slots; own = e.own; alive = e.alive; rest = e.rest })) c.settle.ensures.new c.settle.ensures.seated
+    (record { serves = e.serves; shown = e.shown; slots = e.slots; hit = e.hit; own = e.own; alive = e.alive; rest = e.rest })) c.settle.ensures.new c.settle.ensures.seated
 
 pub returns-in-Load-clause-answers : goal.returns-in-Load-clause-answers
 returns-in-Load-clause-answers g c = (accessed g c).answers
@@ -31,10 +31,10 @@ served g c =
     let e = c.in_ok-attempt.ensures in
     tries c.args.seat c.args.process c.args.self.now c.serve.new.self c.conclude.new.self c.args.call.now c.conclude.result c.requires.fits c.requires.served c.requires.may c.requires.formed
     (subst (λ (a : Attempt). WasServed c.args.self.now c.serve.new.self c.args.process c.args.call.now a) (sym c.conclude.ensures.same)
-    (record { serves = e.serves; shown = e.shown; slots = e.slots; own = e.own; alive = e.alive; rest = e.rest })) c.conclude.ensures.new c.conclude.ensures.seated
+    (record { serves = e.serves; shown = e.shown; slots = e.slots; hit = e.hit; own = e.own; alive = e.alive; rest = e.rest })) c.conclude.ensures.new c.conclude.ensures.seated
 
 pub returns : goal.returns
-returns g c = let t = served g c in record { answers = t.answers; shown = t.shown; slots = t.slots; event = t.event; memory = tt; err = tt }
+returns g c = let t = served g c in record { answers = t.answers; shown = t.shown; slots = t.slots; hit = t.hit; event = t.event; memory = tt; err = tt }
 
 pub returns-in_err-attempt-clause-event : goal.returns-in_err-attempt-clause-event
 returns-in_err-attempt-clause-event g c =

@@ -1,10 +1,13 @@
-use Rattle.std.proofs.Common.{ap}
+use Rattle.std.proofs.Common.{ap, arith}
 use Rattle.vm_world.specs.State.{KernelState}
 use Rattle.vm_trials.proofs.TrialLemmas.{trial-at, trial-same}
 use Rattle.vm_trials.proofs.trial.Trial.turn.Goals as goal
 
 pub clock-requires : goal.clock-requires
-clock-requires c = record { fits = trial-at c.self.inside.state c.self.inside.trips c.args.seat c.self.invariant (c.is_idle.ensures c.if-not-is_idle.false).1 }
+clock-requires c =
+    let low = (c.is_idle.ensures c.if-not-is_idle.false).0 in
+    let seats = c.self.invariant.seated in
+    record { fits = trial-at c.self.inside.state c.self.inside.trips c.args.seat c.self.invariant (c.is_idle.ensures c.if-not-is_idle.false).1; seat = omega (arith, low, seats) }
 
 pub send-requires-clause-trial : goal.send-requires-clause-trial
 send-requires-clause-trial c =

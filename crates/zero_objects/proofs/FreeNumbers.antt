@@ -1,7 +1,7 @@
 -- The least number at which a list has none.
 use Rattle.std.proofs.Common.{◌≡◌, ℕ, zero, suc, ◌<◌, List, [], ◌∷◌, ◌++◌, length, Option, Some, None, refl, sym, ap, ◌∙◌, arith}
 use Rattle.std.specs.Prelude.{option_map, IsSome, slice_index_or, slice_set}
-use Rattle.vm_world.specs.ZeroObjects.{free_number}
+use Rattle.zero_objects.specs.ZeroNumbers.{free_number}
 
 -- one more than a number that there is
 after-some : (o : Option ℕ) (n : ℕ) → option_map (λ (k : ℕ). suc k) o ≡ Some n → (k : ℕ) × (o ≡ Some k) × (suc k ≡ n)

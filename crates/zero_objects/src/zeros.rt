@@ -1,6 +1,6 @@
 //! Zero objects by number.
 ghost use Rattle.std.specs.Prelude.{◌≡◌, ◌<◌, ◌≤◌, ◌^◌, ℕ, [], length, replicate, Some, None, IsSome, IfOk, OnErr, slice_set, slice_index_or};
-ghost use Rattle.vm_world.specs.ZeroObjects.{AreSameZeros, free_number};
+ghost use Rattle.zero_objects.specs.ZeroNumbers.{AreSameZeros, free_number};
 
 use std::alloc::{AllocError, Global};
 use std::marker::Model;

@@ -1,0 +1,128 @@
+-- WHERE A SYNC BEGAN is kept.
+use Rattle.std.proofs.Common.{◌≡◌, ◌≢◌, ℕ, suc, true, false, ◌<◌, ◌≤◌, List, [], length, Option, Some, None, refl, sym, ap, ◌∙◌, ◌⊎◌, inl, inr, subst, arith, slice_index_or, slice_set, get_or-set_same, get_or-set_other, length-set}
+use Rattle.std.specs.Prelude.{is_none, is_some, unwrap_or, IsSome}
+use Rattle.std.proofs.lemmas.Bool.{cases_Bool, cases_eq}
+use Rattle.core_arena.specs.Bytes.{bytes_at}
+use Rattle.page_hash.specs.Names.{find, name_at}
+use Rattle.page_hash.specs.declared.PageName.{PageName}
+use Rattle.page_hash.proofs.NameLaws.{find-some}
+use Rattle.page_lock.specs.Rows.{row_at}
+use Rattle.page_store.specs.Notes.{Note, Notes}
+use Rattle.page_store.specs.Seen.{StoreSeen, IsGone, own_frame, residence, residence_in, residence_of}
+use Rattle.page_store.specs.declared.residence.Residence.TheVariants.{Home, Moving}
+use Rattle.page_store.proofs.QueryLemmas.{found-within}
+use Rattle.vm_world.specs.FlatMemory.{Memory}
+use Rattle.vm_world.specs.MemoryFits.{MemoryFits}
+use Rattle.vm_world.specs.NotesFit.{NotesFit}
+use Rattle.vm_types.specs.declared.call.Entry.{Entry}
+use Rattle.flat_model.specs.Flat.{Flat}
+use Rattle.flat_model.specs.History.{IsStart}
+use Rattle.vm_world.specs.Events.{IsEvent}
+use Rattle.vm_world.specs.State.{KernelState, Seats, Sent, fixed_of}
+use Rattle.vm_world.specs.StateFits.{StateFits}
+use Rattle.vm_world.specs.SyncSteps.{StartRule, start_of, with_call_begun}
+use Rattle.vm_world.specs.Wants.{IsCleanPage}
+use Rattle.vm_world.proofs.Told.{event_law}
+use Rattle.vm_types.specs.declared.call.Call.{Call}
+use Rattle.vm_types.specs.declared.call.Call.TheVariants as call
+use Rattle.vm_world.proofs.StateSteps.{no-entries, same-seats, sizes-still}
+
+starts-now : (H : List Entry) (p : ℕ) → IsStart H (length H) p (length H)
+starts-now H p = (omega arith, λ j d lt at of. lt)
+
+-- the start of a seat, where one is kept, and else now
+start-is : (H : List Entry) (p : ℕ) (o : Option ℕ) → ((b : ℕ) → o ≡ Some b → IsStart H (length H) p b) → IsStart H (length H) p (unwrap_or o (length H))
+start-is H p None kept = starts-now H p
+start-is H p (Some b) kept = kept b refl
+
+began : (opening : Flat) (s : KernelState) (seats : Seats) (seat : ℕ) → StateFits opening s seats → IsStart s.history (length s.history) (suc seat) (start_of s seat)
+began opening s seats seat fit = start-is s.history (suc seat) (slice_index_or s.syncs seat None) (fit.calls.starts seat)
+
+abbrev with_start : KernelState → ℕ → KernelState
+with_start s seat = record s { syncs = slice_set s.syncs seat (Some (start_of s seat)) }
+
+keeps-start : (s : KernelState) (seat : ℕ) (sent : Option Sent) → seat < length s.syncs → IsEvent seat s sent (with_start s seat) sent
+keeps-start s seat sent lt = record {
+  fits = λ opening seats is fit. subst (λ (x : Seats). StateFits opening (with_start s seat) x) (sym (same-seats seats seat sent is)) (record {
+    memory = fit.memory;
+    notes = fit.notes;
+    replays = fit.replays;
+    faults = fit.faults;
+    calls = record {
+      ends = fit.calls.ends;
+      files = fit.calls.files;
+      starts = λ t b has. elim (cases_eq t seat) [
+        | inl same ↦
+            let is : start_of s seat ≡ b = let z : Some (start_of s seat) ≡ Some b = sym (get_or-set_same s.syncs seat (Some (start_of s seat)) None lt) ∙ ap (λ (k : ℕ). slice_index_or (with_start s seat).syncs k None) (sym same) ∙ has in cc in
+            subst (λ (k : ℕ). IsStart s.history (length s.history) (suc k) b) (sym same) (subst (λ (k : ℕ). IsStart s.history (length s.history) (suc seat) k) is (began opening s seats seat fit))
+        | inr ne ↦ fit.calls.starts t b (sym (get_or-set_other s.syncs seat t (Some (start_of s seat)) None ne) ∙ has)
+      ];
+    };
+    rooms = fit.rooms;
+    births = fit.births;
+    plans = record {
+      plan = λ kept at.
+          let f = fit.plans.plan kept at in
+          record { may = f.may; ready = f.ready; frame = f.frame; seated = subst (λ (n : ℕ). kept.seat < n) (sym (length-set s.syncs seat (Some (start_of s seat)))) f.seated; idle = f.idle };
+      planned = fit.plans.planned;
+      sent = fit.plans.sent;
+    };
+  });
+  fixed = λ i. record {
+    core = (fixed_of s).core;
+    frames = (fixed_of s).frames;
+    slots = (fixed_of s).slots;
+    disks = (fixed_of s).disks;
+    files = (fixed_of s).files;
+    seats = length-set s.syncs seat (Some (start_of s seat)) i;
+    parents = s.parents;
+    entries = s.entries;
+  };
+  sizes = λ opening seats is fit. sizes-still s (with_start s seat) seat sent refl seats is;
+  grown = no-entries s.history seat;
+}
+
+-- A CALL HAS BEGUN.
+begins-call : (s : KernelState) (seat : ℕ) (sent : Option Sent) (c : Call) → seat < length s.syncs → IsEvent seat s sent (with_call_begun s seat c) sent
+begins-call s seat sent (call.Sync a len) lt = keeps-start s seat sent lt
+begins-call s seat sent c lt = event_law.rests seat s sent
+
+-- NO FLIGHT WRITES A CLEAN PAGE: one that is written is home, and modified then; or it is moving; or it is gone.
+module _ (m : Memory) (notes : Notes) (name : PageName) (fits : MemoryFits m) (nf : NotesFit m.world notes) (clean : IsCleanPage m.world name) (seat : ℕ) (note : Note) (at : notes seat ≡ Some note) (writes : note.writes ≡ true) (named : note.name ≡ name)
+    (not : (row_at m.world.store.rows note.frame).gone ≡ false) where
+  abbrev s : StoreSeen
+  s = m.world.store
+
+  abbrev own : ℕ
+  own = own_frame s note.frame
+
+  held : name_at s.names own ≡ Some name
+  held = (nf.stored.each_note seat note at).out.page not ∙ ap (λ (n : PageName). Some n) named
+
+  found : find s.names name ≡ Some own
+  found = find-some s.names name own fits.frames.sound.distinct held
+
+  away : is_none (bytes_at s.frames own) ≡ is_some (row_at s.rows own).holder
+  away = (fits.frames.sound.each own (found-within s name own fits.frames.sound found)).away
+
+  none-moves : (h : Option ℕ) → (row_at s.rows own).holder ≡ h → bytes_at s.frames own ≡ None → ⊥
+  none-moves (Some t) e b = clean.still t (ap (λ (o : Option ℕ). residence_in o s) found ∙ (λ i. residence_of (b i) (e i) own))
+  none-moves None e b = let z : true ≡ false = sym (ap is_none b) ∙ away ∙ ap is_some e in cc
+
+  none-home : (o : Option (List ℕ)) → bytes_at s.frames own ≡ o → ⊥
+  none-home None b = none-moves (row_at s.rows own).holder refl b
+  none-home (Some bytes) b =
+      let home : residence s name ≡ Home own = ap (λ (o : Option ℕ). residence_in o s) found ∙ ap (λ (o : Option (List ℕ)). residence_of o (row_at s.rows own).holder own) b in
+      elim (nf.clean own name held (subst (λ (o : Option (List ℕ)). IsSome o) (sym b) refl)) [
+        | inl modified ↦ clean.unmodified own home modified
+        | inr c ↦ let gone : IsGone s note.frame = (c.unwritten seat note at writes named).0 in let z : false ≡ true = sym not ∙ gone in cc
+      ]
+
+clean-unwritten : (m : Memory) (notes : Notes) (name : PageName) → MemoryFits m → NotesFit m.world notes → IsCleanPage m.world name → (seat : ℕ) (note : Note) → notes seat ≡ Some note → note.writes ≡ true → note.name ≡ name → IsGone m.world.store note.frame
+clean-unwritten m notes name fits nf clean seat note at writes named = elim (cases_Bool (row_at m.world.store.rows note.frame).gone) [
+  | inl gone ↦ gone
+  | inr not ↦ absurd (none-home m notes name fits nf clean seat note at writes named not (bytes_at m.world.store.frames (own_frame m.world.store note.frame)) refl)
+]
+
+pub start_rule : StartRule
+start_rule = record { begins = begins-call; began = began; unwritten = clean-unwritten }

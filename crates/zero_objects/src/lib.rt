@@ -1,0 +1,6 @@
+//! The zero objects of a system, by their numbers.
+#![tactic(auto)]
+
+mod zeros;
+
+pub use zeros::ZeroObjects;
