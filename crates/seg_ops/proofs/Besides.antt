@@ -1,5 +1,5 @@
 -- A VICTIM BESIDE A FRAME, which is kept while the victim is looked for.
-use Rattle.std.proofs.Common.{◌≡◌, ◌≢◌, ℕ, ◌+◌, ◌-◌, ◌<◌, List, length, Option, Some, None, refl, sym, ap, ◌∙◌, subst, arith, slice_set, get_or-set_same}
+use Rattle.std.proofs.Common.{◌≡◌, ◌≢◌, ℕ, ◌+◌, ◌-◌, ◌<◌, List, length, Option, Some, None, sym, ap, ◌∙◌, subst, arith, get_or-set_same}
 use Rattle.std.specs.Prelude.{IsSome}
 use Rattle.std.proofs.lemmas.List.{get_or-set_other, length-set}
 use Rattle.core_arena.specs.Bytes.{bytes_at}
@@ -9,7 +9,7 @@ use Rattle.page_lock.specs.declared.Row.{Row}
 use Rattle.page_store.specs.Laws.{SameResidence}
 use Rattle.page_store.specs.Seen.{StoreSeen, IsListedFrame}
 use Rattle.page_store.specs.Steps.{with_row}
-use Rattle.page_store.specs.Waits.{IsVictim, ChoosesPage}
+use Rattle.page_store.specs.Waits.{ChoosesPage}
 use Rattle.seg_ops.specs.Rooms.{ChoosesBeside}
 use Rattle.seg_ops.proofs.SlotPlaces.{set_twice, set_same}
 
@@ -28,8 +28,8 @@ module _ (s mid : StoreSeen) (beside : ℕ) (lt : beside < length s.rows) (kept 
   row-else k ne = ap (λ (t : StoreSeen). row_at t.rows k) kept ∙ get_or-set_other s.rows beside k (kept_row (row_at s.rows beside)) clear_row ne
 
   -- THE PAGE THAT IS CHOSEN meanwhile.
-  pub chosen : (o : Option PageName) → SameResidence s mid → ChoosesPage mid o → ChoosesBeside s beside o
-  chosen None stay none = λ k ne v. none k (record {
+  pub chosen : (o : Option PageName) → SameResidence s mid → ChoosesPage mid o → ChoosesBeside s (Some beside) o
+  chosen None stay none = λ k apart v. let ne : k ≢ beside = λ e. apart (ap (λ (j : ℕ). Some j) (sym e)) in none k (record {
     here = subst (λ (t : StoreSeen). IsSome (bytes_at t.frames k)) (sym kept) v.here;
     unlisted = λ l. v.unlisted (subst (λ (t : StoreSeen). IsListedFrame t k) kept l);
     unlocked = ap (λ (r : Row). r.holder) (row-else k ne) ∙ v.unlocked;
@@ -39,7 +39,7 @@ module _ (s mid : StoreSeen) (beside : ℕ) (lt : beside < length s.rows) (kept 
       let v = c.2 in
       let ne : c.0 ≢ beside = λ e. (let none : (row_at mid.rows beside).keeps ≡ 0 = ap (λ (k : ℕ). (row_at mid.rows k).keeps) (sym e) ∙ v.unkept in let some = ap (λ (r : Row). r.keeps) row-own in omega (arith, none, some)) in (
         c.0,
-        ne,
+        (λ e. ne (let same : beside ≡ c.0 = (let k : Some beside ≡ Some c.0 = e in cc) in sym same)),
         sym (stay page) ∙ c.1,
         record {
           here = subst (λ (t : StoreSeen). IsSome (bytes_at t.frames c.0)) kept v.here;
@@ -59,3 +59,8 @@ module _ (s mid : StoreSeen) (beside : ℕ) (lt : beside < length s.rows) (kept 
       ∙ ap (λ (k : ℕ). with_row mid beside (record row { keeps = k })) less
       ∙ ap (λ (t : StoreSeen). with_row t beside row) kept
       ∙ ap (λ (rows : List Row). record s { rows = rows }) (set_twice s.rows beside (kept_row row) row ∙ set_same s.rows beside clear_row)
+
+-- a page that is chosen, where no frame is given
+pub chosen-any : (s : StoreSeen) (o : Option PageName) → ChoosesPage s o → ChoosesBeside s None o
+chosen-any s None none = λ k apart v. none k v
+chosen-any s (Some page) c = (c.0, (λ e. let z : None ≡ Some c.0 = e in cc), c.1, c.2)

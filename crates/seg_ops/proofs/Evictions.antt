@@ -144,7 +144,7 @@ some-room [] [] frame = refl
 some-room [] (x ∷ xs) frame = refl
 some-room (x ∷ xs) cached frame = refl
 
-no-room : (s : StoreSeen) → next_frame s ≡ None → (k : ℕ) → ¬ IsListedFrame s k
+pub no-room : (s : StoreSeen) → next_frame s ≡ None → (k : ℕ) → ¬ IsListedFrame s k
 no-room s none k l = elim l [ inl h ↦ by_free s.free s.cached none h | inr h ↦ by_cached s.free s.cached none h ]
   where
     by_free : (free cached : List ℕ) → first_listed free cached ≡ None → Contains free k → ⊥

@@ -1,6 +1,9 @@
 -- Room that is made for another page. Public clauses cite this.
-use Rattle.std.specs.Prelude.{◌≡◌, ◌≢◌, ℕ, Option, Some, None, IsSome}
+use Rattle.std.specs.Prelude.{◌≡◌, ◌≢◌, ℕ, ◌||◌, Bool, Option, Some, None, IsSome}
+use Rattle.core_arena.specs.Bytes.{bytes_at}
+use Rattle.hat_layer.specs.Pool.{bits_of}
 use Rattle.page_hash.specs.declared.PageName.{PageName}
+use Rattle.page_lock.specs.Rows.{row_at}
 use Rattle.page_store.specs.Laws.{SameResidence}
 use Rattle.page_store.specs.Seen.{StoreSeen, residence}
 use Rattle.page_store.specs.Steps.{next_frame}
@@ -9,13 +12,21 @@ use Rattle.page_store.specs.declared.residence.Residence.TheVariants.{Home}
 use Rattle.vm_world.specs.Serving.{ModifiesNone}
 use Rattle.vm_world.specs.Wants.{IsDirtyPage}
 use Rattle.vm_world.specs.Words.{OnlyStoreAndHat, KeepsEveryPage}
-use Rattle.vm_world.specs.World.{world_seen}
+use Rattle.vm_world.specs.World.{World, world_seen}
 use Rattle.vm_world.specs.declared.world.World as rust
 
--- The page that is chosen is in a frame that can be had, another than this; and none is chosen exactly where there is no other.
-abbrev pub ChoosesBeside : StoreSeen → ℕ → Option PageName → Type 0
-ChoosesBeside s beside None = (frame : ℕ) → frame ≢ beside → IsVictim s frame → ⊥
-ChoosesBeside s beside (Some page) = (frame : ℕ) × (frame ≢ beside) × (residence s page ≡ Home frame) × IsVictim s frame
+-- A frame at least holds bytes, another than this one where one is given.
+abbrev pub OneIsHomeBut : StoreSeen → Option ℕ → Type 0
+OneIsHomeBut s beside = (frame : ℕ) × (beside ≢ Some frame) × IsSome (bytes_at s.frames frame)
+
+-- The page that is chosen is in a frame that can be had, another than this where one is given; and none is chosen exactly where there is no other.
+abbrev pub ChoosesBeside : StoreSeen → Option ℕ → Option PageName → Type 0
+ChoosesBeside s beside None = (frame : ℕ) → beside ≢ Some frame → IsVictim s frame → ⊥
+ChoosesBeside s beside (Some page) = (frame : ℕ) × (beside ≢ Some frame) × (residence s page ≡ Home frame) × IsVictim s frame
+
+-- The page in a frame was used: its bit or that of a translation says so.
+abbrev pub was_used : World → ℕ → Bool
+was_used w frame = (row_at w.store.rows frame).referenced || (bits_of frame w.hat.places).0
 
 -- ROOM IS MADE: bits are gathered, translations dropped and frames listed, and nothing else. Every page stays where it is and what it is, in the frame
 -- that it has, and none becomes modified.

@@ -317,7 +317,7 @@ fn make(world: &mut World<MemDisk>, act: Act) -> Told
 }
 
 /// The acts in order, and what is told of each. Page 0 of the file is the process's from 0x1000 on.
-const ACTS: [(Act, Told); 43] = [
+const ACTS: [(Act, Told); 46] = [
     (Act::Fill(0), Told::Yes),
     (Act::Fill(0), Told::No),
     (Act::Fill(2), Told::No),
@@ -348,18 +348,26 @@ const ACTS: [(Act, Told); 43] = [
     (Act::Show(0), Told::Yes),
     (Act::Get(0x1004), Told::Word(5)),
     (Act::Put(0x1ffc, 7), Told::Yes),
+    // Page 0 was used since it was looked at last, and is passed over; page 1 wasn't.
+    (Act::Room(0), Told::Dirty(MIDDLE)),
+    (
+        Act::Fetch(2, 0),
+        Told::Wants(Wants::Transfer(Plan::Push(MIDDLE))),
+    ),
+    // Its own frame goes out, without its translation; after the failure it is modified again.
+    (Act::Push(1), Told::Failed),
+    (Act::Get(0x2008), Told::No),
+    // The search for a victim goes on behind the page that couldn't be written.
     (Act::Room(0), Told::Dirty(FIRST)),
     (
         Act::Fetch(2, 0),
         Told::Wants(Wants::Transfer(Plan::Push(FIRST))),
     ),
-    // Its own frame goes out, without its translation; after the failure it is modified again.
-    (Act::Push(0), Told::Failed),
-    (Act::Get(0x1ffc), Told::No),
     (Act::Push(0), Told::Yes),
     (Act::Push(0), Told::No),
-    // The search for a victim goes on behind the frame that went out.
-    (Act::Room(0), Told::Dirty(MIDDLE)),
+    // The page that went out gives way.
+    (Act::Room(0), Told::Yes),
+    (Act::Show(0), Told::Yes),
     (Act::Push(1), Told::Yes),
     (Act::Room(0), Told::Yes),
     // The frame of page 0 is taken, and is free after the failure.

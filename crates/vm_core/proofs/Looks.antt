@@ -241,32 +241,3 @@ hand-keeps w spaces new f is laws =
     }) refl f.pool.single
     (λ place t at. translation-kept w.store new w.anon w.maps spaces t laws.residence (λ l. subst (λ (s : StoreSeen). IsListedFrame s t.frame) is l) (f.translations place t at))
     (λ notes nf. laws.values notes (world_table w) nf.stored)
-
--- The reference bit of a row is cleared.
-pub clear-keeps : (w : World) (spaces : Spaces) (new : StoreSeen) (frame : ℕ) → MemoryFits (memory_of w spaces) → new ≡ with_row w.store frame (with_bits (row_at w.store.rows frame) false (row_at w.store.rows frame).modified) → StaysInPlace w.store new (is_only (Some frame))
-    → KeepsPages w (with_tables w new w.hat) spaces
-clear-keeps w spaces new frame f is laws =
-    let cleared : ℕ → Row = λ k. with_bits (row_at w.store.rows k) false (row_at w.store.rows k).modified in
-    let row : (k : ℕ) → (row_at new.rows k ≡ row_at w.store.rows k) ⊎ (row_at new.rows k ≡ cleared k) = λ k. elim (index-set w.store.rows frame (cleared frame) k clear_row) [
-      | inl e ↦ inl (ap (λ (s : StoreSeen). row_at s.rows k) is ∙ e)
-      | inr e ↦ inr (ap (λ (s : StoreSeen). row_at s.rows k) is ∙ e.1 ∙ ap cleared (sym e.0))
-    ] in
-    let same : (k : ℕ) → (row_at new.rows k).modified ≡ (row_at w.store.rows k).modified = λ k. elim (row k) [ inl e ↦ ap (λ (r : Row). r.modified) e | inr e ↦ ap (λ (r : Row). r.modified) e ] in
-    step-keeps w spaces new w.hat f (record {
-      sound = laws.sound;
-      core = ap core_of is;
-      frames = ap (λ (s : StoreSeen). length s.frames) is;
-      names = ap (λ (s : StoreSeen). s.names) is;
-      bays = ap (λ (s : StoreSeen). s.bays) is;
-      rows = λ k. elim (row k) [
-        | inl e ↦ same-row (row_at w.store.rows k) (row_at new.rows k) e
-        | inr e ↦ subst (λ (r : Row). KeepsRow (row_at w.store.rows k) r) (sym e) (record { keeps = refl; gone = refl; source = refl; rewritten = λ h. or-left (row_at w.store.rows k).rewritten (row_at w.store.rows k).modified h })
-      ];
-      unmodified = λ k l. same k ∙ f.frames.unmodified k (subst (λ (s : StoreSeen). IsListedFrame s k) is l);
-      residence = laws.residence;
-      modified = λ k m. elim m [ inl r ↦ inl (same k ∙ r) | inr x ↦ inr x ];
-      written = λ k x. inr x;
-      bytes = λ k. inl (ap (λ (s : StoreSeen). bytes_at s.frames k) is);
-    }) refl f.pool.single
-    (λ place t at. translation-kept w.store new w.anon w.maps spaces t laws.residence (λ l. subst (λ (s : StoreSeen). IsListedFrame s t.frame) is l) (f.translations place t at))
-    (λ notes nf. laws.values notes (world_table w) nf.stored)

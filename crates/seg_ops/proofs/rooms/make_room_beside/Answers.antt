@@ -1,26 +1,24 @@
-use Rattle.std.proofs.Common.{◌≡◌, sym, ap, ◌∙◌, subst}
-use Rattle.page_store.specs.Seen.{StoreSeen, IsListedFrame, residence}
-use Rattle.page_store.specs.declared.residence.Residence.TheVariants.{Home}
-use Rattle.vm_world.specs.MemoryFits.{MemoryFits}
-use Rattle.vm_world.specs.World.{world_seen}
-use Rattle.seg_ops.specs.Rooms.{MakesRoom}
-use Rattle.seg_ops.proofs.RoomMade.{room-same}
-use Rattle.seg_ops.proofs.StillSteps.{memory_of}
+use Rattle.std.proofs.Common.{◌≡◌, ℕ, ◌<◌, Option, Some, None, length, refl, sym, subst}
+use Rattle.std.specs.Prelude.{IfSome}
+use Rattle.page_hash.specs.declared.PageName.{PageName}
+use Rattle.page_store.specs.Seen.{residence}
+use Rattle.page_store.specs.declared.residence.Residence.TheVariants as at
 use Rattle.seg_ops.proofs.rooms.make_room_beside.Goals as goal
 
-pub try_page-requires-clause-fits : goal.try_page-requires-clause-fits
-try_page-requires-clause-fits g c =
-    (c.requires.fits.0, subst (λ (s : StoreSeen). MemoryFits (memory_of (record (world_seen c.args.world.now) { store = s }) c.requires.fits.0)) (sym c.victim_beside.ensures.same) c.requires.fits.1)
+pub make_room_but-requires : goal.make_room_but-requires
+make_room_but-requires g c = record {
+  beside = λ frame e. (let same : c.args.frame ≡ frame = (let z : Some c.args.frame ≡ Some frame = e in cc) in subst (λ (k : ℕ). k < length c.args.world.now.store.frames) same c.requires.frame);
+  home = (c.requires.home.0, (λ e. c.requires.home.1 (let z : Some c.args.frame ≡ Some c.requires.home.0 = e in let same : c.args.frame ≡ c.requires.home.0 = cc in sym same)), c.requires.home.2);
+  fits = c.requires.fits;
+  noted = c.requires.noted;
+}
+
+pub returns-clause-pushed : goal.returns-clause-pushed
+returns-clause-pushed g c = any-name c.make_room_but.result c.make_room_but.ensures.pushed
+  where
+    any-name : (o : Option PageName) → IfSome o (λ name. (frame : ℕ) → Some c.args.frame ≡ Some frame → residence c.args.world.now.store name ≡ at.Home frame → ⊥) → IfSome o (λ name. residence c.args.world.now.store name ≡ at.Home c.args.frame → ⊥)
+    any-name None each = tt
+    any-name (Some name) each = each c.args.frame refl
 
 pub returns-clause-unlisted : goal.returns-clause-unlisted
-returns-clause-unlisted g c = λ l.
-    let same = c.victim_beside.ensures.same in
-    let chosen = c.in-Some.ensures.chooses in
-    let other = λ (home : residence c.victim_beside.new.store c.in-Some.name ≡ Home c.args.frame). chosen.1 (let z : Home chosen.0 ≡ Home c.args.frame = sym chosen.2 ∙ ap (λ (s : StoreSeen). residence s c.in-Some.name) (sym same) ∙ home in cc) in
-    subst (λ (s : StoreSeen). IsListedFrame s c.args.frame) same (c.try_page.ensures.lists c.args.frame other l)
-
-pub returns-then-available-clause-makes : goal.returns-then-available-clause-makes
-returns-then-available-clause-makes g c = room-same c.args.world.now
-
-pub returns-clause-makes : goal.returns-clause-makes
-returns-clause-makes g c = subst (λ (s : StoreSeen). MakesRoom (record c.args.world.now { store = s }) c.try_page.new.world) c.victim_beside.ensures.same c.try_page.ensures.makes
+returns-clause-unlisted g c = c.make_room_but.ensures.unlisted c.args.frame refl

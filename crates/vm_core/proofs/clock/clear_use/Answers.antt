@@ -4,7 +4,7 @@ use Rattle.page_store.specs.Seen.{StoreSeen}
 use Rattle.page_store.specs.Steps.{with_row}
 use Rattle.seg_ops.proofs.Composed.{keeps-then}
 use Rattle.vm_world.specs.World.{World, world_seen}
-use Rattle.vm_core.proofs.Looks.{clear-keeps}
+use Rattle.seg_ops.proofs.UsedPages.{clear-keeps}
 use Rattle.vm_core.proofs.Uses.{front-clears}
 use Rattle.vm_core.proofs.clock.clear_use.Given.{Over}
 use Rattle.vm_core.proofs.clock.clear_use.Goals.{After-set_bits}
@@ -27,4 +27,4 @@ pub returns-clause-keeps : goal.returns-clause-keeps
 returns-clause-keeps g c spaces fits =
     let k = c.gather_use.ensures.keeps spaces fits in
     keeps-then (world_seen c.args.world.now) (world_seen c.gather_use.new.world) (record (world_seen c.gather_use.new.world) { store = c.set_bits.new.self }) spaces fits k
-    (clear-keeps (world_seen c.gather_use.new.world) spaces c.set_bits.new.self c.args.frame k.memory (stored g c) c.set_bits.ensures.laws)
+    (clear-keeps (world_seen c.gather_use.new.world) spaces c.set_bits.new.self c.args.frame false k.memory (stored g c) c.set_bits.ensures.laws)
