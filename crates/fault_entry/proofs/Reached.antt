@@ -38,7 +38,7 @@ use Rattle.seg_vn.proofs.SlotsDue.{due-none, made-still, slots-kept}
 use Rattle.seg_vn.proofs.AnySteps.{shows-same}
 use Rattle.seg_vn.proofs.Replacements.{none-replaced, replaced-then}
 use Rattle.seg_vn.proofs.Takes.{takes-none}
-use Rattle.fault_entry.specs.Reaching.{may_access, ReachesPage, ServesAccess, IsSignalDue, after_reach, error_in}
+use Rattle.fault_entry.specs.Reaching.{may_access, ReachesPage, ServesAccess, IsSignalDue, after_reach, error_in, step_wanting}
 use Rattle.fault_entry.specs.declared.access.AccessStep.TheVariants as access
 use Rattle.fault_entry.proofs.Targets.{unaligned, unmapped, refused, past, may-reach, none-due}
 use Rattle.fault_entry.proofs.Words.{name, place-shows, place-there, place-writable}
@@ -56,7 +56,7 @@ goes-there w p q write o l is none =
 
 -- flat memory is as it was where a page that may be written in place is, or is only read
 hit-same : (w : World) (spaces : Spaces) (p a n frame : ℕ) (write : Bool) (f : MemoryFits (memory_of w spaces)) (r : ReachesPage (memory_of w spaces) p a n frame write) (born : set.FinSet nat_cmp) (notes : Notes)
-    → flat_memory (memory_of w spaces) born notes ≡ after_reach (Ok (access.Reached frame)) write (flat_memory (memory_of w spaces) born notes) p (page a)
+    → flat_memory (memory_of w spaces) born notes ≡ after_reach (access.Reached frame) write (flat_memory (memory_of w spaces) born notes) p (page a)
 hit-same w spaces p a n frame false f r born notes = refl
 hit-same w spaces p a n frame true f r born notes = by_kind r.spot.0.kind refl
   where
@@ -65,7 +65,7 @@ hit-same w spaces p a n frame true f r born notes = by_kind r.spot.0.kind refl
     by_kind Private kind = let a' = (place-writable w spaces p a n frame true f r refl).alone kind in sym (kept-own w spaces p (page a) r.spot f r.here born notes a'.0 a'.1)
 
 -- a fault leaves what its access finds
-reach-is : (write : Bool) (frame : ℕ) (F : Flat) (p q : ℕ) → after_fault (Ok fault.Loaded) write F p q ≡ after_reach (Ok (access.Reached frame)) write F p q
+reach-is : (write : Bool) (frame : ℕ) (F : Flat) (p q : ℕ) → after_fault (Ok fault.Loaded) write F p q ≡ after_reach (access.Reached frame) write F p q
 reach-is true frame F p q = refl
 reach-is false frame F p q = refl
 
@@ -75,21 +75,21 @@ module _ (w : World) (spaces : Spaces) (pending p a n : ℕ) (write : Bool) (f :
   same-machine = changes-kept p w w spaces f (keeps-same w spaces f)
 
   signal-serves : (s : Signal) → ((born : set.FinSet nat_cmp) (notes : Notes) → access_target (flat_memory (memory_of w spaces) born notes) p (may_access write) a n ≡ Err s)
-      → ServesAccess (memory_of w spaces) (memory_of w spaces) pending pending p a n write (Ok (access.Refused s))
+      → ServesAccess (memory_of w spaces) (memory_of w spaces) pending pending p a n write (access.Refused s)
   signal-serves s means = record { mid = w; first = takes-none w w spaces pending (keeps-same w spaces f); acts = same-machine; ends = refl; slots = record { counts = refl; places = refl }; due = λ born notes. ap error_in (means born notes); replaced = none-replaced w w; hit = tt; means = means }
 
-  pub align-access : ¬ (a % n ≡ 0) → ServesAccess (memory_of w spaces) (memory_of w spaces) pending pending p a n write (Ok (access.Refused signal.Align))
+  pub align-access : ¬ (a % n ≡ 0) → ServesAccess (memory_of w spaces) (memory_of w spaces) pending pending p a n write (access.Refused signal.Align)
   align-access odd = signal-serves signal.Align (λ born notes. unaligned w spaces born notes p a n (may_access write) odd)
 
-  pub unmapped-access : a % n ≡ 0 → spot_at spaces p (page a) ≡ None → ServesAccess (memory_of w spaces) (memory_of w spaces) pending pending p a n write (Ok (access.Refused signal.NoMap))
+  pub unmapped-access : a % n ≡ 0 → spot_at spaces p (page a) ≡ None → ServesAccess (memory_of w spaces) (memory_of w spaces) pending pending p a n write (access.Refused signal.NoMap)
   unmapped-access even none = signal-serves signal.NoMap (λ born notes. unmapped w spaces born notes p a n (may_access write) even none)
 
-  pub refused-access : (x : Spot) → a % n ≡ 0 → spot_at spaces p (page a) ≡ Some x → may_access write x.0.prot ≡ false → ServesAccess (memory_of w spaces) (memory_of w spaces) pending pending p a n write (Ok (access.Refused signal.Prot))
+  pub refused-access : (x : Spot) → a % n ≡ 0 → spot_at spaces p (page a) ≡ Some x → may_access write x.0.prot ≡ false → ServesAccess (memory_of w spaces) (memory_of w spaces) pending pending p a n write (access.Refused signal.Prot)
   refused-access x even here none = signal-serves signal.Prot (λ born notes. refused w spaces born notes p a n (may_access write) x even here none)
 
   -- A HIT makes no slot: its page is shown, and written in place.
   pub hit-access : (new : World) (x : Spot) (frame : ℕ) → a % n ≡ 0 → spot_at spaces p (page a) ≡ Some x → may_access write x.0.prot ≡ true → KeepsPages w new spaces → new ≡ record w { hat = new.hat }
-      → new.hat.places ≡ change_at p (page a) (after_access write) w.hat.places → IsNoted new.hat.places p (page a) frame write → ServesAccess (memory_of w spaces) (memory_of new spaces) pending pending p a n write (Ok (access.Reached frame))
+      → new.hat.places ≡ change_at p (page a) (after_access write) w.hat.places → IsNoted new.hat.places p (page a) frame write → ServesAccess (memory_of w spaces) (memory_of new spaces) pending pending p a n write (access.Reached frame)
   hit-access new x frame even here allowed keeps only places noted =
       let anon = ap (λ (v : World). v.anon) only in
       let maps = ap (λ (v : World). v.maps) only in
@@ -101,7 +101,7 @@ module _ (w : World) (spaces : Spaces) (pending p a n : ℕ) (write : Bool) (f :
       record {
         mid = new;
         first = takes-none w new spaces pending keeps;
-        acts = changes-as p (memory_of new spaces) (memory_of new spaces) (λ F. F) (λ F. after_reach (Ok (access.Reached frame)) write F p (page a))
+        acts = changes-as p (memory_of new spaces) (memory_of new spaces) (λ F. F) (λ F. after_reach (access.Reached frame) write F p (page a))
             (λ born notes nf tell whole. hit-same new spaces p a n frame write keeps.memory r born notes)
             (changes-kept p new new spaces keeps.memory (keeps-same new spaces keeps.memory));
         ends = tt;
@@ -133,11 +133,11 @@ module _ (old new : World) (spaces : Spaces) (pending more p a n : ℕ) (write :
 
   pub loaded-access : (mid : World) (frame : ℕ) → ServesFault (memory_of old spaces) (memory_of mid spaces) pending more p (page a) x write (Ok fault.Loaded) → KeepsPages mid new spaces
       → new.anon ≡ mid.anon → new.maps ≡ mid.maps → new.store.names ≡ mid.store.names → (LetsAccess old p (page a) write → ⊥) → IsNoted new.hat.places p (page a) frame write
-      → ServesAccess (memory_of old spaces) (memory_of new spaces) pending more p a n write (Ok (access.Reached frame))
+      → ServesAccess (memory_of old spaces) (memory_of new spaces) pending more p a n write (access.Reached frame)
   loaded-access mid frame s keeps anon maps names miss noted = record {
     mid = s.mid;
     first = s.first;
-    acts = changes-as p (memory_of s.mid spaces) (memory_of new spaces) (λ F. after_fault (Ok fault.Loaded) write F p (page a)) (λ F. after_reach (Ok (access.Reached frame)) write F p (page a))
+    acts = changes-as p (memory_of s.mid spaces) (memory_of new spaces) (λ F. after_fault (Ok fault.Loaded) write F p (page a)) (λ F. after_reach (access.Reached frame) write F p (page a))
         (λ born notes nf tell whole. reach-is write frame (flat_memory (memory_of s.mid spaces) born notes) p (page a))
         (call_rule.joined p (memory_of s.mid spaces) (memory_of mid spaces) (memory_of new spaces) (λ F. after_fault (Ok fault.Loaded) write F p (page a)) (λ F. F)
         (λ born notes nf tell whole. fault-whole (Ok fault.Loaded) write (flat_memory (memory_of s.mid spaces) born notes) p (page a) whole) s.acts (changes-kept p mid new spaces s.acts.memory keeps));
@@ -149,7 +149,7 @@ module _ (old new : World) (spaces : Spaces) (pending more p a n : ℕ) (write :
     means = record { aligned = even; spot = x; here = here; allowed = allowed; noted = noted };
   }
 
-  pub past-access : ServesFault (memory_of old spaces) (memory_of new spaces) pending more p (page a) x write (Ok fault.Past) → ServesAccess (memory_of old spaces) (memory_of new spaces) pending more p a n write (Ok (access.Refused signal.Past))
+  pub past-access : ServesFault (memory_of old spaces) (memory_of new spaces) pending more p (page a) x write (Ok fault.Past) → ServesAccess (memory_of old spaces) (memory_of new spaces) pending more p a n write (access.Refused signal.Past)
   past-access s = record {
     mid = s.mid;
     first = s.first;
@@ -162,7 +162,7 @@ module _ (old new : World) (spaces : Spaces) (pending more p a n : ℕ) (write :
     means = λ born notes. past new spaces born notes p a n (may_access write) x even s.acts.memory here allowed s.means;
   }
 
-  pub wants-access : (want : Wants) → ServesFault (memory_of old spaces) (memory_of new spaces) pending more p (page a) x write (Err want) → ServesAccess (memory_of old spaces) (memory_of new spaces) pending more p a n write (Err want)
+  pub wants-access : (want : Wants) → ServesFault (memory_of old spaces) (memory_of new spaces) pending more p (page a) x write (Err want) → ServesAccess (memory_of old spaces) (memory_of new spaces) pending more p a n write (step_wanting want)
   wants-access (wants.Transfer plan) s = record {
     mid = s.mid;
     first = s.first;

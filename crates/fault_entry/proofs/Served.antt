@@ -44,10 +44,7 @@ use Rattle.seg_vn.proofs.SlotsDue.{made-still}
 use Rattle.seg_vn.proofs.Takes.{takes-there}
 use Rattle.page_store.specs.Seen.{StoreSeen}
 use Rattle.fault_entry.specs.Accesses.{IsShown, IsHit, ServesWord}
-use Rattle.fault_entry.specs.Answers.{attempt_wanting}
 use Rattle.fault_entry.specs.Reaching.{ServesAccess, IsSignalDue, after_reach, error_in, MayReach}
-use Rattle.vm_world.specs.declared.wants.Wants.{Wants}
-use Rattle.vm_world.specs.declared.wants.Wants.TheVariants as wants
 use Rattle.fault_entry.specs.declared.access.AccessStep.{AccessStep}
 use Rattle.fault_entry.specs.declared.access.AccessStep.TheVariants as access
 use Rattle.fault_entry.proofs.Joined.{acts-after, store-same}
@@ -55,12 +52,12 @@ use Rattle.fault_entry.proofs.Targets.{there}
 use Rattle.fault_entry.proofs.Words.{load-signals, store-signals, load-acts, store-acts}
 
 -- what the change before it was leaves flat memory well formed
-reach-whole : (answer : Result AccessStep Wants) (write : Bool) (F : Flat) (p q : ℕ) → IsFlat F → IsFlat (after_reach answer write F p q)
-reach-whole (Ok (access.Reached frame)) true F p q flat = own_shown_law.whole F p q flat
-reach-whole (Ok (access.Reached frame)) false F p q flat = flat
-reach-whole (Ok (access.Refused s)) write F p q flat = flat
-reach-whole (Err (wants.Transfer plan)) write F p q flat = flat
-reach-whole (Err (wants.Seat h)) write F p q flat = flat
+reach-whole : (answer : AccessStep) (write : Bool) (F : Flat) (p q : ℕ) → IsFlat F → IsFlat (after_reach answer write F p q)
+reach-whole (access.Reached frame) true F p q flat = own_shown_law.whole F p q flat
+reach-whole (access.Reached frame) false F p q flat = flat
+reach-whole (access.Refused s) write F p q flat = flat
+reach-whole (access.Need plan) write F p q flat = flat
+reach-whole (access.Busy h) write F p q flat = flat
 
 -- THE REFUSAL of a load and of a store is the signal that is due.
 load-due : (F : Flat) (p a n : ℕ) → refusal_in (load F p a n).reply ≡ option_map reply.Signal (error_in (access_target F p can_read a n))
@@ -84,7 +81,7 @@ pub store-refusal : (m : Memory) (p a n v : ℕ) (s : Option Signal) → IsSigna
 store-refusal m p a n v s due born notes = store-due (flat_memory m born notes) p a n v ∙ ap (option_map reply.Signal) (due born notes)
 
 -- frames are taken, a page may be made, and then pages change
-done-serves : (old new : World) (made : World) (spaces : Spaces) (pending more p a n : ℕ) (write : Bool) (answer : Result AccessStep Wants) (c : Call) (r : Reply) → (s : ServesAccess (memory_of old spaces) (memory_of made spaces) pending more p a n write answer)
+done-serves : (old new : World) (made : World) (spaces : Spaces) (pending more p a n : ℕ) (write : Bool) (answer : AccessStep) (c : Call) (r : Reply) → (s : ServesAccess (memory_of old spaces) (memory_of made spaces) pending more p a n write answer)
     → ((cleared : ℕ) (born : set.FinSet nat_cmp) (notes : Notes) → IsDue (after_reach answer write (flat_memory (memory_of s.mid spaces) born notes) p (page a)) (record { process = p; call = c; reply = r; cleared = cleared })
     → IsDue (flat_memory (memory_of s.mid spaces) born notes) (record { process = p; call = c; reply = r; cleared = cleared })
     × (after_act (after_reach answer write (flat_memory (memory_of s.mid spaces) born notes) p (page a)) (record { process = p; call = c; reply = r; cleared = cleared }) ≡ after_act (flat_memory (memory_of s.mid spaces) born notes) (record { process = p; call = c; reply = r; cleared = cleared })))
@@ -103,10 +100,6 @@ done-serves old new made spaces pending more p a n write answer c r s same acts 
   clean = λ from name is wants. absurd (plain from is);
 }
 
--- what was reached, by another name
-pub step-is : (old new : Memory) (pending more p a n : ℕ) (write : Bool) (s t : AccessStep) → s ≡ t → ServesAccess old new pending more p a n write (Ok s) → ServesAccess old new pending more p a n write (Ok t)
-step-is old new pending more p a n write s t is serves = subst (λ (x : AccessStep). ServesAccess old new pending more p a n write (Ok x)) is serves
-
 -- A TRANSLATION leads to the page that its place shows.
 shown-there : (w : World) (spaces : Spaces) (p q : ℕ) (t : Translation) → MemoryFits (memory_of w spaces) → translation_at w.hat.places p q ≡ Some t → IsShown (memory_of w spaces) p q
 shown-there w spaces p q t f there =
@@ -122,10 +115,10 @@ hit-then old mid new p q write store hat only h = record {
 }
 
 -- A WORD is put.
-pub store-reached : (old mid new : World) (spaces : Spaces) (pending more p a n frame v : ℕ) → ServesAccess (memory_of old spaces) (memory_of mid spaces) pending more p a n true (Ok (access.Reached frame)) → WritesWord mid new spaces p a n v → new.hat ≡ mid.hat
+pub store-reached : (old mid new : World) (spaces : Spaces) (pending more p a n frame v : ℕ) → ServesAccess (memory_of old spaces) (memory_of mid spaces) pending more p a n true (access.Reached frame) → WritesWord mid new spaces p a n v → new.hat ≡ mid.hat
     → new.anon ≡ mid.anon → new.maps ≡ mid.maps → new.store ≡ record mid.store { frames = new.store.frames } → new ≡ record mid { store = new.store } → ServesWord (memory_of old spaces) (memory_of new spaces) pending more p (page a) (call.Store a n v) (attempt.Done reply.Done)
 store-reached old mid new spaces pending more p a n frame v s writes hat anon maps store only = record {
-  serves = λ calls. done-serves old new mid spaces pending more p a n true (Ok (access.Reached frame)) (call.Store a n v) reply.Done s
+  serves = λ calls. done-serves old new mid spaces pending more p a n true (access.Reached frame) (call.Store a n v) reply.Done s
       (λ cleared born notes due. store-same (flat_memory (memory_of s.mid spaces) born notes) p a n v cleared (cell_of (contents_of s.mid notes).place s.means.spot) (eq-eqb (a % n) 0 s.means.aligned)
       (there s.mid spaces born notes p a n can_write s.means.spot s.means.here) s.means.allowed due)
       (λ cleared. store-acts mid new spaces p a n frame v cleared s.acts.memory s.means writes) (ap (λ (st : StoreSeen). st.names) store) (store-refusal (memory_of old spaces) p a n v None s.due) (λ from is. let z : reply.Done ≡ reply.Synced from = is in cc);
@@ -137,12 +130,12 @@ store-reached old mid new spaces pending more p a n frame v s writes hat anon ma
 
 module _ (old new : World) (spaces : Spaces) (pending more p a n : ℕ) where
   -- A WORD is read.
-  pub load-reached : (frame word : ℕ) → ServesAccess (memory_of old spaces) (memory_of new spaces) pending more p a n false (Ok (access.Reached frame)) → ReadsWord new spaces p a n word
+  pub load-reached : (frame word : ℕ) → ServesAccess (memory_of old spaces) (memory_of new spaces) pending more p a n false (access.Reached frame) → ReadsWord new spaces p a n word
       → ServesWord (memory_of old spaces) (memory_of new spaces) pending more p (page a) (call.Load a n) (attempt.Done (reply.Word word))
   load-reached frame word s reads =
       let f = s.acts.memory in
       record {
-        serves = λ calls. done-serves old new new spaces pending more p a n false (Ok (access.Reached frame)) (call.Load a n) (reply.Word word) s (λ cleared born notes due. (due, refl)) (λ cleared. load-acts new spaces p a n frame word cleared f s.means reads) refl (load-refusal (memory_of old spaces) p a n None s.due) (λ from is. let z : reply.Word word ≡ reply.Synced from = is in cc);
+        serves = λ calls. done-serves old new new spaces pending more p a n false (access.Reached frame) (call.Load a n) (reply.Word word) s (λ cleared born notes due. (due, refl)) (λ cleared. load-acts new spaces p a n frame word cleared f s.means reads) refl (load-refusal (memory_of old spaces) p a n None s.due) (λ from is. let z : reply.Word word ≡ reply.Synced from = is in cc);
         due = tt;
         shown = shown-there new spaces p (page a) s.means.noted.entry f s.means.noted.there;
         slots = s.slots;
@@ -150,20 +143,20 @@ module _ (old new : World) (spaces : Spaces) (pending more p a n : ℕ) where
       }
 
   -- A SIGNAL is due.
-  pub load-refused : (s : Signal) → ServesAccess (memory_of old spaces) (memory_of new spaces) pending more p a n false (Ok (access.Refused s))
+  pub load-refused : (s : Signal) → ServesAccess (memory_of old spaces) (memory_of new spaces) pending more p a n false (access.Refused s)
       → ServesWord (memory_of old spaces) (memory_of new spaces) pending more p (page a) (call.Load a n) (attempt.Done (reply.Signal s))
   load-refused s r = record {
-    serves = λ calls. done-serves old new new spaces pending more p a n false (Ok (access.Refused s)) (call.Load a n) (reply.Signal s) r (λ cleared born notes due. (due, refl)) (λ cleared. load-signals new spaces p a n cleared s r.acts.memory r.means) refl (load-refusal (memory_of old spaces) p a n (Some s) r.due) (λ from is. let z : reply.Signal s ≡ reply.Synced from = is in cc);
+    serves = λ calls. done-serves old new new spaces pending more p a n false (access.Refused s) (call.Load a n) (reply.Signal s) r (λ cleared born notes due. (due, refl)) (λ cleared. load-signals new spaces p a n cleared s r.acts.memory r.means) refl (load-refusal (memory_of old spaces) p a n (Some s) r.due) (λ from is. let z : reply.Signal s ≡ reply.Synced from = is in cc);
     due = tt;
     shown = tt;
     slots = r.slots;
     hit = tt;
   }
 
-  pub store-refused : (v : ℕ) (s : Signal) → ServesAccess (memory_of old spaces) (memory_of new spaces) pending more p a n true (Ok (access.Refused s))
+  pub store-refused : (v : ℕ) (s : Signal) → ServesAccess (memory_of old spaces) (memory_of new spaces) pending more p a n true (access.Refused s)
       → ServesWord (memory_of old spaces) (memory_of new spaces) pending more p (page a) (call.Store a n v) (attempt.Done (reply.Signal s))
   store-refused v s r = record {
-    serves = λ calls. done-serves old new new spaces pending more p a n true (Ok (access.Refused s)) (call.Store a n v) (reply.Signal s) r (λ cleared born notes due. (due, refl)) (λ cleared. store-signals new spaces p a n v cleared s r.acts.memory r.means) refl (store-refusal (memory_of old spaces) p a n v (Some s) r.due) (λ from is. let z : reply.Signal s ≡ reply.Synced from = is in cc);
+    serves = λ calls. done-serves old new new spaces pending more p a n true (access.Refused s) (call.Store a n v) (reply.Signal s) r (λ cleared born notes due. (due, refl)) (λ cleared. store-signals new spaces p a n v cleared s r.acts.memory r.means) refl (store-refusal (memory_of old spaces) p a n v (Some s) r.due) (λ from is. let z : reply.Signal s ≡ reply.Synced from = is in cc);
     due = tt;
     shown = tt;
     slots = r.slots;
@@ -171,7 +164,7 @@ module _ (old new : World) (spaces : Spaces) (pending more p a n : ℕ) where
   }
 
   -- IT WAITS.
-  pub access-needs : (write : Bool) (c : Call) (plan : Plan) → Accesses write (page a) c → (IsSignalDue (memory_of old spaces) p a n write None → IsRefusal (memory_of old spaces) p c None) → ServesAccess (memory_of old spaces) (memory_of new spaces) pending more p a n write (Err (wants.Transfer plan)) → MayMeetFault (memory_of new spaces) p c
+  pub access-needs : (write : Bool) (c : Call) (plan : Plan) → Accesses write (page a) c → (IsSignalDue (memory_of old spaces) p a n write None → IsRefusal (memory_of old spaces) p c None) → ServesAccess (memory_of old spaces) (memory_of new spaces) pending more p a n write (access.Need plan) → MayMeetFault (memory_of new spaces) p c
       → ServesWord (memory_of old spaces) (memory_of new spaces) pending more p (page a) c (attempt.Need plan)
   access-needs write c plan at refusal s fault =
       let needs = s.means.0 in
@@ -183,7 +176,7 @@ module _ (old new : World) (spaces : Spaces) (pending more p a n : ℕ) where
         hit = tt;
       }
 
-  pub access-busy : (write : Bool) (c : Call) (h : Hold) → Accesses write (page a) c → (IsSignalDue (memory_of old spaces) p a n write None → IsRefusal (memory_of old spaces) p c None) → ServesAccess (memory_of old spaces) (memory_of new spaces) pending more p a n write (Err (wants.Seat h)) → MayMeetFault (memory_of new spaces) p c
+  pub access-busy : (write : Bool) (c : Call) (h : Hold) → Accesses write (page a) c → (IsSignalDue (memory_of old spaces) p a n write None → IsRefusal (memory_of old spaces) p c None) → ServesAccess (memory_of old spaces) (memory_of new spaces) pending more p a n write (access.Busy h) → MayMeetFault (memory_of new spaces) p c
       → ServesWord (memory_of old spaces) (memory_of new spaces) pending more p (page a) c (attempt.Busy h)
   access-busy write c h at refusal s fault = record {
     serves = λ calls. record { first = takes-there (memory_of old spaces) s.mid new pending more s.ends s.first; replaced = s.replaced; spaces = refl; holds = s.means.0 calls c at; refusal = λ no_file. refusal s.due; modified = s.means.1 };
@@ -192,8 +185,3 @@ module _ (old new : World) (spaces : Spaces) (pending more p a n : ℕ) where
     slots = s.slots;
     hit = tt;
   }
-
-  pub access-waits : (write : Bool) (c : Call) (want : Wants) → Accesses write (page a) c → (IsSignalDue (memory_of old spaces) p a n write None → IsRefusal (memory_of old spaces) p c None) → (MayReach (memory_of new spaces) p a n write → MayMeetFault (memory_of new spaces) p c)
-      → ServesAccess (memory_of old spaces) (memory_of new spaces) pending more p a n write (Err want) → ServesWord (memory_of old spaces) (memory_of new spaces) pending more p (page a) c (attempt_wanting want)
-  access-waits write c (wants.Transfer plan) at refusal may s = access-needs write c plan at refusal s (may s.means.1)
-  access-waits write c (wants.Seat h) at refusal may s = access-busy write c h at refusal s (may s.means.2)

@@ -1,7 +1,5 @@
 -- What is answered to a load or a store, as an answer to any call. Public clauses cite this.
 use Rattle.vm_types.specs.declared.call.Reply.TheVariants as reply
-use Rattle.vm_world.specs.declared.wants.Wants.{Wants}
-use Rattle.vm_world.specs.declared.wants.Wants.TheVariants.{Transfer, Seat}
 use Rattle.seg_vn.specs.declared.attempt.Attempt.{Attempt}
 use Rattle.seg_vn.specs.declared.attempt.Attempt.TheVariants as attempt
 use Rattle.fault_entry.specs.declared.answers.Answer.{Answer}
@@ -13,8 +11,3 @@ attempt_of Stored = attempt.Done reply.Done
 attempt_of (Signal s) = attempt.Done (reply.Signal s)
 attempt_of (Need plan) = attempt.Need plan
 attempt_of (Busy h) = attempt.Busy h
-
--- What must come first, as an answer to any call.
-abbrev pub attempt_wanting : Wants → Attempt
-attempt_wanting (Transfer plan) = attempt.Need plan
-attempt_wanting (Seat h) = attempt.Busy h

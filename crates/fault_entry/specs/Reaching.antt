@@ -23,7 +23,7 @@ use Rattle.seg_ops.specs.Faults.{Accesses, LetsAccess, NeedsTransfer}
 use Rattle.seg_ops.specs.SlotsDue.{KeepsSlots, MakesSlotAt, slot_due}
 use Rattle.fault_entry.specs.Accesses.{IsHit}
 use Rattle.fault_entry.specs.declared.access.AccessStep.{AccessStep}
-use Rattle.fault_entry.specs.declared.access.AccessStep.TheVariants.{Reached, Refused}
+use Rattle.fault_entry.specs.declared.access.AccessStep.TheVariants.{Reached, Refused, Need, Busy}
 use Rattle.vm_world.specs.declared.wants.Wants.{Wants}
 use Rattle.vm_world.specs.declared.wants.Wants.TheVariants.{Transfer, Seat}
 
@@ -43,31 +43,36 @@ pub record ReachesPage (m : Memory) (p a n frame : ℕ) (write : Bool) : Type 0 
 abbrev pub MayReach : Memory → ℕ → ℕ → ℕ → Bool → Type 0
 MayReach m p a n write = (born : set.FinSet nat_cmp) (notes : Notes) → IsPastAtMost (access_target (flat_memory m born notes) p (may_access write) a n)
 
-abbrev pub AccessMeans : Memory → Memory → ℕ → ℕ → ℕ → Bool → Result AccessStep Wants → Type 0
-AccessMeans old new p a n write (Ok (Reached frame)) = ReachesPage new p a n frame write
-AccessMeans old new p a n write (Ok (Refused s)) = (born : set.FinSet nat_cmp) (notes : Notes) → access_target (flat_memory new born notes) p (may_access write) a n ≡ Err s
-AccessMeans old new p a n write (Err (Transfer plan)) = NeedsTransfer old new p (page a) write plan × MayReach new p a n write
-AccessMeans old new p a n write (Err (Seat h)) =
+-- What must come first, as what an access comes to.
+abbrev pub step_wanting : Wants → AccessStep
+step_wanting (Transfer plan) = Need plan
+step_wanting (Seat h) = Busy h
+
+abbrev pub AccessMeans : Memory → Memory → ℕ → ℕ → ℕ → Bool → AccessStep → Type 0
+AccessMeans old new p a n write (Reached frame) = ReachesPage new p a n frame write
+AccessMeans old new p a n write (Refused s) = (born : set.FinSet nat_cmp) (notes : Notes) → access_target (flat_memory new born notes) p (may_access write) a n ≡ Err s
+AccessMeans old new p a n write (Need plan) = NeedsTransfer old new p (page a) write plan × MayReach new p a n write
+AccessMeans old new p a n write (Busy h) =
     ((calls : List (Option ℕ)) (call : Call) → Accesses write (page a) call → HoldsUp new calls p call h) × ModifiesNone old.world new.world × MayReach new p a n write
 
 -- Flat memory as the access goes to its frame: a store to a private page finds that page its own.
-abbrev pub after_reach : Result AccessStep Wants → Bool → Flat → ℕ → ℕ → Flat
-after_reach (Ok (Reached frame)) true F p q = with_own_shown F p q
+abbrev pub after_reach : AccessStep → Bool → Flat → ℕ → ℕ → Flat
+after_reach (Reached frame) true F p q = with_own_shown F p q
 after_reach answer write F p q = F
 
 -- Nothing follows what took frames, unless the access goes to a frame.
-abbrev pub EndsReach : Result AccessStep Wants → World → World → Type 0
-EndsReach (Ok (Reached frame)) mid new = Unit {0}
+abbrev pub EndsReach : AccessStep → World → World → Type 0
+EndsReach (Reached frame) mid new = Unit {0}
 EndsReach answer mid new = new ≡ mid
 
 -- A slot was made exactly where one is due, as the access goes to its frame.
-abbrev pub ReachSlots : Memory → World → ℕ → ℕ → Bool → Result AccessStep Wants → Type 0
-ReachSlots old new p q write (Ok (Reached frame)) = (x : Spot) → spot_at old.spaces p q ≡ Some x → MakesSlotAt old.world new (slot_due old.world.anon old.world.maps x write)
+abbrev pub ReachSlots : Memory → World → ℕ → ℕ → Bool → AccessStep → Type 0
+ReachSlots old new p q write (Reached frame) = (x : Spot) → spot_at old.spaces p q ≡ Some x → MakesSlotAt old.world new (slot_due old.world.anon old.world.maps x write)
 ReachSlots old new p q write answer = KeepsSlots old.world new
 
 -- The signal that an access comes to, if it comes to one.
-abbrev pub signal_in : Result AccessStep Wants → Option Signal
-signal_in (Ok (Refused s)) = Some s
+abbrev pub signal_in : AccessStep → Option Signal
+signal_in (Refused s) = Some s
 signal_in answer = None
 
 abbrev pub error_in : {A E : Type 0} → Result A E → Option E
@@ -79,12 +84,12 @@ abbrev pub IsSignalDue : Memory → ℕ → ℕ → ℕ → Bool → Option Sign
 IsSignalDue m p a n write s = (born : set.FinSet nat_cmp) (notes : Notes) → error_in (access_target (flat_memory m born notes) p (may_access write) a n) ≡ s
 
 -- Where the page had a translation that lets the access, the access is a hit.
-abbrev pub HitsReach : World → World → ℕ → ℕ → Bool → Result AccessStep Wants → Type 0
-HitsReach old new p q write (Ok (Reached frame)) = LetsAccess old p q write → IsHit old new p q write
+abbrev pub HitsReach : World → World → ℕ → ℕ → Bool → AccessStep → Type 0
+HitsReach old new p q write (Reached frame) = LetsAccess old p q write → IsHit old new p q write
 HitsReach old new p q write answer = Unit {0}
 
 -- Frames may be taken for other pages, then a page may be made, with its slot, and the access comes to this.
-pub record ServesAccess (old new : Memory) (pending more p a n : ℕ) (write : Bool) (answer : Result AccessStep Wants) : Type 0 where
+pub record ServesAccess (old new : Memory) (pending more p a n : ℕ) (write : Bool) (answer : AccessStep) : Type 0 where
   pub mid : World
   pub first : TakesFrames old mid pending more
   pub acts : ChangesMemory p (record old { world = mid }) new (λ F G. G ≡ after_reach answer write F p (page a))

@@ -1,28 +1,46 @@
 //! What an access reaches.
-ghost use Rattle.std.specs.Prelude.{◌≡◌, Some};
+ghost use Rattle.std.specs.Prelude.{◌≡◌, ◌≤◌, ◌-◌, ◌%◌, ℕ, true, Some};
 ghost use Rattle.std.specs.FinMap as finite;
 ghost use Rattle.hat_layer.specs.Pool.{IsNoted};
+ghost use Rattle.flat_model.specs.Words as words;
 ghost use Rattle.vm_types.specs.Words.{IsWordSize};
-ghost use Rattle.vm_world.specs.Segments.{Spaces};
+ghost use Rattle.vm_world.specs.Segments.{Spaces, spot_at};
 ghost use Rattle.vm_world.specs.Words.{memory, Fits, IsKnown, TwoAreHome, KeepsEveryPage, OnlyHat, SameFiles};
 ghost use Rattle.vm_world.specs.World.{world_seen};
 ghost use Rattle.seg_ops.specs.Faults.{LetsAccess};
-ghost use Rattle.fault_entry.specs.Reaching.{may_access, ServesAccess};
+ghost use Rattle.fault_entry.specs.Reaching.{may_access, step_wanting, ServesAccess};
 
 use addr_space::Ranges;
 use block_device::Disk;
+use page_store::{Hold, Plan};
 use seg_ops::{Fault, frame_for};
 use seg_vn::VnSeg;
 use vm_types::{Prot, Signal};
 use vm_world::{Wants, World};
 
-/// What an access comes to before its word is moved.
+/// What an access comes to before its word is moved. It is flat, since a `Wants` or a `Result` in it would be cleared at each hit.
 #[derive(Clone, Copy, PartialEq, Eq, Debug)]
 pub(crate) enum AccessStep {
     /// It goes to this frame: the page has a translation that lets it, in which it was noted.
     Reached(u32),
     /// This signal is due.
     Refused(Signal),
+    /// This transfer is needed first, and can begin.
+    Need(Plan),
+    /// It has to wait for this.
+    Busy(Hold),
+}
+
+impl AccessStep {
+    /// What must come first, as what an access comes to.
+    fn wanting(wants: Wants) -> AccessStep
+        ensures { result ≡ step_wanting wants }
+    {
+        match wants {
+            Wants::Transfer(plan) => AccessStep::Need(plan),
+            Wants::Seat(hold) => AccessStep::Busy(hold),
+        }
+    }
 }
 
 /// Whether a protection lets a load, or a store.
@@ -50,6 +68,40 @@ fn noted<D: Disk>(world: &mut World<D>, space: u32, page: u32, write: bool) -> u
     frame
 }
 
+/// An access whose page has no translation that lets it: the fault of its segment, whose first page is `first`, and then the
+/// access is noted. Out of line, so that a hit keeps no room for what a fault answers.
+#[inline(never)]
+fn fault_in<D: Disk>(
+    world: &mut World<D>,
+    segment: &VnSeg,
+    process: u32,
+    first: u32,
+    addr: u32,
+    write: bool,
+) -> AccessStep
+    requires low { first ≤ words.page addr }
+    requires allowed { may_access write segment.now.prot ≡ true }
+    requires missed { ¬ LetsAccess (world_seen world.old) process (words.page addr) write }
+    requires home { TwoAreHome world.old.store }
+    requires fits { (spaces : Spaces) × Fits world.old spaces
+        × (spot_at spaces process (words.page addr) ≡ Some (segment.now, words.page addr - first)) }
+    requires noted { IsKnown world.old }
+    ensures serves { (spaces : Spaces) (n : ℕ) → Fits world.old spaces
+        → spot_at spaces process (words.page addr) ≡ Some (segment.now, words.page addr - first)
+        → addr % n ≡ 0
+        → ServesAccess (memory world.old spaces) (memory world.new spaces) world.old.pending
+        world.new.pending process addr n write result }
+    // What stays.
+    ensures rest { SameFiles world.old world.new }
+{
+    let page = addr / 4096;
+    match segment.fault(world, process, first, page, write) {
+        Ok(Fault::Loaded) => AccessStep::Reached(noted(world, process, page, write)),
+        Ok(Fault::Past) => AccessStep::Refused(Signal::Past),
+        Err(wants) => AccessStep::wanting(wants),
+    }
+}
+
 /// Sees that the page of an address has a translation that lets the access, which is noted, or says what is due. A hit is
 /// one look for the segment and one for the translation.
 #[inline(always)]
@@ -60,7 +112,7 @@ pub(crate) fn reach<D: Disk>(
     addr: u32,
     size: u32,
     write: bool,
-) -> Result<AccessStep, Wants>
+) -> AccessStep
     requires size { IsWordSize size }
     requires home { TwoAreHome world.old.store }
     requires fits { (spaces : Spaces) × Fits world.old spaces
@@ -74,20 +126,17 @@ pub(crate) fn reach<D: Disk>(
     ensures rest { SameFiles world.old world.new }
 {
     if addr % size != 0 {
-        return Ok(AccessStep::Refused(Signal::Align));
+        return AccessStep::Refused(Signal::Align);
     }
     let page = addr / 4096;
     let Some((first, _pages, segment)) = space.find(page) else {
-        return Ok(AccessStep::Refused(Signal::NoMap));
+        return AccessStep::Refused(Signal::NoMap);
     };
     if !may_access(segment.prot(), write) {
-        return Ok(AccessStep::Refused(Signal::Prot));
+        return AccessStep::Refused(Signal::Prot);
     }
     if let Some(frame) = frame_for(world, process, page, write) {
-        return Ok(AccessStep::Reached(frame));
+        return AccessStep::Reached(frame);
     }
-    match segment.fault(world, process, first, page, write)? {
-        Fault::Loaded => Ok(AccessStep::Reached(noted(world, process, page, write))),
-        Fault::Past => Ok(AccessStep::Refused(Signal::Past)),
-    }
+    fault_in(world, segment, process, first, addr, write)
 }

@@ -1,11 +1,10 @@
 //! What is answered to a load or a store.
 ghost use Rattle.std.specs.Prelude.{◌≡◌};
-ghost use Rattle.fault_entry.specs.Answers.{attempt_of, attempt_wanting};
+ghost use Rattle.fault_entry.specs.Answers.{attempt_of};
 
 use page_store::{Hold, Plan};
 use seg_vn::Attempt;
 use vm_types::{Reply, Signal};
-use vm_world::Wants;
 
 /// What is answered to a load or a store, in few bytes: an `Attempt` has room for a part of a read, which would be moved at each
 /// hit. It is flat, since a `Wants` or a `Result` in it would be moved at each hit too.
@@ -24,16 +23,6 @@ pub enum Answer {
 }
 
 impl Answer {
-    /// What must come first, as an answer.
-    pub(crate) fn wanting(wants: Wants) -> Answer
-        ensures { attempt_of result ≡ attempt_wanting wants }
-    {
-        match wants {
-            Wants::Transfer(plan) => Answer::Need(plan),
-            Wants::Seat(hold) => Answer::Busy(hold),
-        }
-    }
-
     /// The same as an answer to any call.
     pub fn into_attempt(self) -> Attempt
         ensures { result ≡ attempt_of self }

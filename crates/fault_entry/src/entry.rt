@@ -43,9 +43,10 @@ fn load<D: Disk>(
     ensures zeros { world.new.zeros ≡ world.old.zeros }
 {
     match reach(world, space, process, addr, size, false) {
-        Ok(AccessStep::Reached(frame)) => Answer::Word(read(world, frame, addr, size)),
-        Ok(AccessStep::Refused(signal)) => Answer::Signal(signal),
-        Err(wants) => Answer::wanting(wants),
+        AccessStep::Reached(frame) => Answer::Word(read(world, frame, addr, size)),
+        AccessStep::Refused(signal) => Answer::Signal(signal),
+        AccessStep::Need(plan) => Answer::Need(plan),
+        AccessStep::Busy(hold) => Answer::Busy(hold),
     }
 }
 
@@ -73,12 +74,13 @@ fn store<D: Disk>(
     ensures zeros { world.new.zeros ≡ world.old.zeros }
 {
     match reach(world, space, process, addr, size, true) {
-        Ok(AccessStep::Reached(frame)) => {
+        AccessStep::Reached(frame) => {
             write(world, frame, addr, size, value);
             Answer::Stored
         }
-        Ok(AccessStep::Refused(signal)) => Answer::Signal(signal),
-        Err(wants) => Answer::wanting(wants),
+        AccessStep::Refused(signal) => Answer::Signal(signal),
+        AccessStep::Need(plan) => Answer::Need(plan),
+        AccessStep::Busy(hold) => Answer::Busy(hold),
     }
 }
 

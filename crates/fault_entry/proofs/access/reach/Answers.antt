@@ -1,4 +1,4 @@
-use Rattle.std.proofs.Common.{◌≡◌, ℕ, ◌-◌, List, Option, Some, Result, Ok, Err, sym, ap, ◌∙◌, subst}
+use Rattle.std.proofs.Common.{◌≡◌, ℕ, ◌-◌, List, Option, Some, sym, ap, ◌∙◌, subst}
 use Rattle.std.specs.Prelude.{IsSome}
 use Rattle.core_arena.specs.Bytes.{bytes_at}
 use Rattle.std.specs.FinMap as finite
@@ -6,20 +6,15 @@ use Rattle.addr_space.specs.Space.{part}
 use Rattle.vm_types.specs.declared.call.Signal.TheVariants as signal
 use Rattle.flat_model.specs.Words.{page}
 use Rattle.vm_world.specs.Segments.{Spot, Spaces, spot_at}
-use Rattle.vm_world.specs.World.{World, world_seen}
+use Rattle.vm_world.specs.World.{world_seen}
 use Rattle.seg_ops.proofs.StillSteps.{memory_of}
 use Rattle.fault_entry.specs.Reaching.{may_access, ServesAccess}
-use Rattle.std.proofs.lemmas.Result.{err_from_is_err_and}
-use Rattle.seg_ops.specs.declared.plans.Fault.{Fault}
-use Rattle.vm_world.specs.declared.wants.Wants.{Wants}
 use Rattle.hat_layer.specs.Pool.{frame_for}
-use Rattle.seg_ops.specs.Faults.{ServesFault, LetsAccess}
-use Rattle.fault_entry.specs.declared.access.AccessStep.{AccessStep}
 use Rattle.fault_entry.specs.declared.access.AccessStep.TheVariants as access
 use Rattle.fault_entry.proofs.Found.{spot-found, spot-none, found-low}
-use Rattle.fault_entry.proofs.Reached.{goes-there, align-access, unmapped-access, refused-access, hit-access, loaded-access, past-access, wants-access}
+use Rattle.fault_entry.proofs.Reached.{goes-there, align-access, unmapped-access, refused-access, hit-access}
 use Rattle.fault_entry.proofs.access.reach.Given.{Over}
-use Rattle.fault_entry.proofs.access.reach.Goals.{After-may_access, After-fault}
+use Rattle.fault_entry.proofs.access.reach.Goals.{After-may_access}
 use Rattle.fault_entry.proofs.access.reach.Goals as goal
 
 pub returns-then-addr-size-ne0-clause-serves : goal.returns-then-addr-size-ne0-clause-serves
@@ -47,72 +42,43 @@ returns-then-not-may_access-clause-serves g c = λ spaces fits get.
     refused-access (world_seen c.args.world.now) spaces c.args.world.now.pending c.args.process c.args.addr c.args.size c.args.write fits (spot g at) c.if-addr-size-ne0.false
     (here g at spaces get) (sym (allowed g at) ∙ c.if-not-may_access.true)
 
-pub fault-requires-clause-low : goal.fault-requires-clause-low
-fault-requires-clause-low g c = found-low c.args.space.now.parts (page c.args.addr) (part c.in-Some.first c.in-Some._pages c.in-Some.segment.now) c.in-Some.ensures.found
-
 pub returns-in-Some-frame_for-clause-serves : goal.returns-in-Some-frame_for-clause-serves
 returns-in-Some-frame_for-clause-serves g c = λ spaces fits get.
     let at = (goal.at.returns-in-Some-frame_for-clause-serves g c).After-may_access in
     let old = world_seen c.args.world.now in
     let new = world_seen c.frame_for.new.world in
     let pending : c.frame_for.new.world.pending ≡ c.args.world.now.pending = ap (λ v. v.pending) c.frame_for.ensures.rest in
-    subst (λ (k : ℕ). ServesAccess (memory_of old spaces) (memory_of new spaces) c.args.world.now.pending k c.args.process c.args.addr c.args.size c.args.write (Ok (access.Reached c.in-Some-frame_for.frame))) (sym pending)
+    subst (λ (k : ℕ). ServesAccess (memory_of old spaces) (memory_of new spaces) c.args.world.now.pending k c.args.process c.args.addr c.args.size c.args.write (access.Reached c.in-Some-frame_for.frame)) (sym pending)
     (hit-access old spaces c.args.world.now.pending c.args.process c.args.addr c.args.size c.args.write fits new (spot g at) c.in-Some-frame_for.frame c.if-addr-size-ne0.false
     (here g at spaces get) (sym (allowed g at) ∙ c.if-not-may_access.false) (c.frame_for.ensures.keeps spaces fits) (ap world_seen c.frame_for.ensures.rest) c.in-Some-frame_for.ensures.places c.in-Some-frame_for.ensures.noted)
 
-pub fault-requires-clause-home : goal.fault-requires-clause-home
-fault-requires-clause-home g c = λ beside.
-    let h = c.requires.home beside in
-    (h.0, h.1, subst (λ (frames : List (Option (List ℕ))). IsSome (bytes_at frames h.0)) (sym (ap (λ v. v.store.frames) c.frame_for.ensures.rest)) h.2)
+pub fault_in-requires-clause-low : goal.fault_in-requires-clause-low
+fault_in-requires-clause-low g c = found-low c.args.space.now.parts (page c.args.addr) (part c.in-Some.first c.in-Some._pages c.in-Some.segment.now) c.in-Some.ensures.found
 
-pub fault-requires-clause-fits : goal.fault-requires-clause-fits
-fault-requires-clause-fits g c =
-    let at = (goal.at.fault-requires-clause-fits g c).After-may_access in
-    (c.requires.fits.0, (c.frame_for.ensures.keeps c.requires.fits.0 c.requires.fits.1).memory, here g at c.requires.fits.0 c.requires.fits.2)
+pub fault_in-requires-clause-allowed : goal.fault_in-requires-clause-allowed
+fault_in-requires-clause-allowed g c =
+    let at = (goal.at.fault_in-requires-clause-allowed g c).After-may_access in
+    sym (allowed g at) ∙ c.if-not-may_access.false
 
--- where no access was noted, what is served from then on is served from the start
-served : (g : Over) (c : After-fault g) (spaces : Spaces) (new : World) (more : ℕ) (answer : Result AccessStep Wants) → ServesAccess (memory_of (world_seen c.frame_for.new.world) spaces) (memory_of new spaces) c.frame_for.new.world.pending more c.args.process c.args.addr c.args.size c.args.write answer
-    → ServesAccess (memory_of (world_seen c.args.world.now) spaces) (memory_of new spaces) c.args.world.now.pending more c.args.process c.args.addr c.args.size c.args.write answer
-served g c spaces new more answer s = subst (λ v. ServesAccess (memory_of (world_seen v) spaces) (memory_of new spaces) v.pending more c.args.process c.args.addr c.args.size c.args.write answer) c.in_default-frame_for.ensures.none s
-
--- the page had no translation that lets the access
-missed : (g : Over) (c : After-fault g) → LetsAccess (world_seen c.frame_for.new.world) c.args.process (page c.args.addr) c.args.write → ⊥
-missed g c lets =
+-- no translation lets the access
+pub fault_in-requires-clause-missed : goal.fault_in-requires-clause-missed
+fault_in-requires-clause-missed g c = λ lets.
     goes-there (world_seen c.frame_for.new.world) c.args.process (page c.args.addr) c.args.write c.frame_for.result lets
     (subst (λ v. c.frame_for.result ≡ frame_for v.hat.places c.args.process (page c.args.addr) c.args.write) (sym c.in_default-frame_for.ensures.none) c.frame_for.ensures.frame) c.in_default-frame_for.is
 
-pub returns-in-Loaded-clause-serves : goal.returns-in-Loaded-clause-serves
-returns-in-Loaded-clause-serves g c = λ spaces fits get.
-    let at = (goal.at.returns-in-Loaded-clause-serves g c).After-may_access in
-    let still = (c.frame_for.ensures.keeps spaces fits).memory in
-    let place = here g at spaces get in
-    let old = world_seen c.frame_for.new.world in
-    let mid = world_seen c.fault.new.world in
-    let new = world_seen c.noted.new.world in
-    let s = subst (λ (a : Fault). ServesFault (memory_of old spaces) (memory_of mid spaces) c.frame_for.new.world.pending c.fault.new.world.pending c.args.process (page c.args.addr) (spot g at) c.args.write (Ok a)) c.in-Loaded.is (c.in_ok-fault.ensures.serves spaces still place) in
-    let pending : c.noted.new.world.pending ≡ c.fault.new.world.pending = ap (λ v. v.pending) c.noted.ensures.rest in
-    served g (goal.at.returns-in-Loaded-clause-serves g c).After-fault spaces new c.noted.new.world.pending (Ok (access.Reached c.noted.result))
-    (subst (λ (k : ℕ). ServesAccess (memory_of old spaces) (memory_of new spaces) c.frame_for.new.world.pending k c.args.process c.args.addr c.args.size c.args.write (Ok (access.Reached c.noted.result))) (sym pending)
-    (loaded-access old new spaces c.frame_for.new.world.pending c.fault.new.world.pending c.args.process c.args.addr c.args.size c.args.write (spot g at) c.if-addr-size-ne0.false
-    place (sym (allowed g at) ∙ c.if-not-may_access.false) still mid c.noted.result s (c.noted.ensures.keeps spaces s.acts.memory) (ap (λ v. v.anon) c.noted.ensures.rest) (ap (λ v. v.maps) c.noted.ensures.rest)
-    (ap (λ v. v.store.names) c.noted.ensures.rest) (missed g (goal.at.returns-in-Loaded-clause-serves g c).After-fault) c.noted.ensures.noted))
+pub fault_in-requires-clause-home : goal.fault_in-requires-clause-home
+fault_in-requires-clause-home g c = λ beside.
+    let h = c.requires.home beside in
+    (h.0, h.1, subst (λ (frames : List (Option (List ℕ))). IsSome (bytes_at frames h.0)) (sym (ap (λ v. v.store.frames) c.frame_for.ensures.rest)) h.2)
 
-pub returns-in-Past-clause-serves : goal.returns-in-Past-clause-serves
-returns-in-Past-clause-serves g c = λ spaces fits get.
-    let at = (goal.at.returns-in-Past-clause-serves g c).After-may_access in
-    let place = here g at spaces get in
-    let new = world_seen c.fault.new.world in
-    served g (goal.at.returns-in-Past-clause-serves g c).After-fault spaces new c.fault.new.world.pending (Ok (access.Refused signal.Past))
-    (past-access (world_seen c.frame_for.new.world) new spaces c.frame_for.new.world.pending c.fault.new.world.pending c.args.process c.args.addr c.args.size c.args.write (spot g at) c.if-addr-size-ne0.false
-    place (sym (allowed g at) ∙ c.if-not-may_access.false) (c.frame_for.ensures.keeps spaces fits).memory (subst (λ (a : Fault). ServesFault (memory_of (world_seen c.frame_for.new.world) spaces) (memory_of new spaces) c.frame_for.new.world.pending c.fault.new.world.pending c.args.process (page c.args.addr) (spot g at) c.args.write (Ok a)) c.in-Past.is (c.in_ok-fault.ensures.serves spaces (c.frame_for.ensures.keeps spaces fits).memory place)))
+pub fault_in-requires-clause-fits : goal.fault_in-requires-clause-fits
+fault_in-requires-clause-fits g c =
+    let at = (goal.at.fault_in-requires-clause-fits g c).After-may_access in
+    (c.requires.fits.0, (c.frame_for.ensures.keeps c.requires.fits.0 c.requires.fits.1).memory, here g at c.requires.fits.0 c.requires.fits.2)
 
-pub returns-in_err-fault-clause-serves : goal.returns-in_err-fault-clause-serves
-returns-in_err-fault-clause-serves g c = λ spaces fits get.
-    let at = (goal.at.returns-in_err-fault-clause-serves g c).After-may_access in
-    let place = here g at spaces get in
-    let new = world_seen c.fault.new.world in
-    let is = err_from_is_err_and c.from_residual.result c.from_residual.ensures.1 in
-    let wanted = served g (goal.at.returns-in_err-fault-clause-serves g c).After-fault spaces new c.fault.new.world.pending (Err c.in_err-fault.field-0.0)
-    (wants-access (world_seen c.frame_for.new.world) new spaces c.frame_for.new.world.pending c.fault.new.world.pending c.args.process c.args.addr c.args.size c.args.write (spot g at) c.if-addr-size-ne0.false
-    place (sym (allowed g at) ∙ c.if-not-may_access.false) (c.frame_for.ensures.keeps spaces fits).memory c.in_err-fault.field-0.0 (c.in_err-fault.ensures.serves spaces (c.frame_for.ensures.keeps spaces fits).memory place)) in
-    rw (is.1, is.2) wanted
+-- where no access was noted, what is served from then on is served from the start
+pub returns-clause-serves : goal.returns-clause-serves
+returns-clause-serves g c = λ spaces fits get.
+    let at = (goal.at.returns-clause-serves g c).After-may_access in
+    subst (λ v. ServesAccess (memory_of (world_seen v) spaces) (memory_of (world_seen c.fault_in.new.world) spaces) v.pending c.fault_in.new.world.pending c.args.process c.args.addr c.args.size c.args.write c.fault_in.result) c.in_default-frame_for.ensures.none
+    (c.fault_in.ensures.serves spaces c.args.size (c.frame_for.ensures.keeps spaces fits).memory (here g at spaces get) c.if-addr-size-ne0.false)
