@@ -32,7 +32,7 @@ use Rattle.flat_model.proofs.Lines.{lines_in_pages_law}
 use Rattle.flat_model.proofs.Trees.{changed_set}
 use Rattle.vm_world.specs.CallSteps.{ChangesMemory, ActsOnMemory}
 use Rattle.vm_world.specs.ServingLaws.{done_entry}
-use Rattle.vm_world.specs.FileCalls.{room_refusal, file_refusal, read_count, ReadsLine, FileCallsLaw}
+use Rattle.vm_world.specs.FileCalls.{room_refusal, file_refusal, read_count, ReadsFileLine, FileCallsLaw}
 use Rattle.vm_world.specs.FileSteps.{file_seen, with_file_changed, ChangesFile}
 use Rattle.vm_world.specs.FlatMemory.{Memory, flat_memory, shape_of, file_with_pages, files_with_pages, pages_from}
 use Rattle.vm_world.specs.MemoryFits.{MemoryFits}
@@ -222,7 +222,7 @@ read-is file offset len page_at whole at = by_end (split offset file.len)
         let past : drop offset (file_bytes file) ≡ [] = drop_of_length-le (file_bytes file) (let n = length-take file.len (concat file.pages) in omega (arith, n, le)) in
         ap (λ (bytes : List ℕ). take (min len (line_rest offset)) bytes) past ∙ take-nil (min len (line_rest offset)) ∙ sym (some-take (read_count file.len offset len) (drop (offset % page_size) (page_at (page offset))) none)
 
-reads : (p f offset len cleared : ℕ) (line : List ℕ) (m : Memory) → MemoryFits m → file_refusal m.world.files (call.Read f offset len) ≡ None → ReadsLine m.world f offset len line → ActsOnMemory m m (done_entry p (call.Read f offset len) (reply.Bytes line) cleared)
+reads : (p f offset len cleared : ℕ) (line : List ℕ) (m : Memory) → MemoryFits m → file_refusal m.world.files (call.Read f offset len) ≡ None → ReadsFileLine m.world f offset len line → ActsOnMemory m m (done_entry p (call.Read f offset len) (reply.Bytes line) cleared)
 reads p f offset len cleared line m fits served is =
     let lt = there-by f (length m.world.files.files) None served in
     still p cleared m (done_entry p (call.Read f offset len) (reply.Bytes line) cleared) fits (λ born notes nf tell flat.

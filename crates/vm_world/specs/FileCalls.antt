@@ -44,8 +44,8 @@ abbrev pub read_count : ℕ → ℕ → ℕ → ℕ
 read_count length offset len = min (min len (line_rest offset)) (length - offset)
 
 -- These are the bytes that a part of a read gets, of the page that has them.
-abbrev pub ReadsLine : World → ℕ → ℕ → ℕ → List ℕ → Type 0
-ReadsLine w f offset len line =
+abbrev pub ReadsFileLine : World → ℕ → ℕ → ℕ → List ℕ → Type 0
+ReadsFileLine w f offset len line =
     (notes : Notes) → NotesFit w notes → AllTell w notes
     → line ≡ take (read_count (vnode_at w.files f).info.length offset len) (drop (offset % page_size) (page_value w notes (file_name f (page offset))))
 
@@ -53,7 +53,7 @@ ReadsLine w f offset len line =
 -- flat memory says.
 pub record FileCallsLaw : Type 0 where
   pub refused : (p cleared : ℕ) (call : Call) (e : Errno) (m : Memory) → MemoryFits m → file_refusal m.world.files call ≡ Some e → ActsOnMemory m m (done_entry p call (Refused e) cleared)
-  pub read : (p f offset len cleared : ℕ) (line : List ℕ) (m : Memory) → MemoryFits m → file_refusal m.world.files (Read f offset len) ≡ None → ReadsLine m.world f offset len line
+  pub read : (p f offset len cleared : ℕ) (line : List ℕ) (m : Memory) → MemoryFits m → file_refusal m.world.files (Read f offset len) ≡ None → ReadsFileLine m.world f offset len line
       → ActsOnMemory m m (done_entry p (Read f offset len) (Bytes line) cleared)
   pub written : (p f offset rest cleared : ℕ) (line : List ℕ) (extents : List Extent) (old new : Memory) → MemoryFits old → file_refusal old.world.files (Write f offset line rest) ≡ None
       → growth_of old.world.files f (pages_in (offset + length line)) ≡ Some extents → ChangesFile f old new (λ file. with_part offset line (with_extents_of extents file))

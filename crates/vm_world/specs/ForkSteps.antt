@@ -93,11 +93,11 @@ abbrev pub with_cells_copied : Flat → ℕ → ℕ → ℕ → ℕ → Flat
 with_cells_copied F p child first n = with_space F child (cells_copied (cells_of F child) (cells_of F p) first n)
 
 -- Memory with a process more, which has no part; and flat memory with it, in which it was ever alive.
-abbrev pub with_process : Memory → ℕ → Memory
-with_process m p = record m { spaces = finite.insert m.spaces p [] }
+abbrev pub with_empty_process : Memory → ℕ → Memory
+with_empty_process m p = record m { spaces = finite.insert m.spaces p [] }
 
-abbrev pub with_birth : Flat → ℕ → Flat
-with_birth F p = with_space (record F { born = set.insert F.born p }) p finite.empty
+abbrev pub with_child_born : Flat → ℕ → Flat
+with_child_born F p = with_space (record F { born = set.insert F.born p }) p finite.empty
 
 -- A process is born as memory changes: the machine and the spaces of the others stay; memory and the notes fit as before; disks tell where they told; and
 -- this is said of flat memory before and after, as the disks tell it.
@@ -132,7 +132,7 @@ pub record ForkRule : Type 0 where
       → ChangesSegments child u v (λ F. with_cells_copied F p child 0 end) → ChangesSegments child v w (λ F. with_cells_copied F p child first n)
       → ChangesSegments child u w (λ F. with_cells_copied F p child 0 (first + n))
   pub forked : (m n : Memory) (p child : ℕ) (parent : List (Part Segment)) (end : ℕ) → MemoryFits m → finite.get m.spaces p ≡ Some parent → finite.get m.spaces child ≡ None
-      → ((q : ℕ) → end ≤ q → part_at parent q ≡ None) → IsSome (finite.get n.spaces child) → ChangesSegments child (with_process m child) n (λ F. with_cells_copied F p child 0 end)
+      → ((q : ℕ) → end ≤ q → part_at parent q ≡ None) → IsSome (finite.get n.spaces child) → ChangesSegments child (with_empty_process m child) n (λ F. with_cells_copied F p child 0 end)
       → BearsProcess child m n (λ F G. G ≡ with_child F p child)
   pub done : (s : KernelState) (new : Memory) (seat child : ℕ) (e : Entry) (calls syncs : List (Option ℕ)) → MayFork s seat child e → e.reply ≡ Done
       → BearsProcess child s.memory new (λ F G. IsDue F e × (G ≡ after_act F e))
