@@ -156,8 +156,11 @@ pushes-made old w spaces p q x write victim (wants.Transfer a) f there makes wan
   modified = modified;
 })
 pushes-made old w spaces p q x write victim (wants.Seat (hold.Page seat)) f there makes wanted modified none dirty asked = absurd (home-free w spaces victim dirty.frame seat f dirty.home asked)
-pushes-made old w spaces p q x write victim (wants.Seat (hold.Disk seat)) f there makes wanted modified none dirty asked = (λ calls call acc.
-    (plan.Push victim, (dirty, inr (inr (q, x, accessed write q call acc, there, makes call acc), none)), asked), modified)
+pushes-made old w spaces p q x write victim (wants.Seat (hold.Disk seat)) f there makes wanted modified none dirty asked = (
+  λ calls call acc.
+      (plan.Push victim, (dirty, inr (inr (q, x, accessed write q call acc, there, makes call acc), none)), asked),
+  modified,
+)
 pushes-made old w spaces p q x write victim (wants.Seat (hold.File seat)) f there makes wanted modified none dirty asked = absurd asked
 
 -- what is answered then leaves flat memory
