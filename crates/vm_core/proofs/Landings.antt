@@ -39,7 +39,7 @@ use Rattle.vm_world.specs.NotesFit.{NotesFit}
 use Rattle.vm_world.specs.Segments.{Spaces}
 use Rattle.vm_world.specs.State.{KernelState, Seats, Sent, Caller, notes_of, seat_of, room_of}
 use Rattle.vm_world.specs.StateFits.{StateFits, CallerFits}
-use Rattle.vm_world.specs.StateSteps.{after_step, PendsTails, CountsOn, ComesBack}
+use Rattle.vm_world.specs.StateSteps.{after_step, PendsTails, ComesBack}
 use Rattle.vm_world.specs.World.{World, world_table}
 use Rattle.vm_world.specs.WorldSteps.{WorldStep, returns}
 use Rattle.vm_world.specs.ZeroObjects.{KnowsZeros}

@@ -1,4 +1,4 @@
-use Rattle.std.proofs.Common.{◌≡◌, false, inr}
+use Rattle.std.proofs.Common.{◌≡◌, false, inl, inr}
 use Rattle.page_hash.specs.declared.PageName.{PageName}
 use Rattle.vm_world.specs.World.{world_seen}
 use Rattle.vm_core.proofs.Records.{page-kept}
@@ -30,3 +30,7 @@ pub returns-then-is_modified-clause-pushes : goal.returns-then-is_modified-claus
 returns-then-is_modified-clause-pushes g c = λ spaces fits.
     let first = c.is_modified.ensures.pushes spaces fits in
     pushes-then (world_seen c.args.world.now) (world_seen c.is_modified.new.world) (world_seen c.push_page.new.world) spaces first (c.push_page.ensures.pushes spaces first.memory)
+
+pub returns-else-is_modified-clause-stored : goal.returns-else-is_modified-clause-stored
+returns-else-is_modified-clause-stored g c = λ tell name page or.
+    c.is_modified.ensures.stored tell name page (elim or [ inl was ↦ inl was | inr same ↦ inr (same, c.if-is_modified.false) ])
