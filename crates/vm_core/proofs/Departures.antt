@@ -1,13 +1,11 @@
 -- A flight leaves the state.
-use Rattle.std.proofs.Common.{◌≡◌, ℕ, ◌+◌, ◌≤◌, Bool, true, false, List, length, Option, Some, None, refl, sym, ap, ◌∙◌, subst, arith}
-use Rattle.std.specs.Prelude.{IsSome, slice_set}
+use Rattle.std.proofs.Common.{◌≡◌, ℕ, Bool, false, List, Option, Some, None, refl, sym, subst, arith}
+use Rattle.std.specs.Prelude.{IsSome}
 use Rattle.flat_model.specs.Flat.{Flat}
-use Rattle.page_hash.specs.Names.{is_name}
 use Rattle.page_hash.specs.declared.PageName.{PageName}
 use Rattle.page_store.specs.Bays.{home, out}
 use Rattle.page_store.specs.Flight.{FlightSeen, note_of}
-use Rattle.page_store.specs.Seen.{StoreSeen}
-use Rattle.page_store.specs.Steps.{next_frame, next_name}
+use Rattle.page_store.specs.Steps.{next_frame}
 use Rattle.page_store.specs.Transfers.{is_push}
 use Rattle.page_store.specs.Waits.{Waits, plan_page}
 use Rattle.page_store.specs.declared.plan.Plan.{Plan}
@@ -15,7 +13,7 @@ use Rattle.page_store.specs.declared.plan.Plan.TheVariants as plan
 use Rattle.vm_world.specs.Events.{IsEvent}
 use Rattle.vm_world.specs.FlatMemory.{Memory}
 use Rattle.vm_world.specs.Segments.{Spaces}
-use Rattle.vm_world.specs.State.{KernelState, KeptPlan, Sent, Seats, Caller}
+use Rattle.vm_world.specs.State.{KernelState, KeptPlan, Seats, Caller}
 use Rattle.vm_world.specs.StateFits.{StateFits}
 use Rattle.vm_world.specs.StateSteps.{PendsTails, after_step}
 use Rattle.vm_world.specs.Wants.{MayPlan}

@@ -1,5 +1,5 @@
 -- A move of a hand, as an event.
-use Rattle.std.proofs.Common.{◌≡◌, ◌<◌, ℕ, length, ◌||◌, Bool, true, false, Option, Some, None, refl, sym, ap, subst}
+use Rattle.std.proofs.Common.{◌≡◌, ◌<◌, ℕ, length, ◌||◌, Bool, true, false, Option, Some, None, refl, sym, subst}
 use Rattle.std.specs.Prelude.{IfSome, option_map}
 use Rattle.flat_model.specs.Step.{is_bit_set}
 use Rattle.page_store.specs.declared.plan.Plan.{Plan}

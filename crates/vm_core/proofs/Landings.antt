@@ -1,25 +1,22 @@
 -- A flight comes back to the state.
-use Rattle.std.proofs.Common.{◌≡◌, ◌≢◌, ℕ, zero, suc, ◌+◌, ◌-◌, ◌<◌, ◌≤◌, ◌==◌, ◌||◌, Bool, true, false, cond, List, [], ◌∷◌, ◌++◌, length, Option, Some, None, refl, sym, ap, ◌∙◌, inl, inr, subst, arith, get_or-set_same, get_or-set_other, length-set}
-use Rattle.std.specs.Prelude.{◌↔◌, ◌⊎◌, filter, slice_index_or, slice_set, option_map, IsTrue, IsFalse, IsSome, IsSomeAnd, MatchOption, MatchBool}
+use Rattle.std.proofs.Common.{◌≡◌, ◌≢◌, ℕ, zero, suc, ◌-◌, ◌<◌, ◌≤◌, ◌==◌, ◌||◌, Bool, true, false, cond, List, [], ◌∷◌, length, Option, Some, None, refl, sym, ap, ◌∙◌, inl, inr, subst, arith, get_or-set_same, get_or-set_other}
+use Rattle.std.specs.Prelude.{◌↔◌, ◌⊎◌, filter, slice_index_or, slice_set, option_map, IsSomeAnd, MatchOption, MatchBool}
 use Rattle.std.proofs.lemmas.Bool.{cases_eq}
 use Rattle.std.proofs.lemmas.Bool.Decides.{eqb_tells}
-use Rattle.block_device.specs.Counts.{HasRisen}
-use Rattle.block_device.specs.DiskSeen.{DiskSeen}
 use Rattle.flat_model.specs.Births.{is_birth}
 use Rattle.flat_model.specs.Counted.{top_count}
 use Rattle.flat_model.specs.Flat.{Flat}
 use Rattle.flat_model.specs.OpenLaws.{last_entry, IsOpenPart, FollowsOn, MayFollow}
 use Rattle.flat_model.specs.Step.{is_bit_set}
-use Rattle.flat_model.specs.SyncLaws.{is_in_life}
 use Rattle.flat_model.specs.Told.{entries_of}
 use Rattle.page_hash.specs.Names.{name_at}
 use Rattle.page_hash.specs.declared.PageName.{PageName}
 use Rattle.page_lock.specs.Rows.{row_at}
 use Rattle.page_store.specs.Away.{is_disk, disk_count}
 use Rattle.page_store.specs.Bays.{BaySeen, missing, home, out, bay_at}
-use Rattle.page_store.specs.Flight.{FlightSeen, fresh, done, failed, IsPerformed}
+use Rattle.page_store.specs.Flight.{FlightSeen, failed, IsPerformed}
 use Rattle.page_store.specs.Notes.{Note, Notes}
-use Rattle.page_store.specs.Out.{HasOut, IsFlightOf}
+use Rattle.page_store.specs.Out.{IsFlightOf}
 use Rattle.page_store.specs.Seen.{StoreSeen, own_frame}
 use Rattle.page_store.specs.Steps.{after_end, with_flight_landed, with_pair_settled, is_lost}
 use Rattle.page_store.specs.Transfers.{EndsTransfer}
@@ -32,7 +29,6 @@ use Rattle.vm_types.specs.declared.call.Reply.TheVariants.{Io}
 use Rattle.vm_world.specs.EntryLaws.{LocksAfter, StartsAfter}
 use Rattle.vm_world.specs.Events.{IsEvent}
 use Rattle.vm_world.specs.Failures.{io_entry, with_entry_made}
-use Rattle.vm_world.specs.FlatMemory.{flat_memory}
 use Rattle.vm_world.specs.HistoryFits.{CallsFit}
 use Rattle.vm_world.specs.MemoryFits.{MemoryFits}
 use Rattle.vm_world.specs.NotesFit.{NotesFit}
@@ -40,7 +36,7 @@ use Rattle.vm_world.specs.Segments.{Spaces}
 use Rattle.vm_world.specs.State.{KernelState, Seats, Sent, Caller, notes_of, seat_of, room_of}
 use Rattle.vm_world.specs.StateFits.{StateFits, CallerFits}
 use Rattle.vm_world.specs.StateSteps.{after_step, PendsTails, ComesBack}
-use Rattle.vm_world.specs.World.{World, world_table}
+use Rattle.vm_world.specs.World.{World}
 use Rattle.vm_world.specs.WorldSteps.{WorldStep, returns}
 use Rattle.vm_world.specs.ZeroObjects.{KnowsZeros}
 use Rattle.vm_world.proofs.Failures.{failure_rule}

@@ -1,10 +1,10 @@
 -- The back hand, and the steps of the hands as steps of the world.
-use Rattle.std.proofs.Common.{◌≡◌, ◌≢◌, ℕ, ◌<◌, ◌==◌, ◌||◌, Bool, true, false, cond, List, [], ◌∷◌, ◌++◌, length, Option, Some, None, refl, sym, ap, ◌∙◌, inl, inr, subst, arith, get_or-set_same, get_or-set_other}
-use Rattle.std.specs.Prelude.{◌↔◌, ◌⊎◌, is_none, is_some, slice_index_or, slice_set, option_map, IsSome, IfSome}
-use Rattle.std.proofs.lemmas.Bool.{cases_eq, eq-eqb, eqb-true}
+use Rattle.std.proofs.Common.{◌≡◌, ◌≢◌, ℕ, ◌<◌, Bool, true, false, cond, List, [], ◌∷◌, ◌++◌, length, Option, Some, None, refl, sym, ap, ◌∙◌, inl, inr, subst}
+use Rattle.std.specs.Prelude.{◌↔◌, ◌⊎◌, is_none, is_some, slice_index_or, IsSome, IfSome}
+use Rattle.std.proofs.lemmas.Bool.{eq-eqb, eqb-true}
 use Rattle.block_device.specs.DiskSeen.{DiskSeen}
 use Rattle.core_arena.specs.Bytes.{bytes_at}
-use Rattle.hat_layer.specs.Pool.{HatSeen, frame_of, leads, drop_lead, drop_frame}
+use Rattle.hat_layer.specs.Pool.{frame_of, leads, drop_lead, drop_frame}
 use Rattle.hat_layer.specs.declared.translation.Translation.{Translation}
 use Rattle.page_clock.specs.Clock.{next_clock}
 use Rattle.page_hash.specs.Names.{name_at, find}
@@ -15,18 +15,16 @@ use Rattle.page_lock.specs.declared.Row.{Row}
 use Rattle.page_store.specs.Bays.{BaySeen, home, out, bay_at}
 use Rattle.page_store.specs.Laws.{StaysInPlace}
 use Rattle.page_store.specs.Moves.{is_only}
-use Rattle.page_store.specs.Notes.{Notes}
 use Rattle.page_store.specs.Seen.{StoreSeen, IsSoundStore, IsListedFrame, residence, residence_in, residence_of}
-use Rattle.page_store.specs.Steps.{with_row, next_frame}
+use Rattle.page_store.specs.Steps.{with_row}
 use Rattle.page_store.specs.Table.{PlaceTable}
-use Rattle.page_store.specs.Transfers.{is_push}
 use Rattle.page_store.specs.Waits.{Waits, holder_of, holder_in}
 use Rattle.page_store.specs.declared.plan.Hold.{Hold}
 use Rattle.page_store.specs.declared.plan.Hold.TheVariants as hold
 use Rattle.page_store.specs.declared.plan.Plan.{Plan}
 use Rattle.page_store.specs.declared.plan.Plan.TheVariants as plan
 use Rattle.page_store.specs.declared.residence.Residence.TheVariants.{Home}
-use Rattle.page_store.proofs.QueryLemmas.{home-is, found-within}
+use Rattle.page_store.proofs.QueryLemmas.{home-is}
 use Rattle.seg_ops.specs.Plans.{IsAsked}
 use Rattle.vm_world.specs.Words.{KeepsPages}
 use Rattle.vm_world.specs.declared.wants.Wants.{Wants}
@@ -34,13 +32,12 @@ use Rattle.vm_world.specs.declared.wants.Wants.TheVariants.{Transfer, Seat}
 use Rattle.seg_ops.proofs.Places.{index-map, index-set, or-left}
 use Rattle.seg_ops.proofs.StillSteps.{with_tables, memory_of, KeepsRow, same-row, step-keeps, translation-kept}
 use Rattle.vm_world.specs.MemoryFits.{MemoryFits}
-use Rattle.vm_world.specs.NotesFit.{NotesFit}
 use Rattle.vm_world.specs.Plans.{CanRunPlan}
 use Rattle.vm_world.specs.Segments.{Spaces}
-use Rattle.vm_world.specs.TranslationsFit.{IsModified, HasWritten}
+use Rattle.vm_world.specs.TranslationsFit.{IsModified}
 use Rattle.vm_world.specs.World.{World, world_table, core_of}
-use Rattle.vm_core.specs.Clock.{IsReferenced, IsUnusedPage, IsToPush, IsPushOf, SameButBits, KeepsButBits, TouchesFrame, KeepsLoaded, IsReleased, IsLeft, BackLooks, GathersUse, plan_in}
-use Rattle.vm_core.proofs.Uses.{touches-none, touches-then, keeps-same}
+use Rattle.vm_core.specs.Clock.{IsReferenced, IsToPush, IsPushOf, SameButBits, KeepsButBits, TouchesFrame, BackLooks, GathersUse, plan_in}
+use Rattle.vm_core.proofs.Uses.{touches-none, touches-then}
 
 -- A frame on a list has no modified page.
 listed-clean : (w : World) (spaces : Spaces) (frame : ℕ) → MemoryFits (memory_of w spaces) → IsListedFrame w.store frame → IsModified w.store w.hat.places frame → ⊥

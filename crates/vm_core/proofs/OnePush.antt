@@ -11,7 +11,7 @@ use Rattle.page_store.specs.Bays.{BaySeen, missing, home, out, bay_at, block_of,
 use Rattle.page_store.specs.Bytes.{clip}
 use Rattle.page_store.specs.Flight.{FlightSeen, Progress, fresh, done, failed, note_of, IsPerformed, IsWritten}
 use Rattle.page_store.specs.Notes.{Note, Notes, no_notes, with_note}
-use Rattle.page_store.specs.Value.{tells, content_in_bay}
+use Rattle.page_store.specs.Value.{content_in_bay}
 use Rattle.page_store.specs.declared.place.Place.{Place}
 use Rattle.page_store.specs.declared.plan.Plan.TheVariants.{Push}
 use Rattle.page_store.specs.declared.residence.Residence.TheVariants.{Home}

@@ -15,7 +15,7 @@ use Rattle.page_store.specs.Layout.{page_place}
 use Rattle.page_store.specs.Notes.{Note, Notes, no_notes}
 use Rattle.page_store.specs.Seen.{StoreSeen, IsSoundStore, IsListedFrame, residence}
 use Rattle.page_store.specs.Steps.{home_bytes}
-use Rattle.page_store.specs.Value.{value, value_in, backing_value, tells, content_of, content_in_bay, frame_value, note_of_holder}
+use Rattle.page_store.specs.Value.{value, value_in, backing_value, content_of, content_in_bay, frame_value, note_of_holder}
 use Rattle.page_store.specs.Table.{PlaceTable}
 use Rattle.page_store.specs.declared.place.Place.{Place}
 use Rattle.page_store.specs.declared.residence.Residence.TheVariants.{Home}

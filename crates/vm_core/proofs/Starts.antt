@@ -1,6 +1,6 @@
 -- The state at the start is one at the opening.
-use Rattle.std.proofs.Common.{◌≡◌, ◌≢◌, ℕ, zero, suc, ◌+◌, ◌*◌, ◌<◌, ◌≤◌, ◌==◌, Bool, true, false, cond, List, [], ◌∷◌, length, map, replicate, Option, Some, None, refl, sym, ap, ◌∙◌, inl, inr, subst, arith}
-use Rattle.std.specs.Prelude.{◌⊎◌, All, IsSome, IfSome, MatchOption, filter, is_some, option_map, slice_get, slice_index, slice_index_or, slice_set}
+use Rattle.std.proofs.Common.{◌≡◌, ◌≢◌, ℕ, zero, suc, ◌+◌, ◌<◌, ◌≤◌, Bool, true, false, cond, List, [], ◌∷◌, length, map, replicate, Option, Some, None, refl, sym, ap, ◌∙◌, inl, inr, subst, arith}
+use Rattle.std.specs.Prelude.{◌⊎◌, IsSome, IfSome, filter, is_some, option_map, slice_get, slice_index, slice_index_or, slice_set}
 use Rattle.std.specs.Ordering.{nat_cmp}
 use Rattle.std.specs.FinMap as finite
 use Rattle.std.specs.FinSet as set
@@ -16,9 +16,9 @@ use Rattle.hat_layer.specs.declared.translation.Translation.{Translation}
 use Rattle.page_hash.specs.declared.PageName.{PageName}
 use Rattle.page_lock.specs.Rows.{row_at, clear_row}
 use Rattle.page_lock.specs.declared.Row.{Row}
-use Rattle.page_store.specs.Away.{is_disk, disk_count}
+use Rattle.page_store.specs.Away.{is_disk}
 use Rattle.page_store.specs.Bays.{BaySeen, missing, home, out, bay_at, bay_of, numbers_of, pairs_seen, AreNumbers, IsStill, no_disk}
-use Rattle.page_store.specs.Layout.{FileBlocks, KeepsPage, AreDisjoint}
+use Rattle.page_store.specs.Layout.{FileBlocks, KeepsPage}
 use Rattle.page_store.specs.New.{IsNew, AreHome}
 use Rattle.page_store.specs.Seen.{StoreSeen, IsSoundStore}
 use Rattle.vnode_files.specs.Files.{FilesSeen, vnode_at, block_count}
@@ -27,8 +27,8 @@ use Rattle.vnode_files.specs.Layout.{disk_of_file}
 use Rattle.vnode_files.specs.Vnode.{VnodeSeen, no_vnode, page_blocks, block_at, IsSoundVnode}
 use Rattle.vnode_files.proofs.BlockLemmas.{length-page_blocks}
 use Rattle.vnode_files.proofs.LayoutLaws.{file_layout_law}
-use Rattle.vm_world.specs.FramesFit.{FilesFit, DisksFit, HasSize}
-use Rattle.vm_world.specs.Opening.{IsIdleStore, IsOpeningMemory, IsOpening}
+use Rattle.vm_world.specs.FramesFit.{FilesFit, DisksFit}
+use Rattle.vm_world.specs.Opening.{IsOpening}
 use Rattle.vm_world.specs.Segments.{Spaces}
 use Rattle.vm_world.specs.State.{KernelState, is_top}
 use Rattle.vm_world.specs.declared.segment.Segment.{Segment}

@@ -1,8 +1,8 @@
 -- What the translations of a frame say of its use, and what a hand of the clock makes of it.
-use Rattle.std.proofs.Common.{◌≡◌, ◌≢◌, ℕ, zero, suc, ◌<◌, ◌==◌, ◌||◌, ◌&&◌, Bool, true, false, cond, List, [], ◌∷◌, ◌++◌, length, Option, Some, None, refl, sym, ap, ◌∙◌, inl, inr, subst, arith, get_or-set_same, get_or-set_other}
-use Rattle.std.specs.Prelude.{◌↔◌, ◌⊎◌, slice_index_or, slice_set, option_map, IsSome}
+use Rattle.std.proofs.Common.{◌≡◌, ◌≢◌, ℕ, zero, suc, ◌<◌, ◌==◌, ◌||◌, ◌&&◌, Bool, true, false, cond, List, [], ◌∷◌, length, Option, Some, None, refl, sym, ap, ◌∙◌, inl, inr, subst, get_or-set_same, get_or-set_other}
+use Rattle.std.specs.Prelude.{◌⊎◌, slice_index_or, option_map, IsSome}
 use Rattle.std.specs.List.{list_any}
-use Rattle.std.proofs.lemmas.Bool.{cases_eq, eq-eqb, eqb-true}
+use Rattle.std.proofs.lemmas.Bool.{eq-eqb, eqb-true}
 use Rattle.hat_layer.specs.Pool.{HatSeen, frame_of, leads, has_bit, bits_of, change_lead, change_frame, with_clear_bits}
 use Rattle.hat_layer.specs.declared.translation.Translation.{Translation}
 use Rattle.page_lock.specs.Rows.{row_at, clear_row, with_bits}
@@ -14,9 +14,9 @@ use Rattle.seg_ops.proofs.Places.{both, or-left, or-right, index-map}
 use Rattle.seg_ops.proofs.StillSteps.{with_tables, memory_of}
 use Rattle.vm_world.specs.MemoryFits.{MemoryFits}
 use Rattle.vm_world.specs.Segments.{Spaces}
-use Rattle.vm_world.specs.TranslationsFit.{IsModified, HasWritten}
+use Rattle.vm_world.specs.TranslationsFit.{HasWritten}
 use Rattle.vm_world.specs.World.{World}
-use Rattle.vm_core.specs.Clock.{HasUsed, IsReferenced, SameButBits, KeepsButBits, TouchesFrame, KeepsLoaded, SameModified, SameReferenced, FrontClears, GathersUse}
+use Rattle.vm_core.specs.Clock.{SameButBits, KeepsButBits, TouchesFrame, SameModified, SameReferenced, FrontClears, GathersUse}
 
 -- A BIT of the translations of a frame.
 record HasBit (bit : Translation → Bool) (places : List (Option Translation)) (frame : ℕ) : Type 0 where

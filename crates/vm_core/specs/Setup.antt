@@ -1,10 +1,10 @@
 -- What a state may be started with, and what it has then. Public clauses cite this.
-use Rattle.std.specs.Prelude.{◌≡◌, ◌<◌, ◌≤◌, ◌+◌, ◌^◌, ◌/◌, ℕ, List, Option, None, Some, MatchOption, IsSome, length, option_map, is_some, if◌then◌else◌, slice_get, All}
+use Rattle.std.specs.Prelude.{◌≡◌, ◌<◌, ◌≤◌, ◌+◌, ◌^◌, ◌/◌, ℕ, List, Option, Some, MatchOption, IsSome, length, option_map, is_some, if◌then◌else◌, slice_get, All}
 use Rattle.std.specs.FinMap as finite
 use Rattle.block_device.specs.DiskSeen.{DiskSeen}
 use Rattle.flat_model.specs.Counted.{top_count}
 use Rattle.page_clock.specs.Clock.{fresh_clock}
-use Rattle.page_store.specs.Bays.{AreNumbers, numbers_of, pairs_seen}
+use Rattle.page_store.specs.Bays.{numbers_of, pairs_seen}
 use Rattle.page_store.specs.New.{AreHome}
 use Rattle.vnode_files.specs.Files.{FilesSeen, vnode_at}
 use Rattle.vnode_files.specs.Layout.{LieOnDisks, NoFilesMeet, HaveFewExtents}

@@ -1,9 +1,8 @@
-use Rattle.std.proofs.Common.{◌≡◌, ℕ, Bool, false, ◌<◌, length, refl, sym, ap, ◌∙◌, arith}
+use Rattle.std.proofs.Common.{◌≡◌, Bool, false, ◌<◌, length, refl, ap, ◌∙◌, arith}
 use Rattle.page_lock.specs.Rows.{row_at, with_bits}
-use Rattle.page_store.specs.Seen.{StoreSeen}
 use Rattle.page_store.specs.Steps.{with_row}
 use Rattle.seg_ops.proofs.Composed.{keeps-then}
-use Rattle.vm_world.specs.World.{World, world_seen}
+use Rattle.vm_world.specs.World.{world_seen}
 use Rattle.seg_ops.proofs.UsedPages.{clear-keeps}
 use Rattle.vm_core.proofs.Uses.{front-clears}
 use Rattle.vm_core.proofs.clock.clear_use.Given.{Over}

@@ -1,6 +1,4 @@
-use Rattle.std.proofs.Common.{◌≡◌}
 use Rattle.seg_ops.proofs.Composed.{keeps-then}
-use Rattle.vm_world.specs.Segments.{Spaces}
 use Rattle.vm_world.specs.World.{world_seen}
 use Rattle.vm_core.proofs.Looks.{hand-keeps}
 use Rattle.vm_core.proofs.clock.turn_hand.Goals as goal

@@ -1,4 +1,4 @@
-use Rattle.std.proofs.Common.{ℕ, ◌<◌, ◌≤◌, length}
+use Rattle.std.proofs.Common.{ℕ, ◌<◌}
 use Rattle.vnode_files.specs.Files.{vnode_at}
 use Rattle.vnode_files.specs.Vnode.{IsSoundVnode}
 use Rattle.vm_core.proofs.start.check_files.Given as goal

@@ -1,4 +1,4 @@
-use Rattle.std.proofs.Common.{◌≡◌, ◌+◌, ◌∙◌, ℕ, ap, sym, subst, arith, length}
+use Rattle.std.proofs.Common.{◌+◌, ◌∙◌, ℕ, sym, subst, arith}
 use Rattle.vm_world.specs.Segments.{Spaces}
 use Rattle.vm_core.proofs.Tops.{TopsBelow, tops-none, tops-more, tops-are}
 use Rattle.vm_core.proofs.start.top_spaces.Goals as goal

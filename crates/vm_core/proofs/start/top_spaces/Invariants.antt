@@ -1,4 +1,4 @@
-use Rattle.std.proofs.Common.{◌≡◌, ℕ, length}
+use Rattle.std.proofs.Common.{◌≡◌, length}
 use Rattle.vm_core.proofs.Tops.{TopsBelow}
 use Rattle.vm_core.proofs.start.top_spaces.Given as goal
 

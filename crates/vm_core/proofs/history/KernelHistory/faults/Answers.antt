@@ -1,4 +1,4 @@
-use Rattle.std.proofs.Common.{◌≡◌, ℕ, ◌≤◌, [], length, Option, Some, None, sym, subst, arith, slice_index_or}
+use Rattle.std.proofs.Common.{◌≡◌, [], Option, Some, None, sym, subst, arith, slice_index_or}
 use Rattle.std.proofs.lemmas.List.{get_or_past}
 use Rattle.vm_core.specs.declared.history.Record.{Record}
 use Rattle.vm_core.specs.Finish.{HistorySeen}

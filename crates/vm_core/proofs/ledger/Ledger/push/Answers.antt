@@ -1,7 +1,5 @@
-use Rattle.std.proofs.Common.{◌≡◌, List, [], ◌∷◌, ◌++◌, ap, ◌∙◌}
-use Rattle.vm_types.specs.declared.call.Entry.{Entry}
+use Rattle.std.proofs.Common.{[], ◌∷◌, ◌++◌, ap, ◌∙◌}
 use Rattle.vm_core.specs.Ledger.{LedgerSeen}
-use Rattle.vm_core.proofs.Ledgers.{within-room, pushed, place-left, has-room}
 use Rattle.vm_core.proofs.ledger.Ledger.push.Goals as goal
 
 pub returns-clause-history : goal.returns-clause-history

@@ -1,4 +1,4 @@
-use Rattle.std.proofs.Common.{◌≡◌, ℕ, Some, None, sym, subst}
+use Rattle.std.proofs.Common.{sym, subst}
 use Rattle.page_hash.specs.Names.{is_name}
 use Rattle.page_store.specs.Steps.{next_name}
 use Rattle.vm_world.specs.MemoryFits.{MemoryFits}

@@ -1,8 +1,7 @@
-use Rattle.std.proofs.Common.{◌≡◌, ℕ, suc, ◌-◌, ◌<◌, ◌≤◌, List, length, Option, Some, None, Bor, sym, ap, subst, ◌∙◌, arith, length-set}
+use Rattle.std.proofs.Common.{◌≡◌, ℕ, suc, ◌-◌, ◌<◌, ◌≤◌, length, Option, Some, None, Bor, sym, ap, subst, ◌∙◌, arith, length-set}
 use Rattle.std.specs.Prelude.{option_map, slice_set}
 use Rattle.flat_model.specs.Counted.{top_count}
 use Rattle.flat_model.specs.Told.{entries_of}
-use Rattle.page_store.specs.Flight.{failed}
 use Rattle.page_store.specs.Transfers.{EndsTransfer}
 use Rattle.vm_types.specs.Parts.{part_file}
 use Rattle.vm_types.specs.declared.call.Call.{Call}
@@ -13,7 +12,7 @@ use Rattle.vm_world.specs.Events.{IsEvent}
 use Rattle.vm_world.specs.Failures.{io_entry, with_entry_made}
 use Rattle.vm_world.specs.State.{KernelState, Caller, room_of}
 use Rattle.vm_world.specs.StateSteps.{after_step}
-use Rattle.vm_core.specs.Flights.{IsBack, AddsEntry, EndsWith}
+use Rattle.vm_core.specs.Flights.{IsBack, EndsWith}
 use Rattle.vm_core.specs.State.{calls_without}
 use Rattle.vm_core.proofs.Landings.{quiet-end, failed-end, locks-after, starts-after, flight-out, ended, added, own-seat}
 use Rattle.vm_core.proofs.state.VmState.end.Given.{Over}

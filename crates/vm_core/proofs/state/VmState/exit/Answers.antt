@@ -1,6 +1,5 @@
-use Rattle.std.proofs.Common.{◌≡◌, ◌≤◌, ℕ, [], sym, subst}
+use Rattle.std.proofs.Common.{◌≤◌, [], sym, subst}
 use Rattle.anon_slots.specs.Slots.{count_at}
-use Rattle.vm_world.specs.FlatMemory.{Memory}
 use Rattle.seg_vn.specs.Serves.{Serves}
 use Rattle.vm_world.specs.MemoryFits.{MemoryFits}
 use Rattle.vm_world.specs.State.{KernelState}

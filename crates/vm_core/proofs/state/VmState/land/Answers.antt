@@ -1,4 +1,4 @@
-use Rattle.std.proofs.Common.{◌≡◌, ℕ, false, Some, sym, ap, subst}
+use Rattle.std.proofs.Common.{◌≡◌, false, Some, sym, ap, subst}
 use Rattle.page_store.specs.Flight.{IsPerformed}
 use Rattle.page_store.specs.Notes.{Note, Notes}
 use Rattle.page_store.specs.Out.{IsFlightOf}

@@ -1,6 +1,5 @@
-use Rattle.std.proofs.Common.{◌≡◌, ◌≤◌, ℕ, [], sym, ap, subst, ◌∙◌}
-use Rattle.std.specs.Prelude.{IfOk, OnErr, IsFalse, IsSome}
-use Rattle.std.specs.FinMap as finite
+use Rattle.std.proofs.Common.{◌≤◌, ℕ, [], sym, ap, subst, ◌∙◌}
+use Rattle.std.specs.Prelude.{IfOk}
 use Rattle.anon_slots.specs.Slots.{count_at}
 use Rattle.mmap_calls.specs.Maps.{IsMapDone}
 use Rattle.seg_vn.specs.Serves.{Serves}
@@ -9,7 +8,7 @@ use Rattle.vm_world.specs.FlatMemory.{Memory}
 use Rattle.vm_world.specs.MemoryFits.{MemoryFits}
 use Rattle.vm_world.specs.Segments.{Spaces}
 use Rattle.vm_world.specs.State.{KernelState}
-use Rattle.vm_world.specs.World.{World, world_seen}
+use Rattle.vm_world.specs.World.{world_seen}
 use Rattle.vm_core.specs.Calls.{IsOwnReply}
 use Rattle.vm_core.proofs.Served.{mapped-own, ok-then, ok-always, err-then, kept-result, same-again}
 use Rattle.vm_core.proofs.state.VmState.map.Given.{Over}

@@ -1,11 +1,11 @@
-use Rattle.std.proofs.Common.{◌≡◌, ℕ, Bool, ◌+◌, ◌≤◌, ◌==◌, List, length, map, Option, Some, None, refl, sym, ap, subst, ◌∙◌, arith}
+use Rattle.std.proofs.Common.{ℕ, Bool, List, length, Option, None, refl, sym, ap, subst, ◌∙◌, arith}
 use Rattle.std.proofs.lemmas.List.{length-replicate}
-use Rattle.std.specs.Prelude.{option_map, slice_index_or}
+use Rattle.std.specs.Prelude.{option_map}
 use Rattle.std.specs.FinSet as set
 use Rattle.anon_slots.specs.Slots.{AnonSlotsSeen}
 use Rattle.page_store.specs.Bays.{pairs_seen, AreNumbers}
 use Rattle.vm_world.proofs.Openings.{opening_law}
-use Rattle.vm_core.specs.Setup.{HaveCounted, FilesOnDisks, disk_total}
+use Rattle.vm_core.specs.Setup.{HaveCounted}
 use Rattle.vm_core.specs.State.{born_of}
 use Rattle.vm_core.proofs.Starts.{opens, files-fit, disks-fit, kept-start, same-total, same-numbers, at-replicate}
 use Rattle.vm_core.proofs.Tops.{born-tops}
