@@ -1,6 +1,6 @@
 -- CALLS ON FILES, as flat memory has them.
 use Rattle.std.proofs.Common.{◌≡◌, ℕ, zero, suc, ◌+◌, ◌-◌, ◌%◌, ◌<◌, ◌≤◌, ◌==◌, min, Bool, true, false, cond, List, [], ◌∷◌, ◌++◌, length, map, Option, Some, None, refl, sym, ap, ◌∙◌, inl, inr, subst, arith}
-use Rattle.std.specs.Prelude.{option_map, slice_get, IsTrue, All, Result, Ok, Err, IsOk, ok_or, is_some, nat_lt, take, drop, filter, remove, unwrap_or, ◌⊎◌, if◌then◌else◌}
+use Rattle.std.specs.Prelude.{option_map, slice_get, slice_set, IsTrue, All, Result, Ok, Err, IsOk, ok_or, is_some, nat_lt, take, drop, filter, remove, unwrap_or, ◌⊎◌, if◌then◌else◌}
 use Rattle.std.specs.List.{flat_map, concat}
 use Rattle.std.specs.FinMap as finite
 use Rattle.std.specs.FinSet as set
@@ -29,7 +29,6 @@ use Rattle.flat_model.specs.Refusals.{◌>>=◌, ◌>>◌, check, Effect, or_ref
 use Rattle.flat_model.specs.Step.{IsDue, after_act, effect}
 use Rattle.flat_model.specs.Words.{Page, page, page_size, pages_in, IsPage}
 use Rattle.flat_model.proofs.Lines.{lines_in_pages_law}
-use Rattle.flat_model.proofs.Trees.{changed_set}
 use Rattle.vm_world.specs.CallSteps.{ChangesMemory, ActsOnMemory}
 use Rattle.vm_world.specs.ServingLaws.{done_entry}
 use Rattle.vm_world.specs.FileCalls.{room_refusal, file_refusal, read_count, ReadsFileLine, FileCallsLaw}
@@ -184,8 +183,14 @@ there-by f n a is = by_test (nat_lt f n) refl is
     by_test true e h = ltb-true f n e
     by_test false e h = absurd (let z : ◌≡◌ {A = Option Errno} (Some errno.NoObject) None = h in cc)
 
+-- an element that is changed is set at its place
+changed_there : {X : Type 0} (g : X → X) (xs : List X) (i : ℕ) (x : X) → slice_get xs i ≡ Some x → with_change_at g xs i ≡ slice_set xs i (g x)
+changed_there g [] i x is = refl
+changed_there g (y ∷ ys) zero x is = let same : y ≡ x = let both : Some y ≡ Some x = is in cc in ap (λ z. g z ∷ ys) same
+changed_there g (y ∷ ys) (suc i) x is = ap (λ zs. y ∷ zs) (changed_there g ys i x is)
+
 changed-is : (m : Memory) (born : set.FinSet nat_cmp) (notes : Notes) (f : ℕ) (g : File → File) → f < length m.world.files.files → with_file_changed (flat_memory m born notes) f g ≡ with_file_at (flat_memory m born notes) f (g (file_seen m.world notes f))
-changed-is m born notes f g lt = ap (λ (fs : List File). record (flat_memory m born notes) { files = fs }) (changed_set g (flat_memory m born notes).files f (file_seen m.world notes f) (file-at m.world notes f lt))
+changed-is m born notes f g lt = ap (λ (fs : List File). record (flat_memory m born notes) { files = fs }) (changed_there g (flat_memory m born notes).files f (file_seen m.world notes f) (file-at m.world notes f lt))
 
 grown-acts : (p f end cleared : ℕ) (c : Call) (extents : List Extent) (old new : Memory) (h : File → File) → MemoryFits old → room_refusal old.world.files f end ≡ None → growth_of old.world.files f (pages_in end) ≡ Some extents
     → ChangesFile f old new (λ file. h (with_extents_of extents file)) → ((G : Flat) → effect G p c ≡ or_refused G (λ file. done_effect (with_file_at G f (h file))) (room_for G f end)) → ActsOnMemory old new (done_entry p c reply.Done cleared)
