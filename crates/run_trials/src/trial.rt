@@ -1,0 +1,167 @@
+//! One run of a script over memory forms, and what it left.
+use block_device::{
+    Block, MemDisk, MemRack, MemSink, MemSource, PathText, Rack, RackFault, Spec, Untold,
+};
+use std::alloc::{AllocError, Global};
+use std::sync::Wait;
+use vm_run::{Outcome, RunFault, run};
+use vm_types::Entry;
+
+/// The call of each outside that fails; 0 stands for none.
+#[derive(Clone, Copy)]
+pub(crate) struct Fails {
+    pub(crate) source: u64,
+    pub(crate) sink: u64,
+    pub(crate) rack: u64,
+    pub(crate) disk_0: u64,
+    pub(crate) disk_1: u64,
+    pub(crate) swap: u64,
+}
+
+pub(crate) const NEVER: Fails = Fails {
+    source: 0,
+    sink: 0,
+    rack: 0,
+    disk_0: 0,
+    disk_1: 0,
+    swap: 0,
+};
+
+/// What a run left: its status, the step of its fault, its text, its history, the blocks of the disks that came back, and how many
+/// transfers the first of them and the swap disk were asked for, reads and writes.
+#[derive(Drop)]
+pub(crate) struct Left {
+    pub(crate) status: u8,
+    pub(crate) fault: &'static str,
+    pub(crate) text: Vec<u8>,
+    pub(crate) entries: Vec<Entry>,
+    pub(crate) disks: Vec<Vec<Block>>,
+    pub(crate) first: (u64, u64),
+    pub(crate) swap: (u64, u64),
+}
+
+fn words_of(alloc: Global, texts: &[&str]) -> Result<Vec<String>, AllocError> {
+    let mut words = Vec::new(alloc);
+    for text in texts {
+        words.push(String::from_str(alloc, text)?)?;
+    }
+    Ok(words)
+}
+
+fn step_of(fault: &Option<RunFault>) -> &'static str {
+    match fault {
+        None => "none",
+        Some(RunFault::Opening(_)) => "opening",
+        Some(RunFault::Closing(_)) => "closing",
+        Some(RunFault::Showing(_)) => "showing",
+    }
+}
+
+// Of each disk by number the call that fails; those of files have numbers from 0, and the swap disk has 8.
+fn calls_of(alloc: Global, fails: &Fails) -> Result<Vec<Vec<u64>>, AllocError> {
+    let calls = [fails.disk_0, fails.disk_1, 0, 0, 0, 0, 0, 0, fails.swap];
+    let mut disks = Vec::new(alloc);
+    for call in calls {
+        disks.push([call].to_vec(alloc)?)?;
+    }
+    Ok(disks)
+}
+
+fn transfers(disk: Option<&MemDisk>) -> (u64, u64) {
+    match disk {
+        Some(disk) => (disk.reads(), disk.writes()),
+        None => (0, 0),
+    }
+}
+
+fn blocks_of(alloc: Global, disks: &[MemDisk]) -> Result<Vec<Vec<Block>>, AllocError> {
+    let mut blocks = Vec::new(alloc);
+    for disk in disks {
+        blocks.push(Vec::from_slice(alloc, disk.content())?)?;
+    }
+    Ok(blocks)
+}
+
+fn left_of(alloc: Global, outcome: &Outcome<MemDisk>, text: Vec<u8>) -> Result<Left, AllocError> {
+    Ok(Left {
+        status: outcome.status,
+        fault: step_of(&outcome.fault),
+        text,
+        entries: Vec::from_slice(alloc, outcome.history.entries())?,
+        disks: blocks_of(alloc, &outcome.disks)?,
+        first: transfers(outcome.disks.first()),
+        swap: transfers(outcome.swap.as_ref()),
+    })
+}
+
+// The outcome of a run over this rack, and what it prints. The source gives 7 bytes a call, and the sink takes 5.
+fn run_over<R: Rack>(
+    rt: &impl Wait,
+    alloc: Global,
+    words: &[&str],
+    script: &[u8],
+    fails: &Fails,
+    rack: &mut R,
+) -> Result<(Outcome<R::D>, Vec<u8>), AllocError> {
+    let words = words_of(alloc, words)?;
+    let bytes = Vec::from_slice(alloc, script)?;
+    let mut source = MemSource::new(bytes, 7, [fails.source].to_vec(alloc)?);
+    let mut out = MemSink::new(alloc, 65536, 5, [fails.sink].to_vec(alloc)?)?;
+    let outcome = run(rt, alloc, &words, &mut source, &mut out, rack);
+    Ok((outcome, out.into_written()))
+}
+
+/// Runs a script over memory forms, with a disk of these blocks under the path v, where there are blocks.
+pub(crate) fn run_trial(
+    rt: &impl Wait,
+    alloc: Global,
+    words: &[&str],
+    script: &[u8],
+    fails: &Fails,
+    kept: &[Block],
+) -> Result<Left, AllocError> {
+    let mut rack = MemRack::new(alloc, [fails.rack].to_vec(alloc)?, calls_of(alloc, fails)?);
+    if !kept.is_empty() && kept.len() <= 16_384 {
+        rack.keep(PathText::new(alloc, b"v")?, Vec::from_slice(alloc, kept)?)?;
+    }
+    let (outcome, text) = run_over(rt, alloc, words, script, fails, &mut rack)?;
+    left_of(alloc, &outcome, text)
+}
+
+// A rack whose disks don't tell what they hold.
+#[derive(Drop)]
+struct UntoldRack<R: Rack + Drop> {
+    rack: R,
+}
+
+impl<R: Rack + Drop> Rack for UntoldRack<R> {
+    ghost use Rattle.std.specs.Prelude.{None};
+
+    type D = Untold<R::D>;
+
+    ghost seen = { λ rack. record (R.seen rack.rack) { holds = λ spec. None } };
+
+    fn faults(&self) -> u64 {
+        self.rack.faults()
+    }
+
+    fn attach(&mut self, spec: &Spec) -> Result<Untold<R::D>, RackFault> {
+        match self.rack.attach(spec) {
+            Ok(disk) => Ok(Untold { disk }),
+            Err(fault) => Err(fault),
+        }
+    }
+}
+
+/// Runs a script over memory forms that tell nothing: its status, and what it prints.
+pub(crate) fn run_untold(
+    rt: &impl Wait,
+    alloc: Global,
+    script: &[u8],
+) -> Result<(u8, Vec<u8>), AllocError> {
+    let mut rack = UntoldRack {
+        rack: MemRack::new(alloc, Vec::new(alloc), Vec::new(alloc)),
+    };
+    let (outcome, text) = run_over(rt, alloc, &[], script, &NEVER, &mut rack)?;
+    Ok((outcome.status, text))
+}

@@ -1,9 +1,0 @@
-use Rattle.std.proofs.Common.{◌≡◌, length, take}
-use Rattle.sunvm.proofs.EntryRooms.{HaveRooms}
-use Rattle.sunvm.proofs.entry_rooms.entry_rooms.Given as goal
-
-abbrev pub invariant-loop-line : goal.invariant-loop-line
-invariant-loop-line l = record {
-  count : length l.rooms.items ≡ length l.fn.plan.parents;
-  rooms : HaveRooms (take l.line-index l.lines) l.rooms.items;
-}

@@ -1,5 +1,0 @@
-use Rattle.sunvm.specs.Lines.{HasCome}
-use Rattle.sunvm.proofs.lines.make_lines.Given as goal
-
-abbrev pub invariant-loop-line : goal.invariant-loop-line
-invariant-loop-line g l = HasCome l.lines l.line-index l.initial.state l.state

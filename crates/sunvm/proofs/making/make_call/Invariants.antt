@@ -1,5 +1,0 @@
-use Rattle.sunvm.specs.Lines.{MadeNothing}
-use Rattle.sunvm.proofs.making.make_call.Given as goal
-
-abbrev pub invariant-loop : goal.invariant-loop
-invariant-loop g l = MadeNothing l.initial.state l.state

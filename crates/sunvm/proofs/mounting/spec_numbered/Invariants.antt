@@ -1,6 +1,0 @@
-use Rattle.std.proofs.Common.{◌≡◌, drop}
-use Rattle.sunvm.specs.Opened.{disk_numbered}
-use Rattle.sunvm.proofs.mounting.spec_numbered.Given as goal
-
-abbrev pub invariant-loop-line : goal.invariant-loop-line
-invariant-loop-line l = disk_numbered l.setup l.number ≡ disk_numbered (drop l.line-index l.setup) l.number

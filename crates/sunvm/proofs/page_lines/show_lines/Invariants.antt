@@ -1,6 +1,0 @@
-use Rattle.sunvm.specs.Showing.{LinesSoFar, shown_info}
-use Rattle.sunvm.proofs.page_lines.show_lines.Given as goal
-
-abbrev pub invariant-loop-page : goal.invariant-loop-page
-invariant-loop-page g l =
-    LinesSoFar (shown_info l.files l.file) l.page (g.K.Sink.seen l.fn.out) (g.K.Sink.seen l.out) (g.P.PageDisk.numbered l.fn.disk) (g.P.PageDisk.numbered l.disk)

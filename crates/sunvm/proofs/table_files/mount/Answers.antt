@@ -1,9 +1,0 @@
-use Rattle.std.proofs.Common.{sym, subst}
-use Rattle.vnode_files.specs.Files.{FilesSeen}
-use Rattle.sunvm.specs.Placing.{AreSet, attached_numbers}
-use Rattle.sunvm.proofs.MountLemmas.{set-all}
-use Rattle.sunvm.proofs.table_files.mount.Goals as goal
-
-pub add_tables-requires-clause-set : goal.add_tables-requires-clause-set
-add_tables-requires-clause-set g c =
-    subst (λ (s : FilesSeen). AreSet s.disks (attached_numbers c.args.disks.now)) (sym c.in_ok-files.ensures) (set-all g.D.Disk.seen c.args.disks.now)

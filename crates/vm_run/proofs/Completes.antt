@@ -1,0 +1,72 @@
+-- A run of words that are taken, in which no outside failed.
+use Rattle.std.proofs.Common.{◌≡◌, ◌⊎◌, ℕ, refl, sym, ap, ◌∙◌, subst, inl, inr}
+use Rattle.std.specs.Prelude.{IfSome, IsSome, List, MatchOption, Option, option_map, Some, None, Result, Ok, Err}
+use Rattle.std.proofs.lemmas.Option.{none-some, same_Some}
+use Rattle.block_device.specs.Counts.{HasRisen}
+use Rattle.block_device.specs.OpenSeen.{OpenFaultSeen}
+use Rattle.vm_run.specs.declared.ending.Ending.{Ending}
+use Rattle.vm_run.specs.declared.ending.Ending.TheVariants as ending
+use Rattle.volume_files.specs.declared.stops.Refusal.{Refusal}
+use Rattle.vm_run.specs.declared.outcome.RunFault.{RunFault}
+use Rattle.vm_run.specs.declared.outcome.RunFault.TheVariants as fault
+use Rattle.vm_script.specs.Plans.{plan_of}
+use Rattle.command_line.specs.declared.options.Options.{Options}
+use Rattle.vm_run.specs.Asked.{Given, Asked, Asks, WasAsked, run_request, request_of_options, by_script, script_told}
+use Rattle.command_line.specs.Options.{options_of}
+use Rattle.vm_run.specs.Ending.{fault_of, status_of}
+use Rattle.vm_run.specs.Ended.{End}
+use Rattle.volume_files.specs.Handed.{IsCountedBy}
+use Rattle.volume_files.specs.Opened.{OpenedFile, opened_files}
+use Rattle.vm_run.specs.Run.{CaseOf, DisksTell, FailsToOpen, IsComplete, IsDiskCounted, Outside, RunEnds, wrote_all}
+
+told-text : {R : Type 0} (said : Option (List ℕ)) (F : List ℕ → R) (q r : R) → option_map F said ≡ Some q → (text : List ℕ) × IfSome said (λ told. told ≡ text) × (F text ≡ r) → r ≡ q
+told-text None F q r is h = absurd (none-some q is)
+told-text (Some told) F q r is h = sym h.2 ∙ ap F (sym h.1) ∙ same_Some (F told) q is
+
+-- what was asked is the one thing that the words and the text ask for, where the text is told
+one-asked : (words : Option Options) (rest : Option (List ℕ)) (q r : Result Asked Ending) → request_of_options words rest ≡ Some q → Asks words rest r → r ≡ q
+one-asked None rest q r is h = h ∙ same_Some (Err ending.Usage) q is
+one-asked (Some o) rest q r is h = told-text (script_told o.make rest) (λ text. by_script o (plan_of text)) q r is h
+
+not-stopped : (g : Given) (what : Asked) (h : Ending) → run_request g ≡ Some (Ok what) → WasAsked g (Err h) → ⊥
+not-stopped g what h is p = let b : ◌≡◌ {A = Result Asked Ending} (Err h) (Ok what) = one-asked (options_of g.words) g.rest (Ok what) (Err h) is p in cc
+
+same-run_request : (g : Given) (what other : Asked) → run_request g ≡ Some (Ok what) → WasAsked g (Ok other) → other ≡ what
+same-run_request g what other is p = let b : ◌≡◌ {A = Result Asked Ending} (Ok other) (Ok what) = one-asked (options_of g.words) g.rest (Ok what) (Ok other) is p in cc
+
+rack-or-disk : (f : OpenFaultSeen) (P : Type 0) (Q : ℕ × ℕ → Type 0) → MatchOption f.counts P Q → (P → ⊥) → IsSome f.counts
+rack-or-disk f P Q h never = by f.counts h
+  where
+    by : (counts : Option (ℕ × ℕ)) → MatchOption counts P Q → IsSome counts
+    by None p = absurd (never p)
+    by (Some c) q = refl
+
+module _ (g : Given) (o : Outside) (e : End) where
+  by-case : (how : Ending) → e.status ≡ status_of how → e.fault ≡ fault_of how → CaseOf g o (wrote_all o) e how → IsComplete g o e
+  by-case ending.Whole s f c what files is op ns nk nr = inl s
+  by-case ending.Usage s f c what files is op ns nk nr = absurd (not-stopped g what ending.Usage is c.0)
+  by-case (ending.NoScript x) s f c what files is op ns nk nr = absurd (not-stopped g what (ending.NoScript x) is c.0)
+  by-case ending.Later s f c what files is op ns nk nr = absurd (not-stopped g what ending.Later is c.0)
+  by-case (ending.Refused r) s f (inl c) what files is op ns nk nr = absurd (not-stopped g what (ending.Refused r) is c.0)
+  by-case (ending.Refused r) s f (inr c) what files is op ns nk nr = inr (inr (inr (
+    s,
+    λ (t : DisksTell g what e).
+        let same : c.what ≡ what = same-run_request g what c.what is c.asked in
+        let broken : opened_files what.plan g.holds ≡ Err r = subst (λ (w : Asked). opened_files w.plan g.holds ≡ Err r) same (c.cause.told t.disks) in
+        let bad : ◌≡◌ {A = Result (List OpenedFile) Refusal} (Ok files) (Err r) = sym op ∙ broken in
+        cc,
+  )))
+  by-case ending.NotRead s f c what files is op ns nk nr = absurd (ns c.0.risen)
+  by-case ending.OpeningSink s f c what files is op ns nk nr = absurd (nk c.cause)
+  by-case ending.Sink s f c what files is op ns nk nr = absurd (nk c.cause)
+  by-case (ending.Opening x) s f c what files is op ns nk nr = inr (inr (inl (subst IsDiskCounted (sym f) (counted c))))
+    where
+      counted : FailsToOpen g o (wrote_all o) x e → IsSome x.counts
+      counted (inl k) = rack-or-disk x (HasRisen o.rack_old o.rack_new) (λ counts. IsCountedBy k.what.plan e.disks e.swap x.disk counts.0 counts.1) k.cause nr
+      counted (inr k) = rack-or-disk x ⊥ (λ counts. IsCountedBy k.what.plan e.disks e.swap x.disk counts.0 counts.1) k.cause (λ none. none)
+  by-case (ending.Closing x) s f c what files is op ns nk nr = inr (inr (inl (subst IsDiskCounted (sym f) tt)))
+  by-case (ending.Showing x) s f c what files is op ns nk nr = inr (inr (inl (subst IsDiskCounted (sym f) tt)))
+  by-case ending.Memory s f c what files is op ns nk nr = inr (inl s)
+
+  pub completes : RunEnds g o e → IsComplete g o e
+  completes r = by-case r.how r.status r.fault r.case

@@ -1,0 +1,264 @@
+-- A run that began: what it left, and what that is of what was asked.
+use Rattle.std.proofs.Common.{◌≡◌, ℕ, zero, suc, ◌≤◌, ◌<◌, ◌==◌, Bool, true, false, List, [], ◌∷◌, length, map, refl, sym, ap, ◌∙◌, subst, arith, inl, inr}
+use Rattle.std.specs.Prelude.{All, IfNone, IfSome, IsSome, IsSomeAnd, Ok, Option, Some, None, slice_get, slice_index_or, zip, if◌then◌else◌}
+use Rattle.std.specs.Map.{lookup}
+use Rattle.std.proofs.lemmas.Bool.{false≢true, ne_eqb}
+use Rattle.std.proofs.lemmas.Bool.Decides.{eqb_tells}
+use Rattle.std.proofs.lemmas.Option.{none-some, same_Some}
+use Rattle.std.proofs.lemmas.List.{length-map}
+use Rattle.vm_types.specs.declared.call.Entry.{Entry}
+use Rattle.vm_types.specs.declared.call.Reply.TheVariants.{Io}
+use Rattle.block_device.specs.DiskSeen.{DiskSeen}
+use Rattle.block_device.specs.RackSeen.{spec_number}
+use Rattle.block_device.specs.declared.disk_fault.DiskFault.{DiskFault}
+use Rattle.block_device.specs.declared.rack.Spec.{Spec}
+use Rattle.block_device.specs.declared.rack.Spec.TheVariants as spec
+use Rattle.block_device.specs.StreamSeen.{SinkSeen}
+use Rattle.flat_model.proofs.Bytes.{All-slice_get}
+use Rattle.flat_model.specs.Flat.{Flat}
+use Rattle.flat_model.specs.History.{Legal, replay}
+use Rattle.page_store.specs.Notes.{no_notes}
+use Rattle.vnode_files.specs.Files.{FilesSeen}
+use Rattle.vnode_files.specs.Vnode.{VnodeSeen, fresh_vnode}
+use Rattle.vnode_files.specs.declared.vnode.FileInfo.{FileInfo}
+use Rattle.vm_script.specs.PlanSeen.{PlanSeen}
+use Rattle.vm_script.specs.Rules.{amounts_of}
+use Rattle.vm_world.specs.State.{KernelState, FileMode, mode_of}
+use Rattle.vm_world.specs.World.{AllTell}
+use Rattle.vm_run.specs.declared.outcome.RunFault.{RunFault}
+use Rattle.vm_run.specs.Asked.{Given, Asked}
+use Rattle.volume_files.specs.Attached.{AttachedSeen, FileDisksTell, bare_disks}
+use Rattle.volume_files.specs.Closed.{SayTables, StoreFiles, StoresFile, flat_bytes, info_at, infos_in_flat, mode_in, modes_in}
+use Rattle.vm_run.specs.Course.{IsReady}
+use Rattle.vm_run.specs.Ended.{End, HasLateCause, CountsReach}
+use Rattle.volume_files.specs.Handed.{HaveTold, HandsAll, HaveSpecSizes, HasSpecSize, disk_numbers, disk_handed, plan_disks, sizes_of}
+use Rattle.volume_files.specs.Opened.{ComesTo, OpenedFile, disk_specs, infos_of, names_of, numbered_plan, opening_flat, stored_bytes}
+use Rattle.vm_run.specs.Played.{IsStarted, KernelLeaves, LeftSeen, IsClosingFault, IsDiskOf}
+use Rattle.volume_files.specs.Written.{infos_made}
+use Rattle.vm_run.specs.Run.{AreClosedBytes, AreOpenedBytes, Begun, ClosesFiles, LeavesFiles, DisksTell, IsOpened, flat_opened, flat_closed}
+use Rattle.volume_files.specs.Written.{AreFilesBytes, HaveDisks, IsCountedSince, KeepsBlocks, WriteTables, disk_sizes}
+use Rattle.volume_files.proofs.DiskLists.{at-map, in-map, mate, number, to-all, zip-back, sizes-by, sizes-written, low-disks, lookup-at, same-member}
+use Rattle.vm_run.proofs.DisksTell.{file-disks-tell}
+use Rattle.vm_run.proofs.KeptBytes.{stored-kept}
+use Rattle.vm_run.proofs.Returned.{swap-serves-still}
+
+-- a disk that tells did so before
+told-before : (old new : DiskSeen) → KeepsBlocks old new → IsSome new.content → IsSome old.content
+told-before old new k some = by old.content refl
+  where
+    by : (content : Option (List (List ℕ))) → old.content ≡ content → IsSome old.content
+    by None is = absurd (false≢true (subst IsSome (k.untold is) some))
+    by (Some blocks) is = subst IsSome (sym is) refl
+
+pub spec-size : (s : Spec) (d e : DiskSeen) → e.size ≡ d.size → HasSpecSize s d → HasSpecSize s e
+spec-size (spec.Blank n blocks) d e same h = same ∙ h
+spec-size (spec.Path n path) d e same h = tt
+
+-- the names of files, by their modes and by their records
+names-of-modes : (vs : List VnodeSeen) → map (λ (v : VnodeSeen). v.info.name) vs ≡ map (λ (m : FileMode). m.name) (map mode_of vs)
+names-of-modes [] = refl
+names-of-modes (v ∷ vs) = ap (λ l. v.info.name ∷ l) (names-of-modes vs)
+
+names-fresh : (files : List OpenedFile) → map (λ (v : VnodeSeen). v.info.name) (map fresh_vnode (infos_of files)) ≡ names_of files
+names-fresh [] = refl
+names-fresh (f ∷ files) = ap (λ l. f.info.name ∷ l) (names-fresh files)
+
+-- their modes
+abbrev mode-from : FileMode → List ℕ × ℕ × Bool
+mode-from m = (m.name, m.disk, m.writable)
+
+modes-of : (vs : List VnodeSeen) → modes_in (map (λ (v : VnodeSeen). v.info) vs) ≡ map mode-from (map mode_of vs)
+modes-of [] = refl
+modes-of (v ∷ vs) = ap (λ l. mode_in v.info ∷ l) (modes-of vs)
+
+-- the records of fresh files
+pub made-infos : (infos : List FileInfo) → map (λ (v : VnodeSeen). v.info) (map fresh_vnode infos) ≡ infos
+made-infos [] = refl
+made-infos (i ∷ infos) = ap (λ (l : List FileInfo). i ∷ l) (made-infos infos)
+
+-- the size of the disk at a place
+size-at : (xs : List (ℕ × DiskSeen)) (i : ℕ) (x : ℕ × DiskSeen) → slice_get xs i ≡ Some x → slice_get (map (λ (d : ℕ × DiskSeen). d.1.size) xs) i ≡ Some x.1.size
+size-at xs i x at = at-map (λ (d : ℕ × DiskSeen). d.1.size) xs i x at
+
+module _ (st : ℕ) (ft : Option RunFault) (g : Given) (what : Asked) (files : List OpenedFile) (bytes : ℕ → List ℕ) (a : AttachedSeen) (made : FilesSeen) (plan : PlanSeen) (k0 k1 : SinkSeen)
+    (ready : IsReady g k0 k1 what files bytes a made plan) (s : KernelState) (l : LeftSeen)
+    (started : IsStarted plan (opening_flat plan (disk_sizes a.disks) files) a.disks a.swap made s)
+    (left : KernelLeaves (opening_flat plan (disk_sizes a.disks) files) s l) (new : List (ℕ × DiskSeen)) (w : WriteTables l.disks new) where
+  abbrev pub ended : End
+  ended = record { status = st; fault = ft; history = l.history; disks = bare_disks new; swap = l.swap }
+
+  numbers-old : map number new ≡ map number a.disks
+  numbers-old = w.numbers ∙ left.disks.numbers ∙ ap (map number) started.racked
+
+  sizes-old : map (λ (d : ℕ × DiskSeen). d.1.size) new ≡ map (λ (d : ℕ × DiskSeen). d.1.size) a.disks
+  sizes-old = sizes-written l.disks new w ∙ left.disks.sizes ∙ ap (map (λ (d : ℕ × DiskSeen). d.1.size)) started.racked
+
+  pub pairs-new : plan_disks what.plan (bare_disks new) ≡ new
+  pairs-new = ap (λ (ns : List ℕ). zip ns (bare_disks new)) (sym ready.placed.numbers ∙ sym numbers-old) ∙ zip-back new
+
+  pairs-old : plan_disks what.plan (bare_disks a.disks) ≡ a.disks
+  pairs-old = ap (λ (ns : List ℕ). zip ns (bare_disks a.disks)) (sym ready.placed.numbers) ∙ zip-back a.disks
+
+  pub sizes-new : sizes_of what.plan (bare_disks new) ≡ disk_sizes a.disks
+  sizes-new = ap disk_sizes pairs-new ∙ sizes-by new a.disks numbers-old sizes-old
+
+  pub sizes-same : sizes_of what.plan (bare_disks a.disks) ≡ sizes_of what.plan (bare_disks new)
+  sizes-same = ap disk_sizes pairs-old ∙ sym sizes-new
+
+  pub flat-same : opening_flat plan (disk_sizes a.disks) files ≡ flat_opened what files (bare_disks new)
+  flat-same = ap (λ (p : PlanSeen). opening_flat p (disk_sizes a.disks) files) ready.numbered ∙ ap (λ (z : List (ℕ × ℕ)). opening_flat what.plan z files) (sym sizes-new)
+
+  told-left : HaveTold (bare_disks new) l.swap → HaveTold (bare_disks l.disks) l.swap
+  told-left h = record {
+    each = to-all (λ (d : DiskSeen). IsSome d.content) (bare_disks l.disks) (λ i d at.
+        let x = in-map (λ (p : ℕ × DiskSeen). p.1) l.disks i d at in
+        let m = mate l.disks new w.numbers i x.0 x.1 in
+        subst (λ (y : DiskSeen). IsSome y.content) x.2 (told-before x.0.1 m.0.1 (w.each i x.0 m.0 x.1 m.1)
+        (All-slice_get (λ (d : DiskSeen). IsSome d.content) (bare_disks new) i m.0.1 h.each (at-map (λ (p : ℕ × DiskSeen). p.1) new i m.0 m.1))));
+    last = h.last;
+  }
+
+  disks-told : DisksTell g what ended → FileDisksTell (infos_of files) a.disks
+  disks-told t = file-disks-tell what.plan g.holds files a made s.memory.world ready.placed ready.placed.kept started.racked started.placed (left.tells (told-left t.disks))
+
+  read-bytes : AreOpenedBytes g what files ended bytes
+  read-bytes = record { lengths = ready.read.lengths; told = λ t. ready.read.told (disks-told t) }
+
+  count-new : length (bare_disks new) ≡ length (disk_specs what.plan.setup)
+  count-new = length-map new (λ (p : ℕ × DiskSeen). p.1) ∙ sym (length-map new number) ∙ ap length (numbers-old ∙ ready.placed.numbers) ∙ length-map (disk_specs what.plan.setup) spec_number
+
+  hands-all : HandsAll what.plan (bare_disks new) l.swap
+  hands-all = record {
+    each = (
+      count-new,
+      λ i sp d si di.
+          let x = in-map (λ (p : ℕ × DiskSeen). p.1) new i d di in
+          let y = in-map (λ (p : ℕ × DiskSeen). p.1.size) a.disks i x.0.1.size (ap (λ (z : List ℕ). slice_get z i) (sym sizes-old) ∙ size-at new i x.0 x.1) in
+          subst (HasSpecSize sp) x.2 (spec-size sp y.0.1 x.0.1 (sym y.2) (ready.placed.handed.each.1 i sp y.0.1 si (at-map (λ (p : ℕ × DiskSeen). p.1) a.disks i y.0 y.1))),
+    );
+    first = swap-serves-still (amounts_of what.plan.setup).slots a.swap (opening_flat plan (disk_sizes a.disks) files) s l started.swapped left ready.placed.handed.first;
+  }
+
+  pub is-opened : IsOpened g what files ended
+  is-opened = record {
+    asked = ready.asked;
+    handed = hands-all;
+    given = subst (λ (xs : List (ℕ × ℕ)). ComesTo what.plan g.holds xs (Ok files)) (sym sizes-new) ready.placed.given;
+    opened = λ t. ready.placed.told t.rack (disks-told t);
+  }
+
+  -- the disks that come back have numbers of the plan
+  numbers-new : map number new ≡ disk_numbers what.plan
+  numbers-new = numbers-old ∙ ready.placed.numbers
+
+  reached : CountsReach what.plan (bare_disks new) l.swap l.history.entries
+  reached k e n before after at io = let x = left.reached k e n before after at io in by_disk x.0 x.1 x.2
+    where
+      handed : Bool → Option DiskSeen
+      handed eight = if◌then◌else◌ eight l.swap (lookup (λ m. m == n) (plan_disks what.plan (bare_disks new)))
+
+      some : (o : Option DiskSeen) (d : DiskSeen) → o ≡ Some d → after ≤ d.faults → IsSomeAnd o (λ (x : DiskSeen). after ≤ x.faults)
+      some o d is low = subst (λ (p : Option DiskSeen). IsSomeAnd p (λ (x : DiskSeen). after ≤ x.faults)) (sym is) low
+
+      apart : (j k : ℕ) (x y : ℕ × DiskSeen) → slice_get new j ≡ Some x → slice_get new k ≡ Some y → x.0 ≡ y.0 → j ≡ k
+      apart j k x y xj yk is =
+          let a = mate new l.disks (sym w.numbers) j x xj in
+          let b = mate new l.disks (sym w.numbers) k y yk in
+          left.have.numbers j k a.0 b.0 a.1 b.1 (a.2 ∙ is ∙ sym b.2)
+
+      by_disk : (d : DiskSeen) → IsDiskOf l.disks l.swap n d → after ≤ d.faults → IsSomeAnd (disk_handed what.plan (bare_disks new) l.swap n) (λ (x : DiskSeen). after ≤ x.faults)
+      by_disk d (inr swapped) low = some (disk_handed what.plan (bare_disks new) l.swap n) d (ap handed (subst (λ (m : ℕ). (m == 8) ≡ true) (sym swapped.0) refl) ∙ swapped.1) low
+      by_disk d (inl listed) low =
+          let m = mate l.disks new w.numbers listed.0 (n, d) listed.1 in
+          let up = (w.each listed.0 (n, d) m.0 listed.1 m.1).faults in
+          let own : m.0 ≡ (n, m.0.1) = ap (λ (j : ℕ). (j, m.0.1)) m.2 in
+          let there : slice_get new listed.0 ≡ Some (n, m.0.1) = m.1 ∙ ap Some own in
+          let low-number = low-disks what.plan new numbers-new listed.0 (n, m.0.1) there in
+          some (disk_handed what.plan (bare_disks new) l.swap n) m.0.1
+          (ap handed (ne_eqb n 8 (λ eight. omega (arith, eight, low-number))) ∙ ap (lookup (λ m. m == n)) pairs-new ∙ lookup-at n new listed.0 m.0.1 apart there)
+          (omega (arith, low, up))
+
+  pub begun : Begun g what files bytes ended
+  begun = record {
+    opened = is-opened;
+    read = read-bytes;
+    legal = λ t. subst (λ (F : Flat). Legal F l.history.entries) flat-same (left.legal (told-left t.disks));
+    counted = left.counted;
+    reached = reached;
+  }
+
+  names-left : map (λ (v : VnodeSeen). v.info.name) l.files.files ≡ names_of files
+  names-left = names-of-modes l.files.files ∙ ap (map (λ (m : FileMode). m.name)) (left.modes ∙ ap (λ (f : FilesSeen). map mode_of f.files) started.placed)
+      ∙ sym (names-of-modes made.files) ∙ ap (map (λ (v : VnodeSeen). v.info.name)) ready.placed.fresh ∙ names-fresh files
+
+  closed-same : (replay (opening_flat plan (disk_sizes a.disks) files) l.history.entries).files ≡ (flat_closed what files (bare_disks new) l.history.entries).files
+  closed-same = ap (λ (F : Flat). (replay F l.history.entries).files) flat-same
+
+  stored : l.fault ≡ None → DisksTell g what ended → StoreFiles new (infos_made l.files) (flat_bytes (flat_closed what files (bare_disks new) l.history.entries).files)
+  stored none t = subst (λ fs. StoreFiles new (infos_made l.files) (flat_bytes fs)) closed-same
+      (stored-kept l.files l.disks new left.lie w _ (subst (λ (f : Option DiskFault). IfNone f (HaveTold (bare_disks l.disks) l.swap
+      → StoreFiles l.disks (infos_made l.files) (flat_bytes (replay (opening_flat plan (disk_sizes a.disks) files) l.history.entries).files))) none left.stored (told-left t.disks)))
+
+  modes-left : modes_in (infos_made l.files) ≡ modes_in (infos_of files)
+  modes-left = modes-of l.files.files ∙ ap (map mode-from) (left.modes ∙ ap (λ (f : FilesSeen). map mode_of f.files) started.placed)
+      ∙ sym (modes-of made.files) ∙ ap modes_in (ap (map (λ (v : VnodeSeen). v.info)) ready.placed.fresh ∙ made-infos (infos_of files))
+
+  -- the disks have the files
+  pub leaves : l.fault ≡ None → LeavesFiles g what files (infos_made l.files) ended
+  leaves none = record {
+    modes = modes-left;
+    records = λ t. left.infos (told-left t.disks) ∙ ap (λ ns. infos_in_flat ns (replay (opening_flat plan (disk_sizes a.disks) files) l.history.entries).files) names-left
+        ∙ ap (infos_in_flat (names_of files)) closed-same;
+    stored = λ t. subst (λ (d : List (ℕ × DiskSeen)). StoreFiles d (infos_made l.files) (flat_bytes (flat_closed what files (bare_disks new) l.history.entries).files)) (sym pairs-new) (stored none t);
+  }
+
+  -- the files were closed
+  pub closes : l.fault ≡ None → SayTables new (infos_made l.files) → ClosesFiles g what files (infos_made l.files) ended
+  closes none tables = record { left = leaves none; tables = subst (λ (d : List (ℕ × DiskSeen)). SayTables d (infos_made l.files)) (sym pairs-new) tables }
+
+  -- the bytes that were read back
+  pub closed-bytes : l.fault ≡ None → HaveDisks l.files new → (shown : ℕ → List ℕ) → AreFilesBytes (infos_made l.files) new shown → AreClosedBytes g what files (infos_made l.files) ended shown
+  closed-bytes none have shown are = record {
+    lengths = are.lengths;
+    told = λ t k info at.
+        let v = in-map (λ (v : VnodeSeen). v.info) l.files.files k info at in
+        let there = have.there k v.0 v.1 in
+        let disk : ℕ × DiskSeen = (v.0.info.disk, there.1) in
+        let told = All-slice_get (λ (d : DiskSeen). IsSome d.content) (bare_disks new) there.0 there.1 t.disks.each (at-map (λ (p : ℕ × DiskSeen). p.1) new there.0 disk there.2) in
+        let own : info.disk ≡ v.0.info.disk = ap (λ (i : FileInfo). i.disk) (sym v.2) in
+        both there.1.content (shown k) _ info told (are.told there.0 k disk info there.2 at own)
+        (subst (λ (i : FileInfo). IfSome there.1.content (λ blocks. stored_bytes blocks i ≡ flat_bytes (flat_closed what files (bare_disks new) l.history.entries).files k)) (at-place (infos_made l.files) k info at)
+        (stored none t there.0 k disk there.2 (within (infos_made l.files) k info at) (ap (λ (i : FileInfo). i.disk) (at-place (infos_made l.files) k info at) ∙ own)));
+  }
+    where
+      at-place : (infos : List FileInfo) (k : ℕ) (info : FileInfo) → slice_get infos k ≡ Some info → info_at infos k ≡ info
+      at-place [] k info at = absurd (none-some info at)
+      at-place (i ∷ infos) zero info at = same_Some i info at
+      at-place (i ∷ infos) (suc k) info at = at-place infos k info at
+
+      within : (infos : List FileInfo) (k : ℕ) (info : FileInfo) → slice_get infos k ≡ Some info → k < length infos
+      within [] k info at = absurd (none-some info at)
+      within (i ∷ infos) zero info at = omega arith
+      within (i ∷ infos) (suc k) info at = let lt = within infos k info at in omega (arith, lt)
+
+      both : (content : Option (List (List ℕ))) (x y : List ℕ) (info : FileInfo) → IsSome content → IfSome content (λ blocks. stored_bytes blocks info ≡ x)
+          → IfSome content (λ blocks. stored_bytes blocks info ≡ y) → x ≡ y
+      both None x y info some p q = absurd (false≢true some)
+      both (Some blocks) x y info some p q = sym p ∙ q
+
+  -- a fault of a disk that came back, counted since the kernel was closed
+  pub late-cause : (f : DiskFault) (i : ℕ) (disk : DiskSeen) → f.disk < 8 → HaveDisks l.files new → slice_get new i ≡ Some (f.disk, disk) → f.after ≡ disk.faults
+      → ((count : ℕ) × (slice_index_or l.history.faults f.disk None ≡ Some count) × (count ≤ f.before)) → HasLateCause what.plan l.history (bare_disks new) l.swap f
+  late-cause f i disk low have at last since = record {
+    counted = record {
+      risen = f.risen;
+      disk = disk;
+      back = ap (λ b. if◌then◌else◌ b l.swap (lookup (λ m. m == f.disk) (plan_disks what.plan (bare_disks new)))) (other f.disk low)
+          ∙ ap (lookup (λ m. m == f.disk)) pairs-new ∙ lookup-at f.disk new i disk (λ j k x y xj yk is. have.numbers j k x y xj yk is) at;
+      last = last;
+    };
+    since = since;
+  }
+    where
+      other : (n : ℕ) → n < 8 → (n == 8) ≡ false
+      other n lt = elim (eqb_tells n 8) [ inl same ↦ absurd (let e = same.1 in omega (arith, lt, e)) | inr differ ↦ differ.0 ]

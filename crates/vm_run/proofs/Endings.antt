@@ -1,0 +1,80 @@
+-- How a run ends whose files were closed.
+use Rattle.std.proofs.Common.{◌≡◌, ℕ, ◌≤◌, List, [], ◌∷◌, ◌++◌, length, take, true, false, refl, sym, ap, ◌∙◌, subst, arith, inl, inr}
+use Rattle.std.specs.Prelude.{Bool, Option, Some, None, Result, Ok, Err, is_some}
+use Rattle.std.proofs.Common.{append-nil}
+use Rattle.std.proofs.lemmas.Bool.{false≢true}
+use Rattle.vm_types.specs.declared.call.Entry.{Entry}
+use Rattle.block_device.specs.DiskSeen.{DiskSeen}
+use Rattle.block_device.specs.StreamSeen.{SinkSeen}
+use Rattle.block_device.specs.declared.disk_fault.DiskFault.{DiskFault}
+use Rattle.vnode_files.specs.declared.vnode.FileInfo.{FileInfo}
+use Rattle.vm_script.specs.PlanSeen.{PlanSeen}
+use Rattle.vm_run.specs.declared.ending.Ending.{Ending}
+use Rattle.vm_run.specs.declared.ending.Ending.TheVariants as ending
+use Rattle.command_line.specs.declared.options.Options.{Options}
+use Rattle.volume_files.specs.declared.showing.Heading.TheVariants.{Report}
+use Rattle.volume_files.specs.declared.showing.ShowStop.{ShowStop}
+use Rattle.volume_files.specs.declared.showing.ShowStop.TheVariants as show
+use Rattle.vm_run.specs.Course.{CloseEnds, LacksTable, MiddleStops, ShowEnds, showing_stop}
+use Rattle.volume_files.specs.Texts.{Wrote, WroteFront, WrotePart, file_sections}
+use Rattle.vm_run.specs.AskedTexts.{files_or_none, middle_text}
+use Rattle.volume_files.specs.Written.{disk_fault_counts, AreFilesBytes, IsShowStop, ShowsSections}
+use Rattle.vm_run.proofs.Sinks.{wrote_then, risen_before}
+use Rattle.volume_files.proofs.WrittenTexts.{front_then, part_more, part_then}
+
+module _ (o : Options) (plan : PlanSeen) (H : List Entry) (infos : List FileInfo) (k0 k1 : SinkSeen) (old new : List (ℕ × DiskSeen)) where
+  -- the text before the files wasn't written
+  pub middle-stopped : (bytes : ℕ → List ℕ) → AreFilesBytes infos old bytes → (how : Ending) → MiddleStops (middle_text o plan H) k0 k1 how → ShowEnds o plan H infos k0 k1 old new how
+  middle-stopped bytes are ending.Memory m = (bytes, are, (0, m))
+  middle-stopped bytes are ending.Sink m = (m.0, (bytes, are, part_more k0 k1 (middle_text o plan H) (files_or_none o.make infos bytes) m.1))
+  middle-stopped bytes are ending.Whole m = absurd m
+  middle-stopped bytes are ending.Usage m = absurd m
+  middle-stopped bytes are (ending.NoScript f) m = absurd m
+  middle-stopped bytes are ending.Later m = absurd m
+  middle-stopped bytes are (ending.Refused r) m = absurd m
+  middle-stopped bytes are ending.NotRead m = absurd m
+  middle-stopped bytes are ending.OpeningSink m = absurd m
+  middle-stopped bytes are (ending.Opening f) m = absurd m
+  middle-stopped bytes are (ending.Closing f) m = absurd m
+  middle-stopped bytes are (ending.Showing f) m = absurd m
+
+-- a generated script shows no file
+pub without-files : (make : Option ℕ) (k0 k1 : SinkSeen) (text : List ℕ) (infos : List FileInfo) (bytes : ℕ → List ℕ) → is_some make ≡ true → Wrote k0 k1 text
+    → Wrote k0 k1 (text ++ files_or_none make infos bytes)
+without-files None k0 k1 text infos bytes some w = absurd (false≢true some)
+without-files (Some n) k0 k1 text infos bytes some w = subst (Wrote k0 k1) (sym (append-nil text)) w
+
+no-make : (make : Option ℕ) → is_some make ≡ false → make ≡ None
+no-make None none = refl
+no-make (Some n) none = absurd (false≢true (sym none))
+
+module _ (o : Options) (plan : PlanSeen) (H : List Entry) (infos : List FileInfo) (bytes : ℕ → List ℕ) (k0 k1 k2 : SinkSeen) (old new : List (ℕ × DiskSeen)) where
+  -- the files weren't shown to their end
+  pub files-stopped : AreFilesBytes infos old bytes → is_some o.make ≡ false → k0.faults ≤ k1.faults → Wrote k0 k1 (middle_text o plan H)
+      → (stop : ShowStop DiskFault) → IsShowStop Report infos bytes k1 k2 old new disk_fault_counts stop → ShowEnds o plan H infos k0 k2 old new (showing_stop stop)
+  files-stopped are none later wrote show.Memory s = (
+    bytes,
+    are,
+    front_then k0 k1 k2 (middle_text o plan H) (files_or_none o.make infos bytes) wrote
+        (subst (λ (make : Option ℕ). WroteFront k1 k2 (files_or_none make infos bytes)) (sym (no-make o.make none)) s),
+  )
+  files-stopped are none later wrote show.Sink s = (
+    risen_before k0.faults k1.faults k2.faults later s.0,
+    (
+      bytes,
+      are,
+      part_then k0 k1 k2 (middle_text o plan H) (files_or_none o.make infos bytes) wrote
+          (subst (λ (make : Option ℕ). WrotePart k1 k2 (files_or_none make infos bytes)) (sym (no-make o.make none)) s.1),
+    ),
+  )
+  files-stopped are none later wrote (show.Fault f) s =
+      (s.0, (bytes, s.1.0, s.1.1, are, s.1.2, no-make o.make none, wrote_then k0 k1 k2 (middle_text o plan H) _ wrote s.1.3))
+
+-- not all lines were made
+pub lacks-closed : (whole : Bool) (fault : Option DiskFault) (o : Options) (plan : PlanSeen) (H : List Entry) (infos : List FileInfo) (k0 k1 : SinkSeen) (old new : List (ℕ × DiskSeen)) (how : Ending)
+    → whole ≡ false → (is_some fault ≡ true → new ≡ old) → LacksTable k0 k1 old new how → CloseEnds whole fault o plan H infos k0 k1 old new how
+lacks-closed whole fault o plan H infos k0 k1 old new how is same h = subst (λ (b : Bool). CloseEnds b fault o plan H infos k0 k1 old new how) (sym is) (by fault same)
+  where
+    by : (f : Option DiskFault) → (is_some f ≡ true → new ≡ old) → CloseEnds false f o plan H infos k0 k1 old new how
+    by None same = h
+    by (Some f) same = (same refl, h)

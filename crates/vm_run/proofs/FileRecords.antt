@@ -1,0 +1,138 @@
+-- The records of files that come back, and whether their disks told at the start.
+use Rattle.std.proofs.Common.{◌≡◌, ℕ, suc, ◌<◌, ◌≤◌, Bool, true, false, cond, List, [], ◌∷◌, length, map, None, refl, sym, ap, ◌∙◌, inl, inr, subst, arith}
+use Rattle.std.specs.FinMap as finite
+use Rattle.std.proofs.lemmas.Bool.{cases_Bool}
+use Rattle.std.proofs.lemmas.List.{get_or-map, length-map}
+use Rattle.page_store.specs.Notes.{no_notes}
+use Rattle.page_store.specs.Value.{tells}
+use Rattle.vm_types.specs.declared.call.Entry.{Entry}
+use Rattle.vnode_files.specs.declared.vnode.FileInfo.{FileInfo}
+use Rattle.vnode_files.specs.Files.{FilesSeen, vnode_at}
+use Rattle.vnode_files.specs.Vnode.{VnodeSeen, no_vnode}
+use Rattle.volume_format.specs.Table.{no_entry}
+use Rattle.flat_model.specs.Births.{AreBorn}
+use Rattle.flat_model.specs.Flat.{File, Flat}
+use Rattle.flat_model.specs.History.{Legal, Steps, replay}
+use Rattle.flat_model.specs.Opening.{flat_at_opening}
+use Rattle.flat_model.specs.Parts.{without_tail}
+use Rattle.flat_model.specs.Step.{is_bit_set, files_cleared, step}
+use Rattle.flat_model.specs.Words.{Page}
+use Rattle.flat_model.proofs.Frames.{StepFrame-step}
+use Rattle.flat_model.proofs.Lives.{AreBorn-step}
+use Rattle.flat_model.proofs.Opened.{IsFlat-opening}
+use Rattle.vm_world.specs.Events.{IsEvent}
+use Rattle.vm_world.specs.FlatMemory.{files_with_pages, flat_memory}
+use Rattle.vm_world.specs.HistoryFits.{HistoryFits}
+use Rattle.vm_world.specs.Opening.{no_seats}
+use Rattle.vm_world.specs.Pages.{contents_of}
+use Rattle.vm_world.specs.State.{FileMode, Fixed, KernelState, mode_of}
+use Rattle.vm_world.specs.StateFits.{StateFits}
+use Rattle.vm_world.specs.World.{AllTell, world_table}
+use Rattle.volume_files.specs.Attached.{bare_disks}
+use Rattle.volume_files.specs.Closed.{info_at, info_in_flat, infos_in_flat}
+use Rattle.volume_files.specs.Handed.{HaveTold}
+use Rattle.vm_run.specs.Played.{LeftSeen}
+use Rattle.volume_files.specs.Written.{infos_made}
+use Rattle.volume_files.specs.Written.{HaveExtents, LieWell}
+use Rattle.vm_run.proofs.Returned.{Closes, fits-after, all-tell, are-left}
+
+-- what of a file never changes, by its record
+abbrev mode_in : FileInfo → FileMode
+mode_in i = record { name = i.name; disk = i.disk; writable = i.writable }
+
+modes-by : (vs : List VnodeSeen) → map mode_of vs ≡ map mode_in (map (λ (v : VnodeSeen). v.info) vs)
+modes-by [] = refl
+modes-by (v ∷ vs) = ap (λ (ms : List FileMode). mode_of v ∷ ms) (modes-by vs)
+
+names-by : (vs : List VnodeSeen) → map (λ (v : VnodeSeen). v.info.name) vs ≡ map (λ (i : FileInfo). i.name) (map (λ (v : VnodeSeen). v.info) vs)
+names-by [] = refl
+names-by (v ∷ vs) = ap (λ (ns : List (List ℕ)). v.info.name ∷ ns) (names-by vs)
+
+-- flat memory has the records of the files
+in-flat : (page : ℕ → ℕ → Page) (k : ℕ) (infos : List FileInfo) → infos_in_flat (map (λ (i : FileInfo). i.name) infos) (files_with_pages page k infos) ≡ infos
+in-flat page k [] = refl
+in-flat page k (info ∷ infos) = ap (λ (is : List FileInfo). info ∷ is) (in-flat page (suc k) infos)
+
+-- tails are in no record
+tail-none : (name : List ℕ) (b : Bool) (file : File) → info_in_flat name (cond b (without_tail file) file) ≡ info_in_flat name file
+tail-none name true file = refl
+tail-none name false file = refl
+
+infos-cleared : (test : ℕ → Bool) (names : List (List ℕ)) (files : List File) → infos_in_flat names (files_cleared test files) ≡ infos_in_flat names files
+infos-cleared test [] files = refl
+infos-cleared test (name ∷ names) [] = refl
+infos-cleared test (name ∷ names) (file ∷ files) =
+    ap (λ (i : FileInfo). i ∷ infos_in_flat names (files_cleared (λ f. test (suc f)) files)) (tail-none name (test 0) file)
+    ∙ ap (λ (is : List FileInfo). info_in_flat name file ∷ is) (infos-cleared (λ f. test (suc f)) names files)
+
+-- the record of a file among all
+pub record-at : (files : FilesSeen) (k : ℕ) → k < length files.files → info_at (map (λ (v : VnodeSeen). v.info) files.files) k ≡ (vnode_at files k).info
+record-at files k lt = get_or-map (λ (v : VnodeSeen). v.info) files.files k no_vnode no_entry lt
+
+-- no step changes how many slots there are
+slots-replay : (F : Flat) (H : List Entry) → AreBorn F → Steps F H → (replay F H).slots ≡ F.slots
+slots-replay F [] born steps = refl
+slots-replay F (e ∷ H) born steps = slots-replay (step F e) H (AreBorn-step F e born steps.0) steps.1 ∙ (StepFrame-step F e born steps.0).slots
+
+module _ (F : Flat) (s t : KernelState) (l : LeftSeen) (event : IsEvent 0 s None t None) (before : StateFits F s no_seats) (c : Closes t l) where
+  pub modes-left : map mode_of l.files.files ≡ map mode_of s.memory.world.files.files
+  modes-left =
+      modes-by l.files.files ∙ ap (map mode_in) c.files.infos ∙ sym (modes-by t.memory.world.files.files) ∙ ap (λ (f : Fixed). f.files) event.fixed
+
+  pub lie-left : LieWell l.files
+  lie-left =
+      let fits = (are-left F s t l event before c).fits in
+      record { few_files = c.few; sound = c.sound; on_disks = fits.lie; apart = fits.apart; few = fits.few }
+
+  pub extents-left : HaveExtents (infos_made l.files)
+  extents-left k lt =
+      let count = length-map l.files.files (λ (v : VnodeSeen). v.info) in
+      let low : k < length l.files.files = omega (arith, count, lt) in
+      subst (λ (i : FileInfo). 1 ≤ length i.extents) (sym (record-at l.files k low)) ((are-left F s t l event before c).fits.some k low)
+
+  pub history-left : HaveTold (bare_disks l.disks) l.swap → HistoryFits F t.history t.pending (flat_memory t.memory t.born no_notes)
+  history-left told = (fits-after F s t event before).replays (all-tell F s t l event before c told)
+
+  pub legal-left : HaveTold (bare_disks l.disks) l.swap → Legal F l.history.entries
+  legal-left told = subst (Legal F) (sym c.entries) (history-left told).legal
+
+  pub infos-left : HaveTold (bare_disks l.disks) l.swap → infos_made l.files ≡ infos_in_flat (map (λ (v : VnodeSeen). v.info.name) l.files.files) (replay F l.history.entries).files
+  infos-left told =
+      let fits = history-left told in
+      let names = map (λ (v : VnodeSeen). v.info.name) l.files.files in
+      let made = map (λ (v : VnodeSeen). v.info) t.memory.world.files.files in
+      let page = (contents_of t.memory.world no_notes).file in
+      c.files.infos
+      ∙ sym (in-flat page 0 made)
+      ∙ sym (ap (λ (ns : List (List ℕ)). infos_in_flat ns (files_with_pages page 0 made)) (names-by l.files.files ∙ ap (map (λ (i : FileInfo). i.name)) c.files.infos))
+      ∙ ap (λ (G : Flat). infos_in_flat names G.files) fits.shows
+      ∙ infos-cleared (is_bit_set t.pending) names (replay F t.history).files
+      ∙ ap (λ (H : List Entry). infos_in_flat names (replay F H).files) (sym c.entries)
+
+  -- THE DISKS TOLD AT THE START where they tell at the end: else any flat memory would do for the start, and those of one number of slots end with it.
+  pub told-left : HaveTold (bare_disks l.disks) l.swap → AllTell s.memory.world no_notes
+  told-left told name is = elim (cases_Bool (tells s.memory.world.store no_notes (world_table s.memory.world name).disk)) [
+    | inl tell ↦ tell
+    | inr silent ↦ absurd (never silent)
+  ]
+    where
+      any : tells s.memory.world.store no_notes (world_table s.memory.world name).disk ≡ false → (G : Flat) → StateFits G s no_seats
+      any silent G = record {
+        memory = before.memory;
+        notes = before.notes;
+        replays = λ tell. absurd (let z : true ≡ false = sym (tell name is) ∙ silent in cc);
+        faults = before.faults;
+        calls = before.calls;
+        rooms = before.rooms;
+        births = before.births;
+        plans = before.plans;
+      }
+
+      slots-then : tells s.memory.world.store no_notes (world_table s.memory.world name).disk ≡ false → (n : ℕ) → length t.memory.world.anon.counts ≡ n
+      slots-then silent n =
+          let G : Flat = flat_at_opening n finite.empty [] [] in
+          let fits : HistoryFits G t.history t.pending (flat_memory t.memory t.born no_notes) = (fits-after G s t event (any silent G)).replays (all-tell F s t l event before c told) in
+          ap (λ (f : Flat). f.slots) fits.shows ∙ slots-replay G t.history (IsFlat-opening n).born fits.legal.steps
+
+      never : tells s.memory.world.store no_notes (world_table s.memory.world name).disk ≡ false → ⊥
+      never silent = let z : 0 ≡ 1 = sym (slots-then silent 0) ∙ slots-then silent 1 in omega (arith, z)

@@ -1,0 +1,127 @@
+-- A plan that may be played may be played with the numbers of its files.
+use Rattle.std.specs.Prelude.{ℕ, ◌≡◌, ◌<◌, ◌+◌, ◌^◌, ◌||◌, not, nat_lt, Bool, true, false, List, [], ◌∷◌, length, map, Some, None, if◌then◌else◌}
+use Rattle.std.specs.List.{list_all, list_any}
+use Rattle.std.proofs.lemmas.Bool.{and_parts, and_from, both_ways, not-false}
+use Rattle.std.proofs.Common.{ap, ◌∙◌, sym, subst, refl, arith}
+use Rattle.std.proofs.lemmas.List.{map-append, length-map}
+use Rattle.std.proofs.lemmas.List.Elements.{All-map, All-weaker}
+use Rattle.std.proofs.lemmas.List.Sums.{sum_by-cons}
+use Rattle.vm_types.specs.declared.call.Call.{Call}
+use Rattle.vm_types.specs.declared.call.Call.TheVariants as call
+use Rattle.vm_types.specs.declared.call.Object.TheVariants as object
+use Rattle.vm_types.specs.declared.call.Place.TheVariants as place
+use Rattle.vm_types.specs.WellFormed.{IsWellFormed}
+use Rattle.vm_script.specs.declared.plan.PlanAct.{PlanAct}
+use Rattle.vm_script.specs.declared.plan.PlanAct.TheVariants as act
+use Rattle.vm_script.specs.declared.plan.PlanLine.{PlanLine}
+use Rattle.vm_script.specs.Blocks.{IsInner, IsProcessBlock, ends, goes_on, forks, AreProcessBlocks, over, block}
+use Rattle.vm_script.specs.Counts.{parts, call_parts, entry_count}
+use Rattle.vm_script.specs.Fields.{is_word}
+use Rattle.vm_script.specs.FileNames.{place_from, call_with_file, act_with_file, line_with_file, with_files}
+use Rattle.vm_script.specs.PlanSeen.{PlanSeen}
+use Rattle.vm_script.specs.Rules.{broken_rule, has_wrong_frames, amounts_of, is_from_to, has_wrong_disk, lacks_disk, is_wrong_file}
+use Rattle.vm_script.specs.Sound.{IsSoundAct}
+use Rattle.vm_run.specs.Asked.{is_later, is_served_act, is_served_named}
+use Rattle.vm_run.specs.Played.{IsPlayable}
+
+served-named : (names : List (List ℕ)) (name : List ℕ) (c : Call) → is_served_named c ≡ true → is_served_named (call_with_file names name c) ≡ true
+served-named names name (call.Load a n) h = h
+served-named names name (call.Store a n v) h = h
+served-named names name (call.Map (place.At a) len prot kind (object.File f) offset) h = refl
+served-named names name (call.Map place.Any len prot kind (object.File f) offset) h = h
+served-named names name (call.Map at len prot kind object.NewZero offset) h = h
+served-named names name (call.Map at len prot kind (object.Zero z) offset) h = h
+served-named names name (call.Unmap a len) h = h
+served-named names name (call.Protect a len prot) h = h
+served-named names name (call.Sync a len) h = h
+served-named names name (call.Read file offset len) h = h
+served-named names name (call.Write file offset bytes rest) h = h
+served-named names name (call.Truncate file len) h = h
+served-named names name (call.Fork child) h = h
+served-named names name call.Exit h = h
+
+served-act : (names : List (List ℕ)) (a : PlanAct) → is_served_act a ≡ true → is_served_act (act_with_file names a) ≡ true
+served-act names (act.Call c) h = h
+served-act names (act.Named name c) h = served-named names name c h
+served-act names (act.Write name file offset bytes) h = h
+served-act names act.Wait h = h
+
+served-all : (names : List (List ℕ)) (lines : List PlanLine) → list_all (λ l. is_served_act l.act) lines ≡ true → list_all (λ l. is_served_act l.act) (map (line_with_file names) lines) ≡ true
+served-all names [] h = refl
+served-all names (l ∷ lines) h =
+    let both = and_parts (is_served_act l.act) (list_all (λ k. is_served_act k.act) lines) h in
+    and_from (is_served_act (act_with_file names l.act)) (list_all (λ k. is_served_act k.act) (map (line_with_file names) lines)) (served-act names l.act both.0) (served-all names lines both.1)
+
+or_false : (x y : Bool) → (x || y) ≡ false → (x ≡ false) × (y ≡ false)
+or_false true y h = absurd (both_ways true h refl)
+or_false false y h = (refl, h)
+
+later-named : (names : List (List ℕ)) (plan : PlanSeen) → is_later plan ≡ false → is_later (with_files names plan) ≡ false
+later-named names plan h =
+    let both = or_false (nat_lt 1 (length plan.parents)) (not (list_all (λ l. is_served_act l.act) plan.lines)) h in
+    let all = served-all names plan.lines (not-false (list_all (λ l. is_served_act l.act) plan.lines) both.1) in
+    ap (λ (t : Bool). t || not (list_all (λ l. is_served_act l.act) (map (line_with_file names) plan.lines))) both.0 ∙ ap not all
+
+-- the blocks nest as before
+inner-named : (names : List (List ℕ)) (a : PlanAct) → IsInner a → IsInner (act_with_file names a)
+inner-named names (act.Call c) h = h
+inner-named names (act.Named name c) h = tt
+inner-named names (act.Write name file offset bytes) h = tt
+inner-named names act.Wait h = tt
+
+block-named : (names : List (List ℕ)) (parents : List ℕ) {p n m : ℕ} {lines : List PlanLine} → IsProcessBlock parents p n lines m → IsProcessBlock parents p n (map (line_with_file names) lines) m
+block-named names parents (ends p n line) = ends p n line
+block-named names parents (goes_on p n m line a lines inner rest) =
+    goes_on p n m line (act_with_file names a) (map (line_with_file names) lines) (inner-named names a inner) (block-named names parents rest)
+block-named names parents (forks p n k m line child lines parent own rest) =
+    subst (λ (ls : List PlanLine). IsProcessBlock parents p n (record { line = line; process = p; act = act.Call (call.Fork n) } ∷ ls) m) (sym (map-append (line_with_file names) child lines))
+    (forks p n k m line (map (line_with_file names) child) (map (line_with_file names) lines) parent (block-named names parents own) (block-named names parents rest))
+
+blocks-named : (names : List (List ℕ)) (parents : List ℕ) {n m : ℕ} {lines : List PlanLine} → AreProcessBlocks parents n lines m → AreProcessBlocks parents n (map (line_with_file names) lines) m
+blocks-named names parents (over n) = over n
+blocks-named names parents (block n k m lines rest parent own more) =
+    subst (λ (ls : List PlanLine). AreProcessBlocks parents n ls m) (sym (map-append (line_with_file names) lines rest))
+    (block n k m (map (line_with_file names) lines) (map (line_with_file names) rest) parent (block-named names parents own) (blocks-named names parents more))
+
+-- the number of a file is a number
+place-below : (i : ℕ) (names : List (List ℕ)) (name : List ℕ) (old : ℕ) → i + length names < 2 ^ 32 → old < 2 ^ 32 → place_from i names name old < 2 ^ 32
+place-below i [] name old few is = is
+place-below i (first ∷ names) name old few is =
+    elim (is_word first name) as (λ (t : Bool). (if t then i else place_from (i + 1) names name old) < 2 ^ 32) [
+      | true ↦ omega (arith, few)
+      | false ↦ place-below (i + 1) names name old (omega (arith, few)) is
+    ]
+
+formed-named : (names : List (List ℕ)) → length names < 2 ^ 32 → (name : List ℕ) (c : Call) → IsWellFormed c → IsWellFormed (call_with_file names name c)
+formed-named names few name (call.Load a n) h = h
+formed-named names few name (call.Store a n v) h = h
+formed-named names few name (call.Map at len prot kind (object.File f) offset) h = (h.0, h.1, h.2, place-below 0 names name f (omega (arith, few)) h.3, h.4)
+formed-named names few name (call.Map at len prot kind object.NewZero offset) h = h
+formed-named names few name (call.Map at len prot kind (object.Zero z) offset) h = h
+formed-named names few name (call.Unmap a len) h = h
+formed-named names few name (call.Protect a len prot) h = h
+formed-named names few name (call.Sync a len) h = h
+formed-named names few name (call.Read file offset len) h = (place-below 0 names name file (omega (arith, few)) h.0, h.1, h.2, h.3)
+formed-named names few name (call.Write file offset bytes rest) h = h
+formed-named names few name (call.Truncate file len) h = (place-below 0 names name file (omega (arith, few)) h.0, h.1)
+formed-named names few name (call.Fork child) h = h
+formed-named names few name call.Exit h = h
+
+sound-act : (names : List (List ℕ)) → length names < 2 ^ 32 → (a : PlanAct) → IsSoundAct a → IsSoundAct (act_with_file names a)
+sound-act names few (act.Call c) h = h
+sound-act names few (act.Named name c) h = formed-named names few name c h
+sound-act names few (act.Write name file offset bytes) h = (place-below 0 names name file (omega (arith, few)) h.0, h.1, h.2)
+sound-act names few act.Wait h = h
+
+-- a plan that may be played may be played with the numbers of its files
+pub playable-named : (names : List (List ℕ)) (plan : PlanSeen) → length names < 2 ^ 32 → IsPlayable plan → IsPlayable (with_files names plan)
+playable-named names plan few p = record {
+  now = later-named names plan p.now;
+  sound = record {
+    nests = blocks-named names plan.parents p.sound.nests;
+    acts = All-map (λ (l : PlanLine). IsSoundAct l.act) (line_with_file names) plan.lines
+        (All-weaker (λ (l : PlanLine). IsSoundAct l.act) (λ (l : PlanLine). IsSoundAct (act_with_file names l.act)) (λ l h. sound-act names few l.act h) plan.lines p.sound.acts);
+    few_lines = omega (arith, p.sound.few_lines, length-map plan.lines (line_with_file names));
+    few_blocks = p.sound.few_blocks;
+  };
+}

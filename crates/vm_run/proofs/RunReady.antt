@@ -1,0 +1,155 @@
+-- A run that is ready, to its end.
+use Rattle.std.proofs.Common.{◌≡◌, ℕ, zero, suc, ◌≤◌, ◌<◌, ◌^◌, List, [], ◌∷◌, length, map, refl, sym, ap, ◌∙◌, subst, arith}
+use Rattle.std.specs.Prelude.{Bool, IsTrue, None, Ok, Option, Some, slice_get}
+use Rattle.std.proofs.lemmas.List.{length-map}
+use Rattle.block_device.specs.DiskSeen.{DiskSeen}
+use Rattle.block_device.specs.StreamSeen.{SinkSeen}
+use Rattle.block_device.specs.declared.rack.Spec.{Spec}
+use Rattle.vm_core.specs.Finish.{HistorySeen}
+use Rattle.vm_script.specs.PlanSeen.{PlanSeen}
+use Rattle.vm_script.specs.Rules.{broken_rule}
+use Rattle.vm_script.specs.Told.{Told, ToldFront}
+use Rattle.vm_world.specs.State.{FileMode, KernelState, mode_of}
+use Rattle.vnode_files.specs.Files.{FilesSeen}
+use Rattle.vnode_files.specs.Vnode.{VnodeSeen}
+use Rattle.vnode_files.specs.declared.vnode.FileInfo.{FileInfo}
+use Rattle.volume_format.specs.Volume.{IsVolumeName}
+use Rattle.vm_run.specs.declared.ending.Ending.{Ending}
+use Rattle.vm_run.specs.declared.ending.Ending.TheVariants as ending
+use Rattle.command_line.specs.declared.options.Options.{Options}
+use Rattle.vm_run.specs.declared.outcome.RunFault.{RunFault}
+use Rattle.vm_run.specs.Asked.{Given, Asked, WasAsked}
+use Rattle.volume_files.specs.Attached.{ArePlaced, AttachedSeen, HaveVolumeNames, bare_disks}
+use Rattle.volume_files.specs.Closed.{info_at}
+use Rattle.vm_run.specs.Course.{AreReadBytes, CloseEnds, IsReady}
+use Rattle.vm_run.specs.Ended.{End}
+use Rattle.volume_files.specs.Opened.{OpenedFile, infos_of, names_of, numbered_plan, opening_flat}
+use Rattle.vm_run.specs.Played.{IsPlayable, IsStarted, KernelLeaves, LeftSeen}
+use Rattle.volume_files.specs.Written.{infos_made}
+use Rattle.vm_run.specs.Run.{CaseOf, Outside, opening_part, wrote_before}
+use Rattle.volume_files.specs.Texts.{Wrote}
+use Rattle.vm_run.specs.AskedTexts.{trace_opening}
+use Rattle.volume_files.specs.Written.{AreOnlyRead, HaveFirstBlocks, disk_sizes}
+use Rattle.volume_files.proofs.FileLineLemmas.{length-made}
+use Rattle.vm_run.proofs.PlayablePlans.{playable-named}
+use Rattle.vm_run.proofs.Cases.{close-case}
+use Rattle.volume_files.proofs.DiskLists.{first-same, low-disks, number, reads-refl}
+use Rattle.vm_run.proofs.LastLines.{end-same}
+use Rattle.vm_run.proofs.Traced.{infos-placed, lacks-behind, opening-read, placed-read, tell-read}
+
+-- placed by the plan, and so by the plan with the numbers of its files
+numbered-placed : (plan : PlanSeen) (holds : Spec → Option (List (List ℕ))) (files : List OpenedFile) (a : AttachedSeen) (made : FilesSeen) → ArePlaced plan holds files a made
+    → ArePlaced (numbered_plan files plan) holds files a made
+numbered-placed plan holds files a made p = record {
+  numbers = p.numbers;
+  handed = record { each = p.handed.each; first = p.handed.first };
+  sizes = p.sizes;
+  fresh = p.fresh;
+  well = p.well;
+  have = p.have;
+  some = p.some;
+  names = p.names;
+  own = p.own;
+  kept = p.kept;
+  given = record { tables = p.given.tables; found = p.given.found; read = p.given.read; mounted = p.given.mounted; lines = p.given.lines };
+  told = p.told;
+  stored = p.stored;
+}
+
+pub placed-as : (plan old : PlanSeen) (holds : Spec → Option (List (List ℕ))) (files : List OpenedFile) (a : AttachedSeen) (made : FilesSeen) → plan ≡ numbered_plan files old
+    → ArePlaced old holds files a made → ArePlaced plan holds files a made
+placed-as plan old holds files a made is p = subst (λ (q : PlanSeen). ArePlaced q holds files a made) (sym is) (numbered-placed old holds files a made p)
+
+-- the plan with the numbers of its files may be played
+pub numbered-playable : (plan new : PlanSeen) (holds : Spec → Option (List (List ℕ))) (files : List OpenedFile) (a : AttachedSeen) (made : FilesSeen) → ArePlaced plan holds files a made
+    → new ≡ numbered_plan files plan → IsPlayable plan → IsPlayable new
+numbered-playable plan new holds files a made p is may =
+    let count : length made.files ≡ length files = length-made made files p.fresh in
+    let few : length (names_of files) < 2 ^ 32 = omega (arith, count, p.well.few_files, length-map files (λ (f : OpenedFile). f.info.name)) in
+    subst IsPlayable (sym is) (playable-named (names_of files) plan few may)
+
+module _ (st : ℕ) (ft : Option RunFault) (g : Given) (o : Outside) (what : Asked) (files : List OpenedFile) (bytes : ℕ → List ℕ) (a : AttachedSeen) (made : FilesSeen) (plan : PlanSeen) (k1 : SinkSeen)
+    (ready : IsReady g o.sink_old k1 what files bytes a made plan) where
+  -- its processes ran
+  pub ready-ends : (options : Options) → what.options ≡ options → (s : KernelState) (l : LeftSeen) → IsStarted plan (opening_flat plan (disk_sizes a.disks) files) a.disks a.swap made s
+      → KernelLeaves (opening_flat plan (disk_sizes a.disks) files) s l → o.sink_old.faults ≤ k1.faults → (whole : Bool) → (IsTrue whole → Told plan l.history.entries)
+      → ToldFront plan l.history.entries → (new : List (ℕ × DiskSeen)) (how : Ending) (k2 : SinkSeen) → o.sink_new ≡ k2
+      → CloseEnds whole l.fault options plan l.history.entries (infos_made l.files) k1 k2 l.disks new how
+      → (H-new : HistorySeen) (d-new : List DiskSeen) (w-new : Option DiskSeen) → H-new ≡ l.history → d-new ≡ bare_disks new → w-new ≡ l.swap
+      → CaseOf g o (wrote_before o) (record { status = st; fault = ft; history = H-new; disks = d-new; swap = w-new }) how
+  ready-ends options opt s l started left later whole told front new how k2 sink c H-new d-new w-new sameH same-d same-w =
+      let low = low-disks what.plan l.disks (left.disks.numbers ∙ ap (map number) started.racked ∙ ready.placed.numbers) in
+      let by-options = subst (λ (op : Options). CloseEnds whole l.fault op plan l.history.entries (infos_made l.files) k1 k2 l.disks new how) (sym opt) c in
+      let by-sink = subst (λ (k : SinkSeen). CloseEnds whole l.fault what.options plan l.history.entries (infos_made l.files) k1 k l.disks new how) (sym sink) by-options in
+      subst (λ (e : End). CaseOf g o (wrote_before o) e how) (end-same st ft l.history H-new (bare_disks new) d-new l.swap w-new sameH same-d same-w)
+      (close-case st ft g o what files bytes a made plan k1 ready s l started left low later whole told front l.fault refl new how by-sink)
+
+  -- memory lacked for its kernel
+  pub start-lacks : o.sink_new ≡ k1 → (H : HistorySeen) (d-new : List DiskSeen) (w-new : Option DiskSeen) (how : Ending) → H.entries ≡ [] → H.faults ≡ [] → how ≡ ending.Memory
+      → d-new ≡ bare_disks a.disks → w-new ≡ a.swap → CaseOf g o (wrote_before o) (record { status = st; fault = ft; history = H; disks = d-new; swap = w-new }) how
+  start-lacks sink H d-new w-new how entries counts is same-d same-w =
+      let low = low-disks what.plan a.disks ready.placed.numbers in
+      let wrote = subst (λ (k : SinkSeen). Wrote o.sink_old k (opening_part what files (bare_disks a.disks) bytes)) (sym sink) ready.wrote in
+      subst (λ (x : Ending). CaseOf g o (wrote_before o) (record { status = st; fault = ft; history = H; disks = d-new; swap = w-new }) x) (sym is)
+      (subst (λ (e : End). CaseOf g o (wrote_before o) e ending.Memory) (end-same st ft H H (bare_disks a.disks) d-new a.swap w-new refl same-d same-w)
+      (lacks-behind st ft g o what files bytes ready.asked a made ready.placed ready.read a.disks (reads-refl a.disks) H entries counts low wrote))
+
+  -- the disks that a kernel left have a first block
+  pub first-left : (s : KernelState) (l : LeftSeen) → IsStarted plan (opening_flat plan (disk_sizes a.disks) files) a.disks a.swap made s
+      → KernelLeaves (opening_flat plan (disk_sizes a.disks) files) s l → HaveFirstBlocks l.disks
+  first-left s l started left = first-same a.disks l.disks (left.disks.numbers ∙ ap (map number) started.racked)
+      (left.disks.sizes ∙ ap (map (λ (d : ℕ × DiskSeen). d.1.size)) started.racked) ready.placed.some
+
+-- ---- the files have the names that they had
+
+same-length : (xs ys : List VnodeSeen) → map mode_of xs ≡ map mode_of ys → length xs ≡ length ys
+same-length xs ys e = sym (length-map xs mode_of) ∙ ap length e ∙ length-map ys mode_of
+
+same-modes : (xs ys : List VnodeSeen) → map mode_of xs ≡ map mode_of ys → (k : ℕ) → k < length (map (λ (v : VnodeSeen). v.info) xs)
+    → ((info_at (map (λ (v : VnodeSeen). v.info) xs) k).name ≡ (info_at (map (λ (v : VnodeSeen). v.info) ys) k).name)
+    × ((info_at (map (λ (v : VnodeSeen). v.info) xs) k).disk ≡ (info_at (map (λ (v : VnodeSeen). v.info) ys) k).disk)
+same-modes [] ys e k lt = absurd (omega (arith, lt))
+same-modes (x ∷ xs) [] e k lt = absurd (let z : ◌≡◌ {A = List FileMode} (mode_of x ∷ map mode_of xs) [] = e in cc)
+same-modes (x ∷ xs) (y ∷ ys) e zero lt =
+    let z : ◌≡◌ {A = List FileMode} (mode_of x ∷ map mode_of xs) (mode_of y ∷ map mode_of ys) = e in
+    let m : mode_of x ≡ mode_of y = cc in
+    (ap (λ (f : FileMode). f.name) m, ap (λ (f : FileMode). f.disk) m)
+same-modes (x ∷ xs) (y ∷ ys) e (suc k) lt =
+    let z : ◌≡◌ {A = List FileMode} (mode_of x ∷ map mode_of xs) (mode_of y ∷ map mode_of ys) = e in
+    let m : map mode_of xs ≡ map mode_of ys = cc in
+    same-modes xs ys m k (omega (arith, lt))
+
+names-same : (xs ys : List VnodeSeen) → map mode_of xs ≡ map mode_of ys → HaveVolumeNames (map (λ (v : VnodeSeen). v.info) ys) → HaveVolumeNames (map (λ (v : VnodeSeen). v.info) xs)
+names-same xs ys e h =
+    let f : VnodeSeen → FileInfo = λ v. v.info in
+    let count : length (map f xs) ≡ length (map f ys) = length-map xs f ∙ same-length xs ys e ∙ sym (length-map ys f) in
+    record {
+      names = λ k lt. subst IsVolumeName (sym (same-modes xs ys e k lt).0) (h.names k (omega (arith, lt, count)));
+      differ = λ i k below lt on same.
+          let low : k < length (map f xs) = omega (arith, below, lt) in
+          let a = same-modes xs ys e i lt in
+          let b = same-modes xs ys e k low in
+          h.differ i k below (omega (arith, lt, count)) (sym b.1 ∙ on ∙ a.1) (sym b.0 ∙ same ∙ a.0);
+    }
+
+-- the names of the files that a kernel left
+pub names-left : (plan old : PlanSeen) (holds : Spec → Option (List (List ℕ))) (files : List OpenedFile) (a : AttachedSeen) (made : FilesSeen) → ArePlaced old holds files a made
+    → (s : KernelState) (l : LeftSeen) → s.memory.world.files ≡ made → map mode_of l.files.files ≡ map mode_of s.memory.world.files.files → HaveVolumeNames (infos_made l.files)
+names-left plan old holds files a made p s l placed modes =
+    names-same l.files.files made.files (modes ∙ ap (λ (f : FilesSeen). map mode_of f.files) placed)
+    (subst HaveVolumeNames (sym (infos-placed old holds files a made p)) p.names)
+
+-- A run is ready once its trace was written.
+pub is-ready : (g : Given) (k0 k1 : SinkSeen) (what : Asked) (files : List OpenedFile) (bytes : ℕ → List ℕ) → WasAsked g (Ok what) → (a b : AttachedSeen) (made made2 : FilesSeen)
+    → ArePlaced what.plan g.holds files a made → AreReadBytes files a.disks bytes → AreOnlyRead a.disks b.disks → b.swap ≡ a.swap → made2 ≡ made → (plan : PlanSeen)
+    → plan ≡ numbered_plan files what.plan → broken_rule plan ≡ None → IsPlayable plan → Wrote k0 k1 (trace_opening what.options plan (disk_sizes a.disks) (infos_of files) bytes)
+    → IsReady g k0 k1 what files bytes b made2 plan
+is-ready g k0 k1 what files bytes asked a b made made2 p read r same kept plan numbered rules playable wrote = record {
+  asked = asked;
+  placed = subst (ArePlaced what.plan g.holds files b) (sym kept) (placed-read what.plan g.holds files a b made p r same);
+  numbered = numbered;
+  rules = rules;
+  playable = playable;
+  read = record { lengths = read.lengths; told = λ t. read.told (tell-read (infos_of files) a.disks b.disks r t) };
+  wrote = subst (Wrote k0 k1) (opening-read what files bytes a b.disks made g.holds p r) (subst (λ (q : PlanSeen). Wrote k0 k1 (trace_opening what.options q (disk_sizes a.disks) (infos_of files) bytes)) numbered wrote);
+}

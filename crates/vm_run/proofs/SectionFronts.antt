@@ -1,0 +1,61 @@
+-- The text up to the place of a page is a front of that of all files.
+use Rattle.std.proofs.Common.{◌≡◌, ℕ, zero, suc, ◌+◌, ◌*◌, ◌<◌, List, [], ◌∷◌, ◌++◌, length, take, refl, sym, ap, ◌∙◌, subst, arith, append_assoc}
+use Rattle.block_device.specs.StreamSeen.{SinkSeen}
+use Rattle.vnode_files.specs.declared.vnode.FileInfo.{FileInfo}
+use Rattle.vm_report.specs.Report.{file_lines}
+use Rattle.volume_files.specs.declared.showing.Heading.{Heading}
+use Rattle.volume_files.specs.Closed.{info_at}
+use Rattle.volume_files.specs.Texts.{Wrote, WroteAndFront, file_section, file_sections, files_from, heading_text, sections_before}
+use Rattle.volume_files.proofs.ShownLines.{lines_from}
+use Rattle.vm_run.proofs.Sinks.{goes_on}
+
+section-front : (heading : Heading) (k : ℕ) (info : FileInfo) (bytes : List ℕ) (page : ℕ)
+    → (rest : List ℕ) × (file_section heading k info bytes ≡ file_section heading k info (take (4096 * page) bytes) ++ rest)
+section-front heading k info bytes page =
+    let l = lines_from bytes page in (
+      l.0,
+      ap (λ (t : List ℕ). heading_text heading k info ++ t) l.1
+          ∙ sym (append_assoc (heading_text heading k info) (file_lines 0 (take (4096 * page) bytes)) l.0),
+    )
+
+files-front : (heading : Heading) (bytes : ℕ → List ℕ) (infos : List FileInfo) (k f page : ℕ) → f < length infos
+    → (rest : List ℕ) × (files_from heading bytes k infos
+    ≡ (files_from heading bytes k (take f infos) ++ file_section heading (k + f) (info_at infos f) (take (4096 * page) (bytes (k + f)))) ++ rest)
+files-front heading bytes [] k f page lt = absurd (omega (arith, lt))
+files-front heading bytes (info ∷ infos) k zero page lt =
+    let s = section-front heading k info (bytes k) page in
+    let rest = s.0 ++ files_from heading bytes (k + 1) infos in
+    let same : k ≡ k + 0 = omega arith in (
+      rest,
+      ap (λ (t : List ℕ). t ++ files_from heading bytes (k + 1) infos) s.1
+          ∙ append_assoc (file_section heading k info (take (4096 * page) (bytes k))) s.0 (files_from heading bytes (k + 1) infos)
+          ∙ ap (λ (n : ℕ). file_section heading n info (take (4096 * page) (bytes n)) ++ rest) same,
+    )
+files-front heading bytes (info ∷ infos) k (suc f) page lt =
+    let r = files-front heading bytes infos (k + 1) f page (omega (arith, lt)) in
+    let first = file_section heading k info (bytes k) in
+    let some = files_from heading bytes (k + 1) (take f infos) in
+    let last = file_section heading (k + 1 + f) (info_at infos f) (take (4096 * page) (bytes (k + 1 + f))) in
+    let same : k + 1 + f ≡ k + suc f = omega arith in (
+      r.0,
+      ap (λ (t : List ℕ). first ++ t) r.1 ∙ sym (append_assoc first (some ++ last) r.0)
+          ∙ ap (λ (t : List ℕ). t ++ r.0) (sym (append_assoc first some last))
+          ∙ ap (λ (n : ℕ). ((first ++ some) ++ file_section heading n (info_at infos f) (take (4096 * page) (bytes n))) ++ r.0) same,
+    )
+
+sections-front : (heading : Heading) (infos : List FileInfo) (bytes : ℕ → List ℕ) (file page : ℕ) → file < length infos
+    → (rest : List ℕ) × (file_sections heading infos bytes ≡ sections_before heading infos bytes file page ++ rest)
+sections-front heading infos bytes file page lt =
+    let r = files-front heading bytes infos 0 file page lt in
+    let same : 0 + file ≡ file = omega arith in (
+      r.0,
+      r.1 ∙ ap (λ (n : ℕ). (file_sections heading (take file infos) bytes ++ file_section heading n (info_at infos file) (take (4096 * page) (bytes n))) ++ r.0) same,
+    )
+
+-- what was written up to the place of a page, behind a text that was written whole
+pub before-front : (k0 k1 : SinkSeen) (first text : List ℕ) (heading : Heading) (infos : List FileInfo) (bytes : ℕ → List ℕ) (file page : ℕ) → file < length infos
+    → Wrote k0 k1 (first ++ (text ++ sections_before heading infos bytes file page)) → WroteAndFront k0 k1 first (text ++ file_sections heading infos bytes)
+before-front k0 k1 first text heading infos bytes file page lt wrote =
+    let r = sections-front heading infos bytes file page lt in
+    let before = sections_before heading infos bytes file page in
+    subst (WroteAndFront k0 k1 first) (append_assoc text before r.0 ∙ ap (λ (t : List ℕ). text ++ t) (sym r.1)) (goes_on k0 k1 first (text ++ before) r.0 wrote)

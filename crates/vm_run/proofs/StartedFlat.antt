@@ -1,0 +1,197 @@
+-- A kernel at the start fits flat memory as the processes find it.
+use Rattle.std.proofs.Common.{◌≡◌, ◌≢◌, ℕ, zero, suc, ◌+◌, ◌<◌, ◌≤◌, Bool, true, false, cond, List, [], ◌∷◌, length, map, Option, Some, None, refl, sym, ap, ◌∙◌, subst, arith}
+use Rattle.std.specs.Prelude.{slice_get, slice_index_or, is_some, unwrap_or, IfSome, IsTrue, All}
+use Rattle.std.specs.FinMap as finite
+use Rattle.std.specs.FinSet as set
+use Rattle.std.proofs.lemmas.List.{length-map, get_or-map}
+use Rattle.std.proofs.lemmas.Option.{slice_get_within}
+use Rattle.addr_space.specs.Space.{Part}
+use Rattle.block_device.specs.DiskSeen.{DiskSeen, HasBlocks, AreBlocks}
+use Rattle.flat_model.specs.Flat.{File, Flat}
+use Rattle.flat_model.specs.Words.{Page, pages_in}
+use Rattle.flat_model.proofs.FileBytes.{Whole}
+use Rattle.page_store.specs.Bays.{BaySeen, missing, home, bay_at}
+use Rattle.page_store.specs.New.{AreHome}
+use Rattle.page_store.specs.Notes.{no_notes}
+use Rattle.page_store.specs.Value.{content_of, content_in_bay, tells}
+use Rattle.page_store.specs.declared.place.Place.{Place}
+use Rattle.vnode_files.specs.declared.vnode.FileInfo.{FileInfo}
+use Rattle.vnode_files.specs.Files.{FilesSeen, vnode_at, block_count}
+use Rattle.vnode_files.specs.Grow.{page_count}
+use Rattle.vnode_files.specs.Layout.{LieOnDisks}
+use Rattle.vnode_files.specs.Vnode.{VnodeSeen, no_vnode, page_blocks, fresh_vnode, IsSoundVnode}
+use Rattle.vnode_files.proofs.BlockLemmas.{length-page_blocks}
+use Rattle.vnode_files.proofs.LayoutLaws.{file_layout_law}
+use Rattle.volume_format.specs.Table.{no_entry}
+use Rattle.vm_world.specs.FlatMemory.{flat_memory, files_with_pages, shape_of}
+use Rattle.vm_world.specs.HistoryFits.{HistoryFits}
+use Rattle.vm_world.specs.Opening.{IsOpening, no_seats}
+use Rattle.vm_world.specs.Pages.{page_value, file_contents, contents_of}
+use Rattle.vm_world.specs.declared.segment.Segment.{Segment}
+use Rattle.vm_world.specs.State.{KernelState, is_top}
+use Rattle.vm_world.specs.StateFits.{StateFits}
+use Rattle.vm_world.specs.World.{World, file_name, world_table, AllTell}
+use Rattle.vm_world.proofs.PageNames.{file-page, file-place, below-kept, index-of, file-there}
+use Rattle.vm_world.proofs.Spaces.{EmptySpaces}
+use Rattle.vm_script.specs.PlanSeen.{PlanSeen}
+use Rattle.vm_script.specs.Rules.{amounts_of}
+use Rattle.volume_files.specs.Closed.{StoreFiles, info_at}
+use Rattle.volume_files.specs.Opened.{OpenedFile, stored_bytes, opened_flat_file, infos_of, opened_bytes_at, opening_flat, top_processes}
+use Rattle.volume_files.specs.Written.{LieWell, HaveDisks}
+use Rattle.vm_run.proofs.OpeningFlat.{IsAsOpened, opened-files, born-is, spaces-are, zeros-none}
+
+-- blocks that are whole
+whole-from : (blocks : List (List ℕ)) (places : List ℕ) → ((j : ℕ) → j < length places → length (slice_index_or blocks (slice_index_or places j 0) []) ≡ 4096) → Whole (map (λ (b : ℕ). slice_index_or blocks b []) places)
+whole-from blocks [] each = tt
+whole-from blocks (b ∷ places) each = (each 0 (omega arith), whole-from blocks places (λ j lt. each (suc j) (omega (arith, lt))))
+
+infos-fresh : (infos : List FileInfo) → map (λ (v : VnodeSeen). v.info) (map fresh_vnode infos) ≡ infos
+infos-fresh [] = refl
+infos-fresh (info ∷ infos) = ap (λ (l : List FileInfo). info ∷ l) (infos-fresh infos)
+
+pub disk-home : (bays : List BaySeen) (disks : List (ℕ × DiskSeen)) (swap : Option DiskSeen) (place number : ℕ) (disk : DiskSeen) → AreHome bays disks swap → slice_get disks place ≡ Some (number, disk) → bay_at bays number ≡ home disk
+disk-home bays disks swap place number disk h at =
+    let same = index-of disks place (number, disk) (number, disk) at in
+    subst (λ (d : ℕ × DiskSeen). bay_at bays d.0 ≡ home d.1) same (h.each place (number, disk) (slice_get_within disks place (number, disk) at))
+
+-- What a kernel was started with.
+pub record IsStartedWith (files : List OpenedFile) (disks : List (ℕ × DiskSeen)) (swap : Option DiskSeen) (s : KernelState) : Type 0 where
+  pub opening : IsOpening s
+  pub fresh : s.memory.world.files.files ≡ map fresh_vnode (infos_of files)
+  pub home : AreHome s.memory.world.store.bays disks swap
+  pub well : LieWell s.memory.world.files
+  pub have : HaveDisks s.memory.world.files disks
+  pub stored : StoreFiles disks (infos_of files) (opened_bytes_at files)
+
+module _ (files : List OpenedFile) (disks : List (ℕ × DiskSeen)) (swap : Option DiskSeen) (s : KernelState) (k : IsStartedWith files disks swap s) where
+  count : length s.memory.world.files.files ≡ length files
+  count = ap length k.fresh ∙ length-map (infos_of files) fresh_vnode ∙ length-map files (λ (f : OpenedFile). f.info)
+
+  -- the record of a file and its bytes
+  info-is : (i : ℕ) (f : OpenedFile) (d : FileInfo) → slice_get files i ≡ Some f → slice_index_or (infos_of files) i d ≡ f.info
+  info-is i f d at = get_or-map (λ (x : OpenedFile). x.info) files i f d (slice_get_within files i f at) ∙ ap (λ (x : OpenedFile). x.info) (index-of files i f f at)
+
+  bytes-is : (i : ℕ) (f : OpenedFile) → slice_get files i ≡ Some f → opened_bytes_at files i ≡ f.bytes
+  bytes-is i f at = get_or-map (λ (x : OpenedFile). x.bytes) files i f [] (slice_get_within files i f at) ∙ ap (λ (x : OpenedFile). x.bytes) (index-of files i f f at)
+
+  fresh-is : (i : ℕ) (f : OpenedFile) → slice_get files i ≡ Some f → vnode_at s.memory.world.files i ≡ fresh_vnode f.info
+  fresh-is i f at =
+      let lt = slice_get_within files i f at in
+      let size = length-map files (λ (x : OpenedFile). x.info) in
+      ap (λ (l : List VnodeSeen). slice_index_or l i no_vnode) k.fresh
+      ∙ get_or-map fresh_vnode (infos_of files) i f.info no_vnode (omega (arith, lt, size))
+      ∙ ap fresh_vnode (info-is i f f.info at)
+
+  module _ (tell : AllTell s.memory.world no_notes) (i : ℕ) (f : OpenedFile) (at : slice_get files i ≡ Some f) where
+    within : i < length s.memory.world.files.files
+    within = let lt = slice_get_within files i f at in omega (arith, lt, count)
+
+    low : i ≢ 64
+    low e = let few = k.well.few_files in let lt = within in omega (arith, few, lt, e)
+
+    sound : IsSoundVnode (vnode_at s.memory.world.files i)
+    sound = k.well.sound i no_vnode within
+
+    -- its disk
+    its-disk : (n : ℕ) × (d : DiskSeen) × (slice_get disks n ≡ Some (f.info.disk, d))
+    its-disk =
+        let there = k.have.there i (vnode_at s.memory.world.files i) (file-there s.memory.world.files i within) in
+        (there.0, there.1, subst (λ (v : VnodeSeen). slice_get disks there.0 ≡ Some (v.info.disk, there.1)) (fresh-is i f at) there.2)
+
+    content-is : (n : ℕ) (d : DiskSeen) → slice_get disks n ≡ Some (f.info.disk, d) → content_of s.memory.world.store no_notes f.info.disk ≡ d.content
+    content-is n d on = ap (λ (b : BaySeen). content_in_bay b no_notes) (disk-home s.memory.world.store.bays disks swap n f.info.disk d k.home on)
+
+    told : (n : ℕ) (d : DiskSeen) → slice_get disks n ≡ Some (f.info.disk, d) → 0 < pages_in f.info.length → is_some d.content ≡ true
+    told n d on some =
+        let w = s.memory.world in
+        let kept = below-kept (vnode_at w.files i) 0 sound (subst (λ (v : VnodeSeen). 0 < pages_in v.info.length) (sym (fresh-is i f at)) some) in
+        let place = ap (λ (p : Place). p.disk) (file-place w.files w.anon i 0 within kept) ∙ ap (λ (v : VnodeSeen). v.info.disk) (fresh-is i f at) in
+        sym (ap (λ (c : Option (List (List ℕ))). is_some c) (content-is n d on)) ∙ sym (ap (λ (x : ℕ). tells w.store no_notes x) place) ∙ tell (file_name i 0) (file-page w.files w.anon i 0 low kept)
+
+    block-whole : (n : ℕ) (d : DiskSeen) (blocks : List (List ℕ)) → slice_get disks n ≡ Some (f.info.disk, d) → d.content ≡ Some blocks → (j : ℕ) → j < length (page_blocks f.info.extents)
+        → length (slice_index_or blocks (slice_index_or (page_blocks f.info.extents) j 0) []) ≡ 4096
+    block-whole n d blocks on is j lt =
+        let F = s.memory.world.files in
+        let has : (length blocks ≡ d.size) × AreBlocks blocks = subst (λ (c : Option (List (List ℕ))). HasBlocks c d.size) is (k.opening.memory.store.sound.whole f.info.disk d (disk-home s.memory.world.store.bays disks swap n f.info.disk d k.home on)) in
+        let long = length-page_blocks f.info.extents in
+        let kept : j < page_count (vnode_at F i).info.extents = subst (λ (v : VnodeSeen). j < page_count v.info.extents) (sym (fresh-is i f at)) (omega (arith, lt, long)) in
+        let below = (file_layout_law.on_disks F k.well.on_disks i j within kept).1 in
+        let here : slice_index_or (page_blocks f.info.extents) j 0 < block_count F.disks f.info.disk =
+        subst (λ (v : VnodeSeen). slice_index_or (page_blocks v.info.extents) j 0 < block_count F.disks v.info.disk) (fresh-is i f at) below in
+        let size : block_count F.disks f.info.disk ≡ d.size = ap (λ (o : Option ℕ). unwrap_or o 0) (k.have.sizes n (f.info.disk, d) on) in
+        let same = has.0 in
+        (has.1 (slice_index_or (page_blocks f.info.extents) j 0) (omega (arith, here, size, same))).0
+
+    as-opened : (blocks : List (List ℕ)) × IsAsOpened s.memory.world i f blocks
+    as-opened = by_content its-disk.0 its-disk.1 its-disk.2 its-disk.1.content refl
+      where
+        stores : (n : ℕ) (d : DiskSeen) (blocks : List (List ℕ)) → slice_get disks n ≡ Some (f.info.disk, d) → d.content ≡ Some blocks → stored_bytes blocks f.info ≡ f.bytes
+        stores n d blocks on is =
+            let lt = slice_get_within files i f at in
+            let size = length-map files (λ (x : OpenedFile). x.info) in
+            let info : info_at (infos_of files) i ≡ f.info = info-is i f no_entry at in
+            let at-all = k.stored n i (f.info.disk, d) on (omega (arith, lt, size)) (ap (λ (x : FileInfo). x.disk) info) in
+            let bytes : stored_bytes blocks (info_at (infos_of files) i) ≡ opened_bytes_at files i = subst (λ (c : Option (List (List ℕ))). IfSome c (λ bs. stored_bytes bs (info_at (infos_of files) i) ≡ opened_bytes_at files i)) is at-all in
+            ap (stored_bytes blocks) (sym info) ∙ bytes ∙ bytes-is i f at
+
+        by_content : (n : ℕ) (d : DiskSeen) → slice_get disks n ≡ Some (f.info.disk, d) → (c : Option (List (List ℕ))) → d.content ≡ c → (blocks : List (List ℕ)) × IsAsOpened s.memory.world i f blocks
+        by_content n d on None is = (
+          [],
+          record {
+            unnamed = k.opening.memory.store.unnamed;
+            within = within;
+            low = low;
+            fresh = fresh-is i f at;
+            sound = sound;
+            told = λ some. absurd (let z : false ≡ true = sym (ap is_some is) ∙ told n d on some in cc);
+            stores = λ some. absurd (let z : false ≡ true = sym (ap is_some is) ∙ told n d on some in cc);
+            whole = λ some. absurd (let z : false ≡ true = sym (ap is_some is) ∙ told n d on some in cc);
+          },
+        )
+        by_content n d on (Some blocks) is = (
+          blocks,
+          record {
+            unnamed = k.opening.memory.store.unnamed;
+            within = within;
+            low = low;
+            fresh = fresh-is i f at;
+            sound = sound;
+            told = λ some. content-is n d on ∙ is;
+            stores = λ some. stores n d blocks on is;
+            whole = λ some. whole-from blocks (page_blocks f.info.extents) (block-whole n d blocks on is);
+          },
+        )
+
+  empty-spaces : EmptySpaces s.memory.spaces
+  empty-spaces p parts is = by_top (is_top s.parents p) (sym (k.opening.memory.spaces p) ∙ is)
+    where
+      by_top : (b : Bool) → cond b (Some []) None ≡ Some parts → parts ≡ []
+      by_top true e = let z : ◌≡◌ {A = Option (List (Part Segment))} (Some []) (Some parts) = e in cc
+      by_top false e = absurd (let z : ◌≡◌ {A = Option (List (Part Segment))} None (Some parts) = e in cc)
+
+  -- FLAT MEMORY AT THE START, where the disks tell.
+  pub opening-is : (plan : PlanSeen) (sizes : List (ℕ × ℕ)) → s.parents ≡ plan.parents → length s.memory.world.anon.counts ≡ (amounts_of plan.setup).slots → s.memory.world.files.disks ≡ finite.from_entries sizes
+      → AllTell s.memory.world no_notes → flat_memory s.memory s.born no_notes ≡ opening_flat plan sizes files
+  opening-is plan sizes parents slots sized tell =
+      let w = s.memory.world in
+      let place = (contents_of w no_notes).place in
+      let all : files_with_pages (file_contents (page_value w no_notes)) 0 (map (λ (v : VnodeSeen). v.info) w.files.files) ≡ map opened_flat_file files =
+      ap (files_with_pages (file_contents (page_value w no_notes)) 0) (ap (λ (l : List VnodeSeen). map (λ (v : VnodeSeen). v.info) l) k.fresh ∙ infos-fresh (infos_of files))
+      ∙ opened-files w 0 files (λ i f at. let e : i ≡ 0 + i = omega arith in let o = as-opened tell i f at in (o.0, subst (λ (n : ℕ). IsAsOpened w n f o.0) e o.1)) in
+      let none = zeros-none s.memory.spaces place (shape_of s.memory).lengths empty-spaces in
+      let spaces = spaces-are s.memory.spaces s.parents place k.opening.memory.spaces ∙ ap (λ (l : List ℕ). finite.from_entries (map (λ (p : ℕ). (p, finite.empty)) (top_processes 1 l))) parents in
+      let born = born-is s.born s.parents k.opening.born ∙ ap (λ (l : List ℕ). set.from_list (top_processes 1 l)) parents in
+      λ i. record { slots = slots i; disks = sized i; files = all i; zeros = none i; spaces = spaces i; born = born i }
+
+  pub started-fits : (plan : PlanSeen) (sizes : List (ℕ × ℕ)) → s.parents ≡ plan.parents → length s.memory.world.anon.counts ≡ (amounts_of plan.setup).slots → s.memory.world.files.disks ≡ finite.from_entries sizes
+      → StateFits (flat_memory s.memory s.born no_notes) s no_seats → StateFits (opening_flat plan sizes files) s no_seats
+  started-fits plan sizes parents slots sized fits = record {
+    memory = fits.memory;
+    notes = fits.notes;
+    replays = λ tell. subst (λ (F : Flat). HistoryFits F s.history s.pending (flat_memory s.memory s.born no_notes)) (opening-is plan sizes parents slots sized tell) (fits.replays tell);
+    faults = fits.faults;
+    calls = fits.calls;
+    rooms = fits.rooms;
+    births = fits.births;
+    plans = fits.plans;
+  }

@@ -1,0 +1,15 @@
+use Rattle.std.proofs.Common.{rules, ◌≡◌, ℕ, refl}
+use Rattle.page_store.specs.Bays.{pairs_seen}
+use Rattle.volume_files.proofs.DiskLists.{writes-refl}
+use Rattle.vm_run.proofs.Endings.{lacks-closed}
+use Rattle.vm_run.proofs.Sinks.{wrote_nothing}
+use Rattle.vm_run.proofs.ending_files.close.Goals as goal
+
+pub returns-then-is_some-clause-ends : goal.returns-then-is_some-clause-ends
+returns-then-is_some-clause-ends g c =
+    lacks-closed c.args.is_whole _ _ _ _ _ _ _ _ _ _ (search rules) (λ some. refl)
+    (record {
+      memory = refl;
+      writes = writes-refl (pairs_seen g.D.Disk.seen c.args.finished.now.disks.items);
+      wrote = wrote_nothing (g.K.Sink.seen c.args.out.now);
+    })

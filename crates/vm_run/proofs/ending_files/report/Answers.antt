@@ -1,0 +1,16 @@
+use Rattle.std.proofs.Common.{◌≡◌, ℕ, refl, inl, inr}
+use Rattle.page_store.specs.Bays.{pairs_seen}
+use Rattle.volume_files.proofs.DiskLists.{have-written}
+use Rattle.vm_run.proofs.ending_files.report.Goals as goal
+
+pub show_report-requires-clause-disks : goal.show_report-requires-clause-disks
+show_report-requires-clause-disks g c =
+    have-written c.args.files.now (pairs_seen g.D.Disk.seen c.args.disks.now) (pairs_seen g.D.Disk.seen c.write_tables.new.disks) c.write_tables.ensures.keeps c.requires.disks
+
+pub returns-in-Err-Fault-clause-ends : goal.returns-in-Err-Fault-clause-ends
+returns-in-Err-Fault-clause-ends g c = inr (inl (record {
+  fault = c.in-Err-Fault.fault;
+  counted = rw c.in-Err-Fault.field-0-is at c.in-Err-Fault.ensures.stop;
+  writes = c.write_tables.ensures.keeps;
+  ends = c.tell_fault.ensures.ends;
+}))

@@ -1,0 +1,9 @@
+use Rattle.std.proofs.Common.{◌≡◌, length, take}
+use Rattle.vm_run.proofs.EntryRooms.{HaveRooms}
+use Rattle.vm_run.proofs.entry_rooms.entry_rooms.Given as goal
+
+abbrev pub invariant-loop-line : goal.invariant-loop-line
+invariant-loop-line l = record {
+  count : length l.rooms.items ≡ length l.fn.plan.parents;
+  rooms : HaveRooms (take l.line-index l.lines) l.rooms.items;
+}

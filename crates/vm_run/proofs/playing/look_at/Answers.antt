@@ -1,0 +1,11 @@
+use Rattle.std.proofs.Common.{ℕ, below_more, subst, arith}
+use Rattle.std.proofs.lemmas.List.{get_or_default}
+use Rattle.vnode_files.specs.Files.{vnode_at}
+use Rattle.vnode_files.specs.Vnode.{IsSoundVnode, no_vnode}
+use Rattle.vm_run.proofs.playing.look_at.Goals as goal
+
+pub loop-file-preserved : goal.loop-file-preserved
+loop-file-preserved c = below_more (λ (k : ℕ). IsSoundVnode (vnode_at c.args.files.now k)) c.loop-file.file c.loop-file.invariant c.info.ensures.sound
+
+pub returns-clause-sound : goal.returns-clause-sound
+returns-clause-sound c = λ k d lt. subst IsSoundVnode (get_or_default c.args.files.now.files k no_vnode d lt) (c.loop-file.invariant k (omega (arith, lt)))

@@ -1,0 +1,99 @@
+-- What a run is asked to do, by its words and by the script or the number of a generated one. Public clauses cite this.
+use Rattle.std.specs.Prelude.{ℕ, not, nat_lt, ◌||◌, Bool, true, false, List, length, ◌≡◌, Option, Some, None, IfSome, option_map, Result, Ok, Err, if◌then◌else◌}
+use Rattle.std.specs.List.{list_all}
+use Rattle.vm_types.specs.declared.call.Call.{Call}
+use Rattle.vm_types.specs.declared.call.Call.TheVariants as call
+use Rattle.vm_types.specs.declared.call.Place.TheVariants.{At}
+use Rattle.block_device.specs.Counts.{HasRisen}
+use Rattle.block_device.specs.RackSeen.{RackSeen}
+use Rattle.block_device.specs.StreamSeen.{SourceSeen}
+use Rattle.block_device.specs.declared.rack.Spec.{Spec}
+use Rattle.vm_script.specs.declared.fault.ScriptFault.{ScriptFault}
+use Rattle.vm_script.specs.declared.plan.PlanAct.{PlanAct}
+use Rattle.vm_script.specs.declared.plan.PlanAct.TheVariants as act
+use Rattle.vm_script.specs.Generated.{generated_text}
+use Rattle.vm_script.specs.PlanSeen.{PlanSeen}
+use Rattle.vm_script.specs.Plans.{plan_of}
+use Rattle.vm_script.specs.Rules.{broken_rule}
+use Rattle.volume_files.specs.declared.stops.Refusal.TheVariants as refusal
+use Rattle.vm_run.specs.declared.ending.Ending.{Ending}
+use Rattle.vm_run.specs.declared.ending.Ending.TheVariants as ending
+use Rattle.command_line.specs.declared.options.Options.{Options}
+use Rattle.command_line.specs.Options.{options_of}
+
+-- What a run is given: its words, the bytes that are still to come where the source tells them, and what the rack holds for each disk, where it
+-- tells that.
+pub record Given : Type 0 where
+  pub words : List (List ℕ)
+  pub rest : Option (List ℕ)
+  pub holds : Spec → Option (List (List ℕ))
+
+abbrev pub given_of : List (List ℕ) → SourceSeen → RackSeen → Given
+given_of words source rack = record { words = words; rest = source.rest; holds = rack.holds }
+
+-- What is to be run: what the words say, and the plan.
+pub record Asked : Type 0 where
+  pub options : Options
+  pub plan : PlanSeen
+
+-- The calls that are served so far: loads, stores, the mapping at an address, and the exit.
+abbrev pub is_served_call : Call → Bool
+is_served_call (call.Load a n) = true
+is_served_call (call.Store a n v) = true
+is_served_call (call.Map (At a) len prot kind o offset) = true
+is_served_call call.Exit = true
+is_served_call c = false
+
+-- Those of a line that names a file: the mapping alone.
+abbrev pub is_served_named : Call → Bool
+is_served_named (call.Map (At a) len prot kind o offset) = true
+is_served_named c = false
+
+abbrev pub is_served_act : PlanAct → Bool
+is_served_act (act.Call c) = is_served_call c
+is_served_act (act.Named name c) = is_served_named c
+is_served_act a = false
+
+-- The script has more than one block, or a line whose call isn't served yet.
+abbrev pub is_later : PlanSeen → Bool
+is_later plan = nat_lt 1 (length plan.parents) || not (list_all (λ l. is_served_act l.act) plan.lines)
+
+-- The plan may be run, as far as it alone tells; or the rule that it breaks.
+abbrev pub by_rules : Options → PlanSeen → Option ℕ → Result Asked Ending
+by_rules o plan None = Ok (record { options = o; plan = plan })
+by_rules o plan (Some rule) = Err (ending.Refused (refusal.Rule rule))
+
+abbrev pub by_plan : Options → PlanSeen → Result Asked Ending
+by_plan o plan = if is_later plan then Err ending.Later else by_rules o plan (broken_rule plan)
+
+abbrev pub by_script : Options → Result PlanSeen ScriptFault → Result Asked Ending
+by_script o (Ok plan) = by_plan o plan
+by_script o (Err f) = Err (ending.NoScript f)
+
+-- The script's text, where it is told: that of the generated script, where its number is given; else that of the source.
+abbrev pub script_told : Option ℕ → Option (List ℕ) → Option (List ℕ)
+script_told (Some number) rest = Some (generated_text number)
+script_told None rest = rest
+
+-- WHAT WAS ASKED, or why nothing can be run: words that aren't taken; else what some text says, which is the script's where that is told.
+abbrev pub Asks : Option Options → Option (List ℕ) → Result Asked Ending → Type 0
+Asks None rest r = r ≡ Err ending.Usage
+Asks (Some o) rest r = (text : List ℕ) × IfSome (script_told o.make rest) (λ told. told ≡ text) × (by_script o (plan_of text) ≡ r)
+
+abbrev pub WasAsked : Given → Result Asked Ending → Type 0
+WasAsked g r = Asks (options_of g.words) g.rest r
+
+-- The same as a function, where the text is told.
+abbrev pub request_of_options : Option Options → Option (List ℕ) → Option (Result Asked Ending)
+request_of_options None rest = Some (Err ending.Usage)
+request_of_options (Some o) rest = option_map (λ text. by_script o (plan_of text)) (script_told o.make rest)
+
+abbrev pub run_request : Given → Option (Result Asked Ending)
+run_request g = request_of_options (options_of g.words) g.rest
+
+-- The source failed, from which the script was to be read: its count of faults rose, and the words name no generated script.
+pub record FailsToRead (g : Given) (old new : ℕ) : Type 0 where
+  pub risen : HasRisen old new
+  pub options : Options
+  pub words : options_of g.words ≡ Some options
+  pub source : options.make ≡ None

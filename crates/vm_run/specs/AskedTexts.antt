@@ -1,0 +1,32 @@
+-- The text that a run prints, by what it was asked. Public clauses cite this.
+use Rattle.std.specs.Prelude.{ℕ, List, [], ◌++◌, Option, Some, None, if◌then◌else◌}
+use Rattle.vm_types.specs.declared.call.Entry.{Entry}
+use Rattle.vnode_files.specs.declared.vnode.FileInfo.{FileInfo}
+use Rattle.vm_report.specs.Report.{process_sections}
+use Rattle.vm_report.specs.Summary.{summary}
+use Rattle.vm_report.specs.Trace.{entries_text}
+use Rattle.vm_script.specs.PlanSeen.{PlanSeen}
+use Rattle.volume_files.specs.declared.showing.Heading.TheVariants.{Report, Trace}
+use Rattle.volume_files.specs.Texts.{file_sections, trace_front}
+use Rattle.command_line.specs.declared.options.Options.{Options}
+
+-- The opening part of a trace, where one is asked for.
+abbrev pub trace_opening : Options → PlanSeen → List (ℕ × ℕ) → List FileInfo → (ℕ → List ℕ) → List ℕ
+trace_opening o plan sizes infos bytes = if o.trace then trace_front plan sizes ++ file_sections Trace infos bytes else []
+
+-- What stands between a trace's opening part and the files: the entries where a trace is asked for; then the process sections, or the summary of a
+-- generated script.
+abbrev pub trace_entries : Options → List Entry → List ℕ
+trace_entries o H = if o.trace then entries_text H else []
+
+abbrev pub sections_or_summary : Option ℕ → PlanSeen → List Entry → List ℕ
+sections_or_summary None plan H = process_sections plan H
+sections_or_summary (Some number) plan H = summary number H
+
+abbrev pub middle_text : Options → PlanSeen → List Entry → List ℕ
+middle_text o plan H = trace_entries o H ++ sections_or_summary o.make plan H
+
+-- The files at the end; none for a generated script.
+abbrev pub files_or_none : Option ℕ → List FileInfo → (ℕ → List ℕ) → List ℕ
+files_or_none None infos bytes = file_sections Report infos bytes
+files_or_none (Some number) infos bytes = []

@@ -1,0 +1,9 @@
+pub mod Ending
+pub mod Asked
+pub mod Run
+pub mod Played
+pub mod Course
+pub mod Reading
+pub mod Lines
+pub mod Ended
+pub mod AskedTexts

@@ -1,0 +1,109 @@
+-- A kernel that is started, and what it leaves once its processes ran. Inside: no clause of `run` cites this.
+use Rattle.std.specs.Prelude.{ℕ, ◌≡◌, ◌<◌, ◌≤◌, ◌^◌, ◌⊎◌, List, false, length, map, All, Some, None, IfNone, IfSome, Option, option_map, slice_get, slice_index_or}
+use Rattle.vm_types.specs.declared.call.Entry.{Entry}
+use Rattle.vm_types.specs.declared.call.Reply.TheVariants.{Io}
+use Rattle.vm_types.specs.WellFormed.{IsWellFormed}
+use Rattle.block_device.specs.DiskSeen.{DiskSeen}
+use Rattle.block_device.specs.declared.disk_fault.DiskFault.{DiskFault}
+use Rattle.flat_model.specs.Counted.{Counted}
+use Rattle.flat_model.specs.Flat.{Flat}
+use Rattle.flat_model.specs.History.{Legal, replay}
+use Rattle.page_store.specs.Bays.{BaySeen, bay_at, bay_of, pairs_seen}
+use Rattle.vnode_files.specs.Files.{FilesSeen}
+use Rattle.vnode_files.specs.Vnode.{VnodeSeen}
+use Rattle.vnode_files.specs.declared.vnode.FileInfo.{FileInfo}
+use Rattle.vm_core.specs.declared.finish.Finished.{Finished}
+use Rattle.vm_core.specs.Finish.{HistorySeen, disks_of}
+use Rattle.vm_script.specs.Counts.{entry_count}
+use Rattle.vm_script.specs.PlanSeen.{PlanSeen}
+use Rattle.vm_script.specs.Told.{own_lines}
+use Rattle.vm_world.specs.DiskPlaces.{seen_in}
+use Rattle.vm_world.specs.Opening.{IsOpening, no_seats}
+use Rattle.vm_world.specs.State.{KernelState, room_of, mode_of}
+use Rattle.vm_world.specs.StateFits.{StateFits}
+use Rattle.vm_script.specs.Sound.{IsSoundPlan}
+use Rattle.vm_run.specs.Asked.{is_later}
+use Rattle.volume_files.specs.Attached.{bare_disks}
+use Rattle.volume_files.specs.Closed.{StoreFiles, infos_in_flat, flat_bytes}
+use Rattle.volume_files.specs.Handed.{HaveTold}
+use Rattle.volume_files.specs.Written.{infos_made, LieWell, HaveDisks, HaveExtents, HasLastFault, disk_fault_counts}
+use Rattle.page_store.specs.Notes.{no_notes}
+use Rattle.vm_world.specs.World.{AllTell}
+use Rattle.vm_script.specs.Rules.{amounts_of}
+
+-- Each process may make as many entries as its lines need.
+abbrev pub HasRoomForPlan : PlanSeen → List ℕ → Type 0
+HasRoomForPlan plan entries = (p : ℕ) → entry_count (own_lines plan p) ≤ room_of entries p
+
+-- A KERNEL AT THE START: nothing happened yet; it fits this flat memory; it has the plan's processes, these disks, the swap disk and the files.
+pub record IsStarted (plan : PlanSeen) (F : Flat) (disks : List (ℕ × DiskSeen)) (swap : Option DiskSeen) (files : FilesSeen) (s : KernelState) : Type 0 where
+  pub opening : IsOpening s
+  pub fits : StateFits F s no_seats
+  pub parents : s.parents ≡ plan.parents
+  pub rooms : HasRoomForPlan plan s.entries
+  pub seats : (1 ≤ length s.syncs) × (length s.entries ≤ length s.syncs)
+  pub racked : disks_of s.memory.world ≡ disks
+  pub swapped : bay_at s.memory.world.store.bays 8 ≡ bay_of swap
+  pub placed : s.memory.world.files ≡ files
+  pub slots : length s.memory.world.anon.counts ≡ (amounts_of plan.setup).slots
+  pub well : LieWell files
+  pub have : HaveDisks files disks
+
+-- What a kernel left.
+pub record LeftSeen : Type 0 where
+  pub history : HistorySeen
+  pub files : FilesSeen
+  pub disks : List (ℕ × DiskSeen)
+  pub swap : Option DiskSeen
+  pub fault : Option DiskFault
+
+abbrev pub left_seen : {D : Type 0} → (D → DiskSeen) → Finished D → LeftSeen
+left_seen seen f = record { history = f.history; files = f.files; disks = pairs_seen seen f.disks.items; swap = option_map seen f.swap; fault = f.fault }
+
+-- The disk of a number, among those of files and that of the swap slots, which has number 8.
+abbrev pub IsDiskOf : List (ℕ × DiskSeen) → Option DiskSeen → ℕ → DiskSeen → Type 0
+IsDiskOf disks swap number d = ((i : ℕ) × (slice_get disks i ≡ Some (number, d))) ⊎ ((number ≡ 8) × (swap ≡ Some d))
+
+-- Disks came back that went: with their numbers, in their order, and their sizes.
+pub record DisksCameBack (old new : List (ℕ × DiskSeen)) : Type 0 where
+  pub count : length new ≡ length old
+  pub numbers : map (λ (d : ℕ × DiskSeen). d.0) new ≡ map (λ (d : ℕ × DiskSeen). d.0) old
+  pub sizes : map (λ (d : ℕ × DiskSeen). d.1.size) new ≡ map (λ (d : ℕ × DiskSeen). d.1.size) old
+
+-- The swap disk came back with its size, where there was one.
+abbrev pub SwapCameBack : BaySeen → Option DiskSeen → Type 0
+SwapCameBack old new = option_map (λ (d : DiskSeen). d.size) new ≡ seen_in (λ (d : DiskSeen). d.size) old no_notes
+
+-- A fault that ended the closing: that of the last transfer of a disk, which had counted no fewer faults than the history tells.
+pub record IsClosingFault (l : LeftSeen) (f : DiskFault) : Type 0 where
+  pub disk : ℕ × DiskSeen
+  pub there : (i : ℕ) × (slice_get l.disks i ≡ Some disk)
+  pub count : ℕ
+  pub told : slice_index_or l.history.faults f.disk None ≡ Some count
+  pub fault : HasLastFault count disk (disk_fault_counts f)
+
+-- WHAT A KERNEL LEAVES that was started with flat memory F: a history that is legal, the files as the history leaves them, and the disks.
+pub record KernelLeaves (F : Flat) (s : KernelState) (l : LeftSeen) : Type 0 where
+  pub legal : HaveTold (bare_disks l.disks) l.swap → Legal F l.history.entries
+  pub formed : All (λ (e : Entry). IsWellFormed e.call) l.history.entries
+  pub few : length l.history.entries < 2 ^ 32
+  pub counted : Counted l.history.entries
+  pub reached : (k : ℕ) (e : Entry) (number before after : ℕ) → slice_get l.history.entries k ≡ Some e → e.reply ≡ Io number before after
+      → (d : DiskSeen) × IsDiskOf l.disks l.swap number d × (after ≤ d.faults)
+  pub modes : map mode_of l.files.files ≡ map mode_of s.memory.world.files.files
+  pub lie : LieWell l.files
+  pub have : HaveDisks l.files l.disks
+  pub extents : HaveExtents (infos_made l.files)
+  pub infos : HaveTold (bare_disks l.disks) l.swap
+      → infos_made l.files ≡ infos_in_flat (map (λ (v : VnodeSeen). v.info.name) l.files.files) (replay F l.history.entries).files
+  pub stored : IfNone l.fault (HaveTold (bare_disks l.disks) l.swap → StoreFiles l.disks (infos_made l.files) (flat_bytes (replay F l.history.entries).files))
+  pub fault : IfSome l.fault (IsClosingFault l)
+  pub counts : (i : ℕ) (d : ℕ × DiskSeen) → slice_get l.disks i ≡ Some d → (count : ℕ) × (slice_index_or l.history.faults d.0 None ≡ Some count) × (count ≤ d.1.faults)
+  pub disks : DisksCameBack (disks_of s.memory.world) l.disks
+  pub swap : SwapCameBack (bay_at s.memory.world.store.bays 8) l.swap
+  pub tells : HaveTold (bare_disks l.disks) l.swap → AllTell s.memory.world no_notes
+
+-- A plan whose lines the kernel can make one after another: one block at most, each line a call that is served and well formed.
+pub record IsPlayable (plan : PlanSeen) : Type 0 where
+  pub now : is_later plan ≡ false
+  pub sound : IsSoundPlan plan

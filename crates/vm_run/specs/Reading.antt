@@ -1,0 +1,53 @@
+-- How the script of a run is read, and how its last line is printed. Inside: no clause of `run` cites this.
+use Rattle.std.specs.Prelude.{ℕ, ◌≡◌, ◌≢◌, ◌⊎◌, List, [], Option, None, IfSome, Result, Ok, Err}
+use Rattle.block_device.specs.Counts.{HasRisen}
+use Rattle.block_device.specs.StreamSeen.{SinkSeen}
+use Rattle.vm_script.specs.declared.fault.ScriptFault.{ScriptFault}
+use Rattle.vm_script.specs.PlanSeen.{PlanSeen}
+use Rattle.vm_script.specs.Plans.{plan_of}
+use Rattle.vm_run.specs.declared.ending.Ending.{Ending}
+use Rattle.vm_run.specs.declared.ending.Ending.TheVariants as ending
+use Rattle.command_line.specs.declared.options.Options.{Options}
+use Rattle.vm_run.specs.Asked.{by_plan, script_told}
+use Rattle.vm_run.specs.Course.{IsReadPlan}
+use Rattle.vm_run.specs.Ending.{last_line_of}
+use Rattle.volume_files.specs.Texts.{Wrote, WroteOn}
+
+-- The script says this, whose text is told or not.
+abbrev pub SaysScript : Option ℕ → Option (List ℕ) → Result PlanSeen ScriptFault → Type 0
+SaysScript make rest r = (text : List ℕ) × IfSome (script_told make rest) (λ told. told ≡ text) × (plan_of text ≡ r)
+
+-- Some script spells this plan.
+abbrev pub IsSpelled : PlanSeen → Type 0
+IsSpelled plan = (text : List ℕ) × (plan_of text ≡ Ok plan)
+
+-- Why a text gave no plan: it has a fault, or memory lacked.
+abbrev pub TextStops : List ℕ → Ending → Type 0
+TextStops text (ending.NoScript f) = plan_of text ≡ Err f
+TextStops text ending.Memory = Unit {0}
+TextStops text how = ⊥
+
+-- Why the source gave no text: it failed, or memory lacked.
+abbrev pub SourceStops : ℕ → ℕ → Ending → Type 0
+SourceStops old new ending.NotRead = HasRisen old new
+SourceStops old new ending.Memory = Unit {0}
+SourceStops old new how = ⊥
+
+-- Why no plan was read.
+abbrev pub ScriptStops : Option ℕ → Option (List ℕ) → ℕ → ℕ → Ending → Type 0
+ScriptStops make rest old new (ending.NoScript f) = SaysScript make rest (Err f)
+ScriptStops make rest old new ending.NotRead = HasRisen old new × (make ≡ None)
+ScriptStops make rest old new ending.Memory = Unit {0}
+ScriptStops make rest old new how = ⊥
+
+-- A plan that was read is taken, or not: it waits for later, or breaks a rule.
+abbrev pub TakesPlan : Options → PlanSeen → Result (Options × PlanSeen) Ending → Type 0
+TakesPlan o plan (Ok read) = (by_plan o plan ≡ Ok (record { options = read.0; plan = read.1 })) × IsReadPlan read.1
+TakesPlan o plan (Err ending.Later) = by_plan o plan ≡ Err ending.Later
+TakesPlan o plan (Err (ending.Refused r)) = by_plan o plan ≡ Err (ending.Refused r)
+TakesPlan o plan (Err how) = ⊥
+
+-- The last line of a run was printed, as far as the sink took it, and the run ends so; or memory lacked for the line, and nothing was printed.
+abbrev pub IsConcluded : Ending → SinkSeen → SinkSeen → Ending → Type 0
+IsConcluded was old new how =
+    ((how ≡ was) × WroteOn old new [] (last_line_of was)) ⊎ ((how ≡ ending.Memory) × Wrote old new [] × (last_line_of was ≢ []))

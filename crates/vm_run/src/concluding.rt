@@ -1,0 +1,92 @@
+//! A run's last line is printed.
+ghost use Rattle.std.specs.Prelude.{◌≡◌, ◌≤◌, ◌++◌, [], IsOk, OnOk};
+ghost use Rattle.vm_run.specs.declared.ending.Ending.{Ending};
+ghost use Rattle.vm_run.specs.Ending.{fault_of, last_line_of, opening_fault_line, refusal_line, status_of};
+ghost use Rattle.vm_run.specs.Reading.{IsConcluded};
+
+use crate::ending::{Ending, Stop};
+use crate::outcome::Outcome;
+use block_device::{Disk, DiskFault, OpenFault, Sink, write_all};
+use std::alloc::{AllocError, Global};
+use vm_report::{
+    disk_fault, rack_fault, read_fault, script_fault, setup_fault, usage, volume_fault,
+};
+use volume_files::Refusal;
+
+fn push_refusal(refusal: Refusal, text: &mut Vec<u8>) -> Result<(), AllocError>
+    ensures { OnOk result (text.new.items ≡ text.old.items ++ refusal_line refusal) }
+{
+    match refusal {
+        Refusal::Rule(rule) => setup_fault(rule, text),
+        Refusal::Volume { disk, rule } => volume_fault(disk, rule, text),
+    }
+}
+
+fn push_opening_fault(fault: &OpenFault, text: &mut Vec<u8>) -> Result<(), AllocError>
+    ensures { OnOk result (text.new.items ≡ text.old.items ++ opening_fault_line fault.now) }
+{
+    match fault.counts() {
+        Some((before, after)) => disk_fault(fault.disk(), before, after, text),
+        None => rack_fault(fault.disk(), text),
+    }
+}
+
+// Adds the line of an ending. It takes no memory for an ending that has none.
+fn push_line(ending: &Ending, text: &mut Vec<u8>) -> Result<(), AllocError>
+    ensures line { OnOk result (text.new.items ≡ text.old.items ++ last_line_of ending.now) }
+    ensures none { last_line_of ending.now ≡ [] → IsOk result }
+{
+    match ending {
+        Ending::Usage => text.extend_from_slice(usage()),
+        Ending::NoScript(fault) => script_fault(fault, text),
+        Ending::Later => text.extend_from_slice(b"script: later\n"),
+        Ending::Refused(refusal) => push_refusal(*refusal, text),
+        Ending::NotRead => text.extend_from_slice(read_fault()),
+        Ending::Opening(fault) => push_opening_fault(fault, text),
+        Ending::Showing(fault) => disk_fault(fault.disk, fault.before, fault.after, text),
+        _ => Ok(()),
+    }
+}
+
+// Prints the line of an ending, as far as the sink takes it; without memory for the line the ending is want of memory.
+fn tell_ending<K: Sink>(alloc: Global, ending: Ending, out: &mut K) -> Ending
+    ensures told { IsConcluded ending (K.seen out.old) (K.seen out.new) result }
+    ensures later { (K.seen out.old).faults ≤ (K.seen out.new).faults }
+{
+    let mut text = Vec::new(alloc);
+    match push_line(&ending, &mut text) {
+        Ok(()) => {
+            let _ = write_all(out, text.as_slice());
+            ending
+        }
+        Err(_) => Ending::Memory,
+    }
+}
+
+/// Prints the last line of a run that stopped, as far as the sink takes it, and hands back its disks.
+///
+/// Takes memory for the line, and none where there is no line. Time: that of the line.
+pub fn conclude<D: Disk, K: Sink>(alloc: Global, stop: Stop<D>, out: &mut K) -> Outcome<D>
+    ensures ends { (how : Ending) × IsConcluded stop.ending (K.seen out.old) (K.seen out.new) how
+        × (result.status ≡ status_of how) × (result.fault ≡ fault_of how) }
+    // What is handed back.
+    ensures history { result.history ≡ stop.history }
+    ensures disks { result.disks ≡ stop.disks }
+    ensures swap { result.swap ≡ stop.swap }
+    ensures later { (K.seen out.old).faults ≤ (K.seen out.new).faults }
+{
+    let Stop {
+        ending,
+        history,
+        disks,
+        swap,
+    } = stop;
+    let ending = tell_ending(alloc, ending, out);
+    Outcome {
+        status: ending.status(),
+        fault: ending.into_fault(),
+        history,
+        disks,
+        swap,
+    }
+}

@@ -1,0 +1,105 @@
+//! The ways in which a run ends.
+ghost use Rattle.std.specs.Prelude.{◌≡◌, []};
+ghost use Rattle.vm_run.specs.Ending.{ending_of, status_of, fault_of};
+
+use crate::outcome::RunFault;
+use block_device::{Disk, DiskFault, OpenFault};
+use vm_core::KernelHistory;
+use vm_script::ScriptFault;
+use volume_files::{HandedBack, OpenStop, Refusal};
+
+/// How a run ended, with all that its text needs.
+#[derive(Debug, Drop)]
+pub enum Ending {
+    /// The report was written.
+    Whole,
+    /// The words aren't accepted.
+    Usage,
+    /// The script isn't in the grammar.
+    NoScript(ScriptFault),
+    /// The script has more than one block, or a line whose call isn't served yet.
+    Later,
+    /// A set-up rule is broken.
+    Refused(Refusal),
+    /// The source failed.
+    NotRead,
+    /// The sink failed in the opening part of the trace.
+    OpeningSink,
+    /// The sink failed in the report.
+    Sink,
+    /// A disk or the rack failed before the processes ran.
+    Opening(OpenFault),
+    /// A transfer failed as the files were closed.
+    Closing(DiskFault),
+    /// A transfer failed as a file was read back.
+    Showing(DiskFault),
+    /// There is no memory left.
+    Memory,
+}
+
+/// A run that stopped: how, with what history, and with its disks.
+#[derive(Drop)]
+pub struct Stop<D: Disk> {
+    pub ending: Ending,
+    pub history: KernelHistory,
+    /// The disks that were attached, in rising number.
+    pub disks: Vec<D>,
+    pub swap: Option<D>,
+}
+
+impl Ending {
+    /// The status.
+    pub fn status(&self) -> u8
+        ensures { result ≡ status_of self.now }
+    {
+        match self {
+            Ending::Whole => 0,
+            Ending::Usage => 2,
+            Ending::NoScript(_) | Ending::Later => 3,
+            Ending::Refused(_) => 4,
+            Ending::NotRead => 5,
+            Ending::OpeningSink | Ending::Sink => 6,
+            Ending::Opening(_) | Ending::Closing(_) | Ending::Showing(_) => 7,
+            Ending::Memory => 8,
+        }
+    }
+
+    /// The fault that the status 7 names.
+    pub fn into_fault(self) -> Option<RunFault>
+        ensures { result ≡ fault_of self }
+    {
+        match self {
+            Ending::Opening(fault) => Some(RunFault::Opening(fault)),
+            Ending::Closing(fault) => Some(RunFault::Closing(fault)),
+            Ending::Showing(fault) => Some(RunFault::Showing(fault)),
+            _ => None,
+        }
+    }
+}
+
+// How a run ends whose files weren't opened.
+fn ending_of(stop: OpenStop) -> Ending
+    ensures { result ≡ ending_of stop }
+{
+    match stop {
+        OpenStop::Memory => Ending::Memory,
+        OpenStop::Refused(refusal) => Ending::Refused(refusal),
+        OpenStop::Failed(fault) => Ending::Opening(fault),
+    }
+}
+
+/// A run whose files weren't opened: nothing ran.
+pub fn stop_unopened<D: Disk>(back: HandedBack<D>) -> Stop<D>
+    ensures ending { result.ending ≡ ending_of back.why }
+    ensures entries { result.history.entries ≡ [] }
+    ensures counts { result.history.faults ≡ [] }
+    ensures disks { result.disks ≡ back.disks }
+    ensures swap { result.swap ≡ back.swap }
+{
+    Stop {
+        ending: ending_of(back.why),
+        history: KernelHistory::none(),
+        disks: back.disks,
+        swap: back.swap,
+    }
+}

@@ -1,0 +1,20 @@
+//! The call `run`: a script's disks are attached, its files opened, its processes run on the kernel, its files closed, and its report
+//! written.
+#![tactic(auto)]
+
+mod concluding;
+mod ending;
+mod ending_files;
+mod entry_rooms;
+mod lines;
+mod making;
+mod outcome;
+mod playing;
+mod reading;
+mod ready;
+mod reporting;
+mod run;
+mod starting;
+
+pub use outcome::{Outcome, RunFault};
+pub use run::run;

@@ -1,0 +1,76 @@
+//! One call of the one process, made on the kernel with the transfers that it needs.
+ghost use Rattle.std.specs.Prelude.{◌≡◌, ◌<◌, ℕ, length, Some, None, option_map, OnOk, OnErr};
+ghost use Rattle.vm_types.specs.WellFormed.{IsWellFormed};
+ghost use Rattle.vm_core.specs.Calls.{IsServed};
+ghost use Rattle.vm_core.specs.Finish.{FitsStill};
+ghost use Rattle.vm_world.specs.Events.{IsEvent};
+ghost use Rattle.vm_run.specs.Lines.{MayGoOn, HasOneMore, GrowsWith};
+
+use block_device::Disk;
+use page_store::Plan;
+use std::alloc::AllocError;
+use std::sync::Wait;
+use vm_core::{Attempt, VmState};
+use vm_types::{Call, Reply};
+
+/// Makes the transfer of the plan that was answered last. Some, with the device error, where it was for a call and failed.
+pub fn transfer<D: Disk>(
+    state: &mut VmState<D>,
+    plan: Plan,
+    of: Option<(u32, &Call)>,
+) -> Option<Reply>
+    requires still { FitsStill state.old }
+    requires kept { state.old.plan ≡ Some (record {
+      seat = 0;
+      plan = plan;
+      of = option_map (λ (c : ℕ × _). (c.0, c.1.now)) of;
+    }) }
+    ensures event { IsEvent 0 state.old None state.new None }
+    ensures grows { GrowsWith (option_map (λ (c : ℕ × _). (c.0, c.1.now)) of.entry) result
+        state.old state.new }
+{
+    let mut flight = state.begin(0, plan);
+    let _ = flight.perform();
+    state.end(0, flight, of)
+}
+
+/// Makes a call of process 1 to its end. The error is want of memory; no entry is made then.
+pub fn make_call<D: Disk>(
+    rt: &impl Wait,
+    state: &mut VmState<D>,
+    call: &Call,
+) -> Result<(), AllocError>
+    requires still { FitsStill state.old }
+    requires may { MayGoOn state.old }
+    requires served { IsServed call.now }
+    requires formed { IsWellFormed call.now }
+    // The call's entry is the one that came.
+    ensures event { IsEvent 0 state.old None state.new None }
+    ensures made { OnOk result (HasOneMore state.old state.new 1 call.now) }
+    ensures err { OnErr result (state.new.history ≡ state.old.history) }
+{
+    for _ in rt.forever() {
+        match state.try_call(0, 1, call)? {
+            Attempt::Done(_) => return Ok(()),
+            Attempt::Need(plan) => {
+                if transfer(state, plan, Some((1, call))).is_some() {
+                    return Ok(());
+                }
+            }
+            Attempt::Busy(_) => unreachable!(),
+        }
+    }
+    unreachable!()
+}
+
+/// One move of the clock, with its transfer.
+pub fn move_clock<D: Disk>(state: &mut VmState<D>)
+    requires still { FitsStill state.old }
+    requires seated { 0 < length state.old.syncs }
+    ensures event { IsEvent 0 state.old None state.new None }
+    ensures same { state.new.history ≡ state.old.history }
+{
+    if let Some(plan) = state.clock(0) {
+        let _ = transfer(state, plan, None);
+    }
+}

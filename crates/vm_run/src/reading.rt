@@ -1,0 +1,168 @@
+//! What is asked is read.
+ghost use Rattle.std.specs.Prelude.{List, Option, ℕ, None, ◌≡◌, ◌≤◌, IfErr, IfOk, IfSome, Ok, map, string_bytes};
+ghost use Rattle.std.specs.List.{list_all};
+ghost use Rattle.block_device.specs.declared.rack.Spec.{Spec};
+ghost use Rattle.vm_script.specs.Plans.{plan_of};
+ghost use Rattle.vm_run.specs.Asked as asked;
+ghost use Rattle.vm_run.specs.Course.{AskEnds};
+ghost use Rattle.vm_run.specs.Reading.{IsSpelled, SaysScript, ScriptStops, SourceStops, TakesPlan, TextStops};
+
+use crate::ending::Ending;
+use block_device::{ReadFault, Source, read_to_limit};
+use command_line::{Options, read_options};
+use std::alloc::Global;
+use vm_script::{MOST_BYTES, Plan, PlanAct, PlanLine, broken_rule, generate, parse, sound_law};
+use vm_types::{Call, Place};
+use volume_files::Refusal;
+
+// A mapping at an address.
+fn is_served_named(call: &Call) -> bool
+    ensures { result ≡ asked.is_served_named call.now }
+{
+    match call {
+        Call::Map {
+            place: Place::At(_),
+            ..
+        } => true,
+        _ => false,
+    }
+}
+
+fn is_served_call(call: &Call) -> bool
+    ensures { result ≡ asked.is_served_call call.now }
+{
+    match call {
+        Call::Load { .. } => true,
+        Call::Store { .. } => true,
+        Call::Map {
+            place: Place::At(_),
+            ..
+        } => true,
+        Call::Exit => true,
+        _ => false,
+    }
+}
+
+fn is_served_act(act: &PlanAct) -> bool
+    ensures { result ≡ asked.is_served_act act.now }
+{
+    match act {
+        PlanAct::Call(call) => is_served_call(call),
+        PlanAct::Named { call, .. } => is_served_named(call),
+        _ => false,
+    }
+}
+
+fn are_served(lines: &[PlanLine]) -> bool
+    ensures { result ≡ list_all (λ l. asked.is_served_act l.act) lines.now }
+{
+    lines.iter().all(|l| is_served_act(&l.act))
+}
+
+// The script has more than one block, or a line whose call isn't served yet.
+fn is_later(plan: &Plan) -> bool
+    ensures { result ≡ asked.is_later plan.now }
+{
+    plan.parents().len() > 1 || !are_served(plan.lines())
+}
+
+// The bytes of the source, or a front of them that is too long for a script.
+fn read_source<S: Source>(alloc: Global, script: &mut S) -> Result<Vec<u8>, Ending>
+    ensures text { IfOk result (λ text. IfSome (S.seen script.old).rest
+        (λ bytes. plan_of bytes ≡ plan_of text.items)) }
+    ensures stops { IfErr result
+        (SourceStops (S.seen script.old).faults (S.seen script.new).faults) }
+    ensures later { (S.seen script.old).faults ≤ (S.seen script.new).faults }
+{
+    match read_to_limit(alloc, script, MOST_BYTES + 1) {
+        Ok(text) => Ok(text),
+        Err(ReadFault::Failed) => Err(Ending::NotRead),
+        Err(ReadFault::Memory) => Err(Ending::Memory),
+    }
+}
+
+// The plan that a text spells.
+fn spelled_plan(alloc: Global, text: &[u8]) -> Result<Plan, Ending>
+    ensures plan { IfOk result (λ plan. plan_of text.now ≡ Ok plan) }
+    ensures stops { IfErr result (TextStops text.now) }
+{
+    match parse(alloc, text) {
+        Ok(Ok(plan)) => Ok(plan),
+        Ok(Err(fault)) => Err(Ending::NoScript(fault)),
+        Err(_) => Err(Ending::Memory),
+    }
+}
+
+// The plan of the source.
+fn source_plan<S: Source>(alloc: Global, script: &mut S) -> Result<Plan, Ending>
+    ensures plan { IfOk result (λ plan. SaysScript None (S.seen script.old).rest (Ok plan)) }
+    ensures spelled { IfOk result IsSpelled }
+    ensures stops { IfErr result (ScriptStops None (S.seen script.old).rest
+        (S.seen script.old).faults (S.seen script.new).faults) }
+    ensures later { (S.seen script.old).faults ≤ (S.seen script.new).faults }
+{
+    match read_source(alloc, script) {
+        Ok(text) => spelled_plan(alloc, text.as_slice()),
+        Err(how) => Err(how),
+    }
+}
+
+// The plan of the generated script of a number, or of the source.
+fn read_plan<S: Source>(alloc: Global, make: Option<u32>, script: &mut S) -> Result<Plan, Ending>
+    ensures plan { IfOk result (λ plan. SaysScript make (S.seen script.old).rest (Ok plan)) }
+    ensures spelled { IfOk result IsSpelled }
+    ensures stops { IfErr result (ScriptStops make (S.seen script.old).rest
+        (S.seen script.old).faults (S.seen script.new).faults) }
+    ensures later { (S.seen script.old).faults ≤ (S.seen script.new).faults }
+{
+    match make {
+        Some(number) => match generate(alloc, number) {
+            Ok(plan) => Ok(plan),
+            Err(_) => Err(Ending::Memory),
+        },
+        None => source_plan(alloc, script),
+    }
+}
+
+// A plan that can be run, as far as it alone tells.
+fn take_plan(options: Options, plan: Plan) -> Result<(Options, Plan), Ending>
+    requires { IsSpelled plan }
+    ensures { TakesPlan options plan result }
+{
+    if is_later(&plan) {
+        return Err(Ending::Later);
+    }
+    match broken_rule(&plan) {
+        Some(rule) => Err(Ending::Refused(Refusal::Rule(rule))),
+        None => {
+            sound_law();
+            Ok((options, plan))
+        }
+    }
+}
+
+/// Reads the words, and the script where they name no generated one; a plan that is read keeps the set-up rules that look at it
+/// alone.
+///
+/// Takes memory for the parse of the words, for the script's bytes, at most 1,048,577 of them, and for the plan. Time: that of
+/// the words and of the script's bytes.
+pub fn ask<S: Source>(
+    alloc: Global,
+    words: &[String],
+    script: &mut S,
+) -> Result<(Options, Plan), Ending>
+    ensures asks { (holds : Spec → Option (List (List ℕ))) → AskEnds
+        (record { words = map string_bytes words.now; rest = (S.seen script.old).rest; holds = holds })
+        (S.seen script.old).faults (S.seen script.new).faults result }
+    ensures later { (S.seen script.old).faults ≤ (S.seen script.new).faults }
+{
+    let options = match read_options(alloc, words) {
+        Ok(Some(options)) => options,
+        Ok(None) => return Err(Ending::Usage),
+        Err(_) => return Err(Ending::Memory),
+    };
+    match read_plan(alloc, options.make, script) {
+        Ok(plan) => take_plan(options, plan),
+        Err(how) => Err(how),
+    }
+}

@@ -1,0 +1,206 @@
+//! A run up to the point where its processes can run.
+ghost use Rattle.std.specs.Prelude.{ℕ, ◌≡◌, ◌≤◌, ◌<◌, ◌+◌, ◌^◌, List, Option, map, string_bytes, IfOk, IfErr};
+ghost use Rattle.block_device.specs.declared.rack.Spec.{Spec};
+ghost use Rattle.vm_run.specs.Asked.{Given, Asked, WasAsked, given_of};
+ghost use Rattle.volume_files.specs.Attached.{AreAttached, ArePlaced, HasRooms, attached_seen, bare_disks, numbered_seen};
+ghost use Rattle.vm_run.specs.Course.{HasCase, IsReady, IsReadPlan, AreReadBytes, Traces, opening_stop};
+ghost use Rattle.volume_files.specs.Handed.{handed_count};
+ghost use Rattle.volume_files.specs.Opened.{OpenedFile, numbered_plan};
+ghost use Rattle.vm_run.specs.Played.{IsPlayable};
+ghost use Rattle.vm_run.specs.Run.{Outside, outside_of};
+ghost use Rattle.std.specs.Prelude.{Ok, None, [], length, option_map, vec_capacity};
+ghost use Rattle.vm_script.specs.Rules.{broken_rule};
+ghost use Rattle.volume_files.specs.Written.{AreOnlyRead};
+
+use crate::ending::{Ending, Stop, stop_unopened};
+use crate::reading::ask;
+use block_device::{Disk, OpenFault, Rack, Sink, Source, Unopened};
+use command_line::Options;
+use std::alloc::Global;
+use vm_core::KernelHistory;
+use vm_script::{Plan, setup_law};
+use volume_files::{
+    Attached, Placed, ShowStop, attach, into_disks, into_swap, place, trace_opening,
+};
+
+/// A run whose processes can run.
+#[derive(Drop)]
+pub struct Ready<D: Disk> {
+    pub options: Options,
+    /// With the numbers of the files.
+    pub plan: Plan,
+    pub placed: Placed<D>,
+}
+
+// A run that stopped before a disk was attached.
+fn bare_stop<D: Disk>(alloc: Global, ending: Ending) -> Stop<D>
+    ensures ending { result.ending ≡ ending }
+    ensures entries { result.history.entries ≡ [] }
+    ensures counts { result.history.faults ≡ [] }
+    ensures disks { result.disks.items ≡ [] }
+    ensures swap { result.swap ≡ None }
+{
+    Stop {
+        ending,
+        history: KernelHistory::none(),
+        disks: Vec::new(alloc),
+        swap: None,
+    }
+}
+
+fn opening_stop(stop: ShowStop<OpenFault>) -> Ending
+    ensures { result ≡ opening_stop stop }
+{
+    match stop {
+        ShowStop::Memory => Ending::Memory,
+        ShowStop::Sink => Ending::OpeningSink,
+        ShowStop::Fault(fault) => Ending::Opening(fault),
+    }
+}
+
+// A run that stopped before its processes ran, with the disks that were attached. It takes no memory.
+fn stop_untraced<D: Disk>(how: Ending, attached: Attached<D>) -> Stop<D>
+    requires none { attached.back.items ≡ [] }
+    requires room { length attached.disks.items ≤ vec_capacity attached.back }
+    // The disks come back, and there is no history.
+    ensures ending { result.ending ≡ how }
+    ensures entries { result.history.entries ≡ [] }
+    ensures counts { result.history.faults ≡ [] }
+    ensures disks { result.disks.items ≡ map (λ d. d.disk) attached.disks.items }
+    ensures swap { result.swap ≡ option_map (λ d. d.disk) attached.swap }
+    ensures count { handed_count result.disks.items result.swap
+        ≡ handed_count attached.disks.items attached.swap }
+{
+    Stop {
+        ending: how,
+        history: KernelHistory::none(),
+        disks: into_disks(attached.disks, attached.back),
+        swap: into_swap(attached.swap),
+    }
+}
+
+// Writes the opening part of the trace, where one is asked for.
+fn traced<D: Disk, K: Sink>(
+    alloc: Global,
+    options: &Options,
+    plan: &Plan,
+    placed: &mut Placed<D>,
+    out: &mut K,
+) -> Result<(), Ending>
+    requires placed { (holds : Spec → Option (List (List ℕ))) × (files : List OpenedFile)
+        × ArePlaced plan.now holds files (attached_seen D.seen placed.old.attached) placed.old.files }
+    requires few_blocks { length plan.now.parents < 2 ^ 31 }
+
+    // The bytes that were read, and the text of them as far as it was written.
+    ensures shows { (holds : Spec → Option (List (List ℕ))) (files : List OpenedFile)
+        → ArePlaced plan.now holds files (attached_seen D.seen placed.old.attached) placed.old.files
+        → (bytes : ℕ → List ℕ)
+        × AreReadBytes files (attached_seen D.seen placed.old.attached).disks bytes
+        × Traces options.now plan.now files bytes (K.seen out.old) (K.seen out.new)
+        (attached_seen D.seen placed.old.attached).disks
+        (attached_seen D.seen placed.new.attached).disks result }
+
+    // What stays.
+    ensures disks { AreOnlyRead (attached_seen D.seen placed.old.attached).disks
+        (attached_seen D.seen placed.new.attached).disks }
+    ensures files { placed.new.files ≡ placed.old.files }
+    ensures swap { placed.new.attached.swap ≡ placed.old.attached.swap }
+    ensures rooms { HasRooms placed.old.attached → HasRooms placed.new.attached }
+    ensures later { (K.seen out.old).faults ≤ (K.seen out.new).faults }
+{
+    if !options.trace {
+        return Ok(());
+    }
+    let disks = placed.attached.disks.as_mut_slice();
+    match trace_opening(alloc, plan, &placed.files, disks, out) {
+        Ok(()) => Ok(()),
+        Err(stop) => Err(opening_stop(stop)),
+    }
+}
+
+/// Reads what is asked, attaches the disks, places the files, and writes the opening part of the trace.
+pub fn make_ready<S: Source, K: Sink, R: Rack>(
+    alloc: Global,
+    words: &[String],
+    script: &mut S,
+    out: &mut K,
+    rack: &mut R,
+) -> Result<Ready<R::D>, Stop<R::D>>
+    ensures ok { IfOk result (λ r. (what : Asked) × (files : List OpenedFile) × (bytes : ℕ → List ℕ)
+        × (what.options ≡ r.options) × IsReady
+        (given_of (map string_bytes words.now) (S.seen script.old) (R.seen rack.old))
+        (K.seen out.old) (K.seen out.new) what files bytes (attached_seen R.D.seen r.placed.attached)
+        r.placed.files r.plan) }
+    ensures rooms { IfOk result (λ r. HasRooms r.placed.attached) }
+    ensures err { IfErr result (HasCase
+        (given_of (map string_bytes words.now) (S.seen script.old) (R.seen rack.old))
+        (outside_of (S.seen script.old) (S.seen script.new)
+        (R.seen rack.old) (R.seen rack.new) (K.seen out.old) (K.seen out.new))
+        R.D.seen) }
+    // Each disk that the rack attached is there, or is handed back.
+    ensures kept { IfOk result (λ r. (R.seen rack.new).attached ≡ (R.seen rack.old).attached
+        + handed_count r.placed.attached.disks.items r.placed.attached.swap) }
+    ensures back { IfErr result (λ s. (R.seen rack.new).attached
+        ≡ (R.seen rack.old).attached + handed_count s.disks.items s.swap) }
+    // No count falls.
+    ensures source { (S.seen script.old).faults ≤ (S.seen script.new).faults }
+    ensures rack { (R.seen rack.old).faults ≤ (R.seen rack.new).faults }
+    ensures sink { (K.seen out.old).faults ≤ (K.seen out.new).faults }
+{
+    match ask(alloc, words, script) {
+        Ok((options, plan)) => ready_plan(alloc, options, plan, out, rack),
+        Err(ending) => Err(bare_stop(alloc, ending)),
+    }
+}
+
+// Attaches the disks of a plan, places its files, and writes the opening part of the trace.
+fn ready_plan<K: Sink, R: Rack>(
+    alloc: Global,
+    options: Options,
+    mut plan: Plan,
+    out: &mut K,
+    rack: &mut R,
+) -> Result<Ready<R::D>, Stop<R::D>>
+    requires read { IsReadPlan plan }
+    // Whatever words it came of, and whatever was read.
+    ensures ready { IfOk result (λ r. (options ≡ r.options)
+        × (files : List OpenedFile) × (bytes : ℕ → List ℕ)
+        × ((g : Given) → g.holds ≡ (R.seen rack.old).holds
+        → WasAsked g (Ok (record { options = options; plan = plan }))
+        → IsReady g (K.seen out.old) (K.seen out.new)
+        (record { options = options; plan = plan }) files bytes
+        (attached_seen R.D.seen r.placed.attached) r.placed.files r.plan)) }
+    ensures rooms { IfOk result (λ r. HasRooms r.placed.attached) }
+    ensures err { IfErr result (λ s. (g : Given) (o : Outside)
+        → g.holds ≡ (R.seen rack.old).holds
+        → WasAsked g (Ok (record { options = options; plan = plan }))
+        → o.rack_old ≡ (R.seen rack.old).faults → o.rack_new ≡ (R.seen rack.new).faults
+        → o.sink_old ≡ K.seen out.old → o.sink_new ≡ K.seen out.new
+        → HasCase g o R.D.seen s) }
+    // Each disk that the rack attached is there, or is handed back.
+    ensures kept { IfOk result (λ r. (R.seen rack.new).attached ≡ (R.seen rack.old).attached
+        + handed_count r.placed.attached.disks.items r.placed.attached.swap) }
+    ensures back { IfErr result (λ s. (R.seen rack.new).attached
+        ≡ (R.seen rack.old).attached + handed_count s.disks.items s.swap) }
+    // No count falls.
+    ensures rack { (R.seen rack.old).faults ≤ (R.seen rack.new).faults }
+    ensures sink { (K.seen out.old).faults ≤ (K.seen out.new).faults }
+{
+    setup_law();
+    let attached = match attach(alloc, &plan, rack) {
+        Ok(attached) => attached,
+        Err(back) => return Err(stop_unopened(back)),
+    };
+    let mut placed = match place(alloc, &mut plan, attached) {
+        Ok(placed) => placed,
+        Err(back) => return Err(stop_unopened(back)),
+    };
+    match traced(alloc, &options, &plan, &mut placed, out) {
+        Ok(()) => Ok(Ready {
+            options,
+            plan,
+            placed,
+        }),
+        Err(ending) => Err(stop_untraced(ending, placed.attached)),
+    }
+}

@@ -1,0 +1,106 @@
+//! The top call.
+ghost use Rattle.std.specs.Prelude.{ℕ, ◌≡◌, ◌≤◌, ◌+◌, List, map, string_bytes};
+ghost use Rattle.block_device.specs.StreamSeen.{SinkSeen};
+ghost use Rattle.vm_run.specs.Asked.{Given, Asked, given_of};
+ghost use Rattle.volume_files.specs.Attached.{HasRooms, attached_seen};
+ghost use Rattle.vm_run.specs.Course.{HasCase, IsReady};
+ghost use Rattle.volume_files.specs.Opened.{OpenedFile};
+ghost use Rattle.volume_files.specs.Handed.{handed_count};
+ghost use Rattle.vm_run.specs.Ended.{end_of};
+ghost use Rattle.vm_run.specs.Run.{IsComplete, Outside, RunEnds, outside_of};
+
+use crate::concluding::conclude;
+use crate::ending::Stop;
+use crate::ending_files::end_run;
+use crate::outcome::Outcome;
+use crate::playing::play;
+use crate::ready::{Ready, make_ready};
+use crate::starting::{Started, start};
+use block_device::{Disk, Rack, Sink, Source};
+use std::alloc::Global;
+use std::sync::Wait;
+
+/// Runs a script: its disks are attached, its files placed, its processes run, its files closed, and its report written.
+pub fn run<S: Source, K: Sink, R: Rack>(
+    rt: &impl Wait,
+    alloc: Global,
+    words: &[String],
+    script: &mut S,
+    out: &mut K,
+    rack: &mut R,
+) -> Outcome<R::D>
+    // THE HEADLINE.
+    ensures ends { RunEnds
+        (given_of (map string_bytes words.now) (S.seen script.old) (R.seen rack.old))
+        (outside_of (S.seen script.old) (S.seen script.new)
+        (R.seen rack.old) (R.seen rack.new) (K.seen out.old) (K.seen out.new))
+        (end_of R.D.seen result) }
+    // Nothing failed: the whole report, or want of memory.
+    ensures complete { IsComplete
+        (given_of (map string_bytes words.now) (S.seen script.old) (R.seen rack.old))
+        (outside_of (S.seen script.old) (S.seen script.new)
+        (R.seen rack.old) (R.seen rack.new) (K.seen out.old) (K.seen out.new))
+        (end_of R.D.seen result) }
+{
+    let stop = course(rt, alloc, words, script, out, rack);
+    conclude(alloc, stop, out)
+}
+
+// Runs a script up to its last line.
+fn course<S: Source, K: Sink, R: Rack>(
+    rt: &impl Wait,
+    alloc: Global,
+    words: &[String],
+    script: &mut S,
+    out: &mut K,
+    rack: &mut R,
+) -> Stop<R::D>
+    ensures ends { HasCase
+        (given_of (map string_bytes words.now) (S.seen script.old) (R.seen rack.old))
+        (outside_of (S.seen script.old) (S.seen script.new)
+        (R.seen rack.old) (R.seen rack.new) (K.seen out.old) (K.seen out.new))
+        R.D.seen result }
+    ensures back { (R.seen rack.new).attached
+        ≡ (R.seen rack.old).attached + handed_count result.disks.items result.swap }
+    ensures sink { (K.seen out.old).faults ≤ (K.seen out.new).faults }
+{
+    match make_ready(alloc, words, script, out, rack) {
+        Ok(ready) => run_ready(rt, alloc, ready, out),
+        Err(stop) => stop,
+    }
+}
+
+// Runs the processes of a run that is ready, and ends it.
+fn run_ready<D: Disk, K: Sink>(
+    rt: &impl Wait,
+    alloc: Global,
+    ready: Ready<D>,
+    out: &mut K,
+) -> Stop<D>
+    requires ready { (g : Given) × (k0 : SinkSeen) × (what : Asked) × (files : List OpenedFile)
+        × (bytes : ℕ → List ℕ) × IsReady g k0 (K.seen out.old) what files bytes
+        (attached_seen D.seen ready.placed.attached) ready.placed.files ready.plan }
+    requires rooms { HasRooms ready.placed.attached }
+    ensures ends { (g : Given) (o : Outside) (what : Asked) (files : List OpenedFile)
+        (bytes : ℕ → List ℕ) → what.options ≡ ready.options
+        → IsReady g o.sink_old (K.seen out.old) what files bytes
+        (attached_seen D.seen ready.placed.attached) ready.placed.files ready.plan
+        → o.sink_old.faults ≤ (K.seen out.old).faults → o.sink_new ≡ K.seen out.new
+        → HasCase g o D.seen result }
+    ensures count { handed_count result.disks.items result.swap
+        ≡ handed_count ready.placed.attached.disks.items ready.placed.attached.swap }
+    ensures sink { (K.seen out.old).faults ≤ (K.seen out.new).faults }
+{
+    let Ready {
+        options,
+        plan,
+        placed,
+    } = ready;
+    match start(alloc, &plan, placed) {
+        Ok(Started { state, back }) => {
+            let played = play(rt, state, &plan);
+            end_run(alloc, &options, &plan, played, back, out)
+        }
+        Err(stop) => stop,
+    }
+}

@@ -1,0 +1,62 @@
+-- A run that stops as its disks are attached.
+use Rattle.std.proofs.Common.{◌≡◌, ℕ, ◌≤◌, List, [], ◌∷◌, map, Option, Some, None, refl, sym, ap, ◌∙◌, subst, inl, inr}
+use Rattle.std.specs.Prelude.{IfErr, option_map, Result, Ok, Err}
+use Rattle.block_device.specs.DiskSeen.{DiskSeen}
+use Rattle.block_device.specs.RackSeen.{spec_number}
+use Rattle.block_device.specs.declared.numbered.NumberedDisk.{NumberedDisk}
+use Rattle.vm_script.specs.declared.plan.SetupLine.{SetupLine}
+use Rattle.vm_script.specs.PlanSeen.{PlanSeen}
+use Rattle.vm_script.specs.Rules.{amounts_of}
+use Rattle.volume_files.specs.declared.stops.OpenStop.{OpenStop}
+use Rattle.volume_files.specs.declared.stops.HandedBack.{HandedBack}
+use Rattle.volume_files.specs.Attached.{StopsEarly, bare_disks, numbered_seen}
+use Rattle.volume_files.specs.Handed.{IsSwapAsGiven, IsSwapFor}
+use Rattle.volume_files.specs.Mounting.{Holds, HaltsNumber, Halts}
+use Rattle.volume_files.proofs.MountStops.{ungiven_later, Stopped, stopped}
+
+halts_later : (setup : List SetupLine) (holds : Holds) (old mid new : ℕ) (disks : List (ℕ × DiskSeen)) (how : OpenStop) → old ≤ mid → Halts setup holds mid new disks how → Halts setup holds old new disks how
+halts_later setup holds old mid new disks how le h =
+    record { number = h.number; below = h.below; front = h.front; tables = h.tables; mounted = h.mounted; cause = at h.cause }
+  where
+    at : HaltsNumber setup h.number holds mid new h.front disks how → HaltsNumber setup h.number holds old new h.front disks how
+    at (inl m) = inl m
+    at (inr x) = inr (
+      x.0,
+      x.1,
+      elim x.2 [
+        | inl b ↦ inl (record { same = b.same; cause = ungiven_later (spec_number x.0) old mid new how le b.cause })
+        | inr u ↦ inr u
+      ],
+    )
+
+pub stopped_later : (plan : PlanSeen) (holds : Holds) (old mid new : ℕ) (swap : Option DiskSeen) (disks : List (ℕ × DiskSeen)) (how : OpenStop) → old ≤ mid → IsSwapFor (amounts_of plan.setup).slots swap → IsSwapAsGiven (amounts_of plan.setup).slots swap
+    → Halts plan.setup holds mid new disks how → Stopped plan holds old new (bare_disks disks) swap how
+stopped_later plan holds old mid new swap disks how le swaps blank h = stopped plan holds old new swap disks how swaps blank (halts_later plan.setup holds old mid new disks how le h)
+
+pub err_then : {T E : Type 0} (r : Result T E) (P Q : E → Type 0) → ((e : E) → P e → Q e) → IfErr r P → IfErr r Q
+err_then (Ok x) P Q f h = tt
+err_then (Err e) P Q f h = f e h
+
+module _ {D : Type 0} (seen : D → DiskSeen) where
+  same_disks : (disks : List (NumberedDisk D)) → bare_disks (map (numbered_seen seen) disks) ≡ map seen (map (λ (d : NumberedDisk D). d.disk) disks)
+  same_disks [] = refl
+  same_disks (d ∷ disks) = ap (λ ds. seen d.disk ∷ ds) (same_disks disks)
+
+  same_swap : (swap : Option (NumberedDisk D)) → option_map (λ (d : NumberedDisk D). seen d.disk) swap ≡ option_map seen (option_map (λ (d : NumberedDisk D). d.disk) swap)
+  same_swap None = refl
+  same_swap (Some d) = refl
+
+  pub early : (plan : PlanSeen) (holds : Holds) (old new : ℕ) (s : HandedBack D) (disks : List (NumberedDisk D)) (swap : Option (NumberedDisk D)) (how : OpenStop)
+      → s.why ≡ how → s.disks.items ≡ map (λ (d : NumberedDisk D). d.disk) disks
+      → s.swap ≡ option_map (λ (d : NumberedDisk D). d.disk) swap
+      → Stopped plan holds old new (bare_disks (map (numbered_seen seen) disks)) (option_map (λ (d : NumberedDisk D). seen d.disk) swap) how → StopsEarly plan holds old new seen s
+  early plan holds old new s disks swap how ends back last h =
+      let items : bare_disks (map (numbered_seen seen) disks) ≡ map seen s.disks.items = same_disks disks ∙ ap (map seen) (sym back) in
+      let other : option_map (λ (d : NumberedDisk D). seen d.disk) swap ≡ option_map seen s.swap = same_swap swap ∙ ap (option_map seen) (sym last) in
+      let a : Stopped plan holds old new (map seen s.disks.items) (option_map (λ (d : NumberedDisk D). seen d.disk) swap) how =
+      subst (λ (ds : List DiskSeen). Stopped plan holds old new ds (option_map (λ (d : NumberedDisk D). seen d.disk) swap) how) items h in
+      let b : Stopped plan holds old new (map seen s.disks.items) (option_map seen s.swap) how =
+      subst (λ (o : Option DiskSeen). Stopped plan holds old new (map seen s.disks.items) o how) other a in
+      let e : Stopped plan holds old new (map seen s.disks.items) (option_map seen s.swap) s.why =
+      subst (λ (x : OpenStop). Stopped plan holds old new (map seen s.disks.items) (option_map seen s.swap) x) (sym ends) b in
+      record { handed = e.handed; cause = e.cause }

@@ -1,0 +1,41 @@
+use Rattle.std.proofs.Common.{rules, ◌<◌, map, ◌∙◌, arith}
+use Rattle.std.specs.Prelude.{IfErr}
+use Rattle.volume_files.specs.Mounting.{HaltsNumber, Halts}
+use Rattle.volume_files.proofs.MountEnds.{err_then}
+use Rattle.volume_files.specs.Attached.{numbered_seen}
+use Rattle.volume_files.proofs.MountStops.{mount_step, halted}
+use Rattle.volume_files.proofs.mounting.mount_all.Goals as goal
+
+pub returns-in_err-mount_numbered-clause-err : goal.returns-in_err-mount_numbered-clause-err
+returns-in_err-mount_numbered-clause-err g c = λ holds same.
+    let inv = c.loop-number.invariant in
+    let n = c.loop-number.number in
+    let lt : n < 8 = c.loop-number-test.true in
+    let old = (g.R.Rack.seen c.args.rack.now).faults in
+    let new = (g.R.Rack.seen c.mount_numbered.new.rack).faults in
+    let front = map (numbered_seen g.R.D.Disk.seen) c.loop-number.disks.items in
+    let disks = map (numbered_seen g.R.D.Disk.seen) c.mount_numbered.new.disks.items in
+    let how : IfErr c.from_residual.result (HaltsNumber c.args.setup.now n (g.R.Rack.seen c.loop-number.rack).holds (g.R.Rack.seen c.loop-number.rack).faults new front disks) = search rules in
+    err_then c.from_residual.result (HaltsNumber c.args.setup.now n (g.R.Rack.seen c.loop-number.rack).holds (g.R.Rack.seen c.loop-number.rack).faults new front disks)
+    (Halts c.args.setup.now holds old new disks)
+    (λ e h. halted c.args.setup.now n (g.R.Rack.seen c.loop-number.rack).holds holds old (g.R.Rack.seen c.loop-number.rack).faults new front disks c.loop-number.tables.items e lt
+    (λ s is. inv.others s (omega (arith, is)) ∙ same s (omega (arith, is, lt))) inv.later (inv.mounted holds same) h) how
+
+pub loop-number-preserved : goal.loop-number-preserved
+loop-number-preserved g c =
+    let inv = c.loop-number.invariant in
+    let n = c.loop-number.number in
+    let lt : n < 8 = c.loop-number-test.true in
+    let m = c.mount_numbered.ensures in
+    record {
+      mounted = λ holds same. mount_step c.args.setup.now n (g.R.Rack.seen c.loop-number.rack).holds holds (map (numbered_seen g.R.D.Disk.seen) c.loop-number.disks.items)
+          (map (numbered_seen g.R.D.Disk.seen) c.mount_numbered.new.disks.items) c.loop-number.tables.items c.mount_numbered.new.tables.items
+          (λ s e. inv.others s (omega (arith, e)) ∙ same s (omega (arith, e, lt))) (inv.mounted holds same) c.in_ok-mount_numbered.ensures.ok;
+      others = λ s le. m.others s (λ e. absurd (omega (arith, le, e))) ∙ inv.others s (omega (arith, le));
+      later = omega (arith, inv.later, m.later);
+      count = omega (arith, inv.count, m.count);
+      few_disks = omega (arith, inv.few_disks, m.disks);
+      few_tables = omega (arith, inv.few_tables, m.tables);
+      disks_room = omega (arith, inv.disks_room, m.room);
+      tables_room = omega (arith, inv.tables_room, m.tables_room);
+    }

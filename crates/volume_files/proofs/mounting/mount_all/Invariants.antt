@@ -1,0 +1,20 @@
+use Rattle.std.proofs.Common.{◌≡◌, ◌≤◌, ◌+◌, map}
+use Rattle.std.specs.Prelude.{vec_len, vec_capacity}
+use Rattle.block_device.specs.RackSeen.{spec_number}
+use Rattle.block_device.specs.declared.rack.Spec.{Spec}
+use Rattle.volume_files.specs.Attached.{AreMounted, numbered_seen}
+use Rattle.volume_files.specs.Mounting.{Holds, HoldSame, specs_below}
+use Rattle.volume_files.proofs.mounting.mount_all.Given as goal
+
+abbrev pub invariant-loop-number : goal.invariant-loop-number
+invariant-loop-number g l = record {
+  mounted : (holds : Holds) → HoldSame (g.R.Rack.seen l.fn.rack).holds holds
+      → AreMounted holds (specs_below l.setup l.number) (map (numbered_seen g.R.D.Disk.seen) l.disks.items) l.tables.items;
+  others : (s : Spec) → l.number ≤ spec_number s → (g.R.Rack.seen l.rack).holds s ≡ (g.R.Rack.seen l.fn.rack).holds s;
+  later : (g.R.Rack.seen l.fn.rack).faults ≤ (g.R.Rack.seen l.rack).faults;
+  count : (g.R.Rack.seen l.rack).attached ≡ (g.R.Rack.seen l.fn.rack).attached + vec_len l.disks;
+  few_disks : vec_len l.disks ≤ l.number;
+  few_tables : vec_len l.tables ≤ l.number;
+  disks_room : 8 ≤ vec_capacity l.disks;
+  tables_room : 8 ≤ vec_capacity l.tables;
+}

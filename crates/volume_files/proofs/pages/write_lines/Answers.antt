@@ -1,0 +1,47 @@
+use Rattle.std.specs.Prelude.{ℕ, ◌≡◌, ◌+◌, List, Some, None}
+use Rattle.std.proofs.Common.{arith, sym, subst}
+use Rattle.block_device.specs.declared.numbered.NumberedDisk.{NumberedDisk}
+use Rattle.volume_files.specs.Placing.{bytes_given}
+use Rattle.volume_files.proofs.WriteLemmas.{LinesOn, line_file-place, line_file-count, lines_on-file, lines_on-other}
+use Rattle.volume_files.proofs.pages.write_lines.Goals as goal
+use Rattle.volume_files.proofs.pages.write_lines.Goals.{in-Some+in_ok-write_file, in_default}
+
+pub write_file-requires : goal.write_file-requires
+write_file-requires g c =
+    let on : LinesOn g.D.Disk.seen c.args.files.now c.args.first c.args.setup.now c.args.disks.now c.loop-line.disks c.loop-line.file c.loop-line.line-index =
+    record { stay = c.loop-line.invariant.stay; count = c.loop-line.invariant.count; places = c.loop-line.invariant.places; rest = c.loop-line.invariant.rest } in
+    let gives : bytes_given c.line-item.result.act ≡ Some c.in-Some.bytes.now = cc (c.in-Some.ensures) in
+    line_file-place g.D.Disk.seen c.args.files.now c.args.first c.args.setup.now c.args.disks.now c.loop-line.disks c.loop-line.file c.loop-line.line-index c.line-item.result
+    c.in-Some.bytes.now c.info.result.now on c.loop-line-test.true c.line-item.is gives c.info.ensures.info
+
+pub overflow_add-file : goal.overflow_add-file
+overflow_add-file g c =
+    let on : LinesOn g.D.Disk.seen c.args.files.now c.args.first c.args.setup.now c.args.disks.now c.loop-line.disks c.loop-line.file c.loop-line.line-index =
+    record { stay = c.loop-line.invariant.stay; count = c.loop-line.invariant.count; places = c.loop-line.invariant.places; rest = c.loop-line.invariant.rest } in
+    let gives : bytes_given c.line-item.result.act ≡ Some c.in-Some.bytes.now = cc (c.in-Some.ensures) in
+    let below = line_file-count g.D.Disk.seen c.args.files.now c.args.first c.args.setup.now c.args.disks.now c.loop-line.disks c.loop-line.file c.loop-line.line-index c.line-item.result
+    c.in-Some.bytes.now on c.loop-line-test.true c.line-item.is gives in
+    omega (arith, below, c.requires.few)
+
+pub loop-line-preserved : goal.loop-line-preserved
+loop-line-preserved g c =
+    let seen = g.D.Disk.seen in
+    let made = c.args.files.now in
+    let i = c.loop-line.line-index in
+    let k = c.loop-line.file in
+    let on : LinesOn seen made c.args.first c.args.setup.now c.args.disks.now c.loop-line.disks k i =
+    record { stay = c.loop-line.invariant.stay; count = c.loop-line.invariant.count; places = c.loop-line.invariant.places; rest = c.loop-line.invariant.rest } in
+    let next : LinesOn seen made c.args.first c.args.setup.now c.args.disks.now c.match-file_bytes.disks c.match-file_bytes.file (i + 1) = elim c.match-file_bytes.branch [
+      | in-Some+in_ok-write_file w ↦
+          let gives : bytes_given c.line-item.result.act ≡ Some w.in-Some.bytes.now = cc (w.in-Some.ensures) in
+          subst (λ (ds : List (NumberedDisk _)). LinesOn seen made c.args.first c.args.setup.now c.args.disks.now ds c.match-file_bytes.file (i + 1)) (sym w.disks-is)
+          (subst (λ (n : ℕ). LinesOn seen made c.args.first c.args.setup.now c.args.disks.now w.write_file.new.disks n (i + 1)) (sym w.file-is)
+          (lines_on-file seen made c.args.first c.args.setup.now c.args.disks.now c.loop-line.disks w.write_file.new.disks k i c.line-item.result w.in-Some.bytes.now w.info.result.now
+          on c.loop-line-test.true c.line-item.is gives w.info.ensures.info w.in_ok-write_file.ensures.stay w.in_ok-write_file.ensures.ok))
+      | in_default w ↦
+          let gives : bytes_given c.line-item.result.act ≡ None = cc (w.in_default.ensures) in
+          subst (λ (ds : List (NumberedDisk _)). LinesOn seen made c.args.first c.args.setup.now c.args.disks.now ds c.match-file_bytes.file (i + 1)) (sym w.disks-is)
+          (subst (λ (n : ℕ). LinesOn seen made c.args.first c.args.setup.now c.args.disks.now c.loop-line.disks n (i + 1)) (sym w.file-is)
+          (lines_on-other seen made c.args.first c.args.setup.now c.args.disks.now c.loop-line.disks k i c.line-item.result on c.loop-line-test.true c.line-item.is gives))
+    ] in
+    record { stay = next.stay; count = next.count; places = next.places; rest = next.rest }

@@ -1,0 +1,132 @@
+-- Disks that are attached, and files that are placed on them, before the processes run. Inside: no clause of `run` cites this.
+use Rattle.std.specs.Prelude.{ℕ, ◌≡◌, ◌≢◌, ◌<◌, ◌≤◌, ◌⊎◌, List, [], ◌∷◌, length, map, All, Ok, Some, IfSome, IsSome, Option, option_map, slice_get, vec_capacity}
+use Rattle.std.specs.FinMap as finite
+use Rattle.block_device.specs.DiskSeen.{DiskSeen}
+use Rattle.block_device.specs.OpenSeen.{OpenFaultSeen}
+use Rattle.block_device.specs.RackSeen.{spec_number, IsAttached}
+use Rattle.block_device.specs.declared.numbered.NumberedDisk.{NumberedDisk}
+use Rattle.block_device.specs.declared.rack.Spec.{Spec}
+use Rattle.vnode_files.specs.declared.vnode.FileInfo.{FileInfo}
+use Rattle.vnode_files.specs.Files.{FilesSeen}
+use Rattle.vnode_files.specs.Grow.{page_count}
+use Rattle.vnode_files.specs.Vnode.{fresh_vnode}
+use Rattle.volume_format.specs.Table.{TableSeen}
+use Rattle.volume_format.specs.Volume.{IsVolumeTable, IsVolumeName}
+use Rattle.vm_script.specs.PlanSeen.{PlanSeen}
+use Rattle.vm_script.specs.Rules.{amounts_of}
+use Rattle.volume_files.specs.declared.attaching.Attached.{Attached}
+use Rattle.volume_files.specs.declared.stops.OpenStop.{OpenStop}
+use Rattle.volume_files.specs.declared.stops.OpenStop.TheVariants as halt
+use Rattle.volume_files.specs.declared.stops.HandedBack.{HandedBack}
+use Rattle.volume_files.specs.Closed.{StoreFiles, info_at}
+use Rattle.volume_files.specs.Handed.{HaveTold, RackTells, HandsFront, HandsAll, HandsRefused, HasDiskCause, HasOpeningCause, HasRefusalCause, IsSwapAsGiven, IsSwapFor, StopsAttaching, disk_numbers, sizes_of}
+use Rattle.volume_files.specs.Written.{LieWell, HaveDisks, HaveFirstBlocks}
+use Rattle.volume_files.specs.Opened.{ComesTo, OpenedFile, opened_files, infos_of, opened_bytes_at, table_on, disk_specs}
+
+-- The disks with their numbers, in rising number; the table of each; and the swap disk.
+pub record AttachedSeen : Type 0 where
+  pub disks : List (ℕ × DiskSeen)
+  pub tables : List TableSeen
+  pub swap : Option DiskSeen
+
+abbrev pub numbered_seen : {D : Type 0} → (D → DiskSeen) → NumberedDisk D → ℕ × DiskSeen
+numbered_seen seen d = (d.number, seen d.disk)
+
+-- Disks that stand with their numbers.
+abbrev pub paired_seen : {D : Type 0} → (D → DiskSeen) → List (ℕ × D) → List (ℕ × DiskSeen)
+paired_seen seen disks = map (λ disk. (disk.0, seen disk.1)) disks
+
+abbrev pub attached_seen : {D : Type 0} → (D → DiskSeen) → Attached D → AttachedSeen
+attached_seen seen a = record {
+  disks = map (numbered_seen seen) a.disks.items;
+  tables = a.tables.items;
+  swap = option_map (λ (d : NumberedDisk _). seen d.disk) a.swap;
+}
+
+-- The disks without their numbers.
+abbrev pub bare_disks : List (ℕ × DiskSeen) → List DiskSeen
+bare_disks disks = map (λ (d : ℕ × DiskSeen). d.1) disks
+
+-- There is room for the disks to be started with and to be handed back.
+pub record HasRooms {D : Type 0} (a : Attached D) : Type 0 where
+  pub no_numbered : a.numbered.items ≡ []
+  pub numbered : length a.disks.items ≤ vec_capacity a.numbered
+  pub none_back : a.back.items ≡ []
+  pub back : length a.disks.items ≤ vec_capacity a.back
+
+-- The disk of a spec was attached; it has 2 to 16,384 blocks; and where it tells, block 0 says this table.
+pub record IsMounted (holds : Spec → Option (List (List ℕ))) (s : Spec) (d : ℕ × DiskSeen) (t : TableSeen) : Type 0 where
+  pub number : d.0 ≡ spec_number s
+  pub attached : IsAttached s (holds s) d.1
+  pub some : 2 ≤ d.1.size
+  pub few : d.1.size ≤ 16384
+  pub blocks : t.blocks ≡ d.1.size
+  pub volume : IsVolumeTable t
+  pub read : IfSome d.1.content (λ blocks. table_on blocks ≡ Ok t)
+
+-- So was each disk of these specs, in their order.
+abbrev pub AreMounted : (Spec → Option (List (List ℕ))) → List Spec → List (ℕ × DiskSeen) → List TableSeen → Type 0
+AreMounted holds [] [] [] = Unit {0}
+AreMounted holds (s ∷ specs) (d ∷ disks) (t ∷ tables) = IsMounted holds s d t × AreMounted holds specs disks tables
+AreMounted holds specs disks tables = ⊥
+
+-- ALL DISKS OF A PLAN ARE ATTACHED, the swap disk too where there are slots.
+pub record AreAttached (plan : PlanSeen) (holds : Spec → Option (List (List ℕ))) (a : AttachedSeen) : Type 0 where
+  pub mounted : AreMounted holds (disk_specs plan.setup) a.disks a.tables
+  pub swap : IsSwapFor (amounts_of plan.setup).slots a.swap
+  pub blank : IsSwapAsGiven (amounts_of plan.setup).slots a.swap
+
+-- A disk failed as pages of files were written: no rule is broken.
+pub record StopsWriting (plan : PlanSeen) (holds : Spec → Option (List (List ℕ))) (disks : List DiskSeen) (swap : Option DiskSeen) (fault : OpenFaultSeen) : Type 0 where
+  pub cause : HasDiskCause plan disks swap fault
+  pub files : List OpenedFile
+  pub handed : HandsAll plan disks swap
+  pub given : ComesTo plan holds (sizes_of plan disks) (Ok files)
+  pub opened : HaveTold disks swap → opened_files plan holds ≡ Ok files
+
+-- What is handed back where the files weren't opened: a rule is broken, a disk or the rack failed, or memory lacked; the disks so far are handed back.
+abbrev pub StopCause : PlanSeen → (Spec → Option (List (List ℕ))) → ℕ → ℕ → List DiskSeen → Option DiskSeen → OpenStop → Type 0
+StopCause plan holds rack_old rack_new disks swap (halt.Refused r) = HasRefusalCause plan holds disks swap r
+StopCause plan holds rack_old rack_new disks swap (halt.Failed f) =
+    (HasOpeningCause plan disks swap rack_old rack_new f × StopsAttaching plan holds disks swap f) ⊎ StopsWriting plan holds disks swap f
+StopCause plan holds rack_old rack_new disks swap halt.Memory = Unit {0}
+
+-- What is handed back then; where a disk or the rack failed, the cause says it.
+abbrev pub HandsStopped : PlanSeen → List DiskSeen → Option DiskSeen → OpenStop → Type 0
+HandsStopped plan disks swap (halt.Refused r) = HandsRefused plan disks swap r
+HandsStopped plan disks swap (halt.Failed f) = Unit {0}
+HandsStopped plan disks swap halt.Memory = HandsFront plan disks swap
+
+pub record StopsEarly {D : Type 0} (plan : PlanSeen) (holds : Spec → Option (List (List ℕ))) (rack_old rack_new : ℕ) (seen : D → DiskSeen) (s : HandedBack D) : Type 0 where
+  pub handed : HandsStopped plan (map seen s.disks.items) (option_map seen s.swap) s.why
+  pub cause : StopCause plan holds rack_old rack_new (map seen s.disks.items) (option_map seen s.swap) s.why
+
+-- The names of files are names of volumes, and those of the files of one disk differ.
+pub record HaveVolumeNames (infos : List FileInfo) : Type 0 where
+  pub names : (k : ℕ) → k < length infos → IsVolumeName (info_at infos k).name
+  pub differ : (i k : ℕ) → k < i → i < length infos → (info_at infos k).disk ≡ (info_at infos i).disk → (info_at infos k).name ≢ (info_at infos i).name
+
+-- A file's bytes are bytes, as many as its record says.
+pub record HasItsBytes (f : OpenedFile) : Type 0 where
+  pub count : length f.bytes ≡ f.info.length
+  pub bytes : All (λ b. b < 256) f.bytes
+
+-- Each disk on which a file lies tells.
+abbrev pub FileDisksTell : List FileInfo → List (ℕ × DiskSeen) → Type 0
+FileDisksTell infos disks = (i k : ℕ) (disk : ℕ × DiskSeen) → slice_get disks i ≡ Some disk → k < length infos → (info_at infos k).disk ≡ disk.0 → IsSome disk.1.content
+
+-- ALL FILES ARE PLACED: their records, on disks that are there; where the disks tell, as the set-up rules say; and each disk that tells has their bytes.
+pub record ArePlaced (plan : PlanSeen) (holds : Spec → Option (List (List ℕ))) (files : List OpenedFile) (a : AttachedSeen) (made : FilesSeen) : Type 0 where
+  pub numbers : map (λ (d : ℕ × DiskSeen). d.0) a.disks ≡ disk_numbers plan
+  pub handed : HandsAll plan (bare_disks a.disks) a.swap
+  pub sizes : made.disks ≡ finite.from_entries (map (λ (d : ℕ × DiskSeen). (d.0, d.1.size)) a.disks)
+  pub fresh : made.files ≡ map fresh_vnode (infos_of files)
+  pub well : LieWell made
+  pub have : HaveDisks made a.disks
+  pub some : HaveFirstBlocks a.disks
+  pub names : HaveVolumeNames (infos_of files)
+  pub own : All HasItsBytes files
+  pub kept : All (λ f. 1 ≤ page_count f.info.extents) files
+  pub given : ComesTo plan holds (map (λ (d : ℕ × DiskSeen). (d.0, d.1.size)) a.disks) (Ok files)
+  pub told : RackTells holds plan → FileDisksTell (infos_of files) a.disks → opened_files plan holds ≡ Ok files
+  pub stored : StoreFiles a.disks (infos_of files) (opened_bytes_at files)

@@ -1,0 +1,148 @@
+-- The disks that are handed back, by number, and why setting up ended. Public clauses cite this.
+use Rattle.std.specs.Prelude.{ℕ, ◌≡◌, ◌≤◌, ◌<◌, ◌==◌, ◌⊎◌, Bool, nat_le, nat_lt, count_by, List, [], length, map, take, Option, Some, None, Err, IfSome, IsSome, IsSomeAnd, MatchOption, MatchBool, All, zip, slice_get, slice_index_or, option_map, if◌then◌else◌, ◌+◌, is_some}
+use Rattle.std.specs.List.{Contains}
+use Rattle.std.specs.Map.{lookup}
+use Rattle.block_device.specs.Counts.{HasRisen}
+use Rattle.block_device.specs.DiskSeen.{DiskSeen}
+use Rattle.block_device.specs.OpenSeen.{OpenFaultSeen}
+use Rattle.block_device.specs.RackSeen.{IsAttached, spec_number}
+use Rattle.block_device.specs.declared.rack.Spec.{Spec}
+use Rattle.block_device.specs.declared.rack.Spec.TheVariants as spec
+use Rattle.vm_script.specs.PlanSeen.{PlanSeen}
+use Rattle.vm_script.specs.Rules.{amounts_of}
+use Rattle.volume_files.specs.declared.stops.Refusal.{Refusal}
+use Rattle.volume_files.specs.declared.stops.Refusal.TheVariants as refusal
+use Rattle.volume_files.specs.Opened.{ComesTo, disk_specs, opened_files}
+
+-- The rack tells what it holds for each disk by path.
+abbrev pub TellsSpec : (Spec → Option (List (List ℕ))) → Spec → Type 0
+TellsSpec holds (spec.Blank number blocks) = Unit {0}
+TellsSpec holds (spec.Path number path) = IsSome (holds (spec.Path number path))
+
+abbrev pub RackTells : (Spec → Option (List (List ℕ))) → PlanSeen → Type 0
+RackTells holds plan = All (TellsSpec holds) (disk_specs plan.setup)
+
+-- Each disk that came back tells its blocks.
+pub record HaveTold (disks : List DiskSeen) (swap : Option DiskSeen) : Type 0 where
+  pub each : All (λ (d : DiskSeen). IsSome d.content) disks
+  pub last : IfSome swap (λ d. IsSome d.content)
+
+-- The numbers of a plan's disks, in rising order; and the disks with their numbers.
+abbrev pub disk_numbers : PlanSeen → List ℕ
+disk_numbers plan = map spec_number (disk_specs plan.setup)
+
+abbrev pub plan_disks : PlanSeen → List DiskSeen → List (ℕ × DiskSeen)
+plan_disks plan disks = zip (disk_numbers plan) disks
+
+-- The disk of a number; that of the swap slots has number 8.
+abbrev pub disk_handed : PlanSeen → List DiskSeen → Option DiskSeen → ℕ → Option DiskSeen
+disk_handed plan disks swap number = if number == 8 then swap else lookup (λ n. n == number) (plan_disks plan disks)
+
+-- How many blocks each disk has, by number.
+abbrev pub sizes_of : PlanSeen → List DiskSeen → List (ℕ × ℕ)
+sizes_of plan disks = map (λ (d : ℕ × DiskSeen). (d.0, d.1.size)) (plan_disks plan disks)
+
+-- A blank disk has as many blocks as its spec says.
+abbrev pub HasSpecSize : Spec → DiskSeen → Type 0
+HasSpecSize (spec.Blank number blocks) disk = disk.size ≡ blocks
+HasSpecSize (spec.Path number path) disk = Unit {0}
+
+abbrev pub HaveSpecSizes : List Spec → List DiskSeen → Type 0
+HaveSpecSizes specs disks = (length disks ≡ length specs) × ((i : ℕ) (s : Spec) (d : DiskSeen) → slice_get specs i ≡ Some s → slice_get disks i ≡ Some d → HasSpecSize s d)
+
+-- How many disks these are, the swap disk among them.
+abbrev pub swap_count : {B : Type 0} → Option B → ℕ
+swap_count swap = if is_some swap then 1 else 0
+
+abbrev pub handed_count : {A B : Type 0} → List A → Option B → ℕ
+handed_count disks swap = length disks + swap_count swap
+
+-- There is a swap disk exactly where there are slots, with one block for each.
+abbrev pub IsSwapFor : ℕ → Option DiskSeen → Type 0
+IsSwapFor slots swap = MatchOption swap (slots ≡ 0) (λ d. (0 < slots) × (d.size ≡ slots))
+
+-- The disks of a front of the plan's are handed back, in rising number, and the swap disk or none; with a disk the swap disk too, where there are slots.
+pub record HandsFront (plan : PlanSeen) (disks : List DiskSeen) (swap : Option DiskSeen) : Type 0 where
+  pub each : HaveSpecSizes (take (length disks) (disk_specs plan.setup)) disks
+  pub first : IfSome swap (λ d. (0 < (amounts_of plan.setup).slots) × (d.size ≡ (amounts_of plan.setup).slots))
+  pub before : 0 < length disks → IsSwapFor (amounts_of plan.setup).slots swap
+
+-- All of the plan's disks are handed back, in rising number, and the swap disk where there are slots.
+pub record HandsAll (plan : PlanSeen) (disks : List DiskSeen) (swap : Option DiskSeen) : Type 0 where
+  pub each : HaveSpecSizes (disk_specs plan.setup) disks
+  pub first : IsSwapFor (amounts_of plan.setup).slots swap
+
+-- The swap disk where there are slots, and the disks whose numbers pass a test, which are a front of the plan's.
+pub record HandsBelow (plan : PlanSeen) (passes : ℕ → Bool) (disks : List DiskSeen) (swap : Option DiskSeen) : Type 0 where
+  pub each : HandsFront plan disks swap
+  pub first : IsSwapFor (amounts_of plan.setup).slots swap
+  pub count : length disks ≡ count_by passes (disk_numbers plan)
+
+-- Nothing was attached.
+pub record HandsNone (disks : List DiskSeen) (swap : Option DiskSeen) : Type 0 where
+  pub no_disk : disks ≡ []
+  pub no_swap : swap ≡ None
+
+-- What is handed back where a rule is broken: where a disk breaks rule 9, that disk and those of lower numbers; else all.
+abbrev pub HandsRefused : PlanSeen → List DiskSeen → Option DiskSeen → Refusal → Type 0
+HandsRefused plan disks swap (refusal.Volume number rule) = HandsBelow plan (λ n. nat_le n number) disks swap
+HandsRefused plan disks swap (refusal.Rule n) = HandsAll plan disks swap
+
+-- What is handed back where the rack fails, or a disk's block 0 isn't read. The rack attaches the swap disk, number 8, first, where there are slots, and
+-- then the plan's disks in rising number, each of which is read before the next one is attached.
+abbrev pub HandsUnracked : PlanSeen → List DiskSeen → Option DiskSeen → ℕ → Type 0
+HandsUnracked plan disks swap number =
+    MatchBool (number == 8) ((0 < (amounts_of plan.setup).slots) × HandsNone disks swap)
+    (Contains (disk_numbers plan) number × HandsBelow plan (λ n. nat_lt n number) disks swap)
+
+abbrev pub HandsUnread : PlanSeen → List DiskSeen → Option DiskSeen → OpenFaultSeen → Type 0
+HandsUnread plan disks swap fault =
+    MatchOption fault.counts (HandsUnracked plan disks swap fault.disk) (λ counts. HandsBelow plan (λ n. nat_le n fault.disk) disks swap)
+
+-- Nothing was written: each of these disks is as the rack gave it, and so is the swap disk. A blank disk has its blocks, zeros where it tells, and one by
+-- path has what the rack holds for it.
+abbrev pub AreAsGiven : (Spec → Option (List (List ℕ))) → List Spec → List DiskSeen → Type 0
+AreAsGiven holds specs disks = (i : ℕ) (s : Spec) (d : DiskSeen) → slice_get specs i ≡ Some s → slice_get disks i ≡ Some d → IsAttached s (holds s) d
+
+abbrev pub IsSwapAsGiven : ℕ → Option DiskSeen → Type 0
+IsSwapAsGiven slots swap = IfSome swap (λ d. IsAttached (spec.Blank 8 slots) None d)
+
+pub record AreUntouched (plan : PlanSeen) (holds : Spec → Option (List (List ℕ))) (disks : List DiskSeen) (swap : Option DiskSeen) : Type 0 where
+  pub each : AreAsGiven holds (disk_specs plan.setup) disks
+  pub last : IsSwapAsGiven (amounts_of plan.setup).slots swap
+
+-- No disk that was read before this one breaks a rule of volumes. The swap disk, number 8, is attached before all others.
+abbrev pub NoneBreaksBefore : PlanSeen → (Spec → Option (List (List ℕ))) → ℕ → Type 0
+NoneBreaksBefore plan holds disk = (number rule : ℕ) → opened_files plan holds ≡ Err (refusal.Volume number rule) → (disk ≡ 8) ⊎ (disk ≤ number)
+
+-- Why a rule that the disks or the lines of files break is told: where each disk that came back tells, it is the first that is broken; that of a line is
+-- so over any disks. Nothing was written.
+abbrev pub BreaksLine : PlanSeen → (Spec → Option (List (List ℕ))) → List DiskSeen → Refusal → Type 0
+BreaksLine plan holds disks (refusal.Volume number rule) = Unit {0}
+BreaksLine plan holds disks (refusal.Rule n) = ComesTo plan holds (sizes_of plan disks) (Err (refusal.Rule n))
+
+pub record HasRefusalCause (plan : PlanSeen) (holds : Spec → Option (List (List ℕ))) (disks : List DiskSeen) (swap : Option DiskSeen) (r : Refusal) : Type 0 where
+  pub told : HaveTold disks swap → opened_files plan holds ≡ Err r
+  pub line : BreaksLine plan holds disks r
+  pub same : AreUntouched plan holds disks swap
+
+-- The rack failed, or a disk's block 0 wasn't read: nothing was written, and where each disk that came back tells, none that was read before breaks a rule.
+pub record StopsAttaching (plan : PlanSeen) (holds : Spec → Option (List (List ℕ))) (disks : List DiskSeen) (swap : Option DiskSeen) (fault : OpenFaultSeen) : Type 0 where
+  pub handed : HandsUnread plan disks swap fault
+  pub first : HaveTold disks swap → NoneBreaksBefore plan holds fault.disk
+  pub same : AreUntouched plan holds disks swap
+
+-- The counts are those of the disk of this number before and after its last transfer: its count rose in it, and the disk comes back with the later one.
+pub record IsCountedBy (plan : PlanSeen) (disks : List DiskSeen) (swap : Option DiskSeen) (number before after : ℕ) : Type 0 where
+  pub risen : HasRisen before after
+  pub disk : DiskSeen
+  pub back : disk_handed plan disks swap number ≡ Some disk
+  pub last : after ≡ disk.faults
+
+-- The cause of a fault before the processes ran: the rack counted it in this call, or the disk.
+abbrev pub HasOpeningCause : PlanSeen → List DiskSeen → Option DiskSeen → ℕ → ℕ → OpenFaultSeen → Type 0
+HasOpeningCause plan disks swap old new fault = MatchOption fault.counts (HasRisen old new) (λ counts. IsCountedBy plan disks swap fault.disk counts.0 counts.1)
+
+-- The cause of a fault once the files had their places: the disk counted it.
+abbrev pub HasDiskCause : PlanSeen → List DiskSeen → Option DiskSeen → OpenFaultSeen → Type 0
+HasDiskCause plan disks swap fault = MatchOption fault.counts ⊥ (λ counts. IsCountedBy plan disks swap fault.disk counts.0 counts.1)

@@ -1,0 +1,10 @@
+pub mod Opened
+pub mod Handed
+pub mod Closed
+pub mod Texts
+pub mod Attached
+pub mod Mounting
+pub mod Written
+pub mod Showing
+pub mod DiskTables
+pub mod Placing

@@ -1,0 +1,108 @@
+-- Disks that are attached one after another, the table of each read before the next one is attached. Inside: no clause of `run` cites this.
+use Rattle.std.specs.Prelude.{ℕ, ◌≡◌, ◌<◌, ◌≤◌, ◌⊎◌, List, [], ◌∷◌, ◌++◌, filter_map, Option, Some, None, IfSome, MatchOption, Result, Ok, Err}
+use Rattle.std.specs.List.{range_with_len}
+use Rattle.block_device.specs.Counts.{HasRisen}
+use Rattle.block_device.specs.DiskSeen.{DiskSeen}
+use Rattle.block_device.specs.RackSeen.{spec_number, IsAttached}
+use Rattle.block_device.specs.declared.rack.Spec.{Spec}
+use Rattle.volume_format.specs.declared.rules.BadVolume.{BadVolume}
+use Rattle.volume_format.specs.Table.{TableSeen}
+use Rattle.volume_format.specs.Volume.{IsVolumeTable}
+use Rattle.vm_script.specs.declared.plan.SetupLine.{SetupLine}
+use Rattle.volume_files.specs.declared.stops.OpenStop.{OpenStop}
+use Rattle.volume_files.specs.declared.stops.OpenStop.TheVariants as halt
+use Rattle.volume_files.specs.declared.stops.Refusal.TheVariants as refusal
+use Rattle.volume_files.specs.Attached.{IsMounted, AreMounted}
+use Rattle.volume_files.specs.Opened.{disk_numbered, table_on, table_read}
+use Rattle.volume_files.specs.Written.{HasLastFault, open_fault_counts}
+
+-- What a rack holds for each spec, where it tells that.
+abbrev pub Holds : Type 0
+Holds = Spec → Option (List (List ℕ))
+
+-- The specs of the disks of lower numbers.
+abbrev pub specs_below : List SetupLine → ℕ → List Spec
+specs_below setup number = filter_map (disk_numbered setup) (range_with_len 0 number)
+
+-- What is held for the disks of files is the same.
+abbrev pub HoldSame : Holds → Holds → Type 0
+HoldSame holds others = (s : Spec) → spec_number s < 8 → holds s ≡ others s
+
+-- A disk was attached by its spec.
+pub record IsGiven (holds : Holds) (s : Spec) (d : ℕ × DiskSeen) : Type 0 where
+  pub number : d.0 ≡ spec_number s
+  pub attached : IsAttached s (holds s) d.1
+
+-- The disk has 2 to 16,384 blocks, and where it tells, block 0 says this table.
+pub record SaysTableRead (d : DiskSeen) (t : TableSeen) : Type 0 where
+  pub some : 2 ≤ d.size
+  pub few : d.size ≤ 16384
+  pub blocks : t.blocks ≡ d.size
+  pub volume : IsVolumeTable t
+  pub read : IfSome d.content (λ blocks. table_on blocks ≡ Ok t)
+
+-- Why no table was read: the disk counted a fault of the transfer, its size or its block 0 breaks a rule of volumes, or memory lacked.
+abbrev pub UnreadCause : ℕ × DiskSeen → OpenStop → Type 0
+UnreadCause d (halt.Refused (refusal.Volume number rule)) = (number ≡ d.0) × IfSome d.1.content (λ blocks. table_on blocks ≡ Err rule)
+UnreadCause d (halt.Failed f) = HasLastFault 0 d (open_fault_counts f)
+UnreadCause d halt.Memory = Unit {0}
+UnreadCause d how = ⊥
+
+-- Why block 0 says no table: it breaks a rule of volumes, or memory lacked.
+abbrev pub BadTableCause : ℕ → Result TableSeen BadVolume → OpenStop → Type 0
+BadTableCause number told (halt.Refused (refusal.Volume n rule)) = (n ≡ number) × (table_read told ≡ Err rule)
+BadTableCause number told halt.Memory = Unit {0}
+BadTableCause number told how = ⊥
+
+-- Why no disk was attached: the rack counted a fault, or memory lacked.
+abbrev pub UngivenCause : ℕ → ℕ → ℕ → OpenStop → Type 0
+UngivenCause number old new (halt.Failed f) = (f.disk ≡ number) × (f.counts ≡ None) × HasRisen old new
+UngivenCause number old new halt.Memory = Unit {0}
+UngivenCause number old new how = ⊥
+
+-- One more disk is attached, and its table read.
+pub record MountsOne (holds : Holds) (s : Spec) (old new : List (ℕ × DiskSeen)) (tables_old tables_new : List TableSeen) : Type 0 where
+  pub disk : ℕ × DiskSeen
+  pub table : TableSeen
+  pub mounted : IsMounted holds s disk table
+  pub disks : new ≡ old ++ disk ∷ []
+  pub tables : tables_new ≡ tables_old ++ table ∷ []
+
+-- The disk of a number wasn't attached: the disks are as they were.
+pub record HaltsBare (number old new : ℕ) (front disks : List (ℕ × DiskSeen)) (how : OpenStop) : Type 0 where
+  pub same : disks ≡ front
+  pub cause : UngivenCause number old new how
+
+-- The disk of a spec was attached, and its table wasn't read.
+pub record HaltsUnread (holds : Holds) (s : Spec) (front disks : List (ℕ × DiskSeen)) (how : OpenStop) : Type 0 where
+  pub disk : ℕ × DiskSeen
+  pub given : IsGiven holds s disk
+  pub behind : disks ≡ front ++ disk ∷ []
+  pub cause : UnreadCause disk how
+
+-- The one or the other.
+abbrev pub HaltsSpec : Holds → Spec → ℕ → ℕ → List (ℕ × DiskSeen) → List (ℕ × DiskSeen) → OpenStop → Type 0
+HaltsSpec holds s old new front disks how = HaltsBare (spec_number s) old new front disks how ⊎ HaltsUnread holds s front disks how
+
+-- The disk of a number is attached, and its table read, where set-up lines give one.
+abbrev pub MountsNumber : List SetupLine → ℕ → Holds → List (ℕ × DiskSeen) → List (ℕ × DiskSeen) → List TableSeen → List TableSeen → Type 0
+MountsNumber setup number holds old new tables_old tables_new =
+    MatchOption (disk_numbered setup number) ((new ≡ old) × (tables_new ≡ tables_old)) (λ s. MountsOne holds s old new tables_old tables_new)
+
+-- Memory lacked before the rack was asked for a disk: the disks are as they were.
+pub record HaltsUnasked (front disks : List (ℕ × DiskSeen)) (how : OpenStop) : Type 0 where
+  pub same : disks ≡ front
+  pub memory : how ≡ halt.Memory
+
+abbrev pub HaltsNumber : List SetupLine → ℕ → Holds → ℕ → ℕ → List (ℕ × DiskSeen) → List (ℕ × DiskSeen) → OpenStop → Type 0
+HaltsNumber setup number holds old new front disks how =
+    HaltsUnasked front disks how ⊎ ((s : Spec) × (disk_numbered setup number ≡ Some s) × HaltsSpec holds s old new front disks how)
+
+-- The attaching of the disks of set-up lines stopped at the disk of a number: those of lower numbers are attached, and their tables read.
+pub record Halts (setup : List SetupLine) (holds : Holds) (old new : ℕ) (disks : List (ℕ × DiskSeen)) (how : OpenStop) : Type 0 where
+  pub number : ℕ
+  pub below : number < 8
+  pub front : List (ℕ × DiskSeen)
+  pub tables : List TableSeen
+  pub mounted : AreMounted holds (specs_below setup number) front tables
+  pub cause : HaltsNumber setup number holds old new front disks how

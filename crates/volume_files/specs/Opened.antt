@@ -1,0 +1,209 @@
+-- The files as the processes find them, or the set-up rule that keeps them from being opened. Public clauses cite this.
+use Rattle.std.specs.Prelude.{ℕ, ◌==◌, ◌+◌, ◌-◌, nat_le, nat_lt, Bool, List, [], ◌∷◌, ◌++◌, length, take, map, filter, filter_map, replicate, slice_index_or, unwrap_or, Option, Some, None, option_map, option_and_then, IfSome, Result, Ok, Err, if◌then◌else◌, ◌≡◌, ◌≤◌}
+use Rattle.std.specs.List.{concat, find, flat_map, list_all, list_any, range_with_len}
+use Rattle.std.specs.FinMap as finite
+use Rattle.std.specs.Map.{lookup}
+use Rattle.std.specs.Str.{bytes_eq}
+use Rattle.block_device.specs.declared.rack.Spec.{Spec}
+use Rattle.block_device.specs.declared.rack.Spec.TheVariants as spec
+use Rattle.block_device.specs.RackSeen.{spec_number}
+use Rattle.flat_model.specs.Flat.{File, Flat}
+use Rattle.flat_model.specs.Opening.{flat_at_opening}
+use Rattle.flat_model.specs.Parts.{file_at_opening}
+use Rattle.vnode_files.specs.declared.extent.Extent.{Extent}
+use Rattle.vnode_files.specs.declared.extent.TheConstants.{MOST_EXTENTS}
+use Rattle.vnode_files.specs.declared.vnode.FileInfo.{FileInfo}
+use Rattle.vnode_files.specs.Grow.{is_free}
+use Rattle.vnode_files.specs.Vnode.{page_blocks}
+use Rattle.volume_format.specs.declared.rules.BadVolume.{BadVolume}
+use Rattle.volume_format.specs.Rules.{reading}
+use Rattle.volume_format.specs.Table.{TableSeen}
+use Rattle.volume_format.specs.Volume.{IsVolumeTable}
+use Rattle.vm_script.specs.declared.plan.SetupAct.{SetupAct}
+use Rattle.vm_script.specs.declared.plan.SetupAct.TheVariants as given
+use Rattle.vm_script.specs.declared.plan.SetupLine.{SetupLine}
+use Rattle.vm_script.specs.FileNames.{with_files}
+use Rattle.vm_script.specs.PlanSeen.{PlanSeen}
+use Rattle.vm_script.specs.Rules.{amounts_of, gives_disk, is_from_to}
+use Rattle.volume_files.specs.declared.stops.Refusal.{Refusal}
+use Rattle.volume_files.specs.declared.stops.Refusal.TheVariants as refusal
+
+-- The disk that a set-up line gives, if it gives one.
+abbrev pub given_disk : SetupAct → Option Spec
+given_disk (given.Blank disk blocks) = Some (spec.Blank disk blocks)
+given_disk (given.Path disk path) = Some (spec.Path disk path)
+given_disk a = None
+
+-- The disk of a number that these lines give, if one does.
+abbrev pub disk_numbered : List SetupLine → ℕ → Option Spec
+disk_numbered setup number = option_and_then (λ l. given_disk l.act) (find (λ l. gives_disk number l.act) setup)
+
+-- The disks of these lines in rising number.
+abbrev pub disk_specs : List SetupLine → List Spec
+disk_specs setup = filter_map (disk_numbered setup) (range_with_len 0 8)
+
+-- The blocks of the disk of a spec as it is attached.
+abbrev pub blocks_held : (Spec → Option (List (List ℕ))) → Spec → List (List ℕ)
+blocks_held holds (spec.Blank number blocks) = replicate blocks (replicate 4096 0)
+blocks_held holds (spec.Path number path) = unwrap_or (holds (spec.Path number path)) []
+
+-- The disks as they are attached, with their numbers.
+abbrev pub disks_held : (Spec → Option (List (List ℕ))) → List Spec → List (ℕ × List (List ℕ))
+disks_held holds specs = map (λ s. (spec_number s, blocks_held holds s)) specs
+
+-- A file as it is opened: its record, and the bytes up to its length.
+pub record OpenedFile : Type 0 where
+  pub info : FileInfo
+  pub bytes : List ℕ
+
+-- The bytes that a disk of these blocks has of a file: those of its pages' blocks, up to its length.
+abbrev pub stored_bytes : List (List ℕ) → FileInfo → List ℕ
+stored_bytes blocks info = take info.length (concat (map (λ block. slice_index_or blocks block []) (page_blocks info.extents)))
+
+-- A file of a table, on the disk of a number.
+abbrev pub info_on : ℕ → FileInfo → FileInfo
+info_on disk info = record info { disk = disk }
+
+abbrev pub mounted_file : ℕ × List (List ℕ) → FileInfo → OpenedFile
+mounted_file disk info = record { info = info_on disk.0 info; bytes = stored_bytes disk.1 info }
+
+-- The table of a disk that was read, or the rule of volumes that its block 0 breaks.
+abbrev pub table_read : Result TableSeen BadVolume → Result TableSeen ℕ
+table_read (Ok table) = Ok table
+table_read (Err bad) = Err bad.rule
+
+-- The table of a disk of these blocks, or the rule of volumes that it breaks: 0 where it has fewer than 2 blocks or more than 16,384.
+abbrev pub table_on : List (List ℕ) → Result TableSeen ℕ
+table_on blocks = if is_from_to 2 16384 (length blocks) then table_read (reading (slice_index_or blocks 0 []) (length blocks)) else Err 0
+
+-- The files of the disk, and behind them those of the disks behind it.
+abbrev pub with_mounted : ℕ × List (List ℕ) → Result TableSeen ℕ → Result (List OpenedFile) Refusal → Result (List OpenedFile) Refusal
+with_mounted disk (Err rule) more = Err (refusal.Volume disk.0 rule)
+with_mounted disk (Ok table) (Err r) = Err r
+with_mounted disk (Ok table) (Ok files) = Ok (map (mounted_file disk) table.entries ++ files)
+
+-- The files that disks have as they are attached, disk by disk, each in the order of its table; or the first disk's rule that is broken.
+abbrev pub mounted_files : List (ℕ × List (List ℕ)) → Result (List OpenedFile) Refusal
+mounted_files [] = Ok []
+mounted_files (disk ∷ disks) = with_mounted disk (table_on disk.1) (mounted_files disks)
+
+-- The extents of those of the files that lie on a disk.
+abbrev pub extents_of_disk : ℕ → List FileInfo → List Extent
+extents_of_disk disk infos = flat_map (λ i. i.extents) (filter (λ i. i.disk == disk) infos)
+
+-- So many blocks from a block on are free.
+abbrev pub is_free_run : ℕ → List Extent → ℕ → ℕ → Bool
+is_free_run blocks extents pages start = list_all (is_free blocks extents) (range_with_len start pages)
+
+-- The least block from block 1 on from which so many blocks are free; none where there is none, or where the extents fill a table.
+abbrev pub place_for : ℕ → List Extent → ℕ → Option ℕ
+place_for blocks extents pages =
+    if nat_lt (length extents) MOST_EXTENTS then find (is_free_run blocks extents pages) (range_with_len 1 (blocks - 1)) else None
+
+-- A file that a line of the script gives, with one extent.
+abbrev pub new_file : List ℕ → Bool → ℕ → ℕ → List ℕ → ℕ → OpenedFile
+new_file name writable disk pages bytes start = record {
+  info = record { name = name; disk = disk; extents = record { start = start; pages = pages } ∷ []; length = length bytes; writable = writable };
+  bytes = bytes;
+}
+
+abbrev pub infos_of : List OpenedFile → List FileInfo
+infos_of files = map (λ f. f.info) files
+
+abbrev pub names_of : List OpenedFile → List (List ℕ)
+names_of files = map (λ f. f.info.name) files
+
+-- The bytes of the file of a number.
+abbrev pub opened_bytes_at : List OpenedFile → ℕ → List ℕ
+opened_bytes_at files k = slice_index_or (map (λ f. f.bytes) files) k []
+
+abbrev pub with_placed : List OpenedFile → (ℕ → OpenedFile) → Option ℕ → Result (List OpenedFile) Refusal
+with_placed files file None = Err (refusal.Rule 12)
+with_placed files file (Some start) = Ok (files ++ file start ∷ [])
+
+-- The files with that of a set-up line, if it gives one; or the rule that it breaks: there may be 64 files, its name has to be new, and there has
+-- to be a place for it.
+abbrev pub with_line_file : (ℕ → ℕ) → List OpenedFile → SetupAct → Result (List OpenedFile) Refusal
+with_line_file sizes files (given.File name writable disk pages bytes) =
+    if nat_le 64 (length files) then Err (refusal.Rule 10)
+    else if list_any (bytes_eq name) (names_of files) then Err (refusal.Rule 11)
+    else with_placed files (new_file name writable disk pages bytes) (place_for (sizes disk) (extents_of_disk disk (infos_of files)) pages)
+with_line_file sizes files a = Ok files
+
+abbrev pub with_line_files : (ℕ → ℕ) → Result (List OpenedFile) Refusal → List SetupLine → Result (List OpenedFile) Refusal
+with_line_files sizes (Err r) setup = Err r
+with_line_files sizes (Ok files) [] = Ok files
+with_line_files sizes (Ok files) (l ∷ setup) = with_line_files sizes (with_line_file sizes files l.act) setup
+
+-- At most 64 files.
+abbrev pub if_few : Result (List OpenedFile) Refusal → Result (List OpenedFile) Refusal
+if_few (Err r) = Err r
+if_few (Ok files) = if nat_lt 64 (length files) then Err (refusal.Rule 10) else Ok files
+
+-- The size of the disk of a number.
+abbrev pub size_held : List (ℕ × List (List ℕ)) → ℕ → ℕ
+size_held disks number = unwrap_or (option_map length (lookup (λ n. n == number) disks)) 0
+
+abbrev pub files_opened_on : List (ℕ × List (List ℕ)) → List SetupLine → Result (List OpenedFile) Refusal
+files_opened_on disks setup = with_line_files (size_held disks) (if_few (mounted_files disks)) setup
+
+-- THE FILES AS THEY ARE OPENED: those of the disks and then those of the script's lines; or the first set-up rule that is broken.
+abbrev pub opened_files : PlanSeen → (Spec → Option (List (List ℕ))) → Result (List OpenedFile) Refusal
+opened_files plan holds = files_opened_on (disks_held holds (disk_specs plan.setup)) plan.setup
+
+-- The records of the files that tables have, on the disks of these numbers.
+abbrev pub mounted_infos : List ℕ → List TableSeen → List FileInfo
+mounted_infos [] tables = []
+mounted_infos (n ∷ numbers) [] = []
+mounted_infos (n ∷ numbers) (t ∷ tables) = map (info_on n) t.entries ++ mounted_infos numbers tables
+
+-- How many blocks the disk of a number has, of disks with these numbers and sizes.
+abbrev pub size_among : List (ℕ × ℕ) → ℕ → ℕ
+size_among sizes number = unwrap_or (lookup (λ n. n == number) sizes) 0
+
+-- Where the rack tells what it holds for a disk by path, block 0 of that says this table.
+abbrev pub RackSays : (Spec → Option (List (List ℕ))) → Spec → TableSeen → Type 0
+RackSays holds (spec.Blank number blocks) table = Unit {0}
+RackSays holds (spec.Path number path) table = IfSome (holds (spec.Path number path)) (λ blocks. table_on blocks ≡ Ok table)
+
+-- The table that was read of the disk of a spec, of this number and size, as it was attached.
+pub record IsTableRead (holds : Spec → Option (List (List ℕ))) (s : Spec) (disk : ℕ × ℕ) (table : TableSeen) : Type 0 where
+  pub number : disk.0 ≡ spec_number s
+  pub some : 2 ≤ disk.1
+  pub few : disk.1 ≤ 16384
+  pub blocks : table.blocks ≡ disk.1
+  pub volume : IsVolumeTable table
+  pub told : RackSays holds s table
+
+-- So is each of these tables, of the disk at its place.
+abbrev pub AreTablesRead : (Spec → Option (List (List ℕ))) → List Spec → List (ℕ × ℕ) → List TableSeen → Type 0
+AreTablesRead holds [] [] [] = Unit {0}
+AreTablesRead holds (s ∷ specs) (d ∷ disks) (t ∷ tables) = IsTableRead holds s d t × AreTablesRead holds specs disks tables
+AreTablesRead holds specs disks tables = ⊥
+
+-- THE FILES OVER ANY DISKS, whether they tell or not: those of the tables that were read, and then those of the script's lines; or the rule from 10 to
+-- 12 that is broken. What hangs on telling is which tables these are, and the bytes of their files.
+pub record ComesTo (plan : PlanSeen) (holds : Spec → Option (List (List ℕ))) (sizes : List (ℕ × ℕ)) (files : Result (List OpenedFile) Refusal) : Type 0 where
+  pub tables : List TableSeen
+  pub found : List OpenedFile
+  pub read : AreTablesRead holds (disk_specs plan.setup) sizes tables
+  pub mounted : infos_of found ≡ mounted_infos (map (λ (d : ℕ × ℕ). d.0) sizes) tables
+  pub lines : with_line_files (size_among sizes) (if_few (Ok found)) plan.setup ≡ files
+
+-- The plan with the numbers of the files of its names.
+abbrev pub numbered_plan : List OpenedFile → PlanSeen → PlanSeen
+numbered_plan files plan = with_files (names_of files) plan
+
+-- A file of flat memory as it is opened: its tail is zeros.
+abbrev pub opened_flat_file : OpenedFile → File
+opened_flat_file f = file_at_opening f.info.length f.info.disk f.info.extents f.info.writable f.bytes
+
+-- The processes without a parent, by the parents of the processes from number p on.
+abbrev pub top_processes : ℕ → List ℕ → List ℕ
+top_processes p [] = []
+top_processes p (parent ∷ parents) = if parent == 0 then p ∷ top_processes (p + 1) parents else top_processes (p + 1) parents
+
+-- FLAT MEMORY AS THE PROCESSES FIND IT: the swap slots, the disks of these numbers and sizes, these files, and each top process with an empty space.
+abbrev pub opening_flat : PlanSeen → List (ℕ × ℕ) → List OpenedFile → Flat
+opening_flat plan sizes files =
+    flat_at_opening (amounts_of plan.setup).slots (finite.from_entries sizes) (map opened_flat_file files) (top_processes 1 plan.parents)

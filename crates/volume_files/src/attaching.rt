@@ -1,0 +1,188 @@
+//! The disks are attached, and their tables read.
+ghost use Rattle.std.specs.Prelude.{◌≡◌, ◌≤◌, ◌<◌, ◌+◌, [], map, option_map, length, None, IfOk, IfErr, OnErr, vec_capacity};
+ghost use Rattle.vm_script.specs.Rules.{amounts_of, broken_rule};
+ghost use Rattle.volume_files.specs.Attached.{AreAttached, HasRooms, StopsEarly, attached_seen};
+ghost use Rattle.volume_files.specs.Handed.{IsSwapAsGiven, IsSwapFor, handed_count, swap_count};
+ghost use Rattle.volume_files.specs.Mounting.{HoldSame, UngivenCause};
+
+use crate::mounting::mount_all;
+use crate::stops::{HandedBack, OpenStop};
+use block_device::{AttachFault, Disk, Rack, Spec, Unopened};
+use std::alloc::{AllocError, Global};
+use vm_script::{Plan, amounts_of};
+use volume_format::Table;
+
+/// The disks of a run before its processes run, with the tables of their files.
+#[derive(Drop)]
+pub struct Attached<D: Disk> {
+    /// In rising number.
+    pub disks: Vec<Unopened<D>>,
+    /// The table of each disk.
+    pub tables: Vec<Table>,
+    pub swap: Option<Unopened<D>>,
+    // Room for the disks to be started with, and to be handed back.
+    pub numbered: Vec<(u32, D)>,
+    pub back: Vec<D>,
+}
+
+// No disks yet, with room for eight in each list.
+fn take_rooms<D: Disk>(alloc: Global) -> Result<Attached<D>, AllocError>
+    ensures disks { IfOk result (λ a. (a.disks.items ≡ []) × (8 ≤ vec_capacity a.disks)) }
+    ensures tables { IfOk result (λ a. (a.tables.items ≡ []) × (8 ≤ vec_capacity a.tables)) }
+    ensures swap { IfOk result (λ a. a.swap ≡ None) }
+    ensures numbered { IfOk result (λ a. (a.numbered.items ≡ [])
+        × (8 ≤ vec_capacity a.numbered)) }
+    ensures back { IfOk result (λ a. (a.back.items ≡ []) × (8 ≤ vec_capacity a.back)) }
+{
+    Ok(Attached {
+        disks: Vec::with_capacity(alloc, 8)?,
+        tables: Vec::with_capacity(alloc, 8)?,
+        swap: None,
+        numbered: Vec::with_capacity(alloc, 8)?,
+        back: Vec::with_capacity(alloc, 8)?,
+    })
+}
+
+// Attaches the swap disk, with a block for each slot, where there are slots.
+fn attach_swap<R: Rack>(slots: u32, rack: &mut R) -> Result<Option<Unopened<R::D>>, OpenStop>
+    ensures ok { IfOk result (λ swap. IsSwapFor slots (option_map (λ d. R.D.seen d.disk) swap)) }
+    ensures blank { IfOk result (λ swap.
+        IsSwapAsGiven slots (option_map (λ d. R.D.seen d.disk) swap)) }
+    ensures err { IfErr result (UngivenCause 8 (R.seen rack.old).faults (R.seen rack.new).faults) }
+    ensures slots { IfErr result (λ _. 0 < slots) }
+    // The rack counts the disk.
+    ensures counted { IfOk result (λ swap. (R.seen rack.new).attached
+        ≡ (R.seen rack.old).attached + swap_count swap) }
+    ensures uncounted { OnErr result ((R.seen rack.new).attached ≡ (R.seen rack.old).attached) }
+    ensures same { HoldSame (R.seen rack.new).holds (R.seen rack.old).holds }
+    ensures later { (R.seen rack.old).faults ≤ (R.seen rack.new).faults }
+{
+    if slots == 0 {
+        return Ok(None);
+    }
+    let spec = Spec::Blank {
+        number: 8,
+        blocks: slots,
+    };
+    match Unopened::attach(rack, &spec) {
+        Ok(disk) => Ok(Some(disk)),
+        Err(AttachFault::Failed(fault)) => Err(OpenStop::Failed(fault)),
+        Err(AttachFault::Memory) => Err(OpenStop::Memory),
+    }
+}
+
+/// The disks as they are, in a list that has room for them. It takes no memory.
+pub fn into_disks<D: Disk>(disks: Vec<Unopened<D>>, back: Vec<D>) -> Vec<D>
+    requires none { back.items ≡ [] }
+    requires room { length disks.items ≤ vec_capacity back }
+    ensures { result.items ≡ map (λ d. d.disk) disks.items }
+{
+    let mut back = back;
+    for disk in disks {
+        back.push_reserved(disk.into_disk());
+    }
+    back
+}
+
+/// The swap disk as it is.
+pub fn into_swap<D: Disk>(swap: Option<Unopened<D>>) -> Option<D>
+    ensures { result ≡ option_map (λ d. d.disk) swap }
+{
+    match swap {
+        Some(disk) => Some(disk.into_disk()),
+        None => None,
+    }
+}
+
+// The disks that were attached, handed back. It takes no memory.
+pub(crate) fn hand_back<D: Disk>(why: OpenStop, attached: Attached<D>) -> HandedBack<D>
+    requires none { attached.back.items ≡ [] }
+    requires room { length attached.disks.items ≤ vec_capacity attached.back }
+    // The disks come back.
+    ensures why { result.why ≡ why }
+    ensures disks { result.disks.items ≡ map (λ d. d.disk) attached.disks.items }
+    ensures swap { result.swap ≡ option_map (λ d. d.disk) attached.swap }
+    ensures count { handed_count result.disks.items result.swap
+        ≡ handed_count attached.disks.items attached.swap }
+{
+    HandedBack {
+        why,
+        disks: into_disks(attached.disks, attached.back),
+        swap: into_swap(attached.swap),
+    }
+}
+
+// Attaches the disks that set-up lines give into rooms that are empty.
+fn attach_within<R: Rack>(
+    alloc: Global,
+    plan: &Plan,
+    rack: &mut R,
+    rooms: Attached<R::D>,
+) -> Result<Attached<R::D>, HandedBack<R::D>>
+    requires disks { (rooms.disks.items ≡ []) × (8 ≤ vec_capacity rooms.disks) }
+    requires tables { (rooms.tables.items ≡ []) × (8 ≤ vec_capacity rooms.tables) }
+    requires swap { rooms.swap ≡ None }
+    requires numbered { (rooms.numbered.items ≡ []) × (8 ≤ vec_capacity rooms.numbered) }
+    requires back { (rooms.back.items ≡ []) × (8 ≤ vec_capacity rooms.back) }
+    // As `attach`.
+    ensures ok { IfOk result (λ a. AreAttached plan.now (R.seen rack.old).holds
+        (attached_seen R.D.seen a)) }
+    ensures rooms { IfOk result HasRooms }
+    ensures err { IfErr result (StopsEarly plan.now (R.seen rack.old).holds
+        (R.seen rack.old).faults (R.seen rack.new).faults R.D.seen) }
+    // Each disk that the rack attached is there, or is handed back.
+    ensures kept { IfOk result (λ a. (R.seen rack.new).attached
+        ≡ (R.seen rack.old).attached + handed_count a.disks.items a.swap) }
+    ensures back { IfErr result (λ s. (R.seen rack.new).attached
+        ≡ (R.seen rack.old).attached + handed_count s.disks.items s.swap) }
+    ensures later { (R.seen rack.old).faults ≤ (R.seen rack.new).faults }
+{
+    let mut attached = rooms;
+    let swap = match attach_swap(amounts_of(plan.setup()).slots, rack) {
+        Ok(swap) => swap,
+        Err(how) => return Err(hand_back(how, attached)),
+    };
+    attached.swap = swap;
+    match mount_all(
+        alloc,
+        plan.setup(),
+        rack,
+        &mut attached.disks,
+        &mut attached.tables,
+    ) {
+        Ok(()) => Ok(attached),
+        Err(how) => Err(hand_back(how, attached)),
+    }
+}
+
+/// Attaches the swap disk, where there are slots, and then the disks in rising number, and reads the table of each.
+///
+/// An error is want of memory, a fault of the rack or of a disk, or a disk whose size or table breaks a rule; it has the disks
+/// that were attached so far.
+pub fn attach<R: Rack>(
+    alloc: Global,
+    plan: &Plan,
+    rack: &mut R,
+) -> Result<Attached<R::D>, HandedBack<R::D>>
+    requires { broken_rule plan.now ≡ None }
+    ensures ok { IfOk result (λ a. AreAttached plan.now (R.seen rack.old).holds
+        (attached_seen R.D.seen a)) }
+    ensures rooms { IfOk result HasRooms }
+    ensures err { IfErr result (StopsEarly plan.now (R.seen rack.old).holds
+        (R.seen rack.old).faults (R.seen rack.new).faults R.D.seen) }
+    // Each disk that the rack attached is there, or is handed back.
+    ensures kept { IfOk result (λ a. (R.seen rack.new).attached
+        ≡ (R.seen rack.old).attached + handed_count a.disks.items a.swap) }
+    ensures back { IfErr result (λ s. (R.seen rack.new).attached
+        ≡ (R.seen rack.old).attached + handed_count s.disks.items s.swap) }
+    ensures later { (R.seen rack.old).faults ≤ (R.seen rack.new).faults }
+{
+    match take_rooms(alloc) {
+        Ok(rooms) => attach_within(alloc, plan, rack, rooms),
+        Err(_) => Err(HandedBack {
+            why: OpenStop::Memory,
+            disks: Vec::new(alloc),
+            swap: None,
+        }),
+    }
+}
