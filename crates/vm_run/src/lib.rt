@@ -13,8 +13,8 @@ mod playing;
 mod reading;
 mod ready;
 mod reporting;
-mod run;
+mod running;
 mod starting;
 
 pub use outcome::{Outcome, RunFault};
-pub use run::run;
+pub use running::run;

@@ -1,7 +1,7 @@
 use Rattle.std.proofs.Common.{◌≡◌, ◌+◌, ◌∙◌, ℕ, ap, map, refl, sym}
 use Rattle.std.specs.Prelude.{string_bytes}
 use Rattle.vm_run.specs.Asked.{given_of}
-use Rattle.vm_run.proofs.run.course.Goals as goal
+use Rattle.vm_run.proofs.running.course.Goals as goal
 
 pub returns-in-Ok-clause-ends : goal.returns-in-Ok-clause-ends
 returns-in-Ok-clause-ends g c = λ st ft.

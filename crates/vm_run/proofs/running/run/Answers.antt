@@ -5,7 +5,7 @@ use Rattle.volume_files.specs.Handed.{handed_count}
 use Rattle.volume_files.proofs.DiskCounts.{count-as, count-made}
 use Rattle.vm_run.proofs.LastLines.{ends-so}
 use Rattle.vm_run.proofs.Completes.{completes}
-use Rattle.vm_run.proofs.run.run.Goals as goal
+use Rattle.vm_run.proofs.running.run.Goals as goal
 
 pub returns-clause-ends : goal.returns-clause-ends
 returns-clause-ends g c =

@@ -12,8 +12,8 @@ use Rattle.block_device.specs.declared.numbered.NumberedDisk.{NumberedDisk}
 use Rattle.volume_files.proofs.DiskCounts.{count-as, count-handed, count-served}
 use Rattle.vm_run.proofs.Returned.{swap-serves-still}
 use Rattle.vm_run.proofs.RunReady.{first-left, names-left, placed-as, ready-ends, start-lacks}
-use Rattle.vm_run.proofs.run.run_ready.Given as Given
-use Rattle.vm_run.proofs.run.run_ready.Goals as goal
+use Rattle.vm_run.proofs.running.run_ready.Given as Given
+use Rattle.vm_run.proofs.running.run_ready.Goals as goal
 
 pub start-requires-clause-placed : goal.start-requires-clause-placed
 start-requires-clause-placed g c =
