@@ -21,7 +21,7 @@ fn told_of(plan: &Plan) -> Told {
     }
 }
 
-fn told(alloc: Global, text: &str) -> Result<Option<Told>, AllocError> {
+fn make_told(alloc: Global, text: &str) -> Result<Option<Told>, AllocError> {
     match parse(alloc, text.as_bytes())? {
         Ok(plan) => Ok(Some(told_of(&plan))),
         Err(_) => Ok(None),
@@ -30,7 +30,7 @@ fn told(alloc: Global, text: &str) -> Result<Option<Told>, AllocError> {
 
 // The first rule that a script breaks, 0 where it breaks none, and 99 where it isn't read.
 fn rule_of(alloc: Global, text: &str) -> Result<u32, AllocError> {
-    match told(alloc, text)? {
+    match make_told(alloc, text)? {
         Some(told) => Ok(told.rule),
         None => Ok(99),
     }
@@ -105,7 +105,7 @@ fn processes_and_entries_are_counted(rt: HostRuntime) -> Result<(), Fail> {
 
 // How many entries the second line of a block may make.
 fn parts_of(alloc: Global, text: &str) -> Result<u32, AllocError> {
-    match told(alloc, text)? {
+    match make_told(alloc, text)? {
         Some(told) => Ok(told.parts.unwrap_or(99)),
         None => Ok(99),
     }
