@@ -1,12 +1,16 @@
 #!/usr/bin/env python3
-"""Draws the pictures of docs/: run it in this folder. Each is one SVG that follows the reader's light or dark mode."""
+"""Draws the pictures of docs/, each one SVG that follows the reader's light or dark mode: `make.py [FOLDER]`. layers.svg is made of crates.txt."""
+import itertools, os, random, sys
 from html import escape
+
+HERE = os.path.dirname(os.path.abspath(__file__))
 
 STYLE = """<style>
 svg { font: 14px sans-serif; }
 .box { fill: #f4f6f8; stroke: #3a4a5a; stroke-width: 1.3; }
 .soft { fill: none; stroke: #8a99a8; stroke-dasharray: 5 4; }
 .line { stroke: #3a4a5a; stroke-width: 1.3; fill: none; marker-end: url(#tip); }
+.bare { marker-end: none; }
 .tip { fill: #3a4a5a; }
 text { fill: #16202a; } .small { font-size: 12px; fill: #4a5a6a; }
 @media (prefers-color-scheme: dark) {
@@ -20,7 +24,7 @@ text { fill: #e6edf3; } .small { fill: #a9bac9; }
 
 class Picture:
     def __init__(self, name, title, width, height):
-        self.name, self.parts = name, []
+        self.name, self.width, self.parts = name, width, []
         self.head = (f'<svg xmlns="http://www.w3.org/2000/svg" viewBox="0 0 {width} {height}" role="img" aria-label="{escape(title)}">\n'
                      f'<title>{escape(title)}</title>\n{STYLE}')
 
@@ -39,66 +43,96 @@ class Picture:
             x, y = at or ((x1 + x2) / 2, (y1 + y2) / 2 - 6)
             self.text(x, y, words, 'small', anchor)
 
+    def path(self, way, tip=True):
+        self.parts.append(f'<path class="{"line" if tip else "line bare"}" d="{way}"/>')
+
     def save(self):
-        with open(self.name, 'w') as file:
+        with open(os.path.join(sys.argv[1] if len(sys.argv) > 1 else HERE, self.name), 'w') as file:
             file.write(self.head + '\n' + '\n'.join(self.parts) + '\n</svg>\n')
 
 
 def page_life():
-    p = Picture('page-life.svg', "A page's life", 820, 380)
-    p.box(30, 150, 130, 56, 'free frame', 'holds nothing')
-    p.box(340, 30, 150, 56, 'home', 'in use')
-    p.box(340, 270, 150, 56, 'cached', 'home, still named')
-    p.box(650, 30, 140, 56, 'away', 'with a flight')
-    p.box(650, 270, 140, 56, 'on its disk', 'or blank: zeros')
-    p.arrow(160, 165, 338, 70, 'filled with zeros, or with a copy', (30, 100), 'start')
-    p.arrow(490, 48, 648, 48, 'begin of a push without a free frame', (570, 22))
-    p.arrow(648, 70, 492, 70, 'end', (570, 90))
-    p.arrow(400, 86, 400, 268, 'release', (392, 180), 'end')
-    p.arrow(430, 268, 430, 88, 'reclaim', (438, 180), 'start')
-    p.arrow(340, 290, 162, 200, 'taken for another page', (215, 290), 'end')
-    p.arrow(490, 298, 648, 298, 'its frame is taken', (570, 318))
-    p.arrow(720, 268, 720, 88, 'begin of a read', (728, 180), 'start')
-    p.arrow(650, 82, 162, 182, 'given up while away (gone): free at the end', (446, 150), 'start')
-    p.text(410, 365, 'a push from a snapshot leaves the page home: only the copy goes away', 'small')
+    p = Picture('page-life.svg', "A page's life", 860, 400)
+    p.box(30, 165, 150, 56, 'in no frame', 'on its disk, or blank')
+    p.box(370, 70, 150, 56, 'home', 'in its frame, in use')
+    p.box(370, 285, 150, 56, 'cached', 'home, to be had')
+    p.box(680, 70, 150, 56, 'moving', 'its frame is away')
+    p.box(680, 285, 150, 56, 'given up', 'its frame comes free', kind='soft')
+    p.path('M105 165L105 36L755 36L755 68')
+    p.text(430, 28, 'begin of a read: a free or cached frame is taken', 'small')
+    p.arrow(180, 182, 368, 104, 'fill_zero, copy', (262, 128), 'end')
+    p.arrow(520, 88, 678, 88, 'begin of a push *', (599, 80))
+    p.arrow(680, 110, 522, 110, 'end', (599, 127))
+    p.arrow(425, 126, 425, 283, 'release', (417, 210), 'end')
+    p.arrow(465, 285, 465, 128, 'reclaim', (473, 210), 'start')
+    p.arrow(368, 313, 182, 213, 'its frame is taken', (268, 290), 'end')
+    p.text(268, 306, 'for another page', 'small', 'end')
+    p.arrow(520, 122, 678, 290, 'abort', (580, 220), 'end')
+    p.arrow(520, 313, 678, 313, 'abort')
+    p.arrow(755, 126, 755, 283, 'abort: at the end', (747, 184), 'end')
+    p.text(747, 200, 'of its transfer', 'small', 'end')
+    p.text(430, 368, '* where no frame is free or cached; else a copy of the page goes out, and the page stays home', 'small')
+    p.text(430, 388, 'a read that fails ends in no frame; a push that fails ends home and modified', 'small')
     p.save()
 
 
 def fault():
-    p = Picture('fault.svg', 'A load on its way', 820, 330)
-    p.box(20, 40, 120, 50, 'load', 'space, address')
-    p.box(175, 40, 140, 50, 'segment?', 'by order; or a signal')
-    p.arrow(140, 65, 173, 65)
-    p.box(350, 40, 140, 50, 'translation?', 'HAT, by hash')
-    p.arrow(315, 65, 348, 65)
-    p.box(650, 40, 150, 50, 'word of the frame', 'the reply')
-    p.arrow(490, 65, 648, 65, 'yes: a hit')
-    p.box(345, 140, 150, 50, 'name of the page', 'file page or slot')
-    p.arrow(420, 90, 420, 138, 'no', (430, 118), 'start')
-    p.box(570, 140, 130, 50, 'frame?', 'page hash')
-    p.arrow(495, 165, 568, 165)
-    p.arrow(670, 138, 710, 92, 'yes: loaded', (708, 122), 'start')
-    p.box(570, 240, 130, 50, 'blank?', 'zeros are filled')
-    p.arrow(635, 190, 635, 238, 'no', (645, 218), 'start')
-    p.box(310, 240, 190, 50, 'leave the lock, read', 'enter again, look anew')
-    p.arrow(570, 265, 502, 265, 'no')
-    p.parts.append('<path class="line" d="M310 265L80 265L80 92"/>')
-    p.text(195, 258, 'again', 'small')
+    p = Picture('fault.svg', 'A load or a store on its way', 830, 590)
+    row = [(30, 96, 'load, store', 'address'), (146, 90, 'aligned?'), (256, 90, 'segment?'), (366, 100, 'protection?'),
+           (486, 110, 'translation?', 'HAT, by hash'), (680, 130, 'word', 'of the frame')]
+    for x, w, *lines in row:
+        p.box(x, 30, w, 46, *lines)
+    for (x, w, *_), (to, *_) in zip(row, row[1:5]):
+        p.arrow(x + w, 53, to - 2, 53)
+    p.arrow(596, 53, 678, 53, 'yes: a hit')
+    for (x, w, *_), words in zip(row[1:4], ('no: BUS align', 'no: SEGV nomap', 'no: SEGV prot')):
+        p.arrow(x + w / 2, 76, x + w / 2, 100)
+        p.text(x + w / 2, 116, words, 'small')
+    p.arrow(541, 76, 541, 128, 'none that lets it', (549, 107), 'start')
+    p.box(471, 130, 140, 46, 'shows a page?', "the segment's driver")
+    p.arrow(471, 153, 428, 153)
+    p.text(422, 157, 'no: BUS past', 'small', 'end')
+    p.arrow(541, 176, 541, 210, 'yes', (549, 198), 'start')
+    p.box(471, 212, 140, 46, 'where is it?', 'by name: page hash')
+    for x, w, *lines in [(30, 150, 'moving', 'with a seat'), (225, 150, 'on its disk', 'a file, or swap'),
+                         (410, 150, 'blank', 'never written'), (650, 160, 'home', 'in a frame')]:
+        p.box(x, 310, w, 46, *lines)
+        p.arrow(541 + (x + w / 2 - 541) * 0.16, 258, x + w / 2, 308)
+    p.arrow(730, 310, 730, 260)
+    p.box(650, 190, 160, 68, 'translation loaded', 'a store to a private', 'place copies the page')
+    p.arrow(745, 190, 745, 78)
+    p.box(225, 400, 335, 46, 'a frame to be had?', 'free, or cached, or the victim is clean')
+    p.arrow(300, 356, 300, 398)
+    p.arrow(485, 356, 485, 398)
+    p.path('M560 423L730 423L730 358')
+    p.text(645, 415, 'yes, blank: zeros', 'small')
+    p.box(30, 490, 150, 46, 'wait for it', 'outside the lock')
+    p.box(225, 490, 150, 46, 'read the page', 'outside the lock')
+    p.box(410, 490, 150, 46, 'push the victim', 'outside the lock')
+    p.arrow(105, 356, 105, 488)
+    p.arrow(300, 446, 300, 488, 'yes, on its disk', (308, 472), 'start')
+    p.arrow(485, 446, 485, 488, 'no: the victim is modified', (493, 472), 'start')
+    p.path('M105 536L105 562', tip=False)
+    p.path('M300 536L300 562', tip=False)
+    p.path('M485 536L485 562L12 562L12 53L28 53')
+    p.text(295, 582, 'the same call again, from its beginning', 'small')
     p.save()
 
 
 def cell():
-    p = Picture('cell.svg', 'A cell and what it shows', 820, 300)
-    p.box(30, 60, 250, 150, kind='box')
-    p.text(155, 50, 'cell of a page of a process')
+    p = Picture('cell.svg', 'A cell and what it shows', 820, 320)
+    p.box(30, 60, 250, 160)
+    p.text(155, 48, 'cell of a page of a process')
     for i, words in enumerate(['protection, at most', 'shared or private', 'object: file, zero object, new zeros', 'index: page of the object', 'own page, or none']):
-        p.text(45, 90 + 26 * i, words, 'small', 'start')
-    p.box(480, 40, 300, 56, 'own page', 'private copy, or private zero memory')
-    p.box(480, 160, 300, 56, "object's page at the index", 'others see stores here')
-    p.arrow(280, 195, 478, 70, 'has an own page: shows it', (455, 62), 'end')
-    p.arrow(280, 200, 478, 190, 'has none: shows the object', (470, 222), 'end')
-    p.arrow(630, 158, 630, 98, 'first private store copies', (640, 132), 'start')
-    p.text(410, 275, 'no such page in the object: BUS past', 'small')
+        p.text(45, 92 + 28 * i, words, 'small', 'start')
+    p.box(490, 30, 300, 56, 'own page', 'private copy, or private zero memory')
+    p.box(490, 140, 300, 56, "object's page at the index", 'others see stores here')
+    p.box(490, 240, 300, 56, 'nothing', 'a signal: BUS past', kind='soft')
+    p.arrow(280, 100, 488, 58, 'has an own page', (376, 66))
+    p.arrow(280, 156, 488, 167, 'has none', (376, 152))
+    p.arrow(280, 205, 488, 266, 'has none, and its file', (352, 262))
+    p.text(352, 278, 'ends before that page', 'small')
+    p.arrow(640, 140, 640, 88, 'first private store copies', (650, 118), 'start')
     p.save()
 
 
@@ -111,7 +145,8 @@ def turn():
     p.arrow(328, 82, 202, 82, 'leave', (264, 100))
     p.parts.append('<path class="line" d="M115 38C200 0 620 0 705 38"/>')
     p.text(410, 32, 'the turn word names another seat', 'small')
-    for i, (x, words) in enumerate([(30, 'take the turn'), (190, 'state out'), (350, 'one event'), (510, 'tell length, note'), (670, 'state in, free')]):
+    steps = [(30, 'take the turn'), (190, 'state out'), (350, 'one event'), (510, 'tell length, note'), (670, 'state in, free')]
+    for i, (x, words) in enumerate(steps):
         p.box(x, 160, 120, 44, words)
         if i:
             p.arrow(x - 40, 182, x - 2, 182)
@@ -119,25 +154,130 @@ def turn():
     p.save()
 
 
+SAYS = {
+    'sunvm': 'the program', 'vm_script': 'plans', 'vm_report': 'texts', 'volume_format': 'block 0', 'kernel_lock': 'one holder', 'vm_core': 'events',
+    'fault_entry': 'loads, stores', 'mmap_calls': 'mappings', 'proc_calls': 'exit', 'seg_vn': 'segments', 'seg_ops': 'small steps',
+    'vm_world': "state's meaning", 'page_store': 'pages by name', 'anon_slots': 'counts', 'anon_map': 'arrays', 'hat_layer': 'translations',
+    'addr_space': 'pieces', 'core_arena': 'frames', 'page_hash': 'names', 'page_lists': 'free, cached', 'page_lock': 'holders, bits',
+    'page_clock': 'two hands', 'disk_file': 'a file as disk', 'disk_stripe': 'turn by turn', 'disk_mirror': 'each on both',
+    'block_device': 'disks, streams', 'hash_chains': 'chains', 'swap_slots': 'least free', 'flat_model': 'what it means',
+    'flat_state': 'kept plainly', 'vnode_files': 'extents', 'vm_types': 'calls, replies', 'zero_objects': 'by number',
+    'volume_files': 'mounted files', 'command_line': 'words', 'vm_run': 'one run', 'joined_disk': 'two as one',
+}
+WIDE, HIGH, GAP, STEP = 116, 46, 12, 88
+# of the crates that sunvm's line names these are for its tests alone
+TESTED = {'flat_state'}
+
+
+def stands_on():
+    """Each crate that isn't of tests or timed, with those that it stands on, less those that one of these brings along; and the program's."""
+    lines = [line.split('#')[0].split(':') for line in open(os.path.join(HERE, '../../crates.txt'))]
+    all_of = {line[0].split()[0]: line[1].split() for line in lines if len(line) > 1}
+    all_of = {crate: [it for it in below if it in all_of and not (crate == 'sunvm' and it in TESTED)]
+              for crate, below in all_of.items() if not crate.startswith('bench_') and not crate.endswith('_trials')}
+
+    def reach(crate):
+        return set(all_of[crate]).union(*map(reach, all_of[crate]))
+
+    return {crate: [it for it in below if not any(it in reach(other) for other in below)] for crate, below in all_of.items()}, reach('sunvm') | {'sunvm'}
+
+
+def rows_of(below, program):
+    """The row of each crate: one under the lowest that stands on it; one that nothing stands on yet is one over the highest under it."""
+    above = {crate: [it for it in below if crate in below[it] and it in program] for crate in below}
+    rows = {}
+
+    def row(crate):
+        if crate not in rows:
+            rows[crate] = 1 + max(map(row, above[crate]), default=-1)
+        return rows[crate]
+
+    for crate in filter(program.__contains__, below):
+        row(crate)
+    for crate in below:
+        if crate not in program:
+            rows[crate] = min((row(it) for it in below[crate]), default=1) - 1
+    return rows
+
+
+def wide(at):
+    return WIDE if isinstance(at, str) else 8
+
+
+def places(below, rows):
+    """The middle of each crate, and of each line where it crosses a row: of some orders that one with the fewest crossings and the shortest lines."""
+    joins, order = [], [[] for _ in range(max(rows.values()) + 1)]
+    for crate, row in rows.items():
+        order[row].append(crate)
+    for crate, under in below.items():
+        for to in under:
+            way = [crate, *((crate, to, row) for row in range(rows[crate] + 1, rows[to])), to]
+            joins += [(row, *two) for row, two in enumerate(zip(way, way[1:]), rows[crate])]
+            for at in way[1:-1]:
+                order[at[2]].append(at)
+    best = min((settled(order, joins, random.Random(seed)) for seed in range(60)), key=lambda x: cost(x, joins))
+    left = min(best[at] - wide(at) / 2 for at in best)
+    return {at: round(it - left + 15, 1) for at, it in best.items()}
+
+
+def settled(order, joins, chance):
+    """From an order by chance, each row in turn is put near what it is joined to."""
+    near = {at: [] for row in order for at in row}
+    for _, one, other in joins:
+        near[one].append(other)
+        near[other].append(one)
+    x = {at: chance.random() * 900 for row in order for at in row}
+    for turn in range(40):
+        for row in order if turn % 2 else order[::-1]:
+            wish = {at: sum(x[it] for it in near[at]) / len(near[at]) if near[at] else x[at] for at in row}
+            spread(sorted(row, key=wish.get), wish, x)
+    return x
+
+
+def cost(x, joins):
+    crossings = sum((x[a] - x[c]) * (x[b] - x[d]) < 0 for (row, a, b), (other, c, d) in itertools.combinations(joins, 2) if row == other)
+    return 400 * crossings + sum(abs(x[a] - x[b]) for _, a, b in joins) + 2 * (max(x.values()) - min(x.values()))
+
+
+def spread(row, wish, x):
+    """Puts a row's places at their wishes, as near as they can be without one over another."""
+    groups = []
+    for at in row:
+        groups.append([[at], wish[at]])
+        while len(groups) > 1:
+            (first, one), (second, other) = groups[-2:]
+            need = (width(first) + width(second)) / 2 + GAP
+            if other - one >= need:
+                break
+            middle = (one * len(first) + other * len(second)) / (len(first) + len(second))
+            groups[-2:] = [[first + second, middle]]
+    for members, middle in groups:
+        at = middle - width(members) / 2
+        for it in members:
+            x[it] = at + wide(it) / 2
+            at += wide(it) + GAP
+
+
+def width(members):
+    return sum(map(wide, members)) + GAP * (len(members) - 1)
+
+
 def layers():
-    p = Picture('layers.svg', 'The layers', 820, 760)
-    rows = [
-        (30, [('sunvm', 'run, main')]),
-        (110, [('vm_script', 'plans'), ('vm_report', 'texts'), ('volume_format', 'block 0'), ('kernel_lock', 'one state, one history')]),
-        (220, [('vm_core', 'events')]),
-        (296, [('fault_entry', 'loads, stores'), ('mmap_calls', 'mappings'), ('proc_calls', 'exit')]),
-        (372, [('seg_vn', 'segments'), ('seg_ops', 'small steps'), ('vm_world', 'what the state means')]),
-        (448, [('page_store', 'pages by name'), ('anon_slots', 'counts'), ('anon_map', 'arrays'), ('hat_layer', 'translations'), ('addr_space', 'pieces')]),
-        (524, [('core_arena', 'frames'), ('page_hash', 'names'), ('page_lists', 'free, cached'), ('page_lock', 'holders, bits'), ('page_clock', 'two hands')]),
-        (600, [('disk_file', 'a real disk'), ('block_device', 'disks, streams'), ('hash_chains', 'chains of places'), ('swap_slots', 'least free')]),
-        (676, [('flat_model', 'what it all means'), ('vnode_files', 'extents'), ('vm_types', 'calls, replies')]),
-    ]
-    for y, crates in rows:
-        w = min(150, (790 - 10 * (len(crates) - 1)) / len(crates))
-        left = (820 - w * len(crates) - 10 * (len(crates) - 1)) / 2
-        for i, (name, words) in enumerate(crates):
-            p.box(left + i * (w + 10), y, w, 52, name, words)
-    p.text(410, 205, 'sunvm stands on all of them but kernel_lock, which waits for threads', 'small')
+    below, program = stands_on()
+    rows = rows_of(below, program)
+    x = places(below, rows)
+    top = lambda row: 20 + STEP * row
+    p = Picture('layers.svg', 'The crates, and what each stands on', round(max(x.values()) + WIDE / 2 + 15), top(max(rows.values())) + HIGH + 44)
+    for crate, under in below.items():
+        for to in under:
+            way = [f'{x[crate]} {top(rows[crate]) + HIGH}']
+            for row in range(rows[crate] + 1, rows[to]):
+                at = x[crate, to, row]
+                way += [f'{at} {top(row)}', f'{at} {top(row) + HIGH}']
+            p.path('M' + 'L'.join([*way, f'{x[to]} {top(rows[to]) - 2}']))
+    for crate, row in rows.items():
+        p.box(x[crate] - WIDE / 2, top(row), WIDE, HIGH, crate, *filter(None, [SAYS.get(crate)]), kind='box' if crate in program else 'soft')
+    p.text(p.width / 2, top(max(rows.values())) + HIGH + 28, 'an arrow leads to what a crate stands on; dashed: not in the program', 'small')
     p.save()
 
 
