@@ -357,10 +357,10 @@ fn look_at(rt: &impl Wait, alloc: Global, cases: &[Case]) -> Result<(), Fail> {
         let name = case.name;
         if (left.status, left.fault) != (case.status, case.fault) {
             let (status, fault) = (left.status, left.fault);
-            return Err(Fail::new(&format!(in alloc; "{name}: {status}, {fault}")?));
+            return Err(Fail::new(format_args!("{name}: {status}, {fault}")));
         }
         if left.text.as_slice() != case.text {
-            return Err(Fail::new(&format!(in alloc; "{name}: the text")?));
+            return Err(Fail::new(format_args!("{name}: the text")));
         }
     }
     Ok(())
@@ -473,8 +473,8 @@ fn hear(rt: &impl Wait, alloc: Global, scripts: &[Broken]) -> Result<(), Fail> {
     for broken in scripts {
         let left = run_trial(rt, alloc, &[], broken.script, &NEVER, &[])?;
         if left.status != broken.status || left.text.as_slice() != broken.text {
-            let status = left.status;
-            return Err(Fail::new(&format!(in alloc; "{status} for {:?}", broken.text)?));
+            let (status, text) = (left.status, broken.text);
+            return Err(Fail::new(format_args!("{status} for {text:?}")));
         }
     }
     Ok(())
