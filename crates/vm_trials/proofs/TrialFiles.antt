@@ -4,6 +4,7 @@ use Rattle.std.specs.Prelude.{IsSome, is_some, slice_get, slice_index, unwrap_or
 use Rattle.std.specs.Ordering.{nat_cmp}
 use Rattle.std.specs.FinMap as finite
 use Rattle.std.specs.List.{flat_map}
+use Rattle.std.specs.Option.{option_map_or}
 use Rattle.std.proofs.lemmas.Bool.{ne_eqb}
 use Rattle.std.proofs.lemmas.List.Elements.{All-nil, All-cons}
 use Rattle.std.proofs.lemmas.List.Sums.{count_by-le-length}
@@ -112,9 +113,9 @@ module _ (a b : List ℕ) where
     some = some-extent;
   })
     where
-      each-set : (place number : ℕ) (disk : DiskSeen) → slice_get ((0, seen d) ∷ (1, seen e) ∷ []) place ≡ Some (number, disk) → IsSome (finite.get trial_disks.disks number)
-      each-set zero number disk at = subst (λ (n : ℕ). IsSome (finite.get trial_disks.disks n)) (let z : Some (0, seen d) ≡ Some (number, disk) = at in cc) (ap is_some first-set)
-      each-set (suc zero) number disk at = subst (λ (n : ℕ). IsSome (finite.get trial_disks.disks n)) (let z : Some (1, seen e) ≡ Some (number, disk) = at in cc) (ap is_some second-set)
+      each-set : (place number : ℕ) (disk : DiskSeen) → slice_get {X = ℕ × DiskSeen} ((0, seen d) ∷ (1, seen e) ∷ []) place ≡ Some (number, disk) → IsSome (finite.get trial_disks.disks number)
+      each-set zero number disk at = subst (λ (n : ℕ). IsSome (finite.get trial_disks.disks n)) (ap (λ (o : Option (ℕ × DiskSeen)). option_map_or (λ (x : ℕ × DiskSeen). x.0) o 0) at) (ap is_some first-set)
+      each-set (suc zero) number disk at = subst (λ (n : ℕ). IsSome (finite.get trial_disks.disks n)) (ap (λ (o : Option (ℕ × DiskSeen)). option_map_or (λ (x : ℕ × DiskSeen). x.0) o 1) at) (ap is_some second-set)
       each-set (suc (suc k)) number disk at = absurd (let z : ◌≡◌ {A = Option (ℕ × DiskSeen)} None (Some (number, disk)) = at in cc)
 
       lists : (number blocks : ℕ) → number < 2 → 16 ≡ blocks → ListsDisk (pairs_seen seen ((0, d) ∷ (1, e) ∷ [])) number blocks
