@@ -1,5 +1,5 @@
 -- What an access comes to before its word is moved, case by case.
-use Rattle.std.proofs.Common.{◌≡◌, ℕ, ◌%◌, Bool, true, false, cond, List, Option, Some, None, Result, Ok, Err, refl, sym, ap, ◌∙◌, subst}
+use Rattle.std.proofs.Common.{◌≡◌, ℕ, ◌%◌, Bool, true, false, cond, List, Option, Some, None, Ok, Err, refl, sym, ap, ◌∙◌, subst}
 use Rattle.std.specs.Prelude.{not, ◌||◌}
 use Rattle.std.specs.FinSet as set
 use Rattle.std.specs.Ordering.{nat_cmp}
@@ -7,8 +7,6 @@ use Rattle.hat_layer.specs.Pool.{IsNoted, frame_let, frame_for, change_at, after
 use Rattle.page_store.specs.Seen.{StoreSeen}
 use Rattle.vm_world.specs.Wants.{shows_page}
 use Rattle.page_store.specs.Notes.{Notes}
-use Rattle.page_store.specs.declared.plan.Plan.{Plan}
-use Rattle.page_store.specs.declared.plan.Hold.{Hold}
 use Rattle.vm_types.specs.declared.call.Kind.{Kind}
 use Rattle.vm_types.specs.declared.call.Kind.TheVariants.{Shared, Private}
 use Rattle.vm_types.specs.declared.call.Signal.{Signal}
@@ -183,5 +181,5 @@ module _ (old new : World) (spaces : Spaces) (pending more p a n : ℕ) (write :
     due = not-due s.past;
     replaced = s.replaced;
     hit = tt;
-    means = (s.means.0, s.means.1, λ born notes. may-reach new spaces born notes p a n (may_access write) x even here allowed);
+    means = (s.means, λ born notes. may-reach new spaces born notes p a n (may_access write) x even here allowed);
   }

@@ -1,10 +1,8 @@
 -- What is answered to a load or a store, by what it reaches.
-use Rattle.std.proofs.Common.{◌≡◌, ◌≢◌, ℕ, ◌%◌, Bool, true, false, List, Option, Some, None, Result, Ok, Err, refl, sym, ap, ◌∙◌, subst, option_map}
+use Rattle.std.proofs.Common.{◌≡◌, ◌≢◌, ℕ, ◌%◌, Bool, true, false, Option, Some, None, Result, Ok, Err, refl, sym, ap, ◌∙◌, option_map}
 use Rattle.std.specs.FinSet as set
 use Rattle.std.specs.Ordering.{nat_cmp}
 use Rattle.std.proofs.lemmas.Bool.{eq-eqb}
-use Rattle.anon_map.specs.Maps.{Map}
-use Rattle.anon_slots.specs.Slots.{AnonSlotsSeen}
 use Rattle.hat_layer.specs.declared.translation.Translation.{Translation}
 use Rattle.hat_layer.specs.Pool.{HatSeen, translation_at}
 use Rattle.page_store.specs.Notes.{Notes}
@@ -28,23 +26,22 @@ use Rattle.vm_world.specs.MemoryFits.{MemoryFits}
 use Rattle.vm_world.specs.Pages.{contents_of}
 use Rattle.vm_world.specs.Plans.{MayMeetFault, IsRefusal, refusal_in}
 use Rattle.vm_world.specs.Segments.{Spaces}
-use Rattle.vm_world.specs.Serving.{TakesFrames, ServesDone}
+use Rattle.vm_world.specs.Serving.{ServesDone}
 use Rattle.vm_world.specs.World.{World}
 use Rattle.vm_world.proofs.CallSteps.{call_rule}
-use Rattle.seg_ops.specs.Slots.{GivesSlot}
 use Rattle.seg_ops.specs.Steps.{ReadsWord, WritesWord}
 use Rattle.seg_ops.proofs.Hits.{hits}
 use Rattle.seg_ops.proofs.OwnShown.{own_shown_law}
 use Rattle.seg_ops.proofs.StillSteps.{memory_of}
 use Rattle.seg_vn.specs.declared.attempt.Attempt.TheVariants as attempt
 use Rattle.seg_ops.specs.Faults.{Accesses}
-use Rattle.seg_ops.specs.SlotsDue.{MapPlace, MakesSlotAt, slot_due}
+use Rattle.seg_ops.specs.SlotsDue.{slot_due}
 use Rattle.seg_vn.proofs.Replacements.{replaced-then}
 use Rattle.seg_vn.proofs.SlotsDue.{made-still}
 use Rattle.seg_vn.proofs.Takes.{takes-there}
 use Rattle.page_store.specs.Seen.{StoreSeen}
 use Rattle.fault_entry.specs.Accesses.{IsShown, IsHit, ServesWord}
-use Rattle.fault_entry.specs.Reaching.{ServesAccess, IsSignalDue, after_reach, error_in, MayReach}
+use Rattle.fault_entry.specs.Reaching.{ServesAccess, IsSignalDue, after_reach, error_in}
 use Rattle.fault_entry.specs.declared.access.AccessStep.{AccessStep}
 use Rattle.fault_entry.specs.declared.access.AccessStep.TheVariants as access
 use Rattle.fault_entry.proofs.Joined.{acts-after, store-same}
@@ -169,7 +166,7 @@ module _ (old new : World) (spaces : Spaces) (pending more p a n : ℕ) where
   access-needs write c plan at refusal s fault =
       let needs = s.means.0 in
       record {
-        serves = λ calls. record { first = takes-there (memory_of old spaces) s.mid new pending more s.ends s.first; replaced = s.replaced; spaces = refl; runs = needs.runs c at; fault = fault; refusal = refusal s.due; wanted = needs.wanted c at; modified = needs.modified };
+        serves = λ calls. record { first = takes-there (memory_of old spaces) s.mid new pending more s.ends s.first; replaced = s.replaced; spaces = refl; runs = needs.wants calls c at; fault = fault; refusal = refusal s.due; wanted = needs.kept c at; modified = needs.modified };
         due = fault;
         shown = tt;
         slots = s.slots;
@@ -179,7 +176,7 @@ module _ (old new : World) (spaces : Spaces) (pending more p a n : ℕ) where
   pub access-busy : (write : Bool) (c : Call) (h : Hold) → Accesses write (page a) c → (IsSignalDue (memory_of old spaces) p a n write None → IsRefusal (memory_of old spaces) p c None) → ServesAccess (memory_of old spaces) (memory_of new spaces) pending more p a n write (access.Busy h) → MayMeetFault (memory_of new spaces) p c
       → ServesWord (memory_of old spaces) (memory_of new spaces) pending more p (page a) c (attempt.Busy h)
   access-busy write c h at refusal s fault = record {
-    serves = λ calls. record { first = takes-there (memory_of old spaces) s.mid new pending more s.ends s.first; replaced = s.replaced; spaces = refl; holds = s.means.0 calls c at; refusal = λ no_file. refusal s.due; modified = s.means.1 };
+    serves = λ calls. record { first = takes-there (memory_of old spaces) s.mid new pending more s.ends s.first; replaced = s.replaced; spaces = refl; holds = s.means.0.wants calls c at; refusal = λ no_file. refusal s.due; modified = s.means.0.modified };
     due = fault;
     shown = tt;
     slots = s.slots;

@@ -1,10 +1,9 @@
 -- What an access comes to before its word is moved. Inside: no public clause cites this.
-use Rattle.std.specs.Prelude.{◌≡◌, ℕ, ◌%◌, Bool, true, List, Option, Some, None, Result, Ok, Err, if◌then◌else◌}
+use Rattle.std.specs.Prelude.{◌≡◌, ℕ, ◌%◌, Bool, true, Option, Some, None, Result, Ok, Err, if◌then◌else◌}
 use Rattle.std.specs.FinSet as set
 use Rattle.std.specs.Ordering.{nat_cmp}
 use Rattle.hat_layer.specs.Pool.{IsNoted}
 use Rattle.page_store.specs.Notes.{Notes}
-use Rattle.vm_types.specs.declared.call.Call.{Call}
 use Rattle.vm_types.specs.declared.call.Signal.{Signal}
 use Rattle.vm_types.specs.declared.prot.Prot.{Prot}
 use Rattle.vm_types.specs.Prot.{can_read, can_write}
@@ -15,11 +14,10 @@ use Rattle.flat_model.specs.Words.{page}
 use Rattle.vm_world.specs.CallSteps.{ChangesMemory}
 use Rattle.vm_world.specs.FlatMemory.{Memory, flat_memory}
 use Rattle.vm_world.specs.Segments.{Spot, spot_at}
-use Rattle.vm_world.specs.Serving.{TakesFrames, AreReplaced, ModifiesNone}
-use Rattle.vm_world.specs.Wants.{HoldsUp}
+use Rattle.vm_world.specs.Serving.{TakesFrames, AreReplaced}
 use Rattle.vm_world.specs.World.{World}
 use Rattle.seg_ops.specs.OwnPages.{with_own_shown}
-use Rattle.seg_ops.specs.Faults.{Accesses, LetsAccess, NeedsTransfer}
+use Rattle.seg_ops.specs.Faults.{LetsAccess, WaitsFor}
 use Rattle.seg_ops.specs.SlotsDue.{KeepsSlots, MakesSlotAt, slot_due}
 use Rattle.fault_entry.specs.Accesses.{IsHit}
 use Rattle.fault_entry.specs.declared.access.AccessStep.{AccessStep}
@@ -51,9 +49,8 @@ step_wanting (Seat h) = Busy h
 abbrev pub AccessMeans : Memory → Memory → ℕ → ℕ → ℕ → Bool → AccessStep → Type 0
 AccessMeans old new p a n write (Reached frame) = ReachesPage new p a n frame write
 AccessMeans old new p a n write (Refused s) = (born : set.FinSet nat_cmp) (notes : Notes) → access_target (flat_memory new born notes) p (may_access write) a n ≡ Err s
-AccessMeans old new p a n write (Need plan) = NeedsTransfer old new p (page a) write plan × MayReach new p a n write
-AccessMeans old new p a n write (Busy h) =
-    ((calls : List (Option ℕ)) (call : Call) → Accesses write (page a) call → HoldsUp new calls p call h) × ModifiesNone old.world new.world × MayReach new p a n write
+AccessMeans old new p a n write (Need plan) = WaitsFor old new p (page a) write (Transfer plan) × MayReach new p a n write
+AccessMeans old new p a n write (Busy h) = WaitsFor old new p (page a) write (Seat h) × MayReach new p a n write
 
 -- Flat memory as the access goes to its frame: a store to a private page finds that page its own.
 abbrev pub after_reach : AccessStep → Bool → Flat → ℕ → ℕ → Flat

@@ -2,19 +2,15 @@
 use Rattle.std.specs.Prelude.{◌≡◌, ℕ, Bool, true, false, not, List, Option, Some, Result, Ok, Err, IsFalse}
 use Rattle.hat_layer.specs.Pool.{translation_at}
 use Rattle.hat_layer.specs.declared.translation.Translation.{Translation}
-use Rattle.page_store.specs.declared.plan.Plan.{Plan}
 use Rattle.vm_types.specs.declared.call.Call.{Call}
 use Rattle.vm_types.specs.declared.call.Call.TheVariants.{Load, Store}
-use Rattle.vm_types.specs.declared.call.Kind.TheVariants.{Shared}
-use Rattle.vm_types.specs.declared.call.Object.TheVariants as object
 use Rattle.flat_model.specs.Flat.{Flat}
 use Rattle.flat_model.specs.Words.{page}
 use Rattle.vm_world.specs.CallSteps.{ChangesMemory}
 use Rattle.vm_world.specs.FlatMemory.{Memory}
-use Rattle.vm_world.specs.Plans.{CanRunPlan}
-use Rattle.vm_world.specs.Segments.{Spot, Spaces, spot_at}
-use Rattle.vm_world.specs.Serving.{TakesFrames, AreReplaced, KeepsWanted, ModifiesNone}
-use Rattle.vm_world.specs.Wants.{accessed_page, shows_page, HoldsUp}
+use Rattle.vm_world.specs.Segments.{Spot, Spaces}
+use Rattle.vm_world.specs.Serving.{TakesFrames, AreReplaced, KeepsWanted, ModifiesNone, IsWanted}
+use Rattle.vm_world.specs.Wants.{shows_page}
 use Rattle.vm_world.specs.Words.{memory}
 use Rattle.vm_world.specs.World.{World}
 use Rattle.vm_world.specs.declared.world.World as rust
@@ -22,7 +18,6 @@ use Rattle.seg_ops.specs.OwnPages.{with_own_shown}
 use Rattle.seg_ops.specs.declared.plans.Fault.{Fault}
 use Rattle.seg_ops.specs.declared.plans.Fault.TheVariants.{Loaded, Past}
 use Rattle.vm_world.specs.declared.wants.Wants.{Wants}
-use Rattle.vm_world.specs.declared.wants.Wants.TheVariants.{Transfer, Seat}
 use Rattle.seg_ops.specs.SlotsDue.{SlotsAfter}
 
 -- The page has a translation that lets the access.
@@ -37,19 +32,18 @@ Accesses false q (Load a n) = page a ≡ q
 Accesses true q (Store a n v) = page a ≡ q
 Accesses write q call = ⊥
 
--- Each such access needs this transfer first. It can run; no home page that the access wants lost its frame; and no page became modified.
-pub record NeedsTransfer (old new : Memory) (p q : ℕ) (write : Bool) (plan : Plan) : Type 0 where
-  pub runs : (call : Call) → Accesses write q call → CanRunPlan new (Some (p, call)) plan
-  pub wanted : (call : Call) → Accesses write q call → KeepsWanted old new p call
+-- Each such access wants this first, whatever seats have the files' calls: a transfer that can run, or what holds it up. No home page that the access wants
+-- lost its frame, and no page became modified.
+pub record WaitsFor (old new : Memory) (p q : ℕ) (write : Bool) (want : Wants) : Type 0 where
+  pub wants : (calls : List (Option ℕ)) (call : Call) → Accesses write q call → IsWanted new calls p call want
+  pub kept : (call : Call) → Accesses write q call → KeepsWanted old new p call
   pub modified : ModifiesNone old.world new.world
 
 -- What a fault at a place of any mapping comes to.
 abbrev pub FaultMeans : Memory → Memory → ℕ → ℕ → Spot → Bool → Result Fault Wants → Type 0
 FaultMeans old new p q x write (Ok Loaded) = LetsAccess new.world p q write
 FaultMeans old new p q x write (Ok Past) = IsFalse (shows_page new.world x)
-FaultMeans old new p q x write (Err (Transfer plan)) = NeedsTransfer old new p q write plan
-FaultMeans old new p q x write (Err (Seat h)) =
-    ((calls : List (Option ℕ)) (call : Call) → Accesses write q call → HoldsUp new calls p call h) × ModifiesNone old.world new.world
+FaultMeans old new p q x write (Err want) = WaitsFor old new p q write want
 
 -- Flat memory after a fault: for a store a private cell gets the page that it shows as its own.
 abbrev pub after_fault : Result Fault Wants → Bool → Flat → ℕ → ℕ → Flat

@@ -2,11 +2,10 @@ pub mod Steps
 pub mod Plans
 pub mod Marks
 pub mod Flights
-pub mod Trials
 pub mod Slots
 pub mod Empties
 pub mod OwnPages
-pub mod SlotTrials
 pub mod Rooms
+pub mod Frames
 pub mod SlotsDue
 pub mod Faults

@@ -32,8 +32,3 @@ pub use objects::drop_object;
 pub use plans::{Fault, ask, fetch};
 pub use ranges::drop_places;
 pub use rooms::{evict, make_room, make_room_beside, sync};
-
-#[cfg(test)]
-mod slot_tests;
-#[cfg(test)]
-mod tests;

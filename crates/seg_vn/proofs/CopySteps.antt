@@ -1,5 +1,5 @@
 -- Stores to private pages that aren't their cell's alone, by the steps that they take.
-use Rattle.std.proofs.Common.{◌≡◌, ℕ, ◌<◌, ◌+◌, Bool, true, false, List, length, Option, Some, None, refl, sym, ap, ◌∙◌, inl, subst, arith, slice_set, Result, Ok, Err, not}
+use Rattle.std.proofs.Common.{◌≡◌, ℕ, ◌<◌, ◌+◌, Bool, true, false, List, length, Option, Some, None, refl, sym, ap, ◌∙◌, inl, subst, arith, slice_set, Ok, Err, not}
 use Rattle.std.specs.Prelude.{IsTrue, ◌||◌, is_some, nat_lt, option_map, option_and_then, unwrap_or}
 use Rattle.std.specs.Option.{option_or, option_map_or}
 use Rattle.std.specs.FinSet as set
@@ -41,7 +41,6 @@ use Rattle.vm_world.proofs.StoredPages.{zeros-are}
 use Rattle.seg_ops.specs.OwnPages.{with_own_shown}
 use Rattle.seg_ops.specs.Slots.{OwnsAlone}
 use Rattle.seg_ops.specs.Plans.{FetchesPage}
-use Rattle.seg_ops.specs.declared.plans.Fault.{Fault}
 use Rattle.seg_ops.specs.declared.plans.Fault.TheVariants as fault
 use Rattle.vm_world.specs.declared.wants.Wants.{Wants}
 use Rattle.vm_world.specs.declared.wants.Wants.TheVariants as wants
@@ -57,10 +56,10 @@ use Rattle.seg_ops.proofs.StillSteps.{memory_of, value-is}
 use Rattle.seg_vn.specs.AnyPlaces.{CellShows, CopyPlace, OwnSpot, ShowsZeros}
 use Rattle.seg_ops.specs.Faults.{Accesses, ServesFault}
 use Rattle.seg_ops.specs.SlotsDue.{KeepsSlots, SlotsAfter, slot_due}
-use Rattle.seg_vn.proofs.AnyFaults.{accessed, changes-kept, serves-kept}
+use Rattle.seg_vn.proofs.AnyFaults.{changes-kept, serves-kept}
 use Rattle.seg_vn.proofs.AnyPlaces.{own-none, own-private, file-shown, zero-shown, zero-at}
-use Rattle.seg_vn.proofs.AnySteps.{makes-copy, own-gets, own-shown, pends-then, shows-same, wanted-none}
-use Rattle.seg_vn.proofs.Faulted.{access-wants, wanted-name, absent-home}
+use Rattle.seg_vn.proofs.AnySteps.{makes-copy, own-gets, own-shown, pends-then, shown-waits, shows-same, wanted-none}
+use Rattle.seg_vn.proofs.Faulted.{wanted-name, absent-home}
 use Rattle.seg_vn.proofs.SlotsDue.{due-own}
 use Rattle.seg_vn.proofs.Takes.{takes-none}
 use Rattle.seg_vn.proofs.Replacements.{none-replaced}
@@ -273,17 +272,10 @@ pub away-serves : (w : World) (spaces : Spaces) (p q : ℕ) (x : Spot) (write : 
     → residence w.store name ≡ Moving seat → ServesFault (memory_of w spaces) (memory_of w spaces) pending pending p q x write (Err (wants.Seat (hold.Page seat)))
 away-serves w spaces p q x write pending seat name fits here some shows away =
     serves-kept w w spaces p q x write pending pending (Err (wants.Seat (hold.Page seat))) (takes-none w w spaces pending (keeps-same w spaces fits)) (none-replaced w w) (sym (ap not some)) (λ born notes. refl) (record { counts = refl; places = refl })
-    (λ calls call acc. (name, inl (access-wants (memory_of w spaces) p q x call name (accessed write q call acc) (record { here = here; some = some }) shows), away), λ n frame home is. (home, is))
+    (shown-waits w w spaces p q x write name (wants.Seat (hold.Page seat)) (record { here = here; some = some }) shows (λ calls of w. (name, inl w, away)) (λ frame home. let z : Moving seat ≡ Home frame = sym away ∙ home in cc) (λ n frame home is. (home, is)))
 
 pub fetch-serves : (old mid : World) (spaces : Spaces) (p q : ℕ) (x : Spot) (write : Bool) (pending : ℕ) (name : PageName) (answer : Wants) → IsTrue (shows_page old x) → KeepsPages old mid spaces → KeepsSlots old mid → residence old.store name ≡ Absent → ModifiesNone old mid
     → ShowsPage (memory_of mid spaces) p q x → shown_name mid.maps x ≡ Some name → FetchesPage (memory_of mid spaces) name answer → ServesFault (memory_of old spaces) (memory_of mid spaces) pending pending p q x write (Err answer)
-fetch-serves old mid spaces p q x write pending name (wants.Transfer plan) some keeps kept absent modified there shows f =
-    serves-kept old mid spaces p q x write pending pending (Err (wants.Transfer plan)) (takes-none old mid spaces pending keeps) (none-replaced old mid) (sym (ap not some)) (λ born notes. refl) kept (record {
-      runs = λ call acc. record { may = f.may (p, call) (access-wants (memory_of mid spaces) p q x call name (accessed write q call acc) there shows); ready = f.ready; frame = f.frame };
-      wanted = λ call acc other frame wants home. absurd (absent-home (residence old.store name) frame absent
-          (ap (residence old.store) (sym (wanted-name (memory_of mid spaces) p q x call name other (accessed write q call acc) there.here shows wants)) ∙ home));
-      modified = modified;
-    })
-fetch-serves old mid spaces p q x write pending name (wants.Seat h) some keeps kept absent modified there shows f =
-    serves-kept old mid spaces p q x write pending pending (Err (wants.Seat h)) (takes-none old mid spaces pending keeps) (none-replaced old mid) (sym (ap not some)) (λ born notes. refl) kept
-    (λ calls call acc. f calls (p, call) (access-wants (memory_of mid spaces) p q x call name (accessed write q call acc) there shows), modified)
+fetch-serves old mid spaces p q x write pending name answer some keeps kept absent modified there shows f =
+    serves-kept old mid spaces p q x write pending pending (Err answer) (takes-none old mid spaces pending keeps) (none-replaced old mid) (sym (ap not some)) (λ born notes. refl) kept
+    (shown-waits old mid spaces p q x write name answer there shows f (λ frame home. absent-home (residence old.store name) frame absent home) modified)

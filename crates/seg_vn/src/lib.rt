@@ -12,8 +12,6 @@ mod leaves;
 mod segment;
 mod shown;
 mod spaces;
-#[cfg(test)]
-mod tests;
 mod unmaps;
 
 pub use attempt::Attempt;

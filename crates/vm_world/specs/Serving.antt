@@ -22,6 +22,8 @@ use Rattle.vm_world.specs.TranslationsFit.{IsModified}
 use Rattle.vm_world.specs.Wants.{WantsHome, WantsClean, GrowthWants, HoldsUp, IsCleanPage}
 use Rattle.vm_world.specs.World.{World, file_name, page_exists}
 use Rattle.vm_world.specs.WorldSteps.{stays, WorldStep}
+use Rattle.vm_world.specs.declared.wants.Wants.{Wants}
+use Rattle.vm_world.specs.declared.wants.Wants.TheVariants.{Transfer, Seat}
 
 -- The name lost its frame: one that held it doesn't hold it any more.
 pub record LosesFrame (old new : World) (name : PageName) : Type 0 where
@@ -47,6 +49,11 @@ pub record IsReplaced (old new : World) (name : PageName) : Type 0 where
 -- Each page that was cut is replaced, as the event is over.
 abbrev pub AreReplaced : World → World → (PageName → Bool) → Type 0
 AreReplaced old new cut = (name : PageName) → IsTrue (cut name) → IsReplaced old new name
+
+-- WHAT MUST COME FIRST of a call: a transfer that may be answered to it and can run; or what holds it up, where the files' calls are these seats'.
+abbrev pub IsWanted : Memory → List (Option ℕ) → ℕ → Call → Wants → Type 0
+IsWanted m calls p call (Transfer plan) = CanRunPlan m (Some (p, call)) plan
+IsWanted m calls p call (Seat h) = HoldsUp m calls p call h
 
 -- No page is modified that wasn't.
 abbrev pub ModifiesNone : World → World → Type 0

@@ -47,6 +47,6 @@ pub returns-in-Busy : goal.returns-in-Busy
 returns-in-Busy g c = record {
   serves = λ spaces fits get.
       let s = c.in-Busy.ensures.serves spaces fits get in
-      access-busy (world_seen c.args.world.now) (world_seen c.reach.new.world) spaces c.args.world.now.pending c.reach.new.world.pending c.args.process c.args.addr c.args.size true (call.Store c.args.addr c.args.size c.args.value) c.in-Busy.hold refl (store-refusal (memory_of (world_seen c.args.world.now) spaces) c.args.process c.args.addr c.args.size c.args.value None) s s.means.2;
+      access-busy (world_seen c.args.world.now) (world_seen c.reach.new.world) spaces c.args.world.now.pending c.reach.new.world.pending c.args.process c.args.addr c.args.size true (call.Store c.args.addr c.args.size c.args.value) c.in-Busy.hold refl (store-refusal (memory_of (world_seen c.args.world.now) spaces) c.args.process c.args.addr c.args.size c.args.value None) s s.means.1;
   zeros = ap (λ w. w.zeros) c.in-Busy.ensures.rest;
 }

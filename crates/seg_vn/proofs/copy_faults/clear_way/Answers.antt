@@ -40,11 +40,11 @@ returns-clause-takes g c = λ spaces fits.
     let mid = world_seen c.drop_translation.new.world in
     let new = world_seen c.free_next.new.world in
     let keeps = c.drop_translation.ensures.keeps spaces fits in
-    let pends = subst (λ (k : ℕ). PendsTails mid (is_name (next_name mid.store)) k c.free_next.new.world.pending) (ap (λ v. v.pending) c.drop_translation.ensures.rest) c.free_next.ensures.pends in
+    let pends = subst (λ (k : ℕ). PendsTails mid (is_name (next_name mid.store)) k c.free_next.new.world.pending) (ap (λ v. v.pending) c.drop_translation.ensures.rest) c.free_next.ensures.taken.tails in
     let names = gathered-same old.store mid.store (option_map told_of (translation_at c.args.world.now.hat.places c.args.space c.args.page)) c.drop_translation.ensures.store in
     record {
       takes = takes-later old mid new spaces c.args.world.now.pending c.free_next.new.world.pending fits keeps names (ap (λ v. v.files) c.drop_translation.ensures.rest)
-          (takes-next mid new spaces c.args.world.now.pending c.free_next.new.world.pending (c.free_next.ensures.step spaces keeps.memory) pends c.free_next.ensures.took);
+          (takes-next mid new spaces c.args.world.now.pending c.free_next.new.world.pending (c.free_next.ensures.pages spaces keeps.memory) pends c.free_next.ensures.taken.lost);
       next = λ name cut.
           let h = cut-frame mid.store name cut in
           (h.0, c.free_next.ensures.same ∙ h.1, ap (λ (ns : List (Option PageName)). name_at ns h.0) (sym names) ∙ h.2);
