@@ -57,10 +57,10 @@ use Rattle.seg_vn.proofs.ClearedSpaces.{cut-map}
 use Rattle.mmap_calls.specs.declared.maps.Anons.{Anons}
 use Rattle.mmap_calls.specs.declared.refusals.MapRequest.{MapRequest}
 use Rattle.mmap_calls.specs.Looks.{kind_and_object}
-use Rattle.mmap_calls.specs.Refusals.{AnswersMap, IsMapRequest, IsMapRefusal, is_object_there, map_request, map_call, most_allowed, slots_for_pages}
-use Rattle.mmap_calls.specs.Rooms.{AreMade, HasRoomAt, map_of_object}
+use Rattle.mmap_calls.specs.Refusals.{AnswersMap, IsMapRequest, IsMapRefusal, is_object_there, map_of_object, map_request, map_call, most_allowed, slots_for_pages}
+use Rattle.mmap_calls.specs.Rooms.{AreMade, HasRoomAt}
 use Rattle.mmap_calls.proofs.CutPlaces.{same-space}
-use Rattle.mmap_calls.proofs.MapResults.{most-seen, passed}
+use Rattle.mmap_calls.proofs.MapResults.{most-seen, passed, placed}
 use Rattle.mmap_calls.proofs.RoomAfter.{HoldsFor, IsCleared, holds-none, holds-object, room-after}
 
 -- one change after another, said by a function that gives the same once the first is done
@@ -147,20 +147,6 @@ pub range-free : (cut left : List (Part Segment)) (first n : ℕ) → ((k : ℕ)
 range-free cut left first n clear k low high =
     none-part left k (clear k ∙ ap (λ (b : Bool). cond b None (piece_at cut k)) (in_range-is first n k low high))
 
--- its range lies in the user addresses
-both : (a b : Bool) → (a && b) ≡ true → (a ≡ true) × (b ≡ true)
-both true b h = (refl, h)
-both false b h = absurd (let z : false ≡ true = h in cc)
-
-pub placed : (q : MapRequest) (s : Segment) → is_valid (map_request q) ≡ true → LiesFrom 1 (part (page q.addr) (pages_in q.length) s)
-placed q s valid =
-    let range = (both _ _ (both _ _ valid).0).0 in
-    let ends = both _ _ range in
-    let low = leb-true 1 (page q.addr) (both _ _ ends.0).1 in
-    let high = leb-true (page q.addr + pages_in q.length) 0x80000 ends.1 in
-    let some = some_pages (map_request q) valid in
-    record { behind = low; some = some; within = high }
-
 -- the zero object that has a map
 pub named-object : (zeros : List (Option ℕ)) (o : Object) (n : ℕ) → map_of_object zeros o ≡ Some n → (z : ℕ) × (o ≡ object.Zero z) × (slice_index_or zeros z None ≡ Some n)
 named-object zeros (object.Zero z) n is = (z, refl, is)
@@ -234,10 +220,6 @@ insert-turned s p g u v apart = finite.same_map nat_cmp_total finite.nat_cmp-IsA
       get-insert_apart (finite.insert s p u) g v q far ∙ get-insert s p u q
       ∙ sym (get-insert (finite.insert s g v) p u q ∙ ap (cond (eqb q p) (Some u)) (get-insert_apart s g v q far))
 ])
-
--- the range of a Map that isn't refused
-pub within-user : (m : Memory) (p : ℕ) (parts : List (Part Segment)) (zeros : List (Option ℕ)) (q : MapRequest) → SpaceFits m.world zeros m.spaces p parts → IsMapRefusal m p q None → LiesFrom 1 (new_part m.world q (record { object = q.object; own = None; shown = None }))
-within-user m p parts zeros q fits due = placed q (new_piece m.world q (record { object = q.object; own = None; shown = None })) (passed m p parts zeros fits q due).valid
 
 -- Once the pieces are cut, with a holder of the zero object that is named, if one is.
 module _ (m : Memory) (p : ℕ) (cut : List (Part Segment)) (zeros then : List (Option ℕ)) (w : World) (o : Object) (held : Option ℕ) (named : held ≡ map_of_object zeros o) (alike : AreSameZeros zeros then)

@@ -1,12 +1,9 @@
 //! Pieces that go across an end of a range are cut there.
 ghost use Rattle.std.specs.Prelude.{◌≡◌, ◌≤◌, ◌<◌, ◌+◌, ◌^◌, ℕ, List, Option, Some, None, IfOk, length, option_map, slice_index_or, vec_capacity};
-ghost use Rattle.std.specs.FinMap as finite;
 ghost use Rattle.addr_space.specs.Space.{piece_at};
 ghost use Rattle.anon_map.specs.Maps.{IsMapThere, free_numbers, holders_of, places_of};
-ghost use Rattle.vm_world.specs.Segments.{Spaces};
-ghost use Rattle.vm_world.specs.Words.{memory, OnlyMaps};
-ghost use Rattle.vm_world.specs.World.{world_seen};
-ghost use Rattle.seg_vn.specs.Clears.{ChangesSpace, SpaceFits, StartsAt};
+ghost use Rattle.vm_world.specs.Words.{OnlyMaps};
+ghost use Rattle.seg_vn.specs.Clears.{MayBeAlive, MayBeSpace, SpaceBecomes, StartsAt};
 ghost use Rattle.mmap_calls.specs.Looks.{kind_and_object};
 ghost use Rattle.mmap_calls.specs.Rooms.{HasRoomAt};
 
@@ -42,8 +39,7 @@ pub(crate) fn room_at<D: Disk>(
     space: &Ranges<VnSeg>,
     page: u32,
 ) -> Result<Vec<Option<u32>>, AllocError>
-    requires fits { (spaces : Spaces) × (process : ℕ)
-        × SpaceFits (world_seen world.now) world.now.zeros spaces process space.now.parts }
+    requires fits { MayBeSpace world.now space.now.parts }
     ensures { IfOk result (λ room. HasRoomAt room.items (vec_capacity room) 3
         world.now.maps space.now.parts page) }
 {
@@ -69,8 +65,7 @@ pub(crate) fn cut<D: Disk>(
     requires numbers { 0 < free_numbers world.old.maps }
     requires room { (more : ℕ) × HasRoomAt room.items (vec_capacity room) (more + 1)
         world.old.maps space.old.parts page }
-    requires fits { (spaces : Spaces)
-        × SpaceFits (world_seen world.old) world.old.zeros spaces process space.old.parts }
+    requires fits { MayBeAlive world.old process space.old.parts }
     // No piece goes across the begin of the page now, nor any other that none went across.
     ensures starts { StartsAt space.new.parts page }
     ensures kept { (q : ℕ) → StartsAt space.old.parts q → StartsAt space.new.parts q }
@@ -87,10 +82,7 @@ pub(crate) fn cut<D: Disk>(
     ensures lengths { (z number : ℕ) → slice_index_or world.old.zeros z None ≡ Some number
         → length (places_of world.new.maps number) ≡ length (places_of world.old.maps number) }
     // Flat memory is as it was.
-    ensures changes { (spaces : Spaces)
-        → SpaceFits (world_seen world.old) world.old.zeros spaces process space.old.parts
-        → ChangesSpace process (memory world.old spaces)
-        (memory world.new (finite.insert spaces process space.new.parts)) world.new.zeros
+    ensures changes { SpaceBecomes world.old world.new process space.old.parts space.new.parts
         (λ F. F) }
     // At most one number and one piece are used.
     ensures spare { space.old.spare ≤ space.new.spare + 1 }
