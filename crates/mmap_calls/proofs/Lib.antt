@@ -6,5 +6,6 @@ pub mod Walked
 pub mod ZerosGone
 pub mod MapResults
 pub mod RoomAfter
+pub mod AtOnce
 pub mod CutPlaces
 pub mod Replaced

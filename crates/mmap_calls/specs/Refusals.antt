@@ -46,6 +46,10 @@ map_request m = record { place = At m.addr; len = m.length; prot = m.prot; kind 
 abbrev pub map_call : MapRequest → Call
 map_call m = Map (At m.addr) m.length m.prot m.kind m.object m.offset
 
+abbrev pub IsMapAt : Call → Type 0
+IsMapAt (Map (At addr) len prot kind o offset) = Unit {0}
+IsMapAt call = ⊥
+
 -- Its numbers are below 2^32.
 pub record IsMapRequest (m : MapRequest) : Type 0 where
   pub addr : IsNumber m.addr
@@ -106,17 +110,6 @@ IsMapRefusal memory p m refused = (born : set.FinSet nat_cmp) (notes : Notes) �
 -- The same in the world, whatever the spaces in which a process is alive with these parts.
 abbrev pub IsRefused : {D : Type 0} → rust.World D → List (Part Segment) → MapRequest → Option Errno → Type 0
 IsRefused w parts m refused = (spaces : Spaces) (p : ℕ) → SpaceFits (world_seen w) w.zeros spaces p parts → IsMapRefusal (memory w spaces) p m refused
-
--- A call is done with this plain reply: what it does is due in flat memory.
-pub record AnswersMap (p : ℕ) (old new : Memory) (call : Call) (r : Reply) : Type 0 where
-  pub changes : ChangesSegments p old new (λ F. (effect F p call).after)
-  pub plain : IsPlainReply r
-  pub due : (born : set.FinSet nat_cmp) (notes : Notes) → (effect (flat_memory old born notes) p call).reply ≡ r
-
--- So it is whatever the spaces in which the process is alive with these parts; it is alive with the new ones then, and the list of zero objects is right.
-abbrev pub IsAnswered : {D : Type 0} → rust.World D → rust.World D → ℕ → List (Part Segment) → List (Part Segment) → Call → Reply → Type 0
-IsAnswered old new p parts after call r =
-    (spaces : Spaces) → SpaceFits (world_seen old) old.zeros spaces p parts → AnswersMap p (memory old spaces) (memory new (finite.insert spaces p after)) call r × KnowsZeros new.zeros (finite.insert spaces p after)
 
 -- How many pages are mapped with the new mapping, in the place of what its range has.
 abbrev pub pages_after : List (Part Segment) → MapRequest → ℕ

@@ -1,5 +1,5 @@
 //! Pieces that go across an end of a range are cut there.
-ghost use Rattle.std.specs.Prelude.{◌≡◌, ◌≤◌, ◌<◌, ◌+◌, ◌^◌, ℕ, List, Option, Some, None, IfOk, length, option_map, slice_index_or, vec_capacity};
+ghost use Rattle.std.specs.Prelude.{◌≡◌, ◌≤◌, ◌<◌, ◌+◌, ◌^◌, ℕ, List, Option, Some, None, IfOk, OnErr, length, option_map, slice_index_or, vec_capacity};
 ghost use Rattle.addr_space.specs.Space.{piece_at};
 ghost use Rattle.anon_map.specs.Maps.{IsMapThere, free_numbers, holders_of, places_of};
 ghost use Rattle.vm_world.specs.Words.{OnlyMaps};
@@ -101,4 +101,34 @@ pub(crate) fn cut<D: Disk>(
     };
     let upper = segment.cut_into(world, page - first, room);
     space.split_at(page, upper);
+}
+
+/// Cuts the pieces that go across the ends of a range, so that none does. All room is taken first, so that where memory is wanting
+/// nothing changed; that, or want of numbers, is the only error. Time: the number of pieces, and the places that go over.
+pub(crate) fn cut_ends<D: Disk>(
+    world: &mut World<D>,
+    space: &mut Ranges<VnSeg>,
+    process: u32,
+    first: u32,
+    end: u32,
+) -> Result<(), AllocError>
+    requires range { first ≤ end }
+    requires fits { MayBeAlive world.old process space.old.parts }
+    ensures low { IfOk result (λ _. StartsAt space.new.parts first) }
+    ensures high { IfOk result (λ _. StartsAt space.new.parts end) }
+    // Flat memory is as it was.
+    ensures changes { IfOk result (λ _. SpaceBecomes world.old world.new process
+        space.old.parts space.new.parts (λ F. F)) }
+    // What stays.
+    ensures world { OnlyMaps world.old world.new }
+    ensures err { OnErr result ((world.new ≡ world.old)
+        × (space.new.parts ≡ space.old.parts)) }
+{
+    let begin_room = room_at(world, space, first)?;
+    let end_room = room_at(world, space, end)?;
+    space.reserve(2)?;
+    world.maps.reserve(2)?;
+    cut(world, space, process, end, end_room);
+    cut(world, space, process, first, begin_room);
+    Ok(())
 }

@@ -1,25 +1,22 @@
 //! Map.
 ghost use Rattle.std.specs.Prelude.{◌≡◌, ◌<◌, ◌≤◌, ◌+◌, ◌-◌, ◌^◌, ◌++◌, ℕ, length, replicate, IfOk, OnErr, IsSome, Some, None, vec_capacity, List, Option};
-ghost use Rattle.std.specs.FinMap as finite;
 ghost use Rattle.anon_map.specs.Maps.{IsMapThere, IsUnused, free_numbers, holders_of};
 ghost use Rattle.anon_slots.specs.Slots.{count_at};
 ghost use Rattle.flat_model.specs.Mapping.{with_mapping};
 ghost use Rattle.flat_model.specs.Words.{page};
-ghost use Rattle.vm_types.specs.WellFormed.{IsWellFormed};
 ghost use Rattle.vm_world.specs.MapSteps.{maps_made, maps_held};
-ghost use Rattle.vm_world.specs.Words.{Fits, SameFilesAndTails, memory};
-ghost use Rattle.vm_world.specs.ZeroObjects.{AreSameZeros, KnowsZeros, free_number};
+ghost use Rattle.vm_world.specs.Words.{SameFilesAndTails};
+ghost use Rattle.vm_world.specs.ZeroObjects.{AreSameZeros, free_number};
 ghost use Rattle.seg_vn.specs.Clears.{MayBeAlive, MayBeSpace, SpaceBecomes};
-ghost use Rattle.seg_vn.specs.Serves.{Serves};
-ghost use Rattle.mmap_calls.specs.Maps.{IsServedMap, IsMapDone};
-ghost use Rattle.mmap_calls.specs.Refusals.{IsAnswered, IsMapRequest, IsMappingOf, IsRefused, map_call, map_request, slots_for_map};
+ghost use Rattle.mmap_calls.specs.Answers.{IsAnswered};
+ghost use Rattle.mmap_calls.specs.Refusals.{IsMapAt, IsMapRequest, IsMappingOf, IsRefused, map_call, map_request, slots_for_map};
 ghost use Rattle.mmap_calls.specs.Rooms.{HasRoomAt, AreMade};
 
 use crate::cuts::{check_holders, cut, room_at};
 use crate::refusals::{MapRequest, NewMapping, new_mapping, refusal, slots_for_pages};
 use addr_space::Ranges;
 use block_device::Disk;
-use seg_vn::{Attempt, Spaces, VnSeg, clear};
+use seg_vn::{VnSeg, clear};
 use std::alloc::AllocError;
 use vm_types::{Call, Kind, Object, PAGE_SIZE, Place, Reply, page_of};
 use vm_world::World;
@@ -197,9 +194,9 @@ fn replace<D: Disk>(
     Ok(())
 }
 
-// What a Map that is served asks for.
-fn map_wanted(call: &Call) -> MapRequest
-    requires { IsServedMap call.now }
+/// What a Map at an address asks for.
+pub(crate) fn map_wanted(call: &Call) -> MapRequest
+    requires { IsMapAt call.now }
     ensures { call.now ≡ map_call result }
 {
     match *call {
@@ -222,8 +219,11 @@ fn map_wanted(call: &Call) -> MapRequest
     }
 }
 
-// The reply to a Map, which is done or refused.
-fn map<D: Disk>(
+/// The reply to a Map at an address, which is done or refused. It takes its range from what is mapped there, which goes with its
+/// translations, private pages, the zero objects that nothing else shows, and what is reserved for them. The only error is want
+/// of memory, or of numbers. Time: the pages of the pieces that go or are cut and of the zero objects that go, a place for each
+/// private page of the new piece, the numbers of the process's pieces and of zero objects.
+pub(crate) fn map<D: Disk>(
     world: &mut World<D>,
     space: &mut Ranges<VnSeg>,
     process: u32,
@@ -251,43 +251,4 @@ fn map<D: Disk>(
     }
     replace(world, space, process, &wanted)?;
     Ok(Reply::Mapped(wanted.first * PAGE_SIZE))
-}
-
-/// What a call of a process is answered that changes its mappings. It needs no transfer and never waits. A Map takes its range
-/// from what is mapped there, which goes with its translations, private pages, the zero objects that nothing else shows, and what
-/// is reserved for them. The only error is want of memory, or of numbers; then nothing changed, but that a number of a zero object
-/// may be free. Time: the pages of the range, the pages of the pieces that go or are cut and of the zero objects that go, and the
-/// numbers of the process's pieces and of zero objects.
-pub fn attempt<D: Disk>(
-    world: &mut World<D>,
-    spaces: &mut Spaces,
-    process: u32,
-    call: &Call,
-    _from: u64,
-) -> Result<Attempt, AllocError>
-    requires formed { IsWellFormed call.now }
-    requires served { IsServedMap call.now }
-    requires fits { Fits world.old spaces.old.spaces }
-    requires zeros { KnowsZeros world.old.zeros spaces.old.spaces }
-    requires alive { IsSome (finite.get spaces.old.spaces process) }
-    ensures done { IfOk result (λ answer. (calls : List (Option ℕ)) → Serves
-        (memory world.old spaces.old.spaces) (memory world.new spaces.new.spaces)
-        world.old.pending world.new.pending calls process call.now answer) }
-    ensures answer { IfOk result IsMapDone }
-    ensures fall { IfOk result (λ answer. (slot : ℕ)
-        → count_at world.new.anon slot ≤ count_at world.old.anon slot) }
-    ensures zeros { KnowsZeros world.new.zeros spaces.new.spaces }
-    ensures alive { IsSome (finite.get spaces.new.spaces process) }
-    // Where memory is wanting nothing changed, but that a number of a zero object may be free.
-    ensures err { OnErr result ((world.new ≡ record world.old { zeros = world.new.zeros })
-        × (spaces.new.spaces ≡ spaces.old.spaces)) }
-    // What stays.
-    ensures processes { spaces.new.processes ≡ spaces.old.processes }
-{
-    let wanted = map_wanted(call);
-    let Some(space) = spaces.get_mut(process) else {
-        unreachable!();
-    };
-    let reply = map(world, space, process, &wanted)?;
-    Ok(Attempt::Done(reply))
 }

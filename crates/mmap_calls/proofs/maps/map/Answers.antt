@@ -6,7 +6,8 @@ use Rattle.vm_world.specs.FlatMemory.{Memory}
 use Rattle.vm_world.specs.Words.{memory}
 use Rattle.vm_world.specs.World.{world_seen}
 use Rattle.mmap_calls.specs.declared.refusals.MapRequest.{MapRequest}
-use Rattle.mmap_calls.specs.Refusals.{IsAnswered, IsMapRefusal, IsMapRequest, map_call}
+use Rattle.mmap_calls.specs.Answers.{IsAnswered}
+use Rattle.mmap_calls.specs.Refusals.{IsMapRefusal, IsMapRequest, map_call}
 use Rattle.mmap_calls.proofs.CutPlaces.{same-space}
 use Rattle.mmap_calls.proofs.Replaced.{refused-answers, done-answers}
 use Rattle.mmap_calls.proofs.maps.map.Goals as goal
