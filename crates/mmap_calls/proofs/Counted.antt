@@ -1,138 +1,135 @@
--- How many pages of a range are mapped, how many slots they reserve, and what is left without them.
-use Rattle.std.proofs.Common.{◌≡◌, ℕ, zero, suc, ◌+◌, ◌-◌, ◌≤◌, Bool, true, false, cond, List, [], ◌∷◌, length, map, Option, Some, None, refl, sym, ap, ◌∙◌, inl, inr, arith}
-use Rattle.std.specs.Prelude.{option_map, is_some, sum_by}
+-- What is left of a space without a range, and what the parts have in the range, is all.
+use Rattle.std.proofs.Common.{◌≡◌, ℕ, zero, suc, ◌+◌, ◌-◌, ◌<◌, ◌≤◌, Bool, true, false, cond, not, List, [], ◌∷◌, length, map, Option, Some, None, refl, sym, ap, ◌∙◌, inl, inr, arith, min, max}
+use Rattle.std.specs.Prelude.{option_map, sum_by}
+use Rattle.std.specs.Ordering.{nat_cmp}
+use Rattle.std.specs.Cmp.{nat_cmp_total}
 use Rattle.std.specs.FinMap as finite
-use Rattle.std.proofs.lemmas.Bool.{cases_eq}
+use Rattle.std.proofs.lemmas.Bool.{cases_eq, cases_Bool}
+use Rattle.std.proofs.lemmas.Bool.Decides.{nat_tests}
 use Rattle.std.proofs.lemmas.List.Sums.{sum_by-cons}
+use Rattle.vm_types.specs.declared.call.Kind.{Kind}
 use Rattle.vm_types.specs.declared.call.Kind.TheVariants.{Shared, Private}
-use Rattle.addr_space.specs.Space.{Part, piece_at, part_at}
-use Rattle.addr_space.proofs.PageLaws.{shows}
+use Rattle.addr_space.specs.Space.{Part, IsInOrder, part}
+use Rattle.addr_space.specs.Pages.{with_pages, pages_of_parts}
+use Rattle.addr_space.proofs.PageLaws.{get-with_pages, get-pages_of_parts}
+use Rattle.addr_space.proofs.PartLemmas.{has-past, none-below}
 use Rattle.flat_model.specs.Flat.{Cell, Space, slots_for}
 use Rattle.flat_model.specs.Space.{is_in_range, without_range}
 use Rattle.flat_model.specs.Words.{Page}
-use Rattle.flat_model.proofs.Ranges.{same_space, get-without_range, get-remove_here, get-remove_apart, in_range-is, in_range-low, in_range-high, insert_same}
-use Rattle.flat_model.proofs.Sums.{total, total-remove}
-use Rattle.vm_world.specs.FlatMemory.{cell_of, space_with}
+use Rattle.flat_model.proofs.Ranges.{get-insert, get-retain_keys, in_range-is, in_range-low, in_range-high}
+use Rattle.flat_model.proofs.Sums.{total, total-insert, total-without_range}
+use Rattle.vm_world.specs.FlatMemory.{cell_of, map_with, space_with}
 use Rattle.vm_world.specs.Segments.{Spot}
 use Rattle.vm_world.specs.declared.segment.Segment.{Segment}
-use Rattle.vm_world.proofs.Maps.{get-space_with}
-use Rattle.seg_vn.specs.Clears.{slots_at, slots_of_range}
-use Rattle.mmap_calls.specs.Refusals.{mapped_pages}
+use Rattle.vm_world.proofs.Maps.{get-map_with}
+use Rattle.vm_world.proofs.Reserves.{total-empty, total-map_with}
+use Rattle.mmap_calls.specs.RangeCounts.{mapped_pages, pages_within, slots_of_range, slots_within}
 
--- the sum of what the pages of a range have
-abbrev pub sum_at : (ℕ → ℕ) → ℕ → ℕ → ℕ
-sum_at f first zero = 0
-sum_at f first (suc n) = sum_at f first n + f (first + n)
+abbrev Kept : finite.FinMap nat_cmp Spot → ℕ → ℕ → finite.FinMap nat_cmp Spot
+Kept m first n = finite.retain_keys m (is_in_range first n)
 
-pub sum-few : (f : ℕ → ℕ) (first n : ℕ) → ((q : ℕ) → f q ≤ 1) → sum_at f first n ≤ n
-sum-few f first zero one = omega arith
-sum-few f first (suc n) one = let more = sum-few f first n one in let k = one (first + n) in omega (arith, more, k)
+same-spots : {X : Type 0} (s t : finite.FinMap nat_cmp X) → ((q : ℕ) → finite.get s q ≡ finite.get t q) → s ≡ t
+same-spots s t same = finite.same_map nat_cmp_total finite.nat_cmp-IsAntisymmetric s t same
 
-pub sum-next : (f : ℕ → ℕ) (first page : ℕ) → first ≤ page → sum_at f first (page + 1 - first) ≡ sum_at f first (page - first) + f page
-sum-next f first page le =
-    let n : page + 1 - first ≡ suc (page - first) = omega arith in
-    let here : first + (page - first) ≡ page = omega arith in
-    ap (sum_at f first) n ∙ ap (λ (q : ℕ). sum_at f first (page - first) + f q) here
+-- a page more is kept where it lies in the range
+kept-more : (m : finite.FinMap nat_cmp Spot) (first n k : ℕ) (x : Spot) → is_in_range first n k ≡ true → Kept (finite.insert m k x) first n ≡ finite.insert (Kept m first n) k x
+kept-more m first n k x is = same-spots _ _ (λ q.
+    get-retain_keys (finite.insert m k x) (is_in_range first n) q ∙ ap (λ (o : Option Spot). cond (is_in_range first n q) o None) (get-insert m k x q)
+    ∙ elim (cases_eq q k) [
+      | inl same ↦ grind (arith, nat_tests, get-insert (Kept m first n) k x q)
+      | inr apart ↦ grind (arith, nat_tests, get-insert (Kept m first n) k x q, get-retain_keys m (is_in_range first n) q)
+    ])
 
-pub sum-alike : (f g : ℕ → ℕ) (first n : ℕ) → ((q : ℕ) → f q ≡ g q) → sum_at f first n ≡ sum_at g first n
-sum-alike f g first zero same = refl
-sum-alike f g first (suc n) same = let more = sum-alike f g first n same in let k = same (first + n) in omega (arith, more, k)
+kept-same : (m : finite.FinMap nat_cmp Spot) (first n k : ℕ) (x : Spot) → is_in_range first n k ≡ false → Kept (finite.insert m k x) first n ≡ Kept m first n
+kept-same m first n k x is = same-spots _ _ (λ q.
+    grind (arith, nat_tests, get-retain_keys (finite.insert m k x) (is_in_range first n) q, get-insert m k x q, get-retain_keys m (is_in_range first n) q))
 
--- both counts are such sums
-abbrev pub one_at : List (Part Segment) → ℕ → ℕ
-one_at parts q = cond {A = ℕ} (is_some (part_at parts q)) 1 0
+-- how many of a part's first so many pages lie in the range
+within-none : (first end at : ℕ) (s : Segment) → pages_within first end (part at 0 s) ≡ 0
+within-none first end at s = omega arith
 
-pub mapped-sum : (parts : List (Part Segment)) (first n : ℕ) → mapped_pages parts first n ≡ sum_at (one_at parts) first n
-mapped-sum parts first zero = refl
-mapped-sum parts first (suc n) = ap (λ (k : ℕ). k + one_at parts (first + n)) (mapped-sum parts first n)
+within-more : (first n at k : ℕ) (s : Segment) → is_in_range first n (at + k) ≡ true → pages_within first (first + n) (part at (suc k) s) ≡ pages_within first (first + n) (part at k s) + 1
+within-more first n at k s is = let low = in_range-low first n (at + k) is in let high = in_range-high first n (at + k) is in omega (arith, low, high)
 
-pub slots-sum : (parts : List (Part Segment)) (first n : ℕ) → slots_of_range parts first n ≡ sum_at (λ q. slots_at (piece_at parts q)) first n
-slots-sum parts first zero = refl
-slots-sum parts first (suc n) = ap (λ (k : ℕ). k + slots_at (piece_at parts (first + n))) (slots-sum parts first n)
+within-same : (first n at k : ℕ) (s : Segment) → is_in_range first n (at + k) ≡ false → pages_within first (first + n) (part at (suc k) s) ≡ pages_within first (first + n) (part at k s)
+within-same first n at k s is = grind (arith, nat_tests)
 
--- no more than the pages
-pub one-few : (b : Bool) → cond {A = ℕ} b 1 0 ≤ 1
-one-few true = omega arith
-one-few false = omega arith
+-- What a cell shares: so much, for so many pages of its segment.
+pub record Shares (held : ℕ → ℕ → Option Page) (f : Cell → ℕ) (g : ℕ → Segment → ℕ) : Type 0 where
+  pub none : (s : Segment) → g 0 s ≡ 0
+  pub more : (n : ℕ) (s : Segment) (k : ℕ) → g (n + 1) s ≡ f (cell_of held (s, k)) + g n s
 
-pub slots-few : (o : Option Spot) → slots_at o ≤ 1
-slots-few None = omega arith
-slots-few (Some x) = elim x.0.kind as (λ k. (elim k as (λ _. ℕ) [ Private ↦ 1 | Shared ↦ 0 ]) ≤ 1) [ Private ↦ omega arith | Shared ↦ omega arith ]
+module _ (held : ℕ → ℕ → Option Page) (f : Cell → ℕ) (g : ℕ → Segment → ℕ) (shares : Shares held f g) (first n : ℕ) where
+  abbrev spot_share : Spot → ℕ
+  spot_share x = f (cell_of held x)
 
-pub mapped-few : (parts : List (Part Segment)) (first n : ℕ) → mapped_pages parts first n ≤ n
-mapped-few parts first n = let sum = mapped-sum parts first n in let few = sum-few (one_at parts) first n (λ q. one-few (is_some (part_at parts q))) in omega (arith, sum, few)
+  -- of one part's pages
+  part-kept : (m : finite.FinMap nat_cmp Spot) (p : Part Segment) (k : ℕ) → ((q : ℕ) → p.first ≤ q → q < p.first + k → finite.get m q ≡ None)
+      → total spot_share (Kept (with_pages m p k) first n) ≡ g (pages_within first (first + n) (part p.first k p.piece)) p.piece + total spot_share (Kept m first n)
+  part-kept m p zero free =
+      let none = ap (λ (j : ℕ). g j p.piece) (within-none first (first + n) p.first p.piece) ∙ shares.none p.piece in
+      omega (arith, none)
+  part-kept m p (suc k) free =
+      let before = with_pages m p k in
+      let absent : finite.get before (p.first + k) ≡ None =
+      get-with_pages m p k (p.first + k) ∙ ap (λ (b : Bool). cond b (Some (p.piece, p.first + k - p.first)) (finite.get m (p.first + k))) (has-past (part p.first k p.piece) (p.first + k) (omega arith)) ∙ free (p.first + k) (omega arith) (omega arith) in
+      let rest = part-kept m p k (λ q low high. free q low (omega (arith, high))) in
+      elim (cases_Bool (is_in_range first n (p.first + k))) [
+        | inl is ↦
+            let kept = ap (total spot_share) (kept-more before first n (p.first + k) (p.piece, k) is) in
+            let none : finite.get (Kept before first n) (p.first + k) ≡ None = get-retain_keys before (is_in_range first n) (p.first + k) ∙ ap (λ (b : Bool). cond b (finite.get before (p.first + k)) None) is ∙ absent in
+            let one = total-insert spot_share (Kept before first n) (p.first + k) (p.piece, k) none in
+            let count = ap (λ (j : ℕ). g j p.piece) (within-more first n p.first k p.piece is) ∙ shares.more (pages_within first (first + n) (part p.first k p.piece)) p.piece k in
+            omega (arith, kept, one, count, rest)
+        | inr not_in ↦
+            let kept = ap (total spot_share) (kept-same before first n (p.first + k) (p.piece, k) not_in) in
+            let count = ap (λ (j : ℕ). g j p.piece) (within-same first n p.first k p.piece not_in) in
+            omega (arith, kept, count, rest)
+      ]
 
-pub slots-range-few : (parts : List (Part Segment)) (first n : ℕ) → slots_of_range parts first n ≤ n
-slots-range-few parts first n = let sum = slots-sum parts first n in let few = sum-few (λ q. slots_at (piece_at parts q)) first n (λ q. slots-few (piece_at parts q)) in omega (arith, sum, few)
+  -- and of all
+  parts-kept : (low : ℕ) (ps : List (Part Segment)) → IsInOrder low ps → total spot_share (Kept (pages_of_parts ps) first n) ≡ sum_by (λ (p : Part Segment). g (pages_within first (first + n) p) p.piece) ps
+  parts-kept low [] order =
+      ap (total spot_share) (same-spots (Kept finite.empty first n) finite.empty (λ q.
+      get-retain_keys {X = Spot} finite.empty (is_in_range first n) q ∙ ap (λ (o : Option Spot). cond (is_in_range first n q) o None) (finite.get-empty nat_cmp q) ∙ nothing (is_in_range first n q) ∙ sym (finite.get-empty nat_cmp q)))
+      ∙ total-empty spot_share
+    where
+      nothing : (b : Bool) → cond {A = Option Spot} b None None ≡ None
+      nothing true = refl
+      nothing false = refl
+  parts-kept low (p ∷ ps) order =
+      let here = part-kept (pages_of_parts ps) p p.pages (λ q from below. get-pages_of_parts ps q ∙ ap (option_map (λ (r : Part Segment). (r.piece, q - r.first))) (none-below (p.first + p.pages) ps q order.1 below)) in
+      let rest = parts-kept (p.first + p.pages) ps order.1 in
+      let step = sum_by-cons (λ (p : Part Segment). g (pages_within first (first + n) p) p.piece) p ps in
+      omega (arith, here, rest, step)
 
--- one page more
-pub mapped-next : (parts : List (Part Segment)) (first page : ℕ) → first ≤ page → mapped_pages parts first (page + 1 - first) ≡ mapped_pages parts first (page - first) + one_at parts page
-mapped-next parts first page le = mapped-sum parts first (page + 1 - first) ∙ sum-next (one_at parts) first page le ∙ ap (λ (k : ℕ). k + one_at parts page) (sym (mapped-sum parts first (page - first)))
+  cells-kept : (parts : List (Part Segment)) → finite.retain_keys (space_with held parts) (is_in_range first n) ≡ map_with (cell_of held) (Kept (pages_of_parts parts) first n)
+  cells-kept parts = same-spots _ _ (λ q.
+      grind (arith, get-retain_keys (space_with held parts) (is_in_range first n) q, get-map_with (cell_of held) (pages_of_parts parts) q, get-map_with (cell_of held) (Kept (pages_of_parts parts) first n) q, get-retain_keys (pages_of_parts parts) (is_in_range first n) q))
 
-pub slots-next : (parts : List (Part Segment)) (first page : ℕ) → first ≤ page → slots_of_range parts first (page + 1 - first) ≡ slots_of_range parts first (page - first) + slots_at (piece_at parts page)
-slots-next parts first page le =
-    slots-sum parts first (page + 1 - first) ∙ sum-next (λ q. slots_at (piece_at parts q)) first page le ∙ ap (λ (k : ℕ). k + slots_at (piece_at parts page)) (sym (slots-sum parts first (page - first)))
+  pub left-total : (parts : List (Part Segment)) → IsInOrder 1 parts → total f (without_range (space_with held parts) first n) + sum_by (λ (p : Part Segment). g (pages_within first (first + n) p) p.piece) parts ≡ total f (space_with held parts)
+  left-total parts order =
+      let halves = total-without_range f (space_with held parts) first n in
+      let kept = ap (total f) (cells-kept parts) ∙ total-map_with f (cell_of held) (Kept (pages_of_parts parts) first n) ∙ parts-kept 1 parts order in
+      omega (arith, halves, kept)
 
--- what a page's cell has of it
-abbrev at_cell : (Cell → ℕ) → Option Cell → ℕ
-at_cell f None = 0
-at_cell f (Some c) = f c
+-- pages, and private pages
+one-each : (held : ℕ → ℕ → Option Page) → Shares held (λ _. 1) (λ n s. n)
+one-each held = record { none = λ s. refl; more = λ n s k. omega arith }
 
-remove-none : (s : Space) (k : ℕ) → finite.get s k ≡ None → finite.remove s k ≡ s
-remove-none s k is = same_space _ _ (λ q. elim (cases_eq q k) [
-  | inl e ↦ ap (finite.get (finite.remove s k)) e ∙ get-remove_here s k ∙ sym is ∙ ap (finite.get s) (sym e)
-  | inr ne ↦ get-remove_apart s k q ne
-])
+abbrev private_of : ℕ → Segment → ℕ
+private_of n s = elim s.kind as (λ _. ℕ) [ Private ↦ n | Shared ↦ 0 ]
 
--- a range that is one page longer
-range-next : (s : Space) (first n : ℕ) → without_range s first (suc n) ≡ finite.remove (without_range s first n) (first + n)
-range-next s first n = same_space _ _ (λ q. get-without_range s first (suc n) q ∙ elim (cases_eq q (first + n)) [
-  | inl e ↦
-      ap (λ (b : Bool). cond b None (finite.get s q)) (in_range-is first (suc n) q (omega arith) (omega arith))
-      ∙ sym (ap (finite.get (finite.remove (without_range s first n) (first + n))) e ∙ get-remove_here (without_range s first n) (first + n))
-  | inr ne ↦
-      ap (λ (b : Bool). cond b None (finite.get s q)) (same-range first n q ne) ∙ sym (get-without_range s first n q)
-      ∙ sym (get-remove_apart (without_range s first n) (first + n) q ne)
-])
+private-each : (held : ℕ → ℕ → Option Page) → Shares held slots_for private_of
+private-each held = record { none = λ s. none s.kind; more = λ n s k. more n s.kind }
   where
-    same-range : (first n q : ℕ) → (q ≡ first + n → ⊥) → is_in_range first (suc n) q ≡ is_in_range first n q
-    same-range first n q ne = either (is_in_range first n q) (is_in_range first (suc n) q) refl refl
-      where
-        either : (a b : Bool) → is_in_range first n q ≡ a → is_in_range first (suc n) q ≡ b → b ≡ a
-        either true true x y = refl
-        either false false x y = refl
-        either true false x y = let low = in_range-low first n q x in let high = in_range-high first n q x in sym (sym (in_range-is first (suc n) q low (omega arith)) ∙ y)
-        either false true x y =
-            let low = in_range-low first (suc n) q y in
-            let high = in_range-high first (suc n) q y in
-            sym (in_range-is first n q low (omega (arith, ne))) ∙ x
+    none : (k : Kind) → (elim k as (λ _. ℕ) [ Private ↦ 0 | Shared ↦ 0 ]) ≡ 0
+    none Private = refl
+    none Shared = refl
 
-outside : (s : Space) (first n : ℕ) → finite.get (without_range s first n) (first + n) ≡ finite.get s (first + n)
-outside s first n = get-without_range s first n (first + n) ∙ by_test (is_in_range first n (first + n)) refl
-  where
-    by_test : (b : Bool) → is_in_range first n (first + n) ≡ b → cond b None (finite.get s (first + n)) ≡ finite.get s (first + n)
-    by_test false is = refl
-    by_test true is = absurd (let high = in_range-high first n (first + n) is in omega arith)
-
--- WHAT IS LEFT of a space without a range, and what its pages have, is all
-left-total : (f : Cell → ℕ) (s : Space) (first n : ℕ) → total f (without_range s first n) + sum_at (λ q. at_cell f (finite.get s q)) first n ≡ total f s
-left-total f s first zero =
-    let same : without_range s first zero ≡ s = same_space _ _ (λ q. get-without_range s first zero q ∙ none q (is_in_range first zero q) refl) in
-    let e = ap (total f) same in
-    omega (arith, e)
-  where
-    none : (q : ℕ) (b : Bool) → is_in_range first zero q ≡ b → cond b None (finite.get s q) ≡ finite.get s q
-    none q false is = refl
-    none q true is = absurd (let low = in_range-low first zero q is in let high = in_range-high first zero q is in omega arith)
-left-total f s first (suc n) =
-    let more = left-total f s first n in
-    let next = ap (total f) (range-next s first n) in
-    let one = by_cell (finite.get s (first + n)) (outside s first n) in
-    omega (arith, more, next, one)
-  where
-    by_cell : (o : Option Cell) → finite.get (without_range s first n) (first + n) ≡ o → at_cell f o + total f (finite.remove (without_range s first n) (first + n)) ≡ total f (without_range s first n)
-    by_cell None is = let e = ap (total f) (remove-none (without_range s first n) (first + n) is) in omega (arith, e)
-    by_cell (Some c) is = total-remove f (without_range s first n) (first + n) c (insert_same (without_range s first n) (first + n) c is)
+    more : (n : ℕ) (k : Kind) → (elim k as (λ _. ℕ) [ Private ↦ n + 1 | Shared ↦ 0 ]) ≡ (elim k as (λ _. ℕ) [ Private ↦ 1 | Shared ↦ 0 ]) + (elim k as (λ _. ℕ) [ Private ↦ n | Shared ↦ 0 ])
+    more n Private = omega arith
+    more n Shared = refl
 
 len-total : (s : Space) → finite.len s ≡ total (λ _. 1) s
 len-total s = finite.len-entries s ∙ ones (finite.entries s)
@@ -141,30 +138,14 @@ len-total s = finite.len-entries s ∙ ones (finite.entries s)
     ones [] = refl
     ones (e ∷ es) = let more = ones es in let a = sum_by-cons (λ (c : Cell). 1) e.1 (map (λ (e : ℕ × Cell). e.1) es) in omega (arith, more, a)
 
--- of a space that parts make up
-module _ (held : ℕ → ℕ → Option Page) (parts : List (Part Segment)) (first n : ℕ) where
-  pub left-cells : finite.len (without_range (space_with held parts) first n) + mapped_pages parts first n ≡ finite.len (space_with held parts)
+-- WHAT IS LEFT of a space that parts make up, and what they have in the range, is all
+module _ (held : ℕ → ℕ → Option Page) (parts : List (Part Segment)) (order : IsInOrder 1 parts) (first n : ℕ) where
+  pub left-cells : finite.len (without_range (space_with held parts) first n) + mapped_pages parts first (first + n) ≡ finite.len (space_with held parts)
   left-cells =
-      let s : Space = space_with held parts in
-      let a = len-total s in
-      let b = len-total (without_range s first n) in
-      let all = left-total (λ _. 1) s first n in
-      let sum = mapped-sum parts first n in
-      let same = sum-alike (one_at parts) (λ q. at_cell (λ _. 1) (finite.get s q)) first n (λ q. by_part (part_at parts q) q refl) in
-      omega (arith, a, b, all, sum, same)
-    where
-      by_part : (o : Option (Part Segment)) (q : ℕ) → part_at parts q ≡ o → one_at parts q ≡ at_cell (λ _. 1) (finite.get (space_with held parts) q)
-      by_part None q e = ap (λ (o : Option (Part Segment)). cond {A = ℕ} (is_some o) 1 0) e ∙ sym (ap (at_cell (λ _. 1)) (get-space_with held parts q ∙ ap (option_map (cell_of held)) (shows parts q None e)))
-      by_part (Some p) q e = ap (λ (o : Option (Part Segment)). cond {A = ℕ} (is_some o) 1 0) e ∙ sym (ap (at_cell (λ _. 1)) (get-space_with held parts q ∙ ap (option_map (cell_of held)) (shows parts q (Some p) e)))
+      let all = left-total held (λ _. 1) (λ n s. n) (one-each held) first n parts order in
+      let a = len-total (without_range (space_with held parts) first n) in
+      let b = len-total (space_with held parts) in
+      omega (arith, all, a, b)
 
-  pub left-slots : total slots_for (without_range (space_with held parts) first n) + slots_of_range parts first n ≡ total slots_for (space_with held parts)
-  left-slots =
-      let s : Space = space_with held parts in
-      let all = left-total slots_for s first n in
-      let sum = slots-sum parts first n in
-      let same = sum-alike (λ q. slots_at (piece_at parts q)) (λ q. at_cell slots_for (finite.get s q)) first n (λ q. by_spot (piece_at parts q) ∙ ap (at_cell slots_for) (sym (get-space_with held parts q))) in
-      omega (arith, all, sum, same)
-    where
-      by_spot : (o : Option Spot) → slots_at o ≡ at_cell slots_for (option_map (cell_of held) o)
-      by_spot None = refl
-      by_spot (Some x) = refl
+  pub left-slots : total slots_for (without_range (space_with held parts) first n) + slots_of_range parts first (first + n) ≡ total slots_for (space_with held parts)
+  left-slots = left-total held slots_for private_of (private-each held) first n parts order

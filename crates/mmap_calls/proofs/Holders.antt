@@ -28,7 +28,7 @@ use Rattle.vm_world.proofs.PartSums.{all_parts, sum-remove, sum-segments, sum-le
 use Rattle.vm_world.proofs.Reserves.{zero-object}
 use Rattle.vm_world.proofs.ShownZeros.{zero_map-of}
 use Rattle.vm_world.proofs.Spots.{IsSpotOf, spot-in}
-use Rattle.mmap_calls.specs.GivenUp.{zero_in, lies_within, count_within, shown_within}
+use Rattle.mmap_calls.specs.RangeCounts.{zero_in, lies_within, count_within, shown_within}
 
 -- A page outside of a range of a process shows the zero object, with this map.
 pub record IsShownOutside (spaces : Spaces) (p first n z number : ℕ) : Type 0 where

@@ -1,9 +1,11 @@
+pub mod PartsFrom
 pub mod Counted
-pub mod Owns
 pub mod Holders
-pub mod Begun
+pub mod Owns
+pub mod Walked
 pub mod ZerosGone
 pub mod MapResults
 pub mod RoomAfter
+pub mod AtOnce
 pub mod CutPlaces
 pub mod Replaced

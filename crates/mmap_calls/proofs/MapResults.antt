@@ -1,12 +1,12 @@
 -- What a Map comes to in flat memory, by the refusal that is due.
-use Rattle.std.proofs.Common.{◌≡◌, ℕ, zero, suc, ◌+◌, ◌-◌, ◌≤◌, Bool, true, false, cond, not, List, [], ◌∷◌, length, map, Option, Some, None, refl, sym, ap, ◌∙◌, inl, inr, arith}
-use Rattle.std.specs.Prelude.{option_map, is_some, nat_le, nat_lt, IsSome, Result, Ok, Err, slice_get, slice_index_or}
+use Rattle.std.proofs.Common.{◌≡◌, ℕ, zero, suc, ◌+◌, ◌-◌, ◌≤◌, Bool, true, false, cond, not, List, [], ◌∷◌, length, map, Option, Some, None, refl, sym, ap, ◌∙◌, inl, inr, subst, arith}
+use Rattle.std.specs.Prelude.{option_map, is_some, nat_le, nat_lt, ◌&&◌, IsSome, Result, Ok, Err, slice_get, slice_index_or}
 use Rattle.std.specs.Option.{option_map_or}
 use Rattle.std.specs.FinMap as finite
 use Rattle.std.specs.FinSet as set
 use Rattle.std.specs.Ordering.{nat_cmp}
-use Rattle.std.proofs.lemmas.Bool.{cases_lt, lt-ltb, le-ltb}
-use Rattle.addr_space.specs.Space.{Part, page_total}
+use Rattle.std.proofs.lemmas.Bool.{cases_lt, lt-ltb, le-ltb, leb-true}
+use Rattle.addr_space.specs.Space.{Part, part, page_total, LiesFrom}
 use Rattle.page_store.specs.Notes.{Notes, no_notes}
 use Rattle.vnode_files.specs.declared.vnode.FileInfo.{FileInfo}
 use Rattle.vnode_files.specs.Vnode.{VnodeSeen}
@@ -26,7 +26,7 @@ use Rattle.flat_model.specs.ReserveLaws.{IsPlaced, zero_pages_gone, zero_pages_b
 use Rattle.flat_model.specs.Space.{without_range}
 use Rattle.flat_model.specs.Words.{page, pages_in}
 use Rattle.flat_model.proofs.Mappings.{cells_of-with_space}
-use Rattle.flat_model.proofs.Reserve.{reserved-shared_map, reserved-private_map, reserved-new_zero_map, reserved-unmap}
+use Rattle.flat_model.proofs.Reserve.{some_pages, reserved-shared_map, reserved-private_map, reserved-new_zero_map, reserved-unmap}
 use Rattle.flat_model.proofs.Sums.{total, total-without_range}
 use Rattle.vm_world.specs.FlatMemory.{Memory, flat_memory, file_with_pages, space_with}
 use Rattle.vm_world.specs.Pages.{contents_of}
@@ -35,10 +35,11 @@ use Rattle.vm_world.proofs.FilePages.{file-in}
 use Rattle.vm_world.proofs.Maps.{get-map_with}
 use Rattle.vm_world.proofs.PageNames.{info-there}
 use Rattle.vm_world.proofs.SegmentCells.{segment_cells}
-use Rattle.seg_vn.specs.Clears.{SpaceFits, slots_of_range}
+use Rattle.seg_vn.specs.Clears.{SpaceFits}
 use Rattle.mmap_calls.specs.declared.refusals.MapRequest.{MapRequest}
 use Rattle.mmap_calls.specs.GivenUp.{given_up}
-use Rattle.mmap_calls.specs.Refusals.{IsMapRefusal, is_object_there, map_outcome, map_request, mapped_pages, most_allowed, pages_after, refusal_of, reserved_after, slots_for_pages}
+use Rattle.mmap_calls.specs.RangeCounts.{mapped_pages, slots_of_range}
+use Rattle.mmap_calls.specs.Refusals.{IsMapRefusal, is_object_there, map_outcome, map_request, most_allowed, pages_after, refusal_of, reserved_after, slots_for_pages}
 use Rattle.mmap_calls.proofs.Counted.{left-cells, left-slots}
 use Rattle.mmap_calls.proofs.ZerosGone.{gone-given}
 
@@ -54,6 +55,20 @@ tested valid there within few backed new = do
 
 abbrev pub refusal_by : Bool → Bool → Bool → Bool → Bool → Option Errno
 refusal_by v t w l b = cond (not v) (Some errno.Invalid) (cond (not t) (Some errno.NoObject) (cond (not w) (Some errno.Access) (cond (not l) (Some errno.TooLarge) (cond (not b) (Some errno.NoSwap) None))))
+
+-- its range lies in the user addresses
+both : (a b : Bool) → (a && b) ≡ true → (a ≡ true) × (b ≡ true)
+both true b h = (refl, h)
+both false b h = absurd (let z : false ≡ true = h in cc)
+
+pub placed : (q : MapRequest) (s : Segment) → is_valid (map_request q) ≡ true → LiesFrom 1 (part (page q.addr) (pages_in q.length) s)
+placed q s valid =
+    let range = (both _ _ (both _ _ valid).0).0 in
+    let ends = both _ _ range in
+    let low = leb-true 1 (page q.addr) (both _ _ ends.0).1 in
+    let high = leb-true (page q.addr + pages_in q.length) 0x80000 ends.1 in
+    let some = some_pages (map_request q) valid in
+    record { behind = low; some = some; within = high }
 
 -- what a call comes to: it is refused, or gives this
 abbrev pub outcome : {X : Type 0} → X → Option Errno → Result X Errno
@@ -165,12 +180,12 @@ module _ (m : Memory) (born : set.FinSet nat_cmp) (notes : Notes) (p : ℕ) (par
   alive-here = ap is_some (get-map_with (space_with (contents_of m.world notes).place) m.spaces p ∙ ap (option_map (space_with (contents_of m.world notes).place)) fits.here)
 
   -- the slots of the private pages of a range are given up with it, and those of the zero objects that it alone shows
-  pub given-all : (first n : ℕ) → reserved (without_pages (flat_memory m born notes) p first n) + slots_of_range parts first n + zero_pages_gone (flat_memory m born notes) (without_pages (flat_memory m born notes) p first n) ≡ m.world.anon.reserved
+  pub given-all : (first n : ℕ) → reserved (without_pages (flat_memory m born notes) p first n) + slots_of_range parts first (first + n) + zero_pages_gone (flat_memory m born notes) (without_pages (flat_memory m born notes) p first n) ≡ m.world.anon.reserved
   given-all first n =
       let F : Flat = flat_memory m born notes in
       let gone = reserved-unmap F p first n alive-here in
       let all = segment_cells.reserved m born notes fits.memory in
-      let left = left-slots (contents_of m.world notes).place parts first n in
+      let left = left-slots (contents_of m.world notes).place parts (fits.memory.segments.ordered p parts fits.here) first n in
       let halves = total-without_range slots_for (cells_of F p) first n in
       let cells = segment_cells.cells m p parts born notes fits.memory fits.here in
       let out = ap (λ (s : Space). total slots_for (without_range s first n)) cells in
@@ -182,28 +197,28 @@ module _ (m : Memory) (born : set.FinSet nat_cmp) (notes : Notes) (p : ℕ) (par
   listed-there object.NewZero there z e = absurd (let k = e in cc)
   listed-there (object.Zero y) there z e = let same : y ≡ z = cc in ap (λ (k : ℕ). is_some (slice_index_or zeros k None)) (sym same) ∙ there
 
-  pub given-within : (first n : ℕ) (o : Object) → is_object_there m.world zeros o ≡ true → slots_of_range parts first n + given_up m.world.maps zeros parts first (first + n) o (length zeros) ≤ m.world.anon.reserved
+  pub given-within : (first n : ℕ) (o : Object) → is_object_there m.world zeros o ≡ true → slots_of_range parts first (first + n) + given_up m.world.maps zeros parts first (first + n) o (length zeros) ≤ m.world.anon.reserved
   given-within first n o there =
       let all = given-all first n in
       let gone = gone-given m born notes p parts zeros fits first n o (listed-there o there) in
       omega (arith, all, gone)
 
   -- what is mapped of a range is no more than all
-  pub mapped-within : (first n : ℕ) → mapped_pages parts first n ≤ page_total parts
+  pub mapped-within : (first n : ℕ) → mapped_pages parts first (first + n) ≤ page_total parts
   mapped-within first n =
       let cells = segment_cells.cells m p parts born notes fits.memory fits.here in
       let count = ap (λ (s : Space). finite.len s) (sym cells) ∙ segment_cells.count m p parts born notes fits.memory fits.here in
-      let left = left-cells (contents_of m.world notes).place parts first n in
+      let left = left-cells (contents_of m.world notes).place parts (fits.memory.segments.ordered p parts fits.here) first n in
       omega (arith, count, left)
 
-  left-here : (a n : ℕ) → finite.len (cells_of (without_replaced (flat_memory m born notes) p (At a) n) p) ≡ page_total parts - mapped_pages parts (page a) n
+  left-here : (a n : ℕ) → finite.len (cells_of (without_replaced (flat_memory m born notes) p (At a) n) p) ≡ page_total parts - mapped_pages parts (page a) (page a + n)
   left-here a n =
       let F : Flat = flat_memory m born notes in
       let cells = segment_cells.cells m p parts born notes fits.memory fits.here in
       let count = ap (λ (s : Space). finite.len s) (sym cells) ∙ segment_cells.count m p parts born notes fits.memory fits.here in
       let same = cells_of-with_space F p (without_range (cells_of F p) (page a) n) ∙ ap (λ (s : Space). without_range s (page a) n) cells in
       let len = ap (λ (s : Space). finite.len s) same in
-      let left = left-cells (contents_of m.world notes).place parts (page a) n in
+      let left = left-cells (contents_of m.world notes).place parts (fits.memory.segments.ordered p parts fits.here) (page a) n in
       omega (arith, count, len, left)
 
   backed-here : (q : MapRequest) → is_valid (map_request q) ≡ true → is_object_there m.world zeros q.object ≡ true → reserved (with_mapping (flat_memory m born notes) p (map_request q) (page q.addr)) ≡ reserved_after m.world zeros parts q
@@ -236,6 +251,12 @@ module _ (m : Memory) (born : set.FinSet nat_cmp) (notes : Notes) (p : ℕ) (par
 -- THE REFUSAL is the one that is told from pieces and counts
 pub refusal-is : (m : Memory) (p : ℕ) (parts : List (Part Segment)) (zeros : List (Option ℕ)) → SpaceFits m.world zeros m.spaces p parts → (q : MapRequest) → IsMapRefusal m p q (refusal_of m.world zeros parts q)
 refusal-is m p parts zeros fits q born notes = results m born notes p parts zeros fits q
+
+-- told by its tests
+pub refusal-told : (m : Memory) (p : ℕ) (parts : List (Part Segment)) (zeros : List (Option ℕ)) → SpaceFits m.world zeros m.spaces p parts → (q : MapRequest) (v t w l b : Bool) → is_valid (map_request q) ≡ v → is_object_there m.world zeros q.object ≡ t
+    → is_within q.prot (most_allowed m.world q.kind q.object) ≡ w → nat_le (pages_after parts q) 65536 ≡ l → nat_le (reserved_after m.world zeros parts q) (length m.world.anon.counts) ≡ b → IsMapRefusal m p q (refusal_by v t w l b)
+refusal-told m p parts zeros fits q v t w l b valid there within few backed =
+    subst (λ (r : Option Errno). IsMapRefusal m p q r) (λ i. refusal_by (valid i) (there i) (within i) (few i) (backed i)) (refusal-is m p parts zeros fits q)
 
 -- and where none is due, each test is passed
 pub passed : (m : Memory) (p : ℕ) (parts : List (Part Segment)) (zeros : List (Option ℕ)) → SpaceFits m.world zeros m.spaces p parts → (q : MapRequest) → IsMapRefusal m p q None

@@ -57,10 +57,11 @@ use Rattle.seg_vn.proofs.ClearedSpaces.{cut-map}
 use Rattle.mmap_calls.specs.declared.maps.Anons.{Anons}
 use Rattle.mmap_calls.specs.declared.refusals.MapRequest.{MapRequest}
 use Rattle.mmap_calls.specs.Looks.{kind_and_object}
-use Rattle.mmap_calls.specs.Refusals.{AnswersMap, IsMapRequest, IsMapRefusal, is_object_there, map_request, map_call, most_allowed, slots_for_pages}
-use Rattle.mmap_calls.specs.Rooms.{AreMade, HasRoomAt, map_of_object}
+use Rattle.mmap_calls.specs.Answers.{AnswersAtOnce}
+use Rattle.mmap_calls.specs.Refusals.{IsMapRequest, IsMapRefusal, is_object_there, map_of_object, map_request, map_call, most_allowed, slots_for_pages}
+use Rattle.mmap_calls.specs.Rooms.{AreMade, HasRoomAt}
 use Rattle.mmap_calls.proofs.CutPlaces.{same-space}
-use Rattle.mmap_calls.proofs.MapResults.{most-seen, passed}
+use Rattle.mmap_calls.proofs.MapResults.{most-seen, passed, placed}
 use Rattle.mmap_calls.proofs.RoomAfter.{HoldsFor, IsCleared, holds-none, holds-object, room-after}
 
 -- one change after another, said by a function that gives the same once the first is done
@@ -99,7 +100,7 @@ pub fits-step : (p : ℕ) (u v : World) (spaces : Spaces) (a b : List (Part Segm
 fits-step p u v spaces a b zeros then f fits step = fits-after p (record { world = u; spaces = spaces }) v spaces b then f (step spaces fits)
 
 -- one step after another
-joined : (p : ℕ) (m : Memory) (u v : World) (spaces : Spaces) (a b : List (Part Segment)) (zeros then : List (Option ℕ)) (f : Flat → Flat) → ChangesSpace p m (record { world = u; spaces = finite.insert spaces p a }) zeros (λ F. F)
+pub joined : (p : ℕ) (m : Memory) (u v : World) (spaces : Spaces) (a b : List (Part Segment)) (zeros then : List (Option ℕ)) (f : Flat → Flat) → ChangesSpace p m (record { world = u; spaces = finite.insert spaces p a }) zeros (λ F. F)
     → ChangesSpace p (record { world = u; spaces = finite.insert spaces p a }) (record { world = v; spaces = finite.insert (finite.insert spaces p a) p b }) then f
     → ChangesSpace p m (record { world = v; spaces = finite.insert spaces p b }) then f
 joined p m u v spaces a b zeros then f first second =
@@ -146,20 +147,6 @@ none-part ps q is = by_part (part_at ps q) refl is
 pub range-free : (cut left : List (Part Segment)) (first n : ℕ) → ((k : ℕ) → piece_at left k ≡ cond (is_in_range first n k) None (piece_at cut k)) → (k : ℕ) → first ≤ k → k < first + n → part_at left k ≡ None
 range-free cut left first n clear k low high =
     none-part left k (clear k ∙ ap (λ (b : Bool). cond b None (piece_at cut k)) (in_range-is first n k low high))
-
--- its range lies in the user addresses
-both : (a b : Bool) → (a && b) ≡ true → (a ≡ true) × (b ≡ true)
-both true b h = (refl, h)
-both false b h = absurd (let z : false ≡ true = h in cc)
-
-pub placed : (q : MapRequest) (s : Segment) → is_valid (map_request q) ≡ true → LiesFrom 1 (part (page q.addr) (pages_in q.length) s)
-placed q s valid =
-    let range = (both _ _ (both _ _ valid).0).0 in
-    let ends = both _ _ range in
-    let low = leb-true 1 (page q.addr) (both _ _ ends.0).1 in
-    let high = leb-true (page q.addr + pages_in q.length) 0x80000 ends.1 in
-    let some = some_pages (map_request q) valid in
-    record { behind = low; some = some; within = high }
 
 -- the zero object that has a map
 pub named-object : (zeros : List (Option ℕ)) (o : Object) (n : ℕ) → map_of_object zeros o ≡ Some n → (z : ℕ) × (o ≡ object.Zero z) × (slice_index_or zeros z None ≡ Some n)
@@ -234,10 +221,6 @@ insert-turned s p g u v apart = finite.same_map nat_cmp_total finite.nat_cmp-IsA
       get-insert_apart (finite.insert s p u) g v q far ∙ get-insert s p u q
       ∙ sym (get-insert (finite.insert s g v) p u q ∙ ap (cond (eqb q p) (Some u)) (get-insert_apart s g v q far))
 ])
-
--- the range of a Map that isn't refused
-pub within-user : (m : Memory) (p : ℕ) (parts : List (Part Segment)) (zeros : List (Option ℕ)) (q : MapRequest) → SpaceFits m.world zeros m.spaces p parts → IsMapRefusal m p q None → LiesFrom 1 (new_part m.world q (record { object = q.object; own = None; shown = None }))
-within-user m p parts zeros q fits due = placed q (new_piece m.world q (record { object = q.object; own = None; shown = None })) (passed m p parts zeros fits q due).valid
 
 -- Once the pieces are cut, with a holder of the zero object that is named, if one is.
 module _ (m : Memory) (p : ℕ) (cut : List (Part Segment)) (zeros then : List (Option ℕ)) (w : World) (o : Object) (held : Option ℕ) (named : held ≡ map_of_object zeros o) (alike : AreSameZeros zeros then)
@@ -521,7 +504,7 @@ abbrev left_with : Flat → Result (ℕ × Flat) Errno → Flat
 left_with F r = (or_refused F (λ x. record { reply = Mapped (4096 * x.0); after = x.1 }) r).after
 
 pub refused-answers : (m : Memory) (p : ℕ) (parts : List (Part Segment)) (zeros : List (Option ℕ)) (q : MapRequest) (e : Errno) → SpaceFits m.world zeros m.spaces p parts → IsMapRefusal m p q (Some e)
-    → AnswersMap p m (record { world = m.world; spaces = finite.insert m.spaces p parts }) (map_call q) (Refused e)
+    → AnswersAtOnce p m (record { world = m.world; spaces = finite.insert m.spaces p parts }) (map_call q) (Refused e)
 refused-answers m p parts zeros q e fits due = record {
   changes = segment_rule.same p m (record { world = m.world; spaces = finite.insert m.spaces p parts }) (λ F. F) (λ F. (effect F p (map_call q)).after) (λ born notes. sym (ap (left_with (flat_memory m born notes)) (due born notes))) (same-space m.world zeros m.spaces p parts fits).changes;
   plain = tt;
@@ -529,54 +512,9 @@ refused-answers m p parts zeros q e fits due = record {
 }
 
 -- DONE.
-pub done-answers : (m new : Memory) (p : ℕ) (q : MapRequest) (zeros : List (Option ℕ)) (a : ℕ) → IsMapRefusal m p q None → a ≡ 4096 * page q.addr → ChangesSpace p m new zeros (λ F. with_mapping F p (map_request q) (page q.addr)) → AnswersMap p m new (map_call q) (Mapped a)
+pub done-answers : (m new : Memory) (p : ℕ) (q : MapRequest) (zeros : List (Option ℕ)) (a : ℕ) → IsMapRefusal m p q None → a ≡ 4096 * page q.addr → ChangesSpace p m new zeros (λ F. with_mapping F p (map_request q) (page q.addr)) → AnswersAtOnce p m new (map_call q) (Mapped a)
 done-answers m new p q zeros a due first maps = record {
   changes = segment_rule.same p m new (λ F. with_mapping F p (map_request q) (page q.addr)) (λ F. (effect F p (map_call q)).after) (λ born notes. sym (ap (left_with (flat_memory m born notes)) (due born notes))) maps.changes;
   plain = tt;
   due = λ born notes. ap (answered (flat_memory m born notes)) (due born notes) ∙ ap (λ (n : ℕ). Mapped n) (sym first);
 }
-
--- what is due of a plain reply
-acts : (F G : Flat) (p : ℕ) (call : Call) (r : Reply) (cleared : ℕ) → IsPlainReply r → (effect F p call).reply ≡ r → G ≡ (effect F p call).after
-    → IsDue F (record { process = p; call = call; reply = r; cleared = cleared }) × (G ≡ after_act F (record { process = p; call = call; reply = r; cleared = cleared }))
-acts F G p call (reply.Io disk before after) cleared own due after_is = absurd own
-acts F G p call (reply.Synced from) cleared own due after_is = absurd own
-acts F G p call reply.Done cleared own due after_is = (due, after_is)
-acts F G p call (reply.Word n) cleared own due after_is = (due, after_is)
-acts F G p call (reply.Mapped n) cleared own due after_is = (due, after_is)
-acts F G p call (reply.Bytes l) cleared own due after_is = (due, after_is)
-acts F G p call (reply.Signal x) cleared own due after_is = (due, after_is)
-acts F G p call (reply.Refused x) cleared own due after_is = (due, after_is)
-
-or-false : (b : Bool) → b ≡ (b || false)
-or-false true = refl
-or-false false = refl
-
--- no frame is taken
-abbrev takes-none : (m : Memory) (pending : ℕ) → MemoryFits m → TakesFrames m m.world pending pending
-takes-none m pending fits = record {
-  cut = λ name. false;
-  step = keeps-same m.world m.spaces fits;
-  pends = record { bits = λ f lt. or-false (is_bit_set pending f); below = λ lt. lt };
-  took = λ name is. absurd (let z : false ≡ true = is in cc);
-}
-
--- THE CALL IS SERVED.
-pub map-serves : (old new : Memory) (pending more p : ℕ) (q : MapRequest) (call : Call) (r : Reply) → call ≡ map_call q → more ≡ pending → MemoryFits old → AnswersMap p old new (map_call q) r → ServesDone old new pending more p call r
-map-serves old new pending more p q call r is same fits done =
-    subst (λ (n : ℕ). ServesDone old new pending n p call r) (sym same) (subst (λ (x : Call). ServesDone old new pending pending p x r) (sym is) (record {
-      mid = old.world;
-      first = takes-none old pending fits;
-      acts = λ cleared. record {
-        machine = done.changes.machine;
-        others = done.changes.others;
-        memory = done.changes.memory;
-        notes = done.changes.notes;
-        tells = done.changes.tells;
-        flat = λ born notes nf tell whole.
-            acts (flat_memory old born notes) (flat_memory new born notes) p (map_call q) r cleared done.plain (done.due born notes) (done.changes.flat born notes nf tell whole).0;
-      };
-      replaced = λ name is. absurd (let z : false ≡ true = is in cc);
-      refusal = λ born notes. ap refusal_in (done.due born notes);
-      clean = λ from name is wants. absurd wants;
-    }))

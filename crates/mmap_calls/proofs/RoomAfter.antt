@@ -28,10 +28,11 @@ use Rattle.vm_world.proofs.Maps.{get-map_with, get-space_with}
 use Rattle.vm_world.proofs.PartSums.{all_parts, sum-insert}
 use Rattle.vm_world.proofs.Reserves.{private-parts, total-map_with}
 use Rattle.vm_world.proofs.ShownZeros.{IsShown, fits-shown, shown-by}
-use Rattle.seg_vn.specs.Clears.{SpaceFits, slots_of_range}
+use Rattle.seg_vn.specs.Clears.{SpaceFits}
 use Rattle.seg_vn.proofs.ClearedSpaces.{cut-map}
 use Rattle.mmap_calls.specs.declared.refusals.MapRequest.{MapRequest}
-use Rattle.mmap_calls.specs.GivenUp.{is_zero_object, given_up, pages_given, shown_within}
+use Rattle.mmap_calls.specs.GivenUp.{is_zero_object, given_up, pages_given}
+use Rattle.mmap_calls.specs.RangeCounts.{shown_within, slots_of_range}
 use Rattle.mmap_calls.specs.Looks.{kind_and_object}
 use Rattle.mmap_calls.specs.Refusals.{IsMapRefusal, slots_for_pages}
 use Rattle.mmap_calls.proofs.Counted.{left-slots}
@@ -102,7 +103,7 @@ module _ (m n : Memory) (zeros : List (Option ℕ)) (o : Object) (S : Spaces) (p
   left-here = ap (λ (s : Spaces). finite.get s p) cleared.spaces ∙ get-insert_here S p left
 
   -- PRIVATE PAGES: those outside of the range
-  private-left : all_parts slots_for_part n.spaces + slots_of_range parts first pages ≡ all_parts slots_for_part m.spaces
+  private-left : all_parts slots_for_part n.spaces + slots_of_range parts first (first + pages) ≡ all_parts slots_for_part m.spaces
   private-left =
       let held : ℕ → ℕ → Option Page = λ number place. None in
       let put = sum-insert slots_for_part S p parts left holds.here in
@@ -110,7 +111,7 @@ module _ (m n : Memory) (zeros : List (Option ℕ)) (o : Object) (S : Spaces) (p
       let slots = holds.slots in
       let old = private-parts held parts (fits.memory.segments.ordered p parts fits.here) in
       let new = private-parts held left (cleared.fits.segments.ordered p left left-here) in
-      let out = left-slots held parts first pages in
+      let out = left-slots held parts (fits.memory.segments.ordered p parts fits.here) first pages in
       let same = sym (total-map_with (λ (k : ℕ). k) slots_for (space_with held left)) ∙ ap (total (λ (k : ℕ). k)) (alike held) ∙ total-map_with (λ (k : ℕ). k) slots_for (without_range (space_with held parts) first pages) in
       omega (arith, put, all, slots, old, new, out, same)
     where
@@ -217,7 +218,7 @@ module _ (m n : Memory) (zeros : List (Option ℕ)) (o : Object) (S : Spaces) (p
       omega (arith, new, old, sum, both, within)
 
   -- WHAT IS RESERVED THEN is no more than what was, without what is given up
-  pub reserved-left : n.world.anon.reserved + slots_of_range parts first pages + given_up m.world.maps zeros parts first (first + pages) o (length zeros) ≤ m.world.anon.reserved
+  pub reserved-left : n.world.anon.reserved + slots_of_range parts first (first + pages) + given_up m.world.maps zeros parts first (first + pages) o (length zeros) ≤ m.world.anon.reserved
   reserved-left =
       let private = private-left in
       let zero = zeros-left in

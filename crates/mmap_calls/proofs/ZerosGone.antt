@@ -35,7 +35,8 @@ use Rattle.vm_world.proofs.SegmentCells.{segment_cells}
 use Rattle.vm_world.proofs.ShownZeros.{IsShown, fits-shown, zero_map-of, zero-of-object}
 use Rattle.seg_ops.proofs.SlotOwners.{object-fits}
 use Rattle.seg_vn.specs.Clears.{SpaceFits}
-use Rattle.mmap_calls.specs.GivenUp.{is_zero_object, shown_within, pages_given, given_up}
+use Rattle.mmap_calls.specs.GivenUp.{is_zero_object, pages_given, given_up}
+use Rattle.mmap_calls.specs.RangeCounts.{shown_within}
 use Rattle.mmap_calls.proofs.Holders.{IsShownOutside, outside-more, outside-none, zero-has-map}
 
 -- SUMS OVER NUMBERS

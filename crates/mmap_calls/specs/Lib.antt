@@ -1,5 +1,7 @@
-pub mod Maps
+pub mod Calls
 pub mod Rooms
 pub mod Looks
+pub mod RangeCounts
 pub mod GivenUp
+pub mod Answers
 pub mod Refusals

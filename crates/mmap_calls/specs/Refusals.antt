@@ -1,8 +1,8 @@
 -- What a Map at an address asks for, the refusal that is due to it, as it is told from pieces and counts, and what its reply leaves. Inside: no public clause
 -- cites this.
-use Rattle.std.specs.Prelude.{if◌then◌else◌, Bool, Err, List, None, Ok, Option, Result, Some, is_some, length, nat_le, nat_lt, not, slice_index_or, suc, true, zero, ℕ, ◌+◌, ◌-◌, ◌≡◌}
+use Rattle.std.specs.Prelude.{if◌then◌else◌, Bool, Err, List, None, Ok, Option, Result, Some, is_some, length, nat_le, nat_lt, not, slice_index_or, true, ℕ, ◌+◌, ◌-◌, ◌<◌, ◌≤◌, ◌≡◌}
 use Rattle.std.specs.Ordering.{nat_cmp}
-use Rattle.addr_space.specs.Space.{Part, page_total, part_at}
+use Rattle.addr_space.specs.Space.{Part, page_total}
 use Rattle.vnode_files.specs.Files.{vnode_at}
 use Rattle.page_store.specs.Notes.{Notes}
 use Rattle.vm_types.specs.declared.call.Call.{Call}
@@ -21,13 +21,20 @@ use Rattle.flat_model.specs.Step.{effect}
 use Rattle.flat_model.specs.Words.{page, pages_in}
 use Rattle.vm_world.specs.FlatMemory.{Memory, flat_memory}
 use Rattle.vm_world.specs.SegmentSteps.{ChangesSegments}
-use Rattle.vm_world.specs.World.{World}
+use Rattle.vm_world.specs.Segments.{Spaces}
+use Rattle.vm_world.specs.Words.{memory}
+use Rattle.vm_world.specs.World.{World, world_seen}
+use Rattle.vm_world.specs.ZeroObjects.{KnowsZeros}
+use Rattle.vm_world.specs.declared.world.World as rust
+use Rattle.seg_vn.specs.Clears.{SpaceFits}
 use Rattle.vm_world.specs.declared.segment.Segment.{Segment}
 use Rattle.seg_vn.specs.Serves.{IsPlainReply}
 use Rattle.mmap_calls.specs.declared.refusals.MapRequest.{MapRequest}
+use Rattle.mmap_calls.specs.declared.refusals.NewMapping.{NewMapping}
 use Rattle.vm_types.specs.Prot.{is_within}
-use Rattle.seg_vn.specs.Clears.{slots_of_range}
 use Rattle.mmap_calls.specs.GivenUp.{given_up}
+use Rattle.mmap_calls.specs.RangeCounts.{mapped_pages, slots_of_range}
+use Rattle.std.specs.FinMap as finite
 use Rattle.std.specs.FinSet as set
 use Rattle.vm_types.specs.declared.call.Errno.TheVariants as errno
 use Rattle.vm_types.specs.declared.call.Object.TheVariants as object
@@ -39,16 +46,15 @@ map_request m = record { place = At m.addr; len = m.length; prot = m.prot; kind 
 abbrev pub map_call : MapRequest → Call
 map_call m = Map (At m.addr) m.length m.prot m.kind m.object m.offset
 
+abbrev pub IsMapAt : Call → Type 0
+IsMapAt (Map (At addr) len prot kind o offset) = Unit {0}
+IsMapAt call = ⊥
+
 -- Its numbers are below 2^32.
 pub record IsMapRequest (m : MapRequest) : Type 0 where
   pub addr : IsNumber m.addr
   pub length : IsNumber m.length
   pub offset : IsNumber m.offset
-
--- How many of so many pages from the first are mapped.
-abbrev pub mapped_pages : List (Part Segment) → ℕ → ℕ → ℕ
-mapped_pages parts first zero = 0
-mapped_pages parts first (suc n) = mapped_pages parts first n + (if is_some (part_at parts (first + n)) then 1 else 0)
 
 -- The object is there: such a file, or a zero object that is listed; new zero memory always is.
 abbrev pub is_object_there : World → List (Option ℕ) → Object → Bool
@@ -61,11 +67,36 @@ abbrev pub most_allowed : World → Kind → Object → Prot
 most_allowed w Shared (object.File f) = if (vnode_at w.files f).info.writable then prot_read_write else prot_read
 most_allowed w kind o = prot_read_write
 
+-- The map of the zero object that an object is, if it is one.
+abbrev pub map_of_object : List (Option ℕ) → Object → Option ℕ
+map_of_object zeros (object.Zero z) = slice_index_or zeros z None
+map_of_object zeros o = None
+
 -- How many slots a mapping of so many pages reserves: one for each page that is private, or of a new zero object.
 abbrev pub slots_for_pages : Kind → Object → ℕ → ℕ
 slots_for_pages Private o n = n
 slots_for_pages Shared object.NewZero n = n
 slots_for_pages Shared o n = 0
+
+-- How many slots the mapping of a request that was worked out reserves.
+abbrev pub slots_for_map : NewMapping → ℕ
+slots_for_map m = slots_for_pages m.request.kind m.request.object m.pages
+
+-- The request asks for a range, an object that is there, and no more than may be done with it; and what is worked out from it is right.
+pub record IsNewMapping (w : World) (zeros : List (Option ℕ)) (m : NewMapping) : Type 0 where
+  pub valid : is_valid (map_request m.request) ≡ true
+  pub there : is_object_there w zeros m.request.object ≡ true
+  pub within : is_within m.request.prot m.max ≡ true
+  pub low : 1 ≤ m.first
+  pub some : 0 < m.pages
+  pub high : m.first + m.pages ≤ 0x80000
+  pub first : m.first ≡ page m.request.addr
+  pub pages : m.pages ≡ pages_in m.request.length
+  pub max : m.max ≡ most_allowed w m.request.kind m.request.object
+  pub held : m.held ≡ map_of_object zeros m.request.object
+
+abbrev pub IsMappingOf : {D : Type 0} → rust.World D → NewMapping → Type 0
+IsMappingOf w m = IsNewMapping (world_seen w) w.zeros m
 
 -- What a Map comes to in flat memory: this refusal, or its first page and the new mapping.
 abbrev pub map_outcome : Flat → ℕ → MapRequest → Option Errno → Result (ℕ × Flat) Errno
@@ -76,20 +107,18 @@ map_outcome F p m (Some e) = Err e
 abbrev pub IsMapRefusal : Memory → ℕ → MapRequest → Option Errno → Type 0
 IsMapRefusal memory p m refused = (born : set.FinSet nat_cmp) (notes : Notes) → map_result (flat_memory memory born notes) p (map_request m) ≡ map_outcome (flat_memory memory born notes) p m refused
 
--- A call is done with this plain reply: what it does is due in flat memory.
-pub record AnswersMap (p : ℕ) (old new : Memory) (call : Call) (r : Reply) : Type 0 where
-  pub changes : ChangesSegments p old new (λ F. (effect F p call).after)
-  pub plain : IsPlainReply r
-  pub due : (born : set.FinSet nat_cmp) (notes : Notes) → (effect (flat_memory old born notes) p call).reply ≡ r
+-- The same in the world, whatever the spaces in which a process is alive with these parts.
+abbrev pub IsRefused : {D : Type 0} → rust.World D → List (Part Segment) → MapRequest → Option Errno → Type 0
+IsRefused w parts m refused = (spaces : Spaces) (p : ℕ) → SpaceFits (world_seen w) w.zeros spaces p parts → IsMapRefusal (memory w spaces) p m refused
 
 -- How many pages are mapped with the new mapping, in the place of what its range has.
 abbrev pub pages_after : List (Part Segment) → MapRequest → ℕ
-pages_after parts m = page_total parts - mapped_pages parts (page m.addr) (pages_in m.length) + pages_in m.length
+pages_after parts m = page_total parts - mapped_pages parts (page m.addr) (page m.addr + pages_in m.length) + pages_in m.length
 
 -- How many slots are reserved with it: those of its range, and of the zero objects that its range alone shows, are given up.
 abbrev pub reserved_after : World → List (Option ℕ) → List (Part Segment) → MapRequest → ℕ
 reserved_after w zeros parts m =
-    w.anon.reserved - slots_of_range parts (page m.addr) (pages_in m.length) - given_up w.maps zeros parts (page m.addr) (page m.addr + pages_in m.length) m.object (length zeros) + slots_for_pages m.kind m.object (pages_in m.length)
+    w.anon.reserved - slots_of_range parts (page m.addr) (page m.addr + pages_in m.length) - given_up w.maps zeros parts (page m.addr) (page m.addr + pages_in m.length) m.object (length zeros) + slots_for_pages m.kind m.object (pages_in m.length)
 
 -- The refusal that is due to a Map, told from pieces and counts: the first whose test fails, in this order.
 abbrev pub refusal_of : World → List (Option ℕ) → List (Part Segment) → MapRequest → Option Errno

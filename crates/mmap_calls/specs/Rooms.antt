@@ -19,11 +19,6 @@ pub record HasRoomAt (items : List (Option ℕ)) (room more : ℕ) (maps : List 
   pub roomy : (x : Spot) → piece_at parts page ≡ Some x → IsSome x.0.own → x.0.pages - x.1 ≤ room
   pub few : (x : Spot) (number : ℕ) → piece_at parts page ≡ Some x → x.0.shown ≡ Some number → holders_of maps number + more < 2 ^ 32
 
--- The map of the zero object that an object is, if it is one.
-abbrev pub map_of_object : List (Option ℕ) → Object → Option ℕ
-map_of_object zeros (object.Zero z) = slice_index_or zeros z None
-map_of_object zeros o = None
-
 -- What a new piece of so many pages shows, and its anon maps: a private one has a new map of its own; shared new zero memory shows a new zero object,
 -- which has a new map and the least number that is free; and any other object has the map that is held for it.
 abbrev pub AreMade : List (Option Map) → List (Option Map) → List (Option ℕ) → List (Option ℕ) → Option ℕ → ℕ → Kind → Object → Anons → Type 0

@@ -1,12 +1,9 @@
 //! Pieces that go across an end of a range are cut there.
-ghost use Rattle.std.specs.Prelude.{◌≡◌, ◌≤◌, ◌<◌, ◌+◌, ◌^◌, ℕ, List, Option, Some, None, IfOk, length, option_map, slice_index_or, vec_capacity};
-ghost use Rattle.std.specs.FinMap as finite;
+ghost use Rattle.std.specs.Prelude.{◌≡◌, ◌≤◌, ◌<◌, ◌+◌, ◌^◌, ℕ, List, Option, Some, None, IfOk, OnErr, length, option_map, slice_index_or, vec_capacity};
 ghost use Rattle.addr_space.specs.Space.{piece_at};
 ghost use Rattle.anon_map.specs.Maps.{IsMapThere, free_numbers, holders_of, places_of};
-ghost use Rattle.vm_world.specs.Segments.{Spaces};
-ghost use Rattle.vm_world.specs.Words.{memory, OnlyMaps};
-ghost use Rattle.vm_world.specs.World.{world_seen};
-ghost use Rattle.seg_vn.specs.Clears.{ChangesSpace, SpaceFits, StartsAt};
+ghost use Rattle.vm_world.specs.Words.{OnlyMaps};
+ghost use Rattle.seg_vn.specs.Clears.{MayBeAlive, MayBeSpace, SpaceBecomes, StartsAt};
 ghost use Rattle.mmap_calls.specs.Looks.{kind_and_object};
 ghost use Rattle.mmap_calls.specs.Rooms.{HasRoomAt};
 
@@ -42,8 +39,7 @@ pub(crate) fn room_at<D: Disk>(
     space: &Ranges<VnSeg>,
     page: u32,
 ) -> Result<Vec<Option<u32>>, AllocError>
-    requires fits { (spaces : Spaces) × (process : ℕ)
-        × SpaceFits (world_seen world.now) world.now.zeros spaces process space.now.parts }
+    requires fits { MayBeSpace world.now space.now.parts }
     ensures { IfOk result (λ room. HasRoomAt room.items (vec_capacity room) 3
         world.now.maps space.now.parts page) }
 {
@@ -69,8 +65,7 @@ pub(crate) fn cut<D: Disk>(
     requires numbers { 0 < free_numbers world.old.maps }
     requires room { (more : ℕ) × HasRoomAt room.items (vec_capacity room) (more + 1)
         world.old.maps space.old.parts page }
-    requires fits { (spaces : Spaces)
-        × SpaceFits (world_seen world.old) world.old.zeros spaces process space.old.parts }
+    requires fits { MayBeAlive world.old process space.old.parts }
     // No piece goes across the begin of the page now, nor any other that none went across.
     ensures starts { StartsAt space.new.parts page }
     ensures kept { (q : ℕ) → StartsAt space.old.parts q → StartsAt space.new.parts q }
@@ -87,10 +82,7 @@ pub(crate) fn cut<D: Disk>(
     ensures lengths { (z number : ℕ) → slice_index_or world.old.zeros z None ≡ Some number
         → length (places_of world.new.maps number) ≡ length (places_of world.old.maps number) }
     // Flat memory is as it was.
-    ensures changes { (spaces : Spaces)
-        → SpaceFits (world_seen world.old) world.old.zeros spaces process space.old.parts
-        → ChangesSpace process (memory world.old spaces)
-        (memory world.new (finite.insert spaces process space.new.parts)) world.new.zeros
+    ensures changes { SpaceBecomes world.old world.new process space.old.parts space.new.parts
         (λ F. F) }
     // At most one number and one piece are used.
     ensures spare { space.old.spare ≤ space.new.spare + 1 }
@@ -109,4 +101,34 @@ pub(crate) fn cut<D: Disk>(
     };
     let upper = segment.cut_into(world, page - first, room);
     space.split_at(page, upper);
+}
+
+/// Cuts the pieces that go across the ends of a range, so that none does. All room is taken first, so that where memory is wanting
+/// nothing changed; that, or want of numbers, is the only error. Time: the number of pieces, and the places that go over.
+pub(crate) fn cut_ends<D: Disk>(
+    world: &mut World<D>,
+    space: &mut Ranges<VnSeg>,
+    process: u32,
+    first: u32,
+    end: u32,
+) -> Result<(), AllocError>
+    requires range { first ≤ end }
+    requires fits { MayBeAlive world.old process space.old.parts }
+    ensures low { IfOk result (λ _. StartsAt space.new.parts first) }
+    ensures high { IfOk result (λ _. StartsAt space.new.parts end) }
+    // Flat memory is as it was.
+    ensures changes { IfOk result (λ _. SpaceBecomes world.old world.new process
+        space.old.parts space.new.parts (λ F. F)) }
+    // What stays.
+    ensures world { OnlyMaps world.old world.new }
+    ensures err { OnErr result ((world.new ≡ world.old)
+        × (space.new.parts ≡ space.old.parts)) }
+{
+    let begin_room = room_at(world, space, first)?;
+    let end_room = room_at(world, space, end)?;
+    space.reserve(2)?;
+    world.maps.reserve(2)?;
+    cut(world, space, process, end, end_room);
+    cut(world, space, process, first, begin_room);
+    Ok(())
 }

@@ -1,8 +1,11 @@
 //! Calls that change the mappings of a process.
 #![tactic(auto)]
 
+mod calls;
+mod counts;
 mod cuts;
 mod maps;
 mod refusals;
+mod unmaps;
 
-pub use maps::attempt;
+pub use calls::attempt;

@@ -1,16 +1,15 @@
 //! When a Map is refused.
-ghost use Rattle.std.specs.Prelude.{◌≡◌, ◌+◌, ◌≤◌, ◌^◌, ℕ, List, Option, None, length, is_some, slice_index, slice_index_or, IsTrue, IfOk, if◌then◌else◌};
-ghost use Rattle.addr_space.specs.Space.{Part, part_at, piece_at};
+ghost use Rattle.std.specs.Prelude.{◌≡◌, ◌+◌, ◌≤◌, ◌^◌, ℕ, List, Option, None, Some, length, slice_index, slice_index_or, IsTrue, IfErr, IfOk};
+ghost use Rattle.addr_space.specs.Space.{Part};
 ghost use Rattle.flat_model.specs.Mapping.{is_valid, prot_read_write};
-ghost use Rattle.vm_world.specs.Words.{memory};
-ghost use Rattle.vm_world.specs.World as worlds;
 ghost use Rattle.vm_world.specs.World.{world_seen};
-ghost use Rattle.seg_vn.specs.Clears.{SpaceFits, slots_at, slots_of_range};
-ghost use Rattle.vm_world.specs.Segments.{Spaces};
+ghost use Rattle.seg_vn.specs.Clears.{MayBeSpace};
 ghost use Rattle.vm_world.specs.declared.segment.Segment.{Segment};
-ghost use Rattle.mmap_calls.specs.GivenUp.{given_up, pages_given, shown_within, zero_object_from};
-ghost use Rattle.mmap_calls.specs.Refusals.{IsMapRefusal, is_object_there, map_request, mapped_pages, most_allowed, refusal_of, slots_for_pages};
+ghost use Rattle.mmap_calls.specs.GivenUp.{given_up, pages_given};
+ghost use Rattle.mmap_calls.specs.RangeCounts.{shown_within};
+ghost use Rattle.mmap_calls.specs.Refusals.{IsMappingOf, IsRefused, is_object_there, map_of_object, map_request, most_allowed, slots_for_pages};
 
+use crate::counts::count_range;
 use addr_space::Ranges;
 use bitflags::Flags;
 use block_device::Disk;
@@ -33,55 +32,15 @@ pub(crate) struct MapRequest {
     pub offset: u32,
 }
 
-// 1 for a page that is mapped, else 0.
-fn one_if_mapped(space: &Ranges<VnSeg>, page: u32) -> u32
-    ensures { result ≡ (if is_some (part_at space.now.parts page) then 1 else 0) }
-{
-    match space.find(page) {
-        Some(_) => 1,
-        None => 0,
-    }
-}
-
-// How many pages of a range are mapped. Time: the pages of the range, and the logarithm of the number of pieces for each.
-fn mapped_pages(space: &Ranges<VnSeg>, first: u32, pages: u32) -> u32
-    requires { first + pages ≤ 0x80000 }
-    ensures { result ≡ mapped_pages space.now.parts first pages }
-{
-    let mut count = 0;
-    for page in first..first + pages {
-        count += one_if_mapped(space, page);
-    }
-    count
-}
-
-// How many slots a page reserves.
-fn slots_at(space: &Ranges<VnSeg>, page: u32) -> u32
-    requires { (w : worlds.World) × (zeros : List (Option ℕ)) × (spaces : Spaces) × (process : ℕ)
-        × SpaceFits w zeros spaces process space.now.parts }
-    ensures { result ≡ slots_at (piece_at space.now.parts page) }
-{
-    let Some((_first, _pages, segment)) = space.find(page) else {
-        return 0;
-    };
-    match segment.own() {
-        Some(_) => 1,
-        None => 0,
-    }
-}
-
-// How many slots a range of pages reserves. Time: the pages of the range, and the logarithm of the number of pieces for each.
-fn slots_of_range(space: &Ranges<VnSeg>, first: u32, pages: u32) -> u32
-    requires within { first + pages ≤ 0x80000 }
-    requires fits { (w : worlds.World) × (zeros : List (Option ℕ)) × (spaces : Spaces)
-        × (process : ℕ) × SpaceFits w zeros spaces process space.now.parts }
-    ensures { result ≡ slots_of_range space.now.parts first pages }
-{
-    let mut count = 0;
-    for page in first..first + pages {
-        count += slots_at(space, page);
-    }
-    count
+/// A Map that asks for a range and an object that are there, with what is worked out from it once: its first page and its number
+/// of pages, the most that may ever be done there, and the map of the zero object that it names, if it names one.
+#[derive(Clone, Copy)]
+pub(crate) struct NewMapping {
+    pub request: MapRequest,
+    pub first: u32,
+    pub pages: u32,
+    pub max: Prot,
+    pub held: Option<u32>,
 }
 
 // Whether the range is one, and the offset begins a page, and is 0 for new zero memory.
@@ -93,7 +52,7 @@ fn is_valid(map: &MapRequest) -> bool
     is_range(map.addr, map.length) && begins && fits
 }
 
-/// Whether a mapping's object is there.
+// Whether a mapping's object is there.
 fn is_object_there<D: Disk>(world: &World<D>, object: Object) -> bool
     ensures { result ≡ is_object_there (world_seen world.now) world.now.zeros object }
 {
@@ -104,8 +63,8 @@ fn is_object_there<D: Disk>(world: &World<D>, object: Object) -> bool
     }
 }
 
-/// The most that may be done with a mapping whose object is there.
-pub(crate) fn most_allowed<D: Disk>(world: &World<D>, kind: Kind, object: Object) -> Prot
+// The most that may be done with a mapping whose object is there.
+fn most_allowed<D: Disk>(world: &World<D>, kind: Kind, object: Object) -> Prot
     requires { IsTrue (is_object_there (world_seen world.now) world.now.zeros object) }
     ensures { result ≡ most_allowed (world_seen world.now) kind object }
 {
@@ -127,6 +86,45 @@ fn prot_read_write() -> Prot
     Prot::READ.union(Prot::WRITE)
 }
 
+// The map of the zero object that a mapping names, if it names one.
+fn map_of_object<D: Disk>(world: &World<D>, object: Object) -> Option<u32>
+    ensures { result ≡ map_of_object world.now.zeros object }
+{
+    match object {
+        Object::Zero(number) => world.zeros.map(number),
+        _ => None,
+    }
+}
+
+/// What a Map maps, or the refusal that is due to it whatever is mapped: its range, its object and its protection are looked at.
+pub(crate) fn new_mapping<D: Disk>(
+    world: &World<D>,
+    request: &MapRequest,
+) -> Result<NewMapping, Errno>
+    ensures request { IfOk result (λ map. map.request ≡ request.now) }
+    ensures mapping { IfOk result (IsMappingOf world.now) }
+    ensures refused { IfErr result (λ errno. (parts : List (Part Segment))
+        → IsRefused world.now parts request.now (Some errno)) }
+{
+    if !is_valid(request) {
+        return Err(Errno::Invalid);
+    }
+    if !is_object_there(world, request.object) {
+        return Err(Errno::NoObject);
+    }
+    let max = most_allowed(world, request.kind, request.object);
+    if !request.prot.is_within(max) {
+        return Err(Errno::Access);
+    }
+    Ok(NewMapping {
+        request: *request,
+        first: page_of(request.addr),
+        pages: pages_in(request.length),
+        max,
+        held: map_of_object(world, request.object),
+    })
+}
+
 /// How many slots a mapping of so many pages reserves.
 pub(crate) fn slots_for_pages(kind: Kind, object: Object, pages: u32) -> u32
     ensures { result ≡ slots_for_pages kind object pages }
@@ -138,54 +136,10 @@ pub(crate) fn slots_for_pages(kind: Kind, object: Object, pages: u32) -> u32
     }
 }
 
-// The zero object that the piece shows which begins with a page, if that piece ends by another.
-fn zero_object_from(space: &Ranges<VnSeg>, page: u32, end: u32) -> Option<u32>
-    requires { (w : worlds.World) × (zeros : List (Option ℕ)) × (spaces : Spaces) × (process : ℕ)
-        × SpaceFits w zeros spaces process space.now.parts }
-    ensures { result ≡ zero_object_from space.now.parts page end }
-{
-    let (first, pages, segment) = space.find(page)?;
-    if first != page || first + pages > end {
-        return None;
-    }
-    match segment.object(0).0 {
-        Object::Zero(number) => Some(number),
-        _ => None,
-    }
-}
-
-// How many pieces that lie wholly in a range show each zero object, by its number. The only error is want of memory. Time: the
-// pages of the range, and the logarithm of the number of pieces for each; and the number of zero objects, as does its memory.
-fn tally<D: Disk>(
-    world: &World<D>,
-    space: &Ranges<VnSeg>,
-    first: u32,
-    end: u32,
-) -> Result<Vec<u32>, AllocError>
-    requires range { first ≤ end }
-    requires within { end ≤ 0x80000 }
-    requires fits { (spaces : Spaces) × (process : ℕ)
-        × SpaceFits (world_seen world.now) world.now.zeros spaces process space.now.parts }
-    // A count for each number.
-    ensures len { IfOk result (λ counts. length counts.items ≡ length world.now.zeros) }
-    ensures few { IfOk result (λ counts. length counts.items ≤ 2 ^ 32) }
-    ensures counts { IfOk result (λ counts. (z : ℕ)
-        → slice_index counts.items z ≡ shown_within space.now.parts first end z) }
-{
-    let mut counts = world.zeros.tally()?;
-    for page in first..end {
-        if let Some(number) = zero_object_from(space, page, end) {
-            counts[number as usize] += 1;
-        }
-    }
-    Ok(counts)
-}
-
 // The pages of a zero object, if it is given up: as many pieces show it as are counted, and it isn't mapped. 0 where there is
 // none.
 fn pages_given<D: Disk>(world: &World<D>, object: Object, number: u32, count: u32) -> u32
-    requires { (spaces : Spaces) × (process : ℕ) × (parts : List (Part Segment))
-        × SpaceFits (world_seen world.now) world.now.zeros spaces process parts }
+    requires { (parts : List (Part Segment)) × MayBeSpace world.now parts }
     ensures { result ≡ pages_given world.now.maps object number count
         (slice_index_or world.now.zeros number None) }
 {
@@ -198,81 +152,52 @@ fn pages_given<D: Disk>(world: &World<D>, object: Object, number: u32, count: u3
     world.maps.pages(map)
 }
 
-// The pages of the zero objects that a Map gives up: each piece that shows one lies wholly in its range, and it isn't the object
-// that is mapped. The only error is want of memory. Time and memory: as `tally`.
+// The pages of the zero objects that a Map gives up: as many pieces as show one lie wholly in its range, and it isn't the object
+// that is mapped. Time: the number of zero objects.
 fn given_up<D: Disk>(
     world: &World<D>,
     space: &Ranges<VnSeg>,
-    first: u32,
-    pages: u32,
-    object: Object,
-) -> Result<u32, AllocError>
-    requires within { first + pages ≤ 0x80000 }
-    requires there { IsTrue (is_object_there (world_seen world.now) world.now.zeros object) }
-    requires fits { (spaces : Spaces) × (process : ℕ)
-        × SpaceFits (world_seen world.now) world.now.zeros spaces process space.now.parts }
-    ensures { IfOk result (λ up. up ≡ given_up world.now.maps world.now.zeros space.now.parts
-        first (first + pages) object (length world.now.zeros)) }
+    map: &NewMapping,
+    shown: &Vec<u32>,
+) -> u32
+    requires mapping { IsMappingOf world.now map.now }
+    requires fits { MayBeSpace world.now space.now.parts }
+    requires len { length shown.now.items ≡ length world.now.zeros }
+    requires few { length shown.now.items ≤ 2 ^ 32 }
+    requires shown { (z : ℕ) → slice_index shown.now.items z
+        ≡ shown_within space.now.parts map.now.first (map.now.first + map.now.pages) z }
+    ensures { result ≡ given_up world.now.maps world.now.zeros space.now.parts
+        map.now.first (map.now.first + map.now.pages) map.now.request.object
+        (length world.now.zeros) }
 {
-    let counts = tally(world, space, first, first + pages)?;
     let mut up = 0;
-    for number in 0..counts.len() {
-        up += pages_given(world, object, number as u32, counts[number]);
+    for number in 0..shown.len() {
+        up += pages_given(world, map.request.object, number as u32, shown[number]);
     }
-    Ok(up)
+    up
 }
 
-// The refusal that is due to a Map, as it is told from pieces and counts. The only error is want of memory. Time and memory: as
-// `refusal`.
-fn told_refusal<D: Disk>(
+/// The refusal that is due to a Map by the room for it, if one is: by the pages of the process and the slots that are reserved,
+/// once what its range has is gone. The only error is want of memory. Time: the logarithm of the number of pieces for each piece
+/// of the range; and the number of zero objects, as does its memory.
+pub(crate) fn refusal<D: Disk>(
     world: &World<D>,
     space: &Ranges<VnSeg>,
-    map: &MapRequest,
+    map: &NewMapping,
 ) -> Result<Option<Errno>, AllocError>
-    requires { (spaces : Spaces) × (process : ℕ)
-        × SpaceFits (world_seen world.now) world.now.zeros spaces process space.now.parts }
-    ensures { IfOk result (λ refused. refused
-        ≡ refusal_of (world_seen world.now) world.now.zeros space.now.parts map.now) }
+    requires mapping { IsMappingOf world.now map.now }
+    requires fits { MayBeSpace world.now space.now.parts }
+    ensures { IfOk result (IsRefused world.now space.now.parts map.now.request) }
 {
-    if !is_valid(map) {
-        return Ok(Some(Errno::Invalid));
-    }
-    if !is_object_there(world, map.object) {
-        return Ok(Some(Errno::NoObject));
-    }
-    if !map
-        .prot
-        .is_within(most_allowed(world, map.kind, map.object))
-    {
-        return Ok(Some(Errno::Access));
-    }
-    let first = page_of(map.addr);
-    let pages = pages_in(map.length);
-    let stay = space.pages() - mapped_pages(space, first, pages);
-    if stay + pages > MOST_PAGES {
+    let counts = count_range(world, space, map.first, map.first + map.pages)?;
+    if space.pages() - counts.pages + map.pages > MOST_PAGES {
         return Ok(Some(Errno::TooLarge));
     }
-    let up = given_up(world, space, first, pages, map.object)?;
-    let kept = world.anon.reserved() - slots_of_range(space, first, pages) - up;
-    let wanted = slots_for_pages(map.kind, map.object, pages);
+    let up = given_up(world, space, map, &counts.shown);
+    let kept = world.anon.reserved() - counts.slots - up;
+    let wanted = slots_for_pages(map.request.kind, map.request.object, map.pages);
     if u64::from(kept) + u64::from(wanted) > u64::from(world.anon.slots()) {
         return Ok(Some(Errno::NoSwap));
     }
     Ok(None)
-}
-
-/// The refusal that is due to a Map, if one is. The only error is want of memory. Time: the pages of the range, and the logarithm
-/// of the number of pieces for each; and the number of zero objects, as does its memory.
-pub(crate) fn refusal<D: Disk>(
-    world: &World<D>,
-    space: &Ranges<VnSeg>,
-    map: &MapRequest,
-) -> Result<Option<Errno>, AllocError>
-    requires { (spaces : Spaces) × (process : ℕ)
-        × SpaceFits (world_seen world.now) world.now.zeros spaces process space.now.parts }
-    ensures { IfOk result (λ refused. (spaces : Spaces) (process : ℕ)
-        → SpaceFits (world_seen world.now) world.now.zeros spaces process space.now.parts
-        → IsMapRefusal (memory world.now spaces) process map.now refused) }
-{
-    told_refusal(world, space, map)
 }

@@ -1,7 +1,6 @@
 -- Spaces from which ranges are taken out. Public clauses cite this.
-use Rattle.std.specs.Prelude.{◌≡◌, ◌≤◌, ℕ, zero, suc, ◌+◌, List, Option, Some, None, length}
+use Rattle.std.specs.Prelude.{◌≡◌, ◌≤◌, ℕ, List, Option, Some, None, length}
 use Rattle.std.specs.FinMap as finite
-use Rattle.vm_types.specs.declared.call.Kind.TheVariants.{Shared, Private}
 use Rattle.addr_space.specs.Space.{Part, piece_at}
 use Rattle.anon_map.specs.Maps.{IsMapThere, places_of, free_numbers}
 use Rattle.anon_slots.specs.Slots.{count_at}
@@ -12,7 +11,9 @@ use Rattle.vm_world.specs.MemoryFits.{MemoryFits}
 use Rattle.vm_world.specs.SegmentSteps.{ChangesSegments}
 use Rattle.vm_world.specs.Segments.{Spot, Spaces}
 use Rattle.vm_world.specs.declared.segment.Segment.{Segment}
-use Rattle.vm_world.specs.World.{World}
+use Rattle.vm_world.specs.Words.{memory}
+use Rattle.vm_world.specs.World.{World, world_seen}
+use Rattle.vm_world.specs.declared.world.World as rust
 use Rattle.vm_world.specs.ZeroObjects.{KnowsZeros}
 
 -- A process is alive with these parts, memory fits, and the list of zero objects is right.
@@ -26,6 +27,18 @@ pub record ChangesSpace (p : ℕ) (old new : Memory) (zeros : List (Option ℕ))
   pub changes : ChangesSegments p old new f
   pub known : KnowsZeros zeros new.spaces
 
+-- The process may be alive with these parts in the world; and some process may.
+abbrev pub MayBeAlive : {D : Type 0} → rust.World D → ℕ → List (Part Segment) → Type 0
+MayBeAlive w p parts = (spaces : Spaces) × SpaceFits (world_seen w) w.zeros spaces p parts
+
+abbrev pub MayBeSpace : {D : Type 0} → rust.World D → List (Part Segment) → Type 0
+MayBeSpace w parts = (spaces : Spaces) × (process : ℕ) × SpaceFits (world_seen w) w.zeros spaces process parts
+
+-- WHATEVER THE SPACES in which the process is alive with these parts: it is alive with the new ones, and flat memory becomes this.
+abbrev pub SpaceBecomes : {D : Type 0} → rust.World D → rust.World D → ℕ → List (Part Segment) → List (Part Segment) → (Flat → Flat) → Type 0
+SpaceBecomes old new p parts after f =
+    (spaces : Spaces) → SpaceFits (world_seen old) old.zeros spaces p parts → ChangesSpace p (memory old spaces) (memory new (finite.insert spaces p after)) new.zeros f
+
 -- Things are given back alone: no slot is counted more often, no page gets a translation, a map that is left was there and has as many places, and no fewer
 -- numbers of maps are free.
 pub record GivesBack (old new : World) : Type 0 where
@@ -38,13 +51,3 @@ pub record GivesBack (old new : World) : Type 0 where
 -- No part goes across the begin of this page.
 abbrev pub StartsAt : List (Part Segment) → ℕ → Type 0
 StartsAt parts q = (x : Spot) → piece_at parts q ≡ Some x → x.1 ≡ 0
-
--- How many slots a page reserves: one where it is private.
-abbrev pub slots_at : Option Spot → ℕ
-slots_at None = 0
-slots_at (Some x) = elim x.0.kind [ Private ↦ 1 | Shared ↦ 0 ]
-
--- How many slots so many pages reserve, from the first on.
-abbrev pub slots_of_range : List (Part Segment) → ℕ → ℕ → ℕ
-slots_of_range parts first zero = 0
-slots_of_range parts first (suc n) = slots_of_range parts first n + slots_at (piece_at parts (first + n))

@@ -1,14 +1,12 @@
 //! Ranges of pages that are taken out of a space.
 ghost use Rattle.std.specs.Prelude.{◌≡◌, ◌≤◌, ◌<◌, ◌-◌, ℕ, None, Some, IsSome, MatchOption, if◌then◌else◌};
-ghost use Rattle.std.specs.FinMap as finite;
 ghost use Rattle.addr_space.specs.Space.{piece_at, begins, FindsLast};
 ghost use Rattle.flat_model.specs.Mapping.{without_pages};
 ghost use Rattle.flat_model.specs.Space.{is_in_range};
-ghost use Rattle.vm_world.specs.Segments.{Spaces};
-ghost use Rattle.vm_world.specs.Words.{memory, SameFilesAndTails};
+ghost use Rattle.vm_world.specs.Words.{SameFilesAndTails};
 ghost use Rattle.vm_world.specs.World.{world_seen};
 ghost use Rattle.vm_world.specs.ZeroObjects.{free_number};
-ghost use Rattle.seg_vn.specs.Clears.{ChangesSpace, GivesBack, SpaceFits, StartsAt};
+ghost use Rattle.seg_vn.specs.Clears.{GivesBack, MayBeAlive, SpaceBecomes, StartsAt};
 
 use crate::segment::VnSeg;
 use addr_space::Ranges;
@@ -42,15 +40,11 @@ pub fn clear<D: Disk>(
     requires range { from ≤ end }
     requires low { StartsAt space.old.parts from }
     requires high { StartsAt space.old.parts end }
-    requires fits { (spaces : Spaces)
-        × SpaceFits (world_seen world.old) world.old.zeros spaces process space.old.parts }
+    requires fits { MayBeAlive world.old process space.old.parts }
     // The pages of the range have no cell, and all others the piece that they had.
     ensures pages { (q : ℕ) → piece_at space.new.parts q
         ≡ (if is_in_range from (end - from) q then None else piece_at space.old.parts q) }
-    ensures changes { (spaces : Spaces)
-        → SpaceFits (world_seen world.old) world.old.zeros spaces process space.old.parts
-        → ChangesSpace process (memory world.old spaces)
-        (memory world.new (finite.insert spaces process space.new.parts)) world.new.zeros
+    ensures changes { SpaceBecomes world.old world.new process space.old.parts space.new.parts
         (λ F. without_pages F process from (end - from)) }
     ensures gives { GivesBack (world_seen world.old) (world_seen world.new) }
     ensures objects { IsSome (free_number world.old.zeros) → IsSome (free_number world.new.zeros) }

@@ -4,6 +4,7 @@ use Rattle.std.specs.Prelude.{Result, Ok, Err, IfOk, OnErr, ◌↔◌, filter, s
 use Rattle.std.proofs.lemmas.Bool.{cases_eq}
 use Rattle.std.proofs.lemmas.List.{get_or_past}
 use Rattle.std.proofs.lemmas.Bool.Decides.{eqb_tells}
+use Rattle.anon_slots.specs.Slots.{count_at}
 use Rattle.core_arena.specs.Bytes.{bytes_at}
 use Rattle.flat_model.specs.Births.{is_birth, is_done}
 use Rattle.flat_model.specs.Flat.{Flat}
@@ -24,7 +25,7 @@ use Rattle.page_store.proofs.AwayLemmas.{away_law}
 use Rattle.vm_types.specs.Parts.{part_file, file_of_call}
 use Rattle.vm_types.specs.WellFormed.{IsWellFormed}
 use Rattle.vm_types.specs.declared.call.Call.{Call}
-use Rattle.vm_types.specs.declared.call.Call.TheVariants.{Load, Store, Map, Sync, Exit, Fork}
+use Rattle.vm_types.specs.declared.call.Call.TheVariants.{Load, Store, Map, Unmap, Sync, Exit, Fork}
 use Rattle.vm_types.specs.declared.call.Entry.{Entry}
 use Rattle.vm_types.specs.declared.call.Reply.{Reply}
 use Rattle.vm_types.specs.declared.call.Reply.TheVariants as reply
@@ -48,12 +49,12 @@ use Rattle.vm_world.proofs.NextParts.{next-file}
 use Rattle.vm_world.proofs.KeptStarts.{start_rule}
 use Rattle.vm_world.proofs.Servings.{serving_law}
 use Rattle.vm_world.proofs.Told.{event_law}
-use Rattle.mmap_calls.specs.Maps as maps
+use Rattle.mmap_calls.specs.Calls as mmap
 use Rattle.proc_calls.specs.Ends as procs
 use Rattle.fault_entry.specs.Accesses.{IsAccess, IsHitWhereDone, IsShownWhereDone, MayBeAnswered, SlotsWhereDone, is_store}
 use Rattle.seg_vn.specs.Serves.{Serves, IsPlainReply}
 use Rattle.seg_vn.proofs.HomeFrames.{home-beside}
-use Rattle.vm_core.specs.Calls.{IsServed, IsMapOrExit, IsDone, IsNeeded, IsBusy, IsOwnReply, IsShownAfterCall, SlotsAfterCall, IsHitAfterCall, AnswersCall, with_memory, after_answer}
+use Rattle.vm_core.specs.Calls.{IsServed, ChangesMappings, IsDone, IsNeeded, IsBusy, IsOwnReply, IsShownAfterCall, SlotsAfterCall, IsHitAfterCall, TakesMemory, AnswersCall, with_memory, after_answer}
 use Rattle.vm_core.specs.Fits.{FitsAt}
 use Rattle.vm_core.specs.State.{IsSoundKernel}
 use Rattle.seg_vn.specs.declared.attempt.Attempt.{Attempt}
@@ -74,14 +75,19 @@ pub served-is : (call : Call) → IsServed call → IsOfNoFile call
 served-is (Load a n) h = record { file = refl; part = refl; plain = λ child e. let z : Load a n ≡ Fork child = e in cc; bears = λ q p cleared reply. either (is_done reply) }
 served-is (Store a n v) h = record { file = refl; part = refl; plain = λ child e. let z : Store a n v ≡ Fork child = e in cc; bears = λ q p cleared reply. either (is_done reply) }
 served-is (Map place len prot kind obj offset) h = record { file = refl; part = refl; plain = λ child e. let z : Map place len prot kind obj offset ≡ Fork child = e in cc; bears = λ q p cleared r. either (is_done r) }
+served-is (Unmap a len) h = record { file = refl; part = refl; plain = λ child e. let z : Unmap a len ≡ Fork child = e in cc; bears = λ q p cleared r. either (is_done r) }
 served-is Exit h = record { file = refl; part = refl; plain = λ child e. let z : Exit ≡ Fork child = e in cc; bears = λ q p cleared r. either (is_done r) }
 served-is call h = absurd h
 
--- What is served and is no access is a mapping or the exit.
-pub no-access : (call : Call) → IsServed call → ((a n : ℕ) → call ≢ Load a n) → ((a n v : ℕ) → call ≢ Store a n v) → IsMapOrExit call
+-- What is served and is no access changes mappings; and where it isn't the exit, its process goes on.
+pub no-access : (call : Call) → IsServed call → ((a n : ℕ) → call ≢ Load a n) → ((a n v : ℕ) → call ≢ Store a n v) → ChangesMappings call
 no-access (Load a n) h load store = absurd (load a n refl)
 no-access (Store a n v) h load store = absurd (store a n v refl)
 no-access call h load store = h
+
+pub no-exit : (call : Call) → ChangesMappings call → call ≢ Exit → mmap.IsMappingCall call
+no-exit Exit h exit = absurd (exit refl)
+no-exit call h exit = h
 
 -- No lock of a file is the seat's, before and after such a call.
 pub locks-same : (H : List Entry) (calls syncs : List (Option ℕ)) (seat p cleared : ℕ) (call : Call) (reply : Reply) → CallsFit H calls syncs → p ≡ suc seat → MayFollow H (done_entry p call reply cleared) → part_file call ≡ None
@@ -286,7 +292,7 @@ own-reply s m p call (Done r) may = plain-own s p r may
 own-reply s m p call (Need plan) may = tt
 own-reply s m p call (Busy h) may = tt
 
-pub mapped-own : (s : KernelState) (p : ℕ) (a : Attempt) → maps.IsMapDone a → IsOwnReply s p a
+pub mapped-own : (s : KernelState) (p : ℕ) (a : Attempt) → mmap.IsDoneAtOnce a → IsOwnReply s p a
 mapped-own s p (Done r) may = plain-own s p r may
 mapped-own s p (Need plan) may = absurd may
 mapped-own s p (Busy h) may = absurd may
@@ -311,6 +317,22 @@ pub access-hit : (old : Memory) (new : World) (p : ℕ) (call : Call) (a : Attem
 access-hit old new p (Load addr n) a access hit = hit (page addr) refl
 access-hit old new p (Store addr n v) a access hit = hit (page addr) refl
 access-hit old new p call a access hit = absurd access
+
+-- A call that changes mappings leaves no translation to be told, makes no slot, and may be answered want of memory.
+pub record AfterMapping (old : Memory) (new : Memory) (p : ℕ) (call : Call) (a : Attempt) : Type 0 where
+  pub shown : IsShownAfterCall new p call a
+  pub slots : SlotsAfterCall old new.world p call a
+  pub hit : IsHitAfterCall old new.world p call a
+
+pub after-mapping : (old new : Memory) (p : ℕ) (call : Call) (a : Attempt) → mmap.IsMappingCall call → ((slot : ℕ) → count_at new.world.anon slot ≤ count_at old.world.anon slot) → AfterMapping old new p call a
+after-mapping old new p (Map place len prot kind o offset) a is fall = record { shown = tt; slots = fall; hit = tt }
+after-mapping old new p (Unmap addr len) a is fall = record { shown = tt; slots = fall; hit = tt }
+after-mapping old new p call a is fall = absurd is
+
+pub mapping-memory : (call : Call) → mmap.IsMappingCall call → TakesMemory call
+mapping-memory (Map place len prot kind o offset) is = tt
+mapping-memory (Unmap addr len) is = tt
+mapping-memory call is = absurd is
 
 -- What is concluded changes no memory.
 pub concluded-memory : (s : KernelState) (seat p : ℕ) (call : Call) (a : Attempt) → (after_answer s seat p call a).memory ≡ s.memory

@@ -5,7 +5,6 @@ use Rattle.page_store.specs.declared.plan.Hold.{Hold}
 use Rattle.page_store.specs.declared.plan.Plan.{Plan}
 use Rattle.vm_types.specs.declared.call.Call.{Call}
 use Rattle.vm_types.specs.declared.call.Call.TheVariants.{Load, Store, Map, Unmap, Protect, Fork, Exit}
-use Rattle.vm_types.specs.declared.call.Place.TheVariants.{At}
 use Rattle.vm_types.specs.declared.call.Reply.{Reply}
 use Rattle.vm_types.specs.declared.call.Reply.TheVariants as reply
 use Rattle.vm_types.specs.declared.call.Reply.TheVariants.{Synced}
@@ -22,23 +21,21 @@ use Rattle.vm_world.specs.Wants.{MayPlan, MayHold, WantsClean, IsCleanPage}
 use Rattle.vm_world.specs.World.{World}
 use Rattle.seg_vn.specs.declared.attempt.Attempt.{Attempt}
 use Rattle.seg_vn.specs.declared.attempt.Attempt.TheVariants.{Done, Need, Busy}
+use Rattle.mmap_calls.specs.Calls.{IsMappingCall}
 use Rattle.fault_entry.specs.Accesses.{IsShownWhereDone, IsHitWhereDone, SlotsWhereDone}
 use Rattle.vm_core.specs.Flights.{AddsEntry, AddsNoEntry}
 use Rattle.vm_core.specs.State.{with_next_entry}
 
--- The calls that are served so far: loads, stores, the mapping at an address, and the exit.
+-- The calls that change mappings: those of a process that goes on, and the exit.
+abbrev pub ChangesMappings : Call → Type 0
+ChangesMappings Exit = Unit {0}
+ChangesMappings call = IsMappingCall call
+
+-- The calls that are served so far: loads, stores, and those that change mappings.
 abbrev pub IsServed : Call → Type 0
 IsServed (Load a n) = Unit {0}
 IsServed (Store a n v) = Unit {0}
-IsServed (Map (At a) len prot kind o offset) = Unit {0}
-IsServed Exit = Unit {0}
-IsServed call = ⊥
-
--- Of these, the mapping at an address and the exit.
-abbrev pub IsMapOrExit : Call → Type 0
-IsMapOrExit (Map (At a) len prot kind o offset) = Unit {0}
-IsMapOrExit Exit = Unit {0}
-IsMapOrExit call = ⊥
+IsServed call = ChangesMappings call
 
 -- The state with other memory, and these tails pending.
 abbrev pub with_memory : KernelState → Memory → ℕ → KernelState

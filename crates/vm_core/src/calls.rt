@@ -6,7 +6,7 @@ ghost use Rattle.fault_entry.specs.Answers.{attempt_of};
 ghost use Rattle.page_store.specs.Notes.{Notes};
 ghost use Rattle.anon_slots.specs.Slots.{count_at};
 ghost use Rattle.flat_model.specs.Told.{entries_of};
-ghost use Rattle.mmap_calls.specs.Maps as maps;
+ghost use Rattle.mmap_calls.specs.Calls.{IsMappingCall};
 ghost use Rattle.proc_calls.specs.Ends as procs;
 ghost use Rattle.vm_types.specs.WellFormed.{IsWellFormed};
 ghost use Rattle.vm_world.specs.CallSteps.{StaysAlive};
@@ -14,7 +14,7 @@ ghost use Rattle.vm_world.specs.Events.{IsEvent, CanTry};
 ghost use Rattle.vm_world.specs.MemoryFits.{MemoryFits};
 ghost use Rattle.vm_world.specs.NotesFit.{NotesFit};
 ghost use Rattle.vm_world.specs.State.{room_of, seat_of};
-ghost use Rattle.vm_core.specs.Calls.{IsServed, IsMapOrExit, TakesMemory, AnswersCall, IsOwnReply, IsShownAfterCall, SlotsAfterCall, IsHitAfterCall, with_memory, after_answer};
+ghost use Rattle.vm_core.specs.Calls.{IsServed, ChangesMappings, TakesMemory, AnswersCall, IsOwnReply, IsShownAfterCall, SlotsAfterCall, IsHitAfterCall, with_memory, after_answer};
 ghost use Rattle.vm_core.specs.Fits.{FitsAt};
 ghost use Rattle.seg_vn.specs.Serves.{Serves};
 
@@ -106,10 +106,10 @@ impl<D: Disk> VmState<D> {
         attempt
     }
 
-    // What is answered to a Map at an address or an Exit, before its entry is made.
+    // What is answered to a call that changes mappings, before its entry is made.
     fn serve(&mut self, process: u32, call: &Call) -> Result<Attempt, AllocError>
         requires formed { IsWellFormed call.now }
-        requires served { IsMapOrExit call.now }
+        requires served { ChangesMappings call.now }
         requires alive { IsSome (finite.get self.old.memory.spaces process) }
         requires fits { MemoryFits self.old.memory }
         ensures serves { IfOk result (λ attempt. Serves self.old.memory self.new.memory
@@ -128,9 +128,8 @@ impl<D: Disk> VmState<D> {
         ensures err { OnErr result (self.new ≡ self.old) }
     {
         match *call {
-            Call::Map { .. } => self.map(process, call),
             Call::Exit => Ok(self.exit(process, call)),
-            _ => unreachable!(),
+            _ => self.map(process, call),
         }
     }
 
@@ -155,21 +154,25 @@ impl<D: Disk> VmState<D> {
         fault_entry::answer(&mut self.world, &mut self.spaces, process, call)
     }
 
-    // What is answered to a Map at an address.
+    // What is answered to a call that changes the mappings of a process that goes on.
     fn map(&mut self, process: u32, call: &Call) -> Result<Attempt, AllocError>
         requires formed { IsWellFormed call.now }
-        requires served { maps.IsServedMap call.now }
+        requires served { IsMappingCall call.now }
         requires alive { IsSome (finite.get self.old.memory.spaces process) }
         requires fits { MemoryFits self.old.memory }
         ensures serves { IfOk result (λ attempt. Serves self.old.memory self.new.memory
             self.old.pending self.new.pending self.old.calls process call.now attempt) }
-        ensures fall { IfOk result (λ attempt. (slot : ℕ)
-            → count_at self.new.memory.world.anon slot
-            ≤ count_at self.old.memory.world.anon slot) }
+        ensures shown { IfOk result (λ attempt. IsShownAfterCall self.new.memory process
+            call.now attempt) }
+        ensures slots { IfOk result (λ attempt. SlotsAfterCall self.old.memory
+            self.new.memory.world process call.now attempt) }
+        ensures hit { IfOk result (λ attempt. IsHitAfterCall self.old.memory
+            self.new.memory.world process call.now attempt) }
         ensures own { IfOk result (IsOwnReply self.old process) }
         ensures alive { IfOk result (λ attempt. StaysAlive self.new.memory process call.now) }
         // What stays.
         ensures rest { self.new ≡ with_memory self.old self.new.memory self.new.pending }
+        ensures memory { OnErr result (TakesMemory call.now) }
         ensures err { OnErr result (self.new ≡ self.old) }
     {
         let from = self.ledger.history().len() as u64;

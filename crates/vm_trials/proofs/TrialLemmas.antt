@@ -6,7 +6,7 @@ use Rattle.std.proofs.lemmas.List.{length-map, map-set, length-set, get_or-set_s
 use Rattle.std.proofs.Math.ListN.{get_or-map}
 use Rattle.vm_types.specs.Parts.{next_part, ends_call}
 use Rattle.vm_types.specs.declared.call.Call.{Call}
-use Rattle.vm_types.specs.declared.call.Call.TheVariants.{Load, Store, Map, Exit}
+use Rattle.vm_types.specs.declared.call.Call.TheVariants.{Load, Store, Map, Unmap, Exit}
 use Rattle.vm_types.specs.declared.call.Entry.{Entry}
 use Rattle.vm_types.specs.declared.call.Reply.{Reply}
 use Rattle.flat_model.specs.OpenLaws.{last_entry, FollowsOn, MayFollow}
@@ -32,6 +32,7 @@ unfolding next_part
 served-ends (Load a n) reply h = refl
 served-ends (Store a n v) reply h = refl
 served-ends (Map place len prot kind object offset) reply h = refl
+served-ends (Unmap a len) reply h = refl
 served-ends Exit reply h = refl
 served-ends call reply h = absurd h
 
@@ -39,6 +40,7 @@ pub served-bears : (s : KernelState) (p : ℕ) (call : Call) → IsServed call �
 served-bears s p (Load a n) h = tt
 served-bears s p (Store a n v) h = tt
 served-bears s p (Map place len prot kind object offset) h = tt
+served-bears s p (Unmap a len) h = tt
 served-bears s p Exit h = tt
 served-bears s p call h = absurd h
 

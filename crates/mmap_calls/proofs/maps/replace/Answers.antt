@@ -18,18 +18,13 @@ use Rattle.vm_world.specs.declared.world.World.{World}
 use Rattle.vm_world.proofs.ComingParts.{zero-there}
 use Rattle.seg_vn.specs.Clears.{SpaceFits, ChangesSpace, GivesBack}
 use Rattle.mmap_calls.specs.Looks.{kind_and_object}
-use Rattle.mmap_calls.specs.Refusals.{map_request, slots_for_pages}
-use Rattle.mmap_calls.specs.Rooms.{AreMade, map_of_object}
+use Rattle.mmap_calls.specs.Refusals.{map_of_object, map_request, slots_for_pages}
+use Rattle.mmap_calls.specs.Rooms.{AreMade}
 use Rattle.mmap_calls.specs.declared.maps.Anons.{Anons}
-use Rattle.mmap_calls.proofs.MapResults.{passed}
-use Rattle.mmap_calls.proofs.Replaced.{fits-step, fits-then, numbers-after, cuts-done, room-later, more-holders, more-places, named-object, may-clear, within-user, roomy, new_part, replaced}
+use Rattle.mmap_calls.proofs.Replaced.{fits-step, fits-then, numbers-after, cuts-done, room-later, more-holders, more-places, named-object, may-clear, roomy, new_part, replaced}
 use Rattle.mmap_calls.proofs.maps.replace.Goals.{In_ok-begin, After-cut-2, After-clear}
 use Rattle.mmap_calls.proofs.maps.replace.Given.{Over}
 use Rattle.mmap_calls.proofs.maps.replace.Goals as goal
-
-pub most_allowed-max-requires : goal.most_allowed-max-requires
-most_allowed-max-requires g c =
-    (passed (record { world = world_seen c.args.world.now; spaces = c.requires.fits.0 }) c.args.process c.args.space.now.parts c.args.world.now.zeros c.requires.fits.1 c.args.map.now (c.requires.due c.requires.fits.0 c.requires.fits.1)).there
 
 -- memory fits where the room is taken
 fits-taken : (g : Over) (c : In_ok-begin g) → SpaceFits (world_seen c.take_rooms.new.world) c.take_rooms.new.world.zeros c.requires.fits.0 c.args.process c.take_rooms.new.space.parts
@@ -43,7 +38,7 @@ pub cut-requires-clause-room : goal.cut-requires-clause-room
 cut-requires-clause-room g c =
     let more = c.in_ok-begin.ensures.more in (
       2,
-      room-later c.in_ok-begin.field-0.end.items (vec_capacity c.in_ok-begin.field-0.end) 3 more.0 c.args.world.now.maps c.take_rooms.new.world.maps c.args.space.now.parts c.take_rooms.new.space.parts (c.page_of-first.result + c.pages_in-pages.result)
+      room-later c.in_ok-begin.field-0.end.items (vec_capacity c.in_ok-begin.field-0.end) 3 more.0 c.args.world.now.maps c.take_rooms.new.world.maps c.args.space.now.parts c.take_rooms.new.space.parts (c.args.map.now.first + c.args.map.now.pages)
           (ap (λ (w : World g.row.D.Denot). w.maps) more.1) c.in_ok-begin.ensures.parts c.in_ok-begin.ensures.end,
     )
 
@@ -54,8 +49,8 @@ pub cut-requires-2-clause-room : goal.cut-requires-2-clause-room
 cut-requires-2-clause-room g c =
     let more = c.in_ok-begin.ensures.more in (
       1,
-      c.cut.ensures.rooms c.in_ok-begin.field-0.begin.items (vec_capacity c.in_ok-begin.field-0.begin) 2 c.page_of-first.result (omega arith)
-          (room-later c.in_ok-begin.field-0.begin.items (vec_capacity c.in_ok-begin.field-0.begin) 3 more.0 c.args.world.now.maps c.take_rooms.new.world.maps c.args.space.now.parts c.take_rooms.new.space.parts c.page_of-first.result
+      c.cut.ensures.rooms c.in_ok-begin.field-0.begin.items (vec_capacity c.in_ok-begin.field-0.begin) 2 c.args.map.now.first (omega arith)
+          (room-later c.in_ok-begin.field-0.begin.items (vec_capacity c.in_ok-begin.field-0.begin) 3 more.0 c.args.world.now.maps c.take_rooms.new.world.maps c.args.space.now.parts c.take_rooms.new.space.parts c.args.map.now.first
           (ap (λ (w : World g.row.D.Denot). w.maps) more.1) c.in_ok-begin.ensures.parts c.in_ok-begin.ensures.begin),
     )
 
@@ -96,10 +91,10 @@ hold-requires g c = record {
       let d = (goal.at.hold-requires g c).After-cut-2 in
       let m : Memory = record { world = world_seen c.args.world.now; spaces = c.requires.fits.0 } in
       let more = c.in_ok-begin.ensures.more in
-      let named : map_of_object c.args.world.now.zeros c.args.map.now.object ≡ Some n = sym c.map_of_object-held.ensures ∙ is in
-      let o = named-object c.args.world.now.zeros c.args.map.now.object n named in
+      let named : map_of_object c.args.world.now.zeros c.args.map.now.request.object ≡ Some n = sym c.requires.mapping.held ∙ is in
+      let o = named-object c.args.world.now.zeros c.args.map.now.request.object n named in
       let whole = cuts g d c.requires.fits.0 c.requires.fits.1 in
-      let few = c.in_ok-begin.ensures.few n named in
+      let few = c.in_ok-begin.ensures.few n is in
       let old = more-holders more.0 c.args.world.now.maps c.take_rooms.new.world.maps n (ap (λ (w : World g.row.D.Denot). w.maps) more.1) in
       let one = c.cut.ensures.held n in
       let two = c.cut-2.ensures.held n in
@@ -110,8 +105,8 @@ pub clear-requires-clause-fits : goal.clear-requires-clause-fits
 clear-requires-clause-fits g c =
     let d = (goal.at.clear-requires-clause-fits g c).After-cut-2 in
     subst (λ (v : World g.row.D.Denot). (s : Spaces) × SpaceFits (world_seen v) v.zeros s c.args.process c.cut-2.new.space.parts) (sym c.hold.ensures.held)
-    (may-clear (record { world = world_seen c.args.world.now; spaces = c.requires.fits.0 }) c.args.process c.cut-2.new.space.parts c.args.world.now.zeros c.cut-2.new.world.zeros (world_seen c.cut-2.new.world) c.args.map.now.object c.map_of_object-held.result
-    c.map_of_object-held.ensures (alike g d) (cuts g d c.requires.fits.0 c.requires.fits.1))
+    (may-clear (record { world = world_seen c.args.world.now; spaces = c.requires.fits.0 }) c.args.process c.cut-2.new.space.parts c.args.world.now.zeros c.cut-2.new.world.zeros (world_seen c.cut-2.new.world) c.args.map.now.request.object c.args.map.now.held
+    c.requires.mapping.held (alike g d) (cuts g d c.requires.fits.0 c.requires.fits.1))
 
 -- the range is cleared
 module _ (g : Over) (c : After-clear g) where
@@ -134,28 +129,28 @@ module _ (g : Over) (c : After-clear g) where
   x = world_seen c.clear.new.world
 
   abbrev held : Option ℕ
-  held = c.map_of_object-held.result
+  held = c.args.map.now.held
 
-  first : c.page_of-first.result ≡ page c.args.map.now.addr
-  first = c.page_of-first.ensures
+  first : c.args.map.now.first ≡ page c.args.map.now.request.addr
+  first = c.requires.mapping.first
 
-  many : c.page_of-first.result + c.pages_in-pages.result - c.page_of-first.result ≡ pages_in c.args.map.now.length
-  many = let pages = c.pages_in-pages.ensures.pages in omega (arith, pages)
+  many : c.args.map.now.first + c.args.map.now.pages - c.args.map.now.first ≡ pages_in c.args.map.now.request.length
+  many = let pages = c.requires.mapping.pages in omega (arith, pages)
 
   clears : (s : Spaces) → SpaceFits (record w { maps = maps_held w.maps held }) c.cut-2.new.world.zeros s p cut
-      → ChangesSpace p (record { world = record w { maps = maps_held w.maps held }; spaces = s }) (record { world = x; spaces = finite.insert s p left }) c.clear.new.world.zeros (λ F. without_pages F p (page c.args.map.now.addr) (pages_in c.args.map.now.length))
+      → ChangesSpace p (record { world = record w { maps = maps_held w.maps held }; spaces = s }) (record { world = x; spaces = finite.insert s p left }) c.clear.new.world.zeros (λ F. without_pages F p (page c.args.map.now.request.addr) (pages_in c.args.map.now.request.length))
   clears = subst (λ (k : ℕ). (s : Spaces) → SpaceFits (record w { maps = maps_held w.maps held }) c.cut-2.new.world.zeros s p cut
-      → ChangesSpace p (record { world = record w { maps = maps_held w.maps held }; spaces = s }) (record { world = x; spaces = finite.insert s p left }) c.clear.new.world.zeros (λ F. without_pages F p k (pages_in c.args.map.now.length))) first
+      → ChangesSpace p (record { world = record w { maps = maps_held w.maps held }; spaces = s }) (record { world = x; spaces = finite.insert s p left }) c.clear.new.world.zeros (λ F. without_pages F p k (pages_in c.args.map.now.request.length))) first
       (subst (λ (k : ℕ). (s : Spaces) → SpaceFits (record w { maps = maps_held w.maps held }) c.cut-2.new.world.zeros s p cut
-      → ChangesSpace p (record { world = record w { maps = maps_held w.maps held }; spaces = s }) (record { world = x; spaces = finite.insert s p left }) c.clear.new.world.zeros (λ F. without_pages F p c.page_of-first.result k)) many
+      → ChangesSpace p (record { world = record w { maps = maps_held w.maps held }; spaces = s }) (record { world = x; spaces = finite.insert s p left }) c.clear.new.world.zeros (λ F. without_pages F p c.args.map.now.first k)) many
       (subst (λ (v : World g.row.D.Denot). (s : Spaces) → SpaceFits (world_seen v) v.zeros s p cut
-      → ChangesSpace p (record { world = world_seen v; spaces = s }) (record { world = x; spaces = finite.insert s p left }) c.clear.new.world.zeros (λ F. without_pages F p c.page_of-first.result (c.page_of-first.result + c.pages_in-pages.result - c.page_of-first.result))) c.hold.ensures.held
+      → ChangesSpace p (record { world = world_seen v; spaces = s }) (record { world = x; spaces = finite.insert s p left }) c.clear.new.world.zeros (λ F. without_pages F p c.args.map.now.first (c.args.map.now.first + c.args.map.now.pages - c.args.map.now.first))) c.hold.ensures.held
       c.clear.ensures.changes))
 
   gives : GivesBack (record w { maps = maps_held w.maps held }) x
   gives = subst (λ (v : World g.row.D.Denot). GivesBack (world_seen v) x) c.hold.ensures.held c.clear.ensures.gives
 
-  gone : (k : ℕ) → piece_at left k ≡ cond (is_in_range (page c.args.map.now.addr) (pages_in c.args.map.now.length) k) None (piece_at cut k)
+  gone : (k : ℕ) → piece_at left k ≡ cond (is_in_range (page c.args.map.now.request.addr) (pages_in c.args.map.now.request.length) k) None (piece_at cut k)
   gone k = c.clear.ensures.pages k ∙ (λ i. cond (is_in_range (first i) (many i) k) None (piece_at cut k))
 
 pub make_anons-object-requires-clause-object : goal.make_anons-object-requires-clause-object
@@ -171,28 +166,6 @@ make_anons-object-requires-clause-numbers g c =
     let gone = c.clear.ensures.gives.numbers in
     omega (arith, taken, one, two, held, gone)
 
-pub new-segment-requires-clause-some : goal.new-segment-requires-clause-some
-new-segment-requires-clause-some g c =
-    let lies = within-user (record { world = world_seen c.args.world.now; spaces = c.requires.fits.0 }) c.args.process c.args.space.now.parts c.args.world.now.zeros c.args.map.now c.requires.fits.1 (c.requires.due c.requires.fits.0 c.requires.fits.1) in
-    let some = lies.some in
-    let pages = c.pages_in-pages.ensures.pages in
-    omega (arith, some, pages)
-
-pub insert-requires-clause-low : goal.insert-requires-clause-low
-insert-requires-clause-low g c =
-    let lies = within-user (record { world = world_seen c.args.world.now; spaces = c.requires.fits.0 }) c.args.process c.args.space.now.parts c.args.world.now.zeros c.args.map.now c.requires.fits.1 (c.requires.due c.requires.fits.0 c.requires.fits.1) in
-    let behind = lies.behind in
-    let first = c.page_of-first.ensures in
-    omega (arith, behind, first)
-
-pub insert-requires-clause-high : goal.insert-requires-clause-high
-insert-requires-clause-high g c =
-    let lies = within-user (record { world = world_seen c.args.world.now; spaces = c.requires.fits.0 }) c.args.process c.args.space.now.parts c.args.world.now.zeros c.args.map.now c.requires.fits.1 (c.requires.due c.requires.fits.0 c.requires.fits.1) in
-    let within = lies.within in
-    let first = c.page_of-first.ensures in
-    let pages = c.pages_in-pages.ensures.pages in
-    omega (arith, within, first, pages)
-
 pub make_anons-object-requires-clause-room : goal.make_anons-object-requires-clause-room
 make_anons-object-requires-clause-room g c =
     let d = (goal.at.make_anons-object-requires-clause-room g c).After-cut-2 in
@@ -200,8 +173,8 @@ make_anons-object-requires-clause-room g c =
     let spaces = c.requires.fits.0 in
     let fits = c.requires.fits.1 in
     let room = roomy (record { world = world_seen c.args.world.now; spaces = spaces }) c.args.process c.args.space.now.parts c.cut-2.new.space.parts c.clear.new.space.parts c.args.world.now.zeros c.cut-2.new.world.zeros c.clear.new.world.zeros (world_seen c.cut-2.new.world) (world_seen c.clear.new.world)
-    c.args.map.now c.map_of_object-held.result fits c.requires.request (c.requires.due spaces fits) c.map_of_object-held.ensures (alike g d) (cuts g d spaces fits) (looks g d) (lengths g d) (clears g e) (gives g e) (gone g e) in
-    let pages = ap (slots_for_pages c.args.map.now.kind c.args.map.now.object) c.pages_in-pages.ensures.pages in
+    c.args.map.now.request c.args.map.now.held fits c.requires.request (c.requires.due spaces c.args.process fits) c.requires.mapping.held (alike g d) (cuts g d spaces fits) (looks g d) (lengths g d) (clears g e) (gives g e) (gone g e) in
+    let pages = ap (slots_for_pages c.args.map.now.request.kind c.args.map.now.request.object) c.requires.mapping.pages in
     omega (arith, room, pages)
 
 pub returns-clause-fall : goal.returns-clause-fall
@@ -219,26 +192,26 @@ returns-clause-done g c = λ spaces fits.
     let d = (goal.at.returns-clause-done g c).After-cut-2 in
     let e = (goal.at.returns-clause-done g c).After-clear in
     let p : ℕ = c.args.process in
-    let q = c.args.map.now in
+    let q = c.args.map.now.request in
     let a : Anons = c.make_anons-object.result in
     let m : Memory = record { world = world_seen c.args.world.now; spaces = spaces } in
     let left : List (Part Segment) = c.clear.new.space.parts in
     let w : worlds.World = world_seen c.clear.new.world in
     let now : List (Option ℕ) = c.make_anons-object.new.world.zeros in
-    let start = c.page_of-first.ensures in
-    let pages = c.pages_in-pages.ensures.pages in
+    let start = c.requires.mapping.first in
+    let pages = c.requires.mapping.pages in
     let index = c.page_of.ensures in
     let files : c.clear.new.world.files ≡ c.args.world.now.files =
     ap (λ (v : World g.row.D.Denot). v.files) c.clear.ensures.rest ∙ ap (λ (v : World g.row.D.Denot). v.files) c.hold.ensures.held ∙ ap (λ (v : World g.row.D.Denot). v.files) c.cut-2.ensures.world ∙ ap (λ (v : World g.row.D.Denot). v.files) c.cut.ensures.world ∙ ap (λ (v : World g.row.D.Denot). v.files) c.in_ok-begin.ensures.more.1 in
-    let made : AreMade w.maps c.make_anons-object.new.world.maps c.clear.new.world.zeros now c.map_of_object-held.result (pages_in q.length) q.kind q.object a =
-    subst (λ (k : ℕ). AreMade w.maps c.make_anons-object.new.world.maps c.clear.new.world.zeros now c.map_of_object-held.result k q.kind q.object a) pages c.make_anons-object.ensures.made in
-    let come = replaced m p c.args.space.now.parts c.cut-2.new.space.parts left c.args.world.now.zeros c.cut-2.new.world.zeros c.clear.new.world.zeros (world_seen c.cut-2.new.world) w q c.map_of_object-held.result fits c.requires.request (c.requires.due spaces fits) c.map_of_object-held.ensures
+    let made : AreMade w.maps c.make_anons-object.new.world.maps c.clear.new.world.zeros now c.args.map.now.held (pages_in q.length) q.kind q.object a =
+    subst (λ (k : ℕ). AreMade w.maps c.make_anons-object.new.world.maps c.clear.new.world.zeros now c.args.map.now.held k q.kind q.object a) pages c.make_anons-object.ensures.made in
+    let come = replaced m p c.args.space.now.parts c.cut-2.new.space.parts left c.args.world.now.zeros c.cut-2.new.world.zeros c.clear.new.world.zeros (world_seen c.cut-2.new.world) w q c.args.map.now.held fits c.requires.request (c.requires.due spaces c.args.process fits) c.requires.mapping.held
     (alike g d) (cuts g d spaces fits) (looks g d) (lengths g d) (clears g e) (gives g e) (gone g e) a c.make_anons-object.new.world.maps now files made in
     let new : world_seen c.make_anons-object.new.world ≡ record w { anon = record w.anon { reserved = w.anon.reserved + slots_for_pages q.kind q.object (pages_in q.length) }; maps = c.make_anons-object.new.world.maps } =
     ap (λ v. world_seen v) c.make_anons-object.ensures.rest ∙ (λ i. record w { anon = record w.anon { reserved = w.anon.reserved + slots_for_pages q.kind q.object (pages i) }; maps = c.make_anons-object.new.world.maps }) in
     let parts : c.insert.new.self.parts ≡ with_new_part (new_part (world_seen c.args.world.now) q a) left =
-    c.insert.ensures.parts ∙ ap (λ (s : Segment). with_new_part (part c.page_of-first.result c.pages_in-pages.result s) left) c.new-segment.ensures
-    ∙ (λ i. with_new_part (part (start i) (pages i) (record { pages = pages i; prot = q.prot; max = c.most_allowed-max.ensures i; kind = q.kind; object = a.object; index = index i; own = a.own; shown = a.shown })) left) in
+    c.insert.ensures.parts ∙ ap (λ (s : Segment). with_new_part (part c.args.map.now.first c.args.map.now.pages s) left) c.new-segment.ensures
+    ∙ (λ i. with_new_part (part (start i) (pages i) (record { pages = pages i; prot = q.prot; max = c.requires.mapping.max i; kind = q.kind; object = a.object; index = index i; own = a.own; shown = a.shown })) left) in
     subst (λ (v : worlds.World). ChangesSpace p m (record { world = v; spaces = finite.insert spaces p c.insert.new.self.parts }) now (λ F. with_mapping F p (map_request q) (page q.addr))) (sym new)
     (subst (λ (ps : List (Part Segment)). ChangesSpace p m (record { world = record w { anon = record w.anon { reserved = w.anon.reserved + slots_for_pages q.kind q.object (pages_in q.length) }; maps = c.make_anons-object.new.world.maps }; spaces = finite.insert spaces p ps }) now (λ F. with_mapping F p (map_request q) (page q.addr)))
     (sym parts) come)

@@ -1,7 +1,8 @@
 use Rattle.std.proofs.Common.{◌≤◌, ℕ, [], sym, ap, subst, ◌∙◌}
 use Rattle.std.specs.Prelude.{IfOk}
 use Rattle.anon_slots.specs.Slots.{count_at}
-use Rattle.mmap_calls.specs.Maps.{IsMapDone}
+use Rattle.flat_model.proofs.Maps.{on_err_any}
+use Rattle.mmap_calls.specs.Calls.{IsDoneAtOnce}
 use Rattle.seg_vn.specs.Serves.{Serves}
 use Rattle.vm_world.specs.CallSteps.{StaysAlive}
 use Rattle.vm_world.specs.FlatMemory.{Memory}
@@ -9,8 +10,8 @@ use Rattle.vm_world.specs.MemoryFits.{MemoryFits}
 use Rattle.vm_world.specs.Segments.{Spaces}
 use Rattle.vm_world.specs.State.{KernelState}
 use Rattle.vm_world.specs.World.{world_seen}
-use Rattle.vm_core.specs.Calls.{IsOwnReply}
-use Rattle.vm_core.proofs.Served.{mapped-own, ok-then, ok-always, err-then, kept-result, same-again}
+use Rattle.vm_core.specs.Calls.{IsOwnReply, IsShownAfterCall, SlotsAfterCall, IsHitAfterCall, TakesMemory}
+use Rattle.vm_core.proofs.Served.{AfterMapping, after-mapping, mapping-memory, mapped-own, ok-then, ok-always, err-then, kept-result, same-again}
 use Rattle.vm_core.proofs.state.VmState.map.Given.{Over}
 use Rattle.vm_core.proofs.state.VmState.map.Goals.{After-attempt}
 use Rattle.vm_core.proofs.state.VmState.map.Goals as goal
@@ -33,12 +34,26 @@ pub returns-clause-serves : goal.returns-clause-serves
 returns-clause-serves g c =
     subst (λ (s : KernelState). IfOk c.attempt.result (λ a. Serves s.memory (after g c) s.pending c.attempt.new.world.pending s.calls c.args.process c.args.call.now a)) c.self.view_is (ok-then _ _ c.attempt.result (λ a serves. serves c.self.inside.calls) c.attempt.ensures.done)
 
-pub returns-clause-fall : goal.returns-clause-fall
-returns-clause-fall g c =
-    subst (λ (s : KernelState). IfOk c.attempt.result (λ a. (slot : ℕ) → count_at c.attempt.new.world.anon slot ≤ count_at s.memory.world.anon slot)) c.self.view_is c.attempt.ensures.fall
+-- what a mapping call leaves beside its answer
+left : (g : Over) (c : After-attempt g) → IfOk c.attempt.result (AfterMapping c.args.self.now.memory (after g c) c.args.process c.args.call.now)
+left g c =
+    subst (λ (s : KernelState). IfOk c.attempt.result (AfterMapping s.memory (after g c) c.args.process c.args.call.now)) c.self.view_is
+    (ok-then _ _ c.attempt.result (λ a fall. after-mapping (before g c) (after g c) c.args.process c.args.call.now a c.requires.served fall) c.attempt.ensures.fall)
+
+pub returns-clause-shown : goal.returns-clause-shown
+returns-clause-shown g c = ok-then _ _ c.attempt.result (λ a l. l.shown) (left g (goal.at.returns-clause-shown g c).After-attempt)
+
+pub returns-clause-slots : goal.returns-clause-slots
+returns-clause-slots g c = ok-then _ _ c.attempt.result (λ a l. l.slots) (left g (goal.at.returns-clause-slots g c).After-attempt)
+
+pub returns-clause-hit : goal.returns-clause-hit
+returns-clause-hit g c = ok-then _ _ c.attempt.result (λ a l. l.hit) (left g (goal.at.returns-clause-hit g c).After-attempt)
+
+pub returns-clause-memory : goal.returns-clause-memory
+returns-clause-memory g c = on_err_any c.attempt.result (TakesMemory c.args.call.now) (mapping-memory c.args.call.now c.requires.served)
 
 pub returns-clause-own : goal.returns-clause-own
-returns-clause-own g c = ok-then IsMapDone (IsOwnReply c.args.self.now c.args.process) c.attempt.result (mapped-own c.args.self.now c.args.process) c.attempt.ensures.answer
+returns-clause-own g c = ok-then IsDoneAtOnce (IsOwnReply c.args.self.now c.args.process) c.attempt.result (mapped-own c.args.self.now c.args.process) c.attempt.ensures.answer
 
 pub returns-clause-alive : goal.returns-clause-alive
 returns-clause-alive g c = ok-always (λ a. StaysAlive (after g c) c.args.process c.args.call.now) c.attempt.result (λ a other. c.attempt.ensures.alive)

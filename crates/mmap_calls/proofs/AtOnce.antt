@@ -1,0 +1,62 @@
+-- Calls that are done at once, with a plain reply.
+use Rattle.std.proofs.Common.{◌≡◌, ℕ, Bool, true, false, refl, sym, ap, subst}
+use Rattle.std.specs.Prelude.{◌||◌}
+use Rattle.vm_types.specs.declared.call.Call.{Call}
+use Rattle.vm_types.specs.declared.call.Reply.{Reply}
+use Rattle.vm_types.specs.declared.call.Reply.TheVariants as reply
+use Rattle.flat_model.specs.Flat.{Flat}
+use Rattle.flat_model.specs.Step.{effect, is_bit_set, IsDue, after_act}
+use Rattle.vm_world.specs.FlatMemory.{Memory, flat_memory}
+use Rattle.vm_world.specs.MemoryFits.{MemoryFits}
+use Rattle.vm_world.specs.Plans.{refusal_in}
+use Rattle.vm_world.specs.Serving.{TakesFrames, ServesDone}
+use Rattle.vm_world.specs.World.{World}
+use Rattle.vm_world.specs.ZeroObjects.{AreSameZeros}
+use Rattle.seg_ops.proofs.Composed.{keeps-same}
+use Rattle.seg_vn.specs.Serves.{IsPlainReply}
+use Rattle.mmap_calls.specs.Answers.{AnswersAtOnce}
+
+-- what is due of a plain reply
+acts : (F G : Flat) (p : ℕ) (call : Call) (r : Reply) (cleared : ℕ) → IsPlainReply r → (effect F p call).reply ≡ r → G ≡ (effect F p call).after
+    → IsDue F (record { process = p; call = call; reply = r; cleared = cleared }) × (G ≡ after_act F (record { process = p; call = call; reply = r; cleared = cleared }))
+acts F G p call (reply.Io disk before after) cleared own due after_is = absurd own
+acts F G p call (reply.Synced from) cleared own due after_is = absurd own
+acts F G p call reply.Done cleared own due after_is = (due, after_is)
+acts F G p call (reply.Word n) cleared own due after_is = (due, after_is)
+acts F G p call (reply.Mapped n) cleared own due after_is = (due, after_is)
+acts F G p call (reply.Bytes l) cleared own due after_is = (due, after_is)
+acts F G p call (reply.Signal x) cleared own due after_is = (due, after_is)
+acts F G p call (reply.Refused x) cleared own due after_is = (due, after_is)
+
+or-false : (b : Bool) → b ≡ (b || false)
+or-false true = refl
+or-false false = refl
+
+-- no frame is taken
+abbrev takes-none : (m : Memory) (pending : ℕ) → MemoryFits m → TakesFrames m m.world pending pending
+takes-none m pending fits = record {
+  cut = λ name. false;
+  step = keeps-same m.world m.spaces fits;
+  pends = record { bits = λ f lt. or-false (is_bit_set pending f); below = λ lt. lt };
+  took = λ name is. absurd (let z : false ≡ true = is in cc);
+}
+
+-- THE CALL IS SERVED.
+pub at-once-serves : (old new : Memory) (pending more p : ℕ) (call : Call) (r : Reply) → more ≡ pending → MemoryFits old → AnswersAtOnce p old new call r → ServesDone old new pending more p call r
+at-once-serves old new pending more p call r same fits done =
+    subst (λ (n : ℕ). ServesDone old new pending n p call r) (sym same) (record {
+      mid = old.world;
+      first = takes-none old pending fits;
+      acts = λ cleared. record {
+        machine = done.changes.machine;
+        others = done.changes.others;
+        memory = done.changes.memory;
+        notes = done.changes.notes;
+        tells = done.changes.tells;
+        flat = λ born notes nf tell whole.
+            acts (flat_memory old born notes) (flat_memory new born notes) p call r cleared done.plain (done.due born notes) (done.changes.flat born notes nf tell whole).0;
+      };
+      replaced = λ name is. absurd (let z : false ≡ true = is in cc);
+      refusal = λ born notes. ap refusal_in (done.due born notes);
+      clean = λ from name is wants. absurd (subst IsPlainReply is done.plain);
+    })

@@ -1,0 +1,31 @@
+-- What the reply to a call that is done at once says of flat memory. Inside: no public clause cites this.
+use Rattle.std.specs.Prelude.{ℕ, List, ◌≡◌}
+use Rattle.std.specs.FinMap as finite
+use Rattle.std.specs.FinSet as set
+use Rattle.std.specs.Ordering.{nat_cmp}
+use Rattle.addr_space.specs.Space.{Part}
+use Rattle.page_store.specs.Notes.{Notes}
+use Rattle.vm_types.specs.declared.call.Call.{Call}
+use Rattle.vm_types.specs.declared.call.Reply.{Reply}
+use Rattle.flat_model.specs.Step.{effect}
+use Rattle.vm_world.specs.FlatMemory.{Memory, flat_memory}
+use Rattle.vm_world.specs.SegmentSteps.{ChangesSegments}
+use Rattle.vm_world.specs.Segments.{Spaces}
+use Rattle.vm_world.specs.Words.{memory}
+use Rattle.vm_world.specs.World.{world_seen}
+use Rattle.vm_world.specs.ZeroObjects.{KnowsZeros}
+use Rattle.vm_world.specs.declared.segment.Segment.{Segment}
+use Rattle.vm_world.specs.declared.world.World as rust
+use Rattle.seg_vn.specs.Clears.{SpaceFits}
+use Rattle.seg_vn.specs.Serves.{IsPlainReply}
+
+-- A call is done with this plain reply: what it does is due in flat memory.
+pub record AnswersAtOnce (p : ℕ) (old new : Memory) (call : Call) (r : Reply) : Type 0 where
+  pub changes : ChangesSegments p old new (λ F. (effect F p call).after)
+  pub plain : IsPlainReply r
+  pub due : (born : set.FinSet nat_cmp) (notes : Notes) → (effect (flat_memory old born notes) p call).reply ≡ r
+
+-- So it is whatever the spaces in which the process is alive with these parts; it is alive with the new ones then, and the list of zero objects is right.
+abbrev pub IsAnswered : {D : Type 0} → rust.World D → rust.World D → ℕ → List (Part Segment) → List (Part Segment) → Call → Reply → Type 0
+IsAnswered old new p parts after call r =
+    (spaces : Spaces) → SpaceFits (world_seen old) old.zeros spaces p parts → AnswersAtOnce p (memory old spaces) (memory new (finite.insert spaces p after)) call r × KnowsZeros new.zeros (finite.insert spaces p after)

@@ -1,0 +1,85 @@
+//! What calls that change mappings are answered.
+ghost use Rattle.std.specs.Prelude.{◌≡◌, ◌≤◌, ℕ, IfOk, OnErr, IsSome, List, Option};
+ghost use Rattle.std.specs.FinMap as finite;
+ghost use Rattle.anon_slots.specs.Slots.{count_at};
+ghost use Rattle.vm_types.specs.WellFormed.{IsWellFormed};
+ghost use Rattle.vm_world.specs.Words.{Fits, SameFilesAndTails, memory};
+ghost use Rattle.vm_world.specs.ZeroObjects.{AreSameZeros, KnowsZeros};
+ghost use Rattle.seg_vn.specs.Clears.{MayBeAlive};
+ghost use Rattle.seg_vn.specs.Serves.{Serves};
+ghost use Rattle.mmap_calls.specs.Answers.{IsAnswered};
+ghost use Rattle.mmap_calls.specs.Calls.{IsDoneAtOnce, IsMappingCall};
+
+use crate::maps::{map, map_wanted};
+use crate::unmaps::unmap;
+use addr_space::Ranges;
+use block_device::Disk;
+use seg_vn::{Attempt, Spaces, VnSeg};
+use std::alloc::AllocError;
+use vm_types::{Call, Reply};
+use vm_world::World;
+
+// The reply to a call that changes the mappings of a space.
+fn answer<D: Disk>(
+    world: &mut World<D>,
+    space: &mut Ranges<VnSeg>,
+    process: u32,
+    call: &Call,
+) -> Result<Reply, AllocError>
+    requires formed { IsWellFormed call.now }
+    requires served { IsMappingCall call.now }
+    requires fits { MayBeAlive world.old process space.old.parts }
+    ensures done { IfOk result (IsAnswered world.old world.new process
+        space.old.parts space.new.parts call.now) }
+    ensures fall { IfOk result (λ _. (slot : ℕ)
+        → count_at world.new.anon slot ≤ count_at world.old.anon slot) }
+    // Where memory is wanting nothing changed, but that a number of a zero object may be free.
+    ensures err { OnErr result (AreSameZeros world.old.zeros world.new.zeros
+        × (world.new ≡ record world.old { zeros = world.new.zeros })
+        × (space.new.parts ≡ space.old.parts)) }
+    // What stays.
+    ensures rest { SameFilesAndTails world.old world.new }
+{
+    match *call {
+        Call::Map { .. } => map(world, space, process, &map_wanted(call)),
+        Call::Unmap { addr, length } => unmap(world, space, process, addr, length),
+        _ => unreachable!(),
+    }
+}
+
+/// What a call of a process is answered that changes its mappings. It needs no transfer and never waits. The only error is want
+/// of memory, or of numbers; then nothing changed, but that a number of a zero object may be free. Time: the pages of the pieces
+/// that go or are cut and of the zero objects that go, and the number of the process's pieces; for a Map, a place for each private
+/// page of the new piece, and the number of zero objects.
+pub fn attempt<D: Disk>(
+    world: &mut World<D>,
+    spaces: &mut Spaces,
+    process: u32,
+    call: &Call,
+    _from: u64,
+) -> Result<Attempt, AllocError>
+    requires formed { IsWellFormed call.now }
+    requires served { IsMappingCall call.now }
+    requires fits { Fits world.old spaces.old.spaces }
+    requires zeros { KnowsZeros world.old.zeros spaces.old.spaces }
+    requires alive { IsSome (finite.get spaces.old.spaces process) }
+    ensures done { IfOk result (λ answer. (calls : List (Option ℕ)) → Serves
+        (memory world.old spaces.old.spaces) (memory world.new spaces.new.spaces)
+        world.old.pending world.new.pending calls process call.now answer) }
+    ensures answer { IfOk result IsDoneAtOnce }
+    ensures fall { IfOk result (λ answer. (slot : ℕ)
+        → count_at world.new.anon slot ≤ count_at world.old.anon slot) }
+    ensures zeros { KnowsZeros world.new.zeros spaces.new.spaces }
+    ensures alive { IsSome (finite.get spaces.new.spaces process) }
+    // Where memory is wanting nothing changed, but that a number of a zero object may be free.
+    ensures err { OnErr result ((world.new ≡ record world.old { zeros = world.new.zeros })
+        × (spaces.new.spaces ≡ spaces.old.spaces)) }
+    // What stays.
+    ensures processes { spaces.new.processes ≡ spaces.old.processes }
+{
+    let Some(space) = spaces.get_mut(process) else {
+        unreachable!();
+    };
+    let reply = answer(world, space, process, call)?;
+    Ok(Attempt::Done(reply))
+}

@@ -1,0 +1,69 @@
+//! Unmap.
+ghost use Rattle.std.specs.Prelude.{◌≡◌, ◌<◌, ◌≤◌, ◌+◌, ◌^◌, ℕ, IfOk, OnErr};
+ghost use Rattle.anon_slots.specs.Slots.{count_at};
+ghost use Rattle.flat_model.specs.Mapping.{without_pages};
+ghost use Rattle.vm_types.specs.declared.call.Call.TheVariants as calls;
+ghost use Rattle.vm_world.specs.Words.{SameFilesAndTails};
+ghost use Rattle.seg_vn.specs.Clears.{MayBeAlive, SpaceBecomes};
+ghost use Rattle.mmap_calls.specs.Answers.{IsAnswered};
+
+use crate::cuts::cut_ends;
+use addr_space::Ranges;
+use block_device::Disk;
+use seg_vn::{VnSeg, clear};
+use std::alloc::AllocError;
+use vm_types::{Errno, Reply, is_range, page_of, pages_in};
+use vm_world::World;
+
+// Takes all that is mapped in a range out of a space; pieces that go across an end of it are cut there. The only error is want
+// of memory, or of numbers; then nothing changed.
+fn free_range<D: Disk>(
+    world: &mut World<D>,
+    space: &mut Ranges<VnSeg>,
+    process: u32,
+    first: u32,
+    pages: u32,
+) -> Result<(), AllocError>
+    requires fits { MayBeAlive world.old process space.old.parts }
+    requires range { first + pages < 2 ^ 32 }
+    ensures done { IfOk result (λ _. SpaceBecomes world.old world.new process
+        space.old.parts space.new.parts (λ F. without_pages F process first pages)) }
+    ensures fall { IfOk result (λ _. (slot : ℕ)
+        → count_at world.new.anon slot ≤ count_at world.old.anon slot) }
+    ensures err { OnErr result ((world.new ≡ world.old)
+        × (space.new.parts ≡ space.old.parts)) }
+    // What stays.
+    ensures rest { SameFilesAndTails world.old world.new }
+{
+    let end = first + pages;
+    cut_ends(world, space, process, first, end)?;
+    clear(world, space, process, first, end);
+    Ok(())
+}
+
+/// The reply to an Unmap, which is done or refused. The only error is want of memory, or of numbers; then nothing changed. Time:
+/// the pages of the pieces that go or are cut and of the zero objects that go, and the number of pieces for each end of the
+/// range at which one is cut.
+pub(crate) fn unmap<D: Disk>(
+    world: &mut World<D>,
+    space: &mut Ranges<VnSeg>,
+    process: u32,
+    addr: u32,
+    length: u32,
+) -> Result<Reply, AllocError>
+    requires fits { MayBeAlive world.old process space.old.parts }
+    ensures done { IfOk result (IsAnswered world.old world.new process
+        space.old.parts space.new.parts (calls.Unmap addr length)) }
+    ensures fall { IfOk result (λ _. (slot : ℕ)
+        → count_at world.new.anon slot ≤ count_at world.old.anon slot) }
+    ensures err { OnErr result ((world.new ≡ world.old)
+        × (space.new.parts ≡ space.old.parts)) }
+    // What stays.
+    ensures rest { SameFilesAndTails world.old world.new }
+{
+    if !is_range(addr, length) {
+        return Ok(Reply::Refused(Errno::Invalid));
+    }
+    free_range(world, space, process, page_of(addr), pages_in(length))?;
+    Ok(Reply::Done)
+}
