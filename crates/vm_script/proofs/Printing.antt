@@ -1,5 +1,6 @@
 -- A script that is printed plainly is read as what was printed.
-use Rattle.std.proofs.Common.{◌≡◌, ℕ, ◌≤◌, ◌<◌, ◌^◌, ◌+◌, ◌*◌, ◌/◌, ◌%◌, ◌==◌, Bool, true, false, not, ◌&&◌, List, [], ◌∷◌, ◌++◌, length, fold, Some, None, refl, ap, ap₂, ◌∙◌, arith, rules, tests, cond, length-append, lit<}
+use Rattle.std.proofs.Common.{◌≡◌, ℕ, ◌≤◌, ◌<◌, ◌^◌, ◌+◌, ◌*◌, ◌/◌, ◌%◌, ◌==◌, Bool, true, false, not, ◌&&◌, List, [], ◌∷◌, ◌++◌, length, fold, Some}
+use Rattle.std.proofs.Common.{None, refl, ap, ap₂, ◌∙◌, arith, rules, tests, cond, length-append, lit<}
 use Rattle.std.specs.Prelude.{All, IsTrue, codes, decimal, filter, nat_lt, nat_le, if◌then◌else◌}
 use Rattle.std.specs.List.{list_all, slice_split, onto_first}
 use Rattle.std.proofs.lemmas.Bool.{false≢true}
@@ -187,7 +188,12 @@ words_name name is h = more graphic_name (some_isnt_empty name long) h
     front = and_left (nat_le 1 (length name) && nat_le (length name) 16 && list_all is_name_letter name) (not (is_word name (codes "zero"))) whole
 
     graphic_name : list_all is_graphic name ≡ true
-    graphic_name = all_implies is_name_letter is_graphic (λ b is. grind (rules, tests, arith, nat_tests, is)) name (and_right (nat_le 1 (length name) && nat_le (length name) 16) (list_all is_name_letter name) front)
+    graphic_name =
+        all_implies is_name_letter is_graphic (λ b is. grind (rules, tests, arith, nat_tests, is)) name
+        (and_right (nat_le 1 (length name) && nat_le (length name) 16) (list_all is_name_letter name) front)
 
     long : 1 ≤ length name
-    long = let t = and_left (nat_le 1 (length name)) (nat_le (length name) 16) (and_left (nat_le 1 (length name) && nat_le (length name) 16) (list_all is_name_letter name) front) in grind (arith, nat_tests, t)
+    long =
+        let t = and_left (nat_le 1 (length name)) (nat_le (length name) 16)
+        (and_left (nat_le 1 (length name) && nat_le (length name) 16) (list_all is_name_letter name) front) in
+        grind (arith, nat_tests, t)
