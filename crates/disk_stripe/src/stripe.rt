@@ -73,8 +73,7 @@ impl<D: Disk> Disk for Stripe<D> {
     ghost use Rattle.std.specs.Prelude.{length, IsTrue, OnOk};
     ghost use Rattle.block_device.specs.DiskSeen.{Reads, Writes};
     ghost use Rattle.disk_stripe.specs.StripeSeen.{stripe_seen_by, ReadsOne, WritesOne};
-    ghost use Rattle.disk_stripe.specs.StripeBlocks.{stripe_has_blocks};
-    ghost use Rattle.disk_stripe.specs.StripeLook.{stripe_disks};
+    ghost use Rattle.disk_stripe.specs.StripeLook.{stripe_disks, blocks_of_stripe};
 
     ghost seen = { λ s. stripe_seen_by D.seen (stripe_disks s) };
 
@@ -123,6 +122,5 @@ impl<D: Disk> Disk for Stripe<D> {
         self.write_one(block, from)
     }
 
-    ghost has_blocks = { λ s. stripe_has_blocks (D.seen s.a).content (D.seen s.b).content
-        (D.seen s.a).size (D.seen s.b).size (D.has_blocks s.a) (D.has_blocks s.b) s.equal };
+    ghost has_blocks = { blocks_of_stripe D.has_blocks };
 }
