@@ -1,8 +1,9 @@
 -- What an access comes to before its word is moved. Inside: no public clause cites this.
-use Rattle.std.specs.Prelude.{◌≡◌, ℕ, ◌%◌, Bool, true, Option, Some, None, Result, Ok, Err, if◌then◌else◌}
+use Rattle.std.specs.Prelude.{◌≡◌, ◌⊎◌, ℕ, ◌%◌, Bool, true, Option, Some, None, Result, Ok, Err, if◌then◌else◌}
 use Rattle.std.specs.FinSet as set
 use Rattle.std.specs.Ordering.{nat_cmp}
 use Rattle.hat_layer.specs.Pool.{IsNoted}
+use Rattle.page_hash.specs.declared.PageName.{PageName}
 use Rattle.page_store.specs.Notes.{Notes}
 use Rattle.vm_types.specs.declared.call.Signal.{Signal}
 use Rattle.vm_types.specs.declared.prot.Prot.{Prot}
@@ -14,7 +15,7 @@ use Rattle.flat_model.specs.Words.{page}
 use Rattle.vm_world.specs.CallSteps.{ChangesMemory}
 use Rattle.vm_world.specs.FlatMemory.{Memory, flat_memory}
 use Rattle.vm_world.specs.Segments.{Spot, spot_at}
-use Rattle.vm_world.specs.Serving.{TakesFrames, AreReplaced}
+use Rattle.vm_world.specs.Serving.{TakesFrames, AreReplaced, IsUnpushedSlot, ModifiesOnly, ShowsThere}
 use Rattle.vm_world.specs.World.{World}
 use Rattle.seg_ops.specs.OwnPages.{with_own_shown}
 use Rattle.seg_ops.specs.Faults.{LetsAccess, WaitsFor}
@@ -85,6 +86,12 @@ abbrev pub HitsReach : World → World → ℕ → ℕ → Bool → AccessStep �
 HitsReach old new p q write (Reached frame) = LetsAccess old p q write → IsHit old new p q write
 HitsReach old new p q write answer = Unit {0}
 
+-- Once the access goes to its frame, the page there may be modified: of a store, and where it is that of a slot which was never pushed. No other page
+-- becomes modified.
+abbrev pub ReachModifies : Memory → ℕ → ℕ → Bool → AccessStep → PageName → Type 0
+ReachModifies m p q write (Reached frame) name = ShowsThere m p q name × ((write ≡ true) ⊎ IsUnpushedSlot m.world.anon name)
+ReachModifies m p q write answer name = ⊥
+
 -- Frames may be taken for other pages, then a page may be made, with its slot, and the access comes to this.
 pub record ServesAccess (old new : Memory) (pending more p a n : ℕ) (write : Bool) (answer : AccessStep) : Type 0 where
   pub mid : World
@@ -94,5 +101,6 @@ pub record ServesAccess (old new : Memory) (pending more p a n : ℕ) (write : B
   pub slots : ReachSlots old new.world p (page a) write answer
   pub due : IsSignalDue old p a n write (signal_in answer)
   pub replaced : AreReplaced old.world new.world first.cut
+  pub modified : ModifiesOnly (ReachModifies new p (page a) write answer) old.world new.world
   pub hit : HitsReach old.world new.world p (page a) write answer
   pub means : AccessMeans old new p a n write answer

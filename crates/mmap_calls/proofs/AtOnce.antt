@@ -1,5 +1,5 @@
 -- Calls that are done at once, with a plain reply.
-use Rattle.std.proofs.Common.{◌≡◌, ℕ, Bool, true, false, refl, sym, ap, subst}
+use Rattle.std.proofs.Common.{◌≡◌, ℕ, Bool, true, false, refl, sym, ap, inr, subst}
 use Rattle.std.specs.Prelude.{◌||◌}
 use Rattle.vm_types.specs.declared.call.Call.{Call}
 use Rattle.vm_types.specs.declared.call.Reply.{Reply}
@@ -58,5 +58,6 @@ at-once-serves old new pending more p call r same fits done =
       };
       replaced = λ name is. absurd (let z : false ≡ true = is in cc);
       refusal = λ born notes. ap refusal_in (done.due born notes);
+      modified = λ name frame home is. inr (done.modified name frame home is);
       clean = λ from name is wants. absurd (subst IsPlainReply is done.plain);
     })

@@ -6,7 +6,7 @@ ghost use Rattle.page_hash.specs.Names.{is_name};
 ghost use Rattle.page_store.specs.Seen.{IsListedFrame, residence};
 ghost use Rattle.page_store.specs.Steps.{next_frame, next_name, after_fill};
 ghost use Rattle.vm_world.specs.Segments.{Spaces};
-ghost use Rattle.vm_world.specs.Serving.{LosesFrame};
+ghost use Rattle.vm_world.specs.Serving.{LosesFrame, ModifiesOnly};
 ghost use Rattle.vm_world.specs.StateSteps.{PendsTails};
 ghost use Rattle.vm_world.specs.Words.{Fits, IsFit, OnlyStoreAndTails};
 ghost use Rattle.vm_world.specs.World.{world_seen, file_name, is_unpushed, page_exists};
@@ -35,6 +35,8 @@ pub fn fill_page<D: Disk>(world: &mut World<D>, name: PageName)
     // What stays.
     ensures rest { OnlyStoreAndTails world.old world.new }
     ensures pages { KeepsButNext world.old world.new }
+    ensures modified { ModifiesOnly (λ other. (other ≡ name) × IsTrue (name.object == 64))
+        (world_seen world.old) (world_seen world.new) }
 {
     let lost = world.store.next_name();
     world.store.fill_zero(name);

@@ -7,7 +7,7 @@ ghost use Rattle.page_store.specs.Laws.{Aborts};
 ghost use Rattle.page_store.specs.Seen.{IsListedFrame, residence};
 ghost use Rattle.page_store.specs.Steps.{next_frame, next_name, after_abort};
 ghost use Rattle.vm_world.specs.Segments.{Spaces};
-ghost use Rattle.vm_world.specs.Serving.{LosesFrame};
+ghost use Rattle.vm_world.specs.Serving.{ModifiesNone};
 ghost use Rattle.vm_world.specs.StateSteps.{PendsTails};
 ghost use Rattle.vm_world.specs.Words.{Fits, IsFit, OnlyStoreAndTails};
 ghost use Rattle.vm_world.specs.World.{world_seen};
@@ -49,6 +49,7 @@ pub fn free_next<D: Disk>(world: &mut World<D>)
         → residence world.new.store page ≡ Residence.Absent }
     ensures lists { (frame : ℕ) → IsListedFrame world.new.store frame
         → IsListedFrame world.old.store frame }
+    ensures modified { ModifiesNone (world_seen world.old) (world_seen world.new) }
     ensures rest { OnlyStoreAndTails world.old world.new }
     ensures pages { KeepsButNext world.old world.new }
 {

@@ -58,6 +58,7 @@ use Rattle.seg_ops.specs.SlotsDue.{KeepsSlots}
 use Rattle.seg_vn.proofs.AnyFaults.{accessed, serves-kept}
 use Rattle.seg_vn.proofs.AnyPlaces.{kept-shared, kept-own, kept-new, private-has}
 use Rattle.seg_vn.proofs.Faulted.{access-wants, wanted-name}
+use Rattle.seg_vn.proofs.Modifying.{loaded-modifies}
 use Rattle.seg_vn.proofs.FilePlaces.{either-allowed}
 use Rattle.seg_vn.proofs.SlotsDue.{due-none, slots-kept}
 use Rattle.seg_vn.proofs.Takes.{or-false, takes-none, takes-then}
@@ -104,11 +105,10 @@ fetch-wants (wants.Transfer plan) m name f calls p call w = record { may = f.may
 fetch-wants (wants.Seat h) m name f calls p call w = f calls (p, call) w
 
 pub shown-waits : (old mid : World) (spaces : Spaces) (p q : ℕ) (x : Spot) (write : Bool) (name : PageName) (want : Wants) → ShowsPage (memory_of mid spaces) p q x → shown_name mid.maps x ≡ Some name
-    → FetchesPage (memory_of mid spaces) name want → ((frame : ℕ) → residence old.store name ≢ Home frame) → ModifiesNone old mid → WaitsFor (memory_of old spaces) (memory_of mid spaces) p q write want
-shown-waits old mid spaces p q x write name want there shows f apart modified = record {
+    → FetchesPage (memory_of mid spaces) name want → ((frame : ℕ) → residence old.store name ≢ Home frame) → WaitsFor (memory_of old spaces) (memory_of mid spaces) p q write want
+shown-waits old mid spaces p q x write name want there shows f apart = record {
   wants = λ calls call acc. fetch-wants want (memory_of mid spaces) name f calls p call (access-wants (memory_of mid spaces) p q x call name (accessed write q call acc) there shows);
   kept = λ call acc other frame wants home. absurd (apart frame (ap (residence old.store) (sym (wanted-name (memory_of mid spaces) p q x call name other (accessed write q call acc) there.here shows wants)) ∙ home));
-  modified = modified;
 }
 
 module _ (old mid : World) (spaces : Spaces) (p q : ℕ) (x : Spot) (write writable : Bool) (pending more : ℕ) (name : PageName) (fits : MemoryFits (memory_of old spaces)) (place : PagePlace old spaces p q x name write writable)
@@ -122,13 +122,14 @@ module _ (old mid : World) (spaces : Spaces) (p q : ℕ) (x : Spot) (write writa
     in_place = λ writes. in-place-still old mid x maps anon (place.in_place writes);
   }
 
-  pub page-loaded : (new : World) (frame : ℕ) → BringsPage (memory_of old spaces) (memory_of mid spaces) pending more name (Ok tt) → KeepsPages mid new spaces → new.store.names ≡ mid.store.names → new.maps ≡ mid.maps → new.anon ≡ mid.anon
+  pub page-loaded : (new : World) (frame : ℕ) → BringsPage (memory_of old spaces) (memory_of mid spaces) pending more name (Ok tt) → KeepsPages mid new spaces → new.store.names ≡ mid.store.names → ModifiesNone mid new → new.maps ≡ mid.maps → new.anon ≡ mid.anon
       → translation_at new.hat.places p q ≡ Some (fresh_translation p q frame writable) → ServesFault (memory_of old spaces) (memory_of new spaces) pending more p q x write (Ok fault.Loaded)
-  page-loaded new frame b keeps names maps' anon' loaded =
+  page-loaded new frame b keeps names modified maps' anon' loaded =
       serves-kept old new spaces p q x write pending more (Ok fault.Loaded) (takes-then old mid new spaces pending more fits b.first keeps names)
       (replaced-beside old new b.first.cut (replaced-then old mid new b.first.cut names b.replaced)) (sym (ap not place.some))
       (λ born notes. kept-in-place new spaces p q x write writable born notes keeps.memory place.here place.lets (λ writes. in-place-still old new x (maps' ∙ maps) (anon' ∙ anon) (place.in_place writes)))
       (slots-kept old new x write (due-none old.anon old.maps x write name place.shows (λ writes. place.in_place (place.lets writes))) (anon' ∙ anon) (maps' ∙ maps))
+      (loaded-modifies old mid new x name b.modified modified (ap (λ (ms : List (Option maps_of.Map)). shown_name ms x) (maps' ∙ maps) ∙ place.shows) anon')
       (record { translation = fresh_translation p q frame writable; loaded = loaded; writable = place.lets })
 
   shows-there : shown_name mid.maps x ≡ Some name
@@ -136,8 +137,8 @@ module _ (old mid : World) (spaces : Spaces) (p q : ℕ) (x : Spot) (write writa
 
   pub page-waits : (want : Wants) → BringsPage (memory_of old spaces) (memory_of mid spaces) pending more name (Err want) → ServesFault (memory_of old spaces) (memory_of mid spaces) pending more p q x write (Err want)
   page-waits want b =
-      serves-kept old mid spaces p q x write pending more (Err want) b.first b.replaced (sym (ap not place.some)) (λ born notes. refl) (record { counts = anon; places = maps })
-      (shown-waits old mid spaces p q x write name want (there-still old mid spaces p q x place.here place.some maps files) shows-there b.means.0 b.means.1 b.means.2)
+      serves-kept old mid spaces p q x write pending more (Err want) b.first b.replaced (sym (ap not place.some)) (λ born notes. refl) (record { counts = anon; places = maps }) b.modified
+      (shown-waits old mid spaces p q x write name want (there-still old mid spaces p q x place.here place.some maps files) shows-there b.means.0 b.means.1)
 
 -- A FRAME IS WANTED for a page that is made, and none can be had.
 asked-wants : (w : World) (spaces : Spaces) (p q : ℕ) (x : Spot) (victim : PageName) (answer : Wants) (calls : List (Option ℕ)) (call : Call) → MemoryFits (memory_of w spaces) → accessed_page call ≡ Some q → ShowsPage (memory_of w spaces) p q x
@@ -152,20 +153,19 @@ asked-wants w spaces p q x victim (wants.Seat (hold.Disk seat)) calls call f acc
 asked-wants w spaces p q x victim (wants.Seat (hold.File seat)) calls call f acc there makes none dirty asked = absurd asked
 
 pub pushes-made : (old w : World) (spaces : Spaces) (p q : ℕ) (x : Spot) (write : Bool) (victim : PageName) (answer : Wants) → MemoryFits (memory_of w spaces) → ShowsPage (memory_of w spaces) p q x
-    → ((call : Call) → Accesses write q call → MakesSlotFor w x call) → ((call : Call) → Accesses write q call → KeepsWanted (memory_of old spaces) (memory_of w spaces) p call) → ModifiesNone old w
+    → ((call : Call) → Accesses write q call → MakesSlotFor w x call) → ((call : Call) → Accesses write q call → KeepsWanted (memory_of old spaces) (memory_of w spaces) p call)
     → next_frame w.store ≡ None → IsDirtyPage w victim → IsAsked w (plan.Push victim) answer → FaultMeans (memory_of old spaces) (memory_of w spaces) p q x write (Err answer)
-pushes-made old w spaces p q x write victim answer f there makes wanted modified none dirty asked = record {
+pushes-made old w spaces p q x write victim answer f there makes wanted none dirty asked = record {
   wants = λ calls call acc. asked-wants w spaces p q x victim answer calls call f (accessed write q call acc) there (makes call acc) none dirty asked;
   kept = wanted;
-  modified = modified;
 }
 
 pub made-asks : (old w : World) (spaces : Spaces) (p q : ℕ) (x : Spot) (write : Bool) (pending more : ℕ) (victim : PageName) (answer : Wants) (first : TakesFrames (memory_of old spaces) w pending more) → AreReplaced old w first.cut → IsTrue (shows_page old x) → KeepsSlots old w → ShowsPage (memory_of w spaces) p q x
     → ((call : Call) → Accesses write q call → MakesSlotFor w x call) → ((call : Call) → Accesses write q call → KeepsWanted (memory_of old spaces) (memory_of w spaces) p call) → ModifiesNone old w
     → next_frame w.store ≡ None → IsDirtyPage w victim → IsAsked w (plan.Push victim) answer → ServesFault (memory_of old spaces) (memory_of w spaces) pending more p q x write (Err answer)
 made-asks old w spaces p q x write pending more victim answer first replaced some kept there makes wanted modified none dirty asked =
-    serves-kept old w spaces p q x write pending more (Err answer) first replaced (sym (ap not some)) (λ born notes. refl) kept
-    (pushes-made old w spaces p q x write victim answer first.step.memory there makes wanted modified none dirty asked)
+    serves-kept old w spaces p q x write pending more (Err answer) first replaced (sym (ap not some)) (λ born notes. refl) kept (λ n k at m. inr (modified n k at m))
+    (pushes-made old w spaces p q x write victim answer first.step.memory there makes wanted none dirty asked)
 
 -- ZEROS: no page is shown, and an access makes one.
 pub shown-bare : (maps : List (Option maps_of.Map)) (x : Spot) → own_slot maps x ≡ None → object_name maps x.0.shown (x.0.index + x.1) x.0.object ≡ None → shown_name maps x ≡ None
@@ -273,12 +273,16 @@ zeros-get w spaces p q x m i s put fits here bare zeros set = elim zeros.new [
       ∙ ap (option_map slot_name) (slot-here w.maps m i (Some s) zeros.within)
 ]
 
+pub zeros-there : (w made : World) (spaces : Spaces) (p q : ℕ) (x : Spot) (m i s : ℕ) (write writable : Bool) → MemoryFits (memory_of w spaces) → ZerosShown w spaces p q x m i write writable
+    → made.maps ≡ with_places w.maps m (slice_set (places_of w.maps m) i (Some s)) → shown_name made.maps x ≡ Some (slot_name s)
+zeros-there w made spaces p q x m i s write writable fits z set = zeros-get w spaces p q x m i s made.maps fits z.here z.bare z.zeros set
+
 pub zeros-may : (w made : World) (spaces : Spaces) (p q : ℕ) (x : Spot) (m i s : ℕ) (write writable : Bool) → MemoryFits (memory_of w spaces) → ZerosShown w spaces p q x m i write writable
     → made.maps ≡ with_places w.maps m (slice_set (places_of w.maps m) i (Some s)) → count_at made.anon s ≡ 1 → MayShow made spaces p q (slot_name s) writable
 zeros-may w made spaces p q x m i s write writable fits z set once = record {
   spot = x;
   here = z.here;
-  shows = zeros-get w spaces p q x m i s made.maps fits z.here z.bare z.zeros set;
+  shows = zeros-there w made spaces p q x m i s write writable fits z set;
   allowed = z.allowed;
   in_place = λ writes. record {
     prot = (z.in_place writes).0;
@@ -328,5 +332,5 @@ shared-in-place w spaces p q x fits here own writes = record {
 -- nothing is shown past the object's end
 pub past-serves : (w : World) (spaces : Spaces) (p q : ℕ) (x : Spot) (write : Bool) (pending : ℕ) → MemoryFits (memory_of w spaces) → own_slot w.maps x ≡ None → IsFalse (object_has w x.0.shown (x.0.index + x.1) x.0.object)
     → ServesFault (memory_of w spaces) (memory_of w spaces) pending pending p q x write (Ok fault.Past)
-past-serves w spaces p q x write pending fits bare past = serves-kept w w spaces p q x write pending pending (Ok fault.Past) (takes-none w w spaces pending (keeps-same w spaces fits)) (none-replaced w w) (sym (ap not (ap (λ (o : Option ℕ). is_some o || object_has w x.0.shown (x.0.index + x.1) x.0.object) bare ∙ past))) (λ born notes. refl) (record { counts = refl; places = refl })
+past-serves w spaces p q x write pending fits bare past = serves-kept w w spaces p q x write pending pending (Ok fault.Past) (takes-none w w spaces pending (keeps-same w spaces fits)) (none-replaced w w) (sym (ap not (ap (λ (o : Option ℕ). is_some o || object_has w x.0.shown (x.0.index + x.1) x.0.object) bare ∙ past))) (λ born notes. refl) (record { counts = refl; places = refl }) (λ n k at m. inr (at, m))
     (ap (λ (o : Option ℕ). is_some o || object_has w x.0.shown (x.0.index + x.1) x.0.object) bare ∙ past)

@@ -5,6 +5,7 @@ use Rattle.page_hash.specs.Names.{is_name, name_at}
 use Rattle.page_store.specs.Steps.{next_name}
 use Rattle.vm_world.specs.StateSteps.{PendsTails}
 use Rattle.vm_world.specs.World.{world_seen}
+use Rattle.seg_ops.proofs.Modified.{modifies-then}
 use Rattle.seg_vn.proofs.CopySteps.{gathered-next, gathered-listed, gathered-same}
 use Rattle.seg_vn.proofs.Takes.{takes-later, takes-next}
 use Rattle.seg_vn.proofs.copy_faults.clear_way.Goals as goal
@@ -49,3 +50,6 @@ returns-clause-takes g c = λ spaces fits.
           let h = cut-frame mid.store name cut in
           (h.0, c.free_next.ensures.same ∙ h.1, ap (λ (ns : List (Option PageName)). name_at ns h.0) (sym names) ∙ h.2);
     }
+
+pub returns-clause-modified : goal.returns-clause-modified
+returns-clause-modified g c = modifies-then (world_seen c.args.world.now) (world_seen c.drop_translation.new.world) (world_seen c.free_next.new.world) c.drop_translation.ensures.modified c.free_next.ensures.modified
