@@ -8,4 +8,5 @@ pub mod MapResults
 pub mod RoomAfter
 pub mod AtOnce
 pub mod CutPlaces
+pub mod RangeProtections
 pub mod Replaced

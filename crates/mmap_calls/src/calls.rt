@@ -11,6 +11,7 @@ ghost use Rattle.mmap_calls.specs.Answers.{IsAnswered};
 ghost use Rattle.mmap_calls.specs.Calls.{IsDoneAtOnce, IsMappingCall};
 
 use crate::maps::{map, map_wanted};
+use crate::protects::protect;
 use crate::unmaps::unmap;
 use addr_space::Ranges;
 use block_device::Disk;
@@ -43,6 +44,7 @@ fn answer<D: Disk>(
     match *call {
         Call::Map { .. } => map(world, space, process, &map_wanted(call)),
         Call::Unmap { addr, length } => unmap(world, space, process, addr, length),
+        Call::Protect { addr, length, prot } => protect(world, space, process, addr, length, prot),
         _ => unreachable!(),
     }
 }

@@ -5,6 +5,7 @@ mod calls;
 mod counts;
 mod cuts;
 mod maps;
+mod protects;
 mod refusals;
 mod unmaps;
 

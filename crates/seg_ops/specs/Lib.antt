@@ -9,4 +9,5 @@ pub mod OwnPages
 pub mod SlotTrials
 pub mod Rooms
 pub mod SlotsDue
+pub mod Writers
 pub mod Faults

@@ -13,6 +13,7 @@ mod installs;
 mod landings;
 mod objects;
 mod plans;
+mod protects;
 mod ranges;
 mod rooms;
 mod tables;
@@ -30,6 +31,7 @@ pub use installs::{install, show, take_back};
 pub use landings::end_flight;
 pub use objects::drop_object;
 pub use plans::{Fault, ask, fetch};
+pub use protects::protect;
 pub use ranges::drop_places;
 pub use rooms::{evict, make_room, make_room_beside, sync};
 

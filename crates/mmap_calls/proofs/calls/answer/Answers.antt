@@ -11,3 +11,7 @@ returns-in-Map-clause-done g c =
 pub returns-in-Unmap-clause-done : goal.returns-in-Unmap-clause-done
 returns-in-Unmap-clause-done g c =
     subst (λ (x : Call). IfOk c.unmap.result (IsAnswered c.args.world.now c.unmap.new.world c.args.process c.args.space.now.parts c.unmap.new.space.parts x)) (sym c.in-Unmap.is) c.unmap.ensures.done
+
+pub returns-in-Protect-clause-done : goal.returns-in-Protect-clause-done
+returns-in-Protect-clause-done g c =
+    subst (λ (x : Call). IfOk c.protect.result (IsAnswered c.args.world.now c.protect.new.world c.args.process c.args.space.now.parts c.protect.new.space.parts x)) (sym c.in-Protect.is) c.protect.ensures.done
