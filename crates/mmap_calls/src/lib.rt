@@ -4,6 +4,7 @@
 mod calls;
 mod counts;
 mod cuts;
+mod gaps;
 mod maps;
 mod protects;
 mod refusals;
