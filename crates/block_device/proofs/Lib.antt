@@ -3,3 +3,4 @@ pub mod CallLemmas
 pub mod CountLemmas
 pub mod MemLemmas
 pub mod StreamLemmas
+pub mod SumLemmas

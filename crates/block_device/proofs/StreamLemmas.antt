@@ -1,9 +1,9 @@
 -- Pieces of texts.
-use Rattle.std.proofs.Common.{◌≡◌, ℕ, ◌+◌, ◌-◌, ◌<◌, ◌≤◌, length, length-append, length-drop, arith, List, [], ◌++◌, take, drop, Option, Some, None, refl, ap, sym, ◌∙◌, append_assoc, subst}
+use Rattle.std.proofs.Common.{◌≡◌, ℕ, ◌+◌, ◌-◌, ◌≤◌, length, length-append, length-drop, arith, List, ◌++◌, take, drop, Option, Some, None, refl, ap, sym, ◌∙◌, append_assoc}
 use Rattle.std.specs.Prelude.{option_map, Result, Ok, Err, OnErr}
 use Rattle.std.proofs.Math.Seq.{take-add, take-length}
-use Rattle.std.proofs.lemmas.List.{take-append-le, length-take}
-use Rattle.block_device.specs.StreamSeen.{SourceSeen, Came, Gives, TookSome, text_with_more}
+use Rattle.std.proofs.lemmas.List.{length-take}
+use Rattle.block_device.specs.StreamSeen.{Came, TookSome, text_with_more}
 
 -- One piece and the next are one piece.
 pub came_on : (x y z : Option (List ℕ)) (a b : List ℕ) → Came x a y → Came y b z → Came x (a ++ b) z

@@ -17,7 +17,7 @@ IsRackFault old new number (Failed fault) =
 IsRackFault old new number Memory = new ≡ old
 
 -- What `attach` does: it gives the disk of the spec under the spec's number, which has counted no fault, and
--- the rack counts it as attached; or a fault of the rack, or lacks memory.
+-- the rack counts it as attached and no fault; or a fault of the rack, or lacks memory.
 pub record Opens {D : Type 0} (old new : RackSeen) (spec : Spec) (seen : D → DiskSeen) (result : Result (NumberedDisk D) AttachFault) : Type 0 where
   pub attached : IfOk result (λ given. (given.number ≡ spec_number spec) × IsAttached spec (old.holds spec) (seen given.disk))
   pub unfailed : IfOk result (λ given. (seen given.disk).faults ≡ 0)
@@ -26,6 +26,7 @@ pub record Opens {D : Type 0} (old new : RackSeen) (spec : Spec) (seen : D → D
   pub others : KeepsOthers old new spec
   pub later : old.faults ≤ new.faults
   pub failed : IfErr result (IsRackFault old new (spec_number spec))
+  pub steady : OnOk result (new.faults ≡ old.faults)
 
 -- A fault of the disk names it, and has its counts before and after this very call.
 abbrev pub IsDiskFault : ℕ → DiskSeen → DiskSeen → OpenFaultSeen → Type 0

@@ -1,5 +1,5 @@
 -- When two disks may be paired. Public clauses cite this.
-use Rattle.std.specs.Prelude.{ℕ, ◌≡◌, ◌<◌, ◌^◌, Bool, Option, IsFalse}
+use Rattle.std.specs.Prelude.{◌≡◌, ◌<◌, ◌^◌, Bool, Option, IsFalse}
 use Rattle.std.specs.Option.{ForSome}
 use Rattle.block_device.specs.DiskSeen.{DiskSeen}
 

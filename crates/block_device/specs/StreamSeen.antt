@@ -1,6 +1,6 @@
 -- What contracts see of sources and sinks of bytes, and what their calls do. Public clauses cite this.
 use Rattle.std.specs.Prelude.{ℕ, ◌≡◌, ◌<◌, ◌≤◌, List, [], ◌++◌, length, take, Option, option_map, IfSome, Result, IfOk, OnErr}
-use Rattle.block_device.specs.Counts.{HasCause}
+use Rattle.block_device.specs.Counts.{CountsFailures}
 
 -- The bytes that are still to come, where the source tells them, and how often a read failed.
 pub record SourceSeen : Type 0 where
@@ -26,11 +26,12 @@ pub record Gives (old new : SourceSeen) (into : List ℕ) (count : ℕ) : Type 0
   pub came : Came old.rest (take count into) new.rest
   pub end : 0 < length into → count ≡ 0 → IfSome old.rest (λ rest. rest ≡ [])
 
--- What a read of a source does: it gives the next bytes, or fails with a fault counted and takes none.
+-- What a read of a source does: it gives the next bytes, or fails and takes none. It counts a fault exactly
+-- where it fails.
 pub record ReadsNext {E : Type 0} (old new : SourceSeen) (into : List ℕ) (result : Result ℕ E) : Type 0 where
   pub bytes : IfOk result (Gives old new into)
   pub kept : OnErr result (new.rest ≡ old.rest)
-  pub cause : HasCause old.faults new.faults result
+  pub cause : CountsFailures old.faults new.faults result
 
 -- The first `count` bytes of `from` were appended, and at least one where there is one.
 pub record Appends (old new : SinkSeen) (from : List ℕ) (count : ℕ) : Type 0 where
@@ -38,11 +39,12 @@ pub record Appends (old new : SinkSeen) (from : List ℕ) (count : ℕ) : Type 0
   pub some : 0 < length from → 0 < count
   pub text : new.written ≡ text_with_more old.written (take count from)
 
--- What a write to a sink does: it appends a front of `from`, or fails with a fault counted and takes none.
+-- What a write to a sink does: it appends a front of `from`, or fails and takes none. It counts a fault exactly
+-- where it fails.
 pub record WritesNext {E : Type 0} (old new : SinkSeen) (from : List ℕ) (result : Result ℕ E) : Type 0 where
   pub bytes : IfOk result (Appends old new from)
   pub kept : OnErr result (new.written ≡ old.written)
-  pub cause : HasCause old.faults new.faults result
+  pub cause : CountsFailures old.faults new.faults result
 
 -- At most so many bytes were taken from a source, in order.
 abbrev pub TookSome : Option (List ℕ) → Option (List ℕ) → ℕ → Type 0

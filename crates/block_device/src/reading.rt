@@ -1,6 +1,6 @@
 //! Reading a source, and writing to a sink, as a whole.
 ghost use Rattle.std.specs.Prelude.{◌≡◌, ◌<◌, ◌≤◌, [], length, vec_len, OnOk, OnErr, IfOk, IfSome, IsErrOf};
-ghost use Rattle.block_device.specs.Counts.{HasRisen, HasCause};
+ghost use Rattle.block_device.specs.Counts.{HasRisen, CountsFailures};
 ghost use Rattle.block_device.specs.StreamSeen.{Came, TookSome, AppendedPart, text_with_more, ReadsNext};
 
 use crate::{Failed, Sink, Source};
@@ -59,6 +59,10 @@ pub fn read_to_limit<S: Source>(
     ensures failed { IsErrOf result ReadFault.Failed
         → HasRisen (S.seen source.old).faults (S.seen source.new).faults }
     ensures later { (S.seen source.old).faults ≤ (S.seen source.new).faults }
+    // Every other answer counts no fault.
+    ensures steady { OnOk result ((S.seen source.new).faults ≡ (S.seen source.old).faults) }
+    ensures memory { IsErrOf result ReadFault.Memory
+        → (S.seen source.new).faults ≡ (S.seen source.old).faults }
 {
     let mut all = Vec::new(alloc);
     let mut piece = [0; 4096];
@@ -90,7 +94,7 @@ pub fn write_all<K: Sink>(sink: &mut K, text: &[u8]) -> Result<(), Failed>
         ((K.seen sink.new).written ≡ text_with_more (K.seen sink.old).written text.now) }
     ensures part { OnErr result
         (AppendedPart (K.seen sink.old).written (K.seen sink.new).written text.now) }
-    ensures cause { HasCause (K.seen sink.old).faults (K.seen sink.new).faults result }
+    ensures cause { CountsFailures (K.seen sink.old).faults (K.seen sink.new).faults result }
 {
     let mut done = 0;
     while done < text.len() {

@@ -15,6 +15,8 @@ impl<D: Disk> Disk for Untold<D> {
 
     ghost seen = { λ d. record (D.seen d.disk) { content = None } };
 
+    ghost exact = { D.exact };
+
     fn blocks(&self) -> u32 {
         self.disk.blocks()
     }

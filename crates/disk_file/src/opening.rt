@@ -1,7 +1,7 @@
 //! Opens a file as a disk.
 ghost use Rattle.std.specs.Prelude.{◌≡◌, true, IfOk, IfSome};
 ghost use Rattle.std.specs.Fs.{new_options, with_read, with_write};
-ghost use Rattle.block_device.specs.Counts.{HasCause};
+ghost use Rattle.block_device.specs.Counts.{CountsFailures};
 ghost use Rattle.disk_file.specs.FileDiskSeen.{fresh_file_disk};
 
 use crate::FileDisk;
@@ -42,7 +42,7 @@ pub fn open<R: Files<File = File>>(
     faults: &mut u64,
 ) -> Result<FileDisk<File>, Failed>
     ensures disk { IfOk result (λ disk. disk ≡ fresh_file_disk disk.size) }
-    ensures cause { HasCause faults.old faults.new result }
+    ensures cause { CountsFailures faults.old faults.new result }
 {
     match found_at(files, path) {
         Some(disk) => Ok(disk),

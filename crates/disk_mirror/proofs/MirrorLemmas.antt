@@ -5,33 +5,12 @@ use Rattle.std.specs.Result.{result_or}
 use Rattle.std.proofs.lemmas.Bool.{cases_eq}
 use Rattle.std.proofs.lemmas.List.{ext_get_or, length-set, get_or-set_same, get_or-set_other}
 use Rattle.std.proofs.lemmas.Result.{on_ok_weaker}
-use Rattle.block_device.specs.Counts.{HasRisen}
 use Rattle.block_device.specs.DiskSeen.{DiskSeen, HasBlocks, Reads, Writes, Shows, with_block}
 use Rattle.block_device.specs.declared.disk.Failed.{Failed}
-use Rattle.block_device.specs.Joins.{content_of_both, count_sum}
+use Rattle.block_device.specs.Joins.{content_of_both}
+use Rattle.block_device.proofs.SumLemmas.{first_risen, second_risen, sums_risen, first_cause, second_cause}
 use Rattle.disk_mirror.specs.MirrorBlocks.{true_or_false, mirror_block-fresh, mirror_block-stale, length-mirror_blocks, get_or-mirror_blocks}
 use Rattle.disk_mirror.specs.MirrorSeen.{MirrorSeen, is_fresh, mirror_block, mirror_blocks, mirror_disk, mirror_seen, HasFreshSide, SameWhereFresh, ReadsFirst, WritesEach}
-
--- ---- counts
-
-sums_risen : (m n k l : ℕ) → HasRisen m n → HasRisen k l → HasRisen (count_sum m k) (count_sum n l)
-sums_risen m n k l one other = omega (arith, one, other)
-
-first_risen : (m n k : ℕ) → HasRisen m n → HasRisen (count_sum m k) (count_sum n k)
-first_risen m n k risen = omega (arith, risen)
-
-second_risen : (m k l : ℕ) → HasRisen k l → HasRisen (count_sum m k) (count_sum m l)
-second_risen m k l risen = omega (arith, risen)
-
-sums_later : (m n k l : ℕ) → m ≤ n → k ≤ l → count_sum m k ≤ count_sum n l
-sums_later m n k l one other = omega (arith, one, other)
-
-both_risen : (m n k l : ℕ) → m ≤ n → HasRisen k l → HasRisen (count_sum m k) (count_sum n l)
-both_risen m n k l later risen = omega (arith, later, risen)
-
-on_err_weaker : {T E P Q : Type 0} (r : Result T E) → (P → Q) → OnErr r P → OnErr r Q
-on_err_weaker (Ok _) f p = tt
-on_err_weaker (Err _) f p = f p
 
 -- ---- blocks
 
@@ -109,8 +88,8 @@ module _ {E : Type 0} (a b : DiskSeen) (n : ℕ) (marks others : List Bool) (lon
     gives = on_ok_weaker r (shows_first a.content b.content a.size n marks into long inside fresh) it.gives;
     content = ap (λ x. content_of_both (mirror_blocks marks) x b.content) it.content;
     size = it.size;
-    calls = first_risen a.calls new.calls b.calls it.calls;
-    cause = record { later = omega (arith, it.cause.later); failed = on_err_weaker r (first_risen a.faults new.faults b.faults) it.cause.failed };
+    calls = first_risen a.calls new.calls b.calls b.calls it.calls (omega arith);
+    cause = first_cause a.faults new.faults b.faults b.faults r it.cause (omega arith);
   }
 
   -- The second was read, where the block isn't fresh on the first.
@@ -119,8 +98,8 @@ module _ {E : Type 0} (a b : DiskSeen) (n : ℕ) (marks others : List Bool) (lon
     gives = on_ok_weaker r (shows_second a.content b.content a.size n marks into long inside stale) it.gives;
     content = ap (content_of_both (mirror_blocks marks) a.content) it.content;
     size = refl;
-    calls = second_risen a.calls b.calls new.calls it.calls;
-    cause = record { later = omega (arith, it.cause.later); failed = on_err_weaker r (second_risen a.faults b.faults new.faults) it.cause.failed };
+    calls = second_risen a.calls a.calls b.calls new.calls (omega arith) it.calls;
+    cause = second_cause a.faults a.faults b.faults new.faults r (omega arith) it.cause;
   }
 
   -- The second was read after the first, where the block is fresh on both.
@@ -130,10 +109,7 @@ module _ {E : Type 0} (a b : DiskSeen) (n : ℕ) (marks others : List Bool) (lon
     content = ap (λ x. content_of_both (mirror_blocks marks) x next.content) one.content ∙ ap (content_of_both (mirror_blocks marks) a.content) other.content;
     size = one.size;
     calls = sums_risen a.calls new.calls b.calls next.calls one.calls other.calls;
-    cause = record {
-      later = sums_later a.faults new.faults b.faults next.faults one.cause.later other.cause.later;
-      failed = on_err_weaker s (λ (risen : HasRisen b.faults next.faults). both_risen a.faults new.faults b.faults next.faults one.cause.later risen) other.cause.failed;
-    };
+    cause = second_cause a.faults new.faults b.faults next.faults s one.cause.later other.cause;
   }
 
 module _ {D : Type 0} (seen : D → DiskSeen) (old mid : MirrorSeen D) (n : ℕ) (into : List ℕ) (long : length old.fresh_a ≡ (seen old.a).size) (inside : n < (seen old.a).size) where
@@ -190,31 +166,28 @@ module _ (a b new next : DiskSeen) (n : ℕ) (from : List ℕ) (marks : List Boo
     spoiled = tt;
     size = one.size;
     calls = sums_risen a.calls new.calls b.calls next.calls one.calls other.calls;
-    cause = record { later = sums_later a.faults new.faults b.faults next.faults one.cause.later other.cause.later; failed = tt };
+    cause = first_cause a.faults new.faults b.faults next.faults (Ok u) one.cause other.cause.later;
   }
   both_write (Ok u) (Err e) one other = record {
     written = put true from other.spoiled.0 one.written other.spoiled.2;
     spoiled = tt;
     size = one.size;
     calls = sums_risen a.calls new.calls b.calls next.calls one.calls other.calls;
-    cause = record { later = sums_later a.faults new.faults b.faults next.faults one.cause.later other.cause.later; failed = tt };
+    cause = first_cause a.faults new.faults b.faults next.faults (Ok u) one.cause other.cause.later;
   }
   both_write (Err e) (Ok v) one other = record {
     written = put false one.spoiled.0 from one.spoiled.2 other.written;
     spoiled = tt;
     size = one.size;
     calls = sums_risen a.calls new.calls b.calls next.calls one.calls other.calls;
-    cause = record { later = sums_later a.faults new.faults b.faults next.faults one.cause.later other.cause.later; failed = tt };
+    cause = second_cause a.faults new.faults b.faults next.faults (Ok v) one.cause.later other.cause;
   }
   both_write (Err e) (Err f) one other = record {
     written = tt;
     spoiled = (one.spoiled.0, one.spoiled.1, put true one.spoiled.0 other.spoiled.0 one.spoiled.2 other.spoiled.2);
     size = one.size;
     calls = sums_risen a.calls new.calls b.calls next.calls one.calls other.calls;
-    cause = record {
-      later = sums_later a.faults new.faults b.faults next.faults one.cause.later other.cause.later;
-      failed = sums_risen a.faults new.faults b.faults next.faults one.cause.failed other.cause.failed;
-    };
+    cause = second_cause a.faults new.faults b.faults next.faults (Err f) one.cause.later other.cause;
   }
 
 -- ---- answers

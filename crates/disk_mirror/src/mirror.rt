@@ -8,8 +8,8 @@ use block_device::{Disk, Failed};
 use std::alloc::Global;
 
 /// Two disks of as many blocks as one disk, each of whose blocks lies on both. A write goes to both. A block is
-/// fresh on a disk where its last write there was Ok; a read asks only a disk where the block is fresh. Two bits a
-/// block keep where that is.
+/// fresh on a disk where its last write there was Ok, and on the first alone where both failed, or before it is
+/// written; a read asks only a disk where the block is fresh. Two bits a block keep where that is.
 #[derive(Drop)]
 pub struct Mirror<D: Disk> {
     a: D,
@@ -108,11 +108,14 @@ fn answer_of(on_a: Result<(), Failed>, on_b: Result<(), Failed>) -> Result<(), F
 }
 
 impl<D: Disk> Disk for Mirror<D> {
+    ghost use Rattle.std.specs.Prelude.{false};
     ghost use Rattle.disk_mirror.specs.MirrorSeen.{mirror_seen, AsksFresh, WritesBoth};
-    ghost use Rattle.disk_mirror.specs.MirrorBlocks.{mirror_has_blocks};
-    ghost use Rattle.disk_mirror.specs.MirrorLook.{mirror_look};
+    ghost use Rattle.disk_mirror.specs.MirrorLook.{mirror_look, blocks_of_mirror};
 
     ghost seen = { λ m. mirror_seen D.seen (mirror_look m) };
+
+    // What one disk fails to serve, the other serves, and the fault is counted.
+    ghost exact = { false };
 
     fn blocks(&self) -> u32 {
         self.a.blocks()
@@ -156,6 +159,5 @@ impl<D: Disk> Disk for Mirror<D> {
         answer_of(on_a, on_b)
     }
 
-    ghost has_blocks = { λ m. mirror_has_blocks m.fresh_a (D.seen m.a).content (D.seen m.b).content
-        (D.seen m.a).size (D.seen m.b).size (D.has_blocks m.a) (D.has_blocks m.b) m.equal m.marks_a };
+    ghost has_blocks = { blocks_of_mirror D.has_blocks };
 }

@@ -1,29 +1,14 @@
 -- A transfer of the disk where a block lies is one of the stripe.
 use Rattle.std.proofs.Common.{ℕ, ◌≡◌, ◌≢◌, ◌+◌, ◌<◌, ◌≤◌, ◌/◌, ◌%◌, ◌∙◌, ap, sym, subst, refl, inl, inr, arith, List, [], length, get_or, set, Option, Some, None}
-use Rattle.std.specs.Prelude.{Result, Ok, Err, OnErr}
+use Rattle.std.specs.Prelude.{Result}
 use Rattle.std.proofs.lemmas.Bool.{cases_eq}
 use Rattle.std.proofs.lemmas.List.{ext_get_or, length-set, get_or-set_same, get_or-set_other}
-use Rattle.std.proofs.lemmas.Result.{on_ok_weaker}
-use Rattle.block_device.specs.Counts.{HasRisen, HasCause}
+use Rattle.std.proofs.lemmas.Result.{on_ok_weaker, on_err_weaker}
 use Rattle.block_device.specs.DiskSeen.{DiskSeen, HasBlocks, Reads, Writes, Shows, with_block}
-use Rattle.block_device.specs.Joins.{content_of_both, count_sum}
+use Rattle.block_device.specs.Joins.{content_of_both}
+use Rattle.block_device.proofs.SumLemmas.{first_risen, second_risen, first_cause, second_cause}
 use Rattle.disk_stripe.specs.StripeBlocks.{parity, stripe_block-even, stripe_block-odd, length-stripe_blocks, get_or-stripe_blocks}
 use Rattle.disk_stripe.specs.StripeSeen.{stripe_block, stripe_blocks, stripe_seen, stripe_seen_by, ReadsOne, WritesOne}
-
-pub on_err_weaker : {T E P Q : Type 0} (r : Result T E) → (P → Q) → OnErr r P → OnErr r Q
-on_err_weaker (Ok _) f p = tt
-on_err_weaker (Err _) f p = f p
-
--- ---- counts
-
-sum_risen : (m n k : ℕ) → HasRisen m n → HasRisen (count_sum m k) (count_sum n k)
-sum_risen m n k risen = omega (arith, risen)
-
-sum_later : (m n k : ℕ) → m ≤ n → count_sum m k ≤ count_sum n k
-sum_later m n k later = omega (arith, later)
-
-sum_cause : {T E : Type 0} (m n k : ℕ) (r : Result T E) → HasCause m n r → HasCause (count_sum m k) (count_sum n k) r
-sum_cause m n k r cause = record { later = sum_later m n k cause.later; failed = on_err_weaker r (sum_risen m n k) cause.failed }
 
 -- ---- blocks
 
@@ -127,8 +112,8 @@ module _ {E : Type 0} (a b new : DiskSeen) (n : ℕ) (bytes : List ℕ) (r : Res
     gives = on_ok_weaker r (shows_even a.content b.content a.size n bytes on_a on_b even inside) it.gives;
     content = ap (λ x. content_of_both stripe_blocks x b.content) it.content;
     size = ap (λ k. k + b.size) it.size;
-    calls = sum_risen a.calls new.calls b.calls it.calls;
-    cause = sum_cause a.faults new.faults b.faults r it.cause;
+    calls = first_risen a.calls new.calls b.calls b.calls it.calls (omega arith);
+    cause = first_cause a.faults new.faults b.faults b.faults r it.cause (omega arith);
   }
 
   pub even_writes : n % 2 ≡ 0 → Writes a new (n / 2) bytes r → Writes (stripe_seen a b) (stripe_seen new b) n bytes r
@@ -136,8 +121,8 @@ module _ {E : Type 0} (a b new : DiskSeen) (n : ℕ) (bytes : List ℕ) (r : Res
     written = on_ok_weaker r (λ is. ap (λ x. content_of_both stripe_blocks x b.content) is ∙ put_even a.content b.content a.size n bytes on_a on_b even inside) it.written;
     spoiled = on_err_weaker r (λ (some, block, is). (some, block, ap (λ x. content_of_both stripe_blocks x b.content) is ∙ put_even a.content b.content a.size n some on_a on_b even inside)) it.spoiled;
     size = ap (λ k. k + b.size) it.size;
-    calls = sum_risen a.calls new.calls b.calls it.calls;
-    cause = sum_cause a.faults new.faults b.faults r it.cause;
+    calls = first_risen a.calls new.calls b.calls b.calls it.calls (omega arith);
+    cause = first_cause a.faults new.faults b.faults b.faults r it.cause (omega arith);
   }
 
 module _ {E : Type 0} (a b new : DiskSeen) (n : ℕ) (bytes : List ℕ) (r : Result (Unit {0}) E) (on_a : HasBlocks a.content a.size) (second : HasBlocks b.content b.size) (equal : a.size ≡ b.size) (within : n < a.size + b.size) where
@@ -147,19 +132,13 @@ module _ {E : Type 0} (a b new : DiskSeen) (n : ℕ) (bytes : List ℕ) (r : Res
   there : n < a.size + a.size
   there = omega (arith, within, equal)
 
-  later_risen : HasRisen b.calls new.calls → HasRisen (count_sum a.calls b.calls) (count_sum a.calls new.calls)
-  later_risen risen = omega (arith, risen)
-
-  later_cause : HasCause b.faults new.faults r → HasCause (count_sum a.faults b.faults) (count_sum a.faults new.faults) r
-  later_cause cause = record { later = omega (arith, cause.later); failed = on_err_weaker r (λ (risen : HasRisen b.faults new.faults). omega (arith, risen)) cause.failed }
-
   pub odd_reads : n % 2 ≡ 1 → Reads b new (n / 2) bytes r → Reads (stripe_seen a b) (stripe_seen a new) n bytes r
   odd_reads odd it = record {
     gives = on_ok_weaker r (shows_odd a.content b.content a.size n bytes on_a also_b odd there) it.gives;
     content = ap (content_of_both stripe_blocks a.content) it.content;
     size = ap (λ k. a.size + k) it.size;
-    calls = later_risen it.calls;
-    cause = later_cause it.cause;
+    calls = second_risen a.calls a.calls b.calls new.calls (omega arith) it.calls;
+    cause = second_cause a.faults a.faults b.faults new.faults r (omega arith) it.cause;
   }
 
   pub odd_writes : n % 2 ≡ 1 → Writes b new (n / 2) bytes r → Writes (stripe_seen a b) (stripe_seen a new) n bytes r
@@ -167,8 +146,8 @@ module _ {E : Type 0} (a b new : DiskSeen) (n : ℕ) (bytes : List ℕ) (r : Res
     written = on_ok_weaker r (λ is. ap (content_of_both stripe_blocks a.content) is ∙ put_odd a.content b.content a.size n bytes on_a also_b odd there) it.written;
     spoiled = on_err_weaker r (λ (some, block, is). (some, block, ap (content_of_both stripe_blocks a.content) is ∙ put_odd a.content b.content a.size n some on_a also_b odd there)) it.spoiled;
     size = ap (λ k. a.size + k) it.size;
-    calls = later_risen it.calls;
-    cause = later_cause it.cause;
+    calls = second_risen a.calls a.calls b.calls new.calls (omega arith) it.calls;
+    cause = second_cause a.faults a.faults b.faults new.faults r (omega arith) it.cause;
   }
 
 -- ---- one disk is asked

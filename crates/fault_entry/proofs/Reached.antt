@@ -1,14 +1,18 @@
 -- What an access comes to before its word is moved, case by case.
-use Rattle.std.proofs.Common.{◌≡◌, ℕ, ◌%◌, Bool, true, false, cond, List, Option, Some, None, Result, Ok, Err, refl, sym, ap, ◌∙◌, subst}
+use Rattle.std.proofs.Common.{◌≡◌, ℕ, ◌%◌, Bool, true, false, cond, List, Option, Some, None, Ok, Err, refl, sym, ap, ◌∙◌, inl, inr, subst}
 use Rattle.std.specs.Prelude.{not, ◌||◌}
 use Rattle.std.specs.FinSet as set
 use Rattle.std.specs.Ordering.{nat_cmp}
 use Rattle.hat_layer.specs.Pool.{IsNoted, frame_let, frame_for, change_at, after_access}
-use Rattle.page_store.specs.Seen.{StoreSeen}
+use Rattle.anon_map.specs.Maps.{Map}
+use Rattle.anon_slots.specs.Slots.{AnonSlotsSeen}
+use Rattle.page_hash.specs.declared.PageName.{PageName}
+use Rattle.page_hash.proofs.NameLaws.{find-at}
+use Rattle.page_store.specs.Seen.{StoreSeen, residence}
+use Rattle.page_store.specs.declared.residence.Residence.TheVariants.{Home}
+use Rattle.page_store.proofs.QueryLemmas.{home-is}
 use Rattle.vm_world.specs.Wants.{shows_page}
 use Rattle.page_store.specs.Notes.{Notes}
-use Rattle.page_store.specs.declared.plan.Plan.{Plan}
-use Rattle.page_store.specs.declared.plan.Hold.{Hold}
 use Rattle.vm_types.specs.declared.call.Kind.{Kind}
 use Rattle.vm_types.specs.declared.call.Kind.TheVariants.{Shared, Private}
 use Rattle.vm_types.specs.declared.call.Signal.{Signal}
@@ -19,7 +23,8 @@ use Rattle.flat_model.specs.Words.{page}
 use Rattle.vm_world.specs.CallSteps.{ChangesMemory}
 use Rattle.vm_world.specs.FlatMemory.{flat_memory}
 use Rattle.vm_world.specs.MemoryFits.{MemoryFits}
-use Rattle.vm_world.specs.Segments.{Spot, Spaces, spot_at}
+use Rattle.vm_world.specs.Segments.{Spot, Spaces, spot_at, shown_name}
+use Rattle.vm_world.specs.Serving.{IsUnpushedSlot, ModifiesOnly, ShowsThere}
 use Rattle.vm_world.specs.World.{World}
 use Rattle.vm_world.proofs.CallSteps.{call_rule}
 use Rattle.vm_world.proofs.FlatWhole.{some-inj}
@@ -29,8 +34,10 @@ use Rattle.vm_world.specs.declared.wants.Wants.{Wants}
 use Rattle.vm_world.specs.declared.wants.Wants.TheVariants as wants
 use Rattle.vm_world.specs.Words.{KeepsPages}
 use Rattle.seg_ops.proofs.Composed.{keeps-same}
+use Rattle.seg_ops.proofs.Hits.{noted-hits, noted-home}
+use Rattle.seg_ops.proofs.NewlyModified.{only-as, only-then}
 use Rattle.seg_ops.proofs.StillSteps.{memory_of}
-use Rattle.seg_ops.specs.Faults.{LetsAccess, ServesFault, after_fault}
+use Rattle.seg_ops.specs.Faults.{FaultModifies, LetsAccess, ServesFault, after_fault}
 use Rattle.seg_ops.specs.SlotsDue.{MakesSlotAt, slot_due}
 use Rattle.seg_vn.proofs.AnyFaults.{changes-as, changes-kept, fault-whole}
 use Rattle.seg_vn.proofs.AnyPlaces.{kept-own, kept-shared}
@@ -38,7 +45,7 @@ use Rattle.seg_vn.proofs.SlotsDue.{due-none, made-still, slots-kept}
 use Rattle.seg_vn.proofs.AnySteps.{shows-same}
 use Rattle.seg_vn.proofs.Replacements.{none-replaced, replaced-then}
 use Rattle.seg_vn.proofs.Takes.{takes-none}
-use Rattle.fault_entry.specs.Reaching.{may_access, ReachesPage, ServesAccess, IsSignalDue, after_reach, error_in, step_wanting}
+use Rattle.fault_entry.specs.Reaching.{may_access, ReachesPage, ReachModifies, ServesAccess, IsSignalDue, after_reach, error_in, step_wanting}
 use Rattle.fault_entry.specs.declared.access.AccessStep.TheVariants as access
 use Rattle.fault_entry.proofs.Targets.{unaligned, unmapped, refused, past, may-reach, none-due}
 use Rattle.fault_entry.proofs.Words.{name, place-shows, place-there, place-writable}
@@ -69,6 +76,20 @@ reach-is : (write : Bool) (frame : ℕ) (F : Flat) (p q : ℕ) → after_fault (
 reach-is true frame F p q = refl
 reach-is false frame F p q = refl
 
+-- AN ACCESS IS NOTED: of a store the page that is shown there may be modified then.
+frame-shows : (w : World) (spaces : Spaces) (p q frame : ℕ) (write : Bool) (name : PageName) → MemoryFits (memory_of w spaces) → IsNoted w.hat.places p q frame write → residence w.store name ≡ Home frame → ShowsThere (memory_of w spaces) p q name
+frame-shows w spaces p q frame write name f noted home =
+    let h = noted-hits w spaces p q frame write f noted in
+    let there = find-at w.store.names h.name frame (home-is w.store h.name frame (noted-home w spaces p q frame write f noted)).found in
+    let same : h.name ≡ name = let z : Some h.name ≡ Some name = sym there ∙ find-at w.store.names name frame (home-is w.store name frame home).found in cc in
+    (h.shows.spot, h.shows.here, h.shows.shows ∙ ap (λ (n : PageName). Some n) same)
+
+noted-only : (w new : World) (spaces : Spaces) (p q frame : ℕ) (write : Bool) → MemoryFits (memory_of new spaces) → new.store ≡ w.store → IsNoted new.hat.places p q frame write → ModifiesOnly (λ name. (write ≡ true) × (residence w.store name ≡ Home frame)) w new
+    → ModifiesOnly (ReachModifies (memory_of new spaces) p q write (access.Reached frame)) w new
+noted-only w new spaces p q frame write f store noted modified =
+    only-as (λ name. (write ≡ true) × (residence w.store name ≡ Home frame)) (ReachModifies (memory_of new spaces) p q write (access.Reached frame)) w new
+    (λ name is. (frame-shows new spaces p q frame write name f noted (ap (λ (st : StoreSeen). residence st name) store ∙ is.1), inl is.0)) modified
+
 -- NOTHING is done: what is said of a memory that stays.
 module _ (w : World) (spaces : Spaces) (pending p a n : ℕ) (write : Bool) (f : MemoryFits (memory_of w spaces)) where
   abbrev same-machine : ChangesMemory p (memory_of w spaces) (memory_of w spaces) (λ F G. G ≡ F)
@@ -76,7 +97,7 @@ module _ (w : World) (spaces : Spaces) (pending p a n : ℕ) (write : Bool) (f :
 
   signal-serves : (s : Signal) → ((born : set.FinSet nat_cmp) (notes : Notes) → access_target (flat_memory (memory_of w spaces) born notes) p (may_access write) a n ≡ Err s)
       → ServesAccess (memory_of w spaces) (memory_of w spaces) pending pending p a n write (access.Refused s)
-  signal-serves s means = record { mid = w; first = takes-none w w spaces pending (keeps-same w spaces f); acts = same-machine; ends = refl; slots = record { counts = refl; places = refl }; due = λ born notes. ap error_in (means born notes); replaced = none-replaced w w; hit = tt; means = means }
+  signal-serves s means = record { mid = w; first = takes-none w w spaces pending (keeps-same w spaces f); acts = same-machine; ends = refl; slots = record { counts = refl; places = refl }; due = λ born notes. ap error_in (means born notes); replaced = none-replaced w w; modified = λ m k home is. inr (home, is); hit = tt; means = means }
 
   pub align-access : ¬ (a % n ≡ 0) → ServesAccess (memory_of w spaces) (memory_of w spaces) pending pending p a n write (access.Refused signal.Align)
   align-access odd = signal-serves signal.Align (λ born notes. unaligned w spaces born notes p a n (may_access write) odd)
@@ -89,8 +110,9 @@ module _ (w : World) (spaces : Spaces) (pending p a n : ℕ) (write : Bool) (f :
 
   -- A HIT makes no slot: its page is shown, and written in place.
   pub hit-access : (new : World) (x : Spot) (frame : ℕ) → a % n ≡ 0 → spot_at spaces p (page a) ≡ Some x → may_access write x.0.prot ≡ true → KeepsPages w new spaces → new ≡ record w { hat = new.hat }
-      → new.hat.places ≡ change_at p (page a) (after_access write) w.hat.places → IsNoted new.hat.places p (page a) frame write → ServesAccess (memory_of w spaces) (memory_of new spaces) pending pending p a n write (access.Reached frame)
-  hit-access new x frame even here allowed keeps only places noted =
+      → new.hat.places ≡ change_at p (page a) (after_access write) w.hat.places → IsNoted new.hat.places p (page a) frame write → ModifiesOnly (λ name. (write ≡ true) × (residence w.store name ≡ Home frame)) w new
+      → ServesAccess (memory_of w spaces) (memory_of new spaces) pending pending p a n write (access.Reached frame)
+  hit-access new x frame even here allowed keeps only places noted modified =
       let anon = ap (λ (v : World). v.anon) only in
       let maps = ap (λ (v : World). v.maps) only in
       let r : ReachesPage (memory_of new spaces) p a n frame write = record { aligned = even; spot = x; here = here; allowed = allowed; noted = noted } in
@@ -109,6 +131,7 @@ module _ (w : World) (spaces : Spaces) (pending p a n : ℕ) (write : Bool) (f :
         due = λ born notes. none-due w spaces born notes p a n (may_access write) x even f here allowed
             (sym (shows-same w new x maps (ap (λ (v : World). v.files) only)) ∙ place-there new spaces p a n frame write keeps.memory r);
         replaced = none-replaced w new;
+        modified = noted-only w new spaces p (page a) frame write keeps.memory (ap (λ (v : World). v.store) only) noted modified;
         hit = λ lets_it. record {
           store = ap (λ (v : World). v.store) only ∙ ap (λ (fs : List (Option (List ℕ))). record w.store { frames = fs }) (sym (ap (λ (v : World). v.store.frames) only));
           places = places;
@@ -128,13 +151,20 @@ module _ (old new : World) (spaces : Spaces) (pending more p a n : ℕ) (write :
   is-past true is = absurd (let z : true ≡ false = is in cc)
   is-past false is = refl
 
+  abbrev goes : World → ℕ → PageName → Type 0
+  goes v frame = ReachModifies (memory_of v spaces) p (page a) write (access.Reached frame)
+
+  loaded-goes : (mid v : World) (frame : ℕ) → v.maps ≡ mid.maps → v.anon ≡ mid.anon → (name : PageName) → FaultModifies mid x (Ok fault.Loaded) name → goes v frame name
+  loaded-goes mid v frame maps anon name is =
+      ((x, here, ap (λ (ms : List (Option Map)). shown_name ms x) maps ∙ is.0), inr (subst (λ (s : AnonSlotsSeen). IsUnpushedSlot s name) (sym anon) is.1))
+
   not-due : false ≡ not (shows_page old x) → IsSignalDue (memory_of old spaces) p a n write None
   not-due past born notes = none-due old spaces born notes p a n (may_access write) x even fits here allowed (there-is (shows_page old x) past)
 
   pub loaded-access : (mid : World) (frame : ℕ) → ServesFault (memory_of old spaces) (memory_of mid spaces) pending more p (page a) x write (Ok fault.Loaded) → KeepsPages mid new spaces
-      → new.anon ≡ mid.anon → new.maps ≡ mid.maps → new.store.names ≡ mid.store.names → (LetsAccess old p (page a) write → ⊥) → IsNoted new.hat.places p (page a) frame write
+      → new.anon ≡ mid.anon → new.maps ≡ mid.maps → new.store ≡ mid.store → ModifiesOnly (λ name. (write ≡ true) × (residence mid.store name ≡ Home frame)) mid new → (LetsAccess old p (page a) write → ⊥) → IsNoted new.hat.places p (page a) frame write
       → ServesAccess (memory_of old spaces) (memory_of new spaces) pending more p a n write (access.Reached frame)
-  loaded-access mid frame s keeps anon maps names miss noted = record {
+  loaded-access mid frame s keeps anon maps store modified miss noted = record {
     mid = s.mid;
     first = s.first;
     acts = changes-as p (memory_of s.mid spaces) (memory_of new spaces) (λ F. after_fault (Ok fault.Loaded) write F p (page a)) (λ F. after_reach (access.Reached frame) write F p (page a))
@@ -144,7 +174,9 @@ module _ (old new : World) (spaces : Spaces) (pending more p a n : ℕ) (write :
     ends = tt;
     slots = λ y there. subst (λ (z : Spot). MakesSlotAt old new (slot_due old.anon old.maps z write)) (some-inj x y (sym here ∙ there)) (made-still old mid new (slot_due old.anon old.maps x write) anon maps s.slots);
     due = not-due s.past;
-    replaced = replaced-then old mid new s.first.cut names s.replaced;
+    replaced = replaced-then old mid new s.first.cut (ap (λ (st : StoreSeen). st.names) store) s.replaced;
+    modified = only-then (FaultModifies mid x (Ok fault.Loaded)) (goes new frame) (goes new frame) old mid new (loaded-goes mid new frame maps anon) (λ name is. is) s.modified
+        (noted-only mid new spaces p (page a) frame write keeps.memory store noted modified);
     hit = λ lets_it. absurd (miss lets_it);
     means = record { aligned = even; spot = x; here = here; allowed = allowed; noted = noted };
   }
@@ -158,6 +190,7 @@ module _ (old new : World) (spaces : Spaces) (pending more p a n : ℕ) (write :
     slots = s.slots;
     due = λ born notes. ap error_in (past old spaces born notes p a n (may_access write) x even fits here allowed (is-past (shows_page old x) s.past));
     replaced = s.replaced;
+    modified = s.modified;
     hit = tt;
     means = λ born notes. past new spaces born notes p a n (may_access write) x even s.acts.memory here allowed s.means;
   }
@@ -171,6 +204,7 @@ module _ (old new : World) (spaces : Spaces) (pending more p a n : ℕ) (write :
     slots = s.slots;
     due = not-due s.past;
     replaced = s.replaced;
+    modified = s.modified;
     hit = tt;
     means = (s.means, λ born notes. may-reach new spaces born notes p a n (may_access write) x even here allowed);
   }
@@ -182,6 +216,7 @@ module _ (old new : World) (spaces : Spaces) (pending more p a n : ℕ) (write :
     slots = s.slots;
     due = not-due s.past;
     replaced = s.replaced;
+    modified = s.modified;
     hit = tt;
-    means = (s.means.0, s.means.1, λ born notes. may-reach new spaces born notes p a n (may_access write) x even here allowed);
+    means = (s.means, λ born notes. may-reach new spaces born notes p a n (may_access write) x even here allowed);
   }

@@ -1,10 +1,9 @@
 -- What is answered to a load or a store, by what it reaches.
-use Rattle.std.proofs.Common.{◌≡◌, ◌≢◌, ℕ, ◌%◌, Bool, true, false, List, Option, Some, None, Result, Ok, Err, refl, sym, ap, ◌∙◌, subst, option_map}
+use Rattle.std.proofs.Common.{◌≡◌, ◌≢◌, ℕ, ◌%◌, Bool, true, false, List, Option, Some, None, Result, Ok, Err, refl, sym, ap, ◌∙◌, inl, inr, option_map}
 use Rattle.std.specs.FinSet as set
 use Rattle.std.specs.Ordering.{nat_cmp}
 use Rattle.std.proofs.lemmas.Bool.{eq-eqb}
 use Rattle.anon_map.specs.Maps.{Map}
-use Rattle.anon_slots.specs.Slots.{AnonSlotsSeen}
 use Rattle.hat_layer.specs.declared.translation.Translation.{Translation}
 use Rattle.hat_layer.specs.Pool.{HatSeen, translation_at}
 use Rattle.page_store.specs.Notes.{Notes}
@@ -27,24 +26,24 @@ use Rattle.vm_world.specs.FlatMemory.{Memory, cell_of, flat_memory}
 use Rattle.vm_world.specs.MemoryFits.{MemoryFits}
 use Rattle.vm_world.specs.Pages.{contents_of}
 use Rattle.vm_world.specs.Plans.{MayMeetFault, IsRefusal, refusal_in}
-use Rattle.vm_world.specs.Segments.{Spaces}
-use Rattle.vm_world.specs.Serving.{TakesFrames, ServesDone}
+use Rattle.vm_world.specs.Segments.{Spaces, shown_name}
+use Rattle.vm_world.specs.Serving.{MayModify, ModifiesNone, ModifiesOnly, ServesDone}
 use Rattle.vm_world.specs.World.{World}
 use Rattle.vm_world.proofs.CallSteps.{call_rule}
-use Rattle.seg_ops.specs.Slots.{GivesSlot}
 use Rattle.seg_ops.specs.Steps.{ReadsWord, WritesWord}
 use Rattle.seg_ops.proofs.Hits.{hits}
+use Rattle.seg_ops.proofs.NewlyModified.{none-of, only-as, then-none}
 use Rattle.seg_ops.proofs.OwnShown.{own_shown_law}
 use Rattle.seg_ops.proofs.StillSteps.{memory_of}
 use Rattle.seg_vn.specs.declared.attempt.Attempt.TheVariants as attempt
 use Rattle.seg_ops.specs.Faults.{Accesses}
-use Rattle.seg_ops.specs.SlotsDue.{MapPlace, MakesSlotAt, slot_due}
+use Rattle.seg_ops.specs.SlotsDue.{slot_due}
 use Rattle.seg_vn.proofs.Replacements.{replaced-then}
 use Rattle.seg_vn.proofs.SlotsDue.{made-still}
 use Rattle.seg_vn.proofs.Takes.{takes-there}
 use Rattle.page_store.specs.Seen.{StoreSeen}
 use Rattle.fault_entry.specs.Accesses.{IsShown, IsHit, ServesWord}
-use Rattle.fault_entry.specs.Reaching.{ServesAccess, IsSignalDue, after_reach, error_in, MayReach}
+use Rattle.fault_entry.specs.Reaching.{ReachModifies, ServesAccess, IsSignalDue, after_reach, error_in}
 use Rattle.fault_entry.specs.declared.access.AccessStep.{AccessStep}
 use Rattle.fault_entry.specs.declared.access.AccessStep.TheVariants as access
 use Rattle.fault_entry.proofs.Joined.{acts-after, store-same}
@@ -85,9 +84,9 @@ done-serves : (old new : World) (made : World) (spaces : Spaces) (pending more p
     → ((cleared : ℕ) (born : set.FinSet nat_cmp) (notes : Notes) → IsDue (after_reach answer write (flat_memory (memory_of s.mid spaces) born notes) p (page a)) (record { process = p; call = c; reply = r; cleared = cleared })
     → IsDue (flat_memory (memory_of s.mid spaces) born notes) (record { process = p; call = c; reply = r; cleared = cleared })
     × (after_act (after_reach answer write (flat_memory (memory_of s.mid spaces) born notes) p (page a)) (record { process = p; call = c; reply = r; cleared = cleared }) ≡ after_act (flat_memory (memory_of s.mid spaces) born notes) (record { process = p; call = c; reply = r; cleared = cleared })))
-    → ((cleared : ℕ) → ActsOnPages made new spaces (record { process = p; call = c; reply = r; cleared = cleared })) → new.store.names ≡ made.store.names → IsRefusal (memory_of old spaces) p c (refusal_in r) → ((from : ℕ) → r ≢ reply.Synced from)
+    → ((cleared : ℕ) → ActsOnPages made new spaces (record { process = p; call = c; reply = r; cleared = cleared })) → new.store.names ≡ made.store.names → IsRefusal (memory_of old spaces) p c (refusal_in r) → ModifiesOnly (MayModify (memory_of new spaces) p c r) old new → ((from : ℕ) → r ≢ reply.Synced from)
     → ServesDone (memory_of old spaces) (memory_of new spaces) pending more p c r
-done-serves old new made spaces pending more p a n write answer c r s same acts names refusal plain = record {
+done-serves old new made spaces pending more p a n write answer c r s same acts names refusal modified plain = record {
   mid = s.mid;
   first = s.first;
   acts = λ cleared.
@@ -97,6 +96,7 @@ done-serves old new made spaces pending more p a n write answer c r s same acts 
       (call_rule.pages made new spaces e (acts cleared));
   replaced = replaced-then old made new s.first.cut names s.replaced;
   refusal = refusal;
+  modified = modified;
   clean = λ from name is wants. absurd (plain from is);
 }
 
@@ -116,12 +116,14 @@ hit-then old mid new p q write store hat only h = record {
 
 -- A WORD is put.
 pub store-reached : (old mid new : World) (spaces : Spaces) (pending more p a n frame v : ℕ) → ServesAccess (memory_of old spaces) (memory_of mid spaces) pending more p a n true (access.Reached frame) → WritesWord mid new spaces p a n v → new.hat ≡ mid.hat
-    → new.anon ≡ mid.anon → new.maps ≡ mid.maps → new.store ≡ record mid.store { frames = new.store.frames } → new ≡ record mid { store = new.store } → ServesWord (memory_of old spaces) (memory_of new spaces) pending more p (page a) (call.Store a n v) (attempt.Done reply.Done)
-store-reached old mid new spaces pending more p a n frame v s writes hat anon maps store only = record {
+    → new.anon ≡ mid.anon → new.maps ≡ mid.maps → new.store ≡ record mid.store { frames = new.store.frames } → ModifiesNone mid new → new ≡ record mid { store = new.store } → ServesWord (memory_of old spaces) (memory_of new spaces) pending more p (page a) (call.Store a n v) (attempt.Done reply.Done)
+store-reached old mid new spaces pending more p a n frame v s writes hat anon maps store modified only = record {
   serves = λ calls. done-serves old new mid spaces pending more p a n true (access.Reached frame) (call.Store a n v) reply.Done s
       (λ cleared born notes due. store-same (flat_memory (memory_of s.mid spaces) born notes) p a n v cleared (cell_of (contents_of s.mid notes).place s.means.spot) (eq-eqb (a % n) 0 s.means.aligned)
       (there s.mid spaces born notes p a n can_write s.means.spot s.means.here) s.means.allowed due)
-      (λ cleared. store-acts mid new spaces p a n frame v cleared s.acts.memory s.means writes) (ap (λ (st : StoreSeen). st.names) store) (store-refusal (memory_of old spaces) p a n v None s.due) (λ from is. let z : reply.Done ≡ reply.Synced from = is in cc);
+      (λ cleared. store-acts mid new spaces p a n frame v cleared s.acts.memory s.means writes) (ap (λ (st : StoreSeen). st.names) store) (store-refusal (memory_of old spaces) p a n v None s.due)
+      (then-none (MayModify (memory_of new spaces) p (call.Store a n v) reply.Done) old mid new (only-as (ReachModifies (memory_of mid spaces) p (page a) true (access.Reached frame)) (MayModify (memory_of new spaces) p (call.Store a n v) reply.Done) old mid
+      (λ name is. (is.0.0, is.0.1, ap (λ (ms : List (Option Map)). shown_name ms is.0.0) maps ∙ is.0.2)) s.modified) modified) (λ from is. let z : reply.Done ≡ reply.Synced from = is in cc);
   due = tt;
   shown = shown-there new spaces p (page a) s.means.noted.entry writes.2.memory (ap (λ (h : HatSeen). translation_at h.places p (page a)) hat ∙ s.means.noted.there);
   slots = λ x here. made-still old mid new (slot_due old.anon old.maps x true) anon maps (s.slots x here);
@@ -135,7 +137,9 @@ module _ (old new : World) (spaces : Spaces) (pending more p a n : ℕ) where
   load-reached frame word s reads =
       let f = s.acts.memory in
       record {
-        serves = λ calls. done-serves old new new spaces pending more p a n false (access.Reached frame) (call.Load a n) (reply.Word word) s (λ cleared born notes due. (due, refl)) (λ cleared. load-acts new spaces p a n frame word cleared f s.means reads) refl (load-refusal (memory_of old spaces) p a n None s.due) (λ from is. let z : reply.Word word ≡ reply.Synced from = is in cc);
+        serves = λ calls. done-serves old new new spaces pending more p a n false (access.Reached frame) (call.Load a n) (reply.Word word) s (λ cleared born notes due. (due, refl)) (λ cleared. load-acts new spaces p a n frame word cleared f s.means reads) refl (load-refusal (memory_of old spaces) p a n None s.due)
+            (only-as (ReachModifies (memory_of new spaces) p (page a) false (access.Reached frame)) (MayModify (memory_of new spaces) p (call.Load a n) (reply.Word word)) old new
+            (λ name is. (is.0, elim is.1 [ inl stored ↦ absurd (let z : false ≡ true = stored in cc) | inr unpushed ↦ unpushed ])) s.modified) (λ from is. let z : reply.Word word ≡ reply.Synced from = is in cc);
         due = tt;
         shown = shown-there new spaces p (page a) s.means.noted.entry f s.means.noted.there;
         slots = s.slots;
@@ -146,7 +150,7 @@ module _ (old new : World) (spaces : Spaces) (pending more p a n : ℕ) where
   pub load-refused : (s : Signal) → ServesAccess (memory_of old spaces) (memory_of new spaces) pending more p a n false (access.Refused s)
       → ServesWord (memory_of old spaces) (memory_of new spaces) pending more p (page a) (call.Load a n) (attempt.Done (reply.Signal s))
   load-refused s r = record {
-    serves = λ calls. done-serves old new new spaces pending more p a n false (access.Refused s) (call.Load a n) (reply.Signal s) r (λ cleared born notes due. (due, refl)) (λ cleared. load-signals new spaces p a n cleared s r.acts.memory r.means) refl (load-refusal (memory_of old spaces) p a n (Some s) r.due) (λ from is. let z : reply.Signal s ≡ reply.Synced from = is in cc);
+    serves = λ calls. done-serves old new new spaces pending more p a n false (access.Refused s) (call.Load a n) (reply.Signal s) r (λ cleared born notes due. (due, refl)) (λ cleared. load-signals new spaces p a n cleared s r.acts.memory r.means) refl (load-refusal (memory_of old spaces) p a n (Some s) r.due) r.modified (λ from is. let z : reply.Signal s ≡ reply.Synced from = is in cc);
     due = tt;
     shown = tt;
     slots = r.slots;
@@ -156,7 +160,7 @@ module _ (old new : World) (spaces : Spaces) (pending more p a n : ℕ) where
   pub store-refused : (v : ℕ) (s : Signal) → ServesAccess (memory_of old spaces) (memory_of new spaces) pending more p a n true (access.Refused s)
       → ServesWord (memory_of old spaces) (memory_of new spaces) pending more p (page a) (call.Store a n v) (attempt.Done (reply.Signal s))
   store-refused v s r = record {
-    serves = λ calls. done-serves old new new spaces pending more p a n true (access.Refused s) (call.Store a n v) (reply.Signal s) r (λ cleared born notes due. (due, refl)) (λ cleared. store-signals new spaces p a n v cleared s r.acts.memory r.means) refl (store-refusal (memory_of old spaces) p a n v (Some s) r.due) (λ from is. let z : reply.Signal s ≡ reply.Synced from = is in cc);
+    serves = λ calls. done-serves old new new spaces pending more p a n true (access.Refused s) (call.Store a n v) (reply.Signal s) r (λ cleared born notes due. (due, refl)) (λ cleared. store-signals new spaces p a n v cleared s r.acts.memory r.means) refl (store-refusal (memory_of old spaces) p a n v (Some s) r.due) r.modified (λ from is. let z : reply.Signal s ≡ reply.Synced from = is in cc);
     due = tt;
     shown = tt;
     slots = r.slots;
@@ -169,7 +173,7 @@ module _ (old new : World) (spaces : Spaces) (pending more p a n : ℕ) where
   access-needs write c plan at refusal s fault =
       let needs = s.means.0 in
       record {
-        serves = λ calls. record { first = takes-there (memory_of old spaces) s.mid new pending more s.ends s.first; replaced = s.replaced; spaces = refl; runs = needs.runs c at; fault = fault; refusal = refusal s.due; wanted = needs.wanted c at; modified = needs.modified };
+        serves = λ calls. record { first = takes-there (memory_of old spaces) s.mid new pending more s.ends s.first; replaced = s.replaced; spaces = refl; runs = needs.wants calls c at; fault = fault; refusal = refusal s.due; wanted = needs.kept c at; modified = none-of (λ name. ⊥) old new (λ name never. never) s.modified };
         due = fault;
         shown = tt;
         slots = s.slots;
@@ -179,7 +183,7 @@ module _ (old new : World) (spaces : Spaces) (pending more p a n : ℕ) where
   pub access-busy : (write : Bool) (c : Call) (h : Hold) → Accesses write (page a) c → (IsSignalDue (memory_of old spaces) p a n write None → IsRefusal (memory_of old spaces) p c None) → ServesAccess (memory_of old spaces) (memory_of new spaces) pending more p a n write (access.Busy h) → MayMeetFault (memory_of new spaces) p c
       → ServesWord (memory_of old spaces) (memory_of new spaces) pending more p (page a) c (attempt.Busy h)
   access-busy write c h at refusal s fault = record {
-    serves = λ calls. record { first = takes-there (memory_of old spaces) s.mid new pending more s.ends s.first; replaced = s.replaced; spaces = refl; holds = s.means.0 calls c at; refusal = λ no_file. refusal s.due; modified = s.means.1 };
+    serves = λ calls. record { first = takes-there (memory_of old spaces) s.mid new pending more s.ends s.first; replaced = s.replaced; spaces = refl; holds = s.means.0.wants calls c at; refusal = λ no_file. refusal s.due; modified = none-of (λ name. ⊥) old new (λ name never. never) s.modified };
     due = fault;
     shown = tt;
     slots = s.slots;

@@ -1,10 +1,10 @@
 -- What an access comes to before its word is moved. Inside: no public clause cites this.
-use Rattle.std.specs.Prelude.{◌≡◌, ℕ, ◌%◌, Bool, true, List, Option, Some, None, Result, Ok, Err, if◌then◌else◌}
+use Rattle.std.specs.Prelude.{◌≡◌, ◌⊎◌, ℕ, ◌%◌, Bool, true, Option, Some, None, Result, Ok, Err, if◌then◌else◌}
 use Rattle.std.specs.FinSet as set
 use Rattle.std.specs.Ordering.{nat_cmp}
 use Rattle.hat_layer.specs.Pool.{IsNoted}
+use Rattle.page_hash.specs.declared.PageName.{PageName}
 use Rattle.page_store.specs.Notes.{Notes}
-use Rattle.vm_types.specs.declared.call.Call.{Call}
 use Rattle.vm_types.specs.declared.call.Signal.{Signal}
 use Rattle.vm_types.specs.declared.prot.Prot.{Prot}
 use Rattle.vm_types.specs.Prot.{can_read, can_write}
@@ -15,11 +15,10 @@ use Rattle.flat_model.specs.Words.{page}
 use Rattle.vm_world.specs.CallSteps.{ChangesMemory}
 use Rattle.vm_world.specs.FlatMemory.{Memory, flat_memory}
 use Rattle.vm_world.specs.Segments.{Spot, spot_at}
-use Rattle.vm_world.specs.Serving.{TakesFrames, AreReplaced, ModifiesNone}
-use Rattle.vm_world.specs.Wants.{HoldsUp}
+use Rattle.vm_world.specs.Serving.{TakesFrames, AreReplaced, IsUnpushedSlot, ModifiesOnly, ShowsThere}
 use Rattle.vm_world.specs.World.{World}
 use Rattle.seg_ops.specs.OwnPages.{with_own_shown}
-use Rattle.seg_ops.specs.Faults.{Accesses, LetsAccess, NeedsTransfer}
+use Rattle.seg_ops.specs.Faults.{LetsAccess, WaitsFor}
 use Rattle.seg_ops.specs.SlotsDue.{KeepsSlots, MakesSlotAt, slot_due}
 use Rattle.fault_entry.specs.Accesses.{IsHit}
 use Rattle.fault_entry.specs.declared.access.AccessStep.{AccessStep}
@@ -51,9 +50,8 @@ step_wanting (Seat h) = Busy h
 abbrev pub AccessMeans : Memory → Memory → ℕ → ℕ → ℕ → Bool → AccessStep → Type 0
 AccessMeans old new p a n write (Reached frame) = ReachesPage new p a n frame write
 AccessMeans old new p a n write (Refused s) = (born : set.FinSet nat_cmp) (notes : Notes) → access_target (flat_memory new born notes) p (may_access write) a n ≡ Err s
-AccessMeans old new p a n write (Need plan) = NeedsTransfer old new p (page a) write plan × MayReach new p a n write
-AccessMeans old new p a n write (Busy h) =
-    ((calls : List (Option ℕ)) (call : Call) → Accesses write (page a) call → HoldsUp new calls p call h) × ModifiesNone old.world new.world × MayReach new p a n write
+AccessMeans old new p a n write (Need plan) = WaitsFor old new p (page a) write (Transfer plan) × MayReach new p a n write
+AccessMeans old new p a n write (Busy h) = WaitsFor old new p (page a) write (Seat h) × MayReach new p a n write
 
 -- Flat memory as the access goes to its frame: a store to a private page finds that page its own.
 abbrev pub after_reach : AccessStep → Bool → Flat → ℕ → ℕ → Flat
@@ -88,6 +86,12 @@ abbrev pub HitsReach : World → World → ℕ → ℕ → Bool → AccessStep �
 HitsReach old new p q write (Reached frame) = LetsAccess old p q write → IsHit old new p q write
 HitsReach old new p q write answer = Unit {0}
 
+-- Once the access goes to its frame, the page there may be modified: of a store, and where it is that of a slot which was never pushed. No other page
+-- becomes modified.
+abbrev pub ReachModifies : Memory → ℕ → ℕ → Bool → AccessStep → PageName → Type 0
+ReachModifies m p q write (Reached frame) name = ShowsThere m p q name × ((write ≡ true) ⊎ IsUnpushedSlot m.world.anon name)
+ReachModifies m p q write answer name = ⊥
+
 -- Frames may be taken for other pages, then a page may be made, with its slot, and the access comes to this.
 pub record ServesAccess (old new : Memory) (pending more p a n : ℕ) (write : Bool) (answer : AccessStep) : Type 0 where
   pub mid : World
@@ -97,5 +101,6 @@ pub record ServesAccess (old new : Memory) (pending more p a n : ℕ) (write : B
   pub slots : ReachSlots old new.world p (page a) write answer
   pub due : IsSignalDue old p a n write (signal_in answer)
   pub replaced : AreReplaced old.world new.world first.cut
+  pub modified : ModifiesOnly (ReachModifies new p (page a) write answer) old.world new.world
   pub hit : HitsReach old.world new.world p (page a) write answer
   pub means : AccessMeans old new p a n write answer

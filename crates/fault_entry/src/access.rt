@@ -3,8 +3,10 @@ ghost use Rattle.std.specs.Prelude.{◌≡◌, ◌≤◌, ◌-◌, ◌%◌, ℕ,
 ghost use Rattle.std.specs.FinMap as finite;
 ghost use Rattle.hat_layer.specs.Pool.{IsNoted};
 ghost use Rattle.flat_model.specs.Words as words;
+ghost use Rattle.page_store.specs.Seen.{residence};
 ghost use Rattle.vm_types.specs.Words.{IsWordSize};
 ghost use Rattle.vm_world.specs.Segments.{Spaces, spot_at};
+ghost use Rattle.vm_world.specs.Serving.{ModifiesOnly};
 ghost use Rattle.vm_world.specs.Words.{memory, Fits, IsKnown, TwoAreHome, KeepsEveryPage, OnlyHat, SameFiles};
 ghost use Rattle.vm_world.specs.World.{world_seen};
 ghost use Rattle.seg_ops.specs.Faults.{LetsAccess};
@@ -12,7 +14,7 @@ ghost use Rattle.fault_entry.specs.Reaching.{may_access, step_wanting, ServesAcc
 
 use addr_space::Ranges;
 use block_device::Disk;
-use page_store::{Hold, Plan};
+use page_store::{Hold, Plan, Residence};
 use seg_ops::{Fault, frame_for};
 use seg_vn::VnSeg;
 use vm_types::{Prot, Signal};
@@ -58,14 +60,18 @@ fn may_access(prot: Prot, write: bool) -> bool
 fn noted<D: Disk>(world: &mut World<D>, space: u32, page: u32, write: bool) -> u32
     requires lets { LetsAccess (world_seen world.old) space page write }
     ensures noted { IsNoted world.new.hat.places space page result write }
+    // Of a store, the page in that frame may be modified then.
+    ensures modified { ModifiesOnly
+        (λ name. (write ≡ true) × (residence world.old.store name ≡ Residence.Home result))
+        (world_seen world.old) (world_seen world.new) }
     // What stays.
     ensures rest { OnlyHat world.old world.new }
     ensures keeps { KeepsEveryPage world.old world.new }
 {
-    let Some(frame) = frame_for(world, space, page, write) else {
-        unreachable!();
-    };
-    frame
+    match frame_for(world, space, page, write) {
+        Some(frame) => frame,
+        None => unreachable!(),
+    }
 }
 
 /// An access whose page has no translation that lets it: the fault of its segment, whose first page is `first`, and then the

@@ -113,6 +113,7 @@ module _ (m : Memory) (p : ℕ) (parts : List (Part Segment)) (zeros : List (Opt
     changes = segment_rule.same p m new (λ F. (effect F p (map_call (placed_at q (4096 * first)))).after) (λ F. (effect F p (map_any_call q)).after) (λ born notes. sym (ap (λ (x : Effect). x.after) (as-placed first valid finds born notes))) a.changes;
     plain = a.plain;
     due = λ born notes. ap (λ (x : Effect). x.reply) (as-placed first valid finds born notes) ∙ a.due born notes;
+    modified = a.modified;
   }
 
   -- WITHOUT A GAP it is refused, by what doesn't look at the gap first

@@ -37,6 +37,7 @@ use Rattle.vm_world.specs.Segments.{Spot, Spaces}
 use Rattle.vm_world.specs.SegmentSteps.{ChangesSegments, HasPlace, IsOwnNew, MayCome, MayMakeZero, with_new_cells, with_zero_object, with_part_come, with_zero_part, segment_cell}
 use Rattle.vm_world.specs.Plans.{refusal_in}
 use Rattle.vm_world.specs.Serving.{TakesFrames, ServesDone}
+use Rattle.vm_world.specs.Serving.{ModifiesNone}
 use Rattle.vm_world.specs.World.{World}
 use Rattle.vm_world.specs.ZeroObjects.{AreSameZeros, KnowsZeros, free_number}
 use Rattle.vm_world.specs.declared.segment.Segment.{Segment}
@@ -51,6 +52,7 @@ use Rattle.vm_world.proofs.SegmentCells.{segment_cells}
 use Rattle.vm_world.proofs.SegmentSteps.{segment_rule}
 use Rattle.vm_world.proofs.Unnamed.{cells-after-pages, object-after-pages}
 use Rattle.seg_ops.proofs.Composed.{keeps-same}
+use Rattle.seg_ops.proofs.Modified.{modifies-same}
 use Rattle.seg_vn.specs.Clears.{SpaceFits, ChangesSpace, GivesBack}
 use Rattle.seg_vn.specs.Serves.{IsPlainReply}
 use Rattle.seg_vn.proofs.ClearedSpaces.{cut-map}
@@ -509,12 +511,14 @@ refused-answers m p parts zeros q e fits due = record {
   changes = segment_rule.same p m (record { world = m.world; spaces = finite.insert m.spaces p parts }) (λ F. F) (λ F. (effect F p (map_call q)).after) (λ born notes. sym (ap (left_with (flat_memory m born notes)) (due born notes))) (same-space m.world zeros m.spaces p parts fits).changes;
   plain = tt;
   due = λ born notes. ap (answered (flat_memory m born notes)) (due born notes);
+  modified = modifies-same m.world;
 }
 
 -- DONE.
-pub done-answers : (m new : Memory) (p : ℕ) (q : MapRequest) (zeros : List (Option ℕ)) (a : ℕ) → IsMapRefusal m p q None → a ≡ 4096 * page q.addr → ChangesSpace p m new zeros (λ F. with_mapping F p (map_request q) (page q.addr)) → AnswersAtOnce p m new (map_call q) (Mapped a)
-done-answers m new p q zeros a due first maps = record {
+pub done-answers : (m new : Memory) (p : ℕ) (q : MapRequest) (zeros : List (Option ℕ)) (a : ℕ) → IsMapRefusal m p q None → a ≡ 4096 * page q.addr → ChangesSpace p m new zeros (λ F. with_mapping F p (map_request q) (page q.addr)) → ModifiesNone m.world new.world → AnswersAtOnce p m new (map_call q) (Mapped a)
+done-answers m new p q zeros a due first maps modified = record {
   changes = segment_rule.same p m new (λ F. with_mapping F p (map_request q) (page q.addr)) (λ F. (effect F p (map_call q)).after) (λ born notes. sym (ap (left_with (flat_memory m born notes)) (due born notes))) maps.changes;
   plain = tt;
   due = λ born notes. ap (answered (flat_memory m born notes)) (due born notes) ∙ ap (λ (n : ℕ). Mapped n) (sym first);
+  modified = modified;
 }

@@ -11,6 +11,7 @@ use Rattle.flat_model.specs.Step.{effect}
 use Rattle.vm_world.specs.FlatMemory.{Memory, flat_memory}
 use Rattle.vm_world.specs.SegmentSteps.{ChangesSegments}
 use Rattle.vm_world.specs.Segments.{Spaces}
+use Rattle.vm_world.specs.Serving.{ModifiesNone}
 use Rattle.vm_world.specs.Words.{memory}
 use Rattle.vm_world.specs.World.{world_seen}
 use Rattle.vm_world.specs.ZeroObjects.{KnowsZeros}
@@ -19,11 +20,12 @@ use Rattle.vm_world.specs.declared.world.World as rust
 use Rattle.seg_vn.specs.Clears.{SpaceFits}
 use Rattle.seg_vn.specs.Serves.{IsPlainReply}
 
--- A call is done with this plain reply: what it does is due in flat memory.
+-- A call is done with this plain reply: what it does is due in flat memory, and no page becomes modified.
 pub record AnswersAtOnce (p : ℕ) (old new : Memory) (call : Call) (r : Reply) : Type 0 where
   pub changes : ChangesSegments p old new (λ F. (effect F p call).after)
   pub plain : IsPlainReply r
   pub due : (born : set.FinSet nat_cmp) (notes : Notes) → (effect (flat_memory old born notes) p call).reply ≡ r
+  pub modified : ModifiesNone old.world new.world
 
 -- So it is whatever the spaces in which the process is alive with these parts; it is alive with the new ones then, and the list of zero objects is right.
 abbrev pub IsAnswered : {D : Type 0} → rust.World D → rust.World D → ℕ → List (Part Segment) → List (Part Segment) → Call → Reply → Type 0

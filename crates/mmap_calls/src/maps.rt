@@ -5,7 +5,9 @@ ghost use Rattle.anon_slots.specs.Slots.{count_at};
 ghost use Rattle.flat_model.specs.Mapping.{with_mapping};
 ghost use Rattle.flat_model.specs.Words.{page};
 ghost use Rattle.vm_world.specs.MapSteps.{maps_made, maps_held};
+ghost use Rattle.vm_world.specs.Serving.{ModifiesNone};
 ghost use Rattle.vm_world.specs.Words.{SameFilesAndTails};
+ghost use Rattle.vm_world.specs.World.{world_seen};
 ghost use Rattle.vm_world.specs.ZeroObjects.{AreSameZeros, free_number};
 ghost use Rattle.seg_vn.specs.Clears.{MayBeAlive, MayBeSpace, SpaceBecomes};
 ghost use Rattle.mmap_calls.specs.Answers.{IsAnswered};
@@ -166,6 +168,8 @@ fn replace<D: Disk>(
         (λ F. with_mapping F process (map_request map.now.request) (page map.now.request.addr))) }
     ensures fall { IfOk result (λ _. (slot : ℕ)
         → count_at world.new.anon slot ≤ count_at world.old.anon slot) }
+    ensures modified { IfOk result (λ _.
+        ModifiesNone (world_seen world.old) (world_seen world.new)) }
     // Where memory is wanting nothing changed, but that a number of a zero object may be free.
     ensures err { OnErr result (AreSameZeros world.old.zeros world.new.zeros
         × (world.new ≡ record world.old { zeros = world.new.zeros })

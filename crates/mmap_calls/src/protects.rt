@@ -3,7 +3,9 @@ ghost use Rattle.std.specs.Prelude.{◌≡◌, ◌↔◌, ◌≤◌, ◌-◌, �
 ghost use Rattle.anon_slots.specs.Slots.{count_at};
 ghost use Rattle.vm_types.specs.declared.call.Call.TheVariants as calls;
 ghost use Rattle.vm_world.specs.ProtectSteps.{with_range_prot};
+ghost use Rattle.vm_world.specs.Serving.{ModifiesNone};
 ghost use Rattle.vm_world.specs.Words.{OnlyStoreAndHat, SameFilesAndTails};
+ghost use Rattle.vm_world.specs.World.{world_seen};
 ghost use Rattle.seg_vn.specs.Clears.{MayBeAlive, SpaceBecomes, StartsAt};
 ghost use Rattle.mmap_calls.specs.Answers.{IsAnswered};
 ghost use Rattle.mmap_calls.specs.Protections.{AreMapped, MayHave};
@@ -69,6 +71,7 @@ fn set_range<D: Disk>(
         (λ F. with_range_prot F process first (end - first) prot) }
     // What stays.
     ensures rest { OnlyStoreAndHat world.old world.new }
+    ensures modified { ModifiesNone (world_seen world.old) (world_seen world.new) }
 {
     let mut page = first;
     while page < end {

@@ -3,7 +3,9 @@ ghost use Rattle.std.specs.Prelude.{◌≡◌, ◌<◌, ◌≤◌, ◌+◌, ◌^
 ghost use Rattle.anon_slots.specs.Slots.{count_at};
 ghost use Rattle.flat_model.specs.Mapping.{without_pages};
 ghost use Rattle.vm_types.specs.declared.call.Call.TheVariants as calls;
+ghost use Rattle.vm_world.specs.Serving.{ModifiesNone};
 ghost use Rattle.vm_world.specs.Words.{SameFilesAndTails};
+ghost use Rattle.vm_world.specs.World.{world_seen};
 ghost use Rattle.seg_vn.specs.Clears.{MayBeAlive, SpaceBecomes};
 ghost use Rattle.mmap_calls.specs.Answers.{IsAnswered};
 
@@ -30,6 +32,8 @@ fn free_range<D: Disk>(
         space.old.parts space.new.parts (λ F. without_pages F process first pages)) }
     ensures fall { IfOk result (λ _. (slot : ℕ)
         → count_at world.new.anon slot ≤ count_at world.old.anon slot) }
+    ensures modified { IfOk result (λ _.
+        ModifiesNone (world_seen world.old) (world_seen world.new)) }
     ensures err { OnErr result ((world.new ≡ world.old)
         × (space.new.parts ≡ space.old.parts)) }
     // What stays.

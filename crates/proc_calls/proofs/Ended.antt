@@ -18,7 +18,7 @@ use Rattle.vm_types.specs.declared.call.Reply.TheVariants.{Done}
 use Rattle.vm_world.specs.FlatMemory.{Memory, flat_memory}
 use Rattle.vm_world.specs.MemoryFits.{MemoryFits}
 use Rattle.vm_world.specs.Segments.{Spot, Spaces}
-use Rattle.vm_world.specs.Serving.{TakesFrames, ServesDone}
+use Rattle.vm_world.specs.Serving.{ModifiesNone, TakesFrames, ServesDone}
 use Rattle.vm_world.specs.SegmentSteps.{ChangesSegments}
 use Rattle.vm_world.specs.SpaceSteps.{without_space}
 use Rattle.vm_world.specs.World.{World}
@@ -109,8 +109,8 @@ takes-none m pending fits = record {
 }
 
 -- THE CALL IS DONE.
-pub exit-serves : (old new : Memory) (pending p : ℕ) → MemoryFits old → ChangesSegments p old new (λ F. without_process F p) → ServesDone old new pending pending p Exit Done
-exit-serves old new pending p fits done = record {
+pub exit-serves : (old new : Memory) (pending p : ℕ) → MemoryFits old → ChangesSegments p old new (λ F. without_process F p) → ModifiesNone old.world new.world → ServesDone old new pending pending p Exit Done
+exit-serves old new pending p fits done modified = record {
   mid = old.world;
   first = takes-none old pending fits;
   acts = λ cleared. record {
@@ -123,6 +123,7 @@ exit-serves old new pending p fits done = record {
   };
   replaced = λ name is. absurd (let z : false ≡ true = is in cc);
   refusal = λ born notes. refl;
+  modified = λ name frame home is. inr (modified name frame home is);
   clean = λ from name is wants. absurd wants;
 }
 
@@ -140,6 +141,6 @@ only-exit (Write file offset line rest) served other = served
 only-exit (Truncate file len) served other = served
 only-exit (Fork child) served other = served
 
-pub call-serves : (old new : Memory) (zeros : List (Option ℕ)) (pending more p : ℕ) (call : Call) → call ≡ Exit → more ≡ pending → MemoryFits old → ChangesSpace p old new zeros (λ F. without_process F p) → ServesDone old new pending more p call Done
-call-serves old new zeros pending more p call is same fits done =
-    subst (λ (n : ℕ). ServesDone old new pending n p call Done) (sym same) (subst (λ (x : Call). ServesDone old new pending pending p x Done) (sym is) (exit-serves old new pending p fits done.changes))
+pub call-serves : (old new : Memory) (zeros : List (Option ℕ)) (pending more p : ℕ) (call : Call) → call ≡ Exit → more ≡ pending → MemoryFits old → ChangesSpace p old new zeros (λ F. without_process F p) → ModifiesNone old.world new.world → ServesDone old new pending more p call Done
+call-serves old new zeros pending more p call is same fits done modified =
+    subst (λ (n : ℕ). ServesDone old new pending n p call Done) (sym same) (subst (λ (x : Call). ServesDone old new pending pending p x Done) (sym is) (exit-serves old new pending p fits done.changes modified))

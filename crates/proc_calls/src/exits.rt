@@ -2,7 +2,9 @@
 ghost use Rattle.std.specs.Prelude.{◌≡◌, ◌≤◌, ℕ, IsSome, IfOk, IsOk, List, Option};
 ghost use Rattle.std.specs.FinMap as finite;
 ghost use Rattle.flat_model.specs.Processes.{without_process};
+ghost use Rattle.vm_world.specs.Serving.{ModifiesNone};
 ghost use Rattle.vm_world.specs.Words.{memory, Fits, SameFilesAndTails};
+ghost use Rattle.vm_world.specs.World.{world_seen};
 ghost use Rattle.vm_world.specs.ZeroObjects.{KnowsZeros};
 ghost use Rattle.anon_slots.specs.Slots.{count_at};
 ghost use Rattle.seg_vn.specs.Clears.{ChangesSpace};
@@ -28,6 +30,7 @@ fn exit<D: Disk>(world: &mut World<D>, spaces: &mut Spaces, process: u32)
         (memory world.new spaces.new.spaces) world.new.zeros
         (λ F. without_process F process) }
     ensures fall { (slot : ℕ) → count_at world.new.anon slot ≤ count_at world.old.anon slot }
+    ensures modified { ModifiesNone (world_seen world.old) (world_seen world.new) }
     // What stays.
     ensures rest { SameFilesAndTails world.old world.new }
     ensures processes { spaces.new.processes ≡ spaces.old.processes }

@@ -25,7 +25,3 @@ keeps-same w spaces f = record {
   whole = λ notes name trip nf tell exists cut. absurd (let z : false ≡ true = cut in cc);
   pages = λ notes name trip nf tell is. refl;
 }
-
-pub no-frame : (o : Option ℕ) → ¬ IsSome o → o ≡ None
-no-frame None h = refl
-no-frame (Some x) h = absurd (h refl)

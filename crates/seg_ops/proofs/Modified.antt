@@ -6,7 +6,8 @@ use Rattle.std.proofs.lemmas.Bool.{cases_Bool, eqb-true}
 use Rattle.page_lock.specs.Rows.{row_at}
 use Rattle.page_lock.specs.declared.Row.{Row}
 use Rattle.page_store.specs.Laws.{SameResidence}
-use Rattle.page_store.specs.Seen.{StoreSeen}
+use Rattle.page_store.specs.Seen.{StoreSeen, residence}
+use Rattle.page_store.specs.declared.residence.Residence.TheVariants.{Home}
 use Rattle.hat_layer.specs.declared.translation.Translation.{Translation}
 use Rattle.hat_layer.specs.Pool.{HatSeen, leads, has_bit, bits_of, change_lead, drop_lead, change_frame, drop_frame, with_clear_bits}
 use Rattle.vm_world.specs.Serving.{ModifiesNone}
@@ -17,7 +18,7 @@ use Rattle.seg_ops.proofs.Places.{both, index-map, changed-from, was-kept}
 use Rattle.seg_ops.proofs.Gathers.{row-gathered}
 use Rattle.seg_ops.proofs.StillSteps.{with_tables}
 
-or-parts : (a b : Bool) → (a || b) ≡ true → (a ≡ true) ⊎ (b ≡ true)
+pub or-parts : (a b : Bool) → (a || b) ≡ true → (a ≡ true) ⊎ (b ≡ true)
 or-parts true b h = inl refl
 or-parts false b h = inr h
 
@@ -61,13 +62,13 @@ undropped places frame k w =
     record { place = w.place; translation = w.translation; there = was.0; leads = w.leads; modified = w.modified }
 
 -- a row that says so, said so before, or was told
-row-was : (s : StoreSeen) (frame : ℕ) (told : Bool × Bool) (k : ℕ) → (row_at (with_bits_gathered s frame told).rows k).modified ≡ true → ((row_at s.rows k).modified ≡ true) ⊎ ((k ≡ frame) × (told.1 ≡ true))
+pub row-was : (s : StoreSeen) (frame : ℕ) (told : Bool × Bool) (k : ℕ) → (row_at (with_bits_gathered s frame told).rows k).modified ≡ true → ((row_at s.rows k).modified ≡ true) ⊎ ((k ≡ frame) × (told.1 ≡ true))
 row-was s frame told k h = elim (row-gathered s frame told k) [
   | inl e ↦ inl (sym (ap (λ (r : Row). r.modified) e) ∙ h)
   | inr e ↦ elim (or-parts (row_at s.rows k).modified told.1 (sym (ap (λ (r : Row). r.modified) e.1) ∙ h)) [ inl was ↦ inl was | inr is ↦ inr (e.0, is) ]
 ]
 
--- THE STEPS: bits of a frame are gathered, and its translations dropped; nothing; and one step after another.
+-- THE STEPS: bits of a frame are gathered, and its translations dropped; nothing, or no frame and translation; and one step after another.
 pub sync-modifies : (w : World) (new : StoreSeen) (hat : HatSeen) (frame : ℕ) → hat.places ≡ change_frame frame with_clear_bits w.hat.places → new ≡ with_bits_gathered w.store frame (bits_of frame w.hat.places) → SameResidence w.store new
     → ModifiesNone w (with_tables w new hat)
 sync-modifies w new hat frame places is stay = λ name k home m. (
@@ -93,6 +94,12 @@ evict-modifies w new hat frame cached places is stay = λ name k home m. (
 
 pub modifies-same : (w : World) → ModifiesNone w w
 modifies-same w = λ name k home m. (home, m)
+
+pub modifies-tables : (u v : World) → v.store ≡ u.store → v.hat ≡ u.hat → ModifiesNone u v
+modifies-tables u v store hat = λ name k home m. (
+  subst (λ (s : StoreSeen). residence s name ≡ Home k) store home,
+  subst (λ (s : StoreSeen). IsModified s u.hat.places k) store (subst (λ (h : HatSeen). IsModified v.store h.places k) hat m),
+)
 
 pub modifies-then : (u v w : World) → ModifiesNone u v → ModifiesNone v w → ModifiesNone u w
 modifies-then u v w first second = λ name k home m. let mid = second name k home m in first name k mid.0 mid.1

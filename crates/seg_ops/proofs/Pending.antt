@@ -8,6 +8,7 @@ use Rattle.std.proofs.lemmas.Bool.Decides.{eqb_tells}
 use Rattle.std.proofs.lemmas.Nat.{one_shl, or_lt, pow_below}
 use Rattle.std.proofs.lemmas.Nat.Bits.{bit_at_lowest, bit_at-suc, bit_at_set_same, bit_at_set_other}
 use Rattle.flat_model.specs.Step.{is_bit_set}
+use Rattle.page_hash.specs.Names.{is_name}
 use Rattle.page_hash.specs.Names.{name_at}
 use Rattle.page_hash.specs.declared.PageName.{PageName}
 use Rattle.page_hash.proofs.NameLaws.{find-none}
@@ -15,6 +16,7 @@ use Rattle.page_store.specs.Seen.{IsSoundStore, residence}
 use Rattle.page_store.specs.Steps.{next_frame, next_name, name_in}
 use Rattle.page_store.specs.declared.residence.Residence.TheVariants.{Absent}
 use Rattle.page_store.proofs.QueryLemmas.{absent-is}
+use Rattle.vm_world.specs.StateSteps.{PendsTails}
 use Rattle.vm_world.specs.MemoryFits.{MemoryFits}
 use Rattle.vm_world.specs.Segments.{Spaces}
 use Rattle.vm_world.specs.Serving.{LosesFrame}
@@ -73,3 +75,7 @@ loses old new sound lost = by_frame (next_frame old.store) refl
 pub lost-before : (o : Option PageName) (u v new : World) → v.store.names ≡ u.store.names → IfSome o (λ name. LosesFrame v new name) → IfSome o (λ name. LosesFrame u new name)
 lost-before None u v new names l = tt
 lost-before (Some name) u v new names l = record { frame = l.frame; held = ap (λ (ns : List (Option PageName)). name_at ns l.frame) (sym names) ∙ l.held; taken = l.taken }
+
+-- the tails that are pending, of the page that held the next frame
+pub pends-next : (w : World) (pending more : ℕ) (lost : Option PageName) → lost ≡ next_name w.store → PendsTails w (is_name lost) pending more → PendsTails w (is_name (next_name w.store)) pending more
+pends-next w pending more lost is t = subst (λ (o : Option PageName). PendsTails w (is_name o) pending more) is t

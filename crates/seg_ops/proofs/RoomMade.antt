@@ -1,8 +1,10 @@
 -- Room that is made, in no step and in two.
-use Rattle.std.proofs.Common.{◌≡◌, refl, ap, ◌∙◌}
+use Rattle.std.proofs.Common.{◌≡◌, ℕ, List, [], ◌∷◌, ◌++◌, Bool, refl, ap, ◌∙◌, inl, inr}
+use Rattle.page_store.specs.Seen.{StoreSeen}
 use Rattle.vm_world.specs.World.{world_seen}
 use Rattle.vm_world.specs.declared.world.World as rust
-use Rattle.seg_ops.specs.Rooms.{MakesRoom}
+use Rattle.seg_ops.specs.Rooms.{ListsOneMore, MakesRoom, SameLists}
+use Rattle.seg_ops.specs.Steps.{with_bits_gathered}
 use Rattle.seg_ops.proofs.Composed.{keeps-then, keeps-same}
 use Rattle.seg_ops.proofs.Modified.{modifies-then, modifies-same}
 
@@ -27,3 +29,18 @@ room-then {D} u v w first second = record {
       let mid = first.keeps spaces fits in
       keeps-then (world_seen u) (world_seen v) (world_seen w) spaces fits mid (second.keeps spaces mid.memory);
 }
+
+-- THE LISTS: as they were, and then with one frame more.
+pub lists-then : (s mid new : StoreSeen) → SameLists s mid → ListsOneMore mid new → ListsOneMore s new
+lists-then s mid new (free, cached) (then, inl same) = (then ∙ free, inl (same ∙ cached))
+lists-then s mid new (free, cached) (then, inr (frame, is)) = (then ∙ free, inr (frame, is ∙ ap (λ (l : List ℕ). l ++ frame ∷ []) cached))
+
+-- As they were, where bits alone are gathered; with one frame more, where that was released then.
+pub lists-gathered : (s new : StoreSeen) (frame : ℕ) (told : Bool × Bool) → new ≡ with_bits_gathered s frame told → ListsOneMore s new
+lists-gathered s new frame told is = (ap (λ (x : StoreSeen). x.free) is, inl (ap (λ (x : StoreSeen). x.cached) is))
+
+pub lists-released : (s mid new : StoreSeen) (frame : ℕ) (told : Bool × Bool) → mid ≡ with_bits_gathered s frame told → new ≡ record mid { cached = mid.cached ++ frame ∷ [] } → ListsOneMore s new
+lists-released s mid new frame told is then = (
+  ap (λ (x : StoreSeen). x.free) then ∙ ap (λ (x : StoreSeen). x.free) is,
+  inr (frame, ap (λ (x : StoreSeen). x.cached) then ∙ ap (λ (l : List ℕ). l ++ frame ∷ []) (ap (λ (x : StoreSeen). x.cached) is)),
+)

@@ -98,9 +98,6 @@ place-twice maps m i o a lt =
     ∙ ap (λ (l : List (Option ℕ)). with_places maps m (slice_set l i a)) (places-after maps m (slice_set (places_of maps m) i o) within)
     ∙ ap (λ (l : List (Option ℕ)). with_places maps m l) (set_twice (places_of maps m) i o a)
 
-some-apart : (s : ℕ) (a b : Option ℕ) → a ≡ None → b ≡ Some s → a ≡ b → ⊥
-some-apart s a b none is e = let z : None ≡ Some s = sym none ∙ e ∙ is in cc
-
 -- An empty place that was set: what a page showed it shows, but for pages of which it is the own place.
 pub record StaysShown (maps put : List (Option Map)) (x : Spot) (n : PageName) : Type 0 where
   pub shows : shown_name put x ≡ Some n

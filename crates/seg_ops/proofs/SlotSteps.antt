@@ -27,6 +27,7 @@ use Rattle.vm_world.proofs.PageNames.{slot-page}
 use Rattle.seg_ops.specs.Slots.{MakesSlot, MakesHome, MakesPage}
 use Rattle.seg_ops.proofs.Fills.{TakesFor}
 use Rattle.seg_ops.proofs.FillSteps.{next-whole}
+use Rattle.seg_ops.proofs.NewlyModified.{fill-modifies}
 use Rattle.seg_ops.proofs.Pending.{loses, lost-before}
 use Rattle.seg_ops.proofs.SlotMemory.{with_slot, AreShown, free-unnamed, exists-apart, made-memory}
 use Rattle.seg_ops.proofs.SlotNotes.{made-notes}
@@ -66,13 +67,14 @@ made-page w spaces new anon put m i s frame bytes f k t dirty shown fills =
 
 -- The slot is held, and its page home.
 pub made-home : (old new : World) (pending more slot : ℕ) (modified : Bool) (bytes : Notes → PlaceTable → List ℕ) → FillsPage old.store new.store (slot_name slot) modified bytes → count_at old.anon slot ≡ 0 → count_at new.anon slot ≡ 1
-    → PendsTails old (is_name (next_name old.store)) pending more → MakesHome old new pending more slot
-made-home old new pending more slot modified bytes fills free once pends = record {
+    → PendsTails old (is_name (next_name old.store)) pending more → new.hat.places ≡ old.hat.places → MakesHome old new pending more slot
+made-home old new pending more slot modified bytes fills free once pends places = record {
   free = free;
   once = once;
   home = both (next_frame old.store) fills.home fills.unlisted;
   took = loses old new fills.sound fills.lost;
   pends = pends;
+  modified = fill-modifies old new (slot_name slot) modified bytes fills places;
 }
   where
     both : (o : Option ℕ) → IfSome o (λ frame. residence new.store (slot_name slot) ≡ Home frame) → IfSome o (λ frame. ¬ IsListedFrame new.store frame)
@@ -88,4 +90,5 @@ home-again old new anon maps pending more slot free made = record {
   home = made.home;
   took = lost-before (next_name old.store) old (record old { anon = anon; maps = maps }) new refl made.took;
   pends = record { bits = made.pends.bits; below = made.pends.below };
+  modified = made.modified;
 }

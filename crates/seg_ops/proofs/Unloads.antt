@@ -27,7 +27,7 @@ held-is : (t : Translation) (space page : ℕ) → holds space page (Some t) ≡
 held-is t space page h = let b = both-parts (t.space == space) (t.page == page) h in (eqb-true t.space space b.0, eqb-true t.page page b.1)
 
 -- what is left after a drop was there
-kept-of : (b : Bool) (o : Option Translation) (t : Translation) → cond b None o ≡ Some t → o ≡ Some t
+pub kept-of : (b : Bool) (o : Option Translation) (t : Translation) → cond b None o ≡ Some t → o ≡ Some t
 kept-of true o t e = absurd (let z : None ≡ Some t = e in cc)
 kept-of false o t e = e
 
@@ -53,7 +53,7 @@ pub holds-at : (t : Translation) (space page : ℕ) → t.space ≡ space → t.
 holds-at t space page a b = let x = sym a in let y = sym b in (λ i. holds (x i) (y i) (Some t)) ∙ holds-own t
 
 -- the translation of a page that stands somewhere is the one that is found
-found-own : (places : List (Option Translation)) (space page : ℕ) (t u : Translation) (place : ℕ) → IsSingleValued places → translation_at places space page ≡ Some t → slice_index_or places place None ≡ Some u → holds space page (Some u) ≡ true → u ≡ t
+pub found-own : (places : List (Option Translation)) (space page : ℕ) (t u : Translation) (place : ℕ) → IsSingleValued places → translation_at places space page ≡ Some t → slice_index_or places place None ≡ Some u → holds space page (Some u) ≡ true → u ≡ t
 found-own places space page t u place single is there own =
     let s = stands-at places space page t is in
     let mine : holds space page (slice_index_or places s.place None) ≡ true = ap (holds space page) s.there ∙ holds-at t space page s.space_is s.page_is in

@@ -7,6 +7,7 @@ use Rattle.hat_layer.specs.Pool.{HatSeen, IsSingleValued, change_at, change_page
 use Rattle.vm_world.specs.MemoryFits.{MemoryFits}
 use Rattle.vm_world.specs.Segments.{Spaces}
 use Rattle.vm_world.specs.TranslationsFit.{TranslationFits, TranslationsFit, HasWritten}
+use Rattle.vm_world.specs.Serving.{ModifiesNone}
 use Rattle.vm_world.specs.World.{World, world_table}
 use Rattle.vm_world.proofs.Loaded.{holds-own}
 use Rattle.vm_world.specs.Words.{KeepsPages}
@@ -60,6 +61,17 @@ written places space page frame w =
       leads = r.2 ∙ w.leads;
       modified = r.3 ∙ w.modified;
     }
+
+-- no page is modified by it: what says so kept its bits
+unwritten : (places : List (Option Translation)) (space page frame : ℕ) → HasWritten (change_at space page without_write places) frame → HasWritten places frame
+unwritten places space page frame w = by_case (slice_index_or places w.place None) refl (came places space page w.place w.translation w.there)
+  where
+    by_case : (o : Option Translation) → slice_index_or places w.place None ≡ o → Came space page o w.translation → HasWritten places frame
+    by_case o at (kept was not) = record { place = w.place; translation = w.translation; there = at ∙ was; leads = w.leads; modified = w.modified }
+    by_case o at (lost u was s) = record { place = w.place; translation = u; there = at ∙ was; leads = sym (ap (λ (x : Translation). x.frame) s) ∙ w.leads; modified = sym (ap (λ (x : Translation). x.modified) s) ∙ w.modified }
+
+pub protect-modifies : (w : World) (hat : HatSeen) (space page : ℕ) → hat.places ≡ change_at space page without_write w.hat.places → ModifiesNone w (with_tables w w.store hat)
+protect-modifies w hat space page places name k home m = (home, elim m [ inl row ↦ inl row | inr said ↦ inr (unwritten w.hat.places space page k (subst (λ (ps : List (Option Translation)). HasWritten ps k) places said)) ])
 
 fits-without : (w : World) (spaces : Spaces) (t : Translation) → TranslationFits w.store w.anon w.maps spaces t → TranslationFits w.store w.anon w.maps spaces (without_write t)
 fits-without w spaces t l = record { spot = l.spot; here = l.here; name = l.name; shows = l.shows; home = l.home; unlisted = l.unlisted; allowed = l.allowed; writable = λ is. absurd (let z : false ≡ true = is in cc) }

@@ -2,19 +2,16 @@
 use Rattle.std.specs.Prelude.{◌≡◌, ℕ, Bool, true, false, not, List, Option, Some, Result, Ok, Err, IsFalse}
 use Rattle.hat_layer.specs.Pool.{translation_at}
 use Rattle.hat_layer.specs.declared.translation.Translation.{Translation}
-use Rattle.page_store.specs.declared.plan.Plan.{Plan}
+use Rattle.page_hash.specs.declared.PageName.{PageName}
 use Rattle.vm_types.specs.declared.call.Call.{Call}
 use Rattle.vm_types.specs.declared.call.Call.TheVariants.{Load, Store}
-use Rattle.vm_types.specs.declared.call.Kind.TheVariants.{Shared}
-use Rattle.vm_types.specs.declared.call.Object.TheVariants as object
 use Rattle.flat_model.specs.Flat.{Flat}
 use Rattle.flat_model.specs.Words.{page}
 use Rattle.vm_world.specs.CallSteps.{ChangesMemory}
 use Rattle.vm_world.specs.FlatMemory.{Memory}
-use Rattle.vm_world.specs.Plans.{CanRunPlan}
-use Rattle.vm_world.specs.Segments.{Spot, Spaces, spot_at}
-use Rattle.vm_world.specs.Serving.{TakesFrames, AreReplaced, KeepsWanted, ModifiesNone}
-use Rattle.vm_world.specs.Wants.{accessed_page, shows_page, HoldsUp}
+use Rattle.vm_world.specs.Segments.{Spot, Spaces, shown_name}
+use Rattle.vm_world.specs.Serving.{TakesFrames, AreReplaced, IsUnpushedSlot, KeepsWanted, ModifiesOnly, IsWanted}
+use Rattle.vm_world.specs.Wants.{shows_page}
 use Rattle.vm_world.specs.Words.{memory}
 use Rattle.vm_world.specs.World.{World}
 use Rattle.vm_world.specs.declared.world.World as rust
@@ -22,7 +19,6 @@ use Rattle.seg_ops.specs.OwnPages.{with_own_shown}
 use Rattle.seg_ops.specs.declared.plans.Fault.{Fault}
 use Rattle.seg_ops.specs.declared.plans.Fault.TheVariants.{Loaded, Past}
 use Rattle.vm_world.specs.declared.wants.Wants.{Wants}
-use Rattle.vm_world.specs.declared.wants.Wants.TheVariants.{Transfer, Seat}
 use Rattle.seg_ops.specs.SlotsDue.{SlotsAfter}
 
 -- The page has a translation that lets the access.
@@ -37,19 +33,17 @@ Accesses false q (Load a n) = page a ≡ q
 Accesses true q (Store a n v) = page a ≡ q
 Accesses write q call = ⊥
 
--- Each such access needs this transfer first. It can run; no home page that the access wants lost its frame; and no page became modified.
-pub record NeedsTransfer (old new : Memory) (p q : ℕ) (write : Bool) (plan : Plan) : Type 0 where
-  pub runs : (call : Call) → Accesses write q call → CanRunPlan new (Some (p, call)) plan
-  pub wanted : (call : Call) → Accesses write q call → KeepsWanted old new p call
-  pub modified : ModifiesNone old.world new.world
+-- Each such access wants this first, whatever seats have the files' calls: a transfer that can run, or what holds it up. No home page that the access wants
+-- lost its frame.
+pub record WaitsFor (old new : Memory) (p q : ℕ) (write : Bool) (want : Wants) : Type 0 where
+  pub wants : (calls : List (Option ℕ)) (call : Call) → Accesses write q call → IsWanted new calls p call want
+  pub kept : (call : Call) → Accesses write q call → KeepsWanted old new p call
 
 -- What a fault at a place of any mapping comes to.
 abbrev pub FaultMeans : Memory → Memory → ℕ → ℕ → Spot → Bool → Result Fault Wants → Type 0
 FaultMeans old new p q x write (Ok Loaded) = LetsAccess new.world p q write
 FaultMeans old new p q x write (Ok Past) = IsFalse (shows_page new.world x)
-FaultMeans old new p q x write (Err (Transfer plan)) = NeedsTransfer old new p q write plan
-FaultMeans old new p q x write (Err (Seat h)) =
-    ((calls : List (Option ℕ)) (call : Call) → Accesses write q call → HoldsUp new calls p call h) × ModifiesNone old.world new.world
+FaultMeans old new p q x write (Err want) = WaitsFor old new p q write want
 
 -- Flat memory after a fault: for a store a private cell gets the page that it shows as its own.
 abbrev pub after_fault : Result Fault Wants → Bool → Flat → ℕ → ℕ → Flat
@@ -65,8 +59,14 @@ abbrev pub is_past : Result Fault Wants → Bool
 is_past (Ok Past) = true
 is_past answer = false
 
+-- A fault that loads a page makes it modified where it is that of a slot which was never pushed, and no other; one that doesn't makes none modified.
+abbrev pub FaultModifies : World → Spot → Result Fault Wants → PageName → Type 0
+FaultModifies w x (Ok Loaded) name = (shown_name w.maps x ≡ Some name) × IsUnpushedSlot w.anon name
+FaultModifies w x answer name = ⊥
+
 -- A fault takes frames for other pages, with the tails that are pending before and after, and the frames hold other pages then; if the page is loaded, flat
--- memory is so; a slot was made exactly where one was due; it comes to Past exactly where the place is past its object's end; and it comes to this.
+-- memory is so; a slot was made exactly where one was due; no page is modified that wasn't, but the one that is loaded, where that is so; it comes to Past
+-- exactly where the place is past its object's end; and it comes to this.
 pub record ServesFault (old new : Memory) (pending more p q : ℕ) (x : Spot) (write : Bool) (answer : Result Fault Wants) : Type 0 where
   pub mid : World
   pub first : TakesFrames old mid pending more
@@ -75,6 +75,7 @@ pub record ServesFault (old new : Memory) (pending more p q : ℕ) (x : Spot) (w
   pub slots : SlotsAfter old.world new.world x write answer
   pub past : is_past answer ≡ not (shows_page old.world x)
   pub replaced : AreReplaced old.world new.world first.cut
+  pub modified : ModifiesOnly (FaultModifies new.world x answer) old.world new.world
   pub means : FaultMeans old new p q x write answer
 
 -- The same of the world before and after.

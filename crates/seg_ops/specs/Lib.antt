@@ -2,12 +2,11 @@ pub mod Steps
 pub mod Plans
 pub mod Marks
 pub mod Flights
-pub mod Trials
 pub mod Slots
 pub mod Empties
 pub mod OwnPages
-pub mod SlotTrials
 pub mod Rooms
+pub mod Frames
 pub mod SlotsDue
 pub mod Writers
 pub mod Faults

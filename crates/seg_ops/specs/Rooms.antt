@@ -1,5 +1,5 @@
 -- Room that is made for another page. Public clauses cite this.
-use Rattle.std.specs.Prelude.{◌≡◌, ◌≢◌, ℕ, ◌||◌, Bool, Option, Some, None, IsSome}
+use Rattle.std.specs.Prelude.{◌≡◌, ◌≢◌, ◌⊎◌, ℕ, ◌||◌, ◌++◌, ◌∷◌, [], Bool, Option, Some, None, IsSome}
 use Rattle.core_arena.specs.Bytes.{bytes_at}
 use Rattle.hat_layer.specs.Pool.{bits_of}
 use Rattle.page_hash.specs.declared.PageName.{PageName}
@@ -42,3 +42,11 @@ pub record MakesRoom {D : Type 0} (old new : rust.World D) : Type 0 where
 abbrev pub HasRoomUnless : {D : Type 0} → rust.World D → Option PageName → Type 0
 HasRoomUnless w None = IsSome (next_frame w.store)
 HasRoomUnless w (Some name) = (next_frame w.store ≡ None) × IsDirtyPage (world_seen w) name
+
+-- The lists are as they were ..
+abbrev pub SameLists : StoreSeen → StoreSeen → Type 0
+SameLists old new = (new.free ≡ old.free) × (new.cached ≡ old.cached)
+
+-- .. but that one frame more may be last on the cache list.
+abbrev pub ListsOneMore : StoreSeen → StoreSeen → Type 0
+ListsOneMore old new = (new.free ≡ old.free) × ((new.cached ≡ old.cached) ⊎ ((frame : ℕ) × (new.cached ≡ old.cached ++ frame ∷ [])))

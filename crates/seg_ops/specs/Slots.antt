@@ -21,7 +21,7 @@ use Rattle.vm_world.specs.MemoryFits.{MemoryFits}
 use Rattle.vm_world.specs.NotesFit.{NotesFit}
 use Rattle.vm_world.specs.Pages.{page_value}
 use Rattle.vm_world.specs.Segments.{Spaces, Spot, spot_at}
-use Rattle.vm_world.specs.Serving.{LosesFrame}
+use Rattle.vm_world.specs.Serving.{LosesFrame, ModifiesOnly}
 use Rattle.vm_world.specs.StateSteps.{PendsTails}
 use Rattle.vm_world.specs.World.{World, core_of, slot_name, slot_in, world_table, page_exists, AllTell}
 use Rattle.vm_world.specs.declared.segment.Segment.{Segment}
@@ -58,13 +58,14 @@ pub record GivesSlot (old new : AnonSlotsSeen) (maps put : List (Option Map)) (m
   pub set : put ≡ with_places maps m (slice_set (places_of maps m) i (Some s))
 
 -- A slot that no place held is made, and its page is home in the frame that was taken next, on neither list. The name that this frame held lost it, and the
--- tail of the file whose last page that was is pending.
+-- tail of the file whose last page that was is pending. No other page becomes modified.
 pub record MakesHome (old new : World) (pending more slot : ℕ) : Type 0 where
   pub free : count_at old.anon slot ≡ 0
   pub once : count_at new.anon slot ≡ 1
   pub home : IfSome (next_frame old.store) (λ frame. (residence new.store (slot_name slot) ≡ Home frame) × (¬ IsListedFrame new.store frame))
   pub took : IfSome (next_name old.store) (λ name. LosesFrame old new name)
   pub pends : PendsTails old (is_name (next_name old.store)) pending more
+  pub modified : ModifiesOnly (λ name. name ≡ slot_name slot) old new
 
 -- A slot is made for a place, with its page, in a frame that is taken. Files, disks and translations stay; memory and the notes fit as before, and disks
 -- tell where they told; the slot's page has these bytes; and each page that existed keeps its value, but that the names of taken frames may be cut at

@@ -1,5 +1,5 @@
 -- Where an access makes a slot. Public clauses cite this.
-use Rattle.std.specs.Prelude.{◌≡◌, ℕ, ◌+◌, ◌==◌, ◌&&◌, Bool, true, false, not, List, Option, Some, None, Result, Ok, Err, if◌then◌else◌, option_map}
+use Rattle.std.specs.Prelude.{◌≡◌, ℕ, ◌+◌, ◌==◌, ◌&&◌, Bool, false, not, List, Option, Some, None, Result, Ok, Err, if◌then◌else◌, option_map}
 use Rattle.page_hash.specs.declared.PageName.{PageName}
 use Rattle.anon_map.specs.Maps.{Map}
 use Rattle.anon_slots.specs.Slots.{AnonSlotsSeen, count_at}
@@ -13,7 +13,6 @@ use Rattle.seg_ops.specs.Slots.{GivesSlot}
 use Rattle.seg_ops.specs.declared.plans.Fault.{Fault}
 use Rattle.seg_ops.specs.declared.plans.Fault.TheVariants.{Loaded, Past}
 use Rattle.vm_world.specs.declared.wants.Wants.{Wants}
-use Rattle.vm_world.specs.declared.wants.Wants.TheVariants.{Transfer, Seat}
 
 -- A place of an anon map: the map's number, and the place's.
 abbrev pub MapPlace : Type 0
@@ -63,5 +62,4 @@ MakesSlotAt old new (Some place) = (slot : ℕ) × GivesSlot old.anon new.anon o
 abbrev pub SlotsAfter : World → World → Spot → Bool → Result Fault Wants → Type 0
 SlotsAfter old new x write (Ok Loaded) = MakesSlotAt old new (slot_due old.anon old.maps x write)
 SlotsAfter old new x write (Ok Past) = KeepsSlots old new
-SlotsAfter old new x write (Err (Transfer plan)) = KeepsSlots old new
-SlotsAfter old new x write (Err (Seat h)) = KeepsSlots old new
+SlotsAfter old new x write (Err want) = KeepsSlots old new

@@ -3,14 +3,17 @@ ghost use Rattle.std.specs.Prelude.{◌≡◌, ℕ, ◌%◌, true, false, IfSome
 ghost use Rattle.flat_model.specs.Words.{page};
 ghost use Rattle.hat_layer.specs.Pool.{IsNoted, frame_for, after_access, change_at};
 ghost use Rattle.page_store.specs.Laws.{SameResidence};
+ghost use Rattle.page_store.specs.Seen.{residence};
 ghost use Rattle.vm_types.specs.Words.{IsWordSize, FitsWord};
 ghost use Rattle.vm_world.specs.Segments.{Spaces};
+ghost use Rattle.vm_world.specs.Serving.{ModifiesNone, ModifiesOnly};
 ghost use Rattle.vm_world.specs.Words.{Fits, IsFit, KeepsEveryPage, OnlyStore, OnlyHat};
 ghost use Rattle.vm_world.specs.World.{world_seen};
 ghost use Rattle.seg_ops.specs.Steps.{ReadsWord, WritesWord};
 
 use block_device::Disk;
 use flat_model::word_at;
+use page_store::Residence;
 use vm_types::word_bytes;
 use vm_world::World;
 
@@ -27,6 +30,9 @@ pub fn frame_for<D: Disk>(world: &mut World<D>, space: u32, page: u32, write: bo
     // What stays.
     ensures rest { OnlyHat world.old world.new }
     ensures keeps { KeepsEveryPage world.old world.new }
+    ensures modified { IfSome result (λ frame. ModifiesOnly
+        (λ name. (write ≡ true) × (residence world.old.store name ≡ Residence.Home frame))
+        (world_seen world.old) (world_seen world.new)) }
 {
     world.hat.frame_for(space, page, write)
 }
@@ -61,6 +67,7 @@ pub fn write<D: Disk>(world: &mut World<D>, frame: u32, addr: u32, size: u32, va
         ≡ record world.old.store { frames = world.new.store.frames } }
     ensures rest { OnlyStore world.old world.new }
     ensures stay { SameResidence world.old.store world.new.store }
+    ensures modified { ModifiesNone (world_seen world.old) (world_seen world.new) }
 {
     let word = word_bytes(size, value);
     world

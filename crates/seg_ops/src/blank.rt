@@ -1,11 +1,12 @@
 //! A page that was never pushed: a frame of zeros.
+ghost use Rattle.seg_ops.specs.Frames.{TakesNextFrame, KeepsButNext};
 ghost use Rattle.std.specs.Prelude.{◌≡◌, ◌<◌, ◌==◌, length, false, IsSome, IsTrue, IfSome};
 ghost use Rattle.core_arena.specs.Bytes.{zeros};
 ghost use Rattle.page_hash.specs.Names.{is_name};
 ghost use Rattle.page_store.specs.Seen.{IsListedFrame, residence};
 ghost use Rattle.page_store.specs.Steps.{next_frame, next_name, after_fill};
 ghost use Rattle.vm_world.specs.Segments.{Spaces};
-ghost use Rattle.vm_world.specs.Serving.{LosesFrame};
+ghost use Rattle.vm_world.specs.Serving.{LosesFrame, ModifiesOnly};
 ghost use Rattle.vm_world.specs.StateSteps.{PendsTails};
 ghost use Rattle.vm_world.specs.Words.{Fits, IsFit, OnlyStoreAndTails};
 ghost use Rattle.vm_world.specs.World.{world_seen, file_name, is_unpushed, page_exists};
@@ -30,15 +31,12 @@ pub fn fill_page<D: Disk>(world: &mut World<D>, name: PageName)
     ensures unlisted { IfSome (next_frame world.old.store)
         (λ frame. ¬ IsListedFrame world.new.store frame) }
     // The tail of the file whose last page lost the frame is pending.
-    ensures pends { PendsTails (world_seen world.old) (is_name (next_name world.old.store))
-        world.old.pending world.new.pending }
-    ensures took { IfSome (next_name world.old.store)
-        (λ name. LosesFrame (world_seen world.old) (world_seen world.new) name) }
+    ensures taken { TakesNextFrame world.old world.new }
     // What stays.
     ensures rest { OnlyStoreAndTails world.old world.new }
-    ensures step { (spaces : Spaces) → Fits world.old spaces
-        → WorldStep (world_seen world.old) (world_seen world.new) spaces stays
-        (is_name (next_name world.old.store)) }
+    ensures pages { KeepsButNext world.old world.new }
+    ensures modified { ModifiesOnly (λ other. (other ≡ name) × IsTrue (name.object == 64))
+        (world_seen world.old) (world_seen world.new) }
 {
     let lost = world.store.next_name();
     world.store.fill_zero(name);
@@ -60,15 +58,10 @@ pub fn fill<D: Disk>(world: &mut World<D>, file: u32, page: u32)
     ensures unlisted { IfSome (next_frame world.old.store)
         (λ frame. ¬ IsListedFrame world.new.store frame) }
     // The tail of the file whose last page lost the frame is pending.
-    ensures pends { PendsTails (world_seen world.old) (is_name (next_name world.old.store))
-        world.old.pending world.new.pending }
-    ensures took { IfSome (next_name world.old.store)
-        (λ name. LosesFrame (world_seen world.old) (world_seen world.new) name) }
+    ensures taken { TakesNextFrame world.old world.new }
     // What stays.
     ensures rest { OnlyStoreAndTails world.old world.new }
-    ensures step { (spaces : Spaces) → Fits world.old spaces
-        → WorldStep (world_seen world.old) (world_seen world.new) spaces stays
-        (is_name (next_name world.old.store)) }
+    ensures pages { KeepsButNext world.old world.new }
 {
     fill_page(world, PageName { object: file, page });
 }

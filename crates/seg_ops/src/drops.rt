@@ -3,7 +3,9 @@ ghost use Rattle.std.specs.Prelude.{◌≡◌, ℕ, None, option_map};
 ghost use Rattle.hat_layer.specs.Pool.{translation_at, told_of, drop_page, drop_at};
 ghost use Rattle.page_store.specs.Laws.{SameResidence};
 ghost use Rattle.seg_ops.specs.Steps.{with_dropped_gathered};
+ghost use Rattle.vm_world.specs.Serving.{ModifiesNone};
 ghost use Rattle.vm_world.specs.Words.{IsFit, KeepsEveryPage, OnlyStoreAndHat};
+ghost use Rattle.vm_world.specs.World.{world_seen};
 
 use crate::tables::gather;
 use block_device::Disk;
@@ -22,6 +24,7 @@ pub fn drop_translation<D: Disk>(world: &mut World<D>, space: u32, page: u32)
     // What stays.
     ensures rest { OnlyStoreAndHat world.old world.new }
     ensures stay { SameResidence world.old.store world.new.store }
+    ensures modified { ModifiesNone (world_seen world.old) (world_seen world.new) }
     ensures keeps { KeepsEveryPage world.old world.new }
 {
     let dropped = world.hat.unload(space, page);

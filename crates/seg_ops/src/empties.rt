@@ -8,6 +8,7 @@ ghost use Rattle.anon_map.specs.Maps.{IsMapThere, places_of, with_places};
 ghost use Rattle.anon_slots.specs.Slots.{count_at, with_count};
 ghost use Rattle.vm_world.specs.CallSteps.{ChangesMemory};
 ghost use Rattle.vm_world.specs.Segments.{Spaces, Spot};
+ghost use Rattle.vm_world.specs.Serving.{ModifiesNone};
 ghost use Rattle.vm_world.specs.Words.{memory, Fits, IsFit, OnlySlotsAndMaps, OnlyAnonymous};
 ghost use Rattle.vm_world.specs.World.{world_seen, slot_name, slot_in};
 ghost use Rattle.seg_ops.specs.Empties.{EmptiesPlace, IsUnloadedZero, LeavesSlot};
@@ -83,6 +84,7 @@ pub fn drop_slot<D: Disk>(world: &mut World<D>, map: u32, place: u32, slot: u32)
     // What stays.
     ensures stay { (name : PageName) → name ≢ slot_name slot
         → residence world.new.store name ≡ residence world.old.store name }
+    ensures modified { ModifiesNone (world_seen world.old) (world_seen world.new) }
     ensures rest { OnlyAnonymous world.old world.new }
     ensures empties { (spaces : Spaces) (p q : ℕ) (x : Spot) → Fits world.old spaces
         → OwnsAlone spaces p q map place x → translation_at world.old.hat.places p q ≡ None

@@ -23,6 +23,7 @@ ghost use Rattle.vm_world.specs.Words.{Fits, IsFit, KeepsEveryPage, OnlyStoreAnd
 ghost use Rattle.vm_world.specs.World.{world_seen, world_table, file_blocks, is_unpushed, page_exists};
 ghost use Rattle.vm_world.specs.WorldSteps.{WorldStep, leaves};
 ghost use Rattle.seg_ops.specs.Flights.{CanSend, IsUnloaded, BeginsFor, store_synced, places_pushed};
+ghost use Rattle.seg_ops.specs.Frames.{TakesNextFrame, SendsButNext};
 ghost use Rattle.seg_ops.specs.Marks.{files_pushed, slots_pushed};
 ghost use Rattle.seg_ops.specs.Steps.{with_bits_gathered};
 
@@ -190,16 +191,10 @@ fn send<D: Disk>(world: &mut World<D>, seat: u32, plan: Plan) -> Flight<D>
         (world_table (world_seen world.old) (plan_page plan)).disk }
     ensures begins { BeginsTransfer world.old.store world.new.store plan (plan_page plan) result }
     // What the taken frame held.
-    ensures pends { PendsTails (world_seen world.old) (is_name (next_name world.old.store))
-        world.old.pending world.new.pending }
-    ensures took { IfSome (next_name world.old.store)
-        (λ name. LosesFrame (world_seen world.old) (world_seen world.new) name) }
+    ensures taken { TakesNextFrame world.old world.new }
     // What stays.
     ensures rest { OnlyStoreAndTails world.old world.new }
-    ensures step { (spaces : Spaces) (notes : Notes) → Fits world.old spaces
-        → NotesFit (world_seen world.old) notes
-        → WorldStep (world_seen world.old) (world_seen world.new) spaces
-        (leaves seat (note_of result)) (is_name (next_name world.old.store)) }
+    ensures pages { SendsButNext world.old world.new seat (note_of result) }
 {
     let place = world_table(world, plan_page(plan));
     let lost = world.store.next_name();
@@ -233,10 +228,7 @@ pub fn begin_push<D: Disk>(world: &mut World<D>, seat: u32, name: PageName) -> F
     ensures anon { world.new.anon ≡ slots_pushed world.old.anon name }
     ensures pushed { IsFalse (is_unpushed world.new.files world.new.anon name) }
     // What the snapshot's frame held.
-    ensures pends { PendsTails (world_seen world.old) (is_name (next_name world.old.store))
-        world.old.pending world.new.pending }
-    ensures took { IfSome (next_name world.old.store)
-        (λ lost. LosesFrame (world_seen world.old) (world_seen world.new) lost) }
+    ensures taken { TakesNextFrame world.old world.new }
     // What stays.
     ensures rest { world.new ≡ record world.old {
       store = world.new.store;
@@ -245,10 +237,7 @@ pub fn begin_push<D: Disk>(world: &mut World<D>, seat: u32, name: PageName) -> F
       files = world.new.files;
       pending = world.new.pending;
     } }
-    ensures step { (spaces : Spaces) (notes : Notes) → Fits world.old spaces
-        → NotesFit (world_seen world.old) notes
-        → WorldStep (world_seen world.old) (world_seen world.new) spaces
-        (leaves seat (note_of result)) (is_name (next_name world.old.store)) }
+    ensures pages { SendsButNext world.old world.new seat (note_of result) }
 {
     prepare_push(world, name);
     send(world, seat, Plan::Push(name))
@@ -269,16 +258,10 @@ pub fn begin_read<D: Disk>(world: &mut World<D>, seat: u32, name: PageName) -> F
     ensures begins { BeginsTransfer world.old.store world.new.store
         (Plan.Read name) name result }
     // What the taken frame held.
-    ensures pends { PendsTails (world_seen world.old) (is_name (next_name world.old.store))
-        world.old.pending world.new.pending }
-    ensures took { IfSome (next_name world.old.store)
-        (λ lost. LosesFrame (world_seen world.old) (world_seen world.new) lost) }
+    ensures taken { TakesNextFrame world.old world.new }
     // What stays.
     ensures rest { OnlyStoreAndTails world.old world.new }
-    ensures step { (spaces : Spaces) (notes : Notes) → Fits world.old spaces
-        → NotesFit (world_seen world.old) notes
-        → WorldStep (world_seen world.old) (world_seen world.new) spaces
-        (leaves seat (note_of result)) (is_name (next_name world.old.store)) }
+    ensures pages { SendsButNext world.old world.new seat (note_of result) }
 {
     send(world, seat, Plan::Read(name))
 }

@@ -1,4 +1,5 @@
 //! A frame is freed before it is taken for an anonymous page.
+ghost use Rattle.seg_ops.specs.Frames.{TakesNextFrame, KeepsButNext};
 ghost use Rattle.std.specs.Prelude.{◌≡◌, ℕ, None, IfSome, MatchOption};
 ghost use Rattle.page_hash.specs.Names.{is_name};
 ghost use Rattle.page_hash.specs.declared.PageName.{PageName};
@@ -6,7 +7,7 @@ ghost use Rattle.page_store.specs.Laws.{Aborts};
 ghost use Rattle.page_store.specs.Seen.{IsListedFrame, residence};
 ghost use Rattle.page_store.specs.Steps.{next_frame, next_name, after_abort};
 ghost use Rattle.vm_world.specs.Segments.{Spaces};
-ghost use Rattle.vm_world.specs.Serving.{LosesFrame};
+ghost use Rattle.vm_world.specs.Serving.{ModifiesNone};
 ghost use Rattle.vm_world.specs.StateSteps.{PendsTails};
 ghost use Rattle.vm_world.specs.Words.{Fits, IsFit, OnlyStoreAndTails};
 ghost use Rattle.vm_world.specs.World.{world_seen};
@@ -37,10 +38,7 @@ pub fn free_next<D: Disk>(world: &mut World<D>)
     ensures same { next_frame world.new.store ≡ next_frame world.old.store }
     ensures free { next_name world.new.store ≡ None }
     // The tail of the file whose last page lost the frame is pending.
-    ensures pends { PendsTails (world_seen world.old) (is_name (next_name world.old.store))
-        world.old.pending world.new.pending }
-    ensures took { IfSome (next_name world.old.store)
-        (λ name. LosesFrame (world_seen world.old) (world_seen world.new) name) }
+    ensures taken { TakesNextFrame world.old world.new }
     // What stays: each page that is home in a frame on no list is there, and the frame is on none; and no page comes home.
     ensures homes { (page : PageName) (frame : ℕ)
         → residence world.old.store page ≡ Residence.Home frame
@@ -51,10 +49,9 @@ pub fn free_next<D: Disk>(world: &mut World<D>)
         → residence world.new.store page ≡ Residence.Absent }
     ensures lists { (frame : ℕ) → IsListedFrame world.new.store frame
         → IsListedFrame world.old.store frame }
+    ensures modified { ModifiesNone (world_seen world.old) (world_seen world.new) }
     ensures rest { OnlyStoreAndTails world.old world.new }
-    ensures step { (spaces : Spaces) → Fits world.old spaces
-        → WorldStep (world_seen world.old) (world_seen world.new) spaces stays
-        (is_name (next_name world.old.store)) }
+    ensures pages { KeepsButNext world.old world.new }
 {
     let lost = world.store.next_name();
     give_up(&mut world.store, lost);

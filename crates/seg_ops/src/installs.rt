@@ -32,6 +32,7 @@ pub fn install<D: Disk>(world: &mut World<D>, space: u32, page: u32, frame: u32,
         → translation_at world.new.hat.places s p ≡ translation_at world.old.hat.places s p }
     ensures rest { OnlyStoreAndHat world.old world.new }
     ensures stay { SameResidence world.old.store world.new.store }
+    ensures modified { ModifiesNone (world_seen world.old) (world_seen world.new) }
     ensures keeps { (spaces : Spaces) → Fits world.old spaces
         → TranslationFits world.old.store world.old.anon world.old.maps spaces
         (fresh_translation space page frame writable)
@@ -64,6 +65,7 @@ pub fn show<D: Disk>(
         → translation_at world.new.hat.places s p ≡ translation_at world.old.hat.places s p }
     ensures rest { OnlyStoreAndHat world.old world.new }
     ensures stay { SameResidence world.old.store world.new.store }
+    ensures modified { ModifiesNone (world_seen world.old) (world_seen world.new) }
     ensures keeps { (spaces : Spaces) → Fits world.old spaces
         → MayShow (world_seen world.old) spaces space page name writable
         → KeepsPages (world_seen world.old) (world_seen world.new) spaces }

@@ -34,8 +34,3 @@ pub use plans::{Fault, ask, fetch};
 pub use protects::protect;
 pub use ranges::drop_places;
 pub use rooms::{evict, make_room, make_room_beside, sync};
-
-#[cfg(test)]
-mod slot_tests;
-#[cfg(test)]
-mod tests;

@@ -7,7 +7,9 @@ ghost use Rattle.anon_slots.specs.Slots.{count_at};
 ghost use Rattle.vm_world.specs.CallSteps.{ChangesMemory};
 ghost use Rattle.vm_world.specs.SegmentSteps.{with_zero_object};
 ghost use Rattle.vm_world.specs.Segments.{Spaces};
+ghost use Rattle.vm_world.specs.Serving.{ModifiesNone};
 ghost use Rattle.vm_world.specs.Words.{memory, Fits, OnlyAnonymous};
+ghost use Rattle.vm_world.specs.World.{world_seen};
 ghost use Rattle.seg_ops.specs.Empties.{IsUnloadedZero};
 
 use crate::ranges::empty_place;
@@ -30,6 +32,7 @@ pub fn drop_object<D: Disk>(world: &mut World<D>, map: u32)
     ensures stay { (name : PageName)
         → (name.object ≡ 64 → 0 < count_at world.new.anon name.page)
         → residence world.new.store name ≡ residence world.old.store name }
+    ensures modified { ModifiesNone (world_seen world.old) (world_seen world.new) }
     ensures rest { OnlyAnonymous world.old world.new }
     // In flat memory the zero object is zeros, and nothing else changes.
     ensures changes { (spaces : Spaces) (p z : ℕ) → Fits world.old spaces

@@ -8,7 +8,7 @@ ghost use Rattle.vm_world.specs.Segments.{Spaces};
 ghost use Rattle.vm_world.specs.Words.{memory, Fits, IsFit, IsKnown, OneIsHome};
 ghost use Rattle.vm_world.specs.World.{world_seen, world_table, is_unpushed, page_exists};
 ghost use Rattle.seg_ops.specs.Plans.{IsAsked, FetchesPage};
-ghost use Rattle.seg_ops.specs.Rooms.{MakesRoom};
+ghost use Rattle.seg_ops.specs.Rooms.{ListsOneMore, MakesRoom};
 
 use crate::rooms::make_room;
 use block_device::Disk;
@@ -68,6 +68,7 @@ pub fn fetch<D: Disk>(world: &mut World<D>, name: PageName) -> Wants
         → FetchesPage (memory world.new spaces) name result }
     // What stays.
     ensures makes { MakesRoom world.old world.new }
+    ensures listed { ListsOneMore world.old.store world.new.store }
 {
     match make_room(world) {
         None => ask(world, Plan::Read(name)),

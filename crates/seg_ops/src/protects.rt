@@ -1,7 +1,9 @@
 //! Translations that lose the right to write.
 ghost use Rattle.std.specs.Prelude.{◌≡◌, ℕ};
 ghost use Rattle.hat_layer.specs.Pool.{translation_at, change_page, without_write};
+ghost use Rattle.vm_world.specs.Serving.{ModifiesNone};
 ghost use Rattle.vm_world.specs.Words.{KeepsEveryPage, OnlyHat};
+ghost use Rattle.vm_world.specs.World.{world_seen};
 ghost use Rattle.seg_ops.specs.Writers.{HasNoWriter, WritersStay};
 
 use block_device::Disk;
@@ -17,6 +19,7 @@ pub fn protect<D: Disk>(world: &mut World<D>, space: u32, page: u32)
         ≡ change_page space page without_write (translation_at world.old.hat.places s p) }
     // What stays.
     ensures rest { OnlyHat world.old world.new }
+    ensures modified { ModifiesNone (world_seen world.old) (world_seen world.new) }
     ensures keeps { KeepsEveryPage world.old world.new }
 {
     world.hat.protect(space, page);

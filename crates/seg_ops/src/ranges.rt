@@ -7,6 +7,7 @@ ghost use Rattle.anon_map.specs.Maps.{IsMapThere, places_of, with_places};
 ghost use Rattle.anon_slots.specs.Slots.{count_at};
 ghost use Rattle.vm_world.specs.CallSteps.{ChangesMemory};
 ghost use Rattle.vm_world.specs.Segments.{Spaces, Spot};
+ghost use Rattle.vm_world.specs.Serving.{ModifiesNone};
 ghost use Rattle.vm_world.specs.Words.{memory, Fits, IsFit, OnlyAnonymous};
 ghost use Rattle.vm_world.specs.World.{world_seen};
 ghost use Rattle.seg_ops.specs.Empties.{EmptiesPlaces, IsUnloadedZero, OwnsPlaces, places_emptied};
@@ -32,6 +33,7 @@ pub(crate) fn empty_place<D: Disk>(world: &mut World<D>, map: u32, place: u32)
     ensures stay { (name : PageName)
         → (name.object ≡ 64 → 0 < count_at world.new.anon name.page)
         → residence world.new.store name ≡ residence world.old.store name }
+    ensures modified { ModifiesNone (world_seen world.old) (world_seen world.new) }
     ensures rest { OnlyAnonymous world.old world.new }
     // In flat memory the cell of its page loses its own page, and nothing else changes.
     ensures changes { (spaces : Spaces) (p q : ℕ) (x : Spot) → Fits world.old spaces
@@ -72,6 +74,7 @@ pub fn drop_places<D: Disk>(world: &mut World<D>, map: u32, from: u32, end: u32)
     ensures stay { (name : PageName)
         → (name.object ≡ 64 → 0 < count_at world.new.anon name.page)
         → residence world.new.store name ≡ residence world.old.store name }
+    ensures modified { ModifiesNone (world_seen world.old) (world_seen world.new) }
     ensures rest { OnlyAnonymous world.old world.new }
     // In flat memory the cells of their pages lose their own pages, and nothing else changes.
     ensures changes { (spaces : Spaces) (p first : ℕ) → Fits world.old spaces

@@ -5,7 +5,7 @@ ghost use Rattle.hat_layer.specs.Pool.{bits_of, change_frame, drop_frame, with_c
 ghost use Rattle.page_lock.specs.Rows.{row_at};
 ghost use Rattle.page_store.specs.Seen.{IsListedFrame, residence};
 ghost use Rattle.page_store.specs.Steps.{next_frame};
-ghost use Rattle.seg_ops.specs.Rooms.{ChoosesBeside, HasRoomUnless, MakesRoom, OneIsHomeBut, was_used};
+ghost use Rattle.seg_ops.specs.Rooms.{ChoosesBeside, HasRoomUnless, ListsOneMore, MakesRoom, OneIsHomeBut, SameLists, was_used};
 ghost use Rattle.seg_ops.specs.Steps.{IsUnwritten, with_bits_gathered};
 ghost use Rattle.vm_world.specs.Words.{IsFit, IsKnown, OneIsHome, OneIsHomeBeside};
 ghost use Rattle.vm_world.specs.World.{world_seen};
@@ -66,6 +66,7 @@ fn try_page<D: Disk>(world: &mut World<D>, page: PageName) -> Option<PageName>
     ensures lists { (frame : ℕ) → residence world.old.store page ≢ Residence.Home frame
         → IsListedFrame world.new.store frame → IsListedFrame world.old.store frame }
     ensures makes { MakesRoom world.old world.new }
+    ensures listed { ListsOneMore world.old.store world.new.store }
 {
     let Residence::Home(frame) = world.store.resident(page) else {
         unreachable!();
@@ -90,6 +91,7 @@ fn pass_used<D: Disk>(world: &mut World<D>, page: PageName) -> bool
     // What stays.
     ensures room { next_frame world.new.store ≡ next_frame world.old.store }
     ensures makes { MakesRoom world.old world.new }
+    ensures lists { SameLists world.old.store world.new.store }
 {
     let Residence::Home(frame) = world.store.resident(page) else {
         unreachable!();
@@ -158,6 +160,7 @@ fn pass_over_used<D: Disk>(world: &mut World<D>, beside: Option<u32>)
     // What stays.
     ensures room { next_frame world.new.store ≡ None }
     ensures makes { MakesRoom world.old world.new }
+    ensures lists { SameLists world.old.store world.new.store }
 {
     for _pass in 0..world.store.frame_count() {
         let name = next_victim(world, beside);
@@ -180,6 +183,7 @@ fn make_room_but<D: Disk>(world: &mut World<D>, beside: Option<u32>) -> Option<P
         → IsListedFrame world.new.store frame → IsListedFrame world.old.store frame }
     // What stays.
     ensures makes { MakesRoom world.old world.new }
+    ensures listed { ListsOneMore world.old.store world.new.store }
 {
     if world.store.available() {
         return None;
@@ -202,6 +206,7 @@ pub fn make_room_beside<D: Disk>(world: &mut World<D>, frame: u32) -> Option<Pag
     ensures unlisted { IsListedFrame world.new.store frame → IsListedFrame world.old.store frame }
     // What stays.
     ensures makes { MakesRoom world.old world.new }
+    ensures listed { ListsOneMore world.old.store world.new.store }
 {
     make_room_but(world, Some(frame))
 }
@@ -215,6 +220,7 @@ pub fn make_room<D: Disk>(world: &mut World<D>) -> Option<PageName>
     ensures room { HasRoomUnless world.new result }
     // What stays.
     ensures makes { MakesRoom world.old world.new }
+    ensures listed { ListsOneMore world.old.store world.new.store }
 {
     make_room_but(world, None)
 }

@@ -17,7 +17,7 @@ use Rattle.vm_world.specs.FlatMemory.{Memory, flat_memory}
 use Rattle.vm_world.specs.MemoryFits.{MemoryFits}
 use Rattle.vm_world.specs.NotesFit.{NotesFit}
 use Rattle.vm_world.specs.Segments.{Spot, Spaces}
-use Rattle.vm_world.specs.Serving.{TakesFrames, LosesFrame, AreReplaced}
+use Rattle.vm_world.specs.Serving.{TakesFrames, LosesFrame, AreReplaced, ModifiesOnly}
 use Rattle.vm_world.specs.StateSteps.{PendsTails}
 use Rattle.vm_world.specs.Wants.{accessed_page, shows_page}
 use Rattle.vm_world.specs.World.{World, AllTell}
@@ -32,7 +32,7 @@ use Rattle.vm_world.specs.declared.wants.Wants.TheVariants as wants
 use Rattle.vm_world.specs.Words.{KeepsPages}
 use Rattle.seg_ops.proofs.OwnShown.{own_shown_law}
 use Rattle.seg_ops.proofs.StillSteps.{memory_of}
-use Rattle.seg_ops.specs.Faults.{Accesses, FaultMeans, EndsThere, ServesFault, after_fault, is_past}
+use Rattle.seg_ops.specs.Faults.{Accesses, FaultMeans, FaultModifies, EndsThere, ServesFault, after_fault, is_past}
 use Rattle.seg_ops.specs.SlotsDue.{SlotsAfter}
 use Rattle.seg_vn.proofs.Takes.{takes-later, takes-next}
 
@@ -112,8 +112,8 @@ pub serves-made : (old before freed made new : World) (spaces : Spaces) (p q : �
     → ((born : set.FinSet nat_cmp) (notes : Notes) → NotesFit freed notes → AllTell freed notes → IsFlat (flat_memory (memory_of freed spaces) born notes)
     → f (flat_memory (memory_of freed spaces) born notes) ≡ after_fault (Ok fault.Loaded) write (flat_memory (memory_of freed spaces) born notes) p q)
     → KeepsPages made new spaces → translation_at new.hat.places p q ≡ Some (fresh_translation p q frame writable) → (write ≡ true → writable ≡ true) → SlotsAfter old new x write (Ok fault.Loaded)
-    → IsTrue (shows_page old x) → AreReplaced old new (is_name (next_name before.store)) → ServesFault (memory_of old spaces) (memory_of new spaces) pending more p q x write (Ok fault.Loaded)
-serves-made old before freed made new spaces p q x write writable pending more frame f fits keeps names files frees pends took makes same shows loaded lets slots some replaced = record {
+    → IsTrue (shows_page old x) → AreReplaced old new (is_name (next_name before.store)) → ModifiesOnly (FaultModifies new x (Ok fault.Loaded)) old new → ServesFault (memory_of old spaces) (memory_of new spaces) pending more p q x write (Ok fault.Loaded)
+serves-made old before freed made new spaces p q x write writable pending more frame f fits keeps names files frees pends took makes same shows loaded lets slots some replaced modified = record {
   mid = freed;
   first = takes-later old before freed spaces pending more fits keeps names files (takes-next before freed spaces pending more frees pends took);
   acts = call_rule.joined p (memory_of freed spaces) (memory_of made spaces) (memory_of new spaces) (λ F. after_fault (Ok fault.Loaded) write F p q) (λ F. F)
@@ -124,6 +124,7 @@ serves-made old before freed made new spaces p q x write writable pending more f
   slots = slots;
   past = sym (ap not some);
   replaced = replaced;
+  modified = modified;
   means = record { translation = fresh_translation p q frame writable; loaded = loaded; writable = lets };
 }
 
@@ -137,8 +138,8 @@ ends-there (Err (wants.Seat h)) w = refl
 -- NOTHING IS MADE: frames may be taken, and flat memory is as it was.
 pub serves-kept : (old new : World) (spaces : Spaces) (p q : ℕ) (x : Spot) (write : Bool) (pending more : ℕ) (answer : Result Fault Wants) (first : TakesFrames (memory_of old spaces) new pending more) → AreReplaced old new first.cut → is_past answer ≡ not (shows_page old x)
     → ((born : set.FinSet nat_cmp) (notes : Notes) → flat_memory (memory_of new spaces) born notes ≡ after_fault answer write (flat_memory (memory_of new spaces) born notes) p q)
-    → SlotsAfter old new x write answer → FaultMeans (memory_of old spaces) (memory_of new spaces) p q x write answer → ServesFault (memory_of old spaces) (memory_of new spaces) pending more p q x write answer
-serves-kept old new spaces p q x write pending more answer first replaced past same slots means = record {
+    → SlotsAfter old new x write answer → ModifiesOnly (FaultModifies new x answer) old new → FaultMeans (memory_of old spaces) (memory_of new spaces) p q x write answer → ServesFault (memory_of old spaces) (memory_of new spaces) pending more p q x write answer
+serves-kept old new spaces p q x write pending more answer first replaced past same slots modified means = record {
   mid = new;
   first = first;
   acts = record {
@@ -153,5 +154,6 @@ serves-kept old new spaces p q x write pending more answer first replaced past s
   slots = slots;
   past = past;
   replaced = replaced;
+  modified = modified;
   means = means;
 }

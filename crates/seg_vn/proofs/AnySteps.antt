@@ -1,5 +1,5 @@
 -- What faults come to at places of any mapping: where a page is shown where it is, and where zeros are made.
-use Rattle.std.proofs.Common.{◌≡◌, ◌≢◌, ℕ, ◌<◌, ◌+◌, Bool, true, false, cond, List, length, Option, Some, None, refl, sym, ap, ◌∙◌, inl, inr, subst, slice_set, Result, Ok, Err, not}
+use Rattle.std.proofs.Common.{◌≡◌, ◌≢◌, ℕ, ◌<◌, ◌+◌, Bool, true, false, cond, List, length, Option, Some, None, refl, sym, ap, ◌∙◌, inl, inr, subst, slice_set, Ok, Err, not}
 use Rattle.std.specs.Prelude.{IsTrue, IsFalse, ◌||◌, ◌^◌, is_some, nat_lt, option_map, option_and_then}
 use Rattle.std.specs.Option.{option_or, option_map_or}
 use Rattle.std.specs.FinSet as set
@@ -12,9 +12,9 @@ use Rattle.page_hash.specs.declared.PageName.{PageName}
 use Rattle.page_store.specs.Notes.{Notes}
 use Rattle.page_store.specs.Seen.{residence}
 use Rattle.page_store.specs.Steps.{next_frame, next_name}
+use Rattle.page_store.specs.declared.residence.Residence.TheVariants.{Home}
 use Rattle.page_store.specs.declared.plan.Plan.{Plan}
 use Rattle.page_store.specs.declared.plan.Plan.TheVariants as plan
-use Rattle.page_store.specs.declared.plan.Hold.{Hold}
 use Rattle.page_store.specs.declared.plan.Hold.TheVariants as hold
 use Rattle.hat_layer.specs.Pool.{translation_at, fresh_translation}
 use Rattle.vm_types.specs.Prot.{can_read, can_write}
@@ -25,13 +25,13 @@ use Rattle.vm_types.specs.declared.call.Kind.TheVariants.{Shared, Private}
 use Rattle.vm_types.specs.declared.call.Object.{Object}
 use Rattle.vm_types.specs.declared.call.Object.TheVariants as object
 use Rattle.vnode_files.specs.Files.{FilesSeen, vnode_at}
-use Rattle.flat_model.specs.Flat.{Flat}
 use Rattle.flat_model.specs.Step.{is_bit_set}
 use Rattle.flat_model.specs.Words.{page, pages_in}
 use Rattle.vm_world.specs.FlatMemory.{Memory, flat_memory}
 use Rattle.vm_world.specs.MemoryFits.{MemoryFits}
+use Rattle.vm_world.specs.Plans.{CanRunPlan}
 use Rattle.vm_world.specs.Segments.{Spot, Spaces, spot_at, own_slot, shown_name, object_name}
-use Rattle.vm_world.specs.Serving.{TakesFrames, KeepsWanted, ModifiesNone, AreReplaced}
+use Rattle.vm_world.specs.Serving.{TakesFrames, KeepsWanted, ModifiesNone, AreReplaced, IsWanted}
 use Rattle.vm_world.specs.StateSteps.{PendsTails}
 use Rattle.vm_world.specs.TranslationsFit.{MayWriteInPlace}
 use Rattle.vm_world.specs.Wants.{IsDirtyPage, MakesSlotFor, ShowsPage, WantsHome, accessed_page, object_has, shows_page}
@@ -39,8 +39,7 @@ use Rattle.vm_world.specs.World.{World, slot_in, slot_name}
 use Rattle.vm_world.specs.WorldSteps.{tails_lost}
 use Rattle.vm_world.proofs.FlatWhole.{some-inj}
 use Rattle.seg_ops.specs.OwnPages.{with_own_shown}
-use Rattle.seg_ops.specs.Plans.{IsAsked}
-use Rattle.seg_ops.specs.declared.plans.Fault.{Fault}
+use Rattle.seg_ops.specs.Plans.{FetchesPage, IsAsked}
 use Rattle.seg_ops.specs.declared.plans.Fault.TheVariants as fault
 use Rattle.vm_world.specs.declared.wants.Wants.{Wants}
 use Rattle.vm_world.specs.declared.wants.Wants.TheVariants as wants
@@ -53,12 +52,13 @@ use Rattle.seg_ops.proofs.SlotPlaces.{own-else, slot-here}
 use Rattle.seg_ops.proofs.StillSteps.{memory_of}
 use Rattle.seg_vn.specs.AnyPlaces.{PagePlace, ZerosShown}
 use Rattle.seg_vn.specs.Brings.{BringsPage}
-use Rattle.seg_ops.specs.Faults.{Accesses, FaultMeans, NeedsTransfer, ServesFault, after_fault}
+use Rattle.seg_ops.specs.Faults.{Accesses, FaultMeans, ServesFault, WaitsFor, after_fault}
 use Rattle.seg_vn.specs.Shown.{ZerosPlace}
-use Rattle.seg_ops.specs.SlotsDue.{KeepsSlots, SlotsAfter}
+use Rattle.seg_ops.specs.SlotsDue.{KeepsSlots}
 use Rattle.seg_vn.proofs.AnyFaults.{accessed, serves-kept}
 use Rattle.seg_vn.proofs.AnyPlaces.{kept-shared, kept-own, kept-new, private-has}
-use Rattle.seg_vn.proofs.Faulted.{access-wants, wanted-name, absent-home}
+use Rattle.seg_vn.proofs.Faulted.{access-wants, wanted-name}
+use Rattle.seg_vn.proofs.Modifying.{loaded-modifies}
 use Rattle.seg_vn.proofs.FilePlaces.{either-allowed}
 use Rattle.seg_vn.proofs.SlotsDue.{due-none, slots-kept}
 use Rattle.seg_vn.proofs.Takes.{or-false, takes-none, takes-then}
@@ -99,6 +99,18 @@ kept-in-place w spaces p q x true writable born notes fits here lets in_place = 
     by_kind Shared kind = sym (kept-shared w spaces p q x fits here born notes kind)
     by_kind Private kind = let a = (in_place (lets refl)).alone kind in sym (kept-own w spaces p q x fits here born notes a.0 a.1)
 
+-- A PAGE THAT IS SHOWN and that isn't home: what it needs, each access of the place wants first.
+fetch-wants : (want : Wants) (m : Memory) (name : PageName) → FetchesPage m name want → (calls : List (Option ℕ)) (p : ℕ) (call : Call) → WantsHome m p call name → IsWanted m calls p call want
+fetch-wants (wants.Transfer plan) m name f calls p call w = record { may = f.may (p, call) w; ready = f.ready; frame = f.frame }
+fetch-wants (wants.Seat h) m name f calls p call w = f calls (p, call) w
+
+pub shown-waits : (old mid : World) (spaces : Spaces) (p q : ℕ) (x : Spot) (write : Bool) (name : PageName) (want : Wants) → ShowsPage (memory_of mid spaces) p q x → shown_name mid.maps x ≡ Some name
+    → FetchesPage (memory_of mid spaces) name want → ((frame : ℕ) → residence old.store name ≢ Home frame) → WaitsFor (memory_of old spaces) (memory_of mid spaces) p q write want
+shown-waits old mid spaces p q x write name want there shows f apart = record {
+  wants = λ calls call acc. fetch-wants want (memory_of mid spaces) name f calls p call (access-wants (memory_of mid spaces) p q x call name (accessed write q call acc) there shows);
+  kept = λ call acc other frame wants home. absurd (apart frame (ap (residence old.store) (sym (wanted-name (memory_of mid spaces) p q x call name other (accessed write q call acc) there.here shows wants)) ∙ home));
+}
+
 module _ (old mid : World) (spaces : Spaces) (p q : ℕ) (x : Spot) (write writable : Bool) (pending more : ℕ) (name : PageName) (fits : MemoryFits (memory_of old spaces)) (place : PagePlace old spaces p q x name write writable)
     (maps : mid.maps ≡ old.maps) (anon : mid.anon ≡ old.anon) (files : mid.files ≡ old.files) where
   pub may-show : MayShow mid spaces p q name writable
@@ -110,75 +122,50 @@ module _ (old mid : World) (spaces : Spaces) (p q : ℕ) (x : Spot) (write writa
     in_place = λ writes. in-place-still old mid x maps anon (place.in_place writes);
   }
 
-  pub page-loaded : (new : World) (frame : ℕ) → BringsPage (memory_of old spaces) (memory_of mid spaces) pending more name (Ok tt) → KeepsPages mid new spaces → new.store.names ≡ mid.store.names → new.maps ≡ mid.maps → new.anon ≡ mid.anon
+  pub page-loaded : (new : World) (frame : ℕ) → BringsPage (memory_of old spaces) (memory_of mid spaces) pending more name (Ok tt) → KeepsPages mid new spaces → new.store.names ≡ mid.store.names → ModifiesNone mid new → new.maps ≡ mid.maps → new.anon ≡ mid.anon
       → translation_at new.hat.places p q ≡ Some (fresh_translation p q frame writable) → ServesFault (memory_of old spaces) (memory_of new spaces) pending more p q x write (Ok fault.Loaded)
-  page-loaded new frame b keeps names maps' anon' loaded =
+  page-loaded new frame b keeps names modified maps' anon' loaded =
       serves-kept old new spaces p q x write pending more (Ok fault.Loaded) (takes-then old mid new spaces pending more fits b.first keeps names)
       (replaced-beside old new b.first.cut (replaced-then old mid new b.first.cut names b.replaced)) (sym (ap not place.some))
       (λ born notes. kept-in-place new spaces p q x write writable born notes keeps.memory place.here place.lets (λ writes. in-place-still old new x (maps' ∙ maps) (anon' ∙ anon) (place.in_place writes)))
       (slots-kept old new x write (due-none old.anon old.maps x write name place.shows (λ writes. place.in_place (place.lets writes))) (anon' ∙ anon) (maps' ∙ maps))
+      (loaded-modifies old mid new x name b.modified modified (ap (λ (ms : List (Option maps_of.Map)). shown_name ms x) (maps' ∙ maps) ∙ place.shows) anon')
       (record { translation = fresh_translation p q frame writable; loaded = loaded; writable = place.lets })
 
   shows-there : shown_name mid.maps x ≡ Some name
   shows-there = ap (λ (ms : List (Option maps_of.Map)). shown_name ms x) maps ∙ place.shows
 
-  pub page-needs : (plan : Plan) → BringsPage (memory_of old spaces) (memory_of mid spaces) pending more name (Err (wants.Transfer plan)) → ServesFault (memory_of old spaces) (memory_of mid spaces) pending more p q x write (Err (wants.Transfer plan))
-  page-needs plan b = serves-kept old mid spaces p q x write pending more (Err (wants.Transfer plan)) b.first b.replaced (sym (ap not place.some)) (λ born notes. refl) (record { counts = anon; places = maps }) (record {
-    runs = λ call acc. record {
-      may = b.means.0.may (p, call) (access-wants (memory_of mid spaces) p q x call name (accessed write q call acc) (there-still old mid spaces p q x place.here place.some maps files) shows-there);
-      ready = b.means.0.ready;
-      frame = b.means.0.frame;
-    };
-    wanted = λ call acc other frame wants home. absurd (absent-home (residence old.store name) frame b.means.1
-        (ap (residence old.store) (sym (wanted-name (memory_of mid spaces) p q x call name other (accessed write q call acc) place.here shows-there wants)) ∙ home));
-    modified = b.means.2;
-  })
-
-  pub page-busy : (h : Hold) → BringsPage (memory_of old spaces) (memory_of mid spaces) pending more name (Err (wants.Seat h)) → ServesFault (memory_of old spaces) (memory_of mid spaces) pending more p q x write (Err (wants.Seat h))
-  page-busy h b = serves-kept old mid spaces p q x write pending more (Err (wants.Seat h)) b.first b.replaced (sym (ap not place.some)) (λ born notes. refl) (record { counts = anon; places = maps })
-      (λ calls call acc. b.means.0 calls (p, call) (access-wants (memory_of mid spaces) p q x call name (accessed write q call acc) (there-still old mid spaces p q x place.here place.some maps files) shows-there), b.means.1)
-
   pub page-waits : (want : Wants) → BringsPage (memory_of old spaces) (memory_of mid spaces) pending more name (Err want) → ServesFault (memory_of old spaces) (memory_of mid spaces) pending more p q x write (Err want)
-  page-waits (wants.Transfer plan) b = page-needs plan b
-  page-waits (wants.Seat h) b = page-busy h b
+  page-waits want b =
+      serves-kept old mid spaces p q x write pending more (Err want) b.first b.replaced (sym (ap not place.some)) (λ born notes. refl) (record { counts = anon; places = maps }) b.modified
+      (shown-waits old mid spaces p q x write name want (there-still old mid spaces p q x place.here place.some maps files) shows-there b.means.0 b.means.1)
 
 -- A FRAME IS WANTED for a page that is made, and none can be had.
-pub pushes-made : (old w : World) (spaces : Spaces) (p q : ℕ) (x : Spot) (write : Bool) (victim : PageName) (answer : Wants) → MemoryFits (memory_of w spaces) → ShowsPage (memory_of w spaces) p q x
-    → ((call : Call) → Accesses write q call → MakesSlotFor w x call) → ((call : Call) → Accesses write q call → KeepsWanted (memory_of old spaces) (memory_of w spaces) p call) → ModifiesNone old w
-    → next_frame w.store ≡ None → IsDirtyPage w victim → IsAsked w (plan.Push victim) answer → FaultMeans (memory_of old spaces) (memory_of w spaces) p q x write (Err answer)
-pushes-made old w spaces p q x write victim (wants.Transfer a) f there makes wanted modified none dirty asked = subst (λ (b : Plan). NeedsTransfer (memory_of old spaces) (memory_of w spaces) p q write b) (sym asked.0) (record {
-  runs = λ call acc. record {
-    may = (dirty, inr (inr (q, x, accessed write q call acc, there, makes call acc), none));
-    ready = asked.1;
-    frame = λ read. absurd (let z : true ≡ false = read in cc);
-  };
-  wanted = wanted;
-  modified = modified;
+asked-wants : (w : World) (spaces : Spaces) (p q : ℕ) (x : Spot) (victim : PageName) (answer : Wants) (calls : List (Option ℕ)) (call : Call) → MemoryFits (memory_of w spaces) → accessed_page call ≡ Some q → ShowsPage (memory_of w spaces) p q x
+    → MakesSlotFor w x call → next_frame w.store ≡ None → IsDirtyPage w victim → IsAsked w (plan.Push victim) answer → IsWanted (memory_of w spaces) calls p call answer
+asked-wants w spaces p q x victim (wants.Transfer a) calls call f acc there makes none dirty asked = subst (λ (b : Plan). CanRunPlan (memory_of w spaces) (Some (p, call)) b) (sym asked.0) (record {
+  may = (dirty, inr (inr (q, x, acc, there, makes), none));
+  ready = asked.1;
+  frame = λ read. absurd (let z : true ≡ false = read in cc);
 })
-pushes-made old w spaces p q x write victim (wants.Seat (hold.Page seat)) f there makes wanted modified none dirty asked = absurd (home-free w spaces victim dirty.frame seat f dirty.home asked)
-pushes-made old w spaces p q x write victim (wants.Seat (hold.Disk seat)) f there makes wanted modified none dirty asked = (
-  λ calls call acc.
-      (plan.Push victim, (dirty, inr (inr (q, x, accessed write q call acc, there, makes call acc), none)), asked),
-  modified,
-)
-pushes-made old w spaces p q x write victim (wants.Seat (hold.File seat)) f there makes wanted modified none dirty asked = absurd asked
+asked-wants w spaces p q x victim (wants.Seat (hold.Page seat)) calls call f acc there makes none dirty asked = absurd (home-free w spaces victim dirty.frame seat f dirty.home asked)
+asked-wants w spaces p q x victim (wants.Seat (hold.Disk seat)) calls call f acc there makes none dirty asked = (plan.Push victim, (dirty, inr (inr (q, x, acc, there, makes), none)), asked)
+asked-wants w spaces p q x victim (wants.Seat (hold.File seat)) calls call f acc there makes none dirty asked = absurd asked
 
--- what is answered then leaves flat memory
-asked-keeps : (w : World) (victim : PageName) (answer : Wants) (write : Bool) (F : Flat) (p q : ℕ) → IsAsked w (plan.Push victim) answer → F ≡ after_fault (Err answer) write F p q
-asked-keeps w victim (wants.Transfer a) write F p q asked = refl
-asked-keeps w victim (wants.Seat h) write F p q asked = refl
-
--- .. and slots
-asked-slots : (old w : World) (x : Spot) (victim : PageName) (answer : Wants) (write : Bool) → IsAsked w (plan.Push victim) answer → KeepsSlots old w → SlotsAfter old w x write (Err answer)
-asked-slots old w x victim (wants.Transfer a) write asked kept = kept
-asked-slots old w x victim (wants.Seat h) write asked kept = kept
+pub pushes-made : (old w : World) (spaces : Spaces) (p q : ℕ) (x : Spot) (write : Bool) (victim : PageName) (answer : Wants) → MemoryFits (memory_of w spaces) → ShowsPage (memory_of w spaces) p q x
+    → ((call : Call) → Accesses write q call → MakesSlotFor w x call) → ((call : Call) → Accesses write q call → KeepsWanted (memory_of old spaces) (memory_of w spaces) p call)
+    → next_frame w.store ≡ None → IsDirtyPage w victim → IsAsked w (plan.Push victim) answer → FaultMeans (memory_of old spaces) (memory_of w spaces) p q x write (Err answer)
+pushes-made old w spaces p q x write victim answer f there makes wanted none dirty asked = record {
+  wants = λ calls call acc. asked-wants w spaces p q x victim answer calls call f (accessed write q call acc) there (makes call acc) none dirty asked;
+  kept = wanted;
+}
 
 pub made-asks : (old w : World) (spaces : Spaces) (p q : ℕ) (x : Spot) (write : Bool) (pending more : ℕ) (victim : PageName) (answer : Wants) (first : TakesFrames (memory_of old spaces) w pending more) → AreReplaced old w first.cut → IsTrue (shows_page old x) → KeepsSlots old w → ShowsPage (memory_of w spaces) p q x
     → ((call : Call) → Accesses write q call → MakesSlotFor w x call) → ((call : Call) → Accesses write q call → KeepsWanted (memory_of old spaces) (memory_of w spaces) p call) → ModifiesNone old w
     → next_frame w.store ≡ None → IsDirtyPage w victim → IsAsked w (plan.Push victim) answer → ServesFault (memory_of old spaces) (memory_of w spaces) pending more p q x write (Err answer)
 made-asks old w spaces p q x write pending more victim answer first replaced some kept there makes wanted modified none dirty asked =
-    serves-kept old w spaces p q x write pending more (Err answer) first replaced (sym (ap not some)) (λ born notes. asked-keeps w victim answer write (flat_memory (memory_of w spaces) born notes) p q asked) (asked-slots old w x victim answer write asked kept)
-    (pushes-made old w spaces p q x write victim answer first.step.memory there makes wanted modified none dirty asked)
+    serves-kept old w spaces p q x write pending more (Err answer) first replaced (sym (ap not some)) (λ born notes. refl) kept (λ n k at m. inr (modified n k at m))
+    (pushes-made old w spaces p q x write victim answer first.step.memory there makes wanted none dirty asked)
 
 -- ZEROS: no page is shown, and an access makes one.
 pub shown-bare : (maps : List (Option maps_of.Map)) (x : Spot) → own_slot maps x ≡ None → object_name maps x.0.shown (x.0.index + x.1) x.0.object ≡ None → shown_name maps x ≡ None
@@ -286,12 +273,16 @@ zeros-get w spaces p q x m i s put fits here bare zeros set = elim zeros.new [
       ∙ ap (option_map slot_name) (slot-here w.maps m i (Some s) zeros.within)
 ]
 
+pub zeros-there : (w made : World) (spaces : Spaces) (p q : ℕ) (x : Spot) (m i s : ℕ) (write writable : Bool) → MemoryFits (memory_of w spaces) → ZerosShown w spaces p q x m i write writable
+    → made.maps ≡ with_places w.maps m (slice_set (places_of w.maps m) i (Some s)) → shown_name made.maps x ≡ Some (slot_name s)
+zeros-there w made spaces p q x m i s write writable fits z set = zeros-get w spaces p q x m i s made.maps fits z.here z.bare z.zeros set
+
 pub zeros-may : (w made : World) (spaces : Spaces) (p q : ℕ) (x : Spot) (m i s : ℕ) (write writable : Bool) → MemoryFits (memory_of w spaces) → ZerosShown w spaces p q x m i write writable
     → made.maps ≡ with_places w.maps m (slice_set (places_of w.maps m) i (Some s)) → count_at made.anon s ≡ 1 → MayShow made spaces p q (slot_name s) writable
 zeros-may w made spaces p q x m i s write writable fits z set once = record {
   spot = x;
   here = z.here;
-  shows = zeros-get w spaces p q x m i s made.maps fits z.here z.bare z.zeros set;
+  shows = zeros-there w made spaces p q x m i s write writable fits z set;
   allowed = z.allowed;
   in_place = λ writes. record {
     prot = (z.in_place writes).0;
@@ -341,5 +332,5 @@ shared-in-place w spaces p q x fits here own writes = record {
 -- nothing is shown past the object's end
 pub past-serves : (w : World) (spaces : Spaces) (p q : ℕ) (x : Spot) (write : Bool) (pending : ℕ) → MemoryFits (memory_of w spaces) → own_slot w.maps x ≡ None → IsFalse (object_has w x.0.shown (x.0.index + x.1) x.0.object)
     → ServesFault (memory_of w spaces) (memory_of w spaces) pending pending p q x write (Ok fault.Past)
-past-serves w spaces p q x write pending fits bare past = serves-kept w w spaces p q x write pending pending (Ok fault.Past) (takes-none w w spaces pending (keeps-same w spaces fits)) (none-replaced w w) (sym (ap not (ap (λ (o : Option ℕ). is_some o || object_has w x.0.shown (x.0.index + x.1) x.0.object) bare ∙ past))) (λ born notes. refl) (record { counts = refl; places = refl })
+past-serves w spaces p q x write pending fits bare past = serves-kept w w spaces p q x write pending pending (Ok fault.Past) (takes-none w w spaces pending (keeps-same w spaces fits)) (none-replaced w w) (sym (ap not (ap (λ (o : Option ℕ). is_some o || object_has w x.0.shown (x.0.index + x.1) x.0.object) bare ∙ past))) (λ born notes. refl) (record { counts = refl; places = refl }) (λ n k at m. inr (at, m))
     (ap (λ (o : Option ℕ). is_some o || object_has w x.0.shown (x.0.index + x.1) x.0.object) bare ∙ past)

@@ -1,5 +1,5 @@
 -- Stores to private pages that aren't their cell's alone, by the steps that they take.
-use Rattle.std.proofs.Common.{◌≡◌, ℕ, ◌<◌, ◌+◌, Bool, true, false, List, length, Option, Some, None, refl, sym, ap, ◌∙◌, inl, subst, arith, slice_set, Result, Ok, Err, not}
+use Rattle.std.proofs.Common.{◌≡◌, ℕ, ◌<◌, ◌+◌, Bool, true, false, List, length, Option, Some, None, refl, sym, ap, ◌∙◌, inl, subst, arith, slice_set, Ok, Err, not, inr}
 use Rattle.std.specs.Prelude.{IsTrue, ◌||◌, is_some, nat_lt, option_map, option_and_then, unwrap_or}
 use Rattle.std.specs.Option.{option_or, option_map_or}
 use Rattle.std.specs.FinSet as set
@@ -30,7 +30,7 @@ use Rattle.vm_world.specs.FlatMemory.{cell_of, flat_memory, own_without_slot}
 use Rattle.vm_world.specs.MemoryFits.{MemoryFits}
 use Rattle.vm_world.specs.Pages.{page_value, contents_of}
 use Rattle.vm_world.specs.Segments.{Spot, Spaces, spot_at, own_slot, shown_name, object_name}
-use Rattle.vm_world.specs.Serving.{TakesFrames, KeepsWanted, ModifiesNone, AreReplaced}
+use Rattle.vm_world.specs.Serving.{TakesFrames, KeepsWanted, ModifiesNone, ModifiesOnly, AreReplaced}
 use Rattle.vm_world.specs.StateSteps.{PendsTails}
 use Rattle.vm_world.specs.Wants.{MakesSlotFor, ShowsPage, accessed_page, object_has, shows_page}
 use Rattle.vm_world.specs.World.{World, slot_in, slot_name, file_name, is_unpushed, page_exists, world_table}
@@ -41,7 +41,6 @@ use Rattle.vm_world.proofs.StoredPages.{zeros-are}
 use Rattle.seg_ops.specs.OwnPages.{with_own_shown}
 use Rattle.seg_ops.specs.Slots.{OwnsAlone}
 use Rattle.seg_ops.specs.Plans.{FetchesPage}
-use Rattle.seg_ops.specs.declared.plans.Fault.{Fault}
 use Rattle.seg_ops.specs.declared.plans.Fault.TheVariants as fault
 use Rattle.vm_world.specs.declared.wants.Wants.{Wants}
 use Rattle.vm_world.specs.declared.wants.Wants.TheVariants as wants
@@ -55,12 +54,12 @@ use Rattle.seg_ops.proofs.SlotMemory.{home-value_bytes}
 use Rattle.seg_ops.proofs.SlotOwners.{places_law}
 use Rattle.seg_ops.proofs.StillSteps.{memory_of, value-is}
 use Rattle.seg_vn.specs.AnyPlaces.{CellShows, CopyPlace, OwnSpot, ShowsZeros}
-use Rattle.seg_ops.specs.Faults.{Accesses, ServesFault}
+use Rattle.seg_ops.specs.Faults.{Accesses, FaultModifies, ServesFault}
 use Rattle.seg_ops.specs.SlotsDue.{KeepsSlots, SlotsAfter, slot_due}
-use Rattle.seg_vn.proofs.AnyFaults.{accessed, changes-kept, serves-kept}
+use Rattle.seg_vn.proofs.AnyFaults.{changes-kept, serves-kept}
 use Rattle.seg_vn.proofs.AnyPlaces.{own-none, own-private, file-shown, zero-shown, zero-at}
-use Rattle.seg_vn.proofs.AnySteps.{makes-copy, own-gets, own-shown, pends-then, shows-same, wanted-none}
-use Rattle.seg_vn.proofs.Faulted.{access-wants, wanted-name, absent-home}
+use Rattle.seg_vn.proofs.AnySteps.{makes-copy, own-gets, own-shown, pends-then, shown-waits, shows-same, wanted-none}
+use Rattle.seg_vn.proofs.Faulted.{wanted-name, absent-home}
 use Rattle.seg_vn.proofs.SlotsDue.{due-own}
 use Rattle.seg_vn.proofs.Takes.{takes-none}
 use Rattle.seg_vn.proofs.Replacements.{none-replaced}
@@ -101,8 +100,8 @@ takes-more old freed spaces a b c t second none files = record { cut = t.cut; st
 -- THE CELL GOT ITS PAGE, and the translation of that is loaded.
 pub serves-after : (old freed made new : World) (spaces : Spaces) (p q : ℕ) (x : Spot) (pending more frame : ℕ) (first : TakesFrames (memory_of old spaces) freed pending more) → AreReplaced old new first.cut → IsTrue (shows_page old x)
     → ChangesMemory p (memory_of freed spaces) (memory_of made spaces) (λ F G. G ≡ with_own_shown F p q) → KeepsPages made new spaces → translation_at new.hat.places p q ≡ Some (fresh_translation p q frame true) → SlotsAfter old new x true (Ok fault.Loaded)
-    → ServesFault (memory_of old spaces) (memory_of new spaces) pending more p q x true (Ok fault.Loaded)
-serves-after old freed made new spaces p q x pending more frame first replaced some makes shows loaded slots = record {
+    → ModifiesOnly (FaultModifies new x (Ok fault.Loaded)) old new → ServesFault (memory_of old spaces) (memory_of new spaces) pending more p q x true (Ok fault.Loaded)
+serves-after old freed made new spaces p q x pending more frame first replaced some makes shows loaded slots modified = record {
   mid = freed;
   first = first;
   acts = call_rule.joined p (memory_of freed spaces) (memory_of made spaces) (memory_of new spaces) (λ F. with_own_shown F p q) (λ F. F)
@@ -111,10 +110,16 @@ serves-after old freed made new spaces p q x pending more frame first replaced s
   slots = slots;
   past = sym (ap not some);
   replaced = replaced;
+  modified = modified;
   means = record { translation = fresh_translation p q frame true; loaded = loaded; writable = λ is. refl };
 }
 
--- the page of the slot that was made may be shown
+-- the page of the slot that was made is shown there, ..
+pub copy-shown : (w made : World) (spaces : Spaces) (p q m i s : ℕ) (x : Spot) (slot : Option ℕ) (shown : Option PageName) → CopyPlace w spaces p q x m i slot shown → i < length (places_of w.maps m)
+    → made.maps ≡ with_places w.maps m (slice_set (places_of w.maps m) i (Some s)) → shown_name made.maps x ≡ Some (slot_name s)
+copy-shown w made spaces p q m i s x slot shown c within set = own-shown made.maps x s (own-gets w.maps made.maps x m i s set within c.own c.place)
+
+-- .. and may be
 pub copy-may : (w made : World) (spaces : Spaces) (p q m i s : ℕ) (x : Spot) (slot : Option ℕ) (shown : Option PageName) → CopyPlace w spaces p q x m i slot shown → i < length (places_of w.maps m)
     → made.maps ≡ with_places w.maps m (slice_set (places_of w.maps m) i (Some s)) → count_at made.anon s ≡ 1 → MayShow made spaces p q (slot_name s) true
 copy-may w made spaces p q m i s x slot shown c within set once =
@@ -272,18 +277,11 @@ zeros-stay w v (Some name) stay files anon zs = (
 pub away-serves : (w : World) (spaces : Spaces) (p q : ℕ) (x : Spot) (write : Bool) (pending seat : ℕ) (name : PageName) → MemoryFits (memory_of w spaces) → spot_at spaces p q ≡ Some x → IsTrue (shows_page w x) → shown_name w.maps x ≡ Some name
     → residence w.store name ≡ Moving seat → ServesFault (memory_of w spaces) (memory_of w spaces) pending pending p q x write (Err (wants.Seat (hold.Page seat)))
 away-serves w spaces p q x write pending seat name fits here some shows away =
-    serves-kept w w spaces p q x write pending pending (Err (wants.Seat (hold.Page seat))) (takes-none w w spaces pending (keeps-same w spaces fits)) (none-replaced w w) (sym (ap not some)) (λ born notes. refl) (record { counts = refl; places = refl })
-    (λ calls call acc. (name, inl (access-wants (memory_of w spaces) p q x call name (accessed write q call acc) (record { here = here; some = some }) shows), away), λ n frame home is. (home, is))
+    serves-kept w w spaces p q x write pending pending (Err (wants.Seat (hold.Page seat))) (takes-none w w spaces pending (keeps-same w spaces fits)) (none-replaced w w) (sym (ap not some)) (λ born notes. refl) (record { counts = refl; places = refl }) (λ n k at m. inr (at, m))
+    (shown-waits w w spaces p q x write name (wants.Seat (hold.Page seat)) (record { here = here; some = some }) shows (λ calls of w. (name, inl w, away)) (λ frame home. let z : Moving seat ≡ Home frame = sym away ∙ home in cc))
 
 pub fetch-serves : (old mid : World) (spaces : Spaces) (p q : ℕ) (x : Spot) (write : Bool) (pending : ℕ) (name : PageName) (answer : Wants) → IsTrue (shows_page old x) → KeepsPages old mid spaces → KeepsSlots old mid → residence old.store name ≡ Absent → ModifiesNone old mid
     → ShowsPage (memory_of mid spaces) p q x → shown_name mid.maps x ≡ Some name → FetchesPage (memory_of mid spaces) name answer → ServesFault (memory_of old spaces) (memory_of mid spaces) pending pending p q x write (Err answer)
-fetch-serves old mid spaces p q x write pending name (wants.Transfer plan) some keeps kept absent modified there shows f =
-    serves-kept old mid spaces p q x write pending pending (Err (wants.Transfer plan)) (takes-none old mid spaces pending keeps) (none-replaced old mid) (sym (ap not some)) (λ born notes. refl) kept (record {
-      runs = λ call acc. record { may = f.may (p, call) (access-wants (memory_of mid spaces) p q x call name (accessed write q call acc) there shows); ready = f.ready; frame = f.frame };
-      wanted = λ call acc other frame wants home. absurd (absent-home (residence old.store name) frame absent
-          (ap (residence old.store) (sym (wanted-name (memory_of mid spaces) p q x call name other (accessed write q call acc) there.here shows wants)) ∙ home));
-      modified = modified;
-    })
-fetch-serves old mid spaces p q x write pending name (wants.Seat h) some keeps kept absent modified there shows f =
-    serves-kept old mid spaces p q x write pending pending (Err (wants.Seat h)) (takes-none old mid spaces pending keeps) (none-replaced old mid) (sym (ap not some)) (λ born notes. refl) kept
-    (λ calls call acc. f calls (p, call) (access-wants (memory_of mid spaces) p q x call name (accessed write q call acc) there shows), modified)
+fetch-serves old mid spaces p q x write pending name answer some keeps kept absent modified there shows f =
+    serves-kept old mid spaces p q x write pending pending (Err answer) (takes-none old mid spaces pending keeps) (none-replaced old mid) (sym (ap not some)) (λ born notes. refl) kept (λ n k at m. inr (modified n k at m))
+    (shown-waits old mid spaces p q x write name answer there shows f (λ frame home. absent-home (residence old.store name) frame absent home))

@@ -7,14 +7,16 @@ use Rattle.anon_map.proofs.MapLaws.{with_places_free, with_places_same, with_pla
 use Rattle.anon_slots.specs.Slots.{AnonSlotsSeen, count_at}
 use Rattle.hat_layer.specs.Pool.{HatSeen, translation_at}
 use Rattle.vm_world.specs.MapSteps.{maps_released}
+use Rattle.vm_world.specs.Serving.{ModifiesNone}
 use Rattle.vm_world.specs.World.{World}
 use Rattle.vm_world.proofs.KeptMaps.{same-places, same-there}
 use Rattle.vm_world.proofs.MapChanges.{there-within, released-else, released-last, slot-replicate}
+use Rattle.seg_ops.proofs.Modified.{modifies-same, modifies-then}
 use Rattle.seg_ops.proofs.SlotPlaces.{places-after}
 use Rattle.seg_vn.specs.Clears.{GivesBack}
 
 pub gives-none : (w : World) → GivesBack w w
-gives-none w = record { fall = λ slot. omega arith; none = λ p q is. is; there = λ n is. is; lengths = λ n is. refl; numbers = omega arith }
+gives-none w = record { fall = λ slot. omega arith; none = λ p q is. is; there = λ n is. is; lengths = λ n is. refl; numbers = omega arith; modified = modifies-same w }
 
 pub gives-then : (u v w : World) → GivesBack u v → GivesBack v w → GivesBack u w
 gives-then u v w a b = record {
@@ -23,16 +25,18 @@ gives-then u v w a b = record {
   there = λ n is. a.there n (b.there n is);
   lengths = λ n is. b.lengths n is ∙ a.lengths n (b.there n is);
   numbers = let x = a.numbers in let y = b.numbers in omega (arith, x, y);
+  modified = modifies-then u v w a.modified b.modified;
 }
 
 -- by translations that go
-pub unloaded-given : (u v : World) → v.anon ≡ u.anon → v.maps ≡ u.maps → ((p q : ℕ) → translation_at u.hat.places p q ≡ None → translation_at v.hat.places p q ≡ None) → GivesBack u v
-unloaded-given u v anon maps none = record {
+pub unloaded-given : (u v : World) → v.anon ≡ u.anon → v.maps ≡ u.maps → ((p q : ℕ) → translation_at u.hat.places p q ≡ None → translation_at v.hat.places p q ≡ None) → ModifiesNone u v → GivesBack u v
+unloaded-given u v anon maps none modified = record {
   fall = λ slot. let e = ap (λ (a : AnonSlotsSeen). count_at a slot) anon in omega (arith, e);
   none = none;
   there = λ n. subst (λ (ms : List (Option Map)). IsMapThere ms n) maps;
   lengths = λ n is. ap (λ (ms : List (Option Map)). length (places_of ms n)) maps;
   numbers = let e = ap (λ (ms : List (Option Map)). free_numbers ms) maps in omega (arith, e);
+  modified = modified;
 }
 
 -- A MAP THAT GETS OTHER PLACES, as many
@@ -43,8 +47,8 @@ module _ (u v : World) (n : ℕ) (ps : List (Option ℕ)) (is : IsMapThere u.map
   apart : (k : ℕ) → k ≢ n → anon_map_at v.maps k ≡ anon_map_at u.maps k
   apart k ne = ap (λ (ms : List (Option Map)). anon_map_at ms k) maps ∙ with_places_other u.maps n k ps ne
 
-  pub places-given : ((slot : ℕ) → count_at v.anon slot ≤ count_at u.anon slot) → v.hat ≡ u.hat → GivesBack u v
-  places-given fall hat = record {
+  pub places-given : ((slot : ℕ) → count_at v.anon slot ≤ count_at u.anon slot) → v.hat ≡ u.hat → ModifiesNone u v → GivesBack u v
+  places-given fall hat modified = record {
     fall = fall;
     none = λ p q none. ap (λ (h : HatSeen). translation_at h.places p q) hat ∙ none;
     there = λ k there. elim (cases_eq k n) [
@@ -56,6 +60,7 @@ module _ (u v : World) (n : ℕ) (ps : List (Option ℕ)) (is : IsMapThere u.map
       | inr ne ↦ ap (λ (l : List (Option ℕ)). length l) (same-places u.maps v.maps k (apart k ne))
     ];
     numbers = let a = ap (λ (ms : List (Option Map)). free_numbers ms) maps in let b = with_places_free u.maps n ps is in omega (arith, a, b);
+    modified = modified;
   }
 
   -- and those of all maps are as empty as before, where these are
@@ -117,4 +122,5 @@ release-given u v o r there is = subst (λ (w : World). GivesBack u w) (sym is) 
   there = λ k. released-there u.maps o k there;
   lengths = λ k. released-lengths u.maps o k there;
   numbers = released-free u.maps o there;
+  modified = λ name k home m. (home, m);
 })

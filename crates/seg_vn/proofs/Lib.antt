@@ -9,6 +9,7 @@ pub mod ClearedSpaces
 pub mod Takes
 pub mod Replacements
 pub mod Brings
+pub mod Modifying
 pub mod FilePlaces
 pub mod Faulted
 pub mod SlotsDue

@@ -41,10 +41,6 @@ or-left : (a b : Bool) → (a || b) ≡ false → a ≡ false
 or-left true b is = absurd (let z : true ≡ false = is in cc)
 or-left false b is = refl
 
-some-left : (a b : Bool) → a ≡ true → (a || b) ≡ true
-some-left true b is = refl
-some-left false b is = absurd (let z : false ≡ true = is in cc)
-
 is-none : (o : Option ℕ) → is_some o ≡ false → o ≡ None
 is-none None is = refl
 is-none (Some n) is = absurd (let z : true ≡ false = is in cc)

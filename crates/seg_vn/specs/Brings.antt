@@ -1,26 +1,31 @@
 -- How a page comes home. Inside: no public clause cites this.
-use Rattle.std.specs.Prelude.{◌≡◌, ℕ, Result, Ok, Err}
+use Rattle.std.specs.Prelude.{◌≡◌, ◌≢◌, ℕ, Result, Ok, Err}
 use Rattle.page_hash.specs.declared.PageName.{PageName}
 use Rattle.page_store.specs.Seen.{residence}
-use Rattle.page_store.specs.declared.residence.Residence.TheVariants.{Home, Absent}
+use Rattle.page_store.specs.declared.residence.Residence.TheVariants.{Home}
 use Rattle.vm_world.specs.FlatMemory.{Memory}
 use Rattle.vm_world.specs.Segments.{Spaces}
-use Rattle.vm_world.specs.Serving.{AreReplaced, TakesFrames, ModifiesNone}
+use Rattle.vm_world.specs.Serving.{AreReplaced, IsUnpushedSlot, ModifiesOnly, TakesFrames}
 use Rattle.vm_world.specs.Words.{memory}
+use Rattle.vm_world.specs.World.{World}
 use Rattle.vm_world.specs.declared.world.World as rust
-use Rattle.seg_ops.specs.Plans.{NeedsPlan, FetchesPage}
+use Rattle.seg_ops.specs.Plans.{FetchesPage}
 use Rattle.vm_world.specs.declared.wants.Wants.{Wants}
-use Rattle.vm_world.specs.declared.wants.Wants.TheVariants.{Transfer, Seat}
 
--- The page is home; or it was absent, and is to be transferred; or it has to be waited for.
+-- The page is home; or it wasn't, and this must come first.
 abbrev pub IsBrought : Memory → Memory → PageName → Result Unit Wants → Type 0
 IsBrought old new name (Ok done) = (frame : ℕ) × (residence new.world.store name ≡ Home frame)
-IsBrought old new name (Err (Transfer plan)) = NeedsPlan new name plan × (residence old.world.store name ≡ Absent) × ModifiesNone old.world new.world
-IsBrought old new name (Err (Seat h)) = FetchesPage new name (Seat h) × ModifiesNone old.world new.world
+IsBrought old new name (Err want) = FetchesPage new name want × ((frame : ℕ) → residence old.world.store name ≢ Home frame)
+
+-- It is modified then where it is that of a slot which was never pushed, and no other page is that wasn't.
+abbrev pub BringModifies : World → PageName → Result Unit Wants → PageName → Type 0
+BringModifies w name (Ok done) other = (other ≡ name) × IsUnpushedSlot w.anon other
+BringModifies w name (Err want) other = ⊥
 
 pub record BringsPage (old new : Memory) (pending more : ℕ) (name : PageName) (answer : Result Unit Wants) : Type 0 where
   pub first : TakesFrames old new.world pending more
   pub replaced : AreReplaced old.world new.world first.cut
+  pub modified : ModifiesOnly (BringModifies new.world name answer) old.world new.world
   pub means : IsBrought old new name answer
 
 -- The same of the world before and after.

@@ -11,6 +11,7 @@ use Rattle.vm_world.specs.MemoryFits.{MemoryFits}
 use Rattle.vm_world.specs.SegmentSteps.{ChangesSegments}
 use Rattle.vm_world.specs.Segments.{Spot, Spaces}
 use Rattle.vm_world.specs.declared.segment.Segment.{Segment}
+use Rattle.vm_world.specs.Serving.{ModifiesNone}
 use Rattle.vm_world.specs.Words.{memory}
 use Rattle.vm_world.specs.World.{World, world_seen}
 use Rattle.vm_world.specs.declared.world.World as rust
@@ -40,13 +41,14 @@ SpaceBecomes old new p parts after f =
     (spaces : Spaces) → SpaceFits (world_seen old) old.zeros spaces p parts → ChangesSpace p (memory old spaces) (memory new (finite.insert spaces p after)) new.zeros f
 
 -- Things are given back alone: no slot is counted more often, no page gets a translation, a map that is left was there and has as many places, and no fewer
--- numbers of maps are free.
+-- numbers of maps are free; and no page becomes modified.
 pub record GivesBack (old new : World) : Type 0 where
   pub fall : (slot : ℕ) → count_at new.anon slot ≤ count_at old.anon slot
   pub none : (p q : ℕ) → translation_at old.hat.places p q ≡ None → translation_at new.hat.places p q ≡ None
   pub there : (number : ℕ) → IsMapThere new.maps number → IsMapThere old.maps number
   pub lengths : (number : ℕ) → IsMapThere new.maps number → length (places_of new.maps number) ≡ length (places_of old.maps number)
   pub numbers : free_numbers old.maps ≤ free_numbers new.maps
+  pub modified : ModifiesNone old new
 
 -- No part goes across the begin of this page.
 abbrev pub StartsAt : List (Part Segment) → ℕ → Type 0

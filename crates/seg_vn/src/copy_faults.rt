@@ -9,6 +9,7 @@ ghost use Rattle.page_store.specs.Steps.{next_frame, next_name, home_bytes};
 ghost use Rattle.anon_map.specs.Maps.{IsMapThere, places_of};
 ghost use Rattle.anon_slots.specs.Slots.{count_at};
 ghost use Rattle.vm_world.specs.Segments.{Spaces, Spot};
+ghost use Rattle.vm_world.specs.Serving.{ModifiesNone};
 ghost use Rattle.vm_world.specs.Words.{memory, Fits, IsFit, IsKnown, OneIsHome, OneIsHomeBeside, TwoAreHome, OnlyFrames, SameFiles, SameFilesAndHat};
 ghost use Rattle.vm_world.specs.World.{world_seen, slot_name, slot_in, is_unpushed, page_exists};
 ghost use Rattle.seg_ops.specs.Slots.{OwnsAlone};
@@ -98,6 +99,7 @@ fn clear_way<D: Disk>(world: &mut World<D>, space: u32, page: u32)
         → residence world.new.store page ≡ Residence.Absent }
     ensures lists { (frame : ℕ) → IsListedFrame world.new.store frame
         → IsListedFrame world.old.store frame }
+    ensures modified { ModifiesNone (world_seen world.old) (world_seen world.new) }
     ensures rest { OnlyFrames world.old world.new }
 {
     drop_translation(world, space, page);

@@ -13,8 +13,6 @@ mod protections;
 mod segment;
 mod shown;
 mod spaces;
-#[cfg(test)]
-mod tests;
 mod unmaps;
 
 pub use attempt::Attempt;

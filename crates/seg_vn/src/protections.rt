@@ -5,6 +5,7 @@ ghost use Rattle.addr_space.specs.Space.{with_new_piece};
 ghost use Rattle.vm_types.specs.Prot.{is_within};
 ghost use Rattle.vm_world.specs.ProtectSteps.{with_segment_prot, with_range_prot};
 ghost use Rattle.vm_world.specs.Segments.{Spaces};
+ghost use Rattle.vm_world.specs.Serving.{ModifiesNone};
 ghost use Rattle.vm_world.specs.Words.{IsFit, KeepsEveryPage, OnlyHat, OnlyStoreAndHat, memory};
 ghost use Rattle.vm_world.specs.World.{world_seen};
 ghost use Rattle.vm_world.specs.ZeroObjects.{KnowsZeros};
@@ -27,6 +28,7 @@ impl VnSeg {
             → HasNoWriter world.new.hat.places space q }
         ensures stay { WritersStay world.old.hat.places world.new.hat.places }
         ensures rest { OnlyHat world.old world.new }
+        ensures modified { ModifiesNone (world_seen world.old) (world_seen world.new) }
         ensures keeps { KeepsEveryPage world.old world.new }
     {
         for page in first..first + self.pages() {
@@ -41,6 +43,7 @@ impl VnSeg {
         ensures limited { AreLimited world.new.hat.places space first self.old.pages prot }
         ensures segment { self.new ≡ self.old }
         ensures rest { OnlyStoreAndHat world.old world.new }
+        ensures modified { ModifiesNone (world_seen world.old) (world_seen world.new) }
         ensures keeps { KeepsEveryPage world.old world.new }
     {
         if prot.can_write() {
@@ -69,6 +72,7 @@ impl VnSeg {
         ensures segment { self.new ≡ with_segment_prot prot self.old }
         // What stays.
         ensures rest { OnlyStoreAndHat world.old world.new }
+        ensures modified { ModifiesNone (world_seen world.old) (world_seen world.new) }
     {
         self.limit(world, space, first, prot);
         self.segment.prot = prot;

@@ -5,6 +5,7 @@ ghost use Rattle.page_hash.specs.declared.PageName.{PageName};
 ghost use Rattle.page_store.specs.Seen.{residence};
 ghost use Rattle.vm_types.specs.Prot.{can_read, can_write, is_within};
 ghost use Rattle.vm_world.specs.Segments.{Spaces};
+ghost use Rattle.vm_world.specs.Serving.{ModifiesNone};
 ghost use Rattle.vm_world.specs.Words.{Fits, IsFit, KeepsPages, OnlyStoreAndHat};
 ghost use Rattle.vm_world.specs.World.{world_seen};
 ghost use Rattle.seg_ops.specs.Steps.{MayShow};
@@ -52,6 +53,7 @@ pub(crate) fn load_page<D: Disk>(
         → KeepsPages (world_seen world.old) (world_seen world.new) spaces }
     // What stays.
     ensures names { world.new.store.names ≡ world.old.store.names }
+    ensures modified { ModifiesNone (world_seen world.old) (world_seen world.new) }
     ensures rest { OnlyStoreAndHat world.old world.new }
 {
     let Residence::Home(frame) = world.store.resident(name) else {

@@ -2,7 +2,9 @@
 ghost use Rattle.std.specs.Prelude.{◌≡◌, ◌≤◌, ◌<◌, ◌+◌, ℕ, None};
 ghost use Rattle.hat_layer.specs.Pool.{translation_at};
 ghost use Rattle.vm_world.specs.SpaceSteps.{AreUnloaded};
+ghost use Rattle.vm_world.specs.Serving.{ModifiesNone};
 ghost use Rattle.vm_world.specs.Words.{IsFit, KeepsEveryPage, OnlyStoreAndHat};
+ghost use Rattle.vm_world.specs.World.{world_seen};
 
 use crate::segment::VnSeg;
 use block_device::Disk;
@@ -22,6 +24,7 @@ impl VnSeg {
         ensures segment { self.new ≡ self.old }
         ensures rest { OnlyStoreAndHat world.old world.new }
         ensures keeps { KeepsEveryPage world.old world.new }
+        ensures modified { ModifiesNone (world_seen world.old) (world_seen world.new) }
     {
         for page in first..first + self.pages() {
             drop_translation(world, space, page);

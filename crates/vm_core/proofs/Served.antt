@@ -190,6 +190,7 @@ module _ (opening : Flat) (s : KernelState) (seats : Seats) (fit : StateFits ope
     clean = serves.clean;
     takes = serves.first;
     replaced = serves.replaced;
+    modified = serves.modified;
     bays = (serves.acts more).machine.bays ∙ serves.first.step.bays;
     plan = refl;
   }

@@ -14,7 +14,7 @@ use Rattle.flat_model.specs.Words.{page}
 use Rattle.vm_world.specs.FlatMemory.{Memory}
 use Rattle.vm_world.specs.ForkSteps.{times_owned}
 use Rattle.vm_world.specs.Plans.{IsRefusal, refusal_in}
-use Rattle.vm_world.specs.Serving.{TakesFrames, AreReplaced, KeepsWanted, ModifiesNone, IsNoFile}
+use Rattle.vm_world.specs.Serving.{TakesFrames, AreReplaced, KeepsWanted, ModifiesNone, ModifiesOnly, MayModify, IsNoFile}
 use Rattle.vm_world.specs.State.{KernelState, seat_of}
 use Rattle.vm_world.specs.SyncSteps.{start_of, with_call_begun}
 use Rattle.vm_world.specs.Wants.{MayPlan, MayHold, WantsClean, IsCleanPage}
@@ -87,7 +87,7 @@ TakesMemory (Fork child) = Unit {0}
 TakesMemory call = ⊥
 
 -- The call is done: exactly one entry is added, which is no device error. Its signal or errno, or that it has none, is what was due in flat memory of the
--- state, over any disks; and a Sync says where it began, and leaves each page that it wants clean so. The entry takes the tails that were pending, and those
+-- state, over any disks; no page is modified that wasn't, but one that the call may make so; and a Sync says where it began, and leaves each page that it wants clean so. The entry takes the tails that were pending, and those
 -- of pages that were replaced before the call acted. No disk is called.
 pub record IsDone (old new : KernelState) (p : ℕ) (call : Call) (reply : Reply) : Type 0 where
   pub mid : World
@@ -99,6 +99,7 @@ pub record IsDone (old new : KernelState) (p : ℕ) (call : Call) (reply : Reply
   pub clean : (from : ℕ) (name : PageName) → reply ≡ Synced from → WantsClean new.memory p call name → IsCleanPage new.memory.world name
   pub takes : TakesFrames old.memory mid old.pending cleared
   pub replaced : AreReplaced old.memory.world new.memory.world takes.cut
+  pub modified : ModifiesOnly (MayModify new.memory p call reply) old.memory.world new.memory.world
   pub bays : new.memory.world.store.bays ≡ old.memory.world.store.bays
   pub plan : new.plan ≡ None
 

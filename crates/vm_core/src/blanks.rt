@@ -65,7 +65,7 @@ fn fill_page<D: Disk>(
     Ok(())
 }
 
-/// Writes zeros to the blank pages of a file below its length, in rising order, and stops at the first failure.
+/// Writes zeros to the blank pages of a file below its length, and stops at the first failure.
 fn fill_file<D: Disk>(files: &mut Files, disks: &mut [(u32, D)], file: u32) -> Result<(), DiskFault>
     requires file { file < length files.old.files }
     requires disks { AreDisksOf files.old (pairs_seen D.seen disks.old) }
@@ -83,8 +83,7 @@ fn fill_file<D: Disk>(files: &mut Files, disks: &mut [(u32, D)], file: u32) -> R
     Ok(())
 }
 
-/// Writes zeros to the blank pages of all files below their lengths, in rising order of file and page, and stops at the first
-/// failure. Takes no memory.
+/// Writes zeros to the blank pages of all files below their lengths, and stops at the first failure. Takes no memory.
 pub(crate) fn fill_files<D: Disk>(
     files: &mut Files,
     disks: &mut [(u32, D)],

@@ -105,7 +105,7 @@ fn push_if_modified<D: Disk>(world: &mut World<D>, name: PageName) -> Result<(),
     }
 }
 
-/// Pushes each modified page of a file, in rising order, and stops at the first failure.
+/// Pushes the modified pages of a file, and stops at the first failure.
 fn push_file<D: Disk>(world: &mut World<D>, file: u32) -> Result<(), DiskFault>
     requires file { file < length world.old.files.files }
     requires fits { IsFit world.old }
@@ -123,8 +123,7 @@ fn push_file<D: Disk>(world: &mut World<D>, file: u32) -> Result<(), DiskFault>
     Ok(())
 }
 
-/// Pushes each modified page of each file once, in rising order of file and page, and stops at the first failure. Takes no
-/// memory.
+/// Pushes the modified pages of all files, and stops at the first failure. Takes no memory.
 pub(crate) fn push_files<D: Disk>(world: &mut World<D>) -> Result<(), DiskFault>
     requires fits { IsFit world.old }
     requires noted { NotesFit (world_seen world.old) no_notes }

@@ -81,8 +81,8 @@ fn finish_world<D: Disk>(world: World<D>, entries: Vec<Entry>) -> Finished<D>
 }
 
 impl<D: Disk> VmState<D> {
-    /// Closes the kernel: each modified page of a file is pushed once, in rising order of file and page; then zeros are written
-    /// to each page below its file's length that is still blank, in the same order. It stops at the first transfer that fails.
+    /// Closes the kernel: modified pages of files are pushed, and then zeros are written to pages below their file's length that
+    /// are still blank. It stops at the first transfer that fails.
     ///
     /// Takes no memory. Time: two looks at each page of each file, and the transfers.
     pub fn finish(self) -> Finished<D>

@@ -12,7 +12,7 @@ use Rattle.vm_types.specs.declared.call.Reply.TheVariants as reply
 use Rattle.vm_script.specs.Told.{is_birth, is_fork_of, is_done}
 use Rattle.vm_report.specs.Groups.{with_birth, birth_flag}
 
-differs : (a b : ℕ) → (a == b) ≡ false → b ≡ a → ⊥
+pub differs : (a b : ℕ) → (a == b) ≡ false → b ≡ a → ⊥
 differs a b no_eq e = false≢true (sym no_eq ∙ eq-eqb a b (sym e))
 
 or_true : (b : Bool) → (b || true) ≡ true

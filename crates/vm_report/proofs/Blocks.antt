@@ -1,5 +1,6 @@
 -- What the lines of a block print, and the sections of all blocks.
-use Rattle.std.proofs.Common.{◌≡◌, ℕ, zero, suc, ◌≤◌, ◌<◌, ◌+◌, ◌==◌, Bool, true, false, List, [], ◌∷◌, ◌++◌, length, map, take, drop, Option, Some, None, refl, sym, ap, ap₂, ◌∙◌, subst, cond, get_or, append_assoc, arith, Bor, ⊎_elim}
+use Rattle.std.proofs.Common.{◌≡◌, ℕ, zero, suc, ◌≤◌, ◌<◌, ◌+◌, ◌==◌, Bool, true, false, List, [], ◌∷◌, ◌++◌, length, map, take, drop, Option, Some}
+use Rattle.std.proofs.Common.{None, refl, sym, ap, ap₂, ◌∙◌, subst, cond, get_or, append_assoc, arith, Bor, ⊎_elim}
 use Rattle.std.specs.Prelude.{All, filter}
 use Rattle.std.specs.List.{list_any}
 use Rattle.std.proofs.lemmas.Bool.{cases_Bool}
@@ -20,12 +21,6 @@ use Rattle.vm_report.specs.Report.{call_length, is_wait, entries_made, own_text,
 -- the element that a loop is at, as a list of borrowed elements shows it
 pub seen_at : {X Y : Type 0} (f : X → Y) (xs : List X) (i : ℕ) (x : X) → i < length xs → x ≡ get_or xs i x → f x ≡ get_or (map f xs) i (f x)
 seen_at f xs i x lt is = ap f is ∙ sym (get_or-map f xs i x (f x) lt)
-
-pub call_length_le : (es : List Entry) → call_length es ≤ length es
-call_length_le [] = omega arith
-call_length_le (e ∷ es) =
-    let rest = call_length_le es in
-    ⊎_elim (λ yes. rw yes (omega arith)) (λ non. rw non (omega arith)) (cases_Bool (ends_call e.call e.reply))
 
 -- how many entries the call has from the entry at i on, by whether that one ends it
 pub call_step : (es : List Entry) (i : ℕ) (e : Entry) (b : Bool) → i < length es → e ≡ get_or es i e → ends_call e.call e.reply ≡ b

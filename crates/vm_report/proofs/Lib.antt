@@ -1,5 +1,6 @@
 pub mod Appending
 pub mod Births
+pub mod Grouped
 pub mod Blocks
 pub mod Digits
 pub mod FileLines

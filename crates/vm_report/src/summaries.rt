@@ -1,5 +1,5 @@
 //! The summary of a generated script's history.
-ghost use Rattle.std.specs.Prelude.{◌≡◌, ◌++◌, ◌<◌, ◌^◌, ◌+◌, ◌%◌, count_by, sum_by, OnOk};
+ghost use Rattle.std.specs.Prelude.{◌≡◌, ◌++◌, ◌<◌, ◌^◌, ◌+◌, ◌%◌, codes, decimal, count_by, sum_by, OnOk};
 ghost use Rattle.vm_report.specs.Summary as summaries;
 
 use crate::text::{end_line, push_decimal, push_number, push_text};
@@ -52,6 +52,19 @@ fn sum_of_words(history: &[Entry]) -> u32
     sum
 }
 
+// Adds how many signals and refusals there are.
+fn push_counts(out: &mut Vec<u8>, history: &[Entry]) -> Result<(), AllocError>
+    ensures { OnOk result (out.new.items ≡ out.old.items
+        ++ codes " signals " ++ decimal (count_by (λ e. summaries.is_signal e.reply) history.now)
+        ++ codes " refusals "
+        ++ decimal (count_by (λ e. summaries.is_refusal e.reply) history.now)) }
+{
+    push_text(out, b" signals ")?;
+    push_decimal(out, signals(history) as u64)?;
+    push_text(out, b" refusals ")?;
+    push_decimal(out, refusals(history) as u64)
+}
+
 /// Adds the summary of the history of the generated script of this number.
 pub fn summary(number: u32, history: &[Entry], out: &mut Vec<u8>) -> Result<(), AllocError>
     ensures new { OnOk result
@@ -61,10 +74,7 @@ pub fn summary(number: u32, history: &[Entry], out: &mut Vec<u8>) -> Result<(), 
     push_number(out, number)?;
     push_text(out, b" entries ")?;
     push_decimal(out, history.len() as u64)?;
-    push_text(out, b" signals ")?;
-    push_decimal(out, signals(history) as u64)?;
-    push_text(out, b" refusals ")?;
-    push_decimal(out, refusals(history) as u64)?;
+    push_counts(out, history)?;
     push_text(out, b" sum ")?;
     push_number(out, sum_of_words(history))?;
     end_line(out)

@@ -2,6 +2,7 @@
 ghost use Rattle.std.specs.Prelude.{◌≡◌, ◌<◌, ◌^◌, ◌+◌, ◌++◌, ◌∷◌, All, List, length, map, OnOk};
 ghost use Rattle.std.specs.List.{flat_map};
 ghost use Rattle.vm_types.specs.WellFormed.{IsWellFormed};
+ghost use Rattle.vm_types.specs.Words.{IsWordSize};
 ghost use Rattle.vm_script.specs.Texts as words;
 ghost use Rattle.vm_report.specs.Trace as trace;
 
@@ -117,6 +118,42 @@ fn push_write(
     push_argument(out, rest)
 }
 
+fn push_store(out: &mut Vec<u8>, addr: u32, size: u32, value: u32) -> Result<(), AllocError>
+    requires { IsWordSize size }
+    ensures { OnOk result (out.new.items ≡ out.old.items
+        ++ trace.arguments_text (Call.Store addr size value)) }
+{
+    push_range(out, addr, size)?;
+    push_space(out)?;
+    push_word(out, size, value)
+}
+
+fn push_protect(out: &mut Vec<u8>, addr: u32, length: u32, prot: Prot) -> Result<(), AllocError>
+    ensures { OnOk result (out.new.items ≡ out.old.items
+        ++ trace.arguments_text (Call.Protect addr length prot)) }
+{
+    push_range(out, addr, length)?;
+    push_space(out)?;
+    push_text(out, word_of_prot(prot))
+}
+
+fn push_read(out: &mut Vec<u8>, file: u32, offset: u32, length: u32) -> Result<(), AllocError>
+    ensures { OnOk result (out.new.items ≡ out.old.items
+        ++ trace.arguments_text (Call.Read file offset length)) }
+{
+    push_argument(out, file)?;
+    push_argument(out, offset)?;
+    push_argument(out, length)
+}
+
+fn push_truncate(out: &mut Vec<u8>, file: u32, length: u32) -> Result<(), AllocError>
+    ensures { OnOk result (out.new.items ≡ out.old.items
+        ++ trace.arguments_text (Call.Truncate file length)) }
+{
+    push_argument(out, file)?;
+    push_argument(out, length)
+}
+
 // Adds what stands behind a call's word.
 fn push_arguments(out: &mut Vec<u8>, call: &Call) -> Result<(), AllocError>
     requires { IsWellFormed call.now }
@@ -124,11 +161,7 @@ fn push_arguments(out: &mut Vec<u8>, call: &Call) -> Result<(), AllocError>
 {
     match call {
         Call::Load { addr, size } => push_range(out, *addr, *size),
-        Call::Store { addr, size, value } => {
-            push_range(out, *addr, *size)?;
-            push_space(out)?;
-            push_word(out, *size, *value)
-        }
+        Call::Store { addr, size, value } => push_store(out, *addr, *size, *value),
         Call::Map {
             place,
             length,
@@ -138,31 +171,20 @@ fn push_arguments(out: &mut Vec<u8>, call: &Call) -> Result<(), AllocError>
             offset,
         } => { push_map(out, *place, *length, *prot, *kind, *object, *offset) }
         Call::Unmap { addr, length } => push_range(out, *addr, *length),
-        Call::Protect { addr, length, prot } => {
-            push_range(out, *addr, *length)?;
-            push_space(out)?;
-            push_text(out, word_of_prot(*prot))
-        }
+        Call::Protect { addr, length, prot } => push_protect(out, *addr, *length, *prot),
         Call::Sync { addr, length } => push_range(out, *addr, *length),
         Call::Read {
             file,
             offset,
             length,
-        } => {
-            push_argument(out, *file)?;
-            push_argument(out, *offset)?;
-            push_argument(out, *length)
-        }
+        } => { push_read(out, *file, *offset, *length) }
         Call::Write {
             file,
             offset,
             bytes,
             rest,
         } => { push_write(out, *file, *offset, bytes.bytes(), *rest) }
-        Call::Truncate { file, length } => {
-            push_argument(out, *file)?;
-            push_argument(out, *length)
-        }
+        Call::Truncate { file, length } => push_truncate(out, *file, *length),
         Call::Fork { child } => push_argument(out, *child),
         Call::Exit => Ok(()),
     }

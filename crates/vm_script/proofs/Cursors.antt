@@ -1,5 +1,6 @@
 -- A line's fields, one by one.
-use Rattle.std.proofs.Common.{◌≡◌, ℕ, ◌+◌, ◌==◌, Bool, true, false, ◌&&◌, List, [], ◌∷◌, ◌++◌, length, take, refl, sym, ap, ◌∙◌, arith, rules, tests, not, nat_eq, slice_index_or, zero, suc, ap₂, append_assoc}
+use Rattle.std.proofs.Common.{◌≡◌, ℕ, ◌+◌, ◌==◌, Bool, true, false, ◌&&◌, List, [], ◌∷◌, ◌++◌, length, take, refl, sym, ap, ◌∙◌, arith, rules, tests}
+use Rattle.std.proofs.Common.{not, nat_eq, slice_index_or, zero, suc, ap₂, append_assoc}
 use Rattle.std.specs.Prelude.{◌≤◌, ◌<◌, filter}
 use Rattle.std.specs.List.{list_all, slice_split}
 use Rattle.std.proofs.lemmas.Bool.{false≢true, not-true}
@@ -109,7 +110,8 @@ full_front (suc n) [] ys le ge = absurd (omega (arith, le))
 full_front (suc n) (x ∷ xs) ys le ge = ap (λ zs. x ∷ zs) (full_front n xs ys (omega (arith, le)) (omega (arith, ge)))
 
 -- one field more was read
-pub fields_step : (items new : List (List ℕ)) (word xs ys : List ℕ) (all : List (List ℕ)) → new ≡ take 8 (items ++ word ∷ []) → word ≡ field_of xs → starts_field xs ≡ true → ys ≡ after_spaces (after_field xs)
+pub fields_step : (items new : List (List ℕ)) (word xs ys : List ℕ) (all : List (List ℕ)) → new ≡ take 8 (items ++ word ∷ [])
+    → word ≡ field_of xs → starts_field xs ≡ true → ys ≡ after_spaces (after_field xs)
     → take 8 (items ++ fields (first_line xs)) ≡ all → take 8 (new ++ fields (first_line ys)) ≡ all
 fields_step items new word xs ys all put is begins left before =
     let behind : fields (first_line ys) ≡ fields (first_line (after_field xs)) = ap (λ l. fields (first_line l)) left ∙ fields_spaces (after_field xs) in

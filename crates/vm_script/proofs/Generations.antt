@@ -1,5 +1,6 @@
 -- The generated script, piece by piece.
-use Rattle.std.proofs.Common.{◌≡◌, ℕ, zero, suc, ◌≤◌, ◌<◌, ◌+◌, ◌*◌, ◌==◌, Bool, true, false, not, ◌&&◌, List, [], ◌∷◌, ◌++◌, length, map, refl, sym, ap, ap₂, ◌∙◌, subst, append_assoc, append-nil, arith, rules, tests, lit<, inr, length-append, Ok}
+use Rattle.std.proofs.Common.{◌≡◌, ℕ, zero, suc, ◌≤◌, ◌<◌, ◌+◌, ◌*◌, ◌==◌, Bool, true, false, not, ◌&&◌, List, [], ◌∷◌, ◌++◌, length, map, refl, sym}
+use Rattle.std.proofs.Common.{ap, ap₂, ◌∙◌, subst, append_assoc, append-nil, arith, rules, tests, lit<, inr, length-append, Ok}
 use Rattle.std.specs.Prelude.{All, codes, decimal}
 use Rattle.std.specs.List.{list_all, flat_map}
 use Rattle.std.proofs.lemmas.Bool.{false≢true}
@@ -15,7 +16,9 @@ use Rattle.vm_script.specs.declared.statement.Statement.{Statement}
 use Rattle.vm_script.specs.declared.statement.Statement.TheVariants as says
 use Rattle.vm_script.specs.Plans.{OpenPlan, empty_plan, plan_seen, plan_of, enclosing_block, with_statement}
 use Rattle.vm_script.specs.Printed.{IsStatement, with_statements, StandRight, IsScript, line_of_fields, statement_fields, script_text}
-use Rattle.vm_script.specs.Generated.{numbers_below, call_line, word_address, page_end, word_store, word_load, end_store, end_load, word_stores, word_loads, end_stores, end_loads, file_write, file_store, file_load, generated_setup, block_head, block_tail, child_block, generated_block, generated_script, generated_text}
+use Rattle.vm_script.specs.Generated.{numbers_below, call_line, word_address, page_end, word_store, word_load, end_store, end_load, word_stores}
+use Rattle.vm_script.specs.Generated.{word_loads, end_stores, end_loads, file_write, file_store, file_load, generated_setup, block_head, block_tail}
+use Rattle.vm_script.specs.Generated.{child_block, generated_block, generated_script, generated_text}
 use Rattle.vm_script.proofs.Scripts.{parsed}
 
 plus_one : (n : ℕ) → n + 1 ≡ suc n
@@ -45,7 +48,8 @@ joined g n k xs ys g1 g2 first place second =
     second ∙ (ap₂ (λ (h : OpenPlan) (m : ℕ). with_statements h m ys) first place ∙ sym (with-append g n xs ys))
 
 -- one line more of a loop
-pub pushed : (g : OpenPlan) (n k : ℕ) (f : ℕ → Statement) (g1 g2 : OpenPlan) → g1 ≡ with_statements g n (map f (numbers_below k)) → g2 ≡ with_statement g1 (n + k + 1) (f k) → g2 ≡ with_statements g n (map f (numbers_below (k + 1)))
+pub pushed : (g : OpenPlan) (n k : ℕ) (f : ℕ → Statement) (g1 g2 : OpenPlan) → g1 ≡ with_statements g n (map f (numbers_below k))
+    → g2 ≡ with_statement g1 (n + k + 1) (f k) → g2 ≡ with_statements g n (map f (numbers_below (k + 1)))
 pushed g n k f g1 g2 first second =
     joined g n (n + k) (map f (numbers_below k)) (f k ∷ []) g1 g2 first (let c = count_of f k in omega (arith, c)) second
     ∙ ap (with_statements g n) (sym (ap (map f) (numbers-more k) ∙ map-append f (numbers_below k) (k ∷ [])))
@@ -124,9 +128,17 @@ good_setup =
         (
           (record { is = lit< tt; short = let a = ten 64 (lit< tt) in let t = two (codes "translations") (decimal 64) in omega (arith, a, t) }),
           (
-            (record { is = (lit< tt, lit< tt); short = let a = ten 0 (lit< tt) in let b = ten 16 (lit< tt) in let t = four (codes "disk") (decimal 0) (codes "blank") (decimal 16) in omega (arith, a, b, t) }),
+            (record {
+              is = (lit< tt, lit< tt);
+              short = let a = ten 0 (lit< tt) in let b = ten 16 (lit< tt) in
+                  let t = four (codes "disk") (decimal 0) (codes "blank") (decimal 16) in omega (arith, a, b, t);
+            }),
             (
-              (record { is = (refl, lit< tt, lit< tt, omega arith, All-nil IsByte); short = let a = ten 0 (lit< tt) in let b = ten 8 (lit< tt) in let t = six (codes "file") (codes "f") (codes "rw") (decimal 0) (decimal 8) (codes "-") in omega (arith, a, b, t) }),
+              (record {
+                is = (refl, lit< tt, lit< tt, omega arith, All-nil IsByte);
+                short = let a = ten 0 (lit< tt) in let b = ten 8 (lit< tt) in
+                    let t = six (codes "file") (codes "f") (codes "rw") (decimal 0) (decimal 8) (codes "-") in omega (arith, a, b, t);
+              }),
               tt,
             ),
           ),
@@ -139,9 +151,19 @@ good_head =
     all_good block_head (
       (record { is = tt; short = omega arith }),
       (
-        (record { is = (lit< tt, lit< tt, lit< tt, lit< tt); short = let a = ten 1048576 (lit< tt) in let b = ten 131072 (lit< tt) in let d = ten 0 (lit< tt) in let t = seven (codes "map") (decimal 1048576) (decimal 131072) (codes "rw") (codes "private") (codes "zero") (decimal 0) in omega (arith, a, b, d, t) }),
+        (record {
+          is = (lit< tt, lit< tt, lit< tt, lit< tt);
+          short = let a = ten 1048576 (lit< tt) in let b = ten 131072 (lit< tt) in let d = ten 0 (lit< tt) in
+              let t = seven (codes "map") (decimal 1048576) (decimal 131072) (codes "rw") (codes "private") (codes "zero") (decimal 0) in
+              omega (arith, a, b, d, t);
+        }),
         (
-          (record { is = (refl, (lit< tt, lit< tt, lit< tt, refl, lit< tt)); short = let a = ten 4194304 (lit< tt) in let b = ten 32768 (lit< tt) in let d = ten 0 (lit< tt) in let t = seven (codes "map") (decimal 4194304) (decimal 32768) (codes "rw") (codes "shared") (codes "f") (decimal 0) in omega (arith, a, b, d, t) }),
+          (record {
+            is = (refl, (lit< tt, lit< tt, lit< tt, refl, lit< tt));
+            short = let a = ten 4194304 (lit< tt) in let b = ten 32768 (lit< tt) in let d = ten 0 (lit< tt) in
+                let t = seven (codes "map") (decimal 4194304) (decimal 32768) (codes "rw") (codes "shared") (codes "f") (decimal 0) in
+                omega (arith, a, b, d, t);
+          }),
           tt,
         ),
       ),
@@ -150,7 +172,11 @@ good_head =
 good_tail : (n i : ℕ) → IsNumber n → i < 8 → All IsGood (block_tail n i)
 good_tail n i is lt =
     all_good (block_tail n i) (
-      (record { is = (refl, refl, omega (arith, lt), (omega arith, omega arith, All-cons IsByte 0 [] (lit< tt) (All-nil IsByte))); short = let a = ten (4096 * i + 4095) (omega (arith, lt)) in let t = four (codes "write") (codes "f") (decimal (4096 * i + 4095)) (48 ∷ 48 ∷ []) in omega (arith, a, t) }),
+      (record {
+        is = (refl, refl, omega (arith, lt), (omega arith, omega arith, All-cons IsByte 0 [] (lit< tt) (All-nil IsByte)));
+        short = let a = ten (4096 * i + 4095) (omega (arith, lt)) in
+            let t = four (codes "write") (codes "f") (decimal (4096 * i + 4095)) (48 ∷ 48 ∷ []) in omega (arith, a, t);
+      }),
       (
         (good_store (4194304 + 4096 * i) n (omega (arith, lt)) is),
         (
@@ -213,7 +239,15 @@ end_stores_count : length (end_stores 32) ≡ 32
 end_stores_count = count_of end_store 32
 
 pub child_count : length child_block ≡ 66
-child_count = omega (arith, length-append (says.Fork ∷ [] ++ end_stores 32 ++ end_loads 32) (says.End ∷ []), length-append (says.Fork ∷ [] ++ end_stores 32) (end_loads 32), length-append (says.Fork ∷ []) (end_stores 32), ends_count, end_stores_count)
+child_count =
+    omega (
+      arith,
+      length-append (says.Fork ∷ [] ++ end_stores 32 ++ end_loads 32) (says.End ∷ []),
+      length-append (says.Fork ∷ [] ++ end_stores 32) (end_loads 32),
+      length-append (says.Fork ∷ []) (end_stores 32),
+      ends_count,
+      end_stores_count,
+    )
 
 pub block_count : (n i : ℕ) → length (generated_block n i) ≡ 2105
 block_count n i =
@@ -332,7 +366,8 @@ child_piece g n p ps at =
     let qs = ps ++ suc p ∷ [] in
     let a = fork_piece g n p ps at in
     let b = then_piece g n (says.Fork ∷ []) (end_stores 32) (suc (length ps)) (suc (length ps)) qs qs a (own_piece (end_stores 32) (keeps_map end_store 32 (λ j. refl)) _ _ (length ps) qs a.after) in
-    let d = then_piece g n (says.Fork ∷ [] ++ end_stores 32) (end_loads 32) (suc (length ps)) (suc (length ps)) qs qs b (own_piece (end_loads 32) (keeps_map end_load 32 (λ j. refl)) _ _ (length ps) qs b.after) in
+    let d = then_piece g n (says.Fork ∷ [] ++ end_stores 32) (end_loads 32) (suc (length ps)) (suc (length ps)) qs qs b
+    (own_piece (end_loads 32) (keeps_map end_load 32 (λ j. refl)) _ _ (length ps) qs b.after) in
     let e = then_piece g n (says.Fork ∷ [] ++ end_stores 32 ++ end_loads 32) (says.End ∷ []) (suc (length ps)) (enclosing_block qs (suc (length ps))) qs qs d (end_piece _ _ (length ps) qs d.after) in
     subst (λ k. Piece g n child_block k qs) (outside_last ps (suc p)) e
 
@@ -349,9 +384,12 @@ block_piece g l n i ps at =
     let a = head_piece g l ps at in
     let b = then_piece g l block_head (word_stores n i 1000) (suc p) (suc p) qs qs a (own_piece (word_stores n i 1000) (keeps_map (word_store n i) 1000 (λ k. refl)) _ _ p qs a.after) in
     let d = then_piece g l (block_head ++ word_stores n i 1000) child_block (suc p) (suc p) qs rs b (child_piece _ _ p qs b.after) in
-    let e = then_piece g l (block_head ++ word_stores n i 1000 ++ child_block) (word_loads n 1000) (suc p) (suc p) rs rs d (own_piece (word_loads n 1000) (keeps_map (word_load n) 1000 (λ k. refl)) _ _ p rs d.after) in
-    let f = then_piece g l (block_head ++ word_stores n i 1000 ++ child_block ++ word_loads n 1000) (end_loads 32) (suc p) (suc p) rs rs e (own_piece (end_loads 32) (keeps_map end_load 32 (λ k. refl)) _ _ p rs e.after) in
-    let t = then_piece g l (block_head ++ word_stores n i 1000 ++ child_block ++ word_loads n 1000 ++ end_loads 32) (block_tail n i) (suc p) 0 rs rs f (tail_piece _ _ p rs f.after (outside_inner ps 0 (suc p ∷ []))) in
+    let e = then_piece g l (block_head ++ word_stores n i 1000 ++ child_block) (word_loads n 1000) (suc p) (suc p) rs rs d
+    (own_piece (word_loads n 1000) (keeps_map (word_load n) 1000 (λ k. refl)) _ _ p rs d.after) in
+    let f = then_piece g l (block_head ++ word_stores n i 1000 ++ child_block ++ word_loads n 1000) (end_loads 32) (suc p) (suc p) rs rs e
+    (own_piece (end_loads 32) (keeps_map end_load 32 (λ k. refl)) _ _ p rs e.after) in
+    let t = then_piece g l (block_head ++ word_stores n i 1000 ++ child_block ++ word_loads n 1000 ++ end_loads 32) (block_tail n i) (suc p)
+    0 rs rs f (tail_piece _ _ p rs f.after (outside_inner ps 0 (suc p ∷ []))) in
     t
   where
     tail_piece : (h : OpenPlan) (k p : ℕ) (rs : List ℕ) → At h (suc p) rs → enclosing_block rs (suc p) ≡ 0 → Piece h k (block_tail n i) 0 rs
@@ -361,7 +399,9 @@ block_piece g l n i ps at =
         let last = subst (λ q. Piece (with_statements h k xs) (k + 3) (says.End ∷ []) q rs) out (end_piece (with_statements h k xs) (k + 3) p rs a.after) in
         then_piece h k xs (says.End ∷ []) (suc p) 0 rs rs a last
 
-pub parents_more : (g : OpenPlan) (l n i : ℕ) → g.inside ≡ 0 → (length (with_statements g l (generated_block n i)).parents ≡ length g.parents + 2) × ((with_statements g l (generated_block n i)).inside ≡ 0)
+pub parents_more : (g : OpenPlan) (l n i : ℕ) → g.inside ≡ 0
+    → (length (with_statements g l (generated_block n i)).parents ≡ length g.parents + 2)
+    × ((with_statements g l (generated_block n i)).inside ≡ 0)
 parents_more g l n i none =
     let b = block_piece g l n i g.parents (record { inside_is = none; parents_are = refl }) in
     (ap length b.after.parents_are ∙ (let a = length-append (g.parents ++ 0 ∷ []) (suc (length g.parents) ∷ []) in let c = length-append g.parents (0 ∷ []) in omega (arith, a, c)), b.after.inside_is)
@@ -403,7 +443,9 @@ is_script n is =
 pub read : (n : ℕ) (g : OpenPlan) → IsNumber n → g ≡ with_statements empty_plan 0 (generated_script n) → plan_of (generated_text n) ≡ Ok (plan_seen g)
 read n g is e = parsed (generated_script n) (is_script n is) ∙ ap (λ (h : OpenPlan). Ok (plan_seen h)) (sym e)
 
-pub block_more : (n m : ℕ) (g g2 : OpenPlan) → g ≡ with_statements empty_plan 0 (generated_setup ++ flat_map (generated_block n) (numbers_below m)) → g2 ≡ with_statements g (5 + 2105 * m) (generated_block n m)
+pub block_more : (n m : ℕ) (g g2 : OpenPlan)
+    → g ≡ with_statements empty_plan 0 (generated_setup ++ flat_map (generated_block n) (numbers_below m))
+    → g2 ≡ with_statements g (5 + 2105 * m) (generated_block n m)
     → g2 ≡ with_statements empty_plan 0 (generated_setup ++ flat_map (generated_block n) (numbers_below (m + 1)))
 block_more n m g g2 first second =
     let xs = flat_map (generated_block n) (numbers_below m) in
@@ -413,7 +455,9 @@ block_more n m g g2 first second =
     joined empty_plan 0 (5 + 2105 * m) (generated_setup ++ xs) (generated_block n m) g g2 first (omega (arith, count)) second
     ∙ ap (with_statements empty_plan 0) (append_assoc generated_setup xs (generated_block n m) ∙ ap (λ ys. generated_setup ++ ys) (sym is))
 
-pub child_made : (g g1 g2 g3 g4 : OpenPlan) (n : ℕ) → g1 ≡ with_statement g (n + 1) says.Fork → g2 ≡ with_statements g1 (n + 1) (end_stores 32) → g3 ≡ with_statements g2 (n + 33) (end_loads 32) → g4 ≡ with_statement g3 (n + 65 + 1) says.End
+pub child_made : (g g1 g2 g3 g4 : OpenPlan) (n : ℕ) → g1 ≡ with_statement g (n + 1) says.Fork
+    → g2 ≡ with_statements g1 (n + 1) (end_stores 32) → g3 ≡ with_statements g2 (n + 33) (end_loads 32)
+    → g4 ≡ with_statement g3 (n + 65 + 1) says.End
     → g4 ≡ with_statements g n child_block
 child_made g g1 g2 g3 g4 n a b d e =
     let two = length-append (says.Fork ∷ []) (end_stores 32) in
@@ -423,8 +467,10 @@ child_made g g1 g2 g3 g4 n a b d e =
     joined g n (n + 65) (says.Fork ∷ [] ++ end_stores 32 ++ end_loads 32) (says.End ∷ []) g3 g4 q (omega (arith, two, three, end_stores_count, ends_count)) e
 
 -- the pieces of a block, each with the line where it begins
-pub block_made : (g g1 g2 g3 g4 g5 g6 : OpenPlan) (l n i : ℕ) → g1 ≡ with_statements g l block_head → g2 ≡ with_statements g1 (l + 3) (word_stores n i 1000) → g3 ≡ with_statements g2 (l + 1003) child_block
-    → g4 ≡ with_statements g3 (l + 1069) (word_loads n 1000) → g5 ≡ with_statements g4 (l + 2069) (end_loads 32) → g6 ≡ with_statements g5 (l + 2101) (block_tail n i) → g6 ≡ with_statements g l (generated_block n i)
+pub block_made : (g g1 g2 g3 g4 g5 g6 : OpenPlan) (l n i : ℕ) → g1 ≡ with_statements g l block_head
+    → g2 ≡ with_statements g1 (l + 3) (word_stores n i 1000) → g3 ≡ with_statements g2 (l + 1003) child_block
+    → g4 ≡ with_statements g3 (l + 1069) (word_loads n 1000) → g5 ≡ with_statements g4 (l + 2069) (end_loads 32)
+    → g6 ≡ with_statements g5 (l + 2101) (block_tail n i) → g6 ≡ with_statements g l (generated_block n i)
 block_made g g1 g2 g3 g4 g5 g6 l n i a b d e f h =
     let head = block_head in
     let stored = head ++ word_stores n i 1000 in

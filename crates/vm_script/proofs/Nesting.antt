@@ -1,5 +1,6 @@
 -- The blocks of a plan nest, and each of its lines may be run.
-use Rattle.std.proofs.Common.{◌≡◌, ℕ, zero, suc, ◌≤◌, ◌<◌, ◌^◌, ◌+◌, ◌==◌, Bool, true, false, not, List, [], ◌∷◌, ◌++◌, length, Some, Result, Ok, Err, refl, sym, ap, ◌∙◌, subst, append_assoc, append-nil, arith, rules, tests, length-append}
+use Rattle.std.proofs.Common.{◌≡◌, ℕ, zero, suc, ◌≤◌, ◌<◌, ◌^◌, ◌+◌, ◌==◌, Bool, true, false, not, List, [], ◌∷◌, ◌++◌, length, Some, Result, Ok, Err}
+use Rattle.std.proofs.Common.{refl, sym, ap, ◌∙◌, subst, append_assoc, append-nil, arith, rules, tests, length-append}
 use Rattle.std.specs.Prelude.{All, slice_get, slice_index_or, nat_lt, if◌then◌else◌}
 use Rattle.std.specs.List.{list_all}
 use Rattle.std.proofs.lemmas.Bool.{false≢true, eqb-true}
@@ -30,7 +31,8 @@ use Rattle.vm_script.proofs.Placed.{IsPlaced, placed}
 -- what follows a place in a plan, where the block p is opened innermost
 data Completes (parents : List ℕ) : ℕ → ℕ → List PlanLine → ℕ → Type 0 where
   tops : (n m : ℕ) (rest : List PlanLine) → AreProcessBlocks parents n rest m → Completes parents 0 n rest m
-  closes : (i n k m : ℕ) (own rest : List PlanLine) → IsProcessBlock parents (suc i) n own k → Completes parents (enclosing_block parents (suc i)) k rest m → Completes parents (suc i) n (own ++ rest) m
+  closes : (i n k m : ℕ) (own rest : List PlanLine) → IsProcessBlock parents (suc i) n own k
+      → Completes parents (enclosing_block parents (suc i)) k rest m → Completes parents (suc i) n (own ++ rest) m
 
 top_of : (parents : List ℕ) (n : ℕ) (rest : List PlanLine) (m : ℕ) → Completes parents 0 n rest m → AreProcessBlocks parents n rest m
 top_of parents n rest m (tops _ _ _ h) = h
@@ -176,7 +178,15 @@ with_own : (parents : List ℕ) (p n m line : ℕ) (a : PlanAct) (rest : List Pl
 with_own parents zero n m line a rest inside inner c = absurd (false≢true (sym inside))
 with_own parents (suc i) n m line a rest inside inner c =
     let k = closed parents i n rest m c in
-    open_block parents i n m _ (record { own = record { line = line; process = suc i; act = a } ∷ k.own; rest = k.rest; k = k.k; is = ap (λ xs. record { line = line; process = suc i; act = a } ∷ xs) k.is; body = goes_on (suc i) n k.k line a k.own inner k.body; after = k.after })
+    open_block parents i n m _
+    (record {
+      own = record { line = line; process = suc i; act = a } ∷ k.own;
+      rest = k.rest;
+      k = k.k;
+      is = ap (λ xs. record { line = line; process = suc i; act = a } ∷ xs) k.is;
+      body = goes_on (suc i) n k.k line a k.own inner k.body;
+      after = k.after;
+    })
 
 with_end : (parents : List ℕ) (p n m line : ℕ) (rest : List PlanLine) → (p == 0) ≡ false → Completes parents (enclosing_block parents p) n rest m
     → Completes parents p n (record { line = line; process = p; act = act.Call call.Exit } ∷ rest) m
@@ -267,7 +277,8 @@ module _ (g : OpenPlan) (n : ℕ) (plan : PlanSeen) (most : ℕ) (opened : IsOpe
         is_lines = r.is_lines;
         is_parents = sym (append_assoc g.parents (0 ∷ []) r.more) ∙ r.is_parents;
         completes = subst (λ p. Completes plan.parents p (length g.parents + 1) r.rest (length plan.parents + 1)) (sym none)
-            (subst (λ k. Completes plan.parents 0 k r.rest (length plan.parents + 1)) (sym (plus_one (length g.parents))) (with_top plan.parents (length g.parents) (length plan.parents + 1) r.rest b.0 b.1 b.2));
+            (subst (λ k. Completes plan.parents 0 k r.rest (length plan.parents + 1)) (sym (plus_one (length g.parents)))
+            (with_top plan.parents (length g.parents) (length plan.parents + 1) r.rest b.0 b.1 b.2));
         acts = r.acts;
         few_lines = let le = r.few_lines in omega (arith, le);
         few_blocks = let le = r.few_blocks in omega (arith, le);
@@ -282,15 +293,39 @@ module _ (g : OpenPlan) (n : ℕ) (plan : PlanSeen) (most : ℕ) (opened : IsOpe
         more = g.inside ∷ r.more;
         is_lines = line_first (record { line = n; process = g.inside; act = act.Call (call.Fork (length g.parents + 1)) }) r.rest r.is_lines;
         is_parents = sym (append_assoc g.parents (g.inside ∷ []) r.more) ∙ r.is_parents;
-        completes = subst (λ k. Completes plan.parents g.inside k (record { line = n; process = g.inside; act = act.Call (call.Fork k) } ∷ r.rest) (length plan.parents + 1)) (sym (plus_one (length g.parents))) made;
+        completes =
+            subst
+            (λ k. Completes plan.parents g.inside k (record { line = n; process = g.inside; act = act.Call (call.Fork k) } ∷ r.rest)
+            (length plan.parents + 1))
+            (sym (plus_one (length g.parents))) made;
         acts = All-cons (λ (l : PlanLine). IsSoundAct l.act) _ _ few r.acts;
         few_lines = let le = r.few_lines in omega (arith, le);
         few_blocks = let le = r.few_blocks in omega (arith, le);
       }
 
   step : (s : Statement) → IsPlaced (spot_of g) s → Rest (with_statement g n s) plan most → Rest g plan (suc most)
-  step says.Nothing is r = record { rest = r.rest; more = r.more; is_lines = r.is_lines; is_parents = r.is_parents; completes = r.completes; acts = r.acts; few_lines = let le = r.few_lines in omega (arith, le); few_blocks = let le = r.few_blocks in omega (arith, le) }
-  step (says.Setup a) is r = record { rest = r.rest; more = r.more; is_lines = r.is_lines; is_parents = r.is_parents; completes = r.completes; acts = r.acts; few_lines = let le = r.few_lines in omega (arith, le); few_blocks = let le = r.few_blocks in omega (arith, le) }
+  step says.Nothing is r =
+      record {
+        rest = r.rest;
+        more = r.more;
+        is_lines = r.is_lines;
+        is_parents = r.is_parents;
+        completes = r.completes;
+        acts = r.acts;
+        few_lines = let le = r.few_lines in omega (arith, le);
+        few_blocks = let le = r.few_blocks in omega (arith, le);
+      }
+  step (says.Setup a) is r =
+      record {
+        rest = r.rest;
+        more = r.more;
+        is_lines = r.is_lines;
+        is_parents = r.is_parents;
+        completes = r.completes;
+        acts = r.acts;
+        few_lines = let le = r.few_lines in omega (arith, le);
+        few_blocks = let le = r.few_blocks in omega (arith, le);
+      }
   step says.Process is r = step_process (not_inside (g.inside == 0) is.0) r
   step says.Fork is r = step_fork (not_zero (g.inside == 0) is.0) r
   step says.End is r = step_end (not_zero (g.inside == 0) is.0) r
@@ -330,9 +365,12 @@ nests_from [] n g plan opened few e = at (g.inside == 0) refl e
           few_blocks = omega arith;
         })
     at false is e = absurd (cc e)
-nests_from (l ∷ ls) n g plan opened few e = at (λ s le. nests_from ls (n + 1) (with_statement g (n + 1) s) plan (still_open g (n + 1) s opened) le) (statement (spot_of g) (list_all is_plain l) (fields l)) refl e
+nests_from (l ∷ ls) n g plan opened few e =
+    at (λ s le. nests_from ls (n + 1) (with_statement g (n + 1) s) plan (still_open g (n + 1) s opened) le) (statement (spot_of g) (list_all is_plain l) (fields l)) refl e
   where
-    at : ((s : Statement) → length (with_statement g (n + 1) s).parents + length ls ≤ 1048576 → plan_from (n + 1) (with_statement g (n + 1) s) ls ≡ Ok plan → Rest (with_statement g (n + 1) s) plan (length ls)) → (r : Result Statement ScriptKind) → statement (spot_of g) (list_all is_plain l) (fields l) ≡ r
+    at : ((s : Statement) → length (with_statement g (n + 1) s).parents + length ls ≤ 1048576
+        → plan_from (n + 1) (with_statement g (n + 1) s) ls ≡ Ok plan → Rest (with_statement g (n + 1) s) plan (length ls))
+        → (r : Result Statement ScriptKind) → statement (spot_of g) (list_all is_plain l) (fields l) ≡ r
         → next_plan r g n ls ≡ Ok plan → Rest g plan (suc (length ls))
     at again (Ok s) is e =
         step g (n + 1) plan (length ls) opened (omega (arith, few)) s (placed (spot_of g) (list_all is_plain l) (fields l) s is)

@@ -21,7 +21,12 @@ unborn_else plan H (suc (suc p)) one else = ap (λ ps. is_born_of (parent_of ps 
 all_of : (p : ℕ) (H : List Entry) → ((q : ℕ) → (q ≡ p → ⊥) → entries_of H q ≡ []) → All (λ e. e.process ≡ p) H
 all_of p [] none = All-nil (λ e. e.process ≡ p)
 all_of p (e ∷ H) none = All-cons (λ x. x.process ≡ p) e H
-    (⊎_elim (λ yes. eqb-true e.process p yes) (λ not. absurd (false≢true (sym (behind_first e H e.process (none e.process (λ is. false≢true (sym not ∙ eq-eqb e.process p is)))).0 ∙ eq-eqb e.process e.process refl))) (cases_Bool (e.process == p)))
+    (⊎_elim (λ yes. eqb-true e.process p yes)
+    (λ not. absurd
+    (false≢true
+    (sym (behind_first e H e.process (none e.process (λ is. false≢true (sym not ∙ eq-eqb e.process p is)))).0
+    ∙ eq-eqb e.process e.process refl)))
+    (cases_Bool (e.process == p)))
     (all_of p H (λ q else. (behind_first e H q (none q else)).1))
 
 none_of : (p q : ℕ) (H : List Entry) → (q ≡ p → ⊥) → All (λ e. e.process ≡ p) H → entries_of H q ≡ []

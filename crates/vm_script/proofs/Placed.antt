@@ -1,5 +1,6 @@
 -- A line that is read says what a line may say, and stands where it may.
-use Rattle.std.proofs.Common.{◌≡◌, ℕ, ◌≤◌, ◌<◌, ◌^◌, ◌+◌, ◌*◌, ◌%◌, ◌==◌, Bool, true, false, not, ◌&&◌, ◌||◌, List, [], ◌∷◌, length, Option, Some, None, Result, Ok, Err, refl, sym, ap, ◌∙◌, subst, arith, rules, tests, cond, ⊎_elim, inl, inr, lit<}
+use Rattle.std.proofs.Common.{◌≡◌, ℕ, ◌≤◌, ◌<◌, ◌^◌, ◌+◌, ◌*◌, ◌%◌, ◌==◌, Bool, true, false, not, ◌&&◌, ◌||◌, List, [], ◌∷◌, length, Option, Some}
+use Rattle.std.proofs.Common.{None, Result, Ok, Err, refl, sym, ap, ◌∙◌, subst, arith, rules, tests, cond, ⊎_elim, inl, inr, lit<}
 use Rattle.std.specs.Prelude.{IfOk, IsTrue, codes, nat_lt, nat_le, if◌then◌else◌}
 use Rattle.std.specs.List.{list_all}
 use Rattle.std.proofs.lemmas.Bool.{false≢true, cases_Bool, eqb-true}
@@ -21,7 +22,11 @@ use Rattle.vm_script.specs.declared.statement.Statement.TheVariants as says
 use Rattle.vm_script.specs.declared.statement.LineSpot.{LineSpot}
 use Rattle.vm_script.specs.Fields.{is_word, digits_at, number_of_field, is_file_name, is_hex_digit, is_digit, digit_value, value_of_digits, hex_bytes, bytes_of_field}
 use Rattle.vm_script.specs.Reading.{◌>>=◌, ◌>>◌, or_fault, need}
-use Rattle.vm_script.specs.Statements.{number, name, bytes, size, prot, kind, place, load_line, store_line, map_object, map_of, map_line, unmap_line, protect_of, protect_line, sync_line, read_of, read_call_line, write_of, write_line, truncate_line, lone_word, own_statement, amount, path, disk_setup, disk, content, mode, file_setup, file, setup_statement, block_statement, word_statement, statement, is_comment}
+use Rattle.vm_script.specs.Statements.{number, name, bytes, size, prot, kind, place, load_line, store_line, map_object, map_of, map_line, unmap_line}
+use Rattle.vm_script.specs.Statements.{protect_of, protect_line, sync_line, read_of, read_call_line, write_of, write_line, truncate_line, lone_word}
+use Rattle.vm_script.specs.Statements.{own_statement, amount, path, disk_setup, disk, content, mode, file_setup, file, disk_statement}
+use Rattle.vm_script.specs.Statements.{setup_statement}
+use Rattle.vm_script.specs.Statements.{block_statement, file_statement, mapping_statement, word_statement, statement, is_comment}
 use Rattle.vm_script.specs.Printed.{IsPlanAct, IsContent, AreBytes, may_stand, setup_may_stand}
 
 pub bind : {A B : Type 0} (r : Result A ScriptKind) (f : A → Result B ScriptKind) (P : B → Type 0) → ((x : A) → r ≡ Ok x → IfOk (f x) P) → IfOk (r >>= f) P
@@ -125,7 +130,8 @@ hex_length (a ∷ b ∷ more) even = let ih = hex_length more (omega (arith, eve
 
 pub bytes_is : (field t : List ℕ) → bytes field ≡ Ok t → IsContent t
 unfolding bytes_of_field
-bytes_is field t is = from ((length field % 2) == 0) (nat_le 2 (length field)) (nat_le (length field) 131072) (list_all is_hex_digit field) refl refl refl refl (or_fault_is fault.Bytes (bytes_of_field field) t is)
+bytes_is field t is =
+    from ((length field % 2) == 0) (nat_le 2 (length field)) (nat_le (length field) 131072) (list_all is_hex_digit field) refl refl refl refl (or_fault_is fault.Bytes (bytes_of_field field) t is)
   where
     from : (a b c d : Bool) → ((length field % 2) == 0) ≡ a → nat_le 2 (length field) ≡ b → nat_le (length field) 131072 ≡ c → list_all is_hex_digit field ≡ d
         → (if a && b && c && d then Some (hex_bytes field) else None) ≡ Some t → IsContent t
@@ -201,7 +207,11 @@ unfolding protect_line protect_of
 protect_is [] = tt
 protect_is (a ∷ []) = tt
 protect_is (a ∷ l ∷ []) = tt
-protect_is (a ∷ l ∷ p ∷ []) = bind (number a) _ IsPlanAct (λ addr is. bind (number l) _ IsPlanAct (λ len js. bind (prot p) _ IsPlanAct (λ rights ks. (number_is a addr is, number_is l len js, if_ok (prot p) IsProt rights (prot_is p) ks))))
+protect_is (a ∷ l ∷ p ∷ []) =
+    bind (number a) _ IsPlanAct
+    (λ addr is. bind (number l) _ IsPlanAct
+    (λ len js. bind (prot p) _ IsPlanAct
+    (λ rights ks. (number_is a addr is, number_is l len js, if_ok (prot p) IsProt rights (prot_is p) ks))))
 protect_is (a ∷ l ∷ p ∷ b ∷ more) = tt
 
 from_to : (n : ℕ) → (nat_le 1 n && nat_le n 65536) ≡ true → (1 ≤ n) × (n ≤ 65536)
@@ -221,7 +231,8 @@ unfolding write_line write_of
 write_is [] = tt
 write_is (n ∷ []) = tt
 write_is (n ∷ o ∷ []) = tt
-write_is (n ∷ o ∷ t ∷ []) = bind (name n) _ IsPlanAct (λ file is. bind (number o) _ IsPlanAct (λ offset js. bind (bytes t) _ IsPlanAct (λ text ks. (name_is n file is, refl, number_is o offset js, bytes_is t text ks))))
+write_is (n ∷ o ∷ t ∷ []) =
+    bind (name n) _ IsPlanAct (λ file is. bind (number o) _ IsPlanAct (λ offset js. bind (bytes t) _ IsPlanAct (λ text ks. (name_is n file is, refl, number_is o offset js, bytes_is t text ks))))
 write_is (n ∷ o ∷ t ∷ b ∷ more) = tt
 
 truncate_is : (args : List (List ℕ)) → IfOk (truncate_line args) IsPlanAct
@@ -253,7 +264,9 @@ disk_stands spot (d ∷ []) ok = tt
 disk_stands spot (d ∷ f ∷ []) ok = tt
 disk_stands spot (d ∷ f ∷ x ∷ []) ok =
     let P : SetupAct → Type 0 = λ a. setup_may_stand spot a ≡ true in
-    bind (number d) _ P (λ n e. choice (is_word f (codes "blank")) _ _ P (λ _. bind (number x) _ P (λ m k. ok)) (λ _. choice (is_word f (codes "path")) _ _ P (λ _. bind (path x) _ P (λ m k. ok)) (λ _. tt)))
+    bind (number d) _ P
+    (λ n e. choice (is_word f (codes "blank")) _ _ P (λ _. bind (number x) _ P (λ m k. ok))
+    (λ _. choice (is_word f (codes "path")) _ _ P (λ _. bind (path x) _ P (λ m k. ok)) (λ _. tt)))
 disk_stands spot (d ∷ f ∷ x ∷ b ∷ more) ok = tt
 
 file_stands : (spot : LineSpot) (args : List (List ℕ)) → spot.opening ≡ true → IfOk (file args) (λ a. setup_may_stand spot a ≡ true)
@@ -268,14 +281,16 @@ file_stands spot (n ∷ m ∷ d ∷ p ∷ x ∷ []) ok =
     bind (name n) _ P (λ a ea. bind (mode m) _ P (λ b eb. bind (number d) _ P (λ c ec. bind (number p) _ P (λ e ee. bind (content x) _ P (λ f ef. ok)))))
 file_stands spot (n ∷ m ∷ d ∷ p ∷ x ∷ b ∷ more) ok = tt
 
-setup_is : (spot : LineSpot) (word : List ℕ) (args : List (List ℕ)) → IfOk (setup_statement spot word args) (IsPlaced spot)
-unfolding setup_statement
-setup_is spot word args =
-    choice (is_word word (codes "frames")) _ _ (IsPlaced spot) (λ _. needed fault.Place (spot.opening && not spot.frames) _ (IsPlaced spot) (λ ok. bind (amount args) _ (IsPlaced spot) (λ n e. (ok, tt))))
-    (λ _. choice (is_word word (codes "swap")) _ _ (IsPlaced spot) (λ _. needed fault.Place (spot.opening && not spot.swap) _ (IsPlaced spot) (λ ok. bind (amount args) _ (IsPlaced spot) (λ n e. (ok, tt))))
-    (λ _. choice (is_word word (codes "translations")) _ _ (IsPlaced spot) (λ _. needed fault.Place (spot.opening && not spot.translations) _ (IsPlaced spot) (λ ok. bind (amount args) _ (IsPlaced spot) (λ n e. (ok, tt))))
-    (λ _. choice (is_word word (codes "disk")) _ _ (IsPlaced spot) (λ _. needed fault.Place spot.opening _ (IsPlaced spot) (λ ok. bind (disk args) _ (IsPlaced spot) (λ a e. (disk_may spot a args ok e, tt))))
-    (λ _. choice (is_word word (codes "file")) _ _ (IsPlaced spot) (λ _. needed fault.Place spot.opening _ (IsPlaced spot) (λ ok. bind (file args) _ (IsPlaced spot) (λ a e. (file_may spot a args ok e, tt)))) (λ _. tt)))))
+disk_statement_is : (spot : LineSpot) (word : List ℕ) (args : List (List ℕ)) → IfOk (disk_statement spot word args) (IsPlaced spot)
+unfolding disk_statement
+disk_statement_is spot word args =
+    choice (is_word word (codes "disk")) _ _ (IsPlaced spot)
+    (λ _. needed fault.Place spot.opening _ (IsPlaced spot)
+    (λ ok. bind (disk args) _ (IsPlaced spot) (λ a e. (disk_may spot a args ok e, tt))))
+    (λ _. choice (is_word word (codes "file")) _ _ (IsPlaced spot)
+    (λ _. needed fault.Place spot.opening _ (IsPlaced spot)
+    (λ ok. bind (file args) _ (IsPlaced spot) (λ a e. (file_may spot a args ok e, tt))))
+    (λ _. tt))
   where
     disk_may : (spot : LineSpot) (a : SetupAct) (args : List (List ℕ)) → spot.opening ≡ true → disk args ≡ Ok a → setup_may_stand spot a ≡ true
     disk_may spot a args ok e = if_ok (disk args) (λ a. setup_may_stand spot a ≡ true) a (disk_stands spot args ok) e
@@ -283,28 +298,54 @@ setup_is spot word args =
     file_may : (spot : LineSpot) (a : SetupAct) (args : List (List ℕ)) → spot.opening ≡ true → file args ≡ Ok a → setup_may_stand spot a ≡ true
     file_may spot a args ok e = if_ok (file args) (λ a. setup_may_stand spot a ≡ true) a (file_stands spot args ok) e
 
+setup_is : (spot : LineSpot) (word : List ℕ) (args : List (List ℕ)) → IfOk (setup_statement spot word args) (IsPlaced spot)
+unfolding setup_statement
+setup_is spot word args =
+    choice (is_word word (codes "frames")) _ _ (IsPlaced spot)
+    (λ _. needed fault.Place (spot.opening && not spot.frames) _ (IsPlaced spot)
+    (λ ok. bind (amount args) _ (IsPlaced spot) (λ n e. (ok, tt))))
+    (λ _. choice (is_word word (codes "swap")) _ _ (IsPlaced spot)
+    (λ _. needed fault.Place (spot.opening && not spot.swap) _ (IsPlaced spot)
+    (λ ok. bind (amount args) _ (IsPlaced spot) (λ n e. (ok, tt))))
+    (λ _. choice (is_word word (codes "translations")) _ _ (IsPlaced spot)
+    (λ _. needed fault.Place (spot.opening && not spot.translations) _ (IsPlaced spot)
+    (λ ok. bind (amount args) _ (IsPlaced spot) (λ n e. (ok, tt))))
+    (λ _. disk_statement_is spot word args)))
+
 block_is : (spot : LineSpot) (word : List ℕ) (args : List (List ℕ)) → IfOk (block_statement spot word args) (IsPlaced spot)
 unfolding block_statement
 block_is spot word args =
-    choice (is_word word (codes "wait")) _ _ (IsPlaced spot) (λ _. needed fault.Place spot.inside _ (IsPlaced spot) (λ ok. own_is spot (lone_word act.Wait args) ok (alone_is act.Wait args IsPlanAct tt)))
+    choice (is_word word (codes "wait")) _ _ (IsPlaced spot)
+    (λ _. needed fault.Place spot.inside _ (IsPlaced spot)
+    (λ ok. own_is spot (lone_word act.Wait args) ok (alone_is act.Wait args IsPlanAct tt)))
     (λ _. choice (is_word word (codes "process")) _ _ (IsPlaced spot) (λ _. needed fault.Place (not spot.inside) _ (IsPlaced spot) (λ ok. alone_is says.Process args (IsPlaced spot) (ok, tt)))
     (λ _. choice (is_word word (codes "fork")) _ _ (IsPlaced spot) (λ _. needed fault.Place spot.inside _ (IsPlaced spot) (λ ok. alone_is says.Fork args (IsPlaced spot) (ok, tt)))
     (λ _. choice (is_word word (codes "end")) _ _ (IsPlaced spot) (λ _. needed fault.Place spot.inside _ (IsPlaced spot) (λ ok. alone_is says.End args (IsPlaced spot) (ok, tt)))
     (λ _. setup_is spot word args))))
+
+file_call_is : (spot : LineSpot) (word : List ℕ) (args : List (List ℕ)) → IfOk (file_statement spot word args) (IsPlaced spot)
+unfolding file_statement
+file_call_is spot word args =
+    choice (is_word word (codes "read")) _ _ (IsPlaced spot) (λ _. needed fault.Place spot.inside _ (IsPlaced spot) (λ ok. own_is spot (read_call_line args) ok (read_is args)))
+    (λ _. choice (is_word word (codes "write")) _ _ (IsPlaced spot) (λ _. needed fault.Place spot.inside _ (IsPlaced spot) (λ ok. own_is spot (write_line args) ok (write_is args)))
+    (λ _. choice (is_word word (codes "truncate")) _ _ (IsPlaced spot) (λ _. needed fault.Place spot.inside _ (IsPlaced spot) (λ ok. own_is spot (truncate_line args) ok (truncate_is args)))
+    (λ _. block_is spot word args)))
+
+mapping_is : (spot : LineSpot) (word : List ℕ) (args : List (List ℕ)) → IfOk (mapping_statement spot word args) (IsPlaced spot)
+unfolding mapping_statement
+mapping_is spot word args =
+    choice (is_word word (codes "map")) _ _ (IsPlaced spot) (λ _. needed fault.Place spot.inside _ (IsPlaced spot) (λ ok. own_is spot (map_line args) ok (map_is args)))
+    (λ _. choice (is_word word (codes "unmap")) _ _ (IsPlaced spot) (λ _. needed fault.Place spot.inside _ (IsPlaced spot) (λ ok. own_is spot (unmap_line args) ok (unmap_is args)))
+    (λ _. choice (is_word word (codes "protect")) _ _ (IsPlaced spot) (λ _. needed fault.Place spot.inside _ (IsPlaced spot) (λ ok. own_is spot (protect_line args) ok (protect_is args)))
+    (λ _. choice (is_word word (codes "sync")) _ _ (IsPlaced spot) (λ _. needed fault.Place spot.inside _ (IsPlaced spot) (λ ok. own_is spot (sync_line args) ok (sync_is args)))
+    (λ _. file_call_is spot word args))))
 
 word_is : (spot : LineSpot) (word : List ℕ) (args : List (List ℕ)) → IfOk (word_statement spot word args) (IsPlaced spot)
 unfolding word_statement
 word_is spot word args =
     choice (is_word word (codes "load")) _ _ (IsPlaced spot) (λ _. needed fault.Place spot.inside _ (IsPlaced spot) (λ ok. own_is spot (load_line args) ok (load_is args)))
     (λ _. choice (is_word word (codes "store")) _ _ (IsPlaced spot) (λ _. needed fault.Place spot.inside _ (IsPlaced spot) (λ ok. own_is spot (store_line args) ok (store_is args)))
-    (λ _. choice (is_word word (codes "map")) _ _ (IsPlaced spot) (λ _. needed fault.Place spot.inside _ (IsPlaced spot) (λ ok. own_is spot (map_line args) ok (map_is args)))
-    (λ _. choice (is_word word (codes "unmap")) _ _ (IsPlaced spot) (λ _. needed fault.Place spot.inside _ (IsPlaced spot) (λ ok. own_is spot (unmap_line args) ok (unmap_is args)))
-    (λ _. choice (is_word word (codes "protect")) _ _ (IsPlaced spot) (λ _. needed fault.Place spot.inside _ (IsPlaced spot) (λ ok. own_is spot (protect_line args) ok (protect_is args)))
-    (λ _. choice (is_word word (codes "sync")) _ _ (IsPlaced spot) (λ _. needed fault.Place spot.inside _ (IsPlaced spot) (λ ok. own_is spot (sync_line args) ok (sync_is args)))
-    (λ _. choice (is_word word (codes "read")) _ _ (IsPlaced spot) (λ _. needed fault.Place spot.inside _ (IsPlaced spot) (λ ok. own_is spot (read_call_line args) ok (read_is args)))
-    (λ _. choice (is_word word (codes "write")) _ _ (IsPlaced spot) (λ _. needed fault.Place spot.inside _ (IsPlaced spot) (λ ok. own_is spot (write_line args) ok (write_is args)))
-    (λ _. choice (is_word word (codes "truncate")) _ _ (IsPlaced spot) (λ _. needed fault.Place spot.inside _ (IsPlaced spot) (λ ok. own_is spot (truncate_line args) ok (truncate_is args)))
-    (λ _. block_is spot word args)))))))))
+    (λ _. mapping_is spot word args))
 
 pub statement_is : (spot : LineSpot) (plain : Bool) (fs : List (List ℕ)) → IfOk (statement spot plain fs) (IsPlaced spot)
 unfolding statement

@@ -1,20 +1,19 @@
 -- A wait by a cut of the history, and by the positions of entries.
-use Rattle.std.proofs.Common.{◌≡◌, ℕ, zero, suc, ◌≤◌, ◌<◌, true, ◌==◌, List, [], ◌∷◌, ◌++◌, length, take, drop, Some, None, refl, sym, ap, ap₂, ◌∙◌, subst, append_assoc, arith, cond, ◌⊎◌, ⊎_elim, inl, inr, eq-eqb}
-use Rattle.std.specs.Prelude.{slice_get, MatchOption}
+use Rattle.std.proofs.Common.{◌≡◌, ℕ, zero, suc, ◌≤◌, ◌<◌, true, ◌==◌, List, [], ◌∷◌, ◌++◌, length, take, Some, None, refl, sym, ap, ap₂, ◌∙◌, subst}
+use Rattle.std.proofs.Common.{append_assoc, arith, cond, ◌⊎◌, ⊎_elim, inl, inr, eq-eqb}
+use Rattle.std.specs.Prelude.{slice_get}
 use Rattle.std.specs.List.{flat_map}
 use Rattle.std.proofs.lemmas.Bool.{false≢true, cases_Bool, eqb-true}
-use Rattle.vm_types.specs.declared.call.Call.{Call}
+use Rattle.std.proofs.lemmas.Option.{same_Some}
 use Rattle.vm_types.specs.declared.call.Entry.{Entry}
-use Rattle.vm_types.specs.Parts.{next_part, part_bytes}
-use Rattle.flat_model.specs.Told.{SpelledLine, entries_of, Spells, SpellsAll}
+use Rattle.flat_model.specs.Told.{SpelledLine, entries_of, SpellsAll}
 use Rattle.vm_script.specs.declared.plan.PlanLine.{PlanLine}
 use Rattle.vm_script.specs.PlanSeen.{PlanSeen}
 use Rattle.vm_script.specs.Told.{Spell, calls_of, HasWaited, HasWaitedByPlace}
-use Rattle.vm_script.proofs.Tellings.{entries-append, behind_first}
+use Rattle.flat_model.proofs.Replays.{entries_of-append}
+use Rattle.flat_model.proofs.Spellings.{SpellsAll-unique}
+use Rattle.vm_script.proofs.Tellings.{behind_first}
 use Rattle.vm_script.proofs.Runs.{flat_map_append}
-
-cons_none : {A : Type 0} (x : A) (xs : List A) → x ∷ xs ≡ [] → ⊥
-cons_none x xs e = cc e
 
 heads : {A : Type 0} (x y : A) (xs ys : List A) → x ∷ xs ≡ y ∷ ys → x ≡ y
 heads x y xs ys e = cc e
@@ -22,39 +21,8 @@ heads x y xs ys e = cc e
 tails : {A : Type 0} (x y : A) (xs ys : List A) → x ∷ xs ≡ y ∷ ys → xs ≡ ys
 tails x y xs ys e = cc e
 
-some_same : {A : Type 0} (x y : A) → Some x ≡ Some y → x ≡ y
-some_same x y e = cc e
-
 some_none : {A : Type 0} (x : A) → None ≡ Some x → ⊥
 some_none x e = cc e
-
-cancel : {A : Type 0} (zs xs ys : List A) → zs ++ xs ≡ zs ++ ys → xs ≡ ys
-cancel [] xs ys e = e
-cancel (z ∷ zs) xs ys e = cancel zs xs ys (tails z z (zs ++ xs) (zs ++ ys) e)
-
--- a spelling is read off from the left in one way
-spells_same : (call : Call) (bytes : List ℕ) (xs ys us bs : List Entry) → Spells call bytes xs → Spells call bytes ys → xs ++ us ≡ ys ++ bs → xs ≡ ys
-spells_same call bytes [] ys us bs h k e = absurd h
-spells_same call bytes (x ∷ xs) [] us bs h k e = absurd k
-spells_same call bytes (x ∷ xs) (y ∷ ys) us bs h k e =
-    let same : x ≡ y = heads x y (xs ++ us) (ys ++ bs) e in
-    let rest : xs ++ us ≡ ys ++ bs = tails x y (xs ++ us) (ys ++ bs) e in
-    let mine : MatchOption (next_part call y.reply bytes) (xs ≡ []) (λ next. Spells next (drop (length (part_bytes next)) bytes) xs) =
-    subst (λ (z : Entry). MatchOption (next_part call z.reply bytes) (xs ≡ []) (λ next. Spells next (drop (length (part_bytes next)) bytes) xs)) same h.1 in
-    ap₂ (λ (z : Entry) (zs : List Entry). z ∷ zs) same
-    (elim (next_part call y.reply bytes) as (λ o. MatchOption o (xs ≡ []) (λ next. Spells next (drop (length (part_bytes next)) bytes) xs) → MatchOption o (ys ≡ []) (λ next. Spells next (drop (length (part_bytes next)) bytes) ys) → xs ≡ ys) [
-      | None ↦ λ a b. a ∙ sym b
-      | Some next ↦ λ a b. spells_same next (drop (length (part_bytes next)) bytes) xs ys us bs a b rest
-    ] mine k.1)
-
-all_same : (ls : List SpelledLine) (xs ys us bs : List Entry) → SpellsAll ls xs → SpellsAll ls ys → xs ++ us ≡ ys ++ bs → xs ≡ ys
-all_same [] xs ys us bs h k e = h ∙ sym k
-all_same (l ∷ ls) xs ys us bs (f, r, is, one, more) (g, s, js, two, others) e =
-    let whole : f ++ (r ++ us) ≡ g ++ (s ++ bs) =
-    sym (append_assoc f r us) ∙ (ap (λ z. z ++ us) (sym is) ∙ (e ∙ (ap (λ z. z ++ bs) js ∙ append_assoc g s bs))) in
-    let first : f ≡ g = spells_same l.call l.bytes f g (r ++ us) (s ++ bs) one two whole in
-    let rest : r ≡ s = all_same ls r s us bs more others (cancel g (r ++ us) (s ++ bs) (ap (λ z. z ++ (r ++ us)) (sym first) ∙ whole)) in
-    is ∙ (ap₂ (λ a b. a ++ b) first rest ∙ sym js)
 
 -- the spelling of lines one behind the other begins with that of the first ones
 split_all : (ls ms : List SpelledLine) (es : List Entry) → SpellsAll (ls ++ ms) es → (front : List Entry) × (back : List Entry) × (es ≡ front ++ back) × SpellsAll ls front
@@ -68,7 +36,7 @@ none_at : (H : List Entry) (i : ℕ) (d : Entry) (q : ℕ) → slice_get H i ≡
 none_at [] i d q at is none = some_none d at
 none_at (h ∷ H) zero d q at is none =
     let first = behind_first h H q none in
-    false≢true (sym first.0 ∙ eq-eqb h.process q (ap (λ (x : Entry). x.process) (some_same h d at) ∙ is))
+    false≢true (sym first.0 ∙ eq-eqb h.process q (ap (λ (x : Entry). x.process) (same_Some h d at) ∙ is))
 none_at (h ∷ H) (suc i) d q at is none = none_at H i d q at is (behind_first h H q none).1
 
 -- an entry of q stands in the cut, where none stands behind it
@@ -82,13 +50,17 @@ behind_cut : (cut rest : List Entry) (j : ℕ) (e : Entry) (p : ℕ) → slice_g
     → length (entries_of cut p) ≤ length (entries_of (take j (cut ++ rest)) p) → length cut ≤ j
 behind_cut [] rest j e p at is le = omega arith
 behind_cut (c ∷ cut) rest zero e p at is le =
-    let mine : (c.process == p) ≡ true = eq-eqb c.process p (ap (λ (x : Entry). x.process) (some_same c e at) ∙ is) in
+    let mine : (c.process == p) ≡ true = eq-eqb c.process p (ap (λ (x : Entry). x.process) (same_Some c e at) ∙ is) in
     let long : length (c ∷ entries_of cut p) ≤ 0 = subst (λ b. length (cond b (c ∷ entries_of cut p) (entries_of cut p)) ≤ 0) mine le in
     absurd (omega (arith, long))
 behind_cut (c ∷ cut) rest (suc j) e p at is le =
     let less : length (entries_of cut p) ≤ length (entries_of (take j (cut ++ rest)) p) =
     ⊎_elim
-    (λ yes. let le' : length (c ∷ entries_of cut p) ≤ length (c ∷ entries_of (take j (cut ++ rest)) p) = subst (λ b. length (cond b (c ∷ entries_of cut p) (entries_of cut p)) ≤ length (cond b (c ∷ entries_of (take j (cut ++ rest)) p) (entries_of (take j (cut ++ rest)) p))) yes le in omega (arith, le'))
+    (λ yes. let le' : length (c ∷ entries_of cut p) ≤ length (c ∷ entries_of (take j (cut ++ rest)) p) = subst
+    (λ b. length (cond b (c ∷ entries_of cut p) (entries_of cut p)) ≤ length
+    (cond b (c ∷ entries_of (take j (cut ++ rest)) p) (entries_of (take j (cut ++ rest)) p)))
+    yes le in
+    omega (arith, le'))
     (λ non. subst (λ b. length (cond b (c ∷ entries_of cut p) (entries_of cut p)) ≤ length (cond b (c ∷ entries_of (take j (cut ++ rest)) p) (entries_of (take j (cut ++ rest)) p))) non le)
     (cases_Bool (c.process == p)) in
     let ih = behind_cut cut rest j e p at is less in
@@ -96,8 +68,8 @@ behind_cut (c ∷ cut) rest (suc j) e p at is le =
 
 pub by_place : (plan : PlanSeen) (H : List Entry) (p : ℕ) (before : List PlanLine) → HasWaited plan H p before → HasWaitedByPlace plan H p before
 by_place plan H p before w front back split spelled c q i j d e forks under at_i is_q at_j is_p enough =
-    let same : entries_of w.cut p ≡ front = all_same (flat_map (λ l. calls_of l.act) before) (entries_of w.cut p) front (entries_of w.rest p) back w.own spelled
-    (sym (entries-append w.cut w.rest p) ∙ (ap (λ h. entries_of h p) w.is ∙ split)) in
+    let same : entries_of w.cut p ≡ front = SpellsAll-unique (flat_map (λ l. calls_of l.act) before) (entries_of w.cut p) front (entries_of w.rest p) back w.own spelled
+    (sym (entries_of-append w.cut w.rest p) ∙ (ap (λ h. entries_of h p) w.is ∙ split)) in
     let low : i < length w.cut = before_cut w.cut w.rest i d q (ap (λ h. slice_get h i) w.is ∙ at_i) is_q (w.ended c q forks under) in
     let count : length (entries_of w.cut p) ≤ length (entries_of (take j (w.cut ++ w.rest)) p) =
     omega (arith, enough, ap length same, ap (λ h. length (entries_of (take j h) p)) w.is) in
@@ -133,7 +105,14 @@ cut_at (h ∷ H) p front back e =
     at_own again [] first mine = record { cut = []; rest = h ∷ H; is = refl; own = refl; next = inr (h, H, refl, eqb-true h.process p first) }
     at_own again (f ∷ front) first mine =
         let more = again front (tails h f (entries_of H p) (front ++ back) mine) in
-        record { cut = h ∷ more.cut; rest = more.rest; is = ap (λ z. h ∷ z) more.is; own = ap (λ b. cond b (h ∷ entries_of more.cut p) (entries_of more.cut p)) first ∙ ap₂ (λ (a : Entry) (z : List Entry). a ∷ z) (heads h f (entries_of H p) (front ++ back) mine) more.own; next = more.next }
+        record {
+          cut = h ∷ more.cut;
+          rest = more.rest;
+          is = ap (λ z. h ∷ z) more.is;
+          own = ap (λ b. cond b (h ∷ entries_of more.cut p) (entries_of more.cut p)) first
+              ∙ ap₂ (λ (a : Entry) (z : List Entry). a ∷ z) (heads h f (entries_of H p) (front ++ back) mine) more.own;
+          next = more.next;
+        }
 
 -- where each entry of q stands in the cut, none stands behind it
 none_from : (cut rest : List Entry) (q : ℕ) → ((i : ℕ) (d : Entry) → slice_get (cut ++ rest) i ≡ Some d → d.process ≡ q → i < length cut) → entries_of rest q ≡ []

@@ -1,5 +1,6 @@
 -- A script that is printed plainly is read as what was printed.
-use Rattle.std.proofs.Common.{◌≡◌, ℕ, ◌≤◌, ◌<◌, ◌^◌, ◌+◌, ◌*◌, ◌/◌, ◌%◌, ◌==◌, Bool, true, false, not, ◌&&◌, List, [], ◌∷◌, ◌++◌, length, fold, Some, None, refl, ap, ap₂, ◌∙◌, arith, rules, tests, cond, length-append, lit<}
+use Rattle.std.proofs.Common.{◌≡◌, ℕ, ◌≤◌, ◌<◌, ◌^◌, ◌+◌, ◌*◌, ◌/◌, ◌%◌, ◌==◌, Bool, true, false, not, ◌&&◌, List, [], ◌∷◌, ◌++◌, length, fold, Some}
+use Rattle.std.proofs.Common.{None, refl, ap, ap₂, ◌∙◌, arith, rules, tests, cond, length-append, lit<}
 use Rattle.std.specs.Prelude.{All, IsTrue, codes, decimal, filter, nat_lt, nat_le, if◌then◌else◌}
 use Rattle.std.specs.List.{list_all, slice_split, onto_first}
 use Rattle.std.proofs.lemmas.Bool.{false≢true}
@@ -14,15 +15,15 @@ use Rattle.vm_script.specs.Quick.{AreWords, more}
 use Rattle.vm_script.specs.Texts.{hex_digit, hex_text}
 use Rattle.vm_script.specs.Printed.{line_of_fields}
 
-and_left : (a b : Bool) → (a && b) ≡ true → a ≡ true
+pub and_left : (a b : Bool) → (a && b) ≡ true → a ≡ true
 and_left true b e = refl
 and_left false b e = absurd (false≢true e)
 
-and_right : (a b : Bool) → (a && b) ≡ true → b ≡ true
+pub and_right : (a b : Bool) → (a && b) ≡ true → b ≡ true
 and_right true b e = e
 and_right false b e = absurd (false≢true e)
 
-both : (a b : Bool) → a ≡ true → b ≡ true → (a && b) ≡ true
+pub both : (a b : Bool) → a ≡ true → b ≡ true → (a && b) ≡ true
 both a b e f = ap₂ (λ x y. x && y) e f
 
 pub all_implies : (p q : ℕ → Bool) → ((b : ℕ) → p b ≡ true → q b ≡ true) → (xs : List ℕ) → list_all p xs ≡ true → list_all q xs ≡ true
@@ -49,7 +50,7 @@ value_step (x ∷ ds) d v = value_step ds d (10 * v + digit_value x)
 digit_back : (n : ℕ) → n < 10 → digit_value (48 + n) ≡ n
 digit_back n lt = grind (rules, tests, arith, nat_tests, lt)
 
-value_of_decimal : (n : ℕ) → n < 2 ^ 64 → value_of_digits 10 (decimal n) ≡ n
+pub value_of_decimal : (n : ℕ) → n < 2 ^ 64 → value_of_digits 10 (decimal n) ≡ n
 value_of_decimal = decimal_by_steps (λ n ds. value_of_digits 10 ds ≡ n)
     (λ n lt. let e = digit_back n lt in omega (arith, e))
     (λ n ds le ih. let e = digit_back (n % 10) (omega arith) in let s = value_step ds (48 + n % 10) 0 in omega (arith, e, s, ih))
@@ -92,7 +93,7 @@ not_any (x ∷ xs) all = let first : is_digit x ≡ true = and_left (is_digit x)
 hex_digit_is : (d : ℕ) → d < 16 → is_hex_digit (hex_digit d) ≡ true
 hex_digit_is d lt = grind (rules, tests, arith, nat_tests, lt)
 
-hex_digit_back : (d : ℕ) → d < 16 → digit_value (hex_digit d) ≡ d
+pub hex_digit_back : (d : ℕ) → d < 16 → digit_value (hex_digit d) ≡ d
 hex_digit_back d lt = grind (rules, tests, arith, nat_tests, lt)
 
 pub hex_all : (bytes : List ℕ) → All IsByte bytes → list_all is_hex_digit (hex_text bytes) ≡ true
@@ -102,7 +103,7 @@ hex_all (b ∷ bytes) all =
     both (is_hex_digit (hex_digit (b / 16))) (is_hex_digit (hex_digit (b % 16)) && list_all is_hex_digit (hex_text bytes)) (hex_digit_is (b / 16) (omega (arith, byte)))
     (both (is_hex_digit (hex_digit (b % 16))) (list_all is_hex_digit (hex_text bytes)) (hex_digit_is (b % 16) (omega arith)) (hex_all bytes (All-tail IsByte b bytes all)))
 
-hex_back : (bytes : List ℕ) → All IsByte bytes → hex_bytes (hex_text bytes) ≡ bytes
+pub hex_back : (bytes : List ℕ) → All IsByte bytes → hex_bytes (hex_text bytes) ≡ bytes
 hex_back [] all = refl
 hex_back (b ∷ bytes) all =
     let byte : b < 256 = All-head IsByte b bytes all in
@@ -111,7 +112,7 @@ hex_back (b ∷ bytes) all =
     let first : 16 * digit_value (hex_digit (b / 16)) + digit_value (hex_digit (b % 16)) ≡ b = omega (arith, high, low) in
     ap₂ (λ x xs. x ∷ xs) first (hex_back bytes (All-tail IsByte b bytes all))
 
-hex_count : (bytes : List ℕ) → length (hex_text bytes) ≡ 2 * length bytes
+pub hex_count : (bytes : List ℕ) → length (hex_text bytes) ≡ 2 * length bytes
 hex_count [] = refl
 hex_count (b ∷ bytes) = let ih = hex_count bytes in omega (arith, ih)
 
@@ -132,7 +133,7 @@ not_dash [] all = refl
 not_dash (x ∷ xs) all = let first : is_hex_digit x ≡ true = and_left (is_hex_digit x) (list_all is_hex_digit xs) all in grind (rules, tests, arith, nat_tests, first)
 
 -- lines and their fields
-split_word : (f rest : List ℕ) → list_all is_graphic f ≡ true → slice_split is_space (f ++ 32 ∷ rest) ≡ f ∷ slice_split is_space rest
+pub split_word : (f rest : List ℕ) → list_all is_graphic f ≡ true → slice_split is_space (f ++ 32 ∷ rest) ≡ f ∷ slice_split is_space rest
 split_word [] rest all = refl
 split_word (b ∷ f) rest all =
     let ih = split_word f rest (and_right (is_graphic b) (list_all is_graphic f) all) in
@@ -140,7 +141,7 @@ split_word (b ∷ f) rest all =
     let no_space : is_space b ≡ false = grind (rules, tests, arith, nat_tests, here) in
     ap (λ t. cond t ([] ∷ slice_split is_space (f ++ 32 ∷ rest)) (onto_first b (slice_split is_space (f ++ 32 ∷ rest)))) no_space ∙ ap (onto_first b) ih
 
-split_last : (f : List ℕ) → list_all is_graphic f ≡ true → slice_split is_space f ≡ f ∷ []
+pub split_last : (f : List ℕ) → list_all is_graphic f ≡ true → slice_split is_space f ≡ f ∷ []
 split_last [] all = refl
 split_last (b ∷ f) all =
     let ih = split_last f (and_right (is_graphic b) (list_all is_graphic f) all) in
@@ -187,7 +188,12 @@ words_name name is h = more graphic_name (some_isnt_empty name long) h
     front = and_left (nat_le 1 (length name) && nat_le (length name) 16 && list_all is_name_letter name) (not (is_word name (codes "zero"))) whole
 
     graphic_name : list_all is_graphic name ≡ true
-    graphic_name = all_implies is_name_letter is_graphic (λ b is. grind (rules, tests, arith, nat_tests, is)) name (and_right (nat_le 1 (length name) && nat_le (length name) 16) (list_all is_name_letter name) front)
+    graphic_name =
+        all_implies is_name_letter is_graphic (λ b is. grind (rules, tests, arith, nat_tests, is)) name
+        (and_right (nat_le 1 (length name) && nat_le (length name) 16) (list_all is_name_letter name) front)
 
     long : 1 ≤ length name
-    long = let t = and_left (nat_le 1 (length name)) (nat_le (length name) 16) (and_left (nat_le 1 (length name) && nat_le (length name) 16) (list_all is_name_letter name) front) in grind (arith, nat_tests, t)
+    long =
+        let t = and_left (nat_le 1 (length name)) (nat_le (length name) 16)
+        (and_left (nat_le 1 (length name) && nat_le (length name) 16) (list_all is_name_letter name) front) in
+        grind (arith, nat_tests, t)

@@ -1,5 +1,7 @@
 -- A line whose fields stand one space apart is read as it is by its fields.
-use Rattle.std.proofs.Common.{◌≡◌, ℕ, ◌≤◌, ◌<◌, ◌^◌, ◌+◌, ◌*◌, ◌==◌, Bool, true, false, not, ◌&&◌, List, [], ◌∷◌, ◌++◌, length, take, drop, slice_index_or, Some, None, Ok, refl, sym, ap, ap₂, ◌∙◌, subst, append_assoc, arith, rules, tests, ⊎_elim, length-append}
+use Rattle.std.proofs.Common.{◌≡◌, ℕ, ◌≤◌, ◌<◌, ◌^◌, ◌+◌, ◌*◌, ◌==◌, Bool, true, false, not, ◌&&◌, List, [], ◌∷◌, ◌++◌, length, take, drop}
+use Rattle.std.proofs.Common.{slice_index_or, Some, None, Ok, refl, sym, ap, ap₂, ◌∙◌, subst, append_assoc, arith, rules, tests, ⊎_elim}
+use Rattle.std.proofs.Common.{length-append}
 use Rattle.std.specs.Prelude.{codes, nat_le, nat_lt, if◌then◌else◌}
 use Rattle.std.specs.List.{list_all}
 use Rattle.std.proofs.lemmas.Bool.Decides.{nat_tests}
@@ -35,14 +37,16 @@ digits_are base most n p ds some few right value small = rw (right, sym value) (
     tests_of k low high = grind (rules, tests, arith, nat_tests, low, high, small)
 
 -- one digit more
-pub value_more : (base : ℕ) (text : List ℕ) (i v : ℕ) → i < length text → v ≡ value_of_digits base (take i text) → base * v + digit_value (slice_index_or text i 0) ≡ value_of_digits base (take (i + 1) text)
+pub value_more : (base : ℕ) (text : List ℕ) (i v : ℕ) → i < length text → v ≡ value_of_digits base (take i text)
+    → base * v + digit_value (slice_index_or text i 0) ≡ value_of_digits base (take (i + 1) text)
 value_more base text i v lt is = ap (λ a. base * a + digit_value (slice_index_or text i 0)) is ∙ sym (fold_more (λ a b. base * a + digit_value b) 0 text i 0 lt)
 
 pub right_more : (p : ℕ → Bool) (text : List ℕ) (i : ℕ) → i < length text → list_all p (take i text) ≡ true → p (slice_index_or text i 0) ≡ true → list_all p (take (i + 1) text) ≡ true
 right_more p text i lt all one = list_all_more p text i 0 lt ∙ rw (all, one) refl
 
 -- the digits in front of a text
-pub digits_begin : (base most n i : ℕ) (p : ℕ → Bool) (text rest : List ℕ) → 1 ≤ i → i ≤ most → i ≤ length text → list_all p (take i text) ≡ true → n ≡ value_of_digits base (take i text) → n < 2 ^ 32 → rest ≡ drop i text
+pub digits_begin : (base most n i : ℕ) (p : ℕ → Bool) (text rest : List ℕ) → 1 ≤ i → i ≤ most → i ≤ length text
+    → list_all p (take i text) ≡ true → n ≡ value_of_digits base (take i text) → n < 2 ^ 32 → rest ≡ drop i text
     → BeginsWithDigits base most p text n rest
 digits_begin base most n i p text rest some few within right value small is =
     let count : length (take i text) ≡ i = length-take-le i text within in
@@ -120,13 +124,15 @@ load_said : (spot : LineSpot) (a s : List ℕ) (addr n : ℕ) → spot.inside �
 unfolding statement word_statement load_line
 load_said spot a s addr n inside h k sized = rw (inside, h, size_of s n k sized) refl
 
-store_said : (spot : LineSpot) (a s v : List ℕ) (addr n value : ℕ) → spot.inside ≡ true → number_of_field a ≡ Some addr → number_of_field s ≡ Some n → IsWordSize n → number_of_field v ≡ Some value → nat_lt value (2 ^ (8 * n)) ≡ true
+store_said : (spot : LineSpot) (a s v : List ℕ) (addr n value : ℕ) → spot.inside ≡ true → number_of_field a ≡ Some addr
+    → number_of_field s ≡ Some n → IsWordSize n → number_of_field v ≡ Some value → nat_lt value (2 ^ (8 * n)) ≡ true
     → statement spot true (codes "store" ∷ a ∷ s ∷ v ∷ []) ≡ Ok (says.Own (act.Call (call.Store addr n value)))
 unfolding statement word_statement store_line
 store_said spot a s v addr n value inside h k sized l fits = rw (inside, h, size_of s n k sized, l, fits) refl
 
 -- two fields behind a word and one space each, up to the line feed
-pub load_begins : (text args r1 r2 r3 rest : List ℕ) (addr n : ℕ) → text ≡ codes "load " ++ args → BeginsWithNumber args addr r1 → r1 ≡ 32 ∷ r2 → BeginsWithNumber r2 n r3 → IsWordSize n → r3 ≡ 10 ∷ rest
+pub load_begins : (text args r1 r2 r3 rest : List ℕ) (addr n : ℕ) → text ≡ codes "load " ++ args → BeginsWithNumber args addr r1
+    → r1 ≡ 32 ∷ r2 → BeginsWithNumber r2 n r3 → IsWordSize n → r3 ≡ 10 ∷ rest
     → BeginsWithCall text (call.Load addr n) rest
 load_begins text args r1 r2 r3 rest addr n is a e1 s sized e3 = record {
   fs = codes "load" ∷ a.word ∷ s.word ∷ [];
@@ -135,7 +141,9 @@ load_begins text args r1 r2 r3 rest addr n is a e1 s sized e3 = record {
   makes = λ spot inside. load_said spot a.word s.word addr n inside a.number s.number sized;
 }
 
-pub store_begins : (text args r1 r2 r3 r4 r5 rest : List ℕ) (addr n value : ℕ) → text ≡ codes "store " ++ args → BeginsWithNumber args addr r1 → r1 ≡ 32 ∷ r2 → BeginsWithNumber r2 n r3 → IsWordSize n → r3 ≡ 32 ∷ r4 → BeginsWithNumber r4 value r5 → r5 ≡ 10 ∷ rest
+pub store_begins : (text args r1 r2 r3 r4 r5 rest : List ℕ) (addr n value : ℕ) → text ≡ codes "store " ++ args
+    → BeginsWithNumber args addr r1 → r1 ≡ 32 ∷ r2 → BeginsWithNumber r2 n r3 → IsWordSize n → r3 ≡ 32 ∷ r4 → BeginsWithNumber r4 value r5
+    → r5 ≡ 10 ∷ rest
     → nat_lt value (2 ^ (8 * n)) ≡ true → BeginsWithCall text (call.Store addr n value) rest
 store_begins text args r1 r2 r3 r4 r5 rest addr n value is a e1 s sized e3 v e5 fits = record {
   fs = codes "store" ∷ a.word ∷ s.word ∷ v.word ∷ [];

@@ -5,6 +5,7 @@ use Rattle.std.proofs.lemmas.Bool.{cases_Bool, cases_lt, cases_eq, eqb-true}
 use Rattle.std.proofs.lemmas.List.Elements.{All-nil, All-cons, All-append, All-head, All-tail, All-weaker, filter-append}
 use Rattle.std.proofs.lemmas.Option.{slice_get_within}
 use Rattle.vm_types.specs.declared.call.Call.TheVariants as call
+use Rattle.std.proofs.lemmas.Option.{same_Some}
 use Rattle.vm_script.specs.declared.plan.PlanAct.{PlanAct}
 use Rattle.vm_script.specs.declared.plan.PlanAct.TheVariants as act
 use Rattle.vm_script.specs.declared.plan.PlanLine.{PlanLine}
@@ -157,7 +158,10 @@ tops_within parents n m lines (block _ k _ own rest is whole more) =
     record {
       up = omega (arith, up, on);
       all = All-append (λ l. (n ≤ l.process) × (l.process < m)) own rest
-          (All-weaker (IsWithin n (n + 1) k) (λ l. (n ≤ l.process) × (l.process < m)) (λ l h. ⊎_elim (λ e. (omega (arith, e), omega (arith, e, up, on))) (λ r. let a = r.0 in let b = r.1 in (omega (arith, a), omega (arith, b, on))) h) own c.all)
+          (All-weaker (IsWithin n (n + 1) k) (λ l. (n ≤ l.process) × (l.process < m))
+          (λ l h. ⊎_elim (λ e. (omega (arith, e), omega (arith, e, up, on)))
+          (λ r. let a = r.0 in let b = r.1 in (omega (arith, a), omega (arith, b, on))) h)
+          own c.all)
           (All-weaker (λ l. (k ≤ l.process) × (l.process < m)) (λ l. (n ≤ l.process) × (l.process < m)) (λ l r. let a = r.0 in (omega (arith, a, up), r.1)) rest h.all);
     }
 
@@ -214,16 +218,13 @@ parents_top parents n m c lines some from to (block _ k _ own rest is whole more
     above : (n p : ℕ) → n ≤ p → (n ≡ p → ⊥) → n + 1 ≤ p
     above n p le else = ⊎_elim (λ lt. omega (arith, lt)) (λ ge. absurd (else (omega (arith, le, ge)))) (cases_lt n p)
 
-same_some : (a b : ℕ) → Some a ≡ Some b → a ≡ b
-same_some a b e = cc e
-
 pub lower_parent : (plan : PlanSeen) (c p : ℕ) → Nests plan → parent_of plan.parents c ≡ Some p → p < c
 lower_parent plan zero p nests is = absurd (cc is)
 lower_parent plan (suc i) p nests is =
     let low = slice_get_within plan.parents i p is in
     let h = parents_top plan.parents 1 (length plan.parents + 1) (suc i) plan.lines (omega arith) (omega arith) (omega (arith, low)) nests in
     let lower = h.lower in
-    let same = same_some h.parent p (sym h.is ∙ is) in
+    let same = same_Some h.parent p (sym h.is ∙ is) in
     omega (arith, lower, same)
 
 no_fork : (parents : List ℕ) (p line : ℕ) (a : PlanAct) → IsInner a → IsForkOfParent parents (record { line = line; process = p; act = a })

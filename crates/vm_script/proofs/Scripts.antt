@@ -25,11 +25,17 @@ use Rattle.vm_script.specs.declared.statement.LineSpot.{LineSpot}
 use Rattle.vm_script.specs.Fields.{is_word, is_file_name}
 use Rattle.vm_script.specs.Lines.{is_plain, fields, lines}
 use Rattle.vm_script.specs.Plans.{OpenPlan, empty_plan, plan_seen, with_statement, spot_of, plan_from, plan_of}
-use Rattle.vm_script.specs.Statements.{number, name, bytes, size, prot, kind, place, mode, content, path, load_line, store_line, map_object, map_of, map_line, unmap_line, protect_of, protect_line, sync_line, read_of, read_call_line, write_of, write_line, truncate_line, disk_setup, disk, file_setup, file, setup_statement, block_statement, word_statement, statement, unknown_file}
+use Rattle.vm_script.specs.Statements.{name, bytes, size, prot, kind, place, mode, content, path, load_line, store_line, map_object, map_of, map_line}
+use Rattle.vm_script.specs.Statements.{unmap_line, protect_of, protect_line, sync_line, read_of, read_call_line, write_of, write_line, truncate_line}
+use Rattle.vm_script.specs.Statements.{disk_setup, disk, file_setup, file, disk_statement, setup_statement, block_statement, file_statement}
+use Rattle.vm_script.specs.Statements.{mapping_statement, word_statement, statement, unknown_file}
 use Rattle.vm_script.specs.Quick.{AreWords, none, more}
 use Rattle.vm_script.specs.Texts.{hex_text, prot_text, kind_text}
-use Rattle.vm_script.specs.Printed.{place_text, content_text, call_fields, setup_fields, statement_fields, line_of_fields, script_text, IsContent, IsPlainCall, IsNamedCall, IsSetupAct, IsStatement, setup_may_stand, may_stand, with_statements, StandRight, IsScript}
-use Rattle.vm_script.proofs.Printing.{number_text, not_any, digits_of_decimal, bytes_text_back, not_dash, hex_all, fields_joined, plain_joined, lines_joined, words_number, words_bytes, words_name, some_isnt_empty}
+use Rattle.vm_script.specs.Printed.{place_text, content_text, call_fields, setup_fields, statement_fields, line_of_fields, script_text, IsContent}
+use Rattle.vm_script.specs.Printed.{IsPlainCall, IsNamedCall, IsSetupAct, IsStatement, setup_may_stand, may_stand, with_statements, StandRight}
+use Rattle.vm_script.specs.Printed.{IsScript}
+use Rattle.vm_script.proofs.Printing.{number_text, not_any, digits_of_decimal, bytes_text_back, not_dash, hex_all, fields_joined, plain_joined}
+use Rattle.vm_script.proofs.Printing.{lines_joined, words_number, words_bytes, words_name, some_isnt_empty}
 
 size_text : (n : ℕ) → IsWordSize n → size (decimal n) ≡ Ok n
 unfolding size
@@ -37,9 +43,6 @@ size_text n is = ⊎_elim (λ e. at n 1 e (rw (number_text 1 (lit< tt)) refl)) (
   where
     at : (n k : ℕ) → n ≡ k → size (decimal k) ≡ Ok k → size (decimal n) ≡ Ok n
     at n k e h = subst (λ m. size (decimal m) ≡ Ok m) (sym e) h
-
-number_back : (n : ℕ) → IsNumber n → number (decimal n) ≡ Ok n
-number_back n is = rw (number_text n is) refl
 
 prot_back : (n : ℕ) → n < 4 → prot (prot_text (record { 0 = n })) ≡ Ok (record { 0 = n })
 unfolding prot
@@ -107,14 +110,16 @@ protect_back : (a len : ℕ) (p : Prot) → IsNumber a → IsNumber len → IsPr
 unfolding protect_line protect_of
 protect_back a len p h k l = rw (number_text a h, number_text len k, prot_back p.0 l) refl
 
-read_back : (name : List ℕ) (o len : ℕ) → is_file_name name ≡ true → IsNumber o → 1 ≤ len → len ≤ 65536 → read_call_line (name ∷ decimal o ∷ decimal len ∷ []) ≡ Ok (act.Named name (call.Read unknown_file o len))
+read_back : (name : List ℕ) (o len : ℕ) → is_file_name name ≡ true → IsNumber o → 1 ≤ len → len ≤ 65536
+    → read_call_line (name ∷ decimal o ∷ decimal len ∷ []) ≡ Ok (act.Named name (call.Read unknown_file o len))
 unfolding read_call_line read_of
 read_back n o len is h low high =
     let t : nat_le 1 len ≡ true = grind (arith, nat_tests, low) in
     let u : nat_le len 65536 ≡ true = grind (arith, nat_tests, high) in
     rw (name_back n is, number_text o h, number_text len (omega (arith, high)), t, u) refl
 
-write_back : (name : List ℕ) (o : ℕ) (text : List ℕ) → is_file_name name ≡ true → IsNumber o → IsContent text → write_line (name ∷ decimal o ∷ hex_text text ∷ []) ≡ Ok (act.Write name unknown_file o text)
+write_back : (name : List ℕ) (o : ℕ) (text : List ℕ) → is_file_name name ≡ true → IsNumber o → IsContent text
+    → write_line (name ∷ decimal o ∷ hex_text text ∷ []) ≡ Ok (act.Write name unknown_file o text)
 unfolding write_line write_of
 write_back n o text is h k = rw (name_back n is, number_text o h, bytes_back text k) refl
 
@@ -147,7 +152,7 @@ file_back n w d p text is h k short all = rw (name_back n is, mode_back w, numbe
 
 -- the words of the lines
 call_back : (spot : LineSpot) (c : Call) → spot.inside ≡ true → IsPlainCall c → statement spot true (call_fields (codes "zero") c) ≡ Ok (says.Own (act.Call c))
-unfolding statement word_statement
+unfolding statement word_statement mapping_statement
 call_back spot (call.Load a n) inside h = rw (inside, load_back a n h.0 h.1) refl
 call_back spot (call.Store a n v) inside h = rw (inside, store_back a n v h.0 h.1 h.2 h.3) refl
 call_back spot (call.Map at len p k object.NewZero o) inside h = rw (inside, plain_map_back at len p k o h.0 h.1 h.2 h.3) refl
@@ -163,7 +168,7 @@ call_back spot (call.Fork c) inside h = absurd h
 call_back spot call.Exit inside h = absurd h
 
 named_back : (spot : LineSpot) (n : List ℕ) (c : Call) → spot.inside ≡ true → is_file_name n ≡ true → IsNamedCall c → statement spot true (call_fields n c) ≡ Ok (says.Own (act.Named n c))
-unfolding statement word_statement
+unfolding statement word_statement mapping_statement file_statement
 named_back spot n (call.Load a k) inside is h = absurd h
 named_back spot n (call.Store a k v) inside is h = absurd h
 named_back spot n (call.Map at len p k object.NewZero o) inside is h = absurd h
@@ -180,7 +185,7 @@ named_back spot n (call.Fork c) inside is h = absurd h
 named_back spot n call.Exit inside is h = absurd h
 
 setup_back : (spot : LineSpot) (a : SetupAct) → setup_may_stand spot a ≡ true → IsSetupAct a → statement spot true (setup_fields a) ≡ Ok (says.Setup a)
-unfolding statement word_statement block_statement setup_statement
+unfolding statement word_statement mapping_statement file_statement block_statement setup_statement disk_statement
 setup_back spot (given.Frames n) may h = rw (may, number_text n h) refl
 setup_back spot (given.Swap n) may h = rw (may, number_text n h) refl
 setup_back spot (given.Translations n) may h = rw (may, number_text n h) refl
@@ -189,7 +194,7 @@ setup_back spot (given.Path d p) may h = rw (may, path_back d p h.0 h.2) refl
 setup_back spot (given.File n w d p text) may h = rw (may, file_back n w d p text h.0 h.1 h.2 h.3 h.4) refl
 
 statement_back : (spot : LineSpot) (s : Statement) → may_stand spot s ≡ true → IsStatement s → statement spot true (statement_fields s) ≡ Ok s
-unfolding statement word_statement block_statement
+unfolding statement word_statement mapping_statement file_statement block_statement
 statement_back spot says.Nothing may h = refl
 statement_back spot (says.Setup a) may h = setup_back spot a may h
 statement_back spot says.Process may h = rw may refl
@@ -246,7 +251,8 @@ named_words : (n : List ℕ) (c : Call) → is_file_name n ≡ true → IsNamedC
 named_words n (call.Load a k) is h = absurd h
 named_words n (call.Store a k v) is h = absurd h
 named_words n (call.Map at len p k object.NewZero o) is h = absurd h
-named_words n (call.Map at len p k (object.File file) o) is h = more refl refl (place_words at h.0 (words_number len h.1 (prot_words p.0 h.2 (kind_words k (words_name n is (words_number o h.4 none))))))
+named_words n (call.Map at len p k (object.File file) o) is h =
+    more refl refl (place_words at h.0 (words_number len h.1 (prot_words p.0 h.2 (kind_words k (words_name n is (words_number o h.4 none))))))
 named_words n (call.Map at len p k (object.Zero z) o) is h = absurd h
 named_words n (call.Unmap a len) is h = absurd h
 named_words n (call.Protect a len p) is h = absurd h
@@ -292,7 +298,8 @@ read_from (s ∷ ss) n g all stand whole =
     ∙ (step line (lines (script_text ss)) said
     ∙ read_from ss (n + 1) (with_statement g (n + 1) s) (All-tail IsStatement s ss all) stand.1 whole)
   where
-    step : (line : List ℕ) (rest : List (List ℕ)) → statement (spot_of g) (list_all is_plain line) (fields line) ≡ Ok s → plan_from n g (line ∷ rest) ≡ plan_from (n + 1) (with_statement g (n + 1) s) rest
+    step : (line : List ℕ) (rest : List (List ℕ)) → statement (spot_of g) (list_all is_plain line) (fields line) ≡ Ok s
+        → plan_from n g (line ∷ rest) ≡ plan_from (n + 1) (with_statement g (n + 1) s) rest
     step line rest said = rw (said, plan_from) refl
 
 pub parsed : (ss : List Statement) → IsScript ss empty_plan → plan_of (script_text ss) ≡ Ok (plan_seen (with_statements empty_plan 0 ss))

@@ -25,7 +25,10 @@ use Rattle.vm_script.specs.Printed.{IsSetupAct, AreBytes}
 use Rattle.vm_script.specs.Quick.{AreWords, none, more}
 use Rattle.vm_script.specs.Reading.{◌>>◌, need}
 use Rattle.vm_script.specs.Sound.{IsSoundSetup}
-use Rattle.vm_script.specs.Statements.{number, name, bytes, amount, path, disk_setup, disk, content, mode, file_setup, file, own_statement, lone_word, load_line, store_line, map_line, unmap_line, protect_line, sync_line, read_call_line, write_line, truncate_line, setup_statement, block_statement, word_statement, statement, is_comment}
+use Rattle.vm_script.specs.Statements.{number, name, bytes, amount, path, disk_setup, disk, content, mode, file_setup, file, own_statement, lone_word}
+use Rattle.vm_script.specs.Statements.{load_line, store_line, map_line, unmap_line, protect_line, sync_line, read_call_line, write_line}
+use Rattle.vm_script.specs.Statements.{truncate_line, disk_statement, setup_statement, block_statement, file_statement, mapping_statement, word_statement, statement}
+use Rattle.vm_script.specs.Statements.{is_comment}
 use Rattle.vm_script.proofs.Placed.{bind, choice, needed, number_is, name_is, bytes_is, if_ok}
 
 -- A plain line's fields are words.
@@ -138,14 +141,24 @@ amount_is [] n e = absurd (cc e)
 amount_is (a ∷ []) n e = number_is a n e
 amount_is (a ∷ b ∷ args) n e = absurd (cc e)
 
+disk_statement_is : (spot : LineSpot) (word : List ℕ) (args : List (List ℕ)) → AreWords args → IfOk (disk_statement spot word args) SetupIs
+unfolding disk_statement
+disk_statement_is spot word args w =
+    choice (is_word word (codes "disk")) _ _ SetupIs (λ _. needed fault.Place spot.opening _ SetupIs (λ _. bind (disk args) _ SetupIs (λ a e. if_ok (disk args) IsSetupAct a (disk_is args w) e)))
+    (λ _. choice (is_word word (codes "file")) _ _ SetupIs
+    (λ _. needed fault.Place spot.opening _ SetupIs
+    (λ _. bind (file args) _ SetupIs (λ a e. if_ok (file args) IsSetupAct a (file_is args) e)))
+    (λ _. tt))
+
 setup_is : (spot : LineSpot) (word : List ℕ) (args : List (List ℕ)) → AreWords args → IfOk (setup_statement spot word args) SetupIs
 unfolding setup_statement
 setup_is spot word args w =
     choice (is_word word (codes "frames")) _ _ SetupIs (λ _. needed fault.Place (spot.opening && not spot.frames) _ SetupIs (λ _. bind (amount args) _ SetupIs (λ n e. amount_is args n e)))
     (λ _. choice (is_word word (codes "swap")) _ _ SetupIs (λ _. needed fault.Place (spot.opening && not spot.swap) _ SetupIs (λ _. bind (amount args) _ SetupIs (λ n e. amount_is args n e)))
-    (λ _. choice (is_word word (codes "translations")) _ _ SetupIs (λ _. needed fault.Place (spot.opening && not spot.translations) _ SetupIs (λ _. bind (amount args) _ SetupIs (λ n e. amount_is args n e)))
-    (λ _. choice (is_word word (codes "disk")) _ _ SetupIs (λ _. needed fault.Place spot.opening _ SetupIs (λ _. bind (disk args) _ SetupIs (λ a e. if_ok (disk args) IsSetupAct a (disk_is args w) e)))
-    (λ _. choice (is_word word (codes "file")) _ _ SetupIs (λ _. needed fault.Place spot.opening _ SetupIs (λ _. bind (file args) _ SetupIs (λ a e. if_ok (file args) IsSetupAct a (file_is args) e))) (λ _. tt)))))
+    (λ _. choice (is_word word (codes "translations")) _ _ SetupIs
+    (λ _. needed fault.Place (spot.opening && not spot.translations) _ SetupIs
+    (λ _. bind (amount args) _ SetupIs (λ n e. amount_is args n e)))
+    (λ _. disk_statement_is spot word args w)))
 
 alone_is : {A : Type 0} (x : A) (args : List (List ℕ)) (P : A → Type 0) → P x → IfOk (lone_word x args) P
 alone_is x [] P h = h
@@ -163,19 +176,29 @@ block_is spot word args w =
 own_is : (spot : LineSpot) (r : Result PlanAct ScriptKind) → IfOk (need fault.Place spot.inside >> own_statement r) SetupIs
 own_is spot r = needed fault.Place spot.inside (own_statement r) SetupIs (λ _. bind r (λ a. Ok (says.Own a)) SetupIs (λ a e. tt))
 
+file_call_is : (spot : LineSpot) (word : List ℕ) (args : List (List ℕ)) → AreWords args → IfOk (file_statement spot word args) SetupIs
+unfolding file_statement
+file_call_is spot word args w =
+    choice (is_word word (codes "read")) _ _ SetupIs (λ _. own_is spot (read_call_line args))
+    (λ _. choice (is_word word (codes "write")) _ _ SetupIs (λ _. own_is spot (write_line args))
+    (λ _. choice (is_word word (codes "truncate")) _ _ SetupIs (λ _. own_is spot (truncate_line args))
+    (λ _. block_is spot word args w)))
+
+mapping_is : (spot : LineSpot) (word : List ℕ) (args : List (List ℕ)) → AreWords args → IfOk (mapping_statement spot word args) SetupIs
+unfolding mapping_statement
+mapping_is spot word args w =
+    choice (is_word word (codes "map")) _ _ SetupIs (λ _. own_is spot (map_line args))
+    (λ _. choice (is_word word (codes "unmap")) _ _ SetupIs (λ _. own_is spot (unmap_line args))
+    (λ _. choice (is_word word (codes "protect")) _ _ SetupIs (λ _. own_is spot (protect_line args))
+    (λ _. choice (is_word word (codes "sync")) _ _ SetupIs (λ _. own_is spot (sync_line args))
+    (λ _. file_call_is spot word args w))))
+
 word_is : (spot : LineSpot) (word : List ℕ) (args : List (List ℕ)) → AreWords args → IfOk (word_statement spot word args) SetupIs
 unfolding word_statement
 word_is spot word args w =
     choice (is_word word (codes "load")) _ _ SetupIs (λ _. own_is spot (load_line args))
     (λ _. choice (is_word word (codes "store")) _ _ SetupIs (λ _. own_is spot (store_line args))
-    (λ _. choice (is_word word (codes "map")) _ _ SetupIs (λ _. own_is spot (map_line args))
-    (λ _. choice (is_word word (codes "unmap")) _ _ SetupIs (λ _. own_is spot (unmap_line args))
-    (λ _. choice (is_word word (codes "protect")) _ _ SetupIs (λ _. own_is spot (protect_line args))
-    (λ _. choice (is_word word (codes "sync")) _ _ SetupIs (λ _. own_is spot (sync_line args))
-    (λ _. choice (is_word word (codes "read")) _ _ SetupIs (λ _. own_is spot (read_call_line args))
-    (λ _. choice (is_word word (codes "write")) _ _ SetupIs (λ _. own_is spot (write_line args))
-    (λ _. choice (is_word word (codes "truncate")) _ _ SetupIs (λ _. own_is spot (truncate_line args))
-    (λ _. block_is spot word args w)))))))))
+    (λ _. mapping_is spot word args w))
 
 statement_is : (spot : LineSpot) (plain : Bool) (fs : List (List ℕ)) → (plain ≡ true → AreWords fs) → IfOk (statement spot plain fs) SetupIs
 unfolding statement
@@ -210,7 +233,8 @@ sound_from [] n g plan h e = at (g.inside == 0) e
     at : (b : Bool) → whole_plan b g n ≡ Ok plan → IsSoundSetup plan.setup
     at true e = let same : plan_seen g ≡ plan = cc e in subst (λ (p : PlanSeen). IsSoundSetup p.setup) same h
     at false e = absurd (cc e)
-sound_from (l ∷ ls) n g plan h e = at (λ s is. sound_from ls (n + 1) (with_statement g (n + 1) s) plan (with_sound g (n + 1) s (said (spot_of g) l s is) h)) (statement (spot_of g) (list_all is_plain l) (fields l)) refl e
+sound_from (l ∷ ls) n g plan h e =
+    at (λ s is. sound_from ls (n + 1) (with_statement g (n + 1) s) plan (with_sound g (n + 1) s (said (spot_of g) l s is) h)) (statement (spot_of g) (list_all is_plain l) (fields l)) refl e
   where
     at : ((s : Statement) → statement (spot_of g) (list_all is_plain l) (fields l) ≡ Ok s → plan_from (n + 1) (with_statement g (n + 1) s) ls ≡ Ok plan → IsSoundSetup plan.setup)
         → (r : Result Statement ScriptKind) → statement (spot_of g) (list_all is_plain l) (fields l) ≡ r → next_plan r g n ls ≡ Ok plan → IsSoundSetup plan.setup

@@ -2,10 +2,11 @@
 use Rattle.std.proofs.Common.{◌≡◌, ℕ, suc, true, false, ◌==◌, List, [], ◌∷◌, ◌++◌, Some, refl, sym, ap, ◌∙◌, subst, append_assoc, cond, ◌||◌, ⊎_elim, eq-eqb, append-nil}
 use Rattle.std.specs.List.{list_any}
 use Rattle.std.proofs.lemmas.Bool.{false≢true, cases_Bool}
-use Rattle.std.proofs.lemmas.List.Elements.{filter-append}
 use mathlib.Core.List.{IsPrefix}
 use Rattle.vm_types.specs.declared.call.Entry.{Entry}
 use Rattle.flat_model.specs.Told.{entries_of}
+use Rattle.std.proofs.lemmas.Option.{same_Some}
+use Rattle.flat_model.proofs.Replays.{entries_of-append}
 use Rattle.vm_script.specs.declared.plan.PlanLine.{PlanLine}
 use Rattle.vm_script.specs.PlanSeen.{PlanSeen}
 use Rattle.vm_script.specs.Told.{Spell, own_lines, parent_of, is_born, is_born_of, is_birth, Under, itself, child, HasWaited, Tells, ToldFront}
@@ -13,9 +14,6 @@ use Rattle.vm_script.specs.Ended.{KeepsTree, Met, AllEnded}
 
 pub prefix_trans : {A : Type 0} (xs ys zs : List A) → IsPrefix xs ys → IsPrefix ys zs → IsPrefix xs zs
 prefix_trans xs ys zs p q = (p.0 ++ q.0, sym (append_assoc xs p.0 q.0) ∙ (ap (λ w. w ++ q.0) p.1 ∙ q.1))
-
-pub entries-append : (xs ys : List Entry) (p : ℕ) → entries_of (xs ++ ys) p ≡ entries_of xs p ++ entries_of ys p
-entries-append xs ys p = filter-append (λ e. e.process == p) xs ys
 
 none_behind : {A : Type 0} (xs ys : List A) → xs ≡ xs ++ ys → ys ≡ []
 none_behind [] ys e = sym e
@@ -34,11 +32,11 @@ none_after T S rest H q le is all =
     let a = le.0 in
     let whole : entries_of H q ≡ entries_of T q ++ (entries_of a q ++ entries_of rest q) =
     ap (λ h. entries_of h q) (sym is ∙ (ap (λ s. s ++ rest) (sym le.1) ∙ append_assoc T a rest))
-    ∙ (entries-append T (a ++ rest) q ∙ ap (λ es. entries_of T q ++ es) (entries-append a rest q)) in
+    ∙ (entries_of-append T (a ++ rest) q ∙ ap (λ es. entries_of T q ++ es) (entries_of-append a rest q)) in
     second_none (entries_of a q) (entries_of rest q) (none_behind (entries_of T q) (entries_of a q ++ entries_of rest q) (all ∙ whole))
 
 none_within : (S rest H : List Entry) (q : ℕ) → S ++ rest ≡ H → entries_of H q ≡ [] → entries_of rest q ≡ []
-none_within S rest H q is none = second_none (entries_of S q) (entries_of rest q) (sym (entries-append S rest q) ∙ (ap (λ h. entries_of h q) is ∙ none))
+none_within S rest H q is none = second_none (entries_of S q) (entries_of rest q) (sym (entries_of-append S rest q) ∙ (ap (λ h. entries_of h q) is ∙ none))
 
 cons_none : {A : Type 0} (x : A) (xs : List A) → x ∷ xs ≡ [] → ⊥
 cons_none x xs e = cc e
@@ -50,28 +48,28 @@ behind_first e H r none = elim (e.process == r) as (λ b. (e.process == r) ≡ b
   | false ↦ λ is h. (is, h)
 ] refl none
 
-same_some : (a b : ℕ) → Some a ≡ Some b → a ≡ b
-same_some a b e = cc e
-
 -- who made a block has an entry
 maker : (plan : PlanSeen) (H : List Entry) (q r : ℕ) → KeepsTree plan H → parent_of plan.parents q ≡ Some r → list_any (is_birth q) H ≡ true → entries_of H r ≡ [] → ⊥
 maker plan [] q r tree is any none = false≢true any
 maker plan (e ∷ H) q r tree is any none =
     let first = behind_first e H r none in
     ⊎_elim
-    (λ yes. let same = same_some e.process r (sym (tree.0 q yes) ∙ is) in false≢true (sym first.0 ∙ eq-eqb e.process r same))
+    (λ yes. let same = same_Some e.process r (sym (tree.0 q yes) ∙ is) in false≢true (sym first.0 ∙ eq-eqb e.process r same))
     (λ not. maker plan H q r tree.1 is (sym (ap (λ b. b || list_any (is_birth q) H) not) ∙ any) first.1)
     (cases_Bool (is_birth q e))
 
 -- a block's parent was born before it
-pub parent_born : (plan : PlanSeen) (H : List Entry) (seen : ℕ → List Entry) (lines_of : ℕ → List PlanLine) (q r : ℕ) → AllEnded plan H seen lines_of → parent_of plan.parents q ≡ Some (suc r) → is_born plan H q ≡ true → is_born plan H (suc r) ≡ true
+pub parent_born : (plan : PlanSeen) (H : List Entry) (seen : ℕ → List Entry) (lines_of : ℕ → List PlanLine) (q r : ℕ)
+    → AllEnded plan H seen lines_of → parent_of plan.parents q ≡ Some (suc r) → is_born plan H q ≡ true → is_born plan H (suc r) ≡ true
 parent_born plan H seen lines_of q r all is born =
     ⊎_elim (λ yes. yes)
     (λ not. absurd (maker plan H q (suc r) all.tree is (sym (ap (λ o. is_born_of o q H) is) ∙ born) (all.silent (suc r) not)))
     (cases_Bool (is_born plan H (suc r)))
 
 -- what a descendant's caller has seen, the block's caller has seen
-pub under_seen : (plan : PlanSeen) (H : List Entry) (seen : ℕ → List Entry) (lines_of : ℕ → List PlanLine) (c q : ℕ) → AllEnded plan H seen lines_of → Under plan.parents c q → is_born plan H q ≡ true → (is_born plan H c ≡ true) × IsPrefix (seen q) (seen c)
+pub under_seen : (plan : PlanSeen) (H : List Entry) (seen : ℕ → List Entry) (lines_of : ℕ → List PlanLine) (c q : ℕ)
+    → AllEnded plan H seen lines_of → Under plan.parents c q → is_born plan H q ≡ true
+    → (is_born plan H c ≡ true) × IsPrefix (seen q) (seen c)
 under_seen plan H seen lines_of c q all itself born = (born, ([], append-nil (seen c)))
 under_seen plan H seen lines_of c q all (child _ r is under) born =
     let up = parent_born plan H seen lines_of q r all is born in
@@ -79,7 +77,8 @@ under_seen plan H seen lines_of c q all (child _ r is under) born =
     (more.0, prefix_trans (seen q) (seen (suc r)) (seen c) ((all.ended (suc r) up).joined q is born) more.1)
 
 -- a wait by which the children were met is a wait of the whole history
-pub met_waits : (plan : PlanSeen) (H : List Entry) (seen : ℕ → List Entry) (lines_of : ℕ → List PlanLine) (p : ℕ) (lines : List PlanLine) → AllEnded plan H seen lines_of → IsPrefix (seen p) H → Met plan H seen p lines → HasWaited plan H p lines
+pub met_waits : (plan : PlanSeen) (H : List Entry) (seen : ℕ → List Entry) (lines_of : ℕ → List PlanLine) (p : ℕ) (lines : List PlanLine)
+    → AllEnded plan H seen lines_of → IsPrefix (seen p) H → Met plan H seen p lines → HasWaited plan H p lines
 met_waits plan H seen lines_of p lines all begun met =
     let whole = prefix_trans met.cut (seen p) H met.begun begun in
     record {

@@ -215,6 +215,13 @@ own_statement r = r >>= λ a. Ok (says.Own a)
 abbrev pub setup : Result SetupAct ScriptKind → Result Statement ScriptKind
 setup r = r >>= λ a. Ok (says.Setup a)
 
+-- What a line of this word says that gives a disk or a file.
+unfoldable pub disk_statement : LineSpot → List ℕ → List (List ℕ) → Result Statement ScriptKind
+disk_statement spot word args =
+    if is_word word (codes "disk") then (need fault.Place spot.opening >> setup (disk args))
+    else if is_word word (codes "file") then (need fault.Place spot.opening >> setup (file args))
+    else Err fault.Word
+
 -- What a set-up line of this word says: it stands before the first block, and `frames`, `swap` and `translations` come
 -- at most once.
 unfoldable pub setup_statement : LineSpot → List ℕ → List (List ℕ) → Result Statement ScriptKind
@@ -222,9 +229,7 @@ setup_statement spot word args =
     if is_word word (codes "frames") then (need fault.Place (spot.opening && not spot.frames) >> (amount args >>= λ n. Ok (says.Setup (given.Frames n))))
     else if is_word word (codes "swap") then (need fault.Place (spot.opening && not spot.swap) >> (amount args >>= λ n. Ok (says.Setup (given.Swap n))))
     else if is_word word (codes "translations") then (need fault.Place (spot.opening && not spot.translations) >> (amount args >>= λ n. Ok (says.Setup (given.Translations n))))
-    else if is_word word (codes "disk") then (need fault.Place spot.opening >> setup (disk args))
-    else if is_word word (codes "file") then (need fault.Place spot.opening >> setup (file args))
-    else Err fault.Word
+    else disk_statement spot word args
 
 -- What a line of this word says that begins a block, ends it or waits for children.
 unfoldable pub block_statement : LineSpot → List ℕ → List (List ℕ) → Result Statement ScriptKind
@@ -235,19 +240,29 @@ block_statement spot word args =
     else if is_word word (codes "end") then (need fault.Place spot.inside >> lone_word says.End args)
     else setup_statement spot word args
 
+-- What a line of this word says that reads, writes or cuts a file, or that makes no call.
+unfoldable pub file_statement : LineSpot → List ℕ → List (List ℕ) → Result Statement ScriptKind
+file_statement spot word args =
+    if is_word word (codes "read") then (need fault.Place spot.inside >> own_statement (read_call_line args))
+    else if is_word word (codes "write") then (need fault.Place spot.inside >> own_statement (write_line args))
+    else if is_word word (codes "truncate") then (need fault.Place spot.inside >> own_statement (truncate_line args))
+    else block_statement spot word args
+
+-- What a line of this word says that makes, takes or changes a mapping, or that makes another call or none.
+unfoldable pub mapping_statement : LineSpot → List ℕ → List (List ℕ) → Result Statement ScriptKind
+mapping_statement spot word args =
+    if is_word word (codes "map") then (need fault.Place spot.inside >> own_statement (map_line args))
+    else if is_word word (codes "unmap") then (need fault.Place spot.inside >> own_statement (unmap_line args))
+    else if is_word word (codes "protect") then (need fault.Place spot.inside >> own_statement (protect_line args))
+    else if is_word word (codes "sync") then (need fault.Place spot.inside >> own_statement (sync_line args))
+    else file_statement spot word args
+
 -- What a line of this word says: first the word, then the place, then the number of fields, then the fields from the left.
 unfoldable pub word_statement : LineSpot → List ℕ → List (List ℕ) → Result Statement ScriptKind
 word_statement spot word args =
     if is_word word (codes "load") then (need fault.Place spot.inside >> own_statement (load_line args))
     else if is_word word (codes "store") then (need fault.Place spot.inside >> own_statement (store_line args))
-    else if is_word word (codes "map") then (need fault.Place spot.inside >> own_statement (map_line args))
-    else if is_word word (codes "unmap") then (need fault.Place spot.inside >> own_statement (unmap_line args))
-    else if is_word word (codes "protect") then (need fault.Place spot.inside >> own_statement (protect_line args))
-    else if is_word word (codes "sync") then (need fault.Place spot.inside >> own_statement (sync_line args))
-    else if is_word word (codes "read") then (need fault.Place spot.inside >> own_statement (read_call_line args))
-    else if is_word word (codes "write") then (need fault.Place spot.inside >> own_statement (write_line args))
-    else if is_word word (codes "truncate") then (need fault.Place spot.inside >> own_statement (truncate_line args))
-    else block_statement spot word args
+    else mapping_statement spot word args
 
 abbrev pub is_comment : List ℕ → Bool
 is_comment [] = false

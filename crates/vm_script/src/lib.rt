@@ -28,6 +28,7 @@ pub use laws::{
     all_ended_law, blocks_law, fault_line_law, line_by_line_law, one_block_law,
     print_and_parse_law, setup_law, sound_law, stopped_law, waits_law,
 };
+pub use number::is_file_name;
 pub use parsing::{MOST_BYTES, parse};
 pub use plan::{Plan, PlanAct, PlanLine, SetupAct, SetupLine};
 pub use rules::{Amounts, amounts_of, broken_rule};

@@ -79,6 +79,28 @@ fn file(alloc: Global, args: &[&[u8]]) -> Result<SetupAct, ReadError>
     file_setup(alloc, n, m, d, p, b)
 }
 
+// What a line of this word says that gives a disk or a file.
+#[tactic(auto, unfolding(crate::specs::Statements::disk_statement))]
+fn disk_statement(
+    alloc: Global,
+    spot: LineSpot,
+    word: &[u8],
+    args: &[&[u8]],
+) -> Result<Statement, ReadError>
+    ensures { IsReadAs (λ s. s) result
+        (statements.disk_statement spot word.now (map (λ f. f.now) args.now)) }
+{
+    if word == b"disk".as_slice() {
+        need(ScriptKind::Place, spot.opening)?;
+        return Ok(Statement::Setup(disk(alloc, args)?));
+    }
+    if word == b"file".as_slice() {
+        need(ScriptKind::Place, spot.opening)?;
+        return Ok(Statement::Setup(file(alloc, args)?));
+    }
+    Err(ReadError::Fault(ScriptKind::Word))
+}
+
 /// What a set-up line of this word says.
 #[tactic(auto, unfolding(crate::specs::Statements::setup_statement))]
 pub fn setup_statement(
@@ -102,13 +124,5 @@ pub fn setup_statement(
         need(ScriptKind::Place, spot.opening && !spot.translations)?;
         return Ok(Statement::Setup(SetupAct::Translations(amount(args)?)));
     }
-    if word == b"disk".as_slice() {
-        need(ScriptKind::Place, spot.opening)?;
-        return Ok(Statement::Setup(disk(alloc, args)?));
-    }
-    if word == b"file".as_slice() {
-        need(ScriptKind::Place, spot.opening)?;
-        return Ok(Statement::Setup(file(alloc, args)?));
-    }
-    Err(ReadError::Fault(ScriptKind::Word))
+    disk_statement(alloc, spot, word, args)
 }

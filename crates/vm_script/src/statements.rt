@@ -56,6 +56,62 @@ fn block_statement(
     setup_statement(alloc, spot, word, args)
 }
 
+// What a line of this word says that reads, writes or cuts a file, or that makes no call.
+#[tactic(auto, unfolding(crate::specs::Statements::file_statement))]
+fn file_statement(
+    alloc: Global,
+    spot: LineSpot,
+    word: &[u8],
+    args: &[&[u8]],
+) -> Result<Statement, ReadError>
+    ensures { IsReadAs (λ s. s) result
+        (statements.file_statement spot word.now (over (λ f. f.now) args.now)) }
+{
+    if word == b"read".as_slice() {
+        need(ScriptKind::Place, spot.inside)?;
+        return Ok(Statement::Own(read(alloc, args)?));
+    }
+    if word == b"write".as_slice() {
+        need(ScriptKind::Place, spot.inside)?;
+        return Ok(Statement::Own(write(alloc, args)?));
+    }
+    if word == b"truncate".as_slice() {
+        need(ScriptKind::Place, spot.inside)?;
+        return Ok(Statement::Own(truncate(alloc, args)?));
+    }
+    block_statement(alloc, spot, word, args)
+}
+
+// What a line of this word says that makes, takes or changes a mapping, or that makes another call or none.
+#[tactic(auto, unfolding(crate::specs::Statements::mapping_statement))]
+fn mapping_statement(
+    alloc: Global,
+    spot: LineSpot,
+    word: &[u8],
+    args: &[&[u8]],
+) -> Result<Statement, ReadError>
+    ensures { IsReadAs (λ s. s) result
+        (statements.mapping_statement spot word.now (over (λ f. f.now) args.now)) }
+{
+    if word == b"map".as_slice() {
+        need(ScriptKind::Place, spot.inside)?;
+        return Ok(Statement::Own(map(alloc, args)?));
+    }
+    if word == b"unmap".as_slice() {
+        need(ScriptKind::Place, spot.inside)?;
+        return Ok(Statement::Own(unmap(args)?));
+    }
+    if word == b"protect".as_slice() {
+        need(ScriptKind::Place, spot.inside)?;
+        return Ok(Statement::Own(protect(args)?));
+    }
+    if word == b"sync".as_slice() {
+        need(ScriptKind::Place, spot.inside)?;
+        return Ok(Statement::Own(sync(args)?));
+    }
+    file_statement(alloc, spot, word, args)
+}
+
 // What a line of this word says.
 #[tactic(auto, unfolding(crate::specs::Statements::word_statement))]
 fn word_statement(
@@ -75,35 +131,7 @@ fn word_statement(
         need(ScriptKind::Place, spot.inside)?;
         return Ok(Statement::Own(store(args)?));
     }
-    if word == b"map".as_slice() {
-        need(ScriptKind::Place, spot.inside)?;
-        return Ok(Statement::Own(map(alloc, args)?));
-    }
-    if word == b"unmap".as_slice() {
-        need(ScriptKind::Place, spot.inside)?;
-        return Ok(Statement::Own(unmap(args)?));
-    }
-    if word == b"protect".as_slice() {
-        need(ScriptKind::Place, spot.inside)?;
-        return Ok(Statement::Own(protect(args)?));
-    }
-    if word == b"sync".as_slice() {
-        need(ScriptKind::Place, spot.inside)?;
-        return Ok(Statement::Own(sync(args)?));
-    }
-    if word == b"read".as_slice() {
-        need(ScriptKind::Place, spot.inside)?;
-        return Ok(Statement::Own(read(alloc, args)?));
-    }
-    if word == b"write".as_slice() {
-        need(ScriptKind::Place, spot.inside)?;
-        return Ok(Statement::Own(write(alloc, args)?));
-    }
-    if word == b"truncate".as_slice() {
-        need(ScriptKind::Place, spot.inside)?;
-        return Ok(Statement::Own(truncate(alloc, args)?));
-    }
-    block_statement(alloc, spot, word, args)
+    mapping_statement(alloc, spot, word, args)
 }
 
 /// What a line says that stands at this spot, or its first fault.

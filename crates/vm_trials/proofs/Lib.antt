@@ -1,2 +1,4 @@
 pub mod TrialLemmas
 pub mod TrialFiles
+pub mod PageTrialLemmas
+pub mod SlotTrialLemmas

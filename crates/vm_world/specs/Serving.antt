@@ -1,5 +1,6 @@
 -- How a call is served: first frames may be taken for other pages, and then the call is done, or it waits. Public clauses cite this.
-use Rattle.std.specs.Prelude.{◌≡◌, ◌≢◌, ◌⊎◌, ◌<◌, ◌+◌, ◌%◌, ℕ, Bool, List, length, Option, Some, None, IsTrue, IsFalse}
+use Rattle.std.specs.Prelude.{◌≡◌, ◌≢◌, ◌⊎◌, ◌<◌, ◌+◌, ◌%◌, ℕ, Bool, false, List, length, Option, Some, None, IsTrue, IsFalse, slice_index_or}
+use Rattle.anon_slots.specs.Slots.{AnonSlotsSeen}
 use Rattle.page_hash.specs.Names.{name_at}
 use Rattle.page_hash.specs.declared.PageName.{PageName}
 use Rattle.page_store.specs.Seen.{residence, IsListedFrame}
@@ -10,7 +11,7 @@ use Rattle.page_store.specs.declared.residence.Residence.TheVariants.{Home}
 use Rattle.vm_types.specs.declared.call.Call.{Call}
 use Rattle.vm_types.specs.declared.call.Call.TheVariants.{Load, Store, Write, Truncate}
 use Rattle.vm_types.specs.declared.call.Reply.{Reply}
-use Rattle.vm_types.specs.declared.call.Reply.TheVariants.{Synced}
+use Rattle.vm_types.specs.declared.call.Reply.TheVariants.{Word, Done, Synced}
 use Rattle.vnode_files.specs.Files.{vnode_at}
 use Rattle.flat_model.specs.Words.{page, page_size}
 use Rattle.vm_world.specs.CallSteps.{ActsOnMemory}
@@ -20,8 +21,10 @@ use Rattle.vm_world.specs.Segments.{Spot, spot_at, shown_name}
 use Rattle.vm_world.specs.StateSteps.{PendsTails}
 use Rattle.vm_world.specs.TranslationsFit.{IsModified}
 use Rattle.vm_world.specs.Wants.{WantsHome, WantsClean, GrowthWants, HoldsUp, IsCleanPage}
-use Rattle.vm_world.specs.World.{World, file_name, page_exists}
+use Rattle.vm_world.specs.World.{World, file_name, page_exists, slot_name}
 use Rattle.vm_world.specs.WorldSteps.{stays, WorldStep}
+use Rattle.vm_world.specs.declared.wants.Wants.{Wants}
+use Rattle.vm_world.specs.declared.wants.Wants.TheVariants.{Transfer, Seat}
 
 -- The name lost its frame: one that held it doesn't hold it any more.
 pub record LosesFrame (old new : World) (name : PageName) : Type 0 where
@@ -48,19 +51,46 @@ pub record IsReplaced (old new : World) (name : PageName) : Type 0 where
 abbrev pub AreReplaced : World → World → (PageName → Bool) → Type 0
 AreReplaced old new cut = (name : PageName) → IsTrue (cut name) → IsReplaced old new name
 
+-- WHAT MUST COME FIRST of a call: a transfer that may be answered to it and can run; or what holds it up, where the files' calls are these seats'.
+abbrev pub IsWanted : Memory → List (Option ℕ) → ℕ → Call → Wants → Type 0
+IsWanted m calls p call (Transfer plan) = CanRunPlan m (Some (p, call)) plan
+IsWanted m calls p call (Seat h) = HoldsUp m calls p call h
+
 -- No page is modified that wasn't.
 abbrev pub ModifiesNone : World → World → Type 0
 ModifiesNone old new = (name : PageName) (frame : ℕ) → residence new.store name ≡ Home frame → IsModified new.store new.hat.places frame
     → (residence old.store name ≡ Home frame) × IsModified old.store old.hat.places frame
 
+-- Each page that is modified was so before, in its frame, but for pages of which this holds.
+abbrev pub ModifiesOnly : (PageName → Type 0) → World → World → Type 0
+ModifiesOnly may old new = (name : PageName) (frame : ℕ) → residence new.store name ≡ Home frame → IsModified new.store new.hat.places frame
+    → may name ⊎ ((residence old.store name ≡ Home frame) × IsModified old.store old.hat.places frame)
+
+-- The page of a slot that was never pushed: wherever it is home, it is modified.
+abbrev pub IsUnpushedSlot : AnonSlotsSeen → PageName → Type 0
+IsUnpushedSlot anon name = (slot : ℕ) × (name ≡ slot_name slot) × (slice_index_or anon.swapped slot false ≡ false)
+
+-- A page of a process shows the page of this name.
+abbrev pub ShowsThere : Memory → ℕ → ℕ → PageName → Type 0
+ShowsThere m p q name = (x : Spot) × (spot_at m.spaces p q ≡ Some x) × (shown_name m.world.maps x ≡ Some name)
+
+-- WHICH PAGE A CALL MAKES MODIFIED, if it makes any, once it is done with this reply: a store the one that its place shows then, and a load that one only
+-- where it is the page of a slot that was never pushed. No other call makes one.
+abbrev pub MayModify : Memory → ℕ → Call → Reply → PageName → Type 0
+MayModify m p (Load a n) (Word word) name = ShowsThere m p (page a) name × IsUnpushedSlot m.world.anon name
+MayModify m p (Store a n v) Done name = ShowsThere m p (page a) name
+MayModify m p call reply name = ⊥
+
 -- The call is done with this reply, whatever tails its entry takes: frames may be taken for other pages, and then it acts. The signal or errno of the reply,
--- or that it has none, is what was due. Where a Sync is answered, each page that it wants clean is.
+-- or that it has none, is what was due. No page is modified that wasn't, but one that the call may make so. Where a Sync is answered, each page that it wants
+-- clean is.
 pub record ServesDone (old new : Memory) (pending more p : ℕ) (call : Call) (reply : Reply) : Type 0 where
   pub mid : World
   pub first : TakesFrames old mid pending more
   pub acts : (cleared : ℕ) → ActsOnMemory (record old { world = mid }) new (record { process = p; call = call; reply = reply; cleared = cleared })
   pub replaced : AreReplaced old.world new.world first.cut
   pub refusal : IsRefusal old p call (refusal_in reply)
+  pub modified : ModifiesOnly (MayModify new p call reply) old.world new.world
   pub clean : (from : ℕ) (name : PageName) → reply ≡ Synced from → WantsClean new p call name → IsCleanPage new.world name
 
 -- Each page that the call wants home and that a home frame held is still there, on neither list.

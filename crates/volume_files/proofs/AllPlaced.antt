@@ -1,5 +1,6 @@
 -- The files are placed: all that is promised of them.
-use Rattle.std.specs.Prelude.{ℕ, zero, suc, ◌≡◌, ◌≢◌, ◌<◌, ◌≤◌, nat_lt, Bool, true, false, List, [], ◌∷◌, ◌++◌, length, map, slice_get, slice_index_or, ◌==◌, Option, Some, None, IfSome, IsSome, is_some, unwrap_or, Ok, Err, All, if◌then◌else◌}
+use Rattle.std.specs.Prelude.{ℕ, zero, suc, ◌≡◌, ◌≢◌, ◌<◌, ◌≤◌, nat_lt, Bool, true, false, List, [], ◌∷◌, ◌++◌, length, drop, map, slice_get, slice_index_or}
+use Rattle.std.specs.Prelude.{◌==◌, Option, Some, None, IfSome, IsSome, is_some, unwrap_or, Ok, Err, All, if◌then◌else◌}
 use Rattle.std.specs.List.{AllByRecursion}
 use Rattle.std.specs.Ordering.{nat_cmp}
 use Rattle.std.specs.FinMap as finite
@@ -11,11 +12,10 @@ use Rattle.std.proofs.lemmas.List.Elements.{recursion_from_All, All-from_recursi
 use Rattle.block_device.specs.DiskSeen.{DiskSeen, HasBlocks}
 use Rattle.block_device.specs.declared.numbered.NumberedDisk.{NumberedDisk}
 use Rattle.block_device.specs.declared.rack.Spec.{Spec}
-use Rattle.vnode_files.specs.declared.extent.Extent.{Extent}
 use Rattle.vnode_files.specs.declared.vnode.FileInfo.{FileInfo}
 use Rattle.vnode_files.specs.Grow.{page_count}
-use Rattle.vnode_files.specs.Files.{FilesSeen, block_count, vnode_at}
-use Rattle.vnode_files.specs.Vnode.{VnodeSeen, IsSoundVnode, fresh_vnode, no_vnode}
+use Rattle.vnode_files.specs.Files.{FilesSeen, block_count}
+use Rattle.vnode_files.specs.Vnode.{VnodeSeen, IsSoundVnode, no_vnode}
 use Rattle.volume_format.specs.Table.{TableSeen, no_entry, front_block}
 use Rattle.volume_format.specs.Volume.{IsVolumeTable, IsVolumeName}
 use Rattle.vm_script.specs.declared.plan.SetupLine.{SetupLine}
@@ -25,11 +25,11 @@ use Rattle.vm_script.specs.Sound.{IsSoundSetup}
 use Rattle.volume_files.specs.declared.stops.Refusal.TheVariants as refusal
 use Rattle.volume_files.specs.Attached.{AreMounted, ArePlaced, FileDisksTell, HasItsBytes, numbered_seen, bare_disks}
 use Rattle.volume_files.specs.Closed.{StoreFiles, info_at}
-use Rattle.volume_files.specs.Handed.{HandsAll, IsSwapFor, TellsSpec}
+use Rattle.volume_files.specs.Handed.{HandsAll, IsSwapAsGiven, IsSwapFor, SpareBlock, TellsSpec}
 use Rattle.volume_files.specs.Opened.{OpenedFile, infos_of, opened_bytes_at, disk_specs, if_few, with_line_files, stored_bytes}
-use Rattle.volume_files.specs.Placing.{Distinct, HasOpened, PlacesFiles, RemainThere, WroteEach, attached_numbers, found_file, found_files, line_files, sizes_by_number, with_file, with_file_pages, filled_pages}
+use Rattle.volume_files.specs.Placing.{KeepThere, Distinct, PlacesFiles, RemainThere, WroteEach, attached_numbers, found_file, found_files}
+use Rattle.volume_files.specs.Placing.{line_files, sizes_by_number, with_file, with_file_pages, filled_pages}
 use Rattle.volume_files.specs.Written.{disk_sizes, HaveFirstBlocks}
-use Rattle.volume_files.proofs.FileLineLemmas.{length-made}
 use Rattle.volume_files.proofs.FoundLemmas.{AllBlocks, found-good, found-stored, own-disk}
 use Rattle.volume_files.proofs.GivenFiles.{comes-to}
 use Rattle.volume_files.proofs.HandLemmas.{SameDisks, same-disks, same-numbers, spec-sizes, plan-numbers, mounted-numbers, opened-is}
@@ -38,6 +38,8 @@ use Rattle.volume_files.proofs.LineLemmas.{Stored, StoredBehind, stored_kept, li
 use Rattle.volume_files.proofs.MountedLaws.{differ-at, all_then, all_of, all_mapped}
 use Rattle.volume_files.proofs.OpenLemmas.{TellOrEmpty}
 use Rattle.volume_files.proofs.PageLemmas.{with_pages-untold}
+use Rattle.std.proofs.Math.Seq.{drop-append_seam}
+use Rattle.volume_files.proofs.SparedBlocks.{each-written}
 use Rattle.volume_files.proofs.PlacedLemmas.{IsSized, all_sized, line_files-are, mounted-volumes, numbers-seen, sizes-seen, at_index}
 
 same_Some : {A : Type 0} (x y : A) → Some x ≡ Some y → x ≡ y
@@ -93,7 +95,8 @@ sized-there seen m (x ∷ ds) (e ∷ es) same all zero d is =
 sized-there seen m (x ∷ ds) (e ∷ es) same all (suc i) d is = sized-there seen m ds es same.1 all.1 i d is
 
 -- each disk has a block
-first-there : {D : Type 0} (seen : D → DiskSeen) (m : finite.FinMap nat_cmp ℕ) (ds es : List (NumberedDisk D)) → SameDisks seen ds es → AllByRecursion (IsSized seen m) ds → HaveFirstBlocks (map (numbered_seen seen) es)
+first-there : {D : Type 0} (seen : D → DiskSeen) (m : finite.FinMap nat_cmp ℕ) (ds es : List (NumberedDisk D)) → SameDisks seen ds es
+    → AllByRecursion (IsSized seen m) ds → HaveFirstBlocks (map (numbered_seen seen) es)
 first-there seen m [] [] same all i d is = absurd (none-or-some d is)
 first-there seen m [] (e ∷ es) same all i d is = absurd same
 first-there seen m (x ∷ ds) [] same all i d is = absurd same
@@ -220,11 +223,13 @@ pub no_opened : OpenedFile
 no_opened = record { info = no_entry; bytes = [] }
 
 -- by places
-store-files : (disks : List (ℕ × DiskSeen)) (after : List OpenedFile) → AllByRecursion (λ (d : ℕ × DiskSeen). AllByRecursion (Stored d.0 d.1.content) after) disks → StoreFiles disks (infos_of after) (opened_bytes_at after)
+store-files : (disks : List (ℕ × DiskSeen)) (after : List OpenedFile)
+    → AllByRecursion (λ (d : ℕ × DiskSeen). AllByRecursion (Stored d.0 d.1.content) after) disks → StoreFiles disks (infos_of after) (opened_bytes_at after)
 store-files disks after all i k disk there inside on =
     let place = get_at disks i disk disk there in
     let own : AllByRecursion (Stored disk.0 disk.1.content) after =
-    subst (λ (d : ℕ × DiskSeen). AllByRecursion (Stored d.0 d.1.content) after) (sym place.1) (at_index (λ (d : ℕ × DiskSeen). AllByRecursion (Stored d.0 d.1.content) after) disks i disk all place.0) in
+    subst (λ (d : ℕ × DiskSeen). AllByRecursion (Stored d.0 d.1.content) after) (sym place.1)
+    (at_index (λ (d : ℕ × DiskSeen). AllByRecursion (Stored d.0 d.1.content) after) disks i disk all place.0) in
     let below : k < length after = omega (arith, inside, length-map after (λ (f : OpenedFile). f.info)) in
     let info : info_at (infos_of after) k ≡ (slice_index_or after k no_opened).info = get_or-map (λ (f : OpenedFile). f.info) after k no_opened no_entry below in
     let bytes : opened_bytes_at after k ≡ (slice_index_or after k no_opened).bytes = get_or-map (λ (f : OpenedFile). f.bytes) after k no_opened [] below in
@@ -271,22 +276,25 @@ told-tables seen old new ts after lines remain wrote are tell =
     let e = slice_index_or new k x in
     let inside : k < length new = omega (arith, below, remain.count) in
     let within : k < length es = omega (arith, inside, length-map new (numbered_seen seen)) in
-    let at : slice_get es k ≡ Some (numbered_seen seen e) = at_get es k (numbered_seen seen x) within ∙ ap (λ (q : ℕ × DiskSeen). Some q) (get_or-map (numbered_seen seen) new k x (numbered_seen seen x) inside) in
+    let at : slice_get es k ≡ Some (numbered_seen seen e) = at_get es k (numbered_seen seen x) within
+    ∙ ap (λ (q : ℕ × DiskSeen). Some q) (get_or-map (numbered_seen seen) new k x (numbered_seen seen x) inside) in
     let number : x.number ≡ e.number = ap (λ (y : NumberedDisk _). y.number) is ∙ sym (remain.each k x below).number in
     let content : (seen e.disk).content ≡ with_file_pages x.number (seen x.disk).content lines =
     wrote k x below ∙ ap (λ (y : NumberedDisk _). with_file_pages y.number (seen y.disk).content lines) (sym is) in
     told-before x.number (seen x.disk).content (seen e.disk).content lines content (tells k (numbered_seen seen e) at number))))
-    (all_front (λ (f : OpenedFile). T f.info.disk) (found_files (map (numbered_seen seen) old) ts) lines (subst (λ (fs : List OpenedFile). AllByRecursion (λ (f : OpenedFile). T f.info.disk) fs) are all))
+    (all_front (λ (f : OpenedFile). T f.info.disk) (found_files (map (numbered_seen seen) old) ts) lines
+    (subst (λ (fs : List OpenedFile). AllByRecursion (λ (f : OpenedFile). T f.info.disk) fs) are all))
 
 -- ALL FILES ARE PLACED
-pub placed-all : {D : Type 0} (seen : D → DiskSeen) (plan : PlanSeen) (holds : Spec → Option (List (List ℕ))) (old new : List (NumberedDisk D)) (ts : List TableSeen) (swap : Option DiskSeen) (files : FilesSeen)
+pub placed-all : {D : Type 0} (seen : D → DiskSeen) (plan : PlanSeen) (holds : Spec → Option (List (List ℕ))) (old new : List (NumberedDisk D))
+    (ts : List TableSeen) (swap : Option DiskSeen) (files : FilesSeen)
     → ((d : NumberedDisk D) → HasBlocks (seen d.disk).content (seen d.disk).size)
     → broken_rule plan ≡ None → IsSoundSetup plan.setup
-    → AreMounted holds (disk_specs plan.setup) (map (numbered_seen seen) old) ts → IsSwapFor (amounts_of plan.setup).slots swap
+    → AreMounted holds (disk_specs plan.setup) (map (numbered_seen seen) old) ts → IsSwapFor (amounts_of plan.setup).slots swap → IsSwapAsGiven (amounts_of plan.setup).slots swap
     → RemainThere seen old new → All IsSoundVnode files.files → length files.files ≤ 64
     → (p : PlacesFiles seen plan.setup old ts new files)
     → ArePlaced plan holds p.opened (record { disks = map (numbered_seen seen) new; tables = ts; swap = swap }) files
-placed-all {D} seen plan holds old new ts swap files has kept sound m serves remain sound_files few p =
+placed-all {D} seen plan holds old new ts swap files has kept sound m serves blank remain sound_files few p =
     let specs = disk_specs plan.setup in
     let ds = map (numbered_seen seen) old in
     let es = map (numbered_seen seen) new in
@@ -298,11 +306,13 @@ placed-all {D} seen plan holds old new ts swap files has kept sound m serves rem
     let same = same-disks seen old new remain in
     let distinct = distinct-of seen plan holds old ts m in
     let own = distinct-attached seen plan holds old ts m in
-    let blocks : AllBlocks ds = all_mapped (λ (d : ℕ × DiskSeen). HasBlocks d.1.content d.1.size) (numbered_seen seen) old (all_of (λ (d : NumberedDisk D). HasBlocks (seen d.disk).content (seen d.disk).size) old has) in
+    let blocks : AllBlocks ds = all_mapped (λ (d : ℕ × DiskSeen). HasBlocks d.1.content d.1.size) (numbered_seen seen) old
+    (all_of (λ (d : NumberedDisk D). HasBlocks (seen d.disk).content (seen d.disk).size) old has) in
     let volumes = all_then (λ (t : TableSeen). IsVolumeTable t × (t.blocks ≤ 16384)) IsVolumeTable ts (λ t h. h.0) (mounted-volumes holds specs ds ts m).0 in
     let read : with_line_files sizes (Ok found) plan.setup ≡ Ok after = few-read sizes found after plan.setup p.read in
     let are : after ≡ found ++ lines = line_files-are sizes files plan.setup found after (length found) refl read p.has in
-    let good : GoodFiles after = lines_keep sizes LineLaw GoodFiles (good-kept sizes) plan.setup found after (line-laws plan kept sound) read (found-good holds specs ds ts m distinct volumes blocks) in
+    let good : GoodFiles after = lines_keep sizes LineLaw GoodFiles (good-kept sizes) plan.setup found after (line-laws plan kept sound) read
+    (found-good holds specs ds ts m distinct volumes blocks) in
     let sized = all_sized seen holds specs old ts m own in
     let counts = all_then (IsSized seen table) (λ (d : NumberedDisk D). sizes d.number ≡ (seen d.disk).size) old (λ d h. ap (λ (o : Option ℕ). unwrap_or o 0) h.0) sized in
     let numbers : attached_numbers new ≡ attached_numbers old = same-numbers seen old new same in
@@ -328,6 +338,11 @@ placed-all {D} seen plan holds old new ts swap files has kept sound m serves rem
       own = All-from_recursion HasItsBytes after good.own;
       kept = All-from_recursion (λ (f : OpenedFile). 1 ≤ page_count f.info.extents) after good.kept;
       given = comes-to seen plan holds old new ts (Ok after) m same p.read;
+      written = record {
+        each = each-written seen (SpareBlock (drop (length found) after)) holds specs old new ts m
+            (subst (λ (fs : List OpenedFile). KeepThere seen (SpareBlock fs) old new) (sym (ap (drop (length found)) are ∙ drop-append_seam found lines)) p.keep);
+        last = blank;
+      };
       told = λ tells disks_tell.
           opened-is holds plan ds ts m (recursion_from_All (TellsSpec holds) specs tells) blocks (told-tables seen old new ts after lines remain p.wrote are disks_tell)
           ∙ ap (λ (xs : List (ℕ × ℕ)). with_line_files (block_count (finite.from_entries xs)) (if_few (Ok found)) plan.setup) (sizes-seen seen old) ∙ p.read;

@@ -16,7 +16,9 @@ use Rattle.volume_files.specs.declared.stops.Refusal.{Refusal}
 use Rattle.volume_files.specs.declared.stops.Refusal.TheVariants as refusal
 use Rattle.volume_files.specs.Attached.{AreMounted, bare_disks}
 use Rattle.volume_files.specs.Mounting.{Holds, specs_below}
-use Rattle.volume_files.specs.Opened.{OpenedFile, blocks_held, disk_numbered, disk_specs, disks_held, extents_of_disk, if_few, infos_of, mounted_files, names_of, new_file, opened_files, place_for, size_held, table_on, with_line_file, with_line_files, with_mounted, with_placed}
+use Rattle.volume_files.specs.Opened.{OpenedFile, blocks_held, disk_numbered, disk_specs, disks_held, extents_of_disk, if_few, infos_of, mounted_files}
+use Rattle.volume_files.specs.Opened.{names_of, new_file, opened_files, place_for, size_held, table_on, with_line_file, with_line_files, with_mounted}
+use Rattle.volume_files.specs.Opened.{with_placed}
 use Rattle.volume_files.proofs.MountDisks.{Told, told_table}
 use Rattle.volume_files.proofs.MountSpecs.{numbered_is, specs_from, specs_split}
 
@@ -44,7 +46,8 @@ line-volume sizes files (given.File name writable disk pages bytes) n rule e = b
     by-count true e = cc e
     by-count false e = by-name (list_any (bytes_eq name) (names_of files)) e
 
-lines-volume : (sizes : ℕ → ℕ) (r : Result (List OpenedFile) Refusal) (setup : List SetupLine) (n rule : ℕ) → with_line_files sizes r setup ≡ Err (refusal.Volume n rule) → r ≡ Err (refusal.Volume n rule)
+lines-volume : (sizes : ℕ → ℕ) (r : Result (List OpenedFile) Refusal) (setup : List SetupLine) (n rule : ℕ)
+    → with_line_files sizes r setup ≡ Err (refusal.Volume n rule) → r ≡ Err (refusal.Volume n rule)
 lines-volume sizes (Err x) setup n rule e = e
 lines-volume sizes (Ok files) [] n rule e = e
 lines-volume sizes (Ok files) (l ∷ setup) n rule e = absurd (line-volume sizes files l.act n rule (lines-volume sizes (with_line_file sizes files l.act) setup n rule e))
@@ -53,7 +56,8 @@ few-volume : (r : Result (List OpenedFile) Refusal) (n rule : ℕ) → if_few r 
 few-volume (Err x) n rule e = e
 few-volume (Ok files) n rule e = by (nat_lt 64 (length files)) e
   where
-    by : (b : Bool) → ◌≡◌ {A = Result (List OpenedFile) Refusal} (if b then Err (refusal.Rule 10) else Ok files) (Err (refusal.Volume n rule)) → ◌≡◌ {A = Result (List OpenedFile) Refusal} (Ok files) (Err (refusal.Volume n rule))
+    by : (b : Bool) → ◌≡◌ {A = Result (List OpenedFile) Refusal} (if b then Err (refusal.Rule 10) else Ok files) (Err (refusal.Volume n rule))
+        → ◌≡◌ {A = Result (List OpenedFile) Refusal} (Ok files) (Err (refusal.Volume n rule))
     by true e = absurd (cc e)
     by false e = e
 
@@ -97,7 +101,8 @@ least holds setup a (suc k) n rule e = at (disk_numbered setup a) refl (λ broke
     at None is later e = let le = later e in omega (arith, le)
     at (Some s) is later e = read s (numbered_is setup a s is) later (table_on (blocks_held holds s)) e
 
-broken-disk : (plan : PlanSeen) (holds : Holds) (n rule : ℕ) → opened_files plan holds ≡ Err (refusal.Volume n rule) → mounted_files (disks_held holds (disk_specs plan.setup)) ≡ Err (refusal.Volume n rule)
+broken-disk : (plan : PlanSeen) (holds : Holds) (n rule : ℕ) → opened_files plan holds ≡ Err (refusal.Volume n rule)
+    → mounted_files (disks_held holds (disk_specs plan.setup)) ≡ Err (refusal.Volume n rule)
 broken-disk plan holds n rule broken =
     few-volume (mounted_files (disks_held holds (disk_specs plan.setup))) n rule
     (lines-volume (size_held (disks_held holds (disk_specs plan.setup))) (if_few (mounted_files (disks_held holds (disk_specs plan.setup)))) plan.setup n rule broken)

@@ -1,5 +1,5 @@
 -- How many disks there are.
-use Rattle.std.specs.Prelude.{ℕ, ◌≡◌, ◌+◌, ◌<◌, ◌≤◌, List, length, map, Option, Some, None, option_map}
+use Rattle.std.specs.Prelude.{ℕ, ◌≡◌, List, length, map, Option, Some, None, option_map}
 use Rattle.std.proofs.Common.{ap, sym, ◌∙◌, refl, arith}
 use Rattle.std.proofs.lemmas.List.{length-map}
 use Rattle.block_device.specs.DiskSeen.{DiskSeen}
@@ -22,7 +22,8 @@ count-made f g ds es w v disks swap =
     omega (arith, long, swaps)
 
 -- disks that look the same as others
-pub count-seen : {A B C E : Type 0} (f : A → DiskSeen) (g : B → DiskSeen) (h : C → DiskSeen) (k : E → DiskSeen) (ds : List A) (es : List C) (w : Option B) (v : Option E) → length (map f ds) ≡ length (map h es)
+pub count-seen : {A B C E : Type 0} (f : A → DiskSeen) (g : B → DiskSeen) (h : C → DiskSeen) (k : E → DiskSeen) (ds : List A) (es : List C) (w : Option B)
+    (v : Option E) → length (map f ds) ≡ length (map h es)
     → option_map g w ≡ option_map k v → handed_count ds w ≡ handed_count es v
 count-seen f g h k ds es w v disks swap =
     let long = sym (length-map ds f) ∙ disks ∙ length-map es h in
@@ -46,7 +47,8 @@ swap-served slots None (Some d) h k = absurd (let low = k.0 in omega (arith, h, 
 swap-served slots (Some d) None h k = absurd (let low = h.0 in omega (arith, k, low))
 swap-served slots (Some d) (Some e) h k = refl
 
-pub count-served : {A B C E : Type 0} (g : B → DiskSeen) (k : E → DiskSeen) (ds : List A) (es : List C) (slots : ℕ) (w : Option B) (v : Option E) → length ds ≡ length es → IsSwapFor slots (option_map g w)
+pub count-served : {A B C E : Type 0} (g : B → DiskSeen) (k : E → DiskSeen) (ds : List A) (es : List C) (slots : ℕ) (w : Option B) (v : Option E)
+    → length ds ≡ length es → IsSwapFor slots (option_map g w)
     → IsSwapFor slots (option_map k v) → handed_count ds w ≡ handed_count es v
 count-served g k ds es slots w v long old new =
     let swaps = sym (swap-mapped g w) ∙ swap-served slots (option_map g w) (option_map k v) old new ∙ swap-mapped k v in

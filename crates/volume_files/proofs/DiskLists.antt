@@ -1,6 +1,6 @@
 -- Lists of disks whose numbers and sizes stay.
-use Rattle.std.proofs.Common.{◌≡◌, ℕ, zero, suc, ◌≤◌, ◌<◌, ◌==◌, true, false, List, [], ◌∷◌, length, map, refl, sym, ap, ◌∙◌, subst, arith, inl, inr}
-use Rattle.std.specs.Prelude.{All, Option, Some, None, option_map, slice_get, slice_index_or, zip, cond}
+use Rattle.std.proofs.Common.{◌≡◌, ℕ, zero, suc, ◌≤◌, ◌<◌, ◌==◌, true, List, [], ◌∷◌, length, map, refl, sym, ap, ◌∙◌, subst, arith, inl, inr}
+use Rattle.std.specs.Prelude.{All, Some, option_map, slice_get, slice_index_or, zip, cond}
 use Rattle.std.specs.List.{AllByRecursion}
 use Rattle.std.specs.Map.{lookup}
 use Rattle.std.proofs.lemmas.Bool.{eq-eqb}
@@ -147,5 +147,6 @@ pub first-same : (old new : List (ℕ × DiskSeen)) → map number new ≡ map n
     → HaveFirstBlocks old → HaveFirstBlocks new
 first-same old new numbers sizes h i d at =
     let m = mate new old (sym numbers) i d at in
-    let a : Some d.1.size ≡ Some m.0.1.size = sym (at-map (λ (x : ℕ × DiskSeen). x.1.size) new i d at) ∙ ap (λ (l : List ℕ). slice_get l i) sizes ∙ at-map (λ (x : ℕ × DiskSeen). x.1.size) old i m.0 m.1 in
+    let a : Some d.1.size ≡ Some m.0.1.size = sym (at-map (λ (x : ℕ × DiskSeen). x.1.size) new i d at) ∙ ap (λ (l : List ℕ). slice_get l i) sizes
+    ∙ at-map (λ (x : ℕ × DiskSeen). x.1.size) old i m.0 m.1 in
     subst (λ (n : ℕ). 0 < n) (sym (same_Some d.1.size m.0.1.size a)) (h i m.0 m.1)

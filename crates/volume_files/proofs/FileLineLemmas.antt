@@ -1,5 +1,6 @@
 -- What a file line gives, by the tests that the code makes.
-use Rattle.std.specs.Prelude.{ℕ, zero, suc, ◌≡◌, ◌<◌, ◌≤◌, ◌+◌, ◌-◌, ◌==◌, nat_lt, Bool, true, false, List, [], ◌∷◌, ◌++◌, length, map, filter, drop, count_by, Option, Some, None, is_some, IsSome, unwrap_or, Result, Ok, Err, slice_index_or, if◌then◌else◌}
+use Rattle.std.specs.Prelude.{ℕ, zero, suc, ◌≡◌, ◌<◌, ◌≤◌, ◌+◌, ◌-◌, ◌==◌, nat_lt, Bool, true, false, List, [], ◌∷◌, ◌++◌, length, map, filter, drop, count_by}
+use Rattle.std.specs.Prelude.{Option, Some, None, is_some, IsSome, unwrap_or, Result, Ok, Err, slice_index_or, if◌then◌else◌}
 use Rattle.std.specs.List.{list_any, range_with_len, find, flat_map}
 use Rattle.std.specs.Str.{bytes_eq}
 use Rattle.std.specs.FinMap as finite
@@ -46,7 +47,8 @@ length-made made files is = ap length is ∙ length-map (infos_of files) fresh_v
 pub extents-made : (d : ℕ) (infos : List FileInfo) → extents_on d (map fresh_vnode infos) ≡ extents_of_disk d infos
 extents-made d [] = refl
 extents-made d (i ∷ infos) =
-    elim (i.disk == d) as (λ (t : Bool). flat_map (λ (v : VnodeSeen). v.info.extents) (cond t (fresh_vnode i ∷ filter (λ (v : VnodeSeen). v.info.disk == d) (map fresh_vnode infos)) (filter (λ (v : VnodeSeen). v.info.disk == d) (map fresh_vnode infos)))
+    elim (i.disk == d) as (λ (t : Bool). flat_map (λ (v : VnodeSeen). v.info.extents)
+    (cond t (fresh_vnode i ∷ filter (λ (v : VnodeSeen). v.info.disk == d) (map fresh_vnode infos)) (filter (λ (v : VnodeSeen). v.info.disk == d) (map fresh_vnode infos)))
     ≡ flat_map (λ (j : FileInfo). j.extents) (cond t (i ∷ filter (λ (j : FileInfo). j.disk == d) infos) (filter (λ (j : FileInfo). j.disk == d) infos))) [
       | true ↦ ap (λ (es : List Extent). i.extents ++ es) (extents-made d infos)
       | false ↦ extents-made d infos
@@ -59,13 +61,16 @@ module _ (sizes : ℕ → ℕ) (made : FilesSeen) (before : List OpenedFile) (is
   -- there are 64 files already
   pub line-many : 64 ≤ length made.files → with_line_file sizes before (given.File name writable disk pages bytes) ≡ Err (refusal.Rule 10)
   line-many many =
-      ap (λ (t : Bool). if t then Err (refusal.Rule 10) else if list_any (bytes_eq name) (names_of before) then Err (refusal.Rule 11) else with_placed before (new_file name writable disk pages bytes) (place_for (sizes disk) (extents_of_disk disk (infos_of before)) pages))
+      ap (λ (t : Bool). if t then Err (refusal.Rule 10) else if list_any (bytes_eq name) (names_of before) then Err (refusal.Rule 11) else with_placed before
+      (new_file name writable disk pages bytes) (place_for (sizes disk) (extents_of_disk disk (infos_of before)) pages))
       (le-leb 64 (length before) (omega (arith, many, length-made made before is)))
 
   few-test : length made.files < 64 → with_line_file sizes before (given.File name writable disk pages bytes)
-      ≡ (if list_any (bytes_eq name) (names_of before) then Err (refusal.Rule 11) else with_placed before (new_file name writable disk pages bytes) (place_for (sizes disk) (extents_of_disk disk (infos_of before)) pages))
+      ≡ (if list_any (bytes_eq name) (names_of before) then Err (refusal.Rule 11) else with_placed before (new_file name writable disk pages bytes)
+      (place_for (sizes disk) (extents_of_disk disk (infos_of before)) pages))
   few-test few =
-      ap (λ (t : Bool). if t then Err (refusal.Rule 10) else if list_any (bytes_eq name) (names_of before) then Err (refusal.Rule 11) else with_placed before (new_file name writable disk pages bytes) (place_for (sizes disk) (extents_of_disk disk (infos_of before)) pages))
+      ap (λ (t : Bool). if t then Err (refusal.Rule 10) else if list_any (bytes_eq name) (names_of before) then Err (refusal.Rule 11) else with_placed before
+      (new_file name writable disk pages bytes) (place_for (sizes disk) (extents_of_disk disk (infos_of before)) pages))
       (lt-leb 64 (length before) (omega (arith, few, length-made made before is)))
 
   name-test : (r : Option ℕ) → IsNumberOf made.files name r → list_any (bytes_eq name) (names_of before) ≡ is_some r
@@ -86,14 +91,16 @@ module _ (sizes : ℕ → ℕ) (made : FilesSeen) (before : List OpenedFile) (is
   pub line-old : (r : Option ℕ) → length made.files < 64 → IsNumberOf made.files name r → is_some r ≡ true
       → with_line_file sizes before (given.File name writable disk pages bytes) ≡ Err (refusal.Rule 11)
   line-old r few number some =
-      few-test few ∙ ap (λ (t : Bool). if t then Err (refusal.Rule 11) else with_placed before (new_file name writable disk pages bytes) (place_for (sizes disk) (extents_of_disk disk (infos_of before)) pages)) (name-test r number ∙ some)
+      few-test few ∙ ap (λ (t : Bool). if t then Err (refusal.Rule 11) else with_placed before (new_file name writable disk pages bytes)
+      (place_for (sizes disk) (extents_of_disk disk (infos_of before)) pages)) (name-test r number ∙ some)
 
   -- the name is new: there is a place, or none
   pub line-new : (r : Option ℕ) (used : List Extent) (blocks : ℕ) (place : Option ℕ) → length made.files < 64 → IsNumberOf made.files name r → is_some r ≡ false
       → used ≡ extents_on disk made.files → blocks ≡ sizes disk → place ≡ place_for blocks used pages
       → with_line_file sizes before (given.File name writable disk pages bytes) ≡ with_placed before (new_file name writable disk pages bytes) place
   line-new r used blocks place few number none uses size found =
-      few-test few ∙ ap (λ (t : Bool). if t then Err (refusal.Rule 11) else with_placed before (new_file name writable disk pages bytes) (place_for (sizes disk) (extents_of_disk disk (infos_of before)) pages)) (name-test r number ∙ none)
+      few-test few ∙ ap (λ (t : Bool). if t then Err (refusal.Rule 11) else with_placed before (new_file name writable disk pages bytes)
+      (place_for (sizes disk) (extents_of_disk disk (infos_of before)) pages)) (name-test r number ∙ none)
       ∙ ap (with_placed before (new_file name writable disk pages bytes))
       (ap (λ n. place_for n (extents_of_disk disk (infos_of before)) pages) (sym size)
       ∙ ap (λ (es : List Extent). place_for blocks es pages) (sym (uses ∙ ap (extents_on disk) is ∙ extents-made disk (infos_of before))) ∙ sym found)
@@ -129,7 +136,8 @@ place-found blocks used pages start some is = record {
 
     few_is : length used < 252
     few_is =
-        elim (nat_lt (length used) 252) as (λ (t : Bool). nat_lt (length used) 252 ≡ t → (if t then find (is_free_run blocks used pages) (range_with_len 1 (blocks - 1)) else None) ≡ Some start → length used < 252) [
+        elim (nat_lt (length used) 252) as (λ (t : Bool). nat_lt (length used) 252 ≡ t
+        → (if t then find (is_free_run blocks used pages) (range_with_len 1 (blocks - 1)) else None) ≡ Some start → length used < 252) [
           | true ↦ λ less found. ltb-true (length used) 252 less
           | false ↦ λ less none. absurd (none-or-some start none)
         ] refl is

@@ -1,11 +1,13 @@
 -- The bytes of a file, page by page.
-use Rattle.std.proofs.Common.{◌≡◌, ℕ, zero, suc, ◌+◌, ◌-◌, ◌*◌, ◌<◌, ◌≤◌, ◌⊎◌, List, [], ◌∷◌, ◌++◌, length, map, take, drop, min, refl, sym, ap, ◌∙◌, subst, arith, inl, inr, take_at, drop_at, append_assoc}
+use Rattle.std.proofs.Common.{◌≡◌, ℕ, zero, suc, ◌+◌, ◌-◌, ◌*◌, ◌<◌, ◌≤◌, ◌⊎◌, List, [], ◌∷◌, ◌++◌, length, map, take, drop, min, refl, sym, ap, ◌∙◌, subst}
+use Rattle.std.proofs.Common.{arith, inl, inr, take_at, drop_at, append_assoc}
 use Rattle.std.specs.Prelude.{IfSome, Option, Some, None, slice_index_or, replicate, unwrap_or}
 use Rattle.std.specs.List.{concat}
 use Rattle.std.proofs.Math.ListN.{get_or}
 use Rattle.std.proofs.Math.Seq.{drop-cons}
 use Rattle.std.proofs.lemmas.Bool.{cases_lt}
-use Rattle.std.proofs.lemmas.List.{take_all, take-take, take-append-le, drop-take, drop-drop, take_min, take-append-drop, length-take, length-drop, length-append, length-map, length-replicate, get_or-map, append-nil}
+use Rattle.std.proofs.lemmas.List.{take_all, take-take, take-append-le, drop-take, drop-drop, take_min, take-append-drop, length-take, length-drop}
+use Rattle.std.proofs.lemmas.List.{length-append, length-map, length-replicate, get_or-map, append-nil}
 use Rattle.vm_types.specs.Pages.{bytes_before, pages_in}
 use Rattle.flat_model.specs.Words.{Page, with_bytes}
 use Rattle.flat_model.proofs.FileBytes.{Whole, length-concat}
@@ -95,7 +97,8 @@ module _ (files : FilesSeen) (file : ℕ) (disk : ℕ × DiskSeen) (lies : LiesO
       omega (arith, length-take info.length (concat ps), length-concat ps pages_whole, pages_count, within)
 
   stored_page : (page : ℕ) → page < pages_in (shown_info files file).length
-      → page_piece (stored_bytes blocks (shown_info files file)) page ≡ take (bytes_before (shown_info files file).length page) (slice_index_or blocks (block_at (shown_info files file).extents page) [])
+      → page_piece (stored_bytes blocks (shown_info files file)) page ≡ take (bytes_before (shown_info files file).length page)
+      (slice_index_or blocks (block_at (shown_info files file).extents page) [])
   stored_page page low =
       let info = shown_info files file in
       let ps = file_pages blocks info in
@@ -123,7 +126,8 @@ piece_read files file disk page count block lies blocks low whole is shows = rec
         ∙ ap (λ n. take n block) (sym is)
 
 -- bytes of a file, before any are read
-pub some_bytes : (files : FilesSeen) (file : ℕ) (disk : ℕ × DiskSeen) → LiesOn files file disk → HasBlocks disk.1.content disk.1.size → (bytes : List ℕ) × AreFileBytes disk.1 (shown_info files file) bytes
+pub some_bytes : (files : FilesSeen) (file : ℕ) (disk : ℕ × DiskSeen) → LiesOn files file disk → HasBlocks disk.1.content disk.1.size
+    → (bytes : List ℕ) × AreFileBytes disk.1 (shown_info files file) bytes
 some_bytes files file disk lies blocks = made disk.1.content refl blocks
   where
     made : (o : Option (List (List ℕ))) → disk.1.content ≡ o → HasBlocks o disk.1.size → (bytes : List ℕ) × AreFileBytes disk.1 (shown_info files file) bytes

@@ -47,7 +47,8 @@ concat-blocks blocks (b ∷ bs) are within =
     (omega (arith, is.0, rest.0, length-append first more), all_append (λ c. c < 256) first more (block-bytes first is) rest.1)
 
 -- a file's bytes as a disk has them
-bytes-law : (content : Option (List (List ℕ))) (size : ℕ) (e : FileInfo) → HasBlocks content size → IsVolumeFile size e → (length (content_bytes content e) ≡ e.length) × All (λ b. b < 256) (content_bytes content e)
+bytes-law : (content : Option (List (List ℕ))) (size : ℕ) (e : FileInfo) → HasBlocks content size → IsVolumeFile size e
+    → (length (content_bytes content e) ≡ e.length) × All (λ b. b < 256) (content_bytes content e)
 bytes-law None size e has v = (length-replicate e.length 0, All-replicate (λ b. b < 256) e.length 0 (omega arith))
 bytes-law (Some blocks) size e has v =
     let lies = file-lies size e v in
@@ -82,7 +83,8 @@ each_own holds specs (d ∷ ds) [] m has = (tt, tt)
 each_own holds [] (d ∷ ds) (t ∷ ts) m has = absurd m
 each_own holds (s ∷ specs) (d ∷ ds) (t ∷ ts) m has =
     let rest = each_own holds specs ds ts m.1 has.1 in
-    let file : (i : ℕ) → i < length t.entries → IsVolumeFile d.1.size (slice_index_or t.entries i no_entry) = λ i below. subst (λ n. IsVolumeFile n (slice_index_or t.entries i no_entry)) m.0.blocks (m.0.volume.files i below) in (
+    let file : (i : ℕ) → i < length t.entries → IsVolumeFile d.1.size (slice_index_or t.entries i no_entry) = λ i below. subst
+    (λ n. IsVolumeFile n (slice_index_or t.entries i no_entry)) m.0.blocks (m.0.volume.files i below) in (
       all_append HasItsBytes (map (found_file d) t.entries) (found_files ds ts)
           (all_mapped HasItsBytes (found_file d) t.entries (all_at (λ (e : FileInfo). HasItsBytes (found_file d e)) t.entries no_entry (λ i below.
           let law = bytes-law d.1.content d.1.size (slice_index_or t.entries i no_entry) has.0 (file i below) in record { count = law.0; bytes = law.1 }))) rest.0,
@@ -115,7 +117,8 @@ found-stored n content [] ts same = tt
 found-stored n content (d ∷ ds) [] same = tt
 found-stored n content (d ∷ ds) (t ∷ ts) same =
     all_append (Stored n content) (map (found_file d) t.entries) (found_files ds ts)
-    (all_mapped (Stored n content) (found_file d) t.entries (all_at (λ (e : FileInfo). Stored n content (found_file d e)) t.entries no_entry (λ i below on. same_stored content d.1.content (slice_index_or t.entries i no_entry) (same.0 on))))
+    (all_mapped (Stored n content) (found_file d) t.entries (all_at (λ (e : FileInfo). Stored n content (found_file d e)) t.entries no_entry
+    (λ i below on. same_stored content d.1.content (slice_index_or t.entries i no_entry) (same.0 on))))
     (found-stored n content ds ts same.1)
 
 -- the disk of a number

@@ -31,7 +31,7 @@ abbrev pub sized : ℕ × DiskSeen → ℕ × ℕ
 sized d = (d.0, d.1.size)
 
 -- how many blocks a disk has, by a map and by a list
-size-counted : (xs : List (ℕ × ℕ)) (n : ℕ) → block_count (finite.from_entries xs) n ≡ size_among xs n
+pub size-counted : (xs : List (ℕ × ℕ)) (n : ℕ) → block_count (finite.from_entries xs) n ≡ size_among xs n
 size-counted [] n = ap (λ (o : Option ℕ). unwrap_or o 0) (finite.get-empty nat_cmp n)
 size-counted (x ∷ xs) n =
     let rest : finite.FinMap nat_cmp ℕ = finite.from_entries xs in
@@ -60,7 +60,7 @@ same-sized : {D : Type 0} (seen : D → DiskSeen) (d e : NumberedDisk D) → Rem
 same-sized seen d e r = λ i. (r.number i, r.size i)
 
 module _ {D : Type 0} (seen : D → DiskSeen) where
-  tables-read : (holds : Holds) (specs : List Spec) (ds es : List (NumberedDisk D)) (ts : List TableSeen) → AreMounted holds specs (map (numbered_seen seen) ds) ts → SameDisks seen ds es
+  pub tables-read : (holds : Holds) (specs : List Spec) (ds es : List (NumberedDisk D)) (ts : List TableSeen) → AreMounted holds specs (map (numbered_seen seen) ds) ts → SameDisks seen ds es
       → AreTablesRead holds specs (map sized (map (numbered_seen seen) es)) ts
   tables-read holds [] [] [] [] m r = tt
   tables-read holds [] [] [] (t ∷ ts) m r = absurd m
@@ -72,21 +72,21 @@ module _ {D : Type 0} (seen : D → DiskSeen) where
   tables-read holds (s ∷ specs) (d ∷ ds) (e ∷ es) (t ∷ ts) m r =
       (table-read holds s (numbered_seen seen d) t (sized (numbered_seen seen e)) (same-sized seen d e r.0) m.0, tables-read holds specs ds es ts m.1 r.1)
 
-  numbers-kept : (ds es : List (NumberedDisk D)) → SameDisks seen ds es
+  pub numbers-kept : (ds es : List (NumberedDisk D)) → SameDisks seen ds es
       → map (λ (d : ℕ × DiskSeen). d.0) (map (numbered_seen seen) ds) ≡ map (λ (d : ℕ × ℕ). d.0) (map sized (map (numbered_seen seen) es))
   numbers-kept [] [] r = refl
   numbers-kept [] (e ∷ es) r = absurd r
   numbers-kept (d ∷ ds) [] r = absurd r
   numbers-kept (d ∷ ds) (e ∷ es) r = let rest = numbers-kept ds es r.1 in let same = sym r.0.number in λ i. same i ∷ rest i
 
-  sizes-kept : (ds es : List (NumberedDisk D)) → SameDisks seen ds es → sizes_by_number seen ds ≡ map sized (map (numbered_seen seen) es)
+  pub sizes-kept : (ds es : List (NumberedDisk D)) → SameDisks seen ds es → sizes_by_number seen ds ≡ map sized (map (numbered_seen seen) es)
   sizes-kept [] [] r = refl
   sizes-kept [] (e ∷ es) r = absurd r
   sizes-kept (d ∷ ds) [] r = absurd r
   sizes-kept (d ∷ ds) (e ∷ es) r = let rest = sizes-kept ds es r.1 in let number = sym r.0.number in let size = sym r.0.size in λ i. (number i, size i) ∷ rest i
 
   -- what placing comes to is what the plan comes to over these disks
-  pub comes-to : (plan : PlanSeen) (holds : Holds) (old new : List (NumberedDisk D)) (ts : List TableSeen) (r : Result (List OpenedFile) Refusal)
+  abbrev pub comes-to : (plan : PlanSeen) (holds : Holds) (old new : List (NumberedDisk D)) (ts : List TableSeen) (r : Result (List OpenedFile) Refusal)
       → AreMounted holds (disk_specs plan.setup) (map (numbered_seen seen) old) ts → SameDisks seen old new → placing_read seen old ts plan.setup ≡ r
       → ComesTo plan holds (map sized (map (numbered_seen seen) new)) r
   comes-to plan holds old new ts r m same read =
@@ -101,6 +101,16 @@ module _ {D : Type 0} (seen : D → DiskSeen) where
         mounted = infos-found (map (numbered_seen seen) old) ts ∙ ap (λ (ns : List ℕ). mounted_infos ns ts) (numbers-kept old new same);
         lines = subst (λ (ys : List (ℕ × ℕ)). with_line_files (size_among ys) (if_few (Ok found)) plan.setup ≡ r) (sizes-kept old new same) by-list;
       }
+
+-- the same by other words for the sizes
+abbrev pub comes-sizes : (plan : PlanSeen) (holds : Holds) (xs ys : List (ℕ × ℕ)) (r : Result (List OpenedFile) Refusal) → xs ≡ ys → ComesTo plan holds xs r → ComesTo plan holds ys r
+comes-sizes plan holds xs ys r is c = record {
+  tables = c.tables;
+  found = c.found;
+  read = subst (λ (zs : List (ℕ × ℕ)). AreTablesRead holds (disk_specs plan.setup) zs c.tables) is c.read;
+  mounted = c.mounted ∙ ap (λ (zs : List (ℕ × ℕ)). mounted_infos (map (λ (z : ℕ × ℕ). z.0) zs) c.tables) is;
+  lines = subst (λ (zs : List (ℕ × ℕ)). with_line_files (size_among zs) (if_few (Ok c.found)) plan.setup ≡ r) is c.lines;
+}
 
 -- the sizes of disks that are handed back
 pub sizes-handed : (plan : PlanSeen) (disks : List (ℕ × DiskSeen)) → map (λ (d : ℕ × DiskSeen). d.0) disks ≡ disk_numbers plan → map sized disks ≡ sizes_of plan (bare_disks disks)

@@ -1,5 +1,6 @@
 -- The disks of a plan: their numbers, what is handed back of them, and the files as they are opened.
-use Rattle.std.specs.Prelude.{ℕ, zero, suc, ◌≡◌, ◌≢◌, ◌<◌, ◌≤◌, ◌+◌, ◌==◌, true, false, List, [], ◌∷◌, length, map, zip, filter_map, replicate, slice_get, slice_index_or, unwrap_or, Option, Some, None, option_map, option_and_then, is_some, Result, Ok}
+use Rattle.std.specs.Prelude.{ℕ, zero, suc, ◌≡◌, ◌≢◌, ◌<◌, ◌≤◌, ◌+◌, ◌==◌, true, false, List, [], ◌∷◌, length, map, zip, filter_map, replicate, slice_get}
+use Rattle.std.specs.Prelude.{slice_index_or, unwrap_or, Option, Some, None, option_map, option_and_then, is_some, Result, Ok}
 use Rattle.std.specs.List.{AllByRecursion, cons_option, find, range_with_len}
 use Rattle.std.specs.Map.{lookup}
 use Rattle.std.specs.Ordering.{nat_cmp}
@@ -44,7 +45,8 @@ given-number n (given.File name writable disk pages bytes) s gives is = absurd (
 
 pub numbered-is : (setup : List SetupLine) (n : ℕ) (s : Spec) → disk_numbered setup n ≡ Some s → spec_number s ≡ n
 numbered-is setup n s is =
-    elim (find (λ (l : SetupLine). gives_disk n l.act) setup) as (λ (o : Option SetupLine). find (λ (l : SetupLine). gives_disk n l.act) setup ≡ o → option_and_then (λ (l : SetupLine). given_disk l.act) o ≡ Some s → spec_number s ≡ n) [
+    elim (find (λ (l : SetupLine). gives_disk n l.act) setup) as (λ (o : Option SetupLine). find (λ (l : SetupLine). gives_disk n l.act) setup ≡ o
+    → option_and_then (λ (l : SetupLine). given_disk l.act) o ≡ Some s → spec_number s ≡ n) [
       | None ↦ λ found none. absurd (none-or-some s none)
       | Some l ↦ λ found gives. given-number n l.act s (find-passes (λ (k : SetupLine). gives_disk n k.act) setup l found) gives
     ] refl is
@@ -65,7 +67,8 @@ numbers-rise setup a zero b is = (tt, tt)
 numbers-rise setup a (suc k) b is =
     let rest = numbers-rise setup (a + 1) k b (omega (arith, is)) in
     let w = weaker a b (Numbers setup (a + 1) k) rest.0 in
-    elim (disk_numbered setup a) as (λ (o : Option Spec). disk_numbered setup a ≡ o → AllByRecursion (λ m. (a ≤ m) × (m < b)) (map spec_number (cons_option o (filter_map (disk_numbered setup) (range_with_len (a + 1) k))))
+    elim (disk_numbered setup a) as (λ (o : Option Spec). disk_numbered setup a ≡ o → AllByRecursion (λ m. (a ≤ m) × (m < b))
+    (map spec_number (cons_option o (filter_map (disk_numbered setup) (range_with_len (a + 1) k))))
     × Distinct (map spec_number (cons_option o (filter_map (disk_numbered setup) (range_with_len (a + 1) k))))) [
       | None ↦ λ none. (w.0, rest.1)
       | Some s ↦ λ some.
@@ -128,11 +131,13 @@ spec-sizes seen holds (s ∷ specs) (d ∷ ds) (e ∷ es) (t ∷ ts) m r =
     each : ((i : ℕ) (q : Spec) (x : DiskSeen) → slice_get specs i ≡ Some q → slice_get (bare_disks (map (numbered_seen seen) es)) i ≡ Some x → HasSpecSize q x)
         → (i : ℕ) (q : Spec) (x : DiskSeen) → slice_get (s ∷ specs) i ≡ Some q → slice_get (bare_disks (map (numbered_seen seen) (e ∷ es))) i ≡ Some x → HasSpecSize q x
     each more zero q x is at =
-        subst (λ (z : Spec). HasSpecSize z x) (same_Some s q is) (subst (λ (y : DiskSeen). HasSpecSize s y) (same_Some (seen e.disk) x at) (spec-size s (holds s) (seen d.disk) (seen e.disk) m.0.attached r.0.size))
+        subst (λ (z : Spec). HasSpecSize z x) (same_Some s q is) (subst (λ (y : DiskSeen). HasSpecSize s y) (same_Some (seen e.disk) x at)
+        (spec-size s (holds s) (seen d.disk) (seen e.disk) m.0.attached r.0.size))
     each more (suc i) q x is at = more i q x is at
 
 -- the disk of a number, among those that are handed back
-pub lookup-at : (ns : List ℕ) (ds : List DiskSeen) (i : ℕ) (d : DiskSeen) → Distinct ns → length ds ≡ length ns → i < length ns → lookup (λ m. m == slice_index_or ns i 0) (zip ns ds) ≡ Some (slice_index_or ds i d)
+pub lookup-at : (ns : List ℕ) (ds : List DiskSeen) (i : ℕ) (d : DiskSeen) → Distinct ns → length ds ≡ length ns → i < length ns
+    → lookup (λ m. m == slice_index_or ns i 0) (zip ns ds) ≡ Some (slice_index_or ds i d)
 lookup-at [] ds i d distinct count below = absurd (omega (arith, below))
 lookup-at (n ∷ ns) [] i d distinct count below = absurd (omega (arith, count))
 lookup-at (n ∷ ns) (x ∷ ds) zero d distinct count below = ap (λ t. cond t (Some x) (lookup (λ m. m == n) (zip ns ds))) (eq-eqb n n refl)
@@ -155,7 +160,8 @@ held-length holds (spec.Path number path) d attached tells has =
       | Some blocks ↦ λ same some. (subst (λ (o : Option (List (List ℕ))). HasBlocks o d.size) same has).0
     ] attached tells
 
-pub sizes-held : (holds : Spec → Option (List (List ℕ))) (specs : List Spec) (ds : List (ℕ × DiskSeen)) (ts : List TableSeen) → AreMounted holds specs ds ts → AllByRecursion (TellsSpec holds) specs → AllBlocks ds
+pub sizes-held : (holds : Spec → Option (List (List ℕ))) (specs : List Spec) (ds : List (ℕ × DiskSeen)) (ts : List TableSeen) → AreMounted holds specs ds ts
+    → AllByRecursion (TellsSpec holds) specs → AllBlocks ds
     → (n : ℕ) → size_held (disks_held holds specs) n ≡ block_count (finite.from_entries (map (λ (d : ℕ × DiskSeen). (d.0, d.1.size)) ds)) n
 sizes-held holds [] [] [] m tells has n = sym (ap (λ (o : Option ℕ). unwrap_or o 0) (finite.get-empty nat_cmp n))
 sizes-held holds [] [] (t ∷ ts) m tells has n = absurd m

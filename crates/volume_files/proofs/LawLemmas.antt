@@ -89,7 +89,8 @@ files-right plan kept =
     let e = (kept_test (list_any (λ (l : SetupLine). lacks_disk plan.setup l.act) plan.setup) 5 _ d).1 in
     (kept_test (list_any (λ (l : SetupLine). is_wrong_file l.act) plan.setup) 6 _ e).0
 
-each_law : (setup : List SetupLine) → AllByRecursion (λ (l : SetupLine). IsSetupAct l.act) setup → list_any (λ (l : SetupLine). is_wrong_file l.act) setup ≡ false → AllByRecursion (λ (l : SetupLine). LineLaw l.act) setup
+each_law : (setup : List SetupLine) → AllByRecursion (λ (l : SetupLine). IsSetupAct l.act) setup
+    → list_any (λ (l : SetupLine). is_wrong_file l.act) setup ≡ false → AllByRecursion (λ (l : SetupLine). LineLaw l.act) setup
 each_law [] sound right = tt
 each_law (l ∷ setup) sound right =
     let both = or_none (is_wrong_file l.act) (list_any (λ (k : SetupLine). is_wrong_file k.act) setup) right in
@@ -108,7 +109,8 @@ law-placeable (given.File name writable disk pages bytes) law = (law.name_is.som
 
 pub placeable-lines : (plan : PlanSeen) → broken_rule plan ≡ None → IsSoundSetup plan.setup → All (λ (l : SetupLine). IsPlaceable l.act) plan.setup
 placeable-lines plan kept sound =
-    All-from_recursion (λ (l : SetupLine). IsPlaceable l.act) plan.setup (all_then (λ (l : SetupLine). LineLaw l.act) (λ (l : SetupLine). IsPlaceable l.act) plan.setup (λ l law. law-placeable l.act law) (line-laws plan kept sound))
+    All-from_recursion (λ (l : SetupLine). IsPlaceable l.act) plan.setup
+    (all_then (λ (l : SetupLine). LineLaw l.act) (λ (l : SetupLine). IsPlaceable l.act) plan.setup (λ l law. law-placeable l.act law) (line-laws plan kept sound))
 
 placeable-holds : (act : SetupAct) → IsPlaceable act → HoldsItsBytes act
 placeable-holds (given.Frames n) p = tt
@@ -123,7 +125,8 @@ placeable-holds (given.File name writable disk pages bytes) p =
 
 pub holding-lines : (setup : List SetupLine) → All (λ (l : SetupLine). IsPlaceable l.act) setup → AllByRecursion (λ (l : SetupLine). HoldsItsBytes l.act) setup
 holding-lines setup all =
-    all_then (λ (l : SetupLine). IsPlaceable l.act) (λ (l : SetupLine). HoldsItsBytes l.act) setup (λ l p. placeable-holds l.act p) (recursion_from_All (λ (l : SetupLine). IsPlaceable l.act) setup all)
+    all_then (λ (l : SetupLine). IsPlaceable l.act) (λ (l : SetupLine). HoldsItsBytes l.act) setup (λ l p. placeable-holds l.act p)
+    (recursion_from_All (λ (l : SetupLine). IsPlaceable l.act) setup all)
 
 -- What is kept of the files' names, bytes and pages.
 pub record GoodFiles (files : List OpenedFile) : Type 0 where
@@ -146,7 +149,8 @@ good-kept sizes files name writable disk pages bytes start law can good =
     let e : Extent = record { start = start; pages = pages } in
     let count : page_count (e ∷ []) ≡ pages + 0 = sum_by-cons (λ (x : Extent). x.pages) e [] in
     record {
-      names = subst (λ (is : List FileInfo). AllByRecursion (λ (i : FileInfo). IsVolumeName i.name) is) (sym pushed) (all_push (λ (i : FileInfo). IsVolumeName i.name) (infos_of files) f.info good.names law.name_is);
+      names = subst (λ (is : List FileInfo). AllByRecursion (λ (i : FileInfo). IsVolumeName i.name) is) (sym pushed)
+          (all_push (λ (i : FileInfo). IsVolumeName i.name) (infos_of files) f.info good.names law.name_is);
       differ = subst Differ (sym pushed) (differ-append (infos_of files) (f.info ∷ []) good.differ (tt, tt) (each_new name disk files can.new));
       own = all_push HasItsBytes files f good.own (record { count = refl; bytes = law.each });
       kept = all_push (λ (g : OpenedFile). 1 ≤ page_count g.info.extents) files f good.kept (omega (arith, count, law.some));

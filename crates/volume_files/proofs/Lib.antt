@@ -18,6 +18,7 @@ pub mod ClearLemmas
 pub mod MountLemmas
 pub mod MountedLaws
 pub mod WriteLemmas
+pub mod SparedBlocks
 pub mod FileLineLemmas
 pub mod OpenLemmas
 pub mod PlacedLemmas

@@ -1,5 +1,6 @@
 -- What holds of files holds with those of the lines behind them.
-use Rattle.std.specs.Prelude.{ℕ, zero, suc, ◌≡◌, ◌<◌, ◌≤◌, ◌+◌, ◌-◌, ◌==◌, ◌||◌, not, nat_le, nat_lt, Bool, true, false, List, [], ◌∷◌, ◌++◌, length, Option, Some, None, IfOk, IfSome, Result, Ok, Err, if◌then◌else◌, filter}
+use Rattle.std.specs.Prelude.{ℕ, zero, suc, ◌≡◌, ◌<◌, ◌≤◌, ◌+◌, ◌-◌, ◌==◌, ◌||◌, not, nat_le, nat_lt, Bool, true, false, List, [], ◌∷◌, ◌++◌, length, Option}
+use Rattle.std.specs.Prelude.{Some, None, IfOk, IfSome, Result, Ok, Err, if◌then◌else◌, filter}
 use Rattle.std.specs.List.{list_any, list_all, range_with_len, AllByRecursion, find, flat_map}
 use Rattle.std.specs.Str.{bytes_eq}
 use Rattle.std.proofs.Common.{ap, ◌∙◌, sym, subst, refl, arith, inl, inr, cond}
@@ -107,7 +108,8 @@ not-is false h = refl
 -- a place that was found: its blocks are free
 pub place-run : (blocks : ℕ) (extents : List Extent) (pages start : ℕ) → place_for blocks extents pages ≡ Some start → is_free_run blocks extents pages start ≡ true
 place-run blocks extents pages start is =
-    elim (nat_lt (length extents) 252) as (λ (t : Bool). (if t then find (is_free_run blocks extents pages) (range_with_len 1 (blocks - 1)) else None) ≡ Some start → is_free_run blocks extents pages start ≡ true) [
+    elim (nat_lt (length extents) 252) as (λ (t : Bool).
+    (if t then find (is_free_run blocks extents pages) (range_with_len 1 (blocks - 1)) else None) ≡ Some start → is_free_run blocks extents pages start ≡ true) [
       | true ↦ λ found. find-passes (is_free_run blocks extents pages) (range_with_len 1 (blocks - 1)) start found
       | false ↦ λ none. absurd (none-or-some start none)
     ] is
@@ -143,7 +145,8 @@ each_free d (f ∷ files) b none =
           let split : list_any (has_block b) (f.info.extents ++ flat_map (λ (i : FileInfo). i.extents) rest) ≡ false =
           ap (λ (t : Bool). list_any (has_block b) (flat_map (λ (i : FileInfo). i.extents) (cond t (f.info ∷ rest) rest))) (sym on) ∙ none in
           let parts : (list_any (has_block b) f.info.extents ≡ false) × (list_any (has_block b) (flat_map (λ (i : FileInfo). i.extents) rest) ≡ false) =
-          or_none (list_any (has_block b) f.info.extents) (list_any (has_block b) (flat_map (λ (i : FileInfo). i.extents) rest)) (sym (list_any-append (has_block b) f.info.extents (flat_map (λ (i : FileInfo). i.extents) rest)) ∙ split) in
+          or_none (list_any (has_block b) f.info.extents) (list_any (has_block b) (flat_map (λ (i : FileInfo). i.extents) rest))
+          (sym (list_any-append (has_block b) f.info.extents (flat_map (λ (i : FileInfo). i.extents) rest)) ∙ split) in
           (λ same. parts.0, each_free d files b parts.1)
       | inr ne ↦
           let off : (f.info.disk == d) ≡ false = ne_eqb f.info.disk d ne in
@@ -157,14 +160,16 @@ abbrev pub Stored : ℕ → Option (List (List ℕ)) → OpenedFile → Type 0
 Stored n content f = f.info.disk ≡ n → IfSome content (λ blocks. stored_bytes blocks f.info ≡ f.bytes)
 
 -- What a file's pages make of a disk's content: it has them, where the file lies there; else it is as it was.
-pub with_file-on : (n : ℕ) (content : Option (List (List ℕ))) (info : FileInfo) (bytes : List ℕ) → info.disk ≡ n → with_file n content info bytes ≡ with_block_pages content (front_block info.extents) (filled_pages bytes)
+pub with_file-on : (n : ℕ) (content : Option (List (List ℕ))) (info : FileInfo) (bytes : List ℕ) → info.disk ≡ n
+    → with_file n content info bytes ≡ with_block_pages content (front_block info.extents) (filled_pages bytes)
 with_file-on n content info bytes e = ap (λ (t : Bool). if t then with_block_pages content (front_block info.extents) (filled_pages bytes) else content) (eq-eqb info.disk n e)
 
 pub with_file-off : (n : ℕ) (content : Option (List (List ℕ))) (info : FileInfo) (bytes : List ℕ) → (info.disk ≡ n → ⊥) → with_file n content info bytes ≡ content
 with_file-off n content info bytes ne = ap (λ (t : Bool). if t then with_block_pages content (front_block info.extents) (filled_pages bytes) else content) (ne_eqb info.disk n ne)
 
 -- content where it is told
-if_told : (P : List (List ℕ) → Type 0) (o : Option (List (List ℕ))) (start : ℕ) (ps : List (List ℕ)) → ((blocks : List (List ℕ)) → o ≡ Some blocks → P (set_pages blocks start ps)) → IfSome (with_block_pages o start ps) P
+if_told : (P : List (List ℕ) → Type 0) (o : Option (List (List ℕ))) (start : ℕ) (ps : List (List ℕ))
+    → ((blocks : List (List ℕ)) → o ≡ Some blocks → P (set_pages blocks start ps)) → IfSome (with_block_pages o start ps) P
 if_told P None start ps h = subst (λ (o : Option (List (List ℕ))). IfSome o P) (sym (with_pages-untold start ps)) tt
 if_told P (Some blocks) start ps h = subst (λ (o : Option (List (List ℕ))). IfSome o P) (sym (with_pages-told blocks start ps)) (h blocks refl)
 
@@ -198,7 +203,8 @@ module _ (sizes : ℕ → ℕ) (n size : ℕ) (sized : sizes n ≡ size) where
               subst (λ (o : Option (List (List ℕ))). IfSome o (λ blocks. length blocks ≡ size)) (sym is)
                   (if_told (λ bs. length bs ≡ size) content start ps (λ blocks told. length-set_pages blocks start ps ∙ whole blocks told)),
               all_push (Stored n now) files f
-                  (all_more (Stored n content) (λ g. (b : ℕ) → (start ≤ b) × (b < start + pages) → g.info.disk ≡ disk → list_any (has_block b) g.info.extents ≡ false) (Stored n now) files (λ g st free on.
+                  (all_more (Stored n content) (λ g. (b : ℕ) → (start ≤ b) × (b < start + pages) → g.info.disk ≡ disk → list_any
+                  (has_block b) g.info.extents ≡ false) (Stored n now) files (λ g st free on.
                   subst (λ (o : Option (List (List ℕ))). IfSome o (λ blocks. stored_bytes blocks g.info ≡ g.bytes)) (sym is)
                   (if_told (λ bs. stored_bytes bs g.info ≡ g.bytes) content start ps (λ blocks told.
                   stored_beside blocks start ps g.info (λ b low high. free b (low, omega (arith, high, fits, length-filled bytes)) (on ∙ sym e))
@@ -217,7 +223,8 @@ module _ (sizes : ℕ → ℕ) (n size : ℕ) (sized : sizes n ≡ size) where
             )
       ]
 
-with_file_pages-push : (n : ℕ) (content : Option (List (List ℕ))) (fs : List OpenedFile) (f : OpenedFile) → with_file_pages n content (fs ++ f ∷ []) ≡ with_file n (with_file_pages n content fs) f.info f.bytes
+with_file_pages-push : (n : ℕ) (content : Option (List (List ℕ))) (fs : List OpenedFile) (f : OpenedFile)
+    → with_file_pages n content (fs ++ f ∷ []) ≡ with_file n (with_file_pages n content fs) f.info f.bytes
 with_file_pages-push n content [] f = refl
 with_file_pages-push n content (g ∷ fs) f = with_file_pages-push n (with_file n content g.info g.bytes) fs f
 

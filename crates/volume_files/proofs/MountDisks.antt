@@ -1,5 +1,5 @@
 -- The disks that are attached by a front of a plan's specs.
-use Rattle.std.proofs.Common.{◌≡◌, ℕ, zero, suc, ◌+◌, ◌≤◌, ◌==◌, Bool, true, false, List, [], ◌∷◌, ◌++◌, length, map, Option, Some, None, Result, Ok, Err, refl, sym, ap, ◌∙◌, subst, cond, arith}
+use Rattle.std.proofs.Common.{◌≡◌, ℕ, zero, suc, ◌≤◌, ◌==◌, Bool, true, false, List, [], ◌∷◌, ◌++◌, length, map, Option, Some, None, Result, Ok, Err, refl, sym, ap, ◌∙◌, subst, cond, arith, ◌<◌, ◌⊎◌, inl, inr}
 use Rattle.std.specs.Prelude.{All, IfOk, IfSome, IsSome, slice_get, slice_index_or, take, unwrap_or, zip, if◌then◌else◌}
 use Rattle.std.specs.Map.{lookup}
 use Rattle.std.proofs.Math.Seq.{take-append_seam}
@@ -22,7 +22,7 @@ use Rattle.volume_files.specs.Handed.{HasSpecSize, HaveSpecSizes}
 use Rattle.volume_format.specs.Volume.{IsVolumeTable}
 use Rattle.volume_files.specs.declared.stops.OpenStop.{OpenStop}
 use Rattle.volume_files.specs.Mounting.{Holds, IsGiven, SaysTableRead}
-use Rattle.volume_files.specs.Opened.{OpenedFile, blocks_held, disks_held, table_read, table_on, with_mounted, mounted_files}
+use Rattle.volume_files.specs.Opened.{OpenedFile, blocks_held, disks_held, table_read, table_of_read, table_on, with_mounted, mounted_files}
 use Rattle.volume_files.specs.Written.{OnlyReads}
 use Rattle.volume_files.proofs.MountSpecs.{AreLow}
 
@@ -179,11 +179,25 @@ table_told (Some blocks) size block r whole shows low high is =
     ap (λ b. if b then table_read (reading (slice_index_or blocks 0 []) (length blocks)) else Err 0) right
     ∙ (ap (λ n. table_read (reading (slice_index_or blocks 0 []) n)) count ∙ (ap (λ b. table_read (reading b size)) (sym shows) ∙ ap table_read (sym is)))
 
+-- a size that breaks rule 0 of volumes
+pub bad-size : (size : ℕ) → (size < 2) ⊎ (16384 < size) → is_from_to 2 16384 size ≡ false
+bad-size size (inl low) = grind (arith, nat_tests, low)
+bad-size size (inr high) = grind (arith, nat_tests, high)
+
+pub size-told : (content : Option (List (List ℕ))) (size : ℕ) → HasBlocks content size → is_from_to 2 16384 size ≡ false → IfSome content (λ blocks. table_on blocks ≡ Err 0)
+size-told None size whole bad = tt
+size-told (Some blocks) size whole bad =
+    ap (λ (b : Bool). if b then table_read (reading (slice_index_or blocks 0 []) (length blocks)) else Err 0) (ap (is_from_to 2 16384) whole.0 ∙ bad)
+
+pub size-bad : (block : List ℕ) (size : ℕ) → is_from_to 2 16384 size ≡ false → table_of_read block size ≡ Err 0
+size-bad block size bad = ap (λ (b : Bool). if b then table_read (reading block size) else Err 0) bad
+
 table_size : (block : List ℕ) (size : ℕ) (t : TableSeen) → Ok t ≡ reading block size → t.blocks ≡ size
 table_size block size t is = reading_blocks block size t (sym is)
 
 -- A disk whose block 0 was read.
-module _ (old new : DiskSeen) (block : List ℕ) (size : ℕ) (whole : HasBlocks old.content old.size) (only : OnlyReads old new) (same : size ≡ old.size) (shows : Shows old.content 0 block) (low : 2 ≤ size) (high : size ≤ 16384) where
+module _ (old new : DiskSeen) (block : List ℕ) (size : ℕ) (whole : HasBlocks old.content old.size) (only : OnlyReads old new) (same : size ≡ old.size)
+    (shows : Shows old.content 0 block) (low : 2 ≤ size) (high : size ≤ 16384) where
   told_as : (r : Result TableSeen BadVolume) → r ≡ reading block size → IfSome new.content (λ blocks. table_on blocks ≡ table_read r)
   told_as r is =
       let has : HasBlocks old.content size = subst (λ n. HasBlocks old.content n) (sym same) whole in

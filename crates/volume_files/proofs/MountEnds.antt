@@ -14,7 +14,8 @@ use Rattle.volume_files.specs.Handed.{IsSwapAsGiven, IsSwapFor}
 use Rattle.volume_files.specs.Mounting.{Holds, HaltsNumber, Halts}
 use Rattle.volume_files.proofs.MountStops.{ungiven_later, Stopped, stopped}
 
-halts_later : (setup : List SetupLine) (holds : Holds) (old mid new : ℕ) (disks : List (ℕ × DiskSeen)) (how : OpenStop) → old ≤ mid → Halts setup holds mid new disks how → Halts setup holds old new disks how
+halts_later : (setup : List SetupLine) (holds : Holds) (old mid new : ℕ) (disks : List (ℕ × DiskSeen)) (how : OpenStop) → old ≤ mid
+    → Halts setup holds mid new disks how → Halts setup holds old new disks how
 halts_later setup holds old mid new disks how le h =
     record { number = h.number; below = h.below; front = h.front; tables = h.tables; mounted = h.mounted; cause = at h.cause }
   where
@@ -29,7 +30,8 @@ halts_later setup holds old mid new disks how le h =
       ],
     )
 
-pub stopped_later : (plan : PlanSeen) (holds : Holds) (old mid new : ℕ) (swap : Option DiskSeen) (disks : List (ℕ × DiskSeen)) (how : OpenStop) → old ≤ mid → IsSwapFor (amounts_of plan.setup).slots swap → IsSwapAsGiven (amounts_of plan.setup).slots swap
+pub stopped_later : (plan : PlanSeen) (holds : Holds) (old mid new : ℕ) (swap : Option DiskSeen) (disks : List (ℕ × DiskSeen)) (how : OpenStop) → old ≤ mid
+    → IsSwapFor (amounts_of plan.setup).slots swap → IsSwapAsGiven (amounts_of plan.setup).slots swap
     → Halts plan.setup holds mid new disks how → Stopped plan holds old new (bare_disks disks) swap how
 stopped_later plan holds old mid new swap disks how le swaps blank h = stopped plan holds old new swap disks how swaps blank (halts_later plan.setup holds old mid new disks how le h)
 

@@ -77,7 +77,8 @@ pub mounted-many : (s t : FilesSeen) (ns : List ℕ) (ts : List TableSeen) (i : 
 mounted-many s t ns ts i e below inside rest many =
     let own = (table_at ts i).entries in
     let more = mounted_infos (drop (i + 1) ns) (drop (i + 1) ts) in
-    let a : length (with_infos t (mounted_infos (drop i ns) (drop i ts))).files ≡ length t.files + length (mounted_infos (drop i ns) (drop i ts)) = length-with_infos t _ (mounted_infos (drop i ns) (drop i ts)) refl in
+    let a : length (with_infos t (mounted_infos (drop i ns) (drop i ts))).files ≡ length t.files + length
+    (mounted_infos (drop i ns) (drop i ts)) = length-with_infos t _ (mounted_infos (drop i ns) (drop i ts)) refl in
     let b : length (with_infos s (mounted_infos ns ts)).files ≡ length s.files + length (mounted_infos ns ts) = length-with_infos s _ (mounted_infos ns ts) refl in
     let same : length (with_infos t (mounted_infos (drop i ns) (drop i ts))).files ≡ length (with_infos s (mounted_infos ns ts)).files = ap (λ (x : FilesSeen). length x.files) rest in
     let split : length (mounted_infos (drop i ns) (drop i ts)) ≡ length (map (info_on (slice_index_or ns i 0)) own ++ more) = ap length (mounted-step ns ts i below inside) in

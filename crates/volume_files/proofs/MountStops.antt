@@ -1,6 +1,7 @@
 -- What is handed back, and why, where the attaching stopped.
-use Rattle.std.proofs.Common.{◌≡◌, ℕ, suc, ◌+◌, ◌-◌, ◌<◌, ◌≤◌, ◌==◌, Bool, true, false, List, [], ◌∷◌, ◌++◌, length, map, Option, Some, None, Result, Ok, Err, refl, sym, ap, ◌∙◌, subst, arith, append-nil, inl, inr}
-use Rattle.std.specs.Prelude.{All, IfErr, IfSome, MatchBool, MatchOption, nat_lt, nat_le, zip, take, if◌then◌else◌}
+use Rattle.std.proofs.Common.{◌≡◌, ℕ, suc, ◌+◌, ◌-◌, ◌<◌, ◌≤◌, ◌==◌, Bool, true, false, List, [], ◌∷◌, ◌++◌, length, map, Option, Some, None, Result, Ok, Err}
+use Rattle.std.proofs.Common.{refl, sym, ap, ◌∙◌, subst, arith, append-nil, inl, inr}
+use Rattle.std.specs.Prelude.{IsSomeAnd, All, IfErr, IfSome, MatchBool, MatchOption, nat_lt, nat_le, zip, take, if◌then◌else◌}
 use Rattle.std.specs.List.{Contains, cons_option}
 use Rattle.std.specs.Map.{lookup}
 use Rattle.std.proofs.lemmas.Bool.Decides.{nat_tests}
@@ -19,14 +20,16 @@ use Rattle.volume_files.specs.declared.stops.OpenStop.TheVariants as halt
 use Rattle.volume_files.specs.declared.stops.Refusal.{Refusal}
 use Rattle.volume_files.specs.declared.stops.Refusal.TheVariants as refusal
 use Rattle.volume_files.specs.Attached.{AreMounted, StopCause, HandsStopped, bare_disks}
-use Rattle.volume_files.specs.Handed.{HaveTold, HaveSpecSizes, IsSwapAsGiven, IsSwapFor, IsCountedBy, AreAsGiven, AreUntouched, HandsFront, HandsBelow, HandsNone, HandsUnracked, disk_numbers, disk_handed}
-use Rattle.volume_files.specs.Mounting.{Holds, specs_below, IsGiven, UnreadCause, UngivenCause, MountsOne, MountsNumber, HaltsBare, HaltsSpec, HaltsNumber, Halts}
+use Rattle.volume_files.specs.Handed.{HasBadTable, HaveTold, HaveSpecSizes, IsSwapAsGiven, IsSwapFor, IsCountedBy, AreAsGiven, AreUntouched, HandsFront}
+use Rattle.volume_files.specs.Handed.{HandsBelow, HandsNone, HandsUnracked, disk_numbers, disk_handed}
+use Rattle.volume_files.specs.Mounting.{Holds, specs_below, IsGiven, UnreadCause, UngivenCause, MountsOne, MountsNumber, HaltsSpec, HaltsNumber, Halts}
 use Rattle.volume_files.specs.Opened.{OpenedFile, disk_numbered, disk_specs, disks_held, mounted_files, opened_files, size_held, if_few, with_line_files, table_on}
 use Rattle.volume_files.proofs.BrokenDisks.{broken-behind}
 use Rattle.volume_files.proofs.FaultCauses.{if-counted}
 use Rattle.volume_files.proofs.GivenFiles.{as-given}
 use Rattle.volume_files.proofs.MountSpecs.{numbered_is, specs_from, specs_split, specs_more, count_below, low_specs}
-use Rattle.volume_files.proofs.MountDisks.{AreGiven, given_of_mounted, given_push, mounted_push, given_held, mounted_held, given_length, front_sizes, lookup_given, mounted_err, mounted_here, Told, all_last}
+use Rattle.volume_files.proofs.MountDisks.{AreGiven, given_of_mounted, given_push, mounted_push, given_held, mounted_held, given_length, front_sizes}
+use Rattle.volume_files.proofs.MountDisks.{lookup_given, mounted_err, mounted_here, Told, all_last}
 
 -- One more number.
 pub mount_step : (setup : List SetupLine) (number : ℕ) (holds others : Holds) (old new : List (ℕ × DiskSeen)) (tables_old tables_new : List TableSeen)
@@ -49,7 +52,8 @@ mount_step setup number holds others old new tables_old tables_new agree before 
         (subst (λ ts. AreMounted others (specs_below setup number ++ s ∷ []) (old ++ h.disk ∷ []) ts) (sym h.tables) pushed))
 
 -- The disk of a number wasn't attached, or its table wasn't read.
-pub number_halts : (r : Result (Unit {0}) OpenStop) (setup : List SetupLine) (number : ℕ) (holds : Holds) (s : Spec) (old new : ℕ) (front disks : List (ℕ × DiskSeen)) → disk_numbered setup number ≡ Some s
+pub number_halts : (r : Result (Unit {0}) OpenStop) (setup : List SetupLine) (number : ℕ) (holds : Holds) (s : Spec) (old new : ℕ)
+    (front disks : List (ℕ × DiskSeen)) → disk_numbered setup number ≡ Some s
     → IfErr r (HaltsSpec holds s old new front disks) → IfErr r (HaltsNumber setup number holds old new front disks)
 number_halts (Ok u) setup number holds s old new front disks is h = tt
 number_halts (Err how) setup number holds s old new front disks is h = inr (s, is, h)
@@ -89,7 +93,8 @@ swap_front slots None h = tt
 swap_front slots (Some d) h = h
 
 -- What is handed back where the disks of the numbers below one are attached.
-module _ (plan : PlanSeen) (holds : Holds) (swap : Option DiskSeen) (swaps : IsSwapFor (amounts_of plan.setup).slots swap) (m k : ℕ) (count : m + k ≡ 8) (disks : List (ℕ × DiskSeen)) (given : AreGiven holds (specs_below plan.setup m) disks) where
+module _ (plan : PlanSeen) (holds : Holds) (swap : Option DiskSeen) (swaps : IsSwapFor (amounts_of plan.setup).slots swap) (m k : ℕ) (count : m + k ≡ 8)
+    (disks : List (ℕ × DiskSeen)) (given : AreGiven holds (specs_below plan.setup m) disks) where
   pub hands_front : HandsFront plan (bare_disks disks) swap
   hands_front = record {
     each = subst (λ xs. HaveSpecSizes (take (length (bare_disks disks)) xs) (bare_disks disks)) (sym (specs_split plan.setup m k 8 count))
@@ -108,17 +113,20 @@ module _ (plan : PlanSeen) (holds : Holds) (swap : Option DiskSeen) (swaps : IsS
 not_eight : (number : ℕ) → number < 8 → (number == 8) ≡ false
 not_eight number lt = grind (arith, nat_tests, lt)
 
-module _ (plan : PlanSeen) (holds : Holds) (old new : ℕ) (swap : Option DiskSeen) (swaps : IsSwapFor (amounts_of plan.setup).slots swap) (blank : IsSwapAsGiven (amounts_of plan.setup).slots swap) (number k : ℕ) (all : number + suc k ≡ 8)
+module _ (plan : PlanSeen) (holds : Holds) (old new : ℕ) (swap : Option DiskSeen) (swaps : IsSwapFor (amounts_of plan.setup).slots swap)
+    (blank : IsSwapAsGiven (amounts_of plan.setup).slots swap) (number k : ℕ) (all : number + suc k ≡ 8)
     (front : List (ℕ × DiskSeen)) (tables : List TableSeen) (before : AreMounted holds (specs_below plan.setup number) front tables) where
-  unasked_stop : HandsStopped plan (bare_disks front) swap halt.Memory × StopCause plan holds old new (bare_disks front) swap halt.Memory
-  unasked_stop = (hands_front plan holds swap swaps number (suc k) all front (given_of_mounted holds (specs_below plan.setup number) front tables before), tt)
-
   -- nothing was written
   untouched : (m rest : ℕ) → m + rest ≡ 8 → (disks : List (ℕ × DiskSeen)) → AreGiven holds (specs_below plan.setup m) disks → AreUntouched plan holds (bare_disks disks) swap
   untouched m rest count disks given = record {
     each = subst (λ xs. AreAsGiven holds xs (bare_disks disks)) (sym (specs_split plan.setup m rest 8 count)) (as-given holds (specs_below plan.setup m) (specs_from plan.setup m rest) disks given);
     last = blank;
   }
+
+  unasked_stop : HandsStopped plan (bare_disks front) swap halt.Memory × StopCause plan holds old new (bare_disks front) swap halt.Memory
+  unasked_stop =
+      let given = given_of_mounted holds (specs_below plan.setup number) front tables before in
+      (hands_front plan holds swap swaps number (suc k) all front given, untouched number (suc k) all front given)
 
   module _ (s : Spec) (is : disk_numbered plan.setup number ≡ Some s) where
     specs_now : disk_specs plan.setup ≡ specs_below plan.setup number ++ (s ∷ specs_from plan.setup (number + 1) k)
@@ -140,7 +148,8 @@ module _ (plan : PlanSeen) (holds : Holds) (old new : ℕ) (swap : Option DiskSe
         hands_below plan holds swap swaps number (suc k) all front given (λ n. nat_lt n number) (λ x lt. grind (arith, nat_tests, lt)) (λ x le. grind (arith, nat_tests, le)) in
         let lt : number < 8 = omega (arith, all) in
         let unracked : HandsUnracked plan (bare_disks front) swap number =
-        subst (λ b. MatchBool b ((0 < (amounts_of plan.setup).slots) × HandsNone (bare_disks front) swap) (Contains (disk_numbers plan) number × HandsBelow plan (λ n. nat_lt n number) (bare_disks front) swap))
+        subst (λ b. MatchBool b ((0 < (amounts_of plan.setup).slots) × HandsNone (bare_disks front) swap)
+        (Contains (disk_numbers plan) number × HandsBelow plan (λ n. nat_lt n number) (bare_disks front) swap))
         (sym (not_eight number lt)) (named, below) in
         let same : number ≡ f.disk = sym (c.0 ∙ numbered_is plan.setup number s is) in
         let at_disk : HandsUnracked plan (bare_disks front) swap f.disk = subst (λ n. HandsUnracked plan (bare_disks front) swap n) same unracked in (
@@ -197,7 +206,14 @@ module _ (plan : PlanSeen) (holds : Holds) (old new : ℕ) (swap : Option DiskSe
       unread_stop : (how : OpenStop) → UnreadCause d how → HandsStopped plan (bare_disks (front ++ d ∷ [])) swap how × StopCause plan holds old new (bare_disks (front ++ d ∷ [])) swap how
       unread_stop (halt.Refused (refusal.Volume n rule)) c =
           let e : n ≡ number = c.0 ∙ (given.number ∙ numbered_is plan.setup number s is) in
-          (upto n e, record { told = λ told. refused n rule e c.1 told; line = tt; same = untouched (number + 1) k all_now (front ++ d ∷ []) given_now })
+          let found : disk_handed plan (bare_disks (front ++ d ∷ [])) swap n ≡ Some d.1 = ap (disk_handed plan (bare_disks (front ++ d ∷ [])) swap) e ∙ found_now in (
+            upto n e,
+            record {
+              told = λ told. refused n rule e c.1 told;
+              line = subst (λ (o : Option DiskSeen). IsSomeAnd o (λ x. HasBadTable x.size rule)) (sym found) c.2;
+              same = untouched (number + 1) k all_now (front ++ d ∷ []) given_now;
+            },
+          )
       unread_stop (halt.Failed f) c =
           let e : f.disk ≡ number = c.number ∙ (given.number ∙ numbered_is plan.setup number s is) in
           let found : disk_handed plan (bare_disks (front ++ d ∷ [])) swap f.disk ≡ Some d.1 = ap (disk_handed plan (bare_disks (front ++ d ∷ [])) swap) e ∙ found_now in (
@@ -216,7 +232,7 @@ module _ (plan : PlanSeen) (holds : Holds) (old new : ℕ) (swap : Option DiskSe
               },
             ),
           )
-      unread_stop halt.Memory c = (hands_front plan holds swap swaps (number + 1) k all_now (front ++ d ∷ []) given_now, tt)
+      unread_stop halt.Memory c = (hands_front plan holds swap swaps (number + 1) k all_now (front ++ d ∷ []) given_now, untouched (number + 1) k all_now (front ++ d ∷ []) given_now)
       unread_stop (halt.Refused (refusal.Rule n)) c = absurd c
 
 -- What is handed back, and why.
@@ -224,7 +240,8 @@ pub record Stopped (plan : PlanSeen) (holds : Holds) (old new : ℕ) (disks : Li
   pub handed : HandsStopped plan disks swap how
   pub cause : StopCause plan holds old new disks swap how
 
-pub stopped : (plan : PlanSeen) (holds : Holds) (old new : ℕ) (swap : Option DiskSeen) (disks : List (ℕ × DiskSeen)) (how : OpenStop) → IsSwapFor (amounts_of plan.setup).slots swap → IsSwapAsGiven (amounts_of plan.setup).slots swap
+pub stopped : (plan : PlanSeen) (holds : Holds) (old new : ℕ) (swap : Option DiskSeen) (disks : List (ℕ × DiskSeen)) (how : OpenStop)
+    → IsSwapFor (amounts_of plan.setup).slots swap → IsSwapAsGiven (amounts_of plan.setup).slots swap
     → Halts plan.setup holds old new disks how → Stopped plan holds old new (bare_disks disks) swap how
 stopped plan holds old new swap disks how swaps blank h = at h.cause
   where
@@ -234,7 +251,8 @@ stopped plan holds old new swap disks how swaps blank h = at h.cause
     at : HaltsNumber plan.setup h.number holds old new h.front disks how → Stopped plan holds old new (bare_disks disks) swap how
     at (inl m) =
         let r = unasked_stop plan holds old new swap swaps blank h.number (7 - h.number) all h.front h.tables h.mounted in
-        subst (λ x. Stopped plan holds old new (bare_disks disks) swap x) (sym m.memory) (subst (λ ds. Stopped plan holds old new (bare_disks ds) swap halt.Memory) (sym m.same) (record { handed = r.0; cause = r.1 }))
+        subst (λ x. Stopped plan holds old new (bare_disks disks) swap x) (sym m.memory)
+        (subst (λ ds. Stopped plan holds old new (bare_disks ds) swap halt.Memory) (sym m.same) (record { handed = r.0; cause = r.1 }))
     at (inr x) = elim x.2 [
       | inl b ↦
           let r = bare_stop plan holds old new swap swaps blank h.number (7 - h.number) all h.front h.tables h.mounted x.0 x.1 how b.cause in

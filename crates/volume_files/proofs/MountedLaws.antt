@@ -89,7 +89,8 @@ mounted-extents P d (n ∷ ns) (t ∷ ts) none distinct each =
     elim (cases_eq n d) [
       | inl e ↦
           let others : AllByRecursion (λ m. d ≢ m) ns = subst (λ k. AllByRecursion (λ m. k ≢ m) ns) e distinct.0 in
-          subst P (sym (split ∙ ap (λ (xs : List Extent). xs ++ more) (ext-own n d t.entries e) ∙ ap (λ (xs : List Extent). all_extents t.entries ++ xs) (ext-none d ns ts others) ∙ append-nil (all_extents t.entries))) each.0
+          subst P (sym (split ∙ ap (λ (xs : List Extent). xs ++ more) (ext-own n d t.entries e)
+          ∙ ap (λ (xs : List Extent). all_extents t.entries ++ xs) (ext-none d ns ts others) ∙ append-nil (all_extents t.entries))) each.0
       | inr ne ↦
           subst P (sym (split ∙ ap (λ (xs : List Extent). xs ++ more) (ext-other n d t.entries ne))) (mounted-extents P d ns ts none distinct.1 each.1)
     ]

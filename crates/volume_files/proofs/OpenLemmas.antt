@@ -1,5 +1,6 @@
 -- The files that disks have as they are attached.
-use Rattle.std.specs.Prelude.{ℕ, nat_le, false, true, ◌≡◌, ◌≤◌, List, [], ◌∷◌, ◌++◌, length, map, replicate, slice_index_or, unwrap_or, Option, Some, None, IfSome, IsSome, is_some, Result, Ok, Err, if◌then◌else◌}
+use Rattle.std.specs.Prelude.{ℕ, nat_le, false, true, ◌≡◌, ◌≤◌, List, [], ◌∷◌, ◌++◌, length, map, replicate, slice_index_or, unwrap_or, Option, Some, None}
+use Rattle.std.specs.Prelude.{IfSome, IsSome, is_some, Result, Ok, Err, if◌then◌else◌}
 use Rattle.std.specs.List.{AllByRecursion}
 use Rattle.std.proofs.Common.{ap, ◌∙◌, sym, subst, refl, arith}
 use Rattle.std.proofs.lemmas.Bool.{and_from, le-leb, both_ways}
@@ -87,7 +88,8 @@ one_told holds s d t blocks m told =
       ap (λ (bs : List (List ℕ)). map (mounted_file (spec_number s, bs)) t.entries) held ∙ same_files (spec_number s) d blocks m.number told t.entries,
     )
 
-one_untold : (holds : Spec → Option (List (List ℕ))) (s : Spec) (d : ℕ × DiskSeen) (t : TableSeen) → IsMounted holds s d t → TellsSpec holds s → TellsOrEmpty d t → d.1.content ≡ None → OneGives holds s d t
+one_untold : (holds : Spec → Option (List (List ℕ))) (s : Spec) (d : ℕ × DiskSeen) (t : TableSeen) → IsMounted holds s d t → TellsSpec holds s
+    → TellsOrEmpty d t → d.1.content ≡ None → OneGives holds s d t
 one_untold holds (spec.Blank number n) d t m tells empty none =
     let size : d.1.size ≡ n = m.attached.0 in
     let table = table-zeros n (omega (arith, m.some, size)) (omega (arith, m.few, size)) in

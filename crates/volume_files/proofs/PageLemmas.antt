@@ -1,8 +1,10 @@
 -- Pages that are written to blocks, and what files' blocks have then.
-use Rattle.std.specs.Prelude.{ℕ, zero, suc, ◌≡◌, ◌≢◌, ◌<◌, ◌≤◌, ◌+◌, ◌-◌, ◌*◌, ◌⊎◌, Bool, true, false, min, ◌||◌, List, [], ◌∷◌, ◌++◌, length, map, take, drop, replicate, Some, None, slice_index_or, slice_set}
+use Rattle.std.specs.Prelude.{ℕ, zero, suc, ◌≡◌, ◌≢◌, ◌<◌, ◌≤◌, ◌+◌, ◌-◌, ◌*◌, ◌⊎◌, Bool, true, false, min, ◌||◌, List, [], ◌∷◌, ◌++◌, length, map, take, drop}
+use Rattle.std.specs.Prelude.{replicate, Some, None, slice_index_or, slice_set}
 use Rattle.std.specs.List.{concat, list_any, range_with_len}
 use Rattle.std.proofs.Common.{ap, ◌∙◌, sym, refl, arith, inl, inr, length-append}
-use Rattle.std.proofs.lemmas.List.{append_assoc, append-nil, map-append, length-set, length-replicate, take_at, take-append-drop, take_all, get_or-set_same, get_or-set_other, same_lists, drop-drop, length-drop, drop-replicate, drop-append-le, take-append-le}
+use Rattle.std.proofs.lemmas.List.{append_assoc, append-nil, map-append, length-set, length-replicate, take_at, take-append-drop, take_all, get_or-set_same}
+use Rattle.std.proofs.lemmas.List.{get_or-set_other, same_lists, drop-drop, length-drop, drop-replicate, drop-append-le, take-append-le}
 use Rattle.std.proofs.lemmas.List.Folds.{concat-append}
 use Rattle.std.proofs.lemmas.List.FromFn.{length-map-range_with_len, get_or-map-range_with_len, take-map-range_with_len}
 use Rattle.std.proofs.lemmas.Bool.{cases_lt, both_ways}
@@ -131,7 +133,8 @@ stored_filled blocks start pages bytes fits each =
     get_or-map-range_with_len F start n k (start + k) d below refl ∙ each k below ∙ other_default (filled_pages bytes) k d (omega (arith, below, length-filled bytes))) in
     let rest = concat (drop n all) in
     ap (λ (ps : List (List ℕ)). take (length bytes) (concat ps)) (sym (take-append-drop n all))
-    ∙ ap (take (length bytes)) (concat-append (take n all) (drop n all) ∙ ap (λ (ps : List (List ℕ)). concat ps ++ rest) front ∙ ap (λ (xs : List ℕ). xs ++ rest) (concat-filled bytes) ∙ append_assoc bytes zeros rest)
+    ∙ ap (take (length bytes)) (concat-append (take n all) (drop n all) ∙ ap (λ (ps : List (List ℕ)). concat ps ++ rest) front ∙ ap
+    (λ (xs : List ℕ). xs ++ rest) (concat-filled bytes) ∙ append_assoc bytes zeros rest)
     ∙ take_at bytes (zeros ++ rest) (length bytes) refl
   where
     other_default : (xs : List (List ℕ)) (k : ℕ) (d : List ℕ) → k < length xs → slice_index_or xs k [] ≡ slice_index_or xs k d
@@ -180,8 +183,10 @@ stored_beside blocks start ps info free =
 
 -- the pages of bytes are written: the file of one extent from there on has the bytes
 pub stored_written : (blocks : List (List ℕ)) (start pages : ℕ) (bytes name : List ℕ) (disk : ℕ) (writable : Bool) → pages_in (length bytes) ≤ pages → start + pages ≤ length blocks
-    → stored_bytes (set_pages blocks start (filled_pages bytes)) (record { name = name; disk = disk; extents = record { start = start; pages = pages } ∷ []; length = length bytes; writable = writable }) ≡ bytes
+    → stored_bytes (set_pages blocks start (filled_pages bytes))
+    (record { name = name; disk = disk; extents = record { start = start; pages = pages } ∷ []; length = length bytes; writable = writable }) ≡ bytes
 stored_written blocks start pages bytes name disk writable fits inside =
     let new = set_pages blocks start (filled_pages bytes) in
     ap (λ (bs : List ℕ). take (length bytes) (concat (map (λ b. slice_index_or new b []) bs))) (append-nil (range_with_len start pages))
-    ∙ stored_filled new start pages bytes fits (λ i below. set_pages-at blocks start (filled_pages bytes) i (omega (arith, below, length-filled bytes)) (omega (arith, fits, inside, length-filled bytes)))
+    ∙ stored_filled new start pages bytes fits (λ i below. set_pages-at blocks start (filled_pages bytes) i (omega (arith, below, length-filled bytes))
+    (omega (arith, fits, inside, length-filled bytes)))

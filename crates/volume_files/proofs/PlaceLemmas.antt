@@ -1,8 +1,9 @@
 -- What placing comes to, step by step.
-use Rattle.std.specs.Prelude.{ℕ, ◌≡◌, ◌<◌, ◌≤◌, ◌+◌, Bool, List, [], ◌∷◌, ◌++◌, length, map, Option, Result, Ok, Err, All, if◌then◌else◌}
+use Rattle.std.specs.Prelude.{ℕ, ◌≡◌, ◌<◌, ◌≤◌, ◌+◌, Bool, List, [], ◌∷◌, ◌++◌, length, drop, map, Option, Result, Ok, Err, All, if◌then◌else◌}
 use Rattle.std.specs.Ordering.{nat_cmp}
 use Rattle.std.specs.FinMap as finite
 use Rattle.std.proofs.Common.{ap, ◌∙◌, sym, subst, refl, arith, length-append}
+use Rattle.std.proofs.Math.Seq.{drop-append_seam}
 use Rattle.std.proofs.lemmas.Bool.{lt-ltb, le-ltb}
 use Rattle.std.proofs.lemmas.List.{length-map, append_cancel_left, append-nil}
 use Rattle.block_device.specs.DiskSeen.{DiskSeen}
@@ -20,7 +21,9 @@ use Rattle.volume_files.specs.declared.table_files.PlaceStop.{PlaceStop}
 use Rattle.volume_files.specs.declared.table_files.PlaceStop.TheVariants as stop
 use Rattle.volume_files.specs.Attached.{AreMounted, numbered_seen}
 use Rattle.volume_files.specs.Opened.{OpenedFile, infos_of, if_few, new_file, with_line_files, mounted_infos}
-use Rattle.volume_files.specs.Placing.{Distinct, Gave, HasOpened, HavePlaces, IsPlaceable, IsFaultThere, IsTooMany, LieRight, Stopped, PlaceStopped, attached_numbers, found_files, line_files, sizes_by_number, with_infos}
+use Rattle.volume_files.specs.Handed.{SpareBlock}
+use Rattle.volume_files.specs.Placing.{KeepThere, Distinct, Gave, HasOpened, HavePlaces, IsPlaceable, IsFaultThere, IsTooMany, LieRight, Stopped, PlaceStopped}
+use Rattle.volume_files.specs.Placing.{attached_numbers, found_files, line_files, sizes_by_number, with_infos}
 use Rattle.volume_files.proofs.OpenLemmas.{infos-found}
 use Rattle.volume_files.proofs.FileLineLemmas.{length-made}
 use Rattle.volume_files.proofs.LawLemmas.{holding-lines}
@@ -29,7 +32,8 @@ use Rattle.volume_files.proofs.MountedLaws.{all_then}
 use Rattle.volume_files.proofs.PlacedLemmas.{CountsAre, PlacedBehind, all_sized, counts-are, have-places, line_files-are, mounted-right, mounted-volumes, numbers-seen, placed_kept, sizes-seen}
 
 -- the files that the tables give are those that are found
-pub found-infos : {D : Type 0} (seen : D → DiskSeen) (ds : List (NumberedDisk D)) (ts : List TableSeen) → infos_of (found_files (map (numbered_seen seen) ds) ts) ≡ mounted_infos (attached_numbers ds) ts
+pub found-infos : {D : Type 0} (seen : D → DiskSeen) (ds : List (NumberedDisk D)) (ts : List TableSeen)
+    → infos_of (found_files (map (numbered_seen seen) ds) ts) ≡ mounted_infos (attached_numbers ds) ts
 found-infos seen ds ts = infos-found (map (numbered_seen seen) ds) ts ∙ ap (λ (ns : List ℕ). mounted_infos ns ts) (numbers-seen seen ds)
 
 pub mounted-opened : {D : Type 0} (seen : D → DiskSeen) (ds : List (NumberedDisk D)) (ts : List TableSeen) (start files : FilesSeen) → start.files ≡ []
@@ -38,7 +42,8 @@ mounted-opened seen ds ts start files none is =
     ap (λ (s : FilesSeen). s.files) is ∙ ap (λ (vs : List VnodeSeen). vs ++ map fresh_vnode (mounted_infos (attached_numbers ds) ts)) none
     ∙ ap (map fresh_vnode) (sym (found-infos seen ds ts))
 
-pub length-found : {D : Type 0} (seen : D → DiskSeen) (ds : List (NumberedDisk D)) (ts : List TableSeen) → length (found_files (map (numbered_seen seen) ds) ts) ≡ length (mounted_infos (attached_numbers ds) ts)
+pub length-found : {D : Type 0} (seen : D → DiskSeen) (ds : List (NumberedDisk D)) (ts : List TableSeen)
+    → length (found_files (map (numbered_seen seen) ds) ts) ≡ length (mounted_infos (attached_numbers ds) ts)
 length-found seen ds ts = sym (length-map (found_files (map (numbered_seen seen) ds) ts) (λ (f : OpenedFile). f.info)) ∙ ap length (found-infos seen ds ts)
 
 -- few files are taken, and many aren't
@@ -49,9 +54,10 @@ pub many-refused : (files : List OpenedFile) → 64 < length files → if_few (O
 many-refused files many = ap (λ (t : Bool). if t then Err (refusal.Rule 10) else Ok files) (lt-ltb 64 (length files) many)
 
 -- what a stop says: of the tables, of the lines, of the disks
-pub stop-mounting : {D : Type 0} (seen : D → DiskSeen) (sizes : ℕ → ℕ) (files : List OpenedFile) (setup : List SetupLine) (ds : List (NumberedDisk D)) (total : ℕ) (e : PlaceStop) → total ≡ length files
-    → IsTooMany total e → PlaceStopped seen (with_line_files sizes (if_few (Ok files)) setup) ds ds e
-stop-mounting seen sizes files setup ds total stop.Memory count h = tt
+pub stop-mounting : {D : Type 0} (seen : D → DiskSeen) (sizes : ℕ → ℕ) (files : List OpenedFile) (setup : List SetupLine) (ds : List (NumberedDisk D))
+    (total : ℕ) (e : PlaceStop) → total ≡ length files
+    → IsTooMany total e → PlaceStopped seen (length files) (with_line_files sizes (if_few (Ok files)) setup) ds ds e
+stop-mounting seen sizes files setup ds total stop.Memory count h = refl
 stop-mounting seen sizes files setup ds total (stop.Rule n) count h = (
   ap (λ (r : Result (List OpenedFile) Refusal). with_line_files sizes r setup) (many-refused files (omega (arith, count, h.1)))
       ∙ ap (λ k. Err (refusal.Rule k)) (sym h.0),
@@ -60,8 +66,8 @@ stop-mounting seen sizes files setup ds total (stop.Rule n) count h = (
 stop-mounting seen sizes files setup ds total (stop.Fault f) count h = absurd h
 
 pub stop-lines : {D : Type 0} (seen : D → DiskSeen) (sizes : ℕ → ℕ) (files : List OpenedFile) (setup : List SetupLine) (ds : List (NumberedDisk D)) (e : PlaceStop) → length files ≤ 64
-    → Stopped (with_line_files sizes (Ok files) setup) e → PlaceStopped seen (with_line_files sizes (if_few (Ok files)) setup) ds ds e
-stop-lines seen sizes files setup ds stop.Memory few h = tt
+    → Stopped (with_line_files sizes (Ok files) setup) e → PlaceStopped seen (length files) (with_line_files sizes (if_few (Ok files)) setup) ds ds e
+stop-lines seen sizes files setup ds stop.Memory few h = refl
 stop-lines seen sizes files setup ds (stop.Rule n) few h = (ap (λ (r : Result (List OpenedFile) Refusal). with_line_files sizes r setup) (few-taken files few) ∙ h, refl)
 stop-lines seen sizes files setup ds (stop.Fault f) few h = absurd h
 
@@ -84,11 +90,19 @@ gave-ok new (Ok after) has = (after, refl, has)
 gave-ok new (Err e) has = absurd has
 
 pub stop-writing : {D : Type 0} (seen : D → DiskSeen) (sizes : ℕ → ℕ) (files : List OpenedFile) (setup : List SetupLine) (old new : List (NumberedDisk D)) (made : FilesSeen) (f : OpenFaultSeen)
-    → length files ≤ 64 → Gave made (with_line_files sizes (Ok files) setup) → IsFaultThere seen new f
-    → PlaceStopped seen (with_line_files sizes (if_few (Ok files)) setup) old new (stop.Fault f)
-stop-writing seen sizes files setup old new made f few gave there =
+    → length files ≤ 64 → Gave made (with_line_files sizes (Ok files) setup) → IsFaultThere seen new f → KeepThere seen (SpareBlock (line_files made (length files) setup)) old new
+    → PlaceStopped seen (length files) (with_line_files sizes (if_few (Ok files)) setup) old new (stop.Fault f)
+stop-writing seen sizes files setup old new made f few gave there keep =
     let r = gave-ok made (with_line_files sizes (Ok files) setup) gave in
-    (there, (r.0, ap (λ (q : Result (List OpenedFile) Refusal). with_line_files sizes q setup) (few-taken files few) ∙ r.1))
+    let are : r.0 ≡ files ++ line_files made (length files) setup = line_files-are sizes made setup files r.0 (length files) refl r.1 r.2 in
+    let behind : drop (length files) r.0 ≡ line_files made (length files) setup = ap (drop (length files)) are ∙ drop-append_seam files (line_files made (length files) setup) in (
+      there,
+      (
+        r.0,
+        ap (λ (q : Result (List OpenedFile) Refusal). with_line_files sizes q setup) (few-taken files few) ∙ r.1,
+        subst (λ (fs : List OpenedFile). KeepThere seen (SpareBlock fs) old new) (sym behind) keep,
+      ),
+    )
 
 few_kept : (sizes : ℕ → ℕ) → KeptByLines sizes HoldsItsBytes (λ (files : List OpenedFile). length files ≤ 64)
 few_kept sizes files name writable disk pages bytes start law can few =
@@ -102,7 +116,8 @@ pub record LinesGive {D : Type 0} (seen : D → DiskSeen) (old : List (NumberedD
   pub few : length made.files ≤ 64
   pub places : HavePlaces seen old (line_files made first setup)
 
-pub lines-give : {D : Type 0} (seen : D → DiskSeen) (holds : Spec → Option (List (List ℕ))) (specs : List Spec) (old : List (NumberedDisk D)) (ts : List TableSeen) (setup : List SetupLine) (made : FilesSeen) (first : ℕ)
+pub lines-give : {D : Type 0} (seen : D → DiskSeen) (holds : Spec → Option (List (List ℕ))) (specs : List Spec) (old : List (NumberedDisk D))
+    (ts : List TableSeen) (setup : List SetupLine) (made : FilesSeen) (first : ℕ)
     → AreMounted holds specs (map (numbered_seen seen) old) ts → Distinct (attached_numbers old) → All (λ (l : SetupLine). IsPlaceable l.act) setup
     → first ≡ length (found_files (map (numbered_seen seen) old) ts) → first ≤ 64
     → Gave made (with_line_files (block_count (finite.from_entries (sizes_by_number seen old))) (Ok (found_files (map (numbered_seen seen) old) ts)) setup)
@@ -125,11 +140,13 @@ lines-give seen holds specs old ts setup made first m distinct placeable count f
       has = r.2;
       count = omega (arith, all, split, count);
       few = omega (arith, all, small);
-      places = subst (λ (fs : List OpenedFile). HavePlaces seen old fs) same (have-places seen (finite.from_entries (sizes_by_number seen old)) old behind.new (all_sized seen holds specs old ts m distinct) behind.fit);
+      places = subst (λ (fs : List OpenedFile). HavePlaces seen old fs) same
+          (have-places seen (finite.from_entries (sizes_by_number seen old)) old behind.new (all_sized seen holds specs old ts m distinct) behind.fit);
     }
 
 -- the same, as the code has it
-pub lines-given : {D : Type 0} (seen : D → DiskSeen) (holds : Spec → Option (List (List ℕ))) (specs : List Spec) (old : List (NumberedDisk D)) (ts : List TableSeen) (setup : List SetupLine) (files made : FilesSeen) (first : ℕ)
+pub lines-given : {D : Type 0} (seen : D → DiskSeen) (holds : Spec → Option (List (List ℕ))) (specs : List Spec) (old : List (NumberedDisk D))
+    (ts : List TableSeen) (setup : List SetupLine) (files made : FilesSeen) (first : ℕ)
     → AreMounted holds specs (map (numbered_seen seen) old) ts → Distinct (attached_numbers old) → All (λ (l : SetupLine). IsPlaceable l.act) setup
     → files ≡ with_infos (record { disks = finite.from_entries (sizes_by_number seen old); files = [] }) (mounted_infos (attached_numbers old) ts)
     → first ≡ length files.files → length files.files ≤ 64

@@ -1,5 +1,6 @@
 -- What mounted disks say of the files of their tables, and what the files of lines are.
-use Rattle.std.specs.Prelude.{ℕ, zero, suc, ◌≡◌, ◌≢◌, ◌<◌, ◌≤◌, ◌+◌, ◌-◌, nat_le, Bool, true, false, List, [], ◌∷◌, ◌++◌, length, map, Option, Some, None, IsSome, is_some, IfOk, Result, Ok, Err, slice_index_or, unwrap_or, if◌then◌else◌}
+use Rattle.std.specs.Prelude.{ℕ, zero, suc, ◌≡◌, ◌≢◌, ◌<◌, ◌≤◌, ◌+◌, ◌-◌, nat_le, Bool, true, false, List, [], ◌∷◌, ◌++◌, length, map, Option, Some, None}
+use Rattle.std.specs.Prelude.{IsSome, is_some, IfOk, Result, Ok, Err, slice_index_or, unwrap_or, if◌then◌else◌}
 use Rattle.std.specs.List.{AllByRecursion, list_any}
 use Rattle.std.specs.Str.{bytes_eq}
 use Rattle.std.specs.Ordering.{nat_cmp}
@@ -56,14 +57,16 @@ counts_beside m k size (n ∷ ns) (t ∷ ts) other counts = (
   counts_beside m k size ns ts other.1 counts.1,
 )
 
-pub counts-are : (holds : Spec → Option (List (List ℕ))) (specs : List Spec) (ds : List (ℕ × DiskSeen)) (ts : List TableSeen) → AreMounted holds specs ds ts → Distinct (map (λ (d : ℕ × DiskSeen). d.0) ds)
+pub counts-are : (holds : Spec → Option (List (List ℕ))) (specs : List Spec) (ds : List (ℕ × DiskSeen)) (ts : List TableSeen) → AreMounted holds specs ds ts
+    → Distinct (map (λ (d : ℕ × DiskSeen). d.0) ds)
     → CountsAre (finite.from_entries (map (λ (d : ℕ × DiskSeen). (d.0, d.1.size)) ds)) (map (λ (d : ℕ × DiskSeen). d.0) ds) ts
 counts-are holds specs [] ts m distinct = tt
 counts-are holds specs (d ∷ ds) [] m distinct = tt
 counts-are holds [] (d ∷ ds) (t ∷ ts) m distinct = absurd m
 counts-are holds (s ∷ specs) (d ∷ ds) (t ∷ ts) m distinct =
     let rest : finite.FinMap nat_cmp ℕ = finite.from_entries (map (λ (e : ℕ × DiskSeen). (e.0, e.1.size)) ds) in (
-      finite.get-insert nat_cmp_total rest d.0 d.1.size d.0 ∙ ap (λ b. cond b (Some d.1.size) (finite.get rest d.0)) (unsigned_tied d.0 d.0 ∙ eq-eqb d.0 d.0 refl) ∙ ap (λ (n : ℕ). Some n) (sym m.0.blocks),
+      finite.get-insert nat_cmp_total rest d.0 d.1.size d.0 ∙ ap (λ b. cond b (Some d.1.size) (finite.get rest d.0)) (unsigned_tied d.0 d.0
+          ∙ eq-eqb d.0 d.0 refl) ∙ ap (λ (n : ℕ). Some n) (sym m.0.blocks),
       counts_beside rest d.0 d.1.size (map (λ (e : ℕ × DiskSeen). e.0) ds) ts distinct.0 (counts-are holds specs ds ts m.1 distinct.1),
     )
 
@@ -134,7 +137,8 @@ file_adds : (sizes : ℕ → ℕ) (before : List OpenedFile) (name : List ℕ) (
 file_adds sizes before name writable disk pages bytes =
     let place = place_for (sizes disk) (extents_of_disk disk (infos_of before)) pages in
     let placed = with_placed before (new_file name writable disk pages bytes) place in
-    elim (nat_le 64 (length before)) as (λ (t : Bool). IfOk (if t then Err (refusal.Rule 10) else if list_any (bytes_eq name) (names_of before) then Err (refusal.Rule 11) else placed) (AddsGiven before (Some bytes))) [
+    elim (nat_le 64 (length before)) as (λ (t : Bool). IfOk
+    (if t then Err (refusal.Rule 10) else if list_any (bytes_eq name) (names_of before) then Err (refusal.Rule 11) else placed) (AddsGiven before (Some bytes))) [
       | true ↦ tt
       | false ↦ elim (list_any (bytes_eq name) (names_of before)) as (λ (t : Bool). IfOk (if t then Err (refusal.Rule 11) else placed) (AddsGiven before (Some bytes))) [
         | true ↦ tt
@@ -193,7 +197,8 @@ pub placed_kept : (sizes : ℕ → ℕ) (before : List OpenedFile) → KeptByLin
 placed_kept sizes before files name writable disk pages bytes start law can p =
     let f = new_file name writable disk pages bytes start in
     let used = extents_of_disk disk (infos_of files) in
-    let last : start + pages - 1 < sizes disk = (run-free (sizes disk) used pages start (place-run (sizes disk) used pages start can.place) (start + pages - 1) (omega (arith, law.0)) (omega (arith, law.0))).0 in
+    let last : start + pages - 1 < sizes disk = (run-free (sizes disk) used pages start (place-run (sizes disk) used pages start can.place) (start + pages - 1)
+    (omega (arith, law.0)) (omega (arith, law.0))).0 in
     let fits : start + pages_in (length bytes) ≤ sizes disk = omega (arith, last, law.0, law.1) in
     record {
       new = p.new ++ f ∷ [];
@@ -230,7 +235,12 @@ all_sized seen holds [] (d ∷ ds) (t ∷ ts) m distinct = absurd m
 all_sized seen holds (s ∷ specs) (d ∷ ds) (t ∷ ts) m distinct =
     let rest : finite.FinMap nat_cmp ℕ = finite.from_entries (sizes_by_number seen ds) in
     let size = (seen d.disk).size in (
-      (finite.get-insert nat_cmp_total rest d.number size d.number ∙ ap (λ b. cond b (Some size) (finite.get rest d.number)) (unsigned_tied d.number d.number ∙ eq-eqb d.number d.number refl), m.0.few, m.0.some),
+      (
+        finite.get-insert nat_cmp_total rest d.number size d.number ∙ ap (λ b. cond b (Some size) (finite.get rest d.number)) (unsigned_tied d.number d.number
+            ∙ eq-eqb d.number d.number refl),
+        m.0.few,
+        m.0.some,
+      ),
       sized_beside seen rest d.number size ds distinct.0 (all_sized seen holds specs ds ts m.1 distinct.1),
     )
 

@@ -28,7 +28,12 @@ pub heading_stop : (heading : Heading) (files : FilesSeen) (file : ℕ) (k0 k1 :
     → FileShown heading file (shown_info files file) k0 k1 d d counts (Err stop)
 heading_stop heading files file k0 k1 d lies blocks counts Memory shown =
     let some = some_bytes files file d lies blocks in
-    record { bytes = some.0; are = some.1; shown = subst (λ (k : SinkSeen). WroteFront k0 k (file_section heading file (shown_info files file) some.0)) (sym shown) (nothing_front k0 (file_section heading file (shown_info files file) some.0)) }
+    record {
+      bytes = some.0;
+      are = some.1;
+      shown = subst (λ (k : SinkSeen). WroteFront k0 k (file_section heading file (shown_info files file) some.0))
+          (sym shown) (nothing_front k0 (file_section heading file (shown_info files file) some.0));
+    }
 heading_stop heading files file k0 k1 d lies blocks counts Sink shown =
     let some = some_bytes files file d lies blocks in
     record { bytes = some.0; are = some.1; shown = (shown.0, part_more k0 k1 (heading_text heading file (shown_info files file)) (file_lines 0 some.0) shown.1) }
@@ -42,12 +47,25 @@ file_shown heading file info k0 k1 k2 d0 d1 wrote later counts (Ok done) lines =
 file_shown heading file info k0 k1 k2 d0 d1 wrote later counts (Err Memory) lines =
     record { bytes = lines.bytes; are = lines.are; shown = front_then k0 k1 k2 (heading_text heading file info) (file_lines 0 lines.bytes) wrote lines.shown }
 file_shown heading file info k0 k1 k2 d0 d1 wrote later counts (Err Sink) lines =
-    record { bytes = lines.bytes; are = lines.are; shown = (risen_since k0.faults k1.faults k2.faults later lines.shown.0, part_then k0 k1 k2 (heading_text heading file info) (file_lines 0 lines.bytes) wrote lines.shown.1) }
+    record {
+      bytes = lines.bytes;
+      are = lines.are;
+      shown =
+          (risen_since k0.faults k1.faults k2.faults later lines.shown.0, part_then k0 k1 k2 (heading_text heading file info) (file_lines 0 lines.bytes) wrote lines.shown.1);
+    }
 file_shown heading file info k0 k1 k2 d0 d1 wrote later counts (Err (Fault f)) lines =
     record {
       bytes = lines.bytes;
       are = lines.are;
-      shown = (lines.shown.0, (lines.shown.1.0, lines.shown.1.1, wrote_then k0 k1 k2 (heading_text heading file info) (file_lines 0 (take (4096 * lines.shown.1.0) lines.bytes)) wrote lines.shown.1.2));
+      shown = (
+        lines.shown.0,
+        (
+          lines.shown.1.0,
+          lines.shown.1.1,
+          wrote_then k0 k1 k2 (heading_text heading file info)
+              (file_lines 0 (take (4096 * lines.shown.1.0) lines.bytes)) wrote lines.shown.1.2,
+        ),
+      );
     }
 
 -- an element that was read, and what is seen of it
@@ -82,7 +100,8 @@ pub reads_one : (ds : List (ℕ × DiskSeen)) (i : ℕ) (d e : ℕ × DiskSeen) 
 reads_one ds i d e at looks = reads_from ds (slice_set ds i e) (each_put OnlyReads reads_still ds i d e at looks.number looks.reads)
 
 -- the file lies on its disk
-pub lies_among : (files : FilesSeen) (file i : ℕ) (ds : List (ℕ × DiskSeen)) (d : ℕ × DiskSeen) → LieWell files → file < length files.files → HaveDisks files ds → slice_get ds i ≡ Some d → d.0 ≡ (vnode_at files file).info.disk
+pub lies_among : (files : FilesSeen) (file i : ℕ) (ds : List (ℕ × DiskSeen)) (d : ℕ × DiskSeen) → LieWell files → file < length files.files
+    → HaveDisks files ds → slice_get ds i ≡ Some d → d.0 ≡ (vnode_at files file).info.disk
     → LiesOn files file d
 lies_among files file i ds d lie there have at number = record {
   lie = lie;
@@ -92,14 +111,16 @@ lies_among files file i ds d lie there have at number = record {
 }
 
 -- the disk of the file has its bytes, and no other
-pub told_among : (files : FilesSeen) (i : ℕ) (ds : List (ℕ × DiskSeen)) (d : ℕ × DiskSeen) (info : FileInfo) (bytes : List ℕ) → HaveDisks files ds → slice_get ds i ≡ Some d → d.0 ≡ info.disk → AreFileBytes d.1 info bytes
+pub told_among : (files : FilesSeen) (i : ℕ) (ds : List (ℕ × DiskSeen)) (d : ℕ × DiskSeen) (info : FileInfo) (bytes : List ℕ) → HaveDisks files ds
+    → slice_get ds i ≡ Some d → d.0 ≡ info.disk → AreFileBytes d.1 info bytes
     → (j : ℕ) (e : ℕ × DiskSeen) → slice_get ds j ≡ Some e → StoresFile e info bytes
 told_among files i ds d info bytes have at number are j e there on =
     let place : i ≡ j = have.numbers i j d e at there (number ∙ on) in
     let same : d ≡ e = one_at ds i d e at (ap (slice_get ds) place ∙ there) in
     subst (λ (x : ℕ × DiskSeen). IfSome x.1.content (λ blocks. stored_bytes blocks info ≡ bytes)) same are.told
 
-fault_among : (i : ℕ) (ds : List (ℕ × DiskSeen)) (d e : ℕ × DiskSeen) (n : ℕ) (f : FaultCounts) → slice_get ds i ≡ Some d → e.0 ≡ d.0 → d.0 ≡ n → HasLastFault d.1.faults e f → IsFaultAmong ds (slice_set ds i e) n f
+fault_among : (i : ℕ) (ds : List (ℕ × DiskSeen)) (d e : ℕ × DiskSeen) (n : ℕ) (f : FaultCounts) → slice_get ds i ≡ Some d → e.0 ≡ d.0 → d.0 ≡ n
+    → HasLastFault d.1.faults e f → IsFaultAmong ds (slice_set ds i e) n f
 fault_among i ds d e n f at same number last = (last.number ∙ same ∙ number, record { i = i; was = d; is = e; there = at; now = put_here ds i d e at; same = same; fault = last })
 
 other_fault : (A B : FaultCounts → Type 0) (heading : Heading) (file : ℕ) (info : FileInfo) (bytes : List ℕ) (k0 k1 : SinkSeen) → ((f : FaultCounts) → A f → B f)
@@ -110,7 +131,8 @@ other_fault A B heading file info bytes k0 k1 to counts (Err Sink) shown = shown
 other_fault A B heading file info bytes k0 k1 to counts (Err (Fault f)) shown = (to (counts f) shown.0, shown.1)
 
 -- a file was shown that lies on one of the disks
-pub shown_among : (heading : Heading) (files : FilesSeen) (file i : ℕ) (k0 k1 : SinkSeen) (ds : List (ℕ × DiskSeen)) (d e : ℕ × DiskSeen) → HaveDisks files ds → slice_get ds i ≡ Some d → d.0 ≡ (shown_info files file).disk → e.0 ≡ d.0
+pub shown_among : (heading : Heading) (files : FilesSeen) (file i : ℕ) (k0 k1 : SinkSeen) (ds : List (ℕ × DiskSeen)) (d e : ℕ × DiskSeen) → HaveDisks files ds
+    → slice_get ds i ≡ Some d → d.0 ≡ (shown_info files file).disk → e.0 ≡ d.0
     → {F : Type 0} (counts : F → FaultCounts) (r : Result (Unit {0}) (ShowStop F)) → FileShown heading file (shown_info files file) k0 k1 d e counts r
     → FileShownAmong heading file (shown_info files file) k0 k1 ds (slice_set ds i e) counts r
 shown_among heading files file i k0 k1 ds d e have at number same counts r shown = record {
@@ -122,7 +144,8 @@ shown_among heading files file i k0 k1 ds d e have at number same counts r shown
 }
 
 -- the same, of disks as they are seen
-module _ {X : Type 0} (f : X → ℕ × DiskSeen) (xs : List X) (i : ℕ) (z x : X) (number : ℕ) (d : DiskSeen) (at : slice_get (map f xs) i ≡ Some (number, d)) (looks : LooksAt (f (get_or xs i z)) (f x)) where
+module _ {X : Type 0} (f : X → ℕ × DiskSeen) (xs : List X) (i : ℕ) (z x : X) (number : ℕ) (d : DiskSeen) (at : slice_get (map f xs) i ≡ Some (number, d))
+    (looks : LooksAt (f (get_or xs i z)) (f x)) where
   same : f (get_or xs i z) ≡ (number, d)
   same = element_seen f xs i z (number, d) at
 

@@ -108,7 +108,8 @@ module _ (info : FileInfo) (page : ℕ) (k0 k1 k2 : SinkSeen) (d0 d1 d2 : ℕ ×
     shown = (last_fault counts f shown.1 looks, (page, below, subst (λ (k : SinkSeen). Wrote k0 k (lines_before so.bytes page)) (sym shown.0) so.wrote));
   }
 
-pub lines_done : (info : FileInfo) (page : ℕ) (k0 k1 : SinkSeen) (d0 d1 : ℕ × DiskSeen) → LinesSoFar info page k0 k1 d0 d1 → pages_in info.length ≤ page → {F : Type 0} (counts : F → FaultCounts) → LinesShown info k0 k1 d0 d1 counts (Ok tt)
+pub lines_done : (info : FileInfo) (page : ℕ) (k0 k1 : SinkSeen) (d0 d1 : ℕ × DiskSeen) → LinesSoFar info page k0 k1 d0 d1 → pages_in info.length ≤ page
+    → {F : Type 0} (counts : F → FaultCounts) → LinesShown info k0 k1 d0 d1 counts (Ok tt)
 lines_done info page k0 k1 d0 d1 so past counts = record {
   bytes = so.bytes;
   are = so.are;

@@ -20,7 +20,7 @@ use Rattle.volume_files.specs.Opened.{stored_bytes}
 use Rattle.volume_files.specs.Written.{infos_made}
 use Rattle.volume_files.specs.Texts.{Wrote, WroteFront, WrotePart, file_section, files_from, file_sections}
 use Rattle.volume_files.specs.Written.{FaultCounts, LieWell, HaveDisks, OnlyReads, AreOnlyRead, IsCountedSince, AreFilesBytes, ShowsSections}
-use Rattle.volume_files.specs.Showing.{shown_info, IsFaultAmong, FileShownAmong, FilesSoFar}
+use Rattle.volume_files.specs.Showing.{shown_info, FileShownAmong, FilesSoFar}
 use Rattle.volume_files.proofs.FilePieces.{some_bytes}
 use Rattle.volume_files.proofs.EachDisk.{was_before, there_after}
 use Rattle.volume_files.proofs.ShownFiles.{lies_among, told_among, each_read, reads_same, reads_then}
@@ -67,7 +67,8 @@ own_bytes files ds lie have blocks k = by_file (slice_get files.files k) refl
               (told_among files place.0 ds (v.info.disk, place.1) (shown_info files k) made.0 have place.2 number made.1 i disk there);
         }
 
-pub files_begin : (heading : Heading) (files : FilesSeen) (ds : List (ℕ × DiskSeen)) (k : SinkSeen) → LieWell files → HaveDisks files ds → AllHaveBlocks ds → FilesSoFar heading (infos_made files) 0 k k ds ds
+pub files_begin : (heading : Heading) (files : FilesSeen) (ds : List (ℕ × DiskSeen)) (k : SinkSeen) → LieWell files → HaveDisks files ds → AllHaveBlocks ds
+    → FilesSoFar heading (infos_made files) 0 k k ds ds
 files_begin heading files ds k lie have blocks = record {
   bytes = λ j. (own_bytes files ds lie have blocks j).bytes;
   are = record {
@@ -95,7 +96,8 @@ have_still files old new have reads = record {
 }
 
 -- sections of more files
-sections_append : (heading : Heading) (bytes : ℕ → List ℕ) (k : ℕ) (xs ys : List FileInfo) → files_from heading bytes k (xs ++ ys) ≡ files_from heading bytes k xs ++ files_from heading bytes (k + length xs) ys
+sections_append : (heading : Heading) (bytes : ℕ → List ℕ) (k : ℕ) (xs ys : List FileInfo)
+    → files_from heading bytes k (xs ++ ys) ≡ files_from heading bytes k xs ++ files_from heading bytes (k + length xs) ys
 sections_append heading bytes k [] ys = let same : k ≡ k + 0 = omega arith in ap (λ n. files_from heading bytes n ys) same
 sections_append heading bytes k (x ∷ xs) ys =
     let first = file_section heading k x (bytes k) in
@@ -156,7 +158,8 @@ module _ (heading : Heading) (infos : List FileInfo) (file : ℕ) (info : FileIn
   wrote_before : (own : List ℕ) → Wrote k0 k1 (file_sections heading (take file infos) (with_own so.bytes file own))
   wrote_before own = subst (λ (t : List ℕ). Wrote k0 k1 t) (sym (before own)) so.wrote
 
-  through : (own : List ℕ) → file_sections heading (take (file + 1) infos) (with_own so.bytes file own) ≡ file_sections heading (take file infos) (with_own so.bytes file own) ++ file_section heading file info own
+  through : (own : List ℕ) → file_sections heading (take (file + 1) infos) (with_own so.bytes file own) ≡ file_sections heading (take file infos)
+      (with_own so.bytes file own) ++ file_section heading file info own
   through own =
       let bytes = with_own so.bytes file own in
       let is : get_or infos file no_entry ≡ info = get_or_from_slice_get infos file info no_entry there in
@@ -168,7 +171,8 @@ module _ (heading : Heading) (infos : List FileInfo) (file : ℕ) (info : FileIn
       ∙ ap (λ n. file_section heading n info (bytes n)) at
       ∙ ap (file_section heading file info) (own_here so.bytes file own))
 
-  pub files_step : {F : Type 0} (counts : F → FaultCounts) → FileShownAmong heading file info k1 k2 mid new counts (Ok tt) → AreOnlyRead mid new → k1.faults ≤ k2.faults → FilesSoFar heading infos (file + 1) k0 k2 old new
+  pub files_step : {F : Type 0} (counts : F → FaultCounts) → FileShownAmong heading file info k1 k2 mid new counts (Ok tt) → AreOnlyRead mid new
+      → k1.faults ≤ k2.faults → FilesSoFar heading infos (file + 1) k0 k2 old new
   files_step counts shown reads later = record {
     bytes = with_own so.bytes file shown.bytes;
     are = own_are shown.bytes shown.count shown.told;
@@ -249,7 +253,8 @@ module _ (heading : Heading) (infos : List FileInfo) (file : ℕ) (info : FileIn
         ),
       )
 
-pub files_done : (heading : Heading) (infos : List FileInfo) (file : ℕ) (k0 k1 : SinkSeen) (old new : List (ℕ × DiskSeen)) → FilesSoFar heading infos file k0 k1 old new → length infos ≤ file → {F : Type 0} (counts : F → FaultCounts)
+pub files_done : (heading : Heading) (infos : List FileInfo) (file : ℕ) (k0 k1 : SinkSeen) (old new : List (ℕ × DiskSeen))
+    → FilesSoFar heading infos file k0 k1 old new → length infos ≤ file → {F : Type 0} (counts : F → FaultCounts)
     → (bytes : ℕ → List ℕ) × AreFilesBytes infos old bytes × ShowsSections heading infos bytes k0 k1 old new counts (Ok tt)
 files_done heading infos file k0 k1 old new so past counts =
     (so.bytes, so.are, subst (λ (xs : List FileInfo). Wrote k0 k1 (file_sections heading xs so.bytes)) (take_all file infos past) so.wrote)
@@ -258,7 +263,8 @@ pub info_there : (files : FilesSeen) (file : ℕ) → file < length files.files 
 info_there files file low = slice_get-map (λ (v : VnodeSeen). v.info) files.files file ∙ ap (option_map (λ (v : VnodeSeen). v.info)) (slice_get-get_or files.files file no_vnode low)
 
 -- bytes for all files of disks, whatever was read
-pub bytes-of-disks : (files : FilesSeen) (disks : List (ℕ × DiskSeen)) → LieWell files → HaveDisks files disks → AllHaveBlocks disks → (bytes : ℕ → List ℕ) × AreFilesBytes (infos_made files) disks bytes
+pub bytes-of-disks : (files : FilesSeen) (disks : List (ℕ × DiskSeen)) → LieWell files → HaveDisks files disks → AllHaveBlocks disks
+    → (bytes : ℕ → List ℕ) × AreFilesBytes (infos_made files) disks bytes
 bytes-of-disks files disks lie have blocks = (
   λ j. (own_bytes files disks lie have blocks j).bytes,
   record {

@@ -1,5 +1,6 @@
 -- A run that stops as its files are placed: what is handed back, and the cause.
-use Rattle.std.specs.Prelude.{All, ℕ, zero, suc, ◌≡◌, ◌<◌, ◌≤◌, ◌==◌, Bool, List, [], ◌∷◌, length, map, zip, slice_index_or, Option, Some, None, option_map, IfSome, IsSome, is_some, Ok, Err, Result, if◌then◌else◌}
+use Rattle.std.specs.Prelude.{All, ℕ, zero, suc, ◌≡◌, ◌<◌, ◌≤◌, ◌==◌, Bool, List, [], ◌∷◌, length, drop, map, zip, slice_index_or, Option, Some, None}
+use Rattle.std.specs.Prelude.{option_map, IfSome, IsSome, is_some, Ok, Err, Result, if◌then◌else◌}
 use Rattle.std.specs.List.{AllByRecursion}
 use Rattle.std.specs.Map.{lookup}
 use Rattle.std.specs.FinMap as finite
@@ -26,15 +27,18 @@ use Rattle.volume_files.specs.declared.stops.HandedBack.{HandedBack}
 use Rattle.volume_files.specs.declared.table_files.PlaceStop.{PlaceStop}
 use Rattle.volume_files.specs.declared.table_files.PlaceStop.TheVariants as stop
 use Rattle.volume_files.specs.Attached.{AreMounted, HandsStopped, StopCause, StopsEarly, numbered_seen, bare_disks}
-use Rattle.volume_files.specs.Handed.{AreAsGiven, AreUntouched, HandsAll, HandsFront, HasDiskCause, IsCountedBy, IsSwapAsGiven, IsSwapFor, TellsSpec, disk_numbers, disk_handed, sizes_of, HaveSpecSizes}
+use Rattle.volume_files.specs.Handed.{SpareBlock, AreAsGiven, AreUntouched, HandsAll, HandsFront, HasDiskCause, IsCountedBy, IsSwapAsGiven, IsSwapFor}
+use Rattle.volume_files.specs.Handed.{TellsSpec, disk_numbers, disk_handed, sizes_of, HaveSpecSizes}
 use Rattle.volume_files.specs.Opened.{ComesTo, OpenedFile, disk_specs, if_few, opened_files, with_line_files}
 use Rattle.volume_files.specs.Placing.{IsFaultThere, PlaceStopped, RemainThere, attached_numbers, open_stop_of, found_files, placing_read}
+use Rattle.volume_files.specs.Written.{disk_sizes}
 use Rattle.volume_files.proofs.AllPlaced.{hands-all}
 use Rattle.volume_files.proofs.FoundLemmas.{AllBlocks}
 use Rattle.volume_files.proofs.HandLemmas.{SameDisks, lookup-at, mounted-numbers, opened-is, plan-numbers, same-disks, same-numbers}
 use Rattle.volume_files.proofs.OpenLemmas.{TellOrEmpty}
 use Rattle.volume_files.proofs.PlacedLemmas.{at_index, numbers-seen, sizes-seen}
-use Rattle.volume_files.proofs.GivenFiles.{as-given, comes-to, sizes-handed}
+use Rattle.volume_files.proofs.SparedBlocks.{each-written}
+use Rattle.volume_files.proofs.GivenFiles.{as-given, comes-sizes, comes-to, sizes-handed}
 use Rattle.volume_files.proofs.FaultCauses.{if-counted}
 use Rattle.volume_files.proofs.MountDisks.{Told, given_of_mounted}
 
@@ -51,7 +55,8 @@ hands-front plan disks swap all = record {
 }
 
 -- where the disks tell, so does the rack
-rack-tells : (holds : Spec → Option (List (List ℕ))) (specs : List Spec) (ds : List (ℕ × DiskSeen)) (ts : List TableSeen) → AreMounted holds specs ds ts → AllByRecursion (λ (d : DiskSeen). IsSome d.content) (bare_disks ds)
+rack-tells : (holds : Spec → Option (List (List ℕ))) (specs : List Spec) (ds : List (ℕ × DiskSeen)) (ts : List TableSeen) → AreMounted holds specs ds ts
+    → AllByRecursion (λ (d : DiskSeen). IsSome d.content) (bare_disks ds)
     → AllByRecursion (TellsSpec holds) specs × TellOrEmpty ds ts
 rack-tells holds [] [] [] m told = (tt, tt)
 rack-tells holds [] [] (t ∷ ts) m told = absurd m
@@ -71,7 +76,8 @@ told-one : (a b : Option (List (List ℕ))) → (a ≡ None → b ≡ None) → 
 told-one None b keeps some = absurd (false≢true (ap is_some (sym (keeps refl)) ∙ some))
 told-one (Some x) b keeps some = refl
 
-told-before : {D : Type 0} (seen : D → DiskSeen) (ds es : List (NumberedDisk D)) → SameDisks seen ds es → All Told (bare_disks (map (numbered_seen seen) es)) → All Told (bare_disks (map (numbered_seen seen) ds))
+told-before : {D : Type 0} (seen : D → DiskSeen) (ds es : List (NumberedDisk D)) → SameDisks seen ds es → All Told (bare_disks (map (numbered_seen seen) es))
+    → All Told (bare_disks (map (numbered_seen seen) ds))
 told-before seen [] [] r told = All-nil Told
 told-before seen [] (e ∷ es) r told = absurd r
 told-before seen (d ∷ ds) [] r told = absurd r
@@ -81,7 +87,8 @@ told-before seen (d ∷ ds) (e ∷ es) r told =
     (told-before seen ds es r.1 (All-tail Told (seen e.disk) (bare_disks (map (numbered_seen seen) es)) told))
 
 -- the disk of a fault
-bare_disks-at : {D : Type 0} (seen : D → DiskSeen) (new : List (NumberedDisk D)) (i : ℕ) (x : NumberedDisk D) → i < length new → slice_index_or (bare_disks (map (numbered_seen seen) new)) i (seen x.disk) ≡ seen (slice_index_or new i x).disk
+bare_disks-at : {D : Type 0} (seen : D → DiskSeen) (new : List (NumberedDisk D)) (i : ℕ) (x : NumberedDisk D) → i < length new
+    → slice_index_or (bare_disks (map (numbered_seen seen) new)) i (seen x.disk) ≡ seen (slice_index_or new i x).disk
 bare_disks-at seen [] i x below = absurd (omega (arith, below))
 bare_disks-at seen (d ∷ new) zero x below = refl
 bare_disks-at seen (d ∷ new) (suc i) x below = bare_disks-at seen new i x (omega (arith, below))
@@ -117,13 +124,15 @@ opened-told : {D : Type 0} (seen : D → DiskSeen) (plan : PlanSeen) (holds : Sp
     → AllBlocks (map (numbered_seen seen) old) → AreMounted holds (disk_specs plan.setup) (map (numbered_seen seen) old) ts → placing_read seen old ts plan.setup ≡ r
     → All Told (bare_disks (map (numbered_seen seen) old)) → opened_files plan holds ≡ r
 opened-told seen plan holds old ts r blocks m read told =
-    let tells = rack-tells holds (disk_specs plan.setup) (map (numbered_seen seen) old) ts m (recursion_from_All (λ (d : DiskSeen). IsSome d.content) (bare_disks (map (numbered_seen seen) old)) told) in
+    let tells = rack-tells holds (disk_specs plan.setup) (map (numbered_seen seen) old) ts m
+    (recursion_from_All (λ (d : DiskSeen). IsSome d.content) (bare_disks (map (numbered_seen seen) old)) told) in
     opened-is holds plan (map (numbered_seen seen) old) ts m tells.0 blocks tells.1
     ∙ ap (λ (xs : List (ℕ × ℕ)). with_line_files (block_count (finite.from_entries xs)) (if_few (Ok (found_files (map (numbered_seen seen) old) ts))) plan.setup) (sizes-seen seen old)
     ∙ read
 
 -- disks that were mounted are as the rack gave them
-mounted-given : (plan : PlanSeen) (holds : Spec → Option (List (List ℕ))) (disks : List (ℕ × DiskSeen)) (ts : List TableSeen) (swap : Option DiskSeen) → AreMounted holds (disk_specs plan.setup) disks ts
+mounted-given : (plan : PlanSeen) (holds : Spec → Option (List (List ℕ))) (disks : List (ℕ × DiskSeen)) (ts : List TableSeen) (swap : Option DiskSeen)
+    → AreMounted holds (disk_specs plan.setup) disks ts
     → IsSwapAsGiven (amounts_of plan.setup).slots swap → AreUntouched plan holds (bare_disks disks) swap
 mounted-given plan holds disks ts swap m blank = record {
   each = subst (λ (ss : List Spec). AreAsGiven holds ss (bare_disks disks)) (append-nil (disk_specs plan.setup))
@@ -144,18 +153,25 @@ module _ {D : Type 0} (seen : D → DiskSeen) (plan : PlanSeen) (holds : Spec �
   all : HandsAll plan (bare_disks (map (numbered_seen seen) new)) swap
   all = hands-all seen plan holds old new ts swap m serves remain
 
-  comes : (r : Result (List OpenedFile) Refusal) → placing_read seen old ts plan.setup ≡ r → ComesTo plan holds (sizes_of plan (bare_disks (map (numbered_seen seen) new))) r
-  comes r read = subst (λ (xs : List (ℕ × ℕ)). ComesTo plan holds xs r) (sizes-handed plan (map (numbered_seen seen) new) (numbers-seen seen new ∙ numbers)) (comes-to seen plan holds old new ts r m same read)
+  abbrev comes : (r : Result (List OpenedFile) Refusal) → placing_read seen old ts plan.setup ≡ r → ComesTo plan holds (sizes_of plan (bare_disks (map (numbered_seen seen) new))) r
+  comes r read =
+      let es = map (numbered_seen seen) new in
+      comes-sizes plan holds (disk_sizes es) (sizes_of plan (bare_disks es)) r (sizes-handed plan es (numbers-seen seen new ∙ numbers)) (comes-to seen plan holds old new ts r m same read)
 
-  pub stop-early : (how : PlaceStop) → PlaceStopped seen (placing_read seen old ts plan.setup) old new how
+  untouched : new ≡ old → AreUntouched plan holds (bare_disks (map (numbered_seen seen) new)) swap
+  untouched is =
+      subst (λ (ds : List (NumberedDisk D)). AreUntouched plan holds (bare_disks (map (numbered_seen seen) ds)) swap) (sym is) (mounted-given plan holds (map (numbered_seen seen) old) ts swap m blank)
+
+  pub stop-early : (how : PlaceStop) → PlaceStopped seen (length (found_files (map (numbered_seen seen) old) ts)) (placing_read seen old ts plan.setup) old new how
       → HandsStopped plan (bare_disks (map (numbered_seen seen) new)) swap (open_stop_of how) × StopCause plan holds count count (bare_disks (map (numbered_seen seen) new)) swap (open_stop_of how)
-  stop-early stop.Memory stopped = (hands-front plan (bare_disks (map (numbered_seen seen) new)) swap all, tt)
+  stop-early stop.Memory stopped = (hands-front plan (bare_disks (map (numbered_seen seen) new)) swap all, untouched stopped)
   stop-early (stop.Rule n) stopped = (
     all,
     record {
-      told = λ told. opened-told seen plan holds old ts (Err (refusal.Rule n)) blocks m stopped.0 (subst (λ (ds : List (NumberedDisk D)). All Told (bare_disks (map (numbered_seen seen) ds))) stopped.1 told.each);
+      told = λ told. opened-told seen plan holds old ts (Err (refusal.Rule n)) blocks m stopped.0
+          (subst (λ (ds : List (NumberedDisk D)). All Told (bare_disks (map (numbered_seen seen) ds))) stopped.1 told.each);
       line = comes (Err (refusal.Rule n)) stopped.0;
-      same = subst (λ (ds : List (NumberedDisk D)). AreUntouched plan holds (bare_disks (map (numbered_seen seen) ds)) swap) (sym stopped.1) (mounted-given plan holds (map (numbered_seen seen) old) ts swap m blank);
+      same = untouched stopped.1;
     },
   )
   stop-early (stop.Fault f) stopped = (
@@ -165,6 +181,10 @@ module _ {D : Type 0} (seen : D → DiskSeen) (plan : PlanSeen) (holds : Spec �
       files = stopped.1.0;
       handed = all;
       given = comes (Ok stopped.1.0) stopped.1.1;
+      written = record {
+        each = each-written seen (SpareBlock (drop (length (found_files (map (numbered_seen seen) old) ts)) stopped.1.0)) holds (disk_specs plan.setup) old new ts m stopped.1.2;
+        last = blank;
+      };
       opened = λ told. opened-told seen plan holds old ts (Ok stopped.1.0) blocks m stopped.1.1 (told-before seen old new same told.each);
     }),
   )
@@ -173,17 +193,20 @@ bare_disks-seen : {D : Type 0} (seen : D → DiskSeen) (ds : List (NumberedDisk 
 bare_disks-seen seen [] = refl
 bare_disks-seen seen (d ∷ ds) = λ i. seen d.disk ∷ bare_disks-seen seen ds i
 
-swap-seen : {D : Type 0} (seen : D → DiskSeen) (swap : Option (NumberedDisk D)) → option_map (λ (d : NumberedDisk D). seen d.disk) swap ≡ option_map seen (option_map (λ (d : NumberedDisk D). d.disk) swap)
+swap-seen : {D : Type 0} (seen : D → DiskSeen) (swap : Option (NumberedDisk D))
+    → option_map (λ (d : NumberedDisk D). seen d.disk) swap ≡ option_map seen (option_map (λ (d : NumberedDisk D). d.disk) swap)
 swap-seen seen None = refl
 swap-seen seen (Some d) = refl
 
 -- the run that stops so
-pub stops-early : {D : Type 0} (seen : D → DiskSeen) (plan : PlanSeen) (holds : Spec → Option (List (List ℕ))) (old new : List (NumberedDisk D)) (ts : List TableSeen) (swap : Option (NumberedDisk D)) (count : ℕ)
+pub stops-early : {D : Type 0} (seen : D → DiskSeen) (plan : PlanSeen) (holds : Spec → Option (List (List ℕ))) (old new : List (NumberedDisk D))
+    (ts : List TableSeen) (swap : Option (NumberedDisk D)) (count : ℕ)
     (how : PlaceStop) (s : HandedBack D) → s.why ≡ open_stop_of how
     → s.disks.items ≡ map (λ (d : NumberedDisk D). d.disk) new → s.swap ≡ option_map (λ (d : NumberedDisk D). d.disk) swap
     → AllBlocks (map (numbered_seen seen) old) → AreMounted holds (disk_specs plan.setup) (map (numbered_seen seen) old) ts
-    → IsSwapFor (amounts_of plan.setup).slots (option_map (λ (d : NumberedDisk D). seen d.disk) swap) → IsSwapAsGiven (amounts_of plan.setup).slots (option_map (λ (d : NumberedDisk D). seen d.disk) swap)
-    → RemainThere seen old new → PlaceStopped seen (placing_read seen old ts plan.setup) old new how → StopsEarly plan holds count count seen s
+    → IsSwapFor (amounts_of plan.setup).slots (option_map (λ (d : NumberedDisk D). seen d.disk) swap)
+    → IsSwapAsGiven (amounts_of plan.setup).slots (option_map (λ (d : NumberedDisk D). seen d.disk) swap)
+    → RemainThere seen old new → PlaceStopped seen (length (found_files (map (numbered_seen seen) old) ts)) (placing_read seen old ts plan.setup) old new how → StopsEarly plan holds count count seen s
 stops-early {D} seen plan holds old new ts swap count how s ends disks swaps blocks m serves blank remain stopped =
     let r = stop-early seen plan holds old new ts (option_map (λ (d : NumberedDisk D). seen d.disk) swap) count blocks m serves blank remain how stopped in
     let same_disks : bare_disks (map (numbered_seen seen) new) ≡ map seen s.disks.items = bare_disks-seen seen new ∙ ap (map seen) (sym disks) in

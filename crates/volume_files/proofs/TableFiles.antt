@@ -173,7 +173,8 @@ parted (e ∷ f ∷ es) gaps (suc j) there is =
     let next : suc j + 1 ≡ suc (j + 1) = omega arith in
     parted (f ∷ es) gaps.1 j (omega (arith, there)) (is ∙ ap (λ i. (extent_at (e ∷ f ∷ es) i).start) next)
 
-module _ (files : FilesSeen) (disk file : ℕ) (t : TableSeen) (make : MakeTables files) (there : file < length files.files) (so : TableSoFar files disk file t) (on : (shown_info files file).disk ≡ disk) where
+module _ (files : FilesSeen) (disk file : ℕ) (t : TableSeen) (make : MakeTables files) (there : file < length files.files) (so : TableSoFar files disk file t)
+    (on : (shown_info files file).disk ≡ disk) where
   low : file < length (infos_made files)
   low = omega (arith, there, length-map files.files (λ (v : VnodeSeen). v.info))
 
@@ -181,11 +182,13 @@ module _ (files : FilesSeen) (disk file : ℕ) (t : TableSeen) (make : MakeTable
   here = get_or-map (λ (v : VnodeSeen). v.info) files.files file no_vnode no_entry there
 
   -- what adds up over the extents of the files of a disk
-  within : (m : List Extent → ℕ) → m [] ≡ 0 → ((xs ys : List Extent) → m (xs ++ ys) ≡ m xs + m ys) → sum_by (λ (e : FileInfo). m e.extents) t.entries + m (shown_info files file).extents ≤ m (extents_on disk files.files)
+  within : (m : List Extent → ℕ) → m [] ≡ 0 → ((xs ys : List Extent) → m (xs ++ ys) ≡ m xs + m ys)
+      → sum_by (λ (e : FileInfo). m e.extents) t.entries + m (shown_info files file).extents ≤ m (extents_on disk files.files)
   within m none append =
       let infos = infos_made files in
       let g = its_part m disk in
-      let own : g (get_or infos file no_entry) ≡ m (shown_info files file).extents = ap g here ∙ ap (λ (b : Bool). cond b (m (shown_info files file).extents) 0) (eq-eqb (shown_info files file).disk disk on) in
+      let own : g (get_or infos file no_entry) ≡ m (shown_info files file).extents = ap g here
+      ∙ ap (λ (b : Bool). cond b (m (shown_info files file).extents) 0) (eq-eqb (shown_info files file).disk disk on) in
       let so_far : sum_by (λ (e : FileInfo). m e.extents) t.entries ≡ sum_by g (take file infos) = ap (sum_by (λ (e : FileInfo). m e.extents)) so.entries ∙ table_sum m disk (take file infos) in
       let all : sum_by g infos ≡ sum_by (part_of m disk) files.files = infos_sum g files.files in
       omega (arith, own, so_far, all, sum_by_more_le g infos file no_entry low, sum-extents_on m none append disk files.files)
@@ -220,7 +223,8 @@ module _ (files : FilesSeen) (disk file : ℕ) (t : TableSeen) (make : MakeTable
       (ap (λ (e : FileInfo). e.disk) (sym same) ∙ at ∙ sym on ∙ ap (λ (e : FileInfo). e.disk) (sym here))
       (ap (λ (e : FileInfo). e.name) (sym same) ∙ is ∙ ap (λ (e : FileInfo). e.name) (sym here)) in
       subst (IsNewName (shown_info files file).name) (sym so.entries)
-      (fold_new (shown_info files file).name [] (map (info_on 0) (filter (λ (i : FileInfo). i.disk == disk) xs)) (λ i none. absurd (omega (arith, none))) (filter_new disk (shown_info files file).name xs other))
+      (fold_new (shown_info files file).name [] (map (info_on 0) (filter (λ (i : FileInfo). i.disk == disk) xs)) (λ i none. absurd (omega (arith, none)))
+      (filter_new disk (shown_info files file).name xs other))
 
   file_of_volume : (shown_info files file).length < 2 ^ 32 → IsVolumeFile t.blocks (info_on 0 (shown_info files file))
   file_of_volume number =
@@ -265,7 +269,8 @@ module _ (files : FilesSeen) (disk file : ℕ) (t : TableSeen) (make : MakeTable
       ∙ fold-append with_table_entry [] (map (info_on 0) (filter p xs)) (info_on 0 info ∷ []))
 
 -- a file that lies elsewhere
-pub entries_other : (files : FilesSeen) (disk file : ℕ) → file < length files.files → (shown_info files file).disk ≢ disk → table_entries disk (take (file + 1) (infos_made files)) ≡ table_entries disk (take file (infos_made files))
+pub entries_other : (files : FilesSeen) (disk file : ℕ) → file < length files.files → (shown_info files file).disk ≢ disk
+    → table_entries disk (take (file + 1) (infos_made files)) ≡ table_entries disk (take file (infos_made files))
 entries_other files disk file there off =
     let infos = infos_made files in
     let info = shown_info files file in
@@ -275,7 +280,8 @@ entries_other files disk file there off =
     let low : file < length infos = omega (arith, there, length-map files.files (λ (v : VnodeSeen). v.info)) in
     let none : filter p (info ∷ []) ≡ [] = ap (λ (b : Bool). cond b (info ∷ []) []) (ne_eqb info.disk disk off) in
     let same : filter p (take (file + 1) infos) ≡ filter p xs =
-    ap (filter p) (take_more infos file no_entry low ∙ ap (λ (e : FileInfo). xs ++ e ∷ []) here) ∙ filter-append p xs (info ∷ []) ∙ ap (λ (es : List FileInfo). filter p xs ++ es) none ∙ append-nil (filter p xs) in
+    ap (filter p) (take_more infos file no_entry low ∙ ap (λ (e : FileInfo). xs ++ e ∷ []) here) ∙ filter-append p xs (info ∷ [])
+    ∙ ap (λ (es : List FileInfo). filter p xs ++ es) none ∙ append-nil (filter p xs) in
     ap (λ (es : List FileInfo). fold with_table_entry [] (map (info_on 0) es)) same
 
 -- no file yet
@@ -294,10 +300,12 @@ table_more files disk file t next make there so on is volume = record {
   volume = volume;
 }
 
-pub table_skip : (files : FilesSeen) (disk file : ℕ) (t : TableSeen) → file < length files.files → TableSoFar files disk file t → (shown_info files file).disk ≢ disk → TableSoFar files disk (file + 1) t
+pub table_skip : (files : FilesSeen) (disk file : ℕ) (t : TableSeen) → file < length files.files → TableSoFar files disk file t
+    → (shown_info files file).disk ≢ disk → TableSoFar files disk (file + 1) t
 table_skip files disk file t there so off = record { number = so.number; entries = so.entries ∙ sym (entries_other files disk file there off); volume = so.volume }
 
-pub table_done : (files : FilesSeen) (disk blocks file : ℕ) (t : TableSeen) → TableSoFar files disk file t → finite.get files.disks disk ≡ Some blocks → length files.files ≤ file → t ≡ table_of_disk disk blocks (infos_made files)
+pub table_done : (files : FilesSeen) (disk blocks file : ℕ) (t : TableSeen) → TableSoFar files disk file t → finite.get files.disks disk ≡ Some blocks
+    → length files.files ≤ file → t ≡ table_of_disk disk blocks (infos_made files)
 table_done files disk blocks file t so number past =
     let size : t.blocks ≡ blocks = (let both : Some t.blocks ≡ Some blocks = sym so.number ∙ number in cc) in
     let all : t.entries ≡ table_entries disk (infos_made files) =

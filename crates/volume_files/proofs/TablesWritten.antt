@@ -47,7 +47,8 @@ keeps_with old new bytes is size faults = record {
 }
 
 -- block 0 says the table that was written
-pub says_with : (number : ℕ) (infos : List FileInfo) (old new : DiskSeen) (t : TableSeen) (bytes : List ℕ) → HasBlocks old.content old.size → 0 < old.size → new.content ≡ with_block old.content 0 bytes → new.size ≡ old.size
+pub says_with : (number : ℕ) (infos : List FileInfo) (old new : DiskSeen) (t : TableSeen) (bytes : List ℕ) → HasBlocks old.content old.size → 0 < old.size
+    → new.content ≡ with_block old.content 0 bytes → new.size ≡ old.size
     → t ≡ table_of_disk number old.size infos → bytes ≡ encoding t → reading bytes t.blocks ≡ Ok t → SaysItsTable infos (number, new)
 says_with number infos old new t bytes blocks some is size table spelled read =
     subst (λ (o : Option (List (List ℕ))). IfSome o (λ bs. SaysTable number new.size infos (slice_index_or bs 0 []))) (sym is) (put old.content blocks)
@@ -72,7 +73,8 @@ each_from old new all = record { count = all.count; numbers = all.numbers; each 
 pub tables_begin : (infos : List FileInfo) (ds : List (ℕ × DiskSeen)) → TablesSoFar infos 0 ds ds
 tables_begin infos ds = record { writes = writes_from ds ds (each_same KeepsBlocks keeps_same ds); said = λ i d none at. absurd (omega (arith, none)) }
 
-module _ (infos : List FileInfo) (place : ℕ) (old mid : List (ℕ × DiskSeen)) (d e : ℕ × DiskSeen) (at : slice_get mid place ≡ Some d) (number : e.0 ≡ d.0) (keeps : KeepsBlocks d.1 e.1) (so : TablesSoFar infos place old mid) where
+module _ (infos : List FileInfo) (place : ℕ) (old mid : List (ℕ × DiskSeen)) (d e : ℕ × DiskSeen) (at : slice_get mid place ≡ Some d) (number : e.0 ≡ d.0)
+    (keeps : KeepsBlocks d.1 e.1) (so : TablesSoFar infos place old mid) where
   put : Each KeepsBlocks mid (slice_set mid place e)
   put = each_put KeepsBlocks keeps_same mid place d e at number keeps
 
@@ -108,7 +110,8 @@ module _ (infos : List FileInfo) (place : ℕ) (old mid : List (ℕ × DiskSeen)
       }
 
 -- what each disk has to have stays
-pub size_there : (files : FilesSeen) (old mid : List (ℕ × DiskSeen)) (place : ℕ) (d : ℕ × DiskSeen) → HaveDisks files old → WriteTables old mid → slice_get mid place ≡ Some d → finite.get files.disks d.0 ≡ Some d.1.size
+pub size_there : (files : FilesSeen) (old mid : List (ℕ × DiskSeen)) (place : ℕ) (d : ℕ × DiskSeen) → HaveDisks files old → WriteTables old mid
+    → slice_get mid place ≡ Some d → finite.get files.disks d.0 ≡ Some d.1.size
 size_there files old mid place d have writes at =
     let was = was_before KeepsBlocks old mid place d (each_from old mid writes) at in
     ap (finite.get files.disks) was.number ∙ have.sizes place was.was was.at ∙ ap (λ n. Some n) (sym was.changed.size)

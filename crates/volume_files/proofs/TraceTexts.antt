@@ -14,7 +14,8 @@ use Rattle.volume_files.specs.Texts.{Wrote, WroteFront, file_sections, sections_
 use Rattle.volume_files.specs.Written.{ShowsSections, TraceShows, disk_sizes, open_fault_counts}
 use Rattle.volume_files.proofs.WrittenTexts.{wrote_then, front_then, part_then, part_more, nothing_front, risen_since}
 
-pub trace_shown : (plan : PlanSeen) (infos : List FileInfo) (bytes : ℕ → List ℕ) (k0 k1 k2 : SinkSeen) (old new : List (ℕ × DiskSeen)) → Wrote k0 k1 (trace_front plan (disk_sizes old)) → k0.faults ≤ k1.faults
+pub trace_shown : (plan : PlanSeen) (infos : List FileInfo) (bytes : ℕ → List ℕ) (k0 k1 k2 : SinkSeen) (old new : List (ℕ × DiskSeen))
+    → Wrote k0 k1 (trace_front plan (disk_sizes old)) → k0.faults ≤ k1.faults
     → (r : Result (Unit {0}) (ShowStop OpenFaultSeen)) → ShowsSections Trace infos bytes k1 k2 old new open_fault_counts r → TraceShows plan infos bytes k0 k2 old new r
 trace_shown plan infos bytes k0 k1 k2 old new wrote later (Ok done) shown = wrote_then k0 k1 k2 (trace_front plan (disk_sizes old)) (file_sections Trace infos bytes) wrote shown
 trace_shown plan infos bytes k0 k1 k2 old new wrote later (Err Memory) shown = front_then k0 k1 k2 (trace_front plan (disk_sizes old)) (file_sections Trace infos bytes) wrote shown
@@ -26,7 +27,8 @@ trace_shown plan infos bytes k0 k1 k2 old new wrote later (Err (Fault f)) shown 
 )
 
 -- the trace before the files wasn't written
-pub front_stop : (plan : PlanSeen) (infos : List FileInfo) (bytes : ℕ → List ℕ) (k0 k1 : SinkSeen) (ds : List (ℕ × DiskSeen)) (stop : ShowStop OpenFaultSeen) → IsHeadingShown (trace_front plan (disk_sizes ds)) k0 k1 (Err stop)
+pub front_stop : (plan : PlanSeen) (infos : List FileInfo) (bytes : ℕ → List ℕ) (k0 k1 : SinkSeen) (ds : List (ℕ × DiskSeen)) (stop : ShowStop OpenFaultSeen)
+    → IsHeadingShown (trace_front plan (disk_sizes ds)) k0 k1 (Err stop)
     → TraceShows plan infos bytes k0 k1 ds ds (Err stop)
 front_stop plan infos bytes k0 k1 ds Memory shown =
     let text = trace_front plan (disk_sizes ds) ++ file_sections Trace infos bytes in

@@ -10,8 +10,10 @@ use Rattle.block_device.specs.declared.numbered.NumberedDisk.{NumberedDisk}
 use Rattle.vnode_files.specs.Files.{FilesSeen, vnode_at}
 use Rattle.vnode_files.specs.declared.vnode.FileInfo.{FileInfo}
 use Rattle.vm_script.specs.declared.plan.SetupLine.{SetupLine}
+use Rattle.volume_files.specs.Handed.{SpareBlock, SparesBlock}
 use Rattle.volume_files.specs.Opened.{OpenedFile}
-use Rattle.volume_files.specs.Placing.{RemainsThere, RemainThere, IsFaultOne, IsFaultThere, HasPlaceOn, HasPlaces, HavePlaces, WroteOne, with_file, with_file_pages, with_given, bytes_given, line_files}
+use Rattle.volume_files.specs.Placing.{RemainsThere, RemainThere, IsFaultOne, IsFaultThere, HasPlaceOn, HasPlaces, HavePlaces, WroteOne, with_file}
+use Rattle.volume_files.specs.Placing.{with_file_pages, with_given, bytes_given, line_files}
 
 module _ {D : Type 0} (seen : D → DiskSeen) where
   pub remains-same : (d : NumberedDisk D) → RemainsThere seen d d
@@ -113,6 +115,7 @@ module _ {D : Type 0} (seen : D → DiskSeen) where
     pub count : k + length (line_files made k (drop i setup)) ≤ length made.files
     pub places : HavePlaces seen mid (line_files made k (drop i setup))
     pub rest : Rests seen old mid (line_files made k (drop i setup)) (line_files made first setup)
+    pub spare : (number block : ℕ) → SpareBlock (line_files made first setup) number block → SpareBlock (line_files made k (drop i setup)) number block
 
   -- the file of a line, and its place
   pub line_file-place : (made : FilesSeen) (first : ℕ) (setup : List SetupLine) (old mid : List (NumberedDisk D)) (k i : ℕ) (l : SetupLine) (bytes : List ℕ) (info : FileInfo)
@@ -146,6 +149,8 @@ module _ {D : Type 0} (seen : D → DiskSeen) where
         places = places-kept seen mid new stay more (All-tail (λ (g : OpenedFile). HasPlaces seen mid g.info g.bytes) f more places);
         rest = rests-step seen old mid new f more (line_files made first setup) on.stay.count stay (subst (λ (x : FileInfo). WroteOne seen x bytes mid new) same wrote)
             (subst (λ (fs : List OpenedFile). Rests seen old mid fs (line_files made first setup)) step on.rest);
+        spare = λ number block free. All-tail (λ (x : OpenedFile). SparesBlock x.info x.bytes number block) f more
+            (subst (λ (fs : List OpenedFile). SpareBlock fs number block) step (on.spare number block free));
       }
 
   pub lines_on-other : (made : FilesSeen) (first : ℕ) (setup : List SetupLine) (old mid : List (NumberedDisk D)) (k i : ℕ) (l : SetupLine)
@@ -157,4 +162,5 @@ module _ {D : Type 0} (seen : D → DiskSeen) where
         count = subst (λ (fs : List OpenedFile). k + length fs ≤ length made.files) step on.count;
         places = subst (λ (fs : List OpenedFile). HavePlaces seen mid fs) step on.places;
         rest = subst (λ (fs : List OpenedFile). Rests seen old mid fs (line_files made first setup)) step on.rest;
+        spare = λ number block free. subst (λ (fs : List OpenedFile). SpareBlock fs number block) step (on.spare number block free);
       }

@@ -12,7 +12,7 @@ appended_more : (o : Option (List ℕ)) (a b : List ℕ) → text_with_more (tex
 appended_more None a b = refl
 appended_more (Some w) a b = ap (λ (x : List ℕ). Some x) (append_assoc w a b)
 
-appended_nothing : (o : Option (List ℕ)) → o ≡ text_with_more o []
+pub appended_nothing : (o : Option (List ℕ)) → o ≡ text_with_more o []
 appended_nothing None = refl
 appended_nothing (Some w) = ap (λ (x : List ℕ). Some x) (sym (append-nil w))
 

@@ -19,9 +19,10 @@ use Rattle.volume_files.specs.declared.stops.OpenStop.{OpenStop}
 use Rattle.volume_files.specs.declared.stops.OpenStop.TheVariants as halt
 use Rattle.volume_files.specs.declared.stops.HandedBack.{HandedBack}
 use Rattle.volume_files.specs.Closed.{StoreFiles, info_at}
-use Rattle.volume_files.specs.Handed.{HaveTold, RackTells, HandsFront, HandsAll, HandsRefused, HasDiskCause, HasOpeningCause, HasRefusalCause, IsSwapAsGiven, IsSwapFor, StopsAttaching, disk_numbers, sizes_of}
+use Rattle.volume_files.specs.Handed.{AreUntouched, AreWrittenAt, HaveTold, RackTells, HandsFront, HandsAll, HandsRefused, HasDiskCause, HasOpeningCause}
+use Rattle.volume_files.specs.Handed.{HasRefusalCause, IsSwapAsGiven, IsSwapFor, StopsAttaching, disk_numbers, sizes_of}
 use Rattle.volume_files.specs.Written.{LieWell, HaveDisks, HaveFirstBlocks}
-use Rattle.volume_files.specs.Opened.{ComesTo, OpenedFile, opened_files, infos_of, opened_bytes_at, table_on, disk_specs}
+use Rattle.volume_files.specs.Opened.{ComesTo, OpenedFile, line_files_of, opened_files, infos_of, opened_bytes_at, table_on, disk_specs}
 
 -- The disks with their numbers, in rising number; the table of each; and the swap disk.
 pub record AttachedSeen : Type 0 where
@@ -76,12 +77,13 @@ pub record AreAttached (plan : PlanSeen) (holds : Spec → Option (List (List �
   pub swap : IsSwapFor (amounts_of plan.setup).slots a.swap
   pub blank : IsSwapAsGiven (amounts_of plan.setup).slots a.swap
 
--- A disk failed as pages of files were written: no rule is broken.
+-- A disk failed as pages of files were written: no rule is broken, and nothing else was written.
 pub record StopsWriting (plan : PlanSeen) (holds : Spec → Option (List (List ℕ))) (disks : List DiskSeen) (swap : Option DiskSeen) (fault : OpenFaultSeen) : Type 0 where
   pub cause : HasDiskCause plan disks swap fault
   pub files : List OpenedFile
   pub handed : HandsAll plan disks swap
   pub given : ComesTo plan holds (sizes_of plan disks) (Ok files)
+  pub written : AreWrittenAt plan holds (line_files_of given.found files) disks swap
   pub opened : HaveTold disks swap → opened_files plan holds ≡ Ok files
 
 -- What is handed back where the files weren't opened: a rule is broken, a disk or the rack failed, or memory lacked; the disks so far are handed back.
@@ -89,7 +91,7 @@ abbrev pub StopCause : PlanSeen → (Spec → Option (List (List ℕ))) → ℕ 
 StopCause plan holds rack_old rack_new disks swap (halt.Refused r) = HasRefusalCause plan holds disks swap r
 StopCause plan holds rack_old rack_new disks swap (halt.Failed f) =
     (HasOpeningCause plan disks swap rack_old rack_new f × StopsAttaching plan holds disks swap f) ⊎ StopsWriting plan holds disks swap f
-StopCause plan holds rack_old rack_new disks swap halt.Memory = Unit {0}
+StopCause plan holds rack_old rack_new disks swap halt.Memory = AreUntouched plan holds disks swap
 
 -- What is handed back then; where a disk or the rack failed, the cause says it.
 abbrev pub HandsStopped : PlanSeen → List DiskSeen → Option DiskSeen → OpenStop → Type 0
@@ -128,5 +130,6 @@ pub record ArePlaced (plan : PlanSeen) (holds : Spec → Option (List (List ℕ)
   pub own : All HasItsBytes files
   pub kept : All (λ f. 1 ≤ page_count f.info.extents) files
   pub given : ComesTo plan holds (map (λ (d : ℕ × DiskSeen). (d.0, d.1.size)) a.disks) (Ok files)
+  pub written : AreWrittenAt plan holds (line_files_of given.found files) (bare_disks a.disks) a.swap
   pub told : RackTells holds plan → FileDisksTell (infos_of files) a.disks → opened_files plan holds ≡ Ok files
   pub stored : StoreFiles a.disks (infos_of files) (opened_bytes_at files)

@@ -1,5 +1,6 @@
 -- The disks that are handed back, by number, and why setting up ended. Public clauses cite this.
-use Rattle.std.specs.Prelude.{ℕ, ◌≡◌, ◌≤◌, ◌<◌, ◌==◌, ◌⊎◌, Bool, nat_le, nat_lt, count_by, List, [], length, map, take, Option, Some, None, Err, IfSome, IsSome, IsSomeAnd, MatchOption, MatchBool, All, zip, slice_get, slice_index_or, option_map, if◌then◌else◌, ◌+◌, is_some}
+use Rattle.std.specs.Prelude.{ℕ, ◌≡◌, ◌≤◌, ◌<◌, ◌==◌, ◌⊎◌, Bool, nat_le, nat_lt, count_by, List, [], length, map, take, Option, Some, None, Err, IfSome, IsSome}
+use Rattle.std.specs.Prelude.{IsSomeAnd, MatchOption, MatchBool, All, zip, slice_get, slice_index_or, option_map, if◌then◌else◌, ◌+◌, is_some}
 use Rattle.std.specs.List.{Contains}
 use Rattle.std.specs.Map.{lookup}
 use Rattle.block_device.specs.Counts.{HasRisen}
@@ -8,11 +9,14 @@ use Rattle.block_device.specs.OpenSeen.{OpenFaultSeen}
 use Rattle.block_device.specs.RackSeen.{IsAttached, spec_number}
 use Rattle.block_device.specs.declared.rack.Spec.{Spec}
 use Rattle.block_device.specs.declared.rack.Spec.TheVariants as spec
+use Rattle.flat_model.specs.Words.{pages_in}
+use Rattle.vnode_files.specs.declared.vnode.FileInfo.{FileInfo}
+use Rattle.volume_format.specs.Table.{front_block}
 use Rattle.vm_script.specs.PlanSeen.{PlanSeen}
 use Rattle.vm_script.specs.Rules.{amounts_of}
 use Rattle.volume_files.specs.declared.stops.Refusal.{Refusal}
 use Rattle.volume_files.specs.declared.stops.Refusal.TheVariants as refusal
-use Rattle.volume_files.specs.Opened.{ComesTo, disk_specs, opened_files}
+use Rattle.volume_files.specs.Opened.{ComesTo, OpenedFile, disk_specs, opened_files, table_of_read}
 
 -- The rack tells what it holds for each disk by path.
 abbrev pub TellsSpec : (Spec → Option (List (List ℕ))) → Spec → Type 0
@@ -111,19 +115,48 @@ pub record AreUntouched (plan : PlanSeen) (holds : Spec → Option (List (List �
   pub each : AreAsGiven holds (disk_specs plan.setup) disks
   pub last : IsSwapAsGiven (amounts_of plan.setup).slots swap
 
+-- Each of these disks has counted no fault.
+pub record AreUncounted (disks : List DiskSeen) (swap : Option DiskSeen) : Type 0 where
+  pub each : All (λ (d : DiskSeen). d.faults ≡ 0) disks
+  pub last : IfSome swap (λ d. d.faults ≡ 0)
+
+-- What a disk has in a block, where it tells.
+abbrev pub block_told : Option (List (List ℕ)) → ℕ → Option (List ℕ)
+block_told content block = option_map (λ blocks. slice_index_or blocks block []) content
+
+-- The pages that a file's bytes fill don't have this block of the disk of a number.
+abbrev pub LiesBeside : ℕ → ℕ → ℕ → Type 0
+LiesBeside start count block = (block < start) ⊎ (start + count ≤ block)
+
+abbrev pub SparesBlock : FileInfo → List ℕ → ℕ → ℕ → Type 0
+SparesBlock info bytes number block = info.disk ≡ number → LiesBeside (front_block info.extents) (pages_in (length bytes)) block
+
+abbrev pub SpareBlock : List OpenedFile → ℕ → ℕ → Type 0
+SpareBlock files number block = All (λ f. SparesBlock f.info f.bytes number block) files
+
+-- The disks were written at most where the bytes of these files lie: each other block is as the rack gave it, and so is the swap disk.
+pub record AreWrittenAt (plan : PlanSeen) (holds : Spec → Option (List (List ℕ))) (files : List OpenedFile) (disks : List DiskSeen) (swap : Option DiskSeen) : Type 0 where
+  pub each : (i : ℕ) (s : Spec) (d : DiskSeen) → slice_get (disk_specs plan.setup) i ≡ Some s → slice_get disks i ≡ Some d
+      → (was : DiskSeen) × IsAttached s (holds s) was × ((block : ℕ) → SpareBlock files (spec_number s) block → block_told d.content block ≡ block_told was.content block)
+  pub last : IsSwapAsGiven (amounts_of plan.setup).slots swap
+
 -- No disk that was read before this one breaks a rule of volumes. The swap disk, number 8, is attached before all others.
 abbrev pub NoneBreaksBefore : PlanSeen → (Spec → Option (List (List ℕ))) → ℕ → Type 0
 NoneBreaksBefore plan holds disk = (number rule : ℕ) → opened_files plan holds ≡ Err (refusal.Volume number rule) → (disk ≡ 8) ⊎ (disk ≤ number)
 
--- Why a rule that the disks or the lines of files break is told: where each disk that came back tells, it is the first that is broken; that of a line is
--- so over any disks. Nothing was written.
-abbrev pub BreaksLine : PlanSeen → (Spec → Option (List (List ℕ))) → List DiskSeen → Refusal → Type 0
-BreaksLine plan holds disks (refusal.Volume number rule) = Unit {0}
-BreaksLine plan holds disks (refusal.Rule n) = ComesTo plan holds (sizes_of plan disks) (Err (refusal.Rule n))
+-- Some block 0 of a disk of so many blocks breaks this rule of volumes.
+abbrev pub HasBadTable : ℕ → ℕ → Type 0
+HasBadTable size rule = (block : List ℕ) × (length block ≡ 4096) × (table_of_read block size ≡ Err rule)
+
+-- Why a rule that the disks or the lines of files break is told: where each disk that came back tells, it is the first that is broken. Over any disks that
+-- of a line is, and of the disk that is named a block 0 was read that breaks the rule of volumes, or its size does. Nothing was written.
+abbrev pub BreaksLine : PlanSeen → (Spec → Option (List (List ℕ))) → List DiskSeen → Option DiskSeen → Refusal → Type 0
+BreaksLine plan holds disks swap (refusal.Volume number rule) = IsSomeAnd (disk_handed plan disks swap number) (λ d. HasBadTable d.size rule)
+BreaksLine plan holds disks swap (refusal.Rule n) = ComesTo plan holds (sizes_of plan disks) (Err (refusal.Rule n))
 
 pub record HasRefusalCause (plan : PlanSeen) (holds : Spec → Option (List (List ℕ))) (disks : List DiskSeen) (swap : Option DiskSeen) (r : Refusal) : Type 0 where
   pub told : HaveTold disks swap → opened_files plan holds ≡ Err r
-  pub line : BreaksLine plan holds disks r
+  pub line : BreaksLine plan holds disks swap r
   pub same : AreUntouched plan holds disks swap
 
 -- The rack failed, or a disk's block 0 wasn't read: nothing was written, and where each disk that came back tells, none that was read before breaks a rule.

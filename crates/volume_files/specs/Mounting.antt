@@ -13,6 +13,7 @@ use Rattle.volume_files.specs.declared.stops.OpenStop.{OpenStop}
 use Rattle.volume_files.specs.declared.stops.OpenStop.TheVariants as halt
 use Rattle.volume_files.specs.declared.stops.Refusal.TheVariants as refusal
 use Rattle.volume_files.specs.Attached.{IsMounted, AreMounted}
+use Rattle.volume_files.specs.Handed.{HasBadTable}
 use Rattle.volume_files.specs.Opened.{disk_numbered, table_on, table_read}
 use Rattle.volume_files.specs.Written.{HasLastFault, open_fault_counts}
 
@@ -43,7 +44,7 @@ pub record SaysTableRead (d : DiskSeen) (t : TableSeen) : Type 0 where
 
 -- Why no table was read: the disk counted a fault of the transfer, its size or its block 0 breaks a rule of volumes, or memory lacked.
 abbrev pub UnreadCause : ℕ × DiskSeen → OpenStop → Type 0
-UnreadCause d (halt.Refused (refusal.Volume number rule)) = (number ≡ d.0) × IfSome d.1.content (λ blocks. table_on blocks ≡ Err rule)
+UnreadCause d (halt.Refused (refusal.Volume number rule)) = (number ≡ d.0) × IfSome d.1.content (λ blocks. table_on blocks ≡ Err rule) × HasBadTable d.1.size rule
 UnreadCause d (halt.Failed f) = HasLastFault 0 d (open_fault_counts f)
 UnreadCause d halt.Memory = Unit {0}
 UnreadCause d how = ⊥

@@ -1,5 +1,6 @@
 -- The files as the processes find them, or the set-up rule that keeps them from being opened. Public clauses cite this.
-use Rattle.std.specs.Prelude.{ℕ, ◌==◌, ◌+◌, ◌-◌, nat_le, nat_lt, Bool, List, [], ◌∷◌, ◌++◌, length, take, map, filter, filter_map, replicate, slice_index_or, unwrap_or, Option, Some, None, option_map, option_and_then, IfSome, Result, Ok, Err, if◌then◌else◌, ◌≡◌, ◌≤◌}
+use Rattle.std.specs.Prelude.{ℕ, ◌==◌, ◌+◌, ◌-◌, nat_le, nat_lt, Bool, List, [], ◌∷◌, ◌++◌, length, take, drop, map, filter, filter_map, replicate}
+use Rattle.std.specs.Prelude.{slice_index_or, unwrap_or, Option, Some, None, option_map, option_and_then, IfSome, Result, Ok, Err, if◌then◌else◌, ◌≡◌, ◌≤◌}
 use Rattle.std.specs.List.{concat, find, flat_map, list_all, list_any, range_with_len}
 use Rattle.std.specs.FinMap as finite
 use Rattle.std.specs.Map.{lookup}
@@ -72,9 +73,13 @@ abbrev pub table_read : Result TableSeen BadVolume → Result TableSeen ℕ
 table_read (Ok table) = Ok table
 table_read (Err bad) = Err bad.rule
 
--- The table of a disk of these blocks, or the rule of volumes that it breaks: 0 where it has fewer than 2 blocks or more than 16,384.
+-- The table that block 0 says of a disk of so many blocks, or the rule of volumes that is broken: 0 where these are fewer than 2 or more than 16,384.
+abbrev pub table_of_read : List ℕ → ℕ → Result TableSeen ℕ
+table_of_read block size = if is_from_to 2 16384 size then table_read (reading block size) else Err 0
+
+-- The table of a disk of these blocks.
 abbrev pub table_on : List (List ℕ) → Result TableSeen ℕ
-table_on blocks = if is_from_to 2 16384 (length blocks) then table_read (reading (slice_index_or blocks 0 []) (length blocks)) else Err 0
+table_on blocks = table_of_read (slice_index_or blocks 0 []) (length blocks)
 
 -- The files of the disk, and behind them those of the disks behind it.
 abbrev pub with_mounted : ℕ × List (List ℕ) → Result TableSeen ℕ → Result (List OpenedFile) Refusal → Result (List OpenedFile) Refusal
@@ -189,6 +194,10 @@ pub record ComesTo (plan : PlanSeen) (holds : Spec → Option (List (List ℕ)))
   pub read : AreTablesRead holds (disk_specs plan.setup) sizes tables
   pub mounted : infos_of found ≡ mounted_infos (map (λ (d : ℕ × ℕ). d.0) sizes) tables
   pub lines : with_line_files (size_among sizes) (if_few (Ok found)) plan.setup ≡ files
+
+-- The files of the script's lines: those behind the ones that the tables have.
+abbrev pub line_files_of : List OpenedFile → List OpenedFile → List OpenedFile
+line_files_of found files = drop (length found) files
 
 -- The plan with the numbers of the files of its names.
 abbrev pub numbered_plan : List OpenedFile → PlanSeen → PlanSeen

@@ -1,5 +1,6 @@
 -- How files are taken from tables, placed by lines, and written. Inside: no clause of `run` cites this.
-use Rattle.std.specs.Prelude.{ℕ, ◌≡◌, ◌≢◌, ◌<◌, ◌≤◌, ◌+◌, ◌*◌, ◌^◌, ◌==◌, ◌-◌, List, [], ◌∷◌, ◌++◌, length, map, replicate, All, IsSome, Option, Some, None, Result, Ok, Err, slice_index_or, if◌then◌else◌}
+use Rattle.std.specs.Prelude.{ℕ, ◌≡◌, ◌≢◌, ◌<◌, ◌≤◌, ◌+◌, ◌*◌, ◌^◌, ◌==◌, ◌-◌, List, [], ◌∷◌, ◌++◌, length, drop, map, replicate, All, IsSome, Option, Some}
+use Rattle.std.specs.Prelude.{None, Result, Ok, Err, slice_index_or, if◌then◌else◌}
 use Rattle.std.specs.List.{AllByRecursion}
 use Rattle.std.specs.Ordering.{nat_cmp}
 use Rattle.std.specs.FinMap as finite
@@ -23,6 +24,7 @@ use Rattle.volume_files.specs.declared.stops.Refusal.{Refusal}
 use Rattle.volume_files.specs.declared.stops.Refusal.TheVariants as refusal
 use Rattle.volume_files.specs.declared.table_files.PlaceStop.{PlaceStop}
 use Rattle.volume_files.specs.declared.table_files.PlaceStop.TheVariants as stop
+use Rattle.volume_files.specs.Handed.{SpareBlock, block_told}
 use Rattle.volume_files.specs.Opened.{OpenedFile, info_on, infos_of, stored_bytes, with_line_files, if_few}
 use Rattle.volume_files.specs.Attached.{numbered_seen}
 use Rattle.volume_files.specs.Written.{HasLastFault, open_fault_counts}
@@ -160,6 +162,14 @@ WroteEach seen files old new =
     (i : ℕ) (d : NumberedDisk _) → i < length old
     → (seen (slice_index_or new i d).disk).content ≡ with_file_pages (slice_index_or old i d).number (seen (slice_index_or old i d).disk).content files
 
+-- A disk, or each of several, has what it had in the blocks that are spared, by the disk's number.
+abbrev pub KeepsThere : {D : Type 0} → (D → DiskSeen) → (ℕ → ℕ → Type 0) → NumberedDisk D → NumberedDisk D → Type 0
+KeepsThere seen spared old new = (block : ℕ) → spared old.number block → block_told (seen new.disk).content block ≡ block_told (seen old.disk).content block
+
+abbrev pub KeepThere : {D : Type 0} → (D → DiskSeen) → (ℕ → ℕ → Type 0) → List (NumberedDisk D) → List (NumberedDisk D) → Type 0
+KeepThere seen spared old new =
+    (i : ℕ) (d : NumberedDisk _) → i < length old → KeepsThere seen spared (slice_index_or old i d) (slice_index_or new i d)
+
 -- The pages that a file's bytes fill lie on each disk of its number.
 abbrev pub HasPlaceOn : {D : Type 0} → (D → DiskSeen) → FileInfo → List ℕ → NumberedDisk D → Type 0
 HasPlaceOn seen info bytes disk =
@@ -199,19 +209,23 @@ placing_read seen disks tables setup =
     with_line_files (block_count (finite.from_entries (sizes_by_number seen disks))) (if_few (Ok (found_files (map (numbered_seen seen) disks) tables))) setup
 
 -- The files are placed, and those of the lines were written.
-pub record PlacesFiles {D : Type 0} (seen : D → DiskSeen) (setup : List SetupLine) (old : List (NumberedDisk D)) (tables : List TableSeen) (new : List (NumberedDisk D)) (files : FilesSeen) : Type 0 where
+pub record PlacesFiles {D : Type 0} (seen : D → DiskSeen) (setup : List SetupLine) (old : List (NumberedDisk D)) (tables : List TableSeen)
+    (new : List (NumberedDisk D)) (files : FilesSeen) : Type 0 where
   pub opened : List OpenedFile
   pub read : placing_read seen old tables setup ≡ Ok opened
   pub has : HasOpened files opened
   pub lie : LieRight files
   pub disks : files.disks ≡ finite.from_entries (sizes_by_number seen old)
   pub wrote : WroteEach seen (line_files files (length (found_files (map (numbered_seen seen) old) tables)) setup) old new
+  pub keep : KeepThere seen (SpareBlock (line_files files (length (found_files (map (numbered_seen seen) old) tables)) setup)) old new
 
--- Why placing stopped: a broken rule before anything was written, or the fault of a disk, which breaks no rule.
-abbrev pub PlaceStopped : {D : Type 0} → (D → DiskSeen) → Result (List OpenedFile) Refusal → List (NumberedDisk D) → List (NumberedDisk D) → PlaceStop → Type 0
-PlaceStopped seen read old new stop.Memory = Unit {0}
-PlaceStopped seen read old new (stop.Rule n) = (read ≡ Err (refusal.Rule n)) × (new ≡ old)
-PlaceStopped seen read old new (stop.Fault f) = IsFaultThere seen new f × ((files : List OpenedFile) × (read ≡ Ok files))
+-- Why placing stopped: want of memory or a broken rule before anything was written, or the fault of a disk, which breaks no rule; so many of the files are
+-- those of the tables, and where the bytes of the others lie alone was written.
+abbrev pub PlaceStopped : {D : Type 0} → (D → DiskSeen) → ℕ → Result (List OpenedFile) Refusal → List (NumberedDisk D) → List (NumberedDisk D) → PlaceStop → Type 0
+PlaceStopped seen count read old new stop.Memory = new ≡ old
+PlaceStopped seen count read old new (stop.Rule n) = (read ≡ Err (refusal.Rule n)) × (new ≡ old)
+PlaceStopped seen count read old new (stop.Fault f) =
+    IsFaultThere seen new f × ((files : List OpenedFile) × (read ≡ Ok files) × KeepThere seen (SpareBlock (drop count files)) old new)
 
 -- Why files weren't opened, where they weren't placed.
 abbrev pub open_stop_of : PlaceStop → OpenStop

@@ -100,7 +100,8 @@ FileShows heading file info bytes k0 k1 is_fault counts result =
     AreLinesShown (file_section heading file info bytes) (section_before heading file info bytes) (pages_in (length bytes)) k0 k1 is_fault counts result
 
 -- A file was shown, whose bytes are these.
-pub record FileShown (heading : Heading) (file : ℕ) (info : FileInfo) (k0 k1 : SinkSeen) (d0 d1 : ℕ × DiskSeen) {F : Type 0} (counts : F → FaultCounts) (result : Result (Unit {0}) (ShowStop F)) : Type 0 where
+pub record FileShown (heading : Heading) (file : ℕ) (info : FileInfo) (k0 k1 : SinkSeen) (d0 d1 : ℕ × DiskSeen) {F : Type 0} (counts : F → FaultCounts)
+    (result : Result (Unit {0}) (ShowStop F)) : Type 0 where
   pub bytes : List ℕ
   pub are : AreFileBytes d0.1 info bytes
   pub shown : FileShows heading file info bytes k0 k1 (HasLastFault d0.1.faults d1) counts result
@@ -109,7 +110,8 @@ pub record FileShown (heading : Heading) (file : ℕ) (info : FileInfo) (k0 k1 :
 abbrev pub IsFaultAmong : List (ℕ × DiskSeen) → List (ℕ × DiskSeen) → ℕ → FaultCounts → Type 0
 IsFaultAmong old new number f = (f.number ≡ number) × IsCountedSince old new f
 
-pub record FileShownAmong (heading : Heading) (file : ℕ) (info : FileInfo) (k0 k1 : SinkSeen) (old new : List (ℕ × DiskSeen)) {F : Type 0} (counts : F → FaultCounts) (result : Result (Unit {0}) (ShowStop F)) : Type 0 where
+pub record FileShownAmong (heading : Heading) (file : ℕ) (info : FileInfo) (k0 k1 : SinkSeen) (old new : List (ℕ × DiskSeen)) {F : Type 0}
+    (counts : F → FaultCounts) (result : Result (Unit {0}) (ShowStop F)) : Type 0 where
   pub bytes : List ℕ
   pub count : length bytes ≡ info.length
   pub told : (i : ℕ) (disk : ℕ × DiskSeen) → slice_get old i ≡ Some disk → StoresFile disk info bytes

@@ -1,5 +1,5 @@
 -- The text of files, and what was written of a text. Public clauses cite this.
-use Rattle.std.specs.Prelude.{ℕ, ◌≡◌, ◌<◌, ◌+◌, ◌*◌, ◌⊎◌, List, [], ◌∷◌, ◌++◌, length, map, take, Option, Some, None, if◌then◌else◌}
+use Rattle.std.specs.Prelude.{ℕ, ◌≡◌, ◌<◌, ◌+◌, ◌*◌, ◌⊎◌, List, [], ◌∷◌, ◌++◌, length, map, take}
 use Rattle.block_device.specs.Counts.{HasRisen}
 use Rattle.block_device.specs.StreamSeen.{SinkSeen, text_with_more}
 use Rattle.flat_model.specs.Words.{pages_in}

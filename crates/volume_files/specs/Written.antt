@@ -121,7 +121,8 @@ IsShowStop heading infos bytes k0 k1 old new counts (show.Fault f) =
     × ((file : ℕ) × (page : ℕ) × IsPageUnread infos file page (counts f).number × Wrote k0 k1 (sections_before heading infos bytes file page))
 
 -- The files were shown, or a front of the text, as it stopped.
-abbrev pub ShowsSections : Heading → List FileInfo → (ℕ → List ℕ) → SinkSeen → SinkSeen → List (ℕ × DiskSeen) → List (ℕ × DiskSeen) → {F : Type 0} → (F → FaultCounts) → Result (Unit {0}) (ShowStop F) → Type 0
+abbrev pub ShowsSections : Heading → List FileInfo → (ℕ → List ℕ) → SinkSeen → SinkSeen → List (ℕ × DiskSeen) → List (ℕ × DiskSeen) → {F : Type 0}
+    → (F → FaultCounts) → Result (Unit {0}) (ShowStop F) → Type 0
 ShowsSections heading infos bytes k0 k1 old new counts (Ok done) = Wrote k0 k1 (file_sections heading infos bytes)
 ShowsSections heading infos bytes k0 k1 old new counts (Err stop) = IsShowStop heading infos bytes k0 k1 old new counts stop
 

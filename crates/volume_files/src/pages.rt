@@ -3,7 +3,8 @@ ghost use Rattle.std.specs.Prelude.{◌≡◌, ◌≤◌, ◌<◌, ◌+◌, ◌-
 ghost use Rattle.flat_model.specs.Words.{pages_in};
 ghost use Rattle.vnode_files.specs.Files.{vnode_at};
 ghost use Rattle.volume_format.specs.Table.{front_block};
-ghost use Rattle.volume_files.specs.Placing.{HasPlaceOn, HasPlaces, HavePlaces, IsFaultOne, IsFaultThere, RemainThere, RemainsThere, WroteEach, WroteOne, bytes_given, filled_pages, line_files, with_block_pages, with_file};
+ghost use Rattle.volume_files.specs.Handed.{LiesBeside, SpareBlock, SparesBlock};
+ghost use Rattle.volume_files.specs.Placing.{KeepThere, KeepsThere, HasPlaceOn, HasPlaces, HavePlaces, IsFaultOne, IsFaultThere, RemainThere, RemainsThere, WroteEach, WroteOne, bytes_given, filled_pages, line_files, with_block_pages, with_file};
 
 use block_device::{Disk, OpenFault, Unopened};
 use vm_script::{SetupAct, SetupLine};
@@ -25,8 +26,11 @@ fn page_of(bytes: &[u8], page: usize) -> [u8; 4096]
 fn write_pages<D: Disk>(disk: &mut Unopened<D>, start: u32, bytes: &[u8]) -> Result<(), OpenFault>
     requires inside { start + pages_in (length bytes.now) ≤ (D.seen disk.old.disk).size }
     requires fits { start + pages_in (length bytes.now) < 2 ^ 32 }
+    // The pages are there, and no other block changes, whatever fails.
     ensures ok { OnOk result ((D.seen disk.new.disk).content
         ≡ with_block_pages (D.seen disk.old.disk).content start (filled_pages bytes.now)) }
+    ensures keeps { KeepsThere D.seen
+        (λ number block. LiesBeside start (pages_in (length bytes.now)) block) disk.old disk.new }
     ensures stays { RemainsThere D.seen disk.old disk.new }
     ensures fault { IfErr result (IsFaultOne D.seen disk.new) }
 {
@@ -51,6 +55,7 @@ fn write_on<D: Disk>(disk: &mut Unopened<D>, info: &FileInfo, bytes: &[u8]) -> R
     requires { HasPlaceOn D.seen info.now bytes.now disk.old }
     ensures ok { OnOk result ((D.seen disk.new.disk).content
         ≡ with_file disk.old.number (D.seen disk.old.disk).content info.now bytes.now) }
+    ensures keeps { KeepsThere D.seen (SparesBlock info.now bytes.now) disk.old disk.new }
     ensures stays { RemainsThere D.seen disk.old disk.new }
     ensures fault { IfErr result (IsFaultOne D.seen disk.new) }
 {
@@ -68,6 +73,7 @@ fn write_file<D: Disk>(
 ) -> Result<(), OpenFault>
     requires { HasPlaces D.seen disks.old info.now bytes.now }
     ensures ok { OnOk result (WroteOne D.seen info.now bytes.now disks.old disks.new) }
+    ensures keep { KeepThere D.seen (SparesBlock info.now bytes.now) disks.old disks.new }
     ensures stay { RemainThere D.seen disks.old disks.new }
     ensures fault { IfErr result (IsFaultThere D.seen disks.new) }
 {
@@ -105,6 +111,8 @@ pub(crate) fn write_lines<D: Disk>(
     // Each disk has its files' pages; or one of them failed, and counted it.
     ensures ok { OnOk result
         (WroteEach D.seen (line_files files.now first setup.now) disks.old disks.new) }
+    ensures keep { KeepThere D.seen
+        (SpareBlock (line_files files.now first setup.now)) disks.old disks.new }
     ensures stay { RemainThere D.seen disks.old disks.new }
     ensures fault { IfErr result (IsFaultThere D.seen disks.new) }
 {

@@ -8,7 +8,7 @@ ghost use Rattle.vnode_files.specs.Vnode.{IsSoundVnode};
 ghost use Rattle.volume_files.specs.Attached.{AreAttached, AreMounted, ArePlaced, HasRooms, StopsEarly, attached_seen, numbered_seen};
 ghost use Rattle.volume_files.specs.Handed.{handed_count};
 ghost use Rattle.volume_files.specs.Opened.{OpenedFile, numbered_plan};
-ghost use Rattle.volume_files.specs.Placing.{Distinct, IsPlaceable, PlaceStopped, PlacesFiles, RemainThere, attached_numbers, open_stop_of, names_made, placing_read};
+ghost use Rattle.volume_files.specs.Placing.{Distinct, IsPlaceable, PlaceStopped, PlacesFiles, RemainThere, attached_numbers, found_files, open_stop_of, names_made, placing_read};
 
 use crate::attaching::{Attached, hand_back};
 use crate::file_lines::add_lines;
@@ -54,30 +54,38 @@ fn names_of(alloc: Global, files: &Files) -> Result<Vec<ByteText>, AllocError>
     Ok(names)
 }
 
-// Takes the files of the tables, places those of the lines, and writes their pages.
+// Takes the files of the tables, places those of the lines, and writes their pages; all memory is taken before.
 fn place_files<D: Disk>(
     alloc: Global,
     setup: &[SetupLine],
     tables: &[Table],
     disks: &mut [Unopened<D>],
-) -> Result<Files, PlaceStop>
+) -> Result<(Files, Vec<ByteText>), PlaceStop>
     // The disks are mounted, and the lines keep the rules.
     requires mounted { (holds : Spec → Option (List (List ℕ))) × (specs : List Spec)
         × AreMounted holds specs (map (numbered_seen D.seen) disks.old) tables.now }
     requires distinct { Distinct (attached_numbers disks.old) }
     requires placeable { All (λ l. IsPlaceable l.act) setup.now }
 
-    // The files are placed, or why not; the disks stay where they are.
-    ensures ok { IfOk result (PlacesFiles D.seen setup.now disks.old tables.now disks.new) }
+    // The files are placed, with their names.
+    ensures ok { IfOk result (λ r.
+        PlacesFiles D.seen setup.now disks.old tables.now disks.new r.0) }
+    ensures names { IfOk result (λ r. r.1.items ≡ names_made r.0) }
+    ensures sound { IfOk result (λ r. All IsSoundVnode r.0.files) }
+    ensures few { IfOk result (λ r. length r.0.files ≤ 64) }
+
+    // Or why not; the disks stay where they are.
     ensures stop { IfErr result (PlaceStopped D.seen
+        (length (found_files (map (numbered_seen D.seen) disks.old) tables.now))
         (placing_read D.seen disks.old tables.now setup.now) disks.old disks.new) }
     ensures remain { RemainThere D.seen disks.old disks.new }
 {
     let mut files = mount(alloc, disks, tables)?;
     let first = files.count();
     add_lines(alloc, setup, &mut files)?;
+    let names = names_of(alloc, &files)?;
     write_lines(setup, first, &files, disks)?;
-    Ok(files)
+    Ok((files, names))
 }
 
 // Places the files, and gives the plan their numbers.
@@ -102,11 +110,11 @@ fn number_files<D: Disk>(
 
     // Or why not; the disks stay where they are.
     ensures stop { IfErr result (PlaceStopped D.seen
+        (length (found_files (map (numbered_seen D.seen) disks.old) tables.now))
         (placing_read D.seen disks.old tables.now plan.old.setup) disks.old disks.new) }
     ensures remain { RemainThere D.seen disks.old disks.new }
 {
-    let files = place_files(alloc, plan.setup(), tables, disks)?;
-    let names = names_of(alloc, &files)?;
+    let (files, names) = place_files(alloc, plan.setup(), tables, disks)?;
     plan.set_files(&names);
     Ok(files)
 }

@@ -1,5 +1,6 @@
 -- What the fields of a table's spelling say.
-use Rattle.std.proofs.Common.{ℕ, suc, ◌≡◌, ◌<◌, ◌≤◌, ◌+◌, ◌-◌, ◌*◌, ◌^◌, Bool, true, false, ◌&&◌, ltb, leb, List, [], ◌∷◌, ◌++◌, length, replicate, refl, ap, sym, subst, ◌∙◌, inl, inr, arith, append_assoc, length-append}
+use Rattle.std.proofs.Common.{ℕ, suc, ◌≡◌, ◌<◌, ◌≤◌, ◌+◌, ◌-◌, ◌*◌, ◌^◌, Bool, true, false, ◌&&◌, ltb, leb, List, [], ◌∷◌, ◌++◌, length, replicate}
+use Rattle.std.proofs.Common.{refl, ap, sym, subst, ◌∙◌, inl, inr, arith, append_assoc, length-append}
 use Rattle.std.specs.Prelude.{if◌then◌else◌, slice_range, codes}
 use Rattle.std.specs.List.{flat_map, range_with_len}
 use Rattle.std.proofs.lemmas.Bool.{cases_lt, and_parts, ltb-true, leb-true}
@@ -191,7 +192,9 @@ extent-number t s j there from n within fits e =
 
 extent-first : (e : Extent) → slice_range (extent_bytes e) 0 4 ≡ number_bytes e.start
 unfolding extent_bytes
-extent-first e = in-front (number_bytes e.start) (number_bytes e.pages) (number_bytes e.start) 0 4 (omega arith) (omega (arith, length-number_bytes e.start)) (take_all 4 (number_bytes e.start) (omega (arith, length-number_bytes e.start)))
+extent-first e =
+    in-front (number_bytes e.start) (number_bytes e.pages) (number_bytes e.start) 0 4 (omega arith)
+    (omega (arith, length-number_bytes e.start)) (take_all 4 (number_bytes e.start) (omega (arith, length-number_bytes e.start)))
 
 extent-second : (e : Extent) → slice_range (extent_bytes e) 4 8 ≡ number_bytes e.pages
 unfolding extent_bytes
@@ -236,7 +239,8 @@ field-extent t s h j there =
     let e = extent_at (all_extents t.entries) j in
     let d = on-disk-all t h j there in
     let zero-more : 2080 + 8 * j + 0 ≡ 2080 + 8 * j = omega arith in
-    let start : number_at (encoding t) (2080 + 8 * j) ≡ e.start = ap (number_at (encoding t)) (sym zero-more) ∙ extent-number t s j there 0 e.start (omega arith) (omega (arith, d.end, h.number)) (extent-first e) in
+    let start : number_at (encoding t) (2080 + 8 * j) ≡ e.start = ap (number_at (encoding t)) (sym zero-more)
+    ∙ extent-number t s j there 0 e.start (omega arith) (omega (arith, d.end, h.number)) (extent-first e) in
     let pages : number_at (encoding t) (2080 + 8 * j + 4) ≡ e.pages = extent-number t s j there 4 e.pages (omega arith) (omega (arith, d.end, h.number)) (extent-second e) in
     λ i. record { start = start i; pages = pages i }
 
@@ -252,7 +256,9 @@ fields t h =
       two = number-read (encoding t) 8 2 (omega arith) (in-header t (number_bytes 2) 8 12 (omega arith) (omega arith) p.two);
       blocks = number-read (encoding t) 12 t.blocks h.number (in-header t (number_bytes t.blocks) 12 16 (omega arith) (omega arith) p.blocks);
       files = number-read (encoding t) 16 n (omega (arith, s.files)) (in-header t (number_bytes n) 16 20 (omega arith) (omega arith) p.files);
-      extents = number-read (encoding t) 20 (length (all_extents t.entries)) (omega (arith, s.count)) (in-header t (number_bytes (length (all_extents t.entries))) 20 24 (omega arith) (omega arith) p.extents);
+      extents =
+          number-read (encoding t) 20 (length (all_extents t.entries)) (omega (arith, s.count))
+          (in-header t (number_bytes (length (all_extents t.entries))) 20 24 (omega arith) (omega arith) p.extents);
       zeros = in-header t (replicate 8 0) 24 32 (omega arith) (omega arith) p.zeros;
       name = field-name t s;
       size = λ i there. entry-number t s i there 16 (entry_at t.entries i).length (omega arith) (h.files i there).number (s.entry i there).size;
@@ -260,8 +266,14 @@ fields t h =
       count = λ i there. entry-number t s i there 24 (length (entry_at t.entries i).extents) (omega arith) (omega (arith, s.count, up-to-within t.entries i there)) (s.entry i there).count;
       mode = λ i there. entry-number t s i there 28 (if (entry_at t.entries i).writable then 1 else 0) (omega arith) (mode-fits (entry_at t.entries i).writable) (s.entry i there).mode;
       extent = field-extent t s h;
-      no_entry = in-entries t s (32 * n) 2048 (omega (arith, s.files)) (omega arith) ∙ slice-last entries (replicate (2048 - length entries) 0) (32 * n) 2048 s.entries (omega (arith, s.entries, s.files, length-replicate {A = ℕ} (2048 - length entries) 0));
-      no_extent = in-extents t s (8 * length (all_extents t.entries)) 2016 ∙ slice-last extents (replicate (2016 - length extents) 0) (8 * length (all_extents t.entries)) 2016 s.extents (omega (arith, s.extents, s.count, length-replicate {A = ℕ} (2016 - length extents) 0));
+      no_entry =
+          in-entries t s (32 * n) 2048 (omega (arith, s.files)) (omega arith)
+          ∙ slice-last entries (replicate (2048 - length entries) 0) (32 * n) 2048 s.entries
+          (omega (arith, s.entries, s.files, length-replicate {A = ℕ} (2048 - length entries) 0));
+      no_extent =
+          in-extents t s (8 * length (all_extents t.entries)) 2016
+          ∙ slice-last extents (replicate (2016 - length extents) 0) (8 * length (all_extents t.entries)) 2016 s.extents
+          (omega (arith, s.extents, s.count, length-replicate {A = ℕ} (2016 - length extents) 0));
     }
 
 pub length-encoding : (t : TableSeen) → Sizes t → length (encoding t) ≡ 4096

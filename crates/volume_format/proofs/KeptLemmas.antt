@@ -123,7 +123,8 @@ has-from b e low high = and_from (leb e.start b) (ltb b (extent_end e)) (le-leb 
 common : (own others : List Extent) (j k b : ℕ) → AreFree own others → j < length own → k < length others
     → has_block b (extent_at own j) ≡ true → has_block b (extent_at others k) ≡ true → ⊥
 common own others j k b free a c x y =
-    both_ways (list_any (has_block b) others) (free b (list_any_at (has_block b) own j (record { start = 0; pages = 0 }) a x)) (list_any_at (has_block b) others k (record { start = 0; pages = 0 }) c y)
+    both_ways (list_any (has_block b) others) (free b (list_any_at (has_block b) own j (record { start = 0; pages = 0 }) a x))
+    (list_any_at (has_block b) others k (record { start = 0; pages = 0 }) c y)
 
 cross-free : (blocks : ℕ) (own others : List Extent) → AreFree own others → ((j : ℕ) → j < length own → OnDisk blocks (extent_at own j))
     → ((k : ℕ) → k < length others → OnDisk blocks (extent_at others k)) → Cross own others
@@ -212,7 +213,8 @@ order-added t e n a is i there =
           let one = ap front (get_or-insert_below es n e no_entry i low within) in
           let two = ap (λ (k : ℕ). front (entry_at (insert es n e) k)) last in
           let three = ap front (get_or-insert_at es n e no_entry within) in
-          let least = ltb-true (front_block (entry_at es i).extents) (front_block e.extents) (prefix_len_passes (λ f. ltb (front_block f.extents) (front_block e.extents)) es i no_entry (omega (arith, is))) in
+          let least = ltb-true (front_block (entry_at es i).extents) (front_block e.extents)
+          (prefix_len_passes (λ f. ltb (front_block f.extents) (front_block e.extents)) es i no_entry (omega (arith, is))) in
           omega (arith, one, two, three, least)
       | inr other ↦ elim other [
         | inl before ↦
@@ -295,17 +297,21 @@ set-extents es i e there =
     ∙ flat_map-append (λ (f : FileInfo). f.extents) (take i es) (e ∷ drop (suc i) es)
     ∙ ap (λ (k : ℕ). all_extents (take i es) ++ (e.extents ++ all_extents (drop k es))) step
 
-removed-on-disk : (t : TableSeen) → IsVolumeTable t → (i : ℕ) → i < length t.entries → (j : ℕ) → j < length (all_extents (remove t.entries i)) → OnDisk t.blocks (extent_at (all_extents (remove t.entries i)) j)
+removed-on-disk : (t : TableSeen) → IsVolumeTable t → (i : ℕ) → i < length t.entries → (j : ℕ)
+    → j < length (all_extents (remove t.entries i)) → OnDisk t.blocks (extent_at (all_extents (remove t.entries i)) j)
 removed-on-disk t h i there =
     let es = t.entries in
     let size = length-remove es i there in
     each-of-all (OnDisk t.blocks) (remove es i) (λ k within j inside. elim (cases_lt k i) [
       | inl below ↦
           let at = get_or-remove_below es i no_entry k below there in
-          subst (λ (f : FileInfo). OnDisk t.blocks (extent_at f.extents j)) (sym at) (own-on-disk t.blocks (entry_at es k) (h.files k (omega arith)) j (omega (arith, ap (λ (f : FileInfo). length f.extents) at)))
+          subst (λ (f : FileInfo). OnDisk t.blocks (extent_at f.extents j)) (sym at)
+          (own-on-disk t.blocks (entry_at es k) (h.files k (omega arith)) j (omega (arith, ap (λ (f : FileInfo). length f.extents) at)))
       | inr above ↦
           let at = get_or-remove_above es i no_entry k above there in
-          subst (λ (f : FileInfo). OnDisk t.blocks (extent_at f.extents j)) (sym at) (own-on-disk t.blocks (entry_at es (k + 1)) (h.files (k + 1) (omega (arith, size))) j (omega (arith, ap (λ (f : FileInfo). length f.extents) at)))
+          subst (λ (f : FileInfo). OnDisk t.blocks (extent_at f.extents j)) (sym at)
+          (own-on-disk t.blocks (entry_at es (k + 1)) (h.files (k + 1) (omega (arith, size))) j
+          (omega (arith, ap (λ (f : FileInfo). length f.extents) at)))
     ])
 
 same-at : {A : Type 0} (field : FileInfo → A) (es : List FileInfo) (i k : ℕ) (e : FileInfo) → i < length es → field e ≡ field (entry_at es i) → field (entry_at (set es i e) k) ≡ field (entry_at es k)

@@ -9,8 +9,11 @@ use Rattle.std.proofs.lemmas.List.Concat.{length-flat_map, flat_map_single}
 use Rattle.std.proofs.lemmas.List.FromFn.{length-map-range_with_len}
 use Rattle.vnode_files.specs.declared.vnode.FileInfo.{FileInfo}
 use Rattle.volume_format.specs.Table.{HasRoom, all_extents}
-use Rattle.volume_format.specs.Layout.{number_at, are_zeros, has_magic, version, file_count, entry_start, extent_start, name_field, mode_of_file, table_extent, own_extent, extents_of_file, first_extent, extents_number, extent_count, file_in}
-use Rattle.volume_format.specs.Rules.{test, first_failed, is_name_field, header_tests, header_tests_1, header_tests_2, name_tests, extents_before, extents_test, extent_tests, extent_tests_1, last_tests_1, last_tests_2, entry_tests_1, entry_tests_2, end_tests_1, end_tests_2, file_tests_1, file_tests_2, tests}
+use Rattle.volume_format.specs.Layout.{number_at, are_zeros, has_magic, version, file_count, entry_start, extent_start, name_field, mode_of_file}
+use Rattle.volume_format.specs.Layout.{table_extent, own_extent, extents_of_file, first_extent, extents_number, extent_count, file_in}
+use Rattle.volume_format.specs.Rules.{test, first_failed, is_name_field, header_tests, header_tests_1, header_tests_2, name_tests, extents_before}
+use Rattle.volume_format.specs.Rules.{extents_test, extent_tests, extent_tests_1, last_tests_1, last_tests_2, entry_tests_1, entry_tests_2}
+use Rattle.volume_format.specs.Rules.{end_tests_1, end_tests_2, file_tests_1, file_tests_2, tests}
 use Rattle.volume_format.proofs.RangeLemmas.{range-more}
 use Rattle.volume_format.proofs.TestLemmas.{passed-test, passed-two, passed-three, passed-append, passed-each}
 
@@ -143,14 +146,24 @@ length-all_extents block n =
 
 lengths-1 : (block : List ℕ) (n : ℕ) → version block ≡ 1 → sum_by (λ k. length (extents_of_file block k)) (range_with_len 0 n) ≡ n
 lengths-1 block n e =
-    ap (λ (b : Bool). sum_by (λ k. length (if b then own_extent block k ∷ [] else map (table_extent block) (range_with_len (first_extent block k) (extents_number block k)))) (range_with_len 0 n)) (eq-eqb (version block) 1 e)
+    ap
+    (λ (b : Bool). sum_by
+    (λ k. length
+    (if b then own_extent block k ∷ [] else map (table_extent block) (range_with_len (first_extent block k) (extents_number block k))))
+    (range_with_len 0 n))
+    (eq-eqb (version block) 1 e)
     ∙ sym (length-flat_map (λ (k : ℕ). k ∷ []) (range_with_len 0 n))
     ∙ ap length (flat_map_single (λ (k : ℕ). k) (range_with_len 0 n))
     ∙ length-map-range_with_len (λ (k : ℕ). k) 0 n
 
 pub lengths-2 : (block : List ℕ) (n : ℕ) → version block ≢ 1 → sum_by (λ k. length (extents_of_file block k)) (range_with_len 0 n) ≡ extents_before block n
 lengths-2 block n ne =
-    ap (λ (b : Bool). sum_by (λ k. length (if b then own_extent block k ∷ [] else map (table_extent block) (range_with_len (first_extent block k) (extents_number block k)))) (range_with_len 0 n)) (ne_eqb (version block) 1 ne)
+    ap
+    (λ (b : Bool). sum_by
+    (λ k. length
+    (if b then own_extent block k ∷ [] else map (table_extent block) (range_with_len (first_extent block k) (extents_number block k))))
+    (range_with_len 0 n))
+    (ne_eqb (version block) 1 ne)
     ∙ simp length-map-range_with_len
 
 pub passed-room : (block : List ℕ) (blocks : ℕ) → Passed block blocks → HasRoom (map (file_in block) (range_with_len 0 (file_count block)))

@@ -80,6 +80,7 @@ pub no-place : (blocks : ℕ) (extents : List Extent) (pages start : ℕ) (e : E
 no-place blocks extents pages start e is other low high place =
     let way = in_way-from start (start + pages) e (find-passes (is_in_way start (start + pages)) extents e is) in
     elim (cases_lt other e.start) [
-      | inl before ↦ both_ways (list_any (has_block e.start) extents) (place.free e.start (omega arith) (omega (arith, way.low))) (taken-by extents start (start + pages) e is e.start (omega arith) way.pages)
+      | inl before ↦ both_ways (list_any (has_block e.start) extents) (place.free e.start (omega arith) (omega (arith, way.low)))
+          (taken-by extents start (start + pages) e is e.start (omega arith) way.pages)
       | inr from ↦ both_ways (list_any (has_block other) extents) (place.free other (omega arith) (omega (arith, way.blocks))) (taken-by extents start (start + pages) e is other from high)
     ]

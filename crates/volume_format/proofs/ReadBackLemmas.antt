@@ -1,5 +1,6 @@
 -- A block with the fields of a volume's table keeps every rule, and says that table.
-use Rattle.std.proofs.Common.{ℕ, zero, suc, ◌≡◌, ◌≢◌, ◌<◌, ◌≤◌, ◌+◌, ◌-◌, ◌*◌, Bool, true, false, ◌&&◌, ◌||◌, not, eqb, ltb, leb, List, [], ◌∷◌, ◌++◌, None, Ok, length, take, drop, map, get_or, replicate, refl, ap, sym, subst, ◌∙◌, arith, length-append}
+use Rattle.std.proofs.Common.{ℕ, zero, suc, ◌≡◌, ◌≢◌, ◌<◌, ◌≤◌, ◌+◌, ◌-◌, ◌*◌, Bool, true, false, ◌&&◌, ◌||◌, not, eqb, ltb, leb, List, [], ◌∷◌, ◌++◌}
+use Rattle.std.proofs.Common.{None, Ok, length, take, drop, map, get_or, replicate, refl, ap, sym, subst, ◌∙◌, arith, length-append}
 use Rattle.std.specs.Prelude.{◌==◌, if◌then◌else◌, slice_range, codes}
 use Rattle.std.specs.List.{flat_map, list_all, list_any, range_with_len, prefix_len}
 use Rattle.std.proofs.lemmas.Bool.{and_parts, and_from, or_left, or_right, not_from_false, false_from_ne_true, lt-ltb, le-leb, eq-eqb, ne_eqb, cond-false}
@@ -12,8 +13,12 @@ use Rattle.vnode_files.specs.declared.extent.Extent.{Extent}
 use Rattle.vnode_files.specs.declared.vnode.FileInfo.{FileInfo}
 use Rattle.vnode_files.specs.Grow.{extent_end, page_count}
 use Rattle.volume_format.specs.Table.{TableSeen, all_extents, entry_at, no_entry, front_block}
-use Rattle.volume_format.specs.Layout.{number_at, are_same, are_zeros, has_magic, version, file_count, entry_start, extent_start, name_field, text_before_zero, name_of_file, length_of_file, mode_of_file, extent_count, table_extent, own_extent, first_extent, extents_number, extents_of_file, file_in, table_in}
-use Rattle.volume_format.specs.Rules.{test, first_failed, is_table_name_byte, is_name_field, is_on_disk, do_meet, header_tests, header_tests_1, header_tests_2, name_tests, extents_before, extents_test, extent_tests, order_test_2, new_name_test, last_tests_2, entry_tests_2, end_tests_2, file_tests_1, file_tests_2, tests, reading}
+use Rattle.volume_format.specs.Layout.{number_at, are_same, are_zeros, has_magic, version, file_count, entry_start, extent_start, name_field}
+use Rattle.volume_format.specs.Layout.{text_before_zero, name_of_file, length_of_file, mode_of_file, extent_count, table_extent, own_extent}
+use Rattle.volume_format.specs.Layout.{first_extent, extents_number, extents_of_file, file_in, table_in}
+use Rattle.volume_format.specs.Rules.{test, first_failed, is_table_name_byte, is_name_field, is_on_disk, do_meet, header_tests, header_tests_1}
+use Rattle.volume_format.specs.Rules.{header_tests_2, name_tests, extents_before, extents_test, extent_tests, order_test_2, new_name_test}
+use Rattle.volume_format.specs.Rules.{last_tests_2, entry_tests_2, end_tests_2, file_tests_1, file_tests_2, tests, reading}
 use Rattle.volume_format.specs.Writing.{padded_field, entries_bytes, extents_bytes, extents_up_to, encoding}
 use Rattle.volume_format.specs.Volume.{extent_at, IsVolumeName, IsVolumeTable}
 use Rattle.volume_format.proofs.TestLemmas.{passes-test, passes-append, passes-each}
@@ -54,7 +59,10 @@ name-read name h =
     let count : prefix_len (λ b. not (eqb b 0)) (name ++ zeros) ≡ length name =
     prefix_len_is (λ b. not (eqb b 0)) (name ++ zeros) (length name) 0 (omega (arith, size))
     (λ k there. ap (λ b. not (eqb b 0)) (get_or_append_left name zeros 0 k there) ∙ not-zero (get_or name k 0) (each-passes is_table_name_byte name h.bytes k there))
-    (λ more. ap (λ b. not (eqb b 0)) (get_or-append_right name zeros (length name) (length name) 0 refl (omega arith) ∙ get_or-replicate (16 - length name) (length name - length name) 0 0 (omega (arith, size, many)))) in
+    (λ more. ap (λ b. not (eqb b 0))
+    (get_or-append_right name zeros (length name) (length name) 0 refl (omega arith)
+    ∙ get_or-replicate (16 - length name) (length name - length name) 0 0 (omega (arith, size, many))))
+    in
     ap (λ n. take n (name ++ zeros)) count ∙ take_at name zeros (length name) refl
 
 pub name-field : (name : List ℕ) → IsVolumeName name → is_name_field (padded_field 16 name) ≡ true
@@ -151,7 +159,9 @@ parted-from t block s i (suc k) there within =
     let own = (entry_at t.entries i).extents in
     let back : first + suc k - 1 ≡ first + k = omega arith in
     let step : suc k ≡ k + 1 = omega arith in
-    let before : extent_end (table_extent block (first + suc k - 1)) ≡ extent_end (extent_at own k) = ap (λ (n : ℕ). extent_end (table_extent block n)) back ∙ ap extent_end (own-extent t block s i k there (omega arith)) in
+    let before : extent_end (table_extent block (first + suc k - 1))
+    ≡ extent_end (extent_at own k) = ap (λ (n : ℕ). extent_end (table_extent block n)) back
+    ∙ ap extent_end (own-extent t block s i k there (omega arith)) in
     let here : (table_extent block (first + suc k)).start ≡ (extent_at own (k + 1)).start = ap (λ (e : Extent). e.start) (own-extent t block s i (suc k) there within ∙ ap (extent_at own) step) in
     or_right (first + suc k == first) (not (extent_end (table_extent block (first + suc k - 1)) == (table_extent block (first + suc k)).start))
     (not_from_false (extent_end (table_extent block (first + suc k - 1)) == (table_extent block (first + suc k)).start)
@@ -261,7 +271,10 @@ end-holds t block s m n entries extents =
     are-zeros (slice_range block (extent_start (extent_count block)) 4096) n (ap (λ (k : ℕ). slice_range block (extent_start k) 4096) f.extents ∙ extents) in
     let ends = are_zeros (slice_range block (entry_start (file_count block)) 2080) && are_zeros (slice_range block (extent_start (extent_count block)) 4096) in
     passes-test 19 (extents_before block (file_count block) == extent_count block) (test 12 ends ∷ []) (eq-eqb (extents_before block (file_count block)) (extent_count block) all)
-    (passes-test 12 ends [] (and_from (are_zeros (slice_range block (entry_start (file_count block)) 2080)) (are_zeros (slice_range block (extent_start (extent_count block)) 4096)) no_entry no_extent) refl)
+    (passes-test 12 ends []
+    (and_from (are_zeros (slice_range block (entry_start (file_count block)) 2080))
+    (are_zeros (slice_range block (extent_start (extent_count block)) 4096)) no_entry no_extent)
+    refl)
 
 -- Every rule.
 tests-hold : (t : TableSeen) (block : List ℕ) (m n : ℕ) → Spelled t block

@@ -1,5 +1,6 @@
 -- A block of version 2 in which every rule holds is the spelling of the table that its fields say.
-use Rattle.std.proofs.Common.{ℕ, zero, suc, ◌≡◌, ◌≢◌, ◌<◌, ◌≤◌, ◌+◌, ◌-◌, ◌*◌, true, ◌&&◌, not, eqb, ltb, leb, List, [], ◌∷◌, ◌++◌, None, length, take, drop, map, get_or, replicate, refl, ap, sym, subst, ◌∙◌, inl, inr, arith, length-drop}
+use Rattle.std.proofs.Common.{ℕ, zero, suc, ◌≡◌, ◌≢◌, ◌<◌, ◌≤◌, ◌+◌, ◌-◌, ◌*◌, true, ◌&&◌, not, eqb, ltb, leb, List, [], ◌∷◌, ◌++◌, None, length}
+use Rattle.std.proofs.Common.{take, drop, map, get_or, replicate, refl, ap, sym, subst, ◌∙◌, inl, inr, arith, length-drop}
 use Rattle.std.specs.Prelude.{◌==◌, if◌then◌else◌, slice_range, codes}
 use Rattle.std.specs.List.{flat_map, list_all, range_with_len, prefix_len}
 use Rattle.std.specs.Int.{w32, from_be_bytes}
@@ -13,7 +14,9 @@ use Rattle.std.proofs.lemmas.Slice.Eq.{IsBytesEq, compares_Decides}
 use Rattle.vnode_files.specs.declared.extent.Extent.{Extent}
 use Rattle.vnode_files.specs.declared.vnode.FileInfo.{FileInfo}
 use Rattle.volume_format.specs.Table.{all_extents, entry_at, no_entry}
-use Rattle.volume_format.specs.Layout.{number_at, are_same, are_zeros, version, file_count, name_field, text_before_zero, name_of_file, length_of_file, mode_of_file, extent_count, table_extent, own_extent, first_extent, extents_number, extents_of_file, file_in, table_in}
+use Rattle.volume_format.specs.Layout.{number_at, are_same, are_zeros, version, file_count, name_field, text_before_zero, name_of_file}
+use Rattle.volume_format.specs.Layout.{length_of_file, mode_of_file, extent_count, table_extent, own_extent, first_extent, extents_number}
+use Rattle.volume_format.specs.Layout.{extents_of_file, file_in, table_in}
 use Rattle.volume_format.specs.Rules.{first_failed, is_table_name_byte, is_name_field, name_tests, extents_before, tests}
 use Rattle.volume_format.specs.Writing.{padded_field, number_bytes, extent_bytes, file_entry_bytes, entry_bytes, entries_bytes, extents_bytes, extents_up_to, header_bytes, encoding}
 use Rattle.volume_format.proofs.RangeLemmas.{range-more, range-join}
@@ -36,7 +39,8 @@ bytes-slice block bytes at end i = elim (cases_lt i (end - at)) [
 pub number-spelled : (block : List ℕ) → IsBlock block → (at : ℕ) → at + 4 ≤ 4096 → number_bytes (number_at block at) ≡ slice_range block at (at + 4)
 unfolding number_bytes number_at
 number-spelled block h at within =
-    be_bytes_4 (slice_range block at (at + 4)) (from_be_bytes w32 (slice_range block at (at + 4))) (length-slice block at (at + 4) (omega arith) (omega (arith, h.whole)) ∙ omega arith) (bytes-slice block h.bytes at (at + 4)) refl
+    be_bytes_4 (slice_range block at (at + 4)) (from_be_bytes w32 (slice_range block at (at + 4)))
+    (length-slice block at (at + 4) (omega arith) (omega (arith, h.whole)) ∙ omega arith) (bytes-slice block h.bytes at (at + 4)) refl
 
 -- Two lists of bytes that are the same.
 pub are_same-is : IsBytesEq are_same
@@ -54,7 +58,8 @@ name-spelled field size h =
     let long : length name ≡ count = length-prefix_len (λ b. not (eqb b 0)) field in
     let outer = and_parts (ltb 0 (length name) && list_all is_table_name_byte name && are_zeros (drop (length name) field)) (not (are_same name (codes "zero"))) h in
     let inner = and_parts (ltb 0 (length name) && list_all is_table_name_byte name) (are_zeros (drop (length name) field)) outer.0 in
-    let zeros : drop (length name) field ≡ replicate (16 - length name) 0 = zeros-are (drop (length name) field) inner.1 ∙ ap (λ (n : ℕ). replicate n 0) (length-drop (length name) field ∙ ap (λ (n : ℕ). n - length name) size) in
+    let zeros : drop (length name) field ≡ replicate (16 - length name) 0 = zeros-are (drop (length name) field) inner.1
+    ∙ ap (λ (n : ℕ). replicate n 0) (length-drop (length name) field ∙ ap (λ (n : ℕ). n - length name) size) in
     ap (λ (xs : List ℕ). name ++ xs) (sym zeros)
     ∙ ap (λ (n : ℕ). take count field ++ drop n field) long
     ∙ take-append-drop count field
@@ -71,7 +76,9 @@ five-parts : (xs : List ℕ) (at : ℕ) (a b d e f : List ℕ)
 five-parts xs at a b d e f ea eb ed ee ef =
     let two : a ++ b ≡ slice_range xs at (at + 20) = parts-joined xs at (at + 16) (at + 20) a b (omega arith) (omega arith) ea (eb ∙ ap (slice_range xs (at + 16)) (omega arith)) in
     let three : a ++ b ++ d ≡ slice_range xs at (at + 24) = parts-joined xs at (at + 20) (at + 24) (a ++ b) d (omega arith) (omega arith) two (ed ∙ ap (slice_range xs (at + 20)) (omega arith)) in
-    let four : a ++ b ++ d ++ e ≡ slice_range xs at (at + 28) = parts-joined xs at (at + 24) (at + 28) (a ++ b ++ d) e (omega arith) (omega arith) three (ee ∙ ap (slice_range xs (at + 24)) (omega arith)) in
+    let four : a ++ b ++ d ++ e
+    ≡ slice_range xs at (at + 28) = parts-joined xs at (at + 24) (at + 28) (a ++ b ++ d) e (omega arith) (omega arith) three
+    (ee ∙ ap (slice_range xs (at + 24)) (omega arith)) in
     parts-joined xs at (at + 28) (at + 32) (a ++ b ++ d ++ e) f (omega arith) (omega arith) four (ef ∙ ap (slice_range xs (at + 28)) (omega arith))
 
 -- The bytes of a file's entry are where it was read.
@@ -95,10 +102,14 @@ entry-spelled block h i there ne named =
     name-spelled (name_field block i) (length-slice block at (at + 16) (omega arith) (omega (arith, h.whole)) ∙ omega arith) tests.0 in
     let size : number_bytes (length_of_file block i) ≡ slice_range block (at + 16) (at + 16 + 4) = number-spelled block h (at + 16) (omega arith) in
     let first : number_bytes (first_extent block i) ≡ slice_range block (at + 20) (at + 20 + 4) = number-spelled block h (at + 20) (omega arith) in
-    let count : number_bytes (length (extents_of_file block i)) ≡ slice_range block (at + 24) (at + 24 + 4) = ap number_bytes (length-extents_of_file block i ne) ∙ number-spelled block h (at + 24) (omega arith) in
+    let count : number_bytes (length (extents_of_file block i))
+    ≡ slice_range block (at + 24) (at + 24 + 4) = ap number_bytes (length-extents_of_file block i ne)
+    ∙ number-spelled block h (at + 24) (omega arith) in
     let mode : number_bytes (if mode_of_file block i == 1 then 1 else 0) ≡ slice_range block (at + 28) (at + 28 + 4) =
     ap number_bytes (mode-spelled (mode_of_file block i) (leb-true (mode_of_file block i) 1 tests.1)) ∙ number-spelled block h (at + 28) (omega arith) in
-    five-parts block at (padded_field 16 (name_of_file block i)) (number_bytes (length_of_file block i)) (number_bytes (first_extent block i)) (number_bytes (length (extents_of_file block i))) (number_bytes (if mode_of_file block i == 1 then 1 else 0)) name size first count mode
+    five-parts block at (padded_field 16 (name_of_file block i)) (number_bytes (length_of_file block i))
+    (number_bytes (first_extent block i)) (number_bytes (length (extents_of_file block i)))
+    (number_bytes (if mode_of_file block i == 1 then 1 else 0)) name size first count mode
 
 -- The extents of the files, each of which has the next ones of the table, are those of the table.
 pub extents-joined : (block : List ℕ) (n : ℕ) → version block ≢ 1 → ((k : ℕ) → k < n → first_extent block k ≡ extents_before block k)
@@ -211,12 +222,21 @@ header-spelled block size s =
     let blocks : number_bytes size ≡ slice_range block 12 16 = ap number_bytes (sym s.header.blocks) ∙ number-spelled block s.bytes 12 (omega arith) in
     let files : number_bytes (length (entries_of block)) ≡ slice_range block 16 20 = ap number_bytes (length-entries block) ∙ number-spelled block s.bytes 16 (omega arith) in
     let extents : number_bytes (length (all_extents (entries_of block))) ≡ slice_range block 20 24 = ap number_bytes (length-extents block size s) ∙ number-spelled block s.bytes 20 (omega arith) in
-    let zeros : replicate 8 0 ≡ slice_range block 24 32 = sym (zeros-are (slice_range block 24 32) s.files.zeros ∙ ap (λ (n : ℕ). replicate n 0) (length-slice block 24 32 (omega arith) (omega (arith, s.bytes.whole)))) in
+    let zeros : replicate 8 0
+    ≡ slice_range block 24 32 = sym
+    (zeros-are (slice_range block 24 32) s.files.zeros
+    ∙ ap (λ (n : ℕ). replicate n 0) (length-slice block 24 32 (omega arith) (omega (arith, s.bytes.whole))))
+    in
     let p2 = parts-joined block 0 8 12 (codes "SUNVMVOL") (number_bytes 2) (omega arith) (omega arith) magic second in
     let p3 = parts-joined block 0 12 16 (codes "SUNVMVOL" ++ number_bytes 2) (number_bytes size) (omega arith) (omega arith) p2 blocks in
     let p4 = parts-joined block 0 16 20 (codes "SUNVMVOL" ++ number_bytes 2 ++ number_bytes size) (number_bytes (length (entries_of block))) (omega arith) (omega arith) p3 files in
-    let p5 = parts-joined block 0 20 24 (codes "SUNVMVOL" ++ number_bytes 2 ++ number_bytes size ++ number_bytes (length (entries_of block))) (number_bytes (length (all_extents (entries_of block)))) (omega arith) (omega arith) p4 extents in
-    parts-joined block 0 24 32 (codes "SUNVMVOL" ++ number_bytes 2 ++ number_bytes size ++ number_bytes (length (entries_of block)) ++ number_bytes (length (all_extents (entries_of block)))) (replicate 8 0) (omega arith) (omega arith) p5 zeros
+    let p5 = parts-joined block 0 20 24
+    (codes "SUNVMVOL" ++ number_bytes 2 ++ number_bytes size ++ number_bytes (length (entries_of block)))
+    (number_bytes (length (all_extents (entries_of block)))) (omega arith) (omega arith) p4 extents in
+    parts-joined block 0 24 32
+    (codes "SUNVMVOL" ++ number_bytes 2 ++ number_bytes size ++ number_bytes (length (entries_of block))
+    ++ number_bytes (length (all_extents (entries_of block))))
+    (replicate 8 0) (omega arith) (omega arith) p5 zeros
 
 -- The whole block.
 pub block-spelled : (block : List ℕ) (blocks : ℕ) → IsBlock block → version block ≡ 2 → first_failed (tests block blocks) ≡ None → encoding (table_in block blocks) ≡ block
@@ -226,6 +246,10 @@ block-spelled block blocks h two passed =
     let ne : version block ≢ 1 = λ e. absurd (omega (arith, e, two)) in
     let s : Second block blocks = record { bytes = h; ne = ne; two = two; header = p.header; files = p.second ne } in
     let lower : padded_field 2048 (entries_bytes (entries_of block)) ++ padded_field 2016 (extents_bytes (entries_of block)) ≡ slice_range block 32 4096 =
-    parts-joined block 32 2080 4096 (padded_field 2048 (entries_bytes (entries_of block))) (padded_field 2016 (extents_bytes (entries_of block))) (omega arith) (omega arith) (entries-spelled block blocks s) (extents-spelled block blocks s) in
-    parts-joined block 0 32 4096 (header_bytes (table_in block blocks)) (padded_field 2048 (entries_bytes (entries_of block)) ++ padded_field 2016 (extents_bytes (entries_of block))) (omega arith) (omega arith) (header-spelled block blocks s) lower
+    parts-joined block 32 2080 4096 (padded_field 2048 (entries_bytes (entries_of block)))
+    (padded_field 2016 (extents_bytes (entries_of block))) (omega arith) (omega arith) (entries-spelled block blocks s)
+    (extents-spelled block blocks s) in
+    parts-joined block 0 32 4096 (header_bytes (table_in block blocks))
+    (padded_field 2048 (entries_bytes (entries_of block)) ++ padded_field 2016 (extents_bytes (entries_of block))) (omega arith)
+    (omega arith) (header-spelled block blocks s) lower
     ∙ take_all 4096 block (omega (arith, h.whole))

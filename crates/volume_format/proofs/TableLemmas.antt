@@ -13,11 +13,22 @@ pub extents-set : (entries : List FileInfo) (i : ℕ) (e : FileInfo) → i < len
     → length (all_extents (set entries i e)) ≡ length (all_extents (remove entries i)) + length e.extents
 extents-set entries i e there =
     let count : FileInfo → ℕ = λ (f : FileInfo). length f.extents in
-    omega (arith, sum_by-set count entries i e no_entry there, sum_by-remove count entries i no_entry there, length-flat_map (λ (f : FileInfo). f.extents) (set entries i e), length-flat_map (λ (f : FileInfo). f.extents) (remove entries i))
+    omega (
+      arith,
+      sum_by-set count entries i e no_entry there,
+      sum_by-remove count entries i no_entry there,
+      length-flat_map (λ (f : FileInfo). f.extents) (set entries i e),
+      length-flat_map (λ (f : FileInfo). f.extents) (remove entries i),
+    )
 
 pub extents-insert : (entries : List FileInfo) (i : ℕ) (e : FileInfo) → length (all_extents (insert entries i e)) ≡ length (all_extents entries) + length e.extents
 extents-insert entries i e =
-    omega (arith, sum_by-insert (λ (f : FileInfo). length f.extents) entries i e, length-flat_map (λ (f : FileInfo). f.extents) (insert entries i e), length-flat_map (λ (f : FileInfo). f.extents) entries)
+    omega (
+      arith,
+      sum_by-insert (λ (f : FileInfo). length f.extents) entries i e,
+      length-flat_map (λ (f : FileInfo). f.extents) (insert entries i e),
+      length-flat_map (λ (f : FileInfo). f.extents) entries,
+    )
 
 -- The extents of the files up to one more.
 pub extents-more : (entries : List FileInfo) (i : ℕ) → i < length entries → all_extents (take (i + 1) entries) ≡ all_extents (take i entries) ++ (get_or entries i no_entry).extents
@@ -35,6 +46,8 @@ pub counts : (entries : List FileInfo) (i : ℕ) (e : FileInfo) → i < length e
 counts entries i e there is =
     let same : length e.extents ≡ length (get_or entries i no_entry).extents = ap (λ (f : FileInfo). length f.extents) (get_or_read entries i e there is no_entry) in
     record {
-      more = ap length (extents-more entries i there) ∙ length-append (all_extents (take i entries)) (get_or entries i no_entry).extents ∙ ap (λ (n : ℕ). length (all_extents (take i entries)) + n) (sym same);
+      more =
+          ap length (extents-more entries i there) ∙ length-append (all_extents (take i entries)) (get_or entries i no_entry).extents
+          ∙ ap (λ (n : ℕ). length (all_extents (take i entries)) + n) (sym same);
       within = omega (arith, same, length-flat_map-take (λ (f : FileInfo). f.extents) entries i no_entry there);
     }

@@ -40,9 +40,6 @@ pub failed-rest : (f : ℕ → List Test) (i n : ℕ) → i < n
     → first_failed (flat_map f (range_with_len i (n - i))) ≡ first_failed (f i ++ flat_map f (range_with_len (i + 1) (n - (i + 1))))
 failed-rest f i n h = ap (λ (r : List ℕ). first_failed (flat_map f r)) (range-rest i n h)
 
-pub failed-rest-end : (f : ℕ → List Test) (i n : ℕ) → n ≤ i → first_failed (flat_map f (range_with_len i (n - i))) ≡ None
-failed-rest-end f i n h = ap (λ (r : List ℕ). first_failed (flat_map f r)) (range-rest-end i n h)
-
 -- The same, before other tests.
 pub failed-rest-then : (f : ℕ → List Test) (i n : ℕ) (after : List Test) → i < n
     → first_failed (flat_map f (range_with_len i (n - i)) ++ after) ≡ first_failed (f i ++ (flat_map f (range_with_len (i + 1) (n - (i + 1))) ++ after))

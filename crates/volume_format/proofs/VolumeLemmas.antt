@@ -1,8 +1,10 @@
 -- What a block says, in which every rule holds, is the table of a volume.
-use Rattle.std.proofs.Common.{ℕ, zero, suc, ◌≡◌, ◌≢◌, ◌<◌, ◌≤◌, ◌+◌, ◌-◌, ◌*◌, ◌^◌, Bool, true, false, ◌&&◌, ◌||◌, not, eqb, ltb, leb, List, [], ◌∷◌, ◌++◌, None, length, drop, map, refl, ap, sym, subst, ◌∙◌, inl, inr, arith}
+use Rattle.std.proofs.Common.{ℕ, zero, suc, ◌≡◌, ◌≢◌, ◌<◌, ◌≤◌, ◌+◌, ◌-◌, ◌*◌, ◌^◌, Bool, true, false, ◌&&◌, ◌||◌, not, eqb, ltb, leb, List, [], ◌∷◌}
+use Rattle.std.proofs.Common.{◌++◌, None, length, drop, map, refl, ap, sym, subst, ◌∙◌, inl, inr, arith}
 use Rattle.std.specs.Prelude.{◌==◌, if◌then◌else◌, codes}
 use Rattle.std.specs.List.{flat_map, list_all, list_any, range_with_len}
-use Rattle.std.proofs.lemmas.Bool.{cases_eq, cases_lt, and_parts, and_right, or_parts, or_cases, not-true, leb-true, ltb-true, le-ltb, eqb-false, eqb-true, eq-eqb, ne_eqb, cond-true, cond-false, both_ways}
+use Rattle.std.proofs.lemmas.Bool.{cases_eq, cases_lt, and_parts, and_right, or_parts, or_cases, not-true, leb-true, ltb-true, le-ltb, eqb-false}
+use Rattle.std.proofs.lemmas.Bool.{eqb-true, eq-eqb, ne_eqb, cond-true, cond-false, both_ways}
 use Rattle.std.proofs.lemmas.List.Sums.{prefix_len-le-length}
 use Rattle.std.proofs.lemmas.List.Folds.{length-prefix_len, flat_map-map}
 use Rattle.std.proofs.lemmas.List.Concat.{flat_map_single}
@@ -12,8 +14,11 @@ use Rattle.vnode_files.specs.declared.extent.Extent.{Extent}
 use Rattle.vnode_files.specs.declared.vnode.FileInfo.{FileInfo}
 use Rattle.vnode_files.specs.Grow.{extent_end, page_count}
 use Rattle.volume_format.specs.Table.{empty_table, all_extents, no_entry, front_block}
-use Rattle.volume_format.specs.Layout.{number_at, are_same, are_zeros, version, file_count, name_field, text_before_zero, name_of_file, length_of_file, extent_count, table_extent, own_extent, first_extent, extents_number, extents_of_file, file_in, table_in}
-use Rattle.volume_format.specs.Rules.{first_failed, is_table_name_byte, is_name_field, is_on_disk, do_meet, name_tests, extents_before, extent_tests, extent_tests_1, length_test, order_test_1, order_test_2, new_name_test, last_tests_1, entry_tests_1, tests}
+use Rattle.volume_format.specs.Layout.{number_at, are_same, are_zeros, version, file_count, name_field, text_before_zero, name_of_file}
+use Rattle.volume_format.specs.Layout.{length_of_file, extent_count, table_extent, own_extent, first_extent, extents_number, extents_of_file, file_in}
+use Rattle.volume_format.specs.Layout.{table_in}
+use Rattle.volume_format.specs.Rules.{first_failed, is_table_name_byte, is_name_field, is_on_disk, do_meet, name_tests, extents_before, extent_tests}
+use Rattle.volume_format.specs.Rules.{extent_tests_1, length_test, order_test_1, order_test_2, new_name_test, last_tests_1, entry_tests_1, tests}
 use Rattle.volume_format.specs.Volume.{extent_at, IsVolumeName, IsVolumeFile, IsVolumeTable}
 use Rattle.volume_format.proofs.TestLemmas.{passed-test, passed-three, passed-append, passed-each}
 use Rattle.volume_format.proofs.PassedLemmas.{Files1, Files2, Passed, tests-passed, passed-room, entry-named, extents_before-more}
@@ -276,7 +281,12 @@ sorted-1 block blocks k (suc more) there s =
 all-1 : (block : List ℕ) (blocks : ℕ) → version block ≡ 1 → all_extents (table_in block blocks).entries ≡ map (own_extent block) (range_with_len 0 (file_count block))
 all-1 block blocks e =
     flat_map-map (λ (f : FileInfo). f.extents) (file_in block) (range_with_len 0 (file_count block))
-    ∙ ap (λ (b : Bool). flat_map (λ i. if b then own_extent block i ∷ [] else map (table_extent block) (range_with_len (first_extent block i) (extents_number block i))) (range_with_len 0 (file_count block))) (eq-eqb (version block) 1 e)
+    ∙ ap
+    (λ (b : Bool). flat_map
+    (λ i. if b then own_extent block i ∷ [] else map (table_extent block)
+    (range_with_len (first_extent block i) (extents_number block i)))
+    (range_with_len 0 (file_count block)))
+    (eq-eqb (version block) 1 e)
     ∙ flat_map_single (own_extent block) (range_with_len 0 (file_count block))
 
 owed-1 : (block : List ℕ) (blocks : ℕ) → IsBlock block → file_count block ≤ 64 → version block ≡ 1 → Files1 block blocks → Owed block blocks

@@ -1,5 +1,5 @@
 -- Bytes written into a block one part after another.
-use Rattle.std.proofs.Common.{ℕ, ◌≡◌, ◌≤◌, ◌+◌, ◌-◌, ◌*◌, List, [], ◌∷◌, ◌++◌, length, take, drop, replicate, refl, ap, sym, ◌∙◌, arith, append_assoc, length-append, length-drop}
+use Rattle.std.proofs.Common.{ℕ, ◌≡◌, ◌≤◌, ◌+◌, ◌-◌, ◌*◌, List, [], ◌∷◌, ◌++◌, length, take, drop, replicate, refl, ap, sym, ◌∙◌, arith, append_assoc, length-append}
 use Rattle.std.proofs.lemmas.List.{take_at, drop_at, drop-drop, take-append-drop, length-take-le, length-replicate, drop-replicate, replicate-append-replicate}
 use Rattle.std.specs.Prelude.{codes}
 use Rattle.std.specs.List.{flat_map}
@@ -45,11 +45,6 @@ written-then block one two front bytes at next first second e within =
 pub with_block_bytes-none : (block : List ℕ) (at : ℕ) → with_block_bytes block at [] ≡ block
 unfolding with_block_bytes
 with_block_bytes-none block at = ap (λ (n : ℕ). take at block ++ drop n block) (omega arith) ∙ take-append-drop at block
-
-pub length-with_block_bytes : (block bytes : List ℕ) (at : ℕ) → at + length bytes ≤ length block → length (with_block_bytes block at bytes) ≡ length block
-unfolding with_block_bytes
-length-with_block_bytes block bytes at within =
-    omega (arith, length-append (take at block) (bytes ++ drop (at + length bytes) block), length-append bytes (drop (at + length bytes) block), length-drop (at + length bytes) block, length-take-le at block (omega arith))
 
 -- How long the parts are.
 pub length-number_bytes : (n : ℕ) → length (number_bytes n) ≡ 4

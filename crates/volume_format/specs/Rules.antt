@@ -1,11 +1,14 @@
 -- The rules of block 0, in the order in which they are tested. Public clauses cite this.
-use Rattle.std.specs.Prelude.{ℕ, ◌==◌, ◌+◌, ◌-◌, ◌*◌, ◌&&◌, ◌||◌, not, Bool, nat_lt, nat_le, List, [], ◌∷◌, ◌++◌, length, drop, slice_range, Option, Some, None, Result, Ok, Err, if◌then◌else◌, codes, sum_by}
+use Rattle.std.specs.Prelude.{ℕ, ◌==◌, ◌+◌, ◌-◌, ◌*◌, ◌&&◌, ◌||◌, not, Bool, nat_lt, nat_le, List, [], ◌∷◌, ◌++◌, length, drop, slice_range, Option}
+use Rattle.std.specs.Prelude.{Some, None, Result, Ok, Err, if◌then◌else◌, codes, sum_by}
 use Rattle.std.specs.List.{flat_map, list_all, list_any, range_with_len}
 use Rattle.vnode_files.specs.declared.extent.Extent.{Extent}
 use Rattle.vnode_files.specs.Grow.{extent_end, page_count}
 use Rattle.volume_format.specs.declared.rules.BadVolume.{BadVolume}
 use Rattle.volume_format.specs.Table.{TableSeen, empty_table}
-use Rattle.volume_format.specs.Layout.{are_same, are_zeros, number_at, has_magic, version, file_count, entry_start, name_field, text_before_zero, name_of_file, length_of_file, mode_of_file, extent_count, extent_start, table_extent, first_extent, extents_number, own_extent, extents_of_file, table_in}
+use Rattle.volume_format.specs.Layout.{are_same, are_zeros, number_at, has_magic, version, file_count, entry_start, name_field, text_before_zero}
+use Rattle.volume_format.specs.Layout.{name_of_file, length_of_file, mode_of_file, extent_count, extent_start, table_extent, first_extent}
+use Rattle.volume_format.specs.Layout.{extents_number, own_extent, extents_of_file, table_in}
 
 -- A test of a block: the rule that it tests, and whether the rule holds.
 pub record Test : Type 0 where

@@ -12,5 +12,5 @@ loop-done-preserved g c =
       within = omega (arith, put.fits, length-drop done all, ap length (tail-is all done));
       text = front_goes_on _ _ _ all done c.in_ok-done.field-0 c.loop-done.invariant.text
           (put.text ∙ ap (λ piece. text_with_more (g.K.Sink.seen c.loop-done.sink).written (take c.in_ok-done.field-0 piece)) (tail-is all done));
-      later = omega (arith, c.loop-done.invariant.later, c.in_ok-done.ensures.cause.later);
+      steady = c.in_ok-done.ensures.cause.steady ∙ c.loop-done.invariant.steady;
     }

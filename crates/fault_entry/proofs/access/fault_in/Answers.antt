@@ -21,7 +21,7 @@ returns-in-Ok-Loaded-clause-serves g c = λ spaces n fits here even.
     let s = subst (λ (a : Fault). ServesFault (memory_of old spaces) (memory_of mid spaces) c.args.world.now.pending c.fault.new.world.pending c.args.process (page c.args.addr) x c.args.write (Ok a)) c.in-Ok-Loaded.field-0-is (c.in-Ok-Loaded.ensures.serves spaces fits here) in
     subst (λ (k : ℕ). ServesAccess (memory_of old spaces) (memory_of new spaces) c.args.world.now.pending k c.args.process c.args.addr n c.args.write (access.Reached c.noted.result)) (sym (ap (λ v. v.pending) c.noted.ensures.rest))
     (loaded-access old new spaces c.args.world.now.pending c.fault.new.world.pending c.args.process c.args.addr n c.args.write x even here c.requires.allowed fits
-    mid c.noted.result s (c.noted.ensures.keeps spaces s.acts.memory) (ap (λ v. v.anon) c.noted.ensures.rest) (ap (λ v. v.maps) c.noted.ensures.rest) (ap (λ v. v.store.names) c.noted.ensures.rest) c.requires.missed c.noted.ensures.noted)
+    mid c.noted.result s (c.noted.ensures.keeps spaces s.acts.memory) (ap (λ v. v.anon) c.noted.ensures.rest) (ap (λ v. v.maps) c.noted.ensures.rest) (ap (λ v. v.store) c.noted.ensures.rest) c.noted.ensures.modified c.requires.missed c.noted.ensures.noted)
 
 pub returns-in-Ok-Past-clause-serves : goal.returns-in-Ok-Past-clause-serves
 returns-in-Ok-Past-clause-serves g c = λ spaces n fits here even.

@@ -41,6 +41,6 @@ pub returns-in-Busy : goal.returns-in-Busy
 returns-in-Busy g c = record {
   serves = λ spaces fits get.
       let s = c.in-Busy.ensures.serves spaces fits get in
-      access-busy (world_seen c.args.world.now) (world_seen c.reach.new.world) spaces c.args.world.now.pending c.reach.new.world.pending c.args.process c.args.addr c.args.size false (call.Load c.args.addr c.args.size) c.in-Busy.hold refl (load-refusal (memory_of (world_seen c.args.world.now) spaces) c.args.process c.args.addr c.args.size None) s s.means.2;
+      access-busy (world_seen c.args.world.now) (world_seen c.reach.new.world) spaces c.args.world.now.pending c.reach.new.world.pending c.args.process c.args.addr c.args.size false (call.Load c.args.addr c.args.size) c.in-Busy.hold refl (load-refusal (memory_of (world_seen c.args.world.now) spaces) c.args.process c.args.addr c.args.size None) s s.means.1;
   zeros = ap (λ w. w.zeros) c.in-Busy.ensures.rest;
 }

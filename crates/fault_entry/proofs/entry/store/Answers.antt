@@ -24,7 +24,7 @@ returns-in-Reached g c = record {
       let s = c.in-Reached.ensures.serves spaces fits get in
       subst (λ (k : ℕ). ServesWord (memory_of old spaces) (memory_of new spaces) c.args.world.now.pending k c.args.process (page c.args.addr) (call.Store c.args.addr c.args.size c.args.value) (attempt.Done reply.Done)) (sym (ap (λ v. v.pending) c.write.ensures.rest))
       (store-reached old mid new spaces c.args.world.now.pending c.reach.new.world.pending c.args.process c.args.addr c.args.size c.in-Reached.frame c.args.value s
-      (c.write.ensures.writes spaces c.args.process s.acts.memory s.means.noted) (ap (λ v. v.hat) c.write.ensures.rest) (ap (λ v. v.anon) c.write.ensures.rest) (ap (λ v. v.maps) c.write.ensures.rest) c.write.ensures.store (ap world_seen c.write.ensures.rest));
+      (c.write.ensures.writes spaces c.args.process s.acts.memory s.means.noted) (ap (λ v. v.hat) c.write.ensures.rest) (ap (λ v. v.anon) c.write.ensures.rest) (ap (λ v. v.maps) c.write.ensures.rest) c.write.ensures.store c.write.ensures.modified (ap world_seen c.write.ensures.rest));
   zeros = ap (λ v. v.zeros) c.write.ensures.rest ∙ ap (λ w. w.zeros) c.in-Reached.ensures.rest;
 }
 
@@ -47,6 +47,6 @@ pub returns-in-Busy : goal.returns-in-Busy
 returns-in-Busy g c = record {
   serves = λ spaces fits get.
       let s = c.in-Busy.ensures.serves spaces fits get in
-      access-busy (world_seen c.args.world.now) (world_seen c.reach.new.world) spaces c.args.world.now.pending c.reach.new.world.pending c.args.process c.args.addr c.args.size true (call.Store c.args.addr c.args.size c.args.value) c.in-Busy.hold refl (store-refusal (memory_of (world_seen c.args.world.now) spaces) c.args.process c.args.addr c.args.size c.args.value None) s s.means.2;
+      access-busy (world_seen c.args.world.now) (world_seen c.reach.new.world) spaces c.args.world.now.pending c.reach.new.world.pending c.args.process c.args.addr c.args.size true (call.Store c.args.addr c.args.size c.args.value) c.in-Busy.hold refl (store-refusal (memory_of (world_seen c.args.world.now) spaces) c.args.process c.args.addr c.args.size c.args.value None) s s.means.1;
   zeros = ap (λ w. w.zeros) c.in-Busy.ensures.rest;
 }

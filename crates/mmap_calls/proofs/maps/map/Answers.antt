@@ -39,4 +39,4 @@ returns-clause-done g c =
     let due = subst (λ (r : Option Errno). IsMapRefusal m c.args.process c.in-Ok.wanted.request r) c.in_default.is (c.in_ok-errno.ensures spaces c.args.process fits) in
     let first = c.in-Ok.ensures.mapping.first in
     let done = c.in_ok-replace.ensures.done spaces fits in
-    (done-answers m new c.args.process c.in-Ok.wanted.request c.replace.new.world.zeros (c.in-Ok.wanted.first * 4096) due (omega (arith, first)) done, done.known))
+    (done-answers m new c.args.process c.in-Ok.wanted.request c.replace.new.world.zeros (c.in-Ok.wanted.first * 4096) due (omega (arith, first)) done c.in_ok-replace.ensures.modified, done.known))

@@ -16,6 +16,7 @@ use Rattle.vm_world.specs.ZeroObjects.{AreSameZeros, free_number}
 use Rattle.vm_world.specs.declared.segment.Segment.{Segment}
 use Rattle.vm_world.specs.declared.world.World.{World}
 use Rattle.vm_world.proofs.ComingParts.{zero-there}
+use Rattle.seg_ops.proofs.Modified.{modifies-tables, modifies-then}
 use Rattle.seg_vn.specs.Clears.{SpaceFits, ChangesSpace, GivesBack}
 use Rattle.mmap_calls.specs.Looks.{kind_and_object}
 use Rattle.mmap_calls.specs.Refusals.{map_of_object, map_request, slots_for_pages}
@@ -176,6 +177,22 @@ make_anons-object-requires-clause-room g c =
     c.args.map.now.request c.args.map.now.held fits c.requires.request (c.requires.due spaces c.args.process fits) c.requires.mapping.held (alike g d) (cuts g d spaces fits) (looks g d) (lengths g d) (clears g e) (gives g e) (gone g e) in
     let pages = ap (slots_for_pages c.args.map.now.request.kind c.args.map.now.request.object) c.requires.mapping.pages in
     omega (arith, room, pages)
+
+-- what is cleared makes no page modified, and the rest moves neither frames nor translations
+pub returns-clause-modified : goal.returns-clause-modified
+returns-clause-modified g c =
+    let e = (goal.at.returns-clause-modified g c).After-clear in
+    let old = world_seen c.args.world.now in
+    let w = world_seen c.cut-2.new.world in
+    let held : worlds.World = record w { maps = maps_held w.maps c.args.map.now.held } in
+    let x = world_seen c.clear.new.world in
+    let new = world_seen c.make_anons-object.new.world in
+    modifies-then old held new
+    (modifies-tables old held
+    (ap (λ (v : World g.row.D.Denot). v.store) c.cut-2.ensures.world ∙ ap (λ (v : World g.row.D.Denot). v.store) c.cut.ensures.world ∙ ap (λ (v : World g.row.D.Denot). v.store) c.in_ok-begin.ensures.more.1)
+    (ap (λ (v : World g.row.D.Denot). v.hat) c.cut-2.ensures.world ∙ ap (λ (v : World g.row.D.Denot). v.hat) c.cut.ensures.world ∙ ap (λ (v : World g.row.D.Denot). v.hat) c.in_ok-begin.ensures.more.1))
+    (modifies-then held x new (gives g e).modified
+    (modifies-tables x new (ap (λ (v : World g.row.D.Denot). v.store) c.make_anons-object.ensures.rest) (ap (λ (v : World g.row.D.Denot). v.hat) c.make_anons-object.ensures.rest)))
 
 pub returns-clause-fall : goal.returns-clause-fall
 returns-clause-fall g c = λ slot.

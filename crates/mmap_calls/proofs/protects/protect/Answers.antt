@@ -17,6 +17,7 @@ use Rattle.vm_world.specs.World.{world_seen}
 use Rattle.vm_world.specs.declared.world.World.{World}
 use Rattle.seg_vn.specs.Clears.{ChangesSpace}
 use Rattle.mmap_calls.specs.Protections.{AreMapped, MayHave, lets}
+use Rattle.seg_ops.proofs.Modified.{modifies-tables, modifies-then}
 use Rattle.mmap_calls.proofs.AtOnce.{done-at-once, refused-at-once}
 use Rattle.mmap_calls.proofs.CutPlaces.{same-space}
 use Rattle.mmap_calls.proofs.RangeProtections.{lets-false, lets-true, mapped-false, mapped-true}
@@ -126,6 +127,8 @@ returns-clause-done g c = λ spaces fits.
       done-at-once m new p (Protect c.args.addr c.args.length c.args.prot) (λ F. with_range_prot F p (page c.args.addr) (pages_in c.args.length) c.args.prot) c.set_range.new.world.zeros
           (λ born notes. by-tests (flat_memory m born notes) p c.args.addr c.args.length c.args.prot true true true (ranged g e)
           (mapped-as g e (cells_of (flat_memory m born notes) p) true (mapped-true m p c.args.space.now.parts fits.here born notes first c.pages_in.result (all-mapped g d)))
-          (may-as g e (cells_of (flat_memory m born notes) p) true (lets-true m p c.args.space.now.parts fits.here born notes first c.pages_in.result c.args.prot (c.may_have.ensures.0 c.if-not-may_have.false)))) done,
+          (may-as g e (cells_of (flat_memory m born notes) p) true (lets-true m p c.args.space.now.parts fits.here born notes first c.pages_in.result c.args.prot (c.may_have.ensures.0 c.if-not-may_have.false)))) done
+          (modifies-then (world_seen c.args.world.now) (world_seen c.cut_ends.new.world) (world_seen c.set_range.new.world)
+          (modifies-tables (world_seen c.args.world.now) (world_seen c.cut_ends.new.world) (ap (λ (w : World g.row.D.Denot). w.store) c.cut_ends.ensures.world) (ap (λ (w : World g.row.D.Denot). w.hat) c.cut_ends.ensures.world)) c.set_range.ensures.modified),
       done.known,
     )

@@ -12,6 +12,7 @@ use Rattle.vm_world.specs.declared.world.World.{World}
 use Rattle.vm_world.specs.ProtectSteps.{with_range_prot}
 use Rattle.seg_vn.specs.Clears.{ChangesSpace, SpaceBecomes, SpaceFits, StartsAt}
 use Rattle.seg_vn.specs.Cuts.{IsPartAt}
+use Rattle.seg_ops.proofs.Modified.{modifies-same, modifies-then}
 use Rattle.seg_vn.proofs.LeftSegments.{pages-are}
 use Rattle.mmap_calls.proofs.CutPlaces.{same-piece}
 use Rattle.mmap_calls.proofs.RangeProtections.{Ahead, ahead, bounds-written, has-part, none-lay, part-here, range-next, range-none}
@@ -28,6 +29,7 @@ loop-page-init g c = record {
   same = λ q. refl;
   changes = λ spaces fits. range-none (world_seen c.args.world.now) c.args.world.now.zeros spaces c.args.process c.args.space.now.parts c.args.first c.args.prot fits;
   rest = refl;
+  modified = modifies-same (world_seen c.args.world.now);
 }
 
 -- the part that has the page
@@ -109,6 +111,7 @@ loop-page-preserved g c =
           (inv.changes spaces fits)
           (subst (λ (k : ℕ). ChangesSpace p (memory c.loop-page.world (finite.insert spaces p now)) (memory c.set_prot.new.world (finite.insert (finite.insert spaces p now) p (with_new_piece page w now))) c.loop-page.world.zeros (λ F. with_range_prot F p page k c.args.prot)) (sym size) step);
       rest = c.set_prot.ensures.rest ∙ ap (λ (v : World g.row.D.Denot). record v { store = c.set_prot.new.world.store; hat = c.set_prot.new.world.hat }) inv.rest;
+      modified = modifies-then (world_seen c.args.world.now) (world_seen c.loop-page.world) (world_seen c.set_prot.new.world) inv.modified c.set_prot.ensures.modified;
     }
 
 pub loop-page-smaller : goal.loop-page-smaller
@@ -128,4 +131,5 @@ returns g c =
     record {
       changes = subst (λ (k : ℕ). SpaceBecomes c.args.world.now c.loop-page.world c.args.process c.args.space.now.parts c.loop-page.space.parts (λ F. with_range_prot F c.args.process c.args.first (k - c.args.first) c.args.prot)) done inv.changes;
       rest = inv.rest;
+      modified = inv.modified;
     }

@@ -2,7 +2,9 @@ use Rattle.std.proofs.Common.{◌≡◌, ◌≤◌, ◌-◌, ℕ}
 use Rattle.std.specs.Prelude.{option_map}
 use Rattle.addr_space.specs.Space.{part_at}
 use Rattle.vm_world.specs.ProtectSteps.{with_range_prot}
+use Rattle.vm_world.specs.Serving.{ModifiesNone}
 use Rattle.vm_world.specs.Words.{OnlyStoreAndHat}
+use Rattle.vm_world.specs.World.{world_seen}
 use Rattle.seg_vn.specs.Clears.{SpaceBecomes, StartsAt}
 use Rattle.mmap_calls.proofs.RangeProtections.{bounds}
 use Rattle.mmap_calls.proofs.protects.set_range.Given as goal
@@ -18,4 +20,5 @@ invariant-loop-page g l = record {
   same : (q : ℕ) → option_map bounds (part_at l.space.parts q) ≡ option_map bounds (part_at l.fn.space.parts q);
   changes : SpaceBecomes l.fn.world l.world l.process l.fn.space.parts l.space.parts (λ F. with_range_prot F l.process l.first (l.page - l.first) l.prot);
   rest : OnlyStoreAndHat l.fn.world l.world;
+  modified : ModifiesNone (world_seen l.fn.world) (world_seen l.world);
 }

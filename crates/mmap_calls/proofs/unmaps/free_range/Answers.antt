@@ -1,9 +1,11 @@
-use Rattle.std.proofs.Common.{◌≡◌, ℕ, ◌+◌, ◌-◌, subst, arith}
+use Rattle.std.proofs.Common.{◌≡◌, ℕ, ◌+◌, ◌-◌, ap, subst, arith}
 use Rattle.std.specs.FinMap as finite
 use Rattle.flat_model.specs.Mapping.{without_pages}
 use Rattle.vm_world.specs.Segments.{Spaces}
 use Rattle.vm_world.specs.Words.{memory}
 use Rattle.vm_world.specs.World.{world_seen}
+use Rattle.vm_world.specs.declared.world.World.{World}
+use Rattle.seg_ops.proofs.Modified.{modifies-tables, modifies-then}
 use Rattle.seg_vn.specs.Clears.{ChangesSpace}
 use Rattle.mmap_calls.proofs.Replaced.{fits-after, joined}
 use Rattle.mmap_calls.proofs.unmaps.free_range.Goals as goal
@@ -28,3 +30,10 @@ returns-clause-done g c = λ spaces fits.
     let many : c.args.first + c.args.pages - c.args.first ≡ c.args.pages = omega arith in
     subst (λ (k : ℕ). ChangesSpace p m (memory c.clear.new.world (finite.insert spaces p left)) c.clear.new.world.zeros (λ F. without_pages F p c.args.first k)) many
     (joined p m v w spaces cut left c.cut_ends.new.world.zeros c.clear.new.world.zeros (λ F. without_pages F p c.args.first (c.args.first + c.args.pages - c.args.first)) cuts (c.clear.ensures.changes (finite.insert spaces p cut) here))
+
+pub returns-clause-modified : goal.returns-clause-modified
+returns-clause-modified g c =
+    let old = world_seen c.args.world.now in
+    let cut = world_seen c.cut_ends.new.world in
+    let only = c.cut_ends.ensures.world in
+    modifies-then old cut (world_seen c.clear.new.world) (modifies-tables old cut (ap (λ (v : World g.row.D.Denot). v.store) only) (ap (λ (v : World g.row.D.Denot). v.hat) only)) c.clear.ensures.gives.modified

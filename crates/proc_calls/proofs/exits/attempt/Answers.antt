@@ -11,7 +11,7 @@ pub returns : goal.returns
 returns g c = record {
   ok = refl;
   done = λ calls. call-serves (record { world = world_seen c.args.world.now; spaces = c.args.spaces.now.spaces }) (record { world = world_seen c.exit.new.world; spaces = c.exit.new.spaces.spaces }) c.exit.new.world.zeros
-      c.args.world.now.pending c.exit.new.world.pending c.args.process c.args.call.now c.in-Exit.is (ap (λ (w : World g.row.D.Denot). w.pending) c.exit.ensures.rest) c.requires.fits c.exit.ensures.changes;
+      c.args.world.now.pending c.exit.new.world.pending c.args.process c.args.call.now c.in-Exit.is (ap (λ (w : World g.row.D.Denot). w.pending) c.exit.ensures.rest) c.requires.fits c.exit.ensures.changes c.exit.ensures.modified;
   answer = tt;
   zeros = c.exit.ensures.changes.known;
   fall = c.exit.ensures.fall;

@@ -30,6 +30,7 @@ returns g c =
           c.clear.new.world.zeros (λ F. without_process F c.args.process)) (sym c.remove.ensures.spaces)
           (ended (world_seen c.args.world.now) (world_seen c.clear.new.world) c.args.world.now.zeros c.clear.new.world.zeros c.args.spaces.now.spaces c.args.process c.in-Some.space.now.parts c.clear.new.space.parts fits (c.clear.ensures.changes c.args.spaces.now.spaces fits) c.clear.ensures.pages);
       fall = c.clear.ensures.gives.fall;
+      modified = c.clear.ensures.gives.modified;
       rest = c.clear.ensures.rest;
       processes = c.remove.ensures.processes;
     }

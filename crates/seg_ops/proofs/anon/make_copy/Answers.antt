@@ -1,4 +1,4 @@
-use Rattle.std.proofs.Common.{◌≡◌, ℕ, true, List, Option, Some, sym, ap, subst, slice_set}
+use Rattle.std.proofs.Common.{◌≡◌, ℕ, true, List, Option, Some, refl, sym, ap, subst, slice_set}
 use Rattle.page_hash.specs.Names.{find, is_name}
 use Rattle.page_hash.specs.declared.PageName.{PageName}
 use Rattle.page_lock.specs.Rows.{row_at}
@@ -50,7 +50,7 @@ returns-clause-made g c =
     let pends = subst (λ (o : Option PageName). PendsTails w (is_name o) c.args.world.now.pending c.pend_tail.new.world.pending) c.next_name-lost.ensures
     (record { bits = c.pend_tail.ensures.pends.bits; below = c.pend_tail.ensures.pends.below }) in
     subst (λ (v : World). MakesHome w v c.args.world.now.pending c.pend_tail.new.world.pending s) (sym (ap world_seen c.pend_tail.ensures.rest))
-    (made-home w (record w { store = c.copy.new.self; anon = c.make-slot.new.self; maps = c.set.new.self }) c.args.world.now.pending c.pend_tail.new.world.pending s true (λ notes table. value w.store notes table c.args.from) c.copy.ensures.laws c.make-slot.ensures.free k.alone pends)
+    (made-home w (record w { store = c.copy.new.self; anon = c.make-slot.new.self; maps = c.set.new.self }) c.args.world.now.pending c.pend_tail.new.world.pending s true (λ notes table. value w.store notes table c.args.from) c.copy.ensures.laws c.make-slot.ensures.free k.alone pends refl)
 
 pub returns-clause-makes : goal.returns-clause-makes
 returns-clause-makes g c = λ spaces p q x fits owns unloaded.

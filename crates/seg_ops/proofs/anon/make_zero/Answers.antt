@@ -1,4 +1,4 @@
-use Rattle.std.proofs.Common.{◌≡◌, true, List, Option, Some, sym, ap, subst, slice_set}
+use Rattle.std.proofs.Common.{◌≡◌, true, List, Option, Some, refl, sym, ap, subst, slice_set}
 use Rattle.core_arena.specs.Bytes.{zeros}
 use Rattle.page_hash.specs.Names.{is_name}
 use Rattle.page_hash.specs.declared.PageName.{PageName}
@@ -52,7 +52,7 @@ returns-clause-made g c =
     let pends = subst (λ (o : Option PageName). PendsTails w (is_name o) c.args.world.now.pending c.pend_tail.new.world.pending) c.next_name-lost.ensures
     (record { bits = c.pend_tail.ensures.pends.bits; below = c.pend_tail.ensures.pends.below }) in
     subst (λ (v : World). MakesHome w v c.args.world.now.pending c.pend_tail.new.world.pending s) (sym (ap world_seen c.pend_tail.ensures.rest))
-    (made-home w (record w { store = c.fill_zero.new.self; anon = c.make-slot.new.self; maps = c.set.new.self }) c.args.world.now.pending c.pend_tail.new.world.pending s true (λ notes table. zeros) c.fill_zero.ensures.laws c.make-slot.ensures.free k.alone pends)
+    (made-home w (record w { store = c.fill_zero.new.self; anon = c.make-slot.new.self; maps = c.set.new.self }) c.args.world.now.pending c.pend_tail.new.world.pending s true (λ notes table. zeros) c.fill_zero.ensures.laws c.make-slot.ensures.free k.alone pends refl)
 
 -- the page is made, where each translation shows what it showed
 makes : (g : Over) (c : After-pend_tail g) (spaces : Spaces) → MakesSlot c.args.world.now.anon c.make-slot.new.self c.args.world.now.maps c.set.new.self c.args.map c.args.place c.make-slot.result

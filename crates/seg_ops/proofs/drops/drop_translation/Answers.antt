@@ -6,6 +6,7 @@ use Rattle.page_store.specs.Laws.{StaysInPlace}
 use Rattle.page_store.specs.Moves.{is_only}
 use Rattle.vm_world.specs.World.{world_seen}
 use Rattle.seg_ops.specs.Steps.{with_dropped_gathered}
+use Rattle.seg_ops.proofs.NewlyModified.{drop-modifies}
 use Rattle.seg_ops.proofs.Unloads.{unloaded-within, drop-keeps, drop-gone}
 use Rattle.seg_ops.proofs.drops.drop_translation.Goals as goal
 
@@ -17,6 +18,11 @@ returns-clause-gone g c = drop-gone c.args.world.now.hat.places c.args.space c.a
 
 pub returns-clause-store : goal.returns-clause-store
 returns-clause-store g c = c.gather.ensures.new ∙ ap (with_dropped_gathered c.args.world.now.store) c.unload-dropped.ensures.told
+
+pub returns-clause-modified : goal.returns-clause-modified
+returns-clause-modified g c =
+    let w = world_seen c.args.world.now in
+    drop-modifies w c.gather.new.store c.unload-dropped.new.self c.args.space c.args.page c.unload-dropped.ensures.places (c.gather.ensures.new ∙ ap (with_dropped_gathered w.store) c.unload-dropped.ensures.told) c.gather.ensures.stay
 
 pub returns-clause-keeps : goal.returns-clause-keeps
 returns-clause-keeps g c = λ spaces fits.

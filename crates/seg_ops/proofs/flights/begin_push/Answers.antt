@@ -52,25 +52,22 @@ returns-clause-store g c =
 pub returns-clause-begins : goal.returns-clause-begins
 returns-clause-begins g c = subst (λ (s : StoreSeen). BeginsTransfer s c.send.new.world.store (Push c.args.name) c.args.name c.send.result) c.prepare_push.ensures.store c.send.ensures.begins
 
-pub returns-clause-pends : goal.returns-clause-pends
-returns-clause-pends g c =
+pub returns-clause-taken : goal.returns-clause-taken
+returns-clause-taken g c =
     let w = world_seen c.args.world.now in
     let mid = world_seen c.prepare_push.new.world in
-    let i = is g (goal.at.returns-clause-pends g c).After-prepare_push in
-    prepared-pends w mid c.args.name c.args.world.now.pending c.send.new.world.pending c.prepare_push.new.world.pending i
-    (ap (λ v. v.pending) c.prepare_push.ensures.rest) c.send.ensures.pends
+    let i = is g (goal.at.returns-clause-taken g c).After-prepare_push in
+    record {
+      lost = prepared-took w mid (world_seen c.send.new.world) c.args.name i c.send.ensures.taken.lost;
+      tails = prepared-pends w mid c.args.name c.args.world.now.pending c.send.new.world.pending c.prepare_push.new.world.pending i (ap (λ v. v.pending) c.prepare_push.ensures.rest) c.send.ensures.taken.tails;
+    }
 
-pub returns-clause-took : goal.returns-clause-took
-returns-clause-took g c =
-    let i = is g (goal.at.returns-clause-took g c).After-prepare_push in
-    prepared-took (world_seen c.args.world.now) (world_seen c.prepare_push.new.world) (world_seen c.send.new.world) c.args.name i c.send.ensures.took
-
-pub returns-clause-step : goal.returns-clause-step
-returns-clause-step g c = λ spaces notes fits nf.
+pub returns-clause-pages : goal.returns-clause-pages
+returns-clause-pages g c = λ spaces notes fits nf.
     let w = world_seen c.args.world.now in
     let mid = world_seen c.prepare_push.new.world in
-    let i = is g (goal.at.returns-clause-step g c).After-prepare_push in
+    let i = is g (goal.at.returns-clause-pages g c).After-prepare_push in
     let first = c.prepare_push.ensures.keeps spaces fits in
-    let then = c.send.ensures.step spaces notes first.memory (first.notes notes tt nf) in
+    let then = c.send.ensures.pages spaces notes first.memory (first.notes notes tt nf) in
     subst (λ (o : Option PageName). WorldStep w (world_seen c.send.new.world) spaces (leaves c.args.seat (note_of c.send.result)) (is_name o)) (ap next_name (synced w mid c.args.name i))
     (frame_law.later w mid (world_seen c.send.new.world) spaces (leaves c.args.seat (note_of c.send.result)) (is_name (next_name mid.store)) fits first then)

@@ -12,7 +12,7 @@ use Rattle.page_store.specs.declared.place.Place.{Place}
 use Rattle.vm_world.specs.World.{World, world_seen, world_table, page_exists}
 use Rattle.vm_world.specs.WorldSteps.{WorldStep, leaves}
 use Rattle.seg_ops.proofs.Begins.{Begun, begins-step, can-begin, can-exist}
-use Rattle.seg_ops.proofs.Pending.{loses, next-there}
+use Rattle.seg_ops.proofs.Pending.{loses, next-there, pends-next}
 use Rattle.seg_ops.proofs.flights.send.Given.{Over}
 use Rattle.seg_ops.proofs.flights.send.Goals.{After-pend_tail}
 use Rattle.seg_ops.proofs.flights.send.Goals as goal
@@ -81,17 +81,21 @@ returns-clause-begins g c =
     let i = is g (goal.at.returns-clause-begins g c).After-pend_tail in
     subst (λ (s : StoreSeen). BeginsTransfer c.args.world.now.store s c.args.plan (plan_page c.args.plan) c.begin-flight.result) (sym i.store) i.begun.laws
 
-pub returns-clause-took : goal.returns-clause-took
-returns-clause-took g c =
-    let i = is g (goal.at.returns-clause-took g c).After-pend_tail in
+pub returns-clause-taken : goal.returns-clause-taken
+returns-clause-taken g c =
+    let w = world_seen c.args.world.now in
+    let i = is g (goal.at.returns-clause-taken g c).After-pend_tail in
     let laws = subst (λ (s : StoreSeen). BeginsTransfer c.args.world.now.store s c.args.plan (plan_page c.args.plan) c.begin-flight.result) (sym i.store) i.begun.laws in
-    loses (world_seen c.args.world.now) (world_seen c.pend_tail.new.world) laws.sound laws.lost
+    record {
+      lost = loses w (world_seen c.pend_tail.new.world) laws.sound laws.lost;
+      tails = pends-next w c.args.world.now.pending c.pend_tail.new.world.pending c.next_name-lost.result c.next_name-lost.ensures (record { bits = c.pend_tail.ensures.pends.bits; below = c.pend_tail.ensures.pends.below });
+    }
 
-pub returns-clause-step : goal.returns-clause-step
-returns-clause-step g c = λ spaces notes fits nf.
+pub returns-clause-pages : goal.returns-clause-pages
+returns-clause-pages g c = λ spaces notes fits nf.
     let w = world_seen c.args.world.now in
     let f : FlightSeen = c.begin-flight.result in
-    let i = is g (goal.at.returns-clause-step g c).After-pend_tail in
+    let i = is g (goal.at.returns-clause-pages g c).After-pend_tail in
     subst (λ (v : World). WorldStep w v spaces (leaves c.args.seat (note_of f)) (is_name (next_name w.store))) (sym (ap world_seen c.pend_tail.ensures.rest))
     (subst (λ (n : ℕ). WorldStep w (record w { store = c.begin-flight.new.self }) spaces (leaves n (note_of f)) (is_name (next_name w.store))) c.begin-flight.ensures.flight.seat
     (begins-step w spaces notes c.begin-flight.new.self c.args.plan f fits nf c.requires.can (c.requires.unloaded f.frame c.begin-flight.ensures.frame) i.begun))

@@ -5,11 +5,12 @@ use Rattle.page_store.specs.Seen.{StoreSeen, IsListedFrame, residence}
 use Rattle.page_store.specs.Steps.{next_frame, next_name}
 use Rattle.vm_world.specs.MemoryFits.{MemoryFits}
 use Rattle.vm_world.specs.Segments.{Spaces}
-use Rattle.vm_world.specs.Serving.{LosesFrame}
+use Rattle.vm_world.specs.Serving.{LosesFrame, ModifiesNone}
 use Rattle.vm_world.specs.World.{World, world_seen}
 use Rattle.vm_world.specs.WorldSteps.{WorldStep, stays}
 use Rattle.seg_ops.proofs.FreedFrames.{IsFreed, freed}
-use Rattle.seg_ops.proofs.Pending.{next-there}
+use Rattle.seg_ops.proofs.NewlyModified.{freed-modifies}
+use Rattle.seg_ops.proofs.Pending.{next-there, pends-next}
 use Rattle.seg_ops.proofs.StillSteps.{memory_of}
 use Rattle.seg_ops.proofs.frees.free_next.Given.{Over}
 use Rattle.seg_ops.proofs.frees.free_next.Goals.{After-pend_tail}
@@ -34,15 +35,24 @@ returns-clause-free g c =
     let at = (goal.at.returns-clause-free g c).After-pend_tail in
     ap next_name (store g at) ∙ (is g at c.requires.fits.0 c.requires.fits.1).free
 
-pub returns-clause-took : goal.returns-clause-took
-returns-clause-took g c =
-    let at = (goal.at.returns-clause-took g c).After-pend_tail in
-    subst (λ (v : World). IfSome (next_name c.args.world.now.store) (λ name. LosesFrame (world_seen c.args.world.now) v name)) (sym (ap world_seen c.pend_tail.ensures.rest)) (is g at c.requires.fits.0 c.requires.fits.1).took
+pub returns-clause-taken : goal.returns-clause-taken
+returns-clause-taken g c =
+    let w = world_seen c.args.world.now in
+    let at = (goal.at.returns-clause-taken g c).After-pend_tail in
+    record {
+      lost = subst (λ (v : World). IfSome (next_name w.store) (λ name. LosesFrame w v name)) (sym (ap world_seen c.pend_tail.ensures.rest)) (is g at c.requires.fits.0 c.requires.fits.1).took;
+      tails = pends-next w c.args.world.now.pending c.pend_tail.new.world.pending c.next_name-lost.result c.next_name-lost.ensures (record { bits = c.pend_tail.ensures.pends.bits; below = c.pend_tail.ensures.pends.below });
+    }
 
-pub returns-clause-step : goal.returns-clause-step
-returns-clause-step g c = λ spaces fits.
-    let at = (goal.at.returns-clause-step g c).After-pend_tail in
+pub returns-clause-pages : goal.returns-clause-pages
+returns-clause-pages g c = λ spaces fits.
+    let at = (goal.at.returns-clause-pages g c).After-pend_tail in
     subst (λ (v : World). WorldStep (world_seen c.args.world.now) v spaces stays (is_name (next_name c.args.world.now.store))) (sym (ap world_seen c.pend_tail.ensures.rest)) (is g at spaces fits).step
+
+pub returns-clause-modified : goal.returns-clause-modified
+returns-clause-modified g c =
+    let w = world_seen c.args.world.now in
+    subst (λ (v : World). ModifiesNone w v) (sym (ap world_seen c.pend_tail.ensures.rest)) (freed-modifies w c.requires.fits.0 c.give_up.new.store c.next_name-lost.result c.requires.fits.1 c.next_name-lost.ensures c.give_up.ensures.new c.give_up.ensures.laws)
 
 pub returns-clause-homes : goal.returns-clause-homes
 returns-clause-homes g c = λ page frame home unlisted.

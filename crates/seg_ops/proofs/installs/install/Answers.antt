@@ -7,6 +7,7 @@ use Rattle.page_store.specs.Moves.{is_only}
 use Rattle.vm_world.specs.World.{world_seen}
 use Rattle.seg_ops.specs.Steps.{with_dropped_gathered}
 use Rattle.seg_ops.proofs.Loads.{install-keeps, dropped-within}
+use Rattle.seg_ops.proofs.NewlyModified.{install-modifies}
 use Rattle.seg_ops.proofs.installs.install.Goals as goal
 
 pub load-dropped-requires : goal.load-dropped-requires
@@ -20,6 +21,13 @@ gather-requires g c =
 
 pub returns-clause-store : goal.returns-clause-store
 returns-clause-store g c = c.gather.ensures.new ∙ ap (with_dropped_gathered c.args.world.now.store) c.load-dropped.ensures.stolen
+
+pub returns-clause-modified : goal.returns-clause-modified
+returns-clause-modified g c =
+    let w = world_seen c.args.world.now in
+    let p = c.load-dropped.ensures.places in
+    install-modifies w c.gather.new.store c.load-dropped.new.self p.0 (fresh_translation c.args.space c.args.page c.args.frame c.args.writable) (dropped_by_load w.hat c.args.space c.args.page) refl p.2 p.3
+    (c.gather.ensures.new ∙ ap (with_dropped_gathered w.store) c.load-dropped.ensures.stolen) c.gather.ensures.stay
 
 pub returns-clause-keeps : goal.returns-clause-keeps
 returns-clause-keeps g c = λ spaces fits leads.

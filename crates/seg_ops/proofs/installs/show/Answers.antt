@@ -6,7 +6,8 @@ use Rattle.std.specs.Prelude.{option_map}
 use Rattle.seg_ops.specs.Steps.{with_dropped_gathered}
 use Rattle.seg_ops.proofs.StillSteps.{with_tables}
 use Rattle.seg_ops.proofs.Composed.{keeps-then}
-use Rattle.seg_ops.proofs.Shows.{home-within, reclaim-keeps, reclaim-unlisted, shown-fits}
+use Rattle.seg_ops.proofs.Modified.{modifies-then}
+use Rattle.seg_ops.proofs.Shows.{home-within, reclaim-keeps, reclaim-modifies, reclaim-unlisted, shown-fits}
 use Rattle.seg_ops.proofs.installs.show.Goals as goal
 
 pub install-requires-clause-frame : goal.install-requires-clause-frame
@@ -22,6 +23,11 @@ install-requires-clause-fits g c =
 
 pub returns-clause-store : goal.returns-clause-store
 returns-clause-store g c = c.install.ensures.store ∙ ap (λ (s : StoreSeen). with_dropped_gathered s (option_map told_of (dropped_by_load c.args.world.now.hat c.args.space c.args.page))) c.reclaim.ensures.new
+
+pub returns-clause-modified : goal.returns-clause-modified
+returns-clause-modified g c =
+    let w = world_seen c.args.world.now in
+    modifies-then w (with_tables w c.reclaim.new.self w.hat) (world_seen c.install.new.world) (reclaim-modifies w c.reclaim.new.self c.args.name c.reclaim.ensures.new c.reclaim.ensures.laws.residence) c.install.ensures.modified
 
 pub returns-clause-keeps : goal.returns-clause-keeps
 returns-clause-keeps g c = λ spaces fits may.

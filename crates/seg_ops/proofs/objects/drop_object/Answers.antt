@@ -6,6 +6,7 @@ use Rattle.seg_ops.specs.Empties.{EmptiesPlaces, IsUnloadedZero, places_emptied}
 use Rattle.seg_ops.proofs.SlotObjects.{nothing-emptied, more-emptied, changes-emptied, all-emptied}
 use Rattle.seg_ops.proofs.SlotPlaces.{places-same}
 use Rattle.seg_ops.proofs.SlotRanges.{there-still, length-still, maps-more}
+use Rattle.seg_ops.proofs.Modified.{modifies-same, modifies-then}
 use Rattle.seg_ops.proofs.objects.drop_object.Given.{Over}
 use Rattle.seg_ops.proofs.objects.drop_object.Goals.{After-loop-place}
 use Rattle.seg_ops.proofs.objects.drop_object.Goals as goal
@@ -16,6 +17,7 @@ loop-place-init g c = record {
   reserved = refl;
   fall = λ slot. omega arith;
   stay = λ name there. refl;
+  modified = modifies-same (world_seen c.args.world.now);
   rest = refl;
   empties = λ spaces z fits zero. nothing-emptied (world_seen c.args.world.now) spaces c.args.map fits;
 }
@@ -52,6 +54,7 @@ loop-place-preserved g c =
       stay = λ name there.
           c.empty_place.ensures.stay name there
           ∙ c.loop-place.invariant.stay name (λ swap. let some = there swap in let less = c.empty_place.ensures.fall name.page in omega (arith, some, less));
+      modified = modifies-then (world_seen old) (world_seen cur) (world_seen new) c.loop-place.invariant.modified c.empty_place.ensures.modified;
       rest = c.empty_place.ensures.rest ∙ ap (λ (w : World g.row.D.Denot). record w { store = new.store; anon = new.anon; maps = new.maps }) c.loop-place.invariant.rest;
       empties = λ spaces z fits shows.
           let before = c.loop-place.invariant.empties spaces z fits shows in

@@ -5,6 +5,7 @@ use Rattle.anon_map.specs.Maps.{places_of, with_places}
 use Rattle.anon_slots.specs.Slots.{count_at}
 use Rattle.vm_world.specs.MemoryFits.{MemoryFits}
 use Rattle.vm_world.specs.Segments.{Spaces}
+use Rattle.vm_world.specs.Serving.{ModifiesNone}
 use Rattle.vm_world.specs.World.{world_seen}
 use Rattle.seg_ops.specs.Empties.{EmptiesPlaces, IsUnloadedZero, places_emptied}
 use Rattle.seg_ops.proofs.StillSteps.{memory_of}
@@ -16,6 +17,7 @@ invariant-loop-place g l = record {
   reserved : l.world.anon.reserved ≡ l.fn.world.anon.reserved;
   fall : (slot : ℕ) → count_at l.world.anon slot ≤ count_at l.fn.world.anon slot;
   stay : (name : PageName) → (name.object ≡ 64 → 0 < count_at l.world.anon name.page) → residence l.world.store name ≡ residence l.fn.world.store name;
+  modified : ModifiesNone (world_seen l.fn.world) (world_seen l.world);
   rest : l.world ≡ record l.fn.world { store = l.world.store; anon = l.world.anon; maps = l.world.maps };
   empties : (spaces : Spaces) (z : ℕ) → MemoryFits (memory_of (world_seen l.fn.world) spaces) → IsUnloadedZero l.fn.world.hat.places spaces z l.fn.map
       → EmptiesPlaces (world_seen l.fn.world) (world_seen l.world) spaces l.fn.map (λ i. i < l.place);

@@ -10,6 +10,7 @@ use Rattle.seg_ops.specs.Slots.{OwnsAlone}
 use Rattle.seg_ops.proofs.SlotPlaces.{places-same}
 use Rattle.seg_ops.proofs.SlotRanges.{changes-none, changes-more, there-still, length-still, maps-more, owns-next}
 use Rattle.seg_ops.proofs.StillSteps.{memory_of}
+use Rattle.seg_ops.proofs.Modified.{modifies-same, modifies-then}
 use Rattle.seg_ops.proofs.ranges.drop_places.Goals as goal
 
 pub loop-place-init : goal.loop-place-init
@@ -20,6 +21,7 @@ loop-place-init g c =
       reserved = refl;
       fall = λ slot. omega arith;
       stay = λ name there. refl;
+      modified = modifies-same (world_seen c.args.world.now);
       rest = refl;
       changes = λ spaces p first fits owns.
           let m = memory_of (world_seen c.args.world.now) spaces in
@@ -62,6 +64,7 @@ loop-place-preserved g c =
       stay = λ name there.
           c.empty_place.ensures.stay name there
           ∙ c.loop-place.invariant.stay name (λ swap. let some = there swap in let less = c.empty_place.ensures.fall name.page in omega (arith, some, less));
+      modified = modifies-then (world_seen old) (world_seen cur) (world_seen new) c.loop-place.invariant.modified c.empty_place.ensures.modified;
       rest = c.empty_place.ensures.rest ∙ ap (λ (w : World g.row.D.Denot). record w { store = new.store; anon = new.anon; maps = new.maps }) c.loop-place.invariant.rest;
       changes = λ spaces p first fits owns.
           let before = c.loop-place.invariant.changes spaces p first fits owns in

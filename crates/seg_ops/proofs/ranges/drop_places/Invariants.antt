@@ -6,6 +6,7 @@ use Rattle.anon_slots.specs.Slots.{count_at}
 use Rattle.vm_world.specs.CallSteps.{ChangesMemory}
 use Rattle.vm_world.specs.MemoryFits.{MemoryFits}
 use Rattle.vm_world.specs.Segments.{Spaces}
+use Rattle.vm_world.specs.Serving.{ModifiesNone}
 use Rattle.vm_world.specs.World.{world_seen}
 use Rattle.seg_ops.specs.Empties.{OwnsPlaces, places_emptied}
 use Rattle.seg_ops.specs.OwnPages.{without_own_pages}
@@ -18,6 +19,7 @@ invariant-loop-place g l = record {
   reserved : l.world.anon.reserved ≡ l.fn.world.anon.reserved;
   fall : (slot : ℕ) → count_at l.world.anon slot ≤ count_at l.fn.world.anon slot;
   stay : (name : PageName) → (name.object ≡ 64 → 0 < count_at l.world.anon name.page) → residence l.world.store name ≡ residence l.fn.world.store name;
+  modified : ModifiesNone (world_seen l.fn.world) (world_seen l.world);
   rest : l.world ≡ record l.fn.world { store = l.world.store; anon = l.world.anon; maps = l.world.maps };
   changes : (spaces : Spaces) (p first : ℕ) → MemoryFits (memory_of (world_seen l.fn.world) spaces) → OwnsPlaces l.fn.world.hat.places spaces p first l.fn.map l.fn.from (l.fn.end - l.fn.from)
       → ChangesMemory p (memory_of (world_seen l.fn.world) spaces) (memory_of (world_seen l.world) spaces) (λ F G. G ≡ without_own_pages F p first (l.place - l.fn.from));

@@ -1,7 +1,9 @@
-use Rattle.std.proofs.Common.{◌≡◌, None, sym, ◌∙◌}
+use Rattle.std.proofs.Common.{◌≡◌, None, sym, ap, ◌∙◌, subst}
 use Rattle.anon_slots.specs.Slots.{count_at}
-use Rattle.vm_world.specs.World.{world_seen}
+use Rattle.vm_world.specs.Serving.{ModifiesNone}
+use Rattle.vm_world.specs.World.{World, world_seen}
 use Rattle.vm_world.proofs.Counts.{held-used, used-below}
+use Rattle.seg_ops.proofs.Modified.{modifies-same}
 use Rattle.seg_ops.proofs.SlotObjects.{one-emptied, none-emptied}
 use Rattle.seg_ops.proofs.SlotPlaces.{place-same}
 use Rattle.seg_ops.proofs.SlotRanges.{changes-empty}
@@ -28,3 +30,12 @@ pub returns-else-count-eq1-clause-zeros : goal.returns-else-count-eq1-clause-zer
 returns-else-count-eq1-clause-zeros g c = λ spaces z fits shows.
     let one : count_at c.args.world.now.anon c.in-Some.slot ≡ 1 = fits.segments.once z c.args.map c.args.place c.in-Some.slot shows.zero (sym c.get.ensures ∙ c.in-Some.is) in
     absurd (c.if-count-eq1.false (c.count.ensures ∙ one))
+
+-- no page becomes modified: nothing happens, a slot alone is left, or its page is given up
+pub returns-in_default-clause-modified : goal.returns-in_default-clause-modified
+returns-in_default-clause-modified g c = modifies-same (world_seen c.args.world.now)
+
+pub returns-else-count-eq1-clause-modified : goal.returns-else-count-eq1-clause-modified
+returns-else-count-eq1-clause-modified g c =
+    let w = world_seen c.args.world.now in
+    subst (λ (v : World). ModifiesNone w v) (sym (ap world_seen c.leave_slot.ensures.rest)) (modifies-same w)

@@ -1,4 +1,4 @@
-use Rattle.std.proofs.Common.{◌≡◌, ℕ, ◌<◌, List, Option, Some, None, length, sym, ap, ◌∙◌, subst}
+use Rattle.std.proofs.Common.{◌≡◌, ℕ, ◌<◌, List, Option, Some, None, length, refl, sym, ap, ◌∙◌, inl, subst}
 use Rattle.std.specs.Prelude.{IfSome, IsSome}
 use Rattle.core_arena.specs.Bytes.{bytes_at}
 use Rattle.page_hash.specs.declared.PageName.{PageName}
@@ -7,15 +7,23 @@ use Rattle.page_store.specs.Steps.{next_frame}
 use Rattle.page_store.specs.declared.residence.Residence.TheVariants as at
 use Rattle.vm_world.specs.Words.{IsFit, IsKnown}
 use Rattle.vm_world.specs.declared.world.World.{World}
-use Rattle.seg_ops.specs.Rooms.{MakesRoom}
+use Rattle.seg_ops.specs.Rooms.{ListsOneMore, MakesRoom}
 use Rattle.seg_ops.proofs.Evictions.{no-room}
-use Rattle.seg_ops.proofs.RoomMade.{room-same, room-then}
+use Rattle.seg_ops.proofs.RoomMade.{lists-then, room-same, room-then}
 use Rattle.seg_ops.proofs.rooms.make_room_but.Given.{Over}
 use Rattle.seg_ops.proofs.rooms.make_room_but.Goals.{After-try_page}
 use Rattle.seg_ops.proofs.rooms.make_room_but.Goals as goal
 
 pub returns-then-available-clause-makes : goal.returns-then-available-clause-makes
 returns-then-available-clause-makes g c = room-same c.args.world.now
+
+pub returns-then-available-clause-listed : goal.returns-then-available-clause-listed
+returns-then-available-clause-listed g c = (refl, inl refl)
+
+pub returns-clause-listed : goal.returns-clause-listed
+returns-clause-listed g c =
+    lists-then c.args.world.now.store c.pass_over_used.new.world.store c.try_page.new.world.store c.pass_over_used.ensures.lists
+    (subst (λ (w : World g.row.D.Denot). ListsOneMore w.store c.try_page.new.world.store) c.next_victim-name.ensures.same c.try_page.ensures.listed)
 
 pub next_victim-name-requires : goal.next_victim-name-requires
 next_victim-name-requires g c =

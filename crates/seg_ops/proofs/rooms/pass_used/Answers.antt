@@ -7,7 +7,7 @@ use Rattle.page_store.specs.Seen.{StoreSeen, residence}
 use Rattle.page_store.specs.Steps.{next_frame, with_row}
 use Rattle.page_store.specs.declared.residence.Residence.TheVariants as at
 use Rattle.vm_world.specs.World.{world_seen}
-use Rattle.seg_ops.specs.Rooms.{MakesRoom, was_used}
+use Rattle.seg_ops.specs.Rooms.{MakesRoom, SameLists, was_used}
 use Rattle.seg_ops.specs.Steps.{with_bits_gathered}
 use Rattle.seg_ops.proofs.RoomMade.{room-then}
 use Rattle.seg_ops.proofs.UsedPages.{clear-keeps, clear-modifies, cleared-use, gathered-use}
@@ -36,6 +36,22 @@ returns-clause-makes g c =
       keeps = λ spaces fits. clear-keeps (world_seen u) spaces c.pass_over.new.self c.in-Home.frame false fits (stored g d) (laws g d);
     } in
     room-then c.args.world.now u (record u { store = c.pass_over.new.self }) c.sync.ensures.makes cleared
+
+-- the lists, where bits alone are gathered
+gathered-lists : (g : Over) (c : In-Home g) (mid : StoreSeen) → mid ≡ with_bits_gathered c.args.world.now.store c.in-Home.frame (bits_of c.in-Home.frame c.args.world.now.hat.places) → SameLists c.args.world.now.store mid
+gathered-lists g c mid is = (ap (λ (x : StoreSeen). x.free) is, ap (λ (x : StoreSeen). x.cached) is)
+
+pub returns-then-not-referenced-clause-lists : goal.returns-then-not-referenced-clause-lists
+returns-then-not-referenced-clause-lists g c = gathered-lists g (goal.at.returns-then-not-referenced-clause-lists g c).In-Home c.sync.new.world.store c.sync.ensures.store
+
+pub returns-clause-lists : goal.returns-clause-lists
+returns-clause-lists g c =
+    let d = (goal.at.returns-clause-lists g c).After-pass_over in
+    let first = gathered-lists g (goal.at.returns-clause-lists g c).In-Home c.sync.new.world.store c.sync.ensures.store in
+    let then = stored g d in (
+      ap (λ (s : StoreSeen). s.free) then ∙ first.0,
+      ap (λ (s : StoreSeen). s.cached) then ∙ first.1,
+    )
 
 pub returns-clause-room : goal.returns-clause-room
 returns-clause-room g c = ap (λ (s : StoreSeen). next_frame s) (stored g (goal.at.returns-clause-room g c).After-pass_over) ∙ ap (λ (s : StoreSeen). next_frame s) c.sync.ensures.store

@@ -23,7 +23,7 @@ returns-clause-serves g c = λ spaces x write fits place.
     let may = may-show old mid spaces c.args.space c.args.page x write c.args.writable c.args.world.now.pending c.bring_page.new.world.pending c.args.name fits place maps anon files in
     subst (λ (k : ℕ). ServesFault (memory_of old spaces) (memory_of new spaces) c.args.world.now.pending k c.args.space c.args.page x write (Ok fault.Loaded)) (sym (ap (λ v. v.pending) c.load_page.ensures.rest))
     (page-loaded old mid spaces c.args.space c.args.page x write c.args.writable c.args.world.now.pending c.bring_page.new.world.pending c.args.name fits place maps anon files new c.load_page.ensures.loaded.0
-    brings (c.load_page.ensures.keeps spaces brings.first.step.memory may) c.load_page.ensures.names (ap (λ v. v.maps) c.load_page.ensures.rest) (ap (λ v. v.anon) c.load_page.ensures.rest) c.load_page.ensures.loaded.1)
+    brings (c.load_page.ensures.keeps spaces brings.first.step.memory may) c.load_page.ensures.names c.load_page.ensures.modified (ap (λ v. v.maps) c.load_page.ensures.rest) (ap (λ v. v.anon) c.load_page.ensures.rest) c.load_page.ensures.loaded.1)
 
 pub returns-in_err-bring_page-clause-serves : goal.returns-in_err-bring_page-clause-serves
 returns-in_err-bring_page-clause-serves g c = λ spaces x write fits place.

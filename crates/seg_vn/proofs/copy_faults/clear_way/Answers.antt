@@ -5,6 +5,7 @@ use Rattle.page_hash.specs.Names.{is_name, name_at}
 use Rattle.page_store.specs.Steps.{next_name}
 use Rattle.vm_world.specs.StateSteps.{PendsTails}
 use Rattle.vm_world.specs.World.{world_seen}
+use Rattle.seg_ops.proofs.Modified.{modifies-then}
 use Rattle.seg_vn.proofs.CopySteps.{gathered-next, gathered-listed, gathered-same}
 use Rattle.seg_vn.proofs.Takes.{takes-later, takes-next}
 use Rattle.seg_vn.proofs.copy_faults.clear_way.Goals as goal
@@ -40,12 +41,15 @@ returns-clause-takes g c = λ spaces fits.
     let mid = world_seen c.drop_translation.new.world in
     let new = world_seen c.free_next.new.world in
     let keeps = c.drop_translation.ensures.keeps spaces fits in
-    let pends = subst (λ (k : ℕ). PendsTails mid (is_name (next_name mid.store)) k c.free_next.new.world.pending) (ap (λ v. v.pending) c.drop_translation.ensures.rest) c.free_next.ensures.pends in
+    let pends = subst (λ (k : ℕ). PendsTails mid (is_name (next_name mid.store)) k c.free_next.new.world.pending) (ap (λ v. v.pending) c.drop_translation.ensures.rest) c.free_next.ensures.taken.tails in
     let names = gathered-same old.store mid.store (option_map told_of (translation_at c.args.world.now.hat.places c.args.space c.args.page)) c.drop_translation.ensures.store in
     record {
       takes = takes-later old mid new spaces c.args.world.now.pending c.free_next.new.world.pending fits keeps names (ap (λ v. v.files) c.drop_translation.ensures.rest)
-          (takes-next mid new spaces c.args.world.now.pending c.free_next.new.world.pending (c.free_next.ensures.step spaces keeps.memory) pends c.free_next.ensures.took);
+          (takes-next mid new spaces c.args.world.now.pending c.free_next.new.world.pending (c.free_next.ensures.pages spaces keeps.memory) pends c.free_next.ensures.taken.lost);
       next = λ name cut.
           let h = cut-frame mid.store name cut in
           (h.0, c.free_next.ensures.same ∙ h.1, ap (λ (ns : List (Option PageName)). name_at ns h.0) (sym names) ∙ h.2);
     }
+
+pub returns-clause-modified : goal.returns-clause-modified
+returns-clause-modified g c = modifies-then (world_seen c.args.world.now) (world_seen c.drop_translation.new.world) (world_seen c.free_next.new.world) c.drop_translation.ensures.modified c.free_next.ensures.modified

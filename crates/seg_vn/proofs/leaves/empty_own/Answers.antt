@@ -49,7 +49,7 @@ returns-in-Some-clause-gives g c =
     let n = c.args.segment.pages - 0 in
     let places = places_of c.args.world.now.maps c.in-Some.map in
     places-given (world_seen c.args.world.now) (world_seen c.drop_places.new.world) c.in-Some.map (places_emptied places 0 n) own.0 (length-emptied places 0 n) c.drop_places.ensures.maps
-    c.drop_places.ensures.fall (ap (λ (w : World g.row.D.Denot). w.hat) c.drop_places.ensures.rest)
+    c.drop_places.ensures.fall (ap (λ (w : World g.row.D.Denot). w.hat) c.drop_places.ensures.rest) c.drop_places.ensures.modified
 
 pub returns-in-Some-clause-changes : goal.returns-in-Some-clause-changes
 returns-in-Some-clause-changes g c spaces part =

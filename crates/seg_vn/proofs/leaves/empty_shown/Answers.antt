@@ -91,7 +91,7 @@ pub returns-then-holders-eq1-clause-gives : goal.returns-then-holders-eq1-clause
 returns-then-holders-eq1-clause-gives g c =
     let d = (goal.at.returns-then-holders-eq1-clause-gives g c).After-drop_object in
     let none : List (Option ℕ) = replicate (length (places_of c.args.world.now.maps c.in-Some.map)) None in
-    places-given (world_seen c.args.world.now) (world_seen c.drop_object.new.world) c.in-Some.map none (there g d) (size g d) c.drop_object.ensures.maps c.drop_object.ensures.fall (ap (λ (v : World g.row.D.Denot). v.hat) c.drop_object.ensures.rest)
+    places-given (world_seen c.args.world.now) (world_seen c.drop_object.new.world) c.in-Some.map none (there g d) (size g d) c.drop_object.ensures.maps c.drop_object.ensures.fall (ap (λ (v : World g.row.D.Denot). v.hat) c.drop_object.ensures.rest) c.drop_object.ensures.modified
 
 pub returns-then-holders-eq1-clause-changes : goal.returns-then-holders-eq1-clause-changes
 returns-then-holders-eq1-clause-changes g c spaces part =

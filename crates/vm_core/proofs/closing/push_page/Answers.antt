@@ -10,7 +10,7 @@ is : (g : Over) (c : After-end_flight g) → IsPush (world_seen c.args.world.now
 is g c = record {
   begins = c.begin_push-flight.ensures.flight;
   cut = _;
-  leaves = c.begin_push-flight.ensures.step;
+  leaves = c.begin_push-flight.ensures.pages;
   files = c.begin_push-flight.ensures.files;
   performed = c.perform-result.ensures.performed;
   returns = c.end_flight.ensures.step;

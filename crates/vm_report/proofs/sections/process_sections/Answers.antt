@@ -42,7 +42,9 @@ loop-process-preserved c =
     let place = (goal.at.loop-process-preserved c).After-members-in-loop-process in
     let all = length c.parents-count.result.now in
     record {
-      so_far = sections_more c.args.plan.now c.args.history.now c.loop-process.out.items c.push_section.new.out.items _ _ (all + 1 - c.loop-process.process) (all + 1 - (c.loop-process.process + 1)) c.loop-process.process (omega arith)
+      so_far =
+          sections_more c.args.plan.now c.args.history.now c.loop-process.out.items c.push_section.new.out.items _ _
+          (all + 1 - c.loop-process.process) (all + 1 - (c.loop-process.process + 1)) c.loop-process.process (omega arith)
           (section_is c.args.plan.now c.loop-process.process c.args.history.now c.is_born_by-born.result _ _ (born place) (lines_are place) (entries_are place))
           c.in_ok-push_section.ensures c.loop-process.invariant.so_far;
       from = omega arith;

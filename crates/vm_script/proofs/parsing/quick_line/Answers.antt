@@ -9,5 +9,6 @@ returns-in-Some-clause-some c =
 
 pub returns-in-Some-quick_store-clause-some : goal.returns-in-Some-quick_store-clause-some
 returns-in-Some-quick_store-clause-some c =
-    reads_quick c.args.line c.args.growing.now c.add_line-in-Some-quick_store.new.self c.args.text.now c.in-Some-quick_store.rest.now (call.Store c.in-Some-quick_store.addr c.in-Some-quick_store.size c.in-Some-quick_store.value)
+    reads_quick c.args.line c.args.growing.now c.add_line-in-Some-quick_store.new.self c.args.text.now c.in-Some-quick_store.rest.now
+    (call.Store c.in-Some-quick_store.addr c.in-Some-quick_store.size c.in-Some-quick_store.value)
     c.requires.inside c.in-Some-quick_store.ensures c.in_ok-add_line-2.ensures.new

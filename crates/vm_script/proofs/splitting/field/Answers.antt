@@ -4,7 +4,8 @@ use Rattle.vm_script.proofs.Cursors as text
 use Rattle.vm_script.proofs.splitting.field.Goals as goal
 
 pub overflow_sub-text : goal.overflow_sub-text
-overflow_sub-text c = omega (arith, ap length c.skip_others-rest.ensures, ap length (text.after_both c.args.text.now), text.after_le c.args.text.now, ap (λ xs. length (after_field xs)) c.skip_graphic-behind.ensures)
+overflow_sub-text c =
+    omega (arith, ap length c.skip_others-rest.ensures, ap length (text.after_both c.args.text.now), text.after_le c.args.text.now, ap (λ xs. length (after_field xs)) c.skip_graphic-behind.ensures)
 
 pub returns-clause-field : goal.returns-clause-field
 returns-clause-field c =

@@ -39,7 +39,8 @@ loop-place-preserved g c =
     let old = paired_seen seen c.args.disks.now in
     let at = there_or (λ disk. (disk.0, seen disk.1)) c.loop-place.disks place c.index-disks-place.result (omega (arith, c.loop-place-test.true, c.loop-place.auto.disks)) in
     subst (λ (ds : List (ℕ × DiskSeen)). TablesSoFar infos (place + 1) old ds) (sym (map-set (λ disk. (disk.0, seen disk.1)) c.loop-place.disks place e))
-    (tables_step infos place old (paired_seen seen c.loop-place.disks) (d.0, seen d.1) (e.0, seen e.1) at c.in_ok-write_table.ensures.number c.in_ok-write_table.ensures.keeps c.loop-place.invariant c.in_ok-write_table.ensures.says)
+    (tables_step infos place old (paired_seen seen c.loop-place.disks) (d.0, seen d.1)
+    (e.0, seen e.1) at c.in_ok-write_table.ensures.number c.in_ok-write_table.ensures.keeps c.loop-place.invariant c.in_ok-write_table.ensures.says)
 
 pub returns-in_err-write_table-clause-keeps : goal.returns-in_err-write_table-clause-keeps
 returns-in_err-write_table-clause-keeps g c =
@@ -51,7 +52,8 @@ returns-in_err-write_table-clause-keeps g c =
     let old = paired_seen seen c.args.disks.now in
     let at = there_or (λ disk. (disk.0, seen disk.1)) c.loop-place.disks place c.index-disks-place.result (omega (arith, c.loop-place-test.true, c.loop-place.auto.disks)) in
     subst (λ (ds : List (ℕ × DiskSeen)). WriteTables old ds) (sym (map-set (λ disk. (disk.0, seen disk.1)) c.loop-place.disks place e))
-    (tables_write infos place old (paired_seen seen c.loop-place.disks) (d.0, seen d.1) (e.0, seen e.1) at c.in_err-write_table.ensures.number c.in_err-write_table.ensures.keeps c.loop-place.invariant)
+    (tables_write infos place old (paired_seen seen c.loop-place.disks) (d.0, seen d.1)
+    (e.0, seen e.1) at c.in_err-write_table.ensures.number c.in_err-write_table.ensures.keeps c.loop-place.invariant)
 
 pub returns-in_err-write_table-clause-stop : goal.returns-in_err-write_table-clause-stop
 returns-in_err-write_table-clause-stop g c =
@@ -63,7 +65,8 @@ returns-in_err-write_table-clause-stop g c =
     let old = paired_seen seen c.args.disks.now in
     let at = there_or (λ disk. (disk.0, seen disk.1)) c.loop-place.disks place c.index-disks-place.result (omega (arith, c.loop-place-test.true, c.loop-place.auto.disks)) in
     let stop = subst (λ (ds : List (ℕ × DiskSeen)). IsTableStop old ds c.in_err-write_table.field-0.0) (sym (map-set (λ disk. (disk.0, seen disk.1)) c.loop-place.disks place e))
-    (tables_stop infos place old (paired_seen seen c.loop-place.disks) (d.0, seen d.1) (e.0, seen e.1) at c.in_err-write_table.ensures.number c.in_err-write_table.ensures.keeps c.loop-place.invariant c.in_err-write_table.field-0.0 c.in_err-write_table.ensures.stop) in
+    (tables_stop infos place old (paired_seen seen c.loop-place.disks) (d.0, seen d.1)
+    (e.0, seen e.1) at c.in_err-write_table.ensures.number c.in_err-write_table.ensures.keeps c.loop-place.invariant c.in_err-write_table.field-0.0 c.in_err-write_table.ensures.stop) in
     first_of (search (rules, stop), grind (arith, common_steps, stop))
 
 pub returns-clause-tables : goal.returns-clause-tables

@@ -66,7 +66,8 @@ returns-clause-placed c =
     let name : c.new-name.result ≡ c.in-File.name = c.new-name.ensures ∙ c.bytes.ensures in
     let extents : c.in_ok-new.field-0 ≡ record { start = c.in-Some.start; pages = c.in-File.pages } ∷ [] = c.in_ok-new.ensures in
     let long : length c.bytes-2.result.now ≡ length c.in-File.bytes = ap length c.bytes-2.ensures in
-    let same : ◌≡◌ {A = FileInfo} (record { name = c.new-name.result; disk = c.in-File.disk; extents = c.in_ok-new.field-0; length = length c.bytes-2.result.now; writable = c.in-File.writable }) (file c.in-Some.start).info =
+    let same : ◌≡◌ {A = FileInfo}
+    (record { name = c.new-name.result; disk = c.in-File.disk; extents = c.in_ok-new.field-0; length = length c.bytes-2.result.now; writable = c.in-File.writable }) (file c.in-Some.start).info =
     λ i. record { name = name i; disk = c.in-File.disk; extents = extents i; length = long i; writable = c.in-File.writable } in
     let grew : c.add.new.self.files ≡ c.args.files.now.files ++ fresh_vnode (file c.in-Some.start).info ∷ [] =
     ap (λ (s : FilesSeen). s.files) c.in_ok-add.ensures.new ∙ ap (λ (x : FileInfo). c.args.files.now.files ++ fresh_vnode x ∷ []) same in

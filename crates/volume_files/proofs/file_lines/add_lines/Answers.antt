@@ -16,7 +16,8 @@ loop-line-preserved c = record {
       let sizes = block_count c.args.files.now.disks in
       let p = c.loop-line.invariant.placed before opened in
       let gave : Gave c.add_line.new.files (with_line_file sizes p.0 c.line-item.result.act) =
-      subst (λ (m : finite.FinMap nat_cmp ℕ). Gave c.add_line.new.files (with_line_file (block_count m) p.0 c.line-item.result.act)) c.loop-line.invariant.disks (c.in_ok-add_line.ensures.placed p.0 p.1) in
+      subst (λ (m : finite.FinMap nat_cmp ℕ). Gave c.add_line.new.files (with_line_file (block_count m) p.0 c.line-item.result.act))
+      c.loop-line.invariant.disks (c.in_ok-add_line.ensures.placed p.0 p.1) in
       gave-step sizes c.add_line.new.files p.0 c.args.setup.now c.loop-line.line-index c.line-item.result (with_line_files sizes (Ok before) c.args.setup.now)
       c.loop-line-test.true c.line-item.is gave p.2;
 }

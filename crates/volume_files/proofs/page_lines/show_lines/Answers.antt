@@ -42,11 +42,13 @@ returns-in_err-show_page-clause-shown g c =
 
 pub returns-in_err-show_page-clause-looks : goal.returns-in_err-show_page-clause-looks
 returns-in_err-show_page-clause-looks g c =
-    looks_then (g.P.PageDisk.numbered c.args.disk.now) (g.P.PageDisk.numbered c.loop-page.disk) (g.P.PageDisk.numbered c.show_page.new.disk) c.loop-page.invariant.looks c.in_err-show_page.ensures.looks
+    looks_then (g.P.PageDisk.numbered c.args.disk.now) (g.P.PageDisk.numbered c.loop-page.disk)
+    (g.P.PageDisk.numbered c.show_page.new.disk) c.loop-page.invariant.looks c.in_err-show_page.ensures.looks
 
 pub returns-clause-shown : goal.returns-clause-shown
 returns-clause-shown g c =
     let info = shown_info c.args.files.now c.args.file in
     let same = ap (λ (x : FileInfo). pages_in x.length) c.info.ensures.info in
     let past : pages_in info.length ≤ c.loop-page.page = omega (arith, c.loop-page-test.false, c.pages_in-pages.ensures.pages, same) in
-    lines_done info c.loop-page.page (g.K.Sink.seen c.args.out.now) (g.K.Sink.seen c.loop-page.out) (g.P.PageDisk.numbered c.args.disk.now) (g.P.PageDisk.numbered c.loop-page.disk) c.loop-page.invariant past g.P.PageDisk.counts
+    lines_done info c.loop-page.page (g.K.Sink.seen c.args.out.now) (g.K.Sink.seen c.loop-page.out) (g.P.PageDisk.numbered c.args.disk.now)
+    (g.P.PageDisk.numbered c.loop-page.disk) c.loop-page.invariant past g.P.PageDisk.counts

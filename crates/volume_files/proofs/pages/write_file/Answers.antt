@@ -2,6 +2,8 @@ use Rattle.std.specs.Prelude.{◌<◌, length, slice_index_or}
 use Rattle.std.proofs.Common.{arith}
 use Rattle.std.proofs.lemmas.List.{get_or_default}
 use Rattle.std.proofs.lemmas.Result.{err_from_is_err_and}
+use Rattle.volume_files.specs.Handed.{SparesBlock}
+use Rattle.volume_files.proofs.SparedBlocks.{keep-done, keep-set}
 use Rattle.volume_files.proofs.WriteLemmas.{fault-set, FileOn, file_on-step, remain-set}
 use Rattle.volume_files.proofs.pages.write_file.Goals as goal
 
@@ -28,3 +30,15 @@ loop-i-preserved g c =
     (get_or_default c.loop-i.disks c.loop-i.i c.index-disks-i.result x below)
     c.in_ok-write_on.ensures.stays c.in_ok-write_on.ensures.ok in
     record { stay = next.stay; done = next.done; rest = next.rest }
+
+pub returns-in_err-write_on-clause-keep : goal.returns-in_err-write_on-clause-keep
+returns-in_err-write_on-clause-keep g c =
+    let below : c.loop-i.i < length c.loop-i.disks = omega (arith, c.loop-i-test.true, c.loop-i.invariant.stay.count) in
+    let x = slice_index_or c.loop-i.disks c.loop-i.i c.index-disks-i.result in
+    keep-set g.D.Disk.seen (SparesBlock c.args.info.now c.args.bytes.now) c.args.disks.now c.loop-i.disks c.loop-i.i x c.write_on.new.disk c.loop-i.invariant.stay
+    (keep-done g.D.Disk.seen c.args.disks.now c.loop-i.disks c.args.info.now c.args.bytes.now c.loop-i.i c.loop-i.invariant.done c.loop-i.invariant.rest) below
+    (get_or_default c.loop-i.disks c.loop-i.i c.index-disks-i.result x below) c.in_err-write_on.ensures.keeps
+
+pub returns-clause-keep : goal.returns-clause-keep
+returns-clause-keep g c =
+    keep-done g.D.Disk.seen c.args.disks.now c.loop-i.disks c.args.info.now c.args.bytes.now c.loop-i.i c.loop-i.invariant.done c.loop-i.invariant.rest

@@ -6,5 +6,6 @@ use Rattle.volume_files.proofs.pages.write_pages.Given as goal
 abbrev pub invariant-loop-page : goal.invariant-loop-page
 invariant-loop-page g l = record {
   stays : RemainsThere g.D.Disk.seen l.fn.disk l.disk;
-  rest : with_block_pages (g.D.Disk.seen l.disk.disk).content (l.start + l.page) (drop l.page (filled_pages l.bytes)) ≡ with_block_pages (g.D.Disk.seen l.fn.disk.disk).content l.start (filled_pages l.bytes);
+  rest : with_block_pages (g.D.Disk.seen l.disk.disk).content (l.start + l.page) (drop l.page (filled_pages l.bytes)) ≡ with_block_pages
+      (g.D.Disk.seen l.fn.disk.disk).content l.start (filled_pages l.bytes);
 }

@@ -1,16 +1,14 @@
-use Rattle.std.specs.Prelude.{ℕ, ◌≡◌, ◌<◌, ◌^◌, List, length, map, option_map, None}
+use Rattle.std.specs.Prelude.{ℕ, ◌≡◌, List, length, map, option_map, None}
 use Rattle.std.proofs.Common.{arith, refl, sym, ap, ◌∙◌, subst}
 use Rattle.std.specs.Vec.{with_items}
 use Rattle.block_device.specs.declared.numbered.NumberedDisk.{NumberedDisk}
-use Rattle.std.proofs.lemmas.List.{length-map}
-use Rattle.vnode_files.specs.Vnode.{VnodeSeen}
 use Rattle.volume_format.specs.Table.{TableSeen}
 use Rattle.vm_script.specs.PlanSeen.{PlanSeen}
 use Rattle.vm_script.specs.Rules.{broken_rule}
 use Rattle.vm_script.specs.FileNames.{with_files}
 use Rattle.volume_files.specs.Attached.{AreMounted, ArePlaced, numbered_seen}
 use Rattle.volume_files.specs.Opened.{disk_specs}
-use Rattle.volume_files.specs.Placing.{Distinct, PlaceStopped, PlacesFiles, attached_numbers, names_made, placing_read}
+use Rattle.volume_files.specs.Placing.{Distinct, PlaceStopped, PlacesFiles, attached_numbers, found_files, names_made, placing_read}
 use Rattle.volume_files.proofs.DiskCounts.{count-as}
 use Rattle.volume_files.proofs.AllPlaced.{distinct-attached, placed-all}
 use Rattle.volume_files.proofs.FileLineLemmas.{names-opened}
@@ -54,9 +52,10 @@ returns-in-Ok-clause-ok g c = λ holds a.
     let written : (with_items c.args.attached.disks new).items ≡ new =
     items-written c.args.attached.disks new (remain.count ∙ ap (λ (ds : List (NumberedDisk _)). length ds) c.deref_mut.ensures.value) in
     let all = placed-all seen plan holds old new ts (option_map (λ (d : NumberedDisk _). seen d.disk) c.args.attached.swap) files (λ d. g.met.D.Disk.has_blocks d.disk)
-    c.requires.rules c.requires.sound m a.swap remain c.in-Ok.ensures.sound c.in-Ok.ensures.few placed in (
+    c.requires.rules c.requires.sound m a.swap a.blank remain c.in-Ok.ensures.sound c.in-Ok.ensures.few placed in (
       placed.opened,
-      subst (λ (ds : List (NumberedDisk _)). ArePlaced plan holds placed.opened (record { disks = map (numbered_seen seen) ds; tables = ts; swap = option_map (λ (d : NumberedDisk _). seen d.disk) c.args.attached.swap }) files) (sym written) all,
+      subst (λ (ds : List (NumberedDisk _)). ArePlaced plan holds placed.opened
+          (record { disks = map (numbered_seen seen) ds; tables = ts; swap = option_map (λ (d : NumberedDisk _). seen d.disk) c.args.attached.swap }) files) (sym written) all,
       c.in-Ok.ensures.plan ∙ ap (λ (ns : List (List ℕ)). with_files ns plan) (names-opened files placed.opened placed.has),
     )
 
@@ -97,7 +96,8 @@ returns-in-Err-clause-err g c = λ holds count a.
     let remain = c.number_files.ensures.remain in
     let same : length new ≡ length c.args.attached.disks.items = remain.count ∙ ap (λ (ds : List (NumberedDisk _)). length ds) c.deref_mut.ensures.value in
     let written : (with_items c.args.attached.disks new).items ≡ new = items-written c.args.attached.disks new same in
-    let stopped = subst (λ (xs : List TableSeen). PlaceStopped seen (placing_read seen old xs plan.setup) old new c.in-Err.how) c.deref.ensures.value c.in-Err.ensures.stop in
+    let stopped = subst (λ (xs : List TableSeen). PlaceStopped seen (length (found_files (map (numbered_seen seen) old) xs))
+    (placing_read seen old xs plan.setup) old new c.in-Err.how) c.deref.ensures.value c.in-Err.ensures.stop in
     stops-early seen plan holds old new ts c.args.attached.swap count c.in-Err.how c.hand_back.result (c.hand_back.ensures.why ∙ c.open_stop.ensures)
     (c.hand_back.ensures.disks ∙ ap (map (λ (d : NumberedDisk _). d.disk)) written) c.hand_back.ensures.swap (all-blocks seen old (λ d. g.met.D.Disk.has_blocks d.disk)) m a.swap a.blank remain stopped
 

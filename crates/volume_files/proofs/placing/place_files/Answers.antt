@@ -8,7 +8,8 @@ use Rattle.vnode_files.specs.Files.{FilesSeen, block_count}
 use Rattle.volume_files.specs.declared.stops.Refusal.{Refusal}
 use Rattle.volume_files.specs.Attached.{numbered_seen}
 use Rattle.volume_files.specs.Opened.{OpenedFile, with_line_files, mounted_infos}
-use Rattle.volume_files.specs.Placing.{Gave, HasOpened, LieRight, Stopped, WroteEach, attached_numbers, found_files, line_files, sizes_by_number}
+use Rattle.volume_files.specs.Handed.{SpareBlock}
+use Rattle.volume_files.specs.Placing.{KeepThere, Gave, HasOpened, LieRight, Stopped, WroteEach, attached_numbers, found_files, line_files, sizes_by_number}
 use Rattle.volume_files.proofs.FileLineLemmas.{length-made}
 use Rattle.volume_files.proofs.PlaceLemmas.{mounted-opened, length-found, few-taken, stop-mounting, stop-lines, mounted-lies, lines-given, stop-writing}
 use Rattle.volume_files.proofs.PlacedLemmas.{mounted-volumes, mounted-addable}
@@ -50,7 +51,8 @@ returns-in_err-add_lines-clause-stop g c =
     let few : length found ≤ 64 = omega (arith, c.count-first.ensures.few, length-made files found opened) in
     let disks : files.disks ≡ finite.from_entries (sizes_by_number seen old) = ap (λ (s : FilesSeen). s.disks) c.in_ok-files.ensures.ok in
     let stopped : Stopped (with_line_files (block_count (finite.from_entries (sizes_by_number seen old))) (Ok found) c.args.setup.now) c.in_err-add_lines.field-0.0 =
-    subst (λ (t : finite.FinMap nat_cmp ℕ). Stopped (with_line_files (block_count t) (Ok found) c.args.setup.now) c.in_err-add_lines.field-0.0) disks (c.in_err-add_lines.ensures.placed found opened) in
+    subst (λ (t : finite.FinMap nat_cmp ℕ). Stopped (with_line_files (block_count t) (Ok found) c.args.setup.now) c.in_err-add_lines.field-0.0) disks
+    (c.in_err-add_lines.ensures.placed found opened) in
     let p = err_from_is_err_and c.from_residual-in_err-add_lines.result c.from_residual-in_err-add_lines.ensures.1 in
     rw (p.1, p.2) (stop-lines seen (block_count (finite.from_entries (sizes_by_number seen old))) found c.args.setup.now old c.in_err-add_lines.field-0.0 few stopped)
 
@@ -61,7 +63,8 @@ write_lines-requires-clause-count g c =
     let none : FilesSeen = record { disks = finite.from_entries (sizes_by_number seen c.args.disks.now); files = [] } in
     let opened = mounted-opened seen c.args.disks.now c.args.tables.now none c.in_ok-files.files refl c.in_ok-files.ensures.ok in
     (lines-given seen m.0 m.1 c.args.disks.now c.args.tables.now c.args.setup.now c.in_ok-files.files c.add_lines.new.files c.count-first.result m.2 c.requires.distinct c.requires.placeable
-    c.in_ok-files.ensures.ok c.count-first.ensures.count c.count-first.ensures.few (c.in_ok-add_lines.ensures.placed (found_files (map (numbered_seen seen) c.args.disks.now) c.args.tables.now) opened)).count
+    c.in_ok-files.ensures.ok c.count-first.ensures.count c.count-first.ensures.few
+    (c.in_ok-add_lines.ensures.placed (found_files (map (numbered_seen seen) c.args.disks.now) c.args.tables.now) opened)).count
 
 pub write_lines-requires-clause-places : goal.write_lines-requires-clause-places
 write_lines-requires-clause-places g c =
@@ -70,7 +73,8 @@ write_lines-requires-clause-places g c =
     let none : FilesSeen = record { disks = finite.from_entries (sizes_by_number seen c.args.disks.now); files = [] } in
     let opened = mounted-opened seen c.args.disks.now c.args.tables.now none c.in_ok-files.files refl c.in_ok-files.ensures.ok in
     (lines-given seen m.0 m.1 c.args.disks.now c.args.tables.now c.args.setup.now c.in_ok-files.files c.add_lines.new.files c.count-first.result m.2 c.requires.distinct c.requires.placeable
-    c.in_ok-files.ensures.ok c.count-first.ensures.count c.count-first.ensures.few (c.in_ok-add_lines.ensures.placed (found_files (map (numbered_seen seen) c.args.disks.now) c.args.tables.now) opened)).places
+    c.in_ok-files.ensures.ok c.count-first.ensures.count c.count-first.ensures.few
+    (c.in_ok-add_lines.ensures.placed (found_files (map (numbered_seen seen) c.args.disks.now) c.args.tables.now) opened)).places
 
 -- a page that wasn't written breaks no rule
 pub returns-in_err-write_lines-clause-stop : goal.returns-in_err-write_lines-clause-stop
@@ -81,12 +85,15 @@ returns-in_err-write_lines-clause-stop g c =
     let none : FilesSeen = record { disks = finite.from_entries (sizes_by_number seen old); files = [] } in
     let opened = mounted-opened seen old c.args.tables.now none c.in_ok-files.files refl c.in_ok-files.ensures.ok in
     let few : length found ≤ 64 = omega (arith, c.count-first.ensures.few, length-made c.in_ok-files.files found opened) in
+    let count : c.count-first.result ≡ length found = c.count-first.ensures.count ∙ length-made c.in_ok-files.files found opened in
     let disks : c.in_ok-files.files.disks ≡ finite.from_entries (sizes_by_number seen old) = ap (λ (s : FilesSeen). s.disks) c.in_ok-files.ensures.ok in
     let gave : Gave c.add_lines.new.files (with_line_files (block_count (finite.from_entries (sizes_by_number seen old))) (Ok found) c.args.setup.now) =
     subst (λ (t : finite.FinMap nat_cmp ℕ). Gave c.add_lines.new.files (with_line_files (block_count t) (Ok found) c.args.setup.now)) disks (c.in_ok-add_lines.ensures.placed found opened) in
     let p = err_from_is_err_and c.from_residual-in_err-write_lines.result c.from_residual-in_err-write_lines.ensures.1 in
-    rw (p.1, p.2) (stop-writing seen (block_count (finite.from_entries (sizes_by_number seen old))) found c.args.setup.now old c.write_lines.new.disks c.add_lines.new.files c.in_err-write_lines.field-0.0
-    few gave c.in_err-write_lines.ensures.fault)
+    rw (p.1, p.2) (stop-writing seen (block_count (finite.from_entries (sizes_by_number seen old))) found c.args.setup.now old c.write_lines.new.disks
+    c.add_lines.new.files c.in_err-write_lines.field-0.0
+    few gave c.in_err-write_lines.ensures.fault
+    (subst (λ n. KeepThere seen (SpareBlock (line_files c.add_lines.new.files n c.args.setup.now)) old c.write_lines.new.disks) count c.write_lines.ensures.keep))
 
 pub returns-clause-ok : goal.returns-clause-ok
 returns-clause-ok g c =
@@ -96,14 +103,17 @@ returns-clause-ok g c =
     let none : FilesSeen = record { disks = finite.from_entries (sizes_by_number seen c.args.disks.now); files = [] } in
     let opened = mounted-opened seen c.args.disks.now c.args.tables.now none c.in_ok-files.files refl c.in_ok-files.ensures.ok in
     let give = lines-given seen m.0 m.1 c.args.disks.now c.args.tables.now c.args.setup.now c.in_ok-files.files c.add_lines.new.files c.count-first.result m.2 c.requires.distinct c.requires.placeable
-    c.in_ok-files.ensures.ok c.count-first.ensures.count c.count-first.ensures.few (c.in_ok-add_lines.ensures.placed (found_files (map (numbered_seen seen) c.args.disks.now) c.args.tables.now) opened) in
+    c.in_ok-files.ensures.ok c.count-first.ensures.count c.count-first.ensures.few
+    (c.in_ok-add_lines.ensures.placed (found_files (map (numbered_seen seen) c.args.disks.now) c.args.tables.now) opened) in
     let count : c.count-first.result ≡ length found = c.count-first.ensures.count ∙ length-made c.in_ok-files.files found opened in
     let few : length found ≤ 64 = omega (arith, count, c.count-first.ensures.few, c.count-first.ensures.count) in
     record {
       opened = give.after;
-      read = ap (λ (r : Result (List OpenedFile) Refusal). with_line_files (block_count (finite.from_entries (sizes_by_number seen c.args.disks.now))) r c.args.setup.now) (few-taken found few) ∙ give.read;
+      read = ap (λ (r : Result (List OpenedFile) Refusal). with_line_files
+          (block_count (finite.from_entries (sizes_by_number seen c.args.disks.now))) r c.args.setup.now) (few-taken found few) ∙ give.read;
       has = give.has;
       lie = c.in_ok-add_lines.ensures.lie;
       disks = c.in_ok-add_lines.ensures.disks ∙ ap (λ (s : FilesSeen). s.disks) c.in_ok-files.ensures.ok;
       wrote = subst (λ n. WroteEach seen (line_files c.add_lines.new.files n c.args.setup.now) c.args.disks.now c.write_lines.new.disks) count c.in_ok-write_lines.ensures.ok;
+      keep = subst (λ n. KeepThere seen (SpareBlock (line_files c.add_lines.new.files n c.args.setup.now)) c.args.disks.now c.write_lines.new.disks) count c.write_lines.ensures.keep;
     }

@@ -22,7 +22,8 @@ loop-file-preserved g c =
     let f = g.P.PageDisk.numbered in
     let file = c.loop-file.file in
     let low : file < length c.args.files.now.files = omega (arith, c.loop-file-test.true, c.count-file-end.ensures.count) in
-    files_step c.args.heading (infos_made c.args.files.now) file (shown_info c.args.files.now file) (g.K.Sink.seen c.args.out.now) (g.K.Sink.seen c.loop-file.out) (g.K.Sink.seen c.show_file_among.new.out)
+    files_step c.args.heading (infos_made c.args.files.now) file (shown_info c.args.files.now file) (g.K.Sink.seen c.args.out.now)
+    (g.K.Sink.seen c.loop-file.out) (g.K.Sink.seen c.show_file_among.new.out)
     (map f c.args.disks.now) (map f c.loop-file.disks) (map f c.show_file_among.new.disks) (info_there c.args.files.now file low) c.loop-file.invariant
     g.P.PageDisk.counts c.in_ok-show_file_among.ensures.shown c.in_ok-show_file_among.ensures.disks c.in_ok-show_file_among.ensures.later
 
@@ -31,7 +32,8 @@ returns-in_err-show_file_among-clause-shows g c =
     let f = g.P.PageDisk.numbered in
     let file = c.loop-file.file in
     let low : file < length c.args.files.now.files = omega (arith, c.loop-file-test.true, c.count-file-end.ensures.count) in
-    let stop = files_stop c.args.heading (infos_made c.args.files.now) file (shown_info c.args.files.now file) (g.K.Sink.seen c.args.out.now) (g.K.Sink.seen c.loop-file.out) (g.K.Sink.seen c.show_file_among.new.out)
+    let stop = files_stop c.args.heading (infos_made c.args.files.now) file (shown_info c.args.files.now file) (g.K.Sink.seen c.args.out.now)
+    (g.K.Sink.seen c.loop-file.out) (g.K.Sink.seen c.show_file_among.new.out)
     (map f c.args.disks.now) (map f c.loop-file.disks) (map f c.show_file_among.new.disks) (info_there c.args.files.now file low) c.loop-file.invariant
     g.P.PageDisk.counts c.in_err-show_file_among.field-0.0 c.in_err-show_file_among.ensures.shown c.in_err-show_file_among.ensures.disks in
     first_of (search (rules, stop), grind (arith, common_steps, stop))
@@ -41,7 +43,8 @@ returns-in_err-show_file_among-clause-disks g c =
     let f = g.P.PageDisk.numbered in
     let file = c.loop-file.file in
     let low : file < length c.args.files.now.files = omega (arith, c.loop-file-test.true, c.count-file-end.ensures.count) in
-    files_read c.args.heading (infos_made c.args.files.now) file (shown_info c.args.files.now file) (g.K.Sink.seen c.args.out.now) (g.K.Sink.seen c.loop-file.out) (g.K.Sink.seen c.show_file_among.new.out)
+    files_read c.args.heading (infos_made c.args.files.now) file (shown_info c.args.files.now file) (g.K.Sink.seen c.args.out.now)
+    (g.K.Sink.seen c.loop-file.out) (g.K.Sink.seen c.show_file_among.new.out)
     (map f c.args.disks.now) (map f c.loop-file.disks) (map f c.show_file_among.new.disks) (info_there c.args.files.now file low) c.loop-file.invariant c.in_err-show_file_among.ensures.disks
 
 pub returns-clause-shows : goal.returns-clause-shows
@@ -49,4 +52,5 @@ returns-clause-shows g c =
     let f = g.P.PageDisk.numbered in
     let infos = infos_made c.args.files.now in
     let past : length infos ≤ c.loop-file.file = omega (arith, c.loop-file-test.false, c.count-file-end.ensures.count, length-map c.args.files.now.files (λ (v : VnodeSeen). v.info)) in
-    files_done c.args.heading infos c.loop-file.file (g.K.Sink.seen c.args.out.now) (g.K.Sink.seen c.loop-file.out) (map f c.args.disks.now) (map f c.loop-file.disks) c.loop-file.invariant past g.P.PageDisk.counts
+    files_done c.args.heading infos c.loop-file.file (g.K.Sink.seen c.args.out.now) (g.K.Sink.seen c.loop-file.out) (map f c.args.disks.now)
+    (map f c.loop-file.disks) c.loop-file.invariant past g.P.PageDisk.counts

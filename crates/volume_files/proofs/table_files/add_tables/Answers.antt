@@ -23,7 +23,8 @@ add_table-requires-clause-set g c =
 pub add_table-requires-clause-addable : goal.add_table-requires-clause-addable
 add_table-requires-clause-addable g c =
     let below : c.loop-i.i < length c.args.tables.now = omega (arith, c.loop-i-test.true, c.requires.count) in
-    subst (λ (t : TableSeen). All IsAddable t.entries) (sym (get_or_read c.args.tables.now c.loop-i.i c.index-tables-i.result below c.index-tables-i.is (empty_table 0))) (c.requires.addable c.loop-i.i below)
+    subst (λ (t : TableSeen). All IsAddable t.entries) (sym
+    (get_or_read c.args.tables.now c.loop-i.i c.index-tables-i.result below c.index-tables-i.is (empty_table 0))) (c.requires.addable c.loop-i.i below)
 
 pub returns-in_err-add_table-clause-stop : goal.returns-in_err-add_table-clause-stop
 returns-in_err-add_table-clause-stop g c =

@@ -12,7 +12,8 @@ returns-in_err-show_front-clause-shows g c =
     let f = numbered_seen g.D.Disk.seen in
     let ds = map f c.args.disks.now in
     let bytes = bytes-of-disks c.args.files.now ds c.requires.lie c.requires.disks (all_have_blocks f (λ d. g.met.D.Disk.has_blocks d.disk) c.args.disks.now) in
-    let stop = front_stop c.args.plan.now (infos_made c.args.files.now) bytes.0 (g.K.Sink.seen c.args.out.now) (g.K.Sink.seen c.show_front.new.out) ds c.in_err-show_front.field-0.0 c.in_err-show_front.ensures.shown in
+    let stop = front_stop c.args.plan.now (infos_made c.args.files.now) bytes.0 (g.K.Sink.seen c.args.out.now)
+    (g.K.Sink.seen c.show_front.new.out) ds c.in_err-show_front.field-0.0 c.in_err-show_front.ensures.shown in
     first_of (search (rules, bytes, stop), grind (arith, common_steps, bytes, stop))
 
 pub returns-in_err-show_front-clause-disks : goal.returns-in_err-show_front-clause-disks

@@ -6,7 +6,9 @@ use Rattle.volume_format.specs.Layout.{table_extent}
 use Rattle.volume_format.proofs.RangeLemmas.{range-rest, range-rest-end}
 use Rattle.volume_format.proofs.rules.pages_of_file.Goals as goal
 
-pages-rest : (block : List ℕ) (j end : ℕ) → j < end → page_count (map (table_extent block) (range_with_len j (end - j))) ≡ (table_extent block j).pages + page_count (map (table_extent block) (range_with_len (j + 1) (end - (j + 1))))
+pages-rest : (block : List ℕ) (j end : ℕ) → j < end
+    → page_count (map (table_extent block) (range_with_len j (end - j)))
+    ≡ (table_extent block j).pages + page_count (map (table_extent block) (range_with_len (j + 1) (end - (j + 1))))
 pages-rest block j end h =
     ap (λ (r : List ℕ). page_count (map (table_extent block) r)) (range-rest j end h)
     ∙ sum_by-cons (λ e. e.pages) (table_extent block j) (map (table_extent block) (range_with_len (j + 1) (end - (j + 1))))

@@ -4,7 +4,8 @@ use Rattle.std.proofs.lemmas.List.Sums.{prefix_len_is}
 use Rattle.volume_format.specs.Layout.{text_before_zero}
 use Rattle.volume_format.proofs.rules.text_before_zero.Goals as goal
 
-text_before_zero-is : (field : List ℕ) (n : ℕ) → n ≤ length field → ((k : ℕ) → k < n → not (eqb (get_or field k 0) 0) ≡ true) → (n < length field → not (eqb (get_or field n 0) 0) ≡ false) → take n field ≡ text_before_zero field
+text_before_zero-is : (field : List ℕ) (n : ℕ) → n ≤ length field → ((k : ℕ) → k < n → not (eqb (get_or field k 0) 0) ≡ true)
+    → (n < length field → not (eqb (get_or field n 0) 0) ≡ false) → take n field ≡ text_before_zero field
 text_before_zero-is field n within before here =
     ap (λ k. take k field) (sym (prefix_len_is (λ b. not (eqb b 0)) field n 0 within before here))
 

@@ -55,7 +55,10 @@ loop-file-preserved c =
     let own = c.file-item.result.extents in
     let again = ap (λ (es : List Extent). length es) c.list-in-loop-file.ensures in
     let size = length-flat_map-same extent_bytes 8 length-extent_bytes before in
-    let written : c.put_extents_of.new.into ≡ with_block_bytes c.loop-file.into (2080 + 8 * c.loop-file.place) (flat_map extent_bytes own) = c.put_extents_of.ensures ∙ ap (λ (es : List Extent). with_block_bytes c.loop-file.into (2080 + 8 * c.loop-file.place) (flat_map extent_bytes es)) c.list.ensures in
+    let written : c.put_extents_of.new.into
+    ≡ with_block_bytes c.loop-file.into (2080 + 8 * c.loop-file.place) (flat_map extent_bytes own) = c.put_extents_of.ensures
+    ∙ ap (λ (es : List Extent). with_block_bytes c.loop-file.into (2080 + 8 * c.loop-file.place) (flat_map extent_bytes es))
+    c.list.ensures in
     let item = ap (λ (f : FileInfo). before ++ f.extents) (get_or_read entries i c.file-item.result c.loop-file-test.true c.file-item.is no_entry) in
     let all : before ++ own ≡ all_extents (take (i + 1) entries) = item ∙ sym (extents-more entries i c.loop-file-test.true) in
     record {

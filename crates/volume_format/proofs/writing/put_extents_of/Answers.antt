@@ -8,7 +8,9 @@ use Rattle.volume_format.proofs.WritingLemmas.{written-then, with_block_bytes-no
 use Rattle.volume_format.proofs.writing.put_extents_of.Goals as goal
 
 more-extents : (extents : List Extent) (i : ℕ) → i < length extents
-    → flat_map extent_bytes (take i extents) ++ number_bytes (get_or extents i (record { start = 0; pages = 0 })).start ++ number_bytes (get_or extents i (record { start = 0; pages = 0 })).pages ≡ flat_map extent_bytes (take (i + 1) extents)
+    → flat_map extent_bytes (take i extents) ++ number_bytes (get_or extents i (record { start = 0; pages = 0 })).start
+    ++ number_bytes (get_or extents i (record { start = 0; pages = 0 })).pages
+    ≡ flat_map extent_bytes (take (i + 1) extents)
 unfolding extent_bytes
 more-extents extents i h =
     let none : Extent = record { start = 0; pages = 0 } in

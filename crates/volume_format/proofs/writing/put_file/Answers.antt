@@ -29,9 +29,12 @@ returns-clause-new c =
     let e0 : c.put.new.into ≡ with_block_bytes block at name = c.put.ensures ∙ ap (with_block_bytes block at) c.name_field.ensures.field in
     let e1 = written-then block c.put.new.into c.put_number.new.into name number at (at + 16) e0 c.put_number.ensures (omega arith) within in
     let e2 = written-then block c.put_number.new.into c.put_number-2.new.into (name ++ number) first at (at + 20) e1 c.put_number-2.ensures (omega (arith, length-append name number)) within in
-    let listed : c.put_number-3.new.into ≡ with_block_bytes c.put_number-2.new.into (at + 24) count = c.put_number-3.ensures ∙ ap (λ (es : List Extent). with_block_bytes c.put_number-2.new.into (at + 24) (number_bytes (length es))) c.list.ensures in
-    let e3 = written-then block c.put_number-2.new.into c.put_number-3.new.into (name ++ number ++ first) count at (at + 24) e2 listed (omega (arith, length-append (name ++ number) first, length-append name number)) within in
-    let moded : c.put_number-4.new.into ≡ with_block_bytes c.put_number-3.new.into (at + 28) mode = c.put_number-4.ensures ∙ ap (λ (n : ℕ). with_block_bytes c.put_number-3.new.into (at + 28) (number_bytes n)) (mode-is f.writable) in
+    let listed : c.put_number-3.new.into ≡ with_block_bytes c.put_number-2.new.into (at + 24) count = c.put_number-3.ensures
+    ∙ ap (λ (es : List Extent). with_block_bytes c.put_number-2.new.into (at + 24) (number_bytes (length es))) c.list.ensures in
+    let e3 = written-then block c.put_number-2.new.into c.put_number-3.new.into (name ++ number ++ first) count at (at + 24) e2 listed
+    (omega (arith, length-append (name ++ number) first, length-append name number)) within in
+    let moded : c.put_number-4.new.into ≡ with_block_bytes c.put_number-3.new.into (at + 28) mode = c.put_number-4.ensures
+    ∙ ap (λ (n : ℕ). with_block_bytes c.put_number-3.new.into (at + 28) (number_bytes n)) (mode-is f.writable) in
     written-then block c.put_number-3.new.into c.put_number-4.new.into (name ++ number ++ first ++ count) mode at (at + 28) e3 moded
     (omega (arith, length-append (name ++ number ++ first) count, length-append (name ++ number) first, length-append name number)) within
 

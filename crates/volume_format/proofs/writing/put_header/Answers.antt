@@ -26,8 +26,18 @@ returns c =
     let w2 = c.put_number-2.ensures ∙ ap (λ (n : ℕ). with_block_bytes c.put_number.new.into 12 (number_bytes n)) c.blocks-2.ensures in
     let e2 = written-then block c.put_number.new.into c.put_number-2.new.into (magic ++ version) blocks 0 12 e1 w2 (omega (arith, length-append magic version)) within in
     let w3 = c.put_number-3.ensures ∙ ap (λ (es : List FileInfo). with_block_bytes c.put_number-2.new.into 16 (number_bytes (length es))) c.entries.ensures.entries in
-    let e3 = written-then block c.put_number-2.new.into c.put_number-3.new.into (magic ++ version ++ blocks) files 0 16 e2 w3 (omega (arith, length-append magic version, length-append (magic ++ version) blocks)) within in
+    let e3 = written-then block c.put_number-2.new.into c.put_number-3.new.into (magic ++ version ++ blocks) files 0 16 e2 w3
+    (omega (arith, length-append magic version, length-append (magic ++ version) blocks)) within in
     let w4 = c.put_number-4.ensures ∙ ap (λ (n : ℕ). with_block_bytes c.put_number-3.new.into 20 (number_bytes n)) c.extents.ensures in
-    let e4 = written-then block c.put_number-3.new.into c.put_number-4.new.into (magic ++ version ++ blocks ++ files) extents 0 20 e3 w4 (omega (arith, length-append magic version, length-append (magic ++ version) blocks, length-append (magic ++ version ++ blocks) files)) within in
+    let e4 = written-then block c.put_number-3.new.into c.put_number-4.new.into (magic ++ version ++ blocks ++ files) extents 0 20 e3 w4
+    (omega (arith, length-append magic version, length-append (magic ++ version) blocks, length-append (magic ++ version ++ blocks) files))
+    within in
     written-then block c.put_number-4.new.into c.put-2.new.into (magic ++ version ++ blocks ++ files ++ extents) (replicate 8 0) 0 24 e4 c.put-2.ensures
-    (omega (arith, length-append magic version, length-append (magic ++ version) blocks, length-append (magic ++ version ++ blocks) files, length-append (magic ++ version ++ blocks ++ files) extents)) within
+    (omega (
+      arith,
+      length-append magic version,
+      length-append (magic ++ version) blocks,
+      length-append (magic ++ version ++ blocks) files,
+      length-append (magic ++ version ++ blocks ++ files) extents,
+    ))
+    within

@@ -4,6 +4,7 @@ use Rattle.vm_world.specs.World.{world_seen}
 use Rattle.vm_world.specs.declared.world.World.{World}
 use Rattle.seg_ops.specs.Writers.{HasNoWriter}
 use Rattle.seg_ops.proofs.Composed.{keeps-then}
+use Rattle.seg_ops.proofs.Modified.{modifies-same, modifies-then}
 use Rattle.seg_vn.proofs.Writers.{no-writer-then, writers-then}
 use Rattle.seg_vn.proofs.segment.VnSeg.hold_writes.Goals as goal
 
@@ -19,6 +20,7 @@ loop-page-preserved g c =
       ];
       stay = writers-then old.hat.places cur.hat.places new.hat.places c.loop-page.invariant.stay c.protect.ensures.stay;
       rest = c.protect.ensures.rest ∙ ap (λ (w : World g.row.D.Denot). record w { hat = new.hat }) c.loop-page.invariant.rest;
+      modified = modifies-then (world_seen old) (world_seen cur) (world_seen new) c.loop-page.invariant.modified c.protect.ensures.modified;
       keeps = λ spaces fits.
           let before = c.loop-page.invariant.keeps spaces fits in
           keeps-then (world_seen old) (world_seen cur) (world_seen new) spaces fits before (c.protect.ensures.keeps spaces before.memory);

@@ -120,7 +120,7 @@ returns-clause-gives g c =
     let w4 = world_seen c.release.new.world in
     let w5 = world_seen c.release-2.new.world in
     let s : Segment = c.self.inside.segment in
-    gives-then w w1 w5 (unloaded-given w w1 (ap (λ (v : World g.row.D.Denot). v.anon) c.unmap.ensures.rest) (ap (λ (v : World g.row.D.Denot). v.maps) c.unmap.ensures.rest) c.unmap.ensures.none)
+    gives-then w w1 w5 (unloaded-given w w1 (ap (λ (v : World g.row.D.Denot). v.anon) c.unmap.ensures.rest) (ap (λ (v : World g.row.D.Denot). v.maps) c.unmap.ensures.rest) c.unmap.ensures.none c.unmap.ensures.modified)
     (gives-then w1 w2 w5 c.empty_own.ensures.gives
     (gives-then w2 w3 w5 c.empty_shown.ensures.gives
     (gives-then w3 w4 w5 (release-given w3 w4 s.own _ (λ n is. (own-is w3 r.0 c.args.space c.args.first s go.part n is).0) (ap world_seen c.release.ensures.released))

@@ -4,12 +4,14 @@ use Rattle.hat_layer.specs.Pool.{translation_at, drop_page}
 use Rattle.vm_world.specs.World.{world_seen}
 use Rattle.vm_world.specs.declared.world.World.{World}
 use Rattle.seg_ops.proofs.Composed.{keeps-then, keeps-same}
+use Rattle.seg_ops.proofs.Modified.{modifies-same, modifies-then}
 use Rattle.seg_vn.proofs.segment.VnSeg.unmap.Goals as goal
 
 pub loop-page-init : goal.loop-page-init
 loop-page-init g c = record {
   gone = λ q low high. absurd (omega (arith, low, high));
   none = λ s q is. is;
+  modified = modifies-same (world_seen c.args.world.now);
   rest = refl;
   keeps = λ spaces fits. keeps-same (world_seen c.args.world.now) spaces fits;
 }
@@ -26,6 +28,7 @@ loop-page-preserved g c =
         | inr apart ↦ none c.args.space q (c.loop-page.invariant.gone q low (omega (arith, high, apart)))
       ];
       none = λ s q is. none s q (c.loop-page.invariant.none s q is);
+      modified = modifies-then (world_seen c.args.world.now) (world_seen c.loop-page.world) (world_seen c.drop_translation.new.world) c.loop-page.invariant.modified c.drop_translation.ensures.modified;
       rest = c.drop_translation.ensures.rest ∙ ap (λ (w : World g.row.D.Denot). record w { store = c.drop_translation.new.world.store; hat = c.drop_translation.new.world.hat }) c.loop-page.invariant.rest;
       keeps = λ spaces fits.
           let before = c.loop-page.invariant.keeps spaces fits in

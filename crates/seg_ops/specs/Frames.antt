@@ -1,0 +1,27 @@
+-- Frames that are taken for other pages. Public clauses cite this.
+use Rattle.std.specs.Prelude.{ℕ, Option, IfSome}
+use Rattle.page_hash.specs.Names.{is_name}
+use Rattle.page_store.specs.Notes.{Note, Notes}
+use Rattle.page_store.specs.Steps.{next_name}
+use Rattle.vm_world.specs.NotesFit.{NotesFit}
+use Rattle.vm_world.specs.Segments.{Spaces}
+use Rattle.vm_world.specs.Serving.{LosesFrame}
+use Rattle.vm_world.specs.StateSteps.{PendsTails}
+use Rattle.vm_world.specs.Words.{Fits}
+use Rattle.vm_world.specs.World.{world_seen}
+use Rattle.vm_world.specs.WorldSteps.{WorldStep, stays, leaves}
+use Rattle.vm_world.specs.declared.world.World as rust
+
+-- THE NEXT FRAME IS TAKEN: the page that it held, if it held one, loses it; and where that was a file's last page, the file's tail is pending.
+pub record TakesNextFrame {D : Type 0} (old new : rust.World D) : Type 0 where
+  pub lost : IfSome (next_name old.store) (λ name. LosesFrame (world_seen old) (world_seen new) name)
+  pub tails : PendsTails (world_seen old) (is_name (next_name old.store)) old.pending new.pending
+
+-- Each page keeps its value, but that the one which held the next frame is cut at its valid bytes.
+abbrev pub KeepsButNext : {D : Type 0} → rust.World D → rust.World D → Type 0
+KeepsButNext old new = (spaces : Spaces) → Fits old spaces → WorldStep (world_seen old) (world_seen new) spaces stays (is_name (next_name old.store))
+
+-- So it does as a flight with this note goes out with a seat.
+abbrev pub SendsButNext : {D : Type 0} → rust.World D → rust.World D → ℕ → Note → Type 0
+SendsButNext old new seat note = (spaces : Spaces) (notes : Notes) → Fits old spaces → NotesFit (world_seen old) notes
+    → WorldStep (world_seen old) (world_seen new) spaces (leaves seat note) (is_name (next_name old.store))

@@ -1,0 +1,57 @@
+-- Which pages faults make modified: the one that is loaded, where it is that of a slot which was never pushed.
+use Rattle.std.proofs.Common.{◌≡◌, ℕ, zero, suc, ◌==◌, Bool, true, false, cond, List, [], ◌∷◌, Option, Some, refl, sym, ap, ◌∙◌, inl, inr, Ok, not, slice_index_or, slice_set}
+use Rattle.std.proofs.lemmas.Bool.{eqb-true}
+use Rattle.anon_map.specs.Maps.{Map}
+use Rattle.anon_slots.specs.Slots.{AnonSlotsSeen}
+use Rattle.page_hash.specs.declared.PageName.{PageName}
+use Rattle.vnode_files.specs.Files.{FilesSeen, vnode_at}
+use Rattle.vnode_files.specs.Vnode.{is_blank}
+use Rattle.vm_world.specs.Segments.{Spot, shown_name}
+use Rattle.vm_world.specs.Serving.{IsUnpushedSlot, ModifiesNone, ModifiesOnly}
+use Rattle.vm_world.specs.World.{World, is_unpushed, slot_name}
+use Rattle.seg_ops.specs.Faults.{FaultModifies}
+use Rattle.seg_ops.specs.Slots.{GivesSlot, anon_left}
+use Rattle.seg_ops.specs.declared.plans.Fault.TheVariants as fault
+use Rattle.seg_vn.specs.Brings.{BringModifies}
+
+not-true : (b : Bool) → not b ≡ true → b ≡ false
+not-true false e = refl
+not-true true e = absurd (let z : false ≡ true = e in cc)
+
+-- a page that was never pushed, and isn't a file's
+pub unpushed-slot : (files : FilesSeen) (anon : AnonSlotsSeen) (name : PageName) → (name.object == 64) ≡ true → is_unpushed files anon name ≡ true → IsUnpushedSlot anon name
+unpushed-slot files anon name is blank =
+    let object = eqb-true name.object 64 is in
+    let pushed : Bool = slice_index_or anon.swapped name.page false in (
+      name.page,
+      (λ i. record { object = object i; page = name.page }),
+      not-true pushed (sym (ap (λ (b : Bool). cond b (not pushed) (is_blank (vnode_at files name.object) name.page)) is) ∙ blank),
+    )
+
+-- the slot that a place was given was never pushed
+fresh : (swapped : List Bool) (s : ℕ) → slice_index_or (slice_set swapped s false) s false ≡ false
+fresh [] s = refl
+fresh (b ∷ bs) zero = refl
+fresh (b ∷ bs) (suc s) = fresh bs s
+
+pub given-fresh : (old new : AnonSlotsSeen) (maps put : List (Option Map)) (m i s : ℕ) → GivesSlot old new maps put m i s → slice_index_or new.swapped s false ≡ false
+given-fresh old new maps put m i s g = ap (λ (a : AnonSlotsSeen). slice_index_or a.swapped s false) g.counts ∙ fresh _ s
+
+-- A PAGE CAME HOME, and its translation was loaded.
+pub loaded-modifies : (old mid new : World) (x : Spot) (name : PageName) → ModifiesOnly (BringModifies mid name (Ok tt)) old mid → ModifiesNone mid new → shown_name new.maps x ≡ Some name → new.anon ≡ mid.anon → ModifiesOnly (FaultModifies new x (Ok fault.Loaded)) old new
+loaded-modifies old mid new x name first last shows anon = λ n k home m.
+    let was = last n k home m in
+    elim (first n k was.0 was.1) [
+      | inl is ↦ inl (shows ∙ ap (λ (o : PageName). Some o) (sym is.0), (is.1.0, is.1.1, ap (λ (a : AnonSlotsSeen). slice_index_or a.swapped is.1.0 false) anon ∙ is.1.2))
+      | inr y ↦ inr y
+    ]
+
+-- THE PAGE OF A SLOT WAS MADE, and its translation loaded.
+pub made-modifies : (old freed made new : World) (x : Spot) (s : ℕ) → ModifiesNone old freed → ModifiesOnly (λ n. n ≡ slot_name s) freed made → ModifiesNone made new → shown_name new.maps x ≡ Some (slot_name s)
+    → slice_index_or new.anon.swapped s false ≡ false → ModifiesOnly (FaultModifies new x (Ok fault.Loaded)) old new
+made-modifies old freed made new x s first makes last shows unpushed = λ n k home m.
+    let was = last n k home m in
+    elim (makes n k was.0 was.1) [
+      | inl e ↦ inl (shows ∙ ap (λ (o : PageName). Some o) (sym e), (s, e, unpushed))
+      | inr y ↦ inr (first n k y.0 y.1)
+    ]
