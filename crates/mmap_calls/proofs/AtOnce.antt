@@ -1,20 +1,31 @@
 -- Calls that are done at once, with a plain reply.
-use Rattle.std.proofs.Common.{◌≡◌, ℕ, Bool, true, false, refl, sym, ap, inr, subst}
+use Rattle.std.proofs.Common.{◌≡◌, ℕ, Bool, true, false, List, Option, refl, sym, ap, inr, subst}
 use Rattle.std.specs.Prelude.{◌||◌}
+use Rattle.std.specs.FinMap as finite
+use Rattle.std.specs.FinSet as set
+use Rattle.std.specs.Ordering.{nat_cmp}
+use Rattle.addr_space.specs.Space.{Part}
+use Rattle.page_store.specs.Notes.{Notes}
 use Rattle.vm_types.specs.declared.call.Call.{Call}
+use Rattle.vm_types.specs.declared.call.Errno.{Errno}
 use Rattle.vm_types.specs.declared.call.Reply.{Reply}
 use Rattle.vm_types.specs.declared.call.Reply.TheVariants as reply
 use Rattle.flat_model.specs.Flat.{Flat}
+use Rattle.flat_model.specs.Refusals.{Effect}
 use Rattle.flat_model.specs.Step.{effect, is_bit_set, IsDue, after_act}
 use Rattle.vm_world.specs.FlatMemory.{Memory, flat_memory}
 use Rattle.vm_world.specs.MemoryFits.{MemoryFits}
 use Rattle.vm_world.specs.Plans.{refusal_in}
-use Rattle.vm_world.specs.Serving.{TakesFrames, ServesDone}
+use Rattle.vm_world.specs.Serving.{ModifiesNone, TakesFrames, ServesDone}
 use Rattle.vm_world.specs.World.{World}
-use Rattle.vm_world.specs.ZeroObjects.{AreSameZeros}
+use Rattle.vm_world.specs.declared.segment.Segment.{Segment}
+use Rattle.vm_world.proofs.SegmentSteps.{segment_rule}
 use Rattle.seg_ops.proofs.Composed.{keeps-same}
+use Rattle.seg_ops.proofs.Modified.{modifies-same}
+use Rattle.seg_vn.specs.Clears.{ChangesSpace, SpaceFits}
 use Rattle.seg_vn.specs.Serves.{IsPlainReply}
 use Rattle.mmap_calls.specs.Answers.{AnswersAtOnce}
+use Rattle.mmap_calls.proofs.CutPlaces.{same-space}
 
 -- what is due of a plain reply
 acts : (F G : Flat) (p : ℕ) (call : Call) (r : Reply) (cleared : ℕ) → IsPlainReply r → (effect F p call).reply ≡ r → G ≡ (effect F p call).after
@@ -61,3 +72,22 @@ at-once-serves old new pending more p call r same fits done =
       modified = λ name frame home is. inr (done.modified name frame home is);
       clean = λ from name is wants. absurd (subst IsPlainReply is done.plain);
     })
+
+-- A CALL THAT IS REFUSED, and one that is done, told by what is due.
+pub refused-at-once : (m : Memory) (p : ℕ) (parts : List (Part Segment)) (zeros : List (Option ℕ)) (call : Call) (e : Errno) → SpaceFits m.world zeros m.spaces p parts
+    → ((born : set.FinSet nat_cmp) (notes : Notes) → effect (flat_memory m born notes) p call ≡ record { reply = reply.Refused e; after = flat_memory m born notes }) → AnswersAtOnce p m (record { world = m.world; spaces = finite.insert m.spaces p parts }) call (reply.Refused e)
+refused-at-once m p parts zeros call e fits due = record {
+  changes = segment_rule.same p m (record { world = m.world; spaces = finite.insert m.spaces p parts }) (λ F. F) (λ F. (effect F p call).after) (λ born notes. sym (ap (λ (x : Effect). x.after) (due born notes))) (same-space m.world zeros m.spaces p parts fits).changes;
+  plain = tt;
+  due = λ born notes. ap (λ (x : Effect). x.reply) (due born notes);
+  modified = modifies-same m.world;
+}
+
+pub done-at-once : (m new : Memory) (p : ℕ) (call : Call) (f : Flat → Flat) (zeros : List (Option ℕ)) → ((born : set.FinSet nat_cmp) (notes : Notes) → effect (flat_memory m born notes) p call ≡ record { reply = reply.Done; after = f (flat_memory m born notes) })
+    → ChangesSpace p m new zeros f → ModifiesNone m.world new.world → AnswersAtOnce p m new call reply.Done
+done-at-once m new p call f zeros due done modified = record {
+  changes = segment_rule.same p m new f (λ F. (effect F p call).after) (λ born notes. sym (ap (λ (x : Effect). x.after) (due born notes))) done.changes;
+  plain = tt;
+  due = λ born notes. ap (λ (x : Effect). x.reply) (due born notes);
+  modified = modified;
+}

@@ -25,6 +25,7 @@ use Rattle.seg_ops.proofs.Composed.{keeps-same}
 use Rattle.seg_vn.specs.Clears.{SpaceFits, ChangesSpace, StartsAt}
 use Rattle.seg_vn.specs.Cuts.{IsCutPart}
 use Rattle.mmap_calls.specs.Looks.{kind_and_object}
+use Rattle.mmap_calls.specs.Protections.{most_at}
 use Rattle.mmap_calls.specs.Rooms.{HasRoomAt}
 
 -- a page lies within the part that has it
@@ -135,6 +136,9 @@ module _ (page number : ℕ) (parts : List (Part Segment)) (x : Part Segment) (o
 
   pub look-kept : (q : ℕ) → option_map kind_and_object (piece_at (parts_cut page number x parts) q) ≡ option_map kind_and_object (piece_at parts q)
   look-kept q = shows-cut (λ o. option_map kind_and_object o ≡ option_map kind_and_object (piece_at parts q)) q (λ le here. ap (option_map kind_and_object) (sym (had q here))) (λ lt here. ap (option_map kind_and_object) (sym (had q here))) (λ gone. refl)
+
+  pub most-kept : (q : ℕ) → most_at (parts_cut page number x parts) q ≡ most_at parts q
+  most-kept q = shows-cut (λ o. option_map (λ (y : Spot). y.0.max) o ≡ most_at parts q) q (λ le here. ap (option_map (λ (y : Spot). y.0.max)) (sym (had q here))) (λ lt here. ap (option_map (λ (y : Spot). y.0.max)) (sym (had q here))) (λ gone. refl)
 
   -- room at a page that isn't behind the cut is room there then
   pub room-kept : (items : List (Option ℕ)) (room more : ℕ) (maps now : List (Option Map)) (q : ℕ) → q ≤ page → ((n : ℕ) → holders_of now n ≤ holders_of maps n + 1) → HasRoomAt items room (more + 1) maps parts q → HasRoomAt items room more now (parts_cut page number x parts) q

@@ -8,4 +8,6 @@ pub mod MapResults
 pub mod RoomAfter
 pub mod AtOnce
 pub mod CutPlaces
+pub mod GapMaps
+pub mod RangeProtections
 pub mod Replaced

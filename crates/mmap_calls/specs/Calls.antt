@@ -1,15 +1,15 @@
 -- The calls that are served here, and how they end. Public clauses cite this.
 use Rattle.vm_types.specs.declared.call.Call.{Call}
-use Rattle.vm_types.specs.declared.call.Call.TheVariants.{Map, Unmap}
-use Rattle.vm_types.specs.declared.call.Place.TheVariants.{At}
+use Rattle.vm_types.specs.declared.call.Call.TheVariants.{Map, Unmap, Protect}
 use Rattle.seg_vn.specs.Serves.{IsPlainReply}
 use Rattle.seg_vn.specs.declared.attempt.Attempt.{Attempt}
 use Rattle.seg_vn.specs.declared.attempt.Attempt.TheVariants.{Done, Need, Busy}
 
--- The calls that change what a process has mapped: a Map at an address, and an Unmap.
+-- The calls that change what a process has mapped: Map, Unmap and Protect.
 abbrev pub IsMappingCall : Call → Type 0
-IsMappingCall (Map (At addr) len prot kind o offset) = Unit {0}
+IsMappingCall (Map place len prot kind o offset) = Unit {0}
 IsMappingCall (Unmap addr len) = Unit {0}
+IsMappingCall (Protect addr len prot) = Unit {0}
 IsMappingCall call = ⊥
 
 -- It is done, with a plain reply: it needs no transfer, and doesn't wait.

@@ -3,5 +3,6 @@ pub mod Rooms
 pub mod Looks
 pub mod RangeCounts
 pub mod GivenUp
+pub mod Protections
 pub mod Answers
 pub mod Refusals

@@ -11,7 +11,8 @@ use Rattle.vm_types.specs.declared.call.Errno.{Errno}
 use Rattle.vm_types.specs.declared.call.Kind.{Kind}
 use Rattle.vm_types.specs.declared.call.Kind.TheVariants.{Private, Shared}
 use Rattle.vm_types.specs.declared.call.Object.{Object}
-use Rattle.vm_types.specs.declared.call.Place.TheVariants.{At}
+use Rattle.vm_types.specs.declared.call.Place.{Place}
+use Rattle.vm_types.specs.declared.call.Place.TheVariants.{At, Any}
 use Rattle.vm_types.specs.declared.call.Reply.{Reply}
 use Rattle.vm_types.specs.declared.prot.Prot.{Prot}
 use Rattle.vm_types.specs.WellFormed.{IsNumber}
@@ -46,9 +47,16 @@ map_request m = record { place = At m.addr; len = m.length; prot = m.prot; kind 
 abbrev pub map_call : MapRequest → Call
 map_call m = Map (At m.addr) m.length m.prot m.kind m.object m.offset
 
-abbrev pub IsMapAt : Call → Type 0
-IsMapAt (Map (At addr) len prot kind o offset) = Unit {0}
-IsMapAt call = ⊥
+-- The same at the lowest gap, whatever the address.
+abbrev pub any_request : MapRequest → Request
+any_request m = record { place = Any; len = m.length; prot = m.prot; kind = m.kind; object = m.object; offset = m.offset }
+
+abbrev pub map_any_call : MapRequest → Call
+map_any_call m = Map Any m.length m.prot m.kind m.object m.offset
+
+-- The call that asks for it at a place, whatever the address.
+abbrev pub placed_call : Place → MapRequest → Call
+placed_call place m = Map place m.length m.prot m.kind m.object m.offset
 
 -- Its numbers are below 2^32.
 pub record IsMapRequest (m : MapRequest) : Type 0 where
@@ -129,3 +137,8 @@ refusal_of w zeros parts m =
     else if not (nat_le (pages_after parts m) 65536) then Some errno.TooLarge
     else if not (nat_le (reserved_after w zeros parts m) (length w.anon.counts)) then Some errno.NoSwap
     else None
+
+-- Such a Map at the lowest gap is refused so, whatever the spaces in which a process is alive with these parts.
+abbrev pub IsGapless : {D : Type 0} → rust.World D → List (Part Segment) → MapRequest → Errno → Type 0
+IsGapless w parts m e =
+    (spaces : Spaces) (p : ℕ) → SpaceFits (world_seen w) w.zeros spaces p parts → (born : set.FinSet nat_cmp) (notes : Notes) → map_result (flat_memory (memory w spaces) born notes) p (any_request m) ≡ Err e

@@ -2,22 +2,54 @@
 ghost use Rattle.std.specs.Prelude.{◌≡◌, ◌≤◌, ℕ, IfOk, OnErr, IsSome, List, Option};
 ghost use Rattle.std.specs.FinMap as finite;
 ghost use Rattle.anon_slots.specs.Slots.{count_at};
-ghost use Rattle.vm_types.specs.WellFormed.{IsWellFormed};
+ghost use Rattle.vm_types.specs.WellFormed.{IsPlace, IsWellFormed};
 ghost use Rattle.vm_world.specs.Words.{Fits, SameFilesAndTails, memory};
 ghost use Rattle.vm_world.specs.ZeroObjects.{AreSameZeros, KnowsZeros};
 ghost use Rattle.seg_vn.specs.Clears.{MayBeAlive};
 ghost use Rattle.seg_vn.specs.Serves.{Serves};
 ghost use Rattle.mmap_calls.specs.Answers.{IsAnswered};
 ghost use Rattle.mmap_calls.specs.Calls.{IsDoneAtOnce, IsMappingCall};
+ghost use Rattle.mmap_calls.specs.Refusals.{IsMapRequest, placed_call};
 
-use crate::maps::{map, map_wanted};
+use crate::gaps::map_any;
+use crate::maps::map;
+use crate::protects::protect;
+use crate::refusals::MapRequest;
 use crate::unmaps::unmap;
 use addr_space::Ranges;
 use block_device::Disk;
 use seg_vn::{Attempt, Spaces, VnSeg};
 use std::alloc::AllocError;
-use vm_types::{Call, Reply};
+use vm_types::{Call, Place, Reply};
 use vm_world::World;
+
+// The reply to a Map at this place.
+fn map_placed<D: Disk>(
+    world: &mut World<D>,
+    space: &mut Ranges<VnSeg>,
+    process: u32,
+    place: Place,
+    wanted: &MapRequest,
+) -> Result<Reply, AllocError>
+    requires place { IsPlace place }
+    requires request { IsMapRequest wanted.now }
+    requires fits { MayBeAlive world.old process space.old.parts }
+    ensures done { IfOk result (IsAnswered world.old world.new process
+        space.old.parts space.new.parts (placed_call place wanted.now)) }
+    ensures fall { IfOk result (λ _. (slot : ℕ)
+        → count_at world.new.anon slot ≤ count_at world.old.anon slot) }
+    // Where memory is wanting nothing changed, but that a number of a zero object may be free.
+    ensures err { OnErr result (AreSameZeros world.old.zeros world.new.zeros
+        × (world.new ≡ record world.old { zeros = world.new.zeros })
+        × (space.new.parts ≡ space.old.parts)) }
+    // What stays.
+    ensures rest { SameFilesAndTails world.old world.new }
+{
+    match place {
+        Place::At(addr) => map(world, space, process, &MapRequest { addr, ..*wanted }),
+        Place::Any => map_any(world, space, process, wanted),
+    }
+}
 
 // The reply to a call that changes the mappings of a space.
 fn answer<D: Disk>(
@@ -41,8 +73,26 @@ fn answer<D: Disk>(
     ensures rest { SameFilesAndTails world.old world.new }
 {
     match *call {
-        Call::Map { .. } => map(world, space, process, &map_wanted(call)),
+        Call::Map {
+            place,
+            length,
+            prot,
+            kind,
+            object,
+            offset,
+        } => {
+            let wanted = MapRequest {
+                addr: 0,
+                length,
+                prot,
+                kind,
+                object,
+                offset,
+            };
+            map_placed(world, space, process, place, &wanted)
+        }
         Call::Unmap { addr, length } => unmap(world, space, process, addr, length),
+        Call::Protect { addr, length, prot } => protect(world, space, process, addr, length, prot),
         _ => unreachable!(),
     }
 }

@@ -5,6 +5,7 @@ ghost use Rattle.anon_map.specs.Maps.{IsMapThere, free_numbers, holders_of, plac
 ghost use Rattle.vm_world.specs.Words.{OnlyMaps};
 ghost use Rattle.seg_vn.specs.Clears.{MayBeAlive, MayBeSpace, SpaceBecomes, StartsAt};
 ghost use Rattle.mmap_calls.specs.Looks.{kind_and_object};
+ghost use Rattle.mmap_calls.specs.Protections.{most_at};
 ghost use Rattle.mmap_calls.specs.Rooms.{HasRoomAt};
 
 use addr_space::Ranges;
@@ -79,6 +80,7 @@ pub(crate) fn cut<D: Disk>(
     // Each page looks as it did, and the maps of zero objects have as many places.
     ensures shows { (q : ℕ) → option_map kind_and_object (piece_at space.new.parts q)
         ≡ option_map kind_and_object (piece_at space.old.parts q) }
+    ensures most { (q : ℕ) → most_at space.new.parts q ≡ most_at space.old.parts q }
     ensures lengths { (z number : ℕ) → slice_index_or world.old.zeros z None ≡ Some number
         → length (places_of world.new.maps number) ≡ length (places_of world.old.maps number) }
     // Flat memory is as it was.
@@ -116,7 +118,9 @@ pub(crate) fn cut_ends<D: Disk>(
     requires fits { MayBeAlive world.old process space.old.parts }
     ensures low { IfOk result (λ _. StartsAt space.new.parts first) }
     ensures high { IfOk result (λ _. StartsAt space.new.parts end) }
-    // Flat memory is as it was.
+    // What may be done at most at each page is as it was, and so is flat memory.
+    ensures most { IfOk result (λ _. (q : ℕ)
+        → most_at space.new.parts q ≡ most_at space.old.parts q) }
     ensures changes { IfOk result (λ _. SpaceBecomes world.old world.new process
         space.old.parts space.new.parts (λ F. F)) }
     // What stays.

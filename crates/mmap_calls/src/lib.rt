@@ -4,7 +4,9 @@
 mod calls;
 mod counts;
 mod cuts;
+mod gaps;
 mod maps;
+mod protects;
 mod refusals;
 mod unmaps;
 

@@ -11,7 +11,7 @@ ghost use Rattle.vm_world.specs.World.{world_seen};
 ghost use Rattle.vm_world.specs.ZeroObjects.{AreSameZeros, free_number};
 ghost use Rattle.seg_vn.specs.Clears.{MayBeAlive, MayBeSpace, SpaceBecomes};
 ghost use Rattle.mmap_calls.specs.Answers.{IsAnswered};
-ghost use Rattle.mmap_calls.specs.Refusals.{IsMapAt, IsMapRequest, IsMappingOf, IsRefused, map_call, map_request, slots_for_map};
+ghost use Rattle.mmap_calls.specs.Refusals.{IsMapRequest, IsMappingOf, IsRefused, map_call, map_request, slots_for_map};
 ghost use Rattle.mmap_calls.specs.Rooms.{HasRoomAt, AreMade};
 
 use crate::cuts::{check_holders, cut, room_at};
@@ -20,7 +20,7 @@ use addr_space::Ranges;
 use block_device::Disk;
 use seg_vn::{VnSeg, clear};
 use std::alloc::AllocError;
-use vm_types::{Call, Kind, Object, PAGE_SIZE, Place, Reply, page_of};
+use vm_types::{Kind, Object, PAGE_SIZE, Reply, page_of};
 use vm_world::World;
 
 /// The room that a mapping needs: for the later places of the pieces that go across the ends of its range, and for the places
@@ -196,31 +196,6 @@ fn replace<D: Disk>(
     );
     space.insert(map.first, map.pages, segment);
     Ok(())
-}
-
-/// What a Map at an address asks for.
-pub(crate) fn map_wanted(call: &Call) -> MapRequest
-    requires { IsMapAt call.now }
-    ensures { call.now ≡ map_call result }
-{
-    match *call {
-        Call::Map {
-            place: Place::At(addr),
-            length,
-            prot,
-            kind,
-            object,
-            offset,
-        } => MapRequest {
-            addr,
-            length,
-            prot,
-            kind,
-            object,
-            offset,
-        },
-        _ => unreachable!(),
-    }
 }
 
 /// The reply to a Map at an address, which is done or refused. It takes its range from what is mapped there, which goes with its

@@ -1,13 +1,14 @@
 //! When a Map is refused.
 ghost use Rattle.std.specs.Prelude.{◌≡◌, ◌+◌, ◌≤◌, ◌^◌, ℕ, List, Option, None, Some, length, slice_index, slice_index_or, IsTrue, IfErr, IfOk};
-ghost use Rattle.addr_space.specs.Space.{Part};
+ghost use Rattle.addr_space.specs.Space.{FindsGap, Part};
+ghost use Rattle.vm_types.specs.Pages.{pages_in};
 ghost use Rattle.flat_model.specs.Mapping.{is_valid, prot_read_write};
 ghost use Rattle.vm_world.specs.World.{world_seen};
 ghost use Rattle.seg_vn.specs.Clears.{MayBeSpace};
 ghost use Rattle.vm_world.specs.declared.segment.Segment.{Segment};
 ghost use Rattle.mmap_calls.specs.GivenUp.{given_up, pages_given};
 ghost use Rattle.mmap_calls.specs.RangeCounts.{shown_within};
-ghost use Rattle.mmap_calls.specs.Refusals.{IsMappingOf, IsRefused, is_object_there, map_of_object, map_request, most_allowed, slots_for_pages};
+ghost use Rattle.mmap_calls.specs.Refusals.{IsGapless, IsMapRequest, IsMappingOf, IsRefused, any_request, is_object_there, map_of_object, map_request, most_allowed, slots_for_pages};
 
 use crate::counts::count_range;
 use addr_space::Ranges;
@@ -123,6 +124,43 @@ pub(crate) fn new_mapping<D: Disk>(
         max,
         held: map_of_object(world, request.object),
     })
+}
+
+/// Whether a Map at the lowest gap asks for a range: its length isn't 0, and its offset begins a page, and is 0 for new zero
+/// memory.
+pub(crate) fn is_valid_anywhere(map: &MapRequest) -> bool
+    ensures { result ≡ is_valid (any_request map.now) }
+{
+    let begins = map.offset % PAGE_SIZE == 0;
+    let fits = !matches!(map.object, Object::NewZero) || map.offset == 0;
+    map.length != 0 && begins && fits
+}
+
+/// The refusal that is due to a Map whose pages fit no gap: that comes behind those of its object, its protection and the pages of
+/// the process.
+pub(crate) fn refusal_without_gap<D: Disk>(
+    world: &World<D>,
+    space: &Ranges<VnSeg>,
+    request: &MapRequest,
+) -> Errno
+    requires request { IsMapRequest request.now }
+    requires valid { IsTrue (is_valid (any_request request.now)) }
+    requires none { FindsGap space.now.parts (pages_in request.now.length) None }
+    requires fits { MayBeSpace world.now space.now.parts }
+    ensures { IsGapless world.now space.now.parts request.now result }
+{
+    if !is_object_there(world, request.object) {
+        return Errno::NoObject;
+    }
+    let max = most_allowed(world, request.kind, request.object);
+    if !request.prot.is_within(max) {
+        return Errno::Access;
+    }
+    let total = space.pages() + pages_in(request.length);
+    if total > MOST_PAGES {
+        return Errno::TooLarge;
+    }
+    Errno::NoRoom
 }
 
 /// How many slots a mapping of so many pages reserves.

@@ -49,7 +49,7 @@ written-drop_at places space page k w = elim (cases_Bool (holds space page (Some
   })
 ]
 
-holds-at : (t : Translation) (space page : ℕ) → t.space ≡ space → t.page ≡ page → holds space page (Some t) ≡ true
+pub holds-at : (t : Translation) (space page : ℕ) → t.space ≡ space → t.page ≡ page → holds space page (Some t) ≡ true
 holds-at t space page a b = let x = sym a in let y = sym b in (λ i. holds (x i) (y i) (Some t)) ∙ holds-own t
 
 -- the translation of a page that stands somewhere is the one that is found

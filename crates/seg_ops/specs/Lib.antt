@@ -8,4 +8,5 @@ pub mod OwnPages
 pub mod Rooms
 pub mod Frames
 pub mod SlotsDue
+pub mod Writers
 pub mod Faults

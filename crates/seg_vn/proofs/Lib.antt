@@ -3,6 +3,8 @@ pub mod GivenBack
 mod LastObjects
 pub mod LeftSegments
 pub mod SpacesFrom
+pub mod Writers
+pub mod LimitedSegments
 pub mod ClearedSpaces
 pub mod Takes
 pub mod Replacements

@@ -8,3 +8,4 @@ pub mod Brings
 pub mod Shown
 pub mod AnyPlaces
 pub mod Cuts
+pub mod Protections

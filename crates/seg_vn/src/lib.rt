@@ -9,6 +9,7 @@ mod clears;
 mod copy_faults;
 mod cuts;
 mod leaves;
+mod protections;
 mod segment;
 mod shown;
 mod spaces;

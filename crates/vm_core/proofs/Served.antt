@@ -25,7 +25,7 @@ use Rattle.page_store.proofs.AwayLemmas.{away_law}
 use Rattle.vm_types.specs.Parts.{part_file, file_of_call}
 use Rattle.vm_types.specs.WellFormed.{IsWellFormed}
 use Rattle.vm_types.specs.declared.call.Call.{Call}
-use Rattle.vm_types.specs.declared.call.Call.TheVariants.{Load, Store, Map, Unmap, Sync, Exit, Fork}
+use Rattle.vm_types.specs.declared.call.Call.TheVariants.{Load, Store, Map, Unmap, Protect, Sync, Exit, Fork}
 use Rattle.vm_types.specs.declared.call.Entry.{Entry}
 use Rattle.vm_types.specs.declared.call.Reply.{Reply}
 use Rattle.vm_types.specs.declared.call.Reply.TheVariants as reply
@@ -76,6 +76,7 @@ served-is (Load a n) h = record { file = refl; part = refl; plain = λ child e. 
 served-is (Store a n v) h = record { file = refl; part = refl; plain = λ child e. let z : Store a n v ≡ Fork child = e in cc; bears = λ q p cleared reply. either (is_done reply) }
 served-is (Map place len prot kind obj offset) h = record { file = refl; part = refl; plain = λ child e. let z : Map place len prot kind obj offset ≡ Fork child = e in cc; bears = λ q p cleared r. either (is_done r) }
 served-is (Unmap a len) h = record { file = refl; part = refl; plain = λ child e. let z : Unmap a len ≡ Fork child = e in cc; bears = λ q p cleared r. either (is_done r) }
+served-is (Protect a len prot) h = record { file = refl; part = refl; plain = λ child e. let z : Protect a len prot ≡ Fork child = e in cc; bears = λ q p cleared r. either (is_done r) }
 served-is Exit h = record { file = refl; part = refl; plain = λ child e. let z : Exit ≡ Fork child = e in cc; bears = λ q p cleared r. either (is_done r) }
 served-is call h = absurd h
 
@@ -328,11 +329,13 @@ pub record AfterMapping (old : Memory) (new : Memory) (p : ℕ) (call : Call) (a
 pub after-mapping : (old new : Memory) (p : ℕ) (call : Call) (a : Attempt) → mmap.IsMappingCall call → ((slot : ℕ) → count_at new.world.anon slot ≤ count_at old.world.anon slot) → AfterMapping old new p call a
 after-mapping old new p (Map place len prot kind o offset) a is fall = record { shown = tt; slots = fall; hit = tt }
 after-mapping old new p (Unmap addr len) a is fall = record { shown = tt; slots = fall; hit = tt }
+after-mapping old new p (Protect addr len prot) a is fall = record { shown = tt; slots = fall; hit = tt }
 after-mapping old new p call a is fall = absurd is
 
 pub mapping-memory : (call : Call) → mmap.IsMappingCall call → TakesMemory call
 mapping-memory (Map place len prot kind o offset) is = tt
 mapping-memory (Unmap addr len) is = tt
+mapping-memory (Protect addr len prot) is = tt
 mapping-memory call is = absurd is
 
 -- What is concluded changes no memory.

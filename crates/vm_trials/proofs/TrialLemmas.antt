@@ -6,7 +6,7 @@ use Rattle.std.proofs.lemmas.List.{length-map, map-set, length-set, get_or-set_s
 use Rattle.std.proofs.Math.ListN.{get_or-map}
 use Rattle.vm_types.specs.Parts.{next_part, ends_call}
 use Rattle.vm_types.specs.declared.call.Call.{Call}
-use Rattle.vm_types.specs.declared.call.Call.TheVariants.{Load, Store, Map, Unmap, Exit}
+use Rattle.vm_types.specs.declared.call.Call.TheVariants.{Load, Store, Map, Unmap, Protect, Exit}
 use Rattle.vm_types.specs.declared.call.Entry.{Entry}
 use Rattle.vm_types.specs.declared.call.Reply.{Reply}
 use Rattle.flat_model.specs.OpenLaws.{last_entry, FollowsOn, MayFollow}
@@ -33,6 +33,7 @@ served-ends (Load a n) reply h = refl
 served-ends (Store a n v) reply h = refl
 served-ends (Map place len prot kind object offset) reply h = refl
 served-ends (Unmap a len) reply h = refl
+served-ends (Protect a len prot) reply h = refl
 served-ends Exit reply h = refl
 served-ends call reply h = absurd h
 
@@ -41,6 +42,7 @@ served-bears s p (Load a n) h = tt
 served-bears s p (Store a n v) h = tt
 served-bears s p (Map place len prot kind object offset) h = tt
 served-bears s p (Unmap a len) h = tt
+served-bears s p (Protect a len prot) h = tt
 served-bears s p Exit h = tt
 served-bears s p call h = absurd h
 

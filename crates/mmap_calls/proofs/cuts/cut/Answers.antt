@@ -11,8 +11,9 @@ use Rattle.vm_world.proofs.ComingParts.{zero-there}
 use Rattle.seg_vn.specs.Clears.{StartsAt}
 use Rattle.seg_vn.proofs.CutSegments.{may-be-cut}
 use Rattle.mmap_calls.specs.Looks.{kind_and_object}
+use Rattle.mmap_calls.specs.Protections.{most_at}
 use Rattle.mmap_calls.specs.Rooms.{HasRoomAt}
-use Rattle.mmap_calls.proofs.CutPlaces.{Across, across, same-piece, cut-part, room-here, few-here, cut-is, across-with, own-apart, starts-cut, starts-kept, look-kept, room-kept, cut-known, same-space}
+use Rattle.mmap_calls.proofs.CutPlaces.{Across, across, same-piece, cut-part, room-here, few-here, cut-is, across-with, own-apart, starts-cut, starts-kept, look-kept, most-kept, room-kept, cut-known, same-space}
 use Rattle.mmap_calls.proofs.cuts.cut.Goals.{In-Some-find_mut, After-split_at}
 use Rattle.mmap_calls.proofs.cuts.cut.Given.{Over}
 use Rattle.mmap_calls.proofs.cuts.cut.Goals as goal
@@ -93,6 +94,12 @@ returns-clause-shows g c = λ q.
     let d = (goal.at.returns-clause-shows g c).In-Some-find_mut in
     ap (λ (ps : List (Part Segment)). option_map kind_and_object (piece_at ps q)) (is g (goal.at.returns-clause-shows g c).After-split_at)
     ∙ look-kept c.args.page c.cut_into-upper.ensures.cut.later.0 c.args.space.now.parts (the_part g d) c.find.ensures.ordered c.in-Some.ensures.found (x g d) q
+
+pub returns-clause-most : goal.returns-clause-most
+returns-clause-most g c = λ q.
+    let d = (goal.at.returns-clause-most g c).In-Some-find_mut in
+    ap (λ (ps : List (Part Segment)). most_at ps q) (is g (goal.at.returns-clause-most g c).After-split_at)
+    ∙ most-kept c.args.page c.cut_into-upper.ensures.cut.later.0 c.args.space.now.parts (the_part g d) c.find.ensures.ordered c.in-Some.ensures.found (x g d) q
 
 pub returns-clause-lengths : goal.returns-clause-lengths
 returns-clause-lengths g c = λ z n there.

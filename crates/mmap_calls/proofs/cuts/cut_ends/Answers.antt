@@ -1,11 +1,14 @@
 use Rattle.std.proofs.Common.{◌≡◌, ℕ, ◌+◌, ◌-◌, ◌++◌, List, Option, Some, None, refl, sym, ap, ◌∙◌, subst, arith}
 use Rattle.std.specs.Prelude.{vec_capacity, replicate}
 use Rattle.std.specs.FinMap as finite
+use Rattle.addr_space.specs.Space.{Part}
 use Rattle.anon_map.specs.Maps.{free_numbers}
 use Rattle.vm_world.specs.FlatMemory.{Memory}
 use Rattle.vm_world.specs.World.{world_seen}
 use Rattle.vm_world.specs.World as worlds
 use Rattle.seg_vn.specs.Clears.{SpaceFits}
+use Rattle.vm_world.specs.declared.segment.Segment.{Segment}
+use Rattle.mmap_calls.specs.Protections.{most_at}
 use Rattle.mmap_calls.proofs.Replaced.{fits-step, fits-then, numbers-after, cuts-done, room-later}
 use Rattle.mmap_calls.proofs.cuts.cut_ends.Goals.{In_ok-reserve-2}
 use Rattle.mmap_calls.proofs.cuts.cut_ends.Given.{Over}
@@ -53,3 +56,6 @@ returns-clause-changes g c = λ spaces fits.
     let m : Memory = record { world = world_seen c.args.world.now; spaces = spaces } in
     cuts-done m p (taken g d) (world_seen c.cut.new.world) (world_seen c.cut-2.new.world) c.args.space.now.parts c.reserve.new.self.parts c.cut.new.space.parts c.cut-2.new.space.parts c.args.world.now.zeros c.args.world.now.zeros c.cut.new.world.zeros c.cut-2.new.world.zeros
     (2 - free_numbers c.args.world.now.maps) fits (ap (λ ms. record (world_seen c.args.world.now) { maps = ms }) c.in_ok-reserve-2.ensures.new) (λ z. refl) c.in_ok-reserve.ensures.parts c.cut.ensures.changes c.cut-2.ensures.changes
+
+pub returns-clause-most : goal.returns-clause-most
+returns-clause-most g c = λ q. c.cut-2.ensures.most q ∙ c.cut.ensures.most q ∙ ap (λ (ps : List (Part Segment)). most_at ps q) c.in_ok-reserve.ensures.parts

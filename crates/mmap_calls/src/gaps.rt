@@ -1,0 +1,53 @@
+//! Map at the lowest gap.
+ghost use Rattle.std.specs.Prelude.{◌≡◌, ◌≤◌, ℕ, IfOk, OnErr};
+ghost use Rattle.anon_slots.specs.Slots.{count_at};
+ghost use Rattle.vm_world.specs.Words.{SameFilesAndTails};
+ghost use Rattle.vm_world.specs.ZeroObjects.{AreSameZeros};
+ghost use Rattle.seg_vn.specs.Clears.{MayBeAlive};
+ghost use Rattle.mmap_calls.specs.Answers.{IsAnswered};
+ghost use Rattle.mmap_calls.specs.Refusals.{IsMapRequest, map_any_call};
+
+use crate::maps::map;
+use crate::refusals::{MapRequest, is_valid_anywhere, refusal_without_gap};
+use addr_space::Ranges;
+use block_device::Disk;
+use seg_vn::VnSeg;
+use std::alloc::AllocError;
+use vm_types::{Errno, PAGE_SIZE, Reply, pages_in};
+use vm_world::World;
+
+/// The reply to a Map at the lowest gap that its pages fit, which is done or refused. In a gap it replaces nothing, so it is answered
+/// as a Map at the gap's address is. The only error is want of memory, or of numbers. Time: the number of pieces, and what that Map
+/// takes.
+pub(crate) fn map_any<D: Disk>(
+    world: &mut World<D>,
+    space: &mut Ranges<VnSeg>,
+    process: u32,
+    request: &MapRequest,
+) -> Result<Reply, AllocError>
+    requires request { IsMapRequest request.now }
+    requires fits { MayBeAlive world.old process space.old.parts }
+    ensures done { IfOk result (IsAnswered world.old world.new process space.old.parts
+        space.new.parts (map_any_call request.now)) }
+    ensures fall { IfOk result (λ _. (slot : ℕ)
+        → count_at world.new.anon slot ≤ count_at world.old.anon slot) }
+    // Where memory is wanting nothing changed, but that a number of a zero object may be free.
+    ensures err { OnErr result (AreSameZeros world.old.zeros world.new.zeros
+        × (world.new ≡ record world.old { zeros = world.new.zeros })
+        × (space.new.parts ≡ space.old.parts)) }
+    // What stays.
+    ensures rest { SameFilesAndTails world.old world.new }
+{
+    if !is_valid_anywhere(request) {
+        return Ok(Reply::Refused(Errno::Invalid));
+    }
+    let Some(first) = space.gap(pages_in(request.length)) else {
+        let errno = refusal_without_gap(world, space, request);
+        return Ok(Reply::Refused(errno));
+    };
+    let placed = MapRequest {
+        addr: first * PAGE_SIZE,
+        ..*request
+    };
+    map(world, space, process, &placed)
+}

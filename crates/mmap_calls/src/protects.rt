@@ -1,0 +1,125 @@
+//! Protect.
+ghost use Rattle.std.specs.Prelude.{◌≡◌, ◌↔◌, ◌≤◌, ◌-◌, ℕ, IfOk, OnErr, IsTrue};
+ghost use Rattle.anon_slots.specs.Slots.{count_at};
+ghost use Rattle.vm_types.specs.declared.call.Call.TheVariants as calls;
+ghost use Rattle.vm_world.specs.ProtectSteps.{with_range_prot};
+ghost use Rattle.vm_world.specs.Serving.{ModifiesNone};
+ghost use Rattle.vm_world.specs.Words.{OnlyStoreAndHat, SameFilesAndTails};
+ghost use Rattle.vm_world.specs.World.{world_seen};
+ghost use Rattle.seg_vn.specs.Clears.{MayBeAlive, SpaceBecomes, StartsAt};
+ghost use Rattle.mmap_calls.specs.Answers.{IsAnswered};
+ghost use Rattle.mmap_calls.specs.Protections.{AreMapped, MayHave};
+
+use crate::cuts::cut_ends;
+use addr_space::Ranges;
+use block_device::Disk;
+use seg_vn::VnSeg;
+use std::alloc::AllocError;
+use vm_types::{Errno, Prot, Reply, is_range, page_of, pages_in};
+use vm_world::World;
+
+// Whether each page of a range is mapped. Time: the logarithm of the number of pieces for each piece of the range.
+fn are_mapped(space: &Ranges<VnSeg>, first: u32, end: u32) -> bool
+    ensures { IsTrue result ↔ AreMapped space.now.parts first end }
+{
+    let mut page = first;
+    while page < end {
+        let Some((begin, pages, _segment)) = space.find(page) else {
+            return false;
+        };
+        page = begin + pages;
+    }
+    true
+}
+
+// Whether each page of a range that is mapped may have a protection. Time: the logarithm of the number of pieces for each piece
+// of the range.
+fn may_have(space: &Ranges<VnSeg>, first: u32, end: u32, prot: Prot) -> bool
+    requires mapped { AreMapped space.now.parts first end }
+    ensures { IsTrue result ↔ MayHave space.now.parts first end prot }
+{
+    let mut page = first;
+    while page < end {
+        let Some((begin, pages, segment)) = space.find(page) else {
+            unreachable!();
+        };
+        if !segment.check_prot(prot) {
+            return false;
+        }
+        page = begin + pages;
+    }
+    true
+}
+
+// Gives the pages of a range another protection; no piece goes across an end of it. Takes no memory. Time: the logarithm of the
+// number of pieces for each piece of the range, and the pages that may not be written then.
+fn set_range<D: Disk>(
+    world: &mut World<D>,
+    space: &mut Ranges<VnSeg>,
+    process: u32,
+    first: u32,
+    end: u32,
+    prot: Prot,
+)
+    requires range { first ≤ end }
+    requires low { StartsAt space.old.parts first }
+    requires high { StartsAt space.old.parts end }
+    requires mapped { AreMapped space.old.parts first end }
+    requires may { MayHave space.old.parts first end prot }
+    requires fits { MayBeAlive world.old process space.old.parts }
+    ensures changes { SpaceBecomes world.old world.new process space.old.parts space.new.parts
+        (λ F. with_range_prot F process first (end - first) prot) }
+    // What stays.
+    ensures rest { OnlyStoreAndHat world.old world.new }
+    ensures modified { ModifiesNone (world_seen world.old) (world_seen world.new) }
+{
+    let mut page = first;
+    while page < end {
+        let Some((_begin, pages, _segment)) = space.find(page) else {
+            unreachable!();
+        };
+        let Some(segment) = space.find_mut(page) else {
+            unreachable!();
+        };
+        segment.set_prot(world, process, page, prot);
+        page += pages;
+    }
+}
+
+/// The reply to a Protect, which is done or refused. Whether it is refused is decided before a piece is cut. The only error is want
+/// of memory, or of numbers; then nothing changed. Time: the logarithm of the number of pieces for each piece of the range, the
+/// pages that may not be written then, and for each end of the range at which a piece is cut, the number of pieces and the places
+/// that go over.
+pub(crate) fn protect<D: Disk>(
+    world: &mut World<D>,
+    space: &mut Ranges<VnSeg>,
+    process: u32,
+    addr: u32,
+    length: u32,
+    prot: Prot,
+) -> Result<Reply, AllocError>
+    requires fits { MayBeAlive world.old process space.old.parts }
+    ensures done { IfOk result (IsAnswered world.old world.new process
+        space.old.parts space.new.parts (calls.Protect addr length prot)) }
+    ensures fall { IfOk result (λ _. (slot : ℕ)
+        → count_at world.new.anon slot ≤ count_at world.old.anon slot) }
+    ensures err { OnErr result ((world.new ≡ world.old)
+        × (space.new.parts ≡ space.old.parts)) }
+    // What stays.
+    ensures rest { SameFilesAndTails world.old world.new }
+{
+    if !is_range(addr, length) {
+        return Ok(Reply::Refused(Errno::Invalid));
+    }
+    let first = page_of(addr);
+    let end = first + pages_in(length);
+    if !are_mapped(space, first, end) {
+        return Ok(Reply::Refused(Errno::NotMapped));
+    }
+    if !may_have(space, first, end, prot) {
+        return Ok(Reply::Refused(Errno::Access));
+    }
+    cut_ends(world, space, process, first, end)?;
+    set_range(world, space, process, first, end, prot);
+    Ok(Reply::Done)
+}

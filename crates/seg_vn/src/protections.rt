@@ -1,0 +1,80 @@
+//! Segments whose protection changes.
+ghost use Rattle.std.specs.Prelude.{◌≡◌, ◌≤◌, ◌<◌, ◌+◌, ℕ, true};
+ghost use Rattle.std.specs.FinMap as finite;
+ghost use Rattle.addr_space.specs.Space.{with_new_piece};
+ghost use Rattle.vm_types.specs.Prot.{is_within};
+ghost use Rattle.vm_world.specs.ProtectSteps.{with_segment_prot, with_range_prot};
+ghost use Rattle.vm_world.specs.Segments.{Spaces};
+ghost use Rattle.vm_world.specs.Serving.{ModifiesNone};
+ghost use Rattle.vm_world.specs.Words.{IsFit, KeepsEveryPage, OnlyHat, OnlyStoreAndHat, memory};
+ghost use Rattle.vm_world.specs.World.{world_seen};
+ghost use Rattle.vm_world.specs.ZeroObjects.{KnowsZeros};
+ghost use Rattle.seg_ops.specs.Writers.{HasNoWriter, WritersStay};
+ghost use Rattle.seg_vn.specs.Clears.{ChangesSpace};
+ghost use Rattle.seg_vn.specs.Cuts.{IsPartAt};
+ghost use Rattle.seg_vn.specs.Protections.{AreLimited};
+
+use crate::segment::VnSeg;
+use block_device::Disk;
+use seg_ops::protect;
+use vm_types::Prot;
+use vm_world::World;
+
+impl VnSeg {
+    // Takes the right to write from the translations of its pages. Time: its pages.
+    fn hold_writes<D: Disk>(&self, world: &mut World<D>, space: u32, first: u32)
+        requires within { first + self.now.pages ≤ 0x80000 }
+        ensures none { (q : ℕ) → first ≤ q → q < first + self.now.pages
+            → HasNoWriter world.new.hat.places space q }
+        ensures stay { WritersStay world.old.hat.places world.new.hat.places }
+        ensures rest { OnlyHat world.old world.new }
+        ensures modified { ModifiesNone (world_seen world.old) (world_seen world.new) }
+        ensures keeps { KeepsEveryPage world.old world.new }
+    {
+        for page in first..first + self.pages() {
+            protect(world, space, page);
+        }
+    }
+
+    // Sees to it that the translations of its pages let no more than a protection. Time: its pages, unless it may be written.
+    fn limit<D: Disk>(&mut self, world: &mut World<D>, space: u32, first: u32, prot: Prot)
+        requires within { first + self.old.pages ≤ 0x80000 }
+        requires fits { IsFit world.old }
+        ensures limited { AreLimited world.new.hat.places space first self.old.pages prot }
+        ensures segment { self.new ≡ self.old }
+        ensures rest { OnlyStoreAndHat world.old world.new }
+        ensures modified { ModifiesNone (world_seen world.old) (world_seen world.new) }
+        ensures keeps { KeepsEveryPage world.old world.new }
+    {
+        if prot.can_write() {
+            return;
+        }
+        if prot.can_read() {
+            self.hold_writes(world, space, first);
+            return;
+        }
+        self.unmap(world, space, first);
+    }
+
+    /// Gives its pages, which begin with this page of the process, another protection. Translations lose the right to write where
+    /// that lacks it, and go where it lets nothing. Takes no memory. Time: its pages, unless it may be written.
+    pub fn set_prot<D: Disk>(&mut self, world: &mut World<D>, space: u32, first: u32, prot: Prot)
+        requires within { is_within prot self.old.max ≡ true }
+        requires part { (spaces : Spaces)
+            × IsPartAt (world_seen world.old) spaces space first self.old }
+        // Memory fits, and in flat memory the cells of its pages have this protection.
+        ensures changes { (spaces : Spaces)
+            (c : IsPartAt (world_seen world.old) spaces space first self.old)
+            → KnowsZeros world.old.zeros spaces
+            → ChangesSpace space (memory world.old spaces) (memory world.new
+            (finite.insert spaces space (with_new_piece first self.new c.parts)))
+            world.old.zeros (λ F. with_range_prot F space first self.old.pages prot) }
+        ensures segment { self.new ≡ with_segment_prot prot self.old }
+        // What stays.
+        ensures rest { OnlyStoreAndHat world.old world.new }
+        ensures modified { ModifiesNone (world_seen world.old) (world_seen world.new) }
+    {
+        self.limit(world, space, first, prot);
+        self.segment.prot = prot;
+    }
+}
