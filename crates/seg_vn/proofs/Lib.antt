@@ -1,4 +1,5 @@
 pub mod CutSegments
+pub mod CopiedSegments
 pub mod GivenBack
 mod LastObjects
 pub mod LeftSegments

@@ -1,8 +1,8 @@
 -- Translations that may write, as rights to write are taken.
-use Rattle.std.proofs.Common.{◌≡◌, ◌≢◌, ℕ, ◌+◌, ◌<◌, Bool, true, false, List, Option, Some, None, refl, sym, ap, ◌∙◌, inl, inr, subst, arith, slice_index_or}
-use Rattle.std.proofs.lemmas.Bool.{cases_Bool, cases_eq}
+use Rattle.std.proofs.Common.{ℕ, List, Option, sym, ◌∙◌, inl, inr}
+use Rattle.std.proofs.lemmas.Bool.{cases_Bool}
 use Rattle.hat_layer.specs.declared.translation.Translation.{Translation}
-use Rattle.seg_ops.specs.Writers.{HasNoWriter, WasWriter, WritersStay}
+use Rattle.seg_ops.specs.Writers.{HasNoWriter, WritersStay}
 
 -- a page without a writer has none later
 pub no-writer-then : (old new : List (Option Translation)) (space page : ℕ) → HasNoWriter old space page → WritersStay old new → HasNoWriter new space page

@@ -8,4 +8,5 @@ pub mod Brings
 pub mod Shown
 pub mod AnyPlaces
 pub mod Cuts
+pub mod Copied
 pub mod Protections

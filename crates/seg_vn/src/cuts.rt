@@ -35,7 +35,7 @@ fn cut_own<D: Disk>(
 
 // One holder more of the map of a zero object, if there is one.
 #[tactic(auto, using(anon_map::proofs::MapLaws::with_holders_free))]
-fn hold_shown<D: Disk>(world: &mut World<D>, shown: Option<u32>)
+pub(crate) fn hold_shown<D: Disk>(world: &mut World<D>, shown: Option<u32>)
     requires there { (map : ℕ) → shown ≡ Some map → IsMapThere world.old.maps map
         × (holders_of world.old.maps map < 2 ^ 32 - 1) }
     ensures held { world.new ≡ record world.old { maps = maps_held world.old.maps shown } }

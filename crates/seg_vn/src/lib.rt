@@ -8,6 +8,7 @@ mod attempt;
 mod clears;
 mod copy_faults;
 mod cuts;
+mod dups;
 mod leaves;
 mod protections;
 mod segment;
