@@ -13,7 +13,7 @@ use Rattle.page_store.specs.Seen.{StoreSeen, IsSoundStore, residence, residence_
 use Rattle.page_store.specs.Table.{PlaceTable}
 use Rattle.page_store.specs.Value.{value}
 use Rattle.page_lists.specs.ListsSeen.{first_listed}
-use Rattle.page_store.specs.Waits.{IsVictim, ChoosesPage}
+use Rattle.page_store.specs.Waits.{IsVictim}
 use Rattle.page_store.specs.declared.residence.Residence.TheVariants.{Home, Absent}
 
 pub named-within : (names : List (Option PageName)) (k : ℕ) (n : PageName) → name_at names k ≡ Some n → k < length names

@@ -41,7 +41,7 @@ pub record IsVictim (s : StoreSeen) (frame : ℕ) : Type 0 where
   pub unlocked : (row_at s.rows frame).holder ≡ None
   pub unkept : (row_at s.rows frame).keeps ≡ 0
 
--- The page that is chosen is in such a frame, and none is chosen exactly where there is no such frame.
-abbrev pub ChoosesPage : StoreSeen → Option PageName → Type 0
-ChoosesPage s None = (frame : ℕ) → IsVictim s frame → ⊥
-ChoosesPage s (Some page) = (frame : ℕ) × (residence s page ≡ at.Home frame) × IsVictim s frame
+-- Such a frame is chosen, and none exactly where there is none.
+abbrev pub ChoosesFrame : StoreSeen → Option ℕ → Type 0
+ChoosesFrame s None = (frame : ℕ) → IsVictim s frame → ⊥
+ChoosesFrame s (Some frame) = IsVictim s frame

@@ -59,7 +59,6 @@ impl<D: Disk> Store<D> {
         rename(&mut self.names, frame, name);
         reset(&mut self.locks, frame, name.object == SWAP_OBJECT);
         zero_frame(&mut self.core, frame);
-        self.hand = frame;
     }
 
     /// Makes a slot's page with the bytes of a page that is home.
@@ -85,7 +84,6 @@ impl<D: Disk> Store<D> {
                 rename(&mut self.names, frame, to);
                 reset(&mut self.locks, frame, true);
                 copy_frame(&mut self.core, source, frame);
-                self.hand = frame;
             }
         }
     }

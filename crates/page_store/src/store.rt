@@ -14,7 +14,7 @@ ghost use Rattle.page_store.specs.Seen.{residence, IsListedFrame, IsSoundStore};
 ghost use Rattle.page_store.specs.Steps.{next_frame, next_name, with_row};
 ghost use Rattle.page_store.specs.Table.{PlaceTable};
 ghost use Rattle.page_store.specs.Value.{value};
-ghost use Rattle.page_store.specs.Waits.{Waits, plan_page, ChoosesPage, IsVictim};
+ghost use Rattle.page_store.specs.Waits.{Waits, plan_page, ChoosesFrame, IsVictim};
 
 use crate::bays::Bays;
 use crate::order::Order;
@@ -251,43 +251,56 @@ impl<D: Disk> Store<D> {
         self.frames
     }
 
-    /// A page whose frame can be had once the page was pushed or released; None where there is none.
+    /// A frame whose page can be pushed or released; None where there is none.
     ///
-    /// It looks at the frames in order, from the one behind the hand, so that successive searches go round the frames. The
-    /// hand goes to a frame that gets another page, to one that is passed over, and to one whose transfer failed.
-    pub fn victim(&self) -> Option<PageName>
-        ensures { ChoosesPage self.now result }
+    /// It looks at the frames in order, from the one behind the hand, so that successive searches go round the frames.
+    pub fn victim(&self) -> Option<u32>
+        ensures { ChoosesFrame self.now result }
     {
         let next = self.hand + 1;
         match self.victim_in(next, self.frames) {
-            Some(name) => Some(name),
+            Some(frame) => Some(frame),
             None => self.victim_in(0, next),
         }
     }
 
-    /// The next search for a victim begins behind this frame.
-    pub fn pass_over(&mut self, frame: u32)
+    /// The frame that lies so many frames behind the hand, round the frames.
+    pub fn frame_behind(&self, distance: u32) -> u32
+        requires { distance < length self.now.frames }
+        ensures { result < length self.now.frames }
+    {
+        let ahead = self.frames - distance;
+        if self.hand < ahead {
+            self.hand + distance
+        } else {
+            self.hand - ahead
+        }
+    }
+
+    /// The hand goes to a frame: the next search for a victim begins behind it. A transfer that failed moves it, too.
+    pub fn move_hand(&mut self, frame: u32)
         requires { frame < length self.old.frames }
         ensures { self.new ≡ self.old }
     {
         self.hand = frame;
     }
 
-    fn victim_in(&self, from: u32, to: u32) -> Option<PageName>
+    fn victim_in(&self, from: u32, to: u32) -> Option<u32>
         requires { to ≤ length self.now.frames }
-        ensures some { IfSome result (λ name. ChoosesPage self.now (Some name)) }
+        ensures some { IfSome result (IsVictim self.now) }
         ensures none { result ≡ None → (frame : ℕ) → from ≤ frame → frame < to
             → IsVictim self.now frame → ⊥ }
     {
         for frame in from..to {
             if self.is_victim(frame) {
-                return self.names.name_of(frame);
+                return Some(frame);
             }
         }
         None
     }
 
-    fn is_victim(&self, frame: u32) -> bool
+    /// Whether the page in a frame can be pushed or released.
+    pub fn is_victim(&self, frame: u32) -> bool
         requires { frame < length self.now.frames }
         ensures { IsTrue result ↔ IsVictim self.now frame }
     {

@@ -130,7 +130,6 @@ impl<D: Disk> Store<D> {
         let frame = self.core.take(at);
         rename(&mut self.names, at, name);
         reserve(&mut self.locks, at, seat);
-        self.hand = at;
         Flight {
             seat,
             number: disk,

@@ -111,16 +111,14 @@ fn copy(store: &mut Store<MemDisk>, from: PageName, to: PageName) -> bool {
 
 /// Releases the next victim, where it is this page.
 fn release(store: &mut Store<MemDisk>, name: PageName) -> bool {
-    let Some(victim) = store.victim() else {
+    let Some(frame) = store.victim() else {
         return false;
     };
-    let Residence::Home(frame) = store.resident(victim) else {
-        return false;
-    };
-    if victim != name || store.bits(frame).1 || store.has_snapshot(frame) {
+    if store.name_of(frame) != Some(name) || store.bits(frame).1 || store.has_snapshot(frame) {
         return false;
     }
     store.release(frame);
+    store.move_hand(frame);
     true
 }
 

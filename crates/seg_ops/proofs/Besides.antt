@@ -3,13 +3,11 @@ use Rattle.std.proofs.Common.{◌≡◌, ◌≢◌, ℕ, ◌+◌, ◌-◌, ◌<�
 use Rattle.std.specs.Prelude.{IsSome}
 use Rattle.std.proofs.lemmas.List.{get_or-set_other, length-set}
 use Rattle.core_arena.specs.Bytes.{bytes_at}
-use Rattle.page_hash.specs.declared.PageName.{PageName}
 use Rattle.page_lock.specs.Rows.{row_at, clear_row}
 use Rattle.page_lock.specs.declared.Row.{Row}
-use Rattle.page_store.specs.Laws.{SameResidence}
 use Rattle.page_store.specs.Seen.{StoreSeen, IsListedFrame}
 use Rattle.page_store.specs.Steps.{with_row}
-use Rattle.page_store.specs.Waits.{ChoosesPage}
+use Rattle.page_store.specs.Waits.{ChoosesFrame}
 use Rattle.seg_ops.specs.Rooms.{ChoosesBeside}
 use Rattle.seg_ops.proofs.SlotPlaces.{set_twice, set_same}
 
@@ -27,25 +25,22 @@ module _ (s mid : StoreSeen) (beside : ℕ) (lt : beside < length s.rows) (kept 
   row-else : (k : ℕ) → k ≢ beside → row_at mid.rows k ≡ row_at s.rows k
   row-else k ne = ap (λ (t : StoreSeen). row_at t.rows k) kept ∙ get_or-set_other s.rows beside k (kept_row (row_at s.rows beside)) clear_row ne
 
-  -- THE PAGE THAT IS CHOSEN meanwhile.
-  pub chosen : (o : Option PageName) → SameResidence s mid → ChoosesPage mid o → ChoosesBeside s (Some beside) o
-  chosen None stay none = λ k apart v. let ne : k ≢ beside = λ e. apart (ap (λ (j : ℕ). Some j) (sym e)) in none k (record {
+  -- THE FRAME THAT IS CHOSEN meanwhile.
+  pub chosen : (o : Option ℕ) → ChoosesFrame mid o → ChoosesBeside s (Some beside) o
+  chosen None none = λ k apart v. let ne : k ≢ beside = λ e. apart (ap (λ (j : ℕ). Some j) (sym e)) in none k (record {
     here = subst (λ (t : StoreSeen). IsSome (bytes_at t.frames k)) (sym kept) v.here;
     unlisted = λ l. v.unlisted (subst (λ (t : StoreSeen). IsListedFrame t k) kept l);
     unlocked = ap (λ (r : Row). r.holder) (row-else k ne) ∙ v.unlocked;
     unkept = ap (λ (r : Row). r.keeps) (row-else k ne) ∙ v.unkept;
   })
-  chosen (Some page) stay c =
-      let v = c.2 in
-      let ne : c.0 ≢ beside = λ e. (let none : (row_at mid.rows beside).keeps ≡ 0 = ap (λ (k : ℕ). (row_at mid.rows k).keeps) (sym e) ∙ v.unkept in let some = ap (λ (r : Row). r.keeps) row-own in omega (arith, none, some)) in (
-        c.0,
-        (λ e. ne (let same : beside ≡ c.0 = (let k : Some beside ≡ Some c.0 = e in cc) in sym same)),
-        sym (stay page) ∙ c.1,
+  chosen (Some k) v =
+      let ne : k ≢ beside = λ e. (let none : (row_at mid.rows beside).keeps ≡ 0 = ap (λ (j : ℕ). (row_at mid.rows j).keeps) (sym e) ∙ v.unkept in let some = ap (λ (r : Row). r.keeps) row-own in omega (arith, none, some)) in (
+        (λ e. ne (let same : beside ≡ k = (let j : Some beside ≡ Some k = e in cc) in sym same)),
         record {
-          here = subst (λ (t : StoreSeen). IsSome (bytes_at t.frames c.0)) kept v.here;
-          unlisted = λ l. v.unlisted (subst (λ (t : StoreSeen). IsListedFrame t c.0) (sym kept) l);
-          unlocked = ap (λ (r : Row). r.holder) (sym (row-else c.0 ne)) ∙ v.unlocked;
-          unkept = ap (λ (r : Row). r.keeps) (sym (row-else c.0 ne)) ∙ v.unkept;
+          here = subst (λ (t : StoreSeen). IsSome (bytes_at t.frames k)) kept v.here;
+          unlisted = λ l. v.unlisted (subst (λ (t : StoreSeen). IsListedFrame t k) (sym kept) l);
+          unlocked = ap (λ (r : Row). r.holder) (sym (row-else k ne)) ∙ v.unlocked;
+          unkept = ap (λ (r : Row). r.keeps) (sym (row-else k ne)) ∙ v.unkept;
         },
       )
 
@@ -60,7 +55,7 @@ module _ (s mid : StoreSeen) (beside : ℕ) (lt : beside < length s.rows) (kept 
       ∙ ap (λ (t : StoreSeen). with_row t beside row) kept
       ∙ ap (λ (rows : List Row). record s { rows = rows }) (set_twice s.rows beside (kept_row row) row ∙ set_same s.rows beside clear_row)
 
--- a page that is chosen, where no frame is given
-pub chosen-any : (s : StoreSeen) (o : Option PageName) → ChoosesPage s o → ChoosesBeside s None o
+-- a frame that is chosen, where none is given
+pub chosen-any : (s : StoreSeen) (o : Option ℕ) → ChoosesFrame s o → ChoosesBeside s None o
 chosen-any s None none = λ k apart v. none k v
-chosen-any s (Some page) c = (c.0, (λ e. let z : None ≡ Some c.0 = e in cc), c.1, c.2)
+chosen-any s (Some k) v = ((λ e. let z : None ≡ Some k = e in cc), v)

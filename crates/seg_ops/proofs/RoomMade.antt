@@ -1,6 +1,8 @@
 -- Room that is made, in no step and in two.
 use Rattle.std.proofs.Common.{◌≡◌, ℕ, List, [], ◌∷◌, ◌++◌, Bool, refl, ap, ◌∙◌, inl, inr}
+use Rattle.page_lists.specs.ListsSeen.{first_listed}
 use Rattle.page_store.specs.Seen.{StoreSeen}
+use Rattle.page_store.specs.Steps.{next_frame}
 use Rattle.vm_world.specs.World.{world_seen}
 use Rattle.vm_world.specs.declared.world.World as rust
 use Rattle.seg_ops.specs.Rooms.{ListsOneMore, MakesRoom, SameLists}
@@ -35,12 +37,13 @@ pub lists-then : (s mid new : StoreSeen) → SameLists s mid → ListsOneMore mi
 lists-then s mid new (free, cached) (then, inl same) = (then ∙ free, inl (same ∙ cached))
 lists-then s mid new (free, cached) (then, inr (frame, is)) = (then ∙ free, inr (frame, is ∙ ap (λ (l : List ℕ). l ++ frame ∷ []) cached))
 
--- As they were, where bits alone are gathered; with one frame more, where that was released then.
-pub lists-gathered : (s new : StoreSeen) (frame : ℕ) (told : Bool × Bool) → new ≡ with_bits_gathered s frame told → ListsOneMore s new
-lists-gathered s new frame told is = (ap (λ (x : StoreSeen). x.free) is, inl (ap (λ (x : StoreSeen). x.cached) is))
+pub lists-both : (s mid new : StoreSeen) → SameLists s mid → SameLists mid new → SameLists s new
+lists-both s mid new (free, cached) (then_free, then_cached) = (then_free ∙ free, then_cached ∙ cached)
 
-pub lists-released : (s mid new : StoreSeen) (frame : ℕ) (told : Bool × Bool) → mid ≡ with_bits_gathered s frame told → new ≡ record mid { cached = mid.cached ++ frame ∷ [] } → ListsOneMore s new
-lists-released s mid new frame told is then = (
-  ap (λ (x : StoreSeen). x.free) then ∙ ap (λ (x : StoreSeen). x.free) is,
-  inr (frame, ap (λ (x : StoreSeen). x.cached) then ∙ ap (λ (l : List ℕ). l ++ frame ∷ []) (ap (λ (x : StoreSeen). x.cached) is)),
-)
+-- The frame that is taken next is the same.
+pub same-next : (s new : StoreSeen) → SameLists s new → next_frame new ≡ next_frame s
+same-next s new (free, cached) = ap (λ (l : List ℕ). first_listed l new.cached) free ∙ ap (λ (l : List ℕ). first_listed s.free l) cached
+
+-- As they were, where bits alone are gathered.
+pub lists-gathered : (s new : StoreSeen) (frame : ℕ) (told : Bool × Bool) → new ≡ with_bits_gathered s frame told → SameLists s new
+lists-gathered s new frame told is = (ap (λ (x : StoreSeen). x.free) is, ap (λ (x : StoreSeen). x.cached) is)

@@ -9,6 +9,7 @@ use Rattle.page_store.specs.Laws.{SameResidence, StaysInPlace}
 use Rattle.page_store.specs.Moves.{is_only}
 use Rattle.page_store.specs.Seen.{StoreSeen, IsListedFrame}
 use Rattle.page_store.specs.Steps.{with_row}
+use Rattle.page_store.specs.Waits.{IsVictim}
 use Rattle.vm_world.specs.MemoryFits.{MemoryFits}
 use Rattle.vm_world.specs.Segments.{Spaces}
 use Rattle.vm_world.specs.Serving.{ModifiesNone}
@@ -59,14 +60,20 @@ clear-modifies w new frame used is stay = λ name k home m. (
   ],
 )
 
--- WHAT WAS USED is in the row once the bits are gathered; and then what was set
+-- WHAT WAS USED is in the row once the bits are gathered
 pub gathered-use : (s mid : StoreSeen) (frame : ℕ) (told : Bool × Bool) → frame < length s.rows → mid ≡ with_bits_gathered s frame told → (row_at mid.rows frame).referenced ≡ ((row_at s.rows frame).referenced || told.0)
 gathered-use s mid frame told lt is =
     let row : Row = with_bits (row_at s.rows frame) ((row_at s.rows frame).referenced || told.0) ((row_at s.rows frame).modified || told.1) in
     ap (λ (t : StoreSeen). (row_at t.rows frame).referenced) is ∙ ap (λ (r : Row). r.referenced) (get_or-set_same s.rows frame row clear_row lt)
 
-pub cleared-use : (s mid new : StoreSeen) (frame : ℕ) (told : Bool × Bool) (used modified : Bool) → frame < length s.rows → mid ≡ with_bits_gathered s frame told → new ≡ with_row mid frame (with_bits (row_at mid.rows frame) used modified) → (row_at new.rows frame).referenced ≡ used
-cleared-use s mid new frame told used modified lt gathered is =
+-- a page that can give way still can once its bits are gathered
+pub gathered-victim : (s : StoreSeen) (frame : ℕ) (told : Bool × Bool) → IsVictim s frame → IsVictim (with_bits_gathered s frame told) frame
+gathered-victim s frame told v =
     let row : Row = with_bits (row_at s.rows frame) ((row_at s.rows frame).referenced || told.0) ((row_at s.rows frame).modified || told.1) in
-    let size = ap (λ (t : StoreSeen). length t.rows) gathered ∙ length-set s.rows frame row in
-    ap (λ (t : StoreSeen). (row_at t.rows frame).referenced) is ∙ ap (λ (r : Row). r.referenced) (get_or-set_same mid.rows frame (with_bits (row_at mid.rows frame) used modified) clear_row (omega (arith, lt, size)))
+    let own = index-set s.rows frame row frame clear_row in
+    record {
+      here = v.here;
+      unlisted = v.unlisted;
+      unlocked = elim own [ inl e ↦ ap (λ (r : Row). r.holder) e ∙ v.unlocked | inr e ↦ ap (λ (r : Row). r.holder) e.1 ∙ v.unlocked ];
+      unkept = elim own [ inl e ↦ ap (λ (r : Row). r.keeps) e ∙ v.unkept | inr e ↦ ap (λ (r : Row). r.keeps) e.1 ∙ v.unkept ];
+    }

@@ -5,10 +5,10 @@ use Rattle.hat_layer.specs.Pool.{bits_of}
 use Rattle.page_hash.specs.declared.PageName.{PageName}
 use Rattle.page_lock.specs.Rows.{row_at}
 use Rattle.page_store.specs.Laws.{SameResidence}
-use Rattle.page_store.specs.Seen.{StoreSeen, residence}
+use Rattle.page_store.specs.Seen.{StoreSeen}
 use Rattle.page_store.specs.Steps.{next_frame}
 use Rattle.page_store.specs.Waits.{IsVictim}
-use Rattle.page_store.specs.declared.residence.Residence.TheVariants.{Home}
+use Rattle.seg_ops.specs.Steps.{IsUnwritten}
 use Rattle.vm_world.specs.Serving.{ModifiesNone}
 use Rattle.vm_world.specs.Wants.{IsDirtyPage}
 use Rattle.vm_world.specs.Words.{OnlyStoreAndHat, KeepsEveryPage}
@@ -19,10 +19,16 @@ use Rattle.vm_world.specs.declared.world.World as rust
 abbrev pub OneIsHomeBut : StoreSeen → Option ℕ → Type 0
 OneIsHomeBut s beside = (frame : ℕ) × (beside ≢ Some frame) × IsSome (bytes_at s.frames frame)
 
--- The page that is chosen is in a frame that can be had, another than this where one is given; and none is chosen exactly where there is no other.
-abbrev pub ChoosesBeside : StoreSeen → Option ℕ → Option PageName → Type 0
+-- The frame that is chosen is one whose page can give way, another than this where one is given; and none is chosen exactly where there is no other.
+abbrev pub ChoosesBeside : StoreSeen → Option ℕ → Option ℕ → Type 0
 ChoosesBeside s beside None = (frame : ℕ) → beside ≢ Some frame → IsVictim s frame → ⊥
-ChoosesBeside s beside (Some page) = (frame : ℕ) × (beside ≢ Some frame) × (residence s page ≡ Home frame) × IsVictim s frame
+ChoosesBeside s beside (Some frame) = (beside ≢ Some frame) × IsVictim s frame
+
+-- The page in a frame, another than this where one is given, can give way, and its row says whether it is modified.
+pub record CanGiveWay {D : Type 0} (w : rust.World D) (beside : Option ℕ) (frame : ℕ) : Type 0 where
+  pub other : beside ≢ Some frame
+  pub victim : IsVictim w.store frame
+  pub unwritten : IsUnwritten w.hat.places frame
 
 -- The page in a frame was used: its bit or that of a translation says so.
 abbrev pub was_used : World → ℕ → Bool

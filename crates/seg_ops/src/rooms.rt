@@ -1,18 +1,20 @@
 //! Room for another page: a victim's bits are gathered, and it is released where it is clean.
-ghost use Rattle.std.specs.Prelude.{◌≡◌, ◌≢◌, ℕ, ◌<◌, ◌++◌, ◌∷◌, [], length, false, Some, None, IsSome, IfSome};
+ghost use Rattle.std.specs.Prelude.{◌≡◌, ◌≢◌, ℕ, ◌<◌, ◌++◌, ◌∷◌, [], length, false, Some, None, IsSome, IsTrue, IfSome};
 ghost use Rattle.core_arena.specs.Bytes.{bytes_at};
 ghost use Rattle.hat_layer.specs.Pool.{bits_of, change_frame, drop_frame, with_clear_bits};
 ghost use Rattle.page_lock.specs.Rows.{row_at};
 ghost use Rattle.page_store.specs.Seen.{IsListedFrame, residence};
 ghost use Rattle.page_store.specs.Steps.{next_frame};
-ghost use Rattle.seg_ops.specs.Rooms.{ChoosesBeside, HasRoomUnless, ListsOneMore, MakesRoom, OneIsHomeBut, SameLists, was_used};
+ghost use Rattle.page_store.specs.Waits.{IsVictim};
+ghost use Rattle.page_store.specs.declared.residence.Residence.TheVariants.{Home};
+ghost use Rattle.seg_ops.specs.Rooms.{CanGiveWay, ChoosesBeside, HasRoomUnless, ListsOneMore, MakesRoom, OneIsHomeBut, SameLists, was_used};
 ghost use Rattle.seg_ops.specs.Steps.{IsUnwritten, with_bits_gathered};
 ghost use Rattle.vm_world.specs.Words.{IsFit, IsKnown, OneIsHome, OneIsHomeBeside};
 ghost use Rattle.vm_world.specs.World.{world_seen};
 
 use crate::tables::add_bits;
 use block_device::Disk;
-use page_store::{PageName, Residence, Store};
+use page_store::{PageName, Store};
 use vm_world::World;
 
 /// Gathers the bits of a frame's translations into its page. The translations stay.
@@ -53,61 +55,95 @@ pub fn evict<D: Disk>(world: &mut World<D>, frame: u32)
     world.store.release(frame);
 }
 
-/// A page that is home gives up its frame: None where it was clean, else the page, which is to be pushed first.
-fn try_page<D: Disk>(world: &mut World<D>, page: PageName) -> Option<PageName>
-    requires victim { (frame : ℕ) × (residence world.old.store page ≡ Residence.Home frame)
-        × (¬ IsListedFrame world.old.store frame) }
-    requires none { next_frame world.old.store ≡ None }
+/// Whether the page in a frame was used since its bits of use were cleared last. Its row says so then.
+fn was_used<D: Disk>(world: &mut World<D>, frame: u32) -> bool
+    requires frame { frame < length world.old.store.frames }
+    requires unlisted { ¬ IsListedFrame world.old.store frame }
     requires fits { IsFit world.old }
-    requires noted { IsKnown world.old }
-    ensures room { HasRoomUnless world.new result }
-    ensures pushed { IfSome result (λ name. name ≡ page) }
+    ensures used { result ≡ was_used (world_seen world.old) frame }
+    ensures store { world.new.store
+        ≡ with_bits_gathered world.old.store frame (bits_of frame world.old.hat.places) }
+    ensures unwritten { IsUnwritten world.new.hat.places frame }
     // What stays.
-    ensures lists { (frame : ℕ) → residence world.old.store page ≢ Residence.Home frame
-        → IsListedFrame world.new.store frame → IsListedFrame world.old.store frame }
     ensures makes { MakesRoom world.old world.new }
-    ensures listed { ListsOneMore world.old.store world.new.store }
 {
-    let Residence::Home(frame) = world.store.resident(page) else {
-        unreachable!();
-    };
     sync(world, frame);
-    let (_, modified) = world.store.bits(frame);
-    if modified {
-        return Some(page);
+    let (referenced, _) = world.store.bits(frame);
+    referenced
+}
+
+/// Whether a frame's page can give way, beside that in one frame where one is given, and wasn't used.
+fn is_unused_victim<D: Disk>(world: &mut World<D>, beside: Option<u32>, frame: u32) -> bool
+    requires frame { frame < length world.old.store.frames }
+    requires fits { IsFit world.old }
+    ensures can { IsTrue result → CanGiveWay world.new beside frame }
+    // What stays.
+    ensures lists { SameLists world.old.store world.new.store }
+    ensures makes { MakesRoom world.old world.new }
+{
+    if !is_other(beside, frame) || !world.store.is_victim(frame) {
+        return false;
     }
-    evict(world, frame);
+    !was_used(world, frame)
+}
+
+/// Whether a frame is another than this, where one is given.
+fn is_other(beside: Option<u32>, frame: u32) -> bool
+    ensures { IsTrue result → beside ≢ Some frame }
+{
+    match beside {
+        Some(given) => given != frame,
+        None => true,
+    }
+}
+
+/// The first page behind the hand that can give way and wasn't used, but for that at the hand: None where all were used.
+fn unused_victim<D: Disk>(world: &mut World<D>, beside: Option<u32>) -> Option<u32>
+    requires fits { IsFit world.old }
+    ensures can { IfSome result (CanGiveWay world.new beside) }
+    // What stays.
+    ensures lists { SameLists world.old.store world.new.store }
+    ensures makes { MakesRoom world.old world.new }
+{
+    for distance in 1..world.store.frame_count() {
+        let frame = world.store.frame_behind(distance);
+        if is_unused_victim(world, beside, frame) {
+            return Some(frame);
+        }
+    }
     None
 }
 
-/// A page that was used since it was looked at last is passed over, and its bits of use are cleared. Answers whether it was used.
-fn pass_used<D: Disk>(world: &mut World<D>, page: PageName) -> bool
-    requires victim { (frame : ℕ) × (residence world.old.store page ≡ Residence.Home frame)
-        × (¬ IsListedFrame world.old.store frame) }
+/// The bits of use of a frame's page are cleared.
+fn forget_use<D: Disk>(world: &mut World<D>, frame: u32)
+    requires frame { frame < length world.old.store.frames }
     requires fits { IsFit world.old }
-    ensures used { (frame : ℕ) → residence world.old.store page ≡ Residence.Home frame
-        → (result ≡ was_used (world_seen world.old) frame)
-        × ((row_at world.new.store.rows frame).referenced ≡ false) }
     // What stays.
-    ensures room { next_frame world.new.store ≡ next_frame world.old.store }
-    ensures makes { MakesRoom world.old world.new }
     ensures lists { SameLists world.old.store world.new.store }
+    ensures makes { MakesRoom world.old world.new }
 {
-    let Residence::Home(frame) = world.store.resident(page) else {
-        unreachable!();
-    };
-    sync(world, frame);
-    let (referenced, modified) = world.store.bits(frame);
-    if !referenced {
-        return false;
+    if world.store.listed(frame) {
+        return;
     }
+    sync(world, frame);
+    let (_, modified) = world.store.bits(frame);
     world.store.set_bits(frame, false, modified);
-    world.store.pass_over(frame);
-    true
 }
 
-/// A page whose frame can be had once the page was pushed or released, beside that in one frame; None where there is none.
-fn victim_beside<D: Disk>(store: &mut Store<D>, frame: u32) -> Option<PageName>
+/// The bits of use of all pages are cleared.
+fn forget_all_use<D: Disk>(world: &mut World<D>)
+    requires fits { IsFit world.old }
+    // What stays.
+    ensures lists { SameLists world.old.store world.new.store }
+    ensures makes { MakesRoom world.old world.new }
+{
+    for frame in 0..world.store.frame_count() {
+        forget_use(world, frame);
+    }
+}
+
+/// A frame whose page can give way, beside that in one frame; None where there is none.
+fn victim_beside<D: Disk>(store: &mut Store<D>, frame: u32) -> Option<u32>
     requires frame { frame < length store.old.frames }
     requires unkept { (row_at store.old.rows frame).keeps ≡ 0 }
     ensures chooses { ChoosesBeside store.old (Some frame) result }
@@ -115,13 +151,13 @@ fn victim_beside<D: Disk>(store: &mut Store<D>, frame: u32) -> Option<PageName>
     ensures same { store.new ≡ store.old }
 {
     store.keep(frame);
-    let name = store.victim();
+    let victim = store.victim();
     store.unkeep(frame);
-    name
+    victim
 }
 
 /// The same beside a frame that is given, or any.
-fn victim_but<D: Disk>(store: &mut Store<D>, beside: Option<u32>) -> Option<PageName>
+fn victim_but<D: Disk>(store: &mut Store<D>, beside: Option<u32>) -> Option<u32>
     requires frame { (frame : ℕ) → beside ≡ Some frame → frame < length store.old.frames }
     requires unkept { (frame : ℕ) → (row_at store.old.rows frame).keeps ≡ 0 }
     ensures chooses { ChoosesBeside store.old beside result }
@@ -134,40 +170,70 @@ fn victim_but<D: Disk>(store: &mut Store<D>, beside: Option<u32>) -> Option<Page
     }
 }
 
-/// The page that the hand comes to next, where no frame is available.
-fn next_victim<D: Disk>(world: &mut World<D>, beside: Option<u32>) -> PageName
+/// Where all pages were used, all count as unused, and the next one behind the hand gives way.
+fn next_victim<D: Disk>(world: &mut World<D>, beside: Option<u32>) -> u32
     requires beside { (frame : ℕ) → beside ≡ Some frame → frame < length world.old.store.frames }
     requires home { OneIsHomeBut world.old.store beside }
     requires none { next_frame world.old.store ≡ None }
     requires fits { IsFit world.old }
-    ensures chooses { ChoosesBeside world.old.store beside (Some result) }
+    ensures can { CanGiveWay world.new beside result }
     // What stays.
-    ensures same { world.new ≡ world.old }
+    ensures lists { SameLists world.old.store world.new.store }
+    ensures makes { MakesRoom world.old world.new }
 {
-    let Some(name) = victim_but(&mut world.store, beside) else {
+    forget_all_use(world);
+    let Some(frame) = victim_but(&mut world.store, beside) else {
         unreachable!();
     };
-    name
+    sync(world, frame);
+    frame
 }
 
-/// Pages that were used have a second chance: the hand passes over them, at most once round the frames. Time: the frames, and the
-/// translations of those that are passed over.
-fn pass_over_used<D: Disk>(world: &mut World<D>, beside: Option<u32>)
+/// A frame whose page can give way, beside that in one frame where one is given: the first behind the hand that wasn't used, else the
+/// first behind it. Time: the frames, and the translations of those that are looked at.
+fn find_victim<D: Disk>(world: &mut World<D>, beside: Option<u32>) -> u32
     requires beside { (frame : ℕ) → beside ≡ Some frame → frame < length world.old.store.frames }
     requires home { OneIsHomeBut world.old.store beside }
     requires none { next_frame world.old.store ≡ None }
     requires fits { IsFit world.old }
+    ensures can { CanGiveWay world.new beside result }
     // What stays.
-    ensures room { next_frame world.new.store ≡ None }
-    ensures makes { MakesRoom world.old world.new }
+    ensures none { next_frame world.new.store ≡ None }
     ensures lists { SameLists world.old.store world.new.store }
+    ensures makes { MakesRoom world.old world.new }
 {
-    for _pass in 0..world.store.frame_count() {
-        let name = next_victim(world, beside);
-        if !pass_used(world, name) {
-            return;
-        }
+    match unused_victim(world, beside) {
+        Some(frame) => frame,
+        None => next_victim(world, beside),
     }
+}
+
+/// A page gives up its frame: None where it is clean, and the next search begins behind it; else the page, which is to be
+/// pushed first.
+fn give_way<D: Disk>(world: &mut World<D>, frame: u32) -> Option<PageName>
+    requires victim { IsVictim world.old.store frame }
+    requires unwritten { IsUnwritten world.old.hat.places frame }
+    requires none { next_frame world.old.store ≡ None }
+    requires fits { IsFit world.old }
+    requires noted { IsKnown world.old }
+    ensures room { HasRoomUnless world.new result }
+    ensures pushed { IfSome result (λ name. residence world.old.store name ≡ Home frame) }
+    // What stays.
+    ensures lists { (other : ℕ) → other ≢ frame
+        → IsListedFrame world.new.store other → IsListedFrame world.old.store other }
+    ensures makes { MakesRoom world.old world.new }
+    ensures listed { ListsOneMore world.old.store world.new.store }
+{
+    let (_, modified) = world.store.bits(frame);
+    if !modified {
+        evict(world, frame);
+        world.store.move_hand(frame);
+        return None;
+    }
+    let Some(name) = world.store.name_of(frame) else {
+        unreachable!();
+    };
+    Some(name)
 }
 
 /// Makes room for another page, beside the one in a frame where one is given.
@@ -178,7 +244,7 @@ fn make_room_but<D: Disk>(world: &mut World<D>, beside: Option<u32>) -> Option<P
     requires noted { IsKnown world.old }
     ensures room { HasRoomUnless world.new result }
     ensures pushed { IfSome result (λ name. (frame : ℕ) → beside ≡ Some frame
-        → residence world.old.store name ≢ Residence.Home frame) }
+        → residence world.old.store name ≢ Home frame) }
     ensures unlisted { (frame : ℕ) → beside ≡ Some frame
         → IsListedFrame world.new.store frame → IsListedFrame world.old.store frame }
     // What stays.
@@ -188,9 +254,8 @@ fn make_room_but<D: Disk>(world: &mut World<D>, beside: Option<u32>) -> Option<P
     if world.store.available() {
         return None;
     }
-    pass_over_used(world, beside);
-    let name = next_victim(world, beside);
-    try_page(world, name)
+    let frame = find_victim(world, beside);
+    give_way(world, frame)
 }
 
 /// Makes room for another page, beside the one in a frame: None where a frame can be taken then, else a modified page,
@@ -202,7 +267,7 @@ pub fn make_room_beside<D: Disk>(world: &mut World<D>, frame: u32) -> Option<Pag
     requires fits { IsFit world.old }
     requires noted { IsKnown world.old }
     ensures room { HasRoomUnless world.new result }
-    ensures pushed { IfSome result (λ name. residence world.old.store name ≢ Residence.Home frame) }
+    ensures pushed { IfSome result (λ name. residence world.old.store name ≢ Home frame) }
     ensures unlisted { IsListedFrame world.new.store frame → IsListedFrame world.old.store frame }
     // What stays.
     ensures makes { MakesRoom world.old world.new }

@@ -72,7 +72,7 @@ invariant_of-self g c =
       sound = subst IsSoundStore (sym i.new) i.laws.sound;
       counted = rw c.take-frame.ensures.new (length-set c.self.inside.core.frames c.take_frame-at.result None ∙ c.self.invariant.counted);
       listed = rw c.take_frame-at.ensures.rest c.self.invariant.listed;
-      pointer = omega arith;
+      pointer = c.self.invariant.pointer;
     }
 
 pub returns-clause-frame : goal.returns-clause-frame

@@ -51,7 +51,7 @@ invariant_of-self g c =
       sound = subst IsSoundStore (sym i.new) i.laws.sound;
       counted = ap (λ (x : StoreSeen). length x.frames) i.new ∙ length-set c.args.self.now.frames c.take_frame-frame.result _ ∙ count;
       listed = rw c.take_frame-frame.ensures.rest c.self.invariant.listed;
-      pointer = omega arith;
+      pointer = c.self.invariant.pointer;
     }
 
 pub returns-clause-new : goal.returns-clause-new
