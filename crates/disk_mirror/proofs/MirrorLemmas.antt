@@ -1,5 +1,5 @@
 -- What the disks of a mirror do is what the mirror does.
-use Rattle.std.proofs.Common.{ℕ, ◌≡◌, ◌≢◌, ◌<◌, ◌≤◌, ◌∙◌, ap, sym, subst, refl, inl, inr, arith, Bool, true, false, List, [], length, get_or, set, Option, Some, None}
+use Rattle.std.proofs.Common.{ℕ, ◌≡◌, ◌≢◌, ◌<◌, ◌∙◌, ap, sym, subst, refl, inl, inr, arith, Bool, true, false, List, [], length, get_or, set, Option, Some, None}
 use Rattle.std.specs.Prelude.{◌||◌, ◌&&◌, if◌then◌else◌, Result, Ok, Err, is_ok, is_err, OnErr}
 use Rattle.std.specs.Result.{result_or}
 use Rattle.std.proofs.lemmas.Bool.{cases_eq}

@@ -1,5 +1,5 @@
 -- What contracts see of a mirror. Public clauses cite this.
-use Rattle.block_device.specs.DiskSeen.{DiskSeen, HasBlocks}
+use Rattle.block_device.specs.DiskSeen.{HasBlocks}
 use Rattle.block_device.specs.declared.disk.Disk.{Ghosts}
 use Rattle.disk_mirror.specs.MirrorBlocks.{mirror_has_blocks}
 use Rattle.disk_mirror.specs.MirrorSeen.{MirrorSeen, mirror_seen}

@@ -1,5 +1,5 @@
 -- A transfer of the disk where a block lies is one of the stripe.
-use Rattle.std.proofs.Common.{ℕ, ◌≡◌, ◌≢◌, ◌+◌, ◌<◌, ◌≤◌, ◌/◌, ◌%◌, ◌∙◌, ap, sym, subst, refl, inl, inr, arith, List, [], length, get_or, set, Option, Some, None}
+use Rattle.std.proofs.Common.{ℕ, ◌≡◌, ◌≢◌, ◌+◌, ◌<◌, ◌/◌, ◌%◌, ◌∙◌, ap, sym, subst, refl, inl, inr, arith, List, [], length, get_or, set, Option, Some, None}
 use Rattle.std.specs.Prelude.{Result}
 use Rattle.std.proofs.lemmas.Bool.{cases_eq}
 use Rattle.std.proofs.lemmas.List.{ext_get_or, length-set, get_or-set_same, get_or-set_other}

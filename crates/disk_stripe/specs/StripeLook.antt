@@ -1,5 +1,5 @@
 -- What contracts see of the two disks of a stripe. Public clauses cite this.
-use Rattle.block_device.specs.DiskSeen.{DiskSeen, HasBlocks}
+use Rattle.block_device.specs.DiskSeen.{HasBlocks}
 use Rattle.block_device.specs.declared.disk.Disk.{Ghosts}
 use Rattle.disk_stripe.specs.StripeBlocks.{stripe_has_blocks}
 use Rattle.disk_stripe.specs.StripeSeen.{stripe_seen_by}

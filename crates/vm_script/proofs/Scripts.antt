@@ -229,7 +229,7 @@ content_words : (text : List ℕ) → All IsByte text → AreWords (content_text
 content_words [] all = more refl refl none
 content_words (b ∷ text) all = words_bytes (b ∷ text) all (omega arith) none
 
-size_number : (n : ℕ) → IsWordSize n → IsNumber n
+pub size_number : (n : ℕ) → IsWordSize n → IsNumber n
 size_number n is = ⊎_elim (λ e. omega (arith, e)) (λ h. ⊎_elim (λ e. omega (arith, e)) (λ e. omega (arith, e)) h) is
 
 call_words : (c : Call) → IsPlainCall c → AreWords (call_fields (codes "zero") c)

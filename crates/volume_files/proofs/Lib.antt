@@ -34,3 +34,4 @@ pub mod MountSpecs
 pub mod MountDisks
 pub mod MountStops
 pub mod MountEnds
+pub mod Unfailing

@@ -8,3 +8,4 @@ pub mod Written
 pub mod Showing
 pub mod DiskTables
 pub mod Placing
+pub mod Unfailed

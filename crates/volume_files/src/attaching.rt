@@ -1,9 +1,10 @@
 //! The disks are attached, and their tables read.
-ghost use Rattle.std.specs.Prelude.{◌≡◌, ◌≤◌, ◌<◌, ◌+◌, [], map, option_map, length, None, IfOk, IfErr, OnErr, vec_capacity};
+ghost use Rattle.std.specs.Prelude.{◌≡◌, ◌≤◌, ◌<◌, ◌+◌, [], map, option_map, length, None, IsTrue, IfOk, IfErr, IfSome, OnErr, vec_capacity};
 ghost use Rattle.vm_script.specs.Rules.{amounts_of, broken_rule};
-ghost use Rattle.volume_files.specs.Attached.{AreAttached, HasRooms, StopsEarly, attached_seen};
-ghost use Rattle.volume_files.specs.Handed.{IsSwapAsGiven, IsSwapFor, handed_count, swap_count};
+ghost use Rattle.volume_files.specs.Attached.{AreAttached, HasRooms, StopsEarly, attached_seen, bare_disks};
+ghost use Rattle.volume_files.specs.Handed.{AreUncounted, IsSwapAsGiven, IsSwapFor, handed_count, swap_count};
 ghost use Rattle.volume_files.specs.Mounting.{HoldSame, UngivenCause};
+ghost use Rattle.volume_files.specs.Unfailed.{UnlessFailed};
 
 use crate::mounting::mount_all;
 use crate::stops::{HandedBack, OpenStop};
@@ -56,6 +57,10 @@ fn attach_swap<R: Rack>(slots: u32, rack: &mut R) -> Result<Option<Unopened<R::D
     ensures uncounted { OnErr result ((R.seen rack.new).attached ≡ (R.seen rack.old).attached) }
     ensures same { HoldSame (R.seen rack.new).holds (R.seen rack.old).holds }
     ensures later { (R.seen rack.old).faults ≤ (R.seen rack.new).faults }
+    ensures steady { UnlessFailed result
+        ((R.seen rack.new).faults ≡ (R.seen rack.old).faults) }
+    ensures unfailed { IfOk result (λ swap.
+        IfSome (option_map (λ d. R.D.seen d.disk) swap) (λ d. d.faults ≡ 0)) }
 {
     if slots == 0 {
         return Ok(None);
@@ -136,6 +141,15 @@ fn attach_within<R: Rack>(
     ensures back { IfErr result (λ s. (R.seen rack.new).attached
         ≡ (R.seen rack.old).attached + handed_count s.disks.items s.swap) }
     ensures later { (R.seen rack.old).faults ≤ (R.seen rack.new).faults }
+    // Unless the rack or a disk failed, none counted a fault.
+    ensures steady { IfOk result (λ _. (R.seen rack.new).faults ≡ (R.seen rack.old).faults) }
+    ensures uncounted { IsTrue R.D.exact → IfOk result (λ a.
+        AreUncounted (bare_disks (attached_seen R.D.seen a).disks)
+        (attached_seen R.D.seen a).swap) }
+    ensures lacks { IfErr result (λ s. s.why ≡ OpenStop.Memory
+        → (R.seen rack.new).faults ≡ (R.seen rack.old).faults) }
+    ensures lacked { IsTrue R.D.exact → IfErr result (λ s. s.why ≡ OpenStop.Memory
+        → AreUncounted (map R.D.seen s.disks.items) (option_map R.D.seen s.swap)) }
 {
     let mut attached = rooms;
     let swap = match attach_swap(amounts_of(plan.setup()).slots, rack) {
@@ -176,6 +190,15 @@ pub fn attach<R: Rack>(
     ensures back { IfErr result (λ s. (R.seen rack.new).attached
         ≡ (R.seen rack.old).attached + handed_count s.disks.items s.swap) }
     ensures later { (R.seen rack.old).faults ≤ (R.seen rack.new).faults }
+    // Unless the rack or a disk failed, none counted a fault.
+    ensures steady { IfOk result (λ _. (R.seen rack.new).faults ≡ (R.seen rack.old).faults) }
+    ensures uncounted { IsTrue R.D.exact → IfOk result (λ a.
+        AreUncounted (bare_disks (attached_seen R.D.seen a).disks)
+        (attached_seen R.D.seen a).swap) }
+    ensures lacks { IfErr result (λ s. s.why ≡ OpenStop.Memory
+        → (R.seen rack.new).faults ≡ (R.seen rack.old).faults) }
+    ensures lacked { IsTrue R.D.exact → IfErr result (λ s. s.why ≡ OpenStop.Memory
+        → AreUncounted (map R.D.seen s.disks.items) (option_map R.D.seen s.swap)) }
 {
     match take_rooms(alloc) {
         Ok(rooms) => attach_within(alloc, plan, rack, rooms),

@@ -1,5 +1,5 @@
 //! Disks are attached one after another, and the table of each is read.
-ghost use Rattle.std.specs.Prelude.{◌≡◌, ◌≢◌, ◌<◌, ◌≤◌, ◌+◌, [], length, map, None, Ok, if◌then◌else◌, IfOk, IfErr, OnOk, vec_len, vec_capacity};
+ghost use Rattle.std.specs.Prelude.{◌≡◌, ◌≢◌, ◌<◌, ◌≤◌, ◌+◌, [], length, map, None, Ok, if◌then◌else◌, IsTrue, IfOk, IfErr, OnOk, vec_len, vec_capacity};
 ghost use Rattle.block_device.specs.RackSeen.{KeepsOthers, spec_number};
 ghost use Rattle.volume_files.specs.Attached.{AreMounted, numbered_seen};
 ghost use Rattle.volume_files.specs.Mounting.{Holds, HoldSame, SaysTableRead, BadTableCause, UnreadCause, MountsOne, MountsNumber, HaltsNumber, HaltsSpec, Halts};
@@ -8,6 +8,7 @@ ghost use Rattle.volume_format.specs.Rules.{reading};
 ghost use Rattle.volume_format.specs.Volume.{IsVolumeTable};
 ghost use Rattle.vm_script.specs.Rules.{gives_disk};
 ghost use Rattle.volume_files.specs.Opened.{given_disk, disk_numbered, disk_specs};
+ghost use Rattle.volume_files.specs.Unfailed.{NoneCounted, UnlessFailed};
 ghost use Rattle.volume_files.specs.Written.{OnlyReads};
 
 use crate::stops::{OpenStop, Refusal};
@@ -72,6 +73,8 @@ fn read_table<D: Disk>(alloc: Global, disk: &mut Unopened<D>) -> Result<Table, O
     ensures reads { OnlyReads (D.seen disk.old.disk) (D.seen disk.new.disk) }
     ensures ok { IfOk result (SaysTableRead (D.seen disk.new.disk)) }
     ensures err { IfErr result (UnreadCause (disk.old.number, D.seen disk.new.disk)) }
+    ensures exact { IsTrue D.exact → UnlessFailed result
+        ((D.seen disk.new.disk).faults ≡ (D.seen disk.old.disk).faults) }
 {
     let number = disk.number();
     let blocks = disk.blocks();
@@ -110,6 +113,12 @@ fn mount<R: Rack>(
     // What stays.
     ensures others { KeepsOthers (R.seen rack.old) (R.seen rack.new) spec.now }
     ensures later { (R.seen rack.old).faults ≤ (R.seen rack.new).faults }
+    // Unless the rack or a disk failed, none counted a fault.
+    ensures steady { UnlessFailed result
+        ((R.seen rack.new).faults ≡ (R.seen rack.old).faults) }
+    ensures uncounted { IsTrue R.D.exact → UnlessFailed result
+        (NoneCounted (map (numbered_seen R.D.seen) disks.old.items)
+        → NoneCounted (map (numbered_seen R.D.seen) disks.new.items)) }
     // Each disk that the rack attached is in the list.
     ensures count { (R.seen rack.new).attached + vec_len disks.old
         ≡ (R.seen rack.old).attached + vec_len disks.new }
@@ -158,6 +167,12 @@ fn mount_numbered<R: Rack>(
     ensures others { (s : Spec) → spec_number s ≢ number
         → (R.seen rack.new).holds s ≡ (R.seen rack.old).holds s }
     ensures later { (R.seen rack.old).faults ≤ (R.seen rack.new).faults }
+    // Unless the rack or a disk failed, none counted a fault.
+    ensures steady { UnlessFailed result
+        ((R.seen rack.new).faults ≡ (R.seen rack.old).faults) }
+    ensures uncounted { IsTrue R.D.exact → UnlessFailed result
+        (NoneCounted (map (numbered_seen R.D.seen) disks.old.items)
+        → NoneCounted (map (numbered_seen R.D.seen) disks.new.items)) }
     // Each disk that the rack attached is in the list.
     ensures count { (R.seen rack.new).attached + vec_len disks.old
         ≡ (R.seen rack.old).attached + vec_len disks.new }
@@ -197,6 +212,11 @@ pub fn mount_all<R: Rack>(
         (map (numbered_seen R.D.seen) disks.new.items)) }
     // What else holds.
     ensures later { (R.seen rack.old).faults ≤ (R.seen rack.new).faults }
+    // Unless the rack or a disk failed, none counted a fault.
+    ensures steady { UnlessFailed result
+        ((R.seen rack.new).faults ≡ (R.seen rack.old).faults) }
+    ensures uncounted { IsTrue R.D.exact → UnlessFailed result
+        (NoneCounted (map (numbered_seen R.D.seen) disks.new.items)) }
     ensures count { (R.seen rack.new).attached ≡ (R.seen rack.old).attached + vec_len disks.new }
     ensures few { vec_len disks.new ≤ 8 }
 {

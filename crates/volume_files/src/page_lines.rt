@@ -1,6 +1,7 @@
 //! The lines of a file, page by page.
-ghost use Rattle.std.specs.Prelude.{◌≡◌, ◌≤◌, ◌<◌, ◌+◌, ◌*◌, ◌^◌, length, take, IfOk, IfErr};
+ghost use Rattle.std.specs.Prelude.{◌≡◌, ◌≤◌, ◌<◌, ◌+◌, ◌*◌, ◌^◌, length, take, IsTrue, IfOk, IfErr, OnOk};
 ghost use Rattle.flat_model.specs.Words.{pages_in};
+ghost use Rattle.volume_files.specs.Unfailed.{UnlessCut};
 ghost use Rattle.volume_files.specs.Showing.{LiesOn, LooksAt, ArePageBytes, IsPageShown, IsUnread, LinesShown, shown_info};
 
 use crate::page_disk::PageDisk;
@@ -46,6 +47,8 @@ fn read_page<P: PageDisk>(
     ensures few { IfOk result (λ count. 4096 * page + count < 2 ^ 32) }
     // The disk was only read.
     ensures looks { LooksAt (P.numbered disk.old) (P.numbered disk.new) }
+    ensures exact { IsTrue P.exact
+        → OnOk result ((P.numbered disk.new).1.faults ≡ (P.numbered disk.old).1.faults) }
     ensures fault { IfErr result (IsUnread P.counts (P.numbered disk.old) (P.numbered disk.new)) }
 {
     disk.read(files.block(file, page), into)?;
@@ -67,6 +70,9 @@ fn show_page<P: PageDisk, K: Sink>(
         (P.numbered disk.old) (P.numbered disk.new) P.counts result }
     ensures looks { LooksAt (P.numbered disk.old) (P.numbered disk.new) }
     ensures later { (K.seen out.old).faults ≤ (K.seen out.new).faults }
+    ensures steady { UnlessCut result ((K.seen out.new).faults ≡ (K.seen out.old).faults) }
+    ensures exact { IsTrue P.exact
+        → UnlessCut result ((P.numbered disk.new).1.faults ≡ (P.numbered disk.old).1.faults) }
 {
     let count = match read_page(files, file, page, disk, &mut buffer.bytes) {
         Ok(count) => count,
@@ -95,6 +101,9 @@ pub(crate) fn show_lines<P: PageDisk, K: Sink>(
         (P.numbered disk.old) (P.numbered disk.new) P.counts result }
     ensures looks { LooksAt (P.numbered disk.old) (P.numbered disk.new) }
     ensures later { (K.seen out.old).faults ≤ (K.seen out.new).faults }
+    ensures steady { UnlessCut result ((K.seen out.new).faults ≡ (K.seen out.old).faults) }
+    ensures exact { IsTrue P.exact
+        → UnlessCut result ((P.numbered disk.new).1.faults ≡ (P.numbered disk.old).1.faults) }
 {
     let pages = pages_in(files.info(file).length);
     for page in 0..pages {

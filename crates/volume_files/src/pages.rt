@@ -1,10 +1,12 @@
 //! The pages of the files of a script's lines are written.
-ghost use Rattle.std.specs.Prelude.{◌≡◌, ◌≤◌, ◌<◌, ◌+◌, ◌-◌, ◌^◌, length, option_map, IfErr, OnOk, slice_index_or, [], All};
+ghost use Rattle.std.specs.Prelude.{◌≡◌, ◌≤◌, ◌<◌, ◌+◌, ◌-◌, ◌^◌, length, option_map, map, IsTrue, IfErr, OnOk, slice_index_or, [], All};
 ghost use Rattle.flat_model.specs.Words.{pages_in};
 ghost use Rattle.vnode_files.specs.Files.{vnode_at};
 ghost use Rattle.volume_format.specs.Table.{front_block};
+ghost use Rattle.volume_files.specs.Attached.{numbered_seen};
 ghost use Rattle.volume_files.specs.Handed.{LiesBeside, SpareBlock, SparesBlock};
 ghost use Rattle.volume_files.specs.Placing.{KeepThere, KeepsThere, HasPlaceOn, HasPlaces, HavePlaces, IsFaultOne, IsFaultThere, RemainThere, RemainsThere, WroteEach, WroteOne, bytes_given, filled_pages, line_files, with_block_pages, with_file};
+ghost use Rattle.volume_files.specs.Unfailed.{counts_of};
 
 use block_device::{Disk, OpenFault, Unopened};
 use vm_script::{SetupAct, SetupLine};
@@ -33,6 +35,8 @@ fn write_pages<D: Disk>(disk: &mut Unopened<D>, start: u32, bytes: &[u8]) -> Res
         (λ number block. LiesBeside start (pages_in (length bytes.now)) block) disk.old disk.new }
     ensures stays { RemainsThere D.seen disk.old disk.new }
     ensures fault { IfErr result (IsFaultOne D.seen disk.new) }
+    ensures exact { IsTrue D.exact
+        → OnOk result ((D.seen disk.new.disk).faults ≡ (D.seen disk.old.disk).faults) }
 {
     for page in 0..bytes.len().div_ceil(4096) {
         disk.write(start + page as u32, &page_of(bytes, page))?;
@@ -58,6 +62,8 @@ fn write_on<D: Disk>(disk: &mut Unopened<D>, info: &FileInfo, bytes: &[u8]) -> R
     ensures keeps { KeepsThere D.seen (SparesBlock info.now bytes.now) disk.old disk.new }
     ensures stays { RemainsThere D.seen disk.old disk.new }
     ensures fault { IfErr result (IsFaultOne D.seen disk.new) }
+    ensures exact { IsTrue D.exact
+        → OnOk result ((D.seen disk.new.disk).faults ≡ (D.seen disk.old.disk).faults) }
 {
     if info.disk == disk.number() {
         return write_pages(disk, front_block(info), bytes);
@@ -76,6 +82,9 @@ fn write_file<D: Disk>(
     ensures keep { KeepThere D.seen (SparesBlock info.now bytes.now) disks.old disks.new }
     ensures stay { RemainThere D.seen disks.old disks.new }
     ensures fault { IfErr result (IsFaultThere D.seen disks.new) }
+    ensures exact { IsTrue D.exact
+        → OnOk result (counts_of (map (numbered_seen D.seen) disks.new)
+        ≡ counts_of (map (numbered_seen D.seen) disks.old)) }
 {
     for i in 0..disks.len() {
         write_on(&mut disks[i], info, bytes)?;
@@ -115,6 +124,9 @@ pub(crate) fn write_lines<D: Disk>(
         (SpareBlock (line_files files.now first setup.now)) disks.old disks.new }
     ensures stay { RemainThere D.seen disks.old disks.new }
     ensures fault { IfErr result (IsFaultThere D.seen disks.new) }
+    ensures exact { IsTrue D.exact
+        → OnOk result (counts_of (map (numbered_seen D.seen) disks.new)
+        ≡ counts_of (map (numbered_seen D.seen) disks.old)) }
 {
     let mut file = first;
     for line in setup {

@@ -1,14 +1,15 @@
 //! The files are placed on the disks.
-ghost use Rattle.std.specs.Prelude.{ℕ, ◌≡◌, ◌≤◌, All, List, Option, IfOk, IfErr, None, length, map};
+ghost use Rattle.std.specs.Prelude.{ℕ, ◌≡◌, ◌≤◌, All, List, Option, IsTrue, IfOk, IfErr, None, length, map, option_map};
 ghost use Rattle.block_device.specs.declared.rack.Spec.{Spec};
 ghost use Rattle.vm_script.specs.FileNames.{with_files};
 ghost use Rattle.vm_script.specs.Rules.{broken_rule};
 ghost use Rattle.vm_script.specs.Sound.{IsSoundSetup};
 ghost use Rattle.vnode_files.specs.Vnode.{IsSoundVnode};
-ghost use Rattle.volume_files.specs.Attached.{AreAttached, AreMounted, ArePlaced, HasRooms, StopsEarly, attached_seen, numbered_seen};
-ghost use Rattle.volume_files.specs.Handed.{handed_count};
+ghost use Rattle.volume_files.specs.Attached.{AreAttached, AreMounted, ArePlaced, HasRooms, StopsEarly, attached_seen, bare_disks, numbered_seen};
+ghost use Rattle.volume_files.specs.Handed.{AreUncounted, handed_count};
 ghost use Rattle.volume_files.specs.Opened.{OpenedFile, numbered_plan};
 ghost use Rattle.volume_files.specs.Placing.{Distinct, IsPlaceable, PlaceStopped, PlacesFiles, RemainThere, attached_numbers, found_files, open_stop_of, names_made, placing_read};
+ghost use Rattle.volume_files.specs.Unfailed.{counts_of};
 
 use crate::attaching::{Attached, hand_back};
 use crate::file_lines::add_lines;
@@ -79,6 +80,9 @@ fn place_files<D: Disk>(
         (length (found_files (map (numbered_seen D.seen) disks.old) tables.now))
         (placing_read D.seen disks.old tables.now setup.now) disks.old disks.new) }
     ensures remain { RemainThere D.seen disks.old disks.new }
+    ensures exact { IsTrue D.exact
+        → IfOk result (λ _. counts_of (map (numbered_seen D.seen) disks.new)
+        ≡ counts_of (map (numbered_seen D.seen) disks.old)) }
 {
     let mut files = mount(alloc, disks, tables)?;
     let first = files.count();
@@ -113,6 +117,9 @@ fn number_files<D: Disk>(
         (length (found_files (map (numbered_seen D.seen) disks.old) tables.now))
         (placing_read D.seen disks.old tables.now plan.old.setup) disks.old disks.new) }
     ensures remain { RemainThere D.seen disks.old disks.new }
+    ensures exact { IsTrue D.exact
+        → IfOk result (λ _. counts_of (map (numbered_seen D.seen) disks.new)
+        ≡ counts_of (map (numbered_seen D.seen) disks.old)) }
 {
     let (files, names) = place_files(alloc, plan.setup(), tables, disks)?;
     plan.set_files(&names);
@@ -145,6 +152,17 @@ pub fn place<D: Disk>(
     ensures kept { IfOk result (λ p. handed_count p.attached.disks.items p.attached.swap
         ≡ handed_count attached.disks.items attached.swap) }
     ensures rules { IfOk result (λ _. broken_rule plan.new ≡ None) }
+
+    // Unless a disk failed, none counted a fault.
+    ensures uncounted { IsTrue D.exact
+        → AreUncounted (bare_disks (attached_seen D.seen attached).disks)
+        (attached_seen D.seen attached).swap
+        → IfOk result (λ p. AreUncounted (bare_disks (attached_seen D.seen p.attached).disks)
+        (attached_seen D.seen p.attached).swap) }
+    ensures lacked { AreUncounted (bare_disks (attached_seen D.seen attached).disks)
+        (attached_seen D.seen attached).swap
+        → IfErr result (λ s. s.why ≡ OpenStop.Memory
+        → AreUncounted (map D.seen s.disks.items) (option_map D.seen s.swap)) }
 
     // An error: the rack wasn't called.
     ensures err { (holds : Spec → Option (List (List ℕ))) (count : ℕ)

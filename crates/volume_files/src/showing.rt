@@ -1,9 +1,10 @@
 //! Files are read back and shown.
-ghost use Rattle.std.specs.Prelude.{ℕ, ◌≡◌, ◌≤◌, ◌<◌, ◌++◌, List, length, map, Some, IfOk, OnOk, slice_get};
+ghost use Rattle.std.specs.Prelude.{ℕ, ◌≡◌, ◌≤◌, ◌<◌, ◌++◌, List, length, map, Some, IsTrue, IfOk, OnOk, slice_get};
 ghost use Rattle.block_device.specs.DiskSeen.{DiskSeen};
 ghost use Rattle.volume_files.specs.Written.{infos_made};
 ghost use Rattle.volume_files.specs.Texts.{extent_pairs, heading_text};
 ghost use Rattle.volume_files.specs.Showing.{LiesOn, LooksAt, IsHeadingShown, FileShown, FileShownAmong, shown_info};
+ghost use Rattle.volume_files.specs.Unfailed.{UnlessCut, counts_of};
 ghost use Rattle.volume_files.specs.Written.{LieWell, HaveDisks, AreOnlyRead, AreFilesBytes, ShowsSections};
 
 use crate::page_disk::PageDisk;
@@ -82,6 +83,7 @@ fn show_heading<F: Drop, K: Sink>(
     ensures shown { IsHeadingShown (heading_text heading file info.now)
         (K.seen out.old) (K.seen out.new) result }
     ensures later { (K.seen out.old).faults ≤ (K.seen out.new).faults }
+    ensures steady { UnlessCut result ((K.seen out.new).faults ≡ (K.seen out.old).faults) }
 {
     text.clear();
     if push_heading(alloc, heading, file, info, text).is_err() {
@@ -109,6 +111,9 @@ fn show_file<P: PageDisk, K: Sink>(
         (P.numbered disk.old) (P.numbered disk.new) P.counts result }
     ensures looks { LooksAt (P.numbered disk.old) (P.numbered disk.new) }
     ensures later { (K.seen out.old).faults ≤ (K.seen out.new).faults }
+    ensures steady { UnlessCut result ((K.seen out.new).faults ≡ (K.seen out.old).faults) }
+    ensures exact { IsTrue P.exact
+        → UnlessCut result ((P.numbered disk.new).1.faults ≡ (P.numbered disk.old).1.faults) }
 {
     show_heading(
         alloc,
@@ -158,6 +163,10 @@ fn show_file_among<P: PageDisk, K: Sink>(
     // What stays.
     ensures disks { AreOnlyRead (map P.numbered disks.old) (map P.numbered disks.new) }
     ensures later { (K.seen out.old).faults ≤ (K.seen out.new).faults }
+    ensures steady { UnlessCut result ((K.seen out.new).faults ≡ (K.seen out.old).faults) }
+    ensures exact { IsTrue P.exact
+        → UnlessCut result (counts_of (map P.numbered disks.new)
+        ≡ counts_of (map P.numbered disks.old)) }
 {
     let place = place_of(disks, files.info(file).disk);
     show_file(alloc, heading, files, file, &mut disks[place], buffer, out)
@@ -181,6 +190,10 @@ pub fn show_files<P: PageDisk, K: Sink>(
     // What stays.
     ensures disks { AreOnlyRead (map P.numbered disks.old) (map P.numbered disks.new) }
     ensures later { (K.seen out.old).faults ≤ (K.seen out.new).faults }
+    ensures steady { UnlessCut result ((K.seen out.new).faults ≡ (K.seen out.old).faults) }
+    ensures exact { IsTrue P.exact
+        → UnlessCut result (counts_of (map P.numbered disks.new)
+        ≡ counts_of (map P.numbered disks.old)) }
 {
     let mut buffer = PageBuffer::new(alloc);
     for file in 0..files.count() {

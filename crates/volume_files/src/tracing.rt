@@ -1,10 +1,11 @@
 //! The opening part of a trace.
-ghost use Rattle.std.specs.Prelude.{ℕ, ◌≡◌, ◌≤◌, ◌++◌, ◌<◌, ◌^◌, List, map, length, IfOk, OnOk};
+ghost use Rattle.std.specs.Prelude.{ℕ, ◌≡◌, ◌≤◌, ◌++◌, ◌<◌, ◌^◌, List, map, length, IsTrue, IfOk, OnOk};
 ghost use Rattle.block_device.specs.DiskSeen.{DiskSeen};
 ghost use Rattle.volume_files.specs.Attached.{numbered_seen};
 ghost use Rattle.volume_files.specs.Written.{infos_made};
 ghost use Rattle.volume_files.specs.Showing.{IsHeadingShown};
 ghost use Rattle.volume_files.specs.Texts.{trace_front};
+ghost use Rattle.volume_files.specs.Unfailed.{UnlessCut, counts_of};
 ghost use Rattle.volume_files.specs.Written.{LieWell, HaveDisks, AreOnlyRead, AreFilesBytes, TraceShows, disk_sizes};
 
 use crate::showing::{Heading, ShowStop, show_files};
@@ -33,6 +34,10 @@ pub fn trace_opening<D: Disk, K: Sink>(
     ensures disks { AreOnlyRead
         (map (numbered_seen D.seen) disks.old) (map (numbered_seen D.seen) disks.new) }
     ensures later { (K.seen out.old).faults ≤ (K.seen out.new).faults }
+    ensures steady { UnlessCut result ((K.seen out.new).faults ≡ (K.seen out.old).faults) }
+    ensures exact { IsTrue D.exact
+        → UnlessCut result (counts_of (map (numbered_seen D.seen) disks.new)
+        ≡ counts_of (map (numbered_seen D.seen) disks.old)) }
 {
     show_front(alloc, plan, disks, out)?;
     show_files(alloc, Heading::Trace, files, disks, out)
@@ -50,6 +55,7 @@ fn show_front<D: Disk, K: Sink>(
         (trace_front plan.now (disk_sizes (map (numbered_seen D.seen) disks.now)))
         (K.seen out.old) (K.seen out.new) result }
     ensures later { (K.seen out.old).faults ≤ (K.seen out.new).faults }
+    ensures steady { UnlessCut result ((K.seen out.new).faults ≡ (K.seen out.old).faults) }
 {
     let mut text = Vec::new(alloc);
     if push_front(alloc, plan, disks, &mut text).is_err() {

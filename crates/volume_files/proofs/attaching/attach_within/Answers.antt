@@ -1,5 +1,5 @@
-use Rattle.std.proofs.Common.{◌≡◌, List, map, option_map, ap, ◌∙◌, subst}
-use Rattle.std.specs.Prelude.{IfOk, IfErr, Option, Result}
+use Rattle.std.proofs.Common.{◌≡◌, List, map, option_map, ap, ◌∙◌, refl, subst, sym}
+use Rattle.std.specs.Prelude.{Err, IfOk, IfErr, Option, Result}
 use Rattle.block_device.specs.declared.numbered.NumberedDisk.{NumberedDisk}
 use Rattle.vm_script.specs.declared.plan.SetupLine.{SetupLine}
 use Rattle.vm_script.specs.declared.rules.Amounts.{Amounts}
@@ -9,6 +9,7 @@ use Rattle.volume_files.specs.Attached.{numbered_seen}
 use Rattle.volume_files.specs.Handed.{IsSwapAsGiven, IsSwapFor}
 use Rattle.volume_files.specs.Mounting.{Halts}
 use Rattle.volume_files.proofs.MountEnds.{stopped_later, early}
+use Rattle.volume_files.proofs.Unfailing.{bare-none, handed-none, where-lacked}
 use Rattle.volume_files.proofs.attaching.attach_within.Goals as goal
 
 pub returns-in-Err-mount_all-clause-err : goal.returns-in-Err-mount_all-clause-err
@@ -38,3 +39,16 @@ returns-in-Err-mount_all-clause-err g c =
     let e = c.hand_back-in-Err-mount_all.ensures in
     early seen plan first.holds first.faults new.faults c.hand_back-in-Err-mount_all.result c.mount_all.new.disks.items c.in-Ok.swap how e.why e.disks e.swap
     (stopped_later plan first.holds first.faults mid.faults new.faults swap disks how c.attach_swap.ensures.later swaps blank halts)
+
+pub returns-in-Ok-mount_all-clause-uncounted : goal.returns-in-Ok-mount_all-clause-uncounted
+returns-in-Ok-mount_all-clause-uncounted g c = λ is.
+    record { each = bare-none (map (numbered_seen g.R.D.Disk.seen) c.mount_all.new.disks.items) (c.in-Ok-mount_all.ensures.uncounted is); last = c.in-Ok.ensures.unfailed }
+
+pub returns-in-Err-mount_all-clause-lacked : goal.returns-in-Err-mount_all-clause-lacked
+returns-in-Err-mount_all-clause-lacked g c = λ is memory.
+    let seen = g.R.D.Disk.seen in
+    let e = c.hand_back-in-Err-mount_all.ensures in
+    let disks = c.mount_all.new.disks.items in
+    let none = where-lacked {T = Unit {0}} (Err c.in-Err-mount_all.how) c.in-Err-mount_all.how refl (sym e.why ∙ memory) (c.in-Err-mount_all.ensures.uncounted is) in
+    handed-none seen disks c.in-Ok.swap c.hand_back-in-Err-mount_all.result.disks.items c.hand_back-in-Err-mount_all.result.swap e.disks e.swap
+    (record { each = bare-none (map (numbered_seen seen) disks) none; last = c.in-Ok.ensures.unfailed })

@@ -1,9 +1,11 @@
 use Rattle.std.proofs.Common.{rules, ◌<◌, map, ◌∙◌, arith}
-use Rattle.std.specs.Prelude.{IfErr}
+use Rattle.std.specs.Prelude.{Err, IfErr}
+use Rattle.std.proofs.lemmas.Result.{err_from_is_err_and}
 use Rattle.volume_files.specs.Mounting.{HaltsNumber, Halts}
 use Rattle.volume_files.proofs.MountEnds.{err_then}
 use Rattle.volume_files.specs.Attached.{numbered_seen}
 use Rattle.volume_files.proofs.MountStops.{mount_step, halted}
+use Rattle.volume_files.proofs.Unfailing.{unless-failed}
 use Rattle.volume_files.proofs.mounting.mount_all.Goals as goal
 
 pub returns-in_err-mount_numbered-clause-err : goal.returns-in_err-mount_numbered-clause-err
@@ -33,9 +35,21 @@ loop-number-preserved g c =
           (λ s e. inv.others s (omega (arith, e)) ∙ same s (omega (arith, e, lt))) (inv.mounted holds same) c.in_ok-mount_numbered.ensures.ok;
       others = λ s le. m.others s (λ e. absurd (omega (arith, le, e))) ∙ inv.others s (omega (arith, le));
       later = omega (arith, inv.later, m.later);
+      steady = c.in_ok-mount_numbered.ensures.steady ∙ inv.steady;
+      uncounted = λ is. c.in_ok-mount_numbered.ensures.uncounted is (inv.uncounted is);
       count = omega (arith, inv.count, m.count);
       few_disks = omega (arith, inv.few_disks, m.disks);
       few_tables = omega (arith, inv.few_tables, m.tables);
       disks_room = omega (arith, inv.disks_room, m.room);
       tables_room = omega (arith, inv.tables_room, m.tables_room);
     }
+
+pub returns-in_err-mount_numbered-clause-steady : goal.returns-in_err-mount_numbered-clause-steady
+returns-in_err-mount_numbered-clause-steady g c =
+    let p = err_from_is_err_and c.from_residual.result c.from_residual.ensures.1 in
+    rw (p.1, p.2) (unless-failed {T = Unit {0}} (Err c.in_err-mount_numbered.field-0.0) (λ same. same ∙ c.loop-number.invariant.steady) c.in_err-mount_numbered.ensures.steady)
+
+pub returns-in_err-mount_numbered-clause-uncounted : goal.returns-in_err-mount_numbered-clause-uncounted
+returns-in_err-mount_numbered-clause-uncounted g c = λ is.
+    let p = err_from_is_err_and c.from_residual.result c.from_residual.ensures.1 in
+    rw (p.1, p.2) (unless-failed {T = Unit {0}} (Err c.in_err-mount_numbered.field-0.0) (λ more. more (c.loop-number.invariant.uncounted is)) (c.in_err-mount_numbered.ensures.uncounted is))

@@ -1,9 +1,10 @@
 use Rattle.std.proofs.Common.{◌≡◌, ◌≤◌, ◌+◌, map}
-use Rattle.std.specs.Prelude.{vec_len, vec_capacity}
+use Rattle.std.specs.Prelude.{IsTrue, vec_len, vec_capacity}
 use Rattle.block_device.specs.RackSeen.{spec_number}
 use Rattle.block_device.specs.declared.rack.Spec.{Spec}
 use Rattle.volume_files.specs.Attached.{AreMounted, numbered_seen}
 use Rattle.volume_files.specs.Mounting.{Holds, HoldSame, specs_below}
+use Rattle.volume_files.specs.Unfailed.{NoneCounted}
 use Rattle.volume_files.proofs.mounting.mount_all.Given as goal
 
 abbrev pub invariant-loop-number : goal.invariant-loop-number
@@ -12,6 +13,8 @@ invariant-loop-number g l = record {
       → AreMounted holds (specs_below l.setup l.number) (map (numbered_seen g.R.D.Disk.seen) l.disks.items) l.tables.items;
   others : (s : Spec) → l.number ≤ spec_number s → (g.R.Rack.seen l.rack).holds s ≡ (g.R.Rack.seen l.fn.rack).holds s;
   later : (g.R.Rack.seen l.fn.rack).faults ≤ (g.R.Rack.seen l.rack).faults;
+  steady : (g.R.Rack.seen l.rack).faults ≡ (g.R.Rack.seen l.fn.rack).faults;
+  uncounted : IsTrue g.R.D.Disk.exact → NoneCounted (map (numbered_seen g.R.D.Disk.seen) l.disks.items);
   count : (g.R.Rack.seen l.rack).attached ≡ (g.R.Rack.seen l.fn.rack).attached + vec_len l.disks;
   few_disks : vec_len l.disks ≤ l.number;
   few_tables : vec_len l.tables ≤ l.number;

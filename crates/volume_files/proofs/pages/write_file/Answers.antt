@@ -1,8 +1,10 @@
 use Rattle.std.specs.Prelude.{◌<◌, length, slice_index_or}
-use Rattle.std.proofs.Common.{arith}
+use Rattle.std.proofs.Common.{◌∙◌, arith}
 use Rattle.std.proofs.lemmas.List.{get_or_default}
 use Rattle.std.proofs.lemmas.Result.{err_from_is_err_and}
+use Rattle.volume_files.specs.Attached.{numbered_seen}
 use Rattle.volume_files.specs.Handed.{SparesBlock}
+use Rattle.volume_files.proofs.Unfailing.{counts-set}
 use Rattle.volume_files.proofs.SparedBlocks.{keep-done, keep-set}
 use Rattle.volume_files.proofs.WriteLemmas.{fault-set, FileOn, file_on-step, remain-set}
 use Rattle.volume_files.proofs.pages.write_file.Goals as goal
@@ -29,7 +31,12 @@ loop-i-preserved g c =
     let next = file_on-step g.D.Disk.seen c.args.info.now c.args.bytes.now c.args.disks.now c.loop-i.disks c.loop-i.i x c.write_on.new.disk on below
     (get_or_default c.loop-i.disks c.loop-i.i c.index-disks-i.result x below)
     c.in_ok-write_on.ensures.stays c.in_ok-write_on.ensures.ok in
-    record { stay = next.stay; done = next.done; rest = next.rest }
+    record {
+      stay = next.stay;
+      done = next.done;
+      rest = next.rest;
+      exact = λ is. counts-set (numbered_seen g.D.Disk.seen) c.loop-i.disks c.loop-i.i c.index-disks-i.result c.write_on.new.disk (c.in_ok-write_on.ensures.exact is) ∙ c.loop-i.invariant.exact is;
+    }
 
 pub returns-in_err-write_on-clause-keep : goal.returns-in_err-write_on-clause-keep
 returns-in_err-write_on-clause-keep g c =

@@ -1,10 +1,12 @@
-use Rattle.std.specs.Prelude.{ℕ, ◌≡◌, ◌+◌, List, drop, Some, None}
-use Rattle.std.proofs.Common.{arith, sym, subst}
+use Rattle.std.specs.Prelude.{ℕ, ◌≡◌, ◌+◌, IsTrue, List, drop, map, Some, None}
+use Rattle.std.proofs.Common.{◌∙◌, ap, arith, sym, subst}
 use Rattle.block_device.specs.declared.numbered.NumberedDisk.{NumberedDisk}
 use Rattle.std.proofs.lemmas.List.Elements.{All-head}
 use Rattle.vnode_files.specs.Files.{vnode_at}
 use Rattle.vnode_files.specs.declared.vnode.FileInfo.{FileInfo}
+use Rattle.volume_files.specs.Attached.{numbered_seen}
 use Rattle.volume_files.specs.Handed.{SpareBlock, SparesBlock}
+use Rattle.volume_files.specs.Unfailed.{counts_of}
 use Rattle.volume_files.specs.Opened.{OpenedFile}
 use Rattle.volume_files.specs.Placing.{bytes_given, line_files}
 use Rattle.volume_files.proofs.SparedBlocks.{keep-left, keep-then}
@@ -50,7 +52,19 @@ loop-line-preserved g c =
           (subst (λ (n : ℕ). LinesOn seen made c.args.first c.args.setup.now c.args.disks.now c.loop-line.disks n (i + 1)) (sym w.file-is)
           (lines_on-other seen made c.args.first c.args.setup.now c.args.disks.now c.loop-line.disks k i c.line-item.result on c.loop-line-test.true c.line-item.is gives))
     ] in
-    record { stay = next.stay; count = next.count; places = next.places; rest = next.rest; spare = next.spare }
+    let seen-of = numbered_seen seen in
+    let same : IsTrue g.D.Disk.exact → counts_of (map seen-of c.match-file_bytes.disks) ≡ counts_of (map seen-of c.loop-line.disks) = λ is. elim c.match-file_bytes.branch [
+      | in-Some+in_ok-write_file w ↦ ap (λ (ds : List (NumberedDisk _)). counts_of (map seen-of ds)) w.disks-is ∙ w.in_ok-write_file.ensures.exact is
+      | in_default w ↦ ap (λ (ds : List (NumberedDisk _)). counts_of (map seen-of ds)) w.disks-is
+    ] in
+    record {
+      stay = next.stay;
+      count = next.count;
+      places = next.places;
+      rest = next.rest;
+      spare = next.spare;
+      exact = λ is. same is ∙ c.loop-line.invariant.exact is;
+    }
 
 pub returns-in_err-write_file-clause-keep : goal.returns-in_err-write_file-clause-keep
 returns-in_err-write_file-clause-keep g c =

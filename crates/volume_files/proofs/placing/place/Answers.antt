@@ -6,7 +6,9 @@ use Rattle.volume_format.specs.Table.{TableSeen}
 use Rattle.vm_script.specs.PlanSeen.{PlanSeen}
 use Rattle.vm_script.specs.Rules.{broken_rule}
 use Rattle.vm_script.specs.FileNames.{with_files}
-use Rattle.volume_files.specs.Attached.{AreMounted, ArePlaced, numbered_seen}
+use Rattle.volume_files.specs.Attached.{AreMounted, ArePlaced, bare_disks, numbered_seen}
+use Rattle.volume_files.specs.Handed.{AreUncounted}
+use Rattle.volume_files.specs.Unfailed.{counts_of}
 use Rattle.volume_files.specs.Opened.{disk_specs}
 use Rattle.volume_files.specs.Placing.{Distinct, PlaceStopped, PlacesFiles, attached_numbers, found_files, names_made, placing_read}
 use Rattle.volume_files.proofs.DiskCounts.{count-as}
@@ -16,6 +18,7 @@ use Rattle.volume_files.proofs.FoundLemmas.{all-blocks}
 use Rattle.volume_files.proofs.LawLemmas.{placeable-lines}
 use Rattle.volume_files.proofs.PlanLemmas.{rules-named}
 use Rattle.volume_files.proofs.StopLemmas.{stops-early, items-written}
+use Rattle.volume_files.proofs.Unfailing.{handed-none, unwritten, zero-still}
 use Rattle.volume_files.proofs.placing.place.Goals as goal
 
 pub number_files-requires-clause-mounted : goal.number_files-requires-clause-mounted
@@ -117,3 +120,25 @@ returns-in-Err-clause-back g c =
     ap (λ (ds : List (NumberedDisk _)). length ds) (items-written c.args.attached.disks c.number_files.new.disks count) in
     c.hand_back.ensures.count
     ∙ count-as (with_items c.args.attached.disks c.number_files.new.disks).items c.args.attached.disks.items c.args.attached.swap c.args.attached.swap (same ∙ count) refl
+
+pub returns-in-Ok-clause-uncounted : goal.returns-in-Ok-clause-uncounted
+returns-in-Ok-clause-uncounted g c = λ is none.
+    let f = numbered_seen g.D.Disk.seen in
+    let new = c.number_files.new.disks in
+    let was = c.deref_mut.ensures.value in
+    let written : (with_items c.args.attached.disks new).items ≡ new =
+    items-written c.args.attached.disks new (c.number_files.ensures.remain.count ∙ ap (λ (ds : List (NumberedDisk _)). length ds) was) in
+    let same = c.in-Ok.ensures.exact is ∙ ap (λ (ds : List (NumberedDisk _)). counts_of (map f ds)) was in
+    subst (λ (ds : List (NumberedDisk _)). AreUncounted (bare_disks (map f ds)) (option_map (λ (d : NumberedDisk _). g.D.Disk.seen d.disk) c.args.attached.swap)) (sym written)
+    (record { each = zero-still (map f c.args.attached.disks.items) (map f new) same none.each; last = none.last })
+
+pub returns-in-Err-clause-lacked : goal.returns-in-Err-clause-lacked
+returns-in-Err-clause-lacked g c = λ none memory.
+    let seen = g.D.Disk.seen in
+    let new = c.number_files.new.disks in
+    let was = c.deref_mut.ensures.value in
+    let written : (with_items c.args.attached.disks new).items ≡ new =
+    items-written c.args.attached.disks new (c.number_files.ensures.remain.count ∙ ap (λ (ds : List (NumberedDisk _)). length ds) was) in
+    let same = unwritten seen _ _ c.deref_mut.result.now new c.in-Err.how (sym (c.hand_back.ensures.why ∙ c.open_stop.ensures) ∙ memory) c.in-Err.ensures.stop ∙ was in
+    handed-none seen c.args.attached.disks.items c.args.attached.swap c.hand_back.result.disks.items c.hand_back.result.swap
+    (c.hand_back.ensures.disks ∙ ap (map (λ (d : NumberedDisk _). d.disk)) (written ∙ same)) c.hand_back.ensures.swap none

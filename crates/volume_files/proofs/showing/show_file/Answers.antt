@@ -1,4 +1,4 @@
-use Rattle.std.proofs.Common.{subst, arith, rules}
+use Rattle.std.proofs.Common.{◌∙◌, subst, arith, rules}
 use Rattle.std.specs.Prelude.{Err}
 use Rattle.std.proofs.lemmas.Grind.{common_steps}
 use Rattle.vnode_files.specs.declared.vnode.FileInfo.{FileInfo}
@@ -6,6 +6,7 @@ use Rattle.volume_files.specs.Texts.{Wrote, heading_text}
 use Rattle.volume_files.specs.Showing.{shown_info, IsHeadingShown}
 use Rattle.volume_files.proofs.ShownPages.{looks_same}
 use Rattle.volume_files.proofs.ShownFiles.{heading_stop, file_shown}
+use Rattle.volume_files.proofs.Unfailing.{unless-cut}
 use Rattle.volume_files.proofs.showing.show_file.Goals as goal
 
 pub returns-in_err-show_heading-clause-shown : goal.returns-in_err-show_heading-clause-shown
@@ -28,3 +29,6 @@ returns-clause-shown g c =
     let wrote = subst (λ (x : FileInfo). Wrote k0 k1 (heading_text c.args.heading c.args.file x)) c.info.ensures.info c.in_ok-show_heading.ensures.shown in
     file_shown c.args.heading c.args.file (shown_info c.args.files.now c.args.file) k0 k1 (g.K.Sink.seen c.show_lines.new.out)
     (g.P.PageDisk.numbered c.args.disk.now) (g.P.PageDisk.numbered c.show_lines.new.disk) wrote c.in_ok-show_heading.ensures.later g.P.PageDisk.counts c.show_lines.result c.show_lines.ensures.shown
+
+pub returns-clause-steady : goal.returns-clause-steady
+returns-clause-steady g c = unless-cut c.show_lines.result (λ same. same ∙ c.in_ok-show_heading.ensures.steady) c.show_lines.ensures.steady

@@ -3,6 +3,7 @@ use Rattle.std.specs.Prelude.{Some}
 use Rattle.block_device.specs.DiskSeen.{DiskSeen}
 use Rattle.vnode_files.specs.declared.vnode.FileInfo.{FileInfo}
 use Rattle.volume_files.proofs.ShownFiles.{element_seen, lies_among, reads_at, shown_at, there_at}
+use Rattle.volume_files.proofs.Unfailing.{counts-set, unless-cut}
 use Rattle.volume_files.proofs.showing.show_file_among.Goals as goal
 
 pub place_of-place-requires : goal.place_of-place-requires
@@ -28,3 +29,7 @@ pub returns-clause-disks : goal.returns-clause-disks
 returns-clause-disks g c =
     let at = c.place_of-place.ensures.there in
     reads_at g.P.PageDisk.numbered c.args.disks.now c.place_of-place.result c.index-disks-place.result c.show_file.new.disk c.info.result.now.disk at.0 at.1 c.show_file.ensures.looks
+
+pub returns-clause-exact : goal.returns-clause-exact
+returns-clause-exact g c = λ is.
+    unless-cut c.show_file.result (counts-set g.P.PageDisk.numbered c.args.disks.now c.place_of-place.result c.index-disks-place.result c.show_file.new.disk) (c.show_file.ensures.exact is)

@@ -1,10 +1,11 @@
-use Rattle.std.proofs.Common.{map, arith, rules}
+use Rattle.std.proofs.Common.{◌∙◌, map, arith, rules}
 use Rattle.std.proofs.lemmas.Grind.{common_steps}
 use Rattle.volume_files.specs.Attached.{numbered_seen}
 use Rattle.volume_files.specs.Written.{infos_made}
 use Rattle.volume_files.proofs.ShownSections.{all_have_blocks, bytes-of-disks}
 use Rattle.volume_files.proofs.ShownFiles.{reads_same}
 use Rattle.volume_files.proofs.TraceTexts.{trace_shown, front_stop}
+use Rattle.volume_files.proofs.Unfailing.{unless-cut}
 use Rattle.volume_files.proofs.tracing.trace_opening.Goals as goal
 
 pub returns-in_err-show_front-clause-shows : goal.returns-in_err-show_front-clause-shows
@@ -28,3 +29,6 @@ returns-clause-shows g c =
       trace_shown c.args.plan.now (infos_made c.args.files.now) shown.0 (g.K.Sink.seen c.args.out.now) (g.K.Sink.seen c.show_front.new.out) (g.K.Sink.seen c.show_files.new.out)
           (map f c.args.disks.now) (map f c.show_files.new.disks) c.in_ok-show_front.ensures.shown c.in_ok-show_front.ensures.later c.show_files.result shown.2,
     )
+
+pub returns-clause-steady : goal.returns-clause-steady
+returns-clause-steady g c = unless-cut c.show_files.result (λ same. same ∙ c.in_ok-show_front.ensures.steady) c.show_files.ensures.steady

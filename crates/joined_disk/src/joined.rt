@@ -1,0 +1,124 @@
+//! A disk that stands for one disk, or for two.
+ghost use Rattle.std.specs.Prelude.{◌≡◌, IfOk, IfErr};
+
+use block_device::{Disk, Failed, Pairing};
+use disk_mirror::Mirror;
+use disk_stripe::Stripe;
+use std::alloc::Global;
+
+/// A disk as it is, or one that stands for two.
+#[derive(Drop)]
+pub enum JoinedDisk<D: Disk> {
+    Plain(D),
+    Striped(Stripe<D>),
+    Mirrored(Mirror<D>),
+}
+
+impl<D: Disk> JoinedDisk<D> {
+    ghost use Rattle.joined_disk.specs.JoinedSeen.{joined_parts};
+
+    /// The disk that it is, or the two that it stands for, as they are.
+    pub fn parts(self) -> (D, Option<D>)
+        ensures { result ≡ joined_parts self }
+    {
+        match self {
+            JoinedDisk::Plain(disk) => (disk, None),
+            JoinedDisk::Striped(stripe) => {
+                let (a, b) = stripe.parts();
+                (a, Some(b))
+            }
+            JoinedDisk::Mirrored(mirror) => {
+                let (a, b) = mirror.parts();
+                (a, Some(b))
+            }
+        }
+    }
+}
+
+impl<D: Disk> Disk for JoinedDisk<D> {
+    ghost use Rattle.std.specs.Prelude.{false};
+    ghost use Rattle.disk_stripe.specs.StripeLook.{blocks_of_stripe};
+    ghost use Rattle.disk_mirror.specs.MirrorLook.{blocks_of_mirror};
+    ghost use Rattle.joined_disk.specs.JoinedSeen.{joined_seen};
+    ghost use Rattle.joined_disk.specs.declared.joined.JoinedDisk.TheVariants.{Plain, Striped, Mirrored};
+
+    ghost seen = { joined_seen D.seen };
+
+    // A mirror may be among them.
+    ghost exact = { false };
+
+    fn blocks(&self) -> u32 {
+        match self {
+            JoinedDisk::Plain(disk) => disk.blocks(),
+            JoinedDisk::Striped(stripe) => stripe.blocks(),
+            JoinedDisk::Mirrored(mirror) => mirror.blocks(),
+        }
+    }
+
+    fn faults(&self) -> u64 {
+        match self {
+            JoinedDisk::Plain(disk) => disk.faults(),
+            JoinedDisk::Striped(stripe) => stripe.faults(),
+            JoinedDisk::Mirrored(mirror) => mirror.faults(),
+        }
+    }
+
+    fn calls(&self) -> u64 {
+        match self {
+            JoinedDisk::Plain(disk) => disk.calls(),
+            JoinedDisk::Striped(stripe) => stripe.calls(),
+            JoinedDisk::Mirrored(mirror) => mirror.calls(),
+        }
+    }
+
+    fn read(&mut self, block: u32, into: &mut [u8]) -> Result<(), Failed> {
+        match self {
+            JoinedDisk::Plain(disk) => disk.read(block, into),
+            JoinedDisk::Striped(stripe) => stripe.read(block, into),
+            JoinedDisk::Mirrored(mirror) => mirror.read(block, into),
+        }
+    }
+
+    fn write(&mut self, block: u32, from: &[u8]) -> Result<(), Failed> {
+        match self {
+            JoinedDisk::Plain(disk) => disk.write(block, from),
+            JoinedDisk::Striped(stripe) => stripe.write(block, from),
+            JoinedDisk::Mirrored(mirror) => mirror.write(block, from),
+        }
+    }
+
+    ghost has_blocks = { elim [
+      | Plain d ↦ D.has_blocks d
+      | Striped s ↦ blocks_of_stripe D.has_blocks s
+      | Mirrored m ↦ blocks_of_mirror D.has_blocks m
+    ] };
+}
+
+impl<D: Disk> Pairing<D> for JoinedDisk<D> {
+    ghost use Rattle.block_device.specs.Pairs.{CanPair};
+    ghost use Rattle.joined_disk.specs.JoinedSeen.{StandsFor};
+
+    ghost pairs = { StandsFor D.seen };
+
+    fn pair(
+        alloc: Global,
+        a: D,
+        b: Option<D>,
+        mirror: bool,
+    ) -> Result<JoinedDisk<D>, (D, Option<D>)>
+        requires { CanPair D.seen a b mirror }
+        ensures pair { IfOk result (StandsFor D.seen a b mirror) }
+        ensures back { IfErr result (λ disks. disks ≡ (a, b)) }
+    {
+        let Some(b) = b else {
+            return Ok(JoinedDisk::Plain(a));
+        };
+        if !mirror {
+            return Ok(JoinedDisk::Striped(Stripe::new(a, b)));
+        }
+        match Mirror::new(alloc, a, b) {
+            Ok(mirror) => Ok(JoinedDisk::Mirrored(mirror)),
+            Err((a, b)) => Err((a, Some(b))),
+        }
+    }
+}

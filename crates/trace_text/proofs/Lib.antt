@@ -1,0 +1,4 @@
+pub mod Pairs
+pub mod NumbersAgain
+pub mod WordsAgain
+pub mod EntriesAgain

@@ -1,0 +1,3 @@
+pub mod EntryForm
+pub mod EntryWords
+pub mod EntryReading

@@ -1,0 +1,110 @@
+-- Where nothing failed, no count rose.
+use Rattle.std.proofs.Common.{◌≡◌, ℕ, zero, suc, List, [], ◌∷◌, ◌++◌, map, get_or, set, refl, sym, ap, ◌∙◌, subst}
+use Rattle.std.specs.Prelude.{All, Option, None, Some, Result, Ok, Err, option_map}
+use Rattle.std.proofs.lemmas.List.Elements.{All-nil, All-cons, All-head, All-tail}
+use Rattle.block_device.specs.DiskSeen.{DiskSeen}
+use Rattle.volume_files.specs.declared.showing.ShowStop.{ShowStop}
+use Rattle.volume_files.specs.declared.showing.ShowStop.TheVariants as show
+use Rattle.volume_files.specs.declared.stops.OpenStop.{OpenStop}
+use Rattle.volume_files.specs.declared.stops.OpenStop.TheVariants as halt
+use Rattle.block_device.specs.declared.numbered.NumberedDisk.{NumberedDisk}
+use Rattle.volume_files.specs.declared.stops.Refusal.{Refusal}
+use Rattle.volume_files.specs.declared.table_files.PlaceStop.{PlaceStop}
+use Rattle.volume_files.specs.declared.table_files.PlaceStop.TheVariants as stop
+use Rattle.volume_files.specs.Attached.{bare_disks, numbered_seen}
+use Rattle.volume_files.specs.Handed.{AreUncounted}
+use Rattle.volume_files.specs.Opened.{OpenedFile}
+use Rattle.volume_files.specs.Placing.{PlaceStopped, open_stop_of}
+use Rattle.volume_files.specs.Unfailed.{NoneCounted, UnlessCut, UnlessFailed, counts_of}
+
+-- ---- what is said unless something failed
+
+pub unless-cut : {T F P Q : Type 0} (r : Result T (ShowStop F)) → (P → Q) → UnlessCut r P → UnlessCut r Q
+unless-cut (Ok done) f p = f p
+unless-cut (Err show.Memory) f p = f p
+unless-cut (Err show.Sink) f p = tt
+unless-cut (Err (show.Fault x)) f p = tt
+
+pub unless-failed : {T P Q : Type 0} (r : Result T OpenStop) → (P → Q) → UnlessFailed r P → UnlessFailed r Q
+unless-failed (Ok done) f p = f p
+unless-failed (Err halt.Memory) f p = f p
+unless-failed (Err (halt.Refused x)) f p = f p
+unless-failed (Err (halt.Failed x)) f p = tt
+
+-- whatever was answered
+pub said-anyway : {T P : Type 0} (r : Result T OpenStop) → P → UnlessFailed r P
+said-anyway (Ok done) p = p
+said-anyway (Err halt.Memory) p = p
+said-anyway (Err (halt.Refused x)) p = p
+said-anyway (Err (halt.Failed x)) p = tt
+
+-- the same stop of another call
+pub unless-halted : (S T : Type 0) {P Q : Type 0} (e : OpenStop) → (P → Q) → UnlessFailed {T = S} (Err e) P → UnlessFailed {T = T} (Err e) Q
+unless-halted S T halt.Memory f p = f p
+unless-halted S T (halt.Refused x) f p = f p
+unless-halted S T (halt.Failed x) f p = tt
+
+-- where memory lacked
+pub where-lacked : {T P : Type 0} (r : Result T OpenStop) (e : OpenStop) → r ≡ Err e → e ≡ halt.Memory → UnlessFailed r P → P
+where-lacked {T} {P} r e is memory p = subst (λ (x : Result T OpenStop). UnlessFailed x P) (is ∙ ap (λ (y : OpenStop). Err y) memory) p
+
+-- ---- counts of lists of disks
+
+-- one disk was replaced by one with its count
+pub counts-set : {X : Type 0} (f : X → ℕ × DiskSeen) (xs : List X) (i : ℕ) (z x : X) → (f x).1.faults ≡ (f (get_or xs i z)).1.faults
+    → counts_of (map f (set xs i x)) ≡ counts_of (map f xs)
+counts-set f [] zero z x same = refl
+counts-set f [] (suc i) z x same = refl
+counts-set f (y ∷ ys) zero z x same = ap (λ (n : ℕ). n ∷ counts_of (map f ys)) same
+counts-set f (y ∷ ys) (suc i) z x same = ap (λ (l : List ℕ). (f y).1.faults ∷ l) (counts-set f ys i z x same)
+
+abbrev Uncounted : DiskSeen → Type 0
+Uncounted d = d.faults ≡ 0
+
+-- no disk counted a fault, with the same counts
+pub zero-still : (old new : List (ℕ × DiskSeen)) → counts_of new ≡ counts_of old → All Uncounted (bare_disks old) → All Uncounted (bare_disks new)
+zero-still [] [] same none = none
+zero-still [] (e ∷ new) same none = absurd (let z : ◌≡◌ {A = List ℕ} (e.1.faults ∷ counts_of new) [] = same in cc)
+zero-still (d ∷ old) [] same none = absurd (let z : ◌≡◌ {A = List ℕ} [] (d.1.faults ∷ counts_of old) = same in cc)
+zero-still (d ∷ old) (e ∷ new) same none =
+    let z : ◌≡◌ {A = List ℕ} (e.1.faults ∷ counts_of new) (d.1.faults ∷ counts_of old) = same in
+    let first : e.1.faults ≡ d.1.faults = cc in
+    let rest : counts_of new ≡ counts_of old = cc in
+    All-cons Uncounted e.1 (bare_disks new) (first ∙ All-head Uncounted d.1 (bare_disks old) none) (zero-still old new rest (All-tail Uncounted d.1 (bare_disks old) none))
+
+-- with their numbers or without
+pub bare-none : (disks : List (ℕ × DiskSeen)) → NoneCounted disks → All Uncounted (bare_disks disks)
+bare-none [] none = All-nil Uncounted
+bare-none (d ∷ disks) none =
+    All-cons Uncounted d.1 (bare_disks disks) (All-head (λ (x : ℕ × DiskSeen). Uncounted x.1) d disks none) (bare-none disks (All-tail (λ (x : ℕ × DiskSeen). Uncounted x.1) d disks none))
+
+-- one more, which counted none
+none-push : {X : Type 0} (f : X → ℕ × DiskSeen) (xs : List X) (x : X) → (f x).1.faults ≡ 0 → NoneCounted (map f xs) → NoneCounted (map f (xs ++ x ∷ []))
+none-push f [] x fresh none = All-cons (λ (d : ℕ × DiskSeen). Uncounted d.1) (f x) [] fresh none
+none-push f (y ∷ ys) x fresh none =
+    All-cons (λ (d : ℕ × DiskSeen). Uncounted d.1) (f y) (map f (ys ++ x ∷ [])) (All-head (λ (d : ℕ × DiskSeen). Uncounted d.1) (f y) (map f ys) none)
+    (none-push f ys x fresh (All-tail (λ (d : ℕ × DiskSeen). Uncounted d.1) (f y) (map f ys) none))
+
+pub none-pushed : {X : Type 0} (f : X → ℕ × DiskSeen) (xs ys : List X) (x : X) → ys ≡ xs ++ x ∷ [] → (f x).1.faults ≡ 0 → NoneCounted (map f xs) → NoneCounted (map f ys)
+none-pushed f xs ys x is fresh none = subst (λ (zs : List _). NoneCounted (map f zs)) (sym is) (none-push f xs x fresh none)
+
+-- disks as they are handed back
+bare-handed : {D : Type 0} (seen : D → DiskSeen) (xs : List (NumberedDisk D)) → map seen (map (λ (d : NumberedDisk D). d.disk) xs) ≡ bare_disks (map (numbered_seen seen) xs)
+bare-handed seen [] = refl
+bare-handed seen (x ∷ xs) = ap (λ (l : List DiskSeen). seen x.disk ∷ l) (bare-handed seen xs)
+
+swap-handed : {D : Type 0} (seen : D → DiskSeen) (w : Option (NumberedDisk D)) → option_map seen (option_map (λ (d : NumberedDisk D). d.disk) w) ≡ option_map (λ (d : NumberedDisk D). seen d.disk) w
+swap-handed seen None = refl
+swap-handed seen (Some d) = refl
+
+pub handed-none : {D : Type 0} (seen : D → DiskSeen) (xs : List (NumberedDisk D)) (w : Option (NumberedDisk D)) (ys : List D) (v : Option D) → ys ≡ map (λ (d : NumberedDisk D). d.disk) xs
+    → v ≡ option_map (λ (d : NumberedDisk D). d.disk) w → AreUncounted (bare_disks (map (numbered_seen seen) xs)) (option_map (λ (d : NumberedDisk D). seen d.disk) w)
+    → AreUncounted (map seen ys) (option_map seen v)
+handed-none seen xs w ys v disks swap none = rw (ap (map seen) disks ∙ bare-handed seen xs, ap (option_map seen) swap ∙ swap-handed seen w) none
+
+-- memory lacked before a page was written
+pub unwritten : {D : Type 0} (seen : D → DiskSeen) (count : ℕ) (read : Result (List OpenedFile) Refusal) (old new : List (NumberedDisk D)) (how : PlaceStop)
+    → open_stop_of how ≡ halt.Memory → PlaceStopped seen count read old new how → new ≡ old
+unwritten seen count read old new stop.Memory is p = p
+unwritten seen count read old new (stop.Rule n) is p = p.1
+unwritten seen count read old new (stop.Fault f) is p = absurd (let z : ◌≡◌ {A = OpenStop} (halt.Failed f) halt.Memory = is in cc)
