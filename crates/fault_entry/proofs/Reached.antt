@@ -3,7 +3,8 @@ use Rattle.std.proofs.Common.{◌≡◌, ℕ, ◌%◌, Bool, true, false, cond, 
 use Rattle.std.specs.Prelude.{not, ◌||◌}
 use Rattle.std.specs.FinSet as set
 use Rattle.std.specs.Ordering.{nat_cmp}
-use Rattle.hat_layer.specs.Pool.{IsNoted, frame_let, frame_for, change_at, after_access}
+use Rattle.hat_layer.specs.declared.translation.Translation.{Translation}
+use Rattle.hat_layer.specs.Pool.{IsNoted, frame_let, frame_for, change_at, change_page, after_access, holds, translation_at}
 use Rattle.anon_map.specs.Maps.{Map}
 use Rattle.anon_slots.specs.Slots.{AnonSlotsSeen}
 use Rattle.page_hash.specs.declared.PageName.{PageName}
@@ -25,6 +26,7 @@ use Rattle.vm_world.specs.FlatMemory.{flat_memory}
 use Rattle.vm_world.specs.MemoryFits.{MemoryFits}
 use Rattle.vm_world.specs.Segments.{Spot, Spaces, spot_at, shown_name}
 use Rattle.vm_world.specs.Serving.{IsUnpushedSlot, ModifiesOnly, ShowsThere}
+use Rattle.vm_world.specs.TranslationsFit.{MayWriteInPlace}
 use Rattle.vm_world.specs.World.{World}
 use Rattle.vm_world.proofs.CallSteps.{call_rule}
 use Rattle.vm_world.proofs.FlatWhole.{some-inj}
@@ -42,7 +44,7 @@ use Rattle.seg_ops.specs.SlotsDue.{MakesSlotAt, slot_due}
 use Rattle.seg_vn.proofs.AnyFaults.{changes-as, changes-kept, fault-whole}
 use Rattle.seg_vn.proofs.AnyPlaces.{kept-own, kept-shared}
 use Rattle.seg_vn.proofs.SlotsDue.{due-none, made-still, slots-kept}
-use Rattle.seg_vn.proofs.AnySteps.{shows-same}
+use Rattle.seg_vn.proofs.AnySteps.{in-place-still, shows-same}
 use Rattle.seg_vn.proofs.Replacements.{none-replaced, replaced-then}
 use Rattle.seg_vn.proofs.Takes.{takes-none}
 use Rattle.fault_entry.specs.Reaching.{may_access, ReachesPage, ReachModifies, ServesAccess, IsSignalDue, after_reach, error_in, step_wanting}
@@ -90,6 +92,14 @@ noted-only w new spaces p q frame write f store noted modified =
     only-as (λ name. (write ≡ true) × (residence w.store name ≡ Home frame)) (ReachModifies (memory_of new spaces) p q write (access.Reached frame)) w new
     (λ name is. (frame-shows new spaces p q frame write name f noted (ap (λ (st : StoreSeen). residence st name) store ∙ is.1), inl is.0)) modified
 
+-- it lets what it did
+accessed-right : (p q : ℕ) (write : Bool) (u t : Translation) → change_page p q (after_access write) (Some u) ≡ Some t → t.writable ≡ u.writable
+accessed-right p q write u t is = by_place (holds p q (Some u)) is
+  where
+    by_place : (b : Bool) → cond b (Some (after_access write u)) (Some u) ≡ Some t → t.writable ≡ u.writable
+    by_place true e = let same : after_access write u ≡ t = cc in ap (λ (x : Translation). x.writable) (sym same)
+    by_place false e = let same : u ≡ t = cc in ap (λ (x : Translation). x.writable) (sym same)
+
 -- NOTHING is done: what is said of a memory that stays.
 module _ (w : World) (spaces : Spaces) (pending p a n : ℕ) (write : Bool) (f : MemoryFits (memory_of w spaces)) where
   abbrev same-machine : ChangesMemory p (memory_of w spaces) (memory_of w spaces) (λ F G. G ≡ F)
@@ -110,9 +120,9 @@ module _ (w : World) (spaces : Spaces) (pending p a n : ℕ) (write : Bool) (f :
 
   -- A HIT makes no slot: its page is shown, and written in place.
   pub hit-access : (new : World) (x : Spot) (frame : ℕ) → a % n ≡ 0 → spot_at spaces p (page a) ≡ Some x → may_access write x.0.prot ≡ true → KeepsPages w new spaces → new ≡ record w { hat = new.hat }
-      → new.hat.places ≡ change_at p (page a) (after_access write) w.hat.places → IsNoted new.hat.places p (page a) frame write → ModifiesOnly (λ name. (write ≡ true) × (residence w.store name ≡ Home frame)) w new
+      → new.hat.places ≡ change_at p (page a) (after_access write) w.hat.places → IsNoted new.hat.places p (page a) frame write → ModifiesOnly (λ name. (write ≡ true) × (residence w.store name ≡ Home frame)) w new → frame_for w.hat.places p (page a) write ≡ Some frame
       → ServesAccess (memory_of w spaces) (memory_of new spaces) pending pending p a n write (access.Reached frame)
-  hit-access new x frame even here allowed keeps only places noted modified =
+  hit-access new x frame even here allowed keeps only places noted modified found =
       let anon = ap (λ (v : World). v.anon) only in
       let maps = ap (λ (v : World). v.maps) only in
       let r : ReachesPage (memory_of new spaces) p a n frame write = record { aligned = even; spot = x; here = here; allowed = allowed; noted = noted } in
@@ -132,10 +142,13 @@ module _ (w : World) (spaces : Spaces) (pending p a n : ℕ) (write : Bool) (f :
             (sym (shows-same w new x maps (ap (λ (v : World). v.files) only)) ∙ place-there new spaces p a n frame write keeps.memory r);
         replaced = none-replaced w new;
         modified = noted-only w new spaces p (page a) frame write keeps.memory (ap (λ (v : World). v.store) only) noted modified;
-        hit = λ lets_it. record {
-          store = ap (λ (v : World). v.store) only ∙ ap (λ (fs : List (Option (List ℕ))). record w.store { frames = fs }) (sym (ap (λ (v : World). v.store.frames) only));
-          places = places;
-          rest = only ∙ ap (λ (st : StoreSeen). record w { store = st; hat = new.hat }) (sym (ap (λ (v : World). v.store) only));
+        hit = record {
+          hit = λ lets_it. record {
+            store = ap (λ (v : World). v.store) only ∙ ap (λ (fs : List (Option (List ℕ))). record w.store { frames = fs }) (sym (ap (λ (v : World). v.store.frames) only));
+            places = places;
+            rest = only ∙ ap (λ (st : StoreSeen). record w { store = st; hat = new.hat }) (sym (ap (λ (v : World). v.store) only));
+          };
+          opens = λ none y t at there may. absurd (let z : None ≡ Some frame = sym (ap (frame_let write) none) ∙ found in cc);
         };
         means = r;
       }
@@ -163,8 +176,9 @@ module _ (old new : World) (spaces : Spaces) (pending more p a n : ℕ) (write :
 
   pub loaded-access : (mid : World) (frame : ℕ) → ServesFault (memory_of old spaces) (memory_of mid spaces) pending more p (page a) x write (Ok fault.Loaded) → KeepsPages mid new spaces
       → new.anon ≡ mid.anon → new.maps ≡ mid.maps → new.store ≡ mid.store → ModifiesOnly (λ name. (write ≡ true) × (residence mid.store name ≡ Home frame)) mid new → (LetsAccess old p (page a) write → ⊥) → IsNoted new.hat.places p (page a) frame write
+      → translation_at new.hat.places p (page a) ≡ change_page p (page a) (after_access write) (translation_at mid.hat.places p (page a))
       → ServesAccess (memory_of old spaces) (memory_of new spaces) pending more p a n write (access.Reached frame)
-  loaded-access mid frame s keeps anon maps store modified miss noted = record {
+  loaded-access mid frame s keeps anon maps store modified miss noted changed = record {
     mid = s.mid;
     first = s.first;
     acts = changes-as p (memory_of s.mid spaces) (memory_of new spaces) (λ F. after_fault (Ok fault.Loaded) write F p (page a)) (λ F. after_reach (access.Reached frame) write F p (page a))
@@ -177,7 +191,13 @@ module _ (old new : World) (spaces : Spaces) (pending more p a n : ℕ) (write :
     replaced = replaced-then old mid new s.first.cut (ap (λ (st : StoreSeen). st.names) store) s.replaced;
     modified = only-then (FaultModifies mid x (Ok fault.Loaded)) (goes new frame) (goes new frame) old mid new (loaded-goes mid new frame maps anon) (λ name is. is) s.modified
         (noted-only mid new spaces p (page a) frame write keeps.memory store noted modified);
-    hit = λ lets_it. absurd (miss lets_it);
+    hit = record {
+      hit = λ lets_it. absurd (miss lets_it);
+      opens = λ none y t at there may.
+          let same = some-inj x y (sym here ∙ at) in
+          let was = s.means.opens (in-place-still new mid x (sym maps) (sym anon) (subst (λ (z : Spot). MayWriteInPlace new.anon new.maps z) (sym same) may)) in
+          accessed-right p (page a) write s.means.lets.translation t (ap (change_page p (page a) (after_access write)) (sym s.means.lets.loaded) ∙ sym changed ∙ there) ∙ was;
+    };
     means = record { aligned = even; spot = x; here = here; allowed = allowed; noted = noted };
   }
 

@@ -38,6 +38,7 @@ use Rattle.seg_ops.proofs.StillSteps.{memory_of}
 use Rattle.seg_vn.specs.declared.attempt.Attempt.TheVariants as attempt
 use Rattle.seg_ops.specs.Faults.{Accesses}
 use Rattle.seg_ops.specs.SlotsDue.{slot_due}
+use Rattle.seg_vn.proofs.AnySteps.{in-place-still}
 use Rattle.seg_vn.proofs.Replacements.{replaced-then}
 use Rattle.seg_vn.proofs.SlotsDue.{made-still}
 use Rattle.seg_vn.proofs.Takes.{takes-there}
@@ -127,7 +128,10 @@ store-reached old mid new spaces pending more p a n frame v s writes hat anon ma
   due = tt;
   shown = shown-there new spaces p (page a) s.means.noted.entry writes.2.memory (ap (λ (h : HatSeen). translation_at h.places p (page a)) hat ∙ s.means.noted.there);
   slots = λ x here. made-still old mid new (slot_due old.anon old.maps x true) anon maps (s.slots x here);
-  hit = λ lets. hit-then old mid new p (page a) true store hat only (s.hit lets);
+  hit = record {
+    hit = λ lets. hit-then old mid new p (page a) true store hat only (s.hit.hit lets);
+    opens = λ none x t here at may. s.hit.opens none x t here (ap (λ (h : HatSeen). translation_at h.places p (page a)) (sym hat) ∙ at) (in-place-still new mid x (sym maps) (sym anon) may);
+  };
 }
 
 module _ (old new : World) (spaces : Spaces) (pending more p a n : ℕ) where

@@ -1,5 +1,7 @@
 -- What holds of loads and stores beside what is answered to them. Public clauses cite this.
-use Rattle.std.specs.Prelude.{◌≡◌, ℕ, Bool, true, false, List, Option, Some}
+use Rattle.std.specs.Prelude.{◌≡◌, ℕ, Bool, true, false, List, Option, Some, None}
+use Rattle.std.specs.FinMap as finite
+use Rattle.addr_space.specs.Space.{Part}
 use Rattle.hat_layer.specs.Pool.{translation_at, change_at, after_access}
 use Rattle.hat_layer.specs.declared.translation.Translation.{Translation}
 use Rattle.page_hash.specs.declared.PageName.{PageName}
@@ -11,8 +13,12 @@ use Rattle.vm_types.specs.declared.call.Reply.TheVariants as reply
 use Rattle.vm_types.specs.WellFormed.{IsWellFormed}
 use Rattle.vm_world.specs.FlatMemory.{Memory}
 use Rattle.vm_world.specs.Plans.{MayMeetFault}
-use Rattle.vm_world.specs.Segments.{Spot, spot_at, shown_name}
+use Rattle.vm_world.specs.Segments.{Spaces, Spot, spot_at, shown_name}
+use Rattle.vm_world.specs.TranslationsFit.{MayWriteInPlace}
+use Rattle.vm_world.specs.Words.{memory, Fits}
 use Rattle.vm_world.specs.World.{World}
+use Rattle.vm_world.specs.declared.segment.Segment.{Segment}
+use Rattle.vm_world.specs.declared.world.World as rust
 use Rattle.seg_vn.specs.declared.attempt.Attempt.{Attempt}
 use Rattle.seg_vn.specs.declared.attempt.Attempt.TheVariants.{Done, Need, Busy}
 use Rattle.seg_vn.specs.Serves.{Serves, IsPlainReply}
@@ -59,10 +65,17 @@ pub record IsHit (old new : World) (p q : ℕ) (write : Bool) : Type 0 where
   pub places : new.hat.places ≡ change_at p q (after_access write) old.hat.places
   pub rest : new ≡ record old { store = new.store; hat = new.hat }
 
--- A load that answers a word and a store that is done are hits where the page had a translation that lets them.
-abbrev pub IsHitWhereDone : World → World → ℕ → ℕ → Bool → Attempt → Type 0
-IsHitWhereDone old new p q write (Done (reply.Word word)) = LetsAccess old p q write → IsHit old new p q write
-IsHitWhereDone old new p q write (Done reply.Done) = LetsAccess old p q write → IsHit old new p q write
+-- ONE FAULT AT MOST: an access whose page had a translation that lets it is a hit; and where the page had none, the one that it has then lets a store
+-- where the page may be written where it is, so that a store after a load of a page that its cell owns alone comes to no other fault.
+pub record FaultsOnce (old : Memory) (new : World) (p q : ℕ) (write : Bool) : Type 0 where
+  pub hit : LetsAccess old.world p q write → IsHit old.world new p q write
+  pub opens : translation_at old.world.hat.places p q ≡ None → (x : Spot) (t : Translation) → spot_at old.spaces p q ≡ Some x → translation_at new.hat.places p q ≡ Some t
+      → MayWriteInPlace new.anon new.maps x → t.writable ≡ true
+
+-- A load that answers a word and a store that is done come to one fault at most.
+abbrev pub IsHitWhereDone : Memory → World → ℕ → ℕ → Bool → Attempt → Type 0
+IsHitWhereDone old new p q write (Done (reply.Word word)) = FaultsOnce old new p q write
+IsHitWhereDone old new p q write (Done reply.Done) = FaultsOnce old new p q write
 IsHitWhereDone old new p q write answer = Unit {0}
 
 -- What is done has a plain reply; and a transfer is needed, or somebody waited for, only where neither Align, NoMap nor Prot is due.
@@ -77,4 +90,12 @@ pub record ServesWord (old new : Memory) (pending more p q : ℕ) (call : Call) 
   pub due : MayBeAnswered new p call answer
   pub shown : IsShownWhereDone new p q answer
   pub slots : SlotsWhereDone old new.world p q (is_store call) answer
-  pub hit : IsHitWhereDone old.world new.world p q (is_store call) answer
+  pub hit : IsHitWhereDone old new.world p q (is_store call) answer
+
+-- The world fits where a process has these parts.
+abbrev pub IsFitFor : {D : Type 0} → rust.World D → ℕ → List (Part Segment) → Type 0
+IsFitFor w p parts = (spaces : Spaces) × Fits w spaces × (finite.get spaces p ≡ Some parts)
+
+-- Whatever the spaces in which it has them, this is answered to an access.
+abbrev pub WordServed : {D : Type 0} → rust.World D → rust.World D → ℕ → List (Part Segment) → ℕ → Call → Attempt → Type 0
+WordServed old new p parts q call answer = (spaces : Spaces) → Fits old spaces → finite.get spaces p ≡ Some parts → ServesWord (memory old spaces) (memory new spaces) old.pending new.pending p q call answer

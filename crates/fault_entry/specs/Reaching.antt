@@ -1,6 +1,8 @@
 -- What an access comes to before its word is moved. Inside: no public clause cites this.
-use Rattle.std.specs.Prelude.{◌≡◌, ◌⊎◌, ℕ, ◌%◌, Bool, true, Option, Some, None, Result, Ok, Err, if◌then◌else◌}
+use Rattle.std.specs.Prelude.{◌≡◌, ◌⊎◌, ℕ, ◌%◌, Bool, true, List, Option, Some, None, Result, Ok, Err, if◌then◌else◌}
+use Rattle.std.specs.FinMap as finite
 use Rattle.std.specs.FinSet as set
+use Rattle.addr_space.specs.Space.{Part}
 use Rattle.std.specs.Ordering.{nat_cmp}
 use Rattle.hat_layer.specs.Pool.{IsNoted}
 use Rattle.page_hash.specs.declared.PageName.{PageName}
@@ -14,13 +16,16 @@ use Rattle.flat_model.specs.Step.{IsPastAtMost}
 use Rattle.flat_model.specs.Words.{page}
 use Rattle.vm_world.specs.CallSteps.{ChangesMemory}
 use Rattle.vm_world.specs.FlatMemory.{Memory, flat_memory}
-use Rattle.vm_world.specs.Segments.{Spot, spot_at}
+use Rattle.vm_world.specs.Segments.{Spaces, Spot, spot_at}
 use Rattle.vm_world.specs.Serving.{TakesFrames, AreReplaced, IsUnpushedSlot, ModifiesOnly, ShowsThere}
+use Rattle.vm_world.specs.Words.{memory, Fits}
 use Rattle.vm_world.specs.World.{World}
+use Rattle.vm_world.specs.declared.segment.Segment.{Segment}
+use Rattle.vm_world.specs.declared.world.World as rust
 use Rattle.seg_ops.specs.OwnPages.{with_own_shown}
-use Rattle.seg_ops.specs.Faults.{LetsAccess, WaitsFor}
+use Rattle.seg_ops.specs.Faults.{WaitsFor}
 use Rattle.seg_ops.specs.SlotsDue.{KeepsSlots, MakesSlotAt, slot_due}
-use Rattle.fault_entry.specs.Accesses.{IsHit}
+use Rattle.fault_entry.specs.Accesses.{FaultsOnce}
 use Rattle.fault_entry.specs.declared.access.AccessStep.{AccessStep}
 use Rattle.fault_entry.specs.declared.access.AccessStep.TheVariants.{Reached, Refused, Need, Busy}
 use Rattle.vm_world.specs.declared.wants.Wants.{Wants}
@@ -81,9 +86,9 @@ error_in (Err e) = Some e
 abbrev pub IsSignalDue : Memory → ℕ → ℕ → ℕ → Bool → Option Signal → Type 0
 IsSignalDue m p a n write s = (born : set.FinSet nat_cmp) (notes : Notes) → error_in (access_target (flat_memory m born notes) p (may_access write) a n) ≡ s
 
--- Where the page had a translation that lets the access, the access is a hit.
-abbrev pub HitsReach : World → World → ℕ → ℕ → Bool → AccessStep → Type 0
-HitsReach old new p q write (Reached frame) = LetsAccess old p q write → IsHit old new p q write
+-- An access that goes to its frame came to one fault at most.
+abbrev pub HitsReach : Memory → World → ℕ → ℕ → Bool → AccessStep → Type 0
+HitsReach old new p q write (Reached frame) = FaultsOnce old new p q write
 HitsReach old new p q write answer = Unit {0}
 
 -- Once the access goes to its frame, the page there may be modified: of a store, and where it is that of a slot which was never pushed. No other page
@@ -102,5 +107,10 @@ pub record ServesAccess (old new : Memory) (pending more p a n : ℕ) (write : B
   pub due : IsSignalDue old p a n write (signal_in answer)
   pub replaced : AreReplaced old.world new.world first.cut
   pub modified : ModifiesOnly (ReachModifies new p (page a) write answer) old.world new.world
-  pub hit : HitsReach old.world new.world p (page a) write answer
+  pub hit : HitsReach old new.world p (page a) write answer
   pub means : AccessMeans old new p a n write answer
+
+-- Whatever the spaces in which the process has these parts.
+abbrev pub AccessServed : {D : Type 0} → rust.World D → rust.World D → ℕ → List (Part Segment) → ℕ → ℕ → Bool → AccessStep → Type 0
+AccessServed old new p parts a n write answer =
+    (spaces : Spaces) → Fits old spaces → finite.get spaces p ≡ Some parts → ServesAccess (memory old spaces) (memory new spaces) old.pending new.pending p a n write answer

@@ -1,7 +1,7 @@
 //! What an access reaches.
 ghost use Rattle.std.specs.Prelude.{◌≡◌, ◌≤◌, ◌-◌, ◌%◌, ℕ, true, Some};
 ghost use Rattle.std.specs.FinMap as finite;
-ghost use Rattle.hat_layer.specs.Pool.{IsNoted};
+ghost use Rattle.hat_layer.specs.Pool.{IsNoted, after_access, change_page, translation_at};
 ghost use Rattle.flat_model.specs.Words as words;
 ghost use Rattle.page_store.specs.Seen.{residence};
 ghost use Rattle.vm_types.specs.Words.{IsWordSize};
@@ -9,8 +9,9 @@ ghost use Rattle.vm_world.specs.Segments.{Spaces, spot_at};
 ghost use Rattle.vm_world.specs.Serving.{ModifiesOnly};
 ghost use Rattle.vm_world.specs.Words.{memory, Fits, IsKnown, TwoAreHome, KeepsEveryPage, OnlyHat, SameFiles};
 ghost use Rattle.vm_world.specs.World.{world_seen};
-ghost use Rattle.seg_ops.specs.Faults.{LetsAccess};
-ghost use Rattle.fault_entry.specs.Reaching.{may_access, step_wanting, ServesAccess};
+ghost use Rattle.seg_ops.specs.Faults.{IsFitAt, LetsAccess};
+ghost use Rattle.fault_entry.specs.Reaching.{AccessServed, ServesAccess, may_access, step_wanting};
+ghost use Rattle.fault_entry.specs.Accesses.{IsFitFor};
 
 use addr_space::Ranges;
 use block_device::Disk;
@@ -60,6 +61,9 @@ fn may_access(prot: Prot, write: bool) -> bool
 fn noted<D: Disk>(world: &mut World<D>, space: u32, page: u32, write: bool) -> u32
     requires lets { LetsAccess (world_seen world.old) space page write }
     ensures noted { IsNoted world.new.hat.places space page result write }
+    ensures translation { translation_at world.new.hat.places space page
+        ≡ change_page space page (after_access write)
+        (translation_at world.old.hat.places space page) }
     // Of a store, the page in that frame may be modified then.
     ensures modified { ModifiesOnly
         (λ name. (write ≡ true) × (residence world.old.store name ≡ Residence.Home result))
@@ -89,8 +93,8 @@ fn fault_in<D: Disk>(
     requires allowed { may_access write segment.now.prot ≡ true }
     requires missed { ¬ LetsAccess (world_seen world.old) process (words.page addr) write }
     requires home { TwoAreHome world.old.store }
-    requires fits { (spaces : Spaces) × Fits world.old spaces
-        × (spot_at spaces process (words.page addr) ≡ Some (segment.now, words.page addr - first)) }
+    requires fits { IsFitAt world.old process (words.page addr)
+        (segment.now, words.page addr - first) }
     requires noted { IsKnown world.old }
     ensures serves { (spaces : Spaces) (n : ℕ) → Fits world.old spaces
         → spot_at spaces process (words.page addr) ≡ Some (segment.now, words.page addr - first)
@@ -121,13 +125,10 @@ pub(crate) fn reach<D: Disk>(
 ) -> AccessStep
     requires size { IsWordSize size }
     requires home { TwoAreHome world.old.store }
-    requires fits { (spaces : Spaces) × Fits world.old spaces
-        × (finite.get spaces process ≡ Some space.now.parts) }
+    requires fits { IsFitFor world.old process space.now.parts }
     requires noted { IsKnown world.old }
-    ensures serves { (spaces : Spaces) → Fits world.old spaces
-        → finite.get spaces process ≡ Some space.now.parts
-        → ServesAccess (memory world.old spaces) (memory world.new spaces) world.old.pending
-        world.new.pending process addr size write result }
+    ensures serves { AccessServed world.old world.new process space.now.parts addr size write
+        result }
     // What stays.
     ensures rest { SameFiles world.old world.new }
 {

@@ -9,7 +9,7 @@ ghost use Rattle.vm_world.specs.Wants.{accessed_page};
 ghost use Rattle.vm_world.specs.Words.{memory, Fits, IsKnown, TwoAreHome};
 ghost use Rattle.vm_world.specs.World.{world_seen};
 ghost use Rattle.seg_vn.specs.Serves.{Serves};
-ghost use Rattle.fault_entry.specs.Accesses.{IsAccess, ServesWord, MayBeAnswered, IsShownWhereDone, IsHitWhereDone, SlotsWhereDone, is_store};
+ghost use Rattle.fault_entry.specs.Accesses.{IsAccess, IsFitFor, IsHitWhereDone, IsShownWhereDone, MayBeAnswered, SlotsWhereDone, WordServed, is_store};
 ghost use Rattle.fault_entry.specs.Answers.{attempt_of};
 
 use crate::access::{AccessStep, reach};
@@ -31,14 +31,11 @@ fn load<D: Disk>(
 ) -> Answer
     requires size { IsWordSize size }
     requires home { TwoAreHome world.old.store }
-    requires fits { (spaces : segments.Spaces) × Fits world.old spaces
-        × (finite.get spaces process ≡ Some space.now.parts) }
+    requires fits { IsFitFor world.old process space.now.parts }
     requires noted { IsKnown world.old }
     // What is answered.
-    ensures serves { (spaces : segments.Spaces) → Fits world.old spaces
-        → finite.get spaces process ≡ Some space.now.parts
-        → ServesWord (memory world.old spaces) (memory world.new spaces) world.old.pending
-        world.new.pending process (page addr) (Load addr size) (attempt_of result) }
+    ensures serves { WordServed world.old world.new process space.now.parts (page addr)
+        (Load addr size) (attempt_of result) }
     // What stays.
     ensures zeros { world.new.zeros ≡ world.old.zeros }
 {
@@ -62,14 +59,11 @@ fn store<D: Disk>(
     requires size { IsWordSize size }
     requires word { FitsWord size value }
     requires home { TwoAreHome world.old.store }
-    requires fits { (spaces : segments.Spaces) × Fits world.old spaces
-        × (finite.get spaces process ≡ Some space.now.parts) }
+    requires fits { IsFitFor world.old process space.now.parts }
     requires noted { IsKnown world.old }
     // What is answered.
-    ensures serves { (spaces : segments.Spaces) → Fits world.old spaces
-        → finite.get spaces process ≡ Some space.now.parts
-        → ServesWord (memory world.old spaces) (memory world.new spaces) world.old.pending
-        world.new.pending process (page addr) (Store addr size value) (attempt_of result) }
+    ensures serves { WordServed world.old world.new process space.now.parts (page addr)
+        (Store addr size value) (attempt_of result) }
     // What stays.
     ensures zeros { world.new.zeros ≡ world.old.zeros }
 {
@@ -112,9 +106,10 @@ pub fn answer<D: Disk>(
     ensures slots { (q : ℕ) → accessed_page call.now ≡ Some q
         → SlotsWhereDone (memory world.old spaces.old.spaces) (world_seen world.new) process
         q (is_store call.now) (attempt_of result) }
-    // Where the page had its translation nothing else changed.
+    // Where the page had its translation nothing else changed; and one that is loaded lets a store where the page may be
+    // written where it is.
     ensures hit { (q : ℕ) → accessed_page call.now ≡ Some q
-        → IsHitWhereDone (world_seen world.old) (world_seen world.new) process
+        → IsHitWhereDone (memory world.old spaces.old.spaces) (world_seen world.new) process
         q (is_store call.now) (attempt_of result) }
     // What stays.
     ensures spaces { spaces.new ≡ spaces.old }

@@ -1,18 +1,21 @@
 -- What faults come to. Public clauses cite this.
-use Rattle.std.specs.Prelude.{◌≡◌, ℕ, Bool, true, false, not, List, Option, Some, Result, Ok, Err, IsFalse}
+use Rattle.std.specs.Prelude.{◌≡◌, ℕ, Bool, true, false, not, List, Option, Some, Result, Ok, Err, IsFalse, IsTrue, if◌then◌else◌}
 use Rattle.hat_layer.specs.Pool.{translation_at}
 use Rattle.hat_layer.specs.declared.translation.Translation.{Translation}
 use Rattle.page_hash.specs.declared.PageName.{PageName}
 use Rattle.vm_types.specs.declared.call.Call.{Call}
 use Rattle.vm_types.specs.declared.call.Call.TheVariants.{Load, Store}
+use Rattle.vm_types.specs.Prot.{can_read, can_write}
+use Rattle.vm_types.specs.declared.prot.Prot.{Prot}
 use Rattle.flat_model.specs.Flat.{Flat}
 use Rattle.flat_model.specs.Words.{page}
 use Rattle.vm_world.specs.CallSteps.{ChangesMemory}
 use Rattle.vm_world.specs.FlatMemory.{Memory}
-use Rattle.vm_world.specs.Segments.{Spot, Spaces, shown_name}
+use Rattle.vm_world.specs.Segments.{Spot, Spaces, shown_name, spot_at}
 use Rattle.vm_world.specs.Serving.{TakesFrames, AreReplaced, IsUnpushedSlot, KeepsWanted, ModifiesOnly, IsWanted}
+use Rattle.vm_world.specs.TranslationsFit.{MayWriteInPlace}
 use Rattle.vm_world.specs.Wants.{shows_page}
-use Rattle.vm_world.specs.Words.{memory}
+use Rattle.vm_world.specs.Words.{memory, Fits}
 use Rattle.vm_world.specs.World.{World}
 use Rattle.vm_world.specs.declared.world.World as rust
 use Rattle.seg_ops.specs.OwnPages.{with_own_shown}
@@ -39,9 +42,15 @@ pub record WaitsFor (old new : Memory) (p q : ℕ) (write : Bool) (want : Wants)
   pub wants : (calls : List (Option ℕ)) (call : Call) → Accesses write q call → IsWanted new calls p call want
   pub kept : (call : Call) → Accesses write q call → KeepsWanted old new p call
 
+-- The page was loaded: it has a translation that lets the access; and that lets a store where the page may be written where it is, so that no other fault
+-- comes before one.
+pub record LoadsPage (w : World) (p q : ℕ) (x : Spot) (write : Bool) : Type 0 where
+  pub lets : LetsAccess w p q write
+  pub opens : MayWriteInPlace w.anon w.maps x → lets.translation.writable ≡ true
+
 -- What a fault at a place of any mapping comes to.
 abbrev pub FaultMeans : Memory → Memory → ℕ → ℕ → Spot → Bool → Result Fault Wants → Type 0
-FaultMeans old new p q x write (Ok Loaded) = LetsAccess new.world p q write
+FaultMeans old new p q x write (Ok Loaded) = LoadsPage new.world p q x write
 FaultMeans old new p q x write (Ok Past) = IsFalse (shows_page new.world x)
 FaultMeans old new p q x write (Err want) = WaitsFor old new p q write want
 
@@ -78,6 +87,17 @@ pub record ServesFault (old new : Memory) (pending more p q : ℕ) (x : Spot) (w
   pub modified : ModifiesOnly (FaultModifies new.world x answer) old.world new.world
   pub means : FaultMeans old new p q x write answer
 
--- The same of the world before and after.
+-- The protection lets a store, or a load.
+abbrev pub IsAllowed : Bool → Prot → Type 0
+IsAllowed write prot = IsTrue (if write then can_write prot else can_read prot)
+
+-- The world fits where a page of a process shows this place.
+abbrev pub IsFitAt : {D : Type 0} → rust.World D → ℕ → ℕ → Spot → Type 0
+IsFitAt w p q x = (spaces : Spaces) × Fits w spaces × (spot_at spaces p q ≡ Some x)
+
+-- The same of the world before and after; and whatever the spaces in which the page shows the place.
 abbrev pub FaultServed : {D : Type 0} → rust.World D → rust.World D → Spaces → ℕ → ℕ → Spot → Bool → Result Fault Wants → Type 0
 FaultServed old new spaces p q x write answer = ServesFault (memory old spaces) (memory new spaces) old.pending new.pending p q x write answer
+
+abbrev pub FaultServedAt : {D : Type 0} → rust.World D → rust.World D → ℕ → ℕ → Spot → Bool → Result Fault Wants → Type 0
+FaultServedAt old new p q x write answer = (spaces : Spaces) → Fits old spaces → spot_at spaces p q ≡ Some x → FaultServed old new spaces p q x write answer

@@ -3,6 +3,7 @@ pub mod Plans
 pub mod Marks
 pub mod Flights
 pub mod Slots
+pub mod Owners
 pub mod Empties
 pub mod OwnPages
 pub mod Rooms

@@ -1,7 +1,7 @@
 //! Words through translations: the hot path. An access is one look for the translation, in which it is noted, and one word.
 ghost use Rattle.std.specs.Prelude.{◌≡◌, ℕ, ◌%◌, true, false, IfSome, IfNone};
 ghost use Rattle.flat_model.specs.Words.{page};
-ghost use Rattle.hat_layer.specs.Pool.{IsNoted, frame_for, after_access, change_at};
+ghost use Rattle.hat_layer.specs.Pool.{IsNoted, frame_for, after_access, change_at, change_page, translation_at};
 ghost use Rattle.page_store.specs.Laws.{SameResidence};
 ghost use Rattle.page_store.specs.Seen.{residence};
 ghost use Rattle.vm_types.specs.Words.{IsWordSize, FitsWord};
@@ -25,6 +25,9 @@ pub fn frame_for<D: Disk>(world: &mut World<D>, space: u32, page: u32, write: bo
     ensures places { IfSome result (λ _frame. world.new.hat.places
         ≡ change_at space page (after_access write) world.old.hat.places) }
     ensures noted { IfSome result (λ frame. IsNoted world.new.hat.places space page frame write) }
+    ensures translation { IfSome result (λ _frame. translation_at world.new.hat.places space page
+        ≡ change_page space page (after_access write)
+        (translation_at world.old.hat.places space page)) }
     // .. or nothing changes.
     ensures none { IfNone result (world.new ≡ world.old) }
     // What stays.

@@ -7,13 +7,13 @@ ghost use Rattle.page_store.specs.Seen.{IsListedFrame, residence};
 ghost use Rattle.page_store.specs.Steps.{next_frame, next_name, after_fill, home_bytes};
 ghost use Rattle.anon_map.specs.Maps.{IsMapThere, places_of, with_places};
 ghost use Rattle.anon_slots.specs.Slots.{with_new_slot};
-ghost use Rattle.flat_model.specs.Step.{tails_cleared};
 ghost use Rattle.vm_world.specs.CallSteps.{ChangesMemory};
 ghost use Rattle.vm_world.specs.Segments.{Spaces, Spot};
 ghost use Rattle.vm_world.specs.Words.{memory, Fits, IsFit, SameFilesAndHat};
 ghost use Rattle.vm_world.specs.World.{world_seen, slot_name, slot_in};
-ghost use Rattle.vm_world.specs.WorldSteps.{tails_lost};
 ghost use Rattle.seg_ops.specs.Slots.{MakesHome, MakesPage, IsNewZero, OwnsAlone, PlacesLaw, with_own_page};
+ghost use Rattle.seg_ops.specs.Owners.{OwnerBecomes};
+ghost use Rattle.seg_ops.specs.Frames.{next_cleared};
 
 use crate::tails::pend_tail;
 use block_device::Disk;
@@ -45,14 +45,10 @@ pub fn make_zero<D: Disk>(world: &mut World<D>, map: u32, place: u32) -> u32
     ensures changes { (spaces : Spaces) (p : ℕ) → Fits world.old spaces
         → IsNewZero spaces map place
         → ChangesMemory p (memory world.old spaces) (memory world.new spaces) (λ F G. G ≡
-        tails_cleared F
-        (tails_lost (world_seen world.old) (is_name (next_name world.old.store)))) }
+        next_cleared world.old F) }
     // Where the place is a private page's, without a translation, that gets a page of zeros of its own.
-    ensures owned { (spaces : Spaces) (p q : ℕ) (x : Spot) → Fits world.old spaces
-        → OwnsAlone spaces p q map place x → translation_at world.old.hat.places p q ≡ None
-        → ChangesMemory p (memory world.old spaces) (memory world.new spaces) (λ F G. G ≡
-        tails_cleared (with_own_page F p q zeros)
-        (tails_lost (world_seen world.old) (is_name (next_name world.old.store)))) }
+    ensures owned { OwnerBecomes world.old world.new map place
+        (λ p q F. next_cleared world.old (with_own_page F p q zeros)) }
 {
     let lost = world.store.next_name();
     let slot = world.anon.make();
@@ -93,12 +89,9 @@ pub fn make_copy<D: Disk>(world: &mut World<D>, from: PageName, map: u32, place:
         (is_name (next_name world.old.store)) map place result
         (home_bytes world.old.store (find world.old.store.names from)) }
     // In flat memory the cell of that page gets a page of its own, and the tail is lost.
-    ensures changes { (spaces : Spaces) (p q : ℕ) (x : Spot) → Fits world.old spaces
-        → OwnsAlone spaces p q map place x → translation_at world.old.hat.places p q ≡ None
-        → ChangesMemory p (memory world.old spaces) (memory world.new spaces) (λ F G. G ≡
-        tails_cleared (with_own_page F p q
-        (home_bytes world.old.store (find world.old.store.names from)))
-        (tails_lost (world_seen world.old) (is_name (next_name world.old.store)))) }
+    ensures changes { OwnerBecomes world.old world.new map place
+        (λ p q F. next_cleared world.old (with_own_page F p q
+        (home_bytes world.old.store (find world.old.store.names from)))) }
 {
     let lost = world.store.next_name();
     let slot = world.anon.make();

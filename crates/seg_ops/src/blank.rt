@@ -2,15 +2,12 @@
 ghost use Rattle.seg_ops.specs.Frames.{TakesNextFrame, KeepsButNext};
 ghost use Rattle.std.specs.Prelude.{◌≡◌, ◌<◌, ◌==◌, length, false, IsSome, IsTrue, IfSome};
 ghost use Rattle.core_arena.specs.Bytes.{zeros};
-ghost use Rattle.page_hash.specs.Names.{is_name};
 ghost use Rattle.page_store.specs.Seen.{IsListedFrame, residence};
-ghost use Rattle.page_store.specs.Steps.{next_frame, next_name, after_fill};
-ghost use Rattle.vm_world.specs.Segments.{Spaces};
-ghost use Rattle.vm_world.specs.Serving.{LosesFrame, ModifiesOnly};
-ghost use Rattle.vm_world.specs.StateSteps.{PendsTails};
-ghost use Rattle.vm_world.specs.Words.{Fits, IsFit, OnlyStoreAndTails};
+ghost use Rattle.page_store.specs.Steps.{next_frame, after_fill};
+ghost use Rattle.vm_world.specs.Serving.{ModifiesOnly};
+ghost use Rattle.vm_world.specs.Words.{IsFit, OnlyStoreAndTails};
 ghost use Rattle.vm_world.specs.World.{world_seen, file_name, is_unpushed, page_exists};
-ghost use Rattle.vm_world.specs.WorldSteps.{WorldStep, stays};
+ghost use Rattle.vm_world.specs.WorldSteps.{stays};
 
 use crate::tails::pend_tail;
 use block_device::Disk;

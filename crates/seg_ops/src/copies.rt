@@ -1,19 +1,16 @@
 //! A page of anonymous memory that other places hold too is copied before it is written.
-ghost use Rattle.std.specs.Prelude.{◌≡◌, ◌<◌, ◌-◌, ℕ, length, true, Some, None, IsSome, IsTrue, slice_set};
+ghost use Rattle.std.specs.Prelude.{◌≡◌, ◌<◌, ◌-◌, ℕ, length, true, Some, IsSome, IsTrue, slice_set};
 ghost use Rattle.core_arena.specs.Bytes.{zeros};
-ghost use Rattle.hat_layer.specs.Pool.{translation_at};
-ghost use Rattle.page_hash.specs.Names.{find, is_name};
+ghost use Rattle.page_hash.specs.Names.{find};
 ghost use Rattle.page_store.specs.Seen.{IsListedFrame, residence};
-ghost use Rattle.page_store.specs.Steps.{next_frame, next_name, after_fill, home_bytes};
+ghost use Rattle.page_store.specs.Steps.{next_frame, after_fill, home_bytes};
 ghost use Rattle.anon_map.specs.Maps.{IsMapThere, places_of, with_places};
 ghost use Rattle.anon_slots.specs.Slots.{count_at, with_count, with_new_slot};
-ghost use Rattle.flat_model.specs.Step.{tails_cleared};
-ghost use Rattle.vm_world.specs.CallSteps.{ChangesMemory};
-ghost use Rattle.vm_world.specs.Segments.{Spaces, Spot};
-ghost use Rattle.vm_world.specs.Words.{memory, Fits, SameFilesAndHat};
+ghost use Rattle.vm_world.specs.Words.{memory, SameFilesAndHat};
 ghost use Rattle.vm_world.specs.World.{world_seen, slot_name, slot_in, is_unpushed};
-ghost use Rattle.vm_world.specs.WorldSteps.{tails_lost};
-ghost use Rattle.seg_ops.specs.Slots.{MakesHome, OwnsAlone};
+ghost use Rattle.seg_ops.specs.Slots.{MakesHome};
+ghost use Rattle.seg_ops.specs.Owners.{IsOwned, OwnerBecomes};
+ghost use Rattle.seg_ops.specs.Frames.{next_cleared};
 
 use crate::anon::{make_copy, make_zero};
 use crate::empties::leave_slot;
@@ -33,9 +30,7 @@ pub fn copy_slot<D: Disk>(world: &mut World<D>, map: u32, place: u32, slot: u32)
         × (residence world.old.store (slot_name slot) ≡ Residence.Home frame)
         × (¬ IsListedFrame world.old.store frame) }
     requires available { IsSome (next_frame world.old.store) }
-    requires owned { (spaces : Spaces) × (p : ℕ) × (q : ℕ) × (x : Spot)
-        × Fits world.old spaces × OwnsAlone spaces p q map place x
-        × (translation_at world.old.hat.places p q ≡ None) }
+    requires owned { IsOwned world.old map place }
     // The old slot is counted once less, the new one is made for the place, and its page is home, in the frame that was taken;
     // the tail of the file whose last page lost the frame is pending.
     ensures anon { world.new.anon ≡ with_new_slot
@@ -49,11 +44,8 @@ pub fn copy_slot<D: Disk>(world: &mut World<D>, map: u32, place: u32, slot: u32)
     // What stays.
     ensures rest { SameFilesAndHat world.old world.new }
     // Flat memory loses that tail, and nothing else changes.
-    ensures changes { (spaces : Spaces) (p q : ℕ) (x : Spot) → Fits world.old spaces
-        → OwnsAlone spaces p q map place x → translation_at world.old.hat.places p q ≡ None
-        → ChangesMemory p (memory world.old spaces) (memory world.new spaces) (λ F G. G ≡
-        tails_cleared F
-        (tails_lost (world_seen world.old) (is_name (next_name world.old.store)))) }
+    ensures changes { OwnerBecomes world.old world.new map place
+        (λ p q F. next_cleared world.old F) }
 {
     leave_slot(world, map, place, slot);
     make_copy(
@@ -78,9 +70,7 @@ pub fn zero_slot<D: Disk>(world: &mut World<D>, map: u32, place: u32, slot: u32)
     requires absent { residence world.old.store (slot_name slot) ≡ Residence.Absent }
     requires blank { IsTrue (is_unpushed world.old.files world.old.anon (slot_name slot)) }
     requires available { IsSome (next_frame world.old.store) }
-    requires owned { (spaces : Spaces) × (p : ℕ) × (q : ℕ) × (x : Spot)
-        × Fits world.old spaces × OwnsAlone spaces p q map place x
-        × (translation_at world.old.hat.places p q ≡ None) }
+    requires owned { IsOwned world.old map place }
     // The old slot is counted once less, the new one is made for the place, and its page is home, in the frame that was taken;
     // the tail of the file whose last page lost the frame is pending.
     ensures anon { world.new.anon ≡ with_new_slot
@@ -93,11 +83,8 @@ pub fn zero_slot<D: Disk>(world: &mut World<D>, map: u32, place: u32, slot: u32)
     // What stays.
     ensures rest { SameFilesAndHat world.old world.new }
     // Flat memory loses that tail, and nothing else changes.
-    ensures changes { (spaces : Spaces) (p q : ℕ) (x : Spot) → Fits world.old spaces
-        → OwnsAlone spaces p q map place x → translation_at world.old.hat.places p q ≡ None
-        → ChangesMemory p (memory world.old spaces) (memory world.new spaces) (λ F G. G ≡
-        tails_cleared F
-        (tails_lost (world_seen world.old) (is_name (next_name world.old.store)))) }
+    ensures changes { OwnerBecomes world.old world.new map place
+        (λ p q F. next_cleared world.old F) }
 {
     leave_slot(world, map, place, slot);
     make_zero(world, map, place)

@@ -6,7 +6,6 @@ ghost use Rattle.page_store.specs.Seen.{residence};
 ghost use Rattle.page_store.specs.Steps.{after_abort};
 ghost use Rattle.anon_map.specs.Maps.{IsMapThere, places_of, with_places};
 ghost use Rattle.anon_slots.specs.Slots.{count_at, with_count};
-ghost use Rattle.vm_world.specs.CallSteps.{ChangesMemory};
 ghost use Rattle.vm_world.specs.Segments.{Spaces, Spot};
 ghost use Rattle.vm_world.specs.Serving.{ModifiesNone};
 ghost use Rattle.vm_world.specs.Words.{memory, Fits, IsFit, OnlySlotsAndMaps, OnlyAnonymous};
@@ -14,6 +13,7 @@ ghost use Rattle.vm_world.specs.World.{world_seen, slot_name, slot_in};
 ghost use Rattle.seg_ops.specs.Empties.{EmptiesPlace, IsUnloadedZero, LeavesSlot};
 ghost use Rattle.seg_ops.specs.OwnPages.{OwnPagesLaw, OwnShownLaw, without_own_page};
 ghost use Rattle.seg_ops.specs.Slots.{OwnsAlone};
+ghost use Rattle.seg_ops.specs.Owners.{OwnerBecomes};
 
 use block_device::Disk;
 use page_store::{PageName, Residence, SWAP_OBJECT};
@@ -58,10 +58,8 @@ pub fn leave_slot<D: Disk>(world: &mut World<D>, map: u32, place: u32, slot: u32
         → OwnsAlone spaces p q map place x → translation_at world.old.hat.places p q ≡ None
         → EmptiesPlace (world_seen world.old) (world_seen world.new) spaces map place slot }
     // In flat memory the cell of that page loses its own page, and nothing else changes.
-    ensures changes { (spaces : Spaces) (p q : ℕ) (x : Spot) → Fits world.old spaces
-        → OwnsAlone spaces p q map place x → translation_at world.old.hat.places p q ≡ None
-        → ChangesMemory p (memory world.old spaces) (memory world.new spaces)
-        (λ F G. G ≡ without_own_page F p q) }
+    ensures changes { OwnerBecomes world.old world.new map place
+        (λ p q F. without_own_page F p q) }
 {
     take_out(world, map, place, slot);
 }
@@ -93,10 +91,8 @@ pub fn drop_slot<D: Disk>(world: &mut World<D>, map: u32, place: u32, slot: u32)
         → IsUnloadedZero world.old.hat.places spaces z map
         → EmptiesPlace (world_seen world.old) (world_seen world.new) spaces map place slot }
     // In flat memory the cell of that page loses its own page, and nothing else changes.
-    ensures changes { (spaces : Spaces) (p q : ℕ) (x : Spot) → Fits world.old spaces
-        → OwnsAlone spaces p q map place x → translation_at world.old.hat.places p q ≡ None
-        → ChangesMemory p (memory world.old spaces) (memory world.new spaces)
-        (λ F G. G ≡ without_own_page F p q) }
+    ensures changes { OwnerBecomes world.old world.new map place
+        (λ p q F. without_own_page F p q) }
 {
     take_out(world, map, place, slot);
     let page = PageName {

@@ -1,17 +1,14 @@
 //! A frame is freed before it is taken for an anonymous page.
 ghost use Rattle.seg_ops.specs.Frames.{TakesNextFrame, KeepsButNext};
 ghost use Rattle.std.specs.Prelude.{◌≡◌, ℕ, None, IfSome, MatchOption};
-ghost use Rattle.page_hash.specs.Names.{is_name};
 ghost use Rattle.page_hash.specs.declared.PageName.{PageName};
 ghost use Rattle.page_store.specs.Laws.{Aborts};
 ghost use Rattle.page_store.specs.Seen.{IsListedFrame, residence};
 ghost use Rattle.page_store.specs.Steps.{next_frame, next_name, after_abort};
-ghost use Rattle.vm_world.specs.Segments.{Spaces};
 ghost use Rattle.vm_world.specs.Serving.{ModifiesNone};
-ghost use Rattle.vm_world.specs.StateSteps.{PendsTails};
-ghost use Rattle.vm_world.specs.Words.{Fits, IsFit, OnlyStoreAndTails};
+ghost use Rattle.vm_world.specs.Words.{IsFit, OnlyStoreAndTails};
 ghost use Rattle.vm_world.specs.World.{world_seen};
-ghost use Rattle.vm_world.specs.WorldSteps.{WorldStep, stays};
+ghost use Rattle.vm_world.specs.WorldSteps.{stays};
 
 use crate::tails::pend_tail;
 use block_device::Disk;

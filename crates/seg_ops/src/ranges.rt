@@ -1,18 +1,17 @@
 //! Ranges of places of anon maps that are emptied.
 ghost use Rattle.std.specs.Prelude.{◌≡◌, ◌<◌, ◌≤◌, ◌-◌, ℕ, length, None, slice_set};
-ghost use Rattle.hat_layer.specs.Pool.{translation_at};
 ghost use Rattle.page_hash.specs.declared.PageName.{PageName};
 ghost use Rattle.page_store.specs.Seen.{residence};
 ghost use Rattle.anon_map.specs.Maps.{IsMapThere, places_of, with_places};
 ghost use Rattle.anon_slots.specs.Slots.{count_at};
 ghost use Rattle.vm_world.specs.CallSteps.{ChangesMemory};
-ghost use Rattle.vm_world.specs.Segments.{Spaces, Spot};
+ghost use Rattle.vm_world.specs.Segments.{Spaces};
 ghost use Rattle.vm_world.specs.Serving.{ModifiesNone};
 ghost use Rattle.vm_world.specs.Words.{memory, Fits, IsFit, OnlyAnonymous};
 ghost use Rattle.vm_world.specs.World.{world_seen};
 ghost use Rattle.seg_ops.specs.Empties.{EmptiesPlaces, IsUnloadedZero, OwnsPlaces, places_emptied};
 ghost use Rattle.seg_ops.specs.OwnPages.{without_own_page, without_own_pages};
-ghost use Rattle.seg_ops.specs.Slots.{OwnsAlone};
+ghost use Rattle.seg_ops.specs.Owners.{OwnerBecomes};
 
 use crate::empties::{drop_slot, leave_slot};
 use block_device::Disk;
@@ -36,10 +35,8 @@ pub(crate) fn empty_place<D: Disk>(world: &mut World<D>, map: u32, place: u32)
     ensures modified { ModifiesNone (world_seen world.old) (world_seen world.new) }
     ensures rest { OnlyAnonymous world.old world.new }
     // In flat memory the cell of its page loses its own page, and nothing else changes.
-    ensures changes { (spaces : Spaces) (p q : ℕ) (x : Spot) → Fits world.old spaces
-        → OwnsAlone spaces p q map place x → translation_at world.old.hat.places p q ≡ None
-        → ChangesMemory p (memory world.old spaces) (memory world.new spaces)
-        (λ F G. G ≡ without_own_page F p q) }
+    ensures changes { OwnerBecomes world.old world.new map place
+        (λ p q F. without_own_page F p q) }
     // A zero object's is emptied alone.
     ensures zeros { (spaces : Spaces) (z : ℕ) → Fits world.old spaces
         → IsUnloadedZero world.old.hat.places spaces z map

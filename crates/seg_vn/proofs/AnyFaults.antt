@@ -20,6 +20,7 @@ use Rattle.vm_world.specs.Segments.{Spot, Spaces}
 use Rattle.vm_world.specs.Serving.{TakesFrames, LosesFrame, AreReplaced, ModifiesOnly}
 use Rattle.vm_world.specs.StateSteps.{PendsTails}
 use Rattle.vm_world.specs.Wants.{accessed_page, shows_page}
+use Rattle.vm_world.specs.TranslationsFit.{MayWriteInPlace}
 use Rattle.vm_world.specs.World.{World, AllTell}
 use Rattle.vm_world.specs.WorldSteps.{WorldStep, stays, tails_lost}
 use Rattle.vm_world.proofs.Callers.{same-modes}
@@ -111,9 +112,9 @@ pub serves-made : (old before freed made new : World) (spaces : Spaces) (p q : �
     → ChangesMemory p (memory_of freed spaces) (memory_of made spaces) (λ F G. G ≡ f F)
     → ((born : set.FinSet nat_cmp) (notes : Notes) → NotesFit freed notes → AllTell freed notes → IsFlat (flat_memory (memory_of freed spaces) born notes)
     → f (flat_memory (memory_of freed spaces) born notes) ≡ after_fault (Ok fault.Loaded) write (flat_memory (memory_of freed spaces) born notes) p q)
-    → KeepsPages made new spaces → translation_at new.hat.places p q ≡ Some (fresh_translation p q frame writable) → (write ≡ true → writable ≡ true) → SlotsAfter old new x write (Ok fault.Loaded)
+    → KeepsPages made new spaces → translation_at new.hat.places p q ≡ Some (fresh_translation p q frame writable) → (write ≡ true → writable ≡ true) → (MayWriteInPlace new.anon new.maps x → writable ≡ true) → SlotsAfter old new x write (Ok fault.Loaded)
     → IsTrue (shows_page old x) → AreReplaced old new (is_name (next_name before.store)) → ModifiesOnly (FaultModifies new x (Ok fault.Loaded)) old new → ServesFault (memory_of old spaces) (memory_of new spaces) pending more p q x write (Ok fault.Loaded)
-serves-made old before freed made new spaces p q x write writable pending more frame f fits keeps names files frees pends took makes same shows loaded lets slots some replaced modified = record {
+serves-made old before freed made new spaces p q x write writable pending more frame f fits keeps names files frees pends took makes same shows loaded lets opens slots some replaced modified = record {
   mid = freed;
   first = takes-later old before freed spaces pending more fits keeps names files (takes-next before freed spaces pending more frees pends took);
   acts = call_rule.joined p (memory_of freed spaces) (memory_of made spaces) (memory_of new spaces) (λ F. after_fault (Ok fault.Loaded) write F p q) (λ F. F)
@@ -125,7 +126,7 @@ serves-made old before freed made new spaces p q x write writable pending more f
   past = sym (ap not some);
   replaced = replaced;
   modified = modified;
-  means = record { translation = fresh_translation p q frame writable; loaded = loaded; writable = lets };
+  means = record { lets = record { translation = fresh_translation p q frame writable; loaded = loaded; writable = lets }; opens = opens };
 }
 
 -- where nothing follows

@@ -130,7 +130,10 @@ module _ (old mid : World) (spaces : Spaces) (p q : ℕ) (x : Spot) (write writa
       (λ born notes. kept-in-place new spaces p q x write writable born notes keeps.memory place.here place.lets (λ writes. in-place-still old new x (maps' ∙ maps) (anon' ∙ anon) (place.in_place writes)))
       (slots-kept old new x write (due-none old.anon old.maps x write name place.shows (λ writes. place.in_place (place.lets writes))) (anon' ∙ anon) (maps' ∙ maps))
       (loaded-modifies old mid new x name b.modified modified (ap (λ (ms : List (Option maps_of.Map)). shown_name ms x) (maps' ∙ maps) ∙ place.shows) anon')
-      (record { translation = fresh_translation p q frame writable; loaded = loaded; writable = place.lets })
+      (record {
+        lets = record { translation = fresh_translation p q frame writable; loaded = loaded; writable = place.lets };
+        opens = λ is. place.opens (in-place-still new old x (sym (maps' ∙ maps)) (sym (anon' ∙ anon)) is);
+      })
 
   shows-there : shown_name mid.maps x ≡ Some name
   shows-there = ap (λ (ms : List (Option maps_of.Map)). shown_name ms x) maps ∙ place.shows
@@ -296,6 +299,21 @@ zeros-may w made spaces p q x m i s write writable fits z set once = record {
       | inr zero ↦ absurd (let e : object.NewZero ≡ object.Zero zero.2 = sym is ∙ zero.3 in cc)
     ]
 
+-- which may be written where it is exactly where the place that was made is its own, if it is private
+pub zeros-open : (w : World) (spaces : Spaces) (p q : ℕ) (x : Spot) (m i s : ℕ) (write writable : Bool) (anon : AnonSlotsSeen) (maps : List (Option maps_of.Map)) → MemoryFits (memory_of w spaces) → ZerosShown w spaces p q x m i write writable
+    → maps ≡ with_places w.maps m (slice_set (places_of w.maps m) i (Some s)) → MayWriteInPlace anon maps x → writable ≡ true
+zeros-open w spaces p q x m i s write writable anon maps fits z set may = z.opens (
+  may.prot,
+  λ private. elim z.zeros.new [
+    | inl new ↦ new.0
+    | inr zero ↦ absurd (
+        let a = may.alone private in
+        let apart : x.0.own ≡ Some m → x.1 ≡ i → ⊥ = λ own at. let e : object.Zero zero.2 ≡ object.NewZero = sym zero.3 ∙ z.zeros.zero p q x z.here own at in cc in
+        let same : own_slot maps x ≡ None = ap (λ (ms : List (Option maps_of.Map)). own_slot ms x) set ∙ own-else w.maps m i x.1 (Some s) x.0.own z.zeros.within apart ∙ z.bare in
+        let none : None ≡ Some a.0 = sym same ∙ a.1 in cc)
+  ],
+)
+
 -- and flat memory stays, whether the page is shared or new zero memory
 pub zeros-kept : (w : World) (spaces : Spaces) (p q : ℕ) (x : Spot) (write writable : Bool) (born : set.FinSet nat_cmp) (notes : Notes) → MemoryFits (memory_of w spaces) → spot_at spaces p q ≡ Some x
     → (write ≡ true → writable ≡ true) → (writable ≡ true → IsTrue (can_write x.0.prot) × (x.0.kind ≡ Private → x.0.object ≡ object.NewZero))
@@ -311,14 +329,15 @@ zeros-kept w spaces p q x true writable born notes fits here lets in_place = by_
 
 -- THE PAGE OF AN OBJECT, where it is shown as it is: to a shared place, or to a load.
 pub object-place : (w : World) (spaces : Spaces) (p q : ℕ) (x : Spot) (name : PageName) (write writable : Bool) → spot_at spaces p q ≡ Some x → own_slot w.maps x ≡ None → object_name w.maps x.0.shown (x.0.index + x.1) x.0.object ≡ Some name
-    → IsTrue (object_has w x.0.shown (x.0.index + x.1) x.0.object) → IsTrue (cond write (can_write x.0.prot) (can_read x.0.prot)) → (writable ≡ true → MayWriteInPlace w.anon w.maps x) → (write ≡ true → writable ≡ true)
+    → IsTrue (object_has w x.0.shown (x.0.index + x.1) x.0.object) → IsTrue (cond write (can_write x.0.prot) (can_read x.0.prot)) → (writable ≡ true → MayWriteInPlace w.anon w.maps x) → (MayWriteInPlace w.anon w.maps x → writable ≡ true) → (write ≡ true → writable ≡ true)
     → PagePlace w spaces p q x name write writable
-object-place w spaces p q x name write writable here bare is has allowed in_place lets = record {
+object-place w spaces p q x name write writable here bare is has allowed in_place opens lets = record {
   here = here;
   shows = ap (λ (o : Option ℕ). option_or (option_map slot_name o) (object_name w.maps x.0.shown (x.0.index + x.1) x.0.object)) bare ∙ is;
   some = shows-object w x has;
   allowed = either-allowed write (can_read x.0.prot) (can_write x.0.prot) allowed;
   in_place = in_place;
+  opens = opens;
   lets = lets;
 }
 

@@ -111,7 +111,7 @@ serves-after old freed made new spaces p q x pending more frame first replaced s
   past = sym (ap not some);
   replaced = replaced;
   modified = modified;
-  means = record { translation = fresh_translation p q frame true; loaded = loaded; writable = λ is. refl };
+  means = record { lets = record { translation = fresh_translation p q frame true; loaded = loaded; writable = λ is. refl }; opens = λ is. refl };
 }
 
 -- the page of the slot that was made is shown there, ..

@@ -28,22 +28,24 @@ use Rattle.seg_vn.specs.Shown.{ZerosPlace}
 use Rattle.vm_world.specs.Serving.{TakesFrames}
 use Rattle.page_hash.specs.Names.{name_at}
 
--- A place shows this page, which a translation may lead to: a writable one only where the page may be written where it is; and a store's is.
+-- A place shows this page, which a translation may lead to: a writable one exactly where the page may be written where it is; and a store's is.
 pub record PagePlace (w : World) (spaces : Spaces) (p q : ℕ) (x : Spot) (name : PageName) (write writable : Bool) : Type 0 where
   pub here : spot_at spaces p q ≡ Some x
   pub shows : shown_name w.maps x ≡ Some name
   pub some : IsTrue (shows_page w x)
   pub allowed : IsTrue (can_read x.0.prot || can_write x.0.prot)
   pub in_place : writable ≡ true → MayWriteInPlace w.anon w.maps x
+  pub opens : MayWriteInPlace w.anon w.maps x → writable ≡ true
   pub lets : write ≡ true → writable ≡ true
 
--- A place shows zeros, for which a place of a map is made; where a writable translation is to be loaded, its own one, if it is private.
+-- A place shows zeros, for which a place of a map is made; a writable translation is to be loaded exactly where that is its own one, if it is private.
 pub record ZerosShown (w : World) (spaces : Spaces) (p q : ℕ) (x : Spot) (m i : ℕ) (write writable : Bool) : Type 0 where
   pub here : spot_at spaces p q ≡ Some x
   pub bare : own_slot w.maps x ≡ None
   pub zeros : ZerosPlace w spaces x m i
   pub allowed : IsTrue (can_read x.0.prot || can_write x.0.prot)
   pub in_place : writable ≡ true → IsTrue (can_write x.0.prot) × (x.0.kind ≡ Private → x.0.object ≡ object.NewZero)
+  pub opens : IsTrue (can_write x.0.prot) × (x.0.kind ≡ Private → x.0.object ≡ object.NewZero) → writable ≡ true
   pub lets : write ≡ true → writable ≡ true
 
 -- A store to a place whose page isn't its own alone: a private place, with its map and what that holds there: nothing, or a slot that other places hold

@@ -1,10 +1,9 @@
 //! Faults of segments of any mapping.
-ghost use Rattle.std.specs.Prelude.{◌≡◌, ◌≤◌, ◌<◌, ◌-◌, None, Some, IsTrue, if◌then◌else◌};
-ghost use Rattle.vm_types.specs.Prot.{can_read, can_write};
+ghost use Rattle.std.specs.Prelude.{◌≡◌, ◌≤◌, ◌<◌, ◌-◌, None, Some, if◌then◌else◌};
 ghost use Rattle.vm_world.specs.Segments.{Spaces, spot_at, own_slot};
 ghost use Rattle.vm_world.specs.Words.{Fits, IsKnown, TwoAreHome, SameFiles};
 ghost use Rattle.vm_world.specs.World.{world_seen};
-ghost use Rattle.seg_ops.specs.Faults.{FaultServed};
+ghost use Rattle.seg_ops.specs.Faults.{FaultServed, FaultServedAt, IsAllowed, IsFitAt};
 ghost use Rattle.seg_vn.specs.Shown.{ZerosPlace};
 
 use crate::any_faults::{fault_page, fault_zeros};
@@ -28,16 +27,12 @@ impl VnSeg {
         slot: u32,
         write: bool,
     ) -> Result<Fault, Wants>
-        requires allowed { IsTrue
-            (if write then can_write self.now.prot else can_read self.now.prot) }
+        requires allowed { IsAllowed write self.now.prot }
         requires own { own_slot world.old.maps (self.now, at) ≡ Some slot }
         requires home { TwoAreHome world.old.store }
-        requires fits { (spaces : Spaces) × Fits world.old spaces
-            × (spot_at spaces space page ≡ Some (self.now, at)) }
+        requires fits { IsFitAt world.old space page (self.now, at) }
         requires noted { IsKnown world.old }
-        ensures serves { (spaces : Spaces) → Fits world.old spaces
-            → spot_at spaces space page ≡ Some (self.now, at)
-            → FaultServed world.old world.new spaces space page (self.now, at) write result }
+        ensures serves { FaultServedAt world.old world.new space page (self.now, at) write result }
         // What stays.
         ensures rest { SameFiles world.old world.new }
     {
@@ -66,8 +61,7 @@ impl VnSeg {
         place: u32,
         write: bool,
     ) -> Result<Fault, Wants>
-        requires allowed { IsTrue
-            (if write then can_write self.now.prot else can_read self.now.prot) }
+        requires allowed { IsAllowed write self.now.prot }
         requires bare { own_slot world.old.maps (self.now, at) ≡ None }
         requires home { TwoAreHome world.old.store }
         requires fits { (spaces : Spaces) × Fits world.old spaces
@@ -103,16 +97,12 @@ impl VnSeg {
         at: u32,
         write: bool,
     ) -> Result<Fault, Wants>
-        requires allowed { IsTrue
-            (if write then can_write self.now.prot else can_read self.now.prot) }
+        requires allowed { IsAllowed write self.now.prot }
         requires bare { own_slot world.old.maps (self.now, at) ≡ None }
         requires home { TwoAreHome world.old.store }
-        requires fits { (spaces : Spaces) × Fits world.old spaces
-            × (spot_at spaces space page ≡ Some (self.now, at)) }
+        requires fits { IsFitAt world.old space page (self.now, at) }
         requires noted { IsKnown world.old }
-        ensures serves { (spaces : Spaces) → Fits world.old spaces
-            → spot_at spaces space page ≡ Some (self.now, at)
-            → FaultServed world.old world.new spaces space page (self.now, at) write result }
+        ensures serves { FaultServedAt world.old world.new space page (self.now, at) write result }
         // What stays.
         ensures rest { SameFiles world.old world.new }
     {
@@ -145,16 +135,11 @@ impl VnSeg {
         write: bool,
     ) -> Result<Fault, Wants>
         requires low { first ≤ page }
-        requires allowed { IsTrue
-            (if write then can_write self.now.prot else can_read self.now.prot) }
+        requires allowed { IsAllowed write self.now.prot }
         requires home { TwoAreHome world.old.store }
-        requires fits { (spaces : Spaces) × Fits world.old spaces
-            × (spot_at spaces space page ≡ Some (self.now, page - first)) }
+        requires fits { IsFitAt world.old space page (self.now, page - first) }
         requires noted { IsKnown world.old }
-        ensures serves { (spaces : Spaces) → Fits world.old spaces
-            → spot_at spaces space page ≡ Some (self.now, page - first)
-            → FaultServed world.old world.new spaces space page (self.now, page - first)
-            write result }
+        ensures serves { FaultServedAt world.old world.new space page (self.now, page - first) write result }
         // What stays.
         ensures rest { SameFiles world.old world.new }
     {

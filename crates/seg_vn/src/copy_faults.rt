@@ -12,9 +12,9 @@ ghost use Rattle.vm_world.specs.Segments.{Spaces, Spot};
 ghost use Rattle.vm_world.specs.Serving.{ModifiesNone};
 ghost use Rattle.vm_world.specs.Words.{memory, Fits, IsFit, IsKnown, OneIsHome, OneIsHomeBeside, TwoAreHome, OnlyFrames, SameFiles, SameFilesAndHat};
 ghost use Rattle.vm_world.specs.World.{world_seen, slot_name, slot_in, is_unpushed, page_exists};
-ghost use Rattle.seg_ops.specs.Slots.{OwnsAlone};
 ghost use Rattle.seg_vn.specs.AnyPlaces.{CopyPlace, GetsOwn, OwnSpot, ShowsZeros, TakesNext};
 ghost use Rattle.seg_ops.specs.Faults.{FaultServed};
+ghost use Rattle.seg_ops.specs.Owners.{IsOwned};
 
 use crate::any_pages::is_unpushed;
 use crate::segment::load_page;
@@ -41,9 +41,7 @@ fn copy_into<D: Disk>(
     requires source { (frame : ℕ) × (residence world.old.store name ≡ Residence.Home frame)
         × (¬ IsListedFrame world.old.store frame) }
     requires available { IsSome (next_frame world.old.store) }
-    requires owned { (spaces : Spaces) × (p : ℕ) × (q : ℕ) × (x : Spot)
-        × Fits world.old spaces × OwnsAlone spaces p q map place x
-        × (translation_at world.old.hat.places p q ≡ None) }
+    requires owned { IsOwned world.old map place }
     ensures own { GetsOwn (world_seen world.old) (world_seen world.new)
         world.old.pending world.new.pending map place slot
         (home_bytes world.old.store (find world.old.store.names name)) result }
@@ -65,9 +63,7 @@ fn zeros_into<D: Disk>(world: &mut World<D>, map: u32, place: u32, slot: Option<
         × (residence world.old.store (slot_name s) ≡ Residence.Absent)
         × IsTrue (is_unpushed world.old.files world.old.anon (slot_name s))) }
     requires available { IsSome (next_frame world.old.store) }
-    requires owned { (spaces : Spaces) × (p : ℕ) × (q : ℕ) × (x : Spot)
-        × Fits world.old spaces × OwnsAlone spaces p q map place x
-        × (translation_at world.old.hat.places p q ≡ None) }
+    requires owned { IsOwned world.old map place }
     ensures own { GetsOwn (world_seen world.old) (world_seen world.new)
         world.old.pending world.new.pending map place slot zeros result }
     // What stays.

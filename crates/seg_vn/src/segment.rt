@@ -3,7 +3,7 @@ ghost use Rattle.std.specs.Prelude.{◌≡◌, ℕ, ◌+◌, ◌-◌, ◌<◌, �
 ghost use Rattle.hat_layer.specs.Pool.{translation_at, fresh_translation};
 ghost use Rattle.page_hash.specs.declared.PageName.{PageName};
 ghost use Rattle.page_store.specs.Seen.{residence};
-ghost use Rattle.vm_types.specs.Prot.{can_read, can_write, is_within};
+ghost use Rattle.vm_types.specs.Prot.{is_within};
 ghost use Rattle.vm_world.specs.Segments.{Spaces};
 ghost use Rattle.vm_world.specs.Serving.{ModifiesNone};
 ghost use Rattle.vm_world.specs.Words.{Fits, IsFit, KeepsPages, OnlyStoreAndHat};

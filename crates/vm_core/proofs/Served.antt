@@ -315,7 +315,7 @@ access-slots old new p (Load addr n) a access slots = slots (page addr) refl
 access-slots old new p (Store addr n v) a access slots = slots (page addr) refl
 access-slots old new p call a access slots = absurd access
 
-pub access-hit : (old : Memory) (new : World) (p : ℕ) (call : Call) (a : Attempt) → IsAccess call → ((q : ℕ) → accessed_page call ≡ Some q → IsHitWhereDone old.world new p q (is_store call) a) → IsHitAfterCall old new p call a
+pub access-hit : (old : Memory) (new : World) (p : ℕ) (call : Call) (a : Attempt) → IsAccess call → ((q : ℕ) → accessed_page call ≡ Some q → IsHitWhereDone old new p q (is_store call) a) → IsHitAfterCall old new p call a
 access-hit old new p (Load addr n) a access hit = hit (page addr) refl
 access-hit old new p (Store addr n v) a access hit = hit (page addr) refl
 access-hit old new p call a access hit = absurd access

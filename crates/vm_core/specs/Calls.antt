@@ -61,10 +61,10 @@ SlotsAfterCall old new p (Fork child) answer = SlotsAfterFork old new p answer
 SlotsAfterCall old new p call answer = (slot : ℕ) → count_at new.anon slot ≤ count_at old.world.anon slot
 
 -- A load that answers a word and a store that is done, whose page had a translation that lets them, leave all but that translation's bits, and the bytes of
--- frames.
+-- frames. Where it had none, the one that it has then lets a store where the page may be written where it is.
 abbrev pub IsHitAfterCall : Memory → World → ℕ → Call → Attempt → Type 0
-IsHitAfterCall old new p (Load a n) answer = IsHitWhereDone old.world new p (page a) false answer
-IsHitAfterCall old new p (Store a n v) answer = IsHitWhereDone old.world new p (page a) true answer
+IsHitAfterCall old new p (Load a n) answer = IsHitWhereDone old new p (page a) false answer
+IsHitAfterCall old new p (Store a n v) answer = IsHitWhereDone old new p (page a) true answer
 IsHitAfterCall old new p call answer = Unit {0}
 
 -- After a load that answers a word, and a store that is done, the page has a translation to the home frame of the page that its place shows.

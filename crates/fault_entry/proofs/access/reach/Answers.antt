@@ -50,7 +50,7 @@ returns-in-Some-frame_for-clause-serves g c = λ spaces fits get.
     let pending : c.frame_for.new.world.pending ≡ c.args.world.now.pending = ap (λ v. v.pending) c.frame_for.ensures.rest in
     subst (λ (k : ℕ). ServesAccess (memory_of old spaces) (memory_of new spaces) c.args.world.now.pending k c.args.process c.args.addr c.args.size c.args.write (access.Reached c.in-Some-frame_for.frame)) (sym pending)
     (hit-access old spaces c.args.world.now.pending c.args.process c.args.addr c.args.size c.args.write fits new (spot g at) c.in-Some-frame_for.frame c.if-addr-size-ne0.false
-    (here g at spaces get) (sym (allowed g at) ∙ c.if-not-may_access.false) (c.frame_for.ensures.keeps spaces fits) (ap world_seen c.frame_for.ensures.rest) c.in-Some-frame_for.ensures.places c.in-Some-frame_for.ensures.noted c.in-Some-frame_for.ensures.modified)
+    (here g at spaces get) (sym (allowed g at) ∙ c.if-not-may_access.false) (c.frame_for.ensures.keeps spaces fits) (ap world_seen c.frame_for.ensures.rest) c.in-Some-frame_for.ensures.places c.in-Some-frame_for.ensures.noted c.in-Some-frame_for.ensures.modified (sym c.frame_for.ensures.frame ∙ c.in-Some-frame_for.is))
 
 pub fault_in-requires-clause-low : goal.fault_in-requires-clause-low
 fault_in-requires-clause-low g c = found-low c.args.space.now.parts (page c.args.addr) (part c.in-Some.first c.in-Some._pages c.in-Some.segment.now) c.in-Some.ensures.found

@@ -1,4 +1,4 @@
-use Rattle.std.proofs.Common.{◌≡◌, ℕ, Bool, true, cond, Some, None, length, refl, sym, ap, ◌∙◌, inl, inr, subst}
+use Rattle.std.proofs.Common.{◌≡◌, ℕ, Bool, true, false, cond, Some, None, length, refl, sym, ap, ◌∙◌, inl, inr, subst}
 use Rattle.std.specs.Prelude.{option_and_then}
 use Rattle.vm_types.specs.Prot.{can_read, can_write}
 use Rattle.vm_types.specs.declared.call.Object.{Object}
@@ -8,7 +8,7 @@ use Rattle.vm_world.specs.Segments.{Spot}
 use Rattle.vm_world.specs.World.{world_seen, slot_in}
 use Rattle.seg_ops.proofs.StillSteps.{memory_of}
 use Rattle.seg_ops.specs.Faults.{ServesFault}
-use Rattle.seg_vn.proofs.AnyPlaces.{own-there, private-has, object-fits}
+use Rattle.seg_vn.proofs.AnyPlaces.{own-private, own-there, private-has, object-fits}
 use Rattle.seg_vn.proofs.AnySteps.{shown-bare, shows-object}
 use Rattle.seg_vn.proofs.FilePlaces.{either-allowed, write-allowed}
 use Rattle.seg_vn.proofs.segment.VnSeg.fault_empty.Goals as goal
@@ -55,7 +55,48 @@ returns-in_default-clause-serves g c = λ spaces fits here zeros.
         sym writable ∙ writes,
         λ private. let o = private-has w spaces c.args.space c.args.page x fits here private in absurd (let z : None ≡ Some o.0 = sym none ∙ o.1 in cc),
       );
+      opens = λ may. writable ∙ may.0;
       lets = λ write. writable ∙ write-allowed c.args.write (can_read x.0.prot) (can_write x.0.prot) c.requires.allowed write;
+    })
+
+-- new zero memory of a private mapping
+pub returns-in_default-shown-clause-serves : goal.returns-in_default-shown-clause-serves
+returns-in_default-shown-clause-serves g c = λ spaces fits here zeros.
+    let w = world_seen c.args.world.now in
+    let x : Spot = (c.args.self.now, c.args.at) in
+    let writable : c.can_write-writable.result ≡ can_write x.0.prot = c.can_write-writable.ensures ∙ ap can_write c.prot.ensures in
+    let none : x.0.shown ≡ None = sym c.shown.ensures ∙ c.in_default-shown.is in
+    c.fault_zeros-in_default-shown.ensures.serves spaces x c.args.write fits (record {
+      here = here;
+      bare = c.requires.bare;
+      zeros = zeros;
+      allowed = either-allowed c.args.write (can_read x.0.prot) (can_write x.0.prot) c.requires.allowed;
+      in_place = λ writes. (
+        sym writable ∙ writes,
+        λ private. elim zeros.new [ inl new ↦ new.0 | inr zero ↦ absurd (let z : None ≡ Some c.args.map = sym none ∙ zero.0 in cc) ],
+      );
+      opens = λ may. writable ∙ may.0;
+      lets = λ write. writable ∙ write-allowed c.args.write (can_read x.0.prot) (can_write x.0.prot) c.requires.allowed write;
+    })
+
+-- a load of a zero object's page that a private place shows, which isn't its own
+pub returns-then-not-write-clause-serves : goal.returns-then-not-write-clause-serves
+returns-then-not-write-clause-serves g c = λ spaces fits here zeros.
+    let w = world_seen c.args.world.now in
+    let x : Spot = (c.args.self.now, c.args.at) in
+    let read : c.args.write ≡ false = c.if-not-write.true in
+    let shown : x.0.shown ≡ Some c.in-Some-shown._shown = sym c.shown.ensures ∙ c.in-Some-shown.is in
+    c.fault_zeros-then-not-write.ensures.serves spaces x c.args.write fits (record {
+      here = here;
+      bare = c.requires.bare;
+      zeros = zeros;
+      allowed = either-allowed c.args.write (can_read x.0.prot) (can_write x.0.prot) c.requires.allowed;
+      in_place = λ writes. absurd (let z : false ≡ true = writes in cc);
+      opens = λ may. absurd (
+          let new = may.1 (own-private w spaces c.args.space c.args.page x fits here c.in-Some.own (sym c.own.ensures ∙ c.in-Some.is)) in
+          let fit = subst (λ (ob : Object). ObjectFits (length w.files.files) w.maps x.0 ob) new (object-fits w spaces c.args.space c.args.page x fits here) in
+          let z : None ≡ Some c.in-Some-shown._shown = sym fit.1 ∙ shown in cc);
+      lets = λ write. absurd (let z : false ≡ true = sym read ∙ write in cc);
     })
 
 pub returns-clause-serves : goal.returns-clause-serves

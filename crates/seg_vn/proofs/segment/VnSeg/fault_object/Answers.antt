@@ -1,4 +1,4 @@
-use Rattle.std.proofs.Common.{◌≡◌, ℕ, ◌+◌, Bool, true, cond, Option, Some, None, refl, sym, ap, ◌∙◌, subst}
+use Rattle.std.proofs.Common.{◌≡◌, ℕ, ◌+◌, Bool, true, false, cond, Option, Some, None, refl, sym, ap, ◌∙◌, subst}
 use Rattle.std.specs.Prelude.{option_and_then, option_map}
 use Rattle.std.specs.Option.{option_or}
 use Rattle.vm_types.specs.Prot.{can_read, can_write}
@@ -6,7 +6,7 @@ use Rattle.vm_world.specs.Segments.{Spot, object_name}
 use Rattle.vm_world.specs.World.{world_seen, slot_in, slot_name}
 use Rattle.seg_ops.proofs.StillSteps.{memory_of}
 use Rattle.seg_ops.specs.Faults.{ServesFault}
-use Rattle.seg_vn.proofs.AnyPlaces.{place-in, own-there, not-new}
+use Rattle.seg_vn.proofs.AnyPlaces.{place-in, own-private, own-there, not-new}
 use Rattle.seg_vn.proofs.AnySteps.{object-place, shared-in-place, past-serves, shows-object}
 use Rattle.seg_vn.proofs.FilePlaces.{write-allowed}
 use Rattle.seg_vn.proofs.segment.VnSeg.fault_object.Goals as goal
@@ -48,7 +48,23 @@ returns-in-None-clause-serves g c = λ spaces fits here.
     c.fault_page.ensures.serves spaces x c.args.write fits
     (object-place w spaces c.args.space c.args.page x c.in-Page.name c.args.write c.can_write-writable.result here c.requires.bare shows.0 shows.2 c.requires.allowed
     (λ writes. shared-in-place w spaces c.args.space c.args.page x fits here (sym c.own.ensures ∙ c.in-None.is) (sym writable ∙ writes))
+    (λ may. writable ∙ may.prot)
     (λ write. writable ∙ write-allowed c.args.write (can_read x.0.prot) (can_write x.0.prot) c.requires.allowed write))
+
+-- a load of the object's page, which a private place has not alone
+pub returns-then-not-write-clause-serves : goal.returns-then-not-write-clause-serves
+returns-then-not-write-clause-serves g c = λ spaces fits here.
+    let w = world_seen c.args.world.now in
+    let x : Spot = (c.args.self.now, c.args.at) in
+    let shows = c.in-Page.ensures.shows spaces c.args.space c.args.page fits here in
+    let read : c.args.write ≡ false = c.if-not-write.true in
+    c.fault_page-then-not-write.ensures.serves spaces x c.args.write fits
+    (object-place w spaces c.args.space c.args.page x c.in-Page.name c.args.write false here c.requires.bare shows.0 shows.2 c.requires.allowed
+    (λ writes. absurd (let z : false ≡ true = writes in cc))
+    (λ may. absurd (
+    let a = may.alone (own-private w spaces c.args.space c.args.page x fits here c.in-Some.map (sym c.own.ensures ∙ c.in-Some.is)) in
+    let z : None ≡ Some a.0 = sym c.requires.bare ∙ a.1 in cc))
+    (λ write. absurd (let z : false ≡ true = sym read ∙ write in cc)))
 
 pub returns-else-not-write-clause-serves : goal.returns-else-not-write-clause-serves
 returns-else-not-write-clause-serves g c = λ spaces fits here.

@@ -1,4 +1,4 @@
-use Rattle.std.proofs.Common.{◌≡◌, ℕ, ◌<◌, ◌+◌, Bool, true, cond, Option, Some, None, refl, sym, ap, ◌∙◌, subst, arith}
+use Rattle.std.proofs.Common.{◌≡◌, ℕ, ◌<◌, ◌+◌, Bool, true, false, cond, Option, Some, None, refl, sym, ap, ◌∙◌, subst, arith}
 use Rattle.std.specs.Prelude.{◌||◌, is_some, option_and_then}
 use Rattle.anon_slots.specs.Slots.{count_at}
 use Rattle.vm_types.specs.Prot.{can_read, can_write}
@@ -10,7 +10,9 @@ use Rattle.vm_world.proofs.FlatWhole.{some-inj}
 use Rattle.seg_ops.proofs.SlotMemory.{lt-used}
 use Rattle.seg_ops.proofs.StillSteps.{memory_of}
 use Rattle.seg_ops.specs.Faults.{ServesFault}
+use Rattle.seg_vn.proofs.AnyPlaces.{own-private}
 use Rattle.seg_vn.proofs.AnySteps.{own-shown}
+use Rattle.seg_vn.proofs.FilePlaces.{either-allowed, write-allowed}
 use Rattle.seg_vn.proofs.segment.VnSeg.fault_slot.Given.{Over}
 use Rattle.seg_vn.proofs.segment.VnSeg.fault_slot.Goals.{In-Some}
 use Rattle.seg_vn.proofs.segment.VnSeg.fault_slot.Goals as goal
@@ -48,6 +50,43 @@ pub fault_copy-requires-clause-fits : goal.fault_copy-requires-clause-fits
 fault_copy-requires-clause-fits g c =
     let o = c.requires.fits in
     (o.0, (c.args.self.now, c.args.at), o.1, record { here = o.2; own = sym c.own.ensures ∙ c.in-Some.is; place = refl })
+
+-- a slot of its own alone
+pub returns-then-count-eq1-clause-serves : goal.returns-then-count-eq1-clause-serves
+returns-then-count-eq1-clause-serves g c = λ spaces fits here.
+    let w = world_seen c.args.world.now in
+    let x : Spot = (c.args.self.now, c.args.at) in
+    let s = c.args.slot in
+    let writable : c.can_write.result ≡ can_write x.0.prot = c.can_write.ensures ∙ ap can_write c.prot.ensures in
+    c.fault_page.ensures.serves spaces x c.args.write fits (record {
+      here = here;
+      shows = own-shown w.maps x s c.requires.own;
+      some = ap (λ (o : Option ℕ). is_some o || object_has w x.0.shown (x.0.index + x.1) x.0.object) c.requires.own;
+      allowed = either-allowed c.args.write (can_read x.0.prot) (can_write x.0.prot) c.requires.allowed;
+      in_place = λ writes. record { prot = sym writable ∙ writes; alone = λ private. (s, c.requires.own, sym c.count.ensures ∙ c.if-count-eq1.true) };
+      opens = λ may. writable ∙ may.prot;
+      lets = λ write. writable ∙ write-allowed c.args.write (can_read x.0.prot) (can_write x.0.prot) c.requires.allowed write;
+    })
+
+-- a load of one that other places hold too
+pub returns-then-not-write-clause-serves : goal.returns-then-not-write-clause-serves
+returns-then-not-write-clause-serves g c = λ spaces fits here.
+    let w = world_seen c.args.world.now in
+    let x : Spot = (c.args.self.now, c.args.at) in
+    let s = c.args.slot in
+    let read : c.args.write ≡ false = c.if-not-write.true in
+    c.fault_page-then-not-write.ensures.serves spaces x c.args.write fits (record {
+      here = here;
+      shows = own-shown w.maps x s c.requires.own;
+      some = ap (λ (o : Option ℕ). is_some o || object_has w x.0.shown (x.0.index + x.1) x.0.object) c.requires.own;
+      allowed = either-allowed c.args.write (can_read x.0.prot) (can_write x.0.prot) c.requires.allowed;
+      in_place = λ writes. absurd (let z : false ≡ true = writes in cc);
+      opens = λ may. absurd (
+          let a = may.alone (own-private w spaces c.args.space c.args.page x fits here c.in-Some.map (sym c.own.ensures ∙ c.in-Some.is)) in
+          let same : s ≡ a.0 = some-inj s a.0 (sym c.requires.own ∙ a.1) in
+          c.if-count-eq1.false (c.count.ensures ∙ ap (count_at w.anon) same ∙ a.2));
+      lets = λ write. absurd (let z : false ≡ true = sym read ∙ write in cc);
+    })
 
 pub returns-clause-serves : goal.returns-clause-serves
 returns-clause-serves g c = λ spaces fits here.
