@@ -68,6 +68,7 @@ fn count_piece(
     requires listed { (z : ℕ) → zero_in segment.now.object ≡ Some z
         → z < length counts.old.shown.items }
     requires few { IsFewCounted counts.old }
+    // What is added.
     ensures pages { counts.new.pages
         ≡ counts.old.pages + pages_within first end (part begin pages segment.now) }
     ensures slots { counts.new.slots

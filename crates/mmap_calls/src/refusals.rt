@@ -204,6 +204,7 @@ fn given_up<D: Disk>(
     requires few { length shown.now.items ≤ 2 ^ 32 }
     requires shown { (z : ℕ) → slice_index shown.now.items z
         ≡ shown_within space.now.parts map.now.first (map.now.first + map.now.pages) z }
+    // What is given up.
     ensures { result ≡ given_up world.now.maps world.now.zeros space.now.parts
         map.now.first (map.now.first + map.now.pages) map.now.request.object
         (length world.now.zeros) }

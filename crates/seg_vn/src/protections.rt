@@ -27,6 +27,7 @@ impl VnSeg {
         ensures none { (q : ℕ) → first ≤ q → q < first + self.now.pages
             → HasNoWriter world.new.hat.places space q }
         ensures stay { WritersStay world.old.hat.places world.new.hat.places }
+        // What stays.
         ensures rest { OnlyHat world.old world.new }
         ensures modified { ModifiesNone (world_seen world.old) (world_seen world.new) }
         ensures keeps { KeepsEveryPage world.old world.new }
@@ -41,6 +42,7 @@ impl VnSeg {
         requires within { first + self.old.pages ≤ 0x80000 }
         requires fits { IsFit world.old }
         ensures limited { AreLimited world.new.hat.places space first self.old.pages prot }
+        // What stays.
         ensures segment { self.new ≡ self.old }
         ensures rest { OnlyStoreAndHat world.old world.new }
         ensures modified { ModifiesNone (world_seen world.old) (world_seen world.new) }

@@ -8,7 +8,6 @@ use Rattle.std.proofs.lemmas.List.Elements.{All-nil, All-cons, All-head, All-tai
 use Rattle.std.proofs.lemmas.List.Sums.{AllPass-from_list_all, sum_by-cons}
 use Rattle.vm_types.specs.declared.call.Call.{Call}
 use Rattle.vm_types.specs.declared.call.Call.TheVariants as call
-use Rattle.vm_types.specs.declared.call.Place.TheVariants.{At, Any}
 use Rattle.vm_types.specs.WellFormed.{IsWellFormed}
 use Rattle.vm_core.specs.Calls.{IsServed}
 use Rattle.vm_script.specs.declared.plan.PlanAct.{PlanAct}
@@ -28,10 +27,9 @@ use Rattle.vm_run.specs.Played.{IsPlayable}
 pub served-call : (c : Call) → IsTrue (is_served_call c) → IsServed c
 served-call (call.Load a n) is = tt
 served-call (call.Store a n v) is = tt
-served-call (call.Map (At a) len prot kind o offset) is = tt
-served-call (call.Map Any len prot kind o offset) is = absurd (let z : false ≡ true = is in cc)
-served-call (call.Unmap a len) is = absurd (let z : false ≡ true = is in cc)
-served-call (call.Protect a len prot) is = absurd (let z : false ≡ true = is in cc)
+served-call (call.Map place len prot kind o offset) is = tt
+served-call (call.Unmap a len) is = tt
+served-call (call.Protect a len prot) is = tt
 served-call (call.Sync a len) is = absurd (let z : false ≡ true = is in cc)
 served-call (call.Read file offset len) is = absurd (let z : false ≡ true = is in cc)
 served-call (call.Write file offset line rest) is = absurd (let z : false ≡ true = is in cc)
@@ -41,8 +39,7 @@ served-call call.Exit is = tt
 
 -- a call that a file's line makes is one of the calls that are served
 pub named-call : (c : Call) → IsTrue (is_served_named c) → IsTrue (is_served_call c) × IsFalse (is_exit c)
-named-call (call.Map (At a) len prot kind o offset) is = (refl, refl)
-named-call (call.Map Any len prot kind o offset) is = absurd (let z : false ≡ true = is in cc)
+named-call (call.Map place len prot kind o offset) is = (refl, refl)
 named-call (call.Load a n) is = absurd (let z : false ≡ true = is in cc)
 named-call (call.Store a n v) is = absurd (let z : false ≡ true = is in cc)
 named-call (call.Unmap a len) is = absurd (let z : false ≡ true = is in cc)

@@ -9,7 +9,6 @@ use Rattle.std.proofs.lemmas.List.Sums.{sum_by-cons}
 use Rattle.vm_types.specs.declared.call.Call.{Call}
 use Rattle.vm_types.specs.declared.call.Call.TheVariants as call
 use Rattle.vm_types.specs.declared.call.Object.TheVariants as object
-use Rattle.vm_types.specs.declared.call.Place.TheVariants as place
 use Rattle.vm_types.specs.WellFormed.{IsWellFormed}
 use Rattle.vm_script.specs.declared.plan.PlanAct.{PlanAct}
 use Rattle.vm_script.specs.declared.plan.PlanAct.TheVariants as act
@@ -27,8 +26,7 @@ use Rattle.vm_run.specs.Played.{IsPlayable}
 served-named : (names : List (List ℕ)) (name : List ℕ) (c : Call) → is_served_named c ≡ true → is_served_named (call_with_file names name c) ≡ true
 served-named names name (call.Load a n) h = h
 served-named names name (call.Store a n v) h = h
-served-named names name (call.Map (place.At a) len prot kind (object.File f) offset) h = refl
-served-named names name (call.Map place.Any len prot kind (object.File f) offset) h = h
+served-named names name (call.Map at len prot kind (object.File f) offset) h = refl
 served-named names name (call.Map at len prot kind object.NewZero offset) h = h
 served-named names name (call.Map at len prot kind (object.Zero z) offset) h = h
 served-named names name (call.Unmap a len) h = h

@@ -3,7 +3,6 @@ use Rattle.std.specs.Prelude.{ℕ, not, nat_lt, ◌||◌, Bool, true, false, Lis
 use Rattle.std.specs.List.{list_all}
 use Rattle.vm_types.specs.declared.call.Call.{Call}
 use Rattle.vm_types.specs.declared.call.Call.TheVariants as call
-use Rattle.vm_types.specs.declared.call.Place.TheVariants.{At}
 use Rattle.block_device.specs.Counts.{HasRisen}
 use Rattle.block_device.specs.RackSeen.{RackSeen}
 use Rattle.block_device.specs.StreamSeen.{SourceSeen}
@@ -36,17 +35,19 @@ pub record Asked : Type 0 where
   pub options : Options
   pub plan : PlanSeen
 
--- The calls that are served so far: loads, stores, the mapping at an address, and the exit.
+-- The calls that are served so far: loads, stores, map, unmap, protect, and the exit.
 abbrev pub is_served_call : Call → Bool
 is_served_call (call.Load a n) = true
 is_served_call (call.Store a n v) = true
-is_served_call (call.Map (At a) len prot kind o offset) = true
+is_served_call (call.Map place len prot kind o offset) = true
+is_served_call (call.Unmap a len) = true
+is_served_call (call.Protect a len prot) = true
 is_served_call call.Exit = true
 is_served_call c = false
 
 -- Those of a line that names a file: the mapping alone.
 abbrev pub is_served_named : Call → Bool
-is_served_named (call.Map (At a) len prot kind o offset) = true
+is_served_named (call.Map place len prot kind o offset) = true
 is_served_named c = false
 
 abbrev pub is_served_act : PlanAct → Bool

@@ -12,18 +12,15 @@ use block_device::{ReadFault, Source, read_to_limit};
 use command_line::{Options, read_options};
 use std::alloc::Global;
 use vm_script::{MOST_BYTES, Plan, PlanAct, PlanLine, broken_rule, generate, parse, sound_law};
-use vm_types::{Call, Place};
+use vm_types::Call;
 use volume_files::Refusal;
 
-// A mapping at an address.
+// A mapping.
 fn is_served_named(call: &Call) -> bool
     ensures { result ≡ asked.is_served_named call.now }
 {
     match call {
-        Call::Map {
-            place: Place::At(_),
-            ..
-        } => true,
+        Call::Map { .. } => true,
         _ => false,
     }
 }
@@ -34,10 +31,9 @@ fn is_served_call(call: &Call) -> bool
     match call {
         Call::Load { .. } => true,
         Call::Store { .. } => true,
-        Call::Map {
-            place: Place::At(_),
-            ..
-        } => true,
+        Call::Map { .. } => true,
+        Call::Unmap { .. } => true,
+        Call::Protect { .. } => true,
         Call::Exit => true,
         _ => false,
     }

@@ -9,7 +9,7 @@ ghost use Rattle.vm_trials.specs.Trials.{trial_file, trial_files};
 use crate::trial::Told::{self, Busy, Done, Landed, Sent, Still};
 use crate::trial::Trial;
 use Act::{Clock, Do, Land, Try};
-use What::{Exit, Load, Map, Store, Zero};
+use What::{Exit, Load, Map, Protect, Store, Unmap, Zero};
 use block_device::{Block, DiskFault, MemDisk};
 use page_store::Hold;
 use std::alloc::{AllocError, Global};
@@ -39,6 +39,10 @@ enum What {
     Map(u32, u32, bool, u32, u32),
     /// Maps so many bytes of private zero memory at an address.
     Zero(u32, u32),
+    /// Unmaps so many bytes from an address on.
+    Unmap(u32, u32),
+    /// Protects so many bytes from an address on: they may be read and, where this says so, written.
+    Protect(u32, u32, bool),
     Exit,
 }
 
@@ -131,6 +135,14 @@ pub(crate) fn swapping(alloc: Global, frames: u32, slots: u32) -> Result<Trial, 
     }
 }
 
+fn rights(writable: bool) -> Prot {
+    if writable {
+        Prot::READ | Prot::WRITE
+    } else {
+        Prot::READ
+    }
+}
+
 fn call_of(what: What) -> Call
     ensures { IsServed result }
 {
@@ -144,11 +156,7 @@ fn call_of(what: What) -> Call
         What::Map(addr, length, writable, file, offset) => Call::Map {
             place: Place::At(addr),
             length,
-            prot: if writable {
-                Prot::READ | Prot::WRITE
-            } else {
-                Prot::READ
-            },
+            prot: rights(writable),
             kind: Kind::Shared,
             object: Object::File(file),
             offset,
@@ -160,6 +168,12 @@ fn call_of(what: What) -> Call
             kind: Kind::Private,
             object: Object::NewZero,
             offset: 0,
+        },
+        What::Unmap(addr, length) => Call::Unmap { addr, length },
+        What::Protect(addr, length, writable) => Call::Protect {
+            addr,
+            length,
+            prot: rights(writable),
         },
         What::Exit => Call::Exit,
     }
@@ -189,6 +203,8 @@ const INVALID: Told = Done(Reply::Refused(Errno::Invalid));
 pub(crate) const NO_OBJECT: Told = Done(Reply::Refused(Errno::NoObject));
 
 const ACCESS: Told = Done(Reply::Refused(Errno::Access));
+
+const NOT_MAPPED: Told = Done(Reply::Refused(Errno::NotMapped));
 
 const TOO_LARGE: Told = Done(Reply::Refused(Errno::TooLarge));
 
@@ -414,6 +430,43 @@ fn maps_are_refused(trial: &mut Trial) -> Result<(), Fail> {
     )
 }
 
+/// Two pages are unmapped from between others.
+fn pages_are_unmapped(trial: &mut Trial) -> Result<(), Fail> {
+    make_all(
+        trial,
+        &[
+            (Do(0, Unmap(0x1_1000, 0x2000)), STORED),
+            (Do(0, Load(0x1_1000)), NO_MAP),
+            (Do(0, Load(0x1_0000)), Done(Word(1))),
+            (Do(0, Load(0x1_3000)), Done(Word(0x1212_1212))),
+            (Do(0, Unmap(0x1_1000, 0x2000)), STORED),
+            (Do(0, Unmap(0x1_1001, 0x1000)), INVALID),
+        ],
+    )
+}
+
+/// Two pages lose the right to be written, with their translations, and get it again; the other process keeps its own.
+fn pages_are_protected(trial: &mut Trial) -> Result<(), Fail> {
+    make_all(
+        trial,
+        &[
+            (Do(0, Store(0x1_5000, 6)), STORED),
+            (Do(0, Protect(0x1_5000, 0x2000, false)), STORED),
+            (Do(0, Store(0x1_5000, 9)), PROT),
+            (Do(0, Store(0x1_6000, 9)), PROT),
+            (Do(0, Store(0x1_7000, 8)), STORED),
+            (Do(0, Load(0x1_5000)), Done(Word(6))),
+            (Do(1, Store(0x7000, 7)), STORED),
+            (Do(0, Load(0x1_5000)), Done(Word(7))),
+            (Do(0, Protect(0x1_5000, 0x2000, true)), STORED),
+            (Do(0, Store(0x1_5000, 6)), STORED),
+            (Do(0, Protect(0x1_3000, 0x1000, true)), ACCESS),
+            (Do(0, Protect(0x1_2000, 0x2000, false)), NOT_MAPPED),
+            (Do(0, Protect(0x1_2000, 0, false)), INVALID),
+        ],
+    )
+}
+
 /// A process ends with pages modified.
 fn processes_end(trial: &mut Trial) -> Result<(), Fail> {
     make_all(
@@ -506,6 +559,26 @@ fn a_page_is_stored_into_during_its_push(trial: &mut Trial) -> Result<(), Fail> 
     )
 }
 
+/// A page is unmapped while its push is out; what is mapped in its place takes its slot.
+fn a_page_is_unmapped_during_its_push(trial: &mut Trial) -> Result<(), Fail> {
+    make_all(
+        trial,
+        &[
+            (Do(0, Store(0x2000, 0x33)), STORED),
+            (Clock(1, 32), Sent),
+            (Do(0, Unmap(0x2000, 0x1000)), STORED),
+            (Do(0, Load(0x2000)), NO_MAP),
+            (Do(0, Zero(0x2000, 0x1000)), Done(Mapped(0x2000))),
+            (Do(0, Store(0x2000, 0x44)), STORED),
+            (Land(1), Landed),
+            (Clock(1, 32), Sent),
+            (Land(1), Landed),
+            (Clock(1, 32), Still),
+            (Do(0, Load(0x2000)), Done(Word(0x44))),
+        ],
+    )
+}
+
 fn use_files(trial: &mut Trial) -> Result<(), Fail> {
     a_read_fails(trial)?;
     hands_push(trial)?;
@@ -517,6 +590,8 @@ fn use_files(trial: &mut Trial) -> Result<(), Fail> {
     stores_are_seen(trial)?;
     mappings_are_replaced(trial)?;
     maps_are_refused(trial)?;
+    pages_are_unmapped(trial)?;
+    pages_are_protected(trial)?;
     processes_end(trial)
 }
 
@@ -562,7 +637,7 @@ fn used_and_closed(alloc: Global) -> Result<Outcome, Fail> {
 fn two_processes_use_files_through_few_frames(rt: HostRuntime) -> Result<(), Fail> {
     let due = Outcome {
         fault: None,
-        entries: 86,
+        entries: 105,
         faults: (Some(2), Some(0)),
         wrong: None,
     };
@@ -572,7 +647,8 @@ fn two_processes_use_files_through_few_frames(rt: HostRuntime) -> Result<(), Fai
 
 fn push_a_private_page(trial: &mut Trial) -> Result<(), Fail> {
     a_page_goes_during_its_push(trial)?;
-    a_page_is_stored_into_during_its_push(trial)
+    a_page_is_stored_into_during_its_push(trial)?;
+    a_page_is_unmapped_during_its_push(trial)
 }
 
 /// The transfer that failed at the close, and how many entries the history has.
@@ -585,6 +661,6 @@ fn pushed_and_closed(alloc: Global) -> Result<(Option<DiskFault>, usize), Fail> 
 
 #[test]
 fn a_private_page_goes_to_swap(rt: HostRuntime) -> Result<(), Fail> {
-    assert_eq!(rt; pushed_and_closed(rt.alloc())?, (None, 11));
+    assert_eq!(rt; pushed_and_closed(rt.alloc())?, (None, 17));
     Ok(())
 }

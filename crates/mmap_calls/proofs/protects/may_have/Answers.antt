@@ -33,8 +33,7 @@ unreachable-requires c = has-part c.args.space.now.parts c.loop-page.page (c.req
 pub returns-then-not-check_prot : goal.returns-then-not-check_prot
 returns-then-not-check_prot c =
     let d = (goal.at.returns-then-not-check_prot c).In-Some in
-    let h = held d in
-    (
+    let h = held d in (
       (λ t. absurd (let z : false ≡ true = t in cc)),
       (λ all. absurd (
           let low = c.loop-page.invariant.low in
