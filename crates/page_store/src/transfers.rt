@@ -31,6 +31,7 @@ impl<D: Disk> Store<D> {
     ///
     /// A push takes a frame for a snapshot of the page, exactly where one is available; the page stays where it is, and
     /// modified. Where none is, the page's own frame goes out.
+    #[inline(always)]
     pub fn begin(&mut self, seat: u32, plan: Plan, disk: u32, block: u32, valid: u32) -> Flight<D>
         requires ready { Waits self.old (plan_page plan) disk None }
         requires block { (d : DiskSeen) → bay_at self.old.bays disk ≡ home d → block < d.size }

@@ -99,6 +99,7 @@ fn gather_for_push<D: Disk>(world: &mut World<D>, frame: u32)
 
 /// Makes a modified page ready to be pushed: the bits of its translations are in the page, none leads to a frame that is to
 /// go out, and the page counts as pushed.
+#[inline(always)]
 fn prepare_push<D: Disk>(world: &mut World<D>, name: PageName)
     requires dirty { IsDirtyPage (world_seen world.old) name }
     requires fits { IsFit world.old }
@@ -172,6 +173,7 @@ fn world_table<D: Disk>(world: &World<D>, name: PageName) -> Place
 }
 
 /// A frame and the disk of a plan's page go out with a flight, for this seat.
+#[inline(always)]
 fn send<D: Disk>(world: &mut World<D>, seat: u32, plan: Plan) -> Flight<D>
     requires can { CanSend (world_seen world.old) plan }
     requires ready { Waits world.old.store (plan_page plan)
@@ -203,6 +205,7 @@ fn send<D: Disk>(world: &mut World<D>, seat: u32, plan: Plan) -> Flight<D>
 /// a frame is available the push goes from a snapshot: the page stays home, with its translations, and the name that the
 /// snapshot's frame held is cut at its valid bytes. Else the page's own frame goes out. Time: the page's translations, the
 /// search for its block, and one copy of a page.
+#[inline(always)]
 pub fn begin_push<D: Disk>(world: &mut World<D>, seat: u32, name: PageName) -> Flight<D>
     requires dirty { IsDirtyPage (world_seen world.old) name }
     requires ready { Waits world.old.store name
@@ -239,6 +242,7 @@ pub fn begin_push<D: Disk>(world: &mut World<D>, seat: u32, name: PageName) -> F
 
 /// Begins to read in a page that no frame has and that isn't blank, where a frame can be taken and the page's disk is home.
 /// The name that the frame held is cut at its valid bytes. Time: constant expected, and the search for the page's block.
+#[inline(always)]
 pub fn begin_read<D: Disk>(world: &mut World<D>, seat: u32, name: PageName) -> Flight<D>
     requires missing { MayReadIn (world_seen world.old) name }
     requires available { IsSome (next_frame world.old.store) }

@@ -56,6 +56,7 @@ pub fn ask<D: Disk>(world: &World<D>, plan: Plan) -> Wants
 
 /// What a page needs that no frame holds and that isn't blank: to be read in, where a frame can be had, else that a
 /// modified page is pushed.
+#[inline(always)]
 pub fn fetch<D: Disk>(world: &mut World<D>, name: PageName) -> Wants
     requires home { OneIsHome world.old.store }
     requires absent { residence world.old.store name ≡ Absent }

@@ -259,8 +259,8 @@ fn make_room_but<D: Disk>(world: &mut World<D>, beside: Option<u32>) -> Option<P
 }
 
 /// Makes room for another page, beside the one in a frame: None where a frame can be taken then, else a modified page,
-/// which is to be pushed first. Neither is the page in that frame. Pages that were used have a second chance. Time: the frames, and
-/// the translations of those that are passed over.
+/// which is to be pushed first. Neither is the page in that frame. Pages that were used give way last. Time: the frames, and the
+/// translations of those that are looked at.
 pub fn make_room_beside<D: Disk>(world: &mut World<D>, frame: u32) -> Option<PageName>
     requires frame { frame < length world.old.store.frames }
     requires home { OneIsHomeBeside world.old.store frame }
@@ -277,7 +277,7 @@ pub fn make_room_beside<D: Disk>(world: &mut World<D>, frame: u32) -> Option<Pag
 }
 
 /// Makes room for another page: None where a frame can be taken then, else a modified page, which is to be pushed first. Pages
-/// that were used have a second chance. Time: the frames, and the translations of those that are passed over.
+/// that were used give way last. Time: the frames, and the translations of those that are looked at.
 pub fn make_room<D: Disk>(world: &mut World<D>) -> Option<PageName>
     requires home { OneIsHome world.old.store }
     requires fits { IsFit world.old }

@@ -16,6 +16,7 @@ use seg_ops::{Fault, ask, free_next, make_room, make_zero};
 use vm_world::{Wants, World};
 
 /// Loads the translation of a page that exists, once it is home, or says what that needs.
+#[inline(always)]
 pub(crate) fn fault_page<D: Disk>(
     world: &mut World<D>,
     space: u32,

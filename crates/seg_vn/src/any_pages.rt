@@ -45,6 +45,7 @@ fn bring_zeros<D: Disk>(world: &mut World<D>, name: PageName) -> Result<(), Want
 }
 
 /// A page that exists comes home, where nothing has to be waited for or read in.
+#[inline(always)]
 pub(crate) fn bring_page<D: Disk>(world: &mut World<D>, name: PageName) -> Result<(), Wants>
     requires exists { IsTrue (page_exists world.old.files world.old.anon name) }
     requires home { OneIsHome world.old.store }

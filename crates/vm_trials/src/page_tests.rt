@@ -333,7 +333,7 @@ fn make_all(world: &mut World<MemDisk>, acts: &[(Act, Told)]) -> Result<(), Fail
 }
 
 /// The acts in order, and what is told of each. Page 0 of the file is the process's from 0x1000 on.
-const ACTS: [(Act, Told); 46] = [
+const ACTS: [(Act, Told); 48] = [
     (Act::Fill(0), Told::Yes),
     (Act::Fill(0), Told::No),
     (Act::Fill(2), Told::No),
@@ -353,7 +353,18 @@ const ACTS: [(Act, Told); 46] = [
     (Act::Show(1), Told::Yes),
     (Act::Put(0x2008, 0x0102_0304), Told::Yes),
     (Act::Get(0x2008), Told::Word(0x0102_0304)),
-    // No frame is free: page 0, which isn't modified, loses its own and its translation.
+    // No frame is free. Both pages were used: neither counts as used from now on, and the first behind the hand, which is at frame
+    // 0, is page 1.
+    (Act::Room(0), Told::Dirty(MIDDLE)),
+    (
+        Act::Fetch(2, 0),
+        Told::Wants(Wants::Transfer(Plan::Push(MIDDLE))),
+    ),
+    // Its own frame goes out, without its translation; after the failure it is modified again.
+    (Act::Push(1), Told::Failed),
+    (Act::Get(0x2008), Told::No),
+    // The search for a victim goes on behind the page that couldn't be written: page 0, which isn't modified, loses its frame and
+    // its translation.
     (Act::Room(0), Told::Yes),
     (Act::Get(0x1000), Told::No),
     (
@@ -364,27 +375,17 @@ const ACTS: [(Act, Told); 46] = [
     (Act::Show(0), Told::Yes),
     (Act::Get(0x1004), Told::Word(5)),
     (Act::Put(0x1ffc, 7), Told::Yes),
-    // Page 0 was used since it was looked at last, and is passed over; page 1 wasn't.
+    // The hand is at page 0, which gave way last; page 1 is chosen, whether it was used or not.
     (Act::Room(0), Told::Dirty(MIDDLE)),
-    (
-        Act::Fetch(2, 0),
-        Told::Wants(Wants::Transfer(Plan::Push(MIDDLE))),
-    ),
-    // Its own frame goes out, without its translation; after the failure it is modified again.
-    (Act::Push(1), Told::Failed),
-    (Act::Get(0x2008), Told::No),
-    // The search for a victim goes on behind the page that couldn't be written.
-    (Act::Room(0), Told::Dirty(FIRST)),
-    (
-        Act::Fetch(2, 0),
-        Told::Wants(Wants::Transfer(Plan::Push(FIRST))),
-    ),
-    (Act::Push(0), Told::Yes),
-    (Act::Push(0), Told::No),
+    (Act::Show(1), Told::Yes),
+    (Act::Get(0x2008), Told::Word(0x0102_0304)),
+    (Act::Room(0), Told::Dirty(MIDDLE)),
+    (Act::Push(1), Told::Yes),
+    (Act::Push(1), Told::No),
     // The page that went out gives way.
     (Act::Room(0), Told::Yes),
-    (Act::Show(0), Told::Yes),
-    (Act::Push(1), Told::Yes),
+    (Act::Show(1), Told::Yes),
+    (Act::Push(0), Told::Yes),
     (Act::Room(0), Told::Yes),
     // The frame of page 0 is taken, and is free after the failure.
     (Act::Read(2), Told::Failed),
