@@ -72,6 +72,7 @@ impl<D: Disk> NumberedDisk<D> {
             → OnOk result ((D.seen self.new.disk).faults ≡ (D.seen self.old.disk).faults) }
         ensures fault { IfErr result
             (IsFaultOf self.old.number (D.seen self.old.disk) (D.seen self.new.disk)) }
+        // What stays.
         ensures number { self.new.number ≡ self.old.number }
     {
         read_block(self.number, &mut self.disk, block, into)
@@ -87,6 +88,7 @@ impl<D: Disk> NumberedDisk<D> {
             → OnOk result ((D.seen self.new.disk).faults ≡ (D.seen self.old.disk).faults) }
         ensures fault { IfErr result
             (IsFaultOf self.old.number (D.seen self.old.disk) (D.seen self.new.disk)) }
+        // What stays.
         ensures number { self.new.number ≡ self.old.number }
     {
         write_block(self.number, &mut self.disk, block, from)

@@ -81,6 +81,7 @@ impl<D: Disk> Unopened<D> {
             → OnOk result ((D.seen self.new.disk).faults ≡ (D.seen self.old.disk).faults) }
         ensures fault { IfErr result
             (IsDiskFault self.old.number (D.seen self.old.disk) (D.seen self.new.disk)) }
+        // What stays.
         ensures number { self.new.number ≡ self.old.number }
     {
         match self.disk.read(block, into) {
@@ -99,6 +100,7 @@ impl<D: Disk> Unopened<D> {
             → OnOk result ((D.seen self.new.disk).faults ≡ (D.seen self.old.disk).faults) }
         ensures fault { IfErr result
             (IsDiskFault self.old.number (D.seen self.old.disk) (D.seen self.new.disk)) }
+        // What stays.
         ensures number { self.new.number ≡ self.old.number }
     {
         match self.disk.write(block, from) {

@@ -139,7 +139,8 @@ impl VnSeg {
         requires home { TwoAreHome world.old.store }
         requires fits { IsFitAt world.old space page (self.now, page - first) }
         requires noted { IsKnown world.old }
-        ensures serves { FaultServedAt world.old world.new space page (self.now, page - first) write result }
+        ensures serves { FaultServedAt world.old world.new space page (self.now, page - first)
+            write result }
         // What stays.
         ensures rest { SameFiles world.old world.new }
     {

@@ -44,6 +44,7 @@ fn copy_map<D: Disk>(world: &mut World<D>, map: u32, room: Vec<Option<u32>>) -> 
         + length (places_of world.old.maps map) < 2 ^ 32 }
     requires room { world.old.anon.reserved + length (places_of world.old.maps map)
         ≤ length world.old.anon.counts }
+    // The map and its slots.
     ensures unused { IsUnused world.old.maps result }
     ensures more { CountsMore world.old.anon.counts world.new.anon.counts
         (places_of world.old.maps map) }
@@ -76,6 +77,7 @@ fn protect_place<D: Disk>(world: &mut World<D>, map: u32, place: u32, space: u32
     ensures none { (slot : ℕ) → slot_in world.old.maps map place ≡ Some slot
         → HasNoWriter world.new.hat.places space page }
     ensures stay { WritersStay world.old.hat.places world.new.hat.places }
+    // What stays.
     ensures rest { OnlyHat world.old world.new }
     ensures modified { ModifiesNone (world_seen world.old) (world_seen world.new) }
     ensures keeps { KeepsEveryPage world.old world.new }
@@ -92,6 +94,7 @@ fn protect_places<D: Disk>(world: &mut World<D>, map: u32, space: u32, first: u3
     ensures none { AreProtected world.new.hat.places world.old.maps map space first
         (length (places_of world.old.maps map)) }
     ensures stay { WritersStay world.old.hat.places world.new.hat.places }
+    // What stays.
     ensures rest { OnlyHat world.old world.new }
     ensures modified { ModifiesNone (world_seen world.old) (world_seen world.new) }
     ensures keeps { KeepsEveryPage world.old world.new }

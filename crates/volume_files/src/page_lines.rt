@@ -69,6 +69,7 @@ fn show_page<P: PageDisk, K: Sink>(
     ensures shown { IsPageShown (shown_info files.now file) page (K.seen out.old) (K.seen out.new)
         (P.numbered disk.old) (P.numbered disk.new) P.counts result }
     ensures looks { LooksAt (P.numbered disk.old) (P.numbered disk.new) }
+    // Counts of faults.
     ensures later { (K.seen out.old).faults ≤ (K.seen out.new).faults }
     ensures steady { UnlessCut result ((K.seen out.new).faults ≡ (K.seen out.old).faults) }
     ensures exact { IsTrue P.exact
@@ -100,6 +101,7 @@ pub(crate) fn show_lines<P: PageDisk, K: Sink>(
     ensures shown { LinesShown (shown_info files.now file) (K.seen out.old) (K.seen out.new)
         (P.numbered disk.old) (P.numbered disk.new) P.counts result }
     ensures looks { LooksAt (P.numbered disk.old) (P.numbered disk.new) }
+    // Counts of faults.
     ensures later { (K.seen out.old).faults ≤ (K.seen out.new).faults }
     ensures steady { UnlessCut result ((K.seen out.new).faults ≡ (K.seen out.old).faults) }
     ensures exact { IsTrue P.exact

@@ -59,6 +59,7 @@ fn write_on<D: Disk>(disk: &mut Unopened<D>, info: &FileInfo, bytes: &[u8]) -> R
     requires { HasPlaceOn D.seen info.now bytes.now disk.old }
     ensures ok { OnOk result ((D.seen disk.new.disk).content
         ≡ with_file disk.old.number (D.seen disk.old.disk).content info.now bytes.now) }
+    // What stays.
     ensures keeps { KeepsThere D.seen (SparesBlock info.now bytes.now) disk.old disk.new }
     ensures stays { RemainsThere D.seen disk.old disk.new }
     ensures fault { IfErr result (IsFaultOne D.seen disk.new) }
@@ -79,6 +80,7 @@ fn write_file<D: Disk>(
 ) -> Result<(), OpenFault>
     requires { HasPlaces D.seen disks.old info.now bytes.now }
     ensures ok { OnOk result (WroteOne D.seen info.now bytes.now disks.old disks.new) }
+    // What stays.
     ensures keep { KeepThere D.seen (SparesBlock info.now bytes.now) disks.old disks.new }
     ensures stay { RemainThere D.seen disks.old disks.new }
     ensures fault { IfErr result (IsFaultThere D.seen disks.new) }

@@ -110,6 +110,7 @@ fn show_file<P: PageDisk, K: Sink>(
         (K.seen out.old) (K.seen out.new)
         (P.numbered disk.old) (P.numbered disk.new) P.counts result }
     ensures looks { LooksAt (P.numbered disk.old) (P.numbered disk.new) }
+    // Counts of faults.
     ensures later { (K.seen out.old).faults ≤ (K.seen out.new).faults }
     ensures steady { UnlessCut result ((K.seen out.new).faults ≡ (K.seen out.old).faults) }
     ensures exact { IsTrue P.exact
