@@ -1,7 +1,7 @@
 -- The line of an entry is its words, one space apart, and tells that entry alone.
-use Rattle.std.proofs.Common.{◌≡◌, ℕ, zero, suc, ◌<◌, ◌^◌, Bool, true, false, ◌&&◌, List, [], ◌∷◌, ◌++◌, length, Option, Some, refl, sym, ap, ap₂, ◌∙◌, append_assoc, append-nil, arith, rules, tests, cond, ◌==◌}
+use Rattle.std.proofs.Common.{◌≡◌, ℕ, zero, suc, ◌<◌, Bool, true, false, List, [], ◌∷◌, ◌++◌, length, Option, Some, refl, sym, ap, ◌∙◌, append_assoc, append-nil, arith, rules, tests, ◌==◌}
 use Rattle.std.specs.Prelude.{All, codes, decimal, if◌then◌else◌}
-use Rattle.std.specs.List.{list_all, slice_split, onto_first}
+use Rattle.std.specs.List.{list_all, slice_split}
 use Rattle.std.proofs.lemmas.Bool.{false≢true}
 use Rattle.std.proofs.lemmas.Bool.Decides.{nat_tests}
 use Rattle.std.proofs.lemmas.List.{append_cancel_right}
@@ -21,9 +21,7 @@ use Rattle.vm_types.specs.declared.call.Place.{Place}
 use Rattle.vm_types.specs.declared.call.Place.TheVariants.{At, Any}
 use Rattle.vm_types.specs.declared.call.Signal.{Signal}
 use Rattle.vm_types.specs.declared.call.Signal.TheVariants as signal
-use Rattle.vm_types.specs.Names.{errno_number, errno_name}
-use Rattle.vm_types.specs.Prot.{IsProt}
-use Rattle.vm_types.specs.WellFormed.{IsNumber, IsPlace, IsObject, IsWellFormed}
+use Rattle.vm_types.specs.WellFormed.{IsObject, IsWellFormed}
 use Rattle.vm_types.specs.Words.{IsByte, word_bytes}
 use Rattle.vm_script.specs.Fields.{is_digit}
 use Rattle.vm_script.specs.Lines.{is_graphic, is_space}
@@ -151,7 +149,7 @@ graphic_reply c (reply.Refused e) h = graphic_refusal c e
 graphic_reply c (reply.Io disk before after) h =
     graphic_source c (codes "io" ∷ decimal disk ∷ decimal before ∷ decimal after ∷ []) (refl, (graphic_decimal disk h.0, (graphic_number before h.1, (graphic_number after h.2, tt))))
 
-graphic_entry : (e : Entry) → IsTracedEntry e → AreGraphic (entry_words e)
+pub graphic_entry : (e : Entry) → IsTracedEntry e → AreGraphic (entry_words e)
 graphic_entry e h = (
   graphic_decimal e.process h.process,
   (

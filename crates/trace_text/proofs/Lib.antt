@@ -2,3 +2,9 @@ pub mod Pairs
 pub mod NumbersAgain
 pub mod WordsAgain
 pub mod EntriesAgain
+pub mod OpeningAgain
+pub mod FedLines
+pub mod LineRuns
+pub mod LinesTold
+pub mod LineTexts
+pub mod OneTrace

@@ -1,13 +1,12 @@
 -- Numbers and bytes that were printed are read again.
-use Rattle.std.proofs.Common.{◌≡◌, ℕ, zero, suc, ◌≤◌, ◌<◌, ◌^◌, ◌+◌, ◌*◌, ◌/◌, ◌%◌, ◌==◌, Bool, true, false, ◌&&◌, List, [], ◌∷◌, ◌++◌, length, fold, Some, None, refl, ap, ap₂, ◌∙◌, arith, rules, tests, lit<, length-append, ⊎_elim, subst, sym}
-use Rattle.std.specs.Prelude.{All, codes, decimal, nat_lt, nat_le, if◌then◌else◌}
-use Rattle.std.specs.List.{list_all}
+use Rattle.std.proofs.Common.{◌≡◌, ℕ, zero, suc, ◌≤◌, ◌<◌, ◌^◌, ◌+◌, ◌*◌, ◌/◌, ◌%◌, true, ◌&&◌, List, [], ◌∷◌, length, fold, Some, None, refl, ap, ◌∙◌, arith, rules, tests, lit<, ⊎_elim, subst, sym}
+use Rattle.std.specs.Prelude.{All, decimal, nat_lt, nat_le, if◌then◌else◌}
 use Rattle.std.proofs.lemmas.Bool.Decides.{nat_tests}
-use Rattle.std.proofs.lemmas.Fmt.{decimal_by_steps, length-decimal-le}
+use Rattle.std.proofs.lemmas.Fmt.{length-decimal-le}
 use Rattle.std.proofs.lemmas.List.Elements.{All-nil, All-cons, All-head, All-tail}
 use Rattle.vm_types.specs.WellFormed.{IsNumber}
 use Rattle.vm_types.specs.Words.{IsByte, IsWordSize, FitsWord, word_value, word_bytes}
-use Rattle.vm_script.specs.Fields.{is_digit, is_hex_digit, digit_value, value_of_digits, hex_bytes}
+use Rattle.vm_script.specs.Fields.{digit_value}
 use Rattle.vm_script.specs.Texts.{hex_digit, hex_text}
 use Rattle.vm_script.proofs.Printing.{digits_of_decimal, value_of_decimal, some_decimal, hex_digit_back, hex_all, hex_back, hex_count}
 use Rattle.vm_report.specs.Texts.{word_text}

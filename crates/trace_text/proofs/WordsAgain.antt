@@ -1,5 +1,5 @@
 -- Calls, replies and entries that were printed word by word are read again.
-use Rattle.std.proofs.Common.{◌≡◌, ℕ, zero, suc, ◌<◌, ◌^◌, ◌==◌, Bool, true, false, List, [], ◌∷◌, ◌++◌, length, Some, None, refl, sym, ap, ◌∙◌, arith, rules, tests, ⊎_elim}
+use Rattle.std.proofs.Common.{◌≡◌, ℕ, zero, suc, ◌<◌, ◌==◌, Bool, true, false, List, [], ◌∷◌, ◌++◌, length, Some, refl, sym, arith, rules, tests}
 use Rattle.std.specs.Prelude.{codes, decimal, if◌then◌else◌}
 use Rattle.std.proofs.lemmas.Bool.{false≢true}
 use Rattle.std.proofs.lemmas.Bool.Decides.{nat_tests}
@@ -21,7 +21,6 @@ use Rattle.vm_types.specs.declared.call.Signal.{Signal}
 use Rattle.vm_types.specs.declared.call.Signal.TheVariants as signal
 use Rattle.vm_types.specs.Prot.{IsProt}
 use Rattle.vm_types.specs.WellFormed.{IsNumber, IsPlace, IsObject, IsWellFormed}
-use Rattle.vm_types.specs.Words.{IsWordSize, FitsWord}
 use Rattle.vm_script.specs.Texts.{hex_text, prot_text, kind_text}
 use Rattle.vm_script.proofs.Scripts.{size_number}
 use Rattle.vm_report.specs.Texts.{call_word}

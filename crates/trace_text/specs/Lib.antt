@@ -1,3 +1,9 @@
 pub mod EntryForm
 pub mod EntryWords
 pub mod EntryReading
+pub mod TraceLines
+pub mod OpeningWords
+pub mod OpeningReading
+pub mod Traces
+pub mod TraceForm
+pub mod LineOrder

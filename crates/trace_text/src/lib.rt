@@ -1,4 +1,4 @@
-//! The text of traces, read back.
+//! The text of traces: the lines of entries are read back, and what a text tells is said.
 #![tactic(auto)]
 
 mod argument_words;
@@ -12,4 +12,4 @@ mod telling;
 mod trace_laws;
 
 pub use entry_lines::entry_of_line;
-pub use trace_laws::one_entry_law;
+pub use trace_laws::{one_entry_law, one_opening_line_law, one_trace_law};
