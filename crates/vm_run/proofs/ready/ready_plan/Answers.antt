@@ -16,7 +16,8 @@ returns-in-Err-clause-err g c = λ given o is asked before after sink0 sink1 st 
     let old = (g.R.Rack.seen c.args.rack.now).faults in
     let new = (g.R.Rack.seen c.attach.new.rack).faults in
     let u = c.stop_unopened.ensures in
-    stopped-early st ft given o (record { options = c.args.options; plan = c.args.plan }) asked old new (risen-outside old new o before after) (g.K.Sink.seen c.args.out.now) sink0 sink1 g.R.D.Disk.seen
+    stopped-early st ft given o (record { options = c.args.options; plan = c.args.plan }) asked old new (risen-outside old new o before after)
+    (g.K.Sink.seen c.args.out.now) sink0 sink1 g.R.D.Disk.seen
     c.in-Err.back c.stop_unopened.result (record { ending = u.ending; entries = u.entries; counts = u.counts; disks = u.disks; swap = u.swap })
     (subst (λ h. StopsEarly c.args.plan h old new g.R.D.Disk.seen c.in-Err.back) (sym is) c.in-Err.ensures.err)
 
@@ -54,7 +55,8 @@ returns-in-Ok-traced-clause-ready g c =
       λ given is asked. is-ready given (g.K.Sink.seen c.args.out.now) (g.K.Sink.seen c.traced.new.out)
           (record { options = c.args.options; plan = c.args.plan }) p.0 t.0 asked a (attached_seen seen c.traced.new.placed.attached) made c.traced.new.placed.files
           (subst (λ h. ArePlaced c.args.plan h p.0 a made) (sym is) p.1) t.1 c.in-Ok-traced.ensures.disks
-          (search rules) c.in-Ok-traced.ensures.files c.place.new.plan p.2 c.in-Ok-place.ensures.rules (numbered-playable c.args.plan c.place.new.plan holds p.0 a made p.1 p.2 c.requires.read.playable) t.2,
+          (search rules) c.in-Ok-traced.ensures.files c.place.new.plan p.2 c.in-Ok-place.ensures.rules
+          (numbered-playable c.args.plan c.place.new.plan holds p.0 a made p.1 p.2 c.requires.read.playable) t.2,
     )
 
 pub returns-in-Err-traced-clause-err : goal.returns-in-Err-traced-clause-err
@@ -68,7 +70,8 @@ returns-in-Err-traced-clause-err g c = λ given o is asked before after sink0 si
     let b = c.traced.new.placed.attached in
     stopped-tracing st ft given o (record { options = c.args.options; plan = c.args.plan }) p.0 t.0 asked a (attached_seen seen b) made
     (subst (λ h. ArePlaced c.args.plan h p.0 a made) (sym is) p.1) t.1
-    c.in-Err-traced.ensures.disks (search rules) (g.K.Sink.seen c.args.out.now) (g.K.Sink.seen c.traced.new.out) sink0 sink1 c.place.new.plan p.2 c.in-Err-traced.ending t.2 seen b.disks.items b.swap refl refl
+    c.in-Err-traced.ensures.disks (search rules) (g.K.Sink.seen c.args.out.now)
+    (g.K.Sink.seen c.traced.new.out) sink0 sink1 c.place.new.plan p.2 c.in-Err-traced.ending t.2 seen b.disks.items b.swap refl refl
     c.stop_untraced.result c.stop_untraced.ensures.ending c.stop_untraced.ensures.entries c.stop_untraced.ensures.counts c.stop_untraced.ensures.disks c.stop_untraced.ensures.swap
 
 pub returns-in-Err-clause-back : goal.returns-in-Err-clause-back

@@ -8,7 +8,7 @@ use Rattle.volume_files.specs.Opened.{opened_bytes_at, infos_of}
 use Rattle.volume_files.specs.Texts.{Wrote}
 use Rattle.volume_files.specs.Written.{infos_made}
 use Rattle.volume_files.specs.Written.{AreFilesBytes, TraceShows, disk_sizes}
-use Rattle.vm_run.proofs.Sinks.{wrote_nothing}
+use Rattle.volume_files.proofs.WrittenTexts.{wrote_nothing}
 use Rattle.vm_run.proofs.Traced.{no-trace, own-bytes, read-bytes, traced-part, traced-whole, written-back}
 use Rattle.vm_run.proofs.ready.traced.Goals as goal
 
