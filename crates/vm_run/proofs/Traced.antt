@@ -276,6 +276,7 @@ module _ (st : ℕ) (ft : Option RunFault) (g : Given) (o : Outside) (what : Ask
   cause f c = if-counted ⊥ (λ x. IsCountedBy what.plan (bare_disks new) a.swap f.disk x.0 x.1) f.counts c.fault.risen (counted (open_fault_counts f) c)
 
   pub traced-stop : (how : Ending) → (how ≡ ending.Memory → IsTrue o.exact → AreUncounted (bare_disks new) a.swap) → TraceStops what.options (numbered_plan files what.plan) files bytes o.sink_old o.sink_new a.disks new how → CaseOf g o (wrote_before o) stopped how
+  unfolding opened-so
   traced-stop ending.Memory none t = inr (inr (inl (record {
     what = what;
     files = files;
@@ -321,6 +322,7 @@ module _ (st : ℕ) (ft : Option RunFault) (g : Given) (o : Outside) (what : Ask
 
   -- memory lacked behind the whole opening part
   pub lacks-behind : (IsTrue o.exact → AreUncounted (bare_disks new) a.swap) → Wrote o.sink_old o.sink_new (opening_part what files (bare_disks new) bytes) → CaseOf g o (wrote_before o) stopped ending.Memory
+  unfolding opened-so
   lacks-behind none wrote = inr (inr (inl (record {
     what = what;
     files = files;

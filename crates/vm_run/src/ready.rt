@@ -202,15 +202,15 @@ fn ready_plan<K: Sink, R: Rack>(
     ensures back { IfErr result (λ s. (R.seen rack.new).attached
         ≡ (R.seen rack.old).attached + handed_count s.disks.items s.swap) }
     // Where it is ready, or memory lacked, none counted a fault.
-    ensures rack_steady { IfOk result (λ _. (R.seen rack.new).faults ≡ (R.seen rack.old).faults) }
-    ensures sink_steady { IfOk result (λ _. (K.seen out.new).faults ≡ (K.seen out.old).faults) }
+    ensures served { IfOk result (λ _.
+        ((R.seen rack.new).faults ≡ (R.seen rack.old).faults)
+        × ((K.seen out.new).faults ≡ (K.seen out.old).faults)) }
     ensures uncounted { IsTrue R.D.exact → IfOk result (λ r.
         AreUncounted (bare_disks (attached_seen R.D.seen r.placed.attached).disks)
         (attached_seen R.D.seen r.placed.attached).swap) }
-    ensures rack_lacks { IfErr result (λ s. s.ending ≡ Memory
-        → (R.seen rack.new).faults ≡ (R.seen rack.old).faults) }
-    ensures sink_lacks { IfErr result (λ s. s.ending ≡ Memory
-        → (K.seen out.new).faults ≡ (K.seen out.old).faults) }
+    ensures lacks { IfErr result (λ s. s.ending ≡ Memory
+        → ((R.seen rack.new).faults ≡ (R.seen rack.old).faults)
+        × ((K.seen out.new).faults ≡ (K.seen out.old).faults)) }
     // No count falls.
     ensures rack { (R.seen rack.old).faults ≤ (R.seen rack.new).faults }
     ensures sink { (K.seen out.old).faults ≤ (K.seen out.new).faults }

@@ -92,8 +92,8 @@ fn run_ready<D: Disk, K: Sink>(
         (attached_seen D.seen ready.placed.attached) ready.placed.files ready.plan
         → o.sink_old.faults ≤ (K.seen out.old).faults → o.sink_new ≡ K.seen out.new
         → (IsTrue o.exact
-            → AreUncounted (bare_disks (attached_seen D.seen ready.placed.attached).disks)
-            (attached_seen D.seen ready.placed.attached).swap)
+        → AreUncounted (bare_disks (attached_seen D.seen ready.placed.attached).disks)
+        (attached_seen D.seen ready.placed.attached).swap)
         → HasCase g o D.seen result }
     ensures hides { result.ending ≡ Memory → (K.seen out.new).faults ≡ (K.seen out.old).faults }
     ensures count { handed_count result.disks.items result.swap
