@@ -69,4 +69,7 @@ module _ (g : Given) (o : Outside) (e : End) where
   by-case ending.Memory s f c what files is op ns nk nr = inr (inl s)
 
   pub completes : RunEnds g o e → IsComplete g o e
-  completes r = by-case r.how r.status r.fault r.case
+  completes r = elim r.case [
+    | inl told ↦ by-case r.how r.status r.fault told.case
+    | inr line ↦ λ what files is op ns nk nr. inr (inl (r.status ∙ ap status_of line.memory))
+  ]

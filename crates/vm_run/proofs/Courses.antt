@@ -41,6 +41,7 @@ use Rattle.volume_files.proofs.DiskLists.{at-map, in-map, mate, number, to-all, 
 use Rattle.vm_run.proofs.DisksTell.{file-disks-tell}
 use Rattle.vm_run.proofs.KeptBytes.{stored-kept}
 use Rattle.vm_run.proofs.Returned.{swap-serves-still}
+use Rattle.volume_files.proofs.GivenFiles.{comes-sizes}
 
 -- a disk that tells did so before
 told-before : (old new : DiskSeen) → KeepsBlocks old new → IsSome new.content → IsSome old.content
@@ -143,7 +144,7 @@ module _ (st : ℕ) (ft : Option RunFault) (g : Given) (what : Asked) (files : L
   is-opened = record {
     asked = ready.asked;
     handed = hands-all;
-    given = subst (λ (xs : List (ℕ × ℕ)). ComesTo what.plan g.holds xs (Ok files)) (sym sizes-new) ready.placed.given;
+    given = comes-sizes what.plan g.holds (disk_sizes a.disks) (sizes_of what.plan (bare_disks new)) (Ok files) (sym sizes-new) ready.placed.given;
     opened = λ t. ready.placed.told t.rack (disks-told t);
   }
 
@@ -227,7 +228,8 @@ module _ (st : ℕ) (ft : Option RunFault) (g : Given) (what : Asked) (files : L
         let told = All-slice_get (λ (d : DiskSeen). IsSome d.content) (bare_disks new) there.0 there.1 t.disks.each (at-map (λ (p : ℕ × DiskSeen). p.1) new there.0 disk there.2) in
         let own : info.disk ≡ v.0.info.disk = ap (λ (i : FileInfo). i.disk) (sym v.2) in
         both there.1.content (shown k) _ info told (are.told there.0 k disk info there.2 at own)
-        (subst (λ (i : FileInfo). IfSome there.1.content (λ blocks. stored_bytes blocks i ≡ flat_bytes (flat_closed what files (bare_disks new) l.history.entries).files k)) (at-place (infos_made l.files) k info at)
+        (subst (λ (i : FileInfo). IfSome there.1.content (λ blocks. stored_bytes blocks i ≡ flat_bytes
+        (flat_closed what files (bare_disks new) l.history.entries).files k)) (at-place (infos_made l.files) k info at)
         (stored none t there.0 k disk there.2 (within (infos_made l.files) k info at) (ap (λ (i : FileInfo). i.disk) (at-place (infos_made l.files) k info at) ∙ own)));
   }
     where

@@ -1,5 +1,6 @@
 -- The flat memory of a kernel at the start: that of the files as they are opened.
-use Rattle.std.proofs.Common.{◌≡◌, ◌≢◌, ℕ, zero, suc, ◌+◌, ◌-◌, ◌*◌, ◌<◌, ◌≤◌, ◌==◌, min, Bool, true, false, cond, List, [], ◌∷◌, ◌++◌, length, map, take, replicate, Option, Some, None, refl, sym, ap, ◌∙◌, ◌⊎◌, inl, inr, subst, arith}
+use Rattle.std.proofs.Common.{◌≡◌, ◌≢◌, ℕ, zero, suc, ◌+◌, ◌-◌, ◌*◌, ◌<◌, ◌≤◌, ◌==◌, min, Bool, true, false, cond, List, [], ◌∷◌, ◌++◌, length, map, take}
+use Rattle.std.proofs.Common.{replicate, Option, Some, None, refl, sym, ap, ◌∙◌, ◌⊎◌, inl, inr, subst, arith}
 use Rattle.std.specs.Prelude.{slice_get, slice_index_or, option_map, is_some, unwrap_or, nat_le, not, IsSome, IfSome, IsTrue, All, ◌||◌}
 use Rattle.std.specs.List.{list_any, concat, range_with_len}
 use Rattle.std.specs.Ordering.{nat_cmp, is_eq}
@@ -117,7 +118,8 @@ module _ (w : World) (f : ℕ) (o : OpenedFile) (blocks : List (List ℕ)) (is :
           let last = kept m (omega (arith, e)) in
           let count = length-page_blocks o.info.extents in
           let size = length-map (page_blocks o.info.extents) (λ (b : ℕ). slice_index_or blocks b []) in
-          pages-agree (file_contents (page_value w no_notes) f) (λ (i : ℕ). clip (min (o.info.length - i * 4096) 4096) (slice_index_or (its_pages blocks o.info) i [])) (suc m) (λ i lt. page-is i (subst (λ (n : ℕ). i < n) (sym e) lt))
+          pages-agree (file_contents (page_value w no_notes) f) (λ (i : ℕ). clip (min (o.info.length - i * 4096) 4096)
+          (slice_index_or (its_pages blocks o.info) i [])) (suc m) (λ i lt. page-is i (subst (λ (n : ℕ). i < n) (sym e) lt))
           ∙ sym (opened-pages (its_pages blocks o.info) o.info.length (suc m) (is.whole some) (omega (arith, last, count, size)))
           ∙ ap (λ (bytes : List ℕ). pages_of_bytes (suc m) (bytes ++ replicate (4096 * suc m - o.info.length) 0)) (is.stores some)
 
@@ -131,8 +133,10 @@ opened-files w k [] each = refl
 opened-files w k (o ∷ files) each =
     let e : k + 0 ≡ k = omega arith in
     let here = each 0 o refl in
-    ap (λ (x : File). x ∷ files_with_pages (file_contents (page_value w no_notes)) (suc k) (map (λ (o : OpenedFile). o.info) files)) (opened-file w k o here.0 (subst (λ (n : ℕ). IsAsOpened w n o here.0) e here.1))
-    ∙ ap (λ (xs : List File). opened_flat_file o ∷ xs) (opened-files w (suc k) files (λ i p is. let s : k + suc i ≡ suc k + i = omega arith in let next = each (suc i) p is in (next.0, subst (λ (n : ℕ). IsAsOpened w n p next.0) s next.1)))
+    ap (λ (x : File). x ∷ files_with_pages (file_contents (page_value w no_notes)) (suc k) (map (λ (o : OpenedFile). o.info) files))
+    (opened-file w k o here.0 (subst (λ (n : ℕ). IsAsOpened w n o here.0) e here.1))
+    ∙ ap (λ (xs : List File). opened_flat_file o ∷ xs) (opened-files w (suc k) files
+    (λ i p is. let s : k + suc i ≡ suc k + i = omega arith in let next = each (suc i) p is in (next.0, subst (λ (n : ℕ). IsAsOpened w n p next.0) s next.1)))
 
 -- THE PROCESSES without a parent.
 tops-marked : (k : ℕ) (parents : List ℕ) → top_processes k parents ≡ marked_processes k (map (λ (n : ℕ). n == 0) parents)

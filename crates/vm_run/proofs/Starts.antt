@@ -48,18 +48,22 @@ pub bare_disks-are : {D : Type 0} (seen : D → DiskSeen) (disks : List (Numbere
 bare_disks-are seen [] = refl
 bare_disks-are seen (d ∷ disks) = ap (λ (l : List DiskSeen). seen d.disk ∷ l) (bare_disks-are seen disks)
 
-pub swap-is : {D : Type 0} (seen : D → DiskSeen) (swap : Option (NumberedDisk D)) → option_map seen (option_map (λ (d : NumberedDisk D). d.disk) swap) ≡ option_map (λ (d : NumberedDisk D). seen d.disk) swap
+pub swap-is : {D : Type 0} (seen : D → DiskSeen) (swap : Option (NumberedDisk D))
+    → option_map seen (option_map (λ (d : NumberedDisk D). d.disk) swap) ≡ option_map (λ (d : NumberedDisk D). seen d.disk) swap
 swap-is seen None = refl
 swap-is seen (Some d) = refl
 
-pub total-is : {D : Type 0} (seen : D → DiskSeen) (disks : List (NumberedDisk D)) (swap : Option (NumberedDisk D)) → disk_total (map with_number disks) (option_map (λ (d : NumberedDisk D). d.disk) swap)
+pub total-is : {D : Type 0} (seen : D → DiskSeen) (disks : List (NumberedDisk D)) (swap : Option (NumberedDisk D))
+    → disk_total (map with_number disks) (option_map (λ (d : NumberedDisk D). d.disk) swap)
     ≡ length (map (numbered_seen seen) disks) + cond (is_some (option_map (λ (d : NumberedDisk D). seen d.disk) swap)) 1 0
 total-is seen disks None = ap (λ (n : ℕ). n + 0) (length-map disks with_number ∙ sym (length-map disks (numbered_seen seen)))
 total-is seen disks (Some d) = ap (λ (n : ℕ). n + 1) (length-map disks with_number ∙ sym (length-map disks (numbered_seen seen)))
 
 -- What a start that lacked memory hands back.
-module _ {D : Type 0} (seen : D → DiskSeen) (plan : PlanSeen) (told : Spec → Option (List (List ℕ))) (files : List OpenedFile) (attached : Attached D) (made : FilesSeen) (p : ArePlaced plan told files (attached_seen seen attached) made)
-    (s : Stop D) (pairs : List (ℕ × D)) (are : pairs ≡ map with_number attached.disks.items) (disks : s.disks.items ≡ map (λ (d : ℕ × D). d.1) pairs) (swap : s.swap ≡ option_map (λ (d : NumberedDisk D). d.disk) attached.swap) where
+module _ {D : Type 0} (seen : D → DiskSeen) (plan : PlanSeen) (told : Spec → Option (List (List ℕ))) (files : List OpenedFile) (attached : Attached D)
+    (made : FilesSeen) (p : ArePlaced plan told files (attached_seen seen attached) made)
+    (s : Stop D) (pairs : List (ℕ × D)) (are : pairs ≡ map with_number attached.disks.items) (disks : s.disks.items ≡ map (λ (d : ℕ × D). d.1) pairs)
+    (swap : s.swap ≡ option_map (λ (d : NumberedDisk D). d.disk) attached.swap) where
   pub its-disks : map seen s.disks.items ≡ bare_disks (map (numbered_seen seen) attached.disks.items)
   its-disks = ap (map seen) (disks ∙ ap (map (λ (d : ℕ × D). d.1)) are) ∙ bare_disks-are seen attached.disks.items
 
@@ -86,17 +90,20 @@ module _ (plan : PlanSeen) (holds : Spec → Option (List (List ℕ))) (files : 
     where
       by_swap : (o : Option DiskSeen) → IsSwapFor (amounts_of plan.setup).slots o → cond (is_some o) 1 0 ≤ cond ((amounts_of plan.setup).slots == 0) 0 1
       by_swap None none = omega arith
-      by_swap (Some d) has = let one : ◌≡◌ {A = ℕ} 1 (cond ((amounts_of plan.setup).slots == 0) 0 1) = ap (λ (b : Bool). cond b 0 1) (sym (ne_eqb (amounts_of plan.setup).slots 0 (λ e. let low = has.0 in absurd (omega (arith, e, low))))) in omega (arith, one)
+      by_swap (Some d) has = let one : ◌≡◌ {A = ℕ} 1 (cond ((amounts_of plan.setup).slots == 0) 0 1) = ap (λ (b : Bool). cond b 0 1)
+          (sym (ne_eqb (amounts_of plan.setup).slots 0 (λ e. let low = has.0 in absurd (omega (arith, e, low))))) in omega (arith, one)
 
   pub are-numbers : AreNumbers (map (λ (d : ℕ × DiskSeen). d.0) a.disks)
   are-numbers = subst AreNumbers (sym p.numbers) (disk-numbers plan.setup)
 
   -- THE KERNEL
   pub started : (s : KernelState) → IsOpening s → StateFits (flat_memory s.memory s.born no_notes) s no_seats → AreHome s.memory.world.store.bays a.disks a.swap
-      → s.memory.world.store.order ≡ map (λ (d : ℕ × DiskSeen). d.0) a.disks → s.memory.world.files ≡ made → s.parents ≡ plan.parents → HasRoomForPlan plan s.entries → length s.entries ≡ length plan.parents
-      → 1 ≤ length s.syncs → length plan.parents ≤ length s.syncs → length s.memory.world.anon.counts ≡ (amounts_of plan.setup).slots
+      → s.memory.world.store.order ≡ map (λ (d : ℕ × DiskSeen). d.0) a.disks → s.memory.world.files ≡ made → s.parents ≡ plan.parents
+      → HasRoomForPlan plan s.entries → length s.entries ≡ length plan.parents
+      → 1 ≤ length s.syncs → length plan.parents ≤ length s.syncs → length s.memory.world.store.frames ≡ (amounts_of plan.setup).frames
+      → length s.memory.world.hat.places ≡ (amounts_of plan.setup).translations → length s.memory.world.anon.counts ≡ (amounts_of plan.setup).slots
       → IsStarted plan (opening_flat plan (map (λ (d : ℕ × DiskSeen). (d.0, d.1.size)) a.disks) files) a.disks a.swap made s
-  started s opening fits at_home order is parents rooms count some enough slots =
+  started s opening fits at_home order is parents rooms count some enough frames translations slots =
       let with' : IsStartedWith files a.disks a.swap s = record {
         opening = opening;
         fresh = ap (λ (f : FilesSeen). f.files) is ∙ p.fresh;
@@ -114,6 +121,8 @@ module _ (plan : PlanSeen) (holds : Spec → Option (List (List ℕ))) (files : 
         racked = ap (disks_in s.memory.world.store.bays) order ∙ racked a.disks at_home.each;
         swapped = at_home.swap;
         placed = is;
+        frames = frames;
+        translations = translations;
         slots = slots;
         well = p.well;
         have = p.have;
