@@ -1,20 +1,29 @@
 -- What contracts see of a disk that begins blank. Inside: no clause of `run` cites this.
-use Rattle.std.specs.Prelude.{ℕ, zero, suc, ◌+◌, ◌-◌, ◌≡◌, ◌<◌, ◌≤◌, List, [], ◌∷◌, ◌++◌, length, replicate, slice_index, Some}
-use Rattle.std.proofs.Common.{ap, ◌∙◌}
+use Rattle.std.specs.Prelude.{ℕ, zero, suc, ◌+◌, ◌-◌, ◌≡◌, ◌<◌, ◌≤◌, List, [], ◌∷◌, ◌++◌, length, replicate, map, slice_index, slice_index_or, Option, Some, None}
+use Rattle.std.proofs.Common.{ap, ◌∙◌, subst}
 use Rattle.std.proofs.lemmas.List.{length-append, length-map, length-replicate}
 use Rattle.std.proofs.Math.Nat.{not-suc-le-zero, le_of_suc-le-suc, le-add_right, add-sub_of_le}
-use Rattle.block_device.specs.DiskSeen.{AreBlocks, DiskSeen, HasBlocks}
-use Rattle.block_device.specs.MemDiskLook.{blocks_seen}
+use Rattle.block_device.specs.DiskSeen.{AreBlocks, DiskSeen, HasBlocks, IsBlock}
 use Rattle.block_device.specs.MemSeen.{blank_blocks}
 use Rattle.block_device.specs.declared.block.Block.{Block}
 use Rattle.sunvm.specs.declared.blank_disk.BlankDisk.{BlankDisk}
 
--- the bytes of the blocks: those written, and zeros behind them
-abbrev pub blank_content : List Block → ℕ → List (List ℕ)
-blank_content written size = blocks_seen written ++ blank_blocks (size - length written)
+-- the bytes of a block by its place: zeros where it wasn't written
+abbrev pub bytes_at : List Block → ℕ → List ℕ
+bytes_at [] place = replicate 4096 0
+bytes_at (b ∷ written) zero = b.bytes
+bytes_at (b ∷ written) (suc place) = bytes_at written place
+
+abbrev pub bytes_in : List Block → Option ℕ → List ℕ
+bytes_in written None = replicate 4096 0
+bytes_in written (Some place) = bytes_at written place
+
+-- the bytes of the blocks: those that have a place, or none, and zeros behind them
+abbrev pub blank_content : List (Option ℕ) → List Block → ℕ → List (List ℕ)
+blank_content places written size = map (bytes_in written) places ++ blank_blocks (size - length places)
 
 abbrev pub blank_disk_seen : BlankDisk → DiskSeen
-blank_disk_seen d = record { content = Some (blank_content d.written.items d.size); size = d.size; faults = 0; calls = d.calls }
+blank_disk_seen d = record { content = Some (blank_content d.places.items d.written.items d.size); size = d.size; faults = 0; calls = d.calls }
 
 -- a disk of so many blocks of zeros, of which no call was made yet
 abbrev pub fresh_blank_disk : ℕ → DiskSeen
@@ -25,20 +34,32 @@ zeros_are_bytes zero at = le-add_right 1 255
 zeros_are_bytes (suc count) zero = le-add_right 1 255
 zeros_are_bytes (suc count) (suc at) = zeros_are_bytes count at
 
-pub content_is_blocks : (written : List Block) (blank : ℕ) → AreBlocks (blocks_seen written ++ blank_blocks blank)
-content_is_blocks [] zero block inside = absurd (not-suc-le-zero inside)
-content_is_blocks [] (suc blank) zero inside = (length-replicate {A = ℕ} 4096 0, zeros_are_bytes 4096)
-content_is_blocks [] (suc blank) (suc block) inside = content_is_blocks [] blank block (le_of_suc-le-suc inside)
-content_is_blocks (b ∷ written) blank zero inside = b.full
-content_is_blocks (b ∷ written) blank (suc block) inside = content_is_blocks written blank block (le_of_suc-le-suc inside)
+pub zeros_are_block : IsBlock (replicate 4096 0)
+zeros_are_block = (length-replicate {A = ℕ} 4096 0, zeros_are_bytes 4096)
 
-pub content_length : (written : List Block) (size : ℕ) → length written ≤ size → length (blank_content written size) ≡ size
-content_length written size few =
-    length-append (blocks_seen written) (blank_blocks (size - length written))
-    ∙ ap (λ (count : ℕ). count + length (blank_blocks (size - length written))) (length-map written (λ (b : Block). b.bytes))
-    ∙ ap (λ (count : ℕ). length written + count) (length-replicate (size - length written) (replicate 4096 0))
+pub bytes_are_block : (written : List Block) (place : ℕ) → IsBlock (bytes_at written place)
+bytes_are_block [] place = zeros_are_block
+bytes_are_block (b ∷ written) zero = b.full
+bytes_are_block (b ∷ written) (suc place) = bytes_are_block written place
+
+pub block_is_block : (written : List Block) (o : Option ℕ) → IsBlock (bytes_in written o)
+block_is_block written None = zeros_are_block
+block_is_block written (Some place) = bytes_are_block written place
+
+pub content_is_blocks : (places : List (Option ℕ)) (written : List Block) (blank : ℕ) → AreBlocks (map (bytes_in written) places ++ blank_blocks blank)
+content_is_blocks [] written zero block inside = absurd (not-suc-le-zero inside)
+content_is_blocks [] written (suc blank) zero inside = zeros_are_block
+content_is_blocks [] written (suc blank) (suc block) inside = content_is_blocks [] written blank block (le_of_suc-le-suc inside)
+content_is_blocks (o ∷ places) written blank zero inside = block_is_block written o
+content_is_blocks (o ∷ places) written blank (suc block) inside = content_is_blocks places written blank block (le_of_suc-le-suc inside)
+
+pub content_length : (places : List (Option ℕ)) (written : List Block) (size : ℕ) → length places ≤ size → length (blank_content places written size) ≡ size
+content_length places written size few =
+    length-append (map (bytes_in written) places) (blank_blocks (size - length places))
+    ∙ ap (λ (count : ℕ). count + length (blank_blocks (size - length places))) (length-map places (bytes_in written))
+    ∙ ap (λ (count : ℕ). length places + count) (length-replicate (size - length places) (replicate 4096 0))
     ∙ add-sub_of_le few
 
 -- The content is blocks of 4096 bytes.
 pub blank_disk_has_blocks : (d : BlankDisk) → HasBlocks (blank_disk_seen d).content (blank_disk_seen d).size
-blank_disk_has_blocks d = (content_length d.written.items d.size d.few, content_is_blocks d.written.items (d.size - length d.written.items))
+blank_disk_has_blocks d = (content_length d.places.items d.written.items d.size d.few, content_is_blocks d.places.items d.written.items (d.size - length d.places.items))

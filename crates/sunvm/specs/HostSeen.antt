@@ -13,10 +13,10 @@ pub record HostRackSeen : Type 0 where
 
 -- A disk in memory tells its content, and one over a file doesn't.
 abbrev pub host_disk_seen : HostDisk → DiskSeen
-host_disk_seen (Blank disk) = blank_disk_seen disk
+host_disk_seen (Blank disk) = blank_disk_seen disk.value
 host_disk_seen (Path disk) = file_disk_as_disk disk
 
 -- What it tells is blocks of 4096 bytes.
 pub host_disk_has_blocks : (d : HostDisk) → HasBlocks (host_disk_seen d).content (host_disk_seen d).size
-host_disk_has_blocks (Blank disk) = blank_disk_has_blocks disk
+host_disk_has_blocks (Blank disk) = blank_disk_has_blocks disk.value
 host_disk_has_blocks (Path disk) = tt

@@ -1,2 +1,3 @@
 pub mod BlankDisks
+pub mod BlankPlaces
 pub mod HostSeen

@@ -4,10 +4,11 @@ use block_device::{Disk, Failed};
 use disk_file::FileDisk;
 use std::fs::File;
 
-/// A disk in memory, which is lost as the program ends, or one over a file.
+/// A disk in memory, which is lost as the program ends, or one over a file. That in memory is boxed: a disk moves with each
+/// flight.
 #[derive(Drop)]
 pub enum HostDisk {
-    Blank(BlankDisk),
+    Blank(Box<BlankDisk>),
     Path(FileDisk<File>),
 }
 

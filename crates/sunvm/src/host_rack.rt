@@ -1,5 +1,6 @@
 //! The rack of the program.
-ghost use Rattle.std.specs.Prelude.{◌≡◌};
+ghost use Rattle.std.specs.Prelude.{◌≡◌, IfSome};
+ghost use Rattle.sunvm.specs.BlankDisks.{blank_disk_seen, fresh_blank_disk};
 ghost use Rattle.sunvm.specs.HostSeen.{HostRackSeen};
 
 use crate::blank_disk::BlankDisk;
@@ -42,6 +43,19 @@ impl<'a, R: Files<File = File>> HostRack<'a, R> {
     }
 }
 
+/// A disk of so many blank blocks, in a box.
+fn boxed(alloc: Global, blocks: u32) -> Option<Box<BlankDisk>>
+    ensures { IfSome result (λ disk. blank_disk_seen disk.value ≡ fresh_blank_disk blocks) }
+{
+    let Ok(disk) = BlankDisk::new(alloc, blocks) else {
+        return None;
+    };
+    match Box::new(alloc, disk) {
+        Ok(boxed) => Some(boxed),
+        Err(_) => None,
+    }
+}
+
 impl<R: Files<File = File>> Rack for HostRack<'_, R> {
     ghost use Rattle.std.specs.Prelude.{None};
 
@@ -60,12 +74,12 @@ impl<R: Files<File = File>> Rack for HostRack<'_, R> {
         };
         match spec {
             Spec::Blank { blocks, .. } => {
-                match BlankDisk::new(self.alloc, *blocks) {
-                    Ok(disk) => {
+                match boxed(self.alloc, *blocks) {
+                    Some(disk) => {
                         self.attached = attached;
                         Ok(HostDisk::Blank(disk))
                     }
-                    Err(_) => Err(RackFault::Memory),
+                    None => Err(RackFault::Memory),
                 }
             }
             Spec::Path { path, .. } => {

@@ -15,6 +15,7 @@ ghost use Rattle.vm_world.specs.WorldSteps.{WorldStep, returns};
 ghost use Rattle.vm_core.specs.Fits.{FitsAt};
 ghost use Rattle.vm_core.specs.Flights.{IsBack, answer_at_end, EndsWith};
 
+use crate::kept::forget;
 use crate::state::VmState;
 use block_device::Disk;
 use page_store::Flight;
@@ -92,6 +93,6 @@ impl<D: Disk> VmState<D> {
             ≡ record self.old.memory.world { store = self.new.memory.world.store } }
     {
         end_flight(&mut self.world, flight);
-        self.plan = None;
+        forget(&mut self.plan);
     }
 }

@@ -1,6 +1,5 @@
-use Rattle.std.proofs.Common.{◌∙◌, length, ap, arith}
-use Rattle.block_device.specs.MemDiskLook.{blocks_seen}
-use Rattle.sunvm.proofs.BlankDiskLemmas.{one-more-blank}
+use Rattle.std.proofs.Common.{◌∙◌, ◌∷◌, [], ◌++◌, Option, List, ℕ, None, length, replicate, ap, arith}
+use Rattle.sunvm.proofs.BlankDiskLemmas.{one-more-none}
 use Rattle.sunvm.proofs.blank_disk.fill.Goals as goal
 
 pub loop-preserved : goal.loop-preserved
@@ -9,5 +8,6 @@ loop-preserved c =
       omega (arith, c.push_reserved.ensures.len, i.0),
       omega (arith, i.1),
       c.push_reserved.ensures.capacity ∙ i.2,
-      ap blocks_seen c.push_reserved.ensures.items ∙ one-more-blank c.loop.written.items c.args.written.now.items c.loop.counter (length c.args.written.now.items) c.zeros.result (omega (arith, i.1, c.len-counter.ensures)) c.zeros.ensures i.3,
+      c.push_reserved.ensures.items ∙ ap (λ (l : List (Option ℕ)). l ++ None ∷ []) i.3 ∙ one-more-none c.args.places.now.items c.loop.counter (omega (arith, i.1, c.len-counter.ensures)),
+      omega (arith, i.1, c.len-counter.ensures),
     )
