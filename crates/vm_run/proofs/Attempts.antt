@@ -22,7 +22,8 @@ pub failed-made : (s t u : KernelState) (call : Call) (answer : Option Reply) �
 failed-made s t u call None none is grows = absurd (let z : false ≡ true = is in cc)
 failed-made s t u call (Some reply) none is grows = one-more-as s t u 1 call none.same grows
 
-pub made-nothing : (s t u : KernelState) (call : Call) (answer : Option Reply) → MadeNothing s t → IsEvent 0 t None u None → is_some answer ≡ false → GrowsWith (Some (1, call)) answer t u → MadeNothing s u
+pub made-nothing : (s t u : KernelState) (call : Call) (answer : Option Reply) → MadeNothing s t → IsEvent 0 t None u None → is_some answer ≡ false
+    → GrowsWith (Some (1, call)) answer t u → MadeNothing s u
 made-nothing s t u call None none event is grows = record { event = then-too s t u none.event event; same = grows ∙ none.same }
 made-nothing s t u call (Some reply) none event is grows = absurd (let z : true ≡ false = is in cc)
 

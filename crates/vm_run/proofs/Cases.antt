@@ -1,7 +1,6 @@
 -- How a run ended whose processes ran.
-use Rattle.std.proofs.Common.{◌≡◌, ℕ, ◌≤◌, ◌<◌, ◌++◌, true, false, List, [], ◌∷◌, length, map, refl, sym, ap, ◌∙◌, subst, arith, inl, inr}
+use Rattle.std.proofs.Common.{◌≡◌, ℕ, ◌≤◌, ◌<◌, ◌++◌, true, false, List, [], refl, sym, ap, ◌∙◌, subst, arith, inl, inr}
 use Rattle.std.specs.Prelude.{◌⊎◌, Bool, IsTrue, Option, Some, None, slice_get, slice_index_or, IfSome}
-use Rattle.vm_types.specs.declared.call.Entry.{Entry}
 use Rattle.block_device.specs.DiskSeen.{DiskSeen}
 use Rattle.block_device.specs.StreamSeen.{SinkSeen}
 use Rattle.block_device.specs.declared.disk_fault.DiskFault.{DiskFault}
@@ -13,22 +12,22 @@ use Rattle.vm_script.specs.Told.{Told, ToldFront}
 use Rattle.vm_world.specs.State.{KernelState}
 use Rattle.vm_run.specs.declared.ending.Ending.{Ending}
 use Rattle.vm_run.specs.declared.ending.Ending.TheVariants as ending
-use Rattle.volume_files.specs.declared.showing.Heading.TheVariants.{Report}
 use Rattle.vm_run.specs.declared.outcome.RunFault.{RunFault}
 use Rattle.vm_run.specs.Asked.{Given, Asked}
 use Rattle.volume_files.specs.Attached.{AttachedSeen, bare_disks}
 use Rattle.volume_files.specs.Closed.{SayTables, SaysTable}
-use Rattle.vm_run.specs.Course.{IsReady, CloseEnds, CloseFails, ShowEnds, TablesEnd, ShowsClosed, FailsTable, LacksTable}
+use Rattle.vm_run.specs.Course.{IsReady, CloseEnds, CloseFails, ShowEnds, LacksTable}
 use Rattle.vm_run.specs.Ended.{HasLateCause}
 use Rattle.volume_files.specs.Opened.{OpenedFile, infos_of, opening_flat}
 use Rattle.vm_run.specs.Played.{IsStarted, KernelLeaves, LeftSeen, IsClosingFault}
 use Rattle.volume_files.specs.Written.{infos_made}
-use Rattle.vm_run.specs.Run.{CaseOf, Course, LeavesFiles, Outside, WasShown, Lacks, LacksLate, RunsThrough, middle_of, opening_of, opening_part, plan_opened, wrote_before}
-use Rattle.volume_files.specs.Texts.{Wrote, WroteAndFront, WroteAndPart, WroteFront, WroteOn, WrotePart, sections_before}
-use Rattle.vm_run.specs.AskedTexts.{files_or_none, middle_text, trace_opening}
+use Rattle.vm_run.specs.Run.{CaseOf, Course, LeavesFiles, Outside, WasShown, Lacks, RunsThrough, middle_of, opening_of, opening_part, plan_opened, wrote_before}
+use Rattle.volume_files.specs.Texts.{Wrote, WroteAndFront, WroteAndPart, WroteFront, WroteOn, WrotePart}
+use Rattle.vm_run.specs.AskedTexts.{middle_text, trace_opening}
 use Rattle.volume_files.specs.Written.{AreFilesBytes, AreOnlyRead, FaultCounts, HaveDisks, IsCountedSince, KeepsBlocks, OnlyReads, WriteTables, disk_fault_counts, disk_sizes}
-use Rattle.volume_files.proofs.DiskLists.{mate, have-written, writes-refl, same-member}
-use Rattle.vm_run.proofs.Sinks.{front_behind, nothing_more, on_behind, part_behind, risen_before, still_wrote, wrote_then}
+use Rattle.volume_files.proofs.DiskLists.{mate, have-written, writes-refl}
+use Rattle.volume_files.proofs.WrittenTexts.{appended_nothing, risen_since, wrote_then}
+use Rattle.vm_run.proofs.Sinks.{front_behind, on_behind, part_behind, still_wrote}
 use Rattle.vm_run.proofs.Courses.{ended, begun, closes, closed-bytes, late-cause, leaves, sizes-same}
 
 -- disks that are only read after their tables were written
@@ -147,7 +146,7 @@ module _ (st : ℕ) (ft : Option RunFault) (g : Given) (o : Outside) (what : Ask
       begun = begun st ft g what files bytes a made plan o.sink_old k1 ready s l started left new w;
       told = subst (λ (p : PlanSeen). ToldFront p l.history.entries) ready.numbered told;
       left = kept;
-      wrote = inl (still_wrote o.sink_old k1 o.sink_new opening first (wrote ∙ sym (nothing_more k1.written)));
+      wrote = inl (still_wrote o.sink_old k1 o.sink_new opening first (wrote ∙ sym (appended_nothing k1.written)));
     })))
 
   -- the cause of a fault in closing
@@ -168,7 +167,8 @@ module _ (st : ℕ) (ft : Option RunFault) (g : Given) (o : Outside) (what : Ask
     cause = fault-cause h new w i disk
         (at ∙ ap (λ (x : DiskFault). Some (x.disk, disk)) (sym c.0)) (subst (λ (x : DiskFault). x.disk < 8) (sym c.0) small) (subst (λ (x : DiskFault). x.after ≡ disk.faults) (sym c.0) last)
         (subst (λ (x : DiskFault). (count : ℕ) × (slice_index_or l.history.faults x.disk None ≡ Some count) × (count ≤ x.before)) (sym c.0) since);
-    wrote = subst (λ (x : DiskFault). WroteOn o.sink_old o.sink_new (opening_of (course (λ k. [])) (e new w)) (middle_of (course (λ k. [])) (e new w) ++ disk_fault_text x.disk x.before x.after)) (sym c.0)
+    wrote = subst (λ (x : DiskFault). WroteOn o.sink_old o.sink_new (opening_of (course (λ k. [])) (e new w))
+        (middle_of (course (λ k. [])) (e new w) ++ disk_fault_text x.disk x.before x.after)) (sym c.0)
         (behind-on new w _ c.1);
   }
   close-failed f new w i disk at small last since told front kept ending.Whole c = absurd c
@@ -190,12 +190,14 @@ module _ (st : ℕ) (ft : Option RunFault) (g : Given) (o : Outside) (what : Ask
   fault-at f new c = c.now ∙ ap (λ (n : ℕ). Some (n, c.is.1)) (sym c.fault.number)
 
   -- the count that the history tells of a disk
-  since-closed : (f : DiskFault) (new : List (ℕ × DiskSeen)) → IsCountedSince l.disks new (disk_fault_counts f) → (count : ℕ) × (slice_index_or l.history.faults f.disk None ≡ Some count) × (count ≤ f.before)
+  since-closed : (f : DiskFault) (new : List (ℕ × DiskSeen)) → IsCountedSince l.disks new (disk_fault_counts f)
+      → (count : ℕ) × (slice_index_or l.history.faults f.disk None ≡ Some count) × (count ≤ f.before)
   since-closed f new c =
       let count = left.counts c.i c.was c.there in let le = count.2 in let high = c.fault.since in
       (count.0, ap (λ (n : ℕ). slice_index_or l.history.faults n None) (c.fault.number ∙ c.same) ∙ count.1, omega (arith, le, high))
 
-  shows : Told plan l.history.entries → ToldFront plan l.history.entries → l.fault ≡ None → (mid new : List (ℕ × DiskSeen)) (w : WriteTables l.disks mid) (r : AreOnlyRead mid new) → SayTables mid infos
+  shows : Told plan l.history.entries → ToldFront plan l.history.entries → l.fault ≡ None
+      → (mid new : List (ℕ × DiskSeen)) (w : WriteTables l.disks mid) (r : AreOnlyRead mid new) → SayTables mid infos
       → (how : Ending) → ShowEnds what.options plan l.history.entries infos k1 o.sink_new mid new how → CaseOf g o (wrote_before o) (e new (writes-then l.disks mid new w r)) how
   shows told front none mid new w r tables ending.Whole h = record {
     course = course h.0;
@@ -205,7 +207,7 @@ module _ (st : ℕ) (ft : Option RunFault) (g : Given) (o : Outside) (what : Ask
   shows told front none mid new w r tables ending.Sink h = record {
     course = course h.1.0;
     shown = is-shown new (writes-then l.disks mid new w r) told none (tables-read mid new infos r tables) h.1.0 (bytes-read mid new infos h.1.0 r h.1.1);
-    cause = risen_before o.sink_old.faults k1.faults o.sink_new.faults later h.0;
+    cause = risen_since o.sink_old.faults k1.faults o.sink_new.faults later h.0;
     wrote = behind-part new (writes-then l.disks mid new w r) _ h.1.2;
   }
   shows told front none mid new w r tables (ending.Showing f) h =
@@ -226,7 +228,11 @@ module _ (st : ℕ) (ft : Option RunFault) (g : Given) (o : Outside) (what : Ask
     begun = begun st ft g what files bytes a made plan o.sink_old k1 ready s l started left new (writes-then l.disks mid new w r);
     told = subst (λ (p : PlanSeen). ToldFront p l.history.entries) ready.numbered front;
     left = is-left new (writes-then l.disks mid new w r) none;
-    wrote = inr (is-shown new (writes-then l.disks mid new w r) told none (tables-read mid new infos r tables) h.0 (bytes-read mid new infos h.0 r h.1), behind-front new (writes-then l.disks mid new w r) _ h.2);
+    wrote = inr (
+      is-shown new (writes-then l.disks mid new w r) told none (tables-read mid new infos r tables) h.0
+          (bytes-read mid new infos h.0 r h.1),
+      behind-front new (writes-then l.disks mid new w r) _ h.2,
+    );
   })))
   shows told front none mid new w r tables (ending.Closing f) h = absurd h
   shows told front none mid new w r tables ending.Usage h = absurd h
@@ -238,7 +244,8 @@ module _ (st : ℕ) (ft : Option RunFault) (g : Given) (o : Outside) (what : Ask
   shows told front none mid new w r tables (ending.Opening x) h = absurd h
 
   -- memory lacked
-  lacked : (new : List (ℕ × DiskSeen)) → ToldFront plan l.history.entries → (how : Ending) → (c : LacksTable k1 o.sink_new l.disks new how) → IsLeft new c.writes → CaseOf g o (wrote_before o) (e new c.writes) how
+  lacked : (new : List (ℕ × DiskSeen)) → ToldFront plan l.history.entries → (how : Ending) → (c : LacksTable k1 o.sink_new l.disks new how)
+      → IsLeft new c.writes → CaseOf g o (wrote_before o) (e new c.writes) how
   lacked new front how c kept = subst (λ (x : Ending). CaseOf g o (wrote_before o) (e new c.writes) x) (sym c.memory) (lacking new c.writes front kept c.wrote)
 
   -- the fault in which the kernel was closed, where its disks are as it left them
@@ -259,7 +266,8 @@ module _ (st : ℕ) (ft : Option RunFault) (g : Given) (o : Outside) (what : Ask
     closing-left w = inr (f, fault-cause f new w closing-fault.there.0 closing-fault.disk.1 closing-at closing-low closing-fault.fault.last closing-since)
 
   -- the end of a run whose processes ran, whichever it is
-  pub close-case : (whole : Bool) → (IsTrue whole → Told plan l.history.entries) → ToldFront plan l.history.entries → (fault : Option DiskFault) → l.fault ≡ fault → (new : List (ℕ × DiskSeen)) (how : Ending)
+  pub close-case : (whole : Bool) → (IsTrue whole → Told plan l.history.entries) → ToldFront plan l.history.entries → (fault : Option DiskFault)
+      → l.fault ≡ fault → (new : List (ℕ × DiskSeen)) (how : Ending)
       → CloseEnds whole fault what.options plan l.history.entries infos k1 o.sink_new l.disks new how
       → CaseOf g o (wrote_before o) (record { status = st; fault = ft; history = l.history; disks = bare_disks new; swap = l.swap }) how
   close-case false told front (Some f) is new how c = lacked new front how c.1 (closing-left f is new c.0 c.1.writes)
@@ -270,5 +278,6 @@ module _ (st : ℕ) (ft : Option RunFault) (g : Given) (o : Outside) (what : Ask
       close-failed f new w x.there.0 x.disk.1 (closing-at f is new c.0) (closing-low f is new c.0) x.fault.last (closing-since f is new c.0) (told refl) front (closing-left f is new c.0 w) how c.1
   close-case true told front None is new how (inl c) = shows (told refl) front is c.mid new c.writes c.reads c.tables how c.ends
   close-case true told front None is new how (inr (inl c)) =
-      close-failed c.fault new c.writes c.counted.i c.counted.is.1 (fault-at c.fault new c.counted) (fault-low c.fault new c.counted) c.counted.fault.last (since-closed c.fault new c.counted) (told refl) front (is-left new c.writes is) how c.ends
+      close-failed c.fault new c.writes c.counted.i c.counted.is.1 (fault-at c.fault new c.counted) (fault-low c.fault new c.counted) c.counted.fault.last
+      (since-closed c.fault new c.counted) (told refl) front (is-left new c.writes is) how c.ends
   close-case true told front None is new how (inr (inr c)) = lacked new front how c (is-left new c.writes is)

@@ -1,6 +1,6 @@
 -- A run that stops before its trace: the rack, a disk or memory failed, or a rule is broken.
-use Rattle.std.proofs.Common.{◌≡◌, ℕ, ◌≤◌, List, [], refl, sym, ap, ◌∙◌, subst, arith, inl, inr, map}
-use Rattle.std.specs.Prelude.{MatchOption, Option, Some, None, Ok, option_map}
+use Rattle.std.proofs.Common.{◌≡◌, ℕ, List, [], refl, sym, ap, ◌∙◌, subst, arith, inl, inr, map}
+use Rattle.std.specs.Prelude.{IsTrue, MatchOption, Option, Some, None, Ok, option_map}
 use Rattle.block_device.specs.Counts.{HasRisen}
 use Rattle.block_device.specs.DiskSeen.{DiskSeen}
 use Rattle.block_device.specs.OpenSeen.{OpenFaultSeen}
@@ -17,11 +17,11 @@ use Rattle.vm_run.specs.declared.outcome.RunFault.{RunFault}
 use Rattle.vm_run.specs.Asked.{Given, Asked, WasAsked}
 use Rattle.volume_files.specs.Attached.{HandsStopped, StopCause, StopsEarly}
 use Rattle.vm_run.specs.Course.{AskStops}
-use Rattle.vm_run.specs.Ended.{End, stop_end}
-use Rattle.volume_files.specs.Handed.{HasOpeningCause, IsCountedBy}
-use Rattle.vm_run.specs.Run.{CaseOf, EndsBare, HasNoHistory, Outside, wrote_before}
+use Rattle.vm_run.specs.Ended.{stop_end}
+use Rattle.volume_files.specs.Handed.{AreUncounted, HasOpeningCause, IsCountedBy}
+use Rattle.vm_run.specs.Run.{CaseOf, EndsBare, Outside, wrote_before}
 use Rattle.volume_files.specs.Texts.{Wrote}
-use Rattle.vm_run.proofs.Sinks.{wrote_nothing}
+use Rattle.volume_files.proofs.WrittenTexts.{wrote_nothing}
 
 -- A run that stopped since its files weren't opened.
 pub record IsUnopened {D : Type 0} (back : HandedBack D) (s : Stop D) : Type 0 where
@@ -71,8 +71,8 @@ module _ (st : ℕ) (ft : Option RunFault) (g : Given) (o : Outside) (nothing : 
         by (Some c) k = k
 
     early-case : (H : HistorySeen) (disks : List DiskSeen) (swap : Option DiskSeen) (how : OpenStop) → H.entries ≡ [] → H.faults ≡ [] → HandsStopped what.plan disks swap how
-        → StopCause what.plan g.holds old new disks swap how → CaseOf g o (wrote_before o) (record { status = st; fault = ft; history = H; disks = disks; swap = swap }) (ending_of how)
-    early-case H disks swap (halt.Refused r) entries counts hands cause = inr (record {
+        → StopCause what.plan g.holds old new disks swap how → (how ≡ halt.Memory → IsTrue o.exact → AreUncounted disks swap) → CaseOf g o (wrote_before o) (record { status = st; fault = ft; history = H; disks = disks; swap = swap }) (ending_of how)
+    early-case H disks swap (halt.Refused r) entries counts hands cause none = inr (record {
       what = what;
       asked = asked;
       handed = hands;
@@ -80,7 +80,7 @@ module _ (st : ℕ) (ft : Option RunFault) (g : Given) (o : Outside) (nothing : 
       cause = cause;
       wrote = nothing;
     })
-    early-case H disks swap (halt.Failed f) entries counts hands cause = elim cause [
+    early-case H disks swap (halt.Failed f) entries counts hands cause none = elim cause [
       | inl c ↦ inl (record {
         what = what;
         asked = asked;
@@ -94,33 +94,37 @@ module _ (st : ℕ) (ft : Option RunFault) (g : Given) (o : Outside) (nothing : 
         files = c.files;
         text = [];
         opened = record { asked = asked; handed = c.handed; given = c.given; opened = λ t. c.opened t.disks };
+        written = c.written;
         history = record { entries = entries; counts = counts };
         cause = c.cause;
         before = inl refl;
         wrote = nothing;
       })
     ]
-    early-case H disks swap halt.Memory entries counts hands cause = inr (inl (record {
+    early-case H disks swap halt.Memory entries counts hands cause none = inr (inl (record {
       what = what;
       asked = asked;
       handed = hands;
+      same = cause;
+      counted = none refl;
       history = record { entries = entries; counts = counts };
       wrote = nothing;
     }))
 
     pub early : {D : Type 0} (seen : D → DiskSeen) (back : HandedBack D) (s : Stop D) → IsUnopened back s → StopsEarly what.plan g.holds old new seen back
-        → CaseOf g o (wrote_before o) (record (stop_end seen s) { status = st; fault = ft }) s.ending
-    early seen back s u h =
+        → (back.why ≡ halt.Memory → IsTrue o.exact → AreUncounted (map seen back.disks.items) (option_map seen back.swap)) → CaseOf g o (wrote_before o) (record (stop_end seen s) { status = st; fault = ft }) s.ending
+    early seen back s u h none =
         let disks : map seen s.disks.items ≡ map seen back.disks.items = ap (λ v. map seen v.items) u.disks in
         let swap : option_map seen s.swap ≡ option_map seen back.swap = ap (option_map seen) u.swap in
-        rw (u.ending, disks, swap) (early-case s.history (map seen back.disks.items) (option_map seen back.swap) back.why u.entries u.counts h.handed h.cause)
+        rw (u.ending, disks, swap) (early-case s.history (map seen back.disks.items) (option_map seen back.swap) back.why u.entries u.counts h.handed h.cause none)
 
 -- a run that stopped before its trace, whose sink took nothing
 pub stopped-early : (st : ℕ) (ft : Option RunFault) (g : Given) (o : Outside) (what : Asked) → WasAsked g (Ok what) → (old new : ℕ)
     → (HasRisen old new → HasRisen o.rack_old o.rack_new) → (k : SinkSeen) → o.sink_old ≡ k → o.sink_new ≡ k → {D : Type 0} (seen : D → DiskSeen) (back : HandedBack D) (s : Stop D)
-    → IsUnopened back s → StopsEarly what.plan g.holds old new seen back → CaseOf g o (wrote_before o) (record (stop_end seen s) { status = st; fault = ft }) s.ending
-stopped-early st ft g o what asked old new risen k before after seen back s u h =
-    early st ft g o (subst (λ (x : SinkSeen). Wrote o.sink_old x []) (before ∙ sym after) (wrote_nothing o.sink_old)) what asked old new risen seen back s u h
+    → IsUnopened back s → StopsEarly what.plan g.holds old new seen back → (back.why ≡ halt.Memory → IsTrue o.exact → AreUncounted (map seen back.disks.items) (option_map seen back.swap))
+    → CaseOf g o (wrote_before o) (record (stop_end seen s) { status = st; fault = ft }) s.ending
+stopped-early st ft g o what asked old new risen k before after seen back s u h none =
+    early st ft g o (subst (λ (x : SinkSeen). Wrote o.sink_old x []) (before ∙ sym after) (wrote_nothing o.sink_old)) what asked old new risen seen back s u h none
 
 -- a run for which nothing was attached, whose sink took nothing
 pub stopped-asking : (st : ℕ) (ft : Option RunFault) (g : Given) (o : Outside) (k : SinkSeen) → o.sink_old ≡ k → o.sink_new ≡ k → {D : Type 0} (seen : D → DiskSeen) (s : Stop D) (how : Ending)

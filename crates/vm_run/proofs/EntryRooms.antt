@@ -1,17 +1,16 @@
 -- The entries of each process, summed over its lines.
-use Rattle.std.proofs.Common.{◌≡◌, ◌≢◌, ℕ, zero, suc, ◌+◌, ◌-◌, ◌<◌, ◌≤◌, ◌==◌, Bool, true, false, cond, List, [], ◌∷◌, ◌++◌, length, take, replicate, refl, sym, ap, ◌∙◌, ◌⊎◌, inl, inr, subst, arith, add-zero, zero-add, length-set}
+use Rattle.std.proofs.Common.{◌≡◌, ◌≢◌, ℕ, zero, suc, ◌+◌, ◌-◌, ◌<◌, ◌≤◌, ◌==◌, Bool, true, false, cond, List, [], ◌∷◌, length, take, replicate, refl}
+use Rattle.std.proofs.Common.{sym, ap, ◌∙◌, inl, inr, subst, arith, add-zero, zero-add, length-set}
 use Rattle.std.specs.Prelude.{◌^◌, slice_index, slice_index_or, slice_set, filter, sum_by, All}
 use Rattle.std.proofs.lemmas.Bool.{cases_eq, eq-eqb, ne_eqb, cases_lt}
 use Rattle.std.proofs.lemmas.List.{get_or-set_same, get_or-set_other}
-use Rattle.std.proofs.lemmas.List.Elements.{All-nil, All-cons, All-append, All-weaker, All-head, All-tail}
+use Rattle.std.proofs.lemmas.List.Elements.{All-nil, All-append, All-weaker, All-head, All-tail}
 use Rattle.std.proofs.lemmas.List.Sums.{sum_by-cons, sum_by_more, sum_by_more_le_part}
 use Rattle.vm_script.specs.declared.plan.PlanLine.{PlanLine}
 use Rattle.vm_script.specs.Blocks.{AreProcessBlocks, over, block, IsWithin, Nests}
 use Rattle.vm_script.specs.Counts.{parts, entry_count}
 use Rattle.vm_script.specs.PlanSeen.{PlanSeen}
-use Rattle.vm_script.specs.Told.{own_lines}
 use Rattle.vm_script.proofs.Ranges.{within}
-use Rattle.vm_world.specs.State.{room_of}
 use Rattle.vm_run.specs.Played.{HasRoomForPlan}
 
 -- the lines of blocks that nest are those of processes from n on and below m
@@ -29,7 +28,8 @@ blocks-of parents n m lines (block _ k _ own rest is whole more) =
     record {
       up = omega (arith, up, on);
       all = All-append (λ (l : PlanLine). (n ≤ l.process) × (l.process < m)) own rest
-          (All-weaker (IsWithin n (n + 1) k) (λ (l : PlanLine). (n ≤ l.process) × (l.process < m)) (λ l h. elim h [ inl e ↦ (omega (arith, e), omega (arith, e, up, on)) | inr r ↦ (let a = r.0 in let b = r.1 in (omega (arith, a), omega (arith, b, on))) ]) own c.all)
+          (All-weaker (IsWithin n (n + 1) k) (λ (l : PlanLine). (n ≤ l.process) × (l.process < m))
+          (λ l h. elim h [ inl e ↦ (omega (arith, e), omega (arith, e, up, on)) | inr r ↦ (let a = r.0 in let b = r.1 in (omega (arith, a), omega (arith, b, on))) ]) own c.all)
           (All-weaker (λ (l : PlanLine). (k ≤ l.process) × (l.process < m)) (λ (l : PlanLine). (n ≤ l.process) × (l.process < m)) (λ l r. let a = r.0 in (omega (arith, a, up), r.1)) rest h.all);
     }
 
@@ -61,7 +61,8 @@ none-own p count [] far all = refl
 none-own p count (l ∷ lines) far all =
     let head : IsOwned count l = All-head (IsOwned count) l lines all in
     let apart : l.process ≢ p = λ e. far (subst (λ (q : ℕ). (1 ≤ q) × (q ≤ count)) e head) in
-    sum_by-cons (part_of p) l lines ∙ ap (λ (b : Bool). cond b (parts l.act) 0 + sum_by (part_of p) lines) (ne_eqb l.process p apart) ∙ zero-add (sum_by (part_of p) lines) ∙ none-own p count lines far (All-tail (IsOwned count) l lines all)
+    sum_by-cons (part_of p) l lines ∙ ap (λ (b : Bool). cond b (parts l.act) 0 + sum_by (part_of p) lines) (ne_eqb l.process p apart)
+    ∙ zero-add (sum_by (part_of p) lines) ∙ none-own p count lines far (All-tail (IsOwned count) l lines all)
 
 -- THE ROOMS: of each process the entries of its lines among these.
 abbrev pub HaveRooms : List PlanLine → List ℕ → Type 0
@@ -78,7 +79,8 @@ rooms-none (suc count) (suc p) lt = zeros count p
     zeros (suc n) (suc k) = zeros n k
 
 -- a line of the plan is one of a process that has a room
-pub item-owned : (plan : PlanSeen) (lines : List PlanLine) (rooms : List ℕ) (i : ℕ) (l : PlanLine) → Nests plan → lines ≡ plan.lines → length rooms ≡ length plan.parents → i < length lines → l ≡ slice_index_or lines i l → IsOwned (length rooms) l
+pub item-owned : (plan : PlanSeen) (lines : List PlanLine) (rooms : List ℕ) (i : ℕ) (l : PlanLine) → Nests plan → lines ≡ plan.lines
+    → length rooms ≡ length plan.parents → i < length lines → l ≡ slice_index_or lines i l → IsOwned (length rooms) l
 item-owned plan lines rooms i l nests same count lt at =
     let all : All (IsOwned (length plan.parents)) lines = subst (All (IsOwned (length plan.parents))) (sym same) (owned plan nests) in
     subst (λ (n : ℕ). IsOwned n l) (sym count) (subst (IsOwned (length plan.parents)) (sym at) (all i l lt))
@@ -87,7 +89,8 @@ item-owned plan lines rooms i l nests same count lt at =
 own-part : (l : PlanLine) → 1 ≤ l.process → part_of (suc (l.process - 1)) l ≡ parts l.act
 own-part l low = ap (λ (b : Bool). cond b (parts l.act) 0) (eq-eqb l.process (suc (l.process - 1)) (omega arith))
 
-pub room-fits : (lines : List PlanLine) (rooms : List ℕ) (i : ℕ) (l : PlanLine) → i < length lines → slice_index_or lines i l ≡ l → IsOwned (length rooms) l → HaveRooms (take i lines) rooms → entry_count lines ≤ 1048576
+pub room-fits : (lines : List PlanLine) (rooms : List ℕ) (i : ℕ) (l : PlanLine) → i < length lines → slice_index_or lines i l ≡ l → IsOwned (length rooms) l
+    → HaveRooms (take i lines) rooms → entry_count lines ≤ 1048576
     → slice_index rooms (l.process - 1) + parts l.act < 2 ^ 32
 room-fits lines rooms i l lt at own have few =
     let low = own.0 in
@@ -121,11 +124,13 @@ rooms-more lines rooms i l lt at own have p below =
       | inr ne ↦
           let other : l.process ≢ suc p = λ e. ne (omega (arith, e)) in
           get_or-set_other rooms place p value 0 ne ∙ have p (omega (arith, below, count))
-          ∙ sym (sum ∙ ap (λ (n : ℕ). sum_by (part_of (suc p)) (take i lines) + n) (ap (part_of (suc p)) at ∙ ap (λ (b : Bool). cond b (parts l.act) 0) (ne_eqb l.process (suc p) other)) ∙ add-zero (sum_by (part_of (suc p)) (take i lines)))
+          ∙ sym (sum ∙ ap (λ (n : ℕ). sum_by (part_of (suc p)) (take i lines) + n)
+          (ap (part_of (suc p)) at ∙ ap (λ (b : Bool). cond b (parts l.act) 0) (ne_eqb l.process (suc p) other)) ∙ add-zero (sum_by (part_of (suc p)) (take i lines)))
     ]
 
 pub rooms-all : (plan : PlanSeen) (rooms : List ℕ) → Nests plan → length rooms ≡ length plan.parents → HaveRooms plan.lines rooms → HasRoomForPlan plan rooms
-rooms-all plan rooms nests count have zero = let none = own-entries 0 plan.lines ∙ none-own 0 (length plan.parents) plan.lines (λ h. absurd (let a = h.0 in omega (arith, a))) (owned plan nests) in omega (arith, none)
+rooms-all plan rooms nests count have zero = let none = own-entries 0 plan.lines
+    ∙ none-own 0 (length plan.parents) plan.lines (λ h. absurd (let a = h.0 in omega (arith, a))) (owned plan nests) in omega (arith, none)
 rooms-all plan rooms nests count have (suc p) = elim (cases_lt p (length rooms)) [
   | inl lt ↦ let here = own-entries (suc p) plan.lines ∙ sym (have p lt) in omega (arith, here)
   | inr ge ↦

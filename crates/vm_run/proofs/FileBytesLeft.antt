@@ -1,5 +1,6 @@
 -- The bytes that disks have of files once the kernel is closed.
-use Rattle.std.proofs.Common.{◌≡◌, ℕ, zero, suc, ◌+◌, ◌-◌, ◌<◌, ◌≤◌, ◌==◌, Bool, true, false, cond, List, [], ◌∷◌, ◌++◌, length, map, take, replicate, Option, Some, None, refl, sym, ap, ◌∙◌, ◌⊎◌, inl, inr, subst, arith, take_at, length-take, take_all}
+use Rattle.std.proofs.Common.{◌≡◌, ℕ, zero, suc, ◌+◌, ◌-◌, ◌<◌, ◌≤◌, ◌==◌, Bool, true, false, cond, List, [], ◌∷◌, ◌++◌, length, map, take, replicate, Option}
+use Rattle.std.proofs.Common.{Some, None, refl, sym, ap, ◌∙◌, ◌⊎◌, inl, inr, subst, arith, take_at, length-take, take_all}
 use Rattle.std.specs.Prelude.{All, IfSome, IfNone, option_map, slice_get, slice_index_or}
 use Rattle.std.specs.List.{concat}
 use Rattle.std.proofs.Math.Seq.{take-append-add}
@@ -60,7 +61,8 @@ cases-le a b = grind arith
 abbrev at : List (List ℕ) → ℕ → List ℕ
 at xs j = slice_index_or xs j []
 
-cut-same : (len : ℕ) (bs ps : List (List ℕ)) → pages_in len ≤ length bs → pages_in len ≤ length ps → ((j : ℕ) → j < pages_in len → SameFront (bytes_before len j) (at bs j) (at ps j)) → take len (concat bs) ≡ take len (concat ps)
+cut-same : (len : ℕ) (bs ps : List (List ℕ)) → pages_in len ≤ length bs → pages_in len ≤ length ps
+    → ((j : ℕ) → j < pages_in len → SameFront (bytes_before len j) (at bs j) (at ps j)) → take len (concat bs) ≡ take len (concat ps)
 cut-same zero bs ps long_b long_p same = refl
 cut-same (suc n) [] ps long_b long_p same = absurd (omega (arith, long_b))
 cut-same (suc n) (b ∷ bs) [] long_b long_p same = absurd (omega (arith, long_p))
@@ -161,7 +163,8 @@ module _ (F : Flat) (s t : KernelState) (l : LeftSeen) (event : IsEvent 0 s None
   pub stored-left : IfNone l.fault (HaveTold (bare_disks l.disks) l.swap → StoreFiles l.disks (infos_made l.files) (flat_bytes (replay F l.history.entries).files))
   stored-left = by_fault l.fault c.closed
     where
-      by_content : (k i : ℕ) (o : Option (List (List ℕ))) → HaveTold (bare_disks l.disks) l.swap → k < length l.files.files → i < length l.disks → o ≡ (disk_at l.disks i).1.content → disk_of_file l.files k ≡ (disk_at l.disks i).0
+      by_content : (k i : ℕ) (o : Option (List (List ℕ))) → HaveTold (bare_disks l.disks) l.swap → k < length l.files.files → i < length l.disks
+          → o ≡ (disk_at l.disks i).1.content → disk_of_file l.files k ≡ (disk_at l.disks i).0
           → IfSome o (λ blocks. (name : PageName) → IsFilePage old name → disk_of_file old name.object ≡ (disk_at l.disks i).0 → HoldsPage old blocks name (page_value t.memory.world no_notes name))
           → IfSome o (λ blocks. stored_bytes blocks (info_of k) ≡ take (info_of k).length (concat (pages_from (page_of k) 0 (pages_in (info_of k).length))))
       by_content k i None told lt inside is on_disk holds = tt
@@ -181,7 +184,8 @@ module _ (F : Flat) (s t : KernelState) (l : LeftSeen) (event : IsEvent 0 s None
           blocks-whole = subst (λ (x : Option (List (List ℕ))). HasBlocks x (disk_at l.disks i).1.size) (sym is) (c.whole i)
 
           each : (j : ℕ) → j < pages_in (info_of k).length
-              → SameFront (bytes_before (info_of k).length j) (at (map (λ block. slice_index_or blocks block []) (page_blocks (info_of k).extents)) j) (at (pages_from (page_of k) 0 (pages_in (info_of k).length)) j)
+              → SameFront (bytes_before (info_of k).length j) (at (map (λ block. slice_index_or blocks block []) (page_blocks (info_of k).extents)) j)
+              (at (pages_from (page_of k) 0 (pages_in (info_of k).length)) j)
           each j below =
               let name : PageName = file_name k j in
               let file_page : IsFilePage l.files name = record { file = lt; below = below } in
@@ -198,13 +202,20 @@ module _ (F : Flat) (s t : KernelState) (l : LeftSeen) (event : IsEvent 0 s None
               let whole_b : length (slice_index_or blocks place []) ≡ 4096 = (blocks-whole.1 place (omega (arith, low, count))).0 in
               let whole_p : length (page_of k j) ≡ 4096 = page-whole told k j lt below in
               let clips : clip (bytes_before (info_of k).length j) (slice_index_or blocks place []) ≡ clip (bytes_before (info_of k).length j) (page_of k j) =
-              subst (λ (i : FileInfo). clip (bytes_before i.length j) (slice_index_or blocks (block_at i.extents j) []) ≡ clip (bytes_before i.length j) (page_of k j)) (sym (info-kept old l.files c.files k))
+              subst (λ (i : FileInfo). clip (bytes_before i.length j) (slice_index_or blocks (block_at i.extents j) []) ≡ clip (bytes_before i.length j)
+              (page_of k j)) (sym (info-kept old l.files c.files k))
               (holds name old_page (sym (disk-kept old l.files c.files k) ∙ on_disk)) in
               subst (λ (x : List ℕ). SameFront (bytes_before (info_of k).length j) x (at (pages_from (page_of k) 0 (pages_in (info_of k).length)) j)) (sym here_b)
               (subst (λ (y : List ℕ). SameFront (bytes_before (info_of k).length j) (slice_index_or blocks place []) y) (sym here_p)
-              (record { block = whole_b; page = whole_p; front = front-of-clip (bytes_before (info_of k).length j) (slice_index_or blocks place []) (page_of k j) whole_b whole_p (omega arith) clips }))
+              (record {
+                block = whole_b;
+                page = whole_p;
+                front = front-of-clip (bytes_before (info_of k).length j) (slice_index_or blocks place [])
+                    (page_of k j) whole_b whole_p (omega arith) clips;
+              }))
 
-      flat-bytes : HaveTold (bare_disks l.disks) l.swap → (k : ℕ) → k < length l.files.files → take (info_of k).length (concat (pages_from (page_of k) 0 (pages_in (info_of k).length))) ≡ flat_bytes (replay F l.history.entries).files k
+      flat-bytes : HaveTold (bare_disks l.disks) l.swap → (k : ℕ) → k < length l.files.files
+          → take (info_of k).length (concat (pages_from (page_of k) 0 (pages_in (info_of k).length))) ≡ flat_bytes (replay F l.history.entries).files k
       flat-bytes told k lt =
           let fits = history-left F s t l event before c told in
           let d : File = record { len = 0; disk = 0; extents = []; writable = false; pages = [] } in

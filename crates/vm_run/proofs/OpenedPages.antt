@@ -1,5 +1,6 @@
 -- The pages of a file as it is opened: those of its blocks, up to its length, and zeros behind them.
-use Rattle.std.proofs.Common.{◌≡◌, ℕ, zero, suc, ◌+◌, ◌-◌, ◌*◌, ◌<◌, ◌≤◌, min, List, [], ◌∷◌, ◌++◌, length, take, drop, replicate, refl, sym, ap, ◌∙◌, inl, inr, append_assoc, arith, length-append, ◌⊎◌}
+use Rattle.std.proofs.Common.{◌≡◌, ℕ, zero, suc, ◌+◌, ◌-◌, ◌*◌, ◌<◌, ◌≤◌, min, List, [], ◌∷◌, ◌++◌, length, take, drop, replicate, refl, sym, ap, ◌∙◌, inl, inr}
+use Rattle.std.proofs.Common.{append_assoc, arith, length-append}
 use Rattle.std.specs.Prelude.{slice_index_or}
 use Rattle.std.specs.List.{concat}
 use Rattle.std.proofs.Math.Seq.{take-append-add}
@@ -46,7 +47,8 @@ cut len m q rest whole = elim (cases_lt 4096 len) [
       ∙ ap (λ (n : ℕ). q ++ (take (len - 4096) rest ++ replicate n 0)) back in
       let most : min len 4096 ≡ 4096 = omega (arith, long) in
       record {
-        first = ap (take 4096) is ∙ take_at q (filled (len - 4096) m rest) 4096 whole ∙ sym (ap (λ (n : ℕ). clip n q) most ∙ ap (λ (xs : List ℕ). xs ++ []) (take_all 4096 q (omega (arith, whole))) ∙ append-nil q);
+        first = ap (take 4096) is ∙ take_at q (filled (len - 4096) m rest) 4096 whole
+            ∙ sym (ap (λ (n : ℕ). clip n q) most ∙ ap (λ (xs : List ℕ). xs ++ []) (take_all 4096 q (omega (arith, whole))) ∙ append-nil q);
         others = ap (drop 4096) is ∙ drop_at q (filled (len - 4096) m rest) 4096 whole;
       }
   | inr short ↦
@@ -56,7 +58,8 @@ cut len m q rest whole = elim (cases_lt 4096 len) [
       ap (λ (xs : List ℕ). xs ++ replicate (4096 * suc m - len) 0) (take-append-le len q rest (omega (arith, short, whole)))
       ∙ ap (λ (xs : List ℕ). take len q ++ xs) (ap (λ (n : ℕ). replicate n 0) split ∙ sym (replicate-append-replicate (4096 - len) (4096 * m) 0))
       ∙ sym (append_assoc (take len q) (replicate (4096 - len) 0) (replicate (4096 * m) 0)) in
-      let size : length front ≡ 4096 = (let a = length-append (take len q) (replicate (4096 - len) 0) in let b = length-take len q in let c = length-replicate {A = ℕ} (4096 - len) 0 in omega (arith, a, b, c, short, whole)) in
+      let size : length front ≡ 4096 = (let a = length-append (take len q) (replicate (4096 - len) 0) in let b = length-take len q in
+      let c = length-replicate {A = ℕ} (4096 - len) 0 in omega (arith, a, b, c, short, whole)) in
       let most : min len 4096 ≡ len = omega (arith, short) in
       let none : len - 4096 ≡ 0 = omega (arith, short) in
       let whole-rest : 4096 * m ≡ 4096 * m - 0 = omega arith in

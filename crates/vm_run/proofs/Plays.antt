@@ -30,13 +30,15 @@ pub started-still : (plan : PlanSeen) (F : Flat) (disks : List (ℕ × DiskSeen)
 started-still plan F disks swap files s st = (F, no_seats, st.fits, λ seat. refl)
 
 -- the process is there, where there are lines
-pub started-top : (plan : PlanSeen) (F : Flat) (disks : List (ℕ × DiskSeen)) (swap : Option DiskSeen) (files : FilesSeen) (s : KernelState) → IsPlayable plan → IsStarted plan F disks swap files s → 0 < length plan.lines → IsTrue (is_top s.parents 1)
+pub started-top : (plan : PlanSeen) (F : Flat) (disks : List (ℕ × DiskSeen)) (swap : Option DiskSeen) (files : FilesSeen) (s : KernelState) → IsPlayable plan
+    → IsStarted plan F disks swap files s → 0 < length plan.lines → IsTrue (is_top s.parents 1)
 started-top plan F disks swap files s may st some = elim (plays-one plan may).blocks [
   | inl none ↦ absurd (let z : length plan.lines ≡ 0 = ap (λ (ls : List PlanLine). length ls) none.1 in omega (arith, z, some))
   | inr one ↦ subst (λ (ps : List ℕ). IsTrue (is_top ps 1)) (sym (st.parents ∙ one)) refl
 ]
 
-pub started-room : (plan : PlanSeen) (F : Flat) (disks : List (ℕ × DiskSeen)) (swap : Option DiskSeen) (files : FilesSeen) (s : KernelState) → IsPlayable plan → IsStarted plan F disks swap files s → length plan.lines ≤ room_of s.entries 1
+pub started-room : (plan : PlanSeen) (F : Flat) (disks : List (ℕ × DiskSeen)) (swap : Option DiskSeen) (files : FilesSeen) (s : KernelState) → IsPlayable plan
+    → IsStarted plan F disks swap files s → length plan.lines ≤ room_of s.entries 1
 started-room plan F disks swap files s may st =
     let p = plays-one plan may in
     let own : own_lines plan 1 ≡ plan.lines = all-pass (λ (l : PlanLine). l.process == 1) plan.lines (λ i d lt. eq-eqb _ 1 (p.own i d lt)) in
@@ -84,6 +86,7 @@ is-left plan F disks swap files n s t l may st come c =
     }
 
 -- a swap disk that came out, as it is seen
-pub swap-seen : {D : Type 0} (seen : D → DiskSeen) (o : Option D) (b : BaySeen) → MatchOption o (b ≡ missing) (λ disk. b ≡ home (seen disk)) → MatchOption (option_map seen o) (b ≡ missing) (λ disk. b ≡ home disk)
+pub swap-seen : {D : Type 0} (seen : D → DiskSeen) (o : Option D) (b : BaySeen) → MatchOption o (b ≡ missing) (λ disk. b ≡ home (seen disk))
+    → MatchOption (option_map seen o) (b ≡ missing) (λ disk. b ≡ home disk)
 swap-seen seen None b is = is
 swap-seen seen (Some d) b is = is

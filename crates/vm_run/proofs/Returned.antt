@@ -60,7 +60,8 @@ pub fits-after : (F : Flat) (s t : KernelState) → IsEvent 0 s None t None → 
 fits-after F s t event fit = subst (StateFits F t) (same-seats no_seats 0 None refl) (event.fits F no_seats refl fit)
 
 -- A DISK THAT IS LISTED is home.
-home-there : (w : World) (spaces : Spaces) (i : ℕ) → MemoryFits (record { world = w; spaces = spaces }) → NotesFit w no_notes → i < length (disks_of w) → bay_at w.store.bays (disk_at (disks_of w) i).0 ≡ home (disk_at (disks_of w) i).1
+home-there : (w : World) (spaces : Spaces) (i : ℕ) → MemoryFits (record { world = w; spaces = spaces }) → NotesFit w no_notes → i < length (disks_of w)
+    → bay_at w.store.bays (disk_at (disks_of w) i).0 ≡ home (disk_at (disks_of w) i).1
 home-there w spaces i fits nf lt =
     let long = length-map {B = ℕ × DiskSeen} w.store.order (λ (number : ℕ). (number, disk_in (bay_at w.store.bays number))) in
     let low : i < length w.store.order = omega (arith, lt, long) in
@@ -80,7 +81,8 @@ at-place L i d at = index-of L i (0, no_disk) d at
 get-place : (L : List (ℕ × DiskSeen)) (i : ℕ) → i < length L → slice_get L i ≡ Some (disk_at L i)
 get-place L i lt = slice_get-get_or L i (0, no_disk) lt
 
-same-maps : {A B X : Type 0} (f : A → X) (g : B → X) (xs : List A) (ys : List B) → length xs ≡ length ys → ((i : ℕ) (x : A) (y : B) → slice_get xs i ≡ Some x → slice_get ys i ≡ Some y → f x ≡ g y) → map f xs ≡ map g ys
+same-maps : {A B X : Type 0} (f : A → X) (g : B → X) (xs : List A) (ys : List B) → length xs ≡ length ys
+    → ((i : ℕ) (x : A) (y : B) → slice_get xs i ≡ Some x → slice_get ys i ≡ Some y → f x ≡ g y) → map f xs ≡ map g ys
 same-maps f g [] [] long same = refl
 same-maps f g [] (y ∷ ys) long same = absurd (omega (arith, long))
 same-maps f g (x ∷ xs) [] long same = absurd (omega (arith, long))
@@ -186,19 +188,28 @@ module _ (F : Flat) (s t : KernelState) (l : LeftSeen) (event : IsEvent 0 s None
         let same : (disk_at old i).1 ≡ d = home-same (disk_at old i).1 d (sym (home-after i low) ∙ ap (bay_at t.memory.world.store.bays) number-is ∙ here) in
         let k = c.disks.each i low in
         let more = k.faults in
-        let count = ap (λ (x : DiskSeen). x.faults) same in
-        ((disk_at l.disks i).1, inl (i, get-place l.disks i (let e = long-new in omega (arith, low, e)) ∙ ap (λ (n : ℕ). Some (n, (disk_at l.disks i).1)) (k.number ∙ number-is)), omega (arith, more, count))
+        let count = ap (λ (x : DiskSeen). x.faults) same in (
+          (disk_at l.disks i).1,
+          inl (
+            i,
+            get-place l.disks i (let e = long-new in omega (arith, low, e)) ∙ ap (λ (n : ℕ). Some (n, (disk_at l.disks i).1))
+                (k.number ∙ number-is),
+          ),
+          omega (arith, more, count),
+        )
   ]
     where
       home-same : (x y : DiskSeen) → home x ≡ home y → x ≡ y
       home-same x y is = cc
 
-  pub reached-left : (k : ℕ) (e : Entry) (number low high : ℕ) → slice_get l.history.entries k ≡ Some e → e.reply ≡ Io number low high → (d : DiskSeen) × IsDiskOf l.disks l.swap number d × (high ≤ d.faults)
+  pub reached-left : (k : ℕ) (e : Entry) (number low high : ℕ) → slice_get l.history.entries k ≡ Some e → e.reply ≡ Io number low high
+      → (d : DiskSeen) × IsDiskOf l.disks l.swap number d × (high ≤ d.faults)
   reached-left k e number low high at reply =
       let r = event_law.counted F t no_seats k e number low high after (sym (ap (λ (H : List Entry). slice_get H k) c.entries) ∙ at) reply in
       by_bay (bay_at t.memory.world.store.bays number) refl r.count r.there r.enough
     where
-      by_bay : (b : BaySeen) → bay_at t.memory.world.store.bays number ≡ b → (count : ℕ) → faults_in b no_notes ≡ Some count → high ≤ count → (d : DiskSeen) × IsDiskOf l.disks l.swap number d × (high ≤ d.faults)
+      by_bay : (b : BaySeen) → bay_at t.memory.world.store.bays number ≡ b → (count : ℕ) → faults_in b no_notes ≡ Some count → high ≤ count
+          → (d : DiskSeen) × IsDiskOf l.disks l.swap number d × (high ≤ d.faults)
       by_bay missing is count there enough = absurd (cc)
       by_bay (out seat) is count there enough = absurd (cc)
       by_bay (home d) is count there enough =
@@ -283,7 +294,9 @@ module _ (F : Flat) (s t : KernelState) (l : LeftSeen) (event : IsEvent 0 s None
       in-bay : (number : ℕ) (d : DiskSeen) → bay_at t.memory.world.store.bays number ≡ home d → IsSome d.content → IsTrue (tells t.memory.world.store no_notes number)
       in-bay number d here some = ap (λ (b : BaySeen). is_some (content_in_bay b no_notes)) here ∙ some
 
-      by_swap : (o : Option DiskSeen) → IfSome o (λ d. IsSome d.content) → MatchOption o (bay_at t.memory.world.store.bays 8 ≡ missing) (λ disk. bay_at t.memory.world.store.bays 8 ≡ home disk) → bay_at t.memory.world.store.bays 8 ≢ missing → IsTrue (tells t.memory.world.store no_notes 8)
+      by_swap : (o : Option DiskSeen) → IfSome o (λ d. IsSome d.content)
+          → MatchOption o (bay_at t.memory.world.store.bays 8 ≡ missing) (λ disk. bay_at t.memory.world.store.bays 8 ≡ home disk)
+          → bay_at t.memory.world.store.bays 8 ≢ missing → IsTrue (tells t.memory.world.store no_notes 8)
       by_swap None tell here there = absurd (there here)
       by_swap (Some d) tell here there = in-bay 8 d here tell
 
@@ -292,14 +305,18 @@ module _ (F : Flat) (s t : KernelState) (l : LeftSeen) (event : IsEvent 0 s None
       told-before None (Some y) number keeps some = absurd keeps
       told-before (Some x) b number keeps some = refl
 
-      by_name : ((name.object ≡ 64) × (name.page < length t.memory.world.anon.counts)) ⊎ ((name.object ≢ 64) × (name.object < length t.memory.world.files.files) × (name.page < page_count (vnode_at t.memory.world.files name.object).info.extents)) → IsTrue (tells t.memory.world.store no_notes (world_table t.memory.world name).disk)
+      by_name : ((name.object ≡ 64) × (name.page < length t.memory.world.anon.counts)) ⊎
+          ((name.object ≢ 64) × (name.object < length t.memory.world.files.files)
+          × (name.page < page_count (vnode_at t.memory.world.files name.object).info.extents)) → IsTrue (tells t.memory.world.store no_notes (world_table t.memory.world name).disk)
       by_name (inl slot) =
           let same : name ≡ slot_name name.page = ap (λ (o : ℕ). record { object = o; page = name.page }) slot.0 in
-          let disk : (world_table t.memory.world name).disk ≡ 8 = ap (λ (n : PageName). (world_table t.memory.world n).disk) same ∙ ap (λ (p : Place). p.disk) (slot-place t.memory.world.files t.memory.world.anon name.page after.memory.files slot.1) in
+          let disk : (world_table t.memory.world name).disk ≡ 8 = ap (λ (n : PageName). (world_table t.memory.world n).disk) same
+          ∙ ap (λ (p : Place). p.disk) (slot-place t.memory.world.files t.memory.world.anon name.page after.memory.files slot.1) in
           let some : 0 < length t.memory.world.anon.counts = let lt = slot.1 in omega (arith, lt) in
           subst (λ (n : ℕ). IsTrue (tells t.memory.world.store no_notes n)) (sym disk) (by_swap l.swap told.last c.swap (after.memory.disks.swap some))
       by_name (inr page) =
-          let disk : (world_table t.memory.world name).disk ≡ disk_of_file t.memory.world.files name.object = ap (λ (p : Place). p.disk) (file-place t.memory.world.files t.memory.world.anon name.object name.page page.1 page.2) in
+          let disk : (world_table t.memory.world name).disk ≡ disk_of_file t.memory.world.files name.object = ap (λ (p : Place). p.disk)
+          (file-place t.memory.world.files t.memory.world.anon name.object name.page page.1 page.2) in
           let at = (are-disks t.memory.world t.memory.spaces after.memory after.notes).there name.object page.1 in
           let i = at.0 in
           let lt = at.1 in

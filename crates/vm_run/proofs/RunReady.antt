@@ -1,6 +1,6 @@
 -- A run that is ready, to its end.
 use Rattle.std.proofs.Common.{◌≡◌, ℕ, zero, suc, ◌≤◌, ◌<◌, ◌^◌, List, [], ◌∷◌, length, map, refl, sym, ap, ◌∙◌, subst, arith}
-use Rattle.std.specs.Prelude.{Bool, IsTrue, None, Ok, Option, Some, slice_get}
+use Rattle.std.specs.Prelude.{Bool, IsTrue, None, Ok, Option}
 use Rattle.std.proofs.lemmas.List.{length-map}
 use Rattle.block_device.specs.DiskSeen.{DiskSeen}
 use Rattle.block_device.specs.StreamSeen.{SinkSeen}
@@ -21,6 +21,7 @@ use Rattle.vm_run.specs.declared.outcome.RunFault.{RunFault}
 use Rattle.vm_run.specs.Asked.{Given, Asked, WasAsked}
 use Rattle.volume_files.specs.Attached.{ArePlaced, AttachedSeen, HaveVolumeNames, bare_disks}
 use Rattle.volume_files.specs.Closed.{info_at}
+use Rattle.volume_files.specs.Handed.{AreUncounted}
 use Rattle.vm_run.specs.Course.{AreReadBytes, CloseEnds, IsReady}
 use Rattle.vm_run.specs.Ended.{End}
 use Rattle.volume_files.specs.Opened.{OpenedFile, infos_of, names_of, numbered_plan, opening_flat}
@@ -52,6 +53,7 @@ numbered-placed plan holds files a made p = record {
   own = p.own;
   kept = p.kept;
   given = record { tables = p.given.tables; found = p.given.found; read = p.given.read; mounted = p.given.mounted; lines = p.given.lines };
+  written = record { each = p.written.each; last = p.written.last };
   told = p.told;
   stored = p.stored;
 }
@@ -85,14 +87,14 @@ module _ (st : ℕ) (ft : Option RunFault) (g : Given) (o : Outside) (what : Ask
       (close-case st ft g o what files bytes a made plan k1 ready s l started left low later whole told front l.fault refl new how by-sink)
 
   -- memory lacked for its kernel
-  pub start-lacks : o.sink_new ≡ k1 → (H : HistorySeen) (d-new : List DiskSeen) (w-new : Option DiskSeen) (how : Ending) → H.entries ≡ [] → H.faults ≡ [] → how ≡ ending.Memory
+  pub start-lacks : o.sink_new ≡ k1 → (IsTrue o.exact → AreUncounted (bare_disks a.disks) a.swap) → (H : HistorySeen) (d-new : List DiskSeen) (w-new : Option DiskSeen) (how : Ending) → H.entries ≡ [] → H.faults ≡ [] → how ≡ ending.Memory
       → d-new ≡ bare_disks a.disks → w-new ≡ a.swap → CaseOf g o (wrote_before o) (record { status = st; fault = ft; history = H; disks = d-new; swap = w-new }) how
-  start-lacks sink H d-new w-new how entries counts is same-d same-w =
+  start-lacks sink none H d-new w-new how entries counts is same-d same-w =
       let low = low-disks what.plan a.disks ready.placed.numbers in
       let wrote = subst (λ (k : SinkSeen). Wrote o.sink_old k (opening_part what files (bare_disks a.disks) bytes)) (sym sink) ready.wrote in
       subst (λ (x : Ending). CaseOf g o (wrote_before o) (record { status = st; fault = ft; history = H; disks = d-new; swap = w-new }) x) (sym is)
       (subst (λ (e : End). CaseOf g o (wrote_before o) e ending.Memory) (end-same st ft H H (bare_disks a.disks) d-new a.swap w-new refl same-d same-w)
-      (lacks-behind st ft g o what files bytes ready.asked a made ready.placed ready.read a.disks (reads-refl a.disks) H entries counts low wrote))
+      (lacks-behind st ft g o what files bytes ready.asked a made ready.placed ready.read a.disks (reads-refl a.disks) H entries counts low none wrote))
 
   -- the disks that a kernel left have a first block
   pub first-left : (s : KernelState) (l : LeftSeen) → IsStarted plan (opening_flat plan (disk_sizes a.disks) files) a.disks a.swap made s
@@ -151,5 +153,6 @@ is-ready g k0 k1 what files bytes asked a b made made2 p read r same kept plan n
   rules = rules;
   playable = playable;
   read = record { lengths = read.lengths; told = λ t. read.told (tell-read (infos_of files) a.disks b.disks r t) };
-  wrote = subst (Wrote k0 k1) (opening-read what files bytes a b.disks made g.holds p r) (subst (λ (q : PlanSeen). Wrote k0 k1 (trace_opening what.options q (disk_sizes a.disks) (infos_of files) bytes)) numbered wrote);
+  wrote = subst (Wrote k0 k1) (opening-read what files bytes a b.disks made g.holds p r)
+      (subst (λ (q : PlanSeen). Wrote k0 k1 (trace_opening what.options q (disk_sizes a.disks) (infos_of files) bytes)) numbered wrote);
 }

@@ -1,19 +1,11 @@
 -- What a sink took, one piece after another.
-use Rattle.std.proofs.Common.{◌≡◌, ℕ, ◌≤◌, List, [], ◌++◌, length, take, refl, sym, ap, ◌∙◌, arith, inl, inr, append_assoc, append-nil}
-use Rattle.std.specs.Prelude.{Option, Some, None, IfSome}
+use Rattle.std.proofs.Common.{◌≡◌, ℕ, ◌≤◌, List, [], ◌++◌, length, take, sym, ap, ◌∙◌, arith, inl, inr}
 use Rattle.std.proofs.lemmas.List.{take_all, take-append-le}
-use Rattle.block_device.specs.Counts.{HasRisen}
 use Rattle.block_device.specs.StreamSeen.{SinkSeen, text_with_more}
 use Rattle.volume_files.specs.Texts.{Wrote, WroteAndFront, WroteAndPart, WroteFront, WroteOn, WrotePart}
-
-appended_more : (o : Option (List ℕ)) (a b : List ℕ) → text_with_more (text_with_more o a) b ≡ text_with_more o (a ++ b)
-appended_more None a b = refl
-appended_more (Some w) a b = ap (λ (x : List ℕ). Some x) (append_assoc w a b)
+use Rattle.volume_files.proofs.WrittenTexts.{risen_since, wrote_then}
 
 -- a text behind another
-pub wrote_then : (k0 k1 k2 : SinkSeen) (a b : List ℕ) → Wrote k0 k1 a → Wrote k1 k2 b → Wrote k0 k2 (a ++ b)
-wrote_then k0 k1 k2 a b first second = second ∙ ap (λ (o : Option (List ℕ)). text_with_more o b) first ∙ appended_more k0.written a b
-
 pub front_behind : (k0 k1 k2 : SinkSeen) (a b : List ℕ) → Wrote k0 k1 a → WroteFront k1 k2 b → WroteAndFront k0 k2 a b
 front_behind k0 k1 k2 a b first second = (second.0, wrote_then k0 k1 k2 a (take second.0 b) first second.1)
 
@@ -27,16 +19,10 @@ goes_on k0 k1 a b c wrote = (
   wrote ∙ ap (λ (t : List ℕ). text_with_more k0.written (a ++ t)) (sym (take-append-le (length b) b c (omega arith) ∙ take_all (length b) b (omega arith))),
 )
 
-pub whole_front : (k0 k1 : SinkSeen) (a : List ℕ) → Wrote k0 k1 a → WroteFront k0 k1 a
-whole_front k0 k1 a wrote = (length a, wrote ∙ ap (text_with_more k0.written) (sym (take_all (length a) a (omega arith))))
-
-pub risen_before : (a b c : ℕ) → a ≤ b → HasRisen b c → HasRisen a c
-risen_before a b c le risen = omega (arith, le, risen)
-
 pub on_behind : (k0 k1 k2 : SinkSeen) (a b : List ℕ) → k0.faults ≤ k1.faults → Wrote k0 k1 a → WroteOn k1 k2 [] b → WroteOn k0 k2 a b
 on_behind k0 k1 k2 a b later first taken = elim taken [
   | inl all ↦ inl (wrote_then k0 k1 k2 a b first all)
-  | inr part ↦ inr (risen_before k0.faults k1.faults k2.faults later part.0, front_behind k0 k1 k2 a b first part.1)
+  | inr part ↦ inr (risen_since k0.faults k1.faults k2.faults later part.0, front_behind k0 k1 k2 a b first part.1)
 ]
 
 -- nothing more was written
@@ -48,20 +34,3 @@ still_part k0 k1 k2 a b part same = (part.0, part.1, same ∙ part.2)
 
 pub still_wrote : (k0 k1 k2 : SinkSeen) (a : List ℕ) → Wrote k0 k1 a → k2.written ≡ k1.written → Wrote k0 k2 a
 still_wrote k0 k1 k2 a wrote same = same ∙ wrote
-
--- what is so where something is told
-pub if_both : {X : Type 0} {P Q : X → Type 0} (o : Option X) → ((x : X) → P x → Q x) → IfSome o P → IfSome o Q
-if_both None f p = tt
-if_both (Some x) f p = f x p
-
-pub if_two : {X : Type 0} {P Q R : X → Type 0} (o : Option X) → ((x : X) → P x → Q x → R x) → IfSome o P → IfSome o Q → IfSome o R
-if_two None f p q = tt
-if_two (Some x) f p q = f x p q
-
--- a text that is written as far as it was before
-pub nothing_more : (o : Option (List ℕ)) → o ≡ text_with_more o []
-nothing_more None = refl
-nothing_more (Some w) = ap (λ (x : List ℕ). Some x) (sym (append-nil w))
-
-pub wrote_nothing : (k : SinkSeen) → Wrote k k []
-wrote_nothing k = nothing_more k.written

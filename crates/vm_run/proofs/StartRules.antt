@@ -1,10 +1,10 @@
 -- What the set-up rules say of the amounts and the disks that a kernel is started with.
-use Rattle.std.proofs.Common.{◌≡◌, ℕ, zero, suc, ◌+◌, ◌<◌, ◌≤◌, ◌==◌, Bool, true, false, cond, List, [], ◌∷◌, length, map, Option, Some, None, refl, sym, ap, ◌∙◌, ◌⊎◌, inl, inr, subst, arith, zero-add}
-use Rattle.std.specs.Prelude.{◌&&◌, not, nat_le, nat_lt, slice_get, slice_index, slice_index_or, filter_map, option_map, option_and_then, is_some, count_by, sum_by}
+use Rattle.std.proofs.Common.{◌≡◌, ℕ, zero, suc, ◌+◌, ◌<◌, ◌≤◌, ◌==◌, Bool, true, false, cond, List, [], ◌∷◌, length, map, Option, Some, None, refl, sym, ap}
+use Rattle.std.proofs.Common.{◌∙◌, inl, inr, subst, arith, zero-add}
+use Rattle.std.specs.Prelude.{not, nat_lt, slice_index, filter_map, option_and_then, count_by, sum_by}
 use Rattle.std.specs.List.{cons_option, find, list_any, range_with_len}
-use Rattle.std.proofs.lemmas.Bool.{cases_lt, cases_eq, eq-eqb, ne_eqb}
+use Rattle.std.proofs.lemmas.Bool.{cases_eq, eq-eqb, ne_eqb}
 use Rattle.std.proofs.lemmas.Bool.Decides.{nat_tests}
-use Rattle.std.proofs.lemmas.List.{length-map, get_or-map}
 use Rattle.std.proofs.lemmas.List.Sums.{sum_by-cons}
 use Rattle.block_device.specs.RackSeen.{spec_number}
 use Rattle.block_device.specs.declared.rack.Spec.{Spec}
@@ -78,7 +78,8 @@ length-given : {X Y : Type 0} (h : X → Option Y) (count : X → ℕ) → ((x :
 length-given h count each [] = omega arith
 length-given {Y = Y} h count each (x ∷ xs) = by_option (h x) (each x) (length-given h count each xs) (sum_by-cons count x xs)
   where
-    by_option : (o : Option Y) → one_of o ≤ count x → length (filter_map h xs) ≤ sum_by count xs → sum_by count (x ∷ xs) ≡ count x + sum_by count xs → length (cons_option o (filter_map h xs)) ≤ sum_by count (x ∷ xs)
+    by_option : (o : Option Y) → one_of o ≤ count x → length (filter_map h xs) ≤ sum_by count xs → sum_by count (x ∷ xs) ≡ count x + sum_by count xs
+        → length (cons_option o (filter_map h xs)) ≤ sum_by count (x ∷ xs)
     by_option None low rest sum = omega (arith, rest, sum)
     by_option (Some y) low rest sum = omega (arith, low, rest, sum)
 
@@ -127,7 +128,8 @@ by-line (given.File name writable disk pages bytes) a n = let none = sum-nothing
 given-lines : (setup : List SetupLine) (a n : ℕ) → sum_by (lines_giving setup) (range_with_len a n) ≤ count_by (λ (l : SetupLine). gives_a_disk l.act) setup
 given-lines [] a n = let none = sum-nothing (range_with_len a n) in omega (arith, none)
 given-lines (l ∷ setup) a n =
-    let each = sum-agree (lines_giving (l ∷ setup)) (λ (x : ℕ). cond (gives_disk x l.act) 1 0 + lines_giving setup x) (λ x. sum_by-cons (λ (k : SetupLine). cond (gives_disk x k.act) 1 0) l setup) (range_with_len a n) in
+    let each = sum-agree (lines_giving (l ∷ setup)) (λ (x : ℕ). cond (gives_disk x l.act) 1 0 + lines_giving setup x)
+    (λ x. sum_by-cons (λ (k : SetupLine). cond (gives_disk x k.act) 1 0) l setup) (range_with_len a n) in
     let both = sum-both (λ (x : ℕ). cond (gives_disk x l.act) 1 0) (lines_giving setup) (range_with_len a n) in
     let head = by-line l.act a n in
     let rest = given-lines setup a n in
@@ -142,11 +144,13 @@ few-disks setup =
 
 -- THEIR NUMBERS
 own-number : (act : SetupAct) (n : ℕ) (s : Spec) → gives_disk n act ≡ true → given_disk act ≡ Some s → spec_number s ≡ n
-own-number (given.Blank disk blocks) n s gives is = let e : spec.Blank disk blocks ≡ s = (let z : ◌≡◌ {A = Option Spec} (Some (spec.Blank disk blocks)) (Some s) = is in cc) in ap spec_number (sym e) ∙ equal disk n gives
+own-number (given.Blank disk blocks) n s gives is = let e : spec.Blank disk blocks ≡ s =
+    (let z : ◌≡◌ {A = Option Spec} (Some (spec.Blank disk blocks)) (Some s) = is in cc) in ap spec_number (sym e) ∙ equal disk n gives
   where
     equal : (a b : ℕ) → (a == b) ≡ true → a ≡ b
     equal a b is = grind (arith, nat_tests)
-own-number (given.Path disk path) n s gives is = let e : spec.Path disk path ≡ s = (let z : ◌≡◌ {A = Option Spec} (Some (spec.Path disk path)) (Some s) = is in cc) in ap spec_number (sym e) ∙ equal disk n gives
+own-number (given.Path disk path) n s gives is = let e : spec.Path disk path ≡ s =
+    (let z : ◌≡◌ {A = Option Spec} (Some (spec.Path disk path)) (Some s) = is in cc) in ap spec_number (sym e) ∙ equal disk n gives
   where
     equal : (a b : ℕ) → (a == b) ≡ true → a ≡ b
     equal a b is = grind (arith, nat_tests)

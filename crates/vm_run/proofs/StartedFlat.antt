@@ -1,24 +1,23 @@
 -- A kernel at the start fits flat memory as the processes find it.
-use Rattle.std.proofs.Common.{◌≡◌, ◌≢◌, ℕ, zero, suc, ◌+◌, ◌<◌, ◌≤◌, Bool, true, false, cond, List, [], ◌∷◌, length, map, Option, Some, None, refl, sym, ap, ◌∙◌, subst, arith}
-use Rattle.std.specs.Prelude.{slice_get, slice_index_or, is_some, unwrap_or, IfSome, IsTrue, All}
+use Rattle.std.proofs.Common.{◌≡◌, ◌≢◌, ℕ, suc, ◌+◌, ◌<◌, Bool, true, false, cond, List, [], ◌∷◌, length, map, Option, Some, None, refl, sym, ap, ◌∙◌, subst, arith}
+use Rattle.std.specs.Prelude.{slice_get, slice_index_or, is_some, unwrap_or, IfSome}
 use Rattle.std.specs.FinMap as finite
 use Rattle.std.specs.FinSet as set
 use Rattle.std.proofs.lemmas.List.{length-map, get_or-map}
 use Rattle.std.proofs.lemmas.Option.{slice_get_within}
 use Rattle.addr_space.specs.Space.{Part}
 use Rattle.block_device.specs.DiskSeen.{DiskSeen, HasBlocks, AreBlocks}
-use Rattle.flat_model.specs.Flat.{File, Flat}
-use Rattle.flat_model.specs.Words.{Page, pages_in}
+use Rattle.flat_model.specs.Flat.{Flat}
+use Rattle.flat_model.specs.Words.{pages_in}
 use Rattle.flat_model.proofs.FileBytes.{Whole}
-use Rattle.page_store.specs.Bays.{BaySeen, missing, home, bay_at}
+use Rattle.page_store.specs.Bays.{BaySeen, home, bay_at}
 use Rattle.page_store.specs.New.{AreHome}
 use Rattle.page_store.specs.Notes.{no_notes}
 use Rattle.page_store.specs.Value.{content_of, content_in_bay, tells}
 use Rattle.page_store.specs.declared.place.Place.{Place}
 use Rattle.vnode_files.specs.declared.vnode.FileInfo.{FileInfo}
-use Rattle.vnode_files.specs.Files.{FilesSeen, vnode_at, block_count}
+use Rattle.vnode_files.specs.Files.{vnode_at, block_count}
 use Rattle.vnode_files.specs.Grow.{page_count}
-use Rattle.vnode_files.specs.Layout.{LieOnDisks}
 use Rattle.vnode_files.specs.Vnode.{VnodeSeen, no_vnode, page_blocks, fresh_vnode, IsSoundVnode}
 use Rattle.vnode_files.proofs.BlockLemmas.{length-page_blocks}
 use Rattle.vnode_files.proofs.LayoutLaws.{file_layout_law}
@@ -30,7 +29,7 @@ use Rattle.vm_world.specs.Pages.{page_value, file_contents, contents_of}
 use Rattle.vm_world.specs.declared.segment.Segment.{Segment}
 use Rattle.vm_world.specs.State.{KernelState, is_top}
 use Rattle.vm_world.specs.StateFits.{StateFits}
-use Rattle.vm_world.specs.World.{World, file_name, world_table, AllTell}
+use Rattle.vm_world.specs.World.{file_name, AllTell}
 use Rattle.vm_world.proofs.PageNames.{file-page, file-place, below-kept, index-of, file-there}
 use Rattle.vm_world.proofs.Spaces.{EmptySpaces}
 use Rattle.vm_script.specs.PlanSeen.{PlanSeen}
@@ -41,7 +40,8 @@ use Rattle.volume_files.specs.Written.{LieWell, HaveDisks}
 use Rattle.vm_run.proofs.OpeningFlat.{IsAsOpened, opened-files, born-is, spaces-are, zeros-none}
 
 -- blocks that are whole
-whole-from : (blocks : List (List ℕ)) (places : List ℕ) → ((j : ℕ) → j < length places → length (slice_index_or blocks (slice_index_or places j 0) []) ≡ 4096) → Whole (map (λ (b : ℕ). slice_index_or blocks b []) places)
+whole-from : (blocks : List (List ℕ)) (places : List ℕ) → ((j : ℕ) → j < length places → length (slice_index_or blocks (slice_index_or places j 0) []) ≡ 4096)
+    → Whole (map (λ (b : ℕ). slice_index_or blocks b []) places)
 whole-from blocks [] each = tt
 whole-from blocks (b ∷ places) each = (each 0 (omega arith), whole-from blocks places (λ j lt. each (suc j) (omega (arith, lt))))
 
@@ -49,7 +49,8 @@ infos-fresh : (infos : List FileInfo) → map (λ (v : VnodeSeen). v.info) (map 
 infos-fresh [] = refl
 infos-fresh (info ∷ infos) = ap (λ (l : List FileInfo). info ∷ l) (infos-fresh infos)
 
-pub disk-home : (bays : List BaySeen) (disks : List (ℕ × DiskSeen)) (swap : Option DiskSeen) (place number : ℕ) (disk : DiskSeen) → AreHome bays disks swap → slice_get disks place ≡ Some (number, disk) → bay_at bays number ≡ home disk
+pub disk-home : (bays : List BaySeen) (disks : List (ℕ × DiskSeen)) (swap : Option DiskSeen) (place number : ℕ) (disk : DiskSeen) → AreHome bays disks swap
+    → slice_get disks place ≡ Some (number, disk) → bay_at bays number ≡ home disk
 disk-home bays disks swap place number disk h at =
     let same = index-of disks place (number, disk) (number, disk) at in
     subst (λ (d : ℕ × DiskSeen). bay_at bays d.0 ≡ home d.1) same (h.each place (number, disk) (slice_get_within disks place (number, disk) at))
@@ -112,7 +113,8 @@ module _ (files : List OpenedFile) (disks : List (ℕ × DiskSeen)) (swap : Opti
         → length (slice_index_or blocks (slice_index_or (page_blocks f.info.extents) j 0) []) ≡ 4096
     block-whole n d blocks on is j lt =
         let F = s.memory.world.files in
-        let has : (length blocks ≡ d.size) × AreBlocks blocks = subst (λ (c : Option (List (List ℕ))). HasBlocks c d.size) is (k.opening.memory.store.sound.whole f.info.disk d (disk-home s.memory.world.store.bays disks swap n f.info.disk d k.home on)) in
+        let has : (length blocks ≡ d.size) × AreBlocks blocks = subst (λ (c : Option (List (List ℕ))). HasBlocks c d.size) is
+        (k.opening.memory.store.sound.whole f.info.disk d (disk-home s.memory.world.store.bays disks swap n f.info.disk d k.home on)) in
         let long = length-page_blocks f.info.extents in
         let kept : j < page_count (vnode_at F i).info.extents = subst (λ (v : VnodeSeen). j < page_count v.info.extents) (sym (fresh-is i f at)) (omega (arith, lt, long)) in
         let below = (file_layout_law.on_disks F k.well.on_disks i j within kept).1 in
@@ -131,7 +133,8 @@ module _ (files : List OpenedFile) (disks : List (ℕ × DiskSeen)) (swap : Opti
             let size = length-map files (λ (x : OpenedFile). x.info) in
             let info : info_at (infos_of files) i ≡ f.info = info-is i f no_entry at in
             let at-all = k.stored n i (f.info.disk, d) on (omega (arith, lt, size)) (ap (λ (x : FileInfo). x.disk) info) in
-            let bytes : stored_bytes blocks (info_at (infos_of files) i) ≡ opened_bytes_at files i = subst (λ (c : Option (List (List ℕ))). IfSome c (λ bs. stored_bytes bs (info_at (infos_of files) i) ≡ opened_bytes_at files i)) is at-all in
+            let bytes : stored_bytes blocks (info_at (infos_of files) i) ≡ opened_bytes_at files i = subst
+            (λ (c : Option (List (List ℕ))). IfSome c (λ bs. stored_bytes bs (info_at (infos_of files) i) ≡ opened_bytes_at files i)) is at-all in
             ap (stored_bytes blocks) (sym info) ∙ bytes ∙ bytes-is i f at
 
         by_content : (n : ℕ) (d : DiskSeen) → slice_get disks n ≡ Some (f.info.disk, d) → (c : Option (List (List ℕ))) → d.content ≡ c → (blocks : List (List ℕ)) × IsAsOpened s.memory.world i f blocks
@@ -170,7 +173,8 @@ module _ (files : List OpenedFile) (disks : List (ℕ × DiskSeen)) (swap : Opti
       by_top false e = absurd (let z : ◌≡◌ {A = Option (List (Part Segment))} None (Some parts) = e in cc)
 
   -- FLAT MEMORY AT THE START, where the disks tell.
-  pub opening-is : (plan : PlanSeen) (sizes : List (ℕ × ℕ)) → s.parents ≡ plan.parents → length s.memory.world.anon.counts ≡ (amounts_of plan.setup).slots → s.memory.world.files.disks ≡ finite.from_entries sizes
+  pub opening-is : (plan : PlanSeen) (sizes : List (ℕ × ℕ)) → s.parents ≡ plan.parents → length s.memory.world.anon.counts ≡ (amounts_of plan.setup).slots
+      → s.memory.world.files.disks ≡ finite.from_entries sizes
       → AllTell s.memory.world no_notes → flat_memory s.memory s.born no_notes ≡ opening_flat plan sizes files
   opening-is plan sizes parents slots sized tell =
       let w = s.memory.world in
@@ -183,7 +187,8 @@ module _ (files : List OpenedFile) (disks : List (ℕ × DiskSeen)) (swap : Opti
       let born = born-is s.born s.parents k.opening.born ∙ ap (λ (l : List ℕ). set.from_list (top_processes 1 l)) parents in
       λ i. record { slots = slots i; disks = sized i; files = all i; zeros = none i; spaces = spaces i; born = born i }
 
-  pub started-fits : (plan : PlanSeen) (sizes : List (ℕ × ℕ)) → s.parents ≡ plan.parents → length s.memory.world.anon.counts ≡ (amounts_of plan.setup).slots → s.memory.world.files.disks ≡ finite.from_entries sizes
+  pub started-fits : (plan : PlanSeen) (sizes : List (ℕ × ℕ)) → s.parents ≡ plan.parents → length s.memory.world.anon.counts ≡ (amounts_of plan.setup).slots
+      → s.memory.world.files.disks ≡ finite.from_entries sizes
       → StateFits (flat_memory s.memory s.born no_notes) s no_seats → StateFits (opening_flat plan sizes files) s no_seats
   started-fits plan sizes parents slots sized fits = record {
     memory = fits.memory;

@@ -1,9 +1,8 @@
 -- What a kernel may be started with, once the files were placed, and what it is then.
-use Rattle.std.proofs.Common.{◌≡◌, ℕ, zero, suc, ◌+◌, ◌<◌, ◌≤◌, ◌==◌, Bool, true, false, cond, List, [], ◌∷◌, length, map, take, Option, Some, None, refl, sym, ap, ◌∙◌, inl, inr, subst, arith}
-use Rattle.std.specs.Prelude.{slice_get, slice_index, slice_index_or, option_map, is_some, count_by, IfSome, MatchOption, All}
-use Rattle.std.specs.FinMap as finite
-use Rattle.std.proofs.lemmas.Bool.{cases_eq, ne_eqb}
-use Rattle.std.proofs.lemmas.List.{length-map, get_or-map, take_all}
+use Rattle.std.proofs.Common.{◌≡◌, ℕ, suc, ◌+◌, ◌<◌, ◌≤◌, ◌==◌, Bool, cond, List, [], ◌∷◌, length, map, Option, Some, None, refl, sym, ap, ◌∙◌, subst, arith}
+use Rattle.std.specs.Prelude.{slice_index_or, option_map, is_some}
+use Rattle.std.proofs.lemmas.Bool.{ne_eqb}
+use Rattle.std.proofs.lemmas.List.{length-map}
 use Rattle.block_device.specs.DiskSeen.{DiskSeen}
 use Rattle.block_device.specs.RackSeen.{spec_number}
 use Rattle.block_device.specs.declared.numbered.NumberedDisk.{NumberedDisk}
@@ -13,23 +12,20 @@ use Rattle.page_store.specs.New.{AreHome}
 use Rattle.page_store.specs.Notes.{no_notes}
 use Rattle.vnode_files.specs.Files.{FilesSeen}
 use Rattle.vm_core.specs.Setup.{disk_total, SwapServes}
-use Rattle.vm_script.specs.declared.plan.SetupLine.{SetupLine}
 use Rattle.vm_script.specs.PlanSeen.{PlanSeen}
-use Rattle.vm_script.specs.Rules.{amounts_of, gives_a_disk, broken_rule}
+use Rattle.vm_script.specs.Rules.{amounts_of, broken_rule}
 use Rattle.vm_world.specs.FlatMemory.{flat_memory}
 use Rattle.vm_world.specs.Opening.{IsOpening, no_seats}
 use Rattle.vm_world.specs.State.{KernelState}
 use Rattle.vm_world.specs.StateFits.{StateFits}
-use Rattle.vm_world.proofs.PageNames.{index-of}
 use Rattle.volume_files.specs.declared.attaching.Attached.{Attached}
-use Rattle.vm_run.specs.declared.ending.Ending.TheVariants.{Memory}
 use Rattle.vm_run.specs.declared.ending.Stop.{Stop}
-use Rattle.volume_files.specs.Attached.{AttachedSeen, ArePlaced, HandsStopped, StopCause, StopsEarly, attached_seen, numbered_seen, bare_disks}
-use Rattle.volume_files.specs.Handed.{HandsAll, HandsFront, HaveSpecSizes, IsSwapFor, disk_numbers}
+use Rattle.volume_files.specs.Attached.{AttachedSeen, ArePlaced, attached_seen, numbered_seen, bare_disks}
+use Rattle.volume_files.specs.Handed.{IsSwapFor}
 use Rattle.volume_files.specs.Opened.{OpenedFile, opening_flat, disk_specs}
 use Rattle.vm_run.specs.Played.{IsStarted, HasRoomForPlan}
 use Rattle.volume_files.specs.Written.{LieWell, HaveDisks}
-use Rattle.vm_run.proofs.StartRules.{HasRightAmounts, right-amounts, few-disks, disk-numbers}
+use Rattle.vm_run.proofs.StartRules.{right-amounts, few-disks, disk-numbers}
 use Rattle.vm_run.proofs.StartedFlat.{IsStartedWith, started-fits}
 
 -- disks with their numbers
@@ -48,18 +44,22 @@ pub bare_disks-are : {D : Type 0} (seen : D → DiskSeen) (disks : List (Numbere
 bare_disks-are seen [] = refl
 bare_disks-are seen (d ∷ disks) = ap (λ (l : List DiskSeen). seen d.disk ∷ l) (bare_disks-are seen disks)
 
-pub swap-is : {D : Type 0} (seen : D → DiskSeen) (swap : Option (NumberedDisk D)) → option_map seen (option_map (λ (d : NumberedDisk D). d.disk) swap) ≡ option_map (λ (d : NumberedDisk D). seen d.disk) swap
+pub swap-is : {D : Type 0} (seen : D → DiskSeen) (swap : Option (NumberedDisk D))
+    → option_map seen (option_map (λ (d : NumberedDisk D). d.disk) swap) ≡ option_map (λ (d : NumberedDisk D). seen d.disk) swap
 swap-is seen None = refl
 swap-is seen (Some d) = refl
 
-pub total-is : {D : Type 0} (seen : D → DiskSeen) (disks : List (NumberedDisk D)) (swap : Option (NumberedDisk D)) → disk_total (map with_number disks) (option_map (λ (d : NumberedDisk D). d.disk) swap)
+pub total-is : {D : Type 0} (seen : D → DiskSeen) (disks : List (NumberedDisk D)) (swap : Option (NumberedDisk D))
+    → disk_total (map with_number disks) (option_map (λ (d : NumberedDisk D). d.disk) swap)
     ≡ length (map (numbered_seen seen) disks) + cond (is_some (option_map (λ (d : NumberedDisk D). seen d.disk) swap)) 1 0
 total-is seen disks None = ap (λ (n : ℕ). n + 0) (length-map disks with_number ∙ sym (length-map disks (numbered_seen seen)))
 total-is seen disks (Some d) = ap (λ (n : ℕ). n + 1) (length-map disks with_number ∙ sym (length-map disks (numbered_seen seen)))
 
 -- What a start that lacked memory hands back.
-module _ {D : Type 0} (seen : D → DiskSeen) (plan : PlanSeen) (told : Spec → Option (List (List ℕ))) (files : List OpenedFile) (attached : Attached D) (made : FilesSeen) (p : ArePlaced plan told files (attached_seen seen attached) made)
-    (s : Stop D) (pairs : List (ℕ × D)) (are : pairs ≡ map with_number attached.disks.items) (disks : s.disks.items ≡ map (λ (d : ℕ × D). d.1) pairs) (swap : s.swap ≡ option_map (λ (d : NumberedDisk D). d.disk) attached.swap) where
+module _ {D : Type 0} (seen : D → DiskSeen) (plan : PlanSeen) (told : Spec → Option (List (List ℕ))) (files : List OpenedFile) (attached : Attached D)
+    (made : FilesSeen) (p : ArePlaced plan told files (attached_seen seen attached) made)
+    (s : Stop D) (pairs : List (ℕ × D)) (are : pairs ≡ map with_number attached.disks.items) (disks : s.disks.items ≡ map (λ (d : ℕ × D). d.1) pairs)
+    (swap : s.swap ≡ option_map (λ (d : NumberedDisk D). d.disk) attached.swap) where
   pub its-disks : map seen s.disks.items ≡ bare_disks (map (numbered_seen seen) attached.disks.items)
   its-disks = ap (map seen) (disks ∙ ap (map (λ (d : ℕ × D). d.1)) are) ∙ bare_disks-are seen attached.disks.items
 
@@ -86,17 +86,20 @@ module _ (plan : PlanSeen) (holds : Spec → Option (List (List ℕ))) (files : 
     where
       by_swap : (o : Option DiskSeen) → IsSwapFor (amounts_of plan.setup).slots o → cond (is_some o) 1 0 ≤ cond ((amounts_of plan.setup).slots == 0) 0 1
       by_swap None none = omega arith
-      by_swap (Some d) has = let one : ◌≡◌ {A = ℕ} 1 (cond ((amounts_of plan.setup).slots == 0) 0 1) = ap (λ (b : Bool). cond b 0 1) (sym (ne_eqb (amounts_of plan.setup).slots 0 (λ e. let low = has.0 in absurd (omega (arith, e, low))))) in omega (arith, one)
+      by_swap (Some d) has = let one : ◌≡◌ {A = ℕ} 1 (cond ((amounts_of plan.setup).slots == 0) 0 1) = ap (λ (b : Bool). cond b 0 1)
+          (sym (ne_eqb (amounts_of plan.setup).slots 0 (λ e. let low = has.0 in absurd (omega (arith, e, low))))) in omega (arith, one)
 
   pub are-numbers : AreNumbers (map (λ (d : ℕ × DiskSeen). d.0) a.disks)
   are-numbers = subst AreNumbers (sym p.numbers) (disk-numbers plan.setup)
 
   -- THE KERNEL
   pub started : (s : KernelState) → IsOpening s → StateFits (flat_memory s.memory s.born no_notes) s no_seats → AreHome s.memory.world.store.bays a.disks a.swap
-      → s.memory.world.store.order ≡ map (λ (d : ℕ × DiskSeen). d.0) a.disks → s.memory.world.files ≡ made → s.parents ≡ plan.parents → HasRoomForPlan plan s.entries → length s.entries ≡ length plan.parents
-      → 1 ≤ length s.syncs → length plan.parents ≤ length s.syncs → length s.memory.world.anon.counts ≡ (amounts_of plan.setup).slots
+      → s.memory.world.store.order ≡ map (λ (d : ℕ × DiskSeen). d.0) a.disks → s.memory.world.files ≡ made → s.parents ≡ plan.parents
+      → HasRoomForPlan plan s.entries → length s.entries ≡ length plan.parents
+      → 1 ≤ length s.syncs → length plan.parents ≤ length s.syncs → length s.memory.world.store.frames ≡ (amounts_of plan.setup).frames
+      → length s.memory.world.hat.places ≡ (amounts_of plan.setup).translations → length s.memory.world.anon.counts ≡ (amounts_of plan.setup).slots
       → IsStarted plan (opening_flat plan (map (λ (d : ℕ × DiskSeen). (d.0, d.1.size)) a.disks) files) a.disks a.swap made s
-  started s opening fits at_home order is parents rooms count some enough slots =
+  started s opening fits at_home order is parents rooms count some enough frames translations slots =
       let with' : IsStartedWith files a.disks a.swap s = record {
         opening = opening;
         fresh = ap (λ (f : FilesSeen). f.files) is ∙ p.fresh;
@@ -114,6 +117,8 @@ module _ (plan : PlanSeen) (holds : Spec → Option (List (List ℕ))) (files : 
         racked = ap (disks_in s.memory.world.store.bays) order ∙ racked a.disks at_home.each;
         swapped = at_home.swap;
         placed = is;
+        frames = frames;
+        translations = translations;
         slots = slots;
         well = p.well;
         have = p.have;

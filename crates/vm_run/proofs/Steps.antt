@@ -21,7 +21,8 @@ by-calls : (P : Call → Type 0) (H : List Entry) (calls : List Call) → map (�
 by-calls P [] calls is all = All-nil (λ (e : Entry). P e.call)
 by-calls P (e ∷ H) calls is all =
     let both : All P (e.call ∷ map (λ (x : Entry). x.call) H) = subst (All P) (sym is) all in
-    All-cons (λ (x : Entry). P x.call) e H (All-head P e.call (map (λ (x : Entry). x.call) H) both) (by-calls P H (map (λ (x : Entry). x.call) H) refl (All-tail P e.call (map (λ (x : Entry). x.call) H) both))
+    All-cons (λ (x : Entry). P x.call) e H (All-head P e.call (map (λ (x : Entry). x.call) H) both)
+    (by-calls P H (map (λ (x : Entry). x.call) H) refl (All-tail P e.call (map (λ (x : Entry). x.call) H) both))
 
 take-served : (lines : List PlanLine) (n : ℕ) → All MayBeMade lines → All IsServed (take n (line_calls lines))
 take-served lines zero all = All-nil IsServed
@@ -51,7 +52,8 @@ length-made lines n H le made =
     omega (arith, a, b, c, d, le)
 
 -- THE NEXT LINE may be made.
-pub next-may : (lines : List PlanLine) (n : ℕ) (s t : KernelState) → AreLines lines → HasCome lines n s t → n < length lines → IsTrue (is_top s.parents 1) → 0 < length s.syncs → length lines ≤ room_of s.entries 1 → MayGoOn t
+pub next-may : (lines : List PlanLine) (n : ℕ) (s t : KernelState) → AreLines lines → HasCome lines n s t → n < length lines → IsTrue (is_top s.parents 1)
+    → 0 < length s.syncs → length lines ≤ room_of s.entries 1 → MayGoOn t
 next-may lines n s t are come lt top seated room = record {
   top = subst (λ (ps : List ℕ). IsTrue (is_top ps 1)) (sym (ap (λ (f : Fixed). f.parents) come.event.fixed)) top;
   seated = subst (λ (k : ℕ). 0 < k) (sym (ap (λ (f : Fixed). f.seats) come.event.fixed)) seated;
@@ -75,7 +77,8 @@ come-none lines s none = record {
 }
 
 -- A LINE MORE.
-pub come-more : (lines : List PlanLine) (n : ℕ) (l : PlanLine) (s t u : KernelState) → n < length lines → l ≡ slice_index_or lines n l → HasCome lines n s t → IsEvent 0 t None u None → HasOneMore t u 1 (line_call l.act) → HasCome lines (n + 1) s u
+pub come-more : (lines : List PlanLine) (n : ℕ) (l : PlanLine) (s t u : KernelState) → n < length lines → l ≡ slice_index_or lines n l → HasCome lines n s t
+    → IsEvent 0 t None u None → HasOneMore t u 1 (line_call l.act) → HasCome lines (n + 1) s u
 come-more lines n l s t u lt at come event more =
     let e : Entry = record { process = 1; call = line_call l.act; reply = more.0; cleared = more.1 } in
     let long = length-map lines (λ (k : PlanLine). line_call k.act) in

@@ -1,5 +1,6 @@
 -- What the history of a front of the lines tells of the plan.
-use Rattle.std.proofs.Common.{◌≡◌, ℕ, zero, suc, ◌<◌, ◌==◌, Bool, true, false, cond, List, [], ◌∷◌, ◌++◌, length, map, take, drop, Option, refl, sym, ap, ◌∙◌, inl, inr, subst, arith, take-append-drop, eq-eqb, length-append}
+use Rattle.std.proofs.Common.{◌≡◌, ℕ, zero, suc, ◌<◌, ◌==◌, Bool, true, false, cond, List, [], ◌∷◌, ◌++◌, length, map, take, drop, Option, refl, sym, ap, ◌∙◌}
+use Rattle.std.proofs.Common.{inl, inr, subst, arith, take-append-drop, eq-eqb, length-append}
 use Rattle.std.specs.Prelude.{All, IsTrue, MatchOption, filter, flat_map}
 use Rattle.std.proofs.lemmas.List.{get_or_at, take-map}
 use Rattle.std.proofs.lemmas.List.Elements.{All-nil, All-cons, All-head, All-tail}
@@ -130,7 +131,8 @@ front-told plan n H plays made mine = elim plays.blocks [
       let no_calls : map (λ (e : Entry). e.call) H ≡ [] = made ∙ ap (λ (ls : List PlanLine). take n (line_calls ls)) none.1 ∙ take-none n in
       front-of plan n H (told-nothing (cut_plan plan (take n plan.lines)) H none.0 (no-entries H no_calls))
   | inr one ↦
-      front-of plan n H (told-cut (cut_plan plan (take n plan.lines)) H one (take-each (λ (l : PlanLine). IsTrue (is_served_act l.act)) n plan.lines plays.served) (take-each (λ (l : PlanLine). l.process ≡ 1) n plan.lines plays.own)
+      front-of plan n H (told-cut (cut_plan plan (take n plan.lines)) H one
+      (take-each (λ (l : PlanLine). IsTrue (is_served_act l.act)) n plan.lines plays.served) (take-each (λ (l : PlanLine). l.process ≡ 1) n plan.lines plays.own)
       (made ∙ take-map (λ (l : PlanLine). line_call l.act) n plan.lines) mine)
 ]
   where

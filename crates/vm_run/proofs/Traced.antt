@@ -1,6 +1,6 @@
 -- Files that are placed, once their disks were read for the trace.
-use Rattle.std.proofs.Common.{◌≡◌, ℕ, zero, suc, ◌≤◌, ◌<◌, ◌==◌, ◌++◌, true, false, List, [], ◌∷◌, length, map, take, drop, append-nil, refl, sym, ap, ◌∙◌, subst, arith, inl, inr}
-use Rattle.std.specs.Prelude.{All, Bool, IfSome, IsSome, Err, Ok, Result, Option, Some, None, option_map, slice_get, slice_index_or, zip, if◌then◌else◌}
+use Rattle.std.proofs.Common.{◌≡◌, ℕ, zero, suc, ◌<◌, ◌==◌, ◌++◌, true, false, List, [], ◌∷◌, length, map, take, drop, append-nil, refl, sym, ap, ◌∙◌, subst, arith, inl, inr}
+use Rattle.std.specs.Prelude.{All, Bool, IfSome, IsSome, IsTrue, Err, Ok, Option, Some, None, option_map, slice_get, zip, if◌then◌else◌}
 use Rattle.std.specs.FinMap as finite
 use Rattle.std.specs.Map.{lookup}
 use Rattle.std.proofs.lemmas.Bool.{false≢true, ne_eqb}
@@ -13,7 +13,6 @@ use Rattle.block_device.specs.declared.numbered.NumberedDisk.{NumberedDisk}
 use Rattle.block_device.specs.declared.rack.Spec.{Spec}
 use Rattle.flat_model.proofs.Bytes.{All-slice_get}
 use Rattle.vm_core.specs.Finish.{HistorySeen}
-use Rattle.vm_core.specs.Setup.{FilesOnDisks, ListsDisk}
 use Rattle.vm_script.specs.PlanSeen.{PlanSeen}
 use Rattle.vnode_files.specs.Files.{FilesSeen}
 use Rattle.vnode_files.specs.Vnode.{VnodeSeen}
@@ -31,17 +30,19 @@ use Rattle.volume_files.specs.Attached.{ArePlaced, AttachedSeen, FileDisksTell, 
 use Rattle.volume_files.specs.Closed.{StoreFiles, info_at}
 use Rattle.vm_run.specs.Course.{AreReadBytes, TraceStops, opening_stop}
 use Rattle.vm_run.specs.Ended.{End, stop_end}
-use Rattle.volume_files.specs.Handed.{HandsAll, HasDiskCause, HasSpecSize, HaveSpecSizes, HaveTold, IsCountedBy, disk_handed, plan_disks, sizes_of}
-use Rattle.volume_files.specs.Opened.{ComesTo, OpenedFile, opened_bytes_at, disk_specs, infos_of, numbered_plan, stored_bytes}
+use Rattle.volume_files.specs.Handed.{AreUncounted, HandsAll, HasDiskCause, HasSpecSize, HaveSpecSizes, HaveTold, IsCountedBy, plan_disks, sizes_of, AreWrittenAt, IsSwapAsGiven, block_told}
+use Rattle.volume_files.specs.Opened.{OpenedFile, opened_bytes_at, disk_specs, infos_of, numbered_plan, stored_bytes, line_files_of}
 use Rattle.volume_files.specs.Written.{infos_made}
-use Rattle.vm_run.specs.Run.{AreOpenedBytes, CaseOf, DisksTell, IsOpened, Outside, opening_part, wrote_before}
+use Rattle.vm_run.specs.Run.{AreOpenedBytes, CaseOf, IsOpened, Outside, opening_part, wrote_before}
 use Rattle.volume_files.specs.Texts.{IsPageUnread, Wrote, WroteFront, WrotePart, file_sections, sections_before, trace_front}
 use Rattle.vm_run.specs.AskedTexts.{trace_opening}
-use Rattle.volume_files.specs.Written.{AreFilesBytes, AreOnlyRead, HaveDisks, HaveFirstBlocks, FaultCounts, IsCountedSince, TraceShows, disk_sizes, open_fault_counts}
+use Rattle.volume_files.specs.Written.{AreFilesBytes, AreOnlyRead, HaveFirstBlocks, FaultCounts, IsCountedSince, TraceShows, disk_sizes, open_fault_counts}
 use Rattle.vm_run.proofs.Courses.{made-infos, spec-size}
-use Rattle.vm_run.proofs.Sinks.{whole_front}
+use Rattle.volume_files.proofs.WrittenTexts.{wrote_front}
 use Rattle.volume_files.proofs.FaultCauses.{if-counted}
-use Rattle.volume_files.proofs.DiskLists.{at-map, have-read, in-map, lookup-at, low-disks, mate, number, same-image, sizes-by, zip-back}
+use Rattle.volume_files.proofs.DiskLists.{at-map, have-read, in-map, lookup-at, low-disks, mate, same-image, sizes-by, zip-back}
+use Rattle.volume_files.proofs.GivenFiles.{comes-sizes}
+use Rattle.vm_script.specs.Rules.{amounts_of}
 
 -- ---- disks that were only read
 
@@ -82,6 +83,23 @@ specs-read specs old new r h = (
 hands-read : (plan : PlanSeen) (old new : List (ℕ × DiskSeen)) (swap : Option DiskSeen) → AreOnlyRead old new → HandsAll plan (bare_disks old) swap → HandsAll plan (bare_disks new) swap
 hands-read plan old new swap r h = record { each = specs-read (disk_specs plan.setup) old new r h.each; first = h.first }
 
+-- disks that were read were written where they were
+written-read : (plan : PlanSeen) (holds : Spec → Option (List (List ℕ))) (lines : List OpenedFile) (old new : List (ℕ × DiskSeen)) (swap swap2 : Option DiskSeen) → AreOnlyRead old new → swap2 ≡ swap
+    → AreWrittenAt plan holds lines (bare_disks old) swap → AreWrittenAt plan holds lines (bare_disks new) swap2
+written-read plan holds lines old new swap swap2 r same h = record {
+  each = λ i s d si di.
+      let x = in-map (λ (p : ℕ × DiskSeen). p.1) new i d di in
+      let m = mate new old (sym r.numbers) i x.0 x.1 in
+      let w = h.each i s m.0.1 si (at-map (λ (p : ℕ × DiskSeen). p.1) old i m.0 m.1) in (
+        w.0,
+        w.1,
+        λ block free.
+            ap (λ (z : DiskSeen). block_told z.content block) (sym x.2)
+            ∙ ap (λ (c : Option (List (List ℕ))). block_told c block) (r.each i m.0 x.0 m.1 x.1).content ∙ w.2 block free,
+      );
+  last = subst (IsSwapAsGiven (amounts_of plan.setup).slots) (sym same) h.last;
+}
+
 -- the files are placed still
 pub placed-read : (plan : PlanSeen) (holds : Spec → Option (List (List ℕ))) (files : List OpenedFile) (a b : AttachedSeen) (made : FilesSeen) → ArePlaced plan holds files a made
     → AreOnlyRead a.disks b.disks → b.swap ≡ a.swap → ArePlaced plan holds files b made
@@ -96,7 +114,8 @@ placed-read plan holds files a b made p r same = record {
   names = p.names;
   own = p.own;
   kept = p.kept;
-  given = subst (λ (xs : List (ℕ × ℕ)). ComesTo plan holds xs (Ok files)) (sym (pairs-read a.disks b.disks r)) p.given;
+  given = comes-sizes plan holds (disk_sizes a.disks) (disk_sizes b.disks) (Ok files) (sym (pairs-read a.disks b.disks r)) p.given;
+  written = written-read plan holds (line_files_of p.given.found files) a.disks b.disks a.swap b.swap r same p.written;
   told = λ rack tell. p.told rack (tell-read (infos_of files) a.disks b.disks r tell);
   stored = stored-read (infos_of files) (opened_bytes_at files) a.disks b.disks r p.stored;
 }
@@ -116,7 +135,8 @@ own-bytes plan holds files a made p = record { lengths = λ k f at. count files 
     count : (fs : List OpenedFile) → All HasItsBytes fs → (k : ℕ) (f : OpenedFile) → slice_get fs k ≡ Some f → length (opened_bytes_at fs k) ≡ f.info.length
     count fs all k f at = ap length (is fs k f at) ∙ (All-slice_get HasItsBytes fs k f all at).count
 
-info-of-file : (files : List OpenedFile) (k : ℕ) (f : OpenedFile) → slice_get files k ≡ Some f → (info_at (infos_of files) k ≡ f.info) × (k < length (infos_of files)) × (slice_get (infos_of files) k ≡ Some f.info)
+info-of-file : (files : List OpenedFile) (k : ℕ) (f : OpenedFile) → slice_get files k ≡ Some f
+    → (info_at (infos_of files) k ≡ f.info) × (k < length (infos_of files)) × (slice_get (infos_of files) k ≡ Some f.info)
 info-of-file [] k f at = absurd (none-some f at)
 info-of-file (x ∷ files) zero f at = let e = ap (λ (y : OpenedFile). y.info) (same_Some x f at) in (e, omega arith, ap (λ (y : FileInfo). Some y) e)
 info-of-file (x ∷ files) (suc k) f at = let r = info-of-file files k f at in let lt = r.1 in (r.0, omega (arith, lt), r.2)
@@ -222,12 +242,15 @@ module _ (st : ℕ) (ft : Option RunFault) (g : Given) (o : Outside) (what : Ask
   opened-so = record {
     asked = asked;
     handed = hands-read what.plan a.disks new a.swap r p.handed;
-    given = subst (λ (xs : List (ℕ × ℕ)). ComesTo what.plan g.holds xs (Ok files)) (sym sizes) p.given;
+    given = comes-sizes what.plan g.holds (disk_sizes a.disks) (sizes_of what.plan (bare_disks new)) (Ok files) (sym sizes) p.given;
     opened = λ t. p.told t.rack (tell t.disks);
   }
 
   pub bytes-so : AreOpenedBytes g what files stopped bytes
   bytes-so = record { lengths = read.lengths; told = λ t. read.told (tell t.disks) }
+
+  written-so : AreWrittenAt what.plan g.holds (line_files_of p.given.found files) (bare_disks new) a.swap
+  written-so = written-read what.plan g.holds (line_files_of p.given.found files) a.disks new a.swap a.swap r refl p.written
 
   opening-text : trace_opening what.options (numbered_plan files what.plan) (disk_sizes a.disks) (infos_of files) bytes ≡ opening_part what files (bare_disks new) bytes
   opening-text = opening-read what files bytes a new made g.holds p r
@@ -251,56 +274,64 @@ module _ (st : ℕ) (ft : Option RunFault) (g : Given) (o : Outside) (what : Ask
   cause : (f : OpenFaultSeen) → IsCountedSince a.disks new (open_fault_counts f) → HasDiskCause what.plan (bare_disks new) a.swap f
   cause f c = if-counted ⊥ (λ x. IsCountedBy what.plan (bare_disks new) a.swap f.disk x.0 x.1) f.counts c.fault.risen (counted (open_fault_counts f) c)
 
-  pub traced-stop : (how : Ending) → TraceStops what.options (numbered_plan files what.plan) files bytes o.sink_old o.sink_new a.disks new how → CaseOf g o (wrote_before o) stopped how
-  traced-stop ending.Memory t = inr (inr (inl (record {
+  pub traced-stop : (how : Ending) → (how ≡ ending.Memory → IsTrue o.exact → AreUncounted (bare_disks new) a.swap) → TraceStops what.options (numbered_plan files what.plan) files bytes o.sink_old o.sink_new a.disks new how → CaseOf g o (wrote_before o) stopped how
+  unfolding opened-so
+  traced-stop ending.Memory none t = inr (inr (inl (record {
     what = what;
     files = files;
     bytes = bytes;
     opened = opened-so;
+    written = written-so;
+    counted = none refl;
     history = record { entries = entries; counts = counts };
     read = bytes-so;
     wrote = subst (WroteFront o.sink_old o.sink_new) opening-text t;
   })))
-  traced-stop ending.OpeningSink t = record {
+  traced-stop ending.OpeningSink none t = record {
     what = what;
     files = files;
     bytes = bytes;
     opened = opened-so;
+    written = written-so;
     history = record { entries = entries; counts = counts };
     read = bytes-so;
     cause = t.0;
     wrote = subst (WrotePart o.sink_old o.sink_new) opening-text t.1;
   }
-  traced-stop (ending.Opening f) t = inr (record {
+  traced-stop (ending.Opening f) none t = inr (record {
     what = what;
     files = files;
     text = trace_front what.plan (sizes_of what.plan (bare_disks new)) ++ sections_before Trace (infos_of files) bytes t.2.0 t.2.1;
     opened = opened-so;
+    written = written-so;
     history = record { entries = entries; counts = counts };
     cause = cause f t.1;
     before = inr (bytes, bytes-so, (t.2.0, t.2.1, t.0, t.2.2, refl));
     wrote = subst (λ (z : List (ℕ × ℕ)). Wrote o.sink_old o.sink_new (trace_front what.plan z ++ sections_before Trace (infos_of files) bytes t.2.0 t.2.1)) (sym sizes) t.2.3;
   })
-  traced-stop ending.Whole t = absurd t
-  traced-stop ending.Usage t = absurd t
-  traced-stop (ending.NoScript f) t = absurd t
-  traced-stop ending.Later t = absurd t
-  traced-stop (ending.Refused x) t = absurd t
-  traced-stop ending.NotRead t = absurd t
-  traced-stop ending.Sink t = absurd t
-  traced-stop (ending.Closing f) t = absurd t
-  traced-stop (ending.Showing f) t = absurd t
+  traced-stop ending.Whole none t = absurd t
+  traced-stop ending.Usage none t = absurd t
+  traced-stop (ending.NoScript f) none t = absurd t
+  traced-stop ending.Later none t = absurd t
+  traced-stop (ending.Refused x) none t = absurd t
+  traced-stop ending.NotRead none t = absurd t
+  traced-stop ending.Sink none t = absurd t
+  traced-stop (ending.Closing f) none t = absurd t
+  traced-stop (ending.Showing f) none t = absurd t
 
   -- memory lacked behind the whole opening part
-  pub lacks-behind : Wrote o.sink_old o.sink_new (opening_part what files (bare_disks new) bytes) → CaseOf g o (wrote_before o) stopped ending.Memory
-  lacks-behind wrote = inr (inr (inl (record {
+  pub lacks-behind : (IsTrue o.exact → AreUncounted (bare_disks new) a.swap) → Wrote o.sink_old o.sink_new (opening_part what files (bare_disks new) bytes) → CaseOf g o (wrote_before o) stopped ending.Memory
+  unfolding opened-so
+  lacks-behind none wrote = inr (inr (inl (record {
     what = what;
     files = files;
     bytes = bytes;
     opened = opened-so;
+    written = written-so;
+    counted = none;
     history = record { entries = entries; counts = counts };
     read = bytes-so;
-    wrote = whole_front o.sink_old o.sink_new (opening_part what files (bare_disks new) bytes) wrote;
+    wrote = wrote_front o.sink_old o.sink_new (opening_part what files (bare_disks new) bytes) wrote;
   })))
 
 -- the disks that a run which stopped hands back
@@ -315,15 +346,17 @@ handed-swap seen (Some d) = refl
 -- a run whose trace stopped, as it hands back its disks
 pub stopped-tracing : (st : ℕ) (ft : Option RunFault) (g : Given) (o : Outside) (what : Asked) (files : List OpenedFile) (bytes : ℕ → List ℕ) → WasAsked g (Ok what) → (a b : AttachedSeen)
     (made : FilesSeen) → ArePlaced what.plan g.holds files a made → AreReadBytes files a.disks bytes → AreOnlyRead a.disks b.disks → b.swap ≡ a.swap → (k0 k1 : SinkSeen) → o.sink_old ≡ k0
-    → o.sink_new ≡ k1 → (plan : PlanSeen) → plan ≡ numbered_plan files what.plan → (how : Ending) → TraceStops what.options plan files bytes k0 k1 a.disks b.disks how → {D : Type 0}
-    (seen : D → DiskSeen) (xs : List (NumberedDisk D)) (w : Option (NumberedDisk D)) → b.disks ≡ map (numbered_seen seen) xs → b.swap ≡ option_map (λ (d : NumberedDisk D). seen d.disk) w → (s : Stop D)
+    → o.sink_new ≡ k1 → (plan : PlanSeen) → plan ≡ numbered_plan files what.plan → (how : Ending) → TraceStops what.options plan files bytes k0 k1 a.disks b.disks how
+    → (how ≡ ending.Memory → IsTrue o.exact → AreUncounted (bare_disks b.disks) b.swap) → {D : Type 0}
+    (seen : D → DiskSeen) (xs : List (NumberedDisk D)) (w : Option (NumberedDisk D)) → b.disks ≡ map (numbered_seen seen) xs
+    → b.swap ≡ option_map (λ (d : NumberedDisk D). seen d.disk) w → (s : Stop D)
     → s.ending ≡ how → s.history.entries ≡ [] → s.history.faults ≡ [] → s.disks.items ≡ map (λ (d : NumberedDisk D). d.disk) xs → s.swap ≡ option_map (λ (d : NumberedDisk D). d.disk) w
     → CaseOf g o (wrote_before o) (record (stop_end seen s) { status = st; fault = ft }) s.ending
-stopped-tracing st ft g o what files bytes asked a b made p read r same k0 k1 before after plan numbered how t seen xs w all last s is entries counts disks swap =
+stopped-tracing st ft g o what files bytes asked a b made p read r same k0 k1 before after plan numbered how t none seen xs w all last s is entries counts disks swap =
     let low = low-disks what.plan a.disks p.numbers in
     let told : TraceStops what.options (numbered_plan files what.plan) files bytes o.sink_old o.sink_new a.disks b.disks how =
     rw (sym numbered, before, after) t in
-    let case = traced-stop st ft g o what files bytes asked a made p read b.disks r s.history entries counts low how told in
+    let case = traced-stop st ft g o what files bytes asked a made p read b.disks r s.history entries counts low how (λ m x. subst (AreUncounted (bare_disks b.disks)) same (none m x)) told in
     let back : map seen s.disks.items ≡ bare_disks b.disks = ap (map seen) disks ∙ handed-disks seen xs ∙ ap bare_disks (sym all) in
     let swapped : option_map seen s.swap ≡ a.swap = ap (option_map seen) swap ∙ handed-swap seen w ∙ sym last ∙ same in
     rw (is, back, swapped) case

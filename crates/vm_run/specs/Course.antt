@@ -71,6 +71,12 @@ abbrev pub AskEnds : Given → ℕ → ℕ → Result (Options × PlanSeen) Endi
 AskEnds g old new (Ok read) = WasAsked g (Ok (record { options = read.0; plan = read.1 })) × IsReadPlan read.1
 AskEnds g old new (Err how) = AskStops g old new how
 
+-- What is said unless the sink or a disk failed: where a step was done, or memory lacked.
+abbrev pub UnlessEnded : {T : Type 0} → Result T Ending → Type 0 → Type 0
+UnlessEnded (Ok done) P = P
+UnlessEnded (Err ending.Memory) P = P
+UnlessEnded (Err how) P = Unit {0}
+
 -- The ending of a run whose trace stopped in its opening part.
 abbrev pub opening_stop : ShowStop OpenFaultSeen → Ending
 opening_stop show.Memory = ending.Memory

@@ -11,7 +11,6 @@ use Rattle.flat_model.specs.History.{Legal, replay}
 use Rattle.page_store.specs.Bays.{BaySeen, bay_at, bay_of, pairs_seen}
 use Rattle.vnode_files.specs.Files.{FilesSeen}
 use Rattle.vnode_files.specs.Vnode.{VnodeSeen}
-use Rattle.vnode_files.specs.declared.vnode.FileInfo.{FileInfo}
 use Rattle.vm_core.specs.declared.finish.Finished.{Finished}
 use Rattle.vm_core.specs.Finish.{HistorySeen, disks_of}
 use Rattle.vm_script.specs.Counts.{entry_count}
@@ -35,7 +34,8 @@ use Rattle.vm_script.specs.Rules.{amounts_of}
 abbrev pub HasRoomForPlan : PlanSeen → List ℕ → Type 0
 HasRoomForPlan plan entries = (p : ℕ) → entry_count (own_lines plan p) ≤ room_of entries p
 
--- A KERNEL AT THE START: nothing happened yet; it fits this flat memory; it has the plan's processes, these disks, the swap disk and the files.
+-- A KERNEL AT THE START: nothing happened yet; it fits this flat memory; it has the plan's processes, frames, translations and slots, these disks, the
+-- swap disk and the files.
 pub record IsStarted (plan : PlanSeen) (F : Flat) (disks : List (ℕ × DiskSeen)) (swap : Option DiskSeen) (files : FilesSeen) (s : KernelState) : Type 0 where
   pub opening : IsOpening s
   pub fits : StateFits F s no_seats
@@ -45,6 +45,8 @@ pub record IsStarted (plan : PlanSeen) (F : Flat) (disks : List (ℕ × DiskSeen
   pub racked : disks_of s.memory.world ≡ disks
   pub swapped : bay_at s.memory.world.store.bays 8 ≡ bay_of swap
   pub placed : s.memory.world.files ≡ files
+  pub frames : length s.memory.world.store.frames ≡ (amounts_of plan.setup).frames
+  pub translations : length s.memory.world.hat.places ≡ (amounts_of plan.setup).translations
   pub slots : length s.memory.world.anon.counts ≡ (amounts_of plan.setup).slots
   pub well : LieWell files
   pub have : HaveDisks files disks

@@ -11,7 +11,12 @@ use Rattle.command_line.specs.declared.options.Options.{Options}
 use Rattle.vm_run.specs.Asked.{by_plan, script_told}
 use Rattle.vm_run.specs.Course.{IsReadPlan}
 use Rattle.vm_run.specs.Ending.{last_line_of}
-use Rattle.volume_files.specs.Texts.{Wrote, WroteOn}
+use Rattle.volume_files.specs.Texts.{WroteOn}
+
+-- What is said unless the source failed.
+abbrev pub UnlessUnread : {T : Type 0} → Result T Ending → Type 0 → Type 0
+UnlessUnread (Err ending.NotRead) P = Unit {0}
+UnlessUnread r P = P
 
 -- The script says this, whose text is told or not.
 abbrev pub SaysScript : Option ℕ → Option (List ℕ) → Result PlanSeen ScriptFault → Type 0
@@ -47,7 +52,9 @@ TakesPlan o plan (Err ending.Later) = by_plan o plan ≡ Err ending.Later
 TakesPlan o plan (Err (ending.Refused r)) = by_plan o plan ≡ Err (ending.Refused r)
 TakesPlan o plan (Err how) = ⊥
 
--- The last line of a run was printed, as far as the sink took it, and the run ends so; or memory lacked for the line, and nothing was printed.
+-- The last line of a run was printed, as far as the sink took it, and the run ends so; without a line no fault is counted; or memory lacked for the line, and the
+-- sink wasn't called.
 abbrev pub IsConcluded : Ending → SinkSeen → SinkSeen → Ending → Type 0
 IsConcluded was old new how =
-    ((how ≡ was) × WroteOn old new [] (last_line_of was)) ⊎ ((how ≡ ending.Memory) × Wrote old new [] × (last_line_of was ≢ []))
+    ((how ≡ was) × WroteOn old new [] (last_line_of was) × (last_line_of was ≡ [] → new.faults ≡ old.faults))
+    ⊎ ((how ≡ ending.Memory) × (new ≡ old) × (last_line_of was ≢ []))

@@ -1,5 +1,5 @@
 -- HOW A RUN ENDED, case by case. Public clauses cite this.
-use Rattle.std.specs.Prelude.{ℕ, ◌≡◌, ◌+◌, ◌⊎◌, true, List, [], ◌++◌, length, slice_get, IsSome, Option, Some, None, Ok, Err}
+use Rattle.std.specs.Prelude.{ℕ, ◌≡◌, ◌≢◌, ◌+◌, ◌⊎◌, Bool, true, List, [], ◌++◌, length, slice_get, IsSome, IsTrue, Option, Some, None, Ok, Err}
 use Rattle.vm_types.specs.declared.call.Entry.{Entry}
 use Rattle.block_device.specs.Counts.{HasRisen}
 use Rattle.block_device.specs.DiskSeen.{DiskSeen}
@@ -24,12 +24,14 @@ use Rattle.vm_run.specs.Asked.{Given, Asked, FailsToRead, WasAsked, run_request}
 use Rattle.volume_files.specs.Closed.{StoreFiles, SayTables, infos_in_flat, flat_bytes, modes_in}
 use Rattle.vm_run.specs.Ending.{status_of, fault_of, last_line_of}
 use Rattle.vm_run.specs.Ended.{End, HasLateCause, CountsReach}
-use Rattle.volume_files.specs.Handed.{HaveTold, RackTells, HandsNone, HandsFront, HandsAll, HandsRefused, HasDiskCause, HasOpeningCause, HasRefusalCause, StopsAttaching, plan_disks, sizes_of, handed_count}
-use Rattle.volume_files.specs.Opened.{ComesTo, OpenedFile, opened_files, infos_of, names_of, numbered_plan, opening_flat}
+use Rattle.volume_files.specs.Handed.{AreUncounted, AreUntouched, AreWrittenAt, HaveTold, RackTells, HandsNone, HandsFront, HandsAll, HandsRefused, HasDiskCause}
+use Rattle.volume_files.specs.Handed.{HasOpeningCause, HasRefusalCause, StopsAttaching, plan_disks, sizes_of, handed_count}
+use Rattle.volume_files.specs.Opened.{line_files_of, ComesTo, OpenedFile, opened_files, infos_of, names_of, numbered_plan, opening_flat}
 use Rattle.volume_files.specs.Texts.{Wrote, WroteAndFront, WroteAndPart, WroteFront, WroteOn, WrotePart, IsPageUnread, sections_before, trace_front}
 use Rattle.vm_run.specs.AskedTexts.{files_or_none, middle_text, trace_opening}
 
--- What the outside has seen of a run: the counts of faults of source and rack before and after it, how many disks the rack had attached, and the sink.
+-- What the outside has seen of a run: the counts of faults of source and rack before and after it, how many disks the rack had attached, the sink, and
+-- whether the counts of the rack's disks rise by transfers that fail alone.
 pub record Outside : Type 0 where
   pub source_old : ℕ
   pub source_new : ℕ
@@ -39,9 +41,10 @@ pub record Outside : Type 0 where
   pub attached_new : ℕ
   pub sink_old : SinkSeen
   pub sink_new : SinkSeen
+  pub exact : Bool
 
-abbrev pub outside_of : SourceSeen → SourceSeen → RackSeen → RackSeen → SinkSeen → SinkSeen → Outside
-outside_of s0 s1 r0 r1 k0 k1 = record {
+abbrev pub outside_of : SourceSeen → SourceSeen → RackSeen → RackSeen → SinkSeen → SinkSeen → Bool → Outside
+outside_of s0 s1 r0 r1 k0 k1 exact = record {
   source_old = s0.faults;
   source_new = s1.faults;
   rack_old = r0.faults;
@@ -50,6 +53,7 @@ outside_of s0 s1 r0 r1 k0 k1 = record {
   attached_new = r1.attached;
   sink_old = k0;
   sink_new = k1;
+  exact = exact;
 }
 
 -- What is said of a text and the last line behind it: as a run has ended, that the text was written, and the line as far as the sink took it; before its
@@ -101,6 +105,10 @@ pub record IsOpened (g : Given) (what : Asked) (files : List OpenedFile) (e : En
   pub given : ComesTo what.plan g.holds (sizes_of what.plan e.disks) (Ok files)
   pub opened : DisksTell g what e → opened_files what.plan g.holds ≡ Ok files
 
+-- No call was made yet: the disks were written at most where the bytes of the files of the script's lines lie.
+abbrev pub WroteLines : (g : Given) (what : Asked) (files : List OpenedFile) {sizes : List (ℕ × ℕ)} → ComesTo what.plan g.holds sizes (Ok files) → End → Type 0
+WroteLines g what files c e = AreWrittenAt what.plan g.holds (line_files_of c.found files) e.disks e.swap
+
 -- What was printed before a fault of this disk that came once the files had their places: nothing, or a trace up to the place of a page that wasn't read
 -- from it.
 abbrev pub IsTraceText : Asked → List OpenedFile → List DiskSeen → ℕ → (ℕ → List ℕ) → List ℕ → Type 0
@@ -127,6 +135,7 @@ pub record FailsToPlace (g : Given) (W : Writing) (fault : OpenFaultSeen) (e : E
   pub files : List OpenedFile
   pub text : List ℕ
   pub opened : IsOpened g what files e
+  pub written : WroteLines g what files opened.given e
   pub history : HasNoHistory e
   pub cause : HasDiskCause what.plan e.disks e.swap fault
   pub before : IsOpeningText g what files e fault.disk text
@@ -146,6 +155,7 @@ pub record StopsInTrace (g : Given) (o : Outside) (e : End) : Type 0 where
   pub files : List OpenedFile
   pub bytes : ℕ → List ℕ
   pub opened : IsOpened g what files e
+  pub written : WroteLines g what files opened.given e
   pub history : HasNoHistory e
   pub read : AreOpenedBytes g what files e bytes
   pub cause : HasRisen o.sink_old.faults o.sink_new.faults
@@ -248,7 +258,8 @@ pub record FailsToShow (g : Given) (W : Writing) (fault : DiskFault) (e : End) :
   pub none : course.what.options.make ≡ None
   pub wrote : W (opening_of course e ++ (middle_of course e ++ sections_before Report course.infos course.shown file page)) (last_line_of (ending.Showing fault))
 
--- Memory lacked before the processes ran. Nothing was written, or a front of the opening part of the trace.
+-- Memory lacked before the processes ran, and no disk had failed, as far as their counts rise by failed transfers alone. No text was written, or a front of
+-- the opening part of the trace.
 pub record LacksBare (o : Outside) (e : End) : Type 0 where
   pub none : HandsNone e.disks e.swap
   pub history : HasNoHistory e
@@ -258,6 +269,8 @@ pub record LacksOpening (g : Given) (o : Outside) (e : End) : Type 0 where
   pub what : Asked
   pub asked : WasAsked g (Ok what)
   pub handed : HandsFront what.plan e.disks e.swap
+  pub same : AreUntouched what.plan g.holds e.disks e.swap
+  pub counted : IsTrue o.exact → AreUncounted e.disks e.swap
   pub history : HasNoHistory e
   pub wrote : Wrote o.sink_old o.sink_new []
 
@@ -266,6 +279,8 @@ pub record LacksInTrace (g : Given) (o : Outside) (e : End) : Type 0 where
   pub files : List OpenedFile
   pub bytes : ℕ → List ℕ
   pub opened : IsOpened g what files e
+  pub written : WroteLines g what files opened.given e
+  pub counted : IsTrue o.exact → AreUncounted e.disks e.swap
   pub history : HasNoHistory e
   pub read : AreOpenedBytes g what files e bytes
   pub wrote : WroteFront o.sink_old o.sink_new (opening_part what files e.disks bytes)
@@ -297,13 +312,31 @@ CaseOf g o W e (ending.Closing f) = FailsToClose g o f e
 CaseOf g o W e (ending.Showing f) = FailsToShow g W f e
 CaseOf g o W e ending.Memory = Lacks g o e
 
+-- Source, rack and sink counted no fault.
+pub record NoneFailed (o : Outside) : Type 0 where
+  pub source : o.source_new ≡ o.source_old
+  pub rack : o.rack_new ≡ o.rack_old
+  pub sink : o.sink_new.faults ≡ o.sink_old.faults
+
+-- The run ended so, and its last line was printed, as far as the sink took it. Want of memory hides no failure.
+pub record EndsTold (g : Given) (o : Outside) (e : End) (how : Ending) : Type 0 where
+  pub case : CaseOf g o (wrote_all o) e how
+  pub memory : how ≡ ending.Memory → NoneFailed o
+
+-- Memory lacked for the last line alone: the run stopped in another way, which has a line, and all is as it was then.
+pub record LacksLine (g : Given) (o : Outside) (e : End) (how : Ending) : Type 0 where
+  pub memory : how ≡ ending.Memory
+  pub stopped : Ending
+  pub line : last_line_of stopped ≢ []
+  pub case : CaseOf g o (wrote_before o) e stopped
+
 -- THE RUN ENDED in one of these ways, and each disk that the rack attached in it is handed back.
 pub record RunEnds (g : Given) (o : Outside) (e : End) : Type 0 where
   pub how : Ending
   pub status : e.status ≡ status_of how
   pub fault : e.fault ≡ fault_of how
   pub back : o.attached_new ≡ o.attached_old + handed_count e.disks e.swap
-  pub case : CaseOf g o (wrote_all o) e how
+  pub case : EndsTold g o e how ⊎ LacksLine g o e how
 
 -- A fault that a disk counted.
 abbrev pub IsDiskCounted : Option RunFault → Type 0

@@ -6,7 +6,8 @@ ghost use Rattle.vm_report.specs.Faults.{disk_fault_text};
 ghost use Rattle.vm_types.specs.WellFormed.{IsWellFormed};
 ghost use Rattle.volume_files.specs.Attached.{HaveVolumeNames, bare_disks};
 ghost use Rattle.block_device.specs.DiskSeen.{DiskSeen};
-ghost use Rattle.vm_run.specs.Course.{CloseEnds, CloseFails, MiddleStops, ShowEnds, TablesEnd, showing_stop};
+ghost use Rattle.vm_run.specs.Course.{CloseEnds, CloseFails, MiddleStops, ShowEnds, TablesEnd, UnlessEnded, showing_stop};
+ghost use Rattle.vm_run.specs.declared.ending.Ending.TheVariants.{Memory};
 ghost use Rattle.volume_files.specs.Written.{infos_made};
 ghost use Rattle.volume_files.specs.Texts.{Wrote};
 ghost use Rattle.vm_run.specs.AskedTexts.{middle_text};
@@ -43,6 +44,7 @@ fn write_middle<K: Sink>(
     ensures stop { IfErr result (MiddleStops (middle_text options.now plan.now history.now)
         (K.seen out.old) (K.seen out.new)) }
     ensures later { (K.seen out.old).faults ≤ (K.seen out.new).faults }
+    ensures steady { UnlessEnded result ((K.seen out.new).faults ≡ (K.seen out.old).faults) }
 {
     let mut text = Vec::new(alloc);
     if middle(options, plan, history, &mut text).is_err() {
@@ -89,6 +91,7 @@ fn tell_fault<K: Sink>(
     ensures ends { CloseFails options.now plan.now history.now fault
         (K.seen out.old) (K.seen out.new) result }
     ensures later { (K.seen out.old).faults ≤ (K.seen out.new).faults }
+    ensures hides { result ≡ Memory → (K.seen out.new).faults ≡ (K.seen out.old).faults }
 {
     match closing_text(alloc, options, plan, history, &fault) {
         Ok(text) => {
@@ -130,6 +133,7 @@ fn show_report<D: Disk, K: Sink>(
     // What stays.
     ensures reads { AreOnlyRead (pairs_seen D.seen disks.old) (pairs_seen D.seen disks.new) }
     ensures later { (K.seen out.old).faults ≤ (K.seen out.new).faults }
+    ensures hides { result ≡ Memory → (K.seen out.new).faults ≡ (K.seen out.old).faults }
 {
     if let Err(ending) = write_middle(alloc, options, plan, history, out) {
         return ending;
@@ -167,6 +171,7 @@ fn report<D: Disk, K: Sink>(
         (K.seen out.old) (K.seen out.new)
         (pairs_seen D.seen disks.old) (pairs_seen D.seen disks.new) result }
     ensures later { (K.seen out.old).faults ≤ (K.seen out.new).faults }
+    ensures hides { result ≡ Memory → (K.seen out.new).faults ≡ (K.seen out.old).faults }
 {
     match write_tables(alloc, files, disks) {
         Ok(()) => show_report(alloc, options, plan, history, files, disks, out),
@@ -202,6 +207,7 @@ fn close<D: Disk, K: Sink>(
     ensures swap { finished.new.swap ≡ finished.old.swap }
     ensures count { length finished.new.disks.items ≡ length finished.old.disks.items }
     ensures later { (K.seen out.old).faults ≤ (K.seen out.new).faults }
+    ensures hides { result ≡ Memory → (K.seen out.new).faults ≡ (K.seen out.old).faults }
 {
     let fault = finished.fault;
     if !is_whole {
@@ -252,6 +258,7 @@ pub fn end_run<D: Disk, K: Sink>(
     ensures swap { result.swap ≡ played.finished.swap }
     ensures count { length result.disks.items ≡ length played.finished.disks.items }
     ensures later { (K.seen out.old).faults ≤ (K.seen out.new).faults }
+    ensures hides { result.ending ≡ Memory → (K.seen out.new).faults ≡ (K.seen out.old).faults }
 {
     let Played {
         mut finished,

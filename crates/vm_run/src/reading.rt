@@ -5,7 +5,7 @@ ghost use Rattle.block_device.specs.declared.rack.Spec.{Spec};
 ghost use Rattle.vm_script.specs.Plans.{plan_of};
 ghost use Rattle.vm_run.specs.Asked as asked;
 ghost use Rattle.vm_run.specs.Course.{AskEnds};
-ghost use Rattle.vm_run.specs.Reading.{IsSpelled, SaysScript, ScriptStops, SourceStops, TakesPlan, TextStops};
+ghost use Rattle.vm_run.specs.Reading.{IsSpelled, SaysScript, ScriptStops, SourceStops, TakesPlan, TextStops, UnlessUnread};
 
 use crate::ending::Ending;
 use block_device::{ReadFault, Source, read_to_limit};
@@ -73,6 +73,8 @@ fn read_source<S: Source>(alloc: Global, script: &mut S) -> Result<Vec<u8>, Endi
     ensures stops { IfErr result
         (SourceStops (S.seen script.old).faults (S.seen script.new).faults) }
     ensures later { (S.seen script.old).faults ≤ (S.seen script.new).faults }
+    ensures steady { UnlessUnread result
+        ((S.seen script.new).faults ≡ (S.seen script.old).faults) }
 {
     match read_to_limit(alloc, script, MOST_BYTES + 1) {
         Ok(text) => Ok(text),
@@ -100,6 +102,8 @@ fn source_plan<S: Source>(alloc: Global, script: &mut S) -> Result<Plan, Ending>
     ensures stops { IfErr result (ScriptStops None (S.seen script.old).rest
         (S.seen script.old).faults (S.seen script.new).faults) }
     ensures later { (S.seen script.old).faults ≤ (S.seen script.new).faults }
+    ensures steady { UnlessUnread result
+        ((S.seen script.new).faults ≡ (S.seen script.old).faults) }
 {
     match read_source(alloc, script) {
         Ok(text) => spelled_plan(alloc, text.as_slice()),
@@ -114,6 +118,8 @@ fn read_plan<S: Source>(alloc: Global, make: Option<u32>, script: &mut S) -> Res
     ensures stops { IfErr result (ScriptStops make (S.seen script.old).rest
         (S.seen script.old).faults (S.seen script.new).faults) }
     ensures later { (S.seen script.old).faults ≤ (S.seen script.new).faults }
+    ensures steady { UnlessUnread result
+        ((S.seen script.new).faults ≡ (S.seen script.old).faults) }
 {
     match make {
         Some(number) => match generate(alloc, number) {
@@ -155,6 +161,8 @@ pub fn ask<S: Source>(
         (record { words = map string_bytes words.now; rest = (S.seen script.old).rest; holds = holds })
         (S.seen script.old).faults (S.seen script.new).faults result }
     ensures later { (S.seen script.old).faults ≤ (S.seen script.new).faults }
+    ensures steady { UnlessUnread result
+        ((S.seen script.new).faults ≡ (S.seen script.old).faults) }
 {
     let options = match read_options(alloc, words) {
         Ok(Some(options)) => options,

@@ -1,13 +1,14 @@
 //! The top call.
-ghost use Rattle.std.specs.Prelude.{ℕ, ◌≡◌, ◌≤◌, ◌+◌, List, map, string_bytes};
+ghost use Rattle.std.specs.Prelude.{ℕ, ◌≡◌, ◌≤◌, ◌+◌, IsTrue, List, map, string_bytes};
 ghost use Rattle.block_device.specs.StreamSeen.{SinkSeen};
 ghost use Rattle.vm_run.specs.Asked.{Given, Asked, given_of};
-ghost use Rattle.volume_files.specs.Attached.{HasRooms, attached_seen};
+ghost use Rattle.volume_files.specs.Attached.{HasRooms, attached_seen, bare_disks};
 ghost use Rattle.vm_run.specs.Course.{HasCase, IsReady};
 ghost use Rattle.volume_files.specs.Opened.{OpenedFile};
-ghost use Rattle.volume_files.specs.Handed.{handed_count};
+ghost use Rattle.volume_files.specs.Handed.{AreUncounted, handed_count};
 ghost use Rattle.vm_run.specs.Ended.{end_of};
-ghost use Rattle.vm_run.specs.Run.{IsComplete, Outside, RunEnds, outside_of};
+ghost use Rattle.vm_run.specs.Run.{IsComplete, NoneFailed, Outside, RunEnds, outside_of};
+ghost use Rattle.vm_run.specs.declared.ending.Ending.TheVariants.{Memory};
 
 use crate::concluding::conclude;
 use crate::ending::Stop;
@@ -33,13 +34,13 @@ pub fn run<S: Source, K: Sink, R: Rack>(
     ensures ends { RunEnds
         (given_of (map string_bytes words.now) (S.seen script.old) (R.seen rack.old))
         (outside_of (S.seen script.old) (S.seen script.new)
-        (R.seen rack.old) (R.seen rack.new) (K.seen out.old) (K.seen out.new))
+        (R.seen rack.old) (R.seen rack.new) (K.seen out.old) (K.seen out.new) R.D.exact)
         (end_of R.D.seen result) }
     // Nothing failed: the whole report, or want of memory.
     ensures complete { IsComplete
         (given_of (map string_bytes words.now) (S.seen script.old) (R.seen rack.old))
         (outside_of (S.seen script.old) (S.seen script.new)
-        (R.seen rack.old) (R.seen rack.new) (K.seen out.old) (K.seen out.new))
+        (R.seen rack.old) (R.seen rack.new) (K.seen out.old) (K.seen out.new) R.D.exact)
         (end_of R.D.seen result) }
 {
     let stop = course(rt, alloc, words, script, out, rack);
@@ -58,8 +59,12 @@ fn course<S: Source, K: Sink, R: Rack>(
     ensures ends { HasCase
         (given_of (map string_bytes words.now) (S.seen script.old) (R.seen rack.old))
         (outside_of (S.seen script.old) (S.seen script.new)
-        (R.seen rack.old) (R.seen rack.new) (K.seen out.old) (K.seen out.new))
+        (R.seen rack.old) (R.seen rack.new) (K.seen out.old) (K.seen out.new) R.D.exact)
         R.D.seen result }
+    // Want of memory hides no failure.
+    ensures hides { result.ending ≡ Memory → NoneFailed
+        (outside_of (S.seen script.old) (S.seen script.new)
+        (R.seen rack.old) (R.seen rack.new) (K.seen out.old) (K.seen out.new) R.D.exact) }
     ensures back { (R.seen rack.new).attached
         ≡ (R.seen rack.old).attached + handed_count result.disks.items result.swap }
     ensures sink { (K.seen out.old).faults ≤ (K.seen out.new).faults }
@@ -86,7 +91,11 @@ fn run_ready<D: Disk, K: Sink>(
         → IsReady g o.sink_old (K.seen out.old) what files bytes
         (attached_seen D.seen ready.placed.attached) ready.placed.files ready.plan
         → o.sink_old.faults ≤ (K.seen out.old).faults → o.sink_new ≡ K.seen out.new
+        → (IsTrue o.exact
+        → AreUncounted (bare_disks (attached_seen D.seen ready.placed.attached).disks)
+        (attached_seen D.seen ready.placed.attached).swap)
         → HasCase g o D.seen result }
+    ensures hides { result.ending ≡ Memory → (K.seen out.new).faults ≡ (K.seen out.old).faults }
     ensures count { handed_count result.disks.items result.swap
         ≡ handed_count ready.placed.attached.disks.items ready.placed.attached.swap }
     ensures sink { (K.seen out.old).faults ≤ (K.seen out.new).faults }

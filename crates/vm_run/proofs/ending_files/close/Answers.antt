@@ -1,8 +1,8 @@
-use Rattle.std.proofs.Common.{rules, ◌≡◌, ℕ, refl}
+use Rattle.std.proofs.Common.{rules, refl}
 use Rattle.page_store.specs.Bays.{pairs_seen}
 use Rattle.volume_files.proofs.DiskLists.{writes-refl}
 use Rattle.vm_run.proofs.Endings.{lacks-closed}
-use Rattle.vm_run.proofs.Sinks.{wrote_nothing}
+use Rattle.volume_files.proofs.WrittenTexts.{wrote_nothing}
 use Rattle.vm_run.proofs.ending_files.close.Goals as goal
 
 pub returns-then-is_some-clause-ends : goal.returns-then-is_some-clause-ends

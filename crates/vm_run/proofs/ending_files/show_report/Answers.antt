@@ -5,6 +5,7 @@ use Rattle.vm_run.specs.declared.ending.Ending.{Ending}
 use Rattle.vm_run.specs.Course.{ShowEnds}
 use Rattle.volume_files.specs.Written.{infos_made}
 use Rattle.vm_run.specs.AskedTexts.{middle_text}
+use Rattle.vm_run.proofs.Unfailing.{where-ended, where-shown}
 use Rattle.vm_run.proofs.ending_files.show_report.Goals as goal
 use Rattle.vm_run.proofs.Endings.{middle-stopped, without-files, files-stopped}
 use Rattle.volume_files.proofs.ShownSections.{all_have_blocks, bytes-of-disks}
@@ -40,3 +41,10 @@ returns-in-Err-show_files-clause-ends g c =
     (files-stopped c.args.options.now c.args.plan.now c.args.history.now (infos_made c.args.files.now) s.0 (g.K.Sink.seen c.args.out.now)
     (g.K.Sink.seen c.write_middle.new.out) (g.K.Sink.seen c.show_files.new.out) disks new s.1 none c.write_middle.ensures.later c.in_default.ensures.ok
     c.in-Err-show_files.stop s.2)
+
+pub returns-in-Err-clause-hides : goal.returns-in-Err-clause-hides
+returns-in-Err-clause-hides g c = λ memory. where-ended (Unit {0}) c.in-Err.ending memory c.in-Err.ensures.steady
+
+pub returns-in-Err-show_files-clause-hides : goal.returns-in-Err-show_files-clause-hides
+returns-in-Err-show_files-clause-hides g c = λ memory.
+    where-shown c.in-Err-show_files.stop (sym c.showing_stop.ensures ∙ memory) c.in-Err-show_files.ensures.steady ∙ c.in_default.ensures.steady

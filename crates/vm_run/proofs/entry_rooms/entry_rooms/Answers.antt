@@ -6,15 +6,20 @@ use Rattle.vm_run.proofs.EntryRooms.{HaveRooms, item-owned, room-fits, rooms-mor
 use Rattle.vm_run.proofs.entry_rooms.entry_rooms.Goals as goal
 
 pub add_line-requires-clause-first : goal.add_line-requires-clause-first
-add_line-requires-clause-first c = (item-owned c.args.plan.now c.lines-lines.result.now c.loop-line.rooms.items c.loop-line.line-index c.line-item.result c.requires.nests c.lines-lines.ensures c.loop-line.invariant.count c.loop-line-test.true c.line-item.is).0
+add_line-requires-clause-first c =
+    (item-owned c.args.plan.now c.lines-lines.result.now c.loop-line.rooms.items c.loop-line.line-index c.line-item.result c.requires.nests
+    c.lines-lines.ensures c.loop-line.invariant.count c.loop-line-test.true c.line-item.is).0
 
 pub add_line-requires-clause-last : goal.add_line-requires-clause-last
-add_line-requires-clause-last c = (item-owned c.args.plan.now c.lines-lines.result.now c.loop-line.rooms.items c.loop-line.line-index c.line-item.result c.requires.nests c.lines-lines.ensures c.loop-line.invariant.count c.loop-line-test.true c.line-item.is).1
+add_line-requires-clause-last c =
+    (item-owned c.args.plan.now c.lines-lines.result.now c.loop-line.rooms.items c.loop-line.line-index c.line-item.result c.requires.nests
+    c.lines-lines.ensures c.loop-line.invariant.count c.loop-line-test.true c.line-item.is).1
 
 pub add_line-requires-clause-fits : goal.add_line-requires-clause-fits
 add_line-requires-clause-fits c =
     room-fits c.lines-lines.result.now c.loop-line.rooms.items c.loop-line.line-index c.line-item.result c.loop-line-test.true (sym c.line-item.is)
-    (item-owned c.args.plan.now c.lines-lines.result.now c.loop-line.rooms.items c.loop-line.line-index c.line-item.result c.requires.nests c.lines-lines.ensures c.loop-line.invariant.count c.loop-line-test.true c.line-item.is)
+    (item-owned c.args.plan.now c.lines-lines.result.now c.loop-line.rooms.items c.loop-line.line-index c.line-item.result c.requires.nests
+    c.lines-lines.ensures c.loop-line.invariant.count c.loop-line-test.true c.line-item.is)
     c.loop-line.invariant.rooms (subst (λ (l : List PlanLine). entry_count l ≤ 1048576) (sym c.lines-lines.ensures) c.requires.few)
 
 pub loop-line-preserved : goal.loop-line-preserved
@@ -25,7 +30,8 @@ loop-line-preserved c =
       count = ap length c.add_line.ensures ∙ length-set rooms (l.process - 1) (slice_index rooms (l.process - 1) + parts l.act) ∙ c.loop-line.invariant.count;
       rooms = subst (HaveRooms (take (c.loop-line.line-index + 1) c.lines-lines.result.now)) (sym c.add_line.ensures)
           (rooms-more c.lines-lines.result.now rooms c.loop-line.line-index l c.loop-line-test.true (sym c.line-item.is)
-          (item-owned c.args.plan.now c.lines-lines.result.now rooms c.loop-line.line-index l c.requires.nests c.lines-lines.ensures c.loop-line.invariant.count c.loop-line-test.true c.line-item.is) c.loop-line.invariant.rooms);
+          (item-owned c.args.plan.now c.lines-lines.result.now rooms c.loop-line.line-index l c.requires.nests c.lines-lines.ensures
+          c.loop-line.invariant.count c.loop-line-test.true c.line-item.is) c.loop-line.invariant.rooms);
     }
 
 pub returns-clause-rooms : goal.returns-clause-rooms

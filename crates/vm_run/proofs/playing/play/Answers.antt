@@ -64,7 +64,8 @@ closes g c = record {
 
 pub returns-clause-whole : goal.returns-clause-whole
 returns-clause-whole g c all =
-    let whole : HasCome c.lines.result.now (length c.lines.result.now) c.args.state c.make_lines.new.state = ok-then c.make_lines.result _ c.make_lines.ensures.all (sym c.is_ok-is_whole.ensures.value ∙ all) in
+    let whole : HasCome c.lines.result.now (length c.lines.result.now) c.args.state c.make_lines.new.state = ok-then c.make_lines.result _
+    c.make_lines.ensures.all (sym c.is_ok-is_whole.ensures.value ∙ all) in
     played-whole c.args.plan.now c.args.state c.make_lines.new.state c.finish-finished.result.history.entries c.requires.playable
     (subst (λ (ls : List PlanLine). HasCome ls (length ls) c.args.state c.make_lines.new.state) c.lines.ensures whole) c.finish-finished.ensures.history
 
@@ -77,4 +78,5 @@ pub returns-clause-left : goal.returns-clause-left
 returns-clause-left g c = λ F disks swap files st.
     let at = (goal.at.returns-clause-left g c).After-look_at in
     let made = (goal.at.returns-clause-left g c).After-make_lines in
-    is-left c.args.plan.now F disks swap files (come g made).0 c.args.state c.make_lines.new.state (left_seen g.D.Disk.seen c.finish-finished.result) c.requires.playable st (come g made).1 (closes g at)
+    is-left c.args.plan.now F disks swap files (come g made).0 c.args.state c.make_lines.new.state
+    (left_seen g.D.Disk.seen c.finish-finished.result) c.requires.playable st (come g made).1 (closes g at)

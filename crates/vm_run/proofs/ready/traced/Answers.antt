@@ -1,14 +1,18 @@
-use Rattle.std.proofs.Common.{rules, ◌≡◌, ℕ, List, ap, map, subst, sym}
+use Rattle.std.proofs.Common.{rules, ◌∙◌, ℕ, List, ap, map, subst, sym}
 use Rattle.std.specs.Prelude.{Err}
 use Rattle.block_device.specs.DiskSeen.{DiskSeen}
 use Rattle.block_device.specs.declared.numbered.NumberedDisk.{NumberedDisk}
-use Rattle.volume_files.specs.Attached.{attached_seen, numbered_seen}
+use Rattle.volume_files.specs.Attached.{attached_seen, bare_disks, numbered_seen}
+use Rattle.volume_files.specs.Handed.{AreUncounted}
+use Rattle.volume_files.specs.Unfailed.{counts_of}
+use Rattle.volume_files.proofs.Unfailing.{zero-still}
+use Rattle.vm_run.proofs.Unfailing.{unless-opening}
 use Rattle.vm_run.specs.Course.{TraceStops}
 use Rattle.volume_files.specs.Opened.{opened_bytes_at, infos_of}
 use Rattle.volume_files.specs.Texts.{Wrote}
 use Rattle.volume_files.specs.Written.{infos_made}
 use Rattle.volume_files.specs.Written.{AreFilesBytes, TraceShows, disk_sizes}
-use Rattle.vm_run.proofs.Sinks.{wrote_nothing}
+use Rattle.volume_files.proofs.WrittenTexts.{wrote_nothing}
 use Rattle.vm_run.proofs.Traced.{no-trace, own-bytes, read-bytes, traced-part, traced-whole, written-back}
 use Rattle.vm_run.proofs.ready.traced.Goals as goal
 
@@ -48,3 +52,29 @@ returns-in-Err-clause-shows g c = λ holds files p.
           (traced-part c.args.plan.now holds files a c.args.placed.now.files p c.args.options.now c.if-not-options.false s.0 k0 k1 new c.in-Err.stop
           (subst (λ (l : List (ℕ × DiskSeen)). TraceShows c.args.plan.now infos s.0 k0 k1 l new (Err c.in-Err.stop)) was s.2))),
     )
+
+pub returns-in-Ok-clause-exact : goal.returns-in-Ok-clause-exact
+returns-in-Ok-clause-exact g c = λ is none.
+    let f = numbered_seen g.D.Disk.seen in
+    let old = c.args.placed.now.attached.disks.items in
+    let new = c.trace_opening.new.disks in
+    let swap = (attached_seen g.D.Disk.seen c.args.placed.now.attached).swap in
+    let same = c.in-Ok.ensures.exact is ∙ ap (λ (ds : List (NumberedDisk g.row.D.Denot)). counts_of (map f ds)) c.as_mut_slice-disks.ensures.value in
+    subst (λ (l : List (NumberedDisk g.row.D.Denot)). AreUncounted (bare_disks (map f l)) swap)
+    (written-back c.args.placed.now.attached.disks.len new old (search rules) (search rules))
+    (record { each = zero-still (map f old) (map f new) same none.each; last = none.last })
+
+pub returns-in-Err-clause-exact : goal.returns-in-Err-clause-exact
+returns-in-Err-clause-exact g c = λ is.
+    let f = numbered_seen g.D.Disk.seen in
+    let old = c.args.placed.now.attached.disks.items in
+    let new = c.trace_opening.new.disks in
+    let swap = (attached_seen g.D.Disk.seen c.args.placed.now.attached).swap in
+    let was = ap (λ (ds : List (NumberedDisk g.row.D.Denot)). counts_of (map f ds)) c.as_mut_slice-disks.ensures.value in
+    unless-opening c.in-Err.stop c.opening_stop.result c.opening_stop.ensures
+    (λ same none. subst (λ (l : List (NumberedDisk g.row.D.Denot)). AreUncounted (bare_disks (map f l)) swap)
+    (written-back c.args.placed.now.attached.disks.len new old (search rules) (search rules))
+    (record { each = zero-still (map f old) (map f new) (same ∙ was) none.each; last = none.last })) (c.in-Err.ensures.exact is)
+
+pub returns-in-Err-clause-steady : goal.returns-in-Err-clause-steady
+returns-in-Err-clause-steady g c = unless-opening c.in-Err.stop c.opening_stop.result c.opening_stop.ensures (λ same. same) c.in-Err.ensures.steady

@@ -1,7 +1,6 @@
-use Rattle.std.proofs.Common.{◌≡◌, ◌+◌, ◌∙◌, ℕ, ap, length, map, refl, sym}
+use Rattle.std.proofs.Common.{◌+◌, ◌∙◌, ℕ, ap, length, map, refl, sym}
 use Rattle.std.specs.Prelude.{option_map, string_bytes}
 use Rattle.vm_run.specs.Asked.{given_of}
-use Rattle.volume_files.specs.Handed.{handed_count}
 use Rattle.volume_files.proofs.DiskCounts.{count-as, count-made}
 use Rattle.vm_run.proofs.LastLines.{ends-so}
 use Rattle.vm_run.proofs.Completes.{completes}
@@ -15,10 +14,10 @@ returns-clause-ends g c =
     let how = c.conclude.ensures.ends in
     ends-so (given_of (map string_bytes c.args.words.now) (g.S.Source.seen c.args.script.now) (g.R.Rack.seen c.args.rack.now))
     (g.S.Source.seen c.args.script.now).faults (g.S.Source.seen c.course-stop.new.script).faults (g.R.Rack.seen c.args.rack.now).faults (g.R.Rack.seen c.course-stop.new.rack).faults
-    (g.R.Rack.seen c.args.rack.now).attached (g.R.Rack.seen c.course-stop.new.rack).attached
+    (g.R.Rack.seen c.args.rack.now).attached (g.R.Rack.seen c.course-stop.new.rack).attached g.R.D.Disk.exact
     (g.K.Sink.seen c.args.out.now) (g.K.Sink.seen c.course-stop.new.out) (g.K.Sink.seen c.conclude.new.out) c.course-stop.ensures.sink c.conclude.ensures.later stop.history out.history
     (map seen stop.disks.items) (map seen out.disks.items) (option_map seen stop.swap) (option_map seen out.swap) c.conclude.ensures.history (ap (λ d. map seen d.items) c.conclude.ensures.disks)
-    (ap (option_map seen) c.conclude.ensures.swap) stop.ending how.0 out.status out.fault c.course-stop.ensures.ends how.1 how.2 how.3
+    (ap (option_map seen) c.conclude.ensures.swap) stop.ending how.0 out.status out.fault c.course-stop.ensures.ends c.course-stop.ensures.hides how.1 how.2 how.3
     (c.course-stop.ensures.back ∙ ap (λ (n : ℕ). (g.R.Rack.seen c.args.rack.now).attached + n) (sym (
     count-made seen seen (map seen out.disks.items) out.disks.items (option_map seen out.swap) out.swap refl refl
     ∙ count-as out.disks.items stop.disks.items out.swap stop.swap (ap (λ d. length d.items) c.conclude.ensures.disks) c.conclude.ensures.swap)))

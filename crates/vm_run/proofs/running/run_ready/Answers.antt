@@ -1,8 +1,8 @@
-use Rattle.std.proofs.Common.{◌≡◌, ◌∙◌, ℕ, ap, arith, length, map, refl, subst, sym}
-use Rattle.std.specs.Prelude.{None, option_map, vec_capacity, ◌≤◌}
+use Rattle.std.proofs.Common.{◌≡◌, ◌∙◌, ap, arith, false, length, map}
+use Rattle.std.specs.Prelude.{None, option_map}
 use Rattle.std.proofs.lemmas.List.{length-map}
 use Rattle.page_store.specs.Bays.{pairs_seen}
-use Rattle.volume_files.specs.Attached.{attached_seen, numbered_seen}
+use Rattle.volume_files.specs.Attached.{attached_seen}
 use Rattle.volume_files.specs.Opened.{opening_flat}
 use Rattle.vm_run.specs.Played.{IsStarted, KernelLeaves, left_seen}
 use Rattle.volume_files.specs.Written.{disk_sizes}
@@ -68,7 +68,7 @@ end_run-requires-clause-names g c =
 pub end_run-requires-clause-some : goal.end_run-requires-clause-some
 end_run-requires-clause-some g c =
     let q = c.requires.ready in
-    first-left 0 None q.0 (record { source_old = 0; source_new = 0; rack_old = 0; rack_new = 0; attached_old = 0; attached_new = 0; sink_old = q.1; sink_new = q.1 }) q.2 q.3 q.4
+    first-left 0 None q.0 (record { source_old = 0; source_new = 0; rack_old = 0; rack_new = 0; attached_old = 0; attached_new = 0; sink_old = q.1; sink_new = q.1; exact = false }) q.2 q.3 q.4
     (attached_seen g.D.Disk.seen c.args.ready.placed.attached) c.args.ready.placed.files c.args.ready.plan (g.K.Sink.seen c.args.out.now) q.5 c.in-Ok.field-0.state
     (left_seen g.D.Disk.seen c.play-played.result.finished) (started g c) (left g c)
 
@@ -83,7 +83,7 @@ end_run-requires-clause-room g c =
     omega (arith, room, count, new, old)
 
 pub returns-in-Ok-clause-ends : goal.returns-in-Ok-clause-ends
-returns-in-Ok-clause-ends g c = λ g2 o what files bytes opt rd later sink st ft.
+returns-in-Ok-clause-ends g c = λ g2 o what files bytes opt rd later sink none st ft.
     let a = attached_seen g.D.Disk.seen c.args.ready.placed.attached in
     let placed = placed-as c.args.ready.plan what.plan g2.holds files a c.args.ready.placed.files rd.numbered rd.placed in
     let started = c.in-Ok.ensures.ok g2.holds files placed in
@@ -95,9 +95,9 @@ returns-in-Ok-clause-ends g c = λ g2 o what files bytes opt rd later sink st ft
     (ap (option_map g.D.Disk.seen) c.end_run.ensures.swap)
 
 pub returns-clause-ends : goal.returns-clause-ends
-returns-clause-ends g c = λ g2 o what files bytes opt rd later sink st ft.
+returns-clause-ends g c = λ g2 o what files bytes opt rd later sink none st ft.
     let a = attached_seen g.D.Disk.seen c.args.ready.placed.attached in
-    start-lacks st ft g2 o what files bytes a c.args.ready.placed.files c.args.ready.plan (g.K.Sink.seen c.args.out.now) rd sink c.in-Err.stop.history
+    start-lacks st ft g2 o what files bytes a c.args.ready.placed.files c.args.ready.plan (g.K.Sink.seen c.args.out.now) rd sink none c.in-Err.stop.history
     (map g.D.Disk.seen c.in-Err.stop.disks.items) (option_map g.D.Disk.seen c.in-Err.stop.swap) c.in-Err.stop.ending c.in-Err.ensures.entries c.in-Err.ensures.counts c.in-Err.ensures.memory
     c.in-Err.ensures.same.0 c.in-Err.ensures.same.1
 

@@ -1,7 +1,6 @@
-use Rattle.std.proofs.Common.{◌≡◌, ℕ, ◌+◌, ◌≤◌, List, length, map, Option, sym, ap, ◌∙◌, subst, arith}
+use Rattle.std.proofs.Common.{◌≡◌, ℕ, List, length, map, Option, sym, ap, ◌∙◌, subst, arith}
 use Rattle.std.specs.Prelude.{option_map}
 use Rattle.block_device.specs.DiskSeen.{DiskSeen}
-use Rattle.block_device.specs.declared.numbered.NumberedDisk.{NumberedDisk}
 use Rattle.page_store.specs.Bays.{AreNumbers, numbers_of, pairs_seen}
 use Rattle.page_store.specs.New.{AreHome}
 use Rattle.vm_core.specs.Setup.{disk_total, FilesOnDisks, SwapServes}
@@ -16,9 +15,11 @@ use Rattle.vm_run.proofs.starting.start.Goals as goal
 pub returns-in_default-clause-same : goal.returns-in_default-clause-same
 returns-in_default-clause-same g c =
     let m = c.without_memory.ensures in (
-      its-disks g.D.Disk.seen c.args.plan.now c.requires.placed.0 c.requires.placed.1 c.args.placed.attached c.args.placed.files c.requires.placed.2 c.without_memory.result c.number_disks-disks.result.items
+      its-disks g.D.Disk.seen c.args.plan.now c.requires.placed.0 c.requires.placed.1 c.args.placed.attached c.args.placed.files c.requires.placed.2
+          c.without_memory.result c.number_disks-disks.result.items
           c.number_disks-disks.ensures m.disks (m.swap ∙ c.into_swap-swap.ensures),
-      its-swap g.D.Disk.seen c.args.plan.now c.requires.placed.0 c.requires.placed.1 c.args.placed.attached c.args.placed.files c.requires.placed.2 c.without_memory.result c.number_disks-disks.result.items
+      its-swap g.D.Disk.seen c.args.plan.now c.requires.placed.0 c.requires.placed.1 c.args.placed.attached c.args.placed.files c.requires.placed.2
+          c.without_memory.result c.number_disks-disks.result.items
           c.number_disks-disks.ensures m.disks (m.swap ∙ c.into_swap-swap.ensures),
     )
 
@@ -26,7 +27,9 @@ pub start-requires-clause-frames : goal.start-requires-clause-frames
 start-requires-clause-frames g c =
     let seen = g.D.Disk.seen in
     let at = c.args.placed.attached in
-    let total : disk_total c.number_disks-disks.result.items c.into_swap-swap.result ≡ _ = ap (λ (l : List (ℕ × _)). disk_total l c.into_swap-swap.result) c.number_disks-disks.ensures ∙ ap (λ (o : Option _). disk_total (map with_number at.disks.items) o) c.into_swap-swap.ensures ∙ total-is seen at.disks.items at.swap in
+    let total : disk_total c.number_disks-disks.result.items c.into_swap-swap.result ≡ _ = ap
+    (λ (l : List (ℕ × _)). disk_total l c.into_swap-swap.result) c.number_disks-disks.ensures
+    ∙ ap (λ (o : Option _). disk_total (map with_number at.disks.items) o) c.into_swap-swap.ensures ∙ total-is seen at.disks.items at.swap in
     let enough = frames-enough c.args.plan.now c.requires.placed.0 c.requires.placed.1 (attached_seen seen at) c.args.placed.files c.requires.placed.2 c.requires.rules in
     let frames = ap (λ a. a.frames) (c.amounts_of-amounts.ensures ∙ ap amounts_of c.setup.ensures) in
     omega (arith, total, enough, frames)
@@ -67,21 +70,26 @@ returns-in-Ok-start-clause-ok g c = λ holds files p.
     let m = c.in-Ok-start.ensures.made in
     let disks : pairs_seen seen c.number_disks-disks.result.items ≡ map (numbered_seen seen) at.disks.items = ap (pairs_seen seen) c.number_disks-disks.ensures ∙ pairs-are seen at.disks.items in
     let swap : option_map seen c.into_swap-swap.result ≡ (attached_seen seen at).swap = ap (option_map seen) c.into_swap-swap.ensures ∙ swap-is seen at.swap in
-    let at_home = subst (AreHome s.memory.world.store.bays (map (numbered_seen seen) at.disks.items)) swap (subst (λ (l : List (ℕ × DiskSeen)). AreHome s.memory.world.store.bays l (option_map seen c.into_swap-swap.result)) disks m.disks) in
+    let at_home = subst (AreHome s.memory.world.store.bays (map (numbered_seen seen) at.disks.items)) swap
+    (subst (λ (l : List (ℕ × DiskSeen)). AreHome s.memory.world.store.bays l (option_map seen c.into_swap-swap.result)) disks m.disks) in
     let seats = m.seats in
     let most = c.max-seats.ensures in
     let parents = ap (λ (l : List ℕ). length l) c.parents.ensures in
+    let amounts = c.amounts_of-amounts.ensures ∙ ap amounts_of c.setup.ensures in
     started c.args.plan.now holds files (attached_seen seen at) c.args.placed.files p s c.in-Ok-start.ensures.opening c.in-Ok-start.ensures.fits at_home
     (m.order ∙ ap (λ (l : List (ℕ × _)). numbers_of l) c.number_disks-disks.ensures ∙ numbers-are seen at.disks.items)
     m.files (m.parents ∙ c.in-Ok.ensures.parents) (subst (HasRoomForPlan c.args.plan.now) (sym m.entries) c.in-Ok.ensures.rooms) (ap (λ (l : List ℕ). length l) m.entries ∙ c.in-Ok.ensures.entries)
-    (omega (arith, seats, most)) (omega (arith, seats, most, parents)) (m.slots ∙ ap (λ a. a.slots) (c.amounts_of-amounts.ensures ∙ ap amounts_of c.setup.ensures))
+    (omega (arith, seats, most)) (omega (arith, seats, most, parents)) (m.frames ∙ ap (λ a. a.frames) amounts) (m.translations ∙ ap (λ a. a.translations) amounts)
+    (m.slots ∙ ap (λ a. a.slots) amounts)
 
 pub returns-clause-same : goal.returns-clause-same
 returns-clause-same g c =
     let m = c.without_memory-in-Err.ensures in
     let back = c.in-Err.ensures.err in (
-      its-disks g.D.Disk.seen c.args.plan.now c.requires.placed.0 c.requires.placed.1 c.args.placed.attached c.args.placed.files c.requires.placed.2 c.without_memory-in-Err.result c.in-Err.setup.disks.items
+      its-disks g.D.Disk.seen c.args.plan.now c.requires.placed.0 c.requires.placed.1 c.args.placed.attached c.args.placed.files c.requires.placed.2
+          c.without_memory-in-Err.result c.in-Err.setup.disks.items
           (ap (λ x. x.disks.items) back ∙ c.number_disks-disks.ensures) m.disks (m.swap ∙ ap (λ x. x.swap) back ∙ c.into_swap-swap.ensures),
-      its-swap g.D.Disk.seen c.args.plan.now c.requires.placed.0 c.requires.placed.1 c.args.placed.attached c.args.placed.files c.requires.placed.2 c.without_memory-in-Err.result c.in-Err.setup.disks.items
+      its-swap g.D.Disk.seen c.args.plan.now c.requires.placed.0 c.requires.placed.1 c.args.placed.attached c.args.placed.files c.requires.placed.2
+          c.without_memory-in-Err.result c.in-Err.setup.disks.items
           (ap (λ x. x.disks.items) back ∙ c.number_disks-disks.ensures) m.disks (m.swap ∙ ap (λ x. x.swap) back ∙ c.into_swap-swap.ensures),
     )
