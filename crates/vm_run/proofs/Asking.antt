@@ -1,11 +1,11 @@
 -- Why nothing can be run, once the words were taken.
 use Rattle.std.proofs.Common.{◌≡◌, ℕ, List, Option, Some, ap, subst, sym}
-use Rattle.std.specs.Prelude.{Err, Result}
+use Rattle.std.specs.Prelude.{Err}
 use Rattle.block_device.specs.declared.rack.Spec.{Spec}
 use Rattle.vm_run.specs.declared.ending.Ending.{Ending}
 use Rattle.vm_run.specs.declared.ending.Ending.TheVariants as ending
 use Rattle.command_line.specs.declared.options.Options.{Options}
-use Rattle.vm_run.specs.Asked.{Asked, Asks, by_script}
+use Rattle.vm_run.specs.Asked.{Asks, by_script}
 use Rattle.vm_run.specs.Course.{AskStops}
 use Rattle.command_line.specs.Options.{options_of}
 use Rattle.vm_run.specs.Reading.{ScriptStops}

@@ -1,7 +1,6 @@
 -- How a run ended whose processes ran.
-use Rattle.std.proofs.Common.{◌≡◌, ℕ, ◌≤◌, ◌<◌, ◌++◌, true, false, List, [], ◌∷◌, length, map, refl, sym, ap, ◌∙◌, subst, arith, inl, inr}
+use Rattle.std.proofs.Common.{◌≡◌, ℕ, ◌≤◌, ◌<◌, ◌++◌, true, false, List, [], refl, sym, ap, ◌∙◌, subst, arith, inl, inr}
 use Rattle.std.specs.Prelude.{◌⊎◌, Bool, IsTrue, Option, Some, None, slice_get, slice_index_or, IfSome}
-use Rattle.vm_types.specs.declared.call.Entry.{Entry}
 use Rattle.block_device.specs.DiskSeen.{DiskSeen}
 use Rattle.block_device.specs.StreamSeen.{SinkSeen}
 use Rattle.block_device.specs.declared.disk_fault.DiskFault.{DiskFault}
@@ -13,21 +12,20 @@ use Rattle.vm_script.specs.Told.{Told, ToldFront}
 use Rattle.vm_world.specs.State.{KernelState}
 use Rattle.vm_run.specs.declared.ending.Ending.{Ending}
 use Rattle.vm_run.specs.declared.ending.Ending.TheVariants as ending
-use Rattle.volume_files.specs.declared.showing.Heading.TheVariants.{Report}
 use Rattle.vm_run.specs.declared.outcome.RunFault.{RunFault}
 use Rattle.vm_run.specs.Asked.{Given, Asked}
 use Rattle.volume_files.specs.Attached.{AttachedSeen, bare_disks}
 use Rattle.volume_files.specs.Closed.{SayTables, SaysTable}
-use Rattle.vm_run.specs.Course.{IsReady, CloseEnds, CloseFails, ShowEnds, TablesEnd, ShowsClosed, FailsTable, LacksTable}
+use Rattle.vm_run.specs.Course.{IsReady, CloseEnds, CloseFails, ShowEnds, LacksTable}
 use Rattle.vm_run.specs.Ended.{HasLateCause}
 use Rattle.volume_files.specs.Opened.{OpenedFile, infos_of, opening_flat}
 use Rattle.vm_run.specs.Played.{IsStarted, KernelLeaves, LeftSeen, IsClosingFault}
 use Rattle.volume_files.specs.Written.{infos_made}
-use Rattle.vm_run.specs.Run.{CaseOf, Course, LeavesFiles, Outside, WasShown, Lacks, LacksLate, RunsThrough, middle_of, opening_of, opening_part, plan_opened, wrote_before}
-use Rattle.volume_files.specs.Texts.{Wrote, WroteAndFront, WroteAndPart, WroteFront, WroteOn, WrotePart, sections_before}
-use Rattle.vm_run.specs.AskedTexts.{files_or_none, middle_text, trace_opening}
+use Rattle.vm_run.specs.Run.{CaseOf, Course, LeavesFiles, Outside, WasShown, Lacks, RunsThrough, middle_of, opening_of, opening_part, plan_opened, wrote_before}
+use Rattle.volume_files.specs.Texts.{Wrote, WroteAndFront, WroteAndPart, WroteFront, WroteOn, WrotePart}
+use Rattle.vm_run.specs.AskedTexts.{middle_text, trace_opening}
 use Rattle.volume_files.specs.Written.{AreFilesBytes, AreOnlyRead, FaultCounts, HaveDisks, IsCountedSince, KeepsBlocks, OnlyReads, WriteTables, disk_fault_counts, disk_sizes}
-use Rattle.volume_files.proofs.DiskLists.{mate, have-written, writes-refl, same-member}
+use Rattle.volume_files.proofs.DiskLists.{mate, have-written, writes-refl}
 use Rattle.volume_files.proofs.WrittenTexts.{appended_nothing, risen_since, wrote_then}
 use Rattle.vm_run.proofs.Sinks.{front_behind, on_behind, part_behind, still_wrote}
 use Rattle.vm_run.proofs.Courses.{ended, begun, closes, closed-bytes, late-cause, leaves, sizes-same}

@@ -1,5 +1,5 @@
 -- A run of words that are taken, in which no outside failed.
-use Rattle.std.proofs.Common.{◌≡◌, ◌⊎◌, ℕ, refl, sym, ap, ◌∙◌, subst, inl, inr}
+use Rattle.std.proofs.Common.{◌≡◌, ℕ, refl, sym, ap, ◌∙◌, subst, inl, inr}
 use Rattle.std.specs.Prelude.{IfSome, IsSome, List, MatchOption, Option, option_map, Some, None, Result, Ok, Err}
 use Rattle.std.proofs.lemmas.Option.{none-some, same_Some}
 use Rattle.block_device.specs.Counts.{HasRisen}
@@ -7,8 +7,6 @@ use Rattle.block_device.specs.OpenSeen.{OpenFaultSeen}
 use Rattle.vm_run.specs.declared.ending.Ending.{Ending}
 use Rattle.vm_run.specs.declared.ending.Ending.TheVariants as ending
 use Rattle.volume_files.specs.declared.stops.Refusal.{Refusal}
-use Rattle.vm_run.specs.declared.outcome.RunFault.{RunFault}
-use Rattle.vm_run.specs.declared.outcome.RunFault.TheVariants as fault
 use Rattle.vm_script.specs.Plans.{plan_of}
 use Rattle.command_line.specs.declared.options.Options.{Options}
 use Rattle.vm_run.specs.Asked.{Given, Asked, Asks, WasAsked, run_request, request_of_options, by_script, script_told}

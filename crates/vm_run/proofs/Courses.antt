@@ -1,13 +1,11 @@
 -- A run that began: what it left, and what that is of what was asked.
 use Rattle.std.proofs.Common.{◌≡◌, ℕ, zero, suc, ◌≤◌, ◌<◌, ◌==◌, Bool, true, false, List, [], ◌∷◌, length, map, refl, sym, ap, ◌∙◌, subst, arith, inl, inr}
-use Rattle.std.specs.Prelude.{All, IfNone, IfSome, IsSome, IsSomeAnd, Ok, Option, Some, None, slice_get, slice_index_or, zip, if◌then◌else◌}
+use Rattle.std.specs.Prelude.{IfNone, IfSome, IsSome, IsSomeAnd, Ok, Option, Some, None, slice_get, slice_index_or, zip, if◌then◌else◌}
 use Rattle.std.specs.Map.{lookup}
 use Rattle.std.proofs.lemmas.Bool.{false≢true, ne_eqb}
 use Rattle.std.proofs.lemmas.Bool.Decides.{eqb_tells}
 use Rattle.std.proofs.lemmas.Option.{none-some, same_Some}
 use Rattle.std.proofs.lemmas.List.{length-map}
-use Rattle.vm_types.specs.declared.call.Entry.{Entry}
-use Rattle.vm_types.specs.declared.call.Reply.TheVariants.{Io}
 use Rattle.block_device.specs.DiskSeen.{DiskSeen}
 use Rattle.block_device.specs.RackSeen.{spec_number}
 use Rattle.block_device.specs.declared.disk_fault.DiskFault.{DiskFault}
@@ -17,27 +15,25 @@ use Rattle.block_device.specs.StreamSeen.{SinkSeen}
 use Rattle.flat_model.proofs.Bytes.{All-slice_get}
 use Rattle.flat_model.specs.Flat.{Flat}
 use Rattle.flat_model.specs.History.{Legal, replay}
-use Rattle.page_store.specs.Notes.{no_notes}
 use Rattle.vnode_files.specs.Files.{FilesSeen}
 use Rattle.vnode_files.specs.Vnode.{VnodeSeen, fresh_vnode}
 use Rattle.vnode_files.specs.declared.vnode.FileInfo.{FileInfo}
 use Rattle.vm_script.specs.PlanSeen.{PlanSeen}
 use Rattle.vm_script.specs.Rules.{amounts_of}
 use Rattle.vm_world.specs.State.{KernelState, FileMode, mode_of}
-use Rattle.vm_world.specs.World.{AllTell}
 use Rattle.vm_run.specs.declared.outcome.RunFault.{RunFault}
 use Rattle.vm_run.specs.Asked.{Given, Asked}
 use Rattle.volume_files.specs.Attached.{AttachedSeen, FileDisksTell, bare_disks}
-use Rattle.volume_files.specs.Closed.{SayTables, StoreFiles, StoresFile, flat_bytes, info_at, infos_in_flat, mode_in, modes_in}
+use Rattle.volume_files.specs.Closed.{SayTables, StoreFiles, flat_bytes, info_at, infos_in_flat, mode_in, modes_in}
 use Rattle.vm_run.specs.Course.{IsReady}
 use Rattle.vm_run.specs.Ended.{End, HasLateCause, CountsReach}
-use Rattle.volume_files.specs.Handed.{HaveTold, HandsAll, HaveSpecSizes, HasSpecSize, disk_numbers, disk_handed, plan_disks, sizes_of}
-use Rattle.volume_files.specs.Opened.{ComesTo, OpenedFile, disk_specs, infos_of, names_of, numbered_plan, opening_flat, stored_bytes}
-use Rattle.vm_run.specs.Played.{IsStarted, KernelLeaves, LeftSeen, IsClosingFault, IsDiskOf}
+use Rattle.volume_files.specs.Handed.{HaveTold, HandsAll, HasSpecSize, disk_numbers, disk_handed, plan_disks, sizes_of}
+use Rattle.volume_files.specs.Opened.{OpenedFile, disk_specs, infos_of, names_of, opening_flat, stored_bytes}
+use Rattle.vm_run.specs.Played.{IsStarted, KernelLeaves, LeftSeen, IsDiskOf}
 use Rattle.volume_files.specs.Written.{infos_made}
 use Rattle.vm_run.specs.Run.{AreClosedBytes, AreOpenedBytes, Begun, ClosesFiles, LeavesFiles, DisksTell, IsOpened, flat_opened, flat_closed}
-use Rattle.volume_files.specs.Written.{AreFilesBytes, HaveDisks, IsCountedSince, KeepsBlocks, WriteTables, disk_sizes}
-use Rattle.volume_files.proofs.DiskLists.{at-map, in-map, mate, number, to-all, zip-back, sizes-by, sizes-written, low-disks, lookup-at, same-member}
+use Rattle.volume_files.specs.Written.{AreFilesBytes, HaveDisks, KeepsBlocks, WriteTables, disk_sizes}
+use Rattle.volume_files.proofs.DiskLists.{at-map, in-map, mate, number, to-all, zip-back, sizes-by, sizes-written, low-disks, lookup-at}
 use Rattle.vm_run.proofs.DisksTell.{file-disks-tell}
 use Rattle.vm_run.proofs.KeptBytes.{stored-kept}
 use Rattle.vm_run.proofs.Returned.{swap-serves-still}

@@ -1,5 +1,5 @@
 -- A run that stops before its trace: the rack, a disk or memory failed, or a rule is broken.
-use Rattle.std.proofs.Common.{◌≡◌, ℕ, ◌≤◌, List, [], refl, sym, ap, ◌∙◌, subst, arith, inl, inr, map}
+use Rattle.std.proofs.Common.{◌≡◌, ℕ, List, [], refl, sym, ap, ◌∙◌, subst, arith, inl, inr, map}
 use Rattle.std.specs.Prelude.{IsTrue, MatchOption, Option, Some, None, Ok, option_map}
 use Rattle.block_device.specs.Counts.{HasRisen}
 use Rattle.block_device.specs.DiskSeen.{DiskSeen}
@@ -17,9 +17,9 @@ use Rattle.vm_run.specs.declared.outcome.RunFault.{RunFault}
 use Rattle.vm_run.specs.Asked.{Given, Asked, WasAsked}
 use Rattle.volume_files.specs.Attached.{HandsStopped, StopCause, StopsEarly}
 use Rattle.vm_run.specs.Course.{AskStops}
-use Rattle.vm_run.specs.Ended.{End, stop_end}
+use Rattle.vm_run.specs.Ended.{stop_end}
 use Rattle.volume_files.specs.Handed.{AreUncounted, HasOpeningCause, IsCountedBy}
-use Rattle.vm_run.specs.Run.{CaseOf, EndsBare, HasNoHistory, Outside, wrote_before}
+use Rattle.vm_run.specs.Run.{CaseOf, EndsBare, Outside, wrote_before}
 use Rattle.volume_files.specs.Texts.{Wrote}
 use Rattle.volume_files.proofs.WrittenTexts.{wrote_nothing}
 

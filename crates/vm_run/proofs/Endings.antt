@@ -1,6 +1,6 @@
 -- How a run ends whose files were closed.
-use Rattle.std.proofs.Common.{◌≡◌, ℕ, ◌≤◌, List, [], ◌∷◌, ◌++◌, length, take, true, false, refl, sym, ap, ◌∙◌, subst, arith, inl, inr}
-use Rattle.std.specs.Prelude.{Bool, Option, Some, None, Result, Ok, Err, is_some}
+use Rattle.std.proofs.Common.{◌≡◌, ℕ, ◌≤◌, List, ◌++◌, true, false, refl, sym, subst}
+use Rattle.std.specs.Prelude.{Bool, Option, Some, None, is_some}
 use Rattle.std.proofs.Common.{append-nil}
 use Rattle.std.proofs.lemmas.Bool.{false≢true}
 use Rattle.vm_types.specs.declared.call.Entry.{Entry}
@@ -16,9 +16,9 @@ use Rattle.volume_files.specs.declared.showing.Heading.TheVariants.{Report}
 use Rattle.volume_files.specs.declared.showing.ShowStop.{ShowStop}
 use Rattle.volume_files.specs.declared.showing.ShowStop.TheVariants as show
 use Rattle.vm_run.specs.Course.{CloseEnds, LacksTable, MiddleStops, ShowEnds, showing_stop}
-use Rattle.volume_files.specs.Texts.{Wrote, WroteFront, WrotePart, file_sections}
+use Rattle.volume_files.specs.Texts.{Wrote, WroteFront, WrotePart}
 use Rattle.vm_run.specs.AskedTexts.{files_or_none, middle_text}
-use Rattle.volume_files.specs.Written.{disk_fault_counts, AreFilesBytes, IsShowStop, ShowsSections}
+use Rattle.volume_files.specs.Written.{disk_fault_counts, AreFilesBytes, IsShowStop}
 use Rattle.volume_files.proofs.WrittenTexts.{risen_since, wrote_then}
 use Rattle.volume_files.proofs.WrittenTexts.{front_then, part_more, part_then}
 

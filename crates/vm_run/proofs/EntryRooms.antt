@@ -1,18 +1,16 @@
 -- The entries of each process, summed over its lines.
-use Rattle.std.proofs.Common.{◌≡◌, ◌≢◌, ℕ, zero, suc, ◌+◌, ◌-◌, ◌<◌, ◌≤◌, ◌==◌, Bool, true, false, cond, List, [], ◌∷◌, ◌++◌, length, take, replicate, refl}
-use Rattle.std.proofs.Common.{sym, ap, ◌∙◌, ◌⊎◌, inl, inr, subst, arith, add-zero, zero-add, length-set}
+use Rattle.std.proofs.Common.{◌≡◌, ◌≢◌, ℕ, zero, suc, ◌+◌, ◌-◌, ◌<◌, ◌≤◌, ◌==◌, Bool, true, false, cond, List, [], ◌∷◌, length, take, replicate, refl}
+use Rattle.std.proofs.Common.{sym, ap, ◌∙◌, inl, inr, subst, arith, add-zero, zero-add, length-set}
 use Rattle.std.specs.Prelude.{◌^◌, slice_index, slice_index_or, slice_set, filter, sum_by, All}
 use Rattle.std.proofs.lemmas.Bool.{cases_eq, eq-eqb, ne_eqb, cases_lt}
 use Rattle.std.proofs.lemmas.List.{get_or-set_same, get_or-set_other}
-use Rattle.std.proofs.lemmas.List.Elements.{All-nil, All-cons, All-append, All-weaker, All-head, All-tail}
+use Rattle.std.proofs.lemmas.List.Elements.{All-nil, All-append, All-weaker, All-head, All-tail}
 use Rattle.std.proofs.lemmas.List.Sums.{sum_by-cons, sum_by_more, sum_by_more_le_part}
 use Rattle.vm_script.specs.declared.plan.PlanLine.{PlanLine}
 use Rattle.vm_script.specs.Blocks.{AreProcessBlocks, over, block, IsWithin, Nests}
 use Rattle.vm_script.specs.Counts.{parts, entry_count}
 use Rattle.vm_script.specs.PlanSeen.{PlanSeen}
-use Rattle.vm_script.specs.Told.{own_lines}
 use Rattle.vm_script.proofs.Ranges.{within}
-use Rattle.vm_world.specs.State.{room_of}
 use Rattle.vm_run.specs.Played.{HasRoomForPlan}
 
 -- the lines of blocks that nest are those of processes from n on and below m

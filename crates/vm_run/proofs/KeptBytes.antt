@@ -1,15 +1,14 @@
 -- The bytes of files on disks whose blocks stay, but for block 0.
 use Rattle.std.proofs.Common.{◌≡◌, ℕ, zero, suc, ◌≤◌, ◌<◌, ◌+◌, List, [], ◌∷◌, ◌++◌, length, map, take, refl, sym, ap, ◌∙◌, subst, arith}
-use Rattle.std.specs.Prelude.{All, IfSome, Option, Some, None, slice_get, slice_index_or}
+use Rattle.std.specs.Prelude.{All, IfSome, Option, Some, None, slice_index_or}
 use Rattle.std.specs.List.{concat, range_with_len}
-use Rattle.std.proofs.lemmas.Option.{none-some}
 use Rattle.block_device.specs.DiskSeen.{DiskSeen}
 use Rattle.vnode_files.specs.declared.extent.Extent.{Extent}
 use Rattle.vnode_files.specs.declared.vnode.FileInfo.{FileInfo}
 use Rattle.vnode_files.specs.Files.{FilesSeen, block_count}
 use Rattle.vnode_files.specs.Layout.{LieOnDisk}
 use Rattle.vnode_files.specs.Vnode.{VnodeSeen, page_blocks}
-use Rattle.volume_files.specs.Closed.{StoreFiles, StoresFile, info_at}
+use Rattle.volume_files.specs.Closed.{StoreFiles, info_at}
 use Rattle.volume_files.specs.Opened.{stored_bytes}
 use Rattle.volume_files.specs.Written.{infos_made}
 use Rattle.volume_files.specs.Written.{KeepsBlocks, LieWell, WriteTables}

@@ -1,38 +1,23 @@
 -- A run's end once its last line was printed, or memory lacked for the line.
-use Rattle.std.proofs.Common.{◌≡◌, ◌≢◌, ◌⊎◌, ℕ, ◌+◌, ◌≤◌, ◌<◌, true, false, List, [], ◌∷◌, ◌++◌, length, take, refl, sym, ap, ◌∙◌, subst, arith, inl, inr, append-nil}
-use mathlib.Core.List.{IsPrefix}
-use Rattle.std.specs.Prelude.{Bool, IfSome, MatchBool, MatchOption, nat_le, nat_lt, ◌==◌, Option, Some, None, Result, Ok, Err, if◌then◌else◌}
-use Rattle.std.specs.List.{Contains}
+use Rattle.std.proofs.Common.{◌≡◌, ◌⊎◌, ℕ, ◌+◌, ◌≤◌, List, [], ◌++◌, refl, sym, ap, ◌∙◌, subst, arith, inl, inr}
+use Rattle.std.specs.Prelude.{Bool, Option, None}
 use Rattle.std.proofs.Math.Seq.{take-nil}
-use Rattle.std.proofs.lemmas.List.{take_all}
-use Rattle.vm_types.specs.declared.call.Entry.{Entry}
 use Rattle.block_device.specs.Counts.{HasRisen}
 use Rattle.block_device.specs.DiskSeen.{DiskSeen}
-use Rattle.block_device.specs.OpenSeen.{OpenFaultSeen}
 use Rattle.block_device.specs.StreamSeen.{SinkSeen, text_with_more}
-use Rattle.block_device.specs.declared.disk_fault.DiskFault.{DiskFault}
-use Rattle.block_device.specs.declared.rack.Spec.{Spec}
 use Rattle.vm_core.specs.Finish.{HistorySeen}
-use Rattle.vm_script.specs.PlanSeen.{PlanSeen}
-use Rattle.vm_script.specs.Rules.{amounts_of}
-use Rattle.vm_script.specs.Told.{Told, ToldFront, own_lines}
-use Rattle.volume_files.specs.declared.stops.Refusal.{Refusal}
-use Rattle.volume_files.specs.declared.stops.Refusal.TheVariants as refusal
 use Rattle.vm_run.specs.declared.ending.Ending.{Ending}
 use Rattle.vm_run.specs.declared.ending.Ending.TheVariants as ending
-use Rattle.volume_files.specs.declared.showing.Heading.TheVariants.{Report, Trace}
-use Rattle.vm_run.specs.Asked.{Given, Asked}
+use Rattle.volume_files.specs.declared.showing.Heading.TheVariants.{Report}
+use Rattle.vm_run.specs.Asked.{Given}
 use Rattle.vm_run.specs.declared.outcome.RunFault.{RunFault}
 use Rattle.vm_run.specs.Ending.{fault_of, last_line_of, status_of}
 use Rattle.vm_run.specs.Ended.{End}
-use Rattle.volume_files.specs.Handed.{HandsAll, HandsBelow, HandsFront, HandsNone, HandsRefused, HandsUnracked, HandsUnread, HaveSpecSizes, IsSwapFor, disk_numbers, sizes_of, handed_count}
-use Rattle.volume_files.specs.Opened.{OpenedFile, disk_specs, infos_of}
+use Rattle.volume_files.specs.Handed.{handed_count}
 use Rattle.vm_run.specs.Reading.{IsConcluded}
 use Rattle.vm_run.specs.Run.{CaseOf, RunEnds, EndsBare, EndsTold, LacksLine, NoneFailed, Outside}
 use Rattle.vm_run.specs.Run.{middle_of, opening_of, opening_part, report_of, whole_text, wrote_all, wrote_before}
-use Rattle.volume_files.specs.Texts.{Wrote, WroteAndFront, WroteFront, WroteOn, file_sections, sections_before, trace_front}
-use Rattle.vm_run.specs.AskedTexts.{files_or_none}
-use Rattle.vm_run.proofs.SectionFronts.{before-front}
+use Rattle.volume_files.specs.Texts.{WroteOn, sections_before}
 use Rattle.volume_files.proofs.WrittenTexts.{appended_nothing}
 use Rattle.vm_run.proofs.Sinks.{on_behind, still_front, still_part, still_wrote}
 

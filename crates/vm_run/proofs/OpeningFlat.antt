@@ -1,52 +1,43 @@
 -- The flat memory of a kernel at the start: that of the files as they are opened.
-use Rattle.std.proofs.Common.{◌≡◌, ◌≢◌, ℕ, zero, suc, ◌+◌, ◌-◌, ◌*◌, ◌<◌, ◌≤◌, ◌==◌, min, Bool, true, false, cond, List, [], ◌∷◌, ◌++◌, length, map, take}
-use Rattle.std.proofs.Common.{replicate, Option, Some, None, refl, sym, ap, ◌∙◌, ◌⊎◌, inl, inr, subst, arith}
-use Rattle.std.specs.Prelude.{slice_get, slice_index_or, option_map, is_some, unwrap_or, nat_le, not, IsSome, IfSome, IsTrue, All, ◌||◌}
-use Rattle.std.specs.List.{list_any, concat, range_with_len}
+use Rattle.std.proofs.Common.{◌≡◌, ◌≢◌, ℕ, zero, suc, ◌+◌, ◌-◌, ◌*◌, ◌<◌, ◌==◌, min, Bool, true, false, cond, List, [], ◌∷◌, ◌++◌, length, map}
+use Rattle.std.proofs.Common.{replicate, Option, Some, None, refl, sym, ap, ◌∙◌, subst, arith}
+use Rattle.std.specs.Prelude.{slice_get, slice_index_or, option_map, nat_le, not, ◌||◌}
+use Rattle.std.specs.List.{list_any}
 use Rattle.std.specs.Ordering.{nat_cmp, is_eq}
 use Rattle.std.specs.Cmp.{nat_cmp_total}
 use Rattle.std.specs.FinMap as finite
 use Rattle.std.specs.FinSet as set
-use Rattle.std.proofs.lemmas.Bool.{cases_eq, lt-ltb}
 use Rattle.std.proofs.lemmas.Bool.Decides.{nat_tests}
 use Rattle.std.proofs.lemmas.List.{length-map, get_or-map}
 use Rattle.std.proofs.lemmas.List.FromFn.{get_or-map-range_with_len}
-use Rattle.addr_space.specs.Space.{Part}
 use Rattle.addr_space.specs.Pages.{pages_of_parts}
-use Rattle.anon_slots.specs.Slots.{AnonSlotsSeen}
-use Rattle.block_device.specs.DiskSeen.{DiskSeen, HasBlocks}
-use Rattle.flat_model.specs.Flat.{Cell, File, Flat, Space}
+use Rattle.flat_model.specs.Flat.{File, Space}
 use Rattle.flat_model.specs.Parts.{pages_of_bytes}
 use Rattle.flat_model.specs.Words.{Page, pages_in}
 use Rattle.flat_model.proofs.FileBytes.{Whole}
 use Rattle.page_hash.specs.Names.{name_at, find}
 use Rattle.page_hash.specs.declared.PageName.{PageName}
-use Rattle.page_store.specs.Bays.{BaySeen, missing, home, out, bay_at, block_of}
+use Rattle.page_store.specs.Bays.{block_of}
 use Rattle.page_store.specs.Bytes.{clip}
 use Rattle.page_store.specs.Layout.{page_place}
 use Rattle.page_store.specs.Notes.{no_notes}
-use Rattle.page_store.specs.Value.{value, value_in, backing_value, content_of, content_in_bay, tells}
+use Rattle.page_store.specs.Value.{value, value_in, backing_value, content_of}
 use Rattle.page_store.specs.declared.place.Place.{Place}
-use Rattle.core_arena.specs.Bytes.{zeros}
 use Rattle.vnode_files.specs.declared.vnode.FileInfo.{FileInfo}
-use Rattle.vnode_files.specs.Files.{FilesSeen, vnode_at, block_count}
+use Rattle.vnode_files.specs.Files.{vnode_at}
 use Rattle.vnode_files.specs.Grow.{page_count}
-use Rattle.vnode_files.specs.Vnode.{VnodeSeen, no_vnode, page_blocks, fresh_vnode, is_blank, IsSoundVnode}
+use Rattle.vnode_files.specs.Vnode.{VnodeSeen, page_blocks, fresh_vnode, is_blank, IsSoundVnode}
 use Rattle.vnode_files.proofs.BlockLemmas.{length-page_blocks}
-use Rattle.vm_world.specs.FlatMemory.{Memory, flat_memory, pages_from, file_with_pages, files_with_pages, map_with, space_with, cell_of, zero_maps, zero_pages, shape_of}
-use Rattle.vm_world.specs.Opening.{IsOpening}
-use Rattle.vm_world.specs.Pages.{page_value, file_contents, contents_of}
-use Rattle.vm_world.specs.declared.segment.Segment.{Segment}
-use Rattle.vm_world.specs.Segments.{Spot, Spaces}
-use Rattle.vm_world.specs.State.{KernelState, is_top}
-use Rattle.vm_world.specs.World.{World, file_name, file_blocks, is_unpushed, is_page_name, world_table, page_table, AllTell}
-use Rattle.vm_world.proofs.FilePages.{file-in}
+use Rattle.vm_world.specs.FlatMemory.{pages_from, file_with_pages, files_with_pages, map_with, space_with, cell_of, zero_maps, zero_pages}
+use Rattle.vm_world.specs.Pages.{page_value, file_contents}
+use Rattle.vm_world.specs.Segments.{Spaces}
+use Rattle.vm_world.specs.State.{is_top}
+use Rattle.vm_world.specs.World.{World, file_name, file_blocks, is_unpushed, world_table}
 use Rattle.vm_world.proofs.Maps.{get-map_with}
-use Rattle.vm_world.proofs.PageNames.{file-page, file-place, below-kept, not-slot, index-of, file-there}
-use Rattle.vm_world.proofs.Spaces.{EmptySpaces, empty-zeros, map-empty, entries-empty}
-use Rattle.vm_core.specs.State.{marked_processes, born_of}
+use Rattle.vm_world.proofs.PageNames.{file-page, file-place, below-kept, not-slot}
+use Rattle.vm_world.proofs.Spaces.{EmptySpaces, empty-zeros, map-empty}
+use Rattle.vm_core.specs.State.{marked_processes}
 use Rattle.vm_core.proofs.Tops.{born-tops}
-use Rattle.vm_script.specs.PlanSeen.{PlanSeen}
 use Rattle.volume_files.specs.Opened.{OpenedFile, stored_bytes, opened_flat_file, top_processes}
 use Rattle.vm_run.proofs.OpenedPages.{opened-pages, pages-agree}
 

@@ -1,11 +1,10 @@
 -- What the set-up rules say of the amounts and the disks that a kernel is started with.
 use Rattle.std.proofs.Common.{◌≡◌, ℕ, zero, suc, ◌+◌, ◌<◌, ◌≤◌, ◌==◌, Bool, true, false, cond, List, [], ◌∷◌, length, map, Option, Some, None, refl, sym, ap}
-use Rattle.std.proofs.Common.{◌∙◌, ◌⊎◌, inl, inr, subst, arith, zero-add}
-use Rattle.std.specs.Prelude.{◌&&◌, not, nat_le, nat_lt, slice_get, slice_index, slice_index_or, filter_map, option_map, option_and_then, is_some, count_by, sum_by}
+use Rattle.std.proofs.Common.{◌∙◌, inl, inr, subst, arith, zero-add}
+use Rattle.std.specs.Prelude.{not, nat_lt, slice_index, filter_map, option_and_then, count_by, sum_by}
 use Rattle.std.specs.List.{cons_option, find, list_any, range_with_len}
-use Rattle.std.proofs.lemmas.Bool.{cases_lt, cases_eq, eq-eqb, ne_eqb}
+use Rattle.std.proofs.lemmas.Bool.{cases_eq, eq-eqb, ne_eqb}
 use Rattle.std.proofs.lemmas.Bool.Decides.{nat_tests}
-use Rattle.std.proofs.lemmas.List.{length-map, get_or-map}
 use Rattle.std.proofs.lemmas.List.Sums.{sum_by-cons}
 use Rattle.block_device.specs.RackSeen.{spec_number}
 use Rattle.block_device.specs.declared.rack.Spec.{Spec}

@@ -1,24 +1,23 @@
 -- A kernel at the start fits flat memory as the processes find it.
-use Rattle.std.proofs.Common.{◌≡◌, ◌≢◌, ℕ, zero, suc, ◌+◌, ◌<◌, ◌≤◌, Bool, true, false, cond, List, [], ◌∷◌, length, map, Option, Some, None, refl, sym, ap, ◌∙◌, subst, arith}
-use Rattle.std.specs.Prelude.{slice_get, slice_index_or, is_some, unwrap_or, IfSome, IsTrue, All}
+use Rattle.std.proofs.Common.{◌≡◌, ◌≢◌, ℕ, suc, ◌+◌, ◌<◌, Bool, true, false, cond, List, [], ◌∷◌, length, map, Option, Some, None, refl, sym, ap, ◌∙◌, subst, arith}
+use Rattle.std.specs.Prelude.{slice_get, slice_index_or, is_some, unwrap_or, IfSome}
 use Rattle.std.specs.FinMap as finite
 use Rattle.std.specs.FinSet as set
 use Rattle.std.proofs.lemmas.List.{length-map, get_or-map}
 use Rattle.std.proofs.lemmas.Option.{slice_get_within}
 use Rattle.addr_space.specs.Space.{Part}
 use Rattle.block_device.specs.DiskSeen.{DiskSeen, HasBlocks, AreBlocks}
-use Rattle.flat_model.specs.Flat.{File, Flat}
-use Rattle.flat_model.specs.Words.{Page, pages_in}
+use Rattle.flat_model.specs.Flat.{Flat}
+use Rattle.flat_model.specs.Words.{pages_in}
 use Rattle.flat_model.proofs.FileBytes.{Whole}
-use Rattle.page_store.specs.Bays.{BaySeen, missing, home, bay_at}
+use Rattle.page_store.specs.Bays.{BaySeen, home, bay_at}
 use Rattle.page_store.specs.New.{AreHome}
 use Rattle.page_store.specs.Notes.{no_notes}
 use Rattle.page_store.specs.Value.{content_of, content_in_bay, tells}
 use Rattle.page_store.specs.declared.place.Place.{Place}
 use Rattle.vnode_files.specs.declared.vnode.FileInfo.{FileInfo}
-use Rattle.vnode_files.specs.Files.{FilesSeen, vnode_at, block_count}
+use Rattle.vnode_files.specs.Files.{vnode_at, block_count}
 use Rattle.vnode_files.specs.Grow.{page_count}
-use Rattle.vnode_files.specs.Layout.{LieOnDisks}
 use Rattle.vnode_files.specs.Vnode.{VnodeSeen, no_vnode, page_blocks, fresh_vnode, IsSoundVnode}
 use Rattle.vnode_files.proofs.BlockLemmas.{length-page_blocks}
 use Rattle.vnode_files.proofs.LayoutLaws.{file_layout_law}
@@ -30,7 +29,7 @@ use Rattle.vm_world.specs.Pages.{page_value, file_contents, contents_of}
 use Rattle.vm_world.specs.declared.segment.Segment.{Segment}
 use Rattle.vm_world.specs.State.{KernelState, is_top}
 use Rattle.vm_world.specs.StateFits.{StateFits}
-use Rattle.vm_world.specs.World.{World, file_name, world_table, AllTell}
+use Rattle.vm_world.specs.World.{file_name, AllTell}
 use Rattle.vm_world.proofs.PageNames.{file-page, file-place, below-kept, index-of, file-there}
 use Rattle.vm_world.proofs.Spaces.{EmptySpaces}
 use Rattle.vm_script.specs.PlanSeen.{PlanSeen}

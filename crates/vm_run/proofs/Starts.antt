@@ -1,9 +1,8 @@
 -- What a kernel may be started with, once the files were placed, and what it is then.
-use Rattle.std.proofs.Common.{◌≡◌, ℕ, zero, suc, ◌+◌, ◌<◌, ◌≤◌, ◌==◌, Bool, true, false, cond, List, [], ◌∷◌, length, map, take, Option, Some, None, refl, sym, ap, ◌∙◌, inl, inr, subst, arith}
-use Rattle.std.specs.Prelude.{slice_get, slice_index, slice_index_or, option_map, is_some, count_by, IfSome, MatchOption, All}
-use Rattle.std.specs.FinMap as finite
-use Rattle.std.proofs.lemmas.Bool.{cases_eq, ne_eqb}
-use Rattle.std.proofs.lemmas.List.{length-map, get_or-map, take_all}
+use Rattle.std.proofs.Common.{◌≡◌, ℕ, suc, ◌+◌, ◌<◌, ◌≤◌, ◌==◌, Bool, cond, List, [], ◌∷◌, length, map, Option, Some, None, refl, sym, ap, ◌∙◌, subst, arith}
+use Rattle.std.specs.Prelude.{slice_index_or, option_map, is_some}
+use Rattle.std.proofs.lemmas.Bool.{ne_eqb}
+use Rattle.std.proofs.lemmas.List.{length-map}
 use Rattle.block_device.specs.DiskSeen.{DiskSeen}
 use Rattle.block_device.specs.RackSeen.{spec_number}
 use Rattle.block_device.specs.declared.numbered.NumberedDisk.{NumberedDisk}
@@ -13,23 +12,20 @@ use Rattle.page_store.specs.New.{AreHome}
 use Rattle.page_store.specs.Notes.{no_notes}
 use Rattle.vnode_files.specs.Files.{FilesSeen}
 use Rattle.vm_core.specs.Setup.{disk_total, SwapServes}
-use Rattle.vm_script.specs.declared.plan.SetupLine.{SetupLine}
 use Rattle.vm_script.specs.PlanSeen.{PlanSeen}
-use Rattle.vm_script.specs.Rules.{amounts_of, gives_a_disk, broken_rule}
+use Rattle.vm_script.specs.Rules.{amounts_of, broken_rule}
 use Rattle.vm_world.specs.FlatMemory.{flat_memory}
 use Rattle.vm_world.specs.Opening.{IsOpening, no_seats}
 use Rattle.vm_world.specs.State.{KernelState}
 use Rattle.vm_world.specs.StateFits.{StateFits}
-use Rattle.vm_world.proofs.PageNames.{index-of}
 use Rattle.volume_files.specs.declared.attaching.Attached.{Attached}
-use Rattle.vm_run.specs.declared.ending.Ending.TheVariants.{Memory}
 use Rattle.vm_run.specs.declared.ending.Stop.{Stop}
-use Rattle.volume_files.specs.Attached.{AttachedSeen, ArePlaced, HandsStopped, StopCause, StopsEarly, attached_seen, numbered_seen, bare_disks}
-use Rattle.volume_files.specs.Handed.{HandsAll, HandsFront, HaveSpecSizes, IsSwapFor, disk_numbers}
+use Rattle.volume_files.specs.Attached.{AttachedSeen, ArePlaced, attached_seen, numbered_seen, bare_disks}
+use Rattle.volume_files.specs.Handed.{IsSwapFor}
 use Rattle.volume_files.specs.Opened.{OpenedFile, opening_flat, disk_specs}
 use Rattle.vm_run.specs.Played.{IsStarted, HasRoomForPlan}
 use Rattle.volume_files.specs.Written.{LieWell, HaveDisks}
-use Rattle.vm_run.proofs.StartRules.{HasRightAmounts, right-amounts, few-disks, disk-numbers}
+use Rattle.vm_run.proofs.StartRules.{right-amounts, few-disks, disk-numbers}
 use Rattle.vm_run.proofs.StartedFlat.{IsStartedWith, started-fits}
 
 -- disks with their numbers

@@ -1,6 +1,6 @@
 -- Files that are placed, once their disks were read for the trace.
-use Rattle.std.proofs.Common.{◌≡◌, ℕ, zero, suc, ◌≤◌, ◌<◌, ◌==◌, ◌++◌, true, false, List, [], ◌∷◌, length, map, take, drop, append-nil, refl, sym, ap, ◌∙◌, subst, arith, inl, inr}
-use Rattle.std.specs.Prelude.{All, Bool, IfSome, IsSome, IsTrue, Err, Ok, Result, Option, Some, None, option_map, slice_get, slice_index_or, zip, if◌then◌else◌}
+use Rattle.std.proofs.Common.{◌≡◌, ℕ, zero, suc, ◌<◌, ◌==◌, ◌++◌, true, false, List, [], ◌∷◌, length, map, take, drop, append-nil, refl, sym, ap, ◌∙◌, subst, arith, inl, inr}
+use Rattle.std.specs.Prelude.{All, Bool, IfSome, IsSome, IsTrue, Err, Ok, Option, Some, None, option_map, slice_get, zip, if◌then◌else◌}
 use Rattle.std.specs.FinMap as finite
 use Rattle.std.specs.Map.{lookup}
 use Rattle.std.proofs.lemmas.Bool.{false≢true, ne_eqb}
@@ -13,7 +13,6 @@ use Rattle.block_device.specs.declared.numbered.NumberedDisk.{NumberedDisk}
 use Rattle.block_device.specs.declared.rack.Spec.{Spec}
 use Rattle.flat_model.proofs.Bytes.{All-slice_get}
 use Rattle.vm_core.specs.Finish.{HistorySeen}
-use Rattle.vm_core.specs.Setup.{FilesOnDisks, ListsDisk}
 use Rattle.vm_script.specs.PlanSeen.{PlanSeen}
 use Rattle.vnode_files.specs.Files.{FilesSeen}
 use Rattle.vnode_files.specs.Vnode.{VnodeSeen}
@@ -31,17 +30,17 @@ use Rattle.volume_files.specs.Attached.{ArePlaced, AttachedSeen, FileDisksTell, 
 use Rattle.volume_files.specs.Closed.{StoreFiles, info_at}
 use Rattle.vm_run.specs.Course.{AreReadBytes, TraceStops, opening_stop}
 use Rattle.vm_run.specs.Ended.{End, stop_end}
-use Rattle.volume_files.specs.Handed.{AreUncounted, HandsAll, HasDiskCause, HasSpecSize, HaveSpecSizes, HaveTold, IsCountedBy, disk_handed, plan_disks, sizes_of, AreWrittenAt, IsSwapAsGiven, block_told}
-use Rattle.volume_files.specs.Opened.{ComesTo, OpenedFile, opened_bytes_at, disk_specs, infos_of, numbered_plan, stored_bytes, line_files_of}
+use Rattle.volume_files.specs.Handed.{AreUncounted, HandsAll, HasDiskCause, HasSpecSize, HaveSpecSizes, HaveTold, IsCountedBy, plan_disks, sizes_of, AreWrittenAt, IsSwapAsGiven, block_told}
+use Rattle.volume_files.specs.Opened.{OpenedFile, opened_bytes_at, disk_specs, infos_of, numbered_plan, stored_bytes, line_files_of}
 use Rattle.volume_files.specs.Written.{infos_made}
-use Rattle.vm_run.specs.Run.{AreOpenedBytes, CaseOf, DisksTell, IsOpened, Outside, opening_part, wrote_before}
+use Rattle.vm_run.specs.Run.{AreOpenedBytes, CaseOf, IsOpened, Outside, opening_part, wrote_before}
 use Rattle.volume_files.specs.Texts.{IsPageUnread, Wrote, WroteFront, WrotePart, file_sections, sections_before, trace_front}
 use Rattle.vm_run.specs.AskedTexts.{trace_opening}
-use Rattle.volume_files.specs.Written.{AreFilesBytes, AreOnlyRead, HaveDisks, HaveFirstBlocks, FaultCounts, IsCountedSince, TraceShows, disk_sizes, open_fault_counts}
+use Rattle.volume_files.specs.Written.{AreFilesBytes, AreOnlyRead, HaveFirstBlocks, FaultCounts, IsCountedSince, TraceShows, disk_sizes, open_fault_counts}
 use Rattle.vm_run.proofs.Courses.{made-infos, spec-size}
 use Rattle.volume_files.proofs.WrittenTexts.{wrote_front}
 use Rattle.volume_files.proofs.FaultCauses.{if-counted}
-use Rattle.volume_files.proofs.DiskLists.{at-map, have-read, in-map, lookup-at, low-disks, mate, number, same-image, sizes-by, zip-back}
+use Rattle.volume_files.proofs.DiskLists.{at-map, have-read, in-map, lookup-at, low-disks, mate, same-image, sizes-by, zip-back}
 use Rattle.volume_files.proofs.GivenFiles.{comes-sizes}
 use Rattle.vm_script.specs.Rules.{amounts_of}
 

@@ -11,7 +11,6 @@ use Rattle.flat_model.specs.History.{Legal, replay}
 use Rattle.page_store.specs.Bays.{BaySeen, bay_at, bay_of, pairs_seen}
 use Rattle.vnode_files.specs.Files.{FilesSeen}
 use Rattle.vnode_files.specs.Vnode.{VnodeSeen}
-use Rattle.vnode_files.specs.declared.vnode.FileInfo.{FileInfo}
 use Rattle.vm_core.specs.declared.finish.Finished.{Finished}
 use Rattle.vm_core.specs.Finish.{HistorySeen, disks_of}
 use Rattle.vm_script.specs.Counts.{entry_count}

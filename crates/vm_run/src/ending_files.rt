@@ -90,6 +90,7 @@ fn tell_fault<K: Sink>(
     requires well_formed { All (λ e. IsWellFormed e.call) history.now }
     ensures ends { CloseFails options.now plan.now history.now fault
         (K.seen out.old) (K.seen out.new) result }
+    // Want of memory hides no failure.
     ensures later { (K.seen out.old).faults ≤ (K.seen out.new).faults }
     ensures hides { result ≡ Memory → (K.seen out.new).faults ≡ (K.seen out.old).faults }
 {

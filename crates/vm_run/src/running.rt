@@ -95,6 +95,7 @@ fn run_ready<D: Disk, K: Sink>(
         → AreUncounted (bare_disks (attached_seen D.seen ready.placed.attached).disks)
         (attached_seen D.seen ready.placed.attached).swap)
         → HasCase g o D.seen result }
+    // Want of memory hides no failure.
     ensures hides { result.ending ≡ Memory → (K.seen out.new).faults ≡ (K.seen out.old).faults }
     ensures count { handed_count result.disks.items result.swap
         ≡ handed_count ready.placed.attached.disks.items ready.placed.attached.swap }

@@ -1,4 +1,4 @@
-use Rattle.std.proofs.Common.{rules, ◌≡◌, ℕ, refl}
+use Rattle.std.proofs.Common.{rules, refl}
 use Rattle.page_store.specs.Bays.{pairs_seen}
 use Rattle.volume_files.proofs.DiskLists.{writes-refl}
 use Rattle.vm_run.proofs.Endings.{lacks-closed}

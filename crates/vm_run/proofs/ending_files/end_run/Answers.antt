@@ -1,4 +1,4 @@
-use Rattle.std.proofs.Common.{◌≡◌, ◌∙◌, ℕ, List, ap, length, map}
+use Rattle.std.proofs.Common.{◌∙◌, ℕ, List, ap, length, map}
 use Rattle.std.proofs.lemmas.List.{length-map}
 use Rattle.page_store.specs.Bays.{pairs_seen}
 use Rattle.volume_files.proofs.DiskLists.{seen-bare_disks}

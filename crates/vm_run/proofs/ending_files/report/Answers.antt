@@ -1,4 +1,4 @@
-use Rattle.std.proofs.Common.{◌≡◌, ℕ, refl, inl, inr}
+use Rattle.std.proofs.Common.{inl, inr}
 use Rattle.page_store.specs.Bays.{pairs_seen}
 use Rattle.volume_files.proofs.DiskLists.{have-written}
 use Rattle.vm_run.proofs.ending_files.report.Goals as goal

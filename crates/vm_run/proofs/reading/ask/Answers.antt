@@ -1,4 +1,4 @@
-use Rattle.std.proofs.Common.{◌≡◌, ◌∙◌, map, sym}
+use Rattle.std.proofs.Common.{◌∙◌, map, sym}
 use Rattle.std.specs.Prelude.{string_bytes}
 use Rattle.vm_run.proofs.Asking.{script-stops}
 use Rattle.vm_run.proofs.reading.ask.Goals as goal

@@ -1,4 +1,4 @@
-use Rattle.std.proofs.Common.{◌≡◌, refl, subst, sym}
+use Rattle.std.proofs.Common.{refl, subst, sym}
 use Rattle.std.specs.Prelude.{Ok, Option}
 use Rattle.vm_script.specs.Generated.{generated_text}
 use Rattle.vm_run.specs.Reading.{SaysScript}

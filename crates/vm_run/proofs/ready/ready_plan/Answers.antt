@@ -1,12 +1,11 @@
 use Rattle.std.proofs.Common.{rules, ◌≡◌, ◌+◌, ◌∙◌, ℕ, ap, refl, subst, sym}
 use Rattle.std.specs.Prelude.{IsTrue, length}
-use Rattle.block_device.specs.declared.numbered.NumberedDisk.{NumberedDisk}
 use Rattle.volume_files.specs.Attached.{numbered_seen}
 use Rattle.std.proofs.lemmas.List.{length-map}
 use Rattle.volume_files.specs.Handed.{handed_count}
 use Rattle.volume_files.proofs.DiskCounts.{count-as}
 use Rattle.volume_files.specs.Attached.{ArePlaced, StopsEarly, attached_seen}
-use Rattle.vm_run.proofs.EarlyEnds.{IsUnopened, never-risen, risen-outside, stopped-early}
+use Rattle.vm_run.proofs.EarlyEnds.{never-risen, risen-outside, stopped-early}
 use Rattle.vm_run.proofs.RunReady.{is-ready, numbered-playable, placed-as}
 use Rattle.vm_run.proofs.Traced.{stopped-tracing}
 use Rattle.vm_run.proofs.Unfailing.{where-ended, why-lacked}

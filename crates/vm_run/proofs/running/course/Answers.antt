@@ -1,4 +1,4 @@
-use Rattle.std.proofs.Common.{◌≡◌, ◌+◌, ◌∙◌, ℕ, ap, map, refl, sym}
+use Rattle.std.proofs.Common.{◌+◌, ◌∙◌, ℕ, ap, map, refl, sym}
 use Rattle.std.specs.Prelude.{string_bytes}
 use Rattle.vm_run.specs.Asked.{given_of}
 use Rattle.vm_run.proofs.running.course.Goals as goal

@@ -1,7 +1,6 @@
-use Rattle.std.proofs.Common.{◌≡◌, ◌+◌, ◌∙◌, ℕ, ap, length, map, refl, sym}
+use Rattle.std.proofs.Common.{◌+◌, ◌∙◌, ℕ, ap, length, map, refl, sym}
 use Rattle.std.specs.Prelude.{option_map, string_bytes}
 use Rattle.vm_run.specs.Asked.{given_of}
-use Rattle.volume_files.specs.Handed.{handed_count}
 use Rattle.volume_files.proofs.DiskCounts.{count-as, count-made}
 use Rattle.vm_run.proofs.LastLines.{ends-so}
 use Rattle.vm_run.proofs.Completes.{completes}

@@ -1,8 +1,8 @@
-use Rattle.std.proofs.Common.{◌≡◌, ◌∙◌, ℕ, ap, arith, false, length, map, refl, subst, sym}
-use Rattle.std.specs.Prelude.{None, option_map, vec_capacity, ◌≤◌}
+use Rattle.std.proofs.Common.{◌≡◌, ◌∙◌, ap, arith, false, length, map}
+use Rattle.std.specs.Prelude.{None, option_map}
 use Rattle.std.proofs.lemmas.List.{length-map}
 use Rattle.page_store.specs.Bays.{pairs_seen}
-use Rattle.volume_files.specs.Attached.{attached_seen, numbered_seen}
+use Rattle.volume_files.specs.Attached.{attached_seen}
 use Rattle.volume_files.specs.Opened.{opening_flat}
 use Rattle.vm_run.specs.Played.{IsStarted, KernelLeaves, left_seen}
 use Rattle.volume_files.specs.Written.{disk_sizes}
