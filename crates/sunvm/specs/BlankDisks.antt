@@ -9,18 +9,18 @@ use Rattle.block_device.specs.declared.block.Block.{Block}
 use Rattle.sunvm.specs.declared.blank_disk.BlankDisk.{BlankDisk}
 
 -- the bytes of a block by its place: zeros where it wasn't written
-abbrev pub bytes_at : List Block → ℕ → List ℕ
-bytes_at [] place = replicate 4096 0
-bytes_at (b ∷ written) zero = b.bytes
-bytes_at (b ∷ written) (suc place) = bytes_at written place
+abbrev pub written_at : List Block → ℕ → List ℕ
+written_at [] place = replicate 4096 0
+written_at (b ∷ written) zero = b.bytes
+written_at (b ∷ written) (suc place) = written_at written place
 
-abbrev pub bytes_in : List Block → Option ℕ → List ℕ
-bytes_in written None = replicate 4096 0
-bytes_in written (Some place) = bytes_at written place
+abbrev pub block_shown : List Block → Option ℕ → List ℕ
+block_shown written None = replicate 4096 0
+block_shown written (Some place) = written_at written place
 
 -- the bytes of the blocks: those that have a place, or none, and zeros behind them
 abbrev pub blank_content : List (Option ℕ) → List Block → ℕ → List (List ℕ)
-blank_content places written size = map (bytes_in written) places ++ blank_blocks (size - length places)
+blank_content places written size = map (block_shown written) places ++ blank_blocks (size - length places)
 
 abbrev pub blank_disk_seen : BlankDisk → DiskSeen
 blank_disk_seen d = record { content = Some (blank_content d.places.items d.written.items d.size); size = d.size; faults = 0; calls = d.calls }
@@ -37,16 +37,16 @@ zeros_are_bytes (suc count) (suc at) = zeros_are_bytes count at
 pub zeros_are_block : IsBlock (replicate 4096 0)
 zeros_are_block = (length-replicate {A = ℕ} 4096 0, zeros_are_bytes 4096)
 
-pub bytes_are_block : (written : List Block) (place : ℕ) → IsBlock (bytes_at written place)
+pub bytes_are_block : (written : List Block) (place : ℕ) → IsBlock (written_at written place)
 bytes_are_block [] place = zeros_are_block
 bytes_are_block (b ∷ written) zero = b.full
 bytes_are_block (b ∷ written) (suc place) = bytes_are_block written place
 
-pub block_is_block : (written : List Block) (o : Option ℕ) → IsBlock (bytes_in written o)
+pub block_is_block : (written : List Block) (o : Option ℕ) → IsBlock (block_shown written o)
 block_is_block written None = zeros_are_block
 block_is_block written (Some place) = bytes_are_block written place
 
-pub content_is_blocks : (places : List (Option ℕ)) (written : List Block) (blank : ℕ) → AreBlocks (map (bytes_in written) places ++ blank_blocks blank)
+pub content_is_blocks : (places : List (Option ℕ)) (written : List Block) (blank : ℕ) → AreBlocks (map (block_shown written) places ++ blank_blocks blank)
 content_is_blocks [] written zero block inside = absurd (not-suc-le-zero inside)
 content_is_blocks [] written (suc blank) zero inside = zeros_are_block
 content_is_blocks [] written (suc blank) (suc block) inside = content_is_blocks [] written blank block (le_of_suc-le-suc inside)
@@ -55,8 +55,8 @@ content_is_blocks (o ∷ places) written blank (suc block) inside = content_is_b
 
 pub content_length : (places : List (Option ℕ)) (written : List Block) (size : ℕ) → length places ≤ size → length (blank_content places written size) ≡ size
 content_length places written size few =
-    length-append (map (bytes_in written) places) (blank_blocks (size - length places))
-    ∙ ap (λ (count : ℕ). count + length (blank_blocks (size - length places))) (length-map places (bytes_in written))
+    length-append (map (block_shown written) places) (blank_blocks (size - length places))
+    ∙ ap (λ (count : ℕ). count + length (blank_blocks (size - length places))) (length-map places (block_shown written))
     ∙ ap (λ (count : ℕ). length places + count) (length-replicate (size - length places) (replicate 4096 0))
     ∙ add-sub_of_le few
 

@@ -8,7 +8,7 @@ written_of (None ∷ places) = written_of places
 written_of (Some place ∷ places) = written_of places + 1
 
 -- Each block that was written has a place of its own among them, and each place has its block.
-pub record ArePlaced (places : List (Option ℕ)) (count : ℕ) : Type 0 where
+pub record AreBlockPlaces (places : List (Option ℕ)) (count : ℕ) : Type 0 where
   pub within : (i place : ℕ) → slice_index_or places i None ≡ Some place → place < count
   pub apart : (i j place : ℕ) → slice_index_or places i None ≡ Some place → slice_index_or places j None ≡ Some place → i ≡ j
   pub counted : written_of places ≡ count

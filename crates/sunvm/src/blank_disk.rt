@@ -1,7 +1,7 @@
 //! A disk in memory that begins blank.
 ghost use Rattle.std.specs.Prelude.{◌≡◌, ℕ, ◌≤◌, ◌<◌, ◌-◌, ◌+◌, ◌^◌, ◌++◌, ◌∷◌, [], Option, Some, None, length, replicate, slice_index_or, slice_set, vec_len, vec_capacity};
 ghost use Rattle.block_device.specs.declared.block.Block.{Block};
-ghost use Rattle.sunvm.specs.BlankPlaces.{ArePlaced};
+ghost use Rattle.sunvm.specs.BlankPlaces.{AreBlockPlaces};
 
 use block_device::{Block, Disk, Failed};
 use std::alloc::{AllocError, Global};
@@ -19,7 +19,7 @@ pub struct BlankDisk {
     calls: u64,
     ghost small: { size < 2 ^ 32 },
     ghost few: { length places.items ≤ size },
-    ghost placed: { ArePlaced places.items (length written.items) },
+    ghost placed: { AreBlockPlaces places.items (length written.items) },
     ghost room_of_places: { size ≤ vec_capacity places },
     ghost room_of_blocks: { size ≤ vec_capacity written },
 }
@@ -60,11 +60,12 @@ fn place_of(places: &[Option<u32>], block: u32) -> Option<u32>
 // A block is written that never was: it has its place behind those that were.
 fn write_first(places: &mut Vec<Option<u32>>, written: &mut Vec<Block>, block: u32, from: &[u8])
     requires first { slice_index_or places.old.items block None ≡ None }
-    requires placed { ArePlaced places.old.items (length written.old.items) }
+    requires placed { AreBlockPlaces places.old.items (length written.old.items) }
     requires full { length from.now ≡ 4096 }
     requires room_of_places { block < vec_capacity places.old }
     requires room_of_blocks { length written.old.items < vec_capacity written.old }
     requires few { length written.old.items < 2 ^ 32 }
+    // The place and the block.
     ensures places { places.new.items ≡ slice_set
         (places.old.items ++ replicate (block + 1 - length places.old.items) None)
         block (Some (length written.old.items)) }

@@ -1,7 +1,7 @@
 use Rattle.std.proofs.Common.{◌∙◌, ◌≡◌, List, Option, Some, None, ℕ, ap, sym, refl, replicate, length, arith}
 use Rattle.std.specs.Prelude.{slice_index_or}
 use Rattle.block_device.specs.declared.block.Block.{Block}
-use Rattle.sunvm.specs.BlankDisks.{bytes_at}
+use Rattle.sunvm.specs.BlankDisks.{written_at}
 use Rattle.sunvm.proofs.BlankDiskLemmas.{blank-read, bytes-or, written-read}
 use Rattle.sunvm.proofs.blank_disk.BlankDiskDisk.read.Goals as goal
 
@@ -21,7 +21,7 @@ pub returns-in-Some-clause-reads : goal.returns-in-Some-clause-reads
 returns-in-Some-clause-reads c =
     let d = c.args.self.now in
     let is : slice_index_or d.places.items c.args.block None ≡ Some c.in-Some.place = sym (c.place_of.ensures ∙ ap (λ (l : List (Option ℕ)). slice_index_or l c.args.block None) c.deref.ensures.value) ∙ c.in-Some.is in
-    let own : bytes_at d.written.items c.in-Some.place ≡ c.copy_from_slice.new.self =
+    let own : written_at d.written.items c.in-Some.place ≡ c.copy_from_slice.new.self =
     bytes-or d.written.items c.in-Some.place _ (d.placed.within c.args.block c.in-Some.place is) ∙ ap (λ (b : Block). b.bytes) (sym c.index.ensures) ∙ sym c.copy_from_slice.ensures.after in
     record {
       gives = sym own ∙ sym (written-read d.places.items d.written.items d.size c.args.block c.in-Some.place c.requires.block d.few is);

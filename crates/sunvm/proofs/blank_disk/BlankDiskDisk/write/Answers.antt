@@ -2,7 +2,7 @@ use Rattle.std.proofs.Common.{◌∙◌, ◌≡◌, ◌+◌, ◌-◌, ◌<◌, �
 use Rattle.std.specs.Prelude.{slice_index_or, slice_set}
 use Rattle.block_device.specs.declared.block.Block.{Block}
 use Rattle.sunvm.specs.BlankDisks.{blank_content}
-use Rattle.sunvm.specs.BlankPlaces.{ArePlaced}
+use Rattle.sunvm.specs.BlankPlaces.{AreBlockPlaces}
 use Rattle.sunvm.proofs.BlankDiskLemmas.{content-again, content-new, few-new, placed-new, room}
 use Rattle.sunvm.proofs.blank_disk.BlankDiskDisk.write.Goals.{In-None}
 use Rattle.sunvm.proofs.blank_disk.BlankDiskDisk.write.Goals as goal
@@ -29,7 +29,7 @@ invariant_of-self-in-None c =
     record {
       small = d.small;
       few = subst (λ (l : List (Option ℕ)). length l ≤ d.size) (sym new.places) (few-new d.places.items d.written.items d.size c.args.block c.requires.block d.few n d.placed);
-      placed = subst (λ (k : ℕ). ArePlaced c.write_first.new.places.items k) (sym counted) (subst (λ (l : List (Option ℕ)). ArePlaced l (length d.written.items + 1)) (sym new.places) (placed-new d.places.items d.written.items d.size c.args.block c.requires.block d.few n d.placed));
+      placed = subst (λ (k : ℕ). AreBlockPlaces c.write_first.new.places.items k) (sym counted) (subst (λ (l : List (Option ℕ)). AreBlockPlaces l (length d.written.items + 1)) (sym new.places) (placed-new d.places.items d.written.items d.size c.args.block c.requires.block d.few n d.placed));
       room_of_places = subst (λ (k : ℕ). d.size ≤ k) (sym new.capacity) d.room_of_places;
       room_of_blocks = subst (λ (k : ℕ). d.size ≤ k) (sym new.capacity_of_blocks) d.room_of_blocks;
     }
