@@ -1,8 +1,8 @@
-//! Makes transfers of a disk in memory, of a stripe over two, or of a mirror of two: the instructions of a run tell what
-//! a transfer costs beside those of the disks.
+//! Makes transfers of a joined disk: of one disk in memory, of two that are striped, or of two that are mirrored. The
+//! instructions of a run tell what a transfer costs beside those of its disks.
 //!
-//! Arguments: which disk it is (0 one in memory, 1 a stripe, 2 a mirror; 3, 4 and 5 the same three as one type), what is
-//! done (0 reads, 1 writes), and how many times. Prints a sum of the bytes, and how many transfers the disk counted.
+//! Arguments: which joined disk it is (0 one disk, 1 a stripe, 2 a mirror), what is done (0 reads, 1 writes), and how many
+//! times. Prints a sum of the bytes, and how many transfers were counted.
 #![tactic(auto)]
 
 ghost use Rattle.std.specs.Prelude.{◌≡◌, IfSome};
@@ -12,8 +12,6 @@ ghost use Rattle.block_device.specs.MemSeen.{disk_of};
 mod transfers;
 
 use block_device::{Disk, MemDisk, Pairing};
-use disk_mirror::Mirror;
-use disk_stripe::Stripe;
 use joined_disk::JoinedDisk;
 use std::alloc::Global;
 use std::{env, io};
@@ -26,7 +24,7 @@ struct Task {
     count: u32,
 }
 
-fn made<D: Disk>(mut disk: D, task: Task) -> Option<(u64, u64)> {
+fn made(mut disk: JoinedDisk<MemDisk>, task: Task) -> Option<(u64, u64)> {
     if disk.blocks() < BLOCKS {
         return None;
     }
@@ -40,27 +38,16 @@ fn blank(alloc: Global) -> Option<MemDisk>
     MemDisk::new(alloc, BLOCKS, Vec::new(alloc)).ok()
 }
 
-fn made_joined(alloc: Global, two: bool, mirror: bool, task: Task) -> Option<(u64, u64)> {
+fn made_on(alloc: Global, kind: u32, task: Task) -> Option<(u64, u64)> {
     let first = blank(alloc)?;
-    if !two {
-        return made(JoinedDisk::pair(alloc, first, None, mirror).ok()?, task);
+    if kind == 0 {
+        return made(JoinedDisk::pair(alloc, first, None, false).ok()?, task);
     }
     let second = blank(alloc)?;
     made(
-        JoinedDisk::pair(alloc, first, Some(second), mirror).ok()?,
+        JoinedDisk::pair(alloc, first, Some(second), kind != 1).ok()?,
         task,
     )
-}
-
-fn made_on(alloc: Global, kind: u32, task: Task) -> Option<(u64, u64)> {
-    match kind {
-        0 => made(blank(alloc)?, task),
-        1 => made(Stripe::new(blank(alloc)?, blank(alloc)?), task),
-        2 => made(Mirror::new(alloc, blank(alloc)?, blank(alloc)?).ok()?, task),
-        3 => made_joined(alloc, false, false, task),
-        4 => made_joined(alloc, true, false, task),
-        _ => made_joined(alloc, true, true, task),
-    }
 }
 
 fn number_in(word: Option<String>, default: u32) -> u32 {

@@ -14,6 +14,7 @@ pub mod CutFiles
 pub mod FrameRule
 pub mod Counting
 pub mod Busy
+pub mod Crowded
 pub mod Entries
 pub mod MayFails
 pub mod StateSteps

@@ -17,6 +17,7 @@ pub mod Events
 pub mod Opening
 pub mod Laws
 pub mod Busy
+pub mod Crowded
 pub mod EntryLaws
 pub mod Plans
 pub mod StateSteps

@@ -1,6 +1,7 @@
 //! Laws of the fit. Each function does nothing: its contract is the law.
 ghost use Rattle.vm_world.specs.Busy.{BusyLaw};
 ghost use Rattle.vm_world.specs.CallSteps.{CallRule};
+ghost use Rattle.vm_world.specs.Crowded.{CrowdedLaw};
 ghost use Rattle.vm_world.specs.EntryLaws.{EntryLaw};
 ghost use Rattle.vm_world.specs.EventLaws.{EventLaw};
 ghost use Rattle.vm_world.specs.Failures.{FailureRule};
@@ -29,6 +30,13 @@ pub fn opening_law()
 #[tactic(auto, using(crate::proofs::Busy::busy_law))]
 pub fn busy_law()
     ensures { BusyLaw }
+{}
+
+/// Two processes that share a slot, a snapshot that is out, a push of a page that is gone, a tail that is pending, a call
+/// between two parts, a Sync that began and a plan that is kept fit together.
+#[tactic(auto, using(crate::proofs::Crowded::crowded_law))]
+pub fn crowded_law()
+    ensures { CrowdedLaw }
 {}
 
 /// What a step of the world does to flat memory, and one step after another.

@@ -7,9 +7,9 @@ mod wants;
 mod world;
 
 pub use laws::{
-    busy_law, call_law, counts_law, entry_law, event_law, failure_law, file_calls_law, file_law,
-    file_locks_law, fork_law, frame_law, gap_law, opening_law, protect_law, reserved_law, seat_law,
-    segment_cells_law, segment_law, serving_law, start_law, state_law,
+    busy_law, call_law, counts_law, crowded_law, entry_law, event_law, failure_law, file_calls_law,
+    file_law, file_locks_law, fork_law, frame_law, gap_law, opening_law, protect_law, reserved_law,
+    seat_law, segment_cells_law, segment_law, serving_law, start_law, state_law,
 };
 pub use segment::Segment;
 pub use wants::Wants;
