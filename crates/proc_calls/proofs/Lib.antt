@@ -1,1 +1,4 @@
 pub mod Ended
+pub mod PiecesFrom
+pub mod PiecesCopied
+pub mod Forked
