@@ -99,6 +99,13 @@ impl<D: Disk> VmState<D> {
         self.ledger.room(process)
     }
 
+    /// How many entries the history has. Constant time.
+    pub fn length(&self) -> u64
+        ensures { result ≡ length self.now.history }
+    {
+        self.ledger.history().len() as u64
+    }
+
     // Adds an entry of a process, which takes the pending tails. No Sync of the process has begun then.
     pub(crate) fn add(&mut self, process: u32, call: &Call, reply: &Reply)
         requires { length (entries_of self.old.history process)
