@@ -1,5 +1,5 @@
 -- What the end of a transfer leaves.
-use Rattle.std.proofs.Common.{◌≡◌, ℕ, Option, Some, None, refl, ap, sym, subst}
+use Rattle.std.proofs.Common.{◌≡◌, ℕ, Option, Some, None, refl, sym, subst}
 use Rattle.block_device.specs.Counts.{HasRisen}
 use Rattle.page_store.specs.Bays.{bay_at, home}
 use Rattle.page_store.specs.Flight.{FlightSeen, Progress, fresh, done, failed}

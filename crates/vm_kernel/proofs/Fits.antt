@@ -1,7 +1,6 @@
 -- What the holder of the state knows.
-use Rattle.std.proofs.Common.{◌≡◌, ℕ, suc, ◌<◌, ◌≤◌, ◌^◌, ◌==◌, Bool, true, false, cond, List, [], ◌∷◌, ◌++◌, Option, Some, None, refl, ap, sym, ◌∙◌, subst, arith, ◌⊎◌, inl, inr, length, eqb, zero}
+use Rattle.std.proofs.Common.{◌≡◌, ℕ, suc, ◌<◌, ◌≤◌, ◌^◌, ◌==◌, Bool, cond, List, [], ◌∷◌, Option, None, refl, ap, sym, ◌∙◌, subst, arith, ◌⊎◌, inl, inr, length, zero}
 use Rattle.std.proofs.lemmas.Bool.Decides.{eqb_tells}
-use mathlib.Core.List.{IsPrefix}
 use Rattle.kernel_lock.specs.Seats.{IsEntered, part_of, entries_by}
 use Rattle.vm_types.specs.declared.call.Call.{Call}
 use Rattle.vm_types.specs.declared.call.Entry.{Entry}
@@ -12,8 +11,8 @@ use Rattle.vm_world.specs.SeatLaws.{IsKnownAlive, MayComeNext}
 use Rattle.vm_world.specs.State.{KernelState, Fixed, Seats, Sent, with_sent, seats_of, seat_of, room_of}
 use Rattle.vm_world.proofs.SeatRules.{seat_law}
 use Rattle.vm_world.proofs.StateSteps.{this-seat}
-use Rattle.vm_kernel.specs.Callers.{KernelSeen, SeatSeen, CallerSeen}
-use Rattle.vm_kernel.specs.Since.{seat_of_entry, history_of, IsSince, IsSinceOpening}
+use Rattle.vm_kernel.specs.Callers.{KernelSeen, SeatSeen}
+use Rattle.vm_kernel.specs.Since.{seat_of_entry, history_of, IsSinceOpening}
 use Rattle.vm_kernel.specs.SinceLaws.{at_default}
 use Rattle.vm_kernel.specs.Turns.{MayCall}
 

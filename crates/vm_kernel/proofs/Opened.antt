@@ -1,5 +1,5 @@
 -- A state behind its lock, at the start.
-use Rattle.std.proofs.Common.{◌≡◌, ℕ, zero, suc, ◌+◌, ◌<◌, ◌⊎◌, inl, inr, List, [], ◌∷◌, ◌++◌, length, map, reverse, drop, get_or, Option, Some, None, replicate, refl, ap, sym, ◌∙◌, subst, arith, length-append}
+use Rattle.std.proofs.Common.{◌≡◌, ℕ, zero, suc, ◌+◌, ◌<◌, ◌⊎◌, inl, inr, List, [], ◌∷◌, ◌++◌, length, map, reverse, drop, get_or, Option, None, replicate, refl, ap, sym, ◌∙◌, subst, arith, length-append}
 use Rattle.std.proofs.Math.Seq.{drop-cons, get_or-append_seam}
 use Rattle.std.proofs.lemmas.List.{reverse-append, get_or_append_left}
 use Rattle.kernel_lock.specs.Seats.{AreNew, newcomer}
@@ -9,7 +9,7 @@ use Rattle.kernel_lock.specs.declared.board.SeatPart.{SeatPart}
 use Rattle.vm_types.specs.declared.call.Entry.{Entry}
 use Rattle.flat_model.specs.Flat.{Flat}
 use Rattle.vm_world.specs.Opening.{no_seats}
-use Rattle.vm_world.specs.State.{KernelState, Seats, Sent, seats_of}
+use Rattle.vm_world.specs.State.{KernelState, Sent, seats_of}
 use Rattle.vm_world.specs.StateFits.{StateFits}
 use Rattle.vm_kernel.specs.Callers.{KernelSeen, SeatSeen, CallerSeen, caller_part}
 use Rattle.vm_kernel.specs.Rooms.{IsRoomAt, AreRooms, AreNamed, IsNewSeat, callers_from}

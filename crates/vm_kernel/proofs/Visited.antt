@@ -1,11 +1,10 @@
 -- What a visit leaves of a seat.
-use Rattle.std.proofs.Common.{◌≡◌, ◌≢◌, ℕ, suc, ◌<◌, ◌≤◌, ◌+◌, ◌^◌, Bool, true, false, List, [], ◌∷◌, ◌++◌, Option, Some, None, Result, Ok, Err, refl, ap, sym, ◌∙◌, subst, arith, if◌then◌else◌, eqb, eq-eqb, le_refl, zero, ◌⊎◌, inl, inr}
+use Rattle.std.proofs.Common.{◌≡◌, ℕ, suc, ◌<◌, ◌≤◌, ◌+◌, ◌^◌, true, false, List, [], ◌∷◌, ◌++◌, Option, Some, None, Result, Ok, Err, refl, ap, sym, ◌∙◌, subst, arith, if◌then◌else◌, eqb, eq-eqb, le_refl, ◌⊎◌}
 use Rattle.std.specs.Prelude.{All, IsFalse, is_some}
 use Rattle.std.proofs.lemmas.List.{append-nil}
 use Rattle.std.proofs.lemmas.List.Elements.{filter-append, All-nil, All-cons}
-use Rattle.std.proofs.lemmas.Bool.{false≢true}
 use mathlib.Core.List.{IsPrefix}
-use Rattle.kernel_lock.specs.Seats.{IsEntered, IsSeatOf, HasTried, after_enter, after_leave, after_refusal, part_of, entries_by, empties}
+use Rattle.kernel_lock.specs.Seats.{IsEntered, HasTried, after_enter, after_leave, after_refusal, part_of, entries_by, empties}
 use Rattle.kernel_lock.proofs.Begun.{prefix_more, prefix_self}
 use Rattle.flat_model.specs.History.{is_io}
 use Rattle.page_store.specs.declared.plan.Hold.{Hold}
@@ -16,12 +15,11 @@ use Rattle.vm_types.specs.declared.call.Reply.{Reply}
 use Rattle.vm_types.specs.declared.call.Reply.TheVariants as reply
 use Rattle.vm_world.specs.ServingLaws.{done_entry}
 use Rattle.vm_world.specs.State.{KernelState, Sent, seat_of}
-use Rattle.vm_world.specs.Wants.{MayHold}
-use Rattle.vm_kernel.specs.Callers.{KernelSeen, SeatSeen, CallerSeen, IsIdle}
+use Rattle.vm_kernel.specs.Callers.{SeatSeen, CallerSeen, IsIdle}
 use Rattle.vm_kernel.specs.Notes.{InHand}
 use Rattle.vm_kernel.specs.Since.{seat_of_entry, history_of, IsSinceOpening}
-use Rattle.vm_kernel.specs.Steps.{TriesCall, EndsFlight, IsNoteFor}
-use Rattle.vm_kernel.specs.Turns.{CallerGoesOn, IsTurn, IsFirstHalf, IsCallDone, LacksMemory, HasMet, HasMoved, HasFailed, HasCauseFor, ShowsError, IsForCall, caller_at, turn_of_try, turn_of_end, why_of}
+use Rattle.vm_kernel.specs.Steps.{IsNoteFor}
+use Rattle.vm_kernel.specs.Turns.{CallerGoesOn, IsTurn, IsFirstHalf, IsCallDone, LacksMemory, HasMet, HasCauseFor, ShowsError, IsForCall, caller_at, turn_of_try, turn_of_end, why_of}
 use Rattle.vm_kernel.specs.Visits.{GoesOut, LeavesTry, LeavesEnd, LeavesHand, Visit}
 use Rattle.vm_kernel.specs.declared.sent.SentFlight.{SentFlight}
 use Rattle.vm_kernel.specs.declared.turn.Turn.{Turn}

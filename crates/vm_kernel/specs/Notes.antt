@@ -1,8 +1,6 @@
 -- What a seat has outside the lock. Public clauses cite this.
-use Rattle.std.specs.Prelude.{◌≡◌, ℕ, false, [], Option, Some, None}
-use Rattle.block_device.specs.DiskSeen.{DiskSeen}
+use Rattle.std.specs.Prelude.{◌≡◌, false, [], Option, Some, None}
 use Rattle.page_store.specs.Flight.{note_of, fresh}
-use Rattle.page_store.specs.Notes.{Note}
 use Rattle.vm_core.specs.Flights.{IsBack}
 use Rattle.vm_world.specs.State.{Sent}
 use Rattle.vm_world.specs.World.{file_name}

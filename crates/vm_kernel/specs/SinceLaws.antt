@@ -1,15 +1,11 @@
 -- The two laws of the lock, from the event alone. Inside: no public clause cites this.
-use Rattle.std.specs.Prelude.{◌≡◌, ℕ, ◌<◌, List, [], ◌∷◌, ◌++◌, length, Option, Some, None, All, slice_set, slice_index_or}
-use Rattle.std.proofs.Common.{refl, ap, sym, subst, ◌∙◌, zero, suc, arith}
+use Rattle.std.specs.Prelude.{◌≡◌, ℕ, ◌<◌, List, [], ◌∷◌, ◌++◌, length, Option, None, All, slice_set, slice_index_or}
+use Rattle.std.proofs.Common.{sym, subst, ◌∙◌, zero, suc, arith}
 use mathlib.Core.Option.{some, some-injective, some-ne-none}
 use lib.ListN.{get_elem?}
 use Rattle.vm_types.specs.declared.call.Entry.{Entry}
-use Rattle.flat_model.specs.Flat.{Flat}
-use Rattle.vm_world.specs.DiskPlaces.{KeepSizes, seen_in}
 use Rattle.vm_world.specs.Events.{IsEvent}
-use Rattle.vm_world.specs.Opening.{no_seats}
-use Rattle.vm_world.specs.State.{KernelState, Seats, Sent, notes_of, seats_of, fixed_of, with_sent}
-use Rattle.vm_world.specs.StateFits.{StateFits}
+use Rattle.vm_world.specs.State.{KernelState, Seats, Sent, seats_of, with_sent}
 use Rattle.vm_world.proofs.Told.{event_law}
 use Rattle.kernel_lock.specs.Laws.{Keeps, Grows}
 use Rattle.vm_kernel.specs.Since.{seat_of_entry, history_of, IsSince, IsSinceOpening, Moves}

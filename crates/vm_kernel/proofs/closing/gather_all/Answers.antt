@@ -1,4 +1,4 @@
-use Rattle.std.proofs.Common.{◌≡◌, ◌++◌, ◌∷◌, map, sym, ap, ◌∙◌, subst}
+use Rattle.std.proofs.Common.{◌++◌, ◌∷◌, map, sym, ap, ◌∙◌, subst}
 use Rattle.kernel_lock.specs.Seats.{IsSeatOf, part_of}
 use Rattle.kernel_lock.proofs.Begun.{popped, taken_over}
 use Rattle.vm_kernel.specs.Callers.{SeatSeen, IsCallerOf, caller_part}

@@ -1,7 +1,7 @@
-use Rattle.std.proofs.Common.{◌≡◌, ℕ, ◌+◌, ◌<◌, ◌≤◌, length, vec_len, ap, sym, ◌∙◌, subst, arith}
+use Rattle.std.proofs.Common.{◌≡◌, ℕ, ◌≤◌, length, vec_len, ap, sym, ◌∙◌, subst, arith}
 use Rattle.std.specs.Prelude.{slice_index_or}
 use Rattle.kernel_lock.specs.Seats.{newcomer}
-use Rattle.vm_kernel.specs.Callers.{SeatSeen, CallerSeen}
+use Rattle.vm_kernel.specs.Callers.{SeatSeen}
 use Rattle.vm_kernel.specs.declared.starting.Room.{Room}
 use Rattle.vm_kernel.proofs.Opened.{one-more, unused, popped-new, named-seat}
 use Rattle.vm_kernel.proofs.starting.seat_callers.Goals as goal

@@ -1,6 +1,6 @@
 use Rattle.std.proofs.Common.{refl, subst}
 use Rattle.vm_kernel.specs.Turns.{IsTurn}
-use Rattle.vm_kernel.proofs.Calling.{goes-not, goes-both, may-still, done-since}
+use Rattle.vm_kernel.proofs.Calling.{goes-not, may-still, done-since}
 use Rattle.vm_kernel.proofs.kernel.VmKernel.call.Goals as goal
 
 pub loop-init : goal.loop-init
