@@ -1,0 +1,89 @@
+-- A call that takes several turns.
+use Rattle.std.proofs.Common.{◌≡◌, ℕ, Bool, true, false, List, ◌++◌, refl, ap, sym, ◌∙◌, subst, arith, append_assoc, le_refl}
+use Rattle.std.specs.Prelude.{IsTrue, ◌||◌}
+use Rattle.std.specs.List.{list_any}
+use Rattle.std.proofs.lemmas.List.Folds.{list_any-append}
+use mathlib.Core.List.{IsPrefix}
+use Rattle.kernel_lock.proofs.Begun.{prefix_self}
+use Rattle.flat_model.specs.Births.{is_birth}
+use Rattle.vm_types.specs.declared.call.Call.{Call}
+use Rattle.vm_types.specs.declared.call.Entry.{Entry}
+use Rattle.vm_types.specs.declared.call.Reply.{Reply}
+use Rattle.vm_world.specs.SeatLaws.{IsKnownAlive, MayComeNext}
+use Rattle.vm_world.specs.State.{is_top}
+use Rattle.vm_kernel.specs.Callers.{KernelSeen, CallerSeen, ShowsOwn}
+use Rattle.vm_kernel.specs.Turns.{MayCall, CallerGoesOn, IsTurn, IsCallDone, LacksMemory, IsForCall, caller_at}
+use Rattle.vm_kernel.specs.declared.turn.Turn.{Turn}
+use Rattle.vm_kernel.proofs.Visited.{turn-later, done-later, refused-later}
+
+prefix-then : {A : Type 0} (xs ys zs : List A) → IsPrefix xs ys → IsPrefix ys zs → IsPrefix xs zs
+prefix-then xs ys zs a b = (a.0 ++ b.0, sym (append_assoc xs a.0 b.0) ∙ ap (λ (w : _). w ++ b.0) a.1 ∙ b.1)
+
+-- who was known to be alive is so by more that was seen
+more-alive : (parents : List ℕ) (seen later own : List Entry) (p : ℕ) → IsPrefix seen later → IsKnownAlive parents seen own p → IsKnownAlive parents later own p
+more-alive parents seen later own p begins alive = record { born = by_top (is_top parents p) alive.born; here = alive.here }
+  where
+    longer : list_any (is_birth p) later ≡ (list_any (is_birth p) seen || list_any (is_birth p) begins.0)
+    longer = ap (list_any (is_birth p)) (sym begins.1) ∙ list_any-append (is_birth p) seen begins.0
+
+    or-first : (a b : Bool) → a ≡ true → (a || b) ≡ true
+    or-first true b is = refl
+    or-first false b is = absurd (cc (is))
+
+    by_top : (t : Bool) → IsTrue (t || list_any (is_birth p) seen) → IsTrue (t || list_any (is_birth p) later)
+    by_top true born = refl
+    by_top false born = longer ∙ or-first (list_any (is_birth p) seen) (list_any (is_birth p) begins.0) born
+
+pub goes-not : (c : CallerSeen) → ShowsOwn c → CallerGoesOn c c
+goes-not c own = record { process = refl; number = refl; seen = prefix_self c.seat.seen; own = own; refused = le_refl c.seat.refused; leaves = le_refl c.seat.leaves; emptied = le_refl c.seat.emptied }
+
+pub goes-both : (c m d : CallerSeen) → CallerGoesOn c m → CallerGoesOn m d → CallerGoesOn c d
+goes-both c m d a b = record {
+  process = b.process ∙ a.process;
+  number = b.number ∙ a.number;
+  seen = prefix-then c.seat.seen m.seat.seen d.seat.seen a.seen b.seen;
+  own = b.own;
+  refused = let x = a.refused in let y = b.refused in omega (arith, x, y);
+  leaves = let x = a.leaves in let y = b.leaves in omega (arith, x, y);
+  emptied = let x = a.emptied in let y = b.emptied in omega (arith, x, y);
+}
+
+pub may-still : (k : KernelSeen) (c m : CallerSeen) (call : Call) → MayCall k c call → CallerGoesOn c m → m.seat.own ≡ c.seat.own → IsForCall c.process call m.seat.note → MayCall k m call
+may-still k c m call may goes own hand = record {
+  formed = may.formed;
+  served = may.served;
+  alive =
+      subst (λ (q : ℕ). IsKnownAlive k.opening.parents m.seat.seen m.seat.own q) (sym goes.process)
+      (subst (λ (es : List Entry). IsKnownAlive k.opening.parents m.seat.seen es c.process) (sym own)
+      (more-alive k.opening.parents c.seat.seen m.seat.seen c.seat.own c.process goes.seen may.alive));
+  next =
+      subst (λ (q : ℕ). MayComeNext k.opening.parents k.opening.entries m.seat.own q call) (sym goes.process)
+      (subst (λ (es : List Entry). MayComeNext k.opening.parents k.opening.entries es c.process call) (sym own) may.next);
+  hand = subst (λ (q : ℕ). IsForCall q call m.seat.note) (sym goes.process) hand;
+}
+
+module _ (c m d : CallerSeen) (call : Call) (first : CallerGoesOn c m) (then' : CallerGoesOn m d) (own : m.seat.own ≡ c.seat.own) where
+  -- by the process that they share
+  at-mid : m ≡ caller_at m.seat c.process
+  at-mid = ap (caller_at m.seat) first.process
+
+  at-last : d ≡ caller_at d.seat c.process
+  at-last = ap (caller_at d.seat) (then'.process ∙ first.process)
+
+  goes-mid : CallerGoesOn c (caller_at m.seat c.process)
+  goes-mid = subst (CallerGoesOn c) at-mid first
+
+  pub turn-since : (turn : Turn) → IsTurn m call d turn → IsTurn c call d turn
+  turn-since turn has =
+      subst (λ (x : CallerSeen). IsTurn c call x turn) (sym at-last)
+      (turn-later c.seat m.seat d.seat c.process call goes-mid turn own (subst (λ (x : CallerSeen). IsTurn x call (caller_at d.seat c.process) turn) at-mid (subst (λ (x : CallerSeen). IsTurn m call x turn) at-last has)))
+
+  pub done-since : (r : Reply) → IsCallDone m call d r → IsCallDone c call d r
+  done-since r has =
+      subst (λ (x : CallerSeen). IsCallDone c call x r) (sym at-last)
+      (done-later c.seat m.seat d.seat c.process call goes-mid r own (subst (λ (x : CallerSeen). IsCallDone x call (caller_at d.seat c.process) r) at-mid (subst (λ (x : CallerSeen). IsCallDone m call x r) at-last has)))
+
+  pub refused-since : LacksMemory m call d → LacksMemory c call d
+  refused-since has =
+      subst (λ (x : CallerSeen). LacksMemory c call x) (sym at-last)
+      (refused-later c.seat m.seat d.seat c.process call goes-mid own (subst (λ (x : CallerSeen). LacksMemory x call (caller_at d.seat c.process)) at-mid (subst (λ (x : CallerSeen). LacksMemory m call x) at-last has)))

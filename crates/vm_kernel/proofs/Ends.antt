@@ -1,0 +1,39 @@
+-- What the end of a transfer leaves.
+use Rattle.std.proofs.Common.{◌≡◌, ℕ, Option, Some, None, refl, sym, subst}
+use Rattle.block_device.specs.Counts.{HasRisen}
+use Rattle.page_store.specs.Bays.{bay_at, home}
+use Rattle.page_store.specs.Flight.{FlightSeen, Progress, fresh, done, failed}
+use Rattle.vm_types.specs.declared.call.Reply.{Reply}
+use Rattle.vm_types.specs.declared.call.Reply.TheVariants.{Io}
+use Rattle.vm_core.specs.Flights.{IsBack, EndsWith, answer_at_end, error_at_end}
+use Rattle.vm_world.specs.State.{KernelState, Sent, Caller}
+use Rattle.vm_kernel.specs.Steps.{EndsFlight}
+
+pub ended : (old new : KernelState) (note : Sent) (f : FlightSeen) (of : Option Caller) (r : Option Reply) → IsBack note f of → r ≡ answer_at_end f of → EndsWith old new of r
+    → bay_at new.memory.world.store.bays f.number ≡ home f.disk → EndsFlight old new note r
+ended old new note f None None back is ends at = ends.none.history
+ended old new note f None (Some r) back is ends at = absurd ends
+ended old new note f (Some of) None back is ends at = ends.none.history
+ended old new note f (Some of) (Some r) back is ends at = by_outcome f.outcome refl is
+  where
+    by_outcome : (p : Progress) → f.outcome ≡ p → Some r ≡ error_at_end f p → EndsFlight old new note (Some r)
+    by_outcome fresh e q = absurd (cc (q))
+    by_outcome done e q = absurd (cc (q))
+    by_outcome failed e q =
+        let same : r ≡ Io f.number f.before f.disk.faults = cc (q) in (
+          of,
+          back.same,
+          (old.pending, ends.history),
+          f.number,
+          f.before,
+          f.disk.faults,
+          same,
+          record {
+            number = sym back.performed.number;
+            counted = sym back.performed.before;
+            risen = subst (λ (b : ℕ). HasRisen b f.disk.faults) (sym back.performed.before) (back.performed.risen e);
+            seen = f.disk;
+            home = at;
+            count = refl;
+          },
+        )

@@ -1,0 +1,354 @@
+-- What a visit leaves of a seat.
+use Rattle.std.proofs.Common.{◌≡◌, ℕ, suc, ◌<◌, ◌≤◌, ◌+◌, ◌^◌, true, false, List, [], ◌∷◌, ◌++◌, Option, Some, None, Result, Ok, Err, refl, ap, sym, ◌∙◌, subst, arith, if◌then◌else◌, eqb, eq-eqb, le_refl, ◌⊎◌}
+use Rattle.std.specs.Prelude.{All, IsFalse, is_some}
+use Rattle.std.proofs.lemmas.List.{append-nil}
+use Rattle.std.proofs.lemmas.List.Elements.{filter-append, All-nil, All-cons}
+use mathlib.Core.List.{IsPrefix}
+use Rattle.kernel_lock.specs.Seats.{IsEntered, HasTried, after_enter, after_leave, after_refusal, part_of, entries_by, empties}
+use Rattle.kernel_lock.proofs.Begun.{prefix_more, prefix_self}
+use Rattle.flat_model.specs.History.{is_io}
+use Rattle.page_store.specs.declared.plan.Hold.{Hold}
+use Rattle.page_store.specs.declared.plan.Hold.TheVariants as hold
+use Rattle.vm_types.specs.declared.call.Call.{Call}
+use Rattle.vm_types.specs.declared.call.Entry.{Entry}
+use Rattle.vm_types.specs.declared.call.Reply.{Reply}
+use Rattle.vm_types.specs.declared.call.Reply.TheVariants as reply
+use Rattle.vm_world.specs.ServingLaws.{done_entry}
+use Rattle.vm_world.specs.State.{KernelState, Sent, seat_of}
+use Rattle.vm_kernel.specs.Callers.{SeatSeen, CallerSeen, IsIdle}
+use Rattle.vm_kernel.specs.Notes.{InHand}
+use Rattle.vm_kernel.specs.Since.{seat_of_entry, history_of, IsSinceOpening}
+use Rattle.vm_kernel.specs.Steps.{IsNoteFor}
+use Rattle.vm_kernel.specs.Turns.{CallerGoesOn, IsTurn, IsFirstHalf, IsCallDone, LacksMemory, HasMet, HasCauseFor, ShowsError, IsForCall, caller_at, turn_of_try, turn_of_end, why_of}
+use Rattle.vm_kernel.specs.Visits.{GoesOut, LeavesTry, LeavesEnd, LeavesHand, Visit}
+use Rattle.vm_kernel.specs.declared.sent.SentFlight.{SentFlight}
+use Rattle.vm_kernel.specs.declared.turn.Turn.{Turn}
+use Rattle.vm_kernel.specs.declared.turn.Turn.TheVariants.{Done, Again}
+use Rattle.vm_kernel.specs.declared.turn.Why.{Why}
+use Rattle.vm_kernel.specs.declared.turn.Why.TheVariants.{LockHeld, PageBusy, DiskOut, FileBusy, Moved}
+use Rattle.vm_kernel.specs.declared.steps.Tried.{Tried}
+use Rattle.vm_kernel.specs.declared.steps.Tried.TheVariants as tried
+
+-- all entries of one seat
+all-of : (k : ℕ) (es : List Entry) → All (λ (e : Entry). seat_of_entry e ≡ k) es → entries_by seat_of_entry k es ≡ es
+all-of k [] all = refl
+all-of k (e ∷ es) all =
+    let here : seat_of_entry e ≡ k = all 0 e (omega arith) in
+    let on : eqb (seat_of_entry e) k ≡ true = eq-eqb (seat_of_entry e) k here in
+    rw on (ap (λ z. e ∷ z) (all-of k es (λ i d lt. all (suc i) d (omega (arith, lt)))))
+
+pub came-in : (c : SeatSeen) (s : KernelState) → HasTried (after_enter c s) (after_enter c s)
+came-in c s = (c.refused, c.refused_by, le_refl c.refused, refl)
+
+-- FROM OUTSIDE TO OUTSIDE
+pub visited : (opening : KernelState) (n : ℕ) (c b d : SeatSeen) (s t : KernelState) (m : Option Sent) (added : List Entry) → IsEntered seat_of_entry history_of IsSinceOpening opening n (part_of c) s
+    → HasTried (after_enter c s) b → GoesOut b s t m d → t.history ≡ s.history ++ added → All (λ (e : Entry). seat_of_entry e ≡ c.number) added → Visit c t m added d
+visited opening n c b d s t m added came tries out longer by =
+    let e : d ≡ after_leave seat_of_entry history_of (record (after_enter c s) { refused = tries.0; refused_by = tries.1 }) t m =
+    out.new ∙ ap (λ (v : SeatSeen). after_leave seat_of_entry history_of v t m) tries.3 in
+    let up = tries.2 in
+    let own : entries_by seat_of_entry c.number t.history ≡ c.own ++ added =
+    ap (entries_by seat_of_entry c.number) longer ∙ filter-append (λ (x : Entry). eqb (seat_of_entry x) c.number) s.history added
+    ∙ ap (λ (l : List Entry). l ++ entries_by seat_of_entry c.number added) came.holds.2 ∙ ap (λ (l : List Entry). c.own ++ l) (all-of c.number added by) in
+    record {
+      lock = ap (λ v. v.lock) e;
+      opening = ap (λ v. v.opening) e;
+      seats = ap (λ v. v.seats) e;
+      number = ap (λ v. v.number) e;
+      outside = ap (λ v. v.inside) e;
+      noted = ap (λ v. v.note) e;
+      state = ap (λ v. v.state) e;
+      own = ap (λ v. v.own) e ∙ own;
+      seen = subst (IsPrefix c.seen) (sym (ap (λ v. v.seen) e ∙ longer)) (prefix_more c.seen s.history added came.holds.1);
+      whole = subst (λ (v : SeatSeen). entries_by seat_of_entry v.number v.seen ≡ v.own) (sym e) refl;
+      refused = subst (λ (v : SeatSeen). c.refused ≤ v.refused) (sym e) up;
+      leaves = subst (λ (v : SeatSeen). c.leaves < v.leaves) (sym e) (omega arith);
+      emptied = ap (λ v. v.emptied) e;
+      last = ap (λ v. v.last_emptied) e;
+    }
+
+emptied-up : (n m : Option Sent) (k : ℕ) → k ≤ (if empties n m then k + 1 else k)
+emptied-up None m k = le_refl k
+emptied-up (Some x) None k = omega arith
+emptied-up (Some x) (Some y) k = le_refl k
+
+module _ (c d : SeatSeen) (t : KernelState) (m : Option Sent) (added : List Entry) (p : ℕ) (visit : Visit c t m added d) where
+  pub idle-then : {D : Type 0} (old new : Option (SentFlight D)) → IsIdle c p old → InHand new m → IsIdle d p new
+  idle-then old new was hand = record {
+    outside = visit.outside;
+    low = subst (λ (k : ℕ). k < 2 ^ 32) (sym visit.number) was.low;
+    own = visit.whole;
+    named = subst (λ (k : ℕ). (p ≡ 0) ⊎ (p ≡ suc k)) (sym visit.number) was.named;
+    hand = subst (λ (o : Option Sent). InHand new o) (sym visit.noted) hand;
+  }
+
+  pub goes-then : CallerGoesOn (caller_at c p) (caller_at d p)
+  goes-then = record {
+    process = refl;
+    number = visit.number;
+    seen = visit.seen;
+    own = visit.whole;
+    refused = visit.refused;
+    leaves = let lt = visit.leaves in omega (arith, lt);
+    emptied = subst (λ (k : ℕ). c.emptied ≤ k) (sym visit.emptied) (emptied-up c.note m c.emptied);
+  }
+
+-- A REFUSED TRY
+module _ (c d : SeatSeen) (by : ℕ) (p : ℕ) (is : d ≡ after_refusal c by) where
+  pub idle-refused : {D : Type 0} (sent : Option (SentFlight D)) → IsIdle c p sent → IsIdle d p sent
+  idle-refused sent was = subst (λ (v : SeatSeen). IsIdle v p sent) (sym is) (record { outside = was.outside; low = was.low; own = was.own; named = was.named; hand = was.hand })
+
+  pub goes-refused : entries_by seat_of_entry c.number c.seen ≡ c.own → CallerGoesOn (caller_at c p) (caller_at d p)
+  goes-refused own = subst (λ (v : SeatSeen). CallerGoesOn (caller_at c p) (caller_at v p)) (sym is) (record {
+    process = refl;
+    number = refl;
+    seen = prefix_self c.seen;
+    own = own;
+    refused = omega arith;
+    leaves = le_refl c.leaves;
+    emptied = le_refl c.emptied;
+  })
+
+  pub turn-refused : (call : Call) → IsForCall p call c.note → IsTurn (caller_at c p) call (caller_at d p) (Again LockHeld)
+  turn-refused call hand = subst (λ (v : SeatSeen). IsTurn (caller_at c p) call (caller_at v p) (Again LockHeld)) (sym is) (refl, hand, omega arith)
+
+-- A TRY
+plain-reply : (c : CallerSeen) (call : Call) (d : CallerSeen) (r : Reply) → IsFalse (is_io r) → ShowsError c call d r
+plain-reply c call d reply.Done plain = tt
+plain-reply c call d (reply.Word w) plain = tt
+plain-reply c call d (reply.Mapped a) plain = tt
+plain-reply c call d (reply.Bytes l) plain = tt
+plain-reply c call d (reply.Synced n) plain = tt
+plain-reply c call d (reply.Signal s) plain = tt
+plain-reply c call d (reply.Refused e) plain = tt
+plain-reply c call d (reply.Io disk before after) plain = absurd (let z : true ≡ false = plain in cc (z))
+
+met : (c : CallerSeen) (call : Call) (d : CallerSeen) (h : Hold) → HasMet c call d h → HasCauseFor c call d (why_of h)
+met c call d (hold.Page t) has = has
+met c call d (hold.Disk t) has = has
+met c call d (hold.File t) has = has
+
+for-none : (p : ℕ) (call : Call) (o : Option Sent) → o ≡ None → IsForCall p call o
+for-none p call o is = subst (IsForCall p call) (sym is) tt
+
+-- What a try comes to, from outside to outside.
+pub record Comes {E : Type 0} (c : SeatSeen) (p : ℕ) (call : Call) (d : SeatSeen) (note : Option Sent) (result : Result Tried E) : Type 0 where
+  pub state : KernelState
+  pub added : List Entry
+  pub visit : Visit c state note added d
+  pub half : IsFirstHalf (caller_at c p) call (caller_at d p) (turn_of_try result)
+
+module _ (opening : KernelState) (n : ℕ) (c b d : SeatSeen) (s : KernelState) (p : ℕ) (call : Call) (note : Option Sent) (came : IsEntered seat_of_entry history_of IsSinceOpening opening n (part_of c) s)
+    (in' : HasTried (after_enter c s) b) (named : p ≡ suc c.number) where
+  none-added : (t : KernelState) → t.history ≡ s.history → GoesOut b s t note d → Visit c t note [] d
+  none-added t same out = visited opening n c b d s t note [] came in' out (same ∙ sym (append-nil s.history)) (All-nil (λ (e : Entry). seat_of_entry e ≡ c.number))
+
+  pub tried-comes : {E : Type 0} (result : Result Tried E) → LeavesTry b s p call d note result → Comes c p call d note result
+  tried-comes (Ok (tried.Done r)) (t, out, ((cleared, longer), plain, none)) =
+      let e = done_entry p call r cleared in
+      let visit = visited opening n c b d s t note (e ∷ []) came in' out longer (All-cons (λ (x : Entry). seat_of_entry x ≡ c.number) e [] (ap seat_of named) (All-nil (λ (x : Entry). seat_of_entry x ≡ c.number))) in
+      record {
+        state = t;
+        added = e ∷ [];
+        visit = visit;
+        half = record { entry = (cleared, visit.own); free = visit.noted ∙ none; error = plain-reply (caller_at c p) call (caller_at d p) r plain };
+      }
+  tried-comes (Ok tried.Out) (t, out, (same, for')) =
+      let visit = none-added t same out in
+      record { state = t; added = []; visit = visit; half = (visit.own ∙ append-nil c.own, subst (IsNoteFor p call) (sym visit.noted) for') }
+  tried-comes (Ok (tried.Busy h)) (t, out, (same, holds, none)) =
+      let visit = none-added t same out in
+      record {
+        state = t;
+        added = [];
+        visit = visit;
+        half = (
+          visit.own ∙ append-nil c.own,
+          for-none p call d.note (visit.noted ∙ none),
+          met (caller_at c p) call (caller_at d p) h (record {
+            leaves = visit.leaves;
+            state = t;
+            left = visit.state;
+            holds = holds;
+            other = λ same'. holds.other (same' ∙ sym (ap seat_of named));
+            free = visit.noted ∙ none;
+          }),
+        );
+      }
+  tried-comes (Err e) (t, out, (same, takes, none)) =
+      let visit = none-added t same out in
+      record { state = t; added = []; visit = visit; half = record { takes = takes; none = visit.own ∙ append-nil c.own; free = visit.noted ∙ none } }
+
+-- THE END OF A TRANSFER
+pub record Ends (c : SeatSeen) (p : ℕ) (call : Call) (d : SeatSeen) (result : Option Reply) : Type 0 where
+  pub state : KernelState
+  pub added : List Entry
+  pub visit : Visit c state None added d
+  pub turn : IsTurn (caller_at c p) call (caller_at d p) (turn_of_end result)
+
+some-emptied : (o : Option Sent) (note : Sent) (k : ℕ) → o ≡ Some note → k < (if empties o None then k + 1 else k)
+some-emptied None note k is = absurd (cc (is))
+some-emptied (Some x) note k is = omega arith
+
+last-emptied : (o last : Option Sent) (note : Sent) → o ≡ Some note → (if empties o None then o else last) ≡ Some note
+last-emptied None last note is = absurd (cc (is))
+last-emptied (Some x) last note is = is
+
+module _ (opening : KernelState) (n : ℕ) (c b d : SeatSeen) (s : KernelState) (p : ℕ) (call : Call) (note : Sent) (came : IsEntered seat_of_entry history_of IsSinceOpening opening n (part_of c) s)
+    (in' : HasTried (after_enter c s) b) (named : p ≡ suc c.number) (noted : c.note ≡ Some note) (for' : note.of ≡ Some (p, call)) where
+  pub ended-comes : (result : Option Reply) → LeavesEnd b s note d result → Ends c p call d result
+  ended-comes None (t, out, same) =
+      let visit = visited opening n c b d s t None [] came in' out (same ∙ sym (append-nil s.history)) (All-nil (λ (e : Entry). seat_of_entry e ≡ c.number)) in
+      record {
+        state = t;
+        added = [];
+        visit = visit;
+        turn = (
+          visit.own ∙ append-nil c.own,
+          for-none p call d.note visit.noted,
+          record {
+            emptied = subst (λ (k : ℕ). c.emptied < k) (sym visit.emptied) (some-emptied c.note note c.emptied noted);
+            note = note;
+            last = visit.last ∙ last-emptied c.note c.last_emptied note noted;
+            of = for';
+            free = visit.noted;
+          },
+        );
+      }
+  ended-comes (Some r) (t, out, (of, is, (cleared, longer), disk, before, after, io, error)) =
+      let mine : of ≡ (p, call) = cc (is, for') in
+      let longer' : t.history ≡ s.history ++ done_entry p call r cleared ∷ [] = longer ∙ ap (λ (o : ℕ × Call). s.history ++ done_entry o.0 o.1 r cleared ∷ []) mine in
+      let e = done_entry p call r cleared in
+      let visit = visited opening n c b d s t None (e ∷ []) came in' out longer' (All-cons (λ (x : Entry). seat_of_entry x ≡ c.number) e [] (ap seat_of named) (All-nil (λ (x : Entry). seat_of_entry x ≡ c.number))) in
+      record {
+        state = t;
+        added = e ∷ [];
+        visit = visit;
+        turn = record {
+          entry = (cleared, visit.own);
+          free = visit.noted;
+          error = subst (ShowsError (caller_at c p) call (caller_at d p)) (sym io) (record {
+            risen = error.risen;
+            emptied = subst (λ (k : ℕ). c.emptied < k) (sym visit.emptied) (some-emptied c.note note c.emptied noted);
+            note = note;
+            last = visit.last ∙ last-emptied c.note c.last_emptied note noted;
+            of = for';
+            number = error.number;
+            counted = error.counted;
+            state = t;
+            left = visit.state;
+            seen = error.seen;
+            home = error.home;
+            count = error.count;
+          });
+        };
+      }
+
+-- A TURN THAT BEGAN EARLIER
+module _ (v m d : SeatSeen) (p : ℕ) (call : Call) (goes : CallerGoesOn (caller_at v p) (caller_at m p)) where
+  met-later : (h : Hold) → HasMet (caller_at m p) call (caller_at d p) h → HasMet (caller_at v p) call (caller_at d p) h
+  met-later h has = record {
+    leaves = let a = has.leaves in let b = goes.leaves in omega (arith, a, b);
+    state = has.state;
+    left = has.left;
+    holds = has.holds;
+    other = λ same. has.other (same ∙ sym goes.number);
+    free = has.free;
+  }
+
+  cause-later : (why : Why) → HasCauseFor (caller_at m p) call (caller_at d p) why → HasCauseFor (caller_at v p) call (caller_at d p) why
+  cause-later LockHeld has = let b = goes.refused in omega (arith, has, b)
+  cause-later (PageBusy t) has = met-later (hold.Page t) has
+  cause-later (DiskOut t) has = met-later (hold.Disk t) has
+  cause-later (FileBusy t) has = met-later (hold.File t) has
+  cause-later Moved has = record { emptied = let a = has.emptied in let b = goes.emptied in omega (arith, a, b); note = has.note; last = has.last; of = has.of; free = has.free }
+
+  error-later : (r : Reply) → ShowsError (caller_at m p) call (caller_at d p) r → ShowsError (caller_at v p) call (caller_at d p) r
+  error-later reply.Done has = tt
+  error-later (reply.Word w) has = tt
+  error-later (reply.Mapped a) has = tt
+  error-later (reply.Bytes l) has = tt
+  error-later (reply.Synced n) has = tt
+  error-later (reply.Signal s) has = tt
+  error-later (reply.Refused e) has = tt
+  error-later (reply.Io disk before after) has = record {
+    risen = has.risen;
+    emptied = let a = has.emptied in let b = goes.emptied in omega (arith, a, b);
+    note = has.note;
+    last = has.last;
+    of = has.of;
+    number = has.number;
+    counted = has.counted;
+    state = has.state;
+    left = has.left;
+    seen = has.seen;
+    home = has.home;
+    count = has.count;
+  }
+
+  pub done-later : (r : Reply) → m.own ≡ v.own → IsCallDone (caller_at m p) call (caller_at d p) r → IsCallDone (caller_at v p) call (caller_at d p) r
+  done-later r own has = record {
+    entry = (has.entry.0, has.entry.1 ∙ ap (λ (l : List Entry). l ++ done_entry p call r has.entry.0 ∷ []) own);
+    free = has.free;
+    error = error-later r has.error;
+  }
+
+  pub turn-later : (turn : Turn) → m.own ≡ v.own → IsTurn (caller_at m p) call (caller_at d p) turn → IsTurn (caller_at v p) call (caller_at d p) turn
+  turn-later (Done r) own has = done-later r own has
+  turn-later (Again why) own has = (has.0 ∙ own, has.1, cause-later why has.2)
+
+  pub refused-later : m.own ≡ v.own → LacksMemory (caller_at m p) call (caller_at d p) → LacksMemory (caller_at v p) call (caller_at d p)
+  refused-later own has = record { takes = has.takes; none = has.none ∙ own; free = has.free }
+
+-- WHAT IS IN HAND
+pub no-note : {D : Type 0} (sent : Option (SentFlight D)) (o : Option Sent) → sent ≡ None → InHand sent o → o ≡ None
+no-note None None is hand = refl
+no-note None (Some n) is hand = absurd hand
+no-note (Some x) o is hand = absurd (cc (is))
+
+pub note-for : (p : ℕ) (call : Call) (o : Option Sent) → IsNoteFor p call o → (note : Sent) × (o ≡ Some note) × (note.of ≡ Some (p, call))
+note-for p call None for' = absurd for'
+note-for p call (Some note) for' = (note, refl, for')
+
+pub hand-for : {D : Type 0} (sent : Option (SentFlight D)) (o : Option Sent) (p : ℕ) (call : Call) → is_some sent ≡ true → InHand sent o → IsForCall p call o → IsNoteFor p call o
+hand-for None o p call is hand for' = absurd (let z : false ≡ true = is in cc (z))
+hand-for (Some x) None p call is hand for' = absurd hand
+hand-for (Some x) (Some n) p call is hand for' = for'
+
+pub half-out : {E : Type 0} (c : CallerSeen) (call : Call) (d : CallerSeen) (r : Option Turn) (whole : Result (Option Turn) E) → whole ≡ Ok r → r ≡ None → IsFirstHalf c call d whole → (d.seat.own ≡ c.seat.own) × IsNoteFor c.process call d.seat.note
+half-out c call d r (Ok None) is none half = half
+half-out c call d r (Ok (Some t)) is none half = absurd (cc (is, none))
+half-out c call d r (Err e) is none half = absurd (cc (is))
+
+pub entered-so : (c b : SeatSeen) (s : KernelState) → b ≡ after_enter c s → HasTried (after_enter c s) b
+entered-so c b s is = (c.refused, c.refused_by, le_refl c.refused, is)
+
+-- A MOVE OF A HAND
+pub record ComesHand (c : SeatSeen) (d : SeatSeen) (note : Option Sent) : Type 0 where
+  pub state : KernelState
+  pub visit : Visit c state note [] d
+
+module _ (opening : KernelState) (n : ℕ) (c b d : SeatSeen) (s : KernelState) (came : IsEntered seat_of_entry history_of IsSinceOpening opening n (part_of c) s) (in' : HasTried (after_enter c s) b) where
+  pub hand-comes : (note : Option Sent) → LeavesHand b s d note → ComesHand c d note
+  hand-comes note (t, out, same) = record {
+    state = t;
+    visit = visited opening n c b d s t note [] came in' out (same ∙ sym (append-nil s.history)) (All-nil (λ (e : Entry). seat_of_entry e ≡ c.number));
+  }
+
+  pub landed-comes : (note : Sent) (result : Option Reply) → note.of ≡ None → LeavesEnd b s note d result → ComesHand c d None
+  landed-comes note None of (t, out, same) = record {
+    state = t;
+    visit = visited opening n c b d s t None [] came in' out (same ∙ sym (append-nil s.history)) (All-nil (λ (e : Entry). seat_of_entry e ≡ c.number));
+  }
+  landed-comes note (Some r) of (t, out, ends) = absurd (let z : ◌≡◌ {A = Option (ℕ × Call)} None (Some ends.0) = sym of ∙ ends.1 in cc (z))
+
+pub in-hand : {D : Type 0} (x : SentFlight D) (o : Option Sent) → InHand (Some x) o → (note : Sent) × (o ≡ Some note) × InHand (Some x) (Some note)
+in-hand x None hand = absurd hand
+in-hand x (Some note) hand = (note, refl, hand)
+
+-- the seat that went in
+pub tried-number : (c b : SeatSeen) (s : KernelState) → HasTried (after_enter c s) b → b.number ≡ c.number
+tried-number c b s tried = ap (λ v. v.number) tried.3
+
+pub tried-note : (c b : SeatSeen) (s : KernelState) → HasTried (after_enter c s) b → b.note ≡ c.note
+tried-note c b s tried = ap (λ v. v.note) tried.3

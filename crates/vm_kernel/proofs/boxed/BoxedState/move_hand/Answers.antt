@@ -1,0 +1,12 @@
+use Rattle.std.proofs.Common.{◌≡◌, ◌<◌, None, length, sym, ◌∙◌, subst}
+use Rattle.vm_core.specs.Fits.{FitsAt}
+use Rattle.vm_world.specs.State.{KernelState}
+use Rattle.vm_kernel.proofs.boxed.BoxedState.move_hand.Goals as goal
+
+pub move_hand-requires : goal.move_hand-requires
+move_hand-requires g c =
+    let same : c.deref_mut.result.now ≡ c.args.self.now = c.deref_mut.ensures.value ∙ c.self.view_is in
+    record {
+      fits = subst (λ (s : KernelState). FitsAt s c.args.seat None) (sym same) c.requires.fits;
+      seat = subst (λ (s : KernelState). c.args.seat < length s.syncs) (sym same) c.requires.seat;
+    }

@@ -1,0 +1,8 @@
+use Rattle.std.proofs.Common.{◌≡◌, None}
+use Rattle.vm_kernel.specs.Callers.{IsCallerOf}
+use Rattle.vm_kernel.specs.Turns.{CallerGoesOn}
+use Rattle.vm_kernel.proofs.kernel.VmKernel.pageout.Given as goal
+
+abbrev pub invariant-loop : goal.invariant-loop
+invariant-loop g l =
+    IsCallerOf l.self l.caller × CallerGoesOn l.initial.caller l.caller × (l.caller.seat.own ≡ l.initial.caller.seat.own) × (l.caller.seat.note ≡ None)

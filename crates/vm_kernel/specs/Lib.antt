@@ -1,0 +1,9 @@
+pub mod CallerCode
+pub mod Callers
+pub mod Notes
+pub mod Rooms
+pub mod Since
+pub mod SinceLaws
+pub mod Steps
+pub mod Turns
+pub mod Visits

@@ -1,0 +1,41 @@
+-- The two laws of the lock, from the event alone. Inside: no public clause cites this.
+use Rattle.std.specs.Prelude.{◌≡◌, ℕ, ◌<◌, List, [], ◌∷◌, ◌++◌, length, Option, None, All, slice_set, slice_index_or}
+use Rattle.std.proofs.Common.{sym, subst, ◌∙◌, zero, suc, arith}
+use mathlib.Core.Option.{some, some-injective, some-ne-none}
+use lib.ListN.{get_elem?}
+use Rattle.vm_types.specs.declared.call.Entry.{Entry}
+use Rattle.vm_world.specs.Events.{IsEvent}
+use Rattle.vm_world.specs.State.{KernelState, Seats, Sent, seats_of, with_sent}
+use Rattle.vm_world.proofs.Told.{event_law}
+use Rattle.kernel_lock.specs.Laws.{Keeps, Grows}
+use Rattle.vm_kernel.specs.Since.{seat_of_entry, history_of, IsSince, IsSinceOpening, Moves}
+
+-- the note of a seat, as the lock's list has it
+pub at_default : {A : Type 0} (ns : List A) (k : ℕ) (n d : A) → get_elem? ns k ≡ some n → (k < length ns) × (slice_index_or ns k d ≡ n)
+at_default [] k n d e = absurd (some-ne-none n (sym e))
+at_default (x ∷ xs) zero n d e = (omega arith, some-injective x n e)
+at_default (x ∷ xs) (suc k) n d e = let rest = at_default xs k n d e in let lt = rest.0 in (omega (arith, lt), rest.1)
+
+-- one event keeps what the lock keeps
+pub since-then : (opening s t : KernelState) (seats : Seats) (seat : ℕ) (before after : Option Sent) → IsSince opening s seats → seats seat ≡ before → IsEvent seat s before t after → IsSince opening t (with_sent seats seat after)
+since-then opening s t seats seat before after was at event = record {
+  starts = was.starts;
+  fits = λ F fit. event.fits F seats at (was.fits F fit);
+  fixed = event.fixed ∙ was.fixed;
+  sizes = λ number. event.sizes was.starts.0 seats at (was.fits was.starts.0 was.starts.1) number ∙ was.sizes number;
+}
+
+pub state_keeps : (opening s t : KernelState) (notes : List (Option Sent)) (k : ℕ) (n m : Option Sent) → IsSinceOpening opening s notes → get_elem? notes k ≡ some n → Moves k s n t m → IsSinceOpening opening t (slice_set notes k m)
+state_keeps opening s t notes k n m fits at moved =
+    let here = at_default notes k n None at in
+    subst (IsSince opening t) (event_law.list notes k m here.0) (since-then opening s t (seats_of notes) k n m fits here.1 moved)
+
+pub state_grows : (opening s t : KernelState) (notes : List (Option Sent)) (k : ℕ) (n m : Option Sent) → IsSinceOpening opening s notes → get_elem? notes k ≡ some n → Moves k s n t m
+    → (added : List Entry) × (history_of t ≡ history_of s ++ added) × All (λ (e : Entry). seat_of_entry e ≡ k) added
+state_grows opening s t notes k n m fits at moved = moved.grown
+
+keeps_law : Keeps seat_of_entry history_of IsSinceOpening Moves
+keeps_law = state_keeps
+
+grows_law : Grows seat_of_entry history_of IsSinceOpening Moves
+grows_law = state_grows

@@ -1,0 +1,144 @@
+-- What a caller may ask of a turn, and what a turn comes to. Public clauses cite this.
+use Rattle.std.specs.Prelude.{◌≡◌, ◌≢◌, ◌<◌, ◌≤◌, ◌++◌, ◌∷◌, [], ℕ, Option, Some, None, Result, Ok, Err}
+use mathlib.Core.List.{IsPrefix}
+use Rattle.block_device.specs.Counts.{HasRisen}
+use Rattle.block_device.specs.DiskSeen.{DiskSeen}
+use Rattle.page_store.specs.Bays.{bay_at, home}
+use Rattle.page_store.specs.declared.plan.Hold.{Hold}
+use Rattle.page_store.specs.declared.plan.Hold.TheVariants as hold
+use Rattle.vm_types.specs.WellFormed.{IsWellFormed}
+use Rattle.vm_types.specs.declared.call.Call.{Call}
+use Rattle.vm_types.specs.declared.call.Reply.{Reply}
+use Rattle.vm_types.specs.declared.call.Reply.TheVariants as reply
+use Rattle.vm_core.specs.Calls.{IsServed, TakesMemory}
+use Rattle.vm_world.specs.SeatLaws.{IsKnownAlive, MayComeNext}
+use Rattle.vm_world.specs.ServingLaws.{done_entry}
+use Rattle.vm_world.specs.State.{KernelState, Sent}
+use Rattle.vm_world.specs.Wants.{MayHold, seat_in}
+use Rattle.vm_kernel.specs.Callers.{KernelSeen, SeatSeen, CallerSeen, ShowsOwn}
+use Rattle.vm_kernel.specs.Steps.{IsNoteFor}
+use Rattle.vm_kernel.specs.declared.steps.Tried.{Tried}
+use Rattle.vm_kernel.specs.declared.steps.Tried.TheVariants as tried
+use Rattle.vm_kernel.specs.declared.turn.Turn.{Turn}
+use Rattle.vm_kernel.specs.declared.turn.Turn.TheVariants.{Done, Again}
+use Rattle.vm_kernel.specs.declared.turn.Why.{Why}
+use Rattle.vm_kernel.specs.declared.turn.Why.TheVariants.{LockHeld, PageBusy, DiskOut, FileBusy, Moved}
+
+-- A transfer in hand is for this process and call.
+abbrev pub IsForCall : ℕ → Call → Option Sent → Type 0
+IsForCall p call None = Unit {0}
+IsForCall p call (Some note) = note.of ≡ Some (p, call)
+
+-- A CALL MAY BE MADE by a caller, by what it has seen: its process is known to be alive, the call may come next behind the entries that it made, and what
+-- it has in hand is for the call.
+pub record MayCall (k : KernelSeen) (c : CallerSeen) (call : Call) : Type 0 where
+  pub formed : IsWellFormed call
+  pub served : IsServed call
+  pub alive : IsKnownAlive k.opening.parents c.seat.seen c.seat.own c.process
+  pub next : MayComeNext k.opening.parents k.opening.entries c.seat.own c.process call
+  pub hand : IsForCall c.process call c.seat.note
+
+-- The caller is the same, has seen no less, its own entries among it, and its counts didn't fall.
+pub record CallerGoesOn (c d : CallerSeen) : Type 0 where
+  pub process : d.process ≡ c.process
+  pub number : d.seat.number ≡ c.seat.number
+  pub seen : IsPrefix c.seat.seen d.seat.seen
+  pub own : ShowsOwn d
+  pub refused : c.seat.refused ≤ d.seat.refused
+  pub leaves : c.seat.leaves ≤ d.seat.leaves
+  pub emptied : c.seat.emptied ≤ d.seat.emptied
+
+-- The caller has seen more, its own entries among it, and nothing else changed.
+pub record HasSeenMore (c d : CallerSeen) : Type 0 where
+  pub seen : IsPrefix c.seat.seen d.seat.seen
+  pub own : ShowsOwn d
+  pub rest : d ≡ record c { seat = record c.seat { seen = d.seat.seen } }
+
+-- A transfer that this caller made for the call failed, with these counts: since then its note was emptied, and the note that was emptied last had the disk
+-- with the first count; the state that the caller left last has it home with the second.
+pub record HasFailed (c : CallerSeen) (call : Call) (d : CallerSeen) (disk before after : ℕ) : Type 0 where
+  pub risen : HasRisen before after
+  pub emptied : c.seat.emptied < d.seat.emptied
+  pub note : Sent
+  pub last : d.seat.last_emptied ≡ Some note
+  pub of : note.of ≡ Some (c.process, call)
+  pub number : note.note.number ≡ disk
+  pub counted : note.note.disk.faults ≡ before
+  pub state : KernelState
+  pub left : d.seat.state ≡ Some state
+  pub seen : DiskSeen
+  pub home : bay_at state.memory.world.store.bays disk ≡ home seen
+  pub count : seen.faults ≡ after
+
+-- A device error is that of such a transfer.
+abbrev pub ShowsError : CallerSeen → Call → CallerSeen → Reply → Type 0
+ShowsError c call d (reply.Io disk before after) = HasFailed c call d disk before after
+ShowsError c call d r = Unit {0}
+
+-- THE CALL IS DONE: exactly one entry of this process, call and reply was added, and the caller has nothing in hand.
+pub record IsCallDone (c : CallerSeen) (call : Call) (d : CallerSeen) (r : Reply) : Type 0 where
+  pub entry : (cleared : ℕ) × (d.seat.own ≡ c.seat.own ++ done_entry c.process call r cleared ∷ [])
+  pub free : d.seat.note ≡ None
+  pub error : ShowsError c call d r
+
+-- Another seat holds the call up in the state that the caller left last, in this turn.
+pub record HasMet (c : CallerSeen) (call : Call) (d : CallerSeen) (h : Hold) : Type 0 where
+  pub leaves : c.seat.leaves < d.seat.leaves
+  pub state : KernelState
+  pub left : d.seat.state ≡ Some state
+  pub holds : MayHold state.memory state.calls c.process call h
+  pub other : seat_in h ≢ c.seat.number
+  pub free : d.seat.note ≡ None
+
+-- A transfer of the caller for this call ended in this turn.
+pub record HasMoved (c : CallerSeen) (call : Call) (d : CallerSeen) : Type 0 where
+  pub emptied : c.seat.emptied < d.seat.emptied
+  pub note : Sent
+  pub last : d.seat.last_emptied ≡ Some note
+  pub of : note.of ≡ Some (c.process, call)
+  pub free : d.seat.note ≡ None
+
+-- WHY THERE IS NO REPLY.
+abbrev pub HasCauseFor : CallerSeen → Call → CallerSeen → Why → Type 0
+HasCauseFor c call d LockHeld = c.seat.refused < d.seat.refused
+HasCauseFor c call d (PageBusy t) = HasMet c call d (hold.Page t)
+HasCauseFor c call d (DiskOut t) = HasMet c call d (hold.Disk t)
+HasCauseFor c call d (FileBusy t) = HasMet c call d (hold.File t)
+HasCauseFor c call d Moved = HasMoved c call d
+
+-- WHAT A TURN COMES TO.
+abbrev pub IsTurn : CallerSeen → Call → CallerSeen → Turn → Type 0
+IsTurn c call d (Done r) = IsCallDone c call d r
+IsTurn c call d (Again why) = (d.seat.own ≡ c.seat.own) × IsForCall c.process call d.seat.note × HasCauseFor c call d why
+
+-- Want of memory comes at a mapping call alone, and nothing was made.
+pub record LacksMemory (c : CallerSeen) (call : Call) (d : CallerSeen) : Type 0 where
+  pub takes : TakesMemory call
+  pub none : d.seat.own ≡ c.seat.own
+  pub free : d.seat.note ≡ None
+
+-- A caller that has this seat and process.
+abbrev pub caller_at : SeatSeen → ℕ → CallerSeen
+caller_at v p = record { seat = v; process = p }
+
+-- Inside: what the first half of a turn comes to.
+abbrev pub IsFirstHalf : {E : Type 0} → CallerSeen → Call → CallerSeen → Result (Option Turn) E → Type 0
+IsFirstHalf c call d (Ok (Some turn)) = IsTurn c call d turn
+IsFirstHalf c call d (Ok None) = (d.seat.own ≡ c.seat.own) × IsNoteFor c.process call d.seat.note
+IsFirstHalf c call d (Err e) = LacksMemory c call d
+
+-- Inside: the turn that a try makes, and the end of a transfer.
+abbrev pub why_of : Hold → Why
+why_of (hold.Page t) = PageBusy t
+why_of (hold.Disk t) = DiskOut t
+why_of (hold.File t) = FileBusy t
+
+abbrev pub turn_of_try : {E : Type 0} → Result Tried E → Result (Option Turn) E
+turn_of_try (Ok (tried.Done r)) = Ok (Some (Done r))
+turn_of_try (Ok tried.Out) = Ok None
+turn_of_try (Ok (tried.Busy h)) = Ok (Some (Again (why_of h)))
+turn_of_try (Err e) = Err e
+
+abbrev pub turn_of_end : Option Reply → Turn
+turn_of_end (Some r) = Done r
+turn_of_end None = Again Moved

@@ -1,0 +1,116 @@
+//! The state that stands behind the lock, in a box, since the lock moves what it keeps several times a visit.
+ghost use Rattle.std.specs.Prelude.{◌≡◌, ◌<◌, ℕ, Some, None, length};
+ghost use Rattle.vm_core.specs.Calls.{IsServed};
+ghost use Rattle.vm_core.specs.Fits.{FitsAt};
+ghost use Rattle.vm_types.specs.WellFormed.{IsWellFormed};
+ghost use Rattle.vm_world.specs.Events.{IsEvent, CanTry};
+ghost use Rattle.vm_world.specs.State.{Sent};
+ghost use Rattle.vm_kernel.specs.Notes.{note_of_held, AreUnperformed, InHand};
+ghost use Rattle.vm_kernel.specs.Steps.{TriesCall, EndsFlight, IsForNone};
+
+use crate::sent::{SeatNote, SentFlight};
+use crate::steps::{self, Tried};
+use block_device::Disk;
+use kernel_lock::guarded::Guarded;
+use std::alloc::AllocError;
+use std::marker::Model;
+use vm_core::VmState;
+use vm_types::{Call, Entry, Reply};
+
+/// The state in a box. Contracts see it as the state.
+#[derive(Drop)]
+pub(crate) struct BoxedState<D: Disk> {
+    pub(crate) state: Box<VmState<D>>,
+}
+
+impl<D: Disk> Model for BoxedState<D> {
+    ghost use Rattle.vm_world.specs.State.{KernelState};
+    ghost use Rattle.vm_core.specs.StateCode.{state_code};
+
+    ghost Value = { KernelState };
+
+    ghost coded = { state_code };
+
+    ghost view = { λ b. b.state.value };
+}
+
+impl<D: Disk> Guarded for BoxedState<D> {
+    ghost use Rattle.vm_kernel.specs.Since.{seat_of_entry, history_of, IsSinceOpening, Moves};
+    ghost use Rattle.vm_kernel.specs.Notes.{note_of_held};
+    ghost use Rattle.vm_kernel.specs.SinceLaws.{state_keeps, state_grows};
+
+    type Entry = Entry;
+
+    type Note = SeatNote;
+
+    type Held = Option<SentFlight<D>>;
+
+    ghost seat_of = { seat_of_entry };
+
+    ghost history = { history_of };
+
+    ghost note_of = { note_of_held };
+
+    ghost fits = { IsSinceOpening };
+
+    ghost moves = { Moves };
+
+    fn length(&self) -> u64 {
+        self.state.length()
+    }
+
+    ghost keeps = { state_keeps };
+
+    ghost grows = { state_grows };
+}
+
+impl<D: Disk> BoxedState<D> {
+    /// Tries a call, and begins the transfer that it needs.
+    pub(crate) fn try_and_begin(
+        &mut self,
+        seat: u32,
+        process: u32,
+        call: &Call,
+        sent: &mut Option<SentFlight<D>>,
+    ) -> Result<Tried, AllocError>
+        requires fits { FitsAt self.old seat None }
+        requires formed { IsWellFormed call.now }
+        requires served { IsServed call.now }
+        requires may { CanTry self.old seat process call.now }
+        requires none { sent.old ≡ None }
+        ensures event { IsEvent seat self.old None self.new (note_of_held sent.new) }
+        ensures tries { TriesCall self.old self.new process call.now (note_of_held sent.new) result }
+        ensures ready { AreUnperformed sent.new }
+    {
+        steps::try_and_begin(&mut self.state, seat, process, call, sent)
+    }
+
+    /// The flight of a seat ends.
+    pub(crate) fn end_flight(&mut self, seat: u32, sent: SentFlight<D>) -> Option<Reply>
+        requires back { (note : Sent) × FitsAt self.old seat (Some note) × InHand (Some sent) (Some note) }
+        ensures ends { (note : Sent) → InHand (Some sent) (Some note)
+            → IsEvent seat self.old (Some note) self.new None × EndsFlight self.old self.new note result }
+    {
+        steps::end_flight(&mut self.state, seat, sent)
+    }
+
+    /// One move of a hand of the clock, and the begin of the push that it answers.
+    pub(crate) fn move_hand(&mut self, seat: u32) -> Option<SentFlight<D>>
+        requires fits { FitsAt self.old seat None }
+        requires seat { seat < length self.old.syncs }
+        ensures event { IsEvent seat self.old None self.new (note_of_held result) }
+        ensures ready { AreUnperformed result }
+        ensures of { IsForNone (note_of_held result) }
+        ensures same { self.new.history ≡ self.old.history }
+    {
+        steps::move_hand(&mut self.state, seat)
+    }
+
+    /// The state.
+    pub(crate) fn into_state(self) -> VmState<D>
+        ensures { result ≡ self }
+    {
+        let Self { state } = self;
+        Box::into_inner(state)
+    }
+}

@@ -1,0 +1,148 @@
+//! The two halves of a turn: a try, with the transfer that it needs, and the end of that transfer.
+ghost use Rattle.std.specs.Prelude.{◌≡◌, ◌≤◌, ◌+◌, ℕ, Some, None, length, IfOk, OnErr};
+ghost use Rattle.kernel_lock.specs.Seats.{IsSeatOf};
+ghost use Rattle.vm_types.specs.declared.call.Call as calls;
+ghost use Rattle.vm_kernel.specs.Callers.{IsIdle};
+ghost use Rattle.vm_kernel.specs.Steps.{IsNoteFor, IsForNone};
+ghost use Rattle.vm_kernel.specs.Turns.{MayCall, CallerGoesOn, IsTurn, IsFirstHalf, LacksMemory, caller_at};
+
+use crate::boxed::BoxedState;
+use crate::sent::SentFlight;
+use crate::steps::perform;
+use crate::turn::{Turn, Why, turn_of_end, turn_of_try};
+use crate::visits::{end_and_leave, hand_and_leave, try_and_leave};
+use block_device::Disk;
+use kernel_lock::lock::KernelLock;
+use kernel_lock::seat::Seat;
+use std::alloc::AllocError;
+use std::sync::Wait;
+use vm_types::Call;
+
+/// The first half of a turn, with nothing in hand: a try, and the transfer that it needs, which is in hand then.
+fn first_at<D: Disk>(
+    lock: &KernelLock<BoxedState<D>>,
+    seat: &mut Seat<BoxedState<D>>,
+    process: u32,
+    sent: &mut Option<SentFlight<D>>,
+    call: &Call,
+) -> Result<Option<Turn>, AllocError>
+    requires seat { IsSeatOf lock.now seat.old }
+    requires idle { IsIdle seat.old process sent.old }
+    requires may { MayCall lock.now (caller_at seat.old process) call.now }
+    requires none { sent.old ≡ None }
+    ensures seat { IsSeatOf lock.now seat.new }
+    ensures idle { IsIdle seat.new process sent.new }
+    ensures goes { CallerGoesOn (caller_at seat.old process) (caller_at seat.new process) }
+    ensures half { IsFirstHalf (caller_at seat.old process) call.now
+        (caller_at seat.new process) result }
+{
+    let Some(state) = lock.try_enter(seat) else {
+        return Ok(Some(Turn::Again(Why::LockHeld)));
+    };
+    let tried = try_and_leave(lock, seat, state, process, call, sent);
+    perform(sent);
+    turn_of_try(tried)
+}
+
+/// The second half, with a transfer in hand: it ends.
+fn second_at<D: Disk>(
+    lock: &KernelLock<BoxedState<D>>,
+    seat: &mut Seat<BoxedState<D>>,
+    process: u32,
+    sent: &mut Option<SentFlight<D>>,
+) -> Turn
+    requires seat { IsSeatOf lock.now seat.old }
+    requires idle { IsIdle seat.old process sent.old }
+    requires out { (call : calls.Call) × IsNoteFor process call seat.old.note }
+    requires named { process ≡ seat.old.number + 1 }
+    ensures seat { IsSeatOf lock.now seat.new }
+    ensures idle { IsIdle seat.new process sent.new }
+    ensures goes { CallerGoesOn (caller_at seat.old process) (caller_at seat.new process) }
+    ensures turn { (call : calls.Call) → IsNoteFor process call seat.old.note
+        → IsTurn (caller_at seat.old process) call (caller_at seat.new process) result }
+{
+    let Some(state) = lock.try_enter(seat) else {
+        return Turn::Again(Why::LockHeld);
+    };
+    let Some(flight) = sent.take() else {
+        unreachable!()
+    };
+    let reply = end_and_leave(lock, seat, state, flight);
+    turn_of_end(reply)
+}
+
+/// One turn of a seat, without waiting.
+pub(crate) fn turn_at<D: Disk>(
+    lock: &KernelLock<BoxedState<D>>,
+    seat: &mut Seat<BoxedState<D>>,
+    process: u32,
+    sent: &mut Option<SentFlight<D>>,
+    call: &Call,
+) -> Result<Turn, AllocError>
+    requires seat { IsSeatOf lock.now seat.old }
+    requires idle { IsIdle seat.old process sent.old }
+    requires may { MayCall lock.now (caller_at seat.old process) call.now }
+    ensures seat { IsSeatOf lock.now seat.new }
+    ensures idle { IsIdle seat.new process sent.new }
+    ensures goes { CallerGoesOn (caller_at seat.old process) (caller_at seat.new process) }
+    ensures turn { IfOk result (λ turn. IsTurn (caller_at seat.old process) call.now
+        (caller_at seat.new process) turn) }
+    ensures err { OnErr result (LacksMemory (caller_at seat.old process) call.now
+        (caller_at seat.new process)) }
+{
+    if sent.is_some() {
+        return Ok(second_at(lock, seat, process, sent));
+    }
+    match first_at(lock, seat, process, sent, call)? {
+        Some(turn) => Ok(turn),
+        None => Ok(second_at(lock, seat, process, sent)),
+    }
+}
+
+/// Brings home what the clock has sent. It waits for the lock.
+fn land<R: Wait, D: Disk>(
+    rt: &R,
+    lock: &KernelLock<BoxedState<D>>,
+    seat: &mut Seat<BoxedState<D>>,
+    process: u32,
+    sent: &mut Option<SentFlight<D>>,
+)
+    requires seat { IsSeatOf lock.now seat.old }
+    requires idle { IsIdle seat.old process sent.old }
+    requires of { IsForNone seat.old.note }
+    ensures seat { IsSeatOf lock.now seat.new }
+    ensures idle { IsIdle seat.new process sent.new }
+    ensures none { (sent.new ≡ None) × (seat.new.note ≡ None) }
+    ensures goes { CallerGoesOn (caller_at seat.old process) (caller_at seat.new process) }
+    ensures own { seat.new.own ≡ seat.old.own }
+{
+    let Some(flight) = sent.take() else {
+        return;
+    };
+    let state = lock.enter(rt, seat);
+    let _ = end_and_leave(lock, seat, state, flight);
+}
+
+/// One move of a hand of the clock, with its transfer. It waits for the lock.
+pub(crate) fn move_at<R: Wait, D: Disk>(
+    rt: &R,
+    lock: &KernelLock<BoxedState<D>>,
+    seat: &mut Seat<BoxedState<D>>,
+    process: u32,
+    sent: &mut Option<SentFlight<D>>,
+)
+    requires seat { IsSeatOf lock.now seat.old }
+    requires seats { lock.now.seats ≤ length lock.now.opening.syncs }
+    requires idle { IsIdle seat.old process sent.old }
+    requires none { sent.old ≡ None }
+    ensures seat { IsSeatOf lock.now seat.new }
+    ensures idle { IsIdle seat.new process sent.new }
+    ensures none { (sent.new ≡ None) × (seat.new.note ≡ None) }
+    ensures goes { CallerGoesOn (caller_at seat.old process) (caller_at seat.new process) }
+    ensures own { seat.new.own ≡ seat.old.own }
+{
+    let state = lock.enter(rt, seat);
+    hand_and_leave(lock, seat, state, sent);
+    perform(sent);
+    land(rt, lock, seat, process, sent);
+}

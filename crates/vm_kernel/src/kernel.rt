@@ -1,0 +1,133 @@
+//! The kernel for threads: one state behind one lock, shared by reference, and callers that are handed to threads by value.
+ghost use Rattle.std.specs.Prelude.{◌≡◌, None, IfOk, OnErr};
+ghost use mathlib.Core.List.{IsPrefix};
+ghost use Rattle.vm_kernel.specs.Callers.{IsCallerOf};
+ghost use Rattle.vm_kernel.specs.Turns.{MayCall, CallerGoesOn, IsTurn, IsCallDone, LacksMemory, HasSeenMore};
+
+use crate::boxed::BoxedState;
+use crate::caller::Caller;
+use crate::halves::{move_at, turn_at};
+use crate::turn::{Turn, Why};
+use block_device::Disk;
+use kernel_lock::lock::KernelLock;
+use std::alloc::AllocError;
+use std::marker::Model;
+use std::sync::Wait;
+use vm_types::{Call, Reply};
+
+/// The state of the system behind its lock.
+///
+/// Contracts see it as the record `LockView` of `kernel_lock`.
+pub struct VmKernel<D: Disk> {
+    pub(crate) lock: KernelLock<BoxedState<D>>,
+}
+
+impl<D: Disk> Model for VmKernel<D> {
+    ghost use Rattle.std.specs.Prelude.{◌≤◌, length};
+    ghost use Rattle.vm_kernel.specs.Callers.{KernelSeen};
+    ghost use Rattle.vm_kernel.specs.CallerCode.{kernel_code};
+
+    ghost Value = { KernelSeen };
+
+    ghost coded = { kernel_code };
+
+    ghost view = { λ k. k.lock };
+
+    ghost invariant = { λ k. k.lock.seats ≤ length k.lock.opening.syncs };
+}
+
+impl<D: Disk> VmKernel<D> {
+    /// One turn at a call, without waiting: a transfer that is in hand ends, or the call is tried, and a transfer that it needs begins
+    /// and is made. Where the lock is held then, the transfer stays in hand.
+    ///
+    /// Takes memory for a mapping call alone.
+    pub fn turn(&self, caller: &mut Caller<D>, call: &Call) -> Result<Turn, AllocError>
+        requires caller { IsCallerOf self.now caller.old }
+        requires may { MayCall self.now caller.old call.now }
+        ensures caller { IsCallerOf self.now caller.new }
+        ensures goes { CallerGoesOn caller.old caller.new }
+        // Done: exactly one entry was added. Again: none, and why.
+        ensures turn { IfOk result (λ turn. IsTurn caller.old call.now caller.new turn) }
+        ensures err { OnErr result (LacksMemory caller.old call.now caller.new) }
+    {
+        turn_at(
+            &self.lock,
+            &mut caller.seat,
+            caller.process,
+            &mut caller.sent,
+            call,
+        )
+    }
+
+    /// Makes a call to its end: turns until there is a reply.
+    pub fn call<R: Wait>(
+        &self,
+        rt: &R,
+        caller: &mut Caller<D>,
+        call: &Call,
+    ) -> Result<Reply, AllocError>
+        requires caller { IsCallerOf self.now caller.old }
+        requires may { MayCall self.now caller.old call.now }
+        ensures caller { IsCallerOf self.now caller.new }
+        ensures goes { CallerGoesOn caller.old caller.new }
+        ensures done { IfOk result (λ reply. IsCallDone caller.old call.now caller.new reply) }
+        ensures err { OnErr result (LacksMemory caller.old call.now caller.new) }
+    {
+        caller.own_law();
+        for _ in rt.forever() {
+            let leaves = self.lock.leaves();
+            let changes = self.lock.changes();
+            match self.turn(caller, call)? {
+                Turn::Done(reply) => return Ok(reply),
+                Turn::Again(Why::Moved) => {}
+                Turn::Again(Why::LockHeld) => self.lock.rest(rt, leaves),
+                Turn::Again(_) => self.lock.rest_on_change(rt, changes),
+            }
+        }
+        unreachable!()
+    }
+
+    /// The parent has seen what the child has seen. It takes no memory and waits for nobody.
+    pub fn wait_for(&self, child: &mut Caller<D>, parent: &mut Caller<D>)
+        requires callers { IsCallerOf self.now child.old × IsCallerOf self.now parent.old }
+        ensures callers { IsCallerOf self.now child.new × IsCallerOf self.now parent.new }
+        ensures child { child.new ≡ child.old }
+        ensures parent { HasSeenMore parent.old parent.new }
+        ensures seen { IsPrefix child.old.seat.seen parent.new.seat.seen }
+    {
+        self.lock.meet(&mut child.seat, &mut parent.seat);
+    }
+
+    // One move of a hand, with its transfer.
+    fn move_hand<R: Wait>(&self, rt: &R, caller: &mut Caller<D>)
+        requires caller { IsCallerOf self.now caller.old }
+        requires free { caller.old.seat.note ≡ None }
+        ensures caller { IsCallerOf self.now caller.new }
+        ensures goes { CallerGoesOn caller.old caller.new }
+        ensures same { caller.new.seat.own ≡ caller.old.seat.own }
+        ensures free { caller.new.seat.note ≡ None }
+    {
+        move_at(
+            rt,
+            &self.lock,
+            &mut caller.seat,
+            caller.process,
+            &mut caller.sent,
+        );
+    }
+
+    /// So many moves of a hand of the clock, each with the transfer that it asks for. It adds no entry and takes no memory.
+    pub fn pageout<R: Wait>(&self, rt: &R, caller: &mut Caller<D>, turns: u32)
+        requires caller { IsCallerOf self.now caller.old }
+        requires free { caller.old.seat.note ≡ None }
+        ensures caller { IsCallerOf self.now caller.new }
+        ensures goes { CallerGoesOn caller.old caller.new }
+        ensures same { caller.new.seat.own ≡ caller.old.seat.own }
+        ensures free { caller.new.seat.note ≡ None }
+    {
+        caller.own_law();
+        for _ in 0..turns {
+            self.move_hand(rt, caller);
+        }
+    }
+}

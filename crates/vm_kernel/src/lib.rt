@@ -1,0 +1,14 @@
+//! The threads' calls: one state of the system behind one lock, and callers that make calls on it in turns.
+#![tactic(auto)]
+
+mod boxed;
+pub mod caller;
+mod closing;
+mod halves;
+pub mod kernel;
+mod sent;
+pub mod starting;
+mod steps;
+pub mod threads;
+pub mod turn;
+mod visits;

@@ -1,0 +1,119 @@
+//! What a seat does while it has the state: it tries a call and begins the transfer that the call needs, ends a transfer, or moves a
+//! hand of the clock. No lock is named here.
+ghost use Rattle.std.specs.Prelude.{◌≡◌, ◌<◌, ℕ, Some, None, length, option_map};
+ghost use Rattle.vm_core.specs.Calls.{IsServed};
+ghost use Rattle.vm_core.specs.Fits.{FitsAt};
+ghost use Rattle.vm_types.specs.WellFormed.{IsWellFormed};
+ghost use Rattle.vm_world.specs.Events.{IsEvent, CanTry};
+ghost use Rattle.vm_world.specs.State.{Sent};
+ghost use Rattle.vm_kernel.specs.Notes.{note_of_held, IsUnperformed, AreUnperformed, InHand};
+ghost use Rattle.vm_kernel.specs.Steps.{TriesCall, EndsFlight, IsForNone};
+
+use crate::sent::SentFlight;
+use block_device::Disk;
+use page_store::{Hold, Plan};
+use std::alloc::AllocError;
+use vm_core::{Attempt, VmState};
+use vm_types::{Call, Reply};
+
+/// What a try comes to.
+#[derive(Clone, Copy, PartialEq, Eq, Debug)]
+pub(crate) enum Tried {
+    Done(Reply),
+    /// A transfer has begun.
+    Out,
+    Busy(Hold),
+}
+
+/// Begins the transfer of the plan that was answered last.
+fn send<D: Disk>(
+    state: &mut VmState<D>,
+    seat: u32,
+    plan: Plan,
+    of: Option<(u32, Call)>,
+) -> SentFlight<D>
+    requires fits { FitsAt state.old seat None }
+    requires kept { state.old.plan ≡ Some (record { seat = seat; plan = plan; of = of }) }
+    ensures event { IsEvent seat state.old None state.new (note_of_held (Some result)) }
+    ensures fresh { IsUnperformed result }
+    ensures of { result.of ≡ of }
+    ensures same { state.new.history ≡ state.old.history }
+{
+    let flight = state.begin(seat, plan);
+    SentFlight { flight, of }
+}
+
+/// Tries a call, and begins the transfer that it needs.
+pub(crate) fn try_and_begin<D: Disk>(
+    state: &mut VmState<D>,
+    seat: u32,
+    process: u32,
+    call: &Call,
+    sent: &mut Option<SentFlight<D>>,
+) -> Result<Tried, AllocError>
+    requires fits { FitsAt state.old seat None }
+    requires formed { IsWellFormed call.now }
+    requires served { IsServed call.now }
+    requires may { CanTry state.old seat process call.now }
+    requires none { sent.old ≡ None }
+    ensures event { IsEvent seat state.old None state.new (note_of_held sent.new) }
+    ensures tries { TriesCall state.old state.new process call.now (note_of_held sent.new) result }
+    ensures ready { AreUnperformed sent.new }
+{
+    match state.try_call(seat, process, call)? {
+        Attempt::Done(reply) => Ok(Tried::Done(reply)),
+        Attempt::Need(plan) => {
+            *sent = Some(send(state, seat, plan, Some((process, *call))));
+            Ok(Tried::Out)
+        }
+        Attempt::Busy(hold) => Ok(Tried::Busy(hold)),
+    }
+}
+
+fn lent(of: &Option<(u32, Call)>) -> Option<(u32, &Call)>
+    ensures { option_map (λ (c : ℕ × _). (c.0, c.1.now)) result ≡ of.now }
+{
+    match of {
+        Some(of) => Some((of.0, &of.1)),
+        None => None,
+    }
+}
+
+/// The flight of a seat ends: its frame and its disk come back. Some, with the device error, where it failed and was for a call.
+pub(crate) fn end_flight<D: Disk>(
+    state: &mut VmState<D>,
+    seat: u32,
+    sent: SentFlight<D>,
+) -> Option<Reply>
+    requires back { (note : Sent) × FitsAt state.old seat (Some note) × InHand (Some sent) (Some note) }
+    ensures ends { (note : Sent) → InHand (Some sent) (Some note)
+        → IsEvent seat state.old (Some note) state.new None × EndsFlight state.old state.new note result }
+{
+    let SentFlight { flight, of } = sent;
+    state.end(seat, flight, lent(&of))
+}
+
+/// One move of a hand of the clock, and the begin of the push that it answers.
+pub(crate) fn move_hand<D: Disk>(state: &mut VmState<D>, seat: u32) -> Option<SentFlight<D>>
+    requires fits { FitsAt state.old seat None }
+    requires seat { seat < length state.old.syncs }
+    ensures event { IsEvent seat state.old None state.new (note_of_held result) }
+    ensures ready { AreUnperformed result }
+    ensures of { IsForNone (note_of_held result) }
+    ensures same { state.new.history ≡ state.old.history }
+{
+    match state.clock(seat) {
+        Some(plan) => Some(send(state, seat, plan, None)),
+        None => None,
+    }
+}
+
+/// Makes the transfer that a seat has outside.
+pub(crate) fn perform<D: Disk>(sent: &mut Option<SentFlight<D>>)
+    requires ready { AreUnperformed sent.old }
+    ensures { InHand sent.new (note_of_held sent.old) }
+{
+    if let Some(sent) = sent {
+        let _ = sent.flight.perform();
+    }
+}
