@@ -37,9 +37,6 @@ all-of k (e ∷ es) all =
     let on : eqb (seat_of_entry e) k ≡ true = eq-eqb (seat_of_entry e) k here in
     rw on (ap (λ z. e ∷ z) (all-of k es (λ i d lt. all (suc i) d (omega (arith, lt)))))
 
-pub came-in : (c : SeatSeen) (s : KernelState) → HasTried (after_enter c s) (after_enter c s)
-came-in c s = (c.refused, c.refused_by, le_refl c.refused, refl)
-
 -- FROM OUTSIDE TO OUTSIDE
 pub visited : (opening : KernelState) (n : ℕ) (c b d : SeatSeen) (s t : KernelState) (m : Option Sent) (added : List Entry) → IsEntered seat_of_entry history_of IsSinceOpening opening n (part_of c) s
     → HasTried (after_enter c s) b → GoesOut b s t m d → t.history ≡ s.history ++ added → All (λ (e : Entry). seat_of_entry e ≡ c.number) added → Visit c t m added d
@@ -349,6 +346,3 @@ in-hand x (Some note) hand = (note, refl, hand)
 -- the seat that went in
 pub tried-number : (c b : SeatSeen) (s : KernelState) → HasTried (after_enter c s) b → b.number ≡ c.number
 tried-number c b s tried = ap (λ v. v.number) tried.3
-
-pub tried-note : (c b : SeatSeen) (s : KernelState) → HasTried (after_enter c s) b → b.note ≡ c.note
-tried-note c b s tried = ap (λ v. v.note) tried.3

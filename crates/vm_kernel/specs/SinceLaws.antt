@@ -7,7 +7,6 @@ use Rattle.vm_types.specs.declared.call.Entry.{Entry}
 use Rattle.vm_world.specs.Events.{IsEvent}
 use Rattle.vm_world.specs.State.{KernelState, Seats, Sent, seats_of, with_sent}
 use Rattle.vm_world.proofs.Told.{event_law}
-use Rattle.kernel_lock.specs.Laws.{Keeps, Grows}
 use Rattle.vm_kernel.specs.Since.{seat_of_entry, history_of, IsSince, IsSinceOpening, Moves}
 
 -- the note of a seat, as the lock's list has it
@@ -33,9 +32,3 @@ state_keeps opening s t notes k n m fits at moved =
 pub state_grows : (opening s t : KernelState) (notes : List (Option Sent)) (k : ℕ) (n m : Option Sent) → IsSinceOpening opening s notes → get_elem? notes k ≡ some n → Moves k s n t m
     → (added : List Entry) × (history_of t ≡ history_of s ++ added) × All (λ (e : Entry). seat_of_entry e ≡ k) added
 state_grows opening s t notes k n m fits at moved = moved.grown
-
-keeps_law : Keeps seat_of_entry history_of IsSinceOpening Moves
-keeps_law = state_keeps
-
-grows_law : Grows seat_of_entry history_of IsSinceOpening Moves
-grows_law = state_grows

@@ -78,8 +78,10 @@ impl<D: Disk> BoxedState<D> {
         requires served { IsServed call.now }
         requires may { CanTry self.old seat process call.now }
         requires none { sent.old ≡ None }
+        // One event: what the try leaves, and the flight that is out then, which waits for its transfer.
         ensures event { IsEvent seat self.old None self.new (note_of_held sent.new) }
-        ensures tries { TriesCall self.old self.new process call.now (note_of_held sent.new) result }
+        ensures tries { TriesCall self.old self.new process call.now (note_of_held sent.new)
+            result }
         ensures ready { AreUnperformed sent.new }
     {
         steps::try_and_begin(&mut self.state, seat, process, call, sent)
@@ -87,9 +89,11 @@ impl<D: Disk> BoxedState<D> {
 
     /// The flight of a seat ends.
     pub(crate) fn end_flight(&mut self, seat: u32, sent: SentFlight<D>) -> Option<Reply>
-        requires back { (note : Sent) × FitsAt self.old seat (Some note) × InHand (Some sent) (Some note) }
+        requires back { (note : Sent) × FitsAt self.old seat (Some note)
+            × InHand (Some sent) (Some note) }
         ensures ends { (note : Sent) → InHand (Some sent) (Some note)
-            → IsEvent seat self.old (Some note) self.new None × EndsFlight self.old self.new note result }
+            → IsEvent seat self.old (Some note) self.new None
+            × EndsFlight self.old self.new note result }
     {
         steps::end_flight(&mut self.state, seat, sent)
     }
@@ -98,6 +102,7 @@ impl<D: Disk> BoxedState<D> {
     pub(crate) fn move_hand(&mut self, seat: u32) -> Option<SentFlight<D>>
         requires fits { FitsAt self.old seat None }
         requires seat { seat < length self.old.syncs }
+        // One event, which makes no entry; a push that is out then is for no call.
         ensures event { IsEvent seat self.old None self.new (note_of_held result) }
         ensures ready { AreUnperformed result }
         ensures of { IsForNone (note_of_held result) }
