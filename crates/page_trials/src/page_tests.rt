@@ -118,7 +118,6 @@ fn release(store: &mut Store<MemDisk>, name: PageName) -> bool {
         return false;
     }
     store.release(frame);
-    store.move_hand(frame);
     true
 }
 
@@ -253,9 +252,18 @@ fn make_all(store: &mut Store<MemDisk>, calls: &[(Call, bool, [Seen; 5])]) -> Re
     Ok(())
 }
 
+/// Each search for a victim begins at the first frame.
+fn move_hand_to_the_last(store: &mut Store<MemDisk>) {
+    let frames = store.frame_count();
+    if frames > 0 {
+        store.move_hand(frames - 1);
+    }
+}
+
 fn make_in_new_store(alloc: Global, calls: &[(Call, bool, [Seen; 5])]) -> Result<(), Fail> {
     let mut store = new_store(alloc)?;
     takes_the_first(&store)?;
+    move_hand_to_the_last(&mut store);
     make_all(&mut store, calls)
 }
 

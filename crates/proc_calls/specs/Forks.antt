@@ -20,6 +20,11 @@ fork_entry p child reply cleared = record { process = p; call = Fork child; repl
 abbrev pub BearsChild : Memory → Memory → ℕ → ℕ → Type 0
 BearsChild old new p child = (cleared : ℕ) → BearsProcess child old new (λ F G. IsDue F (fork_entry p child Done cleared) × (G ≡ after_act F (fork_entry p child Done cleared)))
 
+-- It is done: its child is born, and no refusal was due, whatever is outside.
+pub record DoesFork (old new : Memory) (p child : ℕ) : Type 0 where
+  pub bears : BearsChild old new p child
+  pub due : (born : set.FinSet nat_cmp) (notes : Notes) → (effect (flat_memory old born notes) p (Fork child)).reply ≡ Done
+
 -- One that is refused changes nothing, and the refusal is due, whatever is outside.
 pub record RefusesFork (old new : Memory) (p child : ℕ) : Type 0 where
   pub same : new ≡ old
@@ -27,7 +32,7 @@ pub record RefusesFork (old new : Memory) (p child : ℕ) : Type 0 where
 
 -- WHAT THE REPLY TO A FORK SAYS: it is done, or refused for want of swap.
 abbrev pub IsForked : Memory → Memory → ℕ → ℕ → Reply → Type 0
-IsForked old new p child Done = BearsChild old new p child
+IsForked old new p child Done = DoesFork old new p child
 IsForked old new p child (Refused NoSwap) = RefusesFork old new p child
 IsForked old new p child reply = ⊥
 

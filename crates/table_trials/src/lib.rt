@@ -1,4 +1,4 @@
-//! Trials of the tables: calls, replies and files; the frames' tables; swap and anonymous pages; translations and address spaces. There is nothing here but tests.
+//! Trials of the tables: calls, replies and files; the frames' tables; swap and anonymous pages; zero objects; translations and address spaces. There is nothing here but tests.
 #![tactic(auto)]
 
 #[cfg(test)]
@@ -27,3 +27,5 @@ mod space_tests;
 mod swap_tests;
 #[cfg(test)]
 mod word_tests;
+#[cfg(test)]
+mod zero_tests;

@@ -1,5 +1,6 @@
 use anon_map::AnonMaps;
-use std::alloc::AllocError;
+use std::alloc::{AllocError, Global};
+use std::test::Fail;
 
 // Each call where its conditions hold, and None where one doesn't.
 fn hold(maps: &mut AnonMaps, map: u32) -> Option<u32> {
@@ -73,10 +74,9 @@ fn cut_into(maps: &mut AnonMaps, map: u32, at: u32) -> Result<u32, AllocError> {
 }
 
 // How many places and holders a map has, and its first two places.
-fn shape(
-    maps: &AnonMaps,
-    map: u32,
-) -> Option<(u32, u32, Option<Option<u32>>, Option<Option<u32>>)> {
+type Shape = Option<(u32, u32, Option<Option<u32>>, Option<Option<u32>>)>;
+
+fn shape(maps: &AnonMaps, map: u32) -> Shape {
     if maps.is_there(map) {
         Some((
             maps.pages(map),
@@ -89,62 +89,137 @@ fn shape(
     }
 }
 
-#[test]
-fn makes_copies_cuts_and_gives_up_maps(rt: HostRuntime) -> Result<(), AllocError> {
-    let mut maps = AnonMaps::new(rt.alloc());
-    assert_eq!(rt; shape(&maps, 0), None);
-    assert_eq!(rt; maps.make(3)?, 0);
-    assert_eq!(rt; shape(&maps, 0), Some((3, 1, Some(None), Some(None))));
-    assert!(rt; set(&mut maps, 0, 1, Some(7)));
-    assert!(rt; set(&mut maps, 0, 2, Some(9)));
-    assert!(rt; !set(&mut maps, 0, 3, Some(9)));
-    assert_eq!(rt; hold(&mut maps, 0), Some(2));
-    assert_eq!(rt; release(&mut maps, 0), Some(false));
-    assert_eq!(rt; shape(&maps, 0), Some((3, 1, Some(None), Some(Some(7)))));
+#[derive(Clone, Copy, Debug)]
+enum Act {
+    Make(u32),
+    Hold(u32),
+    Release(u32),
+    Set(u32, u32, Option<u32>),
+    CopyRange(u32, u32, u32),
+    Cut(u32, u32),
+    Reserve(u32),
+    Put(u32),
+    CutInto(u32, u32),
+    /// Looks at a map.
+    Shape(u32),
+    /// How many places a map has.
+    Pages(u32),
+}
 
-    assert_eq!(rt; copy_range(&mut maps, 0, 1, 2)?, 1);
-    assert_eq!(rt; shape(&maps, 1), Some((2, 1, Some(Some(7)), Some(Some(9)))));
-    assert_eq!(rt; cut(&mut maps, 0, 2)?, 2);
-    assert_eq!(rt; shape(&maps, 0), Some((2, 1, Some(None), Some(Some(7)))));
-    assert_eq!(rt; shape(&maps, 2), Some((1, 1, Some(Some(9)), None)));
-    assert_eq!(rt; cut(&mut maps, 1, 0)?, 3);
-    assert_eq!(rt; shape(&maps, 1), Some((0, 1, None, None)));
-    assert_eq!(rt; shape(&maps, 3), Some((2, 1, Some(Some(7)), Some(Some(9)))));
-    assert_eq!(rt; cut(&mut maps, 3, 2)?, 4);
-    assert_eq!(rt; shape(&maps, 3), Some((2, 1, Some(Some(7)), Some(Some(9)))));
-    assert_eq!(rt; shape(&maps, 4), Some((0, 1, None, None)));
+#[derive(Clone, Copy, PartialEq, Eq, Debug)]
+enum Told {
+    Number(u32),
+    Holders(Option<u32>),
+    /// Whether the holder was the last.
+    Last(Option<bool>),
+    Set(bool),
+    Shape(Shape),
+    Pages(Option<u32>),
+    Done,
+}
 
-    // The numbers of maps that are gone come again before a new one.
-    assert_eq!(rt; release(&mut maps, 4), Some(true));
-    assert_eq!(rt; release(&mut maps, 1), Some(true));
-    assert_eq!(rt; shape(&maps, 1), None);
-    for number in [1, 4, 5] {
-        assert_eq!(rt; maps.make(1)?, number);
+fn make(maps: &mut AnonMaps, act: Act) -> Result<Told, AllocError> {
+    Ok(match act {
+        Act::Make(pages) => Told::Number(maps.make(pages)?),
+        Act::Hold(map) => Told::Holders(hold(maps, map)),
+        Act::Release(map) => Told::Last(release(maps, map)),
+        Act::Set(map, i, slot) => Told::Set(set(maps, map, i, slot)),
+        Act::CopyRange(map, from, pages) => Told::Number(copy_range(maps, map, from, pages)?),
+        Act::Cut(map, at) => Told::Number(cut(maps, map, at)?),
+        Act::Reserve(numbers) => {
+            maps.reserve(numbers)?;
+            Told::Done
+        }
+        Act::Put(pages) => Told::Number(put(maps, pages)?),
+        Act::CutInto(map, at) => Told::Number(cut_into(maps, map, at)?),
+        Act::Shape(map) => Told::Shape(shape(maps, map)),
+        Act::Pages(map) => Told::Pages(shape(maps, map).map(|seen| seen.0)),
+    })
+}
+
+/// Makes the acts. It fails at the first of which something else is told.
+fn make_all(maps: &mut AnonMaps, acts: &[(Act, Told)]) -> Result<(), Fail> {
+    for (place, &(act, told)) in acts.iter().enumerate() {
+        let made = make(maps, act)?;
+        if made != told {
+            return Err(Fail::new(format_args!("{place}: {act:?} is told {made:?}")));
+        }
     }
     Ok(())
 }
 
-#[test]
-fn puts_and_cuts_where_all_room_was_taken_before(rt: HostRuntime) -> Result<(), AllocError> {
-    let mut maps = AnonMaps::new(rt.alloc());
-    assert_eq!(rt; put(&mut maps, 3)?, 0);
-    assert_eq!(rt; shape(&maps, 0), Some((3, 1, Some(None), Some(None))));
-    assert!(rt; set(&mut maps, 0, 1, Some(7)));
-    assert!(rt; set(&mut maps, 0, 2, Some(9)));
-    assert_eq!(rt; cut_into(&mut maps, 0, 1)?, 1);
-    assert_eq!(rt; shape(&maps, 0), Some((1, 1, Some(None), None)));
-    assert_eq!(rt; shape(&maps, 1), Some((2, 1, Some(Some(7)), Some(Some(9)))));
-    assert_eq!(rt; cut_into(&mut maps, 1, 2)?, 2);
-    assert_eq!(rt; shape(&maps, 2), Some((0, 1, None, None)));
+fn make_in_new_maps(alloc: Global, acts: &[(Act, Told)]) -> Result<(), Fail> {
+    let mut maps = AnonMaps::new(alloc);
+    make_all(&mut maps, acts)
+}
 
-    // Numbers that are free already are enough, and one that was given up is free.
-    maps.reserve(3)?;
-    assert_eq!(rt; release(&mut maps, 2), Some(true));
-    for pages in [1, 0, 4, 2] {
-        let number = put(&mut maps, pages)?;
-        assert!(rt; 2 <= number && number <= 5);
-        assert_eq!(rt; shape(&maps, number).map(|seen| seen.0), Some(pages));
-    }
-    assert_eq!(rt; put(&mut maps, 0)?, 6);
-    Ok(())
+/// A map of so many places with one holder, and its first two places.
+const fn alone(pages: u32, first: Option<Option<u32>>, second: Option<Option<u32>>) -> Told {
+    Told::Shape(Some((pages, 1, first, second)))
+}
+
+#[test]
+fn makes_copies_cuts_and_gives_up_maps(rt: HostRuntime) -> Result<(), Fail> {
+    make_in_new_maps(
+        rt.alloc(),
+        &[
+            (Act::Shape(0), Told::Shape(None)),
+            (Act::Make(3), Told::Number(0)),
+            (Act::Shape(0), alone(3, Some(None), Some(None))),
+            (Act::Set(0, 1, Some(7)), Told::Set(true)),
+            (Act::Set(0, 2, Some(9)), Told::Set(true)),
+            (Act::Set(0, 3, Some(9)), Told::Set(false)),
+            (Act::Hold(0), Told::Holders(Some(2))),
+            (Act::Release(0), Told::Last(Some(false))),
+            (Act::Shape(0), alone(3, Some(None), Some(Some(7)))),
+            (Act::CopyRange(0, 1, 2), Told::Number(1)),
+            (Act::Shape(1), alone(2, Some(Some(7)), Some(Some(9)))),
+            (Act::Cut(0, 2), Told::Number(2)),
+            (Act::Shape(0), alone(2, Some(None), Some(Some(7)))),
+            (Act::Shape(2), alone(1, Some(Some(9)), None)),
+            (Act::Cut(1, 0), Told::Number(3)),
+            (Act::Shape(1), alone(0, None, None)),
+            (Act::Shape(3), alone(2, Some(Some(7)), Some(Some(9)))),
+            (Act::Cut(3, 2), Told::Number(4)),
+            (Act::Shape(3), alone(2, Some(Some(7)), Some(Some(9)))),
+            (Act::Shape(4), alone(0, None, None)),
+            // The numbers of maps that are gone come again before a new one.
+            (Act::Release(4), Told::Last(Some(true))),
+            (Act::Release(1), Told::Last(Some(true))),
+            (Act::Shape(1), Told::Shape(None)),
+            (Act::Make(1), Told::Number(1)),
+            (Act::Make(1), Told::Number(4)),
+            (Act::Make(1), Told::Number(5)),
+        ],
+    )
+}
+
+#[test]
+fn puts_and_cuts_where_all_room_was_taken_before(rt: HostRuntime) -> Result<(), Fail> {
+    make_in_new_maps(
+        rt.alloc(),
+        &[
+            (Act::Put(3), Told::Number(0)),
+            (Act::Shape(0), alone(3, Some(None), Some(None))),
+            (Act::Set(0, 1, Some(7)), Told::Set(true)),
+            (Act::Set(0, 2, Some(9)), Told::Set(true)),
+            (Act::CutInto(0, 1), Told::Number(1)),
+            (Act::Shape(0), alone(1, Some(None), None)),
+            (Act::Shape(1), alone(2, Some(Some(7)), Some(Some(9)))),
+            (Act::CutInto(1, 2), Told::Number(2)),
+            (Act::Shape(2), alone(0, None, None)),
+            // Numbers that are free already are enough, and one that was given up is free: 2 to 5, the last first.
+            (Act::Reserve(3), Told::Done),
+            (Act::Release(2), Told::Last(Some(true))),
+            (Act::Put(1), Told::Number(2)),
+            (Act::Pages(2), Told::Pages(Some(1))),
+            (Act::Put(0), Told::Number(5)),
+            (Act::Pages(5), Told::Pages(Some(0))),
+            (Act::Put(4), Told::Number(4)),
+            (Act::Pages(4), Told::Pages(Some(4))),
+            (Act::Put(2), Told::Number(3)),
+            (Act::Pages(3), Told::Pages(Some(2))),
+            (Act::Put(0), Told::Number(6)),
+        ],
+    )
 }

@@ -9,6 +9,7 @@ pub mod Landings
 pub mod Starts
 pub mod Departures
 pub mod Served
+pub mod Forked
 pub mod Uses
 pub mod Looks
 pub mod Hands

@@ -54,13 +54,13 @@ use Rattle.proc_calls.specs.Ends as procs
 use Rattle.fault_entry.specs.Accesses.{IsAccess, IsHitWhereDone, IsShownWhereDone, MayBeAnswered, SlotsWhereDone, is_store}
 use Rattle.seg_vn.specs.Serves.{Serves, IsPlainReply}
 use Rattle.seg_vn.proofs.HomeFrames.{home-beside}
-use Rattle.vm_core.specs.Calls.{IsServed, ChangesMappings, IsDone, IsNeeded, IsBusy, IsOwnReply, IsShownAfterCall, SlotsAfterCall, IsHitAfterCall, TakesMemory, AnswersCall, with_memory, after_answer}
+use Rattle.vm_core.specs.Calls.{IsOnOwnSpace, IsServed, ChangesMappings, IsDone, IsNeeded, IsBusy, IsOwnReply, IsShownAfterCall, SlotsAfterCall, IsHitAfterCall, TakesMemory, AnswersCall, with_memory, after_answer}
 use Rattle.vm_core.specs.Fits.{FitsAt}
 use Rattle.vm_core.specs.State.{IsSoundKernel}
 use Rattle.seg_vn.specs.declared.attempt.Attempt.{Attempt}
 use Rattle.seg_vn.specs.declared.attempt.Attempt.TheVariants.{Done, Need, Busy}
 
--- THE CALLS THAT ARE SERVED are of no file and bear nobody.
+-- THE CALLS ON A PROCESS'S OWN SPACE are of no file and bear nobody.
 pub record IsOfNoFile (call : Call) : Type 0 where
   pub file : file_of_call call ≡ None
   pub part : part_file call ≡ None
@@ -71,7 +71,7 @@ either : (b : Bool) → cond b false false ≡ false
 either true = refl
 either false = refl
 
-pub served-is : (call : Call) → IsServed call → IsOfNoFile call
+pub served-is : (call : Call) → IsOnOwnSpace call → IsOfNoFile call
 served-is (Load a n) h = record { file = refl; part = refl; plain = λ child e. let z : Load a n ≡ Fork child = e in cc; bears = λ q p cleared reply. either (is_done reply) }
 served-is (Store a n v) h = record { file = refl; part = refl; plain = λ child e. let z : Store a n v ≡ Fork child = e in cc; bears = λ q p cleared reply. either (is_done reply) }
 served-is (Map place len prot kind obj offset) h = record { file = refl; part = refl; plain = λ child e. let z : Map place len prot kind obj offset ≡ Fork child = e in cc; bears = λ q p cleared r. either (is_done r) }
@@ -80,8 +80,16 @@ served-is (Protect a len prot) h = record { file = refl; part = refl; plain = λ
 served-is Exit h = record { file = refl; part = refl; plain = λ child e. let z : Exit ≡ Fork child = e in cc; bears = λ q p cleared r. either (is_done r) }
 served-is call h = absurd h
 
--- What is served and is no access changes mappings; and where it isn't the exit, its process goes on.
-pub no-access : (call : Call) → IsServed call → ((a n : ℕ) → call ≢ Load a n) → ((a n v : ℕ) → call ≢ Store a n v) → ChangesMappings call
+-- What is served and is no Fork is on the process's own space; so is an access.
+pub no-fork : (call : Call) → IsServed call → ((child : ℕ) → call ≢ Fork child) → IsOnOwnSpace call
+no-fork (Fork child) h fork = absurd (fork child refl)
+no-fork call h fork = h
+
+pub access-own : (call : Call) → ((a : ℕ) × (n : ℕ) × (call ≡ Load a n)) ⊎ ((a : ℕ) × (n : ℕ) × (v : ℕ) × (call ≡ Store a n v)) → IsOnOwnSpace call
+access-own call is = elim is [ inl x ↦ subst IsOnOwnSpace (sym x.2) tt | inr x ↦ subst IsOnOwnSpace (sym x.3) tt ]
+
+-- What is on it and is no access changes mappings; and where it isn't the exit, its process goes on.
+pub no-access : (call : Call) → IsOnOwnSpace call → ((a n : ℕ) → call ≢ Load a n) → ((a n v : ℕ) → call ≢ Store a n v) → ChangesMappings call
 no-access (Load a n) h load store = absurd (load a n refl)
 no-access (Store a n v) h load store = absurd (store a n v refl)
 no-access call h load store = h
@@ -265,7 +273,7 @@ pub home-frame : (store : StoreSeen) (zeros : List (Option ℕ)) (spaces : Space
 home-frame store zeros spaces entries seats notes table k sound fits beside = let few = away_law.disks store notes table sound fits in let enough = k.frames in home-beside store.frames beside (omega (arith, few, enough))
 
 -- WHAT IS KEPT after a call was served.
-kept-moved : (old new : Memory) (zeros after : List (Option ℕ)) (entries : List ℕ) (seats : ℕ) → IsSoundKernel old.world.store zeros old.spaces entries seats → KnowsZeros after new.spaces → new.world.store.bays ≡ old.world.store.bays → length new.world.store.frames ≡ length old.world.store.frames
+pub kept-moved : (old new : Memory) (zeros after : List (Option ℕ)) (entries : List ℕ) (seats : ℕ) → IsSoundKernel old.world.store zeros old.spaces entries seats → KnowsZeros after new.spaces → new.world.store.bays ≡ old.world.store.bays → length new.world.store.frames ≡ length old.world.store.frames
     → IsSoundKernel new.world.store after new.spaces entries seats
 kept-moved old new zeros after entries seats k known bays frames =
     let disks = ap (λ (b : List BaySeen). length (filter is_disk b)) bays in
@@ -279,7 +287,7 @@ kept-served old new zeros after pending more calls p call (Need plan) entries se
 kept-served old new zeros after pending more calls p call (Busy h) entries seats k known s = kept-moved old new zeros after entries seats k known s.first.step.bays s.first.step.frames
 
 -- A reply of an access is its own.
-plain-own : (s : KernelState) (p : ℕ) (r : Reply) → IsPlainReply r → IsOwnReply s p (Done r)
+pub plain-own : (s : KernelState) (p : ℕ) (r : Reply) → IsPlainReply r → IsOwnReply s p (Done r)
 plain-own s p (reply.Io disk before after) h = absurd h
 plain-own s p (reply.Synced from) h = absurd h
 plain-own s p reply.Done h = (refl, λ b e. absurd (let z : reply.Done ≡ reply.Synced b = e in cc))
@@ -362,7 +370,7 @@ pub record Tries (s t : KernelState) (seat p : ℕ) (call : Call) (a : Attempt) 
   pub hit : IsHitAfterCall s.memory t.memory.world p call a
   pub event : IsEvent seat s None t None
 
-pub tries : (seat p : ℕ) (s mid t : KernelState) (call : Call) (a : Attempt) → FitsAt s seat None → IsServed call → CanTry s seat p call → IsWellFormed call → WasServed s mid p call a → t ≡ after_answer mid seat p call a
+pub tries : (seat p : ℕ) (s mid t : KernelState) (call : Call) (a : Attempt) → FitsAt s seat None → IsOnOwnSpace call → CanTry s seat p call → IsWellFormed call → WasServed s mid p call a → t ≡ after_answer mid seat p call a
     → seat < length mid.syncs → Tries s t seat p call a
 tries seat p s mid t call a fits served may formed w new seated =
     let of = served-is call served in

@@ -1,5 +1,5 @@
 -- The state at the start is one at the opening.
-use Rattle.std.proofs.Common.{◌≡◌, ◌≢◌, ℕ, zero, suc, ◌+◌, ◌<◌, ◌≤◌, Bool, true, false, cond, List, [], ◌∷◌, length, map, replicate, Option, Some, None, refl, sym, ap, ◌∙◌, inl, inr, subst, arith}
+use Rattle.std.proofs.Common.{◌≡◌, ◌≢◌, ℕ, zero, suc, ◌+◌, ◌<◌, ◌≤◌, ◌==◌, Bool, true, false, cond, List, [], ◌∷◌, length, map, replicate, Option, Some, None, refl, sym, ap, ◌∙◌, inl, inr, subst, arith}
 use Rattle.std.specs.Prelude.{◌⊎◌, IsSome, IfSome, filter, is_some, option_map, slice_get, slice_index, slice_index_or, slice_set}
 use Rattle.std.specs.Ordering.{nat_cmp}
 use Rattle.std.specs.FinMap as finite
@@ -37,7 +37,7 @@ use Rattle.vm_world.specs.ZeroObjects.{KnowsZeros}
 use Rattle.vm_world.proofs.PageNames.{index-of}
 use Rattle.vm_world.proofs.Spaces.{EmptySpaces, empty-zeros}
 use Rattle.vm_core.specs.Setup.{disk_total, FilesOnDisks, ListsDisk, SwapServes, HaveCounted}
-use Rattle.vm_core.specs.State.{top_space, IsSoundKernel}
+use Rattle.vm_core.specs.State.{top_space, EachHasPlaces, IsSoundKernel}
 
 pub at-replicate : {X : Type 0} (n k : ℕ) (x : X) → slice_index_or (replicate n x) k x ≡ x
 at-replicate zero k x = refl
@@ -339,3 +339,11 @@ kept-start store objects spaces parents entries frames count seats syncs disks s
     let frames_are = ap (λ (l : List (Option (List ℕ))). length l) new.frames ∙ length-replicate frames (Some zeros) in
     let seats_are = ap (λ (l : List (Option ℕ)). length l) are ∙ length-replicate seats None in
     record { frames = omega (arith, disks_are, frames_are, enough); known = subst (λ (l : List (Option ℕ)). KnowsZeros l spaces) (sym nothing) (known-none parents spaces tops); seated = omega (arith, seats_are, few) }
+
+-- And each process has its places.
+pub have-places : (parents entries : List ℕ) (processes seats : ℕ) (marks : List Bool) (syncs : List (Option ℕ)) → processes ≡ length parents → marks ≡ map (λ (n : ℕ). n == 0) parents → syncs ≡ replicate seats None → length parents ≡ length entries → length entries ≤ seats
+    → EachHasPlaces parents processes (length marks) (length syncs)
+have-places parents entries processes seats marks syncs all are none each few =
+    let marked = ap (λ (l : List Bool). length l) are ∙ length-map parents (λ (n : ℕ). n == 0) in
+    let count = ap (λ (l : List (Option ℕ)). length l) none ∙ length-replicate seats None in
+    record { spaces = omega (arith, all); marks = omega (arith, marked); seats = omega (arith, each, few, count) }

@@ -90,7 +90,7 @@ tops-more parents i old new lt t is = by_top (slice_index parents i == 0) refl
     }
 
 -- Who was ever alive at the start: who has no parent.
-any-below : (marks : List Bool) (k p : ℕ) → p < k → list_any (λ (y : ℕ). y == p) (marked_processes k marks) ≡ false
+pub any-below : (marks : List Bool) (k p : ℕ) → p < k → list_any (λ (y : ℕ). y == p) (marked_processes k marks) ≡ false
 any-below [] k p lt = refl
 any-below (true ∷ marks) k p lt = ap (λ (b : Bool). b || list_any (λ (y : ℕ). y == p) (marked_processes (suc k) marks)) (let e : (k == p) ≡ false = grind (arith, nat_tests) in e) ∙ any-below marks (suc k) p (omega (arith, lt))
 any-below (false ∷ marks) k p lt = any-below marks (suc k) p (omega (arith, lt))

@@ -31,11 +31,16 @@ abbrev pub ChangesMappings : Call → Type 0
 ChangesMappings Exit = Unit {0}
 ChangesMappings call = IsMappingCall call
 
--- The calls that are served so far: loads, stores, and those that change mappings.
+-- The calls on the process's own space: loads, stores, and those that change mappings.
+abbrev pub IsOnOwnSpace : Call → Type 0
+IsOnOwnSpace (Load a n) = Unit {0}
+IsOnOwnSpace (Store a n v) = Unit {0}
+IsOnOwnSpace call = ChangesMappings call
+
+-- The calls that are served so far: those, and a Fork.
 abbrev pub IsServed : Call → Type 0
-IsServed (Load a n) = Unit {0}
-IsServed (Store a n v) = Unit {0}
-IsServed call = ChangesMappings call
+IsServed (Fork child) = Unit {0}
+IsServed call = IsOnOwnSpace call
 
 -- The state with other memory, and these tails pending.
 abbrev pub with_memory : KernelState → Memory → ℕ → KernelState
@@ -78,7 +83,7 @@ abbrev pub IsOwnReply : KernelState → ℕ → Attempt → Type 0
 IsOwnReply s p (Done reply) = IsFalse (is_io reply) × ((from : ℕ) → reply ≡ Synced from → from ≡ start_of s (seat_of p))
 IsOwnReply s p attempt = Unit {0}
 
--- The calls that take memory: those that change what is mapped.
+-- The calls that take memory: those that change what is mapped, and a Fork.
 abbrev pub TakesMemory : Call → Type 0
 TakesMemory (Map place len prot kind object offset) = Unit {0}
 TakesMemory (Unmap a len) = Unit {0}

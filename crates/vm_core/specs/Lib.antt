@@ -8,3 +8,4 @@ pub mod Fits
 pub mod Clock
 pub mod Flights
 pub mod Calls
+pub mod Forks

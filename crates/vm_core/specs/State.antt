@@ -32,6 +32,12 @@ pub record IsSoundKernel (store : StoreSeen) (zeros : List (Option ℕ)) (spaces
   pub known : KnowsZeros zeros spaces
   pub seated : length entries ≤ seats
 
+-- EACH PROCESS HAS ITS PLACE: for its space, for the mark that it was ever alive, and for its seat.
+pub record EachHasPlaces (parents : List ℕ) (processes marked seated : ℕ) : Type 0 where
+  pub spaces : length parents ≤ processes
+  pub marks : length parents ≤ marked
+  pub seats : length parents ≤ seated
+
 -- The space of a process at the start: empty where it has no parent, else none.
 abbrev pub top_space : List ℕ → ℕ → Option (List (Part Segment))
 top_space parents p = if is_top parents p then Some [] else None

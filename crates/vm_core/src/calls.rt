@@ -30,7 +30,7 @@ impl<D: Disk> VmState<D> {
     /// Tries a call of a process at its seat.
     ///
     /// `Done` adds its entry to the history. `Need` is a transfer that is needed first; `begin` begins it. `Busy` says whom the call
-    /// waits for. The error is want of memory, and comes at a mapping call alone. A load or a store whose page has its translation
+    /// waits for. The error is want of memory, and comes at a mapping call or a Fork alone. A load or a store whose page has its translation
     /// takes constant expected time and no memory; none makes a disk call.
     pub fn try_call(&mut self, seat: u32, process: u32, call: &Call) -> Result<Attempt, AllocError>
         requires fits { FitsAt self.old seat None }
@@ -47,13 +47,16 @@ impl<D: Disk> VmState<D> {
         ensures hit { IfOk result (λ attempt. IsHitAfterCall self.old.memory
             self.new.memory.world process call.now attempt) }
         ensures event { IsEvent seat self.old None self.new None }
-        // Want of memory comes at a mapping call alone, and nothing changed then.
+        // Want of memory comes at a mapping call or a Fork alone, and nothing changed then.
         ensures memory { OnErr result (TakesMemory call.now) }
         ensures err { OnErr result (self.new ≡ self.old) }
     {
         if let Call::Load { .. } | Call::Store { .. } = *call {
             let answer = self.access(process, call);
             return Ok(self.settle(seat, process, call, answer));
+        }
+        if let Call::Fork { child } = *call {
+            return self.fork(seat, process, child, call);
         }
         let attempt = self.serve(process, call)?;
         Ok(self.conclude(seat, process, call, attempt))
@@ -81,7 +84,13 @@ impl<D: Disk> VmState<D> {
     // The entry of a call that is done is made; or the plan is kept that it needs, and where a Sync began. Inline, so that an attempt that is known where it is
     // concluded isn't made first.
     #[inline(always)]
-    fn conclude(&mut self, seat: u32, process: u32, call: &Call, attempt: Attempt) -> Attempt
+    pub(crate) fn conclude(
+        &mut self,
+        seat: u32,
+        process: u32,
+        call: &Call,
+        attempt: Attempt,
+    ) -> Attempt
         requires room { length (entries_of self.old.history process)
             < room_of self.old.entries process }
         requires own { seat_of process ≡ seat }

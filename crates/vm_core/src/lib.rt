@@ -9,6 +9,7 @@ mod clock;
 mod closing;
 mod ends;
 mod finish;
+mod forks;
 mod history;
 mod kept;
 mod ledger;

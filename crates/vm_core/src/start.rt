@@ -62,8 +62,9 @@ fn bear(alloc: Global, spaces: &mut Spaces, process: u32, parent: u32)
 /// The spaces at the start.
 fn top_spaces(alloc: Global, parents: &[u32]) -> Result<Spaces, AllocError>
     requires { length parents.now < 2 ^ 32 }
-    ensures { IfOk result (λ spaces. (p : ℕ) → finite.get spaces.spaces p
+    ensures tops { IfOk result (λ spaces. (p : ℕ) → finite.get spaces.spaces p
         ≡ top_space parents.now p) }
+    ensures processes { IfOk result (λ spaces. spaces.processes ≡ length parents.now) }
 {
     let mut spaces = Spaces::new(alloc, parents.len() as u32)?;
     for place in 0..parents.len() {
@@ -95,6 +96,8 @@ fn take_tables<D: Disk>(alloc: Global, setup: &Setup<D>) -> Result<Tables, Alloc
     // The processes and their history.
     ensures spaces { IfOk result (λ t. (p : ℕ) → finite.get t.spaces.spaces p
         ≡ top_space setup.now.parents.items p) }
+    ensures processes { IfOk result (λ t. t.spaces.processes
+        ≡ length setup.now.parents.items) }
     ensures history { IfOk result (λ t. t.ledger.history ≡ []) }
     ensures entries { IfOk result (λ t. t.ledger.entries ≡ setup.now.entries.items) }
     ensures syncs { IfOk result (λ t. t.syncs.items ≡ replicate setup.now.seats None) }
@@ -205,6 +208,7 @@ impl<D: Disk> VmState<D> {
                 plan: None,
                 born: tables.born,
                 parents,
+                alloc,
             }),
             Err((disks, swap)) => Err(Setup {
                 frames,

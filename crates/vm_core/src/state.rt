@@ -11,6 +11,7 @@ use crate::kept::Kept;
 use crate::ledger::Ledger;
 use block_device::Disk;
 use seg_vn::Spaces;
+use std::alloc::Global;
 use std::marker::Model;
 use vm_types::{Call, Reply, part_file};
 use vm_world::World;
@@ -36,6 +37,8 @@ pub struct VmState<D: Disk> {
     // Of each process whether it was ever alive, and its parent.
     pub(crate) born: Vec<bool>,
     pub(crate) parents: Vec<u32>,
+    // Where a child's space comes from.
+    pub(crate) alloc: Global,
 }
 
 // The call of a file that is a seat's is over.
@@ -61,7 +64,7 @@ impl<D: Disk> Model for VmState<D> {
     ghost use Rattle.std.specs.Prelude.{option_map, length};
     ghost use Rattle.vm_world.specs.State.{KernelState};
     ghost use Rattle.vm_world.specs.World.{world_seen};
-    ghost use Rattle.vm_core.specs.State.{kept_seen, born_of, IsSoundKernel};
+    ghost use Rattle.vm_core.specs.State.{kept_seen, born_of, EachHasPlaces, IsSoundKernel};
     ghost use Rattle.vm_core.specs.StateCode.{state_code};
 
     ghost Value = { KernelState };
@@ -80,7 +83,8 @@ impl<D: Disk> Model for VmState<D> {
       entries = s.ledger.entries;
     } };
 
-    ghost invariant = { λ s. IsSoundKernel s.world.store s.world.zeros s.spaces.spaces s.ledger.entries (length s.syncs.items) };
+    ghost invariant = { λ s. IsSoundKernel s.world.store s.world.zeros s.spaces.spaces s.ledger.entries (length s.syncs.items)
+        × EachHasPlaces s.parents.items s.spaces.processes (length s.born.items) (length s.syncs.items) };
 }
 
 impl<D: Disk> VmState<D> {

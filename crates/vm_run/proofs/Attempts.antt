@@ -6,7 +6,7 @@ use Rattle.page_store.specs.declared.plan.Plan.{Plan}
 use Rattle.vm_types.specs.declared.call.Call.{Call}
 use Rattle.vm_types.specs.declared.call.Entry.{Entry}
 use Rattle.vm_types.specs.declared.call.Reply.{Reply}
-use Rattle.vm_core.specs.Calls.{IsBusy, IsNeeded, IsServed}
+use Rattle.vm_core.specs.Calls.{IsBusy, IsNeeded, IsOnOwnSpace}
 use Rattle.vm_core.specs.Finish.{FitsStill}
 use Rattle.vm_world.specs.Events.{IsEvent}
 use Rattle.vm_world.specs.State.{KernelState}
@@ -31,4 +31,4 @@ made-nothing s t u call (Some reply) none event is grows = absurd (let z : true 
 pub no-busy : (s t u : KernelState) (call : Call) (h : Hold) → FitsStill s → MayGoOn s → MadeNothing s t → IsEvent 0 t None u None → IsBusy t u 0 1 call h → ⊥
 no-busy s t u call h still may none event busy =
     never-waits u call h (stays-still t u event (stays-still s t none.event still))
-    (subst (All (λ (e : Entry). IsServed e.call)) (sym (busy.began.none.history ∙ none.same)) may.served) busy.holds
+    (subst (All (λ (e : Entry). IsOnOwnSpace e.call)) (sym (busy.began.none.history ∙ none.same)) may.served) busy.holds

@@ -9,7 +9,7 @@ use Rattle.std.proofs.lemmas.List.Sums.{AllPass-from_list_all, sum_by-cons}
 use Rattle.vm_types.specs.declared.call.Call.{Call}
 use Rattle.vm_types.specs.declared.call.Call.TheVariants as call
 use Rattle.vm_types.specs.WellFormed.{IsWellFormed}
-use Rattle.vm_core.specs.Calls.{IsServed}
+use Rattle.vm_core.specs.Calls.{IsOnOwnSpace}
 use Rattle.vm_script.specs.declared.plan.PlanAct.{PlanAct}
 use Rattle.vm_script.specs.declared.plan.PlanAct.TheVariants as act
 use Rattle.vm_script.specs.declared.plan.PlanLine.{PlanLine}
@@ -24,7 +24,7 @@ use Rattle.vm_run.specs.Lines.{line_call, line_calls, MayBeMade, AreLines}
 use Rattle.vm_run.specs.Played.{IsPlayable}
 
 -- THE CALL of a line that is served
-pub served-call : (c : Call) → IsTrue (is_served_call c) → IsServed c
+pub served-call : (c : Call) → IsTrue (is_served_call c) → IsOnOwnSpace c
 served-call (call.Load a n) is = tt
 served-call (call.Store a n v) is = tt
 served-call (call.Map place len prot kind o offset) is = tt
@@ -51,7 +51,7 @@ named-call (call.Truncate file len) is = absurd (let z : false ≡ true = is in 
 named-call (call.Fork child) is = absurd (let z : false ≡ true = is in cc)
 named-call call.Exit is = absurd (let z : false ≡ true = is in cc)
 
-pub served-line : (a : PlanAct) → IsTrue (is_served_act a) → IsServed (line_call a)
+pub served-line : (a : PlanAct) → IsTrue (is_served_act a) → IsOnOwnSpace (line_call a)
 served-line (act.Call c) is = served-call c is
 served-line (act.Named name c) is = served-call c (named-call c is).0
 served-line (act.Write name file offset bytes) is = absurd (let z : false ≡ true = is in cc)
@@ -84,7 +84,7 @@ inner-line (act.Write name file offset bytes) is inner = absurd (let z : false �
 inner-line act.Wait is inner = absurd (let z : false ≡ true = is in cc)
 
 -- it makes one entry
-one-part : (c : Call) → IsServed c → call_parts c ≡ 1
+one-part : (c : Call) → IsOnOwnSpace c → call_parts c ≡ 1
 one-part (call.Load a n) is = refl
 one-part (call.Store a n v) is = refl
 one-part (call.Map place len prot kind o offset) is = refl

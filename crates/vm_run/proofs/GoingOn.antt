@@ -12,7 +12,7 @@ use Rattle.vm_types.specs.Parts.{next_part, part_file}
 use Rattle.flat_model.specs.Births.{is_birth}
 use Rattle.flat_model.specs.OpenLaws.{FollowsOn, IsOpenPart, MayFollow, last_entry}
 use Rattle.flat_model.specs.Told.{entries_of}
-use Rattle.vm_core.specs.Calls.{IsServed}
+use Rattle.vm_core.specs.Calls.{IsOnOwnSpace, IsServed}
 use Rattle.vm_core.specs.Finish.{FitsStill}
 use Rattle.vm_core.specs.Fits.{FitsAt}
 use Rattle.vm_world.specs.Events.{IsEvent, CanTry}
@@ -36,8 +36,13 @@ stays-still s t event still = (still.0, with_sent still.1 0 None, event.fits sti
 pub still-at : (s : KernelState) (seat : ℕ) → FitsStill s → FitsAt s seat None
 still-at s seat still = (still.0, still.1, still.2, still.3 seat)
 
--- a call that is served is no part, and ends itself
-no-part : (c : Call) → IsServed c → part_file c ≡ None
+-- a call on the process's own space is served
+pub is-served : (c : Call) → IsOnOwnSpace c → IsServed c
+is-served (Fork child) own = absurd own
+is-served c own = own
+
+-- it is no part, and ends itself
+no-part : (c : Call) → IsOnOwnSpace c → part_file c ≡ None
 no-part (Load a n) served = refl
 no-part (Store a n v) served = refl
 no-part (Map place len prot kind object offset) served = refl
@@ -50,7 +55,7 @@ no-part (Truncate file len) served = refl
 no-part (Fork child) served = refl
 no-part Exit served = refl
 
-pub no-next : (c : Call) (r : Reply) (bytes : List ℕ) → IsServed c → next_part c r bytes ≡ None
+pub no-next : (c : Call) (r : Reply) (bytes : List ℕ) → IsOnOwnSpace c → next_part c r bytes ≡ None
 unfolding next_part
 no-next (Load a n) r bytes served = refl
 no-next (Store a n v) r bytes served = refl
@@ -100,18 +105,18 @@ last-of P p (e ∷ H) o first all = last-of P p H (cond (e.process == p) (Some e
     by_test true = All-head P e H all
     by_test false = first
 
-last-served : (p : ℕ) (H : List Entry) → All (λ (e : Entry). IsServed e.call) H → IfSome (last_entry p H) (λ (e : Entry). IsServed e.call)
-last-served p H all = last-of (λ (e : Entry). IsServed e.call) p H None tt all
+last-served : (p : ℕ) (H : List Entry) → All (λ (e : Entry). IsOnOwnSpace e.call) H → IfSome (last_entry p H) (λ (e : Entry). IsOnOwnSpace e.call)
+last-served p H all = last-of (λ (e : Entry). IsOnOwnSpace e.call) p H None tt all
 
 -- no call is between two parts
-follows-served : (H : List Entry) (e : Entry) → All (λ (d : Entry). IsServed d.call) H → MayFollow H e
+follows-served : (H : List Entry) (e : Entry) → All (λ (d : Entry). IsOnOwnSpace d.call) H → MayFollow H e
 follows-served H e all = by_last (last_entry e.process H) (last-served e.process H all)
   where
-    by_last : (o : Option Entry) → IfSome o (λ (d : Entry). IsServed d.call) → MatchOption o (Unit {0}) (λ (d : Entry). FollowsOn d e)
+    by_last : (o : Option Entry) → IfSome o (λ (d : Entry). IsOnOwnSpace d.call) → MatchOption o (Unit {0}) (λ (d : Entry). FollowsOn d e)
     by_last None served = tt
     by_last (Some d) served = inl (ap is_none (no-next d.call d.reply [] served))
 
-no-child : (parents : List ℕ) (own : List Entry) (p : ℕ) (c : Call) → IsServed c → IsNewChild parents own p c
+no-child : (parents : List ℕ) (own : List Entry) (p : ℕ) (c : Call) → IsOnOwnSpace c → IsNewChild parents own p c
 no-child parents own p (Load a n) served = tt
 no-child parents own p (Store a n v) served = tt
 no-child parents own p (Map place len prot kind object offset) served = tt
@@ -125,7 +130,7 @@ no-child parents own p (Fork child) served = absurd served
 no-child parents own p Exit served = tt
 
 -- PROCESS 1 MAY TRY A CALL.
-pub may-try : (s : KernelState) (call : Call) → FitsStill s → MayGoOn s → IsServed call → CanTry s 0 1 call
+pub may-try : (s : KernelState) (call : Call) → FitsStill s → MayGoOn s → IsOnOwnSpace call → CanTry s 0 1 call
 may-try s call still may served =
     let own = entries_of s.history 1 in
     let alive = seat_law.known still.0 s still.1 s.history [] 1 still.2 (sym (append-nil s.history)) (record {
@@ -134,12 +139,12 @@ may-try s call still may served =
     }) in
     seat_law.can_try still.0 s still.1 0 1 call still.2 refl alive (record {
       room = let few = own-few 1 s.history in let room = may.room in omega (arith, few, room);
-      follows = λ reply cleared. follows-served own (done_entry 1 call reply cleared) (own-all (λ (e : Entry). IsServed e.call) 1 s.history may.served);
+      follows = λ reply cleared. follows-served own (done_entry 1 call reply cleared) (own-all (λ (e : Entry). IsOnOwnSpace e.call) 1 s.history may.served);
       bears = no-child s.parents own 1 call served;
     })
 
 -- IT NEVER WAITS for another seat.
-pub never-waits : (s : KernelState) (call : Call) (h : Hold) → FitsStill s → All (λ (e : Entry). IsServed e.call) s.history → MayHold s.memory s.calls 1 call h → ⊥
+pub never-waits : (s : KernelState) (call : Call) (h : Hold) → FitsStill s → All (λ (e : Entry). IsOnOwnSpace e.call) s.history → MayHold s.memory s.calls 1 call h → ⊥
 never-waits s call h still served may = elim (event_law.holds still.0 s still.1 1 call h still.2 may) [
   | inl some ↦ no-sent (still.1 (seat_in h)) (still.3 (seat_in h)) some
   | inr part ↦ no-open part.0 (last_entry (suc (seat_in h)) s.history) (last-served (suc (seat_in h)) s.history served) part.1
@@ -148,7 +153,7 @@ never-waits s call h still served may = elim (event_law.holds still.0 s still.1 
     no-sent : (o : Option Sent) → o ≡ None → IsSome o → ⊥
     no-sent o is some = let z : false ≡ true = sym (ap is_some is) ∙ some in cc
 
-    no-open : (f : ℕ) (o : Option Entry) → IfSome o (λ (d : Entry). IsServed d.call) → IsSomeAnd o (IsOpenPart f) → ⊥
+    no-open : (f : ℕ) (o : Option Entry) → IfSome o (λ (d : Entry). IsOnOwnSpace d.call) → IsSomeAnd o (IsOpenPart f) → ⊥
     no-open f None is part = part
     no-open f (Some d) is part = let z : ◌≡◌ {A = Option ℕ} None (Some f) = sym (no-part d.call is) ∙ part.0 in cc
 
@@ -162,6 +167,6 @@ goes-on s t event same may = record {
       let most : room_of t.entries 1 ≡ room_of s.entries 1 = ap (λ (f : Fixed). room_of f.entries 1) event.fixed in
       let room = may.room in
       omega (arith, made, most, room);
-  served = subst (All (λ (e : Entry). IsServed e.call)) (sym same) may.served;
+  served = subst (All (λ (e : Entry). IsOnOwnSpace e.call)) (sym same) may.served;
   stays = subst (All (λ (e : Entry). IsFalse (is_exit e.call))) (sym same) may.stays;
 }

@@ -7,7 +7,7 @@ use Rattle.vm_types.specs.declared.call.Call.{Call}
 use Rattle.vm_types.specs.declared.call.Call.TheVariants.{Exit}
 use Rattle.vm_types.specs.declared.call.Entry.{Entry}
 use Rattle.vm_types.specs.WellFormed.{IsWellFormed}
-use Rattle.vm_core.specs.Calls.{IsServed}
+use Rattle.vm_core.specs.Calls.{IsOnOwnSpace}
 use Rattle.vm_script.specs.declared.plan.PlanLine.{PlanLine}
 use Rattle.vm_world.specs.Events.{IsEvent}
 use Rattle.vm_world.specs.HistoryFits.{is_exit}
@@ -24,11 +24,11 @@ by-calls P (e ∷ H) calls is all =
     All-cons (λ (x : Entry). P x.call) e H (All-head P e.call (map (λ (x : Entry). x.call) H) both)
     (by-calls P H (map (λ (x : Entry). x.call) H) refl (All-tail P e.call (map (λ (x : Entry). x.call) H) both))
 
-take-served : (lines : List PlanLine) (n : ℕ) → All MayBeMade lines → All IsServed (take n (line_calls lines))
-take-served lines zero all = All-nil IsServed
-take-served [] (suc n) all = All-nil IsServed
+take-served : (lines : List PlanLine) (n : ℕ) → All MayBeMade lines → All IsOnOwnSpace (take n (line_calls lines))
+take-served lines zero all = All-nil IsOnOwnSpace
+take-served [] (suc n) all = All-nil IsOnOwnSpace
 take-served (l ∷ lines) (suc n) all =
-    All-cons IsServed (line_call l.act) (take n (line_calls lines)) (served-line l.act (All-head MayBeMade l lines all).served) (take-served lines n (All-tail MayBeMade l lines all))
+    All-cons IsOnOwnSpace (line_call l.act) (take n (line_calls lines)) (served-line l.act (All-head MayBeMade l lines all).served) (take-served lines n (All-tail MayBeMade l lines all))
 
 take-formed : (lines : List PlanLine) (n : ℕ) → All MayBeMade lines → All IsWellFormed (take n (line_calls lines))
 take-formed lines zero all = All-nil IsWellFormed
@@ -61,7 +61,7 @@ next-may lines n s t are come lt top seated room = record {
       let long : length t.history ≡ n = length-made lines n t.history (omega (arith, lt)) come.made in
       let most : room_of t.entries 1 ≡ room_of s.entries 1 = ap (λ (f : Fixed). room_of f.entries 1) come.event.fixed in
       omega (arith, long, most, lt, room);
-  served = by-calls IsServed t.history (take n (line_calls lines)) come.made (take-served lines n are.each);
+  served = by-calls IsOnOwnSpace t.history (take n (line_calls lines)) come.made (take-served lines n are.each);
   stays =
       let long = length-map lines (λ (l : PlanLine). line_call l.act) in
       by-calls (λ (c : Call). IsFalse (is_exit c)) t.history (take n (line_calls lines)) come.made

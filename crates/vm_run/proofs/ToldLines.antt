@@ -8,7 +8,7 @@ use Rattle.vm_types.specs.declared.call.Call.{Call}
 use Rattle.vm_types.specs.declared.call.Entry.{Entry}
 use Rattle.vm_types.specs.Parts.{part_bytes}
 use Rattle.flat_model.specs.Told.{Spells, SpellsAll, entries_of}
-use Rattle.vm_core.specs.Calls.{IsServed}
+use Rattle.vm_core.specs.Calls.{IsOnOwnSpace}
 use Rattle.vm_script.specs.declared.plan.PlanAct.{PlanAct}
 use Rattle.vm_script.specs.declared.plan.PlanAct.TheVariants as act
 use Rattle.vm_script.specs.declared.plan.PlanLine.{PlanLine}
@@ -21,7 +21,7 @@ use Rattle.vm_run.proofs.BlockLines.{AreServed, PlaysOne, served-call, named-cal
 use Rattle.vm_run.proofs.GoingOn.{no-next}
 
 -- ONE ENTRY spells a call that is served
-one-spelled : (c : Call) (e : Entry) → IsServed c → e.call ≡ c → Spells c [] (e ∷ [])
+one-spelled : (c : Call) (e : Entry) → IsOnOwnSpace c → e.call ≡ c → Spells c [] (e ∷ [])
 one-spelled c e served same = (
   same,
   subst (λ (o : Option Call). MatchOption o (◌≡◌ {A = List Entry} [] []) (λ (next : Call). Spells next (drop (length (part_bytes next)) []) [])) (sym (no-next c e.reply [] served)) refl,

@@ -5,7 +5,7 @@ use Rattle.vm_types.specs.declared.call.Call.TheVariants.{Exit}
 use Rattle.vm_types.specs.declared.call.Entry.{Entry}
 use Rattle.vm_types.specs.declared.call.Reply.{Reply}
 use Rattle.vm_types.specs.WellFormed.{IsWellFormed}
-use Rattle.vm_core.specs.Calls.{IsServed}
+use Rattle.vm_core.specs.Calls.{IsOnOwnSpace}
 use Rattle.vm_script.specs.declared.plan.PlanAct.{PlanAct}
 use Rattle.vm_script.specs.declared.plan.PlanAct.TheVariants as act
 use Rattle.vm_script.specs.declared.plan.PlanLine.{PlanLine}
@@ -38,7 +38,7 @@ pub record MayGoOn (s : KernelState) : Type 0 where
   pub top : IsTrue (is_top s.parents 1)
   pub seated : 0 < length s.syncs
   pub room : length s.history < room_of s.entries 1
-  pub served : All (λ (e : Entry). IsServed e.call) s.history
+  pub served : All (λ (e : Entry). IsOnOwnSpace e.call) s.history
   pub stays : All (λ (e : Entry). IsFalse (is_exit e.call)) s.history
 
 -- One entry more, of this process and call.

@@ -1,7 +1,7 @@
 //! One call of the one process, made on the kernel with the transfers that it needs.
 ghost use Rattle.std.specs.Prelude.{◌≡◌, ◌<◌, ℕ, length, Some, None, option_map, OnOk, OnErr};
 ghost use Rattle.vm_types.specs.WellFormed.{IsWellFormed};
-ghost use Rattle.vm_core.specs.Calls.{IsServed};
+ghost use Rattle.vm_core.specs.Calls.{IsOnOwnSpace};
 ghost use Rattle.vm_core.specs.Finish.{FitsStill};
 ghost use Rattle.vm_world.specs.Events.{IsEvent};
 ghost use Rattle.vm_run.specs.Lines.{MayGoOn, HasOneMore, GrowsWith};
@@ -42,7 +42,7 @@ pub fn make_call<D: Disk>(
 ) -> Result<(), AllocError>
     requires still { FitsStill state.old }
     requires may { MayGoOn state.old }
-    requires served { IsServed call.now }
+    requires served { IsOnOwnSpace call.now }
     requires formed { IsWellFormed call.now }
     // The call's entry is the one that came.
     ensures event { IsEvent 0 state.old None state.new None }

@@ -1,12 +1,12 @@
 -- ACTS OF TWO SEATS leave a state that fits with what the seats have outside.
-use Rattle.std.proofs.Common.{◌≡◌, ℕ, ◌<◌, ◌==◌, Bool, true, false, List, [], ◌∷◌, ◌++◌, length, map, zero, suc, Option, Some, None, refl, sym, ap, ◌∙◌, inl, inr, subst, arith}
+use Rattle.std.proofs.Common.{◌≡◌, ◌≢◌, ℕ, ◌<◌, ◌==◌, Bool, true, false, List, [], ◌∷◌, ◌++◌, length, map, zero, suc, Option, Some, None, refl, sym, ap, ◌∙◌, inl, inr, subst, arith}
 use Rattle.std.specs.Prelude.{IsTrue, IfSome, MatchOption, if◌then◌else◌, option_map, slice_index_or, slice_set}
 use Rattle.std.proofs.lemmas.Bool.{cases_eq}
 use Rattle.std.proofs.lemmas.List.{length-map, map-set, length-set, get_or-set_same, get_or-set_other}
 use Rattle.std.proofs.Math.ListN.{get_or-map}
 use Rattle.vm_types.specs.Parts.{next_part, ends_call}
 use Rattle.vm_types.specs.declared.call.Call.{Call}
-use Rattle.vm_types.specs.declared.call.Call.TheVariants.{Load, Store, Map, Unmap, Protect, Exit}
+use Rattle.vm_types.specs.declared.call.Call.TheVariants.{Load, Store, Map, Unmap, Protect, Fork, Exit}
 use Rattle.vm_types.specs.declared.call.Entry.{Entry}
 use Rattle.vm_types.specs.declared.call.Reply.{Reply}
 use Rattle.flat_model.specs.OpenLaws.{last_entry, FollowsOn, MayFollow}
@@ -34,17 +34,13 @@ served-ends (Store a n v) reply h = refl
 served-ends (Map place len prot kind object offset) reply h = refl
 served-ends (Unmap a len) reply h = refl
 served-ends (Protect a len prot) reply h = refl
+served-ends (Fork child) reply h = refl
 served-ends Exit reply h = refl
 served-ends call reply h = absurd h
 
-pub served-bears : (s : KernelState) (p : ℕ) (call : Call) → IsServed call → MayBear s p call
-served-bears s p (Load a n) h = tt
-served-bears s p (Store a n v) h = tt
-served-bears s p (Map place len prot kind object offset) h = tt
-served-bears s p (Unmap a len) h = tt
-served-bears s p (Protect a len prot) h = tt
-served-bears s p Exit h = tt
-served-bears s p call h = absurd h
+pub no-fork-bears : (s : KernelState) (p : ℕ) (call : Call) → ((child : ℕ) → call ≢ Fork child) → MayBear s p call
+no-fork-bears s p (Fork child) fork = absurd (fork child refl)
+no-fork-bears s p call fork = tt
 
 abbrev AnyFollows : List Entry → Type 0
 AnyFollows H = (e : Entry) → MayFollow H e
@@ -105,7 +101,7 @@ pub trial-same : (s t : KernelState) (trips : List (Option TripSeen)) (seat : �
 trial-same s t trips seat trial idle event same = trial-event s t trips seat trial idle event (subst AnyFollows (sym same) trial.follows)
 
 -- A TRANSFER goes out and comes back
-pub trial-sent : (s u : KernelState) (trips : List (Option TripSeen)) (seat : ℕ) (kept : KeptPlan) (f : FlightSeen) → IsTrialState s trips → seat < 2 → slice_index_or trips seat None ≡ None → IsEvent seat s None u (Some (sent_with kept f))
+pub trial-sent : (s u : KernelState) (trips : List (Option TripSeen)) (seat : ℕ) (kept : KeptPlan) (f : FlightSeen) → IsTrialState s trips → seat < 3 → slice_index_or trips seat None ≡ None → IsEvent seat s None u (Some (sent_with kept f))
     → u.history ≡ s.history → f.outcome ≡ fresh → IsOfServed kept.of → IsTrialState u (slice_set trips seat (Some (f, kept.of)))
 trial-sent s u trips seat kept f trial lt idle event same new served =
     let within : seat < length trips = omega (arith, lt, trial.seats) in
@@ -123,7 +119,7 @@ pub trial-back : (s : KernelState) (trips : List (Option TripSeen)) (seat : ℕ)
 trial-back s trips seat f g of trial is performed =
     (trip_sent (f, of), (trial.opening, seats_with trips, trial.fits, seat-with trips seat _ is), record { performed = performed; same = refl })
 
-pub trial-landed : (s t : KernelState) (trips : List (Option TripSeen)) (seat : ℕ) (f : FlightSeen) (of : Option Caller) (answer : Option Reply) → IsTrialState s trips → seat < 2 → slice_index_or trips seat None ≡ Some (f, of)
+pub trial-landed : (s t : KernelState) (trips : List (Option TripSeen)) (seat : ℕ) (f : FlightSeen) (of : Option Caller) (answer : Option Reply) → IsTrialState s trips → seat < 3 → slice_index_or trips seat None ≡ Some (f, of)
     → IsEvent seat s (Some (trip_sent (f, of))) t None → EndsWith s t of answer → IsTrialState t (slice_set trips seat None)
 trial-landed s t trips seat f of answer trial lt is event ends =
     let within : seat < length trips = omega (arith, lt, trial.seats) in
@@ -137,25 +133,29 @@ trial-landed s t trips seat f of answer trial lt is event ends =
     }
 
 -- THE START AND THE END
-idle : (k : ℕ) → slice_index_or {A = Option TripSeen} (None ∷ None ∷ []) k None ≡ None
+idle : (k : ℕ) → slice_index_or {A = Option TripSeen} (None ∷ None ∷ None ∷ []) k None ≡ None
 idle zero = refl
 idle (suc zero) = refl
-idle (suc (suc k)) = refl
+idle (suc (suc zero)) = refl
+idle (suc (suc (suc k))) = refl
 
-nothing : (k : ℕ) → None ≡ seats_with (None ∷ None ∷ []) k
+nothing : (k : ℕ) → None ≡ seats_with (None ∷ None ∷ None ∷ []) k
 nothing zero = refl
 nothing (suc zero) = refl
-nothing (suc (suc k)) = refl
+nothing (suc (suc zero)) = refl
+nothing (suc (suc (suc k))) = refl
 
-both : (trips : List (Option TripSeen)) (k : ℕ) → length trips ≡ 2 → slice_index_or trips 0 None ≡ None → slice_index_or trips 1 None ≡ None → slice_index_or trips k None ≡ None
-both (a ∷ b ∷ []) zero two first second = first
-both (a ∷ b ∷ []) (suc zero) two first second = second
-both (a ∷ b ∷ []) (suc (suc k)) two first second = refl
-both [] k two first second = refl
-both (a ∷ []) k two first second = absurd (omega (arith, two))
-both (a ∷ b ∷ c ∷ l) k two first second = absurd (omega (arith, two))
+each-idle : (trips : List (Option TripSeen)) (k : ℕ) → length trips ≡ 3 → slice_index_or trips 0 None ≡ None → slice_index_or trips 1 None ≡ None → slice_index_or trips 2 None ≡ None → slice_index_or trips k None ≡ None
+each-idle (a ∷ b ∷ c ∷ []) zero three first second third = first
+each-idle (a ∷ b ∷ c ∷ []) (suc zero) three first second third = second
+each-idle (a ∷ b ∷ c ∷ []) (suc (suc zero)) three first second third = third
+each-idle (a ∷ b ∷ c ∷ []) (suc (suc (suc k))) three first second third = refl
+each-idle [] k three first second third = refl
+each-idle (a ∷ []) k three first second third = absurd (omega (arith, three))
+each-idle (a ∷ b ∷ []) k three first second third = absurd (omega (arith, three))
+each-idle (a ∷ b ∷ c ∷ d ∷ l) k three first second third = absurd (omega (arith, three))
 
-pub trial-starts : (s : KernelState) (opening : _) → StateFits opening s no_seats → s.history ≡ [] → length s.syncs ≡ 2 → IsTrialState s (None ∷ None ∷ [])
+pub trial-starts : (s : KernelState) (opening : _) → StateFits opening s no_seats → s.history ≡ [] → length s.syncs ≡ 3 → IsTrialState s (None ∷ None ∷ None ∷ [])
 trial-starts s opening fits none seated = record {
   opening = opening;
   fits = subst (λ (x : Seats). StateFits opening s x) (λ i k. nothing k i) fits;
@@ -165,5 +165,5 @@ trial-starts s opening fits none seated = record {
   each = λ k t is. absurd (let e = sym (idle k) ∙ is in cc);
 }
 
-pub trial-still : (s : KernelState) (trips : List (Option TripSeen)) → IsTrialState s trips → slice_index_or trips 0 None ≡ None → slice_index_or trips 1 None ≡ None → FitsStill s
-trial-still s trips trial first second = (trial.opening, seats_with trips, trial.fits, λ seat. seat-with trips seat None (both trips seat trial.seats first second))
+pub trial-still : (s : KernelState) (trips : List (Option TripSeen)) → IsTrialState s trips → slice_index_or trips 0 None ≡ None → slice_index_or trips 1 None ≡ None → slice_index_or trips 2 None ≡ None → FitsStill s
+trial-still s trips trial first second third = (trial.opening, seats_with trips, trial.fits, λ seat. seat-with trips seat None (each-idle trips seat trial.seats first second third))

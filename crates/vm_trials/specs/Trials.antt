@@ -30,13 +30,13 @@ pub record IsTrip (t : TripSeen) : Type 0 where
   pub fresh : t.0.outcome ≡ fresh
   pub served : IsOfServed t.1
 
--- The state has two seats and fits with what they have outside, and no call is between two parts: any entry may come next.
+-- The state has three seats and fits with what they have outside, and no call is between two parts: any entry may come next.
 pub record IsTrialState (s : KernelState) (trips : List (Option TripSeen)) : Type 0 where
   pub opening : Flat
   pub fits : StateFits opening s (seats_with trips)
   pub follows : (e : Entry) → MayFollow s.history e
-  pub seats : length trips ≡ 2
-  pub seated : length s.syncs ≡ 2
+  pub seats : length trips ≡ 3
+  pub seated : length s.syncs ≡ 3
   pub each : (seat : ℕ) (t : TripSeen) → slice_index_or trips seat None ≡ Some t → IsTrip t
 
 -- A file of so many pages, from block 1 of its disk on.

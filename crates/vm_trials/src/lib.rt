@@ -2,6 +2,8 @@
 #![tactic(auto)]
 
 #[cfg(test)]
+mod fork_tests;
+#[cfg(test)]
 mod page_tests;
 #[cfg(test)]
 mod segment_tests;

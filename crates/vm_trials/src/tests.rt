@@ -20,7 +20,7 @@ use vm_types::{Call, Errno, Kind, Object, Place, Prot, Reply, Signal};
 use vnode_files::{Extent, Extents, FileInfo, FileName, Files};
 
 #[derive(Clone, Copy, Debug)]
-enum Act {
+pub(crate) enum Act {
     /// A seat makes a call.
     Do(u32, What),
     /// A seat tries a call once; a transfer that it needs stays out.
@@ -32,17 +32,21 @@ enum Act {
 }
 
 #[derive(Clone, Copy, Debug)]
-enum What {
+pub(crate) enum What {
     Load(u32),
     Store(u32, u32),
     /// Maps so many bytes at an address, to be read and, where this says so, written: a file from an offset on.
     Map(u32, u32, bool, u32, u32),
     /// Maps so many bytes of private zero memory at an address.
     Zero(u32, u32),
+    /// The same, of a new zero object, which is shared.
+    New(u32, u32),
     /// Unmaps so many bytes from an address on.
     Unmap(u32, u32),
     /// Protects so many bytes from an address on: they may be read and, where this says so, written.
     Protect(u32, u32, bool),
+    /// Forks this child.
+    Fork(u32),
     Exit,
 }
 
@@ -104,7 +108,7 @@ fn started(alloc: Global) -> Result<Trial, Fail> {
         files: new_files(alloc)?,
         parents: [0u32, 0].to_vec(alloc)?,
         entries: [99u32, 99].to_vec(alloc)?,
-        seats: 2,
+        seats: 3,
     };
     match VmState::start(alloc, setup) {
         Ok(state) => Ok(Trial::new(state)),
@@ -112,8 +116,13 @@ fn started(alloc: Global) -> Result<Trial, Fail> {
     }
 }
 
-/// Two processes over so many frames and four translations, with so many swap slots and no file.
-pub(crate) fn swapping(alloc: Global, frames: u32, slots: u32) -> Result<Trial, Fail>
+/// Three processes with these parents over so many frames and four translations, with so many swap slots and no file.
+pub(crate) fn swapping(
+    alloc: Global,
+    frames: u32,
+    slots: u32,
+    parents: [u32; 3],
+) -> Result<Trial, Fail>
     requires frames { 5 ≤ frames }
     requires some { 0 < slots }
     requires slots { slots ≤ 16 }
@@ -125,9 +134,9 @@ pub(crate) fn swapping(alloc: Global, frames: u32, slots: u32) -> Result<Trial, 
         disks: Vec::new(alloc),
         swap: Some(new_disk(alloc, 0, &[])?),
         files: Files::new(alloc),
-        parents: [0u32, 0].to_vec(alloc)?,
-        entries: [99u32, 99].to_vec(alloc)?,
-        seats: 2,
+        parents: parents.to_vec(alloc)?,
+        entries: [99u32, 99, 99].to_vec(alloc)?,
+        seats: 3,
     };
     match VmState::start(alloc, setup) {
         Ok(state) => Ok(Trial::new(state)),
@@ -140,6 +149,19 @@ fn rights(writable: bool) -> Prot {
         Prot::READ | Prot::WRITE
     } else {
         Prot::READ
+    }
+}
+
+fn zeros(addr: u32, length: u32, kind: Kind) -> Call
+    ensures { IsServed result }
+{
+    Call::Map {
+        place: Place::At(addr),
+        length,
+        prot: Prot::READ | Prot::WRITE,
+        kind,
+        object: Object::NewZero,
+        offset: 0,
     }
 }
 
@@ -161,20 +183,15 @@ fn call_of(what: What) -> Call
             object: Object::File(file),
             offset,
         },
-        What::Zero(addr, length) => Call::Map {
-            place: Place::At(addr),
-            length,
-            prot: Prot::READ | Prot::WRITE,
-            kind: Kind::Private,
-            object: Object::NewZero,
-            offset: 0,
-        },
+        What::Zero(addr, length) => zeros(addr, length, Kind::Private),
+        What::New(addr, length) => zeros(addr, length, Kind::Shared),
         What::Unmap(addr, length) => Call::Unmap { addr, length },
         What::Protect(addr, length, writable) => Call::Protect {
             addr,
             length,
             prot: rights(writable),
         },
+        What::Fork(child) => Call::Fork { child },
         What::Exit => Call::Exit,
     }
 }
@@ -511,7 +528,7 @@ fn wrong_block(number: u32, disk: &MemDisk) -> Option<u8> {
 }
 
 /// Makes the acts. It fails at the first of which something else is told.
-fn make_all(trial: &mut Trial, acts: &[(Act, Told)]) -> Result<(), Fail> {
+pub(crate) fn make_all(trial: &mut Trial, acts: &[(Act, Told)]) -> Result<(), Fail> {
     for (place, &(act, told)) in acts.iter().enumerate() {
         let made = make(trial, act)?;
         if made != told {
@@ -653,7 +670,7 @@ fn push_a_private_page(trial: &mut Trial) -> Result<(), Fail> {
 
 /// The transfer that failed at the close, and how many entries the history has.
 fn pushed_and_closed(alloc: Global) -> Result<(Option<DiskFault>, usize), Fail> {
-    let mut trial = swapping(alloc, 8, 1)?;
+    let mut trial = swapping(alloc, 8, 1, [0; 3])?;
     push_a_private_page(&mut trial)?;
     let finished = trial.finish()?;
     Ok((finished.fault, finished.history.entries().len()))

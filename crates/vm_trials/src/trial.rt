@@ -1,6 +1,7 @@
-//! A state with what two seats have outside it, for tests: calls are tried, transfers begin and end, and hands move.
+//! A state with what three seats have outside it, for tests: calls are tried, transfers begin and end, and hands move.
 ghost use Rattle.std.specs.Prelude.{◌≡◌, ◌<◌, ◌∷◌, [], ℕ, Some, None, IsTrue, option_map, slice_index_or, slice_set};
 ghost use Rattle.vm_core.specs.Calls.{IsServed};
+ghost use Rattle.vm_world.specs.Events.{MayBear};
 ghost use Rattle.vm_trials.specs.Trials.{IsTrialState, IsOfServed};
 
 use block_device::MemDisk;
@@ -10,6 +11,9 @@ use std::mem;
 use std::test::Fail;
 use vm_core::{Attempt, Finished, VmState};
 use vm_types::{Call, Reply};
+
+/// How many seats there are.
+pub(crate) const SEATS: usize = 3;
 
 /// What a seat has outside: its transfer, and the process and call that it is for.
 type SentFlight = (Flight<MemDisk>, Option<(u32, Call)>);
@@ -27,11 +31,11 @@ pub(crate) enum Told {
     Still,
 }
 
-/// A state that fits, with what its two seats have outside; seat k is that of process k + 1. Contracts see nothing of it.
+/// A state that fits, with what its three seats have outside; seat k is that of process k + 1. Contracts see nothing of it.
 #[derive(Drop)]
 pub(crate) struct Trial {
     state: VmState<MemDisk>,
-    trips: [Option<SentFlight>; 2],
+    trips: [Option<SentFlight>; SEATS],
 }
 
 impl Model for Trial {
@@ -48,14 +52,14 @@ impl Model for Trial {
 /// Begins the transfer of the plan that is kept.
 fn send(
     state: &mut VmState<MemDisk>,
-    trips: &mut [Option<SentFlight>; 2],
+    trips: &mut [Option<SentFlight>; SEATS],
     seat: u32,
     plan: Plan,
     of: Option<(u32, Call)>,
 )
     // The plan is kept for the seat, which has nothing outside.
     requires trial { IsTrialState state.old trips.old }
-    requires seat { seat < 2 }
+    requires seat { seat < 3 }
     requires idle { slice_index_or trips.old seat None ≡ None }
     requires kept { state.old.plan ≡ Some (record { seat = seat; plan = plan; of = of }) }
     requires served { IsOfServed of }
@@ -66,22 +70,33 @@ fn send(
     trips[seat as usize] = Some((flight, of));
 }
 
-fn is_idle(trips: &[Option<SentFlight>; 2], seat: u32) -> bool
-    ensures { IsTrue result → (seat < 2) × (slice_index_or trips.now seat None ≡ None) }
+fn is_idle(trips: &[Option<SentFlight>; SEATS], seat: u32) -> bool
+    ensures { IsTrue result → (seat < 3) × (slice_index_or trips.now seat None ≡ None) }
 {
-    seat < 2 && trips[seat as usize].is_none()
+    seat < 3 && trips[seat as usize].is_none()
 }
 
-fn are_idle(trips: &[Option<SentFlight>; 2]) -> bool
+fn are_idle(trips: &[Option<SentFlight>; SEATS]) -> bool
     ensures { IsTrue result → (slice_index_or trips.now 0 None ≡ None)
-        × (slice_index_or trips.now 1 None ≡ None) }
+        × (slice_index_or trips.now 1 None ≡ None)
+        × (slice_index_or trips.now 2 None ≡ None) }
 {
-    is_idle(trips, 0) && is_idle(trips, 1)
+    is_idle(trips, 0) && is_idle(trips, 1) && is_idle(trips, 2)
+}
+
+/// Whether a process may make a call: where it is a Fork, of a child of its own that was never alive.
+fn can_bear(state: &VmState<MemDisk>, process: u32, call: &Call) -> bool
+    ensures { IsTrue result → MayBear state.now process call.now }
+{
+    match *call {
+        Call::Fork { child } => state.may_bear(process, child),
+        _ => true,
+    }
 }
 
 /// What a seat has outside, taken out.
-fn take(trips: &mut [Option<SentFlight>; 2], seat: u32) -> Option<SentFlight>
-    requires { seat < 2 }
+fn take(trips: &mut [Option<SentFlight>; SEATS], seat: u32) -> Option<SentFlight>
+    requires { seat < 3 }
     ensures trip { result ≡ slice_index_or trips.old seat None }
     ensures new { trips.new ≡ slice_set trips.old seat None }
 {
@@ -99,11 +114,11 @@ fn lent(of: &Option<(u32, Call)>) -> Option<(u32, &Call)>
 
 impl Trial {
     pub(crate) fn new(state: VmState<MemDisk>) -> Trial
-        requires { IsTrialState state (None ∷ None ∷ []) }
+        requires { IsTrialState state (None ∷ None ∷ None ∷ []) }
     {
         Trial {
             state,
-            trips: [None, None],
+            trips: [None, None, None],
         }
     }
 
@@ -118,6 +133,7 @@ impl Trial {
         if !call.is_well_formed()
             || !self.state.is_alive(process)
             || self.state.room(process) == 0
+            || !can_bear(&self.state, process, call)
         {
             return Err(Fail::new("the process can't make the call"));
         }
@@ -134,7 +150,7 @@ impl Trial {
 
     /// Makes and ends the transfer that a seat has outside.
     pub(crate) fn land(&mut self, seat: u32) -> Result<Told, Fail> {
-        if seat >= 2 || self.trips[seat as usize].is_none() {
+        if seat >= 3 || self.trips[seat as usize].is_none() {
             return Err(Fail::new("the seat has nothing outside"));
         }
         let Some((mut flight, of)) = take(&mut self.trips, seat) else {

@@ -176,7 +176,7 @@ fn share_zero_objects(trial: &mut Trial) -> Result<(), Fail> {
 
 /// The transfer that failed at the close, and how many entries the history has.
 fn shared_and_closed(alloc: Global) -> Result<(Option<DiskFault>, usize), Fail> {
-    let mut trial = swapping(alloc, 6, 8)?;
+    let mut trial = swapping(alloc, 6, 8, [0; 3])?;
     share_zero_objects(&mut trial)?;
     let finished = trial.finish()?;
     Ok((finished.fault, finished.history.entries().len()))

@@ -1,6 +1,7 @@
 use Rattle.std.proofs.Common.{◌≡◌, ◌+◌, ℕ, true, false, List, Option, length, refl, sym, ap, ◌∙◌, subst, arith}
 use Rattle.std.specs.Prelude.{is_some}
 use Rattle.std.specs.FinMap as finite
+use Rattle.flat_model.specs.Refusals.{Effect}
 use Rattle.vm_world.specs.Segments.{Spaces}
 use Rattle.vm_world.specs.ZeroObjects.{KnowsZeros}
 use Rattle.vm_world.specs.declared.world.World.{World}
@@ -9,7 +10,7 @@ use Rattle.proc_calls.specs.Forks.{BearsChild}
 use Rattle.proc_calls.specs.Pieces.{AreFewHolders}
 use Rattle.vm_world.specs.Words.{memory}
 use Rattle.vm_world.specs.World.{world_seen}
-use Rattle.proc_calls.proofs.Forked.{bears-child, counted-first, few-numbers, forked, forking, no-lack, refusal-due}
+use Rattle.proc_calls.proofs.Forked.{bears-child, counted-first, done-due, few-numbers, forked, forking, no-lack, refusal-due}
 use Rattle.proc_calls.proofs.PiecesCopied.{all-own}
 use Rattle.proc_calls.proofs.forks.fork.Goals as goal
 
@@ -95,7 +96,10 @@ returns g c =
     let bears = bears-child m c.args.process c.args.child parts c.requires.fits here (memory n (finite.insert spaces c.args.child c.copy_pieces.new.kids.parts)) (omega (arith, le, slots))
     (forked m (world_seen w) w.zeros c.args.process c.args.child taken.more.0 parts c.requires.fits known here c.requires.absent is c.in_ok-kids.kids.parts c.copy_pieces.new.kids.parts (world_seen n) w.zeros copied.0 c.in_ok-kids.ensures.empty copied.1 step) in
     record {
-      done = subst (λ (s : Spaces). BearsChild m (memory n s) c.args.process c.args.child) (sym c.insert.ensures.spaces) bears;
+      done = record {
+        bears = subst (λ (s : Spaces). BearsChild m (memory n s) c.args.process c.args.child) (sym c.insert.ensures.spaces) bears;
+        due = λ born notes. ap (λ (x : Effect). x.reply) (done-due m c.args.process c.args.child parts c.requires.fits here (omega (arith, le, slots)) born notes);
+      };
       counted = counted-first m (world_seen w) taken.more.0 c.args.process n.anon.counts parts here is (c.copy_pieces.ensures.counted spaces here);
       zeros = subst (KnowsZeros n.zeros) (sym c.insert.ensures.spaces) (subst (λ (zs : List (Option ℕ)). KnowsZeros zs (finite.insert spaces c.args.child c.copy_pieces.new.kids.parts)) (sym (ap (λ (v : World g.row.D.Denot). v.zeros) c.copy_pieces.ensures.rest)) step.known);
       modified = modifies-then (world_seen c.args.world.now) (world_seen w) (world_seen n) (modifies-tables (world_seen c.args.world.now) (world_seen w) (ap (λ (v : World g.row.D.Denot). v.store) taken.more.1) (ap (λ (v : World g.row.D.Denot). v.hat) taken.more.1)) c.copy_pieces.ensures.modified;

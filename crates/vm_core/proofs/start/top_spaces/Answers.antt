@@ -22,4 +22,7 @@ loop-place-preserved c = record {
 }
 
 pub returns : goal.returns
-returns c = tops-are c.args.parents.now c.loop-place.spaces.spaces (subst (λ (n : ℕ). TopsBelow c.args.parents.now n c.loop-place.spaces.spaces) (let a = c.loop-place-test.false in let b = c.loop-place.auto.place-end in omega (arith, a, b)) c.loop-place.invariant.tops)
+returns c = record {
+  tops = tops-are c.args.parents.now c.loop-place.spaces.spaces (subst (λ (n : ℕ). TopsBelow c.args.parents.now n c.loop-place.spaces.spaces) (let a = c.loop-place-test.false in let b = c.loop-place.auto.place-end in omega (arith, a, b)) c.loop-place.invariant.tops);
+  processes = c.loop-place.invariant.processes;
+}

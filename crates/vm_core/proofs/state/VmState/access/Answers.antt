@@ -1,4 +1,4 @@
-use Rattle.std.proofs.Common.{ℕ, List, [], Option, sym, subst}
+use Rattle.std.proofs.Common.{ℕ, List, [], Option, sym, subst, length}
 use Rattle.fault_entry.specs.Answers.{attempt_of}
 use Rattle.vm_world.specs.MemoryFits.{MemoryFits}
 use Rattle.vm_world.specs.NotesFit.{NotesFit}
@@ -8,6 +8,7 @@ use Rattle.vm_world.specs.ZeroObjects.{KnowsZeros}
 use Rattle.seg_vn.specs.Serves.{Serves}
 use Rattle.seg_vn.specs.Spaces.{SpacesSeen}
 use Rattle.vm_core.specs.Calls.{IsShownAfterCall, SlotsAfterCall, IsHitAfterCall}
+use Rattle.vm_core.specs.State.{EachHasPlaces}
 use Rattle.vm_core.proofs.Served.{access-hit, access-shown, access-slots, home-frame, kept-served, own-reply}
 use Rattle.vm_core.proofs.state.VmState.access.Given.{Over}
 use Rattle.vm_core.proofs.state.VmState.access.Goals.{After-answer}
@@ -16,7 +17,7 @@ use Rattle.vm_core.proofs.state.VmState.access.Goals as goal
 pub answer-requires-clause-home : goal.answer-requires-clause-home
 answer-requires-clause-home g c =
     let n = c.requires.noted in
-    home-frame c.self.inside.world.store c.self.inside.world.zeros _ _ _ n.0 (world_table (world_seen c.self.inside.world)) c.self.invariant
+    home-frame c.self.inside.world.store c.self.inside.world.zeros _ _ _ n.0 (world_table (world_seen c.self.inside.world)) c.self.invariant.0
     (subst (λ (s : KernelState). MemoryFits s.memory) (sym c.self.view_is) c.requires.fits).frames.sound
     (subst (λ (s : KernelState). NotesFit s.memory.world n.0) (sym c.self.view_is) n.1).stored
 
@@ -28,9 +29,11 @@ serves-is g c calls =
     c.self.inside.world.pending c.answer.new.world.pending calls c.args.process c.args.call.now (attempt_of c.answer.result)) (sym c.answer.ensures.spaces) (c.answer.ensures.serves calls)
 
 pub invariant_of-self : goal.invariant_of-self
-invariant_of-self g c =
-    kept-served (record { world = world_seen c.self.inside.world; spaces = c.self.inside.spaces.spaces }) (record { world = world_seen c.answer.new.world; spaces = c.answer.new.spaces.spaces }) c.self.inside.world.zeros c.answer.new.world.zeros _ _ [] _ _ _ _ _ c.self.invariant
-    (subst (λ (spaces : SpacesSeen). KnowsZeros c.answer.new.world.zeros spaces.spaces) (sym c.answer.ensures.spaces) (subst (λ (zeros : List (Option ℕ)). KnowsZeros zeros c.self.inside.spaces.spaces) (sym c.answer.ensures.zeros) c.self.invariant.known)) (serves-is g c [])
+invariant_of-self g c = (
+  kept-served (record { world = world_seen c.self.inside.world; spaces = c.self.inside.spaces.spaces }) (record { world = world_seen c.answer.new.world; spaces = c.answer.new.spaces.spaces }) c.self.inside.world.zeros c.answer.new.world.zeros _ _ [] _ _ _ _ _ c.self.invariant.0
+      (subst (λ (spaces : SpacesSeen). KnowsZeros c.answer.new.world.zeros spaces.spaces) (sym c.answer.ensures.spaces) (subst (λ (zeros : List (Option ℕ)). KnowsZeros zeros c.self.inside.spaces.spaces) (sym c.answer.ensures.zeros) c.self.invariant.0.known)) (serves-is g c []),
+  subst (λ (s : SpacesSeen). EachHasPlaces c.self.inside.parents.items s.processes (length c.self.inside.born.items) (length c.self.inside.syncs.items)) (sym c.answer.ensures.spaces) c.self.invariant.1,
+)
 
 pub returns-clause-serves : goal.returns-clause-serves
 returns-clause-serves g c =

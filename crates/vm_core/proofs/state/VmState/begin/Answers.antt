@@ -19,11 +19,13 @@ pub leave-flight-requires-clause-fits : goal.leave-flight-requires-clause-fits
 leave-flight-requires-clause-fits g c = (c.self.inside.spaces.spaces, subst (λ (s : KernelState). MemoryFits s.memory) (sym c.self.view_is) c.requires.fits.2.memory)
 
 pub invariant_of-self : goal.invariant_of-self
-invariant_of-self g c =
-    let b = c.requires.fits in
-    kept-left (world_seen c.self.inside.world) (world_seen c.leave-flight.new.world) c.self.inside.world.zeros c.leave-flight.new.world.zeros _ _ _ c.args.seat c.leave-flight.result (is_name (next_name c.self.inside.world.store)) c.self.invariant c.leave-flight.ensures.zeros
-    (c.leave-flight.ensures.step c.self.inside.spaces.spaces (notes_of b.1) (subst (λ (s : KernelState). MemoryFits s.memory) (sym c.self.view_is) b.2.memory)
-    (subst (λ (s : KernelState). NotesFit s.memory.world (notes_of b.1)) (sym c.self.view_is) b.2.notes))
+invariant_of-self g c = (
+  let b = c.requires.fits in
+      kept-left (world_seen c.self.inside.world) (world_seen c.leave-flight.new.world) c.self.inside.world.zeros c.leave-flight.new.world.zeros _ _ _ c.args.seat c.leave-flight.result (is_name (next_name c.self.inside.world.store)) c.self.invariant.0 c.leave-flight.ensures.zeros
+      (c.leave-flight.ensures.step c.self.inside.spaces.spaces (notes_of b.1) (subst (λ (s : KernelState). MemoryFits s.memory) (sym c.self.view_is) b.2.memory)
+      (subst (λ (s : KernelState). NotesFit s.memory.world (notes_of b.1)) (sym c.self.view_is) b.2.notes)),
+  c.self.invariant.1,
+)
 
 pub returns-clause-event : goal.returns-clause-event
 returns-clause-event g c kept k =

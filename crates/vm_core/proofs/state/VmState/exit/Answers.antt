@@ -1,9 +1,10 @@
-use Rattle.std.proofs.Common.{◌≤◌, [], sym, subst}
+use Rattle.std.proofs.Common.{◌≤◌, [], sym, subst, ℕ, length}
 use Rattle.anon_slots.specs.Slots.{count_at}
 use Rattle.seg_vn.specs.Serves.{Serves}
 use Rattle.vm_world.specs.MemoryFits.{MemoryFits}
 use Rattle.vm_world.specs.State.{KernelState}
 use Rattle.vm_world.specs.World.{world_seen}
+use Rattle.vm_core.specs.State.{EachHasPlaces}
 use Rattle.vm_core.proofs.Served.{exited-own, kept-served}
 use Rattle.vm_core.proofs.state.VmState.exit.Goals as goal
 
@@ -11,8 +12,10 @@ pub attempt-requires-clause-fits : goal.attempt-requires-clause-fits
 attempt-requires-clause-fits g c = subst (λ (s : KernelState). MemoryFits s.memory) (sym c.self.view_is) c.requires.fits
 
 pub invariant_of-self : goal.invariant_of-self
-invariant_of-self g c =
-    kept-served (record { world = world_seen c.self.inside.world; spaces = c.self.inside.spaces.spaces }) (record { world = world_seen c.attempt.new.world; spaces = c.attempt.new.spaces.spaces }) c.self.inside.world.zeros c.attempt.new.world.zeros _ _ [] _ _ _ _ _ c.self.invariant c.attempt.ensures.zeros (c.in-Ok.ensures.done [])
+invariant_of-self g c = (
+  kept-served (record { world = world_seen c.self.inside.world; spaces = c.self.inside.spaces.spaces }) (record { world = world_seen c.attempt.new.world; spaces = c.attempt.new.spaces.spaces }) c.self.inside.world.zeros c.attempt.new.world.zeros _ _ [] _ _ _ _ _ c.self.invariant.0 c.attempt.ensures.zeros (c.in-Ok.ensures.done []),
+  subst (λ (n : ℕ). EachHasPlaces c.self.inside.parents.items n (length c.self.inside.born.items) (length c.self.inside.syncs.items)) (sym c.attempt.ensures.processes) c.self.invariant.1,
+)
 
 pub returns-clause-serves : goal.returns-clause-serves
 returns-clause-serves g c =

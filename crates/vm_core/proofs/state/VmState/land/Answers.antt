@@ -12,8 +12,10 @@ use Rattle.vm_core.proofs.Landings.{kept-ended}
 use Rattle.vm_core.proofs.state.VmState.land.Goals as goal
 
 pub invariant_of-self : goal.invariant_of-self
-invariant_of-self g c =
-    kept-ended _ _ c.args.flight c.self.inside.world.zeros c.end_flight.new.world.zeros _ _ _ c.self.invariant (ap (λ w. w.zeros) c.end_flight.ensures.rest) (subst (λ (s : KernelState). IsFlightOf s.memory.world.store c.args.flight) (sym c.self.view_is) c.requires.out) c.end_flight.ensures.store c.end_flight.ensures.ends
+invariant_of-self g c = (
+  kept-ended _ _ c.args.flight c.self.inside.world.zeros c.end_flight.new.world.zeros _ _ _ c.self.invariant.0 (ap (λ w. w.zeros) c.end_flight.ensures.rest) (subst (λ (s : KernelState). IsFlightOf s.memory.world.store c.args.flight) (sym c.self.view_is) c.requires.out) c.end_flight.ensures.store c.end_flight.ensures.ends,
+  c.self.invariant.1,
+)
 
 pub returns-clause-step : goal.returns-clause-step
 returns-clause-step g c =

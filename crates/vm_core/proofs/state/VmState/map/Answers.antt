@@ -1,4 +1,4 @@
-use Rattle.std.proofs.Common.{◌≤◌, ℕ, [], sym, ap, subst, ◌∙◌}
+use Rattle.std.proofs.Common.{◌≤◌, ℕ, [], sym, ap, subst, ◌∙◌, length}
 use Rattle.std.specs.Prelude.{IfOk}
 use Rattle.anon_slots.specs.Slots.{count_at}
 use Rattle.flat_model.proofs.Maps.{on_err_any}
@@ -11,6 +11,7 @@ use Rattle.vm_world.specs.Segments.{Spaces}
 use Rattle.vm_world.specs.State.{KernelState}
 use Rattle.vm_world.specs.World.{world_seen}
 use Rattle.vm_core.specs.Calls.{IsOwnReply, IsShownAfterCall, SlotsAfterCall, IsHitAfterCall, TakesMemory}
+use Rattle.vm_core.specs.State.{EachHasPlaces}
 use Rattle.vm_core.proofs.Served.{AfterMapping, after-mapping, mapping-memory, mapped-own, ok-then, ok-always, err-then, kept-result, same-again}
 use Rattle.vm_core.proofs.state.VmState.map.Given.{Over}
 use Rattle.vm_core.proofs.state.VmState.map.Goals.{After-attempt}
@@ -26,9 +27,11 @@ abbrev after : (g : Over) (c : After-attempt g) → Memory
 after g c = record { world = world_seen c.attempt.new.world; spaces = c.attempt.new.spaces.spaces }
 
 pub invariant_of-self : goal.invariant_of-self
-invariant_of-self g c =
-    kept-result (before g c) (after g c) c.self.inside.world.zeros c.attempt.new.world.zeros c.self.inside.world.pending c.attempt.new.world.pending [] c.args.process c.args.call.now c.attempt.result _ _ c.self.invariant c.attempt.ensures.zeros (ok-then _ _ c.attempt.result (λ a serves. serves []) c.attempt.ensures.done)
-    (err-then _ _ c.attempt.result (λ e. ap (λ w. record { world = world_seen w; spaces = c.attempt.new.spaces.spaces }) e.0 ∙ ap (λ (x : Spaces). record { world = world_seen c.self.inside.world; spaces = x }) e.1) c.attempt.ensures.err)
+invariant_of-self g c = (
+  kept-result (before g c) (after g c) c.self.inside.world.zeros c.attempt.new.world.zeros c.self.inside.world.pending c.attempt.new.world.pending [] c.args.process c.args.call.now c.attempt.result _ _ c.self.invariant.0 c.attempt.ensures.zeros (ok-then _ _ c.attempt.result (λ a serves. serves []) c.attempt.ensures.done)
+      (err-then _ _ c.attempt.result (λ e. ap (λ w. record { world = world_seen w; spaces = c.attempt.new.spaces.spaces }) e.0 ∙ ap (λ (x : Spaces). record { world = world_seen c.self.inside.world; spaces = x }) e.1) c.attempt.ensures.err),
+  subst (λ (n : ℕ). EachHasPlaces c.self.inside.parents.items n (length c.self.inside.born.items) (length c.self.inside.syncs.items)) (sym c.attempt.ensures.processes) c.self.invariant.1,
+)
 
 pub returns-clause-serves : goal.returns-clause-serves
 returns-clause-serves g c =

@@ -7,4 +7,4 @@ use Rattle.vm_core.proofs.state.VmState.seated.Goals as goal
 pub returns : goal.returns
 returns g c =
     subst (λ (s : KernelState). length (entries_of s.history c.args.process) < room_of s.entries c.args.process → c.args.seat < length s.syncs) c.self.view_is
-    (λ room. seat-below _ c.args.process c.args.seat _ _ room c.requires.own c.self.invariant.seated) c.requires.room
+    (λ room. seat-below _ c.args.process c.args.seat _ _ room c.requires.own c.self.invariant.0.seated) c.requires.room

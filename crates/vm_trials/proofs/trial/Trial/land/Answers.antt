@@ -19,6 +19,6 @@ pub invariant_of-self : goal.invariant_of-self
 invariant_of-self c =
     let there = sym c.take.ensures.trip ∙ c.in-Some.is in
     subst (IsTrialState c.end.new.self) (sym c.take.ensures.new)
-    (trial-landed c.self.inside.state c.end.new.self c.self.inside.trips c.args.seat c.in-Some.flight c.in-Some.of c.end.result c.self.invariant c.if-seat-ge2.false there
+    (trial-landed c.self.inside.state c.end.new.self c.self.inside.trips c.args.seat c.in-Some.flight c.in-Some.of c.end.result c.self.invariant c.if-seat-ge3.false there
     (c.end.ensures.event (trip_sent (c.in-Some.flight, c.in-Some.of)) (subst (IsBack (trip_sent (c.in-Some.flight, c.in-Some.of)) c.perform.new.self) (sym c.lent.ensures) (record { performed = c.perform.ensures.performed; same = refl })))
     (subst (λ (of : Option Caller). EndsWith c.self.inside.state c.end.new.self of c.end.result) c.lent.ensures c.end.ensures.entry))

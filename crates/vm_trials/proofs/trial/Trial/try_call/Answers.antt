@@ -1,6 +1,6 @@
 use Rattle.std.proofs.Common.{◌+◌, add-one, ap, arith}
 use Rattle.vm_world.specs.State.{seat_of}
-use Rattle.vm_trials.proofs.TrialLemmas.{trial-at, trial-answered, served-bears}
+use Rattle.vm_trials.proofs.TrialLemmas.{trial-at, trial-answered}
 use Rattle.vm_trials.proofs.trial.Trial.try_call.Goals as goal
 
 pub try_call-requires-clause-fits : goal.try_call-requires-clause-fits
@@ -12,7 +12,7 @@ try_call-requires-clause-may c = record {
   alive = c.is_alive.ensures.0 c.if-not-is_alive.false;
   room = omega (arith, c.room.ensures, c.if-room-eq0.false);
   follows = λ reply cleared. c.self.invariant.follows (record { process = c.args.seat + 1; call = c.args.call.now; reply = reply; cleared = cleared });
-  bears = served-bears c.self.inside.state _ c.args.call.now c.requires;
+  bears = c.can_bear.ensures c.if-not-can_bear.false;
 }
 
 pub invariant_of-self-in-Done : goal.invariant_of-self-in-Done

@@ -40,13 +40,17 @@ pub(crate) struct Left {
     pub(crate) swap: (u64, u64),
 }
 
-fn words_of(alloc: Global, texts: &[&str]) -> Result<Vec<String>, AllocError> {
+/// The words of a command, which stand one a line.
+pub(crate) fn words_of(alloc: Global, lines: &str) -> Result<Vec<String>, AllocError> {
     let mut words = Vec::new(alloc);
-    for text in texts {
-        words.push(String::from_str(alloc, text)?)?;
+    for word in lines.lines() {
+        words.push(String::from_str(alloc, word)?)?;
     }
     Ok(words)
 }
+
+/// No word.
+pub(crate) const NO_WORDS: &str = "";
 
 fn step_of(fault: &Option<RunFault>) -> &'static str {
     match fault {
@@ -98,7 +102,7 @@ fn left_of(alloc: Global, outcome: &Outcome<MemDisk>, text: Vec<u8>) -> Result<L
 fn run_over<R: Rack>(
     rt: &impl Wait,
     alloc: Global,
-    words: &[&str],
+    words: &str,
     script: &[u8],
     fails: &Fails,
     rack: &mut R,
@@ -111,18 +115,31 @@ fn run_over<R: Rack>(
     Ok((outcome, out.into_written()))
 }
 
-/// Runs a script over memory forms, with a disk of these blocks under the path v, where there are blocks.
+/// Runs a script over memory forms, for these words.
 pub(crate) fn run_trial(
     rt: &impl Wait,
     alloc: Global,
-    words: &[&str],
+    words: &str,
     script: &[u8],
     fails: &Fails,
-    kept: &[Block],
 ) -> Result<Left, AllocError> {
     let mut rack = MemRack::new(alloc, [fails.rack].to_vec(alloc)?, calls_of(alloc, fails)?);
-    if !kept.is_empty() && kept.len() <= 16_384 {
-        rack.keep(PathText::new(alloc, b"v")?, Vec::from_slice(alloc, kept)?)?;
+    let (outcome, text) = run_over(rt, alloc, words, script, fails, &mut rack)?;
+    left_of(alloc, &outcome, text)
+}
+
+/// Runs a script over memory forms, for these words, with a disk of these blocks under the path v.
+pub(crate) fn run_kept(
+    rt: &impl Wait,
+    alloc: Global,
+    words: &str,
+    script: &[u8],
+    fails: &Fails,
+    blocks: &[Block],
+) -> Result<Left, AllocError> {
+    let mut rack = MemRack::new(alloc, [fails.rack].to_vec(alloc)?, calls_of(alloc, fails)?);
+    if !blocks.is_empty() && blocks.len() <= 16_384 {
+        rack.keep(PathText::new(alloc, b"v")?, Vec::from_slice(alloc, blocks)?)?;
     }
     let (outcome, text) = run_over(rt, alloc, words, script, fails, &mut rack)?;
     left_of(alloc, &outcome, text)
@@ -162,6 +179,6 @@ pub(crate) fn run_untold(
     let mut rack = UntoldRack {
         rack: MemRack::new(alloc, Vec::new(alloc), Vec::new(alloc)),
     };
-    let (outcome, text) = run_over(rt, alloc, &[], script, &NEVER, &mut rack)?;
+    let (outcome, text) = run_over(rt, alloc, NO_WORDS, script, &NEVER, &mut rack)?;
     Ok((outcome.status, text))
 }

@@ -2,7 +2,7 @@
 ghost use Rattle.std.specs.Prelude.{◌≡◌, ◌≤◌, length};
 
 use crate::case_tests::{FIRST, REPORT};
-use crate::trial::{Fails, NEVER, run_trial, run_untold};
+use crate::trial::{Fails, NEVER, NO_WORDS, run_kept, run_trial, run_untold};
 use block_device::Block;
 use std::alloc::{AllocError, Global};
 use std::test::Fail;
@@ -31,7 +31,7 @@ fn zero_memory_goes_out_to_swap_and_comes_back(rt: HostRuntime) -> Result<(), Fa
     let alloc = rt.alloc();
     for kind in ["private", "shared"] {
         let (script, report) = least_frames(alloc, kind)?;
-        let left = run_trial(&rt, alloc, &[], script.as_bytes(), &NEVER, &[])?;
+        let left = run_trial(&rt, alloc, NO_WORDS, script.as_bytes(), &NEVER)?;
         assert_eq!(rt; left.status, 0, "{kind}");
         assert_eq!(rt; left.text.as_slice(), report.as_bytes(), "{kind}");
         let (reads, writes) = left.swap;
@@ -132,7 +132,7 @@ fn a_disk_whose_block_0_is_no_table_is_refused(rt: HostRuntime) -> Result<(), Fa
     ];
     for (count, byte, words, expected) in cases {
         let blocks = blocks_of(alloc, count, byte, words)?;
-        let left = run_trial(&rt, alloc, &[], script, &NEVER, &blocks)?;
+        let left = run_kept(&rt, alloc, NO_WORDS, script, &NEVER, &blocks)?;
         assert_eq!(rt; left.status, 4);
         assert_eq!(rt; left.text.as_slice(), expected);
     }
@@ -152,7 +152,7 @@ fn old_disk(alloc: Global) -> Result<Vec<Block>, AllocError> {
 #[test]
 fn a_disk_that_was_closed_is_mounted_again(rt: HostRuntime) -> Result<(), Fail> {
     let alloc = rt.alloc();
-    let mut left = run_trial(&rt, alloc, &[], FIRST, &NEVER, &[])?;
+    let mut left = run_trial(&rt, alloc, NO_WORDS, FIRST, &NEVER)?;
     let Some(closed) = left.disks.pop() else {
         return Err(Fail::new("the disk came back"));
     };
@@ -160,7 +160,7 @@ fn a_disk_that_was_closed_is_mounted_again(rt: HostRuntime) -> Result<(), Fail> 
     let mut table = [0; 4096];
     put_words(&mut table, &TABLE);
     for blocks in vec![in alloc; closed, old_disk(alloc)?]? {
-        let mut left = run_trial(&rt, alloc, &[], again, &NEVER, &blocks)?;
+        let mut left = run_kept(&rt, alloc, NO_WORDS, again, &NEVER, &blocks)?;
         assert_eq!(rt; left.status, 0);
         assert_eq!(rt;
             left.text.as_slice(),
@@ -222,12 +222,12 @@ fn many_files(alloc: Global, count: u32) -> Result<String, AllocError> {
 fn a_script_that_is_too_long_or_has_too_many_files_is_told(rt: HostRuntime) -> Result<(), Fail> {
     let alloc = rt.alloc();
     let long = vec![in alloc; b' '; 1_048_577]?;
-    let left = run_trial(&rt, alloc, &[], long.as_slice(), &NEVER, &[])?;
+    let left = run_trial(&rt, alloc, NO_WORDS, long.as_slice(), &NEVER)?;
     assert_eq!(rt; left.status, 3);
     assert_eq!(rt; left.text.as_slice(), b"script: line 0: long\n".as_slice());
     for (count, expected) in [(64, 0), (65, 4)] {
         let script = many_files(alloc, count)?;
-        let left = run_trial(&rt, alloc, &[], script.as_bytes(), &NEVER, &[])?;
+        let left = run_trial(&rt, alloc, NO_WORDS, script.as_bytes(), &NEVER)?;
         assert_eq!(rt; left.status, expected, "{count} files");
         assert!(rt;
             left.status == 0 || left.text.as_slice() == b"setup: rule 10\n".as_slice(),
@@ -247,7 +247,7 @@ fn a_file_is_shown_page_by_page(rt: HostRuntime) -> Result<(), Fail> {
     let head = "process 1\n4 exit ok\nfile c 4100\n";
     for (disk_0, tail) in [(0, "00001000 41414141\n"), (6, "fault: disk 0 0 1\n")] {
         let fails = Fails { disk_0, ..NEVER };
-        let left = run_trial(&rt, alloc, &[], script.as_bytes(), &fails, &[])?;
+        let left = run_trial(&rt, alloc, NO_WORDS, script.as_bytes(), &fails)?;
         let expected = format!(in alloc; "{head}{first}{tail}")?;
         assert_eq!(rt; left.status, if disk_0 == 0 { 0 } else { 7 });
         assert_eq!(rt; left.text.as_slice(), expected.as_bytes());

@@ -1,5 +1,5 @@
 //! Whole runs over memory forms, with a fault in each place: what each prints, and how it ends.
-use crate::trial::{Fails, NEVER, run_trial};
+use crate::trial::{Fails, NEVER, NO_WORDS, run_trial};
 use std::alloc::Global;
 use std::sync::Wait;
 use std::test::Fail;
@@ -48,7 +48,7 @@ pub(crate) const TRACE: &[u8] =
 struct Case {
     name: &'static str,
     script: &'static [u8],
-    words: &'static [&'static str],
+    words: &'static str,
     source: u64,
     sink: u64,
     rack: u64,
@@ -62,7 +62,7 @@ struct Case {
 const WHOLE: Case = Case {
     name: "the first path",
     script: FIRST,
-    words: &[],
+    words: NO_WORDS,
     source: 0,
     sink: 0,
     rack: 0,
@@ -77,7 +77,7 @@ const CASES: [Case; 33] = [
     WHOLE,
     Case {
         name: "a trace",
-        words: &["--trace"],
+        words: "--trace",
         text: TRACE,
         ..WHOLE
     },
@@ -133,7 +133,7 @@ const CASES: [Case; 33] = [
     Case {
         name: "two disks, with a trace and no swap",
         script: TWO,
-        words: &["--trace"],
+        words: "--trace",
         text: b"trace swap 0\ndisk 0 8\ndisk 1 4\nroot 1\nfile 0 b ro 1 2 1+1\n00000000 00ff\nfile 1 a rw 0 0 1+2\nentries 1\n1 0000000000000000 exit = ok\nprocess 1\n7 exit ok\nfile b 2\n00000000 00ff\nfile a 0\n",
         ..WHOLE
     },
@@ -197,7 +197,7 @@ const CASES: [Case; 33] = [
     },
     Case {
         name: "the page isn't read for the trace",
-        words: &["--trace"],
+        words: "--trace",
         disk_0: 3,
         status: 7,
         fault: "opening",
@@ -263,7 +263,7 @@ const CASES: [Case; 33] = [
     },
     Case {
         name: "a word that isn't taken",
-        words: &["--pageout", "x"],
+        words: "--pageout\nx",
         status: 2,
         text: b"usage: sunvm [--trace] [--pageout N] [--make N]\n",
         ..WHOLE
@@ -353,7 +353,7 @@ fn fails_of(case: &Case) -> Fails {
 // Runs each of these, and looks at how it ended.
 fn look_at(rt: &impl Wait, alloc: Global, cases: &[Case]) -> Result<(), Fail> {
     for case in cases {
-        let left = run_trial(rt, alloc, case.words, case.script, &fails_of(case), &[])?;
+        let left = run_trial(rt, alloc, case.words, case.script, &fails_of(case))?;
         let name = case.name;
         if (left.status, left.fault) != (case.status, case.fault) {
             let (status, fault) = (left.status, left.fault);
@@ -471,7 +471,7 @@ const BROKEN: [Broken; 17] = [
 // Runs each of these, and looks at what it says.
 fn hear(rt: &impl Wait, alloc: Global, scripts: &[Broken]) -> Result<(), Fail> {
     for broken in scripts {
-        let left = run_trial(rt, alloc, &[], broken.script, &NEVER, &[])?;
+        let left = run_trial(rt, alloc, NO_WORDS, broken.script, &NEVER)?;
         if left.status != broken.status || left.text.as_slice() != broken.text {
             let (status, text) = (left.status, broken.text);
             return Err(Fail::new(format_args!("{status} for {text:?}")));

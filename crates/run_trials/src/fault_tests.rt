@@ -1,6 +1,6 @@
 //! The first path over a sink and a source that fail at each of their calls in turn, and how many transfers it makes.
 use crate::case_tests::{FIRST, REPORT, TRACE};
-use crate::trial::{Fails, NEVER, run_trial};
+use crate::trial::{Fails, NEVER, NO_WORDS, run_trial};
 use std::test::Fail;
 
 const AGAIN: &[u8] =
@@ -9,7 +9,7 @@ const AGAIN: &[u8] =
 #[test]
 fn a_load_that_finds_its_page_makes_no_transfer(rt: HostRuntime) -> Result<(), Fail> {
     for script in [FIRST, AGAIN] {
-        let left = run_trial(&rt, rt.alloc(), &[], script, &NEVER, &[])?;
+        let left = run_trial(&rt, rt.alloc(), NO_WORDS, script, &NEVER)?;
         assert_eq!(rt; (left.first, left.disks.len()), ((3, 3), 1));
         assert_eq!(rt; left.status, 0);
     }
@@ -22,7 +22,7 @@ fn a_sink_that_fails_has_a_front_of_the_text(rt: HostRuntime) -> Result<(), Fail
     let mut before = 0;
     for sink in 1..400 {
         let fails = Fails { sink, ..NEVER };
-        let left = run_trial(&rt, rt.alloc(), &["--trace"], FIRST, &fails, &[])?;
+        let left = run_trial(&rt, rt.alloc(), "--trace", FIRST, &fails)?;
         let count = left.text.len();
         assert!(rt; TRACE.starts_with(left.text.as_slice()), "call {sink}");
         if left.status == 0 {
@@ -43,7 +43,7 @@ fn a_sink_that_fails_has_a_front_of_the_text(rt: HostRuntime) -> Result<(), Fail
 fn a_source_that_fails_ends_the_run(rt: HostRuntime) -> Result<(), Fail> {
     for source in 1..400 {
         let fails = Fails { source, ..NEVER };
-        let left = run_trial(&rt, rt.alloc(), &[], FIRST, &fails, &[])?;
+        let left = run_trial(&rt, rt.alloc(), NO_WORDS, FIRST, &fails)?;
         if left.status == 0 {
             assert_eq!(rt; left.text.as_slice(), REPORT);
             assert!(rt; source > FIRST.len() as u64 / 7, "7 bytes a call");

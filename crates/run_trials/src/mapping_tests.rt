@@ -1,5 +1,5 @@
 //! Whole runs of map, unmap and protect: what each prints.
-use crate::trial::{NEVER, run_trial};
+use crate::trial::{NEVER, NO_WORDS, run_trial};
 use std::test::Fail;
 
 // A page in the middle goes, and once more.
@@ -30,19 +30,40 @@ const NO_ROOM: &[u8] =
 
 // Each script beside its report.
 const RUNS: [(&[u8], &[u8]); 7] = [
-    (CUT, b"process 1\n2 map 0x00002000\n3 store ok\n4 store ok\n5 unmap ok\n6 load SEGV nomap\n7 load 0x01\n8 load 0x03\n9 unmap ok\n10 unmap error 1 Invalid\n11 unmap error 1 Invalid\n12 unmap ok\n13 load SEGV nomap\n14 exit ok\n"),
-    (GIVEN_BACK, b"process 1\n3 map 0x00002000\n4 map error 3 NoSwap\n5 unmap ok\n6 map 0x00001000\n7 map error 3 NoSwap\n8 load 0x00\n9 exit ok\n"),
-    (OBJECT_GOES, b"process 1\n3 map 0x00002000\n4 unmap ok\n5 map error 3 NoSwap\n6 unmap ok\n7 map 0x00001000\n8 exit ok\n"),
-    (PROTECTION, b"process 1\n5 map 0x00002000\n6 protect ok\n7 store SEGV prot\n8 map 0x00004000\n9 protect error 2 Access\n10 map 0x00006000\n11 protect ok\n12 store ok\n13 exit ok\nfile a 5\n00000000 68656c6c6f\nfile b 5\n00000000 68656c6c6f\n"),
-    (RIGHTS, b"process 1\n2 map 0x00002000\n3 store ok\n4 protect ok\n5 load SEGV prot\n6 load 0x00\n7 protect ok\n8 load 0x07\n9 store SEGV prot\n10 protect ok\n11 store ok\n12 load 0x08\n13 protect error 6 NotMapped\n14 protect error 1 Invalid\n15 protect error 1 Invalid\n16 store ok\n17 exit ok\n"),
-    (GAP, b"process 1\n2 map 0x00001000\n3 map 0x00003000\n4 map 0x00006000\n5 map 0x00004000\n6 map error 1 Invalid\n7 map error 9 NoObject\n8 exit ok\n"),
-    (NO_ROOM, b"process 1\n4 map 0x08000000\n5 map 0x10000000\n6 map 0x18000000\n7 map 0x20000000\n8 map 0x28000000\n9 map 0x30000000\n10 map 0x38000000\n11 map 0x40000000\n12 map 0x48000000\n13 map 0x50000000\n14 map 0x58000000\n15 map 0x60000000\n16 map 0x68000000\n17 map 0x70000000\n18 map 0x78000000\n19 map error 4 NoRoom\n20 map error 4 NoRoom\n21 map error 2 Access\n22 map error 3 NoSwap\n23 map error 5 TooLarge\n24 map 0x00001000\n25 exit ok\nfile a 5\n00000000 68656c6c6f\n"),
+    (
+        CUT,
+        b"process 1\n2 map 0x00002000\n3 store ok\n4 store ok\n5 unmap ok\n6 load SEGV nomap\n7 load 0x01\n8 load 0x03\n9 unmap ok\n10 unmap error 1 Invalid\n11 unmap error 1 Invalid\n12 unmap ok\n13 load SEGV nomap\n14 exit ok\n",
+    ),
+    (
+        GIVEN_BACK,
+        b"process 1\n3 map 0x00002000\n4 map error 3 NoSwap\n5 unmap ok\n6 map 0x00001000\n7 map error 3 NoSwap\n8 load 0x00\n9 exit ok\n",
+    ),
+    (
+        OBJECT_GOES,
+        b"process 1\n3 map 0x00002000\n4 unmap ok\n5 map error 3 NoSwap\n6 unmap ok\n7 map 0x00001000\n8 exit ok\n",
+    ),
+    (
+        PROTECTION,
+        b"process 1\n5 map 0x00002000\n6 protect ok\n7 store SEGV prot\n8 map 0x00004000\n9 protect error 2 Access\n10 map 0x00006000\n11 protect ok\n12 store ok\n13 exit ok\nfile a 5\n00000000 68656c6c6f\nfile b 5\n00000000 68656c6c6f\n",
+    ),
+    (
+        RIGHTS,
+        b"process 1\n2 map 0x00002000\n3 store ok\n4 protect ok\n5 load SEGV prot\n6 load 0x00\n7 protect ok\n8 load 0x07\n9 store SEGV prot\n10 protect ok\n11 store ok\n12 load 0x08\n13 protect error 6 NotMapped\n14 protect error 1 Invalid\n15 protect error 1 Invalid\n16 store ok\n17 exit ok\n",
+    ),
+    (
+        GAP,
+        b"process 1\n2 map 0x00001000\n3 map 0x00003000\n4 map 0x00006000\n5 map 0x00004000\n6 map error 1 Invalid\n7 map error 9 NoObject\n8 exit ok\n",
+    ),
+    (
+        NO_ROOM,
+        b"process 1\n4 map 0x08000000\n5 map 0x10000000\n6 map 0x18000000\n7 map 0x20000000\n8 map 0x28000000\n9 map 0x30000000\n10 map 0x38000000\n11 map 0x40000000\n12 map 0x48000000\n13 map 0x50000000\n14 map 0x58000000\n15 map 0x60000000\n16 map 0x68000000\n17 map 0x70000000\n18 map 0x78000000\n19 map error 4 NoRoom\n20 map error 4 NoRoom\n21 map error 2 Access\n22 map error 3 NoSwap\n23 map error 5 TooLarge\n24 map 0x00001000\n25 exit ok\nfile a 5\n00000000 68656c6c6f\n",
+    ),
 ];
 
 #[test]
 fn mappings_change_as_the_rules_say(rt: HostRuntime) -> Result<(), Fail> {
     for (script, text) in RUNS {
-        let left = run_trial(&rt, rt.alloc(), &[], script, &NEVER, &[])?;
+        let left = run_trial(&rt, rt.alloc(), NO_WORDS, script, &NEVER)?;
         assert_eq!(rt; left.status, 0);
         assert_eq!(rt; left.text.as_slice(), text);
     }

@@ -2,7 +2,7 @@
 ghost use Rattle.std.specs.Prelude.{◌≡◌, ◌<◌, ◌≤◌, length};
 
 use crate::disk_tests::script_of_file;
-use crate::trial::{Fails, Left, NEVER, run_trial};
+use crate::trial::{Fails, Left, NEVER, NO_WORDS, run_trial};
 use block_device::Block;
 use flat_state::FlatState;
 use std::alloc::{AllocError, Global};
@@ -208,7 +208,7 @@ fn runs_by_chance_are_those_of_flat_memory(rt: HostRuntime) -> Result<(), Fail> 
             swap: u64::from(chance.below(30)),
             ..NEVER
         };
-        let left = run_trial(&rt, alloc, &[], script.as_bytes(), &fails, &[])?;
+        let left = run_trial(&rt, alloc, NO_WORDS, script.as_bytes(), &fails)?;
         assert_eq!(rt; left.status, 0, "seed {seed}");
         assert!(rt; is_flat(alloc, slots, &left)?, "seed {seed}");
     }

@@ -1,7 +1,7 @@
 //! What a mounted disk holds where a run ends early, block by block; and a disk that fails is told of while memory is there.
 use crate::case_tests::{FIRST, REPORT};
 use crate::disk_tests::{OLD_TABLE, TABLE, blocks_of, put_words};
-use crate::trial::{Fails, Left, NEVER, run_trial};
+use crate::trial::{Fails, Left, NEVER, NO_WORDS, run_kept, run_trial};
 use block_device::Block;
 use std::alloc::{AllocError, Global};
 use std::sync::Wait;
@@ -33,7 +33,7 @@ fn are_kept(before: &[Block], after: &[Block], but: &[usize]) -> bool {
 #[derive(Clone, Copy)]
 struct Early {
     name: &'static str,
-    words: &'static [&'static str],
+    words: &'static str,
     script: &'static [u8],
     fails: Fails,
     status: u8,
@@ -46,11 +46,21 @@ const PLACED: &[u8] = b"disk 0 path v\nfile b rw 0 1 62\nprocess\nend\n";
 const SECOND: &[u8] =
     b"disk 0 path v\ndisk 1 blank 4\nfile c rw 1 1 63\nprocess\nmap 0x2000 4096 rw shared a 0\nstore 0x2000 1 0x4b\nend\n";
 
+const SECOND_FAILS: Early = Early {
+    name: "the second disk's table isn't written",
+    words: NO_WORDS,
+    script: SECOND,
+    fails: Fails { disk_1: 3, ..NEVER },
+    status: 7,
+    fault: "closing",
+    but: &[0, 1],
+};
+
 // The file of the script's line gets block 3.
 const EARLY: [Early; 6] = [
     Early {
         name: "the trace isn't taken",
-        words: &["--trace"],
+        words: "--trace",
         script: PLACED,
         fails: Fails { sink: 3, ..NEVER },
         status: 6,
@@ -59,7 +69,7 @@ const EARLY: [Early; 6] = [
     },
     Early {
         name: "the page of a line isn't written",
-        words: &[],
+        words: NO_WORDS,
         script: PLACED,
         fails: Fails { disk_0: 2, ..NEVER },
         status: 7,
@@ -68,7 +78,7 @@ const EARLY: [Early; 6] = [
     },
     Early {
         name: "a page isn't read for the trace",
-        words: &["--trace"],
+        words: "--trace",
         script: PLACED,
         fails: Fails { disk_0: 3, ..NEVER },
         status: 7,
@@ -77,7 +87,7 @@ const EARLY: [Early; 6] = [
     },
     Early {
         name: "block 0 isn't read",
-        words: &[],
+        words: NO_WORDS,
         script: PLACED,
         fails: Fails { disk_0: 1, ..NEVER },
         status: 7,
@@ -86,50 +96,46 @@ const EARLY: [Early; 6] = [
     },
     Early {
         name: "a name is there already",
-        words: &[],
+        words: NO_WORDS,
         script: b"disk 0 path v\nfile b rw 0 1 62\nfile a rw 0 1 -\nprocess\nend\n",
         fails: NEVER,
         status: 4,
         fault: "none",
         but: &[],
     },
-    Early {
-        name: "the second disk's table isn't written",
-        words: &[],
-        script: SECOND,
-        fails: Fails { disk_1: 3, ..NEVER },
-        status: 7,
-        fault: "closing",
-        but: &[0, 1],
-    },
+    SECOND_FAILS,
 ];
 
 fn end_early(rt: &impl Wait, alloc: Global, early: &Early) -> Result<Left, Fail> {
     let name = early.name;
     let before = volume(alloc)?;
-    let left = run_trial(rt, alloc, early.words, early.script, &early.fails, &before)?;
+    let left = run_kept(rt, alloc, early.words, early.script, &early.fails, &before)?;
     if (left.status, left.fault) != (early.status, early.fault) {
         let (status, fault) = (left.status, left.fault);
-        return Err(Fail::new(&format!(in alloc; "{name}: {status}, {fault}")?));
+        return Err(Fail::new(format_args!("{name}: {status}, {fault}")));
     }
     match left.disks.first() {
         Some(after) if are_kept(&before, after, early.but) => Ok(left),
-        _ => Err(Fail::new(&format!(in alloc; "{name}: a block changed")?)),
+        _ => Err(Fail::new(format_args!("{name}: a block changed"))),
     }
+}
+
+fn end_each(rt: &impl Wait, alloc: Global, cases: &[Early]) -> Result<(), Fail> {
+    for early in cases {
+        end_early(rt, alloc, early)?;
+    }
+    Ok(())
 }
 
 #[test]
 fn a_run_that_ends_early_leaves_the_other_blocks(rt: HostRuntime) -> Result<(), Fail> {
-    for early in &EARLY {
-        end_early(&rt, rt.alloc(), early)?;
-    }
-    Ok(())
+    end_each(&rt, rt.alloc(), &EARLY)
 }
 
 // The first disk was closed before the second one failed: it has its page and its table.
 #[test]
 fn a_disk_is_closed_before_the_next_one_fails(rt: HostRuntime) -> Result<(), Fail> {
-    let left = end_early(&rt, rt.alloc(), &EARLY[5])?;
+    let left = end_early(&rt, rt.alloc(), &SECOND_FAILS)?;
     let mut table = [0; 4096];
     put_words(&mut table, &TABLE);
     match left.disks.first() {
@@ -147,7 +153,7 @@ fn a_disk_is_closed_before_the_next_one_fails(rt: HostRuntime) -> Result<(), Fai
 fn a_disk_that_fails_is_no_want_of_memory(rt: HostRuntime) -> Result<(), Fail> {
     for disk_0 in 1..400 {
         let fails = Fails { disk_0, ..NEVER };
-        let left = run_trial(&rt, rt.alloc(), &["--trace"], FIRST, &fails, &[])?;
+        let left = run_trial(&rt, rt.alloc(), "--trace", FIRST, &fails)?;
         assert!(rt; left.status == 7 || left.status == 0, "call {disk_0}");
         if left.text.ends_with(REPORT) {
             assert!(rt; disk_0 > 6, "the first path makes calls");
