@@ -4,7 +4,7 @@ use Rattle.std.specs.Prelude.{IsTrue, ◌||◌}
 use Rattle.std.specs.List.{list_any}
 use Rattle.std.proofs.lemmas.List.Folds.{list_any-append}
 use mathlib.Core.List.{IsPrefix}
-use Rattle.kernel_lock.proofs.Begun.{prefix_self}
+use Rattle.kernel_lock.proofs.Begun.{prefix_more, prefix_self}
 use Rattle.flat_model.specs.Births.{is_birth}
 use Rattle.vm_types.specs.declared.call.Call.{Call}
 use Rattle.vm_types.specs.declared.call.Entry.{Entry}
@@ -15,9 +15,6 @@ use Rattle.vm_kernel.specs.Callers.{KernelSeen, CallerSeen, ShowsOwn}
 use Rattle.vm_kernel.specs.Turns.{MayCall, CallerGoesOn, IsTurn, IsCallDone, LacksMemory, IsForCall, caller_at}
 use Rattle.vm_kernel.specs.declared.turn.Turn.{Turn}
 use Rattle.vm_kernel.proofs.Visited.{turn-later, done-later, refused-later}
-
-prefix-then : {A : Type 0} (xs ys zs : List A) → IsPrefix xs ys → IsPrefix ys zs → IsPrefix xs zs
-prefix-then xs ys zs a b = (a.0 ++ b.0, sym (append_assoc xs a.0 b.0) ∙ ap (λ (w : _). w ++ b.0) a.1 ∙ b.1)
 
 -- who was known to be alive is so by more that was seen
 more-alive : (parents : List ℕ) (seen later own : List Entry) (p : ℕ) → IsPrefix seen later → IsKnownAlive parents seen own p → IsKnownAlive parents later own p
@@ -41,7 +38,7 @@ pub goes-both : (c m d : CallerSeen) → CallerGoesOn c m → CallerGoesOn m d �
 goes-both c m d a b = record {
   process = b.process ∙ a.process;
   number = b.number ∙ a.number;
-  seen = prefix-then c.seat.seen m.seat.seen d.seat.seen a.seen b.seen;
+  seen = subst (IsPrefix c.seat.seen) b.seen.1 (prefix_more c.seat.seen m.seat.seen b.seen.0 a.seen);
   own = b.own;
   refused = let x = a.refused in let y = b.refused in omega (arith, x, y);
   leaves = let x = a.leaves in let y = b.leaves in omega (arith, x, y);

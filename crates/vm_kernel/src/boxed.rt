@@ -78,10 +78,10 @@ impl<D: Disk> BoxedState<D> {
         requires served { IsServed call.now }
         requires may { CanTry self.old seat process call.now }
         requires none { sent.old ≡ None }
-        // What comes of it.
+        // One event: what the try leaves, and the flight that is out then, which waits for its transfer.
         ensures event { IsEvent seat self.old None self.new (note_of_held sent.new) }
-        ensures tries { TriesCall self.old self.new process call.now
-            (note_of_held sent.new) result }
+        ensures tries { TriesCall self.old self.new process call.now (note_of_held sent.new)
+            result }
         ensures ready { AreUnperformed sent.new }
     {
         steps::try_and_begin(&mut self.state, seat, process, call, sent)
@@ -92,7 +92,8 @@ impl<D: Disk> BoxedState<D> {
         requires back { (note : Sent) × FitsAt self.old seat (Some note)
             × InHand (Some sent) (Some note) }
         ensures ends { (note : Sent) → InHand (Some sent) (Some note)
-            → IsEvent seat self.old (Some note) self.new None × EndsFlight self.old self.new note result }
+            → IsEvent seat self.old (Some note) self.new None
+            × EndsFlight self.old self.new note result }
     {
         steps::end_flight(&mut self.state, seat, sent)
     }
@@ -101,7 +102,7 @@ impl<D: Disk> BoxedState<D> {
     pub(crate) fn move_hand(&mut self, seat: u32) -> Option<SentFlight<D>>
         requires fits { FitsAt self.old seat None }
         requires seat { seat < length self.old.syncs }
-        // What comes of it.
+        // One event, which makes no entry; a push that is out then is for no call.
         ensures event { IsEvent seat self.old None self.new (note_of_held result) }
         ensures ready { AreUnperformed result }
         ensures of { IsForNone (note_of_held result) }

@@ -30,7 +30,7 @@ fn first_at<D: Disk>(
     requires idle { IsIdle seat.old process sent.old }
     requires may { MayCall lock.now (caller_at seat.old process) call.now }
     requires none { sent.old ≡ None }
-    // What comes of it.
+    // The caller goes on, and what its first half comes to.
     ensures seat { IsSeatOf lock.now seat.new }
     ensures idle { IsIdle seat.new process sent.new }
     ensures goes { CallerGoesOn (caller_at seat.old process) (caller_at seat.new process) }
@@ -56,7 +56,7 @@ fn second_at<D: Disk>(
     requires idle { IsIdle seat.old process sent.old }
     requires out { (call : calls.Call) × IsNoteFor process call seat.old.note }
     requires named { process ≡ seat.old.number + 1 }
-    // What comes of it.
+    // The caller goes on, and what its second half comes to.
     ensures seat { IsSeatOf lock.now seat.new }
     ensures idle { IsIdle seat.new process sent.new }
     ensures goes { CallerGoesOn (caller_at seat.old process) (caller_at seat.new process) }
@@ -84,7 +84,7 @@ pub(crate) fn turn_at<D: Disk>(
     requires seat { IsSeatOf lock.now seat.old }
     requires idle { IsIdle seat.old process sent.old }
     requires may { MayCall lock.now (caller_at seat.old process) call.now }
-    // What comes of it.
+    // The caller goes on, and what the turn comes to.
     ensures seat { IsSeatOf lock.now seat.new }
     ensures idle { IsIdle seat.new process sent.new }
     ensures goes { CallerGoesOn (caller_at seat.old process) (caller_at seat.new process) }
@@ -113,7 +113,7 @@ fn land<R: Wait, D: Disk>(
     requires seat { IsSeatOf lock.now seat.old }
     requires idle { IsIdle seat.old process sent.old }
     requires of { IsForNone seat.old.note }
-    // What comes of it.
+    // The caller goes on with nothing in hand, and made no entry.
     ensures seat { IsSeatOf lock.now seat.new }
     ensures idle { IsIdle seat.new process sent.new }
     ensures none { (sent.new ≡ None) × (seat.new.note ≡ None) }
@@ -139,7 +139,7 @@ pub(crate) fn move_at<R: Wait, D: Disk>(
     requires seats { lock.now.seats ≤ length lock.now.opening.syncs }
     requires idle { IsIdle seat.old process sent.old }
     requires none { sent.old ≡ None }
-    // What comes of it.
+    // The caller goes on with nothing in hand, and made no entry.
     ensures seat { IsSeatOf lock.now seat.new }
     ensures idle { IsIdle seat.new process sent.new }
     ensures none { (sent.new ≡ None) × (seat.new.note ≡ None) }

@@ -68,7 +68,7 @@ impl<D: Disk> VmKernel<D> {
     ) -> Result<Reply, AllocError>
         requires caller { IsCallerOf self.now caller.old }
         requires may { MayCall self.now caller.old call.now }
-        // What comes of it.
+        // The caller goes on. Its call is done by exactly one entry more, or wants memory.
         ensures caller { IsCallerOf self.now caller.new }
         ensures goes { CallerGoesOn caller.old caller.new }
         ensures done { IfOk result (λ reply. IsCallDone caller.old call.now caller.new reply) }
@@ -103,7 +103,7 @@ impl<D: Disk> VmKernel<D> {
     fn move_hand<R: Wait>(&self, rt: &R, caller: &mut Caller<D>)
         requires caller { IsCallerOf self.now caller.old }
         requires free { caller.old.seat.note ≡ None }
-        // What comes of it.
+        // The caller goes on with nothing in hand, and made no entry.
         ensures caller { IsCallerOf self.now caller.new }
         ensures goes { CallerGoesOn caller.old caller.new }
         ensures same { caller.new.seat.own ≡ caller.old.seat.own }
@@ -122,7 +122,7 @@ impl<D: Disk> VmKernel<D> {
     pub fn pageout<R: Wait>(&self, rt: &R, caller: &mut Caller<D>, turns: u32)
         requires caller { IsCallerOf self.now caller.old }
         requires free { caller.old.seat.note ≡ None }
-        // What comes of it.
+        // The caller goes on with nothing in hand, and made no entry.
         ensures caller { IsCallerOf self.now caller.new }
         ensures goes { CallerGoesOn caller.old caller.new }
         ensures same { caller.new.seat.own ≡ caller.old.seat.own }

@@ -31,7 +31,7 @@ fn lock_of<D: Disk>(
     requires count { (0 < seats) × (seats ≤ 65) }
     requires fits { (F : Flat) × StateFits F state no_seats }
     requires empty { state.history ≡ [] }
-    // What comes of it.
+    // A lock with this opening, and its seats, which have been nowhere.
     ensures lock { IfOk result (λ r. (r.0.seats ≡ seats) × (r.0.opening ≡ state)) }
     ensures count { IfOk result (λ r. vec_len r.1 ≡ seats) }
     ensures seats { IfOk result (λ r. AreNew r.0 r.1.items) }
@@ -71,7 +71,7 @@ fn seat_callers<D: Disk>(
     requires seats { AreNew lock.now seats.items }
     requires named { AreNamed rooms.now }
     requires row { (row.items ≡ []) × (vec_len row ≡ 0) × (length rooms.now ≤ vec_capacity row) }
-    // What comes of it.
+    // A caller for each room, in the order of the rooms.
     ensures { result.items ≡ callers_from lock.now 0 rooms.now }
 {
     let _ = lock;

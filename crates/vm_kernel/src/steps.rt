@@ -34,7 +34,7 @@ fn send<D: Disk>(
 ) -> SentFlight<D>
     requires fits { FitsAt state.old seat None }
     requires kept { state.old.plan ≡ Some (record { seat = seat; plan = plan; of = of }) }
-    // What comes of it.
+    // One event, which makes no entry: the flight of the plan is out, and waits for its transfer.
     ensures event { IsEvent seat state.old None state.new (note_of_held (Some result)) }
     ensures fresh { IsUnperformed result }
     ensures of { result.of ≡ of }
@@ -57,7 +57,7 @@ pub(crate) fn try_and_begin<D: Disk>(
     requires served { IsServed call.now }
     requires may { CanTry state.old seat process call.now }
     requires none { sent.old ≡ None }
-    // What comes of it.
+    // One event: what the try leaves, and the flight that is out then, which waits for its transfer.
     ensures event { IsEvent seat state.old None state.new (note_of_held sent.new) }
     ensures tries { TriesCall state.old state.new process call.now (note_of_held sent.new) result }
     ensures ready { AreUnperformed sent.new }
@@ -90,7 +90,8 @@ pub(crate) fn end_flight<D: Disk>(
     requires back { (note : Sent) × FitsAt state.old seat (Some note)
         × InHand (Some sent) (Some note) }
     ensures ends { (note : Sent) → InHand (Some sent) (Some note)
-        → IsEvent seat state.old (Some note) state.new None × EndsFlight state.old state.new note result }
+        → IsEvent seat state.old (Some note) state.new None
+        × EndsFlight state.old state.new note result }
 {
     let SentFlight { flight, of } = sent;
     state.end(seat, flight, lent(&of))
@@ -100,7 +101,7 @@ pub(crate) fn end_flight<D: Disk>(
 pub(crate) fn move_hand<D: Disk>(state: &mut VmState<D>, seat: u32) -> Option<SentFlight<D>>
     requires fits { FitsAt state.old seat None }
     requires seat { seat < length state.old.syncs }
-    // What comes of it.
+    // One event, which makes no entry; a push that is out then is for no call.
     ensures event { IsEvent seat state.old None state.new (note_of_held result) }
     ensures ready { AreUnperformed result }
     ensures of { IsForNone (note_of_held result) }

@@ -43,7 +43,7 @@ pub(crate) fn try_and_leave<D: Disk>(
     requires served { IsServed call.now }
     requires may { CanTry state seat.old.number process call.now }
     requires none { sent.old ≡ None }
-    // What comes of it.
+    // The seat goes out of one event, with what is in hand then as its note.
     ensures seat { IsSeatOf lock.now seat.new }
     ensures leaves { LeavesTry seat.old state process call.now seat.new
         (note_of_held sent.new) result }
@@ -67,7 +67,7 @@ pub(crate) fn end_and_leave<D: Disk>(
     requires inside { (seat.old.inside ≡ true) × (seat.old.state ≡ Some state) }
     requires fits { FitsAt state seat.old.number seat.old.note }
     requires hand { InHand (Some sent) seat.old.note }
-    // What comes of it.
+    // The seat goes out of one event, with nothing as its note.
     ensures seat { IsSeatOf lock.now seat.new }
     ensures leaves { (note : Sent) → seat.old.note ≡ Some note
         → LeavesEnd seat.old state note seat.new result }
@@ -92,7 +92,7 @@ pub(crate) fn hand_and_leave<D: Disk>(
     requires fits { FitsAt state seat.old.number None }
     requires seated { seat.old.number < length state.syncs }
     requires none { sent.old ≡ None }
-    // What comes of it.
+    // The seat goes out of one event, with what is in hand then as its note.
     ensures seat { IsSeatOf lock.now seat.new }
     ensures leaves { LeavesHand seat.old state seat.new (note_of_held sent.new) }
     ensures ready { AreUnperformed sent.new }
