@@ -7,10 +7,10 @@
 ghost use Rattle.std.specs.Prelude.{◌≤◌};
 
 use bitflags::Flags;
+use flat_model::{Call, Entry, Kind, Object, Place, Prot, Reply};
 use flat_state::FlatState;
 use std::alloc::{AllocError, Global};
 use std::{env, io};
-use vm_types::{Call, Entry, Kind, Object, Place, Prot, Reply};
 
 // Where the file is mapped.
 const FIRST: u32 = 0x1000_0000;

@@ -8,9 +8,10 @@
 use std::alloc::{AllocError, Global};
 use std::io::{Read, Write};
 use std::{env, io};
-use vm_report::{are_well_formed, process_sections};
-use vm_script::{Plan, PlanAct, PlanLine, parse};
-use vm_types::{Call, Entry, Errno, Place, Reply};
+use vm_report::{
+    Call, Entry, Errno, Place, Plan, PlanAct, PlanLine, Reply, are_well_formed, parse,
+    process_sections,
+};
 
 /// An answer to the call.
 fn reply_to(call: &Call) -> Reply {

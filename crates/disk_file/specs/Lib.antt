@@ -1,1 +1,2 @@
 pub mod FileDiskSeen
+pub use Rattle.block_device.specs as block_device

@@ -3,4 +3,5 @@
 
 mod stripe;
 
+pub use block_device::{Disk, Failed, Pairing};
 pub use stripe::Stripe;

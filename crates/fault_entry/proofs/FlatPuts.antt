@@ -7,36 +7,36 @@ use Rattle.std.specs.FinSet as set
 use Rattle.std.specs.Ordering.{nat_cmp}
 use Rattle.std.proofs.lemmas.Bool.{cases_eq, ltb-true}
 use Rattle.std.proofs.lemmas.Bool.Decides.{eqb_tells}
-use Rattle.vm_types.specs.declared.call.Kind.{Kind}
-use Rattle.vm_types.specs.declared.call.Kind.TheVariants.{Shared, Private}
-use Rattle.vm_types.specs.declared.call.Object.{Object}
-use Rattle.vm_types.specs.declared.call.Object.TheVariants as object
-use Rattle.vnode_files.specs.declared.vnode.FileInfo.{FileInfo}
-use Rattle.vnode_files.specs.Files.{vnode_at}
-use Rattle.addr_space.specs.Space.{Part}
-use Rattle.page_hash.specs.declared.PageName.{PageName}
-use Rattle.page_store.specs.Notes.{Notes}
-use Rattle.anon_map.specs.Maps.{Map, places_of}
-use Rattle.anon_slots.specs.Slots.{AnonSlotsSeen, count_at}
-use Rattle.flat_model.specs.Words.{Page, pages_in, zero_page}
-use Rattle.flat_model.specs.Flat.{Cell, Flat}
-use Rattle.flat_model.specs.Access.{with_page, with_cell, with_page_stored, file_with_page, with_change_at}
-use Rattle.vm_world.specs.CountsFit.{CountsFit}
-use Rattle.vm_world.specs.FlatMemory.{Shape, flat_shaped, flat_memory, shape_of, cell_of, files_with_pages, file_with_pages, map_with, pages_from, space_with, zero_maps, zero_pages}
-use Rattle.vm_world.specs.MemoryFits.{MemoryFits}
-use Rattle.vm_world.specs.Pages.{Contents, contents_of, contents_by, file_contents, page_value, place_contents}
-use Rattle.vm_world.specs.Segments.{Spot, Spaces, spot_at, own_slot, object_name, shown_name}
-use Rattle.vm_world.specs.TranslationsFit.{MayWriteInPlace}
-use Rattle.vm_world.specs.Wants.{object_has, shows_page}
-use Rattle.vm_world.specs.World.{World, file_name, slot_name, slot_in}
-use Rattle.vm_world.proofs.Counts.{only-place}
-use Rattle.vm_world.proofs.FlatWhole.{some-inj}
-use Rattle.vm_world.proofs.Maps.{get-map_with, map_with-same, map_with-but_one}
-use Rattle.vm_world.proofs.PageNames.{not-slot, file-apart}
-use Rattle.seg_ops.specs.Slots.{OwnsAlone}
-use Rattle.seg_ops.proofs.SlotCells.{PutsHeld, cell-else, cells-else, flat-owned, pages-same, spot-in}
-use Rattle.seg_ops.proofs.SlotOwners.{places_law}
-use Rattle.seg_ops.proofs.StillSteps.{memory_of}
+use Rattle.seg_vn.specs.vm_types.declared.call.Kind.{Kind}
+use Rattle.seg_vn.specs.vm_types.declared.call.Kind.TheVariants.{Shared, Private}
+use Rattle.seg_vn.specs.vm_types.declared.call.Object.{Object}
+use Rattle.seg_vn.specs.vm_types.declared.call.Object.TheVariants as object
+use Rattle.seg_vn.specs.vnode_files.declared.vnode.FileInfo.{FileInfo}
+use Rattle.seg_vn.specs.vnode_files.Files.{vnode_at}
+use Rattle.seg_vn.specs.addr_space.Space.{Part}
+use Rattle.seg_vn.specs.page_hash.declared.PageName.{PageName}
+use Rattle.seg_vn.specs.page_store.Notes.{Notes}
+use Rattle.seg_vn.specs.anon_map.Maps.{Map, places_of}
+use Rattle.seg_vn.specs.anon_slots.Slots.{AnonSlotsSeen, count_at}
+use Rattle.seg_vn.specs.flat_model.Words.{Page, pages_in, zero_page}
+use Rattle.seg_vn.specs.flat_model.Flat.{Cell, Flat}
+use Rattle.seg_vn.specs.flat_model.Access.{with_page, with_cell, with_page_stored, file_with_page, with_change_at}
+use Rattle.seg_vn.specs.vm_world.CountsFit.{CountsFit}
+use Rattle.seg_vn.specs.vm_world.FlatMemory.{Shape, flat_shaped, flat_memory, shape_of, cell_of, files_with_pages, file_with_pages, map_with, pages_from, space_with, zero_maps, zero_pages}
+use Rattle.seg_vn.specs.vm_world.MemoryFits.{MemoryFits}
+use Rattle.seg_vn.specs.vm_world.Pages.{Contents, contents_of, contents_by, file_contents, page_value, place_contents}
+use Rattle.seg_vn.specs.vm_world.Segments.{Spot, Spaces, spot_at, own_slot, object_name, shown_name}
+use Rattle.seg_vn.specs.vm_world.TranslationsFit.{MayWriteInPlace}
+use Rattle.seg_vn.specs.vm_world.Wants.{object_has, shows_page}
+use Rattle.seg_vn.specs.vm_world.World.{World, file_name, slot_name, slot_in}
+use Rattle.seg_vn.proofs.vm_world.Counts.{only-place}
+use Rattle.seg_vn.proofs.vm_world.FlatWhole.{some-inj}
+use Rattle.seg_vn.proofs.vm_world.Maps.{get-map_with, map_with-same, map_with-but_one}
+use Rattle.seg_vn.proofs.vm_world.PageNames.{not-slot, file-apart}
+use Rattle.seg_vn.specs.seg_ops.Slots.{OwnsAlone}
+use Rattle.seg_vn.proofs.seg_ops.SlotCells.{PutsHeld, cell-else, cells-else, flat-owned, pages-same, spot-in}
+use Rattle.seg_vn.proofs.seg_ops.SlotOwners.{places_law}
+use Rattle.seg_vn.proofs.seg_ops.StillSteps.{memory_of}
 use Rattle.seg_vn.proofs.AnyPlaces.{file-at, new-private, private-has, shared-own, zero-at, zero-map-at}
 use Rattle.seg_vn.proofs.PlacesShown.{bare-name, holds-within, zero-slot}
 

@@ -3,11 +3,11 @@ use Rattle.std.proofs.Common.{◌≡◌, ℕ, ◌+◌, ◌-◌, ◌≤◌, Bool,
 use Rattle.std.specs.Prelude.{option_map, option_and_then, nat_lt, nat_le, ◌&&◌}
 use Rattle.std.specs.FinMap as finite
 use Rattle.std.proofs.lemmas.Bool.{cases_Bool, leb-true}
-use Rattle.addr_space.specs.Space.{Part, part, part_at, has}
-use Rattle.addr_space.specs.Space as parts
-use Rattle.vm_world.specs.declared.segment.Segment.{Segment}
-use Rattle.vm_world.specs.Segments.{Spaces, spot_at}
-use Rattle.vm_world.proofs.FlatWhole.{some-inj}
+use Rattle.seg_vn.specs.addr_space.Space.{Part, part, part_at, has}
+use Rattle.seg_vn.specs.addr_space.Space as parts
+use Rattle.seg_vn.specs.vm_world.declared.segment.Segment.{Segment}
+use Rattle.seg_vn.specs.vm_world.Segments.{Spaces, spot_at}
+use Rattle.seg_vn.proofs.vm_world.FlatWhole.{some-inj}
 
 pub spot-found : (spaces : Spaces) (p q first pages : ℕ) (seg : Segment) (ps : List (Part Segment)) → finite.get spaces p ≡ Some ps → part_at ps q ≡ Some (part first pages seg) → spot_at spaces p q ≡ Some (seg, q - first)
 spot-found spaces p q first pages seg ps e found = ap (option_and_then (λ (xs : List (Part Segment)). parts.piece_at xs q)) e ∙ ap (option_map (λ (r : Part Segment). (r.piece, q - r.first))) found

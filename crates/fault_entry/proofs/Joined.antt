@@ -3,23 +3,23 @@ use Rattle.std.proofs.Common.{◌≡◌, ℕ, ◌%◌, ◌==◌, Bool, true, fal
 use Rattle.std.specs.Option.{option_map_or}
 use Rattle.std.specs.FinSet as set
 use Rattle.std.specs.Ordering.{nat_cmp}
-use Rattle.vm_types.specs.declared.call.Entry.{Entry}
-use Rattle.vm_types.specs.declared.call.Call.TheVariants as call
-use Rattle.vm_types.specs.declared.call.Reply.TheVariants as reply
-use Rattle.vm_types.specs.Prot.{can_write}
-use Rattle.page_store.specs.Notes.{Notes}
-use Rattle.flat_model.specs.Access.{store}
-use Rattle.flat_model.specs.Flat.{Cell, Flat, IsFlat, cell_at, shown}
-use Rattle.flat_model.specs.Refusals.{Effect}
-use Rattle.flat_model.specs.Step.{IsDue, after_act}
-use Rattle.flat_model.specs.Words.{Page, page}
-use Rattle.flat_model.proofs.Stores.{met_is}
-use Rattle.vm_world.specs.CallSteps.{ActsOnMemory, ChangesMemory}
-use Rattle.vm_world.specs.FlatMemory.{Memory, flat_memory}
-use Rattle.vm_world.specs.NotesFit.{NotesFit}
-use Rattle.vm_world.specs.World.{AllTell}
-use Rattle.seg_ops.specs.OwnPages.{with_own_shown, with_shown}
-use Rattle.seg_ops.proofs.OwnShown.{own_shown_law}
+use Rattle.seg_vn.specs.vm_types.declared.call.Entry.{Entry}
+use Rattle.seg_vn.specs.vm_types.declared.call.Call.TheVariants as call
+use Rattle.seg_vn.specs.vm_types.declared.call.Reply.TheVariants as reply
+use Rattle.seg_vn.specs.vm_types.Prot.{can_write}
+use Rattle.seg_vn.specs.page_store.Notes.{Notes}
+use Rattle.seg_vn.specs.flat_model.Access.{store}
+use Rattle.seg_vn.specs.flat_model.Flat.{Cell, Flat, IsFlat, cell_at, shown}
+use Rattle.seg_vn.specs.flat_model.Refusals.{Effect}
+use Rattle.seg_vn.specs.flat_model.Step.{IsDue, after_act}
+use Rattle.seg_vn.specs.flat_model.Words.{Page, page}
+use Rattle.seg_vn.proofs.flat_model.Stores.{met_is}
+use Rattle.seg_vn.specs.vm_world.CallSteps.{ActsOnMemory, ChangesMemory}
+use Rattle.seg_vn.specs.vm_world.FlatMemory.{Memory, flat_memory}
+use Rattle.seg_vn.specs.vm_world.NotesFit.{NotesFit}
+use Rattle.seg_vn.specs.vm_world.World.{AllTell}
+use Rattle.seg_vn.specs.seg_ops.OwnPages.{with_own_shown, with_shown}
+use Rattle.seg_vn.proofs.seg_ops.OwnShown.{own_shown_law}
 
 -- A CALL IS DONE after a change of memory after which it does what it would have done before.
 pub acts-after : (u v w : Memory) (e : Entry) (f : Flat → Flat) → ((born : set.FinSet nat_cmp) (notes : Notes) → NotesFit u.world notes → AllTell u.world notes → IsFlat (flat_memory u born notes) → IsFlat (f (flat_memory u born notes)))

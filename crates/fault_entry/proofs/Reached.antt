@@ -3,44 +3,44 @@ use Rattle.std.proofs.Common.{◌≡◌, ℕ, ◌%◌, Bool, true, false, cond, 
 use Rattle.std.specs.Prelude.{not, ◌||◌}
 use Rattle.std.specs.FinSet as set
 use Rattle.std.specs.Ordering.{nat_cmp}
-use Rattle.hat_layer.specs.declared.translation.Translation.{Translation}
-use Rattle.hat_layer.specs.Pool.{IsNoted, frame_let, frame_for, change_at, change_page, after_access, holds, translation_at}
-use Rattle.anon_map.specs.Maps.{Map}
-use Rattle.anon_slots.specs.Slots.{AnonSlotsSeen}
-use Rattle.page_hash.specs.declared.PageName.{PageName}
-use Rattle.page_hash.proofs.NameLaws.{find-at}
-use Rattle.page_store.specs.Seen.{StoreSeen, residence}
-use Rattle.page_store.specs.declared.residence.Residence.TheVariants.{Home}
-use Rattle.page_store.proofs.QueryLemmas.{home-is}
-use Rattle.vm_world.specs.Wants.{shows_page}
-use Rattle.page_store.specs.Notes.{Notes}
-use Rattle.vm_types.specs.declared.call.Kind.{Kind}
-use Rattle.vm_types.specs.declared.call.Kind.TheVariants.{Shared, Private}
-use Rattle.vm_types.specs.declared.call.Signal.{Signal}
-use Rattle.vm_types.specs.declared.call.Signal.TheVariants as signal
-use Rattle.flat_model.specs.Access.{access_target}
-use Rattle.flat_model.specs.Flat.{Flat}
-use Rattle.flat_model.specs.Words.{page}
-use Rattle.vm_world.specs.CallSteps.{ChangesMemory}
-use Rattle.vm_world.specs.FlatMemory.{flat_memory}
-use Rattle.vm_world.specs.MemoryFits.{MemoryFits}
-use Rattle.vm_world.specs.Segments.{Spot, Spaces, spot_at, shown_name}
-use Rattle.vm_world.specs.Serving.{IsUnpushedSlot, ModifiesOnly, ShowsThere}
-use Rattle.vm_world.specs.TranslationsFit.{MayWriteInPlace}
-use Rattle.vm_world.specs.World.{World}
-use Rattle.vm_world.proofs.CallSteps.{call_rule}
-use Rattle.vm_world.proofs.FlatWhole.{some-inj}
-use Rattle.seg_ops.specs.OwnPages.{with_own_shown}
-use Rattle.seg_ops.specs.declared.plans.Fault.TheVariants as fault
-use Rattle.vm_world.specs.declared.wants.Wants.{Wants}
-use Rattle.vm_world.specs.declared.wants.Wants.TheVariants as wants
-use Rattle.vm_world.specs.Words.{KeepsPages}
-use Rattle.seg_ops.proofs.Composed.{keeps-same}
-use Rattle.seg_ops.proofs.Hits.{noted-hits, noted-home}
-use Rattle.seg_ops.proofs.NewlyModified.{only-as, only-then}
-use Rattle.seg_ops.proofs.StillSteps.{memory_of}
-use Rattle.seg_ops.specs.Faults.{FaultModifies, LetsAccess, ServesFault, after_fault}
-use Rattle.seg_ops.specs.SlotsDue.{MakesSlotAt, slot_due}
+use Rattle.seg_vn.specs.hat_layer.declared.translation.Translation.{Translation}
+use Rattle.seg_vn.specs.hat_layer.Pool.{IsNoted, frame_let, frame_for, change_at, change_page, after_access, holds, translation_at}
+use Rattle.seg_vn.specs.anon_map.Maps.{Map}
+use Rattle.seg_vn.specs.anon_slots.Slots.{AnonSlotsSeen}
+use Rattle.seg_vn.specs.page_hash.declared.PageName.{PageName}
+use Rattle.seg_vn.proofs.page_hash.NameLaws.{find-at}
+use Rattle.seg_vn.specs.page_store.Seen.{StoreSeen, residence}
+use Rattle.seg_vn.specs.page_store.declared.residence.Residence.TheVariants.{Home}
+use Rattle.seg_vn.proofs.page_store.QueryLemmas.{home-is}
+use Rattle.seg_vn.specs.vm_world.Wants.{shows_page}
+use Rattle.seg_vn.specs.page_store.Notes.{Notes}
+use Rattle.seg_vn.specs.vm_types.declared.call.Kind.{Kind}
+use Rattle.seg_vn.specs.vm_types.declared.call.Kind.TheVariants.{Shared, Private}
+use Rattle.seg_vn.specs.vm_types.declared.call.Signal.{Signal}
+use Rattle.seg_vn.specs.vm_types.declared.call.Signal.TheVariants as signal
+use Rattle.seg_vn.specs.flat_model.Access.{access_target}
+use Rattle.seg_vn.specs.flat_model.Flat.{Flat}
+use Rattle.seg_vn.specs.flat_model.Words.{page}
+use Rattle.seg_vn.specs.vm_world.CallSteps.{ChangesMemory}
+use Rattle.seg_vn.specs.vm_world.FlatMemory.{flat_memory}
+use Rattle.seg_vn.specs.vm_world.MemoryFits.{MemoryFits}
+use Rattle.seg_vn.specs.vm_world.Segments.{Spot, Spaces, spot_at, shown_name}
+use Rattle.seg_vn.specs.vm_world.Serving.{IsUnpushedSlot, ModifiesOnly, ShowsThere}
+use Rattle.seg_vn.specs.vm_world.TranslationsFit.{MayWriteInPlace}
+use Rattle.seg_vn.specs.vm_world.World.{World}
+use Rattle.seg_vn.proofs.vm_world.CallSteps.{call_rule}
+use Rattle.seg_vn.proofs.vm_world.FlatWhole.{some-inj}
+use Rattle.seg_vn.specs.seg_ops.OwnPages.{with_own_shown}
+use Rattle.seg_vn.specs.seg_ops.declared.plans.Fault.TheVariants as fault
+use Rattle.seg_vn.specs.vm_world.declared.wants.Wants.{Wants}
+use Rattle.seg_vn.specs.vm_world.declared.wants.Wants.TheVariants as wants
+use Rattle.seg_vn.specs.vm_world.Words.{KeepsPages}
+use Rattle.seg_vn.proofs.seg_ops.Composed.{keeps-same}
+use Rattle.seg_vn.proofs.seg_ops.Hits.{noted-hits, noted-home}
+use Rattle.seg_vn.proofs.seg_ops.NewlyModified.{only-as, only-then}
+use Rattle.seg_vn.proofs.seg_ops.StillSteps.{memory_of}
+use Rattle.seg_vn.specs.seg_ops.Faults.{FaultModifies, LetsAccess, ServesFault, after_fault}
+use Rattle.seg_vn.specs.seg_ops.SlotsDue.{MakesSlotAt, slot_due}
 use Rattle.seg_vn.proofs.AnyFaults.{changes-as, changes-kept, fault-whole}
 use Rattle.seg_vn.proofs.AnyPlaces.{kept-own, kept-shared}
 use Rattle.seg_vn.proofs.SlotsDue.{due-none, made-still, slots-kept}

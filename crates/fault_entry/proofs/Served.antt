@@ -3,46 +3,46 @@ use Rattle.std.proofs.Common.{◌≡◌, ◌≢◌, ℕ, ◌%◌, Bool, true, fa
 use Rattle.std.specs.FinSet as set
 use Rattle.std.specs.Ordering.{nat_cmp}
 use Rattle.std.proofs.lemmas.Bool.{eq-eqb}
-use Rattle.anon_map.specs.Maps.{Map}
-use Rattle.hat_layer.specs.declared.translation.Translation.{Translation}
-use Rattle.hat_layer.specs.Pool.{HatSeen, translation_at}
-use Rattle.page_store.specs.Notes.{Notes}
-use Rattle.page_store.specs.declared.plan.Plan.{Plan}
-use Rattle.page_store.specs.declared.plan.Hold.{Hold}
-use Rattle.vm_types.specs.declared.call.Call.{Call}
-use Rattle.vm_types.specs.declared.call.Call.TheVariants as call
-use Rattle.vm_types.specs.declared.call.Entry.{Entry}
-use Rattle.vm_types.specs.declared.call.Reply.{Reply}
-use Rattle.vm_types.specs.declared.call.Reply.TheVariants as reply
-use Rattle.vm_types.specs.declared.call.Signal.{Signal}
-use Rattle.vm_types.specs.Prot.{can_read, can_write}
-use Rattle.flat_model.specs.Access.{access_target, load, store, with_page_stored}
-use Rattle.flat_model.specs.Flat.{Cell, Flat, IsFlat}
-use Rattle.flat_model.specs.Refusals.{or_signal, done_effect}
-use Rattle.flat_model.specs.Step.{IsDue, after_act}
-use Rattle.flat_model.specs.Words.{Page, page, word_at, word_put}
-use Rattle.vm_world.specs.CallSteps.{ActsOnPages}
-use Rattle.vm_world.specs.FlatMemory.{Memory, cell_of, flat_memory}
-use Rattle.vm_world.specs.MemoryFits.{MemoryFits}
-use Rattle.vm_world.specs.Pages.{contents_of}
-use Rattle.vm_world.specs.Plans.{MayMeetFault, IsRefusal, refusal_in}
-use Rattle.vm_world.specs.Segments.{Spaces, shown_name}
-use Rattle.vm_world.specs.Serving.{MayModify, ModifiesNone, ModifiesOnly, ServesDone}
-use Rattle.vm_world.specs.World.{World}
-use Rattle.vm_world.proofs.CallSteps.{call_rule}
-use Rattle.seg_ops.specs.Steps.{ReadsWord, WritesWord}
-use Rattle.seg_ops.proofs.Hits.{hits}
-use Rattle.seg_ops.proofs.NewlyModified.{none-of, only-as, then-none}
-use Rattle.seg_ops.proofs.OwnShown.{own_shown_law}
-use Rattle.seg_ops.proofs.StillSteps.{memory_of}
+use Rattle.seg_vn.specs.anon_map.Maps.{Map}
+use Rattle.seg_vn.specs.hat_layer.declared.translation.Translation.{Translation}
+use Rattle.seg_vn.specs.hat_layer.Pool.{HatSeen, translation_at}
+use Rattle.seg_vn.specs.page_store.Notes.{Notes}
+use Rattle.seg_vn.specs.page_store.declared.plan.Plan.{Plan}
+use Rattle.seg_vn.specs.page_store.declared.plan.Hold.{Hold}
+use Rattle.seg_vn.specs.vm_types.declared.call.Call.{Call}
+use Rattle.seg_vn.specs.vm_types.declared.call.Call.TheVariants as call
+use Rattle.seg_vn.specs.vm_types.declared.call.Entry.{Entry}
+use Rattle.seg_vn.specs.vm_types.declared.call.Reply.{Reply}
+use Rattle.seg_vn.specs.vm_types.declared.call.Reply.TheVariants as reply
+use Rattle.seg_vn.specs.vm_types.declared.call.Signal.{Signal}
+use Rattle.seg_vn.specs.vm_types.Prot.{can_read, can_write}
+use Rattle.seg_vn.specs.flat_model.Access.{access_target, load, store, with_page_stored}
+use Rattle.seg_vn.specs.flat_model.Flat.{Cell, Flat, IsFlat}
+use Rattle.seg_vn.specs.flat_model.Refusals.{or_signal, done_effect}
+use Rattle.seg_vn.specs.flat_model.Step.{IsDue, after_act}
+use Rattle.seg_vn.specs.flat_model.Words.{Page, page, word_at, word_put}
+use Rattle.seg_vn.specs.vm_world.CallSteps.{ActsOnPages}
+use Rattle.seg_vn.specs.vm_world.FlatMemory.{Memory, cell_of, flat_memory}
+use Rattle.seg_vn.specs.vm_world.MemoryFits.{MemoryFits}
+use Rattle.seg_vn.specs.vm_world.Pages.{contents_of}
+use Rattle.seg_vn.specs.vm_world.Plans.{MayMeetFault, IsRefusal, refusal_in}
+use Rattle.seg_vn.specs.vm_world.Segments.{Spaces, shown_name}
+use Rattle.seg_vn.specs.vm_world.Serving.{MayModify, ModifiesNone, ModifiesOnly, ServesDone}
+use Rattle.seg_vn.specs.vm_world.World.{World}
+use Rattle.seg_vn.proofs.vm_world.CallSteps.{call_rule}
+use Rattle.seg_vn.specs.seg_ops.Steps.{ReadsWord, WritesWord}
+use Rattle.seg_vn.proofs.seg_ops.Hits.{hits}
+use Rattle.seg_vn.proofs.seg_ops.NewlyModified.{none-of, only-as, then-none}
+use Rattle.seg_vn.proofs.seg_ops.OwnShown.{own_shown_law}
+use Rattle.seg_vn.proofs.seg_ops.StillSteps.{memory_of}
 use Rattle.seg_vn.specs.declared.attempt.Attempt.TheVariants as attempt
-use Rattle.seg_ops.specs.Faults.{Accesses}
-use Rattle.seg_ops.specs.SlotsDue.{slot_due}
+use Rattle.seg_vn.specs.seg_ops.Faults.{Accesses}
+use Rattle.seg_vn.specs.seg_ops.SlotsDue.{slot_due}
 use Rattle.seg_vn.proofs.AnySteps.{in-place-still}
 use Rattle.seg_vn.proofs.Replacements.{replaced-then}
 use Rattle.seg_vn.proofs.SlotsDue.{made-still}
 use Rattle.seg_vn.proofs.Takes.{takes-there}
-use Rattle.page_store.specs.Seen.{StoreSeen}
+use Rattle.seg_vn.specs.page_store.Seen.{StoreSeen}
 use Rattle.fault_entry.specs.Accesses.{IsShown, IsHit, ServesWord}
 use Rattle.fault_entry.specs.Reaching.{ReachModifies, ServesAccess, IsSignalDue, after_reach, error_in}
 use Rattle.fault_entry.specs.declared.access.AccessStep.{AccessStep}

@@ -4,22 +4,22 @@ use Rattle.std.specs.Prelude.{IsFalse, IsTrue, IsSome, option_map, ok_or}
 use Rattle.std.specs.FinSet as set
 use Rattle.std.specs.Ordering.{nat_cmp}
 use Rattle.std.proofs.lemmas.Bool.{eq-eqb, ne_eqb}
-use Rattle.vm_types.specs.declared.prot.Prot.{Prot}
-use Rattle.vm_types.specs.declared.call.Signal.TheVariants as signal
-use Rattle.page_store.specs.Notes.{Notes}
-use Rattle.flat_model.specs.Words.{Page, page}
-use Rattle.flat_model.specs.Flat.{Cell, Flat, cell_at, shown}
-use Rattle.flat_model.specs.Access.{access_target}
-use Rattle.flat_model.specs.Refusals.{◌>>=◌}
-use Rattle.flat_model.specs.Step.{IsPastAtMost}
-use Rattle.vm_world.specs.FlatMemory.{flat_memory, cell_of}
-use Rattle.vm_world.specs.MemoryFits.{MemoryFits}
-use Rattle.vm_world.specs.Pages.{contents_of}
-use Rattle.vm_world.specs.Segments.{Spot, Spaces, spot_at}
-use Rattle.vm_world.specs.World.{World}
-use Rattle.seg_ops.proofs.StillSteps.{memory_of}
-use Rattle.vm_world.specs.Wants.{shows_page}
-use Rattle.vm_world.proofs.Maps.{cell-at}
+use Rattle.seg_vn.specs.vm_types.declared.prot.Prot.{Prot}
+use Rattle.seg_vn.specs.vm_types.declared.call.Signal.TheVariants as signal
+use Rattle.seg_vn.specs.page_store.Notes.{Notes}
+use Rattle.seg_vn.specs.flat_model.Words.{Page, page}
+use Rattle.seg_vn.specs.flat_model.Flat.{Cell, Flat, cell_at, shown}
+use Rattle.seg_vn.specs.flat_model.Access.{access_target}
+use Rattle.seg_vn.specs.flat_model.Refusals.{◌>>=◌}
+use Rattle.seg_vn.specs.flat_model.Step.{IsPastAtMost}
+use Rattle.seg_vn.specs.vm_world.FlatMemory.{flat_memory, cell_of}
+use Rattle.seg_vn.specs.vm_world.MemoryFits.{MemoryFits}
+use Rattle.seg_vn.specs.vm_world.Pages.{contents_of}
+use Rattle.seg_vn.specs.vm_world.Segments.{Spot, Spaces, spot_at}
+use Rattle.seg_vn.specs.vm_world.World.{World}
+use Rattle.seg_vn.proofs.seg_ops.StillSteps.{memory_of}
+use Rattle.seg_vn.specs.vm_world.Wants.{shows_page}
+use Rattle.seg_vn.proofs.vm_world.Maps.{cell-at}
 use Rattle.seg_vn.proofs.PlacesShown.{shown-past}
 use Rattle.seg_vn.proofs.ShownSome.{shown-some}
 use Rattle.fault_entry.specs.Reaching.{error_in}

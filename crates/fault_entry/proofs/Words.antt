@@ -4,35 +4,35 @@ use Rattle.std.specs.Prelude.{IsTrue, ◌||◌, not, option_map}
 use Rattle.std.specs.FinSet as set
 use Rattle.std.specs.Ordering.{nat_cmp}
 use Rattle.std.proofs.lemmas.Bool.{cases_Bool, eq-eqb}
-use Rattle.vm_types.specs.declared.call.Call.TheVariants as call
-use Rattle.vm_types.specs.declared.call.Reply.TheVariants as reply
-use Rattle.vm_types.specs.declared.call.Signal.{Signal}
-use Rattle.vm_types.specs.Prot.{can_read, can_write}
-use Rattle.hat_layer.specs.Pool.{translation_at, lets_access}
-use Rattle.hat_layer.specs.declared.translation.Translation.{Translation}
-use Rattle.page_hash.specs.declared.PageName.{PageName}
-use Rattle.page_store.specs.Notes.{Notes}
-use Rattle.page_store.specs.Value.{value}
-use Rattle.flat_model.specs.Words.{Page, page, word_at, word_put}
-use Rattle.flat_model.specs.Flat.{Cell, Flat}
-use Rattle.flat_model.specs.Access.{access_target, load, store, with_page_stored}
-use Rattle.flat_model.specs.Refusals.{Effect, done_effect}
-use Rattle.flat_model.proofs.Stores.{met_is}
-use Rattle.vm_world.specs.CallSteps.{ActsOnPages}
-use Rattle.vm_world.specs.FlatMemory.{flat_memory, flat_shaped, shape_of, cell_of}
-use Rattle.vm_world.specs.MemoryFits.{MemoryFits}
-use Rattle.vm_world.specs.Pages.{contents_of, contents_by, page_value}
-use Rattle.vm_world.specs.Segments.{Spot, Spaces, spot_at, shown_name}
-use Rattle.vm_world.specs.TranslationsFit.{MayWriteInPlace}
-use Rattle.vm_world.specs.Wants.{shows_page}
-use Rattle.vm_world.specs.World.{World, world_table, is_page_name, page_exists}
-use Rattle.vm_world.proofs.FlatWhole.{some-inj}
-use Rattle.vm_world.proofs.FrameRule.{shape-same, name-same}
-use Rattle.vm_world.proofs.Maps.{cell-at}
-use Rattle.seg_ops.specs.Steps.{ShowsName, ReadsWord, PutsWord, WritesWord}
-use Rattle.seg_ops.proofs.Hits.{hits}
-use Rattle.seg_ops.proofs.Places.{stands-at}
-use Rattle.seg_ops.proofs.StillSteps.{memory_of}
+use Rattle.seg_vn.specs.vm_types.declared.call.Call.TheVariants as call
+use Rattle.seg_vn.specs.vm_types.declared.call.Reply.TheVariants as reply
+use Rattle.seg_vn.specs.vm_types.declared.call.Signal.{Signal}
+use Rattle.seg_vn.specs.vm_types.Prot.{can_read, can_write}
+use Rattle.seg_vn.specs.hat_layer.Pool.{translation_at, lets_access}
+use Rattle.seg_vn.specs.hat_layer.declared.translation.Translation.{Translation}
+use Rattle.seg_vn.specs.page_hash.declared.PageName.{PageName}
+use Rattle.seg_vn.specs.page_store.Notes.{Notes}
+use Rattle.seg_vn.specs.page_store.Value.{value}
+use Rattle.seg_vn.specs.flat_model.Words.{Page, page, word_at, word_put}
+use Rattle.seg_vn.specs.flat_model.Flat.{Cell, Flat}
+use Rattle.seg_vn.specs.flat_model.Access.{access_target, load, store, with_page_stored}
+use Rattle.seg_vn.specs.flat_model.Refusals.{Effect, done_effect}
+use Rattle.seg_vn.proofs.flat_model.Stores.{met_is}
+use Rattle.seg_vn.specs.vm_world.CallSteps.{ActsOnPages}
+use Rattle.seg_vn.specs.vm_world.FlatMemory.{flat_memory, flat_shaped, shape_of, cell_of}
+use Rattle.seg_vn.specs.vm_world.MemoryFits.{MemoryFits}
+use Rattle.seg_vn.specs.vm_world.Pages.{contents_of, contents_by, page_value}
+use Rattle.seg_vn.specs.vm_world.Segments.{Spot, Spaces, spot_at, shown_name}
+use Rattle.seg_vn.specs.vm_world.TranslationsFit.{MayWriteInPlace}
+use Rattle.seg_vn.specs.vm_world.Wants.{shows_page}
+use Rattle.seg_vn.specs.vm_world.World.{World, world_table, is_page_name, page_exists}
+use Rattle.seg_vn.proofs.vm_world.FlatWhole.{some-inj}
+use Rattle.seg_vn.proofs.vm_world.FrameRule.{shape-same, name-same}
+use Rattle.seg_vn.proofs.vm_world.Maps.{cell-at}
+use Rattle.seg_vn.specs.seg_ops.Steps.{ShowsName, ReadsWord, PutsWord, WritesWord}
+use Rattle.seg_vn.proofs.seg_ops.Hits.{hits}
+use Rattle.seg_vn.proofs.seg_ops.Places.{stands-at}
+use Rattle.seg_vn.proofs.seg_ops.StillSteps.{memory_of}
 use Rattle.seg_vn.proofs.PlacesShown.{page-there, shown-page}
 use Rattle.fault_entry.specs.Reaching.{may_access, ReachesPage}
 use Rattle.fault_entry.proofs.FlatPuts.{flat-stored}

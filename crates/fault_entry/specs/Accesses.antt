@@ -1,29 +1,29 @@
 -- What holds of loads and stores beside what is answered to them. Public clauses cite this.
 use Rattle.std.specs.Prelude.{◌≡◌, ℕ, Bool, true, false, List, Option, Some, None}
 use Rattle.std.specs.FinMap as finite
-use Rattle.addr_space.specs.Space.{Part}
-use Rattle.hat_layer.specs.Pool.{translation_at, change_at, after_access}
-use Rattle.hat_layer.specs.declared.translation.Translation.{Translation}
-use Rattle.page_hash.specs.declared.PageName.{PageName}
-use Rattle.page_store.specs.Seen.{residence}
-use Rattle.page_store.specs.declared.residence.Residence.TheVariants.{Home}
-use Rattle.vm_types.specs.declared.call.Call.{Call}
-use Rattle.vm_types.specs.declared.call.Call.TheVariants.{Load, Store}
-use Rattle.vm_types.specs.declared.call.Reply.TheVariants as reply
-use Rattle.vm_types.specs.WellFormed.{IsWellFormed}
-use Rattle.vm_world.specs.FlatMemory.{Memory}
-use Rattle.vm_world.specs.Plans.{MayMeetFault}
-use Rattle.vm_world.specs.Segments.{Spaces, Spot, spot_at, shown_name}
-use Rattle.vm_world.specs.TranslationsFit.{MayWriteInPlace}
-use Rattle.vm_world.specs.Words.{memory, Fits}
-use Rattle.vm_world.specs.World.{World}
-use Rattle.vm_world.specs.declared.segment.Segment.{Segment}
-use Rattle.vm_world.specs.declared.world.World as rust
+use Rattle.seg_vn.specs.addr_space.Space.{Part}
+use Rattle.seg_vn.specs.hat_layer.Pool.{translation_at, change_at, after_access}
+use Rattle.seg_vn.specs.hat_layer.declared.translation.Translation.{Translation}
+use Rattle.seg_vn.specs.page_hash.declared.PageName.{PageName}
+use Rattle.seg_vn.specs.page_store.Seen.{residence}
+use Rattle.seg_vn.specs.page_store.declared.residence.Residence.TheVariants.{Home}
+use Rattle.seg_vn.specs.vm_types.declared.call.Call.{Call}
+use Rattle.seg_vn.specs.vm_types.declared.call.Call.TheVariants.{Load, Store}
+use Rattle.seg_vn.specs.vm_types.declared.call.Reply.TheVariants as reply
+use Rattle.seg_vn.specs.vm_types.WellFormed.{IsWellFormed}
+use Rattle.seg_vn.specs.vm_world.FlatMemory.{Memory}
+use Rattle.seg_vn.specs.vm_world.Plans.{MayMeetFault}
+use Rattle.seg_vn.specs.vm_world.Segments.{Spaces, Spot, spot_at, shown_name}
+use Rattle.seg_vn.specs.vm_world.TranslationsFit.{MayWriteInPlace}
+use Rattle.seg_vn.specs.vm_world.Words.{memory, Fits}
+use Rattle.seg_vn.specs.vm_world.World.{World}
+use Rattle.seg_vn.specs.vm_world.declared.segment.Segment.{Segment}
+use Rattle.seg_vn.specs.vm_world.declared.world.World as rust
 use Rattle.seg_vn.specs.declared.attempt.Attempt.{Attempt}
 use Rattle.seg_vn.specs.declared.attempt.Attempt.TheVariants.{Done, Need, Busy}
 use Rattle.seg_vn.specs.Serves.{Serves, IsPlainReply}
-use Rattle.seg_ops.specs.Faults.{LetsAccess}
-use Rattle.seg_ops.specs.SlotsDue.{KeepsSlots, MakesSlotAt, slot_due}
+use Rattle.seg_vn.specs.seg_ops.Faults.{LetsAccess}
+use Rattle.seg_vn.specs.seg_ops.SlotsDue.{KeepsSlots, MakesSlotAt, slot_due}
 
 -- A load or a store, well formed.
 abbrev pub IsAccess : Call → Type 0

@@ -1,5 +1,5 @@
 -- What is answered to a load or a store, as an answer to any call. Public clauses cite this.
-use Rattle.vm_types.specs.declared.call.Reply.TheVariants as reply
+use Rattle.seg_vn.specs.vm_types.declared.call.Reply.TheVariants as reply
 use Rattle.seg_vn.specs.declared.attempt.Attempt.{Attempt}
 use Rattle.seg_vn.specs.declared.attempt.Attempt.TheVariants as attempt
 use Rattle.fault_entry.specs.declared.answers.Answer.{Answer}

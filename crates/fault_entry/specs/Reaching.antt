@@ -2,34 +2,34 @@
 use Rattle.std.specs.Prelude.{◌≡◌, ◌⊎◌, ℕ, ◌%◌, Bool, true, List, Option, Some, None, Result, Ok, Err, if◌then◌else◌}
 use Rattle.std.specs.FinMap as finite
 use Rattle.std.specs.FinSet as set
-use Rattle.addr_space.specs.Space.{Part}
+use Rattle.seg_vn.specs.addr_space.Space.{Part}
 use Rattle.std.specs.Ordering.{nat_cmp}
-use Rattle.hat_layer.specs.Pool.{IsNoted}
-use Rattle.page_hash.specs.declared.PageName.{PageName}
-use Rattle.page_store.specs.Notes.{Notes}
-use Rattle.vm_types.specs.declared.call.Signal.{Signal}
-use Rattle.vm_types.specs.declared.prot.Prot.{Prot}
-use Rattle.vm_types.specs.Prot.{can_read, can_write}
-use Rattle.flat_model.specs.Access.{access_target}
-use Rattle.flat_model.specs.Flat.{Flat}
-use Rattle.flat_model.specs.Step.{IsPastAtMost}
-use Rattle.flat_model.specs.Words.{page}
-use Rattle.vm_world.specs.CallSteps.{ChangesMemory}
-use Rattle.vm_world.specs.FlatMemory.{Memory, flat_memory}
-use Rattle.vm_world.specs.Segments.{Spaces, Spot, spot_at}
-use Rattle.vm_world.specs.Serving.{TakesFrames, AreReplaced, IsUnpushedSlot, ModifiesOnly, ShowsThere}
-use Rattle.vm_world.specs.Words.{memory, Fits}
-use Rattle.vm_world.specs.World.{World}
-use Rattle.vm_world.specs.declared.segment.Segment.{Segment}
-use Rattle.vm_world.specs.declared.world.World as rust
-use Rattle.seg_ops.specs.OwnPages.{with_own_shown}
-use Rattle.seg_ops.specs.Faults.{WaitsFor}
-use Rattle.seg_ops.specs.SlotsDue.{KeepsSlots, MakesSlotAt, slot_due}
+use Rattle.seg_vn.specs.hat_layer.Pool.{IsNoted}
+use Rattle.seg_vn.specs.page_hash.declared.PageName.{PageName}
+use Rattle.seg_vn.specs.page_store.Notes.{Notes}
+use Rattle.seg_vn.specs.vm_types.declared.call.Signal.{Signal}
+use Rattle.seg_vn.specs.vm_types.declared.prot.Prot.{Prot}
+use Rattle.seg_vn.specs.vm_types.Prot.{can_read, can_write}
+use Rattle.seg_vn.specs.flat_model.Access.{access_target}
+use Rattle.seg_vn.specs.flat_model.Flat.{Flat}
+use Rattle.seg_vn.specs.flat_model.Step.{IsPastAtMost}
+use Rattle.seg_vn.specs.flat_model.Words.{page}
+use Rattle.seg_vn.specs.vm_world.CallSteps.{ChangesMemory}
+use Rattle.seg_vn.specs.vm_world.FlatMemory.{Memory, flat_memory}
+use Rattle.seg_vn.specs.vm_world.Segments.{Spaces, Spot, spot_at}
+use Rattle.seg_vn.specs.vm_world.Serving.{TakesFrames, AreReplaced, IsUnpushedSlot, ModifiesOnly, ShowsThere}
+use Rattle.seg_vn.specs.vm_world.Words.{memory, Fits}
+use Rattle.seg_vn.specs.vm_world.World.{World}
+use Rattle.seg_vn.specs.vm_world.declared.segment.Segment.{Segment}
+use Rattle.seg_vn.specs.vm_world.declared.world.World as rust
+use Rattle.seg_vn.specs.seg_ops.OwnPages.{with_own_shown}
+use Rattle.seg_vn.specs.seg_ops.Faults.{WaitsFor}
+use Rattle.seg_vn.specs.seg_ops.SlotsDue.{KeepsSlots, MakesSlotAt, slot_due}
 use Rattle.fault_entry.specs.Accesses.{FaultsOnce}
 use Rattle.fault_entry.specs.declared.access.AccessStep.{AccessStep}
 use Rattle.fault_entry.specs.declared.access.AccessStep.TheVariants.{Reached, Refused, Need, Busy}
-use Rattle.vm_world.specs.declared.wants.Wants.{Wants}
-use Rattle.vm_world.specs.declared.wants.Wants.TheVariants.{Transfer, Seat}
+use Rattle.seg_vn.specs.vm_world.declared.wants.Wants.{Wants}
+use Rattle.seg_vn.specs.vm_world.declared.wants.Wants.TheVariants.{Transfer, Seat}
 
 -- A protection lets a store, or a load.
 abbrev pub may_access : Bool → Prot → Bool

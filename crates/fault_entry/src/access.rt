@@ -1,25 +1,21 @@
 //! What an access reaches.
 ghost use Rattle.std.specs.Prelude.{◌≡◌, ◌≤◌, ◌-◌, ◌%◌, ℕ, true, Some};
 ghost use Rattle.std.specs.FinMap as finite;
-ghost use Rattle.hat_layer.specs.Pool.{IsNoted, after_access, change_page, translation_at};
-ghost use Rattle.flat_model.specs.Words as words;
-ghost use Rattle.page_store.specs.Seen.{residence};
-ghost use Rattle.vm_types.specs.Words.{IsWordSize};
-ghost use Rattle.vm_world.specs.Segments.{Spaces, spot_at};
-ghost use Rattle.vm_world.specs.Serving.{ModifiesOnly};
-ghost use Rattle.vm_world.specs.Words.{memory, Fits, IsKnown, TwoAreHome, KeepsEveryPage, OnlyHat, SameFiles};
-ghost use Rattle.vm_world.specs.World.{world_seen};
-ghost use Rattle.seg_ops.specs.Faults.{IsFitAt, LetsAccess};
+ghost use Rattle.seg_vn.specs.hat_layer.Pool.{IsNoted, after_access, change_page, translation_at};
+ghost use Rattle.seg_vn.specs.flat_model.Words as words;
+ghost use Rattle.seg_vn.specs.page_store.Seen.{residence};
+ghost use Rattle.seg_vn.specs.vm_types.Words.{IsWordSize};
+ghost use Rattle.seg_vn.specs.vm_world.Segments.{Spaces, spot_at};
+ghost use Rattle.seg_vn.specs.vm_world.Serving.{ModifiesOnly};
+ghost use Rattle.seg_vn.specs.vm_world.Words.{memory, Fits, IsKnown, TwoAreHome, KeepsEveryPage, OnlyHat, SameFiles};
+ghost use Rattle.seg_vn.specs.vm_world.World.{world_seen};
+ghost use Rattle.seg_vn.specs.seg_ops.Faults.{IsFitAt, LetsAccess};
 ghost use Rattle.fault_entry.specs.Reaching.{AccessServed, ServesAccess, may_access, step_wanting};
 ghost use Rattle.fault_entry.specs.Accesses.{IsFitFor};
 
-use addr_space::Ranges;
-use block_device::Disk;
-use page_store::{Hold, Plan, Residence};
-use seg_ops::{Fault, frame_for};
-use seg_vn::VnSeg;
-use vm_types::{Prot, Signal};
-use vm_world::{Wants, World};
+use seg_vn::{
+    Disk, Fault, Hold, Plan, Prot, Ranges, Residence, Signal, VnSeg, Wants, World, frame_for,
+};
 
 /// What an access comes to before its word is moved. It is flat, since a `Wants` or a `Result` in it would be cleared at each hit.
 #[derive(Clone, Copy, PartialEq, Eq, Debug)]

@@ -2,9 +2,7 @@
 ghost use Rattle.std.specs.Prelude.{◌≡◌};
 ghost use Rattle.fault_entry.specs.Answers.{attempt_of};
 
-use page_store::{Hold, Plan};
-use seg_vn::Attempt;
-use vm_types::{Reply, Signal};
+use seg_vn::{Attempt, Hold, Plan, Reply, Signal};
 
 /// What is answered to a load or a store, in few bytes: an `Attempt` has room for a part of a read, which would be moved at each
 /// hit. It is flat, since a `Wants` or a `Result` in it would be moved at each hit too.

@@ -1,25 +1,20 @@
 //! Loads and stores.
 ghost use Rattle.std.specs.Prelude.{◌≡◌, ℕ, List, Option, Some, IsSome};
 ghost use Rattle.std.specs.FinMap as finite;
-ghost use Rattle.flat_model.specs.Words.{page};
-ghost use Rattle.vm_types.specs.Words.{IsWordSize, FitsWord};
-ghost use Rattle.vm_types.specs.declared.call.Call.TheVariants.{Load, Store};
-ghost use Rattle.vm_world.specs.Segments as segments;
-ghost use Rattle.vm_world.specs.Wants.{accessed_page};
-ghost use Rattle.vm_world.specs.Words.{memory, Fits, IsKnown, TwoAreHome};
-ghost use Rattle.vm_world.specs.World.{world_seen};
+ghost use Rattle.seg_vn.specs.flat_model.Words.{page};
+ghost use Rattle.seg_vn.specs.vm_types.Words.{IsWordSize, FitsWord};
+ghost use Rattle.seg_vn.specs.vm_types.declared.call.Call.TheVariants.{Load, Store};
+ghost use Rattle.seg_vn.specs.vm_world.Segments as segments;
+ghost use Rattle.seg_vn.specs.vm_world.Wants.{accessed_page};
+ghost use Rattle.seg_vn.specs.vm_world.Words.{memory, Fits, IsKnown, TwoAreHome};
+ghost use Rattle.seg_vn.specs.vm_world.World.{world_seen};
 ghost use Rattle.seg_vn.specs.Serves.{Serves};
 ghost use Rattle.fault_entry.specs.Accesses.{IsAccess, IsFitFor, IsHitWhereDone, IsShownWhereDone, MayBeAnswered, SlotsWhereDone, WordServed, is_store};
 ghost use Rattle.fault_entry.specs.Answers.{attempt_of};
 
 use crate::access::{AccessStep, reach};
 use crate::answers::Answer;
-use addr_space::Ranges;
-use block_device::Disk;
-use seg_ops::{read, write};
-use seg_vn::{Spaces, VnSeg};
-use vm_types::Call;
-use vm_world::World;
+use seg_vn::{Call, Disk, Ranges, Spaces, VnSeg, World, read, write};
 
 /// A load by a process from its space.
 fn load<D: Disk>(

@@ -31,3 +31,4 @@ pub mod ClearedTails
 pub mod Reached
 pub mod Opens
 pub mod Grown
+pub use Rattle.vnode_files.proofs as vnode_files

@@ -37,3 +37,5 @@ pub mod ReachedLaws
 pub mod TailLaws
 pub mod GrownLaws
 pub mod ProtectLaws
+pub use Rattle.vm_types.specs as vm_types
+pub use Rattle.vnode_files.specs as vnode_files

@@ -9,7 +9,7 @@ use Rattle.std.proofs.lemmas.List.{length-take, length-drop, length-replicate, t
 use Rattle.std.proofs.lemmas.List.Elements.{All-append, All-replicate}
 use Rattle.std.proofs.lemmas.List.Folds.{concat-append}
 use Rattle.flat_model.specs.Words.{Page, IsPage, zero_page, pages_in, with_bytes}
-use Rattle.vnode_files.specs.declared.extent.Extent.{Extent}
+use Rattle.flat_model.specs.vnode_files.declared.extent.Extent.{Extent}
 use Rattle.flat_model.specs.Flat.{File, IsFile}
 use Rattle.flat_model.specs.Access.{with_change_at}
 use Rattle.flat_state.specs.Cells.{pages_of_length}

@@ -4,10 +4,10 @@ use Rattle.std.specs.Prelude.{All, IsOk, is_ok, ok_or, slice_get, slice_set}
 use Rattle.std.specs.Result.{result_map_both}
 use Rattle.std.proofs.Common.{get_or}
 use Rattle.std.proofs.lemmas.Option.{slice_get_within, slice_get_read, get_or_from_slice_get}
-use Rattle.vm_types.specs.declared.call.Errno.{Errno}
-use Rattle.vm_types.specs.declared.call.Errno.TheVariants as errno
-use Rattle.vm_types.specs.declared.call.Reply.TheVariants as reply
-use Rattle.vnode_files.specs.declared.extent.Extent.{Extent}
+use Rattle.flat_model.specs.vm_types.declared.call.Errno.{Errno}
+use Rattle.flat_model.specs.vm_types.declared.call.Errno.TheVariants as errno
+use Rattle.flat_model.specs.vm_types.declared.call.Reply.TheVariants as reply
+use Rattle.flat_model.specs.vnode_files.declared.extent.Extent.{Extent}
 use Rattle.flat_state.specs.declared.files.FileState.{FileState}
 use Rattle.flat_model.specs.Flat.{File, Flat, IsFlat, IsFile}
 use Rattle.flat_model.specs.Refusals.{◌>>=◌, ◌>>◌, check, or_refused, done_effect}

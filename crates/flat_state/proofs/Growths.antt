@@ -7,10 +7,10 @@ use Rattle.std.proofs.Math.Bool.{and-false}
 use Rattle.std.proofs.lemmas.List.{take_all, length-drop}
 use Rattle.std.proofs.lemmas.Grind.{flat_map-append}
 use Rattle.std.proofs.lemmas.List.Elements.{filter-append}
-use Rattle.vnode_files.specs.declared.extent.Extent.{Extent}
-use Rattle.vnode_files.specs.Grow.{has_block, is_free, least_free, can_lengthen, extent_end, with_longer_last, with_new_last, with_next_block, with_next_blocks}
-use Rattle.vnode_files.proofs.FindLemmas.{last-is}
-use Rattle.vnode_files.proofs.ListLemmas.{least_free-is}
+use Rattle.flat_model.specs.vnode_files.declared.extent.Extent.{Extent}
+use Rattle.flat_model.specs.vnode_files.Grow.{has_block, is_free, least_free, can_lengthen, extent_end, with_longer_last, with_new_last, with_next_block, with_next_blocks}
+use Rattle.flat_model.proofs.vnode_files.FindLemmas.{last-is}
+use Rattle.flat_model.proofs.vnode_files.ListLemmas.{least_free-is}
 use Rattle.flat_state.specs.declared.files.FileState.{FileState}
 use Rattle.flat_model.specs.Flat.{File}
 use Rattle.flat_state.specs.Cells.{flat_file}

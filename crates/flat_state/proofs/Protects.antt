@@ -3,7 +3,7 @@ use Rattle.std.proofs.Common.{◌≡◌, ℕ, suc, ◌+◌, ◌<◌, Bool, true,
 use Rattle.std.specs.Prelude.{◌==◌, option_map, is_some}
 use Rattle.std.specs.FinMap as finite
 use Rattle.std.proofs.lemmas.Bool.Decides.{nat_tests}
-use Rattle.vm_types.specs.declared.prot.Prot.{Prot}
+use Rattle.flat_model.specs.vm_types.declared.prot.Prot.{Prot}
 use Rattle.flat_model.specs.Flat.{Cell, Space}
 use Rattle.flat_model.specs.Space.{is_in_range, all_pages, with_prot, with_prots}
 use Rattle.flat_state.specs.Cells.{cell_with_prot}

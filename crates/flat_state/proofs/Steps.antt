@@ -2,15 +2,15 @@
 use Rattle.std.proofs.Common.{◌≡◌, ℕ, zero, suc, ◌+◌, ◌-◌, ◌/◌, ◌%◌, ◌<◌, Bool, true, false, ◌&&◌, ◌||◌, List, [], ◌∷◌, refl, sym, ap, subst, ◌∙◌, inl, inr, arith}
 use Rattle.std.specs.Prelude.{◌↔◌, ◌==◌, nat_le, IsTrue, IsFalse, IfOk, OnErr, Result, Ok, Err, if◌then◌else◌}
 use Rattle.std.proofs.lemmas.Bool.{cases_eq, cases_lt, eqb-true, eq-eqb, le-leb, leb-true}
-use Rattle.vm_types.specs.declared.call.Call.{Call}
-use Rattle.vm_types.specs.declared.call.Call.TheVariants.{Load, Store, Map, Unmap, Protect, Sync, Read, Write, Truncate, Fork, Exit}
-use Rattle.vm_types.specs.declared.call.Entry.{Entry}
-use Rattle.vm_types.specs.WellFormed.{IsWellFormed}
+use Rattle.flat_model.specs.vm_types.declared.call.Call.{Call}
+use Rattle.flat_model.specs.vm_types.declared.call.Call.TheVariants.{Load, Store, Map, Unmap, Protect, Sync, Read, Write, Truncate, Fork, Exit}
+use Rattle.flat_model.specs.vm_types.declared.call.Entry.{Entry}
+use Rattle.flat_model.specs.vm_types.WellFormed.{IsWellFormed}
 use Rattle.flat_model.specs.Flat.{File, Flat, IsFlat}
 use Rattle.flat_model.specs.Access.{with_change_at}
 use Rattle.flat_model.specs.Parts.{without_tail}
-use Rattle.vm_types.specs.declared.call.Reply.{Reply}
-use Rattle.vm_types.specs.declared.call.Reply.TheVariants as reply
+use Rattle.flat_model.specs.vm_types.declared.call.Reply.{Reply}
+use Rattle.flat_model.specs.vm_types.declared.call.Reply.TheVariants as reply
 use Rattle.flat_model.specs.Step.{is_bit_set, files_cleared, tails_cleared, effect, MayFail, without_start, IsDue, IsUnborn, IsStep, step}
 use Rattle.flat_state.specs.FlatState.{MayStep, is_bit_set_from, IsDueReply}
 use Rattle.flat_model.proofs.WellFormed.{IsFlat-step}

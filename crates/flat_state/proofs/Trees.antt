@@ -2,7 +2,7 @@
 use Rattle.std.proofs.Common.{◌≡◌, ℕ, Bool, true, false, cond, ◌&&◌, ◌||◌, T, List, [], ◌∷◌, map, Option, Some, None, refl, sym, ap, subst, ◌∙◌, Less, arith}
 use Rattle.std.specs.Prelude.{Vec, vec_len, slice_get, ◌==◌, ◌+◌, sum_by, option_map, filter, is_some, length, slice_set, slice_index_or, ◌<◌, ◌≤◌, zero, suc}
 use Rattle.std.specs.FinSet as set
-use Rattle.vnode_files.specs.declared.extent.Extent.{Extent}
+use Rattle.flat_model.specs.vnode_files.declared.extent.Extent.{Extent}
 use Rattle.flat_model.specs.Access.{with_change_at}
 use Rattle.std.specs.Option.{option_map_or}
 use Rattle.std.specs.List.{AllZip, AllByRecursion, each_same, list_any}
@@ -18,8 +18,8 @@ use Rattle.std.specs.FinMap.Entries.{below_all}
 use Rattle.std.proofs.lemmas.Bool.{eqb-true}
 use Rattle.std.proofs.lemmas.List.Sums.{sum_by-cons}
 use Rattle.std.proofs.lemmas.Map.Entries.{lookup-filter-keys}
-use Rattle.vm_types.specs.declared.call.Object.{Object}
-use Rattle.vm_types.specs.declared.call.Object.TheVariants as object
+use Rattle.flat_model.specs.vm_types.declared.call.Object.{Object}
+use Rattle.flat_model.specs.vm_types.declared.call.Object.TheVariants as object
 use Rattle.flat_model.specs.Words.{Page}
 use Rattle.flat_model.specs.Flat.{File, Space, Flat, zero_of}
 use Rattle.flat_state.specs.Cells.{is_zero, names}

@@ -1,8 +1,8 @@
 -- What the parts of the plain form stand for. Inside: no public clause cites this but for `extents_of`.
 use Rattle.std.specs.Prelude.{ℕ, ◌==◌, ◌+◌, ◌-◌, ◌*◌, ◌++◌, take, replicate, nat_lt, if◌then◌else◌, length, slice_set, Bool, false, List, map, option_map, Some, None, Vec}
-use Rattle.vm_types.specs.declared.prot.Prot.{Prot}
-use Rattle.vm_types.specs.declared.call.Object.{Object}
-use Rattle.vm_types.specs.declared.call.Object.TheVariants as object
+use Rattle.flat_model.specs.vm_types.declared.prot.Prot.{Prot}
+use Rattle.flat_model.specs.vm_types.declared.call.Object.{Object}
+use Rattle.flat_model.specs.vm_types.declared.call.Object.TheVariants as object
 use Rattle.std.specs.Ordering.{nat_cmp}
 use Rattle.std.specs.FinMap as finite
 use Rattle.std.specs.FinSet as set
@@ -11,7 +11,7 @@ use Rattle.std.specs.BTreeMap.{BTreeMap}
 use Rattle.std.specs.Map.{keys_of}
 use Rattle.flat_state.specs.declared.cells.CellState.{CellState}
 use Rattle.flat_state.specs.declared.files.FileState.{FileState}
-use Rattle.vnode_files.specs.declared.extent.Extent.{Extent}
+use Rattle.flat_model.specs.vnode_files.declared.extent.Extent.{Extent}
 use Rattle.flat_model.specs.Words.{Page, page_size, pages_in, zero_page}
 use Rattle.flat_model.specs.Parts.{pages_with_bytes}
 use Rattle.flat_model.specs.Flat.{Cell, File, Space}

@@ -4,14 +4,14 @@ use Rattle.std.specs.Coded.{Coded, code_by, coded×, coded_ℕ, coded_bool, code
 use Rattle.std.specs.Ordering.{nat_cmp}
 use Rattle.std.specs.FinMap as map
 use Rattle.std.specs.FinSet as set
-use Rattle.vm_types.specs.declared.prot.Prot.{Prot}
-use Rattle.vm_types.specs.declared.call.Kind.{Kind}
-use Rattle.vm_types.specs.declared.call.Object.{Object}
-use Rattle.vm_types.specs.contracts.prot.Prot as prot
-use Rattle.vm_types.specs.contracts.call.Kind as kind
-use Rattle.vm_types.specs.contracts.call.Object as object
-use Rattle.vnode_files.specs.declared.extent.Extent.{Extent}
-use Rattle.vnode_files.specs.contracts.extent.Extent as extent
+use Rattle.flat_model.specs.vm_types.declared.prot.Prot.{Prot}
+use Rattle.flat_model.specs.vm_types.declared.call.Kind.{Kind}
+use Rattle.flat_model.specs.vm_types.declared.call.Object.{Object}
+use Rattle.flat_model.specs.vm_types.contracts.prot.Prot as prot
+use Rattle.flat_model.specs.vm_types.contracts.call.Kind as kind
+use Rattle.flat_model.specs.vm_types.contracts.call.Object as object
+use Rattle.flat_model.specs.vnode_files.declared.extent.Extent.{Extent}
+use Rattle.flat_model.specs.vnode_files.contracts.extent.Extent as extent
 use Rattle.flat_model.specs.Words.{Page}
 use Rattle.flat_model.specs.Flat.{Cell, Space, File, Flat}
 

@@ -1,11 +1,11 @@
 -- What the plain form stands for. Public clauses cite this.
 use Rattle.std.specs.Prelude.{ℕ, ◌≡◌, ◌<◌, ◌-◌, ◌^◌, ◌&&◌, nat_le, Bool, ◌++◌, ◌∷◌, [], length, Result, IsSome, map}
-use Rattle.vm_types.specs.declared.call.Entry.{Entry}
-use Rattle.vm_types.specs.declared.prot.Prot.{Prot}
-use Rattle.vm_types.specs.declared.call.Errno.{Errno}
-use Rattle.vm_types.specs.declared.call.Errno.TheVariants as errno
-use Rattle.vm_types.specs.declared.call.Reply.{Reply}
-use Rattle.vm_types.specs.declared.call.Reply.TheVariants as reply
+use Rattle.flat_model.specs.vm_types.declared.call.Entry.{Entry}
+use Rattle.flat_model.specs.vm_types.declared.prot.Prot.{Prot}
+use Rattle.flat_model.specs.vm_types.declared.call.Errno.{Errno}
+use Rattle.flat_model.specs.vm_types.declared.call.Errno.TheVariants as errno
+use Rattle.flat_model.specs.vm_types.declared.call.Reply.{Reply}
+use Rattle.flat_model.specs.vm_types.declared.call.Reply.TheVariants as reply
 use Rattle.flat_model.specs.Words.{page, pages_in}
 use Rattle.flat_model.specs.Refusals.{◌>>◌, check}
 use Rattle.flat_model.specs.Mapping.{cells_of, may_have, valid_range}

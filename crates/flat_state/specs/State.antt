@@ -1,7 +1,7 @@
 -- What an access is allowed by. Inside: no public clause cites this.
 use Rattle.std.specs.Prelude.{Bool}
-use Rattle.vm_types.specs.declared.prot.Prot.{Prot}
-use Rattle.vm_types.specs.Prot.{can_read, can_write}
+use Rattle.flat_model.specs.vm_types.declared.prot.Prot.{Prot}
+use Rattle.flat_model.specs.vm_types.Prot.{can_read, can_write}
 use Rattle.flat_state.specs.declared.state.Access.{Access}
 use Rattle.flat_state.specs.declared.state.Access.TheVariants as access
 

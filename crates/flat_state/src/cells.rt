@@ -6,15 +6,15 @@ ghost use Rattle.std.specs.BTreeMap.{values, IsOrdered};
 ghost use Rattle.std.specs.Ordering.{nat_cmp};
 ghost use Rattle.flat_model.specs.Flat.{slots_for, private_cells};
 ghost use Rattle.std.specs.Option.{option_map_or};
-ghost use Rattle.vm_types.specs.Prot.{is_within};
+ghost use Rattle.flat_model.specs.vm_types.Prot.{is_within};
 ghost use Rattle.flat_model.specs.Space.{is_in_range, without_range, with_cells, with_prots, lowest_gap_from, lowest_gap};
 ghost use Rattle.flat_model.specs.Mapping.{are_mapped, may_have};
 ghost use Rattle.flat_state.specs.Cells.{flat_cell, names, is_zero, without_own, with_index, cell_with_prot};
 
+use flat_model::{END_PAGE, Kind, Object, Prot};
 use std::alloc::{AllocError, Global};
 use std::collections::BTreeMap;
 use std::marker::Model;
-use vm_types::{END_PAGE, Kind, Object, Prot};
 
 /// A cell: one page of a mapping.
 #[derive(Clone, Drop)]

@@ -1,14 +1,14 @@
 //! The pages of a file, changed in place: each call costs the pages that it touches.
 ghost use Rattle.std.specs.Prelude.{◌≡◌, ◌≤◌, ◌+◌, ◌*◌, ◌-◌, ◌%◌, ◌++◌, IfOk, OnOk, OnErr, All, [], slice_index_or, min, length, take, drop, replicate};
 ghost use Rattle.std.specs.List.{concat};
-ghost use Rattle.vm_types.specs.Pages.{line_rest};
+ghost use Rattle.flat_model.specs.vm_types.Pages.{line_rest};
 ghost use Rattle.flat_model.specs.Words.{IsPage, page_size, pages_in, zero_page, with_bytes};
 ghost use Rattle.flat_state.specs.Cells.{pages_in_vec, pages_of_length};
 ghost use Rattle.flat_model.specs.Parts.{pages_of_bytes, pages_with_bytes};
 
 use crate::zeros::zero_pages;
+use flat_model::{Line, line_rest};
 use std::alloc::{AllocError, Global};
-use vm_types::{Line, line_rest};
 
 /// How many pages a length takes.
 pub(crate) fn pages_in(len: u64) -> u64

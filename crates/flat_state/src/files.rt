@@ -1,6 +1,6 @@
 //! A file of flat memory, changed in place.
 ghost use Rattle.std.specs.Prelude.{◌≡◌, ◌≤◌, IfOk, OnOk, OnErr, All, length, map};
-ghost use Rattle.vm_types.specs.Pages.{line_rest};
+ghost use Rattle.flat_model.specs.vm_types.Pages.{line_rest};
 ghost use Rattle.flat_model.specs.Flat.{IsFile};
 ghost use Rattle.flat_model.specs.Access.{with_change_at, file_with_page};
 ghost use Rattle.flat_state.specs.Cells.{flat_file, extents_of, with_last_page};
@@ -8,9 +8,8 @@ ghost use Rattle.flat_model.specs.Parts.{file_at_opening, file_of_length, read_l
 
 use crate::file_pages::{clear_tail, last_page, lengthen, line_at, pages_from, put, resize};
 use crate::pages::set_page;
+use flat_model::{Extent, Line};
 use std::alloc::{AllocError, Global};
-use vm_types::Line;
-use vnode_files::Extent;
 
 /// A file: its length in bytes, its disk, the extents that it keeps there, whether it may be
 /// written, and its pages.

@@ -2,7 +2,7 @@
 ghost use Rattle.std.specs.Prelude.{◌≡◌, ◌↔◌, [], IsTrue, IsFalse, IsSome, IfOk, OnOk, OnErr, length};
 ghost use Rattle.std.specs.FinMap as finite;
 ghost use Rattle.std.specs.FinSet as set;
-ghost use Rattle.vm_types.specs.WellFormed.{IsWellFormed};
+ghost use Rattle.flat_model.specs.vm_types.WellFormed.{IsWellFormed};
 ghost use Rattle.flat_state.specs.Cells.{extents_of};
 ghost use Rattle.flat_model.specs.Opening.{flat_at_opening};
 ghost use Rattle.flat_model.specs.Parts.{file_at_opening};
@@ -10,9 +10,9 @@ ghost use Rattle.flat_model.specs.Step.{IsStep, step};
 ghost use Rattle.flat_state.specs.FlatState.{with_root, with_one_more_file, with_blocks};
 
 use crate::state::FlatParts;
+use flat_model::Entry;
 use std::alloc::{AllocError, Global};
 use std::marker::Model;
-use vm_types::Entry;
 
 /// Flat memory, kept plainly, for tests and for checking histories.
 #[derive(Drop)]

@@ -2,14 +2,14 @@
 ghost use Rattle.std.specs.Prelude.{◌≡◌, ◌<◌, ◌+◌, ◌-◌, ◌^◌, ◌==◌, ◌++◌, IfOk, OnOk, Some, None, option_map, filter, length, map, slice_index_or, if◌then◌else◌};
 ghost use Rattle.std.specs.Bool.{OnTrue};
 ghost use Rattle.std.specs.List.{flat_map, list_any};
-ghost use Rattle.vnode_files.specs.Grow.{has_block, is_free, least_free, page_count, can_lengthen, with_longer_last, with_next_block, growth, extent_end};
-ghost use Rattle.vnode_files.specs.declared.extent.Extent.{Extent};
+ghost use Rattle.flat_model.specs.vnode_files.Grow.{has_block, is_free, least_free, page_count, can_lengthen, with_longer_last, with_next_block, growth, extent_end};
+ghost use Rattle.flat_model.specs.vnode_files.declared.extent.Extent.{Extent};
 ghost use Rattle.flat_state.specs.Cells.{flat_file};
 ghost use Rattle.flat_model.specs.Parts.{extents_beside};
 
 use crate::files::FileState;
+use flat_model::{Extent, MOST_EXTENTS};
 use std::alloc::{AllocError, Global};
-use vnode_files::{Extent, MOST_EXTENTS};
 
 // The block after an extent.
 fn extent_end(extent: &Extent) -> u64

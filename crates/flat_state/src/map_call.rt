@@ -3,7 +3,7 @@ ghost use Rattle.std.specs.Prelude.{◌≡◌};
 ghost use Rattle.flat_model.specs.Mapping.{is_place, is_valid, is_new_zero};
 ghost use Rattle.flat_state.specs.Mapped.{request_of};
 
-use vm_types::{Kind, Object, PAGE_SIZE, Place, Prot, is_range};
+use flat_model::{Kind, Object, PAGE_SIZE, Place, Prot, is_range};
 
 /// What a Map asks for: lengths and offsets in bytes.
 #[derive(Clone, Copy)]

@@ -1,13 +1,13 @@
 //! Pages of files and zero objects that are put in the place of old ones.
 ghost use Rattle.std.specs.Prelude.{◌≡◌, ℕ, [], OnOk, OnErr, IfOk, slice_set, unwrap_or};
 ghost use Rattle.std.specs.FinMap as finite;
-ghost use Rattle.vm_types.specs.Words.{IsWordSize, FitsWord, word_bytes};
+ghost use Rattle.flat_model.specs.vm_types.Words.{IsWordSize, FitsWord, word_bytes};
 ghost use Rattle.flat_model.specs.Words.{word_put, with_bytes};
 ghost use Rattle.flat_state.specs.Cells.{pages_in_vec, zeros_in};
 
+use flat_model::word_bytes;
 use std::alloc::{AllocError, Global};
 use std::collections::BTreeMap;
-use vm_types::word_bytes;
 
 /// Puts a page at an index, where there is one.
 pub(crate) fn set_page(pages: &mut Vec<Vec<u8>>, index: u32, page: Vec<u8>)

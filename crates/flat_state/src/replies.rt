@@ -1,11 +1,11 @@
 //! Which reply is due.
 ghost use Rattle.std.specs.Prelude.{◌≡◌, ◌≤◌, ◌*◌, ◌↔◌, IsTrue, length};
-ghost use Rattle.vm_types.specs.declared.call.Reply.TheVariants as answer;
-ghost use Rattle.vm_types.specs.Words.{IsWordSize, word_value};
+ghost use Rattle.flat_model.specs.vm_types.declared.call.Reply.TheVariants as answer;
+ghost use Rattle.flat_model.specs.vm_types.Words.{IsWordSize, word_value};
 ghost use Rattle.flat_model.specs.Words.{word_at};
 ghost use Rattle.flat_state.specs.FlatState.{IsDueReply};
 
-use vm_types::{Errno, Line, Reply, Signal};
+use flat_model::{Errno, Line, Reply, Signal};
 
 // The value of at most 4 bytes, the highest first.
 fn word_value(bytes: &[u8]) -> u32

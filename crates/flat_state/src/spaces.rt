@@ -12,10 +12,10 @@ ghost use Rattle.flat_state.specs.Mapped.{new_number_in, slots_left};
 
 use crate::cells::{CellState, Cells};
 use crate::zeros::slots_left;
+use flat_model::Prot;
 use std::alloc::{AllocError, Global};
 use std::collections::BTreeMap;
 use std::marker::Model;
-use vm_types::Prot;
 
 /// The spaces of the processes that are alive.
 #[derive(Drop)]

@@ -2,7 +2,7 @@
 ghost use Rattle.std.specs.Prelude.{◌≡◌, ◌<◌, [], option_map, option_and_then, slice_get, map};
 ghost use Rattle.std.specs.Result.{result_map_both};
 ghost use Rattle.std.specs.FinMap as finite;
-ghost use Rattle.vm_types.specs.Words.{IsWordSize};
+ghost use Rattle.flat_model.specs.vm_types.Words.{IsWordSize};
 ghost use Rattle.flat_state.specs.Cells.{flat_cell};
 ghost use Rattle.flat_state.specs.State.{is_allowed_by};
 ghost use Rattle.flat_model.specs.Opening.{flat_at_opening};
@@ -10,10 +10,10 @@ ghost use Rattle.flat_model.specs.Opening.{flat_at_opening};
 use crate::cells::CellState;
 use crate::files::FileState;
 use crate::spaces::Spaces;
+use flat_model::{Object, Prot, Reply, Signal, word_value};
 use std::alloc::Global;
 use std::collections::BTreeMap;
 use std::marker::Model;
-use vm_types::{Object, Prot, Reply, Signal, word_value};
 
 /// Flat memory, kept plainly: one tree of cells for each process.
 #[derive(Drop)]

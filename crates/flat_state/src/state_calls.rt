@@ -2,8 +2,8 @@
 ghost use Rattle.std.specs.Prelude.{◌≡◌, ◌↔◌, ◌++◌, ◌∷◌, [], IsTrue, IsFalse, IfOk, OnOk, OnErr, IsSome, is_some, length};
 ghost use Rattle.std.specs.FinMap as finite;
 ghost use Rattle.std.specs.FinSet as set;
-ghost use Rattle.vm_types.specs.Words.{IsWordSize, FitsWord};
-ghost use Rattle.vm_types.specs.Prot.{can_read, can_write};
+ghost use Rattle.flat_model.specs.vm_types.Words.{IsWordSize, FitsWord};
+ghost use Rattle.flat_model.specs.vm_types.Prot.{can_read, can_write};
 ghost use Rattle.flat_model.specs.Flat.{without_unnamed, space_of};
 ghost use Rattle.flat_model.specs.Mapping.{without_pages};
 ghost use Rattle.flat_model.specs.Access.{access_target, load, store, with_page, with_page_stored};
@@ -20,8 +20,8 @@ use crate::pages::{set_zero_page, with_word};
 use crate::replies::word_at;
 use crate::state::{Access, FlatParts};
 use crate::zeros::keep_named;
+use flat_model::{Kind, Object, Reply, Signal};
 use std::alloc::AllocError;
-use vm_types::{Kind, Object, Reply, Signal};
 
 impl FlatParts {
     /// There is a disk of this number and of so many blocks.

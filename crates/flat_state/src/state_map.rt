@@ -2,8 +2,8 @@
 ghost use Rattle.std.specs.Prelude.{◌≡◌, ◌+◌, ◌<◌, ◌≤◌, ◌^◌, IfOk, IsSome, nat_le, option_map, unwrap_or};
 ghost use Rattle.std.specs.FinMap as finite;
 ghost use Rattle.std.specs.Result.{result_map_both};
-ghost use Rattle.vm_types.specs.declared.call.Kind.TheVariants as kind;
-ghost use Rattle.vm_types.specs.declared.call.Object.TheVariants as object;
+ghost use Rattle.flat_model.specs.vm_types.declared.call.Kind.TheVariants as kind;
+ghost use Rattle.flat_model.specs.vm_types.declared.call.Object.TheVariants as object;
 ghost use Rattle.flat_model.specs.Words.{pages_in};
 ghost use Rattle.flat_model.specs.Flat.{space_of};
 ghost use Rattle.flat_model.specs.Mapping.{cells_of, is_there, max_of, prot_read_write, without_replaced, own_for, with_mapping, map_result};
@@ -16,9 +16,9 @@ use crate::spaces::Spaces;
 use crate::state::FlatParts;
 use crate::zeros::{keep_named, object_slots_left, with_new_zeros, zero_page};
 use bitflags::Flags;
+use flat_model::{Errno, Kind, Object, Place, Prot, page_of, pages_in};
 use std::alloc::{AllocError, Global};
 use std::collections::BTreeMap;
-use vm_types::{Errno, Kind, Object, Place, Prot, page_of, pages_in};
 
 impl FlatParts {
     // Whether there is such a file or zero object; new zero memory can always be asked for.

@@ -2,7 +2,7 @@
 ghost use Rattle.std.specs.Prelude.{◌≡◌, ◌<◌, ◌≤◌, ◌+◌, IfOk, OnOk, OnErr, Some, length, option_map, slice_get, unwrap_or, map as list_map};
 ghost use Rattle.std.specs.FinMap as finite;
 ghost use Rattle.std.specs.Result.{result_map_both};
-ghost use Rattle.vm_types.specs.Pages.{line_rest};
+ghost use Rattle.flat_model.specs.vm_types.Pages.{line_rest};
 ghost use Rattle.flat_model.specs.Flat.{IsFlat};
 ghost use Rattle.flat_state.specs.Cells.{flat_file};
 ghost use Rattle.flat_model.specs.Parts.{writable_file, growth_in, room_for, write_part, truncate};
@@ -11,9 +11,8 @@ use crate::file_pages::pages_in;
 use crate::files::FileState;
 use crate::growth::{extents_beside, growth};
 use crate::state::FlatParts;
+use flat_model::{Errno, Extent, Line};
 use std::alloc::AllocError;
-use vm_types::{Errno, Line};
-use vnode_files::Extent;
 
 impl FlatParts {
     // How many blocks a disk has, none for one that isn't there.

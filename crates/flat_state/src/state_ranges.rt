@@ -10,7 +10,7 @@ ghost use Rattle.flat_state.specs.FlatState.{protect_result};
 
 use crate::spaces::Spaces;
 use crate::state::FlatParts;
-use vm_types::{Errno, Prot, is_range, page_of, pages_in};
+use flat_model::{Errno, Prot, is_range, page_of, pages_in};
 
 impl FlatParts {
     /// Whether a range may be spoken of: it is valid, and each page of it has a cell.

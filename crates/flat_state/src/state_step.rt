@@ -1,10 +1,10 @@
 //! What entries do to the plain form.
 ghost use Rattle.std.specs.Prelude.{◌≡◌, ◌<◌, ◌≤◌, ◌+◌, ◌^◌, ◌↔◌, IsTrue, IsFalse, IsSome, IfOk, OnErr, length};
 ghost use Rattle.std.specs.FinSet as set;
-ghost use Rattle.vm_types.specs.Pages.{line_rest};
-ghost use Rattle.vm_types.specs.declared.call.Call.TheVariants as call;
-ghost use Rattle.vm_types.specs.Words.{IsWordSize, FitsWord};
-ghost use Rattle.vm_types.specs.WellFormed.{IsWellFormed};
+ghost use Rattle.flat_model.specs.vm_types.Pages.{line_rest};
+ghost use Rattle.flat_model.specs.vm_types.declared.call.Call.TheVariants as call;
+ghost use Rattle.flat_model.specs.vm_types.Words.{IsWordSize, FitsWord};
+ghost use Rattle.flat_model.specs.vm_types.WellFormed.{IsWellFormed};
 ghost use Rattle.flat_model.specs.Flat.{IsFlat, space_of};
 ghost use Rattle.flat_state.specs.Mapped.{call_of};
 ghost use Rattle.flat_model.specs.Step.{IsDue, IsUnborn, after_act, tails_cleared, IsStep, step};
@@ -14,8 +14,8 @@ use crate::files::{clear_tail_of, put_last_page};
 use crate::map_call::MapCall;
 use crate::replies::{is_due, is_due_mapping};
 use crate::state::{Access, FlatParts};
+use flat_model::{Call, Entry, Errno, Line, Prot, Reply, is_range, page_of, pages_in};
 use std::alloc::AllocError;
-use vm_types::{Call, Entry, Errno, Line, Prot, Reply, is_range, page_of, pages_in};
 
 impl FlatParts {
     // Whether the reply to a load is due.

@@ -2,11 +2,11 @@
 ghost use Rattle.std.specs.Prelude.{◌<◌, ◌≤◌, length};
 
 use bitflags::Flags;
+use flat_model::{Call, Entry, Errno, Kind, Line, Object, Place, Prot, Reply, Signal};
 use flat_state::FlatState;
 use std::alloc::{AllocError, Global};
 use std::prelude::HostRuntime;
 use std::test::Fail;
-use vm_types::{Call, Entry, Errno, Kind, Line, Object, Place, Prot, Reply, Signal};
 
 const A: Object = Object::File(0);
 

@@ -1,6 +1,6 @@
 -- What is seen of a disk that stands for one disk or for two. Public clauses cite this.
 use Rattle.std.specs.Prelude.{◌≡◌, Bool, true, false, Option, Some, None}
-use Rattle.block_device.specs.DiskSeen.{DiskSeen}
+use Rattle.disk_stripe.specs.block_device.DiskSeen.{DiskSeen}
 use Rattle.disk_stripe.specs.StripeLook.{stripe_disks}
 use Rattle.disk_stripe.specs.StripeSeen.{stripe_seen_by}
 use Rattle.disk_mirror.specs.MirrorLook.{mirror_look}

@@ -1,9 +1,8 @@
 //! A disk that stands for one disk, or for two.
 ghost use Rattle.std.specs.Prelude.{◌≡◌, IfOk, IfErr};
 
-use block_device::{Disk, Failed, Pairing};
 use disk_mirror::Mirror;
-use disk_stripe::Stripe;
+use disk_stripe::{Disk, Failed, Pairing, Stripe};
 use std::alloc::Global;
 
 /// A disk as it is, or one that stands for two.
@@ -95,7 +94,7 @@ impl<D: Disk> Disk for JoinedDisk<D> {
 }
 
 impl<D: Disk> Pairing<D> for JoinedDisk<D> {
-    ghost use Rattle.block_device.specs.Pairs.{CanPair};
+    ghost use Rattle.disk_stripe.specs.block_device.Pairs.{CanPair};
     ghost use Rattle.joined_disk.specs.JoinedSeen.{StandsFor};
 
     ghost pairs = { StandsFor D.seen };

@@ -4,24 +4,24 @@ use Rattle.std.specs.Prelude.{◌||◌}
 use Rattle.std.specs.FinMap as finite
 use Rattle.std.specs.FinSet as set
 use Rattle.std.specs.Ordering.{nat_cmp}
-use Rattle.addr_space.specs.Space.{Part}
-use Rattle.page_store.specs.Notes.{Notes}
-use Rattle.vm_types.specs.declared.call.Call.{Call}
-use Rattle.vm_types.specs.declared.call.Errno.{Errno}
-use Rattle.vm_types.specs.declared.call.Reply.{Reply}
-use Rattle.vm_types.specs.declared.call.Reply.TheVariants as reply
-use Rattle.flat_model.specs.Flat.{Flat}
-use Rattle.flat_model.specs.Refusals.{Effect}
-use Rattle.flat_model.specs.Step.{effect, is_bit_set, IsDue, after_act}
-use Rattle.vm_world.specs.FlatMemory.{Memory, flat_memory}
-use Rattle.vm_world.specs.MemoryFits.{MemoryFits}
-use Rattle.vm_world.specs.Plans.{refusal_in}
-use Rattle.vm_world.specs.Serving.{ModifiesNone, TakesFrames, ServesDone}
-use Rattle.vm_world.specs.World.{World}
-use Rattle.vm_world.specs.declared.segment.Segment.{Segment}
-use Rattle.vm_world.proofs.SegmentSteps.{segment_rule}
-use Rattle.seg_ops.proofs.Composed.{keeps-same}
-use Rattle.seg_ops.proofs.Modified.{modifies-same}
+use Rattle.seg_vn.specs.addr_space.Space.{Part}
+use Rattle.seg_vn.specs.page_store.Notes.{Notes}
+use Rattle.seg_vn.specs.vm_types.declared.call.Call.{Call}
+use Rattle.seg_vn.specs.vm_types.declared.call.Errno.{Errno}
+use Rattle.seg_vn.specs.vm_types.declared.call.Reply.{Reply}
+use Rattle.seg_vn.specs.vm_types.declared.call.Reply.TheVariants as reply
+use Rattle.seg_vn.specs.flat_model.Flat.{Flat}
+use Rattle.seg_vn.specs.flat_model.Refusals.{Effect}
+use Rattle.seg_vn.specs.flat_model.Step.{effect, is_bit_set, IsDue, after_act}
+use Rattle.seg_vn.specs.vm_world.FlatMemory.{Memory, flat_memory}
+use Rattle.seg_vn.specs.vm_world.MemoryFits.{MemoryFits}
+use Rattle.seg_vn.specs.vm_world.Plans.{refusal_in}
+use Rattle.seg_vn.specs.vm_world.Serving.{ModifiesNone, TakesFrames, ServesDone}
+use Rattle.seg_vn.specs.vm_world.World.{World}
+use Rattle.seg_vn.specs.vm_world.declared.segment.Segment.{Segment}
+use Rattle.seg_vn.proofs.vm_world.SegmentSteps.{segment_rule}
+use Rattle.seg_vn.proofs.seg_ops.Composed.{keeps-same}
+use Rattle.seg_vn.proofs.seg_ops.Modified.{modifies-same}
 use Rattle.seg_vn.specs.Clears.{ChangesSpace, SpaceFits}
 use Rattle.seg_vn.specs.Serves.{IsPlainReply}
 use Rattle.mmap_calls.specs.Answers.{AnswersAtOnce}

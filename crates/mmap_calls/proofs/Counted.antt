@@ -7,22 +7,22 @@ use Rattle.std.specs.FinMap as finite
 use Rattle.std.proofs.lemmas.Bool.{cases_eq, cases_Bool}
 use Rattle.std.proofs.lemmas.Bool.Decides.{nat_tests}
 use Rattle.std.proofs.lemmas.List.Sums.{sum_by-cons}
-use Rattle.vm_types.specs.declared.call.Kind.{Kind}
-use Rattle.vm_types.specs.declared.call.Kind.TheVariants.{Shared, Private}
-use Rattle.addr_space.specs.Space.{Part, IsInOrder, part}
-use Rattle.addr_space.specs.Pages.{with_pages, pages_of_parts}
-use Rattle.addr_space.proofs.PageLaws.{get-with_pages, get-pages_of_parts}
-use Rattle.addr_space.proofs.PartLemmas.{has-past, none-below}
-use Rattle.flat_model.specs.Flat.{Cell, Space, slots_for}
-use Rattle.flat_model.specs.Space.{is_in_range, without_range}
-use Rattle.flat_model.specs.Words.{Page}
-use Rattle.flat_model.proofs.Ranges.{get-insert, get-retain_keys, in_range-is, in_range-low, in_range-high}
-use Rattle.flat_model.proofs.Sums.{total, total-insert, total-without_range}
-use Rattle.vm_world.specs.FlatMemory.{cell_of, map_with, space_with}
-use Rattle.vm_world.specs.Segments.{Spot}
-use Rattle.vm_world.specs.declared.segment.Segment.{Segment}
-use Rattle.vm_world.proofs.Maps.{get-map_with}
-use Rattle.vm_world.proofs.Reserves.{total-empty, total-map_with}
+use Rattle.seg_vn.specs.vm_types.declared.call.Kind.{Kind}
+use Rattle.seg_vn.specs.vm_types.declared.call.Kind.TheVariants.{Shared, Private}
+use Rattle.seg_vn.specs.addr_space.Space.{Part, IsInOrder, part}
+use Rattle.seg_vn.specs.addr_space.Pages.{with_pages, pages_of_parts}
+use Rattle.seg_vn.proofs.addr_space.PageLaws.{get-with_pages, get-pages_of_parts}
+use Rattle.seg_vn.proofs.addr_space.PartLemmas.{has-past, none-below}
+use Rattle.seg_vn.specs.flat_model.Flat.{Cell, Space, slots_for}
+use Rattle.seg_vn.specs.flat_model.Space.{is_in_range, without_range}
+use Rattle.seg_vn.specs.flat_model.Words.{Page}
+use Rattle.seg_vn.proofs.flat_model.Ranges.{get-insert, get-retain_keys, in_range-is, in_range-low, in_range-high}
+use Rattle.seg_vn.proofs.flat_model.Sums.{total, total-insert, total-without_range}
+use Rattle.seg_vn.specs.vm_world.FlatMemory.{cell_of, map_with, space_with}
+use Rattle.seg_vn.specs.vm_world.Segments.{Spot}
+use Rattle.seg_vn.specs.vm_world.declared.segment.Segment.{Segment}
+use Rattle.seg_vn.proofs.vm_world.Maps.{get-map_with}
+use Rattle.seg_vn.proofs.vm_world.Reserves.{total-empty, total-map_with}
 use Rattle.mmap_calls.specs.RangeCounts.{mapped_pages, pages_within, slots_of_range, slots_within}
 
 abbrev Kept : finite.FinMap nat_cmp Spot → ℕ → ℕ → finite.FinMap nat_cmp Spot

@@ -4,24 +4,24 @@ use Rattle.std.specs.Prelude.{option_map, slice_index_or, IsSome, IsSomeAnd}
 use Rattle.std.specs.Option.{option_map_or}
 use Rattle.std.specs.FinMap as finite
 use Rattle.std.proofs.lemmas.Bool.{cases_Bool, cases_lt}
-use Rattle.addr_space.specs.Space.{Part, has, piece_at, part_at, cut_at, with_new_piece, upper_part, IsInOrder}
-use Rattle.addr_space.proofs.PageLaws.{shows}
-use Rattle.addr_space.proofs.PartLemmas.{has-in, has-within, found-in}
-use Rattle.addr_space.proofs.PartLists.{all-found, at-found, found-with_new_piece, at-cut_both}
-use Rattle.anon_map.specs.Maps.{Map, IsMapThere, IsUnused, holders_of}
-use Rattle.flat_model.proofs.Ranges.{insert_same}
-use Rattle.vm_world.specs.CountsFit.{SegmentFits}
-use Rattle.vm_world.specs.Segments.{Spot, Spaces}
-use Rattle.vm_world.specs.SegmentSteps.{parts_cut, upper_pages}
-use Rattle.vm_world.specs.SpaceSteps.{first_pages}
-use Rattle.vm_world.specs.World.{World}
-use Rattle.vm_world.specs.ZeroObjects.{KnowsZeros}
-use Rattle.vm_world.specs.declared.segment.Segment.{Segment}
-use Rattle.vm_world.proofs.ComingParts.{own-is-unshown}
-use Rattle.vm_world.proofs.KeptMaps.{own-there, shown-there}
-use Rattle.vm_world.proofs.KnownZeros.{known-cut}
-use Rattle.vm_world.proofs.SegmentSteps.{segment_rule}
-use Rattle.seg_ops.proofs.Composed.{keeps-same}
+use Rattle.seg_vn.specs.addr_space.Space.{Part, has, piece_at, part_at, cut_at, with_new_piece, upper_part, IsInOrder}
+use Rattle.seg_vn.proofs.addr_space.PageLaws.{shows}
+use Rattle.seg_vn.proofs.addr_space.PartLemmas.{has-in, has-within, found-in}
+use Rattle.seg_vn.proofs.addr_space.PartLists.{all-found, at-found, found-with_new_piece, at-cut_both}
+use Rattle.seg_vn.specs.anon_map.Maps.{Map, IsMapThere, IsUnused, holders_of}
+use Rattle.seg_vn.proofs.flat_model.Ranges.{insert_same}
+use Rattle.seg_vn.specs.vm_world.CountsFit.{SegmentFits}
+use Rattle.seg_vn.specs.vm_world.Segments.{Spot, Spaces}
+use Rattle.seg_vn.specs.vm_world.SegmentSteps.{parts_cut, upper_pages}
+use Rattle.seg_vn.specs.vm_world.SpaceSteps.{first_pages}
+use Rattle.seg_vn.specs.vm_world.World.{World}
+use Rattle.seg_vn.specs.vm_world.ZeroObjects.{KnowsZeros}
+use Rattle.seg_vn.specs.vm_world.declared.segment.Segment.{Segment}
+use Rattle.seg_vn.proofs.vm_world.ComingParts.{own-is-unshown}
+use Rattle.seg_vn.proofs.vm_world.KeptMaps.{own-there, shown-there}
+use Rattle.seg_vn.proofs.vm_world.KnownZeros.{known-cut}
+use Rattle.seg_vn.proofs.vm_world.SegmentSteps.{segment_rule}
+use Rattle.seg_vn.proofs.seg_ops.Composed.{keeps-same}
 use Rattle.seg_vn.specs.Clears.{SpaceFits, ChangesSpace, StartsAt}
 use Rattle.seg_vn.specs.Cuts.{IsCutPart}
 use Rattle.mmap_calls.specs.Looks.{kind_and_object}

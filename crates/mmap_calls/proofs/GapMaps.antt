@@ -6,30 +6,30 @@ use Rattle.std.specs.FinSet as set
 use Rattle.std.specs.Ordering.{nat_cmp}
 use Rattle.std.proofs.lemmas.Bool.{and_from, and_parts, le-leb}
 use Rattle.std.proofs.Math.Nat.{mul-div_cancel_left}
-use Rattle.addr_space.specs.Space.{Part, FindsGap, IsGap, page_total, part_at, piece_at}
-use Rattle.page_store.specs.Notes.{Notes}
-use Rattle.vm_types.specs.declared.call.Errno.{Errno}
-use Rattle.vm_types.specs.declared.call.Errno.TheVariants as errno
-use Rattle.vm_types.specs.declared.call.Place.TheVariants.{At, Any}
-use Rattle.vm_types.specs.declared.call.Reply.{Reply}
-use Rattle.vm_types.specs.declared.call.Reply.TheVariants as reply
-use Rattle.vm_types.specs.Prot.{is_within}
-use Rattle.flat_model.specs.Access.{with_space}
-use Rattle.flat_model.specs.Flat.{Cell, Flat, Space, space_of, reserved}
-use Rattle.flat_model.specs.Mapping.{Request, cells_of, is_range, is_there, is_valid, map_result, max_of, with_mapping, without_replaced}
-use Rattle.flat_model.specs.Refusals.{◌>>=◌, ◌>>◌, Effect, check, or_refused}
-use Rattle.flat_model.specs.Space.{lowest_gap, without_range}
-use Rattle.flat_model.specs.Step.{effect}
-use Rattle.flat_model.specs.Words.{page, pages_in}
-use Rattle.flat_model.proofs.Reserve.{some_pages}
-use Rattle.vm_world.specs.FlatMemory.{Memory, flat_memory, cell_of}
-use Rattle.vm_world.specs.Pages.{place_contents, page_value}
-use Rattle.vm_world.specs.Segments.{Spot}
-use Rattle.vm_world.specs.declared.segment.Segment.{Segment}
-use Rattle.vm_world.proofs.LowestGaps.{gap_rule, nothing-replaced}
-use Rattle.vm_world.proofs.SegmentCells.{segment_cells}
-use Rattle.vm_world.proofs.SegmentSteps.{segment_rule}
-use Rattle.vm_world.proofs.SweptFlat.{cell-is, space-is}
+use Rattle.seg_vn.specs.addr_space.Space.{Part, FindsGap, IsGap, page_total, part_at, piece_at}
+use Rattle.seg_vn.specs.page_store.Notes.{Notes}
+use Rattle.seg_vn.specs.vm_types.declared.call.Errno.{Errno}
+use Rattle.seg_vn.specs.vm_types.declared.call.Errno.TheVariants as errno
+use Rattle.seg_vn.specs.vm_types.declared.call.Place.TheVariants.{At, Any}
+use Rattle.seg_vn.specs.vm_types.declared.call.Reply.{Reply}
+use Rattle.seg_vn.specs.vm_types.declared.call.Reply.TheVariants as reply
+use Rattle.seg_vn.specs.vm_types.Prot.{is_within}
+use Rattle.seg_vn.specs.flat_model.Access.{with_space}
+use Rattle.seg_vn.specs.flat_model.Flat.{Cell, Flat, Space, space_of, reserved}
+use Rattle.seg_vn.specs.flat_model.Mapping.{Request, cells_of, is_range, is_there, is_valid, map_result, max_of, with_mapping, without_replaced}
+use Rattle.seg_vn.specs.flat_model.Refusals.{◌>>=◌, ◌>>◌, Effect, check, or_refused}
+use Rattle.seg_vn.specs.flat_model.Space.{lowest_gap, without_range}
+use Rattle.seg_vn.specs.flat_model.Step.{effect}
+use Rattle.seg_vn.specs.flat_model.Words.{page, pages_in}
+use Rattle.seg_vn.proofs.flat_model.Reserve.{some_pages}
+use Rattle.seg_vn.specs.vm_world.FlatMemory.{Memory, flat_memory, cell_of}
+use Rattle.seg_vn.specs.vm_world.Pages.{place_contents, page_value}
+use Rattle.seg_vn.specs.vm_world.Segments.{Spot}
+use Rattle.seg_vn.specs.vm_world.declared.segment.Segment.{Segment}
+use Rattle.seg_vn.proofs.vm_world.LowestGaps.{gap_rule, nothing-replaced}
+use Rattle.seg_vn.proofs.vm_world.SegmentCells.{segment_cells}
+use Rattle.seg_vn.proofs.vm_world.SegmentSteps.{segment_rule}
+use Rattle.seg_vn.proofs.vm_world.SweptFlat.{cell-is, space-is}
 use Rattle.seg_vn.specs.Clears.{SpaceFits}
 use Rattle.mmap_calls.specs.declared.refusals.MapRequest.{MapRequest}
 use Rattle.mmap_calls.specs.Answers.{AnswersAtOnce}

@@ -5,29 +5,29 @@ use Rattle.std.specs.FinMap as finite
 use Rattle.std.proofs.lemmas.Bool.{cases_Bool, cases_eq, cases_lt, eq-eqb, and_from, and_parts, leb-true, le-leb, lt-leb, le-ltb, and_left, and_right, not-true}
 use Rattle.std.proofs.lemmas.List.Elements.{All-head, All-tail}
 use Rattle.std.proofs.lemmas.List.Sums.{sum_by-cons}
-use Rattle.vm_types.specs.declared.call.Object.{Object}
-use Rattle.vm_types.specs.declared.call.Object.TheVariants as object
-use Rattle.addr_space.specs.Space.{Part, IsInOrder, has, piece_at, part_at}
-use Rattle.addr_space.proofs.PageLaws.{shows}
-use Rattle.addr_space.proofs.PartLemmas.{has-in, has-within, at-here, at-next, none-below}
-use Rattle.anon_map.specs.Maps.{Map, holders_of}
-use Rattle.flat_model.specs.Space.{is_in_range}
-use Rattle.flat_model.proofs.Ranges.{in_range-is, get-remove_here, get-remove_apart}
-use Rattle.flat_model.proofs.Reserve.{same_tests}
-use Rattle.vm_world.specs.CountsFit.{SegmentFits, ShowsZero, ObjectFits, is_number, times_had}
-use Rattle.vm_world.specs.FlatMemory.{Memory, zero_maps}
-use Rattle.vm_world.specs.MemoryFits.{MemoryFits}
-use Rattle.vm_world.specs.Segments.{Spot, Spaces, spot_at, zero_map}
-use Rattle.vm_world.specs.declared.segment.Segment.{Segment}
-use Rattle.vm_world.proofs.ComingParts.{own_had, shown_had, parts-split, own-unshown}
-use Rattle.vm_world.proofs.GoneParts.{shown-of-zero}
-use Rattle.vm_world.proofs.KeptMaps.{own-there, shown-there, is-the-number, number-is, all-both}
-use Rattle.vm_world.proofs.Lists.{all-turn, sum-zero}
-use Rattle.vm_world.proofs.Maps.{all-values}
-use Rattle.vm_world.proofs.PartSums.{all_parts, sum-remove, sum-segments, sum-le, part-le, segments-all}
-use Rattle.vm_world.proofs.Reserves.{zero-object}
-use Rattle.vm_world.proofs.ShownZeros.{zero_map-of}
-use Rattle.vm_world.proofs.Spots.{IsSpotOf, spot-in}
+use Rattle.seg_vn.specs.vm_types.declared.call.Object.{Object}
+use Rattle.seg_vn.specs.vm_types.declared.call.Object.TheVariants as object
+use Rattle.seg_vn.specs.addr_space.Space.{Part, IsInOrder, has, piece_at, part_at}
+use Rattle.seg_vn.proofs.addr_space.PageLaws.{shows}
+use Rattle.seg_vn.proofs.addr_space.PartLemmas.{has-in, has-within, at-here, at-next, none-below}
+use Rattle.seg_vn.specs.anon_map.Maps.{Map, holders_of}
+use Rattle.seg_vn.specs.flat_model.Space.{is_in_range}
+use Rattle.seg_vn.proofs.flat_model.Ranges.{in_range-is, get-remove_here, get-remove_apart}
+use Rattle.seg_vn.proofs.flat_model.Reserve.{same_tests}
+use Rattle.seg_vn.specs.vm_world.CountsFit.{SegmentFits, ShowsZero, ObjectFits, is_number, times_had}
+use Rattle.seg_vn.specs.vm_world.FlatMemory.{Memory, zero_maps}
+use Rattle.seg_vn.specs.vm_world.MemoryFits.{MemoryFits}
+use Rattle.seg_vn.specs.vm_world.Segments.{Spot, Spaces, spot_at, zero_map}
+use Rattle.seg_vn.specs.vm_world.declared.segment.Segment.{Segment}
+use Rattle.seg_vn.proofs.vm_world.ComingParts.{own_had, shown_had, parts-split, own-unshown}
+use Rattle.seg_vn.proofs.vm_world.GoneParts.{shown-of-zero}
+use Rattle.seg_vn.proofs.vm_world.KeptMaps.{own-there, shown-there, is-the-number, number-is, all-both}
+use Rattle.seg_vn.proofs.vm_world.Lists.{all-turn, sum-zero}
+use Rattle.seg_vn.proofs.vm_world.Maps.{all-values}
+use Rattle.seg_vn.proofs.vm_world.PartSums.{all_parts, sum-remove, sum-segments, sum-le, part-le, segments-all}
+use Rattle.seg_vn.proofs.vm_world.Reserves.{zero-object}
+use Rattle.seg_vn.proofs.vm_world.ShownZeros.{zero_map-of}
+use Rattle.seg_vn.proofs.vm_world.Spots.{IsSpotOf, spot-in}
 use Rattle.mmap_calls.specs.RangeCounts.{zero_in, lies_within, count_within, shown_within}
 
 -- A page outside of a range of a process shows the zero object, with this map.

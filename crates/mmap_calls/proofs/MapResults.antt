@@ -6,35 +6,35 @@ use Rattle.std.specs.FinMap as finite
 use Rattle.std.specs.FinSet as set
 use Rattle.std.specs.Ordering.{nat_cmp}
 use Rattle.std.proofs.lemmas.Bool.{cases_lt, lt-ltb, le-ltb, leb-true}
-use Rattle.addr_space.specs.Space.{Part, part, page_total, LiesFrom}
-use Rattle.page_store.specs.Notes.{Notes, no_notes}
-use Rattle.vnode_files.specs.declared.vnode.FileInfo.{FileInfo}
-use Rattle.vnode_files.specs.Vnode.{VnodeSeen}
-use Rattle.vm_types.specs.declared.call.Errno.{Errno}
-use Rattle.vm_types.specs.declared.call.Errno.TheVariants as errno
-use Rattle.vm_types.specs.declared.call.Kind.{Kind}
-use Rattle.vm_types.specs.declared.call.Kind.TheVariants.{Shared, Private}
-use Rattle.vm_types.specs.declared.call.Object.{Object}
-use Rattle.vm_types.specs.declared.call.Object.TheVariants as object
-use Rattle.vm_types.specs.declared.call.Place.TheVariants.{At}
-use Rattle.vm_types.specs.Prot.{is_within}
-use Rattle.flat_model.specs.Flat.{Flat, Space, space_of, reserved, slots_for}
-use Rattle.flat_model.specs.Flat as flat
-use Rattle.flat_model.specs.Mapping.{Request, cells_of, is_valid, is_there, max_of, without_replaced, with_mapping, without_pages, map_result, prot_read, prot_read_write}
-use Rattle.flat_model.specs.Refusals.{◌>>◌, check}
-use Rattle.flat_model.specs.ReserveLaws.{IsPlaced, zero_pages_gone, zero_pages_back}
-use Rattle.flat_model.specs.Space.{without_range}
-use Rattle.flat_model.specs.Words.{page, pages_in}
-use Rattle.flat_model.proofs.Mappings.{cells_of-with_space}
-use Rattle.flat_model.proofs.Reserve.{some_pages, reserved-shared_map, reserved-private_map, reserved-new_zero_map, reserved-unmap}
-use Rattle.flat_model.proofs.Sums.{total, total-without_range}
-use Rattle.vm_world.specs.FlatMemory.{Memory, flat_memory, file_with_pages, space_with}
-use Rattle.vm_world.specs.Pages.{contents_of}
-use Rattle.vm_world.specs.declared.segment.Segment.{Segment}
-use Rattle.vm_world.proofs.FilePages.{file-in}
-use Rattle.vm_world.proofs.Maps.{get-map_with}
-use Rattle.vm_world.proofs.PageNames.{info-there}
-use Rattle.vm_world.proofs.SegmentCells.{segment_cells}
+use Rattle.seg_vn.specs.addr_space.Space.{Part, part, page_total, LiesFrom}
+use Rattle.seg_vn.specs.page_store.Notes.{Notes, no_notes}
+use Rattle.seg_vn.specs.vnode_files.declared.vnode.FileInfo.{FileInfo}
+use Rattle.seg_vn.specs.vnode_files.Vnode.{VnodeSeen}
+use Rattle.seg_vn.specs.vm_types.declared.call.Errno.{Errno}
+use Rattle.seg_vn.specs.vm_types.declared.call.Errno.TheVariants as errno
+use Rattle.seg_vn.specs.vm_types.declared.call.Kind.{Kind}
+use Rattle.seg_vn.specs.vm_types.declared.call.Kind.TheVariants.{Shared, Private}
+use Rattle.seg_vn.specs.vm_types.declared.call.Object.{Object}
+use Rattle.seg_vn.specs.vm_types.declared.call.Object.TheVariants as object
+use Rattle.seg_vn.specs.vm_types.declared.call.Place.TheVariants.{At}
+use Rattle.seg_vn.specs.vm_types.Prot.{is_within}
+use Rattle.seg_vn.specs.flat_model.Flat.{Flat, Space, space_of, reserved, slots_for}
+use Rattle.seg_vn.specs.flat_model.Flat as flat
+use Rattle.seg_vn.specs.flat_model.Mapping.{Request, cells_of, is_valid, is_there, max_of, without_replaced, with_mapping, without_pages, map_result, prot_read, prot_read_write}
+use Rattle.seg_vn.specs.flat_model.Refusals.{◌>>◌, check}
+use Rattle.seg_vn.specs.flat_model.ReserveLaws.{IsPlaced, zero_pages_gone, zero_pages_back}
+use Rattle.seg_vn.specs.flat_model.Space.{without_range}
+use Rattle.seg_vn.specs.flat_model.Words.{page, pages_in}
+use Rattle.seg_vn.proofs.flat_model.Mappings.{cells_of-with_space}
+use Rattle.seg_vn.proofs.flat_model.Reserve.{some_pages, reserved-shared_map, reserved-private_map, reserved-new_zero_map, reserved-unmap}
+use Rattle.seg_vn.proofs.flat_model.Sums.{total, total-without_range}
+use Rattle.seg_vn.specs.vm_world.FlatMemory.{Memory, flat_memory, file_with_pages, space_with}
+use Rattle.seg_vn.specs.vm_world.Pages.{contents_of}
+use Rattle.seg_vn.specs.vm_world.declared.segment.Segment.{Segment}
+use Rattle.seg_vn.proofs.vm_world.FilePages.{file-in}
+use Rattle.seg_vn.proofs.vm_world.Maps.{get-map_with}
+use Rattle.seg_vn.proofs.vm_world.PageNames.{info-there}
+use Rattle.seg_vn.proofs.vm_world.SegmentCells.{segment_cells}
 use Rattle.seg_vn.specs.Clears.{SpaceFits}
 use Rattle.mmap_calls.specs.declared.refusals.MapRequest.{MapRequest}
 use Rattle.mmap_calls.specs.GivenUp.{given_up}

@@ -3,19 +3,19 @@ use Rattle.std.proofs.Common.{◌≡◌, ℕ, ◌+◌, ◌<◌, ◌≤◌, cond,
 use Rattle.std.specs.Prelude.{is_some, IsSome, slice_index_or}
 use Rattle.std.proofs.lemmas.Bool.{cases_lt}
 use Rattle.std.proofs.lemmas.List.{get_or_past}
-use Rattle.vm_types.specs.declared.call.Kind.{Kind}
-use Rattle.vm_types.specs.declared.call.Kind.TheVariants.{Shared, Private}
-use Rattle.anon_map.specs.Maps.{Map}
-use Rattle.addr_space.specs.Space.{Part, begins}
-use Rattle.addr_space.proofs.PartLemmas.{found-in}
-use Rattle.addr_space.proofs.PartLists.{all-begins, begins-found}
-use Rattle.vm_world.specs.CountsFit.{OwnFits, SegmentFits, ShowsZero}
-use Rattle.vm_world.specs.FlatMemory.{zero_maps}
-use Rattle.vm_world.specs.Segments.{Spaces}
-use Rattle.vm_world.specs.World.{World}
-use Rattle.vm_world.specs.declared.segment.Segment.{Segment}
-use Rattle.vm_world.proofs.PartSums.{segments-all}
-use Rattle.vm_world.proofs.ShownZeros.{zero_map-of}
+use Rattle.seg_vn.specs.vm_types.declared.call.Kind.{Kind}
+use Rattle.seg_vn.specs.vm_types.declared.call.Kind.TheVariants.{Shared, Private}
+use Rattle.seg_vn.specs.anon_map.Maps.{Map}
+use Rattle.seg_vn.specs.addr_space.Space.{Part, begins}
+use Rattle.seg_vn.proofs.addr_space.PartLemmas.{found-in}
+use Rattle.seg_vn.proofs.addr_space.PartLists.{all-begins, begins-found}
+use Rattle.seg_vn.specs.vm_world.CountsFit.{OwnFits, SegmentFits, ShowsZero}
+use Rattle.seg_vn.specs.vm_world.FlatMemory.{zero_maps}
+use Rattle.seg_vn.specs.vm_world.Segments.{Spaces}
+use Rattle.seg_vn.specs.vm_world.World.{World}
+use Rattle.seg_vn.specs.vm_world.declared.segment.Segment.{Segment}
+use Rattle.seg_vn.proofs.vm_world.PartSums.{segments-all}
+use Rattle.seg_vn.proofs.vm_world.ShownZeros.{zero_map-of}
 use Rattle.seg_vn.specs.Clears.{SpaceFits}
 use Rattle.mmap_calls.specs.RangeCounts.{IsOwnPrivate, zero_in}
 use Rattle.mmap_calls.proofs.Holders.{zero-of-in, zero-has-map}

@@ -4,10 +4,10 @@ use Rattle.std.specs.Prelude.{nat_le, sum_by, IsSome}
 use Rattle.std.proofs.lemmas.Bool.{cases_eq, cases_lt, eq-eqb, ne_eqb, le-leb, lt-leb}
 use Rattle.std.proofs.lemmas.Bool.Decides.{nat_tests}
 use Rattle.std.proofs.lemmas.List.Sums.{sum_by-cons}
-use Rattle.addr_space.specs.Space.{Part, IsInOrder, FindsLast, begins, page_total, part_at}
-use Rattle.addr_space.proofs.PartLemmas.{has-in}
-use Rattle.addr_space.proofs.PartLists.{begins-found, begins-first, found-has}
-use Rattle.vm_world.specs.declared.segment.Segment.{Segment}
+use Rattle.seg_vn.specs.addr_space.Space.{Part, IsInOrder, FindsLast, begins, page_total, part_at}
+use Rattle.seg_vn.proofs.addr_space.PartLemmas.{has-in}
+use Rattle.seg_vn.proofs.addr_space.PartLists.{begins-found, begins-first, found-has}
+use Rattle.seg_vn.specs.vm_world.declared.segment.Segment.{Segment}
 use Rattle.mmap_calls.specs.RangeCounts.{NoneBelow}
 
 abbrev pub from_page : ℕ → (Part Segment → ℕ) → Part Segment → ℕ

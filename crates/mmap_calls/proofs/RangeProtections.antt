@@ -7,29 +7,29 @@ use Rattle.std.specs.FinSet as set
 use Rattle.std.specs.Ordering.{nat_cmp}
 use Rattle.std.proofs.lemmas.Bool.{cases_Bool}
 use Rattle.std.proofs.lemmas.Bool.Decides.{nat_tests}
-use Rattle.vm_types.specs.declared.prot.Prot.{Prot}
-use Rattle.vm_types.specs.Prot.{is_within}
-use Rattle.addr_space.specs.Space.{Part, part, has, begins, part_at, piece_at, with_new_piece, IsInOrder}
-use Rattle.addr_space.proofs.PartLemmas.{found-in}
-use Rattle.addr_space.proofs.PartLists.{found-begins, found-has}
-use Rattle.page_store.specs.Notes.{Notes}
-use Rattle.flat_model.specs.Access.{with_space}
-use Rattle.flat_model.specs.Flat.{Cell, Flat, Space}
-use Rattle.flat_model.specs.Mapping.{are_mapped, cells_of, may_have}
-use Rattle.flat_model.specs.Words.{Page}
-use Rattle.flat_model.specs.Space.{all_pages, is_in_range, with_prot, with_prots}
-use Rattle.flat_model.proofs.Ranges.{same_space, get-insert_here, get-with_prots, all_pages-at, at-all_pages}
-use Rattle.flat_model.proofs.Reserve.{put_back}
-use Rattle.vm_world.specs.FlatMemory.{Memory, flat_memory, cell_of}
-use Rattle.vm_world.specs.Pages.{place_contents, page_value}
-use Rattle.vm_world.specs.ProtectSteps.{with_range_prot}
-use Rattle.vm_world.specs.Segments.{Spaces, Spot}
-use Rattle.vm_world.specs.World.{World}
-use Rattle.vm_world.specs.ZeroObjects.{KnowsZeros}
-use Rattle.vm_world.specs.declared.segment.Segment.{Segment}
-use Rattle.vm_world.proofs.Maps.{insert-twice}
-use Rattle.vm_world.proofs.SegmentSteps.{segment_rule}
-use Rattle.vm_world.proofs.SweptFlat.{space-is, cell-is}
+use Rattle.seg_vn.specs.vm_types.declared.prot.Prot.{Prot}
+use Rattle.seg_vn.specs.vm_types.Prot.{is_within}
+use Rattle.seg_vn.specs.addr_space.Space.{Part, part, has, begins, part_at, piece_at, with_new_piece, IsInOrder}
+use Rattle.seg_vn.proofs.addr_space.PartLemmas.{found-in}
+use Rattle.seg_vn.proofs.addr_space.PartLists.{found-begins, found-has}
+use Rattle.seg_vn.specs.page_store.Notes.{Notes}
+use Rattle.seg_vn.specs.flat_model.Access.{with_space}
+use Rattle.seg_vn.specs.flat_model.Flat.{Cell, Flat, Space}
+use Rattle.seg_vn.specs.flat_model.Mapping.{are_mapped, cells_of, may_have}
+use Rattle.seg_vn.specs.flat_model.Words.{Page}
+use Rattle.seg_vn.specs.flat_model.Space.{all_pages, is_in_range, with_prot, with_prots}
+use Rattle.seg_vn.proofs.flat_model.Ranges.{same_space, get-insert_here, get-with_prots, all_pages-at, at-all_pages}
+use Rattle.seg_vn.proofs.flat_model.Reserve.{put_back}
+use Rattle.seg_vn.specs.vm_world.FlatMemory.{Memory, flat_memory, cell_of}
+use Rattle.seg_vn.specs.vm_world.Pages.{place_contents, page_value}
+use Rattle.seg_vn.specs.vm_world.ProtectSteps.{with_range_prot}
+use Rattle.seg_vn.specs.vm_world.Segments.{Spaces, Spot}
+use Rattle.seg_vn.specs.vm_world.World.{World}
+use Rattle.seg_vn.specs.vm_world.ZeroObjects.{KnowsZeros}
+use Rattle.seg_vn.specs.vm_world.declared.segment.Segment.{Segment}
+use Rattle.seg_vn.proofs.vm_world.Maps.{insert-twice}
+use Rattle.seg_vn.proofs.vm_world.SegmentSteps.{segment_rule}
+use Rattle.seg_vn.proofs.vm_world.SweptFlat.{space-is, cell-is}
 use Rattle.seg_vn.specs.Clears.{ChangesSpace, SpaceFits, StartsAt}
 use Rattle.seg_vn.specs.Cuts.{IsPartAt}
 use Rattle.mmap_calls.specs.Protections.{AreMapped, MayHave, lets, most_at}

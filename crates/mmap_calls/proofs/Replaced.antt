@@ -6,53 +6,53 @@ use Rattle.std.specs.FinSet as set
 use Rattle.std.specs.Ordering.{nat_cmp}
 use Rattle.std.specs.Cmp.{nat_cmp_total}
 use Rattle.std.proofs.lemmas.Bool.{ltb-true, leb-true, cases_eq}
-use Rattle.addr_space.specs.Space.{Part, part, piece_at, part_at, with_new_part, LiesFrom}
-use Rattle.anon_map.specs.Maps.{Map, IsMapThere, IsUnused, holders_of, places_of}
-use Rattle.page_store.specs.Notes.{Notes}
-use Rattle.vnode_files.specs.Files.{FilesSeen}
-use Rattle.vm_types.specs.declared.call.Errno.{Errno}
-use Rattle.vm_types.specs.declared.call.Kind.{Kind}
-use Rattle.vm_types.specs.declared.call.Kind.TheVariants.{Shared, Private}
-use Rattle.vm_types.specs.declared.call.Object.{Object}
-use Rattle.vm_types.specs.declared.call.Object.TheVariants as object
-use Rattle.vm_types.specs.declared.call.Place.TheVariants.{At}
-use Rattle.vm_types.specs.declared.call.Reply.{Reply}
-use Rattle.vm_types.specs.declared.call.Call.{Call}
-use Rattle.vm_types.specs.declared.call.Reply.TheVariants.{Refused, Mapped}
-use Rattle.vm_types.specs.declared.call.Reply.TheVariants as reply
-use Rattle.flat_model.specs.Access.{with_space}
-use Rattle.flat_model.specs.Flat.{Flat, without_unnamed}
-use Rattle.flat_model.specs.Mapping.{is_valid, cells_of, new_number, object_for, own_for, prot_read_write, with_object, without_pages, with_mapping}
-use Rattle.flat_model.specs.Refusals.{or_refused}
-use Rattle.flat_model.specs.Space.{is_in_range, without_range, with_cells}
-use Rattle.flat_model.specs.Step.{effect, is_bit_set, IsDue, after_act}
-use Rattle.flat_model.specs.Words.{page, pages_in}
-use Rattle.flat_model.proofs.Reserve.{some_pages}
-use Rattle.flat_model.proofs.Ranges.{in_range-is, get-insert, get-insert_here, get-insert_apart}
-use Rattle.vm_world.specs.CountsFit.{ObjectFits, slots_for_part}
-use Rattle.vm_world.specs.FlatMemory.{Memory, flat_memory, zero_maps}
-use Rattle.vm_world.specs.MapSteps.{maps_made, maps_held}
-use Rattle.vm_world.specs.MemoryFits.{MemoryFits}
-use Rattle.vm_world.specs.Segments.{Spot, Spaces}
-use Rattle.vm_world.specs.SegmentSteps.{ChangesSegments, HasPlace, IsOwnNew, MayCome, MayMakeZero, with_new_cells, with_zero_object, with_part_come, with_zero_part, segment_cell}
-use Rattle.vm_world.specs.Plans.{refusal_in}
-use Rattle.vm_world.specs.Serving.{TakesFrames, ServesDone}
-use Rattle.vm_world.specs.Serving.{ModifiesNone}
-use Rattle.vm_world.specs.World.{World}
-use Rattle.vm_world.specs.ZeroObjects.{AreSameZeros, KnowsZeros, free_number}
-use Rattle.vm_world.specs.declared.segment.Segment.{Segment}
-use Rattle.vm_world.proofs.ComingParts.{zero-there}
-use Rattle.vm_world.proofs.HeldObjects.{holding_part, with_holder, no-process, holder-fits, holder-knows, held-comes, held-knows}
-use Rattle.vm_world.proofs.KeptMaps.{same-holders, same-places}
-use Rattle.vm_world.proofs.KnownZeros.{known-other, known-unnamed, known-below, known-come, known-made}
-use Rattle.vm_world.proofs.MapChanges.{held-places}
-use Rattle.vm_world.proofs.Maps.{insert-twice}
-use Rattle.vm_world.proofs.MoreNumbers.{past-none}
-use Rattle.vm_world.proofs.SegmentCells.{segment_cells}
-use Rattle.vm_world.proofs.SegmentSteps.{segment_rule}
-use Rattle.vm_world.proofs.Unnamed.{cells-after-pages, object-after-pages}
-use Rattle.seg_ops.proofs.Composed.{keeps-same}
-use Rattle.seg_ops.proofs.Modified.{modifies-same}
+use Rattle.seg_vn.specs.addr_space.Space.{Part, part, piece_at, part_at, with_new_part, LiesFrom}
+use Rattle.seg_vn.specs.anon_map.Maps.{Map, IsMapThere, IsUnused, holders_of, places_of}
+use Rattle.seg_vn.specs.page_store.Notes.{Notes}
+use Rattle.seg_vn.specs.vnode_files.Files.{FilesSeen}
+use Rattle.seg_vn.specs.vm_types.declared.call.Errno.{Errno}
+use Rattle.seg_vn.specs.vm_types.declared.call.Kind.{Kind}
+use Rattle.seg_vn.specs.vm_types.declared.call.Kind.TheVariants.{Shared, Private}
+use Rattle.seg_vn.specs.vm_types.declared.call.Object.{Object}
+use Rattle.seg_vn.specs.vm_types.declared.call.Object.TheVariants as object
+use Rattle.seg_vn.specs.vm_types.declared.call.Place.TheVariants.{At}
+use Rattle.seg_vn.specs.vm_types.declared.call.Reply.{Reply}
+use Rattle.seg_vn.specs.vm_types.declared.call.Call.{Call}
+use Rattle.seg_vn.specs.vm_types.declared.call.Reply.TheVariants.{Refused, Mapped}
+use Rattle.seg_vn.specs.vm_types.declared.call.Reply.TheVariants as reply
+use Rattle.seg_vn.specs.flat_model.Access.{with_space}
+use Rattle.seg_vn.specs.flat_model.Flat.{Flat, without_unnamed}
+use Rattle.seg_vn.specs.flat_model.Mapping.{is_valid, cells_of, new_number, object_for, own_for, prot_read_write, with_object, without_pages, with_mapping}
+use Rattle.seg_vn.specs.flat_model.Refusals.{or_refused}
+use Rattle.seg_vn.specs.flat_model.Space.{is_in_range, without_range, with_cells}
+use Rattle.seg_vn.specs.flat_model.Step.{effect, is_bit_set, IsDue, after_act}
+use Rattle.seg_vn.specs.flat_model.Words.{page, pages_in}
+use Rattle.seg_vn.proofs.flat_model.Reserve.{some_pages}
+use Rattle.seg_vn.proofs.flat_model.Ranges.{in_range-is, get-insert, get-insert_here, get-insert_apart}
+use Rattle.seg_vn.specs.vm_world.CountsFit.{ObjectFits, slots_for_part}
+use Rattle.seg_vn.specs.vm_world.FlatMemory.{Memory, flat_memory, zero_maps}
+use Rattle.seg_vn.specs.vm_world.MapSteps.{maps_made, maps_held}
+use Rattle.seg_vn.specs.vm_world.MemoryFits.{MemoryFits}
+use Rattle.seg_vn.specs.vm_world.Segments.{Spot, Spaces}
+use Rattle.seg_vn.specs.vm_world.SegmentSteps.{ChangesSegments, HasPlace, IsOwnNew, MayCome, MayMakeZero, with_new_cells, with_zero_object, with_part_come, with_zero_part, segment_cell}
+use Rattle.seg_vn.specs.vm_world.Plans.{refusal_in}
+use Rattle.seg_vn.specs.vm_world.Serving.{TakesFrames, ServesDone}
+use Rattle.seg_vn.specs.vm_world.Serving.{ModifiesNone}
+use Rattle.seg_vn.specs.vm_world.World.{World}
+use Rattle.seg_vn.specs.vm_world.ZeroObjects.{AreSameZeros, KnowsZeros, free_number}
+use Rattle.seg_vn.specs.vm_world.declared.segment.Segment.{Segment}
+use Rattle.seg_vn.proofs.vm_world.ComingParts.{zero-there}
+use Rattle.seg_vn.proofs.vm_world.HeldObjects.{holding_part, with_holder, no-process, holder-fits, holder-knows, held-comes, held-knows}
+use Rattle.seg_vn.proofs.vm_world.KeptMaps.{same-holders, same-places}
+use Rattle.seg_vn.proofs.vm_world.KnownZeros.{known-other, known-unnamed, known-below, known-come, known-made}
+use Rattle.seg_vn.proofs.vm_world.MapChanges.{held-places}
+use Rattle.seg_vn.proofs.vm_world.Maps.{insert-twice}
+use Rattle.seg_vn.proofs.vm_world.MoreNumbers.{past-none}
+use Rattle.seg_vn.proofs.vm_world.SegmentCells.{segment_cells}
+use Rattle.seg_vn.proofs.vm_world.SegmentSteps.{segment_rule}
+use Rattle.seg_vn.proofs.vm_world.Unnamed.{cells-after-pages, object-after-pages}
+use Rattle.seg_vn.proofs.seg_ops.Composed.{keeps-same}
+use Rattle.seg_vn.proofs.seg_ops.Modified.{modifies-same}
 use Rattle.seg_vn.specs.Clears.{SpaceFits, ChangesSpace, GivesBack}
 use Rattle.seg_vn.specs.Serves.{IsPlainReply}
 use Rattle.seg_vn.proofs.ClearedSpaces.{cut-map}

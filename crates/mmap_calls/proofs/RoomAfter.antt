@@ -5,29 +5,29 @@ use Rattle.std.specs.Cmp.{nat_cmp_total}
 use Rattle.std.specs.FinMap as finite
 use Rattle.std.proofs.lemmas.Bool.{cases_eq, eq-eqb, leb-true, ne_eqb}
 use Rattle.std.proofs.lemmas.List.{get_or_past}
-use Rattle.addr_space.specs.Space.{Part, has, piece_at}
-use Rattle.anon_map.specs.Maps.{IsMapThere, holders_of, places_of}
-use Rattle.vm_types.specs.declared.call.Kind.{Kind}
-use Rattle.vm_types.specs.declared.call.Kind.TheVariants.{Shared, Private}
-use Rattle.vm_types.specs.declared.call.Object.{Object}
-use Rattle.vm_types.specs.declared.call.Object.TheVariants as object
-use Rattle.flat_model.specs.Flat.{slots_for}
-use Rattle.flat_model.specs.Space.{is_in_range, without_range}
-use Rattle.flat_model.specs.Words.{Page, page, pages_in}
-use Rattle.flat_model.proofs.Ranges.{get-insert_here, get-insert_apart, get-without_range}
-use Rattle.flat_model.proofs.Sums.{total, total-insert, sum_to}
-use Rattle.vm_world.specs.CountsFit.{slots_for_part}
-use Rattle.vm_world.specs.FlatMemory.{Memory, cell_of, map_with, space_with, zero_maps}
-use Rattle.vm_world.specs.MemoryFits.{MemoryFits}
-use Rattle.vm_world.specs.Segments.{Spot, Spaces, spot_at, zero_map}
-use Rattle.vm_world.specs.World.{World}
-use Rattle.vm_world.specs.declared.segment.Segment.{Segment}
-use Rattle.vm_world.proofs.ComingParts.{zero-there}
-use Rattle.vm_world.proofs.HeldObjects.{holding_part}
-use Rattle.vm_world.proofs.Maps.{get-map_with, get-space_with}
-use Rattle.vm_world.proofs.PartSums.{all_parts, sum-insert}
-use Rattle.vm_world.proofs.Reserves.{private-parts, total-map_with}
-use Rattle.vm_world.proofs.ShownZeros.{IsShown, fits-shown, shown-by}
+use Rattle.seg_vn.specs.addr_space.Space.{Part, has, piece_at}
+use Rattle.seg_vn.specs.anon_map.Maps.{IsMapThere, holders_of, places_of}
+use Rattle.seg_vn.specs.vm_types.declared.call.Kind.{Kind}
+use Rattle.seg_vn.specs.vm_types.declared.call.Kind.TheVariants.{Shared, Private}
+use Rattle.seg_vn.specs.vm_types.declared.call.Object.{Object}
+use Rattle.seg_vn.specs.vm_types.declared.call.Object.TheVariants as object
+use Rattle.seg_vn.specs.flat_model.Flat.{slots_for}
+use Rattle.seg_vn.specs.flat_model.Space.{is_in_range, without_range}
+use Rattle.seg_vn.specs.flat_model.Words.{Page, page, pages_in}
+use Rattle.seg_vn.proofs.flat_model.Ranges.{get-insert_here, get-insert_apart, get-without_range}
+use Rattle.seg_vn.proofs.flat_model.Sums.{total, total-insert, sum_to}
+use Rattle.seg_vn.specs.vm_world.CountsFit.{slots_for_part}
+use Rattle.seg_vn.specs.vm_world.FlatMemory.{Memory, cell_of, map_with, space_with, zero_maps}
+use Rattle.seg_vn.specs.vm_world.MemoryFits.{MemoryFits}
+use Rattle.seg_vn.specs.vm_world.Segments.{Spot, Spaces, spot_at, zero_map}
+use Rattle.seg_vn.specs.vm_world.World.{World}
+use Rattle.seg_vn.specs.vm_world.declared.segment.Segment.{Segment}
+use Rattle.seg_vn.proofs.vm_world.ComingParts.{zero-there}
+use Rattle.seg_vn.proofs.vm_world.HeldObjects.{holding_part}
+use Rattle.seg_vn.proofs.vm_world.Maps.{get-map_with, get-space_with}
+use Rattle.seg_vn.proofs.vm_world.PartSums.{all_parts, sum-insert}
+use Rattle.seg_vn.proofs.vm_world.Reserves.{private-parts, total-map_with}
+use Rattle.seg_vn.proofs.vm_world.ShownZeros.{IsShown, fits-shown, shown-by}
 use Rattle.seg_vn.specs.Clears.{SpaceFits}
 use Rattle.seg_vn.proofs.ClearedSpaces.{cut-map}
 use Rattle.mmap_calls.specs.declared.refusals.MapRequest.{MapRequest}

@@ -7,33 +7,33 @@ use Rattle.std.specs.FinMap as finite
 use Rattle.std.specs.FinSet as set
 use Rattle.std.proofs.lemmas.Bool.{cases_eq, cases_lt, eq-eqb, ne_eqb, lt-ltb, le-ltb}
 use Rattle.std.proofs.lemmas.List.{get_or_past}
-use Rattle.addr_space.specs.Space.{Part}
-use Rattle.anon_map.specs.Maps.{Map, holders_of, places_of}
-use Rattle.page_store.specs.Notes.{Notes}
-use Rattle.vm_types.specs.declared.call.Object.{Object}
-use Rattle.vm_types.specs.declared.call.Object.TheVariants as object
-use Rattle.flat_model.specs.Access.{with_space}
-use Rattle.flat_model.specs.Flat.{Cell, Flat, cell_at, zero_of, is_named, without_unnamed}
-use Rattle.flat_model.specs.Mapping.{cells_of, without_pages}
-use Rattle.flat_model.specs.NamedLaws.{IsNamed}
-use Rattle.flat_model.specs.ReserveLaws.{zero_pages_gone, zero_pages_back}
-use Rattle.flat_model.specs.Space.{is_in_range, without_range}
-use Rattle.flat_model.specs.Words.{Page, zero_page}
-use Rattle.flat_model.proofs.Mappings.{get-cells_of}
-use Rattle.flat_model.proofs.Named.{named_zeros-from_cell, named_zeros-to_cell}
-use Rattle.flat_model.proofs.Ranges.{get-remove_here, get-remove_apart, get-retain_keys, get-without_range, insert_same}
-use Rattle.flat_model.proofs.Reserve.{cell_at-here, cell_at-other}
-use Rattle.flat_model.proofs.Sums.{total, total-remove, sum_to}
-use Rattle.vm_world.specs.FlatMemory.{Memory, flat_memory, cell_of, zero_maps, zero_pages}
-use Rattle.vm_world.specs.Pages.{contents_of}
-use Rattle.vm_world.specs.Segments.{Spot, spot_at, zero_map}
-use Rattle.vm_world.specs.declared.segment.Segment.{Segment}
-use Rattle.vm_world.proofs.FilePages.{length-pages_from}
-use Rattle.vm_world.proofs.Maps.{get-map_with, cell-at}
-use Rattle.vm_world.proofs.Reserves.{total-empty, zero-object}
-use Rattle.vm_world.proofs.SegmentCells.{segment_cells}
-use Rattle.vm_world.proofs.ShownZeros.{IsShown, fits-shown, zero_map-of, zero-of-object}
-use Rattle.seg_ops.proofs.SlotOwners.{object-fits}
+use Rattle.seg_vn.specs.addr_space.Space.{Part}
+use Rattle.seg_vn.specs.anon_map.Maps.{Map, holders_of, places_of}
+use Rattle.seg_vn.specs.page_store.Notes.{Notes}
+use Rattle.seg_vn.specs.vm_types.declared.call.Object.{Object}
+use Rattle.seg_vn.specs.vm_types.declared.call.Object.TheVariants as object
+use Rattle.seg_vn.specs.flat_model.Access.{with_space}
+use Rattle.seg_vn.specs.flat_model.Flat.{Cell, Flat, cell_at, zero_of, is_named, without_unnamed}
+use Rattle.seg_vn.specs.flat_model.Mapping.{cells_of, without_pages}
+use Rattle.seg_vn.specs.flat_model.NamedLaws.{IsNamed}
+use Rattle.seg_vn.specs.flat_model.ReserveLaws.{zero_pages_gone, zero_pages_back}
+use Rattle.seg_vn.specs.flat_model.Space.{is_in_range, without_range}
+use Rattle.seg_vn.specs.flat_model.Words.{Page, zero_page}
+use Rattle.seg_vn.proofs.flat_model.Mappings.{get-cells_of}
+use Rattle.seg_vn.proofs.flat_model.Named.{named_zeros-from_cell, named_zeros-to_cell}
+use Rattle.seg_vn.proofs.flat_model.Ranges.{get-remove_here, get-remove_apart, get-retain_keys, get-without_range, insert_same}
+use Rattle.seg_vn.proofs.flat_model.Reserve.{cell_at-here, cell_at-other}
+use Rattle.seg_vn.proofs.flat_model.Sums.{total, total-remove, sum_to}
+use Rattle.seg_vn.specs.vm_world.FlatMemory.{Memory, flat_memory, cell_of, zero_maps, zero_pages}
+use Rattle.seg_vn.specs.vm_world.Pages.{contents_of}
+use Rattle.seg_vn.specs.vm_world.Segments.{Spot, spot_at, zero_map}
+use Rattle.seg_vn.specs.vm_world.declared.segment.Segment.{Segment}
+use Rattle.seg_vn.proofs.vm_world.FilePages.{length-pages_from}
+use Rattle.seg_vn.proofs.vm_world.Maps.{get-map_with, cell-at}
+use Rattle.seg_vn.proofs.vm_world.Reserves.{total-empty, zero-object}
+use Rattle.seg_vn.proofs.vm_world.SegmentCells.{segment_cells}
+use Rattle.seg_vn.proofs.vm_world.ShownZeros.{IsShown, fits-shown, zero_map-of, zero-of-object}
+use Rattle.seg_vn.proofs.seg_ops.SlotOwners.{object-fits}
 use Rattle.seg_vn.specs.Clears.{SpaceFits}
 use Rattle.mmap_calls.specs.GivenUp.{is_zero_object, pages_given, given_up}
 use Rattle.mmap_calls.specs.RangeCounts.{shown_within}

@@ -3,20 +3,20 @@ use Rattle.std.specs.Prelude.{ℕ, List, ◌≡◌}
 use Rattle.std.specs.FinMap as finite
 use Rattle.std.specs.FinSet as set
 use Rattle.std.specs.Ordering.{nat_cmp}
-use Rattle.addr_space.specs.Space.{Part}
-use Rattle.page_store.specs.Notes.{Notes}
-use Rattle.vm_types.specs.declared.call.Call.{Call}
-use Rattle.vm_types.specs.declared.call.Reply.{Reply}
-use Rattle.flat_model.specs.Step.{effect}
-use Rattle.vm_world.specs.FlatMemory.{Memory, flat_memory}
-use Rattle.vm_world.specs.SegmentSteps.{ChangesSegments}
-use Rattle.vm_world.specs.Segments.{Spaces}
-use Rattle.vm_world.specs.Serving.{ModifiesNone}
-use Rattle.vm_world.specs.Words.{memory}
-use Rattle.vm_world.specs.World.{world_seen}
-use Rattle.vm_world.specs.ZeroObjects.{KnowsZeros}
-use Rattle.vm_world.specs.declared.segment.Segment.{Segment}
-use Rattle.vm_world.specs.declared.world.World as rust
+use Rattle.seg_vn.specs.addr_space.Space.{Part}
+use Rattle.seg_vn.specs.page_store.Notes.{Notes}
+use Rattle.seg_vn.specs.vm_types.declared.call.Call.{Call}
+use Rattle.seg_vn.specs.vm_types.declared.call.Reply.{Reply}
+use Rattle.seg_vn.specs.flat_model.Step.{effect}
+use Rattle.seg_vn.specs.vm_world.FlatMemory.{Memory, flat_memory}
+use Rattle.seg_vn.specs.vm_world.SegmentSteps.{ChangesSegments}
+use Rattle.seg_vn.specs.vm_world.Segments.{Spaces}
+use Rattle.seg_vn.specs.vm_world.Serving.{ModifiesNone}
+use Rattle.seg_vn.specs.vm_world.Words.{memory}
+use Rattle.seg_vn.specs.vm_world.World.{world_seen}
+use Rattle.seg_vn.specs.vm_world.ZeroObjects.{KnowsZeros}
+use Rattle.seg_vn.specs.vm_world.declared.segment.Segment.{Segment}
+use Rattle.seg_vn.specs.vm_world.declared.world.World as rust
 use Rattle.seg_vn.specs.Clears.{SpaceFits}
 use Rattle.seg_vn.specs.Serves.{IsPlainReply}
 

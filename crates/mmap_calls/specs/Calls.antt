@@ -1,6 +1,6 @@
 -- The calls that are served here, and how they end. Public clauses cite this.
-use Rattle.vm_types.specs.declared.call.Call.{Call}
-use Rattle.vm_types.specs.declared.call.Call.TheVariants.{Map, Unmap, Protect}
+use Rattle.seg_vn.specs.vm_types.declared.call.Call.{Call}
+use Rattle.seg_vn.specs.vm_types.declared.call.Call.TheVariants.{Map, Unmap, Protect}
 use Rattle.seg_vn.specs.Serves.{IsPlainReply}
 use Rattle.seg_vn.specs.declared.attempt.Attempt.{Attempt}
 use Rattle.seg_vn.specs.declared.attempt.Attempt.TheVariants.{Done, Need, Busy}

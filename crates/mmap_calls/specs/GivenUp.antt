@@ -1,10 +1,10 @@
 -- The pages of zero objects that a Map gives up. Inside: no public clause cites this.
 use Rattle.std.specs.Prelude.{ℕ, zero, suc, ◌+◌, ◌==◌, Bool, false, List, Option, Some, None, length, slice_index_or, if◌then◌else◌}
-use Rattle.vm_types.specs.declared.call.Object.{Object}
-use Rattle.vm_types.specs.declared.call.Object.TheVariants as object
-use Rattle.addr_space.specs.Space.{Part}
-use Rattle.anon_map.specs.Maps.{Map, holders_of, places_of}
-use Rattle.vm_world.specs.declared.segment.Segment.{Segment}
+use Rattle.seg_vn.specs.vm_types.declared.call.Object.{Object}
+use Rattle.seg_vn.specs.vm_types.declared.call.Object.TheVariants as object
+use Rattle.seg_vn.specs.addr_space.Space.{Part}
+use Rattle.seg_vn.specs.anon_map.Maps.{Map, holders_of, places_of}
+use Rattle.seg_vn.specs.vm_world.declared.segment.Segment.{Segment}
 use Rattle.mmap_calls.specs.RangeCounts.{shown_within}
 
 -- The object is this zero object.

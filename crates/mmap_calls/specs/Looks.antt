@@ -1,8 +1,8 @@
 -- What a page has to do with what is reserved. Inside: no public clause cites this.
 use Rattle.std.specs.Prelude.{ℕ, Option}
-use Rattle.vm_types.specs.declared.call.Kind.{Kind}
-use Rattle.vm_types.specs.declared.call.Object.{Object}
-use Rattle.vm_world.specs.Segments.{Spot}
+use Rattle.seg_vn.specs.vm_types.declared.call.Kind.{Kind}
+use Rattle.seg_vn.specs.vm_types.declared.call.Object.{Object}
+use Rattle.seg_vn.specs.vm_world.Segments.{Spot}
 
 -- Whether a page is private, what it shows, and with which map, if that is a zero object.
 abbrev pub kind_and_object : Spot → Kind × (Object × Option ℕ)

@@ -1,9 +1,9 @@
 -- What may be done at most at the pages of a range. Inside: no public clause cites this.
 use Rattle.std.specs.Prelude.{◌≡◌, ◌<◌, ◌≤◌, ℕ, true, Bool, IsSome, List, Option, Some, None, option_map}
-use Rattle.vm_types.specs.declared.prot.Prot.{Prot}
-use Rattle.vm_types.specs.Prot.{is_within}
-use Rattle.addr_space.specs.Space.{Part, piece_at}
-use Rattle.vm_world.specs.declared.segment.Segment.{Segment}
+use Rattle.seg_vn.specs.vm_types.declared.prot.Prot.{Prot}
+use Rattle.seg_vn.specs.vm_types.Prot.{is_within}
+use Rattle.seg_vn.specs.addr_space.Space.{Part, piece_at}
+use Rattle.seg_vn.specs.vm_world.declared.segment.Segment.{Segment}
 
 -- The most that may be done at a page; none where it isn't mapped.
 abbrev pub most_at : List (Part Segment) → ℕ → Option Prot

@@ -1,11 +1,11 @@
 -- What a range of pages has, counted by the parts that have its pages. A range is told by its first page and its end. Inside: no public clause cites this.
 use Rattle.std.specs.Prelude.{◌≡◌, ℕ, ◌+◌, ◌-◌, ◌<◌, ◌≤◌, ◌&&◌, IsSome, Bool, min, max, nat_le, List, Option, Some, None, slice_index, sum_by, if◌then◌else◌}
-use Rattle.addr_space.specs.Space.{Part, begins}
-use Rattle.vm_types.specs.declared.call.Kind.TheVariants.{Private, Shared}
-use Rattle.vm_types.specs.declared.call.Object.{Object}
-use Rattle.vm_types.specs.declared.call.Object.TheVariants as object
-use Rattle.vm_world.specs.CountsFit.{is_number}
-use Rattle.vm_world.specs.declared.segment.Segment.{Segment}
+use Rattle.seg_vn.specs.addr_space.Space.{Part, begins}
+use Rattle.seg_vn.specs.vm_types.declared.call.Kind.TheVariants.{Private, Shared}
+use Rattle.seg_vn.specs.vm_types.declared.call.Object.{Object}
+use Rattle.seg_vn.specs.vm_types.declared.call.Object.TheVariants as object
+use Rattle.seg_vn.specs.vm_world.CountsFit.{is_number}
+use Rattle.seg_vn.specs.vm_world.declared.segment.Segment.{Segment}
 use Rattle.mmap_calls.specs.declared.counts.RangeCounts.{RangeCounts}
 
 -- No part that begins below a page has a page from another on.

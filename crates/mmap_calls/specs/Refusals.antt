@@ -2,43 +2,43 @@
 -- cites this.
 use Rattle.std.specs.Prelude.{if◌then◌else◌, Bool, Err, List, None, Ok, Option, Result, Some, is_some, length, nat_le, nat_lt, not, slice_index_or, true, ℕ, ◌+◌, ◌-◌, ◌<◌, ◌≤◌, ◌≡◌}
 use Rattle.std.specs.Ordering.{nat_cmp}
-use Rattle.addr_space.specs.Space.{Part, page_total}
-use Rattle.vnode_files.specs.Files.{vnode_at}
-use Rattle.page_store.specs.Notes.{Notes}
-use Rattle.vm_types.specs.declared.call.Call.{Call}
-use Rattle.vm_types.specs.declared.call.Call.TheVariants.{Map}
-use Rattle.vm_types.specs.declared.call.Errno.{Errno}
-use Rattle.vm_types.specs.declared.call.Kind.{Kind}
-use Rattle.vm_types.specs.declared.call.Kind.TheVariants.{Private, Shared}
-use Rattle.vm_types.specs.declared.call.Object.{Object}
-use Rattle.vm_types.specs.declared.call.Place.{Place}
-use Rattle.vm_types.specs.declared.call.Place.TheVariants.{At, Any}
-use Rattle.vm_types.specs.declared.call.Reply.{Reply}
-use Rattle.vm_types.specs.declared.prot.Prot.{Prot}
-use Rattle.vm_types.specs.WellFormed.{IsNumber}
-use Rattle.flat_model.specs.Flat.{Flat}
-use Rattle.flat_model.specs.Mapping.{Request, is_valid, map_result, prot_read, prot_read_write, with_mapping}
-use Rattle.flat_model.specs.Step.{effect}
-use Rattle.flat_model.specs.Words.{page, pages_in}
-use Rattle.vm_world.specs.FlatMemory.{Memory, flat_memory}
-use Rattle.vm_world.specs.SegmentSteps.{ChangesSegments}
-use Rattle.vm_world.specs.Segments.{Spaces}
-use Rattle.vm_world.specs.Words.{memory}
-use Rattle.vm_world.specs.World.{World, world_seen}
-use Rattle.vm_world.specs.ZeroObjects.{KnowsZeros}
-use Rattle.vm_world.specs.declared.world.World as rust
+use Rattle.seg_vn.specs.addr_space.Space.{Part, page_total}
+use Rattle.seg_vn.specs.vnode_files.Files.{vnode_at}
+use Rattle.seg_vn.specs.page_store.Notes.{Notes}
+use Rattle.seg_vn.specs.vm_types.declared.call.Call.{Call}
+use Rattle.seg_vn.specs.vm_types.declared.call.Call.TheVariants.{Map}
+use Rattle.seg_vn.specs.vm_types.declared.call.Errno.{Errno}
+use Rattle.seg_vn.specs.vm_types.declared.call.Kind.{Kind}
+use Rattle.seg_vn.specs.vm_types.declared.call.Kind.TheVariants.{Private, Shared}
+use Rattle.seg_vn.specs.vm_types.declared.call.Object.{Object}
+use Rattle.seg_vn.specs.vm_types.declared.call.Place.{Place}
+use Rattle.seg_vn.specs.vm_types.declared.call.Place.TheVariants.{At, Any}
+use Rattle.seg_vn.specs.vm_types.declared.call.Reply.{Reply}
+use Rattle.seg_vn.specs.vm_types.declared.prot.Prot.{Prot}
+use Rattle.seg_vn.specs.vm_types.WellFormed.{IsNumber}
+use Rattle.seg_vn.specs.flat_model.Flat.{Flat}
+use Rattle.seg_vn.specs.flat_model.Mapping.{Request, is_valid, map_result, prot_read, prot_read_write, with_mapping}
+use Rattle.seg_vn.specs.flat_model.Step.{effect}
+use Rattle.seg_vn.specs.flat_model.Words.{page, pages_in}
+use Rattle.seg_vn.specs.vm_world.FlatMemory.{Memory, flat_memory}
+use Rattle.seg_vn.specs.vm_world.SegmentSteps.{ChangesSegments}
+use Rattle.seg_vn.specs.vm_world.Segments.{Spaces}
+use Rattle.seg_vn.specs.vm_world.Words.{memory}
+use Rattle.seg_vn.specs.vm_world.World.{World, world_seen}
+use Rattle.seg_vn.specs.vm_world.ZeroObjects.{KnowsZeros}
+use Rattle.seg_vn.specs.vm_world.declared.world.World as rust
 use Rattle.seg_vn.specs.Clears.{SpaceFits}
-use Rattle.vm_world.specs.declared.segment.Segment.{Segment}
+use Rattle.seg_vn.specs.vm_world.declared.segment.Segment.{Segment}
 use Rattle.seg_vn.specs.Serves.{IsPlainReply}
 use Rattle.mmap_calls.specs.declared.refusals.MapRequest.{MapRequest}
 use Rattle.mmap_calls.specs.declared.refusals.NewMapping.{NewMapping}
-use Rattle.vm_types.specs.Prot.{is_within}
+use Rattle.seg_vn.specs.vm_types.Prot.{is_within}
 use Rattle.mmap_calls.specs.GivenUp.{given_up}
 use Rattle.mmap_calls.specs.RangeCounts.{mapped_pages, slots_of_range}
 use Rattle.std.specs.FinMap as finite
 use Rattle.std.specs.FinSet as set
-use Rattle.vm_types.specs.declared.call.Errno.TheVariants as errno
-use Rattle.vm_types.specs.declared.call.Object.TheVariants as object
+use Rattle.seg_vn.specs.vm_types.declared.call.Errno.TheVariants as errno
+use Rattle.seg_vn.specs.vm_types.declared.call.Object.TheVariants as object
 
 -- What such a Map asks for, and its call.
 abbrev pub map_request : MapRequest → Request

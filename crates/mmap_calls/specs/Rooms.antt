@@ -1,15 +1,15 @@
 -- Room for a piece that goes across a page, and the anon maps of a new one. Inside: no public clause cites this.
 use Rattle.std.specs.Prelude.{◌≡◌, ◌≤◌, ◌<◌, ◌+◌, ◌-◌, ◌^◌, ℕ, [], List, Option, Some, None, IsSome, slice_set, slice_index_or}
-use Rattle.vm_types.specs.declared.call.Kind.{Kind}
-use Rattle.vm_types.specs.declared.call.Kind.TheVariants.{Shared, Private}
-use Rattle.vm_types.specs.declared.call.Object.{Object}
-use Rattle.vm_types.specs.declared.call.Object.TheVariants as object
-use Rattle.addr_space.specs.Space.{Part, piece_at}
-use Rattle.anon_map.specs.Maps.{Map, IsUnused, holders_of}
-use Rattle.vm_world.specs.MapSteps.{maps_made}
-use Rattle.vm_world.specs.Segments.{Spot}
-use Rattle.vm_world.specs.ZeroObjects.{free_number}
-use Rattle.vm_world.specs.declared.segment.Segment.{Segment}
+use Rattle.seg_vn.specs.vm_types.declared.call.Kind.{Kind}
+use Rattle.seg_vn.specs.vm_types.declared.call.Kind.TheVariants.{Shared, Private}
+use Rattle.seg_vn.specs.vm_types.declared.call.Object.{Object}
+use Rattle.seg_vn.specs.vm_types.declared.call.Object.TheVariants as object
+use Rattle.seg_vn.specs.addr_space.Space.{Part, piece_at}
+use Rattle.seg_vn.specs.anon_map.Maps.{Map, IsUnused, holders_of}
+use Rattle.seg_vn.specs.vm_world.MapSteps.{maps_made}
+use Rattle.seg_vn.specs.vm_world.Segments.{Spot}
+use Rattle.seg_vn.specs.vm_world.ZeroObjects.{free_number}
+use Rattle.seg_vn.specs.vm_world.declared.segment.Segment.{Segment}
 use Rattle.mmap_calls.specs.declared.maps.Anons.{Anons}
 
 -- There is room for the later places of the part that has the page, if it is private, from the page on; and so many holders more of the map of the zero

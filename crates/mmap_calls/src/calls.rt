@@ -1,10 +1,10 @@
 //! What calls that change mappings are answered.
 ghost use Rattle.std.specs.Prelude.{◌≡◌, ◌≤◌, ℕ, IfOk, OnErr, IsSome, List, Option};
 ghost use Rattle.std.specs.FinMap as finite;
-ghost use Rattle.anon_slots.specs.Slots.{count_at};
-ghost use Rattle.vm_types.specs.WellFormed.{IsPlace, IsWellFormed};
-ghost use Rattle.vm_world.specs.Words.{Fits, SameFilesAndTails, memory};
-ghost use Rattle.vm_world.specs.ZeroObjects.{AreSameZeros, KnowsZeros};
+ghost use Rattle.seg_vn.specs.anon_slots.Slots.{count_at};
+ghost use Rattle.seg_vn.specs.vm_types.WellFormed.{IsPlace, IsWellFormed};
+ghost use Rattle.seg_vn.specs.vm_world.Words.{Fits, SameFilesAndTails, memory};
+ghost use Rattle.seg_vn.specs.vm_world.ZeroObjects.{AreSameZeros, KnowsZeros};
 ghost use Rattle.seg_vn.specs.Clears.{MayBeAlive};
 ghost use Rattle.seg_vn.specs.Serves.{Serves};
 ghost use Rattle.mmap_calls.specs.Answers.{IsAnswered};
@@ -16,12 +16,8 @@ use crate::maps::map;
 use crate::protects::protect;
 use crate::refusals::MapRequest;
 use crate::unmaps::unmap;
-use addr_space::Ranges;
-use block_device::Disk;
-use seg_vn::{Attempt, Spaces, VnSeg};
+use seg_vn::{Attempt, Call, Disk, Place, Ranges, Reply, Spaces, VnSeg, World};
 use std::alloc::AllocError;
-use vm_types::{Call, Place, Reply};
-use vm_world::World;
 
 // The reply to a Map at this place.
 fn map_placed<D: Disk>(

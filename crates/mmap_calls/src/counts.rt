@@ -1,16 +1,12 @@
 //! What a range of pages has, counted by its pieces.
 ghost use Rattle.std.specs.Prelude.{◌≡◌, ◌+◌, ◌<◌, ◌≤◌, ◌^◌, ℕ, Some, IfOk, MatchOption, length, slice_index, if◌then◌else◌};
-ghost use Rattle.addr_space.specs.Space.{part, begins, FindsLast};
-ghost use Rattle.vm_world.specs.CountsFit.{is_number};
+ghost use Rattle.seg_vn.specs.addr_space.Space.{part, begins, FindsLast};
+ghost use Rattle.seg_vn.specs.vm_world.CountsFit.{is_number};
 ghost use Rattle.seg_vn.specs.Clears.{MayBeSpace};
 ghost use Rattle.mmap_calls.specs.RangeCounts.{CountsRange, IsFewCounted, IsOwnPrivate, NoneBelow, count_within, pages_within, slots_within, zero_in};
 
-use addr_space::Ranges;
-use block_device::Disk;
-use seg_vn::VnSeg;
+use seg_vn::{Disk, Object, Ranges, VnSeg, World};
 use std::alloc::AllocError;
-use vm_types::Object;
-use vm_world::World;
 
 /// What a range has: the pages that are mapped, the slots that these reserve, and for each zero object, by its number, how many
 /// pieces that lie wholly in the range show it.

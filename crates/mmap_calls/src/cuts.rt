@@ -1,18 +1,15 @@
 //! Pieces that go across an end of a range are cut there.
 ghost use Rattle.std.specs.Prelude.{◌≡◌, ◌≤◌, ◌<◌, ◌+◌, ◌^◌, ℕ, List, Option, Some, None, IfOk, OnErr, length, option_map, slice_index_or, vec_capacity};
-ghost use Rattle.addr_space.specs.Space.{piece_at};
-ghost use Rattle.anon_map.specs.Maps.{IsMapThere, free_numbers, holders_of, places_of};
-ghost use Rattle.vm_world.specs.Words.{OnlyMaps};
+ghost use Rattle.seg_vn.specs.addr_space.Space.{piece_at};
+ghost use Rattle.seg_vn.specs.anon_map.Maps.{IsMapThere, free_numbers, holders_of, places_of};
+ghost use Rattle.seg_vn.specs.vm_world.Words.{OnlyMaps};
 ghost use Rattle.seg_vn.specs.Clears.{MayBeAlive, MayBeSpace, SpaceBecomes, StartsAt};
 ghost use Rattle.mmap_calls.specs.Looks.{kind_and_object};
 ghost use Rattle.mmap_calls.specs.Protections.{most_at};
 ghost use Rattle.mmap_calls.specs.Rooms.{HasRoomAt};
 
-use addr_space::Ranges;
-use block_device::Disk;
-use seg_vn::VnSeg;
+use seg_vn::{Disk, Ranges, VnSeg, World};
 use std::alloc::AllocError;
-use vm_world::World;
 
 /// The most holders of a map that may be there before a Map, which adds some: one for each end of its range, and one for its
 /// own piece.

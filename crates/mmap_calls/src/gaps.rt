@@ -1,20 +1,16 @@
 //! Map at the lowest gap.
 ghost use Rattle.std.specs.Prelude.{◌≡◌, ◌≤◌, ℕ, IfOk, OnErr};
-ghost use Rattle.anon_slots.specs.Slots.{count_at};
-ghost use Rattle.vm_world.specs.Words.{SameFilesAndTails};
-ghost use Rattle.vm_world.specs.ZeroObjects.{AreSameZeros};
+ghost use Rattle.seg_vn.specs.anon_slots.Slots.{count_at};
+ghost use Rattle.seg_vn.specs.vm_world.Words.{SameFilesAndTails};
+ghost use Rattle.seg_vn.specs.vm_world.ZeroObjects.{AreSameZeros};
 ghost use Rattle.seg_vn.specs.Clears.{MayBeAlive};
 ghost use Rattle.mmap_calls.specs.Answers.{IsAnswered};
 ghost use Rattle.mmap_calls.specs.Refusals.{IsMapRequest, map_any_call};
 
 use crate::maps::map;
 use crate::refusals::{MapRequest, is_valid_anywhere, refusal_without_gap};
-use addr_space::Ranges;
-use block_device::Disk;
-use seg_vn::VnSeg;
+use seg_vn::{Disk, Errno, PAGE_SIZE, Ranges, Reply, VnSeg, World, pages_in};
 use std::alloc::AllocError;
-use vm_types::{Errno, PAGE_SIZE, Reply, pages_in};
-use vm_world::World;
 
 /// The reply to a Map at the lowest gap that its pages fit, which is done or refused. In a gap it replaces nothing, so it is answered
 /// as a Map at the gap's address is. The only error is want of memory, or of numbers. Time: the number of pieces, and what that Map

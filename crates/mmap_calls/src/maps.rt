@@ -1,14 +1,14 @@
 //! Map.
 ghost use Rattle.std.specs.Prelude.{◌≡◌, ◌<◌, ◌≤◌, ◌+◌, ◌-◌, ◌^◌, ◌++◌, ℕ, length, replicate, IfOk, OnErr, IsSome, Some, None, vec_capacity, List, Option};
-ghost use Rattle.anon_map.specs.Maps.{IsMapThere, IsUnused, free_numbers, holders_of};
-ghost use Rattle.anon_slots.specs.Slots.{count_at};
-ghost use Rattle.flat_model.specs.Mapping.{with_mapping};
-ghost use Rattle.flat_model.specs.Words.{page};
-ghost use Rattle.vm_world.specs.MapSteps.{maps_made, maps_held};
-ghost use Rattle.vm_world.specs.Serving.{ModifiesNone};
-ghost use Rattle.vm_world.specs.Words.{SameFilesAndTails};
-ghost use Rattle.vm_world.specs.World.{world_seen};
-ghost use Rattle.vm_world.specs.ZeroObjects.{AreSameZeros, free_number};
+ghost use Rattle.seg_vn.specs.anon_map.Maps.{IsMapThere, IsUnused, free_numbers, holders_of};
+ghost use Rattle.seg_vn.specs.anon_slots.Slots.{count_at};
+ghost use Rattle.seg_vn.specs.flat_model.Mapping.{with_mapping};
+ghost use Rattle.seg_vn.specs.flat_model.Words.{page};
+ghost use Rattle.seg_vn.specs.vm_world.MapSteps.{maps_made, maps_held};
+ghost use Rattle.seg_vn.specs.vm_world.Serving.{ModifiesNone};
+ghost use Rattle.seg_vn.specs.vm_world.Words.{SameFilesAndTails};
+ghost use Rattle.seg_vn.specs.vm_world.World.{world_seen};
+ghost use Rattle.seg_vn.specs.vm_world.ZeroObjects.{AreSameZeros, free_number};
 ghost use Rattle.seg_vn.specs.Clears.{MayBeAlive, MayBeSpace, SpaceBecomes};
 ghost use Rattle.mmap_calls.specs.Answers.{IsAnswered};
 ghost use Rattle.mmap_calls.specs.Refusals.{IsMapRequest, IsMappingOf, IsRefused, map_call, map_request, slots_for_map};
@@ -16,12 +16,8 @@ ghost use Rattle.mmap_calls.specs.Rooms.{HasRoomAt, AreMade};
 
 use crate::cuts::{check_holders, cut, room_at};
 use crate::refusals::{MapRequest, NewMapping, new_mapping, refusal, slots_for_pages};
-use addr_space::Ranges;
-use block_device::Disk;
-use seg_vn::{VnSeg, clear};
+use seg_vn::{Disk, Kind, Object, PAGE_SIZE, Ranges, Reply, VnSeg, World, clear, page_of};
 use std::alloc::AllocError;
-use vm_types::{Kind, Object, PAGE_SIZE, Reply, page_of};
-use vm_world::World;
 
 /// The room that a mapping needs: for the later places of the pieces that go across the ends of its range, and for the places
 /// of its own new map.
@@ -80,7 +76,7 @@ fn take_rooms<D: Disk>(
 }
 
 // One holder more of a map, if there is one.
-#[tactic(auto, using(anon_map::proofs::MapLaws::with_holders_free))]
+#[tactic(auto, using(seg_vn::proofs::anon_map::MapLaws::with_holders_free))]
 fn hold<D: Disk>(world: &mut World<D>, map: Option<u32>)
     requires there { (number : ℕ) → map ≡ Some number → IsMapThere world.old.maps number
         × (holders_of world.old.maps number < 2 ^ 32 - 1) }

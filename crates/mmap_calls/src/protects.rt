@@ -1,22 +1,18 @@
 //! Protect.
 ghost use Rattle.std.specs.Prelude.{◌≡◌, ◌↔◌, ◌≤◌, ◌-◌, ℕ, IfOk, OnErr, IsTrue};
-ghost use Rattle.anon_slots.specs.Slots.{count_at};
-ghost use Rattle.vm_types.specs.declared.call.Call.TheVariants as calls;
-ghost use Rattle.vm_world.specs.ProtectSteps.{with_range_prot};
-ghost use Rattle.vm_world.specs.Serving.{ModifiesNone};
-ghost use Rattle.vm_world.specs.Words.{OnlyStoreAndHat, SameFilesAndTails};
-ghost use Rattle.vm_world.specs.World.{world_seen};
+ghost use Rattle.seg_vn.specs.anon_slots.Slots.{count_at};
+ghost use Rattle.seg_vn.specs.vm_types.declared.call.Call.TheVariants as calls;
+ghost use Rattle.seg_vn.specs.vm_world.ProtectSteps.{with_range_prot};
+ghost use Rattle.seg_vn.specs.vm_world.Serving.{ModifiesNone};
+ghost use Rattle.seg_vn.specs.vm_world.Words.{OnlyStoreAndHat, SameFilesAndTails};
+ghost use Rattle.seg_vn.specs.vm_world.World.{world_seen};
 ghost use Rattle.seg_vn.specs.Clears.{MayBeAlive, SpaceBecomes, StartsAt};
 ghost use Rattle.mmap_calls.specs.Answers.{IsAnswered};
 ghost use Rattle.mmap_calls.specs.Protections.{AreMapped, MayHave};
 
 use crate::cuts::cut_ends;
-use addr_space::Ranges;
-use block_device::Disk;
-use seg_vn::VnSeg;
+use seg_vn::{Disk, Errno, Prot, Ranges, Reply, VnSeg, World, is_range, page_of, pages_in};
 use std::alloc::AllocError;
-use vm_types::{Errno, Prot, Reply, is_range, page_of, pages_in};
-use vm_world::World;
 
 // Whether each page of a range is mapped. Time: the logarithm of the number of pieces for each piece of the range.
 fn are_mapped(space: &Ranges<VnSeg>, first: u32, end: u32) -> bool

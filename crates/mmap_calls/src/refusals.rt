@@ -1,23 +1,21 @@
 //! When a Map is refused.
 ghost use Rattle.std.specs.Prelude.{◌≡◌, ◌+◌, ◌≤◌, ◌^◌, ℕ, List, Option, None, Some, length, slice_index, slice_index_or, IsTrue, IfErr, IfOk};
-ghost use Rattle.addr_space.specs.Space.{FindsGap, Part};
-ghost use Rattle.vm_types.specs.Pages.{pages_in};
-ghost use Rattle.flat_model.specs.Mapping.{is_valid, prot_read_write};
-ghost use Rattle.vm_world.specs.World.{world_seen};
+ghost use Rattle.seg_vn.specs.addr_space.Space.{FindsGap, Part};
+ghost use Rattle.seg_vn.specs.vm_types.Pages.{pages_in};
+ghost use Rattle.seg_vn.specs.flat_model.Mapping.{is_valid, prot_read_write};
+ghost use Rattle.seg_vn.specs.vm_world.World.{world_seen};
 ghost use Rattle.seg_vn.specs.Clears.{MayBeSpace};
-ghost use Rattle.vm_world.specs.declared.segment.Segment.{Segment};
+ghost use Rattle.seg_vn.specs.vm_world.declared.segment.Segment.{Segment};
 ghost use Rattle.mmap_calls.specs.GivenUp.{given_up, pages_given};
 ghost use Rattle.mmap_calls.specs.RangeCounts.{shown_within};
 ghost use Rattle.mmap_calls.specs.Refusals.{IsGapless, IsMapRequest, IsMappingOf, IsRefused, any_request, is_object_there, map_of_object, map_request, most_allowed, slots_for_pages};
 
 use crate::counts::count_range;
-use addr_space::Ranges;
 use bitflags::Flags;
-use block_device::Disk;
-use seg_vn::VnSeg;
+use seg_vn::{
+    Disk, Errno, Kind, Object, PAGE_SIZE, Prot, Ranges, VnSeg, World, is_range, page_of, pages_in,
+};
 use std::alloc::AllocError;
-use vm_types::{Errno, Kind, Object, PAGE_SIZE, Prot, is_range, page_of, pages_in};
-use vm_world::World;
 
 /// The most mapped pages of a process.
 const MOST_PAGES: u32 = 65_536;

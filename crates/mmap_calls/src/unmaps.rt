@@ -1,21 +1,17 @@
 //! Unmap.
 ghost use Rattle.std.specs.Prelude.{◌≡◌, ◌<◌, ◌≤◌, ◌+◌, ◌^◌, ℕ, IfOk, OnErr};
-ghost use Rattle.anon_slots.specs.Slots.{count_at};
-ghost use Rattle.flat_model.specs.Mapping.{without_pages};
-ghost use Rattle.vm_types.specs.declared.call.Call.TheVariants as calls;
-ghost use Rattle.vm_world.specs.Serving.{ModifiesNone};
-ghost use Rattle.vm_world.specs.Words.{SameFilesAndTails};
-ghost use Rattle.vm_world.specs.World.{world_seen};
+ghost use Rattle.seg_vn.specs.anon_slots.Slots.{count_at};
+ghost use Rattle.seg_vn.specs.flat_model.Mapping.{without_pages};
+ghost use Rattle.seg_vn.specs.vm_types.declared.call.Call.TheVariants as calls;
+ghost use Rattle.seg_vn.specs.vm_world.Serving.{ModifiesNone};
+ghost use Rattle.seg_vn.specs.vm_world.Words.{SameFilesAndTails};
+ghost use Rattle.seg_vn.specs.vm_world.World.{world_seen};
 ghost use Rattle.seg_vn.specs.Clears.{MayBeAlive, SpaceBecomes};
 ghost use Rattle.mmap_calls.specs.Answers.{IsAnswered};
 
 use crate::cuts::cut_ends;
-use addr_space::Ranges;
-use block_device::Disk;
-use seg_vn::{VnSeg, clear};
+use seg_vn::{Disk, Errno, Ranges, Reply, VnSeg, World, clear, is_range, page_of, pages_in};
 use std::alloc::AllocError;
-use vm_types::{Errno, Reply, is_range, page_of, pages_in};
-use vm_world::World;
 
 // Takes all that is mapped in a range out of a space; pieces that go across an end of it are cut there. The only error is want
 // of memory, or of numbers; then nothing changed.

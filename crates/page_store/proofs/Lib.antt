@@ -20,3 +20,5 @@ pub mod StillLemmas
 pub mod TableLemmas
 pub mod TakeLemmas
 pub mod TransferLemmas
+pub use Rattle.page_hash.proofs as page_hash
+pub use Rattle.page_lists.proofs as page_lists

@@ -15,6 +15,7 @@ mod setup;
 mod store;
 mod transfers;
 
+pub use block_device::{Disk, DiskFault, write_block};
 pub use flight::Flight;
 pub use laws::{away_law, table_law};
 pub use page_clock::Pick;

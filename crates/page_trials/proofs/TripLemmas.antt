@@ -4,10 +4,10 @@ use Rattle.std.specs.Prelude.{slice_index}
 use Rattle.std.proofs.Math.Path.{fun_ext}
 use Rattle.std.proofs.lemmas.Bool.{cases_eq, cases_Bool}
 use Rattle.block_device.specs.DiskSeen.{DiskSeen}
-use Rattle.page_hash.specs.Names.{find, name_at, is_name}
-use Rattle.page_hash.specs.declared.PageName.{PageName}
-use Rattle.page_hash.proofs.NameLaws.{is_name-true}
-use Rattle.page_lock.specs.Rows.{row_at}
+use Rattle.page_store.specs.page_hash.Names.{find, name_at, is_name}
+use Rattle.page_store.specs.page_hash.declared.PageName.{PageName}
+use Rattle.page_store.proofs.page_hash.NameLaws.{is_name-true}
+use Rattle.page_store.specs.page_lock.Rows.{row_at}
 use Rattle.page_store.specs.Bays.{BaySeen, missing, home, out, bay_at, IsStill}
 use Rattle.page_store.specs.Bytes.{clip}
 use Rattle.page_store.specs.StoreFits.{StoreFits}

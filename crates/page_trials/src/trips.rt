@@ -2,8 +2,8 @@
 ghost use Rattle.std.specs.Prelude.{◌≡◌, ◌⊎◌, ℕ, ◌<◌, ◌≤◌, Some, None, Ok, false, List, IfOk, IfErr, IfSome, OnOk, IsTrue, is_err, slice_index};
 ghost use Rattle.block_device.specs.Counts.{HasRisen};
 ghost use Rattle.block_device.specs.DiskSeen.{DiskSeen};
-ghost use Rattle.page_hash.specs.Names.{is_name};
-ghost use Rattle.page_lock.specs.Rows.{row_at};
+ghost use Rattle.page_store.specs.page_hash.Names.{is_name};
+ghost use Rattle.page_store.specs.page_lock.Rows.{row_at};
 ghost use Rattle.page_store.specs.Bays.{bay_at, home};
 ghost use Rattle.page_store.specs.StoreFits.{StoreFits};
 ghost use Rattle.page_store.specs.Flight.{FlightSeen};

@@ -4,30 +4,30 @@ use Rattle.std.specs.Prelude.{All, nat_le, nat_lt, ◌||◌}
 use Rattle.std.specs.FinMap as finite
 use Rattle.std.proofs.lemmas.Bool.{cases_lt, and_from, le-leb, lt-ltb}
 use Rattle.std.proofs.lemmas.List.Elements.{All-nil, All-cons}
-use Rattle.addr_space.specs.Space.{Part, piece_at, IsInOrder}
-use Rattle.addr_space.proofs.PartLemmas.{none-below, at-here, has-in}
-use Rattle.addr_space.proofs.PageLaws.{shows}
-use Rattle.flat_model.specs.Mapping.{without_pages}
-use Rattle.flat_model.specs.Processes.{without_process}
-use Rattle.flat_model.specs.Space.{is_in_range}
-use Rattle.flat_model.specs.Step.{is_bit_set}
-use Rattle.flat_model.proofs.Ranges.{get-insert_here}
-use Rattle.vm_types.specs.declared.call.Call.{Call}
-use Rattle.vm_types.specs.declared.call.Call.TheVariants.{Load, Store, Map, Unmap, Protect, Sync, Read, Write, Truncate, Fork, Exit}
-use Rattle.vm_types.specs.declared.call.Reply.TheVariants.{Done}
-use Rattle.vm_world.specs.FlatMemory.{Memory, flat_memory}
-use Rattle.vm_world.specs.MemoryFits.{MemoryFits}
-use Rattle.vm_world.specs.Segments.{Spot, Spaces}
-use Rattle.vm_world.specs.Serving.{ModifiesNone, TakesFrames, ServesDone}
-use Rattle.vm_world.specs.SegmentSteps.{ChangesSegments}
-use Rattle.vm_world.specs.SpaceSteps.{without_space}
-use Rattle.vm_world.specs.World.{World}
-use Rattle.vm_world.specs.declared.segment.Segment.{Segment}
-use Rattle.vm_world.proofs.KnownZeros.{known-left}
-use Rattle.vm_world.proofs.SegmentSteps.{segment_rule}
-use Rattle.vm_world.proofs.Spots.{spot-in}
-use Rattle.vm_world.proofs.Unnamed.{process-after-pages}
-use Rattle.seg_ops.proofs.Composed.{keeps-same}
+use Rattle.seg_vn.specs.addr_space.Space.{Part, piece_at, IsInOrder}
+use Rattle.seg_vn.proofs.addr_space.PartLemmas.{none-below, at-here, has-in}
+use Rattle.seg_vn.proofs.addr_space.PageLaws.{shows}
+use Rattle.seg_vn.specs.flat_model.Mapping.{without_pages}
+use Rattle.seg_vn.specs.flat_model.Processes.{without_process}
+use Rattle.seg_vn.specs.flat_model.Space.{is_in_range}
+use Rattle.seg_vn.specs.flat_model.Step.{is_bit_set}
+use Rattle.seg_vn.proofs.flat_model.Ranges.{get-insert_here}
+use Rattle.seg_vn.specs.vm_types.declared.call.Call.{Call}
+use Rattle.seg_vn.specs.vm_types.declared.call.Call.TheVariants.{Load, Store, Map, Unmap, Protect, Sync, Read, Write, Truncate, Fork, Exit}
+use Rattle.seg_vn.specs.vm_types.declared.call.Reply.TheVariants.{Done}
+use Rattle.seg_vn.specs.vm_world.FlatMemory.{Memory, flat_memory}
+use Rattle.seg_vn.specs.vm_world.MemoryFits.{MemoryFits}
+use Rattle.seg_vn.specs.vm_world.Segments.{Spot, Spaces}
+use Rattle.seg_vn.specs.vm_world.Serving.{ModifiesNone, TakesFrames, ServesDone}
+use Rattle.seg_vn.specs.vm_world.SegmentSteps.{ChangesSegments}
+use Rattle.seg_vn.specs.vm_world.SpaceSteps.{without_space}
+use Rattle.seg_vn.specs.vm_world.World.{World}
+use Rattle.seg_vn.specs.vm_world.declared.segment.Segment.{Segment}
+use Rattle.seg_vn.proofs.vm_world.KnownZeros.{known-left}
+use Rattle.seg_vn.proofs.vm_world.SegmentSteps.{segment_rule}
+use Rattle.seg_vn.proofs.vm_world.Spots.{spot-in}
+use Rattle.seg_vn.proofs.vm_world.Unnamed.{process-after-pages}
+use Rattle.seg_vn.proofs.seg_ops.Composed.{keeps-same}
 use Rattle.proc_calls.specs.Ends.{IsServedExit}
 use Rattle.seg_vn.specs.Clears.{ChangesSpace, SpaceFits, StartsAt}
 

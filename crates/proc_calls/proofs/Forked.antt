@@ -6,35 +6,35 @@ use Rattle.std.specs.FinSet as set
 use Rattle.std.specs.Ordering.{nat_cmp}
 use Rattle.std.proofs.lemmas.Bool.{cases_lt, le-leb, lt-leb}
 use Rattle.std.proofs.lemmas.List.Elements.{All-weaker}
-use Rattle.addr_space.specs.Space.{Part, part_at}
-use Rattle.anon_map.specs.Maps.{Map}
-use Rattle.page_store.specs.Notes.{Notes}
-use Rattle.vm_types.specs.declared.call.Call.TheVariants.{Fork}
-use Rattle.vm_types.specs.declared.call.Errno.TheVariants.{NoSwap}
-use Rattle.vm_types.specs.declared.call.Reply.TheVariants.{Refused}
-use Rattle.flat_model.specs.Flat.{Flat, Space, private_cells, reserved}
-use Rattle.flat_model.specs.Mapping.{cells_of}
-use Rattle.flat_model.specs.Processes.{with_child}
-use Rattle.flat_model.specs.Refusals.{Effect, check, done_effect, or_refused}
-use Rattle.flat_model.specs.Step.{effect}
-use Rattle.flat_model.proofs.Ranges.{get-insert_here}
-use Rattle.vm_world.specs.CountsFit.{is_number, slots_for_part}
-use Rattle.vm_world.specs.FlatMemory.{Memory, flat_memory}
-use Rattle.vm_world.specs.ForkSteps.{BearsProcess, with_cells_copied, with_empty_process}
-use Rattle.vm_world.specs.MemoryFits.{MemoryFits}
-use Rattle.vm_world.specs.Pages.{contents_of}
-use Rattle.vm_world.specs.SegmentSteps.{ChangesSegments}
-use Rattle.vm_world.specs.World.{World}
-use Rattle.vm_world.specs.ZeroObjects.{KnowsZeros}
-use Rattle.vm_world.specs.declared.segment.Segment.{Segment}
-use Rattle.vm_world.proofs.ComingProcesses.{process-fits, zeros-now}
-use Rattle.vm_world.proofs.ForkEvents.{fork_rule}
-use Rattle.vm_world.proofs.KeptMaps.{same-holders, same-places, same-there}
-use Rattle.vm_world.proofs.KnownZeros.{known-same}
-use Rattle.vm_world.proofs.MoreNumbers.{past-none}
-use Rattle.vm_world.proofs.Reserves.{private-parts, reserved-memory}
-use Rattle.vm_world.proofs.SegmentCells.{segment_cells}
-use Rattle.vm_world.proofs.SegmentSteps.{segment_rule}
+use Rattle.seg_vn.specs.addr_space.Space.{Part, part_at}
+use Rattle.seg_vn.specs.anon_map.Maps.{Map}
+use Rattle.seg_vn.specs.page_store.Notes.{Notes}
+use Rattle.seg_vn.specs.vm_types.declared.call.Call.TheVariants.{Fork}
+use Rattle.seg_vn.specs.vm_types.declared.call.Errno.TheVariants.{NoSwap}
+use Rattle.seg_vn.specs.vm_types.declared.call.Reply.TheVariants.{Refused}
+use Rattle.seg_vn.specs.flat_model.Flat.{Flat, Space, private_cells, reserved}
+use Rattle.seg_vn.specs.flat_model.Mapping.{cells_of}
+use Rattle.seg_vn.specs.flat_model.Processes.{with_child}
+use Rattle.seg_vn.specs.flat_model.Refusals.{Effect, check, done_effect, or_refused}
+use Rattle.seg_vn.specs.flat_model.Step.{effect}
+use Rattle.seg_vn.proofs.flat_model.Ranges.{get-insert_here}
+use Rattle.seg_vn.specs.vm_world.CountsFit.{is_number, slots_for_part}
+use Rattle.seg_vn.specs.vm_world.FlatMemory.{Memory, flat_memory}
+use Rattle.seg_vn.specs.vm_world.ForkSteps.{BearsProcess, with_cells_copied, with_empty_process}
+use Rattle.seg_vn.specs.vm_world.MemoryFits.{MemoryFits}
+use Rattle.seg_vn.specs.vm_world.Pages.{contents_of}
+use Rattle.seg_vn.specs.vm_world.SegmentSteps.{ChangesSegments}
+use Rattle.seg_vn.specs.vm_world.World.{World}
+use Rattle.seg_vn.specs.vm_world.ZeroObjects.{KnowsZeros}
+use Rattle.seg_vn.specs.vm_world.declared.segment.Segment.{Segment}
+use Rattle.seg_vn.proofs.vm_world.ComingProcesses.{process-fits, zeros-now}
+use Rattle.seg_vn.proofs.vm_world.ForkEvents.{fork_rule}
+use Rattle.seg_vn.proofs.vm_world.KeptMaps.{same-holders, same-places, same-there}
+use Rattle.seg_vn.proofs.vm_world.KnownZeros.{known-same}
+use Rattle.seg_vn.proofs.vm_world.MoreNumbers.{past-none}
+use Rattle.seg_vn.proofs.vm_world.Reserves.{private-parts, reserved-memory}
+use Rattle.seg_vn.proofs.vm_world.SegmentCells.{segment_cells}
+use Rattle.seg_vn.proofs.vm_world.SegmentSteps.{segment_rule}
 use Rattle.seg_vn.specs.Clears.{ChangesSpace}
 use Rattle.proc_calls.specs.Forks.{BearsChild, CountsForked}
 use Rattle.proc_calls.specs.Pieces.{AreFewHolders, HasFewHolders, IsForking}

@@ -5,27 +5,27 @@ use Rattle.std.specs.FinMap as finite
 use Rattle.std_alloc.specs.declared.vec.Vec.{Vec}
 use Rattle.std.specs.Ordering.{nat_cmp}
 use Rattle.std.proofs.lemmas.List.Elements.{All-weaker}
-use Rattle.addr_space.specs.Space.{Part, part, part_at, with_new_part, IsInOrder}
-use Rattle.addr_space.proofs.PartLists.{all-begins, found-begins}
-use Rattle.anon_map.specs.Maps.{Map, IsMapThere, places_of}
-use Rattle.vm_types.specs.declared.call.Kind.{Kind}
-use Rattle.vm_types.specs.declared.call.Kind.TheVariants.{Shared, Private}
-use Rattle.flat_model.specs.Flat.{Flat, Space}
-use Rattle.flat_model.proofs.Ranges.{get-insert_here, get-insert_apart}
-use Rattle.flat_model.proofs.Reserve.{put_back}
-use Rattle.vm_world.specs.CountsFit.{OwnFits, SegmentFits, is_number, slots_for_part}
-use Rattle.vm_world.specs.FlatMemory.{Memory, flat_memory}
-use Rattle.vm_world.specs.ForkSteps.{slots_held, with_cells_copied}
-use Rattle.vm_world.specs.MemoryFits.{MemoryFits}
-use Rattle.vm_world.specs.Segments.{Spaces}
-use Rattle.vm_world.specs.World.{World}
-use Rattle.vm_world.specs.declared.segment.Segment.{Segment}
-use Rattle.vm_world.proofs.ForkEvents.{fork_rule}
-use Rattle.vm_world.proofs.KeptMaps.{own-there}
-use Rattle.vm_world.proofs.Maps.{insert-twice}
-use Rattle.vm_world.proofs.SegmentSteps.{segment_rule}
-use Rattle.vm_world.proofs.SweptFlat.{space-is}
-use Rattle.seg_ops.proofs.Composed.{keeps-same}
+use Rattle.seg_vn.specs.addr_space.Space.{Part, part, part_at, with_new_part, IsInOrder}
+use Rattle.seg_vn.proofs.addr_space.PartLists.{all-begins, found-begins}
+use Rattle.seg_vn.specs.anon_map.Maps.{Map, IsMapThere, places_of}
+use Rattle.seg_vn.specs.vm_types.declared.call.Kind.{Kind}
+use Rattle.seg_vn.specs.vm_types.declared.call.Kind.TheVariants.{Shared, Private}
+use Rattle.seg_vn.specs.flat_model.Flat.{Flat, Space}
+use Rattle.seg_vn.proofs.flat_model.Ranges.{get-insert_here, get-insert_apart}
+use Rattle.seg_vn.proofs.flat_model.Reserve.{put_back}
+use Rattle.seg_vn.specs.vm_world.CountsFit.{OwnFits, SegmentFits, is_number, slots_for_part}
+use Rattle.seg_vn.specs.vm_world.FlatMemory.{Memory, flat_memory}
+use Rattle.seg_vn.specs.vm_world.ForkSteps.{slots_held, with_cells_copied}
+use Rattle.seg_vn.specs.vm_world.MemoryFits.{MemoryFits}
+use Rattle.seg_vn.specs.vm_world.Segments.{Spaces}
+use Rattle.seg_vn.specs.vm_world.World.{World}
+use Rattle.seg_vn.specs.vm_world.declared.segment.Segment.{Segment}
+use Rattle.seg_vn.proofs.vm_world.ForkEvents.{fork_rule}
+use Rattle.seg_vn.proofs.vm_world.KeptMaps.{own-there}
+use Rattle.seg_vn.proofs.vm_world.Maps.{insert-twice}
+use Rattle.seg_vn.proofs.vm_world.SegmentSteps.{segment_rule}
+use Rattle.seg_vn.proofs.vm_world.SweptFlat.{space-is}
+use Rattle.seg_vn.proofs.seg_ops.Composed.{keeps-same}
 use Rattle.seg_vn.specs.Clears.{ChangesSpace, SpaceFits}
 use Rattle.seg_vn.specs.Copied.{KeepsPlaces, MayComeAt}
 use Rattle.seg_vn.specs.Cuts.{IsPartAt}

@@ -4,12 +4,12 @@ use Rattle.std.specs.Prelude.{nat_le, sum_by, option_map, find, All, IsSome, Mat
 use Rattle.std.proofs.lemmas.Bool.{cases_lt, lt-leb, le-leb, lt-ltb, le-ltb}
 use Rattle.std.proofs.lemmas.List.Elements.{All-head, All-tail}
 use Rattle.std.proofs.lemmas.List.Sums.{sum_by-cons}
-use Rattle.addr_space.specs.Space.{Part, part_at, begins, next_first, page_total, IsInOrder}
-use Rattle.addr_space.proofs.PartLemmas.{at-here, at-next, has-before, has-in, has-past, none-below, found-in}
-use Rattle.addr_space.proofs.PartLists.{begins-found}
-use Rattle.addr_space.proofs.Totals.{total-within}
-use Rattle.vm_world.specs.CountsFit.{slots_for_part}
-use Rattle.vm_world.specs.declared.segment.Segment.{Segment}
+use Rattle.seg_vn.specs.addr_space.Space.{Part, part_at, begins, next_first, page_total, IsInOrder}
+use Rattle.seg_vn.proofs.addr_space.PartLemmas.{at-here, at-next, has-before, has-in, has-past, none-below, found-in}
+use Rattle.seg_vn.proofs.addr_space.PartLists.{begins-found}
+use Rattle.seg_vn.proofs.addr_space.Totals.{total-within}
+use Rattle.seg_vn.specs.vm_world.CountsFit.{slots_for_part}
+use Rattle.seg_vn.specs.vm_world.declared.segment.Segment.{Segment}
 use Rattle.proc_calls.specs.Pieces.{parts_from, IsFirstFrom, OwnsPages}
 
 pub match-none : {A : Type 0} (o : Option A) (P : Type 0) (Q : A → Type 0) → o ≡ None → P → MatchOption o P Q

@@ -2,15 +2,15 @@
 use Rattle.std.specs.Prelude.{◌≡◌, ◌+◌, ℕ, List, length, slice_index}
 use Rattle.std.specs.FinSet as set
 use Rattle.std.specs.Ordering.{nat_cmp}
-use Rattle.page_store.specs.Notes.{Notes}
-use Rattle.vm_types.specs.declared.call.Call.TheVariants.{Fork}
-use Rattle.vm_types.specs.declared.call.Entry.{Entry}
-use Rattle.vm_types.specs.declared.call.Errno.TheVariants.{NoSwap}
-use Rattle.vm_types.specs.declared.call.Reply.{Reply}
-use Rattle.vm_types.specs.declared.call.Reply.TheVariants.{Done, Refused}
-use Rattle.flat_model.specs.Step.{IsDue, after_act, effect}
-use Rattle.vm_world.specs.FlatMemory.{Memory, flat_memory}
-use Rattle.vm_world.specs.ForkSteps.{BearsProcess, times_owned}
+use Rattle.seg_vn.specs.page_store.Notes.{Notes}
+use Rattle.seg_vn.specs.vm_types.declared.call.Call.TheVariants.{Fork}
+use Rattle.seg_vn.specs.vm_types.declared.call.Entry.{Entry}
+use Rattle.seg_vn.specs.vm_types.declared.call.Errno.TheVariants.{NoSwap}
+use Rattle.seg_vn.specs.vm_types.declared.call.Reply.{Reply}
+use Rattle.seg_vn.specs.vm_types.declared.call.Reply.TheVariants.{Done, Refused}
+use Rattle.seg_vn.specs.flat_model.Step.{IsDue, after_act, effect}
+use Rattle.seg_vn.specs.vm_world.FlatMemory.{Memory, flat_memory}
+use Rattle.seg_vn.specs.vm_world.ForkSteps.{BearsProcess, times_owned}
 
 -- The entry of a Fork with this reply, which takes these tails.
 abbrev pub fork_entry : ℕ → ℕ → Reply → ℕ → Entry

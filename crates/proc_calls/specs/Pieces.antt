@@ -2,17 +2,17 @@
 use Rattle.std.specs.Prelude.{◌≡◌, ◌≢◌, ◌<◌, ◌≤◌, ◌+◌, ◌^◌, ℕ, nat_lt, map, vec_capacity, if◌then◌else◌, [], ◌∷◌, All, List, Option, Some, None, IsSome, is_some}
 use Rattle.std.specs.FinMap as finite
 use Rattle.std_alloc.specs.declared.vec.Vec.{Vec}
-use Rattle.addr_space.specs.Space.{Part, part_at}
-use Rattle.anon_map.specs.Maps.{Map, IsMapThere, holders_of}
-use Rattle.vm_world.specs.CountsFit.{slots_for_part}
-use Rattle.vm_world.specs.ForkSteps.{with_cells_copied}
-use Rattle.vm_world.specs.MemoryFits.{MemoryFits}
-use Rattle.vm_world.specs.Segments.{Spaces}
-use Rattle.vm_world.specs.World.{World, world_seen}
-use Rattle.vm_world.specs.ZeroObjects.{KnowsZeros}
-use Rattle.vm_world.specs.Words.{memory}
-use Rattle.vm_world.specs.declared.segment.Segment.{Segment}
-use Rattle.vm_world.specs.declared.world.World as rust
+use Rattle.seg_vn.specs.addr_space.Space.{Part, part_at}
+use Rattle.seg_vn.specs.anon_map.Maps.{Map, IsMapThere, holders_of}
+use Rattle.seg_vn.specs.vm_world.CountsFit.{slots_for_part}
+use Rattle.seg_vn.specs.vm_world.ForkSteps.{with_cells_copied}
+use Rattle.seg_vn.specs.vm_world.MemoryFits.{MemoryFits}
+use Rattle.seg_vn.specs.vm_world.Segments.{Spaces}
+use Rattle.seg_vn.specs.vm_world.World.{World, world_seen}
+use Rattle.seg_vn.specs.vm_world.ZeroObjects.{KnowsZeros}
+use Rattle.seg_vn.specs.vm_world.Words.{memory}
+use Rattle.seg_vn.specs.vm_world.declared.segment.Segment.{Segment}
+use Rattle.seg_vn.specs.vm_world.declared.world.World as rust
 use Rattle.seg_vn.specs.Clears.{ChangesSpace}
 use Rattle.proc_calls.specs.Forks.{CountsForked}
 

@@ -1,21 +1,18 @@
 //! The end of a process.
 ghost use Rattle.std.specs.Prelude.{◌≡◌, ◌≤◌, ℕ, IsSome, IfOk, IsOk, List, Option};
 ghost use Rattle.std.specs.FinMap as finite;
-ghost use Rattle.flat_model.specs.Processes.{without_process};
-ghost use Rattle.vm_world.specs.Serving.{ModifiesNone};
-ghost use Rattle.vm_world.specs.Words.{memory, Fits, SameFilesAndTails};
-ghost use Rattle.vm_world.specs.World.{world_seen};
-ghost use Rattle.vm_world.specs.ZeroObjects.{KnowsZeros};
-ghost use Rattle.anon_slots.specs.Slots.{count_at};
+ghost use Rattle.seg_vn.specs.flat_model.Processes.{without_process};
+ghost use Rattle.seg_vn.specs.vm_world.Serving.{ModifiesNone};
+ghost use Rattle.seg_vn.specs.vm_world.Words.{memory, Fits, SameFilesAndTails};
+ghost use Rattle.seg_vn.specs.vm_world.World.{world_seen};
+ghost use Rattle.seg_vn.specs.vm_world.ZeroObjects.{KnowsZeros};
+ghost use Rattle.seg_vn.specs.anon_slots.Slots.{count_at};
 ghost use Rattle.seg_vn.specs.Clears.{ChangesSpace};
 ghost use Rattle.seg_vn.specs.Serves.{Serves};
 ghost use Rattle.proc_calls.specs.Ends.{IsServedExit, IsExitDone};
 
-use block_device::Disk;
-use seg_vn::{Attempt, Spaces, clear};
+use seg_vn::{Attempt, Call, Disk, Reply, Spaces, World, clear};
 use std::alloc::AllocError;
-use vm_types::{Call, Reply};
-use vm_world::World;
 
 /// The page behind the last one of a space.
 const END: u32 = 0x80000;

@@ -2,24 +2,20 @@
 ghost use Rattle.std.specs.Prelude.{◌≡◌, ◌↔◌, ◌≤◌, ◌<◌, ◌+◌, ◌++◌, ◌^◌, ℕ, [], ◌∷◌, length, replicate, sum_by, IsTrue, Some, None, IsSome, IfOk, OnErr, List, Option};
 ghost use Rattle.std.specs.FinMap as finite;
 ghost use Rattle.std.specs.VecDeque.{deque_len};
-ghost use Rattle.anon_map.specs.Maps.{IsMapThere, free_numbers, holders_of};
-ghost use Rattle.vm_world.specs.CountsFit.{slots_for_part};
-ghost use Rattle.vm_world.specs.Serving.{ModifiesNone};
-ghost use Rattle.vm_world.specs.Words.{Fits, IsFit, memory};
-ghost use Rattle.vm_world.specs.World.{world_seen};
-ghost use Rattle.vm_world.specs.ZeroObjects.{KnowsZeros};
+ghost use Rattle.seg_vn.specs.anon_map.Maps.{IsMapThere, free_numbers, holders_of};
+ghost use Rattle.seg_vn.specs.vm_world.CountsFit.{slots_for_part};
+ghost use Rattle.seg_vn.specs.vm_world.Serving.{ModifiesNone};
+ghost use Rattle.seg_vn.specs.vm_world.Words.{Fits, IsFit, memory};
+ghost use Rattle.seg_vn.specs.vm_world.World.{world_seen};
+ghost use Rattle.seg_vn.specs.vm_world.ZeroObjects.{KnowsZeros};
 ghost use Rattle.seg_vn.specs.Clears.{MayBeSpace};
 ghost use Rattle.proc_calls.specs.Forks.{IsCountedFork, IsForked};
 ghost use Rattle.proc_calls.specs.Pieces.{AreFewHolders, CopiesParts, CountsParts, AreRoomsFor, MayBeForking, rooms_of};
 
 use crate::pieces::{count_pieces, next_piece};
-use addr_space::Ranges;
-use block_device::Disk;
-use seg_vn::{Spaces, VnSeg};
+use seg_vn::{Disk, Errno, Ranges, Reply, Spaces, VnSeg, World};
 use std::alloc::{AllocError, Global};
 use std::collections::VecDeque;
-use vm_types::{Errno, Reply};
-use vm_world::World;
 
 // Whether so many holders more of the map of a zero object, if there is one, can be counted. The only error is that they can't.
 fn check_holders<D: Disk>(world: &World<D>, shown: Option<u32>, more: u32) -> Result<(), AllocError>

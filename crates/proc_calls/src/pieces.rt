@@ -1,11 +1,10 @@
 //! The pieces of a space, from the front.
 ghost use Rattle.std.specs.Prelude.{◌≡◌, ℕ, [], All, MatchOption, if◌then◌else◌, is_some, length, sum_by};
-ghost use Rattle.addr_space.specs.Space.{IsInOrder, part};
-ghost use Rattle.vm_world.specs.CountsFit.{slots_for_part};
+ghost use Rattle.seg_vn.specs.addr_space.Space.{IsInOrder, part};
+ghost use Rattle.seg_vn.specs.vm_world.CountsFit.{slots_for_part};
 ghost use Rattle.proc_calls.specs.Pieces.{IsFirstFrom, OwnsPages, parts_from};
 
-use addr_space::Ranges;
-use seg_vn::VnSeg;
+use seg_vn::{Ranges, VnSeg};
 
 /// How many pieces a space has, and how many slots they reserve.
 #[derive(Clone, Copy, Drop)]

@@ -3,8 +3,7 @@ ghost use Rattle.std.specs.Prelude.{◌≡◌, ◌≤◌, length};
 
 use std::alloc::{AllocError, Global};
 use std::test::Fail;
-use vnode_files::{Extent, Extents, FileInfo, FileName};
-use volume_format::{Table, decode, encode};
+use volume_format::{Extent, Extents, FileInfo, FileName, Table, decode, encode};
 
 // A number at a place of a block.
 type Word = (usize, u32);

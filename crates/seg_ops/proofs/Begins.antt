@@ -3,12 +3,12 @@ use Rattle.std.proofs.Common.{◌≡◌, ◌≢◌, ℕ, ◌<◌, true, false, L
 use Rattle.std.specs.Option.{option_or}
 use Rattle.std.specs.Prelude.{IsTrue, IsSome, unwrap_or}
 use Rattle.std.proofs.lemmas.Bool.{cases_eq}
-use Rattle.core_arena.specs.Bytes.{bytes_at}
-use Rattle.block_device.specs.DiskSeen.{DiskSeen}
-use Rattle.page_hash.specs.Names.{name_at, find, is_name}
-use Rattle.page_hash.specs.declared.PageName.{PageName}
-use Rattle.page_lock.specs.Rows.{row_at, clear_row}
-use Rattle.page_lock.specs.declared.Row.{Row}
+use Rattle.page_store.specs.core_arena.Bytes.{bytes_at}
+use Rattle.page_store.specs.block_device.DiskSeen.{DiskSeen}
+use Rattle.page_store.specs.page_hash.Names.{name_at, find, is_name}
+use Rattle.page_store.specs.page_hash.declared.PageName.{PageName}
+use Rattle.page_store.specs.page_lock.Rows.{row_at, clear_row}
+use Rattle.page_store.specs.page_lock.declared.Row.{Row}
 use Rattle.page_store.specs.Bays.{home, bay_at}
 use Rattle.page_store.specs.Flight.{FlightSeen, note_of}
 use Rattle.page_store.specs.Parts.{rows_without}

@@ -2,9 +2,9 @@
 use Rattle.std.proofs.Common.{◌≡◌, ◌≢◌, ℕ, ◌+◌, ◌-◌, ◌<◌, List, length, Option, Some, None, sym, ap, ◌∙◌, subst, arith, get_or-set_same}
 use Rattle.std.specs.Prelude.{IsSome}
 use Rattle.std.proofs.lemmas.List.{get_or-set_other, length-set}
-use Rattle.core_arena.specs.Bytes.{bytes_at}
-use Rattle.page_lock.specs.Rows.{row_at, clear_row}
-use Rattle.page_lock.specs.declared.Row.{Row}
+use Rattle.page_store.specs.core_arena.Bytes.{bytes_at}
+use Rattle.page_store.specs.page_lock.Rows.{row_at, clear_row}
+use Rattle.page_store.specs.page_lock.declared.Row.{Row}
 use Rattle.page_store.specs.Seen.{StoreSeen, IsListedFrame}
 use Rattle.page_store.specs.Steps.{with_row}
 use Rattle.page_store.specs.Waits.{ChoosesFrame}

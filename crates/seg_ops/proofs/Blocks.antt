@@ -2,13 +2,13 @@
 use Rattle.std.proofs.Common.{◌≡◌, ◌≢◌, ℕ, ◌<◌, Bool, true, false, cond, Option, Some, None, refl, sym, ap, ◌∙◌, arith}
 use Rattle.std.specs.Prelude.{IsTrue, IsSome, not, unwrap_or, slice_index_or}
 use Rattle.std.specs.FinMap as finite
-use Rattle.block_device.specs.DiskSeen.{DiskSeen}
-use Rattle.page_hash.specs.declared.PageName.{PageName}
+use Rattle.page_store.specs.block_device.DiskSeen.{DiskSeen}
+use Rattle.page_store.specs.page_hash.declared.PageName.{PageName}
 use Rattle.page_store.specs.Bays.{bay_at, home}
 use Rattle.page_store.specs.Layout.{page_place}
 use Rattle.page_store.specs.declared.place.Place.{Place}
-use Rattle.vnode_files.specs.Files.{vnode_at, block_count}
-use Rattle.vnode_files.specs.Vnode.{block_at, is_blank}
+use Rattle.vm_world.specs.vnode_files.Files.{vnode_at, block_count}
+use Rattle.vm_world.specs.vnode_files.Vnode.{block_at, is_blank}
 use Rattle.vm_world.specs.FramesFit.{FilesFit}
 use Rattle.vm_world.specs.MemoryFits.{MemoryFits}
 use Rattle.vm_world.specs.Segments.{Spaces}

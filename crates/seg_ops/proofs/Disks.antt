@@ -2,8 +2,8 @@
 use Rattle.std.proofs.Common.{◌≡◌, ◌≢◌, ℕ, ◌<◌, true, false, List, length, Option, Some, None, refl, sym, ap, ◌∙◌, inl, inr, subst, arith}
 use Rattle.std.specs.Prelude.{IsTrue, IsFalse, IsSome}
 use Rattle.std.specs.FinMap as finite
-use Rattle.page_hash.specs.declared.PageName.{PageName}
-use Rattle.page_hash.proofs.NameLaws.{find-at}
+use Rattle.page_store.specs.page_hash.declared.PageName.{PageName}
+use Rattle.page_store.proofs.page_hash.NameLaws.{find-at}
 use Rattle.page_store.specs.Bays.{bay_at, missing}
 use Rattle.page_store.specs.Seen.{residence}
 use Rattle.page_store.specs.Steps.{next_frame}
@@ -14,7 +14,7 @@ use Rattle.page_store.specs.declared.plan.Plan.TheVariants as plan
 use Rattle.page_store.specs.declared.plan.Hold.TheVariants as hold
 use Rattle.page_store.specs.declared.residence.Residence.TheVariants.{Home, Absent}
 use Rattle.page_store.proofs.QueryLemmas.{home-is, absent-is}
-use Rattle.vnode_files.specs.Files.{vnode_at}
+use Rattle.vm_world.specs.vnode_files.Files.{vnode_at}
 use Rattle.vm_world.specs.MemoryFits.{MemoryFits}
 use Rattle.vm_world.specs.Segments.{Spaces}
 use Rattle.vm_world.specs.Wants.{IsDirtyPage}

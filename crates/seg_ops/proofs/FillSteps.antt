@@ -2,11 +2,11 @@
 use Rattle.std.proofs.Common.{◌≡◌, ◌≢◌, ℕ, ◌<◌, ◌==◌, Bool, true, false, cond, List, length, Option, Some, None, refl, sym, ap, ◌∙◌, inl, inr, subst, get_or-set_same}
 use Rattle.std.specs.Prelude.{IsTrue, IsSome, IfSome}
 use Rattle.std.proofs.lemmas.Bool.{cases_Bool, eq-eqb}
-use Rattle.core_arena.specs.Bytes.{bytes_at, zeros}
-use Rattle.page_hash.specs.Names.{name_at, find, is_name}
-use Rattle.page_hash.specs.declared.PageName.{PageName}
-use Rattle.page_hash.proofs.NameLaws.{find-some, find-none, is_name-true, is_name-same}
-use Rattle.page_lock.specs.Rows.{row_at}
+use Rattle.page_store.specs.core_arena.Bytes.{bytes_at, zeros}
+use Rattle.page_store.specs.page_hash.Names.{name_at, find, is_name}
+use Rattle.page_store.specs.page_hash.declared.PageName.{PageName}
+use Rattle.page_store.proofs.page_hash.NameLaws.{find-some, find-none, is_name-true, is_name-same}
+use Rattle.page_store.specs.page_lock.Rows.{row_at}
 use Rattle.page_store.specs.Bays.{block_of}
 use Rattle.page_store.specs.Bytes.{clip}
 use Rattle.page_store.specs.Laws.{FillsPage}
@@ -19,7 +19,7 @@ use Rattle.page_store.specs.Table.{PlaceTable}
 use Rattle.page_store.specs.Value.{value, value_in, frame_value, note_of_holder, backing_value, content_of}
 use Rattle.page_store.specs.declared.residence.Residence.TheVariants.{Home, Absent}
 use Rattle.page_store.proofs.QueryLemmas.{absent-is, some-within}
-use Rattle.flat_model.specs.Words.{Page}
+use Rattle.vm_world.specs.flat_model.Words.{Page}
 use Rattle.vm_world.specs.MemoryFits.{MemoryFits}
 use Rattle.vm_world.specs.Pages.{page_value}
 use Rattle.vm_world.specs.Segments.{Spaces}

@@ -3,14 +3,14 @@ use Rattle.std.proofs.Common.{◌≡◌, ◌≢◌, ℕ, zero, suc, ◌-◌, ◌
 use Rattle.std.specs.Prelude.{IsTrue, IsSome, not, unwrap_or}
 use Rattle.std.proofs.lemmas.Bool.{cases_eq, cases_Bool, not-true}
 use Rattle.std.proofs.lemmas.Bool.Decides.{eqb_tells}
-use Rattle.core_arena.specs.Bytes.{bytes_at, zeros}
-use Rattle.page_hash.specs.Names.{name_at, find}
-use Rattle.page_hash.specs.declared.PageName.{PageName}
-use Rattle.page_hash.proofs.NameLaws.{find-at, find-none}
-use Rattle.page_lists.specs.ListsSeen.{first_listed}
-use Rattle.page_lists.proofs.ListLemmas.{Contains-first}
-use Rattle.page_lock.specs.Rows.{row_at}
-use Rattle.page_lock.specs.declared.Row.{Row}
+use Rattle.page_store.specs.core_arena.Bytes.{bytes_at, zeros}
+use Rattle.page_store.specs.page_hash.Names.{name_at, find}
+use Rattle.page_store.specs.page_hash.declared.PageName.{PageName}
+use Rattle.page_store.proofs.page_hash.NameLaws.{find-at, find-none}
+use Rattle.page_store.specs.page_lists.ListsSeen.{first_listed}
+use Rattle.page_store.proofs.page_lists.ListLemmas.{Contains-first}
+use Rattle.page_store.specs.page_lock.Rows.{row_at}
+use Rattle.page_store.specs.page_lock.declared.Row.{Row}
 use Rattle.page_store.specs.Bays.{BaySeen, block_of}
 use Rattle.page_store.specs.Bytes.{clip}
 use Rattle.page_store.specs.Laws.{FillsPage}
@@ -25,7 +25,7 @@ use Rattle.page_store.specs.Value.{backing_value, tells, content_of}
 use Rattle.page_store.specs.declared.place.Place.{Place}
 use Rattle.page_store.specs.declared.residence.Residence.TheVariants.{Home, Absent}
 use Rattle.page_store.proofs.QueryLemmas.{home-is, absent-is}
-use Rattle.hat_layer.specs.declared.translation.Translation.{Translation}
+use Rattle.vm_world.specs.hat_layer.declared.translation.Translation.{Translation}
 use Rattle.vm_world.specs.FramesFit.{FilesFit, DisksFit}
 use Rattle.vm_world.specs.MemoryFits.{MemoryFits}
 use Rattle.vm_world.specs.NotesFit.{NotesFit, PushFits}

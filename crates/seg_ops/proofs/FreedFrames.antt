@@ -3,14 +3,14 @@ use Rattle.std.proofs.Common.{◌≡◌, ◌≢◌, ℕ, ◌<◌, ◌==◌, ◌|
 use Rattle.std.specs.Prelude.{IsTrue, IsSome, IfSome, MatchOption, unwrap_or, Contains}
 use Rattle.std.proofs.lemmas.Bool.{cases_eq, cases_Bool}
 use Rattle.std.proofs.lemmas.Bool.Decides.{eqb_tells}
-use Rattle.core_arena.specs.Bytes.{bytes_at}
-use Rattle.page_hash.specs.Names.{name_at, find, is_name}
-use Rattle.page_hash.specs.declared.PageName.{PageName}
-use Rattle.page_hash.proofs.NameLaws.{find-some, is_name-true, is_name-same}
-use Rattle.page_lists.specs.ListsSeen.{first_listed, without_frame}
-use Rattle.page_lists.proofs.ListLemmas.{Contains-first}
-use Rattle.page_lock.specs.Rows.{row_at, clear_row}
-use Rattle.page_lock.specs.declared.Row.{Row}
+use Rattle.page_store.specs.core_arena.Bytes.{bytes_at}
+use Rattle.page_store.specs.page_hash.Names.{name_at, find, is_name}
+use Rattle.page_store.specs.page_hash.declared.PageName.{PageName}
+use Rattle.page_store.proofs.page_hash.NameLaws.{find-some, is_name-true, is_name-same}
+use Rattle.page_store.specs.page_lists.ListsSeen.{first_listed, without_frame}
+use Rattle.page_store.proofs.page_lists.ListLemmas.{Contains-first}
+use Rattle.page_store.specs.page_lock.Rows.{row_at, clear_row}
+use Rattle.page_store.specs.page_lock.declared.Row.{Row}
 use Rattle.page_store.specs.Bays.{BaySeen}
 use Rattle.page_store.specs.Bytes.{clip}
 use Rattle.page_store.specs.Laws.{Aborts}
@@ -26,8 +26,8 @@ use Rattle.page_store.specs.declared.place.Place.{Place}
 use Rattle.page_store.specs.declared.residence.Residence.TheVariants.{Home, Absent}
 use Rattle.page_store.proofs.FrameLaws.{home-unsourced}
 use Rattle.page_store.proofs.QueryLemmas.{absent-is, some-within}
-use Rattle.hat_layer.specs.declared.translation.Translation.{Translation}
-use Rattle.flat_model.specs.Words.{Page}
+use Rattle.vm_world.specs.hat_layer.declared.translation.Translation.{Translation}
+use Rattle.vm_world.specs.flat_model.Words.{Page}
 use Rattle.vm_world.specs.FramesFit.{DisksFit}
 use Rattle.vm_world.specs.MemoryFits.{MemoryFits}
 use Rattle.vm_world.specs.NotesFit.{NotesFit, PushFits}

@@ -1,14 +1,14 @@
 -- Bits that are gathered into a page.
 use Rattle.std.proofs.Common.{◌≡◌, ℕ, ◌<◌, Bool, true, List, length, Option, Some, refl, sym, ap, ◌∙◌, ◌⊎◌, inl, inr, subst, arith, get_or-set_same}
 use Rattle.std.specs.Prelude.{◌||◌}
-use Rattle.page_lock.specs.Rows.{row_at, clear_row, with_bits}
-use Rattle.page_lock.specs.declared.Row.{Row}
+use Rattle.page_store.specs.page_lock.Rows.{row_at, clear_row, with_bits}
+use Rattle.page_store.specs.page_lock.declared.Row.{Row}
 use Rattle.page_store.specs.Laws.{StaysInPlace}
 use Rattle.page_store.specs.Moves.{is_only}
 use Rattle.page_store.specs.Seen.{StoreSeen, IsListedFrame}
-use Rattle.hat_layer.specs.declared.translation.Translation.{Translation}
-use Rattle.anon_slots.specs.Slots.{AnonSlotsSeen}
-use Rattle.vnode_files.specs.Files.{FilesSeen}
+use Rattle.vm_world.specs.hat_layer.declared.translation.Translation.{Translation}
+use Rattle.vm_world.specs.anon_slots.Slots.{AnonSlotsSeen}
+use Rattle.vm_world.specs.vnode_files.Files.{FilesSeen}
 use Rattle.vm_world.specs.FramesFit.{FramesFit}
 use Rattle.vm_world.specs.TranslationsFit.{HasWritten}
 use Rattle.seg_ops.specs.Steps.{with_bits_gathered}

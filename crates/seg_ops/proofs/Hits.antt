@@ -2,11 +2,11 @@
 use Rattle.std.proofs.Common.{◌≡◌, ℕ, ◌%◌, ◌<◌, Bool, false, List, length, Option, Some, None, refl, sym, ap, ◌∙◌, inl, inr, subst}
 use Rattle.std.specs.Prelude.{IfSome, IfNone}
 use Rattle.std.proofs.lemmas.Bool.Decides.{eqb_tells}
-use Rattle.core_arena.specs.Bytes.{bytes_with_piece}
-use Rattle.page_hash.specs.Names.{name_at, find}
-use Rattle.page_hash.specs.declared.PageName.{PageName}
-use Rattle.page_lock.specs.Rows.{row_at}
-use Rattle.page_lock.specs.declared.Row.{Row}
+use Rattle.page_store.specs.core_arena.Bytes.{bytes_with_piece}
+use Rattle.page_store.specs.page_hash.Names.{name_at, find}
+use Rattle.page_store.specs.page_hash.declared.PageName.{PageName}
+use Rattle.page_store.specs.page_lock.Rows.{row_at}
+use Rattle.page_store.specs.page_lock.declared.Row.{Row}
 use Rattle.page_store.specs.Laws.{Pokes}
 use Rattle.page_store.specs.Moves.{is_only}
 use Rattle.page_store.specs.Notes.{Notes}
@@ -15,9 +15,9 @@ use Rattle.page_store.specs.Steps.{with_piece}
 use Rattle.page_store.specs.Value.{value}
 use Rattle.page_store.specs.declared.residence.Residence.TheVariants.{Home}
 use Rattle.page_store.proofs.QueryLemmas.{home-is}
-use Rattle.hat_layer.specs.declared.translation.Translation.{Translation}
-use Rattle.hat_layer.specs.Pool.{HatSeen, IsNoted, IsSingleValued, translation_at, change_at, after_access}
-use Rattle.flat_model.specs.Words.{page, word_at, word_bytes}
+use Rattle.vm_world.specs.hat_layer.declared.translation.Translation.{Translation}
+use Rattle.vm_world.specs.hat_layer.Pool.{HatSeen, IsNoted, IsSingleValued, translation_at, change_at, after_access}
+use Rattle.vm_world.specs.flat_model.Words.{page, word_at, word_bytes}
 use Rattle.vm_world.specs.MemoryFits.{MemoryFits}
 use Rattle.vm_world.specs.Segments.{Spaces, spot_at}
 use Rattle.vm_world.specs.TranslationsFit.{TranslationFits, TranslationsFit, HasWritten}

@@ -2,13 +2,13 @@
 use Rattle.std.proofs.Common.{◌≡◌, ◌≢◌, ℕ, ◌<◌, ◌==◌, Bool, true, false, List, length, Option, Some, None, refl, sym, ap, ◌∙◌, ◌⊎◌, inl, inr, subst, arith, slice_set, get_or-set_same}
 use Rattle.std.specs.Prelude.{IsSome, ◌||◌}
 use Rattle.std.proofs.lemmas.Bool.{cases_eq, cases_Bool}
-use Rattle.block_device.specs.DiskSeen.{HasBlocks}
-use Rattle.core_arena.specs.Bytes.{bytes_at}
-use Rattle.page_hash.specs.Names.{name_at}
-use Rattle.page_hash.specs.declared.PageName.{PageName}
-use Rattle.page_hash.proofs.NameLaws.{find-at}
-use Rattle.page_lock.specs.Rows.{row_at, clear_row}
-use Rattle.page_lock.specs.declared.Row.{Row}
+use Rattle.page_store.specs.block_device.DiskSeen.{HasBlocks}
+use Rattle.page_store.specs.core_arena.Bytes.{bytes_at}
+use Rattle.page_store.specs.page_hash.Names.{name_at}
+use Rattle.page_store.specs.page_hash.declared.PageName.{PageName}
+use Rattle.page_store.proofs.page_hash.NameLaws.{find-at}
+use Rattle.page_store.specs.page_lock.Rows.{row_at, clear_row}
+use Rattle.page_store.specs.page_lock.declared.Row.{Row}
 use Rattle.page_store.specs.Bays.{home, out, bay_at}
 use Rattle.page_store.specs.Flight.{FlightSeen}
 use Rattle.page_store.specs.Out.{IsFlightOf}

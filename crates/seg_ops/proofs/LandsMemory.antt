@@ -4,15 +4,15 @@ use Rattle.std.specs.Prelude.{IsSome, not, unwrap_or}
 use Rattle.std.specs.Ordering.{nat_cmp}
 use Rattle.std.specs.FinMap as finite
 use Rattle.std.proofs.lemmas.Bool.{cases_eq, cases_Bool}
-use Rattle.block_device.specs.DiskSeen.{DiskSeen}
-use Rattle.page_hash.specs.Names.{name_at}
-use Rattle.page_hash.specs.declared.PageName.{PageName}
-use Rattle.page_lock.specs.Rows.{row_at}
+use Rattle.page_store.specs.block_device.DiskSeen.{DiskSeen}
+use Rattle.page_store.specs.page_hash.Names.{name_at}
+use Rattle.page_store.specs.page_hash.declared.PageName.{PageName}
+use Rattle.page_store.specs.page_lock.Rows.{row_at}
 use Rattle.page_store.specs.Bays.{BaySeen, missing, home, out, bay_at}
 use Rattle.page_store.specs.Flight.{FlightSeen, IsPerformed}
 use Rattle.page_store.specs.Notes.{Note, Notes}
 use Rattle.page_store.specs.Seen.{StoreSeen, IsListedFrame, own_frame}
-use Rattle.hat_layer.specs.declared.translation.Translation.{Translation}
+use Rattle.vm_world.specs.hat_layer.declared.translation.Translation.{Translation}
 use Rattle.vm_world.specs.FramesFit.{DisksFit, HasSize}
 use Rattle.vm_world.specs.MemoryFits.{MemoryFits}
 use Rattle.vm_world.specs.NotesFit.{NotesFit}

@@ -2,11 +2,11 @@
 use Rattle.std.proofs.Common.{◌≡◌, ◌≢◌, ℕ, true, false, List, Option, Some, None, refl, sym, ap, ◌∙◌, ◌⊎◌, inl, inr, subst, slice_set}
 use Rattle.std.specs.Prelude.{IsTrue, IsSome, is_some, is_none, ◌↔◌}
 use Rattle.std.proofs.lemmas.Bool.{cases_Bool}
-use Rattle.core_arena.specs.Bytes.{bytes_at}
-use Rattle.page_hash.specs.Names.{find, name_at}
-use Rattle.page_hash.specs.declared.PageName.{PageName}
-use Rattle.page_hash.proofs.NameLaws.{find-at, find-none}
-use Rattle.page_lock.specs.Rows.{row_at}
+use Rattle.page_store.specs.core_arena.Bytes.{bytes_at}
+use Rattle.page_store.specs.page_hash.Names.{find, name_at}
+use Rattle.page_store.specs.page_hash.declared.PageName.{PageName}
+use Rattle.page_store.proofs.page_hash.NameLaws.{find-at, find-none}
+use Rattle.page_store.specs.page_lock.Rows.{row_at}
 use Rattle.page_store.specs.Bays.{home, out, bay_at}
 use Rattle.page_store.specs.Flight.{FlightSeen, fresh}
 use Rattle.page_store.specs.Moves.{SameDisksTell}

@@ -5,9 +5,9 @@ use Rattle.std.specs.Ordering.{nat_cmp}
 use Rattle.std.specs.FinMap as finite
 use Rattle.std.proofs.lemmas.Bool.{cases_Bool}
 use Rattle.std.proofs.lemmas.List.{length-map}
-use Rattle.page_hash.specs.Names.{is_name}
-use Rattle.page_hash.specs.declared.PageName.{PageName}
-use Rattle.page_hash.proofs.NameLaws.{is_name-true, is_name-same}
+use Rattle.page_store.specs.page_hash.Names.{is_name}
+use Rattle.page_store.specs.page_hash.declared.PageName.{PageName}
+use Rattle.page_store.proofs.page_hash.NameLaws.{is_name-true, is_name-same}
 use Rattle.page_store.specs.Layout.{FileBlocks, KeepsPage, AreDisjoint, file_page_place, page_place, slot_place, own_place, is_slot, table_of}
 use Rattle.page_store.specs.Notes.{Notes}
 use Rattle.page_store.specs.Seen.{IsSoundStore, IsListedFrame, residence}
@@ -17,10 +17,10 @@ use Rattle.page_store.specs.Value.{value, tells}
 use Rattle.page_store.specs.declared.place.Place.{Place}
 use Rattle.page_store.specs.declared.residence.Residence.TheVariants.{Home}
 use Rattle.page_store.proofs.TableLemmas.{table_law}
-use Rattle.anon_slots.specs.Slots.{AnonSlotsSeen, IsSoundAnonSlots, count_at}
-use Rattle.vnode_files.specs.declared.vnode.FileInfo.{FileInfo}
-use Rattle.vnode_files.specs.Files.{FilesSeen, vnode_at, block_count}
-use Rattle.vnode_files.specs.Vnode.{VnodeSeen, page_blocks, IsSoundVnode}
+use Rattle.vm_world.specs.anon_slots.Slots.{AnonSlotsSeen, IsSoundAnonSlots, count_at}
+use Rattle.vm_world.specs.vnode_files.declared.vnode.FileInfo.{FileInfo}
+use Rattle.vm_world.specs.vnode_files.Files.{FilesSeen, vnode_at, block_count}
+use Rattle.vm_world.specs.vnode_files.Vnode.{VnodeSeen, page_blocks, IsSoundVnode}
 use Rattle.vm_world.specs.CountsFit.{CountsFit, SegmentsFit}
 use Rattle.vm_world.specs.FramesFit.{FilesFit, DisksFit, HasSize}
 use Rattle.vm_world.specs.MemoryFits.{MemoryFits}

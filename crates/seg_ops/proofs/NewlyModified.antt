@@ -4,11 +4,11 @@ use Rattle.std.proofs.Common.{◌≡◌, ◌≢◌, ℕ, ◌==◌, Bool, true, f
 use Rattle.std.specs.Prelude.{option_map, IsSome, IfSome, MatchOption}
 use Rattle.std.proofs.lemmas.Bool.{cases_Bool}
 use Rattle.std.proofs.lemmas.Bool.Decides.{eqb_tells}
-use Rattle.page_hash.specs.Names.{name_at}
-use Rattle.page_hash.specs.declared.PageName.{PageName}
-use Rattle.page_hash.proofs.NameLaws.{find-at}
-use Rattle.page_lock.specs.Rows.{row_at}
-use Rattle.page_lock.specs.declared.Row.{Row}
+use Rattle.page_store.specs.page_hash.Names.{name_at}
+use Rattle.page_store.specs.page_hash.declared.PageName.{PageName}
+use Rattle.page_store.proofs.page_hash.NameLaws.{find-at}
+use Rattle.page_store.specs.page_lock.Rows.{row_at}
+use Rattle.page_store.specs.page_lock.declared.Row.{Row}
 use Rattle.page_store.specs.Laws.{Aborts, FillsPage, SameResidence}
 use Rattle.page_store.specs.Moves.{is_only}
 use Rattle.page_store.specs.Notes.{Notes}
@@ -17,8 +17,8 @@ use Rattle.page_store.specs.Steps.{next_frame, next_name, name_in, fresh_row, af
 use Rattle.page_store.specs.Table.{PlaceTable}
 use Rattle.page_store.specs.declared.residence.Residence.TheVariants.{Home, Absent}
 use Rattle.page_store.proofs.QueryLemmas.{home-is}
-use Rattle.hat_layer.specs.declared.translation.Translation.{Translation}
-use Rattle.hat_layer.specs.Pool.{HatSeen, IsNoted, IsSingleValued, after_access, change_at, change_page, drop_at, drop_page, holds, told_of, translation_at}
+use Rattle.vm_world.specs.hat_layer.declared.translation.Translation.{Translation}
+use Rattle.vm_world.specs.hat_layer.Pool.{HatSeen, IsNoted, IsSingleValued, after_access, change_at, change_page, drop_at, drop_page, holds, told_of, translation_at}
 use Rattle.vm_world.specs.MemoryFits.{MemoryFits}
 use Rattle.vm_world.specs.Segments.{Spaces}
 use Rattle.vm_world.specs.Serving.{ModifiesNone, ModifiesOnly}

@@ -8,17 +8,17 @@ use Rattle.std.specs.FinMap as finite
 use Rattle.std.specs.FinSet as set
 use Rattle.std.proofs.lemmas.Bool.{cases_eq, cases_Bool}
 use Rattle.page_store.specs.Notes.{Notes}
-use Rattle.vnode_files.specs.declared.vnode.FileInfo.{FileInfo}
-use Rattle.vnode_files.specs.Files.{vnode_at}
-use Rattle.vnode_files.specs.Vnode.{VnodeSeen, no_vnode}
+use Rattle.vm_world.specs.vnode_files.declared.vnode.FileInfo.{FileInfo}
+use Rattle.vm_world.specs.vnode_files.Files.{vnode_at}
+use Rattle.vm_world.specs.vnode_files.Vnode.{VnodeSeen, no_vnode}
 use Rattle.std.proofs.lemmas.Option.{slice_get-map, slice_get-get_or}
-use Rattle.flat_model.specs.Access.{with_cell, with_space}
-use Rattle.flat_model.specs.Flat.{Cell, Space, Flat, IsFile, IsFlat, cell_at}
-use Rattle.flat_model.specs.Mapping.{cells_of}
-use Rattle.flat_model.specs.Space.{is_in_range, without_range}
-use Rattle.flat_model.specs.Words.{Page, IsPage, pages_in}
-use Rattle.flat_model.proofs.Ranges.{get-insert_here, get-insert_apart, get-without_range, in_range-is, in_range-low, in_range-high}
-use Rattle.vm_types.specs.declared.call.Kind.TheVariants.{Shared, Private}
+use Rattle.vm_world.specs.flat_model.Access.{with_cell, with_space}
+use Rattle.vm_world.specs.flat_model.Flat.{Cell, Space, Flat, IsFile, IsFlat, cell_at}
+use Rattle.vm_world.specs.flat_model.Mapping.{cells_of}
+use Rattle.vm_world.specs.flat_model.Space.{is_in_range, without_range}
+use Rattle.vm_world.specs.flat_model.Words.{Page, IsPage, pages_in}
+use Rattle.vm_world.proofs.flat_model.Ranges.{get-insert_here, get-insert_apart, get-without_range, in_range-is, in_range-low, in_range-high}
+use Rattle.vm_world.specs.vm_types.declared.call.Kind.TheVariants.{Shared, Private}
 use Rattle.vm_world.specs.FlatMemory.{Memory, flat_memory, shape_of, file_with_pages, files_with_pages, pages_from}
 use Rattle.vm_world.specs.MemoryFits.{MemoryFits}
 use Rattle.vm_world.specs.Pages.{page_value, contents_of}

@@ -6,16 +6,16 @@ use Rattle.std.specs.Ordering.{nat_cmp}
 use Rattle.std.specs.Cmp.{nat_cmp_total}
 use Rattle.std.specs.FinMap as finite
 use Rattle.std.proofs.lemmas.Bool.{cases_eq}
-use Rattle.vm_types.specs.declared.call.Kind.{Kind}
-use Rattle.vm_types.specs.declared.call.Kind.TheVariants.{Shared, Private}
-use Rattle.vm_types.specs.declared.call.Object.{Object}
-use Rattle.vm_types.specs.declared.call.Object.TheVariants as object
-use Rattle.vm_types.specs.Pages.{IsUserPage}
-use Rattle.flat_model.specs.Access.{with_cell}
-use Rattle.flat_model.specs.Flat.{Cell, Space, Flat, IsCell, IsFlat, space_of, cell_at}
-use Rattle.flat_model.specs.Words.{Page, IsPage, zero_page}
-use Rattle.flat_model.proofs.Ranges.{get-insert_here, get-insert_apart, insert_same}
-use Rattle.flat_model.proofs.WellFormed.{IsPage-zero_page}
+use Rattle.vm_world.specs.vm_types.declared.call.Kind.{Kind}
+use Rattle.vm_world.specs.vm_types.declared.call.Kind.TheVariants.{Shared, Private}
+use Rattle.vm_world.specs.vm_types.declared.call.Object.{Object}
+use Rattle.vm_world.specs.vm_types.declared.call.Object.TheVariants as object
+use Rattle.vm_world.specs.vm_types.Pages.{IsUserPage}
+use Rattle.vm_world.specs.flat_model.Access.{with_cell}
+use Rattle.vm_world.specs.flat_model.Flat.{Cell, Space, Flat, IsCell, IsFlat, space_of, cell_at}
+use Rattle.vm_world.specs.flat_model.Words.{Page, IsPage, zero_page}
+use Rattle.vm_world.proofs.flat_model.Ranges.{get-insert_here, get-insert_apart, insert_same}
+use Rattle.vm_world.proofs.flat_model.WellFormed.{IsPage-zero_page}
 use Rattle.vm_world.specs.FlatMemory.{own_without_slot}
 use Rattle.vm_world.proofs.FlatSpaces.{flat-with_space}
 use Rattle.vm_world.proofs.FlatWhole.{some-inj}

@@ -2,14 +2,14 @@
 use Rattle.std.proofs.Common.{◌≡◌, ℕ, true, false, Option, Some, None, Ok, refl, sym, ap, ◌∙◌, subst}
 use Rattle.std.specs.Prelude.{IsSome, option_and_then, slice_get}
 use Rattle.std.specs.Option.{option_map_or, option_or}
-use Rattle.vm_types.specs.declared.call.Kind.{Kind}
-use Rattle.vm_types.specs.declared.call.Kind.TheVariants.{Shared, Private}
-use Rattle.vm_types.specs.Prot.{can_write}
-use Rattle.flat_model.specs.Access.{access_target, store, with_cell, with_page, with_page_stored}
-use Rattle.flat_model.specs.Refusals.{done_effect}
-use Rattle.flat_model.specs.Flat.{Cell, Flat, IsCell, IsFlat, cell_at, shown, pages_of}
-use Rattle.flat_model.specs.Words.{Page, IsPage, page, word_put}
-use Rattle.flat_model.proofs.Stores.{IsPage-shown, is_met, met_is}
+use Rattle.vm_world.specs.vm_types.declared.call.Kind.{Kind}
+use Rattle.vm_world.specs.vm_types.declared.call.Kind.TheVariants.{Shared, Private}
+use Rattle.vm_world.specs.vm_types.Prot.{can_write}
+use Rattle.vm_world.specs.flat_model.Access.{access_target, store, with_cell, with_page, with_page_stored}
+use Rattle.vm_world.specs.flat_model.Refusals.{done_effect}
+use Rattle.vm_world.specs.flat_model.Flat.{Cell, Flat, IsCell, IsFlat, cell_at, shown, pages_of}
+use Rattle.vm_world.specs.flat_model.Words.{Page, IsPage, page, word_put}
+use Rattle.vm_world.proofs.flat_model.Stores.{IsPage-shown, is_met, met_is}
 use Rattle.vm_world.proofs.FlatWhole.{some-inj}
 use Rattle.seg_ops.specs.OwnPages.{with_shown, with_own_shown, OwnShownLaw}
 use Rattle.seg_ops.specs.Slots.{with_own_page}

@@ -7,11 +7,11 @@ use Rattle.std.proofs.Math.Bool.{or-false, or-true}
 use Rattle.std.proofs.lemmas.Bool.Decides.{eqb_tells}
 use Rattle.std.proofs.lemmas.Nat.{one_shl, or_lt, pow_below}
 use Rattle.std.proofs.lemmas.Nat.Bits.{bit_at_lowest, bit_at-suc, bit_at_set_same, bit_at_set_other}
-use Rattle.flat_model.specs.Step.{is_bit_set}
-use Rattle.page_hash.specs.Names.{is_name}
-use Rattle.page_hash.specs.Names.{name_at}
-use Rattle.page_hash.specs.declared.PageName.{PageName}
-use Rattle.page_hash.proofs.NameLaws.{find-none}
+use Rattle.vm_world.specs.flat_model.Step.{is_bit_set}
+use Rattle.page_store.specs.page_hash.Names.{is_name}
+use Rattle.page_store.specs.page_hash.Names.{name_at}
+use Rattle.page_store.specs.page_hash.declared.PageName.{PageName}
+use Rattle.page_store.proofs.page_hash.NameLaws.{find-none}
 use Rattle.page_store.specs.Seen.{IsSoundStore, residence}
 use Rattle.page_store.specs.Steps.{next_frame, next_name, name_in}
 use Rattle.page_store.specs.declared.residence.Residence.TheVariants.{Absent}

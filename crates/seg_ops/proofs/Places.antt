@@ -3,8 +3,8 @@ use Rattle.std.proofs.Common.{◌≡◌, ◌≢◌, ℕ, zero, suc, ◌==◌, Bo
 use Rattle.std.specs.Prelude.{option_map, option_and_then, find, ◌&&◌, ◌||◌}
 use Rattle.std.specs.List.{list_any}
 use Rattle.std.proofs.lemmas.Bool.{cases_Bool, eqb-true, eq-eqb}
-use Rattle.hat_layer.specs.declared.translation.Translation.{Translation}
-use Rattle.hat_layer.specs.Pool.{IsNoted, translation_at, holds, leads, change_page, change_at, after_access, change_lead, drop_lead, change_frame, drop_frame, with_clear_bits, has_bit}
+use Rattle.vm_world.specs.hat_layer.declared.translation.Translation.{Translation}
+use Rattle.vm_world.specs.hat_layer.Pool.{IsNoted, translation_at, holds, leads, change_page, change_at, after_access, change_lead, drop_lead, change_frame, drop_frame, with_clear_bits, has_bit}
 use Rattle.vm_world.specs.TranslationsFit.{HasWritten}
 use Rattle.seg_ops.specs.Steps.{IsUnwritten}
 

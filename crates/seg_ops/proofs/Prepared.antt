@@ -3,10 +3,10 @@ use Rattle.std.proofs.Common.{◌≡◌, ℕ, ◌<◌, List, length, Option, Som
 use Rattle.std.specs.Option.{option_or}
 use Rattle.std.specs.Prelude.{IsSome, IfSome, ◌||◌, ◌^◌, ◌-◌}
 use Rattle.std.proofs.lemmas.List.{length-map}
-use Rattle.core_arena.specs.Bytes.{bytes_at}
-use Rattle.page_hash.specs.Names.{AreDistinct, find, is_name, name_at}
-use Rattle.page_hash.specs.declared.PageName.{PageName}
-use Rattle.page_lock.specs.Rows.{row_at}
+use Rattle.page_store.specs.core_arena.Bytes.{bytes_at}
+use Rattle.page_store.specs.page_hash.Names.{AreDistinct, find, is_name, name_at}
+use Rattle.page_store.specs.page_hash.declared.PageName.{PageName}
+use Rattle.page_store.specs.page_lock.Rows.{row_at}
 use Rattle.page_store.specs.Bays.{bay_at}
 use Rattle.page_store.specs.Flight.{FlightSeen}
 use Rattle.page_store.specs.Seen.{StoreSeen, residence}
@@ -15,14 +15,14 @@ use Rattle.page_store.specs.Waits.{Waits, holder_in}
 use Rattle.page_store.specs.declared.plan.Plan.TheVariants.{Push}
 use Rattle.page_store.specs.declared.residence.Residence.TheVariants.{Home}
 use Rattle.page_store.proofs.QueryLemmas.{home-is, found-within, residence-home}
-use Rattle.anon_slots.specs.Slots.{AnonSlotsSeen}
-use Rattle.hat_layer.specs.declared.translation.Translation.{Translation}
-use Rattle.hat_layer.specs.Pool.{bits_of}
-use Rattle.flat_model.specs.Step.{is_bit_set}
-use Rattle.flat_model.specs.Words.{pages_in}
-use Rattle.vnode_files.specs.declared.vnode.FileInfo.{FileInfo}
-use Rattle.vnode_files.specs.Files.{FilesSeen}
-use Rattle.vnode_files.specs.Vnode.{VnodeSeen}
+use Rattle.vm_world.specs.anon_slots.Slots.{AnonSlotsSeen}
+use Rattle.vm_world.specs.hat_layer.declared.translation.Translation.{Translation}
+use Rattle.vm_world.specs.hat_layer.Pool.{bits_of}
+use Rattle.vm_world.specs.flat_model.Step.{is_bit_set}
+use Rattle.vm_world.specs.flat_model.Words.{pages_in}
+use Rattle.vm_world.specs.vnode_files.declared.vnode.FileInfo.{FileInfo}
+use Rattle.vm_world.specs.vnode_files.Files.{FilesSeen}
+use Rattle.vm_world.specs.vnode_files.Vnode.{VnodeSeen}
 use Rattle.vm_world.specs.MemoryFits.{MemoryFits}
 use Rattle.vm_world.specs.Segments.{Spaces}
 use Rattle.vm_world.specs.Serving.{LosesFrame}

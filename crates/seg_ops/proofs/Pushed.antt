@@ -3,12 +3,12 @@ use Rattle.std.proofs.Common.{◌≡◌, ◌≢◌, ℕ, zero, suc, ◌<◌, ◌
 use Rattle.std.specs.Prelude.{IsTrue, not}
 use Rattle.std.proofs.lemmas.Bool.{eq-eqb}
 use Rattle.std.proofs.lemmas.Bool.Decides.{eqb_tells}
-use Rattle.page_hash.specs.declared.PageName.{PageName}
-use Rattle.anon_slots.specs.Slots.{AnonSlotsSeen}
-use Rattle.vnode_files.specs.declared.vnode.FileInfo.{FileInfo}
-use Rattle.vnode_files.specs.Files.{FilesSeen, vnode_at, with_vnode}
-use Rattle.vnode_files.specs.Vnode.{VnodeSeen, no_vnode, with_blank, is_blank}
-use Rattle.vnode_files.specs.Grow.{page_count}
+use Rattle.page_store.specs.page_hash.declared.PageName.{PageName}
+use Rattle.vm_world.specs.anon_slots.Slots.{AnonSlotsSeen}
+use Rattle.vm_world.specs.vnode_files.declared.vnode.FileInfo.{FileInfo}
+use Rattle.vm_world.specs.vnode_files.Files.{FilesSeen, vnode_at, with_vnode}
+use Rattle.vm_world.specs.vnode_files.Vnode.{VnodeSeen, no_vnode, with_blank, is_blank}
+use Rattle.vm_world.specs.vnode_files.Grow.{page_count}
 use Rattle.vm_world.specs.FramesFit.{FilesFit}
 use Rattle.vm_world.specs.MemoryFits.{MemoryFits}
 use Rattle.vm_world.specs.Segments.{Spaces}

@@ -1,6 +1,6 @@
 -- Room that is made, in no step and in two.
 use Rattle.std.proofs.Common.{◌≡◌, ℕ, List, [], ◌∷◌, ◌++◌, Bool, refl, ap, ◌∙◌, inl, inr}
-use Rattle.page_lists.specs.ListsSeen.{first_listed}
+use Rattle.page_store.specs.page_lists.ListsSeen.{first_listed}
 use Rattle.page_store.specs.Seen.{StoreSeen}
 use Rattle.page_store.specs.Steps.{next_frame}
 use Rattle.vm_world.specs.World.{world_seen}

@@ -4,11 +4,11 @@ use Rattle.std.specs.Prelude.{IsTrue, IsSome, unwrap_or}
 use Rattle.std.specs.Ordering.{nat_cmp}
 use Rattle.std.specs.FinMap as finite
 use Rattle.std.proofs.lemmas.Bool.{cases_eq, cases_Bool}
-use Rattle.block_device.specs.DiskSeen.{DiskSeen}
-use Rattle.core_arena.specs.Bytes.{bytes_at, zeros}
-use Rattle.page_hash.specs.Names.{name_at, is_name}
-use Rattle.page_hash.specs.declared.PageName.{PageName}
-use Rattle.page_lock.specs.Rows.{row_at}
+use Rattle.page_store.specs.block_device.DiskSeen.{DiskSeen}
+use Rattle.page_store.specs.core_arena.Bytes.{bytes_at, zeros}
+use Rattle.page_store.specs.page_hash.Names.{name_at, is_name}
+use Rattle.page_store.specs.page_hash.declared.PageName.{PageName}
+use Rattle.page_store.specs.page_lock.Rows.{row_at}
 use Rattle.page_store.specs.Bays.{BaySeen, missing, home, out, bay_at, block_of}
 use Rattle.page_store.specs.Bytes.{clip}
 use Rattle.page_store.specs.Moves.{TakesFrame}
@@ -23,8 +23,8 @@ use Rattle.page_store.specs.declared.residence.Residence.TheVariants.{Home}
 use Rattle.page_store.proofs.Agree.{own-far}
 use Rattle.page_store.proofs.QueryLemmas.{residence-home, home-is}
 use Rattle.page_store.proofs.TransferLemmas.{with_note-same, with_note-other}
-use Rattle.hat_layer.specs.declared.translation.Translation.{Translation}
-use Rattle.flat_model.specs.Words.{Page}
+use Rattle.vm_world.specs.hat_layer.declared.translation.Translation.{Translation}
+use Rattle.vm_world.specs.flat_model.Words.{Page}
 use Rattle.vm_world.specs.FramesFit.{DisksFit, HasSize}
 use Rattle.vm_world.specs.MemoryFits.{MemoryFits}
 use Rattle.vm_world.specs.NotesFit.{NotesFit, PushFits}

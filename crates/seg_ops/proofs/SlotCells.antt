@@ -7,13 +7,13 @@ use Rattle.std.specs.Cmp.{nat_cmp_total}
 use Rattle.std.specs.FinSet as set
 use Rattle.std.specs.FinMap as finite
 use Rattle.std.proofs.lemmas.Bool.{cases_eq}
-use Rattle.addr_space.specs.Space.{Part, piece_at}
-use Rattle.flat_model.specs.Access.{with_cell}
-use Rattle.flat_model.specs.Flat.{Cell, Space}
-use Rattle.flat_model.specs.Words.{Page, zero_page}
-use Rattle.flat_model.proofs.Ranges.{get-insert_here, get-insert_apart}
-use Rattle.vm_types.specs.declared.call.Object.{Object}
-use Rattle.vm_types.specs.declared.call.Object.TheVariants as object
+use Rattle.vm_world.specs.addr_space.Space.{Part, piece_at}
+use Rattle.vm_world.specs.flat_model.Access.{with_cell}
+use Rattle.vm_world.specs.flat_model.Flat.{Cell, Space}
+use Rattle.vm_world.specs.flat_model.Words.{Page, zero_page}
+use Rattle.vm_world.proofs.flat_model.Ranges.{get-insert_here, get-insert_apart}
+use Rattle.vm_world.specs.vm_types.declared.call.Object.{Object}
+use Rattle.vm_world.specs.vm_types.declared.call.Object.TheVariants as object
 use Rattle.vm_world.specs.declared.segment.Segment.{Segment}
 use Rattle.vm_world.specs.FlatMemory.{Shape, own_without_slot, cell_of, space_with, map_with, pages_from, zero_maps, zero_pages, flat_shaped}
 use Rattle.vm_world.specs.Segments.{Spot, Spaces, spot_at}

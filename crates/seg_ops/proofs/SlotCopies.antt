@@ -2,17 +2,17 @@
 use Rattle.std.proofs.Common.{◌≡◌, ℕ, ◌<◌, Bool, Option, Some, length, ap, ◌∙◌}
 use Rattle.std.specs.Prelude.{IsTrue, option_map, option_and_then}
 use Rattle.std.specs.Option.{option_or}
-use Rattle.core_arena.specs.Bytes.{zeros}
-use Rattle.page_hash.specs.Names.{find}
+use Rattle.page_store.specs.core_arena.Bytes.{zeros}
+use Rattle.page_store.specs.page_hash.Names.{find}
 use Rattle.page_store.specs.Notes.{Notes}
 use Rattle.page_store.specs.Seen.{residence}
 use Rattle.page_store.specs.Steps.{home_bytes}
 use Rattle.page_store.specs.declared.residence.Residence.TheVariants.{Home, Absent}
 use Rattle.page_store.specs.Value.{value}
 use Rattle.page_store.proofs.QueryLemmas.{absent-is}
-use Rattle.flat_model.specs.Flat.{Flat}
-use Rattle.flat_model.specs.Step.{tails_cleared}
-use Rattle.flat_model.specs.Words.{Page}
+use Rattle.vm_world.specs.flat_model.Flat.{Flat}
+use Rattle.vm_world.specs.flat_model.Step.{tails_cleared}
+use Rattle.vm_world.specs.flat_model.Words.{Page}
 use Rattle.vm_world.specs.CallSteps.{ChangesMemory}
 use Rattle.vm_world.specs.FlatMemory.{cell_of, own_without_slot, flat_memory}
 use Rattle.vm_world.specs.MemoryFits.{MemoryFits}

@@ -5,8 +5,8 @@ use Rattle.std.proofs.lemmas.Bool.{cases_eq}
 use Rattle.std.proofs.lemmas.List.{get_or-set_other, length-set}
 use Rattle.std.proofs.lemmas.List.Quantifiers.{position-Some}
 use Rattle.std.proofs.lemmas.List.Sums.{sum_by-set}
-use Rattle.anon_map.specs.Maps.{Map, the_map, places_of, with_places}
-use Rattle.anon_slots.specs.Slots.{AnonSlotsSeen, count_at, IsSoundAnonSlots, with_count, with_new_slot}
+use Rattle.vm_world.specs.anon_map.Maps.{Map, the_map, places_of, with_places}
+use Rattle.vm_world.specs.anon_slots.Slots.{AnonSlotsSeen, count_at, IsSoundAnonSlots, with_count, with_new_slot}
 use Rattle.vm_world.specs.World.{slot_in}
 use Rattle.vm_world.specs.CountsFit.{places_in, times_held, CountsFit}
 use Rattle.vm_world.proofs.Counts.{used-below}

@@ -5,21 +5,21 @@ use Rattle.std.specs.Option.{option_map_or}
 use Rattle.std.specs.Ordering.{nat_cmp}
 use Rattle.std.specs.FinSet as set
 use Rattle.std.proofs.lemmas.Bool.{lt-ltb}
-use Rattle.core_arena.specs.Bytes.{zeros}
-use Rattle.page_hash.specs.declared.PageName.{PageName}
+use Rattle.page_store.specs.core_arena.Bytes.{zeros}
+use Rattle.page_store.specs.page_hash.declared.PageName.{PageName}
 use Rattle.page_store.specs.Notes.{Notes}
 use Rattle.page_store.specs.declared.place.Place.{Place}
-use Rattle.anon_map.specs.Maps.{Map}
-use Rattle.anon_slots.specs.Slots.{count_at, is_used}
-use Rattle.vnode_files.specs.declared.vnode.FileInfo.{FileInfo}
-use Rattle.vnode_files.specs.Files.{FilesSeen, vnode_at}
-use Rattle.vnode_files.specs.Grow.{page_count}
-use Rattle.vnode_files.specs.Vnode.{VnodeSeen}
-use Rattle.flat_model.specs.Access.{with_cell}
-use Rattle.flat_model.specs.Flat.{Cell, File, Flat, IsFile, IsFlat}
-use Rattle.flat_model.specs.Parts.{without_tail}
-use Rattle.flat_model.specs.Step.{tails_cleared, files_cleared}
-use Rattle.flat_model.specs.Words.{Page, IsPage, pages_in, zero_page}
+use Rattle.vm_world.specs.anon_map.Maps.{Map}
+use Rattle.vm_world.specs.anon_slots.Slots.{count_at, is_used}
+use Rattle.vm_world.specs.vnode_files.declared.vnode.FileInfo.{FileInfo}
+use Rattle.vm_world.specs.vnode_files.Files.{FilesSeen, vnode_at}
+use Rattle.vm_world.specs.vnode_files.Grow.{page_count}
+use Rattle.vm_world.specs.vnode_files.Vnode.{VnodeSeen}
+use Rattle.vm_world.specs.flat_model.Access.{with_cell}
+use Rattle.vm_world.specs.flat_model.Flat.{Cell, File, Flat, IsFile, IsFlat}
+use Rattle.vm_world.specs.flat_model.Parts.{without_tail}
+use Rattle.vm_world.specs.flat_model.Step.{tails_cleared, files_cleared}
+use Rattle.vm_world.specs.flat_model.Words.{Page, IsPage, pages_in, zero_page}
 use Rattle.vm_world.specs.CallSteps.{ChangesMemory}
 use Rattle.vm_world.specs.FlatMemory.{Shape, cell_of, flat_shaped, flat_memory, shape_of, file_with_pages, files_with_pages, pages_from}
 use Rattle.vm_world.specs.MemoryFits.{MemoryFits}

@@ -1,13 +1,13 @@
 -- A PLACE THAT IS EMPTIED while other places hold its slot: memory and the notes fit, and each page keeps its value.
 use Rattle.std.proofs.Common.{◌≡◌, ℕ, ◌<◌, cond, List, [], Option, None, refl, sym, ap, ◌∙◌, inl, inr, subst, arith, slice_index_or}
 use Rattle.std.specs.Prelude.{IsTrue, IsFalse, true, false}
-use Rattle.page_hash.specs.declared.PageName.{PageName}
+use Rattle.page_store.specs.page_hash.declared.PageName.{PageName}
 use Rattle.page_store.specs.Notes.{Notes}
 use Rattle.page_store.specs.StoreFits.{StoreFits}
 use Rattle.page_store.specs.Table.{PlaceTable}
 use Rattle.page_store.specs.Value.{value, tells}
-use Rattle.anon_map.specs.Maps.{Map}
-use Rattle.anon_slots.specs.Slots.{AnonSlotsSeen, count_at}
+use Rattle.vm_world.specs.anon_map.Maps.{Map}
+use Rattle.vm_world.specs.anon_slots.Slots.{AnonSlotsSeen, count_at}
 use Rattle.vm_world.specs.FramesFit.{DisksFit, HasSize}
 use Rattle.vm_world.specs.MemoryFits.{MemoryFits}
 use Rattle.vm_world.specs.NotesFit.{NotesFit, CleanFit, PushFits}

@@ -4,15 +4,15 @@ use Rattle.std.specs.Prelude.{IsTrue, false, not, nat_lt, option_and_then}
 use Rattle.std.proofs.lemmas.Bool.{cases_eq}
 use Rattle.std.proofs.lemmas.Bool.Decides.{eqb_tells}
 use Rattle.std.proofs.lemmas.List.{get_or-set_other, length-set}
-use Rattle.page_hash.specs.declared.PageName.{PageName}
+use Rattle.page_store.specs.page_hash.declared.PageName.{PageName}
 use Rattle.page_store.specs.Layout.{table_of}
-use Rattle.anon_map.specs.Maps.{Map, places_of, with_places}
-use Rattle.anon_slots.specs.Slots.{AnonSlotsSeen, count_at, is_used, IsSoundAnonSlots, with_count}
-use Rattle.hat_layer.specs.Pool.{translation_at}
-use Rattle.hat_layer.specs.declared.translation.Translation.{Translation}
-use Rattle.vnode_files.specs.Files.{FilesSeen, vnode_at}
-use Rattle.vnode_files.specs.Grow.{page_count}
-use Rattle.vnode_files.specs.Vnode.{is_blank}
+use Rattle.vm_world.specs.anon_map.Maps.{Map, places_of, with_places}
+use Rattle.vm_world.specs.anon_slots.Slots.{AnonSlotsSeen, count_at, is_used, IsSoundAnonSlots, with_count}
+use Rattle.vm_world.specs.hat_layer.Pool.{translation_at}
+use Rattle.vm_world.specs.hat_layer.declared.translation.Translation.{Translation}
+use Rattle.vm_world.specs.vnode_files.Files.{FilesSeen, vnode_at}
+use Rattle.vm_world.specs.vnode_files.Grow.{page_count}
+use Rattle.vm_world.specs.vnode_files.Vnode.{is_blank}
 use Rattle.vm_world.specs.CountsFit.{CountsFit}
 use Rattle.vm_world.specs.MemoryFits.{MemoryFits}
 use Rattle.vm_world.specs.Segments.{Spot, Spaces, spot_at, own_slot}

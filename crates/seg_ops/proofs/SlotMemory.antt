@@ -6,12 +6,12 @@ use Rattle.std.specs.FinMap as finite
 use Rattle.std.proofs.lemmas.Bool.{cases_eq}
 use Rattle.std.proofs.lemmas.Bool.Decides.{eqb_tells}
 use Rattle.std.proofs.lemmas.List.{length-set}
-use Rattle.addr_space.specs.Space.{Part}
-use Rattle.page_hash.specs.Names.{name_at, find}
-use Rattle.page_hash.specs.declared.PageName.{PageName}
-use Rattle.page_hash.proofs.NameLaws.{find-absent}
-use Rattle.page_lock.specs.Rows.{row_at}
-use Rattle.page_lock.specs.declared.Row.{Row}
+use Rattle.vm_world.specs.addr_space.Space.{Part}
+use Rattle.page_store.specs.page_hash.Names.{name_at, find}
+use Rattle.page_store.specs.page_hash.declared.PageName.{PageName}
+use Rattle.page_store.proofs.page_hash.NameLaws.{find-absent}
+use Rattle.page_store.specs.page_lock.Rows.{row_at}
+use Rattle.page_store.specs.page_lock.declared.Row.{Row}
 use Rattle.page_store.specs.Bays.{BaySeen}
 use Rattle.page_store.specs.Seen.{StoreSeen, IsListedFrame, residence, residence_in}
 use Rattle.page_store.specs.Steps.{next_frame, next_name, name_in, home_bytes}
@@ -19,14 +19,14 @@ use Rattle.page_store.specs.Notes.{Notes}
 use Rattle.page_store.specs.Table.{PlaceTable}
 use Rattle.page_store.specs.Value.{value, value_in, frame_value, note_of_holder, backing_value}
 use Rattle.page_store.proofs.QueryLemmas.{home-is}
-use Rattle.hat_layer.specs.Pool.{translation_at}
+use Rattle.vm_world.specs.hat_layer.Pool.{translation_at}
 use Rattle.page_store.specs.declared.residence.Residence.TheVariants.{Home, Absent}
-use Rattle.anon_map.specs.Maps.{Map, places_of, holders_of, with_places}
-use Rattle.anon_slots.specs.Slots.{AnonSlotsSeen, count_at, is_used}
-use Rattle.hat_layer.specs.declared.translation.Translation.{Translation}
-use Rattle.vm_types.specs.declared.call.Object.{Object}
-use Rattle.vnode_files.specs.Files.{FilesSeen, vnode_at}
-use Rattle.flat_model.specs.Words.{pages_in}
+use Rattle.vm_world.specs.anon_map.Maps.{Map, places_of, holders_of, with_places}
+use Rattle.vm_world.specs.anon_slots.Slots.{AnonSlotsSeen, count_at, is_used}
+use Rattle.vm_world.specs.hat_layer.declared.translation.Translation.{Translation}
+use Rattle.vm_world.specs.vm_types.declared.call.Object.{Object}
+use Rattle.vm_world.specs.vnode_files.Files.{FilesSeen, vnode_at}
+use Rattle.vm_world.specs.flat_model.Words.{pages_in}
 use Rattle.vm_world.specs.CountsFit.{SegmentsFit, SegmentFits, ObjectFits, OwnFits, slots_for_part}
 use Rattle.vm_world.specs.FlatMemory.{zero_maps}
 use Rattle.vm_world.specs.FramesFit.{FramesFit, DisksFit}

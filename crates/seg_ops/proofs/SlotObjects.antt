@@ -7,13 +7,13 @@ use Rattle.std.specs.FinMap as finite
 use Rattle.std.specs.FinSet as set
 use Rattle.std.proofs.lemmas.Bool.{cases_eq, cases_lt}
 use Rattle.std.proofs.lemmas.List.{ext_get_or, get_or-replicate, get_or-set_other, get_or_past, length-replicate}
-use Rattle.addr_space.specs.Space.{Part}
+use Rattle.vm_world.specs.addr_space.Space.{Part}
 use Rattle.page_store.specs.Notes.{Notes}
-use Rattle.anon_map.specs.Maps.{places_of}
-use Rattle.vnode_files.specs.Files.{FilesSeen}
-use Rattle.vnode_files.specs.Vnode.{VnodeSeen}
-use Rattle.flat_model.specs.Words.{Page, zero_page}
-use Rattle.vm_types.specs.declared.call.Object.{Object}
+use Rattle.vm_world.specs.anon_map.Maps.{places_of}
+use Rattle.vm_world.specs.vnode_files.Files.{FilesSeen}
+use Rattle.vm_world.specs.vnode_files.Vnode.{VnodeSeen}
+use Rattle.vm_world.specs.flat_model.Words.{Page, zero_page}
+use Rattle.vm_world.specs.vm_types.declared.call.Object.{Object}
 use Rattle.vm_world.specs.CallSteps.{KeepsMachine, ChangesMemory}
 use Rattle.vm_world.specs.FlatMemory.{Shape, cell_of, own_without_slot, flat_shaped, flat_memory, map_with, shape_of, space_with, zero_maps, zero_pages}
 use Rattle.vm_world.specs.MemoryFits.{MemoryFits}

@@ -7,13 +7,13 @@ use Rattle.std.specs.Cmp.{nat_cmp_total, unsigned_tied}
 use Rattle.std.specs.FinMap as finite
 use Rattle.std.proofs.lemmas.Bool.{cases_eq, eq-eqb, eqb-true}
 use Rattle.std.proofs.lemmas.List.Sums.{sum_by-cons, sum_by-append}
-use Rattle.vm_types.specs.declared.call.Object.{Object}
-use Rattle.vm_types.specs.declared.call.Object.TheVariants as object
-use Rattle.vm_types.specs.declared.call.Kind.{Kind}
-use Rattle.vm_types.specs.declared.call.Kind.TheVariants.{Shared, Private}
-use Rattle.addr_space.specs.Space.{Part, has, begins, part_at, piece_at}
-use Rattle.anon_map.specs.Maps.{Map, holders_of}
-use Rattle.flat_model.proofs.Ranges.{in_range-low, in_range-high}
+use Rattle.vm_world.specs.vm_types.declared.call.Object.{Object}
+use Rattle.vm_world.specs.vm_types.declared.call.Object.TheVariants as object
+use Rattle.vm_world.specs.vm_types.declared.call.Kind.{Kind}
+use Rattle.vm_world.specs.vm_types.declared.call.Kind.TheVariants.{Shared, Private}
+use Rattle.vm_world.specs.addr_space.Space.{Part, has, begins, part_at, piece_at}
+use Rattle.vm_world.specs.anon_map.Maps.{Map, holders_of}
+use Rattle.vm_world.proofs.flat_model.Ranges.{in_range-low, in_range-high}
 use Rattle.vm_world.specs.declared.segment.Segment.{Segment}
 use Rattle.vm_world.specs.Segments.{Spot, Spaces, spot_at, zero_map}
 use Rattle.vm_world.specs.FlatMemory.{Memory, zero_maps}

@@ -4,12 +4,12 @@ use Rattle.std.specs.Prelude.{IsSome, true, false, unwrap_or, option_map, option
 use Rattle.std.specs.Option.{option_or}
 use Rattle.std.proofs.lemmas.Bool.{cases_eq}
 use Rattle.std.proofs.lemmas.List.{get_or-set_other}
-use Rattle.vm_types.specs.declared.call.Object.{Object}
-use Rattle.vm_types.specs.declared.call.Object.TheVariants as object
-use Rattle.vm_types.specs.declared.call.Kind.{Kind}
-use Rattle.vm_types.specs.declared.call.Kind.TheVariants.{Shared, Private}
-use Rattle.page_hash.specs.declared.PageName.{PageName}
-use Rattle.anon_map.specs.Maps.{Map, anon_map_at, the_map, IsMapThere, places_of, holders_of, with_places}
+use Rattle.vm_world.specs.vm_types.declared.call.Object.{Object}
+use Rattle.vm_world.specs.vm_types.declared.call.Object.TheVariants as object
+use Rattle.vm_world.specs.vm_types.declared.call.Kind.{Kind}
+use Rattle.vm_world.specs.vm_types.declared.call.Kind.TheVariants.{Shared, Private}
+use Rattle.page_store.specs.page_hash.declared.PageName.{PageName}
+use Rattle.vm_world.specs.anon_map.Maps.{Map, anon_map_at, the_map, IsMapThere, places_of, holders_of, with_places}
 use Rattle.vm_world.specs.declared.segment.Segment.{Segment}
 use Rattle.vm_world.specs.Segments.{Spot, own_slot, object_name, shown_name}
 use Rattle.vm_world.specs.World.{slot_in, slot_name}

@@ -4,10 +4,10 @@ use Rattle.std.specs.Prelude.{option_map, option_and_then}
 use Rattle.std.specs.Option.{option_or}
 use Rattle.std.proofs.lemmas.List.{length-set}
 use Rattle.page_store.specs.Notes.{Notes}
-use Rattle.anon_map.specs.Maps.{Map, IsMapThere, places_of, with_places}
-use Rattle.hat_layer.specs.declared.translation.Translation.{Translation}
-use Rattle.flat_model.specs.Flat.{Flat, Cell}
-use Rattle.flat_model.specs.Words.{Page}
+use Rattle.vm_world.specs.anon_map.Maps.{Map, IsMapThere, places_of, with_places}
+use Rattle.vm_world.specs.hat_layer.declared.translation.Translation.{Translation}
+use Rattle.vm_world.specs.flat_model.Flat.{Flat, Cell}
+use Rattle.vm_world.specs.flat_model.Words.{Page}
 use Rattle.vm_world.specs.CallSteps.{ChangesMemory}
 use Rattle.vm_world.specs.FlatMemory.{Memory, cell_of, own_without_slot, flat_memory}
 use Rattle.vm_world.specs.MemoryFits.{MemoryFits}

@@ -1,8 +1,8 @@
 -- THE PAGE OF A SLOT IS MADE: what the world is then.
 use Rattle.std.proofs.Common.{◌≡◌, ℕ, Bool, true, List, Option, Some, None, refl, sym, ap, ◌∙◌, arith}
 use Rattle.std.specs.Prelude.{IfSome}
-use Rattle.page_hash.specs.Names.{is_name}
-use Rattle.page_lock.specs.Rows.{row_at}
+use Rattle.page_store.specs.page_hash.Names.{is_name}
+use Rattle.page_store.specs.page_lock.Rows.{row_at}
 use Rattle.page_store.specs.Laws.{FillsPage}
 use Rattle.page_store.specs.Moves.{FillsFrame, after_taking}
 use Rattle.page_store.specs.Notes.{Notes}
@@ -14,9 +14,9 @@ use Rattle.page_store.specs.Value.{value, tells}
 use Rattle.page_store.specs.declared.place.Place.{Place}
 use Rattle.page_store.specs.declared.residence.Residence.TheVariants.{Home}
 use Rattle.page_store.proofs.TableLemmas.{table_law}
-use Rattle.anon_map.specs.Maps.{Map}
-use Rattle.anon_slots.specs.Slots.{AnonSlotsSeen, count_at}
-use Rattle.flat_model.specs.Words.{Page}
+use Rattle.vm_world.specs.anon_map.Maps.{Map}
+use Rattle.vm_world.specs.anon_slots.Slots.{AnonSlotsSeen, count_at}
+use Rattle.vm_world.specs.flat_model.Words.{Page}
 use Rattle.vm_world.specs.MemoryFits.{MemoryFits}
 use Rattle.vm_world.specs.NotesFit.{NotesFit}
 use Rattle.vm_world.specs.Segments.{Spaces}

@@ -2,19 +2,19 @@
 use Rattle.std.proofs.Common.{◌≡◌, ◌≢◌, ℕ, ◌==◌, Bool, false, cond, List, length, map, Option, Some, sym, ap, ◌∙◌, inl, inr, arith, slice_index_or}
 use Rattle.std.specs.Prelude.{not, unwrap_or, nat_lt}
 use Rattle.std.proofs.lemmas.Bool.Decides.{eqb_tells}
-use Rattle.page_hash.specs.Names.{name_at}
-use Rattle.page_hash.specs.declared.PageName.{PageName}
+use Rattle.page_store.specs.page_hash.Names.{name_at}
+use Rattle.page_store.specs.page_hash.declared.PageName.{PageName}
 use Rattle.page_store.specs.Layout.{file_page_place, slot_place, own_place, is_slot, table_of}
 use Rattle.page_store.specs.Notes.{Notes}
 use Rattle.page_store.specs.Seen.{StoreSeen}
 use Rattle.page_store.specs.StoreFits.{StoreFits}
 use Rattle.page_store.specs.declared.place.Place.{Place}
 use Rattle.page_store.proofs.TableLemmas.{table_law}
-use Rattle.anon_map.specs.Maps.{Map}
-use Rattle.anon_slots.specs.Slots.{AnonSlotsSeen}
-use Rattle.vnode_files.specs.Files.{vnode_at}
-use Rattle.vnode_files.specs.Vnode.{is_blank}
-use Rattle.vnode_files.specs.Grow.{page_count}
+use Rattle.vm_world.specs.anon_map.Maps.{Map}
+use Rattle.vm_world.specs.anon_slots.Slots.{AnonSlotsSeen}
+use Rattle.vm_world.specs.vnode_files.Files.{vnode_at}
+use Rattle.vm_world.specs.vnode_files.Vnode.{is_blank}
+use Rattle.vm_world.specs.vnode_files.Grow.{page_count}
 use Rattle.vm_world.specs.FramesFit.{FilesFit}
 use Rattle.vm_world.specs.World.{World, file_blocks, slot_name, is_unpushed, is_page_name, page_table, world_table}
 use Rattle.vm_world.proofs.PageNames.{slot-place}

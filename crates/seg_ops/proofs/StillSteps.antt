@@ -1,11 +1,11 @@
 -- THE STEPS THAT TAKE NO FRAME. What the store and the translations keep, so that memory and the notes fit as before.
 use Rattle.std.proofs.Common.{◌≡◌, ℕ, ◌<◌, Bool, true, false, cond, List, [], length, Option, Some, None, refl, sym, ap, ◌∙◌, ◌⊎◌, inl, inr, subst}
 use Rattle.std.specs.Prelude.{◌↔◌, IsTrue, IsSome, unwrap_or}
-use Rattle.core_arena.specs.Bytes.{bytes_at}
-use Rattle.page_hash.specs.Names.{name_at}
-use Rattle.page_hash.specs.declared.PageName.{PageName}
-use Rattle.page_lock.specs.Rows.{row_at}
-use Rattle.page_lock.specs.declared.Row.{Row}
+use Rattle.page_store.specs.core_arena.Bytes.{bytes_at}
+use Rattle.page_store.specs.page_hash.Names.{name_at}
+use Rattle.page_store.specs.page_hash.declared.PageName.{PageName}
+use Rattle.page_store.specs.page_lock.Rows.{row_at}
+use Rattle.page_store.specs.page_lock.declared.Row.{Row}
 use Rattle.page_store.specs.Bays.{BaySeen}
 use Rattle.page_store.specs.Laws.{SameResidence}
 use Rattle.page_store.specs.Moves.{KeepsValues, SameDisksTell}
@@ -16,13 +16,13 @@ use Rattle.page_store.specs.Table.{PlaceTable}
 use Rattle.page_store.specs.Transfers.{is_rewritten_in}
 use Rattle.page_store.specs.Value.{value, backing_value, tells}
 use Rattle.page_store.specs.declared.place.Place.{Place}
-use Rattle.page_hash.proofs.NameLaws.{find-at}
+use Rattle.page_store.proofs.page_hash.NameLaws.{find-at}
 use Rattle.page_store.proofs.QueryLemmas.{home-is, found-within}
-use Rattle.anon_slots.specs.Slots.{AnonSlotsSeen}
-use Rattle.anon_map.specs.Maps.{Map}
-use Rattle.vnode_files.specs.Files.{FilesSeen}
-use Rattle.hat_layer.specs.declared.translation.Translation.{Translation}
-use Rattle.hat_layer.specs.Pool.{HatSeen, IsSingleValued}
+use Rattle.vm_world.specs.anon_slots.Slots.{AnonSlotsSeen}
+use Rattle.vm_world.specs.anon_map.Maps.{Map}
+use Rattle.vm_world.specs.vnode_files.Files.{FilesSeen}
+use Rattle.vm_world.specs.hat_layer.declared.translation.Translation.{Translation}
+use Rattle.vm_world.specs.hat_layer.Pool.{HatSeen, IsSingleValued}
 use Rattle.vm_world.specs.FlatMemory.{Memory}
 use Rattle.vm_world.specs.FramesFit.{FramesFit, DisksFit}
 use Rattle.vm_world.specs.MemoryFits.{MemoryFits}

@@ -5,8 +5,8 @@ use Rattle.std.proofs.lemmas.Bool.{eq-eqb}
 use Rattle.page_store.specs.Laws.{StaysInPlace}
 use Rattle.page_store.specs.Moves.{is_only}
 use Rattle.page_store.specs.Seen.{StoreSeen, IsListedFrame}
-use Rattle.hat_layer.specs.declared.translation.Translation.{Translation}
-use Rattle.hat_layer.specs.Pool.{HatSeen, IsSingleValued, leads, with_clear_bits, change_lead, change_frame, bits_of}
+use Rattle.vm_world.specs.hat_layer.declared.translation.Translation.{Translation}
+use Rattle.vm_world.specs.hat_layer.Pool.{HatSeen, IsSingleValued, leads, with_clear_bits, change_lead, change_frame, bits_of}
 use Rattle.vm_world.specs.MemoryFits.{MemoryFits}
 use Rattle.vm_world.specs.Segments.{Spaces}
 use Rattle.vm_world.specs.TranslationsFit.{TranslationFits, TranslationsFit, HasWritten}

@@ -2,8 +2,8 @@
 use Rattle.std.proofs.Common.{◌≡◌, ◌≢◌, ℕ, Bool, true, false, cond, List, Option, Some, None, refl, sym, ap, ◌∙◌, inl, inr, subst, slice_index_or}
 use Rattle.std.specs.Prelude.{option_map}
 use Rattle.std.proofs.lemmas.Bool.{cases_Bool}
-use Rattle.hat_layer.specs.declared.translation.Translation.{Translation}
-use Rattle.hat_layer.specs.Pool.{HatSeen, IsSingleValued, change_at, change_page, holds, without_write}
+use Rattle.vm_world.specs.hat_layer.declared.translation.Translation.{Translation}
+use Rattle.vm_world.specs.hat_layer.Pool.{HatSeen, IsSingleValued, change_at, change_page, holds, without_write}
 use Rattle.vm_world.specs.MemoryFits.{MemoryFits}
 use Rattle.vm_world.specs.Segments.{Spaces}
 use Rattle.vm_world.specs.TranslationsFit.{TranslationFits, TranslationsFit, HasWritten}

@@ -2,9 +2,9 @@
 use Rattle.std.proofs.Common.{◌≡◌, ℕ, ◌<◌, Bool, length, Some, refl, sym, ap, ◌∙◌, ◌⊎◌, inl, inr, subst, arith, get_or-set_same}
 use Rattle.std.specs.Prelude.{◌||◌}
 use Rattle.std.proofs.lemmas.List.{length-set}
-use Rattle.core_arena.specs.Bytes.{bytes_at}
-use Rattle.page_lock.specs.Rows.{row_at, clear_row, with_bits}
-use Rattle.page_lock.specs.declared.Row.{Row}
+use Rattle.page_store.specs.core_arena.Bytes.{bytes_at}
+use Rattle.page_store.specs.page_lock.Rows.{row_at, clear_row, with_bits}
+use Rattle.page_store.specs.page_lock.declared.Row.{Row}
 use Rattle.page_store.specs.Laws.{SameResidence, StaysInPlace}
 use Rattle.page_store.specs.Moves.{is_only}
 use Rattle.page_store.specs.Seen.{StoreSeen, IsListedFrame}

@@ -1,12 +1,12 @@
 -- Places of anon maps that are emptied. Public clauses cite this.
 use Rattle.std.specs.Prelude.{◌≡◌, ◌≢◌, ◌↔◌, ◌<◌, ◌+◌, ℕ, zero, suc, List, length, Option, Some, None, IsTrue, slice_set}
 use Rattle.std.specs.FinMap as finite
-use Rattle.page_hash.specs.declared.PageName.{PageName}
+use Rattle.page_store.specs.page_hash.declared.PageName.{PageName}
 use Rattle.page_store.specs.Notes.{Notes}
-use Rattle.anon_map.specs.Maps.{Map, places_of, with_places}
-use Rattle.anon_slots.specs.Slots.{AnonSlotsSeen, count_at}
-use Rattle.hat_layer.specs.Pool.{translation_at}
-use Rattle.hat_layer.specs.declared.translation.Translation.{Translation}
+use Rattle.vm_world.specs.anon_map.Maps.{Map, places_of, with_places}
+use Rattle.vm_world.specs.anon_slots.Slots.{AnonSlotsSeen, count_at}
+use Rattle.vm_world.specs.hat_layer.Pool.{translation_at}
+use Rattle.vm_world.specs.hat_layer.declared.translation.Translation.{Translation}
 use Rattle.vm_world.specs.CallSteps.{KeepsMachine}
 use Rattle.vm_world.specs.CountsFit.{CountsFit}
 use Rattle.vm_world.specs.FlatMemory.{zero_maps}

@@ -1,14 +1,14 @@
 -- What faults come to. Public clauses cite this.
 use Rattle.std.specs.Prelude.{◌≡◌, ℕ, Bool, true, false, not, List, Option, Some, Result, Ok, Err, IsFalse, IsTrue, if◌then◌else◌}
-use Rattle.hat_layer.specs.Pool.{translation_at}
-use Rattle.hat_layer.specs.declared.translation.Translation.{Translation}
-use Rattle.page_hash.specs.declared.PageName.{PageName}
-use Rattle.vm_types.specs.declared.call.Call.{Call}
-use Rattle.vm_types.specs.declared.call.Call.TheVariants.{Load, Store}
-use Rattle.vm_types.specs.Prot.{can_read, can_write}
-use Rattle.vm_types.specs.declared.prot.Prot.{Prot}
-use Rattle.flat_model.specs.Flat.{Flat}
-use Rattle.flat_model.specs.Words.{page}
+use Rattle.vm_world.specs.hat_layer.Pool.{translation_at}
+use Rattle.vm_world.specs.hat_layer.declared.translation.Translation.{Translation}
+use Rattle.page_store.specs.page_hash.declared.PageName.{PageName}
+use Rattle.vm_world.specs.vm_types.declared.call.Call.{Call}
+use Rattle.vm_world.specs.vm_types.declared.call.Call.TheVariants.{Load, Store}
+use Rattle.vm_world.specs.vm_types.Prot.{can_read, can_write}
+use Rattle.vm_world.specs.vm_types.declared.prot.Prot.{Prot}
+use Rattle.vm_world.specs.flat_model.Flat.{Flat}
+use Rattle.vm_world.specs.flat_model.Words.{page}
 use Rattle.vm_world.specs.CallSteps.{ChangesMemory}
 use Rattle.vm_world.specs.FlatMemory.{Memory}
 use Rattle.vm_world.specs.Segments.{Spot, Spaces, shown_name, spot_at}

@@ -1,7 +1,7 @@
 -- Flights that go out. Public clauses cite this.
 use Rattle.std.specs.Prelude.{◌≡◌, ◌≢◌, ℕ, List, Option, Some, None, IsSome, IsFalse, slice_index_or}
-use Rattle.page_hash.specs.Names.{find}
-use Rattle.page_hash.specs.declared.PageName.{PageName}
+use Rattle.page_store.specs.page_hash.Names.{find}
+use Rattle.page_store.specs.page_hash.declared.PageName.{PageName}
 use Rattle.page_store.specs.Bays.{bay_at}
 use Rattle.page_store.specs.Flight.{FlightSeen, Begins}
 use Rattle.page_store.specs.Seen.{StoreSeen}
@@ -10,8 +10,8 @@ use Rattle.page_store.specs.Transfers.{is_push, frame_out, frame_shown}
 use Rattle.page_store.specs.Waits.{plan_page}
 use Rattle.page_store.specs.declared.plan.Plan.{Plan}
 use Rattle.page_store.specs.declared.plan.Plan.TheVariants.{Read, Push}
-use Rattle.hat_layer.specs.Pool.{bits_of, change_frame, drop_frame, with_clear_bits}
-use Rattle.hat_layer.specs.declared.translation.Translation.{Translation}
+use Rattle.vm_world.specs.hat_layer.Pool.{bits_of, change_frame, drop_frame, with_clear_bits}
+use Rattle.vm_world.specs.hat_layer.declared.translation.Translation.{Translation}
 use Rattle.vm_world.specs.Wants.{IsDirtyPage, MayReadIn}
 use Rattle.vm_world.specs.World.{World, world_table, is_unpushed}
 use Rattle.seg_ops.specs.Steps.{with_bits_gathered}

@@ -1,10 +1,10 @@
 -- Frames that are taken for other pages. Public clauses cite this.
 use Rattle.std.specs.Prelude.{ℕ, Option, IfSome}
-use Rattle.page_hash.specs.Names.{is_name}
+use Rattle.page_store.specs.page_hash.Names.{is_name}
 use Rattle.page_store.specs.Notes.{Note, Notes}
 use Rattle.page_store.specs.Steps.{next_name}
-use Rattle.flat_model.specs.Flat.{Flat}
-use Rattle.flat_model.specs.Step.{tails_cleared}
+use Rattle.vm_world.specs.flat_model.Flat.{Flat}
+use Rattle.vm_world.specs.flat_model.Step.{tails_cleared}
 use Rattle.vm_world.specs.NotesFit.{NotesFit}
 use Rattle.vm_world.specs.Segments.{Spaces}
 use Rattle.vm_world.specs.Serving.{LosesFrame}

@@ -1,9 +1,9 @@
 -- The first push of a page: from its begin on the page counts as pushed. Public clauses cite this.
 use Rattle.std.specs.Prelude.{◌==◌, true, false, if◌then◌else◌, slice_set}
-use Rattle.page_hash.specs.declared.PageName.{PageName}
-use Rattle.anon_slots.specs.Slots.{AnonSlotsSeen}
-use Rattle.vnode_files.specs.Files.{FilesSeen, vnode_at, with_vnode}
-use Rattle.vnode_files.specs.Vnode.{with_blank}
+use Rattle.page_store.specs.page_hash.declared.PageName.{PageName}
+use Rattle.vm_world.specs.anon_slots.Slots.{AnonSlotsSeen}
+use Rattle.vm_world.specs.vnode_files.Files.{FilesSeen, vnode_at, with_vnode}
+use Rattle.vm_world.specs.vnode_files.Vnode.{with_blank}
 
 -- The slots, of which one page more was pushed, where the name is a slot's.
 abbrev pub slots_pushed : AnonSlotsSeen → PageName → AnonSlotsSeen

@@ -4,14 +4,14 @@ use Rattle.std.specs.Option.{option_map_or}
 use Rattle.std.specs.Ordering.{nat_cmp}
 use Rattle.std.specs.FinSet as set
 use Rattle.page_store.specs.Notes.{Notes}
-use Rattle.vnode_files.specs.Files.{vnode_at}
-use Rattle.flat_model.specs.Access.{access_target, store, with_cell, with_space}
-use Rattle.flat_model.specs.Flat.{Cell, Flat, IsFlat, cell_at, shown}
-use Rattle.flat_model.specs.Mapping.{cells_of}
-use Rattle.flat_model.specs.Space.{without_range}
-use Rattle.flat_model.specs.Words.{Page, IsPage, page, pages_in}
-use Rattle.vm_types.specs.declared.call.Kind.TheVariants.{Shared, Private}
-use Rattle.vm_types.specs.Prot.{can_write}
+use Rattle.vm_world.specs.vnode_files.Files.{vnode_at}
+use Rattle.vm_world.specs.flat_model.Access.{access_target, store, with_cell, with_space}
+use Rattle.vm_world.specs.flat_model.Flat.{Cell, Flat, IsFlat, cell_at, shown}
+use Rattle.vm_world.specs.flat_model.Mapping.{cells_of}
+use Rattle.vm_world.specs.flat_model.Space.{without_range}
+use Rattle.vm_world.specs.flat_model.Words.{Page, IsPage, page, pages_in}
+use Rattle.vm_world.specs.vm_types.declared.call.Kind.TheVariants.{Shared, Private}
+use Rattle.vm_world.specs.vm_types.Prot.{can_write}
 use Rattle.vm_world.specs.FlatMemory.{Memory, flat_memory, own_without_slot}
 use Rattle.vm_world.specs.MemoryFits.{MemoryFits}
 use Rattle.vm_world.specs.Pages.{page_value}

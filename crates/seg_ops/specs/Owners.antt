@@ -1,7 +1,7 @@
 -- Words on the place that a private page owns alone. Public clauses cite this.
 use Rattle.std.specs.Prelude.{◌≡◌, ℕ, None}
-use Rattle.hat_layer.specs.Pool.{translation_at}
-use Rattle.flat_model.specs.Flat.{Flat}
+use Rattle.vm_world.specs.hat_layer.Pool.{translation_at}
+use Rattle.vm_world.specs.flat_model.Flat.{Flat}
 use Rattle.vm_world.specs.CallSteps.{ChangesMemory}
 use Rattle.vm_world.specs.Segments.{Spaces, Spot}
 use Rattle.vm_world.specs.Words.{memory, Fits}

@@ -1,6 +1,6 @@
 -- What a page that isn't home needs. Public clauses cite this.
 use Rattle.std.specs.Prelude.{◌≡◌, ℕ, false, List, Option, Some, None, IsSome}
-use Rattle.page_hash.specs.declared.PageName.{PageName}
+use Rattle.page_store.specs.page_hash.declared.PageName.{PageName}
 use Rattle.page_store.specs.Steps.{next_frame}
 use Rattle.page_store.specs.Transfers.{is_push}
 use Rattle.page_store.specs.Waits.{Waits, plan_page}

@@ -1,9 +1,9 @@
 -- Room that is made for another page. Public clauses cite this.
 use Rattle.std.specs.Prelude.{◌≡◌, ◌≢◌, ◌⊎◌, ℕ, ◌||◌, ◌++◌, ◌∷◌, [], Bool, Option, Some, None, IsSome}
-use Rattle.core_arena.specs.Bytes.{bytes_at}
-use Rattle.hat_layer.specs.Pool.{bits_of}
-use Rattle.page_hash.specs.declared.PageName.{PageName}
-use Rattle.page_lock.specs.Rows.{row_at}
+use Rattle.page_store.specs.core_arena.Bytes.{bytes_at}
+use Rattle.vm_world.specs.hat_layer.Pool.{bits_of}
+use Rattle.page_store.specs.page_hash.declared.PageName.{PageName}
+use Rattle.page_store.specs.page_lock.Rows.{row_at}
 use Rattle.page_store.specs.Laws.{SameResidence}
 use Rattle.page_store.specs.Seen.{StoreSeen}
 use Rattle.page_store.specs.Steps.{next_frame}

@@ -2,19 +2,19 @@
 use Rattle.std.specs.Prelude.{◌≡◌, ◌≢◌, ◌↔◌, ◌<◌, ◌≤◌, ◌+◌, ◌-◌, ℕ, Bool, false, List, length, Option, Some, None, IsTrue, IfSome, slice_index_or, slice_set}
 use Rattle.std.specs.FinMap as finite
 use Rattle.std.specs.Option.{option_map_or}
-use Rattle.page_hash.specs.declared.PageName.{PageName}
-use Rattle.page_hash.specs.Names.{is_name}
+use Rattle.page_store.specs.page_hash.declared.PageName.{PageName}
+use Rattle.page_store.specs.page_hash.Names.{is_name}
 use Rattle.page_store.specs.Notes.{Notes}
 use Rattle.page_store.specs.Seen.{residence, IsListedFrame}
 use Rattle.page_store.specs.Steps.{next_frame, next_name}
 use Rattle.page_store.specs.declared.residence.Residence.TheVariants.{Home}
-use Rattle.addr_space.specs.Space.{Part, begins}
-use Rattle.anon_map.specs.Maps.{Map, holders_of, places_of, with_places}
-use Rattle.anon_slots.specs.Slots.{AnonSlotsSeen, count_at, with_count, with_new_slot}
-use Rattle.flat_model.specs.Access.{with_cell}
-use Rattle.flat_model.specs.Flat.{Flat, cell_at}
-use Rattle.flat_model.specs.Words.{Page}
-use Rattle.vm_types.specs.declared.call.Object.TheVariants as object
+use Rattle.vm_world.specs.addr_space.Space.{Part, begins}
+use Rattle.vm_world.specs.anon_map.Maps.{Map, holders_of, places_of, with_places}
+use Rattle.vm_world.specs.anon_slots.Slots.{AnonSlotsSeen, count_at, with_count, with_new_slot}
+use Rattle.vm_world.specs.flat_model.Access.{with_cell}
+use Rattle.vm_world.specs.flat_model.Flat.{Flat, cell_at}
+use Rattle.vm_world.specs.flat_model.Words.{Page}
+use Rattle.vm_world.specs.vm_types.declared.call.Object.TheVariants as object
 use Rattle.vm_world.specs.CountsFit.{CountsFit}
 use Rattle.vm_world.specs.FlatMemory.{Memory, zero_maps}
 use Rattle.vm_world.specs.MemoryFits.{MemoryFits}

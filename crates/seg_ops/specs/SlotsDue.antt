@@ -1,12 +1,12 @@
 -- Where an access makes a slot. Public clauses cite this.
 use Rattle.std.specs.Prelude.{◌≡◌, ℕ, ◌+◌, ◌==◌, ◌&&◌, Bool, false, not, List, Option, Some, None, Result, Ok, Err, if◌then◌else◌, option_map}
-use Rattle.page_hash.specs.declared.PageName.{PageName}
-use Rattle.anon_map.specs.Maps.{Map}
-use Rattle.anon_slots.specs.Slots.{AnonSlotsSeen, count_at}
-use Rattle.vm_types.specs.declared.call.Kind.{Kind}
-use Rattle.vm_types.specs.declared.call.Kind.TheVariants.{Shared, Private}
-use Rattle.vm_types.specs.declared.call.Object.{Object}
-use Rattle.vm_types.specs.declared.call.Object.TheVariants as object
+use Rattle.page_store.specs.page_hash.declared.PageName.{PageName}
+use Rattle.vm_world.specs.anon_map.Maps.{Map}
+use Rattle.vm_world.specs.anon_slots.Slots.{AnonSlotsSeen, count_at}
+use Rattle.vm_world.specs.vm_types.declared.call.Kind.{Kind}
+use Rattle.vm_world.specs.vm_types.declared.call.Kind.TheVariants.{Shared, Private}
+use Rattle.vm_world.specs.vm_types.declared.call.Object.{Object}
+use Rattle.vm_world.specs.vm_types.declared.call.Object.TheVariants as object
 use Rattle.vm_world.specs.Segments.{Spot, own_slot, shown_name}
 use Rattle.vm_world.specs.World.{World}
 use Rattle.seg_ops.specs.Slots.{GivesSlot}

@@ -1,18 +1,18 @@
 -- What the steps do to the world. Public clauses cite this.
 use Rattle.std.specs.Prelude.{◌≡◌, ◌≢◌, ◌↔◌, length, ℕ, ◌||◌, Bool, true, false, List, Option, Some, None, IsTrue, slice_index_or}
-use Rattle.page_hash.specs.declared.PageName.{PageName}
-use Rattle.page_lock.specs.Rows.{row_at, with_bits}
+use Rattle.page_store.specs.page_hash.declared.PageName.{PageName}
+use Rattle.page_store.specs.page_lock.Rows.{row_at, with_bits}
 use Rattle.page_store.specs.Notes.{Notes}
 use Rattle.page_store.specs.Seen.{StoreSeen}
 use Rattle.page_store.specs.Steps.{with_row}
-use Rattle.hat_layer.specs.declared.translation.Translation.{Translation}
-use Rattle.hat_layer.specs.declared.translation.Dropped.{Dropped}
-use Rattle.flat_model.specs.Words.{page, word_at, word_put}
+use Rattle.vm_world.specs.hat_layer.declared.translation.Translation.{Translation}
+use Rattle.vm_world.specs.hat_layer.declared.translation.Dropped.{Dropped}
+use Rattle.vm_world.specs.flat_model.Words.{page, word_at, word_put}
 use Rattle.vm_world.specs.MemoryFits.{MemoryFits}
 use Rattle.vm_world.specs.NotesFit.{NotesFit}
 use Rattle.vm_world.specs.Pages.{page_value}
 use Rattle.vm_world.specs.Segments.{Spot, Spaces, spot_at, shown_name}
-use Rattle.vm_types.specs.Prot.{can_read, can_write}
+use Rattle.vm_world.specs.vm_types.Prot.{can_read, can_write}
 use Rattle.vm_world.specs.TranslationsFit.{MayWriteInPlace}
 use Rattle.vm_world.specs.World.{World, core_of, is_page_name, AllTell}
 use Rattle.vm_world.specs.WorldSteps.{KeepsTables}

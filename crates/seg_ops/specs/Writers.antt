@@ -1,6 +1,6 @@
 -- Translations that may write. Public clauses cite this.
 use Rattle.std.specs.Prelude.{◌≡◌, ℕ, true, false, List, Option, Some, None, slice_index_or}
-use Rattle.hat_layer.specs.declared.translation.Translation.{Translation}
+use Rattle.vm_world.specs.hat_layer.declared.translation.Translation.{Translation}
 
 -- No place of the pool has a translation of the page that may write.
 abbrev pub HasNoWriter : List (Option Translation) → ℕ → ℕ → Type 0

@@ -1,21 +1,18 @@
 //! Words through translations: the hot path. An access is one look for the translation, in which it is noted, and one word.
 ghost use Rattle.std.specs.Prelude.{◌≡◌, ℕ, ◌%◌, true, false, IfSome, IfNone};
-ghost use Rattle.flat_model.specs.Words.{page};
-ghost use Rattle.hat_layer.specs.Pool.{IsNoted, frame_for, after_access, change_at, change_page, translation_at};
+ghost use Rattle.vm_world.specs.flat_model.Words.{page};
+ghost use Rattle.vm_world.specs.hat_layer.Pool.{IsNoted, frame_for, after_access, change_at, change_page, translation_at};
 ghost use Rattle.page_store.specs.Laws.{SameResidence};
 ghost use Rattle.page_store.specs.Seen.{residence};
-ghost use Rattle.vm_types.specs.Words.{IsWordSize, FitsWord};
+ghost use Rattle.vm_world.specs.vm_types.Words.{IsWordSize, FitsWord};
 ghost use Rattle.vm_world.specs.Segments.{Spaces};
 ghost use Rattle.vm_world.specs.Serving.{ModifiesNone, ModifiesOnly};
 ghost use Rattle.vm_world.specs.Words.{Fits, IsFit, KeepsEveryPage, OnlyStore, OnlyHat};
 ghost use Rattle.vm_world.specs.World.{world_seen};
 ghost use Rattle.seg_ops.specs.Steps.{ReadsWord, WritesWord};
 
-use block_device::Disk;
-use flat_model::word_at;
-use page_store::Residence;
-use vm_types::word_bytes;
-use vm_world::World;
+use page_store::{Disk, Residence};
+use vm_world::{World, word_at, word_bytes};
 
 /// Notes an access to a page, and answers the frame that it goes to: where the page has a translation that lets it. None
 /// exactly otherwise. Constant expected time: one look for the translation.

@@ -1,12 +1,12 @@
 //! Pages of anonymous memory: a slot is made for an empty place of an anon map, with its page.
 ghost use Rattle.std.specs.Prelude.{◌≡◌, ◌<◌, ℕ, length, true, Some, None, IsSome, slice_set};
-ghost use Rattle.core_arena.specs.Bytes.{zeros};
-ghost use Rattle.hat_layer.specs.Pool.{translation_at};
-ghost use Rattle.page_hash.specs.Names.{find, is_name};
+ghost use Rattle.page_store.specs.core_arena.Bytes.{zeros};
+ghost use Rattle.vm_world.specs.hat_layer.Pool.{translation_at};
+ghost use Rattle.page_store.specs.page_hash.Names.{find, is_name};
 ghost use Rattle.page_store.specs.Seen.{IsListedFrame, residence};
 ghost use Rattle.page_store.specs.Steps.{next_frame, next_name, after_fill, home_bytes};
-ghost use Rattle.anon_map.specs.Maps.{IsMapThere, places_of, with_places};
-ghost use Rattle.anon_slots.specs.Slots.{with_new_slot};
+ghost use Rattle.vm_world.specs.anon_map.Maps.{IsMapThere, places_of, with_places};
+ghost use Rattle.vm_world.specs.anon_slots.Slots.{with_new_slot};
 ghost use Rattle.vm_world.specs.CallSteps.{ChangesMemory};
 ghost use Rattle.vm_world.specs.Segments.{Spaces, Spot};
 ghost use Rattle.vm_world.specs.Words.{memory, Fits, IsFit, SameFilesAndHat};
@@ -16,8 +16,7 @@ ghost use Rattle.seg_ops.specs.Owners.{OwnerBecomes};
 ghost use Rattle.seg_ops.specs.Frames.{next_cleared};
 
 use crate::tails::pend_tail;
-use block_device::Disk;
-use page_store::{PageName, Residence, SWAP_OBJECT};
+use page_store::{Disk, PageName, Residence, SWAP_OBJECT};
 use vm_world::World;
 
 /// Makes a slot with a page of zeros for an empty place of an anon map: one of new zero memory, of a zero object, or of a

@@ -1,7 +1,7 @@
 //! A page that was never pushed: a frame of zeros.
 ghost use Rattle.seg_ops.specs.Frames.{TakesNextFrame, KeepsButNext};
 ghost use Rattle.std.specs.Prelude.{◌≡◌, ◌<◌, ◌==◌, length, false, IsSome, IsTrue, IfSome};
-ghost use Rattle.core_arena.specs.Bytes.{zeros};
+ghost use Rattle.page_store.specs.core_arena.Bytes.{zeros};
 ghost use Rattle.page_store.specs.Seen.{IsListedFrame, residence};
 ghost use Rattle.page_store.specs.Steps.{next_frame, after_fill};
 ghost use Rattle.vm_world.specs.Serving.{ModifiesOnly};
@@ -10,8 +10,7 @@ ghost use Rattle.vm_world.specs.World.{world_seen, file_name, is_unpushed, page_
 ghost use Rattle.vm_world.specs.WorldSteps.{stays};
 
 use crate::tails::pend_tail;
-use block_device::Disk;
-use page_store::{PageName, Residence};
+use page_store::{Disk, PageName, Residence};
 use vm_world::World;
 
 /// Takes a frame for a page that exists and was never pushed: zeros, modified where it is a slot's. The name that the frame held is cut at its valid bytes. Time: one page.

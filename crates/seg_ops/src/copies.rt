@@ -1,11 +1,11 @@
 //! A page of anonymous memory that other places hold too is copied before it is written.
 ghost use Rattle.std.specs.Prelude.{◌≡◌, ◌<◌, ◌-◌, ℕ, length, true, Some, IsSome, IsTrue, slice_set};
-ghost use Rattle.core_arena.specs.Bytes.{zeros};
-ghost use Rattle.page_hash.specs.Names.{find};
+ghost use Rattle.page_store.specs.core_arena.Bytes.{zeros};
+ghost use Rattle.page_store.specs.page_hash.Names.{find};
 ghost use Rattle.page_store.specs.Seen.{IsListedFrame, residence};
 ghost use Rattle.page_store.specs.Steps.{next_frame, after_fill, home_bytes};
-ghost use Rattle.anon_map.specs.Maps.{IsMapThere, places_of, with_places};
-ghost use Rattle.anon_slots.specs.Slots.{count_at, with_count, with_new_slot};
+ghost use Rattle.vm_world.specs.anon_map.Maps.{IsMapThere, places_of, with_places};
+ghost use Rattle.vm_world.specs.anon_slots.Slots.{count_at, with_count, with_new_slot};
 ghost use Rattle.vm_world.specs.Words.{memory, SameFilesAndHat};
 ghost use Rattle.vm_world.specs.World.{world_seen, slot_name, slot_in, is_unpushed};
 ghost use Rattle.seg_ops.specs.Slots.{MakesHome};
@@ -14,8 +14,7 @@ ghost use Rattle.seg_ops.specs.Frames.{next_cleared};
 
 use crate::anon::{make_copy, make_zero};
 use crate::empties::leave_slot;
-use block_device::Disk;
-use page_store::{PageName, Residence, SWAP_OBJECT};
+use page_store::{Disk, PageName, Residence, SWAP_OBJECT};
 use vm_world::World;
 
 /// Gives a place of a private mapping's map, whose slot other places hold too, a slot of its own, with a copy of that

@@ -1,6 +1,6 @@
 //! Translations that are dropped.
 ghost use Rattle.std.specs.Prelude.{◌≡◌, ℕ, None, option_map};
-ghost use Rattle.hat_layer.specs.Pool.{translation_at, told_of, drop_page, drop_at};
+ghost use Rattle.vm_world.specs.hat_layer.Pool.{translation_at, told_of, drop_page, drop_at};
 ghost use Rattle.page_store.specs.Laws.{SameResidence};
 ghost use Rattle.seg_ops.specs.Steps.{with_dropped_gathered};
 ghost use Rattle.vm_world.specs.Serving.{ModifiesNone};
@@ -8,7 +8,7 @@ ghost use Rattle.vm_world.specs.Words.{IsFit, KeepsEveryPage, OnlyStoreAndHat};
 ghost use Rattle.vm_world.specs.World.{world_seen};
 
 use crate::tables::gather;
-use block_device::Disk;
+use page_store::Disk;
 use vm_world::World;
 
 /// Drops the translation of a page, where it has one, and gathers its bits into its page. Constant expected time.

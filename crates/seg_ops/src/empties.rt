@@ -1,11 +1,11 @@
 //! Places of anon maps that are emptied.
 ghost use Rattle.std.specs.Prelude.{◌≡◌, ◌≢◌, ◌<◌, ◌-◌, ℕ, length, Some, None, slice_set};
-ghost use Rattle.hat_layer.specs.Pool.{translation_at};
-ghost use Rattle.page_hash.specs.declared.PageName.{PageName};
+ghost use Rattle.vm_world.specs.hat_layer.Pool.{translation_at};
+ghost use Rattle.page_store.specs.page_hash.declared.PageName.{PageName};
 ghost use Rattle.page_store.specs.Seen.{residence};
 ghost use Rattle.page_store.specs.Steps.{after_abort};
-ghost use Rattle.anon_map.specs.Maps.{IsMapThere, places_of, with_places};
-ghost use Rattle.anon_slots.specs.Slots.{count_at, with_count};
+ghost use Rattle.vm_world.specs.anon_map.Maps.{IsMapThere, places_of, with_places};
+ghost use Rattle.vm_world.specs.anon_slots.Slots.{count_at, with_count};
 ghost use Rattle.vm_world.specs.Segments.{Spaces, Spot};
 ghost use Rattle.vm_world.specs.Serving.{ModifiesNone};
 ghost use Rattle.vm_world.specs.Words.{memory, Fits, IsFit, OnlySlotsAndMaps, OnlyAnonymous};
@@ -15,8 +15,7 @@ ghost use Rattle.seg_ops.specs.OwnPages.{OwnPagesLaw, OwnShownLaw, without_own_p
 ghost use Rattle.seg_ops.specs.Slots.{OwnsAlone};
 ghost use Rattle.seg_ops.specs.Owners.{OwnerBecomes};
 
-use block_device::Disk;
-use page_store::{PageName, Residence, SWAP_OBJECT};
+use page_store::{Disk, PageName, Residence, SWAP_OBJECT};
 use vm_world::World;
 
 /// Takes a slot out of a place, and counts it once less.

@@ -1,8 +1,8 @@
 //! Transfers that begin: what goes out with a flight.
 ghost use Rattle.std.specs.Prelude.{◌≡◌, ◌<◌, ◌≤◌, ℕ, length, None, Some, IsFalse, IsTrue, IsSome};
-ghost use Rattle.block_device.specs.DiskSeen.{DiskSeen};
-ghost use Rattle.hat_layer.specs.Pool.{bits_of, drop_frame};
-ghost use Rattle.page_hash.specs.Names.{find};
+ghost use Rattle.page_store.specs.block_device.DiskSeen.{DiskSeen};
+ghost use Rattle.vm_world.specs.hat_layer.Pool.{bits_of, drop_frame};
+ghost use Rattle.page_store.specs.page_hash.Names.{find};
 ghost use Rattle.page_store.specs.Bays.{bay_at, home};
 ghost use Rattle.page_store.specs.Flight.{note_of};
 ghost use Rattle.page_store.specs.Layout.{page_place};
@@ -10,9 +10,9 @@ ghost use Rattle.page_store.specs.Seen.{IsListedFrame};
 ghost use Rattle.page_store.specs.Steps.{next_frame};
 ghost use Rattle.page_store.specs.Transfers.{BeginsTransfer, after_begin, frame_out};
 ghost use Rattle.page_store.specs.Waits.{Waits, plan_page};
-ghost use Rattle.vnode_files.specs.Files.{vnode_at};
-ghost use Rattle.vnode_files.specs.Grow.{page_count};
-ghost use Rattle.vnode_files.specs.Vnode.{block_at, is_blank};
+ghost use Rattle.vm_world.specs.vnode_files.Files.{vnode_at};
+ghost use Rattle.vm_world.specs.vnode_files.Grow.{page_count};
+ghost use Rattle.vm_world.specs.vnode_files.Vnode.{block_at, is_blank};
 ghost use Rattle.vm_world.specs.Wants.{IsDirtyPage, MayReadIn};
 ghost use Rattle.vm_world.specs.Words.{IsFit, KeepsEveryPage, OnlyStoreAndHat, OnlyStoreAndTails, OnlySlotsAndFiles};
 ghost use Rattle.vm_world.specs.World.{world_seen, world_table, file_blocks, is_unpushed, page_exists};
@@ -24,11 +24,10 @@ ghost use Rattle.seg_ops.specs.Steps.{with_bits_gathered};
 use crate::rooms::sync;
 use crate::tables::add_bits;
 use crate::tails::pend_tail;
-use block_device::Disk;
-use page_store::{Flight, PAGE_BYTES, PageName, Place, Plan, Residence, SWAP_DISK, SWAP_OBJECT};
-use vm_types::bytes_before;
-use vm_world::World;
-use vnode_files::Files;
+use page_store::{
+    Disk, Flight, PAGE_BYTES, PageName, Place, Plan, Residence, SWAP_DISK, SWAP_OBJECT,
+};
+use vm_world::{Files, World, bytes_before};
 
 /// Marks a page as pushed: its slot is marked, or it stops being blank in its file.
 fn set_pushed<D: Disk>(world: &mut World<D>, name: PageName)

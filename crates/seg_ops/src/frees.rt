@@ -1,7 +1,7 @@
 //! A frame is freed before it is taken for an anonymous page.
 ghost use Rattle.seg_ops.specs.Frames.{TakesNextFrame, KeepsButNext};
 ghost use Rattle.std.specs.Prelude.{◌≡◌, ℕ, None, IfSome, MatchOption};
-ghost use Rattle.page_hash.specs.declared.PageName.{PageName};
+ghost use Rattle.page_store.specs.page_hash.declared.PageName.{PageName};
 ghost use Rattle.page_store.specs.Laws.{Aborts};
 ghost use Rattle.page_store.specs.Seen.{IsListedFrame, residence};
 ghost use Rattle.page_store.specs.Steps.{next_frame, next_name, after_abort};
@@ -11,8 +11,7 @@ ghost use Rattle.vm_world.specs.World.{world_seen};
 ghost use Rattle.vm_world.specs.WorldSteps.{stays};
 
 use crate::tails::pend_tail;
-use block_device::Disk;
-use page_store::{PageName, Residence, Store};
+use page_store::{Disk, PageName, Residence, Store};
 use vm_world::World;
 
 /// Gives up a page, where there is one to give up.

@@ -1,7 +1,7 @@
 //! Translations that are loaded.
 ghost use Rattle.std.specs.Prelude.{◌≡◌, ℕ, ◌<◌, false, length, Some, option_map};
-ghost use Rattle.hat_layer.specs.Pool.{translation_at, is_of, holds, told_of, fresh_translation, dropped_by_load};
-ghost use Rattle.page_hash.specs.declared.PageName.{PageName};
+ghost use Rattle.vm_world.specs.hat_layer.Pool.{translation_at, is_of, holds, told_of, fresh_translation, dropped_by_load};
+ghost use Rattle.page_store.specs.page_hash.declared.PageName.{PageName};
 ghost use Rattle.page_store.specs.Laws.{SameResidence};
 ghost use Rattle.page_store.specs.Seen.{IsListedFrame, residence};
 ghost use Rattle.page_store.specs.Steps.{after_reclaim};
@@ -13,8 +13,7 @@ ghost use Rattle.vm_world.specs.World.{world_seen};
 ghost use Rattle.seg_ops.specs.Steps.{MayShow, with_dropped_gathered};
 
 use crate::tables::gather;
-use block_device::Disk;
-use page_store::{PageName, Residence};
+use page_store::{Disk, PageName, Residence};
 use vm_world::World;
 
 /// Loads a translation, and gathers the bits of the one that had to give way into its page. Constant expected time.

@@ -12,8 +12,7 @@ ghost use Rattle.vm_world.specs.Words.{Fits, OnlyStore};
 ghost use Rattle.vm_world.specs.World.{world_seen};
 ghost use Rattle.vm_world.specs.WorldSteps.{WorldStep, returns};
 
-use block_device::Disk;
-use page_store::Flight;
+use page_store::{Disk, Flight};
 use vm_world::World;
 
 /// Ends a transfer that was performed: its frame and its disk come back. A page that isn't gone is home then, but for one

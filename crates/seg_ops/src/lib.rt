@@ -30,7 +30,15 @@ pub use frees::free_next;
 pub use installs::{install, show, take_back};
 pub use landings::end_flight;
 pub use objects::drop_object;
+pub use page_store::{
+    Disk, DiskFault, Flight, Hold, PageName, Pick, Plan, Residence, SWAP_OBJECT, Store, write_block,
+};
 pub use plans::{Fault, ask, fetch};
 pub use protects::protect;
 pub use ranges::drop_places;
 pub use rooms::{evict, make_room, make_room_beside, sync};
+pub use vm_world::{
+    AnonMaps, AnonSlots, Call, Entry, Errno, Files, Hat, Kind, Object, PAGE_SIZE, Place, Prot,
+    Ranges, Reply, Segment, Signal, Wants, World, ZeroObjects, is_range, page_of, pages_in,
+    part_file,
+};

@@ -1,9 +1,9 @@
 //! Zero objects that nothing shows any more.
 ghost use Rattle.std.specs.Prelude.{◌≡◌, ◌<◌, ◌≤◌, ℕ, length, replicate, None};
-ghost use Rattle.page_hash.specs.declared.PageName.{PageName};
+ghost use Rattle.page_store.specs.page_hash.declared.PageName.{PageName};
 ghost use Rattle.page_store.specs.Seen.{residence};
-ghost use Rattle.anon_map.specs.Maps.{IsMapThere, places_of, with_places};
-ghost use Rattle.anon_slots.specs.Slots.{count_at};
+ghost use Rattle.vm_world.specs.anon_map.Maps.{IsMapThere, places_of, with_places};
+ghost use Rattle.vm_world.specs.anon_slots.Slots.{count_at};
 ghost use Rattle.vm_world.specs.CallSteps.{ChangesMemory};
 ghost use Rattle.vm_world.specs.SegmentSteps.{with_zero_object};
 ghost use Rattle.vm_world.specs.Segments.{Spaces};
@@ -13,7 +13,7 @@ ghost use Rattle.vm_world.specs.World.{world_seen};
 ghost use Rattle.seg_ops.specs.Empties.{IsUnloadedZero};
 
 use crate::ranges::empty_place;
-use block_device::Disk;
+use page_store::Disk;
 use vm_world::World;
 
 /// Empties the map of a zero object: its slots are free, and their pages are given up, each frame at once, or at the end of

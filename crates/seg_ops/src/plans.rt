@@ -11,8 +11,7 @@ ghost use Rattle.seg_ops.specs.Plans.{IsAsked, FetchesPage};
 ghost use Rattle.seg_ops.specs.Rooms.{ListsOneMore, MakesRoom};
 
 use crate::rooms::make_room;
-use block_device::Disk;
-use page_store::{PageName, Plan, SWAP_DISK, SWAP_OBJECT};
+use page_store::{Disk, PageName, Plan, SWAP_DISK, SWAP_OBJECT};
 use vm_world::{Wants, World};
 
 /// What a fault comes to, where nothing must come first.

@@ -1,12 +1,12 @@
 //! Translations that lose the right to write.
 ghost use Rattle.std.specs.Prelude.{◌≡◌, ℕ};
-ghost use Rattle.hat_layer.specs.Pool.{translation_at, change_page, without_write};
+ghost use Rattle.vm_world.specs.hat_layer.Pool.{translation_at, change_page, without_write};
 ghost use Rattle.vm_world.specs.Serving.{ModifiesNone};
 ghost use Rattle.vm_world.specs.Words.{KeepsEveryPage, OnlyHat};
 ghost use Rattle.vm_world.specs.World.{world_seen};
 ghost use Rattle.seg_ops.specs.Writers.{HasNoWriter, WritersStay};
 
-use block_device::Disk;
+use page_store::Disk;
 use vm_world::World;
 
 /// Takes the right to write from the translation of a page, where it has one; its bits stay. Takes no memory. Constant expected

@@ -1,9 +1,9 @@
 //! Ranges of places of anon maps that are emptied.
 ghost use Rattle.std.specs.Prelude.{◌≡◌, ◌<◌, ◌≤◌, ◌-◌, ℕ, length, None, slice_set};
-ghost use Rattle.page_hash.specs.declared.PageName.{PageName};
+ghost use Rattle.page_store.specs.page_hash.declared.PageName.{PageName};
 ghost use Rattle.page_store.specs.Seen.{residence};
-ghost use Rattle.anon_map.specs.Maps.{IsMapThere, places_of, with_places};
-ghost use Rattle.anon_slots.specs.Slots.{count_at};
+ghost use Rattle.vm_world.specs.anon_map.Maps.{IsMapThere, places_of, with_places};
+ghost use Rattle.vm_world.specs.anon_slots.Slots.{count_at};
 ghost use Rattle.vm_world.specs.CallSteps.{ChangesMemory};
 ghost use Rattle.vm_world.specs.Segments.{Spaces};
 ghost use Rattle.vm_world.specs.Serving.{ModifiesNone};
@@ -14,7 +14,7 @@ ghost use Rattle.seg_ops.specs.OwnPages.{without_own_page, without_own_pages};
 ghost use Rattle.seg_ops.specs.Owners.{OwnerBecomes};
 
 use crate::empties::{drop_slot, leave_slot};
-use block_device::Disk;
+use page_store::Disk;
 use vm_world::World;
 
 /// Empties a place, whether it holds a slot or not.

@@ -1,8 +1,8 @@
 //! Room for another page: a victim's bits are gathered, and it is released where it is clean.
 ghost use Rattle.std.specs.Prelude.{◌≡◌, ◌≢◌, ℕ, ◌<◌, ◌++◌, ◌∷◌, [], length, false, Some, None, IsSome, IsTrue, IfSome};
-ghost use Rattle.core_arena.specs.Bytes.{bytes_at};
-ghost use Rattle.hat_layer.specs.Pool.{bits_of, change_frame, drop_frame, with_clear_bits};
-ghost use Rattle.page_lock.specs.Rows.{row_at};
+ghost use Rattle.page_store.specs.core_arena.Bytes.{bytes_at};
+ghost use Rattle.vm_world.specs.hat_layer.Pool.{bits_of, change_frame, drop_frame, with_clear_bits};
+ghost use Rattle.page_store.specs.page_lock.Rows.{row_at};
 ghost use Rattle.page_store.specs.Seen.{IsListedFrame, residence};
 ghost use Rattle.page_store.specs.Steps.{next_frame};
 ghost use Rattle.page_store.specs.Waits.{IsVictim};
@@ -13,8 +13,7 @@ ghost use Rattle.vm_world.specs.Words.{IsFit, IsKnown, OneIsHome, OneIsHomeBesid
 ghost use Rattle.vm_world.specs.World.{world_seen};
 
 use crate::tables::add_bits;
-use block_device::Disk;
-use page_store::{PageName, Store};
+use page_store::{Disk, PageName, Store};
 use vm_world::World;
 
 /// Gathers the bits of a frame's translations into its page. The translations stay.

@@ -4,9 +4,8 @@ ghost use Rattle.page_store.specs.Laws.{StaysInPlace, SameResidence};
 ghost use Rattle.page_store.specs.Moves.{is_only};
 ghost use Rattle.seg_ops.specs.Steps.{with_bits_gathered, with_dropped_gathered};
 
-use block_device::Disk;
-use hat_layer::Dropped;
-use page_store::Store;
+use page_store::{Disk, Store};
+use vm_world::Dropped;
 
 /// Adds bits that were told of a frame's translations, referenced and modified, to those of its page.
 pub(crate) fn add_bits<D: Disk>(store: &mut Store<D>, frame: u32, told: (bool, bool))

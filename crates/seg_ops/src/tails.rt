@@ -1,14 +1,12 @@
 //! Tails of files that become zeros, since the page that has the tail lost its frame.
 ghost use Rattle.std.specs.Prelude.{◌≡◌, ◌<◌, ◌≤◌, ◌^◌, ◌==◌, ◌||◌, ℕ, length, IsTrue, IfSome};
-ghost use Rattle.flat_model.specs.Step.{is_bit_set};
-ghost use Rattle.page_hash.specs.Names.{is_name};
+ghost use Rattle.vm_world.specs.flat_model.Step.{is_bit_set};
+ghost use Rattle.page_store.specs.page_hash.Names.{is_name};
 ghost use Rattle.vm_world.specs.StateSteps.{PendsTails};
 ghost use Rattle.vm_world.specs.World.{world_seen, page_exists};
 
-use block_device::Disk;
-use page_store::{PageName, SWAP_OBJECT};
-use vm_types::pages_in;
-use vm_world::World;
+use page_store::{Disk, PageName, SWAP_OBJECT};
+use vm_world::{World, pages_in};
 
 /// A set of files, as bits, with one file more.
 fn with_file(files: u64, file: u32) -> u64

@@ -3,34 +3,34 @@ use Rattle.std.proofs.Common.{◌≡◌, ℕ, Bool, true, false, List, [], ◌�
 use Rattle.std.specs.Prelude.{IfSome}
 use Rattle.std.specs.Ordering.{nat_cmp}
 use Rattle.std.specs.FinSet as set
-use Rattle.page_hash.specs.Names.{is_name}
-use Rattle.page_hash.specs.declared.PageName.{PageName}
-use Rattle.page_store.specs.Notes.{Notes}
-use Rattle.page_store.specs.Steps.{next_name}
-use Rattle.hat_layer.specs.Pool.{translation_at, fresh_translation}
-use Rattle.vm_types.specs.declared.call.Call.{Call}
-use Rattle.vm_types.specs.declared.call.Call.TheVariants.{Load, Store, Map, Unmap, Protect, Sync, Read, Write, Truncate, Fork, Exit}
-use Rattle.flat_model.specs.Flat.{File, Flat, IsFlat}
-use Rattle.flat_model.specs.Step.{files_cleared, tails_cleared}
-use Rattle.vm_world.specs.CallSteps.{ChangesMemory}
-use Rattle.vm_world.specs.FlatMemory.{Memory, flat_memory}
-use Rattle.vm_world.specs.MemoryFits.{MemoryFits}
-use Rattle.vm_world.specs.NotesFit.{NotesFit}
-use Rattle.vm_world.specs.Segments.{Spot, Spaces}
-use Rattle.vm_world.specs.Serving.{TakesFrames, LosesFrame, AreReplaced, ModifiesOnly}
-use Rattle.vm_world.specs.StateSteps.{PendsTails}
-use Rattle.vm_world.specs.Wants.{accessed_page, shows_page}
-use Rattle.vm_world.specs.TranslationsFit.{MayWriteInPlace}
-use Rattle.vm_world.specs.World.{World, AllTell}
-use Rattle.vm_world.specs.WorldSteps.{WorldStep, stays, tails_lost}
-use Rattle.vm_world.proofs.Callers.{same-modes}
-use Rattle.vm_world.proofs.CallSteps.{call_rule}
-use Rattle.vm_world.proofs.FrameRule.{frame_law}
+use Rattle.seg_ops.specs.page_hash.Names.{is_name}
+use Rattle.seg_ops.specs.page_hash.declared.PageName.{PageName}
+use Rattle.seg_ops.specs.page_store.Notes.{Notes}
+use Rattle.seg_ops.specs.page_store.Steps.{next_name}
+use Rattle.seg_ops.specs.hat_layer.Pool.{translation_at, fresh_translation}
+use Rattle.seg_ops.specs.vm_types.declared.call.Call.{Call}
+use Rattle.seg_ops.specs.vm_types.declared.call.Call.TheVariants.{Load, Store, Map, Unmap, Protect, Sync, Read, Write, Truncate, Fork, Exit}
+use Rattle.seg_ops.specs.flat_model.Flat.{File, Flat, IsFlat}
+use Rattle.seg_ops.specs.flat_model.Step.{files_cleared, tails_cleared}
+use Rattle.seg_ops.specs.vm_world.CallSteps.{ChangesMemory}
+use Rattle.seg_ops.specs.vm_world.FlatMemory.{Memory, flat_memory}
+use Rattle.seg_ops.specs.vm_world.MemoryFits.{MemoryFits}
+use Rattle.seg_ops.specs.vm_world.NotesFit.{NotesFit}
+use Rattle.seg_ops.specs.vm_world.Segments.{Spot, Spaces}
+use Rattle.seg_ops.specs.vm_world.Serving.{TakesFrames, LosesFrame, AreReplaced, ModifiesOnly}
+use Rattle.seg_ops.specs.vm_world.StateSteps.{PendsTails}
+use Rattle.seg_ops.specs.vm_world.Wants.{accessed_page, shows_page}
+use Rattle.seg_ops.specs.vm_world.TranslationsFit.{MayWriteInPlace}
+use Rattle.seg_ops.specs.vm_world.World.{World, AllTell}
+use Rattle.seg_ops.specs.vm_world.WorldSteps.{WorldStep, stays, tails_lost}
+use Rattle.seg_ops.proofs.vm_world.Callers.{same-modes}
+use Rattle.seg_ops.proofs.vm_world.CallSteps.{call_rule}
+use Rattle.seg_ops.proofs.vm_world.FrameRule.{frame_law}
 use Rattle.seg_ops.specs.declared.plans.Fault.{Fault}
 use Rattle.seg_ops.specs.declared.plans.Fault.TheVariants as fault
-use Rattle.vm_world.specs.declared.wants.Wants.{Wants}
-use Rattle.vm_world.specs.declared.wants.Wants.TheVariants as wants
-use Rattle.vm_world.specs.Words.{KeepsPages}
+use Rattle.seg_ops.specs.vm_world.declared.wants.Wants.{Wants}
+use Rattle.seg_ops.specs.vm_world.declared.wants.Wants.TheVariants as wants
+use Rattle.seg_ops.specs.vm_world.Words.{KeepsPages}
 use Rattle.seg_ops.proofs.OwnShown.{own_shown_law}
 use Rattle.seg_ops.proofs.StillSteps.{memory_of}
 use Rattle.seg_ops.specs.Faults.{Accesses, FaultMeans, FaultModifies, EndsThere, ServesFault, after_fault, is_past}

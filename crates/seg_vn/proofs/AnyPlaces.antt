@@ -8,32 +8,32 @@ use Rattle.std.specs.Ordering.{nat_cmp, is_eq}
 use Rattle.std.proofs.lemmas.Bool.{cases_Bool}
 use Rattle.std.proofs.lemmas.List.Elements.{All-nil, All-cons, All-head, All-tail}
 use Rattle.std.proofs.lemmas.Option.{slice_get-map}
-use Rattle.vm_types.specs.declared.call.Kind.{Kind}
-use Rattle.vm_types.specs.declared.call.Kind.TheVariants.{Shared, Private}
-use Rattle.vm_types.specs.declared.call.Object.{Object}
-use Rattle.vm_types.specs.declared.call.Object.TheVariants as object
-use Rattle.addr_space.specs.Space.{Part, has, piece_at, part_at}
-use Rattle.anon_map.specs.Maps.{Map, IsMapThere, places_of}
-use Rattle.page_hash.specs.declared.PageName.{PageName}
-use Rattle.page_store.specs.Notes.{Notes}
-use Rattle.vnode_files.specs.declared.vnode.FileInfo.{FileInfo}
-use Rattle.vnode_files.specs.Files.{vnode_at}
-use Rattle.vnode_files.specs.Vnode.{VnodeSeen}
-use Rattle.flat_model.specs.Flat.{Cell, File, Flat, cell_at, shown, pages_of}
-use Rattle.flat_model.specs.Words.{Page, zero_page, pages_in}
-use Rattle.vm_world.specs.CountsFit.{SegmentFits, OwnFits, ObjectFits, ShowsZero}
-use Rattle.vm_world.specs.FlatMemory.{flat_memory, shape_of, cell_of, own_without_slot, file_with_pages, pages_from, zero_maps, zero_pages}
-use Rattle.vm_world.specs.MemoryFits.{MemoryFits}
-use Rattle.vm_world.specs.Pages.{page_value, contents_of}
-use Rattle.vm_world.specs.declared.segment.Segment.{Segment}
-use Rattle.vm_world.specs.Segments.{Spot, Spaces, spot_at, own_slot, object_name, segments_of}
-use Rattle.vm_world.specs.World.{World, slot_in, slot_name, file_name}
-use Rattle.vm_world.proofs.FilePages.{page-in, file-in}
-use Rattle.vm_world.proofs.FlatWhole.{some-inj}
-use Rattle.vm_world.proofs.Maps.{get-map_with, cell-at}
-use Rattle.vm_world.proofs.PageNames.{not-slot, file-apart}
-use Rattle.vm_world.proofs.PageNames as names
-use Rattle.vm_world.proofs.Spots.{IsSpotOf, spot-part}
+use Rattle.seg_ops.specs.vm_types.declared.call.Kind.{Kind}
+use Rattle.seg_ops.specs.vm_types.declared.call.Kind.TheVariants.{Shared, Private}
+use Rattle.seg_ops.specs.vm_types.declared.call.Object.{Object}
+use Rattle.seg_ops.specs.vm_types.declared.call.Object.TheVariants as object
+use Rattle.seg_ops.specs.addr_space.Space.{Part, has, piece_at, part_at}
+use Rattle.seg_ops.specs.anon_map.Maps.{Map, IsMapThere, places_of}
+use Rattle.seg_ops.specs.page_hash.declared.PageName.{PageName}
+use Rattle.seg_ops.specs.page_store.Notes.{Notes}
+use Rattle.seg_ops.specs.vnode_files.declared.vnode.FileInfo.{FileInfo}
+use Rattle.seg_ops.specs.vnode_files.Files.{vnode_at}
+use Rattle.seg_ops.specs.vnode_files.Vnode.{VnodeSeen}
+use Rattle.seg_ops.specs.flat_model.Flat.{Cell, File, Flat, cell_at, shown, pages_of}
+use Rattle.seg_ops.specs.flat_model.Words.{Page, zero_page, pages_in}
+use Rattle.seg_ops.specs.vm_world.CountsFit.{SegmentFits, OwnFits, ObjectFits, ShowsZero}
+use Rattle.seg_ops.specs.vm_world.FlatMemory.{flat_memory, shape_of, cell_of, own_without_slot, file_with_pages, pages_from, zero_maps, zero_pages}
+use Rattle.seg_ops.specs.vm_world.MemoryFits.{MemoryFits}
+use Rattle.seg_ops.specs.vm_world.Pages.{page_value, contents_of}
+use Rattle.seg_ops.specs.vm_world.declared.segment.Segment.{Segment}
+use Rattle.seg_ops.specs.vm_world.Segments.{Spot, Spaces, spot_at, own_slot, object_name, segments_of}
+use Rattle.seg_ops.specs.vm_world.World.{World, slot_in, slot_name, file_name}
+use Rattle.seg_ops.proofs.vm_world.FilePages.{page-in, file-in}
+use Rattle.seg_ops.proofs.vm_world.FlatWhole.{some-inj}
+use Rattle.seg_ops.proofs.vm_world.Maps.{get-map_with, cell-at}
+use Rattle.seg_ops.proofs.vm_world.PageNames.{not-slot, file-apart}
+use Rattle.seg_ops.proofs.vm_world.PageNames as names
+use Rattle.seg_ops.proofs.vm_world.Spots.{IsSpotOf, spot-part}
 use Rattle.seg_ops.specs.OwnPages.{with_own_shown}
 use Rattle.seg_ops.specs.Slots.{with_own_page}
 use Rattle.seg_ops.proofs.OwnShown.{own_shown_law}

@@ -4,46 +4,46 @@ use Rattle.std.specs.Prelude.{IsTrue, IsFalse, ◌||◌, ◌^◌, is_some, nat_l
 use Rattle.std.specs.Option.{option_or, option_map_or}
 use Rattle.std.specs.FinSet as set
 use Rattle.std.specs.Ordering.{nat_cmp}
-use Rattle.anon_map.specs.Maps.{places_of, with_places}
-use Rattle.anon_map.specs.Maps as maps_of
-use Rattle.anon_slots.specs.Slots.{AnonSlotsSeen, count_at}
-use Rattle.page_hash.specs.Names.{is_name}
-use Rattle.page_hash.specs.declared.PageName.{PageName}
-use Rattle.page_store.specs.Notes.{Notes}
-use Rattle.page_store.specs.Seen.{residence}
-use Rattle.page_store.specs.Steps.{next_frame, next_name}
-use Rattle.page_store.specs.declared.residence.Residence.TheVariants.{Home}
-use Rattle.page_store.specs.declared.plan.Plan.{Plan}
-use Rattle.page_store.specs.declared.plan.Plan.TheVariants as plan
-use Rattle.page_store.specs.declared.plan.Hold.TheVariants as hold
-use Rattle.hat_layer.specs.Pool.{translation_at, fresh_translation}
-use Rattle.vm_types.specs.Prot.{can_read, can_write}
-use Rattle.vm_types.specs.declared.call.Call.{Call}
-use Rattle.vm_types.specs.declared.call.Call.TheVariants.{Load, Store, Map, Unmap, Protect, Sync, Read, Write, Truncate, Fork, Exit}
-use Rattle.vm_types.specs.declared.call.Kind.{Kind}
-use Rattle.vm_types.specs.declared.call.Kind.TheVariants.{Shared, Private}
-use Rattle.vm_types.specs.declared.call.Object.{Object}
-use Rattle.vm_types.specs.declared.call.Object.TheVariants as object
-use Rattle.vnode_files.specs.Files.{FilesSeen, vnode_at}
-use Rattle.flat_model.specs.Step.{is_bit_set}
-use Rattle.flat_model.specs.Words.{page, pages_in}
-use Rattle.vm_world.specs.FlatMemory.{Memory, flat_memory}
-use Rattle.vm_world.specs.MemoryFits.{MemoryFits}
-use Rattle.vm_world.specs.Plans.{CanRunPlan}
-use Rattle.vm_world.specs.Segments.{Spot, Spaces, spot_at, own_slot, shown_name, object_name}
-use Rattle.vm_world.specs.Serving.{TakesFrames, KeepsWanted, ModifiesNone, AreReplaced, IsWanted}
-use Rattle.vm_world.specs.StateSteps.{PendsTails}
-use Rattle.vm_world.specs.TranslationsFit.{MayWriteInPlace}
-use Rattle.vm_world.specs.Wants.{IsDirtyPage, MakesSlotFor, ShowsPage, WantsHome, accessed_page, object_has, shows_page}
-use Rattle.vm_world.specs.World.{World, slot_in, slot_name}
-use Rattle.vm_world.specs.WorldSteps.{tails_lost}
-use Rattle.vm_world.proofs.FlatWhole.{some-inj}
+use Rattle.seg_ops.specs.anon_map.Maps.{places_of, with_places}
+use Rattle.seg_ops.specs.anon_map.Maps as maps_of
+use Rattle.seg_ops.specs.anon_slots.Slots.{AnonSlotsSeen, count_at}
+use Rattle.seg_ops.specs.page_hash.Names.{is_name}
+use Rattle.seg_ops.specs.page_hash.declared.PageName.{PageName}
+use Rattle.seg_ops.specs.page_store.Notes.{Notes}
+use Rattle.seg_ops.specs.page_store.Seen.{residence}
+use Rattle.seg_ops.specs.page_store.Steps.{next_frame, next_name}
+use Rattle.seg_ops.specs.page_store.declared.residence.Residence.TheVariants.{Home}
+use Rattle.seg_ops.specs.page_store.declared.plan.Plan.{Plan}
+use Rattle.seg_ops.specs.page_store.declared.plan.Plan.TheVariants as plan
+use Rattle.seg_ops.specs.page_store.declared.plan.Hold.TheVariants as hold
+use Rattle.seg_ops.specs.hat_layer.Pool.{translation_at, fresh_translation}
+use Rattle.seg_ops.specs.vm_types.Prot.{can_read, can_write}
+use Rattle.seg_ops.specs.vm_types.declared.call.Call.{Call}
+use Rattle.seg_ops.specs.vm_types.declared.call.Call.TheVariants.{Load, Store, Map, Unmap, Protect, Sync, Read, Write, Truncate, Fork, Exit}
+use Rattle.seg_ops.specs.vm_types.declared.call.Kind.{Kind}
+use Rattle.seg_ops.specs.vm_types.declared.call.Kind.TheVariants.{Shared, Private}
+use Rattle.seg_ops.specs.vm_types.declared.call.Object.{Object}
+use Rattle.seg_ops.specs.vm_types.declared.call.Object.TheVariants as object
+use Rattle.seg_ops.specs.vnode_files.Files.{FilesSeen, vnode_at}
+use Rattle.seg_ops.specs.flat_model.Step.{is_bit_set}
+use Rattle.seg_ops.specs.flat_model.Words.{page, pages_in}
+use Rattle.seg_ops.specs.vm_world.FlatMemory.{Memory, flat_memory}
+use Rattle.seg_ops.specs.vm_world.MemoryFits.{MemoryFits}
+use Rattle.seg_ops.specs.vm_world.Plans.{CanRunPlan}
+use Rattle.seg_ops.specs.vm_world.Segments.{Spot, Spaces, spot_at, own_slot, shown_name, object_name}
+use Rattle.seg_ops.specs.vm_world.Serving.{TakesFrames, KeepsWanted, ModifiesNone, AreReplaced, IsWanted}
+use Rattle.seg_ops.specs.vm_world.StateSteps.{PendsTails}
+use Rattle.seg_ops.specs.vm_world.TranslationsFit.{MayWriteInPlace}
+use Rattle.seg_ops.specs.vm_world.Wants.{IsDirtyPage, MakesSlotFor, ShowsPage, WantsHome, accessed_page, object_has, shows_page}
+use Rattle.seg_ops.specs.vm_world.World.{World, slot_in, slot_name}
+use Rattle.seg_ops.specs.vm_world.WorldSteps.{tails_lost}
+use Rattle.seg_ops.proofs.vm_world.FlatWhole.{some-inj}
 use Rattle.seg_ops.specs.OwnPages.{with_own_shown}
 use Rattle.seg_ops.specs.Plans.{FetchesPage, IsAsked}
 use Rattle.seg_ops.specs.declared.plans.Fault.TheVariants as fault
-use Rattle.vm_world.specs.declared.wants.Wants.{Wants}
-use Rattle.vm_world.specs.declared.wants.Wants.TheVariants as wants
-use Rattle.vm_world.specs.Words.{KeepsPages}
+use Rattle.seg_ops.specs.vm_world.declared.wants.Wants.{Wants}
+use Rattle.seg_ops.specs.vm_world.declared.wants.Wants.TheVariants as wants
+use Rattle.seg_ops.specs.vm_world.Words.{KeepsPages}
 use Rattle.seg_ops.specs.Steps.{MayShow}
 use Rattle.seg_ops.proofs.Composed.{keeps-same}
 use Rattle.seg_ops.proofs.Disks.{home-free}

@@ -1,18 +1,18 @@
 -- Pages of files that come home.
 use Rattle.std.proofs.Common.{◌≡◌, ℕ, true, false, Option, Some, None, sym, ◌∙◌, inl, inr, Ok, Err}
 use Rattle.std.specs.Prelude.{IsSome, IfSome}
-use Rattle.page_hash.specs.declared.PageName.{PageName}
-use Rattle.page_store.specs.Seen.{residence}
-use Rattle.page_store.specs.declared.plan.Hold.TheVariants as hold
-use Rattle.page_store.specs.declared.residence.Residence.TheVariants.{Home, Moving, Absent}
-use Rattle.vm_world.specs.MemoryFits.{MemoryFits}
-use Rattle.vm_world.specs.Segments.{Spaces}
-use Rattle.vm_world.specs.Serving.{TakesFrames, ModifiesNone, ModifiesOnly, AreReplaced}
-use Rattle.vm_world.specs.World.{World}
-use Rattle.vm_world.specs.declared.wants.Wants.{Wants}
-use Rattle.vm_world.specs.declared.wants.Wants.TheVariants as wants
+use Rattle.seg_ops.specs.page_hash.declared.PageName.{PageName}
+use Rattle.seg_ops.specs.page_store.Seen.{residence}
+use Rattle.seg_ops.specs.page_store.declared.plan.Hold.TheVariants as hold
+use Rattle.seg_ops.specs.page_store.declared.residence.Residence.TheVariants.{Home, Moving, Absent}
+use Rattle.seg_ops.specs.vm_world.MemoryFits.{MemoryFits}
+use Rattle.seg_ops.specs.vm_world.Segments.{Spaces}
+use Rattle.seg_ops.specs.vm_world.Serving.{TakesFrames, ModifiesNone, ModifiesOnly, AreReplaced}
+use Rattle.seg_ops.specs.vm_world.World.{World}
+use Rattle.seg_ops.specs.vm_world.declared.wants.Wants.{Wants}
+use Rattle.seg_ops.specs.vm_world.declared.wants.Wants.TheVariants as wants
 use Rattle.seg_ops.specs.Plans.{FetchesPage}
-use Rattle.vm_world.specs.Words.{KeepsPages}
+use Rattle.seg_ops.specs.vm_world.Words.{KeepsPages}
 use Rattle.seg_ops.proofs.Composed.{keeps-same}
 use Rattle.seg_ops.proofs.StillSteps.{memory_of}
 use Rattle.seg_vn.specs.Brings.{BringsPage, BringModifies}

@@ -5,29 +5,29 @@ use Rattle.std.specs.Ordering.{nat_cmp}
 use Rattle.std.specs.FinMap as finite
 use Rattle.std.specs.FinSet as set
 use Rattle.std.proofs.lemmas.Bool.{cases_lt, and_left, and_right, lt-leb, le-ltb}
-use Rattle.addr_space.specs.Space.{Part, piece_at, begins, without_part, IsInOrder, FindsLast}
-use Rattle.addr_space.proofs.PartLemmas.{at-without_part}
-use Rattle.addr_space.proofs.PartLists.{begins-first, pages-step}
-use Rattle.page_store.specs.Notes.{Notes}
-use Rattle.flat_model.specs.Access.{with_space}
-use Rattle.flat_model.specs.Flat.{Cell, Flat, Space, without_unnamed}
-use Rattle.flat_model.specs.Mapping.{cells_of, without_pages}
-use Rattle.flat_model.specs.Space.{is_in_range, without_range}
-use Rattle.flat_model.specs.Words.{Page}
-use Rattle.flat_model.proofs.Ranges.{same_space, get-insert_here, get-without_range, insert_same}
-use Rattle.flat_model.proofs.Reserve.{put_back}
-use Rattle.vm_world.specs.FlatMemory.{Memory, flat_memory, cell_of}
-use Rattle.vm_world.specs.MemoryFits.{MemoryFits}
-use Rattle.vm_world.specs.Pages.{contents_of, place_contents, page_value}
-use Rattle.vm_world.specs.Segments.{Spaces, Spot}
-use Rattle.vm_world.specs.World.{World}
-use Rattle.vm_world.specs.declared.segment.Segment.{Segment}
-use Rattle.vm_world.proofs.ComingParts.{zero-pages-of}
-use Rattle.vm_world.proofs.Maps.{insert-twice}
-use Rattle.vm_world.proofs.SegmentSteps.{segment_rule}
-use Rattle.vm_world.proofs.ShownZeros.{zeros-are}
-use Rattle.vm_world.proofs.SweptFlat.{space-is, cell-is}
-use Rattle.vm_world.proofs.Unnamed.{pages-joined}
+use Rattle.seg_ops.specs.addr_space.Space.{Part, piece_at, begins, without_part, IsInOrder, FindsLast}
+use Rattle.seg_ops.proofs.addr_space.PartLemmas.{at-without_part}
+use Rattle.seg_ops.proofs.addr_space.PartLists.{begins-first, pages-step}
+use Rattle.seg_ops.specs.page_store.Notes.{Notes}
+use Rattle.seg_ops.specs.flat_model.Access.{with_space}
+use Rattle.seg_ops.specs.flat_model.Flat.{Cell, Flat, Space, without_unnamed}
+use Rattle.seg_ops.specs.flat_model.Mapping.{cells_of, without_pages}
+use Rattle.seg_ops.specs.flat_model.Space.{is_in_range, without_range}
+use Rattle.seg_ops.specs.flat_model.Words.{Page}
+use Rattle.seg_ops.proofs.flat_model.Ranges.{same_space, get-insert_here, get-without_range, insert_same}
+use Rattle.seg_ops.proofs.flat_model.Reserve.{put_back}
+use Rattle.seg_ops.specs.vm_world.FlatMemory.{Memory, flat_memory, cell_of}
+use Rattle.seg_ops.specs.vm_world.MemoryFits.{MemoryFits}
+use Rattle.seg_ops.specs.vm_world.Pages.{contents_of, place_contents, page_value}
+use Rattle.seg_ops.specs.vm_world.Segments.{Spaces, Spot}
+use Rattle.seg_ops.specs.vm_world.World.{World}
+use Rattle.seg_ops.specs.vm_world.declared.segment.Segment.{Segment}
+use Rattle.seg_ops.proofs.vm_world.ComingParts.{zero-pages-of}
+use Rattle.seg_ops.proofs.vm_world.Maps.{insert-twice}
+use Rattle.seg_ops.proofs.vm_world.SegmentSteps.{segment_rule}
+use Rattle.seg_ops.proofs.vm_world.ShownZeros.{zeros-are}
+use Rattle.seg_ops.proofs.vm_world.SweptFlat.{space-is, cell-is}
+use Rattle.seg_ops.proofs.vm_world.Unnamed.{pages-joined}
 use Rattle.seg_ops.proofs.Composed.{keeps-same}
 use Rattle.seg_vn.specs.Clears.{ChangesSpace, SpaceFits, StartsAt}
 use Rattle.seg_vn.specs.Cuts.{IsPartAt}

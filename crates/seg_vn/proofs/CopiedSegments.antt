@@ -4,31 +4,31 @@ use Rattle.std.specs.Prelude.{count_by, sum_by, IsSome, option_and_then}
 use Rattle.std.specs.FinMap as finite
 use Rattle.std.proofs.lemmas.Bool.{cases_Bool}
 use Rattle.std.proofs.lemmas.List.Sums.{sum_by-cons}
-use Rattle.vm_types.specs.declared.call.Kind.{Kind}
-use Rattle.vm_types.specs.declared.call.Kind.TheVariants.{Shared, Private}
-use Rattle.addr_space.specs.Space.{Part, part, piece_at, with_new_part}
-use Rattle.addr_space.proofs.PartLemmas.{has-in}
-use Rattle.addr_space.proofs.PartLists.{all-begins, at-found, begins-found, begins-first}
-use Rattle.anon_map.specs.Maps.{Map, anon_map_at, IsMapThere, IsUnused, fresh_map, places_of}
-use Rattle.anon_map.proofs.MapLaws.{there_apart, with_map_other}
-use Rattle.anon_slots.specs.Slots.{AnonSlotsSeen, count_at}
-use Rattle.hat_layer.specs.Pool.{HatSeen}
-use Rattle.vm_world.specs.CountsFit.{CountsFit, SegmentFits, OwnFits, is_number, places_in, slots_for_part, times_held}
-use Rattle.vm_world.specs.FlatMemory.{Memory}
-use Rattle.vm_world.specs.ForkSteps.{CountsMore, MayCopy, copied_piece, maps_copied, slots_held, with_cells_copied, with_part_copied}
-use Rattle.vm_world.specs.MapSteps.{maps_held}
-use Rattle.vm_world.specs.MemoryFits.{MemoryFits}
-use Rattle.vm_world.specs.Segments.{Spaces, Spot, spot_at, own_slot}
-use Rattle.vm_world.specs.Words.{KeepsPages}
-use Rattle.vm_world.specs.World.{World, slot_in}
-use Rattle.vm_world.specs.ZeroObjects.{KnowsZeros}
-use Rattle.vm_world.specs.declared.segment.Segment.{Segment}
-use Rattle.vm_world.proofs.ForkEvents.{fork_rule}
-use Rattle.vm_world.proofs.KeptMaps.{own-there, same-holders, same-places, same-there}
-use Rattle.vm_world.proofs.KnownZeros.{known-same}
-use Rattle.vm_world.proofs.MapChanges.{held-holders, held-places}
-use Rattle.vm_world.proofs.SegmentSteps.{segment_rule}
-use Rattle.vm_world.proofs.Spots.{IsSpotOf, spot-part}
+use Rattle.seg_ops.specs.vm_types.declared.call.Kind.{Kind}
+use Rattle.seg_ops.specs.vm_types.declared.call.Kind.TheVariants.{Shared, Private}
+use Rattle.seg_ops.specs.addr_space.Space.{Part, part, piece_at, with_new_part}
+use Rattle.seg_ops.proofs.addr_space.PartLemmas.{has-in}
+use Rattle.seg_ops.proofs.addr_space.PartLists.{all-begins, at-found, begins-found, begins-first}
+use Rattle.seg_ops.specs.anon_map.Maps.{Map, anon_map_at, IsMapThere, IsUnused, fresh_map, places_of}
+use Rattle.seg_ops.proofs.anon_map.MapLaws.{there_apart, with_map_other}
+use Rattle.seg_ops.specs.anon_slots.Slots.{AnonSlotsSeen, count_at}
+use Rattle.seg_ops.specs.hat_layer.Pool.{HatSeen}
+use Rattle.seg_ops.specs.vm_world.CountsFit.{CountsFit, SegmentFits, OwnFits, is_number, places_in, slots_for_part, times_held}
+use Rattle.seg_ops.specs.vm_world.FlatMemory.{Memory}
+use Rattle.seg_ops.specs.vm_world.ForkSteps.{CountsMore, MayCopy, copied_piece, maps_copied, slots_held, with_cells_copied, with_part_copied}
+use Rattle.seg_ops.specs.vm_world.MapSteps.{maps_held}
+use Rattle.seg_ops.specs.vm_world.MemoryFits.{MemoryFits}
+use Rattle.seg_ops.specs.vm_world.Segments.{Spaces, Spot, spot_at, own_slot}
+use Rattle.seg_ops.specs.vm_world.Words.{KeepsPages}
+use Rattle.seg_ops.specs.vm_world.World.{World, slot_in}
+use Rattle.seg_ops.specs.vm_world.ZeroObjects.{KnowsZeros}
+use Rattle.seg_ops.specs.vm_world.declared.segment.Segment.{Segment}
+use Rattle.seg_ops.proofs.vm_world.ForkEvents.{fork_rule}
+use Rattle.seg_ops.proofs.vm_world.KeptMaps.{own-there, same-holders, same-places, same-there}
+use Rattle.seg_ops.proofs.vm_world.KnownZeros.{known-same}
+use Rattle.seg_ops.proofs.vm_world.MapChanges.{held-holders, held-places}
+use Rattle.seg_ops.proofs.vm_world.SegmentSteps.{segment_rule}
+use Rattle.seg_ops.proofs.vm_world.Spots.{IsSpotOf, spot-part}
 use Rattle.seg_ops.proofs.SlotOwners.{one-owner}
 use Rattle.seg_vn.specs.Cuts.{IsPartAt}
 use Rattle.seg_vn.specs.Clears.{ChangesSpace}

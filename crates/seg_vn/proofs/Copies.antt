@@ -1,16 +1,16 @@
 -- A private cell gets a page of its own, with what it shows.
 use Rattle.std.proofs.Common.{◌≡◌, ℕ, Some, None, refl, sym, ap, ◌∙◌}
 use Rattle.std.specs.Prelude.{option_and_then}
-use Rattle.page_hash.specs.Names.{is_name}
-use Rattle.page_store.specs.Steps.{next_name}
-use Rattle.flat_model.specs.Step.{tails_cleared}
-use Rattle.flat_model.specs.Words.{Page}
-use Rattle.vm_world.specs.CallSteps.{ChangesMemory}
-use Rattle.vm_world.specs.FlatMemory.{flat_memory}
-use Rattle.vm_world.specs.MemoryFits.{MemoryFits}
-use Rattle.vm_world.specs.Segments.{Spot, Spaces}
-use Rattle.vm_world.specs.World.{World, slot_in}
-use Rattle.vm_world.specs.WorldSteps.{tails_lost}
+use Rattle.seg_ops.specs.page_hash.Names.{is_name}
+use Rattle.seg_ops.specs.page_store.Steps.{next_name}
+use Rattle.seg_ops.specs.flat_model.Step.{tails_cleared}
+use Rattle.seg_ops.specs.flat_model.Words.{Page}
+use Rattle.seg_ops.specs.vm_world.CallSteps.{ChangesMemory}
+use Rattle.seg_ops.specs.vm_world.FlatMemory.{flat_memory}
+use Rattle.seg_ops.specs.vm_world.MemoryFits.{MemoryFits}
+use Rattle.seg_ops.specs.vm_world.Segments.{Spot, Spaces}
+use Rattle.seg_ops.specs.vm_world.World.{World, slot_in}
+use Rattle.seg_ops.specs.vm_world.WorldSteps.{tails_lost}
 use Rattle.seg_ops.specs.OwnPages.{with_own_shown}
 use Rattle.seg_ops.specs.Slots.{OwnsAlone, with_own_page}
 use Rattle.seg_ops.proofs.SlotOwners.{owner-private}

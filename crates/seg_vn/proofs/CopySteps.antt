@@ -5,46 +5,46 @@ use Rattle.std.specs.Option.{option_or, option_map_or}
 use Rattle.std.specs.FinSet as set
 use Rattle.std.specs.Ordering.{nat_cmp}
 use Rattle.std.proofs.lemmas.Bool.{ltb-true}
-use Rattle.core_arena.specs.Bytes.{zeros}
-use Rattle.anon_map.specs.Maps.{Map, places_of, with_places}
-use Rattle.anon_slots.specs.Slots.{AnonSlotsSeen, count_at}
-use Rattle.page_hash.specs.Names.{find, is_name}
-use Rattle.page_hash.specs.declared.PageName.{PageName}
-use Rattle.page_store.specs.Notes.{Notes}
-use Rattle.page_store.specs.Seen.{StoreSeen, IsListedFrame, residence}
-use Rattle.page_store.specs.Steps.{next_frame, next_name, home_bytes}
-use Rattle.page_store.specs.declared.residence.Residence.TheVariants.{Home, Moving, Absent}
-use Rattle.page_store.specs.declared.plan.Hold.TheVariants as hold
-use Rattle.page_store.proofs.QueryLemmas.{absent-is}
-use Rattle.hat_layer.specs.Pool.{translation_at, fresh_translation}
-use Rattle.hat_layer.specs.declared.translation.Dropped.{Dropped}
-use Rattle.vm_types.specs.declared.call.Call.{Call}
-use Rattle.vm_types.specs.Prot.{can_read}
-use Rattle.vm_types.specs.declared.call.Object.{Object}
-use Rattle.vm_types.specs.declared.call.Object.TheVariants as object
-use Rattle.vnode_files.specs.Files.{FilesSeen, vnode_at}
-use Rattle.flat_model.specs.Flat.{Cell, Flat, shown}
-use Rattle.flat_model.specs.Words.{Page, zero_page, pages_in}
-use Rattle.vm_world.specs.CallSteps.{ChangesMemory}
-use Rattle.vm_world.specs.FlatMemory.{cell_of, flat_memory, own_without_slot}
-use Rattle.vm_world.specs.MemoryFits.{MemoryFits}
-use Rattle.vm_world.specs.Pages.{page_value, contents_of}
-use Rattle.vm_world.specs.Segments.{Spot, Spaces, spot_at, own_slot, shown_name, object_name}
-use Rattle.vm_world.specs.Serving.{TakesFrames, KeepsWanted, ModifiesNone, ModifiesOnly, AreReplaced}
-use Rattle.vm_world.specs.StateSteps.{PendsTails}
-use Rattle.vm_world.specs.Wants.{MakesSlotFor, ShowsPage, accessed_page, object_has, shows_page}
-use Rattle.vm_world.specs.World.{World, slot_in, slot_name, file_name, is_unpushed, page_exists, world_table}
-use Rattle.vm_world.proofs.CallSteps.{call_rule}
-use Rattle.vm_world.proofs.FlatWhole.{some-inj}
-use Rattle.vm_world.proofs.FrameRule.{exists-page}
-use Rattle.vm_world.proofs.StoredPages.{zeros-are}
+use Rattle.seg_ops.specs.core_arena.Bytes.{zeros}
+use Rattle.seg_ops.specs.anon_map.Maps.{Map, places_of, with_places}
+use Rattle.seg_ops.specs.anon_slots.Slots.{AnonSlotsSeen, count_at}
+use Rattle.seg_ops.specs.page_hash.Names.{find, is_name}
+use Rattle.seg_ops.specs.page_hash.declared.PageName.{PageName}
+use Rattle.seg_ops.specs.page_store.Notes.{Notes}
+use Rattle.seg_ops.specs.page_store.Seen.{StoreSeen, IsListedFrame, residence}
+use Rattle.seg_ops.specs.page_store.Steps.{next_frame, next_name, home_bytes}
+use Rattle.seg_ops.specs.page_store.declared.residence.Residence.TheVariants.{Home, Moving, Absent}
+use Rattle.seg_ops.specs.page_store.declared.plan.Hold.TheVariants as hold
+use Rattle.seg_ops.proofs.page_store.QueryLemmas.{absent-is}
+use Rattle.seg_ops.specs.hat_layer.Pool.{translation_at, fresh_translation}
+use Rattle.seg_ops.specs.hat_layer.declared.translation.Dropped.{Dropped}
+use Rattle.seg_ops.specs.vm_types.declared.call.Call.{Call}
+use Rattle.seg_ops.specs.vm_types.Prot.{can_read}
+use Rattle.seg_ops.specs.vm_types.declared.call.Object.{Object}
+use Rattle.seg_ops.specs.vm_types.declared.call.Object.TheVariants as object
+use Rattle.seg_ops.specs.vnode_files.Files.{FilesSeen, vnode_at}
+use Rattle.seg_ops.specs.flat_model.Flat.{Cell, Flat, shown}
+use Rattle.seg_ops.specs.flat_model.Words.{Page, zero_page, pages_in}
+use Rattle.seg_ops.specs.vm_world.CallSteps.{ChangesMemory}
+use Rattle.seg_ops.specs.vm_world.FlatMemory.{cell_of, flat_memory, own_without_slot}
+use Rattle.seg_ops.specs.vm_world.MemoryFits.{MemoryFits}
+use Rattle.seg_ops.specs.vm_world.Pages.{page_value, contents_of}
+use Rattle.seg_ops.specs.vm_world.Segments.{Spot, Spaces, spot_at, own_slot, shown_name, object_name}
+use Rattle.seg_ops.specs.vm_world.Serving.{TakesFrames, KeepsWanted, ModifiesNone, ModifiesOnly, AreReplaced}
+use Rattle.seg_ops.specs.vm_world.StateSteps.{PendsTails}
+use Rattle.seg_ops.specs.vm_world.Wants.{MakesSlotFor, ShowsPage, accessed_page, object_has, shows_page}
+use Rattle.seg_ops.specs.vm_world.World.{World, slot_in, slot_name, file_name, is_unpushed, page_exists, world_table}
+use Rattle.seg_ops.proofs.vm_world.CallSteps.{call_rule}
+use Rattle.seg_ops.proofs.vm_world.FlatWhole.{some-inj}
+use Rattle.seg_ops.proofs.vm_world.FrameRule.{exists-page}
+use Rattle.seg_ops.proofs.vm_world.StoredPages.{zeros-are}
 use Rattle.seg_ops.specs.OwnPages.{with_own_shown}
 use Rattle.seg_ops.specs.Slots.{OwnsAlone}
 use Rattle.seg_ops.specs.Plans.{FetchesPage}
 use Rattle.seg_ops.specs.declared.plans.Fault.TheVariants as fault
-use Rattle.vm_world.specs.declared.wants.Wants.{Wants}
-use Rattle.vm_world.specs.declared.wants.Wants.TheVariants as wants
-use Rattle.vm_world.specs.Words.{KeepsPages}
+use Rattle.seg_ops.specs.vm_world.declared.wants.Wants.{Wants}
+use Rattle.seg_ops.specs.vm_world.declared.wants.Wants.TheVariants as wants
+use Rattle.seg_ops.specs.vm_world.Words.{KeepsPages}
 use Rattle.seg_ops.specs.Steps.{MayShow, with_dropped_gathered}
 use Rattle.seg_ops.proofs.Composed.{keeps-same}
 use Rattle.seg_ops.proofs.Fills.{blank-is, held-by}

@@ -3,23 +3,23 @@ use Rattle.std.proofs.Common.{◌≡◌, ◌≢◌, ℕ, ◌-◌, ◌+◌, ◌<�
 use Rattle.std.specs.Prelude.{◌==◌, IsSome, option_map, replicate, unwrap_or}
 use Rattle.std.specs.FinMap as finite
 use Rattle.std.proofs.lemmas.Bool.{cases_Bool, cases_eq, eqb-true}
-use Rattle.addr_space.specs.Space.{Part, cut_at, with_new_piece}
-use Rattle.addr_space.proofs.PartLists.{all-found}
-use Rattle.anon_map.specs.Maps.{Map, anon_map_at, IsMapThere, IsUnused, places_of, holders_of}
-use Rattle.anon_map.proofs.MapLaws.{there_apart}
-use Rattle.vm_world.specs.CountsFit.{SegmentFits, is_number}
-use Rattle.vm_world.specs.FlatMemory.{Memory}
-use Rattle.vm_world.specs.MapSteps.{maps_cut, maps_held}
-use Rattle.vm_world.specs.SegmentSteps.{ChangesSegments, upper_pages, with_part_cut}
-use Rattle.vm_world.specs.Segments.{Spaces}
-use Rattle.vm_world.specs.SpaceSteps.{first_pages}
-use Rattle.vm_world.specs.World.{World}
-use Rattle.vm_world.specs.declared.segment.Segment.{Segment}
-use Rattle.vm_world.proofs.CutParts.{mid-else, mid-holders}
-use Rattle.vm_world.proofs.KeptMaps.{number-is, own-there, shown-there, same-there, same-places, same-holders}
-use Rattle.vm_world.proofs.MapChanges.{cut-else, cut-lower, held-holders, held-places}
-use Rattle.vm_world.proofs.MoreNumbers.{past-none}
-use Rattle.vm_world.proofs.SegmentSteps.{segment_rule}
+use Rattle.seg_ops.specs.addr_space.Space.{Part, cut_at, with_new_piece}
+use Rattle.seg_ops.proofs.addr_space.PartLists.{all-found}
+use Rattle.seg_ops.specs.anon_map.Maps.{Map, anon_map_at, IsMapThere, IsUnused, places_of, holders_of}
+use Rattle.seg_ops.proofs.anon_map.MapLaws.{there_apart}
+use Rattle.seg_ops.specs.vm_world.CountsFit.{SegmentFits, is_number}
+use Rattle.seg_ops.specs.vm_world.FlatMemory.{Memory}
+use Rattle.seg_ops.specs.vm_world.MapSteps.{maps_cut, maps_held}
+use Rattle.seg_ops.specs.vm_world.SegmentSteps.{ChangesSegments, upper_pages, with_part_cut}
+use Rattle.seg_ops.specs.vm_world.Segments.{Spaces}
+use Rattle.seg_ops.specs.vm_world.SpaceSteps.{first_pages}
+use Rattle.seg_ops.specs.vm_world.World.{World}
+use Rattle.seg_ops.specs.vm_world.declared.segment.Segment.{Segment}
+use Rattle.seg_ops.proofs.vm_world.CutParts.{mid-else, mid-holders}
+use Rattle.seg_ops.proofs.vm_world.KeptMaps.{number-is, own-there, shown-there, same-there, same-places, same-holders}
+use Rattle.seg_ops.proofs.vm_world.MapChanges.{cut-else, cut-lower, held-holders, held-places}
+use Rattle.seg_ops.proofs.vm_world.MoreNumbers.{past-none}
+use Rattle.seg_ops.proofs.vm_world.SegmentSteps.{segment_rule}
 use Rattle.seg_vn.specs.Cuts.{IsCutPart, MayBeCut}
 
 -- A part that fits may be cut, where a holder more of the map that it shows can be counted

@@ -1,15 +1,15 @@
 -- What faults at places of shared mappings of files come to.
 use Rattle.std.proofs.Common.{◌≡◌, ℕ, Some, None, sym, ap, ◌∙◌, subst}
-use Rattle.page_hash.specs.declared.PageName.{PageName}
-use Rattle.page_store.specs.declared.residence.Residence.{Residence}
-use Rattle.page_store.specs.declared.residence.Residence.TheVariants.{Home, Absent}
-use Rattle.vm_types.specs.declared.call.Call.{Call}
-use Rattle.vm_types.specs.declared.call.Call.TheVariants.{Load, Store, Map, Unmap, Protect, Sync, Read, Write, Truncate, Fork, Exit}
-use Rattle.flat_model.specs.Words.{page}
-use Rattle.vm_world.specs.FlatMemory.{Memory}
-use Rattle.vm_world.specs.Segments.{Spot, spot_at, shown_name}
-use Rattle.vm_world.specs.Wants.{WantsHome, ShowsPage, accessed_page}
-use Rattle.vm_world.proofs.FlatWhole.{some-inj}
+use Rattle.seg_ops.specs.page_hash.declared.PageName.{PageName}
+use Rattle.seg_ops.specs.page_store.declared.residence.Residence.{Residence}
+use Rattle.seg_ops.specs.page_store.declared.residence.Residence.TheVariants.{Home, Absent}
+use Rattle.seg_ops.specs.vm_types.declared.call.Call.{Call}
+use Rattle.seg_ops.specs.vm_types.declared.call.Call.TheVariants.{Load, Store, Map, Unmap, Protect, Sync, Read, Write, Truncate, Fork, Exit}
+use Rattle.seg_ops.specs.flat_model.Words.{page}
+use Rattle.seg_ops.specs.vm_world.FlatMemory.{Memory}
+use Rattle.seg_ops.specs.vm_world.Segments.{Spot, spot_at, shown_name}
+use Rattle.seg_ops.specs.vm_world.Wants.{WantsHome, ShowsPage, accessed_page}
+use Rattle.seg_ops.proofs.vm_world.FlatWhole.{some-inj}
 
 -- AN ACCESS of a page wants home the page that is shown there, and no other.
 pub access-wants : (m : Memory) (p q : ℕ) (x : Spot) (call : Call) (name : PageName) → accessed_page call ≡ Some q → ShowsPage m p q x → shown_name m.world.maps x ≡ Some name → WantsHome m p call name

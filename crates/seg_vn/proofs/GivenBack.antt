@@ -2,15 +2,15 @@
 use Rattle.std.proofs.Common.{◌≡◌, ◌≢◌, ℕ, ◌-◌, ◌≤◌, Bool, true, false, cond, List, [], length, Option, Some, None, refl, sym, ap, ◌∙◌, inl, inr, subst, arith, slice_set}
 use Rattle.std.specs.Prelude.{◌==◌, is_some, unwrap_or, replicate}
 use Rattle.std.proofs.lemmas.Bool.{cases_Bool, cases_eq, eqb-true}
-use Rattle.anon_map.specs.Maps.{Map, anon_map_at, IsMapThere, AreEmpty, places_of, holders_of, with_places, with_holders, free_numbers}
-use Rattle.anon_map.proofs.MapLaws.{with_places_free, with_places_same, with_places_other, with_holders_free, with_holders_same, without_free}
-use Rattle.anon_slots.specs.Slots.{AnonSlotsSeen, count_at}
-use Rattle.hat_layer.specs.Pool.{HatSeen, translation_at}
-use Rattle.vm_world.specs.MapSteps.{maps_released}
-use Rattle.vm_world.specs.Serving.{ModifiesNone}
-use Rattle.vm_world.specs.World.{World}
-use Rattle.vm_world.proofs.KeptMaps.{same-places, same-there}
-use Rattle.vm_world.proofs.MapChanges.{there-within, released-else, released-last, slot-replicate}
+use Rattle.seg_ops.specs.anon_map.Maps.{Map, anon_map_at, IsMapThere, AreEmpty, places_of, holders_of, with_places, with_holders, free_numbers}
+use Rattle.seg_ops.proofs.anon_map.MapLaws.{with_places_free, with_places_same, with_places_other, with_holders_free, with_holders_same, without_free}
+use Rattle.seg_ops.specs.anon_slots.Slots.{AnonSlotsSeen, count_at}
+use Rattle.seg_ops.specs.hat_layer.Pool.{HatSeen, translation_at}
+use Rattle.seg_ops.specs.vm_world.MapSteps.{maps_released}
+use Rattle.seg_ops.specs.vm_world.Serving.{ModifiesNone}
+use Rattle.seg_ops.specs.vm_world.World.{World}
+use Rattle.seg_ops.proofs.vm_world.KeptMaps.{same-places, same-there}
+use Rattle.seg_ops.proofs.vm_world.MapChanges.{there-within, released-else, released-last, slot-replicate}
 use Rattle.seg_ops.proofs.Modified.{modifies-same, modifies-then}
 use Rattle.seg_ops.proofs.SlotPlaces.{places-after}
 use Rattle.seg_vn.specs.Clears.{GivesBack}

@@ -1,7 +1,7 @@
 -- Frames that are home, where most are.
 use Rattle.std.proofs.Common.{◌≡◌, ◌≢◌, ℕ, zero, suc, ◌+◌, ◌<◌, List, [], ◌∷◌, length, Option, Some, None, refl, arith}
 use Rattle.std.specs.Prelude.{IsSome, filter, is_none}
-use Rattle.core_arena.specs.Bytes.{bytes_at}
+use Rattle.seg_ops.specs.core_arena.Bytes.{bytes_at}
 
 -- SOME FRAME IS HOME, where not all are away.
 some-home : (frames : List (Option (List ℕ))) → length (filter is_none frames) < length frames → (frame : ℕ) × IsSome (bytes_at frames frame)

@@ -5,31 +5,31 @@ use Rattle.std.specs.FinMap as finite
 use Rattle.std.specs.FinSet as set
 use Rattle.std.specs.Ordering.{nat_cmp}
 use Rattle.std.proofs.lemmas.Bool.{cases_Bool, cases_eq}
-use Rattle.vm_types.specs.declared.call.Object.TheVariants as object
-use Rattle.addr_space.specs.Space.{Part, begins}
-use Rattle.addr_space.proofs.PartLists.{begins-first}
-use Rattle.anon_map.specs.Maps.{holders_of}
-use Rattle.hat_layer.specs.Pool.{translation_at}
-use Rattle.page_store.specs.Notes.{Notes}
-use Rattle.flat_model.specs.Access.{with_space}
-use Rattle.flat_model.specs.Flat.{Cell, Flat, Space, cell_at, is_named, zero_of}
-use Rattle.flat_model.specs.Mapping.{cells_of, without_pages}
-use Rattle.flat_model.specs.Space.{is_in_range, without_range}
-use Rattle.flat_model.proofs.Named.{named_zeros-to_cell}
-use Rattle.flat_model.proofs.Ranges.{get-insert_here, get-insert_apart, get-without_range, in_range-is}
-use Rattle.vm_world.specs.CountsFit.{SegmentFits, ObjectFits}
-use Rattle.vm_world.specs.FlatMemory.{Memory, flat_memory, cell_of, zero_maps}
-use Rattle.vm_world.specs.MemoryFits.{MemoryFits}
-use Rattle.vm_world.specs.Pages.{contents_of}
-use Rattle.vm_world.specs.SegmentSteps.{with_zero_object}
-use Rattle.vm_world.specs.Segments.{Spot, spot_at}
-use Rattle.vm_world.specs.SpaceSteps.{AreUnloaded}
-use Rattle.vm_world.specs.declared.segment.Segment.{Segment}
-use Rattle.vm_world.proofs.GoneParts.{part-zero}
-use Rattle.vm_world.proofs.Maps.{cell-at}
-use Rattle.vm_world.proofs.ShownZeros.{fits-shown, zero-shown, zero_map-of, zero-of-object}
-use Rattle.vm_world.proofs.Spots.{IsSpotOf, spot-part}
-use Rattle.vm_world.proofs.Unnamed.{pages-of-zero}
+use Rattle.seg_ops.specs.vm_types.declared.call.Object.TheVariants as object
+use Rattle.seg_ops.specs.addr_space.Space.{Part, begins}
+use Rattle.seg_ops.proofs.addr_space.PartLists.{begins-first}
+use Rattle.seg_ops.specs.anon_map.Maps.{holders_of}
+use Rattle.seg_ops.specs.hat_layer.Pool.{translation_at}
+use Rattle.seg_ops.specs.page_store.Notes.{Notes}
+use Rattle.seg_ops.specs.flat_model.Access.{with_space}
+use Rattle.seg_ops.specs.flat_model.Flat.{Cell, Flat, Space, cell_at, is_named, zero_of}
+use Rattle.seg_ops.specs.flat_model.Mapping.{cells_of, without_pages}
+use Rattle.seg_ops.specs.flat_model.Space.{is_in_range, without_range}
+use Rattle.seg_ops.proofs.flat_model.Named.{named_zeros-to_cell}
+use Rattle.seg_ops.proofs.flat_model.Ranges.{get-insert_here, get-insert_apart, get-without_range, in_range-is}
+use Rattle.seg_ops.specs.vm_world.CountsFit.{SegmentFits, ObjectFits}
+use Rattle.seg_ops.specs.vm_world.FlatMemory.{Memory, flat_memory, cell_of, zero_maps}
+use Rattle.seg_ops.specs.vm_world.MemoryFits.{MemoryFits}
+use Rattle.seg_ops.specs.vm_world.Pages.{contents_of}
+use Rattle.seg_ops.specs.vm_world.SegmentSteps.{with_zero_object}
+use Rattle.seg_ops.specs.vm_world.Segments.{Spot, spot_at}
+use Rattle.seg_ops.specs.vm_world.SpaceSteps.{AreUnloaded}
+use Rattle.seg_ops.specs.vm_world.declared.segment.Segment.{Segment}
+use Rattle.seg_ops.proofs.vm_world.GoneParts.{part-zero}
+use Rattle.seg_ops.proofs.vm_world.Maps.{cell-at}
+use Rattle.seg_ops.proofs.vm_world.ShownZeros.{fits-shown, zero-shown, zero_map-of, zero-of-object}
+use Rattle.seg_ops.proofs.vm_world.Spots.{IsSpotOf, spot-part}
+use Rattle.seg_ops.proofs.vm_world.Unnamed.{pages-of-zero}
 use Rattle.seg_ops.specs.Empties.{IsUnloadedZero}
 use Rattle.seg_ops.proofs.SlotOwners.{places_law}
 

@@ -4,36 +4,36 @@ use Rattle.std.specs.Prelude.{option_and_then}
 use Rattle.std.specs.FinMap as finite
 use Rattle.std.proofs.lemmas.Bool.{cases_eq, cases_lt}
 use Rattle.std.proofs.lemmas.List.{get_or-set_other}
-use Rattle.vm_types.specs.declared.call.Object.TheVariants as object
-use Rattle.addr_space.specs.Space.{Part, begins, piece_at, without_part}
-use Rattle.addr_space.proofs.PartLemmas.{found-in, has-in}
-use Rattle.addr_space.proofs.PartLists.{all-begins, begins-first, begins-found, at-found}
-use Rattle.anon_map.specs.Maps.{Map, anon_map_at, IsMapThere, AreEmpty, places_of, holders_of}
-use Rattle.anon_slots.specs.Slots.{slots_in_use}
-use Rattle.hat_layer.specs.Pool.{HatSeen}
-use Rattle.flat_model.specs.Flat.{Flat, IsFlat, without_unnamed}
-use Rattle.flat_model.specs.Mapping.{without_pages}
-use Rattle.vm_world.specs.CallSteps.{ChangesMemory}
-use Rattle.vm_world.specs.CountsFit.{SegmentFits, times_had}
-use Rattle.vm_world.specs.FlatMemory.{Memory, flat_memory, zero_maps}
-use Rattle.vm_world.specs.MapSteps.{maps_released}
-use Rattle.vm_world.specs.MemoryFits.{MemoryFits}
-use Rattle.vm_world.specs.SegmentSteps.{ChangesSegments, MayLeave, with_part_gone, maps_left, places_left, with_zero_object}
-use Rattle.vm_world.specs.Segments.{Spaces}
-use Rattle.vm_world.specs.SpaceSteps.{AreUnloaded}
-use Rattle.vm_world.specs.World.{World}
-use Rattle.vm_world.specs.ZeroObjects.{KnowsZeros}
-use Rattle.vm_world.specs.declared.segment.Segment.{Segment}
-use Rattle.vm_world.proofs.ComingParts.{flat-new-zero}
-use Rattle.vm_world.proofs.GoneParts.{mid-there}
-use Rattle.vm_world.proofs.KeptMaps.{own-there, shown-there, same-there, same-holders, same-places, shown-counts}
-use Rattle.vm_world.proofs.KnownZeros.{known-gone, known-last}
-use Rattle.vm_world.proofs.MapChanges.{released-sum, freed-length}
-use Rattle.vm_world.proofs.PartSums.{all_parts, part-le, sum-segments}
-use Rattle.vm_world.proofs.SegmentSteps.{segment_rule}
+use Rattle.seg_ops.specs.vm_types.declared.call.Object.TheVariants as object
+use Rattle.seg_ops.specs.addr_space.Space.{Part, begins, piece_at, without_part}
+use Rattle.seg_ops.proofs.addr_space.PartLemmas.{found-in, has-in}
+use Rattle.seg_ops.proofs.addr_space.PartLists.{all-begins, begins-first, begins-found, at-found}
+use Rattle.seg_ops.specs.anon_map.Maps.{Map, anon_map_at, IsMapThere, AreEmpty, places_of, holders_of}
+use Rattle.seg_ops.specs.anon_slots.Slots.{slots_in_use}
+use Rattle.seg_ops.specs.hat_layer.Pool.{HatSeen}
+use Rattle.seg_ops.specs.flat_model.Flat.{Flat, IsFlat, without_unnamed}
+use Rattle.seg_ops.specs.flat_model.Mapping.{without_pages}
+use Rattle.seg_ops.specs.vm_world.CallSteps.{ChangesMemory}
+use Rattle.seg_ops.specs.vm_world.CountsFit.{SegmentFits, times_had}
+use Rattle.seg_ops.specs.vm_world.FlatMemory.{Memory, flat_memory, zero_maps}
+use Rattle.seg_ops.specs.vm_world.MapSteps.{maps_released}
+use Rattle.seg_ops.specs.vm_world.MemoryFits.{MemoryFits}
+use Rattle.seg_ops.specs.vm_world.SegmentSteps.{ChangesSegments, MayLeave, with_part_gone, maps_left, places_left, with_zero_object}
+use Rattle.seg_ops.specs.vm_world.Segments.{Spaces}
+use Rattle.seg_ops.specs.vm_world.SpaceSteps.{AreUnloaded}
+use Rattle.seg_ops.specs.vm_world.World.{World}
+use Rattle.seg_ops.specs.vm_world.ZeroObjects.{KnowsZeros}
+use Rattle.seg_ops.specs.vm_world.declared.segment.Segment.{Segment}
+use Rattle.seg_ops.proofs.vm_world.ComingParts.{flat-new-zero}
+use Rattle.seg_ops.proofs.vm_world.GoneParts.{mid-there}
+use Rattle.seg_ops.proofs.vm_world.KeptMaps.{own-there, shown-there, same-there, same-holders, same-places, shown-counts}
+use Rattle.seg_ops.proofs.vm_world.KnownZeros.{known-gone, known-last}
+use Rattle.seg_ops.proofs.vm_world.MapChanges.{released-sum, freed-length}
+use Rattle.seg_ops.proofs.vm_world.PartSums.{all_parts, part-le, sum-segments}
+use Rattle.seg_ops.proofs.vm_world.SegmentSteps.{segment_rule}
 use Rattle.seg_ops.specs.Empties.{OwnsPlaces, IsUnloadedZero, places_emptied}
 use Rattle.seg_ops.specs.OwnPages.{without_own_pages}
-use Rattle.vm_world.specs.Words.{KeepsPages}
+use Rattle.seg_ops.specs.vm_world.Words.{KeepsPages}
 use Rattle.seg_ops.proofs.Composed.{keeps-same}
 use Rattle.seg_ops.proofs.OwnPageLaws.{own_pages_law}
 use Rattle.seg_ops.proofs.SlotRanges.{length-emptied}

@@ -22,3 +22,11 @@ mod CopySteps
 pub mod PlacesShown
 pub mod ShownSome
 pub mod HomeFrames
+pub use Rattle.seg_ops.proofs.vnode_files as vnode_files
+pub use Rattle.seg_ops.proofs.flat_model as flat_model
+pub use Rattle.seg_ops.proofs.page_hash as page_hash
+pub use Rattle.seg_ops.proofs.anon_map as anon_map
+pub use Rattle.seg_ops.proofs.addr_space as addr_space
+pub use Rattle.seg_ops.proofs.page_store as page_store
+pub use Rattle.seg_ops.proofs.vm_world as vm_world
+pub use Rattle.seg_ops.proofs as seg_ops

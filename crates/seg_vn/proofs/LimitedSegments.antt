@@ -2,26 +2,26 @@
 use Rattle.std.proofs.Common.{◌≡◌, ℕ, ◌+◌, ◌-◌, ◌<◌, ◌≤◌, Bool, true, false, List, Option, Some, None, refl, sym, ap, ◌∙◌, inl, inr, subst, arith, slice_index_or}
 use Rattle.std.specs.Prelude.{◌||◌, IsTrue}
 use Rattle.std.specs.FinMap as finite
-use Rattle.vm_types.specs.declared.prot.Prot.{Prot}
-use Rattle.vm_types.specs.Prot.{can_read, can_write, is_within}
-use Rattle.addr_space.specs.Space.{Part, part, with_new_piece}
-use Rattle.addr_space.proofs.PartLemmas.{has-within}
-use Rattle.addr_space.proofs.PartLists.{begins-first}
-use Rattle.hat_layer.specs.Pool.{translation_at}
-use Rattle.hat_layer.specs.declared.translation.Translation.{Translation}
-use Rattle.vm_world.specs.FlatMemory.{Memory}
-use Rattle.vm_world.specs.MemoryFits.{MemoryFits}
-use Rattle.vm_world.specs.ProtectSteps.{MayHaveProt, with_part_prot, with_segment_prot, with_range_prot}
-use Rattle.vm_world.specs.Segments.{Spaces}
-use Rattle.vm_world.specs.SpaceSteps.{AreUnloaded}
-use Rattle.vm_world.specs.World.{World}
-use Rattle.vm_world.specs.ZeroObjects.{KnowsZeros}
-use Rattle.vm_world.specs.declared.segment.Segment.{Segment}
-use Rattle.vm_world.proofs.Loaded.{loaded-at}
-use Rattle.vm_world.proofs.ProtectedParts.{part-protected, zeros-now}
-use Rattle.vm_world.proofs.KnownZeros.{known-same}
-use Rattle.vm_world.proofs.SegmentSteps.{segment_rule}
-use Rattle.vm_world.specs.Words.{KeepsPages}
+use Rattle.seg_ops.specs.vm_types.declared.prot.Prot.{Prot}
+use Rattle.seg_ops.specs.vm_types.Prot.{can_read, can_write, is_within}
+use Rattle.seg_ops.specs.addr_space.Space.{Part, part, with_new_piece}
+use Rattle.seg_ops.proofs.addr_space.PartLemmas.{has-within}
+use Rattle.seg_ops.proofs.addr_space.PartLists.{begins-first}
+use Rattle.seg_ops.specs.hat_layer.Pool.{translation_at}
+use Rattle.seg_ops.specs.hat_layer.declared.translation.Translation.{Translation}
+use Rattle.seg_ops.specs.vm_world.FlatMemory.{Memory}
+use Rattle.seg_ops.specs.vm_world.MemoryFits.{MemoryFits}
+use Rattle.seg_ops.specs.vm_world.ProtectSteps.{MayHaveProt, with_part_prot, with_segment_prot, with_range_prot}
+use Rattle.seg_ops.specs.vm_world.Segments.{Spaces}
+use Rattle.seg_ops.specs.vm_world.SpaceSteps.{AreUnloaded}
+use Rattle.seg_ops.specs.vm_world.World.{World}
+use Rattle.seg_ops.specs.vm_world.ZeroObjects.{KnowsZeros}
+use Rattle.seg_ops.specs.vm_world.declared.segment.Segment.{Segment}
+use Rattle.seg_ops.proofs.vm_world.Loaded.{loaded-at}
+use Rattle.seg_ops.proofs.vm_world.ProtectedParts.{part-protected, zeros-now}
+use Rattle.seg_ops.proofs.vm_world.KnownZeros.{known-same}
+use Rattle.seg_ops.proofs.vm_world.SegmentSteps.{segment_rule}
+use Rattle.seg_ops.specs.vm_world.Words.{KeepsPages}
 use Rattle.seg_ops.specs.Writers.{HasNoWriter}
 use Rattle.seg_vn.specs.Clears.{ChangesSpace}
 use Rattle.seg_vn.specs.Cuts.{IsPartAt}

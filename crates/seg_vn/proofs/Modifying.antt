@@ -1,14 +1,14 @@
 -- Which pages faults make modified: the one that is loaded, where it is that of a slot which was never pushed.
 use Rattle.std.proofs.Common.{◌≡◌, ℕ, zero, suc, ◌==◌, Bool, true, false, cond, List, [], ◌∷◌, Option, Some, refl, sym, ap, ◌∙◌, inl, inr, Ok, not, slice_index_or, slice_set}
 use Rattle.std.proofs.lemmas.Bool.{eqb-true}
-use Rattle.anon_map.specs.Maps.{Map}
-use Rattle.anon_slots.specs.Slots.{AnonSlotsSeen}
-use Rattle.page_hash.specs.declared.PageName.{PageName}
-use Rattle.vnode_files.specs.Files.{FilesSeen, vnode_at}
-use Rattle.vnode_files.specs.Vnode.{is_blank}
-use Rattle.vm_world.specs.Segments.{Spot, shown_name}
-use Rattle.vm_world.specs.Serving.{IsUnpushedSlot, ModifiesNone, ModifiesOnly}
-use Rattle.vm_world.specs.World.{World, is_unpushed, slot_name}
+use Rattle.seg_ops.specs.anon_map.Maps.{Map}
+use Rattle.seg_ops.specs.anon_slots.Slots.{AnonSlotsSeen}
+use Rattle.seg_ops.specs.page_hash.declared.PageName.{PageName}
+use Rattle.seg_ops.specs.vnode_files.Files.{FilesSeen, vnode_at}
+use Rattle.seg_ops.specs.vnode_files.Vnode.{is_blank}
+use Rattle.seg_ops.specs.vm_world.Segments.{Spot, shown_name}
+use Rattle.seg_ops.specs.vm_world.Serving.{IsUnpushedSlot, ModifiesNone, ModifiesOnly}
+use Rattle.seg_ops.specs.vm_world.World.{World, is_unpushed, slot_name}
 use Rattle.seg_ops.specs.Faults.{FaultModifies}
 use Rattle.seg_ops.specs.Slots.{GivesSlot, anon_left}
 use Rattle.seg_ops.specs.declared.plans.Fault.TheVariants as fault

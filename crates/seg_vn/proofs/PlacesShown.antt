@@ -7,28 +7,28 @@ use Rattle.std.specs.FinSet as set
 use Rattle.std.specs.Ordering.{nat_cmp}
 use Rattle.std.proofs.lemmas.Bool.{ltb-false, lt-ltb}
 use Rattle.std.proofs.lemmas.Option.{slice_get-map}
-use Rattle.anon_map.specs.Maps.{Map, places_of}
-use Rattle.anon_slots.specs.Slots.{count_at, is_used}
-use Rattle.page_hash.specs.declared.PageName.{PageName}
-use Rattle.page_store.specs.Notes.{Notes}
-use Rattle.vm_types.specs.declared.call.Object.{Object}
-use Rattle.vm_types.specs.declared.call.Object.TheVariants as object
-use Rattle.vnode_files.specs.declared.vnode.FileInfo.{FileInfo}
-use Rattle.vnode_files.specs.Files.{vnode_at}
-use Rattle.vnode_files.specs.Vnode.{VnodeSeen}
-use Rattle.flat_model.specs.Flat.{Cell, File, Flat, pages_of, shown}
-use Rattle.flat_model.specs.Words.{Page, pages_in, zero_page}
-use Rattle.vm_world.specs.FlatMemory.{cell_of, file_with_pages, flat_memory, own_without_slot, pages_from, shape_of, zero_maps, zero_pages}
-use Rattle.vm_world.specs.MemoryFits.{MemoryFits}
-use Rattle.vm_world.specs.Pages.{page_value, contents_of}
-use Rattle.vm_world.specs.Segments.{Spot, Spaces, spot_at, own_slot, shown_name, object_name}
-use Rattle.vm_world.specs.Wants.{object_has, shows_page}
-use Rattle.vm_world.specs.World.{World, slot_in, slot_name, file_name, page_exists}
-use Rattle.vm_world.proofs.FilePages.{file-in, page-past}
-use Rattle.vm_world.proofs.FlatWhole.{some-inj}
-use Rattle.vm_world.proofs.Maps.{get-map_with}
-use Rattle.vm_world.proofs.PageNames.{not-slot, file-apart}
-use Rattle.vm_world.proofs.PageNames as names
+use Rattle.seg_ops.specs.anon_map.Maps.{Map, places_of}
+use Rattle.seg_ops.specs.anon_slots.Slots.{count_at, is_used}
+use Rattle.seg_ops.specs.page_hash.declared.PageName.{PageName}
+use Rattle.seg_ops.specs.page_store.Notes.{Notes}
+use Rattle.seg_ops.specs.vm_types.declared.call.Object.{Object}
+use Rattle.seg_ops.specs.vm_types.declared.call.Object.TheVariants as object
+use Rattle.seg_ops.specs.vnode_files.declared.vnode.FileInfo.{FileInfo}
+use Rattle.seg_ops.specs.vnode_files.Files.{vnode_at}
+use Rattle.seg_ops.specs.vnode_files.Vnode.{VnodeSeen}
+use Rattle.seg_ops.specs.flat_model.Flat.{Cell, File, Flat, pages_of, shown}
+use Rattle.seg_ops.specs.flat_model.Words.{Page, pages_in, zero_page}
+use Rattle.seg_ops.specs.vm_world.FlatMemory.{cell_of, file_with_pages, flat_memory, own_without_slot, pages_from, shape_of, zero_maps, zero_pages}
+use Rattle.seg_ops.specs.vm_world.MemoryFits.{MemoryFits}
+use Rattle.seg_ops.specs.vm_world.Pages.{page_value, contents_of}
+use Rattle.seg_ops.specs.vm_world.Segments.{Spot, Spaces, spot_at, own_slot, shown_name, object_name}
+use Rattle.seg_ops.specs.vm_world.Wants.{object_has, shows_page}
+use Rattle.seg_ops.specs.vm_world.World.{World, slot_in, slot_name, file_name, page_exists}
+use Rattle.seg_ops.proofs.vm_world.FilePages.{file-in, page-past}
+use Rattle.seg_ops.proofs.vm_world.FlatWhole.{some-inj}
+use Rattle.seg_ops.proofs.vm_world.Maps.{get-map_with}
+use Rattle.seg_ops.proofs.vm_world.PageNames.{not-slot, file-apart}
+use Rattle.seg_ops.proofs.vm_world.PageNames as names
 use Rattle.seg_ops.proofs.StillSteps.{memory_of}
 use Rattle.seg_vn.proofs.AnyPlaces.{file-at, not-new, own-by_slot, own-none, shown-by, zero-at, zero-map-at}
 use Rattle.seg_vn.proofs.CopySteps.{object-shows}

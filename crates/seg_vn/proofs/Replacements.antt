@@ -1,18 +1,18 @@
 -- Pages whose frames are taken for other pages.
 use Rattle.std.proofs.Common.{◌≡◌, ◌≢◌, ℕ, Bool, true, false, List, Option, Some, None, refl, sym, ap, ◌∙◌, subst}
 use Rattle.std.specs.Prelude.{IfSome, IsSome, IsTrue, ◌||◌}
-use Rattle.page_hash.specs.Names.{find, is_name, name_at}
-use Rattle.page_hash.specs.declared.PageName.{PageName}
-use Rattle.page_hash.proofs.NameLaws.{find-some, is_name-true}
-use Rattle.page_store.specs.Seen.{StoreSeen, IsListedFrame, residence}
-use Rattle.page_store.specs.Steps.{next_frame, next_name, name_in}
-use Rattle.page_store.specs.declared.residence.Residence.TheVariants.{Home, Absent}
-use Rattle.page_store.proofs.QueryLemmas.{absent-is}
-use Rattle.anon_slots.specs.Slots.{AnonSlotsSeen, count_at, is_used}
-use Rattle.vm_world.specs.MemoryFits.{MemoryFits}
-use Rattle.vm_world.specs.Segments.{Spaces}
-use Rattle.vm_world.specs.Serving.{AreReplaced}
-use Rattle.vm_world.specs.World.{World, page_exists, slot_name}
+use Rattle.seg_ops.specs.page_hash.Names.{find, is_name, name_at}
+use Rattle.seg_ops.specs.page_hash.declared.PageName.{PageName}
+use Rattle.seg_ops.proofs.page_hash.NameLaws.{find-some, is_name-true}
+use Rattle.seg_ops.specs.page_store.Seen.{StoreSeen, IsListedFrame, residence}
+use Rattle.seg_ops.specs.page_store.Steps.{next_frame, next_name, name_in}
+use Rattle.seg_ops.specs.page_store.declared.residence.Residence.TheVariants.{Home, Absent}
+use Rattle.seg_ops.proofs.page_store.QueryLemmas.{absent-is}
+use Rattle.seg_ops.specs.anon_slots.Slots.{AnonSlotsSeen, count_at, is_used}
+use Rattle.seg_ops.specs.vm_world.MemoryFits.{MemoryFits}
+use Rattle.seg_ops.specs.vm_world.Segments.{Spaces}
+use Rattle.seg_ops.specs.vm_world.Serving.{AreReplaced}
+use Rattle.seg_ops.specs.vm_world.World.{World, page_exists, slot_name}
 use Rattle.seg_ops.proofs.Fills.{held-by}
 use Rattle.seg_ops.proofs.StillSteps.{memory_of}
 use Rattle.seg_vn.proofs.Takes.{or-false}

@@ -4,18 +4,18 @@ use Rattle.std.specs.Prelude.{IsSome, IsTrue, is_some, option_and_then, option_m
 use Rattle.std.specs.Option.{option_or}
 use Rattle.std.specs.FinSet as set
 use Rattle.std.specs.Ordering.{nat_cmp}
-use Rattle.vm_types.specs.declared.call.Object.{Object}
-use Rattle.vm_types.specs.declared.call.Object.TheVariants as object
-use Rattle.page_hash.specs.declared.PageName.{PageName}
-use Rattle.page_store.specs.Notes.{Notes}
-use Rattle.flat_model.specs.Flat.{Cell, Flat, shown}
-use Rattle.flat_model.specs.Words.{Page, zero_page}
-use Rattle.vm_world.specs.FlatMemory.{flat_memory, cell_of, own_without_slot}
-use Rattle.vm_world.specs.MemoryFits.{MemoryFits}
-use Rattle.vm_world.specs.Pages.{contents_of, page_value}
-use Rattle.vm_world.specs.Segments.{Spot, Spaces, spot_at, own_slot, object_name, shown_name}
-use Rattle.vm_world.specs.Wants.{shows_page, object_has}
-use Rattle.vm_world.specs.World.{World, slot_name, slot_in}
+use Rattle.seg_ops.specs.vm_types.declared.call.Object.{Object}
+use Rattle.seg_ops.specs.vm_types.declared.call.Object.TheVariants as object
+use Rattle.seg_ops.specs.page_hash.declared.PageName.{PageName}
+use Rattle.seg_ops.specs.page_store.Notes.{Notes}
+use Rattle.seg_ops.specs.flat_model.Flat.{Cell, Flat, shown}
+use Rattle.seg_ops.specs.flat_model.Words.{Page, zero_page}
+use Rattle.seg_ops.specs.vm_world.FlatMemory.{flat_memory, cell_of, own_without_slot}
+use Rattle.seg_ops.specs.vm_world.MemoryFits.{MemoryFits}
+use Rattle.seg_ops.specs.vm_world.Pages.{contents_of, page_value}
+use Rattle.seg_ops.specs.vm_world.Segments.{Spot, Spaces, spot_at, own_slot, object_name, shown_name}
+use Rattle.seg_ops.specs.vm_world.Wants.{shows_page, object_has}
+use Rattle.seg_ops.specs.vm_world.World.{World, slot_name, slot_in}
 use Rattle.seg_ops.proofs.StillSteps.{memory_of}
 use Rattle.seg_vn.proofs.AnyPlaces.{new-private, own-none, private-has}
 use Rattle.seg_vn.proofs.CopySteps.{object-zeros}

@@ -2,18 +2,18 @@
 use Rattle.std.proofs.Common.{◌≡◌, ℕ, ◌<◌, ◌+◌, ◌-◌, Bool, true, false, cond, List, Option, Some, None, refl, sym, ap, ◌∙◌, inl, inr, subst, arith, slice_set, Result, Ok, Err}
 use Rattle.std.specs.Prelude.{◌==◌, not, option_map}
 use Rattle.std.proofs.lemmas.Bool.Decides.{eqb_tells}
-use Rattle.anon_map.specs.Maps.{Map, places_of, with_places}
-use Rattle.anon_slots.specs.Slots.{AnonSlotsSeen, count_at, with_count, with_new_slot}
-use Rattle.page_hash.specs.declared.PageName.{PageName}
-use Rattle.vm_types.specs.declared.call.Kind.{Kind}
-use Rattle.vm_types.specs.declared.call.Kind.TheVariants.{Shared, Private}
-use Rattle.vm_types.specs.declared.call.Object.TheVariants as object
-use Rattle.vm_world.specs.Segments.{Spot, Spaces, own_slot, shown_name}
-use Rattle.vm_world.specs.TranslationsFit.{MayWriteInPlace}
-use Rattle.vm_world.specs.World.{World, slot_in}
+use Rattle.seg_ops.specs.anon_map.Maps.{Map, places_of, with_places}
+use Rattle.seg_ops.specs.anon_slots.Slots.{AnonSlotsSeen, count_at, with_count, with_new_slot}
+use Rattle.seg_ops.specs.page_hash.declared.PageName.{PageName}
+use Rattle.seg_ops.specs.vm_types.declared.call.Kind.{Kind}
+use Rattle.seg_ops.specs.vm_types.declared.call.Kind.TheVariants.{Shared, Private}
+use Rattle.seg_ops.specs.vm_types.declared.call.Object.TheVariants as object
+use Rattle.seg_ops.specs.vm_world.Segments.{Spot, Spaces, own_slot, shown_name}
+use Rattle.seg_ops.specs.vm_world.TranslationsFit.{MayWriteInPlace}
+use Rattle.seg_ops.specs.vm_world.World.{World, slot_in}
 use Rattle.seg_ops.specs.Slots.{GivesSlot, anon_left}
 use Rattle.seg_ops.specs.declared.plans.Fault.TheVariants as fault
-use Rattle.vm_world.specs.declared.wants.Wants.TheVariants as wants
+use Rattle.seg_ops.specs.vm_world.declared.wants.Wants.TheVariants as wants
 use Rattle.seg_vn.specs.AnyPlaces.{ZerosShown}
 use Rattle.seg_ops.specs.SlotsDue.{MakesSlotAt, MapPlace, SlotsAfter, holds_alone, makes_own, object_map_place, own_map_place, slot_due, zeros_due}
 

@@ -10,10 +10,10 @@ use Rattle.std.specs.Ordering.{nat_cmp}
 use Rattle.std.specs.Cmp.{nat_cmp_total}
 use Rattle.std.specs.FinMap as finite
 use Rattle.std.proofs.lemmas.Bool.{cases_eq}
-use Rattle.addr_space.specs.Space.{Part, RangesSeen}
-use Rattle.flat_model.proofs.Ranges.{get-insert_here, get-insert_apart, get-remove_here, get-remove_apart}
-use Rattle.vm_world.specs.declared.segment.Segment.{Segment}
-use Rattle.vm_world.specs.Segments.{Spaces}
+use Rattle.seg_ops.specs.addr_space.Space.{Part, RangesSeen}
+use Rattle.seg_ops.proofs.flat_model.Ranges.{get-insert_here, get-insert_apart, get-remove_here, get-remove_apart}
+use Rattle.seg_ops.specs.vm_world.declared.segment.Segment.{Segment}
+use Rattle.seg_ops.specs.vm_world.Segments.{Spaces}
 use Rattle.seg_vn.specs.Spaces.{SpacesSeen, spaces_from}
 
 abbrev pub Listed : Type 0

@@ -1,22 +1,22 @@
 -- Steps that take frames for other pages, one after another.
 use Rattle.std.proofs.Common.{◌≡◌, ℕ, ◌<◌, ◌-◌, ◌^◌, Bool, true, false, List, Option, Some, None, length, refl, sym, ap, ◌∙◌, subst}
 use Rattle.std.specs.Prelude.{IfSome, ◌||◌}
-use Rattle.page_hash.specs.Names.{is_name, name_at}
-use Rattle.page_hash.specs.declared.PageName.{PageName}
-use Rattle.page_hash.proofs.NameLaws.{is_name-true}
-use Rattle.page_store.specs.Steps.{next_name}
-use Rattle.vnode_files.specs.Files.{FilesSeen, vnode_at}
-use Rattle.flat_model.specs.Step.{is_bit_set}
-use Rattle.flat_model.specs.Words.{pages_in}
-use Rattle.vm_world.specs.FlatMemory.{Memory}
-use Rattle.vm_world.specs.MemoryFits.{MemoryFits}
-use Rattle.vm_world.specs.Segments.{Spaces}
-use Rattle.vm_world.specs.Serving.{TakesFrames, LosesFrame}
-use Rattle.vm_world.specs.StateSteps.{PendsTails}
-use Rattle.vm_world.specs.World.{World, file_name}
-use Rattle.vm_world.specs.WorldSteps.{WorldStep, stays, tails_lost}
-use Rattle.vm_world.proofs.FrameRule.{frame_law}
-use Rattle.vm_world.specs.Words.{KeepsPages}
+use Rattle.seg_ops.specs.page_hash.Names.{is_name, name_at}
+use Rattle.seg_ops.specs.page_hash.declared.PageName.{PageName}
+use Rattle.seg_ops.proofs.page_hash.NameLaws.{is_name-true}
+use Rattle.seg_ops.specs.page_store.Steps.{next_name}
+use Rattle.seg_ops.specs.vnode_files.Files.{FilesSeen, vnode_at}
+use Rattle.seg_ops.specs.flat_model.Step.{is_bit_set}
+use Rattle.seg_ops.specs.flat_model.Words.{pages_in}
+use Rattle.seg_ops.specs.vm_world.FlatMemory.{Memory}
+use Rattle.seg_ops.specs.vm_world.MemoryFits.{MemoryFits}
+use Rattle.seg_ops.specs.vm_world.Segments.{Spaces}
+use Rattle.seg_ops.specs.vm_world.Serving.{TakesFrames, LosesFrame}
+use Rattle.seg_ops.specs.vm_world.StateSteps.{PendsTails}
+use Rattle.seg_ops.specs.vm_world.World.{World, file_name}
+use Rattle.seg_ops.specs.vm_world.WorldSteps.{WorldStep, stays, tails_lost}
+use Rattle.seg_ops.proofs.vm_world.FrameRule.{frame_law}
+use Rattle.seg_ops.specs.vm_world.Words.{KeepsPages}
 use Rattle.seg_ops.proofs.StillSteps.{memory_of}
 
 pub or-false : (b : Bool) → (b || false) ≡ b

@@ -1,7 +1,7 @@
 -- Translations that may write, as rights to write are taken.
 use Rattle.std.proofs.Common.{ℕ, List, Option, sym, ◌∙◌, inl, inr}
 use Rattle.std.proofs.lemmas.Bool.{cases_Bool}
-use Rattle.hat_layer.specs.declared.translation.Translation.{Translation}
+use Rattle.seg_ops.specs.hat_layer.declared.translation.Translation.{Translation}
 use Rattle.seg_ops.specs.Writers.{HasNoWriter, WritersStay}
 
 -- a page without a writer has none later

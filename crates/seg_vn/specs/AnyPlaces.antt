@@ -2,31 +2,31 @@
 use Rattle.std.specs.Prelude.{◌≡◌, ◌<◌, ◌||◌, ℕ, Bool, true, Option, Some, None, IsTrue}
 use Rattle.std.specs.FinSet as set
 use Rattle.std.specs.Ordering.{nat_cmp}
-use Rattle.anon_slots.specs.Slots.{count_at}
-use Rattle.page_hash.specs.declared.PageName.{PageName}
-use Rattle.page_store.specs.Notes.{Notes}
-use Rattle.page_store.specs.Seen.{residence}
-use Rattle.page_store.specs.Steps.{next_name, next_frame}
-use Rattle.page_store.specs.declared.residence.Residence.TheVariants.{Absent}
-use Rattle.hat_layer.specs.Pool.{translation_at}
-use Rattle.flat_model.specs.Flat.{shown}
-use Rattle.flat_model.specs.Words.{Page}
-use Rattle.vm_types.specs.Prot.{can_read, can_write}
-use Rattle.vm_types.specs.declared.call.Kind.TheVariants.{Private}
-use Rattle.vm_types.specs.declared.call.Object.TheVariants as object
-use Rattle.vm_world.specs.CallSteps.{ChangesMemory}
-use Rattle.vm_world.specs.FlatMemory.{cell_of, flat_memory, own_without_slot, Memory}
-use Rattle.vm_world.specs.MemoryFits.{MemoryFits}
-use Rattle.vm_world.specs.Pages.{contents_of}
-use Rattle.vm_world.specs.Segments.{Spot, Spaces, spot_at, own_slot, shown_name}
-use Rattle.vm_world.specs.TranslationsFit.{MayWriteInPlace}
-use Rattle.vm_world.specs.Wants.{shows_page}
-use Rattle.vm_world.specs.World.{World, slot_in, is_unpushed, page_exists}
+use Rattle.seg_ops.specs.anon_slots.Slots.{count_at}
+use Rattle.seg_ops.specs.page_hash.declared.PageName.{PageName}
+use Rattle.seg_ops.specs.page_store.Notes.{Notes}
+use Rattle.seg_ops.specs.page_store.Seen.{residence}
+use Rattle.seg_ops.specs.page_store.Steps.{next_name, next_frame}
+use Rattle.seg_ops.specs.page_store.declared.residence.Residence.TheVariants.{Absent}
+use Rattle.seg_ops.specs.hat_layer.Pool.{translation_at}
+use Rattle.seg_ops.specs.flat_model.Flat.{shown}
+use Rattle.seg_ops.specs.flat_model.Words.{Page}
+use Rattle.seg_ops.specs.vm_types.Prot.{can_read, can_write}
+use Rattle.seg_ops.specs.vm_types.declared.call.Kind.TheVariants.{Private}
+use Rattle.seg_ops.specs.vm_types.declared.call.Object.TheVariants as object
+use Rattle.seg_ops.specs.vm_world.CallSteps.{ChangesMemory}
+use Rattle.seg_ops.specs.vm_world.FlatMemory.{cell_of, flat_memory, own_without_slot, Memory}
+use Rattle.seg_ops.specs.vm_world.MemoryFits.{MemoryFits}
+use Rattle.seg_ops.specs.vm_world.Pages.{contents_of}
+use Rattle.seg_ops.specs.vm_world.Segments.{Spot, Spaces, spot_at, own_slot, shown_name}
+use Rattle.seg_ops.specs.vm_world.TranslationsFit.{MayWriteInPlace}
+use Rattle.seg_ops.specs.vm_world.Wants.{shows_page}
+use Rattle.seg_ops.specs.vm_world.World.{World, slot_in, is_unpushed, page_exists}
 use Rattle.seg_ops.specs.OwnPages.{with_own_shown}
 use Rattle.seg_ops.specs.Slots.{GivesSlot, MakesHome, OwnsAlone}
 use Rattle.seg_vn.specs.Shown.{ZerosPlace}
-use Rattle.vm_world.specs.Serving.{TakesFrames}
-use Rattle.page_hash.specs.Names.{name_at}
+use Rattle.seg_ops.specs.vm_world.Serving.{TakesFrames}
+use Rattle.seg_ops.specs.page_hash.Names.{name_at}
 
 -- A place shows this page, which a translation may lead to: a writable one exactly where the page may be written where it is; and a store's is.
 pub record PagePlace (w : World) (spaces : Spaces) (p q : ℕ) (x : Spot) (name : PageName) (write writable : Bool) : Type 0 where

@@ -1,16 +1,16 @@
 -- How a page comes home. Inside: no public clause cites this.
 use Rattle.std.specs.Prelude.{◌≡◌, ◌≢◌, ℕ, Result, Ok, Err}
-use Rattle.page_hash.specs.declared.PageName.{PageName}
-use Rattle.page_store.specs.Seen.{residence}
-use Rattle.page_store.specs.declared.residence.Residence.TheVariants.{Home}
-use Rattle.vm_world.specs.FlatMemory.{Memory}
-use Rattle.vm_world.specs.Segments.{Spaces}
-use Rattle.vm_world.specs.Serving.{AreReplaced, IsUnpushedSlot, ModifiesOnly, TakesFrames}
-use Rattle.vm_world.specs.Words.{memory}
-use Rattle.vm_world.specs.World.{World}
-use Rattle.vm_world.specs.declared.world.World as rust
+use Rattle.seg_ops.specs.page_hash.declared.PageName.{PageName}
+use Rattle.seg_ops.specs.page_store.Seen.{residence}
+use Rattle.seg_ops.specs.page_store.declared.residence.Residence.TheVariants.{Home}
+use Rattle.seg_ops.specs.vm_world.FlatMemory.{Memory}
+use Rattle.seg_ops.specs.vm_world.Segments.{Spaces}
+use Rattle.seg_ops.specs.vm_world.Serving.{AreReplaced, IsUnpushedSlot, ModifiesOnly, TakesFrames}
+use Rattle.seg_ops.specs.vm_world.Words.{memory}
+use Rattle.seg_ops.specs.vm_world.World.{World}
+use Rattle.seg_ops.specs.vm_world.declared.world.World as rust
 use Rattle.seg_ops.specs.Plans.{FetchesPage}
-use Rattle.vm_world.specs.declared.wants.Wants.{Wants}
+use Rattle.seg_ops.specs.vm_world.declared.wants.Wants.{Wants}
 
 -- The page is home; or it wasn't, and this must come first.
 abbrev pub IsBrought : Memory → Memory → PageName → Result Unit Wants → Type 0

@@ -1,21 +1,21 @@
 -- Spaces from which ranges are taken out. Public clauses cite this.
 use Rattle.std.specs.Prelude.{◌≡◌, ◌≤◌, ℕ, List, Option, Some, None, length}
 use Rattle.std.specs.FinMap as finite
-use Rattle.addr_space.specs.Space.{Part, piece_at}
-use Rattle.anon_map.specs.Maps.{IsMapThere, places_of, free_numbers}
-use Rattle.anon_slots.specs.Slots.{count_at}
-use Rattle.hat_layer.specs.Pool.{translation_at}
-use Rattle.flat_model.specs.Flat.{Flat}
-use Rattle.vm_world.specs.FlatMemory.{Memory}
-use Rattle.vm_world.specs.MemoryFits.{MemoryFits}
-use Rattle.vm_world.specs.SegmentSteps.{ChangesSegments}
-use Rattle.vm_world.specs.Segments.{Spot, Spaces}
-use Rattle.vm_world.specs.declared.segment.Segment.{Segment}
-use Rattle.vm_world.specs.Serving.{ModifiesNone}
-use Rattle.vm_world.specs.Words.{memory}
-use Rattle.vm_world.specs.World.{World, world_seen}
-use Rattle.vm_world.specs.declared.world.World as rust
-use Rattle.vm_world.specs.ZeroObjects.{KnowsZeros}
+use Rattle.seg_ops.specs.addr_space.Space.{Part, piece_at}
+use Rattle.seg_ops.specs.anon_map.Maps.{IsMapThere, places_of, free_numbers}
+use Rattle.seg_ops.specs.anon_slots.Slots.{count_at}
+use Rattle.seg_ops.specs.hat_layer.Pool.{translation_at}
+use Rattle.seg_ops.specs.flat_model.Flat.{Flat}
+use Rattle.seg_ops.specs.vm_world.FlatMemory.{Memory}
+use Rattle.seg_ops.specs.vm_world.MemoryFits.{MemoryFits}
+use Rattle.seg_ops.specs.vm_world.SegmentSteps.{ChangesSegments}
+use Rattle.seg_ops.specs.vm_world.Segments.{Spot, Spaces}
+use Rattle.seg_ops.specs.vm_world.declared.segment.Segment.{Segment}
+use Rattle.seg_ops.specs.vm_world.Serving.{ModifiesNone}
+use Rattle.seg_ops.specs.vm_world.Words.{memory}
+use Rattle.seg_ops.specs.vm_world.World.{World, world_seen}
+use Rattle.seg_ops.specs.vm_world.declared.world.World as rust
+use Rattle.seg_ops.specs.vm_world.ZeroObjects.{KnowsZeros}
 
 -- A process is alive with these parts, memory fits, and the list of zero objects is right.
 pub record SpaceFits (w : World) (zeros : List (Option ℕ)) (spaces : Spaces) (p : ℕ) (parts : List (Part Segment)) : Type 0 where

@@ -1,14 +1,14 @@
 -- Segments that are copied for another process. Public clauses cite this.
 use Rattle.std.specs.Prelude.{◌≡◌, ◌≢◌, ◌<◌, ◌≤◌, ◌+◌, ℕ, false, List, Option, Some, None, slice_index_or}
 use Rattle.std.specs.FinMap as finite
-use Rattle.addr_space.specs.Space.{Part, part, part_at, with_new_part}
-use Rattle.anon_map.specs.Maps.{Map, IsMapThere, holders_of, places_of}
-use Rattle.hat_layer.specs.declared.translation.Translation.{Translation}
-use Rattle.vm_world.specs.ForkSteps.{copied_piece, with_cells_copied}
-use Rattle.vm_world.specs.Segments.{Spaces, Spot, spot_at}
-use Rattle.vm_world.specs.World.{World, slot_in}
-use Rattle.vm_world.specs.ZeroObjects.{KnowsZeros}
-use Rattle.vm_world.specs.declared.segment.Segment.{Segment}
+use Rattle.seg_ops.specs.addr_space.Space.{Part, part, part_at, with_new_part}
+use Rattle.seg_ops.specs.anon_map.Maps.{Map, IsMapThere, holders_of, places_of}
+use Rattle.seg_ops.specs.hat_layer.declared.translation.Translation.{Translation}
+use Rattle.seg_ops.specs.vm_world.ForkSteps.{copied_piece, with_cells_copied}
+use Rattle.seg_ops.specs.vm_world.Segments.{Spaces, Spot, spot_at}
+use Rattle.seg_ops.specs.vm_world.World.{World, slot_in}
+use Rattle.seg_ops.specs.vm_world.ZeroObjects.{KnowsZeros}
+use Rattle.seg_ops.specs.vm_world.declared.segment.Segment.{Segment}
 use Rattle.seg_ops.specs.Writers.{HasNoWriter}
 use Rattle.seg_vn.specs.Clears.{ChangesSpace}
 use Rattle.seg_vn.specs.Cuts.{IsPartAt}

@@ -1,14 +1,14 @@
 -- A segment that is to be cut, or to go. Public clauses cite this.
 use Rattle.std.specs.Prelude.{◌≡◌, ◌<◌, ◌-◌, ◌^◌, ℕ, List, Option, Some, length}
 use Rattle.std.specs.FinMap as finite
-use Rattle.addr_space.specs.Space.{Part, part_at, begins, cut_at, with_new_piece}
-use Rattle.anon_map.specs.Maps.{Map, IsMapThere, places_of, holders_of}
-use Rattle.vm_world.specs.MemoryFits.{MemoryFits}
-use Rattle.vm_world.specs.SegmentSteps.{ChangesSegments, upper_pages}
-use Rattle.vm_world.specs.Segments.{Spaces}
-use Rattle.vm_world.specs.SpaceSteps.{first_pages}
-use Rattle.vm_world.specs.World.{World}
-use Rattle.vm_world.specs.declared.segment.Segment.{Segment}
+use Rattle.seg_ops.specs.addr_space.Space.{Part, part_at, begins, cut_at, with_new_piece}
+use Rattle.seg_ops.specs.anon_map.Maps.{Map, IsMapThere, places_of, holders_of}
+use Rattle.seg_ops.specs.vm_world.MemoryFits.{MemoryFits}
+use Rattle.seg_ops.specs.vm_world.SegmentSteps.{ChangesSegments, upper_pages}
+use Rattle.seg_ops.specs.vm_world.Segments.{Spaces}
+use Rattle.seg_ops.specs.vm_world.SpaceSteps.{first_pages}
+use Rattle.seg_ops.specs.vm_world.World.{World}
+use Rattle.seg_ops.specs.vm_world.declared.segment.Segment.{Segment}
 
 -- The segment is the part of a process that has a page, where memory fits; the part begins so many pages before it.
 pub record IsCutPart (w : World) (spaces : Spaces) (p page before : ℕ) (s : Segment) : Type 0 where

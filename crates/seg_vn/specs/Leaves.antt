@@ -2,17 +2,17 @@
 use Rattle.std.specs.Prelude.{◌≡◌, ◌≢◌, ℕ, List, Option, Some, None, slice_set}
 use Rattle.std.specs.FinSet as set
 use Rattle.std.specs.Ordering.{nat_cmp}
-use Rattle.vm_types.specs.declared.call.Object.TheVariants as object
-use Rattle.anon_map.specs.Maps.{Map, holders_of}
-use Rattle.page_store.specs.Notes.{Notes}
-use Rattle.flat_model.specs.Flat.{Flat}
-use Rattle.flat_model.specs.Mapping.{without_pages}
-use Rattle.vm_world.specs.FlatMemory.{Memory, flat_memory}
-use Rattle.vm_world.specs.SegmentSteps.{ChangesSegments}
-use Rattle.vm_world.specs.Segments.{Spaces}
-use Rattle.vm_world.specs.SpaceSteps.{AreUnloaded}
-use Rattle.vm_world.specs.World.{World}
-use Rattle.vm_world.specs.declared.segment.Segment.{Segment}
+use Rattle.seg_ops.specs.vm_types.declared.call.Object.TheVariants as object
+use Rattle.seg_ops.specs.anon_map.Maps.{Map, holders_of}
+use Rattle.seg_ops.specs.page_store.Notes.{Notes}
+use Rattle.seg_ops.specs.flat_model.Flat.{Flat}
+use Rattle.seg_ops.specs.flat_model.Mapping.{without_pages}
+use Rattle.seg_ops.specs.vm_world.FlatMemory.{Memory, flat_memory}
+use Rattle.seg_ops.specs.vm_world.SegmentSteps.{ChangesSegments}
+use Rattle.seg_ops.specs.vm_world.Segments.{Spaces}
+use Rattle.seg_ops.specs.vm_world.SpaceSteps.{AreUnloaded}
+use Rattle.seg_ops.specs.vm_world.World.{World}
+use Rattle.seg_ops.specs.vm_world.declared.segment.Segment.{Segment}
 use Rattle.seg_vn.specs.Cuts.{IsPartAt}
 
 -- The segment is the part of a process that begins with a page, and none of its pages has a translation.

@@ -2,9 +2,9 @@
 use Rattle.std.specs.Prelude.{ℕ, Option}
 use Rattle.std.specs.Borrow.{LendsIf, Fml, MutBor}
 use Rattle.std.specs.FinMap as finite
-use Rattle.addr_space.specs.Space.{RangesSeen}
-use Rattle.addr_space.specs.contracts.ranges.Ranges as ranges
-use Rattle.vm_world.specs.declared.segment.Segment.{Segment}
+use Rattle.seg_ops.specs.addr_space.Space.{RangesSeen}
+use Rattle.seg_ops.specs.addr_space.contracts.ranges.Ranges as ranges
+use Rattle.seg_ops.specs.vm_world.declared.segment.Segment.{Segment}
 use Rattle.seg_vn.specs.contracts.segment.VnSeg as segment
 use Rattle.seg_vn.specs.contracts.spaces.Spaces.{the_row}
 use Rattle.seg_vn.specs.Spaces.{SpacesSeen}

@@ -1,13 +1,13 @@
 -- Segments as a driver keeps them. Inside: no public clause cites this, only a model's invariant and the codes.
 use Rattle.std.specs.Prelude.{ℕ, ◌+◌, ◌<◌, ◌^◌, Option, refl}
 use Rattle.std.specs.Coded.{Coded, code_by, coded×, coded_ℕ, coded_option}
-use Rattle.vm_types.specs.declared.prot.Prot.{Prot}
-use Rattle.vm_types.specs.declared.call.Kind.{Kind}
-use Rattle.vm_types.specs.declared.call.Object.{Object}
-use Rattle.vm_types.specs.contracts.prot.Prot as prot
-use Rattle.vm_types.specs.contracts.call.Kind as kind
-use Rattle.vm_types.specs.contracts.call.Object as object
-use Rattle.vm_world.specs.declared.segment.Segment.{Segment}
+use Rattle.seg_ops.specs.vm_types.declared.prot.Prot.{Prot}
+use Rattle.seg_ops.specs.vm_types.declared.call.Kind.{Kind}
+use Rattle.seg_ops.specs.vm_types.declared.call.Object.{Object}
+use Rattle.seg_ops.specs.vm_types.contracts.prot.Prot as prot
+use Rattle.seg_ops.specs.vm_types.contracts.call.Kind as kind
+use Rattle.seg_ops.specs.vm_types.contracts.call.Object as object
+use Rattle.seg_ops.specs.vm_world.declared.segment.Segment.{Segment}
 
 -- A segment has a page, and its pages have numbers in its object.
 pub record IsSoundSegment (s : Segment) : Type 0 where

@@ -1,10 +1,10 @@
 -- What is answered to a call. Public clauses cite this.
 use Rattle.std.specs.Prelude.{ℕ, List, Option}
-use Rattle.vm_types.specs.declared.call.Call.{Call}
-use Rattle.vm_types.specs.declared.call.Reply.{Reply}
-use Rattle.vm_types.specs.declared.call.Reply.TheVariants.{Io, Synced}
-use Rattle.vm_world.specs.FlatMemory.{Memory}
-use Rattle.vm_world.specs.Serving.{ServesDone, ServesNeed, ServesBusy}
+use Rattle.seg_ops.specs.vm_types.declared.call.Call.{Call}
+use Rattle.seg_ops.specs.vm_types.declared.call.Reply.{Reply}
+use Rattle.seg_ops.specs.vm_types.declared.call.Reply.TheVariants.{Io, Synced}
+use Rattle.seg_ops.specs.vm_world.FlatMemory.{Memory}
+use Rattle.seg_ops.specs.vm_world.Serving.{ServesDone, ServesNeed, ServesBusy}
 use Rattle.seg_vn.specs.declared.attempt.Attempt.{Attempt}
 use Rattle.seg_vn.specs.declared.attempt.Attempt.TheVariants.{Done, Need, Busy}
 

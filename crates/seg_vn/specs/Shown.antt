@@ -1,10 +1,10 @@
 -- What the object of a place shows there. Inside: no public clause cites this.
 use Rattle.std.specs.Prelude.{◌≡◌, ◌⊎◌, ◌<◌, ◌+◌, ℕ, length, Some, None, IsTrue, IsFalse}
-use Rattle.anon_map.specs.Maps.{IsMapThere, places_of}
-use Rattle.vm_types.specs.declared.call.Object.TheVariants as object
-use Rattle.vm_world.specs.Segments.{Spot, Spaces, object_name}
-use Rattle.vm_world.specs.Wants.{object_has}
-use Rattle.vm_world.specs.World.{World, slot_in, page_exists}
+use Rattle.seg_ops.specs.anon_map.Maps.{IsMapThere, places_of}
+use Rattle.seg_ops.specs.vm_types.declared.call.Object.TheVariants as object
+use Rattle.seg_ops.specs.vm_world.Segments.{Spot, Spaces, object_name}
+use Rattle.seg_ops.specs.vm_world.Wants.{object_has}
+use Rattle.seg_ops.specs.vm_world.World.{World, slot_in, page_exists}
 use Rattle.seg_ops.specs.Slots.{IsNewZero}
 use Rattle.seg_vn.specs.declared.shown.Shown.{Shown}
 use Rattle.seg_vn.specs.declared.shown.Shown.TheVariants.{Page, Zeros, Past}

@@ -2,9 +2,9 @@
 use Rattle.std.specs.Prelude.{ℕ, suc, List, [], ◌∷◌, Option, Some, None, refl}
 use Rattle.std.specs.Coded.{Coded, code_by, coded×, coded_ℕ, coded_list}
 use Rattle.std.specs.FinMap as finite
-use Rattle.addr_space.specs.Space.{RangesSeen, part_code}
-use Rattle.vm_world.specs.declared.segment.Segment.{Segment}
-use Rattle.vm_world.specs.Segments.{Spaces}
+use Rattle.seg_ops.specs.addr_space.Space.{RangesSeen, part_code}
+use Rattle.seg_ops.specs.vm_world.declared.segment.Segment.{Segment}
+use Rattle.seg_ops.specs.vm_world.Segments.{Spaces}
 use Rattle.seg_vn.specs.Segments.{segment_code}
 
 -- The parts of each process's space, and the most number of a process.

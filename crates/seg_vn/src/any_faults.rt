@@ -1,19 +1,18 @@
 //! Faults at places of any mapping: pages that are shown where they are, and pages of zeros that are made.
 ghost use Rattle.std.specs.Prelude.{◌≡◌, ◌<◌, Bool, length, None, IsTrue};
-ghost use Rattle.anon_map.specs.Maps.{IsMapThere, places_of};
-ghost use Rattle.vm_world.specs.Segments.{Spaces, Spot};
-ghost use Rattle.vm_world.specs.Words.{Fits, IsFit, IsKnown, OneIsHome, OnlyFrames, SameFiles};
-ghost use Rattle.vm_world.specs.World.{world_seen, slot_in, page_exists};
+ghost use Rattle.seg_ops.specs.anon_map.Maps.{IsMapThere, places_of};
+ghost use Rattle.seg_ops.specs.vm_world.Segments.{Spaces, Spot};
+ghost use Rattle.seg_ops.specs.vm_world.Words.{Fits, IsFit, IsKnown, OneIsHome, OnlyFrames, SameFiles};
+ghost use Rattle.seg_ops.specs.vm_world.World.{world_seen, slot_in, page_exists};
 ghost use Rattle.seg_ops.specs.Slots.{IsNewZero};
 ghost use Rattle.seg_vn.specs.AnyPlaces.{PagePlace, ZerosShown};
 ghost use Rattle.seg_ops.specs.Faults.{FaultServed};
 
 use crate::any_pages::bring_page;
 use crate::segment::load_page;
-use block_device::Disk;
-use page_store::{PageName, Plan, SWAP_OBJECT};
-use seg_ops::{Fault, ask, free_next, make_room, make_zero};
-use vm_world::{Wants, World};
+use seg_ops::{
+    Disk, Fault, PageName, Plan, SWAP_OBJECT, Wants, World, ask, free_next, make_room, make_zero,
+};
 
 /// Loads the translation of a page that exists, once it is home, or says what that needs.
 #[inline(always)]

@@ -1,16 +1,16 @@
 //! Pages that exist, of files and of slots, come home.
 ghost use Rattle.std.specs.Prelude.{◌≡◌, IsTrue};
-ghost use Rattle.page_store.specs.Seen.{residence};
-ghost use Rattle.page_store.specs.declared.residence.Residence.TheVariants.{Absent};
-ghost use Rattle.vm_world.specs.Segments.{Spaces};
-ghost use Rattle.vm_world.specs.Words.{Fits, IsFit, IsKnown, OneIsHome, OnlyFrames};
-ghost use Rattle.vm_world.specs.World.{is_unpushed, page_exists};
+ghost use Rattle.seg_ops.specs.page_store.Seen.{residence};
+ghost use Rattle.seg_ops.specs.page_store.declared.residence.Residence.TheVariants.{Absent};
+ghost use Rattle.seg_ops.specs.vm_world.Segments.{Spaces};
+ghost use Rattle.seg_ops.specs.vm_world.Words.{Fits, IsFit, IsKnown, OneIsHome, OnlyFrames};
+ghost use Rattle.seg_ops.specs.vm_world.World.{is_unpushed, page_exists};
 ghost use Rattle.seg_vn.specs.Brings.{PageBrought};
 
-use block_device::Disk;
-use page_store::{Hold, PageName, Plan, Residence, SWAP_OBJECT};
-use seg_ops::{ask, fetch, fill_page, make_room};
-use vm_world::{Wants, World};
+use seg_ops::{
+    Disk, Hold, PageName, Plan, Residence, SWAP_OBJECT, Wants, World, ask, fetch, fill_page,
+    make_room,
+};
 
 /// Whether a page was never pushed.
 pub(crate) fn is_unpushed<D: Disk>(world: &World<D>, name: PageName) -> bool

@@ -1,8 +1,8 @@
 //! Faults of segments of any mapping.
 ghost use Rattle.std.specs.Prelude.{◌≡◌, ◌≤◌, ◌<◌, ◌-◌, None, Some, if◌then◌else◌};
-ghost use Rattle.vm_world.specs.Segments.{Spaces, spot_at, own_slot};
-ghost use Rattle.vm_world.specs.Words.{Fits, IsKnown, TwoAreHome, SameFiles};
-ghost use Rattle.vm_world.specs.World.{world_seen};
+ghost use Rattle.seg_ops.specs.vm_world.Segments.{Spaces, spot_at, own_slot};
+ghost use Rattle.seg_ops.specs.vm_world.Words.{Fits, IsKnown, TwoAreHome, SameFiles};
+ghost use Rattle.seg_ops.specs.vm_world.World.{world_seen};
 ghost use Rattle.seg_ops.specs.Faults.{FaultServed, FaultServedAt, IsAllowed, IsFitAt};
 ghost use Rattle.seg_vn.specs.Shown.{ZerosPlace};
 
@@ -10,11 +10,7 @@ use crate::any_faults::{fault_page, fault_zeros};
 use crate::copy_faults::{fault_copy, own_zeros};
 use crate::segment::VnSeg;
 use crate::shown::Shown;
-use block_device::Disk;
-use page_store::{PageName, SWAP_OBJECT};
-use seg_ops::Fault;
-use vm_types::Kind;
-use vm_world::{Wants, World};
+use seg_ops::{Disk, Fault, Kind, PageName, SWAP_OBJECT, Wants, World};
 
 impl VnSeg {
     /// A fault at a place that has a slot of its own.

@@ -1,6 +1,5 @@
 //! What an event answers to a call.
-use page_store::{Hold, Plan};
-use vm_types::Reply;
+use seg_ops::{Hold, Plan, Reply};
 
 /// What an event answers to a call.
 #[derive(Clone, Copy, PartialEq, Eq, Debug)]

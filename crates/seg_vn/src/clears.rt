@@ -1,17 +1,15 @@
 //! Ranges of pages that are taken out of a space.
 ghost use Rattle.std.specs.Prelude.{◌≡◌, ◌≤◌, ◌<◌, ◌-◌, ℕ, None, Some, IsSome, MatchOption, if◌then◌else◌};
-ghost use Rattle.addr_space.specs.Space.{piece_at, begins, FindsLast};
-ghost use Rattle.flat_model.specs.Mapping.{without_pages};
-ghost use Rattle.flat_model.specs.Space.{is_in_range};
-ghost use Rattle.vm_world.specs.Words.{SameFilesAndTails};
-ghost use Rattle.vm_world.specs.World.{world_seen};
-ghost use Rattle.vm_world.specs.ZeroObjects.{free_number};
+ghost use Rattle.seg_ops.specs.addr_space.Space.{piece_at, begins, FindsLast};
+ghost use Rattle.seg_ops.specs.flat_model.Mapping.{without_pages};
+ghost use Rattle.seg_ops.specs.flat_model.Space.{is_in_range};
+ghost use Rattle.seg_ops.specs.vm_world.Words.{SameFilesAndTails};
+ghost use Rattle.seg_ops.specs.vm_world.World.{world_seen};
+ghost use Rattle.seg_ops.specs.vm_world.ZeroObjects.{free_number};
 ghost use Rattle.seg_vn.specs.Clears.{GivesBack, MayBeAlive, SpaceBecomes, StartsAt};
 
 use crate::segment::VnSeg;
-use addr_space::Ranges;
-use block_device::Disk;
-use vm_world::World;
+use seg_ops::{Disk, Ranges, World};
 
 // The first page of the last piece that begins in a range.
 fn last_in(space: &Ranges<VnSeg>, from: u32, end: u32) -> Option<u32>

@@ -1,30 +1,28 @@
 //! Stores to private pages that aren't their cell's alone: the cell gets a page of its own.
 ghost use Rattle.std.specs.Prelude.{◌≡◌, ◌<◌, ℕ, Option, true, length, Some, None, IsSome, IsTrue, IfSome};
-ghost use Rattle.core_arena.specs.Bytes.{zeros};
-ghost use Rattle.hat_layer.specs.Pool.{translation_at};
-ghost use Rattle.page_hash.specs.Names.{find};
-ghost use Rattle.page_hash.specs.declared.PageName.{PageName};
-ghost use Rattle.page_store.specs.Seen.{IsListedFrame, residence};
-ghost use Rattle.page_store.specs.Steps.{next_frame, next_name, home_bytes};
-ghost use Rattle.anon_map.specs.Maps.{IsMapThere, places_of};
-ghost use Rattle.anon_slots.specs.Slots.{count_at};
-ghost use Rattle.vm_world.specs.Segments.{Spaces, Spot};
-ghost use Rattle.vm_world.specs.Serving.{ModifiesNone};
-ghost use Rattle.vm_world.specs.Words.{memory, Fits, IsFit, IsKnown, OneIsHome, OneIsHomeBeside, TwoAreHome, OnlyFrames, SameFiles, SameFilesAndHat};
-ghost use Rattle.vm_world.specs.World.{world_seen, slot_name, slot_in, is_unpushed, page_exists};
+ghost use Rattle.seg_ops.specs.core_arena.Bytes.{zeros};
+ghost use Rattle.seg_ops.specs.hat_layer.Pool.{translation_at};
+ghost use Rattle.seg_ops.specs.page_hash.Names.{find};
+ghost use Rattle.seg_ops.specs.page_hash.declared.PageName.{PageName};
+ghost use Rattle.seg_ops.specs.page_store.Seen.{IsListedFrame, residence};
+ghost use Rattle.seg_ops.specs.page_store.Steps.{next_frame, next_name, home_bytes};
+ghost use Rattle.seg_ops.specs.anon_map.Maps.{IsMapThere, places_of};
+ghost use Rattle.seg_ops.specs.anon_slots.Slots.{count_at};
+ghost use Rattle.seg_ops.specs.vm_world.Segments.{Spaces, Spot};
+ghost use Rattle.seg_ops.specs.vm_world.Serving.{ModifiesNone};
+ghost use Rattle.seg_ops.specs.vm_world.Words.{memory, Fits, IsFit, IsKnown, OneIsHome, OneIsHomeBeside, TwoAreHome, OnlyFrames, SameFiles, SameFilesAndHat};
+ghost use Rattle.seg_ops.specs.vm_world.World.{world_seen, slot_name, slot_in, is_unpushed, page_exists};
 ghost use Rattle.seg_vn.specs.AnyPlaces.{CopyPlace, GetsOwn, OwnSpot, ShowsZeros, TakesNext};
 ghost use Rattle.seg_ops.specs.Faults.{FaultServed};
 ghost use Rattle.seg_ops.specs.Owners.{IsOwned};
 
 use crate::any_pages::is_unpushed;
 use crate::segment::load_page;
-use block_device::Disk;
-use page_store::{Hold, PageName, Plan, Residence, SWAP_OBJECT};
 use seg_ops::{
-    Fault, ask, copy_slot, drop_translation, fetch, free_next, make_copy, make_room,
-    make_room_beside, make_zero, take_back, zero_slot,
+    Disk, Fault, Hold, PageName, Plan, Residence, SWAP_OBJECT, Wants, World, ask, copy_slot,
+    drop_translation, fetch, free_next, make_copy, make_room, make_room_beside, make_zero,
+    take_back, zero_slot,
 };
-use vm_world::{Wants, World};
 
 /// Makes a slot for a place of a private mapping, with a copy of the page that it shows, in a frame that is free.
 fn copy_into<D: Disk>(

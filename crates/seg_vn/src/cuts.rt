@@ -1,15 +1,14 @@
 //! Segments that are cut in two.
 ghost use Rattle.std.specs.Prelude.{◌≡◌, ◌≢◌, ◌≤◌, ◌<◌, ◌-◌, ◌+◌, ◌^◌, ℕ, [], length, Some, IsSome, IfOk, OnErr, option_map, vec_capacity};
-ghost use Rattle.anon_map.specs.Maps.{IsMapThere, IsUnused, places_of, holders_of, free_numbers};
-ghost use Rattle.vm_world.specs.MapSteps.{maps_cut, maps_held};
-ghost use Rattle.vm_world.specs.Words.{OnlyMaps};
-ghost use Rattle.vm_world.specs.World.{world_seen};
+ghost use Rattle.seg_ops.specs.anon_map.Maps.{IsMapThere, IsUnused, places_of, holders_of, free_numbers};
+ghost use Rattle.seg_ops.specs.vm_world.MapSteps.{maps_cut, maps_held};
+ghost use Rattle.seg_ops.specs.vm_world.Words.{OnlyMaps};
+ghost use Rattle.seg_ops.specs.vm_world.World.{world_seen};
 ghost use Rattle.seg_vn.specs.Cuts.{IsCutInTwo, MayBeCut};
 
 use crate::segment::VnSeg;
-use block_device::Disk;
+use seg_ops::{Disk, Segment, World};
 use std::alloc::AllocError;
-use vm_world::{Segment, World};
 
 // Cuts a segment's own map, if it has one, and answers the new map, which has the later places.
 fn cut_own<D: Disk>(
@@ -34,7 +33,7 @@ fn cut_own<D: Disk>(
 }
 
 // One holder more of the map of a zero object, if there is one.
-#[tactic(auto, using(anon_map::proofs::MapLaws::with_holders_free))]
+#[tactic(auto, using(seg_ops::proofs::anon_map::MapLaws::with_holders_free))]
 pub(crate) fn hold_shown<D: Disk>(world: &mut World<D>, shown: Option<u32>)
     requires there { (map : ℕ) → shown ≡ Some map → IsMapThere world.old.maps map
         × (holders_of world.old.maps map < 2 ^ 32 - 1) }

@@ -1,23 +1,20 @@
 //! Segments that are copied for another process.
 ghost use Rattle.std.specs.Prelude.{◌≡◌, ◌<◌, ◌≤◌, ◌+◌, ◌^◌, ◌-◌, ℕ, [], ◌∷◌, length, option_map, Some, None, IsSome, vec_capacity};
-ghost use Rattle.anon_map.specs.Maps.{IsMapThere, IsUnused, free_numbers, holders_of, places_of};
-ghost use Rattle.anon_slots.specs.Slots.{IsHeldSlot, count_at};
-ghost use Rattle.vm_world.specs.CountsFit.{slots_for_part};
-ghost use Rattle.vm_world.specs.ForkSteps.{CountsMore, maps_copied, slots_held};
-ghost use Rattle.vm_world.specs.Segments.{Spaces};
-ghost use Rattle.vm_world.specs.Serving.{ModifiesNone};
-ghost use Rattle.vm_world.specs.Words.{Fits, KeepsEveryPage, KeepsPages, OnlyHat};
-ghost use Rattle.vm_world.specs.World.{world_seen, slot_in};
+ghost use Rattle.seg_ops.specs.anon_map.Maps.{IsMapThere, IsUnused, free_numbers, holders_of, places_of};
+ghost use Rattle.seg_ops.specs.anon_slots.Slots.{IsHeldSlot, count_at};
+ghost use Rattle.seg_ops.specs.vm_world.CountsFit.{slots_for_part};
+ghost use Rattle.seg_ops.specs.vm_world.ForkSteps.{CountsMore, maps_copied, slots_held};
+ghost use Rattle.seg_ops.specs.vm_world.Segments.{Spaces};
+ghost use Rattle.seg_ops.specs.vm_world.Serving.{ModifiesNone};
+ghost use Rattle.seg_ops.specs.vm_world.Words.{Fits, KeepsEveryPage, KeepsPages, OnlyHat};
+ghost use Rattle.seg_ops.specs.vm_world.World.{world_seen, slot_in};
 ghost use Rattle.seg_ops.specs.Writers.{HasNoWriter, WritersStay};
 ghost use Rattle.seg_vn.specs.Copied.{AreProtected, HasNoWriters, IsCopied, KeepsPlaces};
 ghost use Rattle.seg_vn.specs.Cuts.{IsPartAt};
 
 use crate::cuts::hold_shown;
 use crate::segment::VnSeg;
-use anon_slots::AnonSlots;
-use block_device::Disk;
-use seg_ops::protect;
-use vm_world::{Segment, World};
+use seg_ops::{AnonSlots, Disk, Segment, World, protect};
 
 // Counts a slot once more, if there is one.
 fn count_more(anon: &mut AnonSlots, slot: Option<u32>)

@@ -1,24 +1,21 @@
 //! Segments that go from memory.
 ghost use Rattle.std.specs.Prelude.{◌≡◌, ◌≤◌, ◌-◌, ℕ, Some, IsSome};
 ghost use Rattle.std.specs.FinMap as finite;
-ghost use Rattle.addr_space.specs.Space.{without_part};
-ghost use Rattle.anon_map.specs.Maps.{IsMapThere, AreEmpty, places_of, holders_of};
-ghost use Rattle.anon_slots.specs.Slots.{slots_in_use};
-ghost use Rattle.flat_model.specs.Mapping.{without_pages};
-ghost use Rattle.vm_world.specs.MapSteps.{maps_released, places_released};
-ghost use Rattle.vm_world.specs.Segments.{Spaces};
-ghost use Rattle.vm_world.specs.Words.{memory, OnlyAnonymous, SameFilesAndTails};
-ghost use Rattle.vm_world.specs.World.{world_seen};
-ghost use Rattle.vm_world.specs.ZeroObjects.{KnowsZeros, free_number};
+ghost use Rattle.seg_ops.specs.addr_space.Space.{without_part};
+ghost use Rattle.seg_ops.specs.anon_map.Maps.{IsMapThere, AreEmpty, places_of, holders_of};
+ghost use Rattle.seg_ops.specs.anon_slots.Slots.{slots_in_use};
+ghost use Rattle.seg_ops.specs.flat_model.Mapping.{without_pages};
+ghost use Rattle.seg_ops.specs.vm_world.MapSteps.{maps_released, places_released};
+ghost use Rattle.seg_ops.specs.vm_world.Segments.{Spaces};
+ghost use Rattle.seg_ops.specs.vm_world.Words.{memory, OnlyAnonymous, SameFilesAndTails};
+ghost use Rattle.seg_ops.specs.vm_world.World.{world_seen};
+ghost use Rattle.seg_ops.specs.vm_world.ZeroObjects.{KnowsZeros, free_number};
 ghost use Rattle.seg_vn.specs.Clears.{ChangesSpace, GivesBack};
 ghost use Rattle.seg_vn.specs.Cuts.{IsPartAt};
 ghost use Rattle.seg_vn.specs.Leaves.{IsUnloadedPart, LosesObject, LosesWithPages};
 
 use crate::segment::VnSeg;
-use block_device::Disk;
-use seg_ops::{drop_object, drop_places};
-use vm_types::Object;
-use vm_world::{Segment, World};
+use seg_ops::{Disk, Object, Segment, World, drop_object, drop_places};
 
 // Empties the map of a segment's private pages, if it has one.
 fn empty_own<D: Disk>(world: &mut World<D>, segment: Segment, space: u32, first: u32)

@@ -1,24 +1,21 @@
 //! Segments whose protection changes.
 ghost use Rattle.std.specs.Prelude.{◌≡◌, ◌≤◌, ◌<◌, ◌+◌, ℕ, true};
 ghost use Rattle.std.specs.FinMap as finite;
-ghost use Rattle.addr_space.specs.Space.{with_new_piece};
-ghost use Rattle.vm_types.specs.Prot.{is_within};
-ghost use Rattle.vm_world.specs.ProtectSteps.{with_segment_prot, with_range_prot};
-ghost use Rattle.vm_world.specs.Segments.{Spaces};
-ghost use Rattle.vm_world.specs.Serving.{ModifiesNone};
-ghost use Rattle.vm_world.specs.Words.{IsFit, KeepsEveryPage, OnlyHat, OnlyStoreAndHat, memory};
-ghost use Rattle.vm_world.specs.World.{world_seen};
-ghost use Rattle.vm_world.specs.ZeroObjects.{KnowsZeros};
+ghost use Rattle.seg_ops.specs.addr_space.Space.{with_new_piece};
+ghost use Rattle.seg_ops.specs.vm_types.Prot.{is_within};
+ghost use Rattle.seg_ops.specs.vm_world.ProtectSteps.{with_segment_prot, with_range_prot};
+ghost use Rattle.seg_ops.specs.vm_world.Segments.{Spaces};
+ghost use Rattle.seg_ops.specs.vm_world.Serving.{ModifiesNone};
+ghost use Rattle.seg_ops.specs.vm_world.Words.{IsFit, KeepsEveryPage, OnlyHat, OnlyStoreAndHat, memory};
+ghost use Rattle.seg_ops.specs.vm_world.World.{world_seen};
+ghost use Rattle.seg_ops.specs.vm_world.ZeroObjects.{KnowsZeros};
 ghost use Rattle.seg_ops.specs.Writers.{HasNoWriter, WritersStay};
 ghost use Rattle.seg_vn.specs.Clears.{ChangesSpace};
 ghost use Rattle.seg_vn.specs.Cuts.{IsPartAt};
 ghost use Rattle.seg_vn.specs.Protections.{AreLimited};
 
 use crate::segment::VnSeg;
-use block_device::Disk;
-use seg_ops::protect;
-use vm_types::Prot;
-use vm_world::World;
+use seg_ops::{Disk, Prot, World, protect};
 
 impl VnSeg {
     // Takes the right to write from the translations of its pages. Time: its pages.

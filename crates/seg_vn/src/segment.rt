@@ -1,21 +1,17 @@
 //! Segments.
 ghost use Rattle.std.specs.Prelude.{◌≡◌, ℕ, ◌+◌, ◌-◌, ◌<◌, ◌^◌, Some};
-ghost use Rattle.hat_layer.specs.Pool.{translation_at, fresh_translation};
-ghost use Rattle.page_hash.specs.declared.PageName.{PageName};
-ghost use Rattle.page_store.specs.Seen.{residence};
-ghost use Rattle.vm_types.specs.Prot.{is_within};
-ghost use Rattle.vm_world.specs.Segments.{Spaces};
-ghost use Rattle.vm_world.specs.Serving.{ModifiesNone};
-ghost use Rattle.vm_world.specs.Words.{Fits, IsFit, KeepsPages, OnlyStoreAndHat};
-ghost use Rattle.vm_world.specs.World.{world_seen};
+ghost use Rattle.seg_ops.specs.hat_layer.Pool.{translation_at, fresh_translation};
+ghost use Rattle.seg_ops.specs.page_hash.declared.PageName.{PageName};
+ghost use Rattle.seg_ops.specs.page_store.Seen.{residence};
+ghost use Rattle.seg_ops.specs.vm_types.Prot.{is_within};
+ghost use Rattle.seg_ops.specs.vm_world.Segments.{Spaces};
+ghost use Rattle.seg_ops.specs.vm_world.Serving.{ModifiesNone};
+ghost use Rattle.seg_ops.specs.vm_world.Words.{Fits, IsFit, KeepsPages, OnlyStoreAndHat};
+ghost use Rattle.seg_ops.specs.vm_world.World.{world_seen};
 ghost use Rattle.seg_ops.specs.Steps.{MayShow};
 
-use block_device::Disk;
-use page_store::{PageName, Residence};
-use seg_ops::show;
+use seg_ops::{Disk, Kind, Object, PageName, Prot, Residence, Segment, World, pages_in, show};
 use std::marker::Model;
-use vm_types::{Kind, Object, Prot, pages_in};
-use vm_world::{Segment, World};
 
 /// A mapping of pages of a file or of zero memory.
 #[derive(Drop)]
@@ -24,7 +20,7 @@ pub struct VnSeg {
 }
 
 impl Model for VnSeg {
-    ghost use Rattle.vm_world.specs.declared.segment.Segment.{Segment};
+    ghost use Rattle.seg_ops.specs.vm_world.declared.segment.Segment.{Segment};
     ghost use Rattle.seg_vn.specs.Segments.{IsSoundSegment, segment_code};
 
     ghost Value = { Segment };

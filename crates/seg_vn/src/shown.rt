@@ -1,15 +1,12 @@
 //! What the object of a segment shows at a place.
 ghost use Rattle.std.specs.Prelude.{◌≡◌, ◌<◌, ℕ, Some, None};
-ghost use Rattle.vm_world.specs.Segments.{Spaces, spot_at, own_slot};
-ghost use Rattle.vm_world.specs.Words.{Fits};
-ghost use Rattle.vm_world.specs.World.{world_seen};
+ghost use Rattle.seg_ops.specs.vm_world.Segments.{Spaces, spot_at, own_slot};
+ghost use Rattle.seg_ops.specs.vm_world.Words.{Fits};
+ghost use Rattle.seg_ops.specs.vm_world.World.{world_seen};
 ghost use Rattle.seg_vn.specs.Shown.{ObjectShows};
 
 use crate::segment::VnSeg;
-use block_device::Disk;
-use page_store::{PageName, SWAP_OBJECT};
-use vm_types::{Object, pages_in};
-use vm_world::World;
+use seg_ops::{Disk, Object, PageName, SWAP_OBJECT, World, pages_in};
 
 /// What the object of a segment shows at a place.
 #[derive(Clone, Copy, PartialEq, Eq, Debug)]

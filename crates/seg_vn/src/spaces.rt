@@ -4,7 +4,7 @@ ghost use Rattle.std.specs.Borrow.{sem};
 ghost use Rattle.std.specs.FinMap as finite;
 
 use crate::segment::VnSeg;
-use addr_space::Ranges;
+use seg_ops::Ranges;
 use std::alloc::{AllocError, Global};
 use std::marker::Model;
 

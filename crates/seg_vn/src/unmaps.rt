@@ -1,15 +1,13 @@
 //! Segments that lose their translations.
 ghost use Rattle.std.specs.Prelude.{◌≡◌, ◌≤◌, ◌<◌, ◌+◌, ℕ, None};
-ghost use Rattle.hat_layer.specs.Pool.{translation_at};
-ghost use Rattle.vm_world.specs.SpaceSteps.{AreUnloaded};
-ghost use Rattle.vm_world.specs.Serving.{ModifiesNone};
-ghost use Rattle.vm_world.specs.Words.{IsFit, KeepsEveryPage, OnlyStoreAndHat};
-ghost use Rattle.vm_world.specs.World.{world_seen};
+ghost use Rattle.seg_ops.specs.hat_layer.Pool.{translation_at};
+ghost use Rattle.seg_ops.specs.vm_world.SpaceSteps.{AreUnloaded};
+ghost use Rattle.seg_ops.specs.vm_world.Serving.{ModifiesNone};
+ghost use Rattle.seg_ops.specs.vm_world.Words.{IsFit, KeepsEveryPage, OnlyStoreAndHat};
+ghost use Rattle.seg_ops.specs.vm_world.World.{world_seen};
 
 use crate::segment::VnSeg;
-use block_device::Disk;
-use seg_ops::drop_translation;
-use vm_world::World;
+use seg_ops::{Disk, World, drop_translation};
 
 impl VnSeg {
     /// Drops the translations of its pages, which begin with this page of the process. Time: its pages.

@@ -2,8 +2,8 @@
 use Rattle.std.proofs.Common.{ℕ, zero, suc, ◌+◌, ◌-◌, ◌≡◌, ◌≢◌, ◌<◌, ◌≤◌, List, [], ◌∷◌, ◌++◌, length, length-append, map, set, get_or, get_or-set_same, replicate, Option, Some, None, refl, ap, sym, ◌∙◌, ◌⊎◌, inl, inr, subst, arith}
 use Rattle.std.proofs.lemmas.List.{length-map, length-replicate, map-append, append_assoc, set-append_left, length-set, get_or-replicate, get_or-set_other, replicate-append-replicate, replicate_more, set-get_or}
 use Rattle.std.proofs.lemmas.Bool.Decides.{eqb_tells}
-use Rattle.block_device.specs.MemSeen.{blank_blocks}
-use Rattle.block_device.specs.declared.block.Block.{Block}
+use Rattle.disk_file.specs.block_device.MemSeen.{blank_blocks}
+use Rattle.disk_file.specs.block_device.declared.block.Block.{Block}
 use Rattle.sunvm.specs.BlankDisks.{blank_content, written_at, block_shown}
 use Rattle.sunvm.specs.BlankPlaces.{AreBlockPlaces, written_of}
 

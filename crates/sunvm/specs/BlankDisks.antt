@@ -3,9 +3,9 @@ use Rattle.std.specs.Prelude.{ℕ, zero, suc, ◌+◌, ◌-◌, ◌≡◌, ◌<�
 use Rattle.std.proofs.Common.{ap, ◌∙◌, subst}
 use Rattle.std.proofs.lemmas.List.{length-append, length-map, length-replicate}
 use Rattle.std.proofs.Math.Nat.{not-suc-le-zero, le_of_suc-le-suc, le-add_right, add-sub_of_le}
-use Rattle.block_device.specs.DiskSeen.{AreBlocks, DiskSeen, HasBlocks, IsBlock}
-use Rattle.block_device.specs.MemSeen.{blank_blocks}
-use Rattle.block_device.specs.declared.block.Block.{Block}
+use Rattle.disk_file.specs.block_device.DiskSeen.{AreBlocks, DiskSeen, HasBlocks, IsBlock}
+use Rattle.disk_file.specs.block_device.MemSeen.{blank_blocks}
+use Rattle.disk_file.specs.block_device.declared.block.Block.{Block}
 use Rattle.sunvm.specs.declared.blank_disk.BlankDisk.{BlankDisk}
 
 -- the bytes of a block by its place: zeros where it wasn't written

@@ -1,6 +1,6 @@
 -- What contracts see of the program's rack and its disks. Inside: no clause of `run` cites this.
 use Rattle.std.specs.Prelude.{ℕ}
-use Rattle.block_device.specs.DiskSeen.{DiskSeen, HasBlocks}
+use Rattle.disk_file.specs.block_device.DiskSeen.{DiskSeen, HasBlocks}
 use Rattle.disk_file.specs.FileDiskSeen.{file_disk_as_disk}
 use Rattle.sunvm.specs.BlankDisks.{blank_disk_seen, blank_disk_has_blocks}
 use Rattle.sunvm.specs.declared.host_disk.HostDisk.{HostDisk}

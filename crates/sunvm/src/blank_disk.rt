@@ -1,9 +1,9 @@
 //! A disk in memory that begins blank.
 ghost use Rattle.std.specs.Prelude.{◌≡◌, ℕ, ◌≤◌, ◌<◌, ◌-◌, ◌+◌, ◌^◌, ◌++◌, ◌∷◌, [], Option, Some, None, length, replicate, slice_index_or, slice_set, vec_len, vec_capacity};
-ghost use Rattle.block_device.specs.declared.block.Block.{Block};
+ghost use Rattle.disk_file.specs.block_device.declared.block.Block.{Block};
 ghost use Rattle.sunvm.specs.BlankPlaces.{AreBlockPlaces};
 
-use block_device::{Block, Disk, Failed};
+use disk_file::{Block, Disk, Failed};
 use std::alloc::{AllocError, Global};
 
 /// A disk in memory that begins blank, never fails, and is lost as it is dropped. All its memory is taken as it is made, and

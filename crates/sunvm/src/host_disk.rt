@@ -1,7 +1,6 @@
 //! A disk of the program.
 use crate::blank_disk::BlankDisk;
-use block_device::{Disk, Failed};
-use disk_file::FileDisk;
+use disk_file::{Disk, Failed, FileDisk};
 use std::fs::File;
 
 /// A disk in memory, which is lost as the program ends, or one over a file. That in memory is boxed: a disk moves with each

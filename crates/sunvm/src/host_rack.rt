@@ -5,7 +5,7 @@ ghost use Rattle.sunvm.specs.HostSeen.{HostRackSeen};
 
 use crate::blank_disk::BlankDisk;
 use crate::host_disk::HostDisk;
-use block_device::{Rack, RackFault, Spec};
+use disk_file::{Rack, RackFault, Spec};
 use std::alloc::Global;
 use std::fs::File;
 use std::marker::Model;

@@ -6,7 +6,7 @@ mod host_disk;
 mod host_rack;
 
 use crate::host_rack::HostRack;
-use block_device::{HostSink, HostSource};
+use disk_file::{HostSink, HostSource};
 use std::alloc::AllocError;
 use std::env;
 use std::io::ErrorKind;

@@ -5,30 +5,30 @@ use Rattle.std.specs.List.{list_all, slice_split}
 use Rattle.std.proofs.lemmas.Bool.{false≢true}
 use Rattle.std.proofs.lemmas.Bool.Decides.{nat_tests}
 use Rattle.std.proofs.lemmas.List.{append_cancel_right}
-use Rattle.vm_types.specs.declared.prot.Prot.{Prot}
-use Rattle.vm_types.specs.declared.call.Kind.{Kind}
-use Rattle.vm_types.specs.declared.call.Kind.TheVariants as kinds
-use Rattle.vm_types.specs.declared.call.Call.{Call}
-use Rattle.vm_types.specs.declared.call.Call.TheVariants as call
-use Rattle.vm_types.specs.declared.call.Reply.{Reply}
-use Rattle.vm_types.specs.declared.call.Reply.TheVariants as reply
-use Rattle.vm_types.specs.declared.call.Entry.{Entry}
-use Rattle.vm_types.specs.declared.call.Errno.{Errno}
-use Rattle.vm_types.specs.declared.call.Errno.TheVariants as errno
-use Rattle.vm_types.specs.declared.call.Object.{Object}
-use Rattle.vm_types.specs.declared.call.Object.TheVariants as object
-use Rattle.vm_types.specs.declared.call.Place.{Place}
-use Rattle.vm_types.specs.declared.call.Place.TheVariants.{At, Any}
-use Rattle.vm_types.specs.declared.call.Signal.{Signal}
-use Rattle.vm_types.specs.declared.call.Signal.TheVariants as signal
-use Rattle.vm_types.specs.WellFormed.{IsObject, IsWellFormed}
-use Rattle.vm_types.specs.Words.{IsByte, word_bytes}
-use Rattle.vm_script.specs.Fields.{is_digit}
-use Rattle.vm_script.specs.Lines.{is_graphic, is_space}
-use Rattle.vm_script.specs.Printed.{line_of_fields}
-use Rattle.vm_script.specs.Texts.{hex_text, prot_text, kind_text}
-use Rattle.vm_script.proofs.Printing.{all_implies, digits_of_decimal, graphic_decimal, graphic_hex, split_word, split_last}
-use Rattle.vm_script.proofs.Scripts.{size_number}
+use Rattle.vm_report.specs.vm_types.declared.prot.Prot.{Prot}
+use Rattle.vm_report.specs.vm_types.declared.call.Kind.{Kind}
+use Rattle.vm_report.specs.vm_types.declared.call.Kind.TheVariants as kinds
+use Rattle.vm_report.specs.vm_types.declared.call.Call.{Call}
+use Rattle.vm_report.specs.vm_types.declared.call.Call.TheVariants as call
+use Rattle.vm_report.specs.vm_types.declared.call.Reply.{Reply}
+use Rattle.vm_report.specs.vm_types.declared.call.Reply.TheVariants as reply
+use Rattle.vm_report.specs.vm_types.declared.call.Entry.{Entry}
+use Rattle.vm_report.specs.vm_types.declared.call.Errno.{Errno}
+use Rattle.vm_report.specs.vm_types.declared.call.Errno.TheVariants as errno
+use Rattle.vm_report.specs.vm_types.declared.call.Object.{Object}
+use Rattle.vm_report.specs.vm_types.declared.call.Object.TheVariants as object
+use Rattle.vm_report.specs.vm_types.declared.call.Place.{Place}
+use Rattle.vm_report.specs.vm_types.declared.call.Place.TheVariants.{At, Any}
+use Rattle.vm_report.specs.vm_types.declared.call.Signal.{Signal}
+use Rattle.vm_report.specs.vm_types.declared.call.Signal.TheVariants as signal
+use Rattle.vm_report.specs.vm_types.WellFormed.{IsObject, IsWellFormed}
+use Rattle.vm_report.specs.vm_types.Words.{IsByte, word_bytes}
+use Rattle.vm_report.specs.vm_script.Fields.{is_digit}
+use Rattle.vm_report.specs.vm_script.Lines.{is_graphic, is_space}
+use Rattle.vm_report.specs.vm_script.Printed.{line_of_fields}
+use Rattle.vm_report.specs.vm_script.Texts.{hex_text, prot_text, kind_text}
+use Rattle.vm_report.proofs.vm_script.Printing.{all_implies, digits_of_decimal, graphic_decimal, graphic_hex, split_word, split_last}
+use Rattle.vm_report.proofs.vm_script.Scripts.{size_number}
 use Rattle.vm_report.specs.Texts.{word_text, call_word}
 use Rattle.vm_report.specs.Results.{word_size}
 use Rattle.vm_report.specs.Trace.{place_word, call_text, reply_text, entry_text}

@@ -6,12 +6,12 @@ use Rattle.std.proofs.lemmas.Bool.Decides.{nat_tests}
 use Rattle.std.proofs.lemmas.Grind.{flat_map-append}
 use Rattle.std.proofs.lemmas.List.Elements.{All-head, All-tail}
 use Rattle.std.proofs.lemmas.List.Folds.{list_all-append}
-use Rattle.vm_types.specs.declared.call.Entry.{Entry}
-use Rattle.vm_types.specs.Words.{word_bytes}
-use Rattle.vm_script.specs.Lines.{is_feed, is_plain, is_graphic}
-use Rattle.vm_script.specs.Printed.{line_of_fields}
-use Rattle.vm_script.specs.Texts.{hex_text}
-use Rattle.vm_script.proofs.Printing.{and_left, and_right, both, all_implies}
+use Rattle.vm_report.specs.vm_types.declared.call.Entry.{Entry}
+use Rattle.vm_report.specs.vm_types.Words.{word_bytes}
+use Rattle.vm_report.specs.vm_script.Lines.{is_feed, is_plain, is_graphic}
+use Rattle.vm_report.specs.vm_script.Printed.{line_of_fields}
+use Rattle.vm_report.specs.vm_script.Texts.{hex_text}
+use Rattle.vm_report.proofs.vm_script.Printing.{and_left, and_right, both, all_implies}
 use Rattle.vm_report.specs.Report.{pieces_text}
 use Rattle.vm_report.specs.Trace.{disk_text, root_text, entry_text}
 use Rattle.trace_text.specs.Traces.{TracedFile, Trace, traced_files_text, trace_text}

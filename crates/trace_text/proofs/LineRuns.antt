@@ -8,8 +8,8 @@ use Rattle.std.proofs.lemmas.Bool.Decides.{nat_tests}
 use Rattle.std.proofs.lemmas.List.{length-take, length-drop, map-append}
 use Rattle.std.proofs.lemmas.Map.Views.{list_any-from_Contains}
 use Rattle.std.proofs.lemmas.List.Elements.{All-head, All-tail}
-use Rattle.vm_types.specs.declared.call.Entry.{Entry}
-use Rattle.vm_script.proofs.Printing.{both}
+use Rattle.vm_report.specs.vm_types.declared.call.Entry.{Entry}
+use Rattle.vm_report.proofs.vm_script.Printing.{both}
 use Rattle.trace_text.specs.EntryReading.{◌>>=◌}
 use Rattle.trace_text.specs.Traces.{TracedFile, Trace}
 use Rattle.trace_text.specs.TraceForm.{IsTracedFile, IsTrace, RiseFrom}

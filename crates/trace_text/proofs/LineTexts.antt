@@ -3,7 +3,7 @@ use Rattle.std.proofs.Common.{◌≡◌, ℕ, Bool, true, false, List, [], ◌�
 use Rattle.std.specs.Prelude.{All}
 use Rattle.std.proofs.lemmas.Bool.{false≢true}
 use Rattle.std.proofs.lemmas.List.Elements.{All-head, All-tail}
-use Rattle.vm_types.specs.declared.call.Entry.{Entry}
+use Rattle.vm_report.specs.vm_types.declared.call.Entry.{Entry}
 use Rattle.trace_text.specs.EntryForm.{IsTracedEntry}
 use Rattle.trace_text.specs.EntryReading.{◌>>=◌}
 use Rattle.trace_text.specs.TraceLines.{TraceLine, Slots, Disk, Root, File, Piece, Entries, Act, trace_line_text, IsTraceLine, IsOpeningLine}

@@ -4,9 +4,9 @@ use Rattle.std.specs.Prelude.{All, if◌then◌else◌}
 use Rattle.std.specs.List.{list_all}
 use Rattle.std.proofs.lemmas.List.{length-take, length-drop}
 use Rattle.std.proofs.lemmas.List.Elements.{All-nil, All-cons, All-head, All-tail, All-append, All-take, All-drop, All-contains}
-use Rattle.vm_types.specs.declared.call.Entry.{Entry}
-use Rattle.vm_types.specs.WellFormed.{IsNumber}
-use Rattle.vm_types.specs.Words.{IsByte}
+use Rattle.vm_report.specs.vm_types.declared.call.Entry.{Entry}
+use Rattle.vm_report.specs.vm_types.WellFormed.{IsNumber}
+use Rattle.vm_report.specs.vm_types.Words.{IsByte}
 use Rattle.trace_text.specs.EntryForm.{IsTracedEntry}
 use Rattle.trace_text.specs.Traces.{TracedFile, Trace}
 use Rattle.trace_text.specs.TraceForm.{RiseFrom, IsTracedFile, IsTrace}

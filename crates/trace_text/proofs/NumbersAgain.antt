@@ -4,11 +4,11 @@ use Rattle.std.specs.Prelude.{All, decimal, nat_lt, nat_le, if◌then◌else◌}
 use Rattle.std.proofs.lemmas.Bool.Decides.{nat_tests}
 use Rattle.std.proofs.lemmas.Fmt.{length-decimal-le}
 use Rattle.std.proofs.lemmas.List.Elements.{All-nil, All-cons, All-head, All-tail}
-use Rattle.vm_types.specs.WellFormed.{IsNumber}
-use Rattle.vm_types.specs.Words.{IsByte, IsWordSize, FitsWord, word_value, word_bytes}
-use Rattle.vm_script.specs.Fields.{digit_value}
-use Rattle.vm_script.specs.Texts.{hex_digit, hex_text}
-use Rattle.vm_script.proofs.Printing.{digits_of_decimal, value_of_decimal, some_decimal, hex_digit_back, hex_all, hex_back, hex_count}
+use Rattle.vm_report.specs.vm_types.WellFormed.{IsNumber}
+use Rattle.vm_report.specs.vm_types.Words.{IsByte, IsWordSize, FitsWord, word_value, word_bytes}
+use Rattle.vm_report.specs.vm_script.Fields.{digit_value}
+use Rattle.vm_report.specs.vm_script.Texts.{hex_digit, hex_text}
+use Rattle.vm_report.proofs.vm_script.Printing.{digits_of_decimal, value_of_decimal, some_decimal, hex_digit_back, hex_all, hex_back, hex_count}
 use Rattle.vm_report.specs.Texts.{word_text}
 use Rattle.trace_text.specs.EntryReading.{long_number_in, number_in, mask_in, offset_in, word_in, bytes_in}
 

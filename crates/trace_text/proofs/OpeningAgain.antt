@@ -6,13 +6,13 @@ use Rattle.std.proofs.lemmas.Bool.Decides.{nat_tests}
 use Rattle.std.proofs.lemmas.List.{append_cancel_right}
 use Rattle.std.proofs.lemmas.List.Elements.{All-head, All-tail}
 use Rattle.std.proofs.lemmas.List.Folds.{list_all-append}
-use Rattle.vm_types.specs.WellFormed.{IsNumber}
-use Rattle.vm_types.specs.Words.{word_bytes}
-use Rattle.vm_script.specs.Fields.{is_digit, is_file_name}
-use Rattle.vm_script.specs.Lines.{is_graphic, is_space}
-use Rattle.vm_script.specs.Printed.{line_of_fields}
-use Rattle.vm_script.proofs.Printing.{and_left, and_right, both, all_implies, digits_of_decimal, graphic_decimal, some_decimal, graphic_hex, words_name}
-use Rattle.vm_script.specs.Quick.{AreWords, none, more}
+use Rattle.vm_report.specs.vm_types.WellFormed.{IsNumber}
+use Rattle.vm_report.specs.vm_types.Words.{word_bytes}
+use Rattle.vm_report.specs.vm_script.Fields.{is_digit, is_file_name}
+use Rattle.vm_report.specs.vm_script.Lines.{is_graphic, is_space}
+use Rattle.vm_report.specs.vm_script.Printed.{line_of_fields}
+use Rattle.vm_report.proofs.vm_script.Printing.{and_left, and_right, both, all_implies, digits_of_decimal, graphic_decimal, some_decimal, graphic_hex, words_name}
+use Rattle.vm_report.specs.vm_script.Quick.{AreWords, none, more}
 use Rattle.vm_report.specs.Trace.{extent_text, comma_before, extents_text, mode_text}
 use Rattle.trace_text.specs.TraceLines.{AreTwoNumbers, TraceLine, FileHead, Slots, Disk, Root, File, Piece, Entries, Act, trace_line_text, IsFileHead, IsTraceLine, IsOpeningLine}
 use Rattle.trace_text.specs.OpeningWords.{mode_word, line_words}

@@ -3,26 +3,26 @@ use Rattle.std.proofs.Common.{◌≡◌, ℕ, zero, suc, ◌<◌, ◌==◌, Bool
 use Rattle.std.specs.Prelude.{codes, decimal, if◌then◌else◌}
 use Rattle.std.proofs.lemmas.Bool.{false≢true}
 use Rattle.std.proofs.lemmas.Bool.Decides.{nat_tests}
-use Rattle.vm_types.specs.declared.prot.Prot.{Prot}
-use Rattle.vm_types.specs.declared.call.Kind.{Kind}
-use Rattle.vm_types.specs.declared.call.Kind.TheVariants as kinds
-use Rattle.vm_types.specs.declared.call.Call.{Call}
-use Rattle.vm_types.specs.declared.call.Call.TheVariants as call
-use Rattle.vm_types.specs.declared.call.Reply.{Reply}
-use Rattle.vm_types.specs.declared.call.Reply.TheVariants as reply
-use Rattle.vm_types.specs.declared.call.Entry.{Entry}
-use Rattle.vm_types.specs.declared.call.Errno.{Errno}
-use Rattle.vm_types.specs.declared.call.Errno.TheVariants as errno
-use Rattle.vm_types.specs.declared.call.Object.{Object}
-use Rattle.vm_types.specs.declared.call.Object.TheVariants as object
-use Rattle.vm_types.specs.declared.call.Place.{Place}
-use Rattle.vm_types.specs.declared.call.Place.TheVariants.{At, Any}
-use Rattle.vm_types.specs.declared.call.Signal.{Signal}
-use Rattle.vm_types.specs.declared.call.Signal.TheVariants as signal
-use Rattle.vm_types.specs.Prot.{IsProt}
-use Rattle.vm_types.specs.WellFormed.{IsNumber, IsPlace, IsObject, IsWellFormed}
-use Rattle.vm_script.specs.Texts.{hex_text, prot_text, kind_text}
-use Rattle.vm_script.proofs.Scripts.{size_number}
+use Rattle.vm_report.specs.vm_types.declared.prot.Prot.{Prot}
+use Rattle.vm_report.specs.vm_types.declared.call.Kind.{Kind}
+use Rattle.vm_report.specs.vm_types.declared.call.Kind.TheVariants as kinds
+use Rattle.vm_report.specs.vm_types.declared.call.Call.{Call}
+use Rattle.vm_report.specs.vm_types.declared.call.Call.TheVariants as call
+use Rattle.vm_report.specs.vm_types.declared.call.Reply.{Reply}
+use Rattle.vm_report.specs.vm_types.declared.call.Reply.TheVariants as reply
+use Rattle.vm_report.specs.vm_types.declared.call.Entry.{Entry}
+use Rattle.vm_report.specs.vm_types.declared.call.Errno.{Errno}
+use Rattle.vm_report.specs.vm_types.declared.call.Errno.TheVariants as errno
+use Rattle.vm_report.specs.vm_types.declared.call.Object.{Object}
+use Rattle.vm_report.specs.vm_types.declared.call.Object.TheVariants as object
+use Rattle.vm_report.specs.vm_types.declared.call.Place.{Place}
+use Rattle.vm_report.specs.vm_types.declared.call.Place.TheVariants.{At, Any}
+use Rattle.vm_report.specs.vm_types.declared.call.Signal.{Signal}
+use Rattle.vm_report.specs.vm_types.declared.call.Signal.TheVariants as signal
+use Rattle.vm_report.specs.vm_types.Prot.{IsProt}
+use Rattle.vm_report.specs.vm_types.WellFormed.{IsNumber, IsPlace, IsObject, IsWellFormed}
+use Rattle.vm_report.specs.vm_script.Texts.{hex_text, prot_text, kind_text}
+use Rattle.vm_report.proofs.vm_script.Scripts.{size_number}
 use Rattle.vm_report.specs.Texts.{call_word}
 use Rattle.vm_report.specs.Trace.{place_word}
 use Rattle.trace_text.specs.EntryForm.{IsReplyTo, IsTracedEntry}

@@ -1,12 +1,12 @@
 -- The entries that a trace may tell. Public clauses cite this.
 use Rattle.std.specs.Prelude.{ℕ, ◌≤◌, ◌<◌, ◌^◌, List, length, All}
-use Rattle.vm_types.specs.declared.call.Call.{Call}
-use Rattle.vm_types.specs.declared.call.Call.TheVariants as call
-use Rattle.vm_types.specs.declared.call.Reply.{Reply}
-use Rattle.vm_types.specs.declared.call.Reply.TheVariants as reply
-use Rattle.vm_types.specs.declared.call.Entry.{Entry}
-use Rattle.vm_types.specs.WellFormed.{IsNumber, IsWellFormed}
-use Rattle.vm_types.specs.Words.{IsByte, FitsWord}
+use Rattle.vm_report.specs.vm_types.declared.call.Call.{Call}
+use Rattle.vm_report.specs.vm_types.declared.call.Call.TheVariants as call
+use Rattle.vm_report.specs.vm_types.declared.call.Reply.{Reply}
+use Rattle.vm_report.specs.vm_types.declared.call.Reply.TheVariants as reply
+use Rattle.vm_report.specs.vm_types.declared.call.Entry.{Entry}
+use Rattle.vm_report.specs.vm_types.WellFormed.{IsNumber, IsWellFormed}
+use Rattle.vm_report.specs.vm_types.Words.{IsByte, FitsWord}
 
 -- Each number is below 2^64.
 abbrev pub IsLongNumber : ℕ → Type 0

@@ -2,22 +2,22 @@
 -- cites this.
 use Rattle.std.specs.Prelude.{ℕ, ◌^◌, Bool, true, false, ◌&&◌, List, [], ◌∷◌, length, drop, codes, nat_le, nat_lt, Option, Some, None, if◌then◌else◌}
 use Rattle.std.specs.List.{list_all}
-use Rattle.vm_types.specs.declared.prot.Prot.{Prot}
-use Rattle.vm_types.specs.declared.call.Kind.{Kind}
-use Rattle.vm_types.specs.declared.call.Kind.TheVariants as kinds
-use Rattle.vm_types.specs.declared.call.Call.{Call}
-use Rattle.vm_types.specs.declared.call.Call.TheVariants as call
-use Rattle.vm_types.specs.declared.call.Reply.{Reply}
-use Rattle.vm_types.specs.declared.call.Reply.TheVariants as reply
-use Rattle.vm_types.specs.declared.call.Entry.{Entry}
-use Rattle.vm_types.specs.declared.call.Errno.{Errno}
-use Rattle.vm_types.specs.declared.call.Errno.TheVariants as errno
-use Rattle.vm_types.specs.declared.call.Object.{Object}
-use Rattle.vm_types.specs.declared.call.Object.TheVariants as object
-use Rattle.vm_types.specs.declared.call.Place.{Place}
-use Rattle.vm_types.specs.declared.call.Place.TheVariants.{At, Any}
-use Rattle.vm_types.specs.declared.call.Signal.TheVariants as signal
-use Rattle.vm_script.specs.Fields.{is_word, has_front, is_digit, is_hex_digit, digit_value, value_of_digits, hex_bytes}
+use Rattle.vm_report.specs.vm_types.declared.prot.Prot.{Prot}
+use Rattle.vm_report.specs.vm_types.declared.call.Kind.{Kind}
+use Rattle.vm_report.specs.vm_types.declared.call.Kind.TheVariants as kinds
+use Rattle.vm_report.specs.vm_types.declared.call.Call.{Call}
+use Rattle.vm_report.specs.vm_types.declared.call.Call.TheVariants as call
+use Rattle.vm_report.specs.vm_types.declared.call.Reply.{Reply}
+use Rattle.vm_report.specs.vm_types.declared.call.Reply.TheVariants as reply
+use Rattle.vm_report.specs.vm_types.declared.call.Entry.{Entry}
+use Rattle.vm_report.specs.vm_types.declared.call.Errno.{Errno}
+use Rattle.vm_report.specs.vm_types.declared.call.Errno.TheVariants as errno
+use Rattle.vm_report.specs.vm_types.declared.call.Object.{Object}
+use Rattle.vm_report.specs.vm_types.declared.call.Object.TheVariants as object
+use Rattle.vm_report.specs.vm_types.declared.call.Place.{Place}
+use Rattle.vm_report.specs.vm_types.declared.call.Place.TheVariants.{At, Any}
+use Rattle.vm_report.specs.vm_types.declared.call.Signal.TheVariants as signal
+use Rattle.vm_report.specs.vm_script.Fields.{is_word, has_front, is_digit, is_hex_digit, digit_value, value_of_digits, hex_bytes}
 
 infixl 10 ◌>>=◌
 abbrev pub ◌>>=◌ : {A B : Type 0} → Option A → (A → Option B) → Option B

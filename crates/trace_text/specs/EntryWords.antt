@@ -1,17 +1,17 @@
 -- The words of an entry's line, which stand one space apart. Inside: no public clause cites this.
 use Rattle.std.specs.Prelude.{ℕ, ◌==◌, List, [], ◌∷◌, ◌++◌, length, codes, decimal, if◌then◌else◌}
-use Rattle.vm_types.specs.declared.call.Call.{Call}
-use Rattle.vm_types.specs.declared.call.Call.TheVariants as call
-use Rattle.vm_types.specs.declared.call.Reply.{Reply}
-use Rattle.vm_types.specs.declared.call.Reply.TheVariants as reply
-use Rattle.vm_types.specs.declared.call.Entry.{Entry}
-use Rattle.vm_types.specs.declared.call.Object.{Object}
-use Rattle.vm_types.specs.declared.call.Object.TheVariants as object
-use Rattle.vm_types.specs.declared.call.Signal.{Signal}
-use Rattle.vm_types.specs.declared.call.Signal.TheVariants as signal
-use Rattle.vm_types.specs.Names.{errno_number, errno_name}
-use Rattle.vm_types.specs.Words.{word_bytes}
-use Rattle.vm_script.specs.Texts.{hex_text, prot_text, kind_text}
+use Rattle.vm_report.specs.vm_types.declared.call.Call.{Call}
+use Rattle.vm_report.specs.vm_types.declared.call.Call.TheVariants as call
+use Rattle.vm_report.specs.vm_types.declared.call.Reply.{Reply}
+use Rattle.vm_report.specs.vm_types.declared.call.Reply.TheVariants as reply
+use Rattle.vm_report.specs.vm_types.declared.call.Entry.{Entry}
+use Rattle.vm_report.specs.vm_types.declared.call.Object.{Object}
+use Rattle.vm_report.specs.vm_types.declared.call.Object.TheVariants as object
+use Rattle.vm_report.specs.vm_types.declared.call.Signal.{Signal}
+use Rattle.vm_report.specs.vm_types.declared.call.Signal.TheVariants as signal
+use Rattle.vm_report.specs.vm_types.Names.{errno_number, errno_name}
+use Rattle.vm_report.specs.vm_types.Words.{word_bytes}
+use Rattle.vm_report.specs.vm_script.Texts.{hex_text, prot_text, kind_text}
 use Rattle.vm_report.specs.Texts.{word_text, call_word}
 use Rattle.vm_report.specs.Results.{word_size}
 use Rattle.vm_report.specs.Trace.{place_word}

@@ -1,7 +1,7 @@
 -- What the words of the opening part's lines say, read loosely. Inside: no public clause cites this.
 use Rattle.std.specs.Prelude.{ℕ, ◌==◌, Bool, true, false, List, [], ◌∷◌, length, codes, nat_eq, Option, Some, None, if◌then◌else◌}
 use Rattle.std.specs.List.{slice_split}
-use Rattle.vm_script.specs.Fields.{is_word}
+use Rattle.vm_report.specs.vm_script.Fields.{is_word}
 use Rattle.trace_text.specs.EntryReading.{◌>>=◌, long_number_in, number_in, offset_in, bytes_in}
 use Rattle.trace_text.specs.TraceLines.{TraceLine, Slots, Disk, Root, File, Piece, Entries}
 

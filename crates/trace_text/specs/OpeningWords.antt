@@ -1,7 +1,7 @@
 -- The words of a trace's lines, one space apart. Inside: no public clause cites this.
 use Rattle.std.specs.Prelude.{ℕ, Bool, List, [], ◌∷◌, codes, decimal, if◌then◌else◌}
-use Rattle.vm_types.specs.Words.{word_bytes}
-use Rattle.vm_script.specs.Texts.{hex_text}
+use Rattle.vm_report.specs.vm_types.Words.{word_bytes}
+use Rattle.vm_report.specs.vm_script.Texts.{hex_text}
 use Rattle.vm_report.specs.Trace.{extents_text}
 use Rattle.trace_text.specs.EntryWords.{entry_words}
 use Rattle.trace_text.specs.TraceLines.{TraceLine, FileHead, Slots, Disk, Root, File, Piece, Entries, Act}

@@ -1,8 +1,8 @@
 -- What a trace may tell. Public clauses cite this.
 use Rattle.std.specs.Prelude.{ℕ, ◌≤◌, ◌+◌, ◌^◌, List, [], ◌∷◌, length, map, All, Contains, IsTrue}
-use Rattle.vm_types.specs.WellFormed.{IsNumber}
-use Rattle.vm_types.specs.Words.{IsByte}
-use Rattle.vm_script.specs.Fields.{is_file_name}
+use Rattle.vm_report.specs.vm_types.WellFormed.{IsNumber}
+use Rattle.vm_report.specs.vm_types.Words.{IsByte}
+use Rattle.vm_report.specs.vm_script.Fields.{is_file_name}
 use Rattle.trace_text.specs.Traces.{TracedFile, Trace}
 use Rattle.trace_text.specs.EntryForm.{IsLongNumber, IsTracedEntry}
 use Rattle.trace_text.specs.TraceLines.{AreTwoNumbers}

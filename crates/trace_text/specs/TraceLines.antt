@@ -1,12 +1,12 @@
 -- The lines of a trace, one kind after the other, and the text of each. Public clauses cite this.
 use Rattle.std.specs.Prelude.{ℕ, ◌≡◌, ◌≤◌, ◌==◌, Bool, false, List, [], ◌∷◌, ◌++◌, length, codes, decimal, All, IsTrue, if◌then◌else◌}
 use Rattle.std.specs.List.{list_all, onto_first}
-use Rattle.vm_types.specs.declared.call.Entry.{Entry}
-use Rattle.vm_types.specs.WellFormed.{IsNumber}
-use Rattle.vm_types.specs.Words.{IsByte, word_bytes}
-use Rattle.vm_script.specs.Fields.{is_file_name}
-use Rattle.vm_script.specs.Lines.{is_feed}
-use Rattle.vm_script.specs.Texts.{hex_text}
+use Rattle.vm_report.specs.vm_types.declared.call.Entry.{Entry}
+use Rattle.vm_report.specs.vm_types.WellFormed.{IsNumber}
+use Rattle.vm_report.specs.vm_types.Words.{IsByte, word_bytes}
+use Rattle.vm_report.specs.vm_script.Fields.{is_file_name}
+use Rattle.vm_report.specs.vm_script.Lines.{is_feed}
+use Rattle.vm_report.specs.vm_script.Texts.{hex_text}
 use Rattle.vm_report.specs.Trace.{opening_text, disk_text, root_text, file_text, entry_text}
 use Rattle.trace_text.specs.EntryForm.{IsLongNumber, IsTracedEntry}
 

@@ -1,7 +1,7 @@
 -- A trace and its text. Public clauses cite this.
 use Rattle.std.specs.Prelude.{ℕ, ◌+◌, Bool, List, [], ◌∷◌, ◌++◌, length}
 use Rattle.std.specs.List.{flat_map}
-use Rattle.vm_types.specs.declared.call.Entry.{Entry}
+use Rattle.vm_report.specs.vm_types.declared.call.Entry.{Entry}
 use Rattle.vm_report.specs.Report.{file_lines}
 use Rattle.vm_report.specs.Trace.{opening_text, root_text, file_text, entries_text}
 

@@ -4,7 +4,7 @@ ghost use Rattle.trace_text.specs.EntryReading as reading;
 
 use crate::numbers::{number_in, word_in};
 use bitflags::Flags;
-use vm_types::{Kind, Object, Place, Prot};
+use vm_report::{Kind, Object, Place, Prot};
 
 #[tactic(auto, unfolding(crate::specs::EntryReading::prot_in))]
 pub fn prot_in(word: &[u8]) -> Option<Prot>

@@ -4,7 +4,7 @@ ghost use Rattle.trace_text.specs.EntryReading as reading;
 
 use crate::argument_words::{kind_in, object_in, place_in, prot_in};
 use crate::numbers::{bytes_in, number_in, word_in};
-use vm_types::Call;
+use vm_report::Call;
 
 #[tactic(auto, unfolding(crate::specs::EntryReading::load_in))]
 fn load_in<'a>(words: &'a [&'a [u8]]) -> Option<(Call, &'a [&'a [u8]])>

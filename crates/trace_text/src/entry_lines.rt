@@ -1,9 +1,9 @@
 //! The line of an entry, read back.
 ghost use Rattle.std.specs.Prelude.{◌≡◌, ◌++◌, ◌∷◌, [], Some, IfOk, IfSome, IfNone};
 ghost use Rattle.std.specs.List.{slice_split};
-ghost use Rattle.vm_types.specs.declared.call.Entry.{Entry};
-ghost use Rattle.vm_types.specs.WellFormed.{IsWellFormed};
-ghost use Rattle.vm_script.specs.Lines.{is_space};
+ghost use Rattle.vm_report.specs.vm_types.declared.call.Entry.{Entry};
+ghost use Rattle.vm_report.specs.vm_types.WellFormed.{IsWellFormed};
+ghost use Rattle.vm_report.specs.vm_script.Lines.{is_space};
 ghost use Rattle.vm_report.specs.Trace.{entry_text};
 ghost use Rattle.trace_text.specs.EntryForm.{IsTracedEntry};
 ghost use Rattle.trace_text.specs.EntryReading as reading;
@@ -12,8 +12,7 @@ use crate::entry_words::entry_in;
 use crate::splitting::{are_same, body_of, words_of};
 use crate::telling::may_tell;
 use std::alloc::{AllocError, Global};
-use vm_report::trace_entry;
-use vm_types::Entry;
+use vm_report::{Entry, trace_entry};
 
 // The entry that the words tell between which a line's spaces stand.
 fn spelled_entry(alloc: Global, body: &[u8]) -> Result<Option<Entry>, AllocError>

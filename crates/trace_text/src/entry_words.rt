@@ -5,7 +5,7 @@ ghost use Rattle.trace_text.specs.EntryReading as reading;
 use crate::call_words::call_in;
 use crate::numbers::{mask_in, number_in};
 use crate::reply_words::reply_behind;
-use vm_types::Entry;
+use vm_report::Entry;
 
 /// The entry, read loosely.
 #[tactic(auto, unfolding(crate::specs::EntryReading::entry_in))]

@@ -1,13 +1,13 @@
 //! Numbers and bytes of a trace's lines, read loosely.
 ghost use Rattle.std.specs.Prelude.{◌≡◌, ◌<◌, ◌≤◌, ◌^◌, ◌*◌, IsTrue, length, option_map, drop, IfSome};
 ghost use Rattle.std.specs.List.{list_all};
-ghost use Rattle.vm_script.specs.Fields.{is_digit, is_hex_digit, digit_value, value_of_digits, hex_bytes};
+ghost use Rattle.vm_report.specs.vm_script.Fields.{is_digit, is_hex_digit, digit_value, value_of_digits, hex_bytes};
 ghost use Rattle.trace_text.specs.EntryReading as reading;
 
-use vm_types::Line;
+use vm_report::Line;
 
 /// A number below 2^64, in decimal.
-#[tactic(auto, unfolding(crate::specs::EntryReading::long_number_in), using(vm_script::proofs::Digits::not_all))]
+#[tactic(auto, unfolding(crate::specs::EntryReading::long_number_in), using(vm_report::proofs::vm_script::Digits::not_all))]
 pub fn long_number_in(word: &[u8]) -> Option<u64>
     ensures { result ≡ reading.long_number_in word.now }
 {
@@ -51,7 +51,7 @@ fn digit_in(b: u8) -> Option<u8>
 }
 
 /// A number of up to 16 hexadecimal digits.
-#[tactic(auto, unfolding(crate::specs::EntryReading::mask_in), using(vm_script::proofs::Digits::not_all))]
+#[tactic(auto, unfolding(crate::specs::EntryReading::mask_in), using(vm_report::proofs::vm_script::Digits::not_all))]
 pub fn mask_in(word: &[u8]) -> Option<u64>
     ensures { result ≡ reading.mask_in word.now }
 {

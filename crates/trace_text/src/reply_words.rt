@@ -3,7 +3,7 @@ ghost use Rattle.std.specs.Prelude.{◌≡◌, map as over, option_map};
 ghost use Rattle.trace_text.specs.EntryReading as reading;
 
 use crate::numbers::{bytes_in, long_number_in, number_in, word_in};
-use vm_types::{Call, Errno, Line, Reply, Signal};
+use vm_report::{Call, Errno, Line, Reply, Signal};
 
 // The word of a load, or the address of a mapping.
 #[tactic(auto, unfolding(crate::specs::EntryReading::value_of_word))]

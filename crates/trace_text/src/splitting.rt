@@ -1,7 +1,7 @@
 //! A line without its line feed, the words of a line, and whether two lines are the same.
 ghost use Rattle.std.specs.Prelude.{ℕ, List, [], ◌∷◌, ◌++◌, ◌≡◌, ◌↔◌, ◌==◌, map as over, IfOk, IfSome, IfNone, IsTrue};
 ghost use Rattle.std.specs.List.{slice_split};
-ghost use Rattle.vm_script.specs.Lines.{is_space};
+ghost use Rattle.vm_report.specs.vm_script.Lines.{is_space};
 
 use std::alloc::{AllocError, Global};
 

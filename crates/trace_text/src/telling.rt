@@ -1,10 +1,10 @@
 //! The test of what an entry of a trace may tell.
 ghost use Rattle.std.specs.Prelude.{◌↔◌, ◌≡◌, IsTrue};
-ghost use Rattle.vm_types.specs.WellFormed.{IsNumber, IsWellFormed};
-ghost use Rattle.vm_types.specs.Words.{IsWordSize, FitsWord};
+ghost use Rattle.vm_report.specs.vm_types.WellFormed.{IsNumber, IsWellFormed};
+ghost use Rattle.vm_report.specs.vm_types.Words.{IsWordSize, FitsWord};
 ghost use Rattle.trace_text.specs.EntryForm.{IsLongNumber, IsLoadedWord, IsMappedAddress, IsReplyTo, IsTracedEntry};
 
-use vm_types::{Call, Entry, Line, Reply};
+use vm_report::{Call, Entry, Line, Reply};
 
 // Each `u32` is a number, and each `u64` a long one. What is behind a reference shows this only as
 // its fields are read.

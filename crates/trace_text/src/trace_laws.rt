@@ -1,6 +1,6 @@
 //! The laws of a trace's text. Each function does nothing: its contract is the law.
 ghost use Rattle.std.specs.Prelude.{◌≡◌};
-ghost use Rattle.vm_types.specs.declared.call.Entry.{Entry};
+ghost use Rattle.vm_report.specs.vm_types.declared.call.Entry.{Entry};
 ghost use Rattle.vm_report.specs.Trace.{entry_text};
 ghost use Rattle.trace_text.specs.EntryForm.{IsTracedEntry};
 ghost use Rattle.trace_text.specs.TraceForm.{IsTrace};

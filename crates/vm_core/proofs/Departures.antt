@@ -1,26 +1,26 @@
 -- A flight leaves the state.
 use Rattle.std.proofs.Common.{◌≡◌, ℕ, Bool, false, List, Option, Some, None, refl, sym, subst, arith}
 use Rattle.std.specs.Prelude.{IsSome}
-use Rattle.flat_model.specs.Flat.{Flat}
-use Rattle.page_hash.specs.declared.PageName.{PageName}
-use Rattle.page_store.specs.Bays.{home, out}
-use Rattle.page_store.specs.Flight.{FlightSeen, note_of}
-use Rattle.page_store.specs.Steps.{next_frame}
-use Rattle.page_store.specs.Transfers.{is_push}
-use Rattle.page_store.specs.Waits.{Waits, plan_page}
-use Rattle.page_store.specs.declared.plan.Plan.{Plan}
-use Rattle.page_store.specs.declared.plan.Plan.TheVariants as plan
-use Rattle.vm_world.specs.Events.{IsEvent}
-use Rattle.vm_world.specs.FlatMemory.{Memory}
-use Rattle.vm_world.specs.Segments.{Spaces}
-use Rattle.vm_world.specs.State.{KernelState, KeptPlan, Seats, Caller}
-use Rattle.vm_world.specs.StateFits.{StateFits}
-use Rattle.vm_world.specs.StateSteps.{PendsTails, after_step}
-use Rattle.vm_world.specs.Wants.{MayPlan}
-use Rattle.vm_world.specs.World.{World, world_table}
-use Rattle.vm_world.specs.WorldSteps.{WorldStep, leaves}
-use Rattle.vm_world.specs.ZeroObjects.{KnowsZeros}
-use Rattle.vm_world.proofs.StateSteps.{state_rule}
+use Rattle.fault_entry.specs.flat_model.Flat.{Flat}
+use Rattle.fault_entry.specs.page_hash.declared.PageName.{PageName}
+use Rattle.fault_entry.specs.page_store.Bays.{home, out}
+use Rattle.fault_entry.specs.page_store.Flight.{FlightSeen, note_of}
+use Rattle.fault_entry.specs.page_store.Steps.{next_frame}
+use Rattle.fault_entry.specs.page_store.Transfers.{is_push}
+use Rattle.fault_entry.specs.page_store.Waits.{Waits, plan_page}
+use Rattle.fault_entry.specs.page_store.declared.plan.Plan.{Plan}
+use Rattle.fault_entry.specs.page_store.declared.plan.Plan.TheVariants as plan
+use Rattle.fault_entry.specs.vm_world.Events.{IsEvent}
+use Rattle.fault_entry.specs.vm_world.FlatMemory.{Memory}
+use Rattle.fault_entry.specs.vm_world.Segments.{Spaces}
+use Rattle.fault_entry.specs.vm_world.State.{KernelState, KeptPlan, Seats, Caller}
+use Rattle.fault_entry.specs.vm_world.StateFits.{StateFits}
+use Rattle.fault_entry.specs.vm_world.StateSteps.{PendsTails, after_step}
+use Rattle.fault_entry.specs.vm_world.Wants.{MayPlan}
+use Rattle.fault_entry.specs.vm_world.World.{World, world_table}
+use Rattle.fault_entry.specs.vm_world.WorldSteps.{WorldStep, leaves}
+use Rattle.fault_entry.specs.vm_world.ZeroObjects.{KnowsZeros}
+use Rattle.fault_entry.proofs.vm_world.StateSteps.{state_rule}
 use Rattle.vm_core.specs.Flights.{CanLeave, IsKeptFor, sent_with}
 use Rattle.vm_core.specs.State.{IsSoundKernel}
 use Rattle.vm_core.proofs.Landings.{disks-kept}

@@ -4,24 +4,24 @@ use Rattle.std.specs.Prelude.{slice_index, slice_index_or, slice_set, IfErr, IsS
 use Rattle.std.specs.FinMap as finite
 use Rattle.std.proofs.lemmas.Bool.{cases_eq}
 use Rattle.std.proofs.lemmas.List.{length-map, take-replicate, replicate-append-replicate}
-use Rattle.block_device.specs.DiskSeen.{DiskSeen, HasBlocks, Writes, with_block}
-use Rattle.block_device.specs.Faults.{IsFaultOf}
-use Rattle.block_device.specs.declared.disk_fault.DiskFault.{DiskFault}
-use Rattle.core_arena.specs.Bytes.{zeros}
-use Rattle.page_hash.specs.declared.PageName.{PageName}
-use Rattle.page_store.specs.Bays.{no_disk, numbers_of, block_of, pairs_seen}
-use Rattle.page_store.specs.Bytes.{clip}
-use Rattle.page_store.specs.Layout.{KeepsPage}
-use Rattle.page_store.proofs.TransferLemmas.{is-or-not}
-use Rattle.vnode_files.specs.declared.vnode.FileInfo.{FileInfo}
-use Rattle.vnode_files.specs.Files.{FilesSeen, vnode_at, with_vnode}
-use Rattle.vnode_files.specs.Grow.{page_count}
-use Rattle.vnode_files.specs.Layout.{disk_of_file, block_of_page}
-use Rattle.vnode_files.specs.Vnode.{VnodeSeen, no_vnode, is_blank, with_blank, IsSoundVnode}
-use Rattle.vm_world.specs.FramesFit.{FilesFit}
-use Rattle.vm_world.specs.World.{file_blocks, file_name}
-use Rattle.vm_world.proofs.PageNames.{keeps-page, below-kept}
-use Rattle.seg_ops.proofs.Places.{index-set}
+use Rattle.fault_entry.specs.block_device.DiskSeen.{DiskSeen, HasBlocks, Writes, with_block}
+use Rattle.fault_entry.specs.block_device.Faults.{IsFaultOf}
+use Rattle.fault_entry.specs.block_device.declared.disk_fault.DiskFault.{DiskFault}
+use Rattle.fault_entry.specs.core_arena.Bytes.{zeros}
+use Rattle.fault_entry.specs.page_hash.declared.PageName.{PageName}
+use Rattle.fault_entry.specs.page_store.Bays.{no_disk, numbers_of, block_of, pairs_seen}
+use Rattle.fault_entry.specs.page_store.Bytes.{clip}
+use Rattle.fault_entry.specs.page_store.Layout.{KeepsPage}
+use Rattle.fault_entry.proofs.page_store.TransferLemmas.{is-or-not}
+use Rattle.fault_entry.specs.vnode_files.declared.vnode.FileInfo.{FileInfo}
+use Rattle.fault_entry.specs.vnode_files.Files.{FilesSeen, vnode_at, with_vnode}
+use Rattle.fault_entry.specs.vnode_files.Grow.{page_count}
+use Rattle.fault_entry.specs.vnode_files.Layout.{disk_of_file, block_of_page}
+use Rattle.fault_entry.specs.vnode_files.Vnode.{VnodeSeen, no_vnode, is_blank, with_blank, IsSoundVnode}
+use Rattle.fault_entry.specs.vm_world.FramesFit.{FilesFit}
+use Rattle.fault_entry.specs.vm_world.World.{file_blocks, file_name}
+use Rattle.fault_entry.proofs.vm_world.PageNames.{keeps-page, below-kept}
+use Rattle.fault_entry.proofs.seg_ops.Places.{index-set}
 use Rattle.vm_core.specs.Finish.{IsFilePage, bytes_of_page, disk_at, IsPageBlock, KeepsOtherBlocks, KeepsDisk, KeepDisks, KeepRecords, IsLastFault}
 use Rattle.vm_core.specs.Closing.{AreDisksOf, page_on_disk, WritesBlanks, FillsPages, WritesZeros}
 use Rattle.vm_core.proofs.Records.{count-kept, disk-kept, block-kept, bytes-kept, page-kept, records-refl, records-then, files-fit-kept, keeps-disk-refl, keep-disks-then}

@@ -4,28 +4,28 @@ use Rattle.std.specs.Prelude.{slice_index, slice_index_or, IsSome, IfSome, IfNon
 use Rattle.std.specs.Result.{IsOk}
 use Rattle.std.specs.FinMap as finite
 use Rattle.std.proofs.lemmas.List.{length-map}
-use Rattle.block_device.specs.DiskSeen.{DiskSeen, HasBlocks}
-use Rattle.block_device.specs.Faults.{IsFaultSince}
-use Rattle.block_device.specs.declared.disk_fault.DiskFault.{DiskFault}
-use Rattle.core_arena.specs.Bytes.{zeros}
-use Rattle.page_hash.specs.declared.PageName.{PageName}
-use Rattle.page_store.specs.Bays.{BaySeen, missing, home, out, bay_at, block_of, disk_in, disks_in, no_disk, numbers_of, AreNumbers, IsStill}
-use Rattle.page_store.specs.Bytes.{clip}
-use Rattle.page_store.specs.Notes.{Note, no_notes}
-use Rattle.page_store.specs.Waits.{Waits, holder_in}
-use Rattle.page_store.proofs.QueryLemmas.{home-is}
-use Rattle.vnode_files.specs.Files.{FilesSeen}
-use Rattle.vnode_files.specs.Layout.{disk_of_file, block_of_page}
-use Rattle.vm_world.specs.MemoryFits.{MemoryFits}
-use Rattle.vm_world.specs.NotesFit.{NotesFit}
-use Rattle.vm_world.specs.Pages.{page_value}
-use Rattle.vm_world.specs.Segments.{Spaces}
-use Rattle.vm_world.specs.Wants.{IsDirtyPage}
-use Rattle.vm_world.specs.World.{World, world_table, AllTell}
-use Rattle.vm_world.proofs.Clips.{clip-twice}
-use Rattle.vm_world.proofs.FrameRule.{memory_of}
-use Rattle.seg_ops.proofs.Disks.{lives-on, dirty-exists}
-use Rattle.seg_ops.proofs.Evictions.{unlocked}
+use Rattle.fault_entry.specs.block_device.DiskSeen.{DiskSeen, HasBlocks}
+use Rattle.fault_entry.specs.block_device.Faults.{IsFaultSince}
+use Rattle.fault_entry.specs.block_device.declared.disk_fault.DiskFault.{DiskFault}
+use Rattle.fault_entry.specs.core_arena.Bytes.{zeros}
+use Rattle.fault_entry.specs.page_hash.declared.PageName.{PageName}
+use Rattle.fault_entry.specs.page_store.Bays.{BaySeen, missing, home, out, bay_at, block_of, disk_in, disks_in, no_disk, numbers_of, AreNumbers, IsStill}
+use Rattle.fault_entry.specs.page_store.Bytes.{clip}
+use Rattle.fault_entry.specs.page_store.Notes.{Note, no_notes}
+use Rattle.fault_entry.specs.page_store.Waits.{Waits, holder_in}
+use Rattle.fault_entry.proofs.page_store.QueryLemmas.{home-is}
+use Rattle.fault_entry.specs.vnode_files.Files.{FilesSeen}
+use Rattle.fault_entry.specs.vnode_files.Layout.{disk_of_file, block_of_page}
+use Rattle.fault_entry.specs.vm_world.MemoryFits.{MemoryFits}
+use Rattle.fault_entry.specs.vm_world.NotesFit.{NotesFit}
+use Rattle.fault_entry.specs.vm_world.Pages.{page_value}
+use Rattle.fault_entry.specs.vm_world.Segments.{Spaces}
+use Rattle.fault_entry.specs.vm_world.Wants.{IsDirtyPage}
+use Rattle.fault_entry.specs.vm_world.World.{World, world_table, AllTell}
+use Rattle.fault_entry.proofs.vm_world.Clips.{clip-twice}
+use Rattle.fault_entry.proofs.vm_world.FrameRule.{memory_of}
+use Rattle.fault_entry.proofs.seg_ops.Disks.{lives-on, dirty-exists}
+use Rattle.fault_entry.proofs.seg_ops.Evictions.{unlocked}
 use Rattle.vm_core.specs.Finish.{IsFilePage, bytes_of_page, disk_at, disks_of, HoldsPage, HoldAllFiles, KeepsOtherBlocks, KeepsDisk, KeepDisks, KeepRecords, IsLastFault, HaveNoBlankPage}
 use Rattle.vm_core.specs.Closing.{KeepsBay, PushesPages, StoresPages, IsFaultOfBays, AreDisksOf, page_on_disk, WritesBlanks, FillsPages}
 use Rattle.vm_core.proofs.Records.{records-back, records-then, page-kept, disk-kept, block-kept, bytes-kept, keeps-disk-refl, keep-disks-then}

@@ -8,40 +8,40 @@ use Rattle.std.specs.FinMap as finite
 use Rattle.std.specs.FinSet as set
 use Rattle.std.proofs.lemmas.Bool.{cases_eq}
 use Rattle.std.proofs.lemmas.Bool.Decides.{eqb_tells, nat_tests}
-use Rattle.page_store.specs.Notes.{Notes}
-use Rattle.page_store.specs.Seen.{StoreSeen}
-use Rattle.vm_types.specs.WellFormed.{IsWellFormed}
-use Rattle.vm_types.specs.declared.call.Call.{Call}
-use Rattle.vm_types.specs.declared.call.Call.TheVariants.{Fork}
-use Rattle.vm_types.specs.declared.call.Entry.{Entry}
-use Rattle.vm_types.specs.declared.call.Errno.TheVariants.{NoSwap}
-use Rattle.vm_types.specs.declared.call.Reply.{Reply}
-use Rattle.vm_types.specs.declared.call.Reply.TheVariants as reply
-use Rattle.flat_model.specs.Flat.{Flat, private_cells, reserved}
-use Rattle.flat_model.specs.Mapping.{cells_of}
-use Rattle.flat_model.specs.Refusals.{check, done_effect, or_refused}
-use Rattle.flat_model.specs.Step.{effect}
-use Rattle.flat_model.specs.Processes.{with_child}
-use Rattle.flat_model.specs.Told.{entries_of}
-use Rattle.vm_world.specs.CallSteps.{ActsOnMemory}
-use Rattle.vm_world.specs.EntryLaws.{LocksAfter, StartsAfter}
-use Rattle.vm_world.specs.Events.{IsEvent, CanTry, MayBear}
-use Rattle.vm_world.specs.Failures.{with_entry_made}
-use Rattle.vm_world.specs.FlatMemory.{Memory, flat_memory}
-use Rattle.vm_world.specs.ForkSteps.{MayFork}
-use Rattle.vm_world.specs.Plans.{refusal_in}
-use Rattle.vm_world.specs.Segments.{Spaces}
-use Rattle.vm_world.specs.Serving.{ModifiesNone}
-use Rattle.vm_world.specs.State.{KernelState, Seats, process_parent, room_of}
-use Rattle.vm_world.specs.StateFits.{StateFits}
-use Rattle.vm_world.specs.ZeroObjects.{KnowsZeros}
-use Rattle.vm_world.proofs.ForkEvents.{fork_rule}
-use Rattle.seg_ops.proofs.Composed.{keeps-same}
-use Rattle.seg_vn.specs.Serves.{IsPlainReply}
-use Rattle.seg_vn.specs.declared.attempt.Attempt.{Attempt}
-use Rattle.seg_vn.specs.declared.attempt.Attempt.TheVariants.{Done}
-use Rattle.seg_vn.proofs.Replacements.{none-replaced}
-use Rattle.seg_vn.proofs.Takes.{takes-none}
+use Rattle.fault_entry.specs.page_store.Notes.{Notes}
+use Rattle.fault_entry.specs.page_store.Seen.{StoreSeen}
+use Rattle.fault_entry.specs.vm_types.WellFormed.{IsWellFormed}
+use Rattle.fault_entry.specs.vm_types.declared.call.Call.{Call}
+use Rattle.fault_entry.specs.vm_types.declared.call.Call.TheVariants.{Fork}
+use Rattle.fault_entry.specs.vm_types.declared.call.Entry.{Entry}
+use Rattle.fault_entry.specs.vm_types.declared.call.Errno.TheVariants.{NoSwap}
+use Rattle.fault_entry.specs.vm_types.declared.call.Reply.{Reply}
+use Rattle.fault_entry.specs.vm_types.declared.call.Reply.TheVariants as reply
+use Rattle.fault_entry.specs.flat_model.Flat.{Flat, private_cells, reserved}
+use Rattle.fault_entry.specs.flat_model.Mapping.{cells_of}
+use Rattle.fault_entry.specs.flat_model.Refusals.{check, done_effect, or_refused}
+use Rattle.fault_entry.specs.flat_model.Step.{effect}
+use Rattle.fault_entry.specs.flat_model.Processes.{with_child}
+use Rattle.fault_entry.specs.flat_model.Told.{entries_of}
+use Rattle.fault_entry.specs.vm_world.CallSteps.{ActsOnMemory}
+use Rattle.fault_entry.specs.vm_world.EntryLaws.{LocksAfter, StartsAfter}
+use Rattle.fault_entry.specs.vm_world.Events.{IsEvent, CanTry, MayBear}
+use Rattle.fault_entry.specs.vm_world.Failures.{with_entry_made}
+use Rattle.fault_entry.specs.vm_world.FlatMemory.{Memory, flat_memory}
+use Rattle.fault_entry.specs.vm_world.ForkSteps.{MayFork}
+use Rattle.fault_entry.specs.vm_world.Plans.{refusal_in}
+use Rattle.fault_entry.specs.vm_world.Segments.{Spaces}
+use Rattle.fault_entry.specs.vm_world.Serving.{ModifiesNone}
+use Rattle.fault_entry.specs.vm_world.State.{KernelState, Seats, process_parent, room_of}
+use Rattle.fault_entry.specs.vm_world.StateFits.{StateFits}
+use Rattle.fault_entry.specs.vm_world.ZeroObjects.{KnowsZeros}
+use Rattle.fault_entry.proofs.vm_world.ForkEvents.{fork_rule}
+use Rattle.fault_entry.proofs.seg_ops.Composed.{keeps-same}
+use Rattle.fault_entry.specs.seg_vn.Serves.{IsPlainReply}
+use Rattle.fault_entry.specs.seg_vn.declared.attempt.Attempt.{Attempt}
+use Rattle.fault_entry.specs.seg_vn.declared.attempt.Attempt.TheVariants.{Done}
+use Rattle.fault_entry.proofs.seg_vn.Replacements.{none-replaced}
+use Rattle.fault_entry.proofs.seg_vn.Takes.{takes-none}
 use Rattle.proc_calls.specs.Forks.{DoesFork, IsCountedFork, IsForked, RefusesFork, fork_entry}
 use Rattle.vm_core.specs.Calls.{AnswersCall, IsDone, SlotsAfterCall, after_answer}
 use Rattle.vm_core.specs.Fits.{FitsAt}

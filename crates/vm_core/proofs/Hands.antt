@@ -1,15 +1,15 @@
 -- A move of a hand, as an event.
 use Rattle.std.proofs.Common.{◌≡◌, ◌<◌, ℕ, length, ◌||◌, Bool, true, false, Option, Some, None, refl, sym, subst}
 use Rattle.std.specs.Prelude.{IfSome, option_map}
-use Rattle.flat_model.specs.Step.{is_bit_set}
-use Rattle.page_store.specs.declared.plan.Plan.{Plan}
-use Rattle.vm_world.specs.Words.{KeepsPages}
-use Rattle.vm_world.specs.Events.{IsEvent}
-use Rattle.vm_world.specs.Plans.{CanRunPlan}
-use Rattle.vm_world.specs.State.{KernelState, KeptPlan, Caller}
-use Rattle.vm_world.specs.StateSteps.{PendsTails}
-use Rattle.vm_world.specs.World.{World}
-use Rattle.vm_world.proofs.StateSteps.{state_rule}
+use Rattle.fault_entry.specs.flat_model.Step.{is_bit_set}
+use Rattle.fault_entry.specs.page_store.declared.plan.Plan.{Plan}
+use Rattle.fault_entry.specs.vm_world.Words.{KeepsPages}
+use Rattle.fault_entry.specs.vm_world.Events.{IsEvent}
+use Rattle.fault_entry.specs.vm_world.Plans.{CanRunPlan}
+use Rattle.fault_entry.specs.vm_world.State.{KernelState, KeptPlan, Caller}
+use Rattle.fault_entry.specs.vm_world.StateSteps.{PendsTails}
+use Rattle.fault_entry.specs.vm_world.World.{World}
+use Rattle.fault_entry.proofs.vm_world.StateSteps.{state_rule}
 use Rattle.vm_core.specs.Clock.{after_hand, kept_of_clock}
 
 no-tails : (w : World) (pending : ℕ) → PendsTails w (λ name. false) pending pending

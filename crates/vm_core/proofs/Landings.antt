@@ -3,45 +3,45 @@ use Rattle.std.proofs.Common.{◌≡◌, ◌≢◌, ℕ, zero, suc, ◌-◌, ◌
 use Rattle.std.specs.Prelude.{◌↔◌, ◌⊎◌, filter, slice_index_or, slice_set, option_map, IsSomeAnd, MatchOption, MatchBool}
 use Rattle.std.proofs.lemmas.Bool.{cases_eq}
 use Rattle.std.proofs.lemmas.Bool.Decides.{eqb_tells}
-use Rattle.flat_model.specs.Births.{is_birth}
-use Rattle.flat_model.specs.Counted.{top_count}
-use Rattle.flat_model.specs.Flat.{Flat}
-use Rattle.flat_model.specs.OpenLaws.{last_entry, IsOpenPart, FollowsOn, MayFollow}
-use Rattle.flat_model.specs.Step.{is_bit_set}
-use Rattle.flat_model.specs.Told.{entries_of}
-use Rattle.page_hash.specs.Names.{name_at}
-use Rattle.page_hash.specs.declared.PageName.{PageName}
-use Rattle.page_lock.specs.Rows.{row_at}
-use Rattle.page_store.specs.Away.{is_disk, disk_count}
-use Rattle.page_store.specs.Bays.{BaySeen, missing, home, out, bay_at}
-use Rattle.page_store.specs.Flight.{FlightSeen, failed, IsPerformed}
-use Rattle.page_store.specs.Notes.{Note, Notes}
-use Rattle.page_store.specs.Out.{IsFlightOf}
-use Rattle.page_store.specs.Seen.{StoreSeen, own_frame}
-use Rattle.page_store.specs.Steps.{after_end, with_flight_landed, with_pair_settled, is_lost}
-use Rattle.page_store.specs.Transfers.{EndsTransfer}
-use Rattle.vm_types.specs.Parts.{next_part, ends_call, part_file}
-use Rattle.vm_types.specs.declared.call.Call.{Call}
-use Rattle.vm_types.specs.declared.call.Call.TheVariants.{Read, Write}
-use Rattle.vm_types.specs.declared.call.Entry.{Entry}
-use Rattle.vm_types.specs.declared.call.Reply.{Reply}
-use Rattle.vm_types.specs.declared.call.Reply.TheVariants.{Io}
-use Rattle.vm_world.specs.EntryLaws.{LocksAfter, StartsAfter}
-use Rattle.vm_world.specs.Events.{IsEvent}
-use Rattle.vm_world.specs.Failures.{io_entry, with_entry_made}
-use Rattle.vm_world.specs.HistoryFits.{CallsFit}
-use Rattle.vm_world.specs.MemoryFits.{MemoryFits}
-use Rattle.vm_world.specs.NotesFit.{NotesFit}
-use Rattle.vm_world.specs.Segments.{Spaces}
-use Rattle.vm_world.specs.State.{KernelState, Seats, Sent, Caller, notes_of, seat_of, room_of}
-use Rattle.vm_world.specs.StateFits.{StateFits, CallerFits}
-use Rattle.vm_world.specs.StateSteps.{after_step, PendsTails, ComesBack}
-use Rattle.vm_world.specs.World.{World}
-use Rattle.vm_world.specs.WorldSteps.{WorldStep, returns}
-use Rattle.vm_world.specs.ZeroObjects.{KnowsZeros}
-use Rattle.vm_world.proofs.Failures.{failure_rule}
-use Rattle.vm_world.proofs.NextParts.{next-file}
-use Rattle.vm_world.proofs.StateSteps.{state_rule}
+use Rattle.fault_entry.specs.flat_model.Births.{is_birth}
+use Rattle.fault_entry.specs.flat_model.Counted.{top_count}
+use Rattle.fault_entry.specs.flat_model.Flat.{Flat}
+use Rattle.fault_entry.specs.flat_model.OpenLaws.{last_entry, IsOpenPart, FollowsOn, MayFollow}
+use Rattle.fault_entry.specs.flat_model.Step.{is_bit_set}
+use Rattle.fault_entry.specs.flat_model.Told.{entries_of}
+use Rattle.fault_entry.specs.page_hash.Names.{name_at}
+use Rattle.fault_entry.specs.page_hash.declared.PageName.{PageName}
+use Rattle.fault_entry.specs.page_lock.Rows.{row_at}
+use Rattle.fault_entry.specs.page_store.Away.{is_disk, disk_count}
+use Rattle.fault_entry.specs.page_store.Bays.{BaySeen, missing, home, out, bay_at}
+use Rattle.fault_entry.specs.page_store.Flight.{FlightSeen, failed, IsPerformed}
+use Rattle.fault_entry.specs.page_store.Notes.{Note, Notes}
+use Rattle.fault_entry.specs.page_store.Out.{IsFlightOf}
+use Rattle.fault_entry.specs.page_store.Seen.{StoreSeen, own_frame}
+use Rattle.fault_entry.specs.page_store.Steps.{after_end, with_flight_landed, with_pair_settled, is_lost}
+use Rattle.fault_entry.specs.page_store.Transfers.{EndsTransfer}
+use Rattle.fault_entry.specs.vm_types.Parts.{next_part, ends_call, part_file}
+use Rattle.fault_entry.specs.vm_types.declared.call.Call.{Call}
+use Rattle.fault_entry.specs.vm_types.declared.call.Call.TheVariants.{Read, Write}
+use Rattle.fault_entry.specs.vm_types.declared.call.Entry.{Entry}
+use Rattle.fault_entry.specs.vm_types.declared.call.Reply.{Reply}
+use Rattle.fault_entry.specs.vm_types.declared.call.Reply.TheVariants.{Io}
+use Rattle.fault_entry.specs.vm_world.EntryLaws.{LocksAfter, StartsAfter}
+use Rattle.fault_entry.specs.vm_world.Events.{IsEvent}
+use Rattle.fault_entry.specs.vm_world.Failures.{io_entry, with_entry_made}
+use Rattle.fault_entry.specs.vm_world.HistoryFits.{CallsFit}
+use Rattle.fault_entry.specs.vm_world.MemoryFits.{MemoryFits}
+use Rattle.fault_entry.specs.vm_world.NotesFit.{NotesFit}
+use Rattle.fault_entry.specs.vm_world.Segments.{Spaces}
+use Rattle.fault_entry.specs.vm_world.State.{KernelState, Seats, Sent, Caller, notes_of, seat_of, room_of}
+use Rattle.fault_entry.specs.vm_world.StateFits.{StateFits, CallerFits}
+use Rattle.fault_entry.specs.vm_world.StateSteps.{after_step, PendsTails, ComesBack}
+use Rattle.fault_entry.specs.vm_world.World.{World}
+use Rattle.fault_entry.specs.vm_world.WorldSteps.{WorldStep, returns}
+use Rattle.fault_entry.specs.vm_world.ZeroObjects.{KnowsZeros}
+use Rattle.fault_entry.proofs.vm_world.Failures.{failure_rule}
+use Rattle.fault_entry.proofs.vm_world.NextParts.{next-file}
+use Rattle.fault_entry.proofs.vm_world.StateSteps.{state_rule}
 use Rattle.vm_core.specs.Flights.{IsBack, AddsEntry}
 use Rattle.vm_core.specs.State.{calls_without, without_seat, with_next_entry, IsSoundKernel}
 

@@ -5,9 +5,9 @@ use Rattle.std.proofs.lemmas.Bool.{cases_eq}
 use Rattle.std.proofs.lemmas.Bool.Decides.{eqb_tells}
 use Rattle.std.proofs.lemmas.List.Elements.{filter-append}
 use Rattle.std.proofs.lemmas.List.Sums.{sum_by-set}
-use Rattle.vm_types.specs.declared.call.Entry.{Entry}
-use Rattle.flat_model.specs.Told.{entries_of}
-use Rattle.vm_world.specs.State.{room_of}
+use Rattle.fault_entry.specs.vm_types.declared.call.Entry.{Entry}
+use Rattle.fault_entry.specs.flat_model.Told.{entries_of}
+use Rattle.fault_entry.specs.vm_world.State.{room_of}
 use Rattle.vm_core.specs.Ledger.{IsSoundLedger}
 
 at-within : (xs : List ℕ) (q : ℕ) → 0 < slice_index xs q → q < length xs

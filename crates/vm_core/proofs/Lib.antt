@@ -13,3 +13,4 @@ pub mod Forked
 pub mod Uses
 pub mod Looks
 pub mod Hands
+pub use Rattle.fault_entry.proofs.vm_world as vm_world

@@ -2,40 +2,40 @@
 use Rattle.std.proofs.Common.{◌≡◌, ◌≢◌, ℕ, ◌<◌, Bool, true, false, cond, List, [], ◌∷◌, ◌++◌, length, Option, Some, None, refl, sym, ap, ◌∙◌, inl, inr, subst}
 use Rattle.std.specs.Prelude.{◌↔◌, ◌⊎◌, is_none, is_some, slice_index_or, IsSome, IfSome}
 use Rattle.std.proofs.lemmas.Bool.{eq-eqb, eqb-true}
-use Rattle.block_device.specs.DiskSeen.{DiskSeen}
-use Rattle.core_arena.specs.Bytes.{bytes_at}
-use Rattle.hat_layer.specs.Pool.{frame_of, leads, drop_lead, drop_frame}
-use Rattle.hat_layer.specs.declared.translation.Translation.{Translation}
-use Rattle.page_clock.specs.Clock.{next_clock}
-use Rattle.page_hash.specs.Names.{name_at, find}
-use Rattle.page_hash.specs.declared.PageName.{PageName}
-use Rattle.page_hash.proofs.NameLaws.{find-at}
-use Rattle.page_lock.specs.Rows.{row_at, clear_row, with_bits}
-use Rattle.page_lock.specs.declared.Row.{Row}
-use Rattle.page_store.specs.Bays.{BaySeen, home, out, bay_at}
-use Rattle.page_store.specs.Laws.{StaysInPlace}
-use Rattle.page_store.specs.Moves.{is_only}
-use Rattle.page_store.specs.Seen.{StoreSeen, IsSoundStore, IsListedFrame, residence, residence_in, residence_of}
-use Rattle.page_store.specs.Steps.{with_row}
-use Rattle.page_store.specs.Table.{PlaceTable}
-use Rattle.page_store.specs.Waits.{Waits, holder_of, holder_in}
-use Rattle.page_store.specs.declared.plan.Hold.{Hold}
-use Rattle.page_store.specs.declared.plan.Hold.TheVariants as hold
-use Rattle.page_store.specs.declared.plan.Plan.{Plan}
-use Rattle.page_store.specs.declared.plan.Plan.TheVariants as plan
-use Rattle.page_store.specs.declared.residence.Residence.TheVariants.{Home}
-use Rattle.page_store.proofs.QueryLemmas.{home-is}
-use Rattle.seg_ops.specs.Plans.{IsAsked}
-use Rattle.vm_world.specs.Words.{KeepsPages}
-use Rattle.vm_world.specs.declared.wants.Wants.{Wants}
-use Rattle.vm_world.specs.declared.wants.Wants.TheVariants.{Transfer, Seat}
-use Rattle.seg_ops.proofs.Places.{index-map, index-set, or-left}
-use Rattle.seg_ops.proofs.StillSteps.{with_tables, memory_of, KeepsRow, same-row, step-keeps, translation-kept}
-use Rattle.vm_world.specs.MemoryFits.{MemoryFits}
-use Rattle.vm_world.specs.Plans.{CanRunPlan}
-use Rattle.vm_world.specs.Segments.{Spaces}
-use Rattle.vm_world.specs.TranslationsFit.{IsModified}
-use Rattle.vm_world.specs.World.{World, world_table, core_of}
+use Rattle.fault_entry.specs.block_device.DiskSeen.{DiskSeen}
+use Rattle.fault_entry.specs.core_arena.Bytes.{bytes_at}
+use Rattle.fault_entry.specs.hat_layer.Pool.{frame_of, leads, drop_lead, drop_frame}
+use Rattle.fault_entry.specs.hat_layer.declared.translation.Translation.{Translation}
+use Rattle.fault_entry.specs.page_clock.Clock.{next_clock}
+use Rattle.fault_entry.specs.page_hash.Names.{name_at, find}
+use Rattle.fault_entry.specs.page_hash.declared.PageName.{PageName}
+use Rattle.fault_entry.proofs.page_hash.NameLaws.{find-at}
+use Rattle.fault_entry.specs.page_lock.Rows.{row_at, clear_row, with_bits}
+use Rattle.fault_entry.specs.page_lock.declared.Row.{Row}
+use Rattle.fault_entry.specs.page_store.Bays.{BaySeen, home, out, bay_at}
+use Rattle.fault_entry.specs.page_store.Laws.{StaysInPlace}
+use Rattle.fault_entry.specs.page_store.Moves.{is_only}
+use Rattle.fault_entry.specs.page_store.Seen.{StoreSeen, IsSoundStore, IsListedFrame, residence, residence_in, residence_of}
+use Rattle.fault_entry.specs.page_store.Steps.{with_row}
+use Rattle.fault_entry.specs.page_store.Table.{PlaceTable}
+use Rattle.fault_entry.specs.page_store.Waits.{Waits, holder_of, holder_in}
+use Rattle.fault_entry.specs.page_store.declared.plan.Hold.{Hold}
+use Rattle.fault_entry.specs.page_store.declared.plan.Hold.TheVariants as hold
+use Rattle.fault_entry.specs.page_store.declared.plan.Plan.{Plan}
+use Rattle.fault_entry.specs.page_store.declared.plan.Plan.TheVariants as plan
+use Rattle.fault_entry.specs.page_store.declared.residence.Residence.TheVariants.{Home}
+use Rattle.fault_entry.proofs.page_store.QueryLemmas.{home-is}
+use Rattle.fault_entry.specs.seg_ops.Plans.{IsAsked}
+use Rattle.fault_entry.specs.vm_world.Words.{KeepsPages}
+use Rattle.fault_entry.specs.vm_world.declared.wants.Wants.{Wants}
+use Rattle.fault_entry.specs.vm_world.declared.wants.Wants.TheVariants.{Transfer, Seat}
+use Rattle.fault_entry.proofs.seg_ops.Places.{index-map, index-set, or-left}
+use Rattle.fault_entry.proofs.seg_ops.StillSteps.{with_tables, memory_of, KeepsRow, same-row, step-keeps, translation-kept}
+use Rattle.fault_entry.specs.vm_world.MemoryFits.{MemoryFits}
+use Rattle.fault_entry.specs.vm_world.Plans.{CanRunPlan}
+use Rattle.fault_entry.specs.vm_world.Segments.{Spaces}
+use Rattle.fault_entry.specs.vm_world.TranslationsFit.{IsModified}
+use Rattle.fault_entry.specs.vm_world.World.{World, world_table, core_of}
 use Rattle.vm_core.specs.Clock.{IsReferenced, IsToPush, IsPushOf, SameButBits, KeepsButBits, TouchesFrame, BackLooks, GathersUse, plan_in}
 use Rattle.vm_core.proofs.Uses.{touches-none, touches-then}
 

@@ -3,35 +3,35 @@ use Rattle.std.proofs.Common.{◌≡◌, ◌≢◌, ℕ, ◌<◌, ◌≤◌, ◌
 use Rattle.std.specs.Prelude.{IsSome}
 use Rattle.std.specs.FinMap as finite
 use Rattle.std.proofs.lemmas.Bool.{cases_eq}
-use Rattle.block_device.specs.DiskSeen.{with_block}
-use Rattle.block_device.specs.declared.disk_fault.DiskFault.{DiskFault}
-use Rattle.core_arena.specs.Bytes.{zeros}
-use Rattle.page_hash.specs.declared.PageName.{PageName}
-use Rattle.page_store.specs.Bays.{BaySeen, missing, home, out, bay_at, block_of, disk_in}
-use Rattle.page_store.specs.Bytes.{clip}
-use Rattle.page_store.specs.Flight.{FlightSeen, Progress, fresh, done, failed, note_of, IsPerformed, IsWritten}
-use Rattle.page_store.specs.Notes.{Note, Notes, no_notes, with_note}
-use Rattle.page_store.specs.Value.{content_in_bay}
-use Rattle.page_store.specs.declared.place.Place.{Place}
-use Rattle.page_store.specs.declared.plan.Plan.TheVariants.{Push}
-use Rattle.page_store.specs.declared.residence.Residence.TheVariants.{Home}
-use Rattle.page_store.specs.Seen.{residence}
-use Rattle.page_store.proofs.TransferLemmas.{is-or-not}
-use Rattle.vnode_files.specs.Files.{FilesSeen, vnode_at}
-use Rattle.vnode_files.specs.Layout.{disk_of_file, block_of_page}
-use Rattle.vnode_files.specs.Vnode.{is_blank}
-use Rattle.flat_model.specs.Words.{Page}
-use Rattle.vm_world.specs.MemoryFits.{MemoryFits}
-use Rattle.vm_world.specs.NotesFit.{NotesFit}
-use Rattle.vm_world.specs.Pages.{page_value}
-use Rattle.vm_world.specs.Segments.{Spaces}
-use Rattle.vm_world.specs.World.{World, StoreCore, world_table, AllTell}
-use Rattle.vm_world.specs.WorldSteps.{WorldStep, leaves, returns, cut_page}
-use Rattle.vm_world.proofs.Clips.{clip-twice}
-use Rattle.vm_world.proofs.FrameRule.{memory_of, exists-same}
-use Rattle.seg_ops.specs.Flights.{BeginsFor}
-use Rattle.seg_ops.specs.Marks.{files_pushed}
-use Rattle.seg_ops.proofs.StillSteps.{value-is}
+use Rattle.fault_entry.specs.block_device.DiskSeen.{with_block}
+use Rattle.fault_entry.specs.block_device.declared.disk_fault.DiskFault.{DiskFault}
+use Rattle.fault_entry.specs.core_arena.Bytes.{zeros}
+use Rattle.fault_entry.specs.page_hash.declared.PageName.{PageName}
+use Rattle.fault_entry.specs.page_store.Bays.{BaySeen, missing, home, out, bay_at, block_of, disk_in}
+use Rattle.fault_entry.specs.page_store.Bytes.{clip}
+use Rattle.fault_entry.specs.page_store.Flight.{FlightSeen, Progress, fresh, done, failed, note_of, IsPerformed, IsWritten}
+use Rattle.fault_entry.specs.page_store.Notes.{Note, Notes, no_notes, with_note}
+use Rattle.fault_entry.specs.page_store.Value.{content_in_bay}
+use Rattle.fault_entry.specs.page_store.declared.place.Place.{Place}
+use Rattle.fault_entry.specs.page_store.declared.plan.Plan.TheVariants.{Push}
+use Rattle.fault_entry.specs.page_store.declared.residence.Residence.TheVariants.{Home}
+use Rattle.fault_entry.specs.page_store.Seen.{residence}
+use Rattle.fault_entry.proofs.page_store.TransferLemmas.{is-or-not}
+use Rattle.fault_entry.specs.vnode_files.Files.{FilesSeen, vnode_at}
+use Rattle.fault_entry.specs.vnode_files.Layout.{disk_of_file, block_of_page}
+use Rattle.fault_entry.specs.vnode_files.Vnode.{is_blank}
+use Rattle.fault_entry.specs.flat_model.Words.{Page}
+use Rattle.fault_entry.specs.vm_world.MemoryFits.{MemoryFits}
+use Rattle.fault_entry.specs.vm_world.NotesFit.{NotesFit}
+use Rattle.fault_entry.specs.vm_world.Pages.{page_value}
+use Rattle.fault_entry.specs.vm_world.Segments.{Spaces}
+use Rattle.fault_entry.specs.vm_world.World.{World, StoreCore, world_table, AllTell}
+use Rattle.fault_entry.specs.vm_world.WorldSteps.{WorldStep, leaves, returns, cut_page}
+use Rattle.fault_entry.proofs.vm_world.Clips.{clip-twice}
+use Rattle.fault_entry.proofs.vm_world.FrameRule.{memory_of, exists-same}
+use Rattle.fault_entry.specs.seg_ops.Flights.{BeginsFor}
+use Rattle.fault_entry.specs.seg_ops.Marks.{files_pushed}
+use Rattle.fault_entry.proofs.seg_ops.StillSteps.{value-is}
 use Rattle.vm_core.specs.Finish.{IsFilePage, bytes_of_page, KeepsDisk, KeepRecords}
 use Rattle.vm_core.specs.Closing.{KeepsBay, PushesPages, IsStored, StoresPages, IsFaultOfBays, page_on_disk}
 use Rattle.vm_core.proofs.Records.{disk-kept, block-kept, bytes-kept}

@@ -2,45 +2,45 @@
 use Rattle.std.proofs.Common.{◌≡◌, ◌⊎◌, ℕ, ◌≤◌, ◌-◌, ◌*◌, ◌==◌, min, Bool, true, false, cond, List, [], Option, Some, None, Result, Ok, Err, refl, sym, ap, ◌∙◌, inl, inr, subst, arith}
 use Rattle.std.specs.Prelude.{OnOk, IsTrue, IsSome, is_some, is_none, not, nat_lt, unwrap_or, slice_index_or}
 use Rattle.std.proofs.lemmas.Bool.{lt-ltb}
-use Rattle.block_device.specs.DiskSeen.{DiskSeen}
-use Rattle.block_device.specs.declared.disk_fault.DiskFault.{DiskFault}
-use Rattle.core_arena.specs.Bytes.{bytes_at, zeros}
-use Rattle.page_hash.specs.Names.{find}
-use Rattle.page_hash.specs.declared.PageName.{PageName}
-use Rattle.page_hash.proofs.NameLaws.{find-at}
-use Rattle.page_lock.specs.Rows.{row_at}
-use Rattle.page_store.specs.Bays.{BaySeen, missing, home, out, bay_at, block_of, disk_in}
-use Rattle.page_store.specs.Bytes.{clip}
-use Rattle.page_store.specs.Layout.{page_place}
-use Rattle.page_store.specs.Notes.{Note, Notes, no_notes}
-use Rattle.page_store.specs.Seen.{StoreSeen, IsSoundStore, IsListedFrame, residence}
-use Rattle.page_store.specs.Steps.{home_bytes}
-use Rattle.page_store.specs.Value.{value, value_in, backing_value, content_of, content_in_bay, frame_value, note_of_holder}
-use Rattle.page_store.specs.Table.{PlaceTable}
-use Rattle.page_store.specs.declared.place.Place.{Place}
-use Rattle.page_store.specs.declared.residence.Residence.TheVariants.{Home}
-use Rattle.page_store.proofs.QueryLemmas.{home-is, found-within, residence-home}
-use Rattle.page_store.proofs.FrameLaws.{some-or-none}
-use Rattle.anon_slots.specs.Slots.{is_used, count_at}
-use Rattle.vnode_files.specs.Files.{FilesSeen, vnode_at}
-use Rattle.vnode_files.specs.Layout.{disk_of_file, block_of_page}
-use Rattle.vnode_files.specs.Vnode.{is_blank}
-use Rattle.flat_model.specs.Words.{Page, pages_in}
-use Rattle.vm_world.specs.FramesFit.{FilesFit}
-use Rattle.vm_world.specs.MemoryFits.{MemoryFits}
-use Rattle.vm_world.specs.NotesFit.{NotesFit}
-use Rattle.vm_world.specs.Pages.{page_value}
-use Rattle.vm_world.specs.Segments.{Spaces}
-use Rattle.vm_world.specs.TranslationsFit.{IsModified}
-use Rattle.vm_world.specs.World.{World, StoreCore, world_table, file_blocks, is_page_name, page_exists, is_unpushed, AllTell}
-use Rattle.vm_world.specs.WorldSteps.{KeepsTables}
-use Rattle.vm_world.proofs.Clips.{clip-twice}
-use Rattle.vm_world.proofs.FrameRule.{memory_of}
-use Rattle.vm_world.proofs.PageNames.{not-slot, file-apart, file-page, file-place}
-use Rattle.vm_world.specs.Words.{KeepsPages}
-use Rattle.seg_ops.specs.Steps.{IsUnwritten}
-use Rattle.seg_ops.proofs.Evictions.{clean-page, not-modified}
-use Rattle.seg_ops.proofs.StillSteps.{value-is}
+use Rattle.fault_entry.specs.block_device.DiskSeen.{DiskSeen}
+use Rattle.fault_entry.specs.block_device.declared.disk_fault.DiskFault.{DiskFault}
+use Rattle.fault_entry.specs.core_arena.Bytes.{bytes_at, zeros}
+use Rattle.fault_entry.specs.page_hash.Names.{find}
+use Rattle.fault_entry.specs.page_hash.declared.PageName.{PageName}
+use Rattle.fault_entry.proofs.page_hash.NameLaws.{find-at}
+use Rattle.fault_entry.specs.page_lock.Rows.{row_at}
+use Rattle.fault_entry.specs.page_store.Bays.{BaySeen, missing, home, out, bay_at, block_of, disk_in}
+use Rattle.fault_entry.specs.page_store.Bytes.{clip}
+use Rattle.fault_entry.specs.page_store.Layout.{page_place}
+use Rattle.fault_entry.specs.page_store.Notes.{Note, Notes, no_notes}
+use Rattle.fault_entry.specs.page_store.Seen.{StoreSeen, IsSoundStore, IsListedFrame, residence}
+use Rattle.fault_entry.specs.page_store.Steps.{home_bytes}
+use Rattle.fault_entry.specs.page_store.Value.{value, value_in, backing_value, content_of, content_in_bay, frame_value, note_of_holder}
+use Rattle.fault_entry.specs.page_store.Table.{PlaceTable}
+use Rattle.fault_entry.specs.page_store.declared.place.Place.{Place}
+use Rattle.fault_entry.specs.page_store.declared.residence.Residence.TheVariants.{Home}
+use Rattle.fault_entry.proofs.page_store.QueryLemmas.{home-is, found-within, residence-home}
+use Rattle.fault_entry.proofs.page_store.FrameLaws.{some-or-none}
+use Rattle.fault_entry.specs.anon_slots.Slots.{is_used, count_at}
+use Rattle.fault_entry.specs.vnode_files.Files.{FilesSeen, vnode_at}
+use Rattle.fault_entry.specs.vnode_files.Layout.{disk_of_file, block_of_page}
+use Rattle.fault_entry.specs.vnode_files.Vnode.{is_blank}
+use Rattle.fault_entry.specs.flat_model.Words.{Page, pages_in}
+use Rattle.fault_entry.specs.vm_world.FramesFit.{FilesFit}
+use Rattle.fault_entry.specs.vm_world.MemoryFits.{MemoryFits}
+use Rattle.fault_entry.specs.vm_world.NotesFit.{NotesFit}
+use Rattle.fault_entry.specs.vm_world.Pages.{page_value}
+use Rattle.fault_entry.specs.vm_world.Segments.{Spaces}
+use Rattle.fault_entry.specs.vm_world.TranslationsFit.{IsModified}
+use Rattle.fault_entry.specs.vm_world.World.{World, StoreCore, world_table, file_blocks, is_page_name, page_exists, is_unpushed, AllTell}
+use Rattle.fault_entry.specs.vm_world.WorldSteps.{KeepsTables}
+use Rattle.fault_entry.proofs.vm_world.Clips.{clip-twice}
+use Rattle.fault_entry.proofs.vm_world.FrameRule.{memory_of}
+use Rattle.fault_entry.proofs.vm_world.PageNames.{not-slot, file-apart, file-page, file-place}
+use Rattle.fault_entry.specs.vm_world.Words.{KeepsPages}
+use Rattle.fault_entry.specs.seg_ops.Steps.{IsUnwritten}
+use Rattle.fault_entry.proofs.seg_ops.Evictions.{clean-page, not-modified}
+use Rattle.fault_entry.proofs.seg_ops.StillSteps.{value-is}
 use Rattle.vm_core.specs.Finish.{IsFilePage, bytes_of_page, KeepRecords}
 use Rattle.vm_core.specs.Closing.{KeepsBay, PushesPages, IsStored, StoresPages, IsFaultOfBays, page_on_disk}
 use Rattle.vm_core.proofs.Records.{page-kept, bytes-kept, keeps-disk-refl, keeps-disk-then}

@@ -3,17 +3,17 @@ use Rattle.std.proofs.Common.{◌≡◌, ℕ, zero, suc, ◌<◌, ◌≤◌, Lis
 use Rattle.std.specs.Prelude.{slice_index_or, IsSome}
 use Rattle.std.specs.FinMap as finite
 use Rattle.std.proofs.lemmas.List.{length-map}
-use Rattle.block_device.specs.DiskSeen.{DiskSeen}
-use Rattle.page_hash.specs.declared.PageName.{PageName}
-use Rattle.page_store.specs.Layout.{FileBlocks, AreDisjoint, KeepsPage}
-use Rattle.vnode_files.specs.declared.vnode.FileInfo.{FileInfo}
-use Rattle.vnode_files.specs.Files.{FilesSeen, vnode_at, block_count}
-use Rattle.vnode_files.specs.Layout.{disk_of_file, block_of_page}
-use Rattle.vnode_files.specs.Vnode.{VnodeSeen, no_vnode, page_blocks, IsSoundVnode}
-use Rattle.flat_model.specs.Words.{pages_in}
-use Rattle.vm_world.specs.FramesFit.{FilesFit}
-use Rattle.vm_world.specs.World.{file_blocks}
-use Rattle.vm_world.proofs.LieAlike.{lie-alike}
+use Rattle.fault_entry.specs.block_device.DiskSeen.{DiskSeen}
+use Rattle.fault_entry.specs.page_hash.declared.PageName.{PageName}
+use Rattle.fault_entry.specs.page_store.Layout.{FileBlocks, AreDisjoint, KeepsPage}
+use Rattle.fault_entry.specs.vnode_files.declared.vnode.FileInfo.{FileInfo}
+use Rattle.fault_entry.specs.vnode_files.Files.{FilesSeen, vnode_at, block_count}
+use Rattle.fault_entry.specs.vnode_files.Layout.{disk_of_file, block_of_page}
+use Rattle.fault_entry.specs.vnode_files.Vnode.{VnodeSeen, no_vnode, page_blocks, IsSoundVnode}
+use Rattle.fault_entry.specs.flat_model.Words.{pages_in}
+use Rattle.fault_entry.specs.vm_world.FramesFit.{FilesFit}
+use Rattle.fault_entry.specs.vm_world.World.{file_blocks}
+use Rattle.fault_entry.proofs.vm_world.LieAlike.{lie-alike}
 use Rattle.vm_core.specs.Finish.{IsFilePage, bytes_of_page, disk_at, IsPageBlock, KeepsOtherBlocks, KeepsDisk, KeepDisks, KeepRecords}
 
 -- the record of a file, from the records of all

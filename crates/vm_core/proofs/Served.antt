@@ -4,61 +4,61 @@ use Rattle.std.specs.Prelude.{Result, Ok, Err, IfOk, OnErr, ◌↔◌, filter, s
 use Rattle.std.proofs.lemmas.Bool.{cases_eq}
 use Rattle.std.proofs.lemmas.List.{get_or_past}
 use Rattle.std.proofs.lemmas.Bool.Decides.{eqb_tells}
-use Rattle.anon_slots.specs.Slots.{count_at}
-use Rattle.core_arena.specs.Bytes.{bytes_at}
-use Rattle.flat_model.specs.Births.{is_birth, is_done}
-use Rattle.flat_model.specs.Flat.{Flat}
-use Rattle.flat_model.specs.History.{IsStart}
-use Rattle.flat_model.specs.OpenLaws.{last_entry, IsOpenPart, FollowsOn, MayFollow}
-use Rattle.flat_model.specs.Told.{entries_of}
-use Rattle.flat_model.specs.Words.{page}
-use Rattle.page_store.specs.Away.{is_disk}
-use Rattle.page_store.specs.Bays.{BaySeen}
-use Rattle.page_store.specs.Notes.{Notes}
-use Rattle.page_store.specs.Seen.{StoreSeen, IsSoundStore}
-use Rattle.page_store.specs.StoreFits.{StoreFits}
-use Rattle.page_store.specs.Table.{PlaceTable}
-use Rattle.page_store.specs.declared.plan.Hold.{Hold}
-use Rattle.page_store.specs.declared.plan.Hold.TheVariants as hold
-use Rattle.page_store.specs.declared.plan.Plan.{Plan}
-use Rattle.page_store.proofs.AwayLemmas.{away_law}
-use Rattle.vm_types.specs.Parts.{part_file, file_of_call}
-use Rattle.vm_types.specs.WellFormed.{IsWellFormed}
-use Rattle.vm_types.specs.declared.call.Call.{Call}
-use Rattle.vm_types.specs.declared.call.Call.TheVariants.{Load, Store, Map, Unmap, Protect, Sync, Exit, Fork}
-use Rattle.vm_types.specs.declared.call.Entry.{Entry}
-use Rattle.vm_types.specs.declared.call.Reply.{Reply}
-use Rattle.vm_types.specs.declared.call.Reply.TheVariants as reply
-use Rattle.vm_types.specs.declared.call.Reply.TheVariants.{Synced}
-use Rattle.vm_world.specs.CallSteps.{StaysAlive}
-use Rattle.vm_world.specs.EntryLaws.{LocksAfter, StartsAfter}
-use Rattle.vm_world.specs.Events.{IsEvent, CanTry, MayBear}
-use Rattle.vm_world.specs.Failures.{with_entry_made}
-use Rattle.vm_world.specs.FlatMemory.{Memory}
-use Rattle.vm_world.specs.HistoryFits.{CallsFit}
-use Rattle.vm_world.specs.Segments.{Spaces}
-use Rattle.vm_world.specs.Serving.{ServesDone, ServesNeed, ServesBusy}
-use Rattle.vm_world.specs.ServingLaws.{done_entry, after_need, after_wait, IsOfAnother}
-use Rattle.vm_world.specs.State.{KernelState, Seats, seat_of, room_of}
-use Rattle.vm_world.specs.StateFits.{StateFits}
-use Rattle.vm_world.specs.SyncSteps.{start_of, starts_begun, with_call_begun}
-use Rattle.vm_world.specs.Wants.{HoldsUp, accessed_page}
-use Rattle.vm_world.specs.World.{World}
-use Rattle.vm_world.specs.ZeroObjects.{KnowsZeros}
-use Rattle.vm_world.proofs.NextParts.{next-file}
-use Rattle.vm_world.proofs.KeptStarts.{start_rule}
-use Rattle.vm_world.proofs.Servings.{serving_law}
-use Rattle.vm_world.proofs.Told.{event_law}
+use Rattle.fault_entry.specs.anon_slots.Slots.{count_at}
+use Rattle.fault_entry.specs.core_arena.Bytes.{bytes_at}
+use Rattle.fault_entry.specs.flat_model.Births.{is_birth, is_done}
+use Rattle.fault_entry.specs.flat_model.Flat.{Flat}
+use Rattle.fault_entry.specs.flat_model.History.{IsStart}
+use Rattle.fault_entry.specs.flat_model.OpenLaws.{last_entry, IsOpenPart, FollowsOn, MayFollow}
+use Rattle.fault_entry.specs.flat_model.Told.{entries_of}
+use Rattle.fault_entry.specs.flat_model.Words.{page}
+use Rattle.fault_entry.specs.page_store.Away.{is_disk}
+use Rattle.fault_entry.specs.page_store.Bays.{BaySeen}
+use Rattle.fault_entry.specs.page_store.Notes.{Notes}
+use Rattle.fault_entry.specs.page_store.Seen.{StoreSeen, IsSoundStore}
+use Rattle.fault_entry.specs.page_store.StoreFits.{StoreFits}
+use Rattle.fault_entry.specs.page_store.Table.{PlaceTable}
+use Rattle.fault_entry.specs.page_store.declared.plan.Hold.{Hold}
+use Rattle.fault_entry.specs.page_store.declared.plan.Hold.TheVariants as hold
+use Rattle.fault_entry.specs.page_store.declared.plan.Plan.{Plan}
+use Rattle.fault_entry.proofs.page_store.AwayLemmas.{away_law}
+use Rattle.fault_entry.specs.vm_types.Parts.{part_file, file_of_call}
+use Rattle.fault_entry.specs.vm_types.WellFormed.{IsWellFormed}
+use Rattle.fault_entry.specs.vm_types.declared.call.Call.{Call}
+use Rattle.fault_entry.specs.vm_types.declared.call.Call.TheVariants.{Load, Store, Map, Unmap, Protect, Sync, Exit, Fork}
+use Rattle.fault_entry.specs.vm_types.declared.call.Entry.{Entry}
+use Rattle.fault_entry.specs.vm_types.declared.call.Reply.{Reply}
+use Rattle.fault_entry.specs.vm_types.declared.call.Reply.TheVariants as reply
+use Rattle.fault_entry.specs.vm_types.declared.call.Reply.TheVariants.{Synced}
+use Rattle.fault_entry.specs.vm_world.CallSteps.{StaysAlive}
+use Rattle.fault_entry.specs.vm_world.EntryLaws.{LocksAfter, StartsAfter}
+use Rattle.fault_entry.specs.vm_world.Events.{IsEvent, CanTry, MayBear}
+use Rattle.fault_entry.specs.vm_world.Failures.{with_entry_made}
+use Rattle.fault_entry.specs.vm_world.FlatMemory.{Memory}
+use Rattle.fault_entry.specs.vm_world.HistoryFits.{CallsFit}
+use Rattle.fault_entry.specs.vm_world.Segments.{Spaces}
+use Rattle.fault_entry.specs.vm_world.Serving.{ServesDone, ServesNeed, ServesBusy}
+use Rattle.fault_entry.specs.vm_world.ServingLaws.{done_entry, after_need, after_wait, IsOfAnother}
+use Rattle.fault_entry.specs.vm_world.State.{KernelState, Seats, seat_of, room_of}
+use Rattle.fault_entry.specs.vm_world.StateFits.{StateFits}
+use Rattle.fault_entry.specs.vm_world.SyncSteps.{start_of, starts_begun, with_call_begun}
+use Rattle.fault_entry.specs.vm_world.Wants.{HoldsUp, accessed_page}
+use Rattle.fault_entry.specs.vm_world.World.{World}
+use Rattle.fault_entry.specs.vm_world.ZeroObjects.{KnowsZeros}
+use Rattle.fault_entry.proofs.vm_world.NextParts.{next-file}
+use Rattle.fault_entry.proofs.vm_world.KeptStarts.{start_rule}
+use Rattle.fault_entry.proofs.vm_world.Servings.{serving_law}
+use Rattle.fault_entry.proofs.vm_world.Told.{event_law}
 use Rattle.mmap_calls.specs.Calls as mmap
 use Rattle.proc_calls.specs.Ends as procs
 use Rattle.fault_entry.specs.Accesses.{IsAccess, IsHitWhereDone, IsShownWhereDone, MayBeAnswered, SlotsWhereDone, is_store}
-use Rattle.seg_vn.specs.Serves.{Serves, IsPlainReply}
-use Rattle.seg_vn.proofs.HomeFrames.{home-beside}
+use Rattle.fault_entry.specs.seg_vn.Serves.{Serves, IsPlainReply}
+use Rattle.fault_entry.proofs.seg_vn.HomeFrames.{home-beside}
 use Rattle.vm_core.specs.Calls.{IsOnOwnSpace, IsServed, ChangesMappings, IsDone, IsNeeded, IsBusy, IsOwnReply, IsShownAfterCall, SlotsAfterCall, IsHitAfterCall, TakesMemory, AnswersCall, with_memory, after_answer}
 use Rattle.vm_core.specs.Fits.{FitsAt}
 use Rattle.vm_core.specs.State.{IsSoundKernel}
-use Rattle.seg_vn.specs.declared.attempt.Attempt.{Attempt}
-use Rattle.seg_vn.specs.declared.attempt.Attempt.TheVariants.{Done, Need, Busy}
+use Rattle.fault_entry.specs.seg_vn.declared.attempt.Attempt.{Attempt}
+use Rattle.fault_entry.specs.seg_vn.declared.attempt.Attempt.TheVariants.{Done, Need, Busy}
 
 -- THE CALLS ON A PROCESS'S OWN SPACE are of no file and bear nobody.
 pub record IsOfNoFile (call : Call) : Type 0 where

@@ -7,35 +7,35 @@ use Rattle.std.specs.FinSet as set
 use Rattle.std.proofs.lemmas.Bool.{cases_eq}
 use Rattle.std.proofs.lemmas.List.{length-map, length-replicate}
 use Rattle.std.proofs.lemmas.Option.{slice_get-map, slice_get_within}
-use Rattle.addr_space.specs.Space.{Part}
-use Rattle.anon_slots.specs.Slots.{AnonSlotsSeen, unused_slots, IsSoundAnonSlots}
-use Rattle.block_device.specs.DiskSeen.{DiskSeen}
-use Rattle.core_arena.specs.Bytes.{zeros}
-use Rattle.flat_model.specs.Counted.{top_count}
-use Rattle.hat_layer.specs.declared.translation.Translation.{Translation}
-use Rattle.page_hash.specs.declared.PageName.{PageName}
-use Rattle.page_lock.specs.Rows.{row_at, clear_row}
-use Rattle.page_lock.specs.declared.Row.{Row}
-use Rattle.page_store.specs.Away.{is_disk}
-use Rattle.page_store.specs.Bays.{BaySeen, missing, home, out, bay_at, bay_of, numbers_of, pairs_seen, AreNumbers, IsStill, no_disk}
-use Rattle.page_store.specs.Layout.{FileBlocks, KeepsPage}
-use Rattle.page_store.specs.New.{IsNew, AreHome}
-use Rattle.page_store.specs.Seen.{StoreSeen, IsSoundStore}
-use Rattle.vnode_files.specs.Files.{FilesSeen, vnode_at, block_count}
-use Rattle.vnode_files.specs.Grow.{page_count}
-use Rattle.vnode_files.specs.Layout.{disk_of_file}
-use Rattle.vnode_files.specs.Vnode.{VnodeSeen, no_vnode, page_blocks, block_at, IsSoundVnode}
-use Rattle.vnode_files.proofs.BlockLemmas.{length-page_blocks}
-use Rattle.vnode_files.proofs.LayoutLaws.{file_layout_law}
-use Rattle.vm_world.specs.FramesFit.{FilesFit, DisksFit}
-use Rattle.vm_world.specs.Opening.{IsOpening}
-use Rattle.vm_world.specs.Segments.{Spaces}
-use Rattle.vm_world.specs.State.{KernelState, is_top}
-use Rattle.vm_world.specs.declared.segment.Segment.{Segment}
-use Rattle.vm_world.specs.World.{file_blocks, file_name}
-use Rattle.vm_world.specs.ZeroObjects.{KnowsZeros}
-use Rattle.vm_world.proofs.PageNames.{index-of}
-use Rattle.vm_world.proofs.Spaces.{EmptySpaces, empty-zeros}
+use Rattle.fault_entry.specs.addr_space.Space.{Part}
+use Rattle.fault_entry.specs.anon_slots.Slots.{AnonSlotsSeen, unused_slots, IsSoundAnonSlots}
+use Rattle.fault_entry.specs.block_device.DiskSeen.{DiskSeen}
+use Rattle.fault_entry.specs.core_arena.Bytes.{zeros}
+use Rattle.fault_entry.specs.flat_model.Counted.{top_count}
+use Rattle.fault_entry.specs.hat_layer.declared.translation.Translation.{Translation}
+use Rattle.fault_entry.specs.page_hash.declared.PageName.{PageName}
+use Rattle.fault_entry.specs.page_lock.Rows.{row_at, clear_row}
+use Rattle.fault_entry.specs.page_lock.declared.Row.{Row}
+use Rattle.fault_entry.specs.page_store.Away.{is_disk}
+use Rattle.fault_entry.specs.page_store.Bays.{BaySeen, missing, home, out, bay_at, bay_of, numbers_of, pairs_seen, AreNumbers, IsStill, no_disk}
+use Rattle.fault_entry.specs.page_store.Layout.{FileBlocks, KeepsPage}
+use Rattle.fault_entry.specs.page_store.New.{IsNew, AreHome}
+use Rattle.fault_entry.specs.page_store.Seen.{StoreSeen, IsSoundStore}
+use Rattle.fault_entry.specs.vnode_files.Files.{FilesSeen, vnode_at, block_count}
+use Rattle.fault_entry.specs.vnode_files.Grow.{page_count}
+use Rattle.fault_entry.specs.vnode_files.Layout.{disk_of_file}
+use Rattle.fault_entry.specs.vnode_files.Vnode.{VnodeSeen, no_vnode, page_blocks, block_at, IsSoundVnode}
+use Rattle.fault_entry.proofs.vnode_files.BlockLemmas.{length-page_blocks}
+use Rattle.fault_entry.proofs.vnode_files.LayoutLaws.{file_layout_law}
+use Rattle.fault_entry.specs.vm_world.FramesFit.{FilesFit, DisksFit}
+use Rattle.fault_entry.specs.vm_world.Opening.{IsOpening}
+use Rattle.fault_entry.specs.vm_world.Segments.{Spaces}
+use Rattle.fault_entry.specs.vm_world.State.{KernelState, is_top}
+use Rattle.fault_entry.specs.vm_world.declared.segment.Segment.{Segment}
+use Rattle.fault_entry.specs.vm_world.World.{file_blocks, file_name}
+use Rattle.fault_entry.specs.vm_world.ZeroObjects.{KnowsZeros}
+use Rattle.fault_entry.proofs.vm_world.PageNames.{index-of}
+use Rattle.fault_entry.proofs.vm_world.Spaces.{EmptySpaces, empty-zeros}
 use Rattle.vm_core.specs.Setup.{disk_total, FilesOnDisks, ListsDisk, SwapServes, HaveCounted}
 use Rattle.vm_core.specs.State.{top_space, EachHasPlaces, IsSoundKernel}
 

@@ -9,11 +9,11 @@ use Rattle.std.specs.FinSet as set
 use Rattle.std.proofs.lemmas.Bool.{cases_eq}
 use Rattle.std.proofs.lemmas.Bool.Decides.{nat_tests}
 use Rattle.std.proofs.lemmas.Cmp.{nat_cmp_total}
-use Rattle.vnode_files.proofs.FilesLemmas.{key-other}
-use Rattle.addr_space.specs.Space.{Part}
-use Rattle.vm_world.specs.Segments.{Spaces}
-use Rattle.vm_world.specs.declared.segment.Segment.{Segment}
-use Rattle.vm_world.specs.State.{is_top}
+use Rattle.fault_entry.proofs.vnode_files.FilesLemmas.{key-other}
+use Rattle.fault_entry.specs.addr_space.Space.{Part}
+use Rattle.fault_entry.specs.vm_world.Segments.{Spaces}
+use Rattle.fault_entry.specs.vm_world.declared.segment.Segment.{Segment}
+use Rattle.fault_entry.specs.vm_world.State.{is_top}
 use Rattle.vm_core.specs.State.{born_of, marked_processes, top_space}
 
 -- The spaces once the first so many processes were looked at.

@@ -3,19 +3,19 @@ use Rattle.std.proofs.Common.{◌≡◌, ◌≢◌, ℕ, zero, suc, ◌<◌, ◌
 use Rattle.std.specs.Prelude.{◌⊎◌, slice_index_or, option_map, IsSome}
 use Rattle.std.specs.List.{list_any}
 use Rattle.std.proofs.lemmas.Bool.{eq-eqb, eqb-true}
-use Rattle.hat_layer.specs.Pool.{HatSeen, frame_of, leads, has_bit, bits_of, change_lead, change_frame, with_clear_bits}
-use Rattle.hat_layer.specs.declared.translation.Translation.{Translation}
-use Rattle.page_lock.specs.Rows.{row_at, clear_row, with_bits}
-use Rattle.page_lock.specs.declared.Row.{Row}
-use Rattle.page_store.specs.Seen.{StoreSeen, IsListedFrame}
-use Rattle.page_store.specs.Steps.{with_row}
-use Rattle.seg_ops.specs.Steps.{with_bits_gathered}
-use Rattle.seg_ops.proofs.Places.{both, or-left, or-right, index-map}
-use Rattle.seg_ops.proofs.StillSteps.{with_tables, memory_of}
-use Rattle.vm_world.specs.MemoryFits.{MemoryFits}
-use Rattle.vm_world.specs.Segments.{Spaces}
-use Rattle.vm_world.specs.TranslationsFit.{HasWritten}
-use Rattle.vm_world.specs.World.{World}
+use Rattle.fault_entry.specs.hat_layer.Pool.{HatSeen, frame_of, leads, has_bit, bits_of, change_lead, change_frame, with_clear_bits}
+use Rattle.fault_entry.specs.hat_layer.declared.translation.Translation.{Translation}
+use Rattle.fault_entry.specs.page_lock.Rows.{row_at, clear_row, with_bits}
+use Rattle.fault_entry.specs.page_lock.declared.Row.{Row}
+use Rattle.fault_entry.specs.page_store.Seen.{StoreSeen, IsListedFrame}
+use Rattle.fault_entry.specs.page_store.Steps.{with_row}
+use Rattle.fault_entry.specs.seg_ops.Steps.{with_bits_gathered}
+use Rattle.fault_entry.proofs.seg_ops.Places.{both, or-left, or-right, index-map}
+use Rattle.fault_entry.proofs.seg_ops.StillSteps.{with_tables, memory_of}
+use Rattle.fault_entry.specs.vm_world.MemoryFits.{MemoryFits}
+use Rattle.fault_entry.specs.vm_world.Segments.{Spaces}
+use Rattle.fault_entry.specs.vm_world.TranslationsFit.{HasWritten}
+use Rattle.fault_entry.specs.vm_world.World.{World}
 use Rattle.vm_core.specs.Clock.{SameButBits, KeepsButBits, TouchesFrame, SameModified, SameReferenced, FrontClears, GathersUse}
 
 -- A BIT of the translations of a frame.

@@ -1,26 +1,26 @@
 -- What a call that is tried leaves of the state. Public clauses cite this.
 use Rattle.std.specs.Prelude.{◌≡◌, ◌≤◌, ◌+◌, ℕ, true, false, Some, None, IsFalse}
-use Rattle.page_hash.specs.declared.PageName.{PageName}
-use Rattle.page_store.specs.declared.plan.Hold.{Hold}
-use Rattle.page_store.specs.declared.plan.Plan.{Plan}
-use Rattle.vm_types.specs.declared.call.Call.{Call}
-use Rattle.vm_types.specs.declared.call.Call.TheVariants.{Load, Store, Map, Unmap, Protect, Fork, Exit}
-use Rattle.vm_types.specs.declared.call.Reply.{Reply}
-use Rattle.vm_types.specs.declared.call.Reply.TheVariants as reply
-use Rattle.vm_types.specs.declared.call.Reply.TheVariants.{Synced}
-use Rattle.anon_slots.specs.Slots.{count_at}
-use Rattle.flat_model.specs.History.{is_io}
-use Rattle.flat_model.specs.Words.{page}
-use Rattle.vm_world.specs.FlatMemory.{Memory}
-use Rattle.vm_world.specs.ForkSteps.{times_owned}
-use Rattle.vm_world.specs.Plans.{IsRefusal, refusal_in}
-use Rattle.vm_world.specs.Serving.{TakesFrames, AreReplaced, KeepsWanted, ModifiesNone, ModifiesOnly, MayModify, IsNoFile}
-use Rattle.vm_world.specs.State.{KernelState, seat_of}
-use Rattle.vm_world.specs.SyncSteps.{start_of, with_call_begun}
-use Rattle.vm_world.specs.Wants.{MayPlan, MayHold, WantsClean, IsCleanPage}
-use Rattle.vm_world.specs.World.{World}
-use Rattle.seg_vn.specs.declared.attempt.Attempt.{Attempt}
-use Rattle.seg_vn.specs.declared.attempt.Attempt.TheVariants.{Done, Need, Busy}
+use Rattle.fault_entry.specs.page_hash.declared.PageName.{PageName}
+use Rattle.fault_entry.specs.page_store.declared.plan.Hold.{Hold}
+use Rattle.fault_entry.specs.page_store.declared.plan.Plan.{Plan}
+use Rattle.fault_entry.specs.vm_types.declared.call.Call.{Call}
+use Rattle.fault_entry.specs.vm_types.declared.call.Call.TheVariants.{Load, Store, Map, Unmap, Protect, Fork, Exit}
+use Rattle.fault_entry.specs.vm_types.declared.call.Reply.{Reply}
+use Rattle.fault_entry.specs.vm_types.declared.call.Reply.TheVariants as reply
+use Rattle.fault_entry.specs.vm_types.declared.call.Reply.TheVariants.{Synced}
+use Rattle.fault_entry.specs.anon_slots.Slots.{count_at}
+use Rattle.fault_entry.specs.flat_model.History.{is_io}
+use Rattle.fault_entry.specs.flat_model.Words.{page}
+use Rattle.fault_entry.specs.vm_world.FlatMemory.{Memory}
+use Rattle.fault_entry.specs.vm_world.ForkSteps.{times_owned}
+use Rattle.fault_entry.specs.vm_world.Plans.{IsRefusal, refusal_in}
+use Rattle.fault_entry.specs.vm_world.Serving.{TakesFrames, AreReplaced, KeepsWanted, ModifiesNone, ModifiesOnly, MayModify, IsNoFile}
+use Rattle.fault_entry.specs.vm_world.State.{KernelState, seat_of}
+use Rattle.fault_entry.specs.vm_world.SyncSteps.{start_of, with_call_begun}
+use Rattle.fault_entry.specs.vm_world.Wants.{MayPlan, MayHold, WantsClean, IsCleanPage}
+use Rattle.fault_entry.specs.vm_world.World.{World}
+use Rattle.fault_entry.specs.seg_vn.declared.attempt.Attempt.{Attempt}
+use Rattle.fault_entry.specs.seg_vn.declared.attempt.Attempt.TheVariants.{Done, Need, Busy}
 use Rattle.mmap_calls.specs.Calls.{IsMappingCall}
 use Rattle.fault_entry.specs.Accesses.{IsShownWhereDone, IsHitWhereDone, SlotsWhereDone}
 use Rattle.vm_core.specs.Flights.{AddsEntry, AddsNoEntry}

@@ -1,24 +1,24 @@
 -- How pages of files come to be on their disks. Inside: no public clause cites this.
 use Rattle.std.specs.Prelude.{ℕ, ◌≡◌, ◌⊎◌, ◌<◌, List, length, Some, Result, IsSome, IsFalse, if◌then◌else◌, slice_set}
 use Rattle.std.specs.FinMap as finite
-use Rattle.block_device.specs.DiskSeen.{DiskSeen, Writes}
-use Rattle.block_device.specs.Faults.{IsFaultSince}
-use Rattle.block_device.specs.declared.disk_fault.DiskFault.{DiskFault}
-use Rattle.core_arena.specs.Bytes.{zeros}
-use Rattle.page_hash.specs.declared.PageName.{PageName}
-use Rattle.page_store.specs.Bays.{BaySeen, missing, home, out, bay_at, block_of, numbers_of, AreNumbers, disk_in}
-use Rattle.page_store.specs.Bytes.{clip}
-use Rattle.page_store.specs.Notes.{no_notes}
-use Rattle.vnode_files.specs.Files.{FilesSeen, vnode_at}
-use Rattle.vnode_files.specs.Layout.{disk_of_file, block_of_page}
-use Rattle.vnode_files.specs.Vnode.{is_blank}
-use Rattle.vm_world.specs.FramesFit.{FilesFit}
-use Rattle.vm_world.specs.MemoryFits.{MemoryFits}
-use Rattle.vm_world.specs.NotesFit.{NotesFit}
-use Rattle.vm_world.specs.Pages.{page_value}
-use Rattle.vm_world.specs.Segments.{Spaces}
-use Rattle.vm_world.specs.World.{World, AllTell}
-use Rattle.vm_world.specs.WorldSteps.{KeepsTables}
+use Rattle.fault_entry.specs.block_device.DiskSeen.{DiskSeen, Writes}
+use Rattle.fault_entry.specs.block_device.Faults.{IsFaultSince}
+use Rattle.fault_entry.specs.block_device.declared.disk_fault.DiskFault.{DiskFault}
+use Rattle.fault_entry.specs.core_arena.Bytes.{zeros}
+use Rattle.fault_entry.specs.page_hash.declared.PageName.{PageName}
+use Rattle.fault_entry.specs.page_store.Bays.{BaySeen, missing, home, out, bay_at, block_of, numbers_of, AreNumbers, disk_in}
+use Rattle.fault_entry.specs.page_store.Bytes.{clip}
+use Rattle.fault_entry.specs.page_store.Notes.{no_notes}
+use Rattle.fault_entry.specs.vnode_files.Files.{FilesSeen, vnode_at}
+use Rattle.fault_entry.specs.vnode_files.Layout.{disk_of_file, block_of_page}
+use Rattle.fault_entry.specs.vnode_files.Vnode.{is_blank}
+use Rattle.fault_entry.specs.vm_world.FramesFit.{FilesFit}
+use Rattle.fault_entry.specs.vm_world.MemoryFits.{MemoryFits}
+use Rattle.fault_entry.specs.vm_world.NotesFit.{NotesFit}
+use Rattle.fault_entry.specs.vm_world.Pages.{page_value}
+use Rattle.fault_entry.specs.vm_world.Segments.{Spaces}
+use Rattle.fault_entry.specs.vm_world.World.{World, AllTell}
+use Rattle.fault_entry.specs.vm_world.WorldSteps.{KeepsTables}
 use Rattle.vm_core.specs.Finish.{IsFilePage, bytes_of_page, disk_at, KeepsDisk, KeepDisks, KeepRecords}
 
 -- A disk that is home stays so, and keeps what isn't a page of a file; nothing else is there that wasn't.

@@ -1,23 +1,23 @@
 -- What is left of a kernel that was closed: its history, and its files with their pages on the disks. Public clauses cite this.
 use Rattle.std.specs.Prelude.{ℕ, ◌≡◌, ◌≤◌, ◌<◌, List, [], length, map, IsFalse, Option, Some, None, IfSome, slice_index_or}
-use Rattle.vm_types.specs.declared.call.Entry.{Entry}
-use Rattle.vm_types.specs.Pages.{bytes_before}
-use Rattle.block_device.specs.DiskSeen.{DiskSeen}
-use Rattle.block_device.specs.Faults.{IsFaultSince}
-use Rattle.block_device.specs.declared.disk_fault.DiskFault.{DiskFault}
-use Rattle.page_hash.specs.declared.PageName.{PageName}
-use Rattle.page_store.specs.Bays.{no_disk, disks_in}
-use Rattle.page_store.specs.Bytes.{clip}
-use Rattle.page_store.specs.Notes.{no_notes}
-use Rattle.vnode_files.specs.Files.{FilesSeen, vnode_at}
-use Rattle.vnode_files.specs.Vnode.{VnodeSeen, is_blank}
-use Rattle.vnode_files.specs.Layout.{disk_of_file, block_of_page}
-use Rattle.flat_model.specs.Flat.{Flat}
-use Rattle.flat_model.specs.Words.{Page, pages_in}
-use Rattle.vm_world.specs.Pages.{page_value}
-use Rattle.vm_world.specs.State.{KernelState, Seats}
-use Rattle.vm_world.specs.StateFits.{StateFits}
-use Rattle.vm_world.specs.World.{World}
+use Rattle.fault_entry.specs.vm_types.declared.call.Entry.{Entry}
+use Rattle.fault_entry.specs.vm_types.Pages.{bytes_before}
+use Rattle.fault_entry.specs.block_device.DiskSeen.{DiskSeen}
+use Rattle.fault_entry.specs.block_device.Faults.{IsFaultSince}
+use Rattle.fault_entry.specs.block_device.declared.disk_fault.DiskFault.{DiskFault}
+use Rattle.fault_entry.specs.page_hash.declared.PageName.{PageName}
+use Rattle.fault_entry.specs.page_store.Bays.{no_disk, disks_in}
+use Rattle.fault_entry.specs.page_store.Bytes.{clip}
+use Rattle.fault_entry.specs.page_store.Notes.{no_notes}
+use Rattle.fault_entry.specs.vnode_files.Files.{FilesSeen, vnode_at}
+use Rattle.fault_entry.specs.vnode_files.Vnode.{VnodeSeen, is_blank}
+use Rattle.fault_entry.specs.vnode_files.Layout.{disk_of_file, block_of_page}
+use Rattle.fault_entry.specs.flat_model.Flat.{Flat}
+use Rattle.fault_entry.specs.flat_model.Words.{Page, pages_in}
+use Rattle.fault_entry.specs.vm_world.Pages.{page_value}
+use Rattle.fault_entry.specs.vm_world.State.{KernelState, Seats}
+use Rattle.fault_entry.specs.vm_world.StateFits.{StateFits}
+use Rattle.fault_entry.specs.vm_world.World.{World}
 
 -- The state fits some opening, while no seat has anything outside.
 abbrev pub FitsStill : KernelState → Type 0

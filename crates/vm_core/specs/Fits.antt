@@ -1,8 +1,8 @@
 -- What the holder of the state knows of it. Public clauses cite this.
 use Rattle.std.specs.Prelude.{◌≡◌, ℕ, Option}
-use Rattle.flat_model.specs.Flat.{Flat}
-use Rattle.vm_world.specs.State.{KernelState, Seats, Sent}
-use Rattle.vm_world.specs.StateFits.{StateFits}
+use Rattle.fault_entry.specs.flat_model.Flat.{Flat}
+use Rattle.fault_entry.specs.vm_world.State.{KernelState, Seats, Sent}
+use Rattle.fault_entry.specs.vm_world.StateFits.{StateFits}
 
 -- The state fits some opening, with this outside at the seat, and whatever the other seats have.
 abbrev pub FitsAt : KernelState → ℕ → Option Sent → Type 0

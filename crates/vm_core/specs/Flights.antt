@@ -1,20 +1,20 @@
 -- What the begin and the end of a transfer leave of the state. Public clauses cite this.
 use Rattle.std.specs.Prelude.{◌≡◌, ◌++◌, ◌∷◌, [], ℕ, List, Option, Some, None, IsSome}
-use Rattle.vm_types.specs.declared.call.Entry.{Entry}
-use Rattle.vm_types.specs.declared.call.Reply.{Reply}
-use Rattle.vm_types.specs.declared.call.Reply.TheVariants.{Io}
-use Rattle.hat_layer.specs.declared.translation.Translation.{Translation}
-use Rattle.page_hash.specs.Names.{find}
-use Rattle.page_store.specs.Flight.{FlightSeen, Progress, fresh, done, failed, IsPerformed, note_of}
-use Rattle.page_store.specs.Steps.{next_frame}
-use Rattle.page_store.specs.declared.plan.Plan.{Plan}
-use Rattle.page_store.specs.declared.plan.Plan.TheVariants as plan
-use Rattle.page_store.specs.Seen.{StoreSeen}
-use Rattle.seg_ops.specs.Flights.{places_pushed, store_synced}
-use Rattle.vm_world.specs.EntryLaws.{LocksAfter, StartsAfter}
-use Rattle.vm_world.specs.State.{KernelState, KeptPlan, Sent, Caller}
-use Rattle.vm_world.specs.Wants.{IsDirtyPage, MayReadIn}
-use Rattle.vm_world.specs.World.{World}
+use Rattle.fault_entry.specs.vm_types.declared.call.Entry.{Entry}
+use Rattle.fault_entry.specs.vm_types.declared.call.Reply.{Reply}
+use Rattle.fault_entry.specs.vm_types.declared.call.Reply.TheVariants.{Io}
+use Rattle.fault_entry.specs.hat_layer.declared.translation.Translation.{Translation}
+use Rattle.fault_entry.specs.page_hash.Names.{find}
+use Rattle.fault_entry.specs.page_store.Flight.{FlightSeen, Progress, fresh, done, failed, IsPerformed, note_of}
+use Rattle.fault_entry.specs.page_store.Steps.{next_frame}
+use Rattle.fault_entry.specs.page_store.declared.plan.Plan.{Plan}
+use Rattle.fault_entry.specs.page_store.declared.plan.Plan.TheVariants as plan
+use Rattle.fault_entry.specs.page_store.Seen.{StoreSeen}
+use Rattle.fault_entry.specs.seg_ops.Flights.{places_pushed, store_synced}
+use Rattle.fault_entry.specs.vm_world.EntryLaws.{LocksAfter, StartsAfter}
+use Rattle.fault_entry.specs.vm_world.State.{KernelState, KeptPlan, Sent, Caller}
+use Rattle.fault_entry.specs.vm_world.Wants.{IsDirtyPage, MayReadIn}
+use Rattle.fault_entry.specs.vm_world.World.{World}
 
 -- A page can be read in that no frame has, where a frame can be taken, and a page can be pushed that is home and modified.
 abbrev pub CanLeave : World → Plan → Type 0

@@ -2,10 +2,10 @@
 use Rattle.std.specs.Prelude.{ℕ, ◌-◌, List, Option, None, slice_set}
 use Rattle.std.specs.FinSet as set
 use Rattle.std.specs.Ordering.{nat_cmp}
-use Rattle.vm_types.specs.declared.call.Reply.{Reply}
-use Rattle.vm_types.specs.declared.call.Reply.TheVariants as reply
-use Rattle.vm_world.specs.FlatMemory.{Memory}
-use Rattle.vm_world.specs.State.{KernelState}
+use Rattle.fault_entry.specs.vm_types.declared.call.Reply.{Reply}
+use Rattle.fault_entry.specs.vm_types.declared.call.Reply.TheVariants as reply
+use Rattle.fault_entry.specs.vm_world.FlatMemory.{Memory}
+use Rattle.fault_entry.specs.vm_world.State.{KernelState}
 
 -- Who was ever alive then: where the Fork is done, its child too.
 abbrev pub born_after : set.FinSet nat_cmp → ℕ → Reply → set.FinSet nat_cmp

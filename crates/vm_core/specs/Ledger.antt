@@ -1,8 +1,8 @@
 -- The history, with the most entries that each process may make. Inside: no public clause cites this.
 use Rattle.std.specs.Prelude.{◌≡◌, ◌≤◌, ◌+◌, ℕ, List, length, sum_by}
-use Rattle.vm_types.specs.declared.call.Entry.{Entry}
-use Rattle.flat_model.specs.Told.{entries_of}
-use Rattle.vm_world.specs.State.{room_of}
+use Rattle.fault_entry.specs.vm_types.declared.call.Entry.{Entry}
+use Rattle.fault_entry.specs.flat_model.Told.{entries_of}
+use Rattle.fault_entry.specs.vm_world.State.{room_of}
 
 -- The entries that were made, and of each process the most that it may make.
 pub record LedgerSeen : Type 0 where

@@ -9,3 +9,10 @@ pub mod Clock
 pub mod Flights
 pub mod Calls
 pub mod Forks
+pub use Rattle.fault_entry.specs.vm_types as vm_types
+pub use Rattle.fault_entry.specs.flat_model as flat_model
+pub use Rattle.fault_entry.specs.block_device as block_device
+pub use Rattle.fault_entry.specs.page_hash as page_hash
+pub use Rattle.fault_entry.specs.addr_space as addr_space
+pub use Rattle.fault_entry.specs.page_store as page_store
+pub use Rattle.fault_entry.specs.vm_world as vm_world

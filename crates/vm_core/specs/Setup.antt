@@ -1,14 +1,14 @@
 -- What a state may be started with, and what it has then. Public clauses cite this.
 use Rattle.std.specs.Prelude.{◌≡◌, ◌<◌, ◌≤◌, ◌+◌, ◌^◌, ◌/◌, ℕ, List, Option, Some, MatchOption, IsSome, length, option_map, is_some, if◌then◌else◌, slice_get, All}
 use Rattle.std.specs.FinMap as finite
-use Rattle.block_device.specs.DiskSeen.{DiskSeen}
-use Rattle.flat_model.specs.Counted.{top_count}
-use Rattle.page_clock.specs.Clock.{fresh_clock}
-use Rattle.page_store.specs.Bays.{numbers_of, pairs_seen}
-use Rattle.page_store.specs.New.{AreHome}
-use Rattle.vnode_files.specs.Files.{FilesSeen, vnode_at}
-use Rattle.vnode_files.specs.Layout.{LieOnDisks, NoFilesMeet, HaveFewExtents}
-use Rattle.vm_world.specs.State.{KernelState}
+use Rattle.fault_entry.specs.block_device.DiskSeen.{DiskSeen}
+use Rattle.fault_entry.specs.flat_model.Counted.{top_count}
+use Rattle.fault_entry.specs.page_clock.Clock.{fresh_clock}
+use Rattle.fault_entry.specs.page_store.Bays.{numbers_of, pairs_seen}
+use Rattle.fault_entry.specs.page_store.New.{AreHome}
+use Rattle.fault_entry.specs.vnode_files.Files.{FilesSeen, vnode_at}
+use Rattle.fault_entry.specs.vnode_files.Layout.{LieOnDisks, NoFilesMeet, HaveFewExtents}
+use Rattle.fault_entry.specs.vm_world.State.{KernelState}
 use Rattle.vm_core.specs.declared.setup.Setup.{Setup}
 
 -- How many disks there are, the swap disk among them.

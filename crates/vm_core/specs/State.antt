@@ -2,14 +2,14 @@
 use Rattle.std.specs.Prelude.{◌≤◌, ◌+◌, ℕ, suc, Bool, true, false, List, [], ◌∷◌, Option, Some, None, length, if◌then◌else◌, ◌++◌, ◌-◌, ◌==◌, slice_set, slice_index_or}
 use Rattle.std.specs.Ordering.{nat_cmp}
 use Rattle.std.specs.FinSet as set
-use Rattle.vm_types.specs.declared.call.Entry.{Entry}
-use Rattle.addr_space.specs.Space.{Part}
-use Rattle.page_store.specs.Away.{disk_count}
-use Rattle.page_store.specs.Seen.{StoreSeen}
-use Rattle.vm_world.specs.Segments.{Spaces}
-use Rattle.vm_world.specs.declared.segment.Segment.{Segment}
-use Rattle.vm_world.specs.ZeroObjects.{KnowsZeros}
-use Rattle.vm_world.specs.State.{KernelState, KeptPlan, is_top}
+use Rattle.fault_entry.specs.vm_types.declared.call.Entry.{Entry}
+use Rattle.fault_entry.specs.addr_space.Space.{Part}
+use Rattle.fault_entry.specs.page_store.Away.{disk_count}
+use Rattle.fault_entry.specs.page_store.Seen.{StoreSeen}
+use Rattle.fault_entry.specs.vm_world.Segments.{Spaces}
+use Rattle.fault_entry.specs.vm_world.declared.segment.Segment.{Segment}
+use Rattle.fault_entry.specs.vm_world.ZeroObjects.{KnowsZeros}
+use Rattle.fault_entry.specs.vm_world.State.{KernelState, KeptPlan, is_top}
 use Rattle.vm_core.specs.declared.kept.Kept.{Kept}
 
 -- The plan as the state's meaning has it.

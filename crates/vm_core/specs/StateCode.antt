@@ -6,32 +6,32 @@ use Rattle.std.specs.FinMap as finite
 use Rattle.std.specs.FinSet as set
 use mathlib.Core.Logic.{inl, inr}
 use Rattle.std.specs.Prelude.{◌⊎◌, ◌≡◌}
-use Rattle.addr_space.specs.Space.{part_code}
-use Rattle.anon_map.specs.Maps.{Map}
-use Rattle.anon_slots.specs.Slots.{AnonSlotsSeen}
-use Rattle.block_device.specs.DiskSeen.{DiskSeen}
-use Rattle.hat_layer.specs.Pool.{HatSeen}
-use Rattle.hat_layer.specs.declared.translation.Translation.{Translation}
-use Rattle.hat_layer.specs.contracts.translation.Translation as translation
-use Rattle.page_clock.specs.Seen.{ClockSeen}
-use Rattle.page_hash.specs.declared.PageName.{PageName}
-use Rattle.page_hash.specs.contracts.PageName as name
-use Rattle.page_lock.specs.declared.Row.{Row}
-use Rattle.page_lock.specs.contracts.Row as row
-use Rattle.page_store.specs.Bays.{BaySeen, missing, home, out}
-use Rattle.page_store.specs.Seen.{StoreSeen}
-use Rattle.page_store.specs.declared.plan.Plan.{Plan}
-use Rattle.page_store.specs.contracts.plan.Plan as plan
-use Rattle.vm_types.specs.declared.call.Entry.{Entry}
-use Rattle.vm_types.specs.contracts.call.Call as call
-use Rattle.vm_types.specs.contracts.call.Entry as entry
-use Rattle.vnode_files.specs.Files.{FilesSeen}
-use Rattle.vnode_files.specs.FilesCode.{files_code}
-use Rattle.vm_world.specs.FlatMemory.{Memory}
-use Rattle.vm_world.specs.Segments.{Spaces}
-use Rattle.vm_world.specs.State.{KernelState, KeptPlan, Caller}
-use Rattle.vm_world.specs.World.{World}
-use Rattle.seg_vn.specs.Segments.{segment_code}
+use Rattle.fault_entry.specs.addr_space.Space.{part_code}
+use Rattle.fault_entry.specs.anon_map.Maps.{Map}
+use Rattle.fault_entry.specs.anon_slots.Slots.{AnonSlotsSeen}
+use Rattle.fault_entry.specs.block_device.DiskSeen.{DiskSeen}
+use Rattle.fault_entry.specs.hat_layer.Pool.{HatSeen}
+use Rattle.fault_entry.specs.hat_layer.declared.translation.Translation.{Translation}
+use Rattle.fault_entry.specs.hat_layer.contracts.translation.Translation as translation
+use Rattle.fault_entry.specs.page_clock.Seen.{ClockSeen}
+use Rattle.fault_entry.specs.page_hash.declared.PageName.{PageName}
+use Rattle.fault_entry.specs.page_hash.contracts.PageName as name
+use Rattle.fault_entry.specs.page_lock.declared.Row.{Row}
+use Rattle.fault_entry.specs.page_lock.contracts.Row as row
+use Rattle.fault_entry.specs.page_store.Bays.{BaySeen, missing, home, out}
+use Rattle.fault_entry.specs.page_store.Seen.{StoreSeen}
+use Rattle.fault_entry.specs.page_store.declared.plan.Plan.{Plan}
+use Rattle.fault_entry.specs.page_store.contracts.plan.Plan as plan
+use Rattle.fault_entry.specs.vm_types.declared.call.Entry.{Entry}
+use Rattle.fault_entry.specs.vm_types.contracts.call.Call as call
+use Rattle.fault_entry.specs.vm_types.contracts.call.Entry as entry
+use Rattle.fault_entry.specs.vnode_files.Files.{FilesSeen}
+use Rattle.fault_entry.specs.vnode_files.FilesCode.{files_code}
+use Rattle.fault_entry.specs.vm_world.FlatMemory.{Memory}
+use Rattle.fault_entry.specs.vm_world.Segments.{Spaces}
+use Rattle.fault_entry.specs.vm_world.State.{KernelState, KeptPlan, Caller}
+use Rattle.fault_entry.specs.vm_world.World.{World}
+use Rattle.fault_entry.specs.seg_vn.Segments.{segment_code}
 
 abbrev pub disk_code : Coded DiskSeen
 disk_code =

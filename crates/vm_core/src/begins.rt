@@ -1,28 +1,25 @@
 //! Transfers that begin.
 ghost use Rattle.std.specs.Prelude.{◌≡◌, Some, None};
-ghost use Rattle.page_hash.specs.Names.{is_name};
-ghost use Rattle.page_store.specs.Flight.{note_of};
-ghost use Rattle.page_store.specs.Notes.{Notes};
-ghost use Rattle.page_store.specs.Steps.{next_name};
-ghost use Rattle.page_store.specs.Transfers.{BeginsTransfer};
-ghost use Rattle.page_store.specs.Waits.{Waits, plan_page};
-ghost use Rattle.seg_ops.specs.Flights.{BeginsFor};
-ghost use Rattle.vm_world.specs.Events.{IsEvent};
-ghost use Rattle.vm_world.specs.NotesFit.{NotesFit};
-ghost use Rattle.vm_world.specs.Segments.{Spaces};
-ghost use Rattle.vm_world.specs.State.{KeptPlan};
-ghost use Rattle.vm_world.specs.StateSteps.{PendsTails, after_step};
-ghost use Rattle.vm_world.specs.Words.{Fits, IsFit};
-ghost use Rattle.vm_world.specs.World.{world_seen, world_table};
-ghost use Rattle.vm_world.specs.WorldSteps.{WorldStep, leaves};
+ghost use Rattle.fault_entry.specs.page_hash.Names.{is_name};
+ghost use Rattle.fault_entry.specs.page_store.Flight.{note_of};
+ghost use Rattle.fault_entry.specs.page_store.Notes.{Notes};
+ghost use Rattle.fault_entry.specs.page_store.Steps.{next_name};
+ghost use Rattle.fault_entry.specs.page_store.Transfers.{BeginsTransfer};
+ghost use Rattle.fault_entry.specs.page_store.Waits.{Waits, plan_page};
+ghost use Rattle.fault_entry.specs.seg_ops.Flights.{BeginsFor};
+ghost use Rattle.fault_entry.specs.vm_world.Events.{IsEvent};
+ghost use Rattle.fault_entry.specs.vm_world.NotesFit.{NotesFit};
+ghost use Rattle.fault_entry.specs.vm_world.Segments.{Spaces};
+ghost use Rattle.fault_entry.specs.vm_world.State.{KeptPlan};
+ghost use Rattle.fault_entry.specs.vm_world.StateSteps.{PendsTails, after_step};
+ghost use Rattle.fault_entry.specs.vm_world.Words.{Fits, IsFit};
+ghost use Rattle.fault_entry.specs.vm_world.World.{world_seen, world_table};
+ghost use Rattle.fault_entry.specs.vm_world.WorldSteps.{WorldStep, leaves};
 ghost use Rattle.vm_core.specs.Fits.{FitsAt};
 ghost use Rattle.vm_core.specs.Flights.{CanLeave, IsKeptFor, places_begun, sent_with, store_ready};
 
 use crate::state::VmState;
-use block_device::Disk;
-use page_store::{Flight, Plan};
-use seg_ops::{begin_push, begin_read};
-use vm_world::World;
+use fault_entry::{Disk, Flight, Plan, World, begin_push, begin_read};
 
 /// Begins the transfer of a plan that can run.
 fn leave<D: Disk>(world: &mut World<D>, seat: u32, plan: Plan) -> Flight<D>

@@ -1,14 +1,12 @@
 //! Pages of files that were never written get zeros on their disks.
 ghost use Rattle.std.specs.Prelude.{◌≡◌, ◌<◌, ℕ, length, IfErr, IfNone, IfSome, OnOk, MatchResult};
 ghost use Rattle.std.specs.Result.{IsOk};
-ghost use Rattle.page_store.specs.Bays.{pairs_seen};
+ghost use Rattle.fault_entry.specs.page_store.Bays.{pairs_seen};
 ghost use Rattle.vm_core.specs.Closing.{AreDisksOf, WritesBlanks, FillsPages, WritesZeros};
 ghost use Rattle.vm_core.specs.Finish.{IsFilePage, disk_at, IsLastFault};
-ghost use Rattle.vm_world.specs.World.{file_name};
+ghost use Rattle.fault_entry.specs.vm_world.World.{file_name};
 
-use block_device::{Disk, DiskFault, write_block};
-use vm_types::pages_in;
-use vnode_files::Files;
+use fault_entry::{Disk, DiskFault, Files, pages_in, write_block};
 
 /// Where the disk of this number stands.
 fn place_of<D: Disk>(disks: &[(u32, D)], number: u32) -> usize

@@ -3,28 +3,25 @@ ghost use Rattle.std.specs.Prelude.{◌≡◌, ◌<◌, ◌≤◌, ℕ, Some, No
 ghost use Rattle.std.specs.FinMap as finite;
 ghost use Rattle.fault_entry.specs.Accesses.{IsAccess};
 ghost use Rattle.fault_entry.specs.Answers.{attempt_of};
-ghost use Rattle.page_store.specs.Notes.{Notes};
-ghost use Rattle.anon_slots.specs.Slots.{count_at};
-ghost use Rattle.flat_model.specs.Told.{entries_of};
+ghost use Rattle.fault_entry.specs.page_store.Notes.{Notes};
+ghost use Rattle.fault_entry.specs.anon_slots.Slots.{count_at};
+ghost use Rattle.fault_entry.specs.flat_model.Told.{entries_of};
 ghost use Rattle.mmap_calls.specs.Calls.{IsMappingCall};
 ghost use Rattle.proc_calls.specs.Ends as procs;
-ghost use Rattle.vm_types.specs.WellFormed.{IsWellFormed};
-ghost use Rattle.vm_world.specs.CallSteps.{StaysAlive};
-ghost use Rattle.vm_world.specs.Events.{IsEvent, CanTry};
-ghost use Rattle.vm_world.specs.MemoryFits.{MemoryFits};
-ghost use Rattle.vm_world.specs.NotesFit.{NotesFit};
-ghost use Rattle.vm_world.specs.State.{room_of, seat_of};
+ghost use Rattle.fault_entry.specs.vm_types.WellFormed.{IsWellFormed};
+ghost use Rattle.fault_entry.specs.vm_world.CallSteps.{StaysAlive};
+ghost use Rattle.fault_entry.specs.vm_world.Events.{IsEvent, CanTry};
+ghost use Rattle.fault_entry.specs.vm_world.MemoryFits.{MemoryFits};
+ghost use Rattle.fault_entry.specs.vm_world.NotesFit.{NotesFit};
+ghost use Rattle.fault_entry.specs.vm_world.State.{room_of, seat_of};
 ghost use Rattle.vm_core.specs.Calls.{IsServed, ChangesMappings, TakesMemory, AnswersCall, IsOwnReply, IsShownAfterCall, SlotsAfterCall, IsHitAfterCall, with_memory, after_answer};
 ghost use Rattle.vm_core.specs.Fits.{FitsAt};
-ghost use Rattle.seg_vn.specs.Serves.{Serves};
+ghost use Rattle.fault_entry.specs.seg_vn.Serves.{Serves};
 
 use crate::kept::{Kept, forget};
 use crate::state::VmState;
-use block_device::Disk;
-use fault_entry::Answer;
-use seg_vn::Attempt;
+use fault_entry::{Answer, Attempt, Call, Disk, Reply};
 use std::alloc::AllocError;
-use vm_types::{Call, Reply};
 
 impl<D: Disk> VmState<D> {
     /// Tries a call of a process at its seat.

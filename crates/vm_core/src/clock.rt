@@ -1,20 +1,17 @@
 //! The two hands of the clock.
 ghost use Rattle.std.specs.Prelude.{◌≡◌, ◌<◌, None, length, option_map, IfSome};
-ghost use Rattle.vm_world.specs.Events.{IsEvent};
-ghost use Rattle.vm_world.specs.Plans.{CanRunPlan};
-ghost use Rattle.vm_world.specs.Segments.{Spaces};
-ghost use Rattle.vm_world.specs.Words.{memory, Fits, IsFit, IsKnown, KeepsEveryPage, OnlyStoreAndHat};
-ghost use Rattle.vm_world.specs.World.{world_seen};
+ghost use Rattle.fault_entry.specs.vm_world.Events.{IsEvent};
+ghost use Rattle.fault_entry.specs.vm_world.Plans.{CanRunPlan};
+ghost use Rattle.fault_entry.specs.vm_world.Segments.{Spaces};
+ghost use Rattle.fault_entry.specs.vm_world.Words.{memory, Fits, IsFit, IsKnown, KeepsEveryPage, OnlyStoreAndHat};
+ghost use Rattle.fault_entry.specs.vm_world.World.{world_seen};
 ghost use Rattle.vm_core.specs.Clock.{ClockMoves, GathersUse, FrontClears, BackLooks, after_hand, kept_of_clock, plan_in};
 ghost use Rattle.vm_core.specs.State.{kept_seen};
 ghost use Rattle.vm_core.specs.Fits.{FitsAt};
 
 use crate::kept::{Kept, forget};
 use crate::state::VmState;
-use block_device::Disk;
-use page_store::{Pick, Plan};
-use seg_ops::{ask, evict, sync};
-use vm_world::{Wants, World};
+use fault_entry::{Disk, Pick, Plan, Wants, World, ask, evict, sync};
 
 /// What the translations of a frame say of its use, its row says then.
 fn gather_use<D: Disk>(world: &mut World<D>, frame: u32)

@@ -1,25 +1,23 @@
 //! Modified pages of files go to their disks, as the kernel is closed: no seat has anything outside.
 ghost use Rattle.std.specs.Prelude.{◌≡◌, ◌<◌, false, length, IfErr, OnOk};
 ghost use Rattle.std.specs.Bool.{OnTrue};
-ghost use Rattle.page_hash.specs.declared.PageName.{PageName};
-ghost use Rattle.page_lock.specs.Rows.{row_at};
-ghost use Rattle.page_store.specs.Laws.{SameResidence};
-ghost use Rattle.page_store.specs.Notes.{no_notes};
-ghost use Rattle.page_store.specs.Seen.{IsListedFrame};
-ghost use Rattle.seg_ops.specs.Steps.{IsUnwritten};
+ghost use Rattle.fault_entry.specs.page_hash.declared.PageName.{PageName};
+ghost use Rattle.fault_entry.specs.page_lock.Rows.{row_at};
+ghost use Rattle.fault_entry.specs.page_store.Laws.{SameResidence};
+ghost use Rattle.fault_entry.specs.page_store.Notes.{no_notes};
+ghost use Rattle.fault_entry.specs.page_store.Seen.{IsListedFrame};
+ghost use Rattle.fault_entry.specs.seg_ops.Steps.{IsUnwritten};
 ghost use Rattle.vm_core.specs.Closing.{PushesPages, StoresPages, IsFaultOfBays};
 ghost use Rattle.vm_core.specs.Finish.{IsFilePage};
-ghost use Rattle.vm_world.specs.NotesFit.{NotesFit};
-ghost use Rattle.vm_world.specs.Segments.{Spaces};
-ghost use Rattle.vm_world.specs.Wants.{IsDirtyPage};
-ghost use Rattle.vm_world.specs.Words.{Fits, IsFit, KeepsEveryPage, OnlyStoreAndHat};
-ghost use Rattle.vm_world.specs.World.{world_seen};
+ghost use Rattle.fault_entry.specs.vm_world.NotesFit.{NotesFit};
+ghost use Rattle.fault_entry.specs.vm_world.Segments.{Spaces};
+ghost use Rattle.fault_entry.specs.vm_world.Wants.{IsDirtyPage};
+ghost use Rattle.fault_entry.specs.vm_world.Words.{Fits, IsFit, KeepsEveryPage, OnlyStoreAndHat};
+ghost use Rattle.fault_entry.specs.vm_world.World.{world_seen};
 
-use block_device::{Disk, DiskFault};
-use page_store::{PageName, Residence};
-use seg_ops::{begin_push, end_flight, sync};
-use vm_types::pages_in;
-use vm_world::World;
+use fault_entry::{
+    Disk, DiskFault, PageName, Residence, World, begin_push, end_flight, pages_in, sync,
+};
 
 /// Whether the page in a frame is modified, once the bits of its translations are gathered into it.
 fn gather_modified<D: Disk>(world: &mut World<D>, frame: u32) -> bool

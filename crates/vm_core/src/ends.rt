@@ -1,26 +1,23 @@
 //! Transfers that end.
 ghost use Rattle.std.specs.Prelude.{◌≡◌, ◌≢◌, ◌≤◌, ℕ, Some, None, false, option_map};
-ghost use Rattle.flat_model.specs.Counted.{top_count};
-ghost use Rattle.page_store.specs.Bays.{bay_at, home};
-ghost use Rattle.page_store.specs.Flight.{IsPerformed, fresh};
-ghost use Rattle.page_store.specs.Notes.{Note, Notes};
-ghost use Rattle.page_store.specs.Out.{IsFlightOf};
-ghost use Rattle.page_store.specs.Transfers.{EndsTransfer};
-ghost use Rattle.vm_world.specs.Events.{IsEvent};
-ghost use Rattle.vm_world.specs.MemoryFits.{MemoryFits};
-ghost use Rattle.vm_world.specs.NotesFit.{NotesFit};
-ghost use Rattle.vm_world.specs.State.{Sent};
-ghost use Rattle.vm_world.specs.StateSteps.{after_step};
-ghost use Rattle.vm_world.specs.WorldSteps.{WorldStep, returns};
+ghost use Rattle.fault_entry.specs.flat_model.Counted.{top_count};
+ghost use Rattle.fault_entry.specs.page_store.Bays.{bay_at, home};
+ghost use Rattle.fault_entry.specs.page_store.Flight.{IsPerformed, fresh};
+ghost use Rattle.fault_entry.specs.page_store.Notes.{Note, Notes};
+ghost use Rattle.fault_entry.specs.page_store.Out.{IsFlightOf};
+ghost use Rattle.fault_entry.specs.page_store.Transfers.{EndsTransfer};
+ghost use Rattle.fault_entry.specs.vm_world.Events.{IsEvent};
+ghost use Rattle.fault_entry.specs.vm_world.MemoryFits.{MemoryFits};
+ghost use Rattle.fault_entry.specs.vm_world.NotesFit.{NotesFit};
+ghost use Rattle.fault_entry.specs.vm_world.State.{Sent};
+ghost use Rattle.fault_entry.specs.vm_world.StateSteps.{after_step};
+ghost use Rattle.fault_entry.specs.vm_world.WorldSteps.{WorldStep, returns};
 ghost use Rattle.vm_core.specs.Fits.{FitsAt};
 ghost use Rattle.vm_core.specs.Flights.{IsBack, answer_at_end, EndsWith};
 
 use crate::kept::forget;
 use crate::state::VmState;
-use block_device::Disk;
-use page_store::Flight;
-use seg_ops::end_flight;
-use vm_types::{Call, Reply};
+use fault_entry::{Call, Disk, Flight, Reply, end_flight};
 
 // No count is past the end of counts.
 fn within_counts(count: u64)

@@ -1,23 +1,19 @@
 //! The end: modified and blank pages of files go to their disks, and the history and the disks come out.
 ghost use Rattle.std.specs.Prelude.{◌≡◌, ℕ, None, IfNone, IfSome, MatchOption, slice_index_or};
-ghost use Rattle.page_store.specs.Bays.{bay_at, home, missing, home_faults, pairs_seen};
-ghost use Rattle.page_store.specs.Notes.{no_notes};
-ghost use Rattle.page_store.specs.Seen.{IsSoundStore};
+ghost use Rattle.fault_entry.specs.page_store.Bays.{bay_at, home, missing, home_faults, pairs_seen};
+ghost use Rattle.fault_entry.specs.page_store.Notes.{no_notes};
+ghost use Rattle.fault_entry.specs.page_store.Seen.{IsSoundStore};
 ghost use Rattle.vm_core.specs.Finish.{FitsStill, disks_of, HoldAllFiles, IsLastFault, KeepDisks, KeepRecords, HaveNoBlankPage};
-ghost use Rattle.vm_world.specs.MemoryFits.{MemoryFits};
-ghost use Rattle.vm_world.specs.NotesFit.{NotesFit};
-ghost use Rattle.vm_world.specs.Segments.{Spaces};
-ghost use Rattle.vm_world.specs.World.{world_seen, AllTell};
+ghost use Rattle.fault_entry.specs.vm_world.MemoryFits.{MemoryFits};
+ghost use Rattle.fault_entry.specs.vm_world.NotesFit.{NotesFit};
+ghost use Rattle.fault_entry.specs.vm_world.Segments.{Spaces};
+ghost use Rattle.fault_entry.specs.vm_world.World.{world_seen, AllTell};
 
 use crate::blanks::fill_if_pushed;
 use crate::closing::push_files;
 use crate::history::KernelHistory;
 use crate::state::VmState;
-use block_device::{Disk, DiskFault};
-use page_store::Store;
-use vm_types::Entry;
-use vm_world::World;
-use vnode_files::Files;
+use fault_entry::{Disk, DiskFault, Entry, Files, Store, World};
 
 /// What is left of a kernel: its history, files and disks, and the transfer that failed as it was closed, if one did.
 #[derive(Drop)]

@@ -3,22 +3,20 @@ ghost use Rattle.std.specs.Prelude.{◌≡◌, ◌↔◌, ◌≤◌, Some, None,
 ghost use Rattle.std.specs.FinMap as finite;
 ghost use Rattle.std.specs.FinSet as set;
 ghost use Rattle.proc_calls.specs.Forks.{IsCountedFork, IsForked};
-ghost use Rattle.vm_types.specs.WellFormed.{IsWellFormed};
-ghost use Rattle.vm_types.specs.declared.call.Call.TheVariants.{Fork};
-ghost use Rattle.vm_world.specs.Events.{IsEvent, CanTry, MayBear};
-ghost use Rattle.vm_world.specs.MemoryFits.{MemoryFits};
-ghost use Rattle.vm_world.specs.Serving.{ModifiesNone};
-ghost use Rattle.vm_world.specs.State.{process_parent};
+ghost use Rattle.fault_entry.specs.vm_types.WellFormed.{IsWellFormed};
+ghost use Rattle.fault_entry.specs.vm_types.declared.call.Call.TheVariants.{Fork};
+ghost use Rattle.fault_entry.specs.vm_world.Events.{IsEvent, CanTry, MayBear};
+ghost use Rattle.fault_entry.specs.vm_world.MemoryFits.{MemoryFits};
+ghost use Rattle.fault_entry.specs.vm_world.Serving.{ModifiesNone};
+ghost use Rattle.fault_entry.specs.vm_world.State.{process_parent};
 ghost use Rattle.vm_core.specs.Calls.{AnswersCall, SlotsAfterCall};
 ghost use Rattle.vm_core.specs.Fits.{FitsAt};
 ghost use Rattle.vm_core.specs.Forks.{after_fork, born_after, starts_after};
 ghost use Rattle.vm_core.specs.State.{born_of};
 
 use crate::state::VmState;
-use block_device::Disk;
-use seg_vn::Attempt;
+use fault_entry::{Attempt, Call, Disk, Reply};
 use std::alloc::AllocError;
-use vm_types::{Call, Reply};
 
 // A child whose Fork is done was ever alive from now on, and its seat keeps no Sync.
 fn note_birth(born: &mut Vec<bool>, syncs: &mut Vec<Option<u64>>, child: u32, reply: &Reply)

@@ -1,8 +1,8 @@
 //! The history of a kernel that was closed.
 ghost use Rattle.std.specs.Prelude.{◌≡◌, [], None, length, slice_index_or};
 
+use fault_entry::Entry;
 use std::marker::Model;
-use vm_types::Entry;
 
 // What a kernel recorded, and the counts of its disks by number.
 #[derive(Drop)]

@@ -1,8 +1,7 @@
 //! The last plan that an event answered.
 ghost use Rattle.std.specs.Prelude.{◌≡◌, None};
 
-use page_store::Plan;
-use vm_types::Call;
+use fault_entry::{Call, Plan};
 
 /// A plan that an event answered: the seat that may begin it, and the process and call that it is for; none where it is the
 /// clock's.

@@ -1,11 +1,11 @@
 //! The history, which has room for all entries that the processes may make.
 ghost use Rattle.std.specs.Prelude.{◌≡◌, ◌+◌, ◌<◌, ◌≤◌, ◌++◌, ◌∷◌, ◌^◌, [], length, sum_by, vec_len, vec_capacity, IfOk};
-ghost use Rattle.flat_model.specs.Told.{entries_of};
-ghost use Rattle.vm_world.specs.State.{room_of};
+ghost use Rattle.fault_entry.specs.flat_model.Told.{entries_of};
+ghost use Rattle.fault_entry.specs.vm_world.State.{room_of};
 
+use fault_entry::{Call, Entry, Reply};
 use std::alloc::{AllocError, Global};
 use std::marker::Model;
-use vm_types::{Call, Entry, Reply};
 
 /// The history, and of each process from 1 on the most entries that it may make.
 #[derive(Drop)]

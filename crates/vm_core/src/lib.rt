@@ -17,9 +17,9 @@ mod setup;
 mod start;
 mod state;
 
+pub use fault_entry::{Attempt, Call, Disk, Entry, Flight, Hold, Plan, Reply};
 pub use finish::Finished;
 pub use history::KernelHistory;
 pub use kept::Kept;
-pub use seg_vn::Attempt;
 pub use setup::Setup;
 pub use state::VmState;

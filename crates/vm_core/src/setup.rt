@@ -1,6 +1,5 @@
 //! What a state is made of.
-use block_device::Disk;
-use vnode_files::Files;
+use fault_entry::{Disk, Files};
 
 /// What a state is made of.
 #[derive(Drop)]

@@ -2,36 +2,30 @@
 ghost use Rattle.std.specs.Prelude.{◌≡◌, ◌≤◌, ◌<◌, ◌+◌, ◌==◌, ◌^◌, ℕ, List, [], Some, None, All, length, map, option_map, replicate, slice_index_or, if◌then◌else◌, IfOk, IfErr, IfSome};
 ghost use Rattle.std.specs.FinMap as finite;
 ghost use Rattle.std.specs.FinSet as set;
-ghost use Rattle.addr_space.specs.Space.{Part};
-ghost use Rattle.anon_slots.specs.Slots.{unused_slots, IsSoundAnonSlots};
-ghost use Rattle.block_device.specs.DiskSeen.{DiskSeen};
-ghost use Rattle.flat_model.specs.Counted.{top_count};
-ghost use Rattle.flat_model.specs.Flat.{Flat};
-ghost use Rattle.page_store.specs.Bays.{AreNumbers, numbers_of, pairs_seen};
-ghost use Rattle.page_store.specs.Notes.{no_notes};
-ghost use Rattle.vm_world.specs.FlatMemory.{flat_memory};
-ghost use Rattle.vm_world.specs.Opening.{IsOpening, no_seats};
-ghost use Rattle.vm_world.specs.State.{is_top};
-ghost use Rattle.vm_world.specs.StateFits.{StateFits};
-ghost use Rattle.vm_world.specs.declared.segment.Segment.{Segment};
-ghost use Rattle.vnode_files.specs.Files.{vnode_at};
-ghost use Rattle.vnode_files.specs.Vnode.{IsSoundVnode};
+ghost use Rattle.fault_entry.specs.addr_space.Space.{Part};
+ghost use Rattle.fault_entry.specs.anon_slots.Slots.{unused_slots, IsSoundAnonSlots};
+ghost use Rattle.fault_entry.specs.block_device.DiskSeen.{DiskSeen};
+ghost use Rattle.fault_entry.specs.flat_model.Counted.{top_count};
+ghost use Rattle.fault_entry.specs.flat_model.Flat.{Flat};
+ghost use Rattle.fault_entry.specs.page_store.Bays.{AreNumbers, numbers_of, pairs_seen};
+ghost use Rattle.fault_entry.specs.page_store.Notes.{no_notes};
+ghost use Rattle.fault_entry.specs.vm_world.FlatMemory.{flat_memory};
+ghost use Rattle.fault_entry.specs.vm_world.Opening.{IsOpening, no_seats};
+ghost use Rattle.fault_entry.specs.vm_world.State.{is_top};
+ghost use Rattle.fault_entry.specs.vm_world.StateFits.{StateFits};
+ghost use Rattle.fault_entry.specs.vm_world.declared.segment.Segment.{Segment};
+ghost use Rattle.fault_entry.specs.vnode_files.Files.{vnode_at};
+ghost use Rattle.fault_entry.specs.vnode_files.Vnode.{IsSoundVnode};
 ghost use Rattle.vm_core.specs.Setup.{disk_total, FilesOnDisks, SwapServes, IsMadeOf, HaveCounted};
 ghost use Rattle.vm_core.specs.State.{born_of, top_space};
 
 use crate::ledger::Ledger;
 use crate::setup::Setup;
 use crate::state::{FILES, VmState};
-use addr_space::Ranges;
-use anon_map::AnonMaps;
-use anon_slots::AnonSlots;
-use block_device::Disk;
-use hat_layer::Hat;
-use page_store::Store;
-use seg_vn::Spaces;
+use fault_entry::{
+    AnonMaps, AnonSlots, Disk, Files, Hat, Ranges, Spaces, Store, World, ZeroObjects,
+};
 use std::alloc::{AllocError, Global};
-use vm_world::{World, ZeroObjects};
-use vnode_files::Files;
 
 /// What a state takes memory for, its frames aside.
 #[derive(Drop)]

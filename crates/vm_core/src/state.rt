@@ -1,20 +1,17 @@
 //! The state, and what it tells.
 ghost use Rattle.std.specs.Prelude.{◌≡◌, ◌↔◌, ◌+◌, ◌<◌, ◌≤◌, ℕ, length, option_map, IsSome, IsTrue, Some};
 ghost use Rattle.std.specs.FinMap as finite;
-ghost use Rattle.flat_model.specs.Told.{entries_of};
-ghost use Rattle.vm_world.specs.State.{room_of, seat_of};
-ghost use Rattle.vm_world.specs.SyncSteps.{with_call_begun};
-ghost use Rattle.vm_types.specs.Parts.{part_file};
+ghost use Rattle.fault_entry.specs.flat_model.Told.{entries_of};
+ghost use Rattle.fault_entry.specs.vm_world.State.{room_of, seat_of};
+ghost use Rattle.fault_entry.specs.vm_world.SyncSteps.{with_call_begun};
+ghost use Rattle.fault_entry.specs.vm_types.Parts.{part_file};
 ghost use Rattle.vm_core.specs.State.{kept_seen, with_next_entry, without_seat, calls_without};
 
 use crate::kept::Kept;
 use crate::ledger::Ledger;
-use block_device::Disk;
-use seg_vn::Spaces;
+use fault_entry::{Call, Disk, Reply, Spaces, World, part_file};
 use std::alloc::Global;
 use std::marker::Model;
-use vm_types::{Call, Reply, part_file};
-use vm_world::World;
 
 /// How many files there may be.
 pub(crate) const FILES: usize = 64;
@@ -62,8 +59,8 @@ fn without_seat(seat: u32, holder: Option<u32>) -> Option<u32>
 
 impl<D: Disk> Model for VmState<D> {
     ghost use Rattle.std.specs.Prelude.{option_map, length};
-    ghost use Rattle.vm_world.specs.State.{KernelState};
-    ghost use Rattle.vm_world.specs.World.{world_seen};
+    ghost use Rattle.fault_entry.specs.vm_world.State.{KernelState};
+    ghost use Rattle.fault_entry.specs.vm_world.World.{world_seen};
     ghost use Rattle.vm_core.specs.State.{kept_seen, born_of, EachHasPlaces, IsSoundKernel};
     ghost use Rattle.vm_core.specs.StateCode.{state_code};
 

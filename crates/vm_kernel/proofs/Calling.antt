@@ -5,12 +5,12 @@ use Rattle.std.specs.List.{list_any}
 use Rattle.std.proofs.lemmas.List.Folds.{list_any-append}
 use mathlib.Core.List.{IsPrefix}
 use Rattle.kernel_lock.proofs.Begun.{prefix_more, prefix_self}
-use Rattle.flat_model.specs.Births.{is_birth}
-use Rattle.vm_types.specs.declared.call.Call.{Call}
-use Rattle.vm_types.specs.declared.call.Entry.{Entry}
-use Rattle.vm_types.specs.declared.call.Reply.{Reply}
-use Rattle.vm_world.specs.SeatLaws.{IsKnownAlive, MayComeNext}
-use Rattle.vm_world.specs.State.{is_top}
+use Rattle.vm_core.specs.flat_model.Births.{is_birth}
+use Rattle.vm_core.specs.vm_types.declared.call.Call.{Call}
+use Rattle.vm_core.specs.vm_types.declared.call.Entry.{Entry}
+use Rattle.vm_core.specs.vm_types.declared.call.Reply.{Reply}
+use Rattle.vm_core.specs.vm_world.SeatLaws.{IsKnownAlive, MayComeNext}
+use Rattle.vm_core.specs.vm_world.State.{is_top}
 use Rattle.vm_kernel.specs.Callers.{KernelSeen, CallerSeen, ShowsOwn}
 use Rattle.vm_kernel.specs.Turns.{MayCall, CallerGoesOn, IsTurn, IsCallDone, LacksMemory, IsForCall, caller_at}
 use Rattle.vm_kernel.specs.declared.turn.Turn.{Turn}

@@ -1,12 +1,12 @@
 -- What the end of a transfer leaves.
 use Rattle.std.proofs.Common.{◌≡◌, ℕ, Option, Some, None, refl, sym, subst}
-use Rattle.block_device.specs.Counts.{HasRisen}
-use Rattle.page_store.specs.Bays.{bay_at, home}
-use Rattle.page_store.specs.Flight.{FlightSeen, Progress, fresh, done, failed}
-use Rattle.vm_types.specs.declared.call.Reply.{Reply}
-use Rattle.vm_types.specs.declared.call.Reply.TheVariants.{Io}
+use Rattle.vm_core.specs.block_device.Counts.{HasRisen}
+use Rattle.vm_core.specs.page_store.Bays.{bay_at, home}
+use Rattle.vm_core.specs.page_store.Flight.{FlightSeen, Progress, fresh, done, failed}
+use Rattle.vm_core.specs.vm_types.declared.call.Reply.{Reply}
+use Rattle.vm_core.specs.vm_types.declared.call.Reply.TheVariants.{Io}
 use Rattle.vm_core.specs.Flights.{IsBack, EndsWith, answer_at_end, error_at_end}
-use Rattle.vm_world.specs.State.{KernelState, Sent, Caller}
+use Rattle.vm_core.specs.vm_world.State.{KernelState, Sent, Caller}
 use Rattle.vm_kernel.specs.Steps.{EndsFlight}
 
 pub ended : (old new : KernelState) (note : Sent) (f : FlightSeen) (of : Option Caller) (r : Option Reply) → IsBack note f of → r ≡ answer_at_end f of → EndsWith old new of r

@@ -2,15 +2,15 @@
 use Rattle.std.proofs.Common.{◌≡◌, ℕ, suc, ◌<◌, ◌≤◌, ◌^◌, ◌==◌, Bool, cond, List, [], ◌∷◌, Option, None, refl, ap, sym, ◌∙◌, subst, arith, ◌⊎◌, inl, inr, length, zero}
 use Rattle.std.proofs.lemmas.Bool.Decides.{eqb_tells}
 use Rattle.kernel_lock.specs.Seats.{IsEntered, part_of, entries_by}
-use Rattle.vm_types.specs.declared.call.Call.{Call}
-use Rattle.vm_types.specs.declared.call.Entry.{Entry}
-use Rattle.flat_model.specs.Told.{entries_of}
+use Rattle.vm_core.specs.vm_types.declared.call.Call.{Call}
+use Rattle.vm_core.specs.vm_types.declared.call.Entry.{Entry}
+use Rattle.vm_core.specs.flat_model.Told.{entries_of}
 use Rattle.vm_core.specs.Fits.{FitsAt}
-use Rattle.vm_world.specs.Events.{IsEvent, CanTry}
-use Rattle.vm_world.specs.SeatLaws.{IsKnownAlive, MayComeNext}
-use Rattle.vm_world.specs.State.{KernelState, Fixed, Seats, Sent, with_sent, seats_of, seat_of, room_of}
-use Rattle.vm_world.proofs.SeatRules.{seat_law}
-use Rattle.vm_world.proofs.StateSteps.{this-seat}
+use Rattle.vm_core.specs.vm_world.Events.{IsEvent, CanTry}
+use Rattle.vm_core.specs.vm_world.SeatLaws.{IsKnownAlive, MayComeNext}
+use Rattle.vm_core.specs.vm_world.State.{KernelState, Fixed, Seats, Sent, with_sent, seats_of, seat_of, room_of}
+use Rattle.vm_core.proofs.vm_world.SeatRules.{seat_law}
+use Rattle.vm_core.proofs.vm_world.StateSteps.{this-seat}
 use Rattle.vm_kernel.specs.Callers.{KernelSeen, SeatSeen}
 use Rattle.vm_kernel.specs.Since.{seat_of_entry, history_of, IsSinceOpening}
 use Rattle.vm_kernel.specs.SinceLaws.{at_default}

@@ -6,11 +6,11 @@ use Rattle.kernel_lock.specs.Seats.{AreNew, newcomer}
 use Rattle.std.specs.Prelude.{All, slice_index_or}
 use Rattle.std.proofs.lemmas.List.Elements.{All-nil, All-cons, All-head, All-tail}
 use Rattle.kernel_lock.specs.declared.board.SeatPart.{SeatPart}
-use Rattle.vm_types.specs.declared.call.Entry.{Entry}
-use Rattle.flat_model.specs.Flat.{Flat}
-use Rattle.vm_world.specs.Opening.{no_seats}
-use Rattle.vm_world.specs.State.{KernelState, Sent, seats_of}
-use Rattle.vm_world.specs.StateFits.{StateFits}
+use Rattle.vm_core.specs.vm_types.declared.call.Entry.{Entry}
+use Rattle.vm_core.specs.flat_model.Flat.{Flat}
+use Rattle.vm_core.specs.vm_world.Opening.{no_seats}
+use Rattle.vm_core.specs.vm_world.State.{KernelState, Sent, seats_of}
+use Rattle.vm_core.specs.vm_world.StateFits.{StateFits}
 use Rattle.vm_kernel.specs.Callers.{KernelSeen, SeatSeen, CallerSeen, caller_part}
 use Rattle.vm_kernel.specs.Rooms.{IsRoomAt, AreRooms, AreNamed, IsNewSeat, callers_from}
 use Rattle.vm_kernel.specs.Since.{IsSince, IsSinceOpening}

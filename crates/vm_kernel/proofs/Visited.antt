@@ -6,15 +6,15 @@ use Rattle.std.proofs.lemmas.List.Elements.{filter-append, All-nil, All-cons}
 use mathlib.Core.List.{IsPrefix}
 use Rattle.kernel_lock.specs.Seats.{IsEntered, HasTried, after_enter, after_leave, after_refusal, part_of, entries_by, empties}
 use Rattle.kernel_lock.proofs.Begun.{prefix_more, prefix_self}
-use Rattle.flat_model.specs.History.{is_io}
-use Rattle.page_store.specs.declared.plan.Hold.{Hold}
-use Rattle.page_store.specs.declared.plan.Hold.TheVariants as hold
-use Rattle.vm_types.specs.declared.call.Call.{Call}
-use Rattle.vm_types.specs.declared.call.Entry.{Entry}
-use Rattle.vm_types.specs.declared.call.Reply.{Reply}
-use Rattle.vm_types.specs.declared.call.Reply.TheVariants as reply
-use Rattle.vm_world.specs.ServingLaws.{done_entry}
-use Rattle.vm_world.specs.State.{KernelState, Sent, seat_of}
+use Rattle.vm_core.specs.flat_model.History.{is_io}
+use Rattle.vm_core.specs.page_store.declared.plan.Hold.{Hold}
+use Rattle.vm_core.specs.page_store.declared.plan.Hold.TheVariants as hold
+use Rattle.vm_core.specs.vm_types.declared.call.Call.{Call}
+use Rattle.vm_core.specs.vm_types.declared.call.Entry.{Entry}
+use Rattle.vm_core.specs.vm_types.declared.call.Reply.{Reply}
+use Rattle.vm_core.specs.vm_types.declared.call.Reply.TheVariants as reply
+use Rattle.vm_core.specs.vm_world.ServingLaws.{done_entry}
+use Rattle.vm_core.specs.vm_world.State.{KernelState, Sent, seat_of}
 use Rattle.vm_kernel.specs.Callers.{SeatSeen, CallerSeen, IsIdle}
 use Rattle.vm_kernel.specs.Notes.{InHand}
 use Rattle.vm_kernel.specs.Since.{seat_of_entry, history_of, IsSinceOpening}

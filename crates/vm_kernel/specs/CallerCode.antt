@@ -3,10 +3,10 @@ use Rattle.std.specs.Prelude.{ℕ, Bool, List, Option, refl}
 use Rattle.std.specs.Coded.{Coded, code_by, coded×, coded_ℕ, coded_bool, coded_list, coded_option}
 use Rattle.atomic_table.specs.Seated.{TableId, table_id_coded}
 use Rattle.vm_core.specs.StateCode.{state_code}
-use Rattle.vm_types.specs.declared.call.Entry.{Entry}
-use Rattle.vm_types.specs.contracts.call.Entry as entry
+use Rattle.vm_core.specs.vm_types.declared.call.Entry.{Entry}
+use Rattle.vm_core.specs.vm_types.contracts.call.Entry as entry
 use Rattle.vm_kernel.specs.contracts.sent.SeatNote as note
-use Rattle.vm_world.specs.State.{KernelState, Sent}
+use Rattle.vm_core.specs.vm_world.State.{KernelState, Sent}
 use Rattle.vm_kernel.specs.Callers.{KernelSeen, SeatSeen, CallerSeen}
 
 abbrev pub kernel_code : Coded KernelSeen

@@ -2,8 +2,8 @@
 use Rattle.std.specs.Prelude.{◌≡◌, ◌⊎◌, ◌<◌, ◌^◌, ℕ, suc, false, Option}
 use Rattle.kernel_lock.specs.Seats.{LockView, SeatView, IsSeatOf, entries_by, part_of}
 use Rattle.kernel_lock.specs.declared.board.SeatPart.{SeatPart}
-use Rattle.vm_types.specs.declared.call.Entry.{Entry}
-use Rattle.vm_world.specs.State.{KernelState, Sent}
+use Rattle.vm_core.specs.vm_types.declared.call.Entry.{Entry}
+use Rattle.vm_core.specs.vm_world.State.{KernelState, Sent}
 use Rattle.vm_kernel.specs.Notes.{InHand}
 use Rattle.vm_kernel.specs.Since.{seat_of_entry}
 use Rattle.vm_kernel.specs.declared.sent.SentFlight.{SentFlight}

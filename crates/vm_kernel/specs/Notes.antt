@@ -1,9 +1,9 @@
 -- What a seat has outside the lock. Public clauses cite this.
 use Rattle.std.specs.Prelude.{◌≡◌, false, [], Option, Some, None}
-use Rattle.page_store.specs.Flight.{note_of, fresh}
+use Rattle.vm_core.specs.page_store.Flight.{note_of, fresh}
 use Rattle.vm_core.specs.Flights.{IsBack}
-use Rattle.vm_world.specs.State.{Sent}
-use Rattle.vm_world.specs.World.{file_name}
+use Rattle.vm_core.specs.vm_world.State.{Sent}
+use Rattle.vm_core.specs.vm_world.World.{file_name}
 use Rattle.vm_kernel.specs.declared.sent.SentFlight.{SentFlight}
 
 -- What a seat has outside that has this.

@@ -3,10 +3,10 @@ use Rattle.std.specs.Prelude.{◌≡◌, ℕ, ◌<◌, List, [], ◌∷◌, ◌+
 use Rattle.std.proofs.Common.{sym, subst, ◌∙◌, zero, suc, arith}
 use mathlib.Core.Option.{some, some-injective, some-ne-none}
 use lib.ListN.{get_elem?}
-use Rattle.vm_types.specs.declared.call.Entry.{Entry}
-use Rattle.vm_world.specs.Events.{IsEvent}
-use Rattle.vm_world.specs.State.{KernelState, Seats, Sent, seats_of, with_sent}
-use Rattle.vm_world.proofs.Told.{event_law}
+use Rattle.vm_core.specs.vm_types.declared.call.Entry.{Entry}
+use Rattle.vm_core.specs.vm_world.Events.{IsEvent}
+use Rattle.vm_core.specs.vm_world.State.{KernelState, Seats, Sent, seats_of, with_sent}
+use Rattle.vm_core.proofs.vm_world.Told.{event_law}
 use Rattle.vm_kernel.specs.Since.{seat_of_entry, history_of, IsSince, IsSinceOpening, Moves}
 
 -- the note of a seat, as the lock's list has it

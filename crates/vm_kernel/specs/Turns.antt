@@ -1,20 +1,20 @@
 -- What a caller may ask of a turn, and what a turn comes to. Public clauses cite this.
 use Rattle.std.specs.Prelude.{◌≡◌, ◌≢◌, ◌<◌, ◌≤◌, ◌++◌, ◌∷◌, [], ℕ, Option, Some, None, Result, Ok, Err}
 use mathlib.Core.List.{IsPrefix}
-use Rattle.block_device.specs.Counts.{HasRisen}
-use Rattle.block_device.specs.DiskSeen.{DiskSeen}
-use Rattle.page_store.specs.Bays.{bay_at, home}
-use Rattle.page_store.specs.declared.plan.Hold.{Hold}
-use Rattle.page_store.specs.declared.plan.Hold.TheVariants as hold
-use Rattle.vm_types.specs.WellFormed.{IsWellFormed}
-use Rattle.vm_types.specs.declared.call.Call.{Call}
-use Rattle.vm_types.specs.declared.call.Reply.{Reply}
-use Rattle.vm_types.specs.declared.call.Reply.TheVariants as reply
+use Rattle.vm_core.specs.block_device.Counts.{HasRisen}
+use Rattle.vm_core.specs.block_device.DiskSeen.{DiskSeen}
+use Rattle.vm_core.specs.page_store.Bays.{bay_at, home}
+use Rattle.vm_core.specs.page_store.declared.plan.Hold.{Hold}
+use Rattle.vm_core.specs.page_store.declared.plan.Hold.TheVariants as hold
+use Rattle.vm_core.specs.vm_types.WellFormed.{IsWellFormed}
+use Rattle.vm_core.specs.vm_types.declared.call.Call.{Call}
+use Rattle.vm_core.specs.vm_types.declared.call.Reply.{Reply}
+use Rattle.vm_core.specs.vm_types.declared.call.Reply.TheVariants as reply
 use Rattle.vm_core.specs.Calls.{IsServed, TakesMemory}
-use Rattle.vm_world.specs.SeatLaws.{IsKnownAlive, MayComeNext}
-use Rattle.vm_world.specs.ServingLaws.{done_entry}
-use Rattle.vm_world.specs.State.{KernelState, Sent}
-use Rattle.vm_world.specs.Wants.{MayHold, seat_in}
+use Rattle.vm_core.specs.vm_world.SeatLaws.{IsKnownAlive, MayComeNext}
+use Rattle.vm_core.specs.vm_world.ServingLaws.{done_entry}
+use Rattle.vm_core.specs.vm_world.State.{KernelState, Sent}
+use Rattle.vm_core.specs.vm_world.Wants.{MayHold, seat_in}
 use Rattle.vm_kernel.specs.Callers.{KernelSeen, SeatSeen, CallerSeen, ShowsOwn}
 use Rattle.vm_kernel.specs.Steps.{IsNoteFor}
 use Rattle.vm_kernel.specs.declared.steps.Tried.{Tried}

@@ -2,20 +2,18 @@
 ghost use Rattle.std.specs.Prelude.{◌≡◌, ◌<◌, ℕ, Some, None, length};
 ghost use Rattle.vm_core.specs.Calls.{IsServed};
 ghost use Rattle.vm_core.specs.Fits.{FitsAt};
-ghost use Rattle.vm_types.specs.WellFormed.{IsWellFormed};
-ghost use Rattle.vm_world.specs.Events.{IsEvent, CanTry};
-ghost use Rattle.vm_world.specs.State.{Sent};
+ghost use Rattle.vm_core.specs.vm_types.WellFormed.{IsWellFormed};
+ghost use Rattle.vm_core.specs.vm_world.Events.{IsEvent, CanTry};
+ghost use Rattle.vm_core.specs.vm_world.State.{Sent};
 ghost use Rattle.vm_kernel.specs.Notes.{note_of_held, AreUnperformed, InHand};
 ghost use Rattle.vm_kernel.specs.Steps.{TriesCall, EndsFlight, IsForNone};
 
 use crate::sent::{SeatNote, SentFlight};
 use crate::steps::{self, Tried};
-use block_device::Disk;
 use kernel_lock::guarded::Guarded;
 use std::alloc::AllocError;
 use std::marker::Model;
-use vm_core::VmState;
-use vm_types::{Call, Entry, Reply};
+use vm_core::{Call, Disk, Entry, Reply, VmState};
 
 /// The state in a box. Contracts see it as the state.
 #[derive(Drop)]
@@ -24,7 +22,7 @@ pub(crate) struct BoxedState<D: Disk> {
 }
 
 impl<D: Disk> Model for BoxedState<D> {
-    ghost use Rattle.vm_world.specs.State.{KernelState};
+    ghost use Rattle.vm_core.specs.vm_world.State.{KernelState};
     ghost use Rattle.vm_core.specs.StateCode.{state_code};
 
     ghost Value = { KernelState };

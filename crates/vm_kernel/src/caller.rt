@@ -4,9 +4,9 @@ ghost use Rattle.vm_kernel.specs.Callers.{ShowsOwn};
 
 use crate::boxed::BoxedState;
 use crate::sent::SentFlight;
-use block_device::Disk;
 use kernel_lock::seat::Seat;
 use std::marker::Model;
+use vm_core::Disk;
 
 /// Who makes the calls of one process. It goes to the thread that uses it, by value, with the transfer that it has in hand.
 ///

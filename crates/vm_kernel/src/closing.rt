@@ -8,10 +8,9 @@ ghost use Rattle.vm_kernel.specs.Since.{seat_of_entry, history_of, IsSinceOpenin
 use crate::boxed::BoxedState;
 use crate::caller::Caller;
 use crate::kernel::VmKernel;
-use block_device::Disk;
 use kernel_lock::closing::Gathered;
 use kernel_lock::lock::KernelLock;
-use vm_core::VmState;
+use vm_core::{Disk, VmState};
 
 fn gather_all<D: Disk>(
     lock: &KernelLock<BoxedState<D>>,

@@ -1,7 +1,7 @@
 //! The two halves of a turn: a try, with the transfer that it needs, and the end of that transfer.
 ghost use Rattle.std.specs.Prelude.{◌≡◌, ◌≤◌, ◌+◌, ℕ, Some, None, length, IfOk, OnErr};
 ghost use Rattle.kernel_lock.specs.Seats.{IsSeatOf};
-ghost use Rattle.vm_types.specs.declared.call.Call as calls;
+ghost use Rattle.vm_core.specs.vm_types.declared.call.Call as calls;
 ghost use Rattle.vm_kernel.specs.Callers.{IsIdle};
 ghost use Rattle.vm_kernel.specs.Steps.{IsNoteFor, IsForNone};
 ghost use Rattle.vm_kernel.specs.Turns.{MayCall, CallerGoesOn, IsTurn, IsFirstHalf, LacksMemory, caller_at};
@@ -11,12 +11,11 @@ use crate::sent::SentFlight;
 use crate::steps::perform;
 use crate::turn::{Turn, Why, turn_of_end, turn_of_try};
 use crate::visits::{end_and_leave, hand_and_leave, try_and_leave};
-use block_device::Disk;
 use kernel_lock::lock::KernelLock;
 use kernel_lock::seat::Seat;
 use std::alloc::AllocError;
 use std::sync::Wait;
-use vm_types::Call;
+use vm_core::{Call, Disk};
 
 /// The first half of a turn, with nothing in hand: a try, and the transfer that it needs, which is in hand then.
 fn first_at<D: Disk>(

@@ -8,12 +8,11 @@ use crate::boxed::BoxedState;
 use crate::caller::Caller;
 use crate::halves::{move_at, turn_at};
 use crate::turn::{Turn, Why};
-use block_device::Disk;
 use kernel_lock::lock::KernelLock;
 use std::alloc::AllocError;
 use std::marker::Model;
 use std::sync::Wait;
-use vm_types::{Call, Reply};
+use vm_core::{Call, Disk, Reply};
 
 /// The state of the system behind its lock.
 ///

@@ -1,19 +1,18 @@
 //! How a kernel is started: the state goes behind the lock, and each seat becomes a caller.
 ghost use Rattle.std.specs.Prelude.{◌≡◌, ◌<◌, ◌≤◌, ◌+◌, ◌⊎◌, [], IfOk, IfErr, length, vec_len, vec_capacity};
-ghost use Rattle.flat_model.specs.Flat.{Flat};
+ghost use Rattle.vm_core.specs.flat_model.Flat.{Flat};
 ghost use Rattle.kernel_lock.specs.Seats.{AreNew};
-ghost use Rattle.vm_world.specs.Opening.{no_seats};
-ghost use Rattle.vm_world.specs.StateFits.{StateFits};
+ghost use Rattle.vm_core.specs.vm_world.Opening.{no_seats};
+ghost use Rattle.vm_core.specs.vm_world.StateFits.{StateFits};
 ghost use Rattle.vm_kernel.specs.Rooms.{AreRooms, AreNamed, IsNewSeat, callers_from};
 
 use crate::boxed::BoxedState;
 use crate::caller::Caller;
 use crate::kernel::VmKernel;
-use block_device::Disk;
 use kernel_lock::lock::KernelLock;
 use kernel_lock::seat::Seat;
 use std::alloc::{AllocFailed, Global};
-use vm_core::VmState;
+use vm_core::{Disk, VmState};
 
 /// Whom a caller is for: its process, or 0 where it is for no process and moves the clock; and the most entries that it may make.
 #[derive(Clone, Copy, PartialEq, Eq, Debug)]

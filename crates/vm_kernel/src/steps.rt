@@ -3,18 +3,15 @@
 ghost use Rattle.std.specs.Prelude.{◌≡◌, ◌<◌, ℕ, Some, None, length, option_map};
 ghost use Rattle.vm_core.specs.Calls.{IsServed};
 ghost use Rattle.vm_core.specs.Fits.{FitsAt};
-ghost use Rattle.vm_types.specs.WellFormed.{IsWellFormed};
-ghost use Rattle.vm_world.specs.Events.{IsEvent, CanTry};
-ghost use Rattle.vm_world.specs.State.{Sent};
+ghost use Rattle.vm_core.specs.vm_types.WellFormed.{IsWellFormed};
+ghost use Rattle.vm_core.specs.vm_world.Events.{IsEvent, CanTry};
+ghost use Rattle.vm_core.specs.vm_world.State.{Sent};
 ghost use Rattle.vm_kernel.specs.Notes.{note_of_held, IsUnperformed, AreUnperformed, InHand};
 ghost use Rattle.vm_kernel.specs.Steps.{TriesCall, EndsFlight, IsForNone};
 
 use crate::sent::SentFlight;
-use block_device::Disk;
-use page_store::{Hold, Plan};
 use std::alloc::AllocError;
-use vm_core::{Attempt, VmState};
-use vm_types::{Call, Reply};
+use vm_core::{Attempt, Call, Disk, Hold, Plan, Reply, VmState};
 
 /// What a try comes to.
 #[derive(Clone, Copy, PartialEq, Eq, Debug)]

@@ -3,9 +3,9 @@ ghost use Rattle.std.specs.Prelude.{◌≡◌, ◌<◌, ℕ, Some, None, length,
 ghost use Rattle.kernel_lock.specs.Seats.{IsSeatOf};
 ghost use Rattle.vm_core.specs.Calls.{IsServed};
 ghost use Rattle.vm_core.specs.Fits.{FitsAt};
-ghost use Rattle.vm_types.specs.WellFormed.{IsWellFormed};
-ghost use Rattle.vm_world.specs.Events.{CanTry};
-ghost use Rattle.vm_world.specs.State.{Sent};
+ghost use Rattle.vm_core.specs.vm_types.WellFormed.{IsWellFormed};
+ghost use Rattle.vm_core.specs.vm_world.Events.{CanTry};
+ghost use Rattle.vm_core.specs.vm_world.State.{Sent};
 ghost use Rattle.vm_kernel.specs.Notes.{note_of_held, AreUnperformed, InHand};
 ghost use Rattle.vm_kernel.specs.Visits.{LeavesTry, LeavesEnd, LeavesHand};
 ghost use Rattle.vm_kernel.specs.Steps.{IsForNone};
@@ -13,11 +13,10 @@ ghost use Rattle.vm_kernel.specs.Steps.{IsForNone};
 use crate::boxed::BoxedState;
 use crate::sent::SentFlight;
 use crate::steps::Tried;
-use block_device::Disk;
 use kernel_lock::lock::KernelLock;
 use kernel_lock::seat::Seat;
 use std::alloc::AllocError;
-use vm_types::{Call, Reply};
+use vm_core::{Call, Disk, Reply};
 
 // A call that is done may let go on who waits for it.
 fn tell_of<D: Disk>(lock: &KernelLock<BoxedState<D>>, tried: &Result<Tried, AllocError>) {

@@ -6,12 +6,12 @@ use Rattle.std.specs.List.{list_any}
 use Rattle.std.proofs.lemmas.Bool.{cases_Bool}
 use Rattle.std.proofs.lemmas.List.{drop_more, drop-drop, get_or_read, get_or-map, length-map}
 use Rattle.std.proofs.lemmas.List.Elements.{All-filter}
-use Rattle.vm_types.specs.declared.call.Call.TheVariants as call
-use Rattle.vm_types.specs.declared.call.Entry.{Entry}
-use Rattle.vm_types.specs.declared.call.Reply.TheVariants as reply
-use Rattle.vm_types.specs.Parts.{ends_call, next_part}
-use Rattle.vm_types.specs.WellFormed.{IsWellFormed}
-use Rattle.flat_model.specs.Told.{entries_of}
+use Rattle.vm_script.specs.vm_types.declared.call.Call.TheVariants as call
+use Rattle.vm_script.specs.vm_types.declared.call.Entry.{Entry}
+use Rattle.vm_script.specs.vm_types.declared.call.Reply.TheVariants as reply
+use Rattle.vm_script.specs.vm_types.Parts.{ends_call, next_part}
+use Rattle.vm_script.specs.vm_types.WellFormed.{IsWellFormed}
+use Rattle.vm_script.specs.flat_model.Told.{entries_of}
 use Rattle.vm_script.specs.declared.plan.PlanLine.{PlanLine}
 use Rattle.vm_script.specs.PlanSeen.{PlanSeen}
 use Rattle.vm_script.specs.Told.{own_lines, is_born, is_born_of, is_birth, parent_of}

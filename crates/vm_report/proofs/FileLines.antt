@@ -2,7 +2,7 @@
 use Rattle.std.proofs.Common.{◌≡◌, ℕ, zero, suc, ◌≤◌, ◌<◌, ◌+◌, ◌*◌, ◌/◌, ◌%◌, List, [], ◌∷◌, ◌++◌, length, map, take, drop, min, Bor, refl, sym, ap, ◌∙◌, append_assoc, get_or, arith, ⊎_elim}
 use Rattle.std.proofs.lemmas.Bool.{cases_lt}
 use Rattle.std.proofs.lemmas.List.{take_all, drop_all, take-append-le, drop-append-le, length-append, length-drop, length-map}
-use Rattle.vm_types.specs.declared.call.Entry.{Entry}
+use Rattle.vm_script.specs.vm_types.declared.call.Entry.{Entry}
 use Rattle.vm_report.specs.Report.{file_line, file_lines, pieces_text}
 use Rattle.vm_report.specs.Results.{failure_of, failure_text}
 use Rattle.vm_report.proofs.Blocks.{seen_at}

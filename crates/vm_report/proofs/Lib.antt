@@ -5,3 +5,5 @@ pub mod Blocks
 pub mod Digits
 pub mod FileLines
 pub mod Spelled
+pub use Rattle.vm_script.proofs.flat_model as flat_model
+pub use Rattle.vm_script.proofs as vm_script

@@ -4,13 +4,13 @@ use Rattle.std.specs.Prelude.{MatchOption, is_none}
 use Rattle.std.specs.List.{flat_map}
 use Rattle.std.proofs.lemmas.Bool.{false≢true}
 use Rattle.std.proofs.lemmas.List.{take_at, drop_at}
-use Rattle.vm_types.specs.declared.call.Call.{Call}
-use Rattle.vm_types.specs.declared.call.Call.TheVariants as call
-use Rattle.vm_types.specs.declared.call.Entry.{Entry}
-use Rattle.vm_types.specs.declared.call.Reply.{Reply}
-use Rattle.vm_types.specs.declared.call.Reply.TheVariants as reply
-use Rattle.vm_types.specs.Parts.{next_part, ends_call, part_bytes, is_past_numbers, first_write}
-use Rattle.flat_model.specs.Told.{SpelledLine, Spells, SpellsAll}
+use Rattle.vm_script.specs.vm_types.declared.call.Call.{Call}
+use Rattle.vm_script.specs.vm_types.declared.call.Call.TheVariants as call
+use Rattle.vm_script.specs.vm_types.declared.call.Entry.{Entry}
+use Rattle.vm_script.specs.vm_types.declared.call.Reply.{Reply}
+use Rattle.vm_script.specs.vm_types.declared.call.Reply.TheVariants as reply
+use Rattle.vm_script.specs.vm_types.Parts.{next_part, ends_call, part_bytes, is_past_numbers, first_write}
+use Rattle.vm_script.specs.flat_model.Told.{SpelledLine, Spells, SpellsAll}
 use Rattle.vm_script.specs.declared.plan.PlanAct.{PlanAct}
 use Rattle.vm_script.specs.declared.plan.PlanAct.TheVariants as act
 use Rattle.vm_script.specs.declared.plan.PlanLine.{PlanLine}

@@ -1,10 +1,10 @@
 -- Entries and lines by their process. Inside: no public clause cites this.
 use Rattle.std.specs.Prelude.{ℕ, zero, suc, Bool, true, false, List, [], ◌∷◌, ◌++◌, Option, Some, None, slice_set, slice_index_or}
-use Rattle.vm_types.specs.declared.call.Call.{Call}
-use Rattle.vm_types.specs.declared.call.Call.TheVariants as call
-use Rattle.vm_types.specs.declared.call.Entry.{Entry}
-use Rattle.vm_types.specs.declared.call.Reply.{Reply}
-use Rattle.vm_types.specs.declared.call.Reply.TheVariants as reply
+use Rattle.vm_script.specs.vm_types.declared.call.Call.{Call}
+use Rattle.vm_script.specs.vm_types.declared.call.Call.TheVariants as call
+use Rattle.vm_script.specs.vm_types.declared.call.Entry.{Entry}
+use Rattle.vm_script.specs.vm_types.declared.call.Reply.{Reply}
+use Rattle.vm_script.specs.vm_types.declared.call.Reply.TheVariants as reply
 use Rattle.vm_script.specs.Told.{parent_of}
 
 -- With a member more in the group of process p, where there is one.

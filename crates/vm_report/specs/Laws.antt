@@ -1,6 +1,6 @@
 -- What a line of a block prints of a history that tells the block. Public clauses cite this.
 use Rattle.std.specs.Prelude.{◌≡◌, List, ◌∷◌, [], ◌++◌}
-use Rattle.vm_types.specs.declared.call.Entry.{Entry}
+use Rattle.vm_script.specs.vm_types.declared.call.Entry.{Entry}
 use Rattle.vm_script.specs.declared.plan.PlanLine.{PlanLine}
 use Rattle.vm_script.specs.Told.{Spell}
 use Rattle.vm_report.specs.Report.{line_text, lines_text}

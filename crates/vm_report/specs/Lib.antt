@@ -6,3 +6,6 @@ pub mod Results
 pub mod Summary
 pub mod Texts
 pub mod Trace
+pub use Rattle.vm_script.specs.vm_types as vm_types
+pub use Rattle.vm_script.specs.flat_model as flat_model
+pub use Rattle.vm_script.specs as vm_script

@@ -1,10 +1,10 @@
 -- The text of a report. Public clauses cite this.
 use Rattle.std.specs.Prelude.{ℕ, zero, suc, ◌+◌, ◌/◌, ◌==◌, Bool, true, false, List, [], ◌∷◌, ◌++◌, length, take, drop, codes, decimal, if◌then◌else◌}
 use Rattle.std.specs.List.{list_all}
-use Rattle.vm_types.specs.declared.call.Entry.{Entry}
-use Rattle.vm_types.specs.Parts.{ends_call}
-use Rattle.vm_types.specs.Words.{word_bytes}
-use Rattle.flat_model.specs.Told.{entries_of}
+use Rattle.vm_script.specs.vm_types.declared.call.Entry.{Entry}
+use Rattle.vm_script.specs.vm_types.Parts.{ends_call}
+use Rattle.vm_script.specs.vm_types.Words.{word_bytes}
+use Rattle.vm_script.specs.flat_model.Told.{entries_of}
 use Rattle.vm_script.specs.declared.plan.PlanAct.{PlanAct}
 use Rattle.vm_script.specs.declared.plan.PlanAct.TheVariants as act
 use Rattle.vm_script.specs.declared.plan.PlanLine.{PlanLine}

@@ -1,13 +1,13 @@
 -- The results of calls, as a report and a trace print them. Public clauses cite this.
 use Rattle.std.specs.Prelude.{ℕ, ◌==◌, Bool, true, false, List, [], ◌∷◌, ◌++◌, length, codes, decimal, sum_by, if◌then◌else◌}
 use Rattle.std.specs.List.{flat_map}
-use Rattle.vm_types.specs.declared.call.Call.{Call}
-use Rattle.vm_types.specs.declared.call.Call.TheVariants as call
-use Rattle.vm_types.specs.declared.call.Reply.{Reply}
-use Rattle.vm_types.specs.declared.call.Reply.TheVariants as reply
-use Rattle.vm_types.specs.declared.call.Entry.{Entry}
-use Rattle.vm_types.specs.declared.call.Errno.{Errno}
-use Rattle.vm_types.specs.Names.{errno_number, errno_name, signal_text}
+use Rattle.vm_script.specs.vm_types.declared.call.Call.{Call}
+use Rattle.vm_script.specs.vm_types.declared.call.Call.TheVariants as call
+use Rattle.vm_script.specs.vm_types.declared.call.Reply.{Reply}
+use Rattle.vm_script.specs.vm_types.declared.call.Reply.TheVariants as reply
+use Rattle.vm_script.specs.vm_types.declared.call.Entry.{Entry}
+use Rattle.vm_script.specs.vm_types.declared.call.Errno.{Errno}
+use Rattle.vm_script.specs.vm_types.Names.{errno_number, errno_name, signal_text}
 use Rattle.vm_script.specs.Texts.{hex_text}
 use Rattle.vm_report.specs.Texts.{word_text, counts_text}
 

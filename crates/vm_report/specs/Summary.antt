@@ -1,8 +1,8 @@
 -- The summary of a generated script's history. Public clauses cite this.
 use Rattle.std.specs.Prelude.{ℕ, ◌%◌, ◌^◌, Bool, true, false, List, ◌∷◌, [], ◌++◌, length, codes, decimal, count_by, sum_by}
-use Rattle.vm_types.specs.declared.call.Reply.{Reply}
-use Rattle.vm_types.specs.declared.call.Reply.TheVariants as reply
-use Rattle.vm_types.specs.declared.call.Entry.{Entry}
+use Rattle.vm_script.specs.vm_types.declared.call.Reply.{Reply}
+use Rattle.vm_script.specs.vm_types.declared.call.Reply.TheVariants as reply
+use Rattle.vm_script.specs.vm_types.declared.call.Entry.{Entry}
 
 -- A signal, or a device error.
 abbrev pub is_signal : Reply → Bool

@@ -1,8 +1,8 @@
 -- Words, numbers and bytes as text. Public clauses cite this.
 use Rattle.std.specs.Prelude.{ℕ, List, ◌∷◌, ◌++◌, codes, decimal}
-use Rattle.vm_types.specs.declared.call.Call.{Call}
-use Rattle.vm_types.specs.declared.call.Call.TheVariants as call
-use Rattle.vm_types.specs.Words.{word_bytes}
+use Rattle.vm_script.specs.vm_types.declared.call.Call.{Call}
+use Rattle.vm_script.specs.vm_types.declared.call.Call.TheVariants as call
+use Rattle.vm_script.specs.vm_types.Words.{word_bytes}
 use Rattle.vm_script.specs.Texts.{hex_text}
 
 -- A word of n bytes: `0x` and two digits for each byte, the highest first.

@@ -1,16 +1,16 @@
 -- The text of a trace. Public clauses cite this.
 use Rattle.std.specs.Prelude.{ℕ, ◌+◌, ◌==◌, Bool, List, [], ◌∷◌, ◌++◌, length, codes, decimal, if◌then◌else◌}
 use Rattle.std.specs.List.{flat_map}
-use Rattle.vm_types.specs.declared.call.Call.{Call}
-use Rattle.vm_types.specs.declared.call.Call.TheVariants as call
-use Rattle.vm_types.specs.declared.call.Reply.{Reply}
-use Rattle.vm_types.specs.declared.call.Reply.TheVariants as reply
-use Rattle.vm_types.specs.declared.call.Entry.{Entry}
-use Rattle.vm_types.specs.declared.call.Object.{Object}
-use Rattle.vm_types.specs.declared.call.Object.TheVariants as object
-use Rattle.vm_types.specs.declared.call.Place.{Place}
-use Rattle.vm_types.specs.declared.call.Place.TheVariants.{At, Any}
-use Rattle.vm_types.specs.Words.{word_bytes}
+use Rattle.vm_script.specs.vm_types.declared.call.Call.{Call}
+use Rattle.vm_script.specs.vm_types.declared.call.Call.TheVariants as call
+use Rattle.vm_script.specs.vm_types.declared.call.Reply.{Reply}
+use Rattle.vm_script.specs.vm_types.declared.call.Reply.TheVariants as reply
+use Rattle.vm_script.specs.vm_types.declared.call.Entry.{Entry}
+use Rattle.vm_script.specs.vm_types.declared.call.Object.{Object}
+use Rattle.vm_script.specs.vm_types.declared.call.Object.TheVariants as object
+use Rattle.vm_script.specs.vm_types.declared.call.Place.{Place}
+use Rattle.vm_script.specs.vm_types.declared.call.Place.TheVariants.{At, Any}
+use Rattle.vm_script.specs.vm_types.Words.{word_bytes}
 use Rattle.vm_script.specs.Texts.{hex_text, prot_text, kind_text}
 use Rattle.vm_report.specs.Texts.{word_text, call_word}
 use Rattle.vm_report.specs.Results.{result_text, bytes_text}

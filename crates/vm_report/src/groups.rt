@@ -1,14 +1,13 @@
 //! The lines and the entries of each process, each made in one pass.
 ghost use Rattle.std.specs.Prelude.{ℕ, ◌≡◌, ◌++◌, ◌∷◌, ◌+◌, ◌<◌, ◌==◌, [], filter, length, map, replicate, slice_index_or, false, IfOk, OnOk};
 ghost use Rattle.std.specs.List.{list_any};
-ghost use Rattle.flat_model.specs.Told.{entries_of};
+ghost use Rattle.vm_script.specs.flat_model.Told.{entries_of};
 ghost use Rattle.vm_script.specs.Told.{is_birth};
 ghost use Rattle.vm_report.specs.Groups.{with_member, with_birth};
 
 use std::alloc::{AllocError, Global};
 use std::marker::Model;
-use vm_script::PlanLine;
-use vm_types::{Call, Entry, Reply};
+use vm_script::{Call, Entry, PlanLine, Reply};
 
 /// What belongs to one process, in order.
 #[derive(Drop)]

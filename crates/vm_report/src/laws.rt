@@ -1,6 +1,6 @@
 //! Laws of what is printed.
 ghost use Rattle.std.specs.Prelude.{ℕ, ◌≡◌, ◌∷◌, ◌++◌, ◌+◌, ◌%◌, List, length};
-ghost use Rattle.vm_types.specs.declared.call.Entry.{Entry};
+ghost use Rattle.vm_script.specs.vm_types.declared.call.Entry.{Entry};
 ghost use Rattle.vm_script.specs.declared.plan.PlanAct.TheVariants as act;
 ghost use Rattle.vm_script.specs.declared.plan.PlanLine.{PlanLine};
 ghost use Rattle.vm_script.specs.Told.{Spell};

@@ -1,13 +1,13 @@
 //! The result of a line, by the entries that it made.
 ghost use Rattle.std.specs.Prelude.{◌≡◌, ◌≤◌, ◌<◌, ◌^◌, ◌++◌, [], All, length, map, OnOk};
-ghost use Rattle.vm_types.specs.WellFormed.{IsWellFormed};
+ghost use Rattle.vm_script.specs.vm_types.WellFormed.{IsWellFormed};
 ghost use Rattle.vm_script.specs.Texts.{hex_text};
 ghost use Rattle.vm_report.specs.Results as results;
 
 use crate::results::{push_bytes, push_result};
 use crate::text::{push_decimal, push_hex, push_space};
 use std::alloc::AllocError;
-use vm_types::{Call, Entry, Reply};
+use vm_script::{Call, Entry, Reply};
 
 fn is_failure(reply: &Reply) -> bool
     ensures { result ≡ results.is_failure reply.now }

@@ -1,7 +1,7 @@
 //! The lines of loads that gave a word and of stores that were done, which most lines of a long
 //! report are, each in few pushes.
 ghost use Rattle.std.specs.Prelude.{◌≡◌, ◌++◌, ◌∷◌, [], codes, decimal, OnOk};
-ghost use Rattle.vm_types.specs.Words.{IsWordSize, word_bytes};
+ghost use Rattle.vm_script.specs.vm_types.Words.{IsWordSize, word_bytes};
 ghost use Rattle.vm_script.specs.Texts.{hex_text};
 ghost use Rattle.vm_report.specs.Texts.{word_text};
 

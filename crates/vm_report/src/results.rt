@@ -1,13 +1,13 @@
 //! The results of calls.
 ghost use Rattle.std.specs.Prelude.{◌≡◌, ◌++◌, OnOk, All};
-ghost use Rattle.vm_types.specs.WellFormed.{IsWellFormed};
-ghost use Rattle.vm_types.specs.Words.{IsWordSize};
+ghost use Rattle.vm_script.specs.vm_types.WellFormed.{IsWellFormed};
+ghost use Rattle.vm_script.specs.vm_types.Words.{IsWordSize};
 ghost use Rattle.vm_report.specs.Texts.{call_word, counts_text};
 ghost use Rattle.vm_report.specs.Results.{word_size, io_word, done_text, bytes_text, refusal_text, result_text};
 
 use crate::text::{push_decimal, push_hex, push_number, push_space, push_text, push_word};
 use std::alloc::AllocError;
-use vm_types::{Call, Errno, Reply};
+use vm_script::{Call, Errno, Reply};
 
 /// The word of a call.
 pub fn word_of_call(call: &Call) -> &'static [u8]

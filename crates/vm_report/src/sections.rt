@@ -1,8 +1,8 @@
 //! The sections of processes.
 ghost use Rattle.std.specs.Prelude.{◌≡◌, ◌≤◌, ◌<◌, ◌^◌, ◌+◌, ◌++◌, ◌∷◌, ◌==◌, [], false, All, length, map, filter, take, codes, IsTrue, OnOk, IfOk};
 ghost use Rattle.std.specs.List.{list_any};
-ghost use Rattle.vm_types.specs.WellFormed.{IsWellFormed};
-ghost use Rattle.flat_model.specs.Told.{entries_of};
+ghost use Rattle.vm_script.specs.vm_types.WellFormed.{IsWellFormed};
+ghost use Rattle.vm_script.specs.flat_model.Told.{entries_of};
 ghost use Rattle.vm_script.specs.Told.{is_birth};
 ghost use Rattle.vm_report.specs.Groups.{is_born_by};
 ghost use Rattle.vm_report.specs.Report as report;
@@ -13,8 +13,7 @@ use crate::quick::{push_loaded, push_stored};
 use crate::results::word_of_call;
 use crate::text::{end_line, push_number, push_space, push_text};
 use std::alloc::{AllocError, Global};
-use vm_script::{Plan, PlanAct, PlanLine};
-use vm_types::{Call, Entry, Reply, ends_call};
+use vm_script::{Call, Entry, Plan, PlanAct, PlanLine, Reply, ends_call};
 
 fn word_of_act(act: &PlanAct) -> &'static [u8]
     ensures { result.now ≡ report.act_word act.now }

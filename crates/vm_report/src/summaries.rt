@@ -4,7 +4,7 @@ ghost use Rattle.vm_report.specs.Summary as summaries;
 
 use crate::text::{end_line, push_decimal, push_number, push_text};
 use std::alloc::AllocError;
-use vm_types::{Entry, Reply};
+use vm_script::{Entry, Reply};
 
 fn is_signal(reply: &Reply) -> bool
     ensures { result ≡ summaries.is_signal reply.now }

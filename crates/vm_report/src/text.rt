@@ -1,6 +1,6 @@
 //! Numbers and bytes as text, pushed into one buffer.
 ghost use Rattle.std.specs.Prelude.{◌≡◌, ◌≤◌, ◌<◌, ◌*◌, ◌++◌, ◌∷◌, [], length, take, decimal, OnOk};
-ghost use Rattle.vm_types.specs.Words.{IsWordSize, word_bytes};
+ghost use Rattle.vm_script.specs.vm_types.Words.{IsWordSize, word_bytes};
 ghost use Rattle.vm_script.specs.Texts.{byte_text, hex_digit, hex_text};
 ghost use Rattle.vm_report.specs.Texts.{word_text};
 

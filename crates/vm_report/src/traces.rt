@@ -1,8 +1,8 @@
 //! The texts of a trace.
 ghost use Rattle.std.specs.Prelude.{◌≡◌, ◌<◌, ◌^◌, ◌+◌, ◌++◌, ◌∷◌, All, List, length, map, OnOk};
 ghost use Rattle.std.specs.List.{flat_map};
-ghost use Rattle.vm_types.specs.WellFormed.{IsWellFormed};
-ghost use Rattle.vm_types.specs.Words.{IsWordSize};
+ghost use Rattle.vm_script.specs.vm_types.WellFormed.{IsWellFormed};
+ghost use Rattle.vm_script.specs.vm_types.Words.{IsWordSize};
 ghost use Rattle.vm_script.specs.Texts as words;
 ghost use Rattle.vm_report.specs.Trace as trace;
 
@@ -13,7 +13,7 @@ use crate::text::{
 };
 use bitflags::Flags;
 use std::alloc::AllocError;
-use vm_types::{Call, Entry, Kind, Object, Place, Prot, Reply};
+use vm_script::{Call, Entry, Kind, Object, Place, Prot, Reply};
 
 fn word_of_kind(kind: Kind) -> &'static [u8]
     ensures { result.now ≡ words.kind_text kind }

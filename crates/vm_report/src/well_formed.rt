@@ -1,8 +1,8 @@
 //! The test of what the calls on histories ask for.
 ghost use Rattle.std.specs.Prelude.{IsTrue, All};
-ghost use Rattle.vm_types.specs.WellFormed.{IsWellFormed};
+ghost use Rattle.vm_script.specs.vm_types.WellFormed.{IsWellFormed};
 
-use vm_types::Entry;
+use vm_script::Entry;
 
 /// Whether each call of a history is well formed.
 pub fn are_well_formed(history: &[Entry]) -> bool

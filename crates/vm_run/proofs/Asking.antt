@@ -1,7 +1,7 @@
 -- Why nothing can be run, once the words were taken.
 use Rattle.std.proofs.Common.{◌≡◌, ℕ, List, Option, Some, ap, subst, sym}
 use Rattle.std.specs.Prelude.{Err}
-use Rattle.block_device.specs.declared.rack.Spec.{Spec}
+use Rattle.volume_files.specs.block_device.declared.rack.Spec.{Spec}
 use Rattle.vm_run.specs.declared.ending.Ending.{Ending}
 use Rattle.vm_run.specs.declared.ending.Ending.TheVariants as ending
 use Rattle.command_line.specs.declared.options.Options.{Options}

@@ -1,15 +1,15 @@
 -- What an attempt at a call made of the history.
 use Rattle.std.proofs.Common.{◌≡◌, true, false, Option, Some, None, sym, ◌∙◌, subst}
 use Rattle.std.specs.Prelude.{All, is_some}
-use Rattle.page_store.specs.declared.plan.Hold.{Hold}
-use Rattle.page_store.specs.declared.plan.Plan.{Plan}
-use Rattle.vm_types.specs.declared.call.Call.{Call}
-use Rattle.vm_types.specs.declared.call.Entry.{Entry}
-use Rattle.vm_types.specs.declared.call.Reply.{Reply}
+use Rattle.vm_core.specs.page_store.declared.plan.Hold.{Hold}
+use Rattle.vm_core.specs.page_store.declared.plan.Plan.{Plan}
+use Rattle.volume_files.specs.vm_types.declared.call.Call.{Call}
+use Rattle.volume_files.specs.vm_types.declared.call.Entry.{Entry}
+use Rattle.volume_files.specs.vm_types.declared.call.Reply.{Reply}
 use Rattle.vm_core.specs.Calls.{IsBusy, IsNeeded, IsOnOwnSpace}
 use Rattle.vm_core.specs.Finish.{FitsStill}
-use Rattle.vm_world.specs.Events.{IsEvent}
-use Rattle.vm_world.specs.State.{KernelState}
+use Rattle.vm_core.specs.vm_world.Events.{IsEvent}
+use Rattle.vm_core.specs.vm_world.State.{KernelState}
 use Rattle.vm_run.specs.Lines.{GrowsWith, HasOneMore, MadeNothing, MayGoOn}
 use Rattle.vm_run.proofs.GoingOn.{never-waits, stays-still}
 use Rattle.vm_run.proofs.Trips.{one-more-as, then-too}

@@ -6,19 +6,19 @@ use Rattle.std.proofs.lemmas.Bool.{ltb-false}
 use Rattle.std.proofs.lemmas.List.{append-nil}
 use Rattle.std.proofs.lemmas.List.Elements.{All-nil, All-cons, All-head, All-tail}
 use Rattle.std.proofs.lemmas.List.Sums.{AllPass-from_list_all, sum_by-cons}
-use Rattle.vm_types.specs.declared.call.Call.{Call}
-use Rattle.vm_types.specs.declared.call.Call.TheVariants as call
-use Rattle.vm_types.specs.WellFormed.{IsWellFormed}
+use Rattle.volume_files.specs.vm_types.declared.call.Call.{Call}
+use Rattle.volume_files.specs.vm_types.declared.call.Call.TheVariants as call
+use Rattle.volume_files.specs.vm_types.WellFormed.{IsWellFormed}
 use Rattle.vm_core.specs.Calls.{IsOnOwnSpace}
-use Rattle.vm_script.specs.declared.plan.PlanAct.{PlanAct}
-use Rattle.vm_script.specs.declared.plan.PlanAct.TheVariants as act
-use Rattle.vm_script.specs.declared.plan.PlanLine.{PlanLine}
-use Rattle.vm_script.specs.Blocks.{IsInner, IsProcessBlock, ends, goes_on, forks, AreProcessBlocks, over, block}
-use Rattle.vm_script.specs.Counts.{entry_count, parts, call_parts}
-use Rattle.vm_script.specs.PlanSeen.{PlanSeen}
-use Rattle.vm_script.specs.Sound.{IsSoundAct}
-use Rattle.vm_script.specs.Told.{parent_of}
-use Rattle.vm_world.specs.HistoryFits.{is_exit}
+use Rattle.volume_files.specs.vm_script.declared.plan.PlanAct.{PlanAct}
+use Rattle.volume_files.specs.vm_script.declared.plan.PlanAct.TheVariants as act
+use Rattle.volume_files.specs.vm_script.declared.plan.PlanLine.{PlanLine}
+use Rattle.volume_files.specs.vm_script.Blocks.{IsInner, IsProcessBlock, ends, goes_on, forks, AreProcessBlocks, over, block}
+use Rattle.volume_files.specs.vm_script.Counts.{entry_count, parts, call_parts}
+use Rattle.volume_files.specs.vm_script.PlanSeen.{PlanSeen}
+use Rattle.volume_files.specs.vm_script.Sound.{IsSoundAct}
+use Rattle.volume_files.specs.vm_script.Told.{parent_of}
+use Rattle.vm_core.specs.vm_world.HistoryFits.{is_exit}
 use Rattle.vm_run.specs.Asked.{is_served_call, is_served_named, is_served_act}
 use Rattle.vm_run.specs.Lines.{line_call, line_calls, MayBeMade, AreLines}
 use Rattle.vm_run.specs.Played.{IsPlayable}

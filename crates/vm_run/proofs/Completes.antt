@@ -2,12 +2,12 @@
 use Rattle.std.proofs.Common.{◌≡◌, ℕ, refl, sym, ap, ◌∙◌, subst, inl, inr}
 use Rattle.std.specs.Prelude.{IfSome, IsSome, List, MatchOption, Option, option_map, Some, None, Result, Ok, Err}
 use Rattle.std.proofs.lemmas.Option.{none-some, same_Some}
-use Rattle.block_device.specs.Counts.{HasRisen}
-use Rattle.block_device.specs.OpenSeen.{OpenFaultSeen}
+use Rattle.volume_files.specs.block_device.Counts.{HasRisen}
+use Rattle.volume_files.specs.block_device.OpenSeen.{OpenFaultSeen}
 use Rattle.vm_run.specs.declared.ending.Ending.{Ending}
 use Rattle.vm_run.specs.declared.ending.Ending.TheVariants as ending
 use Rattle.volume_files.specs.declared.stops.Refusal.{Refusal}
-use Rattle.vm_script.specs.Plans.{plan_of}
+use Rattle.volume_files.specs.vm_script.Plans.{plan_of}
 use Rattle.command_line.specs.declared.options.Options.{Options}
 use Rattle.vm_run.specs.Asked.{Given, Asked, Asks, WasAsked, run_request, request_of_options, by_script, script_told}
 use Rattle.command_line.specs.Options.{options_of}

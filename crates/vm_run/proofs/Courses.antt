@@ -6,21 +6,21 @@ use Rattle.std.proofs.lemmas.Bool.{false≢true, ne_eqb}
 use Rattle.std.proofs.lemmas.Bool.Decides.{eqb_tells}
 use Rattle.std.proofs.lemmas.Option.{none-some, same_Some}
 use Rattle.std.proofs.lemmas.List.{length-map}
-use Rattle.block_device.specs.DiskSeen.{DiskSeen}
-use Rattle.block_device.specs.RackSeen.{spec_number}
-use Rattle.block_device.specs.declared.disk_fault.DiskFault.{DiskFault}
-use Rattle.block_device.specs.declared.rack.Spec.{Spec}
-use Rattle.block_device.specs.declared.rack.Spec.TheVariants as spec
-use Rattle.block_device.specs.StreamSeen.{SinkSeen}
-use Rattle.flat_model.proofs.Bytes.{All-slice_get}
-use Rattle.flat_model.specs.Flat.{Flat}
-use Rattle.flat_model.specs.History.{Legal, replay}
-use Rattle.vnode_files.specs.Files.{FilesSeen}
-use Rattle.vnode_files.specs.Vnode.{VnodeSeen, fresh_vnode}
-use Rattle.vnode_files.specs.declared.vnode.FileInfo.{FileInfo}
-use Rattle.vm_script.specs.PlanSeen.{PlanSeen}
-use Rattle.vm_script.specs.Rules.{amounts_of}
-use Rattle.vm_world.specs.State.{KernelState, FileMode, mode_of}
+use Rattle.volume_files.specs.block_device.DiskSeen.{DiskSeen}
+use Rattle.volume_files.specs.block_device.RackSeen.{spec_number}
+use Rattle.volume_files.specs.block_device.declared.disk_fault.DiskFault.{DiskFault}
+use Rattle.volume_files.specs.block_device.declared.rack.Spec.{Spec}
+use Rattle.volume_files.specs.block_device.declared.rack.Spec.TheVariants as spec
+use Rattle.volume_files.specs.block_device.StreamSeen.{SinkSeen}
+use Rattle.volume_files.proofs.flat_model.Bytes.{All-slice_get}
+use Rattle.volume_files.specs.flat_model.Flat.{Flat}
+use Rattle.volume_files.specs.flat_model.History.{Legal, replay}
+use Rattle.volume_files.specs.vnode_files.Files.{FilesSeen}
+use Rattle.volume_files.specs.vnode_files.Vnode.{VnodeSeen, fresh_vnode}
+use Rattle.volume_files.specs.vnode_files.declared.vnode.FileInfo.{FileInfo}
+use Rattle.volume_files.specs.vm_script.PlanSeen.{PlanSeen}
+use Rattle.volume_files.specs.vm_script.Rules.{amounts_of}
+use Rattle.vm_core.specs.vm_world.State.{KernelState, FileMode, mode_of}
 use Rattle.vm_run.specs.declared.outcome.RunFault.{RunFault}
 use Rattle.vm_run.specs.Asked.{Given, Asked}
 use Rattle.volume_files.specs.Attached.{AttachedSeen, FileDisksTell, bare_disks}

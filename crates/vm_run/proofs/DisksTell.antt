@@ -2,21 +2,21 @@
 use Rattle.std.proofs.Common.{◌≡◌, ◌≢◌, ℕ, zero, suc, ◌<◌, ◌≤◌, true, false, List, [], ◌∷◌, length, Option, Some, None, refl, sym, ap, ◌∙◌, subst, arith}
 use Rattle.std.specs.Prelude.{slice_get, slice_index_or, is_some, All}
 use Rattle.std.proofs.lemmas.List.{length-map, get_or-map}
-use Rattle.block_device.specs.DiskSeen.{DiskSeen}
-use Rattle.block_device.specs.declared.rack.Spec.{Spec}
-use Rattle.page_store.specs.Bays.{BaySeen, missing, home, out, bay_at, disk_in, disks_in}
-use Rattle.page_store.specs.Notes.{no_notes}
-use Rattle.page_store.specs.Value.{content_of, content_in_bay, tells}
-use Rattle.page_store.specs.declared.place.Place.{Place}
-use Rattle.vnode_files.specs.declared.vnode.FileInfo.{FileInfo}
-use Rattle.vnode_files.specs.Files.{FilesSeen, vnode_at}
-use Rattle.vnode_files.specs.Grow.{page_count}
-use Rattle.vnode_files.specs.Vnode.{VnodeSeen, no_vnode, fresh_vnode}
-use Rattle.volume_format.specs.Table.{no_entry}
+use Rattle.volume_files.specs.block_device.DiskSeen.{DiskSeen}
+use Rattle.volume_files.specs.block_device.declared.rack.Spec.{Spec}
+use Rattle.vm_core.specs.page_store.Bays.{BaySeen, missing, home, out, bay_at, disk_in, disks_in}
+use Rattle.vm_core.specs.page_store.Notes.{no_notes}
+use Rattle.vm_core.specs.page_store.Value.{content_of, content_in_bay, tells}
+use Rattle.vm_core.specs.page_store.declared.place.Place.{Place}
+use Rattle.volume_files.specs.vnode_files.declared.vnode.FileInfo.{FileInfo}
+use Rattle.volume_files.specs.vnode_files.Files.{FilesSeen, vnode_at}
+use Rattle.volume_files.specs.vnode_files.Grow.{page_count}
+use Rattle.volume_files.specs.vnode_files.Vnode.{VnodeSeen, no_vnode, fresh_vnode}
+use Rattle.volume_files.specs.volume_format.Table.{no_entry}
 use Rattle.vm_core.specs.Finish.{disks_of}
-use Rattle.vm_script.specs.PlanSeen.{PlanSeen}
-use Rattle.vm_world.specs.World.{World, file_name, world_table, AllTell}
-use Rattle.vm_world.proofs.PageNames.{file-page, file-place}
+use Rattle.volume_files.specs.vm_script.PlanSeen.{PlanSeen}
+use Rattle.vm_core.specs.vm_world.World.{World, file_name, world_table, AllTell}
+use Rattle.vm_core.proofs.vm_world.PageNames.{file-page, file-place}
 use Rattle.volume_files.specs.Attached.{AttachedSeen, ArePlaced, FileDisksTell}
 use Rattle.volume_files.specs.Closed.{info_at}
 use Rattle.volume_files.specs.Opened.{OpenedFile, infos_of}

@@ -1,10 +1,10 @@
 -- A run that stops before its trace: the rack, a disk or memory failed, or a rule is broken.
 use Rattle.std.proofs.Common.{◌≡◌, ℕ, List, [], refl, sym, ap, ◌∙◌, subst, arith, inl, inr, map}
 use Rattle.std.specs.Prelude.{IsTrue, MatchOption, Option, Some, None, Ok, option_map}
-use Rattle.block_device.specs.Counts.{HasRisen}
-use Rattle.block_device.specs.DiskSeen.{DiskSeen}
-use Rattle.block_device.specs.OpenSeen.{OpenFaultSeen}
-use Rattle.block_device.specs.StreamSeen.{SinkSeen}
+use Rattle.volume_files.specs.block_device.Counts.{HasRisen}
+use Rattle.volume_files.specs.block_device.DiskSeen.{DiskSeen}
+use Rattle.volume_files.specs.block_device.OpenSeen.{OpenFaultSeen}
+use Rattle.volume_files.specs.block_device.StreamSeen.{SinkSeen}
 use Rattle.vm_core.specs.Finish.{HistorySeen}
 use Rattle.vm_run.specs.declared.ending.Ending.{Ending}
 use Rattle.vm_run.specs.declared.ending.Ending.TheVariants as ending

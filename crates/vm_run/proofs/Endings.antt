@@ -3,12 +3,12 @@ use Rattle.std.proofs.Common.{◌≡◌, ℕ, ◌≤◌, List, ◌++◌, true, f
 use Rattle.std.specs.Prelude.{Bool, Option, Some, None, is_some}
 use Rattle.std.proofs.Common.{append-nil}
 use Rattle.std.proofs.lemmas.Bool.{false≢true}
-use Rattle.vm_types.specs.declared.call.Entry.{Entry}
-use Rattle.block_device.specs.DiskSeen.{DiskSeen}
-use Rattle.block_device.specs.StreamSeen.{SinkSeen}
-use Rattle.block_device.specs.declared.disk_fault.DiskFault.{DiskFault}
-use Rattle.vnode_files.specs.declared.vnode.FileInfo.{FileInfo}
-use Rattle.vm_script.specs.PlanSeen.{PlanSeen}
+use Rattle.volume_files.specs.vm_types.declared.call.Entry.{Entry}
+use Rattle.volume_files.specs.block_device.DiskSeen.{DiskSeen}
+use Rattle.volume_files.specs.block_device.StreamSeen.{SinkSeen}
+use Rattle.volume_files.specs.block_device.declared.disk_fault.DiskFault.{DiskFault}
+use Rattle.volume_files.specs.vnode_files.declared.vnode.FileInfo.{FileInfo}
+use Rattle.volume_files.specs.vm_script.PlanSeen.{PlanSeen}
 use Rattle.vm_run.specs.declared.ending.Ending.{Ending}
 use Rattle.vm_run.specs.declared.ending.Ending.TheVariants as ending
 use Rattle.command_line.specs.declared.options.Options.{Options}

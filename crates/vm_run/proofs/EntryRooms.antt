@@ -6,11 +6,11 @@ use Rattle.std.proofs.lemmas.Bool.{cases_eq, eq-eqb, ne_eqb, cases_lt}
 use Rattle.std.proofs.lemmas.List.{get_or-set_same, get_or-set_other}
 use Rattle.std.proofs.lemmas.List.Elements.{All-nil, All-append, All-weaker, All-head, All-tail}
 use Rattle.std.proofs.lemmas.List.Sums.{sum_by-cons, sum_by_more, sum_by_more_le_part}
-use Rattle.vm_script.specs.declared.plan.PlanLine.{PlanLine}
-use Rattle.vm_script.specs.Blocks.{AreProcessBlocks, over, block, IsWithin, Nests}
-use Rattle.vm_script.specs.Counts.{parts, entry_count}
-use Rattle.vm_script.specs.PlanSeen.{PlanSeen}
-use Rattle.vm_script.proofs.Ranges.{within}
+use Rattle.volume_files.specs.vm_script.declared.plan.PlanLine.{PlanLine}
+use Rattle.volume_files.specs.vm_script.Blocks.{AreProcessBlocks, over, block, IsWithin, Nests}
+use Rattle.volume_files.specs.vm_script.Counts.{parts, entry_count}
+use Rattle.volume_files.specs.vm_script.PlanSeen.{PlanSeen}
+use Rattle.volume_files.proofs.vm_script.Ranges.{within}
 use Rattle.vm_run.specs.Played.{HasRoomForPlan}
 
 -- the lines of blocks that nest are those of processes from n on and below m

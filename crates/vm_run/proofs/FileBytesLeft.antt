@@ -7,39 +7,39 @@ use Rattle.std.proofs.Math.Seq.{take-append-add}
 use Rattle.std.proofs.lemmas.List.{length-map, get_or-map, take-append-le}
 use Rattle.std.proofs.lemmas.List.Elements.{All-head, All-tail}
 use Rattle.std.proofs.lemmas.Option.{slice_get-get_or, slice_get_within}
-use Rattle.block_device.specs.DiskSeen.{DiskSeen, HasBlocks}
-use Rattle.block_device.specs.declared.disk_fault.DiskFault.{DiskFault}
-use Rattle.page_hash.specs.declared.PageName.{PageName}
-use Rattle.page_store.specs.Bytes.{clip}
-use Rattle.page_store.specs.Notes.{no_notes}
-use Rattle.vm_types.specs.Pages.{bytes_before}
-use Rattle.vm_types.specs.declared.call.Entry.{Entry}
-use Rattle.vnode_files.specs.declared.vnode.FileInfo.{FileInfo}
-use Rattle.vnode_files.specs.Files.{FilesSeen, vnode_at}
-use Rattle.vnode_files.specs.Grow.{page_count}
-use Rattle.vnode_files.specs.Layout.{disk_of_file}
-use Rattle.vnode_files.specs.Vnode.{VnodeSeen, IsSoundVnode, no_vnode, page_blocks, block_at}
-use Rattle.vnode_files.proofs.BlockLemmas.{length-page_blocks}
-use Rattle.volume_format.specs.Table.{no_entry}
-use Rattle.flat_model.specs.Flat.{File, Flat, IsFile, IsFlat}
-use Rattle.flat_model.specs.History.{replay}
-use Rattle.flat_model.specs.Parts.{file_bytes, without_tail}
-use Rattle.flat_model.specs.Step.{is_bit_set, files_cleared}
-use Rattle.flat_model.specs.Words.{Page, IsPage, pages_in}
-use Rattle.flat_model.proofs.FileBytes.{file_bytes-without_tail}
-use Rattle.flat_model.proofs.WellFormed.{IsFlat-tails_cleared}
+use Rattle.volume_files.specs.block_device.DiskSeen.{DiskSeen, HasBlocks}
+use Rattle.volume_files.specs.block_device.declared.disk_fault.DiskFault.{DiskFault}
+use Rattle.vm_core.specs.page_hash.declared.PageName.{PageName}
+use Rattle.vm_core.specs.page_store.Bytes.{clip}
+use Rattle.vm_core.specs.page_store.Notes.{no_notes}
+use Rattle.volume_files.specs.vm_types.Pages.{bytes_before}
+use Rattle.volume_files.specs.vm_types.declared.call.Entry.{Entry}
+use Rattle.volume_files.specs.vnode_files.declared.vnode.FileInfo.{FileInfo}
+use Rattle.volume_files.specs.vnode_files.Files.{FilesSeen, vnode_at}
+use Rattle.volume_files.specs.vnode_files.Grow.{page_count}
+use Rattle.volume_files.specs.vnode_files.Layout.{disk_of_file}
+use Rattle.volume_files.specs.vnode_files.Vnode.{VnodeSeen, IsSoundVnode, no_vnode, page_blocks, block_at}
+use Rattle.volume_files.proofs.vnode_files.BlockLemmas.{length-page_blocks}
+use Rattle.volume_files.specs.volume_format.Table.{no_entry}
+use Rattle.volume_files.specs.flat_model.Flat.{File, Flat, IsFile, IsFlat}
+use Rattle.volume_files.specs.flat_model.History.{replay}
+use Rattle.volume_files.specs.flat_model.Parts.{file_bytes, without_tail}
+use Rattle.volume_files.specs.flat_model.Step.{is_bit_set, files_cleared}
+use Rattle.volume_files.specs.flat_model.Words.{Page, IsPage, pages_in}
+use Rattle.volume_files.proofs.flat_model.FileBytes.{file_bytes-without_tail}
+use Rattle.volume_files.proofs.flat_model.WellFormed.{IsFlat-tails_cleared}
 use Rattle.vm_core.specs.Finish.{IsFilePage, disk_at, HoldAllFiles, HoldsPage}
 use Rattle.vm_core.proofs.Fills.{block-within}
 use Rattle.vm_core.proofs.Records.{disk-kept, info-kept, page-kept, records-back}
-use Rattle.vm_world.specs.Events.{IsEvent}
-use Rattle.vm_world.specs.FlatMemory.{file_with_pages, files_with_pages, flat_memory, pages_from}
-use Rattle.vm_world.specs.Opening.{no_seats}
-use Rattle.vm_world.specs.Pages.{contents_of, page_value}
-use Rattle.vm_world.specs.State.{KernelState}
-use Rattle.vm_world.specs.StateFits.{StateFits}
-use Rattle.vm_world.specs.World.{AllTell, file_name}
-use Rattle.vm_world.proofs.FilePages.{file-in, length-files_with_pages, length-pages_from, page-in}
-use Rattle.vm_world.proofs.PageNames.{file-apart, index-of, not-slot}
+use Rattle.vm_core.specs.vm_world.Events.{IsEvent}
+use Rattle.vm_core.specs.vm_world.FlatMemory.{file_with_pages, files_with_pages, flat_memory, pages_from}
+use Rattle.vm_core.specs.vm_world.Opening.{no_seats}
+use Rattle.vm_core.specs.vm_world.Pages.{contents_of, page_value}
+use Rattle.vm_core.specs.vm_world.State.{KernelState}
+use Rattle.vm_core.specs.vm_world.StateFits.{StateFits}
+use Rattle.vm_core.specs.vm_world.World.{AllTell, file_name}
+use Rattle.vm_core.proofs.vm_world.FilePages.{file-in, length-files_with_pages, length-pages_from, page-in}
+use Rattle.vm_core.proofs.vm_world.PageNames.{file-apart, index-of, not-slot}
 use Rattle.volume_files.specs.Attached.{bare_disks}
 use Rattle.volume_files.specs.Closed.{StoreFiles, flat_bytes, info_at}
 use Rattle.volume_files.specs.Handed.{HaveTold}

@@ -3,31 +3,31 @@ use Rattle.std.proofs.Common.{◌≡◌, ℕ, suc, ◌<◌, ◌≤◌, Bool, tru
 use Rattle.std.specs.FinMap as finite
 use Rattle.std.proofs.lemmas.Bool.{cases_Bool}
 use Rattle.std.proofs.lemmas.List.{get_or-map, length-map}
-use Rattle.page_store.specs.Notes.{no_notes}
-use Rattle.page_store.specs.Value.{tells}
-use Rattle.vm_types.specs.declared.call.Entry.{Entry}
-use Rattle.vnode_files.specs.declared.vnode.FileInfo.{FileInfo}
-use Rattle.vnode_files.specs.Files.{FilesSeen, vnode_at}
-use Rattle.vnode_files.specs.Vnode.{VnodeSeen, no_vnode}
-use Rattle.volume_format.specs.Table.{no_entry}
-use Rattle.flat_model.specs.Births.{AreBorn}
-use Rattle.flat_model.specs.Flat.{File, Flat}
-use Rattle.flat_model.specs.History.{Legal, Steps, replay}
-use Rattle.flat_model.specs.Opening.{flat_at_opening}
-use Rattle.flat_model.specs.Parts.{without_tail}
-use Rattle.flat_model.specs.Step.{is_bit_set, files_cleared, step}
-use Rattle.flat_model.specs.Words.{Page}
-use Rattle.flat_model.proofs.Frames.{StepFrame-step}
-use Rattle.flat_model.proofs.Lives.{AreBorn-step}
-use Rattle.flat_model.proofs.Opened.{IsFlat-opening}
-use Rattle.vm_world.specs.Events.{IsEvent}
-use Rattle.vm_world.specs.FlatMemory.{files_with_pages, flat_memory}
-use Rattle.vm_world.specs.HistoryFits.{HistoryFits}
-use Rattle.vm_world.specs.Opening.{no_seats}
-use Rattle.vm_world.specs.Pages.{contents_of}
-use Rattle.vm_world.specs.State.{FileMode, Fixed, KernelState, mode_of}
-use Rattle.vm_world.specs.StateFits.{StateFits}
-use Rattle.vm_world.specs.World.{AllTell, world_table}
+use Rattle.vm_core.specs.page_store.Notes.{no_notes}
+use Rattle.vm_core.specs.page_store.Value.{tells}
+use Rattle.volume_files.specs.vm_types.declared.call.Entry.{Entry}
+use Rattle.volume_files.specs.vnode_files.declared.vnode.FileInfo.{FileInfo}
+use Rattle.volume_files.specs.vnode_files.Files.{FilesSeen, vnode_at}
+use Rattle.volume_files.specs.vnode_files.Vnode.{VnodeSeen, no_vnode}
+use Rattle.volume_files.specs.volume_format.Table.{no_entry}
+use Rattle.volume_files.specs.flat_model.Births.{AreBorn}
+use Rattle.volume_files.specs.flat_model.Flat.{File, Flat}
+use Rattle.volume_files.specs.flat_model.History.{Legal, Steps, replay}
+use Rattle.volume_files.specs.flat_model.Opening.{flat_at_opening}
+use Rattle.volume_files.specs.flat_model.Parts.{without_tail}
+use Rattle.volume_files.specs.flat_model.Step.{is_bit_set, files_cleared, step}
+use Rattle.volume_files.specs.flat_model.Words.{Page}
+use Rattle.volume_files.proofs.flat_model.Frames.{StepFrame-step}
+use Rattle.volume_files.proofs.flat_model.Lives.{AreBorn-step}
+use Rattle.volume_files.proofs.flat_model.Opened.{IsFlat-opening}
+use Rattle.vm_core.specs.vm_world.Events.{IsEvent}
+use Rattle.vm_core.specs.vm_world.FlatMemory.{files_with_pages, flat_memory}
+use Rattle.vm_core.specs.vm_world.HistoryFits.{HistoryFits}
+use Rattle.vm_core.specs.vm_world.Opening.{no_seats}
+use Rattle.vm_core.specs.vm_world.Pages.{contents_of}
+use Rattle.vm_core.specs.vm_world.State.{FileMode, Fixed, KernelState, mode_of}
+use Rattle.vm_core.specs.vm_world.StateFits.{StateFits}
+use Rattle.vm_core.specs.vm_world.World.{AllTell, world_table}
 use Rattle.volume_files.specs.Attached.{bare_disks}
 use Rattle.volume_files.specs.Closed.{info_at, info_in_flat, infos_in_flat}
 use Rattle.volume_files.specs.Handed.{HaveTold}

@@ -3,26 +3,26 @@ use Rattle.std.proofs.Common.{◌≡◌, ℕ, suc, ◌≤◌, ◌<◌, ◌==◌,
 use Rattle.std.specs.Prelude.{All, IfSome, IsSome, IsSomeAnd, IsTrue, IsFalse, MatchOption, fold, is_none, is_some, ◌||◌, if◌then◌else◌}
 use Rattle.std.specs.List.{list_any}
 use Rattle.std.proofs.lemmas.List.Elements.{All-cons, All-head, All-tail}
-use Rattle.page_store.specs.declared.plan.Hold.{Hold}
-use Rattle.vm_types.specs.declared.call.Call.{Call}
-use Rattle.vm_types.specs.declared.call.Call.TheVariants.{Load, Store, Map, Unmap, Protect, Sync, Read, Write, Truncate, Fork, Exit}
-use Rattle.vm_types.specs.declared.call.Entry.{Entry}
-use Rattle.vm_types.specs.declared.call.Reply.{Reply}
-use Rattle.vm_types.specs.Parts.{next_part, part_file}
-use Rattle.flat_model.specs.Births.{is_birth}
-use Rattle.flat_model.specs.OpenLaws.{FollowsOn, IsOpenPart, MayFollow, last_entry}
-use Rattle.flat_model.specs.Told.{entries_of}
+use Rattle.vm_core.specs.page_store.declared.plan.Hold.{Hold}
+use Rattle.volume_files.specs.vm_types.declared.call.Call.{Call}
+use Rattle.volume_files.specs.vm_types.declared.call.Call.TheVariants.{Load, Store, Map, Unmap, Protect, Sync, Read, Write, Truncate, Fork, Exit}
+use Rattle.volume_files.specs.vm_types.declared.call.Entry.{Entry}
+use Rattle.volume_files.specs.vm_types.declared.call.Reply.{Reply}
+use Rattle.volume_files.specs.vm_types.Parts.{next_part, part_file}
+use Rattle.volume_files.specs.flat_model.Births.{is_birth}
+use Rattle.volume_files.specs.flat_model.OpenLaws.{FollowsOn, IsOpenPart, MayFollow, last_entry}
+use Rattle.volume_files.specs.flat_model.Told.{entries_of}
 use Rattle.vm_core.specs.Calls.{IsOnOwnSpace, IsServed}
 use Rattle.vm_core.specs.Finish.{FitsStill}
 use Rattle.vm_core.specs.Fits.{FitsAt}
-use Rattle.vm_world.specs.Events.{IsEvent, CanTry}
-use Rattle.vm_world.specs.HistoryFits.{is_exit, has_left}
-use Rattle.vm_world.specs.SeatLaws.{IsNewChild}
-use Rattle.vm_world.specs.ServingLaws.{done_entry}
-use Rattle.vm_world.specs.State.{KernelState, Fixed, Sent, is_top, room_of, with_sent}
-use Rattle.vm_world.specs.Wants.{MayHold, seat_in}
-use Rattle.vm_world.proofs.SeatRules.{seat_law}
-use Rattle.vm_world.proofs.Told.{event_law}
+use Rattle.vm_core.specs.vm_world.Events.{IsEvent, CanTry}
+use Rattle.vm_core.specs.vm_world.HistoryFits.{is_exit, has_left}
+use Rattle.vm_core.specs.vm_world.SeatLaws.{IsNewChild}
+use Rattle.vm_core.specs.vm_world.ServingLaws.{done_entry}
+use Rattle.vm_core.specs.vm_world.State.{KernelState, Fixed, Sent, is_top, room_of, with_sent}
+use Rattle.vm_core.specs.vm_world.Wants.{MayHold, seat_in}
+use Rattle.vm_core.proofs.vm_world.SeatRules.{seat_law}
+use Rattle.vm_core.proofs.vm_world.Told.{event_law}
 use Rattle.vm_run.specs.Lines.{MayGoOn}
 
 -- NOTHING IS OUTSIDE still, after what one seat did in between

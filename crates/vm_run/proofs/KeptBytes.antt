@@ -2,12 +2,12 @@
 use Rattle.std.proofs.Common.{◌≡◌, ℕ, zero, suc, ◌≤◌, ◌<◌, ◌+◌, List, [], ◌∷◌, ◌++◌, length, map, take, refl, sym, ap, ◌∙◌, subst, arith}
 use Rattle.std.specs.Prelude.{All, IfSome, Option, Some, None, slice_index_or}
 use Rattle.std.specs.List.{concat, range_with_len}
-use Rattle.block_device.specs.DiskSeen.{DiskSeen}
-use Rattle.vnode_files.specs.declared.extent.Extent.{Extent}
-use Rattle.vnode_files.specs.declared.vnode.FileInfo.{FileInfo}
-use Rattle.vnode_files.specs.Files.{FilesSeen, block_count}
-use Rattle.vnode_files.specs.Layout.{LieOnDisk}
-use Rattle.vnode_files.specs.Vnode.{VnodeSeen, page_blocks}
+use Rattle.volume_files.specs.block_device.DiskSeen.{DiskSeen}
+use Rattle.volume_files.specs.vnode_files.declared.extent.Extent.{Extent}
+use Rattle.volume_files.specs.vnode_files.declared.vnode.FileInfo.{FileInfo}
+use Rattle.volume_files.specs.vnode_files.Files.{FilesSeen, block_count}
+use Rattle.volume_files.specs.vnode_files.Layout.{LieOnDisk}
+use Rattle.volume_files.specs.vnode_files.Vnode.{VnodeSeen, page_blocks}
 use Rattle.volume_files.specs.Closed.{StoreFiles, info_at}
 use Rattle.volume_files.specs.Opened.{stored_bytes}
 use Rattle.volume_files.specs.Written.{infos_made}

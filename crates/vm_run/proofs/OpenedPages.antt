@@ -6,11 +6,11 @@ use Rattle.std.specs.List.{concat}
 use Rattle.std.proofs.Math.Seq.{take-append-add}
 use Rattle.std.proofs.lemmas.Bool.{cases_lt}
 use Rattle.std.proofs.lemmas.List.{length-take, length-replicate, take_all, take_at, drop_at, take-append-le, append-nil, replicate-append-replicate}
-use Rattle.page_store.specs.Bytes.{clip}
-use Rattle.flat_model.specs.Parts.{pages_of_bytes}
-use Rattle.flat_model.specs.Words.{Page}
-use Rattle.flat_model.proofs.FileBytes.{Whole}
-use Rattle.vm_world.specs.FlatMemory.{pages_from}
+use Rattle.vm_core.specs.page_store.Bytes.{clip}
+use Rattle.volume_files.specs.flat_model.Parts.{pages_of_bytes}
+use Rattle.volume_files.specs.flat_model.Words.{Page}
+use Rattle.volume_files.proofs.flat_model.FileBytes.{Whole}
+use Rattle.vm_core.specs.vm_world.FlatMemory.{pages_from}
 
 -- pages by number
 pages-shift : (f : ℕ → Page) (k n : ℕ) → pages_from f (suc k) n ≡ pages_from (λ i. f (suc i)) k n

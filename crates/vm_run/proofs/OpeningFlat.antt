@@ -10,32 +10,32 @@ use Rattle.std.specs.FinSet as set
 use Rattle.std.proofs.lemmas.Bool.Decides.{nat_tests}
 use Rattle.std.proofs.lemmas.List.{length-map, get_or-map}
 use Rattle.std.proofs.lemmas.List.FromFn.{get_or-map-range_with_len}
-use Rattle.addr_space.specs.Pages.{pages_of_parts}
-use Rattle.flat_model.specs.Flat.{File, Space}
-use Rattle.flat_model.specs.Parts.{pages_of_bytes}
-use Rattle.flat_model.specs.Words.{Page, pages_in}
-use Rattle.flat_model.proofs.FileBytes.{Whole}
-use Rattle.page_hash.specs.Names.{name_at, find}
-use Rattle.page_hash.specs.declared.PageName.{PageName}
-use Rattle.page_store.specs.Bays.{block_of}
-use Rattle.page_store.specs.Bytes.{clip}
-use Rattle.page_store.specs.Layout.{page_place}
-use Rattle.page_store.specs.Notes.{no_notes}
-use Rattle.page_store.specs.Value.{value, value_in, backing_value, content_of}
-use Rattle.page_store.specs.declared.place.Place.{Place}
-use Rattle.vnode_files.specs.declared.vnode.FileInfo.{FileInfo}
-use Rattle.vnode_files.specs.Files.{vnode_at}
-use Rattle.vnode_files.specs.Grow.{page_count}
-use Rattle.vnode_files.specs.Vnode.{VnodeSeen, page_blocks, fresh_vnode, is_blank, IsSoundVnode}
-use Rattle.vnode_files.proofs.BlockLemmas.{length-page_blocks}
-use Rattle.vm_world.specs.FlatMemory.{pages_from, file_with_pages, files_with_pages, map_with, space_with, cell_of, zero_maps, zero_pages}
-use Rattle.vm_world.specs.Pages.{page_value, file_contents}
-use Rattle.vm_world.specs.Segments.{Spaces}
-use Rattle.vm_world.specs.State.{is_top}
-use Rattle.vm_world.specs.World.{World, file_name, file_blocks, is_unpushed, world_table}
-use Rattle.vm_world.proofs.Maps.{get-map_with}
-use Rattle.vm_world.proofs.PageNames.{file-page, file-place, below-kept, not-slot}
-use Rattle.vm_world.proofs.Spaces.{EmptySpaces, empty-zeros, map-empty}
+use Rattle.vm_core.specs.addr_space.Pages.{pages_of_parts}
+use Rattle.volume_files.specs.flat_model.Flat.{File, Space}
+use Rattle.volume_files.specs.flat_model.Parts.{pages_of_bytes}
+use Rattle.volume_files.specs.flat_model.Words.{Page, pages_in}
+use Rattle.volume_files.proofs.flat_model.FileBytes.{Whole}
+use Rattle.vm_core.specs.page_hash.Names.{name_at, find}
+use Rattle.vm_core.specs.page_hash.declared.PageName.{PageName}
+use Rattle.vm_core.specs.page_store.Bays.{block_of}
+use Rattle.vm_core.specs.page_store.Bytes.{clip}
+use Rattle.vm_core.specs.page_store.Layout.{page_place}
+use Rattle.vm_core.specs.page_store.Notes.{no_notes}
+use Rattle.vm_core.specs.page_store.Value.{value, value_in, backing_value, content_of}
+use Rattle.vm_core.specs.page_store.declared.place.Place.{Place}
+use Rattle.volume_files.specs.vnode_files.declared.vnode.FileInfo.{FileInfo}
+use Rattle.volume_files.specs.vnode_files.Files.{vnode_at}
+use Rattle.volume_files.specs.vnode_files.Grow.{page_count}
+use Rattle.volume_files.specs.vnode_files.Vnode.{VnodeSeen, page_blocks, fresh_vnode, is_blank, IsSoundVnode}
+use Rattle.volume_files.proofs.vnode_files.BlockLemmas.{length-page_blocks}
+use Rattle.vm_core.specs.vm_world.FlatMemory.{pages_from, file_with_pages, files_with_pages, map_with, space_with, cell_of, zero_maps, zero_pages}
+use Rattle.vm_core.specs.vm_world.Pages.{page_value, file_contents}
+use Rattle.vm_core.specs.vm_world.Segments.{Spaces}
+use Rattle.vm_core.specs.vm_world.State.{is_top}
+use Rattle.vm_core.specs.vm_world.World.{World, file_name, file_blocks, is_unpushed, world_table}
+use Rattle.vm_core.proofs.vm_world.Maps.{get-map_with}
+use Rattle.vm_core.proofs.vm_world.PageNames.{file-page, file-place, below-kept, not-slot}
+use Rattle.vm_core.proofs.vm_world.Spaces.{EmptySpaces, empty-zeros, map-empty}
 use Rattle.vm_core.specs.State.{marked_processes}
 use Rattle.vm_core.proofs.Tops.{born-tops}
 use Rattle.volume_files.specs.Opened.{OpenedFile, stored_bytes, opened_flat_file, top_processes}

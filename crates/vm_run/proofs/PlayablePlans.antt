@@ -5,18 +5,18 @@ use Rattle.std.proofs.lemmas.Bool.{and_parts, and_from, both_ways, not-false}
 use Rattle.std.proofs.Common.{ap, ◌∙◌, sym, subst, refl, arith}
 use Rattle.std.proofs.lemmas.List.{map-append, length-map}
 use Rattle.std.proofs.lemmas.List.Elements.{All-map, All-weaker}
-use Rattle.vm_types.specs.declared.call.Call.{Call}
-use Rattle.vm_types.specs.declared.call.Call.TheVariants as call
-use Rattle.vm_types.specs.declared.call.Object.TheVariants as object
-use Rattle.vm_types.specs.WellFormed.{IsWellFormed}
-use Rattle.vm_script.specs.declared.plan.PlanAct.{PlanAct}
-use Rattle.vm_script.specs.declared.plan.PlanAct.TheVariants as act
-use Rattle.vm_script.specs.declared.plan.PlanLine.{PlanLine}
-use Rattle.vm_script.specs.Blocks.{IsInner, IsProcessBlock, ends, goes_on, forks, AreProcessBlocks, over, block}
-use Rattle.vm_script.specs.Fields.{is_word}
-use Rattle.vm_script.specs.FileNames.{place_from, call_with_file, act_with_file, line_with_file, with_files}
-use Rattle.vm_script.specs.PlanSeen.{PlanSeen}
-use Rattle.vm_script.specs.Sound.{IsSoundAct}
+use Rattle.volume_files.specs.vm_types.declared.call.Call.{Call}
+use Rattle.volume_files.specs.vm_types.declared.call.Call.TheVariants as call
+use Rattle.volume_files.specs.vm_types.declared.call.Object.TheVariants as object
+use Rattle.volume_files.specs.vm_types.WellFormed.{IsWellFormed}
+use Rattle.volume_files.specs.vm_script.declared.plan.PlanAct.{PlanAct}
+use Rattle.volume_files.specs.vm_script.declared.plan.PlanAct.TheVariants as act
+use Rattle.volume_files.specs.vm_script.declared.plan.PlanLine.{PlanLine}
+use Rattle.volume_files.specs.vm_script.Blocks.{IsInner, IsProcessBlock, ends, goes_on, forks, AreProcessBlocks, over, block}
+use Rattle.volume_files.specs.vm_script.Fields.{is_word}
+use Rattle.volume_files.specs.vm_script.FileNames.{place_from, call_with_file, act_with_file, line_with_file, with_files}
+use Rattle.volume_files.specs.vm_script.PlanSeen.{PlanSeen}
+use Rattle.volume_files.specs.vm_script.Sound.{IsSoundAct}
 use Rattle.vm_run.specs.Asked.{is_later, is_served_act, is_served_named}
 use Rattle.vm_run.specs.Played.{IsPlayable}
 

@@ -1,21 +1,21 @@
 -- What is left of a kernel that was started and whose lines were made.
 use Rattle.std.proofs.Common.{◌≡◌, ℕ, ◌<◌, ◌≤◌, ◌==◌, eq-eqb, List, [], ◌∷◌, length, Option, Some, None, refl, sym, ap, ◌∙◌, inl, inr, subst, arith, take_all}
 use Rattle.std.specs.Prelude.{All, IsTrue, MatchOption, option_map}
-use Rattle.block_device.specs.DiskSeen.{DiskSeen}
-use Rattle.page_store.specs.Bays.{BaySeen, missing, home}
-use Rattle.vm_types.specs.declared.call.Entry.{Entry}
-use Rattle.vm_types.specs.WellFormed.{IsWellFormed}
-use Rattle.vnode_files.specs.Files.{FilesSeen}
-use Rattle.flat_model.specs.Counted.{Counted}
-use Rattle.flat_model.specs.Flat.{Flat}
+use Rattle.volume_files.specs.block_device.DiskSeen.{DiskSeen}
+use Rattle.vm_core.specs.page_store.Bays.{BaySeen, missing, home}
+use Rattle.volume_files.specs.vm_types.declared.call.Entry.{Entry}
+use Rattle.volume_files.specs.vm_types.WellFormed.{IsWellFormed}
+use Rattle.volume_files.specs.vnode_files.Files.{FilesSeen}
+use Rattle.volume_files.specs.flat_model.Counted.{Counted}
+use Rattle.volume_files.specs.flat_model.Flat.{Flat}
 use Rattle.vm_core.specs.Finish.{FitsStill, disks_of}
-use Rattle.vm_script.specs.Counts.{entry_count}
-use Rattle.vm_script.specs.declared.plan.PlanLine.{PlanLine}
-use Rattle.vm_script.specs.PlanSeen.{PlanSeen}
-use Rattle.vm_script.specs.Told.{Told, ToldFront, own_lines}
-use Rattle.vm_world.specs.Opening.{no_seats}
-use Rattle.vm_world.specs.State.{KernelState, is_top, room_of}
-use Rattle.vm_world.specs.StateFits.{StateFits}
+use Rattle.volume_files.specs.vm_script.Counts.{entry_count}
+use Rattle.volume_files.specs.vm_script.declared.plan.PlanLine.{PlanLine}
+use Rattle.volume_files.specs.vm_script.PlanSeen.{PlanSeen}
+use Rattle.volume_files.specs.vm_script.Told.{Told, ToldFront, own_lines}
+use Rattle.vm_core.specs.vm_world.Opening.{no_seats}
+use Rattle.vm_core.specs.vm_world.State.{KernelState, is_top, room_of}
+use Rattle.vm_core.specs.vm_world.StateFits.{StateFits}
 use Rattle.vm_run.specs.Lines.{HasCome, line_calls}
 use Rattle.vm_run.specs.Played.{IsStarted, KernelLeaves, IsPlayable, LeftSeen}
 use Rattle.volume_files.specs.Written.{HaveDisks}

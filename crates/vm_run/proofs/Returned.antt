@@ -6,33 +6,33 @@ use Rattle.std.specs.FinMap as finite
 use Rattle.std.proofs.lemmas.List.{length-map}
 use Rattle.std.proofs.lemmas.Bool.{cases_eq}
 use Rattle.std.proofs.lemmas.Option.{none-some, slice_get_within, slice_get-get_or}
-use Rattle.block_device.specs.DiskSeen.{DiskSeen, HasBlocks}
-use Rattle.block_device.specs.declared.disk_fault.DiskFault.{DiskFault}
-use Rattle.page_hash.specs.declared.PageName.{PageName}
-use Rattle.page_store.specs.Bays.{BaySeen, missing, home, out, bay_at, bay_of, disk_in, home_faults, no_disk, IsStill}
-use Rattle.page_store.specs.Notes.{no_notes}
-use Rattle.page_store.specs.declared.place.Place.{Place}
-use Rattle.page_store.specs.Value.{tells, content_in_bay}
-use Rattle.vm_types.specs.declared.call.Entry.{Entry}
-use Rattle.vm_types.specs.declared.call.Reply.TheVariants.{Io}
-use Rattle.vnode_files.specs.Files.{FilesSeen, vnode_at}
-use Rattle.vnode_files.specs.Layout.{disk_of_file}
-use Rattle.vnode_files.specs.Grow.{page_count}
-use Rattle.vnode_files.specs.Vnode.{VnodeSeen, IsSoundVnode, no_vnode}
-use Rattle.flat_model.specs.Flat.{Flat}
-use Rattle.vm_world.specs.DiskPlaces.{faults_in, seen_in}
-use Rattle.vm_world.specs.Events.{IsEvent}
-use Rattle.vm_world.specs.MemoryFits.{MemoryFits}
-use Rattle.vm_world.specs.NotesFit.{NotesFit}
-use Rattle.vm_world.specs.Opening.{no_seats}
-use Rattle.vm_world.specs.Segments.{Spaces}
-use Rattle.vm_world.specs.State.{KernelState, Fixed, Seats}
-use Rattle.vm_world.specs.StateFits.{StateFits}
-use Rattle.vm_world.specs.World.{World, AllTell, world_table, slot_name}
-use Rattle.vm_world.proofs.PageNames.{index-of, page-cases, file-place, slot-place}
-use Rattle.vm_world.proofs.StateSteps.{same-seats, size_of}
-use Rattle.vm_world.proofs.FlatWhole.{some-inj}
-use Rattle.vm_world.proofs.Told.{event_law}
+use Rattle.volume_files.specs.block_device.DiskSeen.{DiskSeen, HasBlocks}
+use Rattle.volume_files.specs.block_device.declared.disk_fault.DiskFault.{DiskFault}
+use Rattle.vm_core.specs.page_hash.declared.PageName.{PageName}
+use Rattle.vm_core.specs.page_store.Bays.{BaySeen, missing, home, out, bay_at, bay_of, disk_in, home_faults, no_disk, IsStill}
+use Rattle.vm_core.specs.page_store.Notes.{no_notes}
+use Rattle.vm_core.specs.page_store.declared.place.Place.{Place}
+use Rattle.vm_core.specs.page_store.Value.{tells, content_in_bay}
+use Rattle.volume_files.specs.vm_types.declared.call.Entry.{Entry}
+use Rattle.volume_files.specs.vm_types.declared.call.Reply.TheVariants.{Io}
+use Rattle.volume_files.specs.vnode_files.Files.{FilesSeen, vnode_at}
+use Rattle.volume_files.specs.vnode_files.Layout.{disk_of_file}
+use Rattle.volume_files.specs.vnode_files.Grow.{page_count}
+use Rattle.volume_files.specs.vnode_files.Vnode.{VnodeSeen, IsSoundVnode, no_vnode}
+use Rattle.volume_files.specs.flat_model.Flat.{Flat}
+use Rattle.vm_core.specs.vm_world.DiskPlaces.{faults_in, seen_in}
+use Rattle.vm_core.specs.vm_world.Events.{IsEvent}
+use Rattle.vm_core.specs.vm_world.MemoryFits.{MemoryFits}
+use Rattle.vm_core.specs.vm_world.NotesFit.{NotesFit}
+use Rattle.vm_core.specs.vm_world.Opening.{no_seats}
+use Rattle.vm_core.specs.vm_world.Segments.{Spaces}
+use Rattle.vm_core.specs.vm_world.State.{KernelState, Fixed, Seats}
+use Rattle.vm_core.specs.vm_world.StateFits.{StateFits}
+use Rattle.vm_core.specs.vm_world.World.{World, AllTell, world_table, slot_name}
+use Rattle.vm_core.proofs.vm_world.PageNames.{index-of, page-cases, file-place, slot-place}
+use Rattle.vm_core.proofs.vm_world.StateSteps.{same-seats, size_of}
+use Rattle.vm_core.proofs.vm_world.FlatWhole.{some-inj}
+use Rattle.vm_core.proofs.vm_world.Told.{event_law}
 use Rattle.vm_core.specs.Closing.{AreDisksOf}
 use Rattle.vm_core.specs.Finish.{disk_at, disks_of, HoldAllFiles, IsLastFault, KeepsDisk, KeepDisks, KeepsOtherBlocks, KeepRecords}
 use Rattle.vm_core.proofs.Fills.{are-kept, number-of}

@@ -2,18 +2,18 @@
 use Rattle.std.proofs.Common.{◌≡◌, ℕ, zero, suc, ◌≤◌, ◌<◌, ◌^◌, List, [], ◌∷◌, length, map, refl, sym, ap, ◌∙◌, subst, arith}
 use Rattle.std.specs.Prelude.{Bool, IsTrue, None, Ok, Option}
 use Rattle.std.proofs.lemmas.List.{length-map}
-use Rattle.block_device.specs.DiskSeen.{DiskSeen}
-use Rattle.block_device.specs.StreamSeen.{SinkSeen}
-use Rattle.block_device.specs.declared.rack.Spec.{Spec}
+use Rattle.volume_files.specs.block_device.DiskSeen.{DiskSeen}
+use Rattle.volume_files.specs.block_device.StreamSeen.{SinkSeen}
+use Rattle.volume_files.specs.block_device.declared.rack.Spec.{Spec}
 use Rattle.vm_core.specs.Finish.{HistorySeen}
-use Rattle.vm_script.specs.PlanSeen.{PlanSeen}
-use Rattle.vm_script.specs.Rules.{broken_rule}
-use Rattle.vm_script.specs.Told.{Told, ToldFront}
-use Rattle.vm_world.specs.State.{FileMode, KernelState, mode_of}
-use Rattle.vnode_files.specs.Files.{FilesSeen}
-use Rattle.vnode_files.specs.Vnode.{VnodeSeen}
-use Rattle.vnode_files.specs.declared.vnode.FileInfo.{FileInfo}
-use Rattle.volume_format.specs.Volume.{IsVolumeName}
+use Rattle.volume_files.specs.vm_script.PlanSeen.{PlanSeen}
+use Rattle.volume_files.specs.vm_script.Rules.{broken_rule}
+use Rattle.volume_files.specs.vm_script.Told.{Told, ToldFront}
+use Rattle.vm_core.specs.vm_world.State.{FileMode, KernelState, mode_of}
+use Rattle.volume_files.specs.vnode_files.Files.{FilesSeen}
+use Rattle.volume_files.specs.vnode_files.Vnode.{VnodeSeen}
+use Rattle.volume_files.specs.vnode_files.declared.vnode.FileInfo.{FileInfo}
+use Rattle.volume_files.specs.volume_format.Volume.{IsVolumeName}
 use Rattle.vm_run.specs.declared.ending.Ending.{Ending}
 use Rattle.vm_run.specs.declared.ending.Ending.TheVariants as ending
 use Rattle.command_line.specs.declared.options.Options.{Options}

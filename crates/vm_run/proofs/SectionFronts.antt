@@ -1,8 +1,8 @@
 -- The text up to the place of a page is a front of that of all files.
 use Rattle.std.proofs.Common.{◌≡◌, ℕ, zero, suc, ◌+◌, ◌*◌, ◌<◌, List, [], ◌∷◌, ◌++◌, length, take, sym, ap, ◌∙◌, subst, arith, append_assoc}
-use Rattle.block_device.specs.StreamSeen.{SinkSeen}
-use Rattle.vnode_files.specs.declared.vnode.FileInfo.{FileInfo}
-use Rattle.vm_report.specs.Report.{file_lines}
+use Rattle.volume_files.specs.block_device.StreamSeen.{SinkSeen}
+use Rattle.volume_files.specs.vnode_files.declared.vnode.FileInfo.{FileInfo}
+use Rattle.volume_files.specs.vm_report.Report.{file_lines}
 use Rattle.volume_files.specs.declared.showing.Heading.{Heading}
 use Rattle.volume_files.specs.Closed.{info_at}
 use Rattle.volume_files.specs.Texts.{Wrote, WroteAndFront, file_section, file_sections, files_from, heading_text, sections_before}

@@ -1,7 +1,7 @@
 -- What a sink took, one piece after another.
 use Rattle.std.proofs.Common.{◌≡◌, ℕ, ◌≤◌, List, [], ◌++◌, length, take, sym, ap, ◌∙◌, arith, inl, inr}
 use Rattle.std.proofs.lemmas.List.{take_all, take-append-le}
-use Rattle.block_device.specs.StreamSeen.{SinkSeen, text_with_more}
+use Rattle.volume_files.specs.block_device.StreamSeen.{SinkSeen, text_with_more}
 use Rattle.volume_files.specs.Texts.{Wrote, WroteAndFront, WroteAndPart, WroteFront, WroteOn, WrotePart}
 use Rattle.volume_files.proofs.WrittenTexts.{risen_since, wrote_then}
 

@@ -6,16 +6,16 @@ use Rattle.std.specs.List.{cons_option, find, list_any, range_with_len}
 use Rattle.std.proofs.lemmas.Bool.{cases_eq, eq-eqb, ne_eqb}
 use Rattle.std.proofs.lemmas.Bool.Decides.{nat_tests}
 use Rattle.std.proofs.lemmas.List.Sums.{sum_by-cons}
-use Rattle.block_device.specs.RackSeen.{spec_number}
-use Rattle.block_device.specs.declared.rack.Spec.{Spec}
-use Rattle.block_device.specs.declared.rack.Spec.TheVariants as spec
-use Rattle.page_store.specs.Bays.{AreNumbers}
-use Rattle.vm_script.specs.declared.plan.SetupAct.{SetupAct}
-use Rattle.vm_script.specs.declared.plan.SetupAct.TheVariants as given
-use Rattle.vm_script.specs.declared.plan.SetupLine.{SetupLine}
-use Rattle.vm_script.specs.Counts.{entry_count}
-use Rattle.vm_script.specs.PlanSeen.{PlanSeen}
-use Rattle.vm_script.specs.Rules.{amounts_of, gives_a_disk, gives_disk, disk_line_count, is_from_to, has_wrong_frames, has_wrong_disk, lacks_disk, is_wrong_file, broken_rule}
+use Rattle.volume_files.specs.block_device.RackSeen.{spec_number}
+use Rattle.volume_files.specs.block_device.declared.rack.Spec.{Spec}
+use Rattle.volume_files.specs.block_device.declared.rack.Spec.TheVariants as spec
+use Rattle.vm_core.specs.page_store.Bays.{AreNumbers}
+use Rattle.volume_files.specs.vm_script.declared.plan.SetupAct.{SetupAct}
+use Rattle.volume_files.specs.vm_script.declared.plan.SetupAct.TheVariants as given
+use Rattle.volume_files.specs.vm_script.declared.plan.SetupLine.{SetupLine}
+use Rattle.volume_files.specs.vm_script.Counts.{entry_count}
+use Rattle.volume_files.specs.vm_script.PlanSeen.{PlanSeen}
+use Rattle.volume_files.specs.vm_script.Rules.{amounts_of, gives_a_disk, gives_disk, disk_line_count, is_from_to, has_wrong_frames, has_wrong_disk, lacks_disk, is_wrong_file, broken_rule}
 use Rattle.volume_files.specs.Opened.{given_disk, disk_numbered, disk_specs}
 
 -- a rule that isn't broken, and those behind it

@@ -7,16 +7,16 @@ use Rattle.std.specs.List.{AllByRecursion}
 use Rattle.std.proofs.lemmas.List.{length-map, get_or-map}
 use Rattle.std.proofs.lemmas.List.Elements.{recursion_from_All}
 use Rattle.std.proofs.lemmas.Option.{slice_get-get_or}
-use Rattle.block_device.specs.DiskSeen.{DiskSeen}
-use Rattle.block_device.specs.declared.rack.Spec.{Spec}
-use Rattle.vnode_files.specs.declared.extent.Extent.{Extent}
-use Rattle.vnode_files.specs.declared.vnode.FileInfo.{FileInfo}
-use Rattle.vnode_files.specs.Files.{FilesSeen, vnode_at}
-use Rattle.vnode_files.specs.Grow.{page_count}
-use Rattle.vnode_files.specs.Vnode.{VnodeSeen, fresh_vnode, no_vnode}
-use Rattle.volume_format.specs.Table.{TableSeen, no_entry}
+use Rattle.volume_files.specs.block_device.DiskSeen.{DiskSeen}
+use Rattle.volume_files.specs.block_device.declared.rack.Spec.{Spec}
+use Rattle.volume_files.specs.vnode_files.declared.extent.Extent.{Extent}
+use Rattle.volume_files.specs.vnode_files.declared.vnode.FileInfo.{FileInfo}
+use Rattle.volume_files.specs.vnode_files.Files.{FilesSeen, vnode_at}
+use Rattle.volume_files.specs.vnode_files.Grow.{page_count}
+use Rattle.volume_files.specs.vnode_files.Vnode.{VnodeSeen, fresh_vnode, no_vnode}
+use Rattle.volume_files.specs.volume_format.Table.{TableSeen, no_entry}
 use Rattle.vm_core.specs.Setup.{FilesOnDisks}
-use Rattle.vm_script.specs.PlanSeen.{PlanSeen}
+use Rattle.volume_files.specs.vm_script.PlanSeen.{PlanSeen}
 use Rattle.volume_files.specs.Attached.{AttachedSeen, ArePlaced}
 use Rattle.volume_files.specs.Opened.{AreTablesRead, OpenedFile, disk_specs, infos_of}
 use Rattle.volume_files.specs.Placing.{HasOpened}

@@ -5,35 +5,35 @@ use Rattle.std.specs.FinMap as finite
 use Rattle.std.specs.FinSet as set
 use Rattle.std.proofs.lemmas.List.{length-map, get_or-map}
 use Rattle.std.proofs.lemmas.Option.{slice_get_within}
-use Rattle.addr_space.specs.Space.{Part}
-use Rattle.block_device.specs.DiskSeen.{DiskSeen, HasBlocks, AreBlocks}
-use Rattle.flat_model.specs.Flat.{Flat}
-use Rattle.flat_model.specs.Words.{pages_in}
-use Rattle.flat_model.proofs.FileBytes.{Whole}
-use Rattle.page_store.specs.Bays.{BaySeen, home, bay_at}
-use Rattle.page_store.specs.New.{AreHome}
-use Rattle.page_store.specs.Notes.{no_notes}
-use Rattle.page_store.specs.Value.{content_of, content_in_bay, tells}
-use Rattle.page_store.specs.declared.place.Place.{Place}
-use Rattle.vnode_files.specs.declared.vnode.FileInfo.{FileInfo}
-use Rattle.vnode_files.specs.Files.{vnode_at, block_count}
-use Rattle.vnode_files.specs.Grow.{page_count}
-use Rattle.vnode_files.specs.Vnode.{VnodeSeen, no_vnode, page_blocks, fresh_vnode, IsSoundVnode}
-use Rattle.vnode_files.proofs.BlockLemmas.{length-page_blocks}
-use Rattle.vnode_files.proofs.LayoutLaws.{file_layout_law}
-use Rattle.volume_format.specs.Table.{no_entry}
-use Rattle.vm_world.specs.FlatMemory.{flat_memory, files_with_pages, shape_of}
-use Rattle.vm_world.specs.HistoryFits.{HistoryFits}
-use Rattle.vm_world.specs.Opening.{IsOpening, no_seats}
-use Rattle.vm_world.specs.Pages.{page_value, file_contents, contents_of}
-use Rattle.vm_world.specs.declared.segment.Segment.{Segment}
-use Rattle.vm_world.specs.State.{KernelState, is_top}
-use Rattle.vm_world.specs.StateFits.{StateFits}
-use Rattle.vm_world.specs.World.{file_name, AllTell}
-use Rattle.vm_world.proofs.PageNames.{file-page, file-place, below-kept, index-of, file-there}
-use Rattle.vm_world.proofs.Spaces.{EmptySpaces}
-use Rattle.vm_script.specs.PlanSeen.{PlanSeen}
-use Rattle.vm_script.specs.Rules.{amounts_of}
+use Rattle.vm_core.specs.addr_space.Space.{Part}
+use Rattle.volume_files.specs.block_device.DiskSeen.{DiskSeen, HasBlocks, AreBlocks}
+use Rattle.volume_files.specs.flat_model.Flat.{Flat}
+use Rattle.volume_files.specs.flat_model.Words.{pages_in}
+use Rattle.volume_files.proofs.flat_model.FileBytes.{Whole}
+use Rattle.vm_core.specs.page_store.Bays.{BaySeen, home, bay_at}
+use Rattle.vm_core.specs.page_store.New.{AreHome}
+use Rattle.vm_core.specs.page_store.Notes.{no_notes}
+use Rattle.vm_core.specs.page_store.Value.{content_of, content_in_bay, tells}
+use Rattle.vm_core.specs.page_store.declared.place.Place.{Place}
+use Rattle.volume_files.specs.vnode_files.declared.vnode.FileInfo.{FileInfo}
+use Rattle.volume_files.specs.vnode_files.Files.{vnode_at, block_count}
+use Rattle.volume_files.specs.vnode_files.Grow.{page_count}
+use Rattle.volume_files.specs.vnode_files.Vnode.{VnodeSeen, no_vnode, page_blocks, fresh_vnode, IsSoundVnode}
+use Rattle.volume_files.proofs.vnode_files.BlockLemmas.{length-page_blocks}
+use Rattle.volume_files.proofs.vnode_files.LayoutLaws.{file_layout_law}
+use Rattle.volume_files.specs.volume_format.Table.{no_entry}
+use Rattle.vm_core.specs.vm_world.FlatMemory.{flat_memory, files_with_pages, shape_of}
+use Rattle.vm_core.specs.vm_world.HistoryFits.{HistoryFits}
+use Rattle.vm_core.specs.vm_world.Opening.{IsOpening, no_seats}
+use Rattle.vm_core.specs.vm_world.Pages.{page_value, file_contents, contents_of}
+use Rattle.vm_core.specs.vm_world.declared.segment.Segment.{Segment}
+use Rattle.vm_core.specs.vm_world.State.{KernelState, is_top}
+use Rattle.vm_core.specs.vm_world.StateFits.{StateFits}
+use Rattle.vm_core.specs.vm_world.World.{file_name, AllTell}
+use Rattle.vm_core.proofs.vm_world.PageNames.{file-page, file-place, below-kept, index-of, file-there}
+use Rattle.vm_core.proofs.vm_world.Spaces.{EmptySpaces}
+use Rattle.volume_files.specs.vm_script.PlanSeen.{PlanSeen}
+use Rattle.volume_files.specs.vm_script.Rules.{amounts_of}
 use Rattle.volume_files.specs.Closed.{StoreFiles, info_at}
 use Rattle.volume_files.specs.Opened.{OpenedFile, stored_bytes, opened_flat_file, infos_of, opened_bytes_at, opening_flat, top_processes}
 use Rattle.volume_files.specs.Written.{LieWell, HaveDisks}

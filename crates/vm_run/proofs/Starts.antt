@@ -3,21 +3,21 @@ use Rattle.std.proofs.Common.{◌≡◌, ℕ, suc, ◌+◌, ◌<◌, ◌≤◌, 
 use Rattle.std.specs.Prelude.{slice_index_or, option_map, is_some}
 use Rattle.std.proofs.lemmas.Bool.{ne_eqb}
 use Rattle.std.proofs.lemmas.List.{length-map}
-use Rattle.block_device.specs.DiskSeen.{DiskSeen}
-use Rattle.block_device.specs.RackSeen.{spec_number}
-use Rattle.block_device.specs.declared.numbered.NumberedDisk.{NumberedDisk}
-use Rattle.block_device.specs.declared.rack.Spec.{Spec}
-use Rattle.page_store.specs.Bays.{BaySeen, home, bay_at, disk_in, disks_in, AreNumbers, numbers_of, pairs_seen}
-use Rattle.page_store.specs.New.{AreHome}
-use Rattle.page_store.specs.Notes.{no_notes}
-use Rattle.vnode_files.specs.Files.{FilesSeen}
+use Rattle.volume_files.specs.block_device.DiskSeen.{DiskSeen}
+use Rattle.volume_files.specs.block_device.RackSeen.{spec_number}
+use Rattle.volume_files.specs.block_device.declared.numbered.NumberedDisk.{NumberedDisk}
+use Rattle.volume_files.specs.block_device.declared.rack.Spec.{Spec}
+use Rattle.vm_core.specs.page_store.Bays.{BaySeen, home, bay_at, disk_in, disks_in, AreNumbers, numbers_of, pairs_seen}
+use Rattle.vm_core.specs.page_store.New.{AreHome}
+use Rattle.vm_core.specs.page_store.Notes.{no_notes}
+use Rattle.volume_files.specs.vnode_files.Files.{FilesSeen}
 use Rattle.vm_core.specs.Setup.{disk_total, SwapServes}
-use Rattle.vm_script.specs.PlanSeen.{PlanSeen}
-use Rattle.vm_script.specs.Rules.{amounts_of, broken_rule}
-use Rattle.vm_world.specs.FlatMemory.{flat_memory}
-use Rattle.vm_world.specs.Opening.{IsOpening, no_seats}
-use Rattle.vm_world.specs.State.{KernelState}
-use Rattle.vm_world.specs.StateFits.{StateFits}
+use Rattle.volume_files.specs.vm_script.PlanSeen.{PlanSeen}
+use Rattle.volume_files.specs.vm_script.Rules.{amounts_of, broken_rule}
+use Rattle.vm_core.specs.vm_world.FlatMemory.{flat_memory}
+use Rattle.vm_core.specs.vm_world.Opening.{IsOpening, no_seats}
+use Rattle.vm_core.specs.vm_world.State.{KernelState}
+use Rattle.vm_core.specs.vm_world.StateFits.{StateFits}
 use Rattle.volume_files.specs.declared.attaching.Attached.{Attached}
 use Rattle.vm_run.specs.declared.ending.Stop.{Stop}
 use Rattle.volume_files.specs.Attached.{AttachedSeen, ArePlaced, attached_seen, numbered_seen, bare_disks}

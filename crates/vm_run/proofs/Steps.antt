@@ -3,16 +3,16 @@ use Rattle.std.proofs.Common.{◌≡◌, ℕ, zero, suc, ◌+◌, ◌<◌, ◌�
 use Rattle.std.specs.Prelude.{All, IsTrue, IsFalse, slice_index_or}
 use Rattle.std.proofs.lemmas.List.{take_more, map_push, length-map, get_or-map}
 use Rattle.std.proofs.lemmas.List.Elements.{All-nil, All-cons, All-append, All-head, All-tail}
-use Rattle.vm_types.specs.declared.call.Call.{Call}
-use Rattle.vm_types.specs.declared.call.Call.TheVariants.{Exit}
-use Rattle.vm_types.specs.declared.call.Entry.{Entry}
-use Rattle.vm_types.specs.WellFormed.{IsWellFormed}
+use Rattle.volume_files.specs.vm_types.declared.call.Call.{Call}
+use Rattle.volume_files.specs.vm_types.declared.call.Call.TheVariants.{Exit}
+use Rattle.volume_files.specs.vm_types.declared.call.Entry.{Entry}
+use Rattle.volume_files.specs.vm_types.WellFormed.{IsWellFormed}
 use Rattle.vm_core.specs.Calls.{IsOnOwnSpace}
-use Rattle.vm_script.specs.declared.plan.PlanLine.{PlanLine}
-use Rattle.vm_world.specs.Events.{IsEvent}
-use Rattle.vm_world.specs.HistoryFits.{is_exit}
-use Rattle.vm_world.specs.State.{KernelState, Fixed, is_top, room_of}
-use Rattle.vm_world.proofs.Told.{event_law}
+use Rattle.volume_files.specs.vm_script.declared.plan.PlanLine.{PlanLine}
+use Rattle.vm_core.specs.vm_world.Events.{IsEvent}
+use Rattle.vm_core.specs.vm_world.HistoryFits.{is_exit}
+use Rattle.vm_core.specs.vm_world.State.{KernelState, Fixed, is_top, room_of}
+use Rattle.vm_core.proofs.vm_world.Told.{event_law}
 use Rattle.vm_run.specs.Lines.{line_call, line_calls, MayBeMade, AreLines, MayGoOn, HasOneMore, HasCome}
 use Rattle.vm_run.proofs.BlockLines.{served-line}
 

@@ -4,17 +4,17 @@ use Rattle.std.proofs.Common.{inl, inr, subst, arith, take-append-drop, eq-eqb, 
 use Rattle.std.specs.Prelude.{All, IsTrue, MatchOption, filter, flat_map}
 use Rattle.std.proofs.lemmas.List.{get_or_at, take-map}
 use Rattle.std.proofs.lemmas.List.Elements.{All-nil, All-cons, All-head, All-tail}
-use Rattle.vm_types.specs.declared.call.Call.{Call}
-use Rattle.vm_types.specs.declared.call.Entry.{Entry}
-use Rattle.vm_types.specs.Parts.{part_bytes}
-use Rattle.flat_model.specs.Told.{Spells, SpellsAll, entries_of}
+use Rattle.volume_files.specs.vm_types.declared.call.Call.{Call}
+use Rattle.volume_files.specs.vm_types.declared.call.Entry.{Entry}
+use Rattle.volume_files.specs.vm_types.Parts.{part_bytes}
+use Rattle.volume_files.specs.flat_model.Told.{Spells, SpellsAll, entries_of}
 use Rattle.vm_core.specs.Calls.{IsOnOwnSpace}
-use Rattle.vm_script.specs.declared.plan.PlanAct.{PlanAct}
-use Rattle.vm_script.specs.declared.plan.PlanAct.TheVariants as act
-use Rattle.vm_script.specs.declared.plan.PlanLine.{PlanLine}
-use Rattle.vm_script.specs.PlanSeen.{PlanSeen}
-use Rattle.vm_script.specs.Told.{Told, ToldFront, Spell, IsOneBlock, calls_of, own_lines, is_born, is_born_of, parent_of}
-use Rattle.vm_script.proofs.OneBlock.{told}
+use Rattle.volume_files.specs.vm_script.declared.plan.PlanAct.{PlanAct}
+use Rattle.volume_files.specs.vm_script.declared.plan.PlanAct.TheVariants as act
+use Rattle.volume_files.specs.vm_script.declared.plan.PlanLine.{PlanLine}
+use Rattle.volume_files.specs.vm_script.PlanSeen.{PlanSeen}
+use Rattle.volume_files.specs.vm_script.Told.{Told, ToldFront, Spell, IsOneBlock, calls_of, own_lines, is_born, is_born_of, parent_of}
+use Rattle.volume_files.proofs.vm_script.OneBlock.{told}
 use Rattle.vm_run.specs.Asked.{is_served_act}
 use Rattle.vm_run.specs.Lines.{line_call, line_calls}
 use Rattle.vm_run.proofs.BlockLines.{AreServed, PlaysOne, served-call, named-call}

@@ -6,17 +6,17 @@ use Rattle.std.specs.Map.{lookup}
 use Rattle.std.proofs.lemmas.Bool.{false≢true, ne_eqb}
 use Rattle.std.proofs.lemmas.List.{drop_all, length-map, take_all}
 use Rattle.std.proofs.lemmas.Option.{none-some, same_Some}
-use Rattle.block_device.specs.DiskSeen.{DiskSeen}
-use Rattle.block_device.specs.OpenSeen.{OpenFaultSeen}
-use Rattle.block_device.specs.StreamSeen.{SinkSeen}
-use Rattle.block_device.specs.declared.numbered.NumberedDisk.{NumberedDisk}
-use Rattle.block_device.specs.declared.rack.Spec.{Spec}
-use Rattle.flat_model.proofs.Bytes.{All-slice_get}
+use Rattle.volume_files.specs.block_device.DiskSeen.{DiskSeen}
+use Rattle.volume_files.specs.block_device.OpenSeen.{OpenFaultSeen}
+use Rattle.volume_files.specs.block_device.StreamSeen.{SinkSeen}
+use Rattle.volume_files.specs.block_device.declared.numbered.NumberedDisk.{NumberedDisk}
+use Rattle.volume_files.specs.block_device.declared.rack.Spec.{Spec}
+use Rattle.volume_files.proofs.flat_model.Bytes.{All-slice_get}
 use Rattle.vm_core.specs.Finish.{HistorySeen}
-use Rattle.vm_script.specs.PlanSeen.{PlanSeen}
-use Rattle.vnode_files.specs.Files.{FilesSeen}
-use Rattle.vnode_files.specs.Vnode.{VnodeSeen}
-use Rattle.vnode_files.specs.declared.vnode.FileInfo.{FileInfo}
+use Rattle.volume_files.specs.vm_script.PlanSeen.{PlanSeen}
+use Rattle.volume_files.specs.vnode_files.Files.{FilesSeen}
+use Rattle.volume_files.specs.vnode_files.Vnode.{VnodeSeen}
+use Rattle.volume_files.specs.vnode_files.declared.vnode.FileInfo.{FileInfo}
 use Rattle.vm_run.specs.declared.ending.Ending.{Ending}
 use Rattle.vm_run.specs.declared.ending.Ending.TheVariants as ending
 use Rattle.vm_run.specs.declared.ending.Stop.{Stop}
@@ -42,7 +42,7 @@ use Rattle.volume_files.proofs.WrittenTexts.{wrote_front}
 use Rattle.volume_files.proofs.FaultCauses.{if-counted}
 use Rattle.volume_files.proofs.DiskLists.{at-map, have-read, in-map, lookup-at, low-disks, mate, same-image, sizes-by, zip-back}
 use Rattle.volume_files.proofs.GivenFiles.{comes-sizes}
-use Rattle.vm_script.specs.Rules.{amounts_of}
+use Rattle.volume_files.specs.vm_script.Rules.{amounts_of}
 
 -- ---- disks that were only read
 

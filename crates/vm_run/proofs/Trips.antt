@@ -1,15 +1,15 @@
 -- A transfer from its begin to its end, and what a call made.
 use Rattle.std.proofs.Common.{◌≡◌, ℕ, ◌++◌, List, [], ◌∷◌, Option, Some, None, refl, ap, ◌∙◌}
-use Rattle.vm_types.specs.declared.call.Call.{Call}
-use Rattle.vm_types.specs.declared.call.Entry.{Entry}
-use Rattle.vm_types.specs.declared.call.Reply.{Reply}
+use Rattle.volume_files.specs.vm_types.declared.call.Call.{Call}
+use Rattle.volume_files.specs.vm_types.declared.call.Entry.{Entry}
+use Rattle.volume_files.specs.vm_types.declared.call.Reply.{Reply}
 use Rattle.vm_core.specs.Finish.{FitsStill}
 use Rattle.vm_core.specs.Fits.{FitsAt}
-use Rattle.page_store.specs.declared.plan.Plan.{Plan}
+use Rattle.vm_core.specs.page_store.declared.plan.Plan.{Plan}
 use Rattle.vm_core.specs.Flights.{EndsWith, IsKeptFor}
-use Rattle.vm_world.specs.Events.{IsEvent}
-use Rattle.vm_world.specs.State.{KernelState, KeptPlan, Caller, Sent, with_sent}
-use Rattle.vm_world.proofs.Told.{event_law}
+use Rattle.vm_core.specs.vm_world.Events.{IsEvent}
+use Rattle.vm_core.specs.vm_world.State.{KernelState, KeptPlan, Caller, Sent, with_sent}
+use Rattle.vm_core.proofs.vm_world.Told.{event_law}
 use Rattle.vm_run.specs.Lines.{HasOneMore, GrowsWith, MadeNothing}
 
 -- what a seat has outside once its flight left

@@ -1,8 +1,8 @@
 -- Want of memory hides no failure: what is said unless something failed, where memory lacked.
 use Rattle.std.proofs.Common.{◌≡◌, refl, subst, sym}
 use Rattle.std.specs.Prelude.{Result, Ok, Err}
-use Rattle.block_device.specs.OpenSeen.{OpenFaultSeen}
-use Rattle.block_device.specs.declared.disk_fault.DiskFault.{DiskFault}
+use Rattle.volume_files.specs.block_device.OpenSeen.{OpenFaultSeen}
+use Rattle.volume_files.specs.block_device.declared.disk_fault.DiskFault.{DiskFault}
 use Rattle.volume_files.specs.declared.showing.ShowStop.{ShowStop}
 use Rattle.volume_files.specs.declared.showing.ShowStop.TheVariants as show
 use Rattle.volume_files.specs.declared.stops.OpenStop.{OpenStop}

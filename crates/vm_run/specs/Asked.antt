@@ -1,19 +1,19 @@
 -- What a run is asked to do, by its words and by the script or the number of a generated one. Public clauses cite this.
 use Rattle.std.specs.Prelude.{ℕ, not, nat_lt, ◌||◌, Bool, true, false, List, length, ◌≡◌, Option, Some, None, IfSome, option_map, Result, Ok, Err, if◌then◌else◌}
 use Rattle.std.specs.List.{list_all}
-use Rattle.vm_types.specs.declared.call.Call.{Call}
-use Rattle.vm_types.specs.declared.call.Call.TheVariants as call
-use Rattle.block_device.specs.Counts.{HasRisen}
-use Rattle.block_device.specs.RackSeen.{RackSeen}
-use Rattle.block_device.specs.StreamSeen.{SourceSeen}
-use Rattle.block_device.specs.declared.rack.Spec.{Spec}
-use Rattle.vm_script.specs.declared.fault.ScriptFault.{ScriptFault}
-use Rattle.vm_script.specs.declared.plan.PlanAct.{PlanAct}
-use Rattle.vm_script.specs.declared.plan.PlanAct.TheVariants as act
-use Rattle.vm_script.specs.Generated.{generated_text}
-use Rattle.vm_script.specs.PlanSeen.{PlanSeen}
-use Rattle.vm_script.specs.Plans.{plan_of}
-use Rattle.vm_script.specs.Rules.{broken_rule}
+use Rattle.volume_files.specs.vm_types.declared.call.Call.{Call}
+use Rattle.volume_files.specs.vm_types.declared.call.Call.TheVariants as call
+use Rattle.volume_files.specs.block_device.Counts.{HasRisen}
+use Rattle.volume_files.specs.block_device.RackSeen.{RackSeen}
+use Rattle.volume_files.specs.block_device.StreamSeen.{SourceSeen}
+use Rattle.volume_files.specs.block_device.declared.rack.Spec.{Spec}
+use Rattle.volume_files.specs.vm_script.declared.fault.ScriptFault.{ScriptFault}
+use Rattle.volume_files.specs.vm_script.declared.plan.PlanAct.{PlanAct}
+use Rattle.volume_files.specs.vm_script.declared.plan.PlanAct.TheVariants as act
+use Rattle.volume_files.specs.vm_script.Generated.{generated_text}
+use Rattle.volume_files.specs.vm_script.PlanSeen.{PlanSeen}
+use Rattle.volume_files.specs.vm_script.Plans.{plan_of}
+use Rattle.volume_files.specs.vm_script.Rules.{broken_rule}
 use Rattle.volume_files.specs.declared.stops.Refusal.TheVariants as refusal
 use Rattle.vm_run.specs.declared.ending.Ending.{Ending}
 use Rattle.vm_run.specs.declared.ending.Ending.TheVariants as ending

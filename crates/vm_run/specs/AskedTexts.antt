@@ -1,11 +1,11 @@
 -- The text that a run prints, by what it was asked. Public clauses cite this.
 use Rattle.std.specs.Prelude.{ℕ, List, [], ◌++◌, Option, Some, None, if◌then◌else◌}
-use Rattle.vm_types.specs.declared.call.Entry.{Entry}
-use Rattle.vnode_files.specs.declared.vnode.FileInfo.{FileInfo}
-use Rattle.vm_report.specs.Report.{process_sections}
-use Rattle.vm_report.specs.Summary.{summary}
-use Rattle.vm_report.specs.Trace.{entries_text}
-use Rattle.vm_script.specs.PlanSeen.{PlanSeen}
+use Rattle.volume_files.specs.vm_types.declared.call.Entry.{Entry}
+use Rattle.volume_files.specs.vnode_files.declared.vnode.FileInfo.{FileInfo}
+use Rattle.volume_files.specs.vm_report.Report.{process_sections}
+use Rattle.volume_files.specs.vm_report.Summary.{summary}
+use Rattle.volume_files.specs.vm_report.Trace.{entries_text}
+use Rattle.volume_files.specs.vm_script.PlanSeen.{PlanSeen}
 use Rattle.volume_files.specs.declared.showing.Heading.TheVariants.{Report, Trace}
 use Rattle.volume_files.specs.Texts.{file_sections, trace_front}
 use Rattle.command_line.specs.declared.options.Options.{Options}

@@ -1,22 +1,22 @@
 -- How far a run has come, between its steps. Inside: no clause of `run` cites this.
 use Rattle.std.specs.Prelude.{ℕ, ◌≡◌, ◌⊎◌, ◌++◌, Bool, false, true, List, [], length, Option, Some, None, Result, Ok, Err, slice_get}
-use Rattle.vm_types.specs.declared.call.Entry.{Entry}
-use Rattle.block_device.specs.Counts.{HasRisen}
-use Rattle.block_device.specs.DiskSeen.{DiskSeen}
-use Rattle.block_device.specs.StreamSeen.{SinkSeen}
-use Rattle.block_device.specs.declared.disk_fault.DiskFault.{DiskFault}
-use Rattle.vnode_files.specs.Files.{FilesSeen}
-use Rattle.vnode_files.specs.declared.vnode.FileInfo.{FileInfo}
-use Rattle.vm_report.specs.Faults.{disk_fault_text}
-use Rattle.vm_script.specs.PlanSeen.{PlanSeen}
-use Rattle.vm_script.specs.Plans.{plan_of}
-use Rattle.vm_script.specs.Rules.{broken_rule}
+use Rattle.volume_files.specs.vm_types.declared.call.Entry.{Entry}
+use Rattle.volume_files.specs.block_device.Counts.{HasRisen}
+use Rattle.volume_files.specs.block_device.DiskSeen.{DiskSeen}
+use Rattle.volume_files.specs.block_device.StreamSeen.{SinkSeen}
+use Rattle.volume_files.specs.block_device.declared.disk_fault.DiskFault.{DiskFault}
+use Rattle.volume_files.specs.vnode_files.Files.{FilesSeen}
+use Rattle.volume_files.specs.vnode_files.declared.vnode.FileInfo.{FileInfo}
+use Rattle.volume_files.specs.vm_report.Faults.{disk_fault_text}
+use Rattle.volume_files.specs.vm_script.PlanSeen.{PlanSeen}
+use Rattle.volume_files.specs.vm_script.Plans.{plan_of}
+use Rattle.volume_files.specs.vm_script.Rules.{broken_rule}
 use Rattle.vm_run.specs.declared.ending.Ending.{Ending}
 use Rattle.vm_run.specs.declared.ending.Ending.TheVariants as ending
 use Rattle.vm_run.specs.declared.ending.Stop.{Stop}
 use Rattle.command_line.specs.declared.options.Options.{Options}
 use Rattle.vm_run.specs.declared.outcome.RunFault.{RunFault}
-use Rattle.block_device.specs.OpenSeen.{OpenFaultSeen}
+use Rattle.volume_files.specs.block_device.OpenSeen.{OpenFaultSeen}
 use Rattle.volume_files.specs.declared.showing.Heading.TheVariants.{Report, Trace}
 use Rattle.volume_files.specs.declared.showing.ShowStop.{ShowStop}
 use Rattle.volume_files.specs.declared.showing.ShowStop.TheVariants as show

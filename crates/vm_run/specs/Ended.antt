@@ -1,11 +1,11 @@
 -- How a run ended, as its caller sees it: its history and its disks. Public clauses cite this.
 use Rattle.std.specs.Prelude.{ℕ, ◌≡◌, ◌≤◌, List, map, Option, Some, None, IsSomeAnd, slice_get, slice_index_or, option_map}
-use Rattle.vm_types.specs.declared.call.Entry.{Entry}
-use Rattle.vm_types.specs.declared.call.Reply.TheVariants.{Io}
-use Rattle.block_device.specs.DiskSeen.{DiskSeen}
-use Rattle.block_device.specs.declared.disk_fault.DiskFault.{DiskFault}
+use Rattle.volume_files.specs.vm_types.declared.call.Entry.{Entry}
+use Rattle.volume_files.specs.vm_types.declared.call.Reply.TheVariants.{Io}
+use Rattle.volume_files.specs.block_device.DiskSeen.{DiskSeen}
+use Rattle.volume_files.specs.block_device.declared.disk_fault.DiskFault.{DiskFault}
 use Rattle.vm_core.specs.Finish.{HistorySeen}
-use Rattle.vm_script.specs.PlanSeen.{PlanSeen}
+use Rattle.volume_files.specs.vm_script.PlanSeen.{PlanSeen}
 use Rattle.volume_files.specs.Handed.{IsCountedBy, disk_handed}
 use Rattle.vm_run.specs.declared.ending.Stop.{Stop}
 use Rattle.vm_run.specs.declared.outcome.RunFault.{RunFault}

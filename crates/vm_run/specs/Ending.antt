@@ -1,7 +1,7 @@
 -- How a run ends, and what follows for its status, its fault and the line that it prints last. Public clauses cite this.
 use Rattle.std.specs.Prelude.{ℕ, List, [], codes, ◌++◌, ◌∷◌, Option, Some, None}
-use Rattle.block_device.specs.OpenSeen.{OpenFaultSeen}
-use Rattle.vm_report.specs.Faults.{usage_text, read_fault_text, script_fault_text, setup_fault_text, volume_fault_text, disk_fault_text, rack_fault_text}
+use Rattle.volume_files.specs.block_device.OpenSeen.{OpenFaultSeen}
+use Rattle.volume_files.specs.vm_report.Faults.{usage_text, read_fault_text, script_fault_text, setup_fault_text, volume_fault_text, disk_fault_text, rack_fault_text}
 use Rattle.volume_files.specs.declared.stops.OpenStop.{OpenStop}
 use Rattle.volume_files.specs.declared.stops.OpenStop.TheVariants as halt
 use Rattle.volume_files.specs.declared.stops.Refusal.{Refusal}

@@ -1,17 +1,17 @@
 -- How far the lines of a plan have come. Inside: no clause of `run` cites this.
 use Rattle.std.specs.Prelude.{ℕ, suc, ◌≡◌, ◌<◌, ◌++◌, List, [], ◌∷◌, length, map, take, All, Option, Some, None, IsTrue, IsFalse, slice_index_or}
-use Rattle.vm_types.specs.declared.call.Call.{Call}
-use Rattle.vm_types.specs.declared.call.Call.TheVariants.{Exit}
-use Rattle.vm_types.specs.declared.call.Entry.{Entry}
-use Rattle.vm_types.specs.declared.call.Reply.{Reply}
-use Rattle.vm_types.specs.WellFormed.{IsWellFormed}
+use Rattle.volume_files.specs.vm_types.declared.call.Call.{Call}
+use Rattle.volume_files.specs.vm_types.declared.call.Call.TheVariants.{Exit}
+use Rattle.volume_files.specs.vm_types.declared.call.Entry.{Entry}
+use Rattle.volume_files.specs.vm_types.declared.call.Reply.{Reply}
+use Rattle.volume_files.specs.vm_types.WellFormed.{IsWellFormed}
 use Rattle.vm_core.specs.Calls.{IsOnOwnSpace}
-use Rattle.vm_script.specs.declared.plan.PlanAct.{PlanAct}
-use Rattle.vm_script.specs.declared.plan.PlanAct.TheVariants as act
-use Rattle.vm_script.specs.declared.plan.PlanLine.{PlanLine}
-use Rattle.vm_world.specs.Events.{IsEvent}
-use Rattle.vm_world.specs.HistoryFits.{is_exit}
-use Rattle.vm_world.specs.State.{KernelState, Caller, is_top, room_of}
+use Rattle.volume_files.specs.vm_script.declared.plan.PlanAct.{PlanAct}
+use Rattle.volume_files.specs.vm_script.declared.plan.PlanAct.TheVariants as act
+use Rattle.volume_files.specs.vm_script.declared.plan.PlanLine.{PlanLine}
+use Rattle.vm_core.specs.vm_world.Events.{IsEvent}
+use Rattle.vm_core.specs.vm_world.HistoryFits.{is_exit}
+use Rattle.vm_core.specs.vm_world.State.{KernelState, Caller, is_top, room_of}
 use Rattle.vm_run.specs.Asked.{is_served_act}
 
 -- The call of a line that makes one and is done at once.

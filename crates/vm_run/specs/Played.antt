@@ -1,34 +1,34 @@
 -- A kernel that is started, and what it leaves once its processes ran. Inside: no clause of `run` cites this.
 use Rattle.std.specs.Prelude.{ℕ, ◌≡◌, ◌<◌, ◌≤◌, ◌^◌, ◌⊎◌, List, false, length, map, All, Some, None, IfNone, IfSome, Option, option_map, slice_get, slice_index_or}
-use Rattle.vm_types.specs.declared.call.Entry.{Entry}
-use Rattle.vm_types.specs.declared.call.Reply.TheVariants.{Io}
-use Rattle.vm_types.specs.WellFormed.{IsWellFormed}
-use Rattle.block_device.specs.DiskSeen.{DiskSeen}
-use Rattle.block_device.specs.declared.disk_fault.DiskFault.{DiskFault}
-use Rattle.flat_model.specs.Counted.{Counted}
-use Rattle.flat_model.specs.Flat.{Flat}
-use Rattle.flat_model.specs.History.{Legal, replay}
-use Rattle.page_store.specs.Bays.{BaySeen, bay_at, bay_of, pairs_seen}
-use Rattle.vnode_files.specs.Files.{FilesSeen}
-use Rattle.vnode_files.specs.Vnode.{VnodeSeen}
+use Rattle.volume_files.specs.vm_types.declared.call.Entry.{Entry}
+use Rattle.volume_files.specs.vm_types.declared.call.Reply.TheVariants.{Io}
+use Rattle.volume_files.specs.vm_types.WellFormed.{IsWellFormed}
+use Rattle.volume_files.specs.block_device.DiskSeen.{DiskSeen}
+use Rattle.volume_files.specs.block_device.declared.disk_fault.DiskFault.{DiskFault}
+use Rattle.volume_files.specs.flat_model.Counted.{Counted}
+use Rattle.volume_files.specs.flat_model.Flat.{Flat}
+use Rattle.volume_files.specs.flat_model.History.{Legal, replay}
+use Rattle.vm_core.specs.page_store.Bays.{BaySeen, bay_at, bay_of, pairs_seen}
+use Rattle.volume_files.specs.vnode_files.Files.{FilesSeen}
+use Rattle.volume_files.specs.vnode_files.Vnode.{VnodeSeen}
 use Rattle.vm_core.specs.declared.finish.Finished.{Finished}
 use Rattle.vm_core.specs.Finish.{HistorySeen, disks_of}
-use Rattle.vm_script.specs.Counts.{entry_count}
-use Rattle.vm_script.specs.PlanSeen.{PlanSeen}
-use Rattle.vm_script.specs.Told.{own_lines}
-use Rattle.vm_world.specs.DiskPlaces.{seen_in}
-use Rattle.vm_world.specs.Opening.{IsOpening, no_seats}
-use Rattle.vm_world.specs.State.{KernelState, room_of, mode_of}
-use Rattle.vm_world.specs.StateFits.{StateFits}
-use Rattle.vm_script.specs.Sound.{IsSoundPlan}
+use Rattle.volume_files.specs.vm_script.Counts.{entry_count}
+use Rattle.volume_files.specs.vm_script.PlanSeen.{PlanSeen}
+use Rattle.volume_files.specs.vm_script.Told.{own_lines}
+use Rattle.vm_core.specs.vm_world.DiskPlaces.{seen_in}
+use Rattle.vm_core.specs.vm_world.Opening.{IsOpening, no_seats}
+use Rattle.vm_core.specs.vm_world.State.{KernelState, room_of, mode_of}
+use Rattle.vm_core.specs.vm_world.StateFits.{StateFits}
+use Rattle.volume_files.specs.vm_script.Sound.{IsSoundPlan}
 use Rattle.vm_run.specs.Asked.{is_later}
 use Rattle.volume_files.specs.Attached.{bare_disks}
 use Rattle.volume_files.specs.Closed.{StoreFiles, infos_in_flat, flat_bytes}
 use Rattle.volume_files.specs.Handed.{HaveTold}
 use Rattle.volume_files.specs.Written.{infos_made, LieWell, HaveDisks, HaveExtents, HasLastFault, disk_fault_counts}
-use Rattle.page_store.specs.Notes.{no_notes}
-use Rattle.vm_world.specs.World.{AllTell}
-use Rattle.vm_script.specs.Rules.{amounts_of}
+use Rattle.vm_core.specs.page_store.Notes.{no_notes}
+use Rattle.vm_core.specs.vm_world.World.{AllTell}
+use Rattle.volume_files.specs.vm_script.Rules.{amounts_of}
 
 -- Each process may make as many entries as its lines need.
 abbrev pub HasRoomForPlan : PlanSeen → List ℕ → Type 0

@@ -1,10 +1,10 @@
 -- How the script of a run is read, and how its last line is printed. Inside: no clause of `run` cites this.
 use Rattle.std.specs.Prelude.{ℕ, ◌≡◌, ◌≢◌, ◌⊎◌, List, [], Option, None, IfSome, Result, Ok, Err}
-use Rattle.block_device.specs.Counts.{HasRisen}
-use Rattle.block_device.specs.StreamSeen.{SinkSeen}
-use Rattle.vm_script.specs.declared.fault.ScriptFault.{ScriptFault}
-use Rattle.vm_script.specs.PlanSeen.{PlanSeen}
-use Rattle.vm_script.specs.Plans.{plan_of}
+use Rattle.volume_files.specs.block_device.Counts.{HasRisen}
+use Rattle.volume_files.specs.block_device.StreamSeen.{SinkSeen}
+use Rattle.volume_files.specs.vm_script.declared.fault.ScriptFault.{ScriptFault}
+use Rattle.volume_files.specs.vm_script.PlanSeen.{PlanSeen}
+use Rattle.volume_files.specs.vm_script.Plans.{plan_of}
 use Rattle.vm_run.specs.declared.ending.Ending.{Ending}
 use Rattle.vm_run.specs.declared.ending.Ending.TheVariants as ending
 use Rattle.command_line.specs.declared.options.Options.{Options}

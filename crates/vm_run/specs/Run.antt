@@ -1,19 +1,19 @@
 -- HOW A RUN ENDED, case by case. Public clauses cite this.
 use Rattle.std.specs.Prelude.{ℕ, ◌≡◌, ◌≢◌, ◌+◌, ◌⊎◌, Bool, true, List, [], ◌++◌, length, slice_get, IsSome, IsTrue, Option, Some, None, Ok, Err}
-use Rattle.vm_types.specs.declared.call.Entry.{Entry}
-use Rattle.block_device.specs.Counts.{HasRisen}
-use Rattle.block_device.specs.DiskSeen.{DiskSeen}
-use Rattle.block_device.specs.OpenSeen.{OpenFaultSeen}
-use Rattle.block_device.specs.RackSeen.{RackSeen}
-use Rattle.block_device.specs.StreamSeen.{SinkSeen, SourceSeen}
-use Rattle.block_device.specs.declared.disk_fault.DiskFault.{DiskFault}
-use Rattle.flat_model.specs.Counted.{Counted}
-use Rattle.flat_model.specs.Flat.{Flat}
-use Rattle.flat_model.specs.History.{Legal, replay}
-use Rattle.vnode_files.specs.declared.vnode.FileInfo.{FileInfo}
-use Rattle.vm_report.specs.Faults.{disk_fault_text}
-use Rattle.vm_script.specs.PlanSeen.{PlanSeen}
-use Rattle.vm_script.specs.Told.{Told, ToldFront}
+use Rattle.volume_files.specs.vm_types.declared.call.Entry.{Entry}
+use Rattle.volume_files.specs.block_device.Counts.{HasRisen}
+use Rattle.volume_files.specs.block_device.DiskSeen.{DiskSeen}
+use Rattle.volume_files.specs.block_device.OpenSeen.{OpenFaultSeen}
+use Rattle.volume_files.specs.block_device.RackSeen.{RackSeen}
+use Rattle.volume_files.specs.block_device.StreamSeen.{SinkSeen, SourceSeen}
+use Rattle.volume_files.specs.block_device.declared.disk_fault.DiskFault.{DiskFault}
+use Rattle.volume_files.specs.flat_model.Counted.{Counted}
+use Rattle.volume_files.specs.flat_model.Flat.{Flat}
+use Rattle.volume_files.specs.flat_model.History.{Legal, replay}
+use Rattle.volume_files.specs.vnode_files.declared.vnode.FileInfo.{FileInfo}
+use Rattle.volume_files.specs.vm_report.Faults.{disk_fault_text}
+use Rattle.volume_files.specs.vm_script.PlanSeen.{PlanSeen}
+use Rattle.volume_files.specs.vm_script.Told.{Told, ToldFront}
 use Rattle.volume_files.specs.declared.stops.Refusal.{Refusal}
 use Rattle.vm_run.specs.declared.ending.Ending.{Ending}
 use Rattle.vm_run.specs.declared.ending.Ending.TheVariants as ending

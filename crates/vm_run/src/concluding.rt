@@ -6,12 +6,11 @@ ghost use Rattle.vm_run.specs.Reading.{IsConcluded};
 
 use crate::ending::{Ending, Stop};
 use crate::outcome::Outcome;
-use block_device::{Disk, DiskFault, OpenFault, Sink, write_all};
 use std::alloc::{AllocError, Global};
-use vm_report::{
-    disk_fault, rack_fault, read_fault, script_fault, setup_fault, usage, volume_fault,
+use volume_files::{
+    Disk, DiskFault, OpenFault, Refusal, Sink, disk_fault, rack_fault, read_fault, script_fault,
+    setup_fault, usage, volume_fault, write_all,
 };
-use volume_files::Refusal;
 
 fn push_refusal(refusal: Refusal, text: &mut Vec<u8>) -> Result<(), AllocError>
     ensures { OnOk result (text.new.items ≡ text.old.items ++ refusal_line refusal) }

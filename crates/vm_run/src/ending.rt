@@ -3,10 +3,8 @@ ghost use Rattle.std.specs.Prelude.{◌≡◌, []};
 ghost use Rattle.vm_run.specs.Ending.{ending_of, status_of, fault_of};
 
 use crate::outcome::RunFault;
-use block_device::{Disk, DiskFault, OpenFault};
 use vm_core::KernelHistory;
-use vm_script::ScriptFault;
-use volume_files::{HandedBack, OpenStop, Refusal};
+use volume_files::{Disk, DiskFault, HandedBack, OpenFault, OpenStop, Refusal, ScriptFault};
 
 /// How a run ended, with all that its text needs.
 #[derive(Debug, Drop)]

@@ -1,11 +1,11 @@
 //! The end of a run whose processes ran: the tables, and the report.
 ghost use Rattle.std.specs.Prelude.{ℕ, ◌≡◌, ◌≤◌, ◌<◌, ◌^◌, ◌++◌, [], All, Some, None, length, map, option_map, List, IfOk, IfErr, OnOk, vec_capacity};
-ghost use Rattle.block_device.specs.Counts.{HasRisen};
-ghost use Rattle.page_store.specs.Bays.{pairs_seen};
-ghost use Rattle.vm_report.specs.Faults.{disk_fault_text};
-ghost use Rattle.vm_types.specs.WellFormed.{IsWellFormed};
+ghost use Rattle.volume_files.specs.block_device.Counts.{HasRisen};
+ghost use Rattle.vm_core.specs.page_store.Bays.{pairs_seen};
+ghost use Rattle.volume_files.specs.vm_report.Faults.{disk_fault_text};
+ghost use Rattle.volume_files.specs.vm_types.WellFormed.{IsWellFormed};
 ghost use Rattle.volume_files.specs.Attached.{HaveVolumeNames, bare_disks};
-ghost use Rattle.block_device.specs.DiskSeen.{DiskSeen};
+ghost use Rattle.volume_files.specs.block_device.DiskSeen.{DiskSeen};
 ghost use Rattle.vm_run.specs.Course.{CloseEnds, CloseFails, MiddleStops, ShowEnds, TablesEnd, UnlessEnded, showing_stop};
 ghost use Rattle.vm_run.specs.declared.ending.Ending.TheVariants.{Memory};
 ghost use Rattle.volume_files.specs.Written.{infos_made};
@@ -17,15 +17,13 @@ use crate::ending::{Ending, Stop};
 use crate::playing::Played;
 use crate::reporting::middle;
 use crate::starting::without_numbers;
-use block_device::{Disk, DiskFault, Sink, write_all};
 use command_line::Options;
 use std::alloc::{AllocError, Global};
 use vm_core::Finished;
-use vm_report::disk_fault;
-use vm_script::Plan;
-use vm_types::Entry;
-use vnode_files::Files;
-use volume_files::{Heading, ShowStop, TableStop, show_files, write_tables};
+use volume_files::{
+    Disk, DiskFault, Entry, Files, Heading, Plan, ShowStop, Sink, TableStop, disk_fault,
+    show_files, write_all, write_tables,
+};
 
 // Writes the text between the opening part of a trace and the files.
 fn write_middle<K: Sink>(

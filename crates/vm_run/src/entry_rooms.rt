@@ -1,11 +1,11 @@
 //! How many entries each process may make.
 ghost use Rattle.std.specs.Prelude.{ℕ, ◌≡◌, ◌<◌, ◌≤◌, ◌+◌, ◌-◌, ◌^◌, length, slice_index, slice_set, IfOk};
-ghost use Rattle.vm_script.specs.Blocks.{Nests};
-ghost use Rattle.vm_script.specs.Counts.{parts, entry_count};
+ghost use Rattle.volume_files.specs.vm_script.Blocks.{Nests};
+ghost use Rattle.volume_files.specs.vm_script.Counts.{parts, entry_count};
 ghost use Rattle.vm_run.specs.Played.{HasRoomForPlan};
 
 use std::alloc::{AllocError, Global};
-use vm_script::{Plan, PlanLine, parts};
+use volume_files::{Plan, PlanLine, parts};
 
 // The process of the line may make the line's entries more.
 fn add_line(rooms: &mut Vec<u32>, line: &PlanLine)

@@ -1,18 +1,16 @@
 //! The lines of the one process.
 ghost use Rattle.std.specs.Prelude.{◌≡◌, ◌<◌, ◌≤◌, ℕ, suc, [], length, take, IsTrue, OnOk, OnErr};
 ghost use Rattle.vm_core.specs.Finish.{FitsStill};
-ghost use Rattle.vm_world.specs.Events.{IsEvent};
-ghost use Rattle.vm_world.specs.State.{is_top, room_of};
+ghost use Rattle.vm_core.specs.vm_world.Events.{IsEvent};
+ghost use Rattle.vm_core.specs.vm_world.State.{is_top, room_of};
 ghost use Rattle.vm_run.specs.Asked.{is_served_act};
 ghost use Rattle.vm_run.specs.Lines.{line_call, MayBeMade, AreLines, MayGoOn, HasOneMore, HasCome};
 
 use crate::making::{make_call, move_clock};
-use block_device::Disk;
 use std::alloc::AllocError;
 use std::sync::Wait;
 use vm_core::VmState;
-use vm_script::{PlanAct, PlanLine};
-use vm_types::Call;
+use volume_files::{Call, Disk, PlanAct, PlanLine};
 
 // The call of a line that makes one.
 fn call_of(act: &PlanAct) -> &Call

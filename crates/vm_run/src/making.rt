@@ -1,17 +1,15 @@
 //! One call of the one process, made on the kernel with the transfers that it needs.
 ghost use Rattle.std.specs.Prelude.{◌≡◌, ◌<◌, ℕ, length, Some, None, option_map, OnOk, OnErr};
-ghost use Rattle.vm_types.specs.WellFormed.{IsWellFormed};
+ghost use Rattle.volume_files.specs.vm_types.WellFormed.{IsWellFormed};
 ghost use Rattle.vm_core.specs.Calls.{IsOnOwnSpace};
 ghost use Rattle.vm_core.specs.Finish.{FitsStill};
-ghost use Rattle.vm_world.specs.Events.{IsEvent};
+ghost use Rattle.vm_core.specs.vm_world.Events.{IsEvent};
 ghost use Rattle.vm_run.specs.Lines.{MayGoOn, HasOneMore, GrowsWith};
 
-use block_device::Disk;
-use page_store::Plan;
 use std::alloc::AllocError;
 use std::sync::Wait;
-use vm_core::{Attempt, VmState};
-use vm_types::{Call, Reply};
+use vm_core::{Attempt, Plan, VmState};
+use volume_files::{Call, Disk, Reply};
 
 /// Makes the transfer of the plan that was answered last. Some, with the device error, where it was for a call and failed.
 pub fn transfer<D: Disk>(

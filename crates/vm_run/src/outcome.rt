@@ -1,6 +1,6 @@
 //! How a run ended.
-use block_device::{Disk, DiskFault, OpenFault};
 use vm_core::KernelHistory;
+use volume_files::{Disk, DiskFault, OpenFault};
 
 /// A fault of a device that ended a run.
 #[derive(Debug, Drop)]

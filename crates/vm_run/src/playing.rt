@@ -1,18 +1,16 @@
 //! The processes run.
 ghost use Rattle.std.specs.Prelude.{ℕ, ◌≡◌, ◌≤◌, All, List, Option, IsTrue, length};
-ghost use Rattle.block_device.specs.DiskSeen.{DiskSeen};
-ghost use Rattle.flat_model.specs.Flat.{Flat};
-ghost use Rattle.vm_script.specs.Told.{Told, ToldFront};
-ghost use Rattle.vnode_files.specs.Files.{FilesSeen};
-ghost use Rattle.vnode_files.specs.Vnode.{IsSoundVnode};
+ghost use Rattle.volume_files.specs.block_device.DiskSeen.{DiskSeen};
+ghost use Rattle.volume_files.specs.flat_model.Flat.{Flat};
+ghost use Rattle.volume_files.specs.vm_script.Told.{Told, ToldFront};
+ghost use Rattle.volume_files.specs.vnode_files.Files.{FilesSeen};
+ghost use Rattle.volume_files.specs.vnode_files.Vnode.{IsSoundVnode};
 ghost use Rattle.vm_run.specs.Played.{IsStarted, KernelLeaves, left_seen, IsPlayable};
 
 use crate::lines::make_lines;
-use block_device::Disk;
 use std::sync::Wait;
 use vm_core::{Finished, VmState};
-use vm_script::Plan;
-use vnode_files::Files;
+use volume_files::{Disk, Files, Plan};
 
 /// What is left of a kernel once its processes ran.
 #[derive(Drop)]

@@ -1,19 +1,19 @@
 //! What is asked is read.
 ghost use Rattle.std.specs.Prelude.{List, Option, ℕ, None, ◌≡◌, ◌≤◌, IfErr, IfOk, IfSome, Ok, map, string_bytes};
 ghost use Rattle.std.specs.List.{list_all};
-ghost use Rattle.block_device.specs.declared.rack.Spec.{Spec};
-ghost use Rattle.vm_script.specs.Plans.{plan_of};
+ghost use Rattle.volume_files.specs.block_device.declared.rack.Spec.{Spec};
+ghost use Rattle.volume_files.specs.vm_script.Plans.{plan_of};
 ghost use Rattle.vm_run.specs.Asked as asked;
 ghost use Rattle.vm_run.specs.Course.{AskEnds};
 ghost use Rattle.vm_run.specs.Reading.{IsSpelled, SaysScript, ScriptStops, SourceStops, TakesPlan, TextStops, UnlessUnread};
 
 use crate::ending::Ending;
-use block_device::{ReadFault, Source, read_to_limit};
 use command_line::{Options, read_options};
 use std::alloc::Global;
-use vm_script::{MOST_BYTES, Plan, PlanAct, PlanLine, broken_rule, generate, parse, sound_law};
-use vm_types::Call;
-use volume_files::Refusal;
+use volume_files::{
+    Call, MOST_BYTES, Plan, PlanAct, PlanLine, ReadFault, Refusal, Source, broken_rule, generate,
+    parse, read_to_limit, sound_law,
+};
 
 // A mapping.
 fn is_served_named(call: &Call) -> bool

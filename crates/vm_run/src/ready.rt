@@ -1,6 +1,6 @@
 //! A run up to the point where its processes can run.
 ghost use Rattle.std.specs.Prelude.{ℕ, ◌≡◌, ◌≤◌, ◌<◌, ◌+◌, ◌^◌, List, Option, map, string_bytes, IsTrue, IfOk, IfErr};
-ghost use Rattle.block_device.specs.declared.rack.Spec.{Spec};
+ghost use Rattle.volume_files.specs.block_device.declared.rack.Spec.{Spec};
 ghost use Rattle.vm_run.specs.Asked.{Given, Asked, WasAsked, given_of};
 ghost use Rattle.volume_files.specs.Attached.{AreAttached, ArePlaced, HasRooms, attached_seen, bare_disks, numbered_seen};
 ghost use Rattle.vm_run.specs.Course.{HasCase, IsReady, IsReadPlan, AreReadBytes, Traces, opening_stop};
@@ -11,18 +11,17 @@ ghost use Rattle.vm_run.specs.Run.{NoneFailed, Outside, outside_of};
 ghost use Rattle.vm_run.specs.Course.{UnlessEnded};
 ghost use Rattle.vm_run.specs.declared.ending.Ending.TheVariants.{Memory};
 ghost use Rattle.std.specs.Prelude.{Ok, None, [], length, option_map, vec_capacity};
-ghost use Rattle.vm_script.specs.Rules.{broken_rule};
+ghost use Rattle.volume_files.specs.vm_script.Rules.{broken_rule};
 ghost use Rattle.volume_files.specs.Written.{AreOnlyRead};
 
 use crate::ending::{Ending, Stop, stop_unopened};
 use crate::reading::ask;
-use block_device::{Disk, OpenFault, Rack, Sink, Source, Unopened};
 use command_line::Options;
 use std::alloc::Global;
 use vm_core::KernelHistory;
-use vm_script::{Plan, setup_law};
 use volume_files::{
-    Attached, Placed, ShowStop, attach, into_disks, into_swap, place, trace_opening,
+    Attached, Disk, OpenFault, Placed, Plan, Rack, ShowStop, Sink, Source, Unopened, attach,
+    into_disks, into_swap, place, setup_law, trace_opening,
 };
 
 /// A run whose processes can run.

@@ -1,13 +1,11 @@
 //! What a run tells between the opening part of a trace and the files.
 ghost use Rattle.std.specs.Prelude.{◌≡◌, ◌++◌, ◌<◌, ◌^◌, length, All, OnOk};
-ghost use Rattle.vm_types.specs.WellFormed.{IsWellFormed};
+ghost use Rattle.volume_files.specs.vm_types.WellFormed.{IsWellFormed};
 ghost use Rattle.vm_run.specs.AskedTexts.{middle_text};
 
 use command_line::Options;
 use std::alloc::AllocError;
-use vm_report::{process_sections, summary, trace_entries};
-use vm_script::Plan;
-use vm_types::Entry;
+use volume_files::{Entry, Plan, process_sections, summary, trace_entries};
 
 /// Adds the entries, where a trace is asked for, and the process sections, or the summary of a generated script.
 pub fn middle(

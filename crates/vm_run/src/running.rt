@@ -1,6 +1,6 @@
 //! The top call.
 ghost use Rattle.std.specs.Prelude.{ℕ, ◌≡◌, ◌≤◌, ◌+◌, IsTrue, List, map, string_bytes};
-ghost use Rattle.block_device.specs.StreamSeen.{SinkSeen};
+ghost use Rattle.volume_files.specs.block_device.StreamSeen.{SinkSeen};
 ghost use Rattle.vm_run.specs.Asked.{Given, Asked, given_of};
 ghost use Rattle.volume_files.specs.Attached.{HasRooms, attached_seen, bare_disks};
 ghost use Rattle.vm_run.specs.Course.{HasCase, IsReady};
@@ -17,9 +17,9 @@ use crate::outcome::Outcome;
 use crate::playing::play;
 use crate::ready::{Ready, make_ready};
 use crate::starting::{Started, start};
-use block_device::{Disk, Rack, Sink, Source};
 use std::alloc::Global;
 use std::sync::Wait;
+use volume_files::{Disk, Rack, Sink, Source};
 
 /// Runs a script: its disks are attached, its files placed, its processes run, its files closed, and its report written.
 pub fn run<S: Source, K: Sink, R: Rack>(

@@ -1,10 +1,10 @@
 //! The kernel is started.
 ghost use Rattle.std.specs.Prelude.{ℕ, ◌≡◌, ◌≤◌, [], List, Option, None, length, map, IfOk, IfErr, vec_capacity, option_map};
-ghost use Rattle.block_device.specs.declared.numbered.NumberedDisk.{NumberedDisk};
-ghost use Rattle.block_device.specs.declared.rack.Spec.{Spec};
-ghost use Rattle.block_device.specs.DiskSeen.{DiskSeen};
-ghost use Rattle.vm_script.specs.Rules.{broken_rule};
-ghost use Rattle.vm_script.specs.Sound.{IsSoundPlan};
+ghost use Rattle.volume_files.specs.block_device.declared.numbered.NumberedDisk.{NumberedDisk};
+ghost use Rattle.volume_files.specs.block_device.declared.rack.Spec.{Spec};
+ghost use Rattle.volume_files.specs.block_device.DiskSeen.{DiskSeen};
+ghost use Rattle.volume_files.specs.vm_script.Rules.{broken_rule};
+ghost use Rattle.volume_files.specs.vm_script.Sound.{IsSoundPlan};
 ghost use Rattle.volume_files.specs.Attached.{ArePlaced, HasRooms, attached_seen, bare_disks};
 ghost use Rattle.volume_files.specs.Opened.{OpenedFile, opening_flat};
 ghost use Rattle.vm_run.specs.Played.{IsStarted, HasRoomForPlan};
@@ -12,11 +12,9 @@ ghost use Rattle.vm_run.specs.declared.ending.Ending.TheVariants.{Memory};
 
 use crate::ending::{Ending, Stop};
 use crate::entry_rooms::entry_rooms;
-use block_device::{Disk, Unopened};
 use std::alloc::{AllocError, Global};
 use vm_core::{KernelHistory, Setup, VmState};
-use vm_script::{Plan, amounts_of};
-use volume_files::{Attached, Placed, into_swap};
+use volume_files::{Attached, Disk, Placed, Plan, Unopened, amounts_of, into_swap};
 
 /// A kernel that was started, and room for its disks to be handed back.
 #[derive(Drop)]

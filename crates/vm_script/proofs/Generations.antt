@@ -9,9 +9,9 @@ use Rattle.std.proofs.lemmas.Fmt.{length-decimal-le}
 use Rattle.std.proofs.lemmas.List.{map-append, length-map}
 use Rattle.std.proofs.lemmas.List.Concat.{flat_map-append}
 use Rattle.std.proofs.lemmas.List.Elements.{All-nil, All-cons, All-append, All-head, All-tail, All-weaker}
-use Rattle.vm_types.specs.declared.call.Call.TheVariants as call
-use Rattle.vm_types.specs.WellFormed.{IsNumber}
-use Rattle.vm_types.specs.Words.{IsByte}
+use Rattle.flat_model.specs.vm_types.declared.call.Call.TheVariants as call
+use Rattle.flat_model.specs.vm_types.WellFormed.{IsNumber}
+use Rattle.flat_model.specs.vm_types.Words.{IsByte}
 use Rattle.vm_script.specs.declared.statement.Statement.{Statement}
 use Rattle.vm_script.specs.declared.statement.Statement.TheVariants as says
 use Rattle.vm_script.specs.Plans.{OpenPlan, empty_plan, plan_seen, plan_of, enclosing_block, with_statement}

@@ -17,3 +17,4 @@ pub mod FaultLines
 pub mod Ranges
 pub mod Generations
 pub mod QuickLines
+pub use Rattle.flat_model.proofs as flat_model

@@ -6,10 +6,10 @@ use Rattle.std.specs.List.{list_all}
 use Rattle.std.proofs.lemmas.Bool.{false≢true, eqb-true}
 use Rattle.std.proofs.lemmas.Bool.Decides.{nat_tests}
 use Rattle.std.proofs.lemmas.List.Elements.{All-nil, All-cons}
-use Rattle.vm_types.specs.declared.call.Call.{Call}
-use Rattle.vm_types.specs.declared.call.Call.TheVariants as call
-use Rattle.vm_types.specs.declared.call.Object.TheVariants as object
-use Rattle.vm_types.specs.WellFormed.{IsNumber, IsWellFormed}
+use Rattle.flat_model.specs.vm_types.declared.call.Call.{Call}
+use Rattle.flat_model.specs.vm_types.declared.call.Call.TheVariants as call
+use Rattle.flat_model.specs.vm_types.declared.call.Object.TheVariants as object
+use Rattle.flat_model.specs.vm_types.WellFormed.{IsNumber, IsWellFormed}
 use Rattle.vm_script.specs.declared.fault.ScriptKind.{ScriptKind}
 use Rattle.vm_script.specs.declared.fault.ScriptKind.TheVariants as fault
 use Rattle.vm_script.specs.declared.fault.ScriptFault.{ScriptFault}

@@ -6,12 +6,12 @@ use Rattle.std.specs.List.{list_all}
 use Rattle.std.proofs.lemmas.Bool.{false≢true, cases_Bool, eqb-true}
 use Rattle.std.proofs.lemmas.Bool.Decides.{nat_tests}
 use Rattle.std.proofs.lemmas.List.Elements.{All-nil, All-cons}
-use Rattle.vm_types.specs.declared.call.Kind.{Kind}
-use Rattle.vm_types.specs.declared.call.Place.{Place}
-use Rattle.vm_types.specs.declared.prot.Prot.{Prot}
-use Rattle.vm_types.specs.Prot.{IsProt}
-use Rattle.vm_types.specs.WellFormed.{IsNumber, IsPlace}
-use Rattle.vm_types.specs.Words.{IsByte, IsWordSize}
+use Rattle.flat_model.specs.vm_types.declared.call.Kind.{Kind}
+use Rattle.flat_model.specs.vm_types.declared.call.Place.{Place}
+use Rattle.flat_model.specs.vm_types.declared.prot.Prot.{Prot}
+use Rattle.flat_model.specs.vm_types.Prot.{IsProt}
+use Rattle.flat_model.specs.vm_types.WellFormed.{IsNumber, IsPlace}
+use Rattle.flat_model.specs.vm_types.Words.{IsByte, IsWordSize}
 use Rattle.vm_script.specs.declared.fault.ScriptKind.{ScriptKind}
 use Rattle.vm_script.specs.declared.fault.ScriptKind.TheVariants as fault
 use Rattle.vm_script.specs.declared.plan.SetupAct.{SetupAct}

@@ -5,7 +5,7 @@ use Rattle.std.specs.Prelude.{slice_get}
 use Rattle.std.specs.List.{flat_map}
 use Rattle.std.proofs.lemmas.Bool.{false≢true, cases_Bool, eqb-true}
 use Rattle.std.proofs.lemmas.Option.{same_Some}
-use Rattle.vm_types.specs.declared.call.Entry.{Entry}
+use Rattle.flat_model.specs.vm_types.declared.call.Entry.{Entry}
 use Rattle.flat_model.specs.Told.{SpelledLine, entries_of, SpellsAll}
 use Rattle.vm_script.specs.declared.plan.PlanLine.{PlanLine}
 use Rattle.vm_script.specs.PlanSeen.{PlanSeen}

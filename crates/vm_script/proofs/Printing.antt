@@ -7,8 +7,8 @@ use Rattle.std.proofs.lemmas.Bool.{false≢true}
 use Rattle.std.proofs.lemmas.Bool.Decides.{nat_tests}
 use Rattle.std.proofs.lemmas.Fmt.{decimal_by_steps, length-decimal-le}
 use Rattle.std.proofs.lemmas.List.Elements.{All-head, All-tail}
-use Rattle.vm_types.specs.WellFormed.{IsNumber}
-use Rattle.vm_types.specs.Words.{IsByte}
+use Rattle.flat_model.specs.vm_types.WellFormed.{IsNumber}
+use Rattle.flat_model.specs.vm_types.Words.{IsByte}
 use Rattle.vm_script.specs.Fields.{is_word, has_front, is_digit, is_hex_digit, digit_value, value_of_digits, digits_at, number_of_field, is_name_letter, is_file_name, hex_bytes, bytes_of_field}
 use Rattle.vm_script.specs.Lines.{is_graphic, is_feed, is_space, is_plain, isnt_empty, fields, lines}
 use Rattle.vm_script.specs.Quick.{AreWords, more}

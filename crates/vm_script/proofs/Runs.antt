@@ -2,7 +2,7 @@
 use Rattle.std.proofs.Common.{◌≡◌, ℕ, true, List, [], ◌∷◌, ◌++◌, refl, sym, ap, ◌∙◌, subst, append_assoc, append-nil, ⊎_elim, ◌⊎◌, inl, inr}
 use Rattle.std.specs.List.{flat_map}
 use mathlib.Core.List.{IsPrefix}
-use Rattle.vm_types.specs.declared.call.Entry.{Entry}
+use Rattle.flat_model.specs.vm_types.declared.call.Entry.{Entry}
 use Rattle.flat_model.specs.Told.{entries_of, SpellsAll}
 use Rattle.flat_model.proofs.Spellings.{SpellsAll-join}
 use Rattle.vm_script.specs.declared.plan.PlanAct.TheVariants as act

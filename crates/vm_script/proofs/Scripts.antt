@@ -5,17 +5,17 @@ use Rattle.std.specs.List.{list_all}
 use Rattle.std.proofs.lemmas.Bool.{false≢true}
 use Rattle.std.proofs.lemmas.Bool.Decides.{nat_tests}
 use Rattle.std.proofs.lemmas.List.Elements.{All-head, All-tail}
-use Rattle.vm_types.specs.declared.call.Call.{Call}
-use Rattle.vm_types.specs.declared.call.Call.TheVariants as call
-use Rattle.vm_types.specs.declared.call.Kind.{Kind}
-use Rattle.vm_types.specs.declared.call.Kind.TheVariants as kinds
-use Rattle.vm_types.specs.declared.call.Object.TheVariants as object
-use Rattle.vm_types.specs.declared.call.Place.{Place}
-use Rattle.vm_types.specs.declared.call.Place.TheVariants.{At, Any}
-use Rattle.vm_types.specs.declared.prot.Prot.{Prot}
-use Rattle.vm_types.specs.Prot.{IsProt}
-use Rattle.vm_types.specs.WellFormed.{IsNumber, IsPlace}
-use Rattle.vm_types.specs.Words.{IsByte, IsWordSize, FitsWord}
+use Rattle.flat_model.specs.vm_types.declared.call.Call.{Call}
+use Rattle.flat_model.specs.vm_types.declared.call.Call.TheVariants as call
+use Rattle.flat_model.specs.vm_types.declared.call.Kind.{Kind}
+use Rattle.flat_model.specs.vm_types.declared.call.Kind.TheVariants as kinds
+use Rattle.flat_model.specs.vm_types.declared.call.Object.TheVariants as object
+use Rattle.flat_model.specs.vm_types.declared.call.Place.{Place}
+use Rattle.flat_model.specs.vm_types.declared.call.Place.TheVariants.{At, Any}
+use Rattle.flat_model.specs.vm_types.declared.prot.Prot.{Prot}
+use Rattle.flat_model.specs.vm_types.Prot.{IsProt}
+use Rattle.flat_model.specs.vm_types.WellFormed.{IsNumber, IsPlace}
+use Rattle.flat_model.specs.vm_types.Words.{IsByte, IsWordSize, FitsWord}
 use Rattle.vm_script.specs.declared.plan.SetupAct.{SetupAct}
 use Rattle.vm_script.specs.declared.plan.SetupAct.TheVariants as given
 use Rattle.vm_script.specs.declared.plan.PlanAct.TheVariants as act

@@ -5,8 +5,8 @@ use Rattle.std.specs.List.{list_all, slice_split, onto_first}
 use Rattle.std.proofs.lemmas.Bool.{false≢true}
 use Rattle.std.proofs.lemmas.Bool.Decides.{nat_tests}
 use Rattle.std.proofs.lemmas.List.Elements.{All-nil, All-push}
-use Rattle.vm_types.specs.WellFormed.{IsNumber}
-use Rattle.vm_types.specs.Words.{IsByte}
+use Rattle.flat_model.specs.vm_types.WellFormed.{IsNumber}
+use Rattle.flat_model.specs.vm_types.Words.{IsByte}
 use Rattle.vm_script.specs.declared.fault.ScriptKind.{ScriptKind}
 use Rattle.vm_script.specs.declared.fault.ScriptKind.TheVariants as fault
 use Rattle.vm_script.specs.declared.fault.ScriptFault.{ScriptFault}

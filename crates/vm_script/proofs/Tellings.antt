@@ -3,7 +3,7 @@ use Rattle.std.proofs.Common.{◌≡◌, ℕ, suc, true, false, ◌==◌, List, 
 use Rattle.std.specs.List.{list_any}
 use Rattle.std.proofs.lemmas.Bool.{false≢true, cases_Bool}
 use mathlib.Core.List.{IsPrefix}
-use Rattle.vm_types.specs.declared.call.Entry.{Entry}
+use Rattle.flat_model.specs.vm_types.declared.call.Entry.{Entry}
 use Rattle.flat_model.specs.Told.{entries_of}
 use Rattle.std.proofs.lemmas.Option.{same_Some}
 use Rattle.flat_model.proofs.Replays.{entries_of-append}

@@ -1,7 +1,7 @@
 -- What is known of each block that has ended, by what its caller has seen of the history. Public clauses cite this.
 use Rattle.std.specs.Prelude.{ℕ, ◌≡◌, true, false, List, [], ◌∷◌, ◌++◌, Some}
 use mathlib.Core.List.{IsPrefix}
-use Rattle.vm_types.specs.declared.call.Entry.{Entry}
+use Rattle.flat_model.specs.vm_types.declared.call.Entry.{Entry}
 use Rattle.flat_model.specs.Told.{entries_of}
 use Rattle.vm_script.specs.declared.plan.PlanAct.TheVariants as act
 use Rattle.vm_script.specs.declared.plan.PlanLine.{PlanLine}

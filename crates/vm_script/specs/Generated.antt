@@ -1,11 +1,11 @@
 -- The generated script. Public clauses cite this.
 use Rattle.std.specs.Prelude.{ℕ, zero, suc, ◌+◌, ◌*◌, ◌/◌, ◌%◌, List, [], ◌∷◌, ◌++◌, map, codes, true}
 use Rattle.std.specs.List.{flat_map}
-use Rattle.vm_types.specs.declared.call.Call.{Call}
-use Rattle.vm_types.specs.declared.call.Call.TheVariants as call
-use Rattle.vm_types.specs.declared.call.Kind.TheVariants as kinds
-use Rattle.vm_types.specs.declared.call.Object.TheVariants as object
-use Rattle.vm_types.specs.declared.call.Place.TheVariants.{At}
+use Rattle.flat_model.specs.vm_types.declared.call.Call.{Call}
+use Rattle.flat_model.specs.vm_types.declared.call.Call.TheVariants as call
+use Rattle.flat_model.specs.vm_types.declared.call.Kind.TheVariants as kinds
+use Rattle.flat_model.specs.vm_types.declared.call.Object.TheVariants as object
+use Rattle.flat_model.specs.vm_types.declared.call.Place.TheVariants.{At}
 use Rattle.vm_script.specs.declared.plan.SetupAct.TheVariants as given
 use Rattle.vm_script.specs.declared.plan.PlanAct.TheVariants as act
 use Rattle.vm_script.specs.declared.statement.Statement.{Statement}

@@ -19,3 +19,5 @@ pub mod Sound
 pub mod Statements
 pub mod Texts
 pub mod Told
+pub use Rattle.flat_model.specs.vm_types as vm_types
+pub use Rattle.flat_model.specs as flat_model

@@ -1,7 +1,7 @@
 -- The plan that the lines of a script make, one after another. Public clauses cite this.
 use Rattle.std.specs.Prelude.{ℕ, zero, suc, ◌+◌, ◌==◌, Bool, true, false, not, List, [], ◌∷◌, ◌++◌, length, nat_lt, slice_index_or, Result, Ok, Err, if◌then◌else◌}
 use Rattle.std.specs.List.{list_all, list_any}
-use Rattle.vm_types.specs.declared.call.Call.TheVariants as call
+use Rattle.flat_model.specs.vm_types.declared.call.Call.TheVariants as call
 use Rattle.vm_script.specs.declared.fault.ScriptKind.TheVariants as fault
 use Rattle.vm_script.specs.declared.fault.ScriptFault.{ScriptFault}
 use Rattle.vm_script.specs.declared.plan.SetupAct.{SetupAct}

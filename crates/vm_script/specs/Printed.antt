@@ -2,14 +2,14 @@
 -- cite this.
 use Rattle.std.specs.Prelude.{ℕ, ◌≡◌, ◌≤◌, ◌+◌, Bool, true, not, ◌&&◌, List, [], ◌∷◌, ◌++◌, length, codes, decimal, if◌then◌else◌, All, IsTrue}
 use Rattle.std.specs.List.{flat_map, list_all}
-use Rattle.vm_types.specs.declared.call.Call.{Call}
-use Rattle.vm_types.specs.declared.call.Call.TheVariants as call
-use Rattle.vm_types.specs.declared.call.Object.TheVariants as object
-use Rattle.vm_types.specs.declared.call.Place.{Place}
-use Rattle.vm_types.specs.declared.call.Place.TheVariants.{At, Any}
-use Rattle.vm_types.specs.WellFormed.{IsNumber, IsPlace}
-use Rattle.vm_types.specs.Prot.{IsProt}
-use Rattle.vm_types.specs.Words.{IsByte, IsWordSize, FitsWord}
+use Rattle.flat_model.specs.vm_types.declared.call.Call.{Call}
+use Rattle.flat_model.specs.vm_types.declared.call.Call.TheVariants as call
+use Rattle.flat_model.specs.vm_types.declared.call.Object.TheVariants as object
+use Rattle.flat_model.specs.vm_types.declared.call.Place.{Place}
+use Rattle.flat_model.specs.vm_types.declared.call.Place.TheVariants.{At, Any}
+use Rattle.flat_model.specs.vm_types.WellFormed.{IsNumber, IsPlace}
+use Rattle.flat_model.specs.vm_types.Prot.{IsProt}
+use Rattle.flat_model.specs.vm_types.Words.{IsByte, IsWordSize, FitsWord}
 use Rattle.vm_script.specs.Texts.{hex_text, prot_text, kind_text}
 use Rattle.vm_script.specs.declared.plan.SetupAct.{SetupAct}
 use Rattle.vm_script.specs.declared.plan.SetupAct.TheVariants as given

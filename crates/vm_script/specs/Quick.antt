@@ -1,7 +1,7 @@
 -- Loads and stores whose fields stand one space apart. Inside: no public clause cites this.
 use Rattle.std.specs.Prelude.{ℕ, Bool, ◌≡◌, true, List, [], ◌∷◌, ◌++◌, Some, Ok}
 use Rattle.std.specs.List.{list_all}
-use Rattle.vm_types.specs.declared.call.Call.{Call}
+use Rattle.flat_model.specs.vm_types.declared.call.Call.{Call}
 use Rattle.vm_script.specs.declared.plan.PlanAct.TheVariants as act
 use Rattle.vm_script.specs.declared.statement.Statement.TheVariants as says
 use Rattle.vm_script.specs.declared.statement.LineSpot.{LineSpot}

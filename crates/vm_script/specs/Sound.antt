@@ -1,6 +1,6 @@
 -- What holds of every plan that a script spells. Public clauses cite this.
 use Rattle.std.specs.Prelude.{◌≤◌, List, length, All}
-use Rattle.vm_types.specs.WellFormed.{IsNumber, IsWellFormed}
+use Rattle.flat_model.specs.vm_types.WellFormed.{IsNumber, IsWellFormed}
 use Rattle.vm_script.specs.declared.plan.PlanAct.{PlanAct}
 use Rattle.vm_script.specs.declared.plan.PlanAct.TheVariants as act
 use Rattle.vm_script.specs.declared.plan.SetupLine.{SetupLine}

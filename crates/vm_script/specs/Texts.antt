@@ -1,9 +1,9 @@
 -- Bytes, protections and kinds as text. Public clauses cite this.
 use Rattle.std.specs.Prelude.{ℕ, ◌+◌, ◌/◌, ◌%◌, ◌==◌, List, [], ◌∷◌, codes, nat_lt, if◌then◌else◌}
 use Rattle.std.specs.List.{flat_map}
-use Rattle.vm_types.specs.declared.call.Kind.{Kind}
-use Rattle.vm_types.specs.declared.call.Kind.TheVariants as kinds
-use Rattle.vm_types.specs.declared.prot.Prot.{Prot}
+use Rattle.flat_model.specs.vm_types.declared.call.Kind.{Kind}
+use Rattle.flat_model.specs.vm_types.declared.call.Kind.TheVariants as kinds
+use Rattle.flat_model.specs.vm_types.declared.prot.Prot.{Prot}
 
 -- A hexadecimal digit, in lower case.
 abbrev pub hex_digit : ℕ → ℕ

@@ -1,14 +1,14 @@
 //! The lines of a block that make calls.
 ghost use Rattle.std.specs.Prelude.{◌≡◌, ◌*◌, ◌^◌, map as over, nat_lt, IfOk};
-ghost use Rattle.vm_types.specs.Words.{IsWordSize};
+ghost use Rattle.flat_model.specs.vm_types.Words.{IsWordSize};
 ghost use Rattle.vm_script.specs.Reading.{IsReadAs};
 ghost use Rattle.vm_script.specs.Statements as statements;
 
 use crate::fault::{ReadError, ScriptKind};
 use crate::fields::{bytes, kind, name, need, number, place, prot, size};
 use crate::plan::PlanAct;
+use flat_model::{Call, Kind, Object, Place, Prot};
 use std::alloc::Global;
-use vm_types::{Call, Kind, Object, Place, Prot};
 
 /// The number of a file of which only the name is known.
 pub const UNKNOWN_FILE: u32 = 4_294_967_295;

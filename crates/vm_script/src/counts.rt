@@ -3,7 +3,7 @@ ghost use Rattle.std.specs.Prelude.{◌≡◌, nat_lt};
 ghost use Rattle.vm_script.specs.Counts.{line_count, call_parts, parts, entry_count};
 
 use crate::plan::{PlanAct, PlanLine};
-use vm_types::Call;
+use flat_model::Call;
 
 /// The most entries that a history may have.
 pub const MOST_ENTRIES: u32 = 1_048_576;

@@ -1,6 +1,6 @@
 //! The fields of a line, each with its own fault.
 ghost use Rattle.std.specs.Prelude.{◌≡◌, IfOk, Bool};
-ghost use Rattle.vm_types.specs.Words.{IsWordSize};
+ghost use Rattle.flat_model.specs.vm_types.Words.{IsWordSize};
 ghost use Rattle.vm_script.specs.Reading.{IsReadAs};
 ghost use Rattle.vm_script.specs.Statements as statements;
 
@@ -8,8 +8,8 @@ use crate::byte_text::ByteText;
 use crate::fault::{ReadError, ScriptKind};
 use crate::number::{bytes_of, is_file_name, number_of_field};
 use bitflags::Flags;
+use flat_model::{Kind, Place, Prot};
 use std::alloc::Global;
-use vm_types::{Kind, Place, Prot};
 
 pub fn need(kind: ScriptKind, holds: bool) -> Result<(), ReadError>
     ensures { IsReadAs (λ u. u) result (Rattle.vm_script.specs.Reading.need kind holds) }

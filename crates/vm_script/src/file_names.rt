@@ -4,7 +4,7 @@ ghost use Rattle.vm_script.specs.FileNames as by_name;
 
 use crate::byte_text::ByteText;
 use crate::plan::{PlanAct, PlanLine};
-use vm_types::{Call, Object};
+use flat_model::{Call, Object};
 
 // The first place of the name, or the old number where it isn't there.
 fn file_number(names: &[ByteText], name: &ByteText, old: u32) -> u32

@@ -10,8 +10,8 @@ use crate::open_plan::Growing;
 use crate::plan::{Plan, PlanAct, SetupAct};
 use crate::statement::Statement;
 use bitflags::Flags;
+use flat_model::{Call, Kind, Object, Place, Prot};
 use std::alloc::{AllocError, Global};
-use vm_types::{Call, Kind, Object, Place, Prot};
 
 // The address of a word, which goes through 32 pages.
 fn word_address(n: u32, k: u32) -> u32

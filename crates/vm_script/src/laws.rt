@@ -1,7 +1,7 @@
 //! Laws of plans, and of what a history tells of them.
 ghost use Rattle.std.specs.Prelude.{ℕ, ◌≡◌, ◌≤◌, ◌<◌, ◌+◌, ◌↔◌, ◌∷◌, [], ◌++◌, true, List, All, length};
 ghost use mathlib.Core.List.{IsPrefix};
-ghost use Rattle.vm_types.specs.declared.call.Entry.{Entry};
+ghost use Rattle.flat_model.specs.vm_types.declared.call.Entry.{Entry};
 ghost use Rattle.flat_model.specs.Told.{entries_of, ToldAlone};
 ghost use Rattle.vm_script.specs.declared.plan.PlanAct.TheVariants as act;
 ghost use Rattle.vm_script.specs.declared.plan.PlanLine.{PlanLine};

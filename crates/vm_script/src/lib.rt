@@ -23,6 +23,10 @@ mod statements;
 pub use byte_text::ByteText;
 pub use counts::{MOST_ENTRIES, parts};
 pub use fault::{ScriptFault, ScriptKind};
+pub use flat_model::{
+    Call, Entry, Errno, Kind, Line, Object, Place, Prot, Reply, Signal, bytes_before, ends_call,
+    pages_in,
+};
 pub use generating::generate;
 pub use laws::{
     all_ended_law, blocks_law, fault_line_law, line_by_line_law, one_block_law,

@@ -4,9 +4,9 @@ ghost use Rattle.vm_script.specs.Plans.{enclosing_block, with_line, with_new_blo
 
 use crate::plan::{Plan, PlanAct, PlanLine, SetupAct, SetupLine};
 use crate::statement::{LineSpot, Statement};
+use flat_model::Call;
 use std::alloc::{AllocError, Global};
 use std::marker::Model;
-use vm_types::Call;
 
 /// A plan as far as it is read, and the block that is open innermost, 0 outside blocks.
 #[derive(Drop)]

@@ -9,8 +9,8 @@ use crate::plan::{Plan, PlanAct};
 use crate::quick::{quick_load, quick_store};
 use crate::splitting::split_line;
 use crate::statements::statement_of;
+use flat_model::Call;
 use std::alloc::{AllocError, Global};
-use vm_types::Call;
 
 /// The most bytes that a script may have.
 pub const MOST_BYTES: usize = 1_048_576;

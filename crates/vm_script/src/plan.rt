@@ -4,8 +4,8 @@ ghost use Rattle.vm_script.specs.FileNames.{with_files};
 
 use crate::byte_text::ByteText;
 use crate::file_names::set_line_file;
+use flat_model::Call;
 use std::marker::Model;
-use vm_types::Call;
 
 /// What a set-up line gives.
 #[derive(Drop)]

@@ -1,8 +1,8 @@
 //! Loads and stores whose fields stand one space apart, which most lines of a long script are, in
 //! one pass.
 ghost use Rattle.std.specs.Prelude.{◌≡◌, ◌<◌, ◌∷◌, ◌++◌, true, IfSome, codes};
-ghost use Rattle.vm_types.specs.declared.call.Call.TheVariants as call;
-ghost use Rattle.vm_types.specs.Words.{IsWordSize};
+ghost use Rattle.flat_model.specs.vm_types.declared.call.Call.TheVariants as call;
+ghost use Rattle.flat_model.specs.vm_types.Words.{IsWordSize};
 ghost use Rattle.vm_script.specs.Fields.{is_digit, is_hex_digit, digit_value};
 ghost use Rattle.vm_script.specs.Quick.{BeginsWithDigits, BeginsWithNumber, BeginsWithCall};
 

@@ -15,39 +15,39 @@ use Rattle.anon_slots.specs.Slots.{AnonSlotsSeen, IsSoundAnonSlots, unused_slots
 use Rattle.block_device.specs.DiskSeen.{DiskSeen}
 use Rattle.flat_model.proofs.Ranges.{get-insert_here, get-insert_apart}
 use Rattle.hat_layer.specs.declared.translation.Translation.{Translation}
-use Rattle.page_hash.specs.Names.{name_at}
-use Rattle.page_hash.specs.declared.PageName.{PageName}
+use Rattle.vm_core.specs.page_hash.Names.{name_at}
+use Rattle.vm_core.specs.page_hash.declared.PageName.{PageName}
 use Rattle.page_lock.specs.Rows.{row_at, clear_row}
 use Rattle.page_lock.specs.declared.Row.{Row}
-use Rattle.page_store.specs.Bays.{BaySeen, missing, home, out, bay_at, IsStill}
-use Rattle.page_store.specs.Layout.{FileBlocks, KeepsPage}
-use Rattle.page_store.specs.New.{IsNew}
-use Rattle.page_store.specs.Flight.{FlightSeen, IsPerformed, note_of}
-use Rattle.page_store.specs.Notes.{Note, Notes, no_notes, with_note}
-use Rattle.page_store.specs.Out.{IsFlightOf}
-use Rattle.page_store.specs.declared.plan.Plan.{Plan}
-use Rattle.page_store.proofs.TransferLemmas.{with_note-same, with_note-other}
-use Rattle.page_store.specs.Seen.{StoreSeen, IsSoundStore}
+use Rattle.seg_ops.specs.page_store.Bays.{BaySeen, missing, home, out, bay_at, IsStill}
+use Rattle.seg_ops.specs.page_store.Layout.{FileBlocks, KeepsPage}
+use Rattle.seg_ops.specs.page_store.New.{IsNew}
+use Rattle.seg_ops.specs.page_store.Flight.{FlightSeen, IsPerformed, note_of}
+use Rattle.seg_ops.specs.page_store.Notes.{Note, Notes, no_notes, with_note}
+use Rattle.seg_ops.specs.page_store.Out.{IsFlightOf}
+use Rattle.seg_ops.specs.page_store.declared.plan.Plan.{Plan}
+use Rattle.seg_ops.proofs.page_store.TransferLemmas.{with_note-same, with_note-other}
+use Rattle.seg_ops.specs.page_store.Seen.{StoreSeen, IsSoundStore}
 use Rattle.vnode_files.specs.declared.extent.Extent.{Extent}
 use Rattle.vnode_files.specs.declared.vnode.FileInfo.{FileInfo}
 use Rattle.vnode_files.specs.Files.{FilesSeen, no_files, vnode_at, block_count, with_disk, with_next_file, with_vnode}
 use Rattle.vnode_files.specs.Grow.{has_block, extent_end}
 use Rattle.vnode_files.specs.Layout.{LieOnDisk, NoneMeet}
 use Rattle.vnode_files.specs.Vnode.{VnodeSeen, IsSoundVnode, fresh_vnode, page_blocks, with_blank}
-use Rattle.vm_world.specs.declared.segment.Segment.{Segment}
-use Rattle.vm_world.specs.CountsFit.{SegmentsFit, SegmentFits, ShowsZero, times_had, reserved_pages, slots_for_part}
-use Rattle.vm_world.specs.FlatMemory.{flat_memory, zero_maps}
-use Rattle.vm_world.specs.FramesFit.{FilesFit, DisksFit}
-use Rattle.vm_world.specs.MemoryFits.{MemoryFits}
-use Rattle.vm_world.specs.NotesFit.{NotesFit}
-use Rattle.vm_world.specs.Opening.{IsIdleStore, no_seats}
-use Rattle.vm_world.specs.Segments.{Spaces, segments_of, spot_at, zero_map}
-use Rattle.vm_world.specs.State.{KernelState, is_top}
-use Rattle.vm_world.specs.StateFits.{StateFits}
-use Rattle.vm_world.specs.World.{World, file_blocks, file_name}
-use Rattle.vm_world.specs.WorldSteps.{WorldStep, leaves, returns, stays}
-use Rattle.vm_world.proofs.Openings.{opening_law}
-use Rattle.vm_world.proofs.Spaces.{map-empty, entries-empty}
+use Rattle.seg_ops.specs.vm_world.declared.segment.Segment.{Segment}
+use Rattle.seg_ops.specs.vm_world.CountsFit.{SegmentsFit, SegmentFits, ShowsZero, times_had, reserved_pages, slots_for_part}
+use Rattle.seg_ops.specs.vm_world.FlatMemory.{flat_memory, zero_maps}
+use Rattle.seg_ops.specs.vm_world.FramesFit.{FilesFit, DisksFit}
+use Rattle.seg_ops.specs.vm_world.MemoryFits.{MemoryFits}
+use Rattle.seg_ops.specs.vm_world.NotesFit.{NotesFit}
+use Rattle.seg_ops.specs.vm_world.Opening.{IsIdleStore, no_seats}
+use Rattle.seg_ops.specs.vm_world.Segments.{Spaces, segments_of, spot_at, zero_map}
+use Rattle.seg_ops.specs.vm_world.State.{KernelState, is_top}
+use Rattle.seg_ops.specs.vm_world.StateFits.{StateFits}
+use Rattle.seg_ops.specs.vm_world.World.{World, file_blocks, file_name}
+use Rattle.seg_ops.specs.vm_world.WorldSteps.{WorldStep, leaves, returns, stays}
+use Rattle.seg_ops.proofs.vm_world.Openings.{opening_law}
+use Rattle.seg_ops.proofs.vm_world.Spaces.{map-empty, entries-empty}
 use Rattle.seg_ops.specs.Flights.{BeginsFor}
 use Rattle.seg_ops.specs.Steps.{MayShow, WritesWord}
 use Rattle.vm_trials.specs.PageTrials.{trial_segment, trial_part, trial_spaces, IsTrial, IsTrialFile, IsTrialIn, IsTrialOut, IsTrialOutIn}

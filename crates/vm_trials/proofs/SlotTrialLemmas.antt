@@ -14,31 +14,31 @@ use Rattle.block_device.specs.DiskSeen.{DiskSeen}
 use Rattle.flat_model.proofs.Ranges.{get-insert_here, get-insert_apart}
 use Rattle.hat_layer.specs.Pool as pool
 use Rattle.hat_layer.specs.declared.translation.Translation.{Translation}
-use Rattle.page_hash.specs.Names.{name_at}
-use Rattle.page_hash.specs.declared.PageName.{PageName}
+use Rattle.vm_core.specs.page_hash.Names.{name_at}
+use Rattle.vm_core.specs.page_hash.declared.PageName.{PageName}
 use Rattle.page_lists.proofs.ListLemmas.{Contains-none}
 use Rattle.page_lock.specs.Rows.{row_at, clear_row}
 use Rattle.page_lock.specs.declared.Row.{Row}
-use Rattle.page_store.specs.Bays.{BaySeen, missing, home, out, bay_at, IsStill}
-use Rattle.page_store.specs.Layout.{FileBlocks, KeepsPage}
+use Rattle.seg_ops.specs.page_store.Bays.{BaySeen, missing, home, out, bay_at, IsStill}
+use Rattle.seg_ops.specs.page_store.Layout.{FileBlocks, KeepsPage}
 use Rattle.core_arena.specs.Bytes.{zeros}
-use Rattle.page_store.specs.New.{IsNew}
-use Rattle.page_store.specs.Notes.{no_notes}
-use Rattle.page_store.specs.Seen.{StoreSeen, IsSoundStore}
-use Rattle.page_store.proofs.LayoutLemmas.{layout_law}
+use Rattle.seg_ops.specs.page_store.New.{IsNew}
+use Rattle.seg_ops.specs.page_store.Notes.{no_notes}
+use Rattle.seg_ops.specs.page_store.Seen.{StoreSeen, IsSoundStore}
+use Rattle.seg_ops.proofs.page_store.LayoutLemmas.{layout_law}
 use Rattle.vnode_files.specs.Files.{no_files, FilesSeen}
-use Rattle.vm_world.specs.declared.segment.Segment.{Segment}
-use Rattle.vm_world.specs.CountsFit.{CountsFit, SegmentsFit, SegmentFits, ShowsZero, places_in, times_held, times_had, reserved_pages, slots_for_part}
-use Rattle.vm_world.specs.FlatMemory.{zero_maps}
-use Rattle.vm_world.specs.FramesFit.{FilesFit, DisksFit}
-use Rattle.vm_world.specs.SegmentSteps.{MayMakeZero, ChangesSegments, segment_cell, with_new_cells, with_zero_object, with_zero_part}
-use Rattle.vm_world.specs.Segments.{segments_of, spot_at, zero_map}
-use Rattle.vm_world.specs.World.{World, file_blocks, is_unpushed, slot_name}
-use Rattle.vm_world.proofs.Counting.{adds, adds-other}
-use Rattle.vm_world.proofs.SegmentSteps.{segment_rule}
-use Rattle.vm_world.proofs.Spaces.{map-empty, entries-empty}
+use Rattle.seg_ops.specs.vm_world.declared.segment.Segment.{Segment}
+use Rattle.seg_ops.specs.vm_world.CountsFit.{CountsFit, SegmentsFit, SegmentFits, ShowsZero, places_in, times_held, times_had, reserved_pages, slots_for_part}
+use Rattle.seg_ops.specs.vm_world.FlatMemory.{zero_maps}
+use Rattle.seg_ops.specs.vm_world.FramesFit.{FilesFit, DisksFit}
+use Rattle.seg_ops.specs.vm_world.SegmentSteps.{MayMakeZero, ChangesSegments, segment_cell, with_new_cells, with_zero_object, with_zero_part}
+use Rattle.seg_ops.specs.vm_world.Segments.{segments_of, spot_at, zero_map}
+use Rattle.seg_ops.specs.vm_world.World.{World, file_blocks, is_unpushed, slot_name}
+use Rattle.seg_ops.proofs.vm_world.Counting.{adds, adds-other}
+use Rattle.seg_ops.proofs.vm_world.SegmentSteps.{segment_rule}
+use Rattle.seg_ops.proofs.vm_world.Spaces.{map-empty, entries-empty}
 use Rattle.flat_model.specs.Flat.{Flat}
-use Rattle.vm_world.specs.CallSteps.{ChangesMemory}
+use Rattle.seg_ops.specs.vm_world.CallSteps.{ChangesMemory}
 use Rattle.seg_ops.specs.Empties.{IsUnloadedZero, OwnsPlaces}
 use Rattle.seg_ops.specs.Slots.{OwnsAlone}
 use Rattle.vm_trials.specs.SlotTrials.{holding_segment, holding_page, holding_part, holding_spaces, holding_map, holding_maps, holding_slots, HoldsOne, object_segment, object_part, object_spaces}

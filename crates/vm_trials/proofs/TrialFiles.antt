@@ -15,7 +15,7 @@ use Rattle.vnode_files.specs.Files.{FilesSeen, no_files, vnode_at, block_count, 
 use Rattle.vnode_files.specs.Vnode.{VnodeSeen, fresh_vnode}
 use Rattle.vnode_files.specs.Grow.{has_block, extent_end}
 use Rattle.vnode_files.specs.Layout.{LieOnDisk, LieOnDisks, NoneMeet}
-use Rattle.page_store.specs.Bays.{AreNumbers, numbers_of, pairs_seen}
+use Rattle.seg_ops.specs.page_store.Bays.{AreNumbers, numbers_of, pairs_seen}
 use Rattle.flat_model.proofs.Ranges.{get-insert_here, get-insert_apart}
 use Rattle.vm_core.specs.Setup.{FilesOnDisks, ListsDisk}
 use Rattle.vm_trials.specs.Trials.{trial_file, trial_files, trial_disks}

@@ -11,15 +11,15 @@ use Rattle.vm_types.specs.declared.call.Entry.{Entry}
 use Rattle.vm_types.specs.declared.call.Reply.{Reply}
 use Rattle.flat_model.specs.OpenLaws.{last_entry, FollowsOn, MayFollow}
 use Rattle.flat_model.proofs.Opens.{last_entry-push}
-use Rattle.page_store.specs.Flight.{FlightSeen, IsPerformed, note_of, fresh}
+use Rattle.seg_ops.specs.page_store.Flight.{FlightSeen, IsPerformed, note_of, fresh}
 use Rattle.seg_vn.specs.declared.attempt.Attempt.{Attempt}
 use Rattle.seg_vn.specs.declared.attempt.Attempt.TheVariants.{Done, Need, Busy}
-use Rattle.vm_world.specs.Events.{IsEvent, MayBear}
-use Rattle.vm_world.specs.Opening.{no_seats}
-use Rattle.vm_world.specs.StateFits.{StateFits}
-use Rattle.vm_world.specs.State.{KernelState, Fixed, Seats, Sent, Caller, KeptPlan, with_sent, seats_of}
-use Rattle.vm_world.proofs.StateSteps.{same-seats}
-use Rattle.vm_world.proofs.Told.{event_law}
+use Rattle.seg_ops.specs.vm_world.Events.{IsEvent, MayBear}
+use Rattle.seg_ops.specs.vm_world.Opening.{no_seats}
+use Rattle.seg_ops.specs.vm_world.StateFits.{StateFits}
+use Rattle.seg_ops.specs.vm_world.State.{KernelState, Fixed, Seats, Sent, Caller, KeptPlan, with_sent, seats_of}
+use Rattle.seg_ops.proofs.vm_world.StateSteps.{same-seats}
+use Rattle.seg_ops.proofs.vm_world.Told.{event_law}
 use Rattle.vm_core.specs.Calls.{IsServed, AnswersCall}
 use Rattle.vm_core.specs.Finish.{FitsStill}
 use Rattle.vm_core.specs.Fits.{FitsAt}

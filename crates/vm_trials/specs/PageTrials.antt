@@ -4,18 +4,18 @@ use Rattle.std.specs.FinMap as finite
 use Rattle.vm_types.specs.declared.call.Kind.TheVariants.{Shared}
 use Rattle.vm_types.specs.declared.call.Object.TheVariants as object
 use Rattle.addr_space.specs.Space.{Part}
-use Rattle.page_store.specs.Flight.{FlightSeen, fresh, note_of}
-use Rattle.page_store.specs.Notes.{no_notes, with_note}
-use Rattle.page_store.specs.Out.{IsFlightOf}
+use Rattle.seg_ops.specs.page_store.Flight.{FlightSeen, fresh, note_of}
+use Rattle.seg_ops.specs.page_store.Notes.{no_notes, with_note}
+use Rattle.seg_ops.specs.page_store.Out.{IsFlightOf}
 use Rattle.vnode_files.specs.declared.vnode.FileInfo.{FileInfo}
 use Rattle.vnode_files.specs.Files.{FilesSeen, vnode_at}
 use Rattle.vnode_files.specs.Grow.{page_count}
 use Rattle.anon_slots.specs.Slots.{AnonSlotsSeen}
-use Rattle.vm_world.specs.MemoryFits.{MemoryFits}
-use Rattle.vm_world.specs.NotesFit.{NotesFit}
-use Rattle.vm_world.specs.declared.segment.Segment.{Segment}
-use Rattle.vm_world.specs.Segments.{Spaces}
-use Rattle.vm_world.specs.World.{World, file_name, page_exists}
+use Rattle.seg_ops.specs.vm_world.MemoryFits.{MemoryFits}
+use Rattle.seg_ops.specs.vm_world.NotesFit.{NotesFit}
+use Rattle.seg_ops.specs.vm_world.declared.segment.Segment.{Segment}
+use Rattle.seg_ops.specs.vm_world.Segments.{Spaces}
+use Rattle.seg_ops.specs.vm_world.World.{World, file_name, page_exists}
 
 -- File 0, shared, from page 1 of the process on, to be read and written.
 abbrev pub trial_segment : Segment

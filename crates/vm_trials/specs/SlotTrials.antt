@@ -8,9 +8,9 @@ use Rattle.addr_space.specs.Space.{Part, with_new_part}
 use Rattle.anon_map.specs.Maps.{Map, IsMapThere, places_of}
 use Rattle.anon_slots.specs.Slots.{AnonSlotsSeen, IsSoundAnonSlots}
 use Rattle.hat_layer.specs.Pool.{translation_at}
-use Rattle.vm_world.specs.declared.segment.Segment.{Segment}
-use Rattle.vm_world.specs.Segments.{Spaces}
-use Rattle.vm_world.specs.World.{World}
+use Rattle.seg_ops.specs.vm_world.declared.segment.Segment.{Segment}
+use Rattle.seg_ops.specs.vm_world.Segments.{Spaces}
+use Rattle.seg_ops.specs.vm_world.World.{World}
 use Rattle.seg_ops.specs.Slots.{OwnsAlone}
 
 -- The mapping whose anon map has this number: two pages, to be read and written.

@@ -1,14 +1,14 @@
 -- A state that is tried out, with what two seats have outside it; and the files of the trials. Inside: no public clause cites this.
 use Rattle.std.specs.Prelude.{◌≡◌, ℕ, Bool, List, [], ◌∷◌, Option, None, Some, IfSome, map, option_map, slice_index_or, length}
-use Rattle.page_store.specs.Flight.{FlightSeen, note_of, fresh}
+use Rattle.seg_ops.specs.page_store.Flight.{FlightSeen, note_of, fresh}
 use Rattle.vm_types.specs.declared.call.Entry.{Entry}
 use Rattle.vnode_files.specs.declared.vnode.FileInfo.{FileInfo}
 use Rattle.vnode_files.specs.Files.{FilesSeen, no_files, with_disk, with_next_file}
 use Rattle.vnode_files.specs.Vnode.{fresh_vnode}
 use Rattle.flat_model.specs.Flat.{Flat}
 use Rattle.flat_model.specs.OpenLaws.{MayFollow}
-use Rattle.vm_world.specs.State.{KernelState, Caller, Sent, Seats, seats_of}
-use Rattle.vm_world.specs.StateFits.{StateFits}
+use Rattle.seg_ops.specs.vm_world.State.{KernelState, Caller, Sent, Seats, seats_of}
+use Rattle.seg_ops.specs.vm_world.StateFits.{StateFits}
 use Rattle.vm_core.specs.Calls.{IsServed}
 
 -- What a seat has outside: its transfer, and the process and call that it is for.

@@ -3,22 +3,20 @@ ghost use Rattle.std.specs.Prelude.{◌≡◌, ◌<◌, ℕ, length, IfOk, IsTru
 ghost use Rattle.block_device.specs.MemDiskLook.{look};
 ghost use Rattle.block_device.specs.MemSeen.{disk_of};
 ghost use Rattle.core_arena.specs.Bytes.{bytes_at};
-ghost use Rattle.page_store.specs.Seen.{residence};
-ghost use Rattle.vm_world.specs.World.{world_seen, file_name};
+ghost use Rattle.seg_ops.specs.page_store.Seen.{residence};
+ghost use Rattle.seg_ops.specs.vm_world.World.{world_seen, file_name};
 ghost use Rattle.vm_trials.specs.PageTrials.{IsTrial, IsTrialFile, IsTrialOut, IsTrialPage};
 
 use anon_map::AnonMaps;
 use anon_slots::AnonSlots;
 use block_device::{Block, MemDisk};
 use hat_layer::Hat;
-use page_store::{Flight, PageName, Plan, Residence, Store};
 use seg_ops::{
-    ask, begin_push, begin_read, end_flight, fetch, fill, frame_for, make_room, read, show, sync,
-    write,
+    Flight, PageName, Plan, Residence, Store, Wants, World, ZeroObjects, ask, begin_push,
+    begin_read, end_flight, fetch, fill, frame_for, make_room, read, show, sync, write,
 };
 use std::alloc::{AllocError, Global};
 use std::test::Fail;
-use vm_world::{Wants, World, ZeroObjects};
 use vnode_files::{Extent, Extents, FileInfo, FileName, Files};
 
 #[derive(Clone, Copy, PartialEq, Eq, Debug)]

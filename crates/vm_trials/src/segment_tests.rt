@@ -6,12 +6,11 @@ use anon_map::AnonMaps;
 use anon_slots::AnonSlots;
 use block_device::{Block, MemDisk};
 use hat_layer::Hat;
-use page_store::Store;
+use seg_ops::{Store, World, ZeroObjects};
 use seg_vn::{Spaces, VnSeg};
 use std::alloc::{AllocError, Global};
 use std::test::Fail;
 use vm_types::{Kind, Object, Prot};
-use vm_world::{World, ZeroObjects};
 use vnode_files::Files;
 
 // The pages of a process's piece at this page.

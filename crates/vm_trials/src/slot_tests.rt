@@ -5,8 +5,8 @@ ghost use Rattle.anon_slots.specs.Slots.{count_at};
 ghost use Rattle.block_device.specs.MemDiskLook.{look};
 ghost use Rattle.block_device.specs.MemSeen.{disk_of};
 ghost use Rattle.hat_layer.specs.Pool.{translation_at};
-ghost use Rattle.page_store.specs.Steps.{next_frame};
-ghost use Rattle.vm_world.specs.World.{world_seen, slot_in};
+ghost use Rattle.seg_ops.specs.page_store.Steps.{next_frame};
+ghost use Rattle.seg_ops.specs.vm_world.World.{world_seen, slot_in};
 ghost use Rattle.vm_trials.specs.SlotTrials.{HoldsOne, IsHoldingPlace, holding_maps, holding_slots, holding_spaces, object_spaces};
 ghost use Rattle.vm_trials.specs.PageTrials.{IsTrialIn, IsTrialOutIn};
 
@@ -14,14 +14,12 @@ use anon_map::AnonMaps;
 use anon_slots::AnonSlots;
 use block_device::{Block, MemDisk};
 use hat_layer::Hat;
-use page_store::{Flight, PageName, Plan, Residence, SWAP_OBJECT, Store};
 use seg_ops::{
-    ask, begin_read, copy_slot, drop_object, drop_places, drop_slot, end_flight, leave_slot,
-    make_zero,
+    Flight, PageName, Plan, Residence, SWAP_OBJECT, Store, Wants, World, ZeroObjects, ask,
+    begin_read, copy_slot, drop_object, drop_places, drop_slot, end_flight, leave_slot, make_zero,
 };
 use std::alloc::{AllocError, Global};
 use std::test::Fail;
-use vm_world::{Wants, World, ZeroObjects};
 use vnode_files::Files;
 
 #[derive(Clone, Copy, PartialEq, Eq, Debug)]

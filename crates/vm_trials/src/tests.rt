@@ -11,7 +11,7 @@ use crate::trial::Trial;
 use Act::{Clock, Do, Land, Try};
 use What::{Exit, Load, Map, Protect, Store, Unmap, Zero};
 use block_device::{Block, DiskFault, MemDisk};
-use page_store::Hold;
+use seg_ops::Hold;
 use std::alloc::{AllocError, Global};
 use std::test::Fail;
 use vm_core::{Finished, Setup, VmState};

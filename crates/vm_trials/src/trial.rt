@@ -1,11 +1,11 @@
 //! A state with what three seats have outside it, for tests: calls are tried, transfers begin and end, and hands move.
 ghost use Rattle.std.specs.Prelude.{◌≡◌, ◌<◌, ◌∷◌, [], ℕ, Some, None, IsTrue, option_map, slice_index_or, slice_set};
 ghost use Rattle.vm_core.specs.Calls.{IsServed};
-ghost use Rattle.vm_world.specs.Events.{MayBear};
+ghost use Rattle.seg_ops.specs.vm_world.Events.{MayBear};
 ghost use Rattle.vm_trials.specs.Trials.{IsTrialState, IsOfServed};
 
 use block_device::MemDisk;
-use page_store::{Flight, Hold, Plan};
+use seg_ops::{Flight, Hold, Plan};
 use std::marker::Model;
 use std::mem;
 use std::test::Fail;

@@ -6,7 +6,7 @@ use Rattle.std.specs.Cmp.{nat_cmp_total, unsigned_tied}
 use Rattle.std.specs.List.{list_any}
 use Rattle.flat_model.specs.Births.{is_birth}
 use Rattle.flat_model.specs.Counted.{top_count}
-use Rattle.vm_types.specs.declared.call.Entry.{Entry}
+use Rattle.flat_model.specs.vm_types.declared.call.Entry.{Entry}
 use Rattle.vm_world.specs.Pages.{page_value}
 use Rattle.std.specs.FinMap as finite
 use Rattle.std.specs.FinSet as set
@@ -16,13 +16,13 @@ use Rattle.std.proofs.lemmas.List.Elements.{All-nil, All-cons}
 use Rattle.std.proofs.lemmas.List.Sums.{sum_by-cons}
 use Rattle.addr_space.specs.Space.{Part, IsInOrder, piece_at}
 use Rattle.anon_map.specs.Maps.{Map, places_of, holders_of}
-use Rattle.vnode_files.specs.Files.{no_files}
-use Rattle.block_device.specs.DiskSeen.{DiskSeen, IsBlock, AreBlocks, HasBlocks}
-use Rattle.core_arena.specs.Bytes.{bytes_at}
-use Rattle.page_hash.specs.Names.{name_at}
-use Rattle.page_hash.specs.declared.PageName.{PageName}
-use Rattle.page_lists.proofs.ListLemmas.{Contains-none}
-use Rattle.page_lock.specs.Rows.{row_at}
+use Rattle.flat_model.specs.vnode_files.Files.{no_files}
+use Rattle.page_store.specs.block_device.DiskSeen.{DiskSeen, IsBlock, AreBlocks, HasBlocks}
+use Rattle.page_store.specs.core_arena.Bytes.{bytes_at}
+use Rattle.page_store.specs.page_hash.Names.{name_at}
+use Rattle.page_store.specs.page_hash.declared.PageName.{PageName}
+use Rattle.page_store.proofs.page_lists.ListLemmas.{Contains-none}
+use Rattle.page_store.specs.page_lock.Rows.{row_at}
 use Rattle.page_store.specs.Bays.{BaySeen, missing, home, out, bay_at}
 use Rattle.page_store.specs.Layout.{AreDisjoint, KeepsPage, FileBlocks}
 use Rattle.page_store.specs.Notes.{Note}

@@ -7,11 +7,11 @@ use Rattle.std.specs.Ordering.{nat_cmp}
 use Rattle.std.proofs.lemmas.Bool.Decides.{eqb_tells}
 use Rattle.std.proofs.lemmas.List.{length-append}
 use Rattle.std.proofs.lemmas.Option.{slice_get-map}
-use Rattle.vm_types.specs.declared.call.Entry.{Entry}
+use Rattle.flat_model.specs.vm_types.declared.call.Entry.{Entry}
 use Rattle.addr_space.specs.Space.{Part}
 use Rattle.page_store.specs.Notes.{Notes}
-use Rattle.vnode_files.specs.declared.vnode.FileInfo.{FileInfo}
-use Rattle.vnode_files.specs.Vnode.{VnodeSeen}
+use Rattle.flat_model.specs.vnode_files.declared.vnode.FileInfo.{FileInfo}
+use Rattle.flat_model.specs.vnode_files.Vnode.{VnodeSeen}
 use Rattle.flat_model.specs.Flat.{Flat}
 use Rattle.flat_model.specs.OpenLaws.{FollowsOn, last_entry}
 use Rattle.flat_model.specs.Told.{entries_of}

@@ -9,10 +9,10 @@ use Rattle.std.proofs.lemmas.Bool.{cases_eq}
 use Rattle.std.proofs.lemmas.List.{length-replicate}
 use Rattle.std.proofs.lemmas.List.Elements.{All-nil, All-cons}
 use Rattle.std.proofs.lemmas.List.Sums.{sum_by-cons}
-use Rattle.vm_types.specs.declared.call.Kind.{Kind}
-use Rattle.vm_types.specs.declared.call.Kind.TheVariants.{Shared, Private}
-use Rattle.vm_types.specs.declared.call.Object.{Object}
-use Rattle.vm_types.specs.declared.call.Object.TheVariants as object
+use Rattle.flat_model.specs.vm_types.declared.call.Kind.{Kind}
+use Rattle.flat_model.specs.vm_types.declared.call.Kind.TheVariants.{Shared, Private}
+use Rattle.flat_model.specs.vm_types.declared.call.Object.{Object}
+use Rattle.flat_model.specs.vm_types.declared.call.Object.TheVariants as object
 use Rattle.addr_space.specs.Space.{Part, part_at, with_new_part}
 use Rattle.addr_space.proofs.PartLists.{all-found}
 use Rattle.anon_map.specs.Maps.{Map, anon_map_at, IsMapThere, IsUnused, places_of, holders_of, fresh_map}
@@ -23,7 +23,7 @@ use Rattle.flat_model.specs.Words.{Page, IsPage, zero_page}
 use Rattle.flat_model.proofs.Ranges.{get-insert_here, get-insert_apart}
 use Rattle.flat_model.proofs.Sums.{total, total-insert}
 use Rattle.flat_model.proofs.WellFormed.{IsPage-zero_page}
-use Rattle.page_hash.specs.declared.PageName.{PageName}
+use Rattle.page_store.specs.page_hash.declared.PageName.{PageName}
 use Rattle.anon_map.proofs.MapLaws.{with_map_same}
 use Rattle.vm_world.specs.CountsFit.{CountsFit, SegmentFits, ObjectFits, OwnFits, times_had, is_number, slots_for_part}
 use Rattle.vm_world.specs.FlatMemory.{Memory, flat_memory, cell_of, own_page, own_without_slot, zero_maps, zero_pages, pages_from}

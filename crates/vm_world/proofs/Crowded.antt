@@ -11,23 +11,23 @@ use Rattle.std.proofs.lemmas.Bool.Decides.{eqb_tells}
 use Rattle.std.proofs.lemmas.List.{length-take, length-append}
 use Rattle.std.proofs.lemmas.List.Elements.{All-nil, All-cons}
 use Rattle.std.proofs.lemmas.List.Sums.{sum_by-cons, count_by-le-length}
-use Rattle.vm_types.specs.declared.call.Call.TheVariants.{Read, Fork}
-use Rattle.vm_types.specs.declared.call.Entry.{Entry}
-use Rattle.vm_types.specs.declared.call.Reply.TheVariants.{Bytes, Io}
-use Rattle.vm_types.specs.Parts.{ends_call, next_part}
-use Rattle.vnode_files.specs.Files.{vnode_at, extents_on, block_count}
-use Rattle.vnode_files.specs.Grow.{has_block, extent_end, page_count}
-use Rattle.vnode_files.specs.Layout.{LieOnDisk}
-use Rattle.vnode_files.specs.Vnode.{VnodeSeen, IsSoundVnode}
-use Rattle.vnode_files.specs.declared.extent.Extent.{Extent}
+use Rattle.flat_model.specs.vm_types.declared.call.Call.TheVariants.{Read, Fork}
+use Rattle.flat_model.specs.vm_types.declared.call.Entry.{Entry}
+use Rattle.flat_model.specs.vm_types.declared.call.Reply.TheVariants.{Bytes, Io}
+use Rattle.flat_model.specs.vm_types.Parts.{ends_call, next_part}
+use Rattle.flat_model.specs.vnode_files.Files.{vnode_at, extents_on, block_count}
+use Rattle.flat_model.specs.vnode_files.Grow.{has_block, extent_end, page_count}
+use Rattle.flat_model.specs.vnode_files.Layout.{LieOnDisk}
+use Rattle.flat_model.specs.vnode_files.Vnode.{VnodeSeen, IsSoundVnode}
+use Rattle.flat_model.specs.vnode_files.declared.extent.Extent.{Extent}
 use Rattle.addr_space.specs.Space.{Part, IsInOrder}
 use Rattle.anon_map.specs.Maps.{Map, places_of, holders_of}
-use Rattle.block_device.specs.DiskSeen.{DiskSeen, IsBlock, AreBlocks, HasBlocks}
-use Rattle.core_arena.specs.Bytes.{bytes_at}
-use Rattle.page_hash.specs.Names.{name_at}
-use Rattle.page_hash.specs.declared.PageName.{PageName}
-use Rattle.page_lists.proofs.ListLemmas.{Contains-none}
-use Rattle.page_lock.specs.Rows.{row_at}
+use Rattle.page_store.specs.block_device.DiskSeen.{DiskSeen, IsBlock, AreBlocks, HasBlocks}
+use Rattle.page_store.specs.core_arena.Bytes.{bytes_at}
+use Rattle.page_store.specs.page_hash.Names.{name_at}
+use Rattle.page_store.specs.page_hash.declared.PageName.{PageName}
+use Rattle.page_store.proofs.page_lists.ListLemmas.{Contains-none}
+use Rattle.page_store.specs.page_lock.Rows.{row_at}
 use Rattle.page_store.specs.Bays.{BaySeen, missing, home, out, bay_at}
 use Rattle.page_store.specs.Layout.{FileBlocks}
 use Rattle.page_store.specs.Notes.{Note}

@@ -1,7 +1,7 @@
 -- A cut of pages is a cut of tails.
 use Rattle.std.proofs.Common.{◌≡◌, ℕ, suc, ◌+◌, ◌-◌, ◌*◌, ◌<◌, ◌≤◌, min, Bool, true, false, cond, List, [], ◌∷◌, length, Option, Some, None, refl, sym, ap, ◌∙◌, ◌⊎◌, inl, inr, subst, arith}
 use Rattle.std.specs.Prelude.{option_map, slice_get}
-use Rattle.vnode_files.specs.declared.vnode.FileInfo.{FileInfo}
+use Rattle.flat_model.specs.vnode_files.declared.vnode.FileInfo.{FileInfo}
 use Rattle.flat_model.specs.Words.{Page, pages_in}
 use Rattle.flat_model.specs.Flat.{File}
 use Rattle.flat_model.specs.LineLaws.{page_front}

@@ -9,17 +9,17 @@ use Rattle.std.proofs.lemmas.Bool.{cases_Bool, cases_eq, cases_lt, eq-eqb, ne_eq
 use Rattle.std.proofs.lemmas.List.{get_or-take, get_or-drop, length-take-le, length-drop}
 use Rattle.std.proofs.lemmas.List.Elements.{All-cons, All-head, All-tail}
 use Rattle.std.proofs.lemmas.List.Sums.{sum_by-take-drop}
-use Rattle.vm_types.specs.declared.call.Kind.{Kind}
-use Rattle.vm_types.specs.declared.call.Kind.TheVariants.{Shared, Private}
-use Rattle.vm_types.specs.declared.call.Object.{Object}
-use Rattle.vm_types.specs.declared.call.Object.TheVariants as object
+use Rattle.flat_model.specs.vm_types.declared.call.Kind.{Kind}
+use Rattle.flat_model.specs.vm_types.declared.call.Kind.TheVariants.{Shared, Private}
+use Rattle.flat_model.specs.vm_types.declared.call.Object.{Object}
+use Rattle.flat_model.specs.vm_types.declared.call.Object.TheVariants as object
 use Rattle.addr_space.specs.Space.{Part, part, IsInOrder, piece_at, has, part_at, without_part, cut_at, with_new_piece, lower_part, upper_part}
 use Rattle.addr_space.proofs.PartLemmas.{has-in, has-within, found-in, at-here, at-next, ordered-cut, ordered-without_part, at-without_part}
 use Rattle.addr_space.proofs.PartLists.{all-without_part, all-found, at-cut_both, at-found, found-begins, found-with_new_piece}
 use Rattle.addr_space.proofs.PageLaws.{ordered-written}
 use Rattle.anon_map.specs.Maps.{Map, anon_map_at, IsMapThere, IsUnused, places_of, holders_of, fresh_map, the_map}
 use Rattle.page_store.specs.Notes.{Notes}
-use Rattle.page_hash.specs.declared.PageName.{PageName}
+use Rattle.page_store.specs.page_hash.declared.PageName.{PageName}
 use Rattle.flat_model.specs.Access.{with_space}
 use Rattle.flat_model.specs.Flat.{Cell, Space, Flat, IsFlat, without_unnamed}
 use Rattle.flat_model.specs.Mapping.{cells_of}

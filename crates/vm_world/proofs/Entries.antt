@@ -8,12 +8,12 @@ use Rattle.std.specs.FinSet as set
 use Rattle.std.proofs.lemmas.Bool.{cases_Bool, eqb-true}
 use Rattle.std.proofs.lemmas.Bool.Decides.{eqb_tells}
 use Rattle.std.proofs.lemmas.List.{length-append}
-use Rattle.vm_types.specs.declared.call.Call.{Call}
-use Rattle.vm_types.specs.declared.call.Call.TheVariants.{Fork}
-use Rattle.vm_types.specs.declared.call.Entry.{Entry}
-use Rattle.vm_types.specs.declared.call.Reply.TheVariants.{Io}
-use Rattle.vm_types.specs.Parts.{file_of_call, is_part}
-use Rattle.vm_types.specs.WellFormed.{IsWellFormed}
+use Rattle.flat_model.specs.vm_types.declared.call.Call.{Call}
+use Rattle.flat_model.specs.vm_types.declared.call.Call.TheVariants.{Fork}
+use Rattle.flat_model.specs.vm_types.declared.call.Entry.{Entry}
+use Rattle.flat_model.specs.vm_types.declared.call.Reply.TheVariants.{Io}
+use Rattle.flat_model.specs.vm_types.Parts.{file_of_call, is_part}
+use Rattle.flat_model.specs.vm_types.WellFormed.{IsWellFormed}
 use Rattle.page_store.specs.Bays.{BaySeen}
 use Rattle.page_store.specs.Notes.{Notes}
 use Rattle.flat_model.specs.Births.{is_birth}

@@ -5,15 +5,15 @@ use Rattle.std.specs.FinSet as set
 use Rattle.std.proofs.lemmas.Bool.{cases_eq}
 use Rattle.std.proofs.lemmas.Bool.Decides.{eqb_tells}
 use Rattle.std.proofs.lemmas.List.Elements.{All-nil, All-cons}
-use Rattle.block_device.specs.Counts.{HasRisen}
-use Rattle.vm_types.specs.declared.call.Call.{Call}
-use Rattle.vm_types.specs.declared.call.Call.TheVariants.{Fork}
-use Rattle.vm_types.specs.declared.call.Entry.{Entry}
-use Rattle.vm_types.specs.declared.call.Reply.{Reply}
-use Rattle.vm_types.specs.declared.call.Reply.TheVariants as reply
-use Rattle.vm_types.specs.declared.call.Reply.TheVariants.{Io}
-use Rattle.vm_types.specs.Parts.{is_part}
-use Rattle.page_hash.specs.declared.PageName.{PageName}
+use Rattle.page_store.specs.block_device.Counts.{HasRisen}
+use Rattle.flat_model.specs.vm_types.declared.call.Call.{Call}
+use Rattle.flat_model.specs.vm_types.declared.call.Call.TheVariants.{Fork}
+use Rattle.flat_model.specs.vm_types.declared.call.Entry.{Entry}
+use Rattle.flat_model.specs.vm_types.declared.call.Reply.{Reply}
+use Rattle.flat_model.specs.vm_types.declared.call.Reply.TheVariants as reply
+use Rattle.flat_model.specs.vm_types.declared.call.Reply.TheVariants.{Io}
+use Rattle.flat_model.specs.vm_types.Parts.{is_part}
+use Rattle.page_store.specs.page_hash.declared.PageName.{PageName}
 use Rattle.page_store.specs.Bays.{bay_at}
 use Rattle.page_store.specs.Flight.{FlightSeen, failed}
 use Rattle.flat_model.specs.CountLaws.{count_after, last_count}

@@ -9,19 +9,19 @@ use Rattle.std.proofs.lemmas.Bool.{ltb-true, ltb-false, lt-ltb}
 use Rattle.std.proofs.lemmas.List.{length-map, length-take, map-append, take-map, drop-map}
 use Rattle.std.proofs.Math.Seq.{take-nil}
 use Rattle.std.proofs.Math.ListN.{drop_of_length-le}
-use Rattle.vm_types.specs.declared.call.Call.{Call}
-use Rattle.vm_types.specs.declared.call.Call.TheVariants as call
-use Rattle.vm_types.specs.declared.call.Entry.{Entry}
-use Rattle.vm_types.specs.declared.call.Errno.{Errno}
-use Rattle.vm_types.specs.declared.call.Errno.TheVariants as errno
-use Rattle.vm_types.specs.declared.call.Reply.TheVariants as reply
-use Rattle.vm_types.specs.Pages.{line_rest}
+use Rattle.flat_model.specs.vm_types.declared.call.Call.{Call}
+use Rattle.flat_model.specs.vm_types.declared.call.Call.TheVariants as call
+use Rattle.flat_model.specs.vm_types.declared.call.Entry.{Entry}
+use Rattle.flat_model.specs.vm_types.declared.call.Errno.{Errno}
+use Rattle.flat_model.specs.vm_types.declared.call.Errno.TheVariants as errno
+use Rattle.flat_model.specs.vm_types.declared.call.Reply.TheVariants as reply
+use Rattle.flat_model.specs.vm_types.Pages.{line_rest}
 use Rattle.page_store.specs.Notes.{Notes}
-use Rattle.vnode_files.specs.declared.extent.Extent.{Extent}
-use Rattle.vnode_files.specs.declared.vnode.FileInfo.{FileInfo}
-use Rattle.vnode_files.specs.Files.{FilesSeen, vnode_at, growth_of, extents_on}
-use Rattle.vnode_files.specs.Grow.{growth}
-use Rattle.vnode_files.specs.Vnode.{VnodeSeen}
+use Rattle.flat_model.specs.vnode_files.declared.extent.Extent.{Extent}
+use Rattle.flat_model.specs.vnode_files.declared.vnode.FileInfo.{FileInfo}
+use Rattle.flat_model.specs.vnode_files.Files.{FilesSeen, vnode_at, growth_of, extents_on}
+use Rattle.flat_model.specs.vnode_files.Grow.{growth}
+use Rattle.flat_model.specs.vnode_files.Vnode.{VnodeSeen}
 use Rattle.flat_model.specs.Access.{with_change_at}
 use Rattle.flat_model.specs.Flat.{File, Flat, IsFile, IsFlat}
 use Rattle.flat_model.specs.Parts.{existing_file, writable_file, growth_in, room_for, extents_beside, with_extents_of, with_file_at, with_part, file_of_length, write_part, truncate, read_part, read_line, file_bytes}
@@ -40,7 +40,7 @@ use Rattle.vm_world.specs.Pages.{page_value, file_contents}
 use Rattle.vm_world.specs.World.{World, AllTell, file_name}
 use Rattle.vm_world.proofs.FilePages.{page-in, page-past, file-in}
 use Rattle.vm_world.proofs.FileSteps.{file_rule, file-at, no-file-at, file-whole-at}
-use Rattle.vm_types.specs.Parts.{file_of_call}
+use Rattle.flat_model.specs.vm_types.Parts.{file_of_call}
 use Rattle.vm_world.specs.Plans.{MayMeetFault}
 use Rattle.vm_world.proofs.MayFails.{writable_in, writable-in, kept_file}
 use Rattle.vm_world.proofs.PageNames.{not-slot, file-apart}

@@ -1,7 +1,7 @@
 -- The pages and the files of flat memory, one by one.
 use Rattle.std.proofs.Common.{◌≡◌, ℕ, zero, suc, ◌+◌, ◌<◌, ◌≤◌, List, [], ◌∷◌, length, Some, None, refl, ap, ◌∙◌, subst, arith}
 use Rattle.std.specs.Prelude.{option_map, slice_get, All}
-use Rattle.vnode_files.specs.declared.vnode.FileInfo.{FileInfo}
+use Rattle.flat_model.specs.vnode_files.declared.vnode.FileInfo.{FileInfo}
 use Rattle.flat_model.specs.Words.{Page}
 use Rattle.flat_model.specs.Flat.{File}
 use Rattle.vm_world.specs.FlatMemory.{pages_from, file_with_pages, files_with_pages}

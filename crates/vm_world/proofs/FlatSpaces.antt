@@ -4,7 +4,7 @@ use Rattle.std.specs.Prelude.{option_and_then, is_some, IsSome}
 use Rattle.std.specs.FinMap as finite
 use Rattle.std.specs.FinSet as set
 use Rattle.std.proofs.lemmas.Bool.{cases_eq}
-use Rattle.vm_types.specs.Pages.{IsUserPage}
+use Rattle.flat_model.specs.vm_types.Pages.{IsUserPage}
 use Rattle.flat_model.specs.Access.{with_space}
 use Rattle.flat_model.specs.Flat.{Cell, Space, Flat, IsCell, IsFlat, space_of, cell_at, is_named}
 use Rattle.flat_model.specs.Processes.{without_process}

@@ -5,14 +5,14 @@ use Rattle.std.specs.Option.{option_or}
 use Rattle.std.specs.Ordering.{nat_cmp}
 use Rattle.std.specs.FinMap as finite
 use Rattle.std.specs.FinSet as set
-use Rattle.vm_types.specs.declared.call.Kind.{Kind}
-use Rattle.vm_types.specs.declared.call.Object.{Object}
-use Rattle.vm_types.specs.declared.call.Object.TheVariants as object
+use Rattle.flat_model.specs.vm_types.declared.call.Kind.{Kind}
+use Rattle.flat_model.specs.vm_types.declared.call.Object.{Object}
+use Rattle.flat_model.specs.vm_types.declared.call.Object.TheVariants as object
 use Rattle.addr_space.specs.Space.{Part}
-use Rattle.page_hash.specs.declared.PageName.{PageName}
+use Rattle.page_store.specs.page_hash.declared.PageName.{PageName}
 use Rattle.page_store.specs.Notes.{Notes}
-use Rattle.vnode_files.specs.declared.vnode.FileInfo.{FileInfo}
-use Rattle.vnode_files.specs.Files.{vnode_at}
+use Rattle.flat_model.specs.vnode_files.declared.vnode.FileInfo.{FileInfo}
+use Rattle.flat_model.specs.vnode_files.Files.{vnode_at}
 use Rattle.flat_model.specs.Words.{Page, IsPage, zero_page, pages_in}
 use Rattle.flat_model.specs.Flat.{Cell, IsCell, IsFile, IsFlat}
 use Rattle.flat_model.proofs.WellFormed.{IsPage-zero_page}

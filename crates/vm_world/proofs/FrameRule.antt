@@ -5,14 +5,14 @@ use Rattle.std.specs.FinSet as set
 use Rattle.std.specs.Ordering.{nat_cmp}
 use Rattle.std.proofs.lemmas.Bool.{cases_Bool}
 use Rattle.std.proofs.lemmas.List.{length-map}
-use Rattle.page_hash.specs.declared.PageName.{PageName}
+use Rattle.page_store.specs.page_hash.declared.PageName.{PageName}
 use Rattle.page_store.specs.Notes.{Notes}
 use Rattle.page_store.specs.declared.place.Place.{Place}
 use Rattle.anon_map.specs.Maps.{places_of}
-use Rattle.vnode_files.specs.declared.vnode.FileInfo.{FileInfo}
-use Rattle.vnode_files.specs.Files.{vnode_at}
-use Rattle.vnode_files.specs.Grow.{page_count}
-use Rattle.vnode_files.specs.Vnode.{VnodeSeen, no_vnode}
+use Rattle.flat_model.specs.vnode_files.declared.vnode.FileInfo.{FileInfo}
+use Rattle.flat_model.specs.vnode_files.Files.{vnode_at}
+use Rattle.flat_model.specs.vnode_files.Grow.{page_count}
+use Rattle.flat_model.specs.vnode_files.Vnode.{VnodeSeen, no_vnode}
 use Rattle.flat_model.specs.Words.{Page, pages_in}
 use Rattle.flat_model.specs.Flat.{File, IsFile, IsFlat}
 use Rattle.flat_model.specs.Step.{files_cleared, tails_cleared}

@@ -6,16 +6,16 @@ use Rattle.std.specs.Cmp.{nat_cmp_total}
 use Rattle.std.specs.FinMap as finite
 use Rattle.std.specs.FinSet as set
 use Rattle.std.proofs.lemmas.Bool.{cases_Bool, cases_eq, eqb-true}
-use Rattle.vm_types.specs.declared.call.Kind.{Kind}
-use Rattle.vm_types.specs.declared.call.Kind.TheVariants.{Shared, Private}
-use Rattle.vm_types.specs.declared.call.Object.{Object}
-use Rattle.vm_types.specs.declared.call.Object.TheVariants as object
+use Rattle.flat_model.specs.vm_types.declared.call.Kind.{Kind}
+use Rattle.flat_model.specs.vm_types.declared.call.Kind.TheVariants.{Shared, Private}
+use Rattle.flat_model.specs.vm_types.declared.call.Object.{Object}
+use Rattle.flat_model.specs.vm_types.declared.call.Object.TheVariants as object
 use Rattle.addr_space.specs.Space.{Part, IsInOrder, piece_at, has, begins, without_part}
 use Rattle.addr_space.proofs.PartLemmas.{has-within, at-without_part, ordered-without_part}
 use Rattle.addr_space.proofs.PartLists.{all-without_part, all-begins, begins-found, at-found}
 use Rattle.anon_map.specs.Maps.{Map, anon_map_at, IsMapThere, AreEmpty, places_of, holders_of}
 use Rattle.hat_layer.specs.Pool as pool
-use Rattle.page_hash.specs.declared.PageName.{PageName}
+use Rattle.page_store.specs.page_hash.declared.PageName.{PageName}
 use Rattle.page_store.specs.Notes.{Notes}
 use Rattle.flat_model.specs.Access.{with_space}
 use Rattle.flat_model.specs.Flat.{Cell, Space, Flat, IsFlat}

@@ -7,10 +7,10 @@ use Rattle.std.specs.FinMap as finite
 use Rattle.std.specs.FinSet as set
 use Rattle.std.proofs.lemmas.Bool.{cases_Bool, cases_eq, eqb-true, eq-eqb}
 use Rattle.std.proofs.lemmas.List.Elements.{All-head}
-use Rattle.vm_types.specs.declared.call.Kind.TheVariants.{Shared}
-use Rattle.vm_types.specs.declared.call.Object.{Object}
-use Rattle.vm_types.specs.declared.call.Object.TheVariants as object
-use Rattle.vm_types.specs.Prot.{can_read, can_write}
+use Rattle.flat_model.specs.vm_types.declared.call.Kind.TheVariants.{Shared}
+use Rattle.flat_model.specs.vm_types.declared.call.Object.{Object}
+use Rattle.flat_model.specs.vm_types.declared.call.Object.TheVariants as object
+use Rattle.flat_model.specs.vm_types.Prot.{can_read, can_write}
 use Rattle.addr_space.specs.Space.{Part, part, piece_at, with_new_part}
 use Rattle.anon_map.specs.Maps.{Map, IsMapThere, anon_map_at, places_of, holders_of}
 use Rattle.hat_layer.specs.Pool as pool

@@ -4,14 +4,14 @@ use Rattle.std.specs.Prelude.{option_map, option_and_then, IsSome, All, unwrap_o
 use Rattle.std.specs.Option.{option_or}
 use Rattle.std.proofs.lemmas.Bool.{cases_Bool, eq-eqb, eqb-true}
 use Rattle.std.proofs.lemmas.List.Elements.{All-nil, All-cons, All-head, All-tail}
-use Rattle.vm_types.specs.declared.call.Kind.{Kind}
-use Rattle.vm_types.specs.declared.call.Kind.TheVariants.{Shared, Private}
-use Rattle.vm_types.specs.declared.call.Object.{Object}
-use Rattle.vm_types.specs.declared.call.Object.TheVariants as object
+use Rattle.flat_model.specs.vm_types.declared.call.Kind.{Kind}
+use Rattle.flat_model.specs.vm_types.declared.call.Kind.TheVariants.{Shared, Private}
+use Rattle.flat_model.specs.vm_types.declared.call.Object.{Object}
+use Rattle.flat_model.specs.vm_types.declared.call.Object.TheVariants as object
 use Rattle.addr_space.specs.Space.{Part}
 use Rattle.anon_map.specs.Maps.{Map, anon_map_at, IsMapThere, places_of, holders_of}
 use Rattle.flat_model.specs.Words.{Page}
-use Rattle.page_hash.specs.declared.PageName.{PageName}
+use Rattle.page_store.specs.page_hash.declared.PageName.{PageName}
 use Rattle.vm_world.specs.CountsFit.{SegmentFits, ObjectFits, OwnFits, times_had, is_number}
 use Rattle.vm_world.specs.FlatMemory.{cell_of, own_without_slot}
 use Rattle.vm_world.specs.Pages.{place_contents}

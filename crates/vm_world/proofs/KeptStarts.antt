@@ -2,11 +2,11 @@
 use Rattle.std.proofs.Common.{◌≡◌, ◌≢◌, ℕ, suc, true, false, ◌<◌, ◌≤◌, List, [], length, Option, Some, None, refl, sym, ap, ◌∙◌, ◌⊎◌, inl, inr, subst, arith, slice_index_or, slice_set, get_or-set_same, get_or-set_other, length-set}
 use Rattle.std.specs.Prelude.{is_none, is_some, unwrap_or, IsSome}
 use Rattle.std.proofs.lemmas.Bool.{cases_Bool, cases_eq}
-use Rattle.core_arena.specs.Bytes.{bytes_at}
-use Rattle.page_hash.specs.Names.{find, name_at}
-use Rattle.page_hash.specs.declared.PageName.{PageName}
-use Rattle.page_hash.proofs.NameLaws.{find-some}
-use Rattle.page_lock.specs.Rows.{row_at}
+use Rattle.page_store.specs.core_arena.Bytes.{bytes_at}
+use Rattle.page_store.specs.page_hash.Names.{find, name_at}
+use Rattle.page_store.specs.page_hash.declared.PageName.{PageName}
+use Rattle.page_store.proofs.page_hash.NameLaws.{find-some}
+use Rattle.page_store.specs.page_lock.Rows.{row_at}
 use Rattle.page_store.specs.Notes.{Note, Notes}
 use Rattle.page_store.specs.Seen.{StoreSeen, IsGone, own_frame, residence, residence_in, residence_of}
 use Rattle.page_store.specs.declared.residence.Residence.TheVariants.{Home, Moving}
@@ -14,7 +14,7 @@ use Rattle.page_store.proofs.QueryLemmas.{found-within}
 use Rattle.vm_world.specs.FlatMemory.{Memory}
 use Rattle.vm_world.specs.MemoryFits.{MemoryFits}
 use Rattle.vm_world.specs.NotesFit.{NotesFit}
-use Rattle.vm_types.specs.declared.call.Entry.{Entry}
+use Rattle.flat_model.specs.vm_types.declared.call.Entry.{Entry}
 use Rattle.flat_model.specs.Flat.{Flat}
 use Rattle.flat_model.specs.History.{IsStart}
 use Rattle.vm_world.specs.Events.{IsEvent}
@@ -23,8 +23,8 @@ use Rattle.vm_world.specs.StateFits.{StateFits}
 use Rattle.vm_world.specs.SyncSteps.{StartRule, start_of, with_call_begun}
 use Rattle.vm_world.specs.Wants.{IsCleanPage}
 use Rattle.vm_world.proofs.Told.{event_law}
-use Rattle.vm_types.specs.declared.call.Call.{Call}
-use Rattle.vm_types.specs.declared.call.Call.TheVariants as call
+use Rattle.flat_model.specs.vm_types.declared.call.Call.{Call}
+use Rattle.flat_model.specs.vm_types.declared.call.Call.TheVariants as call
 use Rattle.vm_world.proofs.StateSteps.{no-entries, same-seats, sizes-still}
 
 starts-now : (H : List Entry) (p : ℕ) → IsStart H (length H) p (length H)

@@ -4,7 +4,7 @@ use Rattle.std.specs.Prelude.{IsSome, is_some, slice_index_or, slice_set}
 use Rattle.std.specs.FinMap as finite
 use Rattle.std.proofs.lemmas.Bool.{cases_eq, cases_lt}
 use Rattle.std.proofs.lemmas.List.{get_or_past}
-use Rattle.vm_types.specs.declared.call.Object.TheVariants as object
+use Rattle.flat_model.specs.vm_types.declared.call.Object.TheVariants as object
 use Rattle.addr_space.specs.Space.{Part, part_at, begins}
 use Rattle.anon_map.specs.Maps.{IsUnused, holders_of}
 use Rattle.flat_model.proofs.Ranges.{get-insert_here, get-insert_apart, get-remove_here, get-remove_apart}

@@ -59,3 +59,8 @@ pub mod LowestGaps
 pub mod FileSteps
 pub mod FileCalls
 pub mod FileLocks
+pub use Rattle.flat_model.proofs.vnode_files as vnode_files
+pub use Rattle.flat_model.proofs as flat_model
+pub use Rattle.anon_map.proofs as anon_map
+pub use Rattle.zero_objects.proofs as zero_objects
+pub use Rattle.addr_space.proofs as addr_space

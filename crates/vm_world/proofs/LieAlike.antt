@@ -4,11 +4,11 @@ use Rattle.std.specs.Prelude.{◌≤◌, filter, slice_index_or}
 use Rattle.std.specs.List.{flat_map}
 use Rattle.std.proofs.lemmas.List.{length-map, get_or-map}
 use Rattle.std.proofs.lemmas.List.Folds.{flat_map-map}
-use Rattle.vnode_files.specs.declared.extent.Extent.{Extent}
-use Rattle.vnode_files.specs.declared.vnode.FileInfo.{FileInfo}
-use Rattle.vnode_files.specs.Files.{FilesSeen, block_count, extents_on}
-use Rattle.vnode_files.specs.Layout.{NoneMeet, LieOnDisk, KeepsLayout}
-use Rattle.vnode_files.specs.Vnode.{VnodeSeen}
+use Rattle.flat_model.specs.vnode_files.declared.extent.Extent.{Extent}
+use Rattle.flat_model.specs.vnode_files.declared.vnode.FileInfo.{FileInfo}
+use Rattle.flat_model.specs.vnode_files.Files.{FilesSeen, block_count, extents_on}
+use Rattle.flat_model.specs.vnode_files.Layout.{NoneMeet, LieOnDisk, KeepsLayout}
+use Rattle.flat_model.specs.vnode_files.Vnode.{VnodeSeen}
 
 abbrev info_of : VnodeSeen → FileInfo
 info_of v = v.info

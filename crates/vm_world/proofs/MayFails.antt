@@ -4,15 +4,15 @@ use Rattle.std.specs.Prelude.{option_map, unwrap_or, slice_get, option_and_then,
 use Rattle.std.specs.FinSet as set
 use Rattle.std.specs.FinMap as finite
 use Rattle.std.specs.Ordering.{nat_cmp}
-use Rattle.vm_types.specs.declared.prot.Prot.{Prot}
-use Rattle.vm_types.specs.Prot.{can_read, can_write}
-use Rattle.vm_types.specs.declared.call.Call.{Call}
-use Rattle.vm_types.specs.declared.call.Call.TheVariants.{Load, Store, Map, Unmap, Protect, Sync, Read, Write, Truncate, Fork, Exit}
-use Rattle.vm_types.specs.declared.call.Signal.{Signal}
-use Rattle.vm_types.specs.declared.call.Signal.TheVariants as signal
-use Rattle.vm_types.specs.declared.call.Errno.{Errno}
-use Rattle.vm_types.specs.declared.call.Errno.TheVariants as errno
-use Rattle.vnode_files.specs.declared.vnode.FileInfo.{FileInfo}
+use Rattle.flat_model.specs.vm_types.declared.prot.Prot.{Prot}
+use Rattle.flat_model.specs.vm_types.Prot.{can_read, can_write}
+use Rattle.flat_model.specs.vm_types.declared.call.Call.{Call}
+use Rattle.flat_model.specs.vm_types.declared.call.Call.TheVariants.{Load, Store, Map, Unmap, Protect, Sync, Read, Write, Truncate, Fork, Exit}
+use Rattle.flat_model.specs.vm_types.declared.call.Signal.{Signal}
+use Rattle.flat_model.specs.vm_types.declared.call.Signal.TheVariants as signal
+use Rattle.flat_model.specs.vm_types.declared.call.Errno.{Errno}
+use Rattle.flat_model.specs.vm_types.declared.call.Errno.TheVariants as errno
+use Rattle.flat_model.specs.vnode_files.declared.vnode.FileInfo.{FileInfo}
 use Rattle.addr_space.specs.Space.{Part, piece_at}
 use Rattle.flat_model.specs.Words.{Page, page, pages_in}
 use Rattle.flat_model.specs.Flat.{Cell, File, Flat, Space, space_of, cell_at, shown}

@@ -5,7 +5,7 @@ use Rattle.std.specs.Ordering.{nat_cmp}
 use Rattle.std.specs.FinMap as finite
 use Rattle.std.specs.FinSet as set
 use Rattle.std.proofs.lemmas.Bool.{cases_Bool, cases_eq}
-use Rattle.vm_types.specs.Pages.{IsUserPage}
+use Rattle.flat_model.specs.vm_types.Pages.{IsUserPage}
 use Rattle.addr_space.specs.Space.{Part, IsInOrder, piece_at, has, with_new_part}
 use Rattle.addr_space.proofs.PartLemmas.{has-in, has-within, at-put, ordered-put}
 use Rattle.addr_space.proofs.PartLists.{all-put}
@@ -18,7 +18,7 @@ use Rattle.flat_model.specs.Space.{is_in_range, with_cells}
 use Rattle.flat_model.specs.Words.{Page}
 use Rattle.flat_model.proofs.Ranges.{get-insert_here, get-insert_apart, get-with_cells, in_range-low, in_range-high}
 use Rattle.flat_model.proofs.Sums.{total}
-use Rattle.page_hash.specs.declared.PageName.{PageName}
+use Rattle.page_store.specs.page_hash.declared.PageName.{PageName}
 use Rattle.vm_world.specs.CountsFit.{CountsFit, SegmentFits, SegmentsFit, times_had, slots_for_part}
 use Rattle.vm_world.specs.FlatMemory.{Memory, flat_memory, cell_of, zero_maps, zero_pages}
 use Rattle.vm_world.specs.MemoryFits.{MemoryFits}

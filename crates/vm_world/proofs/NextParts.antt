@@ -1,12 +1,12 @@
 -- What follows a part that doesn't end its call is a part of the same file.
 use Rattle.std.proofs.Common.{◌≡◌, ℕ, ◌+◌, ◌-◌, ◌==◌, Bool, true, false, List, length, Option, Some, None, sym, ap, ◌∙◌, inl, inr}
 use Rattle.std.specs.Prelude.{if◌then◌else◌, is_some, IsTrue}
-use Rattle.vm_types.specs.declared.call.Call.{Call}
-use Rattle.vm_types.specs.declared.call.Call.TheVariants.{Read, Write}
-use Rattle.vm_types.specs.declared.call.Entry.{Entry}
-use Rattle.vm_types.specs.declared.call.Reply.{Reply}
-use Rattle.vm_types.specs.declared.call.Reply.TheVariants as reply
-use Rattle.vm_types.specs.Parts.{next_part, part_file, is_part, is_short, is_past_numbers, first_write}
+use Rattle.flat_model.specs.vm_types.declared.call.Call.{Call}
+use Rattle.flat_model.specs.vm_types.declared.call.Call.TheVariants.{Read, Write}
+use Rattle.flat_model.specs.vm_types.declared.call.Entry.{Entry}
+use Rattle.flat_model.specs.vm_types.declared.call.Reply.{Reply}
+use Rattle.flat_model.specs.vm_types.declared.call.Reply.TheVariants as reply
+use Rattle.flat_model.specs.vm_types.Parts.{next_part, part_file, is_part, is_short, is_past_numbers, first_write}
 use Rattle.flat_model.specs.OpenLaws.{FollowsOn, IsOpenPart}
 
 three_tests : (a b c : Bool) (x n : Call) → (if a then None else if b then None else if c then None else Some x) ≡ Some n → x ≡ n

@@ -6,11 +6,11 @@ use Rattle.std.specs.FinMap as finite
 use Rattle.std.specs.FinSet as set
 use Rattle.std.proofs.lemmas.List.Elements.{All-nil}
 use Rattle.std.proofs.lemmas.Nat.{pow_pos}
-use Rattle.page_lists.proofs.ListLemmas.{Contains-none}
-use Rattle.block_device.specs.DiskSeen.{DiskSeen, IsBlock, AreBlocks, HasBlocks}
-use Rattle.page_hash.specs.Names.{name_at, find}
-use Rattle.page_hash.specs.declared.PageName.{PageName}
-use Rattle.page_lock.specs.declared.Row.{Row}
+use Rattle.page_store.proofs.page_lists.ListLemmas.{Contains-none}
+use Rattle.page_store.specs.block_device.DiskSeen.{DiskSeen, IsBlock, AreBlocks, HasBlocks}
+use Rattle.page_store.specs.page_hash.Names.{name_at, find}
+use Rattle.page_store.specs.page_hash.declared.PageName.{PageName}
+use Rattle.page_store.specs.page_lock.declared.Row.{Row}
 use Rattle.page_store.specs.Bays.{BaySeen, missing, home, out, bay_at}
 use Rattle.page_store.specs.Notes.{no_notes}
 use Rattle.page_store.specs.StoreFits.{StoreFits}
@@ -20,11 +20,11 @@ use Rattle.page_store.proofs.LayoutLemmas.{layout_law}
 use Rattle.anon_slots.specs.Slots.{AnonSlotsSeen, count_at}
 use Rattle.anon_map.specs.Maps.{Map, holders_of}
 use Rattle.page_store.specs.Layout.{slot_place}
-use Rattle.vnode_files.specs.Vnode.{VnodeSeen}
+use Rattle.flat_model.specs.vnode_files.Vnode.{VnodeSeen}
 use Rattle.addr_space.specs.Space.{Part, IsInOrder}
 use Rattle.hat_layer.specs.Pool.{holds}
-use Rattle.vnode_files.specs.Files.{vnode_at, block_count}
-use Rattle.vnode_files.specs.Vnode.{page_blocks}
+use Rattle.flat_model.specs.vnode_files.Files.{vnode_at, block_count}
+use Rattle.flat_model.specs.vnode_files.Vnode.{page_blocks}
 use Rattle.flat_model.specs.Words.{IsPage}
 use Rattle.flat_model.specs.Flat.{Flat, IsFlat}
 use Rattle.flat_model.specs.Step.{is_bit_set, tails_cleared}
@@ -39,7 +39,7 @@ use Rattle.vm_world.specs.State.{KernelState, is_top}
 use Rattle.vm_world.specs.StateFits.{StateFits}
 use Rattle.vm_world.specs.DiskPlaces.{faults_in}
 use Rattle.vm_world.specs.HistoryFits.{HistoryFits, FaultsFit, CallsFit, RoomsFit, BirthsFit, has_left}
-use Rattle.vm_types.specs.declared.call.Entry.{Entry}
+use Rattle.flat_model.specs.vm_types.declared.call.Entry.{Entry}
 use Rattle.flat_model.specs.Counted.{top_count}
 use Rattle.vm_world.specs.Opening.{IsOpeningMemory, IsOpening, OpeningLaw, no_seats}
 use Rattle.vm_world.proofs.FlatWhole.{HasPages, some-inj, flat-whole}

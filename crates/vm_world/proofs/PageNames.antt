@@ -5,15 +5,15 @@ use Rattle.std.proofs.lemmas.Bool.{ltb-true, lt-ltb}
 use Rattle.std.proofs.lemmas.Bool.Decides.{eqb_tells}
 use Rattle.std.proofs.lemmas.List.{length-map}
 use Rattle.std.proofs.lemmas.Option.{slice_get_cases, slice_get-map, slice_get_within}
-use Rattle.page_hash.specs.declared.PageName.{PageName}
+use Rattle.page_store.specs.page_hash.declared.PageName.{PageName}
 use Rattle.page_store.specs.Layout.{KeepsPage, page_place, slot_place}
 use Rattle.page_store.proofs.LayoutLemmas.{layout_law}
 use Rattle.anon_slots.specs.Slots.{AnonSlotsSeen}
-use Rattle.vnode_files.specs.declared.vnode.FileInfo.{FileInfo}
-use Rattle.vnode_files.specs.Files.{FilesSeen, vnode_at}
-use Rattle.vnode_files.specs.Grow.{page_count}
-use Rattle.vnode_files.specs.Vnode.{VnodeSeen, no_vnode, page_blocks, IsSoundVnode}
-use Rattle.vnode_files.proofs.BlockLemmas.{length-page_blocks}
+use Rattle.flat_model.specs.vnode_files.declared.vnode.FileInfo.{FileInfo}
+use Rattle.flat_model.specs.vnode_files.Files.{FilesSeen, vnode_at}
+use Rattle.flat_model.specs.vnode_files.Grow.{page_count}
+use Rattle.flat_model.specs.vnode_files.Vnode.{VnodeSeen, no_vnode, page_blocks, IsSoundVnode}
+use Rattle.flat_model.proofs.vnode_files.BlockLemmas.{length-page_blocks}
 use Rattle.flat_model.specs.Words.{pages_in}
 use Rattle.vm_world.specs.World.{file_name, slot_name, file_blocks, page_table, is_unpushed, is_page_name}
 use Rattle.vm_world.specs.FramesFit.{FilesFit}

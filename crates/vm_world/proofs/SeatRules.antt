@@ -8,11 +8,11 @@ use Rattle.std.specs.FinSet as set
 use Rattle.std.proofs.lemmas.Bool.{cases_Bool}
 use Rattle.std.proofs.lemmas.Bool.Decides.{eqb_tells}
 use Rattle.std.proofs.lemmas.List.{length-append}
-use Rattle.core_arena.specs.Bytes.{bytes_at}
-use Rattle.vm_types.specs.declared.call.Call.{Call}
-use Rattle.vm_types.specs.declared.call.Call.TheVariants.{Fork}
-use Rattle.vm_types.specs.declared.call.Entry.{Entry}
-use Rattle.page_lock.specs.Rows.{row_at}
+use Rattle.page_store.specs.core_arena.Bytes.{bytes_at}
+use Rattle.flat_model.specs.vm_types.declared.call.Call.{Call}
+use Rattle.flat_model.specs.vm_types.declared.call.Call.TheVariants.{Fork}
+use Rattle.flat_model.specs.vm_types.declared.call.Entry.{Entry}
+use Rattle.page_store.specs.page_lock.Rows.{row_at}
 use Rattle.flat_model.specs.Births.{is_birth, AreBorn}
 use Rattle.flat_model.specs.Flat.{Flat, Space, space_of}
 use Rattle.flat_model.specs.History.{replay, Steps}

@@ -6,8 +6,8 @@ use Rattle.std.specs.Cmp.{nat_cmp_total}
 use Rattle.std.specs.FinMap as finite
 use Rattle.std.specs.FinSet as set
 use Rattle.std.proofs.lemmas.Bool.{cases_eq}
-use Rattle.vm_types.specs.declared.prot.Prot.{Prot}
-use Rattle.vm_types.specs.Prot.{can_read, can_write}
+use Rattle.flat_model.specs.vm_types.declared.prot.Prot.{Prot}
+use Rattle.flat_model.specs.vm_types.Prot.{can_read, can_write}
 use Rattle.addr_space.specs.Space.{Part, IsInOrder, piece_at}
 use Rattle.addr_space.specs.Pages.{pages_of_parts}
 use Rattle.addr_space.proofs.PageLaws.{get-pages_of_parts}

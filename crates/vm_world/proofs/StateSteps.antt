@@ -5,13 +5,13 @@ use Rattle.std.proofs.lemmas.Bool.{cases_eq}
 use Rattle.std.proofs.lemmas.Bool.Decides.{eqb_tells}
 use Rattle.std.proofs.lemmas.List.{append-nil, length-map, get_or-set_same, get_or-set_other}
 use Rattle.std.proofs.lemmas.List.Elements.{All-nil}
-use Rattle.vm_types.specs.declared.call.Entry.{Entry}
-use Rattle.block_device.specs.DiskSeen.{DiskSeen}
-use Rattle.page_hash.specs.declared.PageName.{PageName}
+use Rattle.flat_model.specs.vm_types.declared.call.Entry.{Entry}
+use Rattle.page_store.specs.block_device.DiskSeen.{DiskSeen}
+use Rattle.page_store.specs.page_hash.declared.PageName.{PageName}
 use Rattle.page_store.specs.Bays.{BaySeen, missing, home, out, bay_at}
 use Rattle.page_store.specs.Flight.{FlightSeen}
 use Rattle.page_store.specs.Notes.{Note, Notes, with_note}
-use Rattle.vnode_files.specs.Vnode.{VnodeSeen}
+use Rattle.flat_model.specs.vnode_files.Vnode.{VnodeSeen}
 use Rattle.flat_model.specs.Counted.{top_count}
 use Rattle.flat_model.specs.Flat.{Flat, IsFlat}
 use Rattle.flat_model.specs.History.{replay}

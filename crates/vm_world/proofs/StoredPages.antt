@@ -4,8 +4,8 @@ use Rattle.std.specs.Prelude.{slice_index_or, IsTrue, is_some}
 use Rattle.std.proofs.lemmas.Bool.{cases_Bool}
 use Rattle.std.proofs.lemmas.List.{length-take, length-replicate, length-append}
 use Rattle.std.proofs.lemmas.List.Elements.{All-append, All-replicate, All-take, All-from_get_or}
-use Rattle.block_device.specs.DiskSeen.{IsBlock}
-use Rattle.core_arena.specs.Bytes.{zeros}
+use Rattle.page_store.specs.block_device.DiskSeen.{IsBlock}
+use Rattle.page_store.specs.core_arena.Bytes.{zeros}
 use Rattle.page_store.specs.Bays.{block_of}
 use Rattle.page_store.specs.Bytes.{clip}
 use Rattle.page_store.specs.Notes.{Notes}

@@ -4,12 +4,12 @@ use Rattle.std.specs.Prelude.{option_map, IsSome, IsSomeAnd, slice_set, slice_in
 use Rattle.std.proofs.lemmas.Bool.Decides.{eqb_tells}
 use Rattle.std.proofs.lemmas.List.{get_or-set_same, get_or-set_other}
 use Rattle.std.proofs.lemmas.List.Elements.{All-append}
-use Rattle.core_arena.specs.Bytes.{bytes_at}
-use Rattle.vm_types.specs.declared.call.Call.{Call}
-use Rattle.vm_types.specs.declared.call.Entry.{Entry}
-use Rattle.page_hash.specs.Names.{find}
-use Rattle.page_hash.specs.declared.PageName.{PageName}
-use Rattle.page_lock.specs.Rows.{row_at}
+use Rattle.page_store.specs.core_arena.Bytes.{bytes_at}
+use Rattle.flat_model.specs.vm_types.declared.call.Call.{Call}
+use Rattle.flat_model.specs.vm_types.declared.call.Entry.{Entry}
+use Rattle.page_store.specs.page_hash.Names.{find}
+use Rattle.page_store.specs.page_hash.declared.PageName.{PageName}
+use Rattle.page_store.specs.page_lock.Rows.{row_at}
 use Rattle.page_store.specs.Bays.{out, bay_at}
 use Rattle.page_store.specs.Notes.{Note}
 use Rattle.page_store.specs.Seen.{StoreSeen, residence, residence_in, residence_of}

@@ -2,19 +2,19 @@
 use Rattle.std.specs.Prelude.{◌==◌, true, false, List, [], ◌∷◌, Option, Some, None, if◌then◌else◌}
 use Rattle.std.specs.FinMap as finite
 use Rattle.std.specs.FinSet as set
-use Rattle.vm_types.specs.declared.call.Kind.TheVariants.{Private}
-use Rattle.vm_types.specs.declared.call.Object.TheVariants as object
+use Rattle.flat_model.specs.vm_types.declared.call.Kind.TheVariants.{Private}
+use Rattle.flat_model.specs.vm_types.declared.call.Object.TheVariants as object
 use Rattle.addr_space.specs.Space.{Part}
 use Rattle.anon_map.specs.Maps.{Map}
 use Rattle.anon_slots.specs.Slots.{AnonSlotsSeen}
-use Rattle.block_device.specs.DiskSeen.{DiskSeen}
+use Rattle.page_store.specs.block_device.DiskSeen.{DiskSeen}
 use Rattle.hat_layer.specs.Pool.{HatSeen}
-use Rattle.page_clock.specs.Clock.{fresh_clock}
-use Rattle.page_lock.specs.Rows.{clear_row}
+use Rattle.page_store.specs.page_clock.Clock.{fresh_clock}
+use Rattle.page_store.specs.page_lock.Rows.{clear_row}
 use Rattle.page_store.specs.Bays.{missing, out}
 use Rattle.page_store.specs.Notes.{Note}
 use Rattle.page_store.specs.Seen.{StoreSeen}
-use Rattle.vnode_files.specs.Files.{no_files}
+use Rattle.flat_model.specs.vnode_files.Files.{no_files}
 use Rattle.flat_model.specs.Words.{Page, IsPage}
 use Rattle.vm_world.specs.FlatMemory.{Memory, flat_memory}
 use Rattle.vm_world.specs.Segments.{Segment, Spaces}

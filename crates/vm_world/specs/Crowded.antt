@@ -2,20 +2,20 @@
 use Rattle.std.specs.Prelude.{ℕ, true, false, List, [], ◌∷◌, Option, Some, None}
 use Rattle.std.specs.FinMap as finite
 use Rattle.std.specs.FinSet as set
-use Rattle.vm_types.specs.declared.call.Call.TheVariants.{Read}
-use Rattle.vm_types.specs.declared.call.Entry.{Entry}
-use Rattle.vm_types.specs.declared.call.Kind.TheVariants.{Private}
-use Rattle.vm_types.specs.declared.call.Object.TheVariants as object
-use Rattle.vm_types.specs.declared.call.Reply.TheVariants.{Bytes}
-use Rattle.vnode_files.specs.declared.vnode.FileInfo.{FileInfo}
-use Rattle.vnode_files.specs.Files.{FilesSeen}
+use Rattle.flat_model.specs.vm_types.declared.call.Call.TheVariants.{Read}
+use Rattle.flat_model.specs.vm_types.declared.call.Entry.{Entry}
+use Rattle.flat_model.specs.vm_types.declared.call.Kind.TheVariants.{Private}
+use Rattle.flat_model.specs.vm_types.declared.call.Object.TheVariants as object
+use Rattle.flat_model.specs.vm_types.declared.call.Reply.TheVariants.{Bytes}
+use Rattle.flat_model.specs.vnode_files.declared.vnode.FileInfo.{FileInfo}
+use Rattle.flat_model.specs.vnode_files.Files.{FilesSeen}
 use Rattle.addr_space.specs.Space.{Part}
 use Rattle.anon_map.specs.Maps.{Map}
 use Rattle.anon_slots.specs.Slots.{AnonSlotsSeen}
-use Rattle.block_device.specs.DiskSeen.{DiskSeen}
+use Rattle.page_store.specs.block_device.DiskSeen.{DiskSeen}
 use Rattle.hat_layer.specs.Pool.{HatSeen}
-use Rattle.page_clock.specs.Clock.{fresh_clock}
-use Rattle.page_lock.specs.Rows.{clear_row}
+use Rattle.page_store.specs.page_clock.Clock.{fresh_clock}
+use Rattle.page_store.specs.page_lock.Rows.{clear_row}
 use Rattle.page_store.specs.Bays.{missing, home, out}
 use Rattle.page_store.specs.Notes.{Note}
 use Rattle.page_store.specs.Seen.{StoreSeen}

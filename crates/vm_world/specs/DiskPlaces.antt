@@ -1,6 +1,6 @@
 -- What is seen of a disk, wherever it is. Public clauses cite this.
 use Rattle.std.specs.Prelude.{◌≡◌, ◌≤◌, ℕ, List, Option, Some, None}
-use Rattle.block_device.specs.DiskSeen.{DiskSeen}
+use Rattle.page_store.specs.block_device.DiskSeen.{DiskSeen}
 use Rattle.page_store.specs.Bays.{BaySeen, missing, home, out, bay_at}
 use Rattle.page_store.specs.Notes.{Note, Notes}
 

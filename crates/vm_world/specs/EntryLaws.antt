@@ -3,11 +3,11 @@ use Rattle.std.specs.Prelude.{◌≡◌, ◌≢◌, ◌↔◌, ◌⊎◌, ◌<�
 use Rattle.std.specs.Ordering.{nat_cmp}
 use Rattle.std.specs.FinMap as finite
 use Rattle.std.specs.FinSet as set
-use Rattle.vm_types.specs.declared.call.Call.TheVariants.{Fork}
-use Rattle.vm_types.specs.declared.call.Entry.{Entry}
-use Rattle.vm_types.specs.declared.call.Reply.TheVariants.{Io}
-use Rattle.vm_types.specs.Parts.{file_of_call, is_part}
-use Rattle.vm_types.specs.WellFormed.{IsWellFormed}
+use Rattle.flat_model.specs.vm_types.declared.call.Call.TheVariants.{Fork}
+use Rattle.flat_model.specs.vm_types.declared.call.Entry.{Entry}
+use Rattle.flat_model.specs.vm_types.declared.call.Reply.TheVariants.{Io}
+use Rattle.flat_model.specs.vm_types.Parts.{file_of_call, is_part}
+use Rattle.flat_model.specs.vm_types.WellFormed.{IsWellFormed}
 use Rattle.page_store.specs.Bays.{BaySeen}
 use Rattle.page_store.specs.Notes.{Notes}
 use Rattle.flat_model.specs.Births.{is_birth}

@@ -1,16 +1,16 @@
 -- Calls on files, told by the world: which are refused, and what those that are done do. Public clauses cite this.
 use Rattle.std.specs.Prelude.{◌≡◌, ◌<◌, ◌+◌, ◌-◌, ◌%◌, ℕ, List, Option, Some, None, length, min, take, drop, true, false, is_some, nat_lt, if◌then◌else◌}
-use Rattle.vm_types.specs.declared.call.Call.{Call}
-use Rattle.vm_types.specs.declared.call.Call.TheVariants.{Read, Write, Truncate}
-use Rattle.vm_types.specs.declared.call.Errno.{Errno}
-use Rattle.vm_types.specs.declared.call.Errno.TheVariants as errno
-use Rattle.vm_types.specs.declared.call.Reply.{Reply}
-use Rattle.vm_types.specs.declared.call.Reply.TheVariants.{Done, Bytes, Refused}
-use Rattle.vm_types.specs.Pages.{line_rest}
-use Rattle.vm_types.specs.Parts.{file_of_call}
+use Rattle.flat_model.specs.vm_types.declared.call.Call.{Call}
+use Rattle.flat_model.specs.vm_types.declared.call.Call.TheVariants.{Read, Write, Truncate}
+use Rattle.flat_model.specs.vm_types.declared.call.Errno.{Errno}
+use Rattle.flat_model.specs.vm_types.declared.call.Errno.TheVariants as errno
+use Rattle.flat_model.specs.vm_types.declared.call.Reply.{Reply}
+use Rattle.flat_model.specs.vm_types.declared.call.Reply.TheVariants.{Done, Bytes, Refused}
+use Rattle.flat_model.specs.vm_types.Pages.{line_rest}
+use Rattle.flat_model.specs.vm_types.Parts.{file_of_call}
 use Rattle.page_store.specs.Notes.{Notes}
-use Rattle.vnode_files.specs.Files.{FilesSeen, vnode_at, growth_of}
-use Rattle.vnode_files.specs.declared.extent.Extent.{Extent}
+use Rattle.flat_model.specs.vnode_files.Files.{FilesSeen, vnode_at, growth_of}
+use Rattle.flat_model.specs.vnode_files.declared.extent.Extent.{Extent}
 use Rattle.flat_model.specs.Parts.{with_extents_of, with_part, file_of_length}
 use Rattle.flat_model.specs.Words.{Page, page, page_size, pages_in}
 use Rattle.vm_world.specs.CallSteps.{ActsOnMemory}

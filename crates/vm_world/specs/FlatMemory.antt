@@ -4,10 +4,10 @@ use Rattle.std.specs.Option.{option_or}
 use Rattle.std.specs.Ordering.{nat_cmp}
 use Rattle.std.specs.FinMap as finite
 use Rattle.std.specs.FinSet as set
-use Rattle.vm_types.specs.declared.call.Object.{Object}
-use Rattle.vm_types.specs.declared.call.Object.TheVariants as object
-use Rattle.vnode_files.specs.declared.vnode.FileInfo.{FileInfo}
-use Rattle.vnode_files.specs.Vnode.{VnodeSeen}
+use Rattle.flat_model.specs.vm_types.declared.call.Object.{Object}
+use Rattle.flat_model.specs.vm_types.declared.call.Object.TheVariants as object
+use Rattle.flat_model.specs.vnode_files.declared.vnode.FileInfo.{FileInfo}
+use Rattle.flat_model.specs.vnode_files.Vnode.{VnodeSeen}
 use Rattle.addr_space.specs.Space.{Part}
 use Rattle.addr_space.specs.Pages.{pages_of_parts}
 use Rattle.anon_map.specs.Maps.{places_of}

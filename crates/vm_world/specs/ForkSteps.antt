@@ -4,11 +4,11 @@ use Rattle.std.specs.Option.{option_map_or}
 use Rattle.std.specs.FinMap as finite
 use Rattle.std.specs.FinSet as set
 use Rattle.std.specs.Ordering.{nat_cmp}
-use Rattle.vm_types.specs.declared.call.Call.TheVariants.{Fork}
-use Rattle.vm_types.specs.declared.call.Entry.{Entry}
-use Rattle.vm_types.specs.declared.call.Errno.{Errno}
-use Rattle.vm_types.specs.declared.call.Reply.TheVariants.{Done, Refused}
-use Rattle.vm_types.specs.WellFormed.{IsWellFormed}
+use Rattle.flat_model.specs.vm_types.declared.call.Call.TheVariants.{Fork}
+use Rattle.flat_model.specs.vm_types.declared.call.Entry.{Entry}
+use Rattle.flat_model.specs.vm_types.declared.call.Errno.{Errno}
+use Rattle.flat_model.specs.vm_types.declared.call.Reply.TheVariants.{Done, Refused}
+use Rattle.flat_model.specs.vm_types.WellFormed.{IsWellFormed}
 use Rattle.addr_space.specs.Space.{Part, part, part_at, begins, with_new_part}
 use Rattle.anon_map.specs.Maps.{Map, IsUnused, fresh_map, places_of, with_map}
 use Rattle.hat_layer.specs.declared.translation.Translation.{Translation}

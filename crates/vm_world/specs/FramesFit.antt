@@ -2,17 +2,17 @@
 use Rattle.std.specs.Prelude.{◌≡◌, ◌≢◌, ℕ, ◌<◌, ◌≤◌, ◌^◌, false, List, map, length, Some, IsSome, IsTrue}
 use Rattle.std.specs.Ordering.{nat_cmp}
 use Rattle.std.specs.FinMap as finite
-use Rattle.block_device.specs.DiskSeen.{DiskSeen}
-use Rattle.page_hash.specs.Names.{name_at}
-use Rattle.page_hash.specs.declared.PageName.{PageName}
-use Rattle.page_lock.specs.Rows.{row_at}
+use Rattle.page_store.specs.block_device.DiskSeen.{DiskSeen}
+use Rattle.page_store.specs.page_hash.Names.{name_at}
+use Rattle.page_store.specs.page_hash.declared.PageName.{PageName}
+use Rattle.page_store.specs.page_lock.Rows.{row_at}
 use Rattle.page_store.specs.Bays.{BaySeen, missing, home, bay_at}
 use Rattle.page_store.specs.Layout.{FileBlocks, KeepsPage, AreDisjoint}
 use Rattle.page_store.specs.Seen.{StoreSeen, IsSoundStore, IsListedFrame}
 use Rattle.anon_slots.specs.Slots.{AnonSlotsSeen}
-use Rattle.vnode_files.specs.Files.{FilesSeen, vnode_at, block_count}
-use Rattle.vnode_files.specs.Layout.{LieOnDisks, NoFilesMeet, HaveFewExtents}
-use Rattle.vnode_files.specs.Vnode.{IsSoundVnode}
+use Rattle.flat_model.specs.vnode_files.Files.{FilesSeen, vnode_at, block_count}
+use Rattle.flat_model.specs.vnode_files.Layout.{LieOnDisks, NoFilesMeet, HaveFewExtents}
+use Rattle.flat_model.specs.vnode_files.Vnode.{IsSoundVnode}
 use Rattle.vm_world.specs.World.{file_blocks, page_exists}
 
 -- The frame tables agree; no frame is kept; a page on the cache list isn't modified; and each name that a frame holds is that of a page which exists.

@@ -4,10 +4,10 @@ use Rattle.std.specs.List.{list_any}
 use Rattle.std.specs.Ordering.{nat_cmp}
 use Rattle.std.specs.FinMap as finite
 use Rattle.std.specs.FinSet as set
-use Rattle.vm_types.specs.declared.call.Call.{Call}
-use Rattle.vm_types.specs.declared.call.Call.TheVariants.{Fork, Exit}
-use Rattle.vm_types.specs.declared.call.Entry.{Entry}
-use Rattle.vm_types.specs.declared.call.Reply.TheVariants.{Io}
+use Rattle.flat_model.specs.vm_types.declared.call.Call.{Call}
+use Rattle.flat_model.specs.vm_types.declared.call.Call.TheVariants.{Fork, Exit}
+use Rattle.flat_model.specs.vm_types.declared.call.Entry.{Entry}
+use Rattle.flat_model.specs.vm_types.declared.call.Reply.TheVariants.{Io}
 use Rattle.page_store.specs.Bays.{BaySeen, bay_at}
 use Rattle.page_store.specs.Notes.{Notes}
 use Rattle.flat_model.specs.Flat.{Flat, IsFlat}

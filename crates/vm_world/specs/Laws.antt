@@ -6,7 +6,7 @@ use Rattle.anon_slots.specs.Slots.{AnonSlotsSeen, count_at, slots_in_use}
 use Rattle.std.specs.FinMap as finite
 use Rattle.std.specs.FinSet as set
 use Rattle.std.specs.Ordering.{nat_cmp}
-use Rattle.page_hash.specs.declared.PageName.{PageName}
+use Rattle.page_store.specs.page_hash.declared.PageName.{PageName}
 use Rattle.page_store.specs.Notes.{Notes}
 use Rattle.flat_model.specs.Flat.{IsFlat, reserved}
 use Rattle.flat_model.specs.Step.{tails_cleared}

@@ -39,3 +39,10 @@ pub mod FileLocks
 pub mod FileCalls
 pub mod ZeroObjects
 pub mod Words
+pub use Rattle.flat_model.specs.vm_types as vm_types
+pub use Rattle.flat_model.specs.vnode_files as vnode_files
+pub use Rattle.flat_model.specs as flat_model
+pub use Rattle.anon_slots.specs as anon_slots
+pub use Rattle.anon_map.specs as anon_map
+pub use Rattle.hat_layer.specs as hat_layer
+pub use Rattle.addr_space.specs as addr_space

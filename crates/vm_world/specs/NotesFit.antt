@@ -1,8 +1,8 @@
 -- What the seats have outside, as the world and the notes have it. Public clauses cite this.
 use Rattle.std.specs.Prelude.{◌≡◌, ℕ, ◌⊎◌, true, List, length, Option, Some, IsSome, IsTrue, IsFalse, ◌≢◌}
-use Rattle.core_arena.specs.Bytes.{bytes_at}
-use Rattle.page_hash.specs.Names.{name_at}
-use Rattle.page_hash.specs.declared.PageName.{PageName}
+use Rattle.page_store.specs.core_arena.Bytes.{bytes_at}
+use Rattle.page_store.specs.page_hash.Names.{name_at}
+use Rattle.page_store.specs.page_hash.declared.PageName.{PageName}
 use Rattle.page_store.specs.Notes.{Note, Notes}
 use Rattle.page_store.specs.Seen.{StoreSeen, IsGone, own_frame, residence}
 use Rattle.page_store.specs.StoreFits.{StoreFits, IsClean}
@@ -11,7 +11,7 @@ use Rattle.page_store.specs.Transfers.{was_rewritten}
 use Rattle.page_store.specs.declared.residence.Residence.TheVariants.{Home}
 use Rattle.anon_slots.specs.Slots.{AnonSlotsSeen}
 use Rattle.hat_layer.specs.declared.translation.Translation.{Translation}
-use Rattle.vnode_files.specs.Files.{FilesSeen}
+use Rattle.flat_model.specs.vnode_files.Files.{FilesSeen}
 use Rattle.vm_world.specs.FramesFit.{HasSize}
 use Rattle.vm_world.specs.TranslationsFit.{HasWritten, IsModified}
 use Rattle.vm_world.specs.World.{World, world_table, is_unpushed, page_exists}

@@ -2,9 +2,9 @@
 use Rattle.std.specs.Prelude.{◌≡◌, ◌≤◌, ℕ, List, [], length, Some, None, if◌then◌else◌, slice_index_or}
 use Rattle.std.specs.FinMap as finite
 use Rattle.std.specs.FinSet as set
-use Rattle.block_device.specs.DiskSeen.{DiskSeen}
-use Rattle.page_hash.specs.Names.{name_at}
-use Rattle.page_lock.specs.Rows.{row_at, clear_row}
+use Rattle.page_store.specs.block_device.DiskSeen.{DiskSeen}
+use Rattle.page_store.specs.page_hash.Names.{name_at}
+use Rattle.page_store.specs.page_lock.Rows.{row_at, clear_row}
 use Rattle.page_store.specs.Bays.{home, out, bay_at}
 use Rattle.page_store.specs.Notes.{no_notes}
 use Rattle.page_store.specs.Seen.{StoreSeen, IsSoundStore}

@@ -1,6 +1,6 @@
 -- What flat memory sees of frames, slots and disks: a page for each name. Public clauses cite this.
 use Rattle.std.specs.Prelude.{ℕ, ◌==◌, List, [], Option, if◌then◌else◌, option_map}
-use Rattle.page_hash.specs.declared.PageName.{PageName}
+use Rattle.page_store.specs.page_hash.declared.PageName.{PageName}
 use Rattle.page_store.specs.Notes.{Notes}
 use Rattle.page_store.specs.Value.{value}
 use Rattle.anon_map.specs.Maps.{Map}

@@ -2,12 +2,12 @@
 use Rattle.std.specs.Prelude.{◌≡◌, ◌<◌, ◌++◌, ◌||◌, ℕ, List, length, None, Some, IsSome, IsTrue, IsFalse}
 use Rattle.std.specs.List.{list_any}
 use Rattle.std.specs.FinMap as finite
-use Rattle.core_arena.specs.Bytes.{bytes_at}
-use Rattle.vm_types.specs.declared.call.Call.{Call}
-use Rattle.vm_types.specs.declared.call.Call.TheVariants.{Fork}
-use Rattle.vm_types.specs.declared.call.Entry.{Entry}
-use Rattle.vm_types.specs.declared.call.Reply.{Reply}
-use Rattle.page_lock.specs.Rows.{row_at}
+use Rattle.page_store.specs.core_arena.Bytes.{bytes_at}
+use Rattle.flat_model.specs.vm_types.declared.call.Call.{Call}
+use Rattle.flat_model.specs.vm_types.declared.call.Call.TheVariants.{Fork}
+use Rattle.flat_model.specs.vm_types.declared.call.Entry.{Entry}
+use Rattle.flat_model.specs.vm_types.declared.call.Reply.{Reply}
+use Rattle.page_store.specs.page_lock.Rows.{row_at}
 use Rattle.page_store.specs.Bays.{out, bay_at}
 use Rattle.page_store.specs.Seen.{StoreSeen}
 use Rattle.flat_model.specs.Births.{is_birth, AreBorn}

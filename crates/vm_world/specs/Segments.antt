@@ -3,9 +3,9 @@ use Rattle.std.specs.Prelude.{ℕ, ◌+◌, List, map, flat_map, Option, Some, N
 use Rattle.std.specs.Option.{option_or}
 use Rattle.std.specs.Ordering.{nat_cmp}
 use Rattle.std.specs.FinMap as finite
-use Rattle.vm_types.specs.declared.call.Object.{Object}
-use Rattle.vm_types.specs.declared.call.Object.TheVariants as object
-use Rattle.page_hash.specs.declared.PageName.{PageName}
+use Rattle.flat_model.specs.vm_types.declared.call.Object.{Object}
+use Rattle.flat_model.specs.vm_types.declared.call.Object.TheVariants as object
+use Rattle.page_store.specs.page_hash.declared.PageName.{PageName}
 use Rattle.anon_map.specs.Maps.{Map}
 use Rattle.addr_space.specs.Space.{Part, piece_at}
 pub use Rattle.vm_world.specs.declared.segment.Segment.{Segment}

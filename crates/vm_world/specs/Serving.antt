@@ -1,18 +1,18 @@
 -- How a call is served: first frames may be taken for other pages, and then the call is done, or it waits. Public clauses cite this.
 use Rattle.std.specs.Prelude.{◌≡◌, ◌≢◌, ◌⊎◌, ◌<◌, ◌+◌, ◌%◌, ℕ, Bool, false, List, length, Option, Some, None, IsTrue, IsFalse, slice_index_or}
 use Rattle.anon_slots.specs.Slots.{AnonSlotsSeen}
-use Rattle.page_hash.specs.Names.{name_at}
-use Rattle.page_hash.specs.declared.PageName.{PageName}
+use Rattle.page_store.specs.page_hash.Names.{name_at}
+use Rattle.page_store.specs.page_hash.declared.PageName.{PageName}
 use Rattle.page_store.specs.Seen.{residence, IsListedFrame}
 use Rattle.page_store.specs.declared.plan.Hold.{Hold}
 use Rattle.page_store.specs.declared.plan.Hold.TheVariants as hold
 use Rattle.page_store.specs.declared.plan.Plan.{Plan}
 use Rattle.page_store.specs.declared.residence.Residence.TheVariants.{Home}
-use Rattle.vm_types.specs.declared.call.Call.{Call}
-use Rattle.vm_types.specs.declared.call.Call.TheVariants.{Load, Store, Write, Truncate}
-use Rattle.vm_types.specs.declared.call.Reply.{Reply}
-use Rattle.vm_types.specs.declared.call.Reply.TheVariants.{Word, Done, Synced}
-use Rattle.vnode_files.specs.Files.{vnode_at}
+use Rattle.flat_model.specs.vm_types.declared.call.Call.{Call}
+use Rattle.flat_model.specs.vm_types.declared.call.Call.TheVariants.{Load, Store, Write, Truncate}
+use Rattle.flat_model.specs.vm_types.declared.call.Reply.{Reply}
+use Rattle.flat_model.specs.vm_types.declared.call.Reply.TheVariants.{Word, Done, Synced}
+use Rattle.flat_model.specs.vnode_files.Files.{vnode_at}
 use Rattle.flat_model.specs.Words.{page, page_size}
 use Rattle.vm_world.specs.CallSteps.{ActsOnMemory}
 use Rattle.vm_world.specs.FlatMemory.{Memory}

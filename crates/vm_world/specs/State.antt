@@ -4,11 +4,11 @@ use Rattle.std.specs.Option.{option_map_or}
 use Rattle.std.specs.Ordering.{nat_cmp}
 use Rattle.std.specs.FinMap as finite
 use Rattle.std.specs.FinSet as set
-use Rattle.vm_types.specs.declared.call.Call.{Call}
-use Rattle.vm_types.specs.declared.call.Entry.{Entry}
+use Rattle.flat_model.specs.vm_types.declared.call.Call.{Call}
+use Rattle.flat_model.specs.vm_types.declared.call.Entry.{Entry}
 use Rattle.page_store.specs.Notes.{Note, Notes}
 use Rattle.page_store.specs.declared.plan.Plan.{Plan}
-use Rattle.vnode_files.specs.Vnode.{VnodeSeen}
+use Rattle.flat_model.specs.vnode_files.Vnode.{VnodeSeen}
 use Rattle.vm_world.specs.FlatMemory.{Memory}
 use Rattle.vm_world.specs.World.{StoreCore, core_of}
 

@@ -1,7 +1,7 @@
 -- When a state fits an opening. Public clauses cite this.
 use Rattle.std.specs.Prelude.{◌≡◌, ◌<◌, ℕ, false, length, List, Some, None, IsSome}
-use Rattle.vm_types.specs.declared.call.Entry.{Entry}
-use Rattle.vm_types.specs.declared.call.Reply.{Reply}
+use Rattle.flat_model.specs.vm_types.declared.call.Entry.{Entry}
+use Rattle.flat_model.specs.vm_types.declared.call.Reply.{Reply}
 use Rattle.page_store.specs.Steps.{next_frame}
 use Rattle.page_store.specs.Transfers.{is_push}
 use Rattle.page_store.specs.Waits.{Waits, plan_page}

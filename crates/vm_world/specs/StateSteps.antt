@@ -1,6 +1,6 @@
 -- Events that are steps of the world, without an entry. Public clauses cite this.
 use Rattle.std.specs.Prelude.{◌≡◌, ◌<◌, ◌≤◌, ◌^◌, ◌||◌, ℕ, Bool, length, Option, Some, None}
-use Rattle.page_hash.specs.declared.PageName.{PageName}
+use Rattle.page_store.specs.page_hash.declared.PageName.{PageName}
 use Rattle.page_store.specs.Bays.{home, bay_at}
 use Rattle.page_store.specs.Flight.{FlightSeen, IsPerformed}
 use Rattle.page_store.specs.Notes.{Note}

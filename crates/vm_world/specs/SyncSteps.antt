@@ -1,8 +1,8 @@
 -- Where a Sync began, as a state keeps it. Public clauses cite this.
 use Rattle.std.specs.Prelude.{◌≡◌, ◌<◌, true, ℕ, suc, List, length, Option, Some, None, slice_index_or, slice_set, unwrap_or}
-use Rattle.vm_types.specs.declared.call.Call.{Call}
-use Rattle.vm_types.specs.declared.call.Call.TheVariants.{Sync}
-use Rattle.page_hash.specs.declared.PageName.{PageName}
+use Rattle.flat_model.specs.vm_types.declared.call.Call.{Call}
+use Rattle.flat_model.specs.vm_types.declared.call.Call.TheVariants.{Sync}
+use Rattle.page_store.specs.page_hash.declared.PageName.{PageName}
 use Rattle.page_store.specs.Notes.{Note, Notes}
 use Rattle.page_store.specs.Seen.{IsGone}
 use Rattle.flat_model.specs.Flat.{Flat}

@@ -1,11 +1,11 @@
 -- Translations, and which pages are modified. Public clauses cite this.
 use Rattle.std.specs.Prelude.{◌≡◌, ℕ, ◌||◌, ◌⊎◌, true, false, List, Option, Some, None, IsSome, IsTrue, slice_index_or}
-use Rattle.core_arena.specs.Bytes.{bytes_at}
-use Rattle.vm_types.specs.declared.call.Kind.TheVariants.{Private}
-use Rattle.vm_types.specs.Prot.{can_read, can_write}
-use Rattle.page_hash.specs.Names.{name_at}
-use Rattle.page_hash.specs.declared.PageName.{PageName}
-use Rattle.page_lock.specs.Rows.{row_at}
+use Rattle.page_store.specs.core_arena.Bytes.{bytes_at}
+use Rattle.flat_model.specs.vm_types.declared.call.Kind.TheVariants.{Private}
+use Rattle.flat_model.specs.vm_types.Prot.{can_read, can_write}
+use Rattle.page_store.specs.page_hash.Names.{name_at}
+use Rattle.page_store.specs.page_hash.declared.PageName.{PageName}
+use Rattle.page_store.specs.page_lock.Rows.{row_at}
 use Rattle.page_store.specs.Seen.{StoreSeen, IsListedFrame, residence}
 use Rattle.page_store.specs.declared.residence.Residence.TheVariants.{Home}
 use Rattle.anon_slots.specs.Slots.{AnonSlotsSeen, count_at}

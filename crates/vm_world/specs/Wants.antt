@@ -1,14 +1,14 @@
 -- What a call wants, and the plans and holds that may be answered to it. Public clauses cite this.
 use Rattle.std.specs.Prelude.{◌≡◌, ◌≢◌, ◌⊎◌, ◌<◌, ◌≤◌, ◌+◌, ◌-◌, ◌%◌, ◌||◌, ℕ, Bool, true, false, List, Option, Some, None, length, IsSome, IsTrue, IsFalse, is_some, min, nat_lt, slice_index_or}
 use Rattle.std.specs.Option.{option_map_or}
-use Rattle.vm_types.specs.declared.call.Call.{Call}
-use Rattle.vm_types.specs.declared.call.Call.TheVariants.{Load, Store, Sync, Read, Write, Truncate}
-use Rattle.vm_types.specs.declared.call.Kind.TheVariants.{Shared, Private}
-use Rattle.vm_types.specs.declared.call.Object.{Object}
-use Rattle.vm_types.specs.declared.call.Object.TheVariants as object
-use Rattle.vm_types.specs.Parts.{file_of_call}
-use Rattle.page_hash.specs.Names.{find}
-use Rattle.page_hash.specs.declared.PageName.{PageName}
+use Rattle.flat_model.specs.vm_types.declared.call.Call.{Call}
+use Rattle.flat_model.specs.vm_types.declared.call.Call.TheVariants.{Load, Store, Sync, Read, Write, Truncate}
+use Rattle.flat_model.specs.vm_types.declared.call.Kind.TheVariants.{Shared, Private}
+use Rattle.flat_model.specs.vm_types.declared.call.Object.{Object}
+use Rattle.flat_model.specs.vm_types.declared.call.Object.TheVariants as object
+use Rattle.flat_model.specs.vm_types.Parts.{file_of_call}
+use Rattle.page_store.specs.page_hash.Names.{find}
+use Rattle.page_store.specs.page_hash.declared.PageName.{PageName}
 use Rattle.page_store.specs.Bays.{out, bay_at}
 use Rattle.page_store.specs.Seen.{residence}
 use Rattle.page_store.specs.Steps.{next_frame}
@@ -20,7 +20,7 @@ use Rattle.page_store.specs.declared.plan.Plan.TheVariants as plan
 use Rattle.page_store.specs.declared.residence.Residence.TheVariants.{Home, Moving}
 use Rattle.anon_slots.specs.Slots.{count_at}
 use Rattle.anon_map.specs.Maps.{places_of}
-use Rattle.vnode_files.specs.Files.{FilesSeen, vnode_at, growth_of}
+use Rattle.flat_model.specs.vnode_files.Files.{FilesSeen, vnode_at, growth_of}
 use Rattle.flat_model.specs.Words.{page, pages_in, page_size}
 use Rattle.flat_model.specs.Space.{is_in_range}
 use Rattle.vm_world.specs.FlatMemory.{Memory}

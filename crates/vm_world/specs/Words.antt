@@ -1,6 +1,6 @@
 -- Words on the world as a contract sees it: that it fits, that frames are there, and what stays. Public clauses cite this.
 use Rattle.std.specs.Prelude.{◌≡◌, ◌≢◌, ℕ, Bool, false, IsSome}
-use Rattle.core_arena.specs.Bytes.{bytes_at}
+use Rattle.page_store.specs.core_arena.Bytes.{bytes_at}
 use Rattle.page_store.specs.Notes.{Notes}
 use Rattle.page_store.specs.Seen.{StoreSeen}
 use Rattle.vm_world.specs.FlatMemory.{Memory}

@@ -1,6 +1,6 @@
 -- What lies below the segments, the names of its pages, and where these live on the disks. Public clauses cite this.
 use Rattle.std.specs.Prelude.{ℕ, ◌==◌, Bool, false, not, if◌then◌else◌, nat_lt, List, length, map, Option, None, slice_index_or, IsTrue}
-use Rattle.page_hash.specs.declared.PageName.{PageName}
+use Rattle.page_store.specs.page_hash.declared.PageName.{PageName}
 use Rattle.page_store.specs.Layout.{FileBlocks, table_of}
 use Rattle.page_store.specs.Notes.{Notes}
 use Rattle.page_store.specs.Seen.{StoreSeen}
@@ -9,9 +9,9 @@ use Rattle.page_store.specs.Value.{tells}
 use Rattle.anon_slots.specs.Slots.{AnonSlotsSeen, count_at, is_used}
 use Rattle.anon_map.specs.Maps.{Map, places_of}
 use Rattle.hat_layer.specs.Pool.{HatSeen}
-use Rattle.vnode_files.specs.Files.{FilesSeen, vnode_at}
-use Rattle.vnode_files.specs.Grow.{page_count}
-use Rattle.vnode_files.specs.Vnode.{VnodeSeen, page_blocks, is_blank}
+use Rattle.flat_model.specs.vnode_files.Files.{FilesSeen, vnode_at}
+use Rattle.flat_model.specs.vnode_files.Grow.{page_count}
+use Rattle.flat_model.specs.vnode_files.Vnode.{VnodeSeen, page_blocks, is_blank}
 use Rattle.flat_model.specs.Words.{pages_in}
 use Rattle.vm_world.specs.declared.world.World as rust
 

@@ -6,6 +6,14 @@ mod segment;
 mod wants;
 mod world;
 
+pub use addr_space::Ranges;
+pub use anon_map::AnonMaps;
+pub use anon_slots::AnonSlots;
+pub use flat_model::{
+    Call, Entry, Errno, Files, Kind, Object, PAGE_SIZE, Place, Prot, Reply, Signal, bytes_before,
+    is_range, page_of, pages_in, part_file, word_at, word_bytes,
+};
+pub use hat_layer::{Dropped, Hat};
 pub use laws::{
     busy_law, call_law, counts_law, crowded_law, entry_law, event_law, failure_law, file_calls_law,
     file_law, file_locks_law, fork_law, frame_law, gap_law, opening_law, protect_law, reserved_law,

@@ -1,5 +1,5 @@
 //! Segments.
-use vm_types::{Kind, Object, Prot};
+use flat_model::{Kind, Object, Prot};
 
 /// A mapping of pages.
 #[derive(Clone, Copy, PartialEq, Eq, Debug)]

@@ -12,16 +12,16 @@ use Rattle.std.proofs.lemmas.List.Elements.{recursion_from_All, All-from_recursi
 use Rattle.block_device.specs.DiskSeen.{DiskSeen, HasBlocks}
 use Rattle.block_device.specs.declared.numbered.NumberedDisk.{NumberedDisk}
 use Rattle.block_device.specs.declared.rack.Spec.{Spec}
-use Rattle.vnode_files.specs.declared.vnode.FileInfo.{FileInfo}
-use Rattle.vnode_files.specs.Grow.{page_count}
-use Rattle.vnode_files.specs.Files.{FilesSeen, block_count}
-use Rattle.vnode_files.specs.Vnode.{VnodeSeen, IsSoundVnode, no_vnode}
+use Rattle.volume_format.specs.vnode_files.declared.vnode.FileInfo.{FileInfo}
+use Rattle.volume_format.specs.vnode_files.Grow.{page_count}
+use Rattle.volume_format.specs.vnode_files.Files.{FilesSeen, block_count}
+use Rattle.volume_format.specs.vnode_files.Vnode.{VnodeSeen, IsSoundVnode, no_vnode}
 use Rattle.volume_format.specs.Table.{TableSeen, no_entry, front_block}
 use Rattle.volume_format.specs.Volume.{IsVolumeTable, IsVolumeName}
-use Rattle.vm_script.specs.declared.plan.SetupLine.{SetupLine}
-use Rattle.vm_script.specs.PlanSeen.{PlanSeen}
-use Rattle.vm_script.specs.Rules.{broken_rule, amounts_of}
-use Rattle.vm_script.specs.Sound.{IsSoundSetup}
+use Rattle.vm_report.specs.vm_script.declared.plan.SetupLine.{SetupLine}
+use Rattle.vm_report.specs.vm_script.PlanSeen.{PlanSeen}
+use Rattle.vm_report.specs.vm_script.Rules.{broken_rule, amounts_of}
+use Rattle.vm_report.specs.vm_script.Sound.{IsSoundSetup}
 use Rattle.volume_files.specs.declared.stops.Refusal.TheVariants as refusal
 use Rattle.volume_files.specs.Attached.{AreMounted, ArePlaced, FileDisksTell, HasItsBytes, numbered_seen, bare_disks}
 use Rattle.volume_files.specs.Closed.{StoreFiles, info_at}

@@ -8,10 +8,10 @@ use Rattle.block_device.specs.DiskSeen.{DiskSeen}
 use Rattle.block_device.specs.RackSeen.{spec_number}
 use Rattle.block_device.specs.declared.rack.Spec.{Spec}
 use Rattle.volume_format.specs.Table.{TableSeen}
-use Rattle.vm_script.specs.declared.plan.SetupAct.{SetupAct}
-use Rattle.vm_script.specs.declared.plan.SetupAct.TheVariants as given
-use Rattle.vm_script.specs.declared.plan.SetupLine.{SetupLine}
-use Rattle.vm_script.specs.PlanSeen.{PlanSeen}
+use Rattle.vm_report.specs.vm_script.declared.plan.SetupAct.{SetupAct}
+use Rattle.vm_report.specs.vm_script.declared.plan.SetupAct.TheVariants as given
+use Rattle.vm_report.specs.vm_script.declared.plan.SetupLine.{SetupLine}
+use Rattle.vm_report.specs.vm_script.PlanSeen.{PlanSeen}
 use Rattle.volume_files.specs.declared.stops.Refusal.{Refusal}
 use Rattle.volume_files.specs.declared.stops.Refusal.TheVariants as refusal
 use Rattle.volume_files.specs.Attached.{AreMounted, bare_disks}

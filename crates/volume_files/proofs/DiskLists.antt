@@ -8,8 +8,8 @@ use Rattle.std.proofs.lemmas.Bool.Decides.{eqb_tells}
 use Rattle.std.specs.FinMap as finite
 use Rattle.std.proofs.lemmas.Option.{none-some, same_Some, slice_get-map, slice_get-get_or}
 use Rattle.block_device.specs.DiskSeen.{DiskSeen}
-use Rattle.vnode_files.specs.Files.{FilesSeen}
-use Rattle.vm_script.specs.PlanSeen.{PlanSeen}
+use Rattle.volume_format.specs.vnode_files.Files.{FilesSeen}
+use Rattle.vm_report.specs.vm_script.PlanSeen.{PlanSeen}
 use Rattle.volume_files.specs.Attached.{paired_seen}
 use Rattle.volume_files.specs.Attached.{bare_disks}
 use Rattle.volume_files.specs.Handed.{disk_numbers}

@@ -10,16 +10,16 @@ use Rattle.std.proofs.lemmas.Slice.Eq.{bytes_eq-Decides}
 use Rattle.std.proofs.lemmas.List.{length-map, get_or-map, map_push, drop_more}
 use Rattle.std.proofs.lemmas.List.Elements.{All-from_get_or, All-cons, All-nil}
 use Rattle.std.proofs.lemmas.List.Folds.{list_any_at, list_any_none}
-use Rattle.vnode_files.specs.declared.extent.Extent.{Extent}
-use Rattle.vnode_files.specs.declared.vnode.FileInfo.{FileInfo}
-use Rattle.vnode_files.specs.Files.{FilesSeen, IsNumberOf, block_count, extents_on}
-use Rattle.vnode_files.specs.Grow.{has_block, extent_end}
-use Rattle.vnode_files.specs.Layout.{HasPlaceBeside, NoFilesMeet, NoneMeet, LieOnDisk}
-use Rattle.vnode_files.specs.Vnode.{VnodeSeen, fresh_vnode, no_vnode}
-use Rattle.vnode_files.proofs.LayoutLemmas.{count-append, count-none, count-cons}
-use Rattle.vnode_files.proofs.BlockLemmas.{has_block-bounds}
-use Rattle.vm_script.specs.declared.plan.SetupAct.TheVariants as given
-use Rattle.vm_script.specs.declared.plan.SetupLine.{SetupLine}
+use Rattle.volume_format.specs.vnode_files.declared.extent.Extent.{Extent}
+use Rattle.volume_format.specs.vnode_files.declared.vnode.FileInfo.{FileInfo}
+use Rattle.volume_format.specs.vnode_files.Files.{FilesSeen, IsNumberOf, block_count, extents_on}
+use Rattle.volume_format.specs.vnode_files.Grow.{has_block, extent_end}
+use Rattle.volume_format.specs.vnode_files.Layout.{HasPlaceBeside, NoFilesMeet, NoneMeet, LieOnDisk}
+use Rattle.volume_format.specs.vnode_files.Vnode.{VnodeSeen, fresh_vnode, no_vnode}
+use Rattle.volume_format.proofs.vnode_files.LayoutLemmas.{count-append, count-none, count-cons}
+use Rattle.volume_format.proofs.vnode_files.BlockLemmas.{has_block-bounds}
+use Rattle.vm_report.specs.vm_script.declared.plan.SetupAct.TheVariants as given
+use Rattle.vm_report.specs.vm_script.declared.plan.SetupLine.{SetupLine}
 use Rattle.volume_files.specs.declared.stops.Refusal.{Refusal}
 use Rattle.volume_files.specs.declared.stops.Refusal.TheVariants as refusal
 use Rattle.volume_files.specs.Opened.{OpenedFile, infos_of, names_of, new_file, extents_of_disk, is_free_run, place_for, with_placed, with_line_file, with_line_files}

@@ -8,16 +8,16 @@ use Rattle.std.proofs.Math.Seq.{drop-cons}
 use Rattle.std.proofs.lemmas.Bool.{cases_lt}
 use Rattle.std.proofs.lemmas.List.{take_all, take-take, take-append-le, drop-take, drop-drop, take_min, take-append-drop, length-take, length-drop}
 use Rattle.std.proofs.lemmas.List.{length-append, length-map, length-replicate, get_or-map, append-nil}
-use Rattle.vm_types.specs.Pages.{bytes_before, pages_in}
-use Rattle.flat_model.specs.Words.{Page, with_bytes}
-use Rattle.flat_model.proofs.FileBytes.{Whole, length-concat}
+use Rattle.vm_report.specs.vm_types.Pages.{bytes_before, pages_in}
+use Rattle.vm_report.specs.flat_model.Words.{Page, with_bytes}
+use Rattle.vm_report.proofs.flat_model.FileBytes.{Whole, length-concat}
 use Rattle.block_device.specs.DiskSeen.{DiskSeen, HasBlocks, AreBlocks, Shows}
-use Rattle.vnode_files.specs.declared.vnode.FileInfo.{FileInfo}
-use Rattle.vnode_files.specs.Grow.{page_count}
-use Rattle.vnode_files.specs.Vnode.{page_blocks, block_at, no_vnode}
-use Rattle.vnode_files.specs.Files.{FilesSeen, block_count}
-use Rattle.vnode_files.proofs.BlockLemmas.{length-page_blocks}
-use Rattle.vnode_files.proofs.LayoutLaws.{file_layout_law}
+use Rattle.volume_format.specs.vnode_files.declared.vnode.FileInfo.{FileInfo}
+use Rattle.volume_format.specs.vnode_files.Grow.{page_count}
+use Rattle.volume_format.specs.vnode_files.Vnode.{page_blocks, block_at, no_vnode}
+use Rattle.volume_format.specs.vnode_files.Files.{FilesSeen, block_count}
+use Rattle.volume_format.proofs.vnode_files.BlockLemmas.{length-page_blocks}
+use Rattle.volume_format.proofs.vnode_files.LayoutLaws.{file_layout_law}
 use Rattle.volume_files.specs.Opened.{stored_bytes}
 use Rattle.volume_files.specs.Showing.{LiesOn, shown_info, page_piece, AreFileBytes, ArePageBytes}
 

@@ -8,11 +8,11 @@ use Rattle.std.proofs.lemmas.List.Sums.{sum_by-cons}
 use Rattle.block_device.specs.DiskSeen.{DiskSeen, HasBlocks, AreBlocks, IsBlock}
 use Rattle.block_device.specs.declared.numbered.NumberedDisk.{NumberedDisk}
 use Rattle.block_device.specs.declared.rack.Spec.{Spec}
-use Rattle.vnode_files.specs.declared.extent.Extent.{Extent}
-use Rattle.vnode_files.specs.declared.vnode.FileInfo.{FileInfo}
-use Rattle.vnode_files.specs.Grow.{extent_end, page_count}
-use Rattle.vnode_files.specs.Vnode.{page_blocks}
-use Rattle.vnode_files.proofs.BlockLemmas.{length-page_blocks}
+use Rattle.volume_format.specs.vnode_files.declared.extent.Extent.{Extent}
+use Rattle.volume_format.specs.vnode_files.declared.vnode.FileInfo.{FileInfo}
+use Rattle.volume_format.specs.vnode_files.Grow.{extent_end, page_count}
+use Rattle.volume_format.specs.vnode_files.Vnode.{page_blocks}
+use Rattle.volume_format.proofs.vnode_files.BlockLemmas.{length-page_blocks}
 use Rattle.volume_format.specs.Table.{TableSeen, no_entry}
 use Rattle.volume_format.specs.Volume.{IsVolumeTable, IsVolumeFile, IsVolumeName}
 use Rattle.volume_files.specs.Attached.{AreMounted, HasItsBytes, numbered_seen}

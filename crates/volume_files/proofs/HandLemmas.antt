@@ -14,14 +14,14 @@ use Rattle.block_device.specs.RackSeen.{spec_number, IsAttached}
 use Rattle.block_device.specs.declared.numbered.NumberedDisk.{NumberedDisk}
 use Rattle.block_device.specs.declared.rack.Spec.{Spec}
 use Rattle.block_device.specs.declared.rack.Spec.TheVariants as spec
-use Rattle.vnode_files.specs.Files.{block_count}
-use Rattle.vnode_files.proofs.FindLemmas.{find-passes}
+use Rattle.volume_format.specs.vnode_files.Files.{block_count}
+use Rattle.volume_format.proofs.vnode_files.FindLemmas.{find-passes}
 use Rattle.volume_format.specs.Table.{TableSeen}
-use Rattle.vm_script.specs.declared.plan.SetupAct.{SetupAct}
-use Rattle.vm_script.specs.declared.plan.SetupAct.TheVariants as given
-use Rattle.vm_script.specs.declared.plan.SetupLine.{SetupLine}
-use Rattle.vm_script.specs.PlanSeen.{PlanSeen}
-use Rattle.vm_script.specs.Rules.{gives_disk}
+use Rattle.vm_report.specs.vm_script.declared.plan.SetupAct.{SetupAct}
+use Rattle.vm_report.specs.vm_script.declared.plan.SetupAct.TheVariants as given
+use Rattle.vm_report.specs.vm_script.declared.plan.SetupLine.{SetupLine}
+use Rattle.vm_report.specs.vm_script.PlanSeen.{PlanSeen}
+use Rattle.vm_report.specs.vm_script.Rules.{gives_disk}
 use Rattle.volume_files.specs.declared.stops.Refusal.{Refusal}
 use Rattle.volume_files.specs.Attached.{AreMounted, numbered_seen, bare_disks}
 use Rattle.volume_files.specs.Handed.{TellsSpec, HaveSpecSizes, HasSpecSize, disk_numbers}

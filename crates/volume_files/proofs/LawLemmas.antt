@@ -7,19 +7,19 @@ use Rattle.std.proofs.lemmas.Bool.{both_ways, and_parts, leb-true, ltb-false, no
 use Rattle.std.proofs.lemmas.List.{map_push}
 use Rattle.std.proofs.lemmas.List.Elements.{recursion_from_All, All-from_recursion}
 use Rattle.std.proofs.lemmas.List.Sums.{sum_by-cons}
-use Rattle.vnode_files.specs.declared.extent.Extent.{Extent}
-use Rattle.vnode_files.specs.declared.vnode.FileInfo.{FileInfo}
-use Rattle.vnode_files.specs.Grow.{page_count}
+use Rattle.volume_format.specs.vnode_files.declared.extent.Extent.{Extent}
+use Rattle.volume_format.specs.vnode_files.declared.vnode.FileInfo.{FileInfo}
+use Rattle.volume_format.specs.vnode_files.Grow.{page_count}
 use Rattle.volume_format.specs.Rules.{is_table_name_byte}
 use Rattle.volume_format.specs.Volume.{IsVolumeName}
-use Rattle.vm_script.specs.declared.plan.SetupAct.{SetupAct}
-use Rattle.vm_script.specs.declared.plan.SetupAct.TheVariants as given
-use Rattle.vm_script.specs.declared.plan.SetupLine.{SetupLine}
-use Rattle.vm_script.specs.Fields.{is_file_name, is_name_letter, is_word}
-use Rattle.vm_script.specs.PlanSeen.{PlanSeen}
-use Rattle.vm_script.specs.Printed.{IsSetupAct}
-use Rattle.vm_script.specs.Rules.{broken_rule, has_wrong_frames, amounts_of, is_from_to, has_wrong_disk, lacks_disk, is_wrong_file}
-use Rattle.vm_script.specs.Sound.{IsSoundSetup}
+use Rattle.vm_report.specs.vm_script.declared.plan.SetupAct.{SetupAct}
+use Rattle.vm_report.specs.vm_script.declared.plan.SetupAct.TheVariants as given
+use Rattle.vm_report.specs.vm_script.declared.plan.SetupLine.{SetupLine}
+use Rattle.vm_report.specs.vm_script.Fields.{is_file_name, is_name_letter, is_word}
+use Rattle.vm_report.specs.vm_script.PlanSeen.{PlanSeen}
+use Rattle.vm_report.specs.vm_script.Printed.{IsSetupAct}
+use Rattle.vm_report.specs.vm_script.Rules.{broken_rule, has_wrong_frames, amounts_of, is_from_to, has_wrong_disk, lacks_disk, is_wrong_file}
+use Rattle.vm_report.specs.vm_script.Sound.{IsSoundSetup}
 use Rattle.volume_files.specs.Attached.{HasItsBytes}
 use Rattle.volume_files.specs.Opened.{OpenedFile, infos_of, names_of, new_file}
 use Rattle.volume_files.specs.Placing.{IsPlaceable}

@@ -14,7 +14,7 @@ use Rattle.volume_format.specs.declared.rules.BadVolume.{BadVolume}
 use Rattle.volume_format.specs.Rules.{reading, table_or_rule, first_failed, tests}
 use Rattle.volume_format.specs.Layout.{are_zeros, table_in}
 use Rattle.volume_format.specs.Table.{TableSeen, empty_table}
-use Rattle.vm_script.specs.Rules.{is_from_to}
+use Rattle.vm_report.specs.vm_script.Rules.{is_from_to}
 use Rattle.volume_files.specs.declared.stops.Refusal.{Refusal}
 use Rattle.volume_files.specs.declared.stops.Refusal.TheVariants as refusal
 use Rattle.volume_files.specs.Attached.{IsMounted, AreMounted, bare_disks}

@@ -4,9 +4,9 @@ use Rattle.std.specs.Prelude.{IfErr, option_map, Result, Ok, Err}
 use Rattle.block_device.specs.DiskSeen.{DiskSeen}
 use Rattle.block_device.specs.RackSeen.{spec_number}
 use Rattle.block_device.specs.declared.numbered.NumberedDisk.{NumberedDisk}
-use Rattle.vm_script.specs.declared.plan.SetupLine.{SetupLine}
-use Rattle.vm_script.specs.PlanSeen.{PlanSeen}
-use Rattle.vm_script.specs.Rules.{amounts_of}
+use Rattle.vm_report.specs.vm_script.declared.plan.SetupLine.{SetupLine}
+use Rattle.vm_report.specs.vm_script.PlanSeen.{PlanSeen}
+use Rattle.vm_report.specs.vm_script.Rules.{amounts_of}
 use Rattle.volume_files.specs.declared.stops.OpenStop.{OpenStop}
 use Rattle.volume_files.specs.declared.stops.HandedBack.{HandedBack}
 use Rattle.volume_files.specs.Attached.{StopsEarly, bare_disks, numbered_seen}

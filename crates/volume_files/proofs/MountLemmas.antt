@@ -8,9 +8,9 @@ use Rattle.block_device.specs.declared.numbered.NumberedDisk.{NumberedDisk}
 use Rattle.std.specs.FinMap as finite
 use Rattle.std.proofs.Common.{ap, ◌∙◌, sym, subst, refl, arith, length-append, cond}
 use Rattle.std.proofs.lemmas.List.{append_assoc, append-nil, map-append, length-map, drop_more, drop_all, take_more, map_push, get_or-map}
-use Rattle.vnode_files.specs.Files.{FilesSeen, with_next_file}
-use Rattle.vnode_files.specs.Vnode.{VnodeSeen, fresh_vnode}
-use Rattle.vnode_files.specs.declared.vnode.FileInfo.{FileInfo}
+use Rattle.volume_format.specs.vnode_files.Files.{FilesSeen, with_next_file}
+use Rattle.volume_format.specs.vnode_files.Vnode.{VnodeSeen, fresh_vnode}
+use Rattle.volume_format.specs.vnode_files.declared.vnode.FileInfo.{FileInfo}
 use Rattle.volume_format.specs.Table.{TableSeen, empty_table}
 use Rattle.volume_files.specs.declared.table_files.PlaceStop.{PlaceStop}
 use Rattle.volume_files.specs.declared.table_files.PlaceStop.TheVariants as stop

@@ -9,10 +9,10 @@ use Rattle.std.proofs.lemmas.List.Sums.{sum_by-append}
 use Rattle.block_device.specs.RackSeen.{spec_number}
 use Rattle.block_device.specs.declared.rack.Spec.{Spec}
 use Rattle.block_device.specs.declared.rack.Spec.TheVariants as spec
-use Rattle.vm_script.specs.declared.plan.SetupAct.{SetupAct}
-use Rattle.vm_script.specs.declared.plan.SetupAct.TheVariants as given
-use Rattle.vm_script.specs.declared.plan.SetupLine.{SetupLine}
-use Rattle.vm_script.specs.Rules.{gives_disk}
+use Rattle.vm_report.specs.vm_script.declared.plan.SetupAct.{SetupAct}
+use Rattle.vm_report.specs.vm_script.declared.plan.SetupAct.TheVariants as given
+use Rattle.vm_report.specs.vm_script.declared.plan.SetupLine.{SetupLine}
+use Rattle.vm_report.specs.vm_script.Rules.{gives_disk}
 use Rattle.volume_files.specs.Mounting.{specs_below}
 use Rattle.volume_files.specs.Opened.{given_disk, disk_numbered, disk_specs}
 

@@ -12,9 +12,9 @@ use Rattle.block_device.specs.DiskSeen.{DiskSeen}
 use Rattle.block_device.specs.RackSeen.{spec_number}
 use Rattle.block_device.specs.declared.rack.Spec.{Spec}
 use Rattle.volume_format.specs.Table.{TableSeen}
-use Rattle.vm_script.specs.declared.plan.SetupLine.{SetupLine}
-use Rattle.vm_script.specs.PlanSeen.{PlanSeen}
-use Rattle.vm_script.specs.Rules.{amounts_of}
+use Rattle.vm_report.specs.vm_script.declared.plan.SetupLine.{SetupLine}
+use Rattle.vm_report.specs.vm_script.PlanSeen.{PlanSeen}
+use Rattle.vm_report.specs.vm_script.Rules.{amounts_of}
 use Rattle.volume_files.specs.declared.stops.OpenStop.{OpenStop}
 use Rattle.volume_files.specs.declared.stops.OpenStop.TheVariants as halt
 use Rattle.volume_files.specs.declared.stops.Refusal.{Refusal}

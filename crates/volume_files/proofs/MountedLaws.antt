@@ -7,12 +7,12 @@ use Rattle.std.proofs.lemmas.Grind.{flat_map-append}
 use Rattle.std.proofs.lemmas.List.{append-nil, get_or_default}
 use Rattle.std.proofs.lemmas.List.Elements.{filter-append, All-from_get_or, recursion_from_All, All-from_recursion}
 use Rattle.std.proofs.lemmas.List.Sums.{sum_by-cons}
-use Rattle.vnode_files.specs.declared.extent.Extent.{Extent}
-use Rattle.vnode_files.specs.declared.vnode.FileInfo.{FileInfo}
-use Rattle.vnode_files.specs.Grow.{has_block, extent_end, page_count}
-use Rattle.vnode_files.specs.Layout.{NoneMeet, HaveGaps, LieOnDisk}
-use Rattle.vnode_files.proofs.BlockLemmas.{has_block-bounds}
-use Rattle.vnode_files.proofs.LayoutLemmas.{none_meet-pairs}
+use Rattle.volume_format.specs.vnode_files.declared.extent.Extent.{Extent}
+use Rattle.volume_format.specs.vnode_files.declared.vnode.FileInfo.{FileInfo}
+use Rattle.volume_format.specs.vnode_files.Grow.{has_block, extent_end, page_count}
+use Rattle.volume_format.specs.vnode_files.Layout.{NoneMeet, HaveGaps, LieOnDisk}
+use Rattle.volume_format.proofs.vnode_files.BlockLemmas.{has_block-bounds}
+use Rattle.volume_format.proofs.vnode_files.LayoutLemmas.{none_meet-pairs}
 use Rattle.volume_format.specs.Rules.{do_meet, is_on_disk}
 use Rattle.volume_format.specs.Table.{TableSeen, all_extents, entry_at, no_entry}
 use Rattle.volume_format.specs.Volume.{IsVolumeTable, IsVolumeFile, extent_at}

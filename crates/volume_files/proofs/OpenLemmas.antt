@@ -9,12 +9,12 @@ use Rattle.block_device.specs.DiskSeen.{DiskSeen}
 use Rattle.block_device.specs.RackSeen.{spec_number, IsAttached}
 use Rattle.block_device.specs.declared.rack.Spec.{Spec}
 use Rattle.block_device.specs.declared.rack.Spec.TheVariants as spec
-use Rattle.vnode_files.specs.declared.vnode.FileInfo.{FileInfo}
+use Rattle.volume_format.specs.vnode_files.declared.vnode.FileInfo.{FileInfo}
 use Rattle.volume_format.specs.Table.{TableSeen, empty_table}
 use Rattle.volume_format.specs.Rules.{reading}
 use Rattle.volume_format.proofs.ReadingLemmas.{reading-zeros}
 use Rattle.volume_format.proofs.SliceLemmas.{zeros-of}
-use Rattle.vm_script.specs.Rules.{is_from_to}
+use Rattle.vm_report.specs.vm_script.Rules.{is_from_to}
 use Rattle.volume_files.specs.declared.stops.Refusal.{Refusal}
 use Rattle.volume_files.specs.Attached.{IsMounted, AreMounted}
 use Rattle.volume_files.specs.Handed.{TellsSpec}

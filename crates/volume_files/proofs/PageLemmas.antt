@@ -8,14 +8,14 @@ use Rattle.std.proofs.lemmas.List.{get_or-set_other, same_lists, drop-drop, leng
 use Rattle.std.proofs.lemmas.List.Folds.{concat-append}
 use Rattle.std.proofs.lemmas.List.FromFn.{length-map-range_with_len, get_or-map-range_with_len, take-map-range_with_len}
 use Rattle.std.proofs.lemmas.Bool.{cases_lt, both_ways}
-use Rattle.flat_model.specs.Words.{pages_in}
-use Rattle.flat_model.specs.Parts.{pages_of_bytes}
-use Rattle.flat_model.proofs.FileBytes.{length-pages_of_bytes, concat-pages_of_bytes}
-use Rattle.vnode_files.specs.declared.extent.Extent.{Extent}
-use Rattle.vnode_files.specs.declared.vnode.FileInfo.{FileInfo}
-use Rattle.vnode_files.specs.Grow.{has_block}
-use Rattle.vnode_files.specs.Vnode.{page_blocks}
-use Rattle.vnode_files.proofs.BlockLemmas.{has_block-between}
+use Rattle.vm_report.specs.flat_model.Words.{pages_in}
+use Rattle.vm_report.specs.flat_model.Parts.{pages_of_bytes}
+use Rattle.vm_report.proofs.flat_model.FileBytes.{length-pages_of_bytes, concat-pages_of_bytes}
+use Rattle.volume_format.specs.vnode_files.declared.extent.Extent.{Extent}
+use Rattle.volume_format.specs.vnode_files.declared.vnode.FileInfo.{FileInfo}
+use Rattle.volume_format.specs.vnode_files.Grow.{has_block}
+use Rattle.volume_format.specs.vnode_files.Vnode.{page_blocks}
+use Rattle.volume_format.proofs.vnode_files.BlockLemmas.{has_block-between}
 use Rattle.volume_files.specs.Opened.{stored_bytes}
 use Rattle.volume_files.specs.Placing.{filled_pages, with_block_pages}
 

@@ -10,11 +10,11 @@ use Rattle.block_device.specs.DiskSeen.{DiskSeen}
 use Rattle.block_device.specs.OpenSeen.{OpenFaultSeen}
 use Rattle.block_device.specs.declared.numbered.NumberedDisk.{NumberedDisk}
 use Rattle.block_device.specs.declared.rack.Spec.{Spec}
-use Rattle.vnode_files.specs.Files.{FilesSeen, block_count}
-use Rattle.vnode_files.specs.Vnode.{VnodeSeen, fresh_vnode}
+use Rattle.volume_format.specs.vnode_files.Files.{FilesSeen, block_count}
+use Rattle.volume_format.specs.vnode_files.Vnode.{VnodeSeen, fresh_vnode}
 use Rattle.volume_format.specs.Table.{TableSeen}
 use Rattle.volume_format.specs.Volume.{IsVolumeTable}
-use Rattle.vm_script.specs.declared.plan.SetupLine.{SetupLine}
+use Rattle.vm_report.specs.vm_script.declared.plan.SetupLine.{SetupLine}
 use Rattle.volume_files.specs.declared.stops.Refusal.{Refusal}
 use Rattle.volume_files.specs.declared.stops.Refusal.TheVariants as refusal
 use Rattle.volume_files.specs.declared.table_files.PlaceStop.{PlaceStop}

@@ -13,17 +13,17 @@ use Rattle.std.proofs.lemmas.List.Elements.{All-from_recursion, All-map}
 use Rattle.block_device.specs.DiskSeen.{DiskSeen}
 use Rattle.block_device.specs.declared.numbered.NumberedDisk.{NumberedDisk}
 use Rattle.block_device.specs.declared.rack.Spec.{Spec}
-use Rattle.flat_model.specs.Words.{pages_in}
-use Rattle.vnode_files.specs.declared.extent.Extent.{Extent}
-use Rattle.vnode_files.specs.declared.vnode.FileInfo.{FileInfo}
-use Rattle.vnode_files.specs.Files.{FilesSeen, block_count, vnode_at}
-use Rattle.vnode_files.specs.Layout.{LieOnDisk, NoneMeet}
-use Rattle.vnode_files.specs.Vnode.{VnodeSeen, fresh_vnode, no_vnode}
+use Rattle.vm_report.specs.flat_model.Words.{pages_in}
+use Rattle.volume_format.specs.vnode_files.declared.extent.Extent.{Extent}
+use Rattle.volume_format.specs.vnode_files.declared.vnode.FileInfo.{FileInfo}
+use Rattle.volume_format.specs.vnode_files.Files.{FilesSeen, block_count, vnode_at}
+use Rattle.volume_format.specs.vnode_files.Layout.{LieOnDisk, NoneMeet}
+use Rattle.volume_format.specs.vnode_files.Vnode.{VnodeSeen, fresh_vnode, no_vnode}
 use Rattle.volume_format.specs.Table.{TableSeen, empty_table, no_entry, front_block}
 use Rattle.volume_format.specs.Volume.{IsVolumeTable, IsVolumeFile}
-use Rattle.vm_script.specs.declared.plan.SetupAct.{SetupAct}
-use Rattle.vm_script.specs.declared.plan.SetupAct.TheVariants as given
-use Rattle.vm_script.specs.declared.plan.SetupLine.{SetupLine}
+use Rattle.vm_report.specs.vm_script.declared.plan.SetupAct.{SetupAct}
+use Rattle.vm_report.specs.vm_script.declared.plan.SetupAct.TheVariants as given
+use Rattle.vm_report.specs.vm_script.declared.plan.SetupLine.{SetupLine}
 use Rattle.volume_files.specs.declared.stops.Refusal.{Refusal}
 use Rattle.volume_files.specs.declared.stops.Refusal.TheVariants as refusal
 use Rattle.volume_files.specs.Attached.{AreMounted, numbered_seen}

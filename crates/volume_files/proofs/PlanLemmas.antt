@@ -3,16 +3,16 @@ use Rattle.std.specs.Prelude.{ℕ, ◌≡◌, ◌+◌, not, nat_lt, List, [], �
 use Rattle.std.specs.List.{list_any}
 use Rattle.std.proofs.Common.{ap, ◌∙◌, sym, refl}
 use Rattle.std.proofs.lemmas.List.Sums.{sum_by-cons}
-use Rattle.vm_types.specs.declared.call.Call.{Call}
-use Rattle.vm_types.specs.declared.call.Call.TheVariants as call
-use Rattle.vm_types.specs.declared.call.Object.TheVariants as object
-use Rattle.vm_script.specs.declared.plan.PlanAct.{PlanAct}
-use Rattle.vm_script.specs.declared.plan.PlanAct.TheVariants as act
-use Rattle.vm_script.specs.declared.plan.PlanLine.{PlanLine}
-use Rattle.vm_script.specs.Counts.{parts, call_parts, entry_count}
-use Rattle.vm_script.specs.FileNames.{call_with_file, act_with_file, line_with_file, with_files}
-use Rattle.vm_script.specs.PlanSeen.{PlanSeen}
-use Rattle.vm_script.specs.Rules.{broken_rule, has_wrong_frames, amounts_of, is_from_to, has_wrong_disk, lacks_disk, is_wrong_file}
+use Rattle.vm_report.specs.vm_types.declared.call.Call.{Call}
+use Rattle.vm_report.specs.vm_types.declared.call.Call.TheVariants as call
+use Rattle.vm_report.specs.vm_types.declared.call.Object.TheVariants as object
+use Rattle.vm_report.specs.vm_script.declared.plan.PlanAct.{PlanAct}
+use Rattle.vm_report.specs.vm_script.declared.plan.PlanAct.TheVariants as act
+use Rattle.vm_report.specs.vm_script.declared.plan.PlanLine.{PlanLine}
+use Rattle.vm_report.specs.vm_script.Counts.{parts, call_parts, entry_count}
+use Rattle.vm_report.specs.vm_script.FileNames.{call_with_file, act_with_file, line_with_file, with_files}
+use Rattle.vm_report.specs.vm_script.PlanSeen.{PlanSeen}
+use Rattle.vm_report.specs.vm_script.Rules.{broken_rule, has_wrong_frames, amounts_of, is_from_to, has_wrong_disk, lacks_disk, is_wrong_file}
 
 -- a call keeps its parts
 call-parts : (names : List (List ℕ)) (name : List ℕ) (c : Call) → call_parts (call_with_file names name c) ≡ call_parts c

@@ -6,9 +6,9 @@ use Rattle.std.proofs.lemmas.List.{map-set}
 use Rattle.std.proofs.lemmas.Option.{slice_get-get_or, slice_get-map}
 use Rattle.block_device.specs.DiskSeen.{DiskSeen, HasBlocks}
 use Rattle.block_device.specs.StreamSeen.{SinkSeen}
-use Rattle.vnode_files.specs.declared.vnode.FileInfo.{FileInfo}
-use Rattle.vnode_files.specs.Files.{FilesSeen, vnode_at}
-use Rattle.vnode_files.specs.Vnode.{no_vnode}
+use Rattle.volume_format.specs.vnode_files.declared.vnode.FileInfo.{FileInfo}
+use Rattle.volume_format.specs.vnode_files.Files.{FilesSeen, vnode_at}
+use Rattle.volume_format.specs.vnode_files.Vnode.{no_vnode}
 use Rattle.vm_report.specs.Report.{file_lines}
 use Rattle.volume_files.specs.declared.showing.Heading.{Heading}
 use Rattle.volume_files.specs.declared.showing.ShowStop.{ShowStop}

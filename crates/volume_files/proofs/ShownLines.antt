@@ -2,8 +2,8 @@
 use Rattle.std.proofs.Common.{◌≡◌, ℕ, ◌+◌, ◌-◌, ◌*◌, ◌<◌, ◌≤◌, List, [], ◌++◌, length, take, drop, min, refl, sym, ap, ◌∙◌, arith, inl, inr}
 use Rattle.std.proofs.lemmas.Bool.{cases_lt}
 use Rattle.std.proofs.lemmas.List.{take_all, take-append-drop, length-take, append-nil}
-use Rattle.vm_types.specs.Pages.{pages_in}
-use Rattle.flat_model.specs.Words.{with_bytes}
+use Rattle.vm_report.specs.vm_types.Pages.{pages_in}
+use Rattle.vm_report.specs.flat_model.Words.{with_bytes}
 use Rattle.vm_report.specs.Report.{file_lines}
 use Rattle.vm_report.proofs.FileLines.{file_lines_append}
 use Rattle.volume_files.specs.Showing.{lines_before}

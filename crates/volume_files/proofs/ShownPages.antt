@@ -1,12 +1,12 @@
 -- A file that is shown page by page.
 use Rattle.std.proofs.Common.{◌≡◌, ℕ, ◌+◌, ◌*◌, ◌<◌, ◌≤◌, List, ◌++◌, length, refl, sym, ap, ◌∙◌, subst, arith}
 use Rattle.std.specs.Prelude.{Option, Some, IfSome, Ok, Err}
-use Rattle.vm_types.specs.Pages.{pages_in}
-use Rattle.flat_model.specs.Words.{with_bytes}
+use Rattle.vm_report.specs.vm_types.Pages.{pages_in}
+use Rattle.vm_report.specs.flat_model.Words.{with_bytes}
 use Rattle.block_device.specs.DiskSeen.{DiskSeen, HasBlocks}
 use Rattle.block_device.specs.StreamSeen.{SinkSeen}
-use Rattle.vnode_files.specs.declared.vnode.FileInfo.{FileInfo}
-use Rattle.vnode_files.specs.Files.{FilesSeen}
+use Rattle.volume_format.specs.vnode_files.declared.vnode.FileInfo.{FileInfo}
+use Rattle.volume_format.specs.vnode_files.Files.{FilesSeen}
 use Rattle.vm_report.specs.Report.{file_lines}
 use Rattle.volume_files.specs.declared.showing.ShowStop.{ShowStop}
 use Rattle.volume_files.specs.declared.showing.ShowStop.TheVariants.{Memory, Sink, Fault}

@@ -5,12 +5,12 @@ use Rattle.std.specs.FinMap as finite
 use Rattle.std.proofs.lemmas.Bool.{cases_eq, eq-eqb, ne_eqb}
 use Rattle.std.proofs.lemmas.List.{take_all, take_more, take-append-drop, length-take, append-nil}
 use Rattle.std.proofs.lemmas.Option.{get_or_from_slice_get, slice_get_within, slice_get-get_or, slice_get-map}
-use Rattle.vm_types.specs.Pages.{pages_in}
+use Rattle.vm_report.specs.vm_types.Pages.{pages_in}
 use Rattle.block_device.specs.DiskSeen.{DiskSeen, HasBlocks}
 use Rattle.block_device.specs.StreamSeen.{SinkSeen}
-use Rattle.vnode_files.specs.declared.vnode.FileInfo.{FileInfo}
-use Rattle.vnode_files.specs.Files.{FilesSeen, vnode_at}
-use Rattle.vnode_files.specs.Vnode.{VnodeSeen, no_vnode}
+use Rattle.volume_format.specs.vnode_files.declared.vnode.FileInfo.{FileInfo}
+use Rattle.volume_format.specs.vnode_files.Files.{FilesSeen, vnode_at}
+use Rattle.volume_format.specs.vnode_files.Vnode.{VnodeSeen, no_vnode}
 use Rattle.volume_format.specs.Table.{no_entry}
 use Rattle.volume_files.specs.declared.showing.Heading.{Heading}
 use Rattle.volume_files.specs.declared.showing.ShowStop.{ShowStop}

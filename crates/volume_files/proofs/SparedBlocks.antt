@@ -9,7 +9,7 @@ use Rattle.block_device.specs.DiskSeen.{DiskSeen, Writes, with_block}
 use Rattle.block_device.specs.RackSeen.{IsAttached, spec_number}
 use Rattle.block_device.specs.declared.numbered.NumberedDisk.{NumberedDisk}
 use Rattle.block_device.specs.declared.rack.Spec.{Spec}
-use Rattle.vnode_files.specs.declared.vnode.FileInfo.{FileInfo}
+use Rattle.volume_format.specs.vnode_files.declared.vnode.FileInfo.{FileInfo}
 use Rattle.volume_format.specs.Table.{TableSeen, front_block}
 use Rattle.volume_files.specs.Attached.{AreMounted, bare_disks, numbered_seen}
 use Rattle.volume_files.specs.Handed.{LiesBeside, SpareBlock, SparesBlock, block_told}

@@ -9,13 +9,13 @@ use Rattle.std.proofs.lemmas.List.Concat.{length-flat_map}
 use Rattle.std.proofs.lemmas.List.Edits.{length-insert, get_or-insert_below, get_or-insert_at, get_or-insert_above}
 use Rattle.std.proofs.lemmas.List.Elements.{filter-append}
 use Rattle.std.proofs.lemmas.List.Sums.{sum_by-cons, sum_by-insert, sum_by_more_le, prefix_len-le-length, fold-append}
-use Rattle.vnode_files.specs.declared.extent.Extent.{Extent}
-use Rattle.vnode_files.specs.declared.vnode.FileInfo.{FileInfo}
-use Rattle.vnode_files.specs.Grow.{extent_end, has_block}
-use Rattle.vnode_files.specs.Vnode.{VnodeSeen, no_vnode}
-use Rattle.vnode_files.specs.Files.{FilesSeen, block_count, extents_on}
-use Rattle.vnode_files.specs.Layout.{HaveGaps}
-use Rattle.vnode_files.proofs.LayoutLemmas.{count-cons, count-append, count-some, sum-extents_on, part_of}
+use Rattle.volume_format.specs.vnode_files.declared.extent.Extent.{Extent}
+use Rattle.volume_format.specs.vnode_files.declared.vnode.FileInfo.{FileInfo}
+use Rattle.volume_format.specs.vnode_files.Grow.{extent_end, has_block}
+use Rattle.volume_format.specs.vnode_files.Vnode.{VnodeSeen, no_vnode}
+use Rattle.volume_format.specs.vnode_files.Files.{FilesSeen, block_count, extents_on}
+use Rattle.volume_format.specs.vnode_files.Layout.{HaveGaps}
+use Rattle.volume_format.proofs.vnode_files.LayoutLemmas.{count-cons, count-append, count-some, sum-extents_on, part_of}
 use Rattle.volume_format.specs.Table.{TableSeen, AreFree, empty_table, all_extents, entry_at, no_entry, front_block, with_table_entry}
 use Rattle.volume_format.specs.Rules.{do_meet}
 use Rattle.volume_format.specs.Volume.{extent_at, IsVolumeFile, IsVolumeName, IsVolumeTable, AreDisjointExtents, IsNewName}

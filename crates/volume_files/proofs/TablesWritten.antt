@@ -6,8 +6,8 @@ use Rattle.std.proofs.lemmas.Bool.{cases_eq}
 use Rattle.std.proofs.lemmas.List.{length-set, get_or-set_same, get_or-set_other}
 use Rattle.std.proofs.lemmas.Option.{slice_get_within}
 use Rattle.block_device.specs.DiskSeen.{DiskSeen, HasBlocks, with_block}
-use Rattle.vnode_files.specs.Files.{FilesSeen}
-use Rattle.vnode_files.specs.declared.vnode.FileInfo.{FileInfo}
+use Rattle.volume_format.specs.vnode_files.Files.{FilesSeen}
+use Rattle.volume_format.specs.vnode_files.declared.vnode.FileInfo.{FileInfo}
 use Rattle.volume_format.specs.Rules.{reading}
 use Rattle.volume_format.specs.Table.{TableSeen}
 use Rattle.volume_format.specs.Writing.{encoding}

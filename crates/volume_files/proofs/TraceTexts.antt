@@ -4,8 +4,8 @@ use Rattle.std.specs.Prelude.{Result, Ok, Err}
 use Rattle.block_device.specs.DiskSeen.{DiskSeen}
 use Rattle.block_device.specs.OpenSeen.{OpenFaultSeen}
 use Rattle.block_device.specs.StreamSeen.{SinkSeen}
-use Rattle.vnode_files.specs.declared.vnode.FileInfo.{FileInfo}
-use Rattle.vm_script.specs.PlanSeen.{PlanSeen}
+use Rattle.volume_format.specs.vnode_files.declared.vnode.FileInfo.{FileInfo}
+use Rattle.vm_report.specs.vm_script.PlanSeen.{PlanSeen}
 use Rattle.volume_files.specs.declared.showing.Heading.TheVariants.{Trace}
 use Rattle.volume_files.specs.declared.showing.ShowStop.{ShowStop}
 use Rattle.volume_files.specs.declared.showing.ShowStop.TheVariants.{Memory, Sink, Fault}

@@ -7,9 +7,9 @@ use Rattle.std.proofs.lemmas.List.Elements.{All-head, All-tail}
 use Rattle.block_device.specs.DiskSeen.{DiskSeen}
 use Rattle.block_device.specs.OpenSeen.{OpenFaultSeen}
 use Rattle.block_device.specs.declared.numbered.NumberedDisk.{NumberedDisk}
-use Rattle.vnode_files.specs.Files.{FilesSeen, vnode_at}
-use Rattle.vnode_files.specs.declared.vnode.FileInfo.{FileInfo}
-use Rattle.vm_script.specs.declared.plan.SetupLine.{SetupLine}
+use Rattle.volume_format.specs.vnode_files.Files.{FilesSeen, vnode_at}
+use Rattle.volume_format.specs.vnode_files.declared.vnode.FileInfo.{FileInfo}
+use Rattle.vm_report.specs.vm_script.declared.plan.SetupLine.{SetupLine}
 use Rattle.volume_files.specs.Handed.{SpareBlock, SparesBlock}
 use Rattle.volume_files.specs.Opened.{OpenedFile}
 use Rattle.volume_files.specs.Placing.{RemainsThere, RemainThere, IsFaultOne, IsFaultThere, HasPlaceOn, HasPlaces, HavePlaces, WroteOne, with_file}

@@ -1,9 +1,9 @@
 -- The files as a run closes them: their records, the bytes that the disks have of them, and the tables. Public clauses cite this.
 use Rattle.std.specs.Prelude.{ℕ, Bool, ◌≡◌, ◌<◌, ◌==◌, List, [], ◌∷◌, length, map, filter, fold, Ok, IfSome, Some, slice_get, slice_index_or, false}
 use Rattle.block_device.specs.DiskSeen.{DiskSeen}
-use Rattle.flat_model.specs.Flat.{File}
-use Rattle.flat_model.specs.Parts.{file_bytes}
-use Rattle.vnode_files.specs.declared.vnode.FileInfo.{FileInfo}
+use Rattle.vm_report.specs.flat_model.Flat.{File}
+use Rattle.vm_report.specs.flat_model.Parts.{file_bytes}
+use Rattle.volume_format.specs.vnode_files.declared.vnode.FileInfo.{FileInfo}
 use Rattle.volume_format.specs.Table.{TableSeen, with_table_entry, no_entry}
 use Rattle.volume_format.specs.Rules.{reading}
 use Rattle.volume_format.specs.Writing.{encoding}

@@ -4,8 +4,8 @@ use Rattle.std.specs.FinMap as finite
 use Rattle.block_device.specs.Counts.{HasRisen}
 use Rattle.block_device.specs.DiskSeen.{DiskSeen}
 use Rattle.block_device.specs.Faults.{IsFaultOf}
-use Rattle.vnode_files.specs.Files.{FilesSeen}
-use Rattle.vnode_files.specs.declared.vnode.FileInfo.{FileInfo}
+use Rattle.volume_format.specs.vnode_files.Files.{FilesSeen}
+use Rattle.volume_format.specs.vnode_files.declared.vnode.FileInfo.{FileInfo}
 use Rattle.volume_format.specs.Table.{TableSeen, all_extents, AreFree}
 use Rattle.volume_format.specs.Volume.{IsVolumeTable, IsVolumeFile, IsNewName, AreDisjointExtents}
 use Rattle.volume_files.specs.declared.closing.TableStop.{TableStop}

@@ -9,3 +9,10 @@ pub mod Showing
 pub mod DiskTables
 pub mod Placing
 pub mod Unfailed
+pub use Rattle.vm_report.specs.vm_types as vm_types
+pub use Rattle.volume_format.specs.vnode_files as vnode_files
+pub use Rattle.vm_report.specs.flat_model as flat_model
+pub use Rattle.vm_report.specs.vm_script as vm_script
+pub use Rattle.vm_report.specs as vm_report
+pub use Rattle.volume_format.specs as volume_format
+pub use Rattle.block_device.specs as block_device

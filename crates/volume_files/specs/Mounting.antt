@@ -8,7 +8,7 @@ use Rattle.block_device.specs.declared.rack.Spec.{Spec}
 use Rattle.volume_format.specs.declared.rules.BadVolume.{BadVolume}
 use Rattle.volume_format.specs.Table.{TableSeen}
 use Rattle.volume_format.specs.Volume.{IsVolumeTable}
-use Rattle.vm_script.specs.declared.plan.SetupLine.{SetupLine}
+use Rattle.vm_report.specs.vm_script.declared.plan.SetupLine.{SetupLine}
 use Rattle.volume_files.specs.declared.stops.OpenStop.{OpenStop}
 use Rattle.volume_files.specs.declared.stops.OpenStop.TheVariants as halt
 use Rattle.volume_files.specs.declared.stops.Refusal.TheVariants as refusal

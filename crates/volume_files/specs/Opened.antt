@@ -8,24 +8,24 @@ use Rattle.std.specs.Str.{bytes_eq}
 use Rattle.block_device.specs.declared.rack.Spec.{Spec}
 use Rattle.block_device.specs.declared.rack.Spec.TheVariants as spec
 use Rattle.block_device.specs.RackSeen.{spec_number}
-use Rattle.flat_model.specs.Flat.{File, Flat}
-use Rattle.flat_model.specs.Opening.{flat_at_opening}
-use Rattle.flat_model.specs.Parts.{file_at_opening}
-use Rattle.vnode_files.specs.declared.extent.Extent.{Extent}
-use Rattle.vnode_files.specs.declared.extent.TheConstants.{MOST_EXTENTS}
-use Rattle.vnode_files.specs.declared.vnode.FileInfo.{FileInfo}
-use Rattle.vnode_files.specs.Grow.{is_free}
-use Rattle.vnode_files.specs.Vnode.{page_blocks}
+use Rattle.vm_report.specs.flat_model.Flat.{File, Flat}
+use Rattle.vm_report.specs.flat_model.Opening.{flat_at_opening}
+use Rattle.vm_report.specs.flat_model.Parts.{file_at_opening}
+use Rattle.volume_format.specs.vnode_files.declared.extent.Extent.{Extent}
+use Rattle.volume_format.specs.vnode_files.declared.extent.TheConstants.{MOST_EXTENTS}
+use Rattle.volume_format.specs.vnode_files.declared.vnode.FileInfo.{FileInfo}
+use Rattle.volume_format.specs.vnode_files.Grow.{is_free}
+use Rattle.volume_format.specs.vnode_files.Vnode.{page_blocks}
 use Rattle.volume_format.specs.declared.rules.BadVolume.{BadVolume}
 use Rattle.volume_format.specs.Rules.{reading}
 use Rattle.volume_format.specs.Table.{TableSeen}
 use Rattle.volume_format.specs.Volume.{IsVolumeTable}
-use Rattle.vm_script.specs.declared.plan.SetupAct.{SetupAct}
-use Rattle.vm_script.specs.declared.plan.SetupAct.TheVariants as given
-use Rattle.vm_script.specs.declared.plan.SetupLine.{SetupLine}
-use Rattle.vm_script.specs.FileNames.{with_files}
-use Rattle.vm_script.specs.PlanSeen.{PlanSeen}
-use Rattle.vm_script.specs.Rules.{amounts_of, gives_disk, is_from_to}
+use Rattle.vm_report.specs.vm_script.declared.plan.SetupAct.{SetupAct}
+use Rattle.vm_report.specs.vm_script.declared.plan.SetupAct.TheVariants as given
+use Rattle.vm_report.specs.vm_script.declared.plan.SetupLine.{SetupLine}
+use Rattle.vm_report.specs.vm_script.FileNames.{with_files}
+use Rattle.vm_report.specs.vm_script.PlanSeen.{PlanSeen}
+use Rattle.vm_report.specs.vm_script.Rules.{amounts_of, gives_disk, is_from_to}
 use Rattle.volume_files.specs.declared.stops.Refusal.{Refusal}
 use Rattle.volume_files.specs.declared.stops.Refusal.TheVariants as refusal
 

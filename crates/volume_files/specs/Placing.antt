@@ -7,17 +7,17 @@ use Rattle.std.specs.FinMap as finite
 use Rattle.block_device.specs.DiskSeen.{DiskSeen, with_block}
 use Rattle.block_device.specs.OpenSeen.{OpenFaultSeen}
 use Rattle.block_device.specs.declared.numbered.NumberedDisk.{NumberedDisk}
-use Rattle.flat_model.specs.Words.{pages_in}
-use Rattle.flat_model.specs.Parts.{pages_of_bytes}
-use Rattle.vnode_files.specs.declared.vnode.FileInfo.{FileInfo}
-use Rattle.vnode_files.specs.Files.{FilesSeen, block_count, vnode_at}
-use Rattle.vnode_files.specs.Grow.{extent_end, page_count}
-use Rattle.vnode_files.specs.Layout.{LieOnDisks, NoFilesMeet, HaveFewExtents}
-use Rattle.vnode_files.specs.Vnode.{fresh_vnode}
+use Rattle.vm_report.specs.flat_model.Words.{pages_in}
+use Rattle.vm_report.specs.flat_model.Parts.{pages_of_bytes}
+use Rattle.volume_format.specs.vnode_files.declared.vnode.FileInfo.{FileInfo}
+use Rattle.volume_format.specs.vnode_files.Files.{FilesSeen, block_count, vnode_at}
+use Rattle.volume_format.specs.vnode_files.Grow.{extent_end, page_count}
+use Rattle.volume_format.specs.vnode_files.Layout.{LieOnDisks, NoFilesMeet, HaveFewExtents}
+use Rattle.volume_format.specs.vnode_files.Vnode.{fresh_vnode}
 use Rattle.volume_format.specs.Table.{TableSeen, empty_table, front_block}
-use Rattle.vm_script.specs.declared.plan.SetupAct.{SetupAct}
-use Rattle.vm_script.specs.declared.plan.SetupAct.TheVariants as given
-use Rattle.vm_script.specs.declared.plan.SetupLine.{SetupLine}
+use Rattle.vm_report.specs.vm_script.declared.plan.SetupAct.{SetupAct}
+use Rattle.vm_report.specs.vm_script.declared.plan.SetupAct.TheVariants as given
+use Rattle.vm_report.specs.vm_script.declared.plan.SetupLine.{SetupLine}
 use Rattle.volume_files.specs.declared.stops.OpenStop.{OpenStop}
 use Rattle.volume_files.specs.declared.stops.OpenStop.TheVariants as halt
 use Rattle.volume_files.specs.declared.stops.Refusal.{Refusal}

@@ -4,9 +4,9 @@ use Rattle.std.specs.FinMap as finite
 use Rattle.block_device.specs.Counts.{HasRisen}
 use Rattle.block_device.specs.DiskSeen.{DiskSeen}
 use Rattle.block_device.specs.StreamSeen.{SinkSeen}
-use Rattle.flat_model.specs.Words.{pages_in}
-use Rattle.vnode_files.specs.Files.{FilesSeen, vnode_at}
-use Rattle.vnode_files.specs.declared.vnode.FileInfo.{FileInfo}
+use Rattle.vm_report.specs.flat_model.Words.{pages_in}
+use Rattle.volume_format.specs.vnode_files.Files.{FilesSeen, vnode_at}
+use Rattle.volume_format.specs.vnode_files.declared.vnode.FileInfo.{FileInfo}
 use Rattle.vm_report.specs.Report.{file_lines}
 use Rattle.volume_files.specs.declared.showing.Heading.{Heading}
 use Rattle.volume_files.specs.declared.showing.ShowStop.{ShowStop}

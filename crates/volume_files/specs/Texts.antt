@@ -2,13 +2,13 @@
 use Rattle.std.specs.Prelude.{ℕ, ◌≡◌, ◌<◌, ◌+◌, ◌*◌, ◌⊎◌, List, [], ◌∷◌, ◌++◌, length, map, take}
 use Rattle.block_device.specs.Counts.{HasRisen}
 use Rattle.block_device.specs.StreamSeen.{SinkSeen, text_with_more}
-use Rattle.flat_model.specs.Words.{pages_in}
-use Rattle.vnode_files.specs.declared.extent.Extent.{Extent}
-use Rattle.vnode_files.specs.declared.vnode.FileInfo.{FileInfo}
+use Rattle.vm_report.specs.flat_model.Words.{pages_in}
+use Rattle.volume_format.specs.vnode_files.declared.extent.Extent.{Extent}
+use Rattle.volume_format.specs.vnode_files.declared.vnode.FileInfo.{FileInfo}
 use Rattle.vm_report.specs.Report.{file_heading, file_lines}
 use Rattle.vm_report.specs.Trace.{opening_text, file_text}
-use Rattle.vm_script.specs.PlanSeen.{PlanSeen}
-use Rattle.vm_script.specs.Rules.{amounts_of}
+use Rattle.vm_report.specs.vm_script.PlanSeen.{PlanSeen}
+use Rattle.vm_report.specs.vm_script.Rules.{amounts_of}
 use Rattle.volume_files.specs.declared.showing.Heading.{Heading}
 use Rattle.volume_files.specs.declared.showing.Heading.TheVariants.{Report, Trace}
 use Rattle.volume_files.specs.Closed.{info_at}

@@ -5,12 +5,12 @@ use Rattle.block_device.specs.Counts.{HasRisen}
 use Rattle.block_device.specs.DiskSeen.{DiskSeen}
 use Rattle.block_device.specs.StreamSeen.{SinkSeen}
 use Rattle.block_device.specs.declared.disk_fault.DiskFault.{DiskFault}
-use Rattle.vnode_files.specs.Files.{FilesSeen}
-use Rattle.vnode_files.specs.Layout.{LieOnDisks, NoFilesMeet, HaveFewExtents}
-use Rattle.vnode_files.specs.Vnode.{VnodeSeen, IsSoundVnode}
-use Rattle.vnode_files.specs.declared.vnode.FileInfo.{FileInfo}
+use Rattle.volume_format.specs.vnode_files.Files.{FilesSeen}
+use Rattle.volume_format.specs.vnode_files.Layout.{LieOnDisks, NoFilesMeet, HaveFewExtents}
+use Rattle.volume_format.specs.vnode_files.Vnode.{VnodeSeen, IsSoundVnode}
+use Rattle.volume_format.specs.vnode_files.declared.vnode.FileInfo.{FileInfo}
 use Rattle.block_device.specs.OpenSeen.{OpenFaultSeen}
-use Rattle.vm_script.specs.PlanSeen.{PlanSeen}
+use Rattle.vm_report.specs.vm_script.PlanSeen.{PlanSeen}
 use Rattle.volume_files.specs.declared.showing.Heading.{Heading}
 use Rattle.volume_files.specs.declared.showing.Heading.TheVariants.{Trace}
 use Rattle.volume_files.specs.declared.closing.TableStop.{TableStop}

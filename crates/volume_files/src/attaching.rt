@@ -1,6 +1,6 @@
 //! The disks are attached, and their tables read.
 ghost use Rattle.std.specs.Prelude.{◌≡◌, ◌≤◌, ◌<◌, ◌+◌, [], map, option_map, length, None, IsTrue, IfOk, IfErr, IfSome, OnErr, vec_capacity};
-ghost use Rattle.vm_script.specs.Rules.{amounts_of, broken_rule};
+ghost use Rattle.vm_report.specs.vm_script.Rules.{amounts_of, broken_rule};
 ghost use Rattle.volume_files.specs.Attached.{AreAttached, HasRooms, StopsEarly, attached_seen, bare_disks};
 ghost use Rattle.volume_files.specs.Handed.{AreUncounted, IsSwapAsGiven, IsSwapFor, handed_count, swap_count};
 ghost use Rattle.volume_files.specs.Mounting.{HoldSame, UngivenCause};
@@ -10,7 +10,7 @@ use crate::mounting::mount_all;
 use crate::stops::{HandedBack, OpenStop};
 use block_device::{AttachFault, Disk, Rack, Spec, Unopened};
 use std::alloc::{AllocError, Global};
-use vm_script::{Plan, amounts_of};
+use vm_report::{Plan, amounts_of};
 use volume_format::Table;
 
 /// The disks of a run before its processes run, with the tables of their files.

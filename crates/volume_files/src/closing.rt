@@ -10,8 +10,7 @@ ghost use Rattle.volume_files.specs.Written.{LieWell, HaveDisks, HaveExtents, Ha
 use crate::disk_tables::table_of;
 use block_device::{Disk, DiskFault, write_block};
 use std::alloc::Global;
-use vnode_files::Files;
-use volume_format::encode;
+use volume_format::{Files, encode};
 
 /// Why a table wasn't written.
 #[derive(Clone, Copy, Debug, PartialEq, Eq)]

@@ -8,8 +8,7 @@ ghost use Rattle.volume_files.specs.Opened.{info_on};
 ghost use Rattle.volume_files.specs.Written.{infos_made};
 
 use std::alloc::{AllocError, Global};
-use vnode_files::{Extents, FileInfo, Files};
-use volume_format::Table;
+use volume_format::{Extents, FileInfo, Files, Table};
 
 // A file's length, in bytes: a number of 32 bits.
 fn length_of(info: &FileInfo) -> u32

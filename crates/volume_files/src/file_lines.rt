@@ -1,14 +1,14 @@
 //! The files of a script's lines are placed on the disks.
 ghost use Rattle.std.specs.Prelude.{◌≡◌, All, List, Ok};
-ghost use Rattle.vnode_files.specs.Files.{block_count};
+ghost use Rattle.volume_format.specs.vnode_files.Files.{block_count};
 ghost use Rattle.volume_files.specs.Opened.{OpenedFile, with_line_file, with_line_files};
 ghost use Rattle.volume_files.specs.Placing.{HasOpened, IsPlaceable, LieRight, Placing};
 
 use crate::free_places::{extents_of, place_for};
 use crate::table_files::PlaceStop;
 use std::alloc::Global;
-use vm_script::{SetupAct, SetupLine};
-use vnode_files::{Extent, Extents, FileInfo, FileName, Files};
+use vm_report::{SetupAct, SetupLine};
+use volume_format::{Extent, Extents, FileInfo, FileName, Files};
 
 // Adds the file that a line gives, if it gives one.
 fn add_line(alloc: Global, act: &SetupAct, files: &mut Files) -> Result<(), PlaceStop>

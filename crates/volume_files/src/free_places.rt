@@ -1,12 +1,12 @@
 //! The least place of a disk where blocks are free.
 ghost use Rattle.std.specs.Prelude.{◌≡◌, ◌≤◌, ◌<◌, IfOk};
 ghost use Rattle.std.specs.List.{list_any};
-ghost use Rattle.vnode_files.specs.Files.{extents_on};
+ghost use Rattle.volume_format.specs.vnode_files.Files.{extents_on};
 ghost use Rattle.volume_format.specs.Place.{is_in_way};
 ghost use Rattle.volume_files.specs.Opened.{is_free_run, place_for};
 
 use std::alloc::{AllocError, Global};
-use vnode_files::{Extent, Files, MOST_EXTENTS};
+use volume_format::{Extent, Files, MOST_EXTENTS};
 
 // Whether one of extents has one of the blocks from `start` up to `end`.
 fn is_any_in_way(extents: &[Extent], start: u64, end: u64) -> bool

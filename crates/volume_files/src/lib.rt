@@ -18,9 +18,18 @@ mod table_files;
 mod tracing;
 
 pub use attaching::{Attached, attach, into_disks, into_swap};
+pub use block_device::{
+    Disk, DiskFault, OpenFault, Rack, ReadFault, Sink, Source, Unopened, read_to_limit, write_all,
+};
 pub use closing::{TableStop, write_tables};
 pub use page_disk::PageDisk;
 pub use placing::{Placed, place};
 pub use showing::{Heading, ShowStop, show_files};
 pub use stops::{HandedBack, OpenStop, Refusal};
 pub use tracing::trace_opening;
+pub use vm_report::{
+    Call, Entry, MOST_BYTES, Plan, PlanAct, PlanLine, Reply, ScriptFault, amounts_of, broken_rule,
+    disk_fault, generate, parse, parts, process_sections, rack_fault, read_fault, script_fault,
+    setup_fault, setup_law, sound_law, summary, trace_entries, usage, volume_fault,
+};
+pub use volume_format::Files;

@@ -6,7 +6,7 @@ ghost use Rattle.volume_files.specs.Mounting.{Holds, HoldSame, SaysTableRead, Ba
 ghost use Rattle.block_device.specs.declared.rack.Spec.{Spec};
 ghost use Rattle.volume_format.specs.Rules.{reading};
 ghost use Rattle.volume_format.specs.Volume.{IsVolumeTable};
-ghost use Rattle.vm_script.specs.Rules.{gives_disk};
+ghost use Rattle.vm_report.specs.vm_script.Rules.{gives_disk};
 ghost use Rattle.volume_files.specs.Opened.{given_disk, disk_numbered, disk_specs};
 ghost use Rattle.volume_files.specs.Unfailed.{NoneCounted, UnlessFailed};
 ghost use Rattle.volume_files.specs.Written.{OnlyReads};
@@ -14,7 +14,7 @@ ghost use Rattle.volume_files.specs.Written.{OnlyReads};
 use crate::stops::{OpenStop, Refusal};
 use block_device::{AttachFault, Disk, PathText, Rack, Spec, Unopened};
 use std::alloc::{AllocError, Global};
-use vm_script::{SetupAct, SetupLine};
+use vm_report::{SetupAct, SetupLine};
 use volume_format::{Table, decode};
 
 // The disk of a number that a set-up line gives, if it gives that.

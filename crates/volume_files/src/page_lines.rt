@@ -1,6 +1,6 @@
 //! The lines of a file, page by page.
 ghost use Rattle.std.specs.Prelude.{◌≡◌, ◌≤◌, ◌<◌, ◌+◌, ◌*◌, ◌^◌, length, take, IsTrue, IfOk, IfErr, OnOk};
-ghost use Rattle.flat_model.specs.Words.{pages_in};
+ghost use Rattle.vm_report.specs.flat_model.Words.{pages_in};
 ghost use Rattle.volume_files.specs.Unfailed.{UnlessCut};
 ghost use Rattle.volume_files.specs.Showing.{LiesOn, LooksAt, ArePageBytes, IsPageShown, IsUnread, LinesShown, shown_info};
 
@@ -8,9 +8,8 @@ use crate::page_disk::PageDisk;
 use crate::showing::ShowStop;
 use block_device::{Sink, write_all};
 use std::alloc::Global;
-use vm_report::file_lines;
-use vm_types::{bytes_before, pages_in};
-use vnode_files::Files;
+use vm_report::{bytes_before, file_lines, pages_in};
+use volume_format::Files;
 
 // What a page is read into, and the text of its lines: they are used again for each page.
 #[derive(Drop)]

@@ -1,7 +1,7 @@
 //! The pages of the files of a script's lines are written.
 ghost use Rattle.std.specs.Prelude.{◌≡◌, ◌≤◌, ◌<◌, ◌+◌, ◌-◌, ◌^◌, length, option_map, map, IsTrue, IfErr, OnOk, slice_index_or, [], All};
-ghost use Rattle.flat_model.specs.Words.{pages_in};
-ghost use Rattle.vnode_files.specs.Files.{vnode_at};
+ghost use Rattle.vm_report.specs.flat_model.Words.{pages_in};
+ghost use Rattle.volume_format.specs.vnode_files.Files.{vnode_at};
 ghost use Rattle.volume_format.specs.Table.{front_block};
 ghost use Rattle.volume_files.specs.Attached.{numbered_seen};
 ghost use Rattle.volume_files.specs.Handed.{LiesBeside, SpareBlock, SparesBlock};
@@ -9,8 +9,8 @@ ghost use Rattle.volume_files.specs.Placing.{KeepThere, KeepsThere, HasPlaceOn, 
 ghost use Rattle.volume_files.specs.Unfailed.{counts_of};
 
 use block_device::{Disk, OpenFault, Unopened};
-use vm_script::{SetupAct, SetupLine};
-use vnode_files::{FileInfo, Files};
+use vm_report::{SetupAct, SetupLine};
+use volume_format::{FileInfo, Files};
 
 // A page of bytes, with zeros behind them.
 fn page_of(bytes: &[u8], page: usize) -> [u8; 4096]

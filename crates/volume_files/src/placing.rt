@@ -1,10 +1,10 @@
 //! The files are placed on the disks.
 ghost use Rattle.std.specs.Prelude.{ℕ, ◌≡◌, ◌≤◌, All, List, Option, IsTrue, IfOk, IfErr, None, length, map, option_map};
 ghost use Rattle.block_device.specs.declared.rack.Spec.{Spec};
-ghost use Rattle.vm_script.specs.FileNames.{with_files};
-ghost use Rattle.vm_script.specs.Rules.{broken_rule};
-ghost use Rattle.vm_script.specs.Sound.{IsSoundSetup};
-ghost use Rattle.vnode_files.specs.Vnode.{IsSoundVnode};
+ghost use Rattle.vm_report.specs.vm_script.FileNames.{with_files};
+ghost use Rattle.vm_report.specs.vm_script.Rules.{broken_rule};
+ghost use Rattle.vm_report.specs.vm_script.Sound.{IsSoundSetup};
+ghost use Rattle.volume_format.specs.vnode_files.Vnode.{IsSoundVnode};
 ghost use Rattle.volume_files.specs.Attached.{AreAttached, AreMounted, ArePlaced, HasRooms, StopsEarly, attached_seen, bare_disks, numbered_seen};
 ghost use Rattle.volume_files.specs.Handed.{AreUncounted, handed_count};
 ghost use Rattle.volume_files.specs.Opened.{OpenedFile, numbered_plan};
@@ -18,9 +18,8 @@ use crate::stops::{HandedBack, OpenStop, Refusal};
 use crate::table_files::{PlaceStop, mount};
 use block_device::{Disk, Unopened};
 use std::alloc::{AllocError, Global};
-use vm_script::{ByteText, Plan, SetupLine};
-use vnode_files::Files;
-use volume_format::Table;
+use vm_report::{ByteText, Plan, SetupLine};
+use volume_format::{Files, Table};
 
 /// The disks and the files of a run before its processes run.
 #[derive(Drop)]

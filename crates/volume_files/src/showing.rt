@@ -12,7 +12,7 @@ use crate::page_lines::{PageBuffer, show_lines};
 use block_device::{Sink, write_all};
 use std::alloc::{AllocError, Global};
 use vm_report::{file_heading, trace_file};
-use vnode_files::{Extents, FileInfo, Files};
+use volume_format::{Extents, FileInfo, Files};
 
 /// The line above the bytes of a file: that of the report, or that of a trace's opening part.
 #[derive(Clone, Copy, Debug, PartialEq, Eq)]

@@ -6,8 +6,7 @@ ghost use Rattle.volume_files.specs.Placing.{AreSet, HaveAddable, IsAddable, IsT
 
 use block_device::{Disk, OpenFault, Unopened};
 use std::alloc::{AllocError, AllocFailed, Global};
-use vnode_files::{Extents, FileInfo, FileName, Files};
-use volume_format::Table;
+use volume_format::{Extents, FileInfo, FileName, Files, Table};
 
 /// Why files weren't placed.
 #[derive(Debug, Drop)]

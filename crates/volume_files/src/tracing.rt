@@ -11,8 +11,8 @@ ghost use Rattle.volume_files.specs.Written.{LieWell, HaveDisks, AreOnlyRead, Ar
 use crate::showing::{Heading, ShowStop, show_files};
 use block_device::{Disk, OpenFault, Sink, Unopened, write_all};
 use std::alloc::{AllocError, Global};
-use vm_script::{Plan, amounts_of};
-use vnode_files::Files;
+use vm_report::{Plan, amounts_of};
+use volume_format::Files;
 
 /// Writes the opening part of a trace: swap slots, disks, top processes, and the files with their bytes, which are read.
 pub fn trace_opening<D: Disk, K: Sink>(

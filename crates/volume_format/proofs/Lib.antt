@@ -12,3 +12,4 @@ pub mod EncodedLemmas
 pub mod ReadBackLemmas
 pub mod VolumeLemmas
 pub mod KeptLemmas
+pub use Rattle.vnode_files.proofs as vnode_files

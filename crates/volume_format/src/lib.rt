@@ -10,4 +10,5 @@ mod writing;
 pub use reading::decode;
 pub use rules::BadVolume;
 pub use table::Table;
+pub use vnode_files::{Extent, Extents, FileInfo, FileName, Files, MOST_EXTENTS};
 pub use writing::encode;

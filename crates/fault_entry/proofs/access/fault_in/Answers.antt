@@ -1,11 +1,11 @@
 use Rattle.std.proofs.Common.{◌≡◌, ℕ, ◌-◌, Ok, Err, sym, ap, ◌∙◌, subst}
-use Rattle.flat_model.specs.Words.{page}
-use Rattle.vm_types.specs.declared.call.Signal.TheVariants as signal
-use Rattle.vm_world.specs.Segments.{Spot}
-use Rattle.vm_world.specs.World.{world_seen}
-use Rattle.seg_ops.specs.Faults.{ServesFault}
-use Rattle.seg_ops.specs.declared.plans.Fault.{Fault}
-use Rattle.seg_ops.proofs.StillSteps.{memory_of}
+use Rattle.seg_vn.specs.flat_model.Words.{page}
+use Rattle.seg_vn.specs.vm_types.declared.call.Signal.TheVariants as signal
+use Rattle.seg_vn.specs.vm_world.Segments.{Spot}
+use Rattle.seg_vn.specs.vm_world.World.{world_seen}
+use Rattle.seg_vn.specs.seg_ops.Faults.{ServesFault}
+use Rattle.seg_vn.specs.seg_ops.declared.plans.Fault.{Fault}
+use Rattle.seg_vn.proofs.seg_ops.StillSteps.{memory_of}
 use Rattle.fault_entry.specs.Reaching.{ServesAccess}
 use Rattle.fault_entry.specs.declared.access.AccessStep.{AccessStep}
 use Rattle.fault_entry.specs.declared.access.AccessStep.TheVariants as access

@@ -1,4 +1,4 @@
-use Rattle.vm_world.specs.World.{world_seen}
+use Rattle.seg_vn.specs.vm_world.World.{world_seen}
 use Rattle.fault_entry.proofs.Reached.{goes-there}
 use Rattle.fault_entry.proofs.access.noted.Goals as goal
 

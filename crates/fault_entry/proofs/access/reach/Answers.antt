@@ -1,15 +1,15 @@
 use Rattle.std.proofs.Common.{◌≡◌, ℕ, ◌-◌, List, Option, Some, sym, ap, ◌∙◌, subst}
 use Rattle.std.specs.Prelude.{IsSome}
-use Rattle.core_arena.specs.Bytes.{bytes_at}
+use Rattle.seg_vn.specs.core_arena.Bytes.{bytes_at}
 use Rattle.std.specs.FinMap as finite
-use Rattle.addr_space.specs.Space.{part}
-use Rattle.vm_types.specs.declared.call.Signal.TheVariants as signal
-use Rattle.flat_model.specs.Words.{page}
-use Rattle.vm_world.specs.Segments.{Spot, Spaces, spot_at}
-use Rattle.vm_world.specs.World.{world_seen}
-use Rattle.seg_ops.proofs.StillSteps.{memory_of}
+use Rattle.seg_vn.specs.addr_space.Space.{part}
+use Rattle.seg_vn.specs.vm_types.declared.call.Signal.TheVariants as signal
+use Rattle.seg_vn.specs.flat_model.Words.{page}
+use Rattle.seg_vn.specs.vm_world.Segments.{Spot, Spaces, spot_at}
+use Rattle.seg_vn.specs.vm_world.World.{world_seen}
+use Rattle.seg_vn.proofs.seg_ops.StillSteps.{memory_of}
 use Rattle.fault_entry.specs.Reaching.{may_access, ServesAccess}
-use Rattle.hat_layer.specs.Pool.{frame_for}
+use Rattle.seg_vn.specs.hat_layer.Pool.{frame_for}
 use Rattle.fault_entry.specs.declared.access.AccessStep.TheVariants as access
 use Rattle.fault_entry.proofs.Found.{spot-found, spot-none, found-low}
 use Rattle.fault_entry.proofs.Reached.{goes-there, align-access, unmapped-access, refused-access, hit-access}

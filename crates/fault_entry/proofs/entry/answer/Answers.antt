@@ -1,6 +1,6 @@
 use Rattle.std.proofs.Common.{sym, subst}
-use Rattle.vm_types.specs.declared.call.Call.{Call}
-use Rattle.vm_world.specs.Words.{memory}
+use Rattle.seg_vn.specs.vm_types.declared.call.Call.{Call}
+use Rattle.seg_vn.specs.vm_world.Words.{memory}
 use Rattle.seg_vn.specs.Serves.{Serves}
 use Rattle.fault_entry.specs.Answers.{attempt_of}
 use Rattle.fault_entry.proofs.entry.answer.Goals as goal

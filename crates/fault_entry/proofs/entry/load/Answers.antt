@@ -1,8 +1,8 @@
 use Rattle.std.proofs.Common.{None, false, refl, sym, ap, subst}
-use Rattle.flat_model.specs.Words.{page}
-use Rattle.vm_types.specs.declared.call.Call.TheVariants as call
-use Rattle.vm_world.specs.World.{world_seen}
-use Rattle.seg_ops.proofs.StillSteps.{memory_of}
+use Rattle.seg_vn.specs.flat_model.Words.{page}
+use Rattle.seg_vn.specs.vm_types.declared.call.Call.TheVariants as call
+use Rattle.seg_vn.specs.vm_world.World.{world_seen}
+use Rattle.seg_vn.proofs.seg_ops.StillSteps.{memory_of}
 use Rattle.fault_entry.specs.Accesses.{ServesWord}
 use Rattle.fault_entry.proofs.Served.{load-reached, load-refused, access-needs, access-busy, load-refusal}
 use Rattle.fault_entry.proofs.entry.load.Goals as goal

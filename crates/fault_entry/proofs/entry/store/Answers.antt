@@ -1,9 +1,9 @@
 use Rattle.std.proofs.Common.{None, ℕ, true, refl, sym, ap, ◌∙◌, subst}
-use Rattle.flat_model.specs.Words.{page}
-use Rattle.vm_types.specs.declared.call.Call.TheVariants as call
-use Rattle.vm_types.specs.declared.call.Reply.TheVariants as reply
-use Rattle.vm_world.specs.World.{world_seen}
-use Rattle.seg_ops.proofs.StillSteps.{memory_of}
+use Rattle.seg_vn.specs.flat_model.Words.{page}
+use Rattle.seg_vn.specs.vm_types.declared.call.Call.TheVariants as call
+use Rattle.seg_vn.specs.vm_types.declared.call.Reply.TheVariants as reply
+use Rattle.seg_vn.specs.vm_world.World.{world_seen}
+use Rattle.seg_vn.proofs.seg_ops.StillSteps.{memory_of}
 use Rattle.seg_vn.specs.declared.attempt.Attempt.TheVariants as attempt
 use Rattle.fault_entry.specs.Accesses.{ServesWord}
 use Rattle.fault_entry.proofs.Served.{store-reached, store-refused, access-needs, access-busy, store-refusal}

@@ -1,6 +1,6 @@
 use Rattle.std.proofs.Common.{◌≡◌, ℕ, ◌-◌, ◌/◌, ◌%◌, ◌<◌, List, [], length, take, drop, get_or, min, map, sym, ap, ◌∙◌, arith}
 use Rattle.std.specs.List.{concat}
-use Rattle.vm_types.specs.Pages.{line_rest}
+use Rattle.flat_model.specs.vm_types.Pages.{line_rest}
 use Rattle.flat_state.proofs.FilePages.{length-items, get_or-items, page-size, line-of, line-past, items_of}
 use Rattle.flat_state.proofs.file_pages.line_at.Goals as goal
 use Rattle.flat_state.proofs.file_pages.line_at.Goals.{After-deref}

@@ -1,5 +1,5 @@
 use Rattle.std.proofs.Common.{◌∙◌, ap, ◌++◌}
-use Rattle.vnode_files.specs.Grow.{is_free}
+use Rattle.flat_model.specs.vnode_files.Grow.{is_free}
 use Rattle.flat_state.proofs.Growths.{can-last}
 use Rattle.flat_state.proofs.growth.can_lengthen.Goals as goal
 

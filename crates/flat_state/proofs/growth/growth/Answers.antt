@@ -1,5 +1,5 @@
 use Rattle.std.proofs.Common.{◌≡◌, ◌+◌, ◌-◌, ◌∙◌, ℕ, Bool, Some, None, suc, sym, ap, cond, arith}
-use Rattle.vnode_files.specs.Grow.{with_next_blocks}
+use Rattle.flat_model.specs.vnode_files.Grow.{with_next_blocks}
 use Rattle.flat_state.proofs.Growths.{goes-on, ends-none}
 use Rattle.flat_state.proofs.growth.growth.Goals as goal
 

@@ -1,5 +1,5 @@
 use Rattle.std.specs.Prelude.{◌≡◌, ◌-◌}
-use Rattle.vnode_files.specs.Grow.{with_next_blocks}
+use Rattle.flat_model.specs.vnode_files.Grow.{with_next_blocks}
 use Rattle.flat_state.proofs.growth.growth.Given as goal
 
 -- what is still to be added to the extents so far is the whole growth

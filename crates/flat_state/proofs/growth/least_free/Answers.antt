@@ -1,5 +1,5 @@
 use Rattle.std.proofs.Common.{◌∙◌, sym, arith, ◌++◌}
-use Rattle.vnode_files.proofs.ListLemmas.{least_free-none}
+use Rattle.flat_model.proofs.vnode_files.ListLemmas.{least_free-none}
 use Rattle.flat_state.proofs.Growths.{least-found}
 use Rattle.flat_state.proofs.growth.least_free.Goals as goal
 

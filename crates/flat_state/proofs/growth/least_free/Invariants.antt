@@ -1,6 +1,6 @@
 use Rattle.std.specs.Prelude.{ℕ, ◌≡◌, ◌<◌, ◌≤◌, ◌++◌, true}
 use Rattle.std.specs.List.{list_any}
-use Rattle.vnode_files.specs.Grow.{has_block}
+use Rattle.flat_model.specs.vnode_files.Grow.{has_block}
 use Rattle.flat_state.proofs.growth.least_free.Given as goal
 
 -- each block so far is in an extent

@@ -1,6 +1,6 @@
 use Rattle.std.specs.Prelude.{length, ◌-◌, ◌≡◌, suc}
 use Rattle.std.proofs.Common.{rules, arith}
-use Rattle.vnode_files.proofs.ExtentLemmas.{with_longer_last-set}
+use Rattle.flat_model.proofs.vnode_files.ExtentLemmas.{with_longer_last-set}
 use Rattle.flat_state.proofs.growth.lengthen_last.Goals as goal
 
 pub returns : goal.returns

@@ -1,5 +1,5 @@
 use Rattle.std.specs.Prelude.{◌≡◌, ◌-◌, take}
-use Rattle.vnode_files.specs.Grow.{page_count}
+use Rattle.flat_model.specs.vnode_files.Grow.{page_count}
 use Rattle.flat_state.proofs.growth.missing.Given as goal
 
 -- so many pages less those of the extents so far

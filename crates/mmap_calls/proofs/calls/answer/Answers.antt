@@ -1,7 +1,7 @@
 use Rattle.std.proofs.Common.{sym, subst, arith}
 use Rattle.std.specs.Prelude.{IfOk}
-use Rattle.vm_types.specs.declared.call.Call.{Call}
-use Rattle.vm_types.specs.WellFormed.{IsWellFormed}
+use Rattle.seg_vn.specs.vm_types.declared.call.Call.{Call}
+use Rattle.seg_vn.specs.vm_types.WellFormed.{IsWellFormed}
 use Rattle.mmap_calls.specs.Answers.{IsAnswered}
 use Rattle.mmap_calls.proofs.calls.answer.Goals as goal
 

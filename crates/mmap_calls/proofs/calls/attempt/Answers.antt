@@ -1,15 +1,15 @@
 use Rattle.std.proofs.Common.{◌≡◌, ℕ, List, Some, sym, ap, ◌∙◌, subst}
 use Rattle.std.specs.Prelude.{is_some}
 use Rattle.std.specs.FinMap as finite
-use Rattle.addr_space.specs.Space.{Part}
-use Rattle.flat_model.proofs.Maps.{on_err_any}
-use Rattle.flat_model.proofs.Ranges.{insert_same, get-insert_here}
-use Rattle.vm_world.specs.Segments.{Spaces}
-use Rattle.vm_world.specs.World.{world_seen}
-use Rattle.vm_world.specs.ZeroObjects.{KnowsZeros}
-use Rattle.vm_world.specs.declared.segment.Segment.{Segment}
-use Rattle.vm_world.specs.declared.world.World.{World}
-use Rattle.vm_world.proofs.KnownZeros.{known-other}
+use Rattle.seg_vn.specs.addr_space.Space.{Part}
+use Rattle.seg_vn.proofs.flat_model.Maps.{on_err_any}
+use Rattle.seg_vn.proofs.flat_model.Ranges.{insert_same, get-insert_here}
+use Rattle.seg_vn.specs.vm_world.Segments.{Spaces}
+use Rattle.seg_vn.specs.vm_world.World.{world_seen}
+use Rattle.seg_vn.specs.vm_world.ZeroObjects.{KnowsZeros}
+use Rattle.seg_vn.specs.vm_world.declared.segment.Segment.{Segment}
+use Rattle.seg_vn.specs.vm_world.declared.world.World.{World}
+use Rattle.seg_vn.proofs.vm_world.KnownZeros.{known-other}
 use Rattle.mmap_calls.proofs.AtOnce.{at-once-serves}
 use Rattle.mmap_calls.proofs.calls.attempt.Goals as goal
 

@@ -1,7 +1,7 @@
 use Rattle.std.proofs.Common.{sym, subst}
 use Rattle.std.specs.Prelude.{IfOk}
-use Rattle.vm_types.specs.WellFormed.{IsPlace}
-use Rattle.vm_types.specs.declared.call.Place.{Place}
+use Rattle.seg_vn.specs.vm_types.WellFormed.{IsPlace}
+use Rattle.seg_vn.specs.vm_types.declared.call.Place.{Place}
 use Rattle.mmap_calls.specs.Answers.{IsAnswered}
 use Rattle.mmap_calls.specs.Refusals.{placed_call}
 use Rattle.mmap_calls.proofs.calls.map_placed.Goals as goal

@@ -1,9 +1,9 @@
 use Rattle.std.proofs.Common.{◌≡◌, ◌≤◌, ◌+◌, ℕ, List, length, get_or, sym, ap, ◌∙◌, arith}
 use Rattle.std.proofs.lemmas.List.{length-replicate}
-use Rattle.addr_space.specs.Space.{Part, IsInOrder, part}
-use Rattle.addr_space.proofs.Totals.{total-within}
-use Rattle.vm_world.specs.declared.segment.Segment.{Segment}
-use Rattle.vm_world.specs.World.{world_seen}
+use Rattle.seg_vn.specs.addr_space.Space.{Part, IsInOrder, part}
+use Rattle.seg_vn.proofs.addr_space.Totals.{total-within}
+use Rattle.seg_vn.specs.vm_world.declared.segment.Segment.{Segment}
+use Rattle.seg_vn.specs.vm_world.World.{world_seen}
 use Rattle.mmap_calls.specs.RangeCounts.{IsFewCounted, count_within, pages_within, slots_within}
 use Rattle.mmap_calls.proofs.PartsFrom.{sum_from, from-end, from-step, from-all, from-few}
 use Rattle.mmap_calls.proofs.Owns.{OwnsPages, owns}

@@ -1,6 +1,6 @@
 use Rattle.std.proofs.Common.{◌+◌, ◌≤◌, arith}
-use Rattle.addr_space.specs.Space.{part}
-use Rattle.addr_space.proofs.PartLemmas.{found-in}
+use Rattle.seg_vn.specs.addr_space.Space.{part}
+use Rattle.seg_vn.proofs.addr_space.PartLemmas.{found-in}
 use Rattle.mmap_calls.proofs.PartsFrom.{begun-there, last-ends, last-is}
 use Rattle.mmap_calls.proofs.counts.last_piece.Goals as goal
 

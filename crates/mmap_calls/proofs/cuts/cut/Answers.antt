@@ -1,13 +1,13 @@
 use Rattle.std.proofs.Common.{◌≡◌, ℕ, ◌+◌, List, Option, sym, ap, ◌∙◌, subst, arith}
 use Rattle.std.specs.Prelude.{option_map}
 use Rattle.std.specs.FinMap as finite
-use Rattle.addr_space.specs.Space.{Part, part, piece_at}
-use Rattle.vm_world.specs.SegmentSteps.{ChangesSegments, parts_cut}
-use Rattle.vm_world.specs.World.{world_seen}
-use Rattle.vm_world.specs.ZeroObjects.{KnowsZeros}
-use Rattle.vm_world.specs.declared.segment.Segment.{Segment}
-use Rattle.vm_world.specs.declared.world.World.{World}
-use Rattle.vm_world.proofs.ComingParts.{zero-there}
+use Rattle.seg_vn.specs.addr_space.Space.{Part, part, piece_at}
+use Rattle.seg_vn.specs.vm_world.SegmentSteps.{ChangesSegments, parts_cut}
+use Rattle.seg_vn.specs.vm_world.World.{world_seen}
+use Rattle.seg_vn.specs.vm_world.ZeroObjects.{KnowsZeros}
+use Rattle.seg_vn.specs.vm_world.declared.segment.Segment.{Segment}
+use Rattle.seg_vn.specs.vm_world.declared.world.World.{World}
+use Rattle.seg_vn.proofs.vm_world.ComingParts.{zero-there}
 use Rattle.seg_vn.specs.Clears.{StartsAt}
 use Rattle.seg_vn.proofs.CutSegments.{may-be-cut}
 use Rattle.mmap_calls.specs.Looks.{kind_and_object}

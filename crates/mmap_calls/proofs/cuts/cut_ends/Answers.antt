@@ -1,13 +1,13 @@
 use Rattle.std.proofs.Common.{◌≡◌, ℕ, ◌+◌, ◌-◌, ◌++◌, List, Option, Some, None, refl, sym, ap, ◌∙◌, subst, arith}
 use Rattle.std.specs.Prelude.{vec_capacity, replicate}
 use Rattle.std.specs.FinMap as finite
-use Rattle.addr_space.specs.Space.{Part}
-use Rattle.anon_map.specs.Maps.{free_numbers}
-use Rattle.vm_world.specs.FlatMemory.{Memory}
-use Rattle.vm_world.specs.World.{world_seen}
-use Rattle.vm_world.specs.World as worlds
+use Rattle.seg_vn.specs.addr_space.Space.{Part}
+use Rattle.seg_vn.specs.anon_map.Maps.{free_numbers}
+use Rattle.seg_vn.specs.vm_world.FlatMemory.{Memory}
+use Rattle.seg_vn.specs.vm_world.World.{world_seen}
+use Rattle.seg_vn.specs.vm_world.World as worlds
 use Rattle.seg_vn.specs.Clears.{SpaceFits}
-use Rattle.vm_world.specs.declared.segment.Segment.{Segment}
+use Rattle.seg_vn.specs.vm_world.declared.segment.Segment.{Segment}
 use Rattle.mmap_calls.specs.Protections.{most_at}
 use Rattle.mmap_calls.proofs.Replaced.{fits-step, fits-then, numbers-after, cuts-done, room-later}
 use Rattle.mmap_calls.proofs.cuts.cut_ends.Goals.{In_ok-reserve-2}

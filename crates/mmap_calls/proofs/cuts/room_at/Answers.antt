@@ -1,6 +1,6 @@
 use Rattle.std.proofs.Common.{sym, ◌∙◌, arith}
-use Rattle.addr_space.specs.Space.{part}
-use Rattle.vm_world.specs.World.{world_seen}
+use Rattle.seg_vn.specs.addr_space.Space.{part}
+use Rattle.seg_vn.specs.vm_world.World.{world_seen}
 use Rattle.mmap_calls.proofs.CutPlaces.{within-part, shown-here}
 use Rattle.mmap_calls.proofs.cuts.room_at.Goals as goal
 

@@ -1,10 +1,10 @@
 use Rattle.std.proofs.Common.{◌*◌, Option, Some, None, sym, subst, arith}
 use Rattle.std.specs.FinMap as finite
-use Rattle.vm_types.specs.declared.call.Errno.{Errno}
-use Rattle.vm_types.specs.declared.call.Reply.TheVariants.{Mapped}
-use Rattle.vm_world.specs.FlatMemory.{Memory}
-use Rattle.vm_world.specs.Words.{memory}
-use Rattle.vm_world.specs.World.{world_seen}
+use Rattle.seg_vn.specs.vm_types.declared.call.Errno.{Errno}
+use Rattle.seg_vn.specs.vm_types.declared.call.Reply.TheVariants.{Mapped}
+use Rattle.seg_vn.specs.vm_world.FlatMemory.{Memory}
+use Rattle.seg_vn.specs.vm_world.Words.{memory}
+use Rattle.seg_vn.specs.vm_world.World.{world_seen}
 use Rattle.mmap_calls.specs.declared.refusals.MapRequest.{MapRequest}
 use Rattle.mmap_calls.specs.Answers.{IsAnswered}
 use Rattle.mmap_calls.specs.Refusals.{IsMapRefusal, IsMapRequest, map_call}

@@ -1,22 +1,22 @@
 use Rattle.std.proofs.Common.{◌≡◌, ℕ, ◌+◌, ◌-◌, cond, List, length, Option, Some, None, sym, ap, ◌∙◌, subst, arith}
 use Rattle.std.specs.Prelude.{option_map, slice_index_or, vec_capacity, IsSome}
 use Rattle.std.specs.FinMap as finite
-use Rattle.addr_space.specs.Space.{Part, part, piece_at, with_new_part}
-use Rattle.anon_map.specs.Maps.{places_of}
-use Rattle.anon_slots.specs.Slots.{AnonSlotsSeen, count_at}
-use Rattle.flat_model.specs.Mapping.{with_mapping, without_pages}
-use Rattle.flat_model.specs.Space.{is_in_range}
-use Rattle.flat_model.specs.Words.{page, pages_in}
-use Rattle.vm_world.specs.FlatMemory.{Memory}
-use Rattle.vm_world.specs.MapSteps.{maps_held}
-use Rattle.vm_world.specs.Segments.{Spaces}
-use Rattle.vm_world.specs.World.{world_seen}
-use Rattle.vm_world.specs.World as worlds
-use Rattle.vm_world.specs.ZeroObjects.{AreSameZeros, free_number}
-use Rattle.vm_world.specs.declared.segment.Segment.{Segment}
-use Rattle.vm_world.specs.declared.world.World.{World}
-use Rattle.vm_world.proofs.ComingParts.{zero-there}
-use Rattle.seg_ops.proofs.Modified.{modifies-tables, modifies-then}
+use Rattle.seg_vn.specs.addr_space.Space.{Part, part, piece_at, with_new_part}
+use Rattle.seg_vn.specs.anon_map.Maps.{places_of}
+use Rattle.seg_vn.specs.anon_slots.Slots.{AnonSlotsSeen, count_at}
+use Rattle.seg_vn.specs.flat_model.Mapping.{with_mapping, without_pages}
+use Rattle.seg_vn.specs.flat_model.Space.{is_in_range}
+use Rattle.seg_vn.specs.flat_model.Words.{page, pages_in}
+use Rattle.seg_vn.specs.vm_world.FlatMemory.{Memory}
+use Rattle.seg_vn.specs.vm_world.MapSteps.{maps_held}
+use Rattle.seg_vn.specs.vm_world.Segments.{Spaces}
+use Rattle.seg_vn.specs.vm_world.World.{world_seen}
+use Rattle.seg_vn.specs.vm_world.World as worlds
+use Rattle.seg_vn.specs.vm_world.ZeroObjects.{AreSameZeros, free_number}
+use Rattle.seg_vn.specs.vm_world.declared.segment.Segment.{Segment}
+use Rattle.seg_vn.specs.vm_world.declared.world.World.{World}
+use Rattle.seg_vn.proofs.vm_world.ComingParts.{zero-there}
+use Rattle.seg_vn.proofs.seg_ops.Modified.{modifies-tables, modifies-then}
 use Rattle.seg_vn.specs.Clears.{SpaceFits, ChangesSpace, GivesBack}
 use Rattle.mmap_calls.specs.Looks.{kind_and_object}
 use Rattle.mmap_calls.specs.Refusals.{map_of_object, map_request, slots_for_pages}

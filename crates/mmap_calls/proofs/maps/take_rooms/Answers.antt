@@ -1,6 +1,6 @@
 use Rattle.std.proofs.Common.{sym, ◌∙◌}
-use Rattle.vm_world.specs.World.{world_seen}
-use Rattle.vm_world.proofs.ComingParts.{zero-there}
+use Rattle.seg_vn.specs.vm_world.World.{world_seen}
+use Rattle.seg_vn.proofs.vm_world.ComingParts.{zero-there}
 use Rattle.mmap_calls.proofs.Replaced.{named-object}
 use Rattle.mmap_calls.proofs.maps.take_rooms.Goals as goal
 

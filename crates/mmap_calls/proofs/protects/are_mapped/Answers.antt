@@ -1,7 +1,7 @@
 use Rattle.std.proofs.Common.{◌≡◌, ◌<◌, ◌≤◌, ◌+◌, ℕ, true, false, refl, ap, sym, ◌∙◌, arith}
 use Rattle.std.specs.Prelude.{is_some}
-use Rattle.addr_space.specs.Space.{Part, part}
-use Rattle.vm_world.specs.declared.segment.Segment.{Segment}
+use Rattle.seg_vn.specs.addr_space.Space.{Part, part}
+use Rattle.seg_vn.specs.vm_world.declared.segment.Segment.{Segment}
 use Rattle.mmap_calls.proofs.RangeProtections.{Holds, all-so-far, has-part, holds}
 use Rattle.mmap_calls.proofs.protects.are_mapped.Goals as goal
 use Rattle.mmap_calls.proofs.protects.are_mapped.Goals.{In-Some}

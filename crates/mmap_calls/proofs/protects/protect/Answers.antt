@@ -1,23 +1,23 @@
 use Rattle.std.proofs.Common.{◌≡◌, ℕ, ◌+◌, ◌-◌, Bool, true, false, List, Option, Some, None, refl, sym, ap, ◌∙◌, subst, arith}
 use Rattle.std.specs.Prelude.{IsSome}
 use Rattle.std.specs.FinMap as finite
-use Rattle.anon_slots.specs.Slots.{AnonSlotsSeen, count_at}
-use Rattle.vm_types.specs.declared.call.Call.TheVariants.{Protect}
-use Rattle.vm_types.specs.declared.call.Errno.TheVariants as errno
-use Rattle.vm_types.specs.declared.prot.Prot.{Prot}
-use Rattle.flat_model.specs.Flat.{Flat, Space}
-use Rattle.flat_model.specs.Mapping.{is_range, are_mapped, cells_of, may_have, valid_range}
-use Rattle.flat_model.specs.Refusals.{◌>>◌, Effect, check, done_effect, or_refused}
-use Rattle.flat_model.specs.Step.{effect}
-use Rattle.flat_model.specs.Words.{page, pages_in}
-use Rattle.vm_world.specs.FlatMemory.{Memory, flat_memory}
-use Rattle.vm_world.specs.ProtectSteps.{with_range_prot}
-use Rattle.vm_world.specs.Words.{memory}
-use Rattle.vm_world.specs.World.{world_seen}
-use Rattle.vm_world.specs.declared.world.World.{World}
+use Rattle.seg_vn.specs.anon_slots.Slots.{AnonSlotsSeen, count_at}
+use Rattle.seg_vn.specs.vm_types.declared.call.Call.TheVariants.{Protect}
+use Rattle.seg_vn.specs.vm_types.declared.call.Errno.TheVariants as errno
+use Rattle.seg_vn.specs.vm_types.declared.prot.Prot.{Prot}
+use Rattle.seg_vn.specs.flat_model.Flat.{Flat, Space}
+use Rattle.seg_vn.specs.flat_model.Mapping.{is_range, are_mapped, cells_of, may_have, valid_range}
+use Rattle.seg_vn.specs.flat_model.Refusals.{◌>>◌, Effect, check, done_effect, or_refused}
+use Rattle.seg_vn.specs.flat_model.Step.{effect}
+use Rattle.seg_vn.specs.flat_model.Words.{page, pages_in}
+use Rattle.seg_vn.specs.vm_world.FlatMemory.{Memory, flat_memory}
+use Rattle.seg_vn.specs.vm_world.ProtectSteps.{with_range_prot}
+use Rattle.seg_vn.specs.vm_world.Words.{memory}
+use Rattle.seg_vn.specs.vm_world.World.{world_seen}
+use Rattle.seg_vn.specs.vm_world.declared.world.World.{World}
 use Rattle.seg_vn.specs.Clears.{ChangesSpace}
 use Rattle.mmap_calls.specs.Protections.{AreMapped, MayHave, lets}
-use Rattle.seg_ops.proofs.Modified.{modifies-tables, modifies-then}
+use Rattle.seg_vn.proofs.seg_ops.Modified.{modifies-tables, modifies-then}
 use Rattle.mmap_calls.proofs.AtOnce.{done-at-once, refused-at-once}
 use Rattle.mmap_calls.proofs.CutPlaces.{same-space}
 use Rattle.mmap_calls.proofs.RangeProtections.{lets-false, lets-true, mapped-false, mapped-true}

@@ -1,18 +1,18 @@
 use Rattle.std.proofs.Common.{◌≡◌, ℕ, ◌+◌, ◌-◌, ◌<◌, ◌≤◌, true, List, Option, Some, None, refl, sym, ap, ◌∙◌, subst, arith}
 use Rattle.std.specs.Prelude.{option_map}
 use Rattle.std.specs.FinMap as finite
-use Rattle.vm_types.specs.declared.prot.Prot.{Prot}
-use Rattle.vm_types.specs.Prot.{is_within}
-use Rattle.addr_space.specs.Space.{Part, part, part_at, with_new_piece, IsInOrder}
-use Rattle.vm_world.specs.Segments.{Spaces}
-use Rattle.vm_world.specs.Words.{memory}
-use Rattle.vm_world.specs.World.{world_seen}
-use Rattle.vm_world.specs.declared.segment.Segment.{Segment}
-use Rattle.vm_world.specs.declared.world.World.{World}
-use Rattle.vm_world.specs.ProtectSteps.{with_range_prot}
+use Rattle.seg_vn.specs.vm_types.declared.prot.Prot.{Prot}
+use Rattle.seg_vn.specs.vm_types.Prot.{is_within}
+use Rattle.seg_vn.specs.addr_space.Space.{Part, part, part_at, with_new_piece, IsInOrder}
+use Rattle.seg_vn.specs.vm_world.Segments.{Spaces}
+use Rattle.seg_vn.specs.vm_world.Words.{memory}
+use Rattle.seg_vn.specs.vm_world.World.{world_seen}
+use Rattle.seg_vn.specs.vm_world.declared.segment.Segment.{Segment}
+use Rattle.seg_vn.specs.vm_world.declared.world.World.{World}
+use Rattle.seg_vn.specs.vm_world.ProtectSteps.{with_range_prot}
 use Rattle.seg_vn.specs.Clears.{ChangesSpace, SpaceBecomes, SpaceFits, StartsAt}
 use Rattle.seg_vn.specs.Cuts.{IsPartAt}
-use Rattle.seg_ops.proofs.Modified.{modifies-same, modifies-then}
+use Rattle.seg_vn.proofs.seg_ops.Modified.{modifies-same, modifies-then}
 use Rattle.seg_vn.proofs.LeftSegments.{pages-are}
 use Rattle.mmap_calls.proofs.CutPlaces.{same-piece}
 use Rattle.mmap_calls.proofs.RangeProtections.{Ahead, ahead, bounds-written, has-part, none-lay, part-here, range-next, range-none}

@@ -1,10 +1,10 @@
 use Rattle.std.proofs.Common.{◌≡◌, ◌≤◌, ◌-◌, ℕ}
 use Rattle.std.specs.Prelude.{option_map}
-use Rattle.addr_space.specs.Space.{part_at}
-use Rattle.vm_world.specs.ProtectSteps.{with_range_prot}
-use Rattle.vm_world.specs.Serving.{ModifiesNone}
-use Rattle.vm_world.specs.Words.{OnlyStoreAndHat}
-use Rattle.vm_world.specs.World.{world_seen}
+use Rattle.seg_vn.specs.addr_space.Space.{part_at}
+use Rattle.seg_vn.specs.vm_world.ProtectSteps.{with_range_prot}
+use Rattle.seg_vn.specs.vm_world.Serving.{ModifiesNone}
+use Rattle.seg_vn.specs.vm_world.Words.{OnlyStoreAndHat}
+use Rattle.seg_vn.specs.vm_world.World.{world_seen}
 use Rattle.seg_vn.specs.Clears.{SpaceBecomes, StartsAt}
 use Rattle.mmap_calls.proofs.RangeProtections.{bounds}
 use Rattle.mmap_calls.proofs.protects.set_range.Given as goal

@@ -2,9 +2,9 @@ use Rattle.std.proofs.Common.{◌≡◌, ◌+◌, ◌<◌, ℕ, length, vec_len,
 use Rattle.std.specs.Prelude.{slice_index_or, None}
 use Rattle.std.specs.FinSet as set
 use Rattle.std.proofs.lemmas.Grind.{get_or_default_zero}
-use Rattle.page_store.specs.Notes.{no_notes}
-use Rattle.vm_world.specs.FlatMemory.{Memory}
-use Rattle.vm_world.specs.World.{world_seen}
+use Rattle.seg_vn.specs.page_store.Notes.{no_notes}
+use Rattle.seg_vn.specs.vm_world.FlatMemory.{Memory}
+use Rattle.seg_vn.specs.vm_world.World.{world_seen}
 use Rattle.mmap_calls.specs.GivenUp.{pages_given}
 use Rattle.mmap_calls.proofs.ZerosGone.{given-more, given-next}
 use Rattle.mmap_calls.proofs.MapResults.{given-within}

@@ -1,6 +1,6 @@
 use Rattle.std.proofs.Common.{◌≡◌, Bool, true, false, refl, sym, ap, ◌∙◌}
-use Rattle.vm_types.specs.Prot.{is_within}
-use Rattle.vm_world.specs.Words.{memory}
+use Rattle.seg_vn.specs.vm_types.Prot.{is_within}
+use Rattle.seg_vn.specs.vm_world.Words.{memory}
 use Rattle.mmap_calls.proofs.MapResults.{placed, refusal-told}
 use Rattle.mmap_calls.proofs.refusals.new_mapping.Goals as goal
 

@@ -1,6 +1,6 @@
 use Rattle.std.proofs.Common.{sym, ◌∙◌}
-use Rattle.vm_world.specs.World.{world_seen}
-use Rattle.vm_world.proofs.ComingParts.{zero-there}
+use Rattle.seg_vn.specs.vm_world.World.{world_seen}
+use Rattle.seg_vn.proofs.vm_world.ComingParts.{zero-there}
 use Rattle.mmap_calls.proofs.refusals.pages_given.Goals as goal
 
 pub holders-requires : goal.holders-requires

@@ -1,13 +1,13 @@
 use Rattle.std.proofs.Common.{◌≡◌, ◌≤◌, ◌<◌, ◌+◌, ◌-◌, ℕ, Bool, true, false, List, length, refl, sym, ap, ◌∙◌, subst, arith}
 use Rattle.std.specs.FinSet as set
 use Rattle.std.proofs.lemmas.Bool.{le-leb, lt-leb}
-use Rattle.addr_space.specs.Space.{page_total}
-use Rattle.addr_space.proofs.Totals.{total-within}
-use Rattle.flat_model.specs.Words.{page, pages_in}
-use Rattle.page_store.specs.Notes.{no_notes}
-use Rattle.vm_types.specs.Prot.{is_within}
-use Rattle.vm_world.specs.FlatMemory.{Memory}
-use Rattle.vm_world.specs.World.{world_seen}
+use Rattle.seg_vn.specs.addr_space.Space.{page_total}
+use Rattle.seg_vn.proofs.addr_space.Totals.{total-within}
+use Rattle.seg_vn.specs.flat_model.Words.{page, pages_in}
+use Rattle.seg_vn.specs.page_store.Notes.{no_notes}
+use Rattle.seg_vn.specs.vm_types.Prot.{is_within}
+use Rattle.seg_vn.specs.vm_world.FlatMemory.{Memory}
+use Rattle.seg_vn.specs.vm_world.World.{world_seen}
 use Rattle.mmap_calls.specs.GivenUp.{given_up}
 use Rattle.mmap_calls.specs.RangeCounts.{mapped_pages, slots_of_range}
 use Rattle.mmap_calls.specs.Refusals.{most_allowed, pages_after, reserved_after, slots_for_pages}

@@ -1,11 +1,11 @@
 use Rattle.std.proofs.Common.{◌≡◌, ℕ, ◌+◌, ◌-◌, ap, subst, arith}
 use Rattle.std.specs.FinMap as finite
-use Rattle.flat_model.specs.Mapping.{without_pages}
-use Rattle.vm_world.specs.Segments.{Spaces}
-use Rattle.vm_world.specs.Words.{memory}
-use Rattle.vm_world.specs.World.{world_seen}
-use Rattle.vm_world.specs.declared.world.World.{World}
-use Rattle.seg_ops.proofs.Modified.{modifies-tables, modifies-then}
+use Rattle.seg_vn.specs.flat_model.Mapping.{without_pages}
+use Rattle.seg_vn.specs.vm_world.Segments.{Spaces}
+use Rattle.seg_vn.specs.vm_world.Words.{memory}
+use Rattle.seg_vn.specs.vm_world.World.{world_seen}
+use Rattle.seg_vn.specs.vm_world.declared.world.World.{World}
+use Rattle.seg_vn.proofs.seg_ops.Modified.{modifies-tables, modifies-then}
 use Rattle.seg_vn.specs.Clears.{ChangesSpace}
 use Rattle.mmap_calls.proofs.Replaced.{fits-after, joined}
 use Rattle.mmap_calls.proofs.unmaps.free_range.Goals as goal

@@ -1,7 +1,7 @@
 use Rattle.std.proofs.Common.{◌≡◌, ℕ, Some, None, true, false, refl, sym, ◌∙◌, ap, subst}
-use Rattle.page_hash.specs.declared.PageName.{PageName}
-use Rattle.page_hash.specs.Names.{is_name}
-use Rattle.page_lock.specs.Rows.{row_at}
+use Rattle.page_store.specs.page_hash.declared.PageName.{PageName}
+use Rattle.page_store.specs.page_hash.Names.{is_name}
+use Rattle.page_store.specs.page_lock.Rows.{row_at}
 use Rattle.page_store.specs.Bays.{bay_at, home}
 use Rattle.page_store.specs.StoreFits.{StoreFits}
 use Rattle.page_store.specs.Flight.{FlightSeen, note_of, outcome_of}

@@ -1,6 +1,6 @@
 use Rattle.std.proofs.Common.{ap, refl}
-use Rattle.vm_world.specs.World.{world_seen}
-use Rattle.vm_world.specs.declared.world.World.{World}
+use Rattle.seg_vn.specs.vm_world.World.{world_seen}
+use Rattle.seg_vn.specs.vm_world.declared.world.World.{World}
 use Rattle.proc_calls.proofs.Ended.{only-exit, call-serves}
 use Rattle.proc_calls.proofs.exits.attempt.Goals as goal
 

@@ -1,8 +1,8 @@
 use Rattle.std.proofs.Common.{◌≡◌, true, false, sym, ap, ◌∙◌, subst, arith}
 use Rattle.std.specs.Prelude.{is_some}
-use Rattle.flat_model.specs.Processes.{without_process}
-use Rattle.vm_world.specs.Segments.{Spaces}
-use Rattle.vm_world.specs.World.{world_seen}
+use Rattle.seg_vn.specs.flat_model.Processes.{without_process}
+use Rattle.seg_vn.specs.vm_world.Segments.{Spaces}
+use Rattle.seg_vn.specs.vm_world.World.{world_seen}
 use Rattle.seg_vn.specs.Clears.{ChangesSpace, SpaceFits}
 use Rattle.proc_calls.proofs.Ended.{starts-first, starts-end, ended}
 use Rattle.proc_calls.proofs.exits.exit.Goals as goal

@@ -3,16 +3,16 @@ use Rattle.std.specs.Prelude.{count_by, option_map, slice_index, sum_by, unwrap_
 use Rattle.std.specs.FinMap as finite
 use Rattle.std.proofs.lemmas.List.Elements.{All-head, All-tail}
 use Rattle.std.proofs.lemmas.List.Sums.{sum_by-cons}
-use Rattle.addr_space.specs.Space.{Part, part, part_at, with_new_part, IsInOrder}
-use Rattle.addr_space.proofs.PartLemmas.{found-in, has-past}
-use Rattle.vm_world.specs.CountsFit.{is_number, slots_for_part}
-use Rattle.vm_world.specs.ForkSteps.{slots_held, with_cells_copied}
-use Rattle.vm_world.specs.MemoryFits.{MemoryFits}
-use Rattle.vm_world.specs.Words.{memory}
-use Rattle.vm_world.specs.World.{world_seen}
-use Rattle.vm_world.specs.declared.segment.Segment.{Segment}
-use Rattle.vm_world.specs.declared.world.World.{World}
-use Rattle.seg_ops.proofs.Modified.{modifies-same, modifies-then}
+use Rattle.seg_vn.specs.addr_space.Space.{Part, part, part_at, with_new_part, IsInOrder}
+use Rattle.seg_vn.proofs.addr_space.PartLemmas.{found-in, has-past}
+use Rattle.seg_vn.specs.vm_world.CountsFit.{is_number, slots_for_part}
+use Rattle.seg_vn.specs.vm_world.ForkSteps.{slots_held, with_cells_copied}
+use Rattle.seg_vn.specs.vm_world.MemoryFits.{MemoryFits}
+use Rattle.seg_vn.specs.vm_world.Words.{memory}
+use Rattle.seg_vn.specs.vm_world.World.{world_seen}
+use Rattle.seg_vn.specs.vm_world.declared.segment.Segment.{Segment}
+use Rattle.seg_vn.specs.vm_world.declared.world.World.{World}
+use Rattle.seg_vn.proofs.seg_ops.Modified.{modifies-same, modifies-then}
 use Rattle.seg_vn.specs.Clears.{ChangesSpace}
 use Rattle.proc_calls.specs.Pieces.{AreFewHolders, HasFewHolders, AreRoomsFor, IsForking, IsFirstFrom, IsRoomFor, parts_from, rooms_of}
 use Rattle.proc_calls.proofs.PiecesFrom.{one-less, slots-less, walked-all, walked-gap, walked-none, walked-one, whole-from}

@@ -1,14 +1,14 @@
 use Rattle.std.proofs.Common.{◌≡◌, ◌≤◌, ◌+◌, ◌-◌, ℕ, None, length}
 use Rattle.std.specs.Prelude.{slice_index, sum_by}
 use Rattle.std.specs.FinMap as finite
-use Rattle.addr_space.specs.Space.{part_at}
-use Rattle.anon_map.specs.Maps.{IsMapThere, free_numbers, places_of}
-use Rattle.vm_world.specs.CountsFit.{slots_for_part}
-use Rattle.vm_world.specs.ForkSteps.{with_cells_copied}
-use Rattle.vm_world.specs.Segments.{Spaces}
-use Rattle.vm_world.specs.Serving.{ModifiesNone}
-use Rattle.vm_world.specs.Words.{memory}
-use Rattle.vm_world.specs.World.{world_seen}
+use Rattle.seg_vn.specs.addr_space.Space.{part_at}
+use Rattle.seg_vn.specs.anon_map.Maps.{IsMapThere, free_numbers, places_of}
+use Rattle.seg_vn.specs.vm_world.CountsFit.{slots_for_part}
+use Rattle.seg_vn.specs.vm_world.ForkSteps.{with_cells_copied}
+use Rattle.seg_vn.specs.vm_world.Segments.{Spaces}
+use Rattle.seg_vn.specs.vm_world.Serving.{ModifiesNone}
+use Rattle.seg_vn.specs.vm_world.Words.{memory}
+use Rattle.seg_vn.specs.vm_world.World.{world_seen}
 use Rattle.seg_vn.specs.Clears.{ChangesSpace}
 use Rattle.proc_calls.specs.Pieces.{AreFewHolders, AreRoomsFor, IsForking, parts_from, rooms_of}
 use Rattle.proc_calls.proofs.PiecesFrom.{Walked}

@@ -1,15 +1,15 @@
 use Rattle.std.proofs.Common.{◌≡◌, ◌+◌, ℕ, true, false, List, Option, length, refl, sym, ap, ◌∙◌, subst, arith}
 use Rattle.std.specs.Prelude.{is_some}
 use Rattle.std.specs.FinMap as finite
-use Rattle.flat_model.specs.Refusals.{Effect}
-use Rattle.vm_world.specs.Segments.{Spaces}
-use Rattle.vm_world.specs.ZeroObjects.{KnowsZeros}
-use Rattle.vm_world.specs.declared.world.World.{World}
-use Rattle.seg_ops.proofs.Modified.{modifies-same, modifies-tables, modifies-then}
+use Rattle.seg_vn.specs.flat_model.Refusals.{Effect}
+use Rattle.seg_vn.specs.vm_world.Segments.{Spaces}
+use Rattle.seg_vn.specs.vm_world.ZeroObjects.{KnowsZeros}
+use Rattle.seg_vn.specs.vm_world.declared.world.World.{World}
+use Rattle.seg_vn.proofs.seg_ops.Modified.{modifies-same, modifies-tables, modifies-then}
 use Rattle.proc_calls.specs.Forks.{BearsChild}
 use Rattle.proc_calls.specs.Pieces.{AreFewHolders}
-use Rattle.vm_world.specs.Words.{memory}
-use Rattle.vm_world.specs.World.{world_seen}
+use Rattle.seg_vn.specs.vm_world.Words.{memory}
+use Rattle.seg_vn.specs.vm_world.World.{world_seen}
 use Rattle.proc_calls.proofs.Forked.{bears-child, counted-first, done-due, few-numbers, forked, forking, no-lack, refusal-due}
 use Rattle.proc_calls.proofs.PiecesCopied.{all-own}
 use Rattle.proc_calls.proofs.forks.fork.Goals as goal

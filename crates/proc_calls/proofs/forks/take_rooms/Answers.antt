@@ -1,7 +1,7 @@
 use Rattle.std.proofs.Common.{◌+◌, ◌++◌, [], ◌∷◌, length, sym, ap, ◌∙◌, subst, arith}
 use Rattle.std.proofs.lemmas.List.Elements.{All-nil, All-push}
-use Rattle.addr_space.specs.Space.{part}
-use Rattle.vm_world.specs.World.{world_seen}
+use Rattle.seg_vn.specs.addr_space.Space.{part}
+use Rattle.seg_vn.specs.vm_world.World.{world_seen}
 use Rattle.seg_vn.proofs.LeftSegments.{shown-is}
 use Rattle.proc_calls.specs.Pieces.{AreFewHolders, HasFewHolders, AreRoomsFor, parts_from, rooms_of}
 use Rattle.proc_calls.proofs.PiecesFrom.{one-less, whole-from}

@@ -1,7 +1,7 @@
 use Rattle.std.proofs.Common.{◌≡◌, ◌≤◌, ◌+◌, ◌-◌, ◌++◌, List, length}
 use Rattle.std.specs.VecDeque.{deque_capacity, deque_len}
-use Rattle.addr_space.specs.Space.{Part}
-use Rattle.vm_world.specs.declared.segment.Segment.{Segment}
+use Rattle.seg_vn.specs.addr_space.Space.{Part}
+use Rattle.seg_vn.specs.vm_world.declared.segment.Segment.{Segment}
 use Rattle.proc_calls.specs.Pieces.{AreFewHolders, AreRoomsFor, parts_from, rooms_of}
 use Rattle.proc_calls.proofs.forks.take_rooms.Given as goal
 

@@ -1,7 +1,7 @@
 use Rattle.std.proofs.Common.{length, ap, arith}
 use Rattle.std.specs.Prelude.{sum_by}
-use Rattle.addr_space.specs.Space.{part}
-use Rattle.vm_world.specs.CountsFit.{slots_for_part}
+use Rattle.seg_vn.specs.addr_space.Space.{part}
+use Rattle.seg_vn.specs.vm_world.CountsFit.{slots_for_part}
 use Rattle.proc_calls.proofs.PiecesFrom.{few, few-slots, one-less, owns-next, slots-less, whole-from}
 use Rattle.proc_calls.proofs.pieces.count_pieces.Goals as goal
 

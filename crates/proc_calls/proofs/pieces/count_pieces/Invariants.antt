@@ -1,6 +1,6 @@
 use Rattle.std.proofs.Common.{◌≡◌, ◌+◌, ◌-◌, length}
 use Rattle.std.specs.Prelude.{sum_by}
-use Rattle.vm_world.specs.CountsFit.{slots_for_part}
+use Rattle.seg_vn.specs.vm_world.CountsFit.{slots_for_part}
 use Rattle.proc_calls.specs.Pieces.{parts_from}
 use Rattle.proc_calls.proofs.pieces.count_pieces.Given as goal
 

@@ -1,5 +1,5 @@
 use Rattle.std.proofs.Common.{sym}
-use Rattle.addr_space.specs.Space.{part}
+use Rattle.seg_vn.specs.addr_space.Space.{part}
 use Rattle.proc_calls.proofs.PiecesFrom.{begun-there, is-next, match-none, none-from}
 use Rattle.proc_calls.proofs.pieces.next_piece.Goals as goal
 

@@ -1,5 +1,5 @@
 use Rattle.std.proofs.Common.{false}
-use Rattle.flat_model.specs.Words.{page}
+use Rattle.vm_world.specs.flat_model.Words.{page}
 use Rattle.vm_world.specs.World.{world_seen, world_table}
 use Rattle.seg_ops.proofs.Hits.{noted-hits, noted-home, read-word}
 use Rattle.seg_ops.proofs.accesses.read.Goals as goal

@@ -1,5 +1,5 @@
 use Rattle.std.proofs.Common.{◌≡◌, ℕ, ◌%◌, List, Option, true, false, sym, ap, ◌∙◌, subst}
-use Rattle.flat_model.specs.Words.{page, word_bytes}
+use Rattle.vm_world.specs.flat_model.Words.{page, word_bytes}
 use Rattle.page_store.specs.Laws.{Pokes, SameResidence}
 use Rattle.page_store.specs.Steps.{with_piece}
 use Rattle.vm_world.specs.TranslationsFit.{HasWritten}

@@ -1,12 +1,12 @@
 use Rattle.std.proofs.Common.{◌≡◌, true, List, Option, Some, refl, sym, ap, subst, slice_set}
-use Rattle.core_arena.specs.Bytes.{zeros}
-use Rattle.page_hash.specs.Names.{is_name}
-use Rattle.page_hash.specs.declared.PageName.{PageName}
-use Rattle.page_lock.specs.Rows.{row_at}
-use Rattle.page_lock.specs.declared.Row.{Row}
+use Rattle.page_store.specs.core_arena.Bytes.{zeros}
+use Rattle.page_store.specs.page_hash.Names.{is_name}
+use Rattle.page_store.specs.page_hash.declared.PageName.{PageName}
+use Rattle.page_store.specs.page_lock.Rows.{row_at}
+use Rattle.page_store.specs.page_lock.declared.Row.{Row}
 use Rattle.page_store.specs.Steps.{next_frame, next_name, fresh_row}
-use Rattle.anon_map.specs.Maps.{Map, places_of, with_places}
-use Rattle.anon_slots.specs.Slots.{AnonSlotsSeen, IsSoundAnonSlots}
+use Rattle.vm_world.specs.anon_map.Maps.{Map, places_of, with_places}
+use Rattle.vm_world.specs.anon_slots.Slots.{AnonSlotsSeen, IsSoundAnonSlots}
 use Rattle.vm_world.specs.MemoryFits.{MemoryFits}
 use Rattle.vm_world.specs.Segments.{Spaces}
 use Rattle.vm_world.specs.StateSteps.{PendsTails}

@@ -1,5 +1,5 @@
 use Rattle.std.proofs.Common.{ap, ◌∙◌}
-use Rattle.core_arena.specs.Bytes.{zeros}
+use Rattle.page_store.specs.core_arena.Bytes.{zeros}
 use Rattle.page_store.specs.Steps.{after_fill}
 use Rattle.vm_world.specs.World.{file_name}
 use Rattle.vm_world.proofs.PageNames.{file-apart, not-slot}

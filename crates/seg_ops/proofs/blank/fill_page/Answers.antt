@@ -1,9 +1,9 @@
 use Rattle.std.proofs.Common.{◌≡◌, ◌≢◌, ℕ, ◌==◌, Bool, true, refl, sym, ap, ◌∙◌, subst}
 use Rattle.std.specs.Prelude.{IfSome}
-use Rattle.core_arena.specs.Bytes.{zeros}
-use Rattle.page_hash.specs.Names.{is_name}
+use Rattle.page_store.specs.core_arena.Bytes.{zeros}
+use Rattle.page_store.specs.page_hash.Names.{is_name}
 use Rattle.page_store.specs.Seen.{StoreSeen, IsListedFrame}
-use Rattle.page_lock.specs.Rows.{row_at}
+use Rattle.page_store.specs.page_lock.Rows.{row_at}
 use Rattle.page_store.specs.Steps.{next_frame, next_name, after_fill, fresh_row}
 use Rattle.vm_world.specs.Serving.{ModifiesOnly}
 use Rattle.vm_world.specs.World.{World, world_seen, file_name}

@@ -1,16 +1,16 @@
 use Rattle.std.proofs.Common.{◌≡◌, None, Some, sym, ap, ◌∙◌, subst, slice_set}
-use Rattle.hat_layer.specs.Pool.{translation_at}
-use Rattle.page_hash.specs.Names.{find, is_name}
+use Rattle.vm_world.specs.hat_layer.Pool.{translation_at}
+use Rattle.page_store.specs.page_hash.Names.{find, is_name}
 use Rattle.page_store.specs.Steps.{next_name, home_bytes}
-use Rattle.anon_map.specs.Maps.{places_of, with_places}
-use Rattle.flat_model.specs.Step.{tails_cleared}
+use Rattle.vm_world.specs.anon_map.Maps.{places_of, with_places}
+use Rattle.vm_world.specs.flat_model.Step.{tails_cleared}
 use Rattle.vm_world.specs.CallSteps.{ChangesMemory}
 use Rattle.vm_world.specs.World.{World, world_seen, slot_name}
 use Rattle.vm_world.specs.declared.world.World as rust
 use Rattle.vm_world.specs.WorldSteps.{tails_lost}
 use Rattle.seg_ops.specs.Slots.{MakesHome, with_own_page}
 use Rattle.seg_ops.proofs.SlotCopies.{changes-again, own-home}
-use Rattle.anon_slots.specs.Slots.{AnonSlotsSeen, count_at}
+use Rattle.vm_world.specs.anon_slots.Slots.{AnonSlotsSeen, count_at}
 use Rattle.seg_ops.proofs.SlotCounts.{left-free}
 use Rattle.seg_ops.proofs.SlotPlaces.{place-twice}
 use Rattle.seg_ops.proofs.SlotSteps.{home-again}

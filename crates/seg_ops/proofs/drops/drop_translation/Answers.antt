@@ -1,7 +1,7 @@
 use Rattle.std.proofs.Common.{◌≡◌, ℕ, Option, Some, refl, sym, ap, ◌∙◌, subst}
 use Rattle.std.specs.Prelude.{option_map, IfSome}
-use Rattle.hat_layer.specs.declared.translation.Dropped.{Dropped}
-use Rattle.hat_layer.specs.Pool.{translation_at, told_of}
+use Rattle.vm_world.specs.hat_layer.declared.translation.Dropped.{Dropped}
+use Rattle.vm_world.specs.hat_layer.Pool.{translation_at, told_of}
 use Rattle.page_store.specs.Laws.{StaysInPlace}
 use Rattle.page_store.specs.Moves.{is_only}
 use Rattle.vm_world.specs.World.{world_seen}

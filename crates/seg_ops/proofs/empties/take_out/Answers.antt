@@ -1,6 +1,6 @@
 use Rattle.std.proofs.Common.{List, Option, None, sym, subst, slice_set}
-use Rattle.anon_map.specs.Maps.{Map, places_of, with_places}
-use Rattle.anon_slots.specs.Slots.{AnonSlotsSeen, IsSoundAnonSlots}
+use Rattle.vm_world.specs.anon_map.Maps.{Map, places_of, with_places}
+use Rattle.vm_world.specs.anon_slots.Slots.{AnonSlotsSeen, IsSoundAnonSlots}
 use Rattle.vm_world.specs.World.{world_seen}
 use Rattle.vm_world.proofs.Counts.{held-used}
 use Rattle.seg_ops.specs.Empties.{LeavesSlot}

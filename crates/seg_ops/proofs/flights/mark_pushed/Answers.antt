@@ -1,6 +1,6 @@
 use Rattle.std.proofs.Common.{sym, ap, subst}
-use Rattle.vnode_files.specs.Files.{FilesSeen}
-use Rattle.anon_slots.specs.Slots.{AnonSlotsSeen}
+use Rattle.vm_world.specs.vnode_files.Files.{FilesSeen}
+use Rattle.vm_world.specs.anon_slots.Slots.{AnonSlotsSeen}
 use Rattle.vm_world.specs.Segments.{Spaces}
 use Rattle.vm_world.specs.MemoryFits.{MemoryFits}
 use Rattle.vm_world.specs.World.{World, world_seen}

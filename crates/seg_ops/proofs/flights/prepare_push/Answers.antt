@@ -1,7 +1,7 @@
 use Rattle.std.proofs.Common.{ℕ, Option, Some, sym, ap, ◌∙◌, subst}
 use Rattle.page_store.specs.Seen.{IsListedFrame}
 use Rattle.page_store.specs.Steps.{at_frame, next_frame}
-use Rattle.hat_layer.specs.Pool.{bits_of}
+use Rattle.vm_world.specs.hat_layer.Pool.{bits_of}
 use Rattle.vm_world.specs.Wants.{IsDirtyPage}
 use Rattle.vm_world.specs.World.{world_seen}
 use Rattle.seg_ops.specs.Flights.{places_pushed}

@@ -1,7 +1,7 @@
 use Rattle.std.proofs.Common.{◌≡◌, ℕ, None, sym, ap, ◌∙◌, subst}
 use Rattle.std.specs.Prelude.{IsTrue}
-use Rattle.page_hash.specs.Names.{is_name}
-use Rattle.page_hash.specs.declared.PageName.{PageName}
+use Rattle.page_store.specs.page_hash.Names.{is_name}
+use Rattle.page_store.specs.page_hash.declared.PageName.{PageName}
 use Rattle.page_store.specs.Bays.{bay_at}
 use Rattle.page_store.specs.Flight.{FlightSeen, Begins, note_of}
 use Rattle.page_store.specs.Seen.{StoreSeen}

@@ -1,6 +1,6 @@
 use Rattle.std.proofs.Common.{◌≡◌, sym, ap, ◌∙◌, subst}
 use Rattle.std.specs.Prelude.{IfSome}
-use Rattle.page_hash.specs.Names.{is_name}
+use Rattle.page_store.specs.page_hash.Names.{is_name}
 use Rattle.page_store.specs.Seen.{StoreSeen, IsListedFrame, residence}
 use Rattle.page_store.specs.Steps.{next_frame, next_name}
 use Rattle.vm_world.specs.MemoryFits.{MemoryFits}

@@ -1,7 +1,7 @@
 use Rattle.std.proofs.Common.{◌≡◌, ℕ, ◌<◌, length, refl, sym, ap, ◌∙◌, subst}
 use Rattle.page_store.specs.Seen.{StoreSeen}
 use Rattle.vm_world.specs.World.{world_seen}
-use Rattle.hat_layer.specs.Pool.{dropped_by_load, told_of}
+use Rattle.vm_world.specs.hat_layer.Pool.{dropped_by_load, told_of}
 use Rattle.std.specs.Prelude.{option_map}
 use Rattle.seg_ops.specs.Steps.{with_dropped_gathered}
 use Rattle.seg_ops.proofs.StillSteps.{with_tables}

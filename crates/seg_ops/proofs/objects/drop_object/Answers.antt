@@ -1,5 +1,5 @@
 use Rattle.std.proofs.Common.{◌≡◌, ◌+◌, ◌<◌, ℕ, suc, length, None, refl, sym, ap, ◌∙◌, subst, arith, slice_set}
-use Rattle.anon_map.specs.Maps.{places_of, with_places}
+use Rattle.vm_world.specs.anon_map.Maps.{places_of, with_places}
 use Rattle.vm_world.specs.World.{world_seen}
 use Rattle.vm_world.specs.declared.world.World.{World}
 use Rattle.seg_ops.specs.Empties.{EmptiesPlaces, IsUnloadedZero, places_emptied}

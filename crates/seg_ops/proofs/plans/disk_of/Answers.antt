@@ -1,5 +1,5 @@
 use Rattle.std.proofs.Common.{◌≡◌, ◌≢◌, ℕ, refl, sym, ap, ◌∙◌}
-use Rattle.vnode_files.specs.declared.vnode.FileInfo.{FileInfo}
+use Rattle.vm_world.specs.vnode_files.declared.vnode.FileInfo.{FileInfo}
 use Rattle.vm_world.specs.World.{world_seen}
 use Rattle.seg_ops.proofs.Disks.{lives-on}
 use Rattle.seg_ops.proofs.plans.disk_of.Goals as goal

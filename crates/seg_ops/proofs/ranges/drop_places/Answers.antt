@@ -1,6 +1,6 @@
 use Rattle.std.proofs.Common.{◌≡◌, ◌+◌, ◌-◌, ℕ, suc, None, refl, sym, ap, ◌∙◌, subst, arith, slice_set}
-use Rattle.hat_layer.specs.Pool.{translation_at}
-use Rattle.anon_map.specs.Maps.{places_of, with_places}
+use Rattle.vm_world.specs.hat_layer.Pool.{translation_at}
+use Rattle.vm_world.specs.anon_map.Maps.{places_of, with_places}
 use Rattle.vm_world.specs.CallSteps.{ChangesMemory}
 use Rattle.vm_world.specs.World.{world_seen}
 use Rattle.vm_world.specs.declared.world.World.{World}

@@ -1,8 +1,8 @@
 use Rattle.std.proofs.Common.{◌≡◌, ◌<◌, ◌≤◌, ◌-◌, ℕ}
-use Rattle.page_hash.specs.declared.PageName.{PageName}
+use Rattle.page_store.specs.page_hash.declared.PageName.{PageName}
 use Rattle.page_store.specs.Seen.{residence}
-use Rattle.anon_map.specs.Maps.{places_of, with_places}
-use Rattle.anon_slots.specs.Slots.{count_at}
+use Rattle.vm_world.specs.anon_map.Maps.{places_of, with_places}
+use Rattle.vm_world.specs.anon_slots.Slots.{count_at}
 use Rattle.vm_world.specs.CallSteps.{ChangesMemory}
 use Rattle.vm_world.specs.MemoryFits.{MemoryFits}
 use Rattle.vm_world.specs.Segments.{Spaces}

@@ -1,5 +1,5 @@
 use Rattle.std.proofs.Common.{◌≡◌, None, sym, ap, ◌∙◌, subst}
-use Rattle.anon_slots.specs.Slots.{count_at}
+use Rattle.vm_world.specs.anon_slots.Slots.{count_at}
 use Rattle.vm_world.specs.Serving.{ModifiesNone}
 use Rattle.vm_world.specs.World.{World, world_seen}
 use Rattle.vm_world.proofs.Counts.{held-used, used-below}

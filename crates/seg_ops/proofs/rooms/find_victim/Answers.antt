@@ -1,6 +1,6 @@
 use Rattle.std.proofs.Common.{◌≡◌, ℕ, ◌<◌, List, Option, None, length, sym, ap, ◌∙◌, subst}
 use Rattle.std.specs.Prelude.{IsSome}
-use Rattle.core_arena.specs.Bytes.{bytes_at}
+use Rattle.page_store.specs.core_arena.Bytes.{bytes_at}
 use Rattle.seg_ops.proofs.RoomMade.{lists-both, room-then, same-next}
 use Rattle.seg_ops.proofs.rooms.find_victim.Goals as goal
 

@@ -1,5 +1,5 @@
 use Rattle.std.proofs.Common.{◌≡◌, Bool, false, Some, refl, ap, ◌∙◌}
-use Rattle.page_lock.specs.Rows.{row_at, with_bits}
+use Rattle.page_store.specs.page_lock.Rows.{row_at, with_bits}
 use Rattle.page_store.specs.Seen.{StoreSeen}
 use Rattle.page_store.specs.Steps.{with_row}
 use Rattle.vm_world.specs.World.{world_seen}

@@ -1,7 +1,7 @@
 use Rattle.std.proofs.Common.{◌≡◌, true, false, sym, ap, ◌∙◌, subst}
 use Rattle.page_store.specs.Seen.{StoreSeen}
 use Rattle.page_store.specs.Waits.{IsVictim}
-use Rattle.hat_layer.specs.Pool.{bits_of}
+use Rattle.vm_world.specs.hat_layer.Pool.{bits_of}
 use Rattle.seg_ops.proofs.RoomMade.{lists-gathered}
 use Rattle.seg_ops.proofs.UsedPages.{gathered-victim}
 use Rattle.seg_ops.proofs.rooms.is_unused_victim.Goals as goal

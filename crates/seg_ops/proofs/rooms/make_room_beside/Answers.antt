@@ -1,6 +1,6 @@
 use Rattle.std.proofs.Common.{◌≡◌, ℕ, ◌<◌, Option, Some, None, length, refl, sym, subst}
 use Rattle.std.specs.Prelude.{IfSome}
-use Rattle.page_hash.specs.declared.PageName.{PageName}
+use Rattle.page_store.specs.page_hash.declared.PageName.{PageName}
 use Rattle.page_store.specs.Seen.{residence}
 use Rattle.page_store.specs.declared.residence.Residence.TheVariants as at
 use Rattle.seg_ops.proofs.rooms.make_room_beside.Goals as goal

@@ -1,7 +1,7 @@
 use Rattle.std.proofs.Common.{◌≡◌, ℕ, ◌<◌, List, Option, Some, None, length, refl, sym, ap, ◌∙◌, subst, arith}
 use Rattle.std.specs.Prelude.{IsSome}
-use Rattle.core_arena.specs.Bytes.{bytes_at}
-use Rattle.hat_layer.specs.Pool.{bits_of}
+use Rattle.page_store.specs.core_arena.Bytes.{bytes_at}
+use Rattle.vm_world.specs.hat_layer.Pool.{bits_of}
 use Rattle.page_store.specs.Seen.{StoreSeen}
 use Rattle.page_store.specs.Steps.{next_frame}
 use Rattle.page_store.specs.Waits.{IsVictim}

@@ -1,5 +1,5 @@
 use Rattle.std.proofs.Common.{◌≡◌, length, ◌∙◌, arith}
-use Rattle.hat_layer.specs.Pool.{bits_of}
+use Rattle.vm_world.specs.hat_layer.Pool.{bits_of}
 use Rattle.seg_ops.proofs.UsedPages.{gathered-use}
 use Rattle.seg_ops.proofs.rooms.was_used.Goals as goal
 

@@ -1,7 +1,7 @@
 use Rattle.std.proofs.Common.{ℕ, sym, ap, subst}
 use Rattle.std.proofs.lemmas.Result.{err_from_is_err_and}
 use Rattle.std.specs.Prelude.{Ok}
-use Rattle.vm_world.specs.World.{world_seen}
+use Rattle.seg_ops.specs.vm_world.World.{world_seen}
 use Rattle.seg_ops.specs.declared.plans.Fault.TheVariants as fault
 use Rattle.seg_ops.proofs.StillSteps.{memory_of}
 use Rattle.seg_ops.specs.Faults.{ServesFault}

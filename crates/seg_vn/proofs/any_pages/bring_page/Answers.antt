@@ -1,5 +1,5 @@
 use Rattle.std.proofs.Common.{ℕ, Err, sym, ap, ◌∙◌, subst}
-use Rattle.vm_world.specs.World.{world_seen}
+use Rattle.seg_ops.specs.vm_world.World.{world_seen}
 use Rattle.seg_ops.proofs.StillSteps.{memory_of}
 use Rattle.seg_vn.specs.Brings.{BringsPage}
 use Rattle.seg_vn.proofs.Brings.{fetch-brings, home-brings, moving-brings}

@@ -1,11 +1,11 @@
 use Rattle.std.proofs.Common.{◌-◌, ℕ, Bool, cond, List, None, refl, sym, ap, ◌∙◌, arith}
 use Rattle.std.specs.FinMap as finite
-use Rattle.addr_space.specs.Space.{Part, piece_at}
-use Rattle.addr_space.proofs.PartLists.{pages-end}
-use Rattle.flat_model.proofs.Ranges.{get-insert_here}
-use Rattle.vm_world.specs.World.{world_seen}
-use Rattle.vm_world.specs.declared.segment.Segment.{Segment}
-use Rattle.vm_world.specs.declared.world.World.{World}
+use Rattle.seg_ops.specs.addr_space.Space.{Part, piece_at}
+use Rattle.seg_ops.proofs.addr_space.PartLists.{pages-end}
+use Rattle.seg_ops.proofs.flat_model.Ranges.{get-insert_here}
+use Rattle.seg_ops.specs.vm_world.World.{world_seen}
+use Rattle.seg_ops.specs.vm_world.declared.segment.Segment.{Segment}
+use Rattle.seg_ops.specs.vm_world.declared.world.World.{World}
 use Rattle.seg_vn.proofs.ClearedSpaces.{none-goes, goes, part-leaves, none-out, none-left, range-left, part-left, next-pages, next-ranges}
 use Rattle.seg_vn.proofs.GivenBack.{gives-none, gives-then}
 use Rattle.seg_vn.proofs.LeftSegments.{pages-are}

@@ -1,12 +1,12 @@
 use Rattle.std.proofs.Common.{◌≡◌, ◌≤◌, ◌-◌, ℕ, None, cond}
 use Rattle.std.specs.Prelude.{IsSome}
 use Rattle.std.specs.FinMap as finite
-use Rattle.addr_space.specs.Space.{piece_at}
-use Rattle.flat_model.specs.Mapping.{without_pages}
-use Rattle.flat_model.specs.Space.{is_in_range}
-use Rattle.vm_world.specs.Segments.{Spaces}
-use Rattle.vm_world.specs.World.{world_seen}
-use Rattle.vm_world.specs.ZeroObjects.{free_number}
+use Rattle.seg_ops.specs.addr_space.Space.{piece_at}
+use Rattle.seg_ops.specs.flat_model.Mapping.{without_pages}
+use Rattle.seg_ops.specs.flat_model.Space.{is_in_range}
+use Rattle.seg_ops.specs.vm_world.Segments.{Spaces}
+use Rattle.seg_ops.specs.vm_world.World.{world_seen}
+use Rattle.seg_ops.specs.vm_world.ZeroObjects.{free_number}
 use Rattle.seg_vn.specs.Clears.{ChangesSpace, GivesBack, SpaceFits}
 use Rattle.seg_vn.proofs.clears.clear.Given as goal
 

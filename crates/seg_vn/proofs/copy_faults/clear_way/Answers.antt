@@ -1,16 +1,16 @@
 use Rattle.std.proofs.Common.{ℕ, Option, sym, ap, ◌∙◌, subst, List}
 use Rattle.std.specs.Prelude.{IsSome, option_map}
-use Rattle.hat_layer.specs.Pool.{translation_at, told_of}
-use Rattle.page_hash.specs.Names.{is_name, name_at}
-use Rattle.page_store.specs.Steps.{next_name}
-use Rattle.vm_world.specs.StateSteps.{PendsTails}
-use Rattle.vm_world.specs.World.{world_seen}
+use Rattle.seg_ops.specs.hat_layer.Pool.{translation_at, told_of}
+use Rattle.seg_ops.specs.page_hash.Names.{is_name, name_at}
+use Rattle.seg_ops.specs.page_store.Steps.{next_name}
+use Rattle.seg_ops.specs.vm_world.StateSteps.{PendsTails}
+use Rattle.seg_ops.specs.vm_world.World.{world_seen}
 use Rattle.seg_ops.proofs.Modified.{modifies-then}
 use Rattle.seg_vn.proofs.CopySteps.{gathered-next, gathered-listed, gathered-same}
 use Rattle.seg_vn.proofs.Takes.{takes-later, takes-next}
 use Rattle.seg_vn.proofs.copy_faults.clear_way.Goals as goal
 use Rattle.seg_vn.proofs.Replacements.{cut-frame}
-use Rattle.page_hash.specs.declared.PageName.{PageName}
+use Rattle.seg_ops.specs.page_hash.declared.PageName.{PageName}
 
 pub free_next-requires : goal.free_next-requires
 free_next-requires g c = record { fits = (c.requires.fits.0, (c.drop_translation.ensures.keeps c.requires.fits.0 c.requires.fits.1).memory) }

@@ -1,7 +1,7 @@
 use Rattle.std.proofs.Common.{◌∙◌}
-use Rattle.page_hash.specs.Names.{find}
-use Rattle.page_store.specs.Steps.{home_bytes}
-use Rattle.vm_world.specs.World.{world_seen}
+use Rattle.seg_ops.specs.page_hash.Names.{find}
+use Rattle.seg_ops.specs.page_store.Steps.{home_bytes}
+use Rattle.seg_ops.specs.vm_world.World.{world_seen}
 use Rattle.seg_vn.proofs.Copies.{changes-got, changes-held}
 use Rattle.seg_vn.proofs.SlotsDue.{gives-new, gives-other}
 use Rattle.seg_vn.proofs.copy_faults.copy_into.Goals as goal

@@ -1,6 +1,6 @@
 use Rattle.std.proofs.Common.{◌∙◌}
-use Rattle.core_arena.specs.Bytes.{zeros}
-use Rattle.vm_world.specs.World.{world_seen}
+use Rattle.seg_ops.specs.core_arena.Bytes.{zeros}
+use Rattle.seg_ops.specs.vm_world.World.{world_seen}
 use Rattle.seg_vn.proofs.Copies.{changes-got, changes-held}
 use Rattle.seg_vn.proofs.SlotsDue.{gives-new, gives-other}
 use Rattle.seg_vn.proofs.copy_faults.zeros_into.Goals as goal

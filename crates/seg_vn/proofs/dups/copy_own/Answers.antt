@@ -1,12 +1,12 @@
 use Rattle.std.proofs.Common.{◌≡◌, ◌+◌, ◌<◌, ◌^◌, List, length, Option, Some, sym, ap, ◌∙◌, subst, arith}
 use Rattle.std.specs.Prelude.{is_some}
-use Rattle.anon_map.specs.Maps.{IsMapThere, places_of}
-use Rattle.anon_slots.specs.Slots.{count_at}
-use Rattle.hat_layer.specs.declared.translation.Translation.{Translation}
-use Rattle.vm_world.specs.CountsFit.{slots_for_part}
-use Rattle.vm_world.specs.ForkSteps.{maps_copied}
-use Rattle.vm_world.specs.World.{world_seen}
-use Rattle.vm_world.specs.declared.world.World.{World}
+use Rattle.seg_ops.specs.anon_map.Maps.{IsMapThere, places_of}
+use Rattle.seg_ops.specs.anon_slots.Slots.{count_at}
+use Rattle.seg_ops.specs.hat_layer.declared.translation.Translation.{Translation}
+use Rattle.seg_ops.specs.vm_world.CountsFit.{slots_for_part}
+use Rattle.seg_ops.specs.vm_world.ForkSteps.{maps_copied}
+use Rattle.seg_ops.specs.vm_world.World.{world_seen}
+use Rattle.seg_ops.specs.vm_world.declared.world.World.{World}
 use Rattle.seg_ops.proofs.Modified.{modifies-tables, modifies-then}
 use Rattle.seg_vn.specs.Copied.{HasNoWriters}
 use Rattle.seg_vn.proofs.CopiedSegments.{count-few, no-writers, slots-none, slots-own}

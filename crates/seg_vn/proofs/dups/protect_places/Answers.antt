@@ -1,7 +1,7 @@
 use Rattle.std.proofs.Common.{ℕ, ◌+◌, sym, ap, ◌∙◌, inl, inr, subst, arith}
 use Rattle.std.proofs.lemmas.Bool.{cases_eq}
-use Rattle.vm_world.specs.World.{world_seen, slot_in}
-use Rattle.vm_world.specs.declared.world.World.{World}
+use Rattle.seg_ops.specs.vm_world.World.{world_seen, slot_in}
+use Rattle.seg_ops.specs.vm_world.declared.world.World.{World}
 use Rattle.seg_ops.specs.Writers.{HasNoWriter}
 use Rattle.seg_ops.proofs.Composed.{keeps-then}
 use Rattle.seg_ops.proofs.Modified.{modifies-then}

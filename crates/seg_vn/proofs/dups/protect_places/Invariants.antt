@@ -1,6 +1,6 @@
-use Rattle.vm_world.specs.Serving.{ModifiesNone}
-use Rattle.vm_world.specs.World.{world_seen}
-use Rattle.vm_world.specs.Words.{KeepsEveryPage, OnlyHat}
+use Rattle.seg_ops.specs.vm_world.Serving.{ModifiesNone}
+use Rattle.seg_ops.specs.vm_world.World.{world_seen}
+use Rattle.seg_ops.specs.vm_world.Words.{KeepsEveryPage, OnlyHat}
 use Rattle.seg_ops.specs.Writers.{WritersStay}
 use Rattle.seg_vn.specs.Copied.{AreProtected}
 use Rattle.seg_vn.proofs.dups.protect_places.Given as goal

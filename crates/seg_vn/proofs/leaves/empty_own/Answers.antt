@@ -1,11 +1,11 @@
 use Rattle.std.proofs.Common.{◌≡◌, ◌-◌, ℕ, Some, sym, ap, ◌∙◌, subst, arith}
-use Rattle.anon_map.specs.Maps.{AreEmpty, places_of}
-use Rattle.vm_world.specs.World.{world_seen}
-use Rattle.vm_world.specs.declared.world.World.{World}
+use Rattle.seg_ops.specs.anon_map.Maps.{AreEmpty, places_of}
+use Rattle.seg_ops.specs.vm_world.World.{world_seen}
+use Rattle.seg_ops.specs.vm_world.declared.world.World.{World}
 use Rattle.seg_ops.specs.Empties.{OwnsPlaces, places_emptied}
 use Rattle.seg_ops.specs.OwnPages.{without_own_pages}
 use Rattle.seg_ops.proofs.SlotRanges.{length-emptied}
-use Rattle.vm_world.specs.CallSteps.{ChangesMemory}
+use Rattle.seg_ops.specs.vm_world.CallSteps.{ChangesMemory}
 use Rattle.seg_vn.proofs.GivenBack.{places-given, empty-here}
 use Rattle.seg_vn.proofs.LeftSegments.{own-is, owns-part, all-emptied, loses-own, loses-none}
 use Rattle.seg_vn.proofs.leaves.empty_own.Goals as goal

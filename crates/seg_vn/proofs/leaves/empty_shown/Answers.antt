@@ -1,13 +1,13 @@
 use Rattle.std.proofs.Common.{◌≡◌, ◌<◌, ℕ, List, length, Option, Some, None, refl, sym, ap, ◌∙◌, subst, arith, slice_set}
 use Rattle.std.specs.Prelude.{IsSome, replicate}
 use Rattle.std.proofs.lemmas.List.{length-replicate}
-use Rattle.vm_types.specs.declared.call.Object.TheVariants as object
-use Rattle.anon_map.specs.Maps.{AreEmpty, IsMapThere, holders_of, places_of}
-use Rattle.vm_world.specs.World.{world_seen}
-use Rattle.vm_world.specs.ZeroObjects.{free_number}
-use Rattle.vm_world.specs.declared.world.World.{World}
-use Rattle.zero_objects.proofs.FreeNumbers.{free-cleared}
-use Rattle.vm_world.proofs.KnownZeros.{known-within}
+use Rattle.seg_ops.specs.vm_types.declared.call.Object.TheVariants as object
+use Rattle.seg_ops.specs.anon_map.Maps.{AreEmpty, IsMapThere, holders_of, places_of}
+use Rattle.seg_ops.specs.vm_world.World.{world_seen}
+use Rattle.seg_ops.specs.vm_world.ZeroObjects.{free_number}
+use Rattle.seg_ops.specs.vm_world.declared.world.World.{World}
+use Rattle.seg_ops.proofs.zero_objects.FreeNumbers.{free-cleared}
+use Rattle.seg_ops.proofs.vm_world.KnownZeros.{known-within}
 use Rattle.seg_vn.proofs.GivenBack.{gives-none, places-given, places-empty, same-held, empty-here, none-empty}
 use Rattle.seg_vn.proofs.LeftSegments.{shown-is, shown-map, shown-unloaded, loses-shown, loses-none}
 use Rattle.seg_vn.proofs.leaves.empty_shown.Given.{Over}

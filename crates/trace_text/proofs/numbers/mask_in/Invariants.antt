@@ -1,6 +1,6 @@
 use Rattle.std.proofs.Common.{◌≡◌, ◌<◌, ◌^◌, take, true}
 use Rattle.std.specs.List.{list_all}
-use Rattle.vm_script.specs.Fields.{value_of_digits, is_hex_digit}
+use Rattle.vm_report.specs.vm_script.Fields.{value_of_digits, is_hex_digit}
 use Rattle.trace_text.proofs.numbers.mask_in.Given as goal
 
 abbrev pub invariant-loop-b : goal.invariant-loop-b

@@ -1,5 +1,5 @@
 use Rattle.std.proofs.Common.{◌-◌, length, rules, arith}
-use Rattle.vm_script.specs.Fields.{hex_bytes}
+use Rattle.vm_report.specs.vm_script.Fields.{hex_bytes}
 use Rattle.trace_text.proofs.Pairs.{pair_more, digits_left}
 use Rattle.trace_text.proofs.numbers.pairs_in.Goals as goal
 

@@ -1,6 +1,6 @@
 use Rattle.std.proofs.Common.{◌≡◌, ◌≤◌, ◌*◌, ◌+◌, ◌++◌, length, take, IsTrue}
 use Rattle.std.specs.List.{list_all}
-use Rattle.vm_script.specs.Fields.{hex_bytes, is_hex_digit}
+use Rattle.vm_report.specs.vm_script.Fields.{hex_bytes, is_hex_digit}
 use Rattle.trace_text.proofs.numbers.pairs_in.Given as goal
 
 abbrev pub invariant-loop-left : goal.invariant-loop-left

@@ -1,10 +1,10 @@
 use Rattle.std.proofs.Common.{◌≡◌, ℕ, ◌+◌, ◌<◌, inl, inr, subst, arith}
 use Rattle.std.proofs.lemmas.Bool.{cases_eq}
-use Rattle.page_hash.specs.declared.PageName.{PageName}
-use Rattle.page_store.specs.Bays.{pairs_seen}
-use Rattle.vnode_files.specs.declared.vnode.FileInfo.{FileInfo}
-use Rattle.vm_types.specs.Pages.{pages_in}
-use Rattle.vm_world.specs.World.{file_name}
+use Rattle.fault_entry.specs.page_hash.declared.PageName.{PageName}
+use Rattle.fault_entry.specs.page_store.Bays.{pairs_seen}
+use Rattle.fault_entry.specs.vnode_files.declared.vnode.FileInfo.{FileInfo}
+use Rattle.fault_entry.specs.vm_types.Pages.{pages_in}
+use Rattle.fault_entry.specs.vm_world.World.{file_name}
 use Rattle.vm_core.proofs.Records.{page-kept}
 use Rattle.vm_core.proofs.Fills.{writes-then, fills-then, one-name}
 use Rattle.vm_core.proofs.blanks.fill_file.Goals as goal

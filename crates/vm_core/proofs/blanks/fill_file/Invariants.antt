@@ -1,5 +1,5 @@
 use Rattle.std.proofs.Common.{◌≡◌, ◌<◌}
-use Rattle.page_store.specs.Bays.{pairs_seen}
+use Rattle.fault_entry.specs.page_store.Bays.{pairs_seen}
 use Rattle.vm_core.specs.Closing.{WritesBlanks, FillsPages}
 use Rattle.vm_core.proofs.blanks.fill_file.Given as goal
 

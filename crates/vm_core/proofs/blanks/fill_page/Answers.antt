@@ -1,11 +1,11 @@
 use Rattle.std.proofs.Common.{◌≡◌, ℕ, ◌<◌, Result, sym, ap, ◌∙◌, subst}
-use Rattle.block_device.specs.declared.disk_fault.DiskFault.{DiskFault}
-use Rattle.page_store.specs.Bays.{pairs_seen}
-use Rattle.vnode_files.specs.declared.vnode.FileInfo.{FileInfo}
-use Rattle.vnode_files.specs.Files.{FilesSeen}
-use Rattle.vnode_files.specs.Layout.{disk_of_file, block_of_page}
-use Rattle.page_hash.specs.declared.PageName.{PageName}
-use Rattle.vm_world.specs.World.{file_name}
+use Rattle.fault_entry.specs.block_device.declared.disk_fault.DiskFault.{DiskFault}
+use Rattle.fault_entry.specs.page_store.Bays.{pairs_seen}
+use Rattle.fault_entry.specs.vnode_files.declared.vnode.FileInfo.{FileInfo}
+use Rattle.fault_entry.specs.vnode_files.Files.{FilesSeen}
+use Rattle.fault_entry.specs.vnode_files.Layout.{disk_of_file, block_of_page}
+use Rattle.fault_entry.specs.page_hash.declared.PageName.{PageName}
+use Rattle.fault_entry.specs.vm_world.World.{file_name}
 use Rattle.vm_core.specs.Closing.{WritesZeros, WritesBlanks, FillsPages}
 use Rattle.vm_core.specs.Finish.{disk_at}
 use Rattle.vm_core.proofs.Fills.{block-within, length-seen, whole-seen, zeros-written, zeros-filled, page-filled}

@@ -1,5 +1,5 @@
 use Rattle.std.proofs.Common.{◌≢◌, ℕ, ◌<◌}
-use Rattle.page_store.specs.Bays.{pairs_seen}
+use Rattle.fault_entry.specs.page_store.Bays.{pairs_seen}
 use Rattle.vm_core.specs.Finish.{disk_at}
 use Rattle.vm_core.proofs.blanks.place_of.Given as goal
 

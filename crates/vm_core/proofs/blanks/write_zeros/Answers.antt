@@ -1,8 +1,8 @@
 use Rattle.std.proofs.Common.{ℕ, ◌<◌, sym, ap, ◌∙◌, subst, slice_index_or, slice_set}
-use Rattle.block_device.specs.DiskSeen.{DiskSeen, Writes}
-use Rattle.block_device.specs.Faults.{IsFaultOf}
-use Rattle.core_arena.specs.Bytes.{zeros}
-use Rattle.page_store.specs.Bays.{pairs_seen}
+use Rattle.fault_entry.specs.block_device.DiskSeen.{DiskSeen, Writes}
+use Rattle.fault_entry.specs.block_device.Faults.{IsFaultOf}
+use Rattle.fault_entry.specs.core_arena.Bytes.{zeros}
+use Rattle.fault_entry.specs.page_store.Bays.{pairs_seen}
 use Rattle.vm_core.proofs.Fills.{number-seen, disk-seen, length-seen, pairs-set, last-fault, err-then}
 use Rattle.vm_core.proofs.blanks.write_zeros.Goals as goal
 

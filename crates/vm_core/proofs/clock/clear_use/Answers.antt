@@ -1,9 +1,9 @@
 use Rattle.std.proofs.Common.{◌≡◌, Bool, false, ◌<◌, length, refl, ap, ◌∙◌, arith}
-use Rattle.page_lock.specs.Rows.{row_at, with_bits}
-use Rattle.page_store.specs.Steps.{with_row}
-use Rattle.seg_ops.proofs.Composed.{keeps-then}
-use Rattle.vm_world.specs.World.{world_seen}
-use Rattle.seg_ops.proofs.UsedPages.{clear-keeps}
+use Rattle.fault_entry.specs.page_lock.Rows.{row_at, with_bits}
+use Rattle.fault_entry.specs.page_store.Steps.{with_row}
+use Rattle.fault_entry.proofs.seg_ops.Composed.{keeps-then}
+use Rattle.fault_entry.specs.vm_world.World.{world_seen}
+use Rattle.fault_entry.proofs.seg_ops.UsedPages.{clear-keeps}
 use Rattle.vm_core.proofs.Uses.{front-clears}
 use Rattle.vm_core.proofs.clock.clear_use.Given.{Over}
 use Rattle.vm_core.proofs.clock.clear_use.Goals.{After-set_bits}

@@ -1,5 +1,5 @@
-use Rattle.seg_ops.proofs.Composed.{keeps-then}
-use Rattle.vm_world.specs.World.{world_seen}
+use Rattle.fault_entry.proofs.seg_ops.Composed.{keeps-then}
+use Rattle.fault_entry.specs.vm_world.World.{world_seen}
 use Rattle.vm_core.proofs.Looks.{hand-keeps}
 use Rattle.vm_core.proofs.clock.turn_hand.Goals as goal
 

@@ -1,6 +1,6 @@
 use Rattle.std.proofs.Common.{sym, ap, ◌∙◌, inl}
 use Rattle.std.proofs.lemmas.Bool.{OnTrue_from}
-use Rattle.vm_world.specs.World.{world_seen}
+use Rattle.fault_entry.specs.vm_world.World.{world_seen}
 use Rattle.vm_core.proofs.Pushes.{pushes-refl, calm-pushes, skips-page, listed-clear, clear-of, gathers-page}
 use Rattle.vm_core.proofs.closing.is_modified.Goals as goal
 

@@ -1,9 +1,9 @@
 use Rattle.std.proofs.Common.{rules, ◌≡◌, ℕ, ◌+◌, ◌<◌, inl, inr, subst, arith}
 use Rattle.std.proofs.lemmas.Bool.{cases_eq}
-use Rattle.page_hash.specs.declared.PageName.{PageName}
-use Rattle.vnode_files.specs.declared.vnode.FileInfo.{FileInfo}
-use Rattle.vm_types.specs.Pages.{pages_in}
-use Rattle.vm_world.specs.World.{world_seen, file_name}
+use Rattle.fault_entry.specs.page_hash.declared.PageName.{PageName}
+use Rattle.fault_entry.specs.vnode_files.declared.vnode.FileInfo.{FileInfo}
+use Rattle.fault_entry.specs.vm_types.Pages.{pages_in}
+use Rattle.fault_entry.specs.vm_world.World.{world_seen, file_name}
 use Rattle.vm_core.proofs.Records.{page-kept}
 use Rattle.vm_core.proofs.Fills.{one-name, err-then}
 use Rattle.vm_core.proofs.Pushes.{records-of, pushes-refl, pushes-then, stores-none, stores-then, fault-later}

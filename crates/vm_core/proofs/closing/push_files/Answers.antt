@@ -1,7 +1,7 @@
 use Rattle.std.proofs.Common.{rules, ◌≡◌, ◌+◌, ◌<◌, inl, inr, arith}
 use Rattle.std.proofs.lemmas.Bool.{cases_eq}
-use Rattle.page_hash.specs.declared.PageName.{PageName}
-use Rattle.vm_world.specs.World.{world_seen}
+use Rattle.fault_entry.specs.page_hash.declared.PageName.{PageName}
+use Rattle.fault_entry.specs.vm_world.World.{world_seen}
 use Rattle.vm_core.proofs.Fills.{err-then}
 use Rattle.vm_core.proofs.Pushes.{pushes-refl, pushes-then, stores-none, stores-then, fault-later}
 use Rattle.vm_core.proofs.closing.push_files.Goals as goal

@@ -1,6 +1,6 @@
 use Rattle.std.proofs.Common.{◌≡◌, false, inl, inr}
-use Rattle.page_hash.specs.declared.PageName.{PageName}
-use Rattle.vm_world.specs.World.{world_seen}
+use Rattle.fault_entry.specs.page_hash.declared.PageName.{PageName}
+use Rattle.fault_entry.specs.vm_world.World.{world_seen}
 use Rattle.vm_core.proofs.Records.{page-kept}
 use Rattle.vm_core.proofs.Fills.{err-then}
 use Rattle.vm_core.proofs.Pushes.{records-of, pushes-then, stores-then, fault-later, ok-more}

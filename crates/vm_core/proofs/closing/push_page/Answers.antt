@@ -1,5 +1,5 @@
 use Rattle.std.proofs.Common.{ap}
-use Rattle.vm_world.specs.World.{world_seen}
+use Rattle.fault_entry.specs.vm_world.World.{world_seen}
 use Rattle.vm_core.proofs.Finishes.{ready-to-push}
 use Rattle.vm_core.proofs.OnePush.{IsPush, push-pushes, push-stores, push-fault}
 use Rattle.vm_core.proofs.closing.push_page.Goals as goal

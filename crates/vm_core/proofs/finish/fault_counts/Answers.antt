@@ -1,7 +1,7 @@
 use Rattle.std.proofs.Common.{None, inl, inr, sym, ap, ◌∙◌, arith}
 use Rattle.std.proofs.lemmas.Bool.{cases_lt}
 use Rattle.std.proofs.lemmas.List.{get_or_past}
-use Rattle.page_store.specs.Bays.{missing, home_faults}
+use Rattle.fault_entry.specs.page_store.Bays.{missing, home_faults}
 use Rattle.vm_core.proofs.finish.fault_counts.Goals as goal
 
 pub returns : goal.returns

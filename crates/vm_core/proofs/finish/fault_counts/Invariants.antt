@@ -1,5 +1,5 @@
 use Rattle.std.proofs.Common.{◌≡◌, ℕ, ◌<◌, length, None, slice_index_or}
-use Rattle.page_store.specs.Bays.{bay_at, home_faults}
+use Rattle.fault_entry.specs.page_store.Bays.{bay_at, home_faults}
 use Rattle.vm_core.proofs.finish.fault_counts.Given as goal
 
 abbrev pub invariant-loop-disk : goal.invariant-loop-disk

@@ -1,7 +1,7 @@
 use Rattle.std.proofs.Common.{◌≡◌, ◌++◌, ℕ, List, None, length, take, drop, sym, ap, ◌∙◌, subst, take_at, slice_index_or, arith}
 use Rattle.std.specs.Prelude.{MatchOption}
-use Rattle.page_store.specs.Bays.{BaySeen, missing, home, pairs_seen}
-use Rattle.vm_world.specs.World.{world_seen}
+use Rattle.fault_entry.specs.page_store.Bays.{BaySeen, missing, home, pairs_seen}
+use Rattle.fault_entry.specs.vm_world.World.{world_seen}
 use Rattle.vm_core.specs.Closing.{AreDisksOf}
 use Rattle.vm_core.proofs.Fills.{whole-seen}
 use Rattle.vm_core.proofs.Finishes.{still, are-disks, IsFinished, finishes}

@@ -1,6 +1,6 @@
 use Rattle.std.proofs.Common.{ℕ, ◌<◌}
-use Rattle.vnode_files.specs.Files.{vnode_at}
-use Rattle.vnode_files.specs.Vnode.{IsSoundVnode}
+use Rattle.fault_entry.specs.vnode_files.Files.{vnode_at}
+use Rattle.fault_entry.specs.vnode_files.Vnode.{IsSoundVnode}
 use Rattle.vm_core.proofs.start.check_files.Given as goal
 
 abbrev pub invariant-loop-file : goal.invariant-loop-file

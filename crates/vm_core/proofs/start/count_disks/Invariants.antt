@@ -1,5 +1,5 @@
 use Rattle.std.proofs.Common.{take}
-use Rattle.page_store.specs.Bays.{pairs_seen}
+use Rattle.fault_entry.specs.page_store.Bays.{pairs_seen}
 use Rattle.vm_core.specs.Setup.{HaveCounted}
 use Rattle.vm_core.proofs.start.count_disks.Given as goal
 

@@ -1,5 +1,5 @@
 use Rattle.std.proofs.Common.{◌+◌, ◌∙◌, ℕ, sym, subst, arith}
-use Rattle.vm_world.specs.Segments.{Spaces}
+use Rattle.fault_entry.specs.vm_world.Segments.{Spaces}
 use Rattle.vm_core.proofs.Tops.{TopsBelow, tops-none, tops-more, tops-are}
 use Rattle.vm_core.proofs.start.top_spaces.Goals as goal
 

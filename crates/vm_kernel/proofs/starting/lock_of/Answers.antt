@@ -1,5 +1,5 @@
 use Rattle.std.proofs.Common.{None, replicate, sym, subst}
-use Rattle.vm_world.specs.State.{KernelState}
+use Rattle.vm_core.specs.vm_world.State.{KernelState}
 use Rattle.vm_kernel.specs.Since.{IsSinceOpening}
 use Rattle.vm_kernel.proofs.Opened.{opens}
 use Rattle.vm_kernel.proofs.starting.lock_of.Goals as goal

@@ -1,5 +1,5 @@
 use Rattle.std.proofs.Common.{◌∙◌, arith}
-use Rattle.vm_types.specs.declared.call.Entry.{Entry}
+use Rattle.vm_script.specs.vm_types.declared.call.Entry.{Entry}
 use Rattle.vm_report.proofs.Grouped.{member_length, member_on}
 use Rattle.vm_report.proofs.groups.entries_by_process.Goals as goal
 

@@ -1,6 +1,6 @@
 use Rattle.std.proofs.Common.{◌≡◌, ℕ, ◌<◌, ◌++◌, [], length, drop}
 use Rattle.std.specs.Prelude.{slice_index_or}
-use Rattle.flat_model.specs.Told.{entries_of}
+use Rattle.vm_script.specs.flat_model.Told.{entries_of}
 use Rattle.vm_report.proofs.groups.entries_by_process.Given as goal
 
 abbrev pub invariant-loop-entry : goal.invariant-loop-entry

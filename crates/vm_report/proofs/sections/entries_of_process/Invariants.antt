@@ -1,5 +1,5 @@
 use Rattle.std.proofs.Common.{◌≡◌, ◌++◌, length, map}
-use Rattle.flat_model.specs.Told.{entries_of}
+use Rattle.vm_script.specs.flat_model.Told.{entries_of}
 use Rattle.vm_report.proofs.sections.entries_of_process.Given as goal
 
 abbrev pub invariant-loop-left : goal.invariant-loop-left

@@ -1,5 +1,5 @@
 use Rattle.std.proofs.Common.{◌∙◌, map, ap, arith, Bor}
-use Rattle.vm_types.specs.declared.call.Entry.{Entry}
+use Rattle.vm_script.specs.vm_types.declared.call.Entry.{Entry}
 use Rattle.vm_report.proofs.Blocks.{own_few, own_well_formed}
 use Rattle.vm_report.proofs.sections.process_section.Goals as goal
 

@@ -1,7 +1,7 @@
 use Rattle.std.proofs.Common.{◌≡◌, ◌∙◌, ◌+◌, ◌-◌, List, false, length, map, ap, arith, Bor}
 use Rattle.std.proofs.lemmas.List.{get_or_read}
-use Rattle.vm_types.specs.declared.call.Entry.{Entry}
-use Rattle.flat_model.specs.Told.{entries_of}
+use Rattle.vm_script.specs.vm_types.declared.call.Entry.{Entry}
+use Rattle.vm_script.specs.flat_model.Told.{entries_of}
 use Rattle.vm_script.specs.declared.plan.PlanLine.{PlanLine}
 use Rattle.vm_script.specs.Told.{own_lines, is_born}
 use Rattle.vm_report.specs.Groups.{is_born_by}

@@ -1,5 +1,5 @@
 use Rattle.std.proofs.Common.{rules, refl}
-use Rattle.page_store.specs.Bays.{pairs_seen}
+use Rattle.vm_core.specs.page_store.Bays.{pairs_seen}
 use Rattle.volume_files.proofs.DiskLists.{writes-refl}
 use Rattle.vm_run.proofs.Endings.{lacks-closed}
 use Rattle.volume_files.proofs.WrittenTexts.{wrote_nothing}

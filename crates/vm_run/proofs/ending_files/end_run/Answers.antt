@@ -1,6 +1,6 @@
 use Rattle.std.proofs.Common.{◌∙◌, ℕ, List, ap, length, map}
 use Rattle.std.proofs.lemmas.List.{length-map}
-use Rattle.page_store.specs.Bays.{pairs_seen}
+use Rattle.vm_core.specs.page_store.Bays.{pairs_seen}
 use Rattle.volume_files.proofs.DiskLists.{seen-bare_disks}
 use Rattle.vm_run.proofs.ending_files.end_run.Goals as goal
 

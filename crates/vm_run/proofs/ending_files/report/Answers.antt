@@ -1,5 +1,5 @@
 use Rattle.std.proofs.Common.{inl, inr}
-use Rattle.page_store.specs.Bays.{pairs_seen}
+use Rattle.vm_core.specs.page_store.Bays.{pairs_seen}
 use Rattle.volume_files.proofs.DiskLists.{have-written}
 use Rattle.vm_run.proofs.ending_files.report.Goals as goal
 

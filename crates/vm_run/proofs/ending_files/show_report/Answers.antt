@@ -1,6 +1,6 @@
 use Rattle.std.proofs.Common.{◌≡◌, ◌∙◌, ℕ, sym, subst, true, false}
 use Rattle.std.specs.Prelude.{is_some}
-use Rattle.page_store.specs.Bays.{pairs_seen}
+use Rattle.vm_core.specs.page_store.Bays.{pairs_seen}
 use Rattle.vm_run.specs.declared.ending.Ending.{Ending}
 use Rattle.vm_run.specs.Course.{ShowEnds}
 use Rattle.volume_files.specs.Written.{infos_made}

@@ -1,6 +1,6 @@
 use Rattle.std.proofs.Common.{◌∙◌, List, ap, length, length-set, subst, sym, take, take_all}
-use Rattle.vm_script.specs.declared.plan.PlanLine.{PlanLine}
-use Rattle.vm_script.specs.Counts.{entry_count, parts}
+use Rattle.volume_files.specs.vm_script.declared.plan.PlanLine.{PlanLine}
+use Rattle.volume_files.specs.vm_script.Counts.{entry_count, parts}
 use Rattle.std.specs.Prelude.{◌≤◌, ◌+◌, ◌-◌, slice_index}
 use Rattle.vm_run.proofs.EntryRooms.{HaveRooms, item-owned, room-fits, rooms-more, rooms-all}
 use Rattle.vm_run.proofs.entry_rooms.entry_rooms.Goals as goal

@@ -1,5 +1,5 @@
 use Rattle.std.proofs.Common.{ℕ, ◌<◌, sym, ap, subst}
-use Rattle.vm_world.specs.State.{Fixed}
+use Rattle.vm_core.specs.vm_world.State.{Fixed}
 use Rattle.vm_run.proofs.GoingOn.{stays-still}
 use Rattle.vm_run.proofs.Trips.{then-too}
 use Rattle.vm_run.proofs.lines.make_line.Goals as goal

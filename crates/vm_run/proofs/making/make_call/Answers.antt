@@ -1,6 +1,6 @@
 use Rattle.std.proofs.Common.{None, sym, ◌∙◌, subst}
 use Rattle.vm_core.specs.Calls.{AnswersCall}
-use Rattle.vm_world.specs.Events.{IsEvent}
+use Rattle.vm_core.specs.vm_world.Events.{IsEvent}
 use Rattle.vm_run.specs.Lines.{MadeNothing}
 use Rattle.vm_run.proofs.Attempts.{failed-made, made-nothing, need-none, no-busy}
 use Rattle.vm_run.proofs.GoingOn.{goes-on, is-served, may-try, stays-still, still-at}

@@ -1,8 +1,8 @@
 use Rattle.std.proofs.Common.{ℕ, Option, Some, None, refl, ap, option_map, Bor}
-use Rattle.vm_types.specs.declared.call.Call.{Call}
+use Rattle.volume_files.specs.vm_types.declared.call.Call.{Call}
 use Rattle.vm_core.specs.Flights.{IsBack, sent_with}
-use Rattle.vm_world.specs.State.{KernelState, Caller, Sent}
-use Rattle.vm_world.specs.Events.{IsEvent}
+use Rattle.vm_core.specs.vm_world.State.{KernelState, Caller, Sent}
+use Rattle.vm_core.specs.vm_world.Events.{IsEvent}
 use Rattle.vm_run.proofs.GoingOn.{still-at}
 use Rattle.vm_run.proofs.Trips.{grows-as, kept_for, kept-here, sent-fits, there-and-back}
 use Rattle.vm_run.proofs.making.transfer.Given.{Over}

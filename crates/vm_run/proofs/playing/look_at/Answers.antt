@@ -1,7 +1,7 @@
 use Rattle.std.proofs.Common.{ℕ, below_more, subst, arith}
 use Rattle.std.proofs.lemmas.List.{get_or_default}
-use Rattle.vnode_files.specs.Files.{vnode_at}
-use Rattle.vnode_files.specs.Vnode.{IsSoundVnode, no_vnode}
+use Rattle.volume_files.specs.vnode_files.Files.{vnode_at}
+use Rattle.volume_files.specs.vnode_files.Vnode.{IsSoundVnode, no_vnode}
 use Rattle.vm_run.proofs.playing.look_at.Goals as goal
 
 pub loop-file-preserved : goal.loop-file-preserved

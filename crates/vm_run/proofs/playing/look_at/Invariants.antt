@@ -1,6 +1,6 @@
 use Rattle.std.specs.Prelude.{ℕ, ◌<◌}
-use Rattle.vnode_files.specs.Files.{vnode_at}
-use Rattle.vnode_files.specs.Vnode.{IsSoundVnode}
+use Rattle.volume_files.specs.vnode_files.Files.{vnode_at}
+use Rattle.volume_files.specs.vnode_files.Vnode.{IsSoundVnode}
 use Rattle.vm_run.proofs.playing.look_at.Given as goal
 
 abbrev pub invariant-loop-file : goal.invariant-loop-file

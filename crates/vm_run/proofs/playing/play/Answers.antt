@@ -1,9 +1,9 @@
 use Rattle.std.proofs.Common.{ℕ, ◌<◌, ◌≤◌, List, IsTrue, arith, length, sym, ◌∙◌, subst}
-use Rattle.page_store.specs.Bays.{bay_at}
+use Rattle.vm_core.specs.page_store.Bays.{bay_at}
 use Rattle.vm_core.proofs.Fills.{whole-seen}
 use Rattle.vm_core.proofs.Finishes.{ok-then}
-use Rattle.vm_script.specs.declared.plan.PlanLine.{PlanLine}
-use Rattle.vm_world.specs.State.{is_top, room_of}
+use Rattle.volume_files.specs.vm_script.declared.plan.PlanLine.{PlanLine}
+use Rattle.vm_core.specs.vm_world.State.{is_top, room_of}
 use Rattle.vm_run.specs.Lines.{AreLines, HasCome}
 use Rattle.vm_run.specs.Played.{left_seen}
 use Rattle.vm_run.proofs.BlockLines.{plays-one}

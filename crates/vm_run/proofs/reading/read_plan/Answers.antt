@@ -1,6 +1,6 @@
 use Rattle.std.proofs.Common.{refl, subst, sym}
 use Rattle.std.specs.Prelude.{Ok, Option}
-use Rattle.vm_script.specs.Generated.{generated_text}
+use Rattle.volume_files.specs.vm_script.Generated.{generated_text}
 use Rattle.vm_run.specs.Reading.{SaysScript}
 use Rattle.vm_run.proofs.reading.read_plan.Goals as goal
 

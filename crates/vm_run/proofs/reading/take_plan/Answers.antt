@@ -1,6 +1,6 @@
 use Rattle.std.proofs.Common.{◌≡◌, ◌∙◌, sym, refl, false, None, Ok}
-use Rattle.vm_script.specs.PlanSeen.{PlanSeen}
-use Rattle.vm_script.specs.Rules.{broken_rule}
+use Rattle.volume_files.specs.vm_script.PlanSeen.{PlanSeen}
+use Rattle.volume_files.specs.vm_script.Rules.{broken_rule}
 use Rattle.command_line.specs.declared.options.Options.{Options}
 use Rattle.vm_run.specs.Asked.{by_plan, is_later}
 use Rattle.vm_run.proofs.reading.take_plan.Goals as goal

@@ -4,7 +4,7 @@ use Rattle.std.proofs.lemmas.Result.{IfErr-weaker, IfOk-weaker}
 use Rattle.vm_run.specs.Asked.{given_of}
 use Rattle.vm_run.proofs.EarlyEnds.{stopped-asking}
 use Rattle.command_line.specs.declared.options.Options.{Options}
-use Rattle.vm_script.specs.PlanSeen.{PlanSeen}
+use Rattle.volume_files.specs.vm_script.PlanSeen.{PlanSeen}
 use Rattle.vm_run.proofs.Unfailing.{where-read}
 use Rattle.vm_run.proofs.ready.make_ready.Goals as goal
 

@@ -1,7 +1,7 @@
 use Rattle.std.proofs.Common.{rules, ◌∙◌, ℕ, List, ap, map, subst, sym}
 use Rattle.std.specs.Prelude.{Err}
-use Rattle.block_device.specs.DiskSeen.{DiskSeen}
-use Rattle.block_device.specs.declared.numbered.NumberedDisk.{NumberedDisk}
+use Rattle.volume_files.specs.block_device.DiskSeen.{DiskSeen}
+use Rattle.volume_files.specs.block_device.declared.numbered.NumberedDisk.{NumberedDisk}
 use Rattle.volume_files.specs.Attached.{attached_seen, bare_disks, numbered_seen}
 use Rattle.volume_files.specs.Handed.{AreUncounted}
 use Rattle.volume_files.specs.Unfailed.{counts_of}

@@ -1,14 +1,14 @@
 use Rattle.std.proofs.Common.{◌≡◌, ◌∙◌, ap, arith, false, length, map}
 use Rattle.std.specs.Prelude.{None, option_map}
 use Rattle.std.proofs.lemmas.List.{length-map}
-use Rattle.page_store.specs.Bays.{pairs_seen}
+use Rattle.vm_core.specs.page_store.Bays.{pairs_seen}
 use Rattle.volume_files.specs.Attached.{attached_seen}
 use Rattle.volume_files.specs.Opened.{opening_flat}
 use Rattle.vm_run.specs.Played.{IsStarted, KernelLeaves, left_seen}
 use Rattle.volume_files.specs.Written.{disk_sizes}
-use Rattle.vm_script.specs.Rules.{amounts_of}
+use Rattle.volume_files.specs.vm_script.Rules.{amounts_of}
 use Rattle.volume_files.specs.Handed.{IsSwapFor}
-use Rattle.block_device.specs.declared.numbered.NumberedDisk.{NumberedDisk}
+use Rattle.volume_files.specs.block_device.declared.numbered.NumberedDisk.{NumberedDisk}
 use Rattle.volume_files.proofs.DiskCounts.{count-as, count-handed, count-served}
 use Rattle.vm_run.proofs.Returned.{swap-serves-still}
 use Rattle.vm_run.proofs.RunReady.{first-left, names-left, placed-as, ready-ends, start-lacks}

@@ -1,10 +1,10 @@
 use Rattle.std.proofs.Common.{◌≡◌, ℕ, List, length, map, Option, sym, ap, ◌∙◌, subst, arith}
 use Rattle.std.specs.Prelude.{option_map}
-use Rattle.block_device.specs.DiskSeen.{DiskSeen}
-use Rattle.page_store.specs.Bays.{AreNumbers, numbers_of, pairs_seen}
-use Rattle.page_store.specs.New.{AreHome}
+use Rattle.volume_files.specs.block_device.DiskSeen.{DiskSeen}
+use Rattle.vm_core.specs.page_store.Bays.{AreNumbers, numbers_of, pairs_seen}
+use Rattle.vm_core.specs.page_store.New.{AreHome}
 use Rattle.vm_core.specs.Setup.{disk_total, FilesOnDisks, SwapServes}
-use Rattle.vm_script.specs.Rules.{amounts_of}
+use Rattle.volume_files.specs.vm_script.Rules.{amounts_of}
 use Rattle.volume_files.specs.Attached.{attached_seen, numbered_seen}
 use Rattle.vm_run.specs.Played.{HasRoomForPlan}
 use Rattle.vm_run.proofs.StartRules.{right-amounts}

@@ -1,5 +1,5 @@
 use Rattle.std.proofs.Common.{◌+◌, ◌∙◌, ap}
-use Rattle.vm_types.specs.declared.call.Call.TheVariants as call
+use Rattle.flat_model.specs.vm_types.declared.call.Call.TheVariants as call
 use Rattle.vm_script.specs.declared.plan.PlanAct.TheVariants as act
 use Rattle.vm_script.specs.Plans.{with_line}
 use Rattle.vm_script.specs.Generated.{end_store}

@@ -1,4 +1,4 @@
-use Rattle.vm_types.specs.declared.call.Call.TheVariants as call
+use Rattle.flat_model.specs.vm_types.declared.call.Call.TheVariants as call
 use Rattle.vm_script.proofs.QuickLines.{reads_quick}
 use Rattle.vm_script.proofs.parsing.quick_line.Goals as goal
 

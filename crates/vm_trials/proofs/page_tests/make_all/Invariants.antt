@@ -1,4 +1,4 @@
-use Rattle.vm_world.specs.World.{world_seen}
+use Rattle.seg_ops.specs.vm_world.World.{world_seen}
 use Rattle.vm_trials.specs.PageTrials.{IsTrial}
 use Rattle.vm_trials.proofs.page_tests.make_all.Given as goal
 

@@ -3,11 +3,11 @@ use Rattle.block_device.specs.DiskSeen.{DiskSeen}
 use Rattle.block_device.specs.MemDiskLook.{look}
 use Rattle.block_device.specs.MemSeen.{disk_of}
 use Rattle.block_device.specs.declared.mem_disk.MemDisk.{MemDisk}
-use Rattle.page_store.specs.Bays.{pairs_seen}
-use Rattle.page_store.specs.New.{IsNew}
+use Rattle.seg_ops.specs.page_store.Bays.{pairs_seen}
+use Rattle.seg_ops.specs.page_store.New.{IsNew}
 use Rattle.vnode_files.specs.Files.{FilesSeen, with_disk, vnode_at}
 use Rattle.vnode_files.specs.Vnode.{IsSoundVnode}
-use Rattle.vm_world.specs.FramesFit.{FilesFit, DisksFit}
+use Rattle.seg_ops.specs.vm_world.FramesFit.{FilesFit, DisksFit}
 use Rattle.vm_trials.proofs.PageTrialLemmas.{trial_files, trial_vnode, trial-disk-set, trial-files-are, trial-files, trial-store, trial-disks, trial-hat, trial-fits}
 use Rattle.vm_trials.proofs.page_tests.new_world.Goals as goal
 

@@ -1,8 +1,8 @@
-use Rattle.page_hash.specs.Names.{is_name}
-use Rattle.page_store.specs.Notes.{no_notes}
-use Rattle.page_store.specs.Steps.{next_name}
-use Rattle.page_store.specs.declared.plan.Plan.TheVariants as plan
-use Rattle.vm_world.specs.World.{world_seen}
+use Rattle.vm_core.specs.page_hash.Names.{is_name}
+use Rattle.seg_ops.specs.page_store.Notes.{no_notes}
+use Rattle.seg_ops.specs.page_store.Steps.{next_name}
+use Rattle.seg_ops.specs.page_store.declared.plan.Plan.TheVariants as plan
+use Rattle.seg_ops.specs.vm_world.World.{world_seen}
 use Rattle.vm_trials.specs.PageTrials.{trial_spaces}
 use Rattle.vm_trials.proofs.PageTrialLemmas.{trial-out}
 use Rattle.vm_trials.proofs.page_tests.push_gathered.Goals as goal

@@ -1,5 +1,5 @@
 use Rattle.std.proofs.Common.{false}
-use Rattle.vm_world.specs.World.{world_seen}
+use Rattle.seg_ops.specs.vm_world.World.{world_seen}
 use Rattle.vm_trials.specs.PageTrials.{trial_spaces}
 use Rattle.vm_trials.proofs.PageTrialLemmas.{trial-step}
 use Rattle.vm_trials.proofs.page_tests.try_fetch.Goals as goal

@@ -1,4 +1,4 @@
-use Rattle.vm_world.specs.World.{world_seen}
+use Rattle.seg_ops.specs.vm_world.World.{world_seen}
 use Rattle.std.proofs.Common.{false}
 use Rattle.vm_trials.specs.PageTrials.{trial_spaces}
 use Rattle.vm_trials.proofs.PageTrialLemmas.{trial-step}

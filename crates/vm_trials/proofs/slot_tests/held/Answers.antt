@@ -1,5 +1,5 @@
 use Rattle.std.proofs.Common.{◌≡◌, sym, ◌∙◌}
-use Rattle.vm_world.proofs.Counts.{held-used, used-below}
+use Rattle.seg_ops.proofs.vm_world.Counts.{held-used, used-below}
 use Rattle.vm_trials.proofs.slot_tests.held.Goals as goal
 
 pub count-requires : goal.count-requires

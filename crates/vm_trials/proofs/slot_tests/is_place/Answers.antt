@@ -2,7 +2,7 @@ use Rattle.std.proofs.Common.{◌≡◌, ◌<◌, ℕ, ap, ◌∙◌, subst}
 use Rattle.std.specs.Prelude.{is_some, not}
 use Rattle.hat_layer.specs.Pool.{translation_at}
 use Rattle.hat_layer.specs.declared.translation.Translation.{Translation}
-use Rattle.vm_world.specs.World.{world_seen}
+use Rattle.seg_ops.specs.vm_world.World.{world_seen}
 use Rattle.vm_trials.specs.SlotTrials.{holding_page}
 use Rattle.vm_trials.proofs.SlotTrialLemmas.{holding-owns, holding-unloaded}
 use Rattle.vm_trials.proofs.slot_tests.is_place.Goals as goal

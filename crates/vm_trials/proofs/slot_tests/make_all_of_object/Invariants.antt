@@ -1,4 +1,4 @@
-use Rattle.vm_world.specs.World.{world_seen}
+use Rattle.seg_ops.specs.vm_world.World.{world_seen}
 use Rattle.vm_trials.specs.PageTrials.{IsTrialIn}
 use Rattle.vm_trials.specs.SlotTrials.{object_spaces}
 use Rattle.vm_trials.proofs.slot_tests.make_all_of_object.Given as goal

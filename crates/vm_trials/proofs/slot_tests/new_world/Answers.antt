@@ -2,8 +2,8 @@ use Rattle.std.proofs.Common.{ℕ, List, Some, true, subst}
 use Rattle.block_device.specs.MemDiskLook.{look}
 use Rattle.block_device.specs.MemSeen.{disk_of}
 use Rattle.block_device.specs.declared.mem_disk.MemDisk.{MemDisk}
-use Rattle.page_store.specs.Bays.{pairs_seen}
-use Rattle.page_store.specs.New.{IsNew}
+use Rattle.seg_ops.specs.page_store.Bays.{pairs_seen}
+use Rattle.seg_ops.specs.page_store.New.{IsNew}
 use Rattle.vm_trials.proofs.SlotTrialLemmas.{holding-trial}
 use Rattle.vm_trials.proofs.slot_tests.new_world.Goals as goal
 

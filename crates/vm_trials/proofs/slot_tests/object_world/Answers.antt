@@ -1,7 +1,7 @@
 use Rattle.std.proofs.Common.{◌≡◌, ◌+◌, ℕ, List, Option, None, replicate, sym, ap, ◌∙◌, subst}
 use Rattle.anon_map.specs.Maps.{Map, IsUnused, fresh_map, with_map}
 use Rattle.anon_slots.specs.Slots.{AnonSlotsSeen}
-use Rattle.vm_world.specs.World.{world_seen}
+use Rattle.seg_ops.specs.vm_world.World.{world_seen}
 use Rattle.vm_trials.specs.SlotTrials.{object_spaces}
 use Rattle.vm_trials.specs.PageTrials.{IsTrialIn}
 use Rattle.vm_trials.proofs.SlotTrialLemmas.{object-number, object-trial}

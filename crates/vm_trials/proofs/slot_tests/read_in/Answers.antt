@@ -1,13 +1,13 @@
 use Rattle.std.proofs.Common.{sym, ap, ◌∙◌, subst}
 use Rattle.std.specs.Prelude.{IsTrue, not}
-use Rattle.page_hash.specs.Names.{is_name}
-use Rattle.page_hash.specs.declared.PageName.{PageName}
-use Rattle.page_store.specs.Notes.{no_notes}
-use Rattle.page_store.specs.Steps.{next_name}
-use Rattle.page_store.specs.declared.plan.Plan.TheVariants as plan
-use Rattle.page_store.proofs.QueryLemmas.{absent-is}
+use Rattle.vm_core.specs.page_hash.Names.{is_name}
+use Rattle.vm_core.specs.page_hash.declared.PageName.{PageName}
+use Rattle.seg_ops.specs.page_store.Notes.{no_notes}
+use Rattle.seg_ops.specs.page_store.Steps.{next_name}
+use Rattle.seg_ops.specs.page_store.declared.plan.Plan.TheVariants as plan
+use Rattle.seg_ops.proofs.page_store.QueryLemmas.{absent-is}
 use Rattle.anon_slots.specs.Slots.{count_at}
-use Rattle.vm_world.specs.World.{world_seen, is_unpushed, page_exists}
+use Rattle.seg_ops.specs.vm_world.World.{world_seen, is_unpushed, page_exists}
 use Rattle.vm_trials.specs.SlotTrials.{holding_spaces}
 use Rattle.seg_ops.proofs.SlotMemory.{lt-used}
 use Rattle.vm_trials.proofs.PageTrialLemmas.{trial-leaves}

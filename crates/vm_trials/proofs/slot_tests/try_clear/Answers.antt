@@ -1,5 +1,5 @@
 use Rattle.std.proofs.Common.{◌*◌, ◌+◌, ℕ}
-use Rattle.vm_world.specs.World.{world_seen}
+use Rattle.seg_ops.specs.vm_world.World.{world_seen}
 use Rattle.seg_ops.specs.Empties.{OwnsPlaces}
 use Rattle.vm_trials.specs.SlotTrials.{holding_spaces}
 use Rattle.vm_trials.proofs.SlotTrialLemmas.{holding-changes, holding-places, holding-both}

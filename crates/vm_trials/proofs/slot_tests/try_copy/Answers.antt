@@ -1,4 +1,4 @@
-use Rattle.vm_world.specs.World.{world_seen}
+use Rattle.seg_ops.specs.vm_world.World.{world_seen}
 use Rattle.vm_trials.specs.SlotTrials.{holding_page, holding_segment, holding_spaces}
 use Rattle.vm_trials.proofs.SlotTrialLemmas.{holding-changes}
 use Rattle.vm_trials.proofs.slot_tests.try_copy.Goals as goal

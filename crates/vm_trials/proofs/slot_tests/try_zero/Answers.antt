@@ -1,5 +1,5 @@
 use Rattle.std.proofs.Common.{sym, ◌∙◌}
-use Rattle.vm_world.specs.World.{world_seen}
+use Rattle.seg_ops.specs.vm_world.World.{world_seen}
 use Rattle.vm_trials.specs.SlotTrials.{object_spaces}
 use Rattle.seg_ops.proofs.SlotOwners.{places_law}
 use Rattle.vm_trials.proofs.SlotTrialLemmas.{object-changes, object-zero}

@@ -2,7 +2,7 @@ use Rattle.std.proofs.Common.{◌≡◌, ℕ, List, [], ◌∷◌, ◌++◌, ◌
 use Rattle.block_device.specs.MemDiskLook.{look}
 use Rattle.block_device.specs.MemSeen.{disk_of}
 use Rattle.block_device.specs.declared.mem_disk.MemDisk.{MemDisk}
-use Rattle.page_store.specs.Bays.{pairs_seen}
+use Rattle.seg_ops.specs.page_store.Bays.{pairs_seen}
 use Rattle.vnode_files.specs.Files.{FilesSeen}
 use Rattle.vm_core.specs.Setup.{FilesOnDisks}
 use Rattle.vm_trials.proofs.TrialFiles.{on-disks}

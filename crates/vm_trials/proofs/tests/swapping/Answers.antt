@@ -1,7 +1,7 @@
 use Rattle.std.proofs.Common.{ℕ, List, sym, subst}
 use Rattle.block_device.specs.MemDiskLook.{look}
 use Rattle.block_device.specs.MemSeen.{disk_of}
-use Rattle.page_store.specs.Bays.{pairs_seen}
+use Rattle.seg_ops.specs.page_store.Bays.{pairs_seen}
 use Rattle.block_device.specs.declared.mem_disk.MemDisk.{MemDisk}
 use Rattle.vnode_files.specs.Files.{FilesSeen, no_files}
 use Rattle.vm_core.specs.Setup.{FilesOnDisks}

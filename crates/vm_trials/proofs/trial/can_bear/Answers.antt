@@ -1,6 +1,6 @@
 use Rattle.std.proofs.Common.{sym, subst}
 use Rattle.vm_types.specs.declared.call.Call.{Call}
-use Rattle.vm_world.specs.Events.{MayBear}
+use Rattle.seg_ops.specs.vm_world.Events.{MayBear}
 use Rattle.vm_trials.proofs.TrialLemmas.{no-fork-bears}
 use Rattle.vm_trials.proofs.trial.can_bear.Goals as goal
 

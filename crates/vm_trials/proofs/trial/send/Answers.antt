@@ -1,5 +1,5 @@
 use Rattle.std.proofs.Common.{ap, refl}
-use Rattle.vm_world.specs.State.{KernelState, KeptPlan}
+use Rattle.seg_ops.specs.vm_world.State.{KernelState, KeptPlan}
 use Rattle.vm_trials.proofs.TrialLemmas.{trial-at, trial-sent}
 use Rattle.vm_trials.proofs.trial.send.Goals as goal
 

@@ -1,9 +1,9 @@
 use Rattle.std.proofs.Common.{◌≡◌, List, map, option_map, ap, ◌∙◌, refl, subst, sym}
 use Rattle.std.specs.Prelude.{Err, IfOk, IfErr, Option, Result}
 use Rattle.block_device.specs.declared.numbered.NumberedDisk.{NumberedDisk}
-use Rattle.vm_script.specs.declared.plan.SetupLine.{SetupLine}
-use Rattle.vm_script.specs.declared.rules.Amounts.{Amounts}
-use Rattle.vm_script.specs.Rules.{amounts_of}
+use Rattle.vm_report.specs.vm_script.declared.plan.SetupLine.{SetupLine}
+use Rattle.vm_report.specs.vm_script.declared.rules.Amounts.{Amounts}
+use Rattle.vm_report.specs.vm_script.Rules.{amounts_of}
 use Rattle.volume_files.specs.declared.stops.OpenStop.{OpenStop}
 use Rattle.volume_files.specs.Attached.{numbered_seen}
 use Rattle.volume_files.specs.Handed.{IsSwapAsGiven, IsSwapFor}

@@ -2,11 +2,11 @@ use Rattle.std.specs.Prelude.{ℕ, ◌≡◌, ◌<◌, ◌≤◌, ◌^◌, List,
 use Rattle.std.specs.FinMap as finite
 use Rattle.std.proofs.Common.{arith, sym, ap, ◌∙◌, subst}
 use Rattle.std.proofs.lemmas.List.Elements.{All-cons, All-nil, All-push}
-use Rattle.vnode_files.specs.declared.extent.Extent.{Extent}
-use Rattle.vnode_files.specs.declared.vnode.FileInfo.{FileInfo}
-use Rattle.vnode_files.specs.Files.{FilesSeen, IsNumberOf, block_count, extents_on}
-use Rattle.vnode_files.specs.Grow.{extent_end}
-use Rattle.vnode_files.specs.Vnode.{VnodeSeen, fresh_vnode}
+use Rattle.volume_format.specs.vnode_files.declared.extent.Extent.{Extent}
+use Rattle.volume_format.specs.vnode_files.declared.vnode.FileInfo.{FileInfo}
+use Rattle.volume_format.specs.vnode_files.Files.{FilesSeen, IsNumberOf, block_count, extents_on}
+use Rattle.volume_format.specs.vnode_files.Grow.{extent_end}
+use Rattle.volume_format.specs.vnode_files.Vnode.{VnodeSeen, fresh_vnode}
 use Rattle.volume_files.specs.declared.stops.Refusal.{Refusal}
 use Rattle.volume_files.specs.Opened.{OpenedFile, new_file, place_for, with_line_file, with_placed}
 use Rattle.volume_files.specs.Placing.{HasOpened, HaveSetDisks, IsPlaceable, Gave}

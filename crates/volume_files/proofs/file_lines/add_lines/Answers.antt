@@ -2,7 +2,7 @@ use Rattle.std.specs.Prelude.{ℕ, Ok}
 use Rattle.std.specs.Ordering.{nat_cmp}
 use Rattle.std.specs.FinMap as finite
 use Rattle.std.proofs.Common.{◌∙◌, subst}
-use Rattle.vnode_files.specs.Files.{block_count}
+use Rattle.volume_format.specs.vnode_files.Files.{block_count}
 use Rattle.volume_files.specs.Opened.{with_line_file, with_line_files}
 use Rattle.volume_files.specs.Placing.{Gave}
 use Rattle.volume_files.proofs.FileLineLemmas.{gave-step}

@@ -1,5 +1,5 @@
 use Rattle.std.specs.Prelude.{◌≡◌, List, Ok, drop}
-use Rattle.vnode_files.specs.Files.{block_count}
+use Rattle.volume_format.specs.vnode_files.Files.{block_count}
 use Rattle.volume_files.specs.Opened.{OpenedFile, with_line_files}
 use Rattle.volume_files.specs.Placing.{HasOpened, LieRight}
 use Rattle.volume_files.proofs.file_lines.add_lines.Given as goal

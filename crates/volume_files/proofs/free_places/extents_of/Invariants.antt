@@ -1,5 +1,5 @@
 use Rattle.std.specs.Prelude.{◌≡◌, take}
-use Rattle.vnode_files.specs.Files.{extents_on}
+use Rattle.volume_format.specs.vnode_files.Files.{extents_on}
 use Rattle.volume_files.proofs.free_places.extents_of.Given as goal
 
 -- those of the files so far

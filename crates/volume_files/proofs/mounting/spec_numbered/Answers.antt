@@ -1,6 +1,6 @@
 use Rattle.std.proofs.Common.{◌+◌, ◌∙◌, List, ◌∷◌, drop, ap, sym}
 use Rattle.std.proofs.lemmas.List.{at_drop_more}
-use Rattle.vm_script.specs.declared.plan.SetupLine.{SetupLine}
+use Rattle.vm_report.specs.vm_script.declared.plan.SetupLine.{SetupLine}
 use Rattle.volume_files.specs.Opened.{disk_numbered}
 use Rattle.volume_files.proofs.MountSpecs.{line_some}
 use Rattle.volume_files.proofs.mounting.spec_numbered.Goals as goal

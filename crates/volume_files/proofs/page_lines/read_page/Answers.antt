@@ -1,6 +1,6 @@
 use Rattle.std.proofs.Common.{◌≡◌, ap, ◌∙◌, subst, arith}
-use Rattle.vm_types.specs.Pages.{bytes_before}
-use Rattle.vnode_files.specs.declared.vnode.FileInfo.{FileInfo}
+use Rattle.vm_report.specs.vm_types.Pages.{bytes_before}
+use Rattle.volume_format.specs.vnode_files.declared.vnode.FileInfo.{FileInfo}
 use Rattle.block_device.specs.DiskSeen.{Shows}
 use Rattle.volume_files.specs.Showing.{shown_info}
 use Rattle.volume_files.proofs.FilePieces.{block_below, piece_read}

@@ -3,8 +3,8 @@ use Rattle.std.specs.Prelude.{Err}
 use Rattle.std.proofs.lemmas.Grind.{common_steps}
 use Rattle.std.proofs.lemmas.Result.{err_from_is_err_and}
 use Rattle.volume_files.proofs.Unfailing.{unless-cut}
-use Rattle.vm_types.specs.Pages.{pages_in}
-use Rattle.vnode_files.specs.declared.vnode.FileInfo.{FileInfo}
+use Rattle.vm_report.specs.vm_types.Pages.{pages_in}
+use Rattle.volume_format.specs.vnode_files.declared.vnode.FileInfo.{FileInfo}
 use Rattle.volume_files.specs.Showing.{shown_info}
 use Rattle.volume_files.proofs.ShownPages.{lies_still, looks_then, lines_begin, lines_step, lines_stop, lines_done}
 use Rattle.volume_files.proofs.page_lines.show_lines.Goals as goal

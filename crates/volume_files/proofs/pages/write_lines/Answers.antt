@@ -2,8 +2,8 @@ use Rattle.std.specs.Prelude.{ℕ, ◌≡◌, ◌+◌, IsTrue, List, drop, map, 
 use Rattle.std.proofs.Common.{◌∙◌, ap, arith, sym, subst}
 use Rattle.block_device.specs.declared.numbered.NumberedDisk.{NumberedDisk}
 use Rattle.std.proofs.lemmas.List.Elements.{All-head}
-use Rattle.vnode_files.specs.Files.{vnode_at}
-use Rattle.vnode_files.specs.declared.vnode.FileInfo.{FileInfo}
+use Rattle.volume_format.specs.vnode_files.Files.{vnode_at}
+use Rattle.volume_format.specs.vnode_files.declared.vnode.FileInfo.{FileInfo}
 use Rattle.volume_files.specs.Attached.{numbered_seen}
 use Rattle.volume_files.specs.Handed.{SpareBlock, SparesBlock}
 use Rattle.volume_files.specs.Unfailed.{counts_of}

@@ -2,7 +2,7 @@ use Rattle.std.specs.Prelude.{◌≡◌, ◌≤◌, ◌+◌, List, ℕ, length}
 use Rattle.std.proofs.Common.{ap, ◌∙◌, sym, subst, arith}
 use Rattle.std.proofs.lemmas.Grind.{common_steps}
 use Rattle.std.proofs.lemmas.List.{drop_all}
-use Rattle.flat_model.specs.Words.{pages_in}
+use Rattle.vm_report.specs.flat_model.Words.{pages_in}
 use Rattle.volume_files.specs.Placing.{with_block_pages, filled_pages}
 use Rattle.volume_files.specs.Handed.{LiesBeside}
 use Rattle.volume_files.proofs.PageLemmas.{length-filled}

@@ -1,6 +1,6 @@
 use Rattle.std.specs.Prelude.{ℕ, ◌≡◌, ◌<◌, map, take}
-use Rattle.vnode_files.specs.Files.{vnode_at}
-use Rattle.vnode_files.specs.Vnode.{VnodeSeen, IsSoundVnode}
+use Rattle.volume_format.specs.vnode_files.Files.{vnode_at}
+use Rattle.volume_format.specs.vnode_files.Vnode.{VnodeSeen, IsSoundVnode}
 use Rattle.volume_files.proofs.placing.names_of.Given as goal
 
 -- the names of the files so far, each of which is sound

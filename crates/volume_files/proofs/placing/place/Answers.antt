@@ -3,9 +3,9 @@ use Rattle.std.proofs.Common.{arith, refl, sym, ap, ◌∙◌, subst}
 use Rattle.std.specs.Vec.{with_items}
 use Rattle.block_device.specs.declared.numbered.NumberedDisk.{NumberedDisk}
 use Rattle.volume_format.specs.Table.{TableSeen}
-use Rattle.vm_script.specs.PlanSeen.{PlanSeen}
-use Rattle.vm_script.specs.Rules.{broken_rule}
-use Rattle.vm_script.specs.FileNames.{with_files}
+use Rattle.vm_report.specs.vm_script.PlanSeen.{PlanSeen}
+use Rattle.vm_report.specs.vm_script.Rules.{broken_rule}
+use Rattle.vm_report.specs.vm_script.FileNames.{with_files}
 use Rattle.volume_files.specs.Attached.{AreMounted, ArePlaced, bare_disks, numbered_seen}
 use Rattle.volume_files.specs.Handed.{AreUncounted}
 use Rattle.volume_files.specs.Unfailed.{counts_of}

@@ -4,7 +4,7 @@ use Rattle.std.specs.FinMap as finite
 use Rattle.std.proofs.Common.{arith, sym, ap, ◌∙◌, subst, refl}
 use Rattle.std.proofs.lemmas.List.{length-map}
 use Rattle.std.proofs.lemmas.Result.{err_from_is_err_and}
-use Rattle.vnode_files.specs.Files.{FilesSeen, block_count}
+use Rattle.volume_format.specs.vnode_files.Files.{FilesSeen, block_count}
 use Rattle.volume_files.specs.declared.stops.Refusal.{Refusal}
 use Rattle.volume_files.specs.Attached.{numbered_seen}
 use Rattle.volume_files.specs.Opened.{OpenedFile, with_line_files, mounted_infos}

@@ -1,7 +1,7 @@
 use Rattle.std.proofs.Common.{ℕ, ap, ◌∙◌, sym, map, get_or}
 use Rattle.std.specs.Prelude.{Some}
 use Rattle.block_device.specs.DiskSeen.{DiskSeen}
-use Rattle.vnode_files.specs.declared.vnode.FileInfo.{FileInfo}
+use Rattle.volume_format.specs.vnode_files.declared.vnode.FileInfo.{FileInfo}
 use Rattle.volume_files.proofs.ShownFiles.{element_seen, lies_among, reads_at, shown_at, there_at}
 use Rattle.volume_files.proofs.Unfailing.{counts-set, unless-cut}
 use Rattle.volume_files.proofs.showing.show_file_among.Goals as goal

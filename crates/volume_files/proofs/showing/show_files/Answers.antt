@@ -4,7 +4,7 @@ use Rattle.std.proofs.lemmas.Grind.{common_steps}
 use Rattle.std.proofs.lemmas.List.{length-map}
 use Rattle.std.proofs.lemmas.Result.{err_from_is_err_and}
 use Rattle.volume_files.proofs.Unfailing.{unless-cut}
-use Rattle.vnode_files.specs.Vnode.{VnodeSeen}
+use Rattle.volume_format.specs.vnode_files.Vnode.{VnodeSeen}
 use Rattle.volume_files.specs.Written.{infos_made}
 use Rattle.volume_files.specs.Showing.{shown_info}
 use Rattle.volume_files.proofs.ShownSections.{all_have_blocks, have_still, files_begin, files_step, files_read, files_stop, files_done, info_there}

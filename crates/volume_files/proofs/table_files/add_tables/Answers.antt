@@ -5,7 +5,7 @@ use Rattle.std.proofs.Common.{arith, sym, ap, ◌∙◌, subst}
 use Rattle.std.proofs.lemmas.List.{length-map, get_or_read}
 use Rattle.std.proofs.lemmas.Result.{err_from_is_err_and}
 use Rattle.block_device.specs.declared.numbered.NumberedDisk.{NumberedDisk}
-use Rattle.vnode_files.specs.Files.{FilesSeen}
+use Rattle.volume_format.specs.vnode_files.Files.{FilesSeen}
 use Rattle.volume_format.specs.Table.{TableSeen, empty_table}
 use Rattle.volume_files.specs.Opened.{info_on}
 use Rattle.volume_files.specs.Placing.{IsAddable, IsTooMany, attached_numbers, table_at, with_infos}

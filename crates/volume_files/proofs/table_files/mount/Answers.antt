@@ -1,5 +1,5 @@
 use Rattle.std.proofs.Common.{sym, subst}
-use Rattle.vnode_files.specs.Files.{FilesSeen}
+use Rattle.volume_format.specs.vnode_files.Files.{FilesSeen}
 use Rattle.volume_files.specs.Placing.{AreSet, attached_numbers}
 use Rattle.volume_files.proofs.MountLemmas.{set-all}
 use Rattle.volume_files.proofs.table_files.mount.Goals as goal

@@ -1,7 +1,7 @@
 use Rattle.std.proofs.Common.{◌∙◌, sym, arith, true}
 use Rattle.std.specs.Option.{option_map_or}
 use Rattle.std.specs.FinMap as map
-use Rattle.vm_types.specs.Prot.{is_within}
+use Rattle.flat_model.specs.vm_types.Prot.{is_within}
 use Rattle.flat_state.proofs.Protects.{not_all, all_next}
 use Rattle.flat_state.proofs.cells.Cells.may_have.Goals as goal
 

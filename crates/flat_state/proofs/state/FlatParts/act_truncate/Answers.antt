@@ -1,8 +1,8 @@
 use Rattle.std.proofs.Common.{◌≡◌, ◌∙◌, true, ap, sym, subst, refl, Ok}
 use Rattle.std.specs.Prelude.{IsTrue}
 use Rattle.std.specs.Result.{result_map_both}
-use Rattle.vm_types.specs.declared.call.Call.{Call}
-use Rattle.vm_types.specs.declared.call.Reply.TheVariants as reply
+use Rattle.flat_model.specs.vm_types.declared.call.Call.{Call}
+use Rattle.flat_model.specs.vm_types.declared.call.Reply.TheVariants as reply
 use Rattle.flat_model.specs.Parts.{room_for, with_file_at, file_of_length}
 use Rattle.flat_model.specs.Step.{effect, MayFail}
 use Rattle.flat_state.proofs.FileSteps.{extents_got, room-writable, room-done}

@@ -1,7 +1,7 @@
 use Rattle.std.proofs.Common.{◌∙◌, true, ap, sym, subst, rules, refl}
 use Rattle.std.specs.Prelude.{IsTrue}
-use Rattle.vm_types.specs.declared.call.Call.{Call}
-use Rattle.vm_types.specs.declared.call.Reply.TheVariants as reply
+use Rattle.flat_model.specs.vm_types.declared.call.Call.{Call}
+use Rattle.flat_model.specs.vm_types.declared.call.Reply.TheVariants as reply
 use Rattle.flat_model.specs.Flat.{Flat}
 use Rattle.flat_state.specs.Cells.{flat_file}
 use Rattle.flat_model.specs.Step.{effect, MayFail}

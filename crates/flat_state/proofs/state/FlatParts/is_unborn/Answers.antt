@@ -1,6 +1,6 @@
 use Rattle.std.proofs.Common.{◌≡◌, Bool, true, false, not, sym, ap, subst, ◌∙◌, refl}
 use Rattle.std.specs.FinSet as set
-use Rattle.vm_types.specs.declared.call.Call.{Call}
+use Rattle.flat_model.specs.vm_types.declared.call.Call.{Call}
 use Rattle.flat_model.specs.Flat.{Flat}
 use Rattle.flat_model.specs.Step.{IsUnborn}
 use Rattle.flat_state.proofs.Trees.{has_key}

@@ -1,7 +1,7 @@
 use Rattle.std.proofs.Common.{◌≡◌, ◌∙◌, ap, sym, ℕ, Ok, true, false, Result}
 use Rattle.std.specs.Prelude.{is_some, unwrap_or, nat_le}
 use Rattle.std.specs.FinMap as finite
-use Rattle.vm_types.specs.declared.call.Errno.{Errno}
+use Rattle.flat_model.specs.vm_types.declared.call.Errno.{Errno}
 use Rattle.flat_model.specs.Flat.{Flat, reserved}
 use Rattle.flat_model.specs.Mapping.{without_replaced, with_mapping}
 use Rattle.flat_state.specs.Cells.{zeros_in}

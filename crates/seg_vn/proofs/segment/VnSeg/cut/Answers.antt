@@ -1,4 +1,4 @@
-use Rattle.vm_world.specs.World.{world_seen}
+use Rattle.seg_ops.specs.vm_world.World.{world_seen}
 use Rattle.seg_vn.proofs.CutSegments.{still-may-be-cut, still-cut, numbers-then}
 use Rattle.seg_vn.proofs.segment.VnSeg.cut.Goals as goal
 

@@ -1,12 +1,12 @@
 use Rattle.std.proofs.Common.{◌≡◌, ℕ, ◌<◌, ◌≤◌, ◌-◌, ◌+◌, ◌^◌, List, length, Option, Some, None, refl, sym, ap, ◌∙◌, subst, arith}
 use Rattle.std.specs.Prelude.{IsSome, is_some, option_map}
-use Rattle.anon_map.specs.Maps.{Map, IsMapThere, IsUnused, holders_of, places_of}
-use Rattle.vm_world.specs.MapSteps.{maps_cut, maps_held}
-use Rattle.vm_world.specs.SegmentSteps.{upper_pages}
-use Rattle.vm_world.specs.SpaceSteps.{first_pages}
-use Rattle.vm_world.specs.World.{world_seen}
-use Rattle.vm_world.specs.declared.segment.Segment.{Segment}
-use Rattle.vm_world.specs.declared.world.World.{World}
+use Rattle.seg_ops.specs.anon_map.Maps.{Map, IsMapThere, IsUnused, holders_of, places_of}
+use Rattle.seg_ops.specs.vm_world.MapSteps.{maps_cut, maps_held}
+use Rattle.seg_ops.specs.vm_world.SegmentSteps.{upper_pages}
+use Rattle.seg_ops.specs.vm_world.SpaceSteps.{first_pages}
+use Rattle.seg_ops.specs.vm_world.World.{world_seen}
+use Rattle.seg_ops.specs.vm_world.declared.segment.Segment.{Segment}
+use Rattle.seg_ops.specs.vm_world.declared.world.World.{World}
 use Rattle.seg_vn.proofs.CutSegments.{cut-held, most-held, still-long, cut-changes}
 use Rattle.seg_vn.proofs.segment.VnSeg.cut_into.Goals as goal
 

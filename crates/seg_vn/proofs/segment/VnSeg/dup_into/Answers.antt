@@ -1,13 +1,13 @@
 use Rattle.std.proofs.Common.{◌≡◌, ◌+◌, ◌-◌, ◌<◌, ◌^◌, List, Option, Some, None, sym, ap, ◌∙◌, subst, arith}
 use Rattle.std.specs.Prelude.{IsSome}
-use Rattle.anon_map.specs.Maps.{Map, IsMapThere, IsUnused, holders_of}
-use Rattle.vm_world.specs.CountsFit.{slots_for_part}
-use Rattle.vm_world.specs.ForkSteps.{CountsMore, copied_piece, maps_copied, slots_held}
-use Rattle.vm_world.specs.MapSteps.{maps_held}
-use Rattle.vm_world.specs.World.{world_seen}
-use Rattle.vm_world.specs.declared.segment.Segment.{Segment}
-use Rattle.vm_world.specs.declared.world.World.{World}
-use Rattle.vm_world.proofs.KeptMaps.{same-holders, same-there}
+use Rattle.seg_ops.specs.anon_map.Maps.{Map, IsMapThere, IsUnused, holders_of}
+use Rattle.seg_ops.specs.vm_world.CountsFit.{slots_for_part}
+use Rattle.seg_ops.specs.vm_world.ForkSteps.{CountsMore, copied_piece, maps_copied, slots_held}
+use Rattle.seg_ops.specs.vm_world.MapSteps.{maps_held}
+use Rattle.seg_ops.specs.vm_world.World.{world_seen}
+use Rattle.seg_ops.specs.vm_world.declared.segment.Segment.{Segment}
+use Rattle.seg_ops.specs.vm_world.declared.world.World.{World}
+use Rattle.seg_ops.proofs.vm_world.KeptMaps.{same-holders, same-there}
 use Rattle.seg_vn.specs.Cuts.{IsPartAt}
 use Rattle.seg_vn.specs.Copied.{HasNoWriters, KeepsPlaces}
 use Rattle.seg_vn.proofs.CopiedSegments.{copied-else, copied-keeps, copy-changes}

@@ -1,11 +1,11 @@
 use Rattle.std.proofs.Common.{◌≡◌, ℕ, Bool, true, false, cond, Some, None, length, refl, sym, ap, ◌∙◌, inl, inr, subst}
 use Rattle.std.specs.Prelude.{option_and_then}
-use Rattle.vm_types.specs.Prot.{can_read, can_write}
-use Rattle.vm_types.specs.declared.call.Object.{Object}
-use Rattle.vm_world.specs.CountsFit.{ObjectFits}
-use Rattle.vm_world.specs.FlatMemory.{own_without_slot}
-use Rattle.vm_world.specs.Segments.{Spot}
-use Rattle.vm_world.specs.World.{world_seen, slot_in}
+use Rattle.seg_ops.specs.vm_types.Prot.{can_read, can_write}
+use Rattle.seg_ops.specs.vm_types.declared.call.Object.{Object}
+use Rattle.seg_ops.specs.vm_world.CountsFit.{ObjectFits}
+use Rattle.seg_ops.specs.vm_world.FlatMemory.{own_without_slot}
+use Rattle.seg_ops.specs.vm_world.Segments.{Spot}
+use Rattle.seg_ops.specs.vm_world.World.{world_seen, slot_in}
 use Rattle.seg_ops.proofs.StillSteps.{memory_of}
 use Rattle.seg_ops.specs.Faults.{ServesFault}
 use Rattle.seg_vn.proofs.AnyPlaces.{own-private, own-there, private-has, object-fits}

@@ -1,9 +1,9 @@
 use Rattle.std.proofs.Common.{◌≡◌, ℕ, ◌+◌, Bool, true, false, cond, Option, Some, None, refl, sym, ap, ◌∙◌, subst}
 use Rattle.std.specs.Prelude.{option_and_then, option_map}
 use Rattle.std.specs.Option.{option_or}
-use Rattle.vm_types.specs.Prot.{can_read, can_write}
-use Rattle.vm_world.specs.Segments.{Spot, object_name}
-use Rattle.vm_world.specs.World.{world_seen, slot_in, slot_name}
+use Rattle.seg_ops.specs.vm_types.Prot.{can_read, can_write}
+use Rattle.seg_ops.specs.vm_world.Segments.{Spot, object_name}
+use Rattle.seg_ops.specs.vm_world.World.{world_seen, slot_in, slot_name}
 use Rattle.seg_ops.proofs.StillSteps.{memory_of}
 use Rattle.seg_ops.specs.Faults.{ServesFault}
 use Rattle.seg_vn.proofs.AnyPlaces.{place-in, own-private, own-there, not-new}

@@ -1,12 +1,12 @@
 use Rattle.std.proofs.Common.{◌≡◌, ℕ, ◌<◌, ◌+◌, Bool, true, false, cond, Option, Some, None, refl, sym, ap, ◌∙◌, subst, arith}
 use Rattle.std.specs.Prelude.{◌||◌, is_some, option_and_then}
-use Rattle.anon_slots.specs.Slots.{count_at}
-use Rattle.vm_types.specs.Prot.{can_read, can_write}
-use Rattle.vm_world.specs.Segments.{Spot}
-use Rattle.vm_world.specs.Wants.{object_has}
-use Rattle.vm_world.specs.World.{world_seen, slot_in}
-use Rattle.vm_world.proofs.Counts.{held-used, used-below}
-use Rattle.vm_world.proofs.FlatWhole.{some-inj}
+use Rattle.seg_ops.specs.anon_slots.Slots.{count_at}
+use Rattle.seg_ops.specs.vm_types.Prot.{can_read, can_write}
+use Rattle.seg_ops.specs.vm_world.Segments.{Spot}
+use Rattle.seg_ops.specs.vm_world.Wants.{object_has}
+use Rattle.seg_ops.specs.vm_world.World.{world_seen, slot_in}
+use Rattle.seg_ops.proofs.vm_world.Counts.{held-used, used-below}
+use Rattle.seg_ops.proofs.vm_world.FlatWhole.{some-inj}
 use Rattle.seg_ops.proofs.SlotMemory.{lt-used}
 use Rattle.seg_ops.proofs.StillSteps.{memory_of}
 use Rattle.seg_ops.specs.Faults.{ServesFault}

@@ -1,7 +1,7 @@
 use Rattle.std.proofs.Common.{◌≡◌, ◌≤◌, ◌<◌, ℕ}
-use Rattle.vm_world.specs.Serving.{ModifiesNone}
-use Rattle.vm_world.specs.World.{world_seen}
-use Rattle.vm_world.specs.Words.{KeepsEveryPage, OnlyHat}
+use Rattle.seg_ops.specs.vm_world.Serving.{ModifiesNone}
+use Rattle.seg_ops.specs.vm_world.World.{world_seen}
+use Rattle.seg_ops.specs.vm_world.Words.{KeepsEveryPage, OnlyHat}
 use Rattle.seg_ops.specs.Writers.{HasNoWriter, WritersStay}
 use Rattle.seg_vn.proofs.segment.VnSeg.hold_writes.Given as goal
 

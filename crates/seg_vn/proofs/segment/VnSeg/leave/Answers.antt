@@ -1,15 +1,15 @@
 use Rattle.std.proofs.Common.{◌≡◌, ◌≤◌, ◌-◌, ℕ, List, Option, sym, ap, ◌∙◌, subst, arith}
 use Rattle.std.specs.FinMap as finite
-use Rattle.addr_space.specs.Space.{without_part}
-use Rattle.anon_slots.specs.Slots.{slots_in_use}
-use Rattle.anon_map.specs.Maps.{AreEmpty, IsMapThere, places_of, holders_of}
-use Rattle.vm_world.specs.MapSteps.{maps_released, places_released}
-use Rattle.vm_world.specs.SegmentSteps.{maps_left, places_left}
-use Rattle.vm_world.specs.Segments.{Spaces}
-use Rattle.vm_world.specs.World.{world_seen}
-use Rattle.vm_world.specs.ZeroObjects.{KnowsZeros}
-use Rattle.vm_world.specs.declared.segment.Segment.{Segment}
-use Rattle.vm_world.specs.declared.world.World.{World}
+use Rattle.seg_ops.specs.addr_space.Space.{without_part}
+use Rattle.seg_ops.specs.anon_slots.Slots.{slots_in_use}
+use Rattle.seg_ops.specs.anon_map.Maps.{AreEmpty, IsMapThere, places_of, holders_of}
+use Rattle.seg_ops.specs.vm_world.MapSteps.{maps_released, places_released}
+use Rattle.seg_ops.specs.vm_world.SegmentSteps.{maps_left, places_left}
+use Rattle.seg_ops.specs.vm_world.Segments.{Spaces}
+use Rattle.seg_ops.specs.vm_world.World.{world_seen}
+use Rattle.seg_ops.specs.vm_world.ZeroObjects.{KnowsZeros}
+use Rattle.seg_ops.specs.vm_world.declared.segment.Segment.{Segment}
+use Rattle.seg_ops.specs.vm_world.declared.world.World.{World}
 use Rattle.seg_vn.specs.Cuts.{IsPartAt}
 use Rattle.seg_vn.specs.Leaves.{IsUnloadedPart}
 use Rattle.seg_vn.proofs.GivenBack.{gives-then, unloaded-given, release-given}

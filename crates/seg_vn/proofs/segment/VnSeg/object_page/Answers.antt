@@ -2,13 +2,13 @@ use Rattle.std.proofs.Common.{◌≡◌, ℕ, ◌+◌, ◌<◌, false, Option, S
 use Rattle.std.specs.Prelude.{nat_lt, option_map, option_and_then}
 use Rattle.std.specs.Option.{option_map_or}
 use Rattle.std.proofs.lemmas.Bool.{lt-ltb}
-use Rattle.anon_map.specs.Maps.{IsMapThere, places_of}
-use Rattle.vm_types.specs.declared.call.Object.{Object}
-use Rattle.vm_types.specs.declared.call.Object.TheVariants as object
-use Rattle.vm_world.proofs.FlatWhole.{some-inj}
-use Rattle.vm_world.specs.Segments.{Spot, object_name}
-use Rattle.vm_world.specs.Wants.{object_has}
-use Rattle.vm_world.specs.World.{world_seen, slot_in, slot_name}
+use Rattle.seg_ops.specs.anon_map.Maps.{IsMapThere, places_of}
+use Rattle.seg_ops.specs.vm_types.declared.call.Object.{Object}
+use Rattle.seg_ops.specs.vm_types.declared.call.Object.TheVariants as object
+use Rattle.seg_ops.proofs.vm_world.FlatWhole.{some-inj}
+use Rattle.seg_ops.specs.vm_world.Segments.{Spot, object_name}
+use Rattle.seg_ops.specs.vm_world.Wants.{object_has}
+use Rattle.seg_ops.specs.vm_world.World.{world_seen, slot_in, slot_name}
 use Rattle.seg_ops.proofs.SlotOwners.{places_law}
 use Rattle.seg_ops.proofs.StillSteps.{memory_of}
 use Rattle.seg_vn.proofs.AnyPlaces.{own-there, file-at, new-private, private-has, zero-at, zero-map-at}

@@ -1,5 +1,5 @@
 use Rattle.std.proofs.Common.{sym, ◌∙◌}
-use Rattle.vm_world.specs.World.{world_seen}
+use Rattle.seg_ops.specs.vm_world.World.{world_seen}
 use Rattle.seg_vn.proofs.AnyPlaces.{own-there}
 use Rattle.seg_vn.proofs.segment.VnSeg.own_slot.Goals as goal
 

@@ -1,6 +1,6 @@
 use Rattle.std.proofs.Common.{◌≡◌, ℕ, sym, ap, ◌∙◌}
-use Rattle.vm_world.specs.ProtectSteps.{with_segment_prot}
-use Rattle.vm_world.specs.World.{world_seen}
+use Rattle.seg_ops.specs.vm_world.ProtectSteps.{with_segment_prot}
+use Rattle.seg_ops.specs.vm_world.World.{world_seen}
 use Rattle.seg_vn.proofs.LeftSegments.{part-within}
 use Rattle.seg_vn.proofs.LimitedSegments.{prot-changes}
 use Rattle.seg_vn.proofs.segment.VnSeg.set_prot.Goals as goal

@@ -1,8 +1,8 @@
 use Rattle.std.proofs.Common.{◌≡◌, ℕ, None, refl, ap, ◌∙◌, inl, inr, arith}
 use Rattle.std.proofs.lemmas.Bool.{cases_eq}
-use Rattle.hat_layer.specs.Pool.{translation_at, drop_page}
-use Rattle.vm_world.specs.World.{world_seen}
-use Rattle.vm_world.specs.declared.world.World.{World}
+use Rattle.seg_ops.specs.hat_layer.Pool.{translation_at, drop_page}
+use Rattle.seg_ops.specs.vm_world.World.{world_seen}
+use Rattle.seg_ops.specs.vm_world.declared.world.World.{World}
 use Rattle.seg_ops.proofs.Composed.{keeps-then, keeps-same}
 use Rattle.seg_ops.proofs.Modified.{modifies-same, modifies-then}
 use Rattle.seg_vn.proofs.segment.VnSeg.unmap.Goals as goal

@@ -1,10 +1,10 @@
 use Rattle.std.proofs.Common.{◌≡◌, ◌≤◌, ◌<◌, ℕ, None}
-use Rattle.hat_layer.specs.Pool.{translation_at}
-use Rattle.vm_world.specs.MemoryFits.{MemoryFits}
-use Rattle.vm_world.specs.Segments.{Spaces}
-use Rattle.vm_world.specs.Serving.{ModifiesNone}
-use Rattle.vm_world.specs.World.{world_seen}
-use Rattle.vm_world.specs.Words.{KeepsPages}
+use Rattle.seg_ops.specs.hat_layer.Pool.{translation_at}
+use Rattle.seg_ops.specs.vm_world.MemoryFits.{MemoryFits}
+use Rattle.seg_ops.specs.vm_world.Segments.{Spaces}
+use Rattle.seg_ops.specs.vm_world.Serving.{ModifiesNone}
+use Rattle.seg_ops.specs.vm_world.World.{world_seen}
+use Rattle.seg_ops.specs.vm_world.Words.{KeepsPages}
 use Rattle.seg_vn.proofs.segment.VnSeg.unmap.Given as goal
 
 abbrev pub invariant-loop-page : goal.invariant-loop-page

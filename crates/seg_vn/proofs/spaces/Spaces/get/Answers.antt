@@ -1,6 +1,6 @@
 use Rattle.std.proofs.Common.{◌≡◌, ◌≤◌, ◌∙◌, ap, sym, length, List, Option, None, subst, get_or}
-use Rattle.addr_space.specs.Space.{RangesSeen}
-use Rattle.vm_world.specs.declared.segment.Segment.{Segment}
+use Rattle.seg_ops.specs.addr_space.Space.{RangesSeen}
+use Rattle.seg_ops.specs.vm_world.declared.segment.Segment.{Segment}
 use Rattle.seg_vn.proofs.SpacesFrom.{found-some, found-none, copied-parts, parts_in}
 use Rattle.seg_vn.proofs.spaces.Spaces.get.Goals as goal
 

@@ -1,5 +1,5 @@
 use Rattle.std.proofs.Common.{◌∙◌, ◌≡◌, List, Option, [], ℕ, length, ap, sym, subst, arith}
-use Rattle.block_device.specs.declared.block.Block.{Block}
+use Rattle.disk_file.specs.block_device.declared.block.Block.{Block}
 use Rattle.sunvm.specs.BlankPlaces.{AreBlockPlaces}
 use Rattle.sunvm.proofs.BlankDiskLemmas.{placed-none}
 use Rattle.sunvm.proofs.blank_disk.BlankDisk.new.Goals as goal

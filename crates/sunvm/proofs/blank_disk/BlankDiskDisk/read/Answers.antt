@@ -1,6 +1,6 @@
 use Rattle.std.proofs.Common.{◌∙◌, ◌≡◌, List, Option, Some, None, ℕ, ap, sym, refl, replicate, length, arith}
 use Rattle.std.specs.Prelude.{slice_index_or}
-use Rattle.block_device.specs.declared.block.Block.{Block}
+use Rattle.disk_file.specs.block_device.declared.block.Block.{Block}
 use Rattle.sunvm.specs.BlankDisks.{written_at}
 use Rattle.sunvm.proofs.BlankDiskLemmas.{blank-read, bytes-or, written-read}
 use Rattle.sunvm.proofs.blank_disk.BlankDiskDisk.read.Goals as goal

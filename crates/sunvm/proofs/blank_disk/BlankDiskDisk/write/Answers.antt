@@ -1,6 +1,6 @@
 use Rattle.std.proofs.Common.{◌∙◌, ◌≡◌, ◌+◌, ◌-◌, ◌<◌, ◌≤◌, ◌++◌, ◌∷◌, [], List, Option, Some, None, ℕ, ap, sym, refl, subst, length, length-append, replicate, arith}
 use Rattle.std.specs.Prelude.{slice_index_or, slice_set}
-use Rattle.block_device.specs.declared.block.Block.{Block}
+use Rattle.disk_file.specs.block_device.declared.block.Block.{Block}
 use Rattle.sunvm.specs.BlankDisks.{blank_content}
 use Rattle.sunvm.specs.BlankPlaces.{AreBlockPlaces}
 use Rattle.sunvm.proofs.BlankDiskLemmas.{content-again, content-new, few-new, placed-new, room}

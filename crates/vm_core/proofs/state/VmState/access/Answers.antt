@@ -1,12 +1,12 @@
 use Rattle.std.proofs.Common.{ℕ, List, [], Option, sym, subst, length}
 use Rattle.fault_entry.specs.Answers.{attempt_of}
-use Rattle.vm_world.specs.MemoryFits.{MemoryFits}
-use Rattle.vm_world.specs.NotesFit.{NotesFit}
-use Rattle.vm_world.specs.State.{KernelState}
-use Rattle.vm_world.specs.World.{world_table, world_seen}
-use Rattle.vm_world.specs.ZeroObjects.{KnowsZeros}
-use Rattle.seg_vn.specs.Serves.{Serves}
-use Rattle.seg_vn.specs.Spaces.{SpacesSeen}
+use Rattle.fault_entry.specs.vm_world.MemoryFits.{MemoryFits}
+use Rattle.fault_entry.specs.vm_world.NotesFit.{NotesFit}
+use Rattle.fault_entry.specs.vm_world.State.{KernelState}
+use Rattle.fault_entry.specs.vm_world.World.{world_table, world_seen}
+use Rattle.fault_entry.specs.vm_world.ZeroObjects.{KnowsZeros}
+use Rattle.fault_entry.specs.seg_vn.Serves.{Serves}
+use Rattle.fault_entry.specs.seg_vn.Spaces.{SpacesSeen}
 use Rattle.vm_core.specs.Calls.{IsShownAfterCall, SlotsAfterCall, IsHitAfterCall}
 use Rattle.vm_core.specs.State.{EachHasPlaces}
 use Rattle.vm_core.proofs.Served.{access-hit, access-shown, access-slots, home-frame, kept-served, own-reply}

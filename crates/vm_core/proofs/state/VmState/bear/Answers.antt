@@ -1,14 +1,14 @@
 use Rattle.std.proofs.Common.{◌≡◌, ◌≤◌, ℕ, List, length, Option, Some, None, refl, sym, ap, ◌∙◌, subst}
 use Rattle.std.specs.Prelude.{IsSome}
 use Rattle.std.specs.FinMap as finite
-use Rattle.flat_model.proofs.Maps.{on_err_any}
+use Rattle.fault_entry.proofs.flat_model.Maps.{on_err_any}
 use Rattle.proc_calls.specs.Forks.{IsCountedFork, IsForked}
-use Rattle.vm_world.specs.FlatMemory.{Memory}
-use Rattle.vm_world.specs.MemoryFits.{MemoryFits}
-use Rattle.vm_world.specs.Segments.{Spaces}
-use Rattle.vm_world.specs.Serving.{ModifiesNone}
-use Rattle.vm_world.specs.State.{KernelState, process_parent}
-use Rattle.vm_world.specs.World.{world_seen}
+use Rattle.fault_entry.specs.vm_world.FlatMemory.{Memory}
+use Rattle.fault_entry.specs.vm_world.MemoryFits.{MemoryFits}
+use Rattle.fault_entry.specs.vm_world.Segments.{Spaces}
+use Rattle.fault_entry.specs.vm_world.Serving.{ModifiesNone}
+use Rattle.fault_entry.specs.vm_world.State.{KernelState, process_parent}
+use Rattle.fault_entry.specs.vm_world.World.{world_seen}
 use Rattle.vm_core.proofs.Forked.{ChildPlaces, child-places, count-starts, forked-as, kept-forked}
 use Rattle.vm_core.proofs.Served.{same-again}
 use Rattle.vm_core.proofs.state.VmState.bear.Given.{Over}

@@ -1,10 +1,10 @@
 use Rattle.std.proofs.Common.{sym, subst}
-use Rattle.page_hash.specs.Names.{is_name}
-use Rattle.page_store.specs.Steps.{next_name}
-use Rattle.vm_world.specs.MemoryFits.{MemoryFits}
-use Rattle.vm_world.specs.NotesFit.{NotesFit}
-use Rattle.vm_world.specs.State.{KernelState, notes_of}
-use Rattle.vm_world.specs.World.{world_seen}
+use Rattle.fault_entry.specs.page_hash.Names.{is_name}
+use Rattle.fault_entry.specs.page_store.Steps.{next_name}
+use Rattle.fault_entry.specs.vm_world.MemoryFits.{MemoryFits}
+use Rattle.fault_entry.specs.vm_world.NotesFit.{NotesFit}
+use Rattle.fault_entry.specs.vm_world.State.{KernelState, notes_of}
+use Rattle.fault_entry.specs.vm_world.World.{world_seen}
 use Rattle.vm_core.specs.Flights.{CanLeave}
 use Rattle.vm_core.proofs.Departures.{kept-leaves, kept-left, leaving-as}
 use Rattle.vm_core.proofs.state.VmState.begin.Goals as goal

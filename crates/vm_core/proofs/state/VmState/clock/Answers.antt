@@ -1,7 +1,7 @@
 use Rattle.std.proofs.Common.{sym, ap, subst}
-use Rattle.vm_world.specs.MemoryFits.{MemoryFits}
-use Rattle.vm_world.specs.State.{KernelState}
-use Rattle.vm_world.specs.World.{world_seen}
+use Rattle.fault_entry.specs.vm_world.MemoryFits.{MemoryFits}
+use Rattle.fault_entry.specs.vm_world.State.{KernelState}
+use Rattle.fault_entry.specs.vm_world.World.{world_seen}
 use Rattle.vm_core.proofs.Hands.{hand-event-as}
 use Rattle.vm_core.proofs.state.VmState.clock.Goals as goal
 

@@ -1,17 +1,17 @@
 use Rattle.std.proofs.Common.{◌≡◌, ℕ, suc, ◌-◌, ◌<◌, ◌≤◌, length, Option, Some, None, Bor, sym, ap, subst, ◌∙◌, arith, length-set}
 use Rattle.std.specs.Prelude.{option_map, slice_set}
-use Rattle.flat_model.specs.Counted.{top_count}
-use Rattle.flat_model.specs.Told.{entries_of}
-use Rattle.page_store.specs.Transfers.{EndsTransfer}
-use Rattle.vm_types.specs.Parts.{part_file}
-use Rattle.vm_types.specs.declared.call.Call.{Call}
-use Rattle.vm_types.specs.declared.call.Entry.{Entry}
-use Rattle.vm_types.specs.declared.call.Reply.TheVariants.{Io}
-use Rattle.vm_world.specs.EntryLaws.{LocksAfter, StartsAfter}
-use Rattle.vm_world.specs.Events.{IsEvent}
-use Rattle.vm_world.specs.Failures.{io_entry, with_entry_made}
-use Rattle.vm_world.specs.State.{KernelState, Caller, room_of}
-use Rattle.vm_world.specs.StateSteps.{after_step}
+use Rattle.fault_entry.specs.flat_model.Counted.{top_count}
+use Rattle.fault_entry.specs.flat_model.Told.{entries_of}
+use Rattle.fault_entry.specs.page_store.Transfers.{EndsTransfer}
+use Rattle.fault_entry.specs.vm_types.Parts.{part_file}
+use Rattle.fault_entry.specs.vm_types.declared.call.Call.{Call}
+use Rattle.fault_entry.specs.vm_types.declared.call.Entry.{Entry}
+use Rattle.fault_entry.specs.vm_types.declared.call.Reply.TheVariants.{Io}
+use Rattle.fault_entry.specs.vm_world.EntryLaws.{LocksAfter, StartsAfter}
+use Rattle.fault_entry.specs.vm_world.Events.{IsEvent}
+use Rattle.fault_entry.specs.vm_world.Failures.{io_entry, with_entry_made}
+use Rattle.fault_entry.specs.vm_world.State.{KernelState, Caller, room_of}
+use Rattle.fault_entry.specs.vm_world.StateSteps.{after_step}
 use Rattle.vm_core.specs.Flights.{IsBack, EndsWith}
 use Rattle.vm_core.specs.State.{calls_without}
 use Rattle.vm_core.proofs.Landings.{quiet-end, failed-end, locks-after, starts-after, flight-out, ended, added, own-seat}

@@ -1,9 +1,9 @@
 use Rattle.std.proofs.Common.{◌≤◌, [], sym, subst, ℕ, length}
-use Rattle.anon_slots.specs.Slots.{count_at}
-use Rattle.seg_vn.specs.Serves.{Serves}
-use Rattle.vm_world.specs.MemoryFits.{MemoryFits}
-use Rattle.vm_world.specs.State.{KernelState}
-use Rattle.vm_world.specs.World.{world_seen}
+use Rattle.fault_entry.specs.anon_slots.Slots.{count_at}
+use Rattle.fault_entry.specs.seg_vn.Serves.{Serves}
+use Rattle.fault_entry.specs.vm_world.MemoryFits.{MemoryFits}
+use Rattle.fault_entry.specs.vm_world.State.{KernelState}
+use Rattle.fault_entry.specs.vm_world.World.{world_seen}
 use Rattle.vm_core.specs.State.{EachHasPlaces}
 use Rattle.vm_core.proofs.Served.{exited-own, kept-served}
 use Rattle.vm_core.proofs.state.VmState.exit.Goals as goal

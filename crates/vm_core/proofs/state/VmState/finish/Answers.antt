@@ -1,11 +1,11 @@
 use Rattle.std.proofs.Common.{◌≡◌, None, sym, ap, ◌∙◌, subst}
 use Rattle.std.specs.Prelude.{IfNone, option_map}
-use Rattle.page_store.specs.Bays.{bay_at, home_faults, pairs_seen}
-use Rattle.page_store.specs.Notes.{no_notes}
-use Rattle.vm_world.specs.MemoryFits.{MemoryFits}
-use Rattle.vm_world.specs.NotesFit.{NotesFit}
-use Rattle.vm_world.specs.State.{KernelState, Seats, notes_of}
-use Rattle.vm_world.specs.World.{World, AllTell}
+use Rattle.fault_entry.specs.page_store.Bays.{bay_at, home_faults, pairs_seen}
+use Rattle.fault_entry.specs.page_store.Notes.{no_notes}
+use Rattle.fault_entry.specs.vm_world.MemoryFits.{MemoryFits}
+use Rattle.fault_entry.specs.vm_world.NotesFit.{NotesFit}
+use Rattle.fault_entry.specs.vm_world.State.{KernelState, Seats, notes_of}
+use Rattle.fault_entry.specs.vm_world.World.{World, AllTell}
 use Rattle.vm_core.specs.Finish.{HoldAllFiles}
 use Rattle.vm_core.proofs.state.VmState.finish.Goals as goal
 

@@ -1,10 +1,10 @@
 use Rattle.std.proofs.Common.{◌≡◌, ℕ, Some, None, sym, subst}
 use Rattle.std.specs.Prelude.{IfOk}
-use Rattle.vm_types.specs.declared.call.Call.{Call}
-use Rattle.vm_types.specs.declared.call.Call.TheVariants.{Fork}
-use Rattle.vm_world.specs.Events.{IsEvent, MayBear}
-use Rattle.vm_world.specs.State.{KernelState}
-use Rattle.vm_world.proofs.Told.{event_law}
+use Rattle.fault_entry.specs.vm_types.declared.call.Call.{Call}
+use Rattle.fault_entry.specs.vm_types.declared.call.Call.TheVariants.{Fork}
+use Rattle.fault_entry.specs.vm_world.Events.{IsEvent, MayBear}
+use Rattle.fault_entry.specs.vm_world.State.{KernelState}
+use Rattle.fault_entry.proofs.vm_world.Told.{event_law}
 use Rattle.vm_core.proofs.Forked.{ForkTold, StaysByFork, child-absent, fork-told, room-kept, stays-by}
 use Rattle.vm_core.proofs.state.VmState.fork.Given.{Over}
 use Rattle.vm_core.proofs.state.VmState.fork.Goals.{After-conclude}

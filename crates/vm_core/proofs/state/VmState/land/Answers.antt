@@ -1,13 +1,13 @@
 use Rattle.std.proofs.Common.{◌≡◌, false, Some, sym, ap, subst}
-use Rattle.page_store.specs.Flight.{IsPerformed}
-use Rattle.page_store.specs.Notes.{Note, Notes}
-use Rattle.page_store.specs.Out.{IsFlightOf}
-use Rattle.page_store.specs.Transfers.{EndsTransfer}
-use Rattle.vm_world.specs.MemoryFits.{MemoryFits}
-use Rattle.vm_world.specs.NotesFit.{NotesFit}
-use Rattle.vm_world.specs.State.{KernelState}
-use Rattle.vm_world.specs.World.{world_seen}
-use Rattle.vm_world.specs.WorldSteps.{WorldStep, returns}
+use Rattle.fault_entry.specs.page_store.Flight.{IsPerformed}
+use Rattle.fault_entry.specs.page_store.Notes.{Note, Notes}
+use Rattle.fault_entry.specs.page_store.Out.{IsFlightOf}
+use Rattle.fault_entry.specs.page_store.Transfers.{EndsTransfer}
+use Rattle.fault_entry.specs.vm_world.MemoryFits.{MemoryFits}
+use Rattle.fault_entry.specs.vm_world.NotesFit.{NotesFit}
+use Rattle.fault_entry.specs.vm_world.State.{KernelState}
+use Rattle.fault_entry.specs.vm_world.World.{world_seen}
+use Rattle.fault_entry.specs.vm_world.WorldSteps.{WorldStep, returns}
 use Rattle.vm_core.proofs.Landings.{kept-ended}
 use Rattle.vm_core.proofs.state.VmState.land.Goals as goal
 

@@ -1,15 +1,15 @@
 use Rattle.std.proofs.Common.{◌≤◌, ℕ, [], sym, ap, subst, ◌∙◌, length}
 use Rattle.std.specs.Prelude.{IfOk}
-use Rattle.anon_slots.specs.Slots.{count_at}
-use Rattle.flat_model.proofs.Maps.{on_err_any}
+use Rattle.fault_entry.specs.anon_slots.Slots.{count_at}
+use Rattle.fault_entry.proofs.flat_model.Maps.{on_err_any}
 use Rattle.mmap_calls.specs.Calls.{IsDoneAtOnce}
-use Rattle.seg_vn.specs.Serves.{Serves}
-use Rattle.vm_world.specs.CallSteps.{StaysAlive}
-use Rattle.vm_world.specs.FlatMemory.{Memory}
-use Rattle.vm_world.specs.MemoryFits.{MemoryFits}
-use Rattle.vm_world.specs.Segments.{Spaces}
-use Rattle.vm_world.specs.State.{KernelState}
-use Rattle.vm_world.specs.World.{world_seen}
+use Rattle.fault_entry.specs.seg_vn.Serves.{Serves}
+use Rattle.fault_entry.specs.vm_world.CallSteps.{StaysAlive}
+use Rattle.fault_entry.specs.vm_world.FlatMemory.{Memory}
+use Rattle.fault_entry.specs.vm_world.MemoryFits.{MemoryFits}
+use Rattle.fault_entry.specs.vm_world.Segments.{Spaces}
+use Rattle.fault_entry.specs.vm_world.State.{KernelState}
+use Rattle.fault_entry.specs.vm_world.World.{world_seen}
 use Rattle.vm_core.specs.Calls.{IsOwnReply, IsShownAfterCall, SlotsAfterCall, IsHitAfterCall, TakesMemory}
 use Rattle.vm_core.specs.State.{EachHasPlaces}
 use Rattle.vm_core.proofs.Served.{AfterMapping, after-mapping, mapping-memory, mapped-own, ok-then, ok-always, err-then, kept-result, same-again}

@@ -1,6 +1,6 @@
 use Rattle.std.proofs.Common.{◌<◌, length, subst}
-use Rattle.flat_model.specs.Told.{entries_of}
-use Rattle.vm_world.specs.State.{KernelState, room_of}
+use Rattle.fault_entry.specs.flat_model.Told.{entries_of}
+use Rattle.fault_entry.specs.vm_world.State.{KernelState, room_of}
 use Rattle.vm_core.proofs.Served.{seat-below}
 use Rattle.vm_core.proofs.state.VmState.seated.Goals as goal
 

@@ -1,5 +1,5 @@
 use Rattle.std.proofs.Common.{sym, subst}
-use Rattle.vm_types.specs.declared.call.Call.{Call}
+use Rattle.fault_entry.specs.vm_types.declared.call.Call.{Call}
 use Rattle.vm_core.specs.Calls.{IsShownAfterCall, SlotsAfterCall, IsHitAfterCall}
 use Rattle.vm_core.proofs.Served.{no-exit}
 use Rattle.vm_core.proofs.state.VmState.serve.Goals as goal

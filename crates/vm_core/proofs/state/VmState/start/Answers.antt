@@ -2,9 +2,9 @@ use Rattle.std.proofs.Common.{ℕ, Bool, List, length, Option, None, refl, sym, 
 use Rattle.std.proofs.lemmas.List.{length-replicate}
 use Rattle.std.specs.Prelude.{option_map}
 use Rattle.std.specs.FinSet as set
-use Rattle.anon_slots.specs.Slots.{AnonSlotsSeen}
-use Rattle.page_store.specs.Bays.{pairs_seen, AreNumbers}
-use Rattle.vm_world.proofs.Openings.{opening_law}
+use Rattle.fault_entry.specs.anon_slots.Slots.{AnonSlotsSeen}
+use Rattle.fault_entry.specs.page_store.Bays.{pairs_seen, AreNumbers}
+use Rattle.fault_entry.proofs.vm_world.Openings.{opening_law}
 use Rattle.vm_core.specs.Setup.{HaveCounted}
 use Rattle.vm_core.specs.State.{born_of}
 use Rattle.vm_core.proofs.Starts.{opens, files-fit, disks-fit, have-places, kept-start, same-total, same-numbers, at-replicate}

@@ -1,10 +1,10 @@
 use Rattle.std.proofs.Common.{None, sym, subst}
-use Rattle.flat_model.proofs.Maps.{on_err_any}
-use Rattle.vm_types.specs.declared.call.Call.{Call}
-use Rattle.vm_world.specs.Events.{IsEvent}
-use Rattle.vm_world.specs.State.{KernelState}
-use Rattle.vm_world.proofs.Told.{event_law}
-use Rattle.seg_vn.specs.declared.attempt.Attempt.{Attempt}
+use Rattle.fault_entry.proofs.flat_model.Maps.{on_err_any}
+use Rattle.fault_entry.specs.vm_types.declared.call.Call.{Call}
+use Rattle.fault_entry.specs.vm_world.Events.{IsEvent}
+use Rattle.fault_entry.specs.vm_world.State.{KernelState}
+use Rattle.fault_entry.proofs.vm_world.Told.{event_law}
+use Rattle.fault_entry.specs.seg_vn.declared.attempt.Attempt.{Attempt}
 use Rattle.vm_core.specs.Calls.{IsShownAfterCall, IsHitAfterCall, TakesMemory}
 use Rattle.vm_core.proofs.Served.{Tries, WasServed, access-own, no-access, no-fork, ok-always, tries}
 use Rattle.vm_core.proofs.state.VmState.try_call.Given.{Over}

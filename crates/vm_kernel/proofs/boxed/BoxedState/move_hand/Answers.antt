@@ -1,6 +1,6 @@
 use Rattle.std.proofs.Common.{◌≡◌, ◌<◌, None, length, sym, ◌∙◌, subst}
 use Rattle.vm_core.specs.Fits.{FitsAt}
-use Rattle.vm_world.specs.State.{KernelState}
+use Rattle.vm_core.specs.vm_world.State.{KernelState}
 use Rattle.vm_kernel.proofs.boxed.BoxedState.move_hand.Goals as goal
 
 pub move_hand-requires : goal.move_hand-requires

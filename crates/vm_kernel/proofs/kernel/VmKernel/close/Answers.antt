@@ -1,7 +1,7 @@
 use Rattle.std.proofs.Common.{◌≡◌, None, map, replicate, sym, ap, subst}
 use Rattle.std.specs.List.{All}
 use Rattle.kernel_lock.specs.Seats.{HasAll}
-use Rattle.vm_world.specs.State.{KernelState}
+use Rattle.vm_core.specs.vm_world.State.{KernelState}
 use Rattle.vm_kernel.specs.Callers.{KernelSeen, CallerSeen, IsCallerOf, caller_part}
 use Rattle.vm_kernel.specs.Since.{IsSinceOpening}
 use Rattle.vm_kernel.proofs.Opened.{all-parts}

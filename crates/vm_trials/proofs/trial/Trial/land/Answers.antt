@@ -1,5 +1,5 @@
 use Rattle.std.proofs.Common.{Option, Some, sym, refl, subst, ◌∙◌}
-use Rattle.vm_world.specs.State.{Sent, Caller}
+use Rattle.seg_ops.specs.vm_world.State.{Sent, Caller}
 use Rattle.vm_core.specs.Fits.{FitsAt}
 use Rattle.vm_core.specs.Flights.{IsBack, EndsWith}
 use Rattle.vm_trials.specs.Trials.{trip_sent, IsTrialState}

@@ -1,5 +1,5 @@
 use Rattle.std.proofs.Common.{◌+◌, add-one, ap, arith}
-use Rattle.vm_world.specs.State.{seat_of}
+use Rattle.seg_ops.specs.vm_world.State.{seat_of}
 use Rattle.vm_trials.proofs.TrialLemmas.{trial-at, trial-answered}
 use Rattle.vm_trials.proofs.trial.Trial.try_call.Goals as goal
 

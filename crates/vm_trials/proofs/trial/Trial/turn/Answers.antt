@@ -1,5 +1,5 @@
 use Rattle.std.proofs.Common.{ap, arith}
-use Rattle.vm_world.specs.State.{KernelState}
+use Rattle.seg_ops.specs.vm_world.State.{KernelState}
 use Rattle.vm_trials.proofs.TrialLemmas.{trial-at, trial-same}
 use Rattle.vm_trials.proofs.trial.Trial.turn.Goals as goal
 
