@@ -1,7 +1,7 @@
 //! Transfers that begin: what goes out with a flight.
 ghost use Rattle.std.specs.Prelude.{◌≡◌, ◌<◌, ◌≤◌, ℕ, length, None, Some, IsFalse, IsTrue, IsSome};
 ghost use Rattle.page_store.specs.block_device.DiskSeen.{DiskSeen};
-ghost use Rattle.vm_world.specs.hat_layer.Pool.{bits_of, drop_frame};
+ghost use Rattle.vm_world.specs.hat_layer.Pool.{drop_frame};
 ghost use Rattle.page_store.specs.page_hash.Names.{find};
 ghost use Rattle.page_store.specs.Bays.{bay_at, home};
 ghost use Rattle.page_store.specs.Flight.{note_of};
@@ -14,12 +14,12 @@ ghost use Rattle.vm_world.specs.vnode_files.Files.{vnode_at};
 ghost use Rattle.vm_world.specs.vnode_files.Grow.{page_count};
 ghost use Rattle.vm_world.specs.vnode_files.Vnode.{block_at, is_blank};
 ghost use Rattle.vm_world.specs.Wants.{IsDirtyPage, MayReadIn};
-ghost use Rattle.vm_world.specs.Words.{IsFit, KeepsEveryPage, OnlyStoreAndHat, OnlyStoreAndTails, OnlySlotsAndFiles};
+ghost use Rattle.vm_world.specs.Words.{IsFit, KeepsEveryPage, OnlyStoreAndHat, OnlyStoreAndTails, OnlySlotsAndFiles, SameMaps, SameMapsAndTails};
 ghost use Rattle.vm_world.specs.World.{world_seen, world_table, file_blocks, is_unpushed, page_exists};
 ghost use Rattle.seg_ops.specs.Flights.{CanSend, IsUnloaded, BeginsFor, store_synced, places_pushed};
 ghost use Rattle.seg_ops.specs.Frames.{TakesNextFrame, SendsButNext};
 ghost use Rattle.seg_ops.specs.Marks.{files_pushed, slots_pushed};
-ghost use Rattle.seg_ops.specs.Steps.{with_bits_gathered};
+ghost use Rattle.seg_ops.specs.Steps.{store_gathered};
 
 use crate::rooms::sync;
 use crate::tables::add_bits;
@@ -64,8 +64,7 @@ fn unload<D: Disk>(world: &mut World<D>, frame: u32)
     requires frame { frame < length world.old.store.frames }
     requires unlisted { ¬ IsListedFrame world.old.store frame }
     requires fits { IsFit world.old }
-    ensures store { world.new.store
-        ≡ with_bits_gathered world.old.store frame (bits_of frame world.old.hat.places) }
+    ensures store { world.new.store ≡ store_gathered world.old frame }
     ensures places { world.new.hat.places ≡ drop_frame frame world.old.hat.places }
     // What stays.
     ensures rest { OnlyStoreAndHat world.old world.new }
@@ -81,8 +80,7 @@ fn gather_for_push<D: Disk>(world: &mut World<D>, frame: u32)
     requires frame { frame < length world.old.store.frames }
     requires unlisted { ¬ IsListedFrame world.old.store frame }
     requires fits { IsFit world.old }
-    ensures store { world.new.store
-        ≡ with_bits_gathered world.old.store frame (bits_of frame world.old.hat.places) }
+    ensures store { world.new.store ≡ store_gathered world.old frame }
     ensures places { world.new.hat.places
         ≡ places_pushed (next_frame world.old.store) (Some frame) world.old.hat.places }
     // What stays.
@@ -109,12 +107,7 @@ fn prepare_push<D: Disk>(world: &mut World<D>, name: PageName)
     ensures anon { world.new.anon ≡ slots_pushed world.old.anon name }
     ensures ready { CanSend (world_seen world.new) (Plan.Push name) }
     // What stays.
-    ensures rest { world.new ≡ record world.old {
-      store = world.new.store;
-      anon = world.new.anon;
-      hat = world.new.hat;
-      files = world.new.files;
-    } }
+    ensures rest { SameMapsAndTails world.old world.new }
     ensures keeps { KeepsEveryPage world.old world.new }
 {
     let Residence::Home(frame) = world.store.resident(name) else {
@@ -226,13 +219,7 @@ pub fn begin_push<D: Disk>(world: &mut World<D>, seat: u32, name: PageName) -> F
     // What the snapshot's frame held.
     ensures taken { TakesNextFrame world.old world.new }
     // What stays.
-    ensures rest { world.new ≡ record world.old {
-      store = world.new.store;
-      anon = world.new.anon;
-      hat = world.new.hat;
-      files = world.new.files;
-      pending = world.new.pending;
-    } }
+    ensures rest { SameMaps world.old world.new }
     ensures pages { SendsButNext world.old world.new seat (note_of result) }
 {
     prepare_push(world, name);

@@ -14,9 +14,9 @@ pub mod Modifying
 pub mod FilePlaces
 pub mod Faulted
 pub mod SlotsDue
-pub mod AnyFaults
-pub mod AnyPlaces
-pub mod AnySteps
+pub mod ServedFaults
+pub mod FaultPlaces
+pub mod FaultSteps
 mod Copies
 mod CopySteps
 pub mod PlacesShown

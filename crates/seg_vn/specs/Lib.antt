@@ -6,7 +6,7 @@ pub mod Leaves
 pub mod Serves
 pub mod Brings
 pub mod Shown
-pub mod AnyPlaces
+pub mod FaultPlaces
 pub mod Cuts
 pub mod Copied
 pub mod Protections

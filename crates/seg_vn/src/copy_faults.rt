@@ -12,11 +12,12 @@ ghost use Rattle.seg_ops.specs.vm_world.Segments.{Spaces, Spot};
 ghost use Rattle.seg_ops.specs.vm_world.Serving.{ModifiesNone};
 ghost use Rattle.seg_ops.specs.vm_world.Words.{memory, Fits, IsFit, IsKnown, OneIsHome, OneIsHomeBeside, TwoAreHome, OnlyFrames, SameFiles, SameFilesAndHat};
 ghost use Rattle.seg_ops.specs.vm_world.World.{world_seen, slot_name, slot_in, is_unpushed, page_exists};
-ghost use Rattle.seg_vn.specs.AnyPlaces.{CopyPlace, GetsOwn, OwnSpot, ShowsZeros, TakesNext};
+ghost use Rattle.seg_vn.specs.FaultPlaces.{CopyPlace, GetsOwn, OwnSpot, ShowsZeros, TakesNext};
 ghost use Rattle.seg_ops.specs.Faults.{FaultServed};
 ghost use Rattle.seg_ops.specs.Owners.{IsOwned};
+ghost use Rattle.seg_ops.specs.Rooms.{KeepsUnlisted, KeepsAbsent, ListsNoMore};
 
-use crate::any_pages::is_unpushed;
+use crate::brought::is_unpushed;
 use crate::segment::load_page;
 use seg_ops::{
     Disk, Fault, Hold, PageName, Plan, Residence, SWAP_OBJECT, Wants, World, ask, copy_slot,
@@ -84,15 +85,9 @@ fn clear_way<D: Disk>(world: &mut World<D>, space: u32, page: u32)
         → TakesNext (memory world.old spaces) (world_seen world.new) world.old.pending
         world.new.pending }
     // What stays.
-    ensures homes { (page : PageName) (frame : ℕ)
-        → residence world.old.store page ≡ Residence.Home frame
-        → ¬ IsListedFrame world.old.store frame
-        → residence world.new.store page ≡ Residence.Home frame }
-    ensures absent { (page : PageName)
-        → residence world.old.store page ≡ Residence.Absent
-        → residence world.new.store page ≡ Residence.Absent }
-    ensures lists { (frame : ℕ) → IsListedFrame world.new.store frame
-        → IsListedFrame world.old.store frame }
+    ensures homes { KeepsUnlisted world.old.store world.new.store }
+    ensures absent { KeepsAbsent world.old.store world.new.store }
+    ensures lists { ListsNoMore world.old.store world.new.store }
     ensures modified { ModifiesNone (world_seen world.old) (world_seen world.new) }
     ensures rest { OnlyFrames world.old world.new }
 {

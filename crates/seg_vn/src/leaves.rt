@@ -7,12 +7,12 @@ ghost use Rattle.seg_ops.specs.anon_slots.Slots.{slots_in_use};
 ghost use Rattle.seg_ops.specs.flat_model.Mapping.{without_pages};
 ghost use Rattle.seg_ops.specs.vm_world.MapSteps.{maps_released, places_released};
 ghost use Rattle.seg_ops.specs.vm_world.Segments.{Spaces};
-ghost use Rattle.seg_ops.specs.vm_world.Words.{memory, OnlyAnonymous, SameFilesAndTails};
+ghost use Rattle.seg_ops.specs.vm_world.Words.{memory, OnlyAnonymous, SameFilesAndTails, SameFilesHatAndTails};
 ghost use Rattle.seg_ops.specs.vm_world.World.{world_seen};
 ghost use Rattle.seg_ops.specs.vm_world.ZeroObjects.{KnowsZeros, free_number};
 ghost use Rattle.seg_vn.specs.Clears.{ChangesSpace, GivesBack};
 ghost use Rattle.seg_vn.specs.Cuts.{IsPartAt};
-ghost use Rattle.seg_vn.specs.Leaves.{IsUnloadedPart, LosesObject, LosesWithPages};
+ghost use Rattle.seg_vn.specs.Leaves.{IsUnloadedPart, LosesObject, LosesPart};
 
 use crate::segment::VnSeg;
 use seg_ops::{Disk, Object, Segment, World, drop_object, drop_places};
@@ -25,10 +25,7 @@ fn empty_own<D: Disk>(world: &mut World<D>, segment: Segment, space: u32, first:
         → AreEmpty (places_of world.new.maps map) }
     ensures gives { GivesBack (world_seen world.old) (world_seen world.new) }
     ensures rest { OnlyAnonymous world.old world.new }
-    ensures changes { (spaces : Spaces)
-        → IsUnloadedPart (world_seen world.old) spaces space first segment
-        → LosesWithPages space first segment.pages (memory world.old spaces)
-        (memory world.new spaces) }
+    ensures changes { LosesPart world.old world.new space first segment }
 {
     if let Some(map) = segment.own {
         drop_places(world, map, 0, segment.pages);
@@ -48,16 +45,8 @@ fn empty_shown<D: Disk>(world: &mut World<D>, segment: Segment, space: u32, firs
     ensures objects { IsSome (free_number world.old.zeros) → IsSome (free_number world.new.zeros) }
     ensures gives { GivesBack (world_seen world.old) (world_seen world.new) }
     // What stays.
-    ensures rest { world.new ≡ record world.old {
-      store = world.new.store;
-      anon = world.new.anon;
-      maps = world.new.maps;
-      zeros = world.new.zeros;
-    } }
-    ensures changes { (spaces : Spaces)
-        → IsUnloadedPart (world_seen world.old) spaces space first segment
-        → LosesWithPages space first segment.pages (memory world.old spaces)
-        (memory world.new spaces) }
+    ensures rest { SameFilesHatAndTails world.old world.new }
+    ensures changes { LosesPart world.old world.new space first segment }
 {
     let Object::Zero(number) = segment.object else {
         return;

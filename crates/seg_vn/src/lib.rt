@@ -1,17 +1,17 @@
 //! Segments: mappings of files and of zero memory, and the spaces that they make up.
 #![tactic(auto)]
 
-mod any_faults;
-mod any_pages;
-mod any_segments;
 mod attempt;
+mod brought;
 mod clears;
 mod copy_faults;
 mod cuts;
 mod dups;
+mod faults;
 mod leaves;
 mod protections;
 mod segment;
+mod segment_faults;
 mod shown;
 mod spaces;
 mod unmaps;

@@ -8,8 +8,8 @@ use Rattle.seg_ops.specs.vm_world.Segments.{Spot}
 use Rattle.seg_ops.specs.vm_world.World.{world_seen, slot_in}
 use Rattle.seg_ops.proofs.StillSteps.{memory_of}
 use Rattle.seg_ops.specs.Faults.{ServesFault}
-use Rattle.seg_vn.proofs.AnyPlaces.{own-private, own-there, private-has, object-fits}
-use Rattle.seg_vn.proofs.AnySteps.{shown-bare, shows-object}
+use Rattle.seg_vn.proofs.FaultPlaces.{own-private, own-there, private-has, object-fits}
+use Rattle.seg_vn.proofs.FaultSteps.{shown-bare, shows-object}
 use Rattle.seg_vn.proofs.FilePlaces.{either-allowed, write-allowed}
 use Rattle.seg_vn.proofs.segment.VnSeg.fault_empty.Goals as goal
 

@@ -6,8 +6,8 @@ use Rattle.seg_ops.specs.vm_world.Segments.{Spot, object_name}
 use Rattle.seg_ops.specs.vm_world.World.{world_seen, slot_in, slot_name}
 use Rattle.seg_ops.proofs.StillSteps.{memory_of}
 use Rattle.seg_ops.specs.Faults.{ServesFault}
-use Rattle.seg_vn.proofs.AnyPlaces.{place-in, own-private, own-there, not-new}
-use Rattle.seg_vn.proofs.AnySteps.{object-place, shared-in-place, past-serves, shows-object}
+use Rattle.seg_vn.proofs.FaultPlaces.{place-in, own-private, own-there, not-new}
+use Rattle.seg_vn.proofs.FaultSteps.{object-place, shared-in-place, past-serves, shows-object}
 use Rattle.seg_vn.proofs.FilePlaces.{write-allowed}
 use Rattle.seg_vn.proofs.segment.VnSeg.fault_object.Goals as goal
 

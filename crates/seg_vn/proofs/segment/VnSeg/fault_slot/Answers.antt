@@ -10,8 +10,8 @@ use Rattle.seg_ops.proofs.vm_world.FlatWhole.{some-inj}
 use Rattle.seg_ops.proofs.SlotMemory.{lt-used}
 use Rattle.seg_ops.proofs.StillSteps.{memory_of}
 use Rattle.seg_ops.specs.Faults.{ServesFault}
-use Rattle.seg_vn.proofs.AnyPlaces.{own-private}
-use Rattle.seg_vn.proofs.AnySteps.{own-shown}
+use Rattle.seg_vn.proofs.FaultPlaces.{own-private}
+use Rattle.seg_vn.proofs.FaultSteps.{own-shown}
 use Rattle.seg_vn.proofs.FilePlaces.{either-allowed, write-allowed}
 use Rattle.seg_vn.proofs.segment.VnSeg.fault_slot.Given.{Over}
 use Rattle.seg_vn.proofs.segment.VnSeg.fault_slot.Goals.{In-Some}

@@ -6,8 +6,8 @@ ghost use Rattle.seg_ops.specs.vm_world.World.{world_seen};
 ghost use Rattle.seg_ops.specs.Faults.{FaultServed, FaultServedAt, IsAllowed, IsFitAt};
 ghost use Rattle.seg_vn.specs.Shown.{ZerosPlace};
 
-use crate::any_faults::{fault_page, fault_zeros};
 use crate::copy_faults::{fault_copy, own_zeros};
+use crate::faults::{fault_page, fault_zeros};
 use crate::segment::VnSeg;
 use crate::shown::Shown;
 use seg_ops::{Disk, Fault, Kind, PageName, SWAP_OBJECT, Wants, World};
