@@ -1,6 +1,6 @@
 -- What holds of each part stays so, once a part goes, comes or is cut; and where a part is found.
-use Rattle.std.proofs.Common.{◌≡◌, ℕ, ◌+◌, ◌-◌, ◌<◌, ◌≤◌, true, cond, Option, Some, None, List, [], ◌∷◌, refl, sym, ◌∙◌, arith}
-use Rattle.std.specs.Prelude.{nat_lt, nat_le, ◌&&◌, All, IsSome}
+use Rattle.std.proofs.Common.{◌≡◌, ℕ, ◌+◌, ◌-◌, ◌<◌, ◌≤◌, true, cond, Some, None, List, [], ◌∷◌, arith}
+use Rattle.std.specs.Prelude.{nat_lt, nat_le, ◌&&◌, All}
 use Rattle.std.proofs.lemmas.Bool.Decides.{nat_tests}
 use Rattle.std.proofs.lemmas.List.Elements.{All-cons, All-head, All-tail}
 use Rattle.addr_space.specs.Space.{Part, part, has, piece_at, part_at, begins, with_new_part, cut_at, without_part, with_new_piece, upper_part, IsInOrder, FindsLast}
@@ -70,14 +70,6 @@ module _ {T : Type 0} where
   begins-found low (r ∷ rs) page p o e =
       let low = r.first + r.pages in let found = begins-found low rs page p o.1 in
       grind (arith, nat_tests, found, found-in low rs page p o.1)
-
-  -- so where a part begins, one is found
-  pub begun-there : (ps : List (Part T)) (k : ℕ) → IsInOrder 1 ps → IsSome (begins ps k) → part_at ps k ≡ None → ⊥
-  begun-there ps k order some none = by_part (begins ps k) refl some
-    where
-      by_part : (o : Option (Part T)) → begins ps k ≡ o → IsSome o → ⊥
-      by_part None e s = cc
-      by_part (Some x) e s = let d : Some x ≡ None = sym (begins-found 1 ps k x order e) ∙ none in cc
 
   pub found-begins : (low : ℕ) (ps : List (Part T)) (q : ℕ) (p : Part T) → IsInOrder low ps
       → part_at ps q ≡ Some p → begins ps p.first ≡ Some p

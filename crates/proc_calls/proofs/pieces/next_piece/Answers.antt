@@ -1,6 +1,6 @@
 use Rattle.std.proofs.Common.{sym}
 use Rattle.seg_vn.specs.addr_space.Space.{part}
-use Rattle.seg_vn.proofs.addr_space.PartLists.{begun-there}
+use Rattle.seg_vn.proofs.vm_world.Spots.{begun-there}
 use Rattle.proc_calls.proofs.PiecesFrom.{is-next, match-none, none-from}
 use Rattle.proc_calls.proofs.pieces.next_piece.Goals as goal
 
