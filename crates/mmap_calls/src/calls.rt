@@ -1,13 +1,12 @@
 //! What calls that change mappings are answered.
-ghost use Rattle.std.specs.Prelude.{◌≡◌, ◌≤◌, ℕ, IfOk, OnErr, IsSome, List, Option};
+ghost use Rattle.std.specs.Prelude.{◌≡◌, ℕ, IfOk, OnErr, IsSome, List, Option};
 ghost use Rattle.std.specs.FinMap as finite;
-ghost use Rattle.seg_vn.specs.anon_slots.Slots.{count_at};
 ghost use Rattle.seg_vn.specs.vm_types.WellFormed.{IsPlace, IsWellFormed};
 ghost use Rattle.seg_vn.specs.vm_world.Words.{Fits, SameFilesAndTails, memory};
-ghost use Rattle.seg_vn.specs.vm_world.ZeroObjects.{AreSameZeros, KnowsZeros};
+ghost use Rattle.seg_vn.specs.vm_world.ZeroObjects.{KnowsZeros};
 ghost use Rattle.seg_vn.specs.Clears.{MayBeAlive};
 ghost use Rattle.seg_vn.specs.Serves.{Serves};
-ghost use Rattle.mmap_calls.specs.Answers.{IsAnswered};
+ghost use Rattle.mmap_calls.specs.Answers.{CountsFall, IsAnswered, OnlyFreesNumbers};
 ghost use Rattle.mmap_calls.specs.Calls.{IsDoneAtOnce, IsMappingCall};
 ghost use Rattle.mmap_calls.specs.Refusals.{IsMapRequest, placed_call};
 
@@ -32,12 +31,9 @@ fn map_placed<D: Disk>(
     requires fits { MayBeAlive world.old process space.old.parts }
     ensures done { IfOk result (IsAnswered world.old world.new process
         space.old.parts space.new.parts (placed_call place wanted.now)) }
-    ensures fall { IfOk result (λ _. (slot : ℕ)
-        → count_at world.new.anon slot ≤ count_at world.old.anon slot) }
+    ensures fall { IfOk result (λ _. CountsFall world.old world.new) }
     // Where memory is wanting nothing changed, but that a number of a zero object may be free.
-    ensures err { OnErr result (AreSameZeros world.old.zeros world.new.zeros
-        × (world.new ≡ record world.old { zeros = world.new.zeros })
-        × (space.new.parts ≡ space.old.parts)) }
+    ensures err { OnErr result (OnlyFreesNumbers world.old world.new space.old.parts space.new.parts) }
     // What stays.
     ensures rest { SameFilesAndTails world.old world.new }
 {
@@ -59,12 +55,9 @@ fn answer<D: Disk>(
     requires fits { MayBeAlive world.old process space.old.parts }
     ensures done { IfOk result (IsAnswered world.old world.new process
         space.old.parts space.new.parts call.now) }
-    ensures fall { IfOk result (λ _. (slot : ℕ)
-        → count_at world.new.anon slot ≤ count_at world.old.anon slot) }
+    ensures fall { IfOk result (λ _. CountsFall world.old world.new) }
     // Where memory is wanting nothing changed, but that a number of a zero object may be free.
-    ensures err { OnErr result (AreSameZeros world.old.zeros world.new.zeros
-        × (world.new ≡ record world.old { zeros = world.new.zeros })
-        × (space.new.parts ≡ space.old.parts)) }
+    ensures err { OnErr result (OnlyFreesNumbers world.old world.new space.old.parts space.new.parts) }
     // What stays.
     ensures rest { SameFilesAndTails world.old world.new }
 {
@@ -113,8 +106,7 @@ pub fn attempt<D: Disk>(
         (memory world.old spaces.old.spaces) (memory world.new spaces.new.spaces)
         world.old.pending world.new.pending calls process call.now answer) }
     ensures answer { IfOk result IsDoneAtOnce }
-    ensures fall { IfOk result (λ answer. (slot : ℕ)
-        → count_at world.new.anon slot ≤ count_at world.old.anon slot) }
+    ensures fall { IfOk result (λ _. CountsFall world.old world.new) }
     ensures zeros { KnowsZeros world.new.zeros spaces.new.spaces }
     ensures alive { IsSome (finite.get spaces.new.spaces process) }
     // Where memory is wanting nothing changed, but that a number of a zero object may be free.

@@ -1,7 +1,7 @@
 -- Words on the place that a private page owns alone. Public clauses cite this.
-use Rattle.std.specs.Prelude.{◌≡◌, ◌<◌, ℕ, List, Option, None, slice_set}
+use Rattle.std.specs.Prelude.{◌≡◌, ◌<◌, ◌-◌, ℕ, List, Option, None, slice_set}
 use Rattle.vm_world.specs.anon_map.Maps.{Map, places_of, with_places}
-use Rattle.vm_world.specs.anon_slots.Slots.{count_at}
+use Rattle.vm_world.specs.anon_slots.Slots.{AnonSlotsSeen, count_at, with_count}
 use Rattle.page_store.specs.page_hash.declared.PageName.{PageName}
 use Rattle.page_store.specs.Seen.{residence}
 use Rattle.vm_world.specs.hat_layer.Pool.{translation_at}
@@ -32,6 +32,10 @@ OwnerLoses old new map place = OwnerBecomes old new map place (λ p q F. without
 abbrev pub OwnerLeaves : {D : Type 0} → rust.World D → rust.World D → ℕ → ℕ → ℕ → Type 0
 OwnerLeaves old new map place slot = (spaces : Spaces) (p q : ℕ) (x : Spot) → Fits old spaces → OwnsAlone spaces p q map place x → translation_at old.hat.places p q ≡ None
     → EmptiesPlace (world_seen old) (world_seen new) spaces map place slot
+
+-- The slots with one counted once less.
+abbrev pub with_one_less : AnonSlotsSeen → ℕ → AnonSlotsSeen
+with_one_less anon slot = with_count anon slot (count_at anon slot - 1)
 
 -- The anon maps with one place of a map set.
 abbrev pub with_place : List (Option Map) → ℕ → ℕ → Option ℕ → List (Option Map)

@@ -1,5 +1,5 @@
 //! Places of anon maps that are emptied.
-ghost use Rattle.std.specs.Prelude.{◌≡◌, ◌≢◌, ◌<◌, ◌-◌, ℕ, length, Some, None};
+ghost use Rattle.std.specs.Prelude.{◌≡◌, ◌≢◌, ◌<◌, ℕ, length, Some, None};
 ghost use Rattle.page_store.specs.page_hash.declared.PageName.{PageName};
 ghost use Rattle.page_store.specs.Seen.{residence};
 ghost use Rattle.page_store.specs.Steps.{after_abort};
@@ -7,11 +7,11 @@ ghost use Rattle.vm_world.specs.anon_map.Maps.{IsMapThere, places_of};
 ghost use Rattle.vm_world.specs.anon_slots.Slots.{count_at, with_count};
 ghost use Rattle.vm_world.specs.Segments.{Spaces};
 ghost use Rattle.vm_world.specs.Serving.{ModifiesNone};
-ghost use Rattle.vm_world.specs.Words.{memory, Fits, IsFit, OnlySlotsAndMaps, OnlyAnonymous};
+ghost use Rattle.vm_world.specs.Words.{Fits, IsFit, OnlySlotsAndMaps, OnlyAnonymous};
 ghost use Rattle.vm_world.specs.World.{world_seen, slot_name, slot_in};
 ghost use Rattle.seg_ops.specs.Empties.{EmptiesPlace, IsUnloadedZero, LeavesSlot};
 ghost use Rattle.seg_ops.specs.OwnPages.{OwnPagesLaw, OwnShownLaw};
-ghost use Rattle.seg_ops.specs.Owners.{with_place, OwnerLoses, OwnerLeaves};
+ghost use Rattle.seg_ops.specs.Owners.{with_one_less, with_place, OwnerLoses, OwnerLeaves};
 
 use page_store::{Disk, PageName, Residence, SWAP_OBJECT};
 use vm_world::World;
@@ -23,8 +23,7 @@ fn take_out<D: Disk>(world: &mut World<D>, map: u32, place: u32, slot: u32)
     requires holds { slot_in world.old.maps map place ≡ Some slot }
     requires fits { IsFit world.old }
     // The slot is counted once less, and the place is empty.
-    ensures anon { world.new.anon
-        ≡ with_count world.old.anon slot (count_at world.old.anon slot - 1) }
+    ensures anon { world.new.anon ≡ with_one_less world.old.anon slot }
     ensures maps { world.new.maps ≡ with_place world.old.maps map place None }
     ensures leaves { LeavesSlot world.old.anon world.new.anon world.old.maps
         world.new.maps map place slot }
@@ -44,8 +43,7 @@ pub fn leave_slot<D: Disk>(world: &mut World<D>, map: u32, place: u32, slot: u32
     requires shared { 1 < count_at world.old.anon slot }
     requires fits { IsFit world.old }
     // The slot is counted once less, and the place is empty.
-    ensures anon { world.new.anon
-        ≡ with_count world.old.anon slot (count_at world.old.anon slot - 1) }
+    ensures anon { world.new.anon ≡ with_one_less world.old.anon slot }
     ensures maps { world.new.maps ≡ with_place world.old.maps map place None }
     // What stays.
     ensures rest { OnlySlotsAndMaps world.old world.new }

@@ -1,5 +1,6 @@
 pub mod Segments
 pub mod Spaces
+pub mod Words
 pub mod Lends
 pub mod Clears
 pub mod Leaves

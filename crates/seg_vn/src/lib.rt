@@ -20,9 +20,9 @@ pub use attempt::Attempt;
 pub use clears::clear;
 pub use seg_ops::{
     AnonMaps, AnonSlots, Call, Disk, DiskFault, Entry, Errno, Fault, Files, Flight, Hat, Hold,
-    Kind, Object, PAGE_SIZE, PageName, Pick, Place, Plan, Prot, Ranges, Reply, Residence, Signal,
-    Store, Wants, World, ZeroObjects, ask, begin_push, begin_read, end_flight, evict, frame_for,
-    is_range, page_of, pages_in, part_file, read, sync, write, write_block,
+    Kind, Object, PAGE_SIZE, PageName, Pick, Place, Plan, Prot, Ranges, Reply, Residence, Segment,
+    Signal, Store, Wants, World, ZeroObjects, ask, begin_push, begin_read, end_flight, evict,
+    frame_for, is_range, page_of, pages_in, part_file, read, sync, write, write_block,
 };
 pub use segment::VnSeg;
 pub use spaces::Spaces;

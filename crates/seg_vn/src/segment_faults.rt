@@ -1,34 +1,39 @@
 //! Faults of segments of any mapping.
-ghost use Rattle.std.specs.Prelude.{◌≡◌, ◌≤◌, ◌<◌, ◌-◌, None, Some, if◌then◌else◌};
-ghost use Rattle.seg_ops.specs.vm_world.Segments.{Spaces, spot_at, own_slot};
-ghost use Rattle.seg_ops.specs.vm_world.Words.{Fits, IsKnown, TwoAreHome, SameFiles};
-ghost use Rattle.seg_ops.specs.vm_world.World.{world_seen};
-ghost use Rattle.seg_ops.specs.Faults.{FaultServed, FaultServedAt, IsAllowed, IsFitAt};
-ghost use Rattle.seg_vn.specs.Shown.{ZerosPlace};
+ghost use Rattle.std.specs.Prelude.{◌≡◌, ◌≤◌, ◌<◌, ◌-◌, None, Some};
+ghost use Rattle.seg_ops.specs.vm_world.Segments.{own_slot};
+ghost use Rattle.seg_ops.specs.vm_world.Words.{IsKnown, TwoAreHome, SameFiles};
+ghost use Rattle.seg_ops.specs.Faults.{FaultServedAt, IsAllowed, IsFitAt};
+ghost use Rattle.seg_vn.specs.FaultPlaces.{IsFaultAt, ServesAt, spot_of};
 
-use crate::copy_faults::{fault_copy, own_zeros};
+use crate::copy_faults::{OwnPlace, fault_copy, own_zeros};
 use crate::faults::{fault_page, fault_zeros};
 use crate::segment::VnSeg;
 use crate::shown::Shown;
 use seg_ops::{Disk, Fault, Kind, PageName, SWAP_OBJECT, Wants, World};
+
+/// A fault at a page of a process, which is this place of its segment; and whether it is a store's.
+#[derive(Clone, Copy)]
+pub(crate) struct PageFault {
+    pub(crate) process: u32,
+    pub(crate) page: u32,
+    pub(crate) place: u32,
+    pub(crate) write: bool,
+}
 
 impl VnSeg {
     /// A fault at a place that has a slot of its own.
     fn fault_slot<D: Disk>(
         &self,
         world: &mut World<D>,
-        space: u32,
-        page: u32,
-        at: u32,
+        fault: PageFault,
         slot: u32,
-        write: bool,
     ) -> Result<Fault, Wants>
-        requires allowed { IsAllowed write self.now.prot }
-        requires own { own_slot world.old.maps (self.now, at) ≡ Some slot }
+        requires allowed { IsAllowed fault.write self.now.prot }
+        requires own { own_slot world.old.maps (spot_of self.now fault) ≡ Some slot }
         requires home { TwoAreHome world.old.store }
-        requires fits { IsFitAt world.old space page (self.now, at) }
+        requires fits { IsFaultAt world.old self.now fault }
         requires noted { IsKnown world.old }
-        ensures serves { FaultServedAt world.old world.new space page (self.now, at) write result }
+        ensures serves { ServesAt world.old world.new self.now fault result }
         // What stays.
         ensures rest { SameFiles world.old world.new }
     {
@@ -38,83 +43,98 @@ impl VnSeg {
             unreachable!();
         };
         if world.anon.count(slot) == 1 {
-            return fault_page(world, space, page, name, self.prot().can_write());
+            return fault_page(
+                world,
+                fault.process,
+                fault.page,
+                name,
+                self.prot().can_write(),
+            );
         }
-        if !write {
-            return fault_page(world, space, page, name, false);
+        if !fault.write {
+            return fault_page(world, fault.process, fault.page, name, false);
         }
-        fault_copy(world, space, page, name, map, at, Some(slot))
+        let own = OwnPlace {
+            map,
+            place: fault.place,
+            slot: Some(slot),
+        };
+        fault_copy(world, fault.process, fault.page, name, own)
     }
 
     /// A fault at a place that shows zeros, for which this place of this map is.
     fn fault_empty<D: Disk>(
         &self,
         world: &mut World<D>,
-        space: u32,
-        page: u32,
-        at: u32,
+        fault: PageFault,
         map: u32,
         place: u32,
-        write: bool,
     ) -> Result<Fault, Wants>
-        requires allowed { IsAllowed write self.now.prot }
-        requires bare { own_slot world.old.maps (self.now, at) ≡ None }
+        requires allowed { IsAllowed fault.write self.now.prot }
+        requires bare { own_slot world.old.maps (spot_of self.now fault) ≡ None }
         requires home { TwoAreHome world.old.store }
-        requires fits { (spaces : Spaces) × Fits world.old spaces
-            × (spot_at spaces space page ≡ Some (self.now, at))
-            × ZerosPlace (world_seen world.old) spaces (self.now, at) map place }
+        requires fits { IsZerosAt world.old self.now fault map place }
         requires noted { IsKnown world.old }
-        ensures serves { (spaces : Spaces) → Fits world.old spaces
-            → spot_at spaces space page ≡ Some (self.now, at)
-            → ZerosPlace (world_seen world.old) spaces (self.now, at) map place
-            → FaultServed world.old world.new spaces space page (self.now, at) write result }
+        ensures serves { ServesZeros world.old world.new self.now fault map place result }
         // What stays.
         ensures rest { SameFiles world.old world.new }
     {
         let writable = self.prot().can_write();
         let Some(own) = self.own() else {
-            return fault_zeros(world, space, page, map, place, writable);
+            return fault_zeros(world, fault.process, fault.page, map, place, writable);
         };
         let Some(_shown) = self.shown() else {
-            return fault_zeros(world, space, page, map, place, writable);
+            return fault_zeros(world, fault.process, fault.page, map, place, writable);
         };
-        if !write {
-            return fault_zeros(world, space, page, map, place, false);
+        if !fault.write {
+            return fault_zeros(world, fault.process, fault.page, map, place, false);
         }
-        own_zeros(world, space, page, own, at, None)
+        own_zeros(
+            world,
+            fault.process,
+            fault.page,
+            OwnPlace {
+                map: own,
+                place: fault.place,
+                slot: None,
+            },
+        )
     }
 
     /// A fault at a place that has no slot of its own.
-    fn fault_object<D: Disk>(
-        &self,
-        world: &mut World<D>,
-        space: u32,
-        page: u32,
-        at: u32,
-        write: bool,
-    ) -> Result<Fault, Wants>
-        requires allowed { IsAllowed write self.now.prot }
-        requires bare { own_slot world.old.maps (self.now, at) ≡ None }
+    fn fault_object<D: Disk>(&self, world: &mut World<D>, fault: PageFault) -> Result<Fault, Wants>
+        requires allowed { IsAllowed fault.write self.now.prot }
+        requires bare { own_slot world.old.maps (spot_of self.now fault) ≡ None }
         requires home { TwoAreHome world.old.store }
-        requires fits { IsFitAt world.old space page (self.now, at) }
+        requires fits { IsFaultAt world.old self.now fault }
         requires noted { IsKnown world.old }
-        ensures serves { FaultServedAt world.old world.new space page (self.now, at) write result }
+        ensures serves { ServesAt world.old world.new self.now fault result }
         // What stays.
         ensures rest { SameFiles world.old world.new }
     {
         let writable = self.prot().can_write();
-        match self.object_page(world, at) {
+        match self.object_page(world, fault.place) {
             Shown::Past => Ok(Fault::Past),
             Shown::Page(name) => match self.own() {
-                None => fault_page(world, space, page, name, writable),
+                None => fault_page(world, fault.process, fault.page, name, writable),
                 Some(map) => {
-                    if !write {
-                        return fault_page(world, space, page, name, false);
+                    if !fault.write {
+                        return fault_page(world, fault.process, fault.page, name, false);
                     }
-                    fault_copy(world, space, page, name, map, at, None)
+                    fault_copy(
+                        world,
+                        fault.process,
+                        fault.page,
+                        name,
+                        OwnPlace {
+                            map,
+                            place: fault.place,
+                            slot: None,
+                        },
+                    )
                 }
             },
-            Shown::Zeros(map, place) => self.fault_empty(world, space, page, at, map, place, write),
+            Shown::Zeros(map, place) => self.fault_empty(world, fault, map, place),
         }
     }
 
@@ -141,9 +161,15 @@ impl VnSeg {
         ensures rest { SameFiles world.old world.new }
     {
         let at = page - first;
+        let fault = PageFault {
+            process: space,
+            page,
+            place: at,
+            write,
+        };
         match self.own_slot(world, at) {
-            Some(slot) => self.fault_slot(world, space, page, at, slot, write),
-            None => self.fault_object(world, space, page, at, write),
+            Some(slot) => self.fault_slot(world, fault, slot),
+            None => self.fault_object(world, fault),
         }
     }
 }
