@@ -1,4 +1,4 @@
--- What the reply to a call that is done at once says of flat memory. Inside: no public clause cites this.
+-- What the reply to a call that is done at once says of flat memory, and words on what stays. Public clauses cite this.
 use Rattle.std.specs.Prelude.{ℕ, List, ◌≡◌, ◌≤◌}
 use Rattle.std.specs.FinMap as finite
 use Rattle.std.specs.FinSet as set
