@@ -22,8 +22,8 @@ CanSend w (Read name) = MayReadIn w name × IsSome (next_frame w.store)
 CanSend w (Push name) = IsDirtyPage w name × IsFalse (is_unpushed w.files w.anon name)
 
 -- The disk of a page is home, and nobody holds the page.
-abbrev pub IsReady : World → PageName → Type 0
-IsReady w name = Waits w.store name (world_table w name).disk None
+abbrev pub IsPageReady : World → PageName → Type 0
+IsPageReady w name = Waits w.store name (world_table w name).disk None
 
 -- No translation leads to the frame.
 abbrev pub IsUnloaded : List (Option Translation) → ℕ → Type 0

@@ -16,7 +16,7 @@ ghost use Rattle.vm_world.specs.vnode_files.Vnode.{block_at, is_blank};
 ghost use Rattle.vm_world.specs.Wants.{IsDirtyPage, MayReadIn};
 ghost use Rattle.vm_world.specs.Words.{IsFit, KeepsEveryPage, OnlyStoreAndHat, OnlyStoreAndTails, OnlySlotsAndFiles, SameMaps, SameMapsAndTails};
 ghost use Rattle.vm_world.specs.World.{world_seen, world_table, file_blocks, is_unpushed, page_exists};
-ghost use Rattle.seg_ops.specs.Flights.{CanSend, IsReady, IsUnloaded, BeginsFor, store_synced, places_pushed};
+ghost use Rattle.seg_ops.specs.Flights.{CanSend, IsPageReady, IsUnloaded, BeginsFor, store_synced, places_pushed};
 ghost use Rattle.seg_ops.specs.Frames.{TakesNextFrame, SendsButNext};
 ghost use Rattle.seg_ops.specs.Marks.{files_pushed, slots_pushed};
 ghost use Rattle.seg_ops.specs.Steps.{store_gathered};
@@ -168,7 +168,7 @@ fn world_table<D: Disk>(world: &World<D>, name: PageName) -> Place
 #[inline(always)]
 fn send<D: Disk>(world: &mut World<D>, seat: u32, plan: Plan) -> Flight<D>
     requires can { CanSend (world_seen world.old) plan }
-    requires ready { IsReady (world_seen world.old) (plan_page plan) }
+    requires ready { IsPageReady (world_seen world.old) (plan_page plan) }
     requires unloaded { (frame : ℕ) → frame_out plan world.old.store ≡ Some frame
         → IsUnloaded world.old.hat.places frame }
     requires fits { IsFit world.old }
@@ -199,7 +199,7 @@ fn send<D: Disk>(world: &mut World<D>, seat: u32, plan: Plan) -> Flight<D>
 #[inline(always)]
 pub fn begin_push<D: Disk>(world: &mut World<D>, seat: u32, name: PageName) -> Flight<D>
     requires dirty { IsDirtyPage (world_seen world.old) name }
-    requires ready { IsReady (world_seen world.old) name }
+    requires ready { IsPageReady (world_seen world.old) name }
     requires fits { IsFit world.old }
     // The flight, and the store without what went out with it.
     ensures flight { BeginsFor (world_seen world.old) seat (Plan.Push name) result }
@@ -230,7 +230,7 @@ pub fn begin_push<D: Disk>(world: &mut World<D>, seat: u32, name: PageName) -> F
 pub fn begin_read<D: Disk>(world: &mut World<D>, seat: u32, name: PageName) -> Flight<D>
     requires missing { MayReadIn (world_seen world.old) name }
     requires available { IsSome (next_frame world.old.store) }
-    requires ready { IsReady (world_seen world.old) name }
+    requires ready { IsPageReady (world_seen world.old) name }
     requires fits { IsFit world.old }
     // The flight, and the store without what went out with it.
     ensures flight { BeginsFor (world_seen world.old) seat (Plan.Read name) result }

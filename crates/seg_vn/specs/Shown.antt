@@ -28,5 +28,5 @@ ObjectShows w spaces x (Zeros m i) = ZerosPlace w spaces x m i
 ObjectShows w spaces x Past = IsFalse (object_has w x.0.shown (x.0.index + x.1) x.0.object)
 
 -- The world fits where some page of a process is at the place.
-abbrev pub IsShown : {D : Type 0} → rust.World D → Spot → Type 0
-IsShown w x = (spaces : Spaces) × (p : ℕ) × (q : ℕ) × Fits w spaces × (spot_at spaces p q ≡ Some x)
+abbrev pub IsAtSpot : {D : Type 0} → rust.World D → Spot → Type 0
+IsAtSpot w x = (spaces : Spaces) × (p : ℕ) × (q : ℕ) × Fits w spaces × (spot_at spaces p q ≡ Some x)
