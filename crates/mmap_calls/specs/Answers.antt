@@ -45,5 +45,5 @@ NoneModified old new = ModifiesNone (world_seen old) (world_seen new)
 abbrev pub IsUnchanged : {D : Type 0} → rust.World D → rust.World D → List (Part Segment) → List (Part Segment) → Type 0
 IsUnchanged old new parts after = (new ≡ old) × (after ≡ parts)
 
-abbrev pub OnlyFreesNumbers : {D : Type 0} → rust.World D → rust.World D → List (Part Segment) → List (Part Segment) → Type 0
-OnlyFreesNumbers old new parts after = AreSameZeros old.zeros new.zeros × (new ≡ record old { zeros = new.zeros }) × (after ≡ parts)
+abbrev pub OnlyNumbers : {D : Type 0} → rust.World D → rust.World D → List (Part Segment) → List (Part Segment) → Type 0
+OnlyNumbers old new parts after = AreSameZeros old.zeros new.zeros × (new ≡ record old { zeros = new.zeros }) × (after ≡ parts)

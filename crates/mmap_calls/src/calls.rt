@@ -6,7 +6,7 @@ ghost use Rattle.seg_vn.specs.vm_world.Words.{Fits, SameFilesAndTails, memory};
 ghost use Rattle.seg_vn.specs.vm_world.ZeroObjects.{KnowsZeros};
 ghost use Rattle.seg_vn.specs.Clears.{MayBeAlive};
 ghost use Rattle.seg_vn.specs.Serves.{Serves};
-ghost use Rattle.mmap_calls.specs.Answers.{CountsFall, IsAnswered, OnlyFreesNumbers};
+ghost use Rattle.mmap_calls.specs.Answers.{CountsFall, IsAnswered, OnlyNumbers};
 ghost use Rattle.mmap_calls.specs.Calls.{IsDoneAtOnce, IsMappingCall};
 ghost use Rattle.mmap_calls.specs.Refusals.{IsMapRequest, placed_call};
 
@@ -33,7 +33,7 @@ fn map_placed<D: Disk>(
         space.old.parts space.new.parts (placed_call place wanted.now)) }
     ensures fall { IfOk result (λ _. CountsFall world.old world.new) }
     // Where memory is wanting nothing changed, but that a number of a zero object may be free.
-    ensures err { OnErr result (OnlyFreesNumbers world.old world.new space.old.parts space.new.parts) }
+    ensures err { OnErr result (OnlyNumbers world.old world.new space.old.parts space.new.parts) }
     // What stays.
     ensures rest { SameFilesAndTails world.old world.new }
 {
@@ -57,7 +57,7 @@ fn answer<D: Disk>(
         space.old.parts space.new.parts call.now) }
     ensures fall { IfOk result (λ _. CountsFall world.old world.new) }
     // Where memory is wanting nothing changed, but that a number of a zero object may be free.
-    ensures err { OnErr result (OnlyFreesNumbers world.old world.new space.old.parts space.new.parts) }
+    ensures err { OnErr result (OnlyNumbers world.old world.new space.old.parts space.new.parts) }
     // What stays.
     ensures rest { SameFilesAndTails world.old world.new }
 {

@@ -2,7 +2,7 @@
 ghost use Rattle.std.specs.Prelude.{IfOk, OnErr};
 ghost use Rattle.seg_vn.specs.vm_world.Words.{SameFilesAndTails};
 ghost use Rattle.seg_vn.specs.Clears.{MayBeAlive};
-ghost use Rattle.mmap_calls.specs.Answers.{CountsFall, IsAnswered, OnlyFreesNumbers};
+ghost use Rattle.mmap_calls.specs.Answers.{CountsFall, IsAnswered, OnlyNumbers};
 ghost use Rattle.mmap_calls.specs.Refusals.{IsMapRequest, map_any_call};
 
 use crate::maps::map;
@@ -25,7 +25,7 @@ pub(crate) fn map_any<D: Disk>(
         space.new.parts (map_any_call request.now)) }
     ensures fall { IfOk result (λ _. CountsFall world.old world.new) }
     // Where memory is wanting nothing changed, but that a number of a zero object may be free.
-    ensures err { OnErr result (OnlyFreesNumbers world.old world.new space.old.parts space.new.parts) }
+    ensures err { OnErr result (OnlyNumbers world.old world.new space.old.parts space.new.parts) }
     // What stays.
     ensures rest { SameFilesAndTails world.old world.new }
 {

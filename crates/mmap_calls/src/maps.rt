@@ -8,7 +8,7 @@ ghost use Rattle.seg_vn.specs.vm_world.Words.{SameFilesAndTails};
 ghost use Rattle.seg_vn.specs.vm_world.ZeroObjects.{AreSameZeros, free_number};
 ghost use Rattle.seg_vn.specs.Clears.{MayBeAlive, MayBeSpace, SpaceBecomes};
 ghost use Rattle.seg_vn.specs.Words.{OnlyReserves, with_maps_and_reserved};
-ghost use Rattle.mmap_calls.specs.Answers.{CountsFall, IsAnswered, NoneModified, OnlyFreesNumbers};
+ghost use Rattle.mmap_calls.specs.Answers.{CountsFall, IsAnswered, NoneModified, OnlyNumbers};
 ghost use Rattle.mmap_calls.specs.Refusals.{IsMapRequest, IsMappingOf, IsRefused, map_call, map_request, slots_for_map};
 ghost use Rattle.mmap_calls.specs.Rooms.{HasRoomAt, AreMade};
 
@@ -155,7 +155,7 @@ fn replace<D: Disk>(
     ensures fall { IfOk result (λ _. CountsFall world.old world.new) }
     ensures modified { IfOk result (λ _. NoneModified world.old world.new) }
     // Where memory is wanting nothing changed, but that a number of a zero object may be free.
-    ensures err { OnErr result (OnlyFreesNumbers world.old world.new space.old.parts space.new.parts) }
+    ensures err { OnErr result (OnlyNumbers world.old world.new space.old.parts space.new.parts) }
     // What stays.
     ensures rest { SameFilesAndTails world.old world.new }
 {
@@ -196,7 +196,7 @@ pub(crate) fn map<D: Disk>(
         space.new.parts (map_call request.now)) }
     ensures fall { IfOk result (λ _. CountsFall world.old world.new) }
     // Where memory is wanting nothing changed, but that a number of a zero object may be free.
-    ensures err { OnErr result (OnlyFreesNumbers world.old world.new space.old.parts space.new.parts) }
+    ensures err { OnErr result (OnlyNumbers world.old world.new space.old.parts space.new.parts) }
     // What stays.
     ensures rest { SameFilesAndTails world.old world.new }
 {

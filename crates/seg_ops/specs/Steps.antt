@@ -35,8 +35,8 @@ with_dropped_gathered s None = s
 with_dropped_gathered s (Some d) = with_bits_gathered s d.frame (d.referenced, d.modified)
 
 -- A translation is loaded: every other one is as it was, but the one that gave way.
-abbrev pub KeepsOthers : HatSeen → HatSeen → ℕ → ℕ → ℕ → Bool → Type 0
-KeepsOthers old new space page frame writable = (s p : ℕ) → is_of s p (fresh_translation space page frame writable) ≡ false → holds s p (dropped_by_load old space page) ≡ false
+abbrev pub KeepsOtherTranslations : HatSeen → HatSeen → ℕ → ℕ → ℕ → Bool → Type 0
+KeepsOtherTranslations old new space page frame writable = (s p : ℕ) → is_of s p (fresh_translation space page frame writable) ≡ false → holds s p (dropped_by_load old space page) ≡ false
     → translation_at new.places s p ≡ translation_at old.places s p
 
 -- The page of a process has this new translation.

@@ -10,7 +10,7 @@ ghost use Rattle.vm_world.specs.Serving.{ModifiesNone};
 ghost use Rattle.vm_world.specs.TranslationsFit.{TranslationFits};
 ghost use Rattle.vm_world.specs.Words.{Fits, IsFit, KeepsPages, KeepsEveryPage, OnlyStore, OnlyStoreAndHat};
 ghost use Rattle.vm_world.specs.World.{world_seen};
-ghost use Rattle.seg_ops.specs.Steps.{IsLoaded, KeepsOthers, KeepsWhereShown, with_dropped_gathered};
+ghost use Rattle.seg_ops.specs.Steps.{IsLoaded, KeepsOtherTranslations, KeepsWhereShown, with_dropped_gathered};
 
 use crate::tables::gather;
 use page_store::{Disk, PageName, Residence};
@@ -25,7 +25,7 @@ pub fn install<D: Disk>(world: &mut World<D>, space: u32, page: u32, frame: u32,
     ensures store { world.new.store ≡ with_dropped_gathered world.old.store
         (option_map told_of (dropped_by_load world.old.hat space page)) }
     // What stays: every other translation, and the rest of the world.
-    ensures kept { KeepsOthers world.old.hat world.new.hat space page frame writable }
+    ensures kept { KeepsOtherTranslations world.old.hat world.new.hat space page frame writable }
     ensures rest { OnlyStoreAndHat world.old world.new }
     ensures stay { SameResidence world.old.store world.new.store }
     ensures modified { ModifiesNone (world_seen world.old) (world_seen world.new) }
@@ -55,7 +55,7 @@ pub fn show<D: Disk>(
         ≡ with_dropped_gathered (after_reclaim world.old.store name)
         (option_map told_of (dropped_by_load world.old.hat space page)) }
     // What stays: every other translation, and the rest of the world.
-    ensures kept { KeepsOthers world.old.hat world.new.hat space page frame writable }
+    ensures kept { KeepsOtherTranslations world.old.hat world.new.hat space page frame writable }
     ensures rest { OnlyStoreAndHat world.old world.new }
     ensures stay { SameResidence world.old.store world.new.store }
     ensures modified { ModifiesNone (world_seen world.old) (world_seen world.new) }

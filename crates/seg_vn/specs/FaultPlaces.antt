@@ -127,18 +127,18 @@ ServesCopy old new p q own shown answer =
 
 -- The place shows zeros, for which this place of this map is; and what a fault there comes to.
 abbrev pub IsZerosAt : {D : Type 0} → rust.World D → Segment → PageFault → ℕ → ℕ → Type 0
-IsZerosAt w s fault map place = (spaces : Spaces) × Fits w spaces × (spot_at spaces fault.process fault.page ≡ Some (spot_of s fault)) × ZerosPlace (world_seen w) spaces (spot_of s fault) map place
+IsZerosAt w s fault map place = (spaces : Spaces) × Fits w spaces × (spot_at spaces fault.process fault.page ≡ Some (faulted_spot s fault)) × ZerosPlace (world_seen w) spaces (faulted_spot s fault) map place
 
 abbrev pub ServesZeros : {D : Type 0} → rust.World D → rust.World D → Segment → PageFault → ℕ → ℕ → Result Fault Wants → Type 0
-ServesZeros old new s fault map place answer = (spaces : Spaces) → Fits old spaces → spot_at spaces fault.process fault.page ≡ Some (spot_of s fault) → ZerosPlace (world_seen old) spaces (spot_of s fault) map place
-    → FaultServed old new spaces fault.process fault.page (spot_of s fault) fault.write answer
+ServesZeros old new s fault map place answer = (spaces : Spaces) → Fits old spaces → spot_at spaces fault.process fault.page ≡ Some (faulted_spot s fault) → ZerosPlace (world_seen old) spaces (faulted_spot s fault) map place
+    → FaultServed old new spaces fault.process fault.page (faulted_spot s fault) fault.write answer
 
 -- The place of a segment at which a fault is; that the world fits there; and what the fault comes to.
-abbrev pub spot_of : Segment → PageFault → Spot
-spot_of s fault = (s, fault.place)
+abbrev pub faulted_spot : Segment → PageFault → Spot
+faulted_spot s fault = (s, fault.place)
 
 abbrev pub IsFaultAt : {D : Type 0} → rust.World D → Segment → PageFault → Type 0
-IsFaultAt w s fault = IsFitAt w fault.process fault.page (spot_of s fault)
+IsFaultAt w s fault = IsFitAt w fault.process fault.page (faulted_spot s fault)
 
 abbrev pub ServesAt : {D : Type 0} → rust.World D → rust.World D → Segment → PageFault → Result Fault Wants → Type 0
-ServesAt old new s fault answer = FaultServedAt old new fault.process fault.page (spot_of s fault) fault.write answer
+ServesAt old new s fault answer = FaultServedAt old new fault.process fault.page (faulted_spot s fault) fault.write answer

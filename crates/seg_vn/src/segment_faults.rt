@@ -3,7 +3,7 @@ ghost use Rattle.std.specs.Prelude.{◌≡◌, ◌≤◌, ◌<◌, ◌-◌, None
 ghost use Rattle.seg_ops.specs.vm_world.Segments.{own_slot};
 ghost use Rattle.seg_ops.specs.vm_world.Words.{IsKnown, TwoAreHome, SameFiles};
 ghost use Rattle.seg_ops.specs.Faults.{FaultServedAt, IsAllowed, IsFitAt};
-ghost use Rattle.seg_vn.specs.FaultPlaces.{IsFaultAt, ServesAt, spot_of};
+ghost use Rattle.seg_vn.specs.FaultPlaces.{IsFaultAt, ServesAt, faulted_spot};
 
 use crate::copy_faults::{OwnPlace, fault_copy, own_zeros};
 use crate::faults::{fault_page, fault_zeros};
@@ -29,7 +29,7 @@ impl VnSeg {
         slot: u32,
     ) -> Result<Fault, Wants>
         requires allowed { IsAllowed fault.write self.now.prot }
-        requires own { own_slot world.old.maps (spot_of self.now fault) ≡ Some slot }
+        requires own { own_slot world.old.maps (faulted_spot self.now fault) ≡ Some slot }
         requires home { TwoAreHome world.old.store }
         requires fits { IsFaultAt world.old self.now fault }
         requires noted { IsKnown world.old }
@@ -71,7 +71,7 @@ impl VnSeg {
         place: u32,
     ) -> Result<Fault, Wants>
         requires allowed { IsAllowed fault.write self.now.prot }
-        requires bare { own_slot world.old.maps (spot_of self.now fault) ≡ None }
+        requires bare { own_slot world.old.maps (faulted_spot self.now fault) ≡ None }
         requires home { TwoAreHome world.old.store }
         requires fits { IsZerosAt world.old self.now fault map place }
         requires noted { IsKnown world.old }
@@ -104,7 +104,7 @@ impl VnSeg {
     /// A fault at a place that has no slot of its own.
     fn fault_object<D: Disk>(&self, world: &mut World<D>, fault: PageFault) -> Result<Fault, Wants>
         requires allowed { IsAllowed fault.write self.now.prot }
-        requires bare { own_slot world.old.maps (spot_of self.now fault) ≡ None }
+        requires bare { own_slot world.old.maps (faulted_spot self.now fault) ≡ None }
         requires home { TwoAreHome world.old.store }
         requires fits { IsFaultAt world.old self.now fault }
         requires noted { IsKnown world.old }
