@@ -74,7 +74,6 @@ fn take_rooms<D: Disk>(
 }
 
 // One holder more of a map, if there is one.
-#[tactic(auto, using(seg_vn::proofs::anon_map::MapLaws::with_holders_free))]
 fn hold<D: Disk>(world: &mut World<D>, map: Option<u32>)
     requires there { (number : ℕ) → map ≡ Some number → IsMapThere world.old.maps number
         × (holders_of world.old.maps number < 2 ^ 32 - 1) }
