@@ -5,6 +5,7 @@ mod any_faults;
 mod any_pages;
 mod any_segments;
 mod attempt;
+mod cleans;
 mod clears;
 mod copy_faults;
 mod cuts;
