@@ -13,8 +13,8 @@ use crate::cuts::cut_ends;
 use seg_vn::{Disk, Errno, Prot, Ranges, Reply, VnSeg, World, is_range, page_of, pages_in};
 use std::alloc::AllocError;
 
-// Whether each page of a range is mapped. Time: the logarithm of the number of pieces for each piece of the range.
-fn are_mapped(space: &Ranges<VnSeg>, first: u32, end: u32) -> bool
+/// Whether each page of a range is mapped. Time: the logarithm of the number of pieces for each piece of the range.
+pub(crate) fn are_mapped(space: &Ranges<VnSeg>, first: u32, end: u32) -> bool
     ensures { IsTrue result ↔ AreMapped space.now.parts first end }
 {
     let mut page = first;

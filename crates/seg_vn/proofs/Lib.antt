@@ -21,6 +21,7 @@ mod Copies
 mod CopySteps
 pub mod PlacesShown
 pub mod ShownSome
+pub mod SharedFiles
 pub mod HomeFrames
 pub use Rattle.seg_ops.proofs.vnode_files as vnode_files
 pub use Rattle.seg_ops.proofs.flat_model as flat_model

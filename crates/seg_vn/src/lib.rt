@@ -3,6 +3,7 @@
 
 mod attempt;
 mod brought;
+mod cleans;
 mod clears;
 mod copy_faults;
 mod cuts;
