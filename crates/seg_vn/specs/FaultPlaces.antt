@@ -125,14 +125,6 @@ abbrev pub ServesCopy : {D : Type 0} → rust.World D → rust.World D → ℕ �
 ServesCopy old new p q own shown answer =
     (spaces : Spaces) (x : Spot) → Fits old spaces → CopyPlace (world_seen old) spaces p q x own.map own.place own.slot shown → FaultServed old new spaces p q x true answer
 
--- The place shows zeros, for which this place of this map is; and what a fault there comes to.
-abbrev pub IsZerosAt : {D : Type 0} → rust.World D → Segment → PageFault → ℕ → ℕ → Type 0
-IsZerosAt w s fault map place = (spaces : Spaces) × Fits w spaces × (spot_at spaces fault.process fault.page ≡ Some (faulted_spot s fault)) × ZerosPlace (world_seen w) spaces (faulted_spot s fault) map place
-
-abbrev pub ServesZeros : {D : Type 0} → rust.World D → rust.World D → Segment → PageFault → ℕ → ℕ → Result Fault Wants → Type 0
-ServesZeros old new s fault map place answer = (spaces : Spaces) → Fits old spaces → spot_at spaces fault.process fault.page ≡ Some (faulted_spot s fault) → ZerosPlace (world_seen old) spaces (faulted_spot s fault) map place
-    → FaultServed old new spaces fault.process fault.page (faulted_spot s fault) fault.write answer
-
 -- The place of a segment at which a fault is; that the world fits there; and what the fault comes to.
 abbrev pub faulted_spot : Segment → PageFault → Spot
 faulted_spot s fault = (s, fault.place)
@@ -142,3 +134,11 @@ IsFaultAt w s fault = IsFitAt w fault.process fault.page (faulted_spot s fault)
 
 abbrev pub ServesAt : {D : Type 0} → rust.World D → rust.World D → Segment → PageFault → Result Fault Wants → Type 0
 ServesAt old new s fault answer = FaultServedAt old new fault.process fault.page (faulted_spot s fault) fault.write answer
+
+-- The place shows zeros, for which this place of this map is; and what a fault there comes to.
+abbrev pub IsZerosAt : {D : Type 0} → rust.World D → Segment → PageFault → ℕ → ℕ → Type 0
+IsZerosAt w s fault map place = (spaces : Spaces) × Fits w spaces × (spot_at spaces fault.process fault.page ≡ Some (faulted_spot s fault)) × ZerosPlace (world_seen w) spaces (faulted_spot s fault) map place
+
+abbrev pub ServesZeros : {D : Type 0} → rust.World D → rust.World D → Segment → PageFault → ℕ → ℕ → Result Fault Wants → Type 0
+ServesZeros old new s fault map place answer = (spaces : Spaces) → Fits old spaces → spot_at spaces fault.process fault.page ≡ Some (faulted_spot s fault) → ZerosPlace (world_seen old) spaces (faulted_spot s fault) map place
+    → FaultServed old new spaces fault.process fault.page (faulted_spot s fault) fault.write answer
