@@ -37,7 +37,7 @@ use Rattle.seg_vn.specs.seg_ops.Slots.{OwnsAlone}
 use Rattle.seg_vn.proofs.seg_ops.SlotCells.{PutsHeld, cell-else, cells-else, flat-owned, pages-same, spot-in}
 use Rattle.seg_vn.proofs.seg_ops.SlotOwners.{places_law}
 use Rattle.seg_vn.proofs.seg_ops.StillSteps.{memory_of}
-use Rattle.seg_vn.proofs.AnyPlaces.{file-at, new-private, private-has, shared-own, zero-at, zero-map-at}
+use Rattle.seg_vn.proofs.FaultPlaces.{file-at, new-private, private-has, shared-own, zero-at, zero-map-at}
 use Rattle.seg_vn.proofs.PlacesShown.{bare-name, holds-within, zero-slot}
 
 -- A PAGE OF A FILE IS PUT.

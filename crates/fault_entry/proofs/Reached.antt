@@ -41,10 +41,10 @@ use Rattle.seg_vn.proofs.seg_ops.NewlyModified.{only-as, only-then}
 use Rattle.seg_vn.proofs.seg_ops.StillSteps.{memory_of}
 use Rattle.seg_vn.specs.seg_ops.Faults.{FaultModifies, LetsAccess, ServesFault, after_fault}
 use Rattle.seg_vn.specs.seg_ops.SlotsDue.{MakesSlotAt, slot_due}
-use Rattle.seg_vn.proofs.AnyFaults.{changes-as, changes-kept, fault-whole}
-use Rattle.seg_vn.proofs.AnyPlaces.{kept-own, kept-shared}
+use Rattle.seg_vn.proofs.ServedFaults.{changes-as, changes-kept, fault-whole}
+use Rattle.seg_vn.proofs.FaultPlaces.{kept-own, kept-shared}
 use Rattle.seg_vn.proofs.SlotsDue.{due-none, made-still, slots-kept}
-use Rattle.seg_vn.proofs.AnySteps.{in-place-still, shows-same}
+use Rattle.seg_vn.proofs.FaultSteps.{in-place-still, shows-same}
 use Rattle.seg_vn.proofs.Replacements.{none-replaced, replaced-then}
 use Rattle.seg_vn.proofs.Takes.{takes-none}
 use Rattle.fault_entry.specs.Reaching.{may_access, ReachesPage, ReachModifies, ServesAccess, IsSignalDue, after_reach, error_in, step_wanting}

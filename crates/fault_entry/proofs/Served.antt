@@ -38,7 +38,7 @@ use Rattle.seg_vn.proofs.seg_ops.StillSteps.{memory_of}
 use Rattle.seg_vn.specs.declared.attempt.Attempt.TheVariants as attempt
 use Rattle.seg_vn.specs.seg_ops.Faults.{Accesses}
 use Rattle.seg_vn.specs.seg_ops.SlotsDue.{slot_due}
-use Rattle.seg_vn.proofs.AnySteps.{in-place-still}
+use Rattle.seg_vn.proofs.FaultSteps.{in-place-still}
 use Rattle.seg_vn.proofs.Replacements.{replaced-then}
 use Rattle.seg_vn.proofs.SlotsDue.{made-still}
 use Rattle.seg_vn.proofs.Takes.{takes-there}

@@ -136,14 +136,7 @@ last-ends ps from below k x order last is ends y found lt = elim (cases_lt k y.f
   ]
 ]
 
--- a part that begins with a page is found there, and is the one
-pub begun-there : (ps : List (Part Segment)) (k : ℕ) → IsInOrder 1 ps → IsSome (begins ps k) → part_at ps k ≡ None → ⊥
-begun-there ps k order some none = by_part (begins ps k) refl some
-  where
-    by_part : (o : Option (Part Segment)) → begins ps k ≡ o → IsSome o → ⊥
-    by_part None e s = cc
-    by_part (Some x) e s = let d : Some x ≡ None = sym (begins-found 1 ps k x order e) ∙ none in cc
-
+-- a part that begins with a page and is found there is the one
 pub begun-is : (ps : List (Part Segment)) (k : ℕ) (x : Part Segment) → IsInOrder 1 ps → IsSome (begins ps k) → part_at ps k ≡ Some x → (x.first ≡ k) × (begins ps k ≡ Some x)
 begun-is ps k x order some found = by_part (begins ps k) refl some
   where

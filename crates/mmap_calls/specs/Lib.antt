@@ -4,5 +4,6 @@ pub mod Looks
 pub mod RangeCounts
 pub mod GivenUp
 pub mod Protections
+pub mod SyncRanges
 pub mod Answers
 pub mod Refusals

@@ -1,22 +1,22 @@
 //! What calls that change mappings are answered.
-ghost use Rattle.std.specs.Prelude.{◌≡◌, ◌≤◌, ℕ, IfOk, OnErr, IsSome, List, Option};
+ghost use Rattle.std.specs.Prelude.{◌≡◌, ℕ, IfOk, OnErr, IsSome, List, Option};
 ghost use Rattle.std.specs.FinMap as finite;
-ghost use Rattle.seg_vn.specs.anon_slots.Slots.{count_at};
 ghost use Rattle.seg_vn.specs.vm_types.WellFormed.{IsPlace, IsWellFormed};
 ghost use Rattle.seg_vn.specs.vm_world.Words.{Fits, SameFilesAndTails, memory};
-ghost use Rattle.seg_vn.specs.vm_world.ZeroObjects.{AreSameZeros, KnowsZeros};
+ghost use Rattle.seg_vn.specs.vm_world.ZeroObjects.{KnowsZeros};
 ghost use Rattle.seg_vn.specs.Clears.{MayBeAlive};
 ghost use Rattle.seg_vn.specs.Serves.{Serves};
-ghost use Rattle.mmap_calls.specs.Answers.{IsAnswered};
-ghost use Rattle.mmap_calls.specs.Calls.{IsDoneAtOnce, IsMappingCall};
+ghost use Rattle.mmap_calls.specs.Answers.{CountsFall, IsAnswered, OnlyNumbers};
+ghost use Rattle.mmap_calls.specs.Calls.{ChangesMappings, IsDoneAtOnce, IsMappingAnswer, IsMappingCall};
 ghost use Rattle.mmap_calls.specs.Refusals.{IsMapRequest, placed_call};
 
 use crate::gaps::map_any;
 use crate::maps::map;
 use crate::protects::protect;
 use crate::refusals::MapRequest;
+use crate::syncs::sync;
 use crate::unmaps::unmap;
-use seg_vn::{Attempt, Call, Disk, Place, Ranges, Reply, Spaces, VnSeg, World};
+use seg_vn::{Attempt, Call, Disk, Place, Ranges, Reply, Spaces, VnSeg, World, page_of};
 use std::alloc::AllocError;
 
 // The reply to a Map at this place.
@@ -32,12 +32,9 @@ fn map_placed<D: Disk>(
     requires fits { MayBeAlive world.old process space.old.parts }
     ensures done { IfOk result (IsAnswered world.old world.new process
         space.old.parts space.new.parts (placed_call place wanted.now)) }
-    ensures fall { IfOk result (λ _. (slot : ℕ)
-        → count_at world.new.anon slot ≤ count_at world.old.anon slot) }
+    ensures fall { IfOk result (λ _. CountsFall world.old world.new) }
     // Where memory is wanting nothing changed, but that a number of a zero object may be free.
-    ensures err { OnErr result (AreSameZeros world.old.zeros world.new.zeros
-        × (world.new ≡ record world.old { zeros = world.new.zeros })
-        × (space.new.parts ≡ space.old.parts)) }
+    ensures err { OnErr result (OnlyNumbers world.old world.new space.old.parts space.new.parts) }
     // What stays.
     ensures rest { SameFilesAndTails world.old world.new }
 {
@@ -55,16 +52,13 @@ fn answer<D: Disk>(
     call: &Call,
 ) -> Result<Reply, AllocError>
     requires formed { IsWellFormed call.now }
-    requires served { IsMappingCall call.now }
+    requires served { ChangesMappings call.now }
     requires fits { MayBeAlive world.old process space.old.parts }
     ensures done { IfOk result (IsAnswered world.old world.new process
         space.old.parts space.new.parts call.now) }
-    ensures fall { IfOk result (λ _. (slot : ℕ)
-        → count_at world.new.anon slot ≤ count_at world.old.anon slot) }
+    ensures fall { IfOk result (λ _. CountsFall world.old world.new) }
     // Where memory is wanting nothing changed, but that a number of a zero object may be free.
-    ensures err { OnErr result (AreSameZeros world.old.zeros world.new.zeros
-        × (world.new ≡ record world.old { zeros = world.new.zeros })
-        × (space.new.parts ≡ space.old.parts)) }
+    ensures err { OnErr result (OnlyNumbers world.old world.new space.old.parts space.new.parts) }
     // What stays.
     ensures rest { SameFilesAndTails world.old world.new }
 {
@@ -93,19 +87,15 @@ fn answer<D: Disk>(
     }
 }
 
-/// What a call of a process is answered that changes its mappings. It needs no transfer and never waits. The only error is want
-/// of memory, or of numbers; then nothing changed, but that a number of a zero object may be free. Time: the pages of the pieces
-/// that go or are cut and of the zero objects that go, and the number of the process's pieces; for a Map, a place for each private
-/// page of the new piece, and the number of zero objects.
-pub fn attempt<D: Disk>(
+// What a call of a process is answered that changes its mappings.
+fn change<D: Disk>(
     world: &mut World<D>,
     spaces: &mut Spaces,
     process: u32,
     call: &Call,
-    _from: u64,
 ) -> Result<Attempt, AllocError>
     requires formed { IsWellFormed call.now }
-    requires served { IsMappingCall call.now }
+    requires served { ChangesMappings call.now }
     requires fits { Fits world.old spaces.old.spaces }
     requires zeros { KnowsZeros world.old.zeros spaces.old.spaces }
     requires alive { IsSome (finite.get spaces.old.spaces process) }
@@ -113,8 +103,7 @@ pub fn attempt<D: Disk>(
         (memory world.old spaces.old.spaces) (memory world.new spaces.new.spaces)
         world.old.pending world.new.pending calls process call.now answer) }
     ensures answer { IfOk result IsDoneAtOnce }
-    ensures fall { IfOk result (λ answer. (slot : ℕ)
-        → count_at world.new.anon slot ≤ count_at world.old.anon slot) }
+    ensures fall { IfOk result (λ _. CountsFall world.old world.new) }
     ensures zeros { KnowsZeros world.new.zeros spaces.new.spaces }
     ensures alive { IsSome (finite.get spaces.new.spaces process) }
     // Where memory is wanting nothing changed, but that a number of a zero object may be free.
@@ -128,4 +117,44 @@ pub fn attempt<D: Disk>(
     };
     let reply = answer(world, space, process, call)?;
     Ok(Attempt::Done(reply))
+}
+
+/// What a mapping call of a process is answered, where the history has so many entries. One that changes mappings needs no transfer
+/// and never waits; a Sync is tried from its range's first page on, as `sync` tries it. The only error is want of memory, or of
+/// numbers, which no Sync is answered; then nothing changed, but that a number of a zero object may be free. Time: the pages of the
+/// pieces that go or are cut and of the zero objects that go, and the number of the process's pieces; for a Map, a place for each
+/// private page of the new piece, and the number of zero objects; for a Sync as for `sync`.
+pub fn attempt<D: Disk>(
+    world: &mut World<D>,
+    spaces: &mut Spaces,
+    process: u32,
+    call: &Call,
+    from: u64,
+) -> Result<Attempt, AllocError>
+    requires formed { IsWellFormed call.now }
+    requires served { IsMappingCall call.now }
+    requires fits { Fits world.old spaces.old.spaces }
+    requires zeros { KnowsZeros world.old.zeros spaces.old.spaces }
+    requires alive { IsSome (finite.get spaces.old.spaces process) }
+    ensures done { IfOk result (λ answer. (calls : List (Option ℕ)) → Serves
+        (memory world.old spaces.old.spaces) (memory world.new spaces.new.spaces)
+        world.old.pending world.new.pending calls process call.now answer) }
+    ensures answer { IfOk result (IsMappingAnswer call.now from) }
+    ensures fall { IfOk result (λ answer. (slot : ℕ)
+        → count_at world.new.anon slot ≤ count_at world.old.anon slot) }
+    ensures zeros { KnowsZeros world.new.zeros spaces.new.spaces }
+    ensures alive { IsSome (finite.get spaces.new.spaces process) }
+    // Where memory is wanting nothing changed, but that a number of a zero object may be free.
+    ensures err { OnErr result ((world.new ≡ record world.old { zeros = world.new.zeros })
+        × (spaces.new.spaces ≡ spaces.old.spaces)) }
+    // What stays.
+    ensures processes { spaces.new.processes ≡ spaces.old.processes }
+{
+    match *call {
+        Call::Sync { addr, length } => {
+            let mut cursor = page_of(addr);
+            Ok(sync(world, spaces, process, addr, length, &mut cursor, from))
+        }
+        _ => change(world, spaces, process, call),
+    }
 }

@@ -7,6 +7,7 @@ ghost use Rattle.seg_vn.specs.Clears.{MayBeAlive, MayBeSpace, SpaceBecomes, Star
 ghost use Rattle.mmap_calls.specs.Looks.{kind_and_object};
 ghost use Rattle.mmap_calls.specs.Protections.{most_at};
 ghost use Rattle.mmap_calls.specs.Rooms.{HasRoomAt};
+ghost use Rattle.mmap_calls.specs.Answers.{IsUnchanged};
 
 use seg_vn::{Disk, Ranges, VnSeg, World};
 use std::alloc::AllocError;
@@ -122,8 +123,7 @@ pub(crate) fn cut_ends<D: Disk>(
         space.old.parts space.new.parts (λ F. F)) }
     // What stays.
     ensures world { OnlyMaps world.old world.new }
-    ensures err { OnErr result ((world.new ≡ world.old)
-        × (space.new.parts ≡ space.old.parts)) }
+    ensures err { OnErr result (IsUnchanged world.old world.new space.old.parts space.new.parts) }
 {
     let begin_room = room_at(world, space, first)?;
     let end_room = room_at(world, space, end)?;

@@ -1,10 +1,8 @@
 //! Map at the lowest gap.
-ghost use Rattle.std.specs.Prelude.{◌≡◌, ◌≤◌, ℕ, IfOk, OnErr};
-ghost use Rattle.seg_vn.specs.anon_slots.Slots.{count_at};
+ghost use Rattle.std.specs.Prelude.{IfOk, OnErr};
 ghost use Rattle.seg_vn.specs.vm_world.Words.{SameFilesAndTails};
-ghost use Rattle.seg_vn.specs.vm_world.ZeroObjects.{AreSameZeros};
 ghost use Rattle.seg_vn.specs.Clears.{MayBeAlive};
-ghost use Rattle.mmap_calls.specs.Answers.{IsAnswered};
+ghost use Rattle.mmap_calls.specs.Answers.{CountsFall, IsAnswered, OnlyNumbers};
 ghost use Rattle.mmap_calls.specs.Refusals.{IsMapRequest, map_any_call};
 
 use crate::maps::map;
@@ -25,12 +23,9 @@ pub(crate) fn map_any<D: Disk>(
     requires fits { MayBeAlive world.old process space.old.parts }
     ensures done { IfOk result (IsAnswered world.old world.new process space.old.parts
         space.new.parts (map_any_call request.now)) }
-    ensures fall { IfOk result (λ _. (slot : ℕ)
-        → count_at world.new.anon slot ≤ count_at world.old.anon slot) }
+    ensures fall { IfOk result (λ _. CountsFall world.old world.new) }
     // Where memory is wanting nothing changed, but that a number of a zero object may be free.
-    ensures err { OnErr result (AreSameZeros world.old.zeros world.new.zeros
-        × (world.new ≡ record world.old { zeros = world.new.zeros })
-        × (space.new.parts ≡ space.old.parts)) }
+    ensures err { OnErr result (OnlyNumbers world.old world.new space.old.parts space.new.parts) }
     // What stays.
     ensures rest { SameFilesAndTails world.old world.new }
 {

@@ -8,6 +8,8 @@ mod gaps;
 mod maps;
 mod protects;
 mod refusals;
+mod syncs;
 mod unmaps;
 
 pub use calls::attempt;
+pub use syncs::sync;

@@ -1,22 +1,20 @@
 //! Map.
-ghost use Rattle.std.specs.Prelude.{◌≡◌, ◌<◌, ◌≤◌, ◌+◌, ◌-◌, ◌^◌, ◌++◌, ℕ, length, replicate, IfOk, OnErr, IsSome, Some, None, vec_capacity, List, Option};
+ghost use Rattle.std.specs.Prelude.{◌≡◌, ◌<◌, ◌≤◌, ◌+◌, ◌-◌, ◌^◌, ◌++◌, ℕ, length, replicate, IfOk, OnErr, IsSome, Some, None, vec_capacity, Option};
 ghost use Rattle.seg_vn.specs.anon_map.Maps.{IsMapThere, IsUnused, free_numbers, holders_of};
-ghost use Rattle.seg_vn.specs.anon_slots.Slots.{count_at};
 ghost use Rattle.seg_vn.specs.flat_model.Mapping.{with_mapping};
 ghost use Rattle.seg_vn.specs.flat_model.Words.{page};
 ghost use Rattle.seg_vn.specs.vm_world.MapSteps.{maps_made, maps_held};
-ghost use Rattle.seg_vn.specs.vm_world.Serving.{ModifiesNone};
 ghost use Rattle.seg_vn.specs.vm_world.Words.{SameFilesAndTails};
-ghost use Rattle.seg_vn.specs.vm_world.World.{world_seen};
 ghost use Rattle.seg_vn.specs.vm_world.ZeroObjects.{AreSameZeros, free_number};
 ghost use Rattle.seg_vn.specs.Clears.{MayBeAlive, MayBeSpace, SpaceBecomes};
-ghost use Rattle.mmap_calls.specs.Answers.{IsAnswered};
+ghost use Rattle.seg_vn.specs.Words.{OnlyReserves, with_maps_and_reserved};
+ghost use Rattle.mmap_calls.specs.Answers.{CountsFall, IsAnswered, NoneModified, OnlyNumbers};
 ghost use Rattle.mmap_calls.specs.Refusals.{IsMapRequest, IsMappingOf, IsRefused, map_call, map_request, slots_for_map};
 ghost use Rattle.mmap_calls.specs.Rooms.{HasRoomAt, AreMade};
 
 use crate::cuts::{check_holders, cut, room_at};
 use crate::refusals::{MapRequest, NewMapping, new_mapping, refusal, slots_for_pages};
-use seg_vn::{Disk, Kind, Object, PAGE_SIZE, Ranges, Reply, VnSeg, World, clear, page_of};
+use seg_vn::{Disk, Kind, Object, PAGE_SIZE, Ranges, Reply, Segment, VnSeg, World, clear, page_of};
 use std::alloc::AllocError;
 
 /// The room that a mapping needs: for the later places of the pieces that go across the ends of its range, and for the places
@@ -76,7 +74,6 @@ fn take_rooms<D: Disk>(
 }
 
 // One holder more of a map, if there is one.
-#[tactic(auto, using(seg_vn::proofs::anon_map::MapLaws::with_holders_free))]
 fn hold<D: Disk>(world: &mut World<D>, map: Option<u32>)
     requires there { (number : ℕ) → map ≡ Some number → IsMapThere world.old.maps number
         × (holders_of world.old.maps number < 2 ^ 32 - 1) }
@@ -94,10 +91,8 @@ fn make_map<D: Disk>(world: &mut World<D>, pages: u32, places: Vec<Option<u32>>)
     requires numbers { 0 < free_numbers world.old.maps }
     requires room { world.old.anon.reserved + pages ≤ length world.old.anon.counts }
     ensures unused { IsUnused world.old.maps result }
-    ensures new { world.new ≡ record world.old {
-      anon = record world.old.anon { reserved = world.old.anon.reserved + pages };
-      maps = maps_made world.old.maps (Some result) pages;
-    } }
+    ensures new { world.new ≡ with_maps_and_reserved world.old
+        (maps_made world.old.maps (Some result) pages) (world.old.anon.reserved + pages) }
 {
     let Ok(()) = world.anon.reserve(pages) else {
         unreachable!();
@@ -116,13 +111,7 @@ fn make_anons<D: Disk>(world: &mut World<D>, map: &NewMapping, places: Vec<Optio
     // The new maps and the list of zero objects; and what stays.
     ensures made { AreMade world.old.maps world.new.maps world.old.zeros world.new.zeros
         map.now.held map.now.pages map.now.request.kind map.now.request.object result }
-    ensures rest { world.new ≡ record world.old {
-      anon = record world.old.anon {
-        reserved = world.old.anon.reserved + slots_for_map map.now;
-      };
-      maps = world.new.maps;
-      zeros = world.new.zeros;
-    } }
+    ensures rest { OnlyReserves world.old world.new (slots_for_map map.now) }
 {
     match (map.request.kind, map.request.object) {
         (Kind::Private, object) => Anons {
@@ -162,14 +151,10 @@ fn replace<D: Disk>(
     ensures done { IfOk result (λ _. SpaceBecomes world.old world.new process
         space.old.parts space.new.parts
         (λ F. with_mapping F process (map_request map.now.request) (page map.now.request.addr))) }
-    ensures fall { IfOk result (λ _. (slot : ℕ)
-        → count_at world.new.anon slot ≤ count_at world.old.anon slot) }
-    ensures modified { IfOk result (λ _.
-        ModifiesNone (world_seen world.old) (world_seen world.new)) }
+    ensures fall { IfOk result (λ _. CountsFall world.old world.new) }
+    ensures modified { IfOk result (λ _. NoneModified world.old world.new) }
     // Where memory is wanting nothing changed, but that a number of a zero object may be free.
-    ensures err { OnErr result (AreSameZeros world.old.zeros world.new.zeros
-        × (world.new ≡ record world.old { zeros = world.new.zeros })
-        × (space.new.parts ≡ space.old.parts)) }
+    ensures err { OnErr result (OnlyNumbers world.old world.new space.old.parts space.new.parts) }
     // What stays.
     ensures rest { SameFilesAndTails world.old world.new }
 {
@@ -180,16 +165,16 @@ fn replace<D: Disk>(
     hold(world, map.held);
     clear(world, space, process, map.first, end_page);
     let Anons { object, own, shown } = make_anons(world, map, places);
-    let segment = VnSeg::new(
-        map.pages,
-        map.request.prot,
-        map.max,
-        map.request.kind,
+    let segment = VnSeg::new(Segment {
+        pages: map.pages,
+        prot: map.request.prot,
+        max: map.max,
+        kind: map.request.kind,
         object,
-        page_of(map.request.offset),
+        index: page_of(map.request.offset),
         own,
         shown,
-    );
+    });
     space.insert(map.first, map.pages, segment);
     Ok(())
 }
@@ -208,12 +193,9 @@ pub(crate) fn map<D: Disk>(
     requires fits { MayBeAlive world.old process space.old.parts }
     ensures done { IfOk result (IsAnswered world.old world.new process space.old.parts
         space.new.parts (map_call request.now)) }
-    ensures fall { IfOk result (λ _. (slot : ℕ)
-        → count_at world.new.anon slot ≤ count_at world.old.anon slot) }
+    ensures fall { IfOk result (λ _. CountsFall world.old world.new) }
     // Where memory is wanting nothing changed, but that a number of a zero object may be free.
-    ensures err { OnErr result (AreSameZeros world.old.zeros world.new.zeros
-        × (world.new ≡ record world.old { zeros = world.new.zeros })
-        × (space.new.parts ≡ space.old.parts)) }
+    ensures err { OnErr result (OnlyNumbers world.old world.new space.old.parts space.new.parts) }
     // What stays.
     ensures rest { SameFilesAndTails world.old world.new }
 {

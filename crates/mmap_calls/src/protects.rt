@@ -1,21 +1,20 @@
 //! Protect.
-ghost use Rattle.std.specs.Prelude.{◌≡◌, ◌↔◌, ◌≤◌, ◌-◌, ℕ, IfOk, OnErr, IsTrue};
-ghost use Rattle.seg_vn.specs.anon_slots.Slots.{count_at};
+ghost use Rattle.std.specs.Prelude.{◌↔◌, ◌≤◌, ◌-◌, IfOk, OnErr, IsTrue};
 ghost use Rattle.seg_vn.specs.vm_types.declared.call.Call.TheVariants as calls;
 ghost use Rattle.seg_vn.specs.vm_world.ProtectSteps.{with_range_prot};
 ghost use Rattle.seg_vn.specs.vm_world.Serving.{ModifiesNone};
 ghost use Rattle.seg_vn.specs.vm_world.Words.{OnlyStoreAndHat, SameFilesAndTails};
 ghost use Rattle.seg_vn.specs.vm_world.World.{world_seen};
 ghost use Rattle.seg_vn.specs.Clears.{MayBeAlive, SpaceBecomes, StartsAt};
-ghost use Rattle.mmap_calls.specs.Answers.{IsAnswered};
+ghost use Rattle.mmap_calls.specs.Answers.{CountsFall, IsAnswered, IsUnchanged};
 ghost use Rattle.mmap_calls.specs.Protections.{AreMapped, MayHave};
 
 use crate::cuts::cut_ends;
 use seg_vn::{Disk, Errno, Prot, Ranges, Reply, VnSeg, World, is_range, page_of, pages_in};
 use std::alloc::AllocError;
 
-// Whether each page of a range is mapped. Time: the logarithm of the number of pieces for each piece of the range.
-fn are_mapped(space: &Ranges<VnSeg>, first: u32, end: u32) -> bool
+/// Whether each page of a range is mapped. Time: the logarithm of the number of pieces for each piece of the range.
+pub(crate) fn are_mapped(space: &Ranges<VnSeg>, first: u32, end: u32) -> bool
     ensures { IsTrue result ↔ AreMapped space.now.parts first end }
 {
     let mut page = first;
@@ -97,10 +96,8 @@ pub(crate) fn protect<D: Disk>(
     requires fits { MayBeAlive world.old process space.old.parts }
     ensures done { IfOk result (IsAnswered world.old world.new process
         space.old.parts space.new.parts (calls.Protect addr length prot)) }
-    ensures fall { IfOk result (λ _. (slot : ℕ)
-        → count_at world.new.anon slot ≤ count_at world.old.anon slot) }
-    ensures err { OnErr result ((world.new ≡ world.old)
-        × (space.new.parts ≡ space.old.parts)) }
+    ensures fall { IfOk result (λ _. CountsFall world.old world.new) }
+    ensures err { OnErr result (IsUnchanged world.old world.new space.old.parts space.new.parts) }
     // What stays.
     ensures rest { SameFilesAndTails world.old world.new }
 {

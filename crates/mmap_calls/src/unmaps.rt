@@ -1,13 +1,10 @@
 //! Unmap.
-ghost use Rattle.std.specs.Prelude.{◌≡◌, ◌<◌, ◌≤◌, ◌+◌, ◌^◌, ℕ, IfOk, OnErr};
-ghost use Rattle.seg_vn.specs.anon_slots.Slots.{count_at};
+ghost use Rattle.std.specs.Prelude.{◌<◌, ◌+◌, ◌^◌, IfOk, OnErr};
 ghost use Rattle.seg_vn.specs.flat_model.Mapping.{without_pages};
 ghost use Rattle.seg_vn.specs.vm_types.declared.call.Call.TheVariants as calls;
-ghost use Rattle.seg_vn.specs.vm_world.Serving.{ModifiesNone};
 ghost use Rattle.seg_vn.specs.vm_world.Words.{SameFilesAndTails};
-ghost use Rattle.seg_vn.specs.vm_world.World.{world_seen};
 ghost use Rattle.seg_vn.specs.Clears.{MayBeAlive, SpaceBecomes};
-ghost use Rattle.mmap_calls.specs.Answers.{IsAnswered};
+ghost use Rattle.mmap_calls.specs.Answers.{CountsFall, IsAnswered, IsUnchanged, NoneModified};
 
 use crate::cuts::cut_ends;
 use seg_vn::{Disk, Errno, Ranges, Reply, VnSeg, World, clear, is_range, page_of, pages_in};
@@ -26,12 +23,9 @@ fn free_range<D: Disk>(
     requires range { first + pages < 2 ^ 32 }
     ensures done { IfOk result (λ _. SpaceBecomes world.old world.new process
         space.old.parts space.new.parts (λ F. without_pages F process first pages)) }
-    ensures fall { IfOk result (λ _. (slot : ℕ)
-        → count_at world.new.anon slot ≤ count_at world.old.anon slot) }
-    ensures modified { IfOk result (λ _.
-        ModifiesNone (world_seen world.old) (world_seen world.new)) }
-    ensures err { OnErr result ((world.new ≡ world.old)
-        × (space.new.parts ≡ space.old.parts)) }
+    ensures fall { IfOk result (λ _. CountsFall world.old world.new) }
+    ensures modified { IfOk result (λ _. NoneModified world.old world.new) }
+    ensures err { OnErr result (IsUnchanged world.old world.new space.old.parts space.new.parts) }
     // What stays.
     ensures rest { SameFilesAndTails world.old world.new }
 {
@@ -54,10 +48,8 @@ pub(crate) fn unmap<D: Disk>(
     requires fits { MayBeAlive world.old process space.old.parts }
     ensures done { IfOk result (IsAnswered world.old world.new process
         space.old.parts space.new.parts (calls.Unmap addr length)) }
-    ensures fall { IfOk result (λ _. (slot : ℕ)
-        → count_at world.new.anon slot ≤ count_at world.old.anon slot) }
-    ensures err { OnErr result ((world.new ≡ world.old)
-        × (space.new.parts ≡ space.old.parts)) }
+    ensures fall { IfOk result (λ _. CountsFall world.old world.new) }
+    ensures err { OnErr result (IsUnchanged world.old world.new space.old.parts space.new.parts) }
     // What stays.
     ensures rest { SameFilesAndTails world.old world.new }
 {

@@ -1,12 +1,11 @@
 -- Parts that are walked over from the front.
 use Rattle.std.proofs.Common.{◌≡◌, ℕ, ◌+◌, ◌<◌, ◌≤◌, Bool, true, false, cond, List, [], ◌∷◌, length, Option, Some, None, refl, sym, ap, ◌∙◌, inl, inr, subst, arith}
-use Rattle.std.specs.Prelude.{nat_le, sum_by, option_map, find, All, IsSome, MatchOption, is_some}
+use Rattle.std.specs.Prelude.{nat_le, sum_by, option_map, find, All, MatchOption, is_some}
 use Rattle.std.proofs.lemmas.Bool.{cases_lt, lt-leb, le-leb, lt-ltb, le-ltb}
 use Rattle.std.proofs.lemmas.List.Elements.{All-head, All-tail}
 use Rattle.std.proofs.lemmas.List.Sums.{sum_by-cons}
 use Rattle.seg_vn.specs.addr_space.Space.{Part, part_at, begins, next_first, page_total, IsInOrder}
 use Rattle.seg_vn.proofs.addr_space.PartLemmas.{at-here, at-next, has-before, has-in, has-past, none-below, found-in}
-use Rattle.seg_vn.proofs.addr_space.PartLists.{begins-found}
 use Rattle.seg_vn.proofs.addr_space.Totals.{total-within}
 use Rattle.seg_vn.specs.vm_world.CountsFit.{slots_for_part}
 use Rattle.seg_vn.specs.vm_world.declared.segment.Segment.{Segment}
@@ -78,13 +77,6 @@ is-next q f ps x order is le found =
     let first = n.0 in
     let lies = found-in 1 ps f x order found in
     record { left = n.1; found = ap (part_at ps) first ∙ found; behind = omega (arith, first, le); some = lies.some; within = lies.within }
-
-pub begun-there : (ps : List (Part Segment)) (k : ℕ) → IsInOrder 1 ps → IsSome (begins ps k) → part_at ps k ≡ None → ⊥
-begun-there ps k order some none = by_part (begins ps k) refl some
-  where
-    by_part : (o : Option (Part Segment)) → begins ps k ≡ o → IsSome o → ⊥
-    by_part None e s = cc
-    by_part (Some x) e s = let d : Some x ≡ None = sym (begins-found 1 ps k x order e) ∙ none in cc
 
 order-from : (low q : ℕ) (ps : List (Part Segment)) → IsInOrder low ps → (k : ℕ) × IsInOrder k (parts_from q ps)
 order-from low q [] order = (low, tt)

@@ -297,8 +297,8 @@ const CASES: [Case; 33] = [
         ..WHOLE
     },
     Case {
-        name: "a sync",
-        script: b"process\nsync 0x1000 4096\nend\n",
+        name: "a read",
+        script: b"process\nread a 0 4\nend\n",
         status: 3,
         text: b"script: later\n",
         ..WHOLE

@@ -1,4 +1,4 @@
-//! Whole runs of map, unmap and protect: what each prints.
+//! Whole runs of map, unmap, protect and sync: what each prints, and what the disk was asked for.
 use crate::trial::{NEVER, NO_WORDS, run_trial};
 use std::test::Fail;
 
@@ -28,8 +28,16 @@ const GAP: &[u8] =
 const NO_ROOM: &[u8] =
     b"disk 0 blank 8\nfile a ro 0 1 68656c6c6f\nprocess\nmap 0x8000000 4096 r shared a 0\nmap 0x10000000 4096 r shared a 0\nmap 0x18000000 4096 r shared a 0\nmap 0x20000000 4096 r shared a 0\nmap 0x28000000 4096 r shared a 0\nmap 0x30000000 4096 r shared a 0\nmap 0x38000000 4096 r shared a 0\nmap 0x40000000 4096 r shared a 0\nmap 0x48000000 4096 r shared a 0\nmap 0x50000000 4096 r shared a 0\nmap 0x58000000 4096 r shared a 0\nmap 0x60000000 4096 r shared a 0\nmap 0x68000000 4096 r shared a 0\nmap 0x70000000 4096 r shared a 0\nmap 0x78000000 4096 r shared a 0\nmap any 0x8000000 r shared a 0\nmap any 0x8000000 rw private zero 0\nmap any 0x8000000 rw shared a 0\nmap any 0x7fff000 rw private zero 0\nmap any 0xffffffff r shared a 0\nmap any 0x7fff000 r shared a 0\nend\n";
 
+// A page is pushed by the sync that its store is followed by.
+const SYNC: &[u8] =
+    b"disk 0 blank 8\nfile a rw 0 2 68656c6c6f\nprocess\nmap 0x2000 4096 rw shared a 0\nstore 0x2000 1 0x4a\nsync 0x2000 4096\nsync 0x9000 4096\nsync 0x2001 4096\nend\n";
+
+// A private copy is no page of the file, and a page that may no longer be touched is synced all the same.
+const SYNC_OF_BOTH: &[u8] =
+    b"disk 0 blank 8\nfile a rw 0 2 68656c6c6f\nprocess\nmap 0x2000 4096 rw shared a 0\nmap 0x3000 4096 rw private a 0\nstore 0x3000 1 0x4a\nsync 0x2000 8192\nstore 0x2000 1 0x59\nprotect 0x2000 4096 none\nsync 0x1000 8192\nsync 0x2000 8192\nsync 0x2000 0\nload 0x3000 1\nload 0x2000 1\nend\n";
+
 // Each script beside its report.
-const RUNS: [(&[u8], &[u8]); 7] = [
+const RUNS: [(&[u8], &[u8]); 8] = [
     (
         CUT,
         b"process 1\n2 map 0x00002000\n3 store ok\n4 store ok\n5 unmap ok\n6 load SEGV nomap\n7 load 0x01\n8 load 0x03\n9 unmap ok\n10 unmap error 1 Invalid\n11 unmap error 1 Invalid\n12 unmap ok\n13 load SEGV nomap\n14 exit ok\n",
@@ -58,6 +66,10 @@ const RUNS: [(&[u8], &[u8]); 7] = [
         NO_ROOM,
         b"process 1\n4 map 0x08000000\n5 map 0x10000000\n6 map 0x18000000\n7 map 0x20000000\n8 map 0x28000000\n9 map 0x30000000\n10 map 0x38000000\n11 map 0x40000000\n12 map 0x48000000\n13 map 0x50000000\n14 map 0x58000000\n15 map 0x60000000\n16 map 0x68000000\n17 map 0x70000000\n18 map 0x78000000\n19 map error 4 NoRoom\n20 map error 4 NoRoom\n21 map error 2 Access\n22 map error 3 NoSwap\n23 map error 5 TooLarge\n24 map 0x00001000\n25 exit ok\nfile a 5\n00000000 68656c6c6f\n",
     ),
+    (
+        SYNC_OF_BOTH,
+        b"process 1\n4 map 0x00002000\n5 map 0x00003000\n6 store ok\n7 sync ok\n8 store ok\n9 protect ok\n10 sync error 6 NotMapped\n11 sync ok\n12 sync error 1 Invalid\n13 load 0x4a\n14 load SEGV prot\n15 exit ok\nfile a 5\n00000000 59656c6c6f\n",
+    ),
 ];
 
 #[test]
@@ -67,5 +79,16 @@ fn mappings_change_as_the_rules_say(rt: HostRuntime) -> Result<(), Fail> {
         assert_eq!(rt; left.status, 0);
         assert_eq!(rt; left.text.as_slice(), text);
     }
+    Ok(())
+}
+
+#[test]
+fn a_sync_has_the_page_pushed(rt: HostRuntime) -> Result<(), Fail> {
+    let left = run_trial(&rt, rt.alloc(), NO_WORDS, SYNC, &NEVER)?;
+    assert_eq!(rt; (left.status, left.first), (0, (3, 3)));
+    assert_eq!(rt;
+        left.text.as_slice(),
+        b"process 1\n4 map 0x00002000\n5 store ok\n6 sync ok\n7 sync error 6 NotMapped\n8 sync error 1 Invalid\n9 exit ok\nfile a 5\n00000000 4a656c6c6f\n"
+    );
     Ok(())
 }

@@ -71,24 +71,25 @@ fn rights(chance: &mut Chance) -> &'static str {
     }
 }
 
-// A map at an address or at the lowest gap, an unmap, or a protect.
+// A map at an address or at the lowest gap, an unmap, a protect, or a sync.
 fn mapping_line(alloc: Global, chance: &mut Chance) -> Result<String, AllocError> {
     let addr = 4096 * (2 + chance.below(10));
     let length = 4096 * (1 + chance.below(3));
     let offset = 4096 * (chance.below(4) / 3);
     let what = mapped(chance);
-    match chance.below(8) {
+    match chance.below(11) {
         0..=3 => format!(in alloc; "map {addr} {length} {what} {offset}\n"),
         4 => format!(in alloc; "map any {length} {what} {offset}\n"),
         5 => format!(in alloc; "unmap {addr} {length}\n"),
-        _ => format!(in alloc; "protect {addr} {length} {}\n", rights(chance)),
+        6..=7 => format!(in alloc; "protect {addr} {length} {}\n", rights(chance)),
+        _ => format!(in alloc; "sync {addr} {length}\n"),
     }
 }
 
 fn random_line(alloc: Global, chance: &mut Chance) -> Result<String, AllocError> {
     match chance.below(16) {
-        0..=2 => mapping_line(alloc, chance),
-        3..=7 => {
+        0..=3 => mapping_line(alloc, chance),
+        4..=8 => {
             let (addr, size) = word(chance);
             format!(in alloc; "store {addr} {size} {}\n", chance.below(256))
         }
@@ -138,9 +139,17 @@ fn acts(flat: &mut FlatState, entry: &Entry) -> Result<bool, AllocError> {
     flat.step(entry)
 }
 
+// Whether an entry that stands behind so many others, all of its process, begins there, if it is a Sync's.
+fn begins_behind(entry: &Entry, entries: usize) -> bool {
+    match entry.reply {
+        Reply::Synced(from) => from == entries as u64,
+        _ => true,
+    }
+}
+
 fn replays(flat: &mut FlatState, entries: &[Entry]) -> Result<bool, AllocError> {
-    for entry in entries {
-        if !acts(flat, entry)? {
+    for (place, entry) in entries.iter().enumerate() {
+        if !begins_behind(entry, place) || !acts(flat, entry)? {
             return Ok(false);
         }
     }

@@ -7,7 +7,7 @@ use Rattle.page_store.specs.Flight.{FlightSeen, Begins}
 use Rattle.page_store.specs.Seen.{StoreSeen}
 use Rattle.page_store.specs.Steps.{at_frame, home_bytes, next_frame}
 use Rattle.page_store.specs.Transfers.{is_push, frame_out, frame_shown}
-use Rattle.page_store.specs.Waits.{plan_page}
+use Rattle.page_store.specs.Waits.{Waits, plan_page}
 use Rattle.page_store.specs.declared.plan.Plan.{Plan}
 use Rattle.page_store.specs.declared.plan.Plan.TheVariants.{Read, Push}
 use Rattle.vm_world.specs.hat_layer.Pool.{bits_of, change_frame, drop_frame, with_clear_bits}
@@ -20,6 +20,10 @@ use Rattle.seg_ops.specs.Steps.{with_bits_gathered}
 abbrev pub CanSend : World → Plan → Type 0
 CanSend w (Read name) = MayReadIn w name × IsSome (next_frame w.store)
 CanSend w (Push name) = IsDirtyPage w name × IsFalse (is_unpushed w.files w.anon name)
+
+-- The disk of a page is home, and nobody holds the page.
+abbrev pub IsPageReady : World → PageName → Type 0
+IsPageReady w name = Waits w.store name (world_table w name).disk None
 
 -- No translation leads to the frame.
 abbrev pub IsUnloaded : List (Option Translation) → ℕ → Type 0

@@ -10,6 +10,7 @@ pub mod Rooms
 pub mod Frames
 pub mod SlotsDue
 pub mod Writers
+pub mod CleanSteps
 pub mod Faults
 pub use Rattle.vm_world.specs.vm_types as vm_types
 pub use Rattle.vm_world.specs.vnode_files as vnode_files

@@ -5,9 +5,10 @@ use Rattle.vm_world.specs.hat_layer.Pool.{bits_of}
 use Rattle.page_store.specs.page_hash.declared.PageName.{PageName}
 use Rattle.page_store.specs.page_lock.Rows.{row_at}
 use Rattle.page_store.specs.Laws.{SameResidence}
-use Rattle.page_store.specs.Seen.{StoreSeen}
+use Rattle.page_store.specs.Seen.{StoreSeen, IsListedFrame, residence}
 use Rattle.page_store.specs.Steps.{next_frame}
 use Rattle.page_store.specs.Waits.{IsVictim}
+use Rattle.page_store.specs.declared.residence.Residence.TheVariants.{Home, Absent}
 use Rattle.seg_ops.specs.Steps.{IsUnwritten}
 use Rattle.vm_world.specs.Serving.{ModifiesNone}
 use Rattle.vm_world.specs.Wants.{IsDirtyPage}
@@ -48,6 +49,16 @@ pub record MakesRoom {D : Type 0} (old new : rust.World D) : Type 0 where
 abbrev pub HasRoomUnless : {D : Type 0} → rust.World D → Option PageName → Type 0
 HasRoomUnless w None = IsSome (next_frame w.store)
 HasRoomUnless w (Some name) = (next_frame w.store ≡ None) × IsDirtyPage (world_seen w) name
+
+-- Each page that is home in a frame on no list is there; no page comes home; and no frame comes on a list.
+abbrev pub KeepsUnlisted : StoreSeen → StoreSeen → Type 0
+KeepsUnlisted old new = (page : PageName) (frame : ℕ) → residence old page ≡ Home frame → ¬ IsListedFrame old frame → residence new page ≡ Home frame
+
+abbrev pub KeepsAbsent : StoreSeen → StoreSeen → Type 0
+KeepsAbsent old new = (page : PageName) → residence old page ≡ Absent → residence new page ≡ Absent
+
+abbrev pub ListsNoMore : StoreSeen → StoreSeen → Type 0
+ListsNoMore old new = (frame : ℕ) → IsListedFrame new frame → IsListedFrame old frame
 
 -- The lists are as they were ..
 abbrev pub SameLists : StoreSeen → StoreSeen → Type 0

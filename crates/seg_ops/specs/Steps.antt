@@ -5,6 +5,7 @@ use Rattle.page_store.specs.page_lock.Rows.{row_at, with_bits}
 use Rattle.page_store.specs.Notes.{Notes}
 use Rattle.page_store.specs.Seen.{StoreSeen}
 use Rattle.page_store.specs.Steps.{with_row}
+use Rattle.vm_world.specs.hat_layer.Pool.{HatSeen, bits_of, dropped_by_load, fresh_translation, holds, is_of, translation_at}
 use Rattle.vm_world.specs.hat_layer.declared.translation.Translation.{Translation}
 use Rattle.vm_world.specs.hat_layer.declared.translation.Dropped.{Dropped}
 use Rattle.vm_world.specs.flat_model.Words.{page, word_at, word_put}
@@ -14,18 +15,33 @@ use Rattle.vm_world.specs.Pages.{page_value}
 use Rattle.vm_world.specs.Segments.{Spot, Spaces, spot_at, shown_name}
 use Rattle.vm_world.specs.vm_types.Prot.{can_read, can_write}
 use Rattle.vm_world.specs.TranslationsFit.{MayWriteInPlace}
-use Rattle.vm_world.specs.World.{World, core_of, is_page_name, AllTell}
+use Rattle.vm_world.specs.Words.{Fits, KeepsPages}
+use Rattle.vm_world.specs.World.{World, world_seen, core_of, is_page_name, AllTell}
 use Rattle.vm_world.specs.WorldSteps.{KeepsTables}
+use Rattle.vm_world.specs.declared.world.World as rust
 
 -- the store once bits that were told of a frame's translations, referenced and modified, were gathered into its page
 abbrev pub with_bits_gathered : StoreSeen → ℕ → Bool × Bool → StoreSeen
 with_bits_gathered s frame told =
     with_row s frame (with_bits (row_at s.rows frame) ((row_at s.rows frame).referenced || told.0) ((row_at s.rows frame).modified || told.1))
 
+-- the store once the bits of a frame's translations are in its page
+abbrev pub store_gathered : {D : Type 0} → rust.World D → ℕ → StoreSeen
+store_gathered w frame = with_bits_gathered w.store frame (bits_of frame w.hat.places)
+
 -- the same where a translation had to give way, or none
 abbrev pub with_dropped_gathered : StoreSeen → Option Dropped → StoreSeen
 with_dropped_gathered s None = s
 with_dropped_gathered s (Some d) = with_bits_gathered s d.frame (d.referenced, d.modified)
+
+-- A translation is loaded: every other one is as it was, but the one that gave way.
+abbrev pub KeepsOtherTranslations : HatSeen → HatSeen → ℕ → ℕ → ℕ → Bool → Type 0
+KeepsOtherTranslations old new space page frame writable = (s p : ℕ) → is_of s p (fresh_translation space page frame writable) ≡ false → holds s p (dropped_by_load old space page) ≡ false
+    → translation_at new.places s p ≡ translation_at old.places s p
+
+-- The page of a process has this new translation.
+abbrev pub IsLoaded : {D : Type 0} → rust.World D → ℕ → ℕ → ℕ → Bool → Type 0
+IsLoaded w space page frame writable = translation_at w.hat.places space page ≡ Some (fresh_translation space page frame writable)
 
 -- No translation of the frame says that it was written.
 abbrev pub IsUnwritten : List (Option Translation) → ℕ → Type 0
@@ -67,3 +83,7 @@ pub record MayShow (w : World) (spaces : Spaces) (p q : ℕ) (name : PageName) (
   pub shows : shown_name w.maps spot ≡ Some name
   pub allowed : IsTrue (can_read spot.0.prot || can_write spot.0.prot)
   pub in_place : writable ≡ true → MayWriteInPlace w.anon w.maps spot
+
+-- Where a place may show the page of a name, no page changes.
+abbrev pub KeepsWhereShown : {D : Type 0} → rust.World D → rust.World D → ℕ → ℕ → PageName → Bool → Type 0
+KeepsWhereShown old new p q name writable = (spaces : Spaces) → Fits old spaces → MayShow (world_seen old) spaces p q name writable → KeepsPages (world_seen old) (world_seen new) spaces

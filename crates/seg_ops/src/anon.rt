@@ -1,18 +1,18 @@
 //! Pages of anonymous memory: a slot is made for an empty place of an anon map, with its page.
-ghost use Rattle.std.specs.Prelude.{◌≡◌, ◌<◌, ℕ, length, true, Some, None, IsSome, slice_set};
+ghost use Rattle.std.specs.Prelude.{◌≡◌, ◌<◌, ℕ, length, true, Some, None, IsSome};
 ghost use Rattle.page_store.specs.core_arena.Bytes.{zeros};
 ghost use Rattle.vm_world.specs.hat_layer.Pool.{translation_at};
 ghost use Rattle.page_store.specs.page_hash.Names.{find, is_name};
 ghost use Rattle.page_store.specs.Seen.{IsListedFrame, residence};
 ghost use Rattle.page_store.specs.Steps.{next_frame, next_name, after_fill, home_bytes};
-ghost use Rattle.vm_world.specs.anon_map.Maps.{IsMapThere, places_of, with_places};
+ghost use Rattle.vm_world.specs.anon_map.Maps.{IsMapThere, places_of};
 ghost use Rattle.vm_world.specs.anon_slots.Slots.{with_new_slot};
 ghost use Rattle.vm_world.specs.CallSteps.{ChangesMemory};
 ghost use Rattle.vm_world.specs.Segments.{Spaces, Spot};
 ghost use Rattle.vm_world.specs.Words.{memory, Fits, IsFit, SameFilesAndHat};
 ghost use Rattle.vm_world.specs.World.{world_seen, slot_name, slot_in};
-ghost use Rattle.seg_ops.specs.Slots.{MakesHome, MakesPage, IsNewZero, OwnsAlone, PlacesLaw, with_own_page};
-ghost use Rattle.seg_ops.specs.Owners.{OwnerBecomes};
+ghost use Rattle.seg_ops.specs.Slots.{MakesPage, IsNewZero, OwnsAlone, PlacesLaw, with_own_page};
+ghost use Rattle.seg_ops.specs.Owners.{OwnerBecomes, with_place, PageMade};
 ghost use Rattle.seg_ops.specs.Frames.{next_cleared};
 
 use crate::tails::pend_tail;
@@ -30,11 +30,9 @@ pub fn make_zero<D: Disk>(world: &mut World<D>, map: u32, place: u32) -> u32
     // The slot is made for the place, and its page is home, in the frame that was taken; the tail of the file whose last page
     // lost the frame is pending.
     ensures anon { world.new.anon ≡ with_new_slot world.old.anon result }
-    ensures maps { world.new.maps ≡ with_places world.old.maps map
-        (slice_set (places_of world.old.maps map) place (Some result)) }
+    ensures maps { world.new.maps ≡ with_place world.old.maps map place (Some result) }
     ensures store { world.new.store ≡ after_fill world.old.store (slot_name result) zeros true }
-    ensures made { MakesHome (world_seen world.old) (world_seen world.new)
-        world.old.pending world.new.pending result }
+    ensures made { PageMade world.old world.new result }
     // What stays.
     ensures rest { SameFilesAndHat world.old world.new }
     ensures makes { (spaces : Spaces) → Fits world.old spaces → IsNewZero spaces map place
@@ -74,12 +72,10 @@ pub fn make_copy<D: Disk>(world: &mut World<D>, from: PageName, map: u32, place:
     // The slot is made for the place, and its page is home, in the frame that was taken; the tail of the file whose last page
     // lost the frame is pending.
     ensures anon { world.new.anon ≡ with_new_slot world.old.anon result }
-    ensures maps { world.new.maps ≡ with_places world.old.maps map
-        (slice_set (places_of world.old.maps map) place (Some result)) }
+    ensures maps { world.new.maps ≡ with_place world.old.maps map place (Some result) }
     ensures store { world.new.store ≡ after_fill world.old.store (slot_name result)
         (home_bytes world.old.store (find world.old.store.names from)) true }
-    ensures made { MakesHome (world_seen world.old) (world_seen world.new)
-        world.old.pending world.new.pending result }
+    ensures made { PageMade world.old world.new result }
     // What stays.
     ensures rest { SameFilesAndHat world.old world.new }
     ensures makes { (spaces : Spaces) (p q : ℕ) (x : Spot) → Fits world.old spaces

@@ -1,15 +1,14 @@
 //! A page of anonymous memory that other places hold too is copied before it is written.
-ghost use Rattle.std.specs.Prelude.{◌≡◌, ◌<◌, ◌-◌, ℕ, length, true, Some, IsSome, IsTrue, slice_set};
+ghost use Rattle.std.specs.Prelude.{◌≡◌, ◌<◌, ◌-◌, ℕ, length, true, Some, IsSome, IsTrue};
 ghost use Rattle.page_store.specs.core_arena.Bytes.{zeros};
 ghost use Rattle.page_store.specs.page_hash.Names.{find};
 ghost use Rattle.page_store.specs.Seen.{IsListedFrame, residence};
 ghost use Rattle.page_store.specs.Steps.{next_frame, after_fill, home_bytes};
-ghost use Rattle.vm_world.specs.anon_map.Maps.{IsMapThere, places_of, with_places};
-ghost use Rattle.vm_world.specs.anon_slots.Slots.{count_at, with_count, with_new_slot};
-ghost use Rattle.vm_world.specs.Words.{memory, SameFilesAndHat};
-ghost use Rattle.vm_world.specs.World.{world_seen, slot_name, slot_in, is_unpushed};
-ghost use Rattle.seg_ops.specs.Slots.{MakesHome};
-ghost use Rattle.seg_ops.specs.Owners.{IsOwned, OwnerBecomes};
+ghost use Rattle.vm_world.specs.anon_map.Maps.{IsMapThere, places_of};
+ghost use Rattle.vm_world.specs.anon_slots.Slots.{count_at, with_new_slot};
+ghost use Rattle.vm_world.specs.Words.{SameFilesAndHat};
+ghost use Rattle.vm_world.specs.World.{slot_name, slot_in, is_unpushed};
+ghost use Rattle.seg_ops.specs.Owners.{IsOwned, OwnerBecomes, with_one_less, with_place, PageMade};
 ghost use Rattle.seg_ops.specs.Frames.{next_cleared};
 
 use crate::anon::{make_copy, make_zero};
@@ -32,14 +31,11 @@ pub fn copy_slot<D: Disk>(world: &mut World<D>, map: u32, place: u32, slot: u32)
     requires owned { IsOwned world.old map place }
     // The old slot is counted once less, the new one is made for the place, and its page is home, in the frame that was taken;
     // the tail of the file whose last page lost the frame is pending.
-    ensures anon { world.new.anon ≡ with_new_slot
-        (with_count world.old.anon slot (count_at world.old.anon slot - 1)) result }
-    ensures maps { world.new.maps ≡ with_places world.old.maps map
-        (slice_set (places_of world.old.maps map) place (Some result)) }
+    ensures anon { world.new.anon ≡ with_new_slot (with_one_less world.old.anon slot) result }
+    ensures maps { world.new.maps ≡ with_place world.old.maps map place (Some result) }
     ensures store { world.new.store ≡ after_fill world.old.store (slot_name result)
         (home_bytes world.old.store (find world.old.store.names (slot_name slot))) true }
-    ensures made { MakesHome (world_seen world.old) (world_seen world.new)
-        world.old.pending world.new.pending result }
+    ensures made { PageMade world.old world.new result }
     // What stays.
     ensures rest { SameFilesAndHat world.old world.new }
     // Flat memory loses that tail, and nothing else changes.
@@ -72,13 +68,10 @@ pub fn zero_slot<D: Disk>(world: &mut World<D>, map: u32, place: u32, slot: u32)
     requires owned { IsOwned world.old map place }
     // The old slot is counted once less, the new one is made for the place, and its page is home, in the frame that was taken;
     // the tail of the file whose last page lost the frame is pending.
-    ensures anon { world.new.anon ≡ with_new_slot
-        (with_count world.old.anon slot (count_at world.old.anon slot - 1)) result }
-    ensures maps { world.new.maps ≡ with_places world.old.maps map
-        (slice_set (places_of world.old.maps map) place (Some result)) }
+    ensures anon { world.new.anon ≡ with_new_slot (with_one_less world.old.anon slot) result }
+    ensures maps { world.new.maps ≡ with_place world.old.maps map place (Some result) }
     ensures store { world.new.store ≡ after_fill world.old.store (slot_name result) zeros true }
-    ensures made { MakesHome (world_seen world.old) (world_seen world.new)
-        world.old.pending world.new.pending result }
+    ensures made { PageMade world.old world.new result }
     // What stays.
     ensures rest { SameFilesAndHat world.old world.new }
     // Flat memory loses that tail, and nothing else changes.

@@ -1,19 +1,17 @@
 //! Places of anon maps that are emptied.
-ghost use Rattle.std.specs.Prelude.{◌≡◌, ◌≢◌, ◌<◌, ◌-◌, ℕ, length, Some, None, slice_set};
-ghost use Rattle.vm_world.specs.hat_layer.Pool.{translation_at};
+ghost use Rattle.std.specs.Prelude.{◌≡◌, ◌≢◌, ◌<◌, ℕ, length, Some, None};
 ghost use Rattle.page_store.specs.page_hash.declared.PageName.{PageName};
 ghost use Rattle.page_store.specs.Seen.{residence};
 ghost use Rattle.page_store.specs.Steps.{after_abort};
-ghost use Rattle.vm_world.specs.anon_map.Maps.{IsMapThere, places_of, with_places};
+ghost use Rattle.vm_world.specs.anon_map.Maps.{IsMapThere, places_of};
 ghost use Rattle.vm_world.specs.anon_slots.Slots.{count_at, with_count};
-ghost use Rattle.vm_world.specs.Segments.{Spaces, Spot};
+ghost use Rattle.vm_world.specs.Segments.{Spaces};
 ghost use Rattle.vm_world.specs.Serving.{ModifiesNone};
-ghost use Rattle.vm_world.specs.Words.{memory, Fits, IsFit, OnlySlotsAndMaps, OnlyAnonymous};
+ghost use Rattle.vm_world.specs.Words.{Fits, IsFit, OnlySlotsAndMaps, OnlyAnonymous};
 ghost use Rattle.vm_world.specs.World.{world_seen, slot_name, slot_in};
 ghost use Rattle.seg_ops.specs.Empties.{EmptiesPlace, IsUnloadedZero, LeavesSlot};
-ghost use Rattle.seg_ops.specs.OwnPages.{OwnPagesLaw, OwnShownLaw, without_own_page};
-ghost use Rattle.seg_ops.specs.Slots.{OwnsAlone};
-ghost use Rattle.seg_ops.specs.Owners.{OwnerBecomes};
+ghost use Rattle.seg_ops.specs.OwnPages.{OwnPagesLaw, OwnShownLaw};
+ghost use Rattle.seg_ops.specs.Owners.{with_one_less, with_place, OwnerLoses, OwnerLeaves};
 
 use page_store::{Disk, PageName, Residence, SWAP_OBJECT};
 use vm_world::World;
@@ -25,10 +23,8 @@ fn take_out<D: Disk>(world: &mut World<D>, map: u32, place: u32, slot: u32)
     requires holds { slot_in world.old.maps map place ≡ Some slot }
     requires fits { IsFit world.old }
     // The slot is counted once less, and the place is empty.
-    ensures anon { world.new.anon
-        ≡ with_count world.old.anon slot (count_at world.old.anon slot - 1) }
-    ensures maps { world.new.maps ≡ with_places world.old.maps map
-        (slice_set (places_of world.old.maps map) place None) }
+    ensures anon { world.new.anon ≡ with_one_less world.old.anon slot }
+    ensures maps { world.new.maps ≡ with_place world.old.maps map place None }
     ensures leaves { LeavesSlot world.old.anon world.new.anon world.old.maps
         world.new.maps map place slot }
     // What stays.
@@ -47,18 +43,13 @@ pub fn leave_slot<D: Disk>(world: &mut World<D>, map: u32, place: u32, slot: u32
     requires shared { 1 < count_at world.old.anon slot }
     requires fits { IsFit world.old }
     // The slot is counted once less, and the place is empty.
-    ensures anon { world.new.anon
-        ≡ with_count world.old.anon slot (count_at world.old.anon slot - 1) }
-    ensures maps { world.new.maps ≡ with_places world.old.maps map
-        (slice_set (places_of world.old.maps map) place None) }
+    ensures anon { world.new.anon ≡ with_one_less world.old.anon slot }
+    ensures maps { world.new.maps ≡ with_place world.old.maps map place None }
     // What stays.
     ensures rest { OnlySlotsAndMaps world.old world.new }
-    ensures empties { (spaces : Spaces) (p q : ℕ) (x : Spot) → Fits world.old spaces
-        → OwnsAlone spaces p q map place x → translation_at world.old.hat.places p q ≡ None
-        → EmptiesPlace (world_seen world.old) (world_seen world.new) spaces map place slot }
+    ensures empties { OwnerLeaves world.old world.new map place slot }
     // In flat memory the cell of that page loses its own page, and nothing else changes.
-    ensures changes { OwnerBecomes world.old world.new map place
-        (λ p q F. without_own_page F p q) }
+    ensures changes { OwnerLoses world.old world.new map place }
 {
     take_out(world, map, place, slot);
 }
@@ -74,8 +65,7 @@ pub fn drop_slot<D: Disk>(world: &mut World<D>, map: u32, place: u32, slot: u32)
     requires fits { IsFit world.old }
     // The slot is free, the place is empty, and no frame has the slot's page.
     ensures anon { world.new.anon ≡ with_count world.old.anon slot 0 }
-    ensures maps { world.new.maps ≡ with_places world.old.maps map
-        (slice_set (places_of world.old.maps map) place None) }
+    ensures maps { world.new.maps ≡ with_place world.old.maps map place None }
     ensures store { world.new.store ≡ after_abort world.old.store (slot_name slot) }
     ensures absent { residence world.new.store (slot_name slot) ≡ Residence.Absent }
     // What stays.
@@ -83,15 +73,12 @@ pub fn drop_slot<D: Disk>(world: &mut World<D>, map: u32, place: u32, slot: u32)
         → residence world.new.store name ≡ residence world.old.store name }
     ensures modified { ModifiesNone (world_seen world.old) (world_seen world.new) }
     ensures rest { OnlyAnonymous world.old world.new }
-    ensures empties { (spaces : Spaces) (p q : ℕ) (x : Spot) → Fits world.old spaces
-        → OwnsAlone spaces p q map place x → translation_at world.old.hat.places p q ≡ None
-        → EmptiesPlace (world_seen world.old) (world_seen world.new) spaces map place slot }
+    ensures empties { OwnerLeaves world.old world.new map place slot }
     ensures zeros { (spaces : Spaces) (z : ℕ) → Fits world.old spaces
         → IsUnloadedZero world.old.hat.places spaces z map
         → EmptiesPlace (world_seen world.old) (world_seen world.new) spaces map place slot }
     // In flat memory the cell of that page loses its own page, and nothing else changes.
-    ensures changes { OwnerBecomes world.old world.new map place
-        (λ p q F. without_own_page F p q) }
+    ensures changes { OwnerLoses world.old world.new map place }
 {
     take_out(world, map, place, slot);
     let page = PageName {

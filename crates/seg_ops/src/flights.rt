@@ -1,7 +1,7 @@
 //! Transfers that begin: what goes out with a flight.
-ghost use Rattle.std.specs.Prelude.{◌≡◌, ◌<◌, ◌≤◌, ℕ, length, None, Some, IsFalse, IsTrue, IsSome};
+ghost use Rattle.std.specs.Prelude.{◌≡◌, ◌<◌, ◌≤◌, ℕ, length, Some, IsFalse, IsTrue, IsSome};
 ghost use Rattle.page_store.specs.block_device.DiskSeen.{DiskSeen};
-ghost use Rattle.vm_world.specs.hat_layer.Pool.{bits_of, drop_frame};
+ghost use Rattle.vm_world.specs.hat_layer.Pool.{drop_frame};
 ghost use Rattle.page_store.specs.page_hash.Names.{find};
 ghost use Rattle.page_store.specs.Bays.{bay_at, home};
 ghost use Rattle.page_store.specs.Flight.{note_of};
@@ -9,17 +9,17 @@ ghost use Rattle.page_store.specs.Layout.{page_place};
 ghost use Rattle.page_store.specs.Seen.{IsListedFrame};
 ghost use Rattle.page_store.specs.Steps.{next_frame};
 ghost use Rattle.page_store.specs.Transfers.{BeginsTransfer, after_begin, frame_out};
-ghost use Rattle.page_store.specs.Waits.{Waits, plan_page};
+ghost use Rattle.page_store.specs.Waits.{plan_page};
 ghost use Rattle.vm_world.specs.vnode_files.Files.{vnode_at};
 ghost use Rattle.vm_world.specs.vnode_files.Grow.{page_count};
 ghost use Rattle.vm_world.specs.vnode_files.Vnode.{block_at, is_blank};
 ghost use Rattle.vm_world.specs.Wants.{IsDirtyPage, MayReadIn};
-ghost use Rattle.vm_world.specs.Words.{IsFit, KeepsEveryPage, OnlyStoreAndHat, OnlyStoreAndTails, OnlySlotsAndFiles};
+ghost use Rattle.vm_world.specs.Words.{IsFit, KeepsEveryPage, OnlyStoreAndHat, OnlyStoreAndTails, OnlySlotsAndFiles, SameMaps, SameMapsAndTails};
 ghost use Rattle.vm_world.specs.World.{world_seen, world_table, file_blocks, is_unpushed, page_exists};
-ghost use Rattle.seg_ops.specs.Flights.{CanSend, IsUnloaded, BeginsFor, store_synced, places_pushed};
+ghost use Rattle.seg_ops.specs.Flights.{CanSend, IsPageReady, IsUnloaded, BeginsFor, store_synced, places_pushed};
 ghost use Rattle.seg_ops.specs.Frames.{TakesNextFrame, SendsButNext};
 ghost use Rattle.seg_ops.specs.Marks.{files_pushed, slots_pushed};
-ghost use Rattle.seg_ops.specs.Steps.{with_bits_gathered};
+ghost use Rattle.seg_ops.specs.Steps.{store_gathered};
 
 use crate::rooms::sync;
 use crate::tables::add_bits;
@@ -64,8 +64,7 @@ fn unload<D: Disk>(world: &mut World<D>, frame: u32)
     requires frame { frame < length world.old.store.frames }
     requires unlisted { ¬ IsListedFrame world.old.store frame }
     requires fits { IsFit world.old }
-    ensures store { world.new.store
-        ≡ with_bits_gathered world.old.store frame (bits_of frame world.old.hat.places) }
+    ensures store { world.new.store ≡ store_gathered world.old frame }
     ensures places { world.new.hat.places ≡ drop_frame frame world.old.hat.places }
     // What stays.
     ensures rest { OnlyStoreAndHat world.old world.new }
@@ -81,8 +80,7 @@ fn gather_for_push<D: Disk>(world: &mut World<D>, frame: u32)
     requires frame { frame < length world.old.store.frames }
     requires unlisted { ¬ IsListedFrame world.old.store frame }
     requires fits { IsFit world.old }
-    ensures store { world.new.store
-        ≡ with_bits_gathered world.old.store frame (bits_of frame world.old.hat.places) }
+    ensures store { world.new.store ≡ store_gathered world.old frame }
     ensures places { world.new.hat.places
         ≡ places_pushed (next_frame world.old.store) (Some frame) world.old.hat.places }
     // What stays.
@@ -109,12 +107,7 @@ fn prepare_push<D: Disk>(world: &mut World<D>, name: PageName)
     ensures anon { world.new.anon ≡ slots_pushed world.old.anon name }
     ensures ready { CanSend (world_seen world.new) (Plan.Push name) }
     // What stays.
-    ensures rest { world.new ≡ record world.old {
-      store = world.new.store;
-      anon = world.new.anon;
-      hat = world.new.hat;
-      files = world.new.files;
-    } }
+    ensures rest { SameMapsAndTails world.old world.new }
     ensures keeps { KeepsEveryPage world.old world.new }
 {
     let Residence::Home(frame) = world.store.resident(name) else {
@@ -175,8 +168,7 @@ fn world_table<D: Disk>(world: &World<D>, name: PageName) -> Place
 #[inline(always)]
 fn send<D: Disk>(world: &mut World<D>, seat: u32, plan: Plan) -> Flight<D>
     requires can { CanSend (world_seen world.old) plan }
-    requires ready { Waits world.old.store (plan_page plan)
-        (world_table (world_seen world.old) (plan_page plan)).disk None }
+    requires ready { IsPageReady (world_seen world.old) (plan_page plan) }
     requires unloaded { (frame : ℕ) → frame_out plan world.old.store ≡ Some frame
         → IsUnloaded world.old.hat.places frame }
     requires fits { IsFit world.old }
@@ -207,8 +199,7 @@ fn send<D: Disk>(world: &mut World<D>, seat: u32, plan: Plan) -> Flight<D>
 #[inline(always)]
 pub fn begin_push<D: Disk>(world: &mut World<D>, seat: u32, name: PageName) -> Flight<D>
     requires dirty { IsDirtyPage (world_seen world.old) name }
-    requires ready { Waits world.old.store name
-        (world_table (world_seen world.old) name).disk None }
+    requires ready { IsPageReady (world_seen world.old) name }
     requires fits { IsFit world.old }
     // The flight, and the store without what went out with it.
     ensures flight { BeginsFor (world_seen world.old) seat (Plan.Push name) result }
@@ -226,13 +217,7 @@ pub fn begin_push<D: Disk>(world: &mut World<D>, seat: u32, name: PageName) -> F
     // What the snapshot's frame held.
     ensures taken { TakesNextFrame world.old world.new }
     // What stays.
-    ensures rest { world.new ≡ record world.old {
-      store = world.new.store;
-      anon = world.new.anon;
-      hat = world.new.hat;
-      files = world.new.files;
-      pending = world.new.pending;
-    } }
+    ensures rest { SameMaps world.old world.new }
     ensures pages { SendsButNext world.old world.new seat (note_of result) }
 {
     prepare_push(world, name);
@@ -245,8 +230,7 @@ pub fn begin_push<D: Disk>(world: &mut World<D>, seat: u32, name: PageName) -> F
 pub fn begin_read<D: Disk>(world: &mut World<D>, seat: u32, name: PageName) -> Flight<D>
     requires missing { MayReadIn (world_seen world.old) name }
     requires available { IsSome (next_frame world.old.store) }
-    requires ready { Waits world.old.store name
-        (world_table (world_seen world.old) name).disk None }
+    requires ready { IsPageReady (world_seen world.old) name }
     requires fits { IsFit world.old }
     // The flight, and the store without what went out with it.
     ensures flight { BeginsFor (world_seen world.old) seat (Plan.Read name) result }

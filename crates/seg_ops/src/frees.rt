@@ -1,14 +1,14 @@
 //! A frame is freed before it is taken for an anonymous page.
 ghost use Rattle.seg_ops.specs.Frames.{TakesNextFrame, KeepsButNext};
-ghost use Rattle.std.specs.Prelude.{◌≡◌, ℕ, None, IfSome, MatchOption};
+ghost use Rattle.std.specs.Prelude.{◌≡◌, None, IfSome, MatchOption};
 ghost use Rattle.page_store.specs.page_hash.declared.PageName.{PageName};
 ghost use Rattle.page_store.specs.Laws.{Aborts};
-ghost use Rattle.page_store.specs.Seen.{IsListedFrame, residence};
 ghost use Rattle.page_store.specs.Steps.{next_frame, next_name, after_abort};
 ghost use Rattle.vm_world.specs.Serving.{ModifiesNone};
 ghost use Rattle.vm_world.specs.Words.{IsFit, OnlyStoreAndTails};
 ghost use Rattle.vm_world.specs.World.{world_seen};
 ghost use Rattle.vm_world.specs.WorldSteps.{stays};
+ghost use Rattle.seg_ops.specs.Rooms.{KeepsUnlisted, KeepsAbsent, ListsNoMore};
 
 use crate::tails::pend_tail;
 use page_store::{Disk, PageName, Residence, Store};
@@ -36,15 +36,9 @@ pub fn free_next<D: Disk>(world: &mut World<D>)
     // The tail of the file whose last page lost the frame is pending.
     ensures taken { TakesNextFrame world.old world.new }
     // What stays: each page that is home in a frame on no list is there, and the frame is on none; and no page comes home.
-    ensures homes { (page : PageName) (frame : ℕ)
-        → residence world.old.store page ≡ Residence.Home frame
-        → ¬ IsListedFrame world.old.store frame
-        → residence world.new.store page ≡ Residence.Home frame }
-    ensures absent { (page : PageName)
-        → residence world.old.store page ≡ Residence.Absent
-        → residence world.new.store page ≡ Residence.Absent }
-    ensures lists { (frame : ℕ) → IsListedFrame world.new.store frame
-        → IsListedFrame world.old.store frame }
+    ensures homes { KeepsUnlisted world.old.store world.new.store }
+    ensures absent { KeepsAbsent world.old.store world.new.store }
+    ensures lists { ListsNoMore world.old.store world.new.store }
     ensures modified { ModifiesNone (world_seen world.old) (world_seen world.new) }
     ensures rest { OnlyStoreAndTails world.old world.new }
     ensures pages { KeepsButNext world.old world.new }

@@ -1,6 +1,6 @@
 //! Translations that are loaded.
-ghost use Rattle.std.specs.Prelude.{◌≡◌, ℕ, ◌<◌, false, length, Some, option_map};
-ghost use Rattle.vm_world.specs.hat_layer.Pool.{translation_at, is_of, holds, told_of, fresh_translation, dropped_by_load};
+ghost use Rattle.std.specs.Prelude.{◌≡◌, ℕ, ◌<◌, length, option_map};
+ghost use Rattle.vm_world.specs.hat_layer.Pool.{told_of, fresh_translation, dropped_by_load};
 ghost use Rattle.page_store.specs.page_hash.declared.PageName.{PageName};
 ghost use Rattle.page_store.specs.Laws.{SameResidence};
 ghost use Rattle.page_store.specs.Seen.{IsListedFrame, residence};
@@ -10,7 +10,7 @@ ghost use Rattle.vm_world.specs.Serving.{ModifiesNone};
 ghost use Rattle.vm_world.specs.TranslationsFit.{TranslationFits};
 ghost use Rattle.vm_world.specs.Words.{Fits, IsFit, KeepsPages, KeepsEveryPage, OnlyStore, OnlyStoreAndHat};
 ghost use Rattle.vm_world.specs.World.{world_seen};
-ghost use Rattle.seg_ops.specs.Steps.{MayShow, with_dropped_gathered};
+ghost use Rattle.seg_ops.specs.Steps.{IsLoaded, KeepsOtherTranslations, KeepsWhereShown, with_dropped_gathered};
 
 use crate::tables::gather;
 use page_store::{Disk, PageName, Residence};
@@ -21,14 +21,11 @@ pub fn install<D: Disk>(world: &mut World<D>, space: u32, page: u32, frame: u32,
     requires frame { frame < length world.old.store.frames }
     requires fits { IsFit world.old }
     // The page has its translation, and what gave way is told to its page.
-    ensures loaded { translation_at world.new.hat.places space page
-        ≡ Some (fresh_translation space page frame writable) }
+    ensures loaded { IsLoaded world.new space page frame writable }
     ensures store { world.new.store ≡ with_dropped_gathered world.old.store
         (option_map told_of (dropped_by_load world.old.hat space page)) }
     // What stays: every other translation, and the rest of the world.
-    ensures kept { (s p : ℕ) → is_of s p (fresh_translation space page frame writable) ≡ false
-        → holds s p (dropped_by_load world.old.hat space page) ≡ false
-        → translation_at world.new.hat.places s p ≡ translation_at world.old.hat.places s p }
+    ensures kept { KeepsOtherTranslations world.old.hat world.new.hat space page frame writable }
     ensures rest { OnlyStoreAndHat world.old world.new }
     ensures stay { SameResidence world.old.store world.new.store }
     ensures modified { ModifiesNone (world_seen world.old) (world_seen world.new) }
@@ -53,21 +50,16 @@ pub fn show<D: Disk>(
     requires home { residence world.old.store name ≡ Residence.Home frame }
     requires fits { IsFit world.old }
     // The page has its translation, and what gave way is told to its page.
-    ensures loaded { translation_at world.new.hat.places space page
-        ≡ Some (fresh_translation space page frame writable) }
+    ensures loaded { IsLoaded world.new space page frame writable }
     ensures store { world.new.store
         ≡ with_dropped_gathered (after_reclaim world.old.store name)
         (option_map told_of (dropped_by_load world.old.hat space page)) }
     // What stays: every other translation, and the rest of the world.
-    ensures kept { (s p : ℕ) → is_of s p (fresh_translation space page frame writable) ≡ false
-        → holds s p (dropped_by_load world.old.hat space page) ≡ false
-        → translation_at world.new.hat.places s p ≡ translation_at world.old.hat.places s p }
+    ensures kept { KeepsOtherTranslations world.old.hat world.new.hat space page frame writable }
     ensures rest { OnlyStoreAndHat world.old world.new }
     ensures stay { SameResidence world.old.store world.new.store }
     ensures modified { ModifiesNone (world_seen world.old) (world_seen world.new) }
-    ensures keeps { (spaces : Spaces) → Fits world.old spaces
-        → MayShow (world_seen world.old) spaces space page name writable
-        → KeepsPages (world_seen world.old) (world_seen world.new) spaces }
+    ensures keeps { KeepsWhereShown world.old world.new space page name writable }
 {
     world.store.reclaim(name);
     install(world, space, page, frame, writable);

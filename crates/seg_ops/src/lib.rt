@@ -4,6 +4,7 @@
 mod accesses;
 mod anon;
 mod blank;
+mod cleans;
 mod copies;
 mod drops;
 mod empties;
@@ -22,6 +23,7 @@ mod tails;
 pub use accesses::{frame_for, read, write};
 pub use anon::{make_copy, make_zero, places_law};
 pub use blank::{fill, fill_page};
+pub use cleans::clean_pages;
 pub use copies::{copy_slot, zero_slot};
 pub use drops::drop_translation;
 pub use empties::{drop_slot, leave_slot, own_pages_law, own_shown_law};

@@ -1,7 +1,5 @@
 //! Zero objects that nothing shows any more.
 ghost use Rattle.std.specs.Prelude.{◌≡◌, ◌<◌, ◌≤◌, ℕ, length, replicate, None};
-ghost use Rattle.page_store.specs.page_hash.declared.PageName.{PageName};
-ghost use Rattle.page_store.specs.Seen.{residence};
 ghost use Rattle.vm_world.specs.anon_map.Maps.{IsMapThere, places_of, with_places};
 ghost use Rattle.vm_world.specs.anon_slots.Slots.{count_at};
 ghost use Rattle.vm_world.specs.CallSteps.{ChangesMemory};
@@ -11,6 +9,7 @@ ghost use Rattle.vm_world.specs.Serving.{ModifiesNone};
 ghost use Rattle.vm_world.specs.Words.{memory, Fits, OnlyAnonymous};
 ghost use Rattle.vm_world.specs.World.{world_seen};
 ghost use Rattle.seg_ops.specs.Empties.{IsUnloadedZero};
+ghost use Rattle.seg_ops.specs.Owners.{KeepsHeldPages};
 
 use crate::ranges::empty_place;
 use page_store::Disk;
@@ -29,9 +28,7 @@ pub fn drop_object<D: Disk>(world: &mut World<D>, map: u32)
     // No slot is counted more often.
     ensures fall { (slot : ℕ) → count_at world.new.anon slot ≤ count_at world.old.anon slot }
     // What stays: each page of a file, and that of each slot that is still held, is where it was.
-    ensures stay { (name : PageName)
-        → (name.object ≡ 64 → 0 < count_at world.new.anon name.page)
-        → residence world.new.store name ≡ residence world.old.store name }
+    ensures stay { KeepsHeldPages world.old world.new }
     ensures modified { ModifiesNone (world_seen world.old) (world_seen world.new) }
     ensures rest { OnlyAnonymous world.old world.new }
     // In flat memory the zero object is zeros, and nothing else changes.

@@ -1,7 +1,5 @@
 //! Ranges of places of anon maps that are emptied.
-ghost use Rattle.std.specs.Prelude.{◌≡◌, ◌<◌, ◌≤◌, ◌-◌, ℕ, length, None, slice_set};
-ghost use Rattle.page_store.specs.page_hash.declared.PageName.{PageName};
-ghost use Rattle.page_store.specs.Seen.{residence};
+ghost use Rattle.std.specs.Prelude.{◌≡◌, ◌<◌, ◌≤◌, ◌-◌, ℕ, length, None};
 ghost use Rattle.vm_world.specs.anon_map.Maps.{IsMapThere, places_of, with_places};
 ghost use Rattle.vm_world.specs.anon_slots.Slots.{count_at};
 ghost use Rattle.vm_world.specs.CallSteps.{ChangesMemory};
@@ -10,8 +8,8 @@ ghost use Rattle.vm_world.specs.Serving.{ModifiesNone};
 ghost use Rattle.vm_world.specs.Words.{memory, Fits, IsFit, OnlyAnonymous};
 ghost use Rattle.vm_world.specs.World.{world_seen};
 ghost use Rattle.seg_ops.specs.Empties.{EmptiesPlaces, IsUnloadedZero, OwnsPlaces, places_emptied};
-ghost use Rattle.seg_ops.specs.OwnPages.{without_own_page, without_own_pages};
-ghost use Rattle.seg_ops.specs.Owners.{OwnerBecomes};
+ghost use Rattle.seg_ops.specs.OwnPages.{without_own_pages};
+ghost use Rattle.seg_ops.specs.Owners.{with_place, KeepsHeldPages, OwnerLoses};
 
 use crate::empties::{drop_slot, leave_slot};
 use page_store::Disk;
@@ -23,20 +21,16 @@ pub(crate) fn empty_place<D: Disk>(world: &mut World<D>, map: u32, place: u32)
     requires within { place < length (places_of world.old.maps map) }
     requires fits { IsFit world.old }
     // The place is empty, and nothing is reserved or given up.
-    ensures maps { world.new.maps ≡ with_places world.old.maps map
-        (slice_set (places_of world.old.maps map) place None) }
+    ensures maps { world.new.maps ≡ with_place world.old.maps map place None }
     ensures reserved { world.new.anon.reserved ≡ world.old.anon.reserved }
     // No slot is counted more often.
     ensures fall { (slot : ℕ) → count_at world.new.anon slot ≤ count_at world.old.anon slot }
     // What stays: each page of a file, and that of each slot that is still held, is where it was.
-    ensures stay { (name : PageName)
-        → (name.object ≡ 64 → 0 < count_at world.new.anon name.page)
-        → residence world.new.store name ≡ residence world.old.store name }
+    ensures stay { KeepsHeldPages world.old world.new }
     ensures modified { ModifiesNone (world_seen world.old) (world_seen world.new) }
     ensures rest { OnlyAnonymous world.old world.new }
     // In flat memory the cell of its page loses its own page, and nothing else changes.
-    ensures changes { OwnerBecomes world.old world.new map place
-        (λ p q F. without_own_page F p q) }
+    ensures changes { OwnerLoses world.old world.new map place }
     // A zero object's is emptied alone.
     ensures zeros { (spaces : Spaces) (z : ℕ) → Fits world.old spaces
         → IsUnloadedZero world.old.hat.places spaces z map
@@ -68,9 +62,7 @@ pub fn drop_places<D: Disk>(world: &mut World<D>, map: u32, from: u32, end: u32)
     // No slot is counted more often.
     ensures fall { (slot : ℕ) → count_at world.new.anon slot ≤ count_at world.old.anon slot }
     // What stays: each page of a file, and that of each slot that is still held, is where it was.
-    ensures stay { (name : PageName)
-        → (name.object ≡ 64 → 0 < count_at world.new.anon name.page)
-        → residence world.new.store name ≡ residence world.old.store name }
+    ensures stay { KeepsHeldPages world.old world.new }
     ensures modified { ModifiesNone (world_seen world.old) (world_seen world.new) }
     ensures rest { OnlyAnonymous world.old world.new }
     // In flat memory the cells of their pages lose their own pages, and nothing else changes.

@@ -1,14 +1,14 @@
 //! Room for another page: a victim's bits are gathered, and it is released where it is clean.
 ghost use Rattle.std.specs.Prelude.{◌≡◌, ◌≢◌, ℕ, ◌<◌, ◌++◌, ◌∷◌, [], length, false, Some, None, IsSome, IsTrue, IfSome};
 ghost use Rattle.page_store.specs.core_arena.Bytes.{bytes_at};
-ghost use Rattle.vm_world.specs.hat_layer.Pool.{bits_of, change_frame, drop_frame, with_clear_bits};
+ghost use Rattle.vm_world.specs.hat_layer.Pool.{change_frame, drop_frame, with_clear_bits};
 ghost use Rattle.page_store.specs.page_lock.Rows.{row_at};
 ghost use Rattle.page_store.specs.Seen.{IsListedFrame, residence};
 ghost use Rattle.page_store.specs.Steps.{next_frame};
 ghost use Rattle.page_store.specs.Waits.{IsVictim};
 ghost use Rattle.page_store.specs.declared.residence.Residence.TheVariants.{Home};
 ghost use Rattle.seg_ops.specs.Rooms.{CanGiveWay, ChoosesBeside, HasRoomUnless, ListsOneMore, MakesRoom, OneIsHomeBut, SameLists, was_used};
-ghost use Rattle.seg_ops.specs.Steps.{IsUnwritten, with_bits_gathered};
+ghost use Rattle.seg_ops.specs.Steps.{IsUnwritten, store_gathered};
 ghost use Rattle.vm_world.specs.Words.{IsFit, IsKnown, OneIsHome, OneIsHomeBeside};
 ghost use Rattle.vm_world.specs.World.{world_seen};
 
@@ -22,8 +22,7 @@ pub fn sync<D: Disk>(world: &mut World<D>, frame: u32)
     requires unlisted { ¬ IsListedFrame world.old.store frame }
     requires fits { IsFit world.old }
     // The bits are in the page.
-    ensures store { world.new.store
-        ≡ with_bits_gathered world.old.store frame (bits_of frame world.old.hat.places) }
+    ensures store { world.new.store ≡ store_gathered world.old frame }
     ensures places { world.new.hat.places
         ≡ change_frame frame with_clear_bits world.old.hat.places }
     ensures unwritten { IsUnwritten world.new.hat.places frame }
@@ -60,8 +59,7 @@ fn was_used<D: Disk>(world: &mut World<D>, frame: u32) -> bool
     requires unlisted { ¬ IsListedFrame world.old.store frame }
     requires fits { IsFit world.old }
     ensures used { result ≡ was_used (world_seen world.old) frame }
-    ensures store { world.new.store
-        ≡ with_bits_gathered world.old.store frame (bits_of frame world.old.hat.places) }
+    ensures store { world.new.store ≡ store_gathered world.old frame }
     ensures unwritten { IsUnwritten world.new.hat.places frame }
     // What stays.
     ensures makes { MakesRoom world.old world.new }

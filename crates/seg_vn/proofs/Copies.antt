@@ -15,9 +15,9 @@ use Rattle.seg_ops.specs.OwnPages.{with_own_shown}
 use Rattle.seg_ops.specs.Slots.{OwnsAlone, with_own_page}
 use Rattle.seg_ops.proofs.SlotOwners.{owner-private}
 use Rattle.seg_ops.proofs.StillSteps.{memory_of}
-use Rattle.seg_vn.specs.AnyPlaces.{CellShows}
-use Rattle.seg_vn.proofs.AnyFaults.{changes-as, lost-none}
-use Rattle.seg_vn.proofs.AnyPlaces.{gets-page, kept-own}
+use Rattle.seg_vn.specs.FaultPlaces.{CellShows}
+use Rattle.seg_vn.proofs.ServedFaults.{changes-as, lost-none}
+use Rattle.seg_vn.proofs.FaultPlaces.{gets-page, kept-own}
 
 module _ (old new : World) (spaces : Spaces) (p q m i : ℕ) (x : Spot) (fits : MemoryFits (memory_of old spaces)) (owns : OwnsAlone spaces p q m i x) (free : next_name old.store ≡ None) where
   -- from nothing

@@ -53,12 +53,12 @@ use Rattle.seg_ops.proofs.OwnShown.{own_shown_law}
 use Rattle.seg_ops.proofs.SlotMemory.{home-value_bytes}
 use Rattle.seg_ops.proofs.SlotOwners.{places_law}
 use Rattle.seg_ops.proofs.StillSteps.{memory_of, value-is}
-use Rattle.seg_vn.specs.AnyPlaces.{CellShows, CopyPlace, OwnSpot, ShowsZeros}
+use Rattle.seg_vn.specs.FaultPlaces.{CellShows, CopyPlace, OwnSpot, ShowsZeros}
 use Rattle.seg_ops.specs.Faults.{Accesses, FaultModifies, ServesFault}
 use Rattle.seg_ops.specs.SlotsDue.{KeepsSlots, SlotsAfter, slot_due}
-use Rattle.seg_vn.proofs.AnyFaults.{changes-kept, serves-kept}
-use Rattle.seg_vn.proofs.AnyPlaces.{own-none, own-private, file-shown, zero-shown, zero-at}
-use Rattle.seg_vn.proofs.AnySteps.{makes-copy, own-gets, own-shown, pends-then, shown-waits, shows-same, wanted-none}
+use Rattle.seg_vn.proofs.ServedFaults.{changes-kept, serves-kept}
+use Rattle.seg_vn.proofs.FaultPlaces.{own-none, own-private, file-shown, zero-shown, zero-at}
+use Rattle.seg_vn.proofs.FaultSteps.{makes-copy, own-gets, own-shown, pends-then, shown-waits, shows-same, wanted-none}
 use Rattle.seg_vn.proofs.Faulted.{wanted-name, absent-home}
 use Rattle.seg_vn.proofs.SlotsDue.{due-own}
 use Rattle.seg_vn.proofs.Takes.{takes-none}

@@ -14,13 +14,14 @@ pub mod Modifying
 pub mod FilePlaces
 pub mod Faulted
 pub mod SlotsDue
-pub mod AnyFaults
-pub mod AnyPlaces
-pub mod AnySteps
+pub mod ServedFaults
+pub mod FaultPlaces
+pub mod FaultSteps
 mod Copies
 mod CopySteps
 pub mod PlacesShown
 pub mod ShownSome
+pub mod SharedFiles
 pub mod HomeFrames
 pub use Rattle.seg_ops.proofs.vnode_files as vnode_files
 pub use Rattle.seg_ops.proofs.flat_model as flat_model

@@ -30,7 +30,7 @@ use Rattle.seg_ops.proofs.vm_world.Maps.{get-map_with}
 use Rattle.seg_ops.proofs.vm_world.PageNames.{not-slot, file-apart}
 use Rattle.seg_ops.proofs.vm_world.PageNames as names
 use Rattle.seg_ops.proofs.StillSteps.{memory_of}
-use Rattle.seg_vn.proofs.AnyPlaces.{file-at, not-new, own-by_slot, own-none, shown-by, zero-at, zero-map-at}
+use Rattle.seg_vn.proofs.FaultPlaces.{file-at, not-new, own-by_slot, own-none, shown-by, zero-at, zero-map-at}
 use Rattle.seg_vn.proofs.CopySteps.{object-shows}
 
 or-right : (a b : Bool) → a ≡ false → (a || b) ≡ b

@@ -17,7 +17,7 @@ use Rattle.seg_ops.specs.vm_world.Segments.{Spot, Spaces, spot_at, own_slot, obj
 use Rattle.seg_ops.specs.vm_world.Wants.{shows_page, object_has}
 use Rattle.seg_ops.specs.vm_world.World.{World, slot_name, slot_in}
 use Rattle.seg_ops.proofs.StillSteps.{memory_of}
-use Rattle.seg_vn.proofs.AnyPlaces.{new-private, own-none, private-has}
+use Rattle.seg_vn.proofs.FaultPlaces.{new-private, own-none, private-has}
 use Rattle.seg_vn.proofs.CopySteps.{object-zeros}
 use Rattle.seg_vn.proofs.PlacesShown.{shown-page}
 

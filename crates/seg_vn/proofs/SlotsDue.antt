@@ -14,7 +14,7 @@ use Rattle.seg_ops.specs.vm_world.World.{World, slot_in}
 use Rattle.seg_ops.specs.Slots.{GivesSlot, anon_left}
 use Rattle.seg_ops.specs.declared.plans.Fault.TheVariants as fault
 use Rattle.seg_ops.specs.vm_world.declared.wants.Wants.TheVariants as wants
-use Rattle.seg_vn.specs.AnyPlaces.{ZerosShown}
+use Rattle.seg_vn.specs.FaultPlaces.{ZerosShown}
 use Rattle.seg_ops.specs.SlotsDue.{MakesSlotAt, MapPlace, SlotsAfter, holds_alone, makes_own, object_map_place, own_map_place, slot_due, zeros_due}
 
 -- NONE IS DUE where a page is shown, and may be written in place, if it is to be written.

@@ -6,7 +6,7 @@ use Rattle.seg_ops.specs.page_store.declared.residence.Residence.TheVariants.{Ho
 use Rattle.seg_ops.specs.vm_world.FlatMemory.{Memory}
 use Rattle.seg_ops.specs.vm_world.Segments.{Spaces}
 use Rattle.seg_ops.specs.vm_world.Serving.{AreReplaced, IsUnpushedSlot, ModifiesOnly, TakesFrames}
-use Rattle.seg_ops.specs.vm_world.Words.{memory}
+use Rattle.seg_ops.specs.vm_world.Words.{memory, Fits}
 use Rattle.seg_ops.specs.vm_world.World.{World}
 use Rattle.seg_ops.specs.vm_world.declared.world.World as rust
 use Rattle.seg_ops.specs.Plans.{FetchesPage}
@@ -28,6 +28,9 @@ pub record BringsPage (old new : Memory) (pending more : ℕ) (name : PageName) 
   pub modified : ModifiesOnly (BringModifies new.world name answer) old.world new.world
   pub means : IsBrought old new name answer
 
--- The same of the world before and after.
+-- The same of the world before and after; and whatever the spaces.
 abbrev pub PageBrought : {D : Type 0} → rust.World D → rust.World D → Spaces → PageName → Result Unit Wants → Type 0
 PageBrought old new spaces name answer = BringsPage (memory old spaces) (memory new spaces) old.pending new.pending name answer
+
+abbrev pub IsPageBrought : {D : Type 0} → rust.World D → rust.World D → PageName → Result Unit Wants → Type 0
+IsPageBrought old new name answer = (spaces : Spaces) → Fits old spaces → PageBrought old new spaces name answer

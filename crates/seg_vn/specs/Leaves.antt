@@ -11,7 +11,9 @@ use Rattle.seg_ops.specs.vm_world.FlatMemory.{Memory, flat_memory}
 use Rattle.seg_ops.specs.vm_world.SegmentSteps.{ChangesSegments}
 use Rattle.seg_ops.specs.vm_world.Segments.{Spaces}
 use Rattle.seg_ops.specs.vm_world.SpaceSteps.{AreUnloaded}
-use Rattle.seg_ops.specs.vm_world.World.{World}
+use Rattle.seg_ops.specs.vm_world.Words.{memory}
+use Rattle.seg_ops.specs.vm_world.World.{World, world_seen}
+use Rattle.seg_ops.specs.vm_world.declared.world.World as rust
 use Rattle.seg_ops.specs.vm_world.declared.segment.Segment.{Segment}
 use Rattle.seg_vn.specs.Cuts.{IsPartAt}
 
@@ -25,6 +27,10 @@ pub record LosesWithPages (p first n : ℕ) (old new : Memory) : Type 0 where
   pub f : Flat → Flat
   pub changes : ChangesSegments p old new f
   pub goes : (born : set.FinSet nat_cmp) (notes : Notes) → without_pages (f (flat_memory old born notes)) p first n ≡ without_pages (flat_memory old born notes) p first n
+
+-- Whatever the spaces in which the segment is such a part, this changes.
+abbrev pub LosesPart : {D : Type 0} → rust.World D → rust.World D → ℕ → ℕ → Segment → Type 0
+LosesPart old new p first s = (spaces : Spaces) → IsUnloadedPart (world_seen old) spaces p first s → LosesWithPages p first s.pages (memory old spaces) (memory new spaces)
 
 -- The zero object that the segment shows is out of the list where its map has one holder, and else the list stays.
 pub record LosesObject (maps : List (Option Map)) (s : Segment) (old new : List (Option ℕ)) : Type 0 where

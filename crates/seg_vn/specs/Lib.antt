@@ -1,15 +1,17 @@
 pub mod Segments
 pub mod Spaces
+pub mod Words
 pub mod Lends
 pub mod Clears
 pub mod Leaves
 pub mod Serves
 pub mod Brings
 pub mod Shown
-pub mod AnyPlaces
+pub mod FaultPlaces
 pub mod Cuts
 pub mod Copied
 pub mod Protections
+pub mod CleanPlaces
 pub use Rattle.seg_ops.specs.vm_types as vm_types
 pub use Rattle.seg_ops.specs.vnode_files as vnode_files
 pub use Rattle.seg_ops.specs.flat_model as flat_model

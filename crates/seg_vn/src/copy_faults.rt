@@ -1,22 +1,20 @@
 //! Stores to private pages that aren't their cell's alone: the cell gets a page of its own.
-ghost use Rattle.std.specs.Prelude.{◌≡◌, ◌<◌, ℕ, Option, true, length, Some, None, IsSome, IsTrue, IfSome};
+ghost use Rattle.std.specs.Prelude.{◌≡◌, ◌<◌, ℕ, Option, true, Some, None, IsSome, IsTrue, IfSome};
 ghost use Rattle.seg_ops.specs.core_arena.Bytes.{zeros};
 ghost use Rattle.seg_ops.specs.hat_layer.Pool.{translation_at};
 ghost use Rattle.seg_ops.specs.page_hash.Names.{find};
 ghost use Rattle.seg_ops.specs.page_hash.declared.PageName.{PageName};
 ghost use Rattle.seg_ops.specs.page_store.Seen.{IsListedFrame, residence};
 ghost use Rattle.seg_ops.specs.page_store.Steps.{next_frame, next_name, home_bytes};
-ghost use Rattle.seg_ops.specs.anon_map.Maps.{IsMapThere, places_of};
-ghost use Rattle.seg_ops.specs.anon_slots.Slots.{count_at};
-ghost use Rattle.seg_ops.specs.vm_world.Segments.{Spaces, Spot};
+ghost use Rattle.seg_ops.specs.vm_world.Segments.{Spaces};
 ghost use Rattle.seg_ops.specs.vm_world.Serving.{ModifiesNone};
 ghost use Rattle.seg_ops.specs.vm_world.Words.{memory, Fits, IsFit, IsKnown, OneIsHome, OneIsHomeBeside, TwoAreHome, OnlyFrames, SameFiles, SameFilesAndHat};
-ghost use Rattle.seg_ops.specs.vm_world.World.{world_seen, slot_name, slot_in, is_unpushed, page_exists};
-ghost use Rattle.seg_vn.specs.AnyPlaces.{CopyPlace, GetsOwn, OwnSpot, ShowsZeros, TakesNext};
-ghost use Rattle.seg_ops.specs.Faults.{FaultServed};
+ghost use Rattle.seg_ops.specs.vm_world.World.{world_seen, is_unpushed, page_exists};
+ghost use Rattle.seg_vn.specs.FaultPlaces.{IsOwnPlace, ShowsZeros, TakesNext};
 ghost use Rattle.seg_ops.specs.Owners.{IsOwned};
+ghost use Rattle.seg_ops.specs.Rooms.{KeepsUnlisted, KeepsAbsent, ListsNoMore};
 
-use crate::any_pages::is_unpushed;
+use crate::brought::is_unpushed;
 use crate::segment::load_page;
 use seg_ops::{
     Disk, Fault, Hold, PageName, Plan, Residence, SWAP_OBJECT, Wants, World, ask, copy_slot,
@@ -24,52 +22,46 @@ use seg_ops::{
     take_back, zero_slot,
 };
 
+/// A place of the anon map of a private mapping, and the slot that it holds, if it holds one.
+#[derive(Clone, Copy)]
+pub(crate) struct OwnPlace {
+    pub(crate) map: u32,
+    pub(crate) place: u32,
+    pub(crate) slot: Option<u32>,
+}
+
 /// Makes a slot for a place of a private mapping, with a copy of the page that it shows, in a frame that is free.
-fn copy_into<D: Disk>(
-    world: &mut World<D>,
-    name: PageName,
-    map: u32,
-    place: u32,
-    slot: Option<u32>,
-) -> u32
-    requires there { IsMapThere world.old.maps map }
-    requires within { place < length (places_of world.old.maps map) }
-    requires holds { slot_in world.old.maps map place ≡ slot }
-    requires shared { IfSome slot (λ s. (1 < count_at world.old.anon s) × (name ≡ slot_name s)) }
+fn copy_into<D: Disk>(world: &mut World<D>, name: PageName, own: OwnPlace) -> u32
+    requires own { IsOwnPlace world.old.maps own }
+    requires shared { IfSome own.slot (IsSharedSlot world.old name) }
     requires source { (frame : ℕ) × (residence world.old.store name ≡ Residence.Home frame)
         × (¬ IsListedFrame world.old.store frame) }
     requires available { IsSome (next_frame world.old.store) }
-    requires owned { IsOwned world.old map place }
-    ensures own { GetsOwn (world_seen world.old) (world_seen world.new)
-        world.old.pending world.new.pending map place slot
+    requires owned { IsOwned world.old own.map own.place }
+    ensures own { GivesOwn world.old world.new own
         (home_bytes world.old.store (find world.old.store.names name)) result }
     // What stays.
     ensures rest { SameFilesAndHat world.old world.new }
 {
-    match slot {
-        None => make_copy(world, name, map, place),
-        Some(held) => copy_slot(world, map, place, held),
+    match own.slot {
+        None => make_copy(world, name, own.map, own.place),
+        Some(held) => copy_slot(world, own.map, own.place, held),
     }
 }
 
 /// Makes a slot for a place of a private mapping that shows zeros, in a frame that is free.
-fn zeros_into<D: Disk>(world: &mut World<D>, map: u32, place: u32, slot: Option<u32>) -> u32
-    requires there { IsMapThere world.old.maps map }
-    requires within { place < length (places_of world.old.maps map) }
-    requires holds { slot_in world.old.maps map place ≡ slot }
-    requires shared { IfSome slot (λ s. (1 < count_at world.old.anon s)
-        × (residence world.old.store (slot_name s) ≡ Residence.Absent)
-        × IsTrue (is_unpushed world.old.files world.old.anon (slot_name s))) }
+fn zeros_into<D: Disk>(world: &mut World<D>, own: OwnPlace) -> u32
+    requires own { IsOwnPlace world.old.maps own }
+    requires shared { IfSome own.slot (IsSharedBlank world.old) }
     requires available { IsSome (next_frame world.old.store) }
-    requires owned { IsOwned world.old map place }
-    ensures own { GetsOwn (world_seen world.old) (world_seen world.new)
-        world.old.pending world.new.pending map place slot zeros result }
+    requires owned { IsOwned world.old own.map own.place }
+    ensures own { GivesOwn world.old world.new own zeros result }
     // What stays.
     ensures rest { SameFilesAndHat world.old world.new }
 {
-    match slot {
-        None => make_zero(world, map, place),
-        Some(held) => zero_slot(world, map, place, held),
+    match own.slot {
+        None => make_zero(world, own.map, own.place),
+        Some(held) => zero_slot(world, own.map, own.place, held),
     }
 }
 
@@ -84,15 +76,9 @@ fn clear_way<D: Disk>(world: &mut World<D>, space: u32, page: u32)
         → TakesNext (memory world.old spaces) (world_seen world.new) world.old.pending
         world.new.pending }
     // What stays.
-    ensures homes { (page : PageName) (frame : ℕ)
-        → residence world.old.store page ≡ Residence.Home frame
-        → ¬ IsListedFrame world.old.store frame
-        → residence world.new.store page ≡ Residence.Home frame }
-    ensures absent { (page : PageName)
-        → residence world.old.store page ≡ Residence.Absent
-        → residence world.new.store page ≡ Residence.Absent }
-    ensures lists { (frame : ℕ) → IsListedFrame world.new.store frame
-        → IsListedFrame world.old.store frame }
+    ensures homes { KeepsUnlisted world.old.store world.new.store }
+    ensures absent { KeepsAbsent world.old.store world.new.store }
+    ensures lists { ListsNoMore world.old.store world.new.store }
     ensures modified { ModifiesNone (world_seen world.old) (world_seen world.new) }
     ensures rest { OnlyFrames world.old world.new }
 {
@@ -105,25 +91,15 @@ pub(crate) fn own_zeros<D: Disk>(
     world: &mut World<D>,
     space: u32,
     page: u32,
-    map: u32,
-    place: u32,
-    slot: Option<u32>,
+    own: OwnPlace,
 ) -> Result<Fault, Wants>
-    requires there { IsMapThere world.old.maps map }
-    requires within { place < length (places_of world.old.maps map) }
-    requires holds { slot_in world.old.maps map place ≡ slot }
-    requires shared { IfSome slot (λ s. (1 < count_at world.old.anon s)
-        × (residence world.old.store (slot_name s) ≡ Residence.Absent)
-        × IsTrue (is_unpushed world.old.files world.old.anon (slot_name s))) }
+    requires own { IsOwnPlace world.old.maps own }
+    requires shared { IfSome own.slot (IsSharedBlank world.old) }
     requires home { OneIsHome world.old.store }
-    requires fits { (spaces : Spaces) × (x : Spot) × Fits world.old spaces
-        × OwnSpot spaces space page map place x }
+    requires fits { IsOwnSpot world.old space page own }
     requires noted { IsKnown world.old }
-    ensures serves { (spaces : Spaces) (x : Spot) (shown : Option PageName)
-        → Fits world.old spaces
-        → CopyPlace (world_seen world.old) spaces space page x map place slot shown
-        → ShowsZeros (world_seen world.old) shown
-        → FaultServed world.old world.new spaces space page x true result }
+    ensures serves { (shown : Option PageName) → ShowsZeros (world_seen world.old) shown
+        → ServesCopy world.old world.new space page own shown result }
     // What stays.
     ensures rest { SameFiles world.old world.new }
 {
@@ -131,9 +107,9 @@ pub(crate) fn own_zeros<D: Disk>(
         return Err(ask(world, Plan::Push(victim)));
     }
     clear_way(world, space, page);
-    let own = zeros_into(world, map, place, slot);
+    let slot = zeros_into(world, own);
     let object = SWAP_OBJECT;
-    load_page(world, space, page, PageName { object, page: own }, true);
+    load_page(world, space, page, PageName { object, page: slot }, true);
     Ok(Fault::Loaded)
 }
 
@@ -144,22 +120,15 @@ fn copy_page<D: Disk>(
     page: u32,
     name: PageName,
     frame: u32,
-    map: u32,
-    place: u32,
-    slot: Option<u32>,
+    own: OwnPlace,
 ) -> Result<Fault, Wants>
-    requires there { IsMapThere world.old.maps map }
-    requires within { place < length (places_of world.old.maps map) }
-    requires holds { slot_in world.old.maps map place ≡ slot }
-    requires shared { IfSome slot (λ s. (1 < count_at world.old.anon s) × (name ≡ slot_name s)) }
+    requires own { IsOwnPlace world.old.maps own }
+    requires shared { IfSome own.slot (IsSharedSlot world.old name) }
     requires source { residence world.old.store name ≡ Residence.Home frame }
     requires home { OneIsHomeBeside world.old.store frame }
-    requires fits { (spaces : Spaces) × (x : Spot) × Fits world.old spaces
-        × OwnSpot spaces space page map place x }
+    requires fits { IsOwnSpot world.old space page own }
     requires noted { IsKnown world.old }
-    ensures serves { (spaces : Spaces) (x : Spot) → Fits world.old spaces
-        → CopyPlace (world_seen world.old) spaces space page x map place slot (Some name)
-        → FaultServed world.old world.new spaces space page x true result }
+    ensures serves { ServesCopy world.old world.new space page own (Some name) result }
     // What stays.
     ensures rest { SameFiles world.old world.new }
 {
@@ -168,9 +137,9 @@ fn copy_page<D: Disk>(
         return Err(ask(world, Plan::Push(victim)));
     }
     clear_way(world, space, page);
-    let own = copy_into(world, name, map, place, slot);
+    let slot = copy_into(world, name, own);
     let object = SWAP_OBJECT;
-    load_page(world, space, page, PageName { object, page: own }, true);
+    load_page(world, space, page, PageName { object, page: slot }, true);
     Ok(Fault::Loaded)
 }
 
@@ -180,31 +149,24 @@ pub(crate) fn fault_copy<D: Disk>(
     space: u32,
     page: u32,
     name: PageName,
-    map: u32,
-    place: u32,
-    slot: Option<u32>,
+    own: OwnPlace,
 ) -> Result<Fault, Wants>
     requires exists { IsTrue (page_exists world.old.files world.old.anon name) }
-    requires there { IsMapThere world.old.maps map }
-    requires within { place < length (places_of world.old.maps map) }
-    requires holds { slot_in world.old.maps map place ≡ slot }
-    requires shared { IfSome slot (λ s. (1 < count_at world.old.anon s) × (name ≡ slot_name s)) }
+    requires own { IsOwnPlace world.old.maps own }
+    requires shared { IfSome own.slot (IsSharedSlot world.old name) }
     requires home { TwoAreHome world.old.store }
-    requires fits { (spaces : Spaces) × (x : Spot) × Fits world.old spaces
-        × OwnSpot spaces space page map place x }
+    requires fits { IsOwnSpot world.old space page own }
     requires noted { IsKnown world.old }
-    ensures serves { (spaces : Spaces) (x : Spot) → Fits world.old spaces
-        → CopyPlace (world_seen world.old) spaces space page x map place slot (Some name)
-        → FaultServed world.old world.new spaces space page x true result }
+    ensures serves { ServesCopy world.old world.new space page own (Some name) result }
     // What stays.
     ensures rest { SameFiles world.old world.new }
 {
     match world.store.resident(name) {
-        Residence::Home(frame) => copy_page(world, space, page, name, frame, map, place, slot),
+        Residence::Home(frame) => copy_page(world, space, page, name, frame, own),
         Residence::Moving(seat) => Err(Wants::Seat(Hold::Page(seat))),
         Residence::Absent => {
             if is_unpushed(world, name) {
-                own_zeros(world, space, page, map, place, slot)
+                own_zeros(world, space, page, own)
             } else {
                 Err(fetch(world, name))
             }

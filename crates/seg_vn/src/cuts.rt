@@ -33,7 +33,6 @@ fn cut_own<D: Disk>(
 }
 
 // One holder more of the map of a zero object, if there is one.
-#[tactic(auto, using(seg_ops::proofs::anon_map::MapLaws::with_holders_free))]
 pub(crate) fn hold_shown<D: Disk>(world: &mut World<D>, shown: Option<u32>)
     requires there { (map : ℕ) → shown ≡ Some map → IsMapThere world.old.maps map
         × (holders_of world.old.maps map < 2 ^ 32 - 1) }

@@ -2,7 +2,6 @@
 ghost use Rattle.std.specs.Prelude.{◌≡◌, ◌<◌, ◌≤◌, ◌+◌, ◌^◌, ◌-◌, ℕ, [], ◌∷◌, length, option_map, Some, None, IsSome, vec_capacity};
 ghost use Rattle.seg_ops.specs.anon_map.Maps.{IsMapThere, IsUnused, free_numbers, holders_of, places_of};
 ghost use Rattle.seg_ops.specs.anon_slots.Slots.{IsHeldSlot, count_at};
-ghost use Rattle.seg_ops.specs.vm_world.CountsFit.{slots_for_part};
 ghost use Rattle.seg_ops.specs.vm_world.ForkSteps.{CountsMore, maps_copied, slots_held};
 ghost use Rattle.seg_ops.specs.vm_world.Segments.{Spaces};
 ghost use Rattle.seg_ops.specs.vm_world.Serving.{ModifiesNone};
@@ -11,6 +10,7 @@ ghost use Rattle.seg_ops.specs.vm_world.World.{world_seen, slot_in};
 ghost use Rattle.seg_ops.specs.Writers.{HasNoWriter, WritersStay};
 ghost use Rattle.seg_vn.specs.Copied.{AreProtected, HasNoWriters, IsCopied, KeepsPlaces};
 ghost use Rattle.seg_vn.specs.Cuts.{IsPartAt};
+ghost use Rattle.seg_vn.specs.Words.{IsPart, OnlyCopies, slots_for_segment, with_map_copied};
 
 use crate::cuts::hold_shown;
 use crate::segment::VnSeg;
@@ -45,13 +45,7 @@ fn copy_map<D: Disk>(world: &mut World<D>, map: u32, room: Vec<Option<u32>>) -> 
     ensures unused { IsUnused world.old.maps result }
     ensures more { CountsMore world.old.anon.counts world.new.anon.counts
         (places_of world.old.maps map) }
-    ensures new { world.new ≡ record world.old {
-      anon = record world.old.anon {
-        counts = world.new.anon.counts;
-        reserved = world.old.anon.reserved + length (places_of world.old.maps map);
-      };
-      maps = maps_copied world.old.maps (Some map) result;
-    } }
+    ensures new { world.new ≡ with_map_copied world.old world.new.anon.counts map result }
     ensures free { free_numbers world.new.maps + 1 ≡ free_numbers world.old.maps }
 {
     let pages = world.maps.pages(map);
@@ -109,13 +103,11 @@ fn copy_own<D: Disk>(
     first: u32,
     room: Vec<Option<u32>>,
 ) -> Option<u32>
-    requires part { (spaces : Spaces)
-        × IsPartAt (world_seen world.old) spaces space first segment }
+    requires part { IsPart world.old space first segment }
     requires numbers { 0 < free_numbers world.old.maps }
     requires empty { room.items ≡ [] }
     requires roomy { IsSome segment.own → segment.pages ≤ vec_capacity room }
-    requires room { world.old.anon.reserved
-        + slots_for_part (record { first = first; pages = segment.pages; piece = segment })
+    requires room { world.old.anon.reserved + slots_for_segment first segment
         ≤ length world.old.anon.counts }
     // The right to write is taken from translations, which changes no page; and then the map is copied.
     ensures copied { (number : ℕ) × (result ≡ option_map (λ (map : ℕ). number) segment.own)
@@ -129,15 +121,7 @@ fn copy_own<D: Disk>(
         → IsPartAt (world_seen world.old) spaces space first segment
         → HasNoWriters world.new.hat.places spaces segment.own }
     ensures modified { ModifiesNone (world_seen world.old) (world_seen world.new) }
-    ensures rest { world.new ≡ record world.old {
-      anon = record world.old.anon {
-        counts = world.new.anon.counts;
-        reserved = world.old.anon.reserved
-            + slots_for_part (record { first = first; pages = segment.pages; piece = segment });
-      };
-      maps = world.new.maps;
-      hat = world.new.hat;
-    } }
+    ensures rest { OnlyCopies world.old world.new (slots_for_segment first segment) }
     ensures keeps { (spaces : Spaces) → Fits world.old spaces
         → KeepsPages (world_seen world.old)
         (record (world_seen world.old) { hat = world.new.hat }) spaces }
@@ -158,15 +142,13 @@ impl VnSeg {
         first: u32,
         room: Vec<Option<u32>>,
     ) -> VnSeg
-        requires part { (spaces : Spaces)
-            × IsPartAt (world_seen world.old) spaces space first self.now }
+        requires part { IsPart world.old space first self.now }
         requires numbers { 0 < free_numbers world.old.maps }
         requires empty { room.items ≡ [] }
         requires roomy { IsSome self.now.own → self.now.pages ≤ vec_capacity room }
         requires few { (map : ℕ) → self.now.shown ≡ Some map
             → holders_of world.old.maps map < 2 ^ 32 - 1 }
-        requires room { world.old.anon.reserved
-            + slots_for_part (record { first = first; pages = self.now.pages; piece = self.now })
+        requires room { world.old.anon.reserved + slots_for_segment first self.now
             ≤ length world.old.anon.counts }
         ensures copied { IsCopied (world_seen world.old) (world_seen world.new) space first
             self.now result }
@@ -179,15 +161,7 @@ impl VnSeg {
             → KeepsPlaces world.old.maps world.new.maps number }
         // What stays.
         ensures modified { ModifiesNone (world_seen world.old) (world_seen world.new) }
-        ensures rest { world.new ≡ record world.old {
-          anon = record world.old.anon {
-            counts = world.new.anon.counts;
-            reserved = world.old.anon.reserved + slots_for_part
-                (record { first = first; pages = self.now.pages; piece = self.now });
-          };
-          maps = world.new.maps;
-          hat = world.new.hat;
-        } }
+        ensures rest { OnlyCopies world.old world.new (slots_for_segment first self.now) }
     {
         let segment = self.segment;
         let own = copy_own(world, segment, space, first, room);

@@ -1,18 +1,17 @@
 //! Segments that go from memory.
 ghost use Rattle.std.specs.Prelude.{◌≡◌, ◌≤◌, ◌-◌, ℕ, Some, IsSome};
-ghost use Rattle.std.specs.FinMap as finite;
 ghost use Rattle.seg_ops.specs.addr_space.Space.{without_part};
 ghost use Rattle.seg_ops.specs.anon_map.Maps.{IsMapThere, AreEmpty, places_of, holders_of};
 ghost use Rattle.seg_ops.specs.anon_slots.Slots.{slots_in_use};
 ghost use Rattle.seg_ops.specs.flat_model.Mapping.{without_pages};
 ghost use Rattle.seg_ops.specs.vm_world.MapSteps.{maps_released, places_released};
 ghost use Rattle.seg_ops.specs.vm_world.Segments.{Spaces};
-ghost use Rattle.seg_ops.specs.vm_world.Words.{memory, OnlyAnonymous, SameFilesAndTails};
+ghost use Rattle.seg_ops.specs.vm_world.Words.{OnlyAnonymous, SameFilesAndTails, SameFilesHatAndTails};
 ghost use Rattle.seg_ops.specs.vm_world.World.{world_seen};
 ghost use Rattle.seg_ops.specs.vm_world.ZeroObjects.{KnowsZeros, free_number};
-ghost use Rattle.seg_vn.specs.Clears.{ChangesSpace, GivesBack};
-ghost use Rattle.seg_vn.specs.Cuts.{IsPartAt};
-ghost use Rattle.seg_vn.specs.Leaves.{IsUnloadedPart, LosesObject, LosesWithPages};
+ghost use Rattle.seg_vn.specs.Clears.{GivesBack};
+ghost use Rattle.seg_vn.specs.Leaves.{IsUnloadedPart, LosesObject, LosesPart};
+ghost use Rattle.seg_vn.specs.Words.{IsKnownPart, PartBecomes, with_maps_and_reserved};
 
 use crate::segment::VnSeg;
 use seg_ops::{Disk, Object, Segment, World, drop_object, drop_places};
@@ -25,10 +24,7 @@ fn empty_own<D: Disk>(world: &mut World<D>, segment: Segment, space: u32, first:
         → AreEmpty (places_of world.new.maps map) }
     ensures gives { GivesBack (world_seen world.old) (world_seen world.new) }
     ensures rest { OnlyAnonymous world.old world.new }
-    ensures changes { (spaces : Spaces)
-        → IsUnloadedPart (world_seen world.old) spaces space first segment
-        → LosesWithPages space first segment.pages (memory world.old spaces)
-        (memory world.new spaces) }
+    ensures changes { LosesPart world.old world.new space first segment }
 {
     if let Some(map) = segment.own {
         drop_places(world, map, 0, segment.pages);
@@ -48,16 +44,8 @@ fn empty_shown<D: Disk>(world: &mut World<D>, segment: Segment, space: u32, firs
     ensures objects { IsSome (free_number world.old.zeros) → IsSome (free_number world.new.zeros) }
     ensures gives { GivesBack (world_seen world.old) (world_seen world.new) }
     // What stays.
-    ensures rest { world.new ≡ record world.old {
-      store = world.new.store;
-      anon = world.new.anon;
-      maps = world.new.maps;
-      zeros = world.new.zeros;
-    } }
-    ensures changes { (spaces : Spaces)
-        → IsUnloadedPart (world_seen world.old) spaces space first segment
-        → LosesWithPages space first segment.pages (memory world.old spaces)
-        (memory world.new spaces) }
+    ensures rest { SameFilesHatAndTails world.old world.new }
+    ensures changes { LosesPart world.old world.new space first segment }
 {
     let Object::Zero(number) = segment.object else {
         return;
@@ -78,12 +66,9 @@ fn release<D: Disk>(world: &mut World<D>, map: Option<u32>)
         → AreEmpty (places_of world.old.maps number) }
     requires room { places_released world.old.maps map
         ≤ world.old.anon.reserved - slots_in_use world.old.anon }
-    ensures released { world.new ≡ record world.old {
-      anon = record world.old.anon {
-        reserved = world.old.anon.reserved - places_released world.old.maps map;
-      };
-      maps = maps_released world.old.maps map;
-    } }
+    ensures released { world.new ≡ with_maps_and_reserved world.old
+        (maps_released world.old.maps map)
+        (world.old.anon.reserved - places_released world.old.maps map) }
 {
     let Some(number) = map else {
         return;
@@ -99,16 +84,11 @@ impl VnSeg {
     /// their slots, its own map, and what is reserved for it; and the zero object that it shows, if no other segment shows it.
     /// Takes no memory. Time: its pages, and those of the zero object that goes.
     pub fn leave<D: Disk>(&mut self, world: &mut World<D>, space: u32, first: u32)
-        requires part { (spaces : Spaces)
-            × IsPartAt (world_seen world.old) spaces space first self.old
-            × KnowsZeros world.old.zeros spaces }
+        requires part { IsKnownPart world.old space first self.old }
         // Memory fits without the part, and flat memory has none of its cells.
-        ensures changes { (spaces : Spaces)
-            (c : IsPartAt (world_seen world.old) spaces space first self.old)
-            → KnowsZeros world.old.zeros spaces
-            → ChangesSpace space (memory world.old spaces)
-            (memory world.new (finite.insert spaces space (without_part first c.parts)))
-            world.new.zeros (λ F. without_pages F space first self.old.pages) }
+        ensures changes { PartBecomes world.old world.new space first self.old
+            (without_part first) world.new.zeros
+            (λ F. without_pages F space first self.old.pages) }
         ensures gives { GivesBack (world_seen world.old) (world_seen world.new) }
         ensures objects { IsSome (free_number world.old.zeros)
             → IsSome (free_number world.new.zeros) }

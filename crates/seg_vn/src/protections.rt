@@ -1,18 +1,14 @@
 //! Segments whose protection changes.
 ghost use Rattle.std.specs.Prelude.{◌≡◌, ◌≤◌, ◌<◌, ◌+◌, ℕ, true};
-ghost use Rattle.std.specs.FinMap as finite;
 ghost use Rattle.seg_ops.specs.addr_space.Space.{with_new_piece};
 ghost use Rattle.seg_ops.specs.vm_types.Prot.{is_within};
 ghost use Rattle.seg_ops.specs.vm_world.ProtectSteps.{with_segment_prot, with_range_prot};
-ghost use Rattle.seg_ops.specs.vm_world.Segments.{Spaces};
 ghost use Rattle.seg_ops.specs.vm_world.Serving.{ModifiesNone};
-ghost use Rattle.seg_ops.specs.vm_world.Words.{IsFit, KeepsEveryPage, OnlyHat, OnlyStoreAndHat, memory};
+ghost use Rattle.seg_ops.specs.vm_world.Words.{IsFit, KeepsEveryPage, OnlyHat, OnlyStoreAndHat};
 ghost use Rattle.seg_ops.specs.vm_world.World.{world_seen};
-ghost use Rattle.seg_ops.specs.vm_world.ZeroObjects.{KnowsZeros};
 ghost use Rattle.seg_ops.specs.Writers.{HasNoWriter, WritersStay};
-ghost use Rattle.seg_vn.specs.Clears.{ChangesSpace};
-ghost use Rattle.seg_vn.specs.Cuts.{IsPartAt};
 ghost use Rattle.seg_vn.specs.Protections.{AreLimited};
+ghost use Rattle.seg_vn.specs.Words.{IsPart, PartBecomes};
 
 use crate::segment::VnSeg;
 use seg_ops::{Disk, Prot, World, protect};
@@ -59,15 +55,11 @@ impl VnSeg {
     /// that lacks it, and go where it lets nothing. Takes no memory. Time: its pages, unless it may be written.
     pub fn set_prot<D: Disk>(&mut self, world: &mut World<D>, space: u32, first: u32, prot: Prot)
         requires within { is_within prot self.old.max ≡ true }
-        requires part { (spaces : Spaces)
-            × IsPartAt (world_seen world.old) spaces space first self.old }
+        requires part { IsPart world.old space first self.old }
         // Memory fits, and in flat memory the cells of its pages have this protection.
-        ensures changes { (spaces : Spaces)
-            (c : IsPartAt (world_seen world.old) spaces space first self.old)
-            → KnowsZeros world.old.zeros spaces
-            → ChangesSpace space (memory world.old spaces) (memory world.new
-            (finite.insert spaces space (with_new_piece first self.new c.parts)))
-            world.old.zeros (λ F. with_range_prot F space first self.old.pages prot) }
+        ensures changes { PartBecomes world.old world.new space first self.old
+            (with_new_piece first self.new) world.old.zeros
+            (λ F. with_range_prot F space first self.old.pages prot) }
         ensures segment { self.new ≡ with_segment_prot prot self.old }
         // What stays.
         ensures rest { OnlyStoreAndHat world.old world.new }

@@ -1,14 +1,12 @@
 //! Segments.
-ghost use Rattle.std.specs.Prelude.{◌≡◌, ℕ, ◌+◌, ◌-◌, ◌<◌, ◌^◌, Some};
-ghost use Rattle.seg_ops.specs.hat_layer.Pool.{translation_at, fresh_translation};
+ghost use Rattle.std.specs.Prelude.{◌≡◌, ℕ, ◌+◌, ◌-◌, ◌<◌, ◌^◌};
 ghost use Rattle.seg_ops.specs.page_hash.declared.PageName.{PageName};
 ghost use Rattle.seg_ops.specs.page_store.Seen.{residence};
 ghost use Rattle.seg_ops.specs.vm_types.Prot.{is_within};
-ghost use Rattle.seg_ops.specs.vm_world.Segments.{Spaces};
 ghost use Rattle.seg_ops.specs.vm_world.Serving.{ModifiesNone};
-ghost use Rattle.seg_ops.specs.vm_world.Words.{Fits, IsFit, KeepsPages, OnlyStoreAndHat};
+ghost use Rattle.seg_ops.specs.vm_world.Words.{IsFit, OnlyStoreAndHat};
 ghost use Rattle.seg_ops.specs.vm_world.World.{world_seen};
-ghost use Rattle.seg_ops.specs.Steps.{MayShow};
+ghost use Rattle.seg_ops.specs.Steps.{IsLoaded, KeepsWhereShown};
 
 use seg_ops::{Disk, Kind, Object, PageName, Prot, Residence, Segment, World, pages_in, show};
 use std::marker::Model;
@@ -42,11 +40,8 @@ pub(crate) fn load_page<D: Disk>(
 )
     requires home { (frame : ℕ) × (residence world.old.store name ≡ Residence.Home frame) }
     requires fits { IsFit world.old }
-    ensures loaded { (frame : ℕ) × (translation_at world.new.hat.places space page
-        ≡ Some (fresh_translation space page frame writable)) }
-    ensures keeps { (spaces : Spaces) → Fits world.old spaces
-        → MayShow (world_seen world.old) spaces space page name writable
-        → KeepsPages (world_seen world.old) (world_seen world.new) spaces }
+    ensures loaded { (frame : ℕ) × IsLoaded world.new space page frame writable }
+    ensures keeps { KeepsWhereShown world.old world.new space page name writable }
     // What stays.
     ensures names { world.new.store.names ≡ world.old.store.names }
     ensures modified { ModifiesNone (world_seen world.old) (world_seen world.new) }
@@ -59,42 +54,13 @@ pub(crate) fn load_page<D: Disk>(
 }
 
 impl VnSeg {
-    /// A segment. `own` is the anon map of a private one, and `shown` that of the zero object that it shows.
-    pub fn new(
-        pages: u32,
-        prot: Prot,
-        max: Prot,
-        kind: Kind,
-        object: Object,
-        index: u32,
-        own: Option<u32>,
-        shown: Option<u32>,
-    ) -> VnSeg
-        requires some { 0 < pages }
-        requires end { index + pages < 2 ^ 32 }
-        ensures { result ≡ record {
-          pages = pages;
-          prot = prot;
-          max = max;
-          kind = kind;
-          object = object;
-          index = index;
-          own = own;
-          shown = shown;
-        } }
+    /// A segment, which has a page at least.
+    pub fn new(segment: Segment) -> VnSeg
+        requires some { 0 < segment.pages }
+        requires end { segment.index + segment.pages < 2 ^ 32 }
+        ensures { result ≡ segment }
     {
-        VnSeg {
-            segment: Segment {
-                pages,
-                prot,
-                max,
-                kind,
-                object,
-                index,
-                own,
-                shown,
-            },
-        }
+        VnSeg { segment }
     }
 
     /// What may be done there.

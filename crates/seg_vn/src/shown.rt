@@ -3,7 +3,7 @@ ghost use Rattle.std.specs.Prelude.{◌≡◌, ◌<◌, ℕ, Some, None};
 ghost use Rattle.seg_ops.specs.vm_world.Segments.{Spaces, spot_at, own_slot};
 ghost use Rattle.seg_ops.specs.vm_world.Words.{Fits};
 ghost use Rattle.seg_ops.specs.vm_world.World.{world_seen};
-ghost use Rattle.seg_vn.specs.Shown.{ObjectShows};
+ghost use Rattle.seg_vn.specs.Shown.{IsAtSpot, ObjectShows};
 
 use crate::segment::VnSeg;
 use seg_ops::{Disk, Object, PageName, SWAP_OBJECT, World, pages_in};
@@ -22,8 +22,7 @@ pub(crate) enum Shown {
 impl VnSeg {
     /// The slot of a place's own.
     pub(crate) fn own_slot<D: Disk>(&self, world: &World<D>, at: u32) -> Option<u32>
-        requires fits { (spaces : Spaces) × (p : ℕ) × (q : ℕ) × Fits world.now spaces
-            × (spot_at spaces p q ≡ Some (self.now, at)) }
+        requires fits { IsAtSpot world.now (self.now, at) }
         ensures { result ≡ own_slot world.now.maps (self.now, at) }
     {
         match self.own() {
@@ -36,8 +35,7 @@ impl VnSeg {
     pub(crate) fn object_page<D: Disk>(&self, world: &World<D>, at: u32) -> Shown
         requires within { at < self.now.pages }
         requires empty { own_slot world.now.maps (self.now, at) ≡ None }
-        requires fits { (spaces : Spaces) × (p : ℕ) × (q : ℕ) × Fits world.now spaces
-            × (spot_at spaces p q ≡ Some (self.now, at)) }
+        requires fits { IsAtSpot world.now (self.now, at) }
         ensures shows { (spaces : Spaces) (p q : ℕ) → Fits world.now spaces
             → spot_at spaces p q ≡ Some (self.now, at)
             → ObjectShows (world_seen world.now) spaces (self.now, at) result }

@@ -6,8 +6,8 @@ use Rattle.std.specs.Ordering.{nat_cmp}
 use Rattle.std.specs.Cmp.{nat_cmp_total, unsigned_tied}
 use Rattle.std.specs.FinMap as finite
 use Rattle.std.specs.FinSet as set
-use Rattle.std.proofs.lemmas.Bool.{cases_eq}
-use Rattle.std.proofs.lemmas.Bool.Decides.{eqb_tells, nat_tests}
+use Rattle.std.proofs.lemmas.Bool.{cases_eq, ne_eqb}
+use Rattle.std.proofs.lemmas.Bool.Decides.{nat_tests}
 use Rattle.fault_entry.specs.page_store.Notes.{Notes}
 use Rattle.fault_entry.specs.page_store.Seen.{StoreSeen}
 use Rattle.fault_entry.specs.vm_types.WellFormed.{IsWellFormed}
@@ -35,7 +35,7 @@ use Rattle.fault_entry.specs.vm_world.Serving.{ModifiesNone}
 use Rattle.fault_entry.specs.vm_world.State.{KernelState, Seats, process_parent, room_of}
 use Rattle.fault_entry.specs.vm_world.StateFits.{StateFits}
 use Rattle.fault_entry.specs.vm_world.ZeroObjects.{KnowsZeros}
-use Rattle.fault_entry.proofs.vm_world.ForkEvents.{fork_rule}
+use Rattle.fault_entry.proofs.vm_world.ForkEvents.{fork_rule, same-test}
 use Rattle.fault_entry.proofs.seg_ops.Composed.{keeps-same}
 use Rattle.fault_entry.specs.seg_vn.Serves.{IsPlainReply}
 use Rattle.fault_entry.specs.seg_vn.declared.attempt.Attempt.{Attempt}
@@ -82,16 +82,10 @@ born-marked marks child first last =
     set.contains-from_list_nat (marked_processes 1 (slice_set marks (child - 1) true)) q
     ∙ marked-more marks 1 (child - 1) q (omega (arith, first, last))
     ∙ ap (λ (n : ℕ). (n == q) || is_marked 1 marks q) place
-    ∙ ap (λ (b : Bool). b || is_marked 1 marks q) (turn child q)
+    ∙ ap (λ (b : Bool). b || is_marked 1 marks q) (same-test child q)
     ∙ ap (λ (b : Bool). (q == child) || b) (sym (set.contains-from_list_nat (marked_processes 1 marks) q))
     ∙ ap (λ (b : Bool). b || set.contains (born_of marks) q) (sym (unsigned_tied q child))
     ∙ sym (set.contains-insert nat_cmp_total (born_of marks) child q))
-  where
-    turn : (a b : ℕ) → (a == b) ≡ (b == a)
-    turn a b = elim (eqb_tells a b) [
-      | inl y ↦ subst (λ (c : ℕ). (a == c) ≡ (c == a)) y.1 refl
-      | inr n ↦ n.0 ∙ sym (elim (eqb_tells b a) [ inl y ↦ absurd (n.1 (sym y.1)) | inr m ↦ m.0 ])
-    ]
 
 -- who has a mark
 marked-at : (marks : List Bool) (k j : ℕ) → is_marked k marks (k + j) ≡ slice_index_or marks j false
@@ -138,8 +132,8 @@ starts-born syncs p child cleared first last born placed t b has =
           elim (cases_eq t (child - 1)) [
             | inl same ↦ absurd (let z : ◌≡◌ {A = Option ℕ} None (Some b) = sym (ap (λ (k : ℕ). slice_index_or mid k None) same ∙ get_or-set_same syncs (child - 1) None None (omega (arith, born, placed))) ∙ kept in cc)
             | inr far ↦
-                let mine : (p == suc t) ≡ false = elim (eqb_tells p (suc t)) [ inl y ↦ absurd (ne (let e = y.1 in omega (arith, e))) | inr n ↦ n.0 ] in
-                let its : (child == suc t) ≡ false = elim (eqb_tells child (suc t)) [ inl y ↦ absurd (far (let e = y.1 in omega (arith, e))) | inr n ↦ n.0 ] in
+                let mine : (p == suc t) ≡ false = ne_eqb p (suc t) (λ e. ne (omega (arith, e))) in
+                let its : (child == suc t) ≡ false = ne_eqb child (suc t) (λ e. far (omega (arith, e))) in
                 (ap (λ (x : Bool). x || (child == suc t)) mine ∙ its, sym (get_or-set_other syncs (child - 1) t None None far) ∙ kept)
           ]
     ]

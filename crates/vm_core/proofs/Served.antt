@@ -54,7 +54,7 @@ use Rattle.proc_calls.specs.Ends as procs
 use Rattle.fault_entry.specs.Accesses.{IsAccess, IsHitWhereDone, IsShownWhereDone, MayBeAnswered, SlotsWhereDone, is_store}
 use Rattle.fault_entry.specs.seg_vn.Serves.{Serves, IsPlainReply}
 use Rattle.fault_entry.proofs.seg_vn.HomeFrames.{home-beside}
-use Rattle.vm_core.specs.Calls.{IsOnOwnSpace, IsServed, ChangesMappings, IsDone, IsNeeded, IsBusy, IsOwnReply, IsShownAfterCall, SlotsAfterCall, IsHitAfterCall, TakesMemory, AnswersCall, with_memory, after_answer}
+use Rattle.vm_core.specs.Calls.{IsOnOwnSpace, IsServed, ConcernsMappings, IsDone, IsNeeded, IsBusy, IsOwnReply, IsShownAfterCall, SlotsAfterCall, IsHitAfterCall, TakesMemory, AnswersCall, with_memory, after_answer}
 use Rattle.vm_core.specs.Fits.{FitsAt}
 use Rattle.vm_core.specs.State.{IsSoundKernel}
 use Rattle.fault_entry.specs.seg_vn.declared.attempt.Attempt.{Attempt}
@@ -77,6 +77,7 @@ served-is (Store a n v) h = record { file = refl; part = refl; plain = λ child 
 served-is (Map place len prot kind obj offset) h = record { file = refl; part = refl; plain = λ child e. let z : Map place len prot kind obj offset ≡ Fork child = e in cc; bears = λ q p cleared r. either (is_done r) }
 served-is (Unmap a len) h = record { file = refl; part = refl; plain = λ child e. let z : Unmap a len ≡ Fork child = e in cc; bears = λ q p cleared r. either (is_done r) }
 served-is (Protect a len prot) h = record { file = refl; part = refl; plain = λ child e. let z : Protect a len prot ≡ Fork child = e in cc; bears = λ q p cleared r. either (is_done r) }
+served-is (Sync a len) h = record { file = refl; part = refl; plain = λ child e. let z : Sync a len ≡ Fork child = e in cc; bears = λ q p cleared r. either (is_done r) }
 served-is Exit h = record { file = refl; part = refl; plain = λ child e. let z : Exit ≡ Fork child = e in cc; bears = λ q p cleared r. either (is_done r) }
 served-is call h = absurd h
 
@@ -88,15 +89,16 @@ no-fork call h fork = h
 pub access-own : (call : Call) → ((a : ℕ) × (n : ℕ) × (call ≡ Load a n)) ⊎ ((a : ℕ) × (n : ℕ) × (v : ℕ) × (call ≡ Store a n v)) → IsOnOwnSpace call
 access-own call is = elim is [ inl x ↦ subst IsOnOwnSpace (sym x.2) tt | inr x ↦ subst IsOnOwnSpace (sym x.3) tt ]
 
--- What is on it and is no access changes mappings; and where it isn't the exit, its process goes on.
-pub no-access : (call : Call) → IsOnOwnSpace call → ((a n : ℕ) → call ≢ Load a n) → ((a n v : ℕ) → call ≢ Store a n v) → ChangesMappings call
+-- What is on it and is no access concerns mappings; and where it is neither the exit nor a Sync, it changes those of a process that goes on.
+pub no-access : (call : Call) → IsOnOwnSpace call → ((a n : ℕ) → call ≢ Load a n) → ((a n v : ℕ) → call ≢ Store a n v) → ConcernsMappings call
 no-access (Load a n) h load store = absurd (load a n refl)
 no-access (Store a n v) h load store = absurd (store a n v refl)
 no-access call h load store = h
 
-pub no-exit : (call : Call) → ChangesMappings call → call ≢ Exit → mmap.IsMappingCall call
-no-exit Exit h exit = absurd (exit refl)
-no-exit call h exit = h
+pub no-exit : (call : Call) → ConcernsMappings call → call ≢ Exit → ((a len : ℕ) → call ≢ Sync a len) → mmap.ChangesMappings call
+no-exit Exit h exit sync = absurd (exit refl)
+no-exit (Sync a len) h exit sync = absurd (sync a len refl)
+no-exit call h exit sync = h
 
 -- No lock of a file is the seat's, before and after such a call.
 pub locks-same : (H : List Entry) (calls syncs : List (Option ℕ)) (seat p cleared : ℕ) (call : Call) (reply : Reply) → CallsFit H calls syncs → p ≡ suc seat → MayFollow H (done_entry p call reply cleared) → part_file call ≡ None
@@ -297,15 +299,44 @@ plain-own s p (reply.Bytes l) h = (refl, λ b e. absurd (let z : reply.Bytes l �
 plain-own s p (reply.Signal x) h = (refl, λ b e. absurd (let z : reply.Signal x ≡ reply.Synced b = e in cc))
 plain-own s p (reply.Refused x) h = (refl, λ b e. absurd (let z : reply.Refused x ≡ reply.Synced b = e in cc))
 
+synced-is : (b k : ℕ) → reply.Synced b ≡ reply.Synced k → k ≡ b
+synced-is b k e = let z : reply.Synced b ≡ reply.Synced k = e in cc
+
 pub own-reply : (s : KernelState) (m : Memory) (p : ℕ) (call : Call) (a : Attempt) → MayBeAnswered m p call a → IsOwnReply s p a
 own-reply s m p call (Done r) may = plain-own s p r may
 own-reply s m p call (Need plan) may = tt
 own-reply s m p call (Busy h) may = tt
 
-pub mapped-own : (s : KernelState) (p : ℕ) (a : Attempt) → mmap.IsDoneAtOnce a → IsOwnReply s p a
-mapped-own s p (Done r) may = plain-own s p r may
-mapped-own s p (Need plan) may = absurd may
-mapped-own s p (Busy h) may = absurd may
+at-once-own : (s : KernelState) (p : ℕ) (a : Attempt) → mmap.IsDoneAtOnce a → IsOwnReply s p a
+at-once-own s p (Done r) may = plain-own s p r may
+at-once-own s p (Need plan) may = absurd may
+at-once-own s p (Busy h) may = absurd may
+
+-- So is that of a call that changes mappings.
+pub changing-is : (call : Call) → mmap.ChangesMappings call → mmap.IsMappingCall call
+changing-is (Map place len prot kind o offset) is = tt
+changing-is (Unmap addr len) is = tt
+changing-is (Protect addr len prot) is = tt
+changing-is call is = absurd is
+
+pub mapped-own : (s : KernelState) (p from : ℕ) (call : Call) (a : Attempt) → mmap.ChangesMappings call → mmap.IsMappingAnswer call from a → IsOwnReply s p a
+mapped-own s p from (Map place len prot kind o offset) a is may = at-once-own s p a may
+mapped-own s p from (Unmap addr len) a is may = at-once-own s p a may
+mapped-own s p from (Protect addr len prot) a is may = at-once-own s p a may
+mapped-own s p from call a is may = absurd is
+
+-- So is a Sync's.
+pub synced-own : (s : KernelState) (p from : ℕ) (a : Attempt) → from ≡ start_of s (seat_of p) → mmap.IsSyncAnswer from a → IsOwnReply s p a
+synced-own s p from (Done (reply.Synced b)) is may = (refl, λ k e. synced-is b k e ∙ may ∙ is)
+synced-own s p from (Done (reply.Io disk before after)) is may = absurd may
+synced-own s p from (Done reply.Done) is may = plain-own s p reply.Done may
+synced-own s p from (Done (reply.Word n)) is may = plain-own s p (reply.Word n) may
+synced-own s p from (Done (reply.Mapped n)) is may = plain-own s p (reply.Mapped n) may
+synced-own s p from (Done (reply.Bytes l)) is may = plain-own s p (reply.Bytes l) may
+synced-own s p from (Done (reply.Signal x)) is may = plain-own s p (reply.Signal x) may
+synced-own s p from (Done (reply.Refused x)) is may = plain-own s p (reply.Refused x) may
+synced-own s p from (Need plan) is may = tt
+synced-own s p from (Busy h) is may = tt
 
 pub exited-own : (s : KernelState) (p : ℕ) (a : Attempt) → procs.IsExitDone a → IsOwnReply s p a
 exited-own s p (Done r) may = plain-own s p r may
@@ -334,17 +365,21 @@ pub record AfterMapping (old : Memory) (new : Memory) (p : ℕ) (call : Call) (a
   pub slots : SlotsAfterCall old new.world p call a
   pub hit : IsHitAfterCall old new.world p call a
 
-pub after-mapping : (old new : Memory) (p : ℕ) (call : Call) (a : Attempt) → mmap.IsMappingCall call → ((slot : ℕ) → count_at new.world.anon slot ≤ count_at old.world.anon slot) → AfterMapping old new p call a
+pub after-mapping : (old new : Memory) (p : ℕ) (call : Call) (a : Attempt) → mmap.ChangesMappings call → ((slot : ℕ) → count_at new.world.anon slot ≤ count_at old.world.anon slot) → AfterMapping old new p call a
 after-mapping old new p (Map place len prot kind o offset) a is fall = record { shown = tt; slots = fall; hit = tt }
 after-mapping old new p (Unmap addr len) a is fall = record { shown = tt; slots = fall; hit = tt }
 after-mapping old new p (Protect addr len prot) a is fall = record { shown = tt; slots = fall; hit = tt }
 after-mapping old new p call a is fall = absurd is
 
-pub mapping-memory : (call : Call) → mmap.IsMappingCall call → TakesMemory call
+pub mapping-memory : (call : Call) → mmap.ChangesMappings call → TakesMemory call
 mapping-memory (Map place len prot kind o offset) is = tt
 mapping-memory (Unmap addr len) is = tt
 mapping-memory (Protect addr len prot) is = tt
 mapping-memory call is = absurd is
+
+-- What a Sync leaves of the state, where the seats' starts stay.
+pub synced-rest : (v s : KernelState) (m : Memory) (pending : ℕ) (syncs : List (Option ℕ)) → v ≡ s → syncs ≡ v.syncs → record (with_memory v m pending) { syncs = syncs } ≡ with_memory s m pending
+synced-rest v s m pending syncs is same = ap (λ (l : List (Option ℕ)). record (with_memory v m pending) { syncs = l }) same ∙ ap (λ (x : KernelState). with_memory x m pending) is
 
 -- What is concluded changes no memory.
 pub concluded-memory : (s : KernelState) (seat p : ℕ) (call : Call) (a : Attempt) → (after_answer s seat p call a).memory ≡ s.memory

@@ -26,16 +26,16 @@ use Rattle.fault_entry.specs.Accesses.{IsShownWhereDone, IsHitWhereDone, SlotsWh
 use Rattle.vm_core.specs.Flights.{AddsEntry, AddsNoEntry}
 use Rattle.vm_core.specs.State.{with_next_entry}
 
--- The calls that change mappings: those of a process that goes on, and the exit.
-abbrev pub ChangesMappings : Call → Type 0
-ChangesMappings Exit = Unit {0}
-ChangesMappings call = IsMappingCall call
+-- The calls that concern mappings: those of a process that goes on, and the exit.
+abbrev pub ConcernsMappings : Call → Type 0
+ConcernsMappings Exit = Unit {0}
+ConcernsMappings call = IsMappingCall call
 
--- The calls on the process's own space: loads, stores, and those that change mappings.
+-- The calls on the process's own space: loads, stores, and those that concern mappings.
 abbrev pub IsOnOwnSpace : Call → Type 0
 IsOnOwnSpace (Load a n) = Unit {0}
 IsOnOwnSpace (Store a n v) = Unit {0}
-IsOnOwnSpace call = ChangesMappings call
+IsOnOwnSpace call = ConcernsMappings call
 
 -- The calls that are served so far: those, and a Fork.
 abbrev pub IsServed : Call → Type 0

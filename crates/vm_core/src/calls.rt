@@ -6,15 +6,16 @@ ghost use Rattle.fault_entry.specs.Answers.{attempt_of};
 ghost use Rattle.fault_entry.specs.page_store.Notes.{Notes};
 ghost use Rattle.fault_entry.specs.anon_slots.Slots.{count_at};
 ghost use Rattle.fault_entry.specs.flat_model.Told.{entries_of};
-ghost use Rattle.mmap_calls.specs.Calls.{IsMappingCall};
+ghost use Rattle.mmap_calls.specs.Calls.{ChangesMappings};
 ghost use Rattle.proc_calls.specs.Ends as procs;
 ghost use Rattle.fault_entry.specs.vm_types.WellFormed.{IsWellFormed};
+ghost use Rattle.fault_entry.specs.vm_types.declared.call.Call.TheVariants.{Sync};
 ghost use Rattle.fault_entry.specs.vm_world.CallSteps.{StaysAlive};
 ghost use Rattle.fault_entry.specs.vm_world.Events.{IsEvent, CanTry};
 ghost use Rattle.fault_entry.specs.vm_world.MemoryFits.{MemoryFits};
 ghost use Rattle.fault_entry.specs.vm_world.NotesFit.{NotesFit};
 ghost use Rattle.fault_entry.specs.vm_world.State.{room_of, seat_of};
-ghost use Rattle.vm_core.specs.Calls.{IsServed, ChangesMappings, TakesMemory, AnswersCall, IsOwnReply, IsShownAfterCall, SlotsAfterCall, IsHitAfterCall, with_memory, after_answer};
+ghost use Rattle.vm_core.specs.Calls.{IsServed, ConcernsMappings, TakesMemory, AnswersCall, IsOwnReply, IsShownAfterCall, SlotsAfterCall, IsHitAfterCall, with_memory, after_answer};
 ghost use Rattle.vm_core.specs.Fits.{FitsAt};
 ghost use Rattle.fault_entry.specs.seg_vn.Serves.{Serves};
 
@@ -27,8 +28,8 @@ impl<D: Disk> VmState<D> {
     /// Tries a call of a process at its seat.
     ///
     /// `Done` adds its entry to the history. `Need` is a transfer that is needed first; `begin` begins it. `Busy` says whom the call
-    /// waits for. The error is want of memory, and comes at a mapping call or a Fork alone. A load or a store whose page has its translation
-    /// takes constant expected time and no memory; none makes a disk call.
+    /// waits for. The error is want of memory, and comes at a call that changes mappings or a Fork alone. A load or a store whose page has
+    /// its translation takes constant expected time and no memory; none makes a disk call.
     pub fn try_call(&mut self, seat: u32, process: u32, call: &Call) -> Result<Attempt, AllocError>
         requires fits { FitsAt self.old seat None }
         requires formed { IsWellFormed call.now }
@@ -44,7 +45,7 @@ impl<D: Disk> VmState<D> {
         ensures hit { IfOk result (λ attempt. IsHitAfterCall self.old.memory
             self.new.memory.world process call.now attempt) }
         ensures event { IsEvent seat self.old None self.new None }
-        // Want of memory comes at a mapping call or a Fork alone, and nothing changed then.
+        // Want of memory comes at a call that changes mappings or a Fork alone, and nothing changed then.
         ensures memory { OnErr result (TakesMemory call.now) }
         ensures err { OnErr result (self.new ≡ self.old) }
     {
@@ -55,7 +56,7 @@ impl<D: Disk> VmState<D> {
         if let Call::Fork { child } = *call {
             return self.fork(seat, process, child, call);
         }
-        let attempt = self.serve(process, call)?;
+        let attempt = self.serve(seat, process, call)?;
         Ok(self.conclude(seat, process, call, attempt))
     }
 
@@ -112,10 +113,13 @@ impl<D: Disk> VmState<D> {
         attempt
     }
 
-    // What is answered to a call that changes mappings, before its entry is made.
-    fn serve(&mut self, process: u32, call: &Call) -> Result<Attempt, AllocError>
+    // What is answered to a call that concerns mappings, before its entry is made.
+    fn serve(&mut self, seat: u32, process: u32, call: &Call) -> Result<Attempt, AllocError>
         requires formed { IsWellFormed call.now }
-        requires served { ChangesMappings call.now }
+        requires served { ConcernsMappings call.now }
+        requires room { length (entries_of self.old.history process)
+            < room_of self.old.entries process }
+        requires own { seat_of process ≡ seat }
         requires alive { IsSome (finite.get self.old.memory.spaces process) }
         requires fits { MemoryFits self.old.memory }
         ensures serves { IfOk result (λ attempt. Serves self.old.memory self.new.memory
@@ -135,6 +139,7 @@ impl<D: Disk> VmState<D> {
     {
         match *call {
             Call::Exit => Ok(self.exit(process, call)),
+            Call::Sync { addr, length } => Ok(self.sync(seat, process, addr, length)),
             _ => self.map(process, call),
         }
     }
@@ -163,7 +168,7 @@ impl<D: Disk> VmState<D> {
     // What is answered to a call that changes the mappings of a process that goes on.
     fn map(&mut self, process: u32, call: &Call) -> Result<Attempt, AllocError>
         requires formed { IsWellFormed call.now }
-        requires served { IsMappingCall call.now }
+        requires served { ChangesMappings call.now }
         requires alive { IsSome (finite.get self.old.memory.spaces process) }
         requires fits { MemoryFits self.old.memory }
         ensures serves { IfOk result (λ attempt. Serves self.old.memory self.new.memory
@@ -183,6 +188,37 @@ impl<D: Disk> VmState<D> {
     {
         let from = self.ledger.history().len() as u64;
         mmap_calls::attempt(&mut self.world, &mut self.spaces, process, call, from)
+    }
+
+    // What is answered to a Sync of so many bytes from an address on. It looks first at the page at which the seat's last one stopped.
+    fn sync(&mut self, seat: u32, process: u32, addr: u32, bytes: u32) -> Attempt
+        requires room { length (entries_of self.old.history process)
+            < room_of self.old.entries process }
+        requires own { seat_of process ≡ seat }
+        requires alive { IsSome (finite.get self.old.memory.spaces process) }
+        requires fits { MemoryFits self.old.memory }
+        ensures serves { Serves self.old.memory self.new.memory
+            self.old.pending self.new.pending self.old.calls process (Sync addr bytes) result }
+        ensures own { IsOwnReply self.old process result }
+        // What stays.
+        ensures slots { self.new.memory.world.anon ≡ self.old.memory.world.anon }
+        ensures spaces { self.new.memory.spaces ≡ self.old.memory.spaces }
+        ensures rest { self.new ≡ with_memory self.old self.new.memory self.new.pending }
+    {
+        self.seated(seat, process);
+        let from = self.sync_start(seat);
+        let mut cursor = self.syncs.cursor(seat);
+        let attempt = mmap_calls::sync(
+            &mut self.world,
+            &self.spaces,
+            process,
+            addr,
+            bytes,
+            &mut cursor,
+            from,
+        );
+        self.syncs.look_next(seat, cursor);
+        attempt
     }
 
     // What is answered to an Exit.

@@ -15,23 +15,24 @@ ghost use Rattle.vm_core.specs.Forks.{after_fork, born_after, starts_after};
 ghost use Rattle.vm_core.specs.State.{born_of};
 
 use crate::state::VmState;
+use crate::syncs::Syncs;
 use fault_entry::{Attempt, Call, Disk, Reply};
 use std::alloc::AllocError;
 
 // A child whose Fork is done was ever alive from now on, and its seat keeps no Sync.
-fn note_birth(born: &mut Vec<bool>, syncs: &mut Vec<Option<u64>>, child: u32, reply: &Reply)
+fn note_birth(born: &mut Vec<bool>, syncs: &mut Syncs, child: u32, reply: &Reply)
     requires first { 1 ≤ child }
     requires marks { child ≤ length born.old.items }
-    requires seats { child ≤ length syncs.old.items }
+    requires seats { child ≤ length syncs.old }
     ensures born { born_of born.new.items ≡ born_after (born_of born.old.items) child reply.now }
-    ensures syncs { syncs.new.items ≡ starts_after syncs.old.items child reply.now }
+    ensures syncs { syncs.new ≡ starts_after syncs.old child reply.now }
     // What stays.
     ensures marks { length born.new.items ≡ length born.old.items }
 {
     if let Reply::Done = *reply {
         let place = child as usize - 1;
         born[place] = true;
-        syncs[place] = None;
+        syncs.set(child - 1, None);
     }
 }
 

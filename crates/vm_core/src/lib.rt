@@ -16,6 +16,7 @@ mod ledger;
 mod setup;
 mod start;
 mod state;
+mod syncs;
 
 pub use fault_entry::{Attempt, Call, Disk, Entry, Flight, Hold, Plan, Reply};
 pub use finish::Finished;

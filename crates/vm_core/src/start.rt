@@ -22,6 +22,7 @@ ghost use Rattle.vm_core.specs.State.{born_of, top_space};
 use crate::ledger::Ledger;
 use crate::setup::Setup;
 use crate::state::{FILES, VmState};
+use crate::syncs::Syncs;
 use fault_entry::{
     AnonMaps, AnonSlots, Disk, Files, Hat, Ranges, Spaces, Store, World, ZeroObjects,
 };
@@ -34,7 +35,7 @@ struct Tables {
     hat: Hat,
     spaces: Spaces,
     ledger: Ledger,
-    syncs: Vec<Option<u64>>,
+    syncs: Syncs,
     born: Vec<bool>,
 }
 
@@ -94,7 +95,7 @@ fn take_tables<D: Disk>(alloc: Global, setup: &Setup<D>) -> Result<Tables, Alloc
         ≡ length setup.now.parents.items) }
     ensures history { IfOk result (λ t. t.ledger.history ≡ []) }
     ensures entries { IfOk result (λ t. t.ledger.entries ≡ setup.now.entries.items) }
-    ensures syncs { IfOk result (λ t. t.syncs.items ≡ replicate setup.now.seats None) }
+    ensures syncs { IfOk result (λ t. t.syncs ≡ replicate setup.now.seats None) }
     ensures born { IfOk result (λ t. t.born.items
         ≡ map (λ parent. parent == 0) setup.now.parents.items) }
 {
@@ -103,7 +104,7 @@ fn take_tables<D: Disk>(alloc: Global, setup: &Setup<D>) -> Result<Tables, Alloc
         hat: Hat::new(alloc, setup.translations, setup.frames)?,
         spaces: top_spaces(alloc, setup.parents.as_slice())?,
         ledger: Ledger::new(alloc, setup.entries.as_slice())?,
-        syncs: vec![in alloc; None; setup.seats as usize]?,
+        syncs: Syncs::new(alloc, setup.seats)?,
         born: top_marks(alloc, setup.parents.as_slice())?,
     })
 }

@@ -3,12 +3,13 @@ ghost use Rattle.std.specs.Prelude.{◌≡◌, ◌↔◌, ◌+◌, ◌<◌, ◌�
 ghost use Rattle.std.specs.FinMap as finite;
 ghost use Rattle.fault_entry.specs.flat_model.Told.{entries_of};
 ghost use Rattle.fault_entry.specs.vm_world.State.{room_of, seat_of};
-ghost use Rattle.fault_entry.specs.vm_world.SyncSteps.{with_call_begun};
+ghost use Rattle.fault_entry.specs.vm_world.SyncSteps.{start_of, with_call_begun};
 ghost use Rattle.fault_entry.specs.vm_types.Parts.{part_file};
 ghost use Rattle.vm_core.specs.State.{kept_seen, with_next_entry, without_seat, calls_without};
 
 use crate::kept::Kept;
 use crate::ledger::Ledger;
+use crate::syncs::Syncs;
 use fault_entry::{Call, Disk, Reply, Spaces, World, part_file};
 use std::alloc::Global;
 use std::marker::Model;
@@ -27,8 +28,8 @@ pub struct VmState<D: Disk> {
     pub(crate) ledger: Ledger,
     // Of each file the seat whose call is between two parts.
     pub(crate) calls: [Option<u32>; FILES],
-    // Of each seat where its Sync began.
-    pub(crate) syncs: Vec<Option<u64>>,
+    // Of each seat where its Sync began, and where it looks next.
+    pub(crate) syncs: Syncs,
     // The last plan that was answered.
     pub(crate) plan: Option<Kept>,
     // Of each process whether it was ever alive, and its parent.
@@ -74,14 +75,14 @@ impl<D: Disk> Model for VmState<D> {
       history = s.ledger.history;
       pending = s.world.pending;
       calls = s.calls;
-      syncs = s.syncs.items;
+      syncs = s.syncs;
       plan = option_map kept_seen s.plan;
       parents = s.parents.items;
       entries = s.ledger.entries;
     } };
 
-    ghost invariant = { λ s. IsSoundKernel s.world.store s.world.zeros s.spaces.spaces s.ledger.entries (length s.syncs.items)
-        × EachHasPlaces s.parents.items s.spaces.processes (length s.born.items) (length s.syncs.items) };
+    ghost invariant = { λ s. IsSoundKernel s.world.store s.world.zeros s.spaces.spaces s.ledger.entries (length s.syncs)
+        × EachHasPlaces s.parents.items s.spaces.processes (length s.born.items) (length s.syncs) };
 }
 
 impl<D: Disk> VmState<D> {
@@ -122,7 +123,7 @@ impl<D: Disk> VmState<D> {
     {
         self.ledger.push(process, call, reply, self.world.pending);
         self.world.pending = 0;
-        self.syncs[process as usize - 1] = None;
+        self.syncs.set(process - 1, None);
     }
 
     // The seat of a process that may make an entry is one of the seats.
@@ -133,7 +134,16 @@ impl<D: Disk> VmState<D> {
         requires own { seat_of process ≡ seat }
         ensures { seat < length self.now.syncs }
     {
-        let _ = (seat, process, self.syncs.len());
+        let _ = (seat, process, self.syncs.seats());
+    }
+
+    // Where the Sync of a seat began: with the history as it is, if none has.
+    pub(crate) fn sync_start(&self, seat: u32) -> u64
+        requires { seat < length self.now.syncs }
+        ensures { result ≡ start_of self.now seat }
+    {
+        let now = self.ledger.history().len() as u64;
+        self.syncs.start(seat).unwrap_or(now)
     }
 
     // Where the call is a Sync, the seat keeps where it began.
@@ -142,9 +152,8 @@ impl<D: Disk> VmState<D> {
         ensures { self.new ≡ with_call_begun self.old seat call.now }
     {
         if let Call::Sync { .. } = *call {
-            let now = self.ledger.history().len() as u64;
-            let start = self.syncs[seat as usize].unwrap_or(now);
-            self.syncs[seat as usize] = Some(start);
+            let start = self.sync_start(seat);
+            self.syncs.set(seat, Some(start));
         }
     }
 

@@ -30,7 +30,7 @@ served-call (call.Store a n v) is = tt
 served-call (call.Map place len prot kind o offset) is = tt
 served-call (call.Unmap a len) is = tt
 served-call (call.Protect a len prot) is = tt
-served-call (call.Sync a len) is = absurd (let z : false ≡ true = is in cc)
+served-call (call.Sync a len) is = tt
 served-call (call.Read file offset len) is = absurd (let z : false ≡ true = is in cc)
 served-call (call.Write file offset line rest) is = absurd (let z : false ≡ true = is in cc)
 served-call (call.Truncate file len) is = absurd (let z : false ≡ true = is in cc)

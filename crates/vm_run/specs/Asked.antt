@@ -35,13 +35,14 @@ pub record Asked : Type 0 where
   pub options : Options
   pub plan : PlanSeen
 
--- The calls that are served so far: loads, stores, map, unmap, protect, and the exit.
+-- The calls that are served so far: loads, stores, map, unmap, protect, sync, and the exit.
 abbrev pub is_served_call : Call → Bool
 is_served_call (call.Load a n) = true
 is_served_call (call.Store a n v) = true
 is_served_call (call.Map place len prot kind o offset) = true
 is_served_call (call.Unmap a len) = true
 is_served_call (call.Protect a len prot) = true
+is_served_call (call.Sync a len) = true
 is_served_call call.Exit = true
 is_served_call c = false
 

@@ -34,6 +34,7 @@ fn is_served_call(call: &Call) -> bool
         Call::Map { .. } => true,
         Call::Unmap { .. } => true,
         Call::Protect { .. } => true,
+        Call::Sync { .. } => true,
         Call::Exit => true,
         _ => false,
     }

@@ -6,7 +6,7 @@ use Rattle.std.proofs.lemmas.List.{length-map, map-set, length-set, get_or-set_s
 use Rattle.std.proofs.Math.ListN.{get_or-map}
 use Rattle.vm_types.specs.Parts.{next_part, ends_call}
 use Rattle.vm_types.specs.declared.call.Call.{Call}
-use Rattle.vm_types.specs.declared.call.Call.TheVariants.{Load, Store, Map, Unmap, Protect, Fork, Exit}
+use Rattle.vm_types.specs.declared.call.Call.TheVariants.{Load, Store, Map, Unmap, Protect, Sync, Fork, Exit}
 use Rattle.vm_types.specs.declared.call.Entry.{Entry}
 use Rattle.vm_types.specs.declared.call.Reply.{Reply}
 use Rattle.flat_model.specs.OpenLaws.{last_entry, FollowsOn, MayFollow}
@@ -34,6 +34,7 @@ served-ends (Store a n v) reply h = refl
 served-ends (Map place len prot kind object offset) reply h = refl
 served-ends (Unmap a len) reply h = refl
 served-ends (Protect a len prot) reply h = refl
+served-ends (Sync a len) reply h = refl
 served-ends (Fork child) reply h = refl
 served-ends Exit reply h = refl
 served-ends call reply h = absurd h

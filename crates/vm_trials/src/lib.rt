@@ -4,6 +4,8 @@
 #[cfg(test)]
 mod fork_tests;
 #[cfg(test)]
+mod mapping_tests;
+#[cfg(test)]
 mod page_tests;
 #[cfg(test)]
 mod segment_tests;

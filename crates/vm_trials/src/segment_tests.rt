@@ -6,7 +6,7 @@ use anon_map::AnonMaps;
 use anon_slots::AnonSlots;
 use block_device::{Block, MemDisk};
 use hat_layer::Hat;
-use seg_ops::{Store, World, ZeroObjects};
+use seg_ops::{Segment, Store, World, ZeroObjects};
 use seg_vn::{Spaces, VnSeg};
 use std::alloc::{AllocError, Global};
 use std::test::Fail;
@@ -28,16 +28,16 @@ fn each_process_has_its_space(rt: HostRuntime) -> Result<(), Fail> {
     space.insert(
         4,
         3,
-        VnSeg::new(
-            3,
-            Prot::READ,
-            Prot::READ,
-            Kind::Shared,
-            Object::File(0),
-            7,
-            None,
-            None,
-        ),
+        VnSeg::new(Segment {
+            pages: 3,
+            prot: Prot::READ,
+            max: Prot::READ,
+            kind: Kind::Shared,
+            object: Object::File(0),
+            index: 7,
+            own: None,
+            shown: None,
+        }),
     );
     spaces.insert(2, space);
     assert_eq!(rt; pages_at(&spaces, 2, 6), Some(3));
@@ -75,16 +75,16 @@ fn cut(world: &mut World<MemDisk>) -> Result<(u32, u32, bool), AllocError>
     requires { world.old.maps ≡ [] }
 {
     let own = world.maps.make(4)?;
-    let mut segment = VnSeg::new(
-        4,
-        Prot::READ,
-        Prot::READ,
-        Kind::Private,
-        Object::NewZero,
-        0,
-        Some(own),
-        None,
-    );
+    let mut segment = VnSeg::new(Segment {
+        pages: 4,
+        prot: Prot::READ,
+        max: Prot::READ,
+        kind: Kind::Private,
+        object: Object::NewZero,
+        index: 0,
+        own: Some(own),
+        shown: None,
+    });
     let upper = segment.cut(world, 3)?;
     Ok((segment.pages(), upper.pages(), world.maps.is_there(own)))
 }

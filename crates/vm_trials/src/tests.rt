@@ -6,6 +6,7 @@ ghost use Rattle.block_device.specs.MemSeen.{disk_of};
 ghost use Rattle.vm_core.specs.Calls.{IsServed};
 ghost use Rattle.vm_trials.specs.Trials.{trial_file, trial_files};
 
+use crate::mapping_tests::{change_mappings, sync_pages};
 use crate::trial::Told::{self, Busy, Done, Landed, Sent, Still};
 use crate::trial::Trial;
 use Act::{Clock, Do, Land, Try};
@@ -25,6 +26,8 @@ pub(crate) enum Act {
     Do(u32, What),
     /// A seat tries a call once; a transfer that it needs stays out.
     Try(u32, What),
+    /// A seat tries a call once; a transfer that it needs doesn't begin.
+    Plan(u32, What),
     /// A seat's transfer is made and ends.
     Land(u32),
     /// The hands move for a seat until a push is out, so many times at most.
@@ -47,6 +50,8 @@ pub(crate) enum What {
     Protect(u32, u32, bool),
     /// Forks this child.
     Fork(u32),
+    /// Syncs so many bytes from an address on.
+    Sync(u32, u32),
     Exit,
 }
 
@@ -192,6 +197,7 @@ fn call_of(what: What) -> Call
             prot: rights(writable),
         },
         What::Fork(child) => Call::Fork { child },
+        What::Sync(addr, length) => Call::Sync { addr, length },
         What::Exit => Call::Exit,
     }
 }
@@ -199,7 +205,8 @@ fn call_of(what: What) -> Call
 fn make(trial: &mut Trial, act: Act) -> Result<Told, Fail> {
     match act {
         Act::Do(seat, what) => trial.call(seat, &call_of(what)),
-        Act::Try(seat, what) => trial.try_call(seat, &call_of(what)),
+        Act::Try(seat, what) => trial.try_call(seat, &call_of(what), true),
+        Act::Plan(seat, what) => trial.try_call(seat, &call_of(what), false),
         Act::Land(seat) => trial.land(seat),
         Act::Clock(seat, moves) => trial.clock(seat, moves),
     }
@@ -207,30 +214,37 @@ fn make(trial: &mut Trial, act: Act) -> Result<Told, Fail> {
 
 pub(crate) const STORED: Told = Done(Reply::Done);
 
-const NO_MAP: Told = Done(Reply::Signal(Signal::NoMap));
+pub(crate) const NO_MAP: Told = Done(Reply::Signal(Signal::NoMap));
 
 const ALIGN: Told = Done(Reply::Signal(Signal::Align));
 
 pub(crate) const PAST: Told = Done(Reply::Signal(Signal::Past));
 
-const PROT: Told = Done(Reply::Signal(Signal::Prot));
+pub(crate) const PROT: Told = Done(Reply::Signal(Signal::Prot));
 
-const INVALID: Told = Done(Reply::Refused(Errno::Invalid));
+pub(crate) const INVALID: Told = Done(Reply::Refused(Errno::Invalid));
 
 pub(crate) const NO_OBJECT: Told = Done(Reply::Refused(Errno::NoObject));
 
 const ACCESS: Told = Done(Reply::Refused(Errno::Access));
 
-const NOT_MAPPED: Told = Done(Reply::Refused(Errno::NotMapped));
+pub(crate) const NOT_MAPPED: Told = Done(Reply::Refused(Errno::NotMapped));
 
 const TOO_LARGE: Told = Done(Reply::Refused(Errno::TooLarge));
 
 pub(crate) const NO_SWAP: Told = Done(Reply::Refused(Errno::NoSwap));
 
-const READ_FAILS: Told = Done(Reply::Io {
+pub(crate) const READ_FAILS: Told = Done(Reply::Io {
     disk: 0,
     before: 0,
     after: 1,
+});
+
+/// The second fault of disk 0.
+pub(crate) const FAILS_AGAIN: Told = Done(Reply::Io {
+    disk: 0,
+    before: 1,
+    after: 2,
 });
 
 /// One process, whose first read fails. Page k of the first file is full of bytes k + 1, page k of the second of 0x11 + k.
@@ -505,22 +519,25 @@ fn first_bytes(disk: &MemDisk, block: usize) -> Option<[u8; 6]> {
     Some([bytes[0], bytes[1], bytes[2], bytes[3], bytes[4], bytes[5]])
 }
 
-/// What they are at the close: each page of the first file has its last word, and zeros past the file's end.
-fn closed(disk: u32, block: u8) -> Option<[u8; 6]> {
-    Some(match (disk, block) {
-        (0, 6) => [0, 0, 0, 16, 6, 6],
-        (0, 7) => [0, 0, 0, 17, 7, 7],
-        (0, 8) => [0, 0, 0, 8, 8, 0],
-        (0, 1..=5) => [0, 0, 0, block, block, block],
-        (0, _) => [block; 6],
+/// What they are at the close: each page of the first file that was stored into has its last word, and zeros past the file's end.
+fn closed(acts: Acts, disk: u32, block: u8) -> Option<[u8; 6]> {
+    Some(match (acts, disk, block) {
+        (Acts::UseFiles, 0, 6) => [0, 0, 0, 16, 6, 6],
+        (Acts::UseFiles, 0, 7) => [0, 0, 0, 17, 7, 7],
+        (Acts::UseFiles, 0, 8) => [0, 0, 0, 8, 8, 0],
+        (Acts::UseFiles, 0, 1..=5) => [0, 0, 0, block, block, block],
+        (Acts::SyncPages, 0, 1) => [0, 0, 0, 8, 1, 1],
+        (Acts::SyncPages, 0, 2) => [0, 0, 0, 6, 2, 2],
+        (Acts::ChangeMappings, 0, 1) => [0, 0, 0, 4, 1, 1],
+        (_, 0, _) => [block; 6],
         _ => [16 | block; 6],
     })
 }
 
 /// The least block of a disk whose first bytes aren't what they are at the close.
-fn wrong_block(number: u32, disk: &MemDisk) -> Option<u8> {
+fn wrong_block(acts: Acts, number: u32, disk: &MemDisk) -> Option<u8> {
     for block in 0..16u8 {
-        if first_bytes(disk, block as usize) != closed(number, block) {
+        if first_bytes(disk, block as usize) != closed(acts, number, block) {
             return Some(block);
         }
     }
@@ -613,9 +630,9 @@ fn use_files(trial: &mut Trial) -> Result<(), Fail> {
 }
 
 /// The first disk with a wrong block, and that block.
-fn wrong_disk(disks: &[(u32, MemDisk)]) -> Option<(u32, u8)> {
+fn wrong_disk(acts: Acts, disks: &[(u32, MemDisk)]) -> Option<(u32, u8)> {
     for (number, disk) in disks {
-        if let Some(block) = wrong_block(*number, disk) {
+        if let Some(block) = wrong_block(acts, *number, disk) {
             return Some((*number, block));
         }
     }
@@ -624,30 +641,47 @@ fn wrong_disk(disks: &[(u32, MemDisk)]) -> Option<(u32, u8)> {
 
 /// What is looked at of a kernel that was closed.
 #[derive(Clone, Copy, PartialEq, Eq, Debug)]
-struct Outcome {
-    fault: Option<DiskFault>,
-    entries: usize,
+pub(crate) struct Outcome {
+    pub(crate) fault: Option<DiskFault>,
+    pub(crate) entries: usize,
     /// How many faults disks 0 and 1 had counted.
-    faults: (Option<u64>, Option<u64>),
-    wrong: Option<(u32, u8)>,
+    pub(crate) faults: (Option<u64>, Option<u64>),
+    /// The first disk with a wrong block, and that block.
+    pub(crate) wrong: Option<(u32, u8)>,
 }
 
-fn look_at(finished: &Finished<MemDisk>) -> Outcome {
+fn look_at(acts: Acts, finished: &Finished<MemDisk>) -> Outcome {
     let history = &finished.history;
     Outcome {
         fault: finished.fault,
         entries: history.entries().len(),
         faults: (history.faults(0), history.faults(1)),
-        wrong: wrong_disk(finished.disks.as_slice()),
+        wrong: wrong_disk(acts, finished.disks.as_slice()),
+    }
+}
+
+/// What is made with a state.
+#[derive(Clone, Copy)]
+pub(crate) enum Acts {
+    UseFiles,
+    SyncPages,
+    ChangeMappings,
+}
+
+fn make_acts(trial: &mut Trial, acts: Acts) -> Result<(), Fail> {
+    match acts {
+        Acts::UseFiles => use_files(trial),
+        Acts::SyncPages => sync_pages(trial),
+        Acts::ChangeMappings => change_mappings(trial),
     }
 }
 
 // The owner of a state calls little and compares nothing: a step more beside an owned state is long to prove.
-fn used_and_closed(alloc: Global) -> Result<Outcome, Fail> {
+pub(crate) fn made_and_closed(alloc: Global, acts: Acts) -> Result<Outcome, Fail> {
     let mut trial = started(alloc)?;
-    use_files(&mut trial)?;
+    make_acts(&mut trial, acts)?;
     let finished = trial.finish()?;
-    Ok(look_at(&finished))
+    Ok(look_at(acts, &finished))
 }
 
 #[test]
@@ -658,7 +692,7 @@ fn two_processes_use_files_through_few_frames(rt: HostRuntime) -> Result<(), Fai
         faults: (Some(2), Some(0)),
         wrong: None,
     };
-    assert_eq!(rt; used_and_closed(rt.alloc())?, due);
+    assert_eq!(rt; made_and_closed(rt.alloc(), Acts::UseFiles)?, due);
     Ok(())
 }
 

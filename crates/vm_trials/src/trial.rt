@@ -25,6 +25,8 @@ pub(crate) enum Told {
     Busy(Hold),
     /// A transfer began.
     Sent,
+    /// A transfer is needed, and didn't begin.
+    Planned,
     /// It ended, with no reply.
     Landed,
     /// The hands had no page pushed.
@@ -122,8 +124,8 @@ impl Trial {
         }
     }
 
-    /// Tries a call once. A transfer that it needs begins.
-    pub(crate) fn try_call(&mut self, seat: u32, call: &Call) -> Result<Told, Fail>
+    /// Tries a call once. A transfer that it needs begins, where this says so.
+    pub(crate) fn try_call(&mut self, seat: u32, call: &Call, begins: bool) -> Result<Told, Fail>
         requires { IsServed call.now }
     {
         if !is_idle(&self.trips, seat) {
@@ -140,6 +142,7 @@ impl Trial {
         match self.state.try_call(seat, process, call)? {
             Attempt::Done(reply) => Ok(Told::Done(reply)),
             Attempt::Busy(hold) => Ok(Told::Busy(hold)),
+            Attempt::Need(_) if !begins => Ok(Told::Planned),
             Attempt::Need(plan) => {
                 let of = Some((process, *call));
                 send(&mut self.state, &mut self.trips, seat, plan, of);
@@ -168,7 +171,7 @@ impl Trial {
         requires { IsServed call.now }
     {
         for _try in 0..8 {
-            let tried = self.try_call(seat, call)?;
+            let tried = self.try_call(seat, call, true)?;
             if tried != Told::Sent {
                 return Ok(tried);
             }

@@ -115,6 +115,14 @@ known-alive opening s seats seen later p fit is known = fit.births.stays p born 
     born : IsTrue (set.contains s.born p)
     born = fit.births.lived p ∙ ap (λ (H : List Entry). is_top s.parents p || list_any (is_birth p) H) is ∙ longer (is_top s.parents p) seen later known.born
 
+-- what is known of a process outlasts more that is seen
+longer-alive : (parents : List ℕ) (seen later own : List Entry) (p : ℕ) → IsKnownAlive parents seen own p → IsKnownAlive parents (seen ++ later) own p
+longer-alive parents seen later own p known = record { born = by_top (is_top parents p) known.born; here = known.here }
+  where
+    by_top : (a : Bool) → (a || list_any (is_birth p) seen) ≡ true → (a || list_any (is_birth p) (seen ++ later)) ≡ true
+    by_top true born = refl
+    by_top false born = any-front (is_birth p) seen later born
+
 -- A PROCESS STAYS ALIVE while others act
 alive-step : (F : Flat) (e : Entry) (p : ℕ) → AreBorn F → IsStep F e → e.process ≢ p → IsSome (space_of F p) → IsSome (space_of (step F e) p)
 alive-step F e p born st other alive =
@@ -168,4 +176,4 @@ still opening s seats fit none = record {
     is-home (Some b) is = refl
 
 pub seat_law : SeatLaw
-seat_law = record { can_try = can-try; known = known-alive; lives = lives; still = still }
+seat_law = record { can_try = can-try; known = known-alive; longer = longer-alive; lives = lives; still = still }

@@ -1,10 +1,11 @@
 -- What holds of the segment that has a page, from what holds of each part.
 use Rattle.std.proofs.Common.{◌≡◌, ℕ, ◌+◌, ◌-◌, ◌<◌, ◌≤◌, Bool, true, false, cond, List, [], ◌∷◌, Option, Some, None, refl, sym, ap, ◌∙◌, inl, inr, arith}
-use Rattle.std.specs.Prelude.{option_map, option_and_then, nat_le, nat_lt, ◌&&◌, All}
+use Rattle.std.specs.Prelude.{option_map, option_and_then, nat_le, nat_lt, ◌&&◌, All, IsSome}
 use Rattle.std.specs.FinMap as finite
 use Rattle.std.proofs.lemmas.Bool.{cases_Bool, ltb-true, leb-true}
 use Rattle.std.proofs.lemmas.List.Elements.{All-head, All-tail}
-use Rattle.addr_space.specs.Space.{Part, IsInOrder, has, piece_at, part_at}
+use Rattle.addr_space.specs.Space.{Part, IsInOrder, begins, has, piece_at, part_at}
+use Rattle.addr_space.proofs.PartLists.{begins-found}
 use Rattle.vm_world.specs.Segments.{Segment, Spot, Spaces, spot_at}
 
 -- The part that has a page, and the page's place in it.
@@ -16,6 +17,14 @@ pub record IsSpotOf (P : Part Segment → Type 0) (q : ℕ) (x : Spot) : Type 0 
   pub place : x.1 ≡ q - part.first
   pub fits : P part
   pub user : (1 ≤ q) × (q < 0x80000)
+
+-- where a part begins, one is found
+pub begun-there : (parts : List (Part Segment)) (q : ℕ) → IsInOrder 1 parts → IsSome (begins parts q) → part_at parts q ≡ None → ⊥
+begun-there parts q order some none = by_part (begins parts q) refl some
+  where
+    by_part : (o : Option (Part Segment)) → begins parts q ≡ o → IsSome o → ⊥
+    by_part None e s = cc
+    by_part (Some x) e s = let d : Some x ≡ None = sym (begins-found 1 parts q x order e) ∙ none in cc
 
 pub both-left : (a b : Bool) → (a && b) ≡ true → a ≡ true
 both-left true b e = refl

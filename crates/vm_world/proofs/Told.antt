@@ -1,5 +1,5 @@
 -- Events at rest and one after another, and what a seat is told of the state.
-use Rattle.std.proofs.Common.{◌≡◌, ℕ, suc, ◌<◌, ◌==◌, Bool, true, false, cond, List, ◌++◌, length, Option, Some, None, refl, sym, ap, ◌∙◌, ◌⊎◌, inl, inr, append_assoc, subst}
+use Rattle.std.proofs.Common.{◌≡◌, ℕ, zero, suc, ◌<◌, ◌==◌, Bool, true, false, cond, List, ◌++◌, length, Option, Some, None, replicate, refl, sym, ap, ◌∙◌, ◌⊎◌, inl, inr, append_assoc, subst}
 use Rattle.std.specs.Prelude.{option_map, IsSome, IsSomeAnd, slice_set, slice_index_or}
 use Rattle.std.proofs.lemmas.Bool.Decides.{eqb_tells}
 use Rattle.std.proofs.lemmas.List.{get_or-set_same, get_or-set_other}
@@ -19,7 +19,8 @@ use Rattle.page_store.specs.declared.residence.Residence.TheVariants.{Moving}
 use Rattle.flat_model.specs.Flat.{Flat}
 use Rattle.flat_model.specs.OpenLaws.{last_entry, IsOpenPart}
 use Rattle.vm_world.specs.EventLaws.{EventLaw}
-use Rattle.vm_world.specs.Events.{IsEvent}
+use Rattle.vm_world.specs.Events.{IsEvent, IsSince}
+use Rattle.vm_world.specs.Opening.{no_seats}
 use Rattle.vm_world.specs.State.{KernelState, KeptPlan, Seats, Sent, notes_of, seat_of, seats_of, with_sent}
 use Rattle.vm_world.specs.StateFits.{StateFits}
 use Rattle.vm_world.specs.Wants.{HoldsUp, seat_in}
@@ -69,6 +70,23 @@ same-list sents seat sent lt = λ i k. at k i
       | inl y ↦ ap (λ (b : Bool). cond b sent (slice_index_or sents k None)) y.0 ∙ sym (ap (λ (j : ℕ). slice_index_or (slice_set sents seat sent) j None) y.1 ∙ get_or-set_same sents seat sent None lt)
       | inr n ↦ ap (λ (b : Bool). cond b sent (slice_index_or sents k None)) n.0 ∙ sym (get_or-set_other sents seat k sent None n.1)
     ]
+
+none-out : (n k : ℕ) → slice_index_or (replicate {A = Option Sent} n None) k None ≡ None
+none-out zero k = refl
+none-out (suc n) zero = refl
+none-out (suc n) (suc k) = none-out n k
+
+-- WHAT EVENTS KEEP
+opens : (s : KernelState) → (F : Flat) × StateFits F s no_seats → IsSince s s no_seats
+opens s fits = record { starts = fits; fits = λ F fit. fit; fixed = refl; sizes = λ number. refl }
+
+since : (opening s t : KernelState) (seats : Seats) (seat : ℕ) (before after : Option Sent) → IsSince opening s seats → seats seat ≡ before → IsEvent seat s before t after → IsSince opening t (with_sent seats seat after)
+since opening s t seats seat before after was at event = record {
+  starts = was.starts;
+  fits = λ F fit. event.fits F seats at (was.fits F fit);
+  fixed = event.fixed ∙ was.fixed;
+  sizes = λ number. event.sizes was.starts.0 seats at (was.fits was.starts.0 was.starts.1) number ∙ was.sizes number;
+}
 
 -- NOTHING CHANGES.
 rests : (seat : ℕ) (s : KernelState) (sent : Option Sent) → IsEvent seat s sent s sent
@@ -131,5 +149,8 @@ event_law = record {
   forgets = forgets-plan;
   holds = λ opening s seats p call h fit may. tells-holds opening s seats p call h fit may.cause;
   counted = λ opening s seats k e disk before after fit at is. fit.faults.reached k e disk before after at is;
+  opens = opens;
+  since = since;
+  none = λ n i k. none-out n k i;
   list = same-list;
 }

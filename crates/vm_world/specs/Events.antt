@@ -10,6 +10,7 @@ use Rattle.flat_model.specs.Flat.{Flat}
 use Rattle.flat_model.specs.OpenLaws.{MayFollow}
 use Rattle.flat_model.specs.Told.{entries_of}
 use Rattle.vm_world.specs.DiskPlaces.{KeepSizes}
+use Rattle.vm_world.specs.Opening.{no_seats}
 use Rattle.vm_world.specs.State.{KernelState, Seats, Sent, notes_of, with_sent, fixed_of, seat_of, process_parent, room_of}
 use Rattle.vm_world.specs.StateFits.{StateFits}
 
@@ -21,6 +22,14 @@ pub record IsEvent (seat : ℕ) (s : KernelState) (before : Option Sent) (t : Ke
   pub sizes : (opening : Flat) (seats : Seats) → seats seat ≡ before → StateFits opening s seats
       → KeepSizes s.memory.world.store.bays (notes_of seats) t.memory.world.store.bays (notes_of (with_sent seats seat after))
   pub grown : (added : List Entry) × (t.history ≡ s.history ++ added) × All (λ (e : Entry). seat_of e.process ≡ seat) added
+
+-- WHAT EVENTS KEEP, whoever makes them. The opening fits some flat memory with nothing outside; and whichever it fits, the state fits with what the seats have
+-- outside. What is fixed stays, and each disk has its size, wherever it is.
+pub record IsSince (opening s : KernelState) (seats : Seats) : Type 0 where
+  pub starts : (F : Flat) × StateFits F opening no_seats
+  pub fits : (F : Flat) → StateFits F opening no_seats → StateFits F s seats
+  pub fixed : fixed_of s ≡ fixed_of opening
+  pub sizes : KeepSizes opening.memory.world.store.bays (notes_of no_seats) s.memory.world.store.bays (notes_of seats)
 
 -- A Fork's child is a child of this process that was never alive.
 abbrev pub MayBear : KernelState → ℕ → Call → Type 0

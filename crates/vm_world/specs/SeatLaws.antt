@@ -51,13 +51,14 @@ pub record IsAtRest (store : StoreSeen) : Type 0 where
   pub home : (frame : ℕ) → frame < length store.frames → IsSome (bytes_at store.frames frame)
 
 -- Where a state fits, a seat may try the call of a process that is alive if the call may come next behind the process's entries. A process is alive whose
--- birth was seen, and that made no Exit; and where the disks tell, one that was so after a front of the history that has all its entries. And where no seat
+-- birth was seen, and that made no Exit; what is known of it so is known by whoever has seen more; and where the disks tell, one that was so after a front of the history that has all its entries. And where no seat
 -- has anything outside, all frames and disks are home.
 pub record SeatLaw : Type 0 where
   pub can_try : (opening : Flat) (s : KernelState) (seats : Seats) (seat p : ℕ) (call : Call) → StateFits opening s seats → seat_of p ≡ seat
       → IsSome (finite.get s.memory.spaces p) → MayComeNext s.parents s.entries (entries_of s.history p) p call → CanTry s seat p call
   pub known : (opening : Flat) (s : KernelState) (seats : Seats) (seen later : List Entry) (p : ℕ) → StateFits opening s seats → s.history ≡ seen ++ later
       → IsKnownAlive s.parents seen (entries_of s.history p) p → IsSome (finite.get s.memory.spaces p)
+  pub longer : (parents : List ℕ) (seen later own : List Entry) (p : ℕ) → IsKnownAlive parents seen own p → IsKnownAlive parents (seen ++ later) own p
   pub lives : (opening : Flat) (s : KernelState) (seats : Seats) (seen : List Entry) (p : ℕ) → StateFits opening s seats → AllTell s.memory.world (notes_of seats)
       → AreBorn opening → HasSeen s.history seen p → IsSome (space_of (replay opening seen) p) → IsSome (finite.get s.memory.spaces p)
   pub still : (opening : Flat) (s : KernelState) (seats : Seats) → StateFits opening s seats → ((k : ℕ) → seats k ≡ None) → IsAtRest s.memory.world.store

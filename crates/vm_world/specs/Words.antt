@@ -83,3 +83,14 @@ SameFilesAndHat old new = new ≡ record old { store = new.store; anon = new.ano
 
 abbrev pub SameFilesAndTails : {D : Type 0} → rust.World D → rust.World D → Type 0
 SameFilesAndTails old new = new ≡ record old { store = new.store; anon = new.anon; maps = new.maps; hat = new.hat; zeros = new.zeros }
+
+-- Anon maps and zero objects stay; with the pending tails.
+abbrev pub SameMaps : {D : Type 0} → rust.World D → rust.World D → Type 0
+SameMaps old new = new ≡ record old { store = new.store; anon = new.anon; hat = new.hat; files = new.files; pending = new.pending }
+
+abbrev pub SameMapsAndTails : {D : Type 0} → rust.World D → rust.World D → Type 0
+SameMapsAndTails old new = new ≡ record old { store = new.store; anon = new.anon; hat = new.hat; files = new.files }
+
+-- Files and translations stay, with the pending tails.
+abbrev pub SameFilesHatAndTails : {D : Type 0} → rust.World D → rust.World D → Type 0
+SameFilesHatAndTails old new = new ≡ record old { store = new.store; anon = new.anon; maps = new.maps; zeros = new.zeros }

@@ -1,7 +1,8 @@
 use Rattle.std.proofs.Common.{◌+◌, ◌≤◌, arith}
 use Rattle.seg_vn.specs.addr_space.Space.{part}
 use Rattle.seg_vn.proofs.addr_space.PartLemmas.{found-in}
-use Rattle.mmap_calls.proofs.PartsFrom.{begun-there, last-ends, last-is}
+use Rattle.seg_vn.proofs.vm_world.Spots.{begun-there}
+use Rattle.mmap_calls.proofs.PartsFrom.{last-ends, last-is}
 use Rattle.mmap_calls.proofs.counts.last_piece.Goals as goal
 
 pub unreachable-requires : goal.unreachable-requires

@@ -1,6 +1,7 @@
 use Rattle.std.proofs.Common.{sym}
 use Rattle.seg_vn.specs.addr_space.Space.{part}
-use Rattle.proc_calls.proofs.PiecesFrom.{begun-there, is-next, match-none, none-from}
+use Rattle.seg_vn.proofs.vm_world.Spots.{begun-there}
+use Rattle.proc_calls.proofs.PiecesFrom.{is-next, match-none, none-from}
 use Rattle.proc_calls.proofs.pieces.next_piece.Goals as goal
 
 pub unreachable-requires : goal.unreachable-requires

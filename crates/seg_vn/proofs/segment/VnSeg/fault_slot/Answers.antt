@@ -10,19 +10,19 @@ use Rattle.seg_ops.proofs.vm_world.FlatWhole.{some-inj}
 use Rattle.seg_ops.proofs.SlotMemory.{lt-used}
 use Rattle.seg_ops.proofs.StillSteps.{memory_of}
 use Rattle.seg_ops.specs.Faults.{ServesFault}
-use Rattle.seg_vn.proofs.AnyPlaces.{own-private}
-use Rattle.seg_vn.proofs.AnySteps.{own-shown}
+use Rattle.seg_vn.proofs.FaultPlaces.{own-private, own-there}
+use Rattle.seg_vn.proofs.FaultSteps.{own-shown}
 use Rattle.seg_vn.proofs.FilePlaces.{either-allowed, write-allowed}
 use Rattle.seg_vn.proofs.segment.VnSeg.fault_slot.Given.{Over}
 use Rattle.seg_vn.proofs.segment.VnSeg.fault_slot.Goals.{In-Some}
 use Rattle.seg_vn.proofs.segment.VnSeg.fault_slot.Goals as goal
 
 -- the place holds the slot, which is in use
-held : (g : Over) (c : In-Some g) → slot_in c.args.world.now.maps c.in-Some.map c.args.at ≡ Some c.args.slot
-held g c = sym (ap (option_and_then (λ (n : ℕ). slot_in c.args.world.now.maps n c.args.at)) (sym c.own.ensures ∙ c.in-Some.is)) ∙ c.requires.own
+held : (g : Over) (c : In-Some g) → slot_in c.args.world.now.maps c.in-Some.map c.args.fault.place ≡ Some c.args.slot
+held g c = sym (ap (option_and_then (λ (n : ℕ). slot_in c.args.world.now.maps n c.args.fault.place)) (sym c.own.ensures ∙ c.in-Some.is)) ∙ c.requires.own
 
 used : (g : Over) (c : In-Some g) → 0 < count_at c.args.world.now.anon c.args.slot
-used g c = held-used c.args.world.now.anon c.args.world.now.maps c.in-Some.map c.args.at c.args.slot c.requires.fits.1.counts (held g c)
+used g c = held-used c.args.world.now.anon c.args.world.now.maps c.in-Some.map c.args.fault.place c.args.slot c.requires.fits.1.counts (held g c)
 
 pub count-requires : goal.count-requires
 count-requires g c = used-below c.args.world.now.anon.counts c.args.slot (used g (goal.at.count-requires g c).In-Some)
@@ -35,6 +35,12 @@ fault_page-requires-then-not-write-clause-exists g c = lt-used (count_at c.args.
 
 pub fault_page-requires-then-not-write-clause-home : goal.fault_page-requires-then-not-write-clause-home
 fault_page-requires-then-not-write-clause-home g c = let h = c.requires.home 0 in (h.0, h.2)
+
+pub fault_copy-requires-clause-own : goal.fault_copy-requires-clause-own
+fault_copy-requires-clause-own g c =
+    let o = c.requires.fits in
+    let is = own-there (world_seen c.args.world.now) o.0 c.args.fault.process c.args.fault.page (c.args.self.now, c.args.fault.place) o.1 o.2 c.in-Some.map (sym c.own.ensures ∙ c.in-Some.is) in
+    record { there = is.0; within = is.1; holds = held g (goal.at.fault_copy-requires-clause-own g c).In-Some }
 
 pub fault_copy-requires-clause-exists : goal.fault_copy-requires-clause-exists
 fault_copy-requires-clause-exists g c = lt-used (count_at c.args.world.now.anon c.args.slot) (used g (goal.at.fault_copy-requires-clause-exists g c).In-Some)
@@ -49,40 +55,40 @@ fault_copy-requires-clause-shared g c =
 pub fault_copy-requires-clause-fits : goal.fault_copy-requires-clause-fits
 fault_copy-requires-clause-fits g c =
     let o = c.requires.fits in
-    (o.0, (c.args.self.now, c.args.at), o.1, record { here = o.2; own = sym c.own.ensures ∙ c.in-Some.is; place = refl })
+    (o.0, (c.args.self.now, c.args.fault.place), o.1, record { here = o.2; own = sym c.own.ensures ∙ c.in-Some.is; place = refl })
 
 -- a slot of its own alone
 pub returns-then-count-eq1-clause-serves : goal.returns-then-count-eq1-clause-serves
 returns-then-count-eq1-clause-serves g c = λ spaces fits here.
     let w = world_seen c.args.world.now in
-    let x : Spot = (c.args.self.now, c.args.at) in
+    let x : Spot = (c.args.self.now, c.args.fault.place) in
     let s = c.args.slot in
     let writable : c.can_write.result ≡ can_write x.0.prot = c.can_write.ensures ∙ ap can_write c.prot.ensures in
-    c.fault_page.ensures.serves spaces x c.args.write fits (record {
+    c.fault_page.ensures.serves spaces x c.args.fault.write fits (record {
       here = here;
       shows = own-shown w.maps x s c.requires.own;
       some = ap (λ (o : Option ℕ). is_some o || object_has w x.0.shown (x.0.index + x.1) x.0.object) c.requires.own;
-      allowed = either-allowed c.args.write (can_read x.0.prot) (can_write x.0.prot) c.requires.allowed;
+      allowed = either-allowed c.args.fault.write (can_read x.0.prot) (can_write x.0.prot) c.requires.allowed;
       in_place = λ writes. record { prot = sym writable ∙ writes; alone = λ private. (s, c.requires.own, sym c.count.ensures ∙ c.if-count-eq1.true) };
       opens = λ may. writable ∙ may.prot;
-      lets = λ write. writable ∙ write-allowed c.args.write (can_read x.0.prot) (can_write x.0.prot) c.requires.allowed write;
+      lets = λ write. writable ∙ write-allowed c.args.fault.write (can_read x.0.prot) (can_write x.0.prot) c.requires.allowed write;
     })
 
 -- a load of one that other places hold too
 pub returns-then-not-write-clause-serves : goal.returns-then-not-write-clause-serves
 returns-then-not-write-clause-serves g c = λ spaces fits here.
     let w = world_seen c.args.world.now in
-    let x : Spot = (c.args.self.now, c.args.at) in
+    let x : Spot = (c.args.self.now, c.args.fault.place) in
     let s = c.args.slot in
-    let read : c.args.write ≡ false = c.if-not-write.true in
-    c.fault_page-then-not-write.ensures.serves spaces x c.args.write fits (record {
+    let read : c.args.fault.write ≡ false = c.if-not-write.true in
+    c.fault_page-then-not-write.ensures.serves spaces x c.args.fault.write fits (record {
       here = here;
       shows = own-shown w.maps x s c.requires.own;
       some = ap (λ (o : Option ℕ). is_some o || object_has w x.0.shown (x.0.index + x.1) x.0.object) c.requires.own;
-      allowed = either-allowed c.args.write (can_read x.0.prot) (can_write x.0.prot) c.requires.allowed;
+      allowed = either-allowed c.args.fault.write (can_read x.0.prot) (can_write x.0.prot) c.requires.allowed;
       in_place = λ writes. absurd (let z : false ≡ true = writes in cc);
       opens = λ may. absurd (
-          let a = may.alone (own-private w spaces c.args.space c.args.page x fits here c.in-Some.map (sym c.own.ensures ∙ c.in-Some.is)) in
+          let a = may.alone (own-private w spaces c.args.fault.process c.args.fault.page x fits here c.in-Some.map (sym c.own.ensures ∙ c.in-Some.is)) in
           let same : s ≡ a.0 = some-inj s a.0 (sym c.requires.own ∙ a.1) in
           c.if-count-eq1.false (c.count.ensures ∙ ap (count_at w.anon) same ∙ a.2));
       lets = λ write. absurd (let z : false ≡ true = sym read ∙ write in cc);
@@ -91,14 +97,14 @@ returns-then-not-write-clause-serves g c = λ spaces fits here.
 pub returns-clause-serves : goal.returns-clause-serves
 returns-clause-serves g c = λ spaces fits here.
     let w = world_seen c.args.world.now in
-    let x : Spot = (c.args.self.now, c.args.at) in
+    let x : Spot = (c.args.self.now, c.args.fault.place) in
     let s = c.args.slot in
     let at = (goal.at.returns-clause-serves g c).In-Some in
-    let write : c.args.write ≡ true = c.if-not-write.false in
+    let write : c.args.fault.write ≡ true = c.if-not-write.false in
     let some = used g at in
     let ne = c.if-count-eq1.false in
     let is = c.count.ensures in
-    subst (λ (b : Bool). ServesFault (memory_of w spaces) (memory_of (world_seen c.fault_copy.new.world) spaces) c.args.world.now.pending c.fault_copy.new.world.pending c.args.space c.args.page x b c.fault_copy.result) (sym write)
+    subst (λ (b : Bool). ServesFault (memory_of w spaces) (memory_of (world_seen c.fault_copy.new.world) spaces) c.args.world.now.pending c.fault_copy.new.world.pending c.args.fault.process c.args.fault.page x b c.fault_copy.result) (sym write)
     (c.fault_copy.ensures.serves spaces x fits (record {
       here = here;
       own = sym c.own.ensures ∙ c.in-Some.is;

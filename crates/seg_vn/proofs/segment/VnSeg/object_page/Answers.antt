@@ -11,7 +11,7 @@ use Rattle.seg_ops.specs.vm_world.Wants.{object_has}
 use Rattle.seg_ops.specs.vm_world.World.{world_seen, slot_in, slot_name}
 use Rattle.seg_ops.proofs.SlotOwners.{places_law}
 use Rattle.seg_ops.proofs.StillSteps.{memory_of}
-use Rattle.seg_vn.proofs.AnyPlaces.{own-there, file-at, new-private, private-has, zero-at, zero-map-at}
+use Rattle.seg_vn.proofs.FaultPlaces.{own-there, file-at, new-private, private-has, zero-at, zero-map-at}
 use Rattle.seg_vn.proofs.segment.VnSeg.object_page.Goals as goal
 
 pub info-requires : goal.info-requires

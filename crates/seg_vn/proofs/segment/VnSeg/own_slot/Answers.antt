@@ -1,6 +1,6 @@
 use Rattle.std.proofs.Common.{sym, ◌∙◌}
 use Rattle.seg_ops.specs.vm_world.World.{world_seen}
-use Rattle.seg_vn.proofs.AnyPlaces.{own-there}
+use Rattle.seg_vn.proofs.FaultPlaces.{own-there}
 use Rattle.seg_vn.proofs.segment.VnSeg.own_slot.Goals as goal
 
 pub get-requires-clause-there : goal.get-requires-clause-there

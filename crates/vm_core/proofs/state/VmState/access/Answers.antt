@@ -32,7 +32,7 @@ pub invariant_of-self : goal.invariant_of-self
 invariant_of-self g c = (
   kept-served (record { world = world_seen c.self.inside.world; spaces = c.self.inside.spaces.spaces }) (record { world = world_seen c.answer.new.world; spaces = c.answer.new.spaces.spaces }) c.self.inside.world.zeros c.answer.new.world.zeros _ _ [] _ _ _ _ _ c.self.invariant.0
       (subst (λ (spaces : SpacesSeen). KnowsZeros c.answer.new.world.zeros spaces.spaces) (sym c.answer.ensures.spaces) (subst (λ (zeros : List (Option ℕ)). KnowsZeros zeros c.self.inside.spaces.spaces) (sym c.answer.ensures.zeros) c.self.invariant.0.known)) (serves-is g c []),
-  subst (λ (s : SpacesSeen). EachHasPlaces c.self.inside.parents.items s.processes (length c.self.inside.born.items) (length c.self.inside.syncs.items)) (sym c.answer.ensures.spaces) c.self.invariant.1,
+  subst (λ (s : SpacesSeen). EachHasPlaces c.self.inside.parents.items s.processes (length c.self.inside.born.items) (length c.self.inside.syncs)) (sym c.answer.ensures.spaces) c.self.invariant.1,
 )
 
 pub returns-clause-serves : goal.returns-clause-serves

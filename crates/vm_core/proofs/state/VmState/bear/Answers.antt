@@ -17,7 +17,7 @@ use Rattle.vm_core.proofs.state.VmState.bear.Goals as goal
 
 pub fork-requires : goal.fork-requires
 fork-requires g c =
-    let k = child-places c.self.inside.parents.items c.self.inside.spaces.processes (length c.self.inside.born.items) (length c.self.inside.syncs.items) c.args.child c.args.process c.self.invariant.1 (subst (λ (s : KernelState). process_parent s.parents c.args.child ≡ Some c.args.process) (sym c.self.view_is) c.requires.number) in
+    let k = child-places c.self.inside.parents.items c.self.inside.spaces.processes (length c.self.inside.born.items) (length c.self.inside.syncs) c.args.child c.args.process c.self.invariant.1 (subst (λ (s : KernelState). process_parent s.parents c.args.child ≡ Some c.args.process) (sym c.self.view_is) c.requires.number) in
     record {
       fits = subst (λ (s : KernelState). MemoryFits s.memory) (sym c.self.view_is) c.requires.fits;
       zeros = c.self.invariant.0.known;
@@ -27,9 +27,9 @@ fork-requires g c =
     }
 
 -- where the child has its places
-placed : (g : Over) (c : After-fork g) → ChildPlaces c.args.child c.self.inside.spaces.processes (length c.self.inside.born.items) (length c.self.inside.syncs.items)
+placed : (g : Over) (c : After-fork g) → ChildPlaces c.args.child c.self.inside.spaces.processes (length c.self.inside.born.items) (length c.self.inside.syncs)
 placed g c =
-    child-places c.self.inside.parents.items c.self.inside.spaces.processes (length c.self.inside.born.items) (length c.self.inside.syncs.items) c.args.child c.args.process c.self.invariant.1
+    child-places c.self.inside.parents.items c.self.inside.spaces.processes (length c.self.inside.born.items) (length c.self.inside.syncs) c.args.child c.args.process c.self.invariant.1
     (subst (λ (s : KernelState). process_parent s.parents c.args.child ≡ Some c.args.process) (sym c.self.view_is) c.requires.number)
 
 abbrev before : (g : Over) (c : After-fork g) → Memory
@@ -44,14 +44,14 @@ note_birth-requires g c = let k = placed g (goal.at.note_birth-requires g c).Aft
 pub invariant_of-self : goal.invariant_of-self
 invariant_of-self g c =
     let p = (goal.at.invariant_of-self g c).After-fork in
-    kept-forked (before g p) (after g p) c.self.inside.world.zeros c.fork.new.world.zeros _ c.self.inside.parents.items c.self.inside.spaces.processes (length c.self.inside.born.items) (length c.self.inside.syncs.items) c.fork.new.spaces.processes (length c.self.inside.born.items) (length c.self.inside.syncs.items) c.self.invariant c.fork.ensures.zeros (ap (λ w. w.store) c.fork.ensures.rest)
+    kept-forked (before g p) (after g p) c.self.inside.world.zeros c.fork.new.world.zeros _ c.self.inside.parents.items c.self.inside.spaces.processes (length c.self.inside.born.items) (length c.self.inside.syncs) c.fork.new.spaces.processes (length c.self.inside.born.items) (length c.self.inside.syncs) c.self.invariant c.fork.ensures.zeros (ap (λ w. w.store) c.fork.ensures.rest)
     c.fork.ensures.processes refl refl
 
 pub invariant_of-self-2 : goal.invariant_of-self-2
 invariant_of-self-2 g c =
     let p = (goal.at.invariant_of-self-2 g c).After-fork in
-    kept-forked (before g p) (after g p) c.self.inside.world.zeros c.fork.new.world.zeros _ c.self.inside.parents.items c.self.inside.spaces.processes (length c.self.inside.born.items) (length c.self.inside.syncs.items) c.fork.new.spaces.processes (length c.note_birth.new.born.items) (length c.note_birth.new.syncs.items) c.self.invariant c.fork.ensures.zeros (ap (λ w. w.store) c.fork.ensures.rest)
-    c.fork.ensures.processes c.note_birth.ensures.marks (ap (λ (l : List (Option ℕ)). length l) c.note_birth.ensures.syncs ∙ count-starts c.self.inside.syncs.items c.args.child c.in_ok-reply.reply)
+    kept-forked (before g p) (after g p) c.self.inside.world.zeros c.fork.new.world.zeros _ c.self.inside.parents.items c.self.inside.spaces.processes (length c.self.inside.born.items) (length c.self.inside.syncs) c.fork.new.spaces.processes (length c.note_birth.new.born.items) (length c.note_birth.new.syncs) c.self.invariant c.fork.ensures.zeros (ap (λ w. w.store) c.fork.ensures.rest)
+    c.fork.ensures.processes c.note_birth.ensures.marks (ap (λ (l : List (Option ℕ)). length l) c.note_birth.ensures.syncs ∙ count-starts c.self.inside.syncs c.args.child c.in_ok-reply.reply)
 
 modified : (g : Over) (c : After-fork g) → ModifiesNone c.args.self.now.memory.world (after g c).world
 modified g c = subst (λ (s : KernelState). ModifiesNone s.memory.world (world_seen c.fork.new.world)) c.self.view_is c.fork.ensures.modified
@@ -67,7 +67,7 @@ returns g c =
       counted = subst (λ (s : KernelState). IsCountedFork s.memory (after g p).world.anon.counts c.args.process c.in_ok-reply.reply) c.self.view_is c.in_ok-reply.ensures.counted;
       modified = modified g p;
       placed = seated g p;
-      rest = forked-as _ c.args.self.now (after g p) c.args.child c.fork.new.world.pending c.in_ok-reply.reply _ c.note_birth.new.syncs.items c.self.view_is c.note_birth.ensures.born (ap (λ w. w.pending) c.fork.ensures.rest) c.note_birth.ensures.syncs;
+      rest = forked-as _ c.args.self.now (after g p) c.args.child c.fork.new.world.pending c.in_ok-reply.reply _ c.note_birth.new.syncs c.self.view_is c.note_birth.ensures.born (ap (λ w. w.pending) c.fork.ensures.rest) c.note_birth.ensures.syncs;
       err = tt;
     }
 

@@ -14,7 +14,7 @@ attempt-requires-clause-fits g c = subst (λ (s : KernelState). MemoryFits s.mem
 pub invariant_of-self : goal.invariant_of-self
 invariant_of-self g c = (
   kept-served (record { world = world_seen c.self.inside.world; spaces = c.self.inside.spaces.spaces }) (record { world = world_seen c.attempt.new.world; spaces = c.attempt.new.spaces.spaces }) c.self.inside.world.zeros c.attempt.new.world.zeros _ _ [] _ _ _ _ _ c.self.invariant.0 c.attempt.ensures.zeros (c.in-Ok.ensures.done []),
-  subst (λ (n : ℕ). EachHasPlaces c.self.inside.parents.items n (length c.self.inside.born.items) (length c.self.inside.syncs.items)) (sym c.attempt.ensures.processes) c.self.invariant.1,
+  subst (λ (n : ℕ). EachHasPlaces c.self.inside.parents.items n (length c.self.inside.born.items) (length c.self.inside.syncs)) (sym c.attempt.ensures.processes) c.self.invariant.1,
 )
 
 pub returns-clause-serves : goal.returns-clause-serves

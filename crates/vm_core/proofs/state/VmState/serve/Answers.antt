@@ -1,5 +1,10 @@
-use Rattle.std.proofs.Common.{sym, subst}
+use Rattle.std.proofs.Common.{◌≤◌, ap, sym, subst, arith}
+use Rattle.std.specs.Prelude.{IsSome}
+use Rattle.std.specs.FinMap as finite
+use Rattle.fault_entry.specs.anon_slots.Slots.{AnonSlotsSeen, count_at}
 use Rattle.fault_entry.specs.vm_types.declared.call.Call.{Call}
+use Rattle.fault_entry.specs.vm_world.Segments.{Spaces}
+use Rattle.fault_entry.specs.seg_vn.Serves.{Serves}
 use Rattle.vm_core.specs.Calls.{IsShownAfterCall, SlotsAfterCall, IsHitAfterCall}
 use Rattle.vm_core.proofs.Served.{no-exit}
 use Rattle.vm_core.proofs.state.VmState.serve.Goals as goal
@@ -15,6 +20,25 @@ returns-in-Exit-clause-slots g c =
 pub returns-in-Exit-clause-hit : goal.returns-in-Exit-clause-hit
 returns-in-Exit-clause-hit g c = subst (λ (x : Call). IsHitAfterCall c.args.self.now.memory c.exit.new.self.memory.world c.args.process x c.exit.result) (sym c.in-Exit.is) tt
 
+-- A Sync leaves no translation to be told, makes no slot, and its process goes on.
+pub returns-in-Sync-clause-serves : goal.returns-in-Sync-clause-serves
+returns-in-Sync-clause-serves g c =
+    subst (λ (x : Call). Serves c.args.self.now.memory c.sync.new.self.memory c.args.self.now.pending c.sync.new.self.pending c.args.self.now.calls c.args.process x c.sync.result) (sym c.in-Sync.is) c.sync.ensures.serves
+
+pub returns-in-Sync-clause-shown : goal.returns-in-Sync-clause-shown
+returns-in-Sync-clause-shown g c = subst (λ (x : Call). IsShownAfterCall c.sync.new.self.memory c.args.process x c.sync.result) (sym c.in-Sync.is) tt
+
+pub returns-in-Sync-clause-slots : goal.returns-in-Sync-clause-slots
+returns-in-Sync-clause-slots g c =
+    subst (λ (x : Call). SlotsAfterCall c.args.self.now.memory c.sync.new.self.memory.world c.args.process x c.sync.result) (sym c.in-Sync.is)
+    (λ slot. let same = ap (λ (a : AnonSlotsSeen). count_at a slot) c.sync.ensures.slots in omega (arith, same))
+
+pub returns-in-Sync-clause-hit : goal.returns-in-Sync-clause-hit
+returns-in-Sync-clause-hit g c = subst (λ (x : Call). IsHitAfterCall c.args.self.now.memory c.sync.new.self.memory.world c.args.process x c.sync.result) (sym c.in-Sync.is) tt
+
+pub returns-in-Sync-clause-alive : goal.returns-in-Sync-clause-alive
+returns-in-Sync-clause-alive g c = λ other. subst (λ (spaces : Spaces). IsSome (finite.get spaces c.args.process)) (sym c.sync.ensures.spaces) c.requires.alive
+
 -- Else it is a call of a process that goes on.
 pub map-requires-clause-served : goal.map-requires-clause-served
-map-requires-clause-served g c = no-exit c.args.call.now c.requires.served c.in_default.not-Exit
+map-requires-clause-served g c = no-exit c.args.call.now c.requires.served c.in_default.not-Exit c.in_default.not-Sync

@@ -18,9 +18,9 @@ invariant_of-result g c =
     let few = c.requires.seats in
     let enough = c.requires.frames in
     let entries = ap (λ (l : List ℕ). length l) c.in-Ok.ensures.entries in (
-      kept-start c.in-Ok-new.store c.new-in-Ok-new-2.result c.in-Ok.tables.spaces.spaces setup.parents.items c.in-Ok.tables.ledger.entries setup.frames 0 setup.seats c.in-Ok.tables.syncs.items (pairs_seen g.D.Disk.seen setup.disks.items) (option_map g.D.Disk.seen setup.swap)
+      kept-start c.in-Ok-new.store c.new-in-Ok-new-2.result c.in-Ok.tables.spaces.spaces setup.parents.items c.in-Ok.tables.ledger.entries setup.frames 0 setup.seats c.in-Ok.tables.syncs (pairs_seen g.D.Disk.seen setup.disks.items) (option_map g.D.Disk.seen setup.swap)
           c.in-Ok-new.ensures.store c.in-Ok.ensures.spaces (omega (arith, total, enough)) c.in-Ok.ensures.syncs (omega (arith, entries, few)) c.new-in-Ok-new-2.ensures,
-      have-places setup.parents.items setup.entries.items c.in-Ok.tables.spaces.processes setup.seats c.in-Ok.tables.born.items c.in-Ok.tables.syncs.items c.in-Ok.ensures.processes c.in-Ok.ensures.born c.in-Ok.ensures.syncs c.requires.entries few,
+      have-places setup.parents.items setup.entries.items c.in-Ok.tables.spaces.processes setup.seats c.in-Ok.tables.born.items c.in-Ok.tables.syncs c.in-Ok.ensures.processes c.in-Ok.ensures.born c.in-Ok.ensures.syncs c.requires.entries few,
     )
 
 pub returns-in-Ok-new-clause-opening : goal.returns-in-Ok-new-clause-opening

@@ -5,10 +5,10 @@ ghost use Rattle.seg_ops.specs.vm_world.Segments.{Spaces, Spot};
 ghost use Rattle.seg_ops.specs.vm_world.Words.{Fits, IsFit, IsKnown, OneIsHome, OnlyFrames, SameFiles};
 ghost use Rattle.seg_ops.specs.vm_world.World.{world_seen, slot_in, page_exists};
 ghost use Rattle.seg_ops.specs.Slots.{IsNewZero};
-ghost use Rattle.seg_vn.specs.AnyPlaces.{PagePlace, ZerosShown};
+ghost use Rattle.seg_vn.specs.FaultPlaces.{PagePlace, ZerosShown};
 ghost use Rattle.seg_ops.specs.Faults.{FaultServed};
 
-use crate::any_pages::bring_page;
+use crate::brought::bring_page;
 use crate::segment::load_page;
 use seg_ops::{
     Disk, Fault, PageName, Plan, SWAP_OBJECT, Wants, World, ask, free_next, make_room, make_zero,

@@ -2,10 +2,9 @@
 ghost use Rattle.std.specs.Prelude.{◌≡◌, IsTrue};
 ghost use Rattle.seg_ops.specs.page_store.Seen.{residence};
 ghost use Rattle.seg_ops.specs.page_store.declared.residence.Residence.TheVariants.{Absent};
-ghost use Rattle.seg_ops.specs.vm_world.Segments.{Spaces};
-ghost use Rattle.seg_ops.specs.vm_world.Words.{Fits, IsFit, IsKnown, OneIsHome, OnlyFrames};
+ghost use Rattle.seg_ops.specs.vm_world.Words.{IsFit, IsKnown, OneIsHome, OnlyFrames};
 ghost use Rattle.seg_ops.specs.vm_world.World.{is_unpushed, page_exists};
-ghost use Rattle.seg_vn.specs.Brings.{PageBrought};
+ghost use Rattle.seg_vn.specs.Brings.{IsPageBrought};
 
 use seg_ops::{
     Disk, Hold, PageName, Plan, Residence, SWAP_OBJECT, Wants, World, ask, fetch, fill_page,
@@ -32,8 +31,7 @@ fn bring_zeros<D: Disk>(world: &mut World<D>, name: PageName) -> Result<(), Want
     requires home { OneIsHome world.old.store }
     requires fits { IsFit world.old }
     requires noted { IsKnown world.old }
-    ensures brings { (spaces : Spaces) → Fits world.old spaces
-        → PageBrought world.old world.new spaces name result }
+    ensures brings { IsPageBrought world.old world.new name result }
     // What stays.
     ensures rest { OnlyFrames world.old world.new }
 {
@@ -51,8 +49,7 @@ pub(crate) fn bring_page<D: Disk>(world: &mut World<D>, name: PageName) -> Resul
     requires home { OneIsHome world.old.store }
     requires fits { IsFit world.old }
     requires noted { IsKnown world.old }
-    ensures brings { (spaces : Spaces) → Fits world.old spaces
-        → PageBrought world.old world.new spaces name result }
+    ensures brings { IsPageBrought world.old world.new name result }
     // What stays.
     ensures rest { OnlyFrames world.old world.new }
 {

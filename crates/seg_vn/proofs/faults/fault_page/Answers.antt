@@ -5,8 +5,8 @@ use Rattle.seg_ops.specs.vm_world.World.{world_seen}
 use Rattle.seg_ops.specs.declared.plans.Fault.TheVariants as fault
 use Rattle.seg_ops.proofs.StillSteps.{memory_of}
 use Rattle.seg_ops.specs.Faults.{ServesFault}
-use Rattle.seg_vn.proofs.AnySteps.{may-show, page-loaded, page-waits}
-use Rattle.seg_vn.proofs.any_faults.fault_page.Goals as goal
+use Rattle.seg_vn.proofs.FaultSteps.{may-show, page-loaded, page-waits}
+use Rattle.seg_vn.proofs.faults.fault_page.Goals as goal
 
 pub load_page-requires-clause-fits : goal.load_page-requires-clause-fits
 load_page-requires-clause-fits g c = (c.requires.fits.0, (c.in_ok-bring_page.ensures.brings c.requires.fits.0 c.requires.fits.1).first.step.memory)

@@ -50,13 +50,13 @@ use Rattle.seg_ops.proofs.Disks.{home-free}
 use Rattle.seg_ops.proofs.SlotOwners.{not-shown}
 use Rattle.seg_ops.proofs.SlotPlaces.{own-else, slot-here}
 use Rattle.seg_ops.proofs.StillSteps.{memory_of}
-use Rattle.seg_vn.specs.AnyPlaces.{PagePlace, ZerosShown}
+use Rattle.seg_vn.specs.FaultPlaces.{PagePlace, ZerosShown}
 use Rattle.seg_vn.specs.Brings.{BringsPage}
 use Rattle.seg_ops.specs.Faults.{Accesses, FaultMeans, ServesFault, WaitsFor, after_fault}
 use Rattle.seg_vn.specs.Shown.{ZerosPlace}
 use Rattle.seg_ops.specs.SlotsDue.{KeepsSlots}
-use Rattle.seg_vn.proofs.AnyFaults.{accessed, serves-kept}
-use Rattle.seg_vn.proofs.AnyPlaces.{kept-shared, kept-own, kept-new, private-has}
+use Rattle.seg_vn.proofs.ServedFaults.{accessed, serves-kept}
+use Rattle.seg_vn.proofs.FaultPlaces.{kept-shared, kept-own, kept-new, private-has}
 use Rattle.seg_vn.proofs.Faulted.{access-wants, wanted-name}
 use Rattle.seg_vn.proofs.Modifying.{loaded-modifies}
 use Rattle.seg_vn.proofs.FilePlaces.{either-allowed}

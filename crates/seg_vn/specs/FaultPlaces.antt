@@ -1,7 +1,8 @@
 -- Places of any mapping, as their faults are served. Inside: no public clause cites this.
-use Rattle.std.specs.Prelude.{◌≡◌, ◌<◌, ◌||◌, ℕ, Bool, true, Option, Some, None, IsTrue}
+use Rattle.std.specs.Prelude.{◌≡◌, ◌<◌, ◌||◌, ℕ, Bool, true, List, length, Option, Some, None, Result, IsTrue}
 use Rattle.std.specs.FinSet as set
 use Rattle.std.specs.Ordering.{nat_cmp}
+use Rattle.seg_ops.specs.anon_map.Maps.{Map, IsMapThere, places_of}
 use Rattle.seg_ops.specs.anon_slots.Slots.{count_at}
 use Rattle.seg_ops.specs.page_hash.declared.PageName.{PageName}
 use Rattle.seg_ops.specs.page_store.Notes.{Notes}
@@ -21,12 +22,20 @@ use Rattle.seg_ops.specs.vm_world.Pages.{contents_of}
 use Rattle.seg_ops.specs.vm_world.Segments.{Spot, Spaces, spot_at, own_slot, shown_name}
 use Rattle.seg_ops.specs.vm_world.TranslationsFit.{MayWriteInPlace}
 use Rattle.seg_ops.specs.vm_world.Wants.{shows_page}
-use Rattle.seg_ops.specs.vm_world.World.{World, slot_in, is_unpushed, page_exists}
+use Rattle.seg_ops.specs.vm_world.World.{World, world_seen, slot_in, slot_name, is_unpushed, page_exists}
 use Rattle.seg_ops.specs.OwnPages.{with_own_shown}
 use Rattle.seg_ops.specs.Slots.{GivesSlot, MakesHome, OwnsAlone}
 use Rattle.seg_vn.specs.Shown.{ZerosPlace}
 use Rattle.seg_ops.specs.vm_world.Serving.{TakesFrames}
 use Rattle.seg_ops.specs.page_hash.Names.{name_at}
+use Rattle.seg_ops.specs.vm_world.Words.{Fits}
+use Rattle.seg_ops.specs.vm_world.declared.segment.Segment.{Segment}
+use Rattle.seg_ops.specs.vm_world.declared.wants.Wants.{Wants}
+use Rattle.seg_ops.specs.vm_world.declared.world.World as rust
+use Rattle.seg_ops.specs.Faults.{FaultServed, FaultServedAt, IsFitAt}
+use Rattle.seg_ops.specs.declared.plans.Fault.{Fault}
+use Rattle.seg_vn.specs.declared.copy_faults.OwnPlace.{OwnPlace}
+use Rattle.seg_vn.specs.declared.segment_faults.PageFault.{PageFault}
 
 -- A place shows this page, which a translation may lead to: a writable one exactly where the page may be written where it is; and a store's is.
 pub record PagePlace (w : World) (spaces : Spaces) (p q : ℕ) (x : Spot) (name : PageName) (write writable : Bool) : Type 0 where
@@ -70,10 +79,23 @@ abbrev pub ShowsZeros : World → Option PageName → Type 0
 ShowsZeros w None = Unit {0}
 ShowsZeros w (Some name) = (residence w.store name ≡ Absent) × IsTrue (is_unpushed w.files w.anon name) × IsTrue (page_exists w.files w.anon name)
 
+-- The slot is one that other places hold too, with this page; or with a page of zeros that no frame holds.
+abbrev pub IsSharedSlot : {D : Type 0} → rust.World D → PageName → ℕ → Type 0
+IsSharedSlot w name s = (1 < count_at w.anon s) × (name ≡ slot_name s)
+
+abbrev pub IsSharedBlank : {D : Type 0} → rust.World D → ℕ → Type 0
+IsSharedBlank w s = (1 < count_at w.anon s) × (residence w.store (slot_name s) ≡ Absent) × IsTrue (is_unpushed w.files w.anon (slot_name s))
+
 -- Frames are taken for other pages: the one that is taken next, where it holds a page.
 pub record TakesNext (old : Memory) (new : World) (pending more : ℕ) : Type 0 where
   pub takes : TakesFrames old new pending more
   pub next : (name : PageName) → IsTrue (takes.cut name) → (frame : ℕ) × (next_frame new.store ≡ Some frame) × (name_at old.world.store.names frame ≡ Some name)
+
+-- The place is one of the map, and holds this slot, or none.
+pub record IsOwnPlace (maps : List (Option Map)) (own : OwnPlace) : Type 0 where
+  pub there : IsMapThere maps own.map
+  pub within : own.place < length (places_of maps own.map)
+  pub holds : slot_in maps own.map own.place ≡ own.slot
 
 -- The place is a private page's own.
 pub record OwnSpot (spaces : Spaces) (p q m i : ℕ) (x : Spot) : Type 0 where
@@ -91,3 +113,32 @@ pub record GetsOwn (old new : World) (pending more m i : ℕ) (slot : Option ℕ
   pub changes : (spaces : Spaces) (p q : ℕ) (x : Spot) → MemoryFits (record { world = old; spaces = spaces }) → OwnsAlone spaces p q m i x → translation_at old.hat.places p q ≡ None
       → next_name old.store ≡ None → CellShows old spaces x slot bytes
       → ChangesMemory p (record { world = old; spaces = spaces }) (record { world = new; spaces = spaces }) (λ F G. G ≡ with_own_shown F p q)
+
+-- The place is the own one of this page of some process; it gets a slot, with these bytes; and what a store that needs one comes to.
+abbrev pub IsOwnSpot : {D : Type 0} → rust.World D → ℕ → ℕ → OwnPlace → Type 0
+IsOwnSpot w p q own = (spaces : Spaces) × (x : Spot) × Fits w spaces × OwnSpot spaces p q own.map own.place x
+
+abbrev pub GivesOwn : {D : Type 0} → rust.World D → rust.World D → OwnPlace → Page → ℕ → Type 0
+GivesOwn old new own bytes s = GetsOwn (world_seen old) (world_seen new) old.pending new.pending own.map own.place own.slot bytes s
+
+abbrev pub ServesCopy : {D : Type 0} → rust.World D → rust.World D → ℕ → ℕ → OwnPlace → Option PageName → Result Fault Wants → Type 0
+ServesCopy old new p q own shown answer =
+    (spaces : Spaces) (x : Spot) → Fits old spaces → CopyPlace (world_seen old) spaces p q x own.map own.place own.slot shown → FaultServed old new spaces p q x true answer
+
+-- The place shows zeros, for which this place of this map is; and what a fault there comes to.
+abbrev pub IsZerosAt : {D : Type 0} → rust.World D → Segment → PageFault → ℕ → ℕ → Type 0
+IsZerosAt w s fault map place = (spaces : Spaces) × Fits w spaces × (spot_at spaces fault.process fault.page ≡ Some (faulted_spot s fault)) × ZerosPlace (world_seen w) spaces (faulted_spot s fault) map place
+
+abbrev pub ServesZeros : {D : Type 0} → rust.World D → rust.World D → Segment → PageFault → ℕ → ℕ → Result Fault Wants → Type 0
+ServesZeros old new s fault map place answer = (spaces : Spaces) → Fits old spaces → spot_at spaces fault.process fault.page ≡ Some (faulted_spot s fault) → ZerosPlace (world_seen old) spaces (faulted_spot s fault) map place
+    → FaultServed old new spaces fault.process fault.page (faulted_spot s fault) fault.write answer
+
+-- The place of a segment at which a fault is; that the world fits there; and what the fault comes to.
+abbrev pub faulted_spot : Segment → PageFault → Spot
+faulted_spot s fault = (s, fault.place)
+
+abbrev pub IsFaultAt : {D : Type 0} → rust.World D → Segment → PageFault → Type 0
+IsFaultAt w s fault = IsFitAt w fault.process fault.page (faulted_spot s fault)
+
+abbrev pub ServesAt : {D : Type 0} → rust.World D → rust.World D → Segment → PageFault → Result Fault Wants → Type 0
+ServesAt old new s fault answer = FaultServedAt old new fault.process fault.page (faulted_spot s fault) fault.write answer
