@@ -19,8 +19,8 @@ fault_zeros-requires-clause-home g c = let h = c.requires.home 0 in (h.0, h.2)
 pub fault_zeros-requires-in_default-shown-clause-home : goal.fault_zeros-requires-in_default-shown-clause-home
 fault_zeros-requires-in_default-shown-clause-home g c = let h = c.requires.home 0 in (h.0, h.2)
 
-pub fault_zeros-requires-then-not-write-clause-home : goal.fault_zeros-requires-then-not-write-clause-home
-fault_zeros-requires-then-not-write-clause-home g c = let h = c.requires.home 0 in (h.0, h.2)
+pub fault_zeros-requires-then-not-fault-clause-home : goal.fault_zeros-requires-then-not-fault-clause-home
+fault_zeros-requires-then-not-fault-clause-home g c = let h = c.requires.home 0 in (h.0, h.2)
 
 pub own_zeros-requires-clause-home : goal.own_zeros-requires-clause-home
 own_zeros-requires-clause-home g c = let h = c.requires.home 0 in (h.0, h.2)
@@ -78,13 +78,13 @@ returns-in_default-shown-clause-serves g c = λ spaces fits here zeros.
     })
 
 -- a load of a zero object's page that a private place shows, which isn't its own
-pub returns-then-not-write-clause-serves : goal.returns-then-not-write-clause-serves
-returns-then-not-write-clause-serves g c = λ spaces fits here zeros.
+pub returns-then-not-fault-clause-serves : goal.returns-then-not-fault-clause-serves
+returns-then-not-fault-clause-serves g c = λ spaces fits here zeros.
     let w = world_seen c.args.world.now in
     let x : Spot = (c.args.self.now, c.args.fault.place) in
-    let read : c.args.fault.write ≡ false = c.if-not-write.true in
+    let read : c.args.fault.write ≡ false = c.if-not-fault.true in
     let shown : x.0.shown ≡ Some c.in-Some-shown._shown = sym c.shown.ensures ∙ c.in-Some-shown.is in
-    c.fault_zeros-then-not-write.ensures.serves spaces x c.args.fault.write fits (record {
+    c.fault_zeros-then-not-fault.ensures.serves spaces x c.args.fault.write fits (record {
       here = here;
       bare = c.requires.bare;
       zeros = zeros;
@@ -101,7 +101,7 @@ pub returns-clause-serves : goal.returns-clause-serves
 returns-clause-serves g c = λ spaces fits here zeros.
     let w = world_seen c.args.world.now in
     let x : Spot = (c.args.self.now, c.args.fault.place) in
-    let write : c.args.fault.write ≡ true = c.if-not-write.false in
+    let write : c.args.fault.write ≡ true = c.if-not-fault.false in
     let own : x.0.own ≡ Some c.in-Some.own = sym c.own.ensures ∙ c.in-Some.is in
     let shown : x.0.shown ≡ Some c.in-Some-shown._shown = sym c.shown.ensures ∙ c.in-Some-shown.is in
     let bare : own_without_slot x.0.object ≡ None = elim zeros.new [

@@ -17,8 +17,8 @@ object_page-requires-clause-within g c = let o = c.requires.fits in place-in (wo
 pub fault_page-requires-clause-home : goal.fault_page-requires-clause-home
 fault_page-requires-clause-home g c = let h = c.requires.home 0 in (h.0, h.2)
 
-pub fault_page-requires-then-not-write-clause-home : goal.fault_page-requires-then-not-write-clause-home
-fault_page-requires-then-not-write-clause-home g c = let h = c.requires.home 0 in (h.0, h.2)
+pub fault_page-requires-then-not-fault-clause-home : goal.fault_page-requires-then-not-fault-clause-home
+fault_page-requires-then-not-fault-clause-home g c = let h = c.requires.home 0 in (h.0, h.2)
 
 pub fault_copy-requires-clause-own : goal.fault_copy-requires-clause-own
 fault_copy-requires-clause-own g c =
@@ -50,13 +50,13 @@ returns-in-None-clause-serves g c = λ spaces fits here.
     (λ write. writable ∙ write-allowed c.args.fault.write (can_read x.0.prot) (can_write x.0.prot) c.requires.allowed write))
 
 -- a load of the object's page, which a private place has not alone
-pub returns-then-not-write-clause-serves : goal.returns-then-not-write-clause-serves
-returns-then-not-write-clause-serves g c = λ spaces fits here.
+pub returns-then-not-fault-clause-serves : goal.returns-then-not-fault-clause-serves
+returns-then-not-fault-clause-serves g c = λ spaces fits here.
     let w = world_seen c.args.world.now in
     let x : Spot = (c.args.self.now, c.args.fault.place) in
     let shows = c.in-Page.ensures.shows spaces c.args.fault.process c.args.fault.page fits here in
-    let read : c.args.fault.write ≡ false = c.if-not-write.true in
-    c.fault_page-then-not-write.ensures.serves spaces x c.args.fault.write fits
+    let read : c.args.fault.write ≡ false = c.if-not-fault.true in
+    c.fault_page-then-not-fault.ensures.serves spaces x c.args.fault.write fits
     (object-place w spaces c.args.fault.process c.args.fault.page x c.in-Page.name c.args.fault.write false here c.requires.bare shows.0 shows.2 c.requires.allowed
     (λ writes. absurd (let z : false ≡ true = writes in cc))
     (λ may. absurd (
@@ -64,12 +64,12 @@ returns-then-not-write-clause-serves g c = λ spaces fits here.
     let z : None ≡ Some a.0 = sym c.requires.bare ∙ a.1 in cc))
     (λ write. absurd (let z : false ≡ true = sym read ∙ write in cc)))
 
-pub returns-else-not-write-clause-serves : goal.returns-else-not-write-clause-serves
-returns-else-not-write-clause-serves g c = λ spaces fits here.
+pub returns-else-not-fault-clause-serves : goal.returns-else-not-fault-clause-serves
+returns-else-not-fault-clause-serves g c = λ spaces fits here.
     let w = world_seen c.args.world.now in
     let x : Spot = (c.args.self.now, c.args.fault.place) in
     let shows = c.in-Page.ensures.shows spaces c.args.fault.process c.args.fault.page fits here in
-    let write : c.args.fault.write ≡ true = c.if-not-write.false in
+    let write : c.args.fault.write ≡ true = c.if-not-fault.false in
     let own : x.0.own ≡ Some c.in-Some.map = sym c.own.ensures ∙ c.in-Some.is in
     subst (λ (b : Bool). ServesFault (memory_of w spaces) (memory_of (world_seen c.fault_copy.new.world) spaces) c.args.world.now.pending c.fault_copy.new.world.pending c.args.fault.process c.args.fault.page x b c.fault_copy.result) (sym write)
     (c.fault_copy.ensures.serves spaces x fits (record {

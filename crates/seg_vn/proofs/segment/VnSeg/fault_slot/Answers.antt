@@ -30,11 +30,11 @@ count-requires g c = used-below c.args.world.now.anon.counts c.args.slot (used g
 pub fault_page-requires-clause-home : goal.fault_page-requires-clause-home
 fault_page-requires-clause-home g c = let h = c.requires.home 0 in (h.0, h.2)
 
-pub fault_page-requires-then-not-write-clause-exists : goal.fault_page-requires-then-not-write-clause-exists
-fault_page-requires-then-not-write-clause-exists g c = lt-used (count_at c.args.world.now.anon c.args.slot) (used g (goal.at.fault_page-requires-then-not-write-clause-exists g c).In-Some)
+pub fault_page-requires-then-not-fault-clause-exists : goal.fault_page-requires-then-not-fault-clause-exists
+fault_page-requires-then-not-fault-clause-exists g c = lt-used (count_at c.args.world.now.anon c.args.slot) (used g (goal.at.fault_page-requires-then-not-fault-clause-exists g c).In-Some)
 
-pub fault_page-requires-then-not-write-clause-home : goal.fault_page-requires-then-not-write-clause-home
-fault_page-requires-then-not-write-clause-home g c = let h = c.requires.home 0 in (h.0, h.2)
+pub fault_page-requires-then-not-fault-clause-home : goal.fault_page-requires-then-not-fault-clause-home
+fault_page-requires-then-not-fault-clause-home g c = let h = c.requires.home 0 in (h.0, h.2)
 
 pub fault_copy-requires-clause-own : goal.fault_copy-requires-clause-own
 fault_copy-requires-clause-own g c =
@@ -75,13 +75,13 @@ returns-then-count-eq1-clause-serves g c = λ spaces fits here.
     })
 
 -- a load of one that other places hold too
-pub returns-then-not-write-clause-serves : goal.returns-then-not-write-clause-serves
-returns-then-not-write-clause-serves g c = λ spaces fits here.
+pub returns-then-not-fault-clause-serves : goal.returns-then-not-fault-clause-serves
+returns-then-not-fault-clause-serves g c = λ spaces fits here.
     let w = world_seen c.args.world.now in
     let x : Spot = (c.args.self.now, c.args.fault.place) in
     let s = c.args.slot in
-    let read : c.args.fault.write ≡ false = c.if-not-write.true in
-    c.fault_page-then-not-write.ensures.serves spaces x c.args.fault.write fits (record {
+    let read : c.args.fault.write ≡ false = c.if-not-fault.true in
+    c.fault_page-then-not-fault.ensures.serves spaces x c.args.fault.write fits (record {
       here = here;
       shows = own-shown w.maps x s c.requires.own;
       some = ap (λ (o : Option ℕ). is_some o || object_has w x.0.shown (x.0.index + x.1) x.0.object) c.requires.own;
@@ -100,7 +100,7 @@ returns-clause-serves g c = λ spaces fits here.
     let x : Spot = (c.args.self.now, c.args.fault.place) in
     let s = c.args.slot in
     let at = (goal.at.returns-clause-serves g c).In-Some in
-    let write : c.args.fault.write ≡ true = c.if-not-write.false in
+    let write : c.args.fault.write ≡ true = c.if-not-fault.false in
     let some = used g at in
     let ne = c.if-count-eq1.false in
     let is = c.count.ensures in
