@@ -154,9 +154,30 @@ def turn():
     p.save()
 
 
+def fork():
+    p = Picture('fork.svg', 'One slot before and after a fork, and after the first store', 900, 300)
+    # what is drawn: its title, what the translations of parent and child let, the slots of both, and the counts
+    drawn = [('before', 'may write', None, (4, None), {4: 1}), ('after the fork', 'may read', 'none', (4, 4), {4: 2}),
+             ('the child stores first', 'may read', 'may write', (4, 5), {4: 1, 5: 1}), ('or the parent does', 'may write', 'none', (5, 4), {4: 1, 5: 1})]
+    for i, (title, *lets, slots, counts) in enumerate(drawn):
+        x = 15 + 222 * i
+        p.text(x + 101, 28, title)
+        for j, (who, let, slot) in enumerate(zip(('parent', 'child'), lets, slots)):
+            left = x + 106 * j
+            if slot is None:
+                continue
+            p.box(left, 46, 96, 50, who, let)
+            p.arrow(left + 48, 96, x + (48 if slot == 4 else 154), 158)
+        for slot, count in counts.items():
+            p.box(x + (0 if slot == 4 else 106), 160, 96, 50, f'slot {slot}', f'count {count}')
+    p.text(450, 244, "in a process's box: what the translation of its page lets; a store that it doesn't let, or a page without one, comes to a fault", 'small')
+    p.text(450, 264, 'the fault copies the page where the slot counts more than once; where it counts once the page is written in place', 'small')
+    p.save()
+
+
 SAYS = {
     'sunvm': 'the program', 'vm_script': 'plans', 'vm_report': 'texts', 'trace_text': 'traces read', 'volume_format': 'block 0', 'kernel_lock': 'one holder', 'vm_core': 'events', 'vm_kernel': "threads' calls",
-    'fault_entry': 'loads, stores', 'mmap_calls': 'mappings', 'proc_calls': 'exit', 'seg_vn': 'segments', 'seg_ops': 'small steps',
+    'fault_entry': 'loads, stores', 'mmap_calls': 'mappings', 'proc_calls': 'fork, exit', 'seg_vn': 'segments', 'seg_ops': 'small steps',
     'vm_world': "state's meaning", 'page_store': 'pages by name', 'anon_slots': 'counts', 'anon_map': 'arrays', 'hat_layer': 'translations',
     'addr_space': 'pieces', 'core_arena': 'frames', 'page_hash': 'names', 'page_lists': 'free, cached', 'page_lock': 'holders, bits',
     'page_clock': 'two hands', 'disk_file': 'a file as disk', 'disk_stripe': 'turn by turn', 'disk_mirror': 'each on both',
@@ -282,5 +303,5 @@ def layers():
 
 
 if __name__ == '__main__':
-    for draw in (layers, page_life, fault, cell, turn):
+    for draw in (layers, page_life, fault, fork, cell, turn):
         draw()

@@ -3,7 +3,7 @@ ghost use Rattle.std.specs.Prelude.{◌≡◌, ◌≤◌, ◌<◌, ◌-◌, None
 ghost use Rattle.seg_ops.specs.vm_world.Segments.{own_slot};
 ghost use Rattle.seg_ops.specs.vm_world.Words.{IsKnown, TwoAreHome, SameFiles};
 ghost use Rattle.seg_ops.specs.Faults.{FaultServedAt, IsAllowed, IsFitAt};
-ghost use Rattle.seg_vn.specs.FaultPlaces.{IsFaultAt, ServesAt, faulted_spot};
+ghost use Rattle.seg_vn.specs.FaultPlaces.{IsFaultAt, ServesAt, faulted_spot, IsZerosAt, ServesZeros};
 
 use crate::copy_faults::{OwnPlace, fault_copy, own_zeros};
 use crate::faults::{fault_page, fault_zeros};

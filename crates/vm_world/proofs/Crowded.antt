@@ -1,6 +1,6 @@
 -- The state of two processes fits.
 use Rattle.std.proofs.Common.{◌≡◌, ◌≢◌, ℕ, zero, suc, ◌+◌, ◌<◌, ◌≤◌, ◌^◌, ◌-◌, ◌*◌, ◌==◌, min, Bool, true, false, cond, List, [], ◌∷◌, ◌++◌, length, map, drop, Option, Some, None, refl, sym, ap, ◌∙◌, ◌⊎◌, inl, inr, subst, arith}
-use Rattle.std.specs.Prelude.{option_map, slice_index_or, slice_index, slice_get, All, IsSome, IsSomeAnd, IsTrue, IsFalse, sum_by, count_by, flat_map, filter_map, is_some, is_none, unwrap_or, ◌||◌, MatchBool, nat_lt, nat_le, if◌then◌else◌}
+use Rattle.std.specs.Prelude.{option_map, slice_index_or, slice_index, slice_get, All, MatchOption, IsSome, IsSomeAnd, IsTrue, IsFalse, sum_by, count_by, flat_map, filter_map, is_some, is_none, unwrap_or, ◌||◌, MatchBool, nat_lt, nat_le, if◌then◌else◌}
 use Rattle.std.specs.Ordering.{nat_cmp}
 use Rattle.std.specs.Cmp.{nat_cmp_total, unsigned_tied}
 use Rattle.std.specs.List.{list_any, concat}
@@ -13,14 +13,14 @@ use Rattle.std.proofs.lemmas.List.Elements.{All-nil, All-cons}
 use Rattle.std.proofs.lemmas.List.Sums.{sum_by-cons, count_by-le-length}
 use Rattle.flat_model.specs.vm_types.declared.call.Call.TheVariants.{Read, Fork}
 use Rattle.flat_model.specs.vm_types.declared.call.Entry.{Entry}
-use Rattle.flat_model.specs.vm_types.declared.call.Reply.TheVariants.{Bytes, Io}
+use Rattle.flat_model.specs.vm_types.declared.call.Reply.TheVariants.{Bytes, Io, Done}
 use Rattle.flat_model.specs.vm_types.Parts.{ends_call, next_part}
 use Rattle.flat_model.specs.vnode_files.Files.{vnode_at, extents_on, block_count}
 use Rattle.flat_model.specs.vnode_files.Grow.{has_block, extent_end, page_count}
 use Rattle.flat_model.specs.vnode_files.Layout.{LieOnDisk}
 use Rattle.flat_model.specs.vnode_files.Vnode.{VnodeSeen, IsSoundVnode}
 use Rattle.flat_model.specs.vnode_files.declared.extent.Extent.{Extent}
-use Rattle.addr_space.specs.Space.{Part, IsInOrder}
+use Rattle.addr_space.specs.Space.{Part, IsInOrder, has}
 use Rattle.anon_map.specs.Maps.{Map, places_of, holders_of}
 use Rattle.page_store.specs.block_device.DiskSeen.{DiskSeen, IsBlock, AreBlocks, HasBlocks}
 use Rattle.page_store.specs.core_arena.Bytes.{bytes_at}
@@ -36,35 +36,40 @@ use Rattle.page_store.specs.Seen.{IsSoundStore, FrameAgrees, IsListedFrame, IsGo
 use Rattle.page_store.specs.StoreFits.{StoreFits, NoteAgrees}
 use Rattle.page_store.proofs.LayoutLemmas.{layout_law}
 use Rattle.flat_model.specs.Counted.{top_count}
-use Rattle.flat_model.specs.Flat.{File, Flat, IsFile, IsFlat}
-use Rattle.flat_model.specs.History.{Legal, IsStart, IsSyncStart, IsNextOwn}
-use Rattle.flat_model.specs.OpenLaws.{last_entry, IsOpenPart, MayFollow}
+use Rattle.flat_model.specs.Flat.{File, Flat, IsFile, IsFlat, Space, private_cells, reserved}
+use Rattle.flat_model.specs.Mapping.{cells_of}
+use Rattle.flat_model.specs.Processes.{fork, with_child}
+use Rattle.flat_model.specs.Refusals.{Effect, check, done_effect, or_refused}
+use Rattle.flat_model.specs.vm_types.declared.call.Errno.TheVariants as errno
+use Rattle.flat_model.specs.History.{Legal, IsBirth, IsStart, IsSyncStart, IsNextOwn, replay}
+use Rattle.flat_model.specs.OpenLaws.{last_entry, FollowsOn, IsOpenPart, MayFollow}
 use Rattle.flat_model.specs.Births.{is_birth}
 use Rattle.flat_model.specs.Parts.{read_line, without_tail, file_bytes}
-use Rattle.flat_model.specs.Step.{step, after_act, is_bit_set, tails_cleared, IsDue}
+use Rattle.flat_model.specs.Step.{step, after_act, is_bit_set, tails_cleared, IsDue, IsStep}
 use Rattle.flat_model.specs.Told.{entries_of}
 use Rattle.flat_model.specs.Words.{Page, IsPage}
 use Rattle.flat_model.proofs.Ranges.{get-insert_here, get-insert_apart}
 use Rattle.vm_world.specs.World.{file_blocks, file_name, slot_name, world_table, is_unpushed, page_exists}
-use Rattle.vm_world.specs.Pages.{page_value, contents_of}
+use Rattle.vm_world.specs.Pages.{Contents, page_value, contents_of}
 use Rattle.vm_world.specs.Segments.{Segment, segments_of, zero_map}
-use Rattle.vm_world.specs.FlatMemory.{flat_memory, zero_maps, file_with_pages, space_with}
+use Rattle.vm_world.specs.FlatMemory.{Memory, flat_memory, zero_maps, zero_pages, map_with, file_with_pages, space_with, cell_of}
 use Rattle.vm_world.specs.FramesFit.{FilesFit, HasSize}
 use Rattle.vm_world.specs.CountsFit.{CountsFit, SegmentsFit, SegmentFits, ShowsZero, is_number, places_in, times_held, times_had, reserved_pages, slots_for_part}
 use Rattle.vm_world.specs.MemoryFits.{MemoryFits}
 use Rattle.vm_world.specs.NotesFit.{NotesFit, PushFits, MayWriteGone}
-use Rattle.vm_world.specs.State.{Sent, Caller, KeptPlan, notes_of, is_top, room_of}
+use Rattle.vm_world.specs.State.{Sent, Caller, KeptPlan, notes_of, process_parent, is_top, room_of}
 use Rattle.vm_world.specs.StateFits.{StateFits, PlanFits}
 use Rattle.vm_world.specs.DiskPlaces.{faults_in}
 use Rattle.vm_world.specs.HistoryFits.{HistoryFits, FaultsFit, CallsFit, RoomsFit, BirthsFit, has_left}
-use Rattle.vm_world.specs.Crowded.{crowded_part, crowded_spaces, crowded_maps, crowded_slots, crowded_info, crowded_other, crowded_files, crowded_disk, crowded_store, crowded_hat, crowded_memory, crowded_snapshot, crowded_gone, crowded_seats, crowded_file, crowded_read, crowded_state, crowded_opening, CrowdedLaw}
+use Rattle.vm_world.specs.Crowded.{crowded_part, crowded_parent, crowded_spaces, crowded_maps, crowded_slots, crowded_info, crowded_other, crowded_files, crowded_disk, crowded_store, crowded_hat, crowded_memory, crowded_snapshot, crowded_gone, crowded_seats, crowded_file, crowded_birth, crowded_read, crowded_history, crowded_state, crowded_opening, CrowdedLaw}
 use Rattle.vm_world.proofs.Counting.{adds, adds-other}
 use Rattle.vm_world.proofs.CutFiles.{cut-file}
 use Rattle.vm_world.specs.WorldSteps.{cut_page}
 use Rattle.vm_world.proofs.FlatWhole.{HasPages, some-inj, flat-whole}
-use Rattle.vm_world.proofs.Maps.{get-map_with}
+use Rattle.vm_world.proofs.Maps.{get-map_with, get-space_with, map-insert}
 use Rattle.vm_world.proofs.Openings.{none-pending}
 use Rattle.vm_world.proofs.PageNames.{page-cases}
+use Rattle.vm_world.proofs.Reserves.{private-parts, reserved_law}
 use Rattle.vm_world.proofs.Spaces.{map-empty, entries-empty}
 use Rattle.vm_world.proofs.StoredPages.{IsPage-clip, IsPage-zeros}
 
@@ -119,6 +124,35 @@ reserved-are =
     ∙ ap (λ (es : List (ℕ × ℕ)). sum_by (λ number. length (places_of crowded_maps number)) (map (λ e. e.1) es)) entries-empty in
     omega (arith, a, b)
 
+-- and of the parent alone
+parent-entries : finite.entries crowded_parent ≡ (1, crowded_part 0 ∷ []) ∷ []
+parent-entries = finite.entries-insert nat_cmp_total finite.empty 1 (crowded_part 0 ∷ []) ∙ ap (finite.put nat_cmp 1 (crowded_part 0 ∷ [])) (entries-empty {X = List (Part Segment)})
+
+parent-zeros : zero_maps crowded_parent ≡ finite.empty
+parent-zeros =
+    ap (λ (es : List (ℕ × List (Part Segment))). finite.from_entries (flat_map (λ (ps : List (Part Segment)). filter_map (λ (x : Part Segment). zero_map x.piece) ps) (map (λ e. e.1) es))) parent-entries
+    ∙ map-empty (finite.from_entries []) (λ q. finite.get-from_entries nat_cmp_total [] q)
+
+parent-reserved : reserved_pages crowded_maps crowded_parent ≡ 1
+parent-reserved =
+    let a : sum_by (λ parts. sum_by slots_for_part parts) (finite.values crowded_parent) ≡ 1 = ap (λ (es : List (ℕ × List (Part Segment))). sum_by (λ parts. sum_by slots_for_part parts) (map (λ e. e.1) es)) parent-entries in
+    let b : sum_by (λ number. length (places_of crowded_maps number)) (finite.values (zero_maps crowded_parent)) ≡ 0 =
+    ap (λ (zs : finite.FinMap nat_cmp ℕ). sum_by (λ number. length (places_of crowded_maps number)) (finite.values zs)) parent-zeros
+    ∙ ap (λ (es : List (ℕ × ℕ)). sum_by (λ number. length (places_of crowded_maps number)) (map (λ e. e.1) es)) entries-empty in
+    omega (arith, a, b)
+
+parent-part : finite.get crowded_parent 1 ≡ Some (crowded_part 0 ∷ [])
+parent-part = get-insert_here finite.empty 1 (crowded_part 0 ∷ [])
+
+part-ordered : (own : ℕ) → IsInOrder 1 (crowded_part own ∷ [])
+part-ordered own = (record { behind = omega arith; some = omega arith; within = omega arith }, tt)
+
+parent-ordered : (p : ℕ) (parts : List (Part Segment)) → finite.get crowded_parent p ≡ Some parts → IsInOrder 1 parts
+parent-ordered p parts is = elim (cases_eq p 1) [
+  | inl e ↦ subst (λ (ps : List (Part Segment)). IsInOrder 1 ps) (some-inj (crowded_part 0 ∷ []) parts (sym parent-part ∙ ap (finite.get crowded_parent) (sym e) ∙ is)) (part-ordered 0)
+  | inr ne ↦ absurd (let z : ◌≡◌ {A = Option (List (Part Segment))} None (Some parts) = sym (get-insert_apart finite.empty 1 (crowded_part 0 ∷ []) p ne ∙ finite.get-empty nat_cmp p) ∙ is in cc)
+]
+
 counts-fit : CountsFit crowded_slots crowded_maps
 counts-fit = record {
   sound = record { lengths = refl; used = omega arith; reserved = omega arith; fits = omega arith };
@@ -144,8 +178,8 @@ part-fits own there long held = record { pages = refl; end = omega arith; within
 segments-fit : SegmentsFit 2 crowded_slots crowded_maps crowded_spaces
 segments-fit = record {
   ordered = λ p parts is. elim (spaces-are p parts is) [
-    | inl x ↦ subst (λ (ps : List (Part Segment)). IsInOrder 1 ps) x.1 (record { behind = omega arith; some = omega arith; within = omega arith }, tt)
-    | inr y ↦ subst (λ (ps : List (Part Segment)). IsInOrder 1 ps) y.1 (record { behind = omega arith; some = omega arith; within = omega arith }, tt)
+    | inl x ↦ subst (λ (ps : List (Part Segment)). IsInOrder 1 ps) x.1 (part-ordered 0)
+    | inr y ↦ subst (λ (ps : List (Part Segment)). IsInOrder 1 ps) y.1 (part-ordered 1)
   ];
   each = λ p parts is. elim (spaces-are p parts is) [
     | inl x ↦ subst (λ (ps : List (Part Segment)). All (SegmentFits 2 crowded_maps) ps) x.1 (All-cons (SegmentFits 2 crowded_maps) (crowded_part 0) [] (part-fits 0 refl refl refl) (All-nil (SegmentFits 2 crowded_maps)))
@@ -291,6 +325,11 @@ file-fits = record {
 open-part : (xs : List ℕ) → length xs ≡ 64 → ends_call (Read 0 0 100) (Bytes xs) ≡ false
 unfolding next_part
 open-part xs long = ap (λ (n : ℕ). is_none (if nat_lt n 64 then None else if (100 - n) == 0 then None else if nat_le (2 ^ 32) (0 + n) then None else Some (Read 0 (0 + n) (100 - n)))) long
+
+-- a Fork is one entry
+birth-ends : ends_call (Fork 2) Done ≡ true
+unfolding next_part
+birth-ends = refl
 
 -- The first part of a read of 100 bytes has 64, where the file has them.
 line-size : (file : File) → 64 ≤ file.len → 64 ≤ length (concat file.pages) → length (read_line file 0 100) ≡ 64
@@ -627,7 +666,7 @@ module _ (page : Page) (whole : IsPage page) where
       some-of None is = absurd (cc)
       some-of (Some x) is = (x, refl)
 
-  stays : (p : ℕ) → IsTrue (set.contains (crowded_state page).born p) → IsFalse (has_left p (crowded_read page ∷ [])) → IsSome (finite.get crowded_spaces p)
+  stays : (p : ℕ) → IsTrue (set.contains (crowded_state page).born p) → IsFalse (has_left p (crowded_history page)) → IsSome (finite.get crowded_spaces p)
   stays p born here = elim (living p) [
     | inl (inl e) ↦ subst (λ (k : ℕ). IsSome (finite.get crowded_spaces k)) (sym e) (ap is_some alive-1)
     | inl (inr e) ↦ subst (λ (k : ℕ). IsSome (finite.get crowded_spaces k)) (sym e) (ap is_some alive-2)
@@ -646,8 +685,16 @@ module _ (page : Page) (whole : IsPage page) where
       each (suc zero) lt = refl
       each (suc (suc i)) lt = absurd (omega (arith, lt))
 
-  opening-flat : IsFlat (crowded_opening page)
-  opening-flat = record {
+  -- ---- the birth
+
+  abbrev contents : Contents
+  contents = contents_of (crowded_memory page).world (notes_of (crowded_seats page))
+
+  abbrev after_birth : Flat
+  after_birth = record now { files = crowded_file page ∷ file_with_pages (λ index. page) crowded_other ∷ [] }
+
+  born-flat : IsFlat after_birth
+  born-flat = record {
     pages = now-flat.pages;
     cells = now-flat.cells;
     files = All-cons IsFile (crowded_file page) (file_with_pages (λ index. page) crowded_other ∷ [])
@@ -656,6 +703,36 @@ module _ (page : Page) (whole : IsPage page) where
     zeros = now-flat.zeros;
     born = now-flat.born;
   }
+
+  -- both parts show the slot
+  same-space : space_with contents.place (crowded_part 0 ∷ []) ≡ space_with contents.place (crowded_part 1 ∷ [])
+  same-space = finite.same_map nat_cmp_total finite.nat_cmp-IsAntisymmetric _ _ (λ q.
+      get-space_with contents.place (crowded_part 0 ∷ []) q ∙ same q (has (crowded_part 0) q) ∙ sym (get-space_with contents.place (crowded_part 1 ∷ []) q))
+    where
+      same : (q : ℕ) (b : Bool) → option_map (cell_of contents.place) (option_map (λ (x : Part Segment). (x.piece, q - x.first)) (cond b (Some (crowded_part 0)) None))
+          ≡ option_map (cell_of contents.place) (option_map (λ (x : Part Segment). (x.piece, q - x.first)) (cond b (Some (crowded_part 1)) None))
+      same q true = refl
+      same q false = refl
+
+  parent-space : cells_of (crowded_opening page) 1 ≡ space_with contents.place (crowded_part 0 ∷ [])
+  parent-space = ap (λ (o : Option Space). unwrap_or o finite.empty) (get-map_with (space_with contents.place) crowded_parent 1 ∙ ap (option_map (space_with contents.place)) parent-part)
+
+  enough-slots : nat_le (reserved (crowded_opening page) + private_cells (cells_of (crowded_opening page) 1)) 2 ≡ true
+  enough-slots =
+      let a : reserved (crowded_opening page) ≡ 1 =
+      reserved_law.pages (record (crowded_memory page) { spaces = crowded_parent }) (set.insert set.empty 1) contents parent-ordered ∙ parent-reserved in
+      let b : private_cells (cells_of (crowded_opening page) 1) ≡ 1 = ap private_cells parent-space ∙ private-parts contents.place (crowded_part 0 ∷ []) (part-ordered 0) in
+      let both : reserved (crowded_opening page) + private_cells (cells_of (crowded_opening page) 1) ≡ 2 = omega (arith, a, b) in
+      ap (λ (n : ℕ). nat_le n 2) both
+
+  forks : fork (crowded_opening page) 1 2 ≡ done_effect (with_child (crowded_opening page) 1 2)
+  forks = ap (λ (b : Bool). or_refused (crowded_opening page) (λ (x : Unit {0}). done_effect (with_child (crowded_opening page) 1 2)) (check b errno.NoSwap)) enough-slots
+
+  bears : with_child (crowded_opening page) 1 2 ≡ after_birth
+  bears =
+      ap (λ (zs : finite.FinMap nat_cmp ℕ). record (with_child (crowded_opening page) 1 2) { zeros = map_with (zero_pages contents.place (λ number. length (places_of crowded_maps number))) zs }) (parent-zeros ∙ sym zeros-are)
+      ∙ ap (λ (spaces : finite.FinMap nat_cmp Space). record after_birth { spaces = spaces })
+      (ap (finite.insert (map_with (space_with contents.place) crowded_parent) 2) (parent-space ∙ same-space) ∙ sym (map-insert (space_with contents.place) crowded_parent 2 (crowded_part 1 ∷ [])))
 
   -- ---- the history
 
@@ -674,37 +751,55 @@ module _ (page : Page) (whole : IsPage page) where
   unended : ends_call (Read 0 0 100) (Bytes line) ≡ false
   unended = open-part line line-long
 
-  entry-is : (k : ℕ) (e : Entry) → slice_get (crowded_read page ∷ []) k ≡ Some e → (k ≡ 0) × (e ≡ crowded_read page)
-  entry-is zero e is = (refl, sym (some-inj (crowded_read page) e is))
-  entry-is (suc k) e is = absurd (cc)
+  entry-is : (k : ℕ) (e : Entry) → slice_get (crowded_history page) k ≡ Some e → ((k ≡ 0) × (e ≡ crowded_birth)) ⊎ ((k ≡ 1) × (e ≡ crowded_read page))
+  entry-is zero e is = inl (refl, sym (some-inj crowded_birth e is))
+  entry-is (suc zero) e is = inr (refl, sym (some-inj (crowded_read page) e is))
+  entry-is (suc (suc k)) e is = absurd (cc)
 
-  stepped : step (crowded_opening page) (crowded_read page) ≡ crowded_opening page
-  stepped = ap (λ (F : Flat). after_act F (crowded_read page)) (none-pending (crowded_opening page))
+  born : step (crowded_opening page) crowded_birth ≡ after_birth
+  born = ap (λ (F : Flat). after_act F crowded_birth) (none-pending (crowded_opening page)) ∙ ap (λ (x : Effect). x.after) forks ∙ bears
 
-  legal : Legal (crowded_opening page) (crowded_read page ∷ [])
-  legal = record {
-    steps = (
-      record {
-        files = omega arith;
-        alive = ap is_some (get-map_with (space_with (contents_of (crowded_memory page).world (notes_of (crowded_seats page))).place) crowded_spaces 1 ∙ ap (option_map (space_with (contents_of (crowded_memory page).world (notes_of (crowded_seats page))).place)) alive-1);
-        unborn = tt;
-        due = subst (λ (F : Flat). IsDue F (crowded_read page)) (sym (none-pending (crowded_opening page))) refl;
-      },
-      tt,
-    );
-    syncs = λ k e is. subst (λ (x : Entry). IsSyncStart (crowded_read page ∷ []) k x) (sym (entry-is k e is).1) tt;
-    parts = (subst (λ (b : Bool). MatchBool b (Unit {0}) (IsNextOwn 0 1 [])) (sym unended) tt, tt);
+  stepped : step after_birth (crowded_read page) ≡ after_birth
+  stepped = ap (λ (F : Flat). after_act F (crowded_read page)) (none-pending after_birth)
+
+  replayed : replay (crowded_opening page) (crowded_history page) ≡ after_birth
+  replayed = ap (λ (F : Flat). step F (crowded_read page)) born ∙ stepped
+
+  birth-step : IsStep (crowded_opening page) crowded_birth
+  birth-step = record {
+    files = omega arith;
+    alive = ap is_some (get-map_with (space_with contents.place) crowded_parent 1 ∙ ap (option_map (space_with contents.place)) parent-part);
+    unborn = set.contains-insert nat_cmp_total set.empty 1 2 ∙ ap (λ (b : Bool). b || set.contains (set.empty {R = nat_cmp}) 2) (unsigned_tied 2 1) ∙ set.contains-empty nat_cmp 2;
+    due = subst (λ (F : Flat). IsDue F crowded_birth) (sym (none-pending (crowded_opening page))) (ap (λ (x : Effect). x.reply) forks);
   }
 
-  history-fits : HistoryFits (crowded_opening page) (crowded_read page ∷ []) 1 now
+  read-step : IsStep after_birth (crowded_read page)
+  read-step = record {
+    files = omega arith;
+    alive = ap is_some (get-map_with (space_with contents.place) crowded_spaces 1 ∙ ap (option_map (space_with contents.place)) alive-1);
+    unborn = tt;
+    due = subst (λ (F : Flat). IsDue F (crowded_read page)) (sym (none-pending after_birth)) refl;
+  }
+
+  legal : Legal (crowded_opening page) (crowded_history page)
+  legal = record {
+    steps = (birth-step, (subst (λ (F : Flat). IsStep F (crowded_read page)) (sym born) read-step, tt));
+    syncs = λ k e is. elim (entry-is k e is) [
+      | inl x ↦ subst (λ (d : Entry). IsSyncStart (crowded_history page) k d) (sym x.1) tt
+      | inr y ↦ subst (λ (d : Entry). IsSyncStart (crowded_history page) k d) (sym y.1) tt
+    ];
+    parts = (tt, (subst (λ (b : Bool). MatchBool b (Unit {0}) (IsNextOwn 0 1 [])) (sym unended) tt, tt));
+  }
+
+  history-fits : HistoryFits (crowded_opening page) (crowded_history page) 1 now
   history-fits = record {
     legal = legal;
-    whole = subst IsFlat (sym stepped) opening-flat;
-    shows = ap (λ (f : File). record now { files = f ∷ file_with_pages (λ index. page) crowded_other ∷ [] }) cut ∙ sym (ap (λ (F : Flat). tails_cleared F (is_bit_set 1)) stepped);
-    bits = subst (λ (F : Flat). 1 < 2 ^ length F.files) (sym stepped) (omega arith);
+    whole = subst IsFlat (sym replayed) born-flat;
+    shows = ap (λ (f : File). record now { files = f ∷ file_with_pages (λ index. page) crowded_other ∷ [] }) cut ∙ sym (ap (λ (F : Flat). tails_cleared F (is_bit_set 1)) replayed);
+    bits = subst (λ (F : Flat). 1 < 2 ^ length F.files) (sym replayed) (omega arith);
   }
 
-  faults-fit : FaultsFit (crowded_read page ∷ []) (crowded_store page).bays (notes_of (crowded_seats page))
+  faults-fit : FaultsFit (crowded_history page) (crowded_store page).bays (notes_of (crowded_seats page))
   faults-fit = record {
     counted = record {
       risen = λ k e disk before after at is. absurd (no-fault k e disk before after at is);
@@ -719,8 +814,11 @@ module _ (page : Page) (whole : IsPage page) where
     ];
   }
     where
-      no-fault : (k : ℕ) (e : Entry) (disk before after : ℕ) → slice_get (crowded_read page ∷ []) k ≡ Some e → e.reply ≡ Io disk before after → ⊥
-      no-fault k e disk before after at is = let z : Bytes line ≡ Io disk before after = ap (λ (x : Entry). x.reply) (sym (entry-is k e at).1) ∙ is in cc
+      no-fault : (k : ℕ) (e : Entry) (disk before after : ℕ) → slice_get (crowded_history page) k ≡ Some e → e.reply ≡ Io disk before after → ⊥
+      no-fault k e disk before after at is = elim (entry-is k e at) [
+        | inl x ↦ let z : Done ≡ Io disk before after = ap (λ (d : Entry). d.reply) (sym x.1) ∙ is in cc
+        | inr y ↦ let z : Bytes line ≡ Io disk before after = ap (λ (d : Entry). d.reply) (sym y.1) ∙ is in cc
+      ]
 
       seen : (disk : ℕ) (b : BaySeen) → bay_at (crowded_store page).bays disk ≡ b → (count : ℕ) → faults_in (bay_at (crowded_store page).bays disk) (notes_of (crowded_seats page)) ≡ Some count → faults_in b (notes_of (crowded_seats page)) ≡ Some count
       seen disk b e count is = sym (ap (λ (x : BaySeen). faults_in x (notes_of (crowded_seats page))) e) ∙ is
@@ -728,59 +826,97 @@ module _ (page : Page) (whole : IsPage page) where
       none : (count : ℕ) → ◌≡◌ {A = Option ℕ} (Some 0) (Some count) → count ≤ top_count
       none count is = subst (λ (n : ℕ). n ≤ top_count) (some-inj 0 count is) (omega arith)
 
-  last-is : (p : ℕ) → last_entry p (crowded_read page ∷ []) ≡ cond (1 == p) (Some (crowded_read page)) None
+  -- the last entry of process 1 is the read, and no other has one
+  last-is : (p : ℕ) → last_entry p (crowded_history page) ≡ cond (1 == p) (Some (crowded_read page)) (cond (1 == p) (Some crowded_birth) None)
   last-is p = refl
 
-  calls-fit : CallsFit (crowded_read page ∷ []) (Some 0 ∷ None ∷ []) (None ∷ Some 1 ∷ None ∷ None ∷ [])
+  calls-fit : CallsFit (crowded_history page) (Some 0 ∷ None ∷ []) (None ∷ Some 1 ∷ None ∷ None ∷ [])
   calls-fit = record { ends = ends; files = λ f seat. (to f seat, from f seat); starts = starts }
     where
-      ends : (front rest : List Entry) (e : Entry) → crowded_read page ∷ [] ≡ front ++ e ∷ rest → MayFollow front e
+      ends : (front rest : List Entry) (e : Entry) → crowded_history page ≡ front ++ e ∷ rest → MayFollow front e
       ends [] rest e is = tt
-      ends (x ∷ []) rest e is = absurd (cc)
-      ends (x ∷ y ∷ front) rest e is = absurd (cc)
+      ends (x ∷ []) rest e is =
+          let first : crowded_birth ≡ x = ap (λ (H : List Entry). head_or H x) is in
+          subst (λ (d : Entry). MayFollow (d ∷ []) e) first (may (1 == e.process))
+        where
+          head_or : List Entry → Entry → Entry
+          head_or [] d = d
+          head_or (d ∷ H) x = d
 
-      to : (f seat : ℕ) → slice_index_or (Some 0 ∷ None ∷ []) f None ≡ Some seat → IsSomeAnd (last_entry (suc seat) (crowded_read page ∷ [])) (IsOpenPart f)
-      to zero seat is = subst (λ (k : ℕ). IsSomeAnd (last_entry (suc k) (crowded_read page ∷ [])) (IsOpenPart 0)) (some-inj 0 seat is) (refl, unended)
+          may : (b : Bool) → MatchOption (cond b (Some crowded_birth) None) (Unit {0}) (λ d. FollowsOn d e)
+          may true = inl birth-ends
+          may false = tt
+      ends (x ∷ y ∷ front) rest e is = absurd (no-more front rest e is)
+        where
+          no-more : (front rest : List Entry) (e : Entry) → crowded_birth ∷ crowded_read page ∷ [] ≡ x ∷ y ∷ front ++ e ∷ rest → ⊥
+          no-more front rest e is =
+              let long : 2 ≡ suc (suc (length (front ++ e ∷ rest))) = ap (λ (H : List Entry). length H) is in
+              let more : length (front ++ e ∷ rest) ≡ length front + suc (length rest) = length-append front (e ∷ rest) in
+              omega (arith, long, more)
+
+      to : (f seat : ℕ) → slice_index_or (Some 0 ∷ None ∷ []) f None ≡ Some seat → IsSomeAnd (last_entry (suc seat) (crowded_history page)) (IsOpenPart f)
+      to zero seat is = subst (λ (k : ℕ). IsSomeAnd (last_entry (suc k) (crowded_history page)) (IsOpenPart 0)) (some-inj 0 seat is) (refl, unended)
       to (suc zero) seat is = absurd (cc)
       to (suc (suc f)) seat is = absurd (cc)
 
-      from : (f seat : ℕ) → IsSomeAnd (last_entry (suc seat) (crowded_read page ∷ [])) (IsOpenPart f) → slice_index_or (Some 0 ∷ None ∷ []) f None ≡ Some seat
+      from : (f seat : ℕ) → IsSomeAnd (last_entry (suc seat) (crowded_history page)) (IsOpenPart f) → slice_index_or (Some 0 ∷ None ∷ []) f None ≡ Some seat
       from f zero is = subst (λ (k : ℕ). ◌≡◌ {A = Option ℕ} (slice_index_or (Some 0 ∷ None ∷ []) k None) (Some 0)) (some-inj 0 f is.0) refl
-      from f (suc seat) is = absurd (subst (λ (o : Option Entry). IsSomeAnd o (IsOpenPart f)) (ap (λ (b : Bool). cond b (Some (crowded_read page)) None) apart) is)
+      from f (suc seat) is = absurd (subst (λ (o : Option Entry). IsSomeAnd o (IsOpenPart f)) (ap (λ (b : Bool). cond b (Some (crowded_read page)) (cond b (Some crowded_birth) None)) apart) is)
         where
           apart : (1 == suc (suc seat)) ≡ false
           apart = elim (eqb_tells 1 (suc (suc seat))) [ inl y ↦ absurd (let e = y.1 in omega (arith, e)) | inr n ↦ n.0 ]
 
-      starts : (seat b : ℕ) → slice_index_or (None ∷ Some 1 ∷ None ∷ None ∷ []) seat None ≡ Some b → IsStart (crowded_read page ∷ []) 1 (suc seat) b
+      -- the birth stands before it, and the process has no entry
+      begun : (j : ℕ) (d : Entry) → j < 2 → slice_get (crowded_history page) j ≡ Some d → (d.process ≡ 2) ⊎ IsBirth 2 d → j < 1
+      begun j d lt at of = elim (entry-is j d at) [
+        | inl x ↦ let first = x.0 in omega (arith, first)
+        | inr y ↦ absurd (elim of [
+          | inl own ↦ let z : 1 ≡ 2 = ap (λ (e : Entry). e.process) (sym y.1) ∙ own in omega (arith, z)
+          | inr birth ↦ let z : Read 0 0 100 ≡ Fork 2 = ap (λ (e : Entry). e.call) (sym y.1) ∙ birth.0 in cc
+        ])
+      ]
+
+      starts : (seat b : ℕ) → slice_index_or (None ∷ Some 1 ∷ None ∷ None ∷ []) seat None ≡ Some b → IsStart (crowded_history page) 2 (suc seat) b
       starts zero b is = absurd (cc)
-      starts (suc zero) b is = subst (λ (n : ℕ). IsStart (crowded_read page ∷ []) 1 2 n) (some-inj 1 b is) (omega arith, λ j d lt _ _. lt)
+      starts (suc zero) b is = subst (λ (n : ℕ). IsStart (crowded_history page) 2 2 n) (some-inj 1 b is) (omega arith, begun)
       starts (suc (suc zero)) b is = absurd (cc)
       starts (suc (suc (suc zero))) b is = absurd (cc)
       starts (suc (suc (suc (suc seat)))) b is = absurd (cc)
 
-  rooms-fit : RoomsFit (crowded_read page ∷ []) (0 ∷ 0 ∷ []) (9 ∷ 9 ∷ [])
-  rooms-fit = record {
-    made = made;
-    forks = λ k child e at is. absurd (let z : Read 0 0 100 ≡ Fork child = ap (λ (x : Entry). x.call) (sym (entry-is k e at).1) ∙ is in cc);
-  }
+  rooms-fit : RoomsFit (crowded_history page) (0 ∷ 1 ∷ []) (9 ∷ 9 ∷ [])
+  rooms-fit = record { made = made; forks = borne }
     where
-      made : (p : ℕ) → length (entries_of (crowded_read page ∷ []) p) ≤ room_of (9 ∷ 9 ∷ []) p
+      made : (p : ℕ) → length (entries_of (crowded_history page) p) ≤ room_of (9 ∷ 9 ∷ []) p
       made p = elim (eqb_tells 1 p) [
-        | inl y ↦ subst (λ (k : ℕ). length (entries_of (crowded_read page ∷ []) k) ≤ room_of (9 ∷ 9 ∷ []) k) y.1 (omega arith)
-        | inr n ↦ let z : length (entries_of (crowded_read page ∷ []) p) ≡ 0 = ap (λ (b : Bool). length (cond b (crowded_read page ∷ []) [])) n.0 in omega (arith, z)
+        | inl y ↦ subst (λ (k : ℕ). length (entries_of (crowded_history page) k) ≤ room_of (9 ∷ 9 ∷ []) k) y.1 (omega arith)
+        | inr n ↦ let z : length (entries_of (crowded_history page) p) ≡ 0 =
+            ap (λ (b : Bool). length (cond b (crowded_birth ∷ cond b (crowded_read page ∷ []) []) (cond b (crowded_read page ∷ []) []))) n.0 in omega (arith, z)
       ]
 
-  births-fit : BirthsFit (crowded_read page ∷ []) (0 ∷ 0 ∷ []) crowded_spaces (crowded_state page).born
+      number : (a b : ℕ) → Fork a ≡ Fork b → a ≡ b
+      number a b e = cc
+
+      borne : (k child : ℕ) (e : Entry) → slice_get (crowded_history page) k ≡ Some e → e.call ≡ Fork child → process_parent (0 ∷ 1 ∷ []) child ≡ Some e.process
+      borne k child e at is = elim (entry-is k e at) [
+        | inl x ↦ subst (λ (d : Entry). process_parent (0 ∷ 1 ∷ []) child ≡ Some d.process) (sym x.1)
+            (subst (λ (n : ℕ). process_parent (0 ∷ 1 ∷ []) n ≡ Some 1) (number 2 child (ap (λ (d : Entry). d.call) (sym x.1) ∙ is)) refl)
+        | inr y ↦ absurd (let z : Read 0 0 100 ≡ Fork child = ap (λ (d : Entry). d.call) (sym y.1) ∙ is in cc)
+      ]
+
+  births-fit : BirthsFit (crowded_history page) (0 ∷ 1 ∷ []) crowded_spaces (crowded_state page).born
   births-fit = record { lived = λ p. born-is p ∙ tops p; alive = alive; stays = stays }
     where
-      tops : (p : ℕ) → (p == 2 || (p == 1 || false)) ≡ (is_top (0 ∷ 0 ∷ []) p || list_any (is_birth p) (crowded_read page ∷ []))
+      apart : (p : ℕ) → (2 == suc (suc (suc p))) ≡ false
+      apart p = elim (eqb_tells 2 (suc (suc (suc p)))) [ inl y ↦ absurd (let e = y.1 in omega (arith, e)) | inr n ↦ n.0 ]
+
+      tops : (p : ℕ) → (p == 2 || (p == 1 || false)) ≡ (is_top (0 ∷ 1 ∷ []) p || list_any (is_birth p) (crowded_history page))
       tops zero = refl
       tops (suc zero) = refl
       tops (suc (suc zero)) = refl
       tops (suc (suc (suc p))) = elim (living (suc (suc (suc p)))) [
         | inl (inl e) ↦ absurd (omega (arith, e))
         | inl (inr e) ↦ absurd (omega (arith, e))
-        | inr none ↦ none
+        | inr none ↦ none ∙ sym (ap (λ (b : Bool). b || false) (apart p))
       ]
 
   plan-fits : PlanFits (crowded_state page) (crowded_seats page) (record { seat = 3; plan = Push (file_name 0 0); of = None })

@@ -2,11 +2,11 @@
 use Rattle.std.specs.Prelude.{ℕ, true, false, List, [], ◌∷◌, Option, Some, None}
 use Rattle.std.specs.FinMap as finite
 use Rattle.std.specs.FinSet as set
-use Rattle.flat_model.specs.vm_types.declared.call.Call.TheVariants.{Read}
+use Rattle.flat_model.specs.vm_types.declared.call.Call.TheVariants.{Read, Fork}
 use Rattle.flat_model.specs.vm_types.declared.call.Entry.{Entry}
 use Rattle.flat_model.specs.vm_types.declared.call.Kind.TheVariants.{Private}
 use Rattle.flat_model.specs.vm_types.declared.call.Object.TheVariants as object
-use Rattle.flat_model.specs.vm_types.declared.call.Reply.TheVariants.{Bytes}
+use Rattle.flat_model.specs.vm_types.declared.call.Reply.TheVariants.{Bytes, Done}
 use Rattle.flat_model.specs.vnode_files.declared.vnode.FileInfo.{FileInfo}
 use Rattle.flat_model.specs.vnode_files.Files.{FilesSeen}
 use Rattle.addr_space.specs.Space.{Part}
@@ -37,8 +37,12 @@ crowded_part own = record {
   piece = record { pages = 1; prot = record { 0 = 3 }; max = record { 0 = 3 }; kind = Private; object = object.NewZero; index = 0; own = Some own; shown = None };
 }
 
+-- The process that was alive from the start; and with it the child that it bore.
+abbrev pub crowded_parent : Spaces
+crowded_parent = finite.insert finite.empty 1 (crowded_part 0 ∷ [])
+
 abbrev pub crowded_spaces : Spaces
-crowded_spaces = finite.insert (finite.insert finite.empty 1 (crowded_part 0 ∷ [])) 2 (crowded_part 1 ∷ [])
+crowded_spaces = finite.insert crowded_parent 2 (crowded_part 1 ∷ [])
 
 -- Both maps hold slot 0, as a fork leaves them, so it counts twice; its page is in swap alone. Slot 1 is in use no more.
 abbrev pub crowded_maps : List (Option Map)
@@ -108,32 +112,39 @@ crowded_seats page = seats_of (None ∷ Some (record { note = crowded_snapshot p
 abbrev pub crowded_file : Page → File
 crowded_file page = file_with_pages (λ index. page) crowded_info
 
--- Process 1 has read the first part of 100 bytes of file 0.
+-- Process 1 has borne process 2.
+abbrev pub crowded_birth : Entry
+crowded_birth = record { process = 1; call = Fork 2; reply = Done; cleared = 0 }
+
+-- Then it has read the first part of 100 bytes of file 0.
 abbrev pub crowded_read : Page → Entry
 crowded_read page = record { process = 1; call = Read 0 0 100; reply = Bytes (read_line (crowded_file page) 0 100); cleared = 0 }
 
--- The tail of file 0 became zeros since; process 1's call of file 0 is between two parts; the Sync of process 2 began behind the entry; and a push of
+abbrev pub crowded_history : Page → List Entry
+crowded_history page = crowded_birth ∷ crowded_read page ∷ []
+
+-- The tail of file 0 became zeros since; process 1's call of file 0 is between two parts; the Sync of process 2 began behind its birth; and a push of
 -- file 0's first page is planned for the clock, at seat 3.
 abbrev pub crowded_state : Page → KernelState
 crowded_state page = record {
   memory = crowded_memory page;
   born = set.insert (set.insert set.empty 1) 2;
-  history = crowded_read page ∷ [];
+  history = crowded_history page;
   pending = 1;
   calls = Some 0 ∷ None ∷ [];
   syncs = None ∷ Some 1 ∷ None ∷ None ∷ [];
   plan = Some (record { seat = 3; plan = Push (file_name 0 0); of = None });
-  parents = 0 ∷ 0 ∷ [];
+  parents = 0 ∷ 1 ∷ [];
   entries = 9 ∷ 9 ∷ [];
 }
 
--- The flat memory from which it began.
+-- The flat memory from which it began: process 1 was alive alone.
 abbrev pub crowded_opening : Page → Flat
-crowded_opening page = record (flat_memory (crowded_memory page) (crowded_state page).born (notes_of (crowded_seats page))) {
+crowded_opening page = record (flat_memory (record (crowded_memory page) { spaces = crowded_parent }) (set.insert set.empty 1) (notes_of (crowded_seats page))) {
   files = crowded_file page ∷ file_with_pages (λ index. page) crowded_other ∷ [];
 }
 
--- Two processes that share a slot, a snapshot that is out, a push of a page that is gone, a tail that is pending, a call between two parts, a Sync that
--- began and a plan that is kept fit together.
+-- A process and the child that it bore, which share a slot, a snapshot that is out, a push of a page that is gone, a tail that is pending, a call between
+-- two parts, a Sync that began and a plan that is kept fit together.
 pub record CrowdedLaw : Type 0 where
   pub fits : (page : Page) → IsPage page → StateFits (crowded_opening page) (crowded_state page) (crowded_seats page)
