@@ -140,8 +140,7 @@ pub fn attempt<D: Disk>(
         (memory world.old spaces.old.spaces) (memory world.new spaces.new.spaces)
         world.old.pending world.new.pending calls process call.now answer) }
     ensures answer { IfOk result (IsMappingAnswer call.now from) }
-    ensures fall { IfOk result (λ answer. (slot : ℕ)
-        → count_at world.new.anon slot ≤ count_at world.old.anon slot) }
+    ensures fall { IfOk result (λ _. CountsFall world.old world.new) }
     ensures zeros { KnowsZeros world.new.zeros spaces.new.spaces }
     ensures alive { IsSome (finite.get spaces.new.spaces process) }
     // Where memory is wanting nothing changed, but that a number of a zero object may be free.
