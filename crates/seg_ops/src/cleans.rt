@@ -1,7 +1,8 @@
 //! Pages that a call wants clean.
-ghost use Rattle.std.specs.Prelude.{◌≡◌, ◌<◌, ◌≤◌, length, IsTrue};
+ghost use Rattle.std.specs.Prelude.{◌≡◌, ◌<◌, ◌≤◌, false, length, IsTrue};
 ghost use Rattle.vm_world.specs.flat_model.Words.{pages_in};
-ghost use Rattle.page_store.specs.Seen.{residence};
+ghost use Rattle.page_store.specs.page_lock.Rows.{row_at};
+ghost use Rattle.page_store.specs.Seen.{residence, IsListedFrame};
 ghost use Rattle.page_store.specs.declared.residence.Residence.TheVariants as Residence;
 ghost use Rattle.vm_world.specs.vnode_files.Files.{vnode_at};
 ghost use Rattle.vm_world.specs.Segments.{Spaces};
@@ -9,6 +10,7 @@ ghost use Rattle.vm_world.specs.Words.{memory, Fits, IsFit};
 ghost use Rattle.vm_world.specs.World.{page_exists};
 ghost use Rattle.seg_ops.specs.CleanSteps.{CleansPage, CleansPages};
 ghost use Rattle.seg_ops.specs.Rooms.{MakesRoom};
+ghost use Rattle.seg_ops.specs.Steps.{IsUnwritten};
 
 use crate::plans::ask;
 use crate::rooms::sync;
@@ -32,6 +34,26 @@ fn clean<D: Disk>(world: &mut World<D>, name: PageName) -> Option<Wants>
     }
 }
 
+// Whether a page that is home is modified. The bits of its translations are gathered only where its own bit doesn't say so: while a
+// page is on its way out from a snapshot, gathering would count as a store to it.
+fn is_modified<D: Disk>(world: &mut World<D>, frame: u32) -> bool
+    requires frame { frame < length world.old.store.frames }
+    requires unlisted { ¬ IsListedFrame world.old.store frame }
+    requires fits { IsFit world.old }
+    ensures bit { result ≡ (row_at world.new.store.rows frame).modified }
+    ensures unwritten { result ≡ false → IsUnwritten world.new.hat.places frame }
+    // What stays.
+    ensures makes { MakesRoom world.old world.new }
+{
+    let (_referenced, modified) = world.store.bits(frame);
+    if modified {
+        return true;
+    }
+    sync(world, frame);
+    let (_referenced, told) = world.store.bits(frame);
+    told
+}
+
 // The same of a page that is home.
 fn clean_home<D: Disk>(world: &mut World<D>, name: PageName, frame: u32) -> Option<Wants>
     requires home { residence world.old.store name ≡ Residence.Home frame }
@@ -45,9 +67,7 @@ fn clean_home<D: Disk>(world: &mut World<D>, name: PageName, frame: u32) -> Opti
     if world.store.listed(frame) {
         return None;
     }
-    sync(world, frame);
-    let (_referenced, modified) = world.store.bits(frame);
-    if !modified {
+    if !is_modified(world, frame) {
         return None;
     }
     Some(ask(world, Plan::Push(name)))

@@ -129,7 +129,8 @@ fn a_page_is_protected_before_its_read(trial: &mut Trial) -> Result<(), Fail> {
     )
 }
 
-/// A page that was stored into is unmapped while the other process's Sync has it pushed, from a copy in the frame that is free.
+/// A page that was stored into is unmapped while the other process's Sync has it pushed, from a copy in the frame that is free. The
+/// translation that goes counts as a store to a page that is modified, so the page is pushed once more.
 fn a_page_is_unmapped_during_a_sync(trial: &mut Trial) -> Result<(), Fail> {
     make_all(
         trial,
@@ -138,6 +139,8 @@ fn a_page_is_unmapped_during_a_sync(trial: &mut Trial) -> Result<(), Fail> {
             (Try(1, Sync(0x2000, 0x1000)), Sent),
             (Do(0, Unmap(0x1_0000, 0x1000)), STORED),
             (Do(0, Load(0x1_0000)), NO_MAP),
+            (Land(1), Landed),
+            (Try(1, Sync(0x2000, 0x1000)), Sent),
             (Land(1), Landed),
             (Try(1, Sync(0x2000, 0x1000)), Done(Synced(17))),
         ],

@@ -1,4 +1,4 @@
-use Rattle.std.proofs.Common.{◌≡◌, ◌≤◌, ◌<◌, ℕ, ap, ◌∙◌, arith}
+use Rattle.std.proofs.Common.{ap, ◌∙◌, arith}
 use Rattle.vm_world.specs.World.{world_seen, file_name, page_exists}
 use Rattle.seg_ops.proofs.CleanPages.{all-clean, file-exists}
 use Rattle.seg_ops.proofs.RoomMade.{room-same, room-then}
