@@ -52,15 +52,20 @@ line_joined (File x) = opening_joined (File x) tt
 line_joined (Piece offset bytes) = opening_joined (Piece offset bytes) tt
 line_joined (Entries n) = opening_joined (Entries n) tt
 
+-- the lines of a text that begins with lines
+pub fed_front : (ls : List TraceLine) (rest : List ℕ) → All IsTraceLine ls → fed_lines (flat_map trace_line_text ls ++ rest) ≡ map trace_line_text ls ++ fed_lines rest
+fed_front [] rest all = refl
+fed_front (l ∷ ls) rest all =
+    let more = flat_map trace_line_text ls ++ rest in
+    let plain = plain_words (line_words l) (graphic_line l (All-head IsTraceLine l ls all)) in
+    ap fed_lines (append_assoc (trace_line_text l) (flat_map trace_line_text ls) rest)
+    ∙ (ap (λ t. fed_lines (t ++ more)) (line_joined l)
+    ∙ (fed_line (line_of_fields (line_words l)) more plain
+    ∙ ap₂ (λ x xs. x ∷ xs) (sym (line_joined l)) (fed_front ls rest (All-tail IsTraceLine l ls all))))
+
 -- the lines of a text of lines
 pub fed_trace : (ls : List TraceLine) → All IsTraceLine ls → fed_lines (flat_map trace_line_text ls) ≡ map trace_line_text ls
-fed_trace [] all = refl
-fed_trace (l ∷ ls) all =
-    let rest = flat_map trace_line_text ls in
-    let plain = plain_words (line_words l) (graphic_line l (All-head IsTraceLine l ls all)) in
-    ap (λ t. fed_lines (t ++ rest)) (line_joined l)
-    ∙ (fed_line (line_of_fields (line_words l)) rest plain
-    ∙ ap₂ (λ x xs. x ∷ xs) (sym (line_joined l)) (fed_trace ls (All-tail IsTraceLine l ls all)))
+fed_trace ls all = ap fed_lines (sym (append-nil (flat_map trace_line_text ls))) ∙ (fed_front ls [] all ∙ append-nil (map trace_line_text ls))
 
 -- the text of a trace, line by line
 disks_text : (disks : List (ℕ × ℕ)) → flat_map disk_text disks ≡ flat_map trace_line_text (map Disk disks)

@@ -1,3 +1,4 @@
+pub mod Digits
 pub mod Pairs
 pub mod NumbersAgain
 pub mod WordsAgain
@@ -8,3 +9,6 @@ pub mod LineRuns
 pub mod LinesTold
 pub mod LineTexts
 pub mod OneTrace
+pub mod PieceLines
+pub mod LinesTelling
+pub mod FirstBad

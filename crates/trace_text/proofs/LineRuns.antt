@@ -17,7 +17,7 @@ use Rattle.trace_text.specs.TraceLines.{TraceLine, FileHead, Disk, Root, File, P
 use Rattle.trace_text.specs.LineOrder.{LinePlace, AtOpening, AtDisks, AtRoots, InFile, AtEntries, file_place, file_at, may_be_piece, place_after, place_after_all, pieces_lines, head_of, files_lines, trace_lines}
 
 -- lines behind lines
-after_append : (s : LinePlace) (xs ys : List TraceLine) → place_after_all s (xs ++ ys) ≡ (place_after_all s xs >>= λ t. place_after_all t ys)
+pub after_append : (s : LinePlace) (xs ys : List TraceLine) → place_after_all s (xs ++ ys) ≡ (place_after_all s xs >>= λ t. place_after_all t ys)
 after_append s [] ys = refl
 after_append s (x ∷ xs) ys = elim (place_after s x) as (λ o. (o >>= λ t. place_after_all t (xs ++ ys)) ≡ ((o >>= λ t. place_after_all t xs) >>= λ t. place_after_all t ys)) [
   | None ↦ refl

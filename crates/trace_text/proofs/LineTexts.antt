@@ -1,5 +1,5 @@
 -- A line's text tells the line where it stands.
-use Rattle.std.proofs.Common.{◌≡◌, ℕ, Bool, true, false, List, [], ◌∷◌, map, Option, Some, None, refl, sym, subst, ap, ◌∙◌}
+use Rattle.std.proofs.Common.{◌≡◌, ℕ, false, List, [], ◌∷◌, ◌++◌, map, Option, Some, None, refl, sym, subst, ap, ◌∙◌}
 use Rattle.std.specs.Prelude.{All}
 use Rattle.std.proofs.lemmas.Bool.{false≢true}
 use Rattle.std.proofs.lemmas.List.Elements.{All-head, All-tail}
@@ -7,15 +7,11 @@ use Rattle.vm_report.specs.vm_types.declared.call.Entry.{Entry}
 use Rattle.trace_text.specs.EntryForm.{IsTracedEntry}
 use Rattle.trace_text.specs.EntryReading.{◌>>=◌}
 use Rattle.trace_text.specs.TraceLines.{TraceLine, Slots, Disk, Root, File, Piece, Entries, Act, trace_line_text, IsTraceLine, IsOpeningLine}
-use Rattle.trace_text.specs.LineOrder.{LinePlace, AtOpening, AtDisks, AtRoots, InFile, AtEntries, place_after, place_after_all}
+use Rattle.trace_text.specs.LineOrder.{LinePlace, AtOpening, AtDisks, AtRoots, InFile, AtEntries, place_after, place_after_all, takes_entries, NoneThere}
 use Rattle.trace_text.proofs.EntriesAgain.{one_entry}
 use Rattle.trace_text.proofs.OpeningAgain.{one_opening_line}
 
 -- before the entries only lines of the opening part may stand, and behind their number only entries
-abbrev pub takes_entries : LinePlace → Bool
-takes_entries (AtEntries n) = true
-takes_entries s = false
-
 no_entry_yet : (s : LinePlace) (e : Entry) (t : LinePlace) → takes_entries s ≡ false → ¬ (place_after s (Act e) ≡ Some t)
 no_entry_yet AtOpening e t is so = cc
 no_entry_yet (AtDisks least disks) e t is so = cc
@@ -23,7 +19,7 @@ no_entry_yet (AtRoots least disks) e t is so = cc
 no_entry_yet (InFile disks files len least) e t is so = cc
 no_entry_yet (AtEntries n) e t is so = false≢true (sym is)
 
-opens : (s t : LinePlace) (l : TraceLine) → takes_entries s ≡ false → place_after s l ≡ Some t → IsOpeningLine l
+pub opens : (s t : LinePlace) (l : TraceLine) → takes_entries s ≡ false → place_after s l ≡ Some t → IsOpeningLine l
 opens s t (Act e) is so = absurd (no_entry_yet s e t is so)
 opens s t (Slots n) is so = tt
 opens s t (Disk d) is so = tt
@@ -32,7 +28,7 @@ opens s t (File x) is so = tt
 opens s t (Piece offset bytes) is so = tt
 opens s t (Entries n) is so = tt
 
-acts : (n : ℕ) (t : LinePlace) (l : TraceLine) → place_after (AtEntries n) l ≡ Some t → (e : Entry) × (l ≡ Act e)
+pub acts : (n : ℕ) (t : LinePlace) (l : TraceLine) → place_after (AtEntries n) l ≡ Some t → (e : Entry) × (l ≡ Act e)
 acts n t (Act e) so = (e, refl)
 acts n t (Slots m) so = absurd cc
 acts n t (Disk d) so = absurd cc
@@ -93,3 +89,24 @@ same_lines (l ∷ ls) (m ∷ ms) from s z run all too each same =
     let rest : map trace_line_text ls ≡ map trace_line_text ms = cc in
     let behind = same_lines ls ms b.next s z run_b (All-tail IsTraceLine l ls all) b.rest (All-tail IsTraceLine m ms each) rest in
     cc
+
+-- lines behind which no line with this text may stand are not continued by it
+pub refused : (ls ms : List TraceLine) (from s z : LinePlace) (line : List ℕ) (more : List (List ℕ)) → place_after_all from ls ≡ Some s → All IsTraceLine ls
+    → NoneThere s line → place_after_all from ms ≡ Some z → All IsTraceLine ms → ¬ (map trace_line_text ms ≡ map trace_line_text ls ++ line ∷ more)
+refused [] [] from s z line more run all none too each = λ same. cc
+refused [] (m ∷ ms) from s z line more run all none too each = λ same.
+    let step = first_step from m ms z too in
+    let here : from ≡ s = cc in
+    let there : place_after s m ≡ Some step.next = subst (λ (p : LinePlace). place_after p m ≡ Some step.next) here step.step in
+    let text : line ≡ trace_line_text m = cc in
+    none m step.next (All-head IsTraceLine m ms each) there text
+refused (l ∷ ls) [] from s z line more run all none too each = λ same. cc
+refused (l ∷ ls) (m ∷ ms) from s z line more run all none too each = λ same.
+    let a = first_step from l ls s run in
+    let b = first_step from m ms z too in
+    let texts : trace_line_text l ≡ trace_line_text m = cc in
+    let one = one_line_there from a.next b.next l m a.step b.step (All-head IsTraceLine l ls all) (All-head IsTraceLine m ms each) texts in
+    let next : a.next ≡ b.next = let both = sym a.step ∙ (ap (place_after from) one ∙ b.step) in cc in
+    let rest : map trace_line_text ms ≡ map trace_line_text ls ++ line ∷ more = cc in
+    let run_b : place_after_all b.next ls ≡ Some s = subst (λ (p : LinePlace). place_after_all p ls ≡ Some s) next a.rest in
+    refused ls ms b.next s z line more run_b (All-tail IsTraceLine l ls all) none b.rest (All-tail IsTraceLine m ms each) rest

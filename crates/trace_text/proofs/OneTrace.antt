@@ -1,5 +1,5 @@
 -- A text is that of one trace alone.
-use Rattle.std.proofs.Common.{◌≡◌, ℕ, zero, suc, ◌≤◌, ◌+◌, ◌-◌, ◌*◌, ◌/◌, ◌==◌, min, Bool, true, false, List, [], ◌∷◌, ◌++◌, length, map, take, drop, refl, sym, subst, ap, ap₂, ◌∙◌, append_assoc, arith, rules, tests}
+use Rattle.std.proofs.Common.{◌≡◌, ℕ, zero, suc, ◌≤◌, ◌+◌, ◌*◌, ◌/◌, ◌==◌, min, Bool, true, false, List, [], ◌∷◌, ◌++◌, length, map, take, drop, refl, sym, subst, ap, ap₂, ◌∙◌, append_assoc, arith, rules, tests}
 use Rattle.std.specs.Prelude.{if◌then◌else◌}
 use Rattle.std.specs.List.{list_all}
 use Rattle.std.proofs.lemmas.Bool.Decides.{nat_tests}
@@ -206,7 +206,7 @@ trace_same t u same =
     ∙ ap (λ (h : List Entry). whole u.slots u.disks u.roots u.files h) files.1)))
 
 -- the lines of a trace's text
-lines_of_text : (t : Trace) → IsTrace t → fed_lines (trace_text t) ≡ map trace_line_text (trace_lines t)
+pub lines_of_text : (t : Trace) → IsTrace t → fed_lines (trace_text t) ≡ map trace_line_text (trace_lines t)
 lines_of_text t h = ap fed_lines (trace_told t) ∙ fed_trace (trace_lines t) (lines_told t h)
 
 pub one_trace : (t u : Trace) → IsTrace t → IsTrace u → trace_text t ≡ trace_text u → t ≡ u

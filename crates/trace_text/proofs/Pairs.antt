@@ -1,5 +1,5 @@
 -- Bytes that are put one by one over zeros, by pairs of digits.
-use Rattle.std.proofs.Common.{◌≡◌, ℕ, zero, suc, ◌≤◌, ◌<◌, ◌+◌, ◌-◌, ◌*◌, Bool, true, List, [], ◌∷◌, ◌++◌, length, take, drop, set, get_or, refl, ap, ap₂, ◌∙◌, append_assoc, arith, IsTrue}
+use Rattle.std.proofs.Common.{◌≡◌, ℕ, zero, suc, ◌≤◌, ◌<◌, ◌+◌, ◌-◌, ◌*◌, true, List, [], ◌∷◌, ◌++◌, length, take, drop, set, get_or, refl, ap, ap₂, ◌∙◌, append_assoc, arith, IsTrue}
 use Rattle.std.specs.List.{list_all}
 use Rattle.std.proofs.lemmas.List.{take_all, take_more_set}
 use Rattle.vm_report.specs.vm_script.Fields.{is_hex_digit, digit_value, hex_bytes}

@@ -1,5 +1,5 @@
 -- The entries that a trace may tell. Public clauses cite this.
-use Rattle.std.specs.Prelude.{ℕ, ◌≤◌, ◌<◌, ◌^◌, List, length, All}
+use Rattle.std.specs.Prelude.{ℕ, ◌≤◌, ◌<◌, ◌^◌, length, All}
 use Rattle.vm_report.specs.vm_types.declared.call.Call.{Call}
 use Rattle.vm_report.specs.vm_types.declared.call.Call.TheVariants as call
 use Rattle.vm_report.specs.vm_types.declared.call.Reply.{Reply}

@@ -1,6 +1,6 @@
 -- What words say, read loosely: a line that isn't spelled as a trace spells it differs from what was read, printed again. Inside: no public clause
 -- cites this.
-use Rattle.std.specs.Prelude.{ℕ, ◌^◌, Bool, true, false, ◌&&◌, List, [], ◌∷◌, length, drop, codes, nat_le, nat_lt, Option, Some, None, if◌then◌else◌}
+use Rattle.std.specs.Prelude.{ℕ, ◌^◌, ◌&&◌, List, [], ◌∷◌, length, drop, codes, nat_le, nat_lt, Option, Some, None, if◌then◌else◌}
 use Rattle.std.specs.List.{list_all}
 use Rattle.vm_report.specs.vm_types.declared.prot.Prot.{Prot}
 use Rattle.vm_report.specs.vm_types.declared.call.Kind.{Kind}

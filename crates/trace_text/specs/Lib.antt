@@ -7,3 +7,6 @@ pub mod OpeningReading
 pub mod Traces
 pub mod TraceForm
 pub mod LineOrder
+pub mod BadLines
+pub mod LinesRead
+pub mod ReadLaws

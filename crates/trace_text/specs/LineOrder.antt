@@ -1,9 +1,9 @@
--- Which lines of a trace may follow which, and the lines of a trace. Inside: no public clause cites this.
-use Rattle.std.specs.Prelude.{ℕ, zero, suc, ◌+◌, ◌-◌, ◌/◌, ◌%◌, ◌==◌, min, Bool, ◌&&◌, List, [], ◌∷◌, ◌++◌, length, map, take, drop, nat_eq, nat_le, nat_lt, Option, Some, None, if◌then◌else◌}
+-- Which lines of a trace may follow which, and the lines of a trace. Public clauses cite this.
+use Rattle.std.specs.Prelude.{ℕ, zero, suc, ◌≡◌, ◌+◌, ◌-◌, ◌/◌, ◌%◌, ◌==◌, min, Bool, true, false, ◌&&◌, List, [], ◌∷◌, ◌++◌, length, map, take, drop, nat_eq, nat_le, nat_lt, Option, Some, None, if◌then◌else◌}
 use Rattle.std.specs.List.{list_all, list_any}
 use Rattle.trace_text.specs.EntryReading.{◌>>=◌}
 use Rattle.trace_text.specs.Traces.{TracedFile, Trace}
-use Rattle.trace_text.specs.TraceLines.{TraceLine, FileHead, Slots, Disk, Root, File, Piece, Entries, Act}
+use Rattle.trace_text.specs.TraceLines.{TraceLine, FileHead, Slots, Disk, Root, File, Piece, Entries, Act, trace_line_text, IsTraceLine}
 
 -- What may stand next: the first line; a disk or a top process whose number is at least this; bytes of a file of that length from at least this
 -- offset on; or so many entries. With it stand the numbers of the disks, and how many files there are.
@@ -64,6 +64,15 @@ place_after s (Act e) = after_entry s
 abbrev pub place_after_all : LinePlace → List TraceLine → Option LinePlace
 place_after_all s [] = Some s
 place_after_all s (l ∷ ls) = place_after s l >>= λ t. place_after_all t ls
+
+-- Whether entries may stand there.
+abbrev pub takes_entries : LinePlace → Bool
+takes_entries (AtEntries n) = true
+takes_entries s = false
+
+-- No line with this text may stand there.
+abbrev pub NoneThere : LinePlace → List ℕ → Type 0
+NoneThere s line = (l : TraceLine) (t : LinePlace) → IsTraceLine l → place_after s l ≡ Some t → ¬ (line ≡ trace_line_text l)
 
 -- The lines of a trace.
 abbrev pub piece_line : ℕ → List ℕ → List TraceLine

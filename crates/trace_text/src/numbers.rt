@@ -7,7 +7,7 @@ ghost use Rattle.trace_text.specs.EntryReading as reading;
 use vm_report::Line;
 
 /// A number below 2^64, in decimal.
-#[tactic(auto, unfolding(crate::specs::EntryReading::long_number_in), using(vm_report::proofs::vm_script::Digits::not_all))]
+#[tactic(auto, unfolding(crate::specs::EntryReading::long_number_in), using(crate::proofs::Digits::not_all))]
 pub fn long_number_in(word: &[u8]) -> Option<u64>
     ensures { result ≡ reading.long_number_in word.now }
 {
@@ -51,7 +51,7 @@ fn digit_in(b: u8) -> Option<u8>
 }
 
 /// A number of up to 16 hexadecimal digits.
-#[tactic(auto, unfolding(crate::specs::EntryReading::mask_in), using(vm_report::proofs::vm_script::Digits::not_all))]
+#[tactic(auto, unfolding(crate::specs::EntryReading::mask_in), using(crate::proofs::Digits::not_all))]
 pub fn mask_in(word: &[u8]) -> Option<u64>
     ensures { result ≡ reading.mask_in word.now }
 {

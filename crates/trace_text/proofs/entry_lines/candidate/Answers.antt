@@ -1,5 +1,4 @@
-use Rattle.std.proofs.Common.{◌≡◌, Some, true, subst, sym, arith, rules, tests}
-use Rattle.vm_report.specs.vm_types.declared.call.Entry.{Entry}
+use Rattle.std.proofs.Common.{◌≡◌, true, subst, arith, rules, tests}
 use Rattle.trace_text.specs.EntryForm.{IsTracedEntry}
 use Rattle.trace_text.proofs.EntriesAgain.{line_told}
 use Rattle.trace_text.proofs.entry_lines.candidate.Goals as goal

@@ -1,5 +1,4 @@
-use Rattle.std.proofs.Common.{◌≡◌, ◌∙◌, Some, true, ap, sym, arith, rules, tests}
-use Rattle.vm_report.specs.vm_types.declared.call.Entry.{Entry}
+use Rattle.std.proofs.Common.{◌≡◌, ◌∙◌, true, ap, sym, arith, rules, tests}
 use Rattle.vm_report.specs.Trace.{entry_text}
 use Rattle.trace_text.proofs.entry_lines.entry_of_line.Goals as goal
 
