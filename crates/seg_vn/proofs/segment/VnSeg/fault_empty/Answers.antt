@@ -1,5 +1,6 @@
 use Rattle.std.proofs.Common.{◌≡◌, ℕ, Bool, true, false, cond, Some, None, length, refl, sym, ap, ◌∙◌, inl, inr, subst}
 use Rattle.std.specs.Prelude.{option_and_then}
+use Rattle.std.proofs.lemmas.Bool.{not-true, not-false}
 use Rattle.seg_ops.specs.vm_types.Prot.{can_read, can_write}
 use Rattle.seg_ops.specs.vm_types.declared.call.Object.{Object}
 use Rattle.seg_ops.specs.vm_world.CountsFit.{ObjectFits}
@@ -82,7 +83,7 @@ pub returns-then-not-fault-clause-serves : goal.returns-then-not-fault-clause-se
 returns-then-not-fault-clause-serves g c = λ spaces fits here zeros.
     let w = world_seen c.args.world.now in
     let x : Spot = (c.args.self.now, c.args.fault.place) in
-    let read : c.args.fault.write ≡ false = c.if-not-fault.true in
+    let read : c.args.fault.write ≡ false = not-true c.args.fault.write c.if-not-fault.true in
     let shown : x.0.shown ≡ Some c.in-Some-shown._shown = sym c.shown.ensures ∙ c.in-Some-shown.is in
     c.fault_zeros-then-not-fault.ensures.serves spaces x c.args.fault.write fits (record {
       here = here;
@@ -101,7 +102,7 @@ pub returns-clause-serves : goal.returns-clause-serves
 returns-clause-serves g c = λ spaces fits here zeros.
     let w = world_seen c.args.world.now in
     let x : Spot = (c.args.self.now, c.args.fault.place) in
-    let write : c.args.fault.write ≡ true = c.if-not-fault.false in
+    let write : c.args.fault.write ≡ true = not-false c.args.fault.write c.if-not-fault.false in
     let own : x.0.own ≡ Some c.in-Some.own = sym c.own.ensures ∙ c.in-Some.is in
     let shown : x.0.shown ≡ Some c.in-Some-shown._shown = sym c.shown.ensures ∙ c.in-Some-shown.is in
     let bare : own_without_slot x.0.object ≡ None = elim zeros.new [

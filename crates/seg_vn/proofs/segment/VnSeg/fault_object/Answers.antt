@@ -1,6 +1,7 @@
 use Rattle.std.proofs.Common.{◌≡◌, ℕ, ◌+◌, Bool, true, false, cond, Option, Some, None, refl, sym, ap, ◌∙◌, subst}
 use Rattle.std.specs.Prelude.{option_and_then, option_map}
 use Rattle.std.specs.Option.{option_or}
+use Rattle.std.proofs.lemmas.Bool.{not-true, not-false}
 use Rattle.seg_ops.specs.vm_types.Prot.{can_read, can_write}
 use Rattle.seg_ops.specs.vm_world.Segments.{Spot, object_name}
 use Rattle.seg_ops.specs.vm_world.World.{world_seen, slot_in, slot_name}
@@ -55,7 +56,7 @@ returns-then-not-fault-clause-serves g c = λ spaces fits here.
     let w = world_seen c.args.world.now in
     let x : Spot = (c.args.self.now, c.args.fault.place) in
     let shows = c.in-Page.ensures.shows spaces c.args.fault.process c.args.fault.page fits here in
-    let read : c.args.fault.write ≡ false = c.if-not-fault.true in
+    let read : c.args.fault.write ≡ false = not-true c.args.fault.write c.if-not-fault.true in
     c.fault_page-then-not-fault.ensures.serves spaces x c.args.fault.write fits
     (object-place w spaces c.args.fault.process c.args.fault.page x c.in-Page.name c.args.fault.write false here c.requires.bare shows.0 shows.2 c.requires.allowed
     (λ writes. absurd (let z : false ≡ true = writes in cc))
@@ -69,7 +70,7 @@ returns-else-not-fault-clause-serves g c = λ spaces fits here.
     let w = world_seen c.args.world.now in
     let x : Spot = (c.args.self.now, c.args.fault.place) in
     let shows = c.in-Page.ensures.shows spaces c.args.fault.process c.args.fault.page fits here in
-    let write : c.args.fault.write ≡ true = c.if-not-fault.false in
+    let write : c.args.fault.write ≡ true = not-false c.args.fault.write c.if-not-fault.false in
     let own : x.0.own ≡ Some c.in-Some.map = sym c.own.ensures ∙ c.in-Some.is in
     subst (λ (b : Bool). ServesFault (memory_of w spaces) (memory_of (world_seen c.fault_copy.new.world) spaces) c.args.world.now.pending c.fault_copy.new.world.pending c.args.fault.process c.args.fault.page x b c.fault_copy.result) (sym write)
     (c.fault_copy.ensures.serves spaces x fits (record {

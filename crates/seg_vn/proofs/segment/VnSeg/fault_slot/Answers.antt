@@ -1,5 +1,6 @@
 use Rattle.std.proofs.Common.{◌≡◌, ℕ, ◌<◌, ◌+◌, Bool, true, false, cond, Option, Some, None, refl, sym, ap, ◌∙◌, subst, arith}
 use Rattle.std.specs.Prelude.{◌||◌, is_some, option_and_then}
+use Rattle.std.proofs.lemmas.Bool.{not-true, not-false}
 use Rattle.seg_ops.specs.anon_slots.Slots.{count_at}
 use Rattle.seg_ops.specs.vm_types.Prot.{can_read, can_write}
 use Rattle.seg_ops.specs.vm_world.Segments.{Spot}
@@ -80,7 +81,7 @@ returns-then-not-fault-clause-serves g c = λ spaces fits here.
     let w = world_seen c.args.world.now in
     let x : Spot = (c.args.self.now, c.args.fault.place) in
     let s = c.args.slot in
-    let read : c.args.fault.write ≡ false = c.if-not-fault.true in
+    let read : c.args.fault.write ≡ false = not-true c.args.fault.write c.if-not-fault.true in
     c.fault_page-then-not-fault.ensures.serves spaces x c.args.fault.write fits (record {
       here = here;
       shows = own-shown w.maps x s c.requires.own;
@@ -100,7 +101,7 @@ returns-clause-serves g c = λ spaces fits here.
     let x : Spot = (c.args.self.now, c.args.fault.place) in
     let s = c.args.slot in
     let at = (goal.at.returns-clause-serves g c).In-Some in
-    let write : c.args.fault.write ≡ true = c.if-not-fault.false in
+    let write : c.args.fault.write ≡ true = not-false c.args.fault.write c.if-not-fault.false in
     let some = used g at in
     let ne = c.if-count-eq1.false in
     let is = c.count.ensures in
