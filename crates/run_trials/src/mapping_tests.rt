@@ -32,6 +32,9 @@ const NO_ROOM: &[u8] =
 const SYNC: &[u8] =
     b"disk 0 blank 8\nfile a rw 0 2 68656c6c6f\nprocess\nmap 0x2000 4096 rw shared a 0\nstore 0x2000 1 0x4a\nsync 0x2000 4096\nsync 0x9000 4096\nsync 0x2001 4096\nend\n";
 
+const SYNCED: &[u8] =
+    b"process 1\n4 map 0x00002000\n5 store ok\n6 sync ok\n7 sync error 6 NotMapped\n8 sync error 1 Invalid\n9 exit ok\nfile a 5\n00000000 4a656c6c6f\n";
+
 // A private copy is no page of the file, and a page that may no longer be touched is synced all the same.
 const SYNC_OF_BOTH: &[u8] =
     b"disk 0 blank 8\nfile a rw 0 2 68656c6c6f\nprocess\nmap 0x2000 4096 rw shared a 0\nmap 0x3000 4096 rw private a 0\nstore 0x3000 1 0x4a\nsync 0x2000 8192\nstore 0x2000 1 0x59\nprotect 0x2000 4096 none\nsync 0x1000 8192\nsync 0x2000 8192\nsync 0x2000 0\nload 0x3000 1\nload 0x2000 1\nend\n";
@@ -86,9 +89,6 @@ fn mappings_change_as_the_rules_say(rt: HostRuntime) -> Result<(), Fail> {
 fn a_sync_has_the_page_pushed(rt: HostRuntime) -> Result<(), Fail> {
     let left = run_trial(&rt, rt.alloc(), NO_WORDS, SYNC, &NEVER)?;
     assert_eq!(rt; (left.status, left.first), (0, (3, 3)));
-    assert_eq!(rt;
-        left.text.as_slice(),
-        b"process 1\n4 map 0x00002000\n5 store ok\n6 sync ok\n7 sync error 6 NotMapped\n8 sync error 1 Invalid\n9 exit ok\nfile a 5\n00000000 4a656c6c6f\n"
-    );
+    assert_eq!(rt; left.text.as_slice(), SYNCED);
     Ok(())
 }
