@@ -1,0 +1,10 @@
+pub mod EndTables
+pub mod Ends
+pub mod Puts
+pub mod Voids
+pub mod Wholes
+pub mod Cuts
+pub mod Blanking
+pub mod Lengthens
+pub mod Shortens
+pub mod Readies

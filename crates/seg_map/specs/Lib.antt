@@ -1,0 +1,9 @@
+pub mod Ends
+pub mod Puts
+pub mod Voids
+pub mod Wholes
+pub mod Cuts
+pub mod Blanks
+pub mod Longer
+pub mod Shorter
+pub mod VoidedPages

@@ -1,0 +1,39 @@
+-- A file that is made shorter. Public clauses cite this.
+use Rattle.std.specs.Prelude.{◌≡◌, ◌≢◌, ◌<◌, ◌%◌, ℕ, Some}
+use Rattle.seg_ops.specs.page_hash.Names.{name_at}
+use Rattle.seg_ops.specs.page_hash.declared.PageName.{PageName}
+use Rattle.seg_ops.specs.page_store.Seen.{StoreSeen, residence}
+use Rattle.seg_ops.specs.page_store.declared.residence.Residence.TheVariants.{Moving}
+use Rattle.seg_ops.specs.vnode_files.Files.{vnode_at}
+use Rattle.seg_ops.specs.flat_model.Flat.{File}
+use Rattle.seg_ops.specs.flat_model.Words.{page, page_size, pages_in}
+use Rattle.seg_ops.specs.vm_world.FileSteps.{ChangesFile}
+use Rattle.seg_ops.specs.vm_world.FlatMemory.{Memory}
+use Rattle.seg_ops.specs.vm_world.World.{World, file_name}
+use Rattle.seg_map.specs.Cuts.{IsPastEnd}
+use Rattle.seg_map.specs.Ends.{MaySetEnd}
+
+-- The new last page of a file that gets shorter, where it gets a tail.
+pub record IsCutPage (w : World) (file end : ℕ) (name : PageName) : Type 0 where
+  pub shorter : end < (vnode_at w.files file).info.length
+  pub tail : end % page_size ≢ 0
+  pub last : name ≡ file_name file (page end)
+
+-- It isn't moving.
+abbrev pub IsTailStill : World → ℕ → ℕ → Type 0
+IsTailStill w f end = (name : PageName) → IsCutPage w f end name → (seat : ℕ) → residence w.store name ≢ Moving seat
+
+-- No frame holds a page of the file past an end.
+abbrev pub NoneHeldPast : StoreSeen → ℕ → ℕ → Type 0
+NoneHeldPast s f end = (frame : ℕ) (name : PageName) → name_at s.names frame ≡ Some name → name.object ≡ f → name.page < pages_in end
+
+-- The file lost something, all of it past an end.
+pub record LosesPast (old new : Memory) (f end : ℕ) : Type 0 where
+  pub change : File → File
+  pub changes : ChangesFile f old new change
+  pub past : IsPastEnd end change
+
+-- So it may get that end then.
+pub record MayShorten (old new : Memory) (f end : ℕ) : Type 0 where
+  pub loses : LosesPast old new f end
+  pub may : MaySetEnd new.world f end

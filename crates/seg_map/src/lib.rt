@@ -1,0 +1,18 @@
+//! Files through kernel windows: bytes that are put into their pages, and files that get longer and shorter.
+#![tactic(auto)]
+
+mod bytes;
+mod given;
+mod laws;
+mod longer;
+mod ready;
+mod records;
+mod shorter;
+
+pub use bytes::put;
+pub use given::void_page;
+pub use laws::{cut_law, ends_law, part_law, wholes_law};
+pub use longer::make_longer;
+pub use ready::ready_last;
+pub use records::set_end;
+pub use shorter::make_shorter;
