@@ -175,6 +175,30 @@ def fork():
     p.save()
 
 
+def two_loads():
+    p = Picture('two-loads.svg', 'One load by two callers', 900, 380)
+    for y, words in [(50, 'process 1'), (130, 'the lock'), (210, 'the page'), (290, 'process 2')]:
+        p.text(100, y + 28, words, '', 'end')
+    for x, w, *lines in [(120, 110, 'try', 'the read begins'), (250, 280, 'reads from the disk', 'outside the lock'), (550, 90, 'end', 'Moved'), (660, 90, 'try', 'Done')]:
+        p.box(x, 50, w, 46, *lines)
+    for x, w, who in [(120, 110, 'has it: 1'), (300, 90, '2'), (550, 90, '1'), (660, 90, '1'), (790, 90, '2')]:
+        p.box(x, 130, w, 46, who)
+    p.arrow(165, 290, 165, 178)
+    p.box(120, 210, 510, 46, 'moving with seat 0', 'its frame and its disk are out')
+    p.box(650, 210, 230, 46, 'home')
+    p.box(120, 290, 90, 46, 'refused', 'LockHeld')
+    p.box(300, 290, 90, 46, 'try', 'PageBusy(0)')
+    p.box(790, 290, 90, 46, 'try', 'Done')
+    p.box(215, 290, 80, 46, 'rests', 'on leaves', kind='soft')
+    p.box(400, 290, 380, 46, 'rests', 'on changes', kind='soft')
+    for x, top, bottom in [(175, 96, 130), (595, 96, 130), (705, 96, 130)]:
+        p.path(f'M{x} {top}L{x} {bottom}', tip=False)
+    p.arrow(345, 290, 345, 258)
+    p.arrow(835, 290, 835, 258)
+    p.text(450, 366, 'from left to right in time; the end of the transfer tells who rests on changes', 'small')
+    p.save()
+
+
 SAYS = {
     'sunvm': 'the program', 'vm_script': 'plans', 'vm_report': 'texts', 'trace_text': 'traces read', 'volume_format': 'block 0', 'kernel_lock': 'one holder', 'vm_core': 'events', 'vm_kernel': "threads' calls",
     'fault_entry': 'loads, stores', 'mmap_calls': 'mappings', 'proc_calls': 'fork, exit', 'seg_vn': 'segments', 'seg_ops': 'small steps',
@@ -304,5 +328,5 @@ def layers():
 
 
 if __name__ == '__main__':
-    for draw in (layers, page_life, fault, fork, cell, turn):
+    for draw in (layers, page_life, fault, fork, cell, turn, two_loads):
         draw()

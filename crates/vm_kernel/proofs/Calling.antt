@@ -10,26 +10,11 @@ use Rattle.vm_core.specs.vm_types.declared.call.Call.{Call}
 use Rattle.vm_core.specs.vm_types.declared.call.Entry.{Entry}
 use Rattle.vm_core.specs.vm_types.declared.call.Reply.{Reply}
 use Rattle.vm_core.specs.vm_world.SeatLaws.{IsKnownAlive, MayComeNext}
-use Rattle.vm_core.specs.vm_world.State.{is_top}
+use Rattle.vm_core.proofs.vm_world.SeatRules.{seat_law}
 use Rattle.vm_kernel.specs.Callers.{KernelSeen, CallerSeen, ShowsOwn}
 use Rattle.vm_kernel.specs.Turns.{MayCall, CallerGoesOn, IsTurn, IsCallDone, LacksMemory, IsForCall, caller_at}
 use Rattle.vm_kernel.specs.declared.turn.Turn.{Turn}
 use Rattle.vm_kernel.proofs.Visited.{turn-later, done-later, refused-later}
-
--- who was known to be alive is so by more that was seen
-more-alive : (parents : List ℕ) (seen later own : List Entry) (p : ℕ) → IsPrefix seen later → IsKnownAlive parents seen own p → IsKnownAlive parents later own p
-more-alive parents seen later own p begins alive = record { born = by_top (is_top parents p) alive.born; here = alive.here }
-  where
-    longer : list_any (is_birth p) later ≡ (list_any (is_birth p) seen || list_any (is_birth p) begins.0)
-    longer = ap (list_any (is_birth p)) (sym begins.1) ∙ list_any-append (is_birth p) seen begins.0
-
-    or-first : (a b : Bool) → a ≡ true → (a || b) ≡ true
-    or-first true b is = refl
-    or-first false b is = absurd (cc (is))
-
-    by_top : (t : Bool) → IsTrue (t || list_any (is_birth p) seen) → IsTrue (t || list_any (is_birth p) later)
-    by_top true born = refl
-    by_top false born = longer ∙ or-first (list_any (is_birth p) seen) (list_any (is_birth p) begins.0) born
 
 pub goes-not : (c : CallerSeen) → ShowsOwn c → CallerGoesOn c c
 goes-not c own = record { process = refl; number = refl; seen = prefix_self c.seat.seen; own = own; refused = le_refl c.seat.refused; leaves = le_refl c.seat.leaves; emptied = le_refl c.seat.emptied }
@@ -52,7 +37,7 @@ may-still k c m call may goes own hand = record {
   alive =
       subst (λ (q : ℕ). IsKnownAlive k.opening.parents m.seat.seen m.seat.own q) (sym goes.process)
       (subst (λ (es : List Entry). IsKnownAlive k.opening.parents m.seat.seen es c.process) (sym own)
-      (more-alive k.opening.parents c.seat.seen m.seat.seen c.seat.own c.process goes.seen may.alive));
+      (subst (λ (w : List Entry). IsKnownAlive k.opening.parents w c.seat.own c.process) goes.seen.1 (seat_law.longer k.opening.parents c.seat.seen goes.seen.0 c.seat.own c.process may.alive)));
   next =
       subst (λ (q : ℕ). MayComeNext k.opening.parents k.opening.entries m.seat.own q call) (sym goes.process)
       (subst (λ (es : List Entry). MayComeNext k.opening.parents k.opening.entries es c.process call) (sym own) may.next);

@@ -8,25 +8,18 @@ use Rattle.std.proofs.lemmas.List.Elements.{All-nil, All-cons, All-head, All-tai
 use Rattle.kernel_lock.specs.declared.board.SeatPart.{SeatPart}
 use Rattle.vm_core.specs.vm_types.declared.call.Entry.{Entry}
 use Rattle.vm_core.specs.flat_model.Flat.{Flat}
+use Rattle.vm_core.specs.vm_world.Events.{IsSince}
 use Rattle.vm_core.specs.vm_world.Opening.{no_seats}
+use Rattle.vm_core.proofs.vm_world.Told.{event_law}
 use Rattle.vm_core.specs.vm_world.State.{KernelState, Sent, seats_of}
 use Rattle.vm_core.specs.vm_world.StateFits.{StateFits}
 use Rattle.vm_kernel.specs.Callers.{KernelSeen, SeatSeen, CallerSeen, caller_part}
 use Rattle.vm_kernel.specs.Rooms.{IsRoomAt, AreRooms, AreNamed, IsNewSeat, callers_from}
-use Rattle.vm_kernel.specs.Since.{IsSince, IsSinceOpening}
+use Rattle.vm_kernel.specs.Since.{IsSinceOpening}
 use Rattle.vm_kernel.specs.declared.starting.Room.{Room}
 
-none-out : (n k : ℕ) → slice_index_or (replicate {A = Option Sent} n None) k None ≡ None
-none-out zero k = refl
-none-out (suc n) zero = refl
-none-out (suc n) (suc k) = none-out n k
-
--- a list of nothing but none
-pub no-seats : (n : ℕ) → seats_of (replicate n None) ≡ no_seats
-no-seats n = λ i k. none-out n k i
-
 pub opens : (s : KernelState) (n : ℕ) → (F : Flat) × StateFits F s no_seats → IsSinceOpening s s (replicate n None)
-opens s n fits = subst (IsSince s s) (sym (no-seats n)) (record { starts = fits; fits = λ F fit. fit; fixed = refl; sizes = λ number. refl })
+opens s n fits = subst (IsSince s s) (sym (event_law.none n)) (event_law.opens s fits)
 
 -- callers that have nothing in hand
 pub all-parts : (xs : List CallerSeen) → All (λ (it : CallerSeen). it.seat.note ≡ None) xs → All (λ (p : SeatPart Entry Sent). p.note ≡ None) (map caller_part xs)

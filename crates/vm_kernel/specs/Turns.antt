@@ -1,5 +1,6 @@
 -- What a caller may ask of a turn, and what a turn comes to. Public clauses cite this.
-use Rattle.std.specs.Prelude.{◌≡◌, ◌≢◌, ◌<◌, ◌≤◌, ◌++◌, ◌∷◌, [], ℕ, Option, Some, None, Result, Ok, Err}
+use Rattle.std.specs.Prelude.{◌≡◌, ◌≢◌, ◌<◌, ◌≤◌, ◌++◌, ◌∷◌, [], ℕ, Bool, Option, Some, None, Result, Ok, Err}
+use Rattle.std.specs.Bool.{MatchBool}
 use mathlib.Core.List.{IsPrefix}
 use Rattle.vm_core.specs.block_device.Counts.{HasRisen}
 use Rattle.vm_core.specs.block_device.DiskSeen.{DiskSeen}
@@ -53,6 +54,10 @@ pub record HasSeenMore (c d : CallerSeen) : Type 0 where
   pub seen : IsPrefix c.seat.seen d.seat.seen
   pub own : ShowsOwn d
   pub rest : d ≡ record c { seat = record c.seat { seen = d.seat.seen } }
+
+-- The caller of a child that was born has seen more, all that its parent's has seen among it; and where no child was born, it is as it was.
+abbrev pub SeesBirth : Bool → CallerSeen → CallerSeen → CallerSeen → Type 0
+SeesBirth born p c d = MatchBool born (HasSeenMore c d × IsPrefix p.seat.seen d.seat.seen) (d ≡ c)
 
 -- A transfer that this caller made for the call failed, with these counts: since then its note was emptied, and the note that was emptied last had the disk
 -- with the first count; the state that the caller left last has it home with the second.
@@ -111,7 +116,7 @@ abbrev pub IsTurn : CallerSeen → Call → CallerSeen → Turn → Type 0
 IsTurn c call d (Done r) = IsCallDone c call d r
 IsTurn c call d (Again why) = (d.seat.own ≡ c.seat.own) × IsForCall c.process call d.seat.note × HasCauseFor c call d why
 
--- Want of memory comes at a mapping call alone, and nothing was made.
+-- Want of memory comes at a call alone that takes memory (Map, Unmap, Protect and Fork), and nothing was made.
 pub record LacksMemory (c : CallerSeen) (call : Call) (d : CallerSeen) : Type 0 where
   pub takes : TakesMemory call
   pub none : d.seat.own ≡ c.seat.own

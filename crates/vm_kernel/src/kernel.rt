@@ -39,7 +39,7 @@ impl<D: Disk> VmKernel<D> {
     /// One turn at a call, without waiting: a transfer that is in hand ends, or the call is tried, and a transfer that it needs begins
     /// and is made. Where the lock is held then, the transfer stays in hand.
     ///
-    /// Takes memory for a mapping call alone.
+    /// Takes memory for Map, Unmap, Protect and Fork alone.
     pub fn turn(&self, caller: &mut Caller<D>, call: &Call) -> Result<Turn, AllocError>
         requires caller { IsCallerOf self.now caller.old }
         requires may { MayCall self.now caller.old call.now }
@@ -56,6 +56,33 @@ impl<D: Disk> VmKernel<D> {
             &mut caller.sent,
             call,
         )
+    }
+
+    /// One turn at a call, and where another caller holds it up, a rest until that one left the lock, or until somebody's transfer or
+    /// call ended. It waits, and takes memory for no more calls than a turn.
+    pub fn turn_and_rest<R: Wait>(
+        &self,
+        rt: &R,
+        caller: &mut Caller<D>,
+        call: &Call,
+    ) -> Result<Turn, AllocError>
+        requires caller { IsCallerOf self.now caller.old }
+        requires may { MayCall self.now caller.old call.now }
+        ensures caller { IsCallerOf self.now caller.new }
+        ensures goes { CallerGoesOn caller.old caller.new }
+        // As of a turn.
+        ensures turn { IfOk result (λ turn. IsTurn caller.old call.now caller.new turn) }
+        ensures err { OnErr result (LacksMemory caller.old call.now caller.new) }
+    {
+        let leaves = self.lock.leaves();
+        let changes = self.lock.changes();
+        let turn = self.turn(caller, call)?;
+        match turn {
+            Turn::Done(_) | Turn::Again(Why::Moved) => {}
+            Turn::Again(Why::LockHeld) => self.lock.rest(rt, leaves),
+            Turn::Again(_) => self.lock.rest_on_change(rt, changes),
+        }
+        Ok(turn)
     }
 
     /// Makes a call to its end: turns until there is a reply.
@@ -75,13 +102,9 @@ impl<D: Disk> VmKernel<D> {
     {
         caller.own_law();
         for _ in rt.forever() {
-            let leaves = self.lock.leaves();
-            let changes = self.lock.changes();
-            match self.turn(caller, call)? {
+            match self.turn_and_rest(rt, caller, call)? {
                 Turn::Done(reply) => return Ok(reply),
-                Turn::Again(Why::Moved) => {}
-                Turn::Again(Why::LockHeld) => self.lock.rest(rt, leaves),
-                Turn::Again(_) => self.lock.rest_on_change(rt, changes),
+                Turn::Again(_) => {}
             }
         }
         unreachable!()

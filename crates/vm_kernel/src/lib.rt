@@ -1,6 +1,7 @@
 //! The threads' calls: one state of the system behind one lock, and callers that make calls on it in turns.
 #![tactic(auto)]
 
+pub mod births;
 mod boxed;
 pub mod caller;
 mod closing;
