@@ -1,0 +1,90 @@
+-- The failures that marks name.
+use Rattle.std.proofs.Common.{◌≡◌, ◌≢◌, ℕ, ◌<◌, ◌≤◌, ◌+◌, ◌-◌, ◌^◌, min, Bool, true, false, Option, Some, None, refl, sym, ap, ◌∙◌, ◌⊎◌, inl, inr, subst, arith}
+use Rattle.std.proofs.lemmas.Bool.{cases_eq}
+use Rattle.flat_model.specs.Counted.{top_count}
+use Rattle.page_store.specs.block_device.Counts.{HasRisen}
+use Rattle.disk_marks.specs.declared.marks.Mark.TheVariants.{Held, Blank, Unsure}
+use Rattle.disk_marks.specs.declared.marks.MarkRow.{MarkRow}
+use Rattle.disk_marks.specs.declared.marks.Pushing.{Pushing}
+use Rattle.disk_marks.specs.Marks.{MarksSeen, HasRow, mark_row, push_of, with_mark_row}
+use Rattle.disk_marks.specs.Changes.{row_written, row_spoiled, row_raised}
+use Rattle.mark_laws.specs.MarksFit.{FailureFits, FailuresFit}
+use Rattle.mark_laws.specs.FailureLaws.{CountOn, FailuresLaw}
+use Rattle.mark_laws.proofs.Rows.{row-same, row-other}
+use Rattle.mark_laws.proofs.Words.{unsure-inj}
+
+-- no count fell
+kept : (old new : ℕ → Option ℕ) (m : MarksSeen) → CountOn old new → FailuresFit old m → FailuresFit new m
+kept old new m on fits disk block j before after is =
+    let f = fits disk block j before after is in
+    let more = on disk f.count f.counted in
+    let enough = f.enough in
+    let le = more.2 in
+    record { risen = f.risen; count = more.0; counted = more.1; enough = omega (arith, enough, le) }
+
+-- one row changed: what a failure says holds where the new row says it, and the others were there before
+module _ (faults : ℕ → Option ℕ) (m : MarksSeen) (disk block : ℕ) (row : MarkRow) (has : HasRow m disk block) (fits : FailuresFit faults m) where
+  with-row : ((j before after : ℕ) → row.mark ≡ Unsure j before after → FailureFits faults disk before after) → FailuresFit faults (with_mark_row m disk block row)
+  with-row new d b j before after is = elim (cases_eq d disk) [
+    | inl e ↦ elim (cases_eq b block) [
+      | inl c ↦
+          let here : mark_row (with_mark_row m disk block row) d b ≡ row =
+          ap (λ (k : ℕ). mark_row (with_mark_row m disk block row) k b) e ∙ ap (mark_row (with_mark_row m disk block row) disk) c ∙ row-same m disk block row has in
+          subst (λ (k : ℕ). FailureFits faults k before after) (sym e) (new j before after (sym (ap (λ (r : MarkRow). r.mark) here) ∙ is))
+      | inr ne ↦ other (λ _ same. ne same)
+    ]
+    | inr ne ↦ other (λ same _. ne same)
+  ]
+    where
+      other : ((d ≡ disk) → (b ≡ block) → ⊥) → FailureFits faults d before after
+      other far = fits d b j before after (sym (ap (λ (r : MarkRow). r.mark) (row-other m disk block d b row has far)) ∙ is)
+
+written : (faults : ℕ → Option ℕ) (m : MarksSeen) (seat disk block : ℕ) → HasRow m disk block → FailuresFit faults m
+    → FailuresFit faults (with_mark_row m disk block (row_written (push_of m seat) (mark_row m disk block)))
+written faults m seat disk block has fits = by_push (push_of m seat)
+  where
+    by_push : (p : Option Pushing) → FailuresFit faults (with_mark_row m disk block (row_written p (mark_row m disk block)))
+    by_push None = with-row faults m disk block (mark_row m disk block) has fits (λ j before after is. fits disk block j before after is)
+    by_push (Some push) = with-row faults m disk block (record { mark = Held push.from; pushed = push.whole }) has fits
+        (λ j before after is. absurd (let z : Held push.from ≡ Unsure j before after = is in cc))
+
+raised : (faults : ℕ → Option ℕ) (m : MarksSeen) (disk block i : ℕ) (blank : Bool) → HasRow m disk block → FailuresFit faults m
+    → FailuresFit faults (with_mark_row m disk block (row_raised blank i (mark_row m disk block)))
+raised faults m disk block i true has fits = with-row faults m disk block (row_raised true i (mark_row m disk block)) has fits
+    (λ j before after is. absurd (let z : Blank i ≡ Unsure j before after = is in cc))
+raised faults m disk block i false has fits = with-row faults m disk block (row_raised false i (mark_row m disk block)) has fits
+    (λ j before after is. absurd (let z : Held i ≡ Unsure j before after = is in cc))
+
+-- a count that rose by a failure: it is higher, or at the end of counts
+rise : (a b : ℕ) → HasRisen a b → a ≤ b → b ≤ top_count → (a < b) ⊎ ((a ≡ top_count) × (b ≡ top_count))
+rise a b risen later most = elim (cases_eq a top_count) [
+  | inl top ↦ inr (top, omega (arith, most, later, top))
+  | inr ne ↦ inl (lower a b risen later most ne)
+]
+  where
+    lower : (a b : ℕ) → HasRisen a b → a ≤ b → b ≤ top_count → a ≢ top_count → a < b
+    lower a b risen later most ne = elim (cases_eq a b) [
+      | inl same ↦ absurd (ne (let z : a ≡ 2 ^ 64 - 1 = omega (arith, risen, most, same) in z))
+      | inr far ↦ omega (arith, later, far)
+    ]
+
+spoiled : (faults : ℕ → Option ℕ) (m : MarksSeen) (disk block i before after : ℕ) → HasRow m disk block → FailuresFit faults m
+    → HasRisen before after → before ≤ after → after ≤ top_count → faults disk ≡ Some after
+    → FailuresFit faults (with_mark_row m disk block (row_spoiled i before after))
+spoiled faults m disk block i before after has fits risen later most counted = with-row faults m disk block (row_spoiled i before after) has fits
+    (λ j x y is. let same = unsure-inj i before after j x y is in
+    subst (λ (a : ℕ). FailureFits faults disk a y) same.1 (subst (λ (b : ℕ). FailureFits faults disk before b) same.2 (record {
+      risen = rise before after risen later most;
+      count = after;
+      counted = counted;
+      enough = omega arith;
+    })))
+
+pub failures_rule : FailuresLaw
+failures_rule = record {
+  keep = kept;
+  begins = λ faults m seat file page from fits. fits;
+  written = λ faults m seat disk block has fits. written faults m seat disk block has fits;
+  raised = λ faults m disk block j blank has fits. raised faults m disk block j blank has fits;
+  spoiled = λ faults m seat disk block j before after has fits risen later most counted. spoiled faults m disk block j before after has fits risen later most counted;
+}

@@ -1,0 +1,9 @@
+pub mod Rows
+pub mod Words
+pub mod FilesStay
+pub mod Spots
+pub mod Beginning
+pub mod Ending
+pub mod Rising
+pub mod Entered
+pub mod Failing

@@ -1,0 +1,40 @@
+-- Pages of files by flat memory, and what blocks have of them. Public clauses cite this.
+use Rattle.std.specs.Prelude.{◌≡◌, ℕ, Bool, true, List, [], take, Option, Some, option_map, option_and_then, unwrap_or, slice_get}
+use Rattle.std.specs.Option.{option_map_or}
+use Rattle.flat_model.specs.vm_types.Pages.{bytes_before}
+use Rattle.flat_model.specs.vm_types.declared.call.Entry.{Entry}
+use Rattle.flat_model.specs.vnode_files.Vnode.{page_blocks}
+use Rattle.flat_model.specs.Flat.{Flat}
+use Rattle.flat_model.specs.History.{replay}
+use Rattle.flat_model.specs.Words.{Page}
+use Rattle.page_store.specs.page_hash.declared.PageName.{PageName}
+use Rattle.page_store.specs.Bytes.{clip}
+
+-- Flat memory after the first so many entries.
+abbrev pub after_first : Flat → List Entry → ℕ → Flat
+after_first opening H j = replay opening (take j H)
+
+-- The page of a file; none past its end.
+abbrev pub file_page : Flat → PageName → Page
+file_page F name = unwrap_or (option_and_then (λ file. slice_get file.pages name.page) (slice_get F.files name.object)) []
+
+-- How many of its bytes lie before the file's end.
+abbrev pub bytes_there : Flat → PageName → ℕ
+bytes_there F name = option_map_or (λ file. bytes_before file.len name.page) (slice_get F.files name.object) 0
+
+-- The page up to the file's end, with zeros after it.
+abbrev pub page_there : Flat → PageName → Page
+page_there F name = clip (bytes_there F name) (file_page F name)
+
+-- The disk and the block of a page that a file keeps.
+abbrev pub disk_place : Flat → PageName → Option (ℕ × ℕ)
+disk_place F name = option_and_then (λ file. option_map (λ block. (file.disk, block)) (slice_get (page_blocks file.extents) name.page)) (slice_get F.files name.object)
+
+-- No two pages of files have one place.
+abbrev pub HavePlacesApart : Flat → Type 0
+HavePlacesApart F = (a b : PageName) (disk block : ℕ) → disk_place F a ≡ Some (disk, block) → disk_place F b ≡ Some (disk, block) → a ≡ b
+
+-- A block has a page up to the file's end, and zeros after it where its row says so.
+pub record HasPage (F : Flat) (name : PageName) (pushed : Bool) (block : List ℕ) : Type 0 where
+  pub same : clip (bytes_there F name) block ≡ page_there F name
+  pub rest : pushed ≡ true → block ≡ page_there F name

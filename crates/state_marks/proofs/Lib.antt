@@ -1,0 +1,6 @@
+pub mod Places
+pub mod Contents
+pub mod Moving
+pub mod OpeningRows
+pub mod Raised
+pub mod Failed

@@ -1,0 +1,2 @@
+pub mod StateMarks
+pub mod OpeningMarks
