@@ -2,10 +2,10 @@
 //! told of each act is worked out by hand.
 ghost use Rattle.std.specs.Prelude.{◌<◌, ◌≤◌};
 
-use crate::tests::Act::{Clock, Do, Land, Plan, Try};
+use crate::tests::Act::{Clock, Do, Land, Try};
 use crate::tests::What::{Exit, Fork, Load, New, Store, Unmap, Zero};
 use crate::tests::{NO_SWAP, STORED, make_all, swapping};
-use crate::trial::Told::{Done, Landed, Planned, Sent};
+use crate::trial::Told::{Done, Landed, Sent};
 use crate::trial::Trial;
 use block_device::DiskFault;
 use std::alloc::Global;
@@ -13,10 +13,10 @@ use std::test::Fail;
 use vm_types::Reply::{Mapped, Word};
 
 /// Process 2 is a child of process 1, and process 3 one of process 2.
-pub(crate) const LINE: [u32; 3] = [0, 1, 2];
+const LINE: [u32; 3] = [0, 1, 2];
 
 /// Processes 2 and 3 are children of process 1.
-pub(crate) const PAIR: [u32; 3] = [0, 1, 1];
+const PAIR: [u32; 3] = [0, 1, 1];
 
 /// Two private pages, one of which has a slot, and a shared page: a private one is of both until either stores, and a shared one stays so.
 fn pages_are_copied_late(trial: &mut Trial) -> Result<(), Fail> {
@@ -140,72 +140,9 @@ fn a_page_is_pushed_during_a_fork(trial: &mut Trial) -> Result<(), Fail> {
     )
 }
 
-/// Six pages through five frames, of which four at most have another page than the one that nobody uses: so each load brings one in, and the tenth at the latest takes the
-/// frame of that one.
-fn six_pages_are_used(trial: &mut Trial) -> Result<(), Fail> {
-    make_all(
-        trial,
-        &[
-            (Do(1, Load(0x2000)), Done(Word(0x55))),
-            (Do(1, Load(0x4000)), Done(Word(3))),
-            (Do(1, Load(0x5000)), Done(Word(4))),
-            (Do(1, Load(0x6000)), Done(Word(5))),
-            (Do(1, Load(0x7000)), Done(Word(6))),
-            (Do(1, Load(0x8000)), Done(Word(7))),
-        ],
-    )
-}
-
-/// A page of a parent is in swap alone, so that a load needs it. The child, a grandchild of who stored it, stores there: it gets a page of its own.
-fn a_grandchild_stores_into_a_page_in_swap(trial: &mut Trial) -> Result<(), Fail> {
-    six_pages_are_used(trial)?;
-    six_pages_are_used(trial)?;
-    make_all(
-        trial,
-        &[
-            (Plan(1, Load(0x3000)), Planned),
-            (Do(2, Store(0x3000, 0x77)), STORED),
-            (Do(1, Load(0x3000)), Done(Word(2))),
-            (Do(2, Load(0x3000)), Done(Word(0x77))),
-        ],
-    )
-}
-
 fn fork_during_transfers(trial: &mut Trial) -> Result<(), Fail> {
     a_parent_ends_during_a_read(trial)?;
-    a_page_is_pushed_during_a_fork(trial)?;
-    a_grandchild_stores_into_a_page_in_swap(trial)
-}
-
-/// Seven private pages through five frames, of which one is in swap alone. A process forks between the plan of a read of it and the read's begin: the plan is dropped,
-/// and both find the page.
-fn a_fork_drops_a_plan(trial: &mut Trial) -> Result<(), Fail> {
-    make_all(
-        trial,
-        &[
-            (Do(0, Zero(0x2000, 0x7000)), Done(Mapped(0x2000))),
-            (Do(0, Store(0x2000, 1)), STORED),
-            (Do(0, Store(0x3000, 2)), STORED),
-            (Do(0, Store(0x4000, 3)), STORED),
-            (Do(0, Store(0x5000, 4)), STORED),
-            (Do(0, Store(0x6000, 5)), STORED),
-            (Do(0, Store(0x7000, 6)), STORED),
-            (Do(0, Store(0x8000, 7)), STORED),
-            (Plan(0, Load(0x3000)), Planned),
-            (Do(0, Fork(2)), STORED),
-            // Its own child's load is planned as another one is born.
-            (Plan(1, Load(0x3000)), Planned),
-            (Do(0, Fork(3)), NO_SWAP),
-            (Do(0, Unmap(0x7000, 0x2000)), STORED),
-            (Do(1, Unmap(0x7000, 0x2000)), STORED),
-            (Plan(1, Load(0x3000)), Planned),
-            (Do(0, Fork(3)), STORED),
-            (Do(2, Store(0x3000, 9)), STORED),
-            (Do(1, Load(0x3000)), Done(Word(2))),
-            (Do(0, Load(0x3000)), Done(Word(2))),
-            (Do(2, Load(0x3000)), Done(Word(9))),
-        ],
-    )
+    a_page_is_pushed_during_a_fork(trial)
 }
 
 /// What is made with a state.
@@ -214,7 +151,6 @@ enum Acts {
     SharePages,
     AreRefused,
     ForkDuringTransfers,
-    DropPlan,
 }
 
 fn make(trial: &mut Trial, acts: Acts) -> Result<(), Fail> {
@@ -222,7 +158,6 @@ fn make(trial: &mut Trial, acts: Acts) -> Result<(), Fail> {
         Acts::SharePages => share_pages(trial),
         Acts::AreRefused => forks_are_refused(trial),
         Acts::ForkDuringTransfers => fork_during_transfers(trial),
-        Acts::DropPlan => a_fork_drops_a_plan(trial),
     }
 }
 
@@ -259,13 +194,6 @@ fn a_fork_that_is_refused_bears_nobody(rt: HostRuntime) -> Result<(), Fail> {
 #[test]
 fn processes_fork_and_end_during_transfers(rt: HostRuntime) -> Result<(), Fail> {
     let made = forked_and_closed(rt.alloc(), LINE, 16, Acts::ForkDuringTransfers)?;
-    assert_eq!(rt; made, (None, 34));
-    Ok(())
-}
-
-#[test]
-fn a_process_forks_between_a_plan_and_its_begin(rt: HostRuntime) -> Result<(), Fail> {
-    let made = forked_and_closed(rt.alloc(), PAIR, 16, Acts::DropPlan)?;
-    assert_eq!(rt; made, (None, 17));
+    assert_eq!(rt; made, (None, 19));
     Ok(())
 }

@@ -2,11 +2,7 @@
 #![tactic(auto)]
 
 #[cfg(test)]
-mod chance_tests;
-#[cfg(test)]
 mod fork_tests;
-#[cfg(test)]
-mod many_tests;
 #[cfg(test)]
 mod mapping_tests;
 #[cfg(test)]

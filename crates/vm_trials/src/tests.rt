@@ -116,7 +116,7 @@ fn started(alloc: Global) -> Result<Trial, Fail> {
         seats: 3,
     };
     match VmState::start(alloc, setup) {
-        Ok(state) => Trial::new(alloc, state, 3),
+        Ok(state) => Ok(Trial::new(state)),
         Err(_) => Err(Fail::new("no memory for the state")),
     }
 }
@@ -144,7 +144,7 @@ pub(crate) fn swapping(
         seats: 3,
     };
     match VmState::start(alloc, setup) {
-        Ok(state) => Trial::new(alloc, state, 3),
+        Ok(state) => Ok(Trial::new(state)),
         Err(_) => Err(Fail::new("no memory for the state")),
     }
 }
@@ -170,7 +170,7 @@ fn zeros(addr: u32, length: u32, kind: Kind) -> Call
     }
 }
 
-pub(crate) fn call_of(what: What) -> Call
+fn call_of(what: What) -> Call
     ensures { IsServed result }
 {
     match what {

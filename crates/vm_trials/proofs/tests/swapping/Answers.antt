@@ -14,4 +14,4 @@ start-requires-clause-files c =
     subst (λ (files : FilesSeen). FilesOnDisks files (pairs_seen (λ d. disk_of (look d)) c.new.result.items)) (sym c.new-2.ensures) (subst (λ (l : List (ℕ × MemDisk)). FilesOnDisks no_files (pairs_seen (λ d. disk_of (look d)) l)) (sym c.new.ensures.items) none-on-disks)
 
 pub new-requires-in-Ok : goal.new-requires-in-Ok
-new-requires-in-Ok c = trial-starts c.in-Ok.state _ 3 c.in-Ok.ensures.fits c.in-Ok.ensures.opening.history c.in-Ok.ensures.made.seats
+new-requires-in-Ok c = trial-starts c.in-Ok.state _ c.in-Ok.ensures.fits c.in-Ok.ensures.opening.history c.in-Ok.ensures.made.seats
