@@ -26,3 +26,7 @@ invariant_of-self-in-Busy c =
 pub send-requires-clause-trial : goal.send-requires-clause-trial
 send-requires-clause-trial c =
     trial-answered c.self.inside.state c.try_call.new.self c.self.inside.trips c.args.seat _ c.args.call.now _ c.self.invariant (c.is_idle.ensures c.if-not-is_idle.false).1 c.requires c.try_call.ensures.event c.in_ok-reply.ensures.answers
+
+pub invariant_of-self-then-not-begins : goal.invariant_of-self-then-not-begins
+invariant_of-self-then-not-begins c =
+    trial-answered c.self.inside.state c.try_call.new.self c.self.inside.trips c.args.seat _ c.args.call.now _ c.self.invariant (c.is_idle.ensures c.if-not-is_idle.false).1 c.requires c.try_call.ensures.event c.in_ok-reply.ensures.answers
