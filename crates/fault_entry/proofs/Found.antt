@@ -1,4 +1,5 @@
 -- The segment that a space has at a page.
+use Rattle.seg_vn.proofs.flat_model.Histories.{io_aside as both-left}
 use Rattle.std.proofs.Common.{◌≡◌, ℕ, ◌+◌, ◌-◌, ◌≤◌, Bool, true, false, cond, List, [], ◌∷◌, Some, None, refl, sym, ap, ◌∙◌, inl, inr, subst}
 use Rattle.std.specs.Prelude.{option_map, option_and_then, nat_lt, nat_le, ◌&&◌}
 use Rattle.std.specs.FinMap as finite
@@ -14,10 +15,6 @@ spot-found spaces p q first pages seg ps e found = ap (option_and_then (λ (xs :
 
 pub spot-none : (spaces : Spaces) (p q : ℕ) (ps : List (Part Segment)) → finite.get spaces p ≡ Some ps → part_at ps q ≡ None → spot_at spaces p q ≡ None
 spot-none spaces p q ps e none = ap (option_and_then (λ (xs : List (Part Segment)). parts.piece_at xs q)) e ∙ ap (option_map (λ (r : Part Segment). (r.piece, q - r.first))) none
-
-both-left : (a b : Bool) → (a && b) ≡ true → a ≡ true
-both-left true b h = refl
-both-left false b h = absurd (let z : false ≡ true = h in cc)
 
 pub found-low : (ps : List (Part Segment)) (q : ℕ) (r : Part Segment) → part_at ps q ≡ Some r → r.first ≤ q
 found-low [] q r h = absurd (cc)

@@ -24,7 +24,7 @@ files_alike s t (file ∷ fs) alike =
     let rest = files_alike (λ k. s (suc k)) (λ k. t (suc k)) fs (λ f lt. alike (suc f) (omega arith)) in
     λ i. first i ∷ rest i
 
-files_none : (fs : List File) → files_cleared (λ f. false) fs ≡ fs
+pub files_none : (fs : List File) → files_cleared (λ f. false) fs ≡ fs
 files_none [] = refl
 files_none (file ∷ fs) = ap (λ (gs : List File). file ∷ gs) (files_none fs)
 

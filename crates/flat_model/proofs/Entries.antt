@@ -1,4 +1,5 @@
 -- Entries of a finite map in the order of their keys: which keys are found, and which values pass a test.
+use Rattle.flat_model.proofs.Ranges.{eqb-apart}
 use Rattle.std.proofs.Common.{◌≡◌, ℕ, ◌+◌, ◌<◌, ◌≤◌, Bool, true, false, cond, ◌&&◌, ◌||◌, T, eqb, List, [], ◌∷◌, map, Some, None, refl, sym, ap, ◌∙◌, inl, inr, arith, Less, Equal, Greater}
 use Rattle.std.specs.Prelude.{nat_lt}
 use Rattle.std.specs.List.{list_any}
@@ -13,9 +14,6 @@ use Rattle.std.proofs.lemmas.Bool.{cases_eq, ltb-true, eqb-true, eq-eqb}
 abbrev pub Above : {X : Type 0} → ℕ → List (ℕ × X) → Type 0
 Above a [] = Unit {0}
 Above a (e ∷ es) = (a ≤ e.0) × Above (e.0 + 1) es
-
-eqb-apart : (q k : ℕ) → (q ≡ k → ⊥) → eqb q k ≡ false
-eqb-apart q k apart = elim (eqb q k) as (λ b. eqb q k ≡ b → b ≡ false) [ true ↦ λ is. absurd (apart (eqb-true q k is)) | false ↦ λ is. refl ] refl
 
 -- a key that isn't the first is looked for in the rest
 pub find_rest : {X : Type 0} (q : ℕ) (e : ℕ × X) (es : List (ℕ × X)) → (q ≡ e.0 → ⊥) → finite.find nat_cmp q (e ∷ es) ≡ finite.find nat_cmp q es

@@ -72,7 +72,7 @@ record Kept (F G : Flat) (p : ℕ) (births : ℕ → Bool) (gone : ℕ → Bool)
 abbrev nobody : ℕ → Bool
 nobody x = false
 
-or_nothing : (b : Bool) → b ≡ (b || false)
+pub or_nothing : (b : Bool) → b ≡ (b || false)
 or_nothing true = refl
 or_nothing false = refl
 

@@ -13,7 +13,7 @@ test_some : (t : Bool) (a b : ℕ) (r : Option ℕ) → cond t (Some a) r ≡ So
 test_some true a b r is = inl (refl, cc)
 test_some false a b r is = inr (refl, is)
 
-test_none : (t : Bool) (a : ℕ) (r : Option ℕ) → cond t (Some a) r ≡ None → (t ≡ false) × (r ≡ None)
+pub test_none : (t : Bool) (a : ℕ) (r : Option ℕ) → cond t (Some a) r ≡ None → (t ≡ false) × (r ≡ None)
 test_none true a r is = absurd cc
 test_none false a r is = (refl, is)
 

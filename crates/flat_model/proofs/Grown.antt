@@ -93,12 +93,12 @@ at-spans (p ∷ ps) from to (suc i) =
     at-spans ps (from - 4096) (to - 4096) i ∙ (λ j. option_map (zeros_between (a j) (b j)) (slice_get ps i))
 
 -- LONGER
-slice_get-append_left : {A : Type 0} (xs ys : List A) (i : ℕ) → i < length xs → slice_get (xs ++ ys) i ≡ slice_get xs i
+pub slice_get-append_left : {A : Type 0} (xs ys : List A) (i : ℕ) → i < length xs → slice_get (xs ++ ys) i ≡ slice_get xs i
 slice_get-append_left [] ys i lt = absurd (omega arith)
 slice_get-append_left (x ∷ xs) ys zero lt = refl
 slice_get-append_left (x ∷ xs) ys (suc i) lt = slice_get-append_left xs ys i (omega arith)
 
-slice_get-append_right : {A : Type 0} (xs ys : List A) (i : ℕ) → length xs ≤ i → slice_get (xs ++ ys) i ≡ slice_get ys (i - length xs)
+pub slice_get-append_right : {A : Type 0} (xs ys : List A) (i : ℕ) → length xs ≤ i → slice_get (xs ++ ys) i ≡ slice_get ys (i - length xs)
 slice_get-append_right [] ys i le = let same : i ≡ i - 0 = omega arith in ap (slice_get ys) same
 slice_get-append_right (x ∷ xs) ys zero le = absurd (omega arith)
 slice_get-append_right (x ∷ xs) ys (suc i) le = let same : i - length xs ≡ suc i - suc (length xs) = omega arith in slice_get-append_right xs ys i (omega arith) ∙ ap (slice_get ys) same

@@ -1,7 +1,7 @@
 -- Histories with one entry more.
 use Rattle.std.proofs.Common.{◌≡◌, ℕ, zero, suc, ◌<◌, ◌⊎◌, Bool, true, false, not, ◌&&◌, List, [], ◌∷◌, ◌++◌, length, Option, Some, None, refl, sym, ap, subst, ◌∙◌, inl, inr, arith}
 use Rattle.std.specs.Prelude.{◌==◌, slice_get, is_none, IsTrue, MatchOption, MatchBool, if◌then◌else◌}
-use Rattle.std.proofs.lemmas.Bool.{eqb-true, eq-eqb}
+use Rattle.std.proofs.lemmas.Bool.{eqb-true, eq-eqb, and_left as other_part}
 use Rattle.std.proofs.lemmas.Option.{slice_get_within}
 use Rattle.vm_types.specs.declared.call.Call.{Call}
 use Rattle.vm_types.specs.declared.call.Call.TheVariants.{Load, Store, Map, Unmap, Protect, Sync, Read, Write, Truncate, Fork, Exit}
@@ -213,7 +213,7 @@ of_kept f e H is h = elim (part_or_last e.call e.reply f (file_of_call-is f e is
   | inr last ↦ of_none (part_file e.call) (λ g. MatchBool (ends_call e.call e.reply) (Unit {0}) (IsNextOwn g e.process H)) last.0
 ]
 
-io_aside : (a b : Bool) → (a && b) ≡ true → a ≡ true
+pub io_aside : (a b : Bool) → (a && b) ≡ true → a ≡ true
 io_aside true b is = refl
 io_aside false b is = is
 
@@ -223,9 +223,6 @@ taken a b is other = rw (is, other) refl
 passed : (a b : Bool) → b ≡ true → (a && not b) ≡ false
 passed true b is = rw is refl
 passed false b is = refl
-
-other_part : (a b : Bool) → a ≡ false → (a && b) ≡ false
-other_part a b is = rw is refl
 
 -- the three ways in which an entry meets a file: it is no call of it, it stands aside, or it is the next call
 abbrev pub Meets : ℕ → Option ℕ → Entry → Type 0

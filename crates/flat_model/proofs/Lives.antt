@@ -1,9 +1,10 @@
 -- Who is born and who is alive, over a history.
+use Rattle.flat_model.proofs.Named.{or_assoc}
 use Rattle.std.proofs.Common.{◌≡◌, ℕ, ◌||◌, Bool, true, false, List, [], ◌∷◌, ◌++◌, None, refl, sym, ap, subst, ◌∙◌, inl, inr}
 use Rattle.std.specs.Prelude.{All, IsTrue, is_some}
 use Rattle.std.specs.List.{list_any}
 use Rattle.std.specs.FinSet as set
-use Rattle.std.proofs.lemmas.Bool.{cases_eq}
+use Rattle.std.proofs.lemmas.Bool.{cases_eq, or_left as or_first, or_right as or_second}
 use Rattle.vm_types.specs.declared.call.Call.{Call}
 use Rattle.vm_types.specs.declared.call.Call.TheVariants.{Exit}
 use Rattle.vm_types.specs.declared.call.Entry.{Entry}
@@ -18,18 +19,6 @@ use Rattle.flat_model.proofs.Replays.{Steps-split}
 use Rattle.flat_model.proofs.BirthTests.{is_birth-is}
 use Rattle.flat_model.proofs.Frames.{StepFrame-step}
 use Rattle.flat_model.proofs.WellFormed.{Each, All-Each}
-
-or_first : (a b : Bool) → a ≡ true → (a || b) ≡ true
-or_first true b is = refl
-or_first false b is = absurd cc
-
-or_second : (a b : Bool) → b ≡ true → (a || b) ≡ true
-or_second true b is = refl
-or_second false b is = is
-
-or_assoc : (a b c : Bool) → ((a || b) || c) ≡ (a || (b || c))
-or_assoc true b c = refl
-or_assoc false b c = refl
 
 -- who is alive was born, also after a step
 pub AreBorn-step : (F : Flat) (e : Entry) → AreBorn F → IsStep F e → AreBorn (step F e)

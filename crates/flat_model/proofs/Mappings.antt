@@ -1,4 +1,5 @@
 -- What a Map that isn't refused leaves.
+use Rattle.flat_model.proofs.Stores.{need_ok, ok_or_ok, pair_ok}
 use Rattle.std.proofs.Common.{◌≡◌, ℕ, ◌+◌, ◌-◌, Bool, true, false, cond, Option, Some, None, Result, Ok, refl, sym, ap, subst, ◌∙◌}
 use Rattle.std.specs.Prelude.{nat_le, ok_or, option_and_then, unwrap_or}
 use Rattle.std.specs.FinMap as map
@@ -30,19 +31,6 @@ pub record Mapped (F : Flat) (p : ℕ) (r : Request) (first : ℕ) (G : Flat) : 
   pub first_is : first_page (cells_of (without_replaced F p r.place (pages_in r.len)) p) r.place (pages_in r.len) ≡ Some first
   pub backed : nat_le (reserved G) F.slots ≡ true
   pub after : G ≡ with_mapping F p r first
-
-need_ok : {E A : Type 0} (b : Bool) (e : E) (r : Result A E) (y : A) → (check b e >> r) ≡ Ok y → (b ≡ true) × (r ≡ Ok y)
-need_ok true e r y is = (refl, is)
-need_ok false e r y is = absurd cc
-
-ok_or_ok : {E A B : Type 0} (o : Option A) (e : E) (f : A → Result B E) (y : B) → (ok_or o e >>= f) ≡ Ok y → (x : A) × (o ≡ Some x) × (f x ≡ Ok y)
-ok_or_ok None e f y is = absurd cc
-ok_or_ok (Some x) e f y is = (x, refl, is)
-
-pair_ok : {A B E : Type 0} (x c : A) (y d : B) → ◌≡◌ {A = Result (A × B) E} (Ok (x, y)) (Ok (c, d)) → (x ≡ c) × (y ≡ d)
-pair_ok {A} {B} x c y d is =
-    let both : ◌≡◌ {A = A × B} (x, y) (c, d) = cc in
-    (ap (λ (w : A × B). w.0) both, ap (λ (w : A × B). w.1) both)
 
 abbrev Answer : Type 0
 Answer = Result (ℕ × Flat) Errno

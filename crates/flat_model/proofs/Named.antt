@@ -9,14 +9,14 @@ use Rattle.std.proofs.lemmas.Bool.{eqb-true, eq-eqb, cases_eq}
 use Rattle.flat_model.specs.Flat.{Cell, Space, Flat, space_of, cell_at, zero_of, named_zeros, is_named, without_unnamed}
 use Rattle.flat_model.specs.Mapping.{least_from, set_of, new_number}
 use Rattle.flat_model.specs.NamedLaws.{IsNamed, NamedZeros}
-use Rattle.flat_model.proofs.Ranges.{get-retain_keys, get-insert}
+use Rattle.flat_model.proofs.Ranges.{get-retain_keys, get-insert, eqb-apart as not_eq}
 use Rattle.flat_model.proofs.Entries.{Above, Above-entries, find_rest, find_below, first_found, any_value, value_of_any}
 
 -- the cell names the zero object
 abbrev pub names : ℕ → Cell → Bool
 names z c = option_map_or (λ y. z == y) (zero_of c) false
 
-or_assoc : (a b c : Bool) → ((a || b) || c) ≡ (a || (b || c))
+pub or_assoc : (a b c : Bool) → ((a || b) || c) ≡ (a || (b || c))
 or_assoc true b c = refl
 or_assoc false b c = refl
 
@@ -36,7 +36,7 @@ any-filter_map : (z : ℕ) (cs : List Cell) → list_any (λ y. z == y) (filter_
 any-filter_map z [] = refl
 any-filter_map z (c ∷ cs) = any-cons_option (λ y. z == y) (zero_of c) (filter_map zero_of cs) ∙ ap (λ b. names z c || b) (any-filter_map z cs)
 
-any_alike : {X : Type 0} (s t : X → Bool) (xs : List X) → ((x : X) → s x ≡ t x) → list_any s xs ≡ list_any t xs
+pub any_alike : {X : Type 0} (s t : X → Bool) (xs : List X) → ((x : X) → s x ≡ t x) → list_any s xs ≡ list_any t xs
 any_alike s t [] alike = refl
 any_alike s t (x ∷ xs) alike = ap (λ b. b || list_any s xs) (alike x) ∙ ap (λ b. t x || b) (any_alike s t xs alike)
 
@@ -90,9 +90,6 @@ found_number numbers q = ap is_some (sym (finite.get-entries (set_of numbers) q)
 
 abbrev keys_in : List (ℕ × Unit {0}) → List ℕ
 keys_in es = map (λ e. e.0) es
-
-not_eq : (x y : ℕ) → (x ≡ y → ⊥) → eqb x y ≡ false
-not_eq x y apart = elim (eqb x y) as (λ b. eqb x y ≡ b → b ≡ false) [ true ↦ λ is. absurd (apart (eqb-true x y is)) | false ↦ λ is. refl ] refl
 
 -- the number found: from k on, not among the numbers, and each from k below it is among them
 record IsLeast (k r : ℕ) (es : List (ℕ × Unit {0})) : Type 0 where

@@ -13,7 +13,7 @@ use Rattle.vm_types.specs.Parts.{next_part, part_file, file_of_call, is_part, en
 use Rattle.flat_model.specs.History.{KeepsParts, is_of_file, is_io, is_aside, IsNextOwn}
 use Rattle.flat_model.specs.HistoryLaws.{open_after, open_from, open_call, IsNextPart}
 use Rattle.flat_model.specs.OpenLaws.{last_entry, IsOpenPart, FollowsOn, MayFollow, EndsCalls, OpenCalls}
-use Rattle.flat_model.proofs.Histories.{KeepsParts-front, file_of_call-is, is_of_file-is, part_is_call, part_or_last, ends_call-io, meets, next_holder}
+use Rattle.flat_model.proofs.Histories.{KeepsParts-front, file_of_call-is, is_of_file-is, part_is_call, part_or_last, ends_call-io, meets, next_holder, io_aside as io_of_aside}
 use Rattle.flat_model.proofs.Replays.{on_front}
 use Rattle.flat_model.proofs.Frames.{there, the_one}
 
@@ -47,19 +47,19 @@ EndsCalls-push H e ends may front rest d is = elim (last_of rest) [
 ]
 
 -- NEXT PARTS
-chosen : (a b c : Bool) (x n : Call) → (if a then None else if b then None else if c then None else Some x) ≡ Some n → x ≡ n
+pub chosen : (a b c : Bool) (x n : Call) → (if a then None else if b then None else if c then None else Some x) ≡ Some n → x ≡ n
 chosen true b c x n is = absurd cc
 chosen false true c x n is = absurd cc
 chosen false false true x n is = absurd cc
 chosen false false false x n is = cc
 
-chosen_two : (b c : Bool) (x n : Call) → (if b then None else if c then None else Some x) ≡ Some n → x ≡ n
+pub chosen_two : (b c : Bool) (x n : Call) → (if b then None else if c then None else Some x) ≡ Some n → x ≡ n
 chosen_two true c x n is = absurd cc
 chosen_two false true x n is = absurd cc
 chosen_two false false x n is = cc
 
 -- the next part of a call is a part of its file
-next_of_file : (c : Call) (r : Reply) (bytes : List ℕ) (n : Call) → next_part c r bytes ≡ Some n → part_file n ≡ part_file c
+pub next_of_file : (c : Call) (r : Reply) (bytes : List ℕ) (n : Call) → next_part c r bytes ≡ Some n → part_file n ≡ part_file c
 unfolding next_part
 next_of_file (Read file offset len) (reply.Bytes line) bytes n is =
     let same : Read file (offset + length line) (len - length line) ≡ n = chosen (is_short offset len (length line)) (len - length line == 0) (is_past_numbers (offset + length line)) (Read file (offset + length line) (len - length line)) n is in
@@ -102,10 +102,6 @@ not_of_file f H e p by may mine still =
 
 some_same : (p q : ℕ) (o : Option ℕ) → o ≡ Some p → o ≡ Some q → p ≡ q
 some_same p q o one two = let both : Some p ≡ Some q = sym one ∙ two in cc
-
-io_of_aside : (a b : Bool) → (a && b) ≡ true → a ≡ true
-io_of_aside true b is = refl
-io_of_aside false b is = absurd cc
 
 apart_of_aside : (a b : Bool) → (a && not b) ≡ true → b ≡ false
 apart_of_aside true true is = absurd cc

@@ -22,7 +22,7 @@ get-insert m k v q = finite.get-insert nat_cmp_total m k v q ∙ ap (λ b. cond 
 pub get-insert_here : {X : Type 0} (m : finite.FinMap nat_cmp X) (k : ℕ) (v : X) → finite.get (finite.insert m k v) k ≡ Some v
 get-insert_here m k v = get-insert m k v k ∙ ap (λ b. cond b (Some v) (finite.get m k)) (eq-eqb k k refl)
 
-eqb-apart : (q k : ℕ) → (q ≡ k → ⊥) → eqb q k ≡ false
+pub eqb-apart : (q k : ℕ) → (q ≡ k → ⊥) → eqb q k ≡ false
 eqb-apart q k apart = elim (eqb q k) as (λ b. eqb q k ≡ b → b ≡ false) [ true ↦ λ is. absurd (apart (eqb-true q k is)) | false ↦ λ is. refl ] refl
 
 pub get-insert_apart : {X : Type 0} (m : finite.FinMap nat_cmp X) (k : ℕ) (v : X) (q : ℕ) → (q ≡ k → ⊥) → finite.get (finite.insert m k v) q ≡ finite.get m q
@@ -38,7 +38,7 @@ get-remove_here m k = finite.get-remove nat_cmp_total m k k ∙ ap (λ b. cond b
 pub get-retain_keys : {X : Type 0} (m : finite.FinMap nat_cmp X) (p : ℕ → Bool) (q : ℕ) → finite.get (finite.retain_keys m p) q ≡ cond (p q) (finite.get m q) None
 get-retain_keys m p q = finite.get-retain_keys m p q (λ x tied. ap p (sym (finite.nat_cmp-IsAntisymmetric q x tied)))
 
-same_value : {X : Type 0} (b : Bool) (x r : Option X) → (b ≡ true → r ≡ x) → cond b x r ≡ r
+pub same_value : {X : Type 0} (b : Bool) (x r : Option X) → (b ≡ true → r ≡ x) → cond b x r ≡ r
 same_value true x r h = sym (h refl)
 same_value false x r h = refl
 
@@ -65,7 +65,7 @@ turned false x = refl
 pub get-without_range : (s : Space) (first n q : ℕ) → finite.get (without_range s first n) q ≡ cond (is_in_range first n q) None (finite.get s q)
 get-without_range s first n q = get-retain_keys s (λ x. not (is_in_range first n x)) q ∙ turned (is_in_range first n q) (finite.get s q)
 
-shadowed : {A : Type 0} (b : Bool) (x y z : Option A) → cond b x (cond b y z) ≡ cond b x z
+pub shadowed : {A : Type 0} (b : Bool) (x y z : Option A) → cond b x (cond b y z) ≡ cond b x z
 shadowed true x y z = refl
 shadowed false x y z = refl
 
@@ -97,7 +97,7 @@ map_cond : {X : Type 0} (b : Bool) (x : X) (y : X) (r s : Option X) → (b ≡ t
 map_cond true x y r s h e = ap (λ z. Some z) (h refl)
 map_cond false x y r s h e = e
 
-option_map-cond : {X Y : Type 0} (f : X → Y) (b : Bool) (x : X) (r : Option X) → cond b (Some (f x)) (option_map f r) ≡ option_map f (cond b (Some x) r)
+pub option_map-cond : {X Y : Type 0} (f : X → Y) (b : Bool) (x : X) (r : Option X) → cond b (Some (f x)) (option_map f r) ≡ option_map f (cond b (Some x) r)
 option_map-cond f true x r = refl
 option_map-cond f false x r = refl
 
@@ -124,7 +124,7 @@ in_range-low first n q is = grind (arith, nat_tests)
 pub in_range-high : (first n q : ℕ) → is_in_range first n q ≡ true → q < first + n
 in_range-high first n q is = grind (arith, nat_tests)
 
-both_true : (a b : Bool) → (a && b) ≡ true → (a ≡ true) × (b ≡ true)
+pub both_true : (a b : Bool) → (a && b) ≡ true → (a ≡ true) × (b ≡ true)
 both_true true true is = (refl, refl)
 both_true true false is = absurd cc
 both_true false b is = absurd cc

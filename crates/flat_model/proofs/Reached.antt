@@ -1,4 +1,5 @@
 -- Flat memory that a history reaches.
+use Rattle.vnode_files.proofs.GrowLemmas.{some_of}
 use Rattle.std.proofs.Common.{◌≡◌, ℕ, ◌+◌, ◌*◌, ◌<◌, ◌≤◌, ◌||◌, Bool, true, false, cond, List, [], ◌∷◌, length, map, Option, Some, None, Result, Ok, Err, refl, sym, ap, subst, ◌∙◌, inl, inr, arith}
 use Rattle.std.specs.Prelude.{nat_le, is_some, IsSome, option_and_then, sum_by}
 use Rattle.std.specs.Ordering.{nat_cmp, is_eq, eq_by_cmp}
@@ -43,7 +44,7 @@ use Rattle.flat_model.proofs.Sums.{total}
 use Rattle.std.proofs.lemmas.List.Sums.{sum_by-cons}
 use Rattle.flat_model.proofs.Mappings.{mapped-map_result}
 use Rattle.flat_model.proofs.Reserve.{unswept, put_in, names_from, names_before, names_before_exit, forked_names, spaces_put_in, named_by_spaces, zeros_cleared, reserved-unmap, reserved-fork, reserved-exit}
-use Rattle.flat_model.proofs.ReserveKept.{named-alike, alike_cell, alike_prots, reserved-others}
+use Rattle.flat_model.proofs.ReserveKept.{named-alike, alike_cell, alike_prots, reserved-others, by_signal, by_refusal}
 use Rattle.flat_model.proofs.Frames.{StepFrame-step, child_none}
 use Rattle.flat_model.proofs.Lives.{AreBorn-step}
 
@@ -128,15 +129,6 @@ stored_alone F p q c new alone alive at = elim c.kind as (λ k. NamedAlone (elim
   | Private ↦ λ z. alone z ∙ sym (named-alike F p (finite.insert (cells_of F p) q (record c { own = Some new })) (alike_cell F p q c (record c { own = Some new }) at refl refl) z)
 ]
 
--- CALLS
-by_signal : {A : Type 0} (P : Flat → Type 0) (F : Flat) (acts : A → Effect) (r : Result A Signal) → P F → ((x : A) → r ≡ Ok x → P (acts x).after) → P (or_signal F acts r).after
-by_signal P F acts (Ok x) none some = some x refl
-by_signal P F acts (Err s) none some = none
-
-by_refusal : {A : Type 0} (P : Flat → Type 0) (F : Flat) (acts : A → Effect) (r : Result A Errno) → P F → ((x : A) → r ≡ Ok x → P (acts x).after) → P (or_refused F acts r).after
-by_refusal P F acts (Ok x) none some = some x refl
-by_refusal P F acts (Err e) none some = none
-
 effect_alone : (F : Flat) (p : ℕ) (call : Call) → NamedAlone F → IsSome (space_of F p) → ((child : ℕ) → call ≡ Fork child → space_of F child ≡ None) → NamedAlone (effect F p call).after
 effect_alone F p (Load a n) alone alive unborn = by_signal NamedAlone F (λ m. record { reply = reply.Word (word_at m.1 a n); after = F }) (access_target F p can_read a n) alone (λ m is. alone)
 effect_alone F p (Store a n v) alone alive unborn = by_signal NamedAlone F (λ m. done_effect (with_page_stored F p (page a) m.0 (word_put m.1 a n v))) (access_target F p can_write a n) alone (λ m is. stored_alone F p (page a) m.0 (word_put m.1 a n v) alone alive (is_met F p can_write a n m.0 m.1 is).cell)
@@ -214,10 +206,6 @@ empty_found (r ∷ roots) p space is = elim (is_eq (nat_cmp p r)) as (λ b. cond
 
 space_empty : (slots : ℕ) (disks : finite.FinMap nat_cmp ℕ) (files : List File) (roots : List ℕ) (p : ℕ) (space : Space) → space_of (flat_at_opening slots disks files roots) p ≡ Some space → (space ≡ finite.empty) × (list_any (eq_by_cmp nat_cmp p) roots ≡ true)
 space_empty slots disks files roots p space is = empty_found roots p space (sym (finite.get-from_entries nat_cmp_total (map (λ r. (r, finite.empty)) roots) p) ∙ is)
-
-some_of : {X : Type 0} (o : Option X) → is_some o ≡ true → (x : X) × (o ≡ Some x)
-some_of None is = absurd cc
-some_of (Some x) is = (x, refl)
 
 opening_none : (slots : ℕ) (disks : finite.FinMap nat_cmp ℕ) (files : List File) (roots : List ℕ) (p q : ℕ) (c : Cell) → cell_at (flat_at_opening slots disks files roots) p q ≡ Some c → ⊥
 opening_none slots disks files roots p q c at = by_space (space_of F p) refl at

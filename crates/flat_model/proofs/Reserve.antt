@@ -6,7 +6,7 @@ use Rattle.std.specs.Ordering.{nat_cmp}
 use Rattle.std.specs.Cmp.{nat_cmp_total}
 use Rattle.std.specs.FinMap as map
 use Rattle.std.specs.FinSet as set
-use Rattle.std.proofs.lemmas.Bool.{cases_eq, eqb-true, eq-eqb}
+use Rattle.std.proofs.lemmas.Bool.{cases_eq, eqb-true, eq-eqb, or_left as or_first, or_right as or_second}
 use Rattle.std.proofs.lemmas.List.{length-replicate}
 use Rattle.vm_types.specs.declared.call.Kind.{Kind}
 use Rattle.vm_types.specs.declared.call.Kind.TheVariants.{Shared, Private}
@@ -22,7 +22,7 @@ use Rattle.flat_model.specs.Mapping.{Request, cells_of, is_valid, is_place, is_t
 use Rattle.flat_model.specs.Processes.{with_child, without_process}
 use Rattle.flat_model.specs.Births.{AreBorn}
 use Rattle.flat_model.specs.ReserveLaws.{IsPlaced, zero_pages_gone, private_cells_at, zero_pages_back}
-use Rattle.flat_model.proofs.Ranges.{get-insert, get-insert_here, get-insert_apart, get-remove_here, get-remove_apart, get-retain_keys, insert_same, get-with_cells, get-without_range, with_cells-without_range, without_range-free, in_range-is, in_range-low, in_range-high}
+use Rattle.flat_model.proofs.Ranges.{get-insert, get-insert_here, get-insert_apart, get-remove_here, get-remove_apart, get-retain_keys, insert_same, get-with_cells, get-without_range, with_cells-without_range, without_range-free, in_range-is, in_range-low, in_range-high, shadowed as over, both_true}
 use Rattle.flat_model.proofs.Sums.{total, total-insert, total-insert_over, total-remove, total-retain_keys, total-without_range, total-with_cells, sum_to, sum_to-same}
 use Rattle.flat_model.proofs.Gap.{gap-free}
 use Rattle.flat_model.proofs.Named.{named_zeros-from_cell, named_zeros-to_cell, new_number-new}
@@ -116,13 +116,6 @@ names_stay F p first n z s cell is =
 named_zeros-same : (F : Flat) (p first n : ℕ) (s : Space) (cell : ℕ → Cell) → ((i z : ℕ) → zero_of (cell i) ≡ Some z → is_named (with_space F p (without_range s first n)) z ≡ true) → (z : ℕ) → is_named (with_space F p (with_cells s first n cell)) z ≡ is_named (with_space F p (without_range s first n)) z
 named_zeros-same F p first n s cell each z = same_tests _ _ (λ is. names_from F p first n z s cell (is_named (with_space F p (without_range s first n)) z ≡ true) is (λ i. each i z) (λ old. old)) (names_stay F p first n z s cell)
 
-or_first : (a b : Bool) → a ≡ true → (a || b) ≡ true
-or_first a b is = rw is refl
-
-or_second : (a b : Bool) → b ≡ true → (a || b) ≡ true
-or_second true b is = refl
-or_second false b is = is
-
 or_cases : (a b : Bool) (P : Type 0) → (a || b) ≡ true → (a ≡ true → P) → (b ≡ true → P) → P
 or_cases true b P is left right = left refl
 or_cases false b P is left right = right is
@@ -139,10 +132,6 @@ named_zeros-more F p first n k s cell some each z = same_tests _ _
     let stands : map.get (with_cells s first n cell) first ≡ Some (cell (first - first)) = get-with_cells s first n cell first ∙ ap (λ b. cond b (Some (cell (first - first))) (map.get s first)) inside in
     named_zeros-from_cell (with_space F p (with_cells s first n cell)) p first z (cell (first - first)) (cell_at-here F p first (with_cells s first n cell) ∙ stands) (each (first - first) ∙ ap (λ x. Some x) (sym (eqb-true z k same))))
     (names_stay F p first n z s cell))
-
-over : {X : Type 0} (b : Bool) (x y z : Option X) → cond b x (cond b y z) ≡ cond b x z
-over true x y z = refl
-over false x y z = refl
 
 insert_twice : {X : Type 0} (m : map.FinMap nat_cmp X) (k : ℕ) (v w : X) → map.insert (map.insert m k v) k w ≡ map.insert m k w
 insert_twice m k v w = same_maps _ _ (λ q. get-insert (map.insert m k v) k w q ∙ ap (cond (eqb q k) (Some w)) (get-insert m k v q) ∙ over (eqb q k) (Some w) (Some v) (map.get m q) ∙ sym (get-insert m k w q))
@@ -210,11 +199,6 @@ reserved_put_in F p r first alive is =
 
 reserved_taken_out : (F : Flat) (p : ℕ) (r : Request) (first : ℕ) → reserved (without_pages F p first (pages_in r.len)) ≡ total private_cells (taken_out F p r first).spaces + total length (map.retain_keys F.zeros (is_named (taken_out F p r first)))
 reserved_taken_out F p r first = reserved-without_unnamed (taken_out F p r first)
-
-both_true : (a b : Bool) → (a && b) ≡ true → (a ≡ true) × (b ≡ true)
-both_true true true is = (refl, refl)
-both_true true false is = absurd cc
-both_true false b is = absurd cc
 
 not_zero : (len : ℕ) → not (len == 0) ≡ true → 1 ≤ pages_in len
 not_zero len is = elim (cases_eq len 0) [ inl none ↦ absurd (let e = sym (ap not (eq-eqb len 0 none)) ∙ is in cc) | inr apart ↦ omega (arith, apart) ]

@@ -1,4 +1,5 @@
 -- Which calls keep the reservation.
+use Rattle.flat_model.proofs.WellFormed.{by_signal, by_refusal}
 use Rattle.std.proofs.Common.{◌≡◌, ℕ, ◌+◌, ◌<◌, ◌||◌, Bool, true, false, cond, List, [], ◌∷◌, map, length, Option, Some, None, Result, Ok, Err, refl, sym, ap, subst, ◌∙◌, inl, inr, arith}
 use Rattle.std.specs.Prelude.{◌==◌, option_map, unwrap_or, slice_set, sum_by, IsSome}
 use Rattle.std.specs.Ordering.{nat_cmp}
@@ -204,15 +205,6 @@ alike_prots F p first n prot = (
 
 pub reserved-with_prots : (F : Flat) (p first n : ℕ) (prot : Prot) → IsSome (space_of F p) → reserved (with_space F p (with_prots (cells_of F p) first n prot)) ≡ reserved F
 reserved-with_prots F p first n prot alive = reserved-alike F p (with_prots (cells_of F p) first n prot) alive (alike_prots F p first n prot)
-
--- CALLS
-by_signal : {A : Type 0} (P : Flat → Type 0) (F : Flat) (acts : A → Effect) (r : Result A Signal) → P F → ((x : A) → r ≡ Ok x → P (acts x).after) → P (or_signal F acts r).after
-by_signal P F acts (Ok x) none some = some x refl
-by_signal P F acts (Err s) none some = none
-
-by_refusal : {A : Type 0} (P : Flat → Type 0) (F : Flat) (acts : A → Effect) (r : Result A Errno) → P F → ((x : A) → r ≡ Ok x → P (acts x).after) → P (or_refused F acts r).after
-by_refusal P F acts (Ok x) none some = some x refl
-by_refusal P F acts (Err e) none some = none
 
 pub reserved-others : (F : Flat) (p : ℕ) (call : Call) → IsSome (space_of F p) → KeepsReservation call → reserved (effect F p call).after ≡ reserved F
 reserved-others F p (Load a n) alive keeps = by_signal (λ G. reserved G ≡ reserved F) F (λ m. record { reply = reply.Word (word_at m.1 a n); after = F }) (access_target F p can_read a n) refl (λ m is. refl)

@@ -9,7 +9,7 @@ use Rattle.flat_model.specs.Births.{is_birth}
 use Rattle.flat_model.specs.SyncLaws.{is_in_life, start_from, first_start, SyncStarts}
 use Rattle.flat_model.proofs.BirthTests.{is_birth-is}
 
-or_cases : (a b : Bool) → (a || b) ≡ true → (a ≡ true) ⊎ (b ≡ true)
+pub or_cases : (a b : Bool) → (a || b) ≡ true → (a ≡ true) ⊎ (b ≡ true)
 or_cases true b is = inl refl
 or_cases false b is = inr is
 

@@ -27,15 +27,15 @@ pub record Met (F : Flat) (p : ℕ) (may : Prot → Bool) (a n : ℕ) (c : Cell)
   pub allowed : may c.prot ≡ true
   pub shows : shown F c ≡ Some bytes
 
-need_ok : {E A : Type 0} (b : Bool) (e : E) (r : Result A E) (y : A) → (check b e >> r) ≡ Ok y → (b ≡ true) × (r ≡ Ok y)
+pub need_ok : {E A : Type 0} (b : Bool) (e : E) (r : Result A E) (y : A) → (check b e >> r) ≡ Ok y → (b ≡ true) × (r ≡ Ok y)
 need_ok true e r y is = (refl, is)
 need_ok false e r y is = absurd cc
 
-ok_or_ok : {E A B : Type 0} (o : Option A) (e : E) (f : A → Result B E) (y : B) → (ok_or o e >>= f) ≡ Ok y → (x : A) × (o ≡ Some x) × (f x ≡ Ok y)
+pub ok_or_ok : {E A B : Type 0} (o : Option A) (e : E) (f : A → Result B E) (y : B) → (ok_or o e >>= f) ≡ Ok y → (x : A) × (o ≡ Some x) × (f x ≡ Ok y)
 ok_or_ok None e f y is = absurd cc
 ok_or_ok (Some x) e f y is = (x, refl, is)
 
-pair_ok : {A B E : Type 0} (x c : A) (y d : B) → ◌≡◌ {A = Result (A × B) E} (Ok (x, y)) (Ok (c, d)) → (x ≡ c) × (y ≡ d)
+pub pair_ok : {A B E : Type 0} (x c : A) (y d : B) → ◌≡◌ {A = Result (A × B) E} (Ok (x, y)) (Ok (c, d)) → (x ≡ c) × (y ≡ d)
 pair_ok {A} {B} x c y d is =
     let both : ◌≡◌ {A = A × B} (x, y) (c, d) = cc in
     (ap (λ (w : A × B). w.0) both, ap (λ (w : A × B). w.1) both)
@@ -168,7 +168,7 @@ load-store_shared F p q a b n v c d flat size lt is at shared there same offset 
     (word_again s.0 a b n v size whole offset lt))
 
 -- the cell that was put at a page is there
-cell_at-with_cell : (F : Flat) (p q : ℕ) (c : Cell) → cell_at (with_cell F p q c) p q ≡ Some c
+pub cell_at-with_cell : (F : Flat) (p q : ℕ) (c : Cell) → cell_at (with_cell F p q c) p q ≡ Some c
 cell_at-with_cell F p q c = ap (option_and_then (λ space. map.get space q)) (get-insert_here F.spaces p (map.insert (unwrap_or (space_of F p) map.empty) q c)) ∙ get-insert_here (unwrap_or (space_of F p) map.empty) q c
 
 load-store_private : (F : Flat) (p a n v : ℕ) (c : Cell) → IsFlat F → IsWordSize n → v < 2 ^ (8 * n) → (store F p a n v).reply ≡ reply.Done → cell_at F p (page a) ≡ Some c → c.kind ≡ Private → IsTrue (can_read c.prot) → (load (store F p a n v).after p a n).reply ≡ reply.Word v

@@ -38,7 +38,7 @@ use Rattle.flat_model.specs.Processes.{with_child, without_process}
 use Rattle.flat_model.specs.Step.{effect, after_act, step, is_bit_set, files_cleared, tails_cleared, IsStep}
 use Rattle.flat_model.specs.History.{replay, Steps}
 use Rattle.flat_model.specs.FlatLaws.{StaysFlat}
-use Rattle.flat_model.proofs.Ranges.{get-insert_here, get-insert_apart, get-remove_here, get-remove_apart, get-retain_keys, get-with_cells, get-without_range, get-with_prots, in_range-low, in_range-high}
+use Rattle.flat_model.proofs.Ranges.{get-insert_here, get-insert_apart, get-remove_here, get-remove_apart, get-retain_keys, get-with_cells, get-without_range, get-with_prots, in_range-low, in_range-high, both_true}
 use Rattle.flat_model.proofs.Stores.{is_met, IsPage-shown}
 use Rattle.flat_model.proofs.Mappings.{mapped-map_result, get-cells_of}
 use Rattle.flat_model.proofs.Gap.{lowest_gap-fits}
@@ -184,7 +184,7 @@ Standing s = (q : ℕ) (c : Cell) → map.get s q ≡ Some c → Stands q c
 cells_stand : (F : Flat) (p : ℕ) → IsFlat F → Standing (cells_of F p)
 cells_stand F p flat q c at = let here = get-cells_of F p q ∙ at in (flat.pages p q c here, flat.cells p q c here)
 
-IsFlat-with_space : (F : Flat) (p : ℕ) (s : Space) → IsFlat F → IsSome (space_of F p) → Standing s → IsFlat (with_space F p s)
+pub IsFlat-with_space : (F : Flat) (p : ℕ) (s : Space) → IsFlat F → IsSome (space_of F p) → Standing s → IsFlat (with_space F p s)
 IsFlat-with_space F p s flat alive stand = record {
   pages = λ x q c at. (stands x q c at).0;
   cells = λ x q c at. (stands x q c at).1;
@@ -199,7 +199,7 @@ IsFlat-with_space F p s flat alive stand = record {
       | inr apart ↦ let old = sym (ap (option_and_then (λ space. map.get space q)) (get-insert_apart F.spaces p s x apart)) ∙ at in (flat.pages x q c old, flat.cells x q c old)
     ]
 
-kept_one : {X : Type 0} (b : Bool) (x : Option X) (v : X) → cond b x None ≡ Some v → x ≡ Some v
+pub kept_one : {X : Type 0} (b : Bool) (x : Option X) (v : X) → cond b x None ≡ Some v → x ≡ Some v
 kept_one true x v is = is
 kept_one false x v is = absurd cc
 
@@ -207,7 +207,7 @@ left_one : {X : Type 0} (b : Bool) (x : Option X) (v : X) → cond b None x ≡ 
 left_one true x v is = absurd cc
 left_one false x v is = is
 
-IsFlat-without_unnamed : (F : Flat) → IsFlat F → IsFlat (without_unnamed F)
+pub IsFlat-without_unnamed : (F : Flat) → IsFlat F → IsFlat (without_unnamed F)
 IsFlat-without_unnamed F flat = record {
   pages = flat.pages;
   cells = flat.cells;
@@ -256,11 +256,11 @@ IsFlat-tails_cleared F test flat = IsFlat-with_files F (files_cleared test F.fil
     cleared t (file ∷ files) each = (chosen (t 0) file each.0, cleared (λ f. t (suc f)) files each.1)
 
 -- what a call leaves, by what it acts on
-by_signal : {A : Type 0} (P : Flat → Type 0) (F : Flat) (acts : A → Effect) (r : Result A Signal) → P F → ((x : A) → r ≡ Ok x → P (acts x).after) → P (or_signal F acts r).after
+pub by_signal : {A : Type 0} (P : Flat → Type 0) (F : Flat) (acts : A → Effect) (r : Result A Signal) → P F → ((x : A) → r ≡ Ok x → P (acts x).after) → P (or_signal F acts r).after
 by_signal P F acts (Ok x) none some = some x refl
 by_signal P F acts (Err s) none some = none
 
-by_refusal : {A : Type 0} (P : Flat → Type 0) (F : Flat) (acts : A → Effect) (r : Result A Errno) → P F → ((x : A) → r ≡ Ok x → P (acts x).after) → P (or_refused F acts r).after
+pub by_refusal : {A : Type 0} (P : Flat → Type 0) (F : Flat) (acts : A → Effect) (r : Result A Errno) → P F → ((x : A) → r ≡ Ok x → P (acts x).after) → P (or_refused F acts r).after
 by_refusal P F acts (Ok x) none some = some x refl
 by_refusal P F acts (Err e) none some = none
 
@@ -299,7 +299,7 @@ flat_store F p a n v flat alive size =
     IsFlat-with_page_stored F p (page a) m.0 (word_put m.1 a n v) flat alive met_it.cell
     (IsPage-word_put m.1 a n v (IsPage-shown F m.0 m.1 flat (flat.cells p (page a) m.0 met_it.cell) met_it.shows) (word_fits a n size (eqb-true (a % n) 0 met_it.aligned))))
 
-without_stand : (s : Space) (first n : ℕ) → Standing s → Standing (without_range s first n)
+pub without_stand : (s : Space) (first n : ℕ) → Standing s → Standing (without_range s first n)
 without_stand s first n stand q c at = stand q c (left_one (is_in_range first n q) (map.get s q) c (sym (get-without_range s first n q) ∙ at))
 
 IsFlat-without_pages : (F : Flat) (p first n : ℕ) → IsFlat F → IsSome (space_of F p) → IsFlat (without_pages F p first n)
@@ -318,7 +318,7 @@ with_prots_stand s first n prot stand q c at =
     let old = stand q m.0 m.1 in
     (old.0, subst IsCell m.2 (IsCell-with_prot first n q prot m.0 old.1))
 
-IsFlat-without_process : (F : Flat) (p : ℕ) → IsFlat F → IsFlat (without_process F p)
+pub IsFlat-without_process : (F : Flat) (p : ℕ) → IsFlat F → IsFlat (without_process F p)
 IsFlat-without_process F p flat = IsFlat-without_unnamed (record F { spaces = map.remove F.spaces p }) (record {
   pages = λ x q c at. flat.pages x q c (before x q c at);
   cells = λ x q c at. flat.cells x q c (before x q c at);
@@ -335,11 +335,6 @@ IsFlat-without_process F p flat = IsFlat-without_unnamed (record F { spaces = ma
       | inl here ↦ absurd (let gone = ap (option_and_then (λ space. map.get space q)) (ap (map.get (map.remove F.spaces p)) here ∙ get-remove_here F.spaces p) in let both : None ≡ Some c = sym gone ∙ at in cc)
       | inr apart ↦ sym (ap (option_and_then (λ space. map.get space q)) (get-remove_apart F.spaces p x apart)) ∙ at
     ]
-
-both_true : (a b : Bool) → (a && b) ≡ true → (a ≡ true) × (b ≡ true)
-both_true true true is = (refl, refl)
-both_true true false is = absurd cc
-both_true false b is = absurd cc
 
 -- the range of a Map lies in the user addresses
 range_of : (F : Flat) (p : ℕ) (place : Place) (len first : ℕ) → IsFlat F → is_place place len ≡ true → first_page (cells_of (without_replaced F p place (pages_in len)) p) place (pages_in len) ≡ Some first → (1 ≤ first) × (first + pages_in len ≤ end_page)

@@ -1,4 +1,5 @@
 -- Bytes that lie in one page of a list of pages, and a file that gets longer, page by page.
+use Rattle.flat_model.proofs.Lines.{pages_of_bytes-concat as pages-of_concat, with_bytes-left as with_bytes-first}
 use Rattle.std.proofs.Common.{◌≡◌, ℕ, zero, suc, ◌+◌, ◌-◌, ◌*◌, ◌/◌, ◌%◌, ◌<◌, ◌≤◌, min, max, List, [], ◌∷◌, ◌++◌, length, take, drop, replicate, get_or, refl, sym, ap, subst, ◌∙◌, inl, inr, append_assoc, arith, length-append}
 use Rattle.std.specs.Prelude.{All, OnErr, Result, Ok, Err, slice_set, map, Vec, nat_lt, if◌then◌else◌}
 use Rattle.std.specs.declared.alloc.Global.{Global}
@@ -18,14 +19,6 @@ use Rattle.flat_state.proofs.Trees.{map_set}
 use Rattle.flat_model.proofs.WellFormed.{IsPage-zero_page}
 use Rattle.flat_model.proofs.FileBytes.{Whole, Whole-pages, of_length, Whole-append, Whole-pages_with_bytes, length-concat, length-with_bytes, length-pages_with_bytes, concat-pages_with_bytes}
 
--- pages are cut from their bytes again
-pub pages-of_concat : (ps : List Page) → Whole ps → pages_of_bytes (length ps) (concat ps) ≡ ps
-pages-of_concat [] whole = refl
-pages-of_concat (p ∷ ps) whole =
-    ap (λ (q : Page). q ∷ pages_of_bytes (length ps) (drop 4096 (p ++ concat ps))) (take_at p (concat ps) 4096 whole.0)
-    ∙ ap (λ (ys : List ℕ). p ∷ pages_of_bytes (length ps) ys) (drop_at p (concat ps) 4096 whole.0)
-    ∙ ap (λ (qs : List Page). p ∷ qs) (pages-of_concat ps whole.1)
-
 -- pages with the same bytes are the same
 pub same-pages : (ps qs : List Page) → Whole ps → Whole qs → length ps ≡ length qs → concat ps ≡ concat qs → ps ≡ qs
 same-pages ps qs left right count bytes = sym (pages-of_concat ps left) ∙ ap (λ (n : ℕ). pages_of_bytes n (concat ps)) count ∙ ap (pages_of_bytes (length qs)) bytes ∙ pages-of_concat qs right
@@ -37,13 +30,6 @@ pages_with_bytes-none ps at whole fits = ap (pages_of_bytes (length ps)) nothing
   where
     nothing : with_bytes (concat ps) at [] ≡ concat ps
     nothing = let same : at + 0 ≡ at = omega arith in ap (λ (xs : List ℕ). xs ++ drop (at + 0) (concat ps)) (append-nil (take at (concat ps))) ∙ ap (λ (k : ℕ). take at (concat ps) ++ drop k (concat ps)) same ∙ take-append-drop at (concat ps)
-
--- bytes put into the first page
-with_bytes-first : (p rest bytes : List ℕ) (at : ℕ) → at + length bytes ≤ length p → with_bytes (p ++ rest) at bytes ≡ with_bytes p at bytes ++ rest
-with_bytes-first p rest bytes at fits =
-    ap (λ (xs : List ℕ). (xs ++ bytes) ++ drop (at + length bytes) (p ++ rest)) (take-append-le at p rest (omega arith))
-    ∙ ap (λ (xs : List ℕ). (take at p ++ bytes) ++ xs) (drop-append-le (at + length bytes) p rest fits)
-    ∙ sym (append_assoc (take at p ++ bytes) (drop (at + length bytes) p) rest)
 
 -- bytes put behind a front
 with_bytes-behind : (p rest bytes : List ℕ) (at : ℕ) → with_bytes (p ++ rest) (length p + at) bytes ≡ p ++ with_bytes rest at bytes

@@ -68,10 +68,6 @@ rest_of files i =
     let next : i + 1 ≡ suc i = omega arith in
     take_all (length files - (i + 1)) (drop (i + 1) files) (omega (arith, length-drop (i + 1) files)) ∙ ap (λ (k : ℕ). drop k files) next
 
--- one block more
-pub more-longer : (blocks : ℕ) (others own : List Extent) → can_lengthen blocks others own ≡ true → with_next_block blocks others own ≡ Some (with_longer_last own)
-more-longer blocks others own can = ap (λ (c : Bool). cond c (Some (with_longer_last own)) (with_new_last blocks others own)) can
-
 pub more-new : (blocks : ℕ) (others own : List Extent) (b : ℕ) → can_lengthen blocks others own ≡ false → nat_lt (length others + length own) 252 ≡ true
     → least_free blocks (others ++ own) ≡ Some b → with_next_block blocks others own ≡ Some (own ++ record { start = b; pages = 1 } ∷ [])
 more-new blocks others own b can few least =

@@ -1,4 +1,5 @@
 -- The entries of trees, as finite maps.
+use Rattle.flat_model.proofs.Ranges.{option_map-cond as map_cond, same_value}
 use Rattle.std.proofs.Common.{◌≡◌, ℕ, Bool, true, false, cond, List, [], ◌∷◌, map, Option, Some, None, refl, sym, ap, ◌∙◌}
 use Rattle.std.specs.Prelude.{option_map, option_copied}
 use Rattle.std.specs.Borrow.{Bor}
@@ -8,10 +9,6 @@ use Rattle.std.proofs.lemmas.Bool.{eqb-true}
 use Rattle.std.specs.Map.{lookup}
 use Rattle.std.specs.BTreeMap.{is_at}
 use Rattle.std.specs.FinMap as map
-
-map_cond : {X Y : Type 0} (f : X → Y) (b : Bool) (x : X) (r : Option X) → cond b (Some (f x)) (option_map f r) ≡ option_map f (cond b (Some x) r)
-map_cond f true x r = refl
-map_cond f false x r = refl
 
 find_mapped : {X Y : Type 0} (f : X → Y) (es : List (ℕ × X)) (q : ℕ) → map.find nat_cmp q (map (λ e. (e.0, f e.1)) es) ≡ option_map f (lookup (is_at (nat_cmp q)) es)
 find_mapped f [] q = refl
@@ -44,10 +41,6 @@ pub insert_at : {X : Type 0} (es fs : List (ℕ × X)) (k : ℕ) (v : X) → ((q
 insert_at es fs k v h = map.same_map nat_cmp_total map.nat_cmp-IsAntisymmetric _ _ (λ q.
     get_at fs q ∙ h q ∙ ap (λ b. cond b (Some v) (lookup (is_at (nat_cmp q)) es)) ((eq_by_cmp_equiv nat_cmp_total).symm k q)
     ∙ sym (map.get-insert nat_cmp_total (map.from_entries es) k v q ∙ ap (cond (eq_by_cmp nat_cmp q k) (Some v)) (get_at es q)))
-
-same_value : {X : Type 0} (b : Bool) (x r : Option X) → (b ≡ true → r ≡ x) → cond b x r ≡ r
-same_value true x r h = sym (h refl)
-same_value false x r h = refl
 
 -- a value that is put back changes nothing
 pub insert_same : {X : Type 0} (m : map.FinMap nat_cmp X) (k : ℕ) (v : X) → map.get m k ≡ Some v → map.insert m k v ≡ m

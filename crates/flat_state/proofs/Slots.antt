@@ -1,4 +1,5 @@
 -- Slots that are left, one part after another, and the number of a new zero object.
+use Rattle.flat_state.proofs.Steps.{not_le}
 use Rattle.std.proofs.Common.{◌≡◌, ℕ, ◌+◌, ◌-◌, ◌<◌, ◌≤◌, Bool, true, false, cond, List, [], ◌∷◌, Option, Some, None, refl, sym, ap, subst, ◌∙◌, arith}
 use Rattle.std.specs.Prelude.{if◌then◌else◌, nat_le, length, Vec, sum_by, filter, is_some, option_map}
 use Rattle.std.specs.Ordering.{nat_cmp}
@@ -11,14 +12,11 @@ use Rattle.std.specs.declared.alloc.Global.{Global}
 use Rattle.std.specs.List.Sorted.{IsStrictlySortedBy}
 use Rattle.std.specs.Map.{keys_of, values_of}
 use Rattle.flat_state.specs.Cells.{pages_in_vec}
-use Rattle.flat_state.proofs.Trees.{each, values_mapped, mapped_filter, sum_map, length_map}
+use Rattle.flat_state.proofs.Trees.{each, values_mapped, mapped_filter, sum_map, length_map, flat_with as flat_of_spaces}
 use Rattle.flat_model.specs.Mapping.{new_number}
 use Rattle.flat_state.specs.Mapped.{slots_left, new_number_in}
 use Rattle.flat_model.specs.Spaces.{names_zero}
 use Rattle.flat_model.proofs.Named.{new_number-new, new_number-least}
-
-not_le : (a b : ℕ) → b < a → nat_le a b ≡ false
-not_le a b lt = elim (nat_le a b) as (λ t. nat_le a b ≡ t → t ≡ false) [ true ↦ λ is. absurd (omega (arith, leb-true a b is, lt)) | false ↦ λ is. refl ] refl
 
 left_when : (slots n : ℕ) → n ≤ slots → slots_left slots n ≡ Some (slots - n)
 left_when slots n le = ap (λ b. cond b (Some (slots - n)) None) (le-leb n slots le)
@@ -76,9 +74,6 @@ left_twice slots n m first is = (
 
     tests_none : (a b : ℕ) → slots_left b a ≡ None → nat_le a b ≡ false
     tests_none a b none = sym (tests_some (nat_le a b) (b - a)) ∙ ap is_some none
-
-flat_of_spaces : finite.FinMap nat_cmp Space → Flat
-flat_of_spaces spaces = record { slots = 0; disks = finite.empty; files = []; zeros = finite.empty; spaces = spaces; born = finite.empty }
 
 least_unnamed : (F : Flat) (z : ℕ) → is_named F z ≡ false → ((k : ℕ) → k < z → is_named F k ≡ true) → z ≡ new_number F
 least_unnamed F z new below =

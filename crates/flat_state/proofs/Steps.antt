@@ -15,7 +15,7 @@ use Rattle.flat_model.specs.Step.{is_bit_set, files_cleared, tails_cleared, effe
 use Rattle.flat_state.specs.FlatState.{MayStep, is_bit_set_from, IsDueReply}
 use Rattle.flat_model.proofs.WellFormed.{IsFlat-step}
 
-not_le : (a b : ℕ) → b < a → nat_le a b ≡ false
+pub not_le : (a b : ℕ) → b < a → nat_le a b ≡ false
 not_le a b lt = elim (nat_le a b) as (λ t. nat_le a b ≡ t → t ≡ false) [ true ↦ λ is. absurd (omega (arith, leb-true a b is, lt)) | false ↦ λ is. refl ] refl
 
 not_eq : (a b : ℕ) → (a ≡ b → ⊥) → (a == b) ≡ false

@@ -24,7 +24,7 @@ use Rattle.flat_model.specs.Words.{Page}
 use Rattle.flat_model.specs.Flat.{File, Space, Flat, zero_of}
 use Rattle.flat_state.specs.Cells.{is_zero, names}
 use Rattle.flat_model.specs.Spaces.{names_zero}
-use Rattle.flat_model.proofs.Named.{is_named-spaces}
+use Rattle.flat_model.proofs.Named.{is_named-spaces, any_alike}
 use Rattle.flat_state.proofs.Maps.{get_mapped, get_at}
 use Rattle.flat_model.proofs.Ranges.{get-retain_keys}
 
@@ -121,20 +121,12 @@ pub any_map : {X Y : Type 0} (t : Y → Bool) (f : X → Y) (xs : List X) → li
 any_map t f [] = refl
 any_map t f (x ∷ xs) = ap (λ b. t (f x) || b) (any_map t f xs)
 
-pub mapped_same : {X : Type 0} (o : Option X) → option_map (λ x. x) o ≡ o
-mapped_same None = refl
-mapped_same (Some x) = refl
-
-any_alike : {X : Type 0} (s t : X → Bool) (xs : List X) → ((x : X) → s x ≡ t x) → list_any s xs ≡ list_any t xs
-any_alike s t [] alike = refl
-any_alike s t (x ∷ xs) alike = ap (λ b. b || list_any s xs) (alike x) ∙ ap (λ b. t x || b) (any_alike s t xs alike)
-
 names_object : (z : ℕ) (o : Object) → option_map_or (λ y. z == y) (elim o [ object.Zero y ↦ Some y | object.File f ↦ None | object.NewZero ↦ None ]) false ≡ is_zero z o
 names_object z (object.Zero y) = refl
 names_object z (object.File f) = refl
 names_object z object.NewZero = refl
 
-flat_with : finite.FinMap nat_cmp Space → Flat
+pub flat_with : finite.FinMap nat_cmp Space → Flat
 flat_with spaces = record { slots = 0; disks = finite.empty; files = []; zeros = finite.empty; spaces = spaces; born = finite.empty }
 
 -- some cell names the zero object, space by space
@@ -201,11 +193,6 @@ changed_past f g (y ∷ ys) (suc i) h = ap (λ zs. f y ∷ zs) (changed_past f g
 -- a file by its fields
 abbrev pub file_by : ℕ → ℕ → List Extent → Bool → List Page → File
 file_by len disk extents writable pages = record { len = len; disk = disk; extents = extents; writable = writable; pages = pages }
-
--- what isn't there is none
-pub none_from_test : {X : Type 0} (o : Option X) → is_some o ≡ false → o ≡ None
-none_from_test None h = refl
-none_from_test (Some x) h = absurd cc
 
 -- a sum over f of each
 pub sum_map : {X Y : Type 0} (t : Y → ℕ) (f : X → Y) (xs : List X) → sum_by t (map f xs) ≡ sum_by (λ x. t (f x)) xs

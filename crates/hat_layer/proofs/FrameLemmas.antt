@@ -44,7 +44,7 @@ any-step W (o ∷ os) (suc k) x acc lt h =
     elim (W o) as (λ w. ((acc || W (get_or os k None)) || (w || list_any W (set os k x))) ≡ (acc || (w || list_any W os)))
     [ true ↦ or_right (acc || W (get_or os k None)) true refl ∙ sym (or_right acc true refl) | false ↦ any-step W os k x acc (omega arith) h ]
 
-leads-true : (frame : ℕ) (t : Translation) → t.frame ≡ frame → leads frame (Some t) ≡ true
+pub leads-true : (frame : ℕ) (t : Translation) → t.frame ≡ frame → leads frame (Some t) ≡ true
 leads-true frame t e = eq-eqb t.frame frame e
 
 leads-false : (o : Option Translation) (frame : ℕ) → (frame_of o ≡ Some frame → ⊥) → leads frame o ≡ false

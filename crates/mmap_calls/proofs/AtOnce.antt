@@ -1,4 +1,5 @@
 -- Calls that are done at once, with a plain reply.
+use Rattle.seg_vn.proofs.flat_model.Frames.{or_nothing as or-false}
 use Rattle.std.proofs.Common.{◌≡◌, ℕ, Bool, true, false, List, Option, refl, sym, ap, inr, subst}
 use Rattle.std.specs.Prelude.{◌||◌}
 use Rattle.std.specs.FinMap as finite
@@ -38,10 +39,6 @@ acts F G p call (reply.Mapped n) cleared own due after_is = (due, after_is)
 acts F G p call (reply.Bytes l) cleared own due after_is = (due, after_is)
 acts F G p call (reply.Signal x) cleared own due after_is = (due, after_is)
 acts F G p call (reply.Refused x) cleared own due after_is = (due, after_is)
-
-or-false : (b : Bool) → b ≡ (b || false)
-or-false true = refl
-or-false false = refl
 
 -- no frame is taken
 abbrev takes-none : (m : Memory) (pending : ℕ) → MemoryFits m → TakesFrames m m.world pending pending

@@ -21,12 +21,12 @@ use Rattle.seg_vn.specs.vm_world.Segments.{Spot, Spaces, spot_at, zero_map}
 use Rattle.seg_vn.specs.vm_world.declared.segment.Segment.{Segment}
 use Rattle.seg_vn.proofs.vm_world.ComingParts.{own_had, shown_had, parts-split, own-unshown}
 use Rattle.seg_vn.proofs.vm_world.GoneParts.{shown-of-zero}
-use Rattle.seg_vn.proofs.vm_world.KeptMaps.{own-there, shown-there, is-the-number, number-is, all-both}
+use Rattle.seg_vn.proofs.vm_world.KeptMaps.{own-there, shown-there, all-both}
 use Rattle.seg_vn.proofs.vm_world.Lists.{all-turn, sum-zero}
 use Rattle.seg_vn.proofs.vm_world.Maps.{all-values}
 use Rattle.seg_vn.proofs.vm_world.PartSums.{all_parts, sum-remove, sum-segments, sum-le, part-le, segments-all}
 use Rattle.seg_vn.proofs.vm_world.Reserves.{zero-object}
-use Rattle.seg_vn.proofs.vm_world.ShownZeros.{zero_map-of}
+use Rattle.seg_vn.proofs.vm_world.ShownZeros.{zero_map-of, number-is, is-the-number}
 use Rattle.seg_vn.proofs.vm_world.Spots.{IsSpotOf, spot-in}
 use Rattle.mmap_calls.specs.RangeCounts.{zero_in, lies_within, count_within, shown_within}
 

@@ -1,4 +1,5 @@
 -- What a Map comes to in flat memory, by the refusal that is due.
+use Rattle.seg_vn.proofs.flat_model.Ranges.{both_true as both}
 use Rattle.std.proofs.Common.{◌≡◌, ℕ, zero, suc, ◌+◌, ◌-◌, ◌≤◌, Bool, true, false, cond, not, List, [], ◌∷◌, length, map, Option, Some, None, refl, sym, ap, ◌∙◌, inl, inr, subst, arith}
 use Rattle.std.specs.Prelude.{option_map, is_some, nat_le, nat_lt, ◌&&◌, IsSome, Result, Ok, Err, slice_get, slice_index_or}
 use Rattle.std.specs.Option.{option_map_or}
@@ -34,7 +35,7 @@ use Rattle.seg_vn.specs.vm_world.declared.segment.Segment.{Segment}
 use Rattle.seg_vn.proofs.vm_world.FilePages.{file-in}
 use Rattle.seg_vn.proofs.vm_world.Maps.{get-map_with}
 use Rattle.seg_vn.proofs.vm_world.PageNames.{info-there}
-use Rattle.seg_vn.proofs.vm_world.SegmentCells.{segment_cells}
+use Rattle.seg_vn.proofs.vm_world.SegmentCells.{segment_cells, some-mapped}
 use Rattle.seg_vn.specs.Clears.{SpaceFits}
 use Rattle.mmap_calls.specs.declared.refusals.MapRequest.{MapRequest}
 use Rattle.mmap_calls.specs.GivenUp.{given_up}
@@ -55,11 +56,6 @@ tested valid there within few backed new = do
 
 abbrev pub refusal_by : Bool → Bool → Bool → Bool → Bool → Option Errno
 refusal_by v t w l b = cond (not v) (Some errno.Invalid) (cond (not t) (Some errno.NoObject) (cond (not w) (Some errno.Access) (cond (not l) (Some errno.TooLarge) (cond (not b) (Some errno.NoSwap) None))))
-
--- its range lies in the user addresses
-both : (a b : Bool) → (a && b) ≡ true → (a ≡ true) × (b ≡ true)
-both true b h = (refl, h)
-both false b h = absurd (let z : false ≡ true = h in cc)
 
 pub placed : (q : MapRequest) (s : Segment) → is_valid (map_request q) ≡ true → LiesFrom 1 (part (page q.addr) (pages_in q.length) s)
 placed q s valid =
@@ -122,10 +118,6 @@ seen-info (x ∷ xs) (suc f) = seen-info xs f ∙ by_test (nat_lt f (length xs))
       | inl lt ↦ lt-ltb f (length xs) lt ∙ sym (lt-ltb (suc f) (suc (length xs)) (omega (arith, lt)))
       | inr ge ↦ le-ltb f (length xs) ge ∙ sym (le-ltb (suc f) (suc (length xs)) (omega (arith, ge)))
     ]
-
-some-mapped : {X Y : Type 0} (f : X → Y) (o : Option X) → is_some (option_map f o) ≡ is_some o
-some-mapped f None = refl
-some-mapped f (Some x) = refl
 
 module _ (m : Memory) (born : set.FinSet nat_cmp) (notes : Notes) where
   file-seen : (f : ℕ) → slice_get (flat_memory m born notes).files f ≡ option_map (file_with_pages ((contents_of m.world notes).file f)) (slice_get (map (λ (v : VnodeSeen). v.info) m.world.files.files) f)

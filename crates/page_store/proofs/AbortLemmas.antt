@@ -1,7 +1,7 @@
 -- A name is given up.
 use Rattle.std.proofs.Common.{◌≡◌, ◌≢◌, ℕ, ◌<◌, Bool, true, false, cond, inl, inr, List, [], ◌∷◌, ◌++◌, Option, Some, None, IsSome, refl, sym, ◌∙◌, ap, subst, arith, length, set, is_some}
 use Rattle.std.specs.Prelude.{◌&&◌, ◌||◌, ◌==◌, ◌↔◌, is_none, Contains}
-use Rattle.std.proofs.lemmas.Bool.{cases_eq}
+use Rattle.std.proofs.lemmas.Bool.{cases_eq, or_from as or-both}
 use Rattle.std.proofs.lemmas.List.{get_or-set_same, get_or-set_other}
 use Rattle.std.proofs.Math.ListN.{length-set}
 use Rattle.std.proofs.lemmas.List.Elements.{Contains-append_left, Contains-push, Contains-push_cases}
@@ -30,7 +30,7 @@ use Rattle.page_store.proofs.Agree.{SameOut, same-out, same-row, Calm, own-far, 
 use Rattle.page_store.proofs.Elsewhere.{Elsewhere, OneFrame, SoundAt, one-elsewhere, same-elsewhere, elsewhere-then, only-none, sound-one, touches, touches-one, paired-one, value-elsewhere}
 use Rattle.page_store.proofs.FrameLaws.{some-or-none, some-not, eq-same, eq-is, eq-far, false-left, false-right, agrees-at, home-unheld, home-ungone}
 use Rattle.page_store.proofs.FrameLaws.{home-source, away-snapshot, away-held, named-unsourced}
-use Rattle.page_store.proofs.Links.{either, or-both, family-own, family-copy, sound-parted, same-parted, elsewhere-parted, parted-own, parted-own-row}
+use Rattle.page_store.proofs.Links.{either, family-own, family-copy, sound-parted, same-parted, elsewhere-parted, parted-own, parted-own-row}
 use Rattle.page_store.proofs.QueryLemmas.{IsIn, bytes-within, found-within}
 use Rattle.page_store.proofs.RowSteps.{residence-rows, values-rows, calm-rows}
 

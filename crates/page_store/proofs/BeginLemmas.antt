@@ -3,7 +3,7 @@ use Rattle.std.proofs.Common.{unwrap_or, ◌≡◌, ◌≢◌, ℕ, ◌<◌, Boo
 use Rattle.std.proofs.Common.{◌∙◌, ap, subst, arith, length, set, is_some}
 use Rattle.std.specs.Option.{option_or}
 use Rattle.std.specs.Prelude.{◌&&◌, ◌||◌, ◌==◌, is_none, Contains}
-use Rattle.std.proofs.lemmas.Bool.{cases_eq, cases_Bool}
+use Rattle.std.proofs.lemmas.Bool.{cases_eq, cases_Bool, or_from as or-both}
 use Rattle.std.proofs.lemmas.List.{get_or-set_same, get_or-set_other}
 use Rattle.std.proofs.Math.ListN.{length-set}
 use Rattle.block_device.specs.DiskSeen.{DiskSeen, HasBlocks}
@@ -41,7 +41,7 @@ use Rattle.page_store.proofs.Elsewhere.{sound-one, sound-elsewhere, touches, tou
 use Rattle.page_store.proofs.FillLemmas.{taken-home, taken-within, taken-name, taken-row, taken-snapshot, taken-source, taken-free, taken-cached, taken-lost}
 use Rattle.page_store.proofs.FillLemmas.{taken-value, next-is, next-own, next-other}
 use Rattle.page_store.proofs.FrameLaws.{some-not, eq-far, false-left, false-right, named-ungone, named-unsourced}
-use Rattle.page_store.proofs.Links.{either, cases-either, either-is, either-not, or-both, family-own, family-of-own, two-own, two-copy, two-else, two-length}
+use Rattle.page_store.proofs.Links.{either, cases-either, either-is, either-not, family-own, family-of-own, two-own, two-copy, two-else, two-length}
 use Rattle.page_store.proofs.QueryLemmas.{bytes-within}
 use Rattle.page_store.proofs.RowSteps.{residence-rows}
 use Rattle.page_store.proofs.TakeLemmas.{first-listed, rest-free, rest-cached, rest-apart}

@@ -2,7 +2,7 @@
 use Rattle.std.proofs.Common.{◌≡◌, ◌≢◌, ℕ, ◌<◌, ◌≤◌, Bool, true, false, cond, ◌⊎◌, inl, inr, List, [], ◌∷◌, ◌++◌, Option, Some, None, IsTrue, IsSome, refl, sym}
 use Rattle.std.proofs.Common.{◌∙◌, ap, subst, arith, length, set, is_some}
 use Rattle.std.specs.Prelude.{◌&&◌, ◌||◌, ◌==◌, ◌-◌, is_none, take, replicate, slice_index_or, Contains}
-use Rattle.std.proofs.lemmas.Bool.{cases_eq, cases_Bool}
+use Rattle.std.proofs.lemmas.Bool.{cases_eq, cases_Bool, or_from as or-both}
 use Rattle.std.proofs.lemmas.List.{take-append-le, take-take}
 use Rattle.std.proofs.lemmas.List.{get_or-set_same, get_or-set_other}
 use Rattle.std.proofs.Math.ListN.{length-set, length-take}
@@ -34,7 +34,7 @@ use Rattle.page_store.specs.declared.residence.Residence.TheVariants.{Home, Abse
 use Rattle.page_store.proofs.Agree.{own-self, own-other, backing_value-calm}
 use Rattle.page_store.proofs.Elsewhere.{Elsewhere, OneFrame, SoundAt, one-elsewhere, one-within, elsewhere-then, same-elsewhere, only-none, sound-one, touches, touches-one, paired-one}
 use Rattle.page_store.proofs.FrameLaws.{some-not, some-or-none, none-is, snapshot-within, eq-far, false-right, away-snapshot, copy-held, copy-apart, gone-unnamed, held-away}
-use Rattle.page_store.proofs.Links.{either, or-both, family-own, family-source, sound-parted, same-parted, elsewhere-parted, parted-own-row, parted-copy-row}
+use Rattle.page_store.proofs.Links.{either, family-own, family-source, sound-parted, same-parted, elsewhere-parted, parted-own-row, parted-copy-row}
 use Rattle.page_store.proofs.QueryLemmas.{held-within, residence-home}
 use Rattle.page_store.proofs.Returning.{Returns, ends-back, value-here, backing_value-back, content-new, content-old, frame_away, frame_held, mine_out}
 use Rattle.page_store.proofs.RowSteps.{residence-rows, values-rows, value-rows, calm-rows}
@@ -378,7 +378,7 @@ still_told : (content : Option (List (List ℕ))) (block : ℕ) (x : List ℕ) �
 still_told None block x h = h
 still_told (Some blocks) block x h = refl
 
-written_done : (note : Note) (f : FlightSeen) (o : Progress) → o ≡ done → IsWritten note f o → f.disk.content ≡ with_block note.disk.content note.block (clip note.valid note.bytes)
+pub written_done : (note : Note) (f : FlightSeen) (o : Progress) → o ≡ done → IsWritten note f o → f.disk.content ≡ with_block note.disk.content note.block (clip note.valid note.bytes)
 written_done note f fresh e p = absurd p
 written_done note f done e p = p
 written_done note f failed e p = absurd (cc)

@@ -45,7 +45,7 @@ none-is (Some x) h = cc
 pub some-not : {X : Type 0} (o : Option X) → IsSome o → o ≡ None → ⊥
 some-not {X = X} o h e = let z : true ≡ false = sym h ∙ ap (λ (x : Option X). is_some x) e in cc
 
-home_held : (b : Option (List ℕ)) (h : Option ℕ) → is_none b ≡ is_some h → IsSome b → h ≡ None
+pub home_held : (b : Option (List ℕ)) (h : Option ℕ) → is_none b ≡ is_some h → IsSome b → h ≡ None
 home_held (Some b) None a t = refl
 home_held (Some b) (Some s) a t = let z : false ≡ true = a in cc
 home_held None h a t = let z : false ≡ true = t in cc

@@ -1,7 +1,7 @@
 -- The table of files and slots is apart.
 use Rattle.std.proofs.Common.{◌≡◌, ℕ, ◌+◌, ◌<◌, ◌≤◌, Bool, true, cond, ◌⊎◌, inl, inr, List, sym, ◌∙◌, ap, arith, length}
 use Rattle.std.specs.Prelude.{slice_get, Option, Some, None, option_map, option_and_then, unwrap_or, if◌then◌else◌}
-use Rattle.std.proofs.lemmas.Option.{slice_get_cases}
+use Rattle.std.proofs.lemmas.Option.{slice_get_cases, slice_get_past as none_past}
 use Rattle.std.proofs.lemmas.Bool.{cases_Bool}
 use Rattle.std.proofs.lemmas.Bool.Decides.{nat_tests}
 use Rattle.page_hash.specs.declared.PageName.{PageName}
@@ -11,12 +11,6 @@ use Rattle.page_store.specs.Layout.{FileBlocks, KeepsPage, AreDisjoint, page_pla
 
 slot_of_test : (slots : ℕ) (n : PageName) → is_slot slots n ≡ true → n.object ≡ 64
 slot_of_test slots n h = grind (arith, nat_tests)
-
-none_past : {A : Type 0} (xs : List A) (i : ℕ) → length xs ≤ i → slice_get xs i ≡ None
-none_past xs i past = elim ((slice_get_cases xs i).1) [
-  | inl (x, inside, at, same) ↦ absurd (omega (arith, inside, past))
-  | inr (far, none) ↦ none
-]
 
 -- A place of a name: that of a page which a file keeps, that of a slot, or its own.
 abbrev PlaceCases : List FileBlocks → (PageName → Bool) → PageName → Place → Type 0

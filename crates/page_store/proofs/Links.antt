@@ -55,10 +55,6 @@ family-copy s own copy k e h =
     ∙ false-left (is_only (row_at s.rows own).snapshot k) (is_only (row_at s.rows own).source k)
     (false-right (k == own) (is_only (row_at s.rows own).snapshot k || is_only (row_at s.rows own).source k) h)
 
-pub or-both : (a b : Bool) → a ≡ false → b ≡ false → (a || b) ≡ false
-or-both false b h g = g
-or-both true b h g = let z : true ≡ false = h in absurd (cc)
-
 pub family-source : (s : StoreSeen) (own f k : ℕ) → (row_at s.rows f).source ≡ Some own → family s f k ≡ false → k ≢ own
 family-source s own f k e h =
     eq-not k own (ap (λ (o : Option ℕ). is_only o k) (sym e)

@@ -28,7 +28,7 @@ use Rattle.page_store.proofs.QueryLemmas.{IsIn, home-is}
 use Rattle.page_store.proofs.TransferLemmas.{with_note-same, with_note-other, is-or-not, holds-or-not}
 
 -- another block is as it was
-other_block : (content : Option (List (List ℕ))) (block k : ℕ) (x : List ℕ) → k ≢ block → block_of (with_block content block x) k ≡ block_of content k
+pub other_block : (content : Option (List (List ℕ))) (block k : ℕ) (x : List ℕ) → k ≢ block → block_of (with_block content block x) k ≡ block_of content k
 other_block None block k x ne = refl
 other_block (Some blocks) block k x ne = get_or-set_other blocks block k x [] ne
 
@@ -37,7 +37,7 @@ still_tells None block x = refl
 still_tells (Some blocks) block x = refl
 
 -- whatever became of a write, at most its block is new
-one_block : (note : Note) (f : FlightSeen) (outcome : Progress) → IsWritten note f outcome → (x : List ℕ) × (f.disk.content ≡ with_block note.disk.content note.block x)
+pub one_block : (note : Note) (f : FlightSeen) (outcome : Progress) → IsWritten note f outcome → (x : List ℕ) × (f.disk.content ≡ with_block note.disk.content note.block x)
 one_block note f fresh h = absurd h
 one_block note f done h = (clip note.valid note.bytes, h)
 one_block note f failed h = (h.0, h.2)

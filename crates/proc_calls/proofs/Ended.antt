@@ -1,4 +1,5 @@
 -- A process whose space is empty goes.
+use Rattle.seg_vn.proofs.flat_model.Frames.{or_nothing as or-false}
 use Rattle.std.proofs.Common.{◌≡◌, ℕ, ◌+◌, ◌-◌, ◌≤◌, Bool, true, false, cond, List, [], ◌∷◌, Option, Some, None, refl, sym, ap, ◌∙◌, inl, inr, subst, arith}
 use Rattle.std.specs.Prelude.{All, nat_le, nat_lt, ◌||◌}
 use Rattle.std.specs.FinMap as finite
@@ -94,10 +95,6 @@ ended old new zeros after spaces p parts left fits done pages =
           (segment_rule.joined p m n (without_space n p) (λ F. without_pages F p 1 (0x80000 - 1)) (λ F. without_process F p) done.changes (segment_rule.leave n p done.changes.memory empty));
       known = known-left n p after done.changes.memory empty done.known;
     }
-
-or-false : (b : Bool) → b ≡ (b || false)
-or-false true = refl
-or-false false = refl
 
 -- no frame is taken
 abbrev takes-none : (m : Memory) (pending : ℕ) → MemoryFits m → TakesFrames m m.world pending pending

@@ -25,7 +25,7 @@ use Rattle.seg_ops.specs.vm_world.FramesFit.{FilesFit}
 use Rattle.seg_ops.specs.vm_world.State.{FileMode}
 use Rattle.seg_ops.specs.vm_world.World.{file_blocks, file_name, is_unpushed, is_page_name, page_exists, page_table}
 use Rattle.seg_ops.proofs.vm_world.PageNames.{not-slot, index-of, file-there, file-apart, file-place, page-cases, keeps-page}
-use Rattle.seg_ops.proofs.Marks.{SameSpot}
+use Rattle.seg_ops.proofs.Marks.{SameSpot, page-spot as spot-of}
 use Rattle.seg_map.specs.Ends.{SetsEnd, valid_in}
 
 -- a page that a file keeps, told by the files
@@ -96,11 +96,6 @@ placed-page files anon name fit low = elim (place-cases (map file_blocks files.f
                   | inr x ↦ ap (λ (c : Bool). c && nat_lt name.page (length anon.counts)) x.0
                   | inl y ↦ ap (λ (c : Bool). c && nat_lt name.page (length anon.counts)) y.0 ∙ le-ltb name.page (length anon.counts) le
                 ]
-
--- TWO TABLES of the same files and slots have each name in one place.
-spot-of : (file : FileBlocks) (page : ℕ) (a b : Bool) (o : Option ℕ) (p q : Place) → SameSpot p q → SameSpot (unwrap_or (option_map (page_place file page a) o) p) (unwrap_or (option_map (page_place file page b) o) q)
-spot-of file page a b None p q same = same
-spot-of file page a b (Some block) p q same = record { disk = refl; block = refl; valid = refl }
 
 pub spot-any : (files : List FileBlocks) (slots : ℕ) (n : PageName) (a b : PageName → Bool) → SameSpot (table_of files slots a n) (table_of files slots b n)
 spot-any files slots n a b = by_file (slice_get files n.object) (by_slot (is_slot slots n))

@@ -1,4 +1,5 @@
 -- A FILE GETS ANOTHER END, and the store stays: memory and the notes fit, and the file is longer or shorter in flat memory.
+use Rattle.seg_ops.proofs.Fills.{clip-zeros}
 use Rattle.std.proofs.Common.{◌≡◌, ◌≢◌, ℕ, ◌+◌, ◌-◌, ◌*◌, ◌<◌, ◌≤◌, ◌==◌, min, Bool, true, false, cond, List, [], ◌∷◌, ◌++◌, length, map, Option, Some, None, refl, sym, ap, ◌∙◌, ◌⊎◌, inl, inr, subst, arith, zero, suc, slice_index_or}
 use Rattle.std.specs.Prelude.{IsTrue, IsFalse, ◌↔◌, option_map, slice_get, take, nat_lt, not, unwrap_or, replicate}
 use Rattle.std.specs.FinMap as finite
@@ -6,7 +7,7 @@ use Rattle.std.specs.Ordering.{nat_cmp}
 use Rattle.std.proofs.lemmas.Bool.{cases_eq, lt-ltb, ltb-true, le-ltb, cases_lt}
 use Rattle.std.proofs.lemmas.List.{length-append, length-replicate, replicate-append-replicate, take-append-le, take-replicate, take-take}
 use Rattle.std.proofs.lemmas.List.Elements.{All-append, All-replicate}
-use Rattle.std.proofs.lemmas.Option.{slice_get-map}
+use Rattle.std.proofs.lemmas.Option.{slice_get-map, slice_get_past as past-list}
 use Rattle.seg_ops.specs.core_arena.Bytes.{bytes_at, zeros}
 use Rattle.seg_ops.specs.page_hash.Names.{name_at, find}
 use Rattle.seg_ops.specs.page_hash.declared.PageName.{PageName}
@@ -33,7 +34,7 @@ use Rattle.seg_ops.specs.flat_model.Flat.{File, IsFile}
 use Rattle.seg_ops.specs.flat_model.Parts.{shorter_file, longer_file, file_of_length, with_extents_of}
 use Rattle.seg_ops.specs.flat_model.Words.{Page, pages_in, zero_page, IsPage}
 use Rattle.seg_ops.specs.flat_model.LineLaws.{page_front}
-use Rattle.seg_ops.proofs.flat_model.Grown.{grown_pages_law}
+use Rattle.seg_ops.proofs.flat_model.Grown.{grown_pages_law, slice_get-append_left as got-left, slice_get-append_right as got-right}
 use Rattle.seg_ops.proofs.flat_model.WellFormed.{IsFile-file_of_length, IsPage-zero_page}
 use Rattle.seg_ops.specs.vm_world.CallSteps.{KeepsMachine}
 use Rattle.seg_ops.specs.vm_world.CountsFit.{SegmentsFit}
@@ -47,7 +48,7 @@ use Rattle.seg_ops.specs.vm_world.State.{FileMode, mode_of}
 use Rattle.seg_ops.specs.vm_world.World.{World, file_blocks, file_name, is_unpushed, is_page_name, page_exists, world_table, AllTell}
 use Rattle.seg_ops.proofs.vm_world.Clips.{clip-whole, front-clip}
 use Rattle.seg_ops.proofs.vm_world.FilePages.{page-in, page-past}
-use Rattle.seg_ops.proofs.vm_world.FileSteps.{same-lists, past-list}
+use Rattle.seg_ops.proofs.vm_world.FileSteps.{same-lists}
 use Rattle.seg_ops.proofs.vm_world.FrameRule.{exists-page}
 use Rattle.seg_ops.proofs.vm_world.PageNames.{not-slot, index-of, file-there, file-apart, file-page, page-cases, below-kept}
 use Rattle.seg_ops.proofs.vm_world.StoredPages.{zeros-are}
@@ -55,26 +56,11 @@ use Rattle.seg_ops.proofs.StillSteps.{value-is}
 use Rattle.seg_map.specs.Ends.{valid_in, SetsEnd, IsReadyPage, MaySetEnd, lengthened, with_file_records, EndsLaw}
 use Rattle.seg_map.proofs.EndTables.{placed-page, first-page-of, files-end, table-beside, place-was, place-now, name-grown, exists-end, exists-now, exists-was}
 
-clip-zeros : (n : ℕ) → n ≤ 4096 → clip n zeros ≡ zeros
-clip-zeros n le =
-    ap (λ (l : List ℕ). l ++ replicate (4096 - n) 0) (take-replicate n 4096 0 le) ∙ replicate-append-replicate n (4096 - n) 0
-    ∙ ap (λ (k : ℕ). replicate k 0) (let e : n + (4096 - n) ≡ 4096 = omega (arith, le) in e)
-
 -- a page that is cut at more bytes first
 clip-less : (a b : ℕ) (bytes : List ℕ) → a ≤ b → b ≤ 4096 → length (clip b bytes) ≡ 4096 → clip a (clip b bytes) ≡ clip a bytes
 clip-less a b bytes le most whole =
     let n : length (take b bytes) ≡ b = let x = length-append (take b bytes) (replicate (4096 - b) 0) in let y = length-replicate {A = ℕ} (4096 - b) 0 in omega (arith, x, y, whole, most) in
     ap (λ (l : List ℕ). l ++ replicate (4096 - a) 0) (take-append-le a (take b bytes) (replicate (4096 - b) 0) (omega (arith, n, le)) ∙ take-take a b bytes le)
-
-pub got-left : {A : Type 0} (xs ys : List A) (i : ℕ) → i < length xs → slice_get (xs ++ ys) i ≡ slice_get xs i
-got-left [] ys i lt = absurd (omega (arith, lt))
-got-left (x ∷ xs) ys zero lt = refl
-got-left (x ∷ xs) ys (suc i) lt = got-left xs ys i (omega (arith, lt))
-
-pub got-right : {A : Type 0} (xs ys : List A) (i : ℕ) → length xs ≤ i → slice_get (xs ++ ys) i ≡ slice_get ys (i - length xs)
-got-right [] ys i le = ap (slice_get ys) (let e : i ≡ i - 0 = omega arith in e)
-got-right (x ∷ xs) ys zero le = absurd (omega (arith, le))
-got-right (x ∷ xs) ys (suc i) le = got-right xs ys i (omega (arith, le)) ∙ ap (slice_get ys) (let e : i - length xs ≡ suc i - suc (length xs) = omega arith in e)
 
 pub got-replicate : {A : Type 0} (n : ℕ) (x : A) (i : ℕ) → i < n → slice_get (replicate n x) i ≡ Some x
 got-replicate zero x i lt = absurd (omega (arith, lt))

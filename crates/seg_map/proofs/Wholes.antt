@@ -1,4 +1,5 @@
 -- WHAT SMALL CHANGES OF A FILE MAKE UP.
+use Rattle.std.proofs.lemmas.Option.{slice_get_past as past-list}
 use Rattle.std.proofs.Common.{◌≡◌, ◌≢◌, ℕ, zero, suc, ◌+◌, ◌-◌, ◌*◌, ◌%◌, ◌<◌, ◌≤◌, max, Bool, cond, List, [], ◌∷◌, ◌++◌, length, Option, Some, None, refl, sym, ap, ◌∙◌, ◌⊎◌, inl, inr, subst, arith}
 use Rattle.std.specs.Prelude.{option_map, slice_get, nat_lt, take, drop, replicate, remove}
 use Rattle.std.proofs.lemmas.Bool.{cases_eq, lt-ltb, le-ltb, cases_lt}
@@ -15,7 +16,7 @@ use Rattle.seg_ops.specs.flat_model.LineLaws.{page_front}
 use Rattle.seg_ops.specs.flat_model.Parts.{longer_file, shorter_file, with_part, with_extents_of}
 use Rattle.seg_ops.specs.flat_model.Words.{Page, IsPage, page, pages_in, zero_page, with_bytes}
 use Rattle.seg_ops.proofs.flat_model.Bytes.{slice_get-with_change_at, slice_get-changed_apart}
-use Rattle.seg_ops.proofs.flat_model.Grown.{grown_pages_law}
+use Rattle.seg_ops.proofs.flat_model.Grown.{grown_pages_law, slice_get-append_left as got-left, slice_get-append_right as got-right}
 use Rattle.seg_ops.proofs.flat_model.Lines.{lines_in_pages_law}
 use Rattle.seg_ops.proofs.flat_model.WellFormed.{Each, Each-All, All-Each, IsFile-longer_file, IsPage-zero_page}
 use Rattle.seg_ops.specs.vm_world.FileSteps.{ChangesFile, file_seen}
@@ -24,13 +25,13 @@ use Rattle.seg_ops.specs.vm_world.NotesFit.{NotesFit}
 use Rattle.seg_ops.specs.vm_world.World.{AllTell}
 use Rattle.seg_ops.specs.vm_world.MemoryFits.{MemoryFits}
 use Rattle.seg_ops.proofs.vm_world.FlatWhole.{some-inj}
-use Rattle.seg_ops.proofs.vm_world.FileSteps.{same-lists, past-list, files-then}
+use Rattle.seg_ops.proofs.vm_world.FileSteps.{same-lists, files-then}
 use Rattle.seg_ops.proofs.vm_world.PageNames.{index-of}
 use Rattle.seg_map.specs.Ends.{lengthened}
 use Rattle.seg_map.specs.Puts.{with_bytes_in}
 use Rattle.seg_map.specs.Voids.{with_page_void}
 use Rattle.seg_map.specs.Wholes.{gap_zeros, WholesLaw, PartLaw}
-use Rattle.seg_map.proofs.Ends.{got-left, got-right, got-replicate}
+use Rattle.seg_map.proofs.Ends.{got-replicate}
 
 -- A PART.
 part : (file : File) (offset : ℕ) (line : List ℕ) → IsFile file → offset % 4096 + length line ≤ 4096 → with_bytes_in (page offset) (offset % 4096) line (longer_file (offset + length line) file) ≡ with_part offset line file

@@ -1,4 +1,5 @@
 -- The disks that pages live on are there; and what may be answered to a call that wants a page home.
+use Rattle.seg_ops.proofs.FillSteps.{some-of as some-blocks}
 use Rattle.std.proofs.Common.{◌≡◌, ◌≢◌, ℕ, ◌<◌, true, false, List, length, Option, Some, None, refl, sym, ap, ◌∙◌, inl, inr, subst, arith}
 use Rattle.std.specs.Prelude.{IsTrue, IsFalse, IsSome}
 use Rattle.std.specs.FinMap as finite
@@ -32,10 +33,6 @@ pub record LivesOn (w : World) (name : PageName) : Type 0 where
   pub swap : name.object ≡ 64 → (world_table w name).disk ≡ 8
   pub file : name.object ≢ 64 → (name.object < length w.files.files) × ((world_table w name).disk ≡ (vnode_at w.files name.object).info.disk)
   pub there : bay_at w.store.bays (world_table w name).disk ≢ missing
-
-some-blocks : (o : Option ℕ) → IsSome o → (n : ℕ) × (o ≡ Some n)
-some-blocks None h = absurd (let z : false ≡ true = h in cc)
-some-blocks (Some n) h = (n, refl)
 
 pub lives-on : (w : World) (spaces : Spaces) (name : PageName) → MemoryFits (memory_of w spaces) → IsTrue (page_exists w.files w.anon name) → LivesOn w name
 lives-on w spaces name f exists = elim (page-cases w.files w.anon name (exists-page w name f.files exists)) [

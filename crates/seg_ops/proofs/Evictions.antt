@@ -1,4 +1,5 @@
 -- A page that isn't modified loses its translations and goes on the cache list.
+use Rattle.page_store.proofs.FrameLaws.{source-within as some-source, home_held as unlocked-of}
 use Rattle.std.proofs.Common.{◌≡◌, ℕ, zero, suc, ◌<◌, Bool, true, false, List, [], ◌∷◌, ◌++◌, length, Option, Some, None, refl, sym, ap, ◌∙◌, ◌⊎◌, inl, inr, subst, arith}
 use Rattle.std.specs.Prelude.{IsSome, is_some, is_none, ◌||◌, ◌&&◌, unwrap_or, Contains}
 use Rattle.std.proofs.lemmas.Bool.{cases_Bool}
@@ -44,11 +45,6 @@ clean-page w notes frame n nf clear name there = elim (nf.clean frame n name the
 locked-of : (holder : Option ℕ) (name : Option PageName) (b : Bool) → (is_some holder && is_none name) ≡ b → b ≡ true → (seat : ℕ) × (holder ≡ Some seat)
 locked-of None name b e t = absurd (let z : false ≡ true = e ∙ t in cc)
 locked-of (Some seat) name b e t = (seat, refl)
-
-some-source : (rows : List Row) (k own : ℕ) → (row_at rows k).source ≡ Some own → k < length rows
-some-source [] k own h = cc
-some-source (r ∷ rs) zero own h = omega arith
-some-source (r ∷ rs) (suc k) own h = let more = some-source rs k own h in omega (arith, more)
 
 or-some : (gone : Bool) (o : Option ℕ) (own : ℕ) → o ≡ Some own → (gone || is_some o) ≡ true
 or-some gone None own e = absurd (cc)
@@ -100,11 +96,6 @@ unsent-by w notes frame (Some copy) sound nf clear e =
 pub unsent : (w : World) (spaces : Spaces) (notes : Notes) (frame : ℕ) → MemoryFits (memory_of w spaces) → NotesFit w notes → (row_at w.store.rows frame).modified ≡ false → IsUnwritten w.hat.places frame
     → is_some (row_at w.store.rows frame).snapshot ≡ false
 unsent w spaces notes frame f nf clear unwritten = unsent-by w notes frame (row_at w.store.rows frame).snapshot f.frames.sound nf (not-modified w.store w.hat.places frame clear unwritten) refl
-
-unlocked-of : (b : Option (List ℕ)) (h : Option ℕ) → is_none b ≡ is_some h → IsSome b → h ≡ None
-unlocked-of (Some x) None away there = refl
-unlocked-of (Some x) (Some y) away there = absurd (cc)
-unlocked-of None h away there = absurd (let z : false ≡ true = there in cc)
 
 pub unlocked : (w : World) (spaces : Spaces) (frame : ℕ) → MemoryFits (memory_of w spaces) → IsSome (bytes_at w.store.frames frame) → (row_at w.store.rows frame).holder ≡ None
 unlocked w spaces frame f there = unlocked-of (bytes_at w.store.frames frame) (row_at w.store.rows frame).holder (f.frames.sound.each frame (some-within w.store.frames frame there)).away there

@@ -1,4 +1,5 @@
 -- A PAGE OF ZEROS is made: the step, and the cut of the name that the taken frame held.
+use Rattle.seg_ops.proofs.Shows.{of-frame as of-next}
 use Rattle.std.proofs.Common.{◌≡◌, ◌≢◌, ℕ, ◌<◌, ◌==◌, Bool, true, false, cond, List, length, Option, Some, None, refl, sym, ap, ◌∙◌, inl, inr, subst, get_or-set_same}
 use Rattle.std.specs.Prelude.{IsTrue, IsSome, IfSome}
 use Rattle.std.proofs.lemmas.Bool.{cases_Bool, eq-eqb}
@@ -28,11 +29,6 @@ use Rattle.vm_world.specs.WorldSteps.{WorldStep, stays, cut_page}
 use Rattle.vm_world.proofs.FrameRule.{exists-page, valid-within}
 use Rattle.seg_ops.proofs.StillSteps.{with_tables, memory_of, tell-kept, value-is}
 use Rattle.seg_ops.proofs.Fills.{TakesFor, next-listed, fill-memory, fill-notes, blank-is}
-
--- what is said of the next frame, where there is one
-pub of-next : (o : Option ℕ) (frame : ℕ) (P : ℕ → Type 0) → o ≡ Some frame → IfSome o P → P frame
-of-next None frame P e h = absurd (cc)
-of-next (Some g) frame P e h = subst P (let z : Some g ≡ Some frame = e in cc) h
 
 pub some-of : (o : Option ℕ) → IsSome o → (x : ℕ) × (o ≡ Some x)
 some-of None h = absurd (let z : false ≡ true = h in cc)

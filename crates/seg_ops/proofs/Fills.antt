@@ -149,7 +149,7 @@ zeros-cut zero m le = let e : m - 0 ≡ m = omega arith in ap nils e
 zeros-cut (suc n) zero le = absurd (omega (arith, le))
 zeros-cut (suc n) (suc m) le = let e : suc m - suc n ≡ m - n = omega arith in ap (λ (k : ℕ). take (suc n) (nils (suc m)) ++ nils k) e ∙ ap (λ (b : List ℕ). 0 ∷ b) (zeros-cut n m (omega (arith, le)))
 
-clip-zeros : (n : ℕ) → n ≤ 4096 → clip n zeros ≡ zeros
+pub clip-zeros : (n : ℕ) → n ≤ 4096 → clip n zeros ≡ zeros
 clip-zeros n le = zeros-cut n 4096 le
 
 pub away-home : (b : Option (List ℕ)) → b ≡ None → IsSome b → ⊥

@@ -2,7 +2,7 @@
 use Rattle.std.proofs.Common.{◌≡◌, ◌≢◌, ℕ, ◌<◌, true, List, length, Option, Some, None, refl, sym, ap, ◌∙◌, ◌⊎◌, inl, inr, subst, get_or-set_same}
 use Rattle.std.specs.Option.{option_or}
 use Rattle.std.specs.Prelude.{◌||◌}
-use Rattle.std.proofs.lemmas.Bool.{eq-eqb}
+use Rattle.std.proofs.lemmas.Bool.{eq-eqb, or_left as or-left, or_right as or-right}
 use Rattle.page_store.specs.page_lock.Rows.{row_at, clear_row, with_bits}
 use Rattle.page_store.specs.page_lock.declared.Row.{Row}
 use Rattle.page_store.specs.Laws.{StaysInPlace}
@@ -19,7 +19,7 @@ use Rattle.seg_ops.specs.Flights.{IsUnloaded, places_pushed}
 use Rattle.vm_world.specs.Words.{KeepsPages}
 use Rattle.seg_ops.specs.Steps.{with_bits_gathered}
 use Rattle.seg_ops.proofs.Fills.{next-listed}
-use Rattle.seg_ops.proofs.Places.{any-place, each-drop_frame, each-change_frame, written-gone, or-left, or-right}
+use Rattle.seg_ops.proofs.Places.{any-place, each-drop_frame, each-change_frame, written-gone}
 use Rattle.seg_ops.proofs.StillSteps.{with_tables, memory_of}
 use Rattle.seg_ops.proofs.Syncs.{gather-keeps}
 

@@ -1,4 +1,5 @@
 -- Bits that are gathered into a page.
+use Rattle.std.proofs.lemmas.Bool.{or_left as or-left, or_right as or-right}
 use Rattle.std.proofs.Common.{◌≡◌, ℕ, ◌<◌, Bool, true, List, length, Option, Some, refl, sym, ap, ◌∙◌, ◌⊎◌, inl, inr, subst, arith, get_or-set_same}
 use Rattle.std.specs.Prelude.{◌||◌}
 use Rattle.page_store.specs.page_lock.Rows.{row_at, clear_row, with_bits}
@@ -12,7 +13,7 @@ use Rattle.vm_world.specs.vnode_files.Files.{FilesSeen}
 use Rattle.vm_world.specs.FramesFit.{FramesFit}
 use Rattle.vm_world.specs.TranslationsFit.{HasWritten}
 use Rattle.seg_ops.specs.Steps.{with_bits_gathered}
-use Rattle.seg_ops.proofs.Places.{index-set, or-left, or-right}
+use Rattle.seg_ops.proofs.Places.{index-set}
 use Rattle.seg_ops.proofs.StillSteps.{KeepsRow, KeepsFrames, same-row}
 
 -- the row of a frame with bits added

@@ -1,7 +1,7 @@
 -- WHAT COMES BACK with a flight, of a read and of a push alike: a frame and a disk.
 use Rattle.std.proofs.Common.{◌≡◌, ◌≢◌, ℕ, ◌<◌, ◌==◌, Bool, true, false, List, length, Option, Some, None, refl, sym, ap, ◌∙◌, ◌⊎◌, inl, inr, subst, arith, slice_set, get_or-set_same}
 use Rattle.std.specs.Prelude.{IsSome, ◌||◌}
-use Rattle.std.proofs.lemmas.Bool.{cases_eq, cases_Bool}
+use Rattle.std.proofs.lemmas.Bool.{cases_eq, cases_Bool, or_from as or-both}
 use Rattle.page_store.specs.block_device.DiskSeen.{HasBlocks}
 use Rattle.page_store.specs.core_arena.Bytes.{bytes_at}
 use Rattle.page_store.specs.page_hash.Names.{name_at}
@@ -21,8 +21,8 @@ use Rattle.page_store.proofs.Agree.{own-other, own-self}
 use Rattle.page_store.proofs.Elsewhere.{OneFrame}
 use Rattle.page_store.proofs.EndLemmas.{landed-within, landed-unlisted, one-landed}
 use Rattle.page_store.proofs.FrameLaws.{agrees-at, away-snapshot, eq-far, gone-unnamed, held-away, named-unsourced}
-use Rattle.page_store.proofs.Links.{or-both, parted-own-row, parted-copy-row, elsewhere-parted, sound-parted}
-use Rattle.page_store.proofs.QueryLemmas.{held-within, home-is, residence-home}
+use Rattle.page_store.proofs.Links.{parted-own-row, parted-copy-row, elsewhere-parted, sound-parted}
+use Rattle.page_store.proofs.QueryLemmas.{held-within, home-is, residence-home, home-some as home-filled}
 use Rattle.seg_ops.proofs.StillSteps.{KeepsRow, same-row}
 
 -- A frame that isn't the flight's keeps its bytes, its name and its row, but that the page of a snapshot has no snapshot then, and another modified bit.
@@ -182,9 +182,6 @@ home-aside old new f g c there e = by_bytes (bytes_at old.frames g) (ap (bytes_a
     by_bytes : (b : Option (List ℕ)) → b ≡ None → IsSome b → ⊥
     by_bytes None e h = let z : false ≡ true = h in cc
     by_bytes (Some x) e h = absurd (cc)
-
-pub home-filled : (s : StoreSeen) (n : PageName) (g : ℕ) → residence s n ≡ Home g → IsSome (bytes_at s.frames g)
-home-filled s n g at = subst (λ (b : Option (List ℕ)). IsSome b) (sym (home-is s n g at).there) refl
 
 pub home-stays : (old new : StoreSeen) (f : FlightSeen) (n : PageName) (g : ℕ) → Lands old new f → residence old n ≡ Home g → residence new n ≡ Home g
 home-stays old new f n g c at =

@@ -1,4 +1,5 @@
 -- A FLIGHT COMES BACK: memory fits then, by what its note says.
+use Rattle.page_store.proofs.QueryLemmas.{home-some as home-filled}
 use Rattle.std.proofs.Common.{◌≡◌, ◌≢◌, ℕ, true, false, List, length, Option, Some, None, refl, sym, ap, ◌∙◌, inl, inr, subst}
 use Rattle.std.specs.Prelude.{IsSome, not, unwrap_or}
 use Rattle.std.specs.Ordering.{nat_cmp}
@@ -21,7 +22,7 @@ use Rattle.vm_world.specs.TranslationsFit.{IsModified}
 use Rattle.vm_world.specs.World.{World, world_table, slot_name}
 use Rattle.vm_world.proofs.FrameRule.{exists-page}
 use Rattle.seg_ops.proofs.Fills.{blank-is}
-use Rattle.seg_ops.proofs.Lands.{Lands, was-named, home-aside, home-filled, home-stays, own-or-aside}
+use Rattle.seg_ops.proofs.Lands.{Lands, was-named, home-aside, home-stays, own-or-aside}
 use Rattle.seg_ops.proofs.Places.{index-set}
 use Rattle.seg_ops.proofs.StillSteps.{with_tables, memory_of}
 

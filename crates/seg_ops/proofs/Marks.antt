@@ -63,7 +63,7 @@ pub record SameSpot (p q : Place) : Type 0 where
   pub block : p.block ≡ q.block
   pub valid : p.valid ≡ q.valid
 
-page-spot : (file : FileBlocks) (page : ℕ) (a b : Bool) (o : Option ℕ) (p q : Place) → SameSpot p q → SameSpot (unwrap_or (option_map (page_place file page a) o) p) (unwrap_or (option_map (page_place file page b) o) q)
+pub page-spot : (file : FileBlocks) (page : ℕ) (a b : Bool) (o : Option ℕ) (p q : Place) → SameSpot p q → SameSpot (unwrap_or (option_map (page_place file page a) o) p) (unwrap_or (option_map (page_place file page b) o) q)
 page-spot file page a b None p q same = same
 page-spot file page a b (Some block) p q same = record { disk = refl; block = refl; valid = refl }
 

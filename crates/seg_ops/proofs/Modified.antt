@@ -1,4 +1,6 @@
 -- Bits that are gathered and translations that are dropped make no page modified.
+use Rattle.vm_world.proofs.flat_model.Ranges.{both_true as both}
+use Rattle.vm_world.proofs.flat_model.Starts.{or_cases as or-parts}
 use Rattle.std.proofs.Common.{◌≡◌, ℕ, suc, ◌==◌, Bool, true, false, List, [], ◌∷◌, Option, Some, None, refl, sym, ap, ◌∙◌, ◌⊎◌, inl, inr, subst, slice_index_or}
 use Rattle.std.specs.Prelude.{◌||◌}
 use Rattle.std.specs.List.{list_any}
@@ -14,13 +16,9 @@ use Rattle.vm_world.specs.Serving.{ModifiesNone}
 use Rattle.vm_world.specs.TranslationsFit.{HasWritten, IsModified}
 use Rattle.vm_world.specs.World.{World}
 use Rattle.seg_ops.specs.Steps.{with_bits_gathered}
-use Rattle.seg_ops.proofs.Places.{both, index-map, changed-from, was-kept}
+use Rattle.seg_ops.proofs.Places.{index-map, changed-from, was-kept}
 use Rattle.seg_ops.proofs.Gathers.{row-gathered}
 use Rattle.seg_ops.proofs.StillSteps.{with_tables}
-
-pub or-parts : (a b : Bool) → (a || b) ≡ true → (a ≡ true) ⊎ (b ≡ true)
-or-parts true b h = inl refl
-or-parts false b h = inr h
 
 -- a place of the pool that passes a test, where some place does
 record Passes (W : Option Translation → Bool) (places : List (Option Translation)) : Type 0 where

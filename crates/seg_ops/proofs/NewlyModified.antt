@@ -1,5 +1,6 @@
 -- Which pages become modified: none as translations are loaded or dropped and frames are freed; the page that a frame is taken for; and the one that a store
 -- is noted of.
+use Rattle.vm_world.proofs.flat_model.Starts.{or_cases as or-parts}
 use Rattle.std.proofs.Common.{◌≡◌, ◌≢◌, ℕ, ◌==◌, Bool, true, false, cond, List, Option, Some, None, refl, sym, ap, ◌∙◌, ◌⊎◌, inl, inr, subst, slice_index_or, slice_set}
 use Rattle.std.specs.Prelude.{option_map, IsSome, IfSome, MatchOption}
 use Rattle.std.proofs.lemmas.Bool.{cases_Bool}
@@ -29,7 +30,7 @@ use Rattle.seg_ops.proofs.FreedFrames.{Frees, frees-next}
 use Rattle.seg_ops.proofs.Fills.{next-listed}
 use Rattle.seg_ops.proofs.GivenUp.{GivesUp}
 use Rattle.seg_ops.proofs.Marks.{cases-name}
-use Rattle.seg_ops.proofs.Modified.{modifies-same, or-parts, row-was}
+use Rattle.seg_ops.proofs.Modified.{modifies-same, row-was}
 use Rattle.seg_ops.proofs.Places.{changed-from, index-map, index-set, stands-at}
 use Rattle.seg_ops.proofs.StillSteps.{memory_of, with_tables}
 use Rattle.seg_ops.proofs.Unloads.{found-own, kept-of}

@@ -1,4 +1,5 @@
 -- LAWS OF OWN PAGES in flat memory.
+use Rattle.vm_world.proofs.flat_model.Bytes.{All-slice_get as all-get}
 use Rattle.std.proofs.Common.{◌≡◌, ◌≢◌, ℕ, zero, suc, ◌+◌, ◌<◌, Bool, true, false, cond, [], length, Option, Some, None, refl, sym, ap, ◌∙◌, inl, inr, subst, arith}
 use Rattle.std.specs.Prelude.{option_map, slice_get, unwrap_or}
 use Rattle.std.specs.Option.{option_map_or}
@@ -25,7 +26,7 @@ use Rattle.vm_world.specs.Pages.{page_value, contents_of}
 use Rattle.vm_world.specs.World.{file_name}
 use Rattle.vm_world.proofs.FilePages.{page-in, file-in}
 use Rattle.vm_world.proofs.FlatWhole.{some-inj}
-use Rattle.vm_world.proofs.PageNames.{not-slot, all-get, file-apart}
+use Rattle.vm_world.proofs.PageNames.{not-slot, file-apart}
 use Rattle.seg_ops.specs.OwnPages.{own_at_empty_place, without_own_pages, OwnPagesLaw}
 use Rattle.seg_ops.specs.Slots.{with_own_page}
 use Rattle.seg_ops.proofs.OwnPages.{flat-cell, flat-unheld_all}

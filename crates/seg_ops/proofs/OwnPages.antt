@@ -1,4 +1,6 @@
 -- A CELL LOSES ITS OWN PAGE AND GETS ONE: flat memory stays well formed, and is as it was where the page is the same.
+use Rattle.vm_world.proofs.flat_model.Stores.{cell_at-with_cell as cell-here}
+use Rattle.vm_world.proofs.Maps.{insert-twice as twice}
 use Rattle.std.proofs.Common.{◌≡◌, ℕ, zero, suc, ◌+◌, Option, Some, None, refl, sym, ap, ◌∙◌, inl, inr, subst}
 use Rattle.std.specs.Prelude.{option_and_then, is_some, unwrap_or, IsSome}
 use Rattle.std.specs.Option.{option_map_or}
@@ -15,9 +17,8 @@ use Rattle.vm_world.specs.flat_model.Access.{with_cell}
 use Rattle.vm_world.specs.flat_model.Flat.{Cell, Space, Flat, IsCell, IsFlat, space_of, cell_at}
 use Rattle.vm_world.specs.flat_model.Words.{Page, IsPage, zero_page}
 use Rattle.vm_world.proofs.flat_model.Ranges.{get-insert_here, get-insert_apart, insert_same}
-use Rattle.vm_world.proofs.flat_model.WellFormed.{IsPage-zero_page}
+use Rattle.vm_world.proofs.flat_model.WellFormed.{IsPage-zero_page, IsFlat-with_space as flat-with_space}
 use Rattle.vm_world.specs.FlatMemory.{own_without_slot}
-use Rattle.vm_world.proofs.FlatSpaces.{flat-with_space}
 use Rattle.vm_world.proofs.FlatWhole.{some-inj}
 use Rattle.seg_ops.specs.OwnPages.{own_at_empty_place, without_own_page, without_own_pages}
 use Rattle.seg_ops.specs.Slots.{with_own_page}
@@ -72,13 +73,6 @@ pub flat-unheld_all : (F : Flat) (p first n : ℕ) → IsFlat F → IsFlat (with
 flat-unheld_all F p first zero flat = flat
 flat-unheld_all F p first (suc n) flat = flat-unheld (without_own_pages F p first n) p (first + n) (flat-unheld_all F p first n flat)
 
--- one cell after another, and the cell that stood there
-pub twice : {X : Type 0} (m : finite.FinMap nat_cmp X) (k : ℕ) (v w : X) → finite.insert (finite.insert m k v) k w ≡ finite.insert m k w
-twice m k v w = finite.same_map nat_cmp_total finite.nat_cmp-IsAntisymmetric _ _ (λ q. elim (cases_eq q k) [
-  | inl e ↦ ap (finite.get (finite.insert (finite.insert m k v) k w)) e ∙ get-insert_here (finite.insert m k v) k w ∙ sym (get-insert_here m k w) ∙ ap (finite.get (finite.insert m k w)) (sym e)
-  | inr ne ↦ get-insert_apart (finite.insert m k v) k w q ne ∙ get-insert_apart m k v q ne ∙ sym (get-insert_apart m k w q ne)
-])
-
 pub cell-twice : (F : Flat) (p q : ℕ) (a b : Cell) → with_cell (with_cell F p q a) p q b ≡ with_cell F p q b
 cell-twice F p q a b =
     let s : Space = unwrap_or (space_of F p) finite.empty in
@@ -95,11 +89,6 @@ cell-back F p q c is =
     ap (λ (x : Space). record F { spaces = finite.insert F.spaces p (finite.insert x q c) }) same
     ∙ ap (λ (x : Space). record F { spaces = finite.insert F.spaces p x }) (insert_same at.0 q c at.2)
     ∙ ap (λ x. record F { spaces = x }) (insert_same F.spaces p at.0 at.1)
-
-pub cell-here : (F : Flat) (p q : ℕ) (c : Cell) → cell_at (with_cell F p q c) p q ≡ Some c
-cell-here F p q c =
-    let t : Space = finite.insert (unwrap_or (space_of F p) finite.empty) q c in
-    ap (option_and_then (λ (s : Space). finite.get s q)) (get-insert_here F.spaces p t) ∙ get-insert_here (unwrap_or (space_of F p) finite.empty) q c
 
 -- THE PAGE THAT A CELL HAD, given back.
 pub own-back : (F : Flat) (p q : ℕ) (c : Cell) (own : Page) → cell_at F p q ≡ Some c → c.own ≡ Some own → with_own_page (without_own_page F p q) p q own ≡ F

@@ -9,11 +9,11 @@ use Rattle.vm_world.specs.flat_model.Access.{access_target, store, with_cell, wi
 use Rattle.vm_world.specs.flat_model.Refusals.{done_effect}
 use Rattle.vm_world.specs.flat_model.Flat.{Cell, Flat, IsCell, IsFlat, cell_at, shown, pages_of}
 use Rattle.vm_world.specs.flat_model.Words.{Page, IsPage, page, word_put}
-use Rattle.vm_world.proofs.flat_model.Stores.{IsPage-shown, is_met, met_is}
+use Rattle.vm_world.proofs.flat_model.Stores.{IsPage-shown, is_met, met_is, cell_at-with_cell as cell-here}
 use Rattle.vm_world.proofs.FlatWhole.{some-inj}
 use Rattle.seg_ops.specs.OwnPages.{with_shown, with_own_shown, OwnShownLaw}
 use Rattle.seg_ops.specs.Slots.{with_own_page}
-use Rattle.seg_ops.proofs.OwnPages.{flat-cell, cell-back, cell-here, cell-twice}
+use Rattle.seg_ops.proofs.OwnPages.{flat-cell, cell-back, cell-twice}
 
 -- what it is, by the cell
 shown-is : (F : Flat) (p q : ℕ) (c : Cell) → cell_at F p q ≡ Some c → with_own_shown F p q ≡ with_shown F p q c (shown F c)

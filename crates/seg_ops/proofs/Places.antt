@@ -1,8 +1,9 @@
 -- The places of the pool of translations, after one was loaded or touched, and after those of a frame were changed or dropped.
+use Rattle.vm_world.proofs.flat_model.Ranges.{both_true as both}
 use Rattle.std.proofs.Common.{◌≡◌, ◌≢◌, ℕ, zero, suc, ◌==◌, Bool, true, false, cond, List, [], ◌∷◌, map, Option, Some, None, refl, sym, ap, ◌∙◌, ◌⊎◌, inl, inr, subst, slice_index_or, slice_set}
 use Rattle.std.specs.Prelude.{option_map, option_and_then, find, ◌&&◌, ◌||◌}
 use Rattle.std.specs.List.{list_any}
-use Rattle.std.proofs.lemmas.Bool.{cases_Bool, eqb-true, eq-eqb}
+use Rattle.std.proofs.lemmas.Bool.{cases_Bool, eqb-true, eq-eqb, or_left as or-left, or_right as or-right}
 use Rattle.vm_world.specs.hat_layer.declared.translation.Translation.{Translation}
 use Rattle.vm_world.specs.hat_layer.Pool.{IsNoted, translation_at, holds, leads, change_page, change_at, after_access, change_lead, drop_lead, change_frame, drop_frame, with_clear_bits, has_bit}
 use Rattle.vm_world.specs.TranslationsFit.{HasWritten}
@@ -11,19 +12,6 @@ use Rattle.seg_ops.specs.Steps.{IsUnwritten}
 -- Each translation of the pool has this.
 abbrev pub Each : (Translation → Type 0) → List (Option Translation) → Type 0
 Each P places = (place : ℕ) (t : Translation) → slice_index_or places place None ≡ Some t → P t
-
-pub both : (a b : Bool) → (a && b) ≡ true → (a ≡ true) × (b ≡ true)
-both true true h = (refl, refl)
-both true false h = (refl, h)
-both false b h = absurd (cc)
-
-pub or-left : (a b : Bool) → a ≡ true → (a || b) ≡ true
-or-left true b h = refl
-or-left false b h = absurd (cc)
-
-pub or-right : (a b : Bool) → b ≡ true → (a || b) ≡ true
-or-right true b h = refl
-or-right false b h = h
 
 -- what the map has at a page stands in a place, and is that page's
 pub record StandsAt (places : List (Option Translation)) (space page : ℕ) (t : Translation) : Type 0 where

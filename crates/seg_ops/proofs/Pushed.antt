@@ -1,4 +1,5 @@
 -- A slot that is marked, and a page of a file that stops being blank: nothing else changes.
+use Rattle.vm_world.proofs.page_hash.NameLaws.{same_fields as one-name}
 use Rattle.std.proofs.Common.{◌≡◌, ◌≢◌, ℕ, zero, suc, ◌<◌, ◌==◌, Bool, true, false, cond, List, [], ◌∷◌, map, length, refl, sym, ap, ◌∙◌, inl, inr, subst, slice_index_or, slice_set, length-set, get_or-set_same}
 use Rattle.std.specs.Prelude.{IsTrue, not}
 use Rattle.std.proofs.lemmas.Bool.{eq-eqb}
@@ -26,13 +27,10 @@ slot-marked anon slot = record anon { swapped = slice_set anon.swapped slot true
 abbrev pub file-marked : FilesSeen → ℕ → ℕ → FilesSeen
 file-marked files f page = with_vnode files f (with_blank (vnode_at files f) page false)
 
-one-name : (n name : PageName) → n.object ≡ name.object → n.page ≡ name.page → n ≡ name
-one-name n name object page = λ i. record { object = object i; page = page i }
-
 set-other : (bits : List Bool) (i j : ℕ) (b : Bool) → j ≢ i → slice_index_or (slice_set bits i b) j false ≡ slice_index_or bits j false
 set-other bits i j b ne = elim (index-set bits i b j false) [ inl same ↦ same | inr at ↦ absurd (ne at.0) ]
 
-cleared : (bits : List Bool) (i : ℕ) → slice_index_or (slice_set bits i false) i false ≡ false
+pub cleared : (bits : List Bool) (i : ℕ) → slice_index_or (slice_set bits i false) i false ≡ false
 cleared [] i = refl
 cleared (b ∷ bs) zero = refl
 cleared (b ∷ bs) (suc i) = cleared bs i
@@ -55,7 +53,7 @@ slot-marks w name slot below = record {
   ];
 }
 
-infos-set : (vs : List VnodeSeen) (f page : ℕ) → map (λ (v : VnodeSeen). v.info) (slice_set vs f (with_blank (slice_index_or vs f no_vnode) page false)) ≡ map (λ (v : VnodeSeen). v.info) vs
+pub infos-set : (vs : List VnodeSeen) (f page : ℕ) → map (λ (v : VnodeSeen). v.info) (slice_set vs f (with_blank (slice_index_or vs f no_vnode) page false)) ≡ map (λ (v : VnodeSeen). v.info) vs
 infos-set [] f page = refl
 infos-set (v ∷ vs) zero page = refl
 infos-set (v ∷ vs) (suc f) page = ap (λ (more : List FileInfo). v.info ∷ more) (infos-set vs f page)

@@ -33,16 +33,12 @@ use Rattle.vm_world.specs.TranslationsFit.{HasWritten, IsModified}
 use Rattle.vm_world.specs.World.{World, world_table, page_exists}
 use Rattle.vm_world.specs.WorldSteps.{WorldStep, leaves}
 use Rattle.vm_world.proofs.FrameRule.{exists-page}
-use Rattle.seg_ops.proofs.Fills.{held-by, was-taken}
+use Rattle.seg_ops.proofs.Fills.{held-by, was-taken, away-home}
 use Rattle.seg_ops.proofs.FillSteps.{next-whole}
 use Rattle.seg_ops.proofs.Marks.{cases-name}
 use Rattle.seg_ops.proofs.Places.{index-set}
 use Rattle.seg_ops.proofs.Sent.{Sends}
 use Rattle.seg_ops.proofs.StillSteps.{with_tables, memory_of, value-is}
-
-away-home : (b : Option (List ℕ)) → b ≡ None → IsSome b → ⊥
-away-home None e h = let z : false ≡ true = h in cc
-away-home (Some x) e h = absurd (cc)
 
 pub home-not-out : (d : DiskSeen) (seat : ℕ) → home d ≡ out seat → ⊥
 home-not-out d seat e = cc

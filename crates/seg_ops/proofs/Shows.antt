@@ -44,7 +44,7 @@ pub home-within : (w : World) (spaces : Spaces) (name : PageName) (frame : ℕ) 
 home-within w spaces name frame f home = found-within w.store name frame f.frames.sound (home-found w name frame home)
 
 -- what is said of the frame of a page that is home
-of-frame : (o : Option ℕ) (frame : ℕ) (P : ℕ → Type 0) → o ≡ Some frame → IfSome o P → P frame
+pub of-frame : (o : Option ℕ) (frame : ℕ) (P : ℕ → Type 0) → o ≡ Some frame → IfSome o P → P frame
 of-frame None frame P e h = absurd (cc)
 of-frame (Some g) frame P e h = subst P (let z : Some g ≡ Some frame = e in cc) h
 

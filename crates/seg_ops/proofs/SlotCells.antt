@@ -17,17 +17,13 @@ use Rattle.vm_world.specs.vm_types.declared.call.Object.TheVariants as object
 use Rattle.vm_world.specs.declared.segment.Segment.{Segment}
 use Rattle.vm_world.specs.FlatMemory.{Shape, own_without_slot, cell_of, space_with, map_with, pages_from, zero_maps, zero_pages, flat_shaped}
 use Rattle.vm_world.specs.Segments.{Spot, Spaces, spot_at}
-use Rattle.vm_world.proofs.Maps.{get-map_with, get-space_with, map_with-same, map_with-but_one}
+use Rattle.vm_world.proofs.Maps.{get-map_with, get-space_with, map_with-same, map_with-but_one, on_option as on-some}
 use Rattle.seg_ops.specs.Slots.{OwnsAlone}
 
 -- one place of a map holds a page or nothing, and each other place what it held
 pub record PutsHeld (old new : ℕ → ℕ → Option Page) (m i : ℕ) (held : Option Page) : Type 0 where
   pub there : new m i ≡ held
   pub others : (a b : ℕ) → ((a ≡ m) × (b ≡ i) → ⊥) → new a b ≡ old a b
-
-on-some : {X Y : Type 0} (f g : X → Y) (o : Option X) → ((x : X) → o ≡ Some x → g x ≡ f x) → option_map g o ≡ option_map f o
-on-some f g None same = refl
-on-some f g (Some x) same = ap (λ y. Some y) (same x refl)
 
 -- a cell elsewhere is as it was
 own-else : (old new : ℕ → ℕ → Option Page) (m i : ℕ) (o : Option Page) (own : Option ℕ) (j : ℕ) (ob : Object) → PutsHeld old new m i o → (own ≡ Some m → j ≡ i → ⊥)

@@ -1,4 +1,5 @@
 -- FLAT MEMORY once a slot was made for a place, with its page: the place holds the page, and the tails of the files whose last page was cut are zeros.
+use Rattle.vm_world.proofs.flat_model.Bytes.{All-slice_get as all-get}
 use Rattle.std.proofs.Common.{◌≡◌, ◌≢◌, ℕ, ◌+◌, ◌-◌, ◌*◌, ◌<◌, min, Bool, cond, List, [], map, Option, Some, None, refl, sym, ap, ◌∙◌, subst, arith}
 use Rattle.std.specs.Prelude.{IsTrue, nat_lt, option_map, slice_get}
 use Rattle.std.specs.Option.{option_map_or}
@@ -33,7 +34,7 @@ use Rattle.vm_world.proofs.Clips.{cut-none}
 use Rattle.vm_world.proofs.Counts.{held-used, used-below}
 use Rattle.vm_world.proofs.CutFiles.{cut-file, cut-files}
 use Rattle.vm_world.proofs.FilePages.{page-in, file-in}
-use Rattle.vm_world.proofs.PageNames.{not-slot, info-there, all-get, file-apart, below-kept, file-place, slot-place}
+use Rattle.vm_world.proofs.PageNames.{not-slot, info-there, file-apart, below-kept, file-place, slot-place}
 use Rattle.vm_world.proofs.Maps.{cell-at}
 use Rattle.vm_world.proofs.StoredPages.{zeros-are}
 use Rattle.seg_ops.specs.Slots.{MakesPage, IsNewZero, OwnsAlone, with_own_page}

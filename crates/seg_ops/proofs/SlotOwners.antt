@@ -1,4 +1,6 @@
 -- WHOSE PLACE IT IS: the own map of a private segment is that of no other segment, and of no zero object.
+use Rattle.vm_world.proofs.KeptMaps.{own-counts, shown-counts}
+use Rattle.vm_world.proofs.ShownZeros.{is-the-number as is-own}
 use Rattle.std.proofs.Common.{◌≡◌, ◌≢◌, ℕ, ◌+◌, ◌-◌, ◌<◌, ◌≤◌, ◌==◌, Bool, true, false, cond, List, [], ◌∷◌, ◌++◌, map, Option, Some, None, refl, sym, ap, ◌∙◌, ◌⊎◌, inl, inr, subst, arith}
 use Rattle.std.specs.Prelude.{sum_by, flat_map, filter_map, option_and_then, option_map, length}
 use Rattle.std.specs.List.{cons_option}
@@ -32,15 +34,6 @@ had m parts = sum_by (times_had m) (map (λ (p : Part Segment). p.piece) parts)
 
 abbrev had_in : ℕ → List (ℕ × List (Part Segment)) → ℕ
 had_in m es = sum_by (times_had m) (flat_map (λ (parts : List (Part Segment)). map (λ (p : Part Segment). p.piece) parts) (map (λ e. e.1) es))
-
-is-own : (m : ℕ) (o : Option ℕ) → o ≡ Some m → is_number m o ≡ true
-is-own m o is = ap (is_number m) is ∙ eq-eqb m m refl
-
-own-counts : (m : ℕ) (s : Segment) → s.own ≡ Some m → 1 ≤ times_had m s
-own-counts m s is = let e = ap (λ (b : Bool). cond {A = ℕ} b 1 0) (is-own m s.own is) in omega (arith, e)
-
-shown-counts : (m : ℕ) (s : Segment) → s.shown ≡ Some m → 1 ≤ times_had m s
-shown-counts m s is = let e = ap (λ (b : Bool). cond {A = ℕ} b 1 0) (is-own m s.shown is) in omega (arith, e)
 
 had-step : (m : ℕ) (p : Part Segment) (ps : List (Part Segment)) → had m (p ∷ ps) ≡ times_had m p.piece + had m ps
 had-step m p ps = sum_by-cons (times_had m) p.piece (map (λ (x : Part Segment). x.piece) ps)
@@ -263,7 +256,7 @@ owns-alone m p q x f is private =
     )
 
 -- a page with a map of its own is private
-has-own : (maps : List (Option Map)) (s : Segment) (k : Kind) (n : ℕ) → s.own ≡ Some n → OwnFits maps s k → k ≡ Private
+pub has-own : (maps : List (Option Map)) (s : Segment) (k : Kind) (n : ℕ) → s.own ≡ Some n → OwnFits maps s k → k ≡ Private
 has-own maps s Shared n own fit = absurd (let z : None ≡ Some n = sym fit ∙ own in cc)
 has-own maps s Private n own fit = refl
 

@@ -1,4 +1,5 @@
 -- MANY PLACES ARE EMPTIED, one after another.
+use Rattle.vm_world.proofs.anon_map.KeptLemmas.{there_within as there-within}
 use Rattle.std.proofs.Common.{◌≡◌, ℕ, zero, suc, ◌+◌, ◌<◌, true, false, List, [], ◌∷◌, length, Option, Some, None, refl, sym, ap, ◌∙◌, subst, slice_set, arith}
 use Rattle.std.specs.Prelude.{option_map, option_and_then}
 use Rattle.std.specs.Option.{option_or}
@@ -64,11 +65,6 @@ changes-empty p q x w spaces m i f owns empty = record {
 pub length-emptied : (places : List (Option ℕ)) (from n : ℕ) → length (places_emptied places from n) ≡ length places
 length-emptied places from zero = refl
 length-emptied places from (suc n) = length-set (places_emptied places from n) (from + n) None ∙ length-emptied places from n
-
-there-within : (maps : List (Option Map)) (m : ℕ) → IsMapThere maps m → m < length maps
-there-within [] m there = absurd (let z : false ≡ true = there in cc)
-there-within (x ∷ xs) zero there = omega arith
-there-within (x ∷ xs) (suc m) there = let l = there-within xs m there in omega (arith, l)
 
 -- what the maps are then
 module _ (maps cur : List (Option Map)) (m from k : ℕ) (there : IsMapThere maps m) (are : cur ≡ with_places maps m (places_emptied (places_of maps m) from k)) where

@@ -1,4 +1,5 @@
 -- A translation is dropped, and its bits are gathered into its page.
+use Rattle.vm_world.proofs.flat_model.Ranges.{both_true as both-parts}
 use Rattle.std.proofs.Common.{◌≡◌, ◌≢◌, ℕ, ◌<◌, Bool, true, false, cond, List, length, Option, Some, None, refl, sym, ap, ◌∙◌, ◌⊎◌, inl, inr, subst, slice_index_or}
 use Rattle.std.specs.Prelude.{option_map, IfSome, ◌&&◌, ◌==◌}
 use Rattle.std.proofs.lemmas.Bool.{cases_Bool, eqb-true}
@@ -18,10 +19,6 @@ use Rattle.seg_ops.proofs.Places.{Each, index-map, stands-at}
 use Rattle.seg_ops.proofs.StillSteps.{KeepsFrames, with_tables, memory_of, translation-kept, step-keeps, keeps-store, values-same, fits-within}
 use Rattle.seg_ops.proofs.Gathers.{keeps-gathered}
 use Rattle.vm_world.proofs.Loaded.{loaded-at, holds-own}
-
-both-parts : (a b : Bool) → (a && b) ≡ true → (a ≡ true) × (b ≡ true)
-both-parts true b h = (refl, h)
-both-parts false b h = absurd (let z : false ≡ true = h in cc)
 
 held-is : (t : Translation) (space page : ℕ) → holds space page (Some t) ≡ true → (t.space ≡ space) × (t.page ≡ page)
 held-is t space page h = let b = both-parts (t.space == space) (t.page == page) h in (eqb-true t.space space b.0, eqb-true t.page page b.1)

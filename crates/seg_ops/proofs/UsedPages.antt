@@ -1,4 +1,5 @@
 -- THE BIT OF USE OF A PAGE is set or cleared: it stays where it is and what it is.
+use Rattle.std.proofs.lemmas.Bool.{or_left as or-left}
 use Rattle.std.proofs.Common.{◌≡◌, ℕ, ◌<◌, Bool, length, Some, refl, sym, ap, ◌∙◌, ◌⊎◌, inl, inr, subst, arith, get_or-set_same}
 use Rattle.std.specs.Prelude.{◌||◌}
 use Rattle.std.proofs.lemmas.List.{length-set}
@@ -16,7 +17,7 @@ use Rattle.vm_world.specs.Serving.{ModifiesNone}
 use Rattle.vm_world.specs.Words.{KeepsPages}
 use Rattle.vm_world.specs.World.{World, core_of, world_table}
 use Rattle.seg_ops.specs.Steps.{with_bits_gathered}
-use Rattle.seg_ops.proofs.Places.{index-set, or-left}
+use Rattle.seg_ops.proofs.Places.{index-set}
 use Rattle.seg_ops.proofs.StillSteps.{KeepsRow, with_tables, memory_of, same-row, step-keeps, translation-kept}
 
 -- The reference bit of a row is set or cleared.

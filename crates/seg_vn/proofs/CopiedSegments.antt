@@ -1,4 +1,5 @@
 -- A segment is copied: what its copy needs, and what memory and flat memory are then.
+use Rattle.seg_vn.proofs.CutSegments.{one-most as at_most_one, one-most}
 use Rattle.std.proofs.Common.{◌≡◌, ℕ, ◌+◌, ◌-◌, ◌<◌, ◌≤◌, ◌^◌, Bool, true, false, cond, List, [], ◌∷◌, length, Option, Some, None, refl, sym, ap, ◌∙◌, inl, inr, subst, arith}
 use Rattle.std.specs.Prelude.{count_by, sum_by, IsSome, option_and_then}
 use Rattle.std.specs.FinMap as finite
@@ -34,11 +35,6 @@ use Rattle.seg_vn.specs.Cuts.{IsPartAt}
 use Rattle.seg_vn.specs.Clears.{ChangesSpace}
 use Rattle.seg_vn.specs.Copied.{AreProtected, HasNoWriters, KeepsPlaces, MayComeAt}
 use Rattle.seg_vn.proofs.LeftSegments.{own-is, pages-are}
-
--- NO SLOT IS COUNTED more often than maps have places
-at_most_one : (b : Bool) → cond {A = ℕ} b 1 0 ≤ 1
-at_most_one true = omega arith
-at_most_one false = omega arith
 
 count-le : (s : ℕ) (ps : List (Option ℕ)) → count_by (is_number s) ps ≤ length ps
 count-le s [] = omega arith
@@ -170,10 +166,6 @@ copy-changes w new spaces p child first number s copy hat counts c k zeros knows
 pub copied-else : (maps : List (Option Map)) (own : Option ℕ) (number n : ℕ) → (IsSome own → IsUnused maps number) → IsMapThere maps n → anon_map_at (maps_copied maps own number) n ≡ anon_map_at maps n
 copied-else maps None number n unused there = refl
 copied-else maps (Some own) number n unused there = with_map_other maps number n (fresh_map (places_of maps own)) (unused refl) (there_apart maps n number there (unused refl))
-
-one-most : (b : Bool) → cond {A = ℕ} b 1 0 ≤ 1
-one-most true = omega arith
-one-most false = omega arith
 
 -- and keeps its places, with one holder more at most, when the map of a zero object is held besides
 pub copied-keeps : (maps : List (Option Map)) (own shown : Option ℕ) (number n : ℕ) → (IsSome own → IsUnused maps number) → ((k : ℕ) → shown ≡ Some k → IsMapThere maps k) → IsMapThere maps n → KeepsPlaces maps (maps_held (maps_copied maps own number) shown) n

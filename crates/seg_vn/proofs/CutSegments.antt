@@ -1,4 +1,5 @@
 -- A segment that is cut: when it may be, and what memory and flat memory are then.
+use Rattle.seg_ops.proofs.vm_world.ShownZeros.{number-is}
 use Rattle.std.proofs.Common.{◌≡◌, ◌≢◌, ℕ, ◌-◌, ◌+◌, ◌<◌, ◌≤◌, ◌^◌, Bool, true, false, cond, ◌++◌, List, [], length, Option, Some, None, refl, sym, ap, ◌∙◌, inl, inr, subst, arith}
 use Rattle.std.specs.Prelude.{◌==◌, IsSome, option_map, replicate, unwrap_or}
 use Rattle.std.specs.FinMap as finite
@@ -16,7 +17,7 @@ use Rattle.seg_ops.specs.vm_world.SpaceSteps.{first_pages}
 use Rattle.seg_ops.specs.vm_world.World.{World}
 use Rattle.seg_ops.specs.vm_world.declared.segment.Segment.{Segment}
 use Rattle.seg_ops.proofs.vm_world.CutParts.{mid-else, mid-holders}
-use Rattle.seg_ops.proofs.vm_world.KeptMaps.{number-is, own-there, shown-there, same-there, same-places, same-holders}
+use Rattle.seg_ops.proofs.vm_world.KeptMaps.{own-there, shown-there, same-there, same-places, same-holders}
 use Rattle.seg_ops.proofs.vm_world.MapChanges.{cut-else, cut-lower, held-holders, held-places}
 use Rattle.seg_ops.proofs.vm_world.MoreNumbers.{past-none}
 use Rattle.seg_ops.proofs.vm_world.SegmentSteps.{segment_rule}
@@ -65,7 +66,7 @@ not-new maps (Some k) number n unused is = elim (cases_Bool (number == n)) [
   | inr f ↦ ap (λ (b : Bool). cond {A = ℕ} b 1 0) f
 ]
 
-one-most : (b : Bool) → cond {A = ℕ} b 1 0 ≤ 1
+pub one-most : (b : Bool) → cond {A = ℕ} b 1 0 ≤ 1
 one-most true = omega arith
 one-most false = omega arith
 

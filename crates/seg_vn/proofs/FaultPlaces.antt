@@ -1,4 +1,6 @@
 -- A place of any mapping: its maps, and what its cell has and shows in flat memory.
+use Rattle.seg_ops.proofs.SlotOwners.{has-own as kind-by}
+use Rattle.seg_ops.proofs.vm_world.PartSums.{all-left, all-right}
 use Rattle.std.proofs.Common.{◌≡◌, ℕ, ◌<◌, ◌+◌, ◌-◌, Bool, cond, List, [], ◌∷◌, ◌++◌, map, length, Option, Some, None, refl, sym, ap, ◌∙◌, inl, inr, subst, arith}
 use Rattle.std.specs.Prelude.{IsSome, flat_map, option_map, option_and_then, slice_get, unwrap_or, All}
 use Rattle.std.specs.Option.{option_or}
@@ -38,15 +40,6 @@ use Rattle.seg_ops.specs.OwnPages.{with_own_shown}
 use Rattle.seg_ops.specs.Slots.{with_own_page}
 use Rattle.seg_ops.proofs.OwnShown.{own_shown_law}
 use Rattle.seg_ops.proofs.StillSteps.{memory_of}
-
--- what holds of all segments holds of that of a page
-all-left : {X : Type 0} (P : X → Type 0) (xs ys : List X) → All P (xs ++ ys) → All P xs
-all-left P [] ys all = All-nil P
-all-left P (x ∷ xs) ys all = All-cons P x xs (All-head P x (xs ++ ys) all) (all-left P xs ys (All-tail P x (xs ++ ys) all))
-
-all-right : {X : Type 0} (P : X → Type 0) (xs ys : List X) → All P (xs ++ ys) → All P ys
-all-right P [] ys all = all
-all-right P (x ∷ xs) ys all = all-right P xs ys (All-tail P x (xs ++ ys) all)
 
 abbrev pieces : List (Part Segment) → List Segment
 pieces parts = map (λ (p : Part Segment). p.piece) parts
@@ -92,10 +85,6 @@ own-by maps s Private kind fit = (fit.0, fit.1, fit.2, fit.3)
 none-by : (maps : List (Option Map)) (s : Segment) (k : Kind) → k ≡ Shared → OwnFits maps s k → s.own ≡ None
 none-by maps s Shared kind fit = fit
 none-by maps s Private kind fit = absurd (let z : Private ≡ Shared = kind in cc)
-
-kind-by : (maps : List (Option Map)) (s : Segment) (k : Kind) (m : ℕ) → s.own ≡ Some m → OwnFits maps s k → k ≡ Private
-kind-by maps s Shared m own fit = absurd (let z : None ≡ Some m = sym fit ∙ own in cc)
-kind-by maps s Private m own fit = refl
 
 module _ (w : World) (spaces : Spaces) (p q : ℕ) (x : Spot) (fits : MemoryFits (memory_of w spaces)) (here : spot_at spaces p q ≡ Some x) where
   spot : IsSpotOf (SegmentFits (length w.files.files) w.maps) q x

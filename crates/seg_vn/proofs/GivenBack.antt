@@ -1,4 +1,5 @@
 -- What is given back: by one step after another, by a map whose places are emptied, and by one that loses a holder.
+use Rattle.seg_ops.proofs.anon_map.KeptLemmas.{there_within as there-within}
 use Rattle.std.proofs.Common.{◌≡◌, ◌≢◌, ℕ, ◌-◌, ◌≤◌, Bool, true, false, cond, List, [], length, Option, Some, None, refl, sym, ap, ◌∙◌, inl, inr, subst, arith, slice_set}
 use Rattle.std.specs.Prelude.{◌==◌, is_some, unwrap_or, replicate}
 use Rattle.std.proofs.lemmas.Bool.{cases_Bool, cases_eq, eqb-true}
@@ -10,7 +11,7 @@ use Rattle.seg_ops.specs.vm_world.MapSteps.{maps_released}
 use Rattle.seg_ops.specs.vm_world.Serving.{ModifiesNone}
 use Rattle.seg_ops.specs.vm_world.World.{World}
 use Rattle.seg_ops.proofs.vm_world.KeptMaps.{same-places, same-there}
-use Rattle.seg_ops.proofs.vm_world.MapChanges.{there-within, released-else, released-last, slot-replicate}
+use Rattle.seg_ops.proofs.vm_world.MapChanges.{released-else, released-last, slot-replicate}
 use Rattle.seg_ops.proofs.Modified.{modifies-same, modifies-then}
 use Rattle.seg_ops.proofs.SlotPlaces.{places-after}
 use Rattle.seg_vn.specs.Clears.{GivesBack}

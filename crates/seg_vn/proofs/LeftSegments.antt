@@ -1,4 +1,5 @@
 -- A segment goes: its translations, then what its own map and that of its zero object hold, then the maps and what is reserved for them.
+use Rattle.seg_ops.proofs.vm_world.FileLocks.{past-index as past-end}
 use Rattle.std.proofs.Common.{◌≡◌, ℕ, zero, suc, ◌+◌, ◌-◌, ◌<◌, ◌≤◌, List, [], ◌∷◌, length, Option, Some, None, refl, sym, ap, ◌∙◌, inl, inr, subst, arith, slice_index_or, slice_set, get_or-set_same}
 use Rattle.std.specs.Prelude.{option_and_then}
 use Rattle.std.specs.FinMap as finite
@@ -51,11 +52,6 @@ emptied-below places (suc n) i le lt =
       | inl e ↦ ap (λ (k : ℕ). slice_index_or set k None) e ∙ get_or-set_same (places_emptied places 0 n) n None None (omega (arith, size, le))
       | inr ne ↦ get_or-set_other (places_emptied places 0 n) n i None None ne ∙ emptied-below places n i (omega (arith, le)) (omega (arith, lt, ne))
     ]
-
-past-end : (places : List (Option ℕ)) (i : ℕ) → length places ≤ i → slice_index_or places i None ≡ None
-past-end [] i le = refl
-past-end (o ∷ os) zero le = absurd (omega (arith, le))
-past-end (o ∷ os) (suc i) le = past-end os i (omega (arith, le))
 
 pub all-emptied : (places : List (Option ℕ)) (n : ℕ) → length places ≡ n → AreEmpty (places_emptied places 0 n)
 all-emptied places n size i = elim (cases_lt i n) [

@@ -31,3 +31,4 @@ pub use Rattle.seg_ops.proofs.addr_space as addr_space
 pub use Rattle.seg_ops.proofs.page_store as page_store
 pub use Rattle.seg_ops.proofs.vm_world as vm_world
 pub use Rattle.seg_ops.proofs as seg_ops
+pub use Rattle.seg_ops.proofs.hat_layer as hat_layer

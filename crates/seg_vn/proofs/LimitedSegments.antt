@@ -1,4 +1,5 @@
 -- Translations that let no more than a protection, and a segment that has it.
+use Rattle.std.proofs.lemmas.Bool.{or_right as or-right, or_left as or-left}
 use Rattle.std.proofs.Common.{◌≡◌, ℕ, ◌+◌, ◌-◌, ◌<◌, ◌≤◌, Bool, true, false, List, Option, Some, None, refl, sym, ap, ◌∙◌, inl, inr, subst, arith, slice_index_or}
 use Rattle.std.specs.Prelude.{◌||◌, IsTrue}
 use Rattle.std.specs.FinMap as finite
@@ -27,14 +28,6 @@ use Rattle.seg_vn.specs.Clears.{ChangesSpace}
 use Rattle.seg_vn.specs.Cuts.{IsPartAt}
 use Rattle.seg_vn.specs.Protections.{AreLimited}
 use Rattle.seg_vn.proofs.LeftSegments.{pages-are}
-
-or-right : (a b : Bool) → b ≡ true → (a || b) ≡ true
-or-right true b is = refl
-or-right false b is = is
-
-or-left : (a b : Bool) → a ≡ true → (a || b) ≡ true
-or-left true b is = refl
-or-left false b is = absurd (let z : false ≡ true = is in cc)
 
 pub limited-write : (places : List (Option Translation)) (space first n : ℕ) (prot : Prot) → can_write prot ≡ true → AreLimited places space first n prot
 limited-write places space first n prot may = record {

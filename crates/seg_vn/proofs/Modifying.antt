@@ -1,4 +1,5 @@
 -- Which pages faults make modified: the one that is loaded, where it is that of a slot which was never pushed.
+use Rattle.seg_ops.proofs.Pushed.{cleared as fresh}
 use Rattle.std.proofs.Common.{◌≡◌, ℕ, zero, suc, ◌==◌, Bool, true, false, cond, List, [], ◌∷◌, Option, Some, refl, sym, ap, ◌∙◌, inl, inr, Ok, not, slice_index_or, slice_set}
 use Rattle.std.proofs.lemmas.Bool.{eqb-true}
 use Rattle.seg_ops.specs.anon_map.Maps.{Map}
@@ -27,12 +28,6 @@ unpushed-slot files anon name is blank =
       (λ i. record { object = object i; page = name.page }),
       not-true pushed (sym (ap (λ (b : Bool). cond b (not pushed) (is_blank (vnode_at files name.object) name.page)) is) ∙ blank),
     )
-
--- the slot that a place was given was never pushed
-fresh : (swapped : List Bool) (s : ℕ) → slice_index_or (slice_set swapped s false) s false ≡ false
-fresh [] s = refl
-fresh (b ∷ bs) zero = refl
-fresh (b ∷ bs) (suc s) = fresh bs s
 
 pub given-fresh : (old new : AnonSlotsSeen) (maps put : List (Option Map)) (m i s : ℕ) → GivesSlot old new maps put m i s → slice_index_or new.swapped s false ≡ false
 given-fresh old new maps put m i s g = ap (λ (a : AnonSlotsSeen). slice_index_or a.swapped s false) g.counts ∙ fresh _ s

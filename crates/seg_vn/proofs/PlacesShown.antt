@@ -1,4 +1,5 @@
 -- What a place shows, in flat memory: the page of its name, or nothing past the end.
+use Rattle.seg_ops.proofs.page_store.FrameLaws.{false-left as or-left, unset as is-none}
 use Rattle.std.proofs.Common.{◌≡◌, ℕ, zero, suc, ◌+◌, ◌<◌, ◌≤◌, Bool, true, false, cond, List, [], ◌∷◌, length, Option, Some, None, refl, sym, ap, ◌∙◌, inl, inr, subst, arith, slice_index_or}
 use Rattle.std.specs.Prelude.{IsTrue, IsFalse, ◌||◌, is_some, nat_lt, option_map, option_and_then, slice_get, unwrap_or}
 use Rattle.std.specs.Option.{option_or, option_map_or}
@@ -36,14 +37,6 @@ use Rattle.seg_vn.proofs.CopySteps.{object-shows}
 or-right : (a b : Bool) → a ≡ false → (a || b) ≡ b
 or-right true b is = absurd (let z : true ≡ false = is in cc)
 or-right false b is = refl
-
-or-left : (a b : Bool) → (a || b) ≡ false → a ≡ false
-or-left true b is = absurd (let z : true ≡ false = is in cc)
-or-left false b is = refl
-
-is-none : (o : Option ℕ) → is_some o ≡ false → o ≡ None
-is-none None is = refl
-is-none (Some n) is = absurd (let z : true ≡ false = is in cc)
 
 -- a place that holds a slot is there
 pub holds-within : (places : List (Option ℕ)) (i s : ℕ) → slice_index_or places i None ≡ Some s → i < length places

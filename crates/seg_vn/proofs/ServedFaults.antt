@@ -1,4 +1,5 @@
 -- What faults at places of any mapping come to, by the steps that they take.
+use Rattle.seg_ops.proofs.flat_model.ClearedTails.{files_none as none-cleared}
 use Rattle.std.proofs.Common.{◌≡◌, ℕ, Bool, true, false, List, [], ◌∷◌, length, Option, Some, None, refl, ap, ◌∙◌, Result, Ok, Err, not, IsTrue, sym}
 use Rattle.std.specs.Prelude.{IfSome}
 use Rattle.std.specs.Ordering.{nat_cmp}
@@ -74,10 +75,6 @@ changes-as p u v f g same c = record {
   tells = c.tells;
   flat = λ born notes nf tell whole. c.flat born notes nf tell whole ∙ same born notes nf tell whole;
 }
-
-none-cleared : (files : List File) → files_cleared (λ f. false) files ≡ files
-none-cleared [] = refl
-none-cleared (file ∷ files) = ap (λ (fs : List File). file ∷ fs) (none-cleared files)
 
 pub no-tails : (F : Flat) → tails_cleared F (λ f. false) ≡ F
 no-tails F = ap (λ (fs : List File). record F { files = fs }) (none-cleared F.files)

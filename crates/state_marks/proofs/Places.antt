@@ -1,4 +1,5 @@
 -- Where pages of files are by the history, and by the files as they are.
+use Rattle.vm_world.proofs.flat_model.Bytes.{All-slice_get as all-get}
 use Rattle.std.proofs.Common.{◌≡◌, ◌≢◌, ℕ, ◌<◌, ◌≤◌, ◌+◌, ◌-◌, ◌*◌, min, Bool, true, false, cond, List, [], length, map, Option, Some, None, refl, sym, ap, ◌∙◌, inl, inr, arith}
 use Rattle.std.specs.Prelude.{slice_index_or, slice_get, option_map, option_and_then, unwrap_or, IsTrue, All, nat_lt}
 use Rattle.std.specs.Option.{option_map_or}
@@ -36,7 +37,7 @@ use Rattle.vm_world.proofs.Clips.{clip-twice, front-clip}
 use Rattle.vm_world.proofs.FilePages.{file-in, page-in}
 use Rattle.vm_world.proofs.FlatWhole.{some-inj}
 use Rattle.vm_world.proofs.FrameRule.{exists-page}
-use Rattle.vm_world.proofs.PageNames.{info-there, file-there, blocks-there, all-get, file-apart, not-slot, file-place, page-cases, keeps-page}
+use Rattle.vm_world.proofs.PageNames.{info-there, file-there, blocks-there, file-apart, not-slot, file-place, page-cases, keeps-page}
 
 -- the place and the end of a page, by the record of its file
 abbrev place-by : Option FileInfo → ℕ → Option (ℕ × ℕ)

@@ -1,4 +1,5 @@
 -- The mark of a page rises as a Sync answers.
+use Rattle.vm_world.proofs.flat_model.Bytes.{All-slice_get as all-get}
 use Rattle.std.proofs.Common.{◌≡◌, ◌≢◌, ℕ, ◌<◌, ◌+◌, ◌-◌, Bool, true, false, cond, List, [], length, map, take, replicate, Option, Some, None, refl, sym, ap, ◌∙◌, ◌⊎◌, inl, inr, subst, arith}
 use Rattle.std.specs.Prelude.{slice_index_or, slice_get, option_map, is_some, is_none, IfSome, IsTrue, IsSome}
 use Rattle.std.proofs.lemmas.List.{length-append, length-take, length-replicate}
@@ -44,7 +45,7 @@ use Rattle.mark_laws.proofs.Words.{few-bytes}
 use Rattle.state_marks.specs.StateMarks.{PagesFit, MarksOf, MayRise, StateRaiseLaw, marks_risen}
 use Rattle.vm_world.proofs.FilePages.{page-in, file-in}
 use Rattle.vm_world.proofs.KeptStarts.{start_rule}
-use Rattle.vm_world.proofs.PageNames.{not-slot, file-there, all-get}
+use Rattle.vm_world.proofs.PageNames.{not-slot, file-there}
 use Rattle.state_marks.proofs.Places.{real, below, kept, table-place, place-there, valid-there, shows-there, places-apart}
 use Rattle.state_marks.proofs.OpeningRows.{zeros-there}
 

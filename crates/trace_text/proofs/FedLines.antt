@@ -1,4 +1,7 @@
 -- The text of a trace is the text of its lines, and these are the text's lines.
+use Rattle.std.proofs.lemmas.Bool.{and_from as both}
+use Rattle.vm_report.proofs.vm_script.SetupLines.{and_right}
+use Rattle.vm_report.proofs.flat_model.Histories.{io_aside as and_left}
 use Rattle.std.proofs.Common.{◌≡◌, ℕ, zero, suc, ◌+◌, ◌/◌, ◌==◌, Bool, true, false, List, [], ◌∷◌, ◌++◌, length, map, take, drop, refl, sym, ap, ap₂, ◌∙◌, append_assoc, append-nil, arith, rules, tests, cond}
 use Rattle.std.specs.Prelude.{All, codes, decimal, if◌then◌else◌}
 use Rattle.std.specs.List.{flat_map, list_all, onto_first}
@@ -11,7 +14,7 @@ use Rattle.vm_report.specs.vm_types.Words.{word_bytes}
 use Rattle.vm_report.specs.vm_script.Lines.{is_feed, is_plain, is_graphic}
 use Rattle.vm_report.specs.vm_script.Printed.{line_of_fields}
 use Rattle.vm_report.specs.vm_script.Texts.{hex_text}
-use Rattle.vm_report.proofs.vm_script.Printing.{and_left, and_right, both, all_implies}
+use Rattle.vm_report.proofs.vm_script.Printing.{all_implies}
 use Rattle.vm_report.specs.Report.{pieces_text}
 use Rattle.vm_report.specs.Trace.{disk_text, root_text, entry_text}
 use Rattle.trace_text.specs.Traces.{TracedFile, Trace, traced_files_text, trace_text}

@@ -3,13 +3,12 @@ use Rattle.std.proofs.Common.{◌≡◌, ℕ, zero, suc, ◌≤◌, ◌<◌, ◌
 use Rattle.std.specs.Prelude.{All, Contains, nat_eq, nat_lt, nat_le, if◌then◌else◌}
 use Rattle.std.specs.Cmp.{nat_eq_equiv}
 use Rattle.std.specs.List.{list_all, list_any}
-use Rattle.std.proofs.lemmas.Bool.{false≢true}
+use Rattle.std.proofs.lemmas.Bool.{false≢true, and_from as both}
 use Rattle.std.proofs.lemmas.Bool.Decides.{nat_tests}
 use Rattle.std.proofs.lemmas.List.{length-take, length-drop, map-append}
 use Rattle.std.proofs.lemmas.Map.Views.{list_any-from_Contains}
 use Rattle.std.proofs.lemmas.List.Elements.{All-head, All-tail}
 use Rattle.vm_report.specs.vm_types.declared.call.Entry.{Entry}
-use Rattle.vm_report.proofs.vm_script.Printing.{both}
 use Rattle.trace_text.specs.EntryReading.{◌>>=◌}
 use Rattle.trace_text.specs.Traces.{TracedFile, Trace}
 use Rattle.trace_text.specs.TraceForm.{IsTracedFile, IsTrace, RiseFrom}

@@ -1,11 +1,12 @@
 -- A text is that of one trace alone.
+use Rattle.vm_report.proofs.vm_script.SetupLines.{and_right}
+use Rattle.vm_report.proofs.flat_model.Histories.{io_aside as and_left}
 use Rattle.std.proofs.Common.{◌≡◌, ℕ, zero, suc, ◌≤◌, ◌+◌, ◌*◌, ◌/◌, ◌==◌, min, Bool, true, false, List, [], ◌∷◌, ◌++◌, length, map, take, drop, refl, sym, subst, ap, ap₂, ◌∙◌, append_assoc, arith, rules, tests}
 use Rattle.std.specs.Prelude.{if◌then◌else◌}
 use Rattle.std.specs.List.{list_all}
 use Rattle.std.proofs.lemmas.Bool.Decides.{nat_tests}
 use Rattle.std.proofs.lemmas.List.{length-take, length-drop, take-append-drop}
 use Rattle.vm_report.specs.vm_types.declared.call.Entry.{Entry}
-use Rattle.vm_report.proofs.vm_script.Printing.{and_left, and_right}
 use Rattle.trace_text.specs.Traces.{TracedFile, Trace, trace_text}
 use Rattle.trace_text.specs.TraceForm.{IsTrace}
 use Rattle.trace_text.specs.TraceLines.{fed_lines, TraceLine, FileHead, Disk, Root, Piece, Entries, Act, trace_line_text}

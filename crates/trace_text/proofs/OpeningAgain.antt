@@ -1,4 +1,7 @@
 -- Lines of the opening part that were printed are read again.
+use Rattle.std.proofs.lemmas.Bool.{and_from as both}
+use Rattle.vm_report.proofs.vm_script.SetupLines.{and_right}
+use Rattle.vm_report.proofs.flat_model.Histories.{io_aside as and_left}
 use Rattle.std.proofs.Common.{◌≡◌, ℕ, ◌≤◌, ◌==◌, Bool, true, false, ◌||◌, List, [], ◌∷◌, ◌++◌, length, map, Some, refl, sym, ap, ◌∙◌, append_assoc, append-nil, arith, rules, tests, cond, length-append}
 use Rattle.std.specs.Prelude.{All, IsTrue, codes, decimal}
 use Rattle.std.specs.List.{list_all, slice_split, onto_first}
@@ -11,7 +14,7 @@ use Rattle.vm_report.specs.vm_types.Words.{word_bytes}
 use Rattle.vm_report.specs.vm_script.Fields.{is_digit, is_file_name}
 use Rattle.vm_report.specs.vm_script.Lines.{is_graphic, is_space}
 use Rattle.vm_report.specs.vm_script.Printed.{line_of_fields}
-use Rattle.vm_report.proofs.vm_script.Printing.{and_left, and_right, both, all_implies, digits_of_decimal, graphic_decimal, some_decimal, graphic_hex, words_name}
+use Rattle.vm_report.proofs.vm_script.Printing.{all_implies, digits_of_decimal, graphic_decimal, some_decimal, graphic_hex, words_name}
 use Rattle.vm_report.specs.vm_script.Quick.{AreWords, none, more}
 use Rattle.vm_report.specs.Trace.{extent_text, comma_before, extents_text, mode_text}
 use Rattle.trace_text.specs.TraceLines.{AreTwoNumbers, TraceLine, FileHead, Slots, Disk, Root, File, Piece, Entries, Act, trace_line_text, IsFileHead, IsTraceLine, IsOpeningLine}

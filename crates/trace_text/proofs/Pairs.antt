@@ -1,9 +1,11 @@
 -- Bytes that are put one by one over zeros, by pairs of digits.
+use Rattle.std.proofs.lemmas.Bool.{and_from as both}
+use Rattle.vm_report.proofs.vm_script.SetupLines.{and_right}
+use Rattle.vm_report.proofs.flat_model.Histories.{io_aside as and_left}
 use Rattle.std.proofs.Common.{◌≡◌, ℕ, zero, suc, ◌≤◌, ◌<◌, ◌+◌, ◌-◌, ◌*◌, true, List, [], ◌∷◌, ◌++◌, length, take, drop, set, get_or, refl, ap, ap₂, ◌∙◌, append_assoc, arith, IsTrue}
 use Rattle.std.specs.List.{list_all}
 use Rattle.std.proofs.lemmas.List.{take_all, take_more_set}
 use Rattle.vm_report.specs.vm_script.Fields.{is_hex_digit, digit_value, hex_bytes}
-use Rattle.vm_report.proofs.vm_script.Printing.{and_left, and_right, both}
 
 pub pair_more : (bytes left all : List ℕ) (count a b : ℕ) → count < length bytes → 2 ≤ length left → a ≡ digit_value (get_or left 0 0)
     → b ≡ digit_value (get_or left 1 0) → take count bytes ++ hex_bytes left ≡ all

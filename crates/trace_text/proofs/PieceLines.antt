@@ -1,10 +1,11 @@
 -- The lines of a file's bytes with a piece more.
+use Rattle.vm_report.proofs.vm_script.SetupLines.{and_right}
+use Rattle.vm_report.proofs.flat_model.Histories.{io_aside as and_left}
 use Rattle.std.proofs.Common.{◌≡◌, ℕ, zero, suc, ◌≤◌, ◌<◌, ◌+◌, ◌-◌, ◌*◌, ◌/◌, ◌%◌, ◌==◌, min, Bool, true, false, List, [], ◌∷◌, ◌++◌, length, take, drop, replicate, inl, inr, refl, sym, subst, ap, ap₂, ◌∙◌, append_assoc, append-nil, length-append, arith}
 use Rattle.std.specs.Prelude.{if◌then◌else◌}
 use Rattle.std.specs.List.{list_all}
-use Rattle.std.proofs.lemmas.Bool.{cases_lt}
+use Rattle.std.proofs.lemmas.Bool.{cases_lt, and_from as both}
 use Rattle.std.proofs.lemmas.List.{length-take, length-drop, length-take-le, take-take, drop-take, drop-drop, take_at, drop_at, take_all, drop_all}
-use Rattle.vm_report.proofs.vm_script.Printing.{and_left, and_right, both}
 use Rattle.vm_report.specs.flat_model.Words.{with_bytes}
 use Rattle.trace_text.specs.TraceLines.{Piece}
 use Rattle.trace_text.specs.LineOrder.{piece_line, pieces_lines}

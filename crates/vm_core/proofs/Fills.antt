@@ -1,4 +1,8 @@
 -- Zeros that are written to blank pages of files: plain files and plain disks.
+use Rattle.fault_entry.proofs.page_store.Returning.{other_block as block-other}
+use Rattle.fault_entry.proofs.seg_ops.Fills.{clip-zeros}
+use Rattle.fault_entry.proofs.seg_ops.Pushed.{infos-set, cleared}
+use Rattle.fault_entry.proofs.page_store.NewLemmas.{length-numbers}
 use Rattle.std.proofs.Common.{◌≡◌, ◌≢◌, ◌⊎◌, ℕ, zero, suc, ◌<◌, ◌≤◌, ◌-◌, ◌+◌, Bool, true, false, cond, List, [], ◌∷◌, ◌++◌, length, map, replicate, Option, Some, None, Result, Ok, Err, refl, sym, ap, ◌∙◌, inl, inr, subst, arith, length-set, get_or-set_same, get_or-set_other}
 use Rattle.std.specs.Prelude.{slice_index, slice_index_or, slice_set, IfErr, IsSome, unwrap_or}
 use Rattle.std.specs.FinMap as finite
@@ -54,9 +58,6 @@ pub number-of : (L : List (ℕ × DiskSeen)) (i : ℕ) → slice_index (numbers_
 number-of [] i = refl
 number-of (d ∷ ds) zero = refl
 number-of (d ∷ ds) (suc i) = number-of ds i
-
-length-numbers : (L : List (ℕ × DiskSeen)) → length (numbers_of L) ≡ length L
-length-numbers L = length-map L (λ disk. disk.0)
 
 -- a disk of a list, by its number
 pub one-disk : (F : FilesSeen) (L : List (ℕ × DiskSeen)) (i j : ℕ) → AreDisksOf F L → i < length L → j < length L → (disk_at L i).0 ≡ (disk_at L j).0 → i ≡ j
@@ -149,11 +150,6 @@ fault-then F L M N fault k f =
 abbrev pub with_page_filled : FilesSeen → ℕ → ℕ → FilesSeen
 with_page_filled F file page = with_vnode F file (with_blank (vnode_at F file) page false)
 
-infos-set : (vs : List VnodeSeen) (f page : ℕ) → map (λ (v : VnodeSeen). v.info) (slice_set vs f (with_blank (slice_index_or vs f no_vnode) page false)) ≡ map (λ (v : VnodeSeen). v.info) vs
-infos-set [] f page = refl
-infos-set (v ∷ vs) zero page = refl
-infos-set (v ∷ vs) (suc f) page = ap (λ (more : List FileInfo). v.info ∷ more) (infos-set vs f page)
-
 pub records-filled : (F : FilesSeen) (file page : ℕ) → KeepRecords F (with_page_filled F file page)
 records-filled F file page = record { disks = refl; infos = infos-set F.files file page }
 
@@ -174,25 +170,12 @@ blank-other F file page n ne = elim (index-set F.files file (with_blank (vnode_a
       ∙ ap (λ (f : ℕ). is_blank (vnode_at F f) n.page) (sym at.0)
 ]
 
-cleared : (bits : List Bool) (i : ℕ) → slice_index_or (slice_set bits i false) i false ≡ false
-cleared [] i = refl
-cleared (b ∷ bs) zero = refl
-cleared (b ∷ bs) (suc i) = cleared bs i
-
 pub blank-now : (F : FilesSeen) (file page : ℕ) → file < length F.files → is_blank (vnode_at (with_page_filled F file page) file) page ≡ false
 blank-now F file page lt = ap (λ (v : VnodeSeen). is_blank v page) (get_or-set_same F.files file (with_blank (vnode_at F file) page false) no_vnode lt) ∙ cleared (vnode_at F file).blanks page
-
-pub clip-zeros : (n : ℕ) → n ≤ 4096 → clip n zeros ≡ zeros
-clip-zeros n low = let e : n + (4096 - n) ≡ 4096 = omega (arith, low) in
-    ap (λ (l : List ℕ). l ++ replicate (4096 - n) 0) (take-replicate n 4096 0 low) ∙ replicate-append-replicate n (4096 - n) 0 ∙ ap (λ (m : ℕ). replicate m 0) e
 
 pub block-now : (o : Option (List (List ℕ))) (block size : ℕ) (bytes : List ℕ) → IsSome o → HasBlocks o size → block < size → block_of (with_block o block bytes) block ≡ bytes
 block-now None block size bytes some whole lt = absurd (cc)
 block-now (Some blocks) block size bytes some whole lt = let e = whole.0 in get_or-set_same blocks block bytes [] (omega (arith, e, lt))
-
-pub block-other : (o : Option (List (List ℕ))) (block b : ℕ) (bytes : List ℕ) → b ≢ block → block_of (with_block o block bytes) b ≡ block_of o b
-block-other None block b bytes ne = refl
-block-other (Some blocks) block b bytes ne = get_or-set_other blocks block b bytes [] ne
 
 pub stored-same : (F G : FilesSeen) (d e : DiskSeen) (n : PageName) → KeepRecords F G → is_blank (vnode_at G n.object) n.page ≡ is_blank (vnode_at F n.object) n.page
     → block_of e.content (block_of_page F n.object n.page) ≡ block_of d.content (block_of_page F n.object n.page) → page_on_disk G e n ≡ page_on_disk F d n

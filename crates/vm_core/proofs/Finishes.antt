@@ -1,4 +1,5 @@
 -- What is left of a world: the disks that come out hold the files.
+use Rattle.fault_entry.proofs.seg_ops.FillSteps.{some-of as some-blocks}
 use Rattle.std.proofs.Common.{◌≡◌, ℕ, zero, suc, ◌<◌, ◌≤◌, Bool, true, false, cond, List, [], ◌∷◌, length, Option, Some, None, Result, Ok, Err, refl, sym, ap, ◌∙◌, inr, subst, arith}
 use Rattle.std.specs.Prelude.{slice_index, slice_index_or, IsSome, IfSome, IfNone, IfErr, OnOk, MatchResult}
 use Rattle.std.specs.Result.{IsOk}
@@ -68,10 +69,6 @@ numbers-in-order bays (n ∷ ns) = ap (λ (l : List ℕ). n ∷ l) (numbers-in-o
 
 length-in-order : (bays : List BaySeen) (order : List ℕ) → length (disks_in bays order) ≡ length order
 length-in-order bays order = length-map order (λ number. (number, disk_in (bay_at bays number)))
-
-some-blocks : (o : Option ℕ) → IsSome o → (n : ℕ) × (o ≡ Some n)
-some-blocks None h = absurd (cc)
-some-blocks (Some n) h = (n, refl)
 
 pub are-disks : (w : World) (spaces : Spaces) → MemoryFits (memory_of w spaces) → NotesFit w no_notes → AreDisksOf w.files (disks_of w)
 are-disks w spaces fits nf =

@@ -1,4 +1,6 @@
 -- A flight comes back to the state.
+use Rattle.fault_entry.proofs.flat_model.Opens.{next_of_file as next-file}
+use Rattle.fault_entry.proofs.vm_world.FileLocks.{past-set, past-index, split}
 use Rattle.std.proofs.Common.{◌≡◌, ◌≢◌, ℕ, zero, suc, ◌-◌, ◌<◌, ◌≤◌, ◌==◌, ◌||◌, Bool, true, false, cond, List, [], ◌∷◌, length, Option, Some, None, refl, sym, ap, ◌∙◌, inl, inr, subst, arith, get_or-set_same, get_or-set_other}
 use Rattle.std.specs.Prelude.{◌↔◌, ◌⊎◌, filter, slice_index_or, slice_set, option_map, IsSomeAnd, MatchOption, MatchBool}
 use Rattle.std.proofs.lemmas.Bool.{cases_eq}
@@ -40,7 +42,6 @@ use Rattle.fault_entry.specs.vm_world.World.{World}
 use Rattle.fault_entry.specs.vm_world.WorldSteps.{WorldStep, returns}
 use Rattle.fault_entry.specs.vm_world.ZeroObjects.{KnowsZeros}
 use Rattle.fault_entry.proofs.vm_world.Failures.{failure_rule}
-use Rattle.fault_entry.proofs.vm_world.NextParts.{next-file}
 use Rattle.fault_entry.proofs.vm_world.StateSteps.{state_rule}
 use Rattle.vm_core.specs.Flights.{IsBack, AddsEntry}
 use Rattle.vm_core.specs.State.{calls_without, without_seat, with_next_entry, IsSoundKernel}
@@ -61,19 +62,6 @@ never-seat seat (Some x) h = by_test (x == seat) refl h
     by_test : (b : Bool) → (x == seat) ≡ b → cond b None (Some x) ≡ Some seat → ⊥
     by_test true e h = let z : ◌≡◌ {A = Option ℕ} None (Some seat) = h in cc
     by_test false e h = elim (eqb_tells x seat) [ inl y ↦ (let z : true ≡ false = sym y.0 ∙ e in cc) | inr n ↦ n.1 (let z : Some x ≡ Some seat = h in cc) ]
-
-past-set : (calls : List (Option ℕ)) (f : ℕ) (o : Option ℕ) → length calls ≤ f → slice_index_or (slice_set calls f o) f None ≡ None
-past-set [] f o le = refl
-past-set (x ∷ xs) zero o le = absurd (omega (arith, le))
-past-set (x ∷ xs) (suc f) o le = past-set xs f o (omega (arith, le))
-
-past-index : (calls : List (Option ℕ)) (f : ℕ) → length calls ≤ f → slice_index_or calls f None ≡ None
-past-index [] f le = refl
-past-index (x ∷ xs) zero le = absurd (omega (arith, le))
-past-index (x ∷ xs) (suc f) le = past-index xs f (omega (arith, le))
-
-split : (a b : ℕ) → (a < b) ⊎ (b ≤ a)
-split a b = grind arith
 
 -- at the file itself
 at-file : (seat f : ℕ) (calls : List (Option ℕ)) → slice_index_or (calls_without seat (Some f) calls) f None ≡ without_seat seat (slice_index_or calls f None)

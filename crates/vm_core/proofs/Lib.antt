@@ -14,3 +14,4 @@ pub mod Uses
 pub mod Looks
 pub mod Hands
 pub use Rattle.fault_entry.proofs.vm_world as vm_world
+pub use Rattle.fault_entry.proofs.page_store as page_store

@@ -1,7 +1,8 @@
 -- The back hand, and the steps of the hands as steps of the world.
+use Rattle.fault_entry.proofs.seg_ops.Fills.{held-by as held-name}
 use Rattle.std.proofs.Common.{◌≡◌, ◌≢◌, ℕ, ◌<◌, Bool, true, false, cond, List, [], ◌∷◌, ◌++◌, length, Option, Some, None, refl, sym, ap, ◌∙◌, inl, inr, subst}
 use Rattle.std.specs.Prelude.{◌↔◌, ◌⊎◌, is_none, is_some, slice_index_or, IsSome, IfSome}
-use Rattle.std.proofs.lemmas.Bool.{eq-eqb, eqb-true}
+use Rattle.std.proofs.lemmas.Bool.{eq-eqb, eqb-true, or_left as or-left}
 use Rattle.fault_entry.specs.block_device.DiskSeen.{DiskSeen}
 use Rattle.fault_entry.specs.core_arena.Bytes.{bytes_at}
 use Rattle.fault_entry.specs.hat_layer.Pool.{frame_of, leads, drop_lead, drop_frame}
@@ -29,7 +30,7 @@ use Rattle.fault_entry.specs.seg_ops.Plans.{IsAsked}
 use Rattle.fault_entry.specs.vm_world.Words.{KeepsPages}
 use Rattle.fault_entry.specs.vm_world.declared.wants.Wants.{Wants}
 use Rattle.fault_entry.specs.vm_world.declared.wants.Wants.TheVariants.{Transfer, Seat}
-use Rattle.fault_entry.proofs.seg_ops.Places.{index-map, index-set, or-left}
+use Rattle.fault_entry.proofs.seg_ops.Places.{index-map, index-set}
 use Rattle.fault_entry.proofs.seg_ops.StillSteps.{with_tables, memory_of, KeepsRow, same-row, step-keeps, translation-kept}
 use Rattle.fault_entry.specs.vm_world.MemoryFits.{MemoryFits}
 use Rattle.fault_entry.specs.vm_world.Plans.{CanRunPlan}
@@ -83,10 +84,6 @@ not-written w u frame g clear m = elim (g.modified.1 m) [
   | inl set ↦ (let z : true ≡ false = sym set ∙ clear in cc)
   | inr x ↦ (let z : true ≡ false = sym x.modified ∙ (g.clear x.place x.translation x.there x.leads).1 in cc)
 ]
-
-pub free-by : (o : Option ℕ) → is_some o ≡ false → o ≡ None
-free-by None h = refl
-free-by (Some x) h = absurd (let z : true ≡ false = h in cc)
 
 -- a frame that nobody holds is home
 home-by : (b : Option (List ℕ)) (h : Option ℕ) → is_none b ≡ is_some h → h ≡ None → IsSome b
@@ -149,10 +146,6 @@ looks-unused w u v spaces frame fits lt g unlisted free idle clean store places 
     never : (p : Plan) → IsPushOf w frame p → ⊥
     never (plan.Push name) q = not-written w u frame g clean q.modified
     never (plan.Read name) q = q
-
--- the name of a page that is home in a frame
-held-name : (s : StoreSeen) (n : PageName) (frame : ℕ) → residence s n ≡ Home frame → name_at s.names frame ≡ Some n
-held-name s n frame at = find-at s.names n frame (home-is s n frame at).found
 
 pub home-again : (s : StoreSeen) (n : PageName) (frame : ℕ) → find s.names n ≡ Some frame → IsSome (bytes_at s.frames frame) → residence s n ≡ Home frame
 home-again s n frame found there = ap (λ (o : Option ℕ). residence_in o s) found ∙ by_bytes (bytes_at s.frames frame) there

@@ -1,4 +1,7 @@
 -- A page of a file goes out and comes back, while no seat has anything else outside.
+use Rattle.fault_entry.proofs.seg_ops.SlotMemory.{home-value_bytes as value-home}
+use Rattle.fault_entry.proofs.page_store.EndLemmas.{written_done as written-done}
+use Rattle.fault_entry.proofs.page_store.Returning.{other_block as block-other, one_block as written-some}
 use Rattle.std.proofs.Common.{◌≡◌, ◌≢◌, ℕ, ◌<◌, ◌≤◌, ◌==◌, Bool, true, false, cond, List, length, Option, Some, None, refl, sym, ap, ◌∙◌, inl, inr, subst, arith, get_or-set_other}
 use Rattle.std.specs.Prelude.{IsSome}
 use Rattle.std.specs.FinMap as finite
@@ -35,8 +38,8 @@ use Rattle.fault_entry.proofs.seg_ops.StillSteps.{value-is}
 use Rattle.vm_core.specs.Finish.{IsFilePage, bytes_of_page, KeepsDisk, KeepRecords}
 use Rattle.vm_core.specs.Closing.{KeepsBay, PushesPages, IsStored, StoresPages, IsFaultOfBays, page_on_disk}
 use Rattle.vm_core.proofs.Records.{disk-kept, block-kept, bytes-kept}
-use Rattle.vm_core.proofs.Fills.{with_page_filled, blank-other, blank-now, stored-same, block-now, block-other, one-page, other-blocks-written}
-use Rattle.vm_core.proofs.Pushes.{records-of, bay-refl, no-slot, page-exists, page-is, place-is, valid-is, value-home}
+use Rattle.vm_core.proofs.Fills.{with_page_filled, blank-other, blank-now, stored-same, block-now, one-page, other-blocks-written}
+use Rattle.vm_core.proofs.Pushes.{records-of, bay-refl, no-slot, page-exists, page-is, place-is, valid-is}
 
 none-left : (b : Bool) (x : Note) → cond b None (cond b (Some x) None) ≡ None
 none-left true x = refl
@@ -49,16 +52,6 @@ note-back note = λ i seat. none-left (seat == 0) note i
 cut-clip : (c : Bool) (v n : ℕ) (page : Page) → v ≡ n → n ≤ 4096 → (c ≡ true → length page ≡ 4096) → clip n (cut_page c v page) ≡ clip n page
 cut-clip false v n page same low whole = refl
 cut-clip true v n page same low whole = ap (λ (m : ℕ). clip n (clip m page)) same ∙ clip-twice n page low (whole refl)
-
-written-some : (note : Note) (e : FlightSeen) (o : Progress) → IsWritten note e o → (bytes : List ℕ) × (e.disk.content ≡ with_block note.disk.content note.block bytes)
-written-some note e fresh w = absurd w
-written-some note e done w = (clip note.valid note.bytes, w)
-written-some note e failed w = (w.0, w.2)
-
-written-done : (note : Note) (e : FlightSeen) (o : Progress) → o ≡ done → IsWritten note e o → e.disk.content ≡ with_block note.disk.content note.block (clip note.valid note.bytes)
-written-done note e fresh is w = absurd w
-written-done note e done is w = w
-written-done note e failed is w = absurd (cc)
 
 -- A page goes out with a flight, which is performed and comes back.
 pub record IsPush (u v w : World) (name : PageName) (f e : FlightSeen) : Type 0 where

@@ -160,13 +160,6 @@ module _ (w : World) (name : PageName) (fit : FilesFit w.files) (p : IsFilePage 
       ∙ ap (λ (v : ℕ). cond (is_blank (vnode_at w.files name.object) name.page) zeros (clip v (block_of (content_of w.store no_notes (disk_of_file w.files name.object)) (block_of_page w.files name.object name.page)))) e
       ∙ ap (λ (o : Option (List (List ℕ))). cond (is_blank (vnode_at w.files name.object) name.page) zeros (clip (bytes_of_page w.files name) (block_of o (block_of_page w.files name.object name.page)))) (content-in (bay_at w.store.bays (disk_of_file w.files name.object)))
 
--- the page of a home frame has its bytes
-pub value-home : (s : StoreSeen) (notes : Notes) (table : PlaceTable) (name : PageName) (frame : ℕ) → residence s name ≡ Home frame → value s notes table name ≡ home_bytes s (find s.names name)
-value-home s notes table name frame here =
-    let at = home-is s name frame here in
-    ap (λ (o : Option ℕ). value_in o s notes (table name)) at.found ∙ ap (λ (o : Option (List ℕ)). frame_value o (note_of_holder (row_at s.rows frame).holder notes) (backing_value s notes (table name))) at.there
-    ∙ sym (ap (home_bytes s) at.found ∙ ap (λ (o : Option (List ℕ)). unwrap_or o []) at.there)
-
 -- A PAGE THAT ISN'T MODIFIED is stored, where no seat has anything outside.
 pub unmodified-stored : (w : World) (spaces : Spaces) (name : PageName) → MemoryFits (memory_of w spaces) → NotesFit w no_notes → IsFilePage w.files name
     → ((frame : ℕ) → residence w.store name ≡ Home frame → ¬ IsModified w.store w.hat.places frame) → AllTell w no_notes → IsStored w name

@@ -1,4 +1,5 @@
 -- Files that keep their records, and disks that keep what isn't a page of a file.
+use Rattle.fault_entry.proofs.vm_world.FrameRule.{info-at}
 use Rattle.std.proofs.Common.{◌≡◌, ℕ, zero, suc, ◌<◌, ◌≤◌, List, [], ◌∷◌, length, map, Option, Some, None, refl, sym, ap, ◌∙◌, subst, arith}
 use Rattle.std.specs.Prelude.{slice_index_or, IsSome}
 use Rattle.std.specs.FinMap as finite
@@ -15,12 +16,6 @@ use Rattle.fault_entry.specs.vm_world.FramesFit.{FilesFit}
 use Rattle.fault_entry.specs.vm_world.World.{file_blocks}
 use Rattle.fault_entry.proofs.vm_world.LieAlike.{lie-alike}
 use Rattle.vm_core.specs.Finish.{IsFilePage, bytes_of_page, disk_at, IsPageBlock, KeepsOtherBlocks, KeepsDisk, KeepDisks, KeepRecords}
-
--- the record of a file, from the records of all
-info-at : (vs : List VnodeSeen) (f : ℕ) → (slice_index_or vs f no_vnode).info ≡ slice_index_or (map (λ (v : VnodeSeen). v.info) vs) f no_vnode.info
-info-at [] f = refl
-info-at (v ∷ vs) zero = refl
-info-at (v ∷ vs) (suc f) = info-at vs f
 
 pub info-kept : (F G : FilesSeen) → KeepRecords F G → (f : ℕ) → (vnode_at G f).info ≡ (vnode_at F f).info
 info-kept F G k f = info-at G.files f ∙ ap (λ (infos : List FileInfo). slice_index_or infos f no_vnode.info) k.infos ∙ sym (info-at F.files f)

@@ -1,4 +1,5 @@
 -- A call that is served becomes an event.
+use Rattle.fault_entry.proofs.flat_model.Opens.{next_of_file as next-file}
 use Rattle.std.proofs.Common.{◌≡◌, ◌≢◌, ℕ, zero, suc, ◌-◌, ◌<◌, ◌≤◌, ◌==◌, ◌||◌, Bool, true, false, cond, List, length, Option, Some, None, refl, sym, ap, ◌∙◌, inl, inr, ◌⊎◌, subst, arith, get_or-set_same, get_or-set_other, length-set}
 use Rattle.std.specs.Prelude.{Result, Ok, Err, IfOk, OnErr, ◌↔◌, filter, slice_index_or, slice_set, IsSome, IsSomeAnd, MatchOption, MatchBool}
 use Rattle.std.proofs.lemmas.Bool.{cases_eq}
@@ -45,7 +46,6 @@ use Rattle.fault_entry.specs.vm_world.SyncSteps.{start_of, starts_begun, with_ca
 use Rattle.fault_entry.specs.vm_world.Wants.{HoldsUp, accessed_page}
 use Rattle.fault_entry.specs.vm_world.World.{World}
 use Rattle.fault_entry.specs.vm_world.ZeroObjects.{KnowsZeros}
-use Rattle.fault_entry.proofs.vm_world.NextParts.{next-file}
 use Rattle.fault_entry.proofs.vm_world.KeptStarts.{start_rule}
 use Rattle.fault_entry.proofs.vm_world.Servings.{serving_law}
 use Rattle.fault_entry.proofs.vm_world.Told.{event_law}

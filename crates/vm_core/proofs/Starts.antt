@@ -135,7 +135,7 @@ count-disks bays disks swap h = by_swap swap h.swap
     by_swap (Some d) has_swap = let most = at-most (8 ∷ numbers_of disks) bays (λ k is. elim (cases_eq k 8) [ inl same ↦ inl same | inr ne ↦ inr (below k ne is) ]) in omega (arith, most, count)
 
 -- a disk of the list is home
-disk-home : (bays : List BaySeen) (disks : List (ℕ × DiskSeen)) (swap : Option DiskSeen) (place number : ℕ) (disk : DiskSeen) → AreHome bays disks swap → slice_get disks place ≡ Some (number, disk) → bay_at bays number ≡ home disk
+pub disk-home : (bays : List BaySeen) (disks : List (ℕ × DiskSeen)) (swap : Option DiskSeen) (place number : ℕ) (disk : DiskSeen) → AreHome bays disks swap → slice_get disks place ≡ Some (number, disk) → bay_at bays number ≡ home disk
 disk-home bays disks swap place number disk h at =
     let same = index-of disks place (number, disk) (number, disk) at in
     subst (λ (d : ℕ × DiskSeen). bay_at bays d.0 ≡ home d.1) same (h.each place (number, disk) (slice_get_within disks place (number, disk) at))
@@ -320,11 +320,6 @@ all-empty parents spaces tops p parts is = by_top (is_top parents p) (sym (tops 
 
 known-none : (parents : List ℕ) (spaces : Spaces) → ((p : ℕ) → finite.get spaces p ≡ top_space parents p) → KnowsZeros [] spaces
 known-none parents spaces tops z = ap (λ (zs : finite.FinMap nat_cmp ℕ). finite.get zs z) (empty-zeros spaces (all-empty parents spaces tops)) ∙ finite.get-empty nat_cmp z
-
--- the numbers of disks, as they are seen
-pub same-numbers : {D : Type 0} (seen : D → DiskSeen) (disks : List (ℕ × D)) → numbers_of (pairs_seen seen disks) ≡ numbers_of disks
-same-numbers seen [] = refl
-same-numbers seen (d ∷ disks) = ap (λ (l : List ℕ). d.0 ∷ l) (same-numbers seen disks)
 
 -- as many disks are seen as there are
 pub same-total : {D : Type 0} (seen : D → DiskSeen) (disks : List (ℕ × D)) (swap : Option D) → disk_total (pairs_seen seen disks) (option_map seen swap) ≡ disk_total disks swap

@@ -1,8 +1,11 @@
 -- What the translations of a frame say of its use, and what a hand of the clock makes of it.
+use Rattle.fault_entry.proofs.hat_layer.FrameLemmas.{leads-true as leads-is}
+use Rattle.fault_entry.proofs.flat_model.Starts.{or_cases as either-is}
+use Rattle.fault_entry.proofs.flat_model.Ranges.{both_true as both}
 use Rattle.std.proofs.Common.{◌≡◌, ◌≢◌, ℕ, zero, suc, ◌<◌, ◌==◌, ◌||◌, ◌&&◌, Bool, true, false, cond, List, [], ◌∷◌, length, Option, Some, None, refl, sym, ap, ◌∙◌, inl, inr, subst, get_or-set_same, get_or-set_other}
 use Rattle.std.specs.Prelude.{◌⊎◌, slice_index_or, option_map, IsSome}
 use Rattle.std.specs.List.{list_any}
-use Rattle.std.proofs.lemmas.Bool.{eq-eqb, eqb-true}
+use Rattle.std.proofs.lemmas.Bool.{eq-eqb, eqb-true, or_left as or-left, or_right as or-right}
 use Rattle.fault_entry.specs.hat_layer.Pool.{HatSeen, frame_of, leads, has_bit, bits_of, change_lead, change_frame, with_clear_bits}
 use Rattle.fault_entry.specs.hat_layer.declared.translation.Translation.{Translation}
 use Rattle.fault_entry.specs.page_lock.Rows.{row_at, clear_row, with_bits}
@@ -10,7 +13,7 @@ use Rattle.fault_entry.specs.page_lock.declared.Row.{Row}
 use Rattle.fault_entry.specs.page_store.Seen.{StoreSeen, IsListedFrame}
 use Rattle.fault_entry.specs.page_store.Steps.{with_row}
 use Rattle.fault_entry.specs.seg_ops.Steps.{with_bits_gathered}
-use Rattle.fault_entry.proofs.seg_ops.Places.{both, or-left, or-right, index-map}
+use Rattle.fault_entry.proofs.seg_ops.Places.{index-map}
 use Rattle.fault_entry.proofs.seg_ops.StillSteps.{with_tables, memory_of}
 use Rattle.fault_entry.specs.vm_world.MemoryFits.{MemoryFits}
 use Rattle.fault_entry.specs.vm_world.Segments.{Spaces}
@@ -48,14 +51,6 @@ has-any : (bit : Translation → Bool) (frame : ℕ) (places : List (Option Tran
 has-any bit frame [] k t at to set = absurd (let z : ◌≡◌ {A = Option Translation} None (Some t) = at in cc)
 has-any bit frame (o ∷ os) zero t at to set = or-left (has_bit bit frame o) (list_any (has_bit bit frame) os) (ap (has_bit bit frame) at ∙ here-has bit frame t to set)
 has-any bit frame (o ∷ os) (suc k) t at to set = or-right (has_bit bit frame o) (list_any (has_bit bit frame) os) (has-any bit frame os k t at to set)
-
-either-is : (a b : Bool) → (a || b) ≡ true → (a ≡ true) ⊎ (b ≡ true)
-either-is true b h = inl refl
-either-is false b h = inr h
-
--- ONE PLACE after the bits of a frame were cleared.
-leads-is : (frame : ℕ) (t : Translation) → t.frame ≡ frame → leads frame (Some t) ≡ true
-leads-is frame t to = eq-eqb t.frame frame to
 
 cleared-one : (frame : ℕ) (o : Option Translation) (t : Translation) (b : Bool) → leads frame o ≡ b → cond b (option_map with_clear_bits o) o ≡ Some t → t.frame ≡ frame → (t.referenced ≡ false) × (t.modified ≡ false)
 cleared-one frame None t true e at to = absurd (let z : ◌≡◌ {A = Option Translation} None (Some t) = at in cc)

@@ -1,4 +1,6 @@
 -- Which processes a history's forks made, entry by entry.
+use Rattle.vm_script.proofs.flat_model.Named.{or_assoc as or_moves}
+use Rattle.vm_script.proofs.Flags.{or_false}
 use Rattle.std.proofs.Common.{◌≡◌, ℕ, ◌<◌, ◌+◌, ◌==◌, Bool, true, false, ◌||◌, List, ◌∷◌, length, drop, get_or, refl, sym, ap, ◌∙◌, subst, cond, ⊎_elim, eq-eqb}
 use Rattle.std.specs.Prelude.{slice_set, slice_index_or}
 use Rattle.std.specs.List.{list_any}
@@ -18,14 +20,6 @@ differs a b no_eq e = false≢true (sym no_eq ∙ eq-eqb a b (sym e))
 or_true : (b : Bool) → (b || true) ≡ true
 or_true true = refl
 or_true false = refl
-
-or_false : (b : Bool) → (b || false) ≡ b
-or_false true = refl
-or_false false = refl
-
-or_moves : (a b c : Bool) → ((a || b) || c) ≡ (a || (b || c))
-or_moves true b c = refl
-or_moves false b c = refl
 
 unborn : (bs : List Bool) (p : ℕ) → slice_index_or bs p false ≡ (slice_index_or bs p false || false)
 unborn bs p = sym (or_false (slice_index_or bs p false))

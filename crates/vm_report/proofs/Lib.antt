@@ -7,3 +7,4 @@ pub mod FileLines
 pub mod Spelled
 pub use Rattle.vm_script.proofs.flat_model as flat_model
 pub use Rattle.vm_script.proofs as vm_script
+pub use Rattle.vm_script.proofs.vnode_files as vnode_files

@@ -1,8 +1,9 @@
 -- The lines of a plan of one block at most, all of which are served.
+use Rattle.volume_files.proofs.vm_script.GivenDisks.{not_false as not-false}
 use Rattle.std.proofs.Common.{◌≡◌, ℕ, zero, suc, ◌+◌, ◌<◌, ◌≤◌, Bool, true, false, not, List, [], ◌∷◌, ◌++◌, length, Option, Some, None, refl, sym, ap, ◌∙◌, ◌⊎◌, inl, inr, subst, arith}
 use Rattle.std.specs.Prelude.{All, IsTrue, IsFalse, slice_index_or, nat_lt, ◌||◌}
 use Rattle.std.specs.List.{list_all}
-use Rattle.std.proofs.lemmas.Bool.{ltb-false}
+use Rattle.std.proofs.lemmas.Bool.{ltb-false, or_parts as both-false}
 use Rattle.std.proofs.lemmas.List.{append-nil}
 use Rattle.std.proofs.lemmas.List.Elements.{All-nil, All-cons, All-head, All-tail}
 use Rattle.std.proofs.lemmas.List.Sums.{AllPass-from_list_all, sum_by-cons}
@@ -214,14 +215,6 @@ pub record PlaysOne (plan : PlanSeen) : Type 0 where
   pub lines : AreLines plan.lines
   pub own : All (λ (l : PlanLine). l.process ≡ 1) plan.lines
   pub blocks : ((plan.parents ≡ []) × (plan.lines ≡ [])) ⊎ (plan.parents ≡ 0 ∷ [])
-
-both-false : (a b : Bool) → (a || b) ≡ false → (a ≡ false) × (b ≡ false)
-both-false true b is = absurd (let z : true ≡ false = is in cc)
-both-false false b is = (refl, is)
-
-not-false : (b : Bool) → not b ≡ false → b ≡ true
-not-false true is = refl
-not-false false is = absurd (let z : true ≡ false = is in cc)
 
 pub plays-one : (plan : PlanSeen) → IsPlayable plan → PlaysOne plan
 plays-one plan may = by_parents plan.parents refl

@@ -1,4 +1,6 @@
 -- A run that began: what it left, and what that is of what was asked.
+use Rattle.vm_run.proofs.StartedFlat.{infos-fresh as made-infos}
+use Rattle.volume_files.proofs.FileLineLemmas.{names-made as names-fresh}
 use Rattle.std.proofs.Common.{◌≡◌, ℕ, zero, suc, ◌≤◌, ◌<◌, ◌==◌, Bool, true, false, List, [], ◌∷◌, length, map, refl, sym, ap, ◌∙◌, subst, arith, inl, inr}
 use Rattle.std.specs.Prelude.{IfNone, IfSome, IsSome, IsSomeAnd, Ok, Option, Some, None, slice_get, slice_index_or, zip, if◌then◌else◌}
 use Rattle.std.specs.Map.{lookup}
@@ -56,10 +58,6 @@ names-of-modes : (vs : List VnodeSeen) → map (λ (v : VnodeSeen). v.info.name)
 names-of-modes [] = refl
 names-of-modes (v ∷ vs) = ap (λ l. v.info.name ∷ l) (names-of-modes vs)
 
-names-fresh : (files : List OpenedFile) → map (λ (v : VnodeSeen). v.info.name) (map fresh_vnode (infos_of files)) ≡ names_of files
-names-fresh [] = refl
-names-fresh (f ∷ files) = ap (λ l. f.info.name ∷ l) (names-fresh files)
-
 -- their modes
 abbrev mode-from : FileMode → List ℕ × ℕ × Bool
 mode-from m = (m.name, m.disk, m.writable)
@@ -67,11 +65,6 @@ mode-from m = (m.name, m.disk, m.writable)
 modes-of : (vs : List VnodeSeen) → modes_in (map (λ (v : VnodeSeen). v.info) vs) ≡ map mode-from (map mode_of vs)
 modes-of [] = refl
 modes-of (v ∷ vs) = ap (λ l. mode_in v.info ∷ l) (modes-of vs)
-
--- the records of fresh files
-pub made-infos : (infos : List FileInfo) → map (λ (v : VnodeSeen). v.info) (map fresh_vnode infos) ≡ infos
-made-infos [] = refl
-made-infos (i ∷ infos) = ap (λ (l : List FileInfo). i ∷ l) (made-infos infos)
 
 -- the size of the disk at a place
 size-at : (xs : List (ℕ × DiskSeen)) (i : ℕ) (x : ℕ × DiskSeen) → slice_get xs i ≡ Some x → slice_get (map (λ (d : ℕ × DiskSeen). d.1.size) xs) i ≡ Some x.1.size

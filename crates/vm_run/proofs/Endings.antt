@@ -1,4 +1,5 @@
 -- How a run ends whose files were closed.
+use Rattle.vm_core.proofs.page_store.FrameLaws.{unset as no-make}
 use Rattle.std.proofs.Common.{◌≡◌, ℕ, ◌≤◌, List, ◌++◌, true, false, refl, sym, subst}
 use Rattle.std.specs.Prelude.{Bool, Option, Some, None, is_some}
 use Rattle.std.proofs.Common.{append-nil}
@@ -43,10 +44,6 @@ pub without-files : (make : Option ℕ) (k0 k1 : SinkSeen) (text : List ℕ) (in
     → Wrote k0 k1 (text ++ files_or_none make infos bytes)
 without-files None k0 k1 text infos bytes some w = absurd (false≢true some)
 without-files (Some n) k0 k1 text infos bytes some w = subst (Wrote k0 k1) (sym (append-nil text)) w
-
-no-make : (make : Option ℕ) → is_some make ≡ false → make ≡ None
-no-make None none = refl
-no-make (Some n) none = absurd (false≢true (sym none))
 
 module _ (o : Options) (plan : PlanSeen) (H : List Entry) (infos : List FileInfo) (bytes : ℕ → List ℕ) (k0 k1 k2 : SinkSeen) (old new : List (ℕ × DiskSeen)) where
   -- the files weren't shown to their end

@@ -1,4 +1,5 @@
 -- The flat memory of a kernel at the start: that of the files as they are opened.
+use Rattle.vm_core.proofs.vm_world.Openings.{unnamed-find}
 use Rattle.std.proofs.Common.{◌≡◌, ◌≢◌, ℕ, zero, suc, ◌+◌, ◌-◌, ◌*◌, ◌<◌, ◌==◌, min, Bool, true, false, cond, List, [], ◌∷◌, ◌++◌, length, map}
 use Rattle.std.proofs.Common.{replicate, Option, Some, None, refl, sym, ap, ◌∙◌, subst, arith}
 use Rattle.std.specs.Prelude.{slice_get, slice_index_or, option_map, nat_le, not, ◌||◌}
@@ -40,12 +41,6 @@ use Rattle.vm_core.specs.State.{marked_processes}
 use Rattle.vm_core.proofs.Tops.{born-tops}
 use Rattle.volume_files.specs.Opened.{OpenedFile, stored_bytes, opened_flat_file, top_processes}
 use Rattle.vm_run.proofs.OpenedPages.{opened-pages, pages-agree}
-
--- no frame holds a page
-unnamed-find : (names : List (Option PageName)) (n : PageName) → ((k : ℕ) → name_at names k ≡ None) → find names n ≡ None
-unnamed-find [] n none = refl
-unnamed-find (Some x ∷ more) n none = absurd (let z = none 0 in cc)
-unnamed-find (None ∷ more) n none = ap (option_map suc) (unnamed-find more n (λ k. none (suc k)))
 
 -- A FILE that was never written to since it was opened: its number, its record and where its blocks are.
 pub record IsAsOpened (w : World) (f : ℕ) (o : OpenedFile) (blocks : List (List ℕ)) : Type 0 where

@@ -1,7 +1,7 @@
 -- A plan that may be played may be played with the numbers of its files.
 use Rattle.std.specs.Prelude.{ℕ, ◌≡◌, ◌<◌, ◌+◌, ◌^◌, ◌||◌, not, nat_lt, Bool, true, false, List, [], ◌∷◌, length, map, if◌then◌else◌}
 use Rattle.std.specs.List.{list_all}
-use Rattle.std.proofs.lemmas.Bool.{and_parts, and_from, both_ways, not-false}
+use Rattle.std.proofs.lemmas.Bool.{and_parts, and_from, both_ways, not-false, or_parts as or_false}
 use Rattle.std.proofs.Common.{ap, ◌∙◌, sym, subst, refl, arith}
 use Rattle.std.proofs.lemmas.List.{map-append, length-map}
 use Rattle.std.proofs.lemmas.List.Elements.{All-map, All-weaker}
@@ -46,10 +46,6 @@ served-all names [] h = refl
 served-all names (l ∷ lines) h =
     let both = and_parts (is_served_act l.act) (list_all (λ k. is_served_act k.act) lines) h in
     and_from (is_served_act (act_with_file names l.act)) (list_all (λ k. is_served_act k.act) (map (line_with_file names) lines)) (served-act names l.act both.0) (served-all names lines both.1)
-
-or_false : (x y : Bool) → (x || y) ≡ false → (x ≡ false) × (y ≡ false)
-or_false true y h = absurd (both_ways true h refl)
-or_false false y h = (refl, h)
 
 later-named : (names : List (List ℕ)) (plan : PlanSeen) → is_later plan ≡ false → is_later (with_files names plan) ≡ false
 later-named names plan h =

@@ -1,4 +1,5 @@
 -- The disks that come back from a kernel that is closed.
+use Rattle.vm_core.proofs.page_store.TransferLemmas.{home-within as home-below}
 use Rattle.std.proofs.Common.{◌≡◌, ◌≢◌, ℕ, zero, suc, ◌<◌, ◌≤◌, List, [], ◌∷◌, length, map, Option, Some, None, refl, sym, ap, ◌∙◌, ◌⊎◌, inl, inr, subst, arith}
 use Rattle.std.specs.Prelude.{All, IfSome, IfNone, IsSome, IsTrue, MatchOption, is_some, option_map, slice_get, slice_index, slice_index_or}
 use Rattle.std.specs.Ordering.{nat_cmp}
@@ -88,12 +89,6 @@ same-maps f g [] (y ∷ ys) long same = absurd (omega (arith, long))
 same-maps f g (x ∷ xs) [] long same = absurd (omega (arith, long))
 same-maps {A} {B} {X} f g (x ∷ xs) (y ∷ ys) long same =
     ap (λ (z : X). z ∷ map f xs) (same 0 x y refl refl) ∙ ap (λ (zs : List X). g y ∷ zs) (same-maps f g xs ys (omega (arith, long)) (λ i a b p q. same (suc i) a b p q))
-
--- where a disk is home there is a bay
-home-below : (bays : List BaySeen) (k : ℕ) (d : DiskSeen) → bay_at bays k ≡ home d → k < length bays
-home-below [] k d is = absurd (cc)
-home-below (b ∷ bs) zero d is = omega arith
-home-below (b ∷ bs) (suc k) d is = let more = home-below bs k d is in omega (arith, more)
 
 -- a swap disk that came back with its size serves the slots as it did
 swap-back : (slots : ℕ) (old new : Option DiskSeen) → SwapCameBack (bay_of old) new → IsSwapFor slots old → IsSwapFor slots new

@@ -1,4 +1,5 @@
 -- A run that is ready, to its end.
+use Rattle.volume_files.proofs.ShownFiles.{reads_same as reads-refl}
 use Rattle.std.proofs.Common.{◌≡◌, ℕ, zero, suc, ◌≤◌, ◌<◌, ◌^◌, List, [], ◌∷◌, length, map, refl, sym, ap, ◌∙◌, subst, arith}
 use Rattle.std.specs.Prelude.{Bool, IsTrue, None, Ok, Option}
 use Rattle.std.proofs.lemmas.List.{length-map}
@@ -34,7 +35,7 @@ use Rattle.volume_files.specs.Written.{AreOnlyRead, HaveFirstBlocks, disk_sizes}
 use Rattle.volume_files.proofs.FileLineLemmas.{length-made}
 use Rattle.vm_run.proofs.PlayablePlans.{playable-named}
 use Rattle.vm_run.proofs.Cases.{close-case}
-use Rattle.volume_files.proofs.DiskLists.{first-same, low-disks, number, reads-refl}
+use Rattle.volume_files.proofs.DiskLists.{first-same, low-disks, number}
 use Rattle.vm_run.proofs.LastLines.{end-same}
 use Rattle.vm_run.proofs.Traced.{infos-placed, lacks-behind, opening-read, placed-read, tell-read}
 

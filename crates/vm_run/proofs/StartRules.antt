@@ -1,4 +1,7 @@
 -- What the set-up rules say of the amounts and the disks that a kernel is started with.
+use Rattle.volume_files.proofs.MountSpecs.{numbered_is as numbered-so}
+use Rattle.vm_core.proofs.vm_world.ComingParts.{sum-split as sum-both}
+use Rattle.volume_files.proofs.flat_model.Gap.{test_none as kept}
 use Rattle.std.proofs.Common.{◌≡◌, ℕ, zero, suc, ◌+◌, ◌<◌, ◌≤◌, ◌==◌, Bool, true, false, cond, List, [], ◌∷◌, length, map, Option, Some, None, refl, sym, ap}
 use Rattle.std.proofs.Common.{◌∙◌, inl, inr, subst, arith, zero-add}
 use Rattle.std.specs.Prelude.{not, nat_lt, slice_index, filter_map, option_and_then, count_by, sum_by}
@@ -17,11 +20,6 @@ use Rattle.volume_files.specs.vm_script.Counts.{entry_count}
 use Rattle.volume_files.specs.vm_script.PlanSeen.{PlanSeen}
 use Rattle.volume_files.specs.vm_script.Rules.{amounts_of, gives_a_disk, gives_disk, disk_line_count, is_from_to, has_wrong_frames, has_wrong_disk, lacks_disk, is_wrong_file, broken_rule}
 use Rattle.volume_files.specs.Opened.{given_disk, disk_numbered, disk_specs}
-
--- a rule that isn't broken, and those behind it
-kept : (b : Bool) (n : ℕ) (rest : Option ℕ) → cond b (Some n) rest ≡ None → (b ≡ false) × (rest ≡ None)
-kept true n rest is = absurd (let z : Some n ≡ None = is in cc)
-kept false n rest is = (refl, is)
 
 within : (low high n : ℕ) → not (is_from_to low high n) ≡ false → (low ≤ n) × (n ≤ high)
 within low high n is = (grind (arith, nat_tests), grind (arith, nat_tests))
@@ -82,15 +80,6 @@ length-given {Y = Y} h count each (x ∷ xs) = by_option (h x) (each x) (length-
         → length (cons_option o (filter_map h xs)) ≤ sum_by count (x ∷ xs)
     by_option None low rest sum = omega (arith, rest, sum)
     by_option (Some y) low rest sum = omega (arith, low, rest, sum)
-
-sum-both : {X : Type 0} (f g : X → ℕ) (xs : List X) → sum_by (λ x. f x + g x) xs ≡ sum_by f xs + sum_by g xs
-sum-both f g [] = refl
-sum-both f g (x ∷ xs) =
-    let a = sum_by-cons (λ x. f x + g x) x xs in
-    let b = sum_by-cons f x xs in
-    let c = sum_by-cons g x xs in
-    let rest = sum-both f g xs in
-    omega (arith, a, b, c, rest)
 
 sum-agree : {X : Type 0} (f g : X → ℕ) → ((x : X) → f x ≡ g x) → (xs : List X) → sum_by f xs ≡ sum_by g xs
 sum-agree f g same [] = refl
@@ -158,15 +147,6 @@ own-number (given.Frames x) n s gives is = absurd (let z : false ≡ true = give
 own-number (given.Swap x) n s gives is = absurd (let z : false ≡ true = gives in cc)
 own-number (given.Translations x) n s gives is = absurd (let z : false ≡ true = gives in cc)
 own-number (given.File name writable disk pages bytes) n s gives is = absurd (let z : false ≡ true = gives in cc)
-
-numbered-so : (setup : List SetupLine) (n : ℕ) (s : Spec) → disk_numbered setup n ≡ Some s → spec_number s ≡ n
-numbered-so [] n s is = absurd (let z : ◌≡◌ {A = Option Spec} None (Some s) = is in cc)
-numbered-so (l ∷ setup) n s is = by_test (gives_disk n l.act) refl is (numbered-so setup n s)
-  where
-    by_test : (b : Bool) → gives_disk n l.act ≡ b → option_and_then (λ (k : SetupLine). given_disk k.act) (cond b (Some l) (find (λ (k : SetupLine). gives_disk n k.act) setup)) ≡ Some s
-        → (disk_numbered setup n ≡ Some s → spec_number s ≡ n) → spec_number s ≡ n
-    by_test true e is rest = own-number l.act n s e is
-    by_test false e is rest = rest is
 
 -- numbers that rise, from a least one on
 abbrev Rise : ℕ → List ℕ → Type 0

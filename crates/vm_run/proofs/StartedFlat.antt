@@ -1,4 +1,5 @@
 -- A kernel at the start fits flat memory as the processes find it.
+use Rattle.vm_core.proofs.Starts.{disk-home}
 use Rattle.std.proofs.Common.{◌≡◌, ◌≢◌, ℕ, suc, ◌+◌, ◌<◌, Bool, true, false, cond, List, [], ◌∷◌, length, map, Option, Some, None, refl, sym, ap, ◌∙◌, subst, arith}
 use Rattle.std.specs.Prelude.{slice_get, slice_index_or, is_some, unwrap_or, IfSome}
 use Rattle.std.specs.FinMap as finite
@@ -45,15 +46,9 @@ whole-from : (blocks : List (List ℕ)) (places : List ℕ) → ((j : ℕ) → j
 whole-from blocks [] each = tt
 whole-from blocks (b ∷ places) each = (each 0 (omega arith), whole-from blocks places (λ j lt. each (suc j) (omega (arith, lt))))
 
-infos-fresh : (infos : List FileInfo) → map (λ (v : VnodeSeen). v.info) (map fresh_vnode infos) ≡ infos
+pub infos-fresh : (infos : List FileInfo) → map (λ (v : VnodeSeen). v.info) (map fresh_vnode infos) ≡ infos
 infos-fresh [] = refl
 infos-fresh (info ∷ infos) = ap (λ (l : List FileInfo). info ∷ l) (infos-fresh infos)
-
-pub disk-home : (bays : List BaySeen) (disks : List (ℕ × DiskSeen)) (swap : Option DiskSeen) (place number : ℕ) (disk : DiskSeen) → AreHome bays disks swap
-    → slice_get disks place ≡ Some (number, disk) → bay_at bays number ≡ home disk
-disk-home bays disks swap place number disk h at =
-    let same = index-of disks place (number, disk) (number, disk) at in
-    subst (λ (d : ℕ × DiskSeen). bay_at bays d.0 ≡ home d.1) same (h.each place (number, disk) (slice_get_within disks place (number, disk) at))
 
 -- What a kernel was started with.
 pub record IsStartedWith (files : List OpenedFile) (disks : List (ℕ × DiskSeen)) (swap : Option DiskSeen) (s : KernelState) : Type 0 where

@@ -1,4 +1,5 @@
 -- What a kernel may be started with, once the files were placed, and what it is then.
+use Rattle.volume_files.proofs.Unfailing.{swap-handed as swap-is}
 use Rattle.std.proofs.Common.{◌≡◌, ℕ, suc, ◌+◌, ◌<◌, ◌≤◌, ◌==◌, Bool, cond, List, [], ◌∷◌, length, map, Option, Some, None, refl, sym, ap, ◌∙◌, subst, arith}
 use Rattle.std.specs.Prelude.{slice_index_or, option_map, is_some}
 use Rattle.std.proofs.lemmas.Bool.{ne_eqb}
@@ -43,11 +44,6 @@ numbers-are seen (d ∷ disks) = ap (λ (l : List ℕ). d.number ∷ l) (numbers
 pub bare_disks-are : {D : Type 0} (seen : D → DiskSeen) (disks : List (NumberedDisk D)) → map seen (map (λ (d : ℕ × D). d.1) (map with_number disks)) ≡ bare_disks (map (numbered_seen seen) disks)
 bare_disks-are seen [] = refl
 bare_disks-are seen (d ∷ disks) = ap (λ (l : List DiskSeen). seen d.disk ∷ l) (bare_disks-are seen disks)
-
-pub swap-is : {D : Type 0} (seen : D → DiskSeen) (swap : Option (NumberedDisk D))
-    → option_map seen (option_map (λ (d : NumberedDisk D). d.disk) swap) ≡ option_map (λ (d : NumberedDisk D). seen d.disk) swap
-swap-is seen None = refl
-swap-is seen (Some d) = refl
 
 pub total-is : {D : Type 0} (seen : D → DiskSeen) (disks : List (NumberedDisk D)) (swap : Option (NumberedDisk D))
     → disk_total (map with_number disks) (option_map (λ (d : NumberedDisk D). d.disk) swap)

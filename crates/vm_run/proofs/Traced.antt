@@ -1,4 +1,5 @@
 -- Files that are placed, once their disks were read for the trace.
+use Rattle.vm_run.proofs.StartedFlat.{infos-fresh as made-infos}
 use Rattle.std.proofs.Common.{◌≡◌, ℕ, zero, suc, ◌<◌, ◌==◌, ◌++◌, true, false, List, [], ◌∷◌, length, map, take, drop, append-nil, refl, sym, ap, ◌∙◌, subst, arith, inl, inr}
 use Rattle.std.specs.Prelude.{All, Bool, IfSome, IsSome, IsTrue, Err, Ok, Option, Some, None, option_map, slice_get, zip, if◌then◌else◌}
 use Rattle.std.specs.FinMap as finite
@@ -37,7 +38,7 @@ use Rattle.vm_run.specs.Run.{AreOpenedBytes, CaseOf, IsOpened, Outside, opening_
 use Rattle.volume_files.specs.Texts.{IsPageUnread, Wrote, WroteFront, WrotePart, file_sections, sections_before, trace_front}
 use Rattle.vm_run.specs.AskedTexts.{trace_opening}
 use Rattle.volume_files.specs.Written.{AreFilesBytes, AreOnlyRead, HaveFirstBlocks, FaultCounts, IsCountedSince, TraceShows, disk_sizes, open_fault_counts}
-use Rattle.vm_run.proofs.Courses.{made-infos, spec-size}
+use Rattle.vm_run.proofs.Courses.{spec-size}
 use Rattle.volume_files.proofs.WrittenTexts.{wrote_front}
 use Rattle.volume_files.proofs.FaultCauses.{if-counted}
 use Rattle.volume_files.proofs.DiskLists.{at-map, have-read, in-map, lookup-at, low-disks, mate, same-image, sizes-by, zip-back}

@@ -1,4 +1,5 @@
 -- A text is read line by line.
+use Rattle.vm_script.proofs.Nesting.{few_more as few_blocks}
 use Rattle.std.proofs.Common.{◌≡◌, ℕ, ◌+◌, ◌<◌, ◌≤◌, ◌==◌, Bool, false, List, [], ◌∷◌, length, take, refl, sym, ap, ap₂, ◌∙◌, subst, arith, rules, tests, length-append, Result, Ok, Err}
 use Rattle.std.specs.List.{list_all}
 use Rattle.vm_script.specs.declared.fault.ScriptKind.{ScriptKind}
@@ -62,15 +63,6 @@ pub plan_err : (n : ℕ) (g : OpenPlan) (xs : List ℕ) (plain : Bool) (fs : Lis
     → plain ≡ list_all is_plain (first_line xs) → fs ≡ take 8 (fields (first_line xs)) → statement (spot_of g) plain fs ≡ Err k
     → plan_from n g (lines xs) ≡ Err (record { line = n + 1; kind = k })
 plan_err n g xs plain fs k some p f is = ap (plan_from n g) (lines_first xs some) ∙ rw (statement_line g xs plain fs (Err k) p f is, plan_from) refl
-
--- a line begins at most one block
-pub few_blocks : (g : OpenPlan) (n : ℕ) (s : Statement) → length (with_statement g n s).parents ≤ length g.parents + 1
-few_blocks g n says.Nothing = omega arith
-few_blocks g n (says.Setup a) = omega arith
-few_blocks g n says.Process = omega (arith, length-append g.parents (0 ∷ []))
-few_blocks g n says.Fork = omega (arith, length-append g.parents (g.inside ∷ []))
-few_blocks g n says.End = omega arith
-few_blocks g n (says.Own a) = omega arith
 
 pub some_there : (xs : List ℕ) (b : Bool) → b ≡ false → b ≡ (length xs == 0) → 1 ≤ length xs
 some_there [] b no_more is = absurd (false≢true (sym no_more ∙ is))

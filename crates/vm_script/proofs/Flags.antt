@@ -8,7 +8,7 @@ or_moves : (a b c : Bool) → (a || (b || c)) ≡ ((a || b) || c)
 or_moves true b c = refl
 or_moves false b c = refl
 
-or_false : (a : Bool) → (a || false) ≡ a
+pub or_false : (a : Bool) → (a || false) ≡ a
 or_false true = refl
 or_false false = refl
 

@@ -1,4 +1,5 @@
 -- The generated script, piece by piece.
+use Rattle.vm_script.proofs.Nesting.{plus_one}
 use Rattle.std.proofs.Common.{◌≡◌, ℕ, zero, suc, ◌≤◌, ◌<◌, ◌+◌, ◌*◌, ◌==◌, Bool, true, false, not, ◌&&◌, List, [], ◌∷◌, ◌++◌, length, map, refl, sym}
 use Rattle.std.proofs.Common.{ap, ap₂, ◌∙◌, subst, append_assoc, append-nil, arith, rules, tests, lit<, inr, length-append, Ok}
 use Rattle.std.specs.Prelude.{All, codes, decimal}
@@ -20,9 +21,6 @@ use Rattle.vm_script.specs.Generated.{numbers_below, call_line, word_address, pa
 use Rattle.vm_script.specs.Generated.{word_loads, end_stores, end_loads, file_write, file_store, file_load, generated_setup, block_head, block_tail}
 use Rattle.vm_script.specs.Generated.{child_block, generated_block, generated_script, generated_text}
 use Rattle.vm_script.proofs.Scripts.{parsed}
-
-plus_one : (n : ℕ) → n + 1 ≡ suc n
-plus_one n = omega arith
 
 pub numbers-more : (k : ℕ) → numbers_below (k + 1) ≡ numbers_below k ++ k ∷ []
 unfolding numbers_below

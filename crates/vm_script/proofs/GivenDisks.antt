@@ -31,7 +31,7 @@ or_right true b c e = absurd (false≢true (sym e))
 or_right false true c e = absurd (false≢true (sym e))
 or_right false false c e = e
 
-not_false : (a : Bool) → not a ≡ false → a ≡ true
+pub not_false : (a : Bool) → not a ≡ false → a ≡ true
 not_false true e = refl
 not_false false e = absurd (false≢true (sym e))
 

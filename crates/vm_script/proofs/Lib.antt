@@ -18,3 +18,4 @@ pub mod Ranges
 pub mod Generations
 pub mod QuickLines
 pub use Rattle.flat_model.proofs as flat_model
+pub use Rattle.flat_model.proofs.vnode_files as vnode_files

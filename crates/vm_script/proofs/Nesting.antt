@@ -1,4 +1,5 @@
 -- The blocks of a plan nest, and each of its lines may be run.
+use Rattle.vm_script.proofs.Scripts.{not_true as not_zero}
 use Rattle.std.proofs.Common.{◌≡◌, ℕ, zero, suc, ◌≤◌, ◌<◌, ◌^◌, ◌+◌, ◌==◌, Bool, true, false, not, List, [], ◌∷◌, ◌++◌, length, Some, Result, Ok, Err}
 use Rattle.std.proofs.Common.{refl, sym, ap, ◌∙◌, subst, append_assoc, append-nil, arith, rules, tests, length-append}
 use Rattle.std.specs.Prelude.{All, slice_get, slice_index_or, nat_lt, if◌then◌else◌}
@@ -37,7 +38,7 @@ data Completes (parents : List ℕ) : ℕ → ℕ → List PlanLine → ℕ → 
 top_of : (parents : List ℕ) (n : ℕ) (rest : List PlanLine) (m : ℕ) → Completes parents 0 n rest m → AreProcessBlocks parents n rest m
 top_of parents n rest m (tops _ _ _ h) = h
 
-plus_one : (n : ℕ) → n + 1 ≡ suc n
+pub plus_one : (n : ℕ) → n + 1 ≡ suc n
 plus_one n = omega arith
 
 record Closed (parents : List ℕ) (i n : ℕ) (all : List PlanLine) (m : ℕ) : Type 0 where
@@ -217,10 +218,6 @@ with_fork parents (suc j) i m line rest inside is out c =
       after = h.after;
     })
 
-not_zero : (b : Bool) → not b ≡ true → b ≡ false
-not_zero true e = absurd (false≢true e)
-not_zero false e = refl
-
 not_inside : (b : Bool) → not (not b) ≡ true → b ≡ true
 not_inside true e = refl
 not_inside false e = absurd (false≢true e)
@@ -331,7 +328,7 @@ module _ (g : OpenPlan) (n : ℕ) (plan : PlanSeen) (most : ℕ) (opened : IsOpe
   step says.End is r = step_end (not_zero (g.inside == 0) is.0) r
   step (says.Own a) is r = step_own a (not_zero (g.inside == 0) is.0) is.1 r
 
-few_more : (g : OpenPlan) (n : ℕ) (s : Statement) → length (with_statement g n s).parents ≤ length g.parents + 1
+pub few_more : (g : OpenPlan) (n : ℕ) (s : Statement) → length (with_statement g n s).parents ≤ length g.parents + 1
 few_more g n says.Nothing = omega arith
 few_more g n (says.Setup a) = omega arith
 few_more g n says.Process = omega (arith, length-append g.parents (0 ∷ []))

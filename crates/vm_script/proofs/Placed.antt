@@ -1,4 +1,6 @@
 -- A line that is read says what a line may say, and stands where it may.
+use Rattle.vm_script.proofs.Printing.{and_right}
+use Rattle.flat_model.proofs.Histories.{io_aside as and_left}
 use Rattle.std.proofs.Common.{◌≡◌, ℕ, ◌≤◌, ◌<◌, ◌^◌, ◌+◌, ◌*◌, ◌%◌, ◌==◌, Bool, true, false, not, ◌&&◌, ◌||◌, List, [], ◌∷◌, length, Option, Some}
 use Rattle.std.proofs.Common.{None, Result, Ok, Err, refl, sym, ap, ◌∙◌, subst, arith, rules, tests, cond, ⊎_elim, inl, inr, lit<}
 use Rattle.std.specs.Prelude.{IfOk, IsTrue, codes, nat_lt, nat_le, if◌then◌else◌}
@@ -104,14 +106,6 @@ name_is field t is = from (is_file_name field) refl is
 
 digit_small : (b : ℕ) → is_hex_digit b ≡ true → digit_value b < 16
 digit_small b is = grind (rules, tests, arith, nat_tests, is)
-
-and_left : (a b : Bool) → (a && b) ≡ true → a ≡ true
-and_left true b e = refl
-and_left false b e = absurd (false≢true e)
-
-and_right : (a b : Bool) → (a && b) ≡ true → b ≡ true
-and_right true b e = e
-and_right false b e = absurd (false≢true e)
 
 hex_small : (digits : List ℕ) → list_all is_hex_digit digits ≡ true → AreBytes (hex_bytes digits)
 hex_small [] all = All-nil IsByte
@@ -253,7 +247,7 @@ IsPlaced spot s = (may_stand spot s ≡ true) × OwnIs s
 own_is : (spot : LineSpot) (r : Result PlanAct ScriptKind) → spot.inside ≡ true → IfOk r IsPlanAct → IfOk (own_statement r) (IsPlaced spot)
 own_is spot r inside is = bind r _ (IsPlaced spot) (λ a e. (inside, if_ok r IsPlanAct a is e))
 
-alone_is : {A : Type 0} (x : A) (args : List (List ℕ)) (P : A → Type 0) → P x → IfOk (lone_word x args) P
+pub alone_is : {A : Type 0} (x : A) (args : List (List ℕ)) (P : A → Type 0) → P x → IfOk (lone_word x args) P
 alone_is x [] P h = h
 alone_is x (a ∷ more) P h = tt
 

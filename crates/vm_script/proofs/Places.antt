@@ -21,7 +21,7 @@ heads x y xs ys e = cc e
 tails : {A : Type 0} (x y : A) (xs ys : List A) → x ∷ xs ≡ y ∷ ys → xs ≡ ys
 tails x y xs ys e = cc e
 
-some_none : {A : Type 0} (x : A) → None ≡ Some x → ⊥
+pub some_none : {A : Type 0} (x : A) → None ≡ Some x → ⊥
 some_none x e = cc e
 
 -- the spelling of lines one behind the other begins with that of the first ones

@@ -1,9 +1,11 @@
 -- A script that is printed plainly is read as what was printed.
+use Rattle.vm_script.proofs.SetupLines.{and_right}
+use Rattle.flat_model.proofs.Histories.{io_aside as and_left}
 use Rattle.std.proofs.Common.{◌≡◌, ℕ, ◌≤◌, ◌<◌, ◌^◌, ◌+◌, ◌*◌, ◌/◌, ◌%◌, ◌==◌, Bool, true, false, not, ◌&&◌, List, [], ◌∷◌, ◌++◌, length, fold, Some}
 use Rattle.std.proofs.Common.{None, refl, ap, ap₂, ◌∙◌, arith, rules, tests, cond, length-append, lit<}
 use Rattle.std.specs.Prelude.{All, IsTrue, codes, decimal, filter, nat_lt, nat_le, if◌then◌else◌}
 use Rattle.std.specs.List.{list_all, slice_split, onto_first}
-use Rattle.std.proofs.lemmas.Bool.{false≢true}
+use Rattle.std.proofs.lemmas.Bool.{false≢true, and_from as both}
 use Rattle.std.proofs.lemmas.Bool.Decides.{nat_tests}
 use Rattle.std.proofs.lemmas.Fmt.{decimal_by_steps, length-decimal-le}
 use Rattle.std.proofs.lemmas.List.Elements.{All-head, All-tail}
@@ -14,17 +16,6 @@ use Rattle.vm_script.specs.Lines.{is_graphic, is_feed, is_space, is_plain, isnt_
 use Rattle.vm_script.specs.Quick.{AreWords, more}
 use Rattle.vm_script.specs.Texts.{hex_digit, hex_text}
 use Rattle.vm_script.specs.Printed.{line_of_fields}
-
-pub and_left : (a b : Bool) → (a && b) ≡ true → a ≡ true
-and_left true b e = refl
-and_left false b e = absurd (false≢true e)
-
-pub and_right : (a b : Bool) → (a && b) ≡ true → b ≡ true
-and_right true b e = e
-and_right false b e = absurd (false≢true e)
-
-pub both : (a b : Bool) → a ≡ true → b ≡ true → (a && b) ≡ true
-both a b e f = ap₂ (λ x y. x && y) e f
 
 pub all_implies : (p q : ℕ → Bool) → ((b : ℕ) → p b ≡ true → q b ≡ true) → (xs : List ℕ) → list_all p xs ≡ true → list_all q xs ≡ true
 all_implies p q imp [] all = refl

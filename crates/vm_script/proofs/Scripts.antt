@@ -1,4 +1,5 @@
 -- A printed script is read as what was printed.
+use Rattle.vm_script.proofs.SetupLines.{and_right}
 use Rattle.std.proofs.Common.{◌≡◌, ℕ, zero, suc, ◌≤◌, ◌<◌, ◌^◌, ◌+◌, ◌*◌, Bool, true, false, not, ◌&&◌, List, [], ◌∷◌, length, Ok, refl, sym, ap, ap₂, ◌∙◌, subst, append_assoc, arith, ⊎_elim, lit<}
 use Rattle.std.specs.Prelude.{All, codes, decimal, nat_lt, nat_le, if◌then◌else◌}
 use Rattle.std.specs.List.{list_all}
@@ -65,11 +66,7 @@ place_back Any is = refl
 name_back : (n : List ℕ) → is_file_name n ≡ true → name n ≡ Ok n
 name_back n is = rw is refl
 
-and_right : (a b : Bool) → (a && b) ≡ true → b ≡ true
-and_right true b e = e
-and_right false b e = absurd (false≢true e)
-
-not_true : (b : Bool) → not b ≡ true → b ≡ false
+pub not_true : (b : Bool) → not b ≡ true → b ≡ false
 not_true true e = absurd (false≢true e)
 not_true false e = refl
 

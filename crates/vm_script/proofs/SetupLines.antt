@@ -1,8 +1,9 @@
 -- Each set-up line of a plan that a script spells is one that a line may say.
+use Rattle.flat_model.proofs.Histories.{io_aside as and_left}
 use Rattle.std.proofs.Common.{◌≡◌, ℕ, ◌≤◌, ◌+◌, ◌==◌, Bool, true, false, ◌&&◌, List, [], ◌∷◌, length, Result, Ok, Err, refl, sym, subst, arith, rules, tests, cond}
 use Rattle.std.specs.Prelude.{All, IfOk, IsTrue, codes, not, nat_lt, nat_le, filter, if◌then◌else◌}
 use Rattle.std.specs.List.{list_all, slice_split, onto_first}
-use Rattle.std.proofs.lemmas.Bool.{false≢true}
+use Rattle.std.proofs.lemmas.Bool.{false≢true, and_from as both}
 use Rattle.std.proofs.lemmas.Bool.Decides.{nat_tests}
 use Rattle.std.proofs.lemmas.List.Elements.{All-nil, All-push}
 use Rattle.flat_model.specs.vm_types.WellFormed.{IsNumber}
@@ -29,23 +30,15 @@ use Rattle.vm_script.specs.Statements.{number, name, bytes, amount, path, disk_s
 use Rattle.vm_script.specs.Statements.{load_line, store_line, map_line, unmap_line, protect_line, sync_line, read_call_line, write_line}
 use Rattle.vm_script.specs.Statements.{truncate_line, disk_statement, setup_statement, block_statement, file_statement, mapping_statement, word_statement, statement}
 use Rattle.vm_script.specs.Statements.{is_comment}
-use Rattle.vm_script.proofs.Placed.{bind, choice, needed, number_is, name_is, bytes_is, if_ok}
+use Rattle.vm_script.proofs.Placed.{bind, choice, needed, number_is, name_is, bytes_is, if_ok, alone_is}
 
 -- A plain line's fields are words.
 abbrev are_graphic : List (List ℕ) → Bool
 are_graphic parts = list_all (list_all is_graphic) parts
 
-and_left : (a b : Bool) → (a && b) ≡ true → a ≡ true
-and_left true b e = refl
-and_left false b e = absurd (false≢true e)
-
-and_right : (a b : Bool) → (a && b) ≡ true → b ≡ true
+pub and_right : (a b : Bool) → (a && b) ≡ true → b ≡ true
 and_right true b e = e
 and_right false b e = absurd (false≢true e)
-
-both : (a b : Bool) → a ≡ true → b ≡ true → (a && b) ≡ true
-both true b e f = f
-both false b e f = absurd (false≢true e)
 
 graphic : (b : ℕ) → is_plain b ≡ true → is_space b ≡ false → is_graphic b ≡ true
 graphic b plain space = grind (rules, tests, arith, nat_tests, plain, space)
@@ -159,10 +152,6 @@ setup_is spot word args w =
     (λ _. needed fault.Place (spot.opening && not spot.translations) _ SetupIs
     (λ _. bind (amount args) _ SetupIs (λ n e. amount_is args n e)))
     (λ _. disk_statement_is spot word args w)))
-
-alone_is : {A : Type 0} (x : A) (args : List (List ℕ)) (P : A → Type 0) → P x → IfOk (lone_word x args) P
-alone_is x [] P h = h
-alone_is x (a ∷ args) P h = tt
 
 block_is : (spot : LineSpot) (word : List ℕ) (args : List (List ℕ)) → AreWords args → IfOk (block_statement spot word args) SetupIs
 unfolding block_statement

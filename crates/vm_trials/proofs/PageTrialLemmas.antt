@@ -1,4 +1,5 @@
 -- THE WORLD OF THE TRIALS fits: idle frames, no slot, map or translation, and a file of three pages, which one process shows.
+use Rattle.vm_trials.proofs.SlotTrialLemmas.{replicated}
 use Rattle.std.proofs.Common.{◌≡◌, ◌≢◌, ℕ, zero, suc, ◌+◌, ◌<◌, ◌≤◌, ◌==◌, Bool, true, false, cond, List, [], ◌∷◌, ◌++◌, length, map, Option, Some, None, refl, sym, ap, ◌∙◌, inl, inr, subst, arith}
 use Rattle.std.specs.Prelude.{All, IsSome, is_some, slice_get, slice_index_or, sum_by, flat_map, filter_map, option_and_then, replicate, slice_index, unwrap_or, if◌then◌else◌}
 use Rattle.std.specs.Ordering.{nat_cmp}
@@ -195,12 +196,6 @@ module _ (v : VnodeSeen) (file : IsTrialFile v.info) (sound : IsSoundVnode v) wh
     few = λ disk. subst (λ (es : List Extent). length es ≤ 252) (sym (on-disk (v.info.disk == disk))) (one-few (v.info.disk == disk));
     some = λ f lt. subst (λ (i : ℕ). 1 ≤ length (vnode_at (trial_files v) i).info.extents) (sym (only f lt)) (subst (λ (es : List Extent). 1 ≤ length es) (sym file.extents) (omega arith));
   }
-
--- THE STORE
-replicated : {X : Type 0} (n : ℕ) (x : X) (k : ℕ) → slice_index_or (replicate n x) k x ≡ x
-replicated zero x k = refl
-replicated (suc n) x zero = refl
-replicated (suc n) x (suc k) = replicated n x k
 
 still-not : (b : BaySeen) (seat : ℕ) → IsStill b → b ≡ out seat → ⊥
 still-not missing seat s e = cc

@@ -76,7 +76,7 @@ holding-reserved =
     omega (arith, a, b)
 
 -- THE COUNTS
-replicated : {X : Type 0} (n : ℕ) (x : X) (k : ℕ) → slice_index_or (replicate n x) k x ≡ x
+pub replicated : {X : Type 0} (n : ℕ) (x : X) (k : ℕ) → slice_index_or (replicate n x) k x ≡ x
 replicated zero x k = refl
 replicated (suc n) x zero = refl
 replicated (suc n) x (suc k) = replicated n x k

@@ -58,7 +58,7 @@ no-birth q e plain = by_done (is_done e.reply) (no-fork q e.call plain)
     by_done true is = is
     by_done false is = refl
 
-or-false : (a b : Bool) → b ≡ false → a ≡ (a || b)
+pub or-false : (a b : Bool) → b ≡ false → a ≡ (a || b)
 or-false true b is = refl
 or-false false b is = sym is
 

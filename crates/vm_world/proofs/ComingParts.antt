@@ -34,7 +34,7 @@ use Rattle.vm_world.specs.SegmentSteps.{with_part_come, with_zero_part, with_new
 use Rattle.vm_world.specs.Segments.{Segment, Spaces, zero_map}
 use Rattle.vm_world.specs.World.{slot_in, slot_name}
 use Rattle.vm_world.proofs.GoneParts.{shown-of-zero}
-use Rattle.vm_world.proofs.KeptMaps.{KeepsMaps, same-places, same-there, own-there, shown-there, is-the-number, all-both, all-every, slot-in-same}
+use Rattle.vm_world.proofs.KeptMaps.{KeepsMaps, same-places, same-there, own-there, shown-there, all-both, all-every, slot-in-same}
 use Rattle.vm_world.proofs.Lists.{all-turn}
 use Rattle.vm_world.proofs.MapChanges.{made, made-else, made-sum, made-holders, held-else, held-places, held-sum, held-holders, slot-replicate, count-empty}
 use Rattle.vm_world.proofs.Maps.{get-map_with}
@@ -42,12 +42,12 @@ use Rattle.vm_world.proofs.NewParts.{Comes, part-comes, zeros-now}
 use Rattle.vm_world.proofs.PartSums.{all_parts, part-le, sum-segments}
 use Rattle.vm_world.proofs.Reserves.{total-same}
 use Rattle.vm_world.proofs.SegmentChange.{counts-change}
-use Rattle.vm_world.proofs.ShownZeros.{shown-by, zero_map-of}
+use Rattle.vm_world.proofs.ShownZeros.{shown-by, zero_map-of, is-the-number}
 use Rattle.vm_world.proofs.Spots.{IsSpotOf, spot-part}
 use Rattle.vm_world.proofs.SweptFlat.{zero-pages-same}
 
 -- an own map is that of no zero object
-sum-split : {X : Type 0} (f g : X → ℕ) (xs : List X) → sum_by (λ x. f x + g x) xs ≡ sum_by f xs + sum_by g xs
+pub sum-split : {X : Type 0} (f g : X → ℕ) (xs : List X) → sum_by (λ x. f x + g x) xs ≡ sum_by f xs + sum_by g xs
 sum-split f g [] = refl
 sum-split f g (x ∷ xs) =
     let a = sum_by-cons (λ x. f x + g x) x xs in

@@ -1,4 +1,5 @@
 -- A cut of pages is a cut of tails.
+use Rattle.vm_world.proofs.FileLocks.{split}
 use Rattle.std.proofs.Common.{◌≡◌, ℕ, suc, ◌+◌, ◌-◌, ◌*◌, ◌<◌, ◌≤◌, min, Bool, true, false, cond, List, [], ◌∷◌, length, Option, Some, None, refl, sym, ap, ◌∙◌, ◌⊎◌, inl, inr, subst, arith}
 use Rattle.std.specs.Prelude.{option_map, slice_get}
 use Rattle.flat_model.specs.vnode_files.declared.vnode.FileInfo.{FileInfo}
@@ -21,9 +22,6 @@ pages-same (x ∷ xs) [] same = absurd (let z : ◌≡◌ {A = Option Page} (Som
 pages-same (x ∷ xs) (y ∷ ys) same =
     let head : x ≡ y = let z : ◌≡◌ {A = Option Page} (Some x) (Some y) = same 0 in cc in
     ap (λ (p : Page). p ∷ xs) head ∙ ap (λ (ps : List Page). y ∷ ps) (pages-same xs ys (λ i. same (suc i)))
-
-split : (a b : ℕ) → (a < b) ⊎ (b ≤ a)
-split a b = grind arith
 
 -- One file, whose last page is cut or not, and whose other pages stay but for a cut where all their bytes are valid.
 pub cut-file : (old new : ℕ → Page) (info : FileInfo) (cut : ℕ → Bool) → ((i : ℕ) → i < pages_in info.length → length (old i) ≡ 4096)

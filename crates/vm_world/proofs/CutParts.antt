@@ -37,13 +37,13 @@ use Rattle.vm_world.specs.Segments.{Segment, Spot, Spaces, spot_at, zero_map, ow
 use Rattle.vm_world.specs.SpaceSteps.{Becomes, first_pages}
 use Rattle.vm_world.specs.World.{slot_in, slot_name}
 use Rattle.vm_world.proofs.ComingParts.{zero-there, zero-pages-of, own-is-unshown}
-use Rattle.vm_world.proofs.KeptMaps.{KeepsMaps, Touches, same-places, same-there, kept-fits, kept-cell, others-keep, own-there, shown-there, is-the-number, all-both, all-every, slot-in-same}
+use Rattle.vm_world.proofs.KeptMaps.{KeepsMaps, Touches, same-places, same-there, kept-fits, kept-cell, others-keep, own-there, shown-there, all-both, all-every, slot-in-same}
 use Rattle.vm_world.proofs.Lists.{all-turn}
 use Rattle.vm_world.proofs.MapChanges.{cut-else, cut-lower, cut-upper, cut-sum, cut-holders, held-else, held-places, held-sum, held-holders}
 use Rattle.vm_world.proofs.PartSums.{all_parts, sum-cut, sum-without_part, sum-insert, sum-segments, part-le}
 use Rattle.vm_world.proofs.Reserves.{total-same}
 use Rattle.vm_world.proofs.SegmentChange.{ShowsAs, counts-change, change-memory, segments-change, spaces-change, shows-kept}
-use Rattle.vm_world.proofs.ShownZeros.{IsShown, shown-by, fits-shown, maps-are, zeros-are}
+use Rattle.vm_world.proofs.ShownZeros.{IsShown, shown-by, fits-shown, maps-are, zeros-are, is-the-number}
 use Rattle.vm_world.proofs.Spots.{IsSpotOf, spot-in}
 use Rattle.vm_world.proofs.SweptFlat.{space-is, cell-is, zero-pages-same, swept-flat}
 

@@ -5,7 +5,7 @@ use Rattle.std.specs.List.{list_any}
 use Rattle.std.specs.Ordering.{nat_cmp}
 use Rattle.std.specs.FinMap as finite
 use Rattle.std.specs.FinSet as set
-use Rattle.std.proofs.lemmas.Bool.{cases_Bool, eqb-true}
+use Rattle.std.proofs.lemmas.Bool.{cases_Bool, eqb-true, or_parts as or-none}
 use Rattle.std.proofs.lemmas.Bool.Decides.{eqb_tells}
 use Rattle.std.proofs.lemmas.List.{length-append}
 use Rattle.flat_model.specs.vm_types.declared.call.Call.{Call}
@@ -169,10 +169,6 @@ any-pushed t [] e = or-false (t e)
     or-false true = refl
     or-false false = refl
 any-pushed t (d ∷ H) e = ap (λ (b : Bool). t d || b) (any-pushed t H e) ∙ or-assoc (t d) (list_any t H) (t e)
-
-or-none : (a b : Bool) → (a || b) ≡ false → (a ≡ false) × (b ≡ false)
-or-none true b is = absurd (let z : true ≡ false = is in cc)
-or-none false b is = (refl, is)
 
 -- who didn't leave hadn't left before, and didn't with the last entry
 pub not-left : (p : ℕ) (H : List Entry) (e : Entry) → IsFalse (has_left p (H ++ e ∷ [])) → IsFalse (has_left p H) × IsFalse (is_exit_of p e)

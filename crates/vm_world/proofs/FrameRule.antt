@@ -1,4 +1,5 @@
 -- The frame rule: what a step of the world does to flat memory, and one step after another.
+use Rattle.flat_model.proofs.Bytes.{All-slice_get as all-get}
 use Rattle.std.proofs.Common.{◌≡◌, ◌≢◌, false, None, ℕ, ◌+◌, ◌-◌, ◌*◌, ◌<◌, ◌≤◌, ◌==◌, min, zero, suc, Bool, true, cond, List, [], ◌∷◌, length, map, Option, Some, refl, sym, ap, ◌∙◌, inl, inr, subst, arith}
 use Rattle.std.specs.Prelude.{option_map, slice_get, slice_index_or, IsTrue, nat_lt, ◌||◌}
 use Rattle.std.specs.FinSet as set
@@ -31,7 +32,7 @@ use Rattle.anon_slots.specs.Slots.{is_used, count_at}
 use Rattle.vm_world.proofs.Counts.{held-used, used-below}
 use Rattle.vm_world.proofs.Clips.{cut-none, cut-twice, whole-before}
 use Rattle.vm_world.proofs.CutFiles.{cut-file, cut-files}
-use Rattle.vm_world.proofs.PageNames.{not-slot, info-there, all-get, file-apart, below-kept, page-cases, file-place, slot-place}
+use Rattle.vm_world.proofs.PageNames.{not-slot, info-there, file-apart, below-kept, page-cases, file-place, slot-place}
 use Rattle.vm_world.proofs.FilePages.{page-in, file-in}
 use Rattle.vm_world.specs.Laws.{FrameRule}
 use Rattle.page_store.specs.Bays.{BaySeen}
@@ -43,7 +44,7 @@ abbrev pub memory_of : World → Spaces → Memory
 memory_of w spaces = record { world = w; spaces = spaces }
 
 -- the record of a file, from the records of all
-info-at : (vs : List VnodeSeen) (f : ℕ) → (slice_index_or vs f no_vnode).info ≡ slice_index_or (map (λ (v : VnodeSeen). v.info) vs) f no_vnode.info
+pub info-at : (vs : List VnodeSeen) (f : ℕ) → (slice_index_or vs f no_vnode).info ≡ slice_index_or (map (λ (v : VnodeSeen). v.info) vs) f no_vnode.info
 info-at [] f = refl
 info-at (v ∷ vs) zero = refl
 info-at (v ∷ vs) (suc f) = info-at vs f

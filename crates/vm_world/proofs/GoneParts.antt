@@ -1,4 +1,5 @@
 -- A PART GOES, none of whose pages has a translation, with the anon maps that it was the last holder of.
+use Rattle.flat_model.proofs.WellFormed.{IsFlat-with_space as flat-with_space, IsFlat-without_unnamed as flat-unnamed, without_stand as stand-without}
 use Rattle.std.proofs.Common.{◌≡◌, ◌≢◌, ℕ, ◌+◌, ◌-◌, ◌<◌, ◌≤◌, Bool, true, false, cond, List, [], length, Option, Some, None, refl, sym, ap, ◌∙◌, ◌⊎◌, inl, inr, subst, arith}
 use Rattle.std.specs.Prelude.{◌==◌, sum_by, count_by, option_map, option_and_then, is_some, IsSome, All, unwrap_or}
 use Rattle.std.specs.Ordering.{nat_cmp}
@@ -32,8 +33,8 @@ use Rattle.vm_world.specs.Pages.{place_contents, page_value, contents_of}
 use Rattle.vm_world.specs.SegmentSteps.{places_left, with_part_gone, MayLeave, ChangesSegments}
 use Rattle.vm_world.specs.Segments.{Segment, Spot, Spaces, segments_of, spot_at, zero_map}
 use Rattle.vm_world.specs.SpaceSteps.{Becomes}
-use Rattle.vm_world.proofs.FlatSpaces.{Standing, flat-with_space}
-use Rattle.vm_world.proofs.KeptMaps.{KeepsMaps, Touches, same-places, same-holders, same-there, kept-fits, kept-cell, others-keep, own-there, shown-there, shown-counts, number-is, is-the-number, all-both, all-every, slot-in-same}
+use Rattle.vm_world.proofs.FlatSpaces.{Standing}
+use Rattle.vm_world.proofs.KeptMaps.{KeepsMaps, Touches, same-places, same-holders, same-there, kept-fits, kept-cell, others-keep, own-there, shown-there, shown-counts, all-both, all-every, slot-in-same}
 use Rattle.vm_world.proofs.Lists.{all-turn, sum-zero}
 use Rattle.vm_world.proofs.Loaded.{loaded-at}
 use Rattle.vm_world.proofs.MapChanges.{released-else, released-held, released-sum, freed-none, freed-length, released-holders, count-empty}
@@ -41,9 +42,9 @@ use Rattle.vm_world.proofs.Maps.{get-map_with, all-values}
 use Rattle.vm_world.proofs.PartSums.{all_parts, sum-without_part, sum-insert, sum-segments, part-le, segments-all}
 use Rattle.vm_world.proofs.Reserves.{total-same}
 use Rattle.vm_world.proofs.SegmentChange.{counts-change, change-memory, segments-change, spaces-change, shows-kept}
-use Rattle.vm_world.proofs.ShownZeros.{IsShown, shown-by, shown-some, fits-shown, all-spots, zero_map-of}
+use Rattle.vm_world.proofs.ShownZeros.{IsShown, shown-by, shown-some, fits-shown, all-spots, zero_map-of, number-is, is-the-number}
 use Rattle.vm_world.proofs.Spots.{IsSpotOf, spot-part}
-use Rattle.vm_world.proofs.SweptFlat.{space-is, cells-are, cell-is, zero-pages-same, flat-unnamed, cells-stand, stand-without, swept-flat}
+use Rattle.vm_world.proofs.SweptFlat.{space-is, cells-are, cell-is, zero-pages-same, cells-stand, swept-flat}
 
 abbrev had : ℕ → Part Segment → ℕ
 had n a = times_had n a.piece

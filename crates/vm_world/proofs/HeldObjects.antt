@@ -1,4 +1,5 @@
 -- A ZERO OBJECT IS HELD by a process that isn't there, while the parts that show it go and another comes.
+use Rattle.flat_model.proofs.Histories.{io_aside as both-left}
 use Rattle.std.proofs.Common.{◌≡◌, ◌≢◌, ℕ, ◌+◌, ◌<◌, ◌≤◌, Bool, true, false, cond, ◌||◌, List, [], ◌∷◌, length, Option, Some, None, refl, sym, ap, ◌∙◌, ◌⊎◌, inl, inr, subst, arith}
 use Rattle.std.specs.Prelude.{◌==◌, ◌↔◌, option_map, option_and_then, is_some, IsSome, IsTrue, slice_index_or}
 use Rattle.std.specs.Ordering.{nat_cmp}
@@ -49,7 +50,7 @@ use Rattle.vm_world.proofs.Maps.{get-map_with, insert-twice}
 use Rattle.vm_world.proofs.PartSums.{all_parts, sum-segments, part-le}
 use Rattle.vm_world.proofs.SegmentSteps.{segment_rule}
 use Rattle.vm_world.proofs.ShownZeros.{fits-shown, zero_map-of}
-use Rattle.vm_world.proofs.Spots.{both-left, both-right}
+use Rattle.vm_world.proofs.Spots.{both-right}
 
 -- A part of one page that shows the object, of which nothing may be read or written.
 abbrev pub holding_piece : ℕ → ℕ → Segment

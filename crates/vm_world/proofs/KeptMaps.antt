@@ -1,4 +1,5 @@
 -- Segments whose anon maps stay: they fit, and each page shows what it showed.
+use Rattle.vm_world.proofs.ShownZeros.{number-is, is-the-number}
 use Rattle.std.proofs.Common.{◌≡◌, ◌≢◌, ℕ, ◌+◌, ◌<◌, ◌≤◌, Bool, true, false, cond, List, [], ◌∷◌, length, Option, Some, None, refl, sym, ap, ◌∙◌, inl, inr, subst, arith, slice_index_or}
 use Rattle.std.specs.Prelude.{option_map, option_and_then, IsSome, All, unwrap_or}
 use Rattle.std.specs.Option.{option_or}
@@ -81,14 +82,6 @@ kept-cell page maps put x k =
     and-then-same (λ n. option_or (place_contents page maps n x.1) (own_without_slot x.0.object)) (λ n. option_or (place_contents page put n x.1) (own_without_slot x.0.object)) x.0.own
     (λ n is. ap (λ (s : Option ℕ). option_or (option_map (λ slot. page (slot_name slot)) s) (own_without_slot x.0.object)) (slot-in-same maps put n x.1 (same-places maps put n (k.own n is)))) in
     λ i. record { prot = x.0.prot; max = x.0.max; kind = x.0.kind; object = x.0.object; index = x.0.index + x.1; own = own i }
-
--- WHICH SEGMENTS HAVE A MAP
-pub number-is : (n : ℕ) (o : Option ℕ) → is_number n o ≡ true → o ≡ Some n
-number-is n None is = absurd (let z : false ≡ true = is in cc)
-number-is n (Some m) is = ap (λ (k : ℕ). Some k) (eqb-true m n is)
-
-pub is-the-number : (n : ℕ) (o : Option ℕ) → o ≡ Some n → is_number n o ≡ true
-is-the-number n o is = ap (is_number n) is ∙ eq-eqb n n refl
 
 pub own-counts : (m : ℕ) (s : Segment) → s.own ≡ Some m → 1 ≤ times_had m s
 own-counts m s is = let e = ap (λ (b : Bool). cond {A = ℕ} b 1 0) (is-the-number m s.own is) in omega (arith, e)

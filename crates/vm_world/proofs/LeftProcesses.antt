@@ -1,4 +1,5 @@
 -- A PROCESS GOES that has no part.
+use Rattle.flat_model.proofs.WellFormed.{IsFlat-without_process as flat-without_process}
 use Rattle.std.proofs.Common.{◌≡◌, ◌≢◌, ℕ, List, [], length, Some, None, refl, sym, ap, ◌∙◌, inl, inr, subst, arith}
 use Rattle.std.specs.Prelude.{option_and_then}
 use Rattle.std.specs.Ordering.{nat_cmp}
@@ -20,7 +21,6 @@ use Rattle.vm_world.specs.SegmentSteps.{ChangesSegments}
 use Rattle.vm_world.specs.Segments.{Segment, Spot, Spaces, spot_at}
 use Rattle.vm_world.specs.SpaceSteps.{Becomes, without_space}
 use Rattle.vm_world.proofs.ComingParts.{zero-pages-of}
-use Rattle.vm_world.proofs.FlatSpaces.{flat-without_process}
 use Rattle.vm_world.proofs.Maps.{map-remove}
 use Rattle.vm_world.proofs.PartSums.{sum-remove, sum-segments}
 use Rattle.vm_world.proofs.SegmentChange.{change-memory}

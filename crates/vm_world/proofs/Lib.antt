@@ -64,3 +64,5 @@ pub use Rattle.flat_model.proofs as flat_model
 pub use Rattle.anon_map.proofs as anon_map
 pub use Rattle.zero_objects.proofs as zero_objects
 pub use Rattle.addr_space.proofs as addr_space
+pub use Rattle.page_store.proofs.page_hash as page_hash
+pub use Rattle.hat_layer.proofs as hat_layer

@@ -1,4 +1,6 @@
 -- Anon maps of which one is cut, made, held or released: what becomes of each map, and of the places that hold a slot.
+use Rattle.anon_map.proofs.KeptLemmas.{there_within as there-within}
+use Rattle.vm_world.proofs.ShownZeros.{number-is, is-the-number}
 use Rattle.std.proofs.Common.{◌≡◌, ◌≢◌, ℕ, zero, suc, ◌+◌, ◌-◌, ◌<◌, ◌≤◌, Bool, true, false, cond, List, [], ◌∷◌, ◌++◌, length, Option, Some, None, refl, sym, ap, ◌∙◌, inl, inr, subst, arith, slice_index_or, slice_set, get_or-set_same}
 use Rattle.std.specs.Prelude.{◌==◌, count_by, sum_by, IsSome, nat_lt, unwrap_or, take, drop, replicate}
 use Rattle.std.proofs.lemmas.Bool.{cases_Bool, cases_eq, eq-eqb, eqb-true, ltb-true}
@@ -9,13 +11,7 @@ use Rattle.anon_map.proofs.MapLaws.{with_map_same, with_map_other, there_apart}
 use Rattle.vm_world.specs.CountsFit.{places_in, is_number}
 use Rattle.vm_world.specs.MapSteps.{maps_cut, maps_made, maps_held, maps_released, places_released}
 use Rattle.vm_world.proofs.Counting.{places-are}
-use Rattle.vm_world.proofs.KeptMaps.{same-holders, same-there, same-places, number-is, is-the-number}
-
--- a map that is there has a place in the list
-pub there-within : (maps : List (Option Map)) (m : ℕ) → IsMapThere maps m → m < length maps
-there-within [] m there = absurd (let z : false ≡ true = there in cc)
-there-within (o ∷ os) zero there = omega arith
-there-within (o ∷ os) (suc m) there = let r = there-within os m there in omega (arith, r)
+use Rattle.vm_world.proofs.KeptMaps.{same-holders, same-there, same-places}
 
 -- AFTER A MAP OF A NUMBER WAS SET, whatever it is
 module _ (maps : List (Option Map)) (n : ℕ) (a : Option Map) (lt : n < length maps) where

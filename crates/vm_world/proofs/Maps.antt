@@ -12,14 +12,10 @@ use Rattle.addr_space.specs.Pages.{pages_of_parts}
 use Rattle.addr_space.proofs.PageLaws.{get-pages_of_parts}
 use Rattle.flat_model.specs.Flat.{Space, cell_in}
 use Rattle.flat_model.proofs.Entries.{Above, Above-entries, find_rest, find_below, first_found}
-use Rattle.flat_model.proofs.Ranges.{get-insert_here, get-insert_apart, get-remove_here, get-remove_apart}
+use Rattle.flat_model.proofs.Ranges.{get-insert_here, get-insert_apart, get-remove_here, get-remove_apart, option_map-cond as by_key}
 use Rattle.flat_model.specs.Words.{Page}
 use Rattle.vm_world.specs.Segments.{Segment, Spaces, spot_at}
 use Rattle.vm_world.specs.FlatMemory.{map_with, cell_of, space_with}
-
-by_key : {X Y : Type 0} (f : X → Y) (b : Bool) (x : X) (r : Option X) → cond b (Some (f x)) (option_map f r) ≡ option_map f (cond b (Some x) r)
-by_key f true x r = refl
-by_key f false x r = refl
 
 find-changed : {X Y : Type 0} (f : X → Y) (es : List (ℕ × X)) (q : ℕ) → finite.find nat_cmp q (map (λ e. (e.0, f e.1)) es) ≡ option_map f (finite.find nat_cmp q es)
 find-changed f [] q = refl
@@ -28,7 +24,7 @@ find-changed f (e ∷ es) q = ap (cond (is_eq (nat_cmp q e.0)) (Some (f e.1))) (
 pub get-map_with : {X Y : Type 0} (f : X → Y) (m : finite.FinMap nat_cmp X) (q : ℕ) → finite.get (map_with f m) q ≡ option_map f (finite.get m q)
 get-map_with f m q = finite.get-from_entries nat_cmp_total (map (λ e. (e.0, f e.1)) (finite.entries m)) q ∙ find-changed f (finite.entries m) q ∙ ap (option_map f) (sym (finite.get-entries m q))
 
-on_option : {X Y : Type 0} (f g : X → Y) (o : Option X) → ((x : X) → o ≡ Some x → g x ≡ f x) → option_map g o ≡ option_map f o
+pub on_option : {X Y : Type 0} (f g : X → Y) (o : Option X) → ((x : X) → o ≡ Some x → g x ≡ f x) → option_map g o ≡ option_map f o
 on_option f g None same = refl
 on_option f g (Some x) same = ap (λ y. Some y) (same x refl)
 

@@ -1,4 +1,5 @@
 -- A PART COMES where no page has a cell, with its anon maps.
+use Rattle.flat_model.proofs.WellFormed.{IsFlat-with_space as flat-with_space, IsFlat-without_unnamed as flat-unnamed}
 use Rattle.std.proofs.Common.{◌≡◌, ℕ, ◌+◌, ◌-◌, Bool, true, false, cond, List, length, Option, Some, None, refl, sym, ap, ◌∙◌, ◌⊎◌, inl, inr, subst, arith}
 use Rattle.std.specs.Prelude.{option_map, option_and_then, is_some, All}
 use Rattle.std.specs.Ordering.{nat_cmp}
@@ -28,14 +29,14 @@ use Rattle.vm_world.specs.Segments.{Segment, Spot, Spaces, spot_at, zero_map}
 use Rattle.vm_world.specs.SpaceSteps.{Becomes}
 use Rattle.anon_slots.specs.Slots.{count_at}
 use Rattle.vm_world.specs.World.{slot_in}
-use Rattle.vm_world.proofs.FlatSpaces.{Standing, flat-with_space}
+use Rattle.vm_world.proofs.FlatSpaces.{Standing}
 use Rattle.vm_world.proofs.KeptMaps.{KeepsMaps, kept-fits, kept-cell, all-both}
 use Rattle.vm_world.proofs.Lists.{all-turn}
 use Rattle.vm_world.proofs.PartSums.{sum-put}
 use Rattle.vm_world.proofs.SegmentChange.{change-memory, segments-change, spaces-change, shows-kept}
 use Rattle.vm_world.proofs.ShownZeros.{IsShown, shown-by, fits-shown, maps-are}
 use Rattle.vm_world.proofs.Spots.{IsSpotOf, spot-part}
-use Rattle.vm_world.proofs.SweptFlat.{space-is, cells-are, cell-is, flat-unnamed, cells-stand, swept-flat}
+use Rattle.vm_world.proofs.SweptFlat.{space-is, cells-are, cell-is, cells-stand, swept-flat}
 
 -- What comes with a part: anon maps of which the others keep theirs, as many slots reserved, and these maps of the zero objects that are shown then.
 pub record Comes (m : Memory) (p : ℕ) (parts : List (Part Segment)) (x : Part Segment) (now : List (Option Map)) (r : ℕ) (Z : finite.FinMap nat_cmp ℕ) : Type 0 where

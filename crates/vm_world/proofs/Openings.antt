@@ -1,4 +1,5 @@
 -- The state at the opening fits.
+use Rattle.flat_model.proofs.Frames.{or_nothing as or-false}
 use Rattle.std.proofs.Common.{◌≡◌, ℕ, zero, suc, ◌-◌, ◌*◌, ◌<◌, ◌≤◌, ◌^◌, min, Bool, true, false, cond, List, [], ◌∷◌, ◌++◌, length, map, replicate, Option, Some, None, refl, sym, ap, ◌∙◌, inl, inr, subst, arith}
 use Rattle.std.specs.Prelude.{option_map, slice_index_or, slice_index, unwrap_or, is_some, if◌then◌else◌, All, IsSome, IsTrue, IsFalse, sum_by, ◌||◌, Contains}
 use Rattle.std.specs.Ordering.{nat_cmp}
@@ -47,7 +48,7 @@ use Rattle.vm_world.proofs.PageNames.{page-cases, keeps-page, file-place, slot-p
 use Rattle.vm_world.proofs.Spaces.{EmptySpaces, empty-segments, empty-zeros, empty-reserved}
 use Rattle.vm_world.proofs.StoredPages.{IsPage-stored}
 
-unnamed-find : (names : List (Option PageName)) (n : PageName) → ((k : ℕ) → name_at names k ≡ None) → find names n ≡ None
+pub unnamed-find : (names : List (Option PageName)) (n : PageName) → ((k : ℕ) → name_at names k ≡ None) → find names n ≡ None
 unnamed-find [] n none = refl
 unnamed-find (Some x ∷ more) n none = absurd (let z = none 0 in cc)
 unnamed-find (None ∷ more) n none = ap (option_map suc) (unnamed-find more n (λ k. none (suc k)))
@@ -211,10 +212,6 @@ opening-calls s o = subst (λ (h : List Entry). CallsFit h s.calls s.syncs) (sym
     no_entry : (front rest : List Entry) (e : Entry) → [] ≡ front ++ e ∷ rest → ⊥
     no_entry [] rest e is = cc
     no_entry (x ∷ front) rest e is = cc
-
-or-false : (b : Bool) → b ≡ (b || false)
-or-false true = refl
-or-false false = refl
 
 -- THE OPENING.
 opening-fits : (s : KernelState) → IsOpening s → StateFits (flat_memory s.memory s.born no_notes) s no_seats

@@ -43,10 +43,6 @@ info-there files f info is = by_file (slice_get files.files f) refl (sym (slice_
     by_file None e is = absurd (cc)
     by_file (Some v) e is = (slice_get_within files.files f v e, ap (λ (x : VnodeSeen). x.info) (index-of files.files f no_vnode v e) ∙ (let z : ◌≡◌ {A = Option FileInfo} (Some v.info) (Some info) = is in cc))
 
--- an element of a list all of whose elements have something
-pub all-get : {A : Type 0} (P : A → Type 0) (xs : List A) (i : ℕ) (x : A) → All P xs → slice_get xs i ≡ Some x → P x
-all-get P xs i x all at = subst P (index-of xs i x x at) (all i x (slice_get_within xs i x at))
-
 -- a file's number is none of the swap area's
 pub file-apart : (files : FilesSeen) (f : ℕ) → FilesFit files → f < length files.files → f ≢ 64
 file-apart files f fit lt =

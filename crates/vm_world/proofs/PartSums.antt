@@ -124,11 +124,11 @@ all-segments P spaces each =
     all-flat_map (λ (ps : List (Part Segment)). All (λ (a : Part Segment). P a.piece) ps) P (λ (ps : List (Part Segment)). map (λ (p : Part Segment). p.piece) ps) (finite.values spaces)
     (λ ps all. all-map (λ (p : Part Segment). P p.piece) P (λ (p : Part Segment). p.piece) ps (λ p h. h) all) (all-values (λ (ps : List (Part Segment)). All (λ (a : Part Segment). P a.piece) ps) spaces each)
 
-all-left : {X : Type 0} (P : X → Type 0) (xs ys : List X) → All P (xs ++ ys) → All P xs
+pub all-left : {X : Type 0} (P : X → Type 0) (xs ys : List X) → All P (xs ++ ys) → All P xs
 all-left P [] ys all = All-nil P
 all-left P (x ∷ xs) ys all = All-cons P x xs (All-head P x (xs ++ ys) all) (all-left P xs ys (All-tail P x (xs ++ ys) all))
 
-all-right : {X : Type 0} (P : X → Type 0) (xs ys : List X) → All P (xs ++ ys) → All P ys
+pub all-right : {X : Type 0} (P : X → Type 0) (xs ys : List X) → All P (xs ++ ys) → All P ys
 all-right P [] ys all = all
 all-right P (x ∷ xs) ys all = all-right P xs ys (All-tail P x (xs ++ ys) all)
 

@@ -24,7 +24,7 @@ use Rattle.vm_world.proofs.SweptFlat.{cells-are}
 is-named : (m : Memory) (born : set.FinSet nat_cmp) (notes : Notes) (z : ℕ) → MemoryFits m → is_named (flat_memory m born notes) z ≡ is_some (finite.get (zero_maps m.spaces) z)
 is-named m born notes z fits = named-is m born (contents_of m.world notes) fits.segments z
 
-some-mapped : {X Y : Type 0} (f : X → Y) (o : Option X) → is_some (option_map f o) ≡ is_some o
+pub some-mapped : {X Y : Type 0} (f : X → Y) (o : Option X) → is_some (option_map f o) ≡ is_some o
 some-mapped f None = refl
 some-mapped f (Some x) = refl
 

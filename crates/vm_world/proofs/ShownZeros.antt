@@ -39,11 +39,11 @@ pub record IsShown (spaces : Spaces) (z number : ℕ) : Type 0 where
   pub here : spot_at spaces process page ≡ Some spot
   pub shows : zero_map spot.0 ≡ Some (z, number)
 
-number-is : (n : ℕ) (o : Option ℕ) → is_number n o ≡ true → o ≡ Some n
+pub number-is : (n : ℕ) (o : Option ℕ) → is_number n o ≡ true → o ≡ Some n
 number-is n None is = absurd (let z : false ≡ true = is in cc)
 number-is n (Some m) is = ap (λ (k : ℕ). Some k) (eqb-true m n is)
 
-is-the-number : (n : ℕ) (o : Option ℕ) → o ≡ Some n → is_number n o ≡ true
+pub is-the-number : (n : ℕ) (o : Option ℕ) → o ≡ Some n → is_number n o ≡ true
 is-the-number n o is = ap (is_number n) is ∙ eq-eqb n n refl
 
 -- the space in which an entry is found

@@ -1,4 +1,5 @@
 -- What holds of the segment that has a page, from what holds of each part.
+use Rattle.flat_model.proofs.Histories.{io_aside as both-left}
 use Rattle.std.proofs.Common.{◌≡◌, ℕ, ◌+◌, ◌-◌, ◌<◌, ◌≤◌, Bool, true, false, cond, List, [], ◌∷◌, Option, Some, None, refl, sym, ap, ◌∙◌, inl, inr, arith}
 use Rattle.std.specs.Prelude.{option_map, option_and_then, nat_le, nat_lt, ◌&&◌, All, IsSome}
 use Rattle.std.specs.FinMap as finite
@@ -25,10 +26,6 @@ begun-there parts q order some none = by_part (begins parts q) refl some
     by_part : (o : Option (Part Segment)) → begins parts q ≡ o → IsSome o → ⊥
     by_part None e s = cc
     by_part (Some x) e s = let d : Some x ≡ None = sym (begins-found 1 parts q x order e) ∙ none in cc
-
-pub both-left : (a b : Bool) → (a && b) ≡ true → a ≡ true
-both-left true b e = refl
-both-left false b e = absurd (cc)
 
 pub both-right : (a b : Bool) → (a && b) ≡ true → b ≡ true
 both-right true b e = e

@@ -1,4 +1,5 @@
 -- A step of the world is an event.
+use Rattle.page_store.proofs.TransferLemmas.{home-within as home-below, out-within as out-below}
 use Rattle.std.proofs.Common.{◌≡◌, ◌≢◌, ℕ, zero, suc, ◌<◌, ◌≤◌, ◌==◌, ◌^◌, Bool, true, false, cond, List, [], ◌∷◌, ◌++◌, length, Option, Some, None, refl, sym, ap, ◌∙◌, inl, inr, subst, arith}
 use Rattle.std.specs.Prelude.{option_map, slice_set, All, IsSome, is_some}
 use Rattle.std.proofs.lemmas.Bool.{cases_eq}
@@ -180,16 +181,6 @@ rule-plans s new cut pending kept step tails runs seated may = record {
             sent = calm.plans.sent;
           };
         }
-
-home-below : (bays : List BaySeen) (k : ℕ) (d : DiskSeen) → bay_at bays k ≡ home d → k < length bays
-home-below [] k d is = absurd (cc)
-home-below (b ∷ bs) zero d is = omega arith
-home-below (b ∷ bs) (suc k) d is = let more = home-below bs k d is in omega (arith, more)
-
-pub out-below : (bays : List BaySeen) (k seat : ℕ) → bay_at bays k ≡ out seat → k < length bays
-out-below [] k seat is = absurd (cc)
-out-below (b ∷ bs) zero seat is = omega arith
-out-below (b ∷ bs) (suc k) seat is = let more = out-below bs k seat is in omega (arith, more)
 
 -- what is seen of the disks as one leaves: the note has it
 module _ (seen : DiskSeen → ℕ) (bays new : List BaySeen) (notes : Notes) (seat : ℕ) (note : Note) (idle : notes seat ≡ None) (noted : (k t : ℕ) → bay_at bays k ≡ out t → IsSome (notes t))

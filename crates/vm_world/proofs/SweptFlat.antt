@@ -1,4 +1,5 @@
 -- Flat memory of segments that change: its cells, its zero objects, and that it stays well formed.
+use Rattle.flat_model.proofs.WellFormed.{kept_one as kept-pages}
 use Rattle.std.proofs.Common.{◌≡◌, ℕ, Bool, true, false, cond, List, length, Option, Some, None, sym, ap, ◌∙◌, slice_index_or}
 use Rattle.std.specs.Prelude.{option_map, option_and_then, unwrap_or}
 use Rattle.std.specs.Ordering.{nat_cmp}
@@ -42,32 +43,11 @@ pub zero-pages-same : (page : PageName → Page) (maps put : List (Option Map)) 
     → zero_pages (place_contents page put) (λ number. length (places_of put number)) n ≡ zero_pages (place_contents page maps) (λ number. length (places_of maps number)) n
 zero-pages-same page maps put n e = ap (λ (ps : List (Option ℕ)). pages_from (λ place. unwrap_or (option_map (λ slot. page (slot_name slot)) (slice_index_or ps place None)) zero_page) 0 (length ps)) e
 
--- WELL FORMED without the zero objects that no cell names
-kept-pages : {X : Type 0} (b : Bool) (o : Option X) (v : X) → cond b o None ≡ Some v → o ≡ Some v
-kept-pages true o v is = is
-kept-pages false o v is = absurd (let z : None ≡ Some v = is in cc)
-
-pub flat-unnamed : (F : Flat) → IsFlat F → IsFlat (without_unnamed F)
-flat-unnamed F flat = record {
-  pages = flat.pages;
-  cells = flat.cells;
-  files = flat.files;
-  zeros = λ z ps is. flat.zeros z ps (kept-pages (is_named F z) (finite.get F.zeros z) ps (sym (get-retain_keys F.zeros (is_named F) z) ∙ is));
-  born = flat.born;
-}
-
 -- the cells of a process stand where they do, and so do some of them
 pub cells-stand : (F : Flat) (p : ℕ) (s : Space) → IsFlat F → space_of F p ≡ Some s → Standing s
 cells-stand F p s flat is q c here =
     let e = ap (λ (o : Option Space). option_and_then (λ (space : Space). finite.get space q) o) is ∙ here in
     (flat.pages p q c e, flat.cells p q c e)
-
-pub stand-without : (s : Space) (first n : ℕ) → Standing s → Standing (without_range s first n)
-stand-without s first n stand q c is = stand q c (out (is_in_range first n q) (finite.get s q) (sym (get-without_range s first n q) ∙ is))
-  where
-    out : (b : Bool) (o : Option Cell) → cond b None o ≡ Some c → o ≡ Some c
-    out true o e = absurd (let z : None ≡ Some c = e in cc)
-    out false o e = e
 
 -- FLAT MEMORY with these spaces, and of any zero objects those that are named then
 pub swept-flat : (m : Memory) (put : List (Option Map)) (r p : ℕ) (new : List (Part Segment)) (born : set.FinSet nat_cmp) (notes : Notes) (Z : finite.FinMap nat_cmp (List Page)) (S : Space)

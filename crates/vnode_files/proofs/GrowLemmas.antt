@@ -229,7 +229,7 @@ grows-back old file pages before own g =
     ap (λ (es : List Extent). let w : VnodeSeen = record { info = record v.info { extents = es }; blanks = take before.pages (v.blanks ++ more) } in w) g.cut
     ∙ ap (λ (bs : List Bool). let w : VnodeSeen = record { info = v.info; blanks = bs } in w) blanks
 
-some_of : {X : Type 0} (o : Option X) → is_some o ≡ true → (x : X) × (o ≡ Some x)
+pub some_of : {X : Type 0} (o : Option X) → is_some o ≡ true → (x : X) × (o ≡ Some x)
 some_of None is = cc
 some_of (Some x) is = (x, refl)
 

@@ -1,4 +1,5 @@
 -- Counts of the extents that have a block, and the blocks of pages.
+use Rattle.std.proofs.lemmas.Bool.{false_from_ne_true as absent}
 use Rattle.std.specs.Prelude.{ℕ, zero, suc, ◌≡◌, ◌<◌, ◌≤◌, ◌+◌, ◌==◌, ◌||◌, ◌&&◌, Bool, true, false, nat_lt, nat_le, List, [], ◌∷◌, ◌++◌, length, count_by}
 use Rattle.std.specs.Prelude.{sum_by, slice_index_or, filter, slice_set, remove, AllPairs}
 use Rattle.std.specs.List.{list_any, range_with_len, flat_map}
@@ -28,9 +29,6 @@ count-none {X} p (x ∷ xs) none =
 
 count-first : {X : Type 0} (p : X → Bool) (x : X) (xs : List X) → p x ≡ true → count_by p (x ∷ xs) ≡ 1 + count_by p xs
 count-first p x xs is = count-cons p x xs ∙ ap (λ (t : Bool). cond t 1 0 + count_by p xs) is
-
-absent : (t : Bool) → (t ≡ true → ⊥) → t ≡ false
-absent t never = elim t as (λ s. t ≡ s → s ≡ false) [ true ↦ λ is. absurd (never is) | false ↦ λ is. refl ] refl
 
 -- where one passes the count isn't 0
 pub count-some : {X : Type 0} (p : X → Bool) (xs : List X) (i : ℕ) (d : X) → i < length xs → p (slice_index_or xs i d) ≡ true → 1 ≤ count_by p xs

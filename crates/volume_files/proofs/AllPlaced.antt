@@ -1,4 +1,5 @@
 -- The files are placed: all that is promised of them.
+use Rattle.vm_report.proofs.vm_script.Places.{some_none as none-or-some}
 use Rattle.std.specs.Prelude.{ℕ, zero, suc, ◌≡◌, ◌≢◌, ◌<◌, ◌≤◌, nat_lt, Bool, true, false, List, [], ◌∷◌, ◌++◌, length, drop, map, slice_get, slice_index_or}
 use Rattle.std.specs.Prelude.{◌==◌, Option, Some, None, IfSome, IsSome, is_some, unwrap_or, Ok, Err, All, if◌then◌else◌}
 use Rattle.std.specs.List.{AllByRecursion}
@@ -32,18 +33,15 @@ use Rattle.volume_files.specs.Placing.{line_files, sizes_by_number, with_file, w
 use Rattle.volume_files.specs.Written.{disk_sizes, HaveFirstBlocks}
 use Rattle.volume_files.proofs.FoundLemmas.{AllBlocks, found-good, found-stored, own-disk}
 use Rattle.volume_files.proofs.GivenFiles.{comes-to}
-use Rattle.volume_files.proofs.HandLemmas.{SameDisks, same-disks, same-numbers, spec-sizes, plan-numbers, mounted-numbers, opened-is}
+use Rattle.volume_files.proofs.HandLemmas.{SameDisks, same-disks, same-numbers, spec-sizes, plan-numbers, mounted-numbers, opened-is, same_Some}
 use Rattle.volume_files.proofs.LawLemmas.{GoodFiles, LineLaw, good-kept, line-laws, holding-lines, placeable-lines}
-use Rattle.volume_files.proofs.LineLemmas.{Stored, StoredBehind, stored_kept, lines_keep, err-ok, HoldsItsBytes, none-or-some, with_file-on, with_file-off}
+use Rattle.volume_files.proofs.LineLemmas.{Stored, StoredBehind, stored_kept, lines_keep, err-ok, HoldsItsBytes, with_file-on, with_file-off}
 use Rattle.volume_files.proofs.MountedLaws.{differ-at, all_then, all_of, all_mapped}
 use Rattle.volume_files.proofs.OpenLemmas.{TellOrEmpty}
 use Rattle.volume_files.proofs.PageLemmas.{with_pages-untold}
 use Rattle.std.proofs.Math.Seq.{drop-append_seam}
 use Rattle.volume_files.proofs.SparedBlocks.{each-written}
 use Rattle.volume_files.proofs.PlacedLemmas.{IsSized, all_sized, line_files-are, mounted-volumes, numbers-seen, sizes-seen, at_index}
-
-same_Some : {A : Type 0} (x y : A) → Some x ≡ Some y → x ≡ y
-same_Some x y is = cc
 
 -- an element by its place
 get_at : {A : Type 0} (xs : List A) (i : ℕ) (x d : A) → slice_get xs i ≡ Some x → (i < length xs) × (x ≡ slice_index_or xs i d)

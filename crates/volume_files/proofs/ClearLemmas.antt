@@ -6,20 +6,10 @@ use Rattle.std.proofs.lemmas.Bool.{both_ways, and_from, lt-ltb, or_cases, cases_
 use Rattle.volume_format.specs.vnode_files.declared.extent.Extent.{Extent}
 use Rattle.volume_format.specs.vnode_files.Grow.{has_block, is_free, extent_end}
 use Rattle.volume_format.specs.Place.{is_in_way}
-use Rattle.volume_format.proofs.PlaceLemmas.{in_way-from}
+use Rattle.volume_format.proofs.PlaceLemmas.{in_way-from, has-block-in_way as in_way-of}
 use Rattle.volume_format.proofs.vnode_files.BlockLemmas.{has_block-bounds, has_block-between}
 use Rattle.volume_files.specs.Opened.{is_free_run}
 use Rattle.volume_files.proofs.LineLemmas.{run_from, run-free}
-
--- an extent that has a block of a run is in its way
-in_way-of : (start end b : ℕ) → start ≤ b → b < end → (e : Extent) → has_block b e ≡ true → is_in_way start end e ≡ true
-in_way-of start end b low high e h =
-    let at = has_block-bounds b e h in
-    and_from (nat_lt e.start end && nat_lt start (extent_end e) && nat_lt e.start (extent_end e)) (nat_lt start end)
-    (and_from (nat_lt e.start end && nat_lt start (extent_end e)) (nat_lt e.start (extent_end e))
-    (and_from (nat_lt e.start end) (nat_lt start (extent_end e)) (lt-ltb e.start end (omega (arith, at.0, high))) (lt-ltb start (extent_end e) (omega (arith, at.1, low))))
-    (lt-ltb e.start (extent_end e) (omega (arith, at.0, at.1))))
-    (lt-ltb start end (omega (arith, low, high)))
 
 -- what passes a test also fails where the weaker test fails
 none_weaker : {X : Type 0} (p q : X → Bool) (xs : List X) → ((x : X) → q x ≡ true → p x ≡ true) → list_any p xs ≡ false → list_any q xs ≡ false

@@ -1,4 +1,6 @@
 -- Lists of disks whose numbers and sizes stay.
+use Rattle.volume_files.proofs.ShownFiles.{reads_still as reads-refl-one}
+use Rattle.volume_files.proofs.TablesWritten.{keeps_same as blocks-refl}
 use Rattle.std.proofs.Common.{◌≡◌, ℕ, zero, suc, ◌≤◌, ◌<◌, ◌==◌, true, List, [], ◌∷◌, length, map, refl, sym, ap, ◌∙◌, subst, arith, inl, inr}
 use Rattle.std.specs.Prelude.{All, Some, option_map, slice_get, slice_index_or, zip, cond}
 use Rattle.std.specs.List.{AllByRecursion}
@@ -62,24 +64,11 @@ have-read files old new w h = have-disks files old new w.numbers (λ i d e di ei
 pub same-member : {A : Type 0} (xs : List A) (i : ℕ) (x y : A) → slice_get xs i ≡ Some x → slice_get xs i ≡ Some y → x ≡ y
 same-member xs i x y a b = same_Some x y (sym a ∙ b)
 
-blocks-refl : (d : DiskSeen) → KeepsBlocks d d
-blocks-refl d = record { size = refl; faults = omega arith; untold = λ h. h; told = λ blocks is. (blocks, is, refl, λ b ne. refl) }
-
 pub writes-refl : (disks : List (ℕ × DiskSeen)) → WriteTables disks disks
 writes-refl disks = record {
   count = refl;
   numbers = refl;
   each = λ i d e di ei. subst (λ (x : ℕ × DiskSeen). KeepsBlocks d.1 x.1) (same-member disks i d e di ei) (blocks-refl d.1);
-}
-
-reads-refl-one : (d : DiskSeen) → OnlyReads d d
-reads-refl-one d = record { content = refl; size = refl; faults = omega arith }
-
-pub reads-refl : (disks : List (ℕ × DiskSeen)) → AreOnlyRead disks disks
-reads-refl disks = record {
-  count = refl;
-  numbers = refl;
-  each = λ i d e di ei. subst (λ (x : ℕ × DiskSeen). OnlyReads d.1 x.1) (same-member disks i d e di ei) (reads-refl-one d.1);
 }
 
 -- what holds of all, place by place

@@ -1,4 +1,5 @@
 -- What a file line gives, by the tests that the code makes.
+use Rattle.vm_report.proofs.vm_script.Places.{some_none as none-or-some}
 use Rattle.std.specs.Prelude.{ℕ, zero, suc, ◌≡◌, ◌<◌, ◌≤◌, ◌+◌, ◌-◌, ◌==◌, nat_lt, Bool, true, false, List, [], ◌∷◌, ◌++◌, length, map, filter, drop, count_by}
 use Rattle.std.specs.Prelude.{Option, Some, None, is_some, IsSome, unwrap_or, Result, Ok, Err, slice_index_or, if◌then◌else◌}
 use Rattle.std.specs.List.{list_any, range_with_len, find, flat_map}
@@ -24,7 +25,7 @@ use Rattle.volume_files.specs.declared.stops.Refusal.{Refusal}
 use Rattle.volume_files.specs.declared.stops.Refusal.TheVariants as refusal
 use Rattle.volume_files.specs.Opened.{OpenedFile, infos_of, names_of, new_file, extents_of_disk, is_free_run, place_for, with_placed, with_line_file, with_line_files}
 use Rattle.volume_files.specs.Placing.{HasOpened, Gave, names_made}
-use Rattle.volume_files.proofs.LineLemmas.{place-run, run-free, none-or-some}
+use Rattle.volume_files.proofs.LineLemmas.{place-run, run-free}
 
 -- the test of two lists of bytes
 pub bytes-differ : (xs ys : List ℕ) → (xs ≡ ys → ⊥) → bytes_eq xs ys ≡ false
@@ -37,7 +38,7 @@ pub bytes-true : (xs ys : List ℕ) → bytes_eq xs ys ≡ true → xs ≡ ys
 bytes-true xs ys is = (bytes_eq-Decides xs ys).0 is
 
 -- the names and the number of files, and their extents on a disk
-names-made : (files : List OpenedFile) → map (λ (v : VnodeSeen). v.info.name) (map fresh_vnode (infos_of files)) ≡ names_of files
+pub names-made : (files : List OpenedFile) → map (λ (v : VnodeSeen). v.info.name) (map fresh_vnode (infos_of files)) ≡ names_of files
 names-made [] = refl
 names-made (f ∷ files) = λ i. f.info.name ∷ names-made files i
 

@@ -10,7 +10,7 @@ use Rattle.std.proofs.lemmas.List.{take_all, take-take, take-append-le, drop-tak
 use Rattle.std.proofs.lemmas.List.{length-append, length-map, length-replicate, get_or-map, append-nil}
 use Rattle.vm_report.specs.vm_types.Pages.{bytes_before, pages_in}
 use Rattle.vm_report.specs.flat_model.Words.{Page, with_bytes}
-use Rattle.vm_report.proofs.flat_model.FileBytes.{Whole, length-concat}
+use Rattle.vm_report.proofs.flat_model.FileBytes.{Whole, length-concat, length-with_bytes as length-put}
 use Rattle.block_device.specs.DiskSeen.{DiskSeen, HasBlocks, AreBlocks, Shows}
 use Rattle.volume_format.specs.vnode_files.declared.vnode.FileInfo.{FileInfo}
 use Rattle.volume_format.specs.vnode_files.Grow.{page_count}
@@ -158,10 +158,6 @@ put_back xs at n =
     ∙ ap (λ (zs : List ℕ). take at xs ++ (take m ys ++ zs)) (sym (drop-drop m at xs))
     ∙ ap (λ (zs : List ℕ). take at xs ++ zs) (take-append-drop m ys)
     ∙ take-append-drop at xs
-
-length-put : (xs ys : List ℕ) (at : ℕ) → at + length ys ≤ length xs → length (with_bytes xs at ys) ≡ length xs
-length-put xs ys at fits =
-    omega (arith, length-append (take at xs ++ ys) (drop (at + length ys) xs), length-append (take at xs) ys, length-take at xs, length-drop (at + length ys) xs)
 
 -- the bytes with those of a page that was read
 pub with_piece : (disk : DiskSeen) (info : FileInfo) (page : ℕ) (bytes piece : List ℕ) → page < pages_in info.length → AreFileBytes disk info bytes → ArePageBytes disk info page piece

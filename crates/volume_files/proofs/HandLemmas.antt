@@ -1,4 +1,6 @@
 -- The disks of a plan: their numbers, what is handed back of them, and the files as they are opened.
+use Rattle.vm_report.proofs.vm_script.Places.{some_none as none-or-some}
+use Rattle.volume_files.proofs.MountSpecs.{given_number as given-number, numbered_is as numbered-is}
 use Rattle.std.specs.Prelude.{ℕ, zero, suc, ◌≡◌, ◌≢◌, ◌<◌, ◌≤◌, ◌+◌, ◌==◌, true, false, List, [], ◌∷◌, length, map, zip, filter_map, replicate, slice_get}
 use Rattle.std.specs.Prelude.{slice_index_or, unwrap_or, Option, Some, None, option_map, option_and_then, is_some, Result, Ok}
 use Rattle.std.specs.List.{AllByRecursion, cons_option, find, range_with_len}
@@ -28,28 +30,10 @@ use Rattle.volume_files.specs.Handed.{TellsSpec, HaveSpecSizes, HasSpecSize, dis
 use Rattle.volume_files.specs.Opened.{OpenedFile, given_disk, disk_numbered, disk_specs, disks_held, blocks_held, size_held, mounted_files, if_few, with_line_files, opened_files}
 use Rattle.volume_files.specs.Placing.{Distinct, RemainsThere, RemainThere, found_files, attached_numbers}
 use Rattle.volume_files.proofs.FoundLemmas.{AllBlocks}
-use Rattle.volume_files.proofs.LineLemmas.{none-or-some}
 use Rattle.volume_files.proofs.OpenLemmas.{TellOrEmpty, mounted-found}
 
-same_Some : {A : Type 0} (x y : A) → Some x ≡ Some y → x ≡ y
+pub same_Some : {A : Type 0} (x y : A) → Some x ≡ Some y → x ≡ y
 same_Some x y is = cc
-
--- the number of a disk that a line gives
-given-number : (n : ℕ) (a : SetupAct) (s : Spec) → gives_disk n a ≡ true → given_disk a ≡ Some s → spec_number s ≡ n
-given-number n (given.Frames k) s gives is = absurd (none-or-some s is)
-given-number n (given.Swap k) s gives is = absurd (none-or-some s is)
-given-number n (given.Translations k) s gives is = absurd (none-or-some s is)
-given-number n (given.Blank disk blocks) s gives is = ap spec_number (sym (same_Some (spec.Blank disk blocks) s is)) ∙ eqb-true disk n gives
-given-number n (given.Path disk path) s gives is = ap spec_number (sym (same_Some (spec.Path disk path) s is)) ∙ eqb-true disk n gives
-given-number n (given.File name writable disk pages bytes) s gives is = absurd (none-or-some s is)
-
-pub numbered-is : (setup : List SetupLine) (n : ℕ) (s : Spec) → disk_numbered setup n ≡ Some s → spec_number s ≡ n
-numbered-is setup n s is =
-    elim (find (λ (l : SetupLine). gives_disk n l.act) setup) as (λ (o : Option SetupLine). find (λ (l : SetupLine). gives_disk n l.act) setup ≡ o
-    → option_and_then (λ (l : SetupLine). given_disk l.act) o ≡ Some s → spec_number s ≡ n) [
-      | None ↦ λ found none. absurd (none-or-some s none)
-      | Some l ↦ λ found gives. given-number n l.act s (find-passes (λ (k : SetupLine). gives_disk n k.act) setup l found) gives
-    ] refl is
 
 -- the numbers of a plan's disks rise
 abbrev Numbers : List SetupLine → ℕ → ℕ → List ℕ

@@ -3,7 +3,7 @@ use Rattle.std.specs.Prelude.{ℕ, ◌≡◌, ◌≢◌, ◌<◌, ◌≤◌, ◌
 use Rattle.std.specs.List.{AllByRecursion, list_any, list_all}
 use Rattle.std.specs.Str.{bytes_eq}
 use Rattle.std.proofs.Common.{sym, subst, refl, arith}
-use Rattle.std.proofs.lemmas.Bool.{both_ways, and_parts, leb-true, ltb-false, not-true, not-false}
+use Rattle.std.proofs.lemmas.Bool.{both_ways, and_parts, leb-true, ltb-false, not-true, not-false, or_parts as or_none}
 use Rattle.std.proofs.lemmas.List.{map_push}
 use Rattle.std.proofs.lemmas.List.Elements.{recursion_from_All, All-from_recursion}
 use Rattle.std.proofs.lemmas.List.Sums.{sum_by-cons}
@@ -24,7 +24,7 @@ use Rattle.volume_files.specs.Attached.{HasItsBytes}
 use Rattle.volume_files.specs.Opened.{OpenedFile, infos_of, names_of, new_file}
 use Rattle.volume_files.specs.Placing.{IsPlaceable}
 use Rattle.volume_files.proofs.FileLineLemmas.{bytes-same}
-use Rattle.volume_files.proofs.LineLemmas.{KeptByLines, HoldsItsBytes, all_push, or_none}
+use Rattle.volume_files.proofs.LineLemmas.{KeptByLines, HoldsItsBytes, all_push}
 use Rattle.volume_files.proofs.MountedLaws.{Differ, differ-append, all_then}
 
 -- What holds of a file line.

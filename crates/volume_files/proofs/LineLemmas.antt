@@ -1,10 +1,12 @@
 -- What holds of files holds with those of the lines behind them.
+use Rattle.vm_report.proofs.vm_script.Scripts.{not_true as not-is}
+use Rattle.vm_report.proofs.vm_script.Places.{some_none as none-or-some}
 use Rattle.std.specs.Prelude.{ℕ, zero, suc, ◌≡◌, ◌<◌, ◌≤◌, ◌+◌, ◌-◌, ◌==◌, ◌||◌, not, nat_le, nat_lt, Bool, true, false, List, [], ◌∷◌, ◌++◌, length, Option}
 use Rattle.std.specs.Prelude.{Some, None, IfOk, IfSome, Result, Ok, Err, if◌then◌else◌, filter}
 use Rattle.std.specs.List.{list_any, list_all, range_with_len, AllByRecursion, find, flat_map}
 use Rattle.std.specs.Str.{bytes_eq}
 use Rattle.std.proofs.Common.{ap, ◌∙◌, sym, subst, refl, arith, inl, inr, cond}
-use Rattle.std.proofs.lemmas.Bool.{both_ways, and_parts, and_from, eq-eqb, ne_eqb, cases_eq, leb-false, ltb-true}
+use Rattle.std.proofs.lemmas.Bool.{both_ways, and_parts, and_from, eq-eqb, ne_eqb, cases_eq, leb-false, ltb-true, or_parts as or_none}
 use Rattle.std.proofs.lemmas.List.{append_assoc}
 use Rattle.std.proofs.lemmas.List.Folds.{list_any-append}
 use Rattle.vm_report.specs.flat_model.Words.{pages_in}
@@ -27,9 +29,6 @@ err-ok e x is = cc
 
 pub same_Ok : {A E : Type 0} (x y : A) → ◌≡◌ {A = Result A E} (Ok x) (Ok y) → x ≡ y
 same_Ok x y is = cc
-
-pub none-or-some : {A : Type 0} (x : A) → None ≡ Some x → ⊥
-none-or-some x is = cc
 
 -- A set-up line's file may be added behind these files, from this block on.
 pub record CanAdd (sizes : ℕ → ℕ) (files : List OpenedFile) (name : List ℕ) (disk pages start : ℕ) : Type 0 where
@@ -101,10 +100,6 @@ run_from p a zero each = refl
 run_from p a (suc n) each =
     and_from (p a) (list_all p (range_with_len (a + 1) n)) (each a (omega arith) (omega arith)) (run_from p (a + 1) n (λ b low high. each b (omega (arith, low)) (omega (arith, high))))
 
-not-is : (t : Bool) → not t ≡ true → t ≡ false
-not-is true h = absurd (both_ways false refl h)
-not-is false h = refl
-
 -- a place that was found: its blocks are free
 pub place-run : (blocks : ℕ) (extents : List Extent) (pages start : ℕ) → place_for blocks extents pages ≡ Some start → is_free_run blocks extents pages start ≡ true
 place-run blocks extents pages start is =
@@ -128,10 +123,6 @@ all_push P (y ∷ ys) x all p = (all.0, all_push P ys x all.1 p)
 pub all_more : {X : Type 0} (P Q R : X → Type 0) (xs : List X) → ((x : X) → P x → Q x → R x) → AllByRecursion P xs → AllByRecursion Q xs → AllByRecursion R xs
 all_more P Q R [] step p q = tt
 all_more P Q R (x ∷ xs) step p q = (step x p.0 q.0, all_more P Q R xs step p.1 q.1)
-
-pub or_none : (x y : Bool) → (x || y) ≡ false → (x ≡ false) × (y ≡ false)
-or_none true y h = absurd (both_ways true h refl)
-or_none false y h = (refl, h)
 
 -- a block that is in none of a disk's extents is in none of a file's of that disk
 pub each_free : (d : ℕ) (files : List OpenedFile) (b : ℕ) → list_any (has_block b) (extents_of_disk d (infos_of files)) ≡ false

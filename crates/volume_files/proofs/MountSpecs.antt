@@ -16,7 +16,7 @@ use Rattle.vm_report.specs.vm_script.Rules.{gives_disk}
 use Rattle.volume_files.specs.Mounting.{specs_below}
 use Rattle.volume_files.specs.Opened.{given_disk, disk_numbered, disk_specs}
 
-given_number : (number : ℕ) (a : SetupAct) (s : Spec) → gives_disk number a ≡ true → given_disk a ≡ Some s → spec_number s ≡ number
+pub given_number : (number : ℕ) (a : SetupAct) (s : Spec) → gives_disk number a ≡ true → given_disk a ≡ Some s → spec_number s ≡ number
 given_number number (given.Blank disk blocks) s g e = let same : spec.Blank disk blocks ≡ s = cc e in sym (ap spec_number same) ∙ eqb-true disk number g
 given_number number (given.Path disk path) s g e = let same : spec.Path disk path ≡ s = cc e in sym (ap spec_number same) ∙ eqb-true disk number g
 given_number number (given.Frames n) s g e = absurd (false≢true g)

@@ -1,4 +1,5 @@
 -- What is handed back, and why, where the attaching stopped.
+use Rattle.volume_files.proofs.StopLemmas.{front_swap as swap_front}
 use Rattle.std.proofs.Common.{◌≡◌, ℕ, suc, ◌+◌, ◌-◌, ◌<◌, ◌≤◌, ◌==◌, Bool, true, false, List, [], ◌∷◌, ◌++◌, length, map, Option, Some, None, Result, Ok, Err}
 use Rattle.std.proofs.Common.{refl, sym, ap, ◌∙◌, subst, arith, append-nil, inl, inr}
 use Rattle.std.specs.Prelude.{IsSomeAnd, All, IfErr, IfSome, MatchBool, MatchOption, nat_lt, nat_le, zip, take, if◌then◌else◌}
@@ -87,10 +88,6 @@ halted setup number holds others old mid new front disks tables how below agree 
 pub opened_err : (plan : PlanSeen) (holds : Holds) (r : Refusal) → mounted_files (disks_held holds (disk_specs plan.setup)) ≡ Err r → opened_files plan holds ≡ Err r
 opened_err plan holds r e =
     ap (λ (m : Result (List OpenedFile) Refusal). with_line_files (size_held (disks_held holds (disk_specs plan.setup))) (if_few m) plan.setup) e
-
-swap_front : (slots : ℕ) (swap : Option DiskSeen) → IsSwapFor slots swap → IfSome swap (λ d. (0 < slots) × (d.size ≡ slots))
-swap_front slots None h = tt
-swap_front slots (Some d) h = h
 
 -- What is handed back where the disks of the numbers below one are attached.
 module _ (plan : PlanSeen) (holds : Holds) (swap : Option DiskSeen) (swaps : IsSwapFor (amounts_of plan.setup).slots swap) (m k : ℕ) (count : m + k ≡ 8)

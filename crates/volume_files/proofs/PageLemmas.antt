@@ -7,7 +7,7 @@ use Rattle.std.proofs.lemmas.List.{append_assoc, append-nil, map-append, length-
 use Rattle.std.proofs.lemmas.List.{get_or-set_other, same_lists, drop-drop, length-drop, drop-replicate, drop-append-le, take-append-le}
 use Rattle.std.proofs.lemmas.List.Folds.{concat-append}
 use Rattle.std.proofs.lemmas.List.FromFn.{length-map-range_with_len, get_or-map-range_with_len, take-map-range_with_len}
-use Rattle.std.proofs.lemmas.Bool.{cases_lt, both_ways}
+use Rattle.std.proofs.lemmas.Bool.{cases_lt, both_ways, or_right}
 use Rattle.vm_report.specs.flat_model.Words.{pages_in}
 use Rattle.vm_report.specs.flat_model.Parts.{pages_of_bytes}
 use Rattle.vm_report.proofs.flat_model.FileBytes.{length-pages_of_bytes, concat-pages_of_bytes}
@@ -141,10 +141,6 @@ stored_filled blocks start pages bytes fits each =
     other_default [] k d h = absurd (omega (arith, h))
     other_default (x ∷ xs) zero d h = refl
     other_default (x ∷ xs) (suc k) d h = other_default xs k d (omega (arith, h))
-
-or_right : (x y : Bool) → y ≡ true → (x || y) ≡ true
-or_right true y h = refl
-or_right false y h = h
 
 range_same : (old new : List (List ℕ)) (a n : ℕ) → ((b : ℕ) → a ≤ b → b < a + n → slice_index_or new b [] ≡ slice_index_or old b [])
     → map (λ b. slice_index_or new b []) (range_with_len a n) ≡ map (λ b. slice_index_or old b []) (range_with_len a n)

@@ -77,7 +77,7 @@ element_seen f (y ∷ ys) (suc i) z d at = element_seen f ys i z d at
 pub element_there : {X : Type 0} (f : X → ℕ × DiskSeen) (xs : List X) (i : ℕ) (x : X) → i < length xs → x ≡ get_or xs i x → slice_get (map f xs) i ≡ Some (f x)
 element_there f xs i x low is = slice_get-map f xs i ∙ ap (option_map f) (slice_get-get_or xs i x low ∙ ap (λ y. Some y) (sym is))
 
-reads_still : (d : DiskSeen) → OnlyReads d d
+pub reads_still : (d : DiskSeen) → OnlyReads d d
 reads_still d = record { content = refl; size = refl; faults = omega arith }
 
 reads_through : (a b c : DiskSeen) → OnlyReads a b → OnlyReads b c → OnlyReads a c

@@ -1,4 +1,5 @@
 -- A disk's table as its files are added.
+use Rattle.vm_report.proofs.vnode_files.BlockLemmas.{has_block-between as has_from}
 use Rattle.std.proofs.Common.{◌≡◌, ◌≢◌, ℕ, zero, suc, ◌+◌, ◌^◌, ◌<◌, ◌≤◌, Bool, true, false, cond, ltb, leb, List, [], ◌∷◌, ◌++◌, length, map, take, refl, sym, ap, ◌∙◌, subst, arith, inl, inr, get_or}
 use Rattle.std.specs.Prelude.{All, Option, Some, unwrap_or, filter, fold, count_by, sum_by, ◌==◌, ◌-◌, ◌&&◌, ◌||◌}
 use Rattle.std.specs.FinMap as finite
@@ -139,9 +140,6 @@ count_two p (x ∷ xs) zero (suc j) d less there first second =
     let here : ◌≡◌ {A = ℕ} (cond (p x) 1 0) 1 = ap (λ (t : Bool). cond t 1 0) first in
     omega (arith, count-cons p x xs, more, here)
 count_two p (x ∷ xs) (suc i) (suc j) d less there first second = omega (arith, count-cons p x xs, count_two p xs i j d (omega (arith, less)) (omega (arith, there)) first second)
-
-has_from : (b : ℕ) (e : Extent) → e.start ≤ b → b < extent_end e → has_block b e ≡ true
-has_from b e low high = and_from (leb e.start b) (ltb b (extent_end e)) (le-leb e.start b low) (lt-ltb b (extent_end e) high)
 
 abbrev no_extent : Extent
 no_extent = record { start = 0; pages = 0 }

@@ -93,7 +93,7 @@ bare-handed : {D : Type 0} (seen : D → DiskSeen) (xs : List (NumberedDisk D)) 
 bare-handed seen [] = refl
 bare-handed seen (x ∷ xs) = ap (λ (l : List DiskSeen). seen x.disk ∷ l) (bare-handed seen xs)
 
-swap-handed : {D : Type 0} (seen : D → DiskSeen) (w : Option (NumberedDisk D)) → option_map seen (option_map (λ (d : NumberedDisk D). d.disk) w) ≡ option_map (λ (d : NumberedDisk D). seen d.disk) w
+pub swap-handed : {D : Type 0} (seen : D → DiskSeen) (w : Option (NumberedDisk D)) → option_map seen (option_map (λ (d : NumberedDisk D). d.disk) w) ≡ option_map (λ (d : NumberedDisk D). seen d.disk) w
 swap-handed seen None = refl
 swap-handed seen (Some d) = refl
 

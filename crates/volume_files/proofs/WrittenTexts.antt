@@ -1,4 +1,5 @@
 -- What a sink took, one text after another.
+use Rattle.block_device.proofs.StreamLemmas.{text_with_more-text_with_more as appended_more}
 use Rattle.std.proofs.Common.{◌≡◌, ℕ, ◌+◌, ◌≤◌, List, [], ◌++◌, length, take, refl, sym, ap, ◌∙◌, arith, inl, inr, append_assoc}
 use Rattle.std.specs.Prelude.{Option, Some, None}
 use Rattle.std.proofs.Math.Seq.{take-append-add}
@@ -7,10 +8,6 @@ use Rattle.std.proofs.lemmas.List.{take_all, take-append-le, length-append, appe
 use Rattle.block_device.specs.Counts.{HasRisen}
 use Rattle.block_device.specs.StreamSeen.{SinkSeen, text_with_more}
 use Rattle.volume_files.specs.Texts.{Wrote, WroteFront, WrotePart}
-
-appended_more : (o : Option (List ℕ)) (a b : List ℕ) → text_with_more (text_with_more o a) b ≡ text_with_more o (a ++ b)
-appended_more None a b = refl
-appended_more (Some w) a b = ap (λ (x : List ℕ). Some x) (append_assoc w a b)
 
 pub appended_nothing : (o : Option (List ℕ)) → o ≡ text_with_more o []
 appended_nothing None = refl

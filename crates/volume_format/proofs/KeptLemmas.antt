@@ -1,4 +1,5 @@
 -- A table that keeps the rules still does where a file is added, or gets other extents.
+use Rattle.vnode_files.proofs.BlockLemmas.{has_block-between as has-from}
 use Rattle.std.proofs.Common.{ℕ, suc, ◌≡◌, ◌≢◌, ◌<◌, ◌≤◌, ◌+◌, ◌-◌, true, false, ltb, leb, List, ◌∷◌, ◌++◌, length, take, drop, set, refl, ap, sym, subst, ◌∙◌, inl, inr, arith, length-append}
 use Rattle.std.specs.List.{list_any, insert, remove, prefix_len}
 use Rattle.std.proofs.lemmas.Bool.{cases_lt, cases_eq, cases_order, and_parts, and_from, both_ways, false_from_ne_true, lt-ltb, le-leb, ltb-true, ltb-false}
@@ -115,10 +116,6 @@ apart-put xs own ys h o c =
     apart-joined xs (own ++ ys) (apart-left xs ys h)
     (apart-joined own ys o (apart-right xs ys h) (cross-right own xs ys c))
     (cross-joined xs own ys (cross-turned own xs (cross-left own xs ys c)) (apart-across xs ys h))
-
--- Free extents meet none of the others.
-has-from : (b : ℕ) (e : Extent) → e.start ≤ b → b < extent_end e → has_block b e ≡ true
-has-from b e low high = and_from (leb e.start b) (ltb b (extent_end e)) (le-leb e.start b low) (lt-ltb b (extent_end e) high)
 
 common : (own others : List Extent) (j k b : ℕ) → AreFree own others → j < length own → k < length others
     → has_block b (extent_at own j) ≡ true → has_block b (extent_at others k) ≡ true → ⊥

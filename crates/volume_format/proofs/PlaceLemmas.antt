@@ -1,4 +1,6 @@
 -- What a search through extents finds, and what it says of the blocks.
+use Rattle.vnode_files.proofs.BlockLemmas.{has_block-between as has-block}
+use Rattle.vnode_files.proofs.FindLemmas.{find-passes, any-found}
 use Rattle.std.proofs.Common.{ℕ, ◌≡◌, ◌<◌, ◌≤◌, ◌+◌, Bool, true, false, ◌&&◌, ◌||◌, cond, ltb, leb, List, [], ◌∷◌, Some, None, refl, ap, sym, ◌∙◌, arith, inl, inr}
 use Rattle.std.specs.List.{find, list_any}
 use Rattle.std.proofs.lemmas.Bool.{and_parts, and_from, ltb-true, lt-ltb, leb-true, le-leb, cases_lt, or_left, or_right, or_from, cases_Bool, both_ways}
@@ -6,23 +8,6 @@ use Rattle.vnode_files.specs.declared.extent.Extent.{Extent}
 use Rattle.vnode_files.specs.Grow.{has_block, extent_end}
 use Rattle.volume_format.specs.Table.{IsFreePlace}
 use Rattle.volume_format.specs.Place.{is_in_way}
-
--- What is found passes, and some element passes what it passes.
-pub find-passes : {X : Type 0} (p : X → Bool) (xs : List X) (e : X) → find p xs ≡ Some e → p e ≡ true
-find-passes p [] e is = cc
-find-passes {X} p (x ∷ xs) e is =
-    elim (p x) as (λ b. p x ≡ b → cond b (Some x) (find p xs) ≡ Some e → p e ≡ true) [
-      | true ↦ λ t s. let same : x ≡ e = cc in ap p (sym same) ∙ t
-      | false ↦ λ t s. find-passes p xs e s
-    ] refl is
-
-pub any-found : {X : Type 0} (p q : X → Bool) (xs : List X) (e : X) → find p xs ≡ Some e → q e ≡ true → list_any q xs ≡ true
-any-found p q [] e is passes = cc
-any-found {X} p q (x ∷ xs) e is passes =
-    elim (p x) as (λ b. cond b (Some x) (find p xs) ≡ Some e → (q x || list_any q xs) ≡ true) [
-      | true ↦ λ s. let same : e ≡ x = cc in or_left (q x) (list_any q xs) (ap q (sym same) ∙ passes)
-      | false ↦ λ s. or_right (q x) (list_any q xs) (any-found p q xs e s passes)
-    ] is
 
 none-cons : {X : Type 0} (p q : X → Bool) (x : X) (xs : List X) → ((y : X) → q y ≡ true → p y ≡ true) → p x ≡ false → list_any q xs ≡ false → (q x || list_any q xs) ≡ false
 none-cons p q x xs only fails rest = elim (cases_Bool (q x)) [
@@ -53,10 +38,7 @@ in_way-from start end e h =
     let d = and_parts (ltb e.start end) (ltb start (extent_end e)) b.0 in
     record { low = ltb-true e.start end d.0; high = ltb-true start (extent_end e) d.1; pages = ltb-true e.start (extent_end e) b.1; blocks = ltb-true start end a.1 }
 
-has-block : (b : ℕ) (e : Extent) → e.start ≤ b → b < extent_end e → has_block b e ≡ true
-has-block b e low high = and_from (leb e.start b) (ltb b (extent_end e)) (le-leb e.start b low) (lt-ltb b (extent_end e) high)
-
-has-block-in_way : (start end b : ℕ) → start ≤ b → b < end → (e : Extent) → has_block b e ≡ true → is_in_way start end e ≡ true
+pub has-block-in_way : (start end b : ℕ) → start ≤ b → b < end → (e : Extent) → has_block b e ≡ true → is_in_way start end e ≡ true
 has-block-in_way start end b low high e h =
     let parts = and_parts (leb e.start b) (ltb b (extent_end e)) h in
     let from = leb-true e.start b parts.0 in

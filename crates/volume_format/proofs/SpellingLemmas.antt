@@ -87,7 +87,7 @@ mode-spelled zero h = refl
 mode-spelled (suc zero) h = refl
 mode-spelled (suc (suc n)) h = absurd (omega arith)
 
-length-extents_of_file : (block : List ℕ) (i : ℕ) → version block ≢ 1 → length (extents_of_file block i) ≡ extents_number block i
+pub length-extents_of_file : (block : List ℕ) (i : ℕ) → version block ≢ 1 → length (extents_of_file block i) ≡ extents_number block i
 length-extents_of_file block i ne =
     ap length (cond-false (version block == 1) (own_extent block i ∷ []) (map (table_extent block) (range_with_len (first_extent block i) (extents_number block i))) (ne_eqb (version block) 1 ne))
     ∙ length-map-range_with_len (table_extent block) (first_extent block i) (extents_number block i)

@@ -23,7 +23,7 @@ use Rattle.volume_format.specs.Volume.{extent_at, IsVolumeName, IsVolumeFile, Is
 use Rattle.volume_format.proofs.TestLemmas.{passed-test, passed-three, passed-append, passed-each}
 use Rattle.volume_format.proofs.PassedLemmas.{Files1, Files2, Passed, tests-passed, passed-room, entry-named, extents_before-more}
 use Rattle.volume_format.proofs.SliceLemmas.{length-slice}
-use Rattle.volume_format.proofs.SpellingLemmas.{IsBlock, bytes-slice, are_same-is, extents-joined}
+use Rattle.volume_format.proofs.SpellingLemmas.{IsBlock, bytes-slice, are_same-is, extents-joined, length-extents_of_file as count-2}
 use Rattle.volume_format.proofs.EncodedLemmas.{on_disk-from}
 
 number-fits : (block : List ℕ) → IsBlock block → (at : ℕ) → number_at block at < 2 ^ 32
@@ -164,9 +164,6 @@ extent-of-table block blocks (suc n) s within j there k below =
 extents-2 : (block : List ℕ) (i : ℕ) → version block ≢ 1 → extents_of_file block i ≡ map (table_extent block) (range_with_len (first_extent block i) (extents_number block i))
 extents-2 block i ne =
     cond-false (version block == 1) (own_extent block i ∷ []) (map (table_extent block) (range_with_len (first_extent block i) (extents_number block i))) (ne_eqb (version block) 1 ne)
-
-count-2 : (block : List ℕ) (i : ℕ) → version block ≢ 1 → length (extents_of_file block i) ≡ extents_number block i
-count-2 block i ne = ap length (extents-2 block i ne) ∙ length-map-range_with_len (table_extent block) (first_extent block i) (extents_number block i)
 
 extent-2 : (block : List ℕ) (i j : ℕ) → version block ≢ 1 → j < extents_number block i → extent_at (extents_of_file block i) j ≡ table_extent block (first_extent block i + j)
 extent-2 block i j ne within =

@@ -1,3 +1,4 @@
+use Rattle.flat_model.proofs.vnode_files.SeenLemmas.{none-from as none_from_test}
 use Rattle.std.proofs.Common.{rules, map, ◌∙◌, ap, sym, []}
 use Rattle.std.specs.Prelude.{is_some, unwrap_or, option_map, slice_set}
 use Rattle.std.specs.Ordering.{nat_cmp}
@@ -6,7 +7,6 @@ use Rattle.std.specs.BTreeMap.{is_at}
 use Rattle.std.specs.FinMap as finite
 use Rattle.flat_state.specs.Cells.{pages_in_vec, zeros_in}
 use Rattle.flat_state.proofs.Maps.{get_mapped, mapped_insert}
-use Rattle.flat_state.proofs.Trees.{none_from_test}
 use Rattle.flat_state.proofs.pages.set_zero_page.Goals as goal
 
 pub returns-then-not-contains_key-clause-ok : goal.returns-then-not-contains_key-clause-ok

@@ -1,3 +1,4 @@
+use Rattle.seg_ops.proofs.Shows.{of-frame as of-next}
 use Rattle.std.proofs.Common.{◌≡◌, true, List, Option, Some, refl, sym, ap, subst, slice_set}
 use Rattle.page_store.specs.core_arena.Bytes.{zeros}
 use Rattle.page_store.specs.page_hash.Names.{is_name}
@@ -13,7 +14,7 @@ use Rattle.vm_world.specs.StateSteps.{PendsTails}
 use Rattle.vm_world.specs.World.{World, world_seen, slot_name}
 use Rattle.vm_world.proofs.Counting.{room}
 use Rattle.seg_ops.specs.Slots.{MakesSlot, MakesHome, MakesPage}
-use Rattle.seg_ops.proofs.FillSteps.{of-next, some-of, takes-page}
+use Rattle.seg_ops.proofs.FillSteps.{some-of, takes-page}
 use Rattle.seg_ops.proofs.SlotCounts.{made-slot, least-there}
 use Rattle.seg_ops.proofs.SlotFlat.{changes-zeros, changes-owned}
 use Rattle.seg_ops.proofs.SlotMemory.{AreShown, free-absent, zero-shown, copy-shown, next-exists}

@@ -1,3 +1,4 @@
+use Rattle.seg_ops.proofs.Shows.{of-frame as of-next}
 use Rattle.std.proofs.Common.{◌≡◌, ◌≢◌, ℕ, ◌==◌, Bool, true, refl, sym, ap, ◌∙◌, subst}
 use Rattle.std.specs.Prelude.{IfSome}
 use Rattle.page_store.specs.core_arena.Bytes.{zeros}
@@ -9,7 +10,7 @@ use Rattle.vm_world.specs.Serving.{ModifiesOnly}
 use Rattle.vm_world.specs.World.{World, world_seen, file_name}
 use Rattle.vm_world.specs.WorldSteps.{WorldStep, stays}
 use Rattle.vm_world.proofs.PageNames.{file-apart, not-slot}
-use Rattle.seg_ops.proofs.FillSteps.{TakesZeros, of-next, some-of, takes-for, fill-step}
+use Rattle.seg_ops.proofs.FillSteps.{TakesZeros, some-of, takes-for, fill-step}
 use Rattle.seg_ops.proofs.Fills.{TakesFor}
 use Rattle.seg_ops.proofs.NewlyModified.{fill-modifies-where}
 use Rattle.seg_ops.proofs.Pending.{loses, next-there, pends-next}

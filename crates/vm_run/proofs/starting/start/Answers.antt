@@ -1,3 +1,4 @@
+use Rattle.volume_files.proofs.Unfailing.{swap-handed as swap-is}
 use Rattle.std.proofs.Common.{◌≡◌, ℕ, List, length, map, Option, sym, ap, ◌∙◌, subst, arith}
 use Rattle.std.specs.Prelude.{option_map}
 use Rattle.volume_files.specs.block_device.DiskSeen.{DiskSeen}
@@ -8,7 +9,7 @@ use Rattle.volume_files.specs.vm_script.Rules.{amounts_of}
 use Rattle.volume_files.specs.Attached.{attached_seen, numbered_seen}
 use Rattle.vm_run.specs.Played.{HasRoomForPlan}
 use Rattle.vm_run.proofs.StartRules.{right-amounts}
-use Rattle.vm_run.proofs.Starts.{with_number, pairs-are, numbers-are, swap-is, total-is, swap-serves, frames-enough, are-numbers, its-disks, its-swap, started}
+use Rattle.vm_run.proofs.Starts.{with_number, pairs-are, numbers-are, total-is, swap-serves, frames-enough, are-numbers, its-disks, its-swap, started}
 use Rattle.vm_run.proofs.StartedFiles.{files-lie}
 use Rattle.vm_run.proofs.starting.start.Goals as goal
 

@@ -1,8 +1,9 @@
+use Rattle.vnode_files.proofs.FindLemmas.{find-passes}
 use Rattle.std.proofs.Common.{◌≡◌, ◌+◌, Some, sym, ◌∙◌, arith, inl, inr}
 use Rattle.std.specs.List.{find}
 use Rattle.std.proofs.lemmas.Bool.{cases_lt}
 use Rattle.volume_format.specs.Table.{all_extents}
-use Rattle.volume_format.proofs.PlaceLemmas.{in_way-from, find-passes, free-from, no-place}
+use Rattle.volume_format.proofs.PlaceLemmas.{in_way-from, free-from, no-place}
 use Rattle.volume_format.specs.Place.{is_in_way}
 use Rattle.volume_format.proofs.table.least_place.Goals as goal
 

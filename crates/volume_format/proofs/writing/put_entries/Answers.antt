@@ -1,3 +1,4 @@
+use Rattle.volume_format.proofs.FieldLemmas.{flat-one-more as flat-more}
 use Rattle.std.proofs.Common.{◌≡◌, ◌+◌, ◌*◌, ◌∷◌, ◌++◌, [], ℕ, List, length, get_or, ap, sym, ◌∙◌, arith, rules, length-append}
 use Rattle.std.proofs.lemmas.List.{append-nil, get_or_read}
 use Rattle.std.proofs.lemmas.List.Concat.{flat_map-append}
@@ -10,13 +11,6 @@ use Rattle.volume_format.proofs.RangeLemmas.{range-more}
 use Rattle.volume_format.proofs.TableLemmas.{counts}
 use Rattle.volume_format.proofs.WritingLemmas.{written-then, with_block_bytes-none}
 use Rattle.volume_format.proofs.writing.put_entries.Goals as goal
-
--- The entries up to one more.
-flat-more : (f : ℕ → List ℕ) (i : ℕ) → flat_map f (range_with_len 0 (i + 1)) ≡ flat_map f (range_with_len 0 i) ++ f i
-flat-more f i =
-    ap (flat_map f) (range-more 0 i i (omega arith))
-    ∙ flat_map-append f (range_with_len 0 i) (i ∷ [])
-    ∙ ap (λ (xs : List ℕ). flat_map f (range_with_len 0 i) ++ xs) (append-nil (f i))
 
 pub loop-i-init : goal.loop-i-init
 loop-i-init c = record { first = search rules; size = search rules; into = sym (with_block_bytes-none c.args.into.now 32) }

@@ -1,7 +1,7 @@
+use Rattle.std.proofs.lemmas.Iterator.Adapters.{option_map_id as mapped_same}
 use Rattle.std.proofs.Common.{◌∙◌, ap, sym}
 use Rattle.std.specs.FinMap as map
 use Rattle.flat_state.proofs.Maps.{get_at, mapped_copied}
-use Rattle.flat_state.proofs.Trees.{mapped_same}
 use Rattle.flat_state.proofs.spaces.Spaces.get.Goals as goal
 
 pub returns : goal.returns

@@ -1,3 +1,4 @@
+use Rattle.fault_entry.proofs.page_store.NewLemmas.{numbers-seen as same-numbers}
 use Rattle.std.proofs.Common.{ℕ, Bool, List, length, Option, None, refl, sym, ap, subst, ◌∙◌, arith}
 use Rattle.std.proofs.lemmas.List.{length-replicate}
 use Rattle.std.specs.Prelude.{option_map}
@@ -7,7 +8,7 @@ use Rattle.fault_entry.specs.page_store.Bays.{pairs_seen, AreNumbers}
 use Rattle.fault_entry.proofs.vm_world.Openings.{opening_law}
 use Rattle.vm_core.specs.Setup.{HaveCounted}
 use Rattle.vm_core.specs.State.{born_of}
-use Rattle.vm_core.proofs.Starts.{opens, files-fit, disks-fit, have-places, kept-start, same-total, same-numbers, at-replicate}
+use Rattle.vm_core.proofs.Starts.{opens, files-fit, disks-fit, have-places, kept-start, same-total, at-replicate}
 use Rattle.vm_core.proofs.Tops.{born-tops}
 use Rattle.vm_core.proofs.state.VmState.start.Goals as goal
 
