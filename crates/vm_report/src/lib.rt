@@ -22,10 +22,12 @@ pub use files::{file_heading, file_line, file_lines};
 pub use laws::{file_lines_law, own_entries_law};
 pub use sections::{process_section, process_sections};
 pub use summaries::summary;
-pub use traces::{trace_entries, trace_entry, trace_file, trace_opening};
+pub use traces::{
+    trace_count, trace_disk, trace_entries, trace_entry, trace_file, trace_opening, trace_root,
+};
 pub use vm_script::{
     ByteText, Call, Entry, Errno, Kind, Line, MOST_BYTES, Object, Place, Plan, PlanAct, PlanLine,
     Prot, Reply, ScriptFault, SetupAct, SetupLine, Signal, amounts_of, broken_rule, bytes_before,
-    generate, pages_in, parse, parts, setup_law, sound_law,
+    generate, is_file_name, pages_in, parse, parts, setup_law, sound_law,
 };
 pub use well_formed::are_well_formed;

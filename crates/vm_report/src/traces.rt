@@ -1,5 +1,5 @@
 //! The texts of a trace.
-ghost use Rattle.std.specs.Prelude.{◌≡◌, ◌<◌, ◌^◌, ◌+◌, ◌++◌, ◌∷◌, All, List, length, map, OnOk};
+ghost use Rattle.std.specs.Prelude.{◌≡◌, ◌<◌, ◌^◌, ◌+◌, ◌++◌, ◌∷◌, [], All, List, length, map, codes, decimal, OnOk};
 ghost use Rattle.std.specs.List.{flat_map};
 ghost use Rattle.vm_script.specs.vm_types.WellFormed.{IsWellFormed};
 ghost use Rattle.vm_script.specs.vm_types.Words.{IsWordSize};
@@ -242,19 +242,28 @@ fn push_entries(history: &[Entry], out: &mut Vec<u8>) -> Result<(), AllocError>
     Ok(())
 }
 
+/// Adds the line of the number of entries.
+pub fn trace_count(count: u64, out: &mut Vec<u8>) -> Result<(), AllocError>
+    ensures new { OnOk result (out.new.items
+        ≡ out.old.items ++ codes "entries " ++ decimal count ++ 10 ∷ []) }
+{
+    push_text(out, b"entries ")?;
+    push_decimal(out, count)?;
+    end_line(out)
+}
+
 /// Adds the part of a trace that tells the history: the number of its entries, and a line for each.
 pub fn trace_entries(history: &[Entry], out: &mut Vec<u8>) -> Result<(), AllocError>
     requires { All (λ e. IsWellFormed e.call) history.now }
     ensures new { OnOk result (out.new.items ≡ out.old.items ++ trace.entries_text history.now) }
 {
-    push_text(out, b"entries ")?;
-    push_decimal(out, history.len() as u64)?;
-    end_line(out)?;
+    trace_count(history.len() as u64, out)?;
     push_entries(history, out)
 }
 
-fn push_disk(out: &mut Vec<u8>, disk: (u32, u32)) -> Result<(), AllocError>
-    ensures { OnOk result (out.new.items ≡ out.old.items ++ trace.disk_text disk) }
+/// Adds the line of a disk: its number and its blocks.
+pub fn trace_disk(disk: (u32, u32), out: &mut Vec<u8>) -> Result<(), AllocError>
+    ensures new { OnOk result (out.new.items ≡ out.old.items ++ trace.disk_text disk) }
 {
     push_text(out, b"disk")?;
     push_argument(out, disk.0)?;
@@ -266,13 +275,14 @@ fn push_disks(out: &mut Vec<u8>, disks: &[(u32, u32)]) -> Result<(), AllocError>
     ensures { OnOk result (out.new.items ≡ out.old.items ++ flat_map trace.disk_text disks.now) }
 {
     for disk in disks {
-        push_disk(out, *disk)?;
+        trace_disk(*disk, out)?;
     }
     Ok(())
 }
 
-fn push_root(out: &mut Vec<u8>, process: u32, parent: u32) -> Result<(), AllocError>
-    ensures { OnOk result (out.new.items ≡ out.old.items ++ trace.root_text process parent) }
+/// Adds the line of a top process, or nothing for a process that has a parent.
+pub fn trace_root(process: u32, parent: u32, out: &mut Vec<u8>) -> Result<(), AllocError>
+    ensures new { OnOk result (out.new.items ≡ out.old.items ++ trace.root_text process parent) }
 {
     if parent != 0 {
         return Ok(());
@@ -289,7 +299,7 @@ fn push_roots(out: &mut Vec<u8>, parents: &[u32]) -> Result<(), AllocError>
     let mut process = 1;
     let mut left = parents;
     while let [parent, rest @ ..] = left {
-        push_root(out, process, *parent)?;
+        trace_root(process, *parent, out)?;
         process += 1;
         left = rest;
     }

@@ -3,7 +3,8 @@ use Rattle.std.specs.Prelude.{ℕ, zero, suc, ◌≡◌, ◌<◌, ◌≤◌, ◌
 use Rattle.std.specs.Prelude.{slice_index_or, slice_set, Option, Some, None, is_some, option_map, option_and_then}
 use Rattle.std.specs.Option.{option_map_or}
 use Rattle.std.specs.List.{last_or}
-use Rattle.std.proofs.Common.{ap, ◌∙◌, sym, arith, refl, subst, cond, length-append}
+use Rattle.std.proofs.Common.{ap, ◌∙◌, sym, arith, refl, subst, cond, length-append, inl, inr}
+use Rattle.std.proofs.lemmas.Bool.{cases_lt}
 use Rattle.std.proofs.Math.Seq.{take-length}
 use Rattle.std.proofs.lemmas.List.{append-nil, append_assoc, length-set, set-get_or, set-set, get_or-set_same, take-set, drop-set-lt, take-append-le, replicate-append-replicate}
 use Rattle.vnode_files.specs.declared.extent.Extent.{Extent}
@@ -307,3 +308,32 @@ growing-some old mid file pages before h g enough =
     let own = g.0 in
     let same : own_extents mid file ≡ own = own-state old mid file own h g.1 in
     (own, grows-last old file pages before own g.2 (subst (λ (es : List Extent). pages ≤ page_count es) same enough), g.1)
+
+-- THE WHOLE GROWTH, from where the file stood: it can be brought back.
+grows-there : (old : FilesSeen) (file pages : ℕ) (before : Savepoint) (own next : List Extent) → GrowsTo old file pages before own → pages ≤ page_count own → growth_of old file pages ≡ Some next → GrowsTo old file pages before next
+grows-there old file pages before own next g there is =
+    let same : own ≡ next = let z : Some own ≡ Some next = sym (grows-last old file pages before own g there) ∙ is in cc in
+    subst (GrowsTo old file pages before) same g
+
+grows-all : (old : FilesSeen) (file pages : ℕ) (before : Savepoint) (more : ℕ) (own next : List Extent) → GrowsTo old file pages before own → pages - page_count own ≤ more
+    → growth_of old file pages ≡ Some next → GrowsTo old file pages before next
+grows-all old file pages before zero own next g few is = grows-there old file pages before own next g (omega (arith, few)) is
+grows-all old file pages before (suc more) own next g few is = elim (cases_lt (page_count own) pages) [
+  | inr there ↦ grows-there old file pages before own next g there is
+  | inl under ↦
+      elim (with_next_block (its_blocks old file) (other_extents old file) own) as (λ o. with_next_block (its_blocks old file) (other_extents old file) own ≡ o → GrowsTo old file pages before next) [
+        | None ↦ λ none. absurd (let z : None ≡ Some next = sym (grows-none old file pages before own g under none) ∙ is in cc)
+        | Some n ↦ λ one.
+            let count = next-count own n (next_is (its_blocks old file) (other_extents old file) own n one) in
+            grows-all old file pages before more n next (grows-next old file pages before own n g under one) (omega (arith, few, count, under)) is
+      ] refl
+]
+
+pub growing-all : (old : FilesSeen) (file pages : ℕ) (before : Savepoint) → file < length old.files → IsSoundVnode (vnode_at old file) → before ≡ savepoint_of (vnode_at old file)
+    → IsGrowing old (with_growth old file (growth_of old file pages)) file pages before
+growing-all old file pages before h sound stood =
+    let first = growing-first old file pages before h sound stood in
+    elim (growth_of old file pages) as (λ o. growth_of old file pages ≡ o → IsGrowing old (with_growth old file o) file pages before) [
+      | None ↦ λ none. first
+      | Some next ↦ λ some. (next, refl, grows-all old file pages before (pages - page_count first.0) first.0 next first.2 (omega arith) some)
+    ] refl

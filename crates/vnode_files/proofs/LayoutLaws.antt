@@ -6,9 +6,11 @@ use Rattle.std.specs.FinMap as finmap
 use Rattle.std.proofs.Common.{ap, ◌∙◌, sym, arith, refl, cond, subst, inl, inr, eqb, length-append}
 use Rattle.std.proofs.lemmas.Bool.{cases_eq, eq-eqb, ne_eqb}
 use Rattle.std.proofs.lemmas.Cmp.{nat_cmp_total}
-use Rattle.std.proofs.lemmas.List.{append-nil, get_or-set_same}
+use Rattle.std.proofs.lemmas.List.{append-nil, get_or-set_same, get_or_default}
 use Rattle.std.proofs.lemmas.List.Elements.{All-head, All-tail, All-push, All-set}
 use Rattle.std.proofs.lemmas.List.Folds.{list_any_at}
+use Rattle.std.proofs.lemmas.Map.Keys.{IsDistinct-from_apart}
+use Rattle.std.proofs.lemmas.Map.Steps.{length-le_from_distinct_below}
 use Rattle.std.proofs.lemmas.List.Sums.{sum_by-cons, get_or-le-sum_by}
 use Rattle.vnode_files.specs.declared.extent.Extent.{Extent}
 use Rattle.vnode_files.specs.declared.vnode.FileInfo.{FileInfo}
@@ -16,7 +18,7 @@ use Rattle.vnode_files.specs.Grow.{has_block, is_free, extent_end, page_count}
 use Rattle.vnode_files.specs.Vnode.{VnodeSeen, no_vnode, page_blocks, block_at, with_extents, fresh_vnode}
 use Rattle.vnode_files.specs.Files.{FilesSeen, vnode_at, with_vnode, with_next_file, with_disk, with_growth, growth_of, block_count, extents_on}
 use Rattle.vnode_files.specs.Step.{own_extents, other_extents, its_blocks}
-use Rattle.vnode_files.specs.Layout.{NoneMeet, LieOnDisk, LieOnDisks, NoFilesMeet, KeepsLayout, HasPlaceBeside, HaveOwnBlocks, HaveBlocksOnDisk, FileLayoutLaw}
+use Rattle.vnode_files.specs.Layout.{NoneMeet, LieOnDisk, LieOnDisks, NoFilesMeet, KeepsLayout, HasPlaceBeside, HaveOwnBlocks, HaveBlocksOnDisk, HaveFewPages, FileLayoutLaw}
 use Rattle.vnode_files.specs.Layout.{GrowthGives, GrowsFile, disk_of_file, block_of_page}
 use Rattle.vnode_files.proofs.BlockLemmas.{any-page_blocks, length-page_blocks, has_block-bounds}
 use Rattle.vnode_files.proofs.FilesLemmas.{key-other}
@@ -88,8 +90,24 @@ blocks_on_disk s lie f i fs is =
     let has : list_any (has_block b) own ≡ true = sym (any-page_blocks b own) ∙ list_any_at (eqb b) (page_blocks own) i 0 low (eq-eqb b b refl) in
     within (block_count s.disks (disk_of_file s f)) b own (lie f no_vnode fs).within has
 
+-- the blocks of a file's pages differ and are below those of its disk
+few_pages : (s : FilesSeen) → NoFilesMeet s → LieOnDisks s → HaveFewPages s
+few_pages s apart lie f fs =
+    let own = (vnode_at s f).info.extents in
+    let xs = page_blocks own in
+    let n = length-page_blocks own in
+    let blocks = block_count s.disks (disk_of_file s f) in
+    let most : length xs ≤ blocks = length-le_from_distinct_below xs blocks
+    (IsDistinct-from_apart eqb xs (λ i j d lower high. ne_eqb (slice_index_or xs i d) (slice_index_or xs j d) (λ e.
+    let same : block_at own i ≡ block_at own j = get_or_default xs i 0 d (omega (arith, lower, high)) ∙ e ∙ get_or_default xs j d 0 high in
+    let one = own_blocks s apart f f i j fs fs refl (omega (arith, n, lower, high)) (omega (arith, n, high)) same in
+    let k = one.1 in
+    omega (arith, k, lower))))
+    (λ b has. (within blocks b own (lie f no_vnode fs).within (sym (any-page_blocks b own) ∙ has)).1) in
+    omega (arith, most, n)
+
 pub file_layout_law : FileLayoutLaw
-file_layout_law = record { own = own_blocks; on_disks = blocks_on_disk }
+file_layout_law = record { own = own_blocks; on_disks = blocks_on_disk; pages = few_pages }
 
 one_file : (disk : ℕ) (v w : VnodeSeen) → v.info.disk ≡ w.info.disk → v.info.extents ≡ w.info.extents → extents_on disk (v ∷ []) ≡ extents_on disk (w ∷ [])
 one_file disk v w at same = elim (cases_eq w.info.disk disk) [

@@ -71,10 +71,15 @@ HaveBlocksOnDisk s =
     (f i : ℕ) → f < length s.files → i < pages_kept s f
     → (1 ≤ block_of_page s f i) × (block_of_page s f i < block_count s.disks (disk_of_file s f))
 
+-- A file keeps no more pages than its disk has blocks.
+abbrev pub HaveFewPages : FilesSeen → Type 0
+HaveFewPages s = (f : ℕ) → f < length s.files → pages_kept s f ≤ block_count s.disks (disk_of_file s f)
+
 -- What the way in which files lie says of their pages.
 pub record FileLayoutLaw : Type 0 where
   pub own : (s : FilesSeen) → NoFilesMeet s → HaveOwnBlocks s
   pub on_disks : (s : FilesSeen) → LieOnDisks s → HaveBlocksOnDisk s
+  pub pages : (s : FilesSeen) → NoFilesMeet s → LieOnDisks s → HaveFewPages s
 
 -- A file's extents have come to keep more pages: the old pages keep their blocks, the blocks of the new ones were free and differ, and extents begin
 -- where they began.

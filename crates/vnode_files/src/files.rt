@@ -207,6 +207,20 @@ impl Files {
         true
     }
 
+    /// Whether a file can get the blocks that it needs to keep so many pages. Nothing changes.
+    ///
+    /// Takes no memory, and as much time as such a growth.
+    pub fn can_grow(&mut self, file: u32, pages: u32) -> bool
+        requires { file < length self.old.files }
+        ensures answer { result ≡ is_some (growth_of self.old file pages) }
+        ensures same { self.new ≡ self.old }
+    {
+        let before = self.vnodes[file as usize].savepoint_of();
+        let grows = self.grow(file, pages);
+        self.vnodes[file as usize].cut_back(before);
+        grows
+    }
+
     // The block after a file's last extent, where it is free.
     fn end_block(&self, file: u32) -> Option<u32>
         requires { file < length self.now.files }
